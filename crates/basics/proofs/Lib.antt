@@ -1,0 +1,2 @@
+pub mod Ifs
+pub mod Tables

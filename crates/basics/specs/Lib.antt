@@ -1,0 +1,3 @@
+pub mod If
+pub mod Members
+pub mod Searches

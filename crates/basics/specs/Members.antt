@@ -1,0 +1,12 @@
+-- Members of lists. Assumes nothing: definitions.
+use mathlib.Core.List.{List, [], _∷_}
+
+-- x is a member of the list
+pub data In {A : Type 0} (x : A) : List A → Type 0 where
+  first : {xs : List A} → In x (x ∷ xs)
+  later : {y : A} {xs : List A} → In x xs → In x (y ∷ xs)
+
+-- P holds of every member
+pub data All {A : Type 0} (P : A → Type 0) : List A → Type 0 where
+  none : All P []
+  more : {x : A} {xs : List A} → P x → All P xs → All P (x ∷ xs)

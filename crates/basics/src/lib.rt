@@ -1,0 +1,1 @@
+// What every layer's definitions and proofs share: the conditional, searches in lists, and their laws. No code.

@@ -1,0 +1,5 @@
+pub mod Tests
+pub mod Words
+pub mod Sets
+pub mod Rows
+pub mod Members

@@ -1,0 +1,144 @@
+-- What effects mean as sets of schedulers: membership in the empty set, in a join, with one owner added, and what it is to lie within a place. Assumes nothing.
+use mathlib.Core.Path.{_≡_, refl, sym, ap, subst, _∙_}
+use mathlib.Core.Bool.{Bool, true, false, _&&_, _||_, true≢false}
+use Prim.Native.Nat.{ℕ, zero, suc, _+_, _*_, _/_, _%_, _^_, _<_, _≤_, max}
+use native.Mathlib.Nat.{div-div-eq-div-mul, pow-suc, pow-succ', pow-zero, div-one, zero-div, mod-lt}
+use native.Mathlib.Omega.{arith}
+use native.Mathlib.Decide.{ℕ-discrete}
+use lib.Dec.{leb, eqb}
+use lib.Pow.{pow-pos}
+use lib.Bits.{bitOr, or-step, or-shr}
+use borrow.Author.Tests.{eq-eqb, ne-eqb, eqb-true, eqb-false}
+use Rattle.basics.proofs.Ifs.{if-all, and-true}
+use Rattle.language.specs.Places.{isScheduler}
+use Rattle.language.specs.Effects.{member, noEffect, only, _∪_, withOwner, within}
+use Rattle.language.specs.declared.effect.Effect.{Effect}
+
+-- ---- bits
+abbrev bit : ℕ → ℕ → ℕ
+bit q n = n / 2 ^ q % 2
+
+bit-zero : (n : ℕ) → bit 0 n ≡ n % 2
+bit-zero n = ap (λ (m : ℕ). m % 2) (div-one n)
+
+bit-suc : (q n : ℕ) → bit (suc q) n ≡ bit q (n / 2)
+bit-suc q n = ap (λ (m : ℕ). m % 2) (ap (λ (m : ℕ). n / m) (pow-succ' 2 q) ∙ sym (div-div-eq-div-mul n 2 (2 ^ q)))
+
+half-power : (o : ℕ) → 2 ^ suc o / 2 ≡ 2 ^ o
+half-power o = ap (λ (n : ℕ). n / 2) (pow-suc 2 o) ∙ omega arith
+
+even-power : (o : ℕ) → 2 ^ suc o % 2 ≡ 0
+even-power o = ap (λ (n : ℕ). n % 2) (pow-suc 2 o) ∙ omega arith
+
+-- the bits of 2 ^ o
+same-bit : (o : ℕ) → bit o (2 ^ o) ≡ 1
+same-bit zero = refl
+same-bit (suc o) = bit-suc o (2 ^ suc o) ∙ ap (bit o) (half-power o) ∙ same-bit o
+
+other-bit : (p o : ℕ) → (p ≡ o → ⊥) → bit p (2 ^ o) ≡ 0
+other-bit zero zero n = absurd (n refl)
+other-bit zero (suc o) n = bit-zero (2 ^ suc o) ∙ even-power o
+other-bit (suc p) zero n = bit-suc p 1 ∙ ap (λ (m : ℕ). m % 2) (zero-div (2 ^ p))
+other-bit (suc p) (suc o) n = bit-suc p (2 ^ suc o) ∙ ap (bit p) (half-power o) ∙ other-bit p o (λ e. n (ap suc e))
+
+-- a number other than 0 has a bit
+below-power : (n : ℕ) → n < 2 ^ n
+below-power zero = omega arith
+below-power (suc n) = let e = pow-suc 2 n in let h = below-power n in omega arith
+
+some-bit : (k n : ℕ) → n < 2 ^ k → (n ≡ 0 → ⊥) → (q : ℕ) × (bit q n ≡ 1)
+some-bit zero n h m = absurd (m (omega arith))
+some-bit (suc k) n h m = go (some-bit k (n / 2)) (ℕ-discrete (n % 2) 1)
+  where
+    go : (n / 2 < 2 ^ k → (n / 2 ≡ 0 → ⊥) → (q : ℕ) × (bit q (n / 2) ≡ 1)) → Dec (n % 2 ≡ 1) → (q : ℕ) × (bit q n ≡ 1)
+    go f (yes e) = (0, bit-zero n ∙ e)
+    go f (no d) =
+        let e = pow-suc 2 k in
+        let r = f (omega (arith, d)) (λ z. m (omega (arith, d, z))) in
+        let b : bit (suc (r .0)) n ≡ 1 = bit-suc (r .0) n ∙ r .1 in
+        (suc (r .0), b)
+
+-- a number whose one bit is p
+only-bit : (p n : ℕ) → (n ≡ 0 → ⊥) → ((q : ℕ) → bit q n ≡ 1 → q ≡ p) → n ≡ 2 ^ p
+only-bit zero n m f = go (ℕ-discrete (n / 2) 0)
+  where
+    go : Dec (n / 2 ≡ 0) → n ≡ 1
+    go (yes e) = omega (arith, m)
+    go (no d) =
+        let r = some-bit (n / 2) (n / 2) (below-power (n / 2)) d in
+        let z = f (suc (r .0)) (bit-suc (r .0) n ∙ r .1) in
+        absurd (omega arith)
+only-bit (suc p) n m f = go (only-bit p (n / 2)) (ℕ-discrete (n % 2) 1)
+  where
+    go : ((n / 2 ≡ 0 → ⊥) → ((q : ℕ) → bit q (n / 2) ≡ 1 → q ≡ p) → n / 2 ≡ 2 ^ p) → Dec (n % 2 ≡ 1) → n ≡ 2 ^ suc p
+    go g (yes e) = let z = f 0 (bit-zero n ∙ e) in absurd (omega arith)
+    go g (no d) =
+        let r = g (λ z. m (omega (arith, d, z))) (λ q h. let z = f (suc q) (bit-suc q n ∙ h) in omega arith) in
+        let e = pow-suc 2 p in
+        omega (arith, d)
+
+-- ---- sets
+pub member-none : (p : ℕ) → member p noEffect ≡ false
+member-none p = ne-eqb (bit p 0) 1 (λ e. let z = ap (λ (m : ℕ). m % 2) (zero-div (2 ^ p)) in omega arith)
+
+bit-join : (p : ℕ) (e f : Effect) → bit p ((e ∪ f) .bits) ≡ max (bit p (e .bits)) (bit p (f .bits))
+bit-join p e f = ap (λ (n : ℕ). n % 2) (or-shr (e .bits) (f .bits) p ∙ or-step (e .bits / 2 ^ p) (f .bits / 2 ^ p)) ∙ omega arith
+
+either : (x y z : ℕ) → x < 2 → y < 2 → z ≡ max x y → eqb z 1 ≡ (eqb x 1 || eqb y 1)
+either x y z a b e = go (eqb x 1) refl (eqb y 1) refl
+  where
+    go : (s : Bool) → eqb x 1 ≡ s → (t : Bool) → eqb y 1 ≡ t → eqb z 1 ≡ (s || t)
+    go true f t g = let h = eqb-true x 1 f in eq-eqb z 1 (omega arith)
+    go false f true g = let h = eqb-true y 1 g in eq-eqb z 1 (omega arith)
+    go false f false g = ne-eqb z 1 (λ i. let h = eqb-false x 1 f in let k = eqb-false y 1 g in omega (arith, h, k))
+
+-- 'A frame joins its children's effects': a member of the join is a member of one or of the other
+pub member-join : (p : ℕ) (e f : Effect) → member p (e ∪ f) ≡ (member p e || member p f)
+member-join p e f = either (bit p (e .bits)) (bit p (f .bits)) _ (omega arith) (omega arith) (bit-join p e f)
+
+member-only : (p o : ℕ) → member p (only o) ≡ eqb p o
+member-only p o = go (ℕ-discrete p o)
+  where
+    go : Dec (p ≡ o) → member p (only o) ≡ eqb p o
+    go (yes e) = eq-eqb _ _ (ap (λ (q : ℕ). bit q (2 ^ o)) e ∙ same-bit o) ∙ sym (eq-eqb p o e)
+    go (no d) = ne-eqb (bit p (2 ^ o)) 1 (λ z. let k = other-bit p o d in omega arith) ∙ sym (ne-eqb p o d)
+
+or-off : (b : Bool) → b ≡ (b || false)
+or-off true = refl
+or-off false = refl
+
+-- '.. add the cell's owner if it is a scheduler'
+pub member-owner : (p o : ℕ) (e : Effect) → member p (withOwner o e) ≡ (member p e || isScheduler o && eqb p o)
+unfolding withOwner
+member-owner p o e =
+    if-all (λ (f : Effect). member p f ≡ (member p e || isScheduler o && eqb p o)) (isScheduler o) (e ∪ only o) e
+    (λ h. rw h (member-join p e (only o) ∙ ap (λ (b : Bool). member p e || b) (member-only p o)))
+    (λ h. rw h (or-off (member p e)))
+
+-- every member is p, which is a scheduler
+abbrev pub Within : ℕ → Effect → Type 0
+Within p e = (q : ℕ) → member q e ≡ true → (q ≡ p) × (isScheduler p ≡ true)
+
+-- 'within {S}, or empty when S is 1'
+pub within-members : (p : ℕ) (e : Effect) → within p e ≡ true → Within p e
+unfolding within
+within-members p e h q m = go (eqb (e .bits) 0) refl h
+  where
+    go : (t : Bool) → eqb (e .bits) 0 ≡ t → (t || isScheduler p && eqb (e .bits) (2 ^ p)) ≡ true → (q ≡ p) × (isScheduler p ≡ true)
+    go true z k =
+        let n : bit q (e .bits) ≡ 0 = ap (λ (b : ℕ). bit q b) (eqb-true _ _ z) ∙ ap (λ (a : ℕ). a % 2) (zero-div (2 ^ q)) in
+        let o : bit q (e .bits) ≡ 1 = eqb-true _ _ m in
+        absurd (omega arith)
+    go false z k = let r = and-true _ _ k in (eqb-true _ _ (sym (member-only q p) ∙ ap (λ (b : ℕ). member q (record { bits = b })) (sym (eqb-true _ _ (r .1))) ∙ m), r .0)
+
+pub members-within : (p : ℕ) (e : Effect) → Within p e → within p e ≡ true
+unfolding within
+members-within p e h = go (ℕ-discrete (e .bits) 0)
+  where
+    go : Dec (e .bits ≡ 0) → (eqb (e .bits) 0 || isScheduler p && eqb (e .bits) (2 ^ p)) ≡ true
+    go (yes z) = rw (eq-eqb _ _ z)
+    go (no d) =
+        let b = some-bit (e .bits) (e .bits) (below-power (e .bits)) d in
+        let s = h (b .0) (eq-eqb _ _ (b .1)) .1 in
+        let o = only-bit p (e .bits) d (λ q k. h q (eq-eqb _ _ k) .0) in
+        rw (ne-eqb _ _ d, s, eq-eqb _ _ o)

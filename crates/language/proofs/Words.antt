@@ -1,0 +1,172 @@
+-- Laws of type words: how deep, by their size. Assumes nothing.
+use mathlib.Core.Bool.{Bool, true, false, not, _&&_, _||_}
+use mathlib.Core.Path.{_≡_, refl, sym, ap, _∙_}
+use Prim.Native.Nat.{ℕ, suc, _+_, _-_, _*_, _/_, _%_, _^_, _<_, _≤_}
+use native.Mathlib.Omega.{arith}
+use lib.Dec.{ltb, leb, eqb}
+use borrow.Author.Tests.{lt-ltb, le-ltb, le-leb, lt-leb, eq-eqb, ne-eqb, eqb-false, not-true, not-false}
+use Rattle.basics.proofs.Ifs.{yes, no, and-off, or-on}
+use Rattle.language.specs.Types.{cellDepth, cellType, ownerOf, contentOf, cellRead, isCell, public, ownerDigit, typeWord, contentWord, digitOf}
+use Rattle.language.specs.declared.type_word.CellRead.the-variants.{Word, TooDeep}
+
+pub depth-0 : (t : ℕ) → t < 0x0010 → 0 ≡ cellDepth t
+unfolding cellDepth
+depth-0 t h = yes _ (lt-ltb _ _ h) refl
+
+pub depth-1 : (t : ℕ) → 0x0010 ≤ t → t < 0x0100 → 1 ≡ cellDepth t
+unfolding cellDepth
+depth-1 t a h = no _ (le-ltb _ _ a) (yes _ (lt-ltb _ _ h) refl)
+
+pub depth-2 : (t : ℕ) → 0x0010 ≤ t → 0x0100 ≤ t → t < 0x1000 → 2 ≡ cellDepth t
+unfolding cellDepth
+depth-2 t a b h = no _ (le-ltb _ _ a) (no _ (le-ltb _ _ b) (yes _ (lt-ltb _ _ h) refl))
+
+pub depth-3 : (t : ℕ) → 0x0010 ≤ t → 0x0100 ≤ t → 0x1000 ≤ t → 3 ≡ cellDepth t
+unfolding cellDepth
+depth-3 t a b h = no _ (le-ltb _ _ a) (no _ (le-ltb _ _ b) (no _ (le-ltb _ _ h) refl))
+
+pub ruleset depth-laws = (depth-0, depth-1, depth-2, depth-3)
+
+-- the parts of a word, from its depth
+by-owner : (t d r : ℕ) → d ≡ cellDepth t → r ≡ t / 16 ^ d → r ≡ ownerOf t
+unfolding ownerOf
+by-owner t d r e h = h ∙ ap (λ (n : ℕ). t / 16 ^ n) e
+
+pub owner-0 : (t : ℕ) → t < 0x0010 → t % 256 ≡ ownerOf t
+owner-0 t h = by-owner t 0 _ (depth-0 t h) (omega arith)
+
+pub owner-1 : (t : ℕ) → 0x0010 ≤ t → t < 0x0100 → t / 0x0010 ≡ ownerOf t
+owner-1 t a h = by-owner t 1 _ (depth-1 t a h) refl
+
+pub owner-2 : (t : ℕ) → 0x0010 ≤ t → 0x0100 ≤ t → t < 0x1000 → t / 0x0100 ≡ ownerOf t
+owner-2 t a b h = by-owner t 2 _ (depth-2 t a b h) refl
+
+pub owner-3 : (t : ℕ) → 0x0010 ≤ t → 0x0100 ≤ t → 0x1000 ≤ t → t / 0x1000 ≡ ownerOf t
+owner-3 t a b h = by-owner t 3 _ (depth-3 t a b h) refl
+
+pub ruleset owner-laws = (owner-0, owner-1, owner-2, owner-3)
+
+by-content : (t d r : ℕ) → d ≡ cellDepth t → r ≡ t % 16 ^ d → r ≡ contentOf t
+unfolding contentOf
+by-content t d r e h = h ∙ ap (λ (n : ℕ). t % 16 ^ n) e
+
+pub content-0 : (t : ℕ) → t < 0x0010 → 0 ≡ contentOf t
+content-0 t h = by-content t 0 _ (depth-0 t h) (omega arith)
+
+pub content-1 : (t : ℕ) → 0x0010 ≤ t → t < 0x0100 → t % 0x0010 ≡ contentOf t
+content-1 t a h = by-content t 1 _ (depth-1 t a h) refl
+
+pub content-2 : (t : ℕ) → 0x0010 ≤ t → 0x0100 ≤ t → t < 0x1000 → t % 0x0100 ≡ contentOf t
+content-2 t a b h = by-content t 2 _ (depth-2 t a b h) refl
+
+pub content-3 : (t : ℕ) → 0x0010 ≤ t → 0x0100 ≤ t → 0x1000 ≤ t → t % 0x1000 ≡ contentOf t
+content-3 t a b h = by-content t 3 _ (depth-3 t a b h) refl
+
+pub ruleset content-laws = (content-0, content-1, content-2, content-3)
+
+-- a cell's type, by the constructor's tests
+by-cell : (o t d : ℕ) → 1 ≤ o → o ≤ 9 → t < 0x1000 → d ≡ cellDepth t → Word (o * 16 ^ suc d + t) ≡ cellRead o t
+unfolding cellRead cellType
+by-cell o t d a b h e = yes _ (simp (le-leb _ _ a, le-leb _ _ b, lt-ltb _ _ h)) (ap (λ (n : ℕ). Word (o * 16 ^ suc n + t)) e)
+
+pub read-low : (o t : ℕ) → o < 1 → TooDeep ≡ cellRead o t
+unfolding cellRead
+read-low o t h = no _ (simp (lt-leb _ _ h)) refl
+
+pub read-high : (o t : ℕ) → 9 < o → TooDeep ≡ cellRead o t
+unfolding cellRead
+read-high o t h = no _ (simp (le-leb 1 o (omega arith), lt-leb _ _ h)) refl
+
+pub read-0 : (o t : ℕ) → 1 ≤ o → o ≤ 9 → t < 0x0010 → Word (o * 0x0010 + t) ≡ cellRead o t
+read-0 o t a b h = by-cell o t 0 a b (omega arith) (depth-0 t h)
+
+pub read-1 : (o t : ℕ) → 1 ≤ o → o ≤ 9 → 0x0010 ≤ t → t < 0x0100 → Word (o * 0x0100 + t) ≡ cellRead o t
+read-1 o t a b x h = by-cell o t 1 a b (omega arith) (depth-1 t x h)
+
+pub read-2 : (o t : ℕ) → 1 ≤ o → o ≤ 9 → 0x0010 ≤ t → 0x0100 ≤ t → t < 0x1000 → Word (o * 0x1000 + t) ≡ cellRead o t
+read-2 o t a b x y h = by-cell o t 2 a b h (depth-2 t x y h)
+
+pub read-3 : (o t : ℕ) → 0x1000 ≤ t → TooDeep ≡ cellRead o t
+unfolding cellRead
+read-3 o t h = no _ (rw (le-ltb t 0x1000 h, and-off)) refl
+
+pub ruleset read-laws = (read-low, read-high, read-0, read-1, read-2, read-3)
+
+pub public-cell : (t o : ℕ) (x : Bool) → x ≡ isCell t → x ≡ true → o ≡ ownerOf t → not (eqb o 1) ≡ public t
+unfolding public
+public-cell t o x c n e = rw (sym c ∙ n, e)
+
+pub public-basic : (t : ℕ) (x : Bool) → x ≡ isCell t → x ≡ false → true ≡ public t
+unfolding public
+public-basic t x c n = rw (sym c ∙ n)
+
+pub ruleset public-laws = (public-cell, public-basic)
+
+-- an owner's digit
+module _ (b left o : ℕ) where
+  pub digit-0 : o ≡ 0 → eqb left 0 ≡ ownerDigit b left o
+  unfolding ownerDigit
+  digit-0 e = yes _ (eq-eqb _ _ e) refl
+
+  by-digit : (r : Bool) → (o ≡ 0 → ⊥) → r ≡ ((leb 1 o && leb o (1 + b)) && (not (eqb o 1) || leb left 1)) → r ≡ ownerDigit b left o
+  unfolding ownerDigit
+  by-digit r n h = no _ (ne-eqb _ _ n) h
+
+  pub digit-high : (o ≡ 0 → ⊥) → b < o - 1 → false ≡ ownerDigit b left o
+  digit-high n h = by-digit false n (rw (lt-leb o (1 + b) (omega arith), and-off))
+
+  pub digit-1 : (o ≡ 0 → ⊥) → o - 1 ≤ b → o ≡ 1 → leb left 1 ≡ ownerDigit b left o
+  digit-1 n h e = by-digit _ n (rw (le-leb 1 o (omega arith), le-leb o (1 + b) (omega arith), eq-eqb o 1 e))
+
+  pub digit-more : (o ≡ 0 → ⊥) → o - 1 ≤ b → (o ≡ 1 → ⊥) → true ≡ ownerDigit b left o
+  digit-more n h e = by-digit _ n (rw (le-leb 1 o (omega arith), le-leb o (1 + b) (omega arith), ne-eqb o 1 e))
+
+pub ruleset digit-laws = (digit-0, digit-high, digit-1, digit-more)
+
+-- a type word, digit by digit
+module _ (b t : ℕ) where
+  pub word-low : t % 16 < 1 → false ≡ typeWord b t
+  unfolding typeWord
+  word-low h = rw (ne-eqb (digitOf 0 t) 1 (λ e. omega arith), ne-eqb (digitOf 0 t) 2 (λ e. omega arith))
+
+  pub word-high : 2 < t % 16 → false ≡ typeWord b t
+  unfolding typeWord
+  word-high h = rw (ne-eqb (digitOf 0 t) 1 (λ e. omega arith), ne-eqb (digitOf 0 t) 2 (λ e. omega arith))
+
+  word-by : (r : Bool) → 1 ≤ t % 16 → t % 16 ≤ 2 → r ≡ (ownerDigit b (digitOf 2 t) (digitOf 1 t) && ownerDigit b (digitOf 3 t) (digitOf 2 t) && ownerDigit b 0 (digitOf 3 t)) → r ≡ typeWord b t
+  unfolding typeWord
+  word-by r l h e = e ∙ sym (rw (kind (eqb (digitOf 0 t) 1) refl))
+    where
+      at-2 : (digitOf 0 t ≡ 1 → ⊥) → digitOf 0 t ≡ 2
+      at-2 n = omega (arith, l, h, n)
+
+      kind : (k : Bool) → eqb (digitOf 0 t) 1 ≡ k → (k || eqb (digitOf 0 t) 2) ≡ true
+      kind true n = refl
+      kind false n = eq-eqb (digitOf 0 t) 2 (at-2 (eqb-false (digitOf 0 t) 1 n))
+
+  pub word-1 : (x : Bool) → 1 ≤ t % 16 → t % 16 ≤ 2 → x ≡ ownerDigit b (t / 0x0100 % 16) (t / 0x0010 % 16) → not x ≡ true → false ≡ typeWord b t
+  word-1 x l h e n = word-by false l h (rw (sym e ∙ not-true x n))
+
+  pub word-2 : (x y : Bool) → 1 ≤ t % 16 → t % 16 ≤ 2 → x ≡ ownerDigit b (t / 0x0100 % 16) (t / 0x0010 % 16) → not x ≡ false → y ≡ ownerDigit b (t / 0x1000 % 16) (t / 0x0100 % 16) → not y ≡ true → false ≡ typeWord b t
+  word-2 x y l h e n f m = word-by false l h (rw (sym e ∙ not-false x n, sym f ∙ not-true y m))
+
+  pub word-3 : (x y z : Bool) → 1 ≤ t % 16 → t % 16 ≤ 2 → x ≡ ownerDigit b (t / 0x0100 % 16) (t / 0x0010 % 16) → not x ≡ false → y ≡ ownerDigit b (t / 0x1000 % 16) (t / 0x0100 % 16) → not y ≡ false → z ≡ ownerDigit b 0 (t / 0x1000 % 16) → z ≡ typeWord b t
+  word-3 x y z l h e n f m g = word-by z l h (g ∙ rw (sym e ∙ not-false x n, sym f ∙ not-false y m))
+
+pub ruleset word-laws = (word-low, word-high, word-1, word-2, word-3)
+
+-- the type of a shared cell's content
+module _ (b t : ℕ) where
+  pub content-bad : (x : Bool) → x ≡ typeWord b t → not x ≡ true → false ≡ contentWord b t
+  unfolding contentWord
+  content-bad x e n = rw (sym e ∙ not-true x n)
+
+  pub content-private : (x y : Bool) → x ≡ typeWord b t → not x ≡ false → y ≡ public t → not y ≡ true → false ≡ contentWord b t
+  unfolding contentWord
+  content-private x y e n f m = rw (sym e ∙ not-false x n, sym f ∙ not-true y m)
+
+  pub content-good : (x y : Bool) (d : ℕ) → x ≡ typeWord b t → not x ≡ false → y ≡ public t → not y ≡ false → d ≡ cellDepth t → leb d 2 ≡ contentWord b t
+  unfolding contentWord
+  content-good x y d e n f m g = rw (sym e ∙ not-false x n, sym f ∙ not-false y m, g)
+
+pub ruleset content-word-laws = (content-bad, content-private, content-good)

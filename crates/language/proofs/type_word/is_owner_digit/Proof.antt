@@ -1,0 +1,23 @@
+-- `is_owner_digit` meets its contract. Assumes nothing.
+use borrow.Author.Needs.{needs}
+use Rattle.language.proofs.Words.{digit-laws}
+use Rattle.language.proofs.type_word.is_owner_digit.Statement.{statement}
+use Rattle.language.proofs.type_word.is_owner_digit.Tie as tie
+
+returns : tie.Need-returns
+returns c = search digit-laws
+
+sub-if2 : tie.Need-sub-if2
+sub-if2 c = search needs
+
+returns-2 : tie.Need-returns-2
+returns-2 c = search digit-laws
+
+returns-3 : tie.Need-returns-3
+returns-3 c = search digit-laws
+
+returns-4 : tie.Need-returns-4
+returns-4 c = search digit-laws
+
+pub is-owner-digit-spec : {M : Type 1} → statement M
+is-owner-digit-spec = tie.close (tie.spec returns sub-if2 returns-2 returns-3 returns-4)

@@ -1,0 +1,33 @@
+-- 'An effect is a set of schedulers.' The set is a number: the scheduler p is a member where bit p is set. Assumes nothing: definitions; what they mean as sets is proved in proofs/Sets.
+use mathlib.Core.Bool.{Bool, _||_, _&&_}
+use Prim.Native.Nat.{ℕ, _/_, _%_, _^_}
+use lib.Dec.{eqb}
+use lib.Bits.{bitOr}
+use Rattle.basics.specs.If.{if_then_else_}
+use Rattle.language.specs.Places.{isScheduler}
+use Rattle.language.specs.declared.effect.Effect.{Effect}
+
+-- the scheduler p is a member of e
+abbrev pub member : ℕ → Effect → Bool
+member p e = eqb (e .bits / 2 ^ p % 2) 1
+
+-- the empty set
+abbrev pub noEffect : Effect
+noEffect = record { bits = 0 }
+
+-- the set {p}
+abbrev pub only : ℕ → Effect
+only p = record { bits = 2 ^ p }
+
+infixl 60 _∪_
+-- 'A frame joins its children's effects.'
+abbrev pub _∪_ : Effect → Effect → Effect
+_∪_ e f = record { bits = bitOr (e .bits) (f .bits) }
+
+-- '.. add the cell's owner if it is a scheduler'
+unfoldable pub withOwner : ℕ → Effect → Effect
+withOwner o e = if isScheduler o then e ∪ only o else e
+
+-- 'within {S}, or empty when S is 1'
+unfoldable pub within : ℕ → Effect → Bool
+within p e = eqb (e .bits) 0 || isScheduler p && eqb (e .bits) (2 ^ p)

@@ -1,0 +1,141 @@
+-- The table of kinds: each kind's number, and what each of its fields holds. Assumes nothing: definitions.
+use mathlib.Core.List.{List, [], _∷_, _++_}
+use Prim.Native.Nat.{ℕ, zero, suc}
+use lib.Dec.{eqb}
+use Rattle.basics.specs.If.{if_then_else_}
+use Rattle.language.specs.declared.kind.StatementKind.{StatementKind}
+use Rattle.language.specs.declared.kind.StatementKind.the-variants.{Nothing, Then, DoAt, Start, StartWait, Cooperate, Let, Store, If, While}
+use Rattle.language.specs.declared.kind.ExpressionKind.{ExpressionKind}
+use Rattle.language.specs.declared.kind.ExpressionKind.the-variants.{Number, Truth, Variable, SharedCell, NewCell, Content, Sum, Less, Choose}
+use Rattle.language.specs.declared.kind.Kind.{Kind}
+use Rattle.language.specs.declared.kind.Kind.the-variants.{Header, Shared, Module, Statement, Expression, Unknown}
+use Rattle.language.specs.declared.kind.Class.{Class}
+use Rattle.language.specs.declared.kind.Use.{Use}
+use Rattle.language.specs.declared.kind.Uses.{Uses}
+use Rattle.language.specs.declared.frame.Frame.{Frame}
+
+-- the kind that a number names: 01's table, 'K and S above are hexadecimal'
+unfoldable pub kindOf : ℕ → Kind
+kindOf k =
+    if eqb k 0x00 then Header else
+    if eqb k 0x01 then Shared else
+    if eqb k 0x02 then Module else
+    if eqb k 0x10 then Statement Nothing else
+    if eqb k 0x11 then Statement Then else
+    if eqb k 0x12 then Statement DoAt else
+    if eqb k 0x13 then Statement Start else
+    if eqb k 0x14 then Statement StartWait else
+    if eqb k 0x15 then Statement Cooperate else
+    if eqb k 0x16 then Statement Let else
+    if eqb k 0x17 then Statement Store else
+    if eqb k 0x18 then Statement If else
+    if eqb k 0x19 then Statement While else
+    if eqb k 0x20 then Expression Number else
+    if eqb k 0x21 then Expression Truth else
+    if eqb k 0x22 then Expression Variable else
+    if eqb k 0x23 then Expression SharedCell else
+    if eqb k 0x24 then Expression NewCell else
+    if eqb k 0x25 then Expression Content else
+    if eqb k 0x26 then Expression Sum else
+    if eqb k 0x27 then Expression Less else
+    if eqb k 0x28 then Expression Choose else
+    Unknown
+
+-- ---- what S, A, B and C hold. 'Unused fields are 0.'
+abbrev sabc : Use → Use → Use → Use → Uses
+sabc s a b c = record { s = s; a = a; b = b; c = c }
+
+abbrev pub statementUses : StatementKind → Uses
+-- 10 nothing
+statementUses Nothing = sabc Use.Unused Use.Unused Use.Unused Use.Unused
+-- 11 A, then B
+statementUses Then = sabc Use.Unused Use.Statement Use.Statement Use.Unused
+-- 12 do A at place S
+statementUses DoAt = sabc Use.Place Use.Statement Use.Unused Use.Unused
+-- 13 start module S with arguments A, B
+statementUses Start = sabc Use.Free Use.Argument Use.Further Use.Unused
+-- 14 the same, then wait
+statementUses StartWait = sabc Use.Free Use.Argument Use.Further Use.Unused
+-- 15 cooperate
+statementUses Cooperate = sabc Use.Unused Use.Unused Use.Unused Use.Unused
+-- 16 let the next variable be A, in B
+statementUses Let = sabc Use.Unused Use.Expression Use.Statement Use.Unused
+-- 17 store B in cell A
+statementUses Store = sabc Use.Unused Use.Expression Use.Expression Use.Unused
+-- 18 if A then B else C
+statementUses If = sabc Use.Unused Use.Expression Use.Statement Use.Statement
+-- 19 while A do B
+statementUses While = sabc Use.Unused Use.Expression Use.Statement Use.Unused
+
+abbrev pub expressionUses : ExpressionKind → Uses
+-- 20 number A
+expressionUses Number = sabc Use.Unused Use.Free Use.Unused Use.Unused
+-- 21 truth S (0 or 1)
+expressionUses Truth = sabc Use.Truth Use.Unused Use.Unused Use.Unused
+-- 22 variable S
+expressionUses Variable = sabc Use.Free Use.Unused Use.Unused Use.Unused
+-- 23 shared cell S
+expressionUses SharedCell = sabc Use.Free Use.Unused Use.Unused Use.Unused
+-- 24 new cell, owner S, content A
+expressionUses NewCell = sabc Use.Place Use.Expression Use.Unused Use.Unused
+-- 25 content of cell A
+expressionUses Content = sabc Use.Unused Use.Expression Use.Unused Use.Unused
+-- 26 sum of numbers A, B
+expressionUses Sum = sabc Use.Unused Use.Expression Use.Expression Use.Unused
+-- 27 number A is less than number B
+expressionUses Less = sabc Use.Unused Use.Expression Use.Expression Use.Unused
+-- 28 if truth A, number B, else number C
+expressionUses Choose = sabc Use.Unused Use.Expression Use.Expression Use.Expression
+
+abbrev pub uses : Kind → Uses
+-- 00: its faults have a number of their own, 4
+uses Header = sabc Use.Free Use.Free Use.Free Use.Free
+-- 01 shared cell: S owner (a scheduler), A content type, B first content
+uses Shared = sabc Use.Scheduler Use.ContentType Use.FirstContent Use.Unused
+-- 02 module: S parameters, A body, B and C their types
+uses Module = sabc Use.Parameters Use.Statement Use.FirstType Use.SecondType
+uses (Statement k) = statementUses k
+uses (Expression k) = expressionUses k
+-- the kind is the fault
+uses Unknown = sabc Use.Free Use.Free Use.Free Use.Free
+
+-- '10 to 19 are statements, 20 to 28 expressions.'
+abbrev pub classOf : Kind → Class
+classOf Header = Class.Neither
+classOf Shared = Class.Neither
+classOf Module = Class.Neither
+classOf (Statement k) = Class.Statement
+classOf (Expression k) = Class.Expression
+classOf Unknown = Class.Neither
+
+-- ---- children
+-- a child: the class that it is to be of, and its frame's number
+pub record Child : Type 0 where
+  pub class : Class
+  pub at : ℕ
+
+abbrev pub child : Class → ℕ → Child
+child k n = record { class = k; at = n }
+
+-- the child that a field names, if it names one: 'In 13 and 14 a 0 is no argument'
+abbrev pub childIn : Use → ℕ → List Child
+childIn Use.Statement n = child Class.Statement n ∷ []
+childIn Use.Expression n = child Class.Expression n ∷ []
+childIn Use.Argument zero = []
+childIn Use.Argument (suc n) = child Class.Expression (suc n) ∷ []
+childIn Use.Further zero = []
+childIn Use.Further (suc n) = child Class.Expression (suc n) ∷ []
+childIn Use.Unused n = []
+childIn Use.Free n = []
+childIn Use.Truth n = []
+childIn Use.Place n = []
+childIn Use.Scheduler n = []
+childIn Use.ContentType n = []
+childIn Use.FirstContent n = []
+childIn Use.Parameters n = []
+childIn Use.FirstType n = []
+childIn Use.SecondType n = []
+
+-- a frame's children, in order
+unfoldable pub children : Frame → List Child
+children f = childIn (uses (f .kind) .a) (f .a) ++ childIn (uses (f .kind) .b) (f .b) ++ childIn (uses (f .kind) .c) (f .c)

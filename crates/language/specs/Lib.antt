@@ -1,0 +1,4 @@
+pub mod Places
+pub mod Types
+pub mod Effects
+pub mod Kinds

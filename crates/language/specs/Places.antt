@@ -1,0 +1,43 @@
+-- Places. 'Private is 1, home is 2, and the last scheduler is 9; a file has 2 to 1+B. A thread at place 1 is loose.' Assumes nothing: definitions.
+use mathlib.Core.Bool.{Bool, true, false, _&&_}
+use Prim.Native.Nat.{ℕ, _+_}
+use lib.Dec.{leb, eqb}
+use Rattle.basics.specs.If.{if_then_else_}
+use Rattle.language.specs.declared.place.Place.{Place}
+use Rattle.language.specs.declared.place.PlaceRead.{PlaceRead}
+use Rattle.language.specs.declared.place.PlaceRead.the-variants.{At, NoPlace}
+
+abbrev pub private : ℕ
+private = 1
+
+abbrev pub home : ℕ
+home = 2
+
+abbrev pub lastScheduler : ℕ
+lastScheduler = 9
+
+-- the numbers that name a place, and those that name a scheduler
+abbrev pub isPlace : ℕ → Bool
+isPlace p = leb private p && leb p lastScheduler
+
+abbrev pub isScheduler : ℕ → Bool
+isScheduler p = leb home p && leb p lastScheduler
+
+-- p is a place, and a scheduler, of a file with b schedulers: 'a file has 2 to 1+B'
+abbrev pub hasPlace : ℕ → ℕ → Bool
+hasPlace b p = leb private p && leb p (1 + b)
+
+abbrev pub hasScheduler : ℕ → ℕ → Bool
+hasScheduler b p = leb home p && leb p (1 + b)
+
+-- what a constructor of places answers at the number n, by its test
+unfoldable pub placeRead : Bool → ℕ → PlaceRead
+placeRead test n = if test then At (record { number = n }) else NoPlace
+
+-- How a statement stands: linked to a scheduler, or unlinked (01: loose)
+pub data Standing : Type 0 where
+  linked unlinked : Standing
+
+-- how A stands in 'do A at place p': 'A thread at place 1 is loose'
+unfoldable pub standingAt : ℕ → Standing
+standingAt p = if eqb p private then unlinked else linked

@@ -1,0 +1,60 @@
+// Effects: which schedulers' cells a statement or an expression may touch.
+use crate::place::Place;
+ghost use mathlib.Core.Path.{_≡_};
+ghost use Rattle.language.specs.Effects.{noEffect, _∪_, withOwner, within};
+
+// A set of schedulers, 2 to 9: the scheduler p is a member where bit p is set.
+pub struct Effect {
+    pub bits: u16,
+}
+
+impl Effect {
+    pub fn none() -> Self
+        ensures { λ r. ⌜ r ≡ noEffect ⌝ }
+    {
+        Self { bits: 0 }
+    }
+
+    // Both sets together.
+    pub fn joined(self, other: Effect) -> Self
+        ensures { λ r. ⌜ r ≡ self ∪ other ⌝ }
+    {
+        Self {
+            bits: self.bits | other.bits,
+        }
+    }
+
+    // With one owner added, if that is a scheduler.
+    pub fn with_owner(self, owner: u8) -> Self
+        ensures { λ r. ⌜ r ≡ withOwner owner self ⌝ }
+    {
+        let bits = self.bits;
+        if owner < Place::HOME.number {
+            return Self { bits };
+        }
+        if Place::LAST_SCHEDULER.number < owner {
+            return Self { bits };
+        }
+        Self {
+            bits: bits | (1u16 << owner),
+        }
+    }
+
+    // Whether nothing but the scheduler `place` is a member: of a private place, whether nothing is.
+    pub fn within(self, place: Place) -> bool
+        ensures { λ r. ⌜ r ≡ within (place .number) self ⌝ }
+    {
+        let bits = self.bits;
+        let p = place.number;
+        if bits == 0 {
+            return true;
+        }
+        if p < Place::HOME.number {
+            return false;
+        }
+        if Place::LAST_SCHEDULER.number < p {
+            return false;
+        }
+        bits == 1u16 << p
+    }
+}

@@ -1,0 +1,203 @@
+// Kinds of frames, and what each field of a kind holds.
+ghost use mathlib.Core.Path.{_≡_};
+ghost use Rattle.language.specs.Kinds.{kindOf, statementUses, expressionUses, uses, classOf};
+
+// Statements, K 10 to 19.
+pub enum StatementKind {
+    Nothing,
+    Then,
+    DoAt,
+    Start,
+    StartWait,
+    Cooperate,
+    Let,
+    Store,
+    If,
+    While,
+}
+
+// Expressions, K 20 to 28.
+pub enum ExpressionKind {
+    Number,
+    Truth,
+    Variable,
+    SharedCell,
+    NewCell,
+    Content,
+    Sum,
+    Less,
+    Choose,
+}
+
+pub enum Kind {
+    Header,
+    Shared,
+    Module,
+    Statement(StatementKind),
+    Expression(ExpressionKind),
+    Unknown,
+}
+
+// What a frame is, as a child.
+pub enum Class {
+    Statement,
+    Expression,
+    Neither,
+}
+
+// What a field holds.
+pub enum Use {
+    // Nothing: it is 0.
+    Unused,
+    // Any number: of the header, a number, or the index of a variable, a shared cell or a module.
+    Free,
+    // 0 or 1.
+    Truth,
+    // A place of the file, private among them; a scheduler of the file.
+    Place,
+    Scheduler,
+    // A child of that class.
+    Statement,
+    Expression,
+    // An expression, or 0 for no argument; the further one needs the first.
+    Argument,
+    Further,
+    // Of a shared cell: its content type and its first content.
+    ContentType,
+    FirstContent,
+    // Of a module: how many parameters, and the types of the first and of the second.
+    Parameters,
+    FirstType,
+    SecondType,
+}
+
+pub struct Uses {
+    pub s: Use,
+    pub a: Use,
+    pub b: Use,
+    pub c: Use,
+}
+
+fn uses_are(s: Use, a: Use, b: Use, c: Use) -> Uses
+    ensures { λ r. ⌜ r ≡ record { s = s; a = a; b = b; c = c } ⌝ }
+{
+    Uses { s, a, b, c }
+}
+
+// The kind that a number names.
+pub fn kind_of(k: u8) -> Kind
+    ensures { λ r. ⌜ r ≡ kindOf k ⌝ }
+{
+    match k {
+        0x00 => Kind::Header,
+        0x01 => Kind::Shared,
+        0x02 => Kind::Module,
+        0x10 => Kind::Statement(StatementKind::Nothing),
+        0x11 => Kind::Statement(StatementKind::Then),
+        0x12 => Kind::Statement(StatementKind::DoAt),
+        0x13 => Kind::Statement(StatementKind::Start),
+        0x14 => Kind::Statement(StatementKind::StartWait),
+        0x15 => Kind::Statement(StatementKind::Cooperate),
+        0x16 => Kind::Statement(StatementKind::Let),
+        0x17 => Kind::Statement(StatementKind::Store),
+        0x18 => Kind::Statement(StatementKind::If),
+        0x19 => Kind::Statement(StatementKind::While),
+        0x20 => Kind::Expression(ExpressionKind::Number),
+        0x21 => Kind::Expression(ExpressionKind::Truth),
+        0x22 => Kind::Expression(ExpressionKind::Variable),
+        0x23 => Kind::Expression(ExpressionKind::SharedCell),
+        0x24 => Kind::Expression(ExpressionKind::NewCell),
+        0x25 => Kind::Expression(ExpressionKind::Content),
+        0x26 => Kind::Expression(ExpressionKind::Sum),
+        0x27 => Kind::Expression(ExpressionKind::Less),
+        0x28 => Kind::Expression(ExpressionKind::Choose),
+        _ => Kind::Unknown,
+    }
+}
+
+pub fn class_of(k: Kind) -> Class
+    ensures { λ r. ⌜ r ≡ classOf k ⌝ }
+{
+    match k {
+        Kind::Header => Class::Neither,
+        Kind::Shared => Class::Neither,
+        Kind::Module => Class::Neither,
+        Kind::Statement(_) => Class::Statement,
+        Kind::Expression(_) => Class::Expression,
+        Kind::Unknown => Class::Neither,
+    }
+}
+
+// The fields of a statement.
+pub fn statement_uses(k: StatementKind) -> Uses
+    ensures { λ r. ⌜ r ≡ statementUses k ⌝ }
+{
+    match k {
+        StatementKind::Nothing => uses_are(Use::Unused, Use::Unused, Use::Unused, Use::Unused),
+        StatementKind::Then => uses_are(Use::Unused, Use::Statement, Use::Statement, Use::Unused),
+        StatementKind::DoAt => uses_are(Use::Place, Use::Statement, Use::Unused, Use::Unused),
+        StatementKind::Start => uses_are(Use::Free, Use::Argument, Use::Further, Use::Unused),
+        StatementKind::StartWait => uses_are(Use::Free, Use::Argument, Use::Further, Use::Unused),
+        StatementKind::Cooperate => uses_are(Use::Unused, Use::Unused, Use::Unused, Use::Unused),
+        StatementKind::Let => uses_are(Use::Unused, Use::Expression, Use::Statement, Use::Unused),
+        StatementKind::Store => uses_are(
+            Use::Unused,
+            Use::Expression,
+            Use::Expression,
+            Use::Unused,
+        ),
+        StatementKind::If => uses_are(Use::Unused, Use::Expression, Use::Statement, Use::Statement),
+        StatementKind::While => uses_are(Use::Unused, Use::Expression, Use::Statement, Use::Unused),
+    }
+}
+
+// The fields of an expression.
+pub fn expression_uses(k: ExpressionKind) -> Uses
+    ensures { λ r. ⌜ r ≡ expressionUses k ⌝ }
+{
+    match k {
+        ExpressionKind::Number => uses_are(Use::Unused, Use::Free, Use::Unused, Use::Unused),
+        ExpressionKind::Truth => uses_are(Use::Truth, Use::Unused, Use::Unused, Use::Unused),
+        ExpressionKind::Variable => uses_are(Use::Free, Use::Unused, Use::Unused, Use::Unused),
+        ExpressionKind::SharedCell => uses_are(Use::Free, Use::Unused, Use::Unused, Use::Unused),
+        ExpressionKind::NewCell => uses_are(Use::Place, Use::Expression, Use::Unused, Use::Unused),
+        ExpressionKind::Content => uses_are(Use::Unused, Use::Expression, Use::Unused, Use::Unused),
+        ExpressionKind::Sum => uses_are(Use::Unused, Use::Expression, Use::Expression, Use::Unused),
+        ExpressionKind::Less => uses_are(
+            Use::Unused,
+            Use::Expression,
+            Use::Expression,
+            Use::Unused,
+        ),
+        ExpressionKind::Choose => uses_are(
+            Use::Unused,
+            Use::Expression,
+            Use::Expression,
+            Use::Expression,
+        ),
+    }
+}
+
+// The fields of a frame.
+pub fn uses_of(k: Kind) -> Uses
+    ensures { λ r. ⌜ r ≡ uses k ⌝ }
+{
+    match k {
+        Kind::Header => uses_are(Use::Free, Use::Free, Use::Free, Use::Free),
+        Kind::Shared => uses_are(
+            Use::Scheduler,
+            Use::ContentType,
+            Use::FirstContent,
+            Use::Unused,
+        ),
+        Kind::Module => uses_are(
+            Use::Parameters,
+            Use::Statement,
+            Use::FirstType,
+            Use::SecondType,
+        ),
+        Kind::Statement(s) => statement_uses(s),
+        Kind::Expression(e) => expression_uses(e),
+        Kind::Unknown => uses_are(Use::Free, Use::Free, Use::Free, Use::Free),
+    }
+}

@@ -1,0 +1,94 @@
+-- A file as a program: its header, its shared cells, its modules. Assumes nothing: definitions.
+use mathlib.Core.List.{List, [], _∷_, map}
+use Prim.Native.Nat.{ℕ, suc, _-_}
+use lib.Dec.{eqb}
+use lib.ListN.{length, getD, take}
+use Rattle.basics.specs.If.{if_then_else_}
+use Rattle.language.specs.Types.{cellType}
+use Rattle.language.specs.declared.kind.Kind.{Kind}
+use Rattle.language.specs.declared.kind.Kind.the-variants.{Header, Shared, Module, Statement, Expression, Unknown}
+use Rattle.language.specs.declared.frame.Frame.{Frame}
+use Rattle.program.specs.Trees.{Stmt, nothing, frameAt, statementAt}
+
+-- '01 shared cell: S owner (a scheduler), A content type, B first content'
+pub record SharedCell : Type 0 where
+  pub owner : ℕ
+  pub content : ℕ
+  pub first : ℕ
+
+-- '02 module: S parameters, 0 to 2, A body, B and C their types', and the frame that it is
+pub record Part : Type 0 where
+  pub frame : ℕ
+  pub types : List ℕ
+  pub body : Stmt
+
+-- '00 header: A step allowance (0 means 4,096), B schedulers', 'Modules and shared cells count from 0.'
+pub record Program : Type 0 where
+  pub allowance : ℕ
+  pub schedulers : ℕ
+  pub shared : List SharedCell
+  pub modules : List Part
+
+-- the type of a shared cell: a cell of its owner around its content type
+abbrev pub typeOfShared : SharedCell → ℕ
+typeOfShared x = cellType (x .owner) (x .content)
+
+abbrev withShared : Frame → Kind → List SharedCell → List SharedCell
+withShared f Shared cs = record { owner = f .s; content = f .a; first = f .b } ∷ cs
+withShared f Header cs = cs
+withShared f Module cs = cs
+withShared f (Statement k) cs = cs
+withShared f (Expression k) cs = cs
+withShared f Unknown cs = cs
+
+-- the shared cells among those frames
+unfoldable pub sharedOf : List Frame → List SharedCell
+sharedOf [] = []
+sharedOf (f ∷ fs) = withShared f (f .kind) (sharedOf fs)
+
+-- and their types
+abbrev pub cellsOf : List Frame → List ℕ
+cellsOf fs = map typeOfShared (sharedOf fs)
+
+abbrev pub partOf : List Frame → ℕ → Frame → Part
+partOf fs i f = record { frame = i; types = take (f .s) (f .b ∷ f .c ∷ []); body = statementAt fs (f .a) }
+
+abbrev pub withPart : List Frame → ℕ → Frame → Kind → List Part → List Part
+withPart fs i f Module ps = partOf fs i f ∷ ps
+withPart fs i f Header ps = ps
+withPart fs i f Shared ps = ps
+withPart fs i f (Statement k) ps = ps
+withPart fs i f (Expression k) ps = ps
+withPart fs i f Unknown ps = ps
+
+-- the modules among those frames, which count from i in the file fs
+unfoldable pub modulesFrom : List Frame → ℕ → List Frame → List Part
+modulesFrom fs i [] = []
+modulesFrom fs i (f ∷ rest) = withPart fs i f (f .kind) (modulesFrom fs (suc i) rest)
+
+-- 'A step allowance (0 means 4,096)'
+unfoldable pub allowanceOf : ℕ → ℕ
+allowanceOf n = if eqb n 0 then 4096 else n
+
+unfoldable pub programOf : List Frame → Program
+programOf fs =
+    record {
+      allowance = allowanceOf (frameAt fs 0 .a);
+      schedulers = frameAt fs 0 .b;
+      shared = sharedOf fs;
+      modules = modulesFrom fs 0 fs;
+    }
+
+-- the types of a program's shared cells
+abbrev pub cells : Program → List ℕ
+cells p = map typeOfShared (p .shared)
+
+abbrev pub noModule : Part
+noModule = record { frame = 0; types = []; body = nothing 0 }
+
+-- module m, and 'The last frame is main': the last module
+abbrev pub moduleAt : Program → ℕ → Part
+moduleAt p m = getD (p .modules) m noModule
+
+abbrev pub mainOf : Program → Part
+mainOf p = moduleAt p (length (p .modules) - 1)

@@ -1,0 +1,1 @@
+// Programs: the trees of statements and expressions that frames are. Definitions only.
