@@ -1,0 +1,12 @@
+-- Digits. 'Digits are read through a table of 256 numbers, one for each byte: the digit's value, or 255.' Assumes nothing: a definition.
+use Prim.Native.Nat.{ℕ, _-_}
+use lib.Dec.{ltb}
+use Rattle.basics.specs.If.{if_then_else_}
+
+-- the value of a byte that is one of 0-9, A-F, or 255
+unfoldable pub digit : ℕ → ℕ
+digit b =
+    if ltb b 48 then 255 else
+    if ltb b 58 then b - 48 else
+    if ltb b 65 then 255 else
+    if ltb b 71 then b - 55 else 255
