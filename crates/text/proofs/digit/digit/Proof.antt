@@ -1,5 +1,6 @@
 -- `digit` meets its contract. Assumes nothing.
 use borrow.Author.Needs.{needs}
+use Rattle.basics.specs.If.{if_then_else_}
 use Rattle.text.specs.Digits.{digit}
 use Rattle.text.proofs.Table.{digit-at}
 use Rattle.text.proofs.digit.digit.Statement.{statement}
