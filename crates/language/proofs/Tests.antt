@@ -7,8 +7,8 @@ use lib.Dec.{leb}
 use borrow.Author.Tests.{lt-leb, le-leb}
 use Rattle.basics.proofs.Ifs.{yes, no, leb-same}
 use Rattle.language.specs.Places.{isPlace, isScheduler, hasPlace, hasScheduler, placeRead}
-use Rattle.language.specs.declared.place.PlaceRead.{PlaceRead}
-use Rattle.language.specs.declared.place.PlaceRead.the-variants.{At, NoPlace}
+use Rattle.language.specs.declared.PlaceRead.{PlaceRead}
+use Rattle.language.specs.declared.PlaceRead.the-variants.{At, NoPlace}
 
 -- a constructor whose numbers are `low` to 9
 module _ (low n : ℕ) where

@@ -3,9 +3,9 @@ use mathlib.Core.Bool.{Bool, true, false, _&&_}
 use Prim.Native.Nat.{ℕ, _+_}
 use lib.Dec.{leb, eqb}
 use Rattle.basics.specs.If.{if_then_else_}
-use Rattle.language.specs.declared.place.Place.{Place}
-use Rattle.language.specs.declared.place.PlaceRead.{PlaceRead}
-use Rattle.language.specs.declared.place.PlaceRead.the-variants.{At, NoPlace}
+use Rattle.language.specs.declared.Place.{Place}
+use Rattle.language.specs.declared.PlaceRead.{PlaceRead}
+use Rattle.language.specs.declared.PlaceRead.the-variants.{At, NoPlace}
 
 abbrev pub private : ℕ
 private = 1

@@ -1,11 +1,11 @@
 // Effects: which schedulers' cells a statement or an expression may touch.
-use crate::place::Place;
+use crate::Place;
 ghost use mathlib.Core.Path.{_≡_};
 ghost use Rattle.language.specs.Effects.{noEffect, _∪_, withOwner, within};
 
 // A set of schedulers, 2 to 9: the scheduler p is a member where bit p is set.
 pub struct Effect {
-    pub bits: u16,
+    bits: u16,
 }
 
 impl Effect {

@@ -1,5 +1,5 @@
 // Type words: four hexadecimal digits, the owners of nested cells from the outside in, then 1 (number) or 2 (truth).
-use crate::place::Place;
+use crate::Place;
 ghost use mathlib.Core.Path.{_≡_};
 ghost use Rattle.language.specs.Types.{cellDepth, isCell, ownerOf, contentOf, public, ownerDigit, typeWord, contentWord, cellRead};
 

@@ -1,26 +1,28 @@
 -- Laws of the reader: a line taken is a step of the scan for the first wrong byte. Assumes nothing.
 use mathlib.Core.Path.{_≡_, refl, sym, ap, subst, _∙_}
 use mathlib.Core.Bool.{Bool, true, false}
-use mathlib.Core.List.{List, [], _∷_, map}
+use mathlib.Core.List.{List, [], _∷_, _++_, map, append-assoc}
 use mathlib.Core.Option.{Option, none, some}
 use Prim.Native.Nat.{ℕ, zero, suc, _+_, _-_, _*_, _/_, _%_, _<_, _≤_}
 use native.Mathlib.Nat.{zero-add, add-suc}
+use native.Mathlib.Numerals.{add-one}
 use native.Mathlib.Omega.{arith}
 use lib.Dec.{ltb, leb, eqb}
-use lib.ListN.{length, getD, take, drop, List·getD-map, length-map, length-drop, drop-of-length-le}
-use lib.Seq.{drop-drop, take-all}
+use lib.ListN.{length, getD, take, drop, set, replicate, List·getD-map, length-map, length-append, length-replicate, length-drop, drop-of-length-le}
+use lib.Seq.{drop-drop, take-all, set-at}
 use borrow.Author.Tests.{eq-eqb, ne-eqb, lt-ltb, le-ltb, eqb-true, eqb-false, ltb-true, ltb-false}
 use Rattle.basics.specs.If.{if_then_else_}
 use Rattle.basics.proofs.Ifs.{if-all, if-yes, if-no, yes, no}
 use Rattle.text.specs.Digits.{digit}
 use Rattle.text.specs.Frames.{hexadecimal, lineWord, frameOfWord, wordsOf, textFrames}
-use Rattle.text.specs.Reading.{rightAt, firstWrong, Reading, frames, refused, readLines, reading, textRead}
+use Rattle.text.specs.Reading.{rightAt, firstWrong, Reading, frames, refused, readLines, reading, linesRead, wordArray, textRead, textWords}
 use Rattle.text.specs.Lines.{lineFrom, lineRead, frameOfLine, frameRead}
 use Rattle.text.specs.declared.line.Line.{Line}
 use Rattle.text.specs.declared.line.Line.the-variants.{Word, WrongAt}
 use Rattle.text.specs.declared.line.FrameRead.{FrameRead}
 use Rattle.text.specs.declared.line.FrameRead.the-variants.{Read, NoFrame}
 use Rattle.text.specs.declared.reading.TextRead.{TextRead}
+use Rattle.text.specs.declared.reading.TextWords.{TextWords}
 use Rattle.text.specs.declared.reading.TextRead.the-variants.{Frames, Refused}
 use Rattle.language.specs.declared.frame.Frame.{Frame}
 
@@ -131,15 +133,15 @@ unfolding reading
 reading-lines [] a h = absurd (omega arith)
 reading-lines (b ∷ bs) a h = ap (λ (t : Bool). elim t [ true ↦ refused 2 0 | false ↦ readLines (b ∷ bs) (firstWrong 0 (b ∷ bs)) ]) (le-ltb 17408 (length (b ∷ bs)) h)
 
-pub read-empty : (bs : List ℕ) → length bs ≡ 0 → Refused 1 0 ≡ textRead (reading bs)
+read-empty : (bs : List ℕ) → length bs ≡ 0 → reading bs ≡ refused 1 0
 unfolding reading
 read-empty [] h = refl
 read-empty (b ∷ bs) h = absurd (omega arith)
 
-pub read-over : (bs : List ℕ) → 17408 < length bs → Refused 2 0 ≡ textRead (reading bs)
+read-over : (bs : List ℕ) → 17408 < length bs → reading bs ≡ refused 2 0
 unfolding reading
 read-over [] h = absurd (omega arith)
-read-over (b ∷ bs) h = ap (λ (t : Bool). textRead (elim t [ true ↦ refused 2 0 | false ↦ readLines (b ∷ bs) (firstWrong 0 (b ∷ bs)) ])) (sym (lt-ltb 17408 (length (b ∷ bs)) h))
+read-over (b ∷ bs) h = ap (λ (t : Bool). elim t [ true ↦ refused 2 0 | false ↦ readLines (b ∷ bs) (firstWrong 0 (b ∷ bs)) ]) (lt-ltb 17408 (length (b ∷ bs)) h)
 
 length-words : (n : ℕ) (bs : List ℕ) → length (wordsOf n bs) ≡ n
 unfolding wordsOf
@@ -167,11 +169,12 @@ module _ (bs : List ℕ) (i at : ℕ) (s : Scanning bs i at) where
   some-left : at < length bs → 0 < length (drop at bs)
   some-left h = rw length-drop (omega arith)
 
-  pub read-wrong : (l : Line) (j : ℕ) → LineAt bs at l → l ≡ WrongAt j → at < length bs → length bs ≤ 17408 → Refused 3 i ≡ textRead (reading bs)
+  read-wrong : (l : Line) (j : ℕ) → LineAt bs at l → l ≡ WrongAt j → at < length bs → length bs ≤ 17408 → reading bs ≡ refused 3 i
   read-wrong l j e f h m =
       let r = stops (drop at bs) at whole-lines (some-left h) j (at-line (drop at bs) at whole-lines (some-left h) (WrongAt j) (sym f ∙ line-at bs at l e)) in
       let q = s .lines in
-      ap (Refused 3) (omega (arith, r .1)) ∙ ap (λ (o : Option ℕ). textRead (readLines bs o)) (sym (r .0) ∙ s .rest) ∙ ap textRead (sym (reading-lines bs (omega arith) m))
+      let k : (at + j) / 17 ≡ i = omega (arith, r .1) in
+      reading-lines bs (omega arith) m ∙ ap (readLines bs) (sym (s .rest) ∙ r .0) ∙ ap (refused 3) k
 
   pub scanning-more : (l : Line) (w : ℕ) → LineAt bs at l → l ≡ Word w → at < length bs → Scanning bs (i + 1) (at + 17)
   scanning-more l w e f h =
@@ -183,15 +186,92 @@ module _ (bs : List ℕ) (i at : ℕ) (s : Scanning bs i at) where
         rest = ap (firstWrong (at + 17)) (sym (drop-drop 17 at bs)) ∙ sym (r .1) ∙ s .rest;
       }
 
-  pub line-fits : (l : Line) (w : ℕ) → LineAt bs at l → l ≡ Word w → at < length bs → at + 17 ≤ length bs
-  line-fits l w e f h = scanning-more l w e f h .fits
-
-  pub read-whole : length bs ≤ at → (length bs ≡ 0 → ⊥) → length bs ≤ 17408 → Frames i ≡ textRead (reading bs)
+  read-whole : length bs ≤ at → (length bs ≡ 0 → ⊥) → length bs ≤ 17408 → reading bs ≡ frames (textFrames bs)
   read-whole h n m =
-      let q = s .lines in
-      let z = s .fits in
       let k : firstWrong 0 bs ≡ none = sym (s .rest) ∙ ap (firstWrong at) (drop-of-length-le bs h) ∙ scan-whole at whole-lines in
-      ap Frames (omega (arith, length-frames bs)) ∙ ap (λ (o : Option ℕ). textRead (readLines bs o)) (sym k) ∙ ap textRead (sym (reading-lines bs (omega (arith, n)) m))
+      reading-lines bs (omega (arith, n)) m ∙ ap (readLines bs) k
+
+-- ---- the lines that were read, in their array
+words-more : (i : ℕ) (bs : List ℕ) → wordsOf (suc i) bs ≡ wordsOf i bs ++ (lineWord (drop (i * 17) bs) ∷ [])
+unfolding wordsOf
+words-more zero bs = refl
+words-more (suc i) bs =
+    let e : 17 + i * 17 ≡ suc i * 17 = omega arith in
+    ap (λ (ws : List ℕ). lineWord bs ∷ ws) (words-more i (drop 17 bs) ∙ ap (λ (cs : List ℕ). wordsOf i (drop 17 bs) ++ (lineWord cs ∷ [])) (drop-drop (i * 17) 17 bs ∙ ap (λ (k : ℕ). drop k bs) e))
+
+pub array-start : (bs : List ℕ) → replicate 1024 0 ≡ wordArray 0 bs
+unfolding wordArray wordsOf
+array-start bs = refl
+
+pub array-length : (i : ℕ) (bs : List ℕ) → i ≤ 1024 → length (wordArray i bs) ≡ 1024
+unfolding wordArray
+array-length i bs h = simp (length-append, length-words, length-replicate) (omega arith)
+
+array-more : (i : ℕ) (bs : List ℕ) → i < 1024 → set (wordArray i bs) i (lineWord (drop (i * 17) bs)) ≡ wordArray (suc i) bs
+unfolding wordArray
+array-more i bs h =
+    let e : 1024 - i ≡ suc (1024 - suc i) = omega arith in
+    ap (λ (n : ℕ). set (wordsOf i bs ++ replicate n 0) i (lineWord (drop (i * 17) bs))) e
+    ∙ set-at (wordsOf i bs) 0 (replicate (1024 - suc i) 0) (lineWord (drop (i * 17) bs)) i (length-words i bs)
+    ∙ sym (append-assoc (wordsOf i bs) (lineWord (drop (i * 17) bs) ∷ []) (replicate (1024 - suc i) 0))
+    ∙ ap (λ (ws : List ℕ). ws ++ replicate (1024 - suc i) 0) (sym (words-more i bs))
+
+-- the reader's loop: where the scan is, and what the array holds
+pub record Reader (bs words : List ℕ) (i at : ℕ) : Type 0 where
+  pub scan : Scanning bs i at
+  pub kept : words ≡ wordArray i bs
+
+pub reader-start : (bs words : List ℕ) → words ≡ replicate 1024 0 → Reader bs words 0 0
+reader-start bs words e = record { scan = scanning-start bs; kept = e ∙ array-start bs }
+
+abbrev answer : TextRead → List ℕ → TextWords
+answer r ws = record { read = r; words = ws }
+
+by-reading : (bs words : List ℕ) (r : Reading) → reading bs ≡ r → words ≡ wordArray (linesRead r) bs → answer (textRead r) words ≡ textWords bs
+unfolding textWords
+by-reading bs words r e k = ap (answer (textRead r)) k ∙ ap (λ (s : Reading). answer (textRead s) (wordArray (linesRead s) bs)) (sym e)
+
+pub words-empty : (bs words : List ℕ) → words ≡ replicate 1024 0 → length bs ≡ 0 → answer (Refused 1 0) words ≡ textWords bs
+words-empty bs words k h = by-reading bs words (refused 1 0) (read-empty bs h) (k ∙ array-start bs)
+
+pub words-over : (bs words : List ℕ) → words ≡ replicate 1024 0 → 17408 < length bs → answer (Refused 2 0) words ≡ textWords bs
+words-over bs words k h = by-reading bs words (refused 2 0) (read-over bs h) (k ∙ array-start bs)
+
+module _ (bs words : List ℕ) (i at : ℕ) (d : Reader bs words i at) where
+  pub reader-index : length bs ≤ 17408 → at < length bs → i < 1024
+  reader-index m h = let q = d .scan .lines in omega arith
+
+  pub reader-length : length bs ≤ 17408 → at < length bs → length words ≡ 1024
+  reader-length m h = ap length (d .kept) ∙ array-length i bs (let k = reader-index m h in omega arith)
+
+  pub line-fits : (l : Line) (w : ℕ) → LineAt bs at l → l ≡ Word w → at < length bs → at + 17 ≤ length bs
+  line-fits l w e f h = scanning-more bs i at (d .scan) l w e f h .fits
+
+  pub reader-more : (l : Line) (w : ℕ) → LineAt bs at l → l ≡ Word w → at < length bs → length bs ≤ 17408 → Reader bs (set words i w) (i + 1) (at + 17)
+  reader-more l w e f h m =
+      let s = d .scan in
+      let r = goes (drop at bs) at (whole-lines bs i at s) (some-left bs i at s h) w (at-line (drop at bs) at (whole-lines bs i at s) (some-left bs i at s h) (Word w) (sym f ∙ line-at bs at l e)) in
+      let k = reader-index m h in
+      record {
+        scan = scanning-more bs i at s l w e f h;
+        kept = ap (λ (ws : List ℕ). set ws i w) (d .kept) ∙ ap (set (wordArray i bs) i) (r .2 ∙ ap (λ (n : ℕ). lineWord (drop n bs)) (s .lines)) ∙ array-more i bs k ∙ ap (λ (n : ℕ). wordArray n bs) (sym (add-one i));
+      }
+
+  pub words-wrong : (l : Line) (j : ℕ) → LineAt bs at l → l ≡ WrongAt j → at < length bs → length bs ≤ 17408 → answer (Refused 3 i) words ≡ textWords bs
+  words-wrong l j e f h m = by-reading bs words (refused 3 i) (read-wrong bs i at (d .scan) l j e f h m) (d .kept)
+
+  pub words-whole : length bs ≤ at → (length bs ≡ 0 → ⊥) → length bs ≤ 17408 → answer (Frames i) words ≡ textWords bs
+  words-whole h n m =
+      let q = d .scan .lines in
+      let z = d .scan .fits in
+      let e : length (textFrames bs) ≡ i = length-frames bs ∙ omega arith in
+      ap (λ (k : ℕ). answer (Frames k) words) (sym e) ∙ by-reading bs words (frames (textFrames bs)) (read-whole bs i at (d .scan) h n m) (d .kept ∙ ap (λ (k : ℕ). wordArray k bs) (sym e))
+
+pub ruleset words-laws = (words-empty, words-over, words-wrong, words-whole)
+
+pub read-field : (bs : List ℕ) (t : TextWords) → t ≡ textWords bs → t .read ≡ textRead (reading bs)
+unfolding textWords
+read-field bs t e = ap (λ (x : TextWords). x .read) e
 
 -- ---- one frame
 pub frame-row : (l : Line) (w : ℕ) (f : Frame) → l ≡ Word w → f ≡ frameOfWord w → Read f ≡ frameOfLine l
@@ -211,8 +291,6 @@ module _ (bs : List ℕ) (i : ℕ) where
   frame-there l r h e f = yes _ (lt-ltb _ _ h) (f ∙ ap frameOfLine (line-at bs (i * 17) l e))
 
 pub ruleset frame-laws = (frame-over, frame-past, frame-there)
-
-pub ruleset read-laws = (read-empty, read-over, read-wrong, read-whole)
 
 -- ---- in a text that is such lines, the frames that are read one by one are the frames of the text
 module _ (bs : List ℕ) (good : firstWrong 0 bs ≡ none) where

@@ -2,15 +2,16 @@
 use mathlib.Core.Path.{_≡_}
 use mathlib.Core.Logic.{_⊎_}
 use mathlib.Core.Bool.{Bool, true, false}
-use mathlib.Core.List.{List, [], _∷_}
+use mathlib.Core.List.{List, [], _∷_, _++_}
 use mathlib.Core.Option.{Option, none, some}
-use Prim.Native.Nat.{ℕ, suc, _+_, _*_, _/_, _%_, _<_, _≤_}
+use Prim.Native.Nat.{ℕ, suc, _-_, _/_, _%_, _<_, _≤_}
 use lib.Dec.{ltb, eqb}
-use lib.ListN.{length, getD}
+use lib.ListN.{length, getD, replicate}
 use Rattle.basics.specs.If.{if_then_else_}
 use Rattle.language.specs.declared.frame.Frame.{Frame}
 use Rattle.text.specs.Digits.{digit}
-use Rattle.text.specs.Frames.{textFrames}
+use Rattle.text.specs.Frames.{wordsOf, textFrames}
+use Rattle.text.specs.declared.reading.TextWords.{TextWords}
 use Rattle.text.specs.declared.reading.TextRead.{TextRead}
 use Rattle.text.specs.declared.reading.TextRead.the-variants.{Frames, Refused}
 
@@ -53,3 +54,16 @@ reading (b ∷ bs) = elim (ltb 17408 (length (b ∷ bs))) [ true ↦ refused 2 0
 abbrev pub textRead : Reading → TextRead
 textRead (frames fs) = Frames (length fs)
 textRead (refused n j) = Refused n j
+
+-- the lines behind which the reader stopped: all of them, or those before the one that is refused
+abbrev pub linesRead : Reading → ℕ
+linesRead (frames fs) = length fs
+linesRead (refused n j) = j
+
+-- the first n lines as numbers, in an array of 1,024
+unfoldable pub wordArray : ℕ → List ℕ → List ℕ
+wordArray n bs = wordsOf n bs ++ replicate (1024 - n) 0
+
+-- the reader's whole answer
+unfoldable pub textWords : List ℕ → TextWords
+textWords bs = record { read = textRead (reading bs); words = wordArray (linesRead (reading bs)) bs }

@@ -1,8 +1,8 @@
-// Whether a text is such lines: refusals 1 to 3.
+// Whether a text is such lines: refusals 1 to 3; and its lines as numbers, which the passes over a file work on.
 use crate::line::Line;
 use crate::line::read_line;
 ghost use mathlib.Core.Path.{_≡_};
-ghost use Rattle.text.specs.Reading.{reading, textRead};
+ghost use Rattle.text.specs.Reading.{reading, textRead, textWords};
 
 // How many frames a text has, or the number of its refusal and the frame that it names.
 pub enum TextRead {
@@ -10,29 +10,48 @@ pub enum TextRead {
     Refused(u8, u16),
 }
 
-// What any bytes read as.
-pub fn read_text(text: &[u8]) -> TextRead
-    ensures { λ r. ⌜ r ≡ textRead (reading (now (text .entry))) ⌝ }
+// The same with the lines that were read, each as one number of 16 digits; 0 behind them.
+pub struct TextWords {
+    pub read: TextRead,
+    pub words: [u64; 1024],
+}
+
+// What any bytes read as, with their lines.
+pub fn read_words(text: &[u8]) -> TextWords
+    ensures { λ r. ⌜ r ≡ textWords (now (text .entry)) ⌝ }
 {
     let n = text.len();
+    let mut words = [0u64; 1024];
     if n == 0 {
-        return TextRead::Refused(1, 0);
+        let read = TextRead::Refused(1, 0);
+        return TextWords { read, words };
     }
     if 17408 < n {
-        return TextRead::Refused(2, 0);
+        let read = TextRead::Refused(2, 0);
+        return TextWords { read, words };
     }
-    let mut i: u16 = 0;
+    let mut i: usize = 0;
     let mut at: usize = 0;
     while at < n {
         match read_line(&text[at..]) {
             Line::Word(w) => {
+                words[i] = w;
                 at += 17;
                 i += 1;
             }
             Line::WrongAt(k) => {
-                return TextRead::Refused(3, i);
+                let read = TextRead::Refused(3, i as u16);
+                return TextWords { read, words };
             }
         }
     }
-    TextRead::Frames(i)
+    let read = TextRead::Frames(i as u16);
+    TextWords { read, words }
+}
+
+// What any bytes read as.
+pub fn read_text(text: &[u8]) -> TextRead
+    ensures { λ r. ⌜ r ≡ textRead (reading (now (text .entry))) ⌝ }
+{
+    read_words(text).read
 }

@@ -1,8 +1,8 @@
 -- `Place::in_file` meets its contract. Assumes nothing.
 use borrow.Author.Needs.{needs}
 use Rattle.language.proofs.Tests.{has-not, has}
-use Rattle.language.proofs.place.Place.in_file.Statement.{statement}
-use Rattle.language.proofs.place.Place.in_file.Tie as tie
+use Rattle.language.proofs.Place.in_file.Statement.{statement}
+use Rattle.language.proofs.Place.in_file.Tie as tie
 
 returns : tie.Need-returns
 returns c = search (has-not, has, needs)

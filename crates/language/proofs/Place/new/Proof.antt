@@ -1,7 +1,7 @@
 -- `Place::new` meets its contract. Assumes nothing.
 use Rattle.language.proofs.Tests.{place-laws}
-use Rattle.language.proofs.place.Place.new.Statement.{statement}
-use Rattle.language.proofs.place.Place.new.Tie as tie
+use Rattle.language.proofs.Place.new.Statement.{statement}
+use Rattle.language.proofs.Place.new.Tie as tie
 
 returns : tie.Need-returns
 returns c = search place-laws

@@ -1,7 +1,7 @@
 -- `Place::scheduler` meets its contract. Assumes nothing.
 use Rattle.language.proofs.Tests.{scheduler-laws}
-use Rattle.language.proofs.place.Place.scheduler.Statement.{statement}
-use Rattle.language.proofs.place.Place.scheduler.Tie as tie
+use Rattle.language.proofs.Place.scheduler.Statement.{statement}
+use Rattle.language.proofs.Place.scheduler.Tie as tie
 
 returns : tie.Need-returns
 returns c = search scheduler-laws
