@@ -1,2 +1,3 @@
 pub mod Trees
 pub mod Programs
+pub mod Ordered

@@ -1,0 +1,117 @@
+-- In an ordered file the tree at a frame is made of the trees at its children: one law for expressions and one for statements. Assumes nothing.
+use mathlib.Core.Path.{_≡_, refl, sym, ap, ap₂, subst, _∙_}
+use mathlib.Core.List.{List, _++_}
+use Prim.Native.Nat.{ℕ, zero, suc, _≤_, _<_}
+use native.Mathlib.Omega.{arith}
+use native.Mathlib.Decide.{decLt}
+use lib.ListN.{length, List·getD-eq-default}
+use Rattle.basics.specs.Members.{All}
+use Rattle.language.specs.Kinds.{Child, children, childIn, uses}
+use Rattle.language.specs.declared.kind.StatementKind.{StatementKind}
+use Rattle.language.specs.declared.kind.StatementKind.the-variants.{Nothing, Then, DoAt, Start, StartWait, Cooperate, Let, Store, If, While}
+use Rattle.language.specs.declared.kind.ExpressionKind.{ExpressionKind}
+use Rattle.language.specs.declared.kind.ExpressionKind.the-variants.{Number, Truth, Variable, SharedCell, NewCell, Content, Sum, Less, Choose}
+use Rattle.language.specs.declared.kind.Kind.{Kind}
+use Rattle.language.specs.declared.kind.Kind.the-variants.{Header, Shared, Module, Statement, Expression, Unknown}
+use Rattle.language.specs.declared.frame.Frame.{Frame}
+use Rattle.program.specs.Trees.{Expr, new, content, sum, less, choose, Stmt, noFrame, frameAt, expressionWith, expressionOf, expressionTo, expressionAt, statementWith, statementOf, statementTo, statementAt}
+use Rattle.program.specs.Ordered.{Ordered}
+
+-- a frame with its kind written out, for the laws to compute on
+abbrev frame : Kind → ℕ → ℕ → ℕ → ℕ → Frame
+frame k s a b c = record { kind = k; s = s; a = a; b = b; c = c }
+
+-- every child is below n
+abbrev Below : ℕ → Frame → Type 0
+Below n f = All (λ (c : Child). c .at < n) (children f)
+
+-- ---- two ways to give the children agree where they agree below n
+expressions-agree : (g h : ℕ → Expr) (n i : ℕ) (f : Frame) → Below n f → ((j : ℕ) → j < n → g j ≡ h j) → (k : ExpressionKind) → f .kind ≡ Expression k → expressionWith g i f k ≡ expressionWith h i f k
+unfolding children
+expressions-agree g h n i f b e k q = go k (subst (λ (m : Kind). All (λ (c : Child). c .at < n) (childIn (uses m .a) (f .a) ++ childIn (uses m .b) (f .b) ++ childIn (uses m .c) (f .c))) q b)
+  where
+    go : (k : ExpressionKind) → Below n (frame (Expression k) (f .s) (f .a) (f .b) (f .c)) → expressionWith g i f k ≡ expressionWith h i f k
+    go Number x = refl
+    go Truth x = refl
+    go Variable x = refl
+    go SharedCell x = refl
+    go NewCell (All.more x _) = ap (new i (f .s)) (e (f .a) x)
+    go Content (All.more x _) = ap (content i) (e (f .a) x)
+    go Sum (All.more x (All.more y _)) = ap₂ (sum i) (e (f .a) x) (e (f .b) y)
+    go Less (All.more x (All.more y _)) = ap₂ (less i) (e (f .a) x) (e (f .b) y)
+    go Choose (All.more x (All.more y (All.more z _))) = ap₂ (λ (u : Expr) (v : Expr). choose i u v (g (f .c))) (e (f .a) x) (e (f .b) y) ∙ ap (choose i (h (f .a)) (h (f .b))) (e (f .c) z)
+
+expression-agrees : (g h : ℕ → Expr) (n i : ℕ) (f : Frame) → Below n f → ((j : ℕ) → j < n → g j ≡ h j) → (k : Kind) → f .kind ≡ k → expressionOf g i f k ≡ expressionOf h i f k
+expression-agrees g h n i f b e (Expression k) q = expressions-agree g h n i f b e k q
+expression-agrees g h n i f b e (Statement k) q = refl
+expression-agrees g h n i f b e Header q = refl
+expression-agrees g h n i f b e Shared q = refl
+expression-agrees g h n i f b e Module q = refl
+expression-agrees g h n i f b e Unknown q = refl
+
+-- behind the last frame there is none, and none has no child
+past : (fs : List Frame) (i : ℕ) → length fs ≤ i → frameAt fs i ≡ noFrame
+past fs i h = List·getD-eq-default fs noFrame h
+
+below-past : (n : ℕ) → Below n noFrame
+unfolding children
+below-past n = All.none
+
+module _ (fs : List Frame) (o : Ordered fs) where
+  below : (i : ℕ) → Below i (frameAt fs i)
+  below i = go (decLt i (length fs))
+    where
+      go : Dec (i < length fs) → Below i (frameAt fs i)
+      go (yes h) = o i h
+      go (no h) = subst (Below i) (sym (past fs i (omega (arith, h)))) (below-past i)
+
+  -- a tree's depth does not matter once it is over the frame's number
+  expression-deep : (d e i : ℕ) → i < d → i < e → expressionTo d fs i ≡ expressionTo e fs i
+  unfolding expressionTo
+  expression-deep zero e i h k = absurd (omega arith)
+  expression-deep (suc d) zero i h k = absurd (omega arith)
+  expression-deep (suc d) (suc e) i h k =
+      expression-agrees (λ j. expressionTo d fs j) (λ j. expressionTo e fs j) i i (frameAt fs i) (below i) (λ j l. expression-deep d e j (omega arith) (omega arith)) (frameAt fs i .kind) refl
+
+  pub expression-at : (i : ℕ) → expressionAt fs i ≡ expressionOf (λ j. expressionAt fs j) i (frameAt fs i) (frameAt fs i .kind)
+  unfolding expressionAt expressionTo
+  expression-at i =
+      expression-agrees (λ j. expressionTo i fs j) (λ j. expressionTo (suc j) fs j) i i (frameAt fs i) (below i) (λ j l. expression-deep i (suc j) j l (omega arith)) (frameAt fs i .kind) refl
+
+-- ---- statements
+statements-agree : (x : ℕ → Expr) (g h : ℕ → Stmt) (n i : ℕ) (f : Frame) → Below n f → ((j : ℕ) → j < n → g j ≡ h j) → (k : StatementKind) → f .kind ≡ Statement k → statementWith x g i f k ≡ statementWith x h i f k
+unfolding children
+statements-agree x g h n i f b e k q = go k (subst (λ (m : Kind). All (λ (c : Child). c .at < n) (childIn (uses m .a) (f .a) ++ childIn (uses m .b) (f .b) ++ childIn (uses m .c) (f .c))) q b)
+  where
+    go : (k : StatementKind) → Below n (frame (Statement k) (f .s) (f .a) (f .b) (f .c)) → statementWith x g i f k ≡ statementWith x h i f k
+    go Nothing y = refl
+    go Then (All.more y (All.more z _)) = ap₂ (Stmt.seq i) (e (f .a) y) (e (f .b) z)
+    go DoAt (All.more y _) = ap (Stmt.doAt i (f .s)) (e (f .a) y)
+    go Start y = refl
+    go StartWait y = refl
+    go Cooperate y = refl
+    go Let (All.more y (All.more z _)) = ap (Stmt.letIn i (x (f .a))) (e (f .b) z)
+    go Store y = refl
+    go If (All.more y (All.more z (All.more w _))) = ap₂ (Stmt.ifElse i (x (f .a))) (e (f .b) z) (e (f .c) w)
+    go While (All.more y (All.more z _)) = ap (Stmt.while i (x (f .a))) (e (f .b) z)
+
+statement-agrees : (x : ℕ → Expr) (g h : ℕ → Stmt) (n i : ℕ) (f : Frame) → Below n f → ((j : ℕ) → j < n → g j ≡ h j) → (k : Kind) → f .kind ≡ k → statementOf x g i f k ≡ statementOf x h i f k
+statement-agrees x g h n i f b e (Statement k) q = statements-agree x g h n i f b e k q
+statement-agrees x g h n i f b e (Expression k) q = refl
+statement-agrees x g h n i f b e Header q = refl
+statement-agrees x g h n i f b e Shared q = refl
+statement-agrees x g h n i f b e Module q = refl
+statement-agrees x g h n i f b e Unknown q = refl
+
+module _ (fs : List Frame) (o : Ordered fs) where
+  statement-deep : (d e i : ℕ) → i < d → i < e → statementTo d fs i ≡ statementTo e fs i
+  unfolding statementTo
+  statement-deep zero e i h k = absurd (omega arith)
+  statement-deep (suc d) zero i h k = absurd (omega arith)
+  statement-deep (suc d) (suc e) i h k =
+      statement-agrees (λ j. expressionAt fs j) (λ j. statementTo d fs j) (λ j. statementTo e fs j) i i (frameAt fs i) (below fs o i) (λ j l. statement-deep d e j (omega arith) (omega arith)) (frameAt fs i .kind) refl
+
+  pub statement-at : (i : ℕ) → statementAt fs i ≡ statementOf (λ j. expressionAt fs j) (λ j. statementAt fs j) i (frameAt fs i) (frameAt fs i .kind)
+  unfolding statementAt statementTo
+  statement-at i =
+      statement-agrees (λ j. expressionAt fs j) (λ j. statementTo i fs j) (λ j. statementTo (suc j) fs j) i i (frameAt fs i) (below fs o i) (λ j l. statement-deep i (suc j) j l (omega arith)) (frameAt fs i .kind) refl
