@@ -1,3 +1,4 @@
 pub mod Table
 pub mod LineLaws
 pub mod ReadLaws
+pub mod Readings

@@ -148,7 +148,7 @@ unfolding wordsOf
 length-words zero bs = refl
 length-words (suc n) bs = ap suc (length-words n (drop 17 bs))
 
-length-frames : (bs : List ℕ) → length (textFrames bs) ≡ length bs / 17
+pub length-frames : (bs : List ℕ) → length (textFrames bs) ≡ length bs / 17
 unfolding textFrames
 length-frames bs = length-map (wordsOf (length bs / 17) bs) frameOfWord ∙ length-words (length bs / 17) bs
 

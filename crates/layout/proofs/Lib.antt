@@ -1,0 +1,9 @@
+pub mod Searches
+pub mod Trees
+pub mod Disorder
+pub mod Order
+pub mod Depths
+pub mod Layouts
+pub mod Placed
+pub mod Decoded
+pub mod Parts

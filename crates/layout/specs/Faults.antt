@@ -1,0 +1,54 @@
+-- Refusals 4 to 7: what each fault of the layout is, and which comes first. Nothing is computed here. Assumes nothing: definitions.
+use mathlib.Core.Path.{_≡_}
+use mathlib.Core.Logic.{_⊎_}
+use mathlib.Core.Bool.{true, false, _||_}
+use mathlib.Core.List.{List}
+use Prim.Native.Nat.{ℕ, suc, _<_, _≤_}
+use lib.ListN.{length}
+use Rattle.language.specs.Kinds.{classOf}
+use Rattle.language.specs.declared.frame.Frame.{Frame}
+use Rattle.language.specs.declared.verdict.Verdict.{Verdict}
+use Rattle.language.specs.declared.verdict.Verdict.the-variants.{Accepted, Rejected}
+use Rattle.program.specs.Trees.{frameAt}
+use Rattle.layout.specs.Fields.{isHeader, isShared, headerFine, frameFine}
+use Rattle.layout.specs.Order.{Tree, hasChild, hasClass, isMain}
+use Rattle.layout.specs.Depths.{deepest, Depth}
+
+-- `Fault fs n j`: the frame j has the fault n
+pub data Fault (fs : List Frame) : ℕ → ℕ → Type 0 where
+  header : headerFine (frameAt fs 0) ≡ false → Fault fs 4 0
+  -- 'kind (a later 00 too), field .., type word, owner, a 17th shared cell or module, or a place that the file lacks'
+  field : {j : ℕ} → j < length fs → frameFine fs j (frameAt fs j) ≡ false → Fault fs 5 j
+  -- 'order, a child of the wrong class': no tree ends at j
+  order : {j : ℕ} → j < length fs → ((lo : ℕ) → Tree fs lo j → ⊥) → Fault fs 6 j
+  -- 'Frames stand as header, shared cells .., then the rest': the shared cell j is behind another kind
+  behind : {i j : ℕ}
+      → i < j
+      → j < length fs
+      → isShared (frameAt fs j .kind) ≡ true
+      → (isHeader (frameAt fs i .kind) || isShared (frameAt fs i .kind)) ≡ false
+      → Fault fs 6 j
+  -- 'a leftover frame (a statement or expression that no frame has as a child)'
+  leftover : {j : ℕ}
+      → j < length fs
+      → hasClass (classOf (frameAt fs j .kind)) ≡ true
+      → ((i : ℕ) → i < length fs → hasChild j (frameAt fs i) ≡ false)
+      → Fault fs 6 j
+  -- 'no main last (frame: that last frame)'
+  main : {j : ℕ} → suc j ≡ length fs → isMain (frameAt fs j) ≡ false → Fault fs 6 j
+  -- 'the whole tree is at most 24 deep'
+  depth : {j d : ℕ} → Depth fs j d → deepest < d → Fault fs 7 j
+
+-- the file passes refusals 4 to 7
+abbrev pub NoFault : List Frame → Type 0
+NoFault fs = (n j : ℕ) → Fault fs n j → ⊥
+
+-- 'Over the whole file, smallest number first, then lowest frame'
+pub record FirstFault (fs : List Frame) (n j : ℕ) : Type 0 where
+  pub fault : Fault fs n j
+  pub least : (m k : ℕ) → Fault fs m k → (n < m) ⊎ ((n ≡ m) × (j ≤ k))
+
+-- what refusals 4 to 7 say of the frames
+abbrev pub LayoutSays : List Frame → Verdict → Type 0
+LayoutSays fs Accepted = NoFault fs
+LayoutSays fs (Rejected n j) = FirstFault fs n j

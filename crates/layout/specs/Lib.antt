@@ -1,0 +1,5 @@
+pub mod Fields
+pub mod Order
+pub mod Depths
+pub mod Faults
+pub mod Scans

@@ -1,0 +1,136 @@
+-- The first fault of the layout, as functions that compute; proofs/Layouts shows that they find it. Assumes nothing: definitions.
+use mathlib.Core.Bool.{Bool, true, false, not, _&&_, _||_}
+use mathlib.Core.List.{List, [], _∷_, reverse}
+use mathlib.Core.Option.{Option, none, some}
+use Prim.Native.Nat.{ℕ, zero, suc, _-_}
+use lib.Dec.{ltb, eqb}
+use lib.ListN.{length, getD, take}
+use Rattle.basics.specs.If.{if_then_else_}
+use Rattle.basics.specs.Searches.{any, lowest, earlier}
+use Rattle.language.specs.Kinds.{classOf, Child, children}
+use Rattle.language.specs.declared.kind.Class.{Class}
+use Rattle.language.specs.declared.frame.Frame.{Frame}
+use Rattle.language.specs.declared.verdict.Verdict.{Verdict}
+use Rattle.language.specs.declared.verdict.Verdict.the-variants.{Accepted, Rejected}
+use Rattle.program.specs.Trees.{frameAt}
+use Rattle.layout.specs.Fields.{isHeader, isShared, isModule, headerFine, frameFine}
+use Rattle.layout.specs.Order.{hasChild, hasClass, isMain}
+use Rattle.layout.specs.Depths.{deepest}
+
+-- ---- the lowest frame with the fault 4, and with 5
+unfoldable pub headerFault : List Frame → Option ℕ
+headerFault fs = if headerFine (frameAt fs 0) then none else some 0
+
+unfoldable pub fieldFault : List Frame → Option ℕ
+fieldFault fs = lowest (λ (i : ℕ) (f : Frame). not (frameFine fs i f)) 0 fs
+
+-- ---- 6, 'order, a child of the wrong class': one pass, which stops at the first frame without a tree
+
+-- what is known of a frame that was passed: its class, and the first frame of its tree
+pub record Passed : Type 0 where
+  pub class : Class
+  pub first : ℕ
+
+abbrev pub passed : Class → ℕ → Passed
+passed k n = record { class = k; first = n }
+
+-- the class that a child is of is the class that it is to be of
+abbrev pub sameClass : Class → Class → Bool
+sameClass Class.Statement Class.Statement = true
+sameClass Class.Statement Class.Expression = false
+sameClass Class.Statement Class.Neither = false
+sameClass Class.Expression Class.Statement = false
+sameClass Class.Expression Class.Expression = true
+sameClass Class.Expression Class.Neither = false
+sameClass Class.Neither Class.Statement = false
+sameClass Class.Neither Class.Expression = false
+sameClass Class.Neither Class.Neither = true
+
+-- where the row of children begins that ends just before `stop`, the children from the last to the first; ps are the i frames passed, from the last to the first
+unfoldable pub rowFirst : List Passed → ℕ → ℕ → List Child → Option ℕ
+rowFirst ps i stop [] = some stop
+rowFirst ps i stop (c ∷ cs) =
+    let p : Passed = getD ps (i - suc (c .at)) (passed Class.Neither 0) in
+    elim (eqb (suc (c .at)) stop && sameClass (p .class) (c .class)) [ true ↦ rowFirst ps i (p .first) cs | false ↦ none ]
+
+-- the lowest frame that is no tree's root; the list stands from i on
+unfoldable pub firstDisorder : List Passed → ℕ → List Frame → Option ℕ
+firstDisorder ps i [] = none
+firstDisorder ps i (f ∷ fs) =
+    elim (rowFirst ps i i (reverse (children f))) [
+      | none ↦ some i
+      | some first ↦ firstDisorder (passed (classOf (f .kind)) first ∷ ps) (suc i) fs
+    ]
+
+-- a shared cell behind another kind
+unfoldable pub isBehind : List Frame → ℕ → Frame → Bool
+isBehind fs i f =
+    elim (isShared (f .kind)) [
+      | true ↦ any (λ (g : Frame). not (isHeader (g .kind) || isShared (g .kind))) (take i fs)
+      | false ↦ false
+    ]
+
+-- a leftover frame: the later frames, `rest`, are asked first, since in a good file one of them has it as a child
+unfoldable pub isLeftover : List Frame → ℕ → Frame → List Frame → Bool
+isLeftover fs i f rest =
+    elim (hasClass (classOf (f .kind))) [
+      | true ↦ elim (any (hasChild i) rest) [ true ↦ false | false ↦ not (any (hasChild i) fs) ]
+      | false ↦ false
+    ]
+
+-- the lowest leftover frame; the list stands from i on
+unfoldable pub firstLeftover : List Frame → ℕ → List Frame → Option ℕ
+firstLeftover fs i [] = none
+firstLeftover fs i (f ∷ rest) = elim (isLeftover fs i f rest) [ true ↦ some i | false ↦ firstLeftover fs (suc i) rest ]
+
+-- the last frame, if it is not main
+unfoldable pub noMain : List Frame → Option ℕ
+noMain fs = if isMain (frameAt fs (length fs - 1)) then none else some (length fs - 1)
+
+-- the lowest frame with a fault 6
+unfoldable pub orderFault : List Frame → Option ℕ
+orderFault fs =
+    earlier (firstDisorder [] 0 fs)
+    (earlier (lowest (λ (i : ℕ) (f : Frame). isBehind fs i f) 0 fs)
+    (earlier (firstLeftover fs 0 fs) (noMain fs)))
+
+-- ---- 7
+-- the lowest frame that is found below one of the children
+unfoldable pub lowestChild : (ℕ → Option ℕ) → List Child → Option ℕ
+lowestChild find [] = none
+lowestChild find (c ∷ cs) = earlier (find (c .at)) (lowestChild find cs)
+
+-- the lowest frame too deep in the tree whose root is frame i, at the depth d; n bounds how far it goes down
+unfoldable pub deepTo : ℕ → List Frame → ℕ → ℕ → Option ℕ
+deepTo zero fs d i = none
+deepTo (suc n) fs d i =
+    earlier (lowestChild (λ c. deepTo n fs (suc d) c) (children (frameAt fs i)))
+    (if ltb deepest d then some i else none)
+
+-- in the body of f, if f is a module: a child's number is below its parent's, so that bound is enough
+abbrev pub deepIn : List Frame → Frame → Option ℕ
+deepIn fs f = elim (isModule (f .kind)) [ true ↦ deepTo (suc (f .a)) fs 1 (f .a) | false ↦ none ]
+
+-- in the bodies of the modules among the frames
+unfoldable pub firstDeep : List Frame → List Frame → Option ℕ
+firstDeep fs [] = none
+firstDeep fs (f ∷ rest) = earlier (deepIn fs f) (firstDeep fs rest)
+
+-- the lowest frame with the fault 7
+unfoldable pub depthFault : List Frame → Option ℕ
+depthFault fs = firstDeep fs fs
+
+-- ---- 4 to 7
+-- refusal n at that frame, if there is one; else what comes next, which is computed only then
+abbrev pub rejectAt : ℕ → Option ℕ → (Unit {0} → Verdict) → Verdict
+rejectAt n (some j) next = Rejected n j
+rejectAt n none next = next tt
+
+-- 'Over the whole file, smallest number first, then lowest frame'
+unfoldable pub layoutOf : List Frame → Verdict
+layoutOf fs =
+    rejectAt 4 (headerFault fs) λ _.
+    rejectAt 5 (fieldFault fs) λ _.
+    rejectAt 6 (orderFault fs) λ _.
+    rejectAt 7 (depthFault fs) λ _.
+    Accepted

@@ -1,0 +1,225 @@
+-- Statements: whatever is broken, the finding is a fault no later. Assumes nothing.
+use mathlib.Core.Path.{_≡_, sym, _∙_}
+use mathlib.Core.Logic.{inl}
+use mathlib.Core.Bool.{Bool, true, false, not, _&&_, true≢false}
+use mathlib.Core.List.{List}
+use Prim.Native.Nat.{ℕ, _≤_, _<_}
+use native.Mathlib.Omega.{arith}
+use lib.Dec.{leb, eqb}
+use borrow.Author.Tests.{eqb-true, not-false, le-leb}
+use lib.ListN.{length}
+use Rattle.basics.specs.Searches.{every, sameNumbers}
+use Rattle.basics.specs.Members.{In}
+use Rattle.basics.proofs.Ifs.{if-all, and-true}
+use Rattle.language.specs.Places.{private, Standing, unlinked}
+use Rattle.language.specs.Types.{truthType, isCell, public, contentOf}
+use Rattle.language.specs.Effects.{within}
+use Rattle.language.specs.declared.effect.Effect.{Effect}
+use Rattle.program.specs.Trees.{Expr, Stmt, rootS}
+use Rattle.layout.proofs.Placed.{PlacedEs, PlacedS}
+use Rattle.rules.specs.declared.finding.Typing.{Typing}
+use Rattle.rules.specs.declared.finding.Typing.the-variants.{Typed, Untyped}
+use Rattle.rules.specs.declared.finding.Conduct.{Conduct}
+use Rattle.rules.specs.declared.finding.Conduct.the-variants.{Does, Fails}
+use Rattle.rules.specs.Rules.{Signature, signatureAt, AllPublic}
+use Rattle.rules.specs.Breaks.{BreaksS, Starts}
+use Rattle.rules.specs.Broken.{BrokenE, Operand, ChildS, BrokenS}
+use Rattle.rules.specs.Checking.{Argued, argue, typesIn, startRule, cooperateRule, seqRule, doRule, joinRule, letRule, storeRule, ifElseRule, whileRule, runIn}
+use Rattle.rules.proofs.Sooner.{Sooner, exactly, smaller}
+use Rattle.rules.proofs.Lists.{same-true, all-true}
+use Rattle.rules.proofs.Expressions.{complete}
+use Rattle.rules.proofs.Statements.{completeEs, completeS, FoundEs, soundEs, FoundS, soundS}
+use Rattle.rules.proofs.Ranges.{rangeE, rangeEs, lo-leS, rangeS}
+use Rattle.rules.proofs.FirstExpressions.{BeforeE, beforeE, leastE}
+
+pub data BeforeS (j : ℕ) : Conduct → Type 0 where
+  runs : {e : Effect} {b : Bool} → BeforeS j (Does e b)
+  before : {m k : ℕ} → k < j → BeforeS j (Fails m k)
+
+data BeforeA (j : ℕ) : Argued → Type 0 where
+  are : {ts : List ℕ} {e : Effect} → BeforeA j (Argued.have ts e)
+  before : {m k : ℕ} → k < j → BeforeA j (Argued.fail m k)
+
+beforeEs : (cells Γ : List ℕ) {lo stop : ℕ} {xs : List Expr} → PlacedEs lo xs stop → BeforeA stop (typesIn cells Γ xs)
+beforeEs cells Γ {stop = stop} {xs = xs} p = go (typesIn cells Γ xs) (soundEs cells Γ xs)
+  where
+    go : (r : Argued) → FoundEs cells Γ xs r → BeforeA stop r
+    go (Argued.have ts e) h = BeforeA.are
+    go (Argued.fail m k) b = let r = rangeEs (b .among) (b .broken) p in BeforeA.before {k = k} (omega arith)
+
+pub beforeS : (cells : List ℕ) (below : List Signature) (Γ : List ℕ) (at : Standing) {lo j : ℕ} {p : Stmt} → PlacedS lo p → rootS p < j → BeforeS j (runIn cells below Γ at p)
+beforeS cells below Γ at {j = j} {p = p} h l = go (runIn cells below Γ at p) (soundS cells below Γ at p)
+  where
+    go : (r : Conduct) → FoundS cells below Γ at p r → BeforeS j r
+    go (Does e b) g = BeforeS.runs
+    go (Fails m k) b = let r = rangeS b h in BeforeS.before {k = k} (omega arith)
+
+-- an earlier child's fault is the whole's
+module _ {n j : ℕ} where
+  l-argue-a : {r : Typing} (a : Argued) → Sooner Untyped n j r → Sooner Argued.fail n j (argue r a)
+  unfolding argue
+  l-argue-a a (Sooner.sooner h) = Sooner.sooner h
+
+  l-argue-b : {r : Typing} {a : Argued} → BeforeE j r → Sooner Argued.fail n j a → Sooner Argued.fail n j (argue r a)
+  unfolding argue
+  l-argue-b BeforeE.typed (Sooner.sooner h) = Sooner.sooner h
+  l-argue-b (BeforeE.before l) (Sooner.sooner h) = Sooner.sooner (inl l)
+
+  l-start : (once : Bool) (below : List Signature) (at : Standing) (s i : ℕ) {a : Argued} → Sooner Argued.fail n j a → Sooner Fails n j (startRule once below at s i a)
+  unfolding startRule
+  l-start once below at s i (Sooner.sooner h) = Sooner.sooner h
+
+  l-seq-a : {r : Conduct} (s : Conduct) → Sooner Fails n j r → Sooner Fails n j (seqRule r s)
+  unfolding seqRule
+  l-seq-a s (Sooner.sooner h) = Sooner.sooner h
+
+  l-seq-b : {r s : Conduct} → BeforeS j r → Sooner Fails n j s → Sooner Fails n j (seqRule r s)
+  unfolding seqRule
+  l-seq-b BeforeS.runs (Sooner.sooner h) = Sooner.sooner h
+  l-seq-b (BeforeS.before l) (Sooner.sooner h) = Sooner.sooner (inl l)
+
+  l-do : (at : Standing) (s i : ℕ) {r : Conduct} → Sooner Fails n j r → Sooner Fails n j (doRule at s i r)
+  unfolding doRule
+  l-do at s i (Sooner.sooner h) = Sooner.sooner h
+
+  l-join : (e : Effect) {r : Conduct} → Sooner Fails n j r → Sooner Fails n j (joinRule e r)
+  unfolding joinRule
+  l-join e (Sooner.sooner h) = Sooner.sooner h
+
+  l-let : (body : List ℕ → Conduct) (Γ : List ℕ) {r : Typing} → Sooner Untyped n j r → Sooner Fails n j (letRule body Γ r)
+  l-let body Γ (Sooner.sooner h) = Sooner.sooner h
+
+  l-store-a : (i : ℕ) {r : Typing} (s : Typing) → Sooner Untyped n j r → Sooner Fails n j (storeRule i r s)
+  unfolding storeRule
+  l-store-a i s (Sooner.sooner h) = Sooner.sooner h
+
+  l-store-b : (i : ℕ) {r s : Typing} → BeforeE j r → Sooner Untyped n j s → Sooner Fails n j (storeRule i r s)
+  unfolding storeRule
+  l-store-b i BeforeE.typed (Sooner.sooner h) = Sooner.sooner h
+  l-store-b i (BeforeE.before l) (Sooner.sooner h) = Sooner.sooner (inl l)
+
+  l-ifElse-a : (i : ℕ) {r : Typing} (s t : Conduct) → Sooner Untyped n j r → Sooner Fails n j (ifElseRule i r s t)
+  unfolding ifElseRule
+  l-ifElse-a i s t (Sooner.sooner h) = Sooner.sooner h
+
+  l-ifElse-b : (i : ℕ) {r : Typing} {s : Conduct} (t : Conduct) → BeforeE j r → Sooner Fails n j s → Sooner Fails n j (ifElseRule i r s t)
+  unfolding ifElseRule
+  l-ifElse-b i t BeforeE.typed (Sooner.sooner h) = Sooner.sooner h
+  l-ifElse-b i t (BeforeE.before l) (Sooner.sooner h) = Sooner.sooner (inl l)
+
+  l-ifElse-c : (i : ℕ) {r : Typing} {s t : Conduct} → BeforeE j r → BeforeS j s → Sooner Fails n j t → Sooner Fails n j (ifElseRule i r s t)
+  unfolding ifElseRule
+  l-ifElse-c i BeforeE.typed BeforeS.runs (Sooner.sooner h) = Sooner.sooner h
+  l-ifElse-c i BeforeE.typed (BeforeS.before l) (Sooner.sooner h) = Sooner.sooner (inl l)
+  l-ifElse-c i (BeforeE.before l) b (Sooner.sooner h) = Sooner.sooner (inl l)
+
+  l-while-a : (i : ℕ) {r : Typing} (s : Conduct) → Sooner Untyped n j r → Sooner Fails n j (whileRule i r s)
+  unfolding whileRule
+  l-while-a i s (Sooner.sooner h) = Sooner.sooner h
+
+  l-while-b : (i : ℕ) {r : Typing} {s : Conduct} → BeforeE j r → Sooner Fails n j s → Sooner Fails n j (whileRule i r s)
+  unfolding whileRule
+  l-while-b i BeforeE.typed (Sooner.sooner h) = Sooner.sooner h
+  l-while-b i (BeforeE.before l) (Sooner.sooner h) = Sooner.sooner (inl l)
+
+leastEs : {cells Γ : List ℕ} {lo stop n j : ℕ} {x : Expr} {xs : List Expr} → In x xs → BrokenE cells Γ x n j → PlacedEs lo xs stop → Sooner Argued.fail n j (typesIn cells Γ xs)
+unfolding typesIn
+leastEs In.first b (PlacedEs.more p q) = l-argue-a _ (leastE b p)
+leastEs (In.later i) b (PlacedEs.more p q) = let r = rangeEs i b q in l-argue-b (beforeE _ _ p (omega arith)) (leastEs i b q)
+
+-- a rule that the root breaks
+module _ (once : Bool) (below : List Signature) (at : Standing) (s i : ℕ) where
+  own-module : {a : Argued} → BeforeA i a → length below ≤ s → Sooner Fails 8 i (startRule once below at s i a)
+  unfolding startRule
+  own-module BeforeA.are h = if-all (Sooner Fails 8 i) (leb (length below) s) _ _ (λ l. exactly) (λ l. absurd (true≢false (sym (le-leb _ _ h) ∙ l)))
+  own-module (BeforeA.before l) h = Sooner.sooner (inl l)
+
+  own-types : (ts : List ℕ) (e : Effect) → s < length below → (ts ≡ signatureAt below s .types → ⊥) → Sooner Fails 9 i (startRule once below at s i (Argued.have ts e))
+  unfolding startRule
+  own-types ts e h z =
+      if-all (Sooner Fails 9 i) (leb (length below) s) _ _ (λ l. smaller {m = 8} (omega arith))
+      (λ l. if-all (Sooner Fails 9 i) (not (sameNumbers ts (signatureAt below s .types))) _ _ (λ m. exactly) (λ m. absurd (z (same-true _ _ (not-false _ m)))))
+
+  own-escapes : (ts : List ℕ) (e : Effect) → (AllPublic ts → ⊥) → Sooner Fails 10 i (startRule once below at s i (Argued.have ts e))
+  unfolding startRule
+  own-escapes ts e z =
+      if-all (Sooner Fails 10 i) (leb (length below) s) _ _ (λ l. smaller {m = 8} (omega arith))
+      (λ l. if-all (Sooner Fails 10 i) (not (sameNumbers ts (signatureAt below s .types))) _ _ (λ m. smaller {m = 9} (omega arith))
+      (λ m. if-all (Sooner Fails 10 i) (not (every public ts)) _ _ (λ o. exactly) (λ o. absurd (z (all-true public _ (not-false _ o))))))
+
+own-unlinked : (once : Bool) (below : List Signature) (s i : ℕ) {a : Argued} → BeforeA i a → Sooner Fails 12 i (startRule once below unlinked s i a)
+unfolding startRule
+own-unlinked once below s i (BeforeA.are {ts = ts}) =
+    if-all (Sooner Fails 12 i) (leb (length below) s) _ _ (λ l. smaller {m = 8} (omega arith))
+    (λ l. if-all (Sooner Fails 12 i) (not (sameNumbers ts (signatureAt below s .types))) _ _ (λ m. smaller {m = 9} (omega arith))
+    (λ m. if-all (Sooner Fails 12 i) (not (every public ts)) _ _ (λ o. smaller {m = 10} (omega arith))
+    (λ o. if-all (Sooner Fails 12 i) true _ _ (λ k. exactly) (λ k. absurd (true≢false k)))))
+own-unlinked once below s i (BeforeA.before l) = Sooner.sooner (inl l)
+
+own-effect : (at : Standing) (s i : ℕ) (e : Effect) (a : Bool) → within s e ≡ false → Sooner Fails 11 i (doRule at s i (Does e a))
+unfolding doRule
+own-effect at s i e a h = if-all (Sooner Fails 11 i) (not (within s e)) _ _ (λ l. exactly) (λ l. absurd (true≢false (sym (not-false _ l) ∙ h)))
+
+own-do-unlinked : (i : ℕ) {r : Conduct} → BeforeS i r → Sooner Fails 12 i (doRule unlinked private i r)
+unfolding doRule
+own-do-unlinked i (BeforeS.runs {e = e}) = if-all (Sooner Fails 12 i) (not (within private e)) _ _ (λ l. smaller {m = 11} (omega arith)) (λ l. if-all (Sooner Fails 12 i) true _ _ (λ k. exactly) (λ k. absurd (true≢false k)))
+own-do-unlinked i (BeforeS.before l) = Sooner.sooner (inl l)
+
+own-store : (i t u : ℕ) (e f : Effect) → ((isCell t ≡ true) × (u ≡ contentOf t) → ⊥) → Sooner Fails 9 i (storeRule i (Typed t e) (Typed u f))
+unfolding storeRule
+own-store i t u e f z = if-all (Sooner Fails 9 i) (isCell t && eqb u (contentOf t)) _ _ (λ p. let q = and-true _ _ p in absurd (z (q .0, eqb-true _ _ (q .1)))) (λ p. exactly)
+
+own-ifElse : (i t : ℕ) (e : Effect) {r s : Conduct} → (t ≡ truthType → ⊥) → BeforeS i r → BeforeS i s → Sooner Fails 9 i (ifElseRule i (Typed t e) r s)
+unfolding ifElseRule
+own-ifElse i t e z BeforeS.runs BeforeS.runs = if-all (Sooner Fails 9 i) (eqb t truthType) _ _ (λ p. absurd (z (eqb-true _ _ p))) (λ p. exactly)
+own-ifElse i t e z BeforeS.runs (BeforeS.before l) = Sooner.sooner (inl l)
+own-ifElse i t e z (BeforeS.before l) q = Sooner.sooner (inl l)
+
+own-while : (i t : ℕ) (e : Effect) {r : Conduct} → (t ≡ truthType → ⊥) → BeforeS i r → Sooner Fails 9 i (whileRule i (Typed t e) r)
+unfolding whileRule
+own-while i t e z BeforeS.runs = if-all (Sooner Fails 9 i) (not (eqb t truthType)) _ _ (λ p. exactly) (λ p. absurd (z (eqb-true _ _ (not-false _ p))))
+own-while i t e z (BeforeS.before l) = Sooner.sooner (inl l)
+
+own-body : (i : ℕ) (f : Effect) {r : Typing} → BeforeE i r → Sooner Fails 13 i (whileRule i r (Does f true))
+unfolding whileRule
+own-body i f (BeforeE.typed {t = t}) = if-all (Sooner Fails 13 i) (not (eqb t truthType)) _ _ (λ p. smaller {m = 9} (omega arith)) (λ p. if-all (Sooner Fails 13 i) true _ _ (λ k. exactly) (λ k. absurd (true≢false k)))
+own-body i f (BeforeE.before l) = Sooner.sooner (inl l)
+
+ownS : {cells : List ℕ} {below : List Signature} {Γ : List ℕ} {at : Standing} {lo n : ℕ} {p : Stmt} → BreaksS cells below Γ at p n → PlacedS lo p → Sooner Fails n (rootS p) (runIn cells below Γ at p)
+unfolding runIn cooperateRule
+ownS (BreaksS.start-module Starts.start h) (PlacedS.start p) = own-module _ _ _ _ _ (beforeEs _ _ p) h
+ownS (BreaksS.start-module Starts.start-wait h) (PlacedS.start-wait p) = own-module _ _ _ _ _ (beforeEs _ _ p) h
+ownS (BreaksS.start-types Starts.start h xs z) (PlacedS.start p) = rw (completeEs xs) (own-types _ _ _ _ _ _ _ h z)
+ownS (BreaksS.start-types Starts.start-wait h xs z) (PlacedS.start-wait p) = rw (completeEs xs) (own-types _ _ _ _ _ _ _ h z)
+ownS (BreaksS.store x y z) (PlacedS.store p q e) = rw (complete x, complete y) (own-store _ _ _ _ _ z)
+ownS (BreaksS.ifElse x z) (PlacedS.ifElse p q r e) = let a = lo-leS r in rw (complete x) (own-ifElse _ _ _ z (beforeS _ _ _ _ q (omega arith)) (beforeS _ _ _ _ r (omega arith)))
+ownS (BreaksS.while x z) (PlacedS.while p q e) = rw (complete x) (own-while _ _ _ z (beforeS _ _ _ _ q (omega arith)))
+ownS (BreaksS.start-escapes Starts.start xs z) (PlacedS.start p) = rw (completeEs xs) (own-escapes _ _ _ _ _ _ _ z)
+ownS (BreaksS.start-escapes Starts.start-wait xs z) (PlacedS.start-wait p) = rw (completeEs xs) (own-escapes _ _ _ _ _ _ _ z)
+ownS (BreaksS.do-effect r h) (PlacedS.do-at p e) = rw (completeS r) (own-effect _ _ _ _ _ h)
+ownS (BreaksS.start-unlinked Starts.start) (PlacedS.start p) = own-unlinked _ _ _ _ (beforeEs _ _ p)
+ownS (BreaksS.start-unlinked Starts.start-wait) (PlacedS.start-wait p) = own-unlinked _ _ _ _ (beforeEs _ _ p)
+ownS BreaksS.cooperate-unlinked p = exactly
+ownS BreaksS.do-unlinked (PlacedS.do-at p e) = own-do-unlinked _ (beforeS _ _ _ _ p e)
+ownS (BreaksS.while-body r) (PlacedS.while p q e) = let a = lo-leS q in rw (completeS r) (own-body _ _ (beforeE _ _ p (omega arith)))
+
+pub leastS : {cells : List ℕ} {below : List Signature} {Γ : List ℕ} {at : Standing} {lo n j : ℕ} {p : Stmt} → BrokenS cells below Γ at p n j → PlacedS lo p → Sooner Fails n j (runIn cells below Γ at p)
+unfolding runIn
+leastS (BrokenS.here b) p = ownS b p
+leastS (BrokenS.operand (Operand.argument Starts.start i) b) (PlacedS.start p) = l-start _ _ _ _ _ (leastEs i b p)
+leastS (BrokenS.operand (Operand.argument Starts.start-wait i) b) (PlacedS.start-wait p) = l-start _ _ _ _ _ (leastEs i b p)
+leastS (BrokenS.operand Operand.letIn b) (PlacedS.letIn p q e) = l-let _ _ (leastE b p)
+leastS (BrokenS.operand Operand.store-a b) (PlacedS.store p q e) = l-store-a _ _ (leastE b p)
+leastS (BrokenS.operand Operand.store-b b) (PlacedS.store p q e) = let a = rangeE b q in l-store-b _ (beforeE _ _ p (omega arith)) (leastE b q)
+leastS (BrokenS.operand Operand.ifElse b) (PlacedS.ifElse p q r e) = l-ifElse-a _ _ _ (leastE b p)
+leastS (BrokenS.operand Operand.while b) (PlacedS.while p q e) = l-while-a _ _ (leastE b p)
+leastS (BrokenS.under ChildS.seq-a b) (PlacedS.seq p q e) = l-seq-a _ (leastS b p)
+leastS (BrokenS.under ChildS.seq-b b) (PlacedS.seq p q e) = let a = rangeS b q in l-seq-b (beforeS _ _ _ _ p (omega arith)) (leastS b q)
+leastS (BrokenS.under ChildS.do-at b) (PlacedS.do-at p e) = l-do _ _ _ (leastS b p)
+leastS (BrokenS.under (ChildS.letIn h) b) (PlacedS.letIn p q e) = rw (complete h) (l-join _ (leastS b q))
+leastS (BrokenS.under ChildS.ifElse-b b) (PlacedS.ifElse p q r e) = let a = rangeS b q in l-ifElse-b _ _ (beforeE _ _ p (omega arith)) (leastS b q)
+leastS (BrokenS.under ChildS.ifElse-c b) (PlacedS.ifElse p q r e) =
+    let a = rangeS b r in
+    let c = lo-leS q in
+    l-ifElse-c _ (beforeE _ _ p (omega arith)) (beforeS _ _ _ _ q (omega arith)) (leastS b r)
+leastS (BrokenS.under ChildS.while b) (PlacedS.while p q e) = let a = rangeS b q in l-while-b _ (beforeE _ _ p (omega arith)) (leastS b q)

@@ -1,0 +1,9 @@
+pub mod Lists
+pub mod Expressions
+pub mod Statements
+pub mod Ranges
+pub mod Sooner
+pub mod FirstExpressions
+pub mod FirstStatements
+pub mod Modules
+pub mod Whole

@@ -1,0 +1,113 @@
+-- Modules and whole programs: the computed answer is the one that the rules give, and the only one. Assumes nothing.
+use mathlib.Core.Path.{_≡_, refl, sym, _∙_}
+use mathlib.Core.Logic.{inl, inr}
+use mathlib.Core.Bool.{false, true≢false}
+use mathlib.Core.List.{List, [], _∷_, _++_}
+use Prim.Native.Nat.{ℕ}
+use native.Mathlib.Omega.{arith}
+use Rattle.language.specs.declared.effect.Effect.{Effect}
+use Rattle.rules.specs.declared.finding.Conduct.{Conduct}
+use Rattle.rules.specs.declared.finding.Conduct.the-variants.{Does, Fails}
+use Rattle.language.specs.declared.verdict.Verdict.{Verdict}
+use Rattle.language.specs.declared.verdict.Verdict.the-variants.{Accepted, Rejected}
+use Rattle.basics.specs.If.{if_then_else_}
+use Rattle.language.specs.Places.{home, linked}
+use Rattle.language.specs.Effects.{within}
+use Rattle.program.specs.Programs.{Part, Program, cells as cellTypes}
+use Rattle.layout.proofs.Placed.{PlacedM}
+use Rattle.layout.proofs.Parts.{NonEmpty}
+use Rattle.rules.specs.Rules.{Signature, signature, Modules}
+use Rattle.rules.specs.Broken.{BrokenM, Broken, NoLater, RulesSay}
+use Rattle.rules.specs.Checking.{runIn, mainRule, afterModule, modulesIn, rulesOf}
+use Rattle.basics.proofs.Ifs.{if-all}
+use Rattle.rules.proofs.Sooner.{Sooner, exactly}
+use Rattle.rules.proofs.Statements.{completeS, FoundS, soundS}
+use Rattle.rules.proofs.FirstStatements.{leastS}
+
+pub completeM : {cells : List ℕ} {below : List Signature} {ms : List Part} → Modules cells below ms → modulesIn cells below ms ≡ Accepted
+unfolding modulesIn if_then_else_
+completeM (Modules.main r h) = rw (completeS r) (rw h)
+completeM (Modules.more r ms) = rw (completeS r) (completeM ms)
+
+abbrev pub FoundM : List ℕ → List Signature → List Part → Verdict → Type 0
+FoundM cells below ms Accepted = Modules cells below ms
+FoundM cells below ms (Rejected n j) = BrokenM cells below ms n j
+
+module _ (cells : List ℕ) (below : List Signature) (m : Part) where
+  f-main : (rest : List Signature → Verdict) (r : Conduct) → FoundS cells below (m .types) linked (m .body) r → FoundM cells below (m ∷ []) (afterModule rest below m [] r)
+  f-main rest (Does e b) h = if-all (FoundM cells below (m ∷ [])) (within home e) _ _ (λ l. Modules.main h l) (λ l. BrokenM.main h l)
+  f-main rest (Fails n j) h = BrokenM.body h
+
+  f-more : (n : Part) (ms : List Part) (rest : List Signature → Verdict) → ((sigs : List Signature) → FoundM cells sigs (n ∷ ms) (rest sigs)) → (r : Conduct) → FoundS cells below (m .types) linked (m .body) r → FoundM cells below (m ∷ n ∷ ms) (afterModule rest below m (n ∷ ms) r)
+  f-more n ms rest g (Does e b) h = go (rest (below ++ (signature m e ∷ []))) (g (below ++ (signature m e ∷ [])))
+    where
+      go : (a : Verdict) → FoundM cells (below ++ (signature m e ∷ [])) (n ∷ ms) a → FoundM cells below (m ∷ n ∷ ms) a
+      go Accepted k = Modules.more h k
+      go (Rejected i j) k = BrokenM.later h k
+  f-more n ms rest g (Fails i j) h = BrokenM.body h
+
+pub soundM : (cells : List ℕ) (ms : List Part) (below : List Signature) (m : Part) → FoundM cells below (m ∷ ms) (modulesIn cells below (m ∷ ms))
+unfolding modulesIn
+soundM cells [] below m = f-main cells below m (λ sigs. modulesIn cells sigs []) (runIn cells below (m .types) linked (m .body)) (soundS cells below (m .types) linked (m .body))
+soundM cells (n ∷ ms) below m = f-more cells below m n ms (λ sigs. modulesIn cells sigs (n ∷ ms)) (λ sigs. soundM cells ms sigs n) (runIn cells below (m .types) linked (m .body)) (soundS cells below (m .types) linked (m .body))
+
+l-body : {n j : ℕ} (rest : List Signature → Verdict) (below : List Signature) (m : Part) (ms : List Part) {r : Conduct} → Sooner Fails n j r → Sooner Rejected n j (afterModule rest below m ms r)
+l-body rest below m ms (Sooner.sooner h) = Sooner.sooner h
+
+own-main : (i : ℕ) (e : Effect) → within home e ≡ false → Sooner Rejected 11 i (mainRule i e)
+own-main i e h = if-all (Sooner Rejected 11 i) (within home e) _ _ (λ l. absurd (true≢false (sym l ∙ h))) (λ l. exactly)
+
+pub leastM : {cells : List ℕ} {below : List Signature} {ms : List Part} {n j : ℕ} → BrokenM cells below ms n j → PlacedM ms → Sooner Rejected n j (modulesIn cells below ms)
+unfolding modulesIn
+leastM (BrokenM.body b) (PlacedM.more p q) = l-body _ _ _ _ (leastS b p)
+leastM (BrokenM.later r (BrokenM.body b)) (PlacedM.more p q) = rw (completeS r) (leastM (BrokenM.body b) q)
+leastM (BrokenM.later r (BrokenM.later s b)) (PlacedM.more p q) = rw (completeS r) (leastM (BrokenM.later s b) q)
+leastM (BrokenM.later r (BrokenM.main s h)) (PlacedM.more p q) = rw (completeS r) (leastM (BrokenM.main s h) q)
+leastM (BrokenM.main r h) (PlacedM.more p q) = rw (completeS r) (own-main _ _ h)
+
+-- ---- a whole program
+same-place : (n j m k : ℕ) → NoLater n j m k → NoLater m k n j → (n ≡ m) × (j ≡ k)
+same-place n j m k (inl a) (inl b) = absurd (omega arith)
+same-place n j m k (inl a) (inr b) = absurd (omega arith)
+same-place n j m k (inr a) (inl b) = absurd (omega arith)
+same-place n j m k (inr a) (inr b) = omega arith
+
+later-than : {n j m k : ℕ} → Sooner Rejected m k (Rejected n j) → NoLater n j m k
+later-than (Sooner.sooner h) = h
+
+not-accepted : {n j : ℕ} → Sooner Rejected n j Accepted → ⊥
+not-accepted s = elim s [ ]
+
+-- for a program that has a module, and whose trees' frames rise
+module _ (file : Program) (some : NonEmpty (file .modules)) (placed : PlacedM (file .modules)) where
+  abbrev found : Verdict
+  found = modulesIn (cellTypes file) [] (file .modules)
+
+  found-sound : FoundM (cellTypes file) [] (file .modules) found
+  found-sound = rw (some .same) (soundM (cellTypes file) (some .tail) [] (some .head))
+
+  found-sooner : {n j : ℕ} {r : Verdict} → found ≡ r → Broken file n j → Sooner Rejected n j r
+  found-sooner {n} {j} q b = let x : Sooner Rejected n j found = leastM b placed in rw q at x
+
+  -- the computed verdict is what the rules say
+  pub rules-say : RulesSay file (rulesOf file)
+  unfolding rulesOf
+  rules-say = go found refl found-sound
+    where
+      go : (r : Verdict) → found ≡ r → FoundM (cellTypes file) [] (file .modules) r → RulesSay file r
+      go Accepted q h = h
+      go (Rejected n j) q b = record { broken = b; least = λ i k c. later-than (found-sooner q c) }
+
+  -- and nothing else is
+  pub rules-only : (r : Verdict) → RulesSay file r → r ≡ rulesOf file
+  unfolding rulesOf
+  rules-only Accepted h = sym (completeM h)
+  rules-only (Rejected n j) f = go found refl found-sound
+    where
+      go : (r : Verdict) → found ≡ r → FoundM (cellTypes file) [] (file .modules) r → Rejected n j ≡ found
+      go Accepted q h = absurd (not-accepted (found-sooner q (f .broken)))
+      go (Rejected i k) q b =
+          let s = same-place n j i k (f .least i k b) (later-than (found-sooner q (f .broken))) in
+          let g : n ≡ i = s .0 in
+          let h : j ≡ k = s .1 in
+          cc

@@ -1,0 +1,103 @@
+-- Which rule a program breaks first: refusals 8 to 13 over a whole file. Nothing is computed here. Assumes nothing: definitions.
+use mathlib.Core.Path.{_≡_}
+use mathlib.Core.Logic.{_⊎_}
+use mathlib.Core.Bool.{Bool, false}
+use mathlib.Core.List.{List, [], _∷_, _++_}
+use Prim.Native.Nat.{ℕ, _≤_, _<_}
+use Rattle.basics.specs.Members.{In}
+use Rattle.language.specs.Places.{home, Standing, linked, standingAt}
+use Rattle.language.specs.Effects.{within}
+use Rattle.language.specs.declared.effect.Effect.{Effect}
+use Rattle.language.specs.declared.verdict.Verdict.{Verdict}
+use Rattle.language.specs.declared.verdict.Verdict.the-variants.{Accepted, Rejected}
+use Rattle.program.specs.Trees.{Expr, Stmt, rootE, rootS}
+use Rattle.program.specs.Programs.{Part, Program, cells as cellTypes}
+use Rattle.rules.specs.Rules.{Signature, signature, HasType, Runs, Keeps}
+use Rattle.rules.specs.Breaks.{BreaksE, BreaksS, Starts}
+
+-- y is a child of the expression x
+pub data ChildE : Expr → Expr → Type 0 where
+  new : {i s : ℕ} {x : Expr} → ChildE (Expr.new i s x) x
+  content : {i : ℕ} {x : Expr} → ChildE (Expr.content i x) x
+  sum-a : {i : ℕ} {x y : Expr} → ChildE (Expr.sum i x y) x
+  sum-b : {i : ℕ} {x y : Expr} → ChildE (Expr.sum i x y) y
+  less-a : {i : ℕ} {x y : Expr} → ChildE (Expr.less i x y) x
+  less-b : {i : ℕ} {x y : Expr} → ChildE (Expr.less i x y) y
+  choose-a : {i : ℕ} {x y z : Expr} → ChildE (Expr.choose i x y z) x
+  choose-b : {i : ℕ} {x y z : Expr} → ChildE (Expr.choose i x y z) y
+  choose-c : {i : ℕ} {x y z : Expr} → ChildE (Expr.choose i x y z) z
+
+-- x is a child of the statement p, and an expression
+pub data Operand : Stmt → Expr → Type 0 where
+  argument : {p : Stmt} {s : ℕ} {xs : List Expr} {x : Expr} → Starts p s xs → In x xs → Operand p x
+  letIn : {i : ℕ} {x : Expr} {p : Stmt} → Operand (Stmt.letIn i x p) x
+  store-a : {i : ℕ} {x y : Expr} → Operand (Stmt.store i x y) x
+  store-b : {i : ℕ} {x y : Expr} → Operand (Stmt.store i x y) y
+  ifElse : {i : ℕ} {x : Expr} {p q : Stmt} → Operand (Stmt.ifElse i x p q) x
+  while : {i : ℕ} {x : Expr} {p : Stmt} → Operand (Stmt.while i x p) x
+
+-- `ChildS cells Γ at p Δ by q`: q is a child of the statement p, and a statement; where p stands in the variables Γ and `at`, q stands in Δ and `by`
+pub data ChildS (cells : List ℕ) : List ℕ → Standing → Stmt → List ℕ → Standing → Stmt → Type 0 where
+  seq-a : {Γ : List ℕ} {at : Standing} {i : ℕ} {p q : Stmt} → ChildS cells Γ at (Stmt.seq i p q) Γ at p
+  seq-b : {Γ : List ℕ} {at : Standing} {i : ℕ} {p q : Stmt} → ChildS cells Γ at (Stmt.seq i p q) Γ at q
+  do-at : {Γ : List ℕ} {at : Standing} {i s : ℕ} {p : Stmt} → ChildS cells Γ at (Stmt.doAt i s p) Γ (standingAt s) p
+  letIn : {Γ : List ℕ} {at : Standing} {i t : ℕ} {x : Expr} {p : Stmt} {e : Effect}
+      → HasType cells Γ x t e
+      → ChildS cells Γ at (Stmt.letIn i x p) (Γ ++ (t ∷ [])) at p
+  ifElse-b : {Γ : List ℕ} {at : Standing} {i : ℕ} {x : Expr} {p q : Stmt}
+      → ChildS cells Γ at (Stmt.ifElse i x p q) Γ at p
+  ifElse-c : {Γ : List ℕ} {at : Standing} {i : ℕ} {x : Expr} {p q : Stmt}
+      → ChildS cells Γ at (Stmt.ifElse i x p q) Γ at q
+  while : {Γ : List ℕ} {at : Standing} {i : ℕ} {x : Expr} {p : Stmt} → ChildS cells Γ at (Stmt.while i x p) Γ at p
+
+-- `BrokenE cells Γ x n j`: in the expression x, frame j breaks rule n
+pub data BrokenE (cells Γ : List ℕ) : Expr → ℕ → ℕ → Type 0 where
+  here : {x : Expr} {n : ℕ} → BreaksE cells Γ x n → BrokenE cells Γ x n (rootE x)
+  under : {x y : Expr} {n j : ℕ} → ChildE x y → BrokenE cells Γ y n j → BrokenE cells Γ x n j
+
+-- `BrokenS cells below Γ at p n j`: in the statement p, frame j breaks rule n
+pub data BrokenS (cells : List ℕ) (below : List Signature) : List ℕ → Standing → Stmt → ℕ → ℕ → Type 0 where
+  here : {Γ : List ℕ} {at : Standing} {p : Stmt} {n : ℕ}
+      → BreaksS cells below Γ at p n
+      → BrokenS cells below Γ at p n (rootS p)
+  operand : {Γ : List ℕ} {at : Standing} {p : Stmt} {x : Expr} {n j : ℕ}
+      → Operand p x
+      → BrokenE cells Γ x n j
+      → BrokenS cells below Γ at p n j
+  under : {Γ Δ : List ℕ} {at by : Standing} {p q : Stmt} {n j : ℕ}
+      → ChildS cells Γ at p Δ by q
+      → BrokenS cells below Δ by q n j
+      → BrokenS cells below Γ at p n j
+
+-- `BrokenM cells below ms n j`: in the modules ms, which stand behind modules with the signatures `below`, frame j breaks rule n
+pub data BrokenM (cells : List ℕ) : List Signature → List Part → ℕ → ℕ → Type 0 where
+  body : {below : List Signature} {m : Part} {ms : List Part} {n j : ℕ}
+      → BrokenS cells below (m .types) linked (m .body) n j
+      → BrokenM cells below (m ∷ ms) n j
+  later : {below : List Signature} {m : Part} {ms : List Part} {e : Effect} {b : Bool} {n j : ℕ}
+      → Runs cells below (m .types) linked (m .body) e b
+      → BrokenM cells (below ++ (signature m e ∷ [])) ms n j
+      → BrokenM cells below (m ∷ ms) n j
+  -- 11 'effect, .. at main': main is the last
+  main : {below : List Signature} {m : Part} {e : Effect} {b : Bool}
+      → Runs cells below (m .types) linked (m .body) e b
+      → within home e ≡ false
+      → BrokenM cells below (m ∷ []) 11 (m .frame)
+
+-- in the program, frame j breaks rule n
+abbrev pub Broken : Program → ℕ → ℕ → Type 0
+Broken file n j = BrokenM (cellTypes file) [] (file .modules) n j
+
+-- rule n at frame j comes no later than rule m at frame k: 'First frame in file order; there, the smallest number.'
+abbrev pub NoLater : ℕ → ℕ → ℕ → ℕ → Type 0
+NoLater n j m k = (j < k) ⊎ ((j ≡ k) × (n ≤ m))
+
+-- rule n is broken at frame j, and nothing comes before it
+pub record FirstBroken (file : Program) (n j : ℕ) : Type 0 where
+  pub broken : Broken file n j
+  pub least : (m k : ℕ) → Broken file m k → NoLater n j m k
+
+-- what refusals 8 to 13 say of the program
+abbrev pub RulesSay : Program → Verdict → Type 0
+RulesSay file Accepted = Keeps file
+RulesSay file (Rejected n j) = FirstBroken file n j

@@ -1,0 +1,5 @@
+pub mod Rules
+pub mod Breaks
+pub mod Broken
+pub mod Checking
+pub mod Verdict

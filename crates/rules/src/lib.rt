@@ -1,0 +1,2 @@
+// The rules of types, effects and cooperation, refusals 8 to 13.
+pub mod finding;
