@@ -1,0 +1,139 @@
+//! Lists of choices of every flavour.
+
+use super::random::Random;
+use crate::layout::Program;
+use crate::listing::{self, Reading};
+use crate::place::{of_thread, HOME, PRIVATE};
+use crate::state::State;
+use crate::text::CHOICES_LIMIT;
+
+#[derive(Clone, Copy, PartialEq, Eq, Debug)]
+pub enum Flavour {
+    Empty,
+    RoundRobin,
+    /// Schedulers of the file.
+    Schedulers,
+    /// Schedulers and low thread numbers, unlinked or not.
+    Threads,
+    /// Only parties that have something to do.
+    Valid,
+    /// The same, and enough of them to spend the cells or the threads.
+    Long,
+    /// Any byte.
+    Garbage,
+    /// A text that is no list.
+    Malformed,
+    OverLong,
+}
+
+impl Flavour {
+    pub fn random(random: &mut Random) -> Flavour {
+        match random.below(1000) {
+            0..=29 => Flavour::Empty,
+            30..=179 => Flavour::RoundRobin,
+            180..=299 => Flavour::Schedulers,
+            300..=449 => Flavour::Threads,
+            450..=919 => Flavour::Valid,
+            920..=924 => Flavour::Long,
+            925..=969 => Flavour::Garbage,
+            970..=998 => Flavour::Malformed,
+            _ => Flavour::OverLong,
+        }
+    }
+}
+
+/// The contents of `choices.txt` for a program's text.
+pub fn text(random: &mut Random, program: &[u8], flavour: Flavour) -> Vec<u8> {
+    let count = match flavour {
+        Flavour::Empty => 0,
+        Flavour::Long => random.between(200, 1200),
+        Flavour::OverLong => CHOICES_LIMIT / 3 + random.below(2),
+        _ if random.chance(20) => random.between(60, 400),
+        _ => random.between(1, 60),
+    };
+    let parties = match Reading::new(program) {
+        Reading::Readable(program, _) => parties(random, &program, flavour, count),
+        Reading::Unreadable(_) => (0..count.min(3)).map(|_| random.byte()).collect(),
+    };
+    let mut text = Vec::with_capacity(3 * parties.len());
+    for party in parties {
+        listing::byte(&mut text, party);
+        text.push(b'\n');
+    }
+    if flavour == Flavour::Malformed {
+        malform(random, &mut text);
+    }
+    text
+}
+
+fn parties(random: &mut Random, program: &Program, flavour: Flavour, count: usize) -> Vec<u8> {
+    let last = program.last_place;
+    let schedulers = usize::from(last - PRIVATE);
+    match flavour {
+        Flavour::RoundRobin => (0..count)
+            .map(|number| HOME + (number % schedulers) as u8)
+            .collect(),
+        Flavour::Valid | Flavour::Long => valid(random, program, flavour, count),
+        Flavour::Threads => (0..count)
+            .map(|_| match random.chance(2) {
+                true => of_thread(random.place(1, 4)),
+                false => random.place(HOME, last),
+            })
+            .collect(),
+        Flavour::Garbage => (0..count).map(|_| random.byte()).collect(),
+        _ => (0..count).map(|_| random.place(HOME, last)).collect(),
+    }
+}
+
+/// Steps along, to see which parties have something to do. Behind the end of
+/// all threads a few more choices show that there is nothing left.
+fn valid(random: &mut Random, program: &Program, flavour: Flavour, count: usize) -> Vec<u8> {
+    let mut state = State::new(program);
+    let mut chosen = Vec::with_capacity(count);
+    // A refused thread stands still, but others may go on.
+    let patience = match flavour {
+        Flavour::Long => 100,
+        _ => 8,
+    };
+    while chosen.len() < count {
+        let Some(party) = random.pick(&busy(&state)) else {
+            chosen.extend(HOME..=program.last_place);
+            break;
+        };
+        let outcome = state.step(program, party, &mut ());
+        chosen.push(party);
+        let refused = matches!(outcome.answer, 17..=20);
+        if refused && random.chance(patience) {
+            break;
+        }
+    }
+    chosen
+}
+
+fn busy(state: &State) -> Vec<u8> {
+    let schedulers = (HOME..).zip(&state.schedulers);
+    let mut parties: Vec<u8> = schedulers
+        .filter(|(_, scheduler)| !scheduler.active.is_empty() || !scheduler.next.is_empty())
+        .map(|(place, _)| place)
+        .collect();
+    let threads = (1..).zip(&state.threads);
+    parties.extend(
+        threads
+            .filter(|(_, thread)| thread.is_unlinked())
+            .map(|(number, _)| of_thread(number)),
+    );
+    parties
+}
+
+fn malform(random: &mut Random, text: &mut Vec<u8>) {
+    if text.is_empty() {
+        return text.push(b'\n');
+    }
+    let at = random.below(text.len());
+    match random.below(4) {
+        0 => text.truncate(text.len() - 1),
+        1 => text[at] = random.pick(b"af\r \ng").unwrap_or(0),
+        2 => text.insert(at, b'0'),
+        _ => drop(text.remove(at)),
+    }
+}

@@ -1,0 +1,143 @@
+//! Random cases, named by a seed and an index so that each can be repeated.
+
+mod build;
+mod choices;
+mod expressions;
+mod lines;
+mod mutate;
+mod plan;
+mod random;
+mod soup;
+mod special;
+mod statements;
+
+use std::path::Path;
+use std::{fs, io};
+
+use choices::Flavour;
+use plan::Plan;
+use random::Random;
+
+use crate::frame::Frame;
+use crate::listing;
+
+/// The contents of `prog.txt` and `choices.txt`.
+pub struct Case {
+    pub program: Vec<u8>,
+    pub choices: Vec<u8>,
+    /// An empty file is left out: 01 reads an absent one as empty.
+    pub empty_is_absent: bool,
+}
+
+impl Case {
+    /// Writes the two files, over those of an earlier case.
+    pub fn write(&self, folder: &Path) -> io::Result<()> {
+        self.write_file(&folder.join("prog.txt"), &self.program)?;
+        self.write_file(&folder.join("choices.txt"), &self.choices)
+    }
+
+    fn write_file(&self, path: &Path, text: &[u8]) -> io::Result<()> {
+        fs::write(path, text)?;
+        if text.is_empty() && self.empty_is_absent {
+            fs::remove_file(path)?;
+        }
+        Ok(())
+    }
+}
+
+/// The case of this name.
+pub fn case(seed: u64, index: u64) -> Case {
+    let random = &mut Random::of_case(seed, index);
+    let sort = Sort::random(random);
+    let program = program(random, sort);
+    let flavour = sort.flavour(random);
+    let choices = choices::text(random, &program, flavour);
+    Case {
+        program,
+        choices,
+        empty_is_absent: random.chance(2),
+    }
+}
+
+/// Sorts of files, by what they are to show.
+#[derive(Clone, Copy, PartialEq, Eq, Debug)]
+enum Sort {
+    /// Accepted.
+    Clean,
+    /// One rule or two broken: refusals 8 to 13.
+    Slipping,
+    Soup,
+    /// Depth 24 and more: refusal 7.
+    Deep,
+    SpendCells,
+    SpendThreads,
+    Nest,
+    Doubling,
+    Full,
+    /// Damaged frames: refusals 4 to 6.
+    DamagedFrames,
+    /// Damaged text: refusals 1 to 3.
+    DamagedText,
+}
+
+impl Sort {
+    fn random(random: &mut Random) -> Sort {
+        match random.below(200) {
+            0..=84 => Sort::Clean,
+            85..=136 => Sort::Slipping,
+            137..=139 => Sort::Nest,
+            140..=149 => Sort::Soup,
+            150..=154 => Sort::Deep,
+            155..=158 => Sort::SpendCells,
+            159..=162 => Sort::SpendThreads,
+            163 => Sort::Doubling,
+            164 => Sort::Full,
+            165..=189 => Sort::DamagedFrames,
+            _ => Sort::DamagedText,
+        }
+    }
+
+    /// Some sorts show their point only after many choices.
+    fn flavour(self, random: &mut Random) -> Flavour {
+        match self {
+            Sort::Soup | Sort::SpendCells | Sort::SpendThreads | Sort::Doubling => Flavour::Long,
+            _ => Flavour::random(random),
+        }
+    }
+}
+
+fn program(random: &mut Random, sort: Sort) -> Vec<u8> {
+    match sort {
+        Sort::Clean => text(&build::frames(random, Plan::random)),
+        Sort::Slipping => text(&build::frames(random, Plan::slipping)),
+        Sort::Soup => text(&soup::frames(random)),
+        Sort::Deep => text(&build::frames(random, Plan::deep)),
+        Sort::SpendCells => text(&special::spend_cells(random)),
+        Sort::SpendThreads => text(&special::spend_threads(random)),
+        Sort::Nest => text(&special::nest(random)),
+        Sort::Doubling => text(&special::doubling(random)),
+        Sort::Full => text(&special::full(random)),
+        Sort::DamagedFrames => {
+            let frames = build::frames(random, Plan::roomy);
+            text(&mutate::frames(random, frames))
+        }
+        Sort::DamagedText => {
+            let mut text = text(&build::frames(random, Plan::small));
+            mutate::text(random, &mut text);
+            text
+        }
+    }
+}
+
+fn text(frames: &[Frame]) -> Vec<u8> {
+    let mut text = Vec::with_capacity(17 * frames.len());
+    for frame in frames {
+        listing::byte(&mut text, frame.kind);
+        listing::byte(&mut text, frame.s);
+        for field in frame.fields() {
+            listing::word(&mut text, field);
+        }
+        text.push(b'\n');
+    }
+    text
+}

@@ -1,0 +1,252 @@
+//! Damage to files: to their frames (refusals 4 to 7 and further) and to
+//! their texts (1 to 3).
+
+use super::random::Random;
+use crate::frame::{kind, Frame};
+use crate::place::{HOME, PRIVATE, SCHEDULERS};
+use crate::text::{DIGIT_BYTES, LINE, PROGRAM_LIMIT};
+
+const TYPE_WORDS: [u16; 14] = [
+    0x0000, 0x0001, 0x0002, 0x0003, 0x0020, 0x0021, 0x0041, 0x0111, 0x0121, 0x0201, 0x0211, 0x0321,
+    0x2221, 0x00A1,
+];
+
+/// The frames with one change, often a fatal one.
+pub fn frames(random: &mut Random, mut frames: Vec<Frame>) -> Vec<Frame> {
+    let at = random.below(frames.len());
+    match random.below(27) {
+        0 | 1 => header(random, &mut frames[0]),
+        2 => frames[at].kind = random.byte(),
+        3 => frames[at].s = random.byte(),
+        4 => set_field(random, &mut frames[at]),
+        5 => type_word(random, &mut frames),
+        6 => place(random, &mut frames),
+        7 => first_content(random, &mut frames),
+        8 => second_argument_alone(random, &mut frames),
+        9 => frames.insert(at.max(1), Frame::default()),
+        10 => more_shared_cells(random, &mut frames),
+        11 => more_modules(random, &mut frames),
+        12 => swap(random, &mut frames),
+        13 => drop(frames.remove(at)),
+        14 => frames.insert(at.max(1), leaf(random)),
+        15 => child(random, &mut frames),
+        16 => frames.truncate(at.max(1)),
+        17 => main_with_parameter(&mut frames),
+        18 => shared_cell_late(random, &mut frames),
+        19 => swap_children(&mut frames[at]),
+        20..=22 => other_place(random, &mut frames),
+        _ => just_outside(random, &mut frames),
+    }
+    if frames.is_empty() {
+        frames.push(Frame::default());
+    }
+    frames
+}
+
+fn header(random: &mut Random, header: &mut Frame) {
+    match random.below(5) {
+        0 => header.kind = random.place(0, 2),
+        1 => header.s = random.place(0, 2),
+        2 => header.b = random.below(12) as u16,
+        3 => header.c = 1,
+        _ => header.a = random.word(),
+    }
+}
+
+fn set_field(random: &mut Random, frame: &mut Frame) {
+    let value = match random.chance(2) {
+        true => random.below(8) as u16,
+        false => random.word(),
+    };
+    *field(random, frame) = value;
+}
+
+fn field<'f>(random: &mut Random, frame: &'f mut Frame) -> &'f mut u16 {
+    match random.below(3) {
+        0 => &mut frame.a,
+        1 => &mut frame.b,
+        _ => &mut frame.c,
+    }
+}
+
+/// Some frame of one of the kinds.
+fn of_kind<'f>(
+    random: &mut Random,
+    frames: &'f mut [Frame],
+    kinds: &[u8],
+) -> Option<&'f mut Frame> {
+    let fitting: Vec<usize> = (0..frames.len())
+        .filter(|&f| kinds.contains(&frames[f].kind))
+        .collect();
+    random.pick(&fitting).map(|f| &mut frames[f])
+}
+
+fn type_word(random: &mut Random, frames: &mut [Frame]) {
+    let word = TYPE_WORDS[random.below(TYPE_WORDS.len())];
+    match of_kind(random, frames, &[kind::SHARED_CELL, kind::MODULE]) {
+        Some(frame) if frame.kind == kind::SHARED_CELL => frame.a = word,
+        Some(frame) => {
+            frame.s = frame.s.max(1);
+            frame.b = word;
+        }
+        None => {}
+    }
+}
+
+fn place(random: &mut Random, frames: &mut [Frame]) {
+    let place = random.place(0, PRIVATE + SCHEDULERS + 1);
+    let kinds = [kind::AT_PLACE, kind::NEW_CELL, kind::SHARED_CELL];
+    if let Some(frame) = of_kind(random, frames, &kinds) {
+        frame.s = place;
+    }
+}
+
+/// A place of the file, half the time the private one: the layout stays good.
+fn other_place(random: &mut Random, frames: &mut [Frame]) {
+    let last = PRIVATE + frames[0].b as u8;
+    let place = match random.chance(2) {
+        true => PRIVATE,
+        false => random.place(HOME, last),
+    };
+    if let Some(frame) = of_kind(random, frames, &[kind::AT_PLACE, kind::NEW_CELL]) {
+        frame.s = place;
+    }
+}
+
+/// S of a declaration or a constant, at the first number that is too low or
+/// too high.
+fn just_outside(random: &mut Random, frames: &mut [Frame]) {
+    let beyond = PRIVATE + frames[0].b as u8 + 1;
+    let low = random.chance(2);
+    let kinds = [
+        kind::SHARED_CELL,
+        kind::MODULE,
+        kind::TRUTH,
+        kind::AT_PLACE,
+        kind::NEW_CELL,
+    ];
+    let chosen = kinds[random.below(kinds.len())];
+    if let Some(frame) = of_kind(random, frames, &[chosen]) {
+        frame.s = match chosen {
+            kind::SHARED_CELL if low => PRIVATE,
+            kind::MODULE => 3,
+            kind::TRUTH => 2,
+            _ if low => 0,
+            _ => beyond,
+        };
+    }
+}
+
+fn first_content(random: &mut Random, frames: &mut [Frame]) {
+    let first = random.below(18) as u16;
+    if let Some(frame) = of_kind(random, frames, &[kind::SHARED_CELL]) {
+        frame.b = first;
+    }
+}
+
+fn second_argument_alone(random: &mut Random, frames: &mut [Frame]) {
+    if let Some(frame) = of_kind(random, frames, &[kind::START, kind::START_AND_WAIT]) {
+        frame.b = frame.a.max(frame.b).max(1);
+        frame.a = 0;
+    }
+}
+
+/// In front of all others, so numbers and order are wrong as well.
+fn more_shared_cells(random: &mut Random, frames: &mut Vec<Frame>) {
+    for _ in 0..random.between(1, 17) {
+        frames.insert(1, shared_cell());
+    }
+}
+
+fn shared_cell() -> Frame {
+    Frame {
+        kind: kind::SHARED_CELL,
+        s: HOME,
+        a: 1,
+        ..Frame::default()
+    }
+}
+
+/// Behind all others, well formed; the 17th is one too many.
+fn more_modules(random: &mut Random, frames: &mut Vec<Frame>) {
+    for _ in 0..random.between(12, 17) {
+        frames.push(Frame {
+            kind: kind::NOTHING,
+            ..Frame::default()
+        });
+        frames.push(Frame {
+            kind: kind::MODULE,
+            a: (frames.len() - 1) as u16,
+            ..Frame::default()
+        });
+    }
+}
+
+fn swap(random: &mut Random, frames: &mut [Frame]) {
+    let at = random.below(frames.len());
+    let other = match random.chance(2) {
+        true => random.below(frames.len()),
+        false => (at + 1).min(frames.len() - 1),
+    };
+    frames.swap(at, other);
+}
+
+fn leaf(random: &mut Random) -> Frame {
+    let kinds = [kind::NOTHING, kind::COOPERATE, kind::NUMBER, kind::TRUTH];
+    Frame {
+        kind: kinds[random.below(kinds.len())],
+        ..Frame::default()
+    }
+}
+
+/// Another number in a child's field: near, far or past the end.
+fn child(random: &mut Random, frames: &mut [Frame]) {
+    let at = random.below(frames.len());
+    let number = random.below(frames.len() + 3) as u16;
+    let near = at.saturating_sub(random.below(4)) as u16;
+    let number = random.pick(&[number, near, 0]).unwrap_or(0);
+    *field(random, &mut frames[at]) = number;
+}
+
+fn main_with_parameter(frames: &mut [Frame]) {
+    if let Some(main) = frames.last_mut() {
+        main.s = 1;
+        main.b = 1;
+    }
+}
+
+fn shared_cell_late(random: &mut Random, frames: &mut Vec<Frame>) {
+    let at = random.between(1, frames.len());
+    frames.insert(at, shared_cell());
+}
+
+fn swap_children(frame: &mut Frame) {
+    (frame.a, frame.b) = (frame.b, frame.a);
+}
+
+/// Changes bytes or the length of a text that has at least one line.
+pub fn text(random: &mut Random, text: &mut Vec<u8>) {
+    let at = random.below(text.len());
+    match random.below(10) {
+        0 => text.clear(),
+        1 => too_long(random, text),
+        2 => text.truncate(at),
+        3 => text.truncate(text.len() - 1),
+        4 => text.push(b'\n'),
+        5 => text.insert(at, b'0'),
+        6 => text[at] = random.pick(b"af\r\n \tgG:@/").unwrap_or(0),
+        7 => text[at] = random.byte(),
+        8 => text[at] = DIGIT_BYTES[random.below(16)],
+        _ => drop(text.remove(at)),
+    }
+}
+
+/// One byte or one line over the limit, or far over it.
+fn too_long(random: &mut Random, text: &mut Vec<u8>) {
+    let length = PROGRAM_LIMIT + [0, 1, LINE, 40_000][random.below(4)];
+    let line = text[..LINE].to_vec();
+    while text.len() < length {
+        text.extend_from_slice(&line);
+    }
+    text.truncate(length);
+}

@@ -1,0 +1,155 @@
+//! Outlines of files for the builder.
+
+use super::random::Random;
+use crate::layout::{DECLARATIONS, DEPTH};
+
+/// A rule that the builder breaks now and then.
+#[derive(Clone, Copy, PartialEq, Eq, Debug)]
+pub enum Slip {
+    MissingVariable,
+    MissingSharedCell,
+    ModuleBelow,
+    Arguments,
+    StoredType,
+    Operand,
+    FourthCell,
+    SharedCellDepth,
+    PrivateContent,
+    PrivateArgument,
+    StartEffect,
+    NewCellEffect,
+    ContentEffect,
+    StoreEffect,
+    PlaceEffect,
+    MainEffect,
+    WhileUnlinked,
+    LoopBody,
+}
+
+const SLIPS: [Slip; 18] = [
+    Slip::MissingVariable,
+    Slip::MissingSharedCell,
+    Slip::ModuleBelow,
+    Slip::Arguments,
+    Slip::StoredType,
+    Slip::Operand,
+    Slip::FourthCell,
+    Slip::SharedCellDepth,
+    Slip::PrivateContent,
+    Slip::PrivateArgument,
+    Slip::StartEffect,
+    Slip::NewCellEffect,
+    Slip::ContentEffect,
+    Slip::StoreEffect,
+    Slip::PlaceEffect,
+    Slip::MainEffect,
+    Slip::WhileUnlinked,
+    Slip::LoopBody,
+];
+
+/// Slips that can meet in one frame or one step.
+const PAIRS: [[Slip; 2]; 9] = [
+    [Slip::WhileUnlinked, Slip::Arguments],
+    [Slip::WhileUnlinked, Slip::PrivateArgument],
+    [Slip::WhileUnlinked, Slip::ModuleBelow],
+    [Slip::WhileUnlinked, Slip::PlaceEffect],
+    [Slip::Arguments, Slip::PrivateArgument],
+    [Slip::PrivateContent, Slip::FourthCell],
+    [Slip::Operand, Slip::LoopBody],
+    [Slip::Operand, Slip::ContentEffect],
+    [Slip::StoredType, Slip::StoreEffect],
+];
+
+impl Slip {
+    /// One, or a pair, which shows the refusal that comes first.
+    fn some(random: &mut Random) -> Vec<Slip> {
+        match random.chance(2) {
+            true => PAIRS[random.below(PAIRS.len())].to_vec(),
+            false => vec![SLIPS[random.below(SLIPS.len())]],
+        }
+    }
+}
+
+/// The outline of a file.
+pub struct Plan {
+    pub schedulers: u8,
+    pub shared_cells: usize,
+    /// Besides `main`.
+    pub modules: usize,
+    /// Frames after which only leaves are added.
+    pub size: usize,
+    pub depth: u16,
+    /// Prefers frames with one statement below them, to reach the depth.
+    pub chain: bool,
+    pub slips: Vec<Slip>,
+}
+
+impl Plan {
+    pub fn small(random: &mut Random) -> Plan {
+        Plan {
+            schedulers: random.between(1, 3) as u8,
+            shared_cells: random.below(5),
+            modules: random.below(4),
+            size: random.between(5, 60),
+            depth: random.between(2, 9) as u16,
+            chain: false,
+            slips: Vec::new(),
+        }
+    }
+
+    pub fn random(random: &mut Random) -> Plan {
+        let small = Plan::small(random);
+        match random.below(40) {
+            0..=3 => Plan {
+                schedulers: random.between(1, 8) as u8,
+                shared_cells: random.below(17),
+                modules: random.below(16),
+                size: random.between(60, 200),
+                ..small
+            },
+            4 => Plan {
+                size: random.between(200, 700),
+                depth: DEPTH,
+                ..small
+            },
+            5..=6 => Plan {
+                depth: DEPTH,
+                chain: true,
+                ..small
+            },
+            _ => small,
+        }
+    }
+
+    /// Has cells, modules and depth enough for a fault to find its place.
+    pub fn roomy(random: &mut Random) -> Plan {
+        Plan {
+            schedulers: random.between(2, 4) as u8,
+            shared_cells: random.between(1, 5),
+            modules: random.between(1, 4),
+            size: random.between(20, 100),
+            depth: random.between(4, 10) as u16,
+            chain: false,
+            slips: Vec::new(),
+        }
+    }
+
+    pub fn slipping(random: &mut Random) -> Plan {
+        let mut plan = Plan::roomy(random);
+        plan.slips = Slip::some(random);
+        if plan.slips.contains(&Slip::SharedCellDepth) {
+            // Only a row of cells, each in the next, gets that deep.
+            plan.shared_cells = DECLARATIONS;
+        }
+        plan
+    }
+
+    /// A chain that may pass the greatest depth.
+    pub fn deep(random: &mut Random) -> Plan {
+        Plan {
+            depth: DEPTH + random.below(6) as u16,
+            chain: true,
+            ..Plan::small(random)
+        }
+    }
+}

@@ -1,0 +1,22 @@
+//! The second program: an independent checker and stepper of document 01.
+//!
+//! It shares no line with the proved implementation and serves as its test
+//! oracle and speed baseline. The path of a file through the modules is
+//! `text`, `layout`, `rules`, then `state`, `step` and `listing`.
+#![forbid(unsafe_code)]
+
+pub mod effect;
+pub mod evaluate;
+pub mod frame;
+pub mod generate;
+pub mod layout;
+pub mod listing;
+pub mod place;
+pub mod property;
+pub mod rules;
+pub mod state;
+pub mod step;
+pub mod tally;
+pub mod text;
+pub mod types;
+pub mod verdict;

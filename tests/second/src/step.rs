@@ -1,0 +1,275 @@
+//! The stepper: one choice at a time, answers 0 and 15 to 20.
+
+use crate::evaluate::{Access, Actor, Evaluator, Fault, Observer};
+use crate::frame::{kind, Frame};
+use crate::layout::Program;
+use crate::place::{thread_of, PRIVATE};
+use crate::state::{Entry, Item, Scheduler, State, Thread, Value, THREADS};
+
+/// What a choice came to.
+#[derive(Clone, Copy, PartialEq, Eq, Debug)]
+pub struct Outcome {
+    /// 0 done, 15 no such party, 16 nothing, 17 to 20 refused while running.
+    pub answer: u8,
+    /// The acting thread, 0 if none.
+    pub thread: u8,
+}
+
+impl Outcome {
+    const NO_SUCH_PARTY: Outcome = Outcome::without_thread(15);
+    const NOTHING: Outcome = Outcome::without_thread(16);
+    const INSTANT_ENDED: Outcome = Outcome::without_thread(0);
+
+    const fn without_thread(answer: u8) -> Outcome {
+        Outcome { answer, thread: 0 }
+    }
+}
+
+impl State {
+    /// Takes one choice. A refused one leaves the state as it was.
+    pub fn step<O: Observer>(&mut self, program: &Program, party: u8, observer: &mut O) -> Outcome {
+        if let Some(index) = self.scheduler_index(party) {
+            match self.schedulers[index].active.front() {
+                Some(&thread) => self.step_thread(program, thread, observer),
+                None => self.end_instant(index),
+            }
+        } else {
+            match thread_of(party).filter(|&thread| self.is_unlinked(thread)) {
+                Some(thread) => self.step_thread(program, thread, observer),
+                None => Outcome::NO_SUCH_PARTY,
+            }
+        }
+    }
+
+    fn is_unlinked(&self, thread: u8) -> bool {
+        let known = self.threads.get(usize::from(thread) - 1);
+        known.is_some_and(Thread::is_unlinked)
+    }
+
+    /// Ready entries of the next list become active, waiting ones stay.
+    fn end_instant(&mut self, index: usize) -> Outcome {
+        let threads = &self.threads;
+        let Scheduler { active, next } = &mut self.schedulers[index];
+        next.retain(|entry| {
+            let waits = entry
+                .awaits
+                .is_some_and(|awaited| threads[usize::from(awaited) - 1].unfinished > 0);
+            if !waits {
+                active.push_back(entry.thread);
+            }
+            waits
+        });
+        if active.is_empty() {
+            Outcome::NOTHING
+        } else {
+            Outcome::INSTANT_ENDED
+        }
+    }
+
+    fn step_thread<O: Observer>(
+        &mut self,
+        program: &Program,
+        thread: u8,
+        observer: &mut O,
+    ) -> Outcome {
+        let cells = self.cells.len();
+        let answer = match self.take_item(program, thread, observer) {
+            Ok(()) => 0,
+            Err(fault) => {
+                // Takes back the cells made; nothing else was changed yet.
+                self.cells.truncate(cells);
+                fault.number()
+            }
+        };
+        Outcome { answer, thread }
+    }
+
+    fn take_item<O: Observer>(
+        &mut self,
+        program: &Program,
+        thread: u8,
+        observer: &mut O,
+    ) -> Result<(), Fault> {
+        match self.thread(thread).continuation.last() {
+            None => self.end(thread),
+            Some(&Item::Back(place)) => {
+                self.replace(thread, &[]);
+                self.go(thread, place);
+            }
+            Some(Item::Drop) => {
+                self.replace(thread, &[]);
+                self.thread_mut(thread).variables.pop();
+            }
+            Some(&Item::Run(f)) => self.run(program, thread, f, observer)?,
+        }
+        Ok(())
+    }
+
+    /// Puts items, the next one last, where the thread's top item was.
+    fn replace(&mut self, thread: u8, items: &[Item]) {
+        let continuation = &mut self.thread_mut(thread).continuation;
+        continuation.pop();
+        continuation.extend_from_slice(items);
+    }
+
+    fn end(&mut self, thread: u8) {
+        self.leave(thread);
+        let ended = self.thread_mut(thread);
+        ended.ended = true;
+        ended.unfinished -= 1;
+        if let Some(starter) = ended.starter {
+            self.thread_mut(starter).unfinished -= 1;
+        }
+    }
+
+    /// Takes the acting thread, which is the first, off its active list.
+    fn leave(&mut self, thread: u8) {
+        let place = self.thread(thread).place;
+        if let Some(index) = self.scheduler_index(place) {
+            self.schedulers[index].active.pop_front();
+        }
+    }
+
+    fn append(&mut self, place: u8, entry: Entry) {
+        if let Some(index) = self.scheduler_index(place) {
+            self.schedulers[index].next.push(entry);
+        }
+    }
+
+    /// Going to one's own place is no move.
+    fn go(&mut self, thread: u8, place: u8) {
+        if self.thread(thread).place != place {
+            self.requeue(thread, place, None);
+        }
+    }
+
+    /// To the end of that next list; an unlinked thread is in no list.
+    fn requeue(&mut self, thread: u8, place: u8, awaits: Option<u8>) {
+        self.leave(thread);
+        self.thread_mut(thread).place = place;
+        self.append(place, Entry { thread, awaits });
+    }
+
+    fn run<O: Observer>(
+        &mut self,
+        program: &Program,
+        thread: u8,
+        f: u16,
+        observer: &mut O,
+    ) -> Result<(), Fault> {
+        let frame = &program.frames[usize::from(f)];
+        let acting = &self.threads[usize::from(thread) - 1];
+        let place = acting.place;
+        let mut evaluator = Evaluator {
+            program,
+            cells: &mut self.cells,
+            variables: &acting.variables,
+            actor: Actor { thread, place },
+            observer,
+        };
+        match frame.kind {
+            kind::NOTHING => self.replace(thread, &[]),
+            kind::SEQUENCE => self.replace(thread, &[Item::Run(frame.b), Item::Run(frame.a)]),
+            kind::AT_PLACE => {
+                if frame.s == PRIVATE {
+                    linked(place)?;
+                }
+                self.replace(thread, &[Item::Back(place), Item::Run(frame.a)]);
+                self.go(thread, frame.s);
+            }
+            kind::START | kind::START_AND_WAIT => {
+                let arguments = arguments(&mut evaluator, frame)?;
+                linked(place)?;
+                self.start(program, thread, frame, arguments)?;
+            }
+            kind::COOPERATE => {
+                linked(place)?;
+                self.replace(thread, &[]);
+                self.requeue(thread, place, None);
+            }
+            kind::LET => {
+                let value = evaluator.value(frame.a)?;
+                self.replace(thread, &[Item::Drop, Item::Run(frame.b)]);
+                self.thread_mut(thread).variables.push(value);
+            }
+            kind::STORE => {
+                store(&mut evaluator, frame)?;
+                self.replace(thread, &[]);
+            }
+            kind::IF => {
+                let truth = evaluator.condition(frame.a)?;
+                let branch = if truth { frame.b } else { frame.c };
+                self.replace(thread, &[Item::Run(branch)]);
+            }
+            _ => {
+                // The loop stays whole: its body goes above it.
+                if evaluator.condition(frame.a)? {
+                    self.replace(thread, &[Item::Run(f), Item::Run(frame.b)]);
+                } else {
+                    self.replace(thread, &[]);
+                }
+            }
+        }
+        Ok(())
+    }
+
+    fn start(
+        &mut self,
+        program: &Program,
+        thread: u8,
+        frame: &Frame,
+        arguments: Vec<Value>,
+    ) -> Result<(), Fault> {
+        let module = program
+            .module(usize::from(frame.s))
+            .filter(|module| usize::from(module.s) == arguments.len())
+            .ok_or(Fault::Stuck)?;
+        if self.threads.len() == THREADS {
+            return Err(Fault::ThreadsSpent);
+        }
+        let place = self.thread(thread).place;
+        let started = Thread::new(module, arguments, place, Some(thread));
+        self.threads.push(started);
+        let number = self.threads.len() as u8;
+        self.thread_mut(thread).unfinished += 1;
+        let entry = Entry {
+            thread: number,
+            awaits: None,
+        };
+        self.append(place, entry);
+        self.replace(thread, &[]);
+        if frame.kind == kind::START_AND_WAIT {
+            self.requeue(thread, place, Some(number));
+        }
+        Ok(())
+    }
+}
+
+/// Refusal 12's condition, met when running.
+fn linked(place: u8) -> Result<(), Fault> {
+    if place == PRIVATE {
+        Err(Fault::Stuck)
+    } else {
+        Ok(())
+    }
+}
+
+fn arguments<O: Observer>(
+    evaluator: &mut Evaluator<O>,
+    frame: &Frame,
+) -> Result<Vec<Value>, Fault> {
+    let mut values = Vec::with_capacity(frame.argument_count());
+    for child in frame.children() {
+        values.push(evaluator.value(child)?);
+    }
+    Ok(values)
+}
+
+/// Both operands run, then the cell is tested, then it takes the value.
+fn store<O: Observer>(evaluator: &mut Evaluator<O>, frame: &Frame) -> Result<(), Fault> {
+    let cell = evaluator.value(frame.a)?;
+    let value = evaluator.value(frame.b)?;
+    let number = evaluator.accessed(cell, Access::Store)?;
+    evaluator.cells[number].content = value;
+    Ok(())
+}

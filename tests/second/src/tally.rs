@@ -1,0 +1,67 @@
+//! Counts of verdicts and answers over many cases, read off their listings.
+
+use std::fmt;
+
+use crate::text;
+
+#[derive(Default)]
+pub struct Tally {
+    pub cases: u64,
+    /// By the number on the check's line.
+    pub verdicts: [u64; 14],
+    /// By answer, over the choices of all runs.
+    pub answers: [u64; 21],
+    /// Runs whose list of choices was refused, with 2 and with 3.
+    pub lists_refused: [u64; 2],
+}
+
+/// The answers that a run can give.
+const ANSWERS: [usize; 7] = [0, 15, 16, 17, 18, 19, 20];
+
+impl Tally {
+    /// Adds the listing of one case's `run`.
+    pub fn add(&mut self, run: &[u8]) {
+        self.cases += 1;
+        let mut lines = run.split(|&byte| byte == b'\n');
+        let verdict = lines.next().map_or(0, |line| hexadecimal(&line[..2]));
+        self.verdicts[verdict] += 1;
+        for line in lines {
+            match line.len() {
+                7 => self.lists_refused[hexadecimal(&line[..2]) - 2] += 1,
+                13 => self.answers[hexadecimal(&line[3..5])] += 1,
+                _ => {}
+            }
+        }
+    }
+
+    /// Did every verdict 0 to 13 and every answer 0, 15 to 20 occur?
+    pub fn is_complete(&self) -> bool {
+        self.verdicts.iter().all(|&count| count > 0)
+            && ANSWERS.iter().all(|&answer| self.answers[answer] > 0)
+    }
+}
+
+fn hexadecimal(digits: &[u8]) -> usize {
+    digits
+        .iter()
+        .map(|byte| text::DIGIT_BYTES.iter().position(|digit| digit == byte))
+        .fold(0, |number, digit| number * 16 + digit.unwrap_or(0))
+}
+
+impl fmt::Display for Tally {
+    fn fmt(&self, f: &mut fmt::Formatter) -> fmt::Result {
+        writeln!(f, "cases {}", self.cases)?;
+        write!(f, "verdicts")?;
+        for (number, count) in self.verdicts.iter().enumerate() {
+            write!(f, " {number}:{count}")?;
+        }
+        write!(f, "\nanswers")?;
+        for answer in ANSWERS {
+            write!(f, " {answer}:{}", self.answers[answer])?;
+        }
+        let [long, malformed] = self.lists_refused;
+        writeln!(f, "\nchoice lists refused 2:{long} 3:{malformed}")?;
+        let share = 100.0 * self.verdicts[0] as f64 / self.cases.max(1) as f64;
+        write!(f, "accepted {share:.1} % of the files")
+    }
+}

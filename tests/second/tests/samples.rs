@@ -1,0 +1,242 @@
+//! The bench samples that 01 prints, and the traps that it names.
+
+use second::listing;
+
+fn lines(frames: &[&str]) -> Vec<u8> {
+    (frames.join("\n") + "\n").into_bytes()
+}
+
+fn check(frames: &[&str]) -> String {
+    String::from_utf8(listing::check(&lines(frames))).unwrap()
+}
+
+fn run(frames: &[&str], choices: &[&str]) -> String {
+    let choices = match choices {
+        [] => Vec::new(),
+        _ => lines(choices),
+    };
+    String::from_utf8(listing::run(&lines(frames), &choices)).unwrap()
+}
+
+const CASE_R: [&str; 9] = [
+    "0001000000020000",
+    "0102000100000000",
+    "2300000000000000",
+    "2000000100000000",
+    "1700000200030000",
+    "0200000400000000",
+    "1300000000000000",
+    "1203000600000000",
+    "0200000700000000",
+];
+
+#[test]
+fn case_r() {
+    let expected = "0B 0007\n02 00 01 0001\n03 00 00 0001\n03 00 01 0001\n03 00 01 0001\n\
+                    03 00 00 0001\n03 13 02 0001\n0006\n";
+    assert_eq!(
+        run(&CASE_R, &["02", "03", "03", "03", "03", "03"]),
+        expected
+    );
+    let mut at_home = CASE_R;
+    at_home[7] = "1202000600000000";
+    assert_eq!(check(&at_home), "00 0000\n");
+}
+
+#[test]
+fn type_words_of_a_parameter() {
+    let with = |word: &str| {
+        let module = format!("02010001{word}0000");
+        check(&[
+            "0001000000020000",
+            "1000000000000000",
+            &module,
+            "1000000000000000",
+            "0200000300000000",
+        ])
+    };
+    for word in ["0001", "0021", "0121", "0321"] {
+        assert_eq!(with(word), "00 0000\n", "{word}");
+    }
+    for word in ["0211", "0201", "0020", "0003", "0041"] {
+        assert_eq!(with(word), "05 0002\n", "{word}");
+    }
+}
+
+#[test]
+fn nothing_runs_to_its_end() {
+    let frames = ["0001000000010000", "1000000000000000", "0200000100000000"];
+    let expected = "00 0000\n02 00 01 0000\n02 00 01 0000\n02 10 00 0000\n0003\n";
+    assert_eq!(run(&frames, &["02", "02", "02"]), expected);
+    assert_eq!(run(&frames, &[]), "00 0000\n0000\n");
+}
+
+#[test]
+fn loop_bodies() {
+    let with = |body: &str| {
+        check(&[
+            "0001000000010000",
+            "2101000000000000",
+            body,
+            "1900000100020000",
+            "0200000300000000",
+        ])
+    };
+    assert_eq!(with("1000000000000000"), "0D 0003\n");
+    assert_eq!(with("1500000000000000"), "00 0000\n");
+}
+
+/// `do` at place 2, over and over, until the leaf stands at this depth.
+fn nested(depth: usize) -> String {
+    let mut frames = vec![
+        "0001000000010000".to_string(),
+        "10".to_string() + &"0".repeat(14),
+    ];
+    for child in 1..depth {
+        frames.push(format!("1202{child:04X}00000000"));
+    }
+    frames.push(format!("0200{depth:04X}00000000"));
+    let frames: Vec<&str> = frames.iter().map(String::as_str).collect();
+    check(&frames)
+}
+
+#[test]
+fn depth_24_and_25() {
+    assert_eq!(nested(24), "00 0000\n");
+    assert_eq!(nested(25), "07 0001\n");
+}
+
+#[test]
+fn leftover_and_swapped_children() {
+    let nothing = "1000000000000000";
+    let leftover = [
+        "0001000000010000",
+        nothing,
+        nothing,
+        "1202000100000000",
+        "0200000300000000",
+    ];
+    assert_eq!(check(&leftover), "06 0002\n");
+    let swapped = [
+        "0001000000010000",
+        nothing,
+        nothing,
+        "1100000200010000",
+        "0200000300000000",
+    ];
+    assert_eq!(check(&swapped), "06 0003\n");
+    assert_eq!(check(&["0001000000010000"]), "06 0000\n");
+}
+
+/// A move to one's own place is none, and "back" is a step of its own.
+#[test]
+fn at_ones_own_place() {
+    let frames = [
+        "0001000000010000",
+        "1000000000000000",
+        "1202000100000000",
+        "0200000200000000",
+    ];
+    let expected = "00 0000\n02 00 01 0000\n02 00 01 0000\n02 00 01 0000\n02 00 01 0000\n\
+                    02 10 00 0000\n0005\n";
+    assert_eq!(run(&frames, &["02"; 5]), expected);
+}
+
+/// A refused step takes back the cells that it made.
+#[test]
+fn refused_steps_make_no_cells() {
+    let frames = [
+        "0001000000010000",
+        "2000000100000000",
+        "2401000100000000",
+        "2100000000000000",
+        "2600000200030000",
+        "1000000000000000",
+        "1600000400050000",
+        "0200000600000000",
+    ];
+    assert_eq!(
+        run(&frames, &["02", "02"]),
+        "09 0004\n02 14 01 0000\n02 14 01 0000\n0002\n"
+    );
+}
+
+/// Kinds are tested after all operands have run: the foreign read comes first.
+#[test]
+fn operands_run_before_kinds_are_tested() {
+    let frames = [
+        "0001000000020000",
+        "0103000100000000",
+        "2100000000000000",
+        "2300000000000000",
+        "2500000300000000",
+        "2600000200040000",
+        "1000000000000000",
+        "1600000500060000",
+        "0200000700000000",
+    ];
+    assert_eq!(run(&frames, &["02"]), "09 0005\n02 13 01 0001\n0001\n");
+}
+
+#[test]
+fn lists_of_choices_are_judged_whole() {
+    let program = lines(&["0001000100010000", "1000000000000000", "0200000100000000"]);
+    let run = |choices: &[u8]| String::from_utf8(listing::run(&program, choices)).unwrap();
+    assert_eq!(run(b"02\n02\n"), "00 0000\n02 00 01 0000\n0001\n");
+    assert_eq!(run(b"02\n02\n0g\n"), "00 0000\n03 0002\n");
+    assert_eq!(run(b"02\n02"), "00 0000\n03 0001\n");
+    assert_eq!(run(&b"02\n".repeat(16_385)), "00 0000\n02 0000\n");
+}
+
+/// The lines of a run as choice, answer, thread and cells.
+fn long_run(program: &[u8]) -> Vec<Vec<String>> {
+    let listing = listing::run(program, &b"02\n".repeat(3000));
+    let text = String::from_utf8(listing).unwrap();
+    let fields = text
+        .lines()
+        .map(|line| line.split(' ').map(String::from).collect());
+    fields
+        .filter(|line: &Vec<String>| line.len() == 4)
+        .collect()
+}
+
+#[test]
+fn cell_256_is_made_and_257_is_not() {
+    let program = lines(&[
+        "0001000000010000",
+        "2101000000000000",
+        "2000000000000000",
+        "2401000200000000",
+        "1500000000000000",
+        "1600000300040000",
+        "1900000100050000",
+        "0200000600000000",
+    ]);
+    assert_eq!(listing::check(&program), b"00 0000\n");
+    let run = long_run(&program);
+    let full = run.iter().position(|line| line[3] == "0100").unwrap();
+    assert!(run[..=full].iter().all(|line| line[1] == "00"));
+    assert!(run[full..].iter().all(|line| line[3] == "0100"));
+    let refused = run.iter().position(|line| line[1] != "00").unwrap();
+    assert!(run[refused..].iter().all(|line| line[1] == "11"));
+}
+
+#[test]
+fn thread_64_starts_and_65_does_not() {
+    let program = lines(&[
+        "0001000000010000",
+        "1000000000000000",
+        "0200000100000000",
+        "2101000000000000",
+        "1300000000000000",
+        "1500000000000000",
+        "1100000400050000",
+        "1900000300060000",
+        "0200000700000000",
+    ]);
+    assert_eq!(listing::check(&program), b"00 0000\n");
+    let run = long_run(&program);
+    let refused = run.iter().position(|line| line[1] != "00").unwrap();
+    assert!(run[..refused].iter().any(|line| line[2] == "40"));
+    assert!(run[refused..].iter().all(|line| line[1..3] == ["12", "01"]));
+}
