@@ -1,0 +1,109 @@
+-- What `check` and `run` print, as bytes. Assumes nothing: definitions.
+use mathlib.Core.List.{List, [], _∷_, _++_}
+use mathlib.Core.Bool.{Bool, true, false, _&&_}
+use Prim.Native.Nat.{ℕ, suc, _+_, _*_, _/_, _%_, min}
+use lib.Dec.{ltb, leb, eqb}
+use lib.ListN.{length, take}
+use Rattle.basics.specs.If.{if_then_else_}
+use Rattle.language.specs.declared.frame.Frame.{Frame}
+use Rattle.language.specs.declared.verdict.Verdict.{Verdict}
+use Rattle.language.specs.declared.verdict.Verdict.the-variants.{Accepted, Rejected}
+use Rattle.program.specs.Programs.{Program, programOf}
+use Rattle.text.specs.Digits.{digit}
+use Rattle.machine.specs.Turns.{Stepped}
+use Rattle.machine.specs.Runs.{steps}
+
+-- ---- numbers in digits
+
+-- the byte of a hexadecimal digit of value n, 0 to 15
+unfoldable pub digitByte : ℕ → ℕ
+digitByte n = if ltb n 10 then 48 + n else 55 + n
+
+abbrev pub twoDigits : ℕ → List ℕ
+twoDigits n = digitByte (n / 16 % 16) ∷ digitByte (n % 16) ∷ []
+
+abbrev pub fourDigits : ℕ → List ℕ
+fourDigits n = twoDigits (n / 256) ++ twoDigits n
+
+abbrev space : ℕ
+space = 32
+
+abbrev lineFeed : ℕ
+lineFeed = 10
+
+-- ---- the check's line
+
+-- 'number and frame (hexadecimal, 2 and 4 digits)'
+abbrev pub refusalLine : ℕ → ℕ → List ℕ
+refusalLine n i = twoDigits n ++ space ∷ fourDigits i ++ lineFeed ∷ []
+
+-- what `check` prints of a text with that verdict: 'accepted is `00 0000`'
+abbrev pub checkLine : Verdict → List ℕ
+checkLine Accepted = refusalLine 0 0
+checkLine (Rejected n i) = refusalLine n i
+
+-- '`run` prints that line, then after 1 to 7 stops.'
+abbrev pub stops : Verdict → Bool
+stops Accepted = false
+stops (Rejected n i) = leb n 7
+
+-- ---- choices.txt
+
+-- the choices, or the line of 'the first malformed one'
+pub data Choices : Type 0 where
+  choices : List ℕ → Choices
+  malformed : ℕ → Choices
+
+abbrev pub alsoChoice : ℕ → Choices → Choices
+alsoChoice c (choices cs) = choices (c ∷ cs)
+alsoChoice c (malformed k) = malformed k
+
+-- 'two digits and a line feed each'
+unfoldable pub isChoice : ℕ → ℕ → ℕ → Bool
+isChoice a b c = ltb (digit a) 16 && ltb (digit b) 16 && eqb c lineFeed
+
+-- what those bytes say, from line k on: 'its line, from 0'
+unfoldable pub choicesFrom : ℕ → List ℕ → Choices
+choicesFrom k [] = choices []
+choicesFrom k (a ∷ []) = malformed k
+choicesFrom k (a ∷ b ∷ []) = malformed k
+choicesFrom k (a ∷ b ∷ c ∷ rest) =
+    elim (isChoice a b c) [ true ↦ alsoChoice (16 * digit a + digit b) (choicesFrom (suc k) rest) | false ↦ malformed k ]
+
+-- ---- the run
+
+-- 'Per choice: choice, answer, acting thread (00 if none ..), cells in use, as 2, 2, 2 and 4 hexadecimal digits'
+unfoldable pub choiceLine : ℕ → Stepped → List ℕ
+choiceLine c r =
+    twoDigits c
+    ++ space ∷ twoDigits (r .answer)
+    ++ space ∷ twoDigits (r .thread)
+    ++ space ∷ fourDigits (length (r .state .cells))
+    ++ lineFeed ∷ []
+
+unfoldable pub choiceLines : List ℕ → List Stepped → List ℕ
+choiceLines [] rs = []
+choiceLines (c ∷ cs) [] = []
+choiceLines (c ∷ cs) (r ∷ rs) = choiceLine c r ++ choiceLines cs rs
+
+-- 'choices used, which is the smaller of the list's length and the allowance'
+abbrev pub usedOf : Program → List ℕ → ℕ
+usedOf p cs = min (length cs) (p .allowance)
+
+-- a line for each choice used, and 'Last: choices used', in 4 digits
+unfoldable pub runLines : Program → List ℕ → List ℕ
+runLines p cs =
+    let used = usedOf p cs in
+    choiceLines (take used cs) (steps p (take used cs)) ++ fourDigits used ++ lineFeed ∷ []
+
+abbrev pub linesOf : Program → Choices → List ℕ
+linesOf p (choices cs) = runLines p cs
+linesOf p (malformed k) = refusalLine 3 k
+
+-- behind the check's line, from the bytes of choices.txt, which are judged whole before any step: 'over 49,152 bytes prints `02 0000`, else the first malformed one `03` and its line'
+unfoldable pub choicesListing : Program → List ℕ → List ℕ
+choicesListing p bytes = elim (ltb 49152 (length bytes)) [ true ↦ refusalLine 2 0 | false ↦ linesOf p (choicesFrom 0 bytes) ]
+
+-- what `run` prints of a text with that verdict and those frames, and of the bytes of choices.txt
+unfoldable pub runListing : Verdict → List Frame → List ℕ → List ℕ
+runListing v fs bytes = checkLine v ++ elim (stops v) [ true ↦ [] | false ↦ choicesListing (programOf fs) bytes ]

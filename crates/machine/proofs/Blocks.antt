@@ -1,0 +1,219 @@
+-- A block of the words is a part of the state: read, and replaced. Assumes nothing.
+use Prim.Native.Nat.{ℕ, suc, _+_, _*_, _-_, _<_, _≤_}
+use mathlib.Core.Path.{_≡_, refl, sym, ap, _∙_}
+use mathlib.Core.List.{List, [], _∷_, _++_}
+use mathlib.Core.Bool.{Bool, true, false}
+use native.Mathlib.Omega.{arith}
+use lib.Dec.{ltb}
+use borrow.Author.Tests.{ltb-true, ltb-false}
+use native.Mathlib.Decide.{ℕ-discrete}
+use lib.ListN.{getD, length, set, length-set, length-append, List·getD-append, List·getD-eq-default}
+use lib.Seq.{ext-getD, getD-set-same, getD-set-other, getD-at}
+use Rattle.machine.specs.State.{State, Stored, Thread, Scheduler, noThread, noScheduler, noCell, withThread, withScheduler, withCells, withNew}
+use Rattle.machine.specs.Words.{threadWord, schedulerWord, cellWord, pack}
+use Rattle.machine.specs.Blocks.{part, pasted, threadWords, schedulerWords, cellWords}
+use Rattle.machine.proofs.WordLaws.{pasted-length, pasted-in, pasted-out, Says, is-pack, pack-length, word-0, word-1, word-scheduler, word-thread, word-cell, tab-length, tab-at, part-at, part-length}
+
+pub says-pack : (s : State) → Says (pack s) s
+says-pack s = record { all = pack-length s; threads = word-0 s; cells = word-1 s; scheduler = word-scheduler s; thread = word-thread s; cell = word-cell s }
+
+pub thread-length : (x : Thread) → length (threadWords x) ≡ 55
+unfolding threadWords
+thread-length x = tab-length 55 (threadWord x) 0
+
+pub thread-at : (x : Thread) (j : ℕ) → j < 55 → getD (threadWords x) j 0 ≡ threadWord x j
+unfolding threadWords
+thread-at x j h = tab-at 55 (threadWord x) j 0 h
+
+pub scheduler-length : (x : Scheduler) → length (schedulerWords x) ≡ 130
+unfolding schedulerWords
+scheduler-length x = tab-length 130 (schedulerWord x) 0
+
+pub scheduler-at : (x : Scheduler) (j : ℕ) → j < 130 → getD (schedulerWords x) j 0 ≡ schedulerWord x j
+unfolding schedulerWords
+scheduler-at x j h = tab-at 130 (schedulerWord x) j 0 h
+
+pub cells-length : (cs : List Stored) → length (cellWords cs) ≡ 256
+unfolding cellWords
+cells-length cs = tab-length 256 (λ i. cellWord (getD cs i noCell)) 0
+
+pub cells-at : (cs : List Stored) (j : ℕ) → j < 256 → getD (cellWords cs) j 0 ≡ cellWord (getD cs j noCell)
+unfolding cellWords
+cells-at cs j h = tab-at 256 (λ i. cellWord (getD cs i noCell)) j 0 h
+
+-- ---- readers
+block-is : (w v : List ℕ) (at n : ℕ) → at + n ≤ length w → length v ≡ n → ((j : ℕ) → j < n → getD w (at + j) 0 ≡ getD v j 0) → part w at n ≡ v
+block-is w v at n h e f = let l : length (part w at n) ≡ n = part-length w at n h in
+    ext-getD 0 (part w at n) v (l ∙ sym e) (λ j g. let m : j < n = rw l at g in part-at w at n j m ∙ f j m)
+
+module _ (w : List ℕ) (s : State) (h : Says w s) where
+  size : length w ≡ 4818
+  size = h .all
+
+  pub read-thread : (k : ℕ) → k < 64 → part w (1042 + 55 * k) 55 ≡ threadWords (getD (s .threads) k noThread)
+  read-thread k a = block-is w (threadWords (getD (s .threads) k noThread)) (1042 + 55 * k) 55 (rw size (omega arith)) (thread-length (getD (s .threads) k noThread))
+      (λ j g. h .thread k j a g ∙ sym (thread-at (getD (s .threads) k noThread) j g))
+
+  pub read-scheduler : (k : ℕ) → k < 8 → part w (2 + 130 * k) 130 ≡ schedulerWords (getD (s .schedulers) k noScheduler)
+  read-scheduler k a = block-is w (schedulerWords (getD (s .schedulers) k noScheduler)) (2 + 130 * k) 130 (rw size (omega arith)) (scheduler-length (getD (s .schedulers) k noScheduler))
+      (λ j g. h .scheduler k j a g ∙ sym (scheduler-at (getD (s .schedulers) k noScheduler) j g))
+
+  pub read-cells : part w 4562 256 ≡ cellWords (s .cells)
+  read-cells = block-is w (cellWords (s .cells)) 4562 256 (rw size (omega arith)) (cells-length (s .cells))
+      (λ j g. h .cell j g ∙ sym (cells-at (s .cells) j g))
+
+  -- ---- a block replaced
+  pub put-thread : (k : ℕ) (x : Thread) → k < 64 → k < length (s .threads) → Says (pasted w (1042 + 55 * k) (threadWords x) 55) (withThread (suc k) x s)
+  put-thread k x a b = record {
+    all = pasted-length w at ws 55 hd hs ∙ size;
+    threads = out 0 (λ p q. omega arith) ∙ h .threads ∙ sym (length-set (s .threads) k x);
+    cells = out 1 (λ p q. omega arith) ∙ h .cells;
+    scheduler = λ i j f g. out (2 + 130 * i + j) (λ p q. omega arith) ∙ h .scheduler i j f g;
+    thread = λ i j f g. go i j f g (ℕ-discrete i k);
+    cell = λ j g. out (4562 + j) (λ p q. omega arith) ∙ h .cell j g;
+  }
+    where
+      at : ℕ
+      at = 1042 + 55 * k
+
+      ws : List ℕ
+      ws = threadWords x
+
+      hd : 1042 + 55 * k + 55 ≤ length w
+      hd = rw size (omega arith)
+
+      hs : 55 ≤ length (threadWords x)
+      hs = rw thread-length (omega arith)
+
+      out : (i : ℕ) → (1042 + 55 * k ≤ i → i < 1042 + 55 * k + 55 → ⊥) → getD (pasted w (1042 + 55 * k) (threadWords x) 55) i 0 ≡ getD w i 0
+      out = pasted-out w at ws 55 hd hs
+
+      go : (i j : ℕ) → i < 64 → j < 55 → Dec (i ≡ k) → getD (pasted w (1042 + 55 * k) (threadWords x) 55) (1042 + 55 * i + j) 0 ≡ threadWord (getD (set (s .threads) k x) i noThread) j
+      go i j f g (yes e) =
+          ap (λ (m : ℕ). getD (pasted w (1042 + 55 * k) (threadWords x) 55) (1042 + 55 * m + j) 0) e
+          ∙ pasted-in w at ws 55 hd hs j g ∙ thread-at x j g
+          ∙ ap (λ (y : Thread). threadWord y j) (sym (getD-set-same (s .threads) k x noThread b) ∙ ap (λ (m : ℕ). getD (set (s .threads) k x) m noThread) (sym e))
+      go i j f g (no e) =
+          out (1042 + 55 * i + j) (λ p q. e (omega arith)) ∙ h .thread i j f g
+          ∙ ap (λ (y : Thread). threadWord y j) (sym (getD-set-other (s .threads) k i x noThread e))
+
+  pub put-scheduler : (q : ℕ) (x : Scheduler) → q - 2 < 8 → q - 2 < length (s .schedulers) → Says (pasted w (2 + 130 * (q - 2)) (schedulerWords x) 130) (withScheduler q x s)
+  put-scheduler q x a b = record {
+    all = pasted-length w at ws 130 hd hs ∙ size;
+    threads = out 0 (λ p r. omega arith) ∙ h .threads;
+    cells = out 1 (λ p r. omega arith) ∙ h .cells;
+    scheduler = λ i j f g. go i j f g (ℕ-discrete i k);
+    thread = λ i j f g. out (1042 + 55 * i + j) (λ p r. omega arith) ∙ h .thread i j f g;
+    cell = λ j g. out (4562 + j) (λ p r. omega arith) ∙ h .cell j g;
+  }
+    where
+      k : ℕ
+      k = q - 2
+
+      at : ℕ
+      at = 2 + 130 * k
+
+      ws : List ℕ
+      ws = schedulerWords x
+
+      hd : 2 + 130 * (q - 2) + 130 ≤ length w
+      hd = rw size (omega arith)
+
+      hs : 130 ≤ length (schedulerWords x)
+      hs = rw scheduler-length (omega arith)
+
+      out : (i : ℕ) → (at ≤ i → i < at + 130 → ⊥) → getD (pasted w at ws 130) i 0 ≡ getD w i 0
+      out = pasted-out w at ws 130 hd hs
+
+      go : (i j : ℕ) → i < 8 → j < 130 → Dec (i ≡ k) → getD (pasted w at ws 130) (2 + 130 * i + j) 0 ≡ schedulerWord (getD (set (s .schedulers) k x) i noScheduler) j
+      go i j f g (yes e) =
+          ap (λ (m : ℕ). getD (pasted w at ws 130) (2 + 130 * m + j) 0) e
+          ∙ pasted-in w at ws 130 hd hs j g ∙ scheduler-at x j g
+          ∙ ap (λ (y : Scheduler). schedulerWord y j) (sym (getD-set-same (s .schedulers) k x noScheduler b) ∙ ap (λ (m : ℕ). getD (set (s .schedulers) k x) m noScheduler) (sym e))
+      go i j f g (no e) =
+          out (2 + 130 * i + j) (λ p r. e (omega arith)) ∙ h .scheduler i j f g
+          ∙ ap (λ (y : Scheduler). schedulerWord y j) (sym (getD-set-other (s .schedulers) k i x noScheduler e))
+
+  -- the count is stored apart
+  pub put-cells : (cs : List Stored) → Says (set (pasted w 4562 (cellWords cs) 256) 1 (length cs)) (withCells cs s)
+  put-cells cs = record {
+    all = length-set (pasted w 4562 (cellWords cs) 256) 1 (length cs) ∙ pl ∙ size;
+    threads = other 0 (λ e. omega arith) ∙ out 0 (λ p q. omega arith) ∙ h .threads;
+    cells = getD-set-same (pasted w 4562 (cellWords cs) 256) 1 (length cs) 0 (rw (pl, size) (omega arith));
+    scheduler = λ i j f g. other (2 + 130 * i + j) (λ e. omega arith) ∙ out (2 + 130 * i + j) (λ p q. omega arith) ∙ h .scheduler i j f g;
+    thread = λ i j f g. other (1042 + 55 * i + j) (λ e. omega arith) ∙ out (1042 + 55 * i + j) (λ p q. omega arith) ∙ h .thread i j f g;
+    cell = λ j g. other (4562 + j) (λ e. omega arith) ∙ pasted-in w 4562 (cellWords cs) 256 hd hs j g ∙ cells-at cs j g;
+  }
+    where
+      hd : 4562 + 256 ≤ length w
+      hd = rw size (omega arith)
+
+      hs : 256 ≤ length (cellWords cs)
+      hs = rw cells-length (omega arith)
+
+      pl : length (pasted w 4562 (cellWords cs) 256) ≡ length w
+      pl = pasted-length w 4562 (cellWords cs) 256 hd hs
+
+      out : (i : ℕ) → (4562 ≤ i → i < 4562 + 256 → ⊥) → getD (pasted w 4562 (cellWords cs) 256) i 0 ≡ getD w i 0
+      out = pasted-out w 4562 (cellWords cs) 256 hd hs
+
+      other : (i : ℕ) → (i ≡ 1 → ⊥) → getD (set (pasted w 4562 (cellWords cs) 256) 1 (length cs)) i 0 ≡ getD (pasted w 4562 (cellWords cs) 256) i 0
+      other i e = getD-set-other (pasted w 4562 (cellWords cs) 256) 1 i (length cs) 0 e
+
+-- one more thread
+pub put-new : (w : List ℕ) (s : State) → Says w s → (x : Thread) → length (s .threads) < 64
+    → Says (set (pasted w (1042 + 55 * length (s .threads)) (threadWords x) 55) 0 (length (s .threads) + 1)) (withNew x s)
+put-new w s h x l = record {
+  all = length-set (pasted w (1042 + 55 * m) (threadWords x) 55) 0 (m + 1) ∙ pl ∙ size;
+  threads = getD-set-same (pasted w (1042 + 55 * m) (threadWords x) 55) 0 (m + 1) 0 (rw (pl, size) (omega arith)) ∙ sym (length-append (s .threads) (x ∷ []));
+  cells = other 1 (λ e. omega arith) ∙ out 1 (λ p q. omega arith) ∙ h .cells;
+  scheduler = λ i j f g. other (2 + 130 * i + j) (λ e. omega arith) ∙ out (2 + 130 * i + j) (λ p q. omega arith) ∙ h .scheduler i j f g;
+  thread = λ i j f g. other (1042 + 55 * i + j) (λ e. omega arith) ∙ go i j f g (ℕ-discrete i m);
+  cell = λ j g. other (4562 + j) (λ e. omega arith) ∙ out (4562 + j) (λ p q. omega arith) ∙ h .cell j g;
+}
+  where
+    m : ℕ
+    m = length (s .threads)
+
+    size : length w ≡ 4818
+    size = h .all
+
+    hd : 1042 + 55 * length (s .threads) + 55 ≤ length w
+    hd = rw size (omega arith)
+
+    hs : 55 ≤ length (threadWords x)
+    hs = rw thread-length (omega arith)
+
+    pl : length (pasted w (1042 + 55 * length (s .threads)) (threadWords x) 55) ≡ length w
+    pl = pasted-length w (1042 + 55 * m) (threadWords x) 55 hd hs
+
+    out : (i : ℕ) → (1042 + 55 * length (s .threads) ≤ i → i < 1042 + 55 * length (s .threads) + 55 → ⊥) → getD (pasted w (1042 + 55 * length (s .threads)) (threadWords x) 55) i 0 ≡ getD w i 0
+    out = pasted-out w (1042 + 55 * m) (threadWords x) 55 hd hs
+
+    other : (i : ℕ) → (i ≡ 0 → ⊥) → getD (set (pasted w (1042 + 55 * m) (threadWords x) 55) 0 (m + 1)) i 0 ≡ getD (pasted w (1042 + 55 * m) (threadWords x) 55) i 0
+    other i e = getD-set-other (pasted w (1042 + 55 * m) (threadWords x) 55) 0 i (m + 1) 0 e
+
+    same : (i : ℕ) → (i ≡ length (s .threads) → ⊥) → (b : Bool) → ltb i (length (s .threads)) ≡ b → getD (s .threads) i noThread ≡ getD (s .threads ++ (x ∷ [])) i noThread
+    same i e true q = sym (List·getD-append (s .threads) (x ∷ []) noThread i (ltb-true i m q))
+    same i e false q = let g : length (s .threads) ≤ i = ltb-false i m q in
+        List·getD-eq-default (s .threads) noThread {n = i} g ∙ sym (List·getD-eq-default (s .threads ++ (x ∷ [])) noThread {n = i} (beyond i e g (length-append (s .threads) (x ∷ []))))
+      where
+        beyond : (i : ℕ) → (i ≡ length (s .threads) → ⊥) → length (s .threads) ≤ i → length (s .threads ++ (x ∷ [])) ≡ length (s .threads) + 1 → length (s .threads ++ (x ∷ [])) ≤ i
+        beyond i e g z = omega arith
+
+    go : (i j : ℕ) → i < 64 → j < 55 → Dec (i ≡ length (s .threads)) → getD (pasted w (1042 + 55 * length (s .threads)) (threadWords x) 55) (1042 + 55 * i + j) 0 ≡ threadWord (getD (s .threads ++ (x ∷ [])) i noThread) j
+    go i j f g (yes e) =
+        ap (λ (k : ℕ). getD (pasted w (1042 + 55 * length (s .threads)) (threadWords x) 55) (1042 + 55 * k + j) 0) e
+        ∙ pasted-in w (1042 + 55 * m) (threadWords x) 55 hd hs j g ∙ thread-at x j g
+        ∙ ap (λ (y : Thread). threadWord y j) (sym (getD-at (s .threads) x [] noThread (length (s .threads)) refl) ∙ ap (λ (k : ℕ). getD (s .threads ++ (x ∷ [])) k noThread) (sym e))
+    go i j f g (no e) = out (1042 + 55 * i + j) (λ p q. e (omega arith)) ∙ h .thread i j f g ∙ ap (λ (y : Thread). threadWord y j) (same i e (ltb i m) refl)
+
+-- ---- the same as equations
+pub pack-thread : (s : State) (k : ℕ) (x : Thread) → k < 64 → k < length (s .threads) → pasted (pack s) (1042 + 55 * k) (threadWords x) 55 ≡ pack (withThread (suc k) x s)
+pack-thread s k x a b = is-pack (pasted (pack s) (1042 + 55 * k) (threadWords x) 55) (withThread (suc k) x s) (put-thread (pack s) s (says-pack s) k x a b)
+
+pub pack-scheduler : (s : State) (q : ℕ) (x : Scheduler) → q - 2 < 8 → q - 2 < length (s .schedulers) → pasted (pack s) (2 + 130 * (q - 2)) (schedulerWords x) 130 ≡ pack (withScheduler q x s)
+pack-scheduler s q x a b = is-pack (pasted (pack s) (2 + 130 * (q - 2)) (schedulerWords x) 130) (withScheduler q x s) (put-scheduler (pack s) s (says-pack s) q x a b)
+
+pub pack-cells : (s : State) (cs : List Stored) → set (pasted (pack s) 4562 (cellWords cs) 256) 1 (length cs) ≡ pack (withCells cs s)
+pack-cells s cs = is-pack (set (pasted (pack s) 4562 (cellWords cs) 256) 1 (length cs)) (withCells cs s) (put-cells (pack s) s (says-pack s) cs)

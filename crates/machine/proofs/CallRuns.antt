@@ -1,0 +1,61 @@
+-- Calls on words are the steps of the states: from the fresh words on, each call answers as its step does and leaves the words of its state. Assumes nothing.
+use mathlib.Core.Path.{_≡_, refl, sym, ap, ap₂, _∙_}
+use mathlib.Core.List.{List, [], _∷_, map}
+use mathlib.Core.Bool.{Bool, true, false}
+use Prim.Native.Nat.{ℕ}
+use lib.Dec.{eqb}
+use lib.ListN.{length}
+use borrow.Author.Tests.{eq-eqb}
+use Rattle.language.specs.declared.frame.Frame.{Frame}
+use Rattle.program.specs.Programs.{Program, programOf}
+use Rattle.machine.specs.State.{State}
+use Rattle.machine.specs.Fresh.{fresh}
+use Rattle.machine.specs.Turns.{Stepped}
+use Rattle.machine.specs.Steps.{step}
+use Rattle.machine.specs.Runs.{stepsFrom, steps}
+use Rattle.machine.specs.Words.{pack, unpack}
+use Rattle.machine.specs.Ranges.{inRange}
+use Rattle.machine.specs.Calls.{Called, unchanged, freshCall, stepCall, callsFrom}
+use Rattle.machine.proofs.Shapes.{Shaped}
+use Rattle.machine.proofs.Round.{unpack-pack}
+use Rattle.machine.proofs.InShape.{shaped-in-range}
+use Rattle.machine.proofs.Calls.{schedulersOf, called-in, step-packs}
+use Rattle.machine.proofs.KeptShape.{FileFits, keeps-step, fresh-shaped}
+
+-- what a call gives that is a step's
+abbrev pub asCalled : Stepped → Called
+asCalled r = record { answer = r .answer; thread = r .thread; words = pack (r .state) }
+
+pub fresh-called : (fs : List Frame) (w : List ℕ) → length w ≡ 4818 → freshCall fs w ≡ record { answer = 0; thread = 0; words = pack (fresh (programOf fs)) }
+unfolding freshCall
+fresh-called fs w e =
+    ap (λ (b : Bool). elim b [ true ↦ record { answer = 0; thread = 0; words = pack (fresh (programOf fs)) } | false ↦ unchanged 14 0 w ]) (eq-eqb (length w) 4818 e)
+
+module _ (fs : List Frame) (F : FileFits fs (programOf fs) (schedulersOf fs)) where
+  pub call-is : (s : State) (c : ℕ) → Shaped fs (schedulersOf fs) s → stepCall fs (pack s) c ≡ asCalled (step (programOf fs) s c)
+  call-is s c z =
+      path (ap (λ (x : Called). x .answer) (called-in fs (pack s) c e) ∙ ap (λ (x : State). step (programOf fs) x c .answer) u)
+      (ap (λ (x : Called). x .thread) (called-in fs (pack s) c e) ∙ ap (λ (x : State). step (programOf fs) x c .thread) u)
+      (step-packs fs (pack s) c e ∙ ap (λ (x : State). pack (step (programOf fs) x c .state)) u)
+    where
+      e : inRange fs (schedulersOf fs) (pack s) ≡ true
+      e = shaped-in-range fs (schedulersOf fs) s z
+
+      u : unpack fs (schedulersOf fs) (pack s) ≡ s
+      u = unpack-pack fs (schedulersOf fs) s z
+
+      path : {a b : Called} → a .answer ≡ b .answer → a .thread ≡ b .thread → a .words ≡ b .words → a ≡ b
+      path p q r = λ i. record { answer = p i; thread = q i; words = r i }
+
+  calls-from : (s : State) (cs : List ℕ) → Shaped fs (schedulersOf fs) s → callsFrom fs (pack s) cs ≡ map asCalled (stepsFrom (programOf fs) s cs)
+  unfolding callsFrom stepsFrom
+  calls-from s [] z = refl
+  calls-from s (c ∷ cs) z =
+      ap₂ (λ (x : Called) (l : List Called). x ∷ l) (call-is s c z)
+      (ap (λ (x : Called). callsFrom fs (x .words) cs) (call-is s c z) ∙ calls-from (step (programOf fs) s c .state) cs (keeps-step fs (programOf fs) (schedulersOf fs) F s c z))
+
+  -- 'States and answers are those that the calls give.'
+  pub calls-are : (w cs : List ℕ) → length w ≡ 4818 → callsFrom fs (freshCall fs w .words) cs ≡ map asCalled (steps (programOf fs) cs)
+  calls-are w cs e =
+      ap (λ (x : Called). callsFrom fs (x .words) cs) (fresh-called fs w e)
+      ∙ calls-from (fresh (programOf fs)) cs (fresh-shaped fs (programOf fs) (schedulersOf fs) F)

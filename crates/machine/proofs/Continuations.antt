@@ -1,0 +1,113 @@
+-- From a fresh state no continuation and no variable space is ever full, and no drop misses its variable, in a program whose bodies are low enough.
+-- Assumes nothing.
+use mathlib.Core.Path.{_≡_, ap, _∙_}
+use mathlib.Core.List.{List, [], _∷_}
+use mathlib.Core.Bool.{Bool, true, _&&_}
+use Prim.Native.Nat.{ℕ, suc, _+_, _≤_, _<_, max}
+use native.Mathlib.Omega.{arith}
+use lib.Dec.{leb}
+use lib.ListN.{length}
+use borrow.Author.Tests.{le-leb}
+use Rattle.program.specs.Trees.{Expr, Stmt, nothing, seq, doAt, start, startWait, cooperate, letIn, store, ifElse, while}
+use Rattle.machine.proofs.Tests.{and-both}
+use Rattle.machine.specs.State.{Item, run, back, drop}
+use Rattle.machine.specs.Turns.{fits}
+use Rattle.machine.specs.declared.value.Value.{Value}
+
+-- the items of a continuation that running it takes, itself among them; no more than its depth of statements
+unfoldable pub high : Stmt → ℕ
+high (nothing i) = 1
+high (seq i a b) = max (1 + high a) (high b)
+high (doAt i q a) = 1 + high a
+high (start i m xs) = 1
+high (startWait i m xs) = 1
+high (cooperate i) = 1
+high (letIn i x a) = 1 + high a
+high (store i x y) = 1
+high (ifElse i x a b) = max (high a) (high b)
+high (while i x a) = 1 + high a
+
+-- the lets around its innermost statement
+unfoldable pub lets : Stmt → ℕ
+lets (nothing i) = 0
+lets (seq i a b) = max (lets a) (lets b)
+lets (doAt i q a) = lets a
+lets (start i m xs) = 0
+lets (startWait i m xs) = 0
+lets (cooperate i) = 0
+lets (letIn i x a) = 1 + lets a
+lets (store i x y) = 0
+lets (ifElse i x a b) = max (lets a) (lets b)
+lets (while i x a) = lets a
+
+pub high-pos : (x : Stmt) → 1 ≤ high x
+unfolding high
+high-pos (nothing i) = omega arith
+high-pos (seq i a b) = omega arith
+high-pos (doAt i q a) = omega arith
+high-pos (start i m xs) = omega arith
+high-pos (startWait i m xs) = omega arith
+high-pos (cooperate i) = omega arith
+high-pos (letIn i x a) = omega arith
+high-pos (store i x y) = omega arith
+high-pos (ifElse i x a b) = let g = high-pos a in omega arith
+high-pos (while i x a) = omega arith
+
+-- a continuation over n variables with all the room that it will take
+pub data Roomy : ℕ → List Item → Type 0 where
+  no-items : {n : ℕ} → n ≤ 25 → Roomy n []
+  run-item : {n : ℕ} {x : Stmt} {l : List Item} → length l + high x ≤ 25 → n + lets x ≤ 25 → Roomy n l → Roomy n (run x ∷ l)
+  back-item : {n q : ℕ} {l : List Item} → length l < 25 → Roomy n l → Roomy n (back q ∷ l)
+  drop-item : {n : ℕ} {l : List Item} → length l < 25 → n < 25 → Roomy n l → Roomy (suc n) (drop ∷ l)
+
+pub roomy-fits : {n : ℕ} {l : List Item} → Roomy n l → (length l ≤ 25) × (n ≤ 25)
+roomy-fits (no-items h) = (omega arith, h)
+roomy-fits (run-item {x = x} h g r) = let p = high-pos x in (omega arith, omega arith)
+roomy-fits (back-item h r) = (omega arith, roomy-fits r .1)
+roomy-fits (drop-item h g r) = (omega arith, omega arith)
+
+pub fits-true : (l : List Item) (vs : List Value) → Roomy (length vs) l → fits l vs ≡ true
+unfolding fits
+fits-true l vs r = let g = roomy-fits r in and-both (leb (length l) 25) _ (le-leb (length l) 25 (g .0)) (le-leb (length vs) 25 (g .1))
+
+-- ---- what lies above a continuation when a statement has been taken apart
+
+top : (n : ℕ) (x : Stmt) (l : List Item) → length l + high x ≤ 25 → n + lets x ≤ 25 → Roomy n l → Roomy n (run x ∷ l)
+top n x l h g r = run-item h g r
+
+pub below-seq : {n i : ℕ} {a b : Stmt} {l : List Item} → Roomy n (run (seq i a b) ∷ l) → Roomy n (run a ∷ run b ∷ l)
+unfolding high lets
+below-seq {n} {a = a} {b = b} {l = l} (run-item h g r) = top n a (run b ∷ l) (omega arith) (omega arith) (top n b l (omega arith) (omega arith) r)
+
+pub below-do : {n i q : ℕ} {a : Stmt} {l : List Item} (p : ℕ) → Roomy n (run (doAt i q a) ∷ l) → Roomy n (run a ∷ back p ∷ l)
+unfolding high lets
+below-do {n} {a = a} {l = l} p (run-item h g r) = let k = high-pos a in top n a (back p ∷ l) (omega arith) (omega arith) (back-item (omega arith) r)
+
+pub below-let : {n i : ℕ} {x : Expr} {a : Stmt} {l : List Item} → Roomy n (run (letIn i x a) ∷ l) → Roomy (suc n) (run a ∷ drop ∷ l)
+unfolding high lets
+below-let {n} {a = a} {l = l} (run-item h g r) = let k = high-pos a in top (suc n) a (drop ∷ l) (omega arith) (omega arith) (drop-item (omega arith) (omega arith) r)
+
+pub below-while : {n i : ℕ} {x : Expr} {a : Stmt} {l : List Item} → Roomy n (run (while i x a) ∷ l) → Roomy n (run a ∷ run (while i x a) ∷ l)
+unfolding high lets
+below-while {n} {i} {x} {a} {l} (run-item h g r) = top n a (run (while i x a) ∷ l) (omega arith) (omega arith) (top n (while i x a) l h g r)
+
+pub below-then : {n i : ℕ} {x : Expr} {a b : Stmt} {l : List Item} → Roomy n (run (ifElse i x a b) ∷ l) → Roomy n (run a ∷ l)
+unfolding high lets
+below-then {n} {a = a} {l = l} (run-item h g r) = top n a l (omega arith) (omega arith) r
+
+pub below-else : {n i : ℕ} {x : Expr} {a b : Stmt} {l : List Item} → Roomy n (run (ifElse i x a b) ∷ l) → Roomy n (run b ∷ l)
+unfolding high lets
+below-else {n} {b = b} {l = l} (run-item h g r) = top n b l (omega arith) (omega arith) r
+
+pub below-run : {n : ℕ} {x : Stmt} {l : List Item} → Roomy n (run x ∷ l) → Roomy n l
+below-run (run-item h g r) = r
+
+pub below-back : {n q : ℕ} {l : List Item} → Roomy n (back q ∷ l) → Roomy n l
+below-back (back-item h r) = r
+
+pub below-drop : {n : ℕ} {l : List Item} → Roomy (suc n) (drop ∷ l) → Roomy n l
+below-drop (drop-item h g r) = r
+
+-- a drop finds its variable
+pub drop-pos : {n : ℕ} {l : List Item} → Roomy n (drop ∷ l) → 1 ≤ n
+drop-pos (drop-item h g r) = omega arith

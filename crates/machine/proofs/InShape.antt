@@ -1,0 +1,330 @@
+-- A state is in shape where its words are in range, and words in range say a state in shape. Assumes nothing.
+use Prim.Native.Nat.{ℕ, suc, zero, _+_, _*_, _-_, _/_, _%_, _^_, _<_, _≤_}
+use mathlib.Core.Path.{_≡_, refl, sym, ap, _∙_, subst}
+use mathlib.Core.List.{List, [], _∷_, map, reverse}
+use mathlib.Core.Bool.{Bool, true, false, not}
+use native.Mathlib.Omega.{arith}
+use native.Mathlib.Nat.{add-zero}
+use lib.ListN.{getD, length, length-map, length-reverse, List·getD-eq-default}
+use lib.Dec.{ltb, leb}
+use borrow.Author.Tests.{ltb-true, ltb-false, lt-ltb, le-ltb, leb-true, le-leb}
+use Rattle.basics.specs.Members.{All, none, more}
+use Rattle.basics.proofs.Ifs.{if-yes, if-no, and-true}
+use Rattle.language.specs.Places.{hasPlace}
+use Rattle.language.specs.declared.frame.Frame.{Frame}
+use Rattle.program.specs.Trees.{frameAt, statementAt, rootS}
+use Rattle.machine.specs.State.{State, Stored, Item, run, back, drop, Thread, Entry, plain, waiting, Scheduler, noThread, noScheduler, noCell}
+use Rattle.machine.specs.declared.value.Value.{Value}
+use Rattle.machine.specs.declared.value.Value.the-variants.{Number, Truth, Cell}
+use Rattle.machine.specs.Words.{bit, valueWord, wordValue, itemWord, wordItem, entryWord, wordEntry, cellWord, wordCell, listWord, threadWord, schedulerWord, wordsAt, threadFrom, schedulerFrom, unpack, pack}
+use Rattle.machine.specs.Ranges.{isStatement, itemInRange, valueInRange, entryInRange, threadInRange, cellInRange, ownerInRange, threadWordInRange, schedulerInRange, inRange}
+use Rattle.machine.proofs.Tests.{and-both}
+use Rattle.machine.proofs.WordLaws.{tab-length, tab-at, Says}
+use Rattle.machine.proofs.Blocks.{says-pack}
+use Rattle.machine.proofs.Shapes.{ValueFits, number, truth, cell, ItemFits, run-fits, back-fits, drop-fits, EntryFits, plain-fits, waiting-fits, IsThread, ThreadFits, SchedulerFits, CellFits, Shaped}
+use Rattle.machine.proofs.Round.{thread-0, thread-1, thread-2, thread-continuation, thread-variables, scheduler-active, scheduler-next, value-below}
+use Rattle.machine.proofs.Ranges.{InRange, Space, of-space, range-place, range-starter, range-lives, range-items, range-variables, range-active, range-next, in-range, range-in}
+use Rattle.machine.proofs.Valid.{root-at, aux-all, list-all, items-space, values-space, active-space, next-space, no-thread-word, no-scheduler-word, no-cell-word}
+
+-- ---- single words of a state in shape
+thread-in : (t : ℕ) → IsThread t → threadInRange t ≡ true
+unfolding threadInRange
+thread-in t h = and-both (leb 1 t) (leb t 64) (le-leb 1 t (h .0)) (le-leb t 64 (h .1))
+
+in-thread : (t : ℕ) → threadInRange t ≡ true → IsThread t
+unfolding threadInRange
+in-thread t e = let p = and-true (leb 1 t) (leb t 64) e in (leb-true 1 t (p .0), leb-true t 64 (p .1))
+
+value-in : (v : Value) → ValueFits v → valueInRange (valueWord v) ≡ true
+unfolding valueInRange valueWord
+value-in (Number n) (number h) = if-yes _ _ (lt-ltb n (2 ^ 32) h)
+value-in (Truth true) truth = if-no _ _ refl ∙ if-yes _ _ refl
+value-in (Truth false) truth = if-no _ _ refl ∙ if-yes _ _ refl
+value-in (Cell c) (cell h) =
+    if-no _ _ (le-ltb (2 * 2 ^ 32 + c) (2 ^ 32) (omega arith)) ∙ if-no _ _ (le-ltb (2 * 2 ^ 32 + c) (2 * 2 ^ 32) (omega arith))
+    ∙ le-leb (2 * 2 ^ 32 + c) (2 * 2 ^ 32 + 255) (omega arith)
+
+item-in : (fs : List Frame) (n : ℕ) (x : Item) → ItemFits fs n x → itemInRange fs n (itemWord x) ≡ true
+unfolding itemInRange itemWord
+item-in fs n (run x) (run-fits h k e) = if-yes _ _ (lt-ltb (rootS x) 1024 h) ∙ k
+item-in fs n (back q) (back-fits h k) =
+    let a : 1024 + q - 1024 ≡ q = omega arith in
+    if-no _ _ (le-ltb (1024 + q) 1024 (omega arith)) ∙ if-yes _ _ (lt-ltb (1024 + q) 2048 (omega arith)) ∙ ap (hasPlace n) a ∙ k
+item-in fs n drop drop-fits = if-no _ _ refl ∙ if-no _ _ refl
+
+entry-in : (e : Entry) → EntryFits e → entryInRange (entryWord e) ≡ true
+unfolding entryInRange entryWord
+entry-in (plain t) (plain-fits h) = let l = h .1 in if-yes _ _ (lt-ltb t 128 (omega arith)) ∙ thread-in t h
+entry-in (waiting t u) (waiting-fits h g) =
+    let l = h .1 in
+    let m = g .0 in
+    let a : (128 * u + t) % 128 ≡ t = omega arith in
+    let b : (128 * u + t) / 128 ≡ u = omega arith in
+    if-no _ _ (le-ltb (128 * u + t) 128 (omega arith))
+    ∙ and-both _ _ (ap threadInRange a ∙ thread-in t h) (ap threadInRange b ∙ thread-in u g)
+
+cell-in : (n : ℕ) (x : Stored) → CellFits n x → cellInRange n (cellWord x) ≡ true
+unfolding cellInRange cellWord
+cell-in n x h =
+    let l : valueWord (x .content) < 2 ^ 34 = value-below (x .content) (h .value) in
+    let a : (x .owner * 2 ^ 34 + valueWord (x .content)) / 2 ^ 34 ≡ x .owner = omega arith in
+    let b : (x .owner * 2 ^ 34 + valueWord (x .content)) % 2 ^ 34 ≡ valueWord (x .content) = omega arith in
+    and-both _ _ (ap (ownerInRange n) a ∙ h .owner) (ap valueInRange b ∙ value-in (x .content) (h .value))
+
+-- ---- single words in range
+in-value : (v : ℕ) → valueInRange v ≡ true → ValueFits (wordValue v)
+unfolding valueInRange wordValue
+in-value v h = first (ltb v (2 ^ 32)) refl
+  where
+    second : ltb v (2 ^ 32) ≡ false → (b : Bool) → ltb v (2 * 2 ^ 32) ≡ b → ValueFits (wordValue v)
+    second l true e = subst ValueFits (sym (if-no _ _ l ∙ if-yes _ _ e)) truth
+    second l false e =
+        let g : v ≤ 2 * 2 ^ 32 + 255 = leb-true v (2 * 2 ^ 32 + 255) (sym (if-no _ _ l ∙ if-no _ _ e) ∙ h) in
+        subst ValueFits (sym (if-no _ _ l ∙ if-no _ _ e)) (cell (top g))
+      where
+        top : v ≤ 2 * 2 ^ 32 + 255 → v - 2 * 2 ^ 32 < 256
+        top g = omega arith
+
+    first : (b : Bool) → ltb v (2 ^ 32) ≡ b → ValueFits (wordValue v)
+    first true e = subst ValueFits (sym (if-yes _ _ e)) (number (ltb-true v (2 ^ 32) e))
+    first false e = second e (ltb v (2 * 2 ^ 32)) refl
+
+in-item : (fs : List Frame) (n v : ℕ) → itemInRange fs n v ≡ true → ItemFits fs n (wordItem fs v)
+unfolding itemInRange wordItem
+in-item fs n v h = first (ltb v 1024) refl
+  where
+    second : ltb v 1024 ≡ false → (b : Bool) → ltb v 2048 ≡ b → ItemFits fs n (wordItem fs v)
+    second l true e =
+        let g : v < 2048 = ltb-true v 2048 e in
+        subst (ItemFits fs n) (sym (if-no _ _ l ∙ if-yes _ _ e)) (back-fits (low g) (sym (if-no _ _ l ∙ if-yes _ _ e) ∙ h))
+      where
+        low : v < 2048 → v - 1024 < 1024
+        low g = omega arith
+    second l false e = subst (ItemFits fs n) (sym (if-no _ _ l ∙ if-no _ _ e)) drop-fits
+
+    first : (b : Bool) → ltb v 1024 ≡ b → ItemFits fs n (wordItem fs v)
+    first true e =
+        let r = root-at fs v in
+        subst (ItemFits fs n) (sym (if-yes _ _ e))
+        (run-fits (subst (λ (i : ℕ). i < 1024) (sym r) (ltb-true v 1024 e))
+        (ap (λ (i : ℕ). isStatement (frameAt fs i .kind)) r ∙ sym (if-yes _ _ e) ∙ h)
+        (ap (statementAt fs) r))
+    first false e = second e (ltb v 2048) refl
+
+in-entry : (v : ℕ) → entryInRange v ≡ true → EntryFits (wordEntry v)
+unfolding entryInRange wordEntry
+in-entry v h = first (ltb v 128) refl
+  where
+    first : (b : Bool) → ltb v 128 ≡ b → EntryFits (wordEntry v)
+    first true e = subst EntryFits (sym (if-yes _ _ e)) (plain-fits (in-thread v (sym (if-yes _ _ e) ∙ h)))
+    first false e =
+        let p = and-true (threadInRange (v % 128)) (threadInRange (v / 128)) (sym (if-no _ _ e) ∙ h) in
+        subst EntryFits (sym (if-no _ _ e)) (waiting-fits (in-thread (v % 128) (p .0)) (in-thread (v / 128) (p .1)))
+
+in-cell : (n v : ℕ) → cellInRange n v ≡ true → CellFits n (wordCell v)
+unfolding cellInRange wordCell
+in-cell n v h =
+    let p = and-true (ownerInRange n (v / 2 ^ 34)) (valueInRange (v % 2 ^ 34)) h in
+    record { owner = p .0; value = in-value (v % 2 ^ 34) (p .1) }
+
+-- ---- lists
+all-map : {A B : Type 0} (Q : A → Type 0) (P : B → Type 0) (f : A → B) → ((x : A) → Q x → P (f x)) → (xs : List A) → All Q xs → All P (map f xs)
+all-map Q P f h [] none = none
+all-map Q P f h (x ∷ xs) (more q qs) = more (h x q) (all-map Q P f h xs qs)
+
+all-at : (P : ℕ → Type 0) (xs : List ℕ) (j : ℕ) → All P xs → j < length xs → P (getD xs j 0)
+all-at P [] j none h = absurd (omega arith)
+all-at P (x ∷ xs) zero (more p ps) h = p
+all-at P (x ∷ xs) (suc j) (more p ps) h = all-at P xs j ps (omega arith)
+
+-- a list in its space
+list-space : (test : ℕ → Bool) (w : List ℕ) (i m : ℕ) (ws : List ℕ) → ((j : ℕ) → j < suc m → getD w (i + j) 0 ≡ listWord ws j)
+    → length ws ≤ m → All (λ (v : ℕ). test v ≡ true) ws → Space test w i m
+list-space test w i m ws says fits all =
+    record {
+      room = rw long fits;
+      used = λ j g. let l : j < length ws = rw (← long) g in ap test (says (suc j) (omega arith)) ∙ all-at (λ (v : ℕ). test v ≡ true) ws j all l;
+      unused = λ j l g. says (suc j) (omega arith) ∙ List·getD-eq-default ws 0 {n = j} (rw (← long) l);
+    }
+  where
+    long : getD w i 0 ≡ length ws
+    long = ap (λ (k : ℕ). getD w k 0) (sym (add-zero i)) ∙ says 0 (omega arith)
+
+module _ (fs : List Frame) (n : ℕ) (w : List ℕ) (s : State) (h : Says w s) (z : Shaped fs n s) where
+  -- ---- the words of a state in shape
+  word : (k j i : ℕ) → k < 64 → j < 55 → i ≡ 1042 + 55 * k + j → getD w i 0 ≡ threadWord (getD (s .threads) k noThread) j
+  word k j i a b e = ap (λ (m : ℕ). getD w m 0) e ∙ h .thread k j a b
+
+  sword : (k j i : ℕ) → k < 8 → j < 130 → i ≡ 2 + 130 * k + j → getD w i 0 ≡ schedulerWord (getD (s .schedulers) k noScheduler) j
+  sword k j i a b e = ap (λ (m : ℕ). getD w m 0) e ∙ h .scheduler k j a b
+
+  thread-range : (k j : ℕ) → k < 64 → j < 55 → ThreadFits fs n (getD (s .threads) k noThread) → threadWordInRange fs n w (1042 + 55 * k) j ≡ true
+  thread-range k j a b f = at j b
+    where
+      x : Thread
+      x = getD (s .threads) k noThread
+
+      items : Space (itemInRange fs n) w (1042 + 55 * k + 3) 25
+      items =
+          list-space (itemInRange fs n) w (1042 + 55 * k + 3) 25 (reverse (map itemWord (x .continuation)))
+          (λ i g. word k (3 + i) (1042 + 55 * k + 3 + i) a (omega arith) (omega arith) ∙ thread-continuation x i (omega arith))
+          (rw (length-reverse (map itemWord (x .continuation)) ∙ length-map (x .continuation) itemWord) (f .items-room))
+          (aux-all (λ (v : ℕ). itemInRange fs n v ≡ true) (map itemWord (x .continuation)) []
+          (all-map (ItemFits fs n) (λ (v : ℕ). itemInRange fs n v ≡ true) itemWord (item-in fs n) (x .continuation) (f .items)) none)
+
+      values : Space valueInRange w (1042 + 55 * k + 29) 25
+      values =
+          list-space valueInRange w (1042 + 55 * k + 29) 25 (map valueWord (x .variables))
+          (λ i g. word k (29 + i) (1042 + 55 * k + 29 + i) a (omega arith) (omega arith) ∙ thread-variables x i (omega arith))
+          (rw (length-map (x .variables) valueWord) (f .variables-room))
+          (all-map ValueFits (λ (v : ℕ). valueInRange v ≡ true) valueWord value-in (x .variables) (f .values))
+
+      bit-le : (b : Bool) → bit b ≤ 1
+      bit-le true = omega arith
+      bit-le false = omega arith
+
+      lives : getD w (1042 + 55 * k + 2) 0 ≤ 1
+      lives = rw (word k 2 (1042 + 55 * k + 2) a (omega arith) refl ∙ thread-2 x) (bit-le (not (x .ended)))
+
+      starts : getD w (1042 + 55 * k + 1) 0 ≤ 64
+      starts = rw (word k 1 (1042 + 55 * k + 1) a (omega arith) refl ∙ thread-1 x) (f .starter)
+
+      far : (i : ℕ) → i < 55 → 3 ≤ i → (c : Bool) → ltb i 29 ≡ c → threadWordInRange fs n w (1042 + 55 * k) i ≡ true
+      far i g l true q =
+          let m : i < 29 = ltb-true i 29 q in
+          let e : 3 + (i - 3) ≡ i = omega arith in
+          subst (λ (j : ℕ). threadWordInRange fs n w (1042 + 55 * k) j ≡ true) e
+          (range-items fs n w (1042 + 55 * k) (i - 3) (omega arith) ∙ of-space (itemInRange fs n) w (1042 + 55 * k + 3) 25 items (i - 3) (omega arith))
+      far i g l false q =
+          let m : 29 ≤ i = ltb-false i 29 q in
+          let e : 29 + (i - 29) ≡ i = omega arith in
+          subst (λ (j : ℕ). threadWordInRange fs n w (1042 + 55 * k) j ≡ true) e
+          (range-variables fs n w (1042 + 55 * k) (i - 29) (omega arith) ∙ of-space valueInRange w (1042 + 55 * k + 29) 25 values (i - 29) (omega arith))
+
+      at : (i : ℕ) → i < 55 → threadWordInRange fs n w (1042 + 55 * k) i ≡ true
+      at zero g =
+          range-place fs n w (1042 + 55 * k)
+          ∙ ap (hasPlace n) (word k 0 (1042 + 55 * k) a (omega arith) (omega arith) ∙ thread-0 x) ∙ f .place
+      at (suc zero) g = range-starter fs n w (1042 + 55 * k) ∙ le-leb (getD w (1042 + 55 * k + 1) 0) 64 starts
+      at (suc (suc zero)) g = range-lives fs n w (1042 + 55 * k) ∙ le-leb (getD w (1042 + 55 * k + 2) 0) 1 lives
+      at (suc (suc (suc i))) g = far (suc (suc (suc i))) g (omega arith) (ltb (suc (suc (suc i))) 29) refl
+
+  scheduler-range : (k j : ℕ) → k < 8 → j < 130 → SchedulerFits (getD (s .schedulers) k noScheduler) → schedulerInRange w (2 + 130 * k) j ≡ true
+  scheduler-range k j a b f = at (ltb j 65) refl
+    where
+      x : Scheduler
+      x = getD (s .schedulers) k noScheduler
+
+      active : Space threadInRange w (2 + 130 * k) 64
+      active =
+          list-space threadInRange w (2 + 130 * k) 64 (x .active)
+          (λ i g. sword k i (2 + 130 * k + i) a (omega arith) refl ∙ scheduler-active x i (omega arith)) (f .active-room)
+          (copy (x .active) (f .threads))
+        where
+          copy : (l : List ℕ) → All IsThread l → All (λ (v : ℕ). threadInRange v ≡ true) l
+          copy [] none = none
+          copy (t ∷ l) (more p ps) = more (thread-in t p) (copy l ps)
+
+      next : Space entryInRange w (2 + 130 * k + 65) 64
+      next =
+          list-space entryInRange w (2 + 130 * k + 65) 64 (map entryWord (x .next))
+          (λ i g. sword k (65 + i) (2 + 130 * k + 65 + i) a (omega arith) (omega arith) ∙ scheduler-next x i (omega arith))
+          (rw (length-map (x .next) entryWord) (f .next-room))
+          (all-map EntryFits (λ (v : ℕ). entryInRange v ≡ true) entryWord entry-in (x .next) (f .entries))
+
+      at : (c : Bool) → ltb j 65 ≡ c → schedulerInRange w (2 + 130 * k) j ≡ true
+      at true q = range-active w (2 + 130 * k) j (ltb-true j 65 q) ∙ of-space threadInRange w (2 + 130 * k) 64 active j (ltb-true j 65 q)
+      at false q =
+          let m : 65 ≤ j = ltb-false j 65 q in
+          let e : 65 + (j - 65) ≡ j = omega arith in
+          subst (λ (i : ℕ). schedulerInRange w (2 + 130 * k) i ≡ true) e
+          (range-next w (2 + 130 * k) (j - 65) (omega arith) ∙ of-space entryInRange w (2 + 130 * k + 65) 64 next (j - 65) (omega arith))
+
+  says-range : InRange fs n w
+  says-range =
+      record {
+        all = h .all;
+        threads-room = rw (h .threads) (z .threads-room);
+        cells-room = rw (h .cells) (z .cells-room);
+        scheduler = λ k j a b c. scheduler-range k j a b (z .schedulers k (rw (z .count) c));
+        no-scheduler = λ k j a b c.
+            h .scheduler k j a b ∙ ap (λ (x : Scheduler). schedulerWord x j) (List·getD-eq-default (s .schedulers) noScheduler {n = k} (rw (z .count) c))
+            ∙ sym (no-scheduler-word j b);
+        thread = λ k j b c. let l : k < length (s .threads) = rw (← h .threads) c in let m = z .threads-room in thread-range k j (omega arith) b (z .threads k l);
+        no-thread = λ k j a b c.
+            h .thread k j a b ∙ ap (λ (x : Thread). threadWord x j) (List·getD-eq-default (s .threads) noThread {n = k} (rw (← h .threads) c))
+            ∙ sym (no-thread-word j b);
+        cell = λ c l.
+            let g : c < length (s .cells) = rw (← h .cells) l in
+            let m = z .cells-room in
+            ap (cellInRange n) (h .cell c (omega arith)) ∙ cell-in n (getD (s .cells) c noCell) (z .cells c g);
+        no-cell = λ c a l. h .cell c a ∙ ap cellWord (List·getD-eq-default (s .cells) noCell {n = c} (rw (← h .cells) l)) ∙ sym no-cell-word;
+      }
+
+-- so a state in shape is never 14
+pub shaped-in-range : (fs : List Frame) (n : ℕ) (s : State) → Shaped fs n s → inRange fs n (pack s) ≡ true
+shaped-in-range fs n s z = range-in fs n (pack s) (says-range fs n (pack s) s (says-pack s) z)
+
+-- ---- the state of words in range
+module _ (fs : List Frame) (n : ℕ) (w : List ℕ) (h : InRange fs n w) where
+  thread-shape : (k : ℕ) → k < getD w 0 0 → ThreadFits fs n (threadFrom fs w k)
+  unfolding threadFrom
+  thread-shape k a =
+      record {
+        place = sym (range-place fs n w (1042 + 55 * k)) ∙ h .thread k 0 (omega arith) a;
+        starter = leb-true (getD w (1042 + 55 * k + 1) 0) 64 (sym (range-starter fs n w (1042 + 55 * k)) ∙ h .thread k 1 (omega arith) a);
+        items-room = rw (length-map (reverse items) (wordItem fs) ∙ length-reverse items ∙ tab-length (getD w (1042 + 55 * k + 3) 0) (λ j. getD w j 0) (suc (1042 + 55 * k + 3))) (items-space fs n w h k a .room);
+        variables-room = rw (length-map values wordValue ∙ tab-length (getD w (1042 + 55 * k + 29) 0) (λ j. getD w j 0) (suc (1042 + 55 * k + 29))) (values-space fs n w h k a .room);
+        items =
+            all-map (λ (v : ℕ). itemInRange fs n v ≡ true) (ItemFits fs n) (wordItem fs) (in-item fs n) (reverse items)
+            (aux-all (λ (v : ℕ). itemInRange fs n v ≡ true) items [] (list-all (itemInRange fs n) w (1042 + 55 * k + 3) 25 (items-space fs n w h k a)) none);
+        values =
+            all-map (λ (v : ℕ). valueInRange v ≡ true) ValueFits wordValue in-value values
+            (list-all valueInRange w (1042 + 55 * k + 29) 25 (values-space fs n w h k a));
+      }
+    where
+      items : List ℕ
+      items = wordsAt w (1042 + 55 * k + 3)
+
+      values : List ℕ
+      values = wordsAt w (1042 + 55 * k + 29)
+
+  scheduler-shape : (k : ℕ) → k < 8 → k < n → SchedulerFits (schedulerFrom w k)
+  unfolding schedulerFrom
+  scheduler-shape k l a =
+      record {
+        active-room = rw (tab-length (getD w (2 + 130 * k) 0) (λ j. getD w j 0) (suc (2 + 130 * k))) (active-space fs n w h k l a .room);
+        next-room = rw (length-map next wordEntry ∙ tab-length (getD w (67 + 130 * k) 0) (λ j. getD w j 0) (suc (67 + 130 * k))) (next-space fs n w h k l a .room);
+        threads = copy (wordsAt w (2 + 130 * k)) (list-all threadInRange w (2 + 130 * k) 64 (active-space fs n w h k l a));
+        entries = all-map (λ (v : ℕ). entryInRange v ≡ true) EntryFits wordEntry in-entry next (list-all entryInRange w (67 + 130 * k) 64 (next-space fs n w h k l a));
+      }
+    where
+      next : List ℕ
+      next = wordsAt w (67 + 130 * k)
+
+      copy : (l : List ℕ) → All (λ (v : ℕ). threadInRange v ≡ true) l → All IsThread l
+      copy [] none = none
+      copy (t ∷ l) (more p ps) = more (in-thread t p) (copy l ps)
+
+  range-shaped : n ≤ 8 → Shaped fs n (unpack fs n w)
+  unfolding unpack
+  range-shaped m =
+      record {
+        threads-room = rw (tab-length (getD w 0 0) (threadFrom fs w) 0) (h .threads-room);
+        schedulers-room = rw (tab-length n (schedulerFrom w) 0) m;
+        cells-room = rw (tab-length (getD w 1 0) (λ c. wordCell (getD w (4562 + c) 0)) 0) (h .cells-room);
+        count = tab-length n (schedulerFrom w) 0;
+        threads = λ k g.
+            let l : k < getD w 0 0 = rw (tab-length (getD w 0 0) (threadFrom fs w) 0) at g in
+            subst (ThreadFits fs n) (sym (tab-at (getD w 0 0) (threadFrom fs w) k noThread l)) (thread-shape k l);
+        schedulers = λ k g.
+            let l : k < n = rw (tab-length n (schedulerFrom w) 0) at g in
+            subst SchedulerFits (sym (tab-at n (schedulerFrom w) k noScheduler l)) (scheduler-shape k (omega arith) l);
+        cells = λ c g.
+            let l : c < getD w 1 0 = rw (tab-length (getD w 1 0) (λ i. wordCell (getD w (4562 + i) 0)) 0) at g in
+            subst (CellFits n) (sym (tab-at (getD w 1 0) (λ i. wordCell (getD w (4562 + i) 0)) c noCell l)) (in-cell n (getD w (4562 + c) 0) (h .cell c l));
+      }
+
+-- words in range say a state in shape
+pub in-range-shaped : (fs : List Frame) (n : ℕ) (w : List ℕ) → n ≤ 8 → inRange fs n w ≡ true → Shaped fs n (unpack fs n w)
+in-range-shaped fs n w m e = range-shaped fs n w (in-range fs n w e) m

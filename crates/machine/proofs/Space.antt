@@ -1,0 +1,443 @@
+-- From a fresh state no list is ever full: the entries of all lists and the unlinked threads are no more than the threads. Assumes nothing.
+use mathlib.Core.Path.{_≡_, refl, sym, ap, _∙_}
+use mathlib.Core.Logic.{_⊎_, inl, inr, ⊎-elim}
+use mathlib.Core.List.{List, [], _∷_, _++_}
+use mathlib.Core.Bool.{Bool, true, false, not, _&&_, true≢false}
+use Prim.Native.Nat.{ℕ, zero, suc, _+_, _-_, _≤_, _<_}
+use native.Mathlib.Omega.{arith}
+use lib.Dec.{leb, eqb}
+use lib.ListN.{length, getD, set, length-set, length-append, replicate}
+use borrow.Author.Tests.{leb-false, le-leb}
+use Rattle.basics.specs.If.{if_then_else_}
+use Rattle.basics.proofs.Ifs.{if-all, and-true}
+use Rattle.program.specs.Trees.{Expr, Stmt, nothing, seq, doAt, start, startWait, cooperate, letIn, store, ifElse, while}
+use Rattle.program.specs.Programs.{Program, moduleAt}
+use Rattle.machine.specs.State.{State, Item, run, back, drop, Thread, Scheduler, Entry, plain, noThread, noScheduler, nth, setNth, schedulerAt, threadAt, withNew, enlist}
+use Rattle.machine.specs.Words.{bit}
+use Rattle.machine.specs.Waits.{isReady, threadOf, keepIf, readyThreads, stillWaiting}
+use Rattle.machine.specs.Fresh.{fresh}
+use Rattle.machine.specs.Evaluation.{Here, Evaluated, Evaluation, eval, storing}
+use Rattle.machine.specs.Turns.{Stepped, Turn, here, variables, behind, evaluator, goOn, withValue, withValues, byCondition, selfAt, settled, behindFirst, isSchedulerOf, leave, room, unlinkedHere, stay, move, goTo}
+use Rattle.machine.specs.Steps.{isUnlinked, stepItems, stepThread, turn, turnInstant, endInstant, stepScheduler, step}
+use Rattle.machine.specs.Statements.{ends, drops, goesBack, stepNothing, stepSeq, stepDo, started, starting, stepStart, startedWait, stepStartWait, stepCooperate, stepLet, stepStore, stepIf, stepWhile, stepStatement}
+use Rattle.machine.specs.Runs.{stateFrom, stateAfter}
+use Rattle.machine.specs.declared.value.Value.{Value}
+use Rattle.machine.specs.declared.value.Value.the-variants.{Number, Truth, Cell}
+use Rattle.machine.specs.declared.value.Outcome.{Outcome}
+use Rattle.machine.specs.declared.value.Outcome.the-variants.{Is, Foreign, Spent, Stuck}
+
+-- the entries of a scheduler's two lists
+unfoldable pub weight : Scheduler → ℕ
+weight x = length (x .active) + length (x .next)
+
+unfoldable pub total : List Scheduler → ℕ
+total [] = 0
+total (x ∷ xs) = weight x + total xs
+
+unfoldable pub isFree : Thread → Bool
+isFree x = eqb (x .place) 1 && not (x .ended)
+
+unfoldable pub free : Thread → ℕ
+free x = bit (isFree x)
+
+-- the unlinked threads
+unfoldable pub unlinkedCount : List Thread → ℕ
+unlinkedCount [] = 0
+unlinkedCount (x ∷ xs) = free x + unlinkedCount xs
+
+-- ---- sums over lists, at one place
+
+total-set-le : (xs : List Scheduler) (i k : ℕ) (x : Scheduler) → weight x ≤ weight (getD xs i noScheduler) + k → total (set xs i x) ≤ total xs + k
+unfolding total
+total-set-le [] i k x h = omega arith
+total-set-le (y ∷ xs) zero k x h = omega arith
+total-set-le (y ∷ xs) (suc i) k x h = let g = total-set-le xs i k x h in omega arith
+
+total-set-less : (xs : List Scheduler) (i : ℕ) (x : Scheduler) → suc (weight x) ≡ weight (getD xs i noScheduler) → suc (total (set xs i x)) ≡ total xs
+unfolding total weight
+total-set-less [] i x h = absurd (omega arith)
+total-set-less (y ∷ xs) zero x h = omega arith
+total-set-less (y ∷ xs) (suc i) x h = let g = total-set-less xs i x h in omega arith
+
+next-le : (xs : List Scheduler) (i : ℕ) → length (getD xs i noScheduler .next) ≤ total xs
+unfolding total weight
+next-le [] i = omega arith
+next-le (y ∷ xs) zero = omega arith
+next-le (y ∷ xs) (suc i) = let g = next-le xs i in omega arith
+
+active-le : (xs : List Scheduler) (i : ℕ) → length (getD xs i noScheduler .active) ≤ total xs
+unfolding total weight
+active-le [] i = omega arith
+active-le (y ∷ xs) zero = omega arith
+active-le (y ∷ xs) (suc i) = let g = active-le xs i in omega arith
+
+both-le : (xs : List Scheduler) (i j : ℕ) → length (getD xs i noScheduler .active) + length (getD xs j noScheduler .next) ≤ total xs
+unfolding total weight
+both-le [] i j = omega arith
+both-le (y ∷ xs) zero zero = omega arith
+both-le (y ∷ xs) zero (suc j) = let g = next-le xs j in omega arith
+both-le (y ∷ xs) (suc i) zero = let g = active-le xs i in omega arith
+both-le (y ∷ xs) (suc i) (suc j) = let g = both-le xs i j in omega arith
+
+unlinked-set-le : (xs : List Thread) (i k : ℕ) (x : Thread) → free x ≤ free (getD xs i noThread) + k → unlinkedCount (set xs i x) ≤ unlinkedCount xs + k
+unfolding unlinkedCount
+unlinked-set-le [] i k x h = omega arith
+unlinked-set-le (y ∷ xs) zero k x h = omega arith
+unlinked-set-le (y ∷ xs) (suc i) k x h = let g = unlinked-set-le xs i k x h in omega arith
+
+unlinked-set-less : (xs : List Thread) (i : ℕ) (x : Thread) → free (getD xs i noThread) ≡ 1 → suc (unlinkedCount (set xs i x)) ≡ unlinkedCount xs + free x
+unfolding unlinkedCount free isFree
+unlinked-set-less [] i x h = absurd (omega arith)
+unlinked-set-less (y ∷ xs) zero x h = omega arith
+unlinked-set-less (y ∷ xs) (suc i) x h = let g = unlinked-set-less xs i x h in omega arith
+
+unlinked-pos : (xs : List Thread) (i : ℕ) → free (getD xs i noThread) ≡ 1 → 1 ≤ unlinkedCount xs
+unfolding unlinkedCount free isFree
+unlinked-pos [] i h = absurd (omega arith)
+unlinked-pos (y ∷ xs) zero h = omega arith
+unlinked-pos (y ∷ xs) (suc i) h = let g = unlinked-pos xs i h in omega arith
+
+-- the same, threads counting from 1
+pub nth-length : (xs : List Thread) (t : ℕ) (x : Thread) → length (setNth xs t x) ≡ length xs
+nth-length xs zero x = refl
+nth-length xs (suc i) x = length-set xs i x
+
+nth-le : (xs : List Thread) (t k : ℕ) (x : Thread) → free x ≤ free (nth xs t) + k → unlinkedCount (setNth xs t x) ≤ unlinkedCount xs + k
+nth-le xs zero k x h = omega arith
+nth-le xs (suc i) k x h = unlinked-set-le xs i k x h
+
+nth-less : (xs : List Thread) (t : ℕ) (x : Thread) → free (nth xs t) ≡ 1 → suc (unlinkedCount (setNth xs t x)) ≡ unlinkedCount xs + free x
+unfolding free isFree
+nth-less xs zero x h = absurd (omega arith)
+nth-less xs (suc i) x h = unlinked-set-less xs i x h
+
+nth-pos : (xs : List Thread) (t : ℕ) → free (nth xs t) ≡ 1 → 1 ≤ unlinkedCount xs
+unfolding free isFree
+nth-pos xs zero h = absurd (omega arith)
+nth-pos xs (suc i) h = unlinked-pos xs i h
+
+unlinked-snoc : (xs : List Thread) (x : Thread) → unlinkedCount (xs ++ (x ∷ [])) ≡ unlinkedCount xs + free x
+unfolding unlinkedCount
+unlinked-snoc [] x = omega arith
+unlinked-snoc (y ∷ xs) x = let g = unlinked-snoc xs x in omega arith
+
+enlist-total : (q : ℕ) (e : Entry) (s : State) → total (enlist q e s .schedulers) ≤ total (s .schedulers) + 1
+unfolding enlist weight
+enlist-total q e s = total-set-le (s .schedulers) (q - 2) 1 _ (let g = length-append (schedulerAt s q .next) (e ∷ []) in omega arith)
+
+-- ---- the invariant
+
+pub record Counted (s : State) : Type 0 where
+  pub most : length (s .threads) ≤ 64
+  pub count : total (s .schedulers) + unlinkedCount (s .threads) ≤ length (s .threads)
+
+-- the acting thread is one of those counted: first of the chosen scheduler, or unlinked
+abbrev Stands : Turn → Type 0
+Stands u =
+    ((isSchedulerOf (u .program) (u .choice) ≡ true) × (1 ≤ length (schedulerAt (u .state) (u .choice) .active)))
+    ⊎ ((isSchedulerOf (u .program) (u .choice) ≡ false) × (free (threadAt (u .state) (u .thread)) ≡ 1))
+
+pub record Acting (u : Turn) : Type 0 where
+  pub counted : Counted (u .state)
+  pub stands : Stands u
+  pub same : free (u .self) ≡ free (threadAt (u .state) (u .thread))
+
+-- one more entry has room, and two where there is room for one more thread
+next-room : (u : Turn) → Acting u → (q : ℕ) → suc (length (schedulerAt (u .state) q .next)) ≤ length (u .state .threads)
+next-room u a q =
+    let c = a .counted .count in
+    ⊎-elim
+    (λ h. let g = both-le (u .state .schedulers) (u .choice - 2) (q - 2) in let k = h .1 in omega arith)
+    (λ h. let g = next-le (u .state .schedulers) (q - 2) in let k = nth-pos (u .state .threads) (u .thread) (h .1) in omega arith)
+    (a .stands)
+
+pub room-one : (u : Turn) → Acting u → (q : ℕ) → room u 1 q ≡ true
+unfolding room
+room-one u a q = let g = next-room u a q in let m = a .counted .most in le-leb (length (schedulerAt (u .state) q .next) + 1) 64 (omega arith)
+
+pub room-two : (u : Turn) → Acting u → (q : ℕ) → length (u .state .threads) < 64 → room u 2 q ≡ true
+unfolding room
+room-two u a q l = let g = next-room u a q in le-leb (length (schedulerAt (u .state) q .next) + 2) 64 (omega arith)
+
+-- the acting thread replaced, where it stays
+stay-counted : (u : Turn) → Acting u → (x : Thread) → free x ≡ free (u .self) → Counted (settled u x)
+stay-counted u a x e =
+    let c = a .counted .count in let m = a .counted .most in let f = a .same in
+    let n = nth-length (u .state .threads) (u .thread) x in
+    let l = nth-le (u .state .threads) (u .thread) 0 x (omega arith) in
+    record { most = omega arith; count = omega arith }
+
+first-less : (x : Scheduler) → 1 ≤ length (x .active) → suc (weight (record { active = behindFirst (x .active); next = x .next })) ≡ weight x
+unfolding weight
+first-less x h = go (x .active) h
+  where
+    go : (l : List ℕ) → 1 ≤ length l → suc (length (behindFirst l) + length (x .next)) ≡ length l + length (x .next)
+    go [] h = absurd (omega arith)
+    go (t ∷ l) h = omega arith
+
+leave-total : (u : Turn) (s : State) → isSchedulerOf (u .program) (u .choice) ≡ true → 1 ≤ length (schedulerAt s (u .choice) .active)
+    → suc (total (leave u s .schedulers)) ≡ total (s .schedulers)
+unfolding leave
+leave-total u s e h =
+    if-all (λ (r : State). suc (total (r .schedulers)) ≡ total (s .schedulers)) (isSchedulerOf (u .program) (u .choice)) _ s
+    (λ _. total-set-less (s .schedulers) (u .choice - 2) _ (first-less (schedulerAt s (u .choice)) h))
+    (λ f. absurd (true≢false (sym e ∙ f)))
+
+leave-total-le : (u : Turn) (s : State) → isSchedulerOf (u .program) (u .choice) ≡ false → total (leave u s .schedulers) ≡ total (s .schedulers)
+unfolding leave
+leave-total-le u s e =
+    if-all (λ (r : State). total (r .schedulers) ≡ total (s .schedulers)) (isSchedulerOf (u .program) (u .choice)) _ s
+    (λ f. absurd (true≢false (sym f ∙ e))) (λ _. refl)
+
+pub leave-threads : (u : Turn) (s : State) → leave u s .threads ≡ s .threads
+unfolding leave
+leave-threads u s = if-all (λ (r : State). r .threads ≡ s .threads) (isSchedulerOf (u .program) (u .choice)) _ s (λ _. refl) (λ _. refl)
+
+-- the acting thread replaced by x, and gone from its list: there is one to spare, but for x itself if it is unlinked
+pub left-count : (u : Turn) → Acting u → (x : Thread)
+    → suc (total (leave u (settled u x) .schedulers) + unlinkedCount (leave u (settled u x) .threads)) ≤ length (u .state .threads) + free x
+left-count u a x =
+    let c = a .counted .count in
+    let t = ap unlinkedCount (leave-threads u (settled u x)) in
+    ⊎-elim
+    (λ h.
+    let g = leave-total u (settled u x) (h .0) (h .1) in
+    let l = nth-le (u .state .threads) (u .thread) (free x) x (omega arith) in omega arith)
+    (λ h.
+    let g = leave-total-le u (settled u x) (h .0) in
+    let l = nth-less (u .state .threads) (u .thread) x (h .1) in omega arith)
+    (a .stands)
+
+left-length : (u : Turn) (x : Thread) → length (leave u (settled u x) .threads) ≡ length (u .state .threads)
+left-length u x = ap (length {A = Thread}) (leave-threads u (settled u x)) ∙ nth-length (u .state .threads) (u .thread) x
+
+free-le : (x : Thread) → free x ≤ 1
+unfolding free
+free-le x = go (isFree x)
+  where
+    go : (b : Bool) → bit b ≤ 1
+    go true = omega arith
+    go false = omega arith
+
+left-counted : (u : Turn) → Acting u → (x : Thread) → Counted (leave u (settled u x))
+left-counted u a x =
+    let c = left-count u a x in let m = a .counted .most in let n = left-length u x in let f = free-le x in
+    record { most = omega arith; count = omega arith }
+
+pub enlist-threads : (q : ℕ) (e : Entry) (s : State) → enlist q e s .threads ≡ s .threads
+unfolding enlist
+enlist-threads q e s = refl
+
+enlisted-counted : (u : Turn) → Acting u → (x : Thread) (q : ℕ) (e : Entry) → free x ≡ 0 → Counted (enlist q e (leave u (settled u x)))
+enlisted-counted u a x q e z =
+    let c = left-count u a x in let m = a .counted .most in let n = left-length u x in
+    let g = enlist-total q e (leave u (settled u x)) in
+    let t = ap (length {A = Thread}) (enlist-threads q e (leave u (settled u x))) in
+    let l = ap unlinkedCount (enlist-threads q e (leave u (settled u x))) in
+    record { most = omega arith; count = omega arith }
+
+-- ---- each step keeps it
+
+not-free : (x : Thread) → eqb (x .place) 1 ≡ false → free x ≡ 0
+unfolding free isFree
+not-free x e = ap (λ (b : Bool). bit (b && not (x .ended))) e
+
+gone-free : (x : Thread) → x .ended ≡ true → free x ≡ 0
+unfolding free isFree
+gone-free x e = go (eqb (x .place) 1) (x .ended) e
+  where
+    go : (a b : Bool) → b ≡ true → bit (a && not b) ≡ 0
+    go true true h = refl
+    go true false h = absurd (true≢false (sym h))
+    go false b h = refl
+
+new-unlinked : (s : State) (x : Thread) → unlinkedCount (withNew x s .threads) ≡ unlinkedCount (s .threads) + free x
+new-unlinked s x = unlinked-snoc (s .threads) x
+
+new-length : (s : State) (x : Thread) → length (withNew x s .threads) ≡ length (s .threads) + 1
+new-length s x = length-append (s .threads) (x ∷ [])
+
+start-counted : (u : Turn) → Acting u → (x : Thread) (q : ℕ) (e : Entry) → free x ≡ 0 → length (u .state .threads) < 64
+    → Counted (enlist q e (withNew x (settled u (u .self))))
+start-counted u a x q e z r =
+    let b = settled u (u .self) in
+    let c = stay-counted u a (u .self) refl .count in
+    let k = nth-length (u .state .threads) (u .thread) (u .self) in
+    let g = enlist-total q e (withNew x b) in
+    let t = ap (length {A = Thread}) (enlist-threads q e (withNew x b)) in
+    let l = ap unlinkedCount (enlist-threads q e (withNew x b)) in
+    let nl = new-unlinked b x in let nn = new-length b x in
+    record { most = omega arith; count = omega arith }
+
+wait-counted : (u : Turn) → Acting u → (x : Thread) (q : ℕ) (e f : Entry) → free x ≡ 0 → free (u .self) ≡ 0 → length (u .state .threads) < 64
+    → Counted (enlist q f (enlist q e (withNew x (leave u (settled u (u .self))))))
+wait-counted u a x q e f z y r =
+    let b = leave u (settled u (u .self)) in
+    let c = left-count u a (u .self) in
+    let k = left-length u (u .self) in
+    let g = enlist-total q e (withNew x b) in
+    let t = ap (length {A = Thread}) (enlist-threads q e (withNew x b)) in
+    let l = ap unlinkedCount (enlist-threads q e (withNew x b)) in
+    let g′ = enlist-total q f (enlist q e (withNew x b)) in
+    let t′ = ap (length {A = Thread}) (enlist-threads q f (enlist q e (withNew x b))) in
+    let l′ = ap unlinkedCount (enlist-threads q f (enlist q e (withNew x b))) in
+    let nl = new-unlinked b x in let nn = new-length b x in
+    record { most = omega arith; count = omega arith }
+
+abbrev Kept : Stepped → Type 0
+Kept r = Counted (r .state)
+
+kept-if : (b : Bool) (x y : Stepped) → (b ≡ true → Kept x) → (b ≡ false → Kept y) → Kept (if b then x else y)
+kept-if b x y f g = if-all Kept b x y f g
+
+kept-goOn : (u : Turn) (o : Outcome) (k : Value → Turn → Stepped) → Acting u → ((v : Value) → Kept (k v u)) → Kept (goOn u o k)
+kept-goOn u (Is v) k a g = g v
+kept-goOn u Foreign k a g = a .counted
+kept-goOn u Spent k a g = a .counted
+kept-goOn u Stuck k a g = a .counted
+
+kept-value : (u : Turn) (m : Here → Evaluation) (k : Value → Turn → Stepped) → Acting u → ((v : Value) (w : Turn) → Acting w → Kept (k v w)) → Kept (withValue u m k)
+kept-value u m k a g =
+    let r : Evaluated = m (evaluator u) (u .cells) in
+    let b : Acting (behind u r) = record { counted = a .counted; stands = a .stands; same = a .same } in
+    kept-goOn (behind u r) (r .outcome) k b (λ v. g v (behind u r) b)
+
+kept-values : (u : Turn) (xs : List Expr) (k : List Value → Turn → Stepped) → Acting u → ((vs : List Value) (w : Turn) → Acting w → Kept (k vs w)) → Kept (withValues u xs k)
+unfolding withValues
+kept-values u [] k a g = g [] u a
+kept-values u (x ∷ xs) k a g = kept-value u (λ h. eval h x) _ a (λ v w j. kept-values w xs _ j (λ vs. g (v ∷ vs)))
+
+kept-by : (u : Turn) (v : Value) (a b : Stepped) → Acting u → Kept a → Kept b → Kept (byCondition u v a b)
+kept-by u (Truth true) a b h f g = f
+kept-by u (Truth false) a b h f g = g
+kept-by u (Number n) a b h f g = h .counted
+kept-by u (Cell c) a b h f g = h .counted
+
+free-self : (u : Turn) (items : List Item) (vars : List Value) → free (selfAt u (here u) items vars) ≡ free (u .self)
+unfolding free isFree
+free-self u items vars = refl
+
+kept-stay : (u : Turn) (items : List Item) (vars : List Value) → Acting u → Kept (stay u items vars)
+unfolding stay
+kept-stay u items vars a = kept-if _ _ _ (λ _. stay-counted u a (selfAt u (here u) items vars) (free-self u items vars)) (λ _. a .counted)
+
+kept-move : (u : Turn) (q : ℕ) (items : List Item) → Acting u → Kept (move u q items)
+unfolding move
+kept-move u q items a =
+    let x = selfAt u q items (variables u) in
+    kept-if _ _ _ (λ _. a .counted)
+    (λ _. kept-if _ _ _ (λ _. left-counted u a x)
+    (λ e. kept-if _ _ _ (λ _. enlisted-counted u a x q (plain (u .thread)) (not-free x e)) (λ _. a .counted)))
+
+kept-goTo : (u : Turn) (q : ℕ) (items : List Item) → Acting u → Kept (goTo u q items)
+unfolding goTo
+kept-goTo u q items a = kept-if _ _ _ (λ _. kept-stay u items _ a) (λ _. kept-move u q items a)
+
+kept-starting : (u : Turn) (m : ℕ) (vs : List Value) (r : Stepped) → Acting u → (unlinkedHere u ≡ false → length (u .state .threads) < 64 → Kept r) → Kept (starting u m vs r)
+unfolding starting
+kept-starting u m vs r a g =
+    let f = a .counted in
+    kept-if _ _ _ (λ _. f) (λ l. kept-if _ _ _ (λ _. f) (λ _. kept-if _ _ _ (λ _. f) (λ _. kept-if _ _ _ (λ _. f)
+    (λ _. kept-if (leb 64 (length (u .state .threads))) _ _ (λ _. f) (λ e. g l (leb-false 64 (length (u .state .threads)) e))))))
+
+kept-statement : (u : Turn) (x : Stmt) → Acting u → Kept (stepStatement u x)
+unfolding stepNothing stepSeq stepDo stepStart startedWait stepStartWait stepCooperate stepLet stepStore stepIf stepWhile
+kept-statement u (nothing i) h = kept-stay u _ _ h
+kept-statement u (seq i a b) h = kept-stay u _ _ h
+kept-statement u (doAt i q a) h = kept-if _ _ _ (λ _. h .counted) (λ _. kept-goTo u q _ h)
+kept-statement u (start i m xs) h =
+    kept-values u xs _ h (λ vs w j. kept-starting w m vs _ j (λ l r. start-counted w j _ _ _ (not-free (started w (moduleAt (w .program) m) vs) l) r))
+kept-statement u (startWait i m xs) h =
+    kept-values u xs _ h (λ vs w j. kept-starting w m vs _ j
+    (λ l r. kept-if _ _ _ (λ _. wait-counted w j _ _ _ _ (not-free (started w (moduleAt (w .program) m) vs) l) (not-free (w .self) l) r) (λ _. j .counted)))
+kept-statement u (cooperate i) h =
+    kept-if _ _ _ (λ _. h .counted) (λ l. kept-if _ _ _ (λ _. enlisted-counted u h (u .self) _ _ (not-free (u .self) l)) (λ _. h .counted))
+kept-statement u (letIn i x a) h = kept-value u (λ e. eval e x) _ h (λ v w j. kept-stay w _ _ j)
+kept-statement u (store i x y) h = kept-value u (λ e. storing e x y) _ h (λ v w j. kept-stay w _ _ j)
+kept-statement u (ifElse i x a b) h = kept-value u (λ e. eval e x) _ h (λ v w j. kept-by w v _ _ j (kept-stay w _ _ j) (kept-stay w _ _ j))
+kept-statement u (while i x a) h = kept-value u (λ e. eval e x) _ h (λ v w j. kept-by w v _ _ j (kept-stay w _ _ j) (kept-stay w _ _ j))
+
+pub free-same : (p : Program) (s : State) (c t : ℕ) → free (turn p s c t [] .self) ≡ free (threadAt s t)
+unfolding free isFree
+free-same p s c t = refl
+
+pub acting-with : (p : Program) (s : State) (c t : ℕ) (items : List Item) → Acting (turn p s c t []) → Acting (turn p s c t items)
+unfolding free isFree
+acting-with p s c t items a = record { counted = a .counted; stands = a .stands; same = refl }
+
+kept-items : (p : Program) (s : State) (c t : ℕ) (items : List Item) → Acting (turn p s c t []) → Kept (stepItems p s c t items)
+unfolding ends drops goesBack
+kept-items p s c t [] a = left-counted (turn p s c t []) a _
+kept-items p s c t (run x ∷ items) a = kept-statement (turn p s c t items) x (acting-with p s c t items a)
+kept-items p s c t (back q ∷ items) a = kept-goTo (turn p s c t items) q _ (acting-with p s c t items a)
+kept-items p s c t (drop ∷ items) a = kept-if _ _ _ (λ _. a .counted) (λ _. kept-stay (turn p s c t items) _ _ (acting-with p s c t items a))
+
+kept-thread : (p : Program) (s : State) (c t : ℕ) → Acting (turn p s c t []) → Kept (stepThread p s c t)
+unfolding stepThread
+kept-thread p s c t a = kept-items p s c t (threadAt s t .continuation) a
+
+-- ready entries become active, waiting ones stay: none is lost, none is doubled
+pub parted : (ts : List Thread) (es : List Entry) → length (readyThreads ts es) + length (stillWaiting ts es) ≡ length es
+unfolding readyThreads stillWaiting
+parted ts [] = omega arith
+parted ts (e ∷ es) = go (isReady ts e) (parted ts es)
+  where
+    go : (b : Bool) → length (readyThreads ts es) + length (stillWaiting ts es) ≡ length es
+        → length (keepIf b (threadOf e) (readyThreads ts es)) + length (keepIf (not b) e (stillWaiting ts es)) ≡ suc (length es)
+    go true h = omega arith
+    go false h = omega arith
+
+weighs : (s : State) (c : ℕ) (ts : List ℕ) (es : List Entry) → length ts + length es ≤ weight (schedulerAt s c)
+    → weight (record { active = ts; next = es }) ≤ weight (schedulerAt s c) + 0
+unfolding weight
+weighs s c ts es h = omega arith
+
+kept-instant : (s : State) (c : ℕ) (ts : List ℕ) (es : List Entry) → Counted s → length ts + length es ≤ weight (schedulerAt s c) → Kept (turnInstant s c ts es)
+kept-instant s c [] es h l = h
+kept-instant s c (t ∷ ts) es h l =
+    let g = total-set-le (s .schedulers) (c - 2) 0 (record { active = t ∷ ts; next = es }) (weighs s c (t ∷ ts) es l) in
+    let n = h .count in
+    record { most = h .most; count = omega arith }
+
+kept-scheduler : (p : Program) (s : State) (c : ℕ) (ts : List ℕ) → Counted s → isSchedulerOf p c ≡ true → ts ≡ schedulerAt s c .active → Kept (stepScheduler p s c ts)
+unfolding endInstant weight
+kept-scheduler p s c [] h i e =
+    let es = schedulerAt s c .next in
+    let q = parted (s .threads) es in
+    kept-instant s c (readyThreads (s .threads) es) (stillWaiting (s .threads) es) h (omega arith)
+kept-scheduler p s c (t ∷ ts) h i e =
+    let n = ap (length {A = ℕ}) e in
+    kept-thread p s c t (record { counted = h; stands = inl (i, omega arith); same = free-same p s c t })
+
+pub unlinked-free : (s : State) (c : ℕ) → isUnlinked s c ≡ true → free (threadAt s (c - 16)) ≡ 1
+unfolding isUnlinked free isFree
+unlinked-free s c e =
+    let a = and-true _ (not (threadAt s (c - 16) .ended)) e in
+    let b = and-true (leb 17 c && leb (c - 16) (length (s .threads))) (eqb (threadAt s (c - 16) .place) 1) (a .0) in
+    ap (λ (x : Bool). bit (x && not (threadAt s (c - 16) .ended))) (b .1) ∙ ap bit (a .1)
+
+pub counted-step : (p : Program) (s : State) (c : ℕ) → Counted s → Counted (step p s c .state)
+unfolding step
+counted-step p s c h =
+    kept-if (isSchedulerOf p c) _ _ (λ i. kept-scheduler p s c (schedulerAt s c .active) h i refl)
+    (λ i. kept-if (isUnlinked s c) _ _
+    (λ l. kept-thread p s c (c - 16) (record { counted = h; stands = inr (i, unlinked-free s c l); same = free-same p s c (c - 16) }))
+    (λ _. h))
+
+counted-from : (p : Program) (s : State) (cs : List ℕ) → Counted s → Counted (stateFrom p s cs)
+unfolding stateFrom
+counted-from p s [] h = h
+counted-from p s (c ∷ cs) h = counted-from p (step p s c .state) cs (counted-step p s c h)
+
+empty-total : (n : ℕ) → total (replicate n noScheduler) ≡ 0
+unfolding total weight
+empty-total zero = refl
+empty-total (suc n) = let g = empty-total n in omega arith
+
+pub fresh-counted : (p : Program) → Counted (fresh p)
+unfolding fresh total weight unlinkedCount free isFree
+fresh-counted p = let g = empty-total (p .schedulers - 1) in record { most = omega arith; count = omega arith }
+
+-- after any list of choices, on any program: no more entries and unlinked threads than threads, and no more than 64 of these
+pub counted : (p : Program) (cs : List ℕ) → Counted (stateAfter p cs)
+counted p cs = counted-from p (fresh p) cs (fresh-counted p)

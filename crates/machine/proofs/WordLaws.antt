@@ -1,0 +1,184 @@
+-- Lists: tables, parts, a block replaced; and the words of a packed state. Assumes nothing.
+use Prim.Native.Nat.{ℕ, suc, zero, _+_, _*_, _-_, _/_, _%_, _<_, _≤_}
+use mathlib.Core.Path.{_≡_, refl, sym, ap, ap₂, _∙_, subst}
+use mathlib.Core.List.{List, _++_}
+use mathlib.Core.Bool.{Bool, true, false}
+use native.Mathlib.Omega.{arith}
+use native.Mathlib.Nat.{zero-add}
+use native.Mathlib.Decide.{ℕ-discrete}
+use native.Mathlib.Numerals.{add-one}
+use lib.ListN.{getD, length, set, take, drop, length-drop, List·getD-append}
+use lib.Seq.{ext-getD, getD-take, getD-drop, length-take-le, length-paste, length-paste-head, getD-append-add, paste-zero, paste-suc}
+use lib.Dec.{ltb}
+use borrow.Author.Tests.{ltb-true, ltb-false, lt-ltb, le-ltb, eq-eqb, ne-eqb}
+use Rattle.basics.proofs.Ifs.{if-yes, if-no}
+use Rattle.machine.specs.State.{State, noThread, noScheduler, noCell}
+use Rattle.machine.specs.Words.{tabulate, threadWord, schedulerWord, cellWord, wordOf, pack}
+use Rattle.machine.specs.Blocks.{part, pasted}
+
+-- ---- tables
+pub tab-length : {A : Type 0} (n : ℕ) (f : ℕ → A) (i : ℕ) → length (tabulate n f i) ≡ n
+unfolding tabulate
+tab-length zero f i = refl
+tab-length (suc n) f i = ap suc (tab-length n f (suc i))
+
+pub tab-from : {A : Type 0} (n : ℕ) (f : ℕ → A) (i j : ℕ) (d : A) → j < n → getD (tabulate n f i) j d ≡ f (i + j)
+unfolding tabulate
+tab-from zero f i j d h = absurd (omega arith)
+tab-from (suc n) f i zero d h = ap f (omega arith)
+tab-from (suc n) f i (suc j) d h = tab-from n f (suc i) j d (omega arith) ∙ ap f (omega arith)
+
+pub tab-at : {A : Type 0} (n : ℕ) (f : ℕ → A) (j : ℕ) (d : A) → j < n → getD (tabulate n f 0) j d ≡ f j
+tab-at n f j d h = tab-from n f 0 j d h ∙ ap f (zero-add j)
+
+-- ---- parts
+pub part-at : (w : List ℕ) (at n j : ℕ) → j < n → getD (part w at n) j 0 ≡ getD w (at + j) 0
+unfolding part
+part-at w at n j h = getD-take n (drop at w) j 0 h ∙ getD-drop at w j 0
+
+pub part-length : (w : List ℕ) (at n : ℕ) → at + n ≤ length w → length (part w at n) ≡ n
+unfolding part
+part-length w at n h = length-take-le n (drop at w) (simp length-drop (omega arith))
+
+-- ---- a block replaced
+pub pasted-zero : (d : List ℕ) (at : ℕ) (s : List ℕ) → d ≡ pasted d at s 0
+unfolding pasted
+pasted-zero d at s = paste-zero d at s
+
+pub pasted-more : (d s a : List ℕ) (at j v : ℕ) → a ≡ pasted d at s j → v ≡ getD s j 0 → at + j < length d → j < length s → set a (at + j) v ≡ pasted d at s (j + 1)
+unfolding pasted
+pasted-more d s a at j v e q hd hs =
+    ap (λ (r : List ℕ). set r (at + j) v) e ∙ ap (λ (x : ℕ). set (pasted d at s j) (at + j) x) q
+    ∙ paste-suc d at s j 0 hd hs ∙ ap (pasted d at s) (sym (add-one j))
+
+module _ (d : List ℕ) (at : ℕ) (s : List ℕ) (n : ℕ) (hd : at + n ≤ length d) (hs : n ≤ length s) where
+  pub pasted-length : length (pasted d at s n) ≡ length d
+  unfolding pasted
+  pasted-length = length-paste d at s n hd hs
+
+  head : length (take at d ++ take n s) ≡ at + n
+  head = length-paste-head d at s n (omega arith) hs
+
+  pub pasted-in : (j : ℕ) → j < n → getD (pasted d at s n) (at + j) 0 ≡ getD s j 0
+  unfolding pasted
+  pasted-in j h =
+      let a : length (take at d) ≡ at = length-take-le at d (omega arith) in
+      List·getD-append (take at d ++ take n s) (drop (at + n) d) 0 (at + j) (rw head (omega arith))
+      ∙ ap (λ (k : ℕ). getD (take at d ++ take n s) (k + j) 0) (sym a)
+      ∙ getD-append-add (take at d) (take n s) j 0 ∙ getD-take n s j 0 h
+
+  before : (i : ℕ) → i < at → getD (pasted d at s n) i 0 ≡ getD d i 0
+  unfolding pasted
+  before i h =
+      List·getD-append (take at d ++ take n s) (drop (at + n) d) 0 i (rw head (omega arith))
+      ∙ List·getD-append (take at d) (take n s) 0 i (rw (length-take-le at d (omega arith)) h)
+      ∙ getD-take at d i 0 h
+
+  behind : (m : ℕ) → getD (pasted d at s n) (at + n + m) 0 ≡ getD d (at + n + m) 0
+  unfolding pasted
+  behind m =
+      ap (λ (k : ℕ). getD (take at d ++ take n s ++ drop (at + n) d) (k + m) 0) (sym head)
+      ∙ getD-append-add (take at d ++ take n s) (drop (at + n) d) m 0 ∙ getD-drop (at + n) d m 0
+
+  pub pasted-out : (i : ℕ) → (at ≤ i → i < at + n → ⊥) → getD (pasted d at s n) i 0 ≡ getD d i 0
+  pasted-out i h = go (ltb i at) refl
+    where
+      go : (b : Bool) → ltb i at ≡ b → getD (pasted d at s n) i 0 ≡ getD d i 0
+      go true e = before i (ltb-true i at e)
+      go false e =
+          let g : at ≤ i = ltb-false i at e in
+          let k : i ≡ at + n + (i - (at + n)) = over (ltb i (at + n)) refl g in
+          ap (λ (m : ℕ). getD (pasted d at s n) m 0) k ∙ behind (i - (at + n)) ∙ ap (λ (m : ℕ). getD d m 0) (sym k)
+        where
+          over : (b : Bool) → ltb i (at + n) ≡ b → at ≤ i → i ≡ at + n + (i - (at + n))
+          over true q g = absurd (h g (ltb-true i (at + n) q))
+          over false q g = let l : at + n ≤ i = ltb-false i (at + n) q in omega arith
+
+-- ---- the words of a state
+pub pack-length : (s : State) → length (pack s) ≡ 4818
+unfolding pack
+pack-length s = tab-length 4818 (wordOf s) 0
+
+pack-at : (s : State) (i : ℕ) → i < 4818 → getD (pack s) i 0 ≡ wordOf s i
+unfolding pack
+pack-at s i h = tab-at 4818 (wordOf s) i 0 h
+
+pub word-0 : (s : State) → getD (pack s) 0 0 ≡ length (s .threads)
+unfolding wordOf
+word-0 s = pack-at s 0 (omega arith) ∙ if-yes _ _ (eq-eqb 0 0 refl)
+
+pub word-1 : (s : State) → getD (pack s) 1 0 ≡ length (s .cells)
+unfolding wordOf
+word-1 s = pack-at s 1 (omega arith) ∙ if-no _ _ (ne-eqb 1 0 (λ e. omega arith)) ∙ if-yes _ _ (eq-eqb 1 1 refl)
+
+pub word-scheduler : (s : State) (k j : ℕ) → k < 8 → j < 130 → getD (pack s) (2 + 130 * k + j) 0 ≡ schedulerWord (getD (s .schedulers) k noScheduler) j
+unfolding wordOf
+word-scheduler s k j h g =
+    let i : ℕ = 2 + 130 * k + j in
+    let a : 2 + (i - 2) / 130 - 2 ≡ k = omega arith in
+    let b : (i - 2) % 130 ≡ j = omega arith in
+    pack-at s i (omega arith) ∙ if-no _ _ (ne-eqb i 0 (λ e. omega arith)) ∙ if-no _ _ (ne-eqb i 1 (λ e. omega arith))
+    ∙ if-yes _ _ (lt-ltb i 1042 (omega arith))
+    ∙ ap₂ (λ (x y : ℕ). schedulerWord (getD (s .schedulers) x noScheduler) y) a b
+
+pub word-thread : (s : State) (k j : ℕ) → k < 64 → j < 55 → getD (pack s) (1042 + 55 * k + j) 0 ≡ threadWord (getD (s .threads) k noThread) j
+unfolding wordOf
+word-thread s k j h g =
+    let i : ℕ = 1042 + 55 * k + j in
+    let a : (i - 1042) / 55 ≡ k = omega arith in
+    let b : (i - 1042) % 55 ≡ j = omega arith in
+    pack-at s i (omega arith) ∙ if-no _ _ (ne-eqb i 0 (λ e. omega arith)) ∙ if-no _ _ (ne-eqb i 1 (λ e. omega arith))
+    ∙ if-no _ _ (le-ltb i 1042 (omega arith)) ∙ if-yes _ _ (lt-ltb i 4562 (omega arith))
+    ∙ ap₂ (λ (x y : ℕ). threadWord (getD (s .threads) x noThread) y) a b
+
+pub word-cell : (s : State) (j : ℕ) → j < 256 → getD (pack s) (4562 + j) 0 ≡ cellWord (getD (s .cells) j noCell)
+unfolding wordOf
+word-cell s j g =
+    let i : ℕ = 4562 + j in
+    let a : i - 4562 ≡ j = omega arith in
+    pack-at s i (omega arith) ∙ if-no _ _ (ne-eqb i 0 (λ e. omega arith)) ∙ if-no _ _ (ne-eqb i 1 (λ e. omega arith))
+    ∙ if-no _ _ (le-ltb i 1042 (omega arith)) ∙ if-no _ _ (le-ltb i 4562 (omega arith))
+    ∙ ap (λ (x : ℕ). cellWord (getD (s .cells) x noCell)) a
+
+-- words that say of each spot what a state says are that state's
+pub record Says (w : List ℕ) (s : State) : Type 0 where
+  pub all : length w ≡ 4818
+  pub threads : getD w 0 0 ≡ length (s .threads)
+  pub cells : getD w 1 0 ≡ length (s .cells)
+  pub scheduler : (k j : ℕ) → k < 8 → j < 130 → getD w (2 + 130 * k + j) 0 ≡ schedulerWord (getD (s .schedulers) k noScheduler) j
+  pub thread : (k j : ℕ) → k < 64 → j < 55 → getD w (1042 + 55 * k + j) 0 ≡ threadWord (getD (s .threads) k noThread) j
+  pub cell : (j : ℕ) → j < 256 → getD w (4562 + j) 0 ≡ cellWord (getD (s .cells) j noCell)
+
+pub is-pack : (w : List ℕ) (s : State) → Says w s → w ≡ pack s
+is-pack w s h = ext-getD 0 w (pack s) (h .all ∙ sym (pack-length s)) (λ i g. at i (rw (h .all) at g) (ℕ-discrete i 0) (ℕ-discrete i 1))
+  where
+    Same : ℕ → Type 0
+    Same i = getD w i 0 ≡ getD (pack s) i 0
+
+    third : (i : ℕ) → i < 4818 → 4562 ≤ i → Same i
+    third i g l = let a : 4562 + (i - 4562) ≡ i = omega arith in
+        subst Same a (h .cell (i - 4562) (omega arith) ∙ sym (word-cell s (i - 4562) (omega arith)))
+
+    second : (i : ℕ) → i < 4818 → 1042 ≤ i → (b : Bool) → ltb i 4562 ≡ b → Same i
+    second i g l true e =
+        let m : i < 4562 = ltb-true i 4562 e in
+        let k : ℕ = (i - 1042) / 55 in let j : ℕ = (i - 1042) % 55 in
+        let a : 1042 + 55 * k + j ≡ i = omega arith in
+        subst Same a (h .thread k j (omega arith) (omega arith) ∙ sym (word-thread s k j (omega arith) (omega arith)))
+    second i g l false e = third i g (ltb-false i 4562 e)
+
+    first : (i : ℕ) → i < 4818 → 2 ≤ i → (b : Bool) → ltb i 1042 ≡ b → Same i
+    first i g l true e =
+        let m : i < 1042 = ltb-true i 1042 e in
+        let k : ℕ = (i - 2) / 130 in let j : ℕ = (i - 2) % 130 in
+        let a : 2 + 130 * k + j ≡ i = omega arith in
+        subst Same a (h .scheduler k j (omega arith) (omega arith) ∙ sym (word-scheduler s k j (omega arith) (omega arith)))
+    first i g l false e = second i g (ltb-false i 1042 e) (ltb i 4562) refl
+
+    at : (i : ℕ) → i < 4818 → Dec (i ≡ 0) → Dec (i ≡ 1) → Same i
+    at i g (yes a) b = subst Same (sym a) (h .threads ∙ sym (word-0 s))
+    at i g (no a) (yes b) = subst Same (sym b) (h .cells ∙ sym (word-1 s))
+    at i g (no a) (no b) = first i g (two i a b) (ltb i 1042) refl
+      where
+        two : (i : ℕ) → (i ≡ 0 → ⊥) → (i ≡ 1 → ⊥) → 2 ≤ i
+        two i a b = omega arith

@@ -1,0 +1,14 @@
+pub mod Values
+pub mod State
+pub mod Fresh
+pub mod Accesses
+pub mod Evaluation
+pub mod Waits
+pub mod Turns
+pub mod Statements
+pub mod Steps
+pub mod Runs
+pub mod Words
+pub mod Ranges
+pub mod Calls
+pub mod Blocks

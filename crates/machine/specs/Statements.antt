@@ -1,0 +1,119 @@
+-- 'A thread's step takes its top pile item': one definition for each item. Assumes nothing: definitions.
+use mathlib.Core.List.{List, [], _∷_, _++_}
+use mathlib.Core.Bool.{true, false, _&&_, not}
+use Prim.Native.Nat.{ℕ, suc, _-_}
+use lib.Dec.{leb, eqb}
+use lib.ListN.{length, take}
+use Rattle.basics.specs.If.{if_then_else_}
+use Rattle.language.specs.Places.{private}
+use Rattle.program.specs.Trees.{Expr, Stmt, nothing, seq, doAt, start, startWait, cooperate, letIn, store, ifElse, while}
+use Rattle.program.specs.Programs.{Part, moduleAt}
+use Rattle.machine.specs.State.{run, back, drop, Thread, plain, waiting, State, withNew, enlist}
+use Rattle.machine.specs.Evaluation.{eval, storing}
+use Rattle.machine.specs.Turns.{Stepped, Turn, here, continuation, variables, unlinkedHere, refuse, accept, withValue, withValues, byCondition, settled, leave, room, stay, goTo}
+use Rattle.machine.specs.declared.value.Value.{Value}
+
+-- 'none: the thread ends and leaves'
+unfoldable pub ends : Turn → Stepped
+ends u =
+    let x : Thread = record { place = here u; continuation = []; variables = variables u; starter = u .self .starter; ended = true } in
+    accept u (leave u (settled u x))
+
+-- a drop of the last variable; a missing one is 20
+unfoldable pub drops : Turn → Stepped
+drops u =
+    if eqb (length (variables u)) 0
+    then refuse u 20
+    else stay u (continuation u) (take (length (variables u) - 1) (variables u))
+
+-- ''Back' moves in the same way.'
+unfoldable pub goesBack : Turn → ℕ → Stepped
+goesBack u q = goTo u q (continuation u)
+
+-- 10: 'used up'
+unfoldable pub stepNothing : Turn → Stepped
+stepNothing u = stay u (continuation u) (variables u)
+
+-- 11: 'A above B'
+unfoldable pub stepSeq : Turn → Stmt → Stmt → Stepped
+stepSeq u a b = stay u (run a ∷ run b ∷ continuation u) (variables u)
+
+-- 12: 'A above 'back to here''. 'refusal 12's condition met when running' is 20: while unlinked, with S 1
+unfoldable pub stepDo : Turn → ℕ → Stmt → Stepped
+stepDo u q a = if unlinkedHere u && eqb q private then refuse u 20 else goTo u q (run a ∷ back (here u) ∷ continuation u)
+
+-- ---- 13, 14
+
+-- 'its pile holding the module's body, its variables the arguments'
+abbrev pub started : Turn → Part → List Value → Thread
+started u m vs = record { place = here u; continuation = run (m .body) ∷ []; variables = vs; starter = u .thread; ended = false }
+
+-- the next thread number
+abbrev pub newThread : Turn → ℕ
+newThread u = suc (length (u .state .threads))
+
+-- s with the 'new thread at the end of this next list'
+abbrev pub withStarted : Turn → ℕ → List Value → State → State
+withStarted u m vs s = enlist (here u) (plain (newThread u)) (withNew (started u (moduleAt (u .program) m) vs) s)
+
+-- what stands in the way of a start, '20, 19, 17, 18': unlinked, a missing module, another number of arguments, a full list; '18 spent, a 65th thread'; else r
+unfoldable pub starting : Turn → ℕ → List Value → Stepped → Stepped
+starting u m vs r =
+    if unlinkedHere u then refuse u 20 else
+    if leb (length (u .program .modules)) m then refuse u 20 else
+    if not (eqb (length vs) (length (moduleAt (u .program) m .types))) then refuse u 20 else
+    if not (room u 1 (here u)) then refuse u 20 else
+    if leb 64 (length (u .state .threads)) then refuse u 18 else r
+
+-- 13
+unfoldable pub stepStart : Turn → ℕ → List Expr → Stepped
+stepStart u m xs = withValues u xs (λ vs w. starting w m vs (accept w (withStarted w m vs (settled w (w .self)))))
+
+-- 14: 'the same, then the starter behind it, waiting'. Its own room is tested last: with 64 threads, 63 of them in this list, the answer is 18, since a full list is one 'which only a caller's own state can bring'
+unfoldable pub startedWait : Turn → ℕ → List Value → Stepped
+startedWait u m vs =
+    let s = withStarted u m vs (leave u (settled u (u .self))) in
+    if room u 2 (here u) then accept u (enlist (here u) (waiting (u .thread) (newThread u)) s) else refuse u 20
+
+unfoldable pub stepStartWait : Turn → ℕ → List Expr → Stepped
+stepStartWait u m xs = withValues u xs (λ vs w. starting w m vs (startedWait w m vs))
+
+-- ---- 15 to 19
+
+-- 15: 'to the end of the next list'; while unlinked it is 20
+unfoldable pub stepCooperate : Turn → Stepped
+stepCooperate u =
+    if unlinkedHere u then refuse u 20 else
+    if room u 1 (here u) then accept u (enlist (here u) (plain (u .thread)) (leave u (settled u (u .self)))) else refuse u 20
+
+-- 16: 'body above a drop of the variable'
+unfoldable pub stepLet : Turn → Expr → Stmt → Stepped
+stepLet u x a = withValue u (λ h. eval h x) (λ v w. stay w (run a ∷ drop ∷ continuation w) (variables w ++ (v ∷ [])))
+
+-- 17
+unfoldable pub stepStore : Turn → Expr → Expr → Stepped
+stepStore u x y = withValue u (λ h. storing h x y) (λ v w. stay w (continuation w) (variables w))
+
+-- 18: 'one branch'
+unfoldable pub stepIf : Turn → Expr → Stmt → Stmt → Stepped
+stepIf u x a b =
+    withValue u (λ h. eval h x)
+    (λ v w. byCondition w v (stay w (run a ∷ continuation w) (variables w)) (stay w (run b ∷ continuation w) (variables w)))
+
+-- 19: 'if true, the body above the same loop'
+unfoldable pub stepWhile : Turn → Expr → Stmt → Stmt → Stepped
+stepWhile u x a loop =
+    withValue u (λ h. eval h x)
+    (λ v w. byCondition w v (stay w (run a ∷ run loop ∷ continuation w) (variables w)) (stay w (continuation w) (variables w)))
+
+abbrev pub stepStatement : Turn → Stmt → Stepped
+stepStatement u (nothing i) = stepNothing u
+stepStatement u (seq i a b) = stepSeq u a b
+stepStatement u (doAt i q a) = stepDo u q a
+stepStatement u (start i m xs) = stepStart u m xs
+stepStatement u (startWait i m xs) = stepStartWait u m xs
+stepStatement u (cooperate i) = stepCooperate u
+stepStatement u (letIn i x a) = stepLet u x a
+stepStatement u (store i x y) = stepStore u x y
+stepStatement u (ifElse i x a b) = stepIf u x a b
+stepStatement u (while i x a) = stepWhile u x a (while i x a)

@@ -1,0 +1,72 @@
+-- One choice: what it answers, and the state and the accesses it makes. Assumes nothing: definitions.
+use mathlib.Core.List.{List, [], _∷_}
+use mathlib.Core.Bool.{Bool, _&&_, not}
+use Prim.Native.Nat.{ℕ, _-_}
+use lib.Dec.{leb, eqb}
+use lib.ListN.{length}
+use Rattle.basics.specs.If.{if_then_else_}
+use Rattle.language.specs.Places.{private}
+use Rattle.program.specs.Programs.{Program}
+use Rattle.machine.specs.State.{State, Item, run, back, drop, Entry, threadAt, schedulerAt, withScheduler}
+use Rattle.machine.specs.Waits.{readyThreads, stillWaiting}
+use Rattle.machine.specs.Turns.{Stepped, Turn, isSchedulerOf}
+use Rattle.machine.specs.Statements.{ends, drops, goesBack, stepStatement}
+
+-- the turn of thread t at choice c, with that continuation left
+abbrev pub turn : Program → State → ℕ → ℕ → List Item → Turn
+turn p s c t items =
+    let x = threadAt s t in
+    record {
+      program = p;
+      state = s;
+      choice = c;
+      thread = t;
+      self = record { place = x .place; continuation = items; variables = x .variables; starter = x .starter; ended = x .ended };
+      cells = s .cells;
+      accesses = [];
+    }
+
+-- 'A thread's step takes its top pile item'
+abbrev pub stepItems : Program → State → ℕ → ℕ → List Item → Stepped
+stepItems p s c t [] = ends (turn p s c t [])
+stepItems p s c t (run x ∷ items) = stepStatement (turn p s c t items) x
+stepItems p s c t (back q ∷ items) = goesBack (turn p s c t items) q
+stepItems p s c t (drop ∷ items) = drops (turn p s c t items)
+
+unfoldable pub stepThread : Program → State → ℕ → ℕ → Stepped
+stepThread p s c t = stepItems p s c t (threadAt s t .continuation)
+
+-- an answer in which no thread acts
+abbrev pub nobody : ℕ → State → Stepped
+nobody n s = record { answer = n; thread = 0; state = s; accesses = [] }
+
+-- 'ready entries of the next list become active in order, waiting ones stay'; '16 'nothing': no active thread there and no ready one in its next list'
+abbrev pub turnInstant : State → ℕ → List ℕ → List Entry → Stepped
+turnInstant s c [] es = nobody 16 s
+turnInstant s c (t ∷ ts) es = nobody 0 (withScheduler c (record { active = t ∷ ts; next = es }) s)
+
+unfoldable pub endInstant : State → ℕ → Stepped
+endInstant s c =
+    let es = schedulerAt s c .next in
+    turnInstant s c (readyThreads (s .threads) es) (stillWaiting (s .threads) es)
+
+-- 'Choosing a scheduler steps its first active thread; with none active, an instant ends'
+abbrev pub stepScheduler : Program → State → ℕ → List ℕ → Stepped
+stepScheduler p s c [] = endInstant s c
+stepScheduler p s c (t ∷ ts) = stepThread p s c t
+
+-- the thread that a choice names where it is no scheduler: '16+t the loose thread t'
+abbrev pub threadChosen : ℕ → ℕ
+threadChosen c = c - 16
+
+-- that thread is there, stands on 1 and has not ended
+unfoldable pub isUnlinked : State → ℕ → Bool
+isUnlinked s c =
+    leb 17 c && leb (threadChosen c) (length (s .threads)) && eqb (threadAt s (threadChosen c) .place) private && not (threadAt s (threadChosen c) .ended)
+
+-- '15 no such party (neither a scheduler of the file nor a thread now loose)'
+unfoldable pub step : Program → State → ℕ → Stepped
+step p s c =
+    if isSchedulerOf p c then stepScheduler p s c (schedulerAt s c .active) else
+    if isUnlinked s c then stepThread p s c (threadChosen c) else
+    nobody 15 s

@@ -1,0 +1,144 @@
+-- A turn of a thread: what it works on, how it answers, how the thread moves between lists. Assumes nothing: definitions.
+use mathlib.Core.List.{List, [], _∷_, _++_}
+use mathlib.Core.Bool.{Bool, true, false, _&&_, not}
+use Prim.Native.Nat.{ℕ, _+_}
+use lib.Dec.{leb, eqb}
+use lib.ListN.{length}
+use Rattle.basics.specs.If.{if_then_else_}
+use Rattle.language.specs.Places.{private, hasScheduler}
+use Rattle.program.specs.Trees.{Expr}
+use Rattle.program.specs.Programs.{Program}
+use Rattle.machine.specs.Values.{answerOf}
+use Rattle.machine.specs.Accesses.{Access}
+use Rattle.machine.specs.State.{Stored, Item, Thread, plain, State, schedulerAt, withThread, withScheduler, withCells, enlist}
+use Rattle.machine.specs.Evaluation.{Here, Evaluated, Evaluation, eval}
+use Rattle.machine.specs.declared.value.Value.{Value}
+use Rattle.machine.specs.declared.value.Value.the-variants.{Number, Truth, Cell}
+use Rattle.machine.specs.declared.value.Outcome.{Outcome}
+use Rattle.machine.specs.declared.value.Outcome.the-variants.{Is, Foreign, Spent, Stuck}
+
+-- what a choice gives: the answer, the acting thread (0: none), the state, the accesses
+pub record Stepped : Type 0 where
+  pub answer : ℕ
+  pub thread : ℕ
+  pub state : State
+  pub accesses : List Access
+
+-- a turn: the choice, the thread that acts, and that thread without its top item; `cells` and `accesses` are those of the step so far, `state` is the one it was given
+pub record Turn : Type 0 where
+  pub program : Program
+  pub state : State
+  pub choice : ℕ
+  pub thread : ℕ
+  pub self : Thread
+  pub cells : List Stored
+  pub accesses : List Access
+
+abbrev pub here : Turn → ℕ
+here u = u .self .place
+
+abbrev pub continuation : Turn → List Item
+continuation u = u .self .continuation
+
+abbrev pub variables : Turn → List Value
+variables u = u .self .variables
+
+-- 'A thread at place 1 is loose.'
+abbrev pub unlinkedHere : Turn → Bool
+unlinkedHere u = eqb (here u) private
+
+-- a refusal leaves the state as it was, cells made in the step too
+abbrev pub refuse : Turn → ℕ → Stepped
+refuse u n = record { answer = n; thread = u .thread; state = u .state; accesses = u .accesses }
+
+abbrev pub accept : Turn → State → Stepped
+accept u s = record { answer = 0; thread = u .thread; state = s; accesses = u .accesses }
+
+-- ---- expressions
+
+abbrev pub evaluator : Turn → Here
+evaluator u = record { thread = u .thread; place = here u; variables = variables u; shared = length (u .program .shared) }
+
+-- the turn behind an evaluation
+abbrev pub behind : Turn → Evaluated → Turn
+behind u r =
+    record {
+      program = u .program;
+      state = u .state;
+      choice = u .choice;
+      thread = u .thread;
+      self = u .self;
+      cells = r .cells;
+      accesses = u .accesses ++ r .accesses;
+    }
+
+-- go on with the value, or answer the evaluation's refusal
+abbrev pub goOn : Turn → Outcome → (Value → Turn → Stepped) → Stepped
+goOn u (Is v) k = k v u
+goOn u Foreign k = refuse u (answerOf Foreign)
+goOn u Spent k = refuse u (answerOf Spent)
+goOn u Stuck k = refuse u (answerOf Stuck)
+
+abbrev pub withValue : Turn → (Here → Evaluation) → (Value → Turn → Stepped) → Stepped
+withValue u m k = let r = m (evaluator u) (u .cells) in goOn (behind u r) (r .outcome) k
+
+unfoldable pub withValues : Turn → List Expr → (List Value → Turn → Stepped) → Stepped
+withValues u [] k = k [] u
+withValues u (x ∷ xs) k = withValue u (λ h. eval h x) (λ v w. withValues w xs (λ vs. k (v ∷ vs)))
+
+-- 'a condition's kind is tested before a branch is chosen': anything but a truth is 20
+abbrev pub byCondition : Turn → Value → Stepped → Stepped → Stepped
+byCondition u (Truth true) a b = a
+byCondition u (Truth false) a b = b
+byCondition u (Number n) a b = refuse u 20
+byCondition u (Cell c) a b = refuse u 20
+
+-- ---- the thread, and the lists in which it stands
+
+-- the acting thread at place q, with that continuation and those variables
+abbrev pub selfAt : Turn → ℕ → List Item → List Value → Thread
+selfAt u q items vars = record { place = q; continuation = items; variables = vars; starter = u .self .starter; ended = u .self .ended }
+
+-- the state with the step's cells, and x as the acting thread
+abbrev pub settled : Turn → Thread → State
+settled u x = withThread (u .thread) x (withCells (u .cells) (u .state))
+
+-- 'A choice is a party: 2 to 9 a scheduler': one of the file's
+unfoldable pub isSchedulerOf : Program → ℕ → Bool
+isSchedulerOf p c = hasScheduler (p .schedulers) c
+
+abbrev pub behindFirst : List ℕ → List ℕ
+behindFirst [] = []
+behindFirst (t ∷ ts) = ts
+
+-- the acting thread leaves the active list in which it stands first; an unlinked one stands in none
+unfoldable pub leave : Turn → State → State
+leave u s =
+    let x = schedulerAt s (u .choice) in
+    if isSchedulerOf (u .program) (u .choice)
+    then withScheduler (u .choice) (record { active = behindFirst (x .active); next = x .next }) s
+    else s
+
+-- n more entries have room in the next list of scheduler q: 64 are its space
+unfoldable pub room : Turn → ℕ → ℕ → Bool
+room u n q = leb (length (schedulerAt (u .state) q .next) + n) 64
+
+-- the continuation and the variables have room: 25 are the space of each
+unfoldable pub fits : List Item → List Value → Bool
+fits items vars = leb (length items) 25 && leb (length vars) 25
+
+-- the thread stays where it is, first, with that continuation and those variables; 'a full .. pile or variable space' is 20
+unfoldable pub stay : Turn → List Item → List Value → Stepped
+stay u items vars = if fits items vars then accept u (settled u (selfAt u (here u) items vars)) else refuse u 20
+
+-- 'the thread moves: to the end of that next list, or loose'
+unfoldable pub move : Turn → ℕ → List Item → Stepped
+move u q items =
+    let s = leave u (settled u (selfAt u q items (variables u))) in
+    if not (fits items (variables u)) then refuse u 20 else
+    if eqb q private then accept u s else
+    if room u 1 q then accept u (enlist q (plain (u .thread)) s) else refuse u 20
+
+-- 'if S is another place, the thread moves'
+unfoldable pub goTo : Turn → ℕ → List Item → Stepped
+goTo u q items = if eqb q (here u) then stay u items (variables u) else move u q items

@@ -1,0 +1,2 @@
+// The stepper: values and what evaluating an expression answers. Its state, steps and lent words are definitions, in specs/.
+pub mod value;

@@ -1,0 +1,58 @@
+-- Demand 3, 'a single statement about the list of choices, not one for each choice'. Assumes nothing: definitions.
+use mathlib.Core.Path.{_≡_}
+use mathlib.Core.Logic.{_≢_}
+use mathlib.Core.List.{List}
+use Prim.Native.Nat.{ℕ, _≤_}
+use Rattle.basics.specs.Members.{All}
+use Rattle.language.specs.Places.{home, lastScheduler}
+use Rattle.language.specs.declared.frame.Frame.{Frame}
+use Rattle.program.specs.Programs.{Program, programOf}
+use Rattle.machine.specs.Accesses.{Own}
+use Rattle.machine.specs.State.{State, Stored, cellAt, threadAt, threadOwner}
+use Rattle.machine.specs.Runs.{stateAfter, answers, accessesOf}
+use Rattle.machine.specs.declared.value.Value.{Value}
+use Rattle.machine.specs.declared.value.Value.the-variants.{Cell}
+
+-- ---- ownership and reachability
+
+-- 'A cell belongs to its owner: the S it was declared or made with, or 16+t where thread t made it with S 1.' Cell c belongs to thread t; to a scheduler
+abbrev pub BelongsToThread : List Stored → ℕ → ℕ → Type 0
+BelongsToThread cells c t = cellAt cells c .owner ≡ threadOwner t
+
+abbrev pub BelongsToScheduler : List Stored → ℕ → Type 0
+BelongsToScheduler cells c = (home ≤ cellAt cells c .owner) × (cellAt cells c .owner ≤ lastScheduler)
+
+-- the value reaches cell c, over any number of cells. 01: 'A variable leads to the cell that is its value, and from each cell reached on to the cell that it holds.'
+pub data Reaches (cells : List Stored) : Value → ℕ → Type 0 where
+  itself : {c : ℕ} → Reaches cells (Cell c) c
+  through : {b c : ℕ} → Reaches cells (cellAt cells b .content) c → Reaches cells (Cell b) c
+
+-- ---- of a state
+
+-- no cell that belongs to a scheduler holds a cell that belongs to a thread
+abbrev pub NoPrivateInPublic : State → Type 0
+NoPrivateInPublic s =
+    (b c t : ℕ) → BelongsToScheduler (s .cells) b → cellAt (s .cells) b .content ≡ Cell c → BelongsToThread (s .cells) c t → ⊥
+
+-- no thread's variables reach a cell that belongs to another thread
+abbrev pub Apart : State → Type 0
+Apart s =
+    (t : ℕ) → All (λ (v : Value). (c o : ℕ) → Reaches (s .cells) v c → BelongsToThread (s .cells) c o → o ≡ t) (threadAt s t .variables)
+
+-- ---- of an answer: 'Foreign is 19, stuck is 20.'
+abbrev pub Sound : ℕ → Type 0
+Sound n = (n ≢ 19) × (n ≢ 20)
+
+-- ---- the statement, of a program and a list of choices. Its runs start at the fresh state, and each choice is put to the state that the one before returned or left
+
+pub record Safe (p : Program) (cs : List ℕ) : Type 0 where
+  -- every access under every choice was to a cell of the acting thread or of the scheduler on which it stood, 'those before a refusal too'
+  pub accessed : All Own (accessesOf p cs)
+  pub public : NoPrivateInPublic (stateAfter p cs)
+  pub apart : Apart (stateAfter p cs)
+  -- no choice was foreign or stuck
+  pub answered : All Sound (answers p cs)
+
+-- for every file that is accepted and every list of choices, of any length and content
+abbrev pub Safety : (List Frame → Type 0) → Type 0
+Safety Accepted = (fs : List Frame) → Accepted fs → (cs : List ℕ) → Safe (programOf fs) cs
