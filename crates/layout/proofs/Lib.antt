@@ -7,3 +7,11 @@ pub mod Layouts
 pub mod Placed
 pub mod Decoded
 pub mod Parts
+pub mod FrameLaws
+pub mod Seeking
+pub mod Rows
+pub mod Marks
+pub mod Raises
+pub mod Deep
+pub mod Overs
+pub mod Tallies

@@ -32,7 +32,7 @@ record Behind (fs : List Frame) (j : ℕ) : Type 0 where
   shared : isShared (frameAt fs j .kind) ≡ true
   kind : (isHeader (frameAt fs other .kind) || isShared (frameAt fs other .kind)) ≡ false
 
-abbrev isOther : Frame → Bool
+abbrev pub isOther : Frame → Bool
 isOther g = not (isHeader (g .kind) || isShared (g .kind))
 
 behind-low : (fs : List Frame) → Lowest (Behind fs) (lowest (λ (i : ℕ) (f : Frame). isBehind fs i f) 0 fs)
@@ -52,7 +52,7 @@ behind-low fs = same-low (λ j h. to j (isShared (frameAt fs j .kind)) refl (h .
     back j h = rw (h .shared, isBehind) (any-some noFrame isOther (take j fs) (h .other) (let m = length-take j fs in let a = h .before in let b = h .inside in omega arith) (rw (getD-take j fs (h .other) noFrame (h .before)) (ap not (h .kind))))
 
 -- ---- a leftover frame
-abbrev leftoverTest : List Frame → ℕ → Frame → Bool
+abbrev pub leftoverTest : List Frame → ℕ → Frame → Bool
 leftoverTest fs i f = hasClass (classOf (f .kind)) && not (any (hasChild i) fs)
 
 left-test : (fs : List Frame) (i : ℕ) (f : Frame) (tail : List Frame) → (any (hasChild i) tail ≡ true → any (hasChild i) fs ≡ true) → isLeftover fs i f tail ≡ leftoverTest fs i f
@@ -72,7 +72,7 @@ any-more t f tail h = go (t f)
     go true = refl
     go false = h
 
-left-same : (fs tail : List Frame) (i : ℕ) → ((t : Frame → Bool) → any t tail ≡ true → any t fs ≡ true) → firstLeftover fs i tail ≡ lowest (leftoverTest fs) i tail
+pub left-same : (fs tail : List Frame) (i : ℕ) → ((t : Frame → Bool) → any t tail ≡ true → any t fs ≡ true) → firstLeftover fs i tail ≡ lowest (leftoverTest fs) i tail
 unfolding firstLeftover lowest
 left-same fs [] i h = refl
 left-same fs (f ∷ tail) i h = rw (left-test fs i f tail (λ e. h (hasChild i) (any-more (hasChild i) f tail e)), firstLeftover) (go (leftoverTest fs i f) (left-same fs tail (suc i) (λ t e. h t (any-more t f tail e))))

@@ -3,3 +3,5 @@ pub mod Order
 pub mod Depths
 pub mod Faults
 pub mod Scans
+pub mod Passes
+pub mod LaidOut

@@ -1,1 +1,80 @@
-// The layout of a file, refusals 4 to 7: what each fault is, and the first one as functions that compute. Definitions only.
+// The layout check, refusals 4 to 7: passes over a text's lines, which the reader keeps as numbers.
+use crate::depth::depth;
+use crate::fields::fields;
+use crate::fields::header;
+use crate::found::Found;
+use crate::in_order::order;
+use language::verdict::Verdict;
+use text::reading::TextRead;
+use text::reading::read_words;
+ghost use mathlib.Core.Path.{_≡_};
+ghost use Prim.Native.Nat.{_<_, _≤_};
+ghost use lib.ListN.{length};
+ghost use Rattle.text.specs.Frames.{framesOf};
+ghost use Rattle.layout.specs.Scans.{layoutOf};
+ghost use Rattle.layout.specs.LaidOut.{layoutVerdict, laidOut};
+
+mod depth;
+mod fields;
+mod found;
+mod frames;
+mod in_order;
+
+// What the check of the layout answers, where `Accepted` means that the text passes refusals 1 to 7; how many lines were read; and these lines as numbers.
+pub struct LaidOut {
+    pub verdict: Verdict,
+    pub count: usize,
+    pub words: [u64; 1024],
+}
+
+// Refusals 4 to 7. A pass may rely on those before it: the fields on the header, the depths on the order.
+fn layout_of(words: &[u64]) -> Verdict
+    requires { ⌜ (0 < length (now words)) × (length (now words) ≤ 1024) ⌝ }
+    ensures { λ r. ⌜ r ≡ layoutOf (framesOf (now (words .entry))) ⌝ }
+{
+    match header(words) {
+        Found::At(j) => Verdict::Rejected(4, j),
+        Found::Nowhere => match fields(words) {
+            Found::At(j) => Verdict::Rejected(5, j),
+            Found::Nowhere => match order(words) {
+                Found::At(j) => Verdict::Rejected(6, j),
+                Found::Nowhere => match depth(words) {
+                    Found::At(j) => Verdict::Rejected(7, j),
+                    Found::Nowhere => Verdict::Accepted,
+                },
+            },
+        },
+    }
+}
+
+// Refusals 1 to 7 on any text, with its lines.
+pub fn lay_out(text: &[u8]) -> LaidOut
+    ensures { λ r. ⌜ r ≡ laidOut (now (text .entry)) ⌝ }
+{
+    let t = read_words(text);
+    let read = t.read;
+    let words = t.words;
+    match read {
+        TextRead::Refused(n, j) => LaidOut {
+            verdict: Verdict::Rejected(n, j),
+            count: j as usize,
+            words,
+        },
+        TextRead::Frames(n) => {
+            let count = n as usize;
+            let verdict = layout_of(&words[..count]);
+            LaidOut {
+                verdict,
+                count,
+                words,
+            }
+        }
+    }
+}
+
+// Refusals 1 to 7 on any text.
+pub fn layout(text: &[u8]) -> Verdict
+    ensures { λ r. ⌜ r ≡ layoutVerdict (now (text .entry)) ⌝ }
+{
+    lay_out(text).verdict
+}

@@ -1,0 +1,269 @@
+-- The leftover pass over an array of marks, and the pass for shared cells behind another kind. Assumes nothing.
+use mathlib.Core.Path.{_≡_, refl, sym, ap, ap₂, _∙_}
+use mathlib.Core.Bool.{Bool, true, false, not, _&&_, _||_}
+use mathlib.Core.List.{List, [], _∷_, _++_}
+use mathlib.Core.Option.{Option, none, some}
+use Prim.Native.Nat.{ℕ, suc, _+_, _-_, _≤_, _<_}
+use native.Mathlib.Omega.{arith}
+use lib.Dec.{ltb, eqb}
+use borrow.Author.Tests.{lt-ltb, le-ltb, eq-eqb, ne-eqb, eqb-true, eqb-false, ltb-false, not-true, not-false}
+use lib.ListN.{getD, length, set, take, drop, replicate, getD-replicate, length-replicate, length-set, drop-of-length-le}
+use lib.Seq.{getD-set-same, getD-set-other, drop-cons, take-suc}
+use Rattle.basics.specs.Searches.{any, lowest, earlier}
+use Rattle.basics.proofs.Ifs.{yes, no, if-all}
+use Rattle.language.specs.Kinds.{uses, classOf, Child, childIn, children}
+use Rattle.language.specs.declared.kind.Kind.{Kind}
+use Rattle.language.specs.declared.kind.Class.{Class}
+use Rattle.language.specs.declared.kind.Use.{Use}
+use Rattle.language.specs.declared.kind.Uses.{Uses}
+use Rattle.language.specs.declared.frame.Frame.{Frame}
+use Rattle.program.specs.Trees.{noFrame, frameAt}
+use Rattle.text.specs.Frames.{framesOf}
+use Rattle.layout.specs.declared.found.Found.{Found}
+use Rattle.layout.specs.declared.found.Found.the-variants.{At, Nowhere}
+use Rattle.layout.specs.declared.frames.ChildRead.{ChildRead}
+use Rattle.layout.specs.declared.frames.ChildRead.the-variants.{ChildAt, NoChild}
+use Rattle.layout.specs.Fields.{isHeader, isShared, isModule}
+use Rattle.layout.specs.Order.{hasChild, hasClass, isMain}
+use Rattle.layout.specs.Scans.{firstDisorder, isBehind, firstLeftover, noMain, orderFault}
+use Rattle.layout.specs.Passes.{found, optionOf, childRead, marked, marks, markAll}
+use Rattle.layout.proofs.FrameLaws.{frames-length, no-child-is, child-is, option-found}
+use Rattle.layout.proofs.Order.{leftoverTest, left-same, isOther}
+use Rattle.layout.proofs.Seeking.{Seeking, seek-here, seek-next, seek-end}
+
+-- ---- how the code marks
+pub mark-past : (u : List ℕ) (v : ℕ) → 1024 ≤ v → u ≡ marked u v
+unfolding marked
+mark-past u v l = no (set u v 1) (le-ltb v 1024 l) refl
+
+pub mark-set : (u : List ℕ) (v : ℕ) → v < 1024 → set u v 1 ≡ marked u v
+unfolding marked
+mark-set u v l = yes u (lt-ltb v 1024 l) refl
+
+pub ruleset mark-laws = (mark-past, mark-set)
+
+module _ (t : List ℕ) (u : Use) (v : ℕ) (x : ChildRead) where
+  pub field-unmarked : x ≡ childRead (childIn u v) → x ≡ NoChild → t ≡ marks t (childIn u v)
+  field-unmarked h e = end ∙ ap (marks t) (sym (no-child-is u v x h e))
+    where
+      end : t ≡ marks t []
+      end = unfold marks in refl
+
+  pub field-marked : (s : List ℕ) (k : Class) (n : ℕ) → x ≡ childRead (childIn u v) → x ≡ ChildAt k n → s ≡ marked t n → s ≡ marks t (childIn u v)
+  field-marked s k n h e g = g ∙ end ∙ ap (marks t) (sym (child-is u v x h k n e))
+    where
+      end : marked t n ≡ marks t (record { class = k; at = n } ∷ [])
+      end = unfold marks in refl
+
+pub ruleset field-laws = (field-unmarked, field-marked)
+
+marks-append : (xs ys : List Child) (u : List ℕ) → marks u (xs ++ ys) ≡ marks (marks u xs) ys
+unfolding marks
+marks-append [] ys u = refl
+marks-append (x ∷ xs) ys u = marks-append xs ys (marked u (x .at))
+
+pub frame-marked : (u t r s : List ℕ) (us : Uses) (f : Frame) → us ≡ uses (f .kind) → t ≡ marks u (childIn (us .a) (f .a)) → r ≡ marks t (childIn (us .b) (f .b)) → s ≡ marks r (childIn (us .c) (f .c)) → s ≡ marks u (children f)
+unfolding children
+frame-marked u t r s us f e a b c =
+    c ∙ ap (λ (x : List ℕ). marks x (childIn (us .c) (f .c))) (b ∙ ap (λ (x : List ℕ). marks x (childIn (us .b) (f .b))) a)
+    ∙ sym (ap (λ (x : List ℕ). marks x (childIn (us .c) (f .c))) (marks-append (childIn (us .a) (f .a)) (childIn (us .b) (f .b)) u))
+    ∙ sym (marks-append (childIn (us .a) (f .a) ++ childIn (us .b) (f .b)) (childIn (us .c) (f .c)) u)
+    ∙ ap (λ (w : Uses). marks u (childIn (w .a) (f .a) ++ childIn (w .b) (f .b) ++ childIn (w .c) (f .c))) e
+
+-- ---- the loop that marks: from here on it is as from the start
+abbrev pub Marking : List Frame → List ℕ → List ℕ → ℕ → Type 0
+Marking fs start u i = markAll u (drop i fs) ≡ markAll start fs
+
+pub marking-start : (fs : List Frame) (u : List ℕ) → Marking fs u u 0
+marking-start fs u = refl
+
+pub marking-next : (ws start u t : List ℕ) (i : ℕ) (f : Frame) → f ≡ frameAt (framesOf ws) i → t ≡ marks u (children f) → Marking (framesOf ws) start u i → i < length ws → Marking (framesOf ws) start t (i + 1)
+marking-next ws start u t i f e q g l =
+    let s : i + 1 ≡ suc i = omega arith in
+    rw s (ap (λ (x : List ℕ). markAll x (drop (suc i) (framesOf ws))) (q ∙ ap (λ (g : Frame). marks u (children g)) e) ∙ sym step ∙ sym (ap (markAll u) (drop-cons (framesOf ws) i noFrame (let y = frames-length ws in omega arith))) ∙ g)
+  where
+    step : markAll u (frameAt (framesOf ws) i ∷ drop (suc i) (framesOf ws)) ≡ markAll (marks u (children (frameAt (framesOf ws) i))) (drop (suc i) (framesOf ws))
+    step = unfold markAll in refl
+
+pub marking-end : (ws start u : List ℕ) (i : ℕ) → Marking (framesOf ws) start u i → length ws ≤ i → u ≡ markAll start (framesOf ws)
+marking-end ws start u i g l = end ∙ ap (markAll u) (sym (drop-of-length-le (framesOf ws) {i = i} (let y = frames-length ws in omega arith))) ∙ g
+  where
+    end : u ≡ markAll u []
+    end = unfold markAll in refl
+
+-- ---- what the marks say
+abbrev isAt : ℕ → Child → Bool
+isAt j c = eqb (c .at) j
+
+set-says : (u : List ℕ) (v j : ℕ) → j < length u → eqb (getD (set u v 1) j 0) 0 ≡ (not (eqb v j) && eqb (getD u j 0) 0)
+set-says u v j l = go (eqb v j) refl
+  where
+    go : (b : Bool) → eqb v j ≡ b → eqb (getD (set u v 1) j 0) 0 ≡ (not b && eqb (getD u j 0) 0)
+    go true e =
+        let q : v ≡ j = eqb-true v j e in
+        let a : getD (set u j 1) j 0 ≡ 1 = getD-set-same u j 1 0 l in
+        rw (q, a)
+    go false e =
+        let a : getD (set u v 1) j 0 ≡ getD u j 0 = getD-set-other u v j 1 0 (λ q. eqb-false v j e (sym q)) in
+        rw a
+
+marked-length : (u : List ℕ) (v : ℕ) → length (marked u v) ≡ length u
+unfolding marked
+marked-length u v = if-all (λ (x : List ℕ). length x ≡ length u) (ltb v 1024) _ _ (λ h. length-set u v 1) (λ h. refl)
+
+marked-says : (u : List ℕ) (v j : ℕ) → j < 1024 → j < length u → eqb (getD (marked u v) j 0) 0 ≡ (not (eqb v j) && eqb (getD u j 0) 0)
+unfolding marked
+marked-says u v j o l = if-all (λ (x : List ℕ). eqb (getD x j 0) 0 ≡ (not (eqb v j) && eqb (getD u j 0) 0)) (ltb v 1024) (set u v 1) u (λ h. set-says u v j l) (λ h. away (ltb-false v 1024 h))
+  where
+    away : 1024 ≤ v → eqb (getD u j 0) 0 ≡ (not (eqb v j) && eqb (getD u j 0) 0)
+    away h = (let e : eqb v j ≡ false = ne-eqb v j (λ q. omega arith) in rw e)
+
+swap : (a b x : Bool) → (not b && (not a && x)) ≡ (not (elim a [ true ↦ true | false ↦ b ]) && x)
+swap true true x = refl
+swap true false x = refl
+swap false b x = refl
+
+marks-say : (cs : List Child) (u : List ℕ) (j : ℕ) → j < 1024 → j < length u → eqb (getD (marks u cs) j 0) 0 ≡ (not (any (isAt j) cs) && eqb (getD u j 0) 0)
+unfolding any marks
+marks-say [] u j o l = refl
+marks-say (c ∷ cs) u j o l =
+    let m : j < length (marked u (c .at)) = (let y = marked-length u (c .at) in omega arith) in
+    marks-say cs (marked u (c .at)) j o m ∙ ap (λ (b : Bool). not (any (isAt j) cs) && b) (marked-says u (c .at) j o l) ∙ swap (eqb (c .at) j) (any (isAt j) cs) (eqb (getD u j 0) 0)
+
+marks-length : (cs : List Child) (u : List ℕ) → length (marks u cs) ≡ length u
+unfolding marks
+marks-length [] u = refl
+marks-length (c ∷ cs) u = marks-length cs (marked u (c .at)) ∙ marked-length u (c .at)
+
+-- after all frames, a 0 stands where nothing was marked and no frame has it as a child
+all-say : (fs : List Frame) (u : List ℕ) (j : ℕ) → j < 1024 → j < length u → eqb (getD (markAll u fs) j 0) 0 ≡ (not (any (hasChild j) fs) && eqb (getD u j 0) 0)
+unfolding markAll any hasChild
+all-say [] u j o l = refl
+all-say (f ∷ fs) u j o l =
+    let m : j < length (marks u (children f)) = (let y = marks-length (children f) u in omega arith) in
+    all-say fs (marks u (children f)) j o m
+    ∙ ap (λ (b : Bool). not (any (hasChild j) fs) && b) (marks-say (children f) u j o l)
+    ∙ swap (any (isAt j) (children f)) (any (hasChild j) fs) (eqb (getD u j 0) 0)
+
+-- ---- the loop that looks for a leftover
+pub left-row : (k κ : Class) (m : ℕ) (r : Bool) → k ≡ κ → r ≡ (hasClass κ && eqb m 0) → r ≡ (hasClass k && eqb m 0)
+left-row k κ m r e h = h ∙ ap (λ (q : Class). hasClass q && eqb m 0) (sym e)
+
+abbrev pub Leftover : List Frame → ℕ → Type 0
+Leftover fs i = Seeking (leftoverTest fs) fs i
+
+-- the code's test is the definition's
+left-is : (ws zeros used : List ℕ) (i : ℕ) (k : Class) (f : Frame) → f ≡ frameAt (framesOf ws) i → k ≡ classOf (f .kind) → used ≡ markAll zeros (framesOf ws) → zeros ≡ replicate 1024 0 → i < 1024 → (hasClass k && eqb (getD used i 0) 0) ≡ leftoverTest (framesOf ws) i (frameAt (framesOf ws) i)
+left-is ws zeros used i k f e h u z l =
+    let a : hasClass k ≡ hasClass (classOf (frameAt (framesOf ws) i .kind)) = ap hasClass (h ∙ ap (λ (g : Frame). classOf (g .kind)) e) in
+    let m : i < length zeros = (let y : length zeros ≡ 1024 = ap length z ∙ length-replicate {A = ℕ} 1024 0 in omega arith) in
+    let y : getD zeros i 0 ≡ 0 = ap (λ (x : List ℕ). getD x i 0) z ∙ getD-replicate {A = ℕ} 1024 i 0 0 l in
+    let b : eqb (getD used i 0) 0 ≡ (not (any (hasChild i) (framesOf ws)) && eqb (getD zeros i 0) 0) = ap (λ (x : List ℕ). eqb (getD x i 0) 0) u ∙ all-say (framesOf ws) zeros i l m in
+    let d : (not (any (hasChild i) (framesOf ws)) && eqb (getD zeros i 0) 0) ≡ not (any (hasChild i) (framesOf ws)) = ap (λ (n : ℕ). not (any (hasChild i) (framesOf ws)) && eqb n 0) y ∙ and-yes (not (any (hasChild i) (framesOf ws))) in
+    ap₂ (λ (p q : Bool). p && q) a (b ∙ d)
+  where
+    and-yes : (p : Bool) → (p && true) ≡ p
+    and-yes true = refl
+    and-yes false = refl
+
+pub left-start : (ws : List ℕ) → Leftover (framesOf ws) 0
+left-start ws = refl
+
+module _ (ws zeros used : List ℕ) (i : ℕ) (k : Class) (f : Frame) (b : Bool) where
+  left-test : f ≡ frameAt (framesOf ws) i → k ≡ classOf (f .kind) → used ≡ markAll zeros (framesOf ws) → zeros ≡ replicate 1024 0 → b ≡ (hasClass k && eqb (getD used i 0) 0) → i < length ws → length ws ≤ 1024 → leftoverTest (framesOf ws) i (frameAt (framesOf ws) i) ≡ b
+  left-test e h u z q l m = sym (q ∙ left-is ws zeros used i k f e h u z (omega arith))
+
+  pub left-here : f ≡ frameAt (framesOf ws) i → k ≡ classOf (f .kind) → used ≡ markAll zeros (framesOf ws) → zeros ≡ replicate 1024 0 → b ≡ (hasClass k && eqb (getD used i 0) 0) → b ≡ true → Leftover (framesOf ws) i → i < length ws → length ws ≤ 1024 → At i ≡ found (firstLeftover (framesOf ws) 0 (framesOf ws))
+  left-here e h u z q t g l m = seek-here (leftoverTest (framesOf ws)) ws i g l (left-test e h u z q l m ∙ t) ∙ ap found (sym (left-same (framesOf ws) (framesOf ws) 0 (λ t e. e)))
+
+  pub left-next : f ≡ frameAt (framesOf ws) i → k ≡ classOf (f .kind) → used ≡ markAll zeros (framesOf ws) → zeros ≡ replicate 1024 0 → b ≡ (hasClass k && eqb (getD used i 0) 0) → b ≡ false → Leftover (framesOf ws) i → i < length ws → length ws ≤ 1024 → Leftover (framesOf ws) (i + 1)
+  left-next e h u z q t g l m = seek-next (leftoverTest (framesOf ws)) ws i g l (left-test e h u z q l m ∙ t)
+
+pub left-end : (ws : List ℕ) (i : ℕ) → Leftover (framesOf ws) i → length ws ≤ i → Nowhere ≡ found (firstLeftover (framesOf ws) 0 (framesOf ws))
+left-end ws i g l = seek-end (leftoverTest (framesOf ws)) ws i g l ∙ ap found (sym (left-same (framesOf ws) (framesOf ws) 0 (λ t e. e)))
+
+-- ---- shared cells behind another kind: `other` says whether there was one before i
+abbrev behindTest : List Frame → ℕ → Frame → Bool
+behindTest fs i f = isBehind fs i f
+
+abbrev pub Behind : List Frame → ℕ → Type 0
+Behind fs i = Seeking (behindTest fs) fs i
+
+abbrev pub Others : List Frame → Bool → ℕ → Type 0
+Others fs other i = other ≡ any isOther (take i fs)
+
+any-append : (t : Frame → Bool) (xs : List Frame) (f : Frame) → any t (xs ++ (f ∷ [])) ≡ (any t xs || t f)
+unfolding any
+any-append t [] f = go (t f)
+  where
+    go : (b : Bool) → elim b [ true ↦ true | false ↦ false ] ≡ b
+    go true = refl
+    go false = refl
+any-append t (x ∷ xs) f = go (t x) (any-append t xs f)
+  where
+    go : (b : Bool) → any t (xs ++ (f ∷ [])) ≡ (any t xs || t f) → elim b [ true ↦ true | false ↦ any t (xs ++ (f ∷ [])) ] ≡ (elim b [ true ↦ true | false ↦ any t xs ] || t f)
+    go true h = refl
+    go false h = h
+
+pub others-start : (fs : List Frame) → Others fs false 0
+unfolding any
+others-start fs = refl
+
+pub behind-start : (fs : List Frame) → Behind fs 0
+behind-start fs = refl
+
+pub others-next : (ws : List ℕ) (i : ℕ) (other : Bool) (f : Frame) (x y : Bool) → f ≡ frameAt (framesOf ws) i → x ≡ not (isHeader (f .kind) || isShared (f .kind)) → y ≡ (other || x) → Others (framesOf ws) other i → i < length ws → Others (framesOf ws) y (i + 1)
+others-next ws i other f x y e h j g l =
+    let s : i + 1 ≡ suc i = omega arith in
+    let a : take (suc i) (framesOf ws) ≡ take i (framesOf ws) ++ (frameAt (framesOf ws) i ∷ []) = take-suc (framesOf ws) i noFrame (let z = frames-length ws in omega arith) in
+    j ∙ ap₂ (λ (p r : Bool). p || r) g (h ∙ ap (λ (k : Frame). isOther k) e) ∙ sym (any-append isOther (take i (framesOf ws)) (frameAt (framesOf ws) i)) ∙ ap (any isOther) (sym a) ∙ ap (λ (n : ℕ). any isOther (take n (framesOf ws))) (sym s)
+
+module _ (ws : List ℕ) (i : ℕ) (other : Bool) (f : Frame) (b : Bool) where
+  behind-is : f ≡ frameAt (framesOf ws) i → b ≡ (isShared (f .kind) && other) → Others (framesOf ws) other i → isBehind (framesOf ws) i (frameAt (framesOf ws) i) ≡ b
+  unfolding isBehind
+  behind-is e q o = go (isShared (frameAt (framesOf ws) i .kind)) ∙ sym (q ∙ ap₂ (λ (g : Frame) (x : Bool). isShared (g .kind) && x) e o)
+    where
+      go : (s : Bool) → elim s [ true ↦ any isOther (take i (framesOf ws)) | false ↦ false ] ≡ (s && any isOther (take i (framesOf ws)))
+      go true = refl
+      go false = refl
+
+  pub behind-here : f ≡ frameAt (framesOf ws) i → b ≡ (isShared (f .kind) && other) → b ≡ true → Others (framesOf ws) other i → Behind (framesOf ws) i → i < length ws → At i ≡ found (lowest (λ (j : ℕ) (g : Frame). isBehind (framesOf ws) j g) 0 (framesOf ws))
+  behind-here e q t o g l = seek-here (behindTest (framesOf ws)) ws i g l (behind-is e q o ∙ t)
+
+  pub behind-next : f ≡ frameAt (framesOf ws) i → b ≡ (isShared (f .kind) && other) → b ≡ false → Others (framesOf ws) other i → Behind (framesOf ws) i → i < length ws → Behind (framesOf ws) (i + 1)
+  behind-next e q t o g l = seek-next (behindTest (framesOf ws)) ws i g l (behind-is e q o ∙ t)
+
+pub behind-end : (ws : List ℕ) (i : ℕ) → Behind (framesOf ws) i → length ws ≤ i → Nowhere ≡ found (lowest (λ (j : ℕ) (g : Frame). isBehind (framesOf ws) j g) 0 (framesOf ws))
+behind-end ws i g l = seek-end (behindTest (framesOf ws)) ws i g l
+
+-- ---- main
+pub main-not : (f : Frame) (x : Bool) → x ≡ isModule (f .kind) → not x ≡ true → false ≡ isMain f
+main-not f x e n = rw (sym e ∙ not-true x n)
+
+pub main-by : (f : Frame) (x : Bool) → x ≡ isModule (f .kind) → not x ≡ false → eqb (f .s) 0 ≡ isMain f
+main-by f x e n = rw (sym e ∙ not-false x n)
+
+pub ruleset main-laws = (main-not, main-by)
+
+module _ (ws : List ℕ) (f : Frame) (b : Bool) (e : f ≡ frameAt (framesOf ws) (length ws - 1)) (h : b ≡ isMain f) where
+  main-is : isMain (frameAt (framesOf ws) (length (framesOf ws) - 1)) ≡ b
+  main-is = ap (λ (n : ℕ). isMain (frameAt (framesOf ws) (n - 1))) (frames-length ws) ∙ sym (h ∙ ap isMain e)
+
+  pub main-there : b ≡ true → Nowhere ≡ found (noMain (framesOf ws))
+  unfolding noMain
+  main-there t = ap found (yes _ (main-is ∙ t) refl)
+
+  pub main-missing : b ≡ false → At (length ws - 1) ≡ found (noMain (framesOf ws))
+  unfolding noMain
+  main-missing t = ap found (no none (main-is ∙ t) (ap (λ (n : ℕ). some (n - 1)) (sym (frames-length ws))))
+
+pub ruleset no-main-laws = (main-there, main-missing)
+
+-- ---- the four together
+module _ (fs : List Frame) (d b l m x y r : Found) where
+  pub order-is : d ≡ found (firstDisorder [] 0 fs) → b ≡ found (lowest (λ (i : ℕ) (f : Frame). isBehind fs i f) 0 fs) → l ≡ found (firstLeftover fs 0 fs) → m ≡ found (noMain fs) → x ≡ found (earlier (optionOf l) (optionOf m)) → y ≡ found (earlier (optionOf b) (optionOf x)) → r ≡ found (earlier (optionOf d) (optionOf y)) → r ≡ found (orderFault fs)
+  unfolding orderFault
+  order-is hd hb hl hm hx hy hr =
+      let a : optionOf x ≡ earlier (firstLeftover fs 0 fs) (noMain fs) = ap optionOf hx ∙ option-found _ ∙ ap₂ earlier (ap optionOf hl ∙ option-found _) (ap optionOf hm ∙ option-found _) in
+      let c : optionOf y ≡ earlier (lowest (behindTest fs) 0 fs) (earlier (firstLeftover fs 0 fs) (noMain fs)) = ap optionOf hy ∙ option-found _ ∙ ap₂ earlier (ap optionOf hb ∙ option-found _) a in
+      hr ∙ ap found (ap₂ earlier (ap optionOf hd ∙ option-found _) c)

@@ -1,0 +1,106 @@
+-- How the depth pass raises depths, from the last frame down. Assumes nothing.
+use mathlib.Core.Path.{_≡_, refl, sym, ap, _∙_}
+use mathlib.Core.Bool.{Bool, true, false}
+use mathlib.Core.List.{List, [], _∷_, _++_}
+use Prim.Native.Nat.{ℕ, zero, suc, _+_, _-_, _≤_, _<_}
+use native.Mathlib.Omega.{arith}
+use lib.Dec.{ltb, eqb}
+use borrow.Author.Tests.{lt-ltb, le-ltb, eq-eqb, ne-eqb}
+use lib.ListN.{getD, length, set}
+use Rattle.basics.proofs.Ifs.{yes, no}
+use Rattle.language.specs.Kinds.{uses, Child, childIn, children}
+use Rattle.language.specs.declared.kind.Class.{Class}
+use Rattle.language.specs.declared.kind.Use.{Use}
+use Rattle.language.specs.declared.kind.Uses.{Uses}
+use Rattle.language.specs.declared.frame.Frame.{Frame}
+use Rattle.program.specs.Trees.{frameAt}
+use Rattle.layout.specs.declared.frames.ChildRead.{ChildRead}
+use Rattle.layout.specs.declared.frames.ChildRead.the-variants.{ChildAt, NoChild}
+use Rattle.layout.specs.Fields.{isModule}
+use Rattle.layout.specs.Passes.{childRead, given, raised, raisedAll, depthsDown}
+use Rattle.layout.proofs.FrameLaws.{no-child-is, child-is}
+
+pub raise-past : (u : List ℕ) (d v : ℕ) → 1024 ≤ v → u ≡ raised u d v
+unfolding raised
+raise-past u d v l = no _ (le-ltb v 1024 l) refl
+
+pub raise-not : (u : List ℕ) (d v : ℕ) → d ≤ getD u v 0 → v < 1024 → u ≡ raised u d v
+unfolding raised
+raise-not u d v h l = yes u (lt-ltb v 1024 l) (no (set u v d) (le-ltb (getD u v 0) d h) refl)
+
+pub raise-set : (u : List ℕ) (d v : ℕ) → getD u v 0 < d → v < 1024 → set u v d ≡ raised u d v
+unfolding raised
+raise-set u d v h l = yes u (lt-ltb v 1024 l) (yes u (lt-ltb (getD u v 0) d h) refl)
+
+pub ruleset raise-laws = (raise-past, raise-not, raise-set)
+
+module _ (t : List ℕ) (d : ℕ) (u : Use) (v : ℕ) (x : ChildRead) where
+  pub field-unraised : x ≡ childRead (childIn u v) → x ≡ NoChild → t ≡ raisedAll t d (childIn u v)
+  field-unraised h e = end ∙ ap (raisedAll t d) (sym (no-child-is u v x h e))
+    where
+      end : t ≡ raisedAll t d []
+      end = unfold raisedAll in refl
+
+  pub field-raised : (s : List ℕ) (k : Class) (n : ℕ) → x ≡ childRead (childIn u v) → x ≡ ChildAt k n → s ≡ raised t d n → s ≡ raisedAll t d (childIn u v)
+  field-raised s k n h e g = g ∙ end ∙ ap (raisedAll t d) (sym (child-is u v x h k n e))
+    where
+      end : raised t d n ≡ raisedAll t d (record { class = k; at = n } ∷ [])
+      end = unfold raisedAll in refl
+
+pub ruleset field-laws = (field-unraised, field-raised)
+
+all-append : (xs ys : List Child) (u : List ℕ) (d : ℕ) → raisedAll u d (xs ++ ys) ≡ raisedAll (raisedAll u d xs) d ys
+unfolding raisedAll
+all-append [] ys u d = refl
+all-append (x ∷ xs) ys u d = all-append xs ys (raised u d (x .at)) d
+
+pub frame-raised : (u t r s : List ℕ) (d : ℕ) (us : Uses) (f : Frame) → us ≡ uses (f .kind) → t ≡ raisedAll u d (childIn (us .a) (f .a)) → r ≡ raisedAll t d (childIn (us .b) (f .b)) → s ≡ raisedAll r d (childIn (us .c) (f .c)) → s ≡ raisedAll u d (children f)
+unfolding children
+frame-raised u t r s d us f e a b c =
+    c ∙ ap (λ (x : List ℕ). raisedAll x d (childIn (us .c) (f .c))) (b ∙ ap (λ (x : List ℕ). raisedAll x d (childIn (us .b) (f .b))) a)
+    ∙ sym (ap (λ (x : List ℕ). raisedAll x d (childIn (us .c) (f .c))) (all-append (childIn (us .a) (f .a)) (childIn (us .b) (f .b)) u d))
+    ∙ sym (all-append (childIn (us .a) (f .a) ++ childIn (us .b) (f .b)) (childIn (us .c) (f .c)) u d)
+    ∙ ap (λ (w : Uses). raisedAll u d (childIn (w .a) (f .a) ++ childIn (w .b) (f .b) ++ childIn (w .c) (f .c))) e
+
+module _ (f : Frame) (d : ℕ) where
+  pub given-body : (b : Bool) → b ≡ isModule (f .kind) → b ≡ true → d ≡ 0 → 1 ≡ given f d
+  unfolding given
+  given-body b p t e = yes _ (eq-eqb _ _ e) (yes _ (sym p ∙ t) refl)
+
+  pub given-none : (b : Bool) → b ≡ isModule (f .kind) → b ≡ false → d ≡ 0 → 0 ≡ given f d
+  unfolding given
+  given-none b p t e = yes _ (eq-eqb _ _ e) (no _ (sym p ∙ t) refl)
+
+  pub given-deeper : (d ≡ 0 → ⊥) → d < 25 → d + 1 ≡ given f d
+  unfolding given
+  given-deeper n l = let s : d + 1 ≡ suc d = omega arith in no _ (ne-eqb _ _ n) (yes _ (lt-ltb _ _ l) s)
+
+  pub given-over : (d ≡ 0 → ⊥) → 25 ≤ d → 25 ≡ given f d
+  unfolding given
+  given-over n l = no _ (ne-eqb _ _ n) (no _ (le-ltb _ _ l) refl)
+
+pub ruleset given-laws = (given-body, given-none, given-deeper, given-over)
+
+-- ---- the loop, downwards
+abbrev pub Sinking : List Frame → ℕ → List ℕ → List ℕ → ℕ → Type 0
+Sinking fs size start u n = depthsDown n fs u ≡ depthsDown size fs start
+
+pub sinking-start : (fs : List Frame) (size : ℕ) (u : List ℕ) → Sinking fs size u u size
+sinking-start fs size u = refl
+
+pub sinking-next : (fs : List Frame) (size : ℕ) (start u t : List ℕ) (n d : ℕ) (f : Frame) → f ≡ frameAt fs (n - 1) → d ≡ given f (getD u (n - 1) 0) → t ≡ raisedAll u d (children f) → Sinking fs size start u n → 0 < n → Sinking fs size start t (n - 1)
+sinking-next fs size start u t n d f e q r g l = go (n - 1) (omega arith) e q
+  where
+    go : (m : ℕ) → n ≡ suc m → f ≡ frameAt fs m → d ≡ given f (getD u m 0) → depthsDown m fs t ≡ depthsDown size fs start
+    go m s e q =
+        let b : t ≡ raisedAll u (given (frameAt fs m) (getD u m 0)) (children (frameAt fs m)) = r ∙ ap (λ (x : ℕ). raisedAll u x (children f)) q ∙ ap (λ (h : Frame). raisedAll u (given h (getD u m 0)) (children h)) e in
+        ap (depthsDown m fs) b ∙ step ∙ sym (ap (λ (k : ℕ). depthsDown k fs u) s) ∙ g
+      where
+        step : depthsDown m fs (raisedAll u (given (frameAt fs m) (getD u m 0)) (children (frameAt fs m))) ≡ depthsDown (suc m) fs u
+        step = unfold depthsDown in refl
+
+pub sinking-end : (fs : List Frame) (size : ℕ) (start u : List ℕ) (n : ℕ) → Sinking fs size start u n → n ≤ 0 → u ≡ depthsDown size fs start
+sinking-end fs size start u n g l = let e : n ≡ 0 = omega arith in end ∙ ap (λ (k : ℕ). depthsDown k fs u) (sym e) ∙ g
+  where
+    end : u ≡ depthsDown 0 fs u
+    end = unfold depthsDown in refl

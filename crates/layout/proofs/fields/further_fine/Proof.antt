@@ -1,0 +1,13 @@
+-- `further_fine` meets its contract. Assumes nothing.
+use Rattle.layout.proofs.Tallies.{further-laws}
+use Rattle.layout.proofs.fields.further_fine.Statement.{statement}
+use Rattle.layout.proofs.fields.further_fine.Tie as tie
+
+returns : tie.Need-returns
+returns c = search further-laws
+
+returns-2 : tie.Need-returns-2
+returns-2 c = search further-laws
+
+pub further-fine-spec : {M : Type 1} → statement M
+further-fine-spec = tie.close (tie.spec returns returns-2)

@@ -1,0 +1,65 @@
+-- `behind` meets its contract. Assumes nothing.
+use Prim.Native.Nat.{_≤_, _-_}
+use lib.ListN.{length}
+use borrow.Author.Needs.{needs}
+use Rattle.text.specs.Frames.{framesOf}
+use Rattle.layout.proofs.Marks.{Others, Behind, others-start, others-next, behind-start, behind-here, behind-next, behind-end}
+use Rattle.layout.proofs.in_order.behind.Statement.{statement}
+use Rattle.layout.proofs.in_order.behind.Tie as tie
+
+abbrev Inv-loop : tie.InvT-loop
+Inv-loop words other₀ i₀ other i = (i ≤ length words) × Others (framesOf words) other i × Behind (framesOf words) i
+
+abbrev μ-loop : tie.MeasureT-loop
+μ-loop words other₀ i₀ other i = length words - i
+
+loop-holds : tie.Need-loop-holds Inv-loop μ-loop
+loop-holds c = (search needs, search others-start, search behind-start)
+
+frame-at-requires : tie.Need-frame-at-requires Inv-loop μ-loop
+frame-at-requires c κs = search needs
+
+is-late-requires : tie.Need-is-late-requires Inv-loop μ-loop
+is-late-requires c κs = search needs
+
+cast-t9 : tie.Need-cast-t9 Inv-loop μ-loop
+cast-t9 c = search needs
+
+returns : tie.Need-returns Inv-loop μ-loop
+returns c = search behind-here
+
+is-other-requires : tie.Need-is-other-requires Inv-loop μ-loop
+is-other-requires c κs = search needs
+
+either-requires : tie.Need-either-requires Inv-loop μ-loop
+either-requires c κs = search needs
+
+add-i : tie.Need-add-i Inv-loop μ-loop
+add-i c = search needs
+
+loop-less : tie.Need-loop-less Inv-loop μ-loop
+loop-less c = search needs
+
+loop-again : tie.Need-loop-again Inv-loop μ-loop
+loop-again c = (search needs, search (others-next, c .either .ensures, c .before .is-other .ensures, c .before .before .before .before .frame-at .ensures, c .before .before .before .before .before .before .loop .inv .1, c .before .before .before .before .before .loop-test .taken), search (behind-next, c .before .before .if1 .left, c .before .before .before .is-late .ensures, c .before .before .before .before .frame-at .ensures, c .before .before .before .before .before .before .loop .inv .1, c .before .before .before .before .before .before .loop .inv .2, c .before .before .before .before .before .loop-test .taken))
+
+returns-2 : tie.Need-returns-2 Inv-loop μ-loop
+returns-2 c = search behind-end
+
+pub behind-spec : {M : Type 1} → statement M
+behind-spec =
+    tie.close
+    (tie.spec
+    Inv-loop
+    μ-loop
+    loop-holds
+    frame-at-requires
+    is-late-requires
+    cast-t9
+    returns
+    is-other-requires
+    either-requires
+    add-i
+    loop-less
+    loop-again
+    returns-2)

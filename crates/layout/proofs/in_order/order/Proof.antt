@@ -1,0 +1,42 @@
+-- `order` meets its contract. Assumes nothing.
+use borrow.Author.Needs.{needs}
+use Rattle.layout.proofs.Marks.{order-is}
+use Rattle.layout.proofs.in_order.order.Statement.{statement}
+use Rattle.layout.proofs.in_order.order.Tie as tie
+
+disorder-requires : tie.Need-disorder-requires
+disorder-requires c κs = search needs
+
+behind-requires : tie.Need-behind-requires
+behind-requires c κs = search needs
+
+leftover-requires : tie.Need-leftover-requires
+leftover-requires c κs = search needs
+
+no-main-requires : tie.Need-no-main-requires
+no-main-requires c κs = search needs
+
+lower-requires : tie.Need-lower-requires
+lower-requires c κs = search needs
+
+lower-requires-2 : tie.Need-lower-requires-2
+lower-requires-2 c κs = search needs
+
+lower-requires-3 : tie.Need-lower-requires-3
+lower-requires-3 c κs = search needs
+
+returns : tie.Need-returns
+returns c = search order-is
+
+pub order-spec : {M : Type 1} → statement M
+order-spec =
+    tie.close
+    (tie.spec
+    disorder-requires
+    behind-requires
+    leftover-requires
+    no-main-requires
+    lower-requires
+    lower-requires-2
+    lower-requires-3
+    returns)

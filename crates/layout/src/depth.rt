@@ -1,0 +1,105 @@
+// Refusal 7: the depth of frames, from the last frame to the first, since parents stand behind their children.
+use crate::found::Found;
+use crate::frames::ChildRead;
+use crate::frames::child_in;
+use crate::frames::frame_at;
+use crate::frames::is_module;
+use language::frame::Frame;
+use language::kind::Use;
+use language::kind::uses_of;
+ghost use mathlib.Core.Path.{_≡_};
+ghost use mathlib.Core.Option.{none};
+ghost use Prim.Native.Nat.{_<_, _≤_};
+ghost use lib.ListN.{length};
+ghost use Rattle.language.specs.Kinds.{childIn, children};
+ghost use Rattle.text.specs.Frames.{framesOf};
+ghost use Rattle.layout.specs.Scans.{orderFault, depthFault};
+ghost use Rattle.layout.specs.Passes.{found, given, raised, raisedAll, depthsDown};
+
+// At v a depth of at least d. A number behind the last frame raises nothing.
+fn raise(u: &mut [u8; 1024], d: u8, v: u16)
+    ensures { λ r. ⌜ now (u .exit) ≡ raised (now (u .entry)) d v ⌝ }
+{
+    let j = v as usize;
+    if 1024 <= j {
+        return;
+    }
+    if d <= u[j] {
+        return;
+    }
+    u[j] = d;
+}
+
+fn raise_field(u: &mut [u8; 1024], d: u8, k: Use, v: u16)
+    ensures { λ r. ⌜ now (u .exit) ≡ raisedAll (now (u .entry)) d (childIn k v) ⌝ }
+{
+    match child_in(k, v) {
+        ChildRead::NoChild => {
+            return;
+        }
+        ChildRead::ChildAt(class, n) => {
+            raise(u, d, n);
+            return;
+        }
+    }
+}
+
+fn raise_frame(u: &mut [u8; 1024], d: u8, f: Frame)
+    ensures { λ r. ⌜ now (u .exit) ≡ raisedAll (now (u .entry)) d (children f) ⌝ }
+{
+    let kind = f.kind;
+    let uses = uses_of(kind);
+    let ua = uses.a;
+    let ub = uses.b;
+    let uc = uses.c;
+    raise_field(u, d, ua, f.a);
+    raise_field(u, d, ub, f.b);
+    raise_field(u, d, uc, f.c);
+}
+
+// The depth of the children of f, which stands at the depth d, or at none where d is 0. 25 stands for every depth over 24.
+fn given_by(f: Frame, d: u8) -> u8
+    ensures { λ r. ⌜ r ≡ given f d ⌝ }
+{
+    let kind = f.kind;
+    if d == 0 {
+        if is_module(kind) {
+            return 1;
+        }
+        return 0;
+    }
+    if d < 25 {
+        return d + 1;
+    }
+    25
+}
+
+fn depths_down(words: &[u64], u: &mut [u8; 1024])
+    requires { ⌜ length (now words) ≤ 1024 ⌝ }
+    ensures { λ r. ⌜ now (u .exit) ≡ depthsDown (length (now (words .entry))) (framesOf (now (words .entry))) (now (u .entry)) ⌝ }
+{
+    let mut n = words.len();
+    while n > 0 {
+        n -= 1;
+        let f = frame_at(words, n);
+        let d = given_by(f, u[n]);
+        raise_frame(u, d, f);
+    }
+}
+
+// The lowest frame deeper than 24. Without a fault 6 the children of each frame stand before it; only then does one pass see every parent before its children.
+pub fn depth(words: &[u64]) -> Found
+    requires { ⌜ (0 < length (now words)) × (length (now words) ≤ 1024) × (orderFault (framesOf (now words)) ≡ none) ⌝ }
+    ensures { λ r. ⌜ r ≡ found (depthFault (framesOf (now (words .entry)))) ⌝ }
+{
+    let mut u = [0u8; 1024];
+    depths_down(words, &mut u);
+    let mut i = 0;
+    while i < words.len() {
+        if u[i] > 24 {
+            return Found::At(i as u16);
+        }
+        i += 1;
+    }
+    Found::Nowhere
+}

@@ -1,0 +1,270 @@
+// Refusal 6: the order of frames.
+use crate::found::Found;
+use crate::found::lower;
+use crate::frames::ChildRead;
+use crate::frames::child_in;
+use crate::frames::frame_at;
+use crate::frames::is_header;
+use crate::frames::is_module;
+use crate::frames::is_shared;
+use crate::frames::same_class;
+use language::frame::Frame;
+use language::kind::Class;
+use language::kind::Kind;
+use language::kind::Use;
+use language::kind::class_of;
+use language::kind::uses_of;
+ghost use mathlib.Core.Path.{_≡_};
+ghost use mathlib.Core.Bool.{not, _&&_, _||_};
+ghost use mathlib.Core.List.{[], _∷_, reverse};
+ghost use Prim.Native.Nat.{ℕ, _<_, _≤_};
+ghost use lib.Dec.{eqb};
+ghost use lib.ListN.{length};
+ghost use Rattle.basics.specs.Searches.{lowest};
+ghost use Rattle.language.specs.Kinds.{child, childIn, children};
+ghost use Rattle.language.specs.declared.frame.Frame.{Frame};
+ghost use Rattle.text.specs.Frames.{framesOf};
+ghost use Rattle.layout.specs.Fields.{isHeader, isShared};
+ghost use Rattle.layout.specs.Order.{hasClass, isMain};
+ghost use Rattle.layout.specs.Scans.{rowFirst, firstDisorder, isBehind, firstLeftover, noMain, orderFault};
+ghost use Rattle.layout.specs.Passes.{found, told, Backward, marked, marks, markAll};
+
+// Where the tree of the child v begins, which is to be of that class and to end just before `stop`; `first` says where the tree of each frame before i begins.
+fn child_first(
+    words: &[u64],
+    first: &[u16; 1024],
+    i: usize,
+    class: Class,
+    v: u16,
+    stop: u16,
+) -> Found
+    requires { ⌜ (i ≤ length (now words)) × (length (now words) ≤ 1024) × (stop ≤ i) ⌝ }
+    ensures { λ r. ⌜ r ≡ found (rowFirst (told (framesOf (now (words .entry))) (now (first .entry)) i) i stop (child class v ∷ [])) ⌝ }
+{
+    let j = v as usize;
+    if i <= j {
+        return Found::Nowhere;
+    }
+    if v + 1 != stop {
+        return Found::Nowhere;
+    }
+    let f = frame_at(words, j);
+    let kind = f.kind;
+    if !same_class(class_of(kind), class) {
+        return Found::Nowhere;
+    }
+    Found::At(first[j])
+}
+
+// The same for the child that a field names, if it names one.
+fn field_first(words: &[u64], first: &[u16; 1024], i: usize, u: Use, v: u16, stop: u16) -> Found
+    requires { ⌜ (i ≤ length (now words)) × (length (now words) ≤ 1024) × (stop ≤ i) ⌝ }
+    ensures { λ r. ⌜ r ≡ found (rowFirst (told (framesOf (now (words .entry))) (now (first .entry)) i) i stop (childIn u v)) ⌝ }
+{
+    match child_in(u, v) {
+        ChildRead::NoChild => Found::At(stop),
+        ChildRead::ChildAt(class, n) => child_first(words, first, i, class, n, stop),
+    }
+}
+
+// Where the tree of frame i begins, from its last child to its first.
+fn row_first(words: &[u64], first: &[u16; 1024], i: usize, f: Frame) -> Found
+    requires { ⌜ (i ≤ length (now words)) × (length (now words) ≤ 1024) × Backward (now first) i ⌝ }
+    ensures { λ r. ⌜ r ≡ found (rowFirst (told (framesOf (now (words .entry))) (now (first .entry)) i) i i (reverse (children f))) ⌝ }
+{
+    let kind = f.kind;
+    let uses = uses_of(kind);
+    let ua = uses.a;
+    let ub = uses.b;
+    let uc = uses.c;
+    match field_first(words, first, i, uc, f.c, i as u16) {
+        Found::Nowhere => Found::Nowhere,
+        Found::At(t) => match field_first(words, first, i, ub, f.b, t) {
+            Found::Nowhere => Found::Nowhere,
+            Found::At(s) => field_first(words, first, i, ua, f.a, s),
+        },
+    }
+}
+
+// The lowest frame whose children are out of order or of a wrong class.
+fn disorder(words: &[u64]) -> Found
+    requires { ⌜ length (now words) ≤ 1024 ⌝ }
+    ensures { λ r. ⌜ r ≡ found (firstDisorder [] 0 (framesOf (now (words .entry)))) ⌝ }
+{
+    let mut first = [0u16; 1024];
+    let mut i = 0;
+    while i < words.len() {
+        let f = frame_at(words, i);
+        match row_first(words, &first, i, f) {
+            Found::Nowhere => {
+                return Found::At(i as u16);
+            }
+            Found::At(lo) => {
+                first[i] = lo;
+            }
+        }
+        i += 1;
+    }
+    Found::Nowhere
+}
+
+fn either(a: bool, b: bool) -> bool
+    ensures { λ r. ⌜ r ≡ (a || b) ⌝ }
+{
+    if a {
+        return true;
+    }
+    b
+}
+
+// Neither a header nor a shared cell.
+fn is_other(k: Kind) -> bool
+    ensures { λ r. ⌜ r ≡ not (isHeader k || isShared k) ⌝ }
+{
+    if is_header(k) {
+        return false;
+    }
+    !is_shared(k)
+}
+
+// The lowest shared cell behind another kind.
+fn behind(words: &[u64]) -> Found
+    requires { ⌜ length (now words) ≤ 1024 ⌝ }
+    ensures { λ r. ⌜ r ≡ found (lowest (λ (i : ℕ) (f : Frame). isBehind (framesOf (now (words .entry))) i f) 0 (framesOf (now (words .entry)))) ⌝ }
+{
+    let mut other = false;
+    let mut i = 0;
+    while i < words.len() {
+        let f = frame_at(words, i);
+        let kind = f.kind;
+        if is_late(kind, other) {
+            return Found::At(i as u16);
+        }
+        other = either(other, is_other(kind));
+        i += 1;
+    }
+    Found::Nowhere
+}
+
+// A shared cell, where another kind was before.
+fn is_late(k: Kind, other: bool) -> bool
+    ensures { λ r. ⌜ r ≡ (isShared k && other) ⌝ }
+{
+    if is_shared(k) {
+        return other;
+    }
+    false
+}
+
+// Each array of marks has a 1 at the frames that some frame has as a child. A number behind the last frame marks nothing.
+fn mark(used: &mut [u8; 1024], v: u16)
+    ensures { λ r. ⌜ now (used .exit) ≡ marked (now (used .entry)) v ⌝ }
+{
+    let j = v as usize;
+    if 1024 <= j {
+        return;
+    }
+    used[j] = 1;
+}
+
+fn mark_field(used: &mut [u8; 1024], u: Use, v: u16)
+    ensures { λ r. ⌜ now (used .exit) ≡ marks (now (used .entry)) (childIn u v) ⌝ }
+{
+    match child_in(u, v) {
+        ChildRead::NoChild => {
+            return;
+        }
+        ChildRead::ChildAt(class, n) => {
+            mark(used, n);
+            return;
+        }
+    }
+}
+
+fn mark_frame(used: &mut [u8; 1024], f: Frame)
+    ensures { λ r. ⌜ now (used .exit) ≡ marks (now (used .entry)) (children f) ⌝ }
+{
+    let kind = f.kind;
+    let uses = uses_of(kind);
+    let ua = uses.a;
+    let ub = uses.b;
+    let uc = uses.c;
+    mark_field(used, ua, f.a);
+    mark_field(used, ub, f.b);
+    mark_field(used, uc, f.c);
+}
+
+fn mark_all(words: &[u64], used: &mut [u8; 1024])
+    ensures { λ r. ⌜ now (used .exit) ≡ markAll (now (used .entry)) (framesOf (now (words .entry))) ⌝ }
+{
+    let mut i = 0;
+    while i < words.len() {
+        let f = frame_at(words, i);
+        mark_frame(used, f);
+        i += 1;
+    }
+}
+
+// A statement or an expression that is not marked.
+fn is_left(k: Class, mark: u8) -> bool
+    ensures { λ r. ⌜ r ≡ (hasClass k && eqb mark 0) ⌝ }
+{
+    match k {
+        Class::Statement => mark == 0,
+        Class::Expression => mark == 0,
+        Class::Neither => false,
+    }
+}
+
+// The lowest statement or expression that no frame has as a child.
+fn leftover(words: &[u64]) -> Found
+    requires { ⌜ length (now words) ≤ 1024 ⌝ }
+    ensures { λ r. ⌜ r ≡ found (firstLeftover (framesOf (now (words .entry))) 0 (framesOf (now (words .entry)))) ⌝ }
+{
+    let mut used = [0u8; 1024];
+    mark_all(words, &mut used);
+    let mut i = 0;
+    while i < words.len() {
+        let f = frame_at(words, i);
+        let kind = f.kind;
+        if is_left(class_of(kind), used[i]) {
+            return Found::At(i as u16);
+        }
+        i += 1;
+    }
+    Found::Nowhere
+}
+
+fn is_main(f: Frame) -> bool
+    ensures { λ r. ⌜ r ≡ isMain f ⌝ }
+{
+    let kind = f.kind;
+    if !is_module(kind) {
+        return false;
+    }
+    f.s == 0
+}
+
+// The last frame, if it is not `main`.
+fn no_main(words: &[u64]) -> Found
+    requires { ⌜ (0 < length (now words)) × (length (now words) ≤ 1024) ⌝ }
+    ensures { λ r. ⌜ r ≡ found (noMain (framesOf (now (words .entry)))) ⌝ }
+{
+    let last = words.len() - 1;
+    if is_main(frame_at(words, last)) {
+        return Found::Nowhere;
+    }
+    Found::At(last as u16)
+}
+
+// The lowest frame with a fault 6.
+pub fn order(words: &[u64]) -> Found
+    requires { ⌜ (0 < length (now words)) × (length (now words) ≤ 1024) ⌝ }
+    ensures { λ r. ⌜ r ≡ found (orderFault (framesOf (now (words .entry)))) ⌝ }
+{
+    let d = disorder(words);
+    let b = behind(words);
+    let l = leftover(words);
+    let m = no_main(words);
+    lower(d, lower(b, lower(l, m)))
+}
