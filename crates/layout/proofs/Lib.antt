@@ -15,3 +15,4 @@ pub mod Raises
 pub mod Deep
 pub mod Overs
 pub mod Tallies
+pub mod Answers

@@ -136,11 +136,11 @@ row-fields ps i f us e =
     ∙ row-append ps i (childIn (us .c) (f .c)) (childIn (us .b) (f .b) ++ childIn (us .a) (f .a)) i
     ∙ and-same (rowFirst ps i i (childIn (us .c) (f .c))) _ _ (λ t. row-append ps i (childIn (us .b) (f .b)) (childIn (us .a) (f .a)) t)
 
-nowhere-none : (o : Option ℕ) → found o ≡ Nowhere → o ≡ none
+pub nowhere-none : (o : Option ℕ) → found o ≡ Nowhere → o ≡ none
 nowhere-none none e = refl
 nowhere-none (some n) e = absurd (let z : _≡_ {A = ℕ} 0 1 = cc in omega arith)
 
-at-some : (o : Option ℕ) (s : ℕ) → found o ≡ At s → o ≡ some s
+pub at-some : (o : Option ℕ) (s : ℕ) → found o ≡ At s → o ≡ some s
 at-some none s e = absurd (let z : _≡_ {A = ℕ} 0 1 = cc in omega arith)
 at-some (some n) s e = let z : n ≡ s = cc in ap some z
 

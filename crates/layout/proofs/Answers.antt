@@ -1,0 +1,148 @@
+-- What the layout check answers on a text, from what its passes find. Assumes nothing.
+use mathlib.Core.Path.{_≡_, refl, sym, ap, ap₂, _∙_}
+use mathlib.Core.List.{List, [], _∷_}
+use mathlib.Core.Option.{none}
+use Prim.Native.Nat.{ℕ, zero, suc, _-_, _/_, _≤_, _<_}
+use native.Mathlib.Omega.{arith}
+use lib.ListN.{length, take, drop, replicate}
+use lib.Seq.{take-at}
+use Rattle.language.specs.declared.frame.Frame.{Frame}
+use Rattle.language.specs.declared.verdict.Verdict.{Verdict}
+use Rattle.language.specs.declared.verdict.Verdict.the-variants.{Accepted, Rejected}
+use Rattle.text.specs.Frames.{wordsOf, framesOf, textFrames}
+use Rattle.text.specs.Reading.{Reading, frames, refused, reading, Reads, textRead, linesRead, wordArray, textWords}
+use Rattle.text.specs.declared.reading.TextRead.{TextRead}
+use Rattle.text.specs.declared.reading.TextRead.the-variants.{Frames, Refused}
+use Rattle.text.specs.declared.reading.TextWords.{TextWords}
+use Rattle.text.proofs.Readings.{reads, some-frame}
+use Rattle.text.proofs.ReadLaws.{length-frames, array-length, read-field}
+use Rattle.layout.specs.declared.LaidOut.{LaidOut}
+use Rattle.layout.specs.declared.found.Found.{Found}
+use Rattle.layout.specs.declared.found.Found.the-variants.{At, Nowhere}
+use Rattle.layout.specs.Scans.{headerFault, fieldFault, orderFault, depthFault, layoutOf}
+use Rattle.layout.specs.Passes.{found}
+use Rattle.layout.specs.LaidOut.{layoutRead, layoutVerdict, laidOut}
+use Rattle.layout.proofs.Rows.{nowhere-none, at-some}
+use Rattle.layout.proofs.FrameLaws.{frames-length}
+
+-- ---- 4 to 7
+pub found-none : (fs : List Frame) (x : Found) → x ≡ Nowhere → x ≡ found (orderFault fs) → orderFault fs ≡ none
+found-none fs x e h = nowhere-none (orderFault fs) (sym h ∙ e)
+
+module _ (fs : List Frame) (a : Found) (ha : a ≡ found (headerFault fs)) where
+  pub laid-4 : (j : ℕ) → a ≡ At j → Rejected 4 j ≡ layoutOf fs
+  unfolding layoutOf
+  laid-4 j e = rw (at-some (headerFault fs) j (sym ha ∙ e))
+
+  module _ (na : a ≡ Nowhere) (b : Found) (hb : b ≡ found (fieldFault fs)) where
+    pub laid-5 : (j : ℕ) → b ≡ At j → Rejected 5 j ≡ layoutOf fs
+    unfolding layoutOf
+    laid-5 j e = rw (nowhere-none (headerFault fs) (sym ha ∙ na), at-some (fieldFault fs) j (sym hb ∙ e))
+
+    module _ (nb : b ≡ Nowhere) (c : Found) (hc : c ≡ found (orderFault fs)) where
+      pub laid-6 : (j : ℕ) → c ≡ At j → Rejected 6 j ≡ layoutOf fs
+      unfolding layoutOf
+      laid-6 j e = rw (nowhere-none (headerFault fs) (sym ha ∙ na), nowhere-none (fieldFault fs) (sym hb ∙ nb), at-some (orderFault fs) j (sym hc ∙ e))
+
+      module _ (nc : c ≡ Nowhere) (d : Found) (hd : d ≡ found (depthFault fs)) where
+        pub laid-7 : (j : ℕ) → d ≡ At j → Rejected 7 j ≡ layoutOf fs
+        unfolding layoutOf
+        laid-7 j e = rw (nowhere-none (headerFault fs) (sym ha ∙ na), nowhere-none (fieldFault fs) (sym hb ∙ nb), nowhere-none (orderFault fs) (sym hc ∙ nc), at-some (depthFault fs) j (sym hd ∙ e))
+
+        pub laid-right : d ≡ Nowhere → Accepted ≡ layoutOf fs
+        unfolding layoutOf
+        laid-right e = rw (nowhere-none (headerFault fs) (sym ha ∙ na), nowhere-none (fieldFault fs) (sym hb ∙ nb), nowhere-none (orderFault fs) (sym hc ∙ nc), nowhere-none (depthFault fs) (sym hd ∙ e))
+
+pub ruleset layout-laws = (laid-4, laid-5, laid-6, laid-7, laid-right)
+
+-- ---- a text that reads as frames has these
+record Whole (bs : List ℕ) (n : ℕ) : Type 0 where
+  is : reading bs ≡ frames (textFrames bs)
+  count : length (textFrames bs) ≡ n
+  fits : n ≤ 1024
+  some : 0 < n
+
+frames-of : {bs : List ℕ} {r : Reading} (fs : List Frame) → Reads bs r → r ≡ frames fs → (fs ≡ textFrames bs) × (length bs ≤ 17408)
+frames-of fs Reads.empty q = absurd (let z : _≡_ {A = ℕ} 0 1 = cc in omega arith)
+frames-of fs (Reads.over l) q = absurd (let z : _≡_ {A = ℕ} 0 1 = cc in omega arith)
+frames-of fs (Reads.wrong k l w m) q = absurd (let z : _≡_ {A = ℕ} 0 1 = cc in omega arith)
+frames-of fs (Reads.whole k l w) q = (cc, l)
+
+whole : (bs : List ℕ) (n : ℕ) → textRead (reading bs) ≡ Frames n → Whole bs n
+whole bs n e = go (reading bs) refl (reads bs) e
+  where
+    go : (r : Reading) → reading bs ≡ r → Reads bs r → textRead r ≡ Frames n → Whole bs n
+    go (refused m j) q h e = absurd (let z : _≡_ {A = ℕ} 0 1 = cc in omega arith)
+    go (frames fs) q h e =
+        let w = frames-of fs h refl in
+        let a : fs ≡ textFrames bs = w .0 in
+        let l : length fs ≡ n = cc in
+        let c : length (textFrames bs) ≡ n = ap length (sym a) ∙ l in
+        let s = some-frame h refl in
+        record { is = q ∙ ap frames a; count = c; fits = (let z = length-frames bs in let y = w .1 in omega arith); some = omega arith }
+
+words-length : (n : ℕ) (bs : List ℕ) → length (wordsOf n bs) ≡ n
+unfolding wordsOf
+words-length zero bs = refl
+words-length (suc n) bs = ap suc (words-length n (drop 17 bs))
+
+array-take : (n : ℕ) (bs : List ℕ) → take n (wordArray n bs) ≡ wordsOf n bs
+unfolding wordArray
+array-take n bs = take-at (wordsOf n bs) (replicate (1024 - n) 0) n (words-length n bs)
+
+abbrev answer : Verdict → ℕ → List ℕ → LaidOut
+answer v n ws = record { verdict = v; count = n; words = ws }
+
+module _ (bs : List ℕ) (t : TextWords) (h : t ≡ textWords bs) where
+  words-are : t .words ≡ wordArray (linesRead (reading bs)) bs
+  unfolding textWords
+  words-are = ap (λ (x : TextWords). x .words) h
+
+  by-reading : (r : Reading) → reading bs ≡ r → answer (layoutRead r) (linesRead r) (t .words) ≡ laidOut bs
+  unfolding laidOut layoutVerdict
+  by-reading r e = ap (λ (s : Reading). answer (layoutRead s) (linesRead s) (t .words)) (sym e) ∙ ap (λ (x : TextWords). answer (layoutRead (reading bs)) (linesRead (reading bs)) (x .words)) h
+
+  pub laid-refused : (n j : ℕ) → t .read ≡ Refused n j → answer (Rejected n j) j (t .words) ≡ laidOut bs
+  laid-refused n j e = by-reading (refused n j) (go (reading bs) (sym (read-field bs t h) ∙ e))
+    where
+      go : (r : Reading) → textRead r ≡ Refused n j → r ≡ refused n j
+      go (frames fs) q = absurd (let z : _≡_ {A = ℕ} 0 1 = cc in omega arith)
+      go (refused m k) q = (let a : m ≡ n = cc in let b : k ≡ j = cc in ap₂ refused a b)
+
+  module _ (n : ℕ) (e : t .read ≡ Frames n) where
+    w : Whole bs n
+    w = whole bs n (sym (read-field bs t h) ∙ e)
+
+    array : t .words ≡ wordArray n bs
+    array = words-are ∙ ap (λ (r : Reading). wordArray (linesRead r) bs) (w .is) ∙ ap (λ (k : ℕ). wordArray k bs) (w .count)
+
+    pub lines-fit : n ≤ length (t .words)
+    lines-fit = let a : length (t .words) ≡ 1024 = ap length array ∙ array-length n bs (w .fits) in let b = w .fits in omega arith
+
+    taken : take n (t .words) ≡ wordsOf n bs
+    taken = ap (take n) array ∙ array-take n bs
+
+    pub lines-count : length (take n (t .words)) ≡ n
+    lines-count = ap length taken ∙ words-length n bs
+
+    pub lines-some : 0 < length (take n (t .words))
+    lines-some = let a = lines-count in let b = w .some in omega arith
+
+    pub lines-few : length (take n (t .words)) ≤ 1024
+    lines-few = let a = lines-count in let b = w .fits in omega arith
+
+    frames-are : framesOf (take n (t .words)) ≡ textFrames bs
+    unfolding textFrames
+    frames-are = ap framesOf (taken ∙ ap (λ (k : ℕ). wordsOf k bs) (sym (w .count) ∙ length-frames bs))
+
+    pub laid-whole : (v : Verdict) → v ≡ layoutOf (framesOf (take n (t .words))) → answer v n (t .words) ≡ laidOut bs
+    laid-whole v q =
+        ap (λ (x : Verdict). answer x n (t .words)) (q ∙ ap layoutOf frames-are)
+        ∙ ap (λ (k : ℕ). answer (layoutOf (textFrames bs)) k (t .words)) (sym (w .count))
+        ∙ by-reading (frames (textFrames bs)) (w .is)
+
+pub ruleset laid-laws = (laid-refused, laid-whole)
+
+pub verdict-is : (bs : List ℕ) (l : LaidOut) → l ≡ laidOut bs → l .verdict ≡ layoutVerdict bs
+unfolding laidOut
+verdict-is bs l e = ap (λ (x : LaidOut). x .verdict) e
