@@ -2,3 +2,4 @@ pub mod Places
 pub mod Types
 pub mod Effects
 pub mod Kinds
+pub mod Verdicts

@@ -56,11 +56,11 @@ module _ (fs : List Frame) (a : Found) (ha : a ≡ found (headerFault fs)) where
 pub ruleset layout-laws = (laid-4, laid-5, laid-6, laid-7, laid-right)
 
 -- ---- a text that reads as frames has these
-record Whole (bs : List ℕ) (n : ℕ) : Type 0 where
-  is : reading bs ≡ frames (textFrames bs)
-  count : length (textFrames bs) ≡ n
-  fits : n ≤ 1024
-  some : 0 < n
+pub record Whole (bs : List ℕ) (n : ℕ) : Type 0 where
+  pub is : reading bs ≡ frames (textFrames bs)
+  pub count : length (textFrames bs) ≡ n
+  pub fits : n ≤ 1024
+  pub some : 0 < n
 
 frames-of : {bs : List ℕ} {r : Reading} (fs : List Frame) → Reads bs r → r ≡ frames fs → (fs ≡ textFrames bs) × (length bs ≤ 17408)
 frames-of fs Reads.empty q = absurd (let z : _≡_ {A = ℕ} 0 1 = cc in omega arith)
@@ -68,7 +68,7 @@ frames-of fs (Reads.over l) q = absurd (let z : _≡_ {A = ℕ} 0 1 = cc in omeg
 frames-of fs (Reads.wrong k l w m) q = absurd (let z : _≡_ {A = ℕ} 0 1 = cc in omega arith)
 frames-of fs (Reads.whole k l w) q = (cc, l)
 
-whole : (bs : List ℕ) (n : ℕ) → textRead (reading bs) ≡ Frames n → Whole bs n
+pub whole : (bs : List ℕ) (n : ℕ) → textRead (reading bs) ≡ Frames n → Whole bs n
 whole bs n e = go (reading bs) refl (reads bs) e
   where
     go : (r : Reading) → reading bs ≡ r → Reads bs r → textRead r ≡ Frames n → Whole bs n
@@ -131,7 +131,7 @@ module _ (bs : List ℕ) (t : TextWords) (h : t ≡ textWords bs) where
     pub lines-few : length (take n (t .words)) ≤ 1024
     lines-few = let a = lines-count in let b = w .fits in omega arith
 
-    frames-are : framesOf (take n (t .words)) ≡ textFrames bs
+    pub frames-are : framesOf (take n (t .words)) ≡ textFrames bs
     unfolding textFrames
     frames-are = ap framesOf (taken ∙ ap (λ (k : ℕ). wordsOf k bs) (sym (w .count) ∙ length-frames bs))
 

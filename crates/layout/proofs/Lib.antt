@@ -16,3 +16,5 @@ pub mod Deep
 pub mod Overs
 pub mod Tallies
 pub mod Answers
+pub mod Scopes
+pub mod Accepted

@@ -174,7 +174,7 @@ pub ruleset content-laws = (content-past, content-cell, content-number, content-
 abbrev tally : ℕ → ℕ → List ℕ → Tally
 tally n m ts = record { cells = n; modules = m; types = ts }
 
-count-cells : (gs : List Frame) → countOf isShared gs ≡ length (cellsOf gs)
+pub count-cells : (gs : List Frame) → countOf isShared gs ≡ length (cellsOf gs)
 unfolding countOf sharedOf if_then_else_
 count-cells [] = refl
 count-cells (f ∷ gs) = go (f .kind) (f .s) (f .a) (f .b) (f .c) (count-cells gs)
@@ -329,10 +329,10 @@ no-cell f h = go (f .kind) (f .s) (f .a) (f .b) (f .c) h
     go (Expression k) s a b c h = refl
     go Unknown s a b c h = refl
 
-counted-one : (test : Kind → Bool) (gs : List Frame) (f : Frame) → test (f .kind) ≡ true → countOf test (gs ++ (f ∷ [])) ≡ countOf test gs + 1
+pub counted-one : (test : Kind → Bool) (gs : List Frame) (f : Frame) → test (f .kind) ≡ true → countOf test (gs ++ (f ∷ [])) ≡ countOf test gs + 1
 counted-one test gs f h = count-more test gs f ∙ ap (λ (n : ℕ). countOf test gs + n) (if-yes 1 0 h)
 
-counted-none : (test : Kind → Bool) (gs : List Frame) (f : Frame) → test (f .kind) ≡ false → countOf test (gs ++ (f ∷ [])) ≡ countOf test gs
+pub counted-none : (test : Kind → Bool) (gs : List Frame) (f : Frame) → test (f .kind) ≡ false → countOf test (gs ++ (f ∷ [])) ≡ countOf test gs
 counted-none test gs f h = let a : countOf test gs + 0 ≡ countOf test gs = omega arith in count-more test gs f ∙ ap (λ (n : ℕ). countOf test gs + n) (if-no 1 0 h) ∙ a
 
 tally-same : {n n' m m' : ℕ} {ts ts' : List ℕ} → n ≡ n' → m ≡ m' → ts ≡ ts' → tally n m ts ≡ tally n' m' ts'
@@ -391,7 +391,7 @@ word-room b a h = go (ltb a 0x1000) refl
     go false e = absurd (let l : 0x1000 ≤ a = ltb-false a 0x1000 e in let z = depth-3 a (omega arith) (omega arith) l in let d = word-depth b a h in omega arith)
 
 -- a frame without fault 5 is right in its kind and in each field
-fine-parts : (fs : List Frame) (i : ℕ) (f : Frame) → frameFine fs i f ≡ true → (kindFine fs i (f .kind) ≡ true) × (fieldFine fs i f (uses (f .kind) .s) (f .s) ≡ true) × (fieldFine fs i f (uses (f .kind) .a) (f .a) ≡ true)
+pub fine-parts : (fs : List Frame) (i : ℕ) (f : Frame) → frameFine fs i f ≡ true → (kindFine fs i (f .kind) ≡ true) × (fieldFine fs i f (uses (f .kind) .s) (f .s) ≡ true) × (fieldFine fs i f (uses (f .kind) .a) (f .a) ≡ true)
 unfolding frameFine
 fine-parts fs i f h =
     let c = and-true _ _ h in

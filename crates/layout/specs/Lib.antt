@@ -5,3 +5,4 @@ pub mod Faults
 pub mod Scans
 pub mod Passes
 pub mod LaidOut
+pub mod Scope

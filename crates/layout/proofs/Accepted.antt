@@ -1,0 +1,60 @@
+-- What a caller of `lay_out` knows where it answers `Accepted`. Assumes nothing.
+use mathlib.Core.Path.{_≡_, refl, sym, ap, _∙_}
+use mathlib.Core.List.{List}
+use Prim.Native.Nat.{ℕ, _≤_, _<_}
+use native.Mathlib.Omega.{arith}
+use lib.ListN.{length, take}
+use Rattle.language.specs.declared.frame.Frame.{Frame}
+use Rattle.language.specs.declared.verdict.Verdict.the-variants.{Accepted}
+use Rattle.text.specs.Frames.{framesOf, textFrames}
+use Rattle.text.specs.Reading.{Reading, frames, refused, reading, textRead, linesRead, textWords}
+use Rattle.text.specs.declared.reading.TextRead.the-variants.{Frames}
+use Rattle.text.proofs.ReadLaws.{read-field}
+use Rattle.layout.specs.declared.LaidOut.{LaidOut}
+use Rattle.layout.specs.Faults.{NoFault}
+use Rattle.layout.specs.Scans.{layoutOf}
+use Rattle.layout.specs.LaidOut.{layoutRead, layoutVerdict, laidOut}
+use Rattle.layout.proofs.Answers.{Whole, whole, frames-are, verdict-is}
+use Rattle.layout.proofs.Scopes.{accepted-no-fault, no-fault-accepted}
+
+-- the text passes 1 to 7: its frames are those of the lines kept, at most 1,024, and have no fault
+pub record Right (bs : List ℕ) (l : LaidOut) : Type 0 where
+  pub reads : reading bs ≡ frames (textFrames bs)
+  pub lines : framesOf (take (l .count) (l .words)) ≡ textFrames bs
+  pub count : length (textFrames bs) ≡ l .count
+  pub some : 0 < l .count
+  pub few : l .count ≤ 1024
+  pub no-fault : NoFault (textFrames bs)
+
+laid-reads : (bs : List ℕ) → layoutVerdict bs ≡ Accepted → Whole bs (linesRead (reading bs))
+unfolding layoutVerdict
+laid-reads bs e = go (reading bs) refl e
+  where
+    go : (r : Reading) → reading bs ≡ r → layoutRead r ≡ Accepted → Whole bs (linesRead (reading bs))
+    go (refused n j) q h = absurd (let z : _≡_ {A = ℕ} 0 1 = cc in omega arith)
+    go (frames fs) q h = whole bs (linesRead (reading bs)) (ap textRead q ∙ ap (λ (r : Reading). Frames (linesRead r)) (sym q))
+
+laid-accepts : (bs : List ℕ) (n : ℕ) → Whole bs n → layoutVerdict bs ≡ Accepted → layoutOf (textFrames bs) ≡ Accepted
+unfolding layoutVerdict
+laid-accepts bs n w e = ap layoutRead (sym (w .is)) ∙ e
+
+pub laid-right : (bs : List ℕ) (l : LaidOut) → l ≡ laidOut bs → l .verdict ≡ Accepted → Right bs l
+unfolding laidOut
+laid-right bs l e v =
+    let a : layoutVerdict bs ≡ Accepted = sym (verdict-is bs l e) ∙ v in
+    let w = laid-reads bs a in
+    let c : l .count ≡ linesRead (reading bs) = ap (λ (x : LaidOut). x .count) e in
+    let r : textWords bs .read ≡ Frames (linesRead (reading bs)) = read-field bs (textWords bs) refl ∙ ap textRead (w .is) ∙ ap Frames (w .count) in
+    record {
+      reads = w .is;
+      lines = ap (λ (x : LaidOut). framesOf (take (x .count) (x .words))) e ∙ frames-are bs (textWords bs) refl (linesRead (reading bs)) r;
+      count = w .count ∙ sym c;
+      some = (let s = w .some in omega arith);
+      few = (let f = w .fits in omega arith);
+      no-fault = accepted-no-fault (textFrames bs) (let s = w .some in let d = w .count in omega arith) (laid-accepts bs (linesRead (reading bs)) w a);
+    }
+
+-- and where the frames have no fault, it answers so
+pub right-laid : (bs : List ℕ) → reading bs ≡ frames (textFrames bs) → 0 < length (textFrames bs) → NoFault (textFrames bs) → layoutVerdict bs ≡ Accepted
+unfolding layoutVerdict
+right-laid bs e l h = ap layoutRead e ∙ no-fault-accepted (textFrames bs) l h

@@ -1,0 +1,194 @@
+-- What a file without fault has: depths of at most 24, room for its variables, children of their class, few modules and shared cells, `main` last. Assumes nothing.
+use mathlib.Core.Path.{_≡_, refl, sym, ap, _∙_}
+use mathlib.Core.Bool.{Bool, true, false, true≢false}
+use mathlib.Core.List.{List, [], _∷_, _++_}
+use Prim.Native.Nat.{ℕ, zero, suc, _+_, _-_, _≤_, _<_}
+use native.Mathlib.Omega.{arith}
+use lib.Dec.{ltb}
+use lib.ListN.{length, take, length-map}
+use lib.Seq.{take-suc, take-length}
+use borrow.Author.Tests.{ltb-true, ltb-false, eqb-true}
+use Rattle.basics.specs.If.{if_then_else_}
+use Rattle.basics.specs.Members.{In}
+use Rattle.basics.proofs.Ifs.{and-true}
+use Rattle.language.specs.Kinds.{classOf, uses, Child, childIn, children}
+use Rattle.language.specs.declared.kind.StatementKind.the-variants.{Let}
+use Rattle.language.specs.declared.kind.Kind.{Kind}
+use Rattle.language.specs.declared.kind.Kind.the-variants.{Header, Shared, Module, Statement, Expression, Unknown}
+use Rattle.language.specs.declared.frame.Frame.{Frame}
+use Rattle.language.specs.declared.verdict.Verdict.{Verdict}
+use Rattle.language.specs.declared.verdict.Verdict.the-variants.{Accepted, Rejected}
+use Rattle.program.specs.Trees.{noFrame, frameAt}
+use Rattle.program.specs.Ordered.{Ordered}
+use Rattle.program.specs.Programs.{sharedOf, modulesFrom, programOf, typeOfShared}
+use Rattle.layout.specs.Fields.{isShared, isModule, countOf, kindFine, frameFine}
+use Rattle.layout.specs.Order.{Tree, Row, isMain}
+use Rattle.layout.specs.Depths.{Depth}
+use Rattle.layout.specs.Faults.{Fault, NoFault, LayoutSays}
+use Rattle.layout.specs.Scans.{layoutOf}
+use Rattle.layout.specs.Scope.{Room}
+use Rattle.layout.proofs.Trees.{is-module, HasTree, tree-in, childrenAs}
+use Rattle.layout.proofs.Order.{all-trees, is-ordered}
+use Rattle.layout.proofs.Layouts.{layout-says, layout-one}
+use Rattle.layout.proofs.Deep.{in-body}
+use Rattle.layout.proofs.Tallies.{count-cells, counted-one, counted-none, fine-parts}
+
+-- ---- the verdict and the faults
+pub accepted-no-fault : (fs : List Frame) → 0 < length fs → layoutOf fs ≡ Accepted → NoFault fs
+accepted-no-fault fs l e = says (layout-says fs l)
+  where
+    says : LayoutSays fs (layoutOf fs) → NoFault fs
+    says h = rw e at h
+
+pub no-fault-accepted : (fs : List Frame) → 0 < length fs → NoFault fs → layoutOf fs ≡ Accepted
+no-fault-accepted fs l h = layout-one fs (layoutOf fs) Accepted (layout-says fs l) h
+
+-- ---- depths and scopes
+in-left : {c : Child} {xs : List Child} (ys : List Child) → In c xs → In c (xs ++ ys)
+in-left ys In.first = In.first
+in-left ys (In.later m) = In.later (in-left ys m)
+
+in-right : {c : Child} (xs ys : List Child) → In c ys → In c (xs ++ ys)
+in-right [] ys m = m
+in-right (x ∷ xs) ys m = In.later (in-right xs ys m)
+
+-- the children that the fields of a frame of a known kind name
+module _ (f : Frame) (k : Kind) (e : f .kind ≡ k) where
+  as-kind : children f ≡ childrenAs k f
+  unfolding children
+  as-kind = ap (λ (m : Kind). childrenAs m f) e
+
+  in-children : {c : Child} → In c (childrenAs k f) → In c (children f)
+  in-children m = rw as-kind m
+
+  pub in-a : {c : Child} → In c (childIn (uses k .a) (f .a)) → In c (children f)
+  in-a m = in-children (in-left (childIn (uses k .c) (f .c)) (in-left (childIn (uses k .b) (f .b)) m))
+
+  pub in-b : {c : Child} → In c (childIn (uses k .b) (f .b)) → In c (children f)
+  in-b m = in-children (in-left (childIn (uses k .c) (f .c)) (in-right (childIn (uses k .a) (f .a)) (childIn (uses k .b) (f .b)) m))
+
+  pub in-c : {c : Child} → In c (childIn (uses k .c) (f .c)) → In c (children f)
+  in-c m = in-children (in-right (childIn (uses k .a) (f .a) ++ childIn (uses k .b) (f .b)) (childIn (uses k .c) (f .c)) m)
+
+module _ {fs : List Frame} where
+  -- a module's body has room for its parameters
+  pub room-body : (i n : ℕ) → i < length fs → frameAt fs i .kind ≡ Module → n ≤ 2 → Room fs (frameAt fs i .a) n
+  room-body i n l e m = record { depth = 1; stands = Depth.body l e; enough = m }
+
+  -- a child has the room of its parent
+  pub room-child : {i n : ℕ} {c : Child} → Room fs i n → In c (children (frameAt fs i)) → Room fs (c .at) n
+  room-child r m = record { depth = suc (r .depth); stands = Depth.child (r .stands) m; enough = (let l = r .enough in omega arith) }
+
+  -- and the body of a let has room for its variable too
+  pub room-let : {i n : ℕ} → Room fs i n → frameAt fs i .kind ≡ Statement Let → Room fs (frameAt fs i .b) (suc n)
+  room-let {i} {n} r e = record { depth = suc (r .depth); stands = Depth.child (r .stands) (in-b (frameAt fs i) (Statement Let) e In.first); enough = (let l = r .enough in omega arith) }
+
+count-modules : (fs tail : List Frame) (i : ℕ) → countOf isModule tail ≡ length (modulesFrom fs i tail)
+unfolding countOf modulesFrom if_then_else_
+count-modules fs [] i = refl
+count-modules fs (f ∷ tail) i = go (f .kind) (f .s) (f .a) (f .b) (f .c) (count-modules fs tail (suc i))
+  where
+    go : (k : Kind) (s a b c : ℕ) → countOf isModule tail ≡ length (modulesFrom fs (suc i) tail) → countOf isModule (record { kind = k; s = s; a = a; b = b; c = c } ∷ tail) ≡ length (modulesFrom fs i (record { kind = k; s = s; a = a; b = b; c = c } ∷ tail))
+    go Shared s a b c h = omega arith
+    go Header s a b c h = omega arith
+    go Module s a b c h = omega arith
+    go (Statement k) s a b c h = omega arith
+    go (Expression k) s a b c h = omega arith
+    go Unknown s a b c h = omega arith
+
+-- ---- a file without fault
+module _ (fs : List Frame) (fine : NoFault fs) where
+  pub no-fault-ordered : Ordered fs
+  no-fault-ordered = is-ordered fs (λ k f. fine 6 k f)
+
+  pub depth-most : {j d : ℕ} → Depth fs j d → d ≤ 24
+  depth-most {j} {d} h = go (ltb 24 d) refl
+    where
+      go : (b : Bool) → ltb 24 d ≡ b → d ≤ 24
+      go true e = absurd (fine 7 j (Fault.depth h (ltb-true 24 d e)))
+      go false e = ltb-false 24 d e
+
+  pub room-most : {i n : ℕ} → Room fs i n → n ≤ 25
+  room-most r = let d = depth-most (r .stands) in let l = r .enough in omega arith
+
+  -- so a let has room for one more
+  pub room-let-most : {i n : ℕ} → Room fs i n → frameAt fs i .kind ≡ Statement Let → n ≤ 24
+  room-let-most r e = let l = room-most (room-let r e) in omega arith
+
+  trees : (j : ℕ) → j < length fs → HasTree fs j
+  trees = all-trees fs (λ k f. fine 6 k f)
+
+  row-class : {lo stop : ℕ} {cs : List Child} {c : Child} → Row fs lo stop cs → In c cs → classOf (frameAt fs (c .at) .kind) ≡ c .class
+  row-class (Row.more t e r) In.first = e
+  row-class (Row.more t e r) (In.later m) = row-class r m
+
+  tree-class : {lo i : ℕ} {c : Child} → Tree fs lo i → In c (children (frameAt fs i)) → classOf (frameAt fs (c .at) .kind) ≡ c .class
+  tree-class (Tree.root r) m = row-class r m
+
+  -- each child stands before its parent and is of its class
+  pub child-below : {i : ℕ} {c : Child} → i < length fs → In c (children (frameAt fs i)) → c .at < i
+  child-below {i} l m = tree-in (trees i l .tree) m
+
+  pub child-class : {i : ℕ} {c : Child} → i < length fs → In c (children (frameAt fs i)) → classOf (frameAt fs (c .at) .kind) ≡ c .class
+  child-class {i} l m = tree-class (trees i l .tree) m
+
+  -- a frame with room stands in the file
+  depth-inside : {j d : ℕ} → Depth fs j d → j < length fs
+  depth-inside (Depth.body {i = i} l k) = let a = child-below l (in-body (frameAt fs i) k) in omega arith
+  depth-inside (Depth.child {i = i} h m) = let a = depth-inside h in let b = child-below a m in omega arith
+
+  pub room-inside : {i n : ℕ} → Room fs i n → i < length fs
+  room-inside r = depth-inside (r .stands)
+
+  -- 'The last frame is main, a module with S 0.'
+  pub main-last : 0 < length fs → (frameAt fs (length fs - 1) .kind ≡ Module) × (frameAt fs (length fs - 1) .s ≡ 0)
+  main-last l = go (isMain (frameAt fs (length fs - 1))) refl
+    where
+      go : (b : Bool) → isMain (frameAt fs (length fs - 1)) ≡ b → (frameAt fs (length fs - 1) .kind ≡ Module) × (frameAt fs (length fs - 1) .s ≡ 0)
+      go true e = (let p = and-true _ _ e in (is-module _ (p .0), eqb-true _ 0 (p .1)))
+      go false e = absurd (fine 6 (length fs - 1) (Fault.main (omega arith) e))
+
+  -- ---- at most 16 of a kind that is counted
+  frame-right : (i : ℕ) → i < length fs → frameFine fs i (frameAt fs i) ≡ true
+  frame-right i l = go (frameFine fs i (frameAt fs i)) refl
+    where
+      go : (b : Bool) → frameFine fs i (frameAt fs i) ≡ b → frameFine fs i (frameAt fs i) ≡ true
+      go true e = e
+      go false e = absurd (fine 5 i (Fault.field l e))
+
+  counts : (test : Kind → Bool) → ((i : ℕ) → i < length fs → test (frameAt fs i .kind) ≡ true → countOf test (take i fs) < 16) → (n : ℕ) → n ≤ length fs → countOf test (take n fs) ≤ 16
+  counts test h zero l = unfold countOf in omega arith
+  counts test h (suc n) l = go (test (frameAt fs n .kind)) refl (counts test h n (omega arith))
+    where
+      more : take (suc n) fs ≡ take n fs ++ (frameAt fs n ∷ [])
+      more = take-suc fs n noFrame l
+
+      go : (b : Bool) → test (frameAt fs n .kind) ≡ b → countOf test (take n fs) ≤ 16 → countOf test (take (suc n) fs) ≤ 16
+      go true e m = (let a = ap (countOf test) more ∙ counted-one test (take n fs) (frameAt fs n) e in let b = h n l e in omega arith)
+      go false e m = (let a = ap (countOf test) more ∙ counted-none test (take n fs) (frameAt fs n) e in omega arith)
+
+  counts-all : (test : Kind → Bool) → ((i : ℕ) → i < length fs → test (frameAt fs i .kind) ≡ true → countOf test (take i fs) < 16) → countOf test fs ≤ 16
+  counts-all test h = let a = counts test h (length fs) (omega arith) in let e = ap (countOf test) (take-length fs) in omega arith
+
+  module-few : (i : ℕ) → i < length fs → isModule (frameAt fs i .kind) ≡ true → countOf isModule (take i fs) < 16
+  module-few i l e = let k : frameAt fs i .kind ≡ Module = is-module _ e in ltb-true _ 16 (ap (kindFine fs i) (sym k) ∙ fine-parts fs i (frameAt fs i) (frame-right i l) .0)
+
+  is-shared : (k : Kind) → isShared k ≡ true → k ≡ Shared
+  is-shared Shared h = refl
+  is-shared Header h = absurd (true≢false (sym h))
+  is-shared Module h = absurd (true≢false (sym h))
+  is-shared (Statement k) h = absurd (true≢false (sym h))
+  is-shared (Expression k) h = absurd (true≢false (sym h))
+  is-shared Unknown h = absurd (true≢false (sym h))
+
+  shared-few : (i : ℕ) → i < length fs → isShared (frameAt fs i .kind) ≡ true → countOf isShared (take i fs) < 16
+  shared-few i l e = let k : frameAt fs i .kind ≡ Shared = is-shared _ e in ltb-true _ 16 (ap (kindFine fs i) (sym k) ∙ fine-parts fs i (frameAt fs i) (frame-right i l) .0)
+
+  -- 'shared cells (at most 16)', 'Modules (at most 16)'
+  pub cells-most : length (programOf fs .shared) ≤ 16
+  unfolding programOf
+  cells-most = let a = counts-all isShared shared-few in let b = count-cells fs in let c = length-map (sharedOf fs) typeOfShared in omega arith
+
+  pub modules-most : length (programOf fs .modules) ≤ 16
+  unfolding programOf
+  modules-most = let a = counts-all isModule module-few in let b = count-modules fs fs 0 in omega arith
