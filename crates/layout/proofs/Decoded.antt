@@ -187,3 +187,7 @@ placed-s (suc n) fs i lo l t = s-kind fs (λ j. statementTo n fs j) (root-s n fs
 pub placed-stmt : (fs : List Frame) (i lo : ℕ) → Tree fs lo i → PlacedS lo (statementAt fs i)
 unfolding statementAt
 placed-stmt fs i lo t = placed-s (suc i) fs i lo (omega arith) t
+
+pub root-stmt : (fs : List Frame) (i : ℕ) → rootS (statementAt fs i) ≡ i
+unfolding statementAt
+root-stmt fs i = root-s (suc i) fs i
