@@ -2,10 +2,9 @@
 use mathlib.Core.Path.{_≡_, refl, sym, ap, subst, _∙_}
 use mathlib.Core.Bool.{true}
 use mathlib.Core.List.{List, [], _∷_, _++_, map, append-assoc, append-nil}
-use Prim.Native.Nat.{ℕ, suc, _+_, _≤_, _<_}
+use Prim.Native.Nat.{ℕ, _+_, _≤_, _<_}
 use native.Mathlib.Omega.{arith}
 use borrow.Author.Tests.{ltb-true}
-use lib.Dec.{ltb}
 use lib.ListN.{length, take, length-append}
 use lib.Seq.{take-at, getD-append-seam}
 use Rattle.basics.specs.If.{if_then_else_}
@@ -18,7 +17,7 @@ use Rattle.program.specs.Trees.{frameAt, noFrame}
 use Rattle.program.specs.Programs.{SharedCell, typeOfShared, sharedOf}
 use Rattle.layout.specs.Fields.{isShared, schedulersOf, firstContentFine, countOf}
 use Rattle.layout.specs.Faults.{NoFault}
-use Rattle.reach.proofs.Passed.{FieldsFine, fields}
+use Rattle.reach.proofs.Passed.{fields}
 
 -- x is as refusal 5 wants it behind the cells `before`, in a file of n schedulers, and its first content has Q
 pub record CellFine (Q : ℕ → Type 0) (n : ℕ) (before : List SharedCell) (x : SharedCell) : Type 0 where

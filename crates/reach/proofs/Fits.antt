@@ -1,16 +1,14 @@
 -- A file that passes refusals 1 to 7, accepted or not, fits the state's spaces; so a state reached from its fresh one is never 14, and its calls are its steps. Assumes nothing.
 use mathlib.Core.Path.{_≡_, refl, sym, ap, subst, _∙_}
 use mathlib.Core.Bool.{true, _&&_, true≢false}
-use mathlib.Core.List.{List, [], _∷_, _++_, map}
-use Prim.Native.Nat.{ℕ, zero, suc, _^_, _≤_, _<_}
+use mathlib.Core.List.{List, map}
+use Prim.Native.Nat.{ℕ, _^_, _≤_, _<_}
 use native.Mathlib.Omega.{arith}
 use lib.Dec.{ltb, eqb}
 use borrow.Author.Tests.{ltb-true}
 use lib.ListN.{length, getD, length-map}
-use Rattle.basics.specs.If.{if_then_else_}
 use Rattle.basics.specs.Members.{In, All}
 use Rattle.basics.proofs.Ifs.{if-all, if-yes, and-true}
-use Rattle.language.specs.Places.{hasScheduler}
 use Rattle.language.specs.Types.{numberType, isCell}
 use Rattle.language.specs.Kinds.{classOf, Child}
 use Rattle.language.specs.declared.kind.Class.{Class}
@@ -18,13 +16,13 @@ use Rattle.language.specs.declared.kind.StatementKind.the-variants.{Nothing, Th
 use Rattle.language.specs.declared.kind.Kind.{Kind}
 use Rattle.language.specs.declared.kind.Kind.the-variants.{Header, Shared, Module, Statement, Expression, Unknown}
 use Rattle.language.specs.declared.frame.Frame.{Frame}
-use Rattle.program.specs.Trees.{Expr, Stmt, frameAt, expressionAt, arguments, statementOf, statementAt, rootS}
-use Rattle.program.specs.Programs.{Part, Program, SharedCell, typeOfShared, noModule, moduleAt, modulesFrom, programOf}
+use Rattle.program.specs.Trees.{Expr, frameAt, expressionAt, arguments, statementOf, statementAt}
+use Rattle.program.specs.Programs.{Part, SharedCell, typeOfShared, noModule, modulesFrom, programOf}
 use Rattle.program.proofs.Decoding.{statement-at}
 use Rattle.layout.specs.Fields.{schedulersOf, firstContentFine}
 use Rattle.layout.specs.Order.{Row, hasClass}
 use Rattle.layout.specs.Faults.{NoFault}
-use Rattle.layout.proofs.Trees.{row-le, row-of}
+use Rattle.layout.proofs.Trees.{row-le}
 use Rattle.layout.proofs.Decoded.{root-stmt}
 use Rattle.machine.specs.State.{run}
 use Rattle.machine.specs.Fresh.{firstCell}
@@ -35,7 +33,7 @@ use Rattle.machine.proofs.KeptCells.{ExprFits, a-number, a-truth, a-variable, a
 use Rattle.machine.proofs.KeptShape.{Parts, of-nothing, of-cooperate, of-seq, of-do, of-start, of-wait, of-let, of-store, of-if, of-while, FileFits, reached-in-range}
 use Rattle.machine.proofs.CallRuns.{calls-are}
 use Rattle.reach.specs.Reached.{Passes, ReachedInRange, CallsAreSteps}
-use Rattle.reach.proofs.Passed.{schedulers-range, fields, trees, order, inside}
+use Rattle.reach.proofs.Passed.{schedulers-range, fields, row-at, order, inside}
 use Rattle.reach.proofs.Laid.{LaidE, laid-expr, laid-arguments}
 use Rattle.reach.proofs.Cells.{CellFine, CellsFine, cells-few, shared-fine}
 use Rattle.reach.proofs.Modules.{IsPart, parts, some-module, part-types}
@@ -118,14 +116,14 @@ module _ {fs : List Frame} (size : Sized fs) (fine : NoFault fs) where
     of-kind Unknown s q = absurd (true≢false (sym s))
     of-kind (Statement Nothing) s q = of-nothing
     of-kind (Statement Cooperate) s q = of-cooperate
-    of-kind (Statement Then) s q = let r = row-of _ j _ q (trees fine j l .tree) in of-seq (child-fits r In.first refl) (child-fits r (In.later In.first) refl)
-    of-kind (Statement DoAt) s q = of-do (fields fine j l _ q .s) (child-fits (row-of _ j _ q (trees fine j l .tree)) In.first refl)
+    of-kind (Statement Then) s q = let r = row-at fine j l _ q in of-seq (child-fits r In.first refl) (child-fits r (In.later In.first) refl)
+    of-kind (Statement DoAt) s q = of-do (fields fine j l _ q .s) (child-fits (row-at fine j l _ q) In.first refl)
     of-kind (Statement Start) s q = of-start (es-fit (frameAt fs j .a) (frameAt fs j .b))
     of-kind (Statement StartWait) s q = of-wait (es-fit (frameAt fs j .a) (frameAt fs j .b))
-    of-kind (Statement Let) s q = of-let (e-fits _) (child-fits (row-of _ j _ q (trees fine j l .tree)) (In.later In.first) refl)
+    of-kind (Statement Let) s q = of-let (e-fits _) (child-fits (row-at fine j l _ q) (In.later In.first) refl)
     of-kind (Statement Store) s q = of-store (e-fits _) (e-fits _)
-    of-kind (Statement If) s q = let r = row-of _ j _ q (trees fine j l .tree) in of-if (e-fits _) (child-fits r (In.later In.first) refl) (child-fits r (In.later (In.later In.first)) refl)
-    of-kind (Statement While) s q = of-while (e-fits _) (child-fits (row-of _ j _ q (trees fine j l .tree)) (In.later In.first) refl)
+    of-kind (Statement If) s q = let r = row-at fine j l _ q in of-if (e-fits _) (child-fits r (In.later In.first) refl) (child-fits r (In.later (In.later In.first)) refl)
+    of-kind (Statement While) s q = of-while (e-fits _) (child-fits (row-at fine j l _ q) (In.later In.first) refl)
 
   has-class : (k : Kind) → isStatement k ≡ true → hasClass (classOf k) ≡ true
   has-class (Statement k) s = refl
@@ -145,7 +143,7 @@ module _ {fs : List Frame} (size : Sized fs) (fine : NoFault fs) where
   body-fits m h =
       let t = part-types fine m h in (
         subst (λ (p : Part). ItemFits fs n (run (p .body))) (sym (h .same))
-            (child-fits (h .at) (h .inside) (row-of _ (h .at) _ (h .kind) (trees fine (h .at) (h .inside) .tree)) In.first refl),
+            (child-fits (h .at) (h .inside) (row-at fine (h .at) (h .inside) _ (h .kind)) In.first refl),
         omega arith,
       )
 
@@ -166,7 +164,7 @@ module _ {fs : List Frame} (size : Sized fs) (fine : NoFault fs) where
       }
 
 -- ---- of every text
-fits : {bs : List ℕ} {fs : List Frame} → Passes bs fs → FileFits fs (programOf fs) (programOf fs .schedulers)
+pub fits : {bs : List ℕ} {fs : List Frame} → Passes bs fs → FileFits fs (programOf fs) (programOf fs .schedulers)
 fits p = file-fits (sized (p .text)) (p .layout)
 
 pub reached-never-14 : ReachedInRange

@@ -1,13 +1,11 @@
 -- The trees of a file that passes refusals 4 to 7: their owners and places are the file's, and they are at most 24 deep. Assumes nothing.
 use mathlib.Core.Path.{_≡_, refl, sym, subst}
 use mathlib.Core.Bool.{true}
-use mathlib.Core.List.{List, [], _∷_}
+use mathlib.Core.List.{List}
 use Prim.Native.Nat.{ℕ, zero, suc, _+_, _≤_, _<_}
 use native.Mathlib.Omega.{arith}
-use lib.ListN.{length}
 use Rattle.basics.specs.Members.{In, All}
 use Rattle.language.specs.Places.{hasPlace}
-use Rattle.language.specs.Kinds.{uses, Child}
 use Rattle.language.specs.declared.kind.StatementKind.the-variants.{Nothing, Then, DoAt, Start, StartWait, Cooperate, Let, Store, If, While}
 use Rattle.language.specs.declared.kind.ExpressionKind.the-variants.{Number, Truth, Variable, SharedCell, NewCell, Content, Sum, Less, Choose}
 use Rattle.language.specs.declared.kind.Kind.{Kind}
@@ -18,9 +16,9 @@ use Rattle.program.proofs.Decoding.{expression-at, statement-at}
 use Rattle.layout.specs.Fields.{schedulersOf}
 use Rattle.layout.specs.Depths.{Depth}
 use Rattle.layout.specs.Faults.{NoFault}
-use Rattle.layout.proofs.Trees.{tree-le, One, Two, Three, one-of, two-of, three-of, childrenAs, row-of}
+use Rattle.layout.proofs.Trees.{tree-le, One, Two, Three, one-of, two-of, three-of}
 use Rattle.machine.proofs.Depth.{deep}
-use Rattle.reach.proofs.Passed.{child-depth, fields, trees, order, inside, not-deeper}
+use Rattle.reach.proofs.Passed.{child-depth, fields, row-at, order, inside, not-deeper}
 
 -- an expression whose owners are places of a file of n schedulers, and whose numbers have Q
 pub data LaidE (Q : ℕ → Type 0) (n : ℕ) : Expr → Type 0 where
@@ -92,13 +90,11 @@ module _ (Q : ℕ → Type 0) {fs : List Frame} (fine : NoFault fs) (none : Q 0)
     e-kind (Expression Truth) e = LaidE.truth
     e-kind (Expression Variable) e = LaidE.variable
     e-kind (Expression SharedCell) e = LaidE.shared
-    e-kind (Expression NewCell) e =
-        let l = inside fine j _ e refl in
-        from-one (LaidE.new (fields fine j l _ e .s)) (one-of (row-of _ j _ e (trees fine j l .tree)))
-    e-kind (Expression Content) e = from-one LaidE.content (one-of (row-of _ j _ e (trees fine j (inside fine j _ e refl) .tree)))
-    e-kind (Expression Sum) e = from-two LaidE.sum (two-of (row-of _ j _ e (trees fine j (inside fine j _ e refl) .tree)))
-    e-kind (Expression Less) e = from-two LaidE.less (two-of (row-of _ j _ e (trees fine j (inside fine j _ e refl) .tree)))
-    e-kind (Expression Choose) e = from-three LaidE.choose (three-of (row-of _ j _ e (trees fine j (inside fine j _ e refl) .tree)))
+    e-kind (Expression NewCell) e = let l = inside fine j _ e refl in from-one (LaidE.new (fields fine j l _ e .s)) (one-of (row-at fine j l _ e))
+    e-kind (Expression Content) e = from-one LaidE.content (one-of (row-at fine j (inside fine j _ e refl) _ e))
+    e-kind (Expression Sum) e = from-two LaidE.sum (two-of (row-at fine j (inside fine j _ e refl) _ e))
+    e-kind (Expression Less) e = from-two LaidE.less (two-of (row-at fine j (inside fine j _ e refl) _ e))
+    e-kind (Expression Choose) e = from-three LaidE.choose (three-of (row-at fine j (inside fine j _ e refl) _ e))
 
   laid-to : (m j : ℕ) → j < m → Fine (At j)
   laid-to zero j l = absurd (omega arith)

@@ -1,7 +1,7 @@
 -- What refusals 4 to 7 leave of each frame. Assumes nothing.
 use mathlib.Core.Path.{_≡_, refl, sym, ap, subst, _∙_}
 use mathlib.Core.Bool.{Bool, true, false, _&&_, true≢false}
-use mathlib.Core.List.{List, [], _∷_}
+use mathlib.Core.List.{List}
 use Prim.Native.Nat.{ℕ, suc, _-_, _≤_, _<_}
 use native.Mathlib.Omega.{arith}
 use native.Mathlib.Decide.{decLt}
@@ -17,10 +17,10 @@ use Rattle.language.specs.declared.frame.Frame.{Frame}
 use Rattle.program.specs.Trees.{frameAt, noFrame}
 use Rattle.program.specs.Ordered.{Ordered}
 use Rattle.layout.specs.Fields.{isHeader, headerFine, schedulersOf, fieldFine, kindFine, frameFine}
-use Rattle.layout.specs.Order.{hasClass, isMain}
+use Rattle.layout.specs.Order.{Row, hasClass, isMain}
 use Rattle.layout.specs.Depths.{Depth}
 use Rattle.layout.specs.Faults.{Fault, NoFault}
-use Rattle.layout.proofs.Trees.{HasTree, childrenAs, is-module}
+use Rattle.layout.proofs.Trees.{HasTree, childrenAs, row-of, is-module}
 use Rattle.layout.proofs.Order.{all-trees, is-ordered}
 
 pub not-wrong : (b : Bool) → (b ≡ false → ⊥) → b ≡ true
@@ -76,6 +76,10 @@ module _ {fs : List Frame} (fine : NoFault fs) where
 
   pub trees : (j : ℕ) → j < length fs → HasTree fs j
   trees = all-trees fs (fine 6)
+
+  -- the row of its children, where it is of the kind k
+  pub row-at : (j : ℕ) (l : j < length fs) (k : Kind) → frameAt fs j .kind ≡ k → Row fs (trees j l .from) j (childrenAs k (frameAt fs j))
+  row-at j l k e = row-of k j _ e (trees j l .tree)
 
   pub order : Ordered fs
   order = is-ordered fs (fine 6)

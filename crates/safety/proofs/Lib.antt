@@ -1,7 +1,10 @@
 pub mod Typing
 pub mod Heap
-pub mod Effects
 pub mod Evaluates
 pub mod Goods
 pub mod Accesses
 pub mod Demand3
+pub mod TypeWords
+pub mod Places
+pub mod SharedCells
+pub mod Accepted

@@ -1,1 +1,2 @@
 pub mod Safety
+pub mod Accepted

@@ -1,0 +1,144 @@
+-- Demand 3: the rules give what its proof needs, so every accepted text is safe, as a list of steps and as a list of calls. Assumes nothing.
+use mathlib.Core.Path.{_≡_, refl, sym, ap, ap₂, subst, _∙_}
+use mathlib.Core.Bool.{Bool, true, false}
+use mathlib.Core.List.{List, [], _∷_, _++_, map}
+use Prim.Native.Nat.{ℕ}
+use native.Mathlib.Omega.{arith}
+use lib.ListN.{length, length-map}
+use Rattle.basics.specs.Members.{All}
+use Rattle.language.specs.declared.frame.Frame.{Frame}
+use Rattle.text.specs.Reading.{Reads}
+use Rattle.program.specs.Programs.{Part, Program, noModule, typeOfShared, modulesFrom, sharedOf, programOf}
+use Rattle.layout.specs.Fields.{schedulersOf}
+use Rattle.layout.specs.Faults.{NoFault}
+use Rattle.rules.specs.Rules.{Keeps}
+use Rattle.rules.specs.Verdict.{HasVerdict}
+use Rattle.machine.specs.Accesses.{Access, Own}
+use Rattle.machine.specs.State.{State}
+use Rattle.machine.specs.Fresh.{fresh}
+use Rattle.machine.specs.Turns.{Stepped}
+use Rattle.machine.specs.Steps.{step}
+use Rattle.machine.specs.Runs.{stepsFrom, stateFrom, stateAfter, steps, allAccesses}
+use Rattle.machine.specs.Words.{pack, unpack}
+use Rattle.machine.specs.Calls.{Called, freshCall}
+use Rattle.machine.proofs.Depth.{low-enough}
+use Rattle.machine.proofs.Shapes.{Shaped}
+use Rattle.machine.proofs.InShape.{shaped-in-range}
+use Rattle.machine.proofs.Round.{unpack-pack}
+use Rattle.machine.proofs.KeptCells.{all-getD}
+use Rattle.machine.proofs.KeptShape.{FileFits, keeps-step, fresh-shaped, reached-shaped}
+use Rattle.machine.proofs.CallRuns.{asCalled, fresh-called, call-is, calls-are}
+use Rattle.reach.proofs.Passed.{schedulers-range}
+use Rattle.reach.proofs.Laid.{LaidS, laid-deep}
+use Rattle.reach.proofs.Cells.{CellsFine, shared-fine}
+use Rattle.reach.proofs.Modules.{IsPart, parts, main-plain, some-module, part-types, part-laid}
+use Rattle.reach.proofs.Sizes.{sized}
+use Rattle.reach.proofs.Fits.{file-fits}
+use Rattle.safety.specs.Safety.{Sound, Safe, Safety, NoPrivateInPublic, Apart}
+use Rattle.safety.specs.Accepted.{AcceptedSafe, stateOf, accessesUnder, accessesFrom, wordsFrom, SafeCalls, AcceptedCallsSafe}
+use Rattle.safety.proofs.Goods.{Low}
+use Rattle.safety.proofs.Demand3.{Typed, demand-3}
+use Rattle.safety.proofs.Places.{main-typed}
+use Rattle.safety.proofs.SharedCells.{keptOf, all-well, shared-is, shared-owners, first-good}
+
+-- ---- the rules give types
+
+-- numbers may be of any size here
+abbrev Any : ℕ → Type 0
+Any v = Unit {0}
+
+module _ {fs : List Frame} (fine : NoFault fs) where
+  laid : (m : Part) → IsPart fs m → LaidS Any (schedulersOf fs) 24 (m .body)
+  laid = part-laid fine Any tt (λ j. tt)
+
+  bodies : (ms : List Part) → All (IsPart fs) ms → All (λ (m : Part). LaidS Any (schedulersOf fs) 24 (m .body)) ms
+  bodies [] All.none = All.none
+  bodies (m ∷ ms) (All.more h hs) = All.more (laid m h) (bodies ms hs)
+
+  low : Low (programOf fs)
+  unfolding programOf
+  low m l =
+      let h = all-getD (IsPart fs) (modulesFrom fs 0 fs) noModule m (parts fs) l in
+      low-enough _ _ (laid-deep (laid _ h)) (part-types fine _ h)
+
+  cells : CellsFine Any (schedulersOf fs) [] (sharedOf fs)
+  cells = shared-fine Any fine (λ j. tt)
+
+  -- every file that passes refusals 4 to 7 and keeps the rules is typed
+  pub typed : Keeps (programOf fs) → Typed (programOf fs)
+  unfolding programOf fresh
+  typed rules =
+      let few = schedulers-range fine .1 in
+      let wells = all-well few cells in
+      let xs = sharedOf fs in
+      record {
+        sh = map keptOf xs;
+        count = length-map xs keptOf;
+        owners = shared-owners xs wells;
+        first = first-good few xs cells;
+        some = some-module fine;
+        main = main-typed (programOf fs) (map keptOf xs) (map typeOfShared xs) Any (schedulersOf fs) few (shared-is xs wells) [] (modulesFrom fs 0 fs) refl refl
+            (λ s l. absurd (omega arith)) (bodies _ (parts fs)) (main-plain fine) rules;
+        low = low;
+      }
+
+-- ---- demand 3 of the steps
+
+-- the frames of an accepted text pass refusals 4 to 7 and keep the rules
+abbrev AcceptedFrames : List Frame → Type 0
+AcceptedFrames fs = NoFault fs × Keeps (programOf fs)
+
+accepted-frames-safe : Safety AcceptedFrames
+accepted-frames-safe = demand-3 AcceptedFrames (λ fs h. typed (h .0) (h .1))
+
+pub accepted-safe : AcceptedSafe
+accepted-safe bs (HasVerdict.accepted (Reads.whole a b c) h k) cs = accepted-frames-safe _ (h, k) cs
+
+-- ---- demand 3 of the calls
+module _ (fs : List Frame) (F : FileFits fs (programOf fs) (programOf fs .schedulers)) where
+  abbrev P : Program
+  P = programOf fs
+
+  abbrev n : ℕ
+  n = programOf fs .schedulers
+
+  under-is : (s : State) (c : ℕ) → Shaped fs n s → accessesUnder fs (pack s) c ≡ step P s c .accesses
+  unfolding accessesUnder
+  under-is s c z =
+      ap (λ (b : Bool). elim b [ true ↦ step P (unpack fs n (pack s)) c .accesses | false ↦ [] ]) (shaped-in-range fs n s z)
+      ∙ ap (λ (x : State). step P x c .accesses) (unpack-pack fs n s z)
+
+  accesses-are : (s : State) (cs : List ℕ) → Shaped fs n s → accessesFrom fs (pack s) cs ≡ allAccesses (stepsFrom P s cs)
+  unfolding accessesFrom stepsFrom allAccesses
+  accesses-are s [] z = refl
+  accesses-are s (c ∷ cs) z =
+      ap₂ (λ (x : List Access) (y : List Access). x ++ y) (under-is s c z)
+      (ap (λ (x : Called). accessesFrom fs (x .words) cs) (call-is fs F s c z) ∙ accesses-are (step P s c .state) cs (keeps-step fs P n F s c z))
+
+  words-are : (s : State) (cs : List ℕ) → Shaped fs n s → wordsFrom fs (pack s) cs ≡ pack (stateFrom P s cs)
+  unfolding wordsFrom stateFrom
+  words-are s [] z = refl
+  words-are s (c ∷ cs) z = ap (λ (x : Called). wordsFrom fs (x .words) cs) (call-is fs F s c z) ∙ words-are (step P s c .state) cs (keeps-step fs P n F s c z)
+
+  sound-calls : (rs : List Stepped) → All Sound (map (λ (r : Stepped). r .answer) rs) → All (λ (r : Called). Sound (r .answer)) (map asCalled rs)
+  sound-calls [] All.none = All.none
+  sound-calls (r ∷ rs) (All.more h hs) = All.more h (sound-calls rs hs)
+
+  calls-safe : (w cs : List ℕ) → length w ≡ 4818 → Safe P cs → SafeCalls fs w cs
+  calls-safe w cs e s =
+      let f = fresh-called fs w e in
+      let z = fresh-shaped fs P n F in
+      let q : wordsFrom fs (freshCall fs w .words) cs ≡ pack (stateAfter P cs) = ap (λ (x : Called). wordsFrom fs (x .words) cs) f ∙ words-are (fresh P) cs z in
+      let u : stateOf fs (wordsFrom fs (freshCall fs w .words) cs) ≡ stateAfter P cs = ap (stateOf fs) q ∙ unpack-pack fs n (stateAfter P cs) (reached-shaped fs P n F cs) in
+      record {
+        fresh = ap (λ (x : Called). x .answer) f;
+        accessed = subst (All Own) (sym (ap (λ (x : Called). accessesFrom fs (x .words) cs) f ∙ accesses-are (fresh P) cs z)) (s .accessed);
+        answered = subst (All (λ (r : Called). Sound (r .answer))) (sym (calls-are fs F w cs e)) (sound-calls (steps P cs) (s .answered));
+        words = q ∙ ap pack (sym u);
+        public = subst NoPrivateInPublic (sym u) (s .public);
+        apart = subst Apart (sym u) (s .apart);
+      }
+
+pub accepted-calls-safe : AcceptedCallsSafe
+accepted-calls-safe bs (HasVerdict.accepted (Reads.whole a b c) h k) w cs e =
+    calls-safe _ (file-fits (sized (Reads.whole a b c)) h) w cs e (accepted-frames-safe _ (h, k) cs)

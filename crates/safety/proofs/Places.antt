@@ -1,0 +1,237 @@
+-- From the rules to typing at a place: a statement whose effect is within q runs on q. Assumes nothing.
+use mathlib.Core.Path.{_≡_, refl, sym, ap, subst, _∙_}
+use mathlib.Core.Logic.{inl, inr}
+use mathlib.Core.Bool.{Bool, true, _||_, _&&_}
+use mathlib.Core.List.{List, [], _∷_, _++_, map, append-assoc}
+use Prim.Native.Nat.{ℕ, zero, suc, _+_, _-_, _≤_, _<_}
+use native.Mathlib.Omega.{arith}
+use native.Mathlib.Decide.{decLt, ℕ-discrete}
+use lib.Dec.{leb, eqb}
+use borrow.Author.Tests.{leb-true, le-leb, eq-eqb, ltb-true}
+use lib.ListN.{length, getD, length-append, length-map, List·getD-append}
+use lib.Seq.{getD-at}
+use Rattle.basics.specs.Members.{All}
+use Rattle.basics.proofs.Ifs.{and-true, or-on}
+use Rattle.language.specs.Places.{hasPlace, isScheduler, Standing, linked, unlinked}
+use Rattle.language.specs.Types.{numberType, truthType, cellType, ownerOf}
+use Rattle.language.specs.Effects.{_∪_, withOwner, member}
+use Rattle.language.specs.declared.effect.Effect.{Effect}
+use Rattle.language.proofs.Members.{member-join, member-owner, Within, within-members}
+use Rattle.program.specs.Trees.{Expr, Stmt}
+use Rattle.program.specs.Programs.{Part, Program, noModule, moduleAt, mainOf}
+use Rattle.rules.specs.Rules.{Signature, noSignature, signatureAt, signature, HasType, HaveTypes, AllPublic, Runs, Modules}
+use Rattle.machine.proofs.KeptCells.{all-getD}
+use Rattle.machine.proofs.Tests.{all-append}
+use Rattle.reach.proofs.Laid.{LaidE, LaidS}
+use Rattle.reach.proofs.Modules.{LastPlain}
+use Rattle.safety.proofs.Typing.{Ty, num, tru, cell, Pub, Kept, At, here, there, Reach, Ex, t-number, t-truth, t-variable, t-shared, t-new, t-content, t-sum, t-less, t-choose, Args, St, s-nothing, s-seq, s-do, s-start, s-start-wait, s-cooperate, s-let, s-store, s-if, s-while}
+use Rattle.safety.proofs.TypeWords.{tyOf, ty-number, ty-truth, ty-cell, Formed, formed-cell, formed-public}
+
+-- ---- effects within a place
+module _ (p : ℕ) (e f : Effect) (h : Within p (e ∪ f)) where
+  in-left : Within p e
+  in-left q m = h q (member-join q e f ∙ ap (λ (b : Bool). b || member q f) m)
+
+  in-right : Within p f
+  in-right q m = h q (member-join q e f ∙ ap (λ (b : Bool). member q e || b) m ∙ or-on (member q e))
+
+module _ (p o : ℕ) (e : Effect) (h : Within p (withOwner o e)) where
+  in-owned : Within p e
+  in-owned q m = h q (member-owner q o e ∙ ap (λ (b : Bool). b || isScheduler o && eqb q o) m)
+
+  -- an owner added is the place, where it is a scheduler
+  reached : 1 ≤ o → o ≤ 9 → Reach p o
+  reached l k = go (ℕ-discrete o 1)
+    where
+      go : Dec (o ≡ 1) → Reach p o
+      go (yes q) = inl q
+      go (no n) =
+          let a : (isScheduler o && eqb o o) ≡ true = rw (le-leb 2 o (omega (arith, n)), le-leb o 9 k, eq-eqb o o refl) in
+          let r = h o (member-owner o o e ∙ ap (λ (b : Bool). member o e || b) a ∙ or-on (member o e)) in
+          inr (leb-true 2 p (and-true (leb 2 p) (leb p 9) (r .1) .0), r .0)
+
+-- p is a place at which a thread stands so
+data Stands : Standing → ℕ → Type 0 where
+  on : {p : ℕ} → 2 ≤ p → p ≤ 9 → Stands linked p
+  off : Stands unlinked 1
+
+most : {at : Standing} {p : ℕ} → Stands at p → p ≤ 9
+most (on a b) = b
+most off = omega arith
+
+-- ---- lists of types
+map-snoc : (Γ : List ℕ) (t : ℕ) → map tyOf (Γ ++ (t ∷ [])) ≡ map tyOf Γ ++ (tyOf t ∷ [])
+map-snoc [] t = refl
+map-snoc (x ∷ Γ) t = ap (λ (l : List Ty). tyOf x ∷ l) (map-snoc Γ t)
+
+at-map : (Γ : List ℕ) (s : ℕ) → s < length Γ → At (map tyOf Γ) s (tyOf (getD Γ s 0))
+at-map [] s h = absurd (omega arith)
+at-map (x ∷ Γ) zero h = here
+at-map (x ∷ Γ) (suc s) h = there (at-map Γ s (omega arith))
+
+-- the type of the shared cell s
+pub record SharedIs (sh : List Kept) (cells : List ℕ) (s : ℕ) : Type 0 where
+  pub kept : Kept
+  pub at : At sh s kept
+  pub same : tyOf (getD cells s 0) ≡ cell (kept .own) (kept .ty)
+  pub formed : Formed (getD cells s 0)
+
+module _ (P : Program) (sh : List Kept) (cells : List ℕ) (Q : ℕ → Type 0) (n : ℕ) (few : n ≤ 8) (shared : (s : ℕ) → s < length cells → SharedIs sh cells s) where
+  place-range : (o : ℕ) → hasPlace n o ≡ true → (1 ≤ o) × (o ≤ 9)
+  place-range o h =
+      let q = and-true (leb 1 o) (leb o (1 + n)) h in
+      let m = leb-true o (1 + n) (q .1) in
+      (leb-true 1 o (q .0), omega arith)
+
+  -- ---- expressions
+  record HasEx (Γ : List ℕ) (p : ℕ) (x : Expr) (t : ℕ) : Type 0 where
+    typed : Ex sh (map tyOf Γ) p x (tyOf t)
+    formed : Formed t
+
+  a-number : {Γ : List ℕ} {p : ℕ} {x : Expr} → HasEx Γ p x numberType → Ex sh (map tyOf Γ) p x num
+  a-number h = rw ty-number at (h .typed)
+
+  a-truth : {Γ : List ℕ} {p : ℕ} {x : Expr} → HasEx Γ p x truthType → Ex sh (map tyOf Γ) p x tru
+  a-truth h = rw ty-truth at (h .typed)
+
+  has-number : {Γ : List ℕ} {p : ℕ} {x : Expr} → Ex sh (map tyOf Γ) p x num → HasEx Γ p x numberType
+  has-number h = record { typed = rw ty-number h; formed = Formed.number }
+
+  has-truth : {Γ : List ℕ} {p : ℕ} {x : Expr} → Ex sh (map tyOf Γ) p x tru → HasEx Γ p x truthType
+  has-truth h = record { typed = rw ty-truth h; formed = Formed.truth }
+
+  has-new : {Γ : List ℕ} {p i o t : ℕ} {x : Expr} → p ≤ 9 → hasPlace n o ≡ true → t < 0x1000 → Reach p o → (2 ≤ o → Pub (tyOf t)) → HasEx Γ p x t → HasEx Γ p (Expr.new i o x) (cellType o t)
+  has-new {o = o} {t = t} l h r k q x =
+      let b = place-range o h in
+      record { typed = rw (ty-cell o t (b .0) (b .1) r) (t-new k l q (x .typed)); formed = Formed.around-of (b .0) (b .1) r q (x .formed) }
+
+  ex-typed : {Γ : List ℕ} {x : Expr} {t : ℕ} {e : Effect} (p : ℕ) → p ≤ 9 → All Formed Γ → LaidE Q n x → Within p e → HasType cells Γ x t e → HasEx Γ p x t
+  ex-typed p l g a w HasType.number = has-number t-number
+  ex-typed p l g a w HasType.truth = has-truth t-truth
+  ex-typed {Γ} p l g a w (HasType.variable {s = s} h) = record { typed = t-variable (at-map Γ s h); formed = all-getD Formed Γ 0 s g h }
+  ex-typed p l g a w (HasType.shared {s = s} h) = let r = shared s h in record { typed = rw (r .same) (t-shared (r .at)); formed = r .formed }
+  ex-typed p l g (LaidE.new h a) w (HasType.new-private {t = t} d r) = has-new l h (ltb-true t 0x1000 r) (inl refl) (λ two. absurd (omega arith)) (ex-typed p l g a w d)
+  ex-typed p l g (LaidE.new {o = o} h a) w (HasType.new-public {t = t} {e = e} m d r k) =
+      let b = place-range o h in
+      let x = ex-typed p l g a (in-owned p o e w) d in
+      has-new l h (ltb-true t 0x1000 r) (reached p o e w (b .0) (b .1)) (λ _. formed-public (x .formed) k) x
+  ex-typed {Γ} p l g (LaidE.content a) w (HasType.content {t = t} {x = x} {e = e} d h) =
+      let r = ex-typed p l g a (in-owned p (ownerOf t) e w) d in
+      let c = formed-cell (r .formed) h in
+      record { typed = t-content (reached p (ownerOf t) e w (c .low) (c .high)) (subst (Ex sh (map tyOf Γ) p x) (c .same) (r .typed)); formed = c .inner }
+  ex-typed p l g (LaidE.sum a b) w (HasType.sum {e = e} {f = f} c d) =
+      has-number (t-sum (a-number (ex-typed p l g a (in-left p e f w) c)) (a-number (ex-typed p l g b (in-right p e f w) d)))
+  ex-typed p l g (LaidE.less a b) w (HasType.less {e = e} {f = f} c d) =
+      has-truth (t-less (a-number (ex-typed p l g a (in-left p e f w) c)) (a-number (ex-typed p l g b (in-right p e f w) d)))
+  ex-typed p l g (LaidE.choose a b c) w (HasType.choose {e = e} {f = f} {g = k} d u v) =
+      let m = in-left p (e ∪ f) k w in
+      has-number (t-choose (a-truth (ex-typed p l g a (in-left p e f m) d)) (a-number (ex-typed p l g b (in-right p e f m) u)) (a-number (ex-typed p l g c (in-right p (e ∪ f) k w) v)))
+
+  -- ---- arguments
+  record HasArgs (Γ : List ℕ) (p : ℕ) (xs : List Expr) (ts : List ℕ) : Type 0 where
+    typed : Args sh (map tyOf Γ) p xs (map tyOf ts)
+    formed : All Formed ts
+
+  args-typed : {Γ : List ℕ} {xs : List Expr} {ts : List ℕ} {e : Effect} (p : ℕ) → p ≤ 9 → All Formed Γ → All (LaidE Q n) xs → Within p e → AllPublic ts → HaveTypes cells Γ xs ts e → HasArgs Γ p xs ts
+  args-typed p l g a w k HaveTypes.none = record { typed = Args.none; formed = All.none }
+  args-typed p l g (All.more a rest) w (All.more k ks) (HaveTypes.more {e = e} {f = f} d ds) =
+      let x = ex-typed p l g a (in-left p e f w) d in
+      let r = args-typed p l g rest (in-right p e f w) ks ds in
+      record { typed = Args.more (x .typed) (formed-public (x .formed) k) (r .typed); formed = All.more (x .formed) (r .formed) }
+
+  -- ---- what is known of module s, whose signature is g: its body runs on each place that its effect is within, where its parameters are well formed
+  pub record Known (g : Signature) (s : ℕ) : Type 0 where
+    pub inside : s < length (P .modules)
+    pub types : length (g .types) ≡ length (moduleAt P s .types)
+    pub typed : All Formed (g .types) → (q : ℕ) → 2 ≤ q → q ≤ 9 → Within q (g .effect) → St P sh (map tyOf (g .types)) q (moduleAt P s .body)
+
+  abbrev pub KnownBelow : List Signature → Type 0
+  KnownBelow below = (s : ℕ) → s < length below → Known (signatureAt below s) s
+
+  -- module s may be started on p with the arguments xs
+  record Startable (Γ : List ℕ) (p s : ℕ) (xs : List Expr) : Type 0 where
+    types : List Ty
+    inside : s < length (P .modules)
+    arguments : Args sh (map tyOf Γ) p xs types
+    count : length types ≡ length (moduleAt P s .types)
+    body : St P sh types p (moduleAt P s .body)
+
+  started : {Γ : List ℕ} {xs : List Expr} (p s : ℕ) (e : Effect) (f : Signature) → Known f s → 2 ≤ p → p ≤ 9 → All Formed Γ → All (LaidE Q n) xs → Within p (e ∪ f .effect)
+      → HaveTypes cells Γ xs (f .types) e → AllPublic (f .types) → Startable Γ p s xs
+  started p s e f y l m g a w ds ps =
+      let r = args-typed p m g a (in-left p e (f .effect) w) ps ds in
+      record {
+        types = map tyOf (f .types);
+        inside = y .inside;
+        arguments = r .typed;
+        count = length-map (f .types) tyOf ∙ y .types;
+        body = y .typed (r .formed) p l m (in-right p e (f .effect) w);
+      }
+
+  -- ---- statements
+  st-typed : {below : List Signature} {Γ : List ℕ} {at : Standing} {x : Stmt} {e : Effect} {b : Bool} {d : ℕ} (p : ℕ)
+      → KnownBelow below → Stands at p → All Formed Γ → LaidS Q n d x → Within p e → Runs cells below Γ at x e b → St P sh (map tyOf Γ) p x
+  st-typed p k s g a w Runs.nothing = s-nothing
+  st-typed p k s g (LaidS.seq a b) w (Runs.seq {e = e} {f = f} c d) = s-seq (st-typed p k s g a (in-left p e f w) c) (st-typed p k s g b (in-right p e f w) d)
+  st-typed p k (on l m) g (LaidS.do-at h a) w (Runs.do-unlinked {e = e} r v) = s-do {p = p} {q = 1} (λ z _. omega (arith, l, z)) (st-typed 1 k off g a (within-members 1 e v) r)
+  st-typed p k s g (LaidS.do-at {q = q} h a) w (Runs.do-linked {e = e} z r v) =
+      let b = place-range q h in
+      s-do {p = p} {q = q} (λ _ y. z y) (st-typed q k (on (two q z (b .0)) (b .1)) g a (within-members q e v) r)
+    where
+      two : (q : ℕ) → (q ≡ 1 → ⊥) → 1 ≤ q → 2 ≤ q
+      two q z l = omega (arith, z)
+  st-typed {below} p k (on l m) g (LaidS.start a) w (Runs.start {s = s} {e = e} i ds ps) = let r = started p s e (signatureAt below s) (k s i) l m g a w ds ps in s-start l (r .inside) (r .arguments) (r .count) (r .body)
+  st-typed {below} p k (on l m) g (LaidS.start-wait a) w (Runs.start-wait {s = s} {e = e} i ds ps) = let r = started p s e (signatureAt below s) (k s i) l m g a w ds ps in s-start-wait l (r .inside) (r .arguments) (r .count) (r .body)
+  st-typed p k (on l m) g a w Runs.cooperate = s-cooperate l
+  st-typed {Γ = Γ} p k s g (LaidS.letIn {a = body} x a) w (Runs.letIn {t = t} {e = e} {f = f} d r) =
+      let v = ex-typed p (most s) g x (in-left p e f w) d in
+      s-let (v .typed) (subst (λ (Δ : List Ty). St P sh Δ p body) (map-snoc Γ t) (st-typed p k s (all-append g (All.more (v .formed) All.none)) a (in-right p e f w) r))
+  st-typed {Γ = Γ} p k s g (LaidS.store {x = x} a b) w (Runs.store {t = t} {e = e} {f = f} c h d) =
+      let v = in-owned p (ownerOf t) (e ∪ f) w in
+      let u = ex-typed p (most s) g a (in-left p e f v) c in
+      let q = formed-cell (u .formed) h in
+      s-store (reached p (ownerOf t) (e ∪ f) w (q .low) (q .high)) (subst (Ex sh (map tyOf Γ) p x) (q .same) (u .typed)) (ex-typed p (most s) g b (in-right p e f v) d .typed)
+  st-typed p k s g (LaidS.ifElse x a b) w (Runs.ifElse {e = e} {f = f} {g = h} c d r) =
+      let v = in-left p (e ∪ f) h w in
+      s-if (a-truth (ex-typed p (most s) g x (in-left p e f v) c)) (st-typed p k s g a (in-right p e f v) d) (st-typed p k s g b (in-right p (e ∪ f) h w) r)
+  st-typed p k s g (LaidS.while x a) w (Runs.while {e = e} {f = f} c d) =
+      s-while (a-truth (ex-typed p (most s) g x (in-left p e f w) c)) (st-typed p k s g a (in-right p e f w) d)
+
+  -- ---- modules: those below are typed first
+  known-snoc : (below : List Signature) (g : Signature) → KnownBelow below → Known g (length below) → KnownBelow (below ++ (g ∷ []))
+  known-snoc below g k y s h = go (decLt s (length below))
+    where
+      go : Dec (s < length below) → Known (signatureAt (below ++ (g ∷ [])) s) s
+      go (yes l) = subst (λ (x : Signature). Known x s) (sym (List·getD-append below (g ∷ []) noSignature s l)) (k s l)
+      go (no m) =
+          let a = length-append below (g ∷ []) in
+          let e : length below ≡ s = omega (arith, m) in
+          subst (λ (x : Signature). Known x s) (sym (getD-at below g [] noSignature s e)) (subst (Known g) e y)
+
+  module-here : (before : List Part) (m : Part) (ms : List Part) (s : ℕ) → P .modules ≡ before ++ (m ∷ ms) → length before ≡ s → (s < length (P .modules)) × (moduleAt P s ≡ m)
+  module-here before m ms s e l =
+      let a = ap length e in
+      let b = length-append before (m ∷ ms) in
+      (omega arith, ap (λ (ps : List Part). getD ps s noModule) e ∙ getD-at before m ms noModule s l)
+
+  known-module : {below : List Signature} {m : Part} {e : Effect} {b : Bool} (s : ℕ) → s < length (P .modules) → moduleAt P s ≡ m → KnownBelow below → LaidS Q n 24 (m .body)
+      → Runs cells below (m .types) linked (m .body) e b → Known (signature m e) s
+  known-module {m = m} s l q k a r = record {
+    inside = l;
+    types = ap (λ (x : Part). length (x .types)) (sym q);
+    typed = λ g p low high w. subst (λ (x : Part). St P sh (map tyOf (m .types)) p (x .body)) (sym q) (st-typed p k (on low high) g a w r);
+  }
+
+  -- `main`, the last, runs at home
+  pub main-typed : {below : List Signature} (before ms : List Part) → P .modules ≡ before ++ ms → length before ≡ length below → KnownBelow below → All (λ (m : Part). LaidS Q n 24 (m .body)) ms → LastPlain ms
+      → Modules cells below ms → St P sh [] 2 (mainOf P .body)
+  main-typed {below} before (m ∷ []) e l k (All.more a rest) (LastPlain.last t) (Modules.main {e = f} r w) =
+      let h = module-here before m [] (length (P .modules) - 1) e (let x = ap length e in let y = length-append before (m ∷ []) in omega arith) in
+      subst (λ (x : Part). St P sh [] 2 (x .body)) (sym (h .1))
+      (subst (λ (Γ : List ℕ). St P sh (map tyOf Γ) 2 (m .body)) t
+      (st-typed 2 k (on (omega arith) (omega arith)) (subst (All Formed) (sym t) All.none) a (within-members 2 f w) r))
+  main-typed {below} before (m ∷ n' ∷ ms) e l k (All.more a rest) (LastPlain.later p) (Modules.more {e = f} r rs) =
+      let h = module-here before m (n' ∷ ms) (length below) e l in
+      main-typed (before ++ (m ∷ [])) (n' ∷ ms) (e ∙ sym (append-assoc before (m ∷ []) (n' ∷ ms)))
+      (let x = length-append before (m ∷ []) in let y = length-append below (signature m f ∷ []) in omega arith)
+      (known-snoc below (signature m f) k (known-module (length below) (h .0) (h .1) k a r)) rest p rs

@@ -1,0 +1,59 @@
+-- Demand 3 of the check and the stepper: what holds of every text that the check accepts. Assumes nothing: definitions; the theorems are in proofs/Accepted.
+-- 'Accepted: the check refuses nothing.' Acceptance is by the rules, `HasVerdict`, which name no checker.
+use mathlib.Core.Path.{_≡_}
+use mathlib.Core.Bool.{true, false}
+use mathlib.Core.List.{List, [], _∷_, _++_}
+use Prim.Native.Nat.{ℕ}
+use lib.ListN.{length}
+use Rattle.basics.specs.Members.{All}
+use Rattle.language.specs.declared.frame.Frame.{Frame}
+use Rattle.language.specs.declared.verdict.Verdict.the-variants.{Accepted}
+use Rattle.text.specs.Frames.{textFrames}
+use Rattle.program.specs.Programs.{programOf}
+use Rattle.rules.specs.Verdict.{HasVerdict}
+use Rattle.machine.specs.Accesses.{Access, Own}
+use Rattle.machine.specs.State.{State}
+use Rattle.machine.specs.Steps.{step}
+use Rattle.machine.specs.Words.{pack, unpack}
+use Rattle.machine.specs.Ranges.{inRange}
+use Rattle.machine.specs.Calls.{Called, freshCall, stepCall, callsFrom}
+use Rattle.safety.specs.Safety.{NoPrivateInPublic, Apart, Sound, Safe}
+
+-- for every text that the check accepts, and every list of choices, of any length and content
+abbrev pub AcceptedSafe : Type 0
+AcceptedSafe = (bs : List ℕ) → HasVerdict bs Accepted → (cs : List ℕ) → Safe (programOf (textFrames bs)) cs
+
+-- ---- the same about the calls: 'States and answers are those that the calls give.'
+
+-- the state that words say
+abbrev pub stateOf : List Frame → List ℕ → State
+stateOf fs w = unpack fs (programOf fs .schedulers) w
+
+-- the accesses under a call on words w: 'those that the stepping rules make on the state it was given, those before a refusal too'; words out of range say no state
+unfoldable pub accessesUnder : List Frame → List ℕ → ℕ → List Access
+accessesUnder fs w c = elim (inRange fs (programOf fs .schedulers) w) [ true ↦ step (programOf fs) (stateOf fs w) c .accesses | false ↦ [] ]
+
+-- the accesses of one call after the other, each on the words that the one before left, and the words behind them
+unfoldable pub accessesFrom : List Frame → List ℕ → List ℕ → List Access
+accessesFrom fs w [] = []
+accessesFrom fs w (c ∷ cs) = accessesUnder fs w c ++ accessesFrom fs (stepCall fs w c .words) cs
+
+unfoldable pub wordsFrom : List Frame → List ℕ → List ℕ → List ℕ
+wordsFrom fs w [] = w
+wordsFrom fs w (c ∷ cs) = wordsFrom fs (stepCall fs w c .words) cs
+
+-- of a file, a lent buffer w and a list of choices: the fresh call writes the buffer, then each choice is a call
+pub record SafeCalls (fs : List Frame) (w cs : List ℕ) : Type 0 where
+  pub fresh : freshCall fs w .answer ≡ 0
+  -- every access under every call was to a cell of the acting thread or of the scheduler on which it stood
+  pub accessed : All Own (accessesFrom fs (freshCall fs w .words) cs)
+  -- no call was foreign or stuck
+  pub answered : All (λ (r : Called). Sound (r .answer)) (callsFrom fs (freshCall fs w .words) cs)
+  -- the words behind the list are those of a state, in which no scheduler's cell holds a thread's, and no thread's variables reach another thread's cell
+  pub words : wordsFrom fs (freshCall fs w .words) cs ≡ pack (stateOf fs (wordsFrom fs (freshCall fs w .words) cs))
+  pub public : NoPrivateInPublic (stateOf fs (wordsFrom fs (freshCall fs w .words) cs))
+  pub apart : Apart (stateOf fs (wordsFrom fs (freshCall fs w .words) cs))
+
+-- for every text that the check accepts, every lent buffer of the right length, and every list of choices
+abbrev pub AcceptedCallsSafe : Type 0
+AcceptedCallsSafe = (bs : List ℕ) → HasVerdict bs Accepted → (w cs : List ℕ) → length w ≡ 4818 → SafeCalls (textFrames bs) w cs
