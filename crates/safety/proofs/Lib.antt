@@ -8,3 +8,4 @@ pub mod TypeWords
 pub mod Places
 pub mod SharedCells
 pub mod Accepted
+pub mod Instances
