@@ -109,16 +109,13 @@ owner-digit b left o k h n =
     let q = and-true (leb 1 o) (leb o (1 + b)) (w .0) in
     let l = leb-true 1 o (q .0) in
     let m = leb-true o (1 + b) (q .1) in
-    record { low = l; high = omega arith; public = λ two. one (ℕ-discrete o 1) (w .1) two }
+    record { low = l; high = omega arith; public = λ two. one (ℕ-discrete o 1) l (w .1) two }
   where
-    one : Dec (o ≡ 1) → (not (eqb o private) || leb left private) ≡ true → 2 ≤ left → 2 ≤ o
-    one (no m) e two = let l = n in big m n
-      where
-        big : (o ≡ 1 → ⊥) → (o ≡ 0 → ⊥) → 2 ≤ o
-        big x y = omega (arith, x, y)
-    one (yes q) e two =
+    one : Dec (o ≡ 1) → 1 ≤ o → (not (eqb o private) || leb left private) ≡ true → 2 ≤ left → 2 ≤ o
+    one (no m) l e two = omega (arith, m)
+    one (yes q) l e two =
         let r : (not (eqb o private) || leb left private) ≡ leb left private = rw (eq-eqb o 1 q) in
-        let l = leb-true left 1 (sym r ∙ e) in
+        let k = leb-true left 1 (sym r ∙ e) in
         absurd (omega arith)
 
 -- '0 only fills on the left'
