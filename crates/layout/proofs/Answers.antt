@@ -1,8 +1,8 @@
 -- What the layout check answers on a text, from what its passes find. Assumes nothing.
 use mathlib.Core.Path.{_≡_, refl, sym, ap, ap₂, _∙_}
-use mathlib.Core.List.{List, [], _∷_}
+use mathlib.Core.List.{List}
 use mathlib.Core.Option.{none}
-use Prim.Native.Nat.{ℕ, zero, suc, _-_, _/_, _≤_, _<_}
+use Prim.Native.Nat.{ℕ, zero, suc, _-_, _≤_, _<_}
 use native.Mathlib.Omega.{arith}
 use lib.ListN.{length, take, drop, replicate}
 use lib.Seq.{take-at}
@@ -11,7 +11,6 @@ use Rattle.language.specs.declared.verdict.Verdict.{Verdict}
 use Rattle.language.specs.declared.verdict.Verdict.the-variants.{Accepted, Rejected}
 use Rattle.text.specs.Frames.{wordsOf, framesOf, textFrames}
 use Rattle.text.specs.Reading.{Reading, frames, refused, reading, Reads, textRead, linesRead, wordArray, textWords}
-use Rattle.text.specs.declared.reading.TextRead.{TextRead}
 use Rattle.text.specs.declared.reading.TextRead.the-variants.{Frames, Refused}
 use Rattle.text.specs.declared.reading.TextWords.{TextWords}
 use Rattle.text.proofs.Readings.{reads, some-frame}
@@ -23,7 +22,6 @@ use Rattle.layout.specs.Scans.{headerFault, fieldFault, orderFault, dept
 use Rattle.layout.specs.Passes.{found}
 use Rattle.layout.specs.LaidOut.{layoutRead, layoutVerdict, laidOut}
 use Rattle.layout.proofs.Rows.{nowhere-none, at-some}
-use Rattle.layout.proofs.FrameLaws.{frames-length}
 
 -- ---- 4 to 7
 pub found-none : (fs : List Frame) (x : Found) → x ≡ Nowhere → x ≡ found (orderFault fs) → orderFault fs ≡ none

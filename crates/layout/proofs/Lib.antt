@@ -18,3 +18,4 @@ pub mod Tallies
 pub mod Answers
 pub mod Scopes
 pub mod Accepted
+pub mod Users

@@ -2,17 +2,16 @@
 use mathlib.Core.Path.{_≡_, refl, sym, ap, ap₂, _∙_}
 use mathlib.Core.Bool.{Bool, true, false, not, _&&_, _||_}
 use mathlib.Core.List.{List, [], _∷_, _++_}
-use mathlib.Core.Option.{Option, none, some}
+use mathlib.Core.Option.{none, some}
 use Prim.Native.Nat.{ℕ, suc, _+_, _-_, _≤_, _<_}
 use native.Mathlib.Omega.{arith}
 use lib.Dec.{ltb, eqb}
-use borrow.Author.Tests.{lt-ltb, le-ltb, eq-eqb, ne-eqb, eqb-true, eqb-false, ltb-false, not-true, not-false}
+use borrow.Author.Tests.{lt-ltb, le-ltb, ne-eqb, eqb-true, eqb-false, ltb-false, not-true, not-false}
 use lib.ListN.{getD, length, set, take, drop, replicate, getD-replicate, length-replicate, length-set, drop-of-length-le}
 use lib.Seq.{getD-set-same, getD-set-other, drop-cons, take-suc}
 use Rattle.basics.specs.Searches.{any, lowest, earlier}
 use Rattle.basics.proofs.Ifs.{yes, no, if-all}
 use Rattle.language.specs.Kinds.{uses, classOf, Child, childIn, children}
-use Rattle.language.specs.declared.kind.Kind.{Kind}
 use Rattle.language.specs.declared.kind.Class.{Class}
 use Rattle.language.specs.declared.kind.Use.{Use}
 use Rattle.language.specs.declared.kind.Uses.{Uses}

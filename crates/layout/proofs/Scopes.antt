@@ -16,8 +16,7 @@ use Rattle.language.specs.declared.kind.StatementKind.the-variants.{Let}
 use Rattle.language.specs.declared.kind.Kind.{Kind}
 use Rattle.language.specs.declared.kind.Kind.the-variants.{Header, Shared, Module, Statement, Expression, Unknown}
 use Rattle.language.specs.declared.frame.Frame.{Frame}
-use Rattle.language.specs.declared.verdict.Verdict.{Verdict}
-use Rattle.language.specs.declared.verdict.Verdict.the-variants.{Accepted, Rejected}
+use Rattle.language.specs.declared.verdict.Verdict.the-variants.{Accepted}
 use Rattle.program.specs.Trees.{noFrame, frameAt}
 use Rattle.program.specs.Ordered.{Ordered}
 use Rattle.program.specs.Programs.{sharedOf, modulesFrom, programOf, typeOfShared}

@@ -11,7 +11,6 @@ use Rattle.basics.specs.Searches.{lowest}
 use Rattle.language.specs.declared.frame.Frame.{Frame}
 use Rattle.program.specs.Trees.{noFrame, frameAt}
 use Rattle.text.specs.Frames.{framesOf}
-use Rattle.layout.specs.declared.found.Found.{Found}
 use Rattle.layout.specs.declared.found.Found.the-variants.{At, Nowhere}
 use Rattle.layout.specs.Passes.{found}
 use Rattle.layout.proofs.FrameLaws.{frames-length}

@@ -1,9 +1,9 @@
 -- How the code tests the header, the kinds and the fields, with a running count of shared cells and modules. Assumes nothing.
 use mathlib.Core.Path.{_≡_, refl, sym, ap, ap₂, _∙_}
 use mathlib.Core.Bool.{Bool, true, false, not, _&&_, _||_, true≢false}
-use mathlib.Core.List.{List, [], _∷_, _++_, map, append-assoc, append-nil}
+use mathlib.Core.List.{List, [], _∷_, _++_, append-assoc, append-nil}
 use mathlib.Core.Option.{Option, none, some}
-use Prim.Native.Nat.{ℕ, zero, suc, _+_, _-_, _%_, _≤_, _<_}
+use Prim.Native.Nat.{ℕ, suc, _+_, _-_, _%_, _≤_, _<_}
 use native.Mathlib.Omega.{arith}
 use lib.Dec.{ltb, leb, eqb}
 use lib.ListN.{length, getD, take, set, replicate, length-append, length-take, length-replicate}
@@ -26,7 +26,7 @@ use Rattle.language.specs.declared.kind.Use.{Use}
 use Rattle.language.specs.declared.kind.Uses.{Uses}
 use Rattle.language.specs.declared.frame.Frame.{Frame}
 use Rattle.program.specs.Trees.{noFrame, frameAt}
-use Rattle.program.specs.Programs.{SharedCell, sharedOf, cellsOf, typeOfShared}
+use Rattle.program.specs.Programs.{sharedOf, cellsOf}
 use Rattle.text.specs.Frames.{framesOf}
 use Rattle.layout.specs.declared.found.Found.{Found}
 use Rattle.layout.specs.declared.found.Found.the-variants.{At, Nowhere}

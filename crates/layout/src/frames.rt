@@ -5,7 +5,6 @@ use language::kind::Kind;
 use language::kind::Use;
 use text::line::frame_of_word;
 ghost use mathlib.Core.Path.{_≡_};
-ghost use mathlib.Core.Bool.{not, _||_};
 ghost use Prim.Native.Nat.{_<_};
 ghost use lib.ListN.{length};
 ghost use Rattle.language.specs.Kinds.{childIn};
