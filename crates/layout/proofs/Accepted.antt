@@ -1,18 +1,21 @@
--- What a caller of `lay_out` knows where it answers `Accepted`. Assumes nothing.
+-- What the answer of `lay_out` means: by the rules, and where it is `Accepted`. Assumes nothing.
 use mathlib.Core.Path.{_≡_, refl, sym, ap, _∙_}
 use mathlib.Core.List.{List}
 use Prim.Native.Nat.{ℕ, _≤_, _<_}
 use native.Mathlib.Omega.{arith}
 use lib.ListN.{length, take}
+use Rattle.language.specs.declared.verdict.Verdict.{Verdict}
 use Rattle.language.specs.declared.verdict.Verdict.the-variants.{Accepted}
 use Rattle.text.specs.Frames.{framesOf, textFrames}
-use Rattle.text.specs.Reading.{Reading, frames, refused, reading, textRead, linesRead, textWords}
+use Rattle.text.specs.Reading.{Reading, frames, refused, reading, Reads, textRead, linesRead, textWords}
 use Rattle.text.specs.declared.reading.TextRead.the-variants.{Frames}
+use Rattle.text.proofs.Readings.{reads, reads-one, some-frame}
 use Rattle.text.proofs.ReadLaws.{read-field}
 use Rattle.layout.specs.declared.LaidOut.{LaidOut}
 use Rattle.layout.specs.Faults.{NoFault}
 use Rattle.layout.specs.Scans.{layoutOf}
-use Rattle.layout.specs.LaidOut.{layoutRead, layoutVerdict, laidOut}
+use Rattle.layout.specs.LaidOut.{HasLayout, layoutRead, layoutVerdict, laidOut}
+use Rattle.layout.proofs.Layouts.{layout-says, layout-one}
 use Rattle.layout.proofs.Answers.{Whole, whole, frames-are, verdict-is}
 use Rattle.layout.proofs.Scopes.{accepted-no-fault, no-fault-accepted}
 
@@ -57,3 +60,17 @@ laid-right bs l e v =
 pub right-laid : (bs : List ℕ) → reading bs ≡ frames (textFrames bs) → 0 < length (textFrames bs) → NoFault (textFrames bs) → layoutVerdict bs ≡ Accepted
 unfolding layoutVerdict
 right-laid bs e l h = ap layoutRead e ∙ no-fault-accepted (textFrames bs) l h
+
+-- ---- the verdict is the one that the rules allow
+pub has-layout : (bs : List ℕ) → HasLayout bs (layoutVerdict bs)
+unfolding layoutVerdict
+has-layout bs = go (reading bs) (reads bs)
+  where
+    go : (r : Reading) → Reads bs r → HasLayout bs (layoutRead r)
+    go (refused n j) h = HasLayout.text h
+    go (frames fs) h = HasLayout.layout h (layout-says fs (some-frame h refl))
+
+pub layout-only : {bs : List ℕ} {v : Verdict} → HasLayout bs v → v ≡ layoutVerdict bs
+unfolding layoutVerdict
+layout-only {bs} (HasLayout.text h) = ap layoutRead (reads-one h (reads bs))
+layout-only {bs} {v} (HasLayout.layout {fs = fs} h s) = layout-one fs v (layoutOf fs) s (layout-says fs (some-frame h refl)) ∙ ap layoutRead (reads-one h (reads bs))

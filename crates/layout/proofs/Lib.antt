@@ -11,10 +11,13 @@ pub mod FrameLaws
 pub mod Seeking
 pub mod Rows
 pub mod Marks
+pub mod Orders
 pub mod Raises
 pub mod Deep
 pub mod Overs
+pub mod FieldLaws
 pub mod Tallies
+pub mod FramePass
 pub mod Answers
 pub mod Scopes
 pub mod Accepted

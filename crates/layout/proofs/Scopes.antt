@@ -1,6 +1,6 @@
 -- What a file without fault has: depths of at most 24, room for its variables, children of their class, few modules and shared cells, `main` last. Assumes nothing.
 use mathlib.Core.Path.{_≡_, refl, sym, ap, _∙_}
-use mathlib.Core.Bool.{Bool, true, false, true≢false}
+use mathlib.Core.Bool.{Bool, true, false}
 use mathlib.Core.List.{List, [], _∷_, _++_}
 use Prim.Native.Nat.{ℕ, zero, suc, _+_, _-_, _≤_, _<_}
 use native.Mathlib.Omega.{arith}
@@ -30,7 +30,8 @@ use Rattle.layout.proofs.Trees.{is-module, HasTree, tree-in, childrenAs
 use Rattle.layout.proofs.Order.{all-trees, is-ordered}
 use Rattle.layout.proofs.Layouts.{layout-says, layout-one}
 use Rattle.layout.proofs.Deep.{in-body}
-use Rattle.layout.proofs.Tallies.{count-cells, counted-one, counted-none, fine-parts}
+use Rattle.layout.proofs.Tallies.{is-shared, count-cells, counted-one, counted-none}
+use Rattle.layout.proofs.FramePass.{fine-parts}
 
 -- ---- the verdict and the faults
 pub accepted-no-fault : (fs : List Frame) → 0 < length fs → layoutOf fs ≡ Accepted → NoFault fs
@@ -171,14 +172,6 @@ module _ (fs : List Frame) (fine : NoFault fs) where
 
   module-few : (i : ℕ) → i < length fs → isModule (frameAt fs i .kind) ≡ true → countOf isModule (take i fs) < 16
   module-few i l e = let k : frameAt fs i .kind ≡ Module = is-module _ e in ltb-true _ 16 (ap (kindFine fs i) (sym k) ∙ fine-parts fs i (frameAt fs i) (frame-right i l) .0)
-
-  is-shared : (k : Kind) → isShared k ≡ true → k ≡ Shared
-  is-shared Shared h = refl
-  is-shared Header h = absurd (true≢false (sym h))
-  is-shared Module h = absurd (true≢false (sym h))
-  is-shared (Statement k) h = absurd (true≢false (sym h))
-  is-shared (Expression k) h = absurd (true≢false (sym h))
-  is-shared Unknown h = absurd (true≢false (sym h))
 
   shared-few : (i : ℕ) → i < length fs → isShared (frameAt fs i .kind) ≡ true → countOf isShared (take i fs) < 16
   shared-few i l e = let k : frameAt fs i .kind ≡ Shared = is-shared _ e in ltb-true _ 16 (ap (kindFine fs i) (sym k) ∙ fine-parts fs i (frameAt fs i) (frame-right i l) .0)

@@ -1,11 +1,20 @@
 -- Refusals 1 to 7 on a text. Assumes nothing: definitions.
 use mathlib.Core.List.{List}
 use Prim.Native.Nat.{ℕ}
+use Rattle.language.specs.declared.frame.Frame.{Frame}
 use Rattle.language.specs.declared.verdict.Verdict.{Verdict}
 use Rattle.language.specs.declared.verdict.Verdict.the-variants.{Rejected}
-use Rattle.text.specs.Reading.{Reading, frames, refused, reading, linesRead, textWords}
+use Rattle.text.specs.Reading.{Reading, frames, refused, reading, Reads, linesRead, textWords}
 use Rattle.layout.specs.declared.LaidOut.{LaidOut}
+use Rattle.layout.specs.Faults.{LayoutSays}
 use Rattle.layout.specs.Scans.{layoutOf}
+
+-- `HasLayout bs v`: what refusals 1 to 7 say of the text bs, by their rules; nothing is computed here
+pub data HasLayout : List ℕ → Verdict → Type 0 where
+  text : {bs : List ℕ} {n j : ℕ} → Reads bs (refused n j) → HasLayout bs (Rejected n j)
+  layout : {bs : List ℕ} {fs : List Frame} {v : Verdict} → Reads bs (frames fs) → LayoutSays fs v → HasLayout bs v
+
+-- ---- as functions; proofs/Accepted shows that `layoutVerdict` gives the one v that `HasLayout` allows
 
 -- 1 to 3, then 4 to 7
 abbrev pub layoutRead : Reading → Verdict

@@ -29,7 +29,7 @@ ghost use Rattle.layout.specs.Order.{hasClass, isMain};
 ghost use Rattle.layout.specs.Scans.{rowFirst, firstDisorder, isBehind, firstLeftover, noMain, orderFault};
 ghost use Rattle.layout.specs.Passes.{found, told, Backward, marked, marks, markAll};
 
-// Where the tree of the child v begins, which is to be of that class and to end just before `stop`; `first` says where the tree of each frame before i begins.
+// Where the tree of the child v begins, which is to be of that class and to end just before `stop`; `first` says where the tree of each frame before i begins. A row ends at i or before, so that a number from i on is out of order.
 fn child_first(
     words: &[u64],
     first: &[u16; 1024],
@@ -67,7 +67,7 @@ fn field_first(words: &[u64], first: &[u16; 1024], i: usize, u: Use, v: u16, sto
     }
 }
 
-// Where the tree of frame i begins, from its last child to its first.
+// Where the tree of frame i begins, from its last child to its first. `Backward` keeps each row's end from moving past i.
 fn row_first(words: &[u64], first: &[u16; 1024], i: usize, f: Frame) -> Found
     requires { ⌜ (i ≤ length (now words)) × (length (now words) ≤ 1024) × Backward (now first) i ⌝ }
     ensures { λ r. ⌜ r ≡ found (rowFirst (told (framesOf (now (words .entry))) (now (first .entry)) i) i i (reverse (children f))) ⌝ }

@@ -1,7 +1,7 @@
 -- `layout_of` meets its contract. Assumes nothing.
 use borrow.Author.Needs.{needs}
 use Rattle.layout.proofs.Answers.{found-none, layout-laws}
-use Rattle.layout.proofs.Tallies.{few-schedulers}
+use Rattle.layout.proofs.FieldLaws.{few-schedulers}
 use Rattle.layout.proofs.layout_of.Statement.{statement}
 use Rattle.layout.proofs.layout_of.Tie as tie
 

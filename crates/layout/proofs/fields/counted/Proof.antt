@@ -1,7 +1,7 @@
 -- `counted` meets its contract. Assumes nothing.
 use mathlib.Core.Path.{refl}
 use borrow.Author.Needs.{needs}
-use Rattle.layout.proofs.Tallies.{shared-owner, shared-room, cell-room, module-room, counted-laws}
+use Rattle.layout.proofs.FramePass.{shared-owner, shared-room, cell-room, module-room, counted-laws}
 use Rattle.layout.proofs.fields.counted.Statement.{statement}
 use Rattle.layout.proofs.fields.counted.Tie as tie
 

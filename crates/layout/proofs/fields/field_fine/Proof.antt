@@ -1,7 +1,7 @@
 -- `field_fine` meets its contract. Assumes nothing.
 use mathlib.Core.Path.{refl}
 use borrow.Author.Needs.{needs}
-use Rattle.layout.proofs.Tallies.{types-sixteen, use-laws}
+use Rattle.layout.proofs.FramePass.{types-sixteen, use-laws}
 use Rattle.layout.proofs.fields.field_fine.Statement.{statement}
 use Rattle.layout.proofs.fields.field_fine.Tie as tie
 

@@ -5,7 +5,7 @@ use lib.ListN.{length, take}
 use borrow.Author.Needs.{needs}
 use Rattle.text.specs.Frames.{framesOf}
 use Rattle.layout.specs.Passes.{tallyOf}
-use Rattle.layout.proofs.Tallies.{Fields, tally-start, fields-start, is-fine, fields-here, fields-next, room-next, fields-end}
+use Rattle.layout.proofs.FramePass.{Fields, tally-start, fields-start, is-fine, fields-here, fields-next, room-next, fields-end}
 use Rattle.layout.proofs.fields.fields.Statement.{statement}
 use Rattle.layout.proofs.fields.fields.Tie as tie
 

@@ -1,6 +1,6 @@
 -- `first_content_fine` meets its contract. Assumes nothing.
 use borrow.Author.Needs.{needs}
-use Rattle.layout.proofs.Tallies.{content-laws}
+use Rattle.layout.proofs.FieldLaws.{content-laws}
 use Rattle.layout.proofs.fields.first_content_fine.Statement.{statement}
 use Rattle.layout.proofs.fields.first_content_fine.Tie as tie
 

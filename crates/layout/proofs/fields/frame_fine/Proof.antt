@@ -1,6 +1,6 @@
 -- `frame_fine` meets its contract. Assumes nothing.
 use borrow.Author.Needs.{needs}
-use Rattle.layout.proofs.Tallies.{frame-laws}
+use Rattle.layout.proofs.FramePass.{frame-laws}
 use Rattle.layout.proofs.fields.frame_fine.Statement.{statement}
 use Rattle.layout.proofs.fields.frame_fine.Tie as tie
 

@@ -1,5 +1,5 @@
 -- `further_fine` meets its contract. Assumes nothing.
-use Rattle.layout.proofs.Tallies.{further-laws}
+use Rattle.layout.proofs.FieldLaws.{further-laws}
 use Rattle.layout.proofs.fields.further_fine.Statement.{statement}
 use Rattle.layout.proofs.fields.further_fine.Tie as tie
 

@@ -1,6 +1,6 @@
 -- `header` meets its contract. Assumes nothing.
 use borrow.Author.Needs.{needs}
-use Rattle.layout.proofs.Tallies.{header-faults}
+use Rattle.layout.proofs.FieldLaws.{header-faults}
 use Rattle.layout.proofs.fields.header.Statement.{statement}
 use Rattle.layout.proofs.fields.header.Tie as tie
 

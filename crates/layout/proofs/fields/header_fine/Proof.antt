@@ -1,6 +1,6 @@
 -- `header_fine` meets its contract. Assumes nothing.
 use borrow.Author.Needs.{needs}
-use Rattle.layout.proofs.Tallies.{header-laws}
+use Rattle.layout.proofs.FieldLaws.{header-laws}
 use Rattle.layout.proofs.fields.header_fine.Statement.{statement}
 use Rattle.layout.proofs.fields.header_fine.Tie as tie
 

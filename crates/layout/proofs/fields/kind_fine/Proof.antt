@@ -1,7 +1,7 @@
 -- `kind_fine` meets its contract. Assumes nothing.
 use mathlib.Core.Path.{refl}
 use borrow.Author.Needs.{needs}
-use Rattle.layout.proofs.Tallies.{kind-laws}
+use Rattle.layout.proofs.FramePass.{kind-laws}
 use Rattle.layout.proofs.fields.kind_fine.Statement.{statement}
 use Rattle.layout.proofs.fields.kind_fine.Tie as tie
 

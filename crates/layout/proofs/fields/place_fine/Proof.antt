@@ -1,6 +1,6 @@
 -- `place_fine` meets its contract. Assumes nothing.
 use borrow.Author.Needs.{needs}
-use Rattle.layout.proofs.Tallies.{place-laws}
+use Rattle.layout.proofs.FieldLaws.{place-laws}
 use Rattle.layout.proofs.fields.place_fine.Statement.{statement}
 use Rattle.layout.proofs.fields.place_fine.Tie as tie
 

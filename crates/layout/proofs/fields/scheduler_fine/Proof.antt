@@ -1,6 +1,6 @@
 -- `scheduler_fine` meets its contract. Assumes nothing.
 use borrow.Author.Needs.{needs}
-use Rattle.layout.proofs.Tallies.{scheduler-laws}
+use Rattle.layout.proofs.FieldLaws.{scheduler-laws}
 use Rattle.layout.proofs.fields.scheduler_fine.Statement.{statement}
 use Rattle.layout.proofs.fields.scheduler_fine.Tie as tie
 

@@ -1,6 +1,6 @@
 -- `schedulers_in` meets its contract. Assumes nothing.
 use borrow.Author.Needs.{needs}
-use Rattle.layout.proofs.Tallies.{schedulers-are}
+use Rattle.layout.proofs.FieldLaws.{schedulers-are}
 use Rattle.layout.proofs.fields.schedulers_in.Statement.{statement}
 use Rattle.layout.proofs.fields.schedulers_in.Tie as tie
 

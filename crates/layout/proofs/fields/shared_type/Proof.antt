@@ -1,6 +1,6 @@
 -- `shared_type` meets its contract. Assumes nothing.
 use borrow.Author.Needs.{needs}
-use Rattle.layout.proofs.Tallies.{shared-laws}
+use Rattle.layout.proofs.FieldLaws.{shared-laws}
 use Rattle.layout.proofs.fields.shared_type.Statement.{statement}
 use Rattle.layout.proofs.fields.shared_type.Tie as tie
 

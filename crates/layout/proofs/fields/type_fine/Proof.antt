@@ -1,6 +1,6 @@
 -- `type_fine` meets its contract. Assumes nothing.
 use borrow.Author.Needs.{needs}
-use Rattle.layout.proofs.Tallies.{type-laws}
+use Rattle.layout.proofs.FieldLaws.{type-laws}
 use Rattle.layout.proofs.fields.type_fine.Statement.{statement}
 use Rattle.layout.proofs.fields.type_fine.Tie as tie
 

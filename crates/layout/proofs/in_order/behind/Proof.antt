@@ -3,7 +3,7 @@ use Prim.Native.Nat.{_≤_, _-_}
 use lib.ListN.{length}
 use borrow.Author.Needs.{needs}
 use Rattle.text.specs.Frames.{framesOf}
-use Rattle.layout.proofs.Marks.{Others, Behind, others-start, others-next, behind-start, behind-here, behind-next, behind-end}
+use Rattle.layout.proofs.Orders.{Others, Behind, others-start, others-next, behind-start, behind-here, behind-next, behind-end}
 use Rattle.layout.proofs.in_order.behind.Statement.{statement}
 use Rattle.layout.proofs.in_order.behind.Tie as tie
 

@@ -1,0 +1,111 @@
+-- The other passes of refusal 6: shared cells behind another kind, `main`, and the lowest frame of all. Assumes nothing.
+use mathlib.Core.Path.{_≡_, refl, sym, ap, ap₂, _∙_}
+use mathlib.Core.Bool.{Bool, true, false, not, _&&_, _||_}
+use mathlib.Core.List.{List, [], _∷_, _++_}
+use mathlib.Core.Option.{none, some}
+use Prim.Native.Nat.{ℕ, suc, _+_, _-_, _≤_, _<_}
+use native.Mathlib.Omega.{arith}
+use lib.Dec.{eqb}
+use borrow.Author.Tests.{not-true, not-false}
+use lib.ListN.{length, take}
+use lib.Seq.{take-suc}
+use Rattle.basics.specs.Searches.{any, lowest, earlier}
+use Rattle.basics.proofs.Ifs.{yes, no}
+use Rattle.language.specs.declared.frame.Frame.{Frame}
+use Rattle.program.specs.Trees.{noFrame, frameAt}
+use Rattle.text.specs.Frames.{framesOf}
+use Rattle.layout.specs.declared.found.Found.{Found}
+use Rattle.layout.specs.declared.found.Found.the-variants.{At, Nowhere}
+use Rattle.layout.specs.Fields.{isHeader, isShared, isModule}
+use Rattle.layout.specs.Order.{isMain}
+use Rattle.layout.specs.Scans.{firstDisorder, isBehind, firstLeftover, noMain, orderFault}
+use Rattle.layout.specs.Passes.{found, optionOf}
+use Rattle.layout.proofs.FrameLaws.{frames-length, option-found}
+use Rattle.layout.proofs.Order.{isOther}
+use Rattle.layout.proofs.Seeking.{Seeking, seek-here, seek-next, seek-end}
+
+-- ---- shared cells behind another kind: `other` says whether there was one before i
+abbrev behindTest : List Frame → ℕ → Frame → Bool
+behindTest fs i f = isBehind fs i f
+
+abbrev pub Behind : List Frame → ℕ → Type 0
+Behind fs i = Seeking (behindTest fs) fs i
+
+abbrev pub Others : List Frame → Bool → ℕ → Type 0
+Others fs other i = other ≡ any isOther (take i fs)
+
+any-append : (t : Frame → Bool) (xs : List Frame) (f : Frame) → any t (xs ++ (f ∷ [])) ≡ (any t xs || t f)
+unfolding any
+any-append t [] f = go (t f)
+  where
+    go : (b : Bool) → elim b [ true ↦ true | false ↦ false ] ≡ b
+    go true = refl
+    go false = refl
+any-append t (x ∷ xs) f = go (t x) (any-append t xs f)
+  where
+    go : (b : Bool) → any t (xs ++ (f ∷ [])) ≡ (any t xs || t f) → elim b [ true ↦ true | false ↦ any t (xs ++ (f ∷ [])) ] ≡ (elim b [ true ↦ true | false ↦ any t xs ] || t f)
+    go true h = refl
+    go false h = h
+
+pub others-start : (fs : List Frame) → Others fs false 0
+unfolding any
+others-start fs = refl
+
+pub behind-start : (fs : List Frame) → Behind fs 0
+behind-start fs = refl
+
+pub others-next : (ws : List ℕ) (i : ℕ) (other : Bool) (f : Frame) (x y : Bool) → f ≡ frameAt (framesOf ws) i → x ≡ not (isHeader (f .kind) || isShared (f .kind)) → y ≡ (other || x) → Others (framesOf ws) other i → i < length ws → Others (framesOf ws) y (i + 1)
+others-next ws i other f x y e h j g l =
+    let s : i + 1 ≡ suc i = omega arith in
+    let a : take (suc i) (framesOf ws) ≡ take i (framesOf ws) ++ (frameAt (framesOf ws) i ∷ []) = take-suc (framesOf ws) i noFrame (let z = frames-length ws in omega arith) in
+    j ∙ ap₂ (λ (p r : Bool). p || r) g (h ∙ ap (λ (k : Frame). isOther k) e) ∙ sym (any-append isOther (take i (framesOf ws)) (frameAt (framesOf ws) i)) ∙ ap (any isOther) (sym a) ∙ ap (λ (n : ℕ). any isOther (take n (framesOf ws))) (sym s)
+
+module _ (ws : List ℕ) (i : ℕ) (other : Bool) (f : Frame) (b : Bool) where
+  behind-is : f ≡ frameAt (framesOf ws) i → b ≡ (isShared (f .kind) && other) → Others (framesOf ws) other i → isBehind (framesOf ws) i (frameAt (framesOf ws) i) ≡ b
+  unfolding isBehind
+  behind-is e q o = go (isShared (frameAt (framesOf ws) i .kind)) ∙ sym (q ∙ ap₂ (λ (g : Frame) (x : Bool). isShared (g .kind) && x) e o)
+    where
+      go : (s : Bool) → elim s [ true ↦ any isOther (take i (framesOf ws)) | false ↦ false ] ≡ (s && any isOther (take i (framesOf ws)))
+      go true = refl
+      go false = refl
+
+  pub behind-here : f ≡ frameAt (framesOf ws) i → b ≡ (isShared (f .kind) && other) → b ≡ true → Others (framesOf ws) other i → Behind (framesOf ws) i → i < length ws → At i ≡ found (lowest (λ (j : ℕ) (g : Frame). isBehind (framesOf ws) j g) 0 (framesOf ws))
+  behind-here e q t o g l = seek-here (behindTest (framesOf ws)) ws i g l (behind-is e q o ∙ t)
+
+  pub behind-next : f ≡ frameAt (framesOf ws) i → b ≡ (isShared (f .kind) && other) → b ≡ false → Others (framesOf ws) other i → Behind (framesOf ws) i → i < length ws → Behind (framesOf ws) (i + 1)
+  behind-next e q t o g l = seek-next (behindTest (framesOf ws)) ws i g l (behind-is e q o ∙ t)
+
+pub behind-end : (ws : List ℕ) (i : ℕ) → Behind (framesOf ws) i → length ws ≤ i → Nowhere ≡ found (lowest (λ (j : ℕ) (g : Frame). isBehind (framesOf ws) j g) 0 (framesOf ws))
+behind-end ws i g l = seek-end (behindTest (framesOf ws)) ws i g l
+
+-- ---- main
+pub main-not : (f : Frame) (x : Bool) → x ≡ isModule (f .kind) → not x ≡ true → false ≡ isMain f
+main-not f x e n = rw (sym e ∙ not-true x n)
+
+pub main-by : (f : Frame) (x : Bool) → x ≡ isModule (f .kind) → not x ≡ false → eqb (f .s) 0 ≡ isMain f
+main-by f x e n = rw (sym e ∙ not-false x n)
+
+pub ruleset main-laws = (main-not, main-by)
+
+module _ (ws : List ℕ) (f : Frame) (b : Bool) (e : f ≡ frameAt (framesOf ws) (length ws - 1)) (h : b ≡ isMain f) where
+  main-is : isMain (frameAt (framesOf ws) (length (framesOf ws) - 1)) ≡ b
+  main-is = ap (λ (n : ℕ). isMain (frameAt (framesOf ws) (n - 1))) (frames-length ws) ∙ sym (h ∙ ap isMain e)
+
+  pub main-there : b ≡ true → Nowhere ≡ found (noMain (framesOf ws))
+  unfolding noMain
+  main-there t = ap found (yes _ (main-is ∙ t) refl)
+
+  pub main-missing : b ≡ false → At (length ws - 1) ≡ found (noMain (framesOf ws))
+  unfolding noMain
+  main-missing t = ap found (no none (main-is ∙ t) (ap (λ (n : ℕ). some (n - 1)) (sym (frames-length ws))))
+
+pub ruleset no-main-laws = (main-there, main-missing)
+
+-- ---- the four together
+module _ (fs : List Frame) (d b l m x y r : Found) where
+  pub order-is : d ≡ found (firstDisorder [] 0 fs) → b ≡ found (lowest (λ (i : ℕ) (f : Frame). isBehind fs i f) 0 fs) → l ≡ found (firstLeftover fs 0 fs) → m ≡ found (noMain fs) → x ≡ found (earlier (optionOf l) (optionOf m)) → y ≡ found (earlier (optionOf b) (optionOf x)) → r ≡ found (earlier (optionOf d) (optionOf y)) → r ≡ found (orderFault fs)
+  unfolding orderFault
+  order-is hd hb hl hm hx hy hr =
+      let a : optionOf x ≡ earlier (firstLeftover fs 0 fs) (noMain fs) = ap optionOf hx ∙ option-found _ ∙ ap₂ earlier (ap optionOf hl ∙ option-found _) (ap optionOf hm ∙ option-found _) in
+      let c : optionOf y ≡ earlier (lowest (behindTest fs) 0 fs) (earlier (firstLeftover fs 0 fs) (noMain fs)) = ap optionOf hy ∙ option-found _ ∙ ap₂ earlier (ap optionOf hb ∙ option-found _) a in
+      hr ∙ ap found (ap₂ earlier (ap optionOf hd ∙ option-found _) c)
