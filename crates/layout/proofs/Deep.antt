@@ -127,14 +127,14 @@ pub in-body : (f : Frame) → f .kind ≡ Module → In (record { class = Class.
 unfolding children
 in-body f e = rw e In.first
 
-none-in : {c : Child} → In c [] → ⊥
+pub none-in : {c : Child} → In c [] → ⊥
 none-in m = elim m [ ]
 
 only-one : {c x : Child} → In c (x ∷ []) → c .at ≡ x .at
 only-one In.first = refl
 only-one (In.later m) = absurd (none-in m)
 
-only-body : (f : Frame) (c : Child) → f .kind ≡ Module → In c (children f) → c .at ≡ f .a
+pub only-body : (f : Frame) (c : Child) → f .kind ≡ Module → In c (children f) → c .at ≡ f .a
 unfolding children
 only-body f c e m =
     let n : In c (record { class = Class.Statement; at = f .a } ∷ []) = (rw e at m) in

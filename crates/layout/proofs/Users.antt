@@ -1,8 +1,8 @@
--- 'So each frame has one user': in a file without fault each statement and each expression is a child of exactly one frame. Assumes nothing.
-use mathlib.Core.Path.{_≡_, refl, sym, _∙_}
+-- 'So each frame has one user': in a file without fault each statement and each expression is a child of exactly one frame, and stands in the tree of a module. Assumes nothing.
+use mathlib.Core.Path.{_≡_, refl, sym, ap, _∙_}
 use mathlib.Core.Bool.{Bool, true, false, true≢false}
 use mathlib.Core.List.{List, [], _∷_}
-use Prim.Native.Nat.{ℕ, suc, _≤_, _<_}
+use Prim.Native.Nat.{ℕ, zero, suc, _+_, _≤_, _<_}
 use native.Mathlib.Omega.{arith}
 use lib.Dec.{ltb, leb, eqb}
 use lib.ListN.{length}
@@ -10,13 +10,17 @@ use borrow.Author.Tests.{ltb-true, ltb-false, leb-true, leb-false, eqb-true, eqb
 use Rattle.basics.specs.Members.{In}
 use Rattle.basics.specs.Searches.{any}
 use Rattle.language.specs.Kinds.{classOf, Child, children}
+use Rattle.language.specs.declared.kind.Kind.{Kind}
+use Rattle.language.specs.declared.kind.Kind.the-variants.{Header, Shared, Module, Statement, Expression, Unknown}
 use Rattle.language.specs.declared.frame.Frame.{Frame}
 use Rattle.program.specs.Trees.{noFrame, frameAt}
 use Rattle.layout.specs.Order.{Tree, Row, hasChild, hasClass}
+use Rattle.layout.specs.Depths.{Depth}
 use Rattle.layout.specs.Faults.{Fault, NoFault}
 use Rattle.layout.proofs.Searches.{any-true, any-false}
-use Rattle.layout.proofs.Trees.{tree-le, tree-one, tree-in, HasTree}
+use Rattle.layout.proofs.Trees.{tree-le, tree-one, tree-in, HasTree, childrenAs}
 use Rattle.layout.proofs.Order.{all-trees}
+use Rattle.layout.proofs.Deep.{none-in, only-body}
 
 module _ {fs : List Frame} where
   -- the tree of a frame within a tree or a row begins within it
@@ -100,3 +104,51 @@ one-user fs fine j l k = go (any (hasChild j) fs) refl
         let p = any-true noFrame (hasChild j) fs e in
         let h = has-of j (frameAt fs (p .at)) (p .passes) in
         record { user = p .at; inside = p .inside; child = h .child; among = h .among; at-it = h .at-it; only = λ i c q m z. same i (p .at) c (h .child) q (p .inside) m (h .among) (z ∙ sym (h .at-it)) }
+
+-- ---- so each of them stands in the tree of a module
+pub record Stands (fs : List Frame) (j : ℕ) : Type 0 where
+  pub depth : ℕ
+  pub is : Depth fs j depth
+
+-- what has a child is a module, a statement or an expression
+data Parent (k : Kind) : Type 0 where
+  of-module : k ≡ Module → Parent k
+  of-class : hasClass (classOf k) ≡ true → Parent k
+
+as-kind : (f : Frame) (k : Kind) {c : Child} → f .kind ≡ k → In c (children f) → In c (childrenAs k f)
+unfolding children
+as-kind f k {c} e m = let q : childrenAs (f .kind) f ≡ childrenAs k f = ap (λ (x : Kind). childrenAs x f) e in rw q at m
+
+parent : (f : Frame) (c : Child) → In c (children f) → Parent (f .kind)
+parent f c m = go (f .kind) refl
+  where
+    go : (k : Kind) → f .kind ≡ k → Parent (f .kind)
+    go Module e = Parent.of-module e
+    go (Statement k) e = Parent.of-class (ap (λ (q : Kind). hasClass (classOf q)) e)
+    go (Expression k) e = Parent.of-class (ap (λ (q : Kind). hasClass (classOf q)) e)
+    go Header e = absurd (none-in (as-kind f Header e m))
+    go Shared e = absurd (none-in (as-kind f Shared e m))
+    go Unknown e = absurd (none-in (as-kind f Unknown e m))
+
+module _ (fs : List Frame) (fine : NoFault fs) where
+  up : (j : ℕ) (u : User fs j) → Parent (frameAt fs (u .user) .kind) → (hasClass (classOf (frameAt fs (u .user) .kind)) ≡ true → Stands fs (u .user)) → Stands fs j
+  up j u (Parent.of-module e) rec =
+      let q : frameAt fs (u .user) .a ≡ j = sym (only-body (frameAt fs (u .user)) (u .child) e (u .among)) ∙ u .at-it in
+      let b : Depth fs (frameAt fs (u .user) .a) 1 = Depth.body (u .inside) e in
+      record { depth = 1; is = (rw q at b) }
+  up j u (Parent.of-class h) rec =
+      let s = rec h in
+      let q : u .child .at ≡ j = u .at-it in
+      let b : Depth fs (u .child .at) (suc (s .depth)) = Depth.child (s .is) (u .among) in
+      record { depth = suc (s .depth); is = (rw q at b) }
+
+  climb : (n j : ℕ) → length fs ≤ n + j → j < length fs → hasClass (classOf (frameAt fs j .kind)) ≡ true → Stands fs j
+  climb zero j l k h = absurd (omega arith)
+  climb (suc n) j l k h =
+      let u = one-user fs fine j k h in
+      let a = tree-in (all-trees fs (λ m f. fine 6 m f) (u .user) (u .inside) .tree) (u .among) in
+      let e = u .at-it in
+      up j u (parent (frameAt fs (u .user)) (u .child) (u .among)) (λ g. climb n (u .user) (omega arith) (u .inside) g)
+
+  pub stands : (j : ℕ) → j < length fs → hasClass (classOf (frameAt fs j .kind)) ≡ true → Stands fs j
+  stands j l h = climb (length fs) j (omega arith) l h
