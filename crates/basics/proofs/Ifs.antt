@@ -50,3 +50,7 @@ leb-same a b c d f g = by (leb a b) refl
     by : (t : Bool) → leb a b ≡ t → leb a b ≡ leb c d
     by true e = e ∙ sym (le-leb c d (f (leb-true a b e)))
     by false e = e ∙ sym (lt-leb c d (lt-of-not-le (λ h. not-le-of-lt (leb-false a b e) (g h))))
+
+pub or-off : (b : Bool) → b ≡ (b || false)
+or-off true = refl
+or-off false = refl

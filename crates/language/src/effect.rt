@@ -1,6 +1,7 @@
 // Effects: which schedulers' cells a statement or an expression may touch.
 use crate::Place;
 ghost use mathlib.Core.Path.{_≡_};
+ghost use lib.Dec.{eqb};
 ghost use Rattle.language.specs.Effects.{noEffect, _∪_, withOwner, within};
 
 // A set of schedulers, 2 to 9: the scheduler p is a member where bit p is set.
@@ -13,6 +14,12 @@ impl Effect {
         ensures { λ r. ⌜ r ≡ noEffect ⌝ }
     {
         Self { bits: 0 }
+    }
+
+    pub fn is_empty(self) -> bool
+        ensures { λ r. ⌜ r ≡ eqb (self .bits) 0 ⌝ }
+    {
+        self.bits == 0
     }
 
     // Both sets together.

@@ -7,3 +7,4 @@ pub mod FirstExpressions
 pub mod FirstStatements
 pub mod Modules
 pub mod Whole
+pub mod RuleLaws

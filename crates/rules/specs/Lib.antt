@@ -2,4 +2,5 @@ pub mod Rules
 pub mod Breaks
 pub mod Broken
 pub mod Checking
+pub mod Standings
 pub mod Verdict

@@ -1,0 +1,430 @@
+-- What each rule's function computes, one law for each of its returns. Assumes nothing.
+use mathlib.Core.Path.{_≡_, refl, sym, ap, _∙_}
+use mathlib.Core.Bool.{Bool, true, false, not, _&&_, _||_}
+use mathlib.Core.List.{List}
+use Prim.Native.Nat.{ℕ, _^_, _<_, _≤_}
+use native.Mathlib.Omega.{arith}
+use lib.Dec.{ltb, leb, eqb}
+use lib.ListN.{length, getD}
+use borrow.Author.Tests.{lt-ltb, le-ltb, eq-eqb, ne-eqb, le-leb, lt-leb, leb-true, not-true, not-false}
+use Rattle.basics.specs.If.{if_then_else_}
+use Rattle.basics.proofs.Ifs.{yes, no, and-true, or-off}
+use Rattle.language.specs.Places.{isPlace, placeRead, linked, unlinked}
+use Rattle.language.specs.Types.{numberType, truthType, isCell, cellType, ownerOf, contentOf, roomAround, public, cellRead}
+use Rattle.language.specs.Effects.{noEffect, _∪_, withOwner, within}
+use Rattle.language.specs.declared.Place.{Place}
+use Rattle.language.specs.declared.PlaceRead.{PlaceRead}
+use Rattle.language.specs.declared.PlaceRead.the-variants.{At, NoPlace}
+use Rattle.language.specs.declared.type_word.CellRead.{CellRead}
+use Rattle.language.specs.declared.type_word.CellRead.the-variants.{Word, TooDeep}
+use Rattle.language.specs.declared.effect.Effect.{Effect}
+use Rattle.rules.specs.Checking.{namedRule, newRule, contentRule, numbersRule, chooseRule, cooperateRule, seqRule, doRule, joinRule, storeRule, ifElseRule, whileRule}
+use Rattle.rules.specs.Standings.{standing}
+use Rattle.rules.specs.declared.finding.Typing.{Typing}
+use Rattle.rules.specs.declared.finding.Typing.the-variants.{Typed, Untyped}
+use Rattle.rules.specs.declared.finding.Conduct.{Conduct}
+use Rattle.rules.specs.declared.finding.Conduct.the-variants.{Does, Fails}
+
+-- ---- a variable or a shared cell
+module _ (ts : List ℕ) (s i : ℕ) where
+  pub named-there : (e : Effect) → s < length ts → e ≡ noEffect → Typed (getD ts s 0) e ≡ namedRule ts s i
+  unfolding namedRule
+  named-there e h q = yes _ (lt-ltb _ _ h) (ap (Typed (getD ts s 0)) q)
+
+  pub named-missing : length ts ≤ s → Untyped 8 i ≡ namedRule ts s i
+  unfolding namedRule
+  named-missing h = no _ (le-ltb _ _ h) refl
+
+pub ruleset named-laws = (named-there, named-missing)
+
+-- ---- a new cell
+cell-place : (s : ℕ) (p : PlaceRead) (q : Place) → p ≡ placeRead (isPlace s) s → p ≡ At q → 1 ≤ s → s ≤ 9 → q .number ≡ s
+unfolding placeRead
+cell-place s p q e f a b = ap number-of (sym f ∙ e ∙ sym (yes _ (rw (le-leb 1 s a, le-leb s 9 b)) refl))
+  where
+    number-of : PlaceRead → ℕ
+    number-of (At x) = x .number
+    number-of NoPlace = 0
+
+no-place : (s : ℕ) (p : PlaceRead) → p ≡ placeRead (isPlace s) s → p ≡ NoPlace → 1 ≤ s → s ≤ 9 → ⊥
+unfolding placeRead
+no-place s p e f a b = let z : _≡_ {A = ℕ} 0 1 = ap is-there (sym f ∙ e ∙ sym (yes _ (rw (le-leb 1 s a, le-leb s 9 b)) refl)) in omega arith
+  where
+    is-there : PlaceRead → ℕ
+    is-there (At x) = 1
+    is-there NoPlace = 0
+
+cell-deep : (o t : ℕ) (c : CellRead) → c ≡ cellRead o t → c ≡ TooDeep → 1 ≤ o → o ≤ 9 → roomAround t ≡ false
+unfolding cellRead
+cell-deep o t c e f a b = go (roomAround t) refl
+  where
+    is-word : CellRead → ℕ
+    is-word (Word w) = 1
+    is-word TooDeep = 0
+
+    go : (r : Bool) → roomAround t ≡ r → r ≡ false
+    go true k = let z : _≡_ {A = ℕ} 0 1 = ap is-word (sym f ∙ e ∙ sym (yes TooDeep (rw (le-leb 1 o a, le-leb o 9 b, k)) refl)) in absurd (omega arith)
+    go false k = refl
+
+cell-word : (o t w : ℕ) (c : CellRead) → c ≡ cellRead o t → c ≡ Word w → (roomAround t ≡ true) × (w ≡ cellType o t)
+unfolding cellRead
+cell-word o t w c e f = go (isPlace o && roomAround t) refl
+  where
+    word-of : CellRead → ℕ
+    word-of (Word x) = x
+    word-of TooDeep = 0
+
+    is-word : CellRead → ℕ
+    is-word (Word x) = 1
+    is-word TooDeep = 0
+
+    second : (x y : Bool) → (x && y) ≡ true → y ≡ true
+    second x y h = and-true x y h .1
+
+    go : (r : Bool) → (isPlace o && roomAround t) ≡ r → (roomAround t ≡ true) × (w ≡ cellType o t)
+    go true k = (second (isPlace o) (roomAround t) k, ap word-of (sym f ∙ e ∙ sym (yes TooDeep k refl)))
+    go false k = let z : _≡_ {A = ℕ} 1 0 = ap is-word (sym f ∙ e ∙ sym (no (Word (cellType o t)) k refl)) in absurd (omega arith)
+
+module _ (s i t : ℕ) (e : Effect) (p : PlaceRead) (r : p ≡ placeRead (isPlace s) s) (a : 1 ≤ s) (b : s ≤ 9) where
+  pub new-none : p ≡ NoPlace → Untyped 9 i ≡ newRule s i (Typed t e)
+  new-none f = absurd (no-place s p r f a b)
+
+  module _ (q : Place) (f : p ≡ At q) (c : CellRead) (d : c ≡ cellRead (q .number) t) where
+    same : q .number ≡ s
+    same = cell-place s p q r f a b
+
+    pub new-deep : c ≡ TooDeep → Untyped 9 i ≡ newRule s i (Typed t e)
+    unfolding newRule
+    new-deep h = let z = same in yes _ (rw (cell-deep (q .number) t c d h (omega arith) (omega arith))) refl
+
+    module _ (w : ℕ) (h : c ≡ Word w) where
+      room : not (roomAround t) ≡ false
+      room = rw (cell-word (q .number) t w c d h .0)
+
+      word : w ≡ cellType s t
+      word = cell-word (q .number) t w c d h .1 ∙ ap (λ (o : ℕ). cellType o t) same
+
+      pub new-private : (x : Bool) → x ≡ eqb (q .number) 1 → x ≡ true → Typed w e ≡ newRule s i (Typed t e)
+      unfolding newRule
+      new-private x g k = no _ room (yes _ (ap (λ (o : ℕ). eqb o 1) (sym same) ∙ sym g ∙ k) (ap (λ (n : ℕ). Typed n e) word))
+
+      module _ (x : Bool) (g : x ≡ eqb (q .number) 1) (k : x ≡ false) (y : Bool) (l : y ≡ public t) where
+        pub new-public : (o : Effect) → o ≡ withOwner s e → y ≡ true → Typed w o ≡ newRule s i (Typed t e)
+        unfolding newRule
+        new-public o n m = no _ room (no _ (ap (λ (o : ℕ). eqb o 1) (sym same) ∙ sym g ∙ k) (no _ (ap not (sym l ∙ m)) (ap (λ (u : ℕ). Typed u o) word ∙ ap (Typed (cellType s t)) n)))
+
+        pub new-escapes : y ≡ false → Untyped 10 i ≡ newRule s i (Typed t e)
+        unfolding newRule
+        new-escapes m = no _ room (no _ (ap (λ (o : ℕ). eqb o 1) (sym same) ∙ sym g ∙ k) (yes _ (ap not (sym l ∙ m)) refl))
+
+pub ruleset new-typed-laws = (new-none, new-deep, new-private, new-public, new-escapes)
+
+-- ---- a rule asked of what a child was found to be: by its cases
+pub new-fault : (s i n j : ℕ) (x : Typing) → x ≡ Untyped n j → Untyped n j ≡ newRule s i x
+unfolding newRule
+new-fault s i n j x h = ap (newRule s i) (sym h)
+
+pub new-row : (s i t : ℕ) (e : Effect) (x r : Typing) → x ≡ Typed t e → r ≡ newRule s i (Typed t e) → r ≡ newRule s i x
+new-row s i t e x r h k = k ∙ ap (newRule s i) (sym h)
+
+pub ruleset new-laws = (new-fault, new-row)
+
+-- ---- 25
+module _ (i : ℕ) (x : Typing) where
+  pub content-fault : (n j : ℕ) → x ≡ Untyped n j → Untyped n j ≡ contentRule i x
+  unfolding contentRule
+  content-fault n j h = ap (contentRule i) (sym h)
+
+  module _ (t : ℕ) (e : Effect) (h : x ≡ Typed t e) (y : Bool) (k : y ≡ isCell t) where
+    pub content-read : (u o : ℕ) (f : Effect) → y ≡ true → u ≡ contentOf t → o ≡ ownerOf t → f ≡ withOwner o e → Typed u f ≡ contentRule i x
+    unfolding contentRule
+    content-read u o f m a b d = yes (Untyped 9 i) (sym k ∙ m) (ap (λ (n : ℕ). Typed n f) a ∙ ap (Typed (contentOf t)) (d ∙ ap (λ (n : ℕ). withOwner n e) b)) ∙ ap (contentRule i) (sym h)
+
+    pub content-none : y ≡ false → Untyped 9 i ≡ contentRule i x
+    unfolding contentRule
+    content-none m = no (Typed (contentOf t) (withOwner (ownerOf t) e)) (sym k ∙ m) refl ∙ ap (contentRule i) (sym h)
+
+pub ruleset content-laws = (content-fault, content-read, content-none)
+
+-- ---- 26, 27
+module _ (w i t : ℕ) (e : Effect) (u : ℕ) (f : Effect) where
+  pub first-no-number : (t ≡ 1 → ⊥) → Untyped 9 i ≡ numbersRule w i (Typed t e) (Typed u f)
+  unfolding numbersRule
+  first-no-number n = no _ (rw (ne-eqb t 1 n)) refl
+
+  pub second-no-number : t ≡ 1 → (u ≡ 1 → ⊥) → Untyped 9 i ≡ numbersRule w i (Typed t e) (Typed u f)
+  unfolding numbersRule
+  second-no-number m n = no _ (rw (eq-eqb t 1 m, ne-eqb u 1 n)) refl
+
+  pub both-numbers : (g : Effect) → t ≡ 1 → u ≡ 1 → g ≡ e ∪ f → Typed w g ≡ numbersRule w i (Typed t e) (Typed u f)
+  unfolding numbersRule
+  both-numbers g m n h = yes _ (rw (eq-eqb t 1 m, eq-eqb u 1 n)) (ap (Typed w) h)
+
+pub ruleset numbers-typed-laws = (first-no-number, second-no-number, both-numbers)
+
+module _ (w i : ℕ) (x y : Typing) where
+  pub first-fault : (n j : ℕ) → x ≡ Untyped n j → Untyped n j ≡ numbersRule w i x y
+  unfolding numbersRule
+  first-fault n j h = ap (λ (z : Typing). numbersRule w i z y) (sym h)
+
+  pub second-fault : (t : ℕ) (e : Effect) (n j : ℕ) → x ≡ Typed t e → y ≡ Untyped n j → Untyped n j ≡ numbersRule w i x y
+  unfolding numbersRule
+  second-fault t e n j h k = ap (numbersRule w i (Typed t e)) (sym k) ∙ ap (λ (z : Typing). numbersRule w i z y) (sym h)
+
+  pub numbers-row : (t : ℕ) (e : Effect) (u : ℕ) (f : Effect) (r : Typing) → x ≡ Typed t e → y ≡ Typed u f → r ≡ numbersRule w i (Typed t e) (Typed u f) → r ≡ numbersRule w i x y
+  numbers-row t e u f r h k q = q ∙ ap (numbersRule w i (Typed t e)) (sym k) ∙ ap (λ (z : Typing). numbersRule w i z y) (sym h)
+
+pub ruleset numbers-laws = (first-fault, second-fault, numbers-row)
+
+-- ---- 28
+module _ (i t : ℕ) (e : Effect) (u : ℕ) (f : Effect) (v : ℕ) (g : Effect) where
+  pub no-truth : (t ≡ 2 → ⊥) → Untyped 9 i ≡ chooseRule i (Typed t e) (Typed u f) (Typed v g)
+  unfolding chooseRule
+  no-truth n = no _ (rw (ne-eqb t 2 n)) refl
+
+  pub first-choice : t ≡ 2 → (u ≡ 1 → ⊥) → Untyped 9 i ≡ chooseRule i (Typed t e) (Typed u f) (Typed v g)
+  unfolding chooseRule
+  first-choice m n = no _ (rw (eq-eqb t 2 m, ne-eqb u 1 n)) refl
+
+  pub second-choice : t ≡ 2 → u ≡ 1 → (v ≡ 1 → ⊥) → Untyped 9 i ≡ chooseRule i (Typed t e) (Typed u f) (Typed v g)
+  unfolding chooseRule
+  second-choice m n o = no _ (rw (eq-eqb t 2 m, eq-eqb u 1 n, ne-eqb v 1 o)) refl
+
+  pub both-choices : (h k : Effect) → t ≡ 2 → u ≡ 1 → v ≡ 1 → h ≡ e ∪ f → k ≡ h ∪ g → Typed 1 k ≡ chooseRule i (Typed t e) (Typed u f) (Typed v g)
+  unfolding chooseRule
+  both-choices h k m n o p q = yes _ (rw (eq-eqb t 2 m, eq-eqb u 1 n, eq-eqb v 1 o)) (ap (Typed 1) (q ∙ ap (λ (z : Effect). z ∪ g) p))
+
+pub ruleset choose-typed-laws = (no-truth, first-choice, second-choice, both-choices)
+
+module _ (i : ℕ) (x y z : Typing) where
+  by-three : (a b c : Typing) → x ≡ a → y ≡ b → z ≡ c → chooseRule i a b c ≡ chooseRule i x y z
+  by-three a b c h k l = sym (ap (λ (w : Typing). chooseRule i w y z) h ∙ ap (λ (w : Typing). chooseRule i a w z) k ∙ ap (chooseRule i a b) l)
+
+  pub choose-fault : (n j : ℕ) → x ≡ Untyped n j → Untyped n j ≡ chooseRule i x y z
+  unfolding chooseRule
+  choose-fault n j h = by-three (Untyped n j) y z h refl refl
+
+  pub choose-fault-2 : (t : ℕ) (e : Effect) (n j : ℕ) → x ≡ Typed t e → y ≡ Untyped n j → Untyped n j ≡ chooseRule i x y z
+  unfolding chooseRule
+  choose-fault-2 t e n j h k = by-three (Typed t e) (Untyped n j) z h k refl
+
+  pub choose-fault-3 : (t : ℕ) (e : Effect) (u : ℕ) (f : Effect) (n j : ℕ) → x ≡ Typed t e → y ≡ Typed u f → z ≡ Untyped n j → Untyped n j ≡ chooseRule i x y z
+  unfolding chooseRule
+  choose-fault-3 t e u f n j h k l = by-three (Typed t e) (Typed u f) (Untyped n j) h k l
+
+  pub choose-row : (t : ℕ) (e : Effect) (u : ℕ) (f : Effect) (v : ℕ) (g : Effect) (r : Typing) → x ≡ Typed t e → y ≡ Typed u f → z ≡ Typed v g → r ≡ chooseRule i (Typed t e) (Typed u f) (Typed v g) → r ≡ chooseRule i x y z
+  choose-row t e u f v g r h k l q = q ∙ by-three (Typed t e) (Typed u f) (Typed v g) h k l
+
+pub ruleset choose-laws = (choose-fault, choose-fault-2, choose-fault-3, choose-row)
+
+-- ---- statements: 15
+pub cooperate-linked : (l : Bool) (i : ℕ) (e : Effect) → l ≡ true → e ≡ noEffect → Does e false ≡ cooperateRule (standing l) i
+unfolding cooperateRule
+cooperate-linked l i e h k = ap (λ (f : Effect). Does f false) k ∙ ap (λ (b : Bool). cooperateRule (standing b) i) (sym h)
+
+pub cooperate-unlinked : (l : Bool) (i : ℕ) → l ≡ false → Fails 12 i ≡ cooperateRule (standing l) i
+unfolding cooperateRule
+cooperate-unlinked l i h = ap (λ (b : Bool). cooperateRule (standing b) i) (sym h)
+
+pub ruleset cooperate-laws = (cooperate-linked, cooperate-unlinked)
+
+-- ---- 11
+module _ (x y : Conduct) where
+  by-two : (a b : Conduct) → x ≡ a → y ≡ b → seqRule a b ≡ seqRule x y
+  by-two a b h k = sym (ap (λ (w : Conduct). seqRule w y) h ∙ ap (seqRule a) k)
+
+  pub seq-fault : (n j : ℕ) → x ≡ Fails n j → Fails n j ≡ seqRule x y
+  unfolding seqRule
+  seq-fault n j h = by-two (Fails n j) y h refl
+
+  pub seq-fault-2 : (e : Effect) (a : Bool) (n j : ℕ) → x ≡ Does e a → y ≡ Fails n j → Fails n j ≡ seqRule x y
+  unfolding seqRule
+  seq-fault-2 e a n j h k = by-two (Does e a) (Fails n j) h k
+
+  -- `a && b` is a branch of the code on a
+  pub seq-first : (e f g : Effect) (a b : Bool) → x ≡ Does e a → y ≡ Does f b → g ≡ e ∪ f → a ≡ true → Does g b ≡ seqRule x y
+  unfolding seqRule
+  seq-first e f g a b h k q z = ap (λ (o : Effect). Does o b) q ∙ ap (λ (c : Bool). Does (e ∪ f) (c && b)) (sym z) ∙ by-two (Does e a) (Does f b) h k
+
+  pub seq-never : (e f g : Effect) (a b : Bool) → x ≡ Does e a → y ≡ Does f b → g ≡ e ∪ f → a ≡ false → Does g false ≡ seqRule x y
+  unfolding seqRule
+  seq-never e f g a b h k q z = ap (λ (o : Effect). Does o false) q ∙ ap (λ (c : Bool). Does (e ∪ f) (c && b)) (sym z) ∙ by-two (Does e a) (Does f b) h k
+
+pub ruleset seq-laws = (seq-fault, seq-fault-2, seq-first, seq-never)
+
+-- ---- 12
+module _ (e : Effect) (s : ℕ) (p : PlaceRead) (r : p ≡ placeRead (isPlace s) s) where
+  there : PlaceRead → ℕ
+  there (At x) = 1
+  there NoPlace = 0
+
+  number-of : PlaceRead → ℕ
+  number-of (At x) = x .number
+  number-of NoPlace = 0
+
+  pub within-there : (q : Place) (b : Bool) → p ≡ At q → b ≡ within (q .number) e → b ≡ within s e
+  unfolding placeRead
+  within-there q b f h = h ∙ ap (λ (n : ℕ). within n e) (go (isPlace s) refl)
+    where
+      go : (t : Bool) → isPlace s ≡ t → q .number ≡ s
+      go true k = ap number-of (sym f ∙ r ∙ sym (yes NoPlace k refl))
+      go false k = let z : _≡_ {A = ℕ} 1 0 = ap there (sym f ∙ r ∙ sym (no (At (record { number = s })) k refl)) in absurd (omega arith)
+
+  pub within-nowhere : (b : Bool) → p ≡ NoPlace → b ≡ eqb (e .bits) 0 → b ≡ within s e
+  unfolding placeRead within
+  within-nowhere b f h = go (isPlace s) refl
+    where
+      go : (t : Bool) → isPlace s ≡ t → b ≡ within s e
+      go true k = let z : _≡_ {A = ℕ} 0 1 = ap there (sym f ∙ r ∙ sym (yes NoPlace k refl)) in absurd (omega arith)
+      go false k = h ∙ low (leb 2 s) refl
+        where
+          low : (u : Bool) → leb 2 s ≡ u → eqb (e .bits) 0 ≡ (eqb (e .bits) 0 || (leb 2 s && leb s 9) && eqb (e .bits) (2 ^ s))
+          low true v = rw (v, sym (ap (λ (a : Bool). a && leb s 9) (le-leb 1 s (let w = leb-true 2 s v in omega arith))) ∙ k) (or-off (eqb (e .bits) 0))
+          low false v = rw v (or-off (eqb (e .bits) 0))
+
+pub ruleset within-laws = (within-there, within-nowhere)
+
+module _ (l : Bool) (s i : ℕ) (x : Conduct) where
+  do-by : (c : Conduct) (m : Bool) → x ≡ c → l ≡ m → doRule (standing m) s i c ≡ doRule (standing l) s i x
+  do-by c m h k = sym (ap (λ (w : Conduct). doRule (standing l) s i w) h ∙ ap (λ (b : Bool). doRule (standing b) s i c) k)
+
+  pub do-fault : (n j : ℕ) → x ≡ Fails n j → Fails n j ≡ doRule (standing l) s i x
+  unfolding doRule
+  do-fault n j h = do-by (Fails n j) l h refl
+
+  module _ (e : Effect) (a : Bool) (h : x ≡ Does e a) (w : Bool) (q : w ≡ within s e) where
+    pub do-effect : not w ≡ true → Fails 11 i ≡ doRule (standing l) s i x
+    unfolding doRule
+    do-effect n = yes _ (ap not (sym q) ∙ n) refl ∙ do-by (Does e a) l h refl
+
+    module _ (f : Effect) (z : f ≡ noEffect) (n : not w ≡ false) where
+      inside : not (within s e) ≡ false
+      inside = ap not (sym q) ∙ n
+
+      pub do-linked : l ≡ true → Does f a ≡ doRule (standing l) s i x
+      unfolding doRule
+      do-linked k = no (Fails 11 i) inside (no (Fails 12 i) refl (ap (λ (o : Effect). Does o a) z)) ∙ do-by (Does e a) true h k
+
+      pub do-elsewhere : l ≡ false → (o : ℕ) → o ≡ 1 → (s ≡ o → ⊥) → Does f a ≡ doRule (standing l) s i x
+      unfolding doRule
+      do-elsewhere k o y d = no (Fails 11 i) inside (no (Fails 12 i) (ne-eqb s 1 (λ v. d (v ∙ sym y))) (ap (λ (g : Effect). Does g a) z)) ∙ do-by (Does e a) false h k
+
+    pub do-twice : not w ≡ false → l ≡ false → (o : ℕ) → o ≡ 1 → s ≡ o → Fails 12 i ≡ doRule (standing l) s i x
+    unfolding doRule
+    do-twice n k o y d = no (Fails 11 i) (ap not (sym q) ∙ n) (yes (Does noEffect a) (eq-eqb s 1 (d ∙ y)) refl) ∙ do-by (Does e a) false h k
+
+pub ruleset do-laws = (do-fault, do-effect, do-linked, do-elsewhere, do-twice)
+
+-- ---- 16
+pub join-fault : (e : Effect) (x : Conduct) (n j : ℕ) → x ≡ Fails n j → Fails n j ≡ joinRule e x
+unfolding joinRule
+join-fault e x n j h = ap (joinRule e) (sym h)
+
+pub join-row : (e f g : Effect) (b : Bool) (x : Conduct) → x ≡ Does f b → g ≡ e ∪ f → Does g b ≡ joinRule e x
+unfolding joinRule
+join-row e f g b x h q = ap (λ (o : Effect). Does o b) q ∙ ap (joinRule e) (sym h)
+
+pub ruleset join-laws = (join-fault, join-row)
+
+-- ---- 17
+module _ (i t : ℕ) (e : Effect) (u : ℕ) (f : Effect) (x : Bool) (h : x ≡ isCell t) where
+  pub store-no-cell : not x ≡ true → Fails 9 i ≡ storeRule i (Typed t e) (Typed u f)
+  unfolding storeRule
+  store-no-cell n = no _ (rw (sym h ∙ not-true x n)) refl
+
+  pub store-apart : (c : ℕ) → not x ≡ false → c ≡ contentOf t → (u ≡ c → ⊥) → Fails 9 i ≡ storeRule i (Typed t e) (Typed u f)
+  unfolding storeRule
+  store-apart c n k d = no _ (rw (sym h ∙ not-false x n, ne-eqb u (contentOf t) (λ v. d (v ∙ sym k)))) refl
+
+  pub store-equal : (c o : ℕ) (g w : Effect) → not x ≡ false → c ≡ contentOf t → u ≡ c → o ≡ ownerOf t → g ≡ e ∪ f → w ≡ withOwner o g → Does w true ≡ storeRule i (Typed t e) (Typed u f)
+  unfolding storeRule
+  store-equal c o g w n k d q r z = yes (Fails 9 i) (rw (sym h ∙ not-false x n, eq-eqb u (contentOf t) (d ∙ k))) (ap (λ (v : Effect). Does v true) (z ∙ ap (λ (m : ℕ). withOwner m g) q ∙ ap (withOwner (ownerOf t)) r))
+
+pub ruleset store-typed-laws = (store-no-cell, store-apart, store-equal)
+
+module _ (i : ℕ) (x y : Typing) where
+  store-by : (a b : Typing) → x ≡ a → y ≡ b → storeRule i a b ≡ storeRule i x y
+  store-by a b h k = sym (ap (λ (w : Typing). storeRule i w y) h ∙ ap (storeRule i a) k)
+
+  pub store-fault : (n j : ℕ) → x ≡ Untyped n j → Fails n j ≡ storeRule i x y
+  unfolding storeRule
+  store-fault n j h = store-by (Untyped n j) y h refl
+
+  pub store-fault-2 : (t : ℕ) (e : Effect) (n j : ℕ) → x ≡ Typed t e → y ≡ Untyped n j → Fails n j ≡ storeRule i x y
+  unfolding storeRule
+  store-fault-2 t e n j h k = store-by (Typed t e) (Untyped n j) h k
+
+  pub store-row : (t : ℕ) (e : Effect) (u : ℕ) (f : Effect) (r : Conduct) → x ≡ Typed t e → y ≡ Typed u f → r ≡ storeRule i (Typed t e) (Typed u f) → r ≡ storeRule i x y
+  store-row t e u f r h k q = q ∙ store-by (Typed t e) (Typed u f) h k
+
+pub ruleset store-laws = (store-fault, store-fault-2, store-row)
+
+-- ---- 18
+module _ (i t : ℕ) (e f : Effect) (a : Bool) (g : Effect) (b : Bool) where
+  pub if-no-truth : (t ≡ 2 → ⊥) → Fails 9 i ≡ ifElseRule i (Typed t e) (Does f a) (Does g b)
+  unfolding ifElseRule
+  if-no-truth n = no _ (ne-eqb t 2 n) refl
+
+  pub if-first : (h k : Effect) → t ≡ 2 → h ≡ e ∪ f → k ≡ h ∪ g → a ≡ true → Does k true ≡ ifElseRule i (Typed t e) (Does f a) (Does g b)
+  unfolding ifElseRule
+  if-first h k n p q z = yes (Fails 9 i) (eq-eqb t 2 n) (ap (λ (o : Effect). Does o true) (q ∙ ap (λ (o : Effect). o ∪ g) p) ∙ ap (λ (c : Bool). Does (e ∪ f ∪ g) (c || b)) (sym z))
+
+  pub if-second : (h k : Effect) → t ≡ 2 → h ≡ e ∪ f → k ≡ h ∪ g → a ≡ false → Does k b ≡ ifElseRule i (Typed t e) (Does f a) (Does g b)
+  unfolding ifElseRule
+  if-second h k n p q z = yes (Fails 9 i) (eq-eqb t 2 n) (ap (λ (o : Effect). Does o b) (q ∙ ap (λ (o : Effect). o ∪ g) p) ∙ ap (λ (c : Bool). Does (e ∪ f ∪ g) (c || b)) (sym z))
+
+pub ruleset if-typed-laws = (if-no-truth, if-first, if-second)
+
+module _ (i : ℕ) (x : Typing) (y z : Conduct) where
+  if-by : (a : Typing) (b c : Conduct) → x ≡ a → y ≡ b → z ≡ c → ifElseRule i a b c ≡ ifElseRule i x y z
+  if-by a b c h k l = sym (ap (λ (w : Typing). ifElseRule i w y z) h ∙ ap (λ (w : Conduct). ifElseRule i a w z) k ∙ ap (ifElseRule i a b) l)
+
+  pub if-fault : (n j : ℕ) → x ≡ Untyped n j → Fails n j ≡ ifElseRule i x y z
+  unfolding ifElseRule
+  if-fault n j h = if-by (Untyped n j) y z h refl refl
+
+  pub if-fault-2 : (t : ℕ) (e : Effect) (n j : ℕ) → x ≡ Typed t e → y ≡ Fails n j → Fails n j ≡ ifElseRule i x y z
+  unfolding ifElseRule
+  if-fault-2 t e n j h k = if-by (Typed t e) (Fails n j) z h k refl
+
+  pub if-fault-3 : (t : ℕ) (e f : Effect) (a : Bool) (n j : ℕ) → x ≡ Typed t e → y ≡ Does f a → z ≡ Fails n j → Fails n j ≡ ifElseRule i x y z
+  unfolding ifElseRule
+  if-fault-3 t e f a n j h k l = if-by (Typed t e) (Does f a) (Fails n j) h k l
+
+  pub if-row : (t : ℕ) (e f : Effect) (a : Bool) (g : Effect) (b : Bool) (r : Conduct) → x ≡ Typed t e → y ≡ Does f a → z ≡ Does g b → r ≡ ifElseRule i (Typed t e) (Does f a) (Does g b) → r ≡ ifElseRule i x y z
+  if-row t e f a g b r h k l q = q ∙ if-by (Typed t e) (Does f a) (Does g b) h k l
+
+pub ruleset if-laws = (if-fault, if-fault-2, if-fault-3, if-row)
+
+-- ---- 19
+module _ (i t : ℕ) (e f : Effect) (b : Bool) where
+  pub while-no-truth : (t ≡ 2 → ⊥) → Fails 9 i ≡ whileRule i (Typed t e) (Does f b)
+  unfolding whileRule
+  while-no-truth n = yes _ (ap not (ne-eqb t 2 n)) refl
+
+  pub while-instant : t ≡ 2 → b ≡ true → Fails 13 i ≡ whileRule i (Typed t e) (Does f b)
+  unfolding whileRule
+  while-instant n k = no _ (ap not (eq-eqb t 2 n)) (yes _ k refl)
+
+  pub while-well : (g : Effect) → t ≡ 2 → b ≡ false → g ≡ e ∪ f → Does g true ≡ whileRule i (Typed t e) (Does f b)
+  unfolding whileRule
+  while-well g n k h = no _ (ap not (eq-eqb t 2 n)) (no _ k (ap (λ (o : Effect). Does o true) h))
+
+pub ruleset while-typed-laws = (while-no-truth, while-instant, while-well)
+
+module _ (i : ℕ) (x : Typing) (y : Conduct) where
+  while-by : (a : Typing) (b : Conduct) → x ≡ a → y ≡ b → whileRule i a b ≡ whileRule i x y
+  while-by a b h k = sym (ap (λ (w : Typing). whileRule i w y) h ∙ ap (whileRule i a) k)
+
+  pub while-fault : (n j : ℕ) → x ≡ Untyped n j → Fails n j ≡ whileRule i x y
+  unfolding whileRule
+  while-fault n j h = while-by (Untyped n j) y h refl
+
+  pub while-fault-2 : (t : ℕ) (e : Effect) (n j : ℕ) → x ≡ Typed t e → y ≡ Fails n j → Fails n j ≡ whileRule i x y
+  unfolding whileRule
+  while-fault-2 t e n j h k = while-by (Typed t e) (Fails n j) h k
+
+  pub while-row : (t : ℕ) (e f : Effect) (b : Bool) (r : Conduct) → x ≡ Typed t e → y ≡ Does f b → r ≡ whileRule i (Typed t e) (Does f b) → r ≡ whileRule i x y
+  while-row t e f b r h k q = q ∙ while-by (Typed t e) (Does f b) h k
+
+pub ruleset while-laws = (while-fault, while-fault-2, while-row)

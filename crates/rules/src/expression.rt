@@ -1,0 +1,132 @@
+// One function for each rule of expressions: what a node is found to be, from what its children were found to be.
+use crate::finding::Typing;
+use language::Place;
+use language::PlaceRead;
+use language::effect::Effect;
+use language::type_word::CellRead;
+use language::type_word::NUMBER;
+use language::type_word::TRUTH;
+use language::type_word::cell_type;
+use language::type_word::content_of;
+use language::type_word::is_cell;
+use language::type_word::is_public;
+use language::type_word::owner_of;
+ghost use mathlib.Core.Path.{_≡_};
+ghost use Prim.Native.Nat.{_≤_};
+ghost use Rattle.rules.specs.Checking.{namedRule, newRule, contentRule, numbersRule, chooseRule};
+ghost use Rattle.rules.specs.declared.finding.Typing.the-variants.{Typed};
+
+// 22 and 23: a variable or a shared cell, by its index in the types of those there are.
+pub fn named_rule(types: &[u16], s: u8, i: u16) -> Typing
+    ensures { λ r. ⌜ r ≡ namedRule (now (types .entry)) s i ⌝ }
+{
+    let at = s as usize;
+    if at < types.len() {
+        Typing::Typed(types[at], Effect::none())
+    } else {
+        Typing::Untyped(8, i)
+    }
+}
+
+// 24: an owner is a place, as the layout has it, since no other fits a type word.
+fn new_typed(s: u8, i: u16, t: u16, e: Effect) -> Typing
+    requires { ⌜ (1 ≤ s) × (s ≤ 9) ⌝ }
+    ensures { λ r. ⌜ r ≡ newRule s i (Typed t e) ⌝ }
+{
+    match Place::new(s) {
+        PlaceRead::NoPlace => Typing::Untyped(9, i),
+        PlaceRead::At(owner) => match cell_type(owner, t) {
+            CellRead::TooDeep => Typing::Untyped(9, i),
+            CellRead::Word(w) => {
+                if owner.is_private() {
+                    return Typing::Typed(w, e);
+                }
+                if is_public(t) {
+                    return Typing::Typed(w, e.with_owner(s));
+                }
+                Typing::Untyped(10, i)
+            }
+        },
+    }
+}
+
+pub fn new_rule(s: u8, i: u16, x: Typing) -> Typing
+    requires { ⌜ (1 ≤ s) × (s ≤ 9) ⌝ }
+    ensures { λ r. ⌜ r ≡ newRule s i x ⌝ }
+{
+    match x {
+        Typing::Untyped(n, j) => Typing::Untyped(n, j),
+        Typing::Typed(t, e) => new_typed(s, i, t, e),
+    }
+}
+
+// 25
+pub fn content_rule(i: u16, x: Typing) -> Typing
+    ensures { λ r. ⌜ r ≡ contentRule i x ⌝ }
+{
+    match x {
+        Typing::Untyped(n, j) => Typing::Untyped(n, j),
+        Typing::Typed(t, e) => {
+            if is_cell(t) {
+                return Typing::Typed(content_of(t), e.with_owner(owner_of(t)));
+            }
+            Typing::Untyped(9, i)
+        }
+    }
+}
+
+// 26 and 27: two numbers, and the type of what they make.
+fn numbers_typed(w: u16, i: u16, t: u16, e: Effect, u: u16, f: Effect) -> Typing
+    ensures { λ r. ⌜ r ≡ numbersRule w i (Typed t e) (Typed u f) ⌝ }
+{
+    if t != NUMBER {
+        return Typing::Untyped(9, i);
+    }
+    if u != NUMBER {
+        return Typing::Untyped(9, i);
+    }
+    Typing::Typed(w, e.joined(f))
+}
+
+pub fn numbers_rule(w: u16, i: u16, x: Typing, y: Typing) -> Typing
+    ensures { λ r. ⌜ r ≡ numbersRule w i x y ⌝ }
+{
+    match x {
+        Typing::Untyped(n, j) => Typing::Untyped(n, j),
+        Typing::Typed(t, e) => match y {
+            Typing::Untyped(n, j) => Typing::Untyped(n, j),
+            Typing::Typed(u, f) => numbers_typed(w, i, t, e, u, f),
+        },
+    }
+}
+
+// 28
+fn choose_typed(i: u16, t: u16, e: Effect, u: u16, f: Effect, v: u16, g: Effect) -> Typing
+    ensures { λ r. ⌜ r ≡ chooseRule i (Typed t e) (Typed u f) (Typed v g) ⌝ }
+{
+    if t != TRUTH {
+        return Typing::Untyped(9, i);
+    }
+    if u != NUMBER {
+        return Typing::Untyped(9, i);
+    }
+    if v != NUMBER {
+        return Typing::Untyped(9, i);
+    }
+    Typing::Typed(NUMBER, e.joined(f).joined(g))
+}
+
+pub fn choose_rule(i: u16, x: Typing, y: Typing, z: Typing) -> Typing
+    ensures { λ r. ⌜ r ≡ chooseRule i x y z ⌝ }
+{
+    match x {
+        Typing::Untyped(n, j) => Typing::Untyped(n, j),
+        Typing::Typed(t, e) => match y {
+            Typing::Untyped(n, j) => Typing::Untyped(n, j),
+            Typing::Typed(u, f) => match z {
+                Typing::Untyped(n, j) => Typing::Untyped(n, j),
+                Typing::Typed(v, g) => choose_typed(i, t, e, u, f, v, g),
+            },
+        },
+    }
+}
