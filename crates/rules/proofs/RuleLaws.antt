@@ -263,7 +263,7 @@ module _ (e : Effect) (s : ℕ) (p : PlaceRead) (r : p ≡ placeRead (isPlace s)
   number-of NoPlace = 0
 
   pub within-there : (q : Place) (b : Bool) → p ≡ At q → b ≡ within (q .number) e → b ≡ within s e
-  unfolding placeRead
+  unfolding placeRead there number-of
   within-there q b f h = h ∙ ap (λ (n : ℕ). within n e) (go (isPlace s) refl)
     where
       go : (t : Bool) → isPlace s ≡ t → q .number ≡ s
@@ -271,7 +271,7 @@ module _ (e : Effect) (s : ℕ) (p : PlaceRead) (r : p ≡ placeRead (isPlace s)
       go false k = let z : _≡_ {A = ℕ} 1 0 = ap there (sym f ∙ r ∙ sym (no (At (record { number = s })) k refl)) in absurd (omega arith)
 
   pub within-nowhere : (b : Bool) → p ≡ NoPlace → b ≡ eqb (e .bits) 0 → b ≡ within s e
-  unfolding placeRead within
+  unfolding placeRead within there
   within-nowhere b f h = go (isPlace s) refl
     where
       go : (t : Bool) → isPlace s ≡ t → b ≡ within s e

@@ -33,7 +33,12 @@ pub fn seq_rule(x: Conduct, y: Conduct) -> Conduct
         Conduct::Fails(n, j) => Conduct::Fails(n, j),
         Conduct::Does(e, a) => match y {
             Conduct::Fails(n, j) => Conduct::Fails(n, j),
-            Conduct::Does(f, b) => Conduct::Does(e.joined(f), a && b),
+            Conduct::Does(f, b) => {
+                if a {
+                    return Conduct::Does(e.joined(f), b);
+                }
+                Conduct::Does(e.joined(f), false)
+            }
         },
     }
 }
@@ -111,7 +116,10 @@ fn if_typed(i: u16, t: u16, e: Effect, f: Effect, a: bool, g: Effect, b: bool) -
     if t != TRUTH {
         return Conduct::Fails(9, i);
     }
-    Conduct::Does(e.joined(f).joined(g), a || b)
+    if a {
+        return Conduct::Does(e.joined(f).joined(g), true);
+    }
+    Conduct::Does(e.joined(f).joined(g), b)
 }
 
 pub fn if_else_rule(i: u16, x: Typing, y: Conduct, z: Conduct) -> Conduct

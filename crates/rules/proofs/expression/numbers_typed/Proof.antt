@@ -1,0 +1,20 @@
+-- `numbers_typed` meets its contract. Assumes nothing.
+use borrow.Author.Needs.{needs}
+use Rattle.rules.proofs.RuleLaws.{numbers-typed-laws}
+use Rattle.rules.proofs.expression.numbers_typed.Statement.{statement}
+use Rattle.rules.proofs.expression.numbers_typed.Tie as tie
+
+returns : tie.Need-returns
+returns c = search numbers-typed-laws
+
+returns-2 : tie.Need-returns-2
+returns-2 c = search numbers-typed-laws
+
+joined-requires : tie.Need-joined-requires
+joined-requires c κs = search needs
+
+returns-3 : tie.Need-returns-3
+returns-3 c = search numbers-typed-laws
+
+pub numbers-typed-spec : {M : Type 1} → statement M
+numbers-typed-spec = tie.close (tie.spec returns returns-2 joined-requires returns-3)
