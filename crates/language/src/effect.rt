@@ -16,6 +16,19 @@ impl Effect {
         Self { bits: 0 }
     }
 
+    // The set as a number, and back: for an effect kept in a word.
+    pub fn number(self) -> u16
+        ensures { λ r. ⌜ r ≡ self .bits ⌝ }
+    {
+        self.bits
+    }
+
+    pub fn from_number(bits: u16) -> Self
+        ensures { λ r. ⌜ r ≡ record { bits = bits } ⌝ }
+    {
+        Self { bits }
+    }
+
     pub fn is_empty(self) -> bool
         ensures { λ r. ⌜ r ≡ eqb (self .bits) 0 ⌝ }
     {

@@ -8,3 +8,4 @@ pub mod FirstStatements
 pub mod Modules
 pub mod Whole
 pub mod RuleLaws
+pub mod StartLaws

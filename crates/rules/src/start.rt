@@ -1,0 +1,147 @@
+// Starting a module, 13 and 14: the arguments, and what is known of the modules below.
+use crate::finding::Conduct;
+use crate::finding::Typing;
+use language::effect::Effect;
+use language::type_word::is_public;
+ghost use mathlib.Core.Path.{_≡_};
+ghost use mathlib.Core.List.{[], _∷_, map};
+ghost use Prim.Native.Nat.{_≤_};
+ghost use lib.ListN.{take};
+ghost use Rattle.basics.specs.Searches.{every, sameNumbers};
+ghost use Rattle.language.specs.Types.{public};
+ghost use Rattle.rules.specs.Checking.{Argued, argue, startRule};
+ghost use Rattle.rules.specs.Standings.{standing};
+ghost use Rattle.rules.specs.Signatures.{arguedOf, signatureOf, signatureWith, noArguments};
+
+// What the arguments of a start are found to be: their types and their effect, or the first fault in them.
+pub enum Arguments {
+    Nothing,
+    One(u16, Effect),
+    Two(u16, u16, Effect),
+    Fault(u8, u16),
+}
+
+pub fn one_argument(x: Typing) -> Arguments
+    ensures { λ r. ⌜ arguedOf r ≡ argue x noArguments ⌝ }
+{
+    match x {
+        Typing::Untyped(n, j) => Arguments::Fault(n, j),
+        Typing::Typed(t, e) => Arguments::One(t, e.joined(Effect::none())),
+    }
+}
+
+pub fn two_arguments(x: Typing, y: Typing) -> Arguments
+    ensures { λ r. ⌜ arguedOf r ≡ argue x (argue y noArguments) ⌝ }
+{
+    match x {
+        Typing::Untyped(n, j) => Arguments::Fault(n, j),
+        Typing::Typed(t, e) => match y {
+            Typing::Untyped(n, j) => Arguments::Fault(n, j),
+            Typing::Typed(u, f) => Arguments::Two(t, u, e.joined(f.joined(Effect::none()))),
+        },
+    }
+}
+
+// What is known of a module, in one word: 16 bits for each of two types, 16 for the effect, and how many parameters.
+pub fn signature_word(count: u8, first: u16, second: u16, effect: Effect) -> u64
+    requires { ⌜ count ≤ 2 ⌝ }
+    ensures { λ r. ⌜ signatureOf r ≡ signatureWith count first second effect ⌝ }
+{
+    let low = (second as u64) * 0x0001_0000 + (first as u64);
+    let high = (count as u64) * 0x0001_0000 + (effect.number() as u64);
+    high * 0x0001_0000_0000 + low
+}
+
+// Whether the first n of two types are the types of a module's parameters.
+fn same_types(n: u8, t: u16, u: u16, w: u64) -> bool
+    requires { ⌜ n ≤ 2 ⌝ }
+    ensures { λ r. ⌜ r ≡ sameNumbers (take n (t ∷ u ∷ [])) (signatureOf w .types) ⌝ }
+{
+    let m = (w / 0x0001_0000_0000_0000 % 3) as u8;
+    if n != m {
+        return false;
+    }
+    if n == 0 {
+        return true;
+    }
+    if t != (w % 0x0001_0000) as u16 {
+        return false;
+    }
+    if n == 1 {
+        return true;
+    }
+    u == (w / 0x0001_0000 % 0x0001_0000) as u16
+}
+
+// Whether the first n of two types are public.
+fn all_public(n: u8, t: u16, u: u16) -> bool
+    requires { ⌜ n ≤ 2 ⌝ }
+    ensures { λ r. ⌜ r ≡ every public (take n (t ∷ u ∷ [])) ⌝ }
+{
+    if n == 0 {
+        return true;
+    }
+    if !is_public(t) {
+        return false;
+    }
+    if n == 1 {
+        return true;
+    }
+    is_public(u)
+}
+
+fn signature_effect(w: u64) -> Effect
+    ensures { λ r. ⌜ r ≡ signatureOf w .effect ⌝ }
+{
+    Effect::from_number((w / 0x0001_0000_0000 % 0x0001_0000) as u16)
+}
+
+// A start with the first n of two types.
+fn start_typed(
+    once: bool,
+    below: &[u64],
+    linked: bool,
+    s: u8,
+    i: u16,
+    n: u8,
+    t: u16,
+    u: u16,
+    e: Effect,
+) -> Conduct
+    requires { ⌜ n ≤ 2 ⌝ }
+    ensures { λ r. ⌜ r ≡ startRule once (map signatureOf (now (below .entry))) (standing linked) s i (Argued.have (take n (t ∷ u ∷ [])) e) ⌝ }
+{
+    let at = s as usize;
+    if below.len() <= at {
+        return Conduct::Fails(8, i);
+    }
+    let w = below[at];
+    if !same_types(n, t, u, w) {
+        return Conduct::Fails(9, i);
+    }
+    if !all_public(n, t, u) {
+        return Conduct::Fails(10, i);
+    }
+    if linked {
+        return Conduct::Does(e.joined(signature_effect(w)), once);
+    }
+    Conduct::Fails(12, i)
+}
+
+pub fn start_rule(
+    once: bool,
+    below: &[u64],
+    linked: bool,
+    s: u8,
+    i: u16,
+    args: Arguments,
+) -> Conduct
+    ensures { λ r. ⌜ r ≡ startRule once (map signatureOf (now (below .entry))) (standing linked) s i (arguedOf args) ⌝ }
+{
+    match args {
+        Arguments::Fault(n, j) => Conduct::Fails(n, j),
+        Arguments::Nothing => start_typed(once, below, linked, s, i, 0, 0, 0, Effect::none()),
+        Arguments::One(t, e) => start_typed(once, below, linked, s, i, 1, t, 0, e),
+        Arguments::Two(t, u, e) => start_typed(once, below, linked, s, i, 2, t, u, e),
+    }
+}
