@@ -9,3 +9,4 @@ pub mod Modules
 pub mod Whole
 pub mod RuleLaws
 pub mod StartLaws
+pub mod NodeLaws

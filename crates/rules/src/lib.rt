@@ -1,5 +1,7 @@
 // The rules of types, effects and cooperation, refusals 8 to 13.
 pub mod expression;
 pub mod finding;
+pub mod node;
 pub mod start;
 pub mod statement;
+pub mod typing;

@@ -1,0 +1,54 @@
+// The types of expressions: the recursion over a frame's children.
+use crate::expression::choose_rule;
+use crate::expression::content_rule;
+use crate::expression::named_rule;
+use crate::expression::new_rule;
+use crate::expression::numbers_rule;
+use crate::finding::Typing;
+use crate::node::ExpressionNode;
+use crate::node::expression_node;
+use language::effect::Effect;
+use language::type_word::NUMBER;
+use language::type_word::TRUTH;
+use text::line::frame_of_word;
+ghost use mathlib.Core.Path.{_≡_};
+ghost use Rattle.text.specs.Frames.{framesOf};
+ghost use Rattle.program.specs.Trees.{expressionAt};
+ghost use Rattle.rules.specs.Checking.{typeIn};
+ghost use Rattle.rules.specs.Frames.{FrameIn};
+
+// What the expression at frame i is found to be, where the shared cells have the types `cells` and the variables the
+// types `scope`. The frames are laid out, so that a child's number is below its parent's and the recursion ends.
+pub fn type_of(frames: &[u64], cells: &[u16], scope: &[u16], i: usize) -> Typing
+    requires { ⌜ FrameIn (now frames) i ⌝ }
+    ensures { λ r. ⌜ r ≡ typeIn (now (cells .entry)) (now (scope .entry)) (expressionAt (framesOf (now (frames .entry))) i) ⌝ }
+{
+    let at = i as u16;
+    let node = expression_node(frame_of_word(frames[i]));
+    match node {
+        ExpressionNode::Number => Typing::Typed(NUMBER, Effect::none()),
+        ExpressionNode::Truth => Typing::Typed(TRUTH, Effect::none()),
+        ExpressionNode::Variable(s) => named_rule(scope, s, at),
+        ExpressionNode::SharedCell(s) => named_rule(cells, s, at),
+        ExpressionNode::NewCell(s, a) => new_rule(s, at, type_of(frames, cells, scope, a as usize)),
+        ExpressionNode::Content(a) => content_rule(at, type_of(frames, cells, scope, a as usize)),
+        ExpressionNode::Sum(a, b) => numbers_rule(
+            NUMBER,
+            at,
+            type_of(frames, cells, scope, a as usize),
+            type_of(frames, cells, scope, b as usize),
+        ),
+        ExpressionNode::Less(a, b) => numbers_rule(
+            TRUTH,
+            at,
+            type_of(frames, cells, scope, a as usize),
+            type_of(frames, cells, scope, b as usize),
+        ),
+        ExpressionNode::Choose(a, b, c) => choose_rule(
+            at,
+            type_of(frames, cells, scope, a as usize),
+            type_of(frames, cells, scope, b as usize),
+            type_of(frames, cells, scope, c as usize),
+        ),
+    }
+}
