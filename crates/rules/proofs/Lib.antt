@@ -10,3 +10,4 @@ pub mod Whole
 pub mod RuleLaws
 pub mod StartLaws
 pub mod NodeLaws
+pub mod StatementLaws

@@ -57,7 +57,7 @@ default [] i d e h = absurd (omega arith)
 default (x ∷ l) zero d e h = refl
 default (x ∷ l) (suc i) d e h = default l i d e (omega arith)
 
-frame-word : (ws : List ℕ) (i : ℕ) → i < length ws → frameAt (framesOf ws) i ≡ frameOfWord (getD ws i 0)
+pub frame-word : (ws : List ℕ) (i : ℕ) → i < length ws → frameAt (framesOf ws) i ≡ frameOfWord (getD ws i 0)
 frame-word ws i h = default (framesOf ws) i noFrame (frameOfWord 0) (rw length-map h) ∙ List·getD-map frameOfWord ws i 0
 
 -- ---- expressions: what is found, from the node and what is found of the children
@@ -98,7 +98,7 @@ module _ (cells Γ : List ℕ) (rec : ℕ → Expr) (i : ℕ) (f : Frame) where
 abbrev pub TypeAt : List ℕ → List ℕ → List ℕ → ℕ → Typing
 TypeAt cells Γ ws i = typeIn cells Γ (expressionAt (framesOf ws) i)
 
-ordered : (ws : List ℕ) (i : ℕ) → FrameIn ws i → Ordered (framesOf ws)
+pub ordered : (ws : List ℕ) (i : ℕ) → FrameIn ws i → Ordered (framesOf ws)
 ordered ws i g = is-ordered (framesOf ws) (λ k x. g .laid-out 6 k x)
 
 -- the node that the code has at frame i
@@ -200,10 +200,10 @@ node-below ws i n g =
 child-below : (ws : List ℕ) (i : ℕ) (f : Frame) (n v : ExpressionNode) → n ≡ v → n ≡ expressionNode f → f ≡ frameOfWord (getD ws i 0) → FrameIn ws i → Below i v
 child-below ws i f n v h k e g = subst (Below i) h (node-below ws i n (node-at ws i f n g e k))
 
-falls-to : (i t a : ℕ) → i ≡ t → a < i → a < t
+pub falls-to : (i t a : ℕ) → i ≡ t → a < i → a < t
 falls-to i t a e h = subst (λ (m : ℕ). a < m) e h
 
-child-in : (ws : List ℕ) (i a : ℕ) → FrameIn ws i → a < i → FrameIn ws a
+pub child-in : (ws : List ℕ) (i a : ℕ) → FrameIn ws i → a < i → FrameIn ws a
 child-in ws i a g h = record { laid-out = g .laid-out; there = let t = g .there in omega arith; few = g .few }
 
 module _ (ws : List ℕ) (i : ℕ) (f : Frame) (n : ExpressionNode) where

@@ -1,4 +1,5 @@
 // The rules of types, effects and cooperation, refusals 8 to 13.
+pub mod conduct;
 pub mod expression;
 pub mod finding;
 pub mod node;

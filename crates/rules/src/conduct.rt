@@ -1,0 +1,165 @@
+// Effects and cooperation of statements: the recursion over a frame's children.
+use crate::finding::Conduct;
+use crate::finding::Typing;
+use crate::node::StatementNode;
+use crate::node::statement_node;
+use crate::start::Arguments;
+use crate::start::one_argument;
+use crate::start::start_rule;
+use crate::start::two_arguments;
+use crate::statement::cooperate_rule;
+use crate::statement::do_rule;
+use crate::statement::if_else_rule;
+use crate::statement::join_rule;
+use crate::statement::seq_rule;
+use crate::statement::store_rule;
+use crate::statement::while_rule;
+use crate::typing::type_of;
+use language::Place;
+use language::effect::Effect;
+use text::line::frame_of_word;
+ghost use mathlib.Core.Path.{_≡_};
+ghost use mathlib.Core.List.{map};
+ghost use Prim.Native.Nat.{_<_, _≤_};
+ghost use lib.ListN.{take, set};
+ghost use Rattle.language.specs.Places.{standingAt};
+ghost use Rattle.text.specs.Frames.{framesOf};
+ghost use Rattle.program.specs.Trees.{expressionAt, arguments, statementAt};
+ghost use Rattle.layout.specs.Scope.{Room};
+ghost use Rattle.rules.specs.Checking.{typeIn, typesIn, runIn};
+ghost use Rattle.rules.specs.Standings.{standing};
+ghost use Rattle.rules.specs.Signatures.{arguedOf, signatureOf};
+ghost use Rattle.rules.specs.Frames.{FrameIn};
+
+// The variables in scope are the first n of an array; a laid-out file has at most 25.
+fn type_in(frames: &[u64], cells: &[u16], scope: [u16; 25], n: usize, i: usize) -> Typing
+    requires { ⌜ FrameIn (now frames) i × (n ≤ 25) ⌝ }
+    ensures { λ r. ⌜ r ≡ typeIn (now (cells .entry)) (take n scope) (expressionAt (framesOf (now (frames .entry))) i) ⌝ }
+{
+    type_of(frames, cells, &scope[..n], i)
+}
+
+// With one variable more.
+fn extended(scope: [u16; 25], n: usize, t: u16) -> [u16; 25]
+    requires { ⌜ n < 25 ⌝ }
+    ensures { λ r. ⌜ r ≡ set scope n t ⌝ }
+{
+    let mut inner = scope;
+    inner[n] = t;
+    inner
+}
+
+// Whether a thread at that place is linked to a scheduler.
+fn is_linked(s: u8) -> bool
+    ensures { λ r. ⌜ standing r ≡ standingAt s ⌝ }
+{
+    if s == Place::PRIVATE.number() {
+        return false;
+    }
+    true
+}
+
+// The arguments of a start at frame i: a 0 is none.
+fn arguments_of(
+    frames: &[u64],
+    cells: &[u16],
+    scope: [u16; 25],
+    n: usize,
+    i: usize,
+    a: u16,
+    b: u16,
+) -> Arguments
+    requires { ⌜ FrameIn (now frames) i × (n ≤ 25) × ((a ≡ 0 → ⊥) → a < i) × ((a ≡ 0 → ⊥) → (b ≡ 0 → ⊥) → b < i) ⌝ }
+    ensures { λ r. ⌜ arguedOf r ≡ typesIn (now (cells .entry)) (take n scope) (arguments (expressionAt (framesOf (now (frames .entry)))) a b) ⌝ }
+{
+    if a == 0 {
+        return Arguments::Nothing;
+    }
+    if b == 0 {
+        return one_argument(type_in(frames, cells, scope, n, a as usize));
+    }
+    two_arguments(
+        type_in(frames, cells, scope, n, a as usize),
+        type_in(frames, cells, scope, n, b as usize),
+    )
+}
+
+// What the statement at frame i is found to be: with the types `cells` of the shared cells, the signatures `below` of the
+// modules before its own, the first n of `scope` as the types of the variables, and `linked` where it stands at a scheduler.
+// The frames are laid out, so that a child's number is below its parent's and 25 variables are room enough.
+pub fn conduct_of(
+    frames: &[u64],
+    cells: &[u16],
+    below: &[u64],
+    scope: [u16; 25],
+    n: usize,
+    linked: bool,
+    i: usize,
+) -> Conduct
+    requires { ⌜ FrameIn (now frames) i × Room (framesOf (now frames)) i n ⌝ }
+    ensures { λ r. ⌜ r ≡ runIn (now (cells .entry)) (map signatureOf (now (below .entry))) (take n scope) (standing linked) (statementAt (framesOf (now (frames .entry))) i) ⌝ }
+{
+    let at = i as u16;
+    let node = statement_node(frame_of_word(frames[i]));
+    match node {
+        StatementNode::Nothing => Conduct::Does(Effect::none(), true),
+        StatementNode::Cooperate => cooperate_rule(linked, at),
+        StatementNode::Seq(a, b) => seq_rule(
+            conduct_of(frames, cells, below, scope, n, linked, a as usize),
+            conduct_of(frames, cells, below, scope, n, linked, b as usize),
+        ),
+        StatementNode::DoAt(s, a) => do_rule(
+            linked,
+            s,
+            at,
+            conduct_of(frames, cells, below, scope, n, is_linked(s), a as usize),
+        ),
+        StatementNode::Start(s, a, b) => start_rule(
+            true,
+            below,
+            linked,
+            s,
+            at,
+            arguments_of(frames, cells, scope, n, i, a, b),
+        ),
+        StatementNode::StartWait(s, a, b) => start_rule(
+            false,
+            below,
+            linked,
+            s,
+            at,
+            arguments_of(frames, cells, scope, n, i, a, b),
+        ),
+        StatementNode::LetIn(a, b) => match type_in(frames, cells, scope, n, a as usize) {
+            Typing::Untyped(m, j) => Conduct::Fails(m, j),
+            Typing::Typed(t, e) => join_rule(
+                e,
+                conduct_of(
+                    frames,
+                    cells,
+                    below,
+                    extended(scope, n, t),
+                    n + 1,
+                    linked,
+                    b as usize,
+                ),
+            ),
+        },
+        StatementNode::Store(a, b) => store_rule(
+            at,
+            type_in(frames, cells, scope, n, a as usize),
+            type_in(frames, cells, scope, n, b as usize),
+        ),
+        StatementNode::IfElse(a, b, c) => if_else_rule(
+            at,
+            type_in(frames, cells, scope, n, a as usize),
+            conduct_of(frames, cells, below, scope, n, linked, b as usize),
+            conduct_of(frames, cells, below, scope, n, linked, c as usize),
+        ),
+        StatementNode::While(a, b) => while_rule(
+            at,
+            type_in(frames, cells, scope, n, a as usize),
+            conduct_of(frames, cells, below, scope, n, linked, b as usize),
+        ),
+    }
+}
