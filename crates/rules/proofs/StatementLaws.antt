@@ -278,13 +278,13 @@ deep fs clean j d h = not-over (decLt 24 d)
     not-over (no o) = omega (arith, o)
 
 pub room-fits : (ws : List ℕ) (i n : ℕ) → FrameIn ws i → Room (framesOf ws) i n → n ≤ 25
-room-fits ws i n g r = let d = deep (framesOf ws) (g .laid-out) i (r .depth) (r .stands) in let s = r .scope in omega arith
+room-fits ws i n g r = let d = deep (framesOf ws) (g .laid-out) i (r .depth) (r .stands) in let s = r .enough in omega arith
 
 room-child : (fs : List Frame) (i n : ℕ) (c : Child) → Room fs i n → In c (children (frameAt fs i)) → Room fs (c .at) (suc n)
-room-child fs i n c r h = record { depth = suc (r .depth); stands = Depth.child (r .stands) h; scope = let s = r .scope in omega arith }
+room-child fs i n c r h = record { depth = suc (r .depth); stands = Depth.child (r .stands) h; enough = let s = r .enough in omega arith }
 
 room-less : (fs : List Frame) (i n : ℕ) → Room fs i (suc n) → Room fs i n
-room-less fs i n r = record { depth = r .depth; stands = r .stands; scope = let s = r .scope in omega arith }
+room-less fs i n r = record { depth = r .depth; stands = r .stands; enough = let s = r .enough in omega arith }
 
 module _ (ws : List ℕ) (i : ℕ) (f : Frame) (n : StatementNode) where
   pub seq-a-in : (a b : ℕ) → n ≡ Y.Seq a b → n ≡ statementNode f → f ≡ frameOfWord (getD ws i 0) → FrameIn ws i → FrameIn ws a
