@@ -249,7 +249,7 @@ fn with_module(t: Tally) -> Tally
 }
 
 // With frame i, which has no fault 5.
-fn counted(words: &[u64], i: usize, t: Tally) -> Tally
+pub fn counted(words: &[u64], i: usize, t: Tally) -> Tally
     requires { ⌜ (i < length (now words)) × (schedulersOf (framesOf (now words)) ≤ 8) × (t ≡ tallyOf (take i (framesOf (now words)))) × (frameFine (framesOf (now words)) i (frameAt (framesOf (now words)) i) ≡ true) ⌝ }
     ensures { λ r. ⌜ r ≡ tallyOf (take (i + 1) (framesOf (now (words .entry)))) ⌝ }
 {

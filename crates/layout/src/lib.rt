@@ -15,9 +15,9 @@ ghost use Rattle.layout.specs.Scans.{layoutOf};
 ghost use Rattle.layout.specs.LaidOut.{layoutVerdict, laidOut};
 
 mod depth;
-mod fields;
+pub mod fields;
 mod found;
-mod frames;
+pub mod frames;
 mod in_order;
 
 // What the check of the layout answers, where `Accepted` means that the text passes refusals 1 to 7; how many lines were read; and these lines as numbers.

@@ -11,3 +11,5 @@ pub mod RuleLaws
 pub mod StartLaws
 pub mod NodeLaws
 pub mod StatementLaws
+pub mod ModuleLaws
+pub mod CheckLaws

@@ -271,13 +271,13 @@ module _ (fs : List Frame) (clean : NoFault fs) where
   is-true true h = refl
   is-true false h = absurd (h refl)
 
-  header-fine : headerFine (frameAt fs 0) ≡ true
+  pub header-fine : headerFine (frameAt fs 0) ≡ true
   header-fine = is-true _ (λ e. clean 4 0 (Fault.header e))
 
-  frame-fine : (i : ℕ) → i < length fs → frameFine fs i (frameAt fs i) ≡ true
+  pub frame-fine : (i : ℕ) → i < length fs → frameFine fs i (frameAt fs i) ≡ true
   frame-fine i h = is-true _ (λ e. clean 5 i (Fault.field h e))
 
-  few-schedulers : schedulersOf fs ≤ 8
+  pub few-schedulers : schedulersOf fs ≤ 8
   unfolding headerFine
   few-schedulers =
       let f = frameAt fs 0 in

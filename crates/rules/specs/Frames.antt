@@ -10,3 +10,9 @@ pub record FrameIn (words : List ℕ) (i : ℕ) : Type 0 where
   pub laid-out : NoFault (framesOf words)
   pub there : i < length words
   pub few : length words ≤ 1024
+
+-- the words are the frames of such a file, of which there is at least one
+pub record FileIn (words : List ℕ) : Type 0 where
+  pub laid-out : NoFault (framesOf words)
+  pub some : 0 < length words
+  pub few : length words ≤ 1024

@@ -6,4 +6,5 @@ pub mod Standings
 pub mod Signatures
 pub mod Nodes
 pub mod Frames
+pub mod Modules
 pub mod Verdict

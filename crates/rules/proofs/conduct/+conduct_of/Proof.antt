@@ -1,3 +1,4 @@
+-- The recursion meets its contract: one law for each arm, and a child's number falls. Assumes nothing.
 use mathlib.Core.Path.{_≡_}
 use lib.ListN.{length}
 use borrow.Author.Needs.{needs}

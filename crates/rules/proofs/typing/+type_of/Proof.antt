@@ -1,3 +1,4 @@
+-- The recursion meets its contract: one law for each arm, and a child's number falls. Assumes nothing.
 use borrow.Author.Needs.{needs}
 use Rattle.rules.proofs.NodeLaws.{type-laws, node-at, falls-laws, child-laws, owner-low, owner-high}
 use Prim.Native.Nat.{ℕ, _<_}

@@ -1,0 +1,277 @@
+-- The loops over the frames and the modules of a laid-out file. Assumes nothing.
+use mathlib.Core.Path.{_≡_, refl, sym, ap, ap₂, subst, _∙_}
+use mathlib.Core.Bool.{Bool, true, false, _&&_, true≢false}
+use mathlib.Core.List.{List, [], _∷_, _++_, map, map-append}
+use Prim.Native.Nat.{ℕ, zero, suc, _+_, _-_, _^_, _≤_, _<_}
+use native.Mathlib.Numerals.{add-one}
+use native.Mathlib.Omega.{arith}
+use lib.Dec.{ltb, leb}
+use lib.ListN.{length, getD, take, drop, set, replicate, length-map, length-set, length-take, drop-of-length-le}
+use lib.Seq.{drop-cons, take-all, take-suc, take-suc-set}
+use borrow.Author.Tests.{ltb-true, leb-true}
+use Rattle.basics.specs.If.{if_then_else_}
+use Rattle.basics.specs.Members.{In, first}
+use Rattle.basics.proofs.Ifs.{yes, no, and-true}
+use Rattle.language.specs.Places.{home, linked}
+use Rattle.language.specs.Kinds.{uses, Child, child, childIn, children}
+use Rattle.language.specs.Effects.{within}
+use Rattle.language.specs.declared.effect.Effect.{Effect}
+use Rattle.language.specs.declared.verdict.Verdict.{Verdict}
+use Rattle.language.specs.declared.verdict.Verdict.the-variants.{Accepted, Rejected}
+use Rattle.language.specs.declared.kind.Class.{Class}
+use Rattle.language.specs.declared.kind.Kind.{Kind}
+use Rattle.language.specs.declared.kind.Kind.the-variants.{Header, Shared, Module, Statement, Expression, Unknown}
+use Rattle.language.specs.declared.frame.Frame.{Frame}
+use Rattle.text.specs.Frames.{frameOfWord, framesOf}
+use Rattle.program.specs.Trees.{noFrame, frameAt, statementAt}
+use Rattle.program.specs.Programs.{Part, partOf, withPart, modulesFrom, sharedOf}
+use Rattle.layout.specs.Fields.{isModule, countOf, schedulersOf, kindFine, fieldFine, frameFine}
+use Rattle.layout.specs.Faults.{NoFault}
+use Rattle.layout.specs.Scope.{Room}
+use Rattle.layout.specs.Passes.{tallyOf}
+use Rattle.layout.specs.declared.fields.Tally.{Tally}
+use Rattle.layout.proofs.Scopes.{in-a, room-body, no-fault-ordered, child-below, main-last}
+use Rattle.layout.proofs.Tallies.{counted-one, counted-none}
+use Rattle.layout.proofs.Trees.{is-module}
+use Rattle.rules.specs.Rules.{Signature, signature}
+use Rattle.rules.specs.Checking.{runIn, mainRule, afterModule, modulesIn}
+use Rattle.rules.specs.Signatures.{signatureOf, signatureWith}
+use Rattle.rules.specs.Frames.{FrameIn, FileIn}
+use Rattle.rules.specs.Modules.{NextModule}
+use Rattle.rules.specs.declared.finding.Conduct.{Conduct}
+use Rattle.rules.specs.declared.finding.Conduct.the-variants.{Does, Fails}
+use Rattle.rules.proofs.NodeLaws.{frame-word, frame-fine, few-schedulers}
+
+-- ---- 'main has an effect within {2}'
+pub main-within : (i : ℕ) (e : Effect) (x : Bool) → x ≡ within 2 e → x ≡ true → Accepted ≡ mainRule i e
+main-within i e x h k = yes (Rejected 11 i) (sym h ∙ k) refl
+
+pub main-outside : (i : ℕ) (e : Effect) (x : Bool) → x ≡ within 2 e → x ≡ false → Rejected 11 i ≡ mainRule i e
+main-outside i e x h k = no Accepted (sym h ∙ k) refl
+
+pub ruleset main-laws = (main-within, main-outside)
+
+-- ---- the tally
+abbrev pub Tallied : List ℕ → Tally → ℕ → Type 0
+Tallied ws t i = (i ≤ length ws) × (t ≡ tallyOf (take i (framesOf ws)))
+
+pub tally-start : (ws : List ℕ) → record { cells = 0; modules = 0; types = replicate 16 0 } ≡ tallyOf (take 0 (framesOf ws))
+unfolding tallyOf countOf sharedOf
+tally-start ws = refl
+
+pub file-schedulers : (ws : List ℕ) → FileIn ws → schedulersOf (framesOf ws) ≤ 8
+file-schedulers ws g = few-schedulers (framesOf ws) (g .laid-out)
+
+pub file-fine : (ws : List ℕ) (i : ℕ) → FileIn ws → i < length ws → frameFine (framesOf ws) i (frameAt (framesOf ws) i) ≡ true
+file-fine ws i g h = frame-fine (framesOf ws) (g .laid-out) i (rw length-map h)
+
+pub tally-end : (ws : List ℕ) (t : Tally) (i : ℕ) → Tallied ws t i → length ws ≤ i → t ≡ tallyOf (framesOf ws)
+tally-end ws t i g h = g .1 ∙ ap tallyOf (take-all i (framesOf ws) (rw length-map h))
+
+-- ---- the next module
+module _ (fs : List Frame) where
+  from : (k : ℕ) → k < length fs → modulesFrom fs k (drop k fs) ≡ withPart fs k (frameAt fs k) (frameAt fs k .kind) (modulesFrom fs (suc k) (drop (suc k) fs))
+  unfolding modulesFrom
+  from k h = ap (modulesFrom fs k) (drop-cons fs k noFrame h)
+
+  no-part : (k : ℕ) (f : Frame) (q : Kind) (ps : List Part) → isModule q ≡ false → withPart fs k f q ps ≡ ps
+  no-part k f Header ps h = refl
+  no-part k f Shared ps h = refl
+  no-part k f Module ps h = absurd (true≢false h)
+  no-part k f (Statement s) ps h = refl
+  no-part k f (Expression s) ps h = refl
+  no-part k f Unknown ps h = refl
+
+  pub part-at : (k : ℕ) → k < length fs → frameAt fs k .kind ≡ Module → modulesFrom fs k (drop k fs) ≡ partOf fs k (frameAt fs k) ∷ modulesFrom fs (suc k) (drop (suc k) fs)
+  part-at k h e = from k h ∙ ap (λ (q : Kind). withPart fs k (frameAt fs k) q (modulesFrom fs (suc k) (drop (suc k) fs))) e
+
+  skip : (k : ℕ) → k < length fs → isModule (frameAt fs k .kind) ≡ false → modulesFrom fs k (drop k fs) ≡ modulesFrom fs (suc k) (drop (suc k) fs)
+  skip k h e = from k h ∙ no-part k (frameAt fs k) (frameAt fs k .kind) (modulesFrom fs (suc k) (drop (suc k) fs)) e
+
+-- k is at or behind i, and no module stands between
+pub record Seeking (ws : List ℕ) (i k : ℕ) : Type 0 where
+  pub onward : i ≤ k
+  pub there : k < length ws
+  pub same : modulesFrom (framesOf ws) i (drop i (framesOf ws)) ≡ modulesFrom (framesOf ws) k (drop k (framesOf ws))
+  pub count : countOf isModule (take i (framesOf ws)) ≡ countOf isModule (take k (framesOf ws))
+
+pub seek-start : (ws : List ℕ) (i : ℕ) → FrameIn ws i → Seeking ws i i
+seek-start ws i g = record { onward = omega arith; there = g .there; same = refl; count = refl }
+
+module _ (ws : List ℕ) (i k : ℕ) (s : Seeking ws i k) where
+  inside : k < length (framesOf ws)
+  inside = rw length-map (s .there)
+
+  pub seek-here : (f : Frame) (x : Bool) → f ≡ frameAt (framesOf ws) k → x ≡ isModule (f .kind) → x ≡ true → NextModule ws i k
+  seek-here f x e h t = record { onward = s .onward; there = s .there; is = is-module _ (ap (λ (g : Frame). isModule (g .kind)) (sym e) ∙ sym h ∙ t); same = s .same; count = s .count }
+
+  pub seek-on : (f : Frame) (x : Bool) → f ≡ frameAt (framesOf ws) k → x ≡ isModule (f .kind) → x ≡ false → k + 1 < length ws → Seeking ws i (k + 1)
+  seek-on f x e h t l =
+      let q : isModule (frameAt (framesOf ws) k .kind) ≡ false = ap (λ (g : Frame). isModule (g .kind)) (sym e) ∙ sym h ∙ t in
+      record {
+        onward = (let o = s .onward in omega arith);
+        there = l;
+        same = s .same ∙ skip (framesOf ws) k inside q ∙ ap (λ (n : ℕ). modulesFrom (framesOf ws) n (drop n (framesOf ws))) (sym (add-one k));
+        count = s .count ∙ sym (ap (countOf isModule) (take-suc (framesOf ws) k noFrame inside) ∙ counted-none isModule (take k (framesOf ws)) (frameAt (framesOf ws) k) q) ∙ ap (λ (n : ℕ). countOf isModule (take n (framesOf ws))) (sym (add-one k));
+      }
+
+  pub seek-last : FrameIn ws i → length ws ≤ k + 1 → NextModule ws i k
+  seek-last g l =
+      let t = s .there in
+      let n : length (framesOf ws) - 1 ≡ k = ap (λ (m : ℕ). m - 1) (length-map ws frameOfWord) ∙ omega arith in
+      let m = main-last (framesOf ws) (g .laid-out) (rw length-map (omega arith)) .0 in
+      record { onward = s .onward; there = t; is = ap (λ (j : ℕ). frameAt (framesOf ws) j .kind) (sym n) ∙ m; same = s .same; count = s .count }
+
+-- ---- the body of a module
+take-two : (s b c : ℕ) (l : List ℕ) → s ≤ 2 → take s (b ∷ c ∷ l) ≡ take s (b ∷ c ∷ [])
+take-two zero b c l h = refl
+take-two (suc zero) b c l h = refl
+take-two (suc (suc zero)) b c l h = refl
+take-two (suc (suc (suc s))) b c l h = absurd (omega arith)
+
+pub conduct-is : (cells below ws : List ℕ) (f : Frame) (m : ℕ) (r : Conduct) → f .s ≤ 2
+    → r ≡ runIn cells (map signatureOf (take m below)) (take (f .s) (set (set (replicate 25 0) 0 (f .b)) 1 (f .c))) linked (statementAt (framesOf ws) (f .a))
+    → r ≡ runIn cells (map signatureOf (take m below)) (take (f .s) (f .b ∷ f .c ∷ [])) linked (statementAt (framesOf ws) (f .a))
+conduct-is cells below ws f m r h e = e ∙ ap (λ (Γ : List ℕ). runIn cells (map signatureOf (take m below)) Γ linked (statementAt (framesOf ws) (f .a))) (take-two (f .s) (f .b) (f .c) (replicate 23 0) h)
+
+pub below-length : (below : List ℕ) (m : ℕ) → length below ≡ 16 → m ≤ 16 → m ≡ length (take m below)
+below-length below m e h = sym (length-take m below ∙ omega arith)
+
+-- ---- what a module's frame has in a laid-out file
+module _ (fs : List Frame) (clean : NoFault fs) (i : ℕ) (h : i < length fs) (e : frameAt fs i .kind ≡ Module) where
+  fine : frameFine fs i (frameAt fs i) ≡ true
+  fine = frame-fine fs clean i h
+
+  parts : (k v w x y : Bool) → (k && v && w && x && y) ≡ true → (k ≡ true) × (v ≡ true)
+  parts k v w x y q = and-true k v (and-true (k && v) w (and-true (k && v && w) x (and-true (k && v && w && x) y q .0) .0) .0)
+
+  both : (kindFine fs i (frameAt fs i .kind) ≡ true) × (fieldFine fs i (frameAt fs i) (uses (frameAt fs i .kind) .s) (frameAt fs i .s) ≡ true)
+  unfolding frameFine
+  both = parts _ _ _ _ _ fine
+
+  few-modules : countOf isModule (take i fs) < 16
+  few-modules = ltb-true _ _ (ap (kindFine fs i) (sym e) ∙ both .0)
+
+  few-parameters : frameAt fs i .s ≤ 2
+  few-parameters = leb-true _ _ (ap (λ (k : Kind). fieldFine fs i (frameAt fs i) (uses k .s) (frameAt fs i .s)) (sym e) ∙ both .1)
+
+  body-below : frameAt fs i .a < i
+  body-below = child-below fs clean {c = child Class.Statement (frameAt fs i .a)} h (in-a (frameAt fs i) Module e In.first)
+
+-- ---- the loop over modules: m of them are passed, and the next is frame i
+pub record Judging (cells ws below : List ℕ) (m i : ℕ) : Type 0 where
+  pub file : FileIn ws
+  pub there : i < length ws
+  pub module-at : frameAt (framesOf ws) i .kind ≡ Module
+  pub count : m ≡ countOf isModule (take i (framesOf ws))
+  pub wide : length below ≡ 16
+  pub rest : modulesIn cells (map signatureOf (take m below)) (modulesFrom (framesOf ws) i (drop i (framesOf ws))) ≡ modulesIn cells [] (modulesFrom (framesOf ws) 0 (framesOf ws))
+
+pub judge-start : (cells ws : List ℕ) (i : ℕ) → FileIn ws → NextModule ws 0 i → Judging cells ws (replicate 16 0) 0 i
+unfolding countOf
+judge-start cells ws i g n = record { file = g; there = n .there; module-at = n .is; count = n .count; wide = refl; rest = ap (modulesIn cells []) (sym (n .same)) }
+
+pub file-first : (ws : List ℕ) → FileIn ws → FrameIn ws 0
+file-first ws g = record { laid-out = g .laid-out; there = g .some; few = g .few }
+
+module _ (cells ws below : List ℕ) (m i : ℕ) (j : Judging cells ws below m i) where
+  abbrev fs : List Frame
+  fs = framesOf ws
+
+  inside-fs : i < length (framesOf ws)
+  inside-fs = rw length-map (j .there)
+
+  pub judge-few : m < 16
+  judge-few = let c = j .count in let k = few-modules (framesOf ws) (j .file .laid-out) i inside-fs (j .module-at) in omega arith
+
+  pub judge-parameters : (f : Frame) → f ≡ frameAt (framesOf ws) i → f .s ≤ 2
+  judge-parameters f e = subst (λ (g : Frame). g .s ≤ 2) (sym e) (few-parameters (framesOf ws) (j .file .laid-out) i inside-fs (j .module-at))
+
+  pub judge-body : (f : Frame) → f ≡ frameAt (framesOf ws) i → FrameIn ws (f .a)
+  judge-body f e =
+      let b = body-below (framesOf ws) (j .file .laid-out) i inside-fs (j .module-at) in
+      let t = j .there in
+      subst (λ (g : Frame). FrameIn ws (g .a)) (sym e) (record { laid-out = j .file .laid-out; there = omega arith; few = j .file .few })
+
+  pub judge-room : (f : Frame) → f ≡ frameAt (framesOf ws) i → Room (framesOf ws) (f .a) (f .s)
+  judge-room f e = subst (λ (g : Frame). Room (framesOf ws) (g .a) (g .s)) (sym e) (room-body i (frameAt (framesOf ws) i .s) inside-fs (j .module-at) (few-parameters (framesOf ws) (j .file .laid-out) i inside-fs (j .module-at)))
+
+  -- what the verdict is, by what the body was found to be
+  by-body : (f : Frame) (c v : Conduct) → f ≡ frameAt (framesOf ws) i → c ≡ v
+      → c ≡ runIn cells (map signatureOf (take m below)) (take (f .s) (f .b ∷ f .c ∷ [])) linked (statementAt (framesOf ws) (f .a))
+      → afterModule (λ sigs. modulesIn cells sigs (modulesFrom (framesOf ws) (suc i) (drop (suc i) (framesOf ws)))) (map signatureOf (take m below)) (partOf (framesOf ws) i f) (modulesFrom (framesOf ws) (suc i) (drop (suc i) (framesOf ws))) v
+      ≡ modulesIn cells [] (modulesFrom (framesOf ws) 0 (framesOf ws))
+  unfolding modulesIn
+  by-body f c v e h k =
+      let ms = modulesFrom (framesOf ws) (suc i) (drop (suc i) (framesOf ws)) in
+      ap (afterModule (λ sigs. modulesIn cells sigs ms) (map signatureOf (take m below)) (partOf (framesOf ws) i f) ms) (sym h ∙ k)
+      ∙ ap (λ (g : Frame). modulesIn cells (map signatureOf (take m below)) (partOf (framesOf ws) i g ∷ ms)) e
+      ∙ ap (modulesIn cells (map signatureOf (take m below))) (sym (part-at (framesOf ws) i inside-fs (j .module-at)))
+      ∙ j .rest
+
+  module _ (f : Frame) (c : Conduct) (q : f ≡ frameAt (framesOf ws) i) (k : c ≡ runIn cells (map signatureOf (take m below)) (take (f .s) (f .b ∷ f .c ∷ [])) linked (statementAt (framesOf ws) (f .a))) where
+    pub judge-fails : (n o : ℕ) → c ≡ Fails n o → Rejected n o ≡ modulesIn cells [] (modulesFrom (framesOf ws) 0 (framesOf ws))
+    judge-fails n o h = after (modulesFrom (framesOf ws) (suc i) (drop (suc i) (framesOf ws))) refl ∙ by-body f c (Fails n o) q h k
+      where
+        after : (ms : List Part) → modulesFrom (framesOf ws) (suc i) (drop (suc i) (framesOf ws)) ≡ ms
+            → Rejected n o ≡ afterModule (λ sigs. modulesIn cells sigs (modulesFrom (framesOf ws) (suc i) (drop (suc i) (framesOf ws)))) (map signatureOf (take m below)) (partOf (framesOf ws) i f) (modulesFrom (framesOf ws) (suc i) (drop (suc i) (framesOf ws))) (Fails n o)
+        after ms e = sym (ap (λ (ns : List Part). afterModule (λ sigs. modulesIn cells sigs (modulesFrom (framesOf ws) (suc i) (drop (suc i) (framesOf ws)))) (map signatureOf (take m below)) (partOf (framesOf ws) i f) ns (Fails n o)) e ∙ go ms)
+          where
+            go : (ns : List Part) → afterModule (λ sigs. modulesIn cells sigs (modulesFrom (framesOf ws) (suc i) (drop (suc i) (framesOf ws)))) (map signatureOf (take m below)) (partOf (framesOf ws) i f) ns (Fails n o) ≡ Rejected n o
+            go [] = refl
+            go (p ∷ ns) = refl
+
+    pub judge-main : (e : Effect) (b : Bool) (r : Verdict) → c ≡ Does e b → length ws ≤ i + 1 → r ≡ mainRule i e → r ≡ modulesIn cells [] (modulesFrom (framesOf ws) 0 (framesOf ws))
+    unfolding modulesFrom
+    judge-main e b r h l d =
+        let z : drop (suc i) (framesOf ws) ≡ [] = drop-of-length-le (framesOf ws) {i = suc i} (rw length-map (omega arith)) in
+        d ∙ sym (ap (λ (gs : List Frame). afterModule (λ sigs. modulesIn cells sigs (modulesFrom (framesOf ws) (suc i) gs)) (map signatureOf (take m below)) (partOf (framesOf ws) i f) (modulesFrom (framesOf ws) (suc i) gs) (Does e b)) z)
+        ∙ by-body f c (Does e b) q h k
+
+    pub judge-more : (e : Effect) (b : Bool) (w r : ℕ) → c ≡ Does e b → signatureOf w ≡ signatureWith (f .s) (f .b) (f .c) e → NextModule ws (i + 1) r → Judging cells ws (set below m w) (m + 1) r
+    judge-more e b w r h d n =
+        let s = judge-few in
+        let wide = j .wide in
+        let ms = modulesFrom (framesOf ws) (suc i) (drop (suc i) (framesOf ws)) in
+        let next : ms ≡ modulesFrom (framesOf ws) r (drop r (framesOf ws)) = ap (λ (x : ℕ). modulesFrom (framesOf ws) x (drop x (framesOf ws))) (sym (add-one i)) ∙ n .same in
+        let head : ms ≡ partOf (framesOf ws) r (frameAt (framesOf ws) r) ∷ modulesFrom (framesOf ws) (suc r) (drop (suc r) (framesOf ws)) = next ∙ part-at (framesOf ws) r (rw length-map (n .there)) (n .is) in
+        let sigs : map signatureOf (take (m + 1) (set below m w)) ≡ map signatureOf (take m below) ++ (signature (partOf (framesOf ws) i f) e ∷ []) =
+        ap (λ (x : ℕ). map signatureOf (take x (set below m w))) (add-one m) ∙ ap (map signatureOf) (take-suc-set below m w (omega arith)) ∙ map-append signatureOf (take m below) (w ∷ []) ∙ ap (λ (g : Signature). map signatureOf (take m below) ++ (g ∷ [])) d in
+        record {
+          file = j .file;
+          there = n .there;
+          module-at = n .is;
+          count = ap (λ (x : ℕ). x + 1) (j .count) ∙ sym (counted-one isModule (take i (framesOf ws)) (frameAt (framesOf ws) i) (ap isModule (j .module-at))) ∙ ap (countOf isModule) (sym (take-suc (framesOf ws) i noFrame inside-fs)) ∙ ap (λ (x : ℕ). countOf isModule (take x (framesOf ws))) (sym (add-one i)) ∙ n .count;
+          wide = length-set below m w ∙ j .wide;
+          rest =
+              ap₂ (modulesIn cells) sigs (sym next)
+              ∙ after ms head
+              ∙ by-body f c (Does e b) q h k;
+        }
+      where
+        after : (ms : List Part) {p : Part} {ps : List Part} → ms ≡ p ∷ ps
+            → modulesIn cells (map signatureOf (take m below) ++ (signature (partOf (framesOf ws) i f) e ∷ [])) ms ≡ afterModule (λ sigs. modulesIn cells sigs ms) (map signatureOf (take m below)) (partOf (framesOf ws) i f) ms (Does e b)
+        after ms {p} {ps} h = sym (ap (λ (ns : List Part). afterModule (λ sigs. modulesIn cells sigs ms) (map signatureOf (take m below)) (partOf (framesOf ws) i f) ns (Does e b)) h)
+
+pub ruleset judge-laws = (judge-fails, judge-main)
+
+pub judge-next : (cells ws below : List ℕ) (m i : ℕ) → Judging cells ws below m i → i + 1 < length ws → FrameIn ws (i + 1)
+judge-next cells ws below m i j h = record { laid-out = j .file .laid-out; there = h; few = j .file .few }
+
+pub judge-index : (cells ws below : List ℕ) (m i : ℕ) → Judging cells ws below m i → i < length ws
+judge-index cells ws below m i j = j .there
+
+pub judge-most : (cells ws below : List ℕ) (m i : ℕ) → Judging cells ws below m i → m ≤ 16
+judge-most cells ws below m i j = let h = judge-few cells ws below m i j in omega arith
+
+pub judge-wide : (cells ws below : List ℕ) (m i : ℕ) → Judging cells ws below m i → m < length below
+judge-wide cells ws below m i j = let h = judge-few cells ws below m i j in let w = j .wide in omega arith
+
+pub judge-fits : (cells ws below : List ℕ) (m i : ℕ) → Judging cells ws below m i → i < 2 ^ 16
+judge-fits cells ws below m i j = let t = j .there in let f = j .file .few in omega arith
+
+pub judge-falls : (ws : List ℕ) (i r : ℕ) → NextModule ws (i + 1) r → i + 1 < length ws → length ws - r < length ws - i
+judge-falls ws i r n h = let o = n .onward in omega arith
+
+pub judge-add : (cells ws below : List ℕ) (m i : ℕ) → Judging cells ws below m i → m + 1 < 2 ^ 64
+judge-add cells ws below m i j = let h = judge-few cells ws below m i j in omega arith

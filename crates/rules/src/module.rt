@@ -1,0 +1,126 @@
+// The modules of a laid-out file in order, each with what is known of those before it.
+use crate::conduct::conduct_of;
+use crate::finding::Conduct;
+use crate::start::signature_word;
+use language::Place;
+use language::effect::Effect;
+use language::frame::Frame;
+use language::verdict::Verdict;
+use layout::fields::Tally;
+use layout::fields::counted;
+use layout::frames::frame_at;
+use layout::frames::is_module;
+ghost use mathlib.Core.Path.{_≡_};
+ghost use mathlib.Core.List.{[], _∷_, map};
+ghost use Prim.Native.Nat.{_<_, _≤_};
+ghost use lib.ListN.{length, take};
+ghost use Rattle.language.specs.Places.{linked};
+ghost use Rattle.text.specs.Frames.{framesOf};
+ghost use Rattle.program.specs.Trees.{frameAt, statementAt};
+ghost use Rattle.program.specs.Programs.{modulesFrom};
+ghost use Rattle.layout.specs.Scope.{Room};
+ghost use Rattle.layout.specs.Passes.{tallyOf};
+ghost use Rattle.rules.specs.Checking.{runIn, mainRule, modulesIn};
+ghost use Rattle.rules.specs.Signatures.{signatureOf, signatureWith};
+ghost use Rattle.rules.specs.Frames.{FrameIn, FileIn};
+ghost use Rattle.rules.specs.Modules.{NextModule};
+
+// How many shared cells and modules a laid-out file has, and the types of its cells.
+pub fn tally(frames: &[u64]) -> Tally
+    requires { ⌜ FileIn (now frames) ⌝ }
+    ensures { λ r. ⌜ r ≡ tallyOf (framesOf (now (frames .entry))) ⌝ }
+{
+    let mut t = Tally {
+        cells: 0,
+        modules: 0,
+        types: [0u16; 16],
+    };
+    let mut i = 0;
+    while i < frames.len() {
+        t = counted(frames, i, t);
+        i += 1;
+    }
+    t
+}
+
+// The first module at frame i or behind it: the last frame is one.
+pub fn next_module(frames: &[u64], i: usize) -> usize
+    requires { ⌜ FrameIn (now frames) i ⌝ }
+    ensures { λ r. ⌜ NextModule (now (frames .entry)) i r ⌝ }
+{
+    let mut k = i;
+    while k + 1 < frames.len() {
+        let f = frame_at(frames, k);
+        let kind = f.kind;
+        if is_module(kind) {
+            return k;
+        }
+        k += 1;
+    }
+    k
+}
+
+// What the body of a module is found to be, behind the first m modules.
+pub fn module_conduct(
+    frames: &[u64],
+    cells: &[u16],
+    below: [u64; 16],
+    m: usize,
+    f: Frame,
+) -> Conduct
+    requires { ⌜ FrameIn (now frames) (f .a) × Room (framesOf (now frames)) (f .a) (f .s) × (f .s ≤ 2) × (m ≤ 16) ⌝ }
+    ensures { λ r. ⌜ r ≡ runIn (now (cells .entry)) (map signatureOf (take m below)) (take (f .s) (f .b ∷ f .c ∷ [])) linked (statementAt (framesOf (now (frames .entry))) (f .a)) ⌝ }
+{
+    let mut scope = [0u16; 25];
+    scope[0] = f.b;
+    scope[1] = f.c;
+    let n = f.s as usize;
+    let a = f.a as usize;
+    conduct_of(frames, cells, &below[..m], scope, n, true, a)
+}
+
+// 'main has an effect within {2}'.
+pub fn main_rule(i: u16, e: Effect) -> Verdict
+    ensures { λ r. ⌜ r ≡ mainRule i e ⌝ }
+{
+    if e.within(Place::HOME) {
+        return Verdict::Accepted;
+    }
+    Verdict::Rejected(11, i)
+}
+
+// What is known of a module whose body has that effect.
+fn module_signature(f: Frame, e: Effect) -> u64
+    requires { ⌜ f .s ≤ 2 ⌝ }
+    ensures { λ r. ⌜ signatureOf r ≡ signatureWith (f .s) (f .b) (f .c) e ⌝ }
+{
+    signature_word(f.s, f.b, f.c, e)
+}
+
+// The first broken rule of a laid-out file, module after module; the last is main.
+pub fn modules_rule(frames: &[u64], cells: &[u16]) -> Verdict
+    requires { ⌜ FileIn (now frames) ⌝ }
+    ensures { λ r. ⌜ r ≡ modulesIn (now (cells .entry)) [] (modulesFrom (framesOf (now (frames .entry))) 0 (framesOf (now (frames .entry)))) ⌝ }
+{
+    let mut below = [0u64; 16];
+    let mut m: usize = 0;
+    let mut i = next_module(frames, 0);
+    while i + 1 < frames.len() {
+        let f = frame_at(frames, i);
+        match module_conduct(frames, cells, below, m, f) {
+            Conduct::Fails(k, j) => {
+                return Verdict::Rejected(k, j);
+            }
+            Conduct::Does(e, b) => {
+                below[m] = module_signature(f, e);
+                m += 1;
+                i = next_module(frames, i + 1);
+            }
+        }
+    }
+    let f = frame_at(frames, i);
+    match module_conduct(frames, cells, below, m, f) {
+        Conduct::Fails(k, j) => Verdict::Rejected(k, j),
+        Conduct::Does(e, b) => main_rule(i as u16, e),
+    }
+}
