@@ -1,0 +1,69 @@
+-- The table of samples holds: one computation over all rows, then each row of the verdict by the rules and of the answers by the stepping rules. Assumes nothing.
+use mathlib.Core.Path.{_≡_, refl, ap, subst}
+use mathlib.Core.List.{List, [], _∷_, map}
+use Prim.Native.Nat.{ℕ}
+use Rattle.basics.specs.If.{if_then_else_}
+use Rattle.basics.specs.Members.{All}
+use Rattle.basics.specs.Searches.{any, every, sameNumbers, lowest, earlier}
+use Rattle.language.specs.Types.{typeWord, ownerDigit, cellDepth, cellType, ownerOf, contentOf, public, contentWord}
+use Rattle.language.specs.Kinds.{kindOf, children}
+use Rattle.language.specs.Effects.{within, withOwner}
+use Rattle.language.specs.Places.{standingAt}
+use Rattle.language.specs.declared.verdict.Verdict.{Verdict}
+use Rattle.text.specs.Digits.{digit}
+use Rattle.text.specs.Frames.{hexadecimal, lineWord, frameOfWord, wordsOf, textFrames}
+use Rattle.text.specs.Reading.{rightAt, firstWrong, reading}
+use Rattle.program.specs.Trees.{expressionTo, expressionAt, statementTo, statementAt}
+use Rattle.program.specs.Programs.{sharedOf, modulesFrom, allowanceOf, programOf}
+use Rattle.layout.specs.Fields.{headerFine, firstContentFine, countOf, frameFine}
+use Rattle.layout.specs.Order.{hasChild}
+use Rattle.layout.specs.Scans.{headerFault, fieldFault, rowFirst, firstDisorder, isBehind, isLeftover, firstLeftover, noMain, orderFault, lowestChild, deepTo, firstDeep, depthFault, layoutOf}
+use Rattle.rules.specs.Checking.{namedRule, newRule, contentRule, numbersRule, chooseRule, typeIn, argue, typesIn, startRule, cooperateRule, seqRule, doRule, joinRule, storeRule, ifElseRule, whileRule, runIn, modulesIn, rulesOf}
+use Rattle.rules.specs.Verdict.{HasVerdict, verdict}
+use Rattle.rules.proofs.Whole.{verdict-computes}
+use Rattle.machine.specs.Values.{firstContent}
+use Rattle.machine.specs.State.{enlist}
+use Rattle.machine.specs.Fresh.{fresh}
+use Rattle.machine.specs.Waits.{isReady, readyThreads, stillWaiting}
+use Rattle.machine.specs.Turns.{isSchedulerOf, leave, fits, stay}
+use Rattle.machine.specs.Statements.{ends, stepNothing}
+use Rattle.machine.specs.Steps.{stepThread, endInstant, isUnlinked, step}
+use Rattle.machine.specs.Runs.{stepsFrom, answers}
+use Rattle.samples.specs.Bytes.{bytes}
+use Rattle.samples.specs.Samples.{Sample, samples}
+
+-- what is computed of a sample, and what it says
+record Row : Type 0 where
+  verdict-of : Verdict
+  answers-of : List ℕ
+
+abbrev computed : Sample → Row
+computed x = record { verdict-of = verdict (bytes (x .file)); answers-of = answers (programOf (textFrames (bytes (x .file)))) (x .choices) }
+
+abbrev said : Sample → Row
+said x = record { verdict-of = x .verdict; answers-of = x .answers }
+
+-- the whole table, computed at once
+pub table : map computed samples ≡ map said samples
+unfolding bytes if_then_else_ any every sameNumbers lowest earlier standingAt cellDepth cellType ownerOf contentOf public ownerDigit typeWord contentWord withOwner within kindOf children digit hexadecimal lineWord frameOfWord wordsOf textFrames rightAt firstWrong reading expressionTo expressionAt statementTo statementAt sharedOf modulesFrom allowanceOf programOf headerFine firstContentFine countOf frameFine hasChild headerFault fieldFault rowFirst firstDisorder isBehind isLeftover firstLeftover noMain orderFault lowestChild deepTo firstDeep depthFault layoutOf namedRule newRule contentRule numbersRule chooseRule typeIn argue typesIn startRule cooperateRule seqRule doRule joinRule storeRule ifElseRule whileRule runIn modulesIn rulesOf verdict firstContent enlist fresh isReady readyThreads stillWaiting isSchedulerOf leave fits stay ends stepNothing stepThread endInstant isUnlinked step stepsFrom
+table = refl
+
+-- ---- each row: the verdict is the one that the rules give, and the answers are those of the steps
+pub record Holds (x : Sample) : Type 0 where
+  pub verdict-is : HasVerdict (bytes (x .file)) (x .verdict)
+  pub answers-are : answers (programOf (textFrames (bytes (x .file)))) (x .choices) ≡ x .answers
+
+heads : {A : Type 0} {x y : A} {xs ys : List A} → x ∷ xs ≡ y ∷ ys → x ≡ y
+heads h = cc
+
+tails : {A : Type 0} {x y : A} {xs ys : List A} → x ∷ xs ≡ y ∷ ys → xs ≡ ys
+tails h = cc
+
+rows : (xs : List Sample) → map computed xs ≡ map said xs → All Holds xs
+rows [] h = All.none
+rows (x ∷ xs) h =
+    let e = heads h in
+    All.more (record { verdict-is = subst (HasVerdict (bytes (x .file))) (ap (λ (r : Row). r .verdict-of) e) (verdict-computes (bytes (x .file)) .says); answers-are = ap (λ (r : Row). r .answers-of) e }) (rows xs (tails h))
+
+pub samples-hold : All Holds samples
+samples-hold = rows samples table
