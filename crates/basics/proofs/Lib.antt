@@ -1,2 +1,1 @@
 pub mod Ifs
-pub mod Tables

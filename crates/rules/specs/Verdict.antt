@@ -48,15 +48,6 @@ afterReading (refused n j) = Rejected n j
 unfoldable pub verdict : List ℕ → Verdict
 verdict bs = afterReading (reading bs)
 
--- the numbers that a verdict is: 'check .. prints number and frame ..; accepted is 00 0000'
-abbrev pub numberOf : Verdict → ℕ
-numberOf Accepted = 0
-numberOf (Rejected n j) = n
-
-abbrev pub frameOf : Verdict → ℕ
-frameOf Accepted = 0
-frameOf (Rejected n j) = j
-
 -- ---- the two are one
 
 -- v is the text's verdict, and the only one
