@@ -6,6 +6,7 @@ use lib.Dec.{ltb, leb, eqb}
 use lib.ListN.{length, take}
 use Rattle.basics.specs.If.{if_then_else_}
 use Rattle.language.specs.declared.frame.Frame.{Frame}
+use Rattle.language.specs.Verdicts.{numberOf, frameOf}
 use Rattle.language.specs.declared.verdict.Verdict.{Verdict}
 use Rattle.language.specs.declared.verdict.Verdict.the-variants.{Accepted, Rejected}
 use Rattle.program.specs.Programs.{Program, programOf}
@@ -39,8 +40,7 @@ refusalLine n i = twoDigits n ++ space ∷ fourDigits i ++ lineFeed ∷ []
 
 -- what `check` prints of a text with that verdict: 'accepted is `00 0000`'
 abbrev pub checkLine : Verdict → List ℕ
-checkLine Accepted = refusalLine 0 0
-checkLine (Rejected n i) = refusalLine n i
+checkLine v = refusalLine (numberOf v) (frameOf v)
 
 -- '`run` prints that line, then after 1 to 7 stops.'
 abbrev pub stops : Verdict → Bool
