@@ -1,0 +1,213 @@
+-- Laws of the operations, one for each return of the code. Assumes nothing.
+use mathlib.Core.Path.{_≡_, refl, sym, ap, ap₂, _∙_, subst}
+use mathlib.Core.List.{List}
+use mathlib.Core.Bool.{Bool, true, false, _||_, _&&_}
+use Prim.Native.Nat.{ℕ, _+_, _*_, _%_, _^_, _<_, _≤_}
+use native.Mathlib.Omega.{arith}
+use lib.Dec.{ltb, leb, eqb}
+use lib.ListN.{length, getD, set}
+use borrow.Author.Tests.{lt-ltb, le-ltb, le-leb, lt-leb, eq-eqb, ne-eqb}
+use Rattle.basics.proofs.Ifs.{yes, no}
+use Rattle.machine.specs.Evaluation.{plus, lessThan}
+use Rattle.machine.specs.declared.value.Value.{Value}
+use Rattle.machine.specs.declared.value.Value.the-variants.{Number, Truth, Cell}
+use Rattle.machine.specs.declared.value.Outcome.{Outcome}
+use Rattle.machine.specs.declared.value.Outcome.the-variants.{Is, Foreign, Spent, Stuck}
+use Rattle.evaluator.specs.declared.operation.Who.{Who}
+use Rattle.evaluator.specs.declared.operation.Answered.{Answered}
+use Rattle.evaluator.specs.Results.{Result, after}
+use Rattle.evaluator.specs.ByWords.{valueIn, ownerIn, contentIn, cellOf, result, thenBy, andThen, onlyBy, only, keeping, ownIn, newOwnerIn, variableIn, sharedIn, makeIn, readIn, reading, storeIn, numbersOf, aTruth, aNumber, chosen}
+
+-- ---- owners
+pub own-thread : (who : Who) (o r : ℕ) → r ≡ who .thread → o ≡ 16 + r → true ≡ ownIn who o
+unfolding ownIn
+own-thread who o r h e = ap (λ (b : Bool). b || leb 2 (who .place) && eqb o (who .place)) (sym (eq-eqb o (16 + who .thread) (omega arith)))
+
+other-thread : (who : Who) (o r : ℕ) (b : Bool) → r ≡ who .thread → (o ≡ 16 + r → ⊥) → b ≡ (leb 2 (who .place) && eqb o (who .place)) → b ≡ ownIn who o
+unfolding ownIn
+other-thread who o r b h e q = q ∙ ap (λ (x : Bool). x || leb 2 (who .place) && eqb o (who .place)) (sym (ne-eqb o (16 + who .thread) (λ z. e (omega arith))))
+
+pub own-not : (who : Who) (o r : ℕ) → r ≡ who .thread → (o ≡ 16 + r → ⊥) → who .place < 2 → false ≡ ownIn who o
+own-not who o r h e l = other-thread who o r false h e (ap (λ (x : Bool). x && eqb o (who .place)) (sym (lt-leb 2 (who .place) l)))
+
+pub own-place : (who : Who) (o r q : ℕ) → r ≡ who .thread → (o ≡ 16 + r → ⊥) → 2 ≤ who .place → q ≡ who .place → eqb o q ≡ ownIn who o
+own-place who o r q h e l z = other-thread who o r (eqb o q) h e (ap (eqb o) z ∙ ap (λ (x : Bool). x && eqb o (who .place)) (sym (le-leb 2 (who .place) l)))
+
+pub ruleset own-laws = (own-thread, own-not, own-place)
+
+pub owner-private : (who : Who) (s r : ℕ) → s ≡ 1 → r ≡ who .thread → 16 + r ≡ newOwnerIn who s
+unfolding newOwnerIn
+owner-private who s r e h = yes _ (eq-eqb _ _ e) (ap (λ (x : ℕ). 16 + x) h)
+
+pub owner-given : (who : Who) (s r : ℕ) → (s ≡ 1 → ⊥) → r ≡ s → r ≡ newOwnerIn who s
+unfolding newOwnerIn
+owner-given who s r e h = no _ (ne-eqb _ _ e) h
+
+pub ruleset owner-laws = (owner-private, owner-given)
+
+-- ---- variables, shared cells
+pub variable-is : (vs : List ℕ) (s r : ℕ) (v : Value) → r ≡ s → r < length vs → v ≡ valueIn (getD vs r 0) → Is v ≡ variableIn vs s
+unfolding variableIn
+variable-is vs s r v e l h = yes _ (lt-ltb s (length vs) (omega arith)) (ap Is (h ∙ ap (λ (x : ℕ). valueIn (getD vs x 0)) e))
+
+pub variable-none : (vs : List ℕ) (s r : ℕ) → r ≡ s → length vs ≤ r → Stuck ≡ variableIn vs s
+unfolding variableIn
+variable-none vs s r e l = no _ (le-ltb s (length vs) (omega arith)) refl
+
+pub shared-is : (who : Who) (s r : ℕ) → r ≡ s → r < who .shared → Is (Cell s) ≡ sharedIn who s
+unfolding sharedIn
+shared-is who s r e l = yes _ (lt-ltb s (who .shared) (omega arith)) refl
+
+pub shared-none : (who : Who) (s r : ℕ) → r ≡ s → who .shared ≤ r → Stuck ≡ sharedIn who s
+unfolding sharedIn
+shared-none who s r e l = no _ (le-ltb s (who .shared) (omega arith)) refl
+
+pub ruleset variable-laws = (variable-is, variable-none)
+
+pub ruleset shared-laws = (shared-is, shared-none)
+
+-- ---- a new cell: made, no room (twice), foreign
+module _ (who : Who) (s o n : ℕ) (v : Value) (ws : List ℕ) (b : Bool) (q : ℕ) (eo : o ≡ newOwnerIn who s) (eq : q ≡ o) (eb : b ≡ ownIn who q) where
+  may : {t : Bool} → b ≡ t → ownIn who (newOwnerIn who s) ≡ t
+  may e = sym (eb ∙ ap (ownIn who) (eq ∙ eo)) ∙ e
+
+  pub make-is : (w : ℕ) → b ≡ true → n < 256 → n < length ws → w ≡ cellOf o v → result (Is (Cell n)) (n + 1) (set ws n w) ≡ makeIn who s v n ws
+  unfolding makeIn
+  make-is w t l k e = yes _ (may t) (yes _ (lt-ltb _ _ l) (yes _ (lt-ltb _ _ k) (ap (λ (y : ℕ). result (Is (Cell n)) (n + 1) (set ws n y)) (e ∙ ap (λ (y : ℕ). cellOf y v) eo))))
+
+  pub make-past : b ≡ true → n < 256 → length ws ≤ n → result Spent n ws ≡ makeIn who s v n ws
+  unfolding makeIn
+  make-past t l k = yes _ (may t) (yes _ (lt-ltb _ _ l) (no _ (le-ltb _ _ k) refl))
+
+  pub make-spent : b ≡ true → 256 ≤ n → result Spent n ws ≡ makeIn who s v n ws
+  unfolding makeIn
+  make-spent t l = yes _ (may t) (no _ (le-ltb _ _ l) refl)
+
+  pub make-foreign : b ≡ false → result Foreign n ws ≡ makeIn who s v n ws
+  unfolding makeIn
+  make-foreign t = no _ (may t) refl
+
+pub ruleset make-laws = (make-is, make-past, make-spent, make-foreign)
+
+-- ---- a cell read, and stored in: i is its index, w its word, o its owner
+module _ (who : Who) (v : Value) (c i n w o : ℕ) (ws : List ℕ) (b : Bool) (ev : v ≡ Cell c) (ei : i ≡ c) (l : i < n) (ew : w ≡ getD ws i 0) (eo : o ≡ ownerIn w) (eb : b ≡ ownIn who o) where
+  there : ltb c n ≡ true
+  there = lt-ltb c n (omega arith)
+
+  word : w ≡ getD ws c 0
+  word = ew ∙ ap (λ (x : ℕ). getD ws x 0) ei
+
+  owns : {t : Bool} → b ≡ t → ownIn who (ownerIn (getD ws c 0)) ≡ t
+  owns e = sym (eb ∙ ap (ownIn who) (eo ∙ ap ownerIn word)) ∙ e
+
+  pub read-is : (u : Value) → b ≡ true → u ≡ contentIn w → Is u ≡ readIn who v n ws
+  unfolding readIn
+  read-is u t e = yes _ there (yes _ (owns t) (ap Is (e ∙ ap contentIn word))) ∙ ap (λ (x : Value). readIn who x n ws) (sym ev)
+
+  pub read-foreign : b ≡ false → Foreign ≡ readIn who v n ws
+  unfolding readIn
+  read-foreign t = yes _ there (no _ (owns t) refl) ∙ ap (λ (x : Value). readIn who x n ws) (sym ev)
+
+  pub store-is : (u : Value) (x : ℕ) (us : List ℕ) → b ≡ true → x ≡ cellOf (ownerIn w) u → us ≡ set ws i x → result (Is u) n us ≡ storeIn who v u n ws
+  unfolding storeIn
+  store-is u x us t e h =
+      yes _ there (yes _ (owns t) (ap (result (Is u) n) (h ∙ ap₂ (set ws) ei (e ∙ ap (λ (y : ℕ). cellOf (ownerIn y) u) word))))
+      ∙ ap (λ (y : Value). storeIn who y u n ws) (sym ev)
+
+  pub store-foreign : (u : Value) → b ≡ false → result Foreign n ws ≡ storeIn who v u n ws
+  unfolding storeIn
+  store-foreign u t = yes _ there (no _ (owns t) refl) ∙ ap (λ (y : Value). storeIn who y u n ws) (sym ev)
+
+pub read-none : (who : Who) (v : Value) (c i n : ℕ) (ws : List ℕ) → v ≡ Cell c → i ≡ c → n ≤ i → Stuck ≡ readIn who v n ws
+unfolding readIn
+read-none who v c i n ws ev ei l = no _ (le-ltb c n (omega arith)) refl ∙ ap (λ (x : Value). readIn who x n ws) (sym ev)
+
+pub read-number : (who : Who) (v : Value) (m n : ℕ) (ws : List ℕ) → v ≡ Number m → Stuck ≡ readIn who v n ws
+unfolding readIn
+read-number who v m n ws e = ap (λ (x : Value). readIn who x n ws) (sym e)
+
+pub read-truth : (who : Who) (v : Value) (t : Bool) (n : ℕ) (ws : List ℕ) → v ≡ Truth t → Stuck ≡ readIn who v n ws
+unfolding readIn
+read-truth who v t n ws e = ap (λ (x : Value). readIn who x n ws) (sym e)
+
+pub store-none : (who : Who) (v u : Value) (c i n : ℕ) (ws : List ℕ) → v ≡ Cell c → i ≡ c → n ≤ i → result Stuck n ws ≡ storeIn who v u n ws
+unfolding storeIn
+store-none who v u c i n ws ev ei l = no _ (le-ltb c n (omega arith)) refl ∙ ap (λ (x : Value). storeIn who x u n ws) (sym ev)
+
+pub store-number : (who : Who) (v u : Value) (m n : ℕ) (ws : List ℕ) → v ≡ Number m → result Stuck n ws ≡ storeIn who v u n ws
+unfolding storeIn
+store-number who v u m n ws e = ap (λ (x : Value). storeIn who x u n ws) (sym e)
+
+pub store-truth : (who : Who) (v u : Value) (t : Bool) (n : ℕ) (ws : List ℕ) → v ≡ Truth t → result Stuck n ws ≡ storeIn who v u n ws
+unfolding storeIn
+store-truth who v u t n ws e = ap (λ (x : Value). storeIn who x u n ws) (sym e)
+
+pub ruleset read-laws = (read-is, read-foreign, read-none, read-number, read-truth)
+
+pub ruleset store-laws = (store-is, store-foreign, store-none, store-number, store-truth)
+
+-- ---- numbers and truths
+pub is-number : (v : Value) (n : ℕ) → v ≡ Number n → Is (Number n) ≡ aNumber v
+is-number v n e = sym (ap aNumber e)
+
+pub is-truth : (v : Value) (b : Bool) → v ≡ Truth b → Is (Truth b) ≡ aTruth v
+is-truth v b e = sym (ap aTruth e)
+
+pub sum-is : (v w : Value) (m n r : ℕ) → v ≡ Number m → w ≡ Number n → r ≡ (m + n) % 2 ^ 32 → Is (Number r) ≡ numbersOf plus v w
+sum-is v w m n r e f h = ap (λ (x : ℕ). Is (Number x)) h ∙ sym (ap₂ (numbersOf plus) e f)
+
+pub less-is : (v w : Value) (m n : ℕ) → v ≡ Number m → w ≡ Number n → Is (Truth (ltb m n)) ≡ numbersOf lessThan v w
+less-is v w m n e f = sym (ap₂ (numbersOf lessThan) e f)
+
+pub choose-first : (v : Value) (t : Bool) (b c : ℕ) → v ≡ Truth t → t ≡ true → b ≡ chosen v b c
+choose-first v t b c e h = yes _ h refl ∙ ap (λ (x : Value). chosen x b c) (sym e)
+
+pub choose-second : (v : Value) (t : Bool) (b c : ℕ) → v ≡ Truth t → t ≡ false → c ≡ chosen v b c
+choose-second v t b c e h = no _ h refl ∙ ap (λ (x : Value). chosen x b c) (sym e)
+
+pub choose-none : (v : Value) (n b c : ℕ) → v ≡ Number n → c ≡ chosen v b c
+choose-none v n b c e = ap (λ (x : Value). chosen x b c) (sym e)
+
+-- ---- one after the other: an outcome that goes on, and one that is kept
+abbrev pub Refused : Outcome → Type 0
+Refused (Is v) = ⊥
+Refused Foreign = Unit {0}
+Refused Spent = Unit {0}
+Refused Stuck = Unit {0}
+
+pub then-is : (x : Result) (v : Value) (k : Value → ℕ → List ℕ → Result) (r : Result) → x .outcome ≡ Is v → r ≡ k v (x .used) (x .words) → r ≡ andThen x k
+then-is x v k r e h = h ∙ sym (ap (λ (o : Outcome). thenBy o (x .used) (x .words) k) e)
+
+keeps-at : (o : Outcome) (n : ℕ) (ws : List ℕ) (k : Value → ℕ → List ℕ → Result) → Refused o → result o n ws ≡ thenBy o n ws k
+keeps-at (Is v) n ws k h = absurd h
+keeps-at Foreign n ws k h = refl
+keeps-at Spent n ws k h = refl
+keeps-at Stuck n ws k h = refl
+
+pub keeps : (x : Result) (k : Value → ℕ → List ℕ → Result) (o : Outcome) → x .outcome ≡ o → Refused o → x ≡ andThen x k
+keeps x k o e n = keeps-at (x .outcome) (x .used) (x .words) k (subst Refused (sym e) n)
+
+pub only-is : (x : Answered) (v : Value) (k : Value → Outcome) (r : Outcome) → x .outcome ≡ Is v → r ≡ k v → record { outcome = r; used = x .used } ≡ only x k
+only-is x v k r e h = ap (λ (o : Outcome). record { outcome = o; used = x .used }) (h ∙ sym (ap (λ (o : Outcome). onlyBy o k) e))
+
+only-keeps-at : (o : Outcome) (k : Value → Outcome) → Refused o → o ≡ onlyBy o k
+only-keeps-at (Is v) k h = absurd h
+only-keeps-at Foreign k h = refl
+only-keeps-at Spent k h = refl
+only-keeps-at Stuck k h = refl
+
+pub only-keeps : (x : Answered) (k : Value → Outcome) (o : Outcome) → x .outcome ≡ o → Refused o → x ≡ only x k
+only-keeps x k o e n = ap (λ (p : Outcome). record { outcome = p; used = x .used }) (only-keeps-at (x .outcome) k (subst Refused (sym e) n))
+
+-- an outcome that changes no cell, beside any cells
+keeping-at : (o : Outcome) (k : Value → Outcome) (n : ℕ) (ws : List ℕ) → result (onlyBy o k) n ws ≡ thenBy o n ws (keeping k)
+keeping-at (Is v) k n ws = refl
+keeping-at Foreign k n ws = refl
+keeping-at Spent k n ws = refl
+keeping-at Stuck k n ws = refl
+
+pub keeping-is : (x r : Answered) (k : Value → Outcome) (ws : List ℕ) → r ≡ only x k → after r ws ≡ andThen (after x ws) (keeping k)
+keeping-is x r k ws e = ap (λ (d : Answered). after d ws) e ∙ keeping-at (x .outcome) k (x .used) ws
+
+pub reading-is : (who : Who) (v : Value) (n : ℕ) (ws : List ℕ) (o : Outcome) → o ≡ readIn who v n ws → result o n ws ≡ reading who v n ws
+reading-is who v n ws o e = ap (λ (p : Outcome). result p n ws) e

@@ -1,0 +1,62 @@
+-- `read_cell` meets its contract. Assumes nothing.
+use borrow.Author.Needs.{needs}
+use Rattle.evaluator.proofs.Operations.{read-laws}
+use Rattle.evaluator.proofs.operation.read_cell.Statement.{statement}
+use Rattle.evaluator.proofs.operation.read_cell.Tie as tie
+
+enum-known-v : tie.Need-enum-known-v
+enum-known-v c = search needs
+
+index8-requires : tie.Need-index8-requires
+index8-requires c κs = search needs
+
+word-at-requires : tie.Need-word-at-requires
+word-at-requires c κs = search needs
+
+owner-of-requires : tie.Need-owner-of-requires
+owner-of-requires c κs = search needs
+
+is-own-requires : tie.Need-is-own-requires
+is-own-requires c κs = search needs
+
+content-of-requires : tie.Need-content-of-requires
+content-of-requires c κs = search needs
+
+returns : tie.Need-returns
+returns c = search read-laws
+
+returns-2 : tie.Need-returns-2
+returns-2 c = search read-laws
+
+enum-known-v-2 : tie.Need-enum-known-v-2
+enum-known-v-2 c = search needs
+
+enum-known-v-3 : tie.Need-enum-known-v-3
+enum-known-v-3 c = search needs
+
+returns-3 : tie.Need-returns-3
+returns-3 c = search read-laws
+
+returns-4 : tie.Need-returns-4
+returns-4 c = search read-laws
+
+returns-5 : tie.Need-returns-5
+returns-5 c = search read-laws
+
+pub read-cell-spec : {M : Type 1} → statement M
+read-cell-spec =
+    tie.close
+    (tie.spec
+    enum-known-v
+    index8-requires
+    word-at-requires
+    owner-of-requires
+    is-own-requires
+    content-of-requires
+    returns
+    returns-2
+    enum-known-v-2
+    enum-known-v-3
+    returns-3
+    returns-4
+    returns-5)

@@ -1,0 +1,366 @@
+// Operations on values and cells: what each kind of expression does behind its operands.
+use crate::word::cell_word;
+use crate::word::content_of;
+use crate::word::owner_of;
+use crate::word::value_of;
+use crate::word::with_content;
+use machine::value::Outcome;
+use machine::value::Value;
+ghost use mathlib.Core.Path.{_≡_};
+ghost use lib.ListN.{getD, set};
+ghost use Rattle.machine.specs.Evaluation.{plus, lessThan};
+ghost use Rattle.evaluator.specs.Results.{after};
+ghost use Rattle.evaluator.specs.ByWords.{ownIn, newOwnerIn, variableIn, sharedIn, readIn, reading, makeIn, storeIn, numbersOf, aTruth, aNumber, chosen, andThen, only};
+
+// Who evaluates: the acting thread, the place on which it stands, and how many cells are shared.
+pub struct Who {
+    pub thread: u8,
+    pub place: u8,
+    pub shared: usize,
+}
+
+// What an evaluation answers, and how many cells are in use behind it.
+pub struct Answered {
+    pub outcome: Outcome,
+    pub used: usize,
+}
+
+fn wide8(x: u8) -> u64
+    ensures { λ r. ⌜ r ≡ x ⌝ }
+{
+    x as u64
+}
+
+fn half8(x: u8) -> u16
+    ensures { λ r. ⌜ r ≡ x ⌝ }
+{
+    x as u16
+}
+
+fn wide16(x: u16) -> u64
+    ensures { λ r. ⌜ r ≡ x ⌝ }
+{
+    x as u64
+}
+
+fn index8(x: u8) -> usize
+    ensures { λ r. ⌜ r ≡ x ⌝ }
+{
+    x as usize
+}
+
+// The word at i, 0 behind the end.
+fn word_at(words: &[u64], i: usize) -> u64
+    ensures { λ r. ⌜ r ≡ getD (now (words .entry)) i 0 ⌝ }
+{
+    if i < words.len() {
+        return words[i];
+    }
+    0
+}
+
+// Sets the word at i; behind the end nothing is set.
+fn put_word(words: &mut [u64], i: usize, w: u64)
+    ensures { λ _. ⌜ now (words .exit) ≡ set (now (words .entry)) i w ⌝ }
+{
+    if i < words.len() {
+        words[i] = w;
+    }
+}
+
+// Whether an access to a cell of that owner is not foreign: it is the thread's own or its scheduler's.
+pub fn is_own(who: Who, owner: u64) -> bool
+    ensures { λ r. ⌜ r ≡ ownIn who owner ⌝ }
+{
+    if owner == 16 + wide8(who.thread) {
+        return true;
+    }
+    if who.place < 2 {
+        return false;
+    }
+    owner == wide8(who.place)
+}
+
+// The owner of a new cell: S, or the thread itself where S is 1.
+pub fn new_owner(who: Who, s: u8) -> u16
+    ensures { λ r. ⌜ r ≡ newOwnerIn who s ⌝ }
+{
+    if s == 1 {
+        return 16 + half8(who.thread);
+    }
+    half8(s)
+}
+
+// 22
+pub fn read_variable(variables: &[u64], s: u8) -> Outcome
+    ensures { λ r. ⌜ r ≡ variableIn (now (variables .entry)) s ⌝ }
+{
+    let i = index8(s);
+    if i < variables.len() {
+        return Outcome::Is(value_of(variables[i]));
+    }
+    Outcome::Stuck
+}
+
+// 23
+pub fn shared_cell(who: Who, s: u8) -> Outcome
+    ensures { λ r. ⌜ r ≡ sharedIn who s ⌝ }
+{
+    if index8(s) < who.shared {
+        return Outcome::Is(Value::Cell(s));
+    }
+    Outcome::Stuck
+}
+
+// 24: 19 is tested before 17.
+pub fn make_cell(who: Who, s: u8, v: Value, cells: &mut [u64], used: usize) -> Answered
+    ensures { λ r. ⌜ after r (now (cells .exit)) ≡ makeIn who s v used (now (cells .entry)) ⌝ }
+{
+    let owner = new_owner(who, s);
+    if is_own(who, wide16(owner)) {
+        if used < 256 {
+            if used < cells.len() {
+                cells[used] = cell_word(owner, v);
+                return Answered {
+                    outcome: Outcome::Is(Value::Cell(used as u8)),
+                    used: used + 1,
+                };
+            }
+        }
+        return Answered {
+            outcome: Outcome::Spent,
+            used: used,
+        };
+    }
+    Answered {
+        outcome: Outcome::Foreign,
+        used: used,
+    }
+}
+
+// 25: 20 is tested before 19.
+pub fn read_cell(who: Who, v: Value, cells: &[u64], used: usize) -> Outcome
+    ensures { λ r. ⌜ r ≡ readIn who v used (now (cells .entry)) ⌝ }
+{
+    match v {
+        Value::Cell(c) => {
+            let i = index8(c);
+            if i < used {
+                let w = word_at(cells, i);
+                if is_own(who, owner_of(w)) {
+                    return Outcome::Is(content_of(w));
+                }
+                return Outcome::Foreign;
+            }
+            Outcome::Stuck
+        },
+        Value::Number(n) => Outcome::Stuck,
+        Value::Truth(t) => Outcome::Stuck,
+    }
+}
+
+// 17: the cell takes any value and keeps its owner.
+pub fn store_cell(who: Who, v: Value, u: Value, cells: &mut [u64], used: usize) -> Answered
+    ensures { λ r. ⌜ after r (now (cells .exit)) ≡ storeIn who v u used (now (cells .entry)) ⌝ }
+{
+    match v {
+        Value::Cell(c) => {
+            let i = index8(c);
+            if i < used {
+                let w = word_at(cells, i);
+                if is_own(who, owner_of(w)) {
+                    put_word(cells, i, with_content(w, u));
+                    return Answered {
+                        outcome: Outcome::Is(u),
+                        used: used,
+                    };
+                }
+                return Answered {
+                    outcome: Outcome::Foreign,
+                    used: used,
+                };
+            }
+            Answered {
+                outcome: Outcome::Stuck,
+                used: used,
+            }
+        },
+        Value::Number(n) => Answered {
+            outcome: Outcome::Stuck,
+            used: used,
+        },
+        Value::Truth(t) => Answered {
+            outcome: Outcome::Stuck,
+            used: used,
+        },
+    }
+}
+
+// 26
+pub fn sum_of(v: Value, w: Value) -> Outcome
+    ensures { λ r. ⌜ r ≡ numbersOf plus v w ⌝ }
+{
+    match v {
+        Value::Number(m) => match w {
+            Value::Number(n) => Outcome::Is(Value::Number(std::num::wrapping_add_u32(m, n))),
+            Value::Truth(t) => Outcome::Stuck,
+            Value::Cell(c) => Outcome::Stuck,
+        },
+        Value::Truth(t) => Outcome::Stuck,
+        Value::Cell(c) => Outcome::Stuck,
+    }
+}
+
+// 27
+pub fn less_of(v: Value, w: Value) -> Outcome
+    ensures { λ r. ⌜ r ≡ numbersOf lessThan v w ⌝ }
+{
+    match v {
+        Value::Number(m) => match w {
+            Value::Number(n) => Outcome::Is(Value::Truth(m < n)),
+            Value::Truth(t) => Outcome::Stuck,
+            Value::Cell(c) => Outcome::Stuck,
+        },
+        Value::Truth(t) => Outcome::Stuck,
+        Value::Cell(c) => Outcome::Stuck,
+    }
+}
+
+// Only a truth goes on: 28's condition.
+pub fn a_truth(v: Value) -> Outcome
+    ensures { λ r. ⌜ r ≡ aTruth v ⌝ }
+{
+    match v {
+        Value::Truth(t) => Outcome::Is(Value::Truth(t)),
+        Value::Number(n) => Outcome::Stuck,
+        Value::Cell(c) => Outcome::Stuck,
+    }
+}
+
+// Only a number goes on: 28's chosen value.
+pub fn a_number(v: Value) -> Outcome
+    ensures { λ r. ⌜ r ≡ aNumber v ⌝ }
+{
+    match v {
+        Value::Number(n) => Outcome::Is(Value::Number(n)),
+        Value::Truth(t) => Outcome::Stuck,
+        Value::Cell(c) => Outcome::Stuck,
+    }
+}
+
+// Which of two frames a truth chooses.
+pub fn branch(v: Value, b: usize, c: usize) -> usize
+    ensures { λ r. ⌜ r ≡ chosen v b c ⌝ }
+{
+    match v {
+        Value::Truth(t) => {
+            if t {
+                return b;
+            }
+            c
+        },
+        Value::Number(n) => c,
+        Value::Cell(j) => c,
+    }
+}
+
+// ---- each of them behind the evaluation of its last operand, whose refusal stands
+
+pub fn then_make(who: Who, s: u8, x: Answered, cells: &mut [u64]) -> Answered
+    ensures { λ r. ⌜ after r (now (cells .exit)) ≡ andThen (after x (now (cells .entry))) (makeIn who s) ⌝ }
+{
+    let o = x.outcome;
+    match o {
+        Outcome::Is(v) => make_cell(who, s, v, cells, x.used),
+        Outcome::Foreign => x,
+        Outcome::Spent => x,
+        Outcome::Stuck => x,
+    }
+}
+
+pub fn then_read(who: Who, x: Answered, cells: &[u64]) -> Answered
+    ensures { λ r. ⌜ after r (now (cells .entry)) ≡ andThen (after x (now (cells .entry))) (reading who) ⌝ }
+{
+    let o = x.outcome;
+    match o {
+        Outcome::Is(v) => Answered {
+            outcome: read_cell(who, v, cells, x.used),
+            used: x.used,
+        },
+        Outcome::Foreign => x,
+        Outcome::Spent => x,
+        Outcome::Stuck => x,
+    }
+}
+
+pub fn then_store(who: Who, v: Value, x: Answered, cells: &mut [u64]) -> Answered
+    ensures { λ r. ⌜ after r (now (cells .exit)) ≡ andThen (after x (now (cells .entry))) (storeIn who v) ⌝ }
+{
+    let o = x.outcome;
+    match o {
+        Outcome::Is(u) => store_cell(who, v, u, cells, x.used),
+        Outcome::Foreign => x,
+        Outcome::Spent => x,
+        Outcome::Stuck => x,
+    }
+}
+
+pub fn then_sum(v: Value, x: Answered) -> Answered
+    ensures { λ r. ⌜ r ≡ only x (numbersOf plus v) ⌝ }
+{
+    let o = x.outcome;
+    match o {
+        Outcome::Is(w) => Answered {
+            outcome: sum_of(v, w),
+            used: x.used,
+        },
+        Outcome::Foreign => x,
+        Outcome::Spent => x,
+        Outcome::Stuck => x,
+    }
+}
+
+pub fn then_less(v: Value, x: Answered) -> Answered
+    ensures { λ r. ⌜ r ≡ only x (numbersOf lessThan v) ⌝ }
+{
+    let o = x.outcome;
+    match o {
+        Outcome::Is(w) => Answered {
+            outcome: less_of(v, w),
+            used: x.used,
+        },
+        Outcome::Foreign => x,
+        Outcome::Spent => x,
+        Outcome::Stuck => x,
+    }
+}
+
+pub fn then_truth(x: Answered) -> Answered
+    ensures { λ r. ⌜ r ≡ only x aTruth ⌝ }
+{
+    let o = x.outcome;
+    match o {
+        Outcome::Is(v) => Answered {
+            outcome: a_truth(v),
+            used: x.used,
+        },
+        Outcome::Foreign => x,
+        Outcome::Spent => x,
+        Outcome::Stuck => x,
+    }
+}
+
+pub fn then_number(x: Answered) -> Answered
+    ensures { λ r. ⌜ r ≡ only x aNumber ⌝ }
+{
+    let o = x.outcome;
+    match o {
+        Outcome::Is(v) => Answered {
+            outcome: a_number(v),
+            used: x.used,
+        },
+        Outcome::Foreign => x,
+        Outcome::Spent => x,
+        Outcome::Stuck => x,
+    }
+}
