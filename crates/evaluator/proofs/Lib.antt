@@ -1,2 +1,4 @@
 pub mod WordLaws
 pub mod Operations
+pub mod Nodes
+pub mod Cases

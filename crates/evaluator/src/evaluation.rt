@@ -1,2 +1,121 @@
 // Evaluation: numbers and truths call each other, and the frame number falls at each call.
+use crate::node::Node;
+use crate::node::node_at;
+use crate::operation::Answered;
+use crate::operation::Who;
+use crate::operation::branch;
+use crate::operation::read_variable;
+use crate::operation::shared_cell;
+use crate::operation::then_less;
+use crate::operation::then_make;
+use crate::operation::then_number;
+use crate::operation::then_read;
+use crate::operation::then_store;
+use crate::operation::then_sum;
+use crate::operation::then_truth;
+use machine::value::Outcome;
+use machine::value::Value;
 ghost use mathlib.Core.Path.{_≡_};
+ghost use Rattle.text.specs.Frames.{framesOf};
+ghost use Rattle.program.specs.Trees.{expressionAt};
+ghost use Rattle.machine.specs.Evaluation.{eval, storing};
+ghost use Rattle.evaluator.specs.Results.{after, hereOf, onWords, CellWords, ValueWords, FrameWords};
+ghost use Rattle.evaluator.specs.ByWords.{evalIn, truthIn, storingIn};
+
+fn wide16(x: u16) -> u32
+    ensures { λ r. ⌜ r ≡ x ⌝ }
+{
+    x as u32
+}
+
+// The value of frame i, by the evaluator's own recursion on words.
+fn value_at(
+    frames: &[u64],
+    who: Who,
+    variables: &[u64],
+    cells: &mut [u64],
+    used: usize,
+    i: usize,
+) -> Answered
+    requires { ⌜ FrameWords (now frames) i ⌝ }
+    ensures { λ r. ⌜ after r (now (cells .exit)) ≡ evalIn who (now (variables .entry)) (expressionAt (framesOf (now (frames .entry))) i) used (now (cells .entry)) ⌝ }
+{
+    match node_at(frames, i) {
+        Node::Literal(n) => Answered {
+            outcome: Outcome::Is(Value::Number(wide16(n))),
+            used: used,
+        },
+        Node::Flag(s) => Answered {
+            outcome: Outcome::Is(Value::Truth(s == 1)),
+            used: used,
+        },
+        Node::Variable(s) => Answered {
+            outcome: read_variable(variables, s),
+            used: used,
+        },
+        Node::SharedCell(s) => Answered {
+            outcome: shared_cell(who, s),
+            used: used,
+        },
+        Node::NewCell(s, a) => {
+            let x = value_at(frames, who, variables, cells, used, a);
+            then_make(who, s, x, cells)
+        },
+        Node::ContentOf(a) => {
+            let x = value_at(frames, who, variables, cells, used, a);
+            then_read(who, x, cells)
+        },
+        Node::SumOf(a, b) => {
+            let x = value_at(frames, who, variables, cells, used, a);
+            let o = x.outcome;
+            match o {
+                Outcome::Is(v) => then_sum(v, value_at(frames, who, variables, cells, x.used, b)),
+                Outcome::Foreign => x,
+                Outcome::Spent => x,
+                Outcome::Stuck => x,
+            }
+        },
+        Node::LessOf(a, b) => {
+            let x = value_at(frames, who, variables, cells, used, a);
+            let o = x.outcome;
+            match o {
+                Outcome::Is(v) => then_less(v, value_at(frames, who, variables, cells, x.used, b)),
+                Outcome::Foreign => x,
+                Outcome::Spent => x,
+                Outcome::Stuck => x,
+            }
+        },
+        Node::ChooseOf(a, b, c) => {
+            let x = truth_at(frames, who, variables, cells, used, a);
+            let o = x.outcome;
+            match o {
+                Outcome::Is(v) => then_number(value_at(
+                    frames,
+                    who,
+                    variables,
+                    cells,
+                    x.used,
+                    branch(v, b, c),
+                )),
+                Outcome::Foreign => x,
+                Outcome::Spent => x,
+                Outcome::Stuck => x,
+            }
+        },
+    }
+}
+
+// The same, as a truth: 28's condition is tested before its branch.
+fn truth_at(
+    frames: &[u64],
+    who: Who,
+    variables: &[u64],
+    cells: &mut [u64],
+    used: usize,
+    i: usize,
+) -> Answered
+    requires { ⌜ FrameWords (now frames) i ⌝ }
+    ensures { λ r. ⌜ after r (now (cells .exit)) ≡ truthIn who (now (variables .entry)) (expressionAt (framesOf (now (frames .entry))) i) used (now (cells .entry)) ⌝ }
+{
+    then_truth(value_at(frames, who, variables, cells, used, i))
+}
