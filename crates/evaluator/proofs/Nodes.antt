@@ -15,9 +15,13 @@ use Rattle.program.specs.Ordered.{Ordered}
 use Rattle.program.proofs.Decoding.{expression-at}
 use Rattle.machine.specs.declared.value.Value.{Value}
 use Rattle.machine.specs.declared.value.Value.the-variants.{Number, Truth, Cell}
+use Rattle.machine.specs.declared.value.Outcome.{Outcome}
+use Rattle.machine.specs.declared.value.Outcome.the-variants.{Is, Foreign, Spent, Stuck}
 use Rattle.evaluator.specs.declared.node.Node.{Node}
-use Rattle.evaluator.specs.declared.node.Node.the-variants.{Literal, Flag, Variable, SharedCell, NewCell, ContentOf, SumOf, LessOf, ChooseOf}
-use Rattle.evaluator.specs.ByWords.{nodeOf, nodeAt, chosen}
+use Rattle.evaluator.specs.declared.node.Node.the-variants.{Literal, Flag, Variable, SharedCell, NewCell, ContentOf, Numbers, ChooseOf}
+use Rattle.evaluator.specs.declared.node.Operator.{Operator}
+use Rattle.evaluator.specs.declared.node.Operator.the-variants.{Sum, Less}
+use Rattle.evaluator.specs.ByWords.{nodeOf, nodeAt, chosen, chosenBy}
 
 abbrev pub treeOf : (ℕ → Expr) → ℕ → Node → Expr
 treeOf rec i (Literal n) = number i n
@@ -26,8 +30,8 @@ treeOf rec i (Variable s) = variable i s
 treeOf rec i (SharedCell s) = shared i s
 treeOf rec i (NewCell s a) = new i s (rec a)
 treeOf rec i (ContentOf a) = content i (rec a)
-treeOf rec i (SumOf a b) = sum i (rec a) (rec b)
-treeOf rec i (LessOf a b) = less i (rec a) (rec b)
+treeOf rec i (Numbers Sum a b) = sum i (rec a) (rec b)
+treeOf rec i (Numbers Less a b) = less i (rec a) (rec b)
 treeOf rec i (ChooseOf a b c) = choose i (rec a) (rec b) (rec c)
 
 with-tree : (rec : ℕ → Expr) (i : ℕ) (f : Frame) (k : ExpressionKind) → expressionOf rec i f (Expression k) ≡ treeOf rec i (nodeOf f (Expression k))
@@ -60,8 +64,7 @@ Below i (Variable s) = Unit {0}
 Below i (SharedCell s) = Unit {0}
 Below i (NewCell s a) = a < i
 Below i (ContentOf a) = a < i
-Below i (SumOf a b) = (a < i) × (b < i)
-Below i (LessOf a b) = (a < i) × (b < i)
+Below i (Numbers op a b) = (a < i) × (b < i)
 Below i (ChooseOf a b c) = (a < i) × (b < i) × (c < i)
 
 abbrev frame : Kind → ℕ → ℕ → ℕ → ℕ → Frame
@@ -94,7 +97,13 @@ pub below : (fs : List Frame) (i : ℕ) (d : Node) → Ordered fs → i < length
 below fs i d o l e = subst (Below i) (sym e) (of-below i (frameAt fs i) (frameAt fs i .kind) (o i l))
 
 -- a truth chooses one of two frames below
-pub chosen-below : (v : Value) (b c i : ℕ) → b < i → c < i → chosen v b c < i
+chosen-below : (v : Value) (b c i : ℕ) → b < i → c < i → chosen v b c < i
 chosen-below (Truth t) b c i l k = if-all (λ (x : ℕ). x < i) t b c (λ _. l) (λ _. k)
 chosen-below (Number n) b c i l k = k
 chosen-below (Cell j) b c i l k = k
+
+pub branch-below : (o : Outcome) (b c i : ℕ) → b < i → c < i → chosenBy o b c < i
+branch-below (Is v) b c i l k = chosen-below v b c i l k
+branch-below Foreign b c i l k = k
+branch-below Spent b c i l k = k
+branch-below Stuck b c i l k = k

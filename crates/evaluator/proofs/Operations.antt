@@ -15,8 +15,16 @@ use Rattle.machine.specs.declared.value.Outcome.{Outcome}
 use Rattle.machine.specs.declared.value.Outcome.the-variants.{Is, Foreign, Spent, Stuck}
 use Rattle.evaluator.specs.declared.operation.Who.{Who}
 use Rattle.evaluator.specs.declared.operation.Answered.{Answered}
+use Rattle.evaluator.specs.declared.node.Operator.{Operator}
 use Rattle.evaluator.specs.Results.{Result, after}
-use Rattle.evaluator.specs.ByWords.{valueIn, ownerIn, contentIn, cellOf, result, thenBy, andThen, onlyBy, only, keeping, ownIn, newOwnerIn, variableIn, sharedIn, makeIn, readIn, reading, storeIn, numbersOf, aTruth, aNumber, chosen}
+use Rattle.evaluator.specs.ByWords.{valueIn, ownerIn, contentIn, cellOf, result, thenBy, andThen, onlyBy, only, keeping, ownIn, newOwnerIn, variableIn, sharedIn, makeIn, readIn, reading, storeIn, numbersOf, operation, operands, aTruth, aNumber, chosen, chosenBy}
+
+-- an outcome that is no value
+abbrev pub Refused : Outcome → Type 0
+Refused (Is v) = ⊥
+Refused Foreign = Unit {0}
+Refused Spent = Unit {0}
+Refused Stuck = Unit {0}
 
 -- ---- owners
 pub own-thread : (who : Who) (o r : ℕ) → r ≡ who .thread → o ≡ 16 + r → true ≡ ownIn who o
@@ -159,6 +167,24 @@ sum-is v w m n r e f h = ap (λ (x : ℕ). Is (Number x)) h ∙ sym (ap₂ (numb
 pub less-is : (v w : Value) (m n : ℕ) → v ≡ Number m → w ≡ Number n → Is (Truth (ltb m n)) ≡ numbersOf lessThan v w
 less-is v w m n e f = sym (ap₂ (numbersOf lessThan) e f)
 
+pub operate-row : (op q : Operator) (v w : Value) (r : Outcome) → op ≡ q → r ≡ numbersOf (operation q) v w → r ≡ numbersOf (operation op) v w
+operate-row op q v w r e h = h ∙ sym (ap (λ (x : Operator). numbersOf (operation x) v w) e)
+
+pub operands-is : (op : Operator) (o : Outcome) (v w : Value) (r : Outcome) → o ≡ Is v → r ≡ numbersOf (operation op) v w → r ≡ operands op o w
+operands-is op o v w r e h = h ∙ sym (ap (λ (x : Outcome). operands op x w) e)
+
+pub operands-keep : (op : Operator) (o : Outcome) (w : Value) (p : Outcome) → o ≡ p → Refused p → o ≡ operands op o w
+operands-keep op o w p e h = e ∙ at p h ∙ sym (ap (λ (x : Outcome). operands op x w) e)
+  where
+    at : (p : Outcome) → Refused p → p ≡ operands op p w
+    at (Is v) h = absurd h
+    at Foreign h = refl
+    at Spent h = refl
+    at Stuck h = refl
+
+pub chosen-is : (o : Outcome) (v : Value) (b c r : ℕ) → o ≡ Is v → r ≡ chosen v b c → r ≡ chosenBy o b c
+chosen-is o v b c r e h = h ∙ sym (ap (λ (x : Outcome). chosenBy x b c) e)
+
 pub choose-first : (v : Value) (t : Bool) (b c : ℕ) → v ≡ Truth t → t ≡ true → b ≡ chosen v b c
 choose-first v t b c e h = yes _ h refl ∙ ap (λ (x : Value). chosen x b c) (sym e)
 
@@ -169,12 +195,6 @@ pub choose-none : (v : Value) (n b c : ℕ) → v ≡ Number n → c ≡ chosen 
 choose-none v n b c e = ap (λ (x : Value). chosen x b c) (sym e)
 
 -- ---- one after the other: an outcome that goes on, and one that is kept
-abbrev pub Refused : Outcome → Type 0
-Refused (Is v) = ⊥
-Refused Foreign = Unit {0}
-Refused Spent = Unit {0}
-Refused Stuck = Unit {0}
-
 pub then-is : (x : Result) (v : Value) (k : Value → ℕ → List ℕ → Result) (r : Result) → x .outcome ≡ Is v → r ≡ k v (x .used) (x .words) → r ≡ andThen x k
 then-is x v k r e h = h ∙ sym (ap (λ (o : Outcome). thenBy o (x .used) (x .words) k) e)
 

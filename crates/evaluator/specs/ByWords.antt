@@ -22,7 +22,9 @@ use Rattle.machine.specs.declared.value.Outcome.the-variants.{Is, Foreign, Spen
 use Rattle.evaluator.specs.declared.operation.Who.{Who}
 use Rattle.evaluator.specs.declared.operation.Answered.{Answered}
 use Rattle.evaluator.specs.declared.node.Node.{Node}
-use Rattle.evaluator.specs.declared.node.Node.the-variants.{Literal, Flag, Variable, SharedCell, NewCell, ContentOf, SumOf, LessOf, ChooseOf}
+use Rattle.evaluator.specs.declared.node.Node.the-variants.{Literal, Flag, Variable, SharedCell, NewCell, ContentOf, Numbers, ChooseOf}
+use Rattle.evaluator.specs.declared.node.Operator.{Operator}
+use Rattle.evaluator.specs.declared.node.Operator.the-variants.{Sum, Less}
 use Rattle.evaluator.specs.Results.{Result}
 
 -- ---- frames as nodes: an expression's kind with the frames of its operands
@@ -34,8 +36,8 @@ nodeWith f ExpressionKind.Variable = Variable (f .s)
 nodeWith f ExpressionKind.SharedCell = SharedCell (f .s)
 nodeWith f ExpressionKind.NewCell = NewCell (f .s) (f .a)
 nodeWith f ExpressionKind.Content = ContentOf (f .a)
-nodeWith f ExpressionKind.Sum = SumOf (f .a) (f .b)
-nodeWith f ExpressionKind.Less = LessOf (f .a) (f .b)
+nodeWith f ExpressionKind.Sum = Numbers Sum (f .a) (f .b)
+nodeWith f ExpressionKind.Less = Numbers Less (f .a) (f .b)
 nodeWith f ExpressionKind.Choose = ChooseOf (f .a) (f .b) (f .c)
 
 -- as `expressionOf`: what is no expression reads as the number 0
@@ -141,6 +143,17 @@ numbersOf f (Number m) (Cell c) = Stuck
 numbersOf f (Truth b) w = Stuck
 numbersOf f (Cell c) w = Stuck
 
+abbrev pub operation : Operator → ℕ → ℕ → Value
+operation Sum = plus
+operation Less = lessThan
+
+-- the same where the first operand is what its evaluation gave
+abbrev pub operands : Operator → Outcome → Value → Outcome
+operands op (Is v) w = numbersOf (operation op) v w
+operands op Foreign w = Foreign
+operands op Spent w = Spent
+operands op Stuck w = Stuck
+
 abbrev pub aTruth : Value → Outcome
 aTruth (Truth b) = Is (Truth b)
 aTruth (Number n) = Stuck
@@ -157,6 +170,12 @@ chosen (Truth b) x y = if b then x else y
 chosen (Number n) x y = y
 chosen (Cell c) x y = y
 
+abbrev pub chosenBy : Outcome → ℕ → ℕ → ℕ
+chosenBy (Is v) b c = chosen v b c
+chosenBy Foreign b c = c
+chosenBy Spent b c = c
+chosenBy Stuck b c = c
+
 unfoldable pub evalIn : Who → List ℕ → Expr → ℕ → List ℕ → Result
 evalIn who vs (number i m) n ws = result (Is (Number m)) n ws
 evalIn who vs (truth i m) n ws = result (Is (truthOf m)) n ws
@@ -169,6 +188,10 @@ evalIn who vs (less i x y) n ws = andThen (evalIn who vs x n ws) (λ v m us. and
 evalIn who vs (choose i x y z) n ws =
     andThen (andThen (evalIn who vs x n ws) (keeping aTruth))
     (λ v m us. andThen (chosen v (evalIn who vs y m us) (evalIn who vs z m us)) (keeping aNumber))
+
+-- behind another evaluation, whose value it does not need
+abbrev pub evaluating : Who → List ℕ → Expr → Value → ℕ → List ℕ → Result
+evaluating who vs x v n ws = evalIn who vs x n ws
 
 -- 28's condition
 abbrev pub truthIn : Who → List ℕ → Expr → ℕ → List ℕ → Result

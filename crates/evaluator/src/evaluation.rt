@@ -3,15 +3,15 @@ use crate::node::Node;
 use crate::node::node_at;
 use crate::operation::Answered;
 use crate::operation::Who;
+use crate::operation::answer_of;
 use crate::operation::branch;
 use crate::operation::read_variable;
 use crate::operation::shared_cell;
-use crate::operation::then_less;
 use crate::operation::then_make;
 use crate::operation::then_number;
+use crate::operation::then_operate;
 use crate::operation::then_read;
 use crate::operation::then_store;
-use crate::operation::then_sum;
 use crate::operation::then_truth;
 use machine::value::Outcome;
 use machine::value::Value;
@@ -20,7 +20,7 @@ ghost use Rattle.text.specs.Frames.{framesOf};
 ghost use Rattle.program.specs.Trees.{expressionAt};
 ghost use Rattle.machine.specs.Evaluation.{eval, storing};
 ghost use Rattle.evaluator.specs.Results.{after, hereOf, onWords, CellWords, ValueWords, FrameWords};
-ghost use Rattle.evaluator.specs.ByWords.{evalIn, truthIn, storingIn};
+ghost use Rattle.evaluator.specs.ByWords.{andThen, evalIn, evaluating, truthIn, storingIn};
 
 fn wide16(x: u16) -> u32
     ensures { λ r. ⌜ r ≡ x ⌝ }
@@ -41,22 +41,10 @@ fn value_at(
     ensures { λ r. ⌜ after r (now (cells .exit)) ≡ evalIn who (now (variables .entry)) (expressionAt (framesOf (now (frames .entry))) i) used (now (cells .entry)) ⌝ }
 {
     match node_at(frames, i) {
-        Node::Literal(n) => Answered {
-            outcome: Outcome::Is(Value::Number(wide16(n))),
-            used: used,
-        },
-        Node::Flag(s) => Answered {
-            outcome: Outcome::Is(Value::Truth(s == 1)),
-            used: used,
-        },
-        Node::Variable(s) => Answered {
-            outcome: read_variable(variables, s),
-            used: used,
-        },
-        Node::SharedCell(s) => Answered {
-            outcome: shared_cell(who, s),
-            used: used,
-        },
+        Node::Literal(n) => answer_of(Outcome::Is(Value::Number(wide16(n))), used),
+        Node::Flag(s) => answer_of(Outcome::Is(Value::Truth(s == 1)), used),
+        Node::Variable(s) => answer_of(read_variable(variables, s), used),
+        Node::SharedCell(s) => answer_of(shared_cell(who, s), used),
         Node::NewCell(s, a) => {
             let x = value_at(frames, who, variables, cells, used, a);
             then_make(who, s, x, cells)
@@ -65,43 +53,35 @@ fn value_at(
             let x = value_at(frames, who, variables, cells, used, a);
             then_read(who, x, cells)
         },
-        Node::SumOf(a, b) => {
+        Node::Numbers(op, a, b) => {
             let x = value_at(frames, who, variables, cells, used, a);
-            let o = x.outcome;
-            match o {
-                Outcome::Is(v) => then_sum(v, value_at(frames, who, variables, cells, x.used, b)),
-                Outcome::Foreign => x,
-                Outcome::Spent => x,
-                Outcome::Stuck => x,
-            }
-        },
-        Node::LessOf(a, b) => {
-            let x = value_at(frames, who, variables, cells, used, a);
-            let o = x.outcome;
-            match o {
-                Outcome::Is(v) => then_less(v, value_at(frames, who, variables, cells, x.used, b)),
-                Outcome::Foreign => x,
-                Outcome::Spent => x,
-                Outcome::Stuck => x,
-            }
+            then_operate(op, x, next_at(frames, who, variables, cells, x, b))
         },
         Node::ChooseOf(a, b, c) => {
             let x = truth_at(frames, who, variables, cells, used, a);
-            let o = x.outcome;
-            match o {
-                Outcome::Is(v) => then_number(value_at(
-                    frames,
-                    who,
-                    variables,
-                    cells,
-                    x.used,
-                    branch(v, b, c),
-                )),
-                Outcome::Foreign => x,
-                Outcome::Spent => x,
-                Outcome::Stuck => x,
-            }
+            then_number(next_at(frames, who, variables, cells, x, branch(x, b, c)))
         },
+    }
+}
+
+// Frame i behind the evaluation that gave x, whose refusal stands.
+fn next_at(
+    frames: &[u64],
+    who: Who,
+    variables: &[u64],
+    cells: &mut [u64],
+    x: Answered,
+    i: usize,
+) -> Answered
+    requires { ⌜ FrameWords (now frames) i ⌝ }
+    ensures { λ r. ⌜ after r (now (cells .exit)) ≡ andThen (after x (now (cells .entry))) (evaluating who (now (variables .entry)) (expressionAt (framesOf (now (frames .entry))) i)) ⌝ }
+{
+    let o = x.outcome;
+    match o {
+        Outcome::Is(v) => value_at(frames, who, variables, cells, x.used, i),
+        Outcome::Foreign => x,
+        Outcome::Spent => x,
+        Outcome::Stuck => x,
     }
 }
 

@@ -9,6 +9,12 @@ ghost use lib.ListN.{length};
 ghost use Rattle.text.specs.Frames.{framesOf};
 ghost use Rattle.evaluator.specs.ByWords.{nodeWith, nodeOf, nodeAt};
 
+// What becomes of two numbers: their sum, or whether the first is less.
+pub enum Operator {
+    Sum,
+    Less,
+}
+
 // The kind of an expression with what it needs: a number, an index, an owner, the frames of its operands.
 pub enum Node {
     Literal(u16),
@@ -17,8 +23,7 @@ pub enum Node {
     SharedCell(u8),
     NewCell(u8, usize),
     ContentOf(usize),
-    SumOf(usize, usize),
-    LessOf(usize, usize),
+    Numbers(Operator, usize, usize),
     ChooseOf(usize, usize, usize),
 }
 
@@ -38,8 +43,8 @@ fn expression_node(f: Frame, k: ExpressionKind) -> Node
         ExpressionKind::SharedCell => Node::SharedCell(f.s),
         ExpressionKind::NewCell => Node::NewCell(f.s, index16(f.a)),
         ExpressionKind::Content => Node::ContentOf(index16(f.a)),
-        ExpressionKind::Sum => Node::SumOf(index16(f.a), index16(f.b)),
-        ExpressionKind::Less => Node::LessOf(index16(f.a), index16(f.b)),
+        ExpressionKind::Sum => Node::Numbers(Operator::Sum, index16(f.a), index16(f.b)),
+        ExpressionKind::Less => Node::Numbers(Operator::Less, index16(f.a), index16(f.b)),
         ExpressionKind::Choose => Node::ChooseOf(index16(f.a), index16(f.b), index16(f.c)),
     }
 }

@@ -1,4 +1,5 @@
 // Operations on values and cells: what each kind of expression does behind its operands.
+use crate::node::Operator;
 use crate::word::cell_word;
 use crate::word::content_of;
 use crate::word::owner_of;
@@ -10,7 +11,7 @@ ghost use mathlib.Core.Path.{_≡_};
 ghost use lib.ListN.{getD, set};
 ghost use Rattle.machine.specs.Evaluation.{plus, lessThan};
 ghost use Rattle.evaluator.specs.Results.{after};
-ghost use Rattle.evaluator.specs.ByWords.{ownIn, newOwnerIn, variableIn, sharedIn, readIn, reading, makeIn, storeIn, numbersOf, aTruth, aNumber, chosen, andThen, only};
+ghost use Rattle.evaluator.specs.ByWords.{ownIn, newOwnerIn, variableIn, sharedIn, readIn, reading, makeIn, storeIn, numbersOf, aTruth, aNumber, operation, operands, chosen, chosenBy, andThen, only};
 
 // Who evaluates: the acting thread, the place on which it stands, and how many cells are shared.
 pub struct Who {
@@ -23,6 +24,12 @@ pub struct Who {
 pub struct Answered {
     pub outcome: Outcome,
     pub used: usize,
+}
+
+pub fn answer_of(outcome: Outcome, used: usize) -> Answered
+    ensures { λ r. ⌜ r ≡ record { outcome = outcome; used = used } ⌝ }
+{
+    Answered { outcome, used }
 }
 
 fn wide8(x: u8) -> u64
@@ -248,8 +255,30 @@ pub fn a_number(v: Value) -> Outcome
     }
 }
 
+// 26 or 27
+fn operate(op: Operator, v: Value, w: Value) -> Outcome
+    ensures { λ r. ⌜ r ≡ numbersOf (operation op) v w ⌝ }
+{
+    match op {
+        Operator::Sum => sum_of(v, w),
+        Operator::Less => less_of(v, w),
+    }
+}
+
+// The same where the first operand is what its evaluation gave.
+fn operate_on(op: Operator, o: Outcome, w: Value) -> Outcome
+    ensures { λ r. ⌜ r ≡ operands op o w ⌝ }
+{
+    match o {
+        Outcome::Is(v) => operate(op, v, w),
+        Outcome::Foreign => o,
+        Outcome::Spent => o,
+        Outcome::Stuck => o,
+    }
+}
+
 // Which of two frames a truth chooses.
-pub fn branch(v: Value, b: usize, c: usize) -> usize
+fn branch_of(v: Value, b: usize, c: usize) -> usize
     ensures { λ r. ⌜ r ≡ chosen v b c ⌝ }
 {
     match v {
@@ -261,6 +290,19 @@ pub fn branch(v: Value, b: usize, c: usize) -> usize
         },
         Value::Number(n) => c,
         Value::Cell(j) => c,
+    }
+}
+
+// The same by an outcome; a refusal chooses what is then not evaluated.
+pub fn branch(x: Answered, b: usize, c: usize) -> usize
+    ensures { λ r. ⌜ r ≡ chosenBy (x .outcome) b c ⌝ }
+{
+    let o = x.outcome;
+    match o {
+        Outcome::Is(v) => branch_of(v, b, c),
+        Outcome::Foreign => c,
+        Outcome::Spent => c,
+        Outcome::Stuck => c,
     }
 }
 
@@ -305,33 +347,19 @@ pub fn then_store(who: Who, v: Value, x: Answered, cells: &mut [u64]) -> Answere
     }
 }
 
-pub fn then_sum(v: Value, x: Answered) -> Answered
-    ensures { λ r. ⌜ r ≡ only x (numbersOf plus v) ⌝ }
+pub fn then_operate(op: Operator, x: Answered, y: Answered) -> Answered
+    ensures { λ r. ⌜ r ≡ only y (operands op (x .outcome)) ⌝ }
 {
-    let o = x.outcome;
+    let o = y.outcome;
+    let p = x.outcome;
     match o {
         Outcome::Is(w) => Answered {
-            outcome: sum_of(v, w),
-            used: x.used,
+            outcome: operate_on(op, p, w),
+            used: y.used,
         },
-        Outcome::Foreign => x,
-        Outcome::Spent => x,
-        Outcome::Stuck => x,
-    }
-}
-
-pub fn then_less(v: Value, x: Answered) -> Answered
-    ensures { λ r. ⌜ r ≡ only x (numbersOf lessThan v) ⌝ }
-{
-    let o = x.outcome;
-    match o {
-        Outcome::Is(w) => Answered {
-            outcome: less_of(v, w),
-            used: x.used,
-        },
-        Outcome::Foreign => x,
-        Outcome::Spent => x,
-        Outcome::Stuck => x,
+        Outcome::Foreign => y,
+        Outcome::Spent => y,
+        Outcome::Stuck => y,
     }
 }
 

@@ -1,23 +1,29 @@
 -- `branch` meets its contract. Assumes nothing.
 use borrow.Author.Needs.{needs}
-use Rattle.evaluator.proofs.Operations.{choose-first, choose-second}
+use Rattle.evaluator.proofs.Operations.{chosen-is}
 use Rattle.evaluator.proofs.operation.branch.Statement.{statement}
 use Rattle.evaluator.proofs.operation.branch.Tie as tie
 
-enum-known-v : tie.Need-enum-known-v
-enum-known-v c = search needs
+enum-known-o : tie.Need-enum-known-o
+enum-known-o c = search needs
+
+branch-of-requires : tie.Need-branch-of-requires
+branch-of-requires c κs = search needs
+
+enum-told : tie.Need-enum-told
+enum-told c = search needs
+
+enum-told-2 : tie.Need-enum-told-2
+enum-told-2 c = search needs
+
+enum-told-3 : tie.Need-enum-told-3
+enum-told-3 c = search needs
 
 returns : tie.Need-returns
-returns c = search (choose-first, choose-second)
-
-enum-known-v-2 : tie.Need-enum-known-v-2
-enum-known-v-2 c = search needs
-
-enum-known-v-3 : tie.Need-enum-known-v-3
-enum-known-v-3 c = search needs
+returns c = search chosen-is
 
 returns-2 : tie.Need-returns-2
-returns-2 c = search (choose-first, choose-second)
+returns-2 c = search needs
 
 returns-3 : tie.Need-returns-3
 returns-3 c = search needs
@@ -28,4 +34,13 @@ returns-4 c = search needs
 pub branch-spec : {M : Type 1} → statement M
 branch-spec =
     tie.close
-    (tie.spec enum-known-v returns enum-known-v-2 enum-known-v-3 returns-2 returns-3 returns-4)
+    (tie.spec
+    enum-known-o
+    branch-of-requires
+    enum-told
+    enum-told-2
+    enum-told-3
+    returns
+    returns-2
+    returns-3
+    returns-4)

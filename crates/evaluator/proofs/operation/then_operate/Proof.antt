@@ -1,14 +1,14 @@
--- `then_less` meets its contract. Assumes nothing.
+-- `then_operate` meets its contract. Assumes nothing.
 use borrow.Author.Needs.{needs}
 use Rattle.evaluator.proofs.Operations.{only-is, only-keeps}
-use Rattle.evaluator.proofs.operation.then_less.Statement.{statement}
-use Rattle.evaluator.proofs.operation.then_less.Tie as tie
+use Rattle.evaluator.proofs.operation.then_operate.Statement.{statement}
+use Rattle.evaluator.proofs.operation.then_operate.Tie as tie
 
 enum-known-o : tie.Need-enum-known-o
 enum-known-o c = search needs
 
-less-of-requires : tie.Need-less-of-requires
-less-of-requires c κs = search needs
+operate-on-requires : tie.Need-operate-on-requires
+operate-on-requires c κs = search needs
 
 enum-told : tie.Need-enum-told
 enum-told c = search needs
@@ -31,12 +31,12 @@ returns-3 c = search (only-is, only-keeps)
 returns-4 : tie.Need-returns-4
 returns-4 c = search (only-is, only-keeps)
 
-pub then-less-spec : {M : Type 1} → statement M
-then-less-spec =
+pub then-operate-spec : {M : Type 1} → statement M
+then-operate-spec =
     tie.close
     (tie.spec
     enum-known-o
-    less-of-requires
+    operate-on-requires
     enum-told
     enum-told-2
     enum-told-3

@@ -1,0 +1,46 @@
+-- `operate_on` meets its contract. Assumes nothing.
+use borrow.Author.Needs.{needs}
+use Rattle.evaluator.proofs.Operations.{operands-is, operands-keep}
+use Rattle.evaluator.proofs.operation.operate_on.Statement.{statement}
+use Rattle.evaluator.proofs.operation.operate_on.Tie as tie
+
+enum-known-o : tie.Need-enum-known-o
+enum-known-o c = search needs
+
+operate-requires : tie.Need-operate-requires
+operate-requires c κs = search needs
+
+enum-told : tie.Need-enum-told
+enum-told c = search needs
+
+enum-told-2 : tie.Need-enum-told-2
+enum-told-2 c = search needs
+
+enum-told-3 : tie.Need-enum-told-3
+enum-told-3 c = search needs
+
+returns : tie.Need-returns
+returns c = search (operands-is, operands-keep)
+
+returns-2 : tie.Need-returns-2
+returns-2 c = search needs
+
+returns-3 : tie.Need-returns-3
+returns-3 c = search needs
+
+returns-4 : tie.Need-returns-4
+returns-4 c = search needs
+
+pub operate-on-spec : {M : Type 1} → statement M
+operate-on-spec =
+    tie.close
+    (tie.spec
+    enum-known-o
+    operate-requires
+    enum-told
+    enum-told-2
+    enum-told-3
+    returns
+    returns-2
+    returns-3
+    returns-4)
