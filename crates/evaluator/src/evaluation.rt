@@ -99,3 +99,45 @@ fn truth_at(
 {
     then_truth(value_at(frames, who, variables, cells, used, i))
 }
+
+// The value of frame i of a file, on the cells that the words are. Each `requires` is what refusals 3, 6 and 14 leave: the words of
+// cells and of values are in range, children stand before their parents, and frame i is there.
+pub fn evaluate(
+    frames: &[u64],
+    who: Who,
+    variables: &[u64],
+    cells: &mut [u64],
+    used: usize,
+    i: usize,
+) -> Answered
+    requires { ⌜ FrameWords (now frames) i × ValueWords (now variables) × CellWords used (now cells) ⌝ }
+    ensures { λ r. ⌜ after r (now (cells .exit)) ≡ onWords (eval (hereOf who (now (variables .entry))) (expressionAt (framesOf (now (frames .entry))) i)) used (now (cells .entry)) ⌝ }
+{
+    value_at(frames, who, variables, cells, used, i)
+}
+
+// 17: the value of frame b stored in the cell that frame a gives. It asks the same of its words, and that both frames are there.
+pub fn store(
+    frames: &[u64],
+    who: Who,
+    variables: &[u64],
+    cells: &mut [u64],
+    used: usize,
+    a: usize,
+    b: usize,
+) -> Answered
+    requires { ⌜ FrameWords (now frames) a × FrameWords (now frames) b × ValueWords (now variables) × CellWords used (now cells) ⌝ }
+    ensures { λ r. ⌜ after r (now (cells .exit)) ≡ onWords (storing (hereOf who (now (variables .entry))) (expressionAt (framesOf (now (frames .entry))) a) (expressionAt (framesOf (now (frames .entry))) b)) used (now (cells .entry)) ⌝ }
+{
+    let x = value_at(frames, who, variables, cells, used, a);
+    let o = x.outcome;
+    match o {
+        Outcome::Is(v) => {
+            let y = value_at(frames, who, variables, cells, x.used, b);
+            then_store(who, v, y, cells)
+        },
+        Outcome::Foreign => x,
+        Outcome::Spent => x,
+        Outcome::Stuck => x,
+    }
+}

@@ -151,9 +151,9 @@ pub fn read_cell(who: Who, v: Value, cells: &[u64], used: usize) -> Outcome
 {
     match v {
         Value::Cell(c) => {
-            let i = index8(c);
-            if i < used {
-                let w = word_at(cells, i);
+            let j = index8(c);
+            if j < used {
+                let w = word_at(cells, j);
                 if is_own(who, owner_of(w)) {
                     return Outcome::Is(content_of(w));
                 }
