@@ -30,7 +30,7 @@ use Rattle.evaluator.specs.declared.operation.Who.{Who}
 use Rattle.evaluator.specs.Results.{Result, hereOf, resultOf, onWords, cellsFrom, CellWords, ValueWords}
 use Rattle.evaluator.specs.ByWords.{valueIn, ownerIn, contentIn, cellOf, result, thenBy, andThen, keeping, ownIn, newOwnerIn, variableIn, sharedIn, makeIn, readIn, reading, storeIn, numbersOf, aTruth, aNumber, chosen, evalIn, storingIn}
 use Rattle.evaluator.proofs.Operations.{Refused, then-is, keeps}
-use Rattle.evaluator.proofs.Holding.{Holds, holds-at, holds-from, holds-push, holds-put, value-same, value-fits, owner-back, content-back}
+use Rattle.evaluator.proofs.Holding.{Holds, holds-at, holds-from, holds-words, holds-cells, holds-push, holds-put, value-same, value-fits, owner-back, content-back}
 
 pub record Agrees (l : Result) (r : Evaluated) : Type 0 where
   pub outcome : l .outcome ≡ r .outcome
@@ -309,12 +309,28 @@ unfolding onWords
 storing-on fw vs who a b n ws w g =
     equation _ _ (agree-storing who vs w (expressionAt (framesOf fw) a) (expressionAt (framesOf fw) b) n ws (cellsFrom n ws) (small-at fw a) (small-at fw b) (holds-from n ws g))
 
--- the words behind an evaluation hold the cells that the definition gives, and its value fits
-pub holds-behind : (fw vs : List ℕ) (who : Who) (i n : ℕ) (ws : List ℕ) → ValueWords vs → CellWords n ws
-    → (let r = eval (hereOf who vs) (expressionAt (framesOf fw) i) (cellsFrom n ws) in Agrees (resultOf r) r)
-holds-behind fw vs who i n ws w g =
-    let a = agree who vs w (expressionAt (framesOf fw) i) n ws (cellsFrom n ws) (small-at fw i) (holds-from n ws g) in
-    subst (λ (l : Result). Agrees l (eval (hereOf who vs) (expressionAt (framesOf fw) i) (cellsFrom n ws))) (equation _ _ a) a
+-- ---- for callers that go on: what `evaluate` and `store` leave may be lent again, and says the cells that the definition gives
+pub record Behind (x : Result) (r : Evaluated) : Type 0 where
+  pub outcome : x .outcome ≡ r .outcome
+  pub words : CellWords (x .used) (x .words)
+  pub cells : cellsFrom (x .used) (x .words) ≡ r .cells
+  pub fits : OutcomeFits (r .outcome)
+
+behind : (x l : Result) (r : Evaluated) → Agrees l r → x ≡ resultOf r → Behind x r
+behind x l r a e = subst (λ (y : Result). Behind y r) (equation l r a ∙ sym e)
+    (record { outcome = a .outcome; words = holds-words (l .used) (l .words) (r .cells) (a .cells); cells = holds-cells (l .used) (l .words) (r .cells) (a .cells); fits = a .fits })
+
+pub eval-behind : (fw vs : List ℕ) (who : Who) (i n : ℕ) (ws : List ℕ) (x : Result) → ValueWords vs → CellWords n ws
+    → x ≡ onWords (eval (hereOf who vs) (expressionAt (framesOf fw) i)) n ws → Behind x (eval (hereOf who vs) (expressionAt (framesOf fw) i) (cellsFrom n ws))
+unfolding onWords
+eval-behind fw vs who i n ws x w g e = behind x _ _ (agree who vs w (expressionAt (framesOf fw) i) n ws (cellsFrom n ws) (small-at fw i) (holds-from n ws g)) e
+
+pub storing-behind : (fw vs : List ℕ) (who : Who) (a b n : ℕ) (ws : List ℕ) (x : Result) → ValueWords vs → CellWords n ws
+    → x ≡ onWords (storing (hereOf who vs) (expressionAt (framesOf fw) a) (expressionAt (framesOf fw) b)) n ws
+    → Behind x (storing (hereOf who vs) (expressionAt (framesOf fw) a) (expressionAt (framesOf fw) b) (cellsFrom n ws))
+unfolding onWords
+storing-behind fw vs who a b n ws x w g e =
+    behind x _ _ (agree-storing who vs w (expressionAt (framesOf fw) a) (expressionAt (framesOf fw) b) n ws (cellsFrom n ws) (small-at fw a) (small-at fw b) (holds-from n ws g)) e
 
 -- ---- the returns of `store`
 module _ (fw vs : List ℕ) (who : Who) (a b n : ℕ) (ws : List ℕ) (w : ValueWords vs) (g : CellWords n ws) where
