@@ -2,4 +2,5 @@
 pub mod evaluation;
 pub mod node;
 pub mod operation;
+pub mod saving;
 pub mod word;
