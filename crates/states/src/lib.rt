@@ -1,0 +1,2 @@
+// The state that a caller lends, in its words: whether they are in range, and the parts of it that a step reads and writes.
+pub mod range;
