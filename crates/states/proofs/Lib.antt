@@ -1,2 +1,5 @@
 pub mod RangeLaws
 pub mod BlockLaws
+pub mod Copies
+pub mod Store
+pub mod Bridge
