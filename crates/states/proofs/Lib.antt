@@ -3,3 +3,4 @@ pub mod BlockLaws
 pub mod Copies
 pub mod Store
 pub mod Bridge
+pub mod ListLaws

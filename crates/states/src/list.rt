@@ -1,0 +1,144 @@
+// A scheduler's active list and next list in the lent words. Scheduler k counts from 0: it is scheduler k + 2 of the file.
+use crate::wait::is_ready;
+ghost use mathlib.Core.Path.{_≡_};
+ghost use mathlib.Core.List.{_∷_};
+ghost use Prim.Native.Nat.{_+_, _*_, _<_, _≤_};
+ghost use lib.Dec.{leb};
+ghost use lib.ListN.{length, getD};
+ghost use Rattle.machine.specs.Blocks.{part, pasted};
+ghost use Rattle.machine.specs.Words.{wordsAt};
+ghost use Rattle.states.specs.Lists.{shifted, withoutFirst, withLast, sortedOf, withInstantEnded, readyWords};
+
+// A next list's entries: the threads of the ready ones, and those that wait, each with its count and 0 behind.
+pub struct Sorted {
+    pub readies: u64,
+    pub ready: [u64; 64],
+    pub waits: u64,
+    pub waiting: [u64; 64],
+}
+
+// The first active thread; 0 where there is none.
+pub fn first_active(state: &[u64], k: usize) -> u64
+    requires { ⌜ (length (now state) ≡ 4818) × (k < 8) ⌝ }
+    ensures { λ r. ⌜ r ≡ getD (now (state .entry)) (3 + 130 * k) 0 ⌝ }
+{
+    state[3 + 130 * k]
+}
+
+// So many more entries have room in the next list.
+pub fn has_room(state: &[u64], k: usize, more: u8) -> bool
+    requires { ⌜ (length (now state) ≡ 4818) × (k < 8) ⌝ }
+    ensures { λ r. ⌜ r ≡ leb (getD (now (state .entry)) (67 + 130 * k) 0 + more) 64 ⌝ }
+{
+    let n = state[67 + 130 * k];
+    if 64 < n {
+        return false;
+    }
+    n + more as u64 <= 64
+}
+
+// The 64 words at that place move down by one.
+fn shift(state: &mut [u64], at: usize)
+    requires { ⌜ at + 64 ≤ length (now state) ⌝ }
+    ensures { λ _. ⌜ now (state .exit) ≡ pasted (now (state .entry)) at (shifted (part (now (state .entry)) at 64)) 64 ⌝ }
+{
+    let mut j: usize = 0;
+    while j < 63 {
+        state[at + j] = state[at + j + 1];
+        j += 1;
+    }
+    state[at + 63] = 0;
+}
+
+// The first active thread leaves the list, the others move up; an empty list stays.
+pub fn drop_first(state: &mut [u64], k: usize)
+    requires { ⌜ (length (now state) ≡ 4818) × (k < 8) ⌝ }
+    ensures { λ _. ⌜ now (state .exit) ≡ withoutFirst (now (state .entry)) k ⌝ }
+{
+    let at = 2 + 130 * k;
+    let n = state[at];
+    if n == 0 {
+        return;
+    }
+    shift(state, at + 1);
+    state[at] = n - 1;
+}
+
+// The entry goes to the end of the next list; a full list stays as it is.
+pub fn append(state: &mut [u64], k: usize, entry: u64)
+    requires { ⌜ (length (now state) ≡ 4818) × (k < 8) ⌝ }
+    ensures { λ _. ⌜ now (state .exit) ≡ withLast (now (state .entry)) k entry ⌝ }
+{
+    let at = 67 + 130 * k;
+    let n = state[at];
+    if 64 <= n {
+        return;
+    }
+    state[at + 1 + n as usize] = entry;
+    state[at] = n + 1;
+}
+
+// Validation has found at most 64 threads, and a list within its space.
+fn sort_entries(state: &[u64], at: usize) -> Sorted
+    requires { ⌜ (length (now state) ≡ 4818) × (at + 64 < 4818) × (getD (now state) 0 0 ≤ 64) × (getD (now state) at 0 ≤ 64) ⌝ }
+    ensures { λ r. ⌜ r ≡ sortedOf (now (state .entry)) (wordsAt (now (state .entry)) at) ⌝ }
+{
+    let n = state[at] as usize;
+    let mut ready = [0u64; 64];
+    let mut waiting = [0u64; 64];
+    let mut r: usize = 0;
+    let mut j: usize = 0;
+    while j < n {
+        let e = state[at + 1 + j];
+        if is_ready(state, e) {
+            ready[r] = e % 128;
+            r += 1;
+            j += 1;
+            continue;
+        }
+        waiting[j - r] = e;
+        j += 1;
+    }
+    Sorted {
+        readies: r as u64,
+        ready,
+        waits: (n - r) as u64,
+        waiting,
+    }
+}
+
+fn store_members(state: &mut [u64], at: usize, members: [u64; 64])
+    requires { ⌜ at + 64 ≤ length (now state) ⌝ }
+    ensures { λ _. ⌜ now (state .exit) ≡ pasted (now (state .entry)) at members 64 ⌝ }
+{
+    let mut j: usize = 0;
+    while j < 64 {
+        state[at + j] = members[j];
+        j += 1;
+    }
+}
+
+fn store_list(state: &mut [u64], at: usize, count: u64, members: [u64; 64])
+    requires { ⌜ at + 65 ≤ length (now state) ⌝ }
+    ensures { λ _. ⌜ now (state .exit) ≡ pasted (now (state .entry)) at (count ∷ members) 65 ⌝ }
+{
+    state[at] = count;
+    store_members(state, at + 1, members);
+}
+
+// The instant of a scheduler with no active thread ends: how many entries were ready. Where none was, nothing changes.
+pub fn end_instant(state: &mut [u64], k: usize) -> u64
+    requires { ⌜ (length (now state) ≡ 4818) × (k < 8) × (getD (now state) 0 0 ≤ 64) × (getD (now state) (67 + 130 * k) 0 ≤ 64) ⌝ }
+    ensures count { λ r. ⌜ r ≡ length (readyWords (now (state .entry)) (wordsAt (now (state .entry)) (67 + 130 * k))) ⌝ }
+    ensures words { λ r. ⌜ now (state .exit) ≡ withInstantEnded (now (state .entry)) k ⌝ }
+{
+    let next = 67 + 130 * k;
+    let s = sort_entries(state, next);
+    let r = s.readies;
+    let ready = s.ready;
+    store_list(state, 2 + 130 * k, r, ready);
+    let w = s.waits;
+    let waiting = s.waiting;
+    store_list(state, next, w, waiting);
+    r
+}
