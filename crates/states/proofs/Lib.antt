@@ -4,3 +4,6 @@ pub mod Copies
 pub mod Store
 pub mod Bridge
 pub mod ListLaws
+pub mod FreshLaws
+pub mod Schedulers
+pub mod FreshWords

@@ -1,22 +1,21 @@
 -- Laws of a scheduler's lists in the words, one for each turn and return of the code. Assumes nothing.
-use Prim.Native.Nat.{ℕ, zero, suc, _+_, _*_, _-_, _/_, _%_, _<_, _≤_}
-use mathlib.Core.Path.{_≡_, refl, sym, ap, ap₂, _∙_, subst}
+use Prim.Native.Nat.{ℕ, suc, _+_, _*_, _-_, _/_, _%_, _<_, _≤_}
+use mathlib.Core.Path.{_≡_, refl, sym, ap, ap₂, _∙_}
 use mathlib.Core.List.{List, [], _∷_, _++_, append-nil}
-use mathlib.Core.Bool.{Bool, true, false, not, _||_}
+use mathlib.Core.Bool.{Bool, true, false, not}
 use native.Mathlib.Omega.{arith}
 use native.Mathlib.Numerals.{add-one}
-use lib.ListN.{getD, length, set, drop, take, replicate, length-append, length-drop, List·getD-append}
+use lib.ListN.{getD, length, set, drop, take, length-append, length-drop, List·getD-append}
 use lib.Seq.{getD-drop, getD-at, take-suc, take-all}
-use lib.Dec.{ltb, leb, eqb}
-use borrow.Author.Tests.{lt-ltb, le-ltb, le-leb, lt-leb, eq-eqb, ne-eqb}
-use Rattle.basics.specs.If.{if_then_else_}
-use Rattle.basics.proofs.Ifs.{if-yes, if-no, yes, no}
+use lib.Dec.{leb, eqb}
+use borrow.Author.Tests.{lt-ltb, le-ltb, lt-leb, eq-eqb, ne-eqb}
+use Rattle.basics.proofs.Ifs.{yes, no}
 use Rattle.machine.specs.Waits.{keepIf}
-use Rattle.machine.specs.Words.{tabulate, wordsAt}
+use Rattle.machine.specs.Words.{wordsAt}
 use Rattle.machine.specs.Blocks.{part, pasted, padded}
 use Rattle.machine.specs.Ranges.{allBelow}
 use Rattle.machine.proofs.WordLaws.{tab-length, tab-from, pasted-more, pasted-length, pasted-out, part-at, part-length}
-use Rattle.machine.proofs.Padded.{padded-length, padded-push}
+use Rattle.machine.proofs.Padded.{padded-push}
 use Rattle.states.specs.Lists.{shifted, withoutFirst, withLast, isQuiet, isReadyWord, readyWords, waitingWords, sortedOf, withInstantEnded}
 use Rattle.states.specs.declared.list.Sorted.{Sorted}
 use Rattle.states.proofs.Store.{first-word, next-run}

@@ -1,21 +1,20 @@
 -- Laws of the range tests, one for each return of the code. Assumes nothing.
-use Prim.Native.Nat.{ℕ, zero, suc, _+_, _*_, _-_, _/_, _%_, _^_, _<_, _≤_}
-use mathlib.Core.Path.{_≡_, refl, sym, ap, ap₂, _∙_}
+use Prim.Native.Nat.{ℕ, zero, suc, _+_, _-_, _/_, _%_, _<_, _≤_}
+use mathlib.Core.Path.{_≡_, refl, sym, ap, _∙_}
 use mathlib.Core.List.{List, [], _∷_}
-use mathlib.Core.Bool.{Bool, true, false, not, _&&_, _||_, true≢false}
+use mathlib.Core.Bool.{Bool, true, false, not, true≢false}
 use native.Mathlib.Omega.{arith}
 use native.Mathlib.Numerals.{add-one}
-use lib.ListN.{getD, length, length-map, List·getD-eq-default, List·getD-map}
-use lib.Dec.{ltb, leb, eqb}
-use borrow.Author.Tests.{lt-ltb, le-ltb, le-leb, lt-leb, eq-eqb, ne-eqb, eqb-true, not-true, not-false}
-use Rattle.basics.specs.If.{if_then_else_}
-use Rattle.basics.proofs.Ifs.{yes, no, and-true, and-off}
+use lib.ListN.{getD, length, length-map, List·getD-eq-default}
+use lib.Dec.{leb, eqb}
+use borrow.Author.Tests.{lt-ltb, le-ltb, le-leb, lt-leb, eq-eqb, ne-eqb, not-true, not-false}
+use Rattle.basics.proofs.Ifs.{yes, no}
 use Rattle.language.specs.Places.{hasPlace, hasScheduler}
 use Rattle.language.specs.declared.kind.Kind.{Kind}
 use Rattle.language.specs.declared.frame.Frame.{Frame}
 use Rattle.text.specs.Frames.{frameOfWord, framesOf}
 use Rattle.program.specs.Trees.{frameAt, noFrame}
-use Rattle.machine.specs.Ranges.{threadInRange, valueInRange, isStatement, itemInRange, entryInRange, ownerInRange, cellInRange, listInRange, allBelow}
+use Rattle.machine.specs.Ranges.{threadInRange, valueInRange, isStatement, itemInRange, entryInRange, ownerInRange, cellInRange, allBelow}
 use Rattle.machine.proofs.Tests.{and-both}
 use Rattle.machine.proofs.Ranges.{below-all}
 use Rattle.states.specs.Passes.{isZero, memberInRange, wordPasses}
@@ -49,7 +48,7 @@ pub ruleset value-laws = (value-number, value-truth, value-cell)
 pub no-statement : (words : List ℕ) (i : ℕ) → length words ≤ i → false ≡ isStatement (frameAt (framesOf words) i .kind)
 no-statement words i h = ap (λ (f : Frame). isStatement (f .kind)) (sym (List·getD-eq-default (framesOf words) noFrame {n = i} (rw (length-map words frameOfWord) h)))
 
-frame-at : (words : List ℕ) (i : ℕ) → i < length words → frameAt (framesOf words) i ≡ frameOfWord (getD words i 0)
+pub frame-at : (words : List ℕ) (i : ℕ) → i < length words → frameAt (framesOf words) i ≡ frameOfWord (getD words i 0)
 frame-at [] i h = absurd (omega arith)
 frame-at (w ∷ ws) zero h = refl
 frame-at (w ∷ ws) (suc i) h = frame-at ws i (omega arith)

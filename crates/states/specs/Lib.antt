@@ -1,3 +1,4 @@
 pub mod Passes
 pub mod Threads
 pub mod Lists
+pub mod Starts

@@ -1,4 +1,5 @@
 // The state that a caller lends, in its words: whether they are in range, and the parts of it that a step reads and writes.
+pub mod fresh;
 pub mod list;
 pub mod range;
 pub mod thread;
