@@ -7,3 +7,4 @@ pub mod ListLaws
 pub mod FreshLaws
 pub mod Schedulers
 pub mod FreshWords
+pub mod Instants

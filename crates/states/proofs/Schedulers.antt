@@ -70,7 +70,7 @@ module _ (w : List ℕ) (s : State) (h : Says w s) (q : ℕ) (a : q - 2 < 8) (b 
   active-word : (j : ℕ) → j < 65 → getD w (2 + 130 * (q - 2) + j) 0 ≡ listWord (getD (s .schedulers) (q - 2) noScheduler .active) j
   active-word j g = h .scheduler (q - 2) j a (omega arith) ∙ scheduler-active x j g
 
-  next-word : (j : ℕ) → j < 65 → getD w (2 + 130 * (q - 2) + (65 + j)) 0 ≡ listWord (map entryWord (getD (s .schedulers) (q - 2) noScheduler .next)) j
+  pub next-word : (j : ℕ) → j < 65 → getD w (2 + 130 * (q - 2) + (65 + j)) 0 ≡ listWord (map entryWord (getD (s .schedulers) (q - 2) noScheduler .next)) j
   next-word j g = h .scheduler (q - 2) (65 + j) a (omega arith) ∙ scheduler-next x j g
 
   -- `first_active`: 0 where there is none
