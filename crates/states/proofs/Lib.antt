@@ -8,3 +8,5 @@ pub mod FreshLaws
 pub mod Schedulers
 pub mod FreshWords
 pub mod Instants
+pub mod StackLaws
+pub mod PartyLaws

@@ -1,0 +1,64 @@
+-- A thread's struct with one item or one variable more or less, or at another place. Assumes nothing: definitions.
+use Prim.Native.Nat.{ℕ, _+_, _-_}
+use lib.ListN.{set}
+use Rattle.states.specs.declared.thread.ThreadWords.{ThreadWords}
+
+unfoldable pub pushItem : ℕ → ThreadWords → ThreadWords
+pushItem v x =
+    record {
+      place = x .place;
+      starter = x .starter;
+      alive = x .alive;
+      items = x .items + 1;
+      continuation = set (x .continuation) (x .items) v;
+      values = x .values;
+      variables = x .variables;
+    }
+
+unfoldable pub popItem : ThreadWords → ThreadWords
+popItem x =
+    record {
+      place = x .place;
+      starter = x .starter;
+      alive = x .alive;
+      items = x .items - 1;
+      continuation = set (x .continuation) (x .items - 1) 0;
+      values = x .values;
+      variables = x .variables;
+    }
+
+unfoldable pub pushValue : ℕ → ThreadWords → ThreadWords
+pushValue v x =
+    record {
+      place = x .place;
+      starter = x .starter;
+      alive = x .alive;
+      items = x .items;
+      continuation = x .continuation;
+      values = x .values + 1;
+      variables = set (x .variables) (x .values) v;
+    }
+
+unfoldable pub popValue : ThreadWords → ThreadWords
+popValue x =
+    record {
+      place = x .place;
+      starter = x .starter;
+      alive = x .alive;
+      items = x .items;
+      continuation = x .continuation;
+      values = x .values - 1;
+      variables = set (x .variables) (x .values - 1) 0;
+    }
+
+unfoldable pub moveTo : ℕ → ThreadWords → ThreadWords
+moveTo p x =
+    record {
+      place = p;
+      starter = x .starter;
+      alive = x .alive;
+      items = x .items;
+      continuation = x .continuation;
+      values = x .values;
+      variables = x .variables;
+    }
