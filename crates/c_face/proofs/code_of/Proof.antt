@@ -1,0 +1,42 @@
+-- `code_of` meets its contract. Assumes nothing.
+use borrow.Author.Needs.{needs}
+use Rattle.c_face.proofs.Laws.{code-laws}
+use Rattle.c_face.proofs.code_of.Statement.{statement}
+use Rattle.c_face.proofs.code_of.Tie as tie
+
+enum-told : tie.Need-enum-told
+enum-told c = search needs
+
+enum-known-v : tie.Need-enum-known-v
+enum-known-v c = search needs
+
+wide8-requires : tie.Need-wide8-requires
+wide8-requires c κs = search needs
+
+mul-result : tie.Need-mul-result
+mul-result c = search needs
+
+wide16-requires : tie.Need-wide16-requires
+wide16-requires c κs = search needs
+
+add-result : tie.Need-add-result
+add-result c = search needs
+
+returns : tie.Need-returns
+returns c = search code-laws
+
+returns-2 : tie.Need-returns-2
+returns-2 c = search code-laws
+
+pub code-of-spec : {M : Type 1} → statement M
+code-of-spec =
+    tie.close
+    (tie.spec
+    enum-told
+    enum-known-v
+    wide8-requires
+    mul-result
+    wide16-requires
+    add-result
+    returns
+    returns-2)
