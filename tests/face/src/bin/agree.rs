@@ -2,7 +2,9 @@
 use std::time::{Duration, Instant};
 
 fn main() {
-    let mut args = std::env::args().skip(1).map(|a| a.parse::<u64>().expect("agree SECONDS SEED"));
+    let mut args = std::env::args()
+        .skip(1)
+        .map(|a| a.parse::<u64>().expect("agree SECONDS SEED"));
     let (seconds, seed) = (args.next().expect("SECONDS"), args.next().expect("SEED"));
     let end = Instant::now() + Duration::from_secs(seconds);
     let mut verdicts = [0u64; 14];

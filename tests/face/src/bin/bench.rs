@@ -45,7 +45,10 @@ fn nanoseconds(check: fn(&[u8]) -> (u8, u16), text: &[u8]) -> u128 {
         .map(|_| {
             let start = Instant::now();
             for _ in 0..rounds {
-                assert_eq!(std::hint::black_box(check(std::hint::black_box(text))), (0, 0));
+                assert_eq!(
+                    std::hint::black_box(check(std::hint::black_box(text))),
+                    (0, 0)
+                );
             }
             start.elapsed().as_nanos() / rounds as u128
         })
@@ -68,7 +71,9 @@ fn stack_used(text: Vec<u8>) -> usize {
             #[inline(never)]
             fn untouched(low: usize) -> usize {
                 let area = low as *const u8;
-                (0..SIZE / 2).take_while(|&i| unsafe { area.add(i).read_volatile() } == 0xA5).count()
+                (0..SIZE / 2)
+                    .take_while(|&i| unsafe { area.add(i).read_volatile() } == 0xA5)
+                    .count()
             }
             let low = paint();
             std::hint::black_box(face::check(&text));
@@ -83,8 +88,20 @@ fn main() {
     println!("lines  proved ns  second ns  ratio");
     for lines in [9, 100, 128, 256, 512, 1024] {
         let text = accepted(lines);
-        let (ours, theirs) = (nanoseconds(face::check, &text), nanoseconds(face::second_check, &text));
-        println!("{:5}  {:9}  {:9}  {:.2}", text.len() / 17, ours, theirs, ours as f64 / theirs as f64);
+        let (ours, theirs) = (
+            nanoseconds(face::check, &text),
+            nanoseconds(face::second_check, &text),
+        );
+        println!(
+            "{:5}  {:9}  {:9}  {:.2}",
+            text.len() / 17,
+            ours,
+            theirs,
+            ours as f64 / theirs as f64
+        );
     }
-    println!("stack below the proved check of 1,024 lines: about {} bytes", stack_used(accepted(1024)));
+    println!(
+        "stack below the proved check of 1,024 lines: about {} bytes",
+        stack_used(accepted(1024))
+    );
 }
