@@ -14,6 +14,7 @@ use Rattle.basics.specs.If.{if_then_else_}
 use Rattle.basics.proofs.Ifs.{yes, no, if-yes, if-no}
 use Rattle.text.specs.Digits.{digit}
 use Rattle.text.specs.Lines.{lineFrom, lineRead}
+use Rattle.text.proofs.Table.{digitsFrom, table-at}
 use Rattle.text.specs.declared.line.Line.{Line}
 use Rattle.text.specs.declared.line.Line.the-variants.{Word, WrongAt}
 
@@ -90,5 +91,13 @@ module _ (bytes : List ℕ) (w k : ℕ) (t : Taking bytes w k) where
   line-done a b h n =
       let e : k ≡ 16 = omega arith in
       at-end (Word w) a b (feed-right k w (getD bytes k 0) (drop (suc k) bytes) e (rw e n)) h
+
+-- the same with the digit read from a table
+module _ (bytes digits : List ℕ) (w k : ℕ) (t : Taking bytes w k) (e : digits ≡ digitsFrom 0 256) (b : getD bytes k 0 < 256) where
+  pub table-wrong : k < 16 → k < length bytes → 16 ≤ getD digits (getD bytes k 0) 0 → WrongAt k ≡ lineRead bytes
+  table-wrong l h n = line-wrong bytes w k t (getD digits (getD bytes k 0) 0) l h (table-at digits (getD bytes k 0) e b) n
+
+  pub table-more : (v : ℕ) → k < 16 → k < length bytes → getD digits (getD bytes k 0) 0 < 16 → v ≡ getD digits (getD bytes k 0) 0 → Taking bytes (w * 16 + v) (k + 1)
+  table-more v l h n z = taking-more bytes w k t (getD digits (getD bytes k 0) 0) v l h (table-at digits (getD bytes k 0) e b) n z
 
 pub ruleset line-laws = (line-short, line-wrong, line-ends, line-unfed, line-done)

@@ -20,3 +20,7 @@ from (suc n) k (suc i) h = from n (suc k) i (omega arith) ∙ ap digit (omega ar
 -- entry b of such a table is the digit of byte b
 pub digit-at : (b : ℕ) → b < 256 → getD (digitsFrom 0 256) b 0 ≡ digit b
 digit-at b h = from 256 0 b h ∙ ap digit (zero-add b)
+
+-- the same of an array that is such a table
+pub table-at : (digits : List ℕ) (b : ℕ) → digits ≡ digitsFrom 0 256 → b < 256 → getD digits b 0 ≡ digit b
+table-at digits b e h = ap (λ (l : List ℕ). getD l b 0) e ∙ digit-at b h

@@ -3,7 +3,7 @@ ghost use mathlib.Core.Path.{_≡_};
 ghost use Rattle.text.specs.Digits.{digit};
 
 // One number for each byte: the value of the digit that it is, or 255.
-const DIGITS: [u8; 256] = [
+pub const DIGITS: [u8; 256] = [
     255,
     255,
     255,

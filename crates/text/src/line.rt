@@ -1,5 +1,5 @@
 // Lines, and the frames that they are.
-use crate::digit::digit;
+use crate::digit::DIGITS;
 use language::frame::Frame;
 use language::kind::kind_of;
 ghost use mathlib.Core.Path.{_≡_};
@@ -24,17 +24,18 @@ fn wide(d: u8) -> u64
     d as u64
 }
 
-// The line with which the bytes begin.
+// The line with which the bytes begin. The table is taken once for the line, since each use of a constant array writes it out anew.
 pub fn read_line(bytes: &[u8]) -> Line
     ensures { λ r. ⌜ r ≡ lineRead (now (bytes .entry)) ⌝ }
 {
+    let digits = DIGITS;
     let mut w: u64 = 0;
     let mut k: usize = 0;
     while k < 16 {
         if bytes.len() <= k {
             return Line::WrongAt(k);
         }
-        let d = digit(bytes[k]);
+        let d = digits[bytes[k] as usize];
         if 16 <= d {
             return Line::WrongAt(k);
         }

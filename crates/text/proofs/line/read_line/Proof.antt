@@ -1,30 +1,39 @@
 -- `read_line` meets its contract. Assumes nothing.
+use mathlib.Core.Path.{_≡_, refl}
 use Prim.Native.Nat.{_≤_, _-_}
+use native.Mathlib.Omega.{arith}
 use borrow.Author.Needs.{needs}
-use Rattle.text.proofs.LineLaws.{Taking, taking-start, taking-more, times-fits, word-fits, line-laws}
+use Rattle.basics.specs.If.{if_then_else_}
+use Rattle.text.specs.Digits.{digit}
+use Rattle.text.proofs.Table.{digitsFrom}
+use Rattle.text.proofs.LineLaws.{Taking, taking-start, table-wrong, table-more, times-fits, word-fits, line-laws}
 use Rattle.text.proofs.line.read_line.Statement.{statement}
 use Rattle.text.proofs.line.read_line.Tie as tie
 
 abbrev Inv-loop : tie.InvT-loop
-Inv-loop bytes w₀ k₀ w k = (k ≤ 16) × Taking bytes w k
+Inv-loop bytes digits w₀ k₀ w k = (k ≤ 16) × Taking bytes w k × (digits ≡ digitsFrom 0 256)
 
 abbrev μ-loop : tie.MeasureT-loop
-μ-loop bytes w₀ k₀ w k = 16 - k
+μ-loop bytes digits w₀ k₀ w k = 16 - k
 
 loop-holds : tie.Need-loop-holds Inv-loop μ-loop
-loop-holds c = (search needs, taking-start _)
+unfolding digit if_then_else_
+loop-holds c = (search needs, taking-start _, refl)
 
 returns : tie.Need-returns Inv-loop μ-loop
 returns c = search line-laws
 
-shared-slice-read-digit : tie.Need-shared-slice-read-digit Inv-loop μ-loop
-shared-slice-read-digit c = search needs
+shared-slice-read-d : tie.Need-shared-slice-read-d Inv-loop μ-loop
+shared-slice-read-d c = search needs
 
-digit-requires : tie.Need-digit-requires Inv-loop μ-loop
-digit-requires c κs = search needs
+cast-d : tie.Need-cast-d Inv-loop μ-loop
+cast-d c = omega (arith, (c .shared-slice-known2 .given (c .before .before .before .loop .k)))
+
+array-read-d : tie.Need-array-read-d Inv-loop μ-loop
+array-read-d c = omega (arith, c .shared-slice-known2 .given (c .before .before .before .loop .k))
 
 returns-2 : tie.Need-returns-2 Inv-loop μ-loop
-returns-2 c = search line-laws
+returns-2 c = search (table-wrong, c .before .shared-slice-known2 .given (c .before .before .before .before .loop .k) .fits)
 
 mul-w : tie.Need-mul-w Inv-loop μ-loop
 mul-w c = record { fits = search times-fits }
@@ -42,7 +51,7 @@ loop-less : tie.Need-loop-less Inv-loop μ-loop
 loop-less c = search needs
 
 loop-again : tie.Need-loop-again Inv-loop μ-loop
-loop-again c = (search needs, search taking-more)
+loop-again c = (search needs, search (table-more, c .before .before .shared-slice-known2 .given (c .before .before .before .before .before .loop .k) .fits), search needs)
 
 returns-3 : tie.Need-returns-3 Inv-loop μ-loop
 returns-3 c = search line-laws
@@ -64,8 +73,9 @@ read-line-spec =
     μ-loop
     loop-holds
     returns
-    shared-slice-read-digit
-    digit-requires
+    shared-slice-read-d
+    cast-d
+    array-read-d
     returns-2
     mul-w
     wide-requires
