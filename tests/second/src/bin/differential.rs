@@ -24,10 +24,13 @@ const DIFFERENCES: usize = 20;
 
 fn main() -> ExitCode {
     match compare() {
-        Ok(0) => ExitCode::SUCCESS,
         Ok(differences) => {
             println!("{differences} differences");
-            ExitCode::FAILURE
+            if differences == 0 {
+                ExitCode::SUCCESS
+            } else {
+                ExitCode::FAILURE
+            }
         }
         Err(error) => {
             eprintln!("differential: {error}");
