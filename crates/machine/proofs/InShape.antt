@@ -35,7 +35,7 @@ in-thread : (t : ℕ) → threadInRange t ≡ true → IsThread t
 unfolding threadInRange
 in-thread t e = let p = and-true (leb 1 t) (leb t 64) e in (leb-true 1 t (p .0), leb-true t 64 (p .1))
 
-value-in : (v : Value) → ValueFits v → valueInRange (valueWord v) ≡ true
+pub value-in : (v : Value) → ValueFits v → valueInRange (valueWord v) ≡ true
 unfolding valueInRange valueWord
 value-in (Number n) (number h) = if-yes _ _ (lt-ltb n (2 ^ 32) h)
 value-in (Truth true) truth = if-no _ _ refl ∙ if-yes _ _ refl

@@ -83,16 +83,16 @@ not-no true e = refl
 not-no false e = absurd (true≢false e)
 
 module _ (fs : List Frame) (P : Program) (n : ℕ) (F : FileFits fs P n) where
-  place-small : (q : ℕ) → hasPlace n q ≡ true → q < 1024
+  pub place-small : (q : ℕ) → hasPlace n q ≡ true → q < 1024
   place-small q h = let l = leb-true q (1 + n) (and-true (leb 1 q) (leb q (1 + n)) h .1) in let m = F .most-schedulers in omega arith
 
-  parts-of : {x : Stmt} → ItemFits fs n (run x) → Parts fs n x
+  pub parts-of : {x : Stmt} → ItemFits fs n (run x) → Parts fs n x
   parts-of {x} (run-fits l k e) = subst (Parts fs n) e (F .statements (rootS x) l k)
 
   none-fits : SchedulerFits noScheduler
   none-fits = record { active-room = omega arith; next-room = omega arith; threads = none; entries = none }
 
-  scheduler-fits : (s : State) → Shaped fs n s → (q : ℕ) → SchedulerFits (schedulerAt s q)
+  pub scheduler-fits : (s : State) → Shaped fs n s → (q : ℕ) → SchedulerFits (schedulerAt s q)
   scheduler-fits s z q = go (ltb (q - 2) (length (s .schedulers))) refl
     where
       go : (b : Bool) → ltb (q - 2) (length (s .schedulers)) ≡ b → SchedulerFits (schedulerAt s q)
@@ -134,7 +134,7 @@ module _ (fs : List Frame) (P : Program) (n : ℕ) (F : FileFits fs P n) where
       }
 
   -- ---- a turn in shape
-  record TurnFits (u : Turn) : Type 0 where
+  pub record TurnFits (u : Turn) : Type 0 where
     pub before : Shaped fs n (u .state)
     pub cells : CellsFit n (u .cells)
     pub thread : IsThread (u .thread)
@@ -184,22 +184,22 @@ module _ (fs : List Frame) (P : Program) (n : ℕ) (F : FileFits fs P n) where
       rest [] h = none
       rest (t ∷ l) (more p ps) = ps
 
-  leave-next : (u : Turn) (s : State) (q : ℕ) → length (schedulerAt (leave u s) q .next) ≡ length (schedulerAt s q .next)
+  pub leave-next : (u : Turn) (s : State) (q : ℕ) → length (schedulerAt (leave u s) q .next) ≡ length (schedulerAt s q .next)
   unfolding leave
   leave-next u s q =
       if-all (λ (r : State). length (schedulerAt r q .next) ≡ length (schedulerAt s q .next)) (isSchedulerOf (u .program) (u .choice)) _ s
       (λ _. next-same (s .schedulers) (u .choice - 2) (q - 2) _ refl) (λ _. refl)
 
-  enlist-next : (s : State) (q : ℕ) (e : Entry) → length (schedulerAt (enlist q e s) q .next) ≤ length (schedulerAt s q .next) + 1
+  pub enlist-next : (s : State) (q : ℕ) (e : Entry) → length (schedulerAt (enlist q e s) q .next) ≤ length (schedulerAt s q .next) + 1
   unfolding enlist
   enlist-next s q e = next-more (s .schedulers) (q - 2) _ (length-append (schedulerAt s q .next) (e ∷ []))
 
-  has-room : (u : Turn) (m q : ℕ) → room u m q ≡ true → length (schedulerAt (u .state) q .next) + m ≤ 64
+  pub has-room : (u : Turn) (m q : ℕ) → room u m q ≡ true → length (schedulerAt (u .state) q .next) + m ≤ 64
   unfolding room
   has-room u m q e = leb-true (length (schedulerAt (u .state) q .next) + m) 64 e
 
   -- ---- where a thread goes
-  self-fits : (u : Turn) (q : ℕ) (items : List Item) (vars : List Value) → TurnFits u → hasPlace n q ≡ true → All (ItemFits fs n) items → All ValueFits vars → fits items vars ≡ true
+  pub self-fits : (u : Turn) (q : ℕ) (items : List Item) (vars : List Value) → TurnFits u → hasPlace n q ≡ true → All (ItemFits fs n) items → All ValueFits vars → fits items vars ≡ true
       → ThreadFits fs n (selfAt u q items vars)
   unfolding fits
   self-fits u q items vars k p i v e =
@@ -227,7 +227,7 @@ module _ (fs : List Frame) (P : Program) (n : ℕ) (F : FileFits fs P n) where
   keeps-goTo u q items k p i = if-all Keeps (eqb q (here u)) _ _ (λ _. keeps-stay u items (variables u) k i (k .self .values)) (λ _. keeps-move u q items k p i)
 
   -- ---- evaluations
-  here-fits : (u : Turn) → TurnFits u → HereFits (evaluator u)
+  pub here-fits : (u : Turn) → TurnFits u → HereFits (evaluator u)
   here-fits u k = record { thread = k .thread; values = k .self .values; shared = subst (λ (p : Program). length (p .shared) ≤ 256) (sym (k .program)) (F .shared-room) }
 
   keeps-goOn : (u : Turn) (o : Outcome) (f : Value → Turn → Stepped) → TurnFits u → OutcomeFits o → ((v : Value) → ValueFits v → Keeps (f v u)) → Keeps (goOn u o f)
@@ -272,7 +272,7 @@ module _ (fs : List Frame) (P : Program) (n : ℕ) (F : FileFits fs P n) where
       (λ d. f (leb-false (length (u .program .modules)) m a) (eqb-true (length vs) (length (moduleAt (u .program) m .types)) (not-no _ b)) (not-no (room u 1 (here u)) c)
       (leb-false 64 (length (u .state .threads)) d))))))
 
-  started-fits : (u : Turn) (m : ℕ) (vs : List Value) → TurnFits u → m < length (u .program .modules) → length vs ≡ length (moduleAt (u .program) m .types) → All ValueFits vs
+  pub started-fits : (u : Turn) (m : ℕ) (vs : List Value) → TurnFits u → m < length (u .program .modules) → length vs ≡ length (moduleAt (u .program) m .types) → All ValueFits vs
       → ThreadFits fs n (started u (moduleAt (u .program) m) vs)
   started-fits u m vs k l e v =
       record {
@@ -291,7 +291,7 @@ module _ (fs : List Frame) (P : Program) (n : ℕ) (F : FileFits fs P n) where
   new-is : (u : Turn) → length (u .state .threads) < 64 → IsThread (newThread u)
   new-is u l = (omega arith, omega arith)
 
-  settled-length : (u : Turn) (x : Thread) → length (settled u x .threads) ≡ length (u .state .threads)
+  pub settled-length : (u : Turn) (x : Thread) → length (settled u x .threads) ≡ length (u .state .threads)
   settled-length u x = nth-length (u .state .threads) (u .thread) x
 
   keeps-start : (u : Turn) (m : ℕ) (vs : List Value) → TurnFits u → m < length (u .program .modules) → length vs ≡ length (moduleAt (u .program) m .types) → All ValueFits vs
@@ -447,7 +447,7 @@ module _ (fs : List Frame) (P : Program) (n : ℕ) (F : FileFits fs P n) where
       keeps-instant s c (readyThreads (s .threads) es) (stillWaiting (s .threads) es) z (ready-fits (s .threads) es (x .entries)) (waiting-still (s .threads) es (x .entries)) (omega arith)
   keeps-scheduler s c (t ∷ ts) z (more h a) = keeps-thread s c t z h
 
-  unlinked-is : (s : State) (c : ℕ) → Shaped fs n s → isUnlinked s c ≡ true → IsThread (c - 16)
+  pub unlinked-is : (s : State) (c : ℕ) → Shaped fs n s → isUnlinked s c ≡ true → IsThread (c - 16)
   unfolding isUnlinked
   unlinked-is s c z e =
       let a = and-true _ (not (threadAt s (c - 16) .ended)) e .0 in

@@ -14,7 +14,7 @@ pub record Sized (fs : List Frame) : Type 0 where
   pub a : (j : ℕ) → frameAt fs j .a < 2 ^ 32
   pub b : (j : ℕ) → frameAt fs j .b < 2 ^ 32
 
-small : (ws : List ℕ) (j : ℕ) → (getD (map frameOfWord ws) j noFrame .a < 2 ^ 32) × (getD (map frameOfWord ws) j noFrame .b < 2 ^ 32)
+pub small : (ws : List ℕ) (j : ℕ) → (getD (map frameOfWord ws) j noFrame .a < 2 ^ 32) × (getD (map frameOfWord ws) j noFrame .b < 2 ^ 32)
 unfolding frameOfWord
 small [] j = (omega arith, omega arith)
 small (w ∷ ws) zero = (omega arith, omega arith)

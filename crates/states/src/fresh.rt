@@ -15,7 +15,7 @@ ghost use Rattle.machine.specs.Words.{valueWord, cellWord, pack};
 ghost use Rattle.machine.specs.Calls.{freshCall};
 ghost use Rattle.states.specs.Starts.{isShared, isModule, cellOf, mainWords, withShared, called};
 
-fn is_shared(k: Kind) -> bool
+pub fn is_shared(k: Kind) -> bool
     ensures { λ r. ⌜ r ≡ isShared k ⌝ }
 {
     match k {
@@ -28,7 +28,7 @@ fn is_shared(k: Kind) -> bool
     }
 }
 
-fn is_module(k: Kind) -> bool
+pub fn is_module(k: Kind) -> bool
     ensures { λ r. ⌜ r ≡ isModule k ⌝ }
 {
     match k {

@@ -49,7 +49,7 @@ fn has_place(schedulers: u8, p: u64) -> bool
     p - 1 <= schedulers as u64
 }
 
-fn has_scheduler(schedulers: u8, p: u64) -> bool
+pub fn has_scheduler(schedulers: u8, p: u64) -> bool
     ensures { λ r. ⌜ r ≡ hasScheduler schedulers p ⌝ }
 {
     if p < 2 {

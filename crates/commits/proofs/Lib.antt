@@ -1,0 +1,4 @@
+pub mod WritingLaws
+pub mod ModuleLaws
+pub mod StartLaws
+pub mod CommitLaws

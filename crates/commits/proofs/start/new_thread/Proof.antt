@@ -1,0 +1,24 @@
+-- `new_thread` meets its contract. Assumes nothing.
+use mathlib.Core.Path.{refl}
+use Rattle.machine.specs.Blocks.{padded}
+use Rattle.machine.specs.Words.{tabulate}
+use borrow.Author.Needs.{needs}
+use Rattle.commits.proofs.start.new_thread.Statement.{statement}
+use Rattle.commits.proofs.start.new_thread.Tie as tie
+
+array-write-items : tie.Need-array-write-items
+array-write-items c = search needs
+
+array-write-values : tie.Need-array-write-values
+array-write-values c = search needs
+
+array-write-values-2 : tie.Need-array-write-values-2
+array-write-values-2 c = search needs
+
+returns : tie.Need-returns
+unfolding padded tabulate
+returns c = refl
+
+pub new-thread-spec : {M : Type 1} → statement M
+new-thread-spec =
+    tie.close (tie.spec array-write-items array-write-values array-write-values-2 returns)

@@ -1,0 +1,46 @@
+-- `start` meets its contract. Assumes nothing.
+use Rattle.commits.proofs.StartLaws.{started}
+use borrow.Author.Needs.{needs}
+use Rattle.commits.proofs.start.start.Statement.{statement}
+use Rattle.commits.proofs.start.start.Tie as tie
+
+thread-count-requires : tie.Need-thread-count-requires
+thread-count-requires c κs = search needs
+
+add-new : tie.Need-add-new
+add-new c = search needs
+
+sub-settle : tie.Need-sub-settle
+sub-settle c = search needs
+
+settle-requires : tie.Need-settle-requires
+settle-requires c κs = search needs
+
+new-thread-requires : tie.Need-new-thread-requires
+new-thread-requires c κs = search needs
+
+add-thread-requires : tie.Need-add-thread-requires
+add-thread-requires c κs = search needs
+
+join-requires : tie.Need-join-requires
+join-requires c κs = search needs
+
+same-length : tie.Need-same-length
+same-length c = search needs
+
+returns : tie.Need-returns
+returns c = started _ _ _ _ _ _ _ (c .before .before .before .before .before .before .before .before .before .before .before .before .before .before .before .before .before .args .a) _ (c .before .before .join .ensures) (c .before .before .before .before .before .before .add-thread .ensures) (c .before .before .before .before .before .before .before .new-thread .ensures) (c .before .before .before .before .before .before .before .before .before .before .before .settle .ensures) (c .before .before .before .before .before .before .before .before .before .before .before .before .before .before .thread-count .ensures)
+
+pub start-spec : {M : Type 1} → statement M
+start-spec =
+    tie.close
+    (tie.spec
+    thread-count-requires
+    add-new
+    sub-settle
+    settle-requires
+    new-thread-requires
+    add-thread-requires
+    join-requires
+    same-length
+    returns)

@@ -1,0 +1,111 @@
+-- A turn committed, on words. No reader has to believe it: crate stepper shows that it is the step of the rules. Assumes nothing: definitions.
+use mathlib.Core.Path.{_≡_}
+use mathlib.Core.List.{List, [], _∷_}
+use mathlib.Core.Bool.{Bool, true, false, _&&_, not}
+use Prim.Native.Nat.{ℕ, _+_, _-_, _*_, _<_, _≤_}
+use lib.Dec.{leb, eqb}
+use lib.ListN.{length, getD, set, replicate}
+use Rattle.basics.specs.If.{if_then_else_}
+use Rattle.program.specs.Programs.{Program}
+use Rattle.machine.specs.Blocks.{pasted, padded}
+use Rattle.machine.specs.Calls.{Called}
+use Rattle.states.specs.declared.thread.ThreadWords.{ThreadWords}
+use Rattle.states.specs.Threads.{blockOf, withOneMore}
+use Rattle.states.specs.Lists.{withoutFirst, withLast}
+use Rattle.acts.specs.declared.act.Fate.{Fate}
+use Rattle.acts.specs.declared.act.Fate.the-variants.{Refused, Stays, Leaves, Joins, Starts}
+use Rattle.acts.specs.declared.act.Acted.{Acted}
+use Rattle.commits.specs.declared.module.ModuleFound.{ModuleFound}
+use Rattle.commits.specs.Modules.{foundIn}
+
+abbrev pub called : ℕ → ℕ → List ℕ → Called
+called n t w = record { answer = n; thread = t; words = w }
+
+-- ---- the single changes
+
+-- the cells from that one to below that other are 0
+unfoldable pub clearedIn : List ℕ → ℕ → ℕ → List ℕ
+clearedIn w from upto = pasted w (4562 + from) (replicate (upto - from) 0) (upto - from)
+
+unfoldable pub settledIn : List ℕ → ℕ → ThreadWords → ℕ → List ℕ
+settledIn w k th n = pasted (set w 1 n) (1042 + 55 * k) (blockOf th) 55
+
+-- a scheduler, 2 to 9
+abbrev pub isList : ℕ → Bool
+isList q = leb 2 q && leb q 9
+
+unfoldable pub leftIn : List ℕ → ℕ → List ℕ
+leftIn w c = if isList c then withoutFirst w (c - 2) else w
+
+unfoldable pub roomIn : List ℕ → ℕ → ℕ → Bool
+roomIn w q more = isList q && leb (getD w (67 + 130 * (q - 2)) 0 + more) 64
+
+unfoldable pub joinedIn : List ℕ → ℕ → ℕ → List ℕ
+joinedIn w q e = if isList q then withLast w (q - 2) e else w
+
+-- ---- each fate, of thread t at choice c, where `before` cells were in use
+
+abbrev pub refusesIn : List ℕ → ℕ → ℕ → Acted → ℕ → Called
+refusesIn w before t a n = called n t (clearedIn w before (a .used))
+
+abbrev pub staysIn : List ℕ → ℕ → Acted → List ℕ
+staysIn w t a = settledIn w (t - 1) (a .thread) (a .used)
+
+abbrev pub leavesIn : List ℕ → ℕ → ℕ → Acted → List ℕ
+leavesIn w c t a = leftIn (staysIn w t a) c
+
+unfoldable pub joinsIn : List ℕ → ℕ → ℕ → ℕ → Acted → ℕ → Called
+joinsIn w before c t a q = if roomIn w q 1 then called 0 t (joinedIn (leavesIn w c t a) q t) else refusesIn w before t a 20
+
+-- the new thread
+abbrev pub newIn : Acted → ℕ → ℕ → ThreadWords
+newIn a t body =
+    record {
+      place = a .thread .place;
+      starter = t;
+      alive = 1;
+      items = 1;
+      continuation = padded 25 (body ∷ []);
+      values = a .given;
+      variables = padded 25 (a .first ∷ a .second ∷ []);
+    }
+
+unfoldable pub obstacleIn : List ℕ → ModuleFound → ℕ → ℕ → ℕ
+obstacleIn w found place given =
+    if eqb place 1 then 20 else
+    if not (found .there) then 20 else
+    if not (eqb (found .parameters) given) then 20 else
+    if not (roomIn w place 1) then 20 else
+    if leb 64 (getD w 0 0) then 18 else
+    0
+
+abbrev pub startedIn : List ℕ → ℕ → Acted → ℕ → List ℕ
+startedIn w t a body = joinedIn (withOneMore (staysIn w t a) (newIn a t body)) (a .thread .place) (getD w 0 0 + 1)
+
+abbrev pub waitingIn : List ℕ → ℕ → ℕ → Acted → ℕ → List ℕ
+waitingIn w c t a body =
+    joinedIn (joinedIn (withOneMore (leavesIn w c t a) (newIn a t body)) (a .thread .place) (getD w 0 0 + 1)) (a .thread .place) (128 * (getD w 0 0 + 1) + t)
+
+unfoldable pub startsIn : Program → List ℕ → ℕ → ℕ → ℕ → Acted → Bool → ℕ → Called
+startsIn p w before c t a waits m =
+    let found = foundIn p m in
+    let no = obstacleIn w found (a .thread .place) (a .given) in
+    if not (eqb no 0) then refusesIn w before t a no else
+    if not waits then called 0 t (startedIn w t a (found .body)) else
+    if not (roomIn w (a .thread .place) 2) then refusesIn w before t a 20 else
+    called 0 t (waitingIn w c t a (found .body))
+
+abbrev pub committedIn : Program → List ℕ → ℕ → ℕ → ℕ → Acted → Fate → Called
+committedIn p w before c t a (Refused n) = refusesIn w before t a n
+committedIn p w before c t a Stays = called 0 t (staysIn w t a)
+committedIn p w before c t a Leaves = called 0 t (leavesIn w c t a)
+committedIn p w before c t a (Joins q) = joinsIn w before c t a q
+committedIn p w before c t a (Starts waits m) = startsIn p w before c t a waits m
+
+-- ---- what a caller has to show
+
+pub record CommitWords (w : List ℕ) (t : ℕ) (a : Acted) : Type 0 where
+  pub all : length w ≡ 4818
+  pub first : 1 ≤ t
+  pub last : t ≤ 64
+  pub cells : a .used ≤ 256

@@ -1,0 +1,5 @@
+// A turn committed to the lent words: the thread, the lists, the cells made; or, refused, the words as they were.
+pub mod commit;
+pub mod module;
+mod start;
+pub mod writing;

@@ -1,0 +1,118 @@
+-- From the layout's answer and a call's to that of the stepper. Assumes nothing.
+use Prim.Native.Nat.{ℕ}
+use mathlib.Core.Path.{_≡_, refl, sym, ap, _∙_}
+use mathlib.Core.List.{List}
+use mathlib.Core.Bool.{Bool, true, false, not}
+use native.Mathlib.Omega.{arith}
+use lib.ListN.{length, take}
+use borrow.Author.Tests.{eq-eqb, ne-eqb, not-true, not-false}
+use Rattle.basics.proofs.Ifs.{if-yes, if-no}
+use Rattle.language.specs.declared.frame.Frame.{Frame}
+use Rattle.language.specs.declared.verdict.Verdict.{Verdict}
+use Rattle.language.specs.declared.verdict.Verdict.the-variants.{Accepted, Rejected}
+use Rattle.text.specs.Frames.{framesOf, textFrames}
+use Rattle.text.specs.Reading.{Reading, frames, refused, reading}
+use Rattle.program.specs.Programs.{programOf}
+use Rattle.layout.specs.Scans.{layoutOf}
+use Rattle.layout.specs.LaidOut.{layoutRead, layoutVerdict, laidOut}
+use Rattle.layout.specs.declared.LaidOut.{LaidOut}
+use Rattle.layout.proofs.Scopes.{no-fault-accepted}
+use Rattle.layout.proofs.Accepted.{Right, laid-right}
+use Rattle.rules.proofs.CheckLaws.{check-file}
+use Rattle.machine.specs.Fresh.{fresh}
+use Rattle.machine.specs.Words.{pack}
+use Rattle.machine.specs.Ranges.{inRange}
+use Rattle.machine.specs.Calls.{Called, freshCall, stepCall}
+use Rattle.machine.proofs.Calls.{called-out}
+use Rattle.states.proofs.FreshWords.{call-wrong, call-fresh}
+use Rattle.stepper.specs.declared.answer.Answer.{Answer}
+use Rattle.stepper.specs.declared.answer.Answer.the-variants as A
+use Rattle.stepper.specs.declared.file.File.{File}
+use Rattle.stepper.specs.declared.party.Stepped.{Stepped}
+use Rattle.stepper.specs.Answers.{answerTo, answered, calledAs, afterLayout, onFrames, freshText, stepText}
+use Rattle.stepper.specs.Files.{FileWords, StepWords, fileOf, steppedOn}
+
+-- ---- one answer
+module _ (n t : ℕ) where
+  pub answer-done : n ≡ 0 → A.Done t ≡ answerTo n t
+  unfolding answerTo
+  answer-done h = sym (if-yes _ _ (eq-eqb n 0 h))
+
+  pub answer-refused : (n ≡ 0 → ⊥) → A.Refused n t ≡ answerTo n t
+  unfolding answerTo
+  answer-refused h = sym (if-no _ _ (ne-eqb n 0 h))
+
+pub ruleset answer-laws = (answer-done, answer-refused)
+
+refused-14 : A.Refused 14 0 ≡ answerTo 14 0
+refused-14 = answer-refused 14 0 (λ h. omega arith)
+
+done-0 : A.Done 0 ≡ answerTo 0 0
+done-0 = answer-done 0 0 refl
+
+-- ---- a step on frames
+module _ (frames w : List ℕ) (file : File) (e : file ≡ fileOf (programOf (framesOf frames))) where
+  range-of : (x : Bool) → x ≡ inRange (framesOf frames) (file .schedulers) w → x ≡ inRange (framesOf frames) (programOf (framesOf frames) .schedulers) w
+  range-of x q = q ∙ ap (λ (f : File). inRange (framesOf frames) (f .schedulers) w) e
+
+  pub step-out : (x : Bool) (c : ℕ) → x ≡ inRange (framesOf frames) (file .schedulers) w → not x ≡ true → answered (A.Refused 14 0) w ≡ calledAs (stepCall (framesOf frames) w c)
+  step-out x c q h =
+      ap (λ (a : Answer). answered a w) refused-14
+      ∙ sym (ap calledAs (called-out (framesOf frames) w c (sym (range-of x q) ∙ not-true x h)))
+
+  pub step-words : (x : Bool) → x ≡ inRange (framesOf frames) (file .schedulers) w → not x ≡ false → FileWords frames → StepWords frames (file .shared) w
+  step-words x q h g = record { file = g; count = ap (λ (f : File). f .shared) e; range = sym (range-of x q) ∙ not-false x h }
+
+pub step-in : (s : Stepped) (r : Answer) (v : List ℕ) (k : Called) → steppedOn s v ≡ k → r ≡ answerTo (s .answer) (s .thread) → answered r v ≡ calledAs k
+step-in s r v k e h = ap (λ (a : Answer). answered a v) h ∙ ap calledAs e
+
+-- ---- a text
+module _ (bs : List ℕ) (l : LaidOut) (e : l ≡ laidOut bs) where
+  verdict-field : l .verdict ≡ layoutVerdict bs
+  unfolding laidOut
+  verdict-field = ap (λ (x : LaidOut). x .verdict) e
+
+  by-reading : (call : List Frame → Called) (w : List ℕ) (r : Reading) → reading bs ≡ r → (n j : ℕ) → l .verdict ≡ Rejected n j → answered (A.Rejected n j) w ≡ onFrames call w r
+  unfolding layoutVerdict
+  by-reading call w (refused m k) q n j z =
+      let y : Rejected m k ≡ Rejected n j = sym (ap layoutRead q) ∙ sym verdict-field ∙ z in
+      sym (ap (λ (v : Verdict). afterLayout v w (call (textFrames bs))) y)
+  by-reading call w (frames fs) q n j z =
+      let y : layoutOf fs ≡ Rejected n j = sym (ap layoutRead q) ∙ sym verdict-field ∙ z in
+      sym (ap (λ (v : Verdict). afterLayout v w (call fs)) y)
+
+  module _ (v : Verdict) (n j : ℕ) (h : v ≡ l .verdict) (z : v ≡ Rejected n j) where
+    pub fresh-rejected : (w : List ℕ) → answered (A.Rejected n j) w ≡ freshText bs w
+    unfolding freshText
+    fresh-rejected w = by-reading (λ fs. freshCall fs w) w (reading bs) refl n j (sym h ∙ z)
+
+    pub step-rejected : (w : List ℕ) (c : ℕ) → answered (A.Rejected n j) w ≡ stepText bs w c
+    unfolding stepText
+    step-rejected w c = by-reading (λ fs. stepCall fs w c) w (reading bs) refl n j (sym h ∙ z)
+
+  module _ (v : Verdict) (h : v ≡ l .verdict) (a : v ≡ Accepted) where
+    right : Right bs l
+    right = laid-right bs l e (sym h ∙ a)
+
+    pub text-file : (n : ℕ) → n ≡ l .count → FileWords (take n (l .words))
+    text-file n q = let g = check-file bs l e v h a n q in record { laid-out = g .laid-out; few = g .few }
+
+    by-call : (call : List Frame → Called) (w : List ℕ) (n : ℕ) → n ≡ l .count → calledAs (call (framesOf (take n (l .words)))) ≡ onFrames call w (reading bs)
+    by-call call w n q =
+        let r = right in
+        ap (λ (k : ℕ). calledAs (call (framesOf (take k (l .words))))) q ∙ ap (λ (fs : List Frame). calledAs (call fs)) (r .lines)
+        ∙ sym (ap (onFrames call w) (r .reads) ∙ ap (λ (x : Verdict). afterLayout x w (call (textFrames bs))) (no-fault-accepted (textFrames bs) (let c = r .count in let s = r .some in omega arith) (r .no-fault)))
+
+    pub fresh-wrong : (w : List ℕ) → (length w ≡ 4818 → ⊥) → answered (A.Refused 14 0) w ≡ freshText bs w
+    unfolding freshText
+    fresh-wrong w f =
+        ap (λ (x : Answer). answered x w) refused-14 ∙ ap calledAs (call-wrong (take (l .count) (l .words)) w f) ∙ by-call (λ fs. freshCall fs w) w (l .count) refl
+
+    pub fresh-done : (w u : List ℕ) (n : ℕ) → n ≡ l .count → u ≡ pack (fresh (programOf (framesOf (take n (l .words))))) → length w ≡ 4818 → answered (A.Done 0) u ≡ freshText bs w
+    unfolding freshText
+    fresh-done w u n q z k =
+        ap (λ (x : Answer). answered x u) done-0 ∙ ap calledAs (call-fresh (take n (l .words)) w u k z) ∙ by-call (λ fs. freshCall fs w) w n q
+
+    pub step-done : (w u : List ℕ) (c n : ℕ) (r : Answer) → n ≡ l .count → answered r u ≡ calledAs (stepCall (framesOf (take n (l .words))) w c) → answered r u ≡ stepText bs w c
+    unfolding stepText
+    step-done w u c n r q z = z ∙ by-call (λ fs. stepCall fs w c) w n q

@@ -1,0 +1,127 @@
+-- Each fate of a turn, committed on the words, is what the rules make of the state. Assumes nothing.
+use Prim.Native.Nat.{ℕ, zero, suc, _+_, _-_, _*_, _<_, _≤_}
+use mathlib.Core.Path.{_≡_, refl, sym, ap, ap₂, _∙_, subst}
+use mathlib.Core.List.{List, [], _∷_, _++_, map}
+use mathlib.Core.Bool.{Bool, true, false, not, _&&_}
+use native.Mathlib.Omega.{arith}
+use lib.Dec.{ltb, leb, eqb}
+use lib.ListN.{length, getD, length-set}
+use borrow.Author.Tests.{leb-true, le-leb}
+use Rattle.basics.specs.If.{if_then_else_}
+use Rattle.basics.proofs.Ifs.{if-all, if-yes, if-no, and-true}
+use Rattle.language.specs.Places.{hasScheduler}
+use Rattle.language.specs.declared.frame.Frame.{Frame}
+use Rattle.program.specs.Programs.{Program}
+use Rattle.machine.specs.Accesses.{Access}
+use Rattle.machine.specs.State.{State, Stored, Thread, Entry, plain, schedulerAt, withScheduler, enlist}
+use Rattle.machine.specs.Turns.{Stepped, Turn, refuse, accept, settled, isSchedulerOf, leave, room}
+use Rattle.machine.specs.Words.{pack, entryWord}
+use Rattle.machine.specs.Blocks.{pasted, cellWords}
+use Rattle.machine.specs.Calls.{Called, calledOf}
+use Rattle.machine.proofs.WordLaws.{Says, is-pack}
+use Rattle.machine.proofs.Shapes.{SchedulerFits, Shaped}
+use Rattle.machine.proofs.KeptShape.{FileFits, scheduler-fits, leave-next}
+use Rattle.states.specs.declared.thread.ThreadWords.{ThreadWords}
+use Rattle.states.specs.Threads.{wordsOf}
+use Rattle.acts.specs.declared.act.Fate.{Fate}
+use Rattle.acts.specs.declared.act.Fate.the-variants.{Stays, Leaves, Joins}
+use Rattle.acts.specs.declared.act.Acted.{Acted}
+use Rattle.acts.specs.Fates.{actedIn, refusedIn}
+use Rattle.commits.specs.Commits.{called, settledIn, isList, leftIn, roomIn, joinedIn, joinsIn, refusesIn, committedIn, clearedIn}
+use Rattle.stepper.proofs.Grows.{Grown}
+use Rattle.stepper.proofs.Commits.{left-says, joined-says, settled-says, room-is, cleared-is}
+
+pub less-one : (k : ℕ) → suc k - 1 ≡ k
+less-one k = omega arith
+
+pub leave-count : (u : Turn) (s : State) → length (leave u s .schedulers) ≡ length (s .schedulers)
+unfolding leave
+leave-count u s =
+    if-all (λ (r : State). length (r .schedulers) ≡ length (s .schedulers)) (isSchedulerOf (u .program) (u .choice)) _ s
+    (λ _. length-set (s .schedulers) (u .choice - 2) _) (λ _. refl)
+
+pub enlist-count : (q : ℕ) (e : Entry) (s : State) → length (enlist q e s .schedulers) ≡ length (s .schedulers)
+unfolding enlist
+enlist-count q e s = length-set (s .schedulers) (q - 2) _
+
+-- thread k + 1 is there and acts at choice c, on words w of the state s
+pub record Acts (fs : List Frame) (P : Program) (n : ℕ) (w : List ℕ) (s : State) (c k : ℕ) : Type 0 where
+  pub file : FileFits fs P n
+  pub says : Says w s
+  pub shape : Shaped fs n s
+  pub there : k < length (s .threads)
+  pub list : isSchedulerOf P c ≡ isList c
+
+module _ {fs : List Frame} {P : Program} {n : ℕ} {w : List ℕ} {s : State} {c k : ℕ} (A : Acts fs P n w s c k) where
+  -- the turn of that thread, with those cells and accesses so far
+  abbrev pub turnAt : Thread → List Stored → List Access → Turn
+  turnAt x cs acc = record { program = P; state = s; choice = c; thread = suc k; self = x; cells = cs; accesses = acc }
+
+  abbrev pub commit : Acted → List Stored → Called
+  commit a cs = committedIn P (pasted w 4562 (cellWords cs) 256) (length (s .cells)) c (suc k) a (a .fate)
+
+  -- ---- what holds of lists
+  pub few : k < 64
+  few = let a = A .shape .threads-room in let b = A .there in omega arith
+
+  pub list-there : (q : ℕ) → hasScheduler n q ≡ true → (q - 2 < length (s .schedulers)) × (isList q ≡ true)
+  list-there q e =
+      let b = and-true (leb 2 q) (leb q (1 + n)) e in
+      let l = leb-true 2 q (b .0) in
+      let m = leb-true q (1 + n) (b .1) in
+      let z = A .shape .count in
+      let y = A .file .most-schedulers in
+      (omega arith, ap₂ _&&_ (b .0) (le-leb q 9 (omega arith)))
+
+  chosen-there : isSchedulerOf P c ≡ true → c - 2 < length (s .schedulers)
+  unfolding isSchedulerOf
+  chosen-there e = list-there c (subst (λ (m : ℕ). hasScheduler m c ≡ true) (A .file .schedulers) e) .0
+
+  active-few : (q : ℕ) → length (schedulerAt s q .active) ≤ 64
+  active-few q = scheduler-fits fs P n (A .file) s (A .shape) q .active-room
+
+  module _ (x : Thread) (cs : List Stored) (acc : List Access) where
+    -- ---- refused
+    pub refuse-is : (m : ℕ) (th : ThreadWords) → Grown (s .cells) cs → length cs ≤ 256 → eqb m 0 ≡ false → commit (refusedIn m th (length cs)) cs ≡ calledOf w (refuse (turnAt x cs acc) m)
+    refuse-is m th g l e =
+        ap (called m (suc k)) (cleared-is w s (A .says) cs g l) ∙ ap (λ (b : Bool). called m (suc k) (elim b [ true ↦ pack s | false ↦ w ])) (sym e)
+
+    -- ---- the thread is y
+    module _ (y : Thread) where
+      abbrev after : State
+      after = settled (turnAt x cs acc) y
+
+      pub settled-is : Says (settledIn (pasted w 4562 (cellWords cs) 256) (suc k - 1) (wordsOf y) (length cs)) (settled (turnAt x cs acc) y)
+      settled-is =
+          subst (λ (i : ℕ). Says (settledIn (pasted w 4562 (cellWords cs) 256) i (wordsOf y) (length cs)) (settled (turnAt x cs acc) y)) (sym (less-one k))
+          (settled-says w s (A .says) cs k y few (A .there))
+
+      pub left-is : Says (leftIn (settledIn (pasted w 4562 (cellWords cs) 256) (suc k - 1) (wordsOf y) (length cs)) c) (leave (turnAt x cs acc) (settled (turnAt x cs acc) y))
+      left-is = left-says _ after settled-is (turnAt x cs acc) (A .list) chosen-there (active-few c)
+
+      pub stays-is : commit (actedIn Stays (wordsOf y) (length cs)) cs ≡ calledOf w (accept (turnAt x cs acc) (settled (turnAt x cs acc) y))
+      stays-is = ap (called 0 (suc k)) (is-pack _ after settled-is)
+
+      pub leaves-is : commit (actedIn Leaves (wordsOf y) (length cs)) cs ≡ calledOf w (accept (turnAt x cs acc) (leave (turnAt x cs acc) (settled (turnAt x cs acc) y)))
+      leaves-is = ap (called 0 (suc k)) (is-pack _ (leave (turnAt x cs acc) after) left-is)
+
+      pub joins-is : (q : ℕ) → hasScheduler n q ≡ true → Grown (s .cells) cs → length cs ≤ 256
+          → commit (actedIn (Joins q) (wordsOf y) (length cs)) cs
+          ≡ calledOf w (if room (turnAt x cs acc) 1 q then accept (turnAt x cs acc) (enlist q (plain (suc k)) (leave (turnAt x cs acc) (settled (turnAt x cs acc) y))) else refuse (turnAt x cs acc) 20)
+      unfolding joinsIn room entryWord
+      joins-is q e g l =
+          if-all (λ (r : Stepped). commit (actedIn (Joins q) (wordsOf y) (length cs)) cs ≡ calledOf w r) (leb (length (schedulerAt s q .next) + 1) 64) _ _
+          (λ b. if-yes _ _ (same ∙ b) ∙ ap (called 0 (suc k)) (is-pack _ _ (joined-says _ left left-is q (plain (suc k)) (z .1) (rw leave-count (z .0)) (short (leb-true _ 64 b)))))
+          (λ b. if-no _ _ (same ∙ b) ∙ refuse-is 20 (wordsOf y) g l refl)
+        where
+          z : (q - 2 < length (s .schedulers)) × (isList q ≡ true)
+          z = list-there q e
+
+          left : State
+          left = leave (turnAt x cs acc) (settled (turnAt x cs acc) y)
+
+          same : roomIn (pasted w 4562 (cellWords cs) 256) q 1 ≡ leb (length (schedulerAt s q .next) + 1) 64
+          same = room-is w s (A .says) cs q 1 (z .1) (z .0)
+
+          short : length (schedulerAt s q .next) + 1 ≤ 64 → length (schedulerAt (leave (turnAt x cs acc) (settled (turnAt x cs acc) y)) q .next) < 64
+          short h = let e = leave-next fs P n (A .file) (turnAt x cs acc) after q in omega arith

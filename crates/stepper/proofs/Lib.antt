@@ -1,0 +1,13 @@
+pub mod Grows
+pub mod Commits
+pub mod Fates
+pub mod StartFates
+pub mod Moves
+pub mod Items
+pub mod Uses
+pub mod Threads
+pub mod StepLaws
+pub mod TurnLaws
+pub mod PartyLaws
+pub mod FileLaws
+pub mod AnswerLaws

@@ -1,0 +1,135 @@
+-- A turn leaves at most 256 cells in use: what a commit asks of it. Assumes nothing.
+use Prim.Native.Nat.{ℕ, suc, _-_, _<_, _≤_}
+use mathlib.Core.Path.{_≡_, refl, sym, ap, _∙_, subst}
+use mathlib.Core.List.{List, [], _∷_}
+use mathlib.Core.Bool.{Bool, true, false, _&&_}
+use native.Mathlib.Omega.{arith}
+use lib.Dec.{ltb, leb, eqb}
+use lib.ListN.{length}
+use Rattle.basics.specs.Members.{All, none, more}
+use Rattle.basics.proofs.Ifs.{if-all}
+use Rattle.language.specs.declared.frame.Frame.{Frame}
+use Rattle.program.specs.Trees.{Expr, Stmt, rootS, statementAt}
+use Rattle.program.specs.Programs.{Program}
+use Rattle.machine.specs.State.{State, Stored, Thread, Item, run, back, drop, threadAt}
+use Rattle.machine.specs.Evaluation.{Evaluated, eval, storing}
+use Rattle.machine.specs.Turns.{evaluator}
+use Rattle.machine.specs.Words.{itemWord, valueWord}
+use Rattle.machine.specs.Blocks.{cellWords}
+use Rattle.machine.specs.declared.value.Value.{Value}
+use Rattle.machine.specs.declared.value.Value.the-variants.{Number, Truth, Cell}
+use Rattle.machine.specs.declared.value.Outcome.{Outcome}
+use Rattle.machine.specs.declared.value.Outcome.the-variants.{Is, Foreign, Spent, Stuck}
+use Rattle.machine.proofs.Shapes.{ItemFits, run-fits, back-fits, drop-fits, ThreadFits}
+use Rattle.machine.proofs.KeptCells.{CellsFit, ExprFits, EvalFits, fit-storing}
+use Rattle.machine.proofs.KeptShape.{Parts, of-nothing, of-cooperate, of-seq, of-do, of-start, of-wait, of-let, of-store, of-if, of-while, parts-of}
+use Rattle.evaluator.specs.declared.operation.Who.{Who}
+use Rattle.evaluator.specs.Results.{Result, resultOf}
+use Rattle.states.specs.declared.thread.ThreadWords.{ThreadWords}
+use Rattle.states.specs.Threads.{wordsOf}
+use Rattle.states.specs.Stacks.{pushValue}
+use Rattle.acts.specs.declared.act.Acted.{Acted}
+use Rattle.turns.specs.Acts.{ActedOn, oneIn, twoIn, letsIn, dropsIn, goesIn, doesIn, cooperatesIn, thenActs, thenOn, byTruthIn, letsOn, storesOn, choosesOn, loopsOn, evaluatedIn, storedIn, request, startsIn, oneArgument, lastArgument, twoArguments, statementIn, itemIn, turnIn}
+use Rattle.stepper.proofs.Grows.{Grown, grown-on, grows-eval}
+use Rattle.stepper.proofs.Fates.{Acts, turnAt}
+use Rattle.stepper.proofs.Items.{Short, short-at, Is-who, here-fits, evaluation-is, fit}
+
+-- ---- each way to come to something, with n cells in use
+module _ (n : ℕ) (h : n ≤ 256) (th : ThreadWords) where
+  abbrev Few : Acted → Type 0
+  Few a = a .used ≤ 256
+
+  one-few : (a : ℕ) → oneIn th n a .used ≤ 256
+  unfolding oneIn
+  one-few a = if-all Few (leb 25 (th .items)) _ _ (λ _. h) (λ _. h)
+
+  two-few : (a b : ℕ) → twoIn th n a b .used ≤ 256
+  unfolding twoIn
+  two-few a b = if-all Few (leb 24 (th .items)) _ _ (λ _. h) (λ _. h)
+
+  pub drops-few : dropsIn th n .used ≤ 256
+  unfolding dropsIn
+  drops-few = if-all Few (eqb (th .values) 0) _ _ (λ _. h) (λ _. h)
+
+  pub goes-few : (from q : ℕ) → goesIn from th n q .used ≤ 256
+  unfolding goesIn
+  goes-few from q = if-all Few (eqb q from) _ _ (λ _. h) (λ _. if-all Few (eqb q 1) _ _ (λ _. h) (λ _. h))
+
+  cooperates-few : cooperatesIn th n .used ≤ 256
+  unfolding cooperatesIn
+  cooperates-few = if-all Few (eqb (th .place) 1) _ _ (λ _. h) (λ _. h)
+
+  then-few : (o : Outcome) (K : Value → Acted) → ((v : Value) → K v .used ≤ 256) → thenActs o th n K .used ≤ 256
+  then-few (Is v) K f = f v
+  then-few Foreign K f = h
+  then-few Spent K f = h
+  then-few Stuck K f = h
+
+  truth-few : (v : Value) (a b : Acted) → a .used ≤ 256 → b .used ≤ 256 → byTruthIn v th n a b .used ≤ 256
+  truth-few (Truth true) a b f g = f
+  truth-few (Truth false) a b f g = g
+  truth-few (Number m) a b f g = h
+  truth-few (Cell c) a b f g = h
+
+lets-few : (n : ℕ) → n ≤ 256 → (th : ThreadWords) (v body : ℕ) → letsIn th n v body .used ≤ 256
+unfolding letsIn
+lets-few n h th v body = if-all (λ (a : Acted). a .used ≤ 256) (leb 25 (th .values)) _ _ (λ _. h) (λ _. two-few n h (pushValue v th) body 2048)
+
+does-few : (n : ℕ) → n ≤ 256 → (th : ThreadWords) (q body : ℕ) → doesIn th n q body .used ≤ 256
+unfolding doesIn
+does-few n h th q body =
+    if-all (λ (a : Acted). a .used ≤ 256) (eqb (th .place) 1 && eqb q 1) _ _ (λ _. h)
+    (λ _. if-all (λ (a : Acted). a .used ≤ 256) (leb 24 (th .items)) _ _ (λ _. h) (λ _. goes-few n h _ (th .place) q))
+
+module _ {fs : List Frame} {P : Program} {n : ℕ} {w : List ℕ} {s : State} {c k : ℕ} (A : Acts fs P n w s c k) (x : Thread) (X : ThreadFits fs n x) (who : Who) (W : Is-who P k x who) where
+  abbrev th : ThreadWords
+  th = wordsOf x
+
+  -- the value of an expression
+  module _ (cs : List Stored) (C : CellsFit n cs) (g : Grown (s .cells) cs) (e : Expr) (E : ExprFits n e) where
+    value-few : (On : Result → ActedOn) → ((r : Evaluated) → length (r .cells) ≤ 256 → On (resultOf r) .acted .used ≤ 256) → On (evaluatedIn who (wordsOf x) e (length cs) (cellWords cs)) .acted .used ≤ 256
+    value-few On f =
+        subst (λ (r : Result). On r .acted .used ≤ 256) (sym (evaluation-is A x X who W cs [] C (λ h. eval h e)))
+        (f (eval (evaluator (turnAt A x cs [])) e cs) (fit A x X who W cs [] C g e E .cells .room))
+
+  on-few : (o : Outcome) (m : ℕ) (ws : List ℕ) (K : Value → ActedOn) → m ≤ 256 → ((v : Value) → K v .acted .used ≤ 256) → thenOn o (wordsOf x) m ws K .acted .used ≤ 256
+  on-few (Is v) m ws K h f = f v
+  on-few Foreign m ws K h f = h
+  on-few Spent m ws K h f = h
+  on-few Stuck m ws K h f = h
+
+  starts-few : (waits : Bool) (m : ℕ) (cs : List Stored) → CellsFit n cs → Grown (s .cells) cs → (xs : List Expr) → All (ExprFits n) xs → startsIn who (request waits m) (wordsOf x) (length cs) (cellWords cs) xs .acted .used ≤ 256
+  starts-few waits m cs C g [] f = C .room
+  starts-few waits m cs C g (e ∷ []) (more E f) =
+      value-few cs C g e E (oneArgument (request waits m) th) (λ r h. then-few (length (r .cells)) h th (r .outcome) _ (λ _. h))
+  starts-few waits m cs C g (e ∷ d ∷ xs) (more E (more D f)) =
+      subst (λ (r : Result). twoArguments who (request waits m) th d r .acted .used ≤ 256) (sym (evaluation-is A x X who W cs [] C (λ h. eval h e)))
+      (on-few (r .outcome) (length (r .cells)) (cellWords (r .cells)) _ (F .cells .room)
+      (λ v. value-few (r .cells) (F .cells) (grown-on g (grows-eval (evaluator (turnAt A x cs [])) e cs)) d D (lastArgument (request waits m) th (valueWord v))
+      (λ q h. then-few (length (q .cells)) h th (q .outcome) _ (λ _. h))))
+    where
+      r : Evaluated
+      r = eval (evaluator (turnAt A x cs [])) e cs
+
+      F : EvalFits n (eval (evaluator (turnAt A x cs [])) e cs)
+      F = fit A x X who W cs [] C g e E
+
+  pub statement-few : (cs : List Stored) → CellsFit n cs → Grown (s .cells) cs → (st : Stmt) → Parts fs n st → statementIn who (wordsOf x) (length cs) (cellWords cs) st .acted .used ≤ 256
+  statement-few cs C g st of-nothing = C .room
+  statement-few cs C g st of-cooperate = cooperates-few (length cs) (C .room) th
+  statement-few cs C g st (of-seq {a = a} {b = b} i j) = two-few (length cs) (C .room) th (rootS a) (rootS b)
+  statement-few cs C g st (of-do {q = q} {a = a} p i) = does-few (length cs) (C .room) th q (rootS a)
+  statement-few cs C g st (of-start {m = m} {xs = xs} es) = starts-few false m cs C g xs es
+  statement-few cs C g st (of-wait {m = m} {xs = xs} es) = starts-few true m cs C g xs es
+  statement-few cs C g st (of-let {x = e} {a = a} E i) =
+      value-few cs C g e E (letsOn th (rootS a)) (λ r h. then-few (length (r .cells)) h th (r .outcome) _ (λ v. lets-few (length (r .cells)) h th (valueWord v) (rootS a)))
+  statement-few cs C g st (of-store {x = d} {y = e} D E) =
+      subst (λ (r : Result). storesOn th r .acted .used ≤ 256) (sym (evaluation-is A x X who W cs [] C (λ h. storing h d e)))
+      (let l = fit-storing (evaluator (turnAt A x cs [])) cs (here-fits A x X who W cs []) C D E .cells .room in
+      then-few (length (storing (evaluator (turnAt A x cs [])) d e cs .cells)) l th (storing (evaluator (turnAt A x cs [])) d e cs .outcome) _ (λ _. l))
+  statement-few cs C g st (of-if {x = e} {a = a} {b = b} E i j) =
+      value-few cs C g e E (choosesOn th (rootS a) (rootS b))
+      (λ r h. then-few (length (r .cells)) h th (r .outcome) _ (λ v. truth-few (length (r .cells)) h th v _ _ (one-few (length (r .cells)) h th (rootS a)) (one-few (length (r .cells)) h th (rootS b))))
+  statement-few cs C g st (of-while {i = i} {x = e} {a = a} E j) =
+      value-few cs C g e E (loopsOn th (rootS a) i)
+      (λ r h. then-few (length (r .cells)) h th (r .outcome) _ (λ v. truth-few (length (r .cells)) h th v _ _ (two-few (length (r .cells)) h th (rootS a) i) h))

@@ -1,0 +1,47 @@
+-- `step` meets its contract. Assumes nothing.
+use borrow.Author.Needs.{needs}
+use Rattle.rules.proofs.CheckLaws.{check-room, check-length}
+use Rattle.stepper.proofs.AnswerLaws.{text-file, step-rejected, step-done}
+use Rattle.stepper.proofs.step.step.Statement.{statement}
+use Rattle.stepper.proofs.step.step.Tie as tie
+
+lay-out-requires : tie.Need-lay-out-requires
+lay-out-requires c κs = search needs
+
+enum-known-v : tie.Need-enum-known-v
+enum-known-v c = search needs
+
+enum-told : tie.Need-enum-told
+enum-told c = search needs
+
+array-share-prefix-words : tie.Need-array-share-prefix-words
+array-share-prefix-words c = search check-room
+
+slice-aggregate-step-frames : tie.Need-slice-aggregate-step-frames
+slice-aggregate-step-frames c = search check-length
+
+step-frames-requires : tie.Need-step-frames-requires
+step-frames-requires c κs = search text-file
+
+returns : tie.Need-returns
+returns c = search step-rejected
+
+same-length : tie.Need-same-length
+same-length c = search needs
+
+returns-2 : tie.Need-returns-2
+returns-2 c = search step-done
+
+pub step-spec : {M : Type 1} → statement M
+step-spec =
+    tie.close
+    (tie.spec
+    lay-out-requires
+    enum-known-v
+    enum-told
+    array-share-prefix-words
+    slice-aggregate-step-frames
+    step-frames-requires
+    returns
+    same-length
+    returns-2)

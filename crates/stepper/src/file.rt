@@ -1,0 +1,54 @@
+// What a step needs to know of a file beside its frames.
+use states::fresh::is_shared;
+use text::line::frame_of_word;
+ghost use mathlib.Core.Path.{_≡_};
+ghost use lib.ListN.{length};
+ghost use Rattle.text.specs.Frames.{framesOf};
+ghost use Rattle.program.specs.Programs.{sharedOf, allowanceOf, programOf};
+ghost use Rattle.stepper.specs.Files.{FileWords, fileOf};
+
+// How many schedulers it has, how many shared cells, and how many choices a run may use.
+pub struct File {
+    pub schedulers: u8,
+    pub shared: usize,
+    pub allowance: u16,
+}
+
+fn count_shared(frames: &[u64]) -> usize
+    ensures { λ r. ⌜ r ≡ length (sharedOf (framesOf (now (frames .entry)))) ⌝ }
+{
+    let mut i: usize = 0;
+    let mut n: usize = 0;
+    while i < frames.len() {
+        let f = frame_of_word(frames[i]);
+        let k = f.kind;
+        i += 1;
+        if !is_shared(k) {
+            continue;
+        }
+        n += 1;
+    }
+    n
+}
+
+fn allowance_in(a: u16) -> u16
+    ensures { λ r. ⌜ r ≡ allowanceOf a ⌝ }
+{
+    if a == 0 {
+        return 4096;
+    }
+    a
+}
+
+// The header's fields. The frames are those of a file that passes refusals 1 to 7: its header has 1 to 8 schedulers.
+pub fn file_of(frames: &[u64]) -> File
+    requires { ⌜ FileWords (now frames) ⌝ }
+    ensures { λ r. ⌜ r ≡ fileOf (programOf (framesOf (now (frames .entry)))) ⌝ }
+{
+    let f = frame_of_word(frames[0]);
+    File {
+        schedulers: f.b as u8,
+        shared: count_shared(frames),
+        allowance: allowance_in(f.a),
+    }
+}

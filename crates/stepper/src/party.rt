@@ -1,0 +1,45 @@
+// The party that a choice names.
+use crate::turn::turn;
+use states::list::end_instant;
+use states::list::first_active;
+ghost use mathlib.Core.Path.{_≡_};
+ghost use mathlib.Core.Bool.{true};
+ghost use Rattle.text.specs.Frames.{framesOf};
+ghost use Rattle.program.specs.Programs.{programOf};
+ghost use Rattle.machine.specs.State.{schedulerAt};
+ghost use Rattle.machine.specs.Turns.{isSchedulerOf};
+ghost use Rattle.machine.specs.Steps.{stepScheduler};
+ghost use Rattle.machine.specs.Calls.{calledOf};
+ghost use Rattle.stepper.specs.Files.{StepWords, stateIn, steppedOn};
+
+// The number of the answer, 0 where the step is done, and the acting thread, 0 where none acts.
+pub struct Stepped {
+    pub answer: u8,
+    pub thread: u8,
+}
+
+// Choosing a scheduler steps its first active thread; with none active, an instant ends.
+pub fn step_scheduler(frames: &[u64], shared: usize, state: &mut [u64], choice: u64) -> Stepped
+    requires { ⌜ StepWords (now frames) shared (now state) × (isSchedulerOf (programOf (framesOf (now frames))) choice ≡ true) ⌝ }
+    ensures { λ r. ⌜ steppedOn r (now (state .exit)) ≡ calledOf (now (state .entry)) (stepScheduler (programOf (framesOf (now (frames .entry)))) (stateIn (now (frames .entry)) (now (state .entry))) choice (schedulerAt (stateIn (now (frames .entry)) (now (state .entry))) choice .active)) ⌝ }
+{
+    let k = (choice - 2) as usize;
+    let t = first_active(state, k);
+    if t != 0 {
+        let answer = turn(frames, shared, state, choice, t);
+        return Stepped {
+            answer,
+            thread: t as u8,
+        };
+    }
+    if end_instant(state, k) == 0 {
+        return Stepped {
+            answer: 16,
+            thread: 0,
+        };
+    }
+    Stepped {
+        answer: 0,
+        thread: 0,
+    }
+}

@@ -1,0 +1,70 @@
+// The calls: any text, any words, any choice.
+use crate::answer::Answer;
+use crate::answer::answer_of;
+use crate::file::file_of;
+use crate::valid::step_valid;
+use language::verdict::Verdict;
+use layout::lay_out;
+use states::fresh::write_fresh;
+use states::range::in_range;
+ghost use mathlib.Core.Path.{_≡_};
+ghost use Rattle.text.specs.Frames.{framesOf};
+ghost use Rattle.machine.specs.Calls.{stepCall};
+ghost use Rattle.stepper.specs.Files.{FileWords};
+ghost use Rattle.stepper.specs.Answers.{answered, calledAs, freshText, stepText};
+
+// How many words a state is.
+pub fn state_length() -> usize
+    ensures { λ r. ⌜ r ≡ 4818 ⌝ }
+{
+    4818
+}
+
+// The fresh state of a text that passes refusals 1 to 7; a buffer of another length is 14.
+pub fn fresh(text: &[u8], state: &mut [u64]) -> Answer
+    ensures { λ r. ⌜ answered r (now (state .exit)) ≡ freshText (now (text .entry)) (now (state .entry)) ⌝ }
+{
+    let l = lay_out(text);
+    let v = l.verdict;
+    match v {
+        Verdict::Rejected(n, j) => Answer::Rejected(n, j),
+        Verdict::Accepted => {
+            if state.len() != 4818 {
+                return Answer::Refused(14, 0);
+            }
+            let words = l.words;
+            let n = l.count;
+            write_fresh(&words[..n], state);
+            Answer::Done(0)
+        }
+    }
+}
+
+// A step of a file that passes refusals 1 to 7, on words that may be anything.
+fn step_frames(frames: &[u64], state: &mut [u64], choice: u64) -> Answer
+    requires { ⌜ FileWords (now frames) ⌝ }
+    ensures { λ r. ⌜ answered r (now (state .exit)) ≡ calledAs (stepCall (framesOf (now (frames .entry))) (now (state .entry)) choice) ⌝ }
+{
+    let file = file_of(frames);
+    if !in_range(frames, file.schedulers, state) {
+        return Answer::Refused(14, 0);
+    }
+    let s = step_valid(frames, file, state, choice);
+    answer_of(s.answer, s.thread)
+}
+
+// One choice on any text, any words: 1 to 7, then 14, then 15 to 20, or the step. A refusal leaves the words as they were.
+pub fn step(text: &[u8], state: &mut [u64], choice: u64) -> Answer
+    ensures { λ r. ⌜ answered r (now (state .exit)) ≡ stepText (now (text .entry)) (now (state .entry)) choice ⌝ }
+{
+    let l = lay_out(text);
+    let v = l.verdict;
+    match v {
+        Verdict::Rejected(n, j) => Answer::Rejected(n, j),
+        Verdict::Accepted => {
+            let words = l.words;
+            let n = l.count;
+            step_frames(&words[..n], state, choice)
+        }
+    }
+}

@@ -1,0 +1,46 @@
+// The turn of one thread on the lent words.
+use acts::act::Acted;
+use commits::commit::commit;
+use commits::writing::leave;
+use evaluator::operation::Who;
+use states::thread::load_thread;
+use states::thread::thread_count;
+use turns::item::act;
+ghost use mathlib.Core.Path.{_≡_};
+ghost use Prim.Native.Nat.{_≤_};
+ghost use lib.ListN.{length, getD};
+ghost use Rattle.text.specs.Frames.{framesOf};
+ghost use Rattle.program.specs.Programs.{programOf};
+ghost use Rattle.machine.specs.Steps.{stepThread};
+ghost use Rattle.machine.specs.Calls.{calledOf};
+ghost use Rattle.commits.specs.Commits.{called, isList};
+ghost use Rattle.stepper.specs.Files.{StepWords, stateIn, turnOn, TurnChoice};
+
+// What the turn of a thread that is there comes to, and how many cells there were before it.
+fn act_in(frames: &[u64], shared: usize, state: &mut [u64], t: u64) -> Acted
+    requires { ⌜ StepWords (now frames) shared (now state) × (1 ≤ t) × (t ≤ getD (now state) 0 0) ⌝ }
+    ensures { λ r. ⌜ turnOn r (now (state .exit)) (now (frames .entry)) shared (now (state .entry)) t ⌝ }
+{
+    let used = state[1] as usize;
+    let th = load_thread(state, (t - 1) as usize);
+    let who = Who {
+        thread: t as u8,
+        place: th.place as u8,
+        shared,
+    };
+    act(frames, who, th, &mut state[4562..], used)
+}
+
+// Thread t takes its turn at that choice. One that a list names and that is not there ends: it leaves the list.
+pub fn turn(frames: &[u64], shared: usize, state: &mut [u64], choice: u64, t: u64) -> u8
+    requires { ⌜ StepWords (now frames) shared (now state) × (1 ≤ t) × (t ≤ 64) × TurnChoice (now frames) choice ⌝ }
+    ensures { λ r. ⌜ called r t (now (state .exit)) ≡ calledOf (now (state .entry)) (stepThread (programOf (framesOf (now (frames .entry)))) (stateIn (now (frames .entry)) (now (state .entry))) choice t) ⌝ }
+{
+    if thread_count(state) < t {
+        leave(state, choice);
+        return 0;
+    }
+    let used = state[1] as usize;
+    let a = act_in(frames, shared, state, t);
+    commit(frames, state, used, choice, t, a)
+}

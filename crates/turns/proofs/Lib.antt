@@ -1,0 +1,5 @@
+pub mod PlaceLaws
+pub mod ThenLaws
+pub mod ArgumentLaws
+pub mod NodeLaws
+pub mod ItemLaws

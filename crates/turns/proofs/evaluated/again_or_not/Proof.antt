@@ -1,0 +1,54 @@
+-- `again_or_not` meets its contract. Assumes nothing.
+use borrow.Author.Needs.{needs}
+use Rattle.turns.proofs.ThenLaws.{truth-laws}
+use Rattle.turns.proofs.evaluated.again_or_not.Statement.{statement}
+use Rattle.turns.proofs.evaluated.again_or_not.Tie as tie
+
+enum-known-v : tie.Need-enum-known-v
+enum-known-v c = search needs
+
+stays-with-two-requires : tie.Need-stays-with-two-requires
+stays-with-two-requires c κs = search needs
+
+returns : tie.Need-returns
+returns c = search truth-laws
+
+comes-to-requires : tie.Need-comes-to-requires
+comes-to-requires c κs = search needs
+
+enum-known-v-2 : tie.Need-enum-known-v-2
+enum-known-v-2 c = search needs
+
+refused-requires : tie.Need-refused-requires
+refused-requires c κs = search needs
+
+enum-known-v-3 : tie.Need-enum-known-v-3
+enum-known-v-3 c = search needs
+
+refused-requires-2 : tie.Need-refused-requires-2
+refused-requires-2 c κs = search needs
+
+returns-2 : tie.Need-returns-2
+returns-2 c = search truth-laws
+
+returns-3 : tie.Need-returns-3
+returns-3 c = search truth-laws
+
+returns-4 : tie.Need-returns-4
+returns-4 c = search truth-laws
+
+pub again-or-not-spec : {M : Type 1} → statement M
+again-or-not-spec =
+    tie.close
+    (tie.spec
+    enum-known-v
+    stays-with-two-requires
+    returns
+    comes-to-requires
+    enum-known-v-2
+    refused-requires
+    enum-known-v-3
+    refused-requires-2
+    returns-2
+    returns-3
+    returns-4)

@@ -1,0 +1,20 @@
+-- `cooperates` meets its contract. Assumes nothing.
+use borrow.Author.Needs.{needs}
+use Rattle.turns.proofs.PlaceLaws.{go-laws}
+use Rattle.turns.proofs.moving.cooperates.Statement.{statement}
+use Rattle.turns.proofs.moving.cooperates.Tie as tie
+
+refused-requires : tie.Need-refused-requires
+refused-requires c κs = search needs
+
+returns : tie.Need-returns
+returns c = search go-laws
+
+comes-to-requires : tie.Need-comes-to-requires
+comes-to-requires c κs = search needs
+
+returns-2 : tie.Need-returns-2
+returns-2 c = search go-laws
+
+pub cooperates-spec : {M : Type 1} → statement M
+cooperates-spec = tie.close (tie.spec refused-requires returns comes-to-requires returns-2)

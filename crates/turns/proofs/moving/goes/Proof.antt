@@ -1,0 +1,38 @@
+-- `goes` meets its contract. Assumes nothing.
+use borrow.Author.Needs.{needs}
+use Rattle.turns.proofs.PlaceLaws.{go-laws}
+use Rattle.turns.proofs.moving.goes.Statement.{statement}
+use Rattle.turns.proofs.moving.goes.Tie as tie
+
+comes-to-requires : tie.Need-comes-to-requires
+comes-to-requires c κs = search needs
+
+returns : tie.Need-returns
+returns c = search go-laws
+
+move-to-requires : tie.Need-move-to-requires
+move-to-requires c κs = search needs
+
+comes-to-requires-2 : tie.Need-comes-to-requires-2
+comes-to-requires-2 c κs = search needs
+
+returns-2 : tie.Need-returns-2
+returns-2 c = search go-laws
+
+comes-to-requires-3 : tie.Need-comes-to-requires-3
+comes-to-requires-3 c κs = search needs
+
+returns-3 : tie.Need-returns-3
+returns-3 c = search go-laws
+
+pub goes-spec : {M : Type 1} → statement M
+goes-spec =
+    tie.close
+    (tie.spec
+    comes-to-requires
+    returns
+    move-to-requires
+    comes-to-requires-2
+    returns-2
+    comes-to-requires-3
+    returns-3)

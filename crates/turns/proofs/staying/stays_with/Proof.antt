@@ -1,0 +1,24 @@
+-- `stays_with` meets its contract. Assumes nothing.
+use borrow.Author.Needs.{needs}
+use Rattle.turns.proofs.PlaceLaws.{stay-laws}
+use Rattle.turns.proofs.staying.stays_with.Statement.{statement}
+use Rattle.turns.proofs.staying.stays_with.Tie as tie
+
+refused-requires : tie.Need-refused-requires
+refused-requires c κs = search needs
+
+returns : tie.Need-returns
+returns c = search stay-laws
+
+push-item-requires : tie.Need-push-item-requires
+push-item-requires c κs = search needs
+
+comes-to-requires : tie.Need-comes-to-requires
+comes-to-requires c κs = search needs
+
+returns-2 : tie.Need-returns-2
+returns-2 c = search stay-laws
+
+pub stays-with-spec : {M : Type 1} → statement M
+stays-with-spec =
+    tie.close (tie.spec refused-requires returns push-item-requires comes-to-requires returns-2)

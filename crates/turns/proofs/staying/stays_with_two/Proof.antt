@@ -1,0 +1,34 @@
+-- `stays_with_two` meets its contract. Assumes nothing.
+use borrow.Author.Needs.{needs}
+use Rattle.turns.proofs.PlaceLaws.{pushed-room, stay-laws}
+use Rattle.turns.proofs.staying.stays_with_two.Statement.{statement}
+use Rattle.turns.proofs.staying.stays_with_two.Tie as tie
+
+refused-requires : tie.Need-refused-requires
+refused-requires c κs = search needs
+
+returns : tie.Need-returns
+returns c = search stay-laws
+
+push-item-requires : tie.Need-push-item-requires
+push-item-requires c κs = search needs
+
+push-item-requires-2 : tie.Need-push-item-requires-2
+push-item-requires-2 c κs = search pushed-room
+
+comes-to-requires : tie.Need-comes-to-requires
+comes-to-requires c κs = search needs
+
+returns-2 : tie.Need-returns-2
+returns-2 c = search stay-laws
+
+pub stays-with-two-spec : {M : Type 1} → statement M
+stays-with-two-spec =
+    tie.close
+    (tie.spec
+    refused-requires
+    returns
+    push-item-requires
+    push-item-requires-2
+    comes-to-requires
+    returns-2)
