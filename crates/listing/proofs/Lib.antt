@@ -1,1 +1,4 @@
 pub mod LineLaws
+pub mod ChoicesAt
+pub mod ChoiceLaws
+pub mod BufferLaws

@@ -73,13 +73,16 @@ choicesFrom k (a ∷ b ∷ c ∷ rest) =
 -- ---- the run
 
 -- 'Per choice: choice, answer, acting thread (00 if none ..), cells in use, as 2, 2, 2 and 4 hexadecimal digits'
-unfoldable pub choiceLine : ℕ → Stepped → List ℕ
-choiceLine c r =
-    twoDigits c
-    ++ space ∷ twoDigits (r .answer)
-    ++ space ∷ twoDigits (r .thread)
-    ++ space ∷ fourDigits (length (r .state .cells))
+abbrev pub choiceLineOf : ℕ → ℕ → ℕ → ℕ → List ℕ
+choiceLineOf choice answer thread cells =
+    twoDigits choice
+    ++ space ∷ twoDigits answer
+    ++ space ∷ twoDigits thread
+    ++ space ∷ fourDigits cells
     ++ lineFeed ∷ []
+
+unfoldable pub choiceLine : ℕ → Stepped → List ℕ
+choiceLine c r = choiceLineOf c (r .answer) (r .thread) (length (r .state .cells))
 
 unfoldable pub choiceLines : List ℕ → List Stepped → List ℕ
 choiceLines [] rs = []
@@ -90,11 +93,15 @@ choiceLines (c ∷ cs) (r ∷ rs) = choiceLine c r ++ choiceLines cs rs
 abbrev pub usedOf : Program → List ℕ → ℕ
 usedOf p cs = min (length cs) (p .allowance)
 
--- a line for each choice used, and 'Last: choices used', in 4 digits
+-- 'Last: choices used', in 4 digits
+abbrev pub lastLine : ℕ → List ℕ
+lastLine used = fourDigits used ++ lineFeed ∷ []
+
+-- a line for each choice used, and the last
 unfoldable pub runLines : Program → List ℕ → List ℕ
 runLines p cs =
     let used = usedOf p cs in
-    choiceLines (take used cs) (steps p (take used cs)) ++ fourDigits used ++ lineFeed ∷ []
+    choiceLines (take used cs) (steps p (take used cs)) ++ lastLine used
 
 abbrev pub linesOf : Program → Choices → List ℕ
 linesOf p (choices cs) = runLines p cs

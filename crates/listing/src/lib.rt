@@ -1,31 +1,22 @@
-// The lines that the programs print.
+// What the programs print, and choices.txt, which `run` reads.
+pub mod buffer;
+pub mod choices;
+pub mod digits;
+pub mod line;
+
+use crate::digits::four_digits;
+use crate::digits::two_digits;
 use language::verdict::Verdict;
 ghost use mathlib.Core.Path.{_≡_};
-ghost use Prim.Native.Nat.{_<_};
-ghost use Rattle.listing.specs.Listing.{digitByte, refusalLine, checkLine};
-
-// The byte of a hexadecimal digit of that value.
-fn digit_byte(n: u8) -> u8
-    requires { ⌜ n < 16 ⌝ }
-    ensures { λ r. ⌜ r ≡ digitByte n ⌝ }
-{
-    if n < 10 {
-        return 48 + n;
-    }
-    55 + n
-}
+ghost use Rattle.listing.specs.Listing.{refusalLine, checkLine};
 
 // A number and a frame, in two and in four digits.
 pub fn refusal_line(n: u8, i: u16) -> [u8; 8]
     ensures { λ r. ⌜ r ≡ refusalLine n i ⌝ }
 {
-    let a = digit_byte(n / 16 % 16);
-    let b = digit_byte(n % 16);
-    let c = digit_byte((i / 256 / 16 % 16) as u8);
-    let d = digit_byte((i / 256 % 16) as u8);
-    let e = digit_byte((i / 16 % 16) as u8);
-    let f = digit_byte((i % 16) as u8);
-    [a, b, b' ', c, d, e, f, b'\n']
+    let a = two_digits(n);
+    let b = four_digits(i);
+    [a[0], a[1], b' ', b[0], b[1], b[2], b[3], b'\n']
 }
 
 // What `check` prints.

@@ -1,8 +1,8 @@
 -- `digit_byte` meets its contract. Assumes nothing.
 use borrow.Author.Needs.{needs}
 use Rattle.listing.proofs.LineLaws.{digit-laws}
-use Rattle.listing.proofs.digit_byte.Statement.{statement}
-use Rattle.listing.proofs.digit_byte.Tie as tie
+use Rattle.listing.proofs.digits.digit_byte.Statement.{statement}
+use Rattle.listing.proofs.digits.digit_byte.Tie as tie
 
 add-result : tie.Need-add-result
 add-result c = search needs
