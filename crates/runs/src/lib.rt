@@ -1,0 +1,2 @@
+// A run: a list of choices from the fresh state on, and what it prints.
+pub mod steps;
