@@ -4,8 +4,11 @@ use Prim.Native.Nat.{ℕ, _+_, _*_, _^_, _<_}
 use Rattle.language.specs.declared.verdict.Verdict.{Verdict}
 use Rattle.language.specs.declared.verdict.Verdict.the-variants.{Accepted, Rejected}
 use Rattle.rules.specs.Verdict.{verdict}
-use Rattle.c_face.specs.Codes.{codeOf}
 use mathlib.Core.List.{List}
+use Rattle.stepper.specs.declared.answer.Answer.{Answer}
+use Rattle.stepper.specs.declared.answer.Answer.the-variants as A
+use Rattle.stepper.specs.Answers.{Answered, answered}
+use Rattle.c_face.specs.Codes.{codeOf, answerCode, coded, codedOf}
 
 pub code-accepted : (v : Verdict) → v ≡ Accepted → 0 ≡ codeOf v
 code-accepted v h = ap codeOf (sym h)
@@ -17,3 +20,18 @@ pub ruleset code-laws = (code-accepted, code-rejected)
 
 pub code-checked : (bs : List ℕ) (v : Verdict) (r : ℕ) → v ≡ verdict bs → r ≡ codeOf v → r ≡ codeOf (verdict bs)
 code-checked bs v r e h = h ∙ ap codeOf e
+
+-- ---- a call's answer
+pub answer-rejected : (v : Answer) (n j a b : ℕ) → v ≡ A.Rejected n j → a ≡ n → b ≡ j → a * 65536 + b ≡ answerCode v
+answer-rejected v n j a b h k l = ap₂ (λ (x : ℕ) (y : ℕ). x * 65536 + y) k l ∙ ap answerCode (sym h)
+
+pub answer-refused : (v : Answer) (n t a b : ℕ) → v ≡ A.Refused n t → a ≡ n → b ≡ t → a * 65536 + b ≡ answerCode v
+answer-refused v n t a b h k l = ap₂ (λ (x : ℕ) (y : ℕ). x * 65536 + y) k l ∙ ap answerCode (sym h)
+
+pub answer-done : (v : Answer) (t r : ℕ) → v ≡ A.Done t → r ≡ t → r ≡ answerCode v
+answer-done v t r h k = k ∙ ap answerCode (sym h)
+
+pub ruleset answer-laws = (answer-rejected, answer-refused, answer-done)
+
+pub answer-coded : (w : List ℕ) (x : Answered) (v : Answer) (r : ℕ) → answered v w ≡ x → r ≡ answerCode v → coded r w ≡ codedOf x
+answer-coded w x v r e h = ap (λ (n : ℕ). coded n w) h ∙ ap codedOf e

@@ -1,8 +1,29 @@
--- A verdict as one number. Assumes nothing: a definition.
+-- Verdicts and answers as one number. Assumes nothing: definitions.
+use mathlib.Core.List.{List}
 use Prim.Native.Nat.{ℕ, _+_, _*_, _^_}
 use Rattle.language.specs.Verdicts.{numberOf, frameOf}
 use Rattle.language.specs.declared.verdict.Verdict.{Verdict}
+use Rattle.stepper.specs.declared.answer.Answer.{Answer}
+use Rattle.stepper.specs.declared.answer.Answer.the-variants.{Rejected, Refused, Done}
+use Rattle.stepper.specs.Answers.{Answered}
 
 -- the number of the refusal above 16 bits, and the frame
 abbrev pub codeOf : Verdict → ℕ
 codeOf v = numberOf v * 2 ^ 16 + frameOf v
+
+-- the same of a call's answer, with the acting thread where no frame is named
+abbrev pub answerCode : Answer → ℕ
+answerCode (Rejected n j) = n * 2 ^ 16 + j
+answerCode (Refused n t) = n * 2 ^ 16 + t
+answerCode (Done t) = t
+
+-- a call's number, and all lent words behind it
+pub record Coded : Type 0 where
+  pub code : ℕ
+  pub words : List ℕ
+
+abbrev pub coded : ℕ → List ℕ → Coded
+coded n w = record { code = n; words = w }
+
+abbrev pub codedOf : Answered → Coded
+codedOf r = coded (answerCode (r .answer)) (r .words)

@@ -1,9 +1,14 @@
 // The face for C and Rust: functions on numbers and on pointers with lengths. None has a `requires`.
 use language::verdict::Verdict;
 use rules::check::check;
+use stepper::answer::Answer;
+use stepper::step::fresh;
+use stepper::step::state_length;
+use stepper::step::step;
 ghost use mathlib.Core.Path.{_≡_};
 ghost use Rattle.rules.specs.Verdict.{verdict};
-ghost use Rattle.c_face.specs.Codes.{codeOf};
+ghost use Rattle.stepper.specs.Answers.{freshText, stepText};
+ghost use Rattle.c_face.specs.Codes.{codeOf, answerCode, coded, codedOf};
 
 fn wide8(n: u8) -> u32
     ensures { λ r. ⌜ r ≡ n ⌝ }
@@ -33,4 +38,40 @@ pub extern "C" fn purkvaldi_check(text: &[u8]) -> u32
     ensures { λ r. ⌜ r ≡ codeOf (verdict (now (text .entry))) ⌝ }
 {
     code_of(check(text))
+}
+
+// An answer as one number.
+fn answer_code(a: Answer) -> u32
+    ensures { λ r. ⌜ r ≡ answerCode a ⌝ }
+{
+    match a {
+        Answer::Rejected(n, j) => wide8(n) * 0x0001_0000 + wide16(j),
+        Answer::Refused(n, t) => wide8(n) * 0x0001_0000 + wide8(t),
+        Answer::Done(t) => wide8(t),
+    }
+}
+
+// How many words of 64 bits a state is.
+#[no_mangle]
+pub extern "C" fn purkvaldi_state_length() -> usize
+    ensures { λ r. ⌜ r ≡ 4818 ⌝ }
+{
+    state_length()
+}
+
+// The fresh state of a text: 0, or the number of the refusal above 16 bits, the frame of a refusal 1 to 7 in them. A refusal writes nothing.
+#[no_mangle]
+pub extern "C" fn purkvaldi_fresh(text: &[u8], state: &mut [u64]) -> u32
+    ensures { λ r. ⌜ coded r (now (state .exit)) ≡ codedOf (freshText (now (text .entry)) (now (state .entry))) ⌝ }
+{
+    answer_code(fresh(text, state))
+}
+
+// One choice: the acting thread where it is done, 0 where none acts; else the number of the refusal above 16 bits, and in them the frame
+// of a refusal 1 to 7 or the acting thread of one above. A refusal writes nothing.
+#[no_mangle]
+pub extern "C" fn purkvaldi_step(text: &[u8], state: &mut [u64], choice: u64) -> u32
+    ensures { λ r. ⌜ coded r (now (state .exit)) ≡ codedOf (stepText (now (text .entry)) (now (state .entry)) choice) ⌝ }
+{
+    answer_code(step(text, state, choice))
 }

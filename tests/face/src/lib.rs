@@ -2,6 +2,58 @@
 
 extern "C" {
     fn purkvaldi_check(text: *const u8, length: usize) -> u32;
+    fn purkvaldi_state_length() -> usize;
+    fn purkvaldi_fresh(text: *const u8, length: usize, state: *mut u64, words: usize) -> u32;
+    fn purkvaldi_step(
+        text: *const u8,
+        length: usize,
+        state: *mut u64,
+        words: usize,
+        choice: u64,
+    ) -> u32;
+}
+
+/// What a call of the stepper answers: the number, 0 where it is done; and the frame of a refusal 1 to 7, else the acting
+/// thread.
+#[derive(Clone, Copy, PartialEq, Eq, Debug)]
+pub struct Answer {
+    pub number: u8,
+    pub detail: u16,
+}
+
+impl Answer {
+    fn of_code(code: u32) -> Answer {
+        Answer {
+            number: (code >> 16) as u8,
+            detail: code as u16,
+        }
+    }
+}
+
+/// How many words a state is.
+pub fn state_length() -> usize {
+    unsafe { purkvaldi_state_length() }
+}
+
+/// Writes the fresh state of a text.
+pub fn fresh(text: &[u8], state: &mut [u64]) -> Answer {
+    // Any bytes and any words may be lent.
+    Answer::of_code(unsafe {
+        purkvaldi_fresh(text.as_ptr(), text.len(), state.as_mut_ptr(), state.len())
+    })
+}
+
+/// One choice on a state of any words.
+pub fn step(text: &[u8], state: &mut [u64], choice: u64) -> Answer {
+    Answer::of_code(unsafe {
+        purkvaldi_step(
+            text.as_ptr(),
+            text.len(),
+            state.as_mut_ptr(),
+            state.len(),
+            choice,
+        )
+    })
 }
 
 /// The number of the refusal and the frame; (0, 0) where the text is accepted.

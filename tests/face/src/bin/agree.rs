@@ -1,5 +1,66 @@
-//! agree SECONDS SEED: the proved check and the second program in one process, on random texts. Not 0 on a difference.
+//! agree SECONDS SEED: the proved check and stepper and the second program in one process, on random texts and choices, and
+//! on lent words that are garbage. Not 0 on a difference.
+use face::Answer;
+use second::generate::Case;
+use second::listing::{used, Reading};
+use second::state::State;
 use std::time::{Duration, Instant};
+
+/// The choices of a case whose choices.txt is well formed.
+fn choices_of(case: &Case) -> Vec<u8> {
+    second::text::choices(&case.choices).unwrap_or_default()
+}
+
+/// Steps both through at most 200 choices; counts the answers. None where the first difference is.
+fn run(case: &Case, state: &mut [u64], answers: &mut [u64; 21]) -> Option<()> {
+    let text = &case.program;
+    let fresh = face::fresh(text, state);
+    let Reading::Readable(program, _) = Reading::new(text) else {
+        let (number, frame) = face::second_check(text);
+        return (fresh == (Answer { number, detail: frame })).then_some(());
+    };
+    (fresh == Answer { number: 0, detail: 0 }).then_some(())?;
+    let choices = choices_of(case);
+    let mut theirs = State::new(&program);
+    for &choice in used(&program, &choices).iter().take(200) {
+        let before = state.to_vec();
+        let ours = face::step(text, state, u64::from(choice));
+        let outcome = theirs.step(&program, choice, &mut ());
+        answers[usize::from(outcome.answer)] += 1;
+        let same = ours.number == outcome.answer && ours.detail == u16::from(outcome.thread);
+        let kept = ours.number == 0 || state == &before[..];
+        (same && kept && state[1] == theirs.cells.len() as u64).then_some(())?;
+    }
+    Some(())
+}
+
+/// Words that no caller should lend: an answer, and nothing written where it is a refusal.
+fn garbage(text: &[u8], state: &mut [u64], seed: u64) -> bool {
+    let mut random = seed.wrapping_mul(0x9E37_79B9_7F4A_7C15) | 1;
+    let mut next = || {
+        random ^= random << 13;
+        random ^= random >> 7;
+        random ^= random << 17;
+        random
+    };
+    let mut fine = true;
+    let mut trial = |words: &mut [u64], choice: u64| {
+        let before = words.to_vec();
+        let answer = face::step(text, words, choice);
+        fine &= answer.number == 0 || words == &before[..];
+    };
+    trial(&mut [], next() % 90);
+    trial(&mut vec![u64::MAX; 4818], next() % 90);
+    trial(&mut vec![0; 4818], next() % 90);
+    trial(&mut vec![0; 4817], next());
+    let at = next() as usize % 4818;
+    let mut changed = state.to_vec();
+    changed[at] = if next() % 2 == 0 { next() } else { next() % 80 };
+    for _ in 0..4 {
+        trial(&mut changed, next() % 90);
+    }
+    fine
+}
 
 fn main() {
     let mut args = std::env::args()
@@ -7,21 +68,38 @@ fn main() {
         .map(|a| a.parse::<u64>().expect("agree SECONDS SEED"));
     let (seconds, seed) = (args.next().expect("SECONDS"), args.next().expect("SEED"));
     let end = Instant::now() + Duration::from_secs(seconds);
+    let mut state = vec![0u64; face::state_length()];
     let mut verdicts = [0u64; 14];
+    let mut answers = [0u64; 21];
     let (mut cases, mut differences) = (0u64, 0u64);
     while Instant::now() < end {
         for _ in 0..100 {
-            let text = second::generate::case(seed, cases).program;
-            let (ours, theirs) = (face::check(&text), face::second_check(&text));
-            verdicts[ours.0 as usize % 14] += 1;
+            let case = second::generate::case(seed, cases);
+            let (ours, theirs) = (
+                face::check(&case.program),
+                face::second_check(&case.program),
+            );
+            verdicts[usize::from(ours.0) % 14] += 1;
             if ours != theirs {
                 differences += 1;
                 println!("seed {seed} case {cases}: {ours:?}, the second program {theirs:?}");
+            }
+            // Each public step reads and validates anew, so the stepper sees one case in ten.
+            if cases % 10 == 0 {
+                if run(&case, &mut state, &mut answers).is_none() {
+                    differences += 1;
+                    println!("seed {seed} case {cases}: a step differs");
+                }
+                if !garbage(&case.program, &mut state, cases) {
+                    differences += 1;
+                    println!("seed {seed} case {cases}: a refused step wrote");
+                }
             }
             cases += 1;
         }
     }
     println!("{cases} texts, {differences} differences; verdicts 0 to 13: {verdicts:?}");
+    println!("answers of steps 0 and 15 to 20: {} {:?}", answers[0], &answers[15..]);
     if differences > 0 {
         std::process::exit(1);
     }
