@@ -115,7 +115,7 @@ module _ (fs : List Frame) (F : FileFits fs (programOf fs) (programOf fs .schedu
       ap₂ (λ (x : List Access) (y : List Access). x ++ y) (under-is s c z)
       (ap (λ (x : Called). accessesFrom fs (x .words) cs) (call-is fs F s c z) ∙ accesses-are (step P s c .state) cs (keeps-step fs P n F s c z))
 
-  words-are : (s : State) (cs : List ℕ) → Shaped fs n s → wordsFrom fs (pack s) cs ≡ pack (stateFrom P s cs)
+  pub words-are : (s : State) (cs : List ℕ) → Shaped fs n s → wordsFrom fs (pack s) cs ≡ pack (stateFrom P s cs)
   unfolding wordsFrom stateFrom
   words-are s [] z = refl
   words-are s (c ∷ cs) z = ap (λ (x : Called). wordsFrom fs (x .words) cs) (call-is fs F s c z) ∙ words-are (step P s c .state) cs (keeps-step fs P n F s c z)

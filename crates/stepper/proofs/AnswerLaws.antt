@@ -44,10 +44,10 @@ module _ (n t : ℕ) where
 
 pub ruleset answer-laws = (answer-done, answer-refused)
 
-refused-14 : A.Refused 14 0 ≡ answerTo 14 0
+pub refused-14 : A.Refused 14 0 ≡ answerTo 14 0
 refused-14 = answer-refused 14 0 (λ h. omega arith)
 
-done-0 : A.Done 0 ≡ answerTo 0 0
+pub done-0 : A.Done 0 ≡ answerTo 0 0
 done-0 = answer-done 0 0 refl
 
 -- ---- a step on frames
@@ -72,7 +72,7 @@ module _ (bs : List ℕ) (l : LaidOut) (e : l ≡ laidOut bs) where
   unfolding laidOut
   verdict-field = ap (λ (x : LaidOut). x .verdict) e
 
-  by-reading : (call : List Frame → Called) (w : List ℕ) (r : Reading) → reading bs ≡ r → (n j : ℕ) → l .verdict ≡ Rejected n j → answered (A.Rejected n j) w ≡ onFrames call w r
+  pub by-reading : (call : List Frame → Called) (w : List ℕ) (r : Reading) → reading bs ≡ r → (n j : ℕ) → l .verdict ≡ Rejected n j → answered (A.Rejected n j) w ≡ onFrames call w r
   unfolding layoutVerdict
   by-reading call w (refused m k) q n j z =
       let y : Rejected m k ≡ Rejected n j = sym (ap layoutRead q) ∙ sym verdict-field ∙ z in
@@ -97,7 +97,7 @@ module _ (bs : List ℕ) (l : LaidOut) (e : l ≡ laidOut bs) where
     pub text-file : (n : ℕ) → n ≡ l .count → FileWords (take n (l .words))
     text-file n q = let g = check-file bs l e v h a n q in record { laid-out = g .laid-out; few = g .few }
 
-    by-call : (call : List Frame → Called) (w : List ℕ) (n : ℕ) → n ≡ l .count → calledAs (call (framesOf (take n (l .words)))) ≡ onFrames call w (reading bs)
+    pub by-call : (call : List Frame → Called) (w : List ℕ) (n : ℕ) → n ≡ l .count → calledAs (call (framesOf (take n (l .words)))) ≡ onFrames call w (reading bs)
     by-call call w n q =
         let r = right in
         ap (λ (k : ℕ). calledAs (call (framesOf (take k (l .words))))) q ∙ ap (λ (fs : List Frame). calledAs (call fs)) (r .lines)

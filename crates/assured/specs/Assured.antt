@@ -1,0 +1,31 @@
+-- Demand 3 of a call: what `exercise` gives and promises. Assumes nothing: definitions.
+use mathlib.Core.Path.{_≡_}
+use mathlib.Core.Bool.{true, false}
+use mathlib.Core.List.{List}
+use Prim.Native.Nat.{ℕ}
+use lib.Dec.{eqb}
+use lib.ListN.{length}
+use Rattle.language.specs.declared.frame.Frame.{Frame}
+use Rattle.language.specs.declared.verdict.Verdict.the-variants.{Accepted}
+use Rattle.text.specs.Frames.{textFrames}
+use Rattle.text.specs.Reading.{reading}
+use Rattle.rules.specs.Verdict.{HasVerdict}
+use Rattle.machine.specs.Calls.{Called, unchanged, freshCall}
+use Rattle.safety.specs.Accepted.{wordsFrom, SafeCalls}
+use Rattle.stepper.specs.Answers.{Answered, onFrames}
+
+-- the fresh call, then a call for each choice, each on the words that the one before returned or left: the words behind the last
+unfoldable pub exerciseCall : List Frame → List ℕ → List ℕ → Called
+exerciseCall fs cs w =
+    elim (eqb (length w) 4818) [ true ↦ record { answer = 0; thread = 0; words = wordsFrom fs (freshCall fs w .words) cs } | false ↦ unchanged 14 0 w ]
+
+unfoldable pub exerciseText : List ℕ → List ℕ → List ℕ → Answered
+exerciseText bs cs w = onFrames (λ fs. exerciseCall fs cs w) w (reading bs)
+
+-- Of every text that the check accepts, on a buffer w of the right length that is v behind the call: v is what those calls left, and
+-- `SafeCalls`: every cell read, stored or made belonged to the acting thread or to the scheduler on which it stood; no scheduler's cell holds a
+-- private cell; no variable reaches another thread's private cell; and no call was refused as foreign (19) or stuck (20)
+abbrev pub Assured : List ℕ → List ℕ → List ℕ → List ℕ → Type 0
+Assured bs cs w v =
+    HasVerdict bs Accepted → length w ≡ 4818
+    → SafeCalls (textFrames bs) w cs × (v ≡ wordsFrom (textFrames bs) (freshCall (textFrames bs) w .words) cs)
