@@ -1,5 +1,7 @@
-//! bench: the time of a check of accepted files of several lengths, proved and second side by side, and the stack below the
-//! proved check.
+//! bench: the time of a check of accepted files of several lengths and of a step, proved and second side by side, and the stack
+//! below the proved check and the proved step.
+use second::listing::Reading;
+use second::state::State;
 use std::time::Instant;
 
 /// An accepted file of n lines: modules whose bodies nest, each with lets, stores, loops and starts.
@@ -56,8 +58,53 @@ fn nanoseconds(check: fn(&[u8]) -> (u8, u16), text: &[u8]) -> u128 {
         .unwrap()
 }
 
-/// How many bytes of a painted stack a check changes.
-fn stack_used(text: Vec<u8>) -> usize {
+/// A file whose main loops for ever on its own scheduler: it adds to a shared cell, lets a variable, and cooperates.
+fn looping() -> Vec<u8> {
+    let frames = [
+        "0001000000020000", // 0 header
+        "0102000100000000", // 1 shared cell, owner 2, a number
+        "2101000000000000", // 2 true
+        "2300000000000000", // 3 shared cell 0
+        "2500000300000000", // 4 its content
+        "2000000100000000", // 5 number 1
+        "2600000400050000", // 6 sum
+        "2300000000000000", // 7 shared cell 0
+        "2200000000000000", // 8 variable 0
+        "1700000700080000", // 9 store
+        "1600000600090000", // 10 let
+        "1500000000000000", // 11 cooperate
+        "1100000A000B0000", // 12 then
+        "19000002000C0000", // 13 while
+        "0200000D00000000", // 14 main
+    ];
+    let mut text = frames.join("\n").into_bytes();
+    text.push(b'\n');
+    text
+}
+
+/// Nanoseconds of a step of scheduler 2, by the public call, which reads and validates anew, and by the second program's stepper.
+fn step_times(text: &[u8]) -> (u128, u128) {
+    const STEPS: u128 = 20_000;
+    let mut state = vec![0; face::state_length()];
+    assert_eq!(face::fresh(text, &mut state).number, 0);
+    let start = Instant::now();
+    for _ in 0..STEPS {
+        assert_eq!(face::step(text, &mut state, 2).number, 0);
+    }
+    let ours = start.elapsed().as_nanos() / STEPS;
+    let Reading::Readable(program, _) = Reading::new(text) else {
+        panic!("the file passes 1 to 7");
+    };
+    let mut theirs = State::new(&program);
+    let start = Instant::now();
+    for _ in 0..50 * STEPS {
+        assert_eq!(theirs.step(&program, 2, &mut ()).answer, 0);
+    }
+    (ours, start.elapsed().as_nanos() / STEPS / 50)
+}
+
+/// How many bytes of a painted stack a call changes.
+fn stack_used(call: impl FnOnce() + Send + 'static) -> usize {
     const SIZE: usize = 1 << 20;
     let thread = std::thread::Builder::new().stack_size(SIZE + (1 << 18));
     thread
@@ -76,7 +123,7 @@ fn stack_used(text: Vec<u8>) -> usize {
                     .count()
             }
             let low = paint();
-            std::hint::black_box(face::check(&text));
+            call();
             SIZE / 2 - untouched(low)
         })
         .unwrap()
@@ -100,8 +147,22 @@ fn main() {
             ours as f64 / theirs as f64
         );
     }
-    println!(
-        "stack below the proved check of 1,024 lines: about {} bytes",
-        stack_used(accepted(1024))
-    );
+    let text = looping();
+    assert_eq!(face::check(&text), (0, 0));
+    let (ours, theirs) = step_times(&text);
+    println!("a step by the public call: {ours} ns; by the second program's stepper: {theirs} ns");
+    let text = accepted(1024);
+    let stack = stack_used(move || {
+        std::hint::black_box(face::check(&text));
+    });
+    println!("stack below the proved check of 1,024 lines: about {stack} bytes");
+    let text = accepted(1024);
+    let mut state = vec![0; face::state_length()];
+    face::fresh(&text, &mut state);
+    let stack = stack_used(move || {
+        for _ in 0..40 {
+            std::hint::black_box(face::step(&text, &mut state, 2));
+        }
+    });
+    println!("stack below the proved step of 1,024 lines: about {stack} bytes");
 }
