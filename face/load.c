@@ -1,0 +1,51 @@
+/* A loader: reads prog.txt and steps it through the choices on the command line, in hexadecimal. Prints the check's number and frame,
+ * then for each choice the choice, the answer and the acting thread.
+ *
+ *   load FOLDER 02 03 03
+ */
+#include "purkvaldi.h"
+#include <stdio.h>
+#include <stdlib.h>
+
+static uint8_t text[17409];
+static uint64_t state[4818];
+
+/* At most one byte more than the longest text, so that a longer one is seen to be longer. An absent file reads as empty. */
+static size_t load(const char *folder)
+{
+    char path[4096];
+    FILE *file;
+    size_t length;
+    snprintf(path, sizeof path, "%s/prog.txt", folder);
+    file = fopen(path, "rb");
+    if (file == NULL)
+        return 0;
+    length = fread(text, 1, sizeof text, file);
+    fclose(file);
+    return length;
+}
+
+int main(int count, char **words)
+{
+    size_t length;
+    uint32_t code;
+    int i;
+    if (count < 2) {
+        fprintf(stderr, "usage: load FOLDER CHOICE..\n");
+        return 2;
+    }
+    length = load(words[1]);
+    code = purkvaldi_check(text, length);
+    printf("%02X %04X\n", (unsigned)PURKVALDI_NUMBER(code), (unsigned)PURKVALDI_DETAIL(code));
+    if (purkvaldi_state_length() != sizeof state / sizeof state[0])
+        return 1;
+    code = purkvaldi_fresh(text, length, state, sizeof state / sizeof state[0]);
+    if (PURKVALDI_NUMBER(code) != 0)
+        return 0;
+    for (i = 2; i < count; i++) {
+        uint64_t choice = strtoull(words[i], NULL, 16);
+        code = purkvaldi_step(text, length, state, sizeof state / sizeof state[0], choice);
+        printf("%02X %02X %02X\n", (unsigned)choice, (unsigned)PURKVALDI_NUMBER(code), (unsigned)PURKVALDI_DETAIL(code));
+    }
+    return 0;
+}

@@ -1,0 +1,33 @@
+/* Purkvaldi: the check and the stepper, for a loader in C. Link target/staticlib/libc_face.a, which `rt staticlib c_face` writes.
+ *
+ * Every function takes any bytes and any words and has a defined answer. The one thing asked is C's own rule: `length` bytes can be
+ * read at `text`, `words` words of 64 bits can be read and written at `state`, and the two do not overlap. A pointer whose length is
+ * 0 is not looked at and may be null.
+ */
+#ifndef PURKVALDI_H
+#define PURKVALDI_H
+
+#include <stddef.h>
+#include <stdint.h>
+
+/* A code: the number of document 01 above 16 bits, 0 where nothing is refused; below them the frame that a refusal of the text
+ * (1 to 13) names, or, of a step, the acting thread (0: none). */
+#define PURKVALDI_NUMBER(code) ((code) >> 16)
+#define PURKVALDI_DETAIL(code) ((code) & 0xFFFFu)
+
+/* The check of a text: 0 where it is accepted, else the code of its refusal, 1 to 13. */
+uint32_t purkvaldi_check(const uint8_t *text, size_t length);
+
+/* How many words a state is: 4,818. */
+size_t purkvaldi_state_length(void);
+
+/* Makes `state` the fresh state of a text that passes refusals 1 to 7, accepted or not: 0, or the code of a refusal 1 to 7, or of 14
+ * (words is not the length of a state). A refusal writes nothing. */
+uint32_t purkvaldi_fresh(const uint8_t *text, size_t length, uint64_t *state, size_t words);
+
+/* One choice: 2 to 9 a scheduler, 16 + t the unlinked thread t. Number 0 where it is done; else the text's refusal 1 to 7, 14 (the
+ * words are no state of this file), 15 no such party, 16 nothing to do, 17 or 18 spent, 19 foreign, 20 stuck. A refusal writes
+ * nothing. Of a text that the check accepts, 19 and 20 never come from a state that began fresh. */
+uint32_t purkvaldi_step(const uint8_t *text, size_t length, uint64_t *state, size_t words, uint64_t choice);
+
+#endif
