@@ -3,6 +3,7 @@
 use text::line::FrameRead;
 use text::line::frame_at;
 ghost use mathlib.Core.Path.{_≡_};
+ghost use Rattle.text.specs.Lines.{frameRead};
 ghost use Rattle.lines.specs.Readers.{lineAfter, linesFrom, isRead, framesFrom, opened, frameHere, moved, linesLeft, framesAhead};
 
 pub struct LineReader<'a> {
@@ -90,4 +91,12 @@ pub fn leading_frames(text: &[u8]) -> usize
     ensures { λ n. ⌜ n ≡ framesFrom (now (text .entry)) 0 ⌝ }
 {
     frames_ahead(open(text))
+}
+
+// The frame of a text's first line, if that line is one.
+pub fn first_frame(text: &[u8]) -> FrameRead
+    ensures { λ f. ⌜ f ≡ frameRead (now (text .entry)) 0 ⌝ }
+{
+    let mut r = open(text);
+    next_frame(&mut r)
 }
