@@ -1,1 +1,6 @@
 pub mod RunLaws
+pub mod TextLaws
+pub mod CalledRuns
+pub mod LineRuns
+pub mod Stops
+pub mod PrintLaws

@@ -1,2 +1,5 @@
 // A run: a list of choices from the fresh state on, and what it prints.
+mod lines;
+pub mod printing;
+pub mod run;
 pub mod steps;

@@ -2,7 +2,7 @@
 use stepper::file::File;
 use stepper::valid::step_valid;
 ghost use mathlib.Core.Path.{_≡_};
-ghost use Prim.Native.Nat.{_≤_};
+ghost use Prim.Native.Nat.{_≤_, min};
 ghost use lib.ListN.{length, take};
 ghost use Rattle.text.specs.Frames.{framesOf};
 ghost use Rattle.program.specs.Programs.{programOf};
@@ -10,6 +10,16 @@ ghost use Rattle.machine.specs.Fresh.{fresh};
 ghost use Rattle.machine.specs.Runs.{stateAfter};
 ghost use Rattle.machine.specs.Words.{pack};
 ghost use Rattle.stepper.specs.Files.{FileWords, fileOf};
+
+// How many of n choices a run uses.
+pub fn used_of(n: usize, allowance: u16) -> usize
+    ensures { λ r. ⌜ r ≡ min n allowance ⌝ }
+{
+    if n <= allowance as usize {
+        return n;
+    }
+    allowance as usize
+}
 
 // The first n choices, from the fresh state on. The words are those of a state that was reached, so nothing is validated again.
 pub fn run_steps(frames: &[u64], file: File, choices: &[u8], n: usize, state: &mut [u64])

@@ -1,0 +1,98 @@
+-- `step_lines` meets its contract. Assumes nothing.
+use borrow.Author.Needs.{needs}
+use native.Mathlib.Omega.{arith}
+use Prim.Native.Nat.{_-_}
+use Rattle.runs.proofs.LineRuns.{Lining, lining-start, lining-asks, lining-long, lining-cells, lining-more, lining-words, lining-lines}
+use Rattle.runs.proofs.lines.step_lines.Statement.{statement}
+use Rattle.runs.proofs.lines.step_lines.Tie as tie
+
+abbrev Inv-loop : tie.InvT-loop
+Inv-loop frames file bytes n state₀ out₀ k₀ state out k = Lining frames bytes n state₀ state out₀ out k
+
+abbrev μ-loop : tie.MeasureT-loop
+μ-loop frames file bytes n state₀ out₀ k₀ state out k = n - k
+
+loop-holds : tie.Need-loop-holds Inv-loop μ-loop
+loop-holds c = lining-start _ _ _ _ _ (c .before .before .before .before .pre .4)
+
+choice-at-requires : tie.Need-choice-at-requires Inv-loop μ-loop
+choice-at-requires c κs = search needs
+
+cast-step-valid : tie.Need-cast-step-valid Inv-loop μ-loop
+cast-step-valid c = search needs
+
+step-valid-requires : tie.Need-step-valid-requires Inv-loop μ-loop
+step-valid-requires c κs =
+    let p = c .before .before .before .before .before .before .before .before .pre in
+    (lining-asks _ _ _ _ _ _ _ _ _ (p .0) (p .1) (c .before .before .before .loop .inv), p .1)
+
+slice-read-choice-line : tie.Need-slice-read-choice-line Inv-loop μ-loop
+slice-read-choice-line c =
+    let p = c .before .before .before .before .before .before .before .before .before .before .before .before .pre in
+    let l = lining-long _ _ _ _ _ _ _ _ _ (p .0) (p .1) (c .before .before .before .before .before .before .before .loop .inv) _ (c .before .before .before .before .before .choice-at .ensures) (p .2) (c .before .before .before .before .before .before .loop-test .taken) _ _ (c .before .before .before .step-valid .ensures) in
+    omega arith
+
+cast-choice-line : tie.Need-cast-choice-line Inv-loop μ-loop
+cast-choice-line c =
+    let p = c .before .before .before .before .before .before .before .before .before .before .before .before .pre in
+    let l = lining-cells _ _ _ _ _ _ _ _ _ (p .0) (p .1) (c .before .before .before .before .before .before .before .loop .inv) _ (c .before .before .before .before .before .choice-at .ensures) (p .2) (c .before .before .before .before .before .before .loop-test .taken) _ _ (c .before .before .before .step-valid .ensures) in
+    record { fits = l }
+
+choice-line-requires : tie.Need-choice-line-requires Inv-loop μ-loop
+choice-line-requires c κs = search needs
+
+mul-put : tie.Need-mul-put Inv-loop μ-loop
+mul-put c = search needs
+
+add-put : tie.Need-add-put Inv-loop μ-loop
+add-put c = search needs
+
+slice-aggregate-put : tie.Need-slice-aggregate-put Inv-loop μ-loop
+slice-aggregate-put c = search needs
+
+put-requires : tie.Need-put-requires Inv-loop μ-loop
+put-requires c κs = search needs
+
+add-k : tie.Need-add-k Inv-loop μ-loop
+add-k c = search needs
+
+loop-less : tie.Need-loop-less Inv-loop μ-loop
+loop-less c = search needs
+
+loop-again : tie.Need-loop-again Inv-loop μ-loop
+loop-again c =
+    let p = c .before .before .before .before .before .before .before .before .before .before .before .before .before .before .before .before .before .before .pre in
+    lining-more _ _ _ _ _ _ _ _ _ (p .0) (p .1) (c .before .before .before .before .before .before .before .before .before .before .before .before .before .loop .inv) _ (c .before .before .before .before .before .before .before .before .before .before .before .choice-at .ensures) (p .2) (c .before .before .before .before .before .before .before .before .before .before .before .before .loop-test .taken) _ _ (c .before .before .before .before .before .before .before .before .before .step-valid .ensures) _ _ (c .before .before .before .before .before .choice-line .ensures) (c .before .before .put .ensures) (search needs) (search needs) (p .3)
+
+same-length : tie.Need-same-length Inv-loop μ-loop
+same-length c = search needs
+
+same-length-2 : tie.Need-same-length-2 Inv-loop μ-loop
+same-length-2 c = search needs
+
+returns : tie.Need-returns Inv-loop μ-loop
+returns c = (search lining-words, search lining-lines)
+
+pub step-lines-spec : {M : Type 1} → statement M
+step-lines-spec =
+    tie.close
+    (tie.spec
+    Inv-loop
+    μ-loop
+    loop-holds
+    choice-at-requires
+    cast-step-valid
+    step-valid-requires
+    slice-read-choice-line
+    cast-choice-line
+    choice-line-requires
+    mul-put
+    add-put
+    slice-aggregate-put
+    put-requires
+    add-k
+    loop-less
+    loop-again
+    same-length
+    same-length-2
+    returns)

@@ -1,0 +1,76 @@
+-- `run_listing` meets its contract. Assumes nothing.
+use borrow.Author.Needs.{needs}
+use Rattle.rules.proofs.CheckLaws.{check-room, check-length}
+use Rattle.stepper.proofs.AnswerLaws.{text-file}
+use Rattle.runs.proofs.PrintLaws.{list-short-state, list-short-out, list-rejected, list-accepted}
+use Rattle.runs.proofs.printing.run_listing.Statement.{statement}
+use Rattle.runs.proofs.printing.run_listing.Tie as tie
+
+returns : tie.Need-returns
+returns c = search list-short-state
+
+returns-2 : tie.Need-returns-2
+returns-2 c = search list-short-out
+
+lay-out-requires : tie.Need-lay-out-requires
+lay-out-requires c κs = search needs
+
+enum-known-v : tie.Need-enum-known-v
+enum-known-v c = search needs
+
+refusal-line-requires : tie.Need-refusal-line-requires
+refusal-line-requires c κs = search needs
+
+slice-aggregate-put : tie.Need-slice-aggregate-put
+slice-aggregate-put c = search needs
+
+put-requires : tie.Need-put-requires
+put-requires c κs = search needs
+
+enum-told : tie.Need-enum-told
+enum-told c = search needs
+
+array-share-prefix-words : tie.Need-array-share-prefix-words
+array-share-prefix-words c = search check-room
+
+slice-aggregate-list-frames : tie.Need-slice-aggregate-list-frames
+slice-aggregate-list-frames c = search check-length
+
+list-frames-requires : tie.Need-list-frames-requires
+list-frames-requires c κs = (search text-file, search needs, search needs)
+
+same-length : tie.Need-same-length
+same-length c = search needs
+
+returns-3 : tie.Need-returns-3
+returns-3 c = search list-rejected
+
+same-length-2 : tie.Need-same-length-2
+same-length-2 c = search needs
+
+same-length-3 : tie.Need-same-length-3
+same-length-3 c = search needs
+
+returns-4 : tie.Need-returns-4
+returns-4 c = search list-accepted
+
+pub run-listing-spec : {M : Type 1} → statement M
+run-listing-spec =
+    tie.close
+    (tie.spec
+    returns
+    returns-2
+    lay-out-requires
+    enum-known-v
+    refusal-line-requires
+    slice-aggregate-put
+    put-requires
+    enum-told
+    array-share-prefix-words
+    slice-aggregate-list-frames
+    list-frames-requires
+    same-length
+    returns-3
+    same-length-2
+    same-length-3
+    returns-4)

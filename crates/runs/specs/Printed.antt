@@ -1,0 +1,84 @@
+-- What `run_listing` leaves in the lent buffers: a run's whole listing, and its state. Assumes nothing: definitions.
+use mathlib.Core.Bool.{true, false, _&&_}
+use mathlib.Core.List.{List, []}
+use Prim.Native.Nat.{ℕ, _+_}
+use lib.Dec.{ltb, eqb}
+use lib.ListN.{length}
+use lib.Seq.{paste}
+use Rattle.basics.specs.If.{if_then_else_}
+use Rattle.language.specs.declared.frame.Frame.{Frame}
+use Rattle.language.specs.declared.verdict.Verdict.{Verdict}
+use Rattle.text.specs.Frames.{textFrames}
+use Rattle.program.specs.Programs.{Program, programOf}
+use Rattle.rules.specs.Verdict.{verdict}
+use Rattle.machine.specs.Runs.{steps}
+use Rattle.listing.specs.Listing.{stops, Choices, choices, malformed, choicesFrom, choiceLines, runListing}
+use Rattle.runs.specs.Runs.{Behind, stepped}
+use Rattle.runs.specs.declared.printing.Listed.{Listed}
+
+-- ---- the state behind the listing
+
+-- where the listing stops before a step: 'No buffer changes.'
+abbrev pub unstepped : List ℕ → Behind
+unstepped w = record { used = 0; words = w }
+
+abbrev pub steppedOf : Program → List ℕ → Choices → Behind
+steppedOf p w (choices cs) = stepped p cs
+steppedOf p w (malformed k) = unstepped w
+
+-- the bytes of choices.txt are judged whole before any step, in the order of `choicesListing`
+unfoldable pub choicesStepped : Program → List ℕ → List ℕ → Behind
+choicesStepped p w bytes = elim (ltb 49152 (length bytes)) [ true ↦ unstepped w | false ↦ steppedOf p w (choicesFrom 0 bytes) ]
+
+-- '`run` prints that line, then after 1 to 7 stops.'
+unfoldable pub runStepped : Verdict → List Frame → List ℕ → List ℕ → Behind
+runStepped v fs w bytes = elim (stops v) [ true ↦ unstepped w | false ↦ choicesStepped (programOf fs) w bytes ]
+
+-- ---- the lent buffers
+
+-- the answer, the listing's length, how many choices were used, and both buffers
+pub record ListedOn : Type 0 where
+  pub answer : ℕ
+  pub size : ℕ
+  pub used : ℕ
+  pub words : List ℕ
+  pub out : List ℕ
+
+abbrev pub listedAs : ℕ → ℕ → ℕ → List ℕ → List ℕ → ListedOn
+listedAs n size used w out = record { answer = n; size = size; used = used; words = w; out = out }
+
+abbrev pub listedOn : Listed → List ℕ → List ℕ → ListedOn
+listedOn r w out = listedAs (r .answer) (r .length) (r .used) w out
+
+-- the buffer with those bytes from `at` on, the rest of it as it was
+unfoldable pub written : List ℕ → ℕ → List ℕ → List ℕ
+written out at bytes = paste out at bytes (length bytes)
+
+-- the state's words, and the buffer that begins with the listing
+abbrev pub listedFrom : Behind → List ℕ → List ℕ → ListedOn
+listedFrom b listing out = listedAs 0 (length listing) (b .used) (b .words) (written out 0 listing)
+
+-- of any text, any bytes of choices.txt and any buffers: 14 is 'a lent buffer of the wrong length', and the longest listing has 8 + 14 * 16,384 + 5 bytes
+unfoldable pub listText : List ℕ → List ℕ → List ℕ → List ℕ → ListedOn
+listText bs bytes w out =
+    if eqb (length w) 4818 && eqb (length out) 229389
+    then listedFrom (runStepped (verdict bs) (textFrames bs) w bytes) (runListing (verdict bs) (textFrames bs) bytes) out
+    else listedAs 14 0 0 w out
+
+-- ---- what the inner functions give. Whoever reads the promise can skip this
+
+-- the choices that bytes are; none where they are malformed
+abbrev pub listOf : Choices → List ℕ
+listOf (choices cs) = cs
+listOf (malformed k) = []
+
+unfoldable pub choicesOf : List ℕ → List ℕ
+choicesOf bytes = listOf (choicesFrom 0 bytes)
+
+-- the lines of all those choices
+unfoldable pub stepLines : Program → List ℕ → List ℕ
+stepLines p cs = choiceLines cs (steps p cs)
+
+-- behind the check's line, which is 8 bytes
+abbrev pub listedBehind : Behind → List ℕ → List ℕ → ListedOn
+listedBehind b listing out = listedAs 0 (8 + length listing) (b .used) (b .words) (written out 8 listing)

@@ -1,0 +1,125 @@
+// What `run` prints, whole, in a lent buffer.
+use crate::lines::step_lines;
+use crate::steps::used_of;
+use language::verdict::Verdict;
+use layout::lay_out;
+use listing::buffer::put;
+use listing::check_line;
+use listing::choices::ChoicesRead;
+use listing::choices::judge;
+use listing::line::last_line;
+use listing::refusal_line;
+use rules::check::rules_of;
+use states::fresh::write_fresh;
+use stepper::file::file_of;
+ghost use mathlib.Core.Path.{_≡_};
+ghost use mathlib.Core.List.{[]};
+ghost use Prim.Native.Nat.{_≤_};
+ghost use lib.ListN.{length};
+ghost use Rattle.text.specs.Frames.{framesOf};
+ghost use Rattle.program.specs.Programs.{programOf};
+ghost use Rattle.rules.specs.Checking.{rulesOf};
+ghost use Rattle.stepper.specs.Files.{FileWords};
+ghost use Rattle.listing.specs.Listing.{refusalLine, runLines, choicesListing, runListing};
+ghost use Rattle.runs.specs.Runs.{stepped};
+ghost use Rattle.runs.specs.Printed.{choicesOf, unstepped, choicesStepped, runStepped, listedOn, listedBehind, listedFrom, listText};
+
+// 0 or 14, the listing's length, and how many choices were used.
+pub struct Listed {
+    pub answer: u8,
+    pub length: usize,
+    pub used: usize,
+}
+
+// The n choices of choices.txt, as far as the allowance goes: a line for each, and the last.
+fn list_run(frames: &[u64], bytes: &[u8], n: usize, state: &mut [u64], out: &mut [u8]) -> Listed
+    requires { ⌜ FileWords (now frames) × (n ≡ length (choicesOf (now bytes))) × (n ≤ 16384) × (length (now state) ≡ 4818) × (length (now out) ≡ 229389) ⌝ }
+    ensures { λ r. ⌜ listedOn r (now (state .exit)) (now (out .exit)) ≡ listedBehind (stepped (programOf (framesOf (now (frames .entry)))) (choicesOf (now (bytes .entry)))) (runLines (programOf (framesOf (now (frames .entry)))) (choicesOf (now (bytes .entry)))) (now (out .entry)) ⌝ }
+{
+    let file = file_of(frames);
+    let used = used_of(n, file.allowance);
+    write_fresh(frames, state);
+    step_lines(frames, file, bytes, used, state, out);
+    let line = last_line(used as u16);
+    put(out, 8 + 14 * used, &line);
+    Listed {
+        answer: 0,
+        length: 13 + 14 * used,
+        used,
+    }
+}
+
+// Why no choice is stepped: the line of a number and of a line of choices.txt.
+fn list_refusal(number: u8, line: u16, out: &mut [u8]) -> Listed
+    requires { ⌜ length (now out) ≡ 229389 ⌝ }
+    ensures { λ r. ⌜ listedOn r [] (now (out .exit)) ≡ listedBehind (unstepped []) (refusalLine number line) (now (out .entry)) ⌝ }
+{
+    let bytes = refusal_line(number, line);
+    put(out, 8, &bytes);
+    Listed {
+        answer: 0,
+        length: 16,
+        used: 0,
+    }
+}
+
+// Behind the check's line: choices.txt is judged whole before any step.
+fn list_choices(frames: &[u64], bytes: &[u8], state: &mut [u64], out: &mut [u8]) -> Listed
+    requires { ⌜ FileWords (now frames) × (length (now state) ≡ 4818) × (length (now out) ≡ 229389) ⌝ }
+    ensures { λ r. ⌜ listedOn r (now (state .exit)) (now (out .exit)) ≡ listedBehind (choicesStepped (programOf (framesOf (now (frames .entry)))) (now (state .entry)) (now (bytes .entry))) (choicesListing (programOf (framesOf (now (frames .entry)))) (now (bytes .entry))) (now (out .entry)) ⌝ }
+{
+    let c = judge(bytes);
+    match c {
+        ChoicesRead::TooLong => list_refusal(2, 0, out),
+        ChoicesRead::Malformed(k) => list_refusal(3, k, out),
+        ChoicesRead::Choices(n) => list_run(frames, bytes, n, state, out),
+    }
+}
+
+// A file that passes refusals 1 to 7 runs, whatever its rules say.
+fn list_frames(frames: &[u64], bytes: &[u8], state: &mut [u64], out: &mut [u8]) -> Listed
+    requires { ⌜ FileWords (now frames) × (length (now state) ≡ 4818) × (length (now out) ≡ 229389) ⌝ }
+    ensures { λ r. ⌜ listedOn r (now (state .exit)) (now (out .exit)) ≡ listedFrom (runStepped (rulesOf (programOf (framesOf (now (frames .entry))))) (framesOf (now (frames .entry))) (now (state .entry)) (now (bytes .entry))) (runListing (rulesOf (programOf (framesOf (now (frames .entry))))) (framesOf (now (frames .entry))) (now (bytes .entry))) (now (out .entry)) ⌝ }
+{
+    let line = check_line(rules_of(frames));
+    put(out, 0, &line);
+    list_choices(frames, bytes, state, out)
+}
+
+// The listing of any text and of the bytes of choices.txt, and the state behind it; 14 for a buffer of another length. The longest listing has 8 + 14 * 16,384 + 5 bytes.
+pub fn run_listing(text: &[u8], choices: &[u8], state: &mut [u64], out: &mut [u8]) -> Listed
+    ensures { λ r. ⌜ listedOn r (now (state .exit)) (now (out .exit)) ≡ listText (now (text .entry)) (now (choices .entry)) (now (state .entry)) (now (out .entry)) ⌝ }
+{
+    if state.len() != 4818 {
+        return Listed {
+            answer: 14,
+            length: 0,
+            used: 0,
+        };
+    }
+    if out.len() != 229389 {
+        return Listed {
+            answer: 14,
+            length: 0,
+            used: 0,
+        };
+    }
+    let l = lay_out(text);
+    let v = l.verdict;
+    match v {
+        Verdict::Rejected(n, j) => {
+            let line = refusal_line(n, j);
+            put(out, 0, &line);
+            Listed {
+                answer: 0,
+                length: 8,
+                used: 0,
+            }
+        }
+        Verdict::Accepted => {
+            let words = l.words;
+            let n = l.count;
+            list_frames(&words[..n], choices, state, out)
+        }
+    }
+}
