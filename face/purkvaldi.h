@@ -1,7 +1,7 @@
 /* Purkvaldi: the check and the stepper, for a loader in C. Link target/staticlib/libc_face.a, which `rt staticlib c_face` writes.
  *
  * Every function takes any bytes and any words and has a defined answer. The one thing asked is C's own rule: `length` bytes can be
- * read at `text`, `words` words of 64 bits can be read and written at `state`, and the two do not overlap. A pointer whose length is
+ * read at `text`, `words` words of 64 bits can be read and written at `state`, and no two buffers overlap. A pointer whose length is
  * 0 is not looked at and may be null.
  */
 #ifndef PURKVALDI_H
@@ -29,5 +29,14 @@ uint32_t purkvaldi_fresh(const uint8_t *text, size_t length, uint64_t *state, si
  * words are no state of this file), 15 no such party, 16 nothing to do, 17 or 18 spent, 19 foreign, 20 stuck. A refusal writes
  * nothing. Of a text that the check accepts, 19 and 20 never come from a state that began fresh. */
 uint32_t purkvaldi_step(const uint8_t *text, size_t length, uint64_t *state, size_t words, uint64_t choice);
+
+/* How many bytes a listing's buffer has: 229,389, the longest listing. */
+size_t purkvaldi_listing_length(void);
+
+/* The listing of a run in the first bytes of `out`: how many they are, or 0 where `state` or `out` has another length than it has to
+ * have, and nothing is written. `choices` are the bytes of a choices.txt. The listing begins with the check's line; where choices were
+ * stepped, `state` is the fresh state stepped through those used, else it is as it was. */
+size_t purkvaldi_run(const uint8_t *text, size_t length, const uint8_t *choices, size_t choices_length, uint64_t *state,
+                     size_t words, uint8_t *out, size_t out_length);
 
 #endif

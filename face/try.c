@@ -9,6 +9,7 @@ enum { WORDS = 4818 };
 static const char three[] = "0001000000010000\n1000000000000000\n0200000100000000\n";
 static uint64_t state[WORDS + 1];
 static uint64_t before[WORDS + 1];
+static uint8_t out[229389 + 1];
 static int failures;
 
 static void expect(const char *what, uint32_t code, uint32_t wanted)
@@ -71,5 +72,25 @@ int main(void)
         refused("one word changed", WORDS, 2, 0x0E0000);
         state[i] = kept;
     }
+
+    /* the listing of a run */
+    expect("listing length", (uint32_t)purkvaldi_listing_length(), sizeof out - 1);
+    expect("a run in a shorter buffer", (uint32_t)purkvaldi_run(text, length, NULL, 0, state, WORDS, out, sizeof out - 2), 0);
+    expect("a run in a longer buffer", (uint32_t)purkvaldi_run(text, length, NULL, 0, state, WORDS, out, sizeof out), 0);
+    expect("a run on a shorter state", (uint32_t)purkvaldi_run(text, length, NULL, 0, state, WORDS - 1, out, sizeof out - 1), 0);
+    expect("a run in no buffer", (uint32_t)purkvaldi_run(text, length, NULL, 0, NULL, 0, NULL, 0), 0);
+    for (i = 0; i < sizeof out; i++)
+        if (out[i] != 0)
+            failures++;
+    {
+        static const char choices[] = "02\n02\n02\n";
+        static const char wanted[] = "00 0000\n02 00 01 0000\n02 00 01 0000\n02 10 00 0000\n0003\n";
+        size_t n = purkvaldi_run(text, length, (const uint8_t *)choices, sizeof choices - 1, state, WORDS, out, sizeof out - 1);
+        if (n != sizeof wanted - 1 || memcmp(out, wanted, n) != 0) {
+            printf("a run: another listing\n");
+            failures++;
+        }
+    }
+    expect("a run of no text", (uint32_t)purkvaldi_run(NULL, 0, NULL, 0, state, WORDS, out, sizeof out - 1), 8);
     return failures != 0;
 }

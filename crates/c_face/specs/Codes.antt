@@ -6,6 +6,7 @@ use Rattle.language.specs.declared.verdict.Verdict.{Verdict}
 use Rattle.stepper.specs.declared.answer.Answer.{Answer}
 use Rattle.stepper.specs.declared.answer.Answer.the-variants.{Rejected, Refused, Done}
 use Rattle.stepper.specs.Answers.{Answered}
+use Rattle.runs.specs.Printed.{ListedOn}
 
 -- the number of the refusal above 16 bits, and the frame
 abbrev pub codeOf : Verdict → ℕ
@@ -27,3 +28,15 @@ coded n w = record { code = n; words = w }
 
 abbrev pub codedOf : Answered → Coded
 codedOf r = coded (answerCode (r .answer)) (r .words)
+
+-- a listing's length, 0 where it is refused, and both lent buffers behind the call
+pub record Printed : Type 0 where
+  pub size : ℕ
+  pub words : List ℕ
+  pub out : List ℕ
+
+abbrev pub printed : ℕ → List ℕ → List ℕ → Printed
+printed n w out = record { size = n; words = w; out = out }
+
+abbrev pub printedOf : ListedOn → Printed
+printedOf r = printed (r .size) (r .words) (r .out)

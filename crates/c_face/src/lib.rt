@@ -1,6 +1,7 @@
 // The face for C and Rust: functions on numbers and on pointers with lengths. None has a `requires`.
 use language::verdict::Verdict;
 use rules::check::check;
+use runs::printing::run_listing;
 use stepper::answer::Answer;
 use stepper::step::fresh;
 use stepper::step::state_length;
@@ -8,7 +9,8 @@ use stepper::step::step;
 ghost use mathlib.Core.Path.{_≡_};
 ghost use Rattle.rules.specs.Verdict.{verdict};
 ghost use Rattle.stepper.specs.Answers.{freshText, stepText};
-ghost use Rattle.c_face.specs.Codes.{codeOf, answerCode, coded, codedOf};
+ghost use Rattle.runs.specs.Printed.{listText};
+ghost use Rattle.c_face.specs.Codes.{codeOf, answerCode, coded, codedOf, printed, printedOf};
 
 fn wide8(n: u8) -> u32
     ensures { λ r. ⌜ r ≡ n ⌝ }
@@ -74,4 +76,26 @@ pub extern "C" fn purkvaldi_step(text: &[u8], state: &mut [u64], choice: u64) ->
     ensures { λ r. ⌜ coded r (now (state .exit)) ≡ codedOf (stepText (now (text .entry)) (now (state .entry)) choice) ⌝ }
 {
     answer_code(step(text, state, choice))
+}
+
+// How many bytes a listing's buffer has: the longest listing.
+#[no_mangle]
+pub extern "C" fn purkvaldi_listing_length() -> usize
+    ensures { λ r. ⌜ r ≡ 229389 ⌝ }
+{
+    229389
+}
+
+// The listing of a run, in the first bytes of `out`: how many they are, 0 where a buffer has another length and nothing is written. `choices` are the
+// bytes of choices.txt; the state behind the run is in `state` where choices were stepped.
+#[no_mangle]
+pub extern "C" fn purkvaldi_run(
+    text: &[u8],
+    choices: &[u8],
+    state: &mut [u64],
+    out: &mut [u8],
+) -> usize
+    ensures { λ r. ⌜ printed r (now (state .exit)) (now (out .exit)) ≡ printedOf (listText (now (text .entry)) (now (choices .entry)) (now (state .entry)) (now (out .entry))) ⌝ }
+{
+    run_listing(text, choices, state, out).length
 }

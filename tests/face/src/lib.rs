@@ -11,6 +11,44 @@ extern "C" {
         words: usize,
         choice: u64,
     ) -> u32;
+    fn purkvaldi_listing_length() -> usize;
+    fn purkvaldi_run(
+        text: *const u8,
+        length: usize,
+        choices: *const u8,
+        choices_length: usize,
+        state: *mut u64,
+        words: usize,
+        out: *mut u8,
+        out_length: usize,
+    ) -> usize;
+}
+
+/// How many bytes a listing's buffer has.
+pub fn listing_length() -> usize {
+    unsafe { purkvaldi_listing_length() }
+}
+
+/// The listing of a run of the bytes of a choices.txt, in the first bytes of `out`; none where a buffer has another length.
+pub fn run<'o>(
+    text: &[u8],
+    choices: &[u8],
+    state: &mut [u64],
+    out: &'o mut [u8],
+) -> Option<&'o [u8]> {
+    let length = unsafe {
+        purkvaldi_run(
+            text.as_ptr(),
+            text.len(),
+            choices.as_ptr(),
+            choices.len(),
+            state.as_mut_ptr(),
+            state.len(),
+            out.as_mut_ptr(),
+            out.len(),
+        )
+    };
+    (length > 0).then(|| &out[..length])
 }
 
 /// What a call of the stepper answers: the number, 0 where it is done; and the frame of a refusal 1 to 7, else the acting

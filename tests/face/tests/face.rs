@@ -16,7 +16,9 @@ fn fresh() -> Vec<u64> {
 #[test]
 fn the_three_line_file_answers_0_0_16() {
     let mut state = fresh();
-    let answers: Vec<u8> = (0..3).map(|_| face::step(THREE, &mut state, 2).number).collect();
+    let answers: Vec<u8> = (0..3)
+        .map(|_| face::step(THREE, &mut state, 2).number)
+        .collect();
     assert_eq!(answers, [0, 0, 16]);
 }
 
@@ -48,7 +50,37 @@ fn garbage_states_are_14_and_stay() {
         let mut changed = state.clone();
         changed[at] = u64::MAX;
         let kept = changed.clone();
-        assert_eq!(face::step(THREE, &mut changed, 2), answer(14, 0), "word {at}");
+        assert_eq!(
+            face::step(THREE, &mut changed, 2),
+            answer(14, 0),
+            "word {at}"
+        );
         assert_eq!(changed, kept);
     }
+}
+
+#[test]
+fn a_listing_is_that_of_the_second_program() {
+    let mut state = vec![0; face::state_length()];
+    let mut out = vec![0; face::listing_length()];
+    for choices in [&b""[..], b"02\n02\n02\n", b"02\n2", b"0a\n"] {
+        let theirs = second::listing::run(THREE, choices);
+        assert_eq!(
+            face::run(THREE, choices, &mut state, &mut out),
+            Some(&theirs[..])
+        );
+    }
+}
+
+#[test]
+fn a_listing_in_a_buffer_of_another_length_is_refused() {
+    let mut state = vec![3; face::state_length()];
+    for bytes in [0, 8, face::listing_length() - 1, face::listing_length() + 1] {
+        let mut out = vec![7; bytes];
+        assert_eq!(face::run(THREE, b"02\n", &mut state, &mut out), None);
+        assert_eq!(out, vec![7; bytes]);
+        assert_eq!(state, vec![3; 4818]);
+    }
+    let mut out = vec![7; face::listing_length()];
+    assert_eq!(face::run(THREE, b"02\n", &mut [1, 2], &mut out), None);
 }

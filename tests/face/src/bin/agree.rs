@@ -17,9 +17,19 @@ fn run(case: &Case, state: &mut [u64], answers: &mut [u64; 21]) -> Option<()> {
     let fresh = face::fresh(text, state);
     let Reading::Readable(program, _) = Reading::new(text) else {
         let (number, frame) = face::second_check(text);
-        return (fresh == (Answer { number, detail: frame })).then_some(());
+        return (fresh
+            == (Answer {
+                number,
+                detail: frame,
+            }))
+        .then_some(());
     };
-    (fresh == Answer { number: 0, detail: 0 }).then_some(())?;
+    (fresh
+        == Answer {
+            number: 0,
+            detail: 0,
+        })
+    .then_some(())?;
     let choices = choices_of(case);
     let mut theirs = State::new(&program);
     for &choice in used(&program, &choices).iter().take(200) {
@@ -69,8 +79,10 @@ fn main() {
     let (seconds, seed) = (args.next().expect("SECONDS"), args.next().expect("SEED"));
     let end = Instant::now() + Duration::from_secs(seconds);
     let mut state = vec![0u64; face::state_length()];
+    let mut out = vec![0u8; face::listing_length()];
     let mut verdicts = [0u64; 14];
     let mut answers = [0u64; 21];
+    let mut listed = [0u64; 21];
     let (mut cases, mut differences) = (0u64, 0u64);
     while Instant::now() < end {
         for _ in 0..100 {
@@ -83,6 +95,16 @@ fn main() {
             if ours != theirs {
                 differences += 1;
                 println!("seed {seed} case {cases}: {ours:?}, the second program {theirs:?}");
+            }
+            let theirs = second::listing::run(&case.program, &case.choices);
+            let ours = face::run(&case.program, &case.choices, &mut state, &mut out);
+            if ours != Some(&theirs[..]) {
+                differences += 1;
+                println!("seed {seed} case {cases}: another listing");
+            }
+            for line in theirs.split(|b| *b == b'\n').filter(|l| l.len() == 13) {
+                let digits = std::str::from_utf8(&line[3..5]).unwrap();
+                listed[usize::from_str_radix(digits, 16).unwrap()] += 1;
             }
             // Each public step reads and validates anew, so the stepper sees one case in ten.
             if cases % 10 == 0 {
@@ -99,7 +121,16 @@ fn main() {
         }
     }
     println!("{cases} texts, {differences} differences; verdicts 0 to 13: {verdicts:?}");
-    println!("answers of steps 0 and 15 to 20: {} {:?}", answers[0], &answers[15..]);
+    println!(
+        "answers in the listings of runs, 0 and 15 to 20: {} {:?}",
+        listed[0],
+        &listed[15..]
+    );
+    println!(
+        "answers of steps 0 and 15 to 20: {} {:?}",
+        answers[0],
+        &answers[15..]
+    );
     if differences > 0 {
         std::process::exit(1);
     }

@@ -1,7 +1,5 @@
 //! bench: the time of a check of accepted files of several lengths and of a step, proved and second side by side, and the stack
 //! below the proved check and the proved step.
-use second::listing::Reading;
-use second::state::State;
 use std::time::Instant;
 
 /// An accepted file of n lines: modules whose bodies nest, each with lets, stores, loops and starts.
@@ -61,7 +59,7 @@ fn nanoseconds(check: fn(&[u8]) -> (u8, u16), text: &[u8]) -> u128 {
 /// A file whose main loops for ever on its own scheduler: it adds to a shared cell, lets a variable, and cooperates.
 fn looping() -> Vec<u8> {
     let frames = [
-        "0001000000020000", // 0 header
+        "0001FFFF00020000", // 0 header
         "0102000100000000", // 1 shared cell, owner 2, a number
         "2101000000000000", // 2 true
         "2300000000000000", // 3 shared cell 0
@@ -82,25 +80,36 @@ fn looping() -> Vec<u8> {
     text
 }
 
-/// Nanoseconds of a step of scheduler 2, by the public call, which reads and validates anew, and by the second program's stepper.
-fn step_times(text: &[u8]) -> (u128, u128) {
-    const STEPS: u128 = 20_000;
+/// Nanoseconds of a step of scheduler 2: in a run's listing, by the public call, which reads and validates anew, and by the
+/// second program in a run's listing.
+fn step_times(text: &[u8]) -> (u128, u128, u128) {
+    const STEPS: u128 = 16_384;
+    let choices = b"02\n".repeat(STEPS as usize);
     let mut state = vec![0; face::state_length()];
-    assert_eq!(face::fresh(text, &mut state).number, 0);
-    let start = Instant::now();
-    for _ in 0..STEPS {
-        assert_eq!(face::step(text, &mut state, 2).number, 0);
-    }
-    let ours = start.elapsed().as_nanos() / STEPS;
-    let Reading::Readable(program, _) = Reading::new(text) else {
-        panic!("the file passes 1 to 7");
+    let mut out = vec![0; face::listing_length()];
+    let best = |run: &mut dyn FnMut()| {
+        (0..20)
+            .map(|_| {
+                let start = Instant::now();
+                run();
+                start.elapsed().as_nanos() / STEPS
+            })
+            .min()
+            .unwrap()
     };
-    let mut theirs = State::new(&program);
-    let start = Instant::now();
-    for _ in 0..50 * STEPS {
-        assert_eq!(theirs.step(&program, 2, &mut ()).answer, 0);
-    }
-    (ours, start.elapsed().as_nanos() / STEPS / 50)
+    let inside = best(&mut || {
+        assert!(face::run(text, &choices, &mut state, &mut out).is_some());
+    });
+    let theirs = best(&mut || {
+        std::hint::black_box(second::listing::run(text, &choices));
+    });
+    assert_eq!(face::fresh(text, &mut state).number, 0);
+    let public = best(&mut || {
+        for _ in 0..STEPS {
+            assert_eq!(face::step(text, &mut state, 2).number, 0);
+        }
+    });
+    (inside, public, theirs)
 }
 
 /// How many bytes of a painted stack a call changes.
@@ -149,8 +158,11 @@ fn main() {
     }
     let text = looping();
     assert_eq!(face::check(&text), (0, 0));
-    let (ours, theirs) = step_times(&text);
-    println!("a step by the public call: {ours} ns; by the second program's stepper: {theirs} ns");
+    let (inside, public, theirs) = step_times(&text);
+    println!(
+        "a step in a run with its listing: {inside} ns, the second program {theirs} ns, ratio {:.2}; by the public call {public} ns",
+        inside as f64 / theirs as f64
+    );
     let text = accepted(1024);
     let stack = stack_used(move || {
         std::hint::black_box(face::check(&text));

@@ -21,5 +21,10 @@ fn print(what: &str, answer: face::Answer, state: &[u64]) {
         .filter(|(_, word)| **word != 0)
         .map(|(at, word)| format!("{at}: {word}"))
         .collect();
-    println!("{what} -> {:02X} {:02X} | {}", answer.number, answer.detail, words.join(", "));
+    println!(
+        "{what} -> {:02X} {:02X} | {}",
+        answer.number,
+        answer.detail,
+        words.join(", ")
+    );
 }
