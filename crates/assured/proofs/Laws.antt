@@ -1,7 +1,7 @@
 -- What the calls of a whole list leave, and that an accepted text's are safe. Assumes nothing.
 use Prim.Native.Nat.{ℕ, _≤_}
 use mathlib.Core.Path.{_≡_, refl, sym, ap, _∙_}
-use mathlib.Core.List.{List}
+use mathlib.Core.List.{List, [], _∷_}
 use mathlib.Core.Bool.{Bool, true, false}
 use native.Mathlib.Omega.{arith}
 use lib.Dec.{eqb}
@@ -12,7 +12,7 @@ use Rattle.language.specs.declared.frame.Frame.{Frame}
 use Rattle.language.specs.declared.verdict.Verdict.{Verdict}
 use Rattle.language.specs.declared.verdict.Verdict.the-variants.{Accepted, Rejected}
 use Rattle.text.specs.Frames.{framesOf, textFrames}
-use Rattle.text.specs.Reading.{reading}
+use Rattle.text.specs.Reading.{Reads, reading}
 use Rattle.program.specs.Programs.{programOf}
 use Rattle.layout.specs.LaidOut.{HasLayout, laidOut}
 use Rattle.layout.specs.declared.LaidOut.{LaidOut}
@@ -22,7 +22,7 @@ use Rattle.rules.specs.Verdict.{HasVerdict}
 use Rattle.machine.specs.Fresh.{fresh}
 use Rattle.machine.specs.Runs.{stateAfter}
 use Rattle.machine.specs.Words.{pack}
-use Rattle.machine.specs.Calls.{Called, unchanged, freshCall}
+use Rattle.machine.specs.Calls.{Called, unchanged, freshCall, stepCall, callsFrom}
 use Rattle.machine.proofs.KeptShape.{fresh-shaped}
 use Rattle.machine.proofs.CallRuns.{fresh-called}
 use Rattle.safety.specs.Accepted.{wordsFrom, SafeCalls}
@@ -33,7 +33,10 @@ use Rattle.stepper.specs.Answers.{answered, calledAs}
 use Rattle.stepper.specs.Files.{FileWords}
 use Rattle.stepper.proofs.StepLaws.{fits-words}
 use Rattle.stepper.proofs.AnswerLaws.{refused-14, done-0, by-reading, by-call, text-file}
-use Rattle.assured.specs.Assured.{exerciseCall, exerciseText, Assured}
+use Rattle.listing.specs.Listing.{usedOf}
+use Rattle.runs.specs.Runs.{ranAs, lastWords}
+use Rattle.runs.proofs.CalledRuns.{run-calls}
+use Rattle.assured.specs.Assured.{exerciseCall, exerciseText, Assured, RunAssured}
 
 -- ---- the inner call
 pub all-choices : (cs v : List ℕ) (frames : List ℕ) → v ≡ pack (stateAfter (programOf (framesOf frames)) (take (length cs) cs)) → v ≡ pack (stateAfter (programOf (framesOf frames)) cs)
@@ -98,3 +101,16 @@ module _ (bs : List ℕ) (l : LaidOut) (e : l ≡ laidOut bs) (cs w : List ℕ) 
 
       pub done-assured : Assured bs cs w u
       done-assured y _ = (accepted-calls-safe bs y w cs k, words ∙ ap (λ (fs : List Frame). wordsFrom fs (freshCall fs w .words) cs) same-frames)
+
+-- ---- the choices that `run` uses
+last-from : (fs : List Frame) (w cs : List ℕ) → lastWords w (callsFrom fs w cs) ≡ wordsFrom fs w cs
+unfolding lastWords callsFrom wordsFrom
+last-from fs w [] = refl
+last-from fs w (c ∷ cs) = last-from fs (stepCall fs w c .words) cs
+
+pub run-assured : RunAssured
+run-assured bs (HasVerdict.accepted (Reads.whole a b c) h k) cs w e = (
+  accepted-calls-safe bs (HasVerdict.accepted (Reads.whole a b c) h k) w (take (usedOf (programOf (textFrames bs)) cs) cs) e,
+  run-calls bs (textFrames bs) (record { text = Reads.whole a b c; layout = h }) cs w e
+      ∙ ap (ranAs (A.Done 0) (usedOf (programOf (textFrames bs)) cs)) (last-from (textFrames bs) (freshCall (textFrames bs) w .words) (take (usedOf (programOf (textFrames bs)) cs) cs)),
+)

@@ -4,15 +4,19 @@ use mathlib.Core.Bool.{true, false}
 use mathlib.Core.List.{List}
 use Prim.Native.Nat.{ℕ}
 use lib.Dec.{eqb}
-use lib.ListN.{length}
+use lib.ListN.{length, take}
 use Rattle.language.specs.declared.frame.Frame.{Frame}
 use Rattle.language.specs.declared.verdict.Verdict.the-variants.{Accepted}
 use Rattle.text.specs.Frames.{textFrames}
 use Rattle.text.specs.Reading.{reading}
+use Rattle.program.specs.Programs.{programOf}
 use Rattle.rules.specs.Verdict.{HasVerdict}
 use Rattle.machine.specs.Calls.{Called, unchanged, freshCall}
 use Rattle.safety.specs.Accepted.{wordsFrom, SafeCalls}
+use Rattle.stepper.specs.declared.answer.Answer.the-variants.{Done}
 use Rattle.stepper.specs.Answers.{Answered, onFrames}
+use Rattle.listing.specs.Listing.{usedOf}
+use Rattle.runs.specs.Runs.{ranAs, runText}
 
 -- the fresh call, then a call for each choice, each on the words that the one before returned or left: the words behind the last
 unfoldable pub exerciseCall : List Frame → List ℕ → List ℕ → Called
@@ -29,3 +33,11 @@ abbrev pub Assured : List ℕ → List ℕ → List ℕ → List ℕ → Type 0
 Assured bs cs w v =
     HasVerdict bs Accepted → length w ≡ 4818
     → SafeCalls (textFrames bs) w cs × (v ≡ wordsFrom (textFrames bs) (freshCall (textFrames bs) w .words) cs)
+
+-- The choices that `run` uses are such a list: of an accepted text, what `run` leaves are the words behind those calls, and they are safe. Proved in proofs/Laws
+abbrev pub RunAssured : Type 0
+RunAssured =
+    (bs : List ℕ) → HasVerdict bs Accepted → (cs w : List ℕ) → length w ≡ 4818
+    → let used = usedOf (programOf (textFrames bs)) cs in
+    SafeCalls (textFrames bs) w (take used cs)
+    × (runText bs cs w ≡ ranAs (Done 0) used (wordsFrom (textFrames bs) (freshCall (textFrames bs) w .words) (take used cs)))
