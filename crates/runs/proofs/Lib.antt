@@ -1,4 +1,5 @@
 pub mod RunLaws
+pub mod CheckLaws
 pub mod TextLaws
 pub mod CalledRuns
 pub mod LineRuns
