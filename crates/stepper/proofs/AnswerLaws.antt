@@ -4,9 +4,10 @@ use mathlib.Core.Path.{_≡_, refl, sym, ap, _∙_}
 use mathlib.Core.List.{List}
 use mathlib.Core.Bool.{Bool, true, false, not}
 use native.Mathlib.Omega.{arith}
+use lib.Dec.{eqb}
 use lib.ListN.{length, take}
-use borrow.Author.Tests.{eq-eqb, ne-eqb, not-true, not-false}
-use Rattle.basics.proofs.Ifs.{if-yes, if-no}
+use borrow.Author.Tests.{eqb-true, eq-eqb, ne-eqb, not-true, not-false}
+use Rattle.basics.proofs.Ifs.{if-all, if-yes, if-no}
 use Rattle.language.specs.declared.frame.Frame.{Frame}
 use Rattle.language.specs.declared.verdict.Verdict.{Verdict}
 use Rattle.language.specs.declared.verdict.Verdict.the-variants.{Accepted, Rejected}
@@ -29,7 +30,7 @@ use Rattle.stepper.specs.declared.answer.Answer.{Answer}
 use Rattle.stepper.specs.declared.answer.Answer.the-variants as A
 use Rattle.stepper.specs.declared.file.File.{File}
 use Rattle.stepper.specs.declared.party.Stepped.{Stepped}
-use Rattle.stepper.specs.Answers.{answerTo, answered, calledAs, afterLayout, onFrames, freshText, stepText}
+use Rattle.stepper.specs.Answers.{numberOf, threadOf, answerTo, answered, calledAs, afterLayout, onFrames, freshText, stepText}
 use Rattle.stepper.specs.Files.{FileWords, StepWords, fileOf, steppedOn}
 
 -- ---- one answer
@@ -41,6 +42,15 @@ module _ (n t : ℕ) where
   pub answer-refused : (n ≡ 0 → ⊥) → A.Refused n t ≡ answerTo n t
   unfolding answerTo
   answer-refused h = sym (if-no _ _ (ne-eqb n 0 h))
+
+  -- the enum says 01's number, and the acting thread
+  pub number-back : numberOf (answerTo n t) ≡ n
+  unfolding answerTo
+  number-back = if-all (λ (a : Answer). numberOf a ≡ n) (eqb n 0) _ _ (λ e. sym (eqb-true n 0 e)) (λ _. refl)
+
+  pub thread-back : threadOf (answerTo n t) ≡ t
+  unfolding answerTo
+  thread-back = if-all (λ (a : Answer). threadOf a ≡ t) (eqb n 0) _ _ (λ _. refl) (λ _. refl)
 
 pub ruleset answer-laws = (answer-done, answer-refused)
 
