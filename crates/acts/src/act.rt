@@ -1,6 +1,9 @@
 // What a turn comes to.
+use language::Place;
 use states::thread::ThreadWords;
 ghost use mathlib.Core.Path.{_≡_};
+ghost use lib.Dec.{eqb};
+ghost use Rattle.language.specs.Places.{private};
 ghost use Rattle.acts.specs.Fates.{actedIn, refusedIn, endedIn};
 
 // What becomes of the thread: refused with that number; it stays first in its list; it leaves it for none, since it has ended or is
@@ -57,4 +60,11 @@ pub fn ended(th: ThreadWords) -> ThreadWords
         values: th.values,
         variables: v,
     }
+}
+
+// A thread at this place is unlinked.
+pub fn is_private(place: u64) -> bool
+    ensures { λ r. ⌜ r ≡ eqb place private ⌝ }
+{
+    place == Place::PRIVATE.number() as u64
 }

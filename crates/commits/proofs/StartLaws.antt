@@ -17,32 +17,32 @@ use Rattle.commits.specs.declared.module.ModuleFound.{ModuleFound}
 use Rattle.commits.specs.Commits.{called, clearedIn, settledIn, leftIn, roomIn, joinedIn, newIn, obstacleIn, startedIn, waitingIn, startsIn}
 
 -- ---- what stands in the way
-module _ (w : List ℕ) (x : ModuleFound) (p g : ℕ) where
-  pub at-home : p ≡ 1 → 20 ≡ obstacleIn w x p g
+module _ (w : List ℕ) (x : ModuleFound) (p g : ℕ) (y : Bool) (z : y ≡ eqb p 1) where
+  pub at-home : y ≡ true → 20 ≡ obstacleIn w x p g
   unfolding obstacleIn
-  at-home a = yes _ (eq-eqb p 1 a) refl
+  at-home a = yes _ (sym z ∙ a) refl
 
-  pub not-there : (p ≡ 1 → ⊥) → not (x .there) ≡ true → 20 ≡ obstacleIn w x p g
+  pub not-there : y ≡ false → not (x .there) ≡ true → 20 ≡ obstacleIn w x p g
   unfolding obstacleIn
-  not-there a b = no _ (ne-eqb p 1 a) (yes _ b refl)
+  not-there a b = no _ (sym z ∙ a) (yes _ b refl)
 
-  pub other-count : (p ≡ 1 → ⊥) → not (x .there) ≡ false → (x .parameters ≡ g → ⊥) → 20 ≡ obstacleIn w x p g
+  pub other-count : y ≡ false → not (x .there) ≡ false → (x .parameters ≡ g → ⊥) → 20 ≡ obstacleIn w x p g
   unfolding obstacleIn
-  other-count a b c = no _ (ne-eqb p 1 a) (no _ b (yes _ (ap not (ne-eqb (x .parameters) g c)) refl))
+  other-count a b c = no _ (sym z ∙ a) (no _ b (yes _ (ap not (ne-eqb (x .parameters) g c)) refl))
 
-  pub no-room : (r : Bool) → r ≡ roomIn w p 1 → (p ≡ 1 → ⊥) → not (x .there) ≡ false → x .parameters ≡ g → not r ≡ true → 20 ≡ obstacleIn w x p g
+  pub no-room : (r : Bool) → r ≡ roomIn w p 1 → y ≡ false → not (x .there) ≡ false → x .parameters ≡ g → not r ≡ true → 20 ≡ obstacleIn w x p g
   unfolding obstacleIn
-  no-room r e a b c d = no _ (ne-eqb p 1 a) (no _ b (no _ (ap not (eq-eqb (x .parameters) g c)) (yes _ (ap not (sym e) ∙ d) refl)))
+  no-room r e a b c d = no _ (sym z ∙ a) (no _ b (no _ (ap not (eq-eqb (x .parameters) g c)) (yes _ (ap not (sym e) ∙ d) refl)))
 
-  pub too-many : (r : Bool) (n : ℕ) → r ≡ roomIn w p 1 → n ≡ getD w 0 0 → (p ≡ 1 → ⊥) → not (x .there) ≡ false → x .parameters ≡ g → not r ≡ false → 64 ≤ n → 18 ≡ obstacleIn w x p g
+  pub too-many : (r : Bool) (n : ℕ) → r ≡ roomIn w p 1 → n ≡ getD w 0 0 → y ≡ false → not (x .there) ≡ false → x .parameters ≡ g → not r ≡ false → 64 ≤ n → 18 ≡ obstacleIn w x p g
   unfolding obstacleIn
   too-many r n e f a b c d h =
-      no _ (ne-eqb p 1 a) (no _ b (no _ (ap not (eq-eqb (x .parameters) g c)) (no _ (ap not (sym e) ∙ d) (yes _ (ap (leb 64) (sym f) ∙ le-leb 64 n h) refl))))
+      no _ (sym z ∙ a) (no _ b (no _ (ap not (eq-eqb (x .parameters) g c)) (no _ (ap not (sym e) ∙ d) (yes _ (ap (leb 64) (sym f) ∙ le-leb 64 n h) refl))))
 
-  pub none-stands : (r : Bool) (n : ℕ) → r ≡ roomIn w p 1 → n ≡ getD w 0 0 → (p ≡ 1 → ⊥) → not (x .there) ≡ false → x .parameters ≡ g → not r ≡ false → n < 64 → 0 ≡ obstacleIn w x p g
+  pub none-stands : (r : Bool) (n : ℕ) → r ≡ roomIn w p 1 → n ≡ getD w 0 0 → y ≡ false → not (x .there) ≡ false → x .parameters ≡ g → not r ≡ false → n < 64 → 0 ≡ obstacleIn w x p g
   unfolding obstacleIn
   none-stands r n e f a b c d h =
-      no _ (ne-eqb p 1 a) (no _ b (no _ (ap not (eq-eqb (x .parameters) g c)) (no _ (ap not (sym e) ∙ d) (no _ (ap (leb 64) (sym f) ∙ lt-leb 64 n h) refl))))
+      no _ (sym z ∙ a) (no _ b (no _ (ap not (eq-eqb (x .parameters) g c)) (no _ (ap not (sym e) ∙ d) (no _ (ap (leb 64) (sym f) ∙ lt-leb 64 n h) refl))))
 
 pub ruleset obstacle-laws = (at-home, not-there, other-count, no-room, too-many, none-stands)
 

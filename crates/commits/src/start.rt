@@ -7,6 +7,7 @@ use crate::writing::leave;
 use crate::writing::room_at;
 use crate::writing::settle;
 use acts::act::Acted;
+use acts::act::is_private;
 use states::thread::ThreadWords;
 use states::thread::add_thread;
 use states::thread::thread_count;
@@ -46,7 +47,7 @@ fn obstacle(state: &[u64], found: ModuleFound, place: u64, given: u64) -> u8
     requires { ⌜ length (now state) ≡ 4818 ⌝ }
     ensures { λ r. ⌜ r ≡ obstacleIn (now (state .entry)) found place given ⌝ }
 {
-    if place == 1 {
+    if is_private(place) {
         return 20;
     }
     if !found.there {

@@ -1,12 +1,12 @@
 -- Laws of turns that evaluate nothing: one for each return of the code. Assumes nothing.
 use mathlib.Core.Path.{_≡_, sym, ap, _∙_}
-use mathlib.Core.Bool.{Bool, true, false, _&&_}
+use mathlib.Core.Bool.{Bool, true, false, not, _&&_}
 use mathlib.Core.List.{List}
 use Prim.Native.Nat.{ℕ, _+_, _<_, _≤_}
 use native.Mathlib.Omega.{arith}
 use lib.Dec.{eqb}
 use lib.ListN.{length, take, length-take}
-use borrow.Author.Tests.{le-leb, lt-leb, eq-eqb, ne-eqb}
+use borrow.Author.Tests.{le-leb, lt-leb, eq-eqb, ne-eqb, not-true, not-false}
 use Rattle.basics.proofs.Ifs.{yes, no}
 use Rattle.states.specs.declared.thread.ThreadWords.{ThreadWords}
 use Rattle.states.specs.Stacks.{pushItem, pushValue, popValue, moveTo}
@@ -65,13 +65,13 @@ module _ (th : ThreadWords) (n : ℕ) (r : Acted) where
   unfolding goesIn
   goes-nowhere from q h e = yes _ (eq-eqb q from h) e
 
-  pub goes-out : (from q : ℕ) (p : ThreadWords) → (q ≡ from → ⊥) → q ≡ 1 → p ≡ moveTo q th → r ≡ actedIn Leaves p n → r ≡ goesIn from th n q
+  pub goes-out : (from q : ℕ) (p : ThreadWords) (b : Bool) → b ≡ eqb q 1 → p ≡ moveTo q th → (q ≡ from → ⊥) → b ≡ true → r ≡ actedIn Leaves p n → r ≡ goesIn from th n q
   unfolding goesIn
-  goes-out from q p h k m e = no _ (ne-eqb q from h) (yes _ (eq-eqb q 1 k) (e ∙ ap (λ (x : ThreadWords). actedIn Leaves x n) m))
+  goes-out from q p b z m h k e = no _ (ne-eqb q from h) (yes _ (sym z ∙ k) (e ∙ ap (λ (x : ThreadWords). actedIn Leaves x n) m))
 
-  pub goes-there : (from q : ℕ) (p : ThreadWords) → (q ≡ from → ⊥) → (q ≡ 1 → ⊥) → p ≡ moveTo q th → r ≡ actedIn (Joins q) p n → r ≡ goesIn from th n q
+  pub goes-there : (from q : ℕ) (p : ThreadWords) (b : Bool) → b ≡ eqb q 1 → p ≡ moveTo q th → (q ≡ from → ⊥) → b ≡ false → r ≡ actedIn (Joins q) p n → r ≡ goesIn from th n q
   unfolding goesIn
-  goes-there from q p h k m e = no _ (ne-eqb q from h) (no _ (ne-eqb q 1 k) (e ∙ ap (λ (x : ThreadWords). actedIn (Joins q) x n) m))
+  goes-there from q p b z m h k e = no _ (ne-eqb q from h) (no _ (sym z ∙ k) (e ∙ ap (λ (x : ThreadWords). actedIn (Joins q) x n) m))
 
   pub does-again : (q body : ℕ) (b : Bool) → b ≡ true → b ≡ (eqb (th .place) 1 && eqb q 1) → r ≡ refusedIn 20 th n → r ≡ doesIn th n q body
   unfolding doesIn
@@ -87,18 +87,18 @@ module _ (th : ThreadWords) (n : ℕ) (r : Acted) where
   does-there q body b x y t h l f g e =
       no _ (sym h ∙ t) (no _ (lt-leb 24 (th .items) l) (e ∙ ap (λ (z : ThreadWords). goesIn (th .place) z n q) (g ∙ ap (pushItem body) f)))
 
-  pub cooperates-not : th .place ≡ 1 → r ≡ refusedIn 20 th n → r ≡ cooperatesIn th n
+  pub cooperates-not : (b : Bool) → b ≡ eqb (th .place) 1 → b ≡ true → r ≡ refusedIn 20 th n → r ≡ cooperatesIn th n
   unfolding cooperatesIn
-  cooperates-not h e = yes _ (eq-eqb (th .place) 1 h) e
+  cooperates-not b z h e = yes _ (sym z ∙ h) e
 
-  pub cooperates-next : (th .place ≡ 1 → ⊥) → r ≡ actedIn (Joins (th .place)) th n → r ≡ cooperatesIn th n
+  pub cooperates-next : (b : Bool) → b ≡ eqb (th .place) 1 → b ≡ false → r ≡ actedIn (Joins (th .place)) th n → r ≡ cooperatesIn th n
   unfolding cooperatesIn
-  cooperates-next h e = no _ (ne-eqb (th .place) 1 h) e
+  cooperates-next b z h e = no _ (sym z ∙ h) e
 
-pub again-not : (from q : ℕ) → (from ≡ 1 → ⊥) → false ≡ (eqb from 1 && eqb q 1)
-again-not from q h = ap (λ (b : Bool). b && eqb q 1) (sym (ne-eqb from 1 h))
+pub again-not : (from q : ℕ) (b : Bool) → b ≡ eqb from 1 → not b ≡ true → false ≡ (eqb from 1 && eqb q 1)
+again-not from q b z h = ap (λ (x : Bool). x && eqb q 1) (sym (not-true b h) ∙ z)
 
-pub again-so : (from q : ℕ) → from ≡ 1 → eqb q 1 ≡ (eqb from 1 && eqb q 1)
-again-so from q h = ap (λ (b : Bool). b && eqb q 1) (sym (eq-eqb from 1 h))
+pub again-so : (from q : ℕ) (b r : Bool) → b ≡ eqb from 1 → r ≡ eqb q 1 → not b ≡ false → r ≡ (eqb from 1 && eqb q 1)
+again-so from q b r z e h = e ∙ ap (λ (x : Bool). x && eqb q 1) (sym (not-false b h) ∙ z)
 
 pub ruleset go-laws = (goes-nowhere, goes-out, goes-there, does-again, does-full, does-there, cooperates-not, cooperates-next, again-not, again-so)

@@ -2,6 +2,7 @@
 use acts::act::Acted;
 use acts::act::Fate;
 use acts::act::comes_to;
+use acts::act::is_private;
 use acts::act::refused;
 use states::stack::move_to;
 use states::stack::push_item;
@@ -20,7 +21,7 @@ pub fn goes(from: u64, th: ThreadWords, used: usize, q: u64) -> Acted
         return comes_to(Fate::Stays, th, used);
     }
     let moved = move_to(th, q);
-    if q == 1 {
+    if is_private(q) {
         return comes_to(Fate::Leaves, moved, used);
     }
     comes_to(Fate::Joins(q), moved, used)
@@ -30,10 +31,10 @@ pub fn goes(from: u64, th: ThreadWords, used: usize, q: u64) -> Acted
 fn unlinked_again(from: u64, q: u64) -> bool
     ensures { λ r. ⌜ r ≡ (eqb from 1 && eqb q 1) ⌝ }
 {
-    if from != 1 {
+    if !is_private(from) {
         return false;
     }
-    q == 1
+    is_private(q)
 }
 
 // 12: the body above 'back to here'.
@@ -56,7 +57,7 @@ pub fn cooperates(th: ThreadWords, used: usize) -> Acted
     ensures { λ r. ⌜ r ≡ cooperatesIn th used ⌝ }
 {
     let p = th.place;
-    if p == 1 {
+    if is_private(p) {
         return refused(20, th, used);
     }
     comes_to(Fate::Joins(p), th, used)

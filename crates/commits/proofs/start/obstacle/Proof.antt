@@ -1,8 +1,11 @@
 -- `obstacle` meets its contract. Assumes nothing.
-use Rattle.commits.proofs.StartLaws.{obstacle-laws}
 use borrow.Author.Needs.{needs}
+use Rattle.commits.proofs.StartLaws.{obstacle-laws}
 use Rattle.commits.proofs.start.obstacle.Statement.{statement}
 use Rattle.commits.proofs.start.obstacle.Tie as tie
+
+is-private-requires : tie.Need-is-private-requires
+is-private-requires c κs = search needs
 
 returns : tie.Need-returns
 returns c = search obstacle-laws
@@ -32,6 +35,7 @@ pub obstacle-spec : {M : Type 1} → statement M
 obstacle-spec =
     tie.close
     (tie.spec
+    is-private-requires
     returns
     returns-2
     returns-3

@@ -4,6 +4,9 @@ use Rattle.turns.proofs.PlaceLaws.{go-laws}
 use Rattle.turns.proofs.moving.cooperates.Statement.{statement}
 use Rattle.turns.proofs.moving.cooperates.Tie as tie
 
+is-private-requires : tie.Need-is-private-requires
+is-private-requires c κs = search needs
+
 refused-requires : tie.Need-refused-requires
 refused-requires c κs = search needs
 
@@ -17,4 +20,5 @@ returns-2 : tie.Need-returns-2
 returns-2 c = search go-laws
 
 pub cooperates-spec : {M : Type 1} → statement M
-cooperates-spec = tie.close (tie.spec refused-requires returns comes-to-requires returns-2)
+cooperates-spec =
+    tie.close (tie.spec is-private-requires refused-requires returns comes-to-requires returns-2)

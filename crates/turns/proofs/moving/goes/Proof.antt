@@ -13,6 +13,9 @@ returns c = search go-laws
 move-to-requires : tie.Need-move-to-requires
 move-to-requires c κs = search needs
 
+is-private-requires : tie.Need-is-private-requires
+is-private-requires c κs = search needs
+
 comes-to-requires-2 : tie.Need-comes-to-requires-2
 comes-to-requires-2 c κs = search needs
 
@@ -32,6 +35,7 @@ goes-spec =
     comes-to-requires
     returns
     move-to-requires
+    is-private-requires
     comes-to-requires-2
     returns-2
     comes-to-requires-3
