@@ -1,5 +1,8 @@
 // Files for the programs: a whole file into a buffer, and the first bytes of a buffer printed.
 use libc::STDOUT_FILENO;
+ghost use mathlib.Core.Path.{_≡_};
+ghost use lib.Dec.{leb};
+ghost use lib.ListN.{length};
 ghost use Rattle.io.specs.Counts.{Counts};
 
 // How many bytes were read; an absent file reads as empty.
@@ -15,9 +18,13 @@ pub fn read_file(path: &[u8], buffer: &mut [u8]) -> usize
     n
 }
 
-// Nothing where the buffer has fewer.
-pub fn print(bytes: &[u8], n: usize) {
-    if n <= bytes.len() {
-        io::write_all(STDOUT_FILENO, &bytes[..n]);
+// Whether the buffer has so many bytes; where it has fewer, nothing is printed. What the system does with them is outside the logic.
+pub fn print(bytes: &[u8], n: usize) -> bool
+    ensures { λ r. ⌜ r ≡ leb n (length (now (bytes .entry))) ⌝ }
+{
+    if bytes.len() < n {
+        return false;
     }
+    io::write_all(STDOUT_FILENO, &bytes[..n]);
+    true
 }
