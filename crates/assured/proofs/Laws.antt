@@ -1,10 +1,9 @@
 -- What the calls of a whole list leave, and that an accepted text's are safe. Assumes nothing.
-use Prim.Native.Nat.{ℕ, _≤_}
+use Prim.Native.Nat.{ℕ}
 use mathlib.Core.Path.{_≡_, refl, sym, ap, _∙_}
 use mathlib.Core.List.{List, [], _∷_}
 use mathlib.Core.Bool.{Bool, true, false}
 use native.Mathlib.Omega.{arith}
-use lib.Dec.{eqb}
 use lib.ListN.{length, take}
 use lib.Seq.{take-length}
 use borrow.Author.Tests.{eq-eqb, ne-eqb}
@@ -25,7 +24,7 @@ use Rattle.machine.specs.Words.{pack}
 use Rattle.machine.specs.Calls.{Called, unchanged, freshCall, stepCall, callsFrom}
 use Rattle.machine.proofs.KeptShape.{fresh-shaped}
 use Rattle.machine.proofs.CallRuns.{fresh-called}
-use Rattle.safety.specs.Accepted.{wordsFrom, SafeCalls}
+use Rattle.safety.specs.Accepted.{wordsFrom}
 use Rattle.safety.proofs.Accepted.{words-are, accepted-calls-safe}
 use Rattle.stepper.specs.declared.answer.Answer.{Answer}
 use Rattle.stepper.specs.declared.answer.Answer.the-variants as A

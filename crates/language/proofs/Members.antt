@@ -1,13 +1,12 @@
 -- What effects mean as sets of schedulers: membership in the empty set, in a join, with one owner added, and what it is to lie within a place. Assumes nothing.
-use mathlib.Core.Path.{_≡_, refl, sym, ap, subst, _∙_}
-use mathlib.Core.Bool.{Bool, true, false, _&&_, _||_, true≢false}
-use Prim.Native.Nat.{ℕ, zero, suc, _+_, _*_, _/_, _%_, _^_, _<_, _≤_, max}
-use native.Mathlib.Nat.{div-div-eq-div-mul, pow-suc, pow-succ', pow-zero, div-one, zero-div, mod-lt}
+use mathlib.Core.Path.{_≡_, refl, sym, ap, _∙_}
+use mathlib.Core.Bool.{Bool, true, false, _&&_, _||_}
+use Prim.Native.Nat.{ℕ, zero, suc, _/_, _%_, _^_, _<_, max}
+use native.Mathlib.Nat.{div-div-eq-div-mul, pow-suc, pow-succ', div-one, zero-div}
 use native.Mathlib.Omega.{arith}
 use native.Mathlib.Decide.{ℕ-discrete}
-use lib.Dec.{leb, eqb}
-use lib.Pow.{pow-pos}
-use lib.Bits.{bitOr, or-step, or-shr}
+use lib.Dec.{eqb}
+use lib.Bits.{or-step, or-shr}
 use borrow.Author.Tests.{eq-eqb, ne-eqb, eqb-true, eqb-false}
 use Rattle.basics.proofs.Ifs.{if-all, and-true}
 use Rattle.language.specs.Places.{isScheduler}

@@ -1,13 +1,12 @@
 -- What the constructors and tests of places compute. Assumes nothing.
-use mathlib.Core.Path.{_≡_, refl, ap}
-use mathlib.Core.Bool.{Bool, true, false, _&&_}
+use mathlib.Core.Path.{_≡_, refl}
+use mathlib.Core.Bool.{false, _&&_}
 use Prim.Native.Nat.{ℕ, _+_, _-_, _≤_, _<_}
 use native.Mathlib.Omega.{arith}
 use lib.Dec.{leb}
 use borrow.Author.Tests.{lt-leb, le-leb}
 use Rattle.basics.proofs.Ifs.{yes, no, leb-same}
-use Rattle.language.specs.Places.{isPlace, isScheduler, hasPlace, hasScheduler, placeRead}
-use Rattle.language.specs.declared.PlaceRead.{PlaceRead}
+use Rattle.language.specs.Places.{isPlace, isScheduler, placeRead}
 use Rattle.language.specs.declared.PlaceRead.the-variants.{At, NoPlace}
 
 -- a constructor whose numbers are `low` to 9

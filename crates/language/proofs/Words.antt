@@ -3,9 +3,9 @@ use mathlib.Core.Bool.{Bool, true, false, not, _&&_, _||_}
 use mathlib.Core.Path.{_≡_, refl, sym, ap, _∙_}
 use Prim.Native.Nat.{ℕ, suc, _+_, _-_, _*_, _/_, _%_, _^_, _<_, _≤_}
 use native.Mathlib.Omega.{arith}
-use lib.Dec.{ltb, leb, eqb}
+use lib.Dec.{leb, eqb}
 use borrow.Author.Tests.{lt-ltb, le-ltb, le-leb, lt-leb, eq-eqb, ne-eqb, eqb-false, not-true, not-false}
-use Rattle.basics.proofs.Ifs.{yes, no, and-off, or-on}
+use Rattle.basics.proofs.Ifs.{yes, no, and-off}
 use Rattle.language.specs.Types.{cellDepth, cellType, ownerOf, contentOf, cellRead, isCell, public, ownerDigit, typeWord, contentWord, digitOf}
 use Rattle.language.specs.declared.type_word.CellRead.the-variants.{Word, TooDeep}
 

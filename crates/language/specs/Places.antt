@@ -1,9 +1,8 @@
 -- Places. 'Private is 1, home is 2, and the last scheduler is 9; a file has 2 to 1+B. A thread at place 1 is loose.' Assumes nothing: definitions.
-use mathlib.Core.Bool.{Bool, true, false, _&&_}
+use mathlib.Core.Bool.{Bool, _&&_}
 use Prim.Native.Nat.{ℕ, _+_}
 use lib.Dec.{leb, eqb}
 use Rattle.basics.specs.If.{if_then_else_}
-use Rattle.language.specs.declared.Place.{Place}
 use Rattle.language.specs.declared.PlaceRead.{PlaceRead}
 use Rattle.language.specs.declared.PlaceRead.the-variants.{At, NoPlace}
 

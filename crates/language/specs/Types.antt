@@ -1,5 +1,5 @@
 -- Type words. 'The last of four digits is 1 (number) or 2 (truth). Each digit to its left is the owner of a cell around what stands to its right; 0 only fills on the left.' Assumes nothing: definitions.
-use mathlib.Core.Bool.{Bool, true, false, not, _&&_, _||_}
+use mathlib.Core.Bool.{Bool, not, _&&_, _||_}
 use Prim.Native.Nat.{ℕ, suc, _+_, _*_, _/_, _%_, _^_}
 use lib.Dec.{ltb, leb, eqb}
 use Rattle.basics.specs.If.{if_then_else_}

@@ -17,7 +17,7 @@ use Rattle.layout.specs.Scans.{layoutOf}
 use Rattle.layout.specs.LaidOut.{HasLayout, layoutRead, layoutVerdict, laidOut}
 use Rattle.layout.proofs.Layouts.{layout-says, layout-one}
 use Rattle.layout.proofs.Answers.{Whole, whole, frames-are, verdict-is}
-use Rattle.layout.proofs.Scopes.{accepted-no-fault, no-fault-accepted}
+use Rattle.layout.proofs.Scopes.{accepted-no-fault}
 
 -- the text passes 1 to 7: its frames are those of the lines kept, at most 1,024, and have no fault
 pub record Right (bs : List ℕ) (l : LaidOut) : Type 0 where
@@ -55,11 +55,6 @@ laid-right bs l e v =
       few = (let f = w .fits in omega arith);
       no-fault = accepted-no-fault (textFrames bs) (let s = w .some in let d = w .count in omega arith) (laid-accepts bs (linesRead (reading bs)) w a);
     }
-
--- and where the frames have no fault, it answers so
-pub right-laid : (bs : List ℕ) → reading bs ≡ frames (textFrames bs) → 0 < length (textFrames bs) → NoFault (textFrames bs) → layoutVerdict bs ≡ Accepted
-unfolding layoutVerdict
-right-laid bs e l h = ap layoutRead e ∙ no-fault-accepted (textFrames bs) l h
 
 -- ---- the verdict is the one that the rules allow
 pub has-layout : (bs : List ℕ) → HasLayout bs (layoutVerdict bs)

@@ -2,34 +2,31 @@
 use mathlib.Core.Path.{_≡_, refl, sym, ap, _∙_}
 use mathlib.Core.Bool.{Bool, true, false}
 use mathlib.Core.List.{List, [], _∷_, _++_}
-use Prim.Native.Nat.{ℕ, zero, suc, _+_, _-_, _≤_, _<_}
+use Prim.Native.Nat.{ℕ, zero, suc, _-_, _≤_, _<_}
 use native.Mathlib.Omega.{arith}
 use lib.Dec.{ltb}
 use lib.ListN.{length, take, length-map}
 use lib.Seq.{take-suc, take-length}
 use borrow.Author.Tests.{ltb-true, ltb-false, eqb-true}
-use Rattle.basics.specs.If.{if_then_else_}
 use Rattle.basics.specs.Members.{In}
 use Rattle.basics.proofs.Ifs.{and-true}
 use Rattle.language.specs.Kinds.{classOf, uses, Child, childIn, children}
 use Rattle.language.specs.declared.kind.StatementKind.the-variants.{Let}
 use Rattle.language.specs.declared.kind.Kind.{Kind}
-use Rattle.language.specs.declared.kind.Kind.the-variants.{Header, Shared, Module, Statement, Expression, Unknown}
+use Rattle.language.specs.declared.kind.Kind.the-variants.{Shared, Module, Statement}
 use Rattle.language.specs.declared.frame.Frame.{Frame}
 use Rattle.language.specs.declared.verdict.Verdict.the-variants.{Accepted}
 use Rattle.program.specs.Trees.{noFrame, frameAt}
-use Rattle.program.specs.Ordered.{Ordered}
-use Rattle.program.specs.Programs.{sharedOf, modulesFrom, programOf, typeOfShared}
-use Rattle.layout.specs.Fields.{isShared, isModule, countOf, kindFine, frameFine}
+use Rattle.program.specs.Programs.{sharedOf, programOf, typeOfShared}
+use Rattle.layout.specs.Fields.{isShared, countOf, kindFine, frameFine}
 use Rattle.layout.specs.Order.{Tree, Row, isMain}
 use Rattle.layout.specs.Depths.{Depth}
 use Rattle.layout.specs.Faults.{Fault, NoFault, LayoutSays}
 use Rattle.layout.specs.Scans.{layoutOf}
 use Rattle.layout.specs.Scope.{Room}
 use Rattle.layout.proofs.Trees.{is-module, HasTree, tree-in, childrenAs}
-use Rattle.layout.proofs.Order.{all-trees, is-ordered}
+use Rattle.layout.proofs.Order.{all-trees}
 use Rattle.layout.proofs.Layouts.{layout-says, layout-one}
-use Rattle.layout.proofs.Deep.{in-body}
 use Rattle.layout.proofs.Tallies.{is-shared, count-cells, counted-one, counted-none}
 use Rattle.layout.proofs.FramePass.{fine-parts}
 
@@ -67,9 +64,6 @@ module _ (f : Frame) (k : Kind) (e : f .kind ≡ k) where
   pub in-b : {c : Child} → In c (childIn (uses k .b) (f .b)) → In c (children f)
   in-b m = in-children (in-left (childIn (uses k .c) (f .c)) (in-right (childIn (uses k .a) (f .a)) (childIn (uses k .b) (f .b)) m))
 
-  pub in-c : {c : Child} → In c (childIn (uses k .c) (f .c)) → In c (children f)
-  in-c m = in-children (in-right (childIn (uses k .a) (f .a) ++ childIn (uses k .b) (f .b)) (childIn (uses k .c) (f .c)) m)
-
 module _ {fs : List Frame} where
   -- a module's body has room for its parameters
   pub room-body : (i n : ℕ) → i < length fs → frameAt fs i .kind ≡ Module → n ≤ 2 → Room fs (frameAt fs i .a) n
@@ -83,24 +77,8 @@ module _ {fs : List Frame} where
   pub room-let : {i n : ℕ} → Room fs i n → frameAt fs i .kind ≡ Statement Let → Room fs (frameAt fs i .b) (suc n)
   room-let {i} {n} r e = record { depth = suc (r .depth); stands = Depth.child (r .stands) (in-b (frameAt fs i) (Statement Let) e In.first); enough = (let l = r .enough in omega arith) }
 
-count-modules : (fs tail : List Frame) (i : ℕ) → countOf isModule tail ≡ length (modulesFrom fs i tail)
-unfolding countOf modulesFrom if_then_else_
-count-modules fs [] i = refl
-count-modules fs (f ∷ tail) i = go (f .kind) (f .s) (f .a) (f .b) (f .c) (count-modules fs tail (suc i))
-  where
-    go : (k : Kind) (s a b c : ℕ) → countOf isModule tail ≡ length (modulesFrom fs (suc i) tail) → countOf isModule (record { kind = k; s = s; a = a; b = b; c = c } ∷ tail) ≡ length (modulesFrom fs i (record { kind = k; s = s; a = a; b = b; c = c } ∷ tail))
-    go Shared s a b c h = omega arith
-    go Header s a b c h = omega arith
-    go Module s a b c h = omega arith
-    go (Statement k) s a b c h = omega arith
-    go (Expression k) s a b c h = omega arith
-    go Unknown s a b c h = omega arith
-
 -- ---- a file without fault
 module _ (fs : List Frame) (fine : NoFault fs) where
-  pub no-fault-ordered : Ordered fs
-  no-fault-ordered = is-ordered fs (λ k f. fine 6 k f)
-
   pub depth-most : {j d : ℕ} → Depth fs j d → d ≤ 24
   depth-most {j} {d} h = go (ltb 24 d) refl
     where
@@ -132,14 +110,6 @@ module _ (fs : List Frame) (fine : NoFault fs) where
   pub child-class : {i : ℕ} {c : Child} → i < length fs → In c (children (frameAt fs i)) → classOf (frameAt fs (c .at) .kind) ≡ c .class
   child-class {i} l m = tree-class (trees i l .tree) m
 
-  -- a frame with room stands in the file
-  depth-inside : {j d : ℕ} → Depth fs j d → j < length fs
-  depth-inside (Depth.body {i = i} l k) = let a = child-below l (in-body (frameAt fs i) k) in omega arith
-  depth-inside (Depth.child {i = i} h m) = let a = depth-inside h in let b = child-below a m in omega arith
-
-  pub room-inside : {i n : ℕ} → Room fs i n → i < length fs
-  room-inside r = depth-inside (r .stands)
-
   -- 'The last frame is main, a module with S 0.'
   pub main-last : 0 < length fs → (frameAt fs (length fs - 1) .kind ≡ Module) × (frameAt fs (length fs - 1) .s ≡ 0)
   main-last l = go (isMain (frameAt fs (length fs - 1))) refl
@@ -170,9 +140,6 @@ module _ (fs : List Frame) (fine : NoFault fs) where
   counts-all : (test : Kind → Bool) → ((i : ℕ) → i < length fs → test (frameAt fs i .kind) ≡ true → countOf test (take i fs) < 16) → countOf test fs ≤ 16
   counts-all test h = let a = counts test h (length fs) (omega arith) in let e = ap (countOf test) (take-length fs) in omega arith
 
-  module-few : (i : ℕ) → i < length fs → isModule (frameAt fs i .kind) ≡ true → countOf isModule (take i fs) < 16
-  module-few i l e = let k : frameAt fs i .kind ≡ Module = is-module _ e in ltb-true _ 16 (ap (kindFine fs i) (sym k) ∙ fine-parts fs i (frameAt fs i) (frame-right i l) .0)
-
   shared-few : (i : ℕ) → i < length fs → isShared (frameAt fs i .kind) ≡ true → countOf isShared (take i fs) < 16
   shared-few i l e = let k : frameAt fs i .kind ≡ Shared = is-shared _ e in ltb-true _ 16 (ap (kindFine fs i) (sym k) ∙ fine-parts fs i (frameAt fs i) (frame-right i l) .0)
 
@@ -180,7 +147,3 @@ module _ (fs : List Frame) (fine : NoFault fs) where
   pub cells-most : length (programOf fs .shared) ≤ 16
   unfolding programOf
   cells-most = let a = counts-all isShared shared-few in let b = count-cells fs in let c = length-map (sharedOf fs) typeOfShared in omega arith
-
-  pub modules-most : length (programOf fs .modules) ≤ 16
-  unfolding programOf
-  modules-most = let a = counts-all isModule module-few in let b = count-modules fs fs 0 in omega arith

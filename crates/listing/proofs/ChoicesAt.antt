@@ -54,9 +54,6 @@ small Lines.none k h = absurd (omega arith)
 small (Lines.line p q l) zero h = omega arith
 small (Lines.line p q l) (suc k) h = small l k (omega arith)
 
-pub choices-small : (bytes cs : List ℕ) → choicesFrom 0 bytes ≡ choices cs → (k : ℕ) → k < length cs → getD cs k 0 < 256
-choices-small bytes cs e k h = small (lines bytes 0 cs e) k h
-
 -- the number of line k
 abbrev number : List ℕ → ℕ → ℕ
 number bytes k = 16 * digit (getD bytes (3 * k) 0) + digit (getD bytes (3 * k + 1) 0)

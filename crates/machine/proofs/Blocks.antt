@@ -8,11 +8,11 @@ use lib.Dec.{ltb}
 use borrow.Author.Tests.{ltb-true, ltb-false}
 use native.Mathlib.Decide.{ℕ-discrete}
 use lib.ListN.{getD, length, set, length-set, length-append, List·getD-append, List·getD-eq-default}
-use lib.Seq.{ext-getD, getD-set-same, getD-set-other, getD-at}
+use lib.Seq.{getD-set-same, getD-set-other, getD-at}
 use Rattle.machine.specs.State.{State, Stored, Thread, Scheduler, noThread, noScheduler, noCell, withThread, withScheduler, withCells, withNew}
 use Rattle.machine.specs.Words.{threadWord, schedulerWord, cellWord, pack}
-use Rattle.machine.specs.Blocks.{part, pasted, threadWords, schedulerWords, cellWords}
-use Rattle.machine.proofs.WordLaws.{pasted-length, pasted-in, pasted-out, Says, is-pack, pack-length, word-0, word-1, word-scheduler, word-thread, word-cell, tab-length, tab-at, part-at, part-length}
+use Rattle.machine.specs.Blocks.{pasted, threadWords, schedulerWords, cellWords}
+use Rattle.machine.proofs.WordLaws.{pasted-length, pasted-in, pasted-out, Says, pack-length, word-0, word-1, word-scheduler, word-thread, word-cell, tab-length, tab-at}
 
 pub says-pack : (s : State) → Says (pack s) s
 says-pack s = record { all = pack-length s; threads = word-0 s; cells = word-1 s; scheduler = word-scheduler s; thread = word-thread s; cell = word-cell s }
@@ -42,25 +42,9 @@ unfolding cellWords
 cells-at cs j h = tab-at 256 (λ i. cellWord (getD cs i noCell)) j 0 h
 
 -- ---- readers
-block-is : (w v : List ℕ) (at n : ℕ) → at + n ≤ length w → length v ≡ n → ((j : ℕ) → j < n → getD w (at + j) 0 ≡ getD v j 0) → part w at n ≡ v
-block-is w v at n h e f = let l : length (part w at n) ≡ n = part-length w at n h in
-    ext-getD 0 (part w at n) v (l ∙ sym e) (λ j g. let m : j < n = rw l at g in part-at w at n j m ∙ f j m)
-
 module _ (w : List ℕ) (s : State) (h : Says w s) where
   size : length w ≡ 4818
   size = h .all
-
-  pub read-thread : (k : ℕ) → k < 64 → part w (1042 + 55 * k) 55 ≡ threadWords (getD (s .threads) k noThread)
-  read-thread k a = block-is w (threadWords (getD (s .threads) k noThread)) (1042 + 55 * k) 55 (rw size (omega arith)) (thread-length (getD (s .threads) k noThread))
-      (λ j g. h .thread k j a g ∙ sym (thread-at (getD (s .threads) k noThread) j g))
-
-  pub read-scheduler : (k : ℕ) → k < 8 → part w (2 + 130 * k) 130 ≡ schedulerWords (getD (s .schedulers) k noScheduler)
-  read-scheduler k a = block-is w (schedulerWords (getD (s .schedulers) k noScheduler)) (2 + 130 * k) 130 (rw size (omega arith)) (scheduler-length (getD (s .schedulers) k noScheduler))
-      (λ j g. h .scheduler k j a g ∙ sym (scheduler-at (getD (s .schedulers) k noScheduler) j g))
-
-  pub read-cells : part w 4562 256 ≡ cellWords (s .cells)
-  read-cells = block-is w (cellWords (s .cells)) 4562 256 (rw size (omega arith)) (cells-length (s .cells))
-      (λ j g. h .cell j g ∙ sym (cells-at (s .cells) j g))
 
   -- ---- a block replaced
   pub put-thread : (k : ℕ) (x : Thread) → k < 64 → k < length (s .threads) → Says (pasted w (1042 + 55 * k) (threadWords x) 55) (withThread (suc k) x s)
@@ -207,13 +191,3 @@ put-new w s h x l = record {
         ∙ pasted-in w (1042 + 55 * m) (threadWords x) 55 hd hs j g ∙ thread-at x j g
         ∙ ap (λ (y : Thread). threadWord y j) (sym (getD-at (s .threads) x [] noThread (length (s .threads)) refl) ∙ ap (λ (k : ℕ). getD (s .threads ++ (x ∷ [])) k noThread) (sym e))
     go i j f g (no e) = out (1042 + 55 * i + j) (λ p q. e (omega arith)) ∙ h .thread i j f g ∙ ap (λ (y : Thread). threadWord y j) (same i e (ltb i m) refl)
-
--- ---- the same as equations
-pub pack-thread : (s : State) (k : ℕ) (x : Thread) → k < 64 → k < length (s .threads) → pasted (pack s) (1042 + 55 * k) (threadWords x) 55 ≡ pack (withThread (suc k) x s)
-pack-thread s k x a b = is-pack (pasted (pack s) (1042 + 55 * k) (threadWords x) 55) (withThread (suc k) x s) (put-thread (pack s) s (says-pack s) k x a b)
-
-pub pack-scheduler : (s : State) (q : ℕ) (x : Scheduler) → q - 2 < 8 → q - 2 < length (s .schedulers) → pasted (pack s) (2 + 130 * (q - 2)) (schedulerWords x) 130 ≡ pack (withScheduler q x s)
-pack-scheduler s q x a b = is-pack (pasted (pack s) (2 + 130 * (q - 2)) (schedulerWords x) 130) (withScheduler q x s) (put-scheduler (pack s) s (says-pack s) q x a b)
-
-pub pack-cells : (s : State) (cs : List Stored) → set (pasted (pack s) 4562 (cellWords cs) 256) 1 (length cs) ≡ pack (withCells cs s)
-pack-cells s cs = is-pack (set (pasted (pack s) 4562 (cellWords cs) 256) 1 (length cs)) (withCells cs s) (put-cells (pack s) s (says-pack s) cs)

@@ -1,13 +1,12 @@
 -- Calls on words are the steps of the states: from the fresh words on, each call answers as its step does and leaves the words of its state. Assumes nothing.
-use mathlib.Core.Path.{_≡_, refl, sym, ap, ap₂, _∙_}
+use mathlib.Core.Path.{_≡_, refl, ap, ap₂, _∙_}
 use mathlib.Core.List.{List, [], _∷_, map}
 use mathlib.Core.Bool.{Bool, true, false}
 use Prim.Native.Nat.{ℕ}
-use lib.Dec.{eqb}
 use lib.ListN.{length}
 use borrow.Author.Tests.{eq-eqb}
 use Rattle.language.specs.declared.frame.Frame.{Frame}
-use Rattle.program.specs.Programs.{Program, programOf}
+use Rattle.program.specs.Programs.{programOf}
 use Rattle.machine.specs.State.{State}
 use Rattle.machine.specs.Fresh.{fresh}
 use Rattle.machine.specs.Turns.{Stepped}

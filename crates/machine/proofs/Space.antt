@@ -242,15 +242,6 @@ not-free : (x : Thread) → eqb (x .place) 1 ≡ false → free x ≡ 0
 unfolding free isFree
 not-free x e = ap (λ (b : Bool). bit (b && not (x .ended))) e
 
-gone-free : (x : Thread) → x .ended ≡ true → free x ≡ 0
-unfolding free isFree
-gone-free x e = go (eqb (x .place) 1) (x .ended) e
-  where
-    go : (a b : Bool) → b ≡ true → bit (a && not b) ≡ 0
-    go true true h = refl
-    go true false h = absurd (true≢false (sym h))
-    go false b h = refl
-
 new-unlinked : (s : State) (x : Thread) → unlinkedCount (withNew x s .threads) ≡ unlinkedCount (s .threads) + free x
 new-unlinked s x = unlinked-snoc (s .threads) x
 

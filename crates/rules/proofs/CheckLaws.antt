@@ -1,8 +1,7 @@
 -- From the layout's answer to the verdict. Assumes nothing.
 use mathlib.Core.Path.{_≡_, refl, sym, ap, subst, _∙_}
-use mathlib.Core.List.{List, [], map}
-use mathlib.Core.Bool.{Bool, true, false}
-use Prim.Native.Nat.{ℕ, _+_, _-_, _<_, _≤_}
+use mathlib.Core.List.{List, []}
+use Prim.Native.Nat.{ℕ, _+_, _-_, _≤_}
 use native.Mathlib.Omega.{arith}
 use lib.ListN.{length, take, length-map, length-take, length-append, replicate}
 use lib.Seq.{take-at}
@@ -87,9 +86,6 @@ module _ (bs : List ℕ) (l : LaidOut) (e : l ≡ laidOut bs) where
         let x = right .some in
         let y = right .few in
         subst (λ (k : ℕ). FileIn (take k (l .words))) (sym q) (record { laid-out = subst NoFault (sym (right .lines)) (right .no-fault); some = omega arith; few = omega arith })
-
-    pub check-count : (n : ℕ) → n ≡ l .count → n ≤ 1024
-    check-count n q = let y = right .few in omega arith
 
     pub check-room : l .count ≤ length (l .words)
     check-room = let s = sym (length-take (l .count) (l .words)) ∙ same-length in omega arith

@@ -5,15 +5,13 @@ use mathlib.Core.List.{List, [], _∷_, _++_, map, map-append}
 use Prim.Native.Nat.{ℕ, zero, suc, _+_, _-_, _^_, _≤_, _<_}
 use native.Mathlib.Numerals.{add-one}
 use native.Mathlib.Omega.{arith}
-use lib.Dec.{ltb, leb}
-use lib.ListN.{length, getD, take, drop, set, replicate, length-map, length-set, length-take, drop-of-length-le}
+use lib.ListN.{length, take, drop, set, replicate, length-map, length-set, length-take, drop-of-length-le}
 use lib.Seq.{drop-cons, take-all, take-suc, take-suc-set}
 use borrow.Author.Tests.{ltb-true, leb-true}
-use Rattle.basics.specs.If.{if_then_else_}
 use Rattle.basics.specs.Members.{In, first}
 use Rattle.basics.proofs.Ifs.{yes, no, and-true}
-use Rattle.language.specs.Places.{home, linked}
-use Rattle.language.specs.Kinds.{uses, Child, child, childIn, children}
+use Rattle.language.specs.Places.{linked}
+use Rattle.language.specs.Kinds.{uses, child}
 use Rattle.language.specs.Effects.{within}
 use Rattle.language.specs.declared.effect.Effect.{Effect}
 use Rattle.language.specs.declared.verdict.Verdict.{Verdict}
@@ -30,7 +28,7 @@ use Rattle.layout.specs.Faults.{NoFault}
 use Rattle.layout.specs.Scope.{Room}
 use Rattle.layout.specs.Passes.{tallyOf}
 use Rattle.layout.specs.declared.fields.Tally.{Tally}
-use Rattle.layout.proofs.Scopes.{in-a, room-body, no-fault-ordered, child-below, main-last}
+use Rattle.layout.proofs.Scopes.{in-a, room-body, child-below, main-last}
 use Rattle.layout.proofs.Tallies.{counted-one, counted-none}
 use Rattle.layout.proofs.Trees.{is-module}
 use Rattle.rules.specs.Rules.{Signature, signature}
@@ -40,7 +38,7 @@ use Rattle.rules.specs.Frames.{FrameIn, FileIn}
 use Rattle.rules.specs.Modules.{NextModule}
 use Rattle.rules.specs.declared.finding.Conduct.{Conduct}
 use Rattle.rules.specs.declared.finding.Conduct.the-variants.{Does, Fails}
-use Rattle.rules.proofs.NodeLaws.{frame-word, frame-fine, few-schedulers}
+use Rattle.rules.proofs.NodeLaws.{frame-fine, few-schedulers}
 
 -- ---- 'main has an effect within {2}'
 pub main-within : (i : ℕ) (e : Effect) (x : Bool) → x ≡ within 2 e → x ≡ true → Accepted ≡ mainRule i e

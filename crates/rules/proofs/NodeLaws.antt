@@ -1,7 +1,7 @@
 -- Nodes and trees: what the rules find of a tree, from the node at its root and what they find of its children. Assumes nothing.
 use mathlib.Core.Path.{_≡_, refl, sym, ap, subst, _∙_}
-use mathlib.Core.Bool.{Bool, true, false, not, _&&_, true≢false}
-use mathlib.Core.List.{List, [], _∷_, _++_, map}
+use mathlib.Core.Bool.{Bool, true, false, _&&_}
+use mathlib.Core.List.{List, [], _∷_, _++_}
 use Prim.Native.Nat.{ℕ, zero, suc, _+_, _≤_, _<_}
 use native.Mathlib.Omega.{arith}
 use lib.Dec.{leb, eqb}
@@ -36,7 +36,7 @@ use Rattle.rules.specs.declared.node.ExpressionNode.the-variants as X
 use Rattle.rules.specs.declared.node.StatementNode.{StatementNode}
 use Rattle.rules.specs.declared.node.StatementNode.the-variants as Y
 use Rattle.rules.specs.declared.finding.Typing.{Typing}
-use Rattle.rules.specs.declared.finding.Typing.the-variants.{Typed, Untyped}
+use Rattle.rules.specs.declared.finding.Typing.the-variants.{Typed}
 
 -- ---- rows of the tables of nodes
 pub expression-row : (k v : ExpressionKind) (s a b c : ℕ) (r : ExpressionNode) → k ≡ v → r ≡ expressionNodeOf v s a b c → r ≡ expressionNodeOf k s a b c

@@ -4,13 +4,12 @@ use mathlib.Core.Bool.{Bool, true, false, not, _&&_, _||_}
 use mathlib.Core.List.{List}
 use Prim.Native.Nat.{ℕ, _^_, _<_, _≤_}
 use native.Mathlib.Omega.{arith}
-use lib.Dec.{ltb, leb, eqb}
+use lib.Dec.{leb, eqb}
 use lib.ListN.{length, getD}
-use borrow.Author.Tests.{lt-ltb, le-ltb, eq-eqb, ne-eqb, le-leb, lt-leb, leb-true, not-true, not-false}
-use Rattle.basics.specs.If.{if_then_else_}
+use borrow.Author.Tests.{lt-ltb, le-ltb, eq-eqb, ne-eqb, le-leb, leb-true, not-true, not-false}
 use Rattle.basics.proofs.Ifs.{yes, no, and-true, or-off}
-use Rattle.language.specs.Places.{isPlace, placeRead, linked, unlinked}
-use Rattle.language.specs.Types.{numberType, truthType, isCell, cellType, ownerOf, contentOf, roomAround, public, cellRead}
+use Rattle.language.specs.Places.{isPlace, placeRead}
+use Rattle.language.specs.Types.{isCell, cellType, ownerOf, contentOf, roomAround, public, cellRead}
 use Rattle.language.specs.Effects.{noEffect, _∪_, withOwner, within}
 use Rattle.language.specs.declared.Place.{Place}
 use Rattle.language.specs.declared.PlaceRead.{PlaceRead}

@@ -7,13 +7,12 @@ use native.Mathlib.Omega.{arith}
 use lib.Dec.{leb, eqb}
 use lib.ListN.{length, getD, take, length-map, List·getD-map}
 use borrow.Author.Tests.{le-leb, lt-leb, eq-eqb, ne-eqb, not-true, not-false}
-use Rattle.basics.specs.If.{if_then_else_}
 use Rattle.basics.specs.Searches.{every, sameNumbers}
 use Rattle.basics.proofs.Ifs.{yes, no}
 use Rattle.language.specs.Types.{public}
 use Rattle.language.specs.Effects.{noEffect, _∪_}
 use Rattle.language.specs.declared.effect.Effect.{Effect}
-use Rattle.rules.specs.Rules.{Signature, noSignature, signatureAt}
+use Rattle.rules.specs.Rules.{Signature, signatureAt}
 use Rattle.rules.specs.Checking.{Argued, argue, isLinked, startRule}
 use Rattle.rules.specs.Standings.{standing}
 use Rattle.rules.specs.Signatures.{noArguments, arguedOf, signatureWith, signatureOf}

@@ -6,11 +6,9 @@ use Prim.Native.Nat.{ℕ, zero, suc, _+_, _^_, _≤_, _<_}
 use native.Mathlib.Numerals.{add-one}
 use native.Mathlib.Omega.{arith}
 use native.Mathlib.Decide.{decLt}
-use lib.Dec.{eqb}
 use lib.ListN.{length, getD, take, set, length-map, length-take}
 use lib.Seq.{take-suc-set}
 use borrow.Author.Tests.{eq-eqb, ne-eqb}
-use Rattle.basics.specs.If.{if_then_else_}
 use Rattle.basics.specs.Members.{In, first, later, All}
 use Rattle.basics.proofs.Ifs.{if-yes, if-no}
 use Rattle.language.specs.Places.{Standing, linked, unlinked, standingAt}
@@ -19,15 +17,13 @@ use Rattle.language.specs.Kinds.{Child, child, children, childIn, uses}
 use Rattle.language.specs.declared.effect.Effect.{Effect}
 use Rattle.language.specs.declared.kind.StatementKind.{StatementKind}
 use Rattle.language.specs.declared.kind.StatementKind.the-variants as S
-use Rattle.language.specs.declared.kind.ExpressionKind.{ExpressionKind}
 use Rattle.language.specs.declared.kind.Kind.{Kind}
 use Rattle.language.specs.declared.kind.Kind.the-variants.{Header, Shared, Module, Statement, Expression, Unknown}
 use Rattle.language.specs.declared.kind.Class.{Class}
 use Rattle.language.specs.declared.kind.Use.{Use}
 use Rattle.language.specs.declared.frame.Frame.{Frame}
 use Rattle.text.specs.Frames.{frameOfWord, framesOf}
-use Rattle.program.specs.Trees.{Expr, Stmt, frameAt, expressionAt, arguments, statementOf, statementAt}
-use Rattle.program.specs.Ordered.{Ordered}
+use Rattle.program.specs.Trees.{frameAt, expressionAt, arguments, statementOf, statementAt}
 use Rattle.program.proofs.Decoding.{statement-at}
 use Rattle.layout.specs.Depths.{Depth}
 use Rattle.layout.specs.Faults.{Fault, NoFault}

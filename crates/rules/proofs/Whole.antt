@@ -1,6 +1,6 @@
 -- The theorem: the computed verdict is the one that the rules give, and the only one. Assumes nothing.
 use mathlib.Core.Path.{_≡_, refl, sym, ap, _∙_}
-use mathlib.Core.List.{List, [], _∷_, map}
+use mathlib.Core.List.{List}
 use Prim.Native.Nat.{ℕ, _<_}
 use lib.ListN.{length}
 use Rattle.language.specs.declared.frame.Frame.{Frame}
@@ -59,12 +59,3 @@ only-reading r h Accepted (HasVerdict.accepted {fs = fs} g m f) = rules-alone fs
 pub verdict-computes : VerdictComputes
 unfolding verdict
 verdict-computes bs = record { says = says-reading (reading bs) (reads bs); only = only-reading (reading bs) (reads bs) }
-
--- ---- tables of texts: what the function computes for each is its verdict
-pub data HaveVerdicts : List (List ℕ) → List Verdict → Type 0 where
-  none : HaveVerdicts [] []
-  more : {text : List ℕ} {v : Verdict} {texts : List (List ℕ)} {vs : List Verdict} → HasVerdict text v → HaveVerdicts texts vs → HaveVerdicts (text ∷ texts) (v ∷ vs)
-
-pub verdicts : (texts : List (List ℕ)) → HaveVerdicts texts (map verdict texts)
-verdicts [] = HaveVerdicts.none
-verdicts (text ∷ texts) = HaveVerdicts.more (verdict-computes text .says) (verdicts texts)

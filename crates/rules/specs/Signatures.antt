@@ -1,5 +1,5 @@
 -- How the code keeps arguments and what is known of modules. Assumes nothing: definitions.
-use mathlib.Core.List.{List, [], _∷_}
+use mathlib.Core.List.{[], _∷_}
 use Prim.Native.Nat.{ℕ, _/_, _%_, _^_}
 use lib.ListN.{take}
 use Rattle.language.specs.Effects.{noEffect}

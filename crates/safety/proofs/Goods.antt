@@ -199,10 +199,6 @@ module _ (P : Program) (sh : List Kept) where
   for-all u nov = none
   for-all u (onev v p vs) = more (val-public u p v) (for-all u vs)
 
-  pub-more : {Σ Σ′ : List Kept} {t : ℕ} {vs : List Value} {τs : List Ty} → More Σ Σ′ → Vals-public Σ t vs τs → Vals-public Σ′ t vs τs
-  pub-more m nov = nov
-  pub-more m (onev v p vs) = onev (val-more m v) p (pub-more m vs)
-
   module _ (n : length sh ≡ length (P .shared)) (low : Low P) where
     fine-in : {Γ : List Ty} {x : Expr} {τ : Ty} (u : Turn) (r : Ready Γ u) → Ex sh Γ (here u) x τ → Fine (r .kept) (u .thread) τ (eval (evaluator u) x (u .cells))
     fine-in u r d = fine-eval (evaluator u) (u .cells) (n ∙ ap (λ (p : Program). length (p .shared)) (sym (r .program))) (r .now .shared) (r .vars) (r .now .cells) d

@@ -9,7 +9,6 @@ use native.Mathlib.Decide.{ℕ-discrete}
 use lib.ListN.{length, getD, set, length-append, length-set}
 use lib.Seq.{getD-set-same, getD-set-other, getD-append-seam}
 use Rattle.machine.specs.State.{Stored, cellAt, noCell}
-use Rattle.machine.specs.Evaluation.{_>>=_}
 use Rattle.machine.specs.declared.value.Value.{Value}
 use Rattle.machine.specs.declared.value.Value.the-variants.{Number, Truth, Cell}
 use Rattle.safety.proofs.Typing.{Ty, num, tru, cell, Pub, Kept, At, here, there}

@@ -1,16 +1,16 @@
 -- Laws of the reader: a line taken is a step of the scan for the first wrong byte. Assumes nothing.
 use mathlib.Core.Path.{_≡_, refl, sym, ap, subst, _∙_}
 use mathlib.Core.Bool.{Bool, true, false}
-use mathlib.Core.List.{List, [], _∷_, _++_, map, append-assoc}
+use mathlib.Core.List.{List, [], _∷_, _++_, append-assoc}
 use mathlib.Core.Option.{Option, none, some}
 use Prim.Native.Nat.{ℕ, zero, suc, _+_, _-_, _*_, _/_, _%_, _<_, _≤_}
-use native.Mathlib.Nat.{zero-add, add-suc}
+use native.Mathlib.Nat.{add-suc}
 use native.Mathlib.Numerals.{add-one}
 use native.Mathlib.Omega.{arith}
-use lib.Dec.{ltb, leb, eqb}
+use lib.Dec.{ltb, eqb}
 use lib.ListN.{length, getD, take, drop, set, replicate, List·getD-map, length-map, length-append, length-replicate, length-drop, drop-of-length-le}
 use lib.Seq.{drop-drop, take-all, set-at}
-use borrow.Author.Tests.{eq-eqb, ne-eqb, lt-ltb, le-ltb, eqb-true, eqb-false, ltb-true, ltb-false}
+use borrow.Author.Tests.{eq-eqb, ne-eqb, lt-ltb, le-ltb, eqb-true, eqb-false, ltb-true}
 use Rattle.basics.specs.If.{if_then_else_}
 use Rattle.basics.proofs.Ifs.{if-all, if-yes, if-no, yes, no}
 use Rattle.text.specs.Digits.{digit}
@@ -243,9 +243,6 @@ module _ (bs words : List ℕ) (i at : ℕ) (d : Reader bs words i at) where
 
   pub reader-length : length bs ≤ 17408 → at < length bs → length words ≡ 1024
   reader-length m h = ap length (d .kept) ∙ array-length i bs (let k = reader-index m h in omega arith)
-
-  pub line-fits : (l : Line) (w : ℕ) → LineAt bs at l → l ≡ Word w → at < length bs → at + 17 ≤ length bs
-  line-fits l w e f h = scanning-more bs i at (d .scan) l w e f h .fits
 
   pub reader-more : (l : Line) (w : ℕ) → LineAt bs at l → l ≡ Word w → at < length bs → length bs ≤ 17408 → Reader bs (set words i w) (i + 1) (at + 17)
   reader-more l w e f h m =

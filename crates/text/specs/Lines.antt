@@ -1,5 +1,4 @@
 -- One line, as the reader takes it. Assumes nothing: definitions.
-use mathlib.Core.Bool.{true, false}
 use mathlib.Core.List.{List, [], _∷_}
 use Prim.Native.Nat.{ℕ, suc, _+_, _*_}
 use lib.Dec.{ltb, eqb}
