@@ -1,4 +1,4 @@
--- 'An effect is a set of schedulers.' The set is a number: the scheduler p is a member where bit p is set. Assumes nothing: definitions; what they mean as sets is proved in proofs/Sets.
+-- 'An effect is a set of schedulers.' The set is a number: the scheduler p is a member where bit p is set. Assumes nothing: definitions; what they mean as sets is proved in proofs/Members.
 use mathlib.Core.Bool.{Bool, _||_, _&&_}
 use Prim.Native.Nat.{ℕ, _/_, _%_, _^_}
 use lib.Dec.{eqb}
