@@ -1,10 +1,9 @@
 // What a turn comes to.
 use language::Place;
-use states::thread::ThreadWords;
 ghost use mathlib.Core.Path.{_≡_};
 ghost use lib.Dec.{eqb};
 ghost use Rattle.language.specs.Places.{private};
-ghost use Rattle.acts.specs.Fates.{actedIn, refusedIn, endedIn};
+ghost use Rattle.acts.specs.Fates.{actedWith, refusedWith};
 
 // What becomes of the thread: refused with that number; it stays first in its list; it leaves it for none, since it has ended or is
 // unlinked; it joins the next list of that scheduler; it starts that module, and waits for it or not.
@@ -16,22 +15,36 @@ pub enum Fate {
     Starts(bool, u8),
 }
 
-// With the thread behind the turn, how many cells are in use, and the arguments of a start: how many, and their words.
+// What else changes in the thread, once its top item is off its continuation: nothing; one item more; two, the top one first; one variable
+// more, with its body above a drop of it; one variable less; another place; that place, with the body above 'back to here'; it ends.
+// A turn changes a few of the thread's 55 words, so it names the change and its commit makes it where the words lie.
+pub enum Change {
+    Same,
+    Item(u64),
+    Items(u64, u64),
+    Let(u64, u64),
+    Drop,
+    Move(u64),
+    Enter(u64, u64),
+    End,
+}
+
+// With how many cells are in use behind the turn, and the arguments of a start: how many, and their words.
 pub struct Acted {
     pub fate: Fate,
-    pub thread: ThreadWords,
+    pub change: Change,
     pub used: usize,
     pub given: u64,
     pub first: u64,
     pub second: u64,
 }
 
-pub fn comes_to(fate: Fate, thread: ThreadWords, used: usize) -> Acted
-    ensures { λ r. ⌜ r ≡ actedIn fate thread used ⌝ }
+pub fn comes_to(fate: Fate, change: Change, used: usize) -> Acted
+    ensures { λ r. ⌜ r ≡ actedWith fate change used ⌝ }
 {
     Acted {
         fate,
-        thread,
+        change,
         used,
         given: 0,
         first: 0,
@@ -39,27 +52,10 @@ pub fn comes_to(fate: Fate, thread: ThreadWords, used: usize) -> Acted
     }
 }
 
-pub fn refused(answer: u8, thread: ThreadWords, used: usize) -> Acted
-    ensures { λ r. ⌜ r ≡ refusedIn answer thread used ⌝ }
+pub fn refused(answer: u8, used: usize) -> Acted
+    ensures { λ r. ⌜ r ≡ refusedWith answer used ⌝ }
 {
-    comes_to(Fate::Refused(answer), thread, used)
-}
-
-// The thread as one that has ended.
-pub fn ended(th: ThreadWords) -> ThreadWords
-    ensures { λ r. ⌜ r ≡ endedIn th ⌝ }
-{
-    let p = th.continuation;
-    let v = th.variables;
-    ThreadWords {
-        place: th.place,
-        starter: th.starter,
-        alive: 0,
-        items: th.items,
-        continuation: p,
-        values: th.values,
-        variables: v,
-    }
+    comes_to(Fate::Refused(answer), Change::Same, used)
 }
 
 // A thread at this place is unlinked.

@@ -1,5 +1,5 @@
 -- Laws of a commit, one for each fate. Assumes nothing.
-use Prim.Native.Nat.{ℕ, _-_}
+use Prim.Native.Nat.{ℕ}
 use mathlib.Core.Path.{_≡_, sym, ap, _∙_}
 use mathlib.Core.List.{List}
 use mathlib.Core.Bool.{Bool, true, false, not}
@@ -9,36 +9,36 @@ use Rattle.program.specs.Programs.{Program}
 use Rattle.acts.specs.declared.act.Fate.{Fate}
 use Rattle.acts.specs.declared.act.Fate.the-variants.{Refused, Stays, Leaves, Joins, Starts}
 use Rattle.acts.specs.declared.act.Acted.{Acted}
-use Rattle.commits.specs.Commits.{called, clearedIn, settledIn, leftIn, roomIn, joinedIn, leavesIn, joinsIn, startsIn, committedIn}
+use Rattle.commits.specs.Commits.{called, after, clearedIn, staysIn, leftIn, roomIn, joinedIn, leavesIn, joinsIn, startsIn, committedIn}
 
-pub leaves : (w v₁ v : List ℕ) (c t : ℕ) (a : Acted) → v ≡ leftIn v₁ c → v₁ ≡ settledIn w (t - 1) (a .thread) (a .used) → v ≡ leavesIn w c t a
+pub leaves : (w v₁ v : List ℕ) (c t : ℕ) (a : Acted) → v ≡ leftIn v₁ c → v₁ ≡ staysIn w t (after w t a) → v ≡ leavesIn w c t (after w t a)
 leaves w v₁ v c t a e f = e ∙ ap (λ (l : List ℕ). leftIn l c) f
 
 module _ (w v : List ℕ) (before c t : ℕ) (a : Acted) (q : ℕ) (r : Bool) (e : r ≡ roomIn w q 1) where
-  pub joins-not : not r ≡ true → v ≡ clearedIn w before (a .used) → called 20 t v ≡ joinsIn w before c t a q
+  pub joins-not : not r ≡ true → v ≡ clearedIn w before (a .used) → called 20 t v ≡ joinsIn w before c t (after w t a) q
   unfolding joinsIn
   joins-not h f = no _ (sym e ∙ not-true r h) (ap (called 20 t) f)
 
-  pub joins : not r ≡ false → (v₁ : List ℕ) → v ≡ joinedIn v₁ q t → v₁ ≡ leavesIn w c t a → called 0 t v ≡ joinsIn w before c t a q
+  pub joins : not r ≡ false → (v₁ : List ℕ) → v ≡ joinedIn v₁ q t → v₁ ≡ leavesIn w c t (after w t a) → called 0 t v ≡ joinsIn w before c t (after w t a) q
   unfolding joinsIn
   joins h v₁ f g = yes _ (sym e ∙ not-false r h) (ap (called 0 t) (f ∙ ap (λ (l : List ℕ). joinedIn l q t) g))
 
 pub ruleset joins-laws = (joins-not, joins)
 
 module _ (p : Program) (w v : List ℕ) (before c t : ℕ) (a : Acted) (x : Fate) where
-  pub commit-refused : (n : ℕ) → x ≡ Refused n → v ≡ clearedIn w before (a .used) → called n t v ≡ committedIn p w before c t a x
-  commit-refused n e f = ap (called n t) f ∙ ap (committedIn p w before c t a) (sym e)
+  pub commit-refused : (n : ℕ) → x ≡ Refused n → v ≡ clearedIn w before (a .used) → called n t v ≡ committedIn p w before c t (after w t a) x
+  commit-refused n e f = ap (called n t) f ∙ ap (committedIn p w before c t (after w t a)) (sym e)
 
-  pub commit-stays : x ≡ Stays → v ≡ settledIn w (t - 1) (a .thread) (a .used) → called 0 t v ≡ committedIn p w before c t a x
-  commit-stays e f = ap (called 0 t) f ∙ ap (committedIn p w before c t a) (sym e)
+  pub commit-stays : x ≡ Stays → v ≡ staysIn w t (after w t a) → called 0 t v ≡ committedIn p w before c t (after w t a) x
+  commit-stays e f = ap (called 0 t) f ∙ ap (committedIn p w before c t (after w t a)) (sym e)
 
-  pub commit-leaves : x ≡ Leaves → v ≡ leavesIn w c t a → called 0 t v ≡ committedIn p w before c t a x
-  commit-leaves e f = ap (called 0 t) f ∙ ap (committedIn p w before c t a) (sym e)
+  pub commit-leaves : x ≡ Leaves → v ≡ leavesIn w c t (after w t a) → called 0 t v ≡ committedIn p w before c t (after w t a) x
+  commit-leaves e f = ap (called 0 t) f ∙ ap (committedIn p w before c t (after w t a)) (sym e)
 
-  pub commit-joins : (q n : ℕ) → x ≡ Joins q → called n t v ≡ joinsIn w before c t a q → called n t v ≡ committedIn p w before c t a x
-  commit-joins q n e f = f ∙ ap (committedIn p w before c t a) (sym e)
+  pub commit-joins : (q n : ℕ) → x ≡ Joins q → called n t v ≡ joinsIn w before c t (after w t a) q → called n t v ≡ committedIn p w before c t (after w t a) x
+  commit-joins q n e f = f ∙ ap (committedIn p w before c t (after w t a)) (sym e)
 
-  pub commit-starts : (b : Bool) (m n : ℕ) → x ≡ Starts b m → called n t v ≡ startsIn p w before c t a b m → called n t v ≡ committedIn p w before c t a x
-  commit-starts b m n e f = f ∙ ap (committedIn p w before c t a) (sym e)
+  pub commit-starts : (b : Bool) (m n : ℕ) → x ≡ Starts b m → called n t v ≡ startsIn p w before c t (after w t a) b m → called n t v ≡ committedIn p w before c t (after w t a) x
+  commit-starts b m n e f = f ∙ ap (committedIn p w before c t (after w t a)) (sym e)
 
 pub ruleset commit-laws = (commit-refused, commit-stays, commit-leaves, commit-joins, commit-starts)

@@ -1,3 +1,4 @@
+pub mod ChangeLaws
 pub mod WritingLaws
 pub mod ModuleLaws
 pub mod StartLaws

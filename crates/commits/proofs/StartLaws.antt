@@ -7,81 +7,124 @@ use native.Mathlib.Omega.{arith}
 use lib.ListN.{getD}
 use lib.Dec.{leb, eqb}
 use borrow.Author.Tests.{le-leb, lt-leb, leb-false, eq-eqb, ne-eqb}
+use Rattle.basics.specs.If.{if_then_else_}
 use Rattle.basics.proofs.Ifs.{yes, no, if-all}
 use Rattle.program.specs.Programs.{Program}
 use Rattle.states.specs.declared.thread.ThreadWords.{ThreadWords}
-use Rattle.states.specs.Threads.{withOneMore}
+use Rattle.states.specs.Threads.{threadIn, withOneMore}
 use Rattle.acts.specs.declared.act.Acted.{Acted}
 use Rattle.commits.specs.Modules.{foundIn}
 use Rattle.commits.specs.declared.module.ModuleFound.{ModuleFound}
-use Rattle.commits.specs.Commits.{called, clearedIn, settledIn, leftIn, roomIn, joinedIn, newIn, obstacleIn, startedIn, waitingIn, startsIn}
+use Rattle.commits.specs.Commits.{called, after, placeAfter, clearedIn, staysIn, leftIn, roomIn, joinedIn, newThread, newIn, misfitIn, spentIn, firstAnswer, obstacleIn, startedIn, waitingIn, startsIn}
+use Rattle.commits.proofs.ChangeLaws.{place-is}
 
 -- ---- what stands in the way
 module _ (w : List ℕ) (x : ModuleFound) (p g : ℕ) (y : Bool) (z : y ≡ eqb p 1) where
-  pub at-home : y ≡ true → 20 ≡ obstacleIn w x p g
-  unfolding obstacleIn
+  pub at-home : y ≡ true → 20 ≡ misfitIn w x p g
+  unfolding misfitIn
   at-home a = yes _ (sym z ∙ a) refl
 
-  pub not-there : y ≡ false → not (x .there) ≡ true → 20 ≡ obstacleIn w x p g
-  unfolding obstacleIn
+  pub not-there : y ≡ false → not (x .there) ≡ true → 20 ≡ misfitIn w x p g
+  unfolding misfitIn
   not-there a b = no _ (sym z ∙ a) (yes _ b refl)
 
-  pub other-count : y ≡ false → not (x .there) ≡ false → (x .parameters ≡ g → ⊥) → 20 ≡ obstacleIn w x p g
-  unfolding obstacleIn
+  pub other-count : y ≡ false → not (x .there) ≡ false → (x .parameters ≡ g → ⊥) → 20 ≡ misfitIn w x p g
+  unfolding misfitIn
   other-count a b c = no _ (sym z ∙ a) (no _ b (yes _ (ap not (ne-eqb (x .parameters) g c)) refl))
 
-  pub no-room : (r : Bool) → r ≡ roomIn w p 1 → y ≡ false → not (x .there) ≡ false → x .parameters ≡ g → not r ≡ true → 20 ≡ obstacleIn w x p g
-  unfolding obstacleIn
+  pub no-room : (r : Bool) → r ≡ roomIn w p 1 → y ≡ false → not (x .there) ≡ false → x .parameters ≡ g → not r ≡ true → 20 ≡ misfitIn w x p g
+  unfolding misfitIn
   no-room r e a b c d = no _ (sym z ∙ a) (no _ b (no _ (ap not (eq-eqb (x .parameters) g c)) (yes _ (ap not (sym e) ∙ d) refl)))
 
-  pub too-many : (r : Bool) (n : ℕ) → r ≡ roomIn w p 1 → n ≡ getD w 0 0 → y ≡ false → not (x .there) ≡ false → x .parameters ≡ g → not r ≡ false → 64 ≤ n → 18 ≡ obstacleIn w x p g
-  unfolding obstacleIn
-  too-many r n e f a b c d h =
-      no _ (sym z ∙ a) (no _ b (no _ (ap not (eq-eqb (x .parameters) g c)) (no _ (ap not (sym e) ∙ d) (yes _ (ap (leb 64) (sym f) ∙ le-leb 64 n h) refl))))
+  pub it-fits : (r : Bool) → r ≡ roomIn w p 1 → y ≡ false → not (x .there) ≡ false → x .parameters ≡ g → not r ≡ false → 0 ≡ misfitIn w x p g
+  unfolding misfitIn
+  it-fits r e a b c d = no _ (sym z ∙ a) (no _ b (no _ (ap not (eq-eqb (x .parameters) g c)) (no _ (ap not (sym e) ∙ d) refl)))
 
-  pub none-stands : (r : Bool) (n : ℕ) → r ≡ roomIn w p 1 → n ≡ getD w 0 0 → y ≡ false → not (x .there) ≡ false → x .parameters ≡ g → not r ≡ false → n < 64 → 0 ≡ obstacleIn w x p g
-  unfolding obstacleIn
-  none-stands r n e f a b c d h =
-      no _ (sym z ∙ a) (no _ b (no _ (ap not (eq-eqb (x .parameters) g c)) (no _ (ap not (sym e) ∙ d) (no _ (ap (leb 64) (sym f) ∙ lt-leb 64 n h) refl))))
+pub ruleset misfit-laws = (at-home, not-there, other-count, no-room, it-fits)
 
-pub ruleset obstacle-laws = (at-home, not-there, other-count, no-room, too-many, none-stands)
+pub too-many : (w : List ℕ) (n : ℕ) → n ≡ getD w 0 0 → 64 ≤ n → 18 ≡ spentIn w
+unfolding spentIn
+too-many w n f h = yes _ (ap (leb 64) (sym f) ∙ le-leb 64 n h) refl
 
--- ---- the words behind a start
-pub started : (w v₁ v₂ v : List ℕ) (t body n : ℕ) (a : Acted) (x : ThreadWords) → v ≡ joinedIn v₂ (a .thread .place) (n + 1) → v₂ ≡ withOneMore v₁ x → x ≡ newIn a t body
-    → v₁ ≡ settledIn w (t - 1) (a .thread) (a .used) → n ≡ getD w 0 0 → v ≡ startedIn w t a body
-started w v₁ v₂ v t body n a x e f g h k =
-    e ∙ ap₂ (λ (l : List ℕ) (i : ℕ). joinedIn l (a .thread .place) (i + 1)) (f ∙ ap₂ (λ (l : List ℕ) (y : ThreadWords). withOneMore l y) h g) k
+pub one-fits : (w : List ℕ) (n : ℕ) → n ≡ getD w 0 0 → n < 64 → 0 ≡ spentIn w
+unfolding spentIn
+one-fits w n f h = no _ (ap (leb 64) (sym f) ∙ lt-leb 64 n h) refl
 
-pub waiting : (w v₁ v₂ v₃ v₄ v : List ℕ) (c t body n : ℕ) (a : Acted) (x : ThreadWords) → v ≡ joinedIn v₄ (a .thread .place) (128 * (n + 1) + t)
-    → v₄ ≡ joinedIn v₃ (a .thread .place) (n + 1) → v₃ ≡ withOneMore v₂ x → x ≡ newIn a t body → v₂ ≡ leftIn v₁ c → v₁ ≡ settledIn w (t - 1) (a .thread) (a .used) → n ≡ getD w 0 0
-    → v ≡ waitingIn w c t a body
-waiting w v₁ v₂ v₃ v₄ v c t body n a x d e f g o h k =
-    d ∙ ap₂ (λ (l : List ℕ) (i : ℕ). joinedIn l (a .thread .place) (128 * (i + 1) + t))
-    (e ∙ ap₂ (λ (l : List ℕ) (i : ℕ). joinedIn l (a .thread .place) (i + 1)) (f ∙ ap₂ (λ (l : List ℕ) (y : ThreadWords). withOneMore l y) (o ∙ ap (λ (l : List ℕ). leftIn l c) h) g) k) k
+pub ruleset spent-laws = (too-many, one-fits)
+
+pub answer-second : (a b : ℕ) → a ≡ 0 → b ≡ firstAnswer a b
+unfolding firstAnswer
+answer-second a b h = yes _ (eq-eqb a 0 h) refl
+
+pub answer-first : (a b : ℕ) → (a ≡ 0 → ⊥) → a ≡ firstAnswer a b
+unfolding firstAnswer
+answer-first a b h = no _ (ne-eqb a 0 h) refl
+
+pub ruleset answer-laws = (answer-second, answer-first)
+
+-- a 20 comes first
+twenty : (b : Bool) (m o s : ℕ) → firstAnswer m s ≡ o → firstAnswer (if b then 20 else m) s ≡ (if b then 20 else o)
+unfolding firstAnswer if_then_else_
+twenty true m o s h = refl
+twenty false m o s h = h
+
+none-before : (s : ℕ) → firstAnswer 0 s ≡ s
+unfolding firstAnswer if_then_else_
+none-before s = refl
+
+pub obstacle-is : (w : List ℕ) (x : ModuleFound) (p g m s r : ℕ) → m ≡ misfitIn w x p g → s ≡ spentIn w → r ≡ firstAnswer m s → r ≡ obstacleIn w x p g
+unfolding misfitIn spentIn obstacleIn
+obstacle-is w x p g m s r e f h =
+    h ∙ ap₂ firstAnswer e f
+    ∙ twenty (eqb p 1) _ _ _ (twenty (not (x .there)) _ _ _ (twenty (not (eqb (x .parameters) g)) _ _ _ (twenty (not (roomIn w p 1)) _ _ _ (none-before _))))
+
+-- ---- the words behind a start, whose starter stands at q
+module _ (w v : List ℕ) (t body n : ℕ) (a : Acted) (q : ℕ) (x : ThreadWords) (z : q ≡ after w t a .thread .place) (k : n ≡ getD w 0 0) (g : x ≡ newThread q (a .given) (a .first) (a .second) t body) where
+  new : x ≡ newIn (after w t a) t body
+  new = g ∙ ap (λ (p : ℕ). newThread p (a .given) (a .first) (a .second) t body) z
+
+  pub started : (v₁ v₂ : List ℕ) → v ≡ joinedIn v₂ q (n + 1) → v₂ ≡ withOneMore v₁ x → v₁ ≡ staysIn w t (after w t a) → v ≡ startedIn w t (after w t a) body
+  started v₁ v₂ e f h =
+      e ∙ ap (λ (p : ℕ). joinedIn v₂ p (n + 1)) z
+      ∙ ap₂ (λ (l : List ℕ) (i : ℕ). joinedIn l (after w t a .thread .place) (i + 1)) (f ∙ ap₂ (λ (l : List ℕ) (y : ThreadWords). withOneMore l y) h new) k
+
+  pub waiting : (c : ℕ) (v₁ v₂ v₃ : List ℕ) → v ≡ joinedIn (joinedIn v₃ q (n + 1)) q (128 * (n + 1) + t) → v₃ ≡ withOneMore v₂ x → v₂ ≡ leftIn v₁ c → v₁ ≡ staysIn w t (after w t a)
+      → v ≡ waitingIn w c t (after w t a) body
+  waiting c v₁ v₂ v₃ e f o h =
+      e ∙ ap (λ (p : ℕ). joinedIn (joinedIn v₃ p (n + 1)) p (128 * (n + 1) + t)) z
+      ∙ ap₂ (λ (l : List ℕ) (i : ℕ). joinedIn (joinedIn l (after w t a .thread .place) (i + 1)) (after w t a .thread .place) (128 * (i + 1) + t))
+      (f ∙ ap₂ (λ (l : List ℕ) (y : ThreadWords). withOneMore l y) (o ∙ ap (λ (l : List ℕ). leftIn l c) h) new) k
 
 -- ---- the answer
-module _ (p : Program) (w v : List ℕ) (before c t : ℕ) (a : Acted) (waits : Bool) (m : ℕ) (x : ModuleFound) (n : ℕ) (e : x ≡ foundIn p m) (f : n ≡ obstacleIn w x (a .thread .place) (a .given)) where
-  stands : n ≡ obstacleIn w (foundIn p m) (a .thread .place) (a .given)
-  stands = f ∙ ap (λ (y : ModuleFound). obstacleIn w y (a .thread .place) (a .given)) e
+module _ (p : Program) (w v : List ℕ) (before c t : ℕ) (a : Acted) (waits : Bool) (m : ℕ) (x : ModuleFound) (n q : ℕ) (e : x ≡ foundIn p m) (z : q ≡ placeAfter (a .change) (getD w (1042 + 55 * (t - 1)) 0))
+    (f : n ≡ obstacleIn w x q (a .given)) where
+  at-place : q ≡ after w t a .thread .place
+  at-place = place-is (threadIn w (t - 1)) (a .change) q z
 
-  pub start-refused : (n ≡ 0 → ⊥) → v ≡ clearedIn w before (a .used) → called n t v ≡ startsIn p w before c t a waits m
+  stands : n ≡ obstacleIn w (foundIn p m) (after w t a .thread .place) (a .given)
+  stands = f ∙ ap₂ (λ (y : ModuleFound) (i : ℕ). obstacleIn w y i (a .given)) e at-place
+
+  pub start-refused : (n ≡ 0 → ⊥) → v ≡ clearedIn w before (a .used) → called n t v ≡ startsIn p w before c t (after w t a) waits m
   unfolding startsIn
   start-refused h g = yes _ (ap (λ (k : ℕ). not (eqb k 0)) (sym stands) ∙ ap not (ne-eqb n 0 h)) (ap₂ (λ (k : ℕ) (l : List ℕ). called k t l) stands g)
 
-  free : n ≡ 0 → not (eqb (obstacleIn w (foundIn p m) (a .thread .place) (a .given)) 0) ≡ false
+  free : n ≡ 0 → not (eqb (obstacleIn w (foundIn p m) (after w t a .thread .place) (a .given)) 0) ≡ false
   free h = ap (λ (k : ℕ). not (eqb k 0)) (sym stands) ∙ ap not (eq-eqb n 0 h)
 
-  pub start-only : n ≡ 0 → not waits ≡ true → v ≡ startedIn w t a (x .body) → called 0 t v ≡ startsIn p w before c t a waits m
+  pub start-only : n ≡ 0 → not waits ≡ true → v ≡ startedIn w t (after w t a) (x .body) → called 0 t v ≡ startsIn p w before c t (after w t a) waits m
   unfolding startsIn
-  start-only h b g = no _ (free h) (yes _ b (ap (called 0 t) (g ∙ ap (λ (y : ModuleFound). startedIn w t a (y .body)) e)))
+  start-only h b g = no _ (free h) (yes _ b (ap (called 0 t) (g ∙ ap (λ (y : ModuleFound). startedIn w t (after w t a) (y .body)) e)))
 
-  pub start-full : (r : Bool) → r ≡ roomIn w (a .thread .place) 2 → n ≡ 0 → not waits ≡ false → not r ≡ true → v ≡ clearedIn w before (a .used) → called 20 t v ≡ startsIn p w before c t a waits m
-  unfolding startsIn
-  start-full r q h b d g = no _ (free h) (no _ b (yes _ (ap not (sym q) ∙ d) (ap (called 20 t) g)))
+  full : (r : Bool) → r ≡ roomIn w q 2 → not (roomIn w (after w t a .thread .place) 2) ≡ not r
+  full r g = ap not (ap (λ (i : ℕ). roomIn w i 2) (sym at-place) ∙ sym g)
 
-  pub start-waits : (r : Bool) → r ≡ roomIn w (a .thread .place) 2 → n ≡ 0 → not waits ≡ false → not r ≡ false → v ≡ waitingIn w c t a (x .body) → called 0 t v ≡ startsIn p w before c t a waits m
+  pub start-full : (r : Bool) → r ≡ roomIn w q 2 → n ≡ 0 → not waits ≡ false → not r ≡ true → v ≡ clearedIn w before (a .used) → called 20 t v ≡ startsIn p w before c t (after w t a) waits m
   unfolding startsIn
-  start-waits r q h b d g = no _ (free h) (no _ b (no _ (ap not (sym q) ∙ d) (ap (called 0 t) (g ∙ ap (λ (y : ModuleFound). waitingIn w c t a (y .body)) e))))
+  start-full r o h b d g = no _ (free h) (no _ b (yes _ (full r o ∙ d) (ap (called 20 t) g)))
+
+  pub start-waits : (r : Bool) → r ≡ roomIn w q 2 → n ≡ 0 → not waits ≡ false → not r ≡ false → v ≡ waitingIn w c t (after w t a) (x .body) → called 0 t v ≡ startsIn p w before c t (after w t a) waits m
+  unfolding startsIn
+  start-waits r o h b d g = no _ (free h) (no _ b (no _ (full r o ∙ d) (ap (called 0 t) (g ∙ ap (λ (y : ModuleFound). waitingIn w c t (after w t a) (y .body)) e))))
 
 pub ruleset start-laws = (start-refused, start-only, start-full, start-waits)
 

@@ -2,18 +2,22 @@
 use Prim.Native.Nat.{ℕ, _+_, _*_, _-_, _<_, _≤_}
 use mathlib.Core.Path.{_≡_, refl, sym, ap, _∙_}
 use mathlib.Core.List.{List}
-use mathlib.Core.Bool.{Bool, true, false, _&&_}
+use mathlib.Core.Bool.{Bool, true, false, not, _&&_}
 use native.Mathlib.Omega.{arith}
-use lib.ListN.{getD, length, set, replicate, length-replicate, getD-replicate}
+use lib.ListN.{getD, length, set, length-set, replicate, length-replicate, getD-replicate}
 use lib.Dec.{leb}
-use borrow.Author.Tests.{le-leb, lt-leb}
-use Rattle.basics.proofs.Ifs.{yes, no, and-off}
+use borrow.Author.Tests.{le-leb, lt-leb, leb-true, not-true, not-false}
+use Rattle.basics.proofs.Ifs.{yes, no, and-true}
 use Rattle.machine.specs.Blocks.{pasted}
 use Rattle.machine.proofs.WordLaws.{pasted-zero, pasted-more}
 use Rattle.states.specs.declared.thread.ThreadWords.{ThreadWords}
-use Rattle.states.specs.Threads.{blockOf}
+use Rattle.states.specs.Threads.{threadIn, putThread}
 use Rattle.states.specs.Lists.{withoutFirst, withLast}
-use Rattle.commits.specs.Commits.{clearedIn, settledIn, isList, leftIn, roomIn, joinedIn}
+use Rattle.states.proofs.ThreadLaws.{Wide, in-wide, in-with, with-next, with-length}
+use Rattle.acts.specs.declared.act.Change.{Change}
+use Rattle.acts.specs.Fates.{changed, popped, Room}
+use Rattle.commits.specs.Commits.{clearedIn, settledIn, isList, leftIn, roomIn, joinedIn, SettleWords}
+use Rattle.commits.proofs.ChangeLaws.{popped-wide, changed-wide, popped-items, popped-values, popped-place, thread-kept}
 
 -- ---- cells no longer there
 pub cells-start : (w : List ℕ) (from upto : ℕ) → w ≡ pasted w (4562 + from) (replicate (upto - from) 0) (from - from)
@@ -36,60 +40,84 @@ module _ (w v : List ℕ) (from upto j : ℕ) (e : v ≡ pasted w (4562 + from) 
   cells-end a b = let z : j - from ≡ upto - from = omega arith in e ∙ ap (pasted w (4562 + from) (replicate (upto - from) 0)) z
 
 -- ---- a thread and the count of cells
-pub settled : (w v : List ℕ) (k n : ℕ) (x : ThreadWords) → v ≡ pasted (set w 1 n) (1042 + 55 * k) (blockOf x) 55 → v ≡ settledIn w k x n
-unfolding settledIn
-settled w v k n x e = e
+module _ (w : List ℕ) (k n : ℕ) (c : Change) (h : SettleWords w k c) where
+  counted : length (set w 1 n) ≡ 4818
+  counted = length-set w 1 n ∙ h .all
+
+  pub settle-items : threadIn (set w 1 n) k .items ≤ 25
+  settle-items =
+      let z : threadIn (set w 1 n) k .items ≡ threadIn w k .items = ap (λ (x : ThreadWords). x .items) (thread-kept w k n) in
+      let l : threadIn w k .items ≤ 25 = h .items in
+      omega arith
+
+  module _ (v : List ℕ) (e : v ≡ putThread (set w 1 n) k (popped (threadIn (set w 1 n) k))) where
+    wide : Wide (popped (threadIn w k))
+    wide = popped-wide (threadIn w k) (in-wide w k (h .all) (h .thread))
+
+    popped-in : v ≡ putThread (set w 1 n) k (popped (threadIn w k))
+    popped-in = e ∙ ap (λ (x : ThreadWords). putThread (set w 1 n) k (popped x)) (thread-kept w k n)
+
+    here : threadIn v k ≡ popped (threadIn w k)
+    here = ap (λ (l : List ℕ). threadIn l k) popped-in ∙ in-with (set w 1 n) k counted (h .thread) (popped (threadIn w k)) wide
+
+    pub settle-length : length v ≡ 4818
+    settle-length = ap length popped-in ∙ with-length (set w 1 n) k counted (h .thread) (popped (threadIn w k)) wide
+
+    pub settle-values : threadIn v k .values ≤ 25
+    settle-values = rw (ap (λ (x : ThreadWords). x .values) here ∙ popped-values (threadIn w k)) (h .values)
+
+    pub settle-place : threadIn v k .place ≤ 9
+    settle-place = rw (ap (λ (x : ThreadWords). x .place) here ∙ popped-place (threadIn w k)) (h .place)
+
+    pub settle-room : Room c (threadIn v k .items) (threadIn v k .values)
+    settle-room = rw (ap (λ (x : ThreadWords). x .items) here ∙ popped-items (threadIn w k), ap (λ (x : ThreadWords). x .values) here ∙ popped-values (threadIn w k)) (h .room)
+
+    pub settled : (u : List ℕ) → u ≡ putThread v k (changed c (threadIn v k)) → u ≡ settledIn w k (changed c (popped (threadIn w k))) n
+    unfolding settledIn
+    settled u q = with-next (set w 1 n) k counted (h .thread) v u (popped (threadIn w k)) (changed c) wide (changed-wide c (popped (threadIn w k)) wide) popped-in q
 
 -- ---- a scheduler, 2 to 9
-list-low : (q : ℕ) → q < 2 → isList q ≡ false
-list-low q h = ap (λ (t : Bool). t && leb q 9) (lt-leb 2 q h)
+pub list-low : (q h : ℕ) → h ≡ 2 → q < h → false ≡ isList q
+list-low q h e l = let g : q < 2 = rw e at l in ap (λ (t : Bool). t && leb q 9) (sym (lt-leb 2 q g))
 
-list-high : (q : ℕ) → 9 < q → isList q ≡ false
-list-high q h = ap (λ (t : Bool). leb 2 q && t) (lt-leb q 9 h) ∙ and-off (leb 2 q)
+pub list-last : (q h k : ℕ) → h ≡ 2 → k ≡ 9 → h ≤ q → leb q k ≡ isList q
+list-last q h k e f l = let g : 2 ≤ q = rw e at l in ap (leb q) f ∙ ap (λ (t : Bool). t && leb q 9) (sym (le-leb 2 q g))
 
-list-in : (q : ℕ) → 2 ≤ q → q ≤ 9 → isList q ≡ true
-list-in q a b = ap (λ (t : Bool). t && leb q 9) (le-leb 2 q a) ∙ le-leb q 9 b
+pub ruleset list-laws = (list-low, list-last)
 
-module _ (w v : List ℕ) (q : ℕ) where
-  pub left-low : q < 2 → w ≡ leftIn w q
+pub list-in : (q : ℕ) (b : Bool) → b ≡ isList q → not b ≡ false → (2 ≤ q) × (q ≤ 9)
+list-in q b e h = let p = and-true (leb 2 q) (leb q 9) (sym e ∙ not-false b h) in (leb-true 2 q (p .0), leb-true q 9 (p .1))
+
+module _ (w : List ℕ) (q : ℕ) (b : Bool) (e : b ≡ isList q) where
+  pub left-none : not b ≡ true → w ≡ leftIn w q
   unfolding leftIn
-  left-low h = no _ (list-low q h) refl
+  left-none h = no _ (sym e ∙ not-true b h) refl
 
-  pub left-high : 9 < q → w ≡ leftIn w q
+  pub left-list : (v : List ℕ) → v ≡ withoutFirst w (q - 2) → not b ≡ false → v ≡ leftIn w q
   unfolding leftIn
-  left-high h = no _ (list-high q h) refl
+  left-list v f h = yes _ (sym e ∙ not-false b h) f
 
-  pub left-list : v ≡ withoutFirst w (q - 2) → 2 ≤ q → q ≤ 9 → v ≡ leftIn w q
-  unfolding leftIn
-  left-list e a b = yes _ (list-in q a b) e
-
-  pub joined-low : (n : ℕ) → q < 2 → w ≡ joinedIn w q n
+  pub joined-none : (n : ℕ) → not b ≡ true → w ≡ joinedIn w q n
   unfolding joinedIn
-  joined-low n h = no _ (list-low q h) refl
+  joined-none n h = no _ (sym e ∙ not-true b h) refl
 
-  pub joined-high : (n : ℕ) → 9 < q → w ≡ joinedIn w q n
+  pub joined-list : (n : ℕ) (v : List ℕ) → v ≡ withLast w (q - 2) n → not b ≡ false → v ≡ joinedIn w q n
   unfolding joinedIn
-  joined-high n h = no _ (list-high q h) refl
+  joined-list n v f h = yes _ (sym e ∙ not-false b h) f
 
-  pub joined-list : (n : ℕ) → v ≡ withLast w (q - 2) n → 2 ≤ q → q ≤ 9 → v ≡ joinedIn w q n
-  unfolding joinedIn
-  joined-list n e a b = yes _ (list-in q a b) e
-
-module _ (w : List ℕ) (q n : ℕ) where
-  pub room-low : q < 2 → false ≡ roomIn w q n
+  pub room-none : (n : ℕ) → not b ≡ true → false ≡ roomIn w q n
   unfolding roomIn
-  room-low h = ap (λ (t : Bool). t && leb (getD w (67 + 130 * (q - 2)) 0 + n) 64) (sym (list-low q h))
+  room-none n h = ap (λ (t : Bool). t && leb (getD w (67 + 130 * (q - 2)) 0 + n) 64) (sym (sym e ∙ not-true b h))
 
-  pub room-high : 9 < q → false ≡ roomIn w q n
+  pub room-list : (n : ℕ) (r : Bool) → r ≡ leb (getD w (67 + 130 * (q - 2)) 0 + n) 64 → not b ≡ false → r ≡ roomIn w q n
   unfolding roomIn
-  room-high h = ap (λ (t : Bool). t && leb (getD w (67 + 130 * (q - 2)) 0 + n) 64) (sym (list-high q h))
+  room-list n r f h = f ∙ ap (λ (t : Bool). t && leb (getD w (67 + 130 * (q - 2)) 0 + n) 64) (sym (sym e ∙ not-false b h))
 
-  pub room-list : (r : Bool) → r ≡ leb (getD w (67 + 130 * (q - 2)) 0 + n) 64 → 2 ≤ q → q ≤ 9 → r ≡ roomIn w q n
-  unfolding roomIn
-  room-list r e a b = e ∙ ap (λ (t : Bool). t && leb (getD w (67 + 130 * (q - 2)) 0 + n) 64) (sym (list-in q a b))
+pub ruleset left-laws = (left-none, left-list)
 
-pub ruleset left-laws = (left-low, left-high, left-list)
+pub ruleset joined-laws = (joined-none, joined-list)
 
-pub ruleset joined-laws = (joined-low, joined-high, joined-list)
+pub ruleset room-laws = (room-none, room-list)
 
-pub ruleset room-laws = (room-low, room-high, room-list)
+pub joined-both : (w v u : List ℕ) (q a b : ℕ) → v ≡ joinedIn w q a → u ≡ joinedIn v q b → u ≡ joinedIn (joinedIn w q a) q b
+joined-both w v u q a b e f = f ∙ ap (λ (l : List ℕ). joinedIn l q b) e

@@ -1,5 +1,4 @@
 -- A module as the code finds it. Assumes nothing: definitions.
-use mathlib.Core.Bool.{Bool}
 use Prim.Native.Nat.{ℕ}
 use lib.Dec.{ltb}
 use lib.ListN.{length}

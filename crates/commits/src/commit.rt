@@ -10,20 +10,20 @@ use acts::act::Fate;
 ghost use mathlib.Core.Path.{_≡_};
 ghost use Rattle.text.specs.Frames.{framesOf};
 ghost use Rattle.program.specs.Programs.{programOf};
-ghost use Rattle.commits.specs.Commits.{CommitWords, leavesIn, joinsIn, committedIn, called};
+ghost use Rattle.commits.specs.Commits.{CommitWords, after, leavesIn, joinsIn, committedIn, called};
 
 fn commit_leaves(state: &mut [u64], choice: u64, t: u64, a: Acted)
     requires { ⌜ CommitWords (now state) t a ⌝ }
-    ensures { λ _. ⌜ now (state .exit) ≡ leavesIn (now (state .entry)) choice t a ⌝ }
+    ensures { λ _. ⌜ now (state .exit) ≡ leavesIn (now (state .entry)) choice t (after (now (state .entry)) t a) ⌝ }
 {
-    let th = a.thread;
-    settle(state, (t - 1) as usize, th, a.used);
+    let change = a.change;
+    settle(state, (t - 1) as usize, change, a.used);
     leave(state, choice);
 }
 
 fn commit_joins(state: &mut [u64], before: usize, choice: u64, t: u64, a: Acted, q: u64) -> u8
     requires { ⌜ CommitWords (now state) t a ⌝ }
-    ensures { λ r. ⌜ called r t (now (state .exit)) ≡ joinsIn (now (state .entry)) before choice t a q ⌝ }
+    ensures { λ r. ⌜ called r t (now (state .exit)) ≡ joinsIn (now (state .entry)) before choice t (after (now (state .entry)) t a) q ⌝ }
 {
     if !room_at(state, q, 1) {
         clear_cells(state, before, a.used);
@@ -37,7 +37,7 @@ fn commit_joins(state: &mut [u64], before: usize, choice: u64, t: u64, a: Acted,
 // The answer. The turn of thread t has changed the cells' words, of which `before` were in use; a refusal takes back the cells made.
 pub fn commit(frames: &[u64], state: &mut [u64], before: usize, choice: u64, t: u64, a: Acted) -> u8
     requires { ⌜ CommitWords (now state) t a ⌝ }
-    ensures { λ r. ⌜ called r t (now (state .exit)) ≡ committedIn (programOf (framesOf (now (frames .entry)))) (now (state .entry)) before choice t a (a .fate) ⌝ }
+    ensures { λ r. ⌜ called r t (now (state .exit)) ≡ committedIn (programOf (framesOf (now (frames .entry)))) (now (state .entry)) before choice t (after (now (state .entry)) t a) (a .fate) ⌝ }
 {
     let fate = a.fate;
     match fate {
@@ -46,8 +46,8 @@ pub fn commit(frames: &[u64], state: &mut [u64], before: usize, choice: u64, t: 
             n
         },
         Fate::Stays => {
-            let th = a.thread;
-            settle(state, (t - 1) as usize, th, a.used);
+            let change = a.change;
+            settle(state, (t - 1) as usize, change, a.used);
             0
         },
         Fate::Leaves => {

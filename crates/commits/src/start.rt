@@ -1,8 +1,10 @@
 // A start committed: the new thread is the last, and the last in the starter's next list; a starter that waits stands behind it.
+use crate::change::place_after;
 use crate::module::ModuleFound;
 use crate::module::module_at;
 use crate::writing::clear_cells;
 use crate::writing::join;
+use crate::writing::join_both;
 use crate::writing::leave;
 use crate::writing::room_at;
 use crate::writing::settle;
@@ -16,20 +18,19 @@ ghost use Prim.Native.Nat.{_<_};
 ghost use lib.ListN.{length, getD};
 ghost use Rattle.text.specs.Frames.{framesOf};
 ghost use Rattle.program.specs.Programs.{programOf};
-ghost use Rattle.commits.specs.Commits.{CommitWords, newIn, obstacleIn, startedIn, waitingIn, startsIn, called};
+ghost use Rattle.commits.specs.Commits.{CommitWords, newThread, after, misfitIn, spentIn, firstAnswer, obstacleIn, startedIn, waitingIn, startsIn, called};
 
 // The new thread: at the starter's place, its continuation the module's body, its variables the arguments.
-fn new_thread(a: Acted, t: u64, body: u64) -> ThreadWords
-    ensures { λ r. ⌜ r ≡ newIn a t body ⌝ }
+fn new_thread(a: Acted, place: u64, t: u64, body: u64) -> ThreadWords
+    ensures { λ r. ⌜ r ≡ newThread place (a .given) (a .first) (a .second) t body ⌝ }
 {
     let mut items = [0u64; 25];
     items[0] = body;
     let mut values = [0u64; 25];
     values[0] = a.first;
     values[1] = a.second;
-    let th = a.thread;
     ThreadWords {
-        place: th.place,
+        place,
         starter: t,
         alive: 1,
         items: 1,
@@ -42,10 +43,10 @@ fn new_thread(a: Acted, t: u64, body: u64) -> ThreadWords
 // The answer where a next list is full.
 const NO_ROOM: u8 = 20;
 
-// What stands in the way of a start, 20 before 18; 0 where nothing does.
-fn obstacle(state: &[u64], found: ModuleFound, place: u64, given: u64) -> u8
+// 20 where the start does not fit: at no scheduler, no such module, another count of arguments, a full list; 0 where it fits.
+fn misfit(state: &[u64], found: ModuleFound, place: u64, given: u64) -> u8
     requires { ⌜ length (now state) ≡ 4818 ⌝ }
-    ensures { λ r. ⌜ r ≡ obstacleIn (now (state .entry)) found place given ⌝ }
+    ensures { λ r. ⌜ r ≡ misfitIn (now (state .entry)) found place given ⌝ }
 {
     if is_private(place) {
         return 20;
@@ -59,37 +60,64 @@ fn obstacle(state: &[u64], found: ModuleFound, place: u64, given: u64) -> u8
     if !room_at(state, place, 1) {
         return NO_ROOM;
     }
+    0
+}
+
+// 18 where there are 64 threads, else 0.
+fn spent(state: &[u64]) -> u8
+    requires { ⌜ length (now state) ≡ 4818 ⌝ }
+    ensures { λ r. ⌜ r ≡ spentIn (now (state .entry)) ⌝ }
+{
     if 64 <= thread_count(state) {
         return 18;
     }
     0
 }
 
-// 13.
-fn start(state: &mut [u64], t: u64, a: Acted, body: u64)
-    requires { ⌜ CommitWords (now state) t a × (getD (now state) 0 0 < 64) ⌝ }
-    ensures { λ _. ⌜ now (state .exit) ≡ startedIn (now (state .entry)) t a body ⌝ }
+// The first answer of two, where 0 is none.
+fn first_answer(a: u8, b: u8) -> u8
+    ensures { λ r. ⌜ r ≡ firstAnswer a b ⌝ }
 {
-    let new = thread_count(state) + 1;
-    let th = a.thread;
-    settle(state, (t - 1) as usize, th, a.used);
-    add_thread(state, new_thread(a, t, body));
-    join(state, th.place, new);
+    if a == 0 {
+        return b;
+    }
+    a
 }
 
-// 14.
-fn start_and_wait(state: &mut [u64], choice: u64, t: u64, a: Acted, body: u64)
-    requires { ⌜ CommitWords (now state) t a × (getD (now state) 0 0 < 64) ⌝ }
-    ensures { λ _. ⌜ now (state .exit) ≡ waitingIn (now (state .entry)) choice t a body ⌝ }
+// What stands in the way of a start, 20 before 18; 0 where nothing does.
+fn obstacle(state: &[u64], found: ModuleFound, place: u64, given: u64) -> u8
+    requires { ⌜ length (now state) ≡ 4818 ⌝ }
+    ensures { λ r. ⌜ r ≡ obstacleIn (now (state .entry)) found place given ⌝ }
+{
+    let misfits = misfit(state, found, place, given);
+    let full = spent(state);
+    first_answer(misfits, full)
+}
+
+// 13. The starter stands at that place.
+fn start(state: &mut [u64], t: u64, a: Acted, place: u64, body: u64)
+    requires { ⌜ CommitWords (now state) t a × (getD (now state) 0 0 < 64) × (place ≡ after (now state) t a .thread .place) ⌝ }
+    ensures { λ _. ⌜ now (state .exit) ≡ startedIn (now (state .entry)) t (after (now (state .entry)) t a) body ⌝ }
+{
+    let new = thread_count(state) + 1;
+    let change = a.change;
+    settle(state, (t - 1) as usize, change, a.used);
+    add_thread(state, new_thread(a, place, t, body));
+    join(state, place, new);
+}
+
+// 14: the starter's entry stands behind the new thread.
+fn start_and_wait(state: &mut [u64], choice: u64, t: u64, a: Acted, place: u64, body: u64)
+    requires { ⌜ CommitWords (now state) t a × (getD (now state) 0 0 < 64) × (place ≡ after (now state) t a .thread .place) ⌝ }
+    ensures { λ _. ⌜ now (state .exit) ≡ waitingIn (now (state .entry)) choice t (after (now (state .entry)) t a) body ⌝ }
 {
     let started = thread_count(state) + 1;
     let entry = 128 * started + t;
-    let th = a.thread;
-    settle(state, (t - 1) as usize, th, a.used);
+    let change = a.change;
+    settle(state, (t - 1) as usize, change, a.used);
     leave(state, choice);
-    add_thread(state, new_thread(a, t, body));
-    join(state, th.place, started);
-    join(state, th.place, entry);
+    add_thread(state, new_thread(a, place, t, body));
+    join_both(state, place, started, entry);
 }
 
 // The room for the starter itself is tested last.
@@ -104,23 +132,24 @@ pub fn commit_start(
     m: u8,
 ) -> u8
     requires { ⌜ CommitWords (now state) t a ⌝ }
-    ensures { λ r. ⌜ called r t (now (state .exit)) ≡ startsIn (programOf (framesOf (now (frames .entry)))) (now (state .entry)) before choice t a waits m ⌝ }
+    ensures { λ r. ⌜ called r t (now (state .exit)) ≡ startsIn (programOf (framesOf (now (frames .entry)))) (now (state .entry)) before choice t (after (now (state .entry)) t a) waits m ⌝ }
 {
     let found = module_at(frames, m);
-    let th = a.thread;
-    let no = obstacle(state, found, th.place, a.given);
+    let change = a.change;
+    let place = place_after(change, state[1042 + 55 * (t - 1) as usize]);
+    let no = obstacle(state, found, place, a.given);
     if no != 0 {
         clear_cells(state, before, a.used);
         return no;
     }
     if !waits {
-        start(state, t, a, found.body);
+        start(state, t, a, place, found.body);
         return 0;
     }
-    if !room_at(state, th.place, 2) {
+    if !room_at(state, place, 2) {
         clear_cells(state, before, a.used);
         return NO_ROOM;
     }
-    start_and_wait(state, choice, t, a, found.body);
+    start_and_wait(state, choice, t, a, place, found.body);
     0
 }

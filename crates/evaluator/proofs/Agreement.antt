@@ -1,8 +1,8 @@
 -- On words that hold cells, the evaluator's recursion gives what `eval` gives on the cells. Assumes nothing.
-use mathlib.Core.Path.{_≡_, refl, sym, ap, ap₂, _∙_, subst}
-use mathlib.Core.List.{List, [], _∷_, _++_, map}
+use mathlib.Core.Path.{_≡_, refl, sym, ap, _∙_, subst}
+use mathlib.Core.List.{List, [], _∷_, map}
 use mathlib.Core.Bool.{Bool, true, false}
-use Prim.Native.Nat.{ℕ, zero, suc, _+_, _%_, _^_, _<_, _≤_}
+use Prim.Native.Nat.{ℕ, zero, suc, _+_, _%_, _^_, _<_}
 use native.Mathlib.Omega.{arith}
 use lib.Dec.{ltb}
 use lib.ListN.{length, getD, set, length-map}
@@ -16,8 +16,8 @@ use Rattle.text.specs.Frames.{frameOfWord, framesOf}
 use Rattle.program.specs.Trees.{Expr, number, truth, variable, shared, new, content, sum, less, choose, frameAt, expressionWith, expressionOf, expressionTo, expressionAt}
 use Rattle.machine.specs.State.{Stored, cellAt}
 use Rattle.machine.specs.Evaluation as def
-use Rattle.machine.specs.Evaluation.{Here, Evaluated, Evaluation, gives, accessOf, accessing, atCell, isOwn, newOwner, readVariable, sharedCell, addCell, makeCell, readCell, putIn, storeCell, ofNumbers, plus, lessThan, byTruth, eval, storing, _>>=_}
-use Rattle.machine.specs.Words.{wordValue, cellWord}
+use Rattle.machine.specs.Evaluation.{Here, Evaluated, Evaluation, gives, accessOf, accessing, atCell, isOwn, newOwner, readVariable, sharedCell, addCell, makeCell, readCell, storeCell, ofNumbers, plus, lessThan, byTruth, eval, storing, _>>=_}
+use Rattle.machine.specs.Words.{wordValue}
 use Rattle.machine.specs.declared.value.Value.{Value}
 use Rattle.machine.specs.declared.value.Value.the-variants.{Number, Truth, Cell}
 use Rattle.machine.specs.declared.value.Outcome.{Outcome}
@@ -28,7 +28,7 @@ use Rattle.machine.proofs.Shapes.{ValueFits}
 use Rattle.machine.proofs.KeptCells.{OutcomeFits, is-value, is-foreign, is-spent, is-stuck}
 use Rattle.evaluator.specs.declared.operation.Who.{Who}
 use Rattle.evaluator.specs.Results.{Result, hereOf, resultOf, onWords, cellsFrom, CellWords, ValueWords}
-use Rattle.evaluator.specs.ByWords.{valueIn, ownerIn, contentIn, cellOf, result, thenBy, andThen, keeping, ownIn, newOwnerIn, variableIn, sharedIn, makeIn, readIn, reading, storeIn, numbersOf, aTruth, aNumber, chosen, evalIn, storingIn}
+use Rattle.evaluator.specs.ByWords.{valueIn, ownerIn, contentIn, cellOf, result, thenBy, andThen, keeping, ownIn, newOwnerIn, variableIn, sharedIn, makeIn, accessIn, readIn, reading, storeIn, numbersOf, aTruth, aNumber, chosen, evalIn, storingIn}
 use Rattle.evaluator.proofs.Operations.{Refused, then-is, keeps}
 use Rattle.evaluator.proofs.Holding.{Holds, holds-at, holds-from, holds-words, holds-cells, holds-push, holds-put, value-same, value-fits, owner-back, content-back}
 
@@ -139,7 +139,7 @@ module _ (who : Who) (vs : List ℕ) where
       own-at b e = ap (ownIn who) owner-at ∙ own-same (cellAt cs c .owner) b e
 
     agree-read : (v : Value) → Agrees (reading who v n ws) (readCell (hereOf who vs) v cs)
-    unfolding readIn readCell atCell accessing
+    unfolding accessIn readIn readCell atCell accessing
     agree-read (Cell c) =
         if-all (Agrees (reading who (Cell c) n ws)) (ltb c (length cs)) _ _
         (λ e. let l : c < length cs = ltb-true c (length cs) e in
@@ -309,7 +309,7 @@ unfolding onWords
 storing-on fw vs who a b n ws w g =
     equation _ _ (agree-storing who vs w (expressionAt (framesOf fw) a) (expressionAt (framesOf fw) b) n ws (cellsFrom n ws) (small-at fw a) (small-at fw b) (holds-from n ws g))
 
--- ---- for callers that go on: what `evaluate` and `store` leave may be lent again, and says the cells that the definition gives
+-- ---- for callers that go on: what `evaluate` leaves may be lent again, and says the cells that the definition gives
 pub record Behind (x : Result) (r : Evaluated) : Type 0 where
   pub outcome : x .outcome ≡ r .outcome
   pub words : CellWords (x .used) (x .words)
@@ -324,13 +324,6 @@ pub eval-behind : (fw vs : List ℕ) (who : Who) (i n : ℕ) (ws : List ℕ) (x 
     → x ≡ onWords (eval (hereOf who vs) (expressionAt (framesOf fw) i)) n ws → Behind x (eval (hereOf who vs) (expressionAt (framesOf fw) i) (cellsFrom n ws))
 unfolding onWords
 eval-behind fw vs who i n ws x w g e = behind x _ _ (agree who vs w (expressionAt (framesOf fw) i) n ws (cellsFrom n ws) (small-at fw i) (holds-from n ws g)) e
-
-pub storing-behind : (fw vs : List ℕ) (who : Who) (a b n : ℕ) (ws : List ℕ) (x : Result) → ValueWords vs → CellWords n ws
-    → x ≡ onWords (storing (hereOf who vs) (expressionAt (framesOf fw) a) (expressionAt (framesOf fw) b)) n ws
-    → Behind x (storing (hereOf who vs) (expressionAt (framesOf fw) a) (expressionAt (framesOf fw) b) (cellsFrom n ws))
-unfolding onWords
-storing-behind fw vs who a b n ws x w g e =
-    behind x _ _ (agree-storing who vs w (expressionAt (framesOf fw) a) (expressionAt (framesOf fw) b) n ws (cellsFrom n ws) (small-at fw a) (small-at fw b) (holds-from n ws g)) e
 
 -- ---- the returns of `store`
 module _ (fw vs : List ℕ) (who : Who) (a b n : ℕ) (ws : List ℕ) (w : ValueWords vs) (g : CellWords n ws) where

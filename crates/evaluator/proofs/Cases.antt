@@ -1,7 +1,7 @@
 -- The recursion's returns, one law for each. Assumes nothing.
-use mathlib.Core.Path.{_≡_, refl, sym, ap, ap₂, _∙_, subst}
+use mathlib.Core.Path.{_≡_, refl, sym, ap, _∙_, subst}
 use mathlib.Core.List.{List}
-use mathlib.Core.Bool.{Bool, true, false}
+use mathlib.Core.Bool.{true, false}
 use Prim.Native.Nat.{ℕ, _+_, _*_, _<_}
 use native.Mathlib.Omega.{arith}
 use native.Mathlib.Nat.{lt-trans}
@@ -10,7 +10,6 @@ use lib.Dec.{eqb}
 use Rattle.basics.proofs.Ifs.{if-yes, if-no}
 use Rattle.text.specs.Frames.{framesOf}
 use Rattle.program.specs.Trees.{Expr, expressionAt}
-use Rattle.program.specs.Ordered.{Ordered}
 use Rattle.machine.specs.Evaluation.{plus, lessThan}
 use Rattle.machine.specs.declared.value.Value.{Value}
 use Rattle.machine.specs.declared.value.Value.the-variants.{Number, Truth, Cell}
@@ -24,7 +23,7 @@ use Rattle.evaluator.specs.declared.node.Operator.{Operator}
 use Rattle.evaluator.specs.declared.node.Operator.the-variants.{Sum, Less}
 use Rattle.evaluator.specs.Results.{Result, after, FrameWords}
 use Rattle.evaluator.specs.ByWords.{nodeAt, result, thenBy, andThen, only, keeping, variableIn, sharedIn, makeIn, reading, numbersOf, aTruth, aNumber, operands, chosen, chosenBy, evalIn, evaluating, truthIn}
-use Rattle.evaluator.proofs.Operations.{Refused, then-is, keeps, keeping-is}
+use Rattle.evaluator.proofs.Operations.{keeping-is}
 use Rattle.evaluator.proofs.Nodes.{treeOf, tree-at, Below, below, branch-below}
 
 -- ---- what a recursive call requires

@@ -1,5 +1,5 @@
 -- Words that hold cells: read, one more cell, another content. Assumes nothing.
-use mathlib.Core.Path.{_≡_, refl, sym, ap, ap₂, _∙_, subst}
+use mathlib.Core.Path.{_≡_, refl, sym, ap, _∙_, subst}
 use mathlib.Core.List.{List, [], _∷_, _++_}
 use mathlib.Core.Bool.{Bool, true, false}
 use Prim.Native.Nat.{ℕ, _+_, _*_, _-_, _/_, _%_, _^_, _<_, _≤_}
@@ -19,7 +19,7 @@ use Rattle.machine.specs.declared.value.Value.the-variants.{Number, Truth, Cell
 use Rattle.machine.proofs.Shapes.{ValueFits, number, truth, cell}
 use Rattle.machine.proofs.WordLaws.{tab-length, tab-at}
 use Rattle.machine.proofs.Blocks.{cells-length, cells-at}
-use Rattle.machine.proofs.Round.{value-below, value-back, cell-back}
+use Rattle.machine.proofs.Round.{value-below, cell-back}
 use Rattle.machine.proofs.Valid.{value-there, no-cell-word}
 use Rattle.machine.proofs.KeptCells.{each-set, each-snoc}
 use Rattle.evaluator.specs.Results.{CellWords, cellsFrom}

@@ -4,4 +4,3 @@ pub mod Nodes
 pub mod Cases
 pub mod Holding
 pub mod Agreement
-pub mod Copies

@@ -1,13 +1,15 @@
 -- Laws of the operations, one for each return of the code. Assumes nothing.
 use mathlib.Core.Path.{_≡_, refl, sym, ap, ap₂, _∙_, subst}
 use mathlib.Core.List.{List}
-use mathlib.Core.Bool.{Bool, true, false, _||_, _&&_}
-use Prim.Native.Nat.{ℕ, _+_, _*_, _%_, _^_, _<_, _≤_}
+use mathlib.Core.Bool.{Bool, true, false, not, _||_, _&&_}
+use Prim.Native.Nat.{ℕ, _+_, _%_, _^_, _<_, _≤_}
 use native.Mathlib.Omega.{arith}
 use lib.Dec.{ltb, leb, eqb}
 use lib.ListN.{length, getD, set}
-use borrow.Author.Tests.{lt-ltb, le-ltb, le-leb, lt-leb, eq-eqb, ne-eqb}
-use Rattle.basics.proofs.Ifs.{yes, no}
+use lib.Seq.{set-getD}
+use borrow.Author.Tests.{ltb-true, ltb-false, lt-ltb, le-ltb, le-leb, lt-leb, eq-eqb, ne-eqb}
+use Rattle.basics.specs.If.{if_then_else_}
+use Rattle.basics.proofs.Ifs.{if-all, if-yes, if-no, yes, no}
 use Rattle.machine.specs.Evaluation.{plus, lessThan}
 use Rattle.machine.specs.declared.value.Value.{Value}
 use Rattle.machine.specs.declared.value.Value.the-variants.{Number, Truth, Cell}
@@ -17,7 +19,7 @@ use Rattle.evaluator.specs.declared.operation.Who.{Who}
 use Rattle.evaluator.specs.declared.operation.Answered.{Answered}
 use Rattle.evaluator.specs.declared.node.Operator.{Operator}
 use Rattle.evaluator.specs.Results.{Result, after}
-use Rattle.evaluator.specs.ByWords.{valueIn, ownerIn, contentIn, cellOf, result, thenBy, andThen, onlyBy, only, keeping, ownIn, newOwnerIn, variableIn, sharedIn, makeIn, readIn, reading, storeIn, numbersOf, operation, operands, aTruth, aNumber, chosen, chosenBy}
+use Rattle.evaluator.specs.ByWords.{valueIn, ownerIn, contentIn, cellOf, result, thenBy, andThen, onlyBy, only, keeping, ownIn, newOwnerIn, variableIn, sharedIn, makeIn, refusalOr, accessIn, readIn, reading, wordAfter, storeIn, numbersOf, operation, operands, aTruth, aNumber, chosen, chosenBy}
 
 -- an outcome that is no value
 abbrev pub Refused : Outcome → Type 0
@@ -29,17 +31,19 @@ Refused Stuck = Unit {0}
 -- ---- owners
 pub own-thread : (who : Who) (o r : ℕ) → r ≡ who .thread → o ≡ 16 + r → true ≡ ownIn who o
 unfolding ownIn
-own-thread who o r h e = ap (λ (b : Bool). b || leb 2 (who .place) && eqb o (who .place)) (sym (eq-eqb o (16 + who .thread) (omega arith)))
+own-thread who o r h e = ap (λ (b : Bool). b || leb 2 (who .place .number) && eqb o (who .place .number)) (sym (eq-eqb o (16 + who .thread) (omega arith)))
 
-other-thread : (who : Who) (o r : ℕ) (b : Bool) → r ≡ who .thread → (o ≡ 16 + r → ⊥) → b ≡ (leb 2 (who .place) && eqb o (who .place)) → b ≡ ownIn who o
+other-thread : (who : Who) (o r : ℕ) (b : Bool) → r ≡ who .thread → (o ≡ 16 + r → ⊥) → b ≡ (leb 2 (who .place .number) && eqb o (who .place .number)) → b ≡ ownIn who o
 unfolding ownIn
-other-thread who o r b h e q = q ∙ ap (λ (x : Bool). x || leb 2 (who .place) && eqb o (who .place)) (sym (ne-eqb o (16 + who .thread) (λ z. e (omega arith))))
+other-thread who o r b h e q = q ∙ ap (λ (x : Bool). x || leb 2 (who .place .number) && eqb o (who .place .number)) (sym (ne-eqb o (16 + who .thread) (λ z. e (omega arith))))
 
-pub own-not : (who : Who) (o r : ℕ) → r ≡ who .thread → (o ≡ 16 + r → ⊥) → who .place < 2 → false ≡ ownIn who o
-own-not who o r h e l = other-thread who o r false h e (ap (λ (x : Bool). x && eqb o (who .place)) (sym (lt-leb 2 (who .place) l)))
+-- p is the place's number, and k that of home
+pub own-not : (who : Who) (o r p k : ℕ) → r ≡ who .thread → (o ≡ 16 + r → ⊥) → p ≡ who .place .number → k ≡ 2 → p < k → false ≡ ownIn who o
+own-not who o r p k h e z y l = other-thread who o r false h e (ap (λ (x : Bool). x && eqb o (who .place .number)) (sym (lt-leb 2 (who .place .number) (omega arith))))
 
-pub own-place : (who : Who) (o r q : ℕ) → r ≡ who .thread → (o ≡ 16 + r → ⊥) → 2 ≤ who .place → q ≡ who .place → eqb o q ≡ ownIn who o
-own-place who o r q h e l z = other-thread who o r (eqb o q) h e (ap (eqb o) z ∙ ap (λ (x : Bool). x && eqb o (who .place)) (sym (le-leb 2 (who .place) l)))
+pub own-place : (who : Who) (o r p k q : ℕ) → r ≡ who .thread → (o ≡ 16 + r → ⊥) → p ≡ who .place .number → k ≡ 2 → k ≤ p → q ≡ p → eqb o q ≡ ownIn who o
+own-place who o r p k q h e z y l a =
+    other-thread who o r (eqb o q) h e (ap (eqb o) (a ∙ z) ∙ ap (λ (x : Bool). x && eqb o (who .place .number)) (sym (le-leb 2 (who .place .number) (omega arith))))
 
 pub ruleset own-laws = (own-thread, own-not, own-place)
 
@@ -97,38 +101,41 @@ module _ (who : Who) (s o n : ℕ) (v : Value) (ws : List ℕ) (b : Bool) (q : �
 
 pub ruleset make-laws = (make-is, make-past, make-spent, make-foreign)
 
--- ---- a cell read, and stored in: i is its index, w its word, o its owner
-module _ (who : Who) (v : Value) (c i n w o : ℕ) (ws : List ℕ) (b : Bool) (ev : v ≡ Cell c) (ei : i ≡ c) (l : i < n) (ew : w ≡ getD ws i 0) (eo : o ≡ ownerIn w) (eb : b ≡ ownIn who o) where
-  there : ltb c n ≡ true
-  there = lt-ltb c n (omega arith)
+-- ---- an access to a cell whose word is w and whose owner is o
+module _ (a b : Bool) (first second : Outcome) (v : Value) where
+  pub refused-first : a ≡ true → first ≡ refusalOr a first b second v
+  unfolding refusalOr
+  refused-first h = yes _ h refl
 
-  word : w ≡ getD ws c 0
-  word = ew ∙ ap (λ (x : ℕ). getD ws x 0) ei
+  pub refused-second : a ≡ false → b ≡ true → second ≡ refusalOr a first b second v
+  unfolding refusalOr
+  refused-second h k = no _ h (yes _ k refl)
 
-  owns : {t : Bool} → b ≡ t → ownIn who (ownerIn (getD ws c 0)) ≡ t
-  owns e = sym (eb ∙ ap (ownIn who) (eo ∙ ap ownerIn word)) ∙ e
+  pub refused-not : a ≡ false → b ≡ false → Is v ≡ refusalOr a first b second v
+  unfolding refusalOr
+  refused-not h k = no _ h (no _ k refl)
 
-  pub read-is : (u : Value) → b ≡ true → u ≡ contentIn w → Is u ≡ readIn who v n ws
-  unfolding readIn
-  read-is u t e = yes _ there (yes _ (owns t) (ap Is (e ∙ ap contentIn word))) ∙ ap (λ (x : Value). readIn who x n ws) (sym ev)
+pub ruleset refusal-laws = (refused-first, refused-second, refused-not)
 
-  pub read-foreign : b ≡ false → Foreign ≡ readIn who v n ws
-  unfolding readIn
-  read-foreign t = yes _ there (no _ (owns t) refl) ∙ ap (λ (x : Value). readIn who x n ws) (sym ev)
+own-first : (v : Value) (b : Bool) → (if not b then Foreign else Is v) ≡ (if b then Is v else Foreign)
+unfolding if_then_else_
+own-first v true = refl
+own-first v false = refl
 
-  pub store-is : (u : Value) (x : ℕ) (us : List ℕ) → b ≡ true → x ≡ cellOf (ownerIn w) u → us ≡ set ws i x → result (Is u) n us ≡ storeIn who v u n ws
-  unfolding storeIn
-  store-is u x us t e h =
-      yes _ there (yes _ (owns t) (ap (result (Is u) n) (h ∙ ap₂ (set ws) ei (e ∙ ap (λ (y : ℕ). cellOf (ownerIn y) u) word))))
-      ∙ ap (λ (y : Value). storeIn who y u n ws) (sym ev)
+pub access-is : (who : Who) (c n w o : ℕ) (own : Bool) (v : Value) (r : Outcome) → o ≡ ownerIn w → own ≡ ownIn who o → r ≡ refusalOr (leb n c) Stuck (not own) Foreign v → r ≡ accessIn who c n w v
+unfolding refusalOr accessIn
+access-is who c n w o own v r e f h = h ∙ ap (λ (t : Bool). if leb n c then Stuck else if not t then Foreign else Is v) (f ∙ ap (ownIn who) e) ∙ by (ltb c n) refl (ownIn who (ownerIn w))
+  where
+    by : (t : Bool) → ltb c n ≡ t → (b : Bool) → (if leb n c then Stuck else if not b then Foreign else Is v) ≡ (if ltb c n then (if b then Is v else Foreign) else Stuck)
+    by true q b = if-no _ _ (lt-leb n c (ltb-true c n q)) ∙ own-first v b ∙ sym (if-yes _ _ q)
+    by false q b = if-yes _ _ (le-leb n c (ltb-false c n q)) ∙ sym (if-no _ _ q)
 
-  pub store-foreign : (u : Value) → b ≡ false → result Foreign n ws ≡ storeIn who v u n ws
-  unfolding storeIn
-  store-foreign u t = yes _ there (no _ (owns t) refl) ∙ ap (λ (y : Value). storeIn who y u n ws) (sym ev)
-
-pub read-none : (who : Who) (v : Value) (c i n : ℕ) (ws : List ℕ) → v ≡ Cell c → i ≡ c → n ≤ i → Stuck ≡ readIn who v n ws
+-- ---- a cell read: i is its index, w its word
+pub read-is : (who : Who) (v u : Value) (c i n w : ℕ) (ws : List ℕ) (r : Outcome) → v ≡ Cell c → i ≡ c → w ≡ getD ws i 0 → u ≡ contentIn w → r ≡ accessIn who i n w u → r ≡ readIn who v n ws
 unfolding readIn
-read-none who v c i n ws ev ei l = no _ (le-ltb c n (omega arith)) refl ∙ ap (λ (x : Value). readIn who x n ws) (sym ev)
+read-is who v u c i n w ws r ev ei ew eu h =
+    h ∙ ap (accessIn who i n w) eu ∙ ap (λ (x : ℕ). accessIn who i n x (contentIn x)) ew ∙ ap (λ (x : ℕ). accessIn who x n (getD ws x 0) (contentIn (getD ws x 0))) ei
+    ∙ ap (λ (x : Value). readIn who x n ws) (sym ev)
 
 pub read-number : (who : Who) (v : Value) (m n : ℕ) (ws : List ℕ) → v ≡ Number m → Stuck ≡ readIn who v n ws
 unfolding readIn
@@ -138,9 +145,38 @@ pub read-truth : (who : Who) (v : Value) (t : Bool) (n : ℕ) (ws : List ℕ) �
 unfolding readIn
 read-truth who v t n ws e = ap (λ (x : Value). readIn who x n ws) (sym e)
 
-pub store-none : (who : Who) (v u : Value) (c i n : ℕ) (ws : List ℕ) → v ≡ Cell c → i ≡ c → n ≤ i → result Stuck n ws ≡ storeIn who v u n ws
-unfolding storeIn
-store-none who v u c i n ws ev ei l = no _ (le-ltb c n (omega arith)) refl ∙ ap (λ (x : Value). storeIn who x u n ws) (sym ev)
+pub ruleset read-laws = (read-is, read-number, read-truth)
+
+-- ---- a cell stored in: x is its word behind the store
+pub after-row : (o p : Outcome) (w r : ℕ) (u : Value) → o ≡ p → r ≡ wordAfter p w u → r ≡ wordAfter o w u
+after-row o p w r u e h = h ∙ sym (ap (λ (q : Outcome). wordAfter q w u) e)
+
+-- a refused store puts the word that is there
+store-at : (who : Who) (u : Value) (c n : ℕ) (ws : List ℕ) → let o = accessIn who c n (getD ws c 0) u in result o n (set ws c (wordAfter o (getD ws c 0) u)) ≡ storeIn who (Cell c) u n ws
+unfolding accessIn storeIn
+store-at who u c n ws =
+    if-all Stores (ltb c n) _ _
+    (λ l. if-all Stores (ownIn who (ownerIn w)) _ _ (λ t. yes _ l (yes _ t refl)) (λ t. yes _ l (no _ t (kept Foreign))))
+    (λ l. no _ l (kept Stuck))
+  where
+    w : ℕ
+    w = getD ws c 0
+
+    Stores : Outcome → Type 0
+    Stores o = result o n (set ws c (wordAfter o w u)) ≡ storeIn who (Cell c) u n ws
+
+    kept : (o : Outcome) → result o n (set ws c w) ≡ result o n ws
+    kept o = ap (result o n) (set-getD ws c 0)
+
+pub store-is : (who : Who) (v u : Value) (c i n w x : ℕ) (ws us : List ℕ) (o : Outcome) → v ≡ Cell c → i ≡ c → w ≡ getD ws i 0 → o ≡ accessIn who i n w u → x ≡ wordAfter o w u → us ≡ set ws i x
+    → result o n us ≡ storeIn who v u n ws
+store-is who v u c i n w x ws us o ev ei ew eo ex eu =
+    ap (result o n) (eu ∙ ap (set ws i) ex)
+    ∙ ap (λ (p : Outcome). result p n (set ws i (wordAfter p w u))) eo
+    ∙ ap (λ (y : ℕ). result (accessIn who i n y u) n (set ws i (wordAfter (accessIn who i n y u) y u))) ew
+    ∙ store-at who u i n ws
+    ∙ ap (λ (y : ℕ). storeIn who (Cell y) u n ws) ei
+    ∙ ap (λ (y : Value). storeIn who y u n ws) (sym ev)
 
 pub store-number : (who : Who) (v u : Value) (m n : ℕ) (ws : List ℕ) → v ≡ Number m → result Stuck n ws ≡ storeIn who v u n ws
 unfolding storeIn
@@ -149,10 +185,6 @@ store-number who v u m n ws e = ap (λ (x : Value). storeIn who x u n ws) (sym e
 pub store-truth : (who : Who) (v u : Value) (t : Bool) (n : ℕ) (ws : List ℕ) → v ≡ Truth t → result Stuck n ws ≡ storeIn who v u n ws
 unfolding storeIn
 store-truth who v u t n ws e = ap (λ (x : Value). storeIn who x u n ws) (sym e)
-
-pub ruleset read-laws = (read-is, read-foreign, read-none, read-number, read-truth)
-
-pub ruleset store-laws = (store-is, store-foreign, store-none, store-number, store-truth)
 
 -- ---- numbers and truths
 pub is-number : (v : Value) (n : ℕ) → v ≡ Number n → Is (Number n) ≡ aNumber v
@@ -190,9 +222,6 @@ choose-first v t b c e h = yes _ h refl ∙ ap (λ (x : Value). chosen x b c) (s
 
 pub choose-second : (v : Value) (t : Bool) (b c : ℕ) → v ≡ Truth t → t ≡ false → c ≡ chosen v b c
 choose-second v t b c e h = no _ h refl ∙ ap (λ (x : Value). chosen x b c) (sym e)
-
-pub choose-none : (v : Value) (n b c : ℕ) → v ≡ Number n → c ≡ chosen v b c
-choose-none v n b c e = ap (λ (x : Value). chosen x b c) (sym e)
 
 -- ---- one after the other: an outcome that goes on, and one that is kept
 pub then-is : (x : Result) (v : Value) (k : Value → ℕ → List ℕ → Result) (r : Result) → x .outcome ≡ Is v → r ≡ k v (x .used) (x .words) → r ≡ andThen x k

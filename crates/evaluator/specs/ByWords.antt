@@ -1,6 +1,6 @@
 -- The evaluator's own recursion, on words. No reader has to believe it: on words of cells it gives what `eval` gives (proofs/Agreement). Assumes nothing: definitions.
 use mathlib.Core.List.{List}
-use mathlib.Core.Bool.{Bool, true, false, _||_, _&&_}
+use mathlib.Core.Bool.{Bool, _||_, _&&_}
 use Prim.Native.Nat.{ℕ, _+_, _*_, _/_, _%_, _^_}
 use lib.Dec.{ltb, leb, eqb}
 use lib.ListN.{length, getD, set}
@@ -98,7 +98,7 @@ keeping k v n ws = result (k v) n ws
 -- ---- one definition for each kind, behind its operands
 
 unfoldable pub ownIn : Who → ℕ → Bool
-ownIn who o = eqb o (threadOwner (who .thread)) || leb home (who .place) && eqb o (who .place)
+ownIn who o = eqb o (threadOwner (who .thread)) || leb home (who .place .number) && eqb o (who .place .number)
 
 unfoldable pub newOwnerIn : Who → ℕ → ℕ
 newOwnerIn who s = if eqb s private then threadOwner (who .thread) else s
@@ -117,16 +117,28 @@ makeIn who s v n ws =
     else result Spent n ws)
     else result Foreign n ws
 
+-- the first refusal of two that is met, or v
+unfoldable pub refusalOr : Bool → Outcome → Bool → Outcome → Value → Outcome
+refusalOr a first b second v = if a then first else if b then second else Is v
+
+-- v at cell c, whose word is w, where n cells are in use: 20 is tested before 19
+unfoldable pub accessIn : Who → ℕ → ℕ → ℕ → Value → Outcome
+accessIn who c n w v = if ltb c n then (if ownIn who (ownerIn w) then Is v else Foreign) else Stuck
+
 unfoldable pub readIn : Who → Value → ℕ → List ℕ → Outcome
-readIn who (Cell c) n ws =
-    if ltb c n then
-    (if ownIn who (ownerIn (getD ws c 0)) then Is (contentIn (getD ws c 0)) else Foreign)
-    else Stuck
+readIn who (Cell c) n ws = accessIn who c n (getD ws c 0) (contentIn (getD ws c 0))
 readIn who (Number m) n ws = Stuck
 readIn who (Truth b) n ws = Stuck
 
 abbrev pub reading : Who → Value → ℕ → List ℕ → Result
 reading who v n ws = result (readIn who v n ws) n ws
+
+-- the word of a cell behind a store: a refusal changes nothing
+abbrev pub wordAfter : Outcome → ℕ → Value → ℕ
+wordAfter (Is x) w v = cellOf (ownerIn w) v
+wordAfter Foreign w v = w
+wordAfter Spent w v = w
+wordAfter Stuck w v = w
 
 unfoldable pub storeIn : Who → Value → Value → ℕ → List ℕ → Result
 storeIn who (Cell c) v n ws =

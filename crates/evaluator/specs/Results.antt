@@ -26,7 +26,7 @@ after r ws = record { outcome = r .outcome; used = r .used; words = ws }
 
 -- who evaluates, with the variables of those words
 abbrev pub hereOf : Who → List ℕ → Here
-hereOf who vs = record { thread = who .thread; place = who .place; variables = map wordValue vs; shared = who .shared }
+hereOf who vs = record { thread = who .thread; place = who .place .number; variables = map wordValue vs; shared = who .shared }
 
 -- the cells that the first n words are
 unfoldable pub cellsFrom : ℕ → List ℕ → List Stored

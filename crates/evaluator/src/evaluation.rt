@@ -20,7 +20,7 @@ ghost use Rattle.text.specs.Frames.{framesOf};
 ghost use Rattle.program.specs.Trees.{expressionAt};
 ghost use Rattle.machine.specs.Evaluation.{eval, storing};
 ghost use Rattle.evaluator.specs.Results.{after, hereOf, onWords, CellWords, ValueWords, FrameWords};
-ghost use Rattle.evaluator.specs.ByWords.{andThen, evalIn, evaluating, truthIn, storingIn};
+ghost use Rattle.evaluator.specs.ByWords.{andThen, evalIn, evaluating, truthIn};
 
 fn wide16(x: u16) -> u32
     ensures { λ r. ⌜ r ≡ x ⌝ }

@@ -2,5 +2,4 @@
 pub mod evaluation;
 pub mod node;
 pub mod operation;
-pub mod saving;
 pub mod word;

@@ -5,18 +5,19 @@ use crate::word::content_of;
 use crate::word::owner_of;
 use crate::word::value_of;
 use crate::word::with_content;
+use language::Place;
 use machine::value::Outcome;
 use machine::value::Value;
 ghost use mathlib.Core.Path.{_≡_};
 ghost use lib.ListN.{getD, set};
 ghost use Rattle.machine.specs.Evaluation.{plus, lessThan};
 ghost use Rattle.evaluator.specs.Results.{after};
-ghost use Rattle.evaluator.specs.ByWords.{ownIn, newOwnerIn, variableIn, sharedIn, readIn, reading, makeIn, storeIn, numbersOf, aTruth, aNumber, operation, operands, chosen, chosenBy, andThen, only};
+ghost use Rattle.evaluator.specs.ByWords.{ownIn, newOwnerIn, variableIn, sharedIn, refusalOr, accessIn, readIn, reading, makeIn, wordAfter, storeIn, numbersOf, aTruth, aNumber, operation, operands, chosen, chosenBy, andThen, only};
 
 // Who evaluates: the acting thread, the place on which it stands, and how many cells are shared.
 pub struct Who {
     pub thread: u8,
-    pub place: u8,
+    pub place: Place,
     pub shared: usize,
 }
 
@@ -82,10 +83,11 @@ pub fn is_own(who: Who, owner: u64) -> bool
     if owner == 16 + wide8(who.thread) {
         return true;
     }
-    if who.place < 2 {
+    let p = who.place.number();
+    if p < Place::HOME.number() {
         return false;
     }
-    owner == wide8(who.place)
+    owner == wide8(p)
 }
 
 // The owner of a new cell: S, or the thread itself where S is 1.
@@ -145,24 +147,53 @@ pub fn make_cell(who: Who, s: u8, v: Value, cells: &mut [u64], used: usize) -> A
     }
 }
 
-// 25: 20 is tested before 19.
+// The first refusal of two that is met, or x.
+fn refusal_or(a: bool, first: Outcome, b: bool, second: Outcome, x: Value) -> Outcome
+    ensures { λ r. ⌜ r ≡ refusalOr a first b second x ⌝ }
+{
+    if a {
+        return first;
+    }
+    if b {
+        return second;
+    }
+    Outcome::Is(x)
+}
+
+// x where the cell is in use and one's own: 20 is tested before 19. w is the cell's word.
+fn access(who: Who, j: usize, used: usize, w: u64, x: Value) -> Outcome
+    ensures { λ r. ⌜ r ≡ accessIn who j used w x ⌝ }
+{
+    let missing = used <= j;
+    let foreign = !is_own(who, owner_of(w));
+    refusal_or(missing, Outcome::Stuck, foreign, Outcome::Foreign, x)
+}
+
+// 25
 pub fn read_cell(who: Who, v: Value, cells: &[u64], used: usize) -> Outcome
     ensures { λ r. ⌜ r ≡ readIn who v used (now (cells .entry)) ⌝ }
 {
     match v {
         Value::Cell(c) => {
             let j = index8(c);
-            if j < used {
-                let w = word_at(cells, j);
-                if is_own(who, owner_of(w)) {
-                    return Outcome::Is(content_of(w));
-                }
-                return Outcome::Foreign;
-            }
-            Outcome::Stuck
+            let w = word_at(cells, j);
+            access(who, j, used, w, content_of(w))
         },
         Value::Number(n) => Outcome::Stuck,
         Value::Truth(t) => Outcome::Stuck,
+    }
+}
+
+// The word of a cell behind a store of u: a refusal changes nothing.
+fn word_after(o: Outcome, w: u64, u: Value) -> u64
+    ensures { λ r. ⌜ r ≡ wordAfter o w u ⌝ }
+{
+    let stored = with_content(w, u);
+    match o {
+        Outcome::Is(x) => stored,
+        Outcome::Foreign => w,
+        Outcome::Spent => w,
+        Outcome::Stuck => w,
     }
 }
 
@@ -173,22 +204,11 @@ pub fn store_cell(who: Who, v: Value, u: Value, cells: &mut [u64], used: usize) 
     match v {
         Value::Cell(c) => {
             let i = index8(c);
-            if i < used {
-                let w = word_at(cells, i);
-                if is_own(who, owner_of(w)) {
-                    put_word(cells, i, with_content(w, u));
-                    return Answered {
-                        outcome: Outcome::Is(u),
-                        used: used,
-                    };
-                }
-                return Answered {
-                    outcome: Outcome::Foreign,
-                    used: used,
-                };
-            }
+            let w = word_at(cells, i);
+            let o = access(who, i, used, w, u);
+            put_word(cells, i, word_after(o, w, u));
             Answered {
-                outcome: Outcome::Stuck,
+                outcome: o,
                 used: used,
             }
         },

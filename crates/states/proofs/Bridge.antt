@@ -24,7 +24,7 @@ use Rattle.states.proofs.Store.{block-length, block-continuation, block
 pub items-is : (x : Thread) → length (reverse (map itemWord (x .continuation))) ≡ length (x .continuation)
 items-is x = length-reverse (map itemWord (x .continuation)) ∙ length-map (x .continuation) itemWord
 
-fields-path : (a b : ThreadWords) → a .place ≡ b .place → a .starter ≡ b .starter → a .alive ≡ b .alive → a .items ≡ b .items → a .continuation ≡ b .continuation → a .values ≡ b .values → a .variables ≡ b .variables → a ≡ b
+pub fields-path : (a b : ThreadWords) → a .place ≡ b .place → a .starter ≡ b .starter → a .alive ≡ b .alive → a .items ≡ b .items → a .continuation ≡ b .continuation → a .values ≡ b .values → a .variables ≡ b .variables → a ≡ b
 fields-path a b p q r s t u v = λ i. record { place = p i; starter = q i; alive = r i; items = s i; continuation = t i; values = u i; variables = v i }
 
 -- a load
@@ -52,19 +52,19 @@ module _ (w : List ℕ) (s : State) (h : Says w s) (k : ℕ) (l : k < 64) where
       x : Thread
       x = getD (s .threads) k noThread
 
-block-0 : (y : ThreadWords) → getD (blockOf y) 0 0 ≡ y .place
+pub block-0 : (y : ThreadWords) → getD (blockOf y) 0 0 ≡ y .place
 unfolding blockOf
 block-0 y = refl
 
-block-1 : (y : ThreadWords) → getD (blockOf y) 1 0 ≡ y .starter
+pub block-1 : (y : ThreadWords) → getD (blockOf y) 1 0 ≡ y .starter
 unfolding blockOf
 block-1 y = refl
 
-block-2 : (y : ThreadWords) → getD (blockOf y) 2 0 ≡ y .alive
+pub block-2 : (y : ThreadWords) → getD (blockOf y) 2 0 ≡ y .alive
 unfolding blockOf
 block-2 y = refl
 
-block-3 : (y : ThreadWords) → getD (blockOf y) 3 0 ≡ y .items
+pub block-3 : (y : ThreadWords) → getD (blockOf y) 3 0 ≡ y .items
 unfolding blockOf
 block-3 y = refl
 

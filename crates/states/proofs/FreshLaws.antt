@@ -21,7 +21,7 @@ use Rattle.program.specs.Trees.{rootS, noFrame}
 use Rattle.program.specs.Programs.{Part, SharedCell, partOf, withPart, sharedOf, modulesFrom, programOf, mainOf, noModule}
 use Rattle.machine.specs.Values.{firstContent}
 use Rattle.machine.specs.declared.value.Value.{Value}
-use Rattle.machine.specs.Fresh.{firstCell, fresh}
+use Rattle.machine.specs.Fresh.{firstCell}
 use Rattle.machine.specs.State.{Stored, noCell}
 use Rattle.machine.specs.Words.{valueWord, cellWord}
 use Rattle.machine.specs.Blocks.{pasted, cellWords}

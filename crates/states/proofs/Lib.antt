@@ -10,3 +10,5 @@ pub mod FreshWords
 pub mod Instants
 pub mod StackLaws
 pub mod PartyLaws
+pub mod ThreadLaws
+pub mod StackWords

@@ -16,7 +16,7 @@ use Rattle.machine.specs.Blocks.{part, pasted, padded}
 use Rattle.machine.specs.Ranges.{allBelow}
 use Rattle.machine.proofs.WordLaws.{tab-length, tab-from, pasted-more, pasted-length, pasted-out, part-at, part-length}
 use Rattle.machine.proofs.Padded.{padded-push}
-use Rattle.states.specs.Lists.{shifted, withoutFirst, withLast, isQuiet, isReadyWord, readyWords, waitingWords, sortedOf, withInstantEnded}
+use Rattle.states.specs.Lists.{shifted, withoutFirst, insertedIn, withLast, isQuiet, isReadyWord, readyWords, waitingWords, sortedOf, withInstantEnded}
 use Rattle.states.specs.declared.list.Sorted.{Sorted}
 use Rattle.states.proofs.Store.{first-word, next-run}
 
@@ -46,7 +46,27 @@ ready-waiting w e r h q = no _ (le-ltb e 128 h) q
 
 pub ruleset ready-laws = (ready-plain, ready-waiting)
 
--- ---- room, an entry at the end
+-- ---- room, an entry put into a list: j words are written, and e is the next
+module _ (w v : List ℕ) (first more entry j e : ℕ) (written : v ≡ pasted w first (entry ∷ part w first more) j) (next : e ≡ getD (entry ∷ part w first more) j 0) (room : first + more < length w) where
+  list-long : length (entry ∷ part w first more) ≡ suc more
+  list-long = ap suc (part-length w first more (omega arith))
+
+  pub insert-more : j ≤ more → set v (first + j) e ≡ pasted w first (entry ∷ part w first more) (j + 1)
+  insert-more g = let l = list-long in pasted-more w (entry ∷ part w first more) v first j e written next (omega arith) (omega arith)
+
+  pub insert-next : j < more → getD v (first + j) 0 ≡ getD (entry ∷ part w first more) (j + 1) 0
+  insert-next g =
+      ap (λ (x : List ℕ). getD x (first + j) 0) written
+      ∙ pasted-out w first (entry ∷ part w first more) j (omega arith) (let l = list-long in omega arith) (first + j) (λ p q. omega arith)
+      ∙ sym (part-at w first more j g) ∙ ap (λ (i : ℕ). getD (entry ∷ part w first more) i 0) (sym (add-one j))
+
+  pub insert-last : j ≤ more → more ≤ j → set v (first + more) e ≡ pasted w first (entry ∷ part w first more) (more + 1)
+  insert-last a b = let z : j ≡ more = omega arith in ap (λ (i : ℕ). set v (first + i) e) (sym z) ∙ insert-more a ∙ ap (λ (i : ℕ). pasted w first (entry ∷ part w first more) (i + 1)) z
+
+pub inserted : (w v : List ℕ) (at n p e : ℕ) → v ≡ pasted w (at + 1 + p) (e ∷ part w (at + 1 + p) (n - p)) (n - p + 1) → set v at (n + 1) ≡ insertedIn w at n p e
+unfolding insertedIn
+inserted w v at n p e h = ap (λ (x : List ℕ). set x at (n + 1)) h
+
 pub no-room : (n m : ℕ) → 64 < n → false ≡ leb (n + m) 64
 no-room n m h = sym (lt-leb (n + m) 64 (omega arith))
 
@@ -54,10 +74,16 @@ pub last-full : (w : List ℕ) (k e : ℕ) → 64 ≤ getD w (67 + 130 * k) 0 �
 unfolding withLast
 last-full w k e h = no _ (le-ltb (getD w (67 + 130 * k) 0) 64 h) refl
 
-pub last-more : (w : List ℕ) (k e : ℕ) → getD w (67 + 130 * k) 0 < 64
-    → set (set w (67 + 130 * k + 1 + getD w (67 + 130 * k) 0) e) (67 + 130 * k) (getD w (67 + 130 * k) 0 + 1) ≡ withLast w k e
-unfolding withLast
-last-more w k e h = yes _ (lt-ltb (getD w (67 + 130 * k) 0) 64 h) refl
+pub last-more : (w v : List ℕ) (k e n : ℕ) → n ≡ getD w (67 + 130 * k) 0 → n < 64 → length w ≡ 4818 → k < 8 → v ≡ insertedIn w (67 + 130 * k) n n e → v ≡ withLast w k e
+unfolding insertedIn withLast
+last-more w v k e n q h l g f =
+    f ∙ ap (λ (m : ℕ). set (pasted w (67 + 130 * k + 1 + n) (e ∷ part w (67 + 130 * k + 1 + n) m) (m + 1)) (67 + 130 * k) (n + 1)) none
+    ∙ ap (λ (x : List ℕ). set x (67 + 130 * k) (n + 1)) (sym (first-word w (67 + 130 * k + 1 + n) (e ∷ part w (67 + 130 * k + 1 + n) 0) e refl (omega arith) (omega arith)))
+    ∙ ap (λ (m : ℕ). set (set w (67 + 130 * k + 1 + m) e) (67 + 130 * k) (m + 1)) q
+    ∙ yes _ (lt-ltb (getD w (67 + 130 * k) 0) 64 (omega arith)) refl
+  where
+    none : n - n ≡ 0
+    none = omega arith
 
 pub ruleset last-laws = (last-full, last-more)
 
@@ -84,9 +110,6 @@ module _ (w v : List ℕ) (at j : ℕ) (e : v ≡ pasted w at (shifted (part w a
 
   long : length (shifted (part w at 64)) ≡ 64
   long = shifted-length (part w at 64) block
-
-  pub shift-length : j ≤ 63 → length v ≡ length w
-  shift-length g = ap length e ∙ pasted-length w at (shifted (part w at 64)) j (omega arith) (let l = long in omega arith)
 
   pub shift-more : j < 63 → set v (at + j) (getD v (at + j + 1) 0) ≡ pasted w at (shifted (part w at 64)) (j + 1)
   shift-more g = pasted-more w (shifted (part w at 64)) v at j (getD v (at + j + 1) 0) e read (omega arith) (let l = long in omega arith)

@@ -1,6 +1,6 @@
 -- What an item or a variable more or less is to the thread: the struct's laws, from `wordsOf` to `wordsOf`. Assumes nothing.
 use Prim.Native.Nat.{ℕ, suc, _+_, _-_, _<_}
-use mathlib.Core.Path.{_≡_, refl, sym, ap, ap₂, _∙_}
+use mathlib.Core.Path.{_≡_, sym, ap, ap₂, _∙_}
 use mathlib.Core.List.{List, [], _∷_, _++_, map, reverse, reverse-cons, map-append}
 use native.Mathlib.Omega.{arith}
 use native.Mathlib.Numerals.{add-one}
@@ -12,16 +12,13 @@ use Rattle.machine.specs.Words.{itemWord, valueWord}
 use Rattle.machine.specs.Blocks.{padded}
 use Rattle.machine.proofs.Padded.{padded-at, padded-push, padded-pop}
 use Rattle.states.specs.Threads.{wordsOf}
-use Rattle.states.specs.Stacks.{pushItem, popItem, pushValue, popValue, moveTo}
+use Rattle.states.specs.Stacks.{pushItem, popItem, pushValue, popValue}
 
 abbrev pub withContinuation : List Item → Thread → Thread
 withContinuation is x = record { place = x .place; continuation = is; variables = x .variables; starter = x .starter; ended = x .ended }
 
 abbrev pub withVariables : List Value → Thread → Thread
 withVariables vs x = record { place = x .place; continuation = x .continuation; variables = vs; starter = x .starter; ended = x .ended }
-
-abbrev pub atPlace : ℕ → Thread → Thread
-atPlace p x = record { place = p; continuation = x .continuation; variables = x .variables; starter = x .starter; ended = x .ended }
 
 bottom : (is : List Item) → length (reverse (map itemWord is)) ≡ length is
 bottom is = length-reverse (map itemWord is) ∙ length-map is itemWord
@@ -110,7 +107,3 @@ module _ (x : Thread) where
         where
           back : (n : ℕ) → n + 1 - 1 ≡ n
           back n = omega arith
-
-  pub move-is : (p : ℕ) → moveTo p (wordsOf x) ≡ wordsOf (atPlace p x)
-  unfolding moveTo
-  move-is p = refl

@@ -1,5 +1,5 @@
 -- A thread's block stored field by field, and read. Assumes nothing.
-use Prim.Native.Nat.{ℕ, suc, zero, _+_, _-_, _<_, _≤_}
+use Prim.Native.Nat.{ℕ, suc, zero, _+_, _<_, _≤_}
 use mathlib.Core.Path.{_≡_, refl, sym, ap, _∙_}
 use mathlib.Core.List.{List, _∷_, _++_}
 use native.Mathlib.Omega.{arith}
@@ -76,10 +76,6 @@ module _ (x : ThreadWords) (hp : length (x .continuation) ≡ 25) (hv : length (
       let w6 : List ℕ = set w5 (at + 29) (x .values) in
       let e6 : w6 ≡ pasted w at (blockOf x) 30 = next-word w at (blockOf x) w5 29 (x .values) e5 (sym block-values) (omega arith) (omega arith) in
       next-run w at (blockOf x) w6 (x .variables) 30 25 e6 (λ i g. sym (block-variables i g)) (omega arith) (omega arith) (omega arith)
-
-pub mk-fields : (a b c d e : ℕ) (p q r s : List ℕ) → p ≡ q → r ≡ s
-    → _≡_ {A = ThreadWords} (record { place = a; starter = b; alive = c; items = d; continuation = p; values = e; variables = r }) (record { place = a; starter = b; alive = c; items = d; continuation = q; values = e; variables = s })
-mk-fields a b c d e p q r s g h = λ i. record { place = a; starter = b; alive = c; items = d; continuation = g i; values = e; variables = h i }
 
 -- the same in the two calls that the code makes
 module _ (x : ThreadWords) (w a : List ℕ) (at : ℕ) (h : at + 55 ≤ length w) (hp : length (x .continuation) ≡ 25)

@@ -22,6 +22,10 @@ withoutFirst w k =
     if eqb (getD w at 0) 0 then w else
     set (pasted w (at + 1) (shifted (part w (at + 1) 64)) 64) at (getD w at 0 - 1)
 
+-- entry e stands at position p of the list at that place, of n members; those from there on stand behind it
+unfoldable pub insertedIn : List ℕ → ℕ → ℕ → ℕ → ℕ → List ℕ
+insertedIn w at n p e = set (pasted w (at + 1 + p) (e ∷ part w (at + 1 + p) (n - p)) (n - p + 1)) at (n + 1)
+
 -- entry e stands at the end of the next list of scheduler k; 64 are its space
 unfoldable pub withLast : List ℕ → ℕ → ℕ → List ℕ
 withLast w k e =

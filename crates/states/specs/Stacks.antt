@@ -1,4 +1,4 @@
--- A thread's struct with one item or one variable more or less, or at another place. Assumes nothing: definitions.
+-- A thread with one item or one variable more or less, at another place, or ended. Assumes nothing: definitions.
 use Prim.Native.Nat.{ℕ, _+_, _-_}
 use lib.ListN.{set}
 use Rattle.states.specs.declared.thread.ThreadWords.{ThreadWords}
@@ -57,6 +57,18 @@ moveTo p x =
       place = p;
       starter = x .starter;
       alive = x .alive;
+      items = x .items;
+      continuation = x .continuation;
+      values = x .values;
+      variables = x .variables;
+    }
+
+unfoldable pub ended : ThreadWords → ThreadWords
+ended x =
+    record {
+      place = x .place;
+      starter = x .starter;
+      alive = 0;
       items = x .items;
       continuation = x .continuation;
       values = x .values;

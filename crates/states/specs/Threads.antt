@@ -40,6 +40,13 @@ fieldsAt w at =
 unfoldable pub blockOf : ThreadWords → List ℕ
 blockOf x = x .place ∷ x .starter ∷ x .alive ∷ x .items ∷ (x .continuation ++ (x .values ∷ x .variables))
 
+-- thread k, from 0: where it is in the words, and the words with another in its place
+abbrev pub threadIn : List ℕ → ℕ → ThreadWords
+threadIn w k = fieldsAt w (1042 + 55 * k)
+
+unfoldable pub putThread : List ℕ → ℕ → ThreadWords → List ℕ
+putThread w k x = pasted w (1042 + 55 * k) (blockOf x) 55
+
 -- the words with one more thread, the last; 64 are their space
 unfoldable pub withOneMore : List ℕ → ThreadWords → List ℕ
 withOneMore w x = if ltb (getD w 0 0) 64 then set (pasted w (1042 + 55 * getD w 0 0) (blockOf x) 55) 0 (getD w 0 0 + 1) else w

@@ -1,6 +1,7 @@
 // The fresh state of a file, written into the lent words.
 use crate::thread::ThreadWords;
 use crate::thread::add_thread;
+use language::Place;
 use language::frame::Frame;
 use language::kind::Kind;
 use text::line::frame_of_word;
@@ -12,8 +13,7 @@ ghost use Rattle.program.specs.Programs.{sharedOf, programOf, mainOf};
 ghost use Rattle.machine.specs.Values.{firstContent};
 ghost use Rattle.machine.specs.Fresh.{firstCell, fresh};
 ghost use Rattle.machine.specs.Words.{valueWord, cellWord, pack};
-ghost use Rattle.machine.specs.Calls.{freshCall};
-ghost use Rattle.states.specs.Starts.{isShared, isModule, cellOf, mainWords, withShared, called};
+ghost use Rattle.states.specs.Starts.{isShared, isModule, cellOf, mainWords, withShared};
 
 pub fn is_shared(k: Kind) -> bool
     ensures { λ r. ⌜ r ≡ isShared k ⌝ }
@@ -131,7 +131,7 @@ fn main_thread(body: u64) -> ThreadWords
     items[0] = body;
     let none = [0u64; 25];
     ThreadWords {
-        place: 2,
+        place: Place::HOME.number() as u64,
         starter: 0,
         alive: 1,
         items: 1,
@@ -151,15 +151,4 @@ pub fn write_fresh(frames: &[u64], state: &mut [u64])
     add_thread(state, main_thread(main_body(frames)));
     state[2] = 1;
     state[3] = 1;
-}
-
-// The same for any buffer: the answer is 0, or 14 at a wrong length, and nothing is written then.
-pub fn fresh_call(frames: &[u64], state: &mut [u64]) -> u64
-    ensures { λ r. ⌜ called r 0 (now (state .exit)) ≡ freshCall (framesOf (now (frames .entry))) (now (state .entry)) ⌝ }
-{
-    if state.len() != 4818 {
-        return 14;
-    }
-    write_fresh(frames, state);
-    0
 }

@@ -7,7 +7,7 @@ ghost use lib.Dec.{leb};
 ghost use lib.ListN.{length, getD};
 ghost use Rattle.machine.specs.Blocks.{part, pasted};
 ghost use Rattle.machine.specs.Words.{wordsAt};
-ghost use Rattle.states.specs.Lists.{shifted, withoutFirst, withLast, sortedOf, withInstantEnded, readyWords};
+ghost use Rattle.states.specs.Lists.{shifted, withoutFirst, insertedIn, withLast, sortedOf, withInstantEnded, readyWords};
 
 // A next list's entries: the threads of the ready ones, and those that wait, each with its count and 0 behind.
 pub struct Sorted {
@@ -64,18 +64,36 @@ pub fn drop_first(state: &mut [u64], k: usize)
     state[at] = n - 1;
 }
 
+// The entry stands at that position of the list at that place, which has n members; those from there on move back by one.
+fn insert(state: &mut [u64], at: usize, n: usize, position: usize, entry: u64)
+    requires { ⌜ (at + 65 ≤ length (now state)) × (n < 64) × (position ≤ n) ⌝ }
+    ensures { λ _. ⌜ now (state .exit) ≡ insertedIn (now (state .entry)) at n position entry ⌝ }
+{
+    let first = at + 1 + position;
+    let more = n - position;
+    let mut e = entry;
+    let mut j: usize = 0;
+    while j < more {
+        let moved = state[first + j];
+        state[first + j] = e;
+        e = moved;
+        j += 1;
+    }
+    state[first + more] = e;
+    state[at] = (n + 1) as u64;
+}
+
 // The entry goes to the end of the next list; a full list stays as it is.
 pub fn append(state: &mut [u64], k: usize, entry: u64)
     requires { ⌜ (length (now state) ≡ 4818) × (k < 8) ⌝ }
     ensures { λ _. ⌜ now (state .exit) ≡ withLast (now (state .entry)) k entry ⌝ }
 {
     let at = 67 + 130 * k;
-    let n = state[at];
+    let n = state[at] as usize;
     if 64 <= n {
         return;
     }
-    state[at + 1 + n as usize] = entry;
-    state[at] = n + 1;
+    insert(state, at, n, n, entry);
 }
 
 // Validation has found at most 64 threads, and a list within its space.

@@ -1,108 +1,75 @@
-// A thread's struct with one item or one variable more or less. Whoever calls has tested that there is one, or room for it.
-use crate::thread::ThreadWords;
+// A thread's continuation, variables and place, changed where its words lie. Thread k counts from 0: it is thread k + 1 of the state. Whoever
+// calls has tested that there is an item or a variable to take off, or room for one more.
 ghost use mathlib.Core.Path.{_≡_};
 ghost use Prim.Native.Nat.{_-_, _<_, _≤_};
-ghost use lib.ListN.{getD};
-ghost use Rattle.states.specs.Stacks.{pushItem, popItem, pushValue, popValue, moveTo};
+ghost use lib.ListN.{length, getD};
+ghost use Rattle.states.specs.Threads.{threadIn, putThread};
+ghost use Rattle.states.specs.Stacks.{pushItem, popItem, pushValue, popValue, moveTo, ended};
 
-// The item on top of the continuation, its last word.
-pub fn top_item(th: ThreadWords) -> u64
-    requires { ⌜ (0 < th .items) × (th .items ≤ 25) ⌝ }
-    ensures { λ r. ⌜ r ≡ getD (th .continuation) (th .items - 1) 0 ⌝ }
+// The item on top of the continuation, its last word; 0 where there is none.
+pub fn top_item(state: &[u64], k: usize) -> u64
+    requires { ⌜ (length (now state) ≡ 4818) × (k < 64) × (threadIn (now state) k .items ≤ 25) ⌝ }
+    ensures { λ r. ⌜ r ≡ getD (threadIn (now (state .entry)) k .continuation) (threadIn (now (state .entry)) k .items - 1) 0 ⌝ }
 {
-    let n = th.items - 1;
-    let p = th.continuation;
-    p[n as usize]
+    let at = 1042 + 55 * k;
+    let n = state[at + 3];
+    if n == 0 {
+        return state[at + 4];
+    }
+    state[at + 3 + n as usize]
 }
 
-pub fn push_item(th: ThreadWords, item: u64) -> ThreadWords
-    requires { ⌜ th .items < 25 ⌝ }
-    ensures { λ r. ⌜ r ≡ pushItem item th ⌝ }
+pub fn push_item(state: &mut [u64], k: usize, item: u64)
+    requires { ⌜ (length (now state) ≡ 4818) × (k < 64) × (threadIn (now state) k .items < 25) ⌝ }
+    ensures { λ _. ⌜ now (state .exit) ≡ putThread (now (state .entry)) k (pushItem item (threadIn (now (state .entry)) k)) ⌝ }
 {
-    let n = th.items;
-    let mut p = th.continuation;
-    p[n as usize] = item;
-    let v = th.variables;
-    ThreadWords {
-        place: th.place,
-        starter: th.starter,
-        alive: th.alive,
-        items: n + 1,
-        continuation: p,
-        values: th.values,
-        variables: v,
-    }
+    let at = 1042 + 55 * k;
+    let n = state[at + 3];
+    state[at + 4 + n as usize] = item;
+    state[at + 3] = n + 1;
 }
 
-pub fn pop_item(th: ThreadWords) -> ThreadWords
-    requires { ⌜ (0 < th .items) × (th .items ≤ 25) ⌝ }
-    ensures { λ r. ⌜ r ≡ popItem th ⌝ }
+pub fn pop_item(state: &mut [u64], k: usize)
+    requires { ⌜ (length (now state) ≡ 4818) × (k < 64) × (0 < threadIn (now state) k .items) × (threadIn (now state) k .items ≤ 25) ⌝ }
+    ensures { λ _. ⌜ now (state .exit) ≡ putThread (now (state .entry)) k (popItem (threadIn (now (state .entry)) k)) ⌝ }
 {
-    let n = th.items - 1;
-    let mut p = th.continuation;
-    p[n as usize] = 0;
-    let v = th.variables;
-    ThreadWords {
-        place: th.place,
-        starter: th.starter,
-        alive: th.alive,
-        items: n,
-        continuation: p,
-        values: th.values,
-        variables: v,
-    }
+    let at = 1042 + 55 * k;
+    let n = state[at + 3] - 1;
+    state[at + 4 + n as usize] = 0;
+    state[at + 3] = n;
 }
 
-pub fn push_value(th: ThreadWords, value: u64) -> ThreadWords
-    requires { ⌜ th .values < 25 ⌝ }
-    ensures { λ r. ⌜ r ≡ pushValue value th ⌝ }
+pub fn push_value(state: &mut [u64], k: usize, value: u64)
+    requires { ⌜ (length (now state) ≡ 4818) × (k < 64) × (threadIn (now state) k .values < 25) ⌝ }
+    ensures { λ _. ⌜ now (state .exit) ≡ putThread (now (state .entry)) k (pushValue value (threadIn (now (state .entry)) k)) ⌝ }
 {
-    let n = th.values;
-    let mut v = th.variables;
-    v[n as usize] = value;
-    let p = th.continuation;
-    ThreadWords {
-        place: th.place,
-        starter: th.starter,
-        alive: th.alive,
-        items: th.items,
-        continuation: p,
-        values: n + 1,
-        variables: v,
-    }
+    let at = 1042 + 55 * k;
+    let n = state[at + 29];
+    state[at + 30 + n as usize] = value;
+    state[at + 29] = n + 1;
 }
 
-pub fn pop_value(th: ThreadWords) -> ThreadWords
-    requires { ⌜ (0 < th .values) × (th .values ≤ 25) ⌝ }
-    ensures { λ r. ⌜ r ≡ popValue th ⌝ }
+pub fn pop_value(state: &mut [u64], k: usize)
+    requires { ⌜ (length (now state) ≡ 4818) × (k < 64) × (0 < threadIn (now state) k .values) × (threadIn (now state) k .values ≤ 25) ⌝ }
+    ensures { λ _. ⌜ now (state .exit) ≡ putThread (now (state .entry)) k (popValue (threadIn (now (state .entry)) k)) ⌝ }
 {
-    let n = th.values - 1;
-    let mut v = th.variables;
-    v[n as usize] = 0;
-    let p = th.continuation;
-    ThreadWords {
-        place: th.place,
-        starter: th.starter,
-        alive: th.alive,
-        items: th.items,
-        continuation: p,
-        values: n,
-        variables: v,
-    }
+    let at = 1042 + 55 * k;
+    let n = state[at + 29] - 1;
+    state[at + 30 + n as usize] = 0;
+    state[at + 29] = n;
 }
 
-pub fn move_to(th: ThreadWords, place: u64) -> ThreadWords
-    ensures { λ r. ⌜ r ≡ moveTo place th ⌝ }
+pub fn move_to(state: &mut [u64], k: usize, place: u64)
+    requires { ⌜ (length (now state) ≡ 4818) × (k < 64) ⌝ }
+    ensures { λ _. ⌜ now (state .exit) ≡ putThread (now (state .entry)) k (moveTo place (threadIn (now (state .entry)) k)) ⌝ }
 {
-    let p = th.continuation;
-    let v = th.variables;
-    ThreadWords {
-        place,
-        starter: th.starter,
-        alive: th.alive,
-        items: th.items,
-        continuation: p,
-        values: th.values,
-        variables: v,
-    }
+    state[1042 + 55 * k] = place;
+}
+
+// The thread as one that has ended.
+pub fn end_thread(state: &mut [u64], k: usize)
+    requires { ⌜ (length (now state) ≡ 4818) × (k < 64) ⌝ }
+    ensures { λ _. ⌜ now (state .exit) ≡ putThread (now (state .entry)) k (ended (threadIn (now (state .entry)) k)) ⌝ }
+{
+    state[1042 + 55 * k + 2] = 0;
 }

@@ -1,9 +1,9 @@
-// Threads of the lent words: a thread's 55 words as a struct by value, loaded, stored, and one more.
+// Threads of the lent words: a thread's variables loaded, and one more thread, whose 55 words are a struct by value.
 ghost use mathlib.Core.Path.{_≡_};
 ghost use Prim.Native.Nat.{_+_, _*_, _<_, _≤_};
 ghost use lib.ListN.{length, getD};
 ghost use Rattle.machine.specs.Blocks.{part, pasted};
-ghost use Rattle.states.specs.Threads.{fieldsAt, blockOf, withOneMore};
+ghost use Rattle.states.specs.Threads.{blockOf, threadIn, withOneMore};
 
 // Where it stands, which thread started it, 1 while it lives; its continuation from the bottom and its variables from
 // the first, each behind its length and with 0 behind its members.
@@ -42,23 +42,12 @@ fn store_run(w: &mut [u64], at: usize, a: [u64; 25])
     }
 }
 
-// Thread k, counted from 0: thread k + 1 of the state.
-pub fn load_thread(state: &[u64], k: usize) -> ThreadWords
+// The variables of thread k, counted from 0: thread k + 1 of the state.
+pub fn load_variables(state: &[u64], k: usize) -> [u64; 25]
     requires { ⌜ (length (now state) ≡ 4818) × (k < 64) ⌝ }
-    ensures { λ r. ⌜ r ≡ fieldsAt (now (state .entry)) (1042 + 55 * k) ⌝ }
+    ensures { λ r. ⌜ r ≡ threadIn (now (state .entry)) k .variables ⌝ }
 {
-    let at = 1042 + 55 * k;
-    let p = load_run(state, at + 4);
-    let v = load_run(state, at + 30);
-    ThreadWords {
-        place: state[at],
-        starter: state[at + 1],
-        alive: state[at + 2],
-        items: state[at + 3],
-        continuation: p,
-        values: state[at + 29],
-        variables: v,
-    }
+    load_run(state, 1042 + 55 * k + 30)
 }
 
 pub fn store_thread(state: &mut [u64], k: usize, th: ThreadWords)

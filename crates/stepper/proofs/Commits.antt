@@ -1,22 +1,21 @@
 -- What a commit does to the words it does to the state: each change, from `Says` to `Says`. Assumes nothing.
 use Prim.Native.Nat.{ℕ, zero, suc, _+_, _-_, _*_, _<_, _≤_}
 use mathlib.Core.Path.{_≡_, refl, sym, ap, _∙_, subst}
-use mathlib.Core.List.{List, [], _∷_, _++_}
+use mathlib.Core.List.{List, _++_}
 use mathlib.Core.Bool.{Bool, true, false, _&&_}
 use native.Mathlib.Omega.{arith}
 use lib.Dec.{ltb, leb}
 use lib.ListN.{length, getD, replicate, length-append, List·getD-append, List·getD-eq-default}
-use borrow.Author.Tests.{ltb-true, ltb-false, leb-true, le-leb}
+use borrow.Author.Tests.{ltb-true, ltb-false, leb-true}
 use Rattle.basics.proofs.Ifs.{if-all, if-yes, if-no, and-true}
-use Rattle.machine.specs.State.{State, Stored, Thread, Scheduler, Entry, noCell, schedulerAt, withThread, withCells, withScheduler, enlist}
+use Rattle.machine.specs.State.{State, Stored, Thread, Entry, noCell, schedulerAt, withThread, withCells, withScheduler, enlist}
 use Rattle.machine.specs.Turns.{Turn, isSchedulerOf, behindFirst, leave}
 use Rattle.machine.specs.Words.{entryWord, cellWord}
 use Rattle.machine.specs.Blocks.{pasted, cellWords}
 use Rattle.machine.proofs.WordLaws.{Says, is-pack, pasted-length, pasted-in, pasted-out}
 use Rattle.machine.proofs.Blocks.{put-cells, cells-length, cells-at}
 use Rattle.machine.proofs.Valid.{no-cell-word}
-use Rattle.states.specs.Threads.{wordsOf}
-use Rattle.states.specs.Lists.{withoutFirst, withLast}
+use Rattle.states.specs.Threads.{putThread, wordsOf}
 use Rattle.states.proofs.Bridge.{store-says}
 use Rattle.states.proofs.Schedulers.{room-says, leave-says, last-says}
 use Rattle.commits.specs.Commits.{clearedIn, settledIn, isList, leftIn, roomIn, joinedIn}
@@ -78,7 +77,7 @@ module _ (w : List ℕ) (s : State) (h : Says w s) where
     cells-in j l = pasted-in w 4562 (cellWords cs) 256 hd hs j l ∙ cells-at cs j l
 
     pub settled-says : (k : ℕ) (x : Thread) → k < 64 → k < length (s .threads) → Says (settledIn (withCellWords cs) k (wordsOf x) (length cs)) (withThread (suc k) x (withCells cs s))
-    unfolding settledIn
+    unfolding settledIn putThread
     settled-says k x a b = store-says _ (withCells cs s) (put-cells w s h cs) k x a b
 
     pub room-is : (q m : ℕ) → isList q ≡ true → q - 2 < length (s .schedulers) → roomIn (withCellWords cs) q m ≡ leb (length (schedulerAt s q .next) + m) 64

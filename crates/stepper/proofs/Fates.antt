@@ -1,11 +1,11 @@
 -- Each fate of a turn, committed on the words, is what the rules make of the state. Assumes nothing.
-use Prim.Native.Nat.{ℕ, zero, suc, _+_, _-_, _*_, _<_, _≤_}
+use Prim.Native.Nat.{ℕ, suc, _+_, _-_, _<_, _≤_}
 use mathlib.Core.Path.{_≡_, refl, sym, ap, ap₂, _∙_, subst}
-use mathlib.Core.List.{List, [], _∷_, _++_, map}
-use mathlib.Core.Bool.{Bool, true, false, not, _&&_}
+use mathlib.Core.List.{List}
+use mathlib.Core.Bool.{Bool, true, false, _&&_}
 use native.Mathlib.Omega.{arith}
-use lib.Dec.{ltb, leb, eqb}
-use lib.ListN.{length, getD, length-set}
+use lib.Dec.{leb, eqb}
+use lib.ListN.{length, length-set}
 use borrow.Author.Tests.{leb-true, le-leb}
 use Rattle.basics.specs.If.{if_then_else_}
 use Rattle.basics.proofs.Ifs.{if-all, if-yes, if-no, and-true}
@@ -13,21 +13,19 @@ use Rattle.language.specs.Places.{hasScheduler}
 use Rattle.language.specs.declared.frame.Frame.{Frame}
 use Rattle.program.specs.Programs.{Program}
 use Rattle.machine.specs.Accesses.{Access}
-use Rattle.machine.specs.State.{State, Stored, Thread, Entry, plain, schedulerAt, withScheduler, enlist}
+use Rattle.machine.specs.State.{State, Stored, Thread, Entry, plain, schedulerAt, enlist}
 use Rattle.machine.specs.Turns.{Stepped, Turn, refuse, accept, settled, isSchedulerOf, leave, room}
 use Rattle.machine.specs.Words.{pack, entryWord}
 use Rattle.machine.specs.Blocks.{pasted, cellWords}
 use Rattle.machine.specs.Calls.{Called, calledOf}
 use Rattle.machine.proofs.WordLaws.{Says, is-pack}
-use Rattle.machine.proofs.Shapes.{SchedulerFits, Shaped}
+use Rattle.machine.proofs.Shapes.{Shaped}
 use Rattle.machine.proofs.KeptShape.{FileFits, scheduler-fits, leave-next}
 use Rattle.states.specs.declared.thread.ThreadWords.{ThreadWords}
 use Rattle.states.specs.Threads.{wordsOf}
-use Rattle.acts.specs.declared.act.Fate.{Fate}
 use Rattle.acts.specs.declared.act.Fate.the-variants.{Stays, Leaves, Joins}
-use Rattle.acts.specs.declared.act.Acted.{Acted}
-use Rattle.acts.specs.Fates.{actedIn, refusedIn}
-use Rattle.commits.specs.Commits.{called, settledIn, isList, leftIn, roomIn, joinedIn, joinsIn, refusesIn, committedIn, clearedIn}
+use Rattle.acts.specs.Fates.{Turned, actedIn, refusedIn}
+use Rattle.commits.specs.Commits.{called, settledIn, isList, leftIn, roomIn, joinsIn, committedIn}
 use Rattle.stepper.proofs.Grows.{Grown}
 use Rattle.stepper.proofs.Commits.{left-says, joined-says, settled-says, room-is, cleared-is}
 
@@ -57,7 +55,7 @@ module _ {fs : List Frame} {P : Program} {n : ℕ} {w : List ℕ} {s : State} {c
   abbrev pub turnAt : Thread → List Stored → List Access → Turn
   turnAt x cs acc = record { program = P; state = s; choice = c; thread = suc k; self = x; cells = cs; accesses = acc }
 
-  abbrev pub commit : Acted → List Stored → Called
+  abbrev pub commit : Turned → List Stored → Called
   commit a cs = committedIn P (pasted w 4562 (cellWords cs) 256) (length (s .cells)) c (suc k) a (a .fate)
 
   -- ---- what holds of lists

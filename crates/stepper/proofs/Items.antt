@@ -1,17 +1,12 @@
 -- A thread's turn, on words, comes to what the rules say of its top item. Assumes nothing.
-use Prim.Native.Nat.{ℕ, zero, suc, _+_, _-_, _<_, _≤_}
-use mathlib.Core.Path.{_≡_, refl, sym, ap, ap₂, _∙_, subst}
+use Prim.Native.Nat.{ℕ, zero, suc, _<_, _≤_}
+use mathlib.Core.Path.{_≡_, refl, sym, ap, _∙_, subst}
 use mathlib.Core.List.{List, [], _∷_, _++_, map}
-use mathlib.Core.Bool.{Bool, true, false, not, _&&_}
+use mathlib.Core.Bool.{Bool, true, false}
 use native.Mathlib.Omega.{arith}
-use lib.Dec.{ltb, leb, eqb}
-use lib.ListN.{length, getD, take, length-map}
+use lib.ListN.{length, take, length-map}
 use lib.Seq.{ext-getD, getD-take, length-take-le}
-use borrow.Author.Tests.{lt-ltb, le-ltb, eq-eqb, ne-eqb}
-use Rattle.basics.specs.If.{if_then_else_}
 use Rattle.basics.specs.Members.{All, none, more}
-use Rattle.basics.proofs.Ifs.{if-all, if-yes, if-no}
-use Rattle.language.specs.Places.{hasPlace}
 use Rattle.language.specs.declared.kind.StatementKind.{StatementKind}
 use Rattle.language.specs.declared.kind.StatementKind.the-variants as K
 use Rattle.language.specs.declared.kind.Kind.{Kind}
@@ -20,11 +15,10 @@ use Rattle.language.specs.declared.frame.Frame.{Frame}
 use Rattle.program.specs.Trees.{Expr, Stmt, nothing, seq, doAt, start, startWait, cooperate, letIn, store, ifElse, while, rootS, frameAt, arguments, statementWith, statementOf, statementTo, statementAt, expressionAt}
 use Rattle.program.specs.Programs.{Program}
 use Rattle.machine.specs.Accesses.{Access}
-use Rattle.machine.specs.State.{State, Stored, Thread, Item, run, back, drop, threadAt}
+use Rattle.machine.specs.State.{State, Stored, Thread, run, drop}
 use Rattle.machine.specs.Evaluation.{Here, Evaluated, Evaluation, eval, storing}
-use Rattle.machine.specs.Turns.{Stepped, Turn, here, continuation, variables, refuse, accept, evaluator, behind, goOn, withValue, withValues, byCondition, stay, settled, leave}
-use Rattle.machine.specs.Statements.{ends, drops, goesBack, stepNothing, stepSeq, stepStart, stepStartWait, stepLet, stepStore, stepIf, stepWhile, starting, startedWait, withStarted, stepStatement}
-use Rattle.machine.specs.Steps.{turn, stepItems, stepThread}
+use Rattle.machine.specs.Turns.{Stepped, Turn, continuation, variables, accept, evaluator, behind, goOn, withValue, withValues, byCondition, stay, settled}
+use Rattle.machine.specs.Statements.{stepNothing, stepSeq, stepStart, stepStartWait, stepLet, stepStore, stepIf, stepWhile, starting, startedWait, withStarted, stepStatement}
 use Rattle.machine.specs.Words.{itemWord, valueWord, wordValue}
 use Rattle.machine.specs.Blocks.{pasted, padded, cellWords}
 use Rattle.machine.specs.Calls.{Called, calledOf}
@@ -34,23 +28,20 @@ use Rattle.machine.specs.declared.value.Outcome.{Outcome}
 use Rattle.machine.specs.declared.value.Outcome.the-variants.{Is, Foreign, Spent, Stuck}
 use Rattle.machine.proofs.Padded.{padded-length, padded-at}
 use Rattle.machine.proofs.Round.{value-back, map-back}
-use Rattle.machine.proofs.Shapes.{ValueFits, ItemFits, run-fits, back-fits, drop-fits, ThreadFits}
-use Rattle.machine.proofs.KeptCells.{CellsFit, HereFits, ExprFits, OutcomeFits, is-value, EvalFits, fit-eval, fit-storing}
-use Rattle.machine.proofs.KeptShape.{FileFits, Parts, of-nothing, of-cooperate, of-seq, of-do, of-start, of-wait, of-let, of-store, of-if, of-while, parts-of}
+use Rattle.machine.proofs.Shapes.{ValueFits, ThreadFits}
+use Rattle.machine.proofs.KeptCells.{CellsFit, HereFits, ExprFits, OutcomeFits, EvalFits, fit-eval, fit-storing}
+use Rattle.machine.proofs.KeptShape.{Parts, of-nothing, of-cooperate, of-seq, of-do, of-start, of-wait, of-let, of-store, of-if, of-while}
 use Rattle.evaluator.specs.declared.operation.Who.{Who}
-use Rattle.evaluator.specs.Results.{Result, hereOf, resultOf, onWords, cellsFrom}
+use Rattle.evaluator.specs.Results.{Result, hereOf, resultOf, onWords}
 use Rattle.evaluator.proofs.Holding.{Holds, holds-cells}
-use Rattle.states.specs.declared.thread.ThreadWords.{ThreadWords}
 use Rattle.states.specs.Threads.{wordsOf}
-use Rattle.acts.specs.declared.act.Fate.the-variants.{Stays, Leaves}
-use Rattle.acts.specs.declared.act.Acted.{Acted}
-use Rattle.acts.specs.Fates.{actedIn, refusedIn, endedIn}
-use Rattle.turns.specs.Acts.{ActedOn, actedOn, thenActs, thenOn, byTruthIn, oneIn, twoIn, letsIn, letsOn, storesOn, choosesOn, loopsOn, variablesIn, evaluatedIn, storedIn, request, startsWith, startsIn, oneArgument, lastArgument, twoArguments, statementIn}
+use Rattle.acts.specs.Fates.{Turned}
+use Rattle.turns.specs.Acts.{ActedOn, actedOn, thenActs, thenOn, byTruthIn, letsOn, storesOn, choosesOn, loopsOn, variablesIn, evaluatedIn, storedIn, request, startsIn, oneArgument, lastArgument, twoArguments, statementIn}
 use Rattle.commits.specs.Commits.{committedIn}
 use Rattle.stepper.proofs.Grows.{Grown, grown-on, grows-eval, UnlessValue, grows-storing}
-use Rattle.stepper.proofs.Fates.{Acts, turnAt, commit, refuse-is, stays-is, leaves-is}
+use Rattle.stepper.proofs.Fates.{Acts, turnAt, commit, refuse-is}
 use Rattle.stepper.proofs.StartFates.{argued, start-commits, started-is, waits-is}
-use Rattle.stepper.proofs.Moves.{stay-none, stay-one, stay-two, stay-let, drops-is, goes-is, does-is, cooperates-is}
+use Rattle.stepper.proofs.Moves.{stay-none, stay-one, stay-two, stay-let, does-is, cooperates-is}
 
 pub take-padded : (n : ℕ) (ws : List ℕ) → length ws ≤ n → take (length ws) (padded n ws) ≡ ws
 take-padded n ws h =
@@ -105,7 +96,7 @@ short-at fs i = of (frameAt fs i .kind)
 -- who acts
 pub record Is-who (P : Program) (k : ℕ) (x : Thread) (who : Who) : Type 0 where
   pub thread : who .thread ≡ suc k
-  pub place : who .place ≡ x .place
+  pub place : who .place .number ≡ x .place
   pub shared : who .shared ≡ length (P .shared)
 
 module _ {fs : List Frame} {P : Program} {n : ℕ} {w : List ℕ} {s : State} {c k : ℕ} (A : Acts fs P n w s c k) (x : Thread) (X : ThreadFits fs n x) (who : Who) (W : Is-who P k x who) where
@@ -141,14 +132,14 @@ module _ {fs : List Frame} {P : Program} {n : ℕ} {w : List ℕ} {s : State} {c
 
   -- ---- behind an evaluation
   module _ (cs : List Stored) (acc : List Access) (l : length cs ≤ 256) where
-    then-is : (o : Outcome) (K : Value → Acted) (F : Value → Turn → Stepped) → UnlessValue o (Grown (s .cells) cs) → ((v : Value) → o ≡ Is v → commit A (K v) cs ≡ calledOf w (F v (turnAt A x cs acc)))
+    then-is : (o : Outcome) (K : Value → Turned) (F : Value → Turn → Stepped) → UnlessValue o (Grown (s .cells) cs) → ((v : Value) → o ≡ Is v → commit A (K v) cs ≡ calledOf w (F v (turnAt A x cs acc)))
         → commit A (thenActs o (wordsOf x) (length cs) K) cs ≡ calledOf w (goOn (turnAt A x cs acc) o F)
     then-is (Is v) K F g f = f v refl
     then-is Foreign K F g f = refuse-is A x cs acc 19 (wordsOf x) g l refl
     then-is Spent K F g f = refuse-is A x cs acc 17 (wordsOf x) g l refl
     then-is Stuck K F g f = refuse-is A x cs acc 20 (wordsOf x) g l refl
 
-    by-truth : (v : Value) (a b : Acted) (y z : Stepped) → Grown (s .cells) cs → commit A a cs ≡ calledOf w y → commit A b cs ≡ calledOf w z
+    by-truth : (v : Value) (a b : Turned) (y z : Stepped) → Grown (s .cells) cs → commit A a cs ≡ calledOf w y → commit A b cs ≡ calledOf w z
         → commit A (byTruthIn v (wordsOf x) (length cs) a b) cs ≡ calledOf w (byCondition (turnAt A x cs acc) v y z)
     by-truth (Truth true) a b y z g f h = f
     by-truth (Truth false) a b y z g f h = h
@@ -176,7 +167,7 @@ module _ {fs : List Frame} {P : Program} {n : ℕ} {w : List ℕ} {s : State} {c
       grown : Grown (s .cells) (eval (evaluator (turnAt A x cs acc)) e cs .cells)
       grown = grown-on g (grows-eval (evaluator u) e cs)
 
-      value-is : (On : Result → ActedOn) (K : Value → Acted) (F : Value → Turn → Stepped)
+      value-is : (On : Result → ActedOn) (K : Value → Turned) (F : Value → Turn → Stepped)
           → On (resultOf (eval (evaluator (turnAt A x cs acc)) e cs)) ≡ actedOn (thenActs (eval (evaluator (turnAt A x cs acc)) e cs .outcome) (wordsOf x) (length (eval (evaluator (turnAt A x cs acc)) e cs .cells)) K) (cellWords (eval (evaluator (turnAt A x cs acc)) e cs .cells))
           → ((v : Value) → OutcomeFits (Is v) → commit A (K v) (eval (evaluator (turnAt A x cs acc)) e cs .cells) ≡ calledOf w (F v (behind (turnAt A x cs acc) (eval (evaluator (turnAt A x cs acc)) e cs))))
           → commitOn (On (evaluatedIn who (wordsOf x) e (length cs) (cellWords cs))) ≡ calledOf w (withValue (turnAt A x cs acc) (λ h. eval h e) F)

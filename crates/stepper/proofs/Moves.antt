@@ -1,6 +1,6 @@
 -- A turn without an evaluation, on words, comes to what the rules say: items and variables more or less, moves. Assumes nothing.
-use Prim.Native.Nat.{ℕ, zero, suc, _+_, _-_, _<_, _≤_}
-use mathlib.Core.Path.{_≡_, refl, sym, ap, ap₂, _∙_, subst}
+use Prim.Native.Nat.{ℕ, suc, _+_, _-_, _<_, _≤_}
+use mathlib.Core.Path.{_≡_, refl, sym, ap, ap₂, _∙_}
 use mathlib.Core.List.{List, [], _∷_, _++_}
 use mathlib.Core.Bool.{Bool, true, false, not, _&&_}
 use native.Mathlib.Omega.{arith}
@@ -16,7 +16,7 @@ use Rattle.program.specs.Trees.{Stmt, rootS}
 use Rattle.program.specs.Programs.{Program}
 use Rattle.machine.specs.Accesses.{Access}
 use Rattle.machine.specs.State.{State, Stored, Thread, Item, run, back, drop, plain, enlist}
-use Rattle.machine.specs.Turns.{Stepped, Turn, here, continuation, variables, unlinkedHere, refuse, accept, selfAt, settled, leave, room, fits, stay, move, goTo}
+use Rattle.machine.specs.Turns.{Stepped, Turn, here, continuation, variables, refuse, accept, selfAt, settled, leave, room, fits, stay, move, goTo}
 use Rattle.machine.specs.Statements.{drops, stepDo, stepCooperate}
 use Rattle.machine.specs.Words.{itemWord, valueWord}
 use Rattle.machine.specs.Calls.{calledOf}
@@ -25,11 +25,10 @@ use Rattle.machine.specs.declared.value.Value.the-variants.{Number}
 use Rattle.machine.proofs.Shapes.{ThreadFits}
 use Rattle.states.specs.declared.thread.ThreadWords.{ThreadWords}
 use Rattle.states.specs.Threads.{wordsOf}
-use Rattle.states.specs.Stacks.{pushItem, popValue, moveTo}
-use Rattle.states.proofs.StackLaws.{push-item-is, push-value-is, pop-value-is, move-is}
+use Rattle.states.specs.Stacks.{pushItem, pushValue, popValue, moveTo}
+use Rattle.states.proofs.StackLaws.{push-item-is, push-value-is, pop-value-is}
 use Rattle.acts.specs.declared.act.Fate.the-variants.{Stays, Leaves, Joins}
-use Rattle.acts.specs.declared.act.Acted.{Acted}
-use Rattle.acts.specs.Fates.{actedIn, refusedIn}
+use Rattle.acts.specs.Fates.{Turned, actedIn, refusedIn}
 use Rattle.turns.specs.Acts.{oneIn, twoIn, letsIn, dropsIn, goesIn, doesIn, cooperatesIn}
 use Rattle.stepper.proofs.Grows.{Grown}
 use Rattle.stepper.proofs.Fates.{Acts, turnAt, commit, refuse-is, stays-is, leaves-is, joins-is}
@@ -93,7 +92,7 @@ module _ {fs : List Frame} {P : Program} {n : ℕ} {w : List ℕ} {s : State} {c
     pub stay-one : (i : Item) → commit A (oneIn (wordsOf x) (length cs) (itemWord i)) cs ≡ calledOf w (stay (turnAt A x cs acc) (i ∷ x .continuation) (x .variables))
     unfolding oneIn
     stay-one i =
-        if-all (λ (a : Acted). commit A a cs ≡ calledOf w (stay u (i ∷ items) vars)) (leb 25 (length (x .continuation))) _ _
+        if-all (λ (a : Turned). commit A a cs ≡ calledOf w (stay u (i ∷ items) vars)) (leb 25 (length (x .continuation))) _ _
         (λ e. let h = leb-true 25 (length (x .continuation)) e in no-stay (wordsOf x) (i ∷ items) vars (fits-items (i ∷ items) vars (omega arith)))
         (λ e. let h = leb-false 25 (length (x .continuation)) e in
         yes-stay (pushItem (itemWord i) (wordsOf x)) (i ∷ items) vars (fits-yes (i ∷ items) vars (omega arith) (X .variables-room)) (push-item-is x i h))
@@ -103,7 +102,7 @@ module _ {fs : List Frame} {P : Program} {n : ℕ} {w : List ℕ} {s : State} {c
         → commit A (twoIn (wordsOf (self (x .place) (x .continuation) vs)) (length cs) (itemWord i) (itemWord j)) cs ≡ calledOf w (stay (turnAt A x cs acc) (i ∷ j ∷ x .continuation) vs)
     unfolding twoIn
     stay-two vs b i j =
-        if-all (λ (a : Acted). commit A a cs ≡ calledOf w (stay u (i ∷ j ∷ items) vs)) (leb 24 (length (x .continuation))) _ _
+        if-all (λ (a : Turned). commit A a cs ≡ calledOf w (stay u (i ∷ j ∷ items) vs)) (leb 24 (length (x .continuation))) _ _
         (λ e. let h = leb-true 24 (length (x .continuation)) e in no-stay (wordsOf (self (x .place) items vs)) (i ∷ j ∷ items) vs (fits-items (i ∷ j ∷ items) vs (omega arith)))
         (λ e. let h = leb-false 24 (length (x .continuation)) e in
         yes-stay (pushItem (itemWord i) (pushItem (itemWord j) (wordsOf (self (x .place) items vs)))) (i ∷ j ∷ items) vs (fits-yes (i ∷ j ∷ items) vs (omega arith) b)
@@ -114,11 +113,19 @@ module _ {fs : List Frame} {P : Program} {n : ℕ} {w : List ℕ} {s : State} {c
         → commit A (letsIn (wordsOf x) (length cs) (valueWord v) (rootS a)) cs ≡ calledOf w (stay (turnAt A x cs acc) (run a ∷ drop ∷ x .continuation) (x .variables ++ (v ∷ [])))
     unfolding letsIn itemWord
     stay-let v a =
-        if-all (λ (y : Acted). commit A y cs ≡ calledOf w (stay u (run a ∷ drop ∷ items) (vars ++ (v ∷ [])))) (leb 25 (length (x .variables))) _ _
+        if-all (λ (y : Turned). commit A y cs ≡ calledOf w (stay u (run a ∷ drop ∷ items) (vars ++ (v ∷ [])))) (leb 25 (length (x .variables))) _ _
         (λ e. let h = leb-true 25 (length (x .variables)) e in let z = length-append vars (v ∷ []) in
         no-stay (wordsOf x) (run a ∷ drop ∷ items) (vars ++ (v ∷ [])) (fits-vars (run a ∷ drop ∷ items) (vars ++ (v ∷ [])) (omega arith)))
         (λ e. let h = leb-false 25 (length (x .variables)) e in let z = length-append vars (v ∷ []) in
-        ap (λ (th : ThreadWords). commit A (twoIn th (length cs) (rootS a) 2048) cs) (push-value-is x v h) ∙ stay-two (vars ++ (v ∷ [])) (omega arith) (run a) drop)
+        if-all (λ (y : Turned). commit A y cs ≡ calledOf w (stay u (run a ∷ drop ∷ items) (vars ++ (v ∷ [])))) (leb 24 (length (x .continuation))) _ _
+        (λ f. let g = leb-true 24 (length (x .continuation)) f in
+        no-stay (wordsOf x) (run a ∷ drop ∷ items) (vars ++ (v ∷ [])) (fits-items (run a ∷ drop ∷ items) (vars ++ (v ∷ [])) (omega arith)))
+        (λ f. let g = leb-false 24 (length (x .continuation)) f in
+        yes-stay (pushItem (rootS a) (pushItem 2048 (pushValue (valueWord v) (wordsOf x)))) (run a ∷ drop ∷ items) (vars ++ (v ∷ []))
+        (fits-yes (run a ∷ drop ∷ items) (vars ++ (v ∷ [])) (omega arith) (omega arith))
+        (ap (λ (th : ThreadWords). pushItem (rootS a) (pushItem 2048 th)) (push-value-is x v h)
+        ∙ ap (pushItem (rootS a)) (push-item-is (self (x .place) items (vars ++ (v ∷ []))) drop (omega arith))
+        ∙ push-item-is (self (x .place) (drop ∷ items) (vars ++ (v ∷ []))) (run a) (omega arith))))
 
     -- a drop
     pub drops-is : commit A (dropsIn (wordsOf x) (length cs)) cs ≡ calledOf w (drops (turnAt A x cs acc))
@@ -140,10 +147,10 @@ module _ {fs : List Frame} {P : Program} {n : ℕ} {w : List ℕ} {s : State} {c
         go : (b : Bool) → eqb (length (x .variables)) 0 ≡ b
             → commit A (if eqb (length (x .variables)) 0 then refusedIn 20 (wordsOf x) (length cs) else actedIn Stays (popValue (wordsOf x)) (length cs)) cs
             ≡ calledOf w (if eqb (length (x .variables)) 0 then refuse (turnAt A x cs acc) 20 else stay (turnAt A x cs acc) (x .continuation) (take (length (x .variables) - 1) (x .variables)))
-        go true e = ap (λ (a : Acted). commit A a cs) (if-yes _ _ e) ∙ no (wordsOf x) ∙ ap (calledOf w) (sym (if-yes _ _ e))
+        go true e = ap (λ (a : Turned). commit A a cs) (if-yes _ _ e) ∙ no (wordsOf x) ∙ ap (calledOf w) (sym (if-yes _ _ e))
         go false e =
             let h = eqb-false (length (x .variables)) 0 e in let r = X .variables-room in let z = fewer in
-            ap (λ (a : Acted). commit A a cs) (if-no _ _ e)
+            ap (λ (a : Turned). commit A a cs) (if-no _ _ e)
             ∙ yes-stay (popValue (wordsOf x)) items rest (fits-yes items rest (X .items-room) (omega arith)) (popped (omega arith))
             ∙ ap (calledOf w) (sym (if-no _ _ e))
 
@@ -181,7 +188,7 @@ module _ {fs : List Frame} {P : Program} {n : ℕ} {w : List ℕ} {s : State} {c
         th : ThreadWords
         th = wordsOf (self (x .place) is (x .variables))
 
-        G : Acted → Stepped → Type 0
+        G : Turned → Stepped → Type 0
         G a r = commit A a cs ≡ calledOf w r
 
         gone : Stepped
@@ -190,12 +197,12 @@ module _ {fs : List Frame} {P : Program} {n : ℕ} {w : List ℕ} {s : State} {c
         go : (b d : Bool) → eqb q (x .place) ≡ b → eqb q private ≡ d
             → commit A (if eqb q (x .place) then actedIn Stays th (length cs) else if eqb q 1 then actedIn Leaves (moveTo q th) (length cs) else actedIn (Joins q) (moveTo q th) (length cs)) cs
             ≡ calledOf w (if eqb q (x .place) then stay (turnAt A x cs acc) is (x .variables) else move (turnAt A x cs acc) q is)
-        go true d e z = ap (λ (a : Acted). commit A a cs) (if-yes _ _ e) ∙ yes-stay th is vars f refl ∙ ap (calledOf w) (sym (if-yes _ _ e))
+        go true d e z = ap (λ (a : Turned). commit A a cs) (if-yes _ _ e) ∙ yes-stay th is vars f refl ∙ ap (calledOf w) (sym (if-yes _ _ e))
         go false true e z =
-            ap (λ (a : Acted). commit A a cs) (if-no _ _ e ∙ if-yes _ _ z) ∙ leaves-is A x cs acc (self q is vars)
+            ap (λ (a : Turned). commit A a cs) (if-no _ _ e ∙ if-yes _ _ z) ∙ leaves-is A x cs acc (self q is vars)
             ∙ ap (calledOf w) (sym (if-no _ _ e ∙ move-fits q is f ∙ if-yes _ _ z))
         go false false e z =
-            ap (λ (a : Acted). commit A a cs) (if-no _ _ e ∙ if-no _ _ z) ∙ joins-is A x cs acc (self q is vars) q (scheduler-of q p z) g l
+            ap (λ (a : Turned). commit A a cs) (if-no _ _ e ∙ if-no _ _ z) ∙ joins-is A x cs acc (self q is vars) q (scheduler-of q p z) g l
             ∙ ap (calledOf w) (sym (if-no _ _ e ∙ move-fits q is f ∙ if-no _ _ z))
 
     -- 12
@@ -212,13 +219,13 @@ module _ {fs : List Frame} {P : Program} {n : ℕ} {w : List ℕ} {s : State} {c
         go : (b d : Bool) → (eqb (x .place) 1 && eqb q 1) ≡ b → leb 24 (length (x .continuation)) ≡ d
             → commit A (if eqb (x .place) 1 && eqb q 1 then refusedIn 20 (wordsOf x) (length cs) else if leb 24 (length (x .continuation)) then refusedIn 20 (wordsOf x) (length cs) else goesIn (x .place) th (length cs) q) cs
             ≡ calledOf w (if eqb (x .place) 1 && eqb q 1 then refuse (turnAt A x cs acc) 20 else goTo (turnAt A x cs acc) q is)
-        go true d e z = ap (λ (y : Acted). commit A y cs) (if-yes _ _ e) ∙ no (wordsOf x) ∙ ap (calledOf w) (sym (if-yes _ _ e))
+        go true d e z = ap (λ (y : Turned). commit A y cs) (if-yes _ _ e) ∙ no (wordsOf x) ∙ ap (calledOf w) (sym (if-yes _ _ e))
         go false true e z =
             let h = leb-true 24 (length (x .continuation)) z in
-            ap (λ (y : Acted). commit A y cs) (if-no _ _ e ∙ if-yes _ _ z) ∙ no (wordsOf x) ∙ ap (calledOf w) (sym (if-no _ _ e ∙ go-full q is (fits-items is vars (omega arith))))
+            ap (λ (y : Turned). commit A y cs) (if-no _ _ e ∙ if-yes _ _ z) ∙ no (wordsOf x) ∙ ap (calledOf w) (sym (if-no _ _ e ∙ go-full q is (fits-items is vars (omega arith))))
         go false false e z =
             let h = leb-false 24 (length (x .continuation)) z in
-            ap (λ (y : Acted). commit A y cs) (if-no _ _ e ∙ if-no _ _ z)
+            ap (λ (y : Turned). commit A y cs) (if-no _ _ e ∙ if-no _ _ z)
             ∙ ap (λ (y : ThreadWords). commit A (goesIn (x .place) y (length cs) q) cs)
             (ap (pushItem (rootS a)) (push-item-is x (back (x .place)) (omega arith)) ∙ push-item-is (self (x .place) (back (x .place) ∷ items) vars) (run a) (omega arith))
             ∙ goes-is q is p (omega arith) ∙ ap (calledOf w) (sym (if-no _ _ e))
@@ -233,6 +240,6 @@ module _ {fs : List Frame} {P : Program} {n : ℕ} {w : List ℕ} {s : State} {c
 
         go : (b : Bool) → eqb (x .place) private ≡ b
             → commit A (if eqb (x .place) 1 then refusedIn 20 (wordsOf x) (length cs) else actedIn (Joins (x .place)) (wordsOf x) (length cs)) cs ≡ calledOf w (if eqb (x .place) private then refuse (turnAt A x cs acc) 20 else next)
-        go true e = ap (λ (y : Acted). commit A y cs) (if-yes _ _ e) ∙ no (wordsOf x) ∙ ap (calledOf w) (sym (if-yes _ _ e))
+        go true e = ap (λ (y : Turned). commit A y cs) (if-yes _ _ e) ∙ no (wordsOf x) ∙ ap (calledOf w) (sym (if-yes _ _ e))
         go false e =
-            ap (λ (y : Acted). commit A y cs) (if-no _ _ e) ∙ joins-is A x cs acc x (x .place) (scheduler-of (x .place) (X .place) e) g l ∙ ap (calledOf w) (sym (if-no _ _ e))
+            ap (λ (y : Turned). commit A y cs) (if-no _ _ e) ∙ joins-is A x cs acc x (x .place) (scheduler-of (x .place) (X .place) e) g l ∙ ap (calledOf w) (sym (if-no _ _ e))

@@ -1,22 +1,21 @@
 -- The party that a choice names, on words known to be good. Assumes nothing.
-use Prim.Native.Nat.{ℕ, zero, suc, _+_, _-_, _*_, _<_, _≤_}
+use Prim.Native.Nat.{ℕ, _+_, _-_, _*_, _<_, _≤_}
 use mathlib.Core.Path.{_≡_, refl, sym, ap, ap₂, _∙_, subst}
 use mathlib.Core.List.{List, [], _∷_}
-use mathlib.Core.Bool.{Bool, true, false, not, _&&_}
+use mathlib.Core.Bool.{Bool, true, false, _&&_}
 use native.Mathlib.Omega.{arith}
-use lib.Dec.{leb, eqb}
+use lib.Dec.{leb}
 use lib.ListN.{length, getD}
 use borrow.Author.Tests.{leb-true, le-leb, lt-leb}
-use Rattle.basics.specs.If.{if_then_else_}
-use Rattle.basics.specs.Members.{All, none, more}
+use Rattle.basics.specs.Members.{All, more}
 use Rattle.basics.proofs.Ifs.{if-yes, if-no, and-true}
 use Rattle.language.specs.Places.{hasScheduler}
 use Rattle.text.specs.Frames.{framesOf}
 use Rattle.program.specs.Programs.{Program, programOf}
-use Rattle.machine.specs.State.{State, Entry, schedulerAt, withScheduler, threadAt}
+use Rattle.machine.specs.State.{State, schedulerAt, withScheduler}
 use Rattle.machine.specs.Waits.{readyThreads, stillWaiting}
-use Rattle.machine.specs.Turns.{Stepped, isSchedulerOf}
-use Rattle.machine.specs.Steps.{stepThread, nobody, turnInstant, endInstant, stepScheduler, threadChosen, isUnlinked, step}
+use Rattle.machine.specs.Turns.{isSchedulerOf}
+use Rattle.machine.specs.Steps.{stepThread, turnInstant, endInstant, stepScheduler, isUnlinked, step}
 use Rattle.machine.specs.Words.{pack, wordsAt}
 use Rattle.machine.specs.Calls.{Called, calledOf, stepCall}
 use Rattle.machine.proofs.WordLaws.{is-pack}

@@ -1,14 +1,14 @@
 -- A start, committed on the words, is what the rules make of the state. Assumes nothing.
 use Prim.Native.Nat.{ℕ, zero, suc, _+_, _-_, _*_, _<_, _≤_}
-use mathlib.Core.Path.{_≡_, refl, sym, ap, ap₂, _∙_, subst}
-use mathlib.Core.List.{List, [], _∷_, map, reverse}
+use mathlib.Core.Path.{_≡_, refl, sym, ap, ap₂, _∙_}
+use mathlib.Core.List.{List, [], _∷_, map}
 use mathlib.Core.Bool.{Bool, true, false, not, _&&_}
 use native.Mathlib.Omega.{arith}
 use native.Mathlib.Numerals.{add-one}
 use lib.Dec.{ltb, leb, eqb}
 use lib.ListN.{length, getD}
 use lib.Seq.{ext-getD}
-use borrow.Author.Tests.{leb-true, leb-false, le-leb, lt-leb, le-ltb, lt-ltb, eqb-true, eqb-false, eq-eqb, ne-eqb}
+use borrow.Author.Tests.{leb-true, leb-false, le-leb, le-ltb, lt-ltb, eqb-true, eqb-false, eq-eqb, ne-eqb}
 use Rattle.basics.specs.If.{if_then_else_}
 use Rattle.basics.proofs.Ifs.{if-all, if-yes, if-no, and-true}
 use Rattle.language.specs.Places.{hasPlace, hasScheduler}
@@ -17,23 +17,23 @@ use Rattle.program.specs.Trees.{rootS}
 use Rattle.program.specs.Programs.{Program, moduleAt}
 use Rattle.machine.specs.Accesses.{Access}
 use Rattle.machine.specs.State.{State, Stored, Thread, plain, waiting, schedulerAt, withNew, enlist}
-use Rattle.machine.specs.Turns.{Stepped, Turn, here, unlinkedHere, refuse, accept, settled, leave, room}
-use Rattle.machine.specs.Statements.{started, newThread, withStarted, starting, startedWait}
-use Rattle.machine.specs.Words.{pack, itemWord, valueWord, entryWord}
+use Rattle.machine.specs.Turns.{Stepped, Turn, unlinkedHere, refuse, accept, settled, leave, room}
+use Rattle.machine.specs.Statements.{started, withStarted, starting, startedWait}
+use Rattle.machine.specs.Words.{itemWord, valueWord, entryWord}
 use Rattle.machine.specs.Blocks.{pasted, padded, cellWords}
-use Rattle.machine.specs.Calls.{Called, calledOf}
+use Rattle.machine.specs.Calls.{calledOf}
 use Rattle.machine.specs.declared.value.Value.{Value}
 use Rattle.machine.proofs.WordLaws.{Says, is-pack}
 use Rattle.machine.proofs.Padded.{padded-length, padded-at}
 use Rattle.machine.proofs.Space.{leave-threads}
-use Rattle.machine.proofs.KeptShape.{FileFits, leave-next, enlist-next, settled-length}
+use Rattle.machine.proofs.KeptShape.{leave-next, enlist-next, settled-length}
 use Rattle.states.specs.declared.thread.ThreadWords.{ThreadWords}
 use Rattle.states.specs.Threads.{wordsOf, withOneMore}
 use Rattle.states.proofs.Bridge.{add-says}
-use Rattle.acts.specs.declared.act.Acted.{Acted}
+use Rattle.acts.specs.Fates.{Turned}
 use Rattle.turns.specs.Acts.{startsWith, request}
 use Rattle.commits.specs.Modules.{foundIn}
-use Rattle.commits.specs.Commits.{called, settledIn, isList, leftIn, roomIn, joinedIn, newIn, obstacleIn, refusesIn, startsIn, startedIn, waitingIn, committedIn}
+use Rattle.commits.specs.Commits.{called, settledIn, isList, leftIn, roomIn, joinedIn, newIn, obstacleIn, refusesIn, startsIn, startedIn, waitingIn}
 use Rattle.stepper.proofs.Grows.{Grown}
 use Rattle.stepper.proofs.Commits.{cells-out, joined-says, room-is}
 use Rattle.stepper.proofs.Fates.{Acts, turnAt, commit, list-there, leave-count, enlist-count, refuse-is, settled-is, left-is}
@@ -76,7 +76,7 @@ module _ {fs : List Frame} {P : Program} {n : ℕ} {w : List ℕ} {s : State} {c
   v = pasted w 4562 (cellWords cs) 256
 
   -- the turn's words, with those arguments
-  abbrev pub argued : Bool → ℕ → List Value → Acted
+  abbrev pub argued : Bool → ℕ → List Value → Turned
   argued waits m vs =
       startsWith (request waits m) (wordsOf x) (length cs) (length vs) (getD (map valueWord vs) 0 0) (getD (map valueWord vs) 1 0)
 

@@ -1,21 +1,17 @@
 -- A whole turn of a thread that is there: its words committed are the step of the rules. Assumes nothing.
-use Prim.Native.Nat.{ℕ, zero, suc, _+_, _-_, _<_, _≤_}
+use Prim.Native.Nat.{ℕ, suc, _+_, _-_, _<_, _≤_}
 use mathlib.Core.Path.{_≡_, refl, sym, ap, ap₂, _∙_, subst}
 use mathlib.Core.List.{List, [], _∷_}
-use mathlib.Core.Bool.{Bool, true, false}
+use mathlib.Core.Bool.{true}
 use native.Mathlib.Omega.{arith}
-use lib.Dec.{ltb, eqb}
-use lib.ListN.{length, getD}
+use lib.ListN.{length}
 use borrow.Author.Tests.{lt-ltb, le-ltb, ne-eqb}
-use Rattle.basics.specs.If.{if_then_else_}
-use Rattle.basics.specs.Members.{All, none, more}
+use Rattle.basics.specs.Members.{All, more}
 use Rattle.basics.proofs.Ifs.{if-yes, if-no}
-use Rattle.language.specs.Places.{hasPlace}
 use Rattle.language.specs.declared.frame.Frame.{Frame}
 use Rattle.program.specs.Trees.{Stmt, rootS, statementAt}
 use Rattle.program.specs.Programs.{Program}
-use Rattle.machine.specs.State.{State, Stored, Thread, Item, run, back, drop, noThread, threadAt}
-use Rattle.machine.specs.Turns.{Turn}
+use Rattle.machine.specs.State.{State, Thread, Item, run, back, drop, threadAt}
 use Rattle.machine.specs.Statements.{ends, goesBack}
 use Rattle.machine.specs.Steps.{stepItems, stepThread}
 use Rattle.machine.specs.Words.{itemWord}
@@ -27,12 +23,12 @@ use Rattle.machine.proofs.KeptShape.{parts-of}
 use Rattle.evaluator.specs.declared.operation.Who.{Who}
 use Rattle.states.specs.declared.thread.ThreadWords.{ThreadWords}
 use Rattle.states.specs.Threads.{wordsOf}
-use Rattle.states.specs.Stacks.{popItem}
 use Rattle.states.proofs.StackLaws.{withContinuation, pop-item-is, top-item-is}
-use Rattle.turns.specs.Acts.{ActedOn, statementIn, goesIn, dropsIn, actedOn, topIn, itemIn, turnIn}
+use Rattle.states.specs.Stacks.{ended}
+use Rattle.turns.specs.Acts.{ActedOn, statementIn, goesIn, actedOn, itemIn, turnIn}
 use Rattle.commits.specs.Commits.{committedIn}
-use Rattle.stepper.proofs.Grows.{Grown, grown-same}
-use Rattle.stepper.proofs.Fates.{Acts, turnAt, commit, leaves-is}
+use Rattle.stepper.proofs.Grows.{grown-same}
+use Rattle.stepper.proofs.Fates.{Acts, leaves-is}
 use Rattle.stepper.proofs.Moves.{drops-is, goes-is}
 use Rattle.stepper.proofs.Items.{Short, short-at, Is-who, statement-is}
 use Rattle.stepper.proofs.Uses.{goes-few, drops-few, statement-few}
@@ -90,7 +86,7 @@ module _ {fs : List Frame} {P : Program} {n : ℕ} {w : List ℕ} {s : State} {c
   -- from the thread's continuation on
   turn-from : (is : List Item) → All (ItemFits fs n) is → length is ≤ 25
       → done (turnIn fs who (wordsOf (withContinuation is (threadAt s (suc k)))) (length (s .cells)) (cellWords (s .cells))) ≡ calledOf w (stepItems P s c (suc k) is)
-  unfolding turnIn ends done
+  unfolding turnIn ends done ended
   turn-from [] f h = ap done (if-yes _ _ refl) ∙ leaves-is A (rest []) (s .cells) [] (record { place = x .place; continuation = []; variables = x .variables; starter = x .starter; ended = true })
   turn-from (i ∷ is) (more p f) h =
       ap done (if-no _ _ (ne-eqb (suc (length is)) 0 (λ z. omega arith))

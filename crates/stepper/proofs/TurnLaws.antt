@@ -1,40 +1,78 @@
 -- The turn of thread t on words known to be good: what its commit asks and gives, and the turn of a thread that is not there. Assumes nothing.
-use Prim.Native.Nat.{ℕ, zero, suc, _+_, _-_, _<_, _≤_}
+use Prim.Native.Nat.{ℕ, zero, suc, _+_, _*_, _-_, _<_, _≤_}
 use mathlib.Core.Path.{_≡_, refl, sym, ap, _∙_, subst}
 use mathlib.Core.List.{List, [], _∷_}
-use mathlib.Core.Bool.{true}
+use mathlib.Core.Bool.{Bool, true, _&&_}
 use lib.Dec.{leb}
-use borrow.Author.Tests.{leb-true}
-use Rattle.basics.proofs.Ifs.{and-true}
+use borrow.Author.Tests.{leb-true, le-leb}
+use Rattle.basics.proofs.Ifs.{and-true, if-yes}
 use Rattle.machine.specs.Words.{pack}
 use native.Mathlib.Omega.{arith}
 use lib.ListN.{length, getD, set, List·getD-eq-default}
+use lib.Seq.{ext-getD}
 use Rattle.text.specs.Frames.{framesOf}
-use Rattle.language.specs.Places.{hasScheduler}
+use Rattle.language.specs.Places.{isPlace, placeRead}
+use Rattle.language.specs.declared.Place.{Place}
+use Rattle.language.specs.declared.PlaceRead.{PlaceRead}
+use Rattle.language.specs.declared.PlaceRead.the-variants.{At, NoPlace}
 use Rattle.program.specs.Programs.{programOf}
-use Rattle.machine.specs.State.{State, Thread, Item, noThread, nth, setNth, threadAt, schedulerAt}
+use Rattle.machine.specs.State.{State, Thread, Item, noThread, nth, setNth, threadAt}
 use Rattle.machine.specs.Turns.{Turn, isSchedulerOf, leave, settled}
 use Rattle.machine.specs.Statements.{ends}
 use Rattle.machine.specs.Steps.{turn, stepItems, stepThread}
-use Rattle.machine.specs.Blocks.{pasted, cellWords}
-use Rattle.machine.specs.Calls.{Called, calledOf}
-use Rattle.machine.proofs.WordLaws.{Says, is-pack}
+use Rattle.machine.specs.Blocks.{part, pasted, cellWords}
+use Rattle.machine.specs.Calls.{calledOf}
+use Rattle.machine.proofs.WordLaws.{is-pack, part-at, part-length, pasted-length, pasted-out}
 use Rattle.machine.proofs.KeptShape.{scheduler-fits}
-use Rattle.states.specs.Threads.{wordsOf}
+use Rattle.states.specs.Threads.{wordsOf, threadIn}
+use Rattle.states.proofs.Bridge.{fields-path}
+use Rattle.states.specs.declared.thread.ThreadWords.{ThreadWords}
 use Rattle.acts.specs.declared.act.Acted.{Acted}
+use Rattle.acts.specs.Fates.{Turned, popped, turned, Room}
 use Rattle.turns.specs.Acts.{turnIn}
-use Rattle.commits.specs.Commits.{called, isList, leftIn, committedIn, CommitWords}
+use Rattle.commits.specs.Commits.{called, leftIn, after, committedIn, CommitWords}
 use Rattle.stepper.specs.Files.{StepWords, stateIn, TurnChoice, whoIn, turnOf, turnOn}
 use Rattle.stepper.proofs.Commits.{left-says}
-use Rattle.stepper.proofs.Fates.{Acts, list-there}
+use Rattle.stepper.proofs.Fates.{Acts}
 use Rattle.stepper.proofs.Items.{Is-who}
 use Rattle.stepper.proofs.Threads.{turn-is, turn-few}
-use Rattle.stepper.proofs.StepLaws.{fits-in, shaped, says, threads-few, index, in-list}
+use Rattle.stepper.proofs.StepLaws.{fits-in, shaped, says, threads-few, index, in-list, fit, place-in, looks}
 
 set-past : {A : Type 0} (xs : List A) (i : ℕ) (x : A) → length xs ≤ i → set xs i x ≡ xs
 set-past [] i x h = refl
 set-past (y ∷ xs) zero x h = absurd (omega arith)
 set-past (y ∷ xs) (suc i) x h = ap (λ (l : List _). y ∷ l) (set-past xs i x (omega arith))
+
+-- ---- the place on which a thread stands
+is-place : (n : ℕ) → 1 ≤ n → n ≤ 9 → isPlace n ≡ true
+is-place n a b = ap (λ (t : Bool). t && leb n 9) (le-leb 1 n a) ∙ le-leb n 9 b
+
+module _ (r : PlaceRead) (n : ℕ) (e : r ≡ placeRead (isPlace n) n) (low : 1 ≤ n) (high : n ≤ 9) where
+  read-at : r ≡ At (record { number = n })
+  unfolding placeRead
+  read-at = e ∙ if-yes _ _ (is-place n low high)
+
+  pub stands-at : (p : Place) → r ≡ At p → p ≡ record { number = n }
+  stands-at p h = let z : At p ≡ At (record { number = n }) = sym h ∙ read-at in cc
+
+  pub stands-nowhere : (p : Place) → r ≡ NoPlace → p ≡ record { number = n }
+  stands-nowhere p h = absurd (let z : NoPlace ≡ At (record { number = n }) = sym h ∙ read-at in let y : _≡_ {A = ℕ} 0 1 = cc in omega arith)
+
+-- words that differ in the cells alone have the same threads
+thread-kept : (w v : List ℕ) (k : ℕ) → k < 64 → length w ≡ 4818 → length v ≡ 4818 → ((i : ℕ) → i < 4562 → getD v i 0 ≡ getD w i 0) → threadIn v k ≡ threadIn w k
+thread-kept w v k l a b f = fields-path (threadIn v k) (threadIn w k)
+    (f (1042 + 55 * k) (omega arith))
+    (f (1042 + 55 * k + 1) (omega arith))
+    (f (1042 + 55 * k + 2) (omega arith))
+    (f (1042 + 55 * k + 3) (omega arith))
+    (run (1042 + 55 * k + 4) (omega arith))
+    (f (1042 + 55 * k + 29) (omega arith))
+    (run (1042 + 55 * k + 30) (omega arith))
+  where
+    run : (at : ℕ) → at + 25 ≤ 4562 → part v at 25 ≡ part w at 25
+    run at g = let p : length (part v at 25) ≡ 25 = part-length v at 25 (omega arith) in
+        ext-getD 0 (part v at 25) (part w at 25) (p ∙ sym (part-length w at 25 (omega arith)))
+        (λ j m. let q : j < 25 = rw p at m in part-at v at 25 j q ∙ f (at + j) (omega arith) ∙ sym (part-at w at 25 j q))
 
 module _ (frames : List ℕ) (shared : ℕ) (w : List ℕ) (h : StepWords frames shared w) (t : ℕ) (low : 1 ≤ t) (c : ℕ) (choice : TurnChoice frames c) where
   abbrev s : State
@@ -51,23 +89,43 @@ module _ (frames : List ℕ) (shared : ℕ) (w : List ℕ) (h : StepWords frames
     who-is : Is-who (programOf (framesOf frames)) (t - 1) (threadAt (stateIn frames w) (suc (t - 1))) (whoIn frames shared w t)
     who-is = record { thread = sym same; place = ap (λ (i : ℕ). nth (s .threads) i .place) (sym same); shared = h .count }
 
+    -- the turn has changed the cells alone: the thread's words are as before
+    kept : (a : Acted) (v : List ℕ) → turnOn a v frames shared w t → threadIn v (t - 1) ≡ wordsOf (threadAt (stateIn frames w) t)
+    kept a v o =
+        let z = says frames shared w h .all in
+        let m = threads-few frames shared w h in
+        let l = o .whole in
+        thread-kept w v (t - 1) (omega arith) z (ap length (o .words) ∙ pasted-length w 4562 (turnOf frames shared w t .cells) 256 (omega arith) (omega arith) ∙ z)
+        (λ i g. ap (λ (u : List ℕ). getD u i 0) (o .words) ∙ pasted-out w 4562 (turnOf frames shared w t .cells) 256 (omega arith) (omega arith) i (λ a b. omega arith))
+        ∙ looks frames shared w h t low high
+
     -- what the commit asks
     pub commit-asks : (a : Acted) (v : List ℕ) → turnOn a v frames shared w t → length v ≡ length w → CommitWords v t a
     commit-asks a v o l =
+        let m = threads-few frames shared w h in
         record {
-          all = l ∙ says frames shared w h .all;
           first = low;
-          last = (let m = threads-few frames shared w h in omega arith);
-          cells = subst (λ (x : Acted). x .used ≤ 256) (sym (o .acted))
+          last = omega arith;
+          cells = subst (λ (x : Turned). x .used ≤ 256) (sym (o .acted))
               (subst (λ (i : ℕ). turnIn (framesOf frames) (whoIn frames shared w t) (wordsOf (nth (s .threads) i)) (length (s .cells)) (cellWords (s .cells)) .acted .used ≤ 256) same
               (turn-few acts (whoIn frames shared w t) who-is));
+          settle =
+              record {
+                all = l ∙ says frames shared w h .all;
+                thread = omega arith;
+                place = subst (λ (x : ThreadWords). x .place ≤ 9) (sym (kept a v o)) (place-in frames shared w h t low high .1);
+                items = subst (λ (x : ThreadWords). x .items ≤ 25) (sym (kept a v o)) (fit frames shared w h t low high .items-room);
+                values = subst (λ (x : ThreadWords). x .values ≤ 25) (sym (kept a v o)) (fit frames shared w h t low high .variables-room);
+                room = subst (λ (x : ThreadWords). Room (a .change) (x .items - 1) (x .values)) (sym (kept a v o)) (o .room);
+              };
         }
 
     -- and gives
     pub commit-gives : (a : Acted) (v v' : List ℕ) (used r : ℕ) → turnOn a v frames shared w t → used ≡ getD w 1 0
-        → called r t v' ≡ committedIn (programOf (framesOf frames)) v used c t a (a .fate) → called r t v' ≡ calledOf w (stepThread (programOf (framesOf frames)) (stateIn frames w) c t)
+        → called r t v' ≡ committedIn (programOf (framesOf frames)) v used c t (after v t a) (a .fate) → called r t v' ≡ calledOf w (stepThread (programOf (framesOf frames)) (stateIn frames w) c t)
     commit-gives a v v' used r o u e =
-        e ∙ ap (λ (x : Acted). committedIn (programOf (framesOf frames)) v used c t x (x .fate)) (o .acted)
+        e ∙ ap (λ (x : ThreadWords). committedIn (programOf (framesOf frames)) v used c t (turned a (popped x)) (a .fate)) (kept a v o)
+        ∙ ap (λ (x : Turned). committedIn (programOf (framesOf frames)) v used c t x (x .fate)) (o .acted)
         ∙ ap (λ (x : List ℕ). committedIn (programOf (framesOf frames)) x used c t (turnOf frames shared w t .acted) (turnOf frames shared w t .acted .fate)) (o .words)
         ∙ ap (λ (i : ℕ). committedIn (programOf (framesOf frames)) (pasted w 4562 (turnOf frames shared w t .cells) 256) i c t (turnOf frames shared w t .acted) (turnOf frames shared w t .acted .fate)) (u ∙ says frames shared w h .cells)
         ∙ subst Goal same (turn-is acts (whoIn frames shared w t) who-is)

@@ -1,42 +1,40 @@
 -- A turn leaves at most 256 cells in use: what a commit asks of it. Assumes nothing.
-use Prim.Native.Nat.{ℕ, suc, _-_, _<_, _≤_}
-use mathlib.Core.Path.{_≡_, refl, sym, ap, _∙_, subst}
+use Prim.Native.Nat.{ℕ, _≤_}
+use mathlib.Core.Path.{sym, subst}
 use mathlib.Core.List.{List, [], _∷_}
 use mathlib.Core.Bool.{Bool, true, false, _&&_}
-use native.Mathlib.Omega.{arith}
-use lib.Dec.{ltb, leb, eqb}
+use lib.Dec.{leb, eqb}
 use lib.ListN.{length}
-use Rattle.basics.specs.Members.{All, none, more}
+use Rattle.basics.specs.Members.{All, more}
 use Rattle.basics.proofs.Ifs.{if-all}
 use Rattle.language.specs.declared.frame.Frame.{Frame}
-use Rattle.program.specs.Trees.{Expr, Stmt, rootS, statementAt}
+use Rattle.program.specs.Trees.{Expr, Stmt, rootS}
 use Rattle.program.specs.Programs.{Program}
-use Rattle.machine.specs.State.{State, Stored, Thread, Item, run, back, drop, threadAt}
+use Rattle.machine.specs.State.{State, Stored, Thread}
 use Rattle.machine.specs.Evaluation.{Evaluated, eval, storing}
 use Rattle.machine.specs.Turns.{evaluator}
-use Rattle.machine.specs.Words.{itemWord, valueWord}
+use Rattle.machine.specs.Words.{valueWord}
 use Rattle.machine.specs.Blocks.{cellWords}
 use Rattle.machine.specs.declared.value.Value.{Value}
 use Rattle.machine.specs.declared.value.Value.the-variants.{Number, Truth, Cell}
 use Rattle.machine.specs.declared.value.Outcome.{Outcome}
 use Rattle.machine.specs.declared.value.Outcome.the-variants.{Is, Foreign, Spent, Stuck}
-use Rattle.machine.proofs.Shapes.{ItemFits, run-fits, back-fits, drop-fits, ThreadFits}
+use Rattle.machine.proofs.Shapes.{ThreadFits}
 use Rattle.machine.proofs.KeptCells.{CellsFit, ExprFits, EvalFits, fit-storing}
-use Rattle.machine.proofs.KeptShape.{Parts, of-nothing, of-cooperate, of-seq, of-do, of-start, of-wait, of-let, of-store, of-if, of-while, parts-of}
+use Rattle.machine.proofs.KeptShape.{Parts, of-nothing, of-cooperate, of-seq, of-do, of-start, of-wait, of-let, of-store, of-if, of-while}
 use Rattle.evaluator.specs.declared.operation.Who.{Who}
 use Rattle.evaluator.specs.Results.{Result, resultOf}
 use Rattle.states.specs.declared.thread.ThreadWords.{ThreadWords}
 use Rattle.states.specs.Threads.{wordsOf}
-use Rattle.states.specs.Stacks.{pushValue}
-use Rattle.acts.specs.declared.act.Acted.{Acted}
-use Rattle.turns.specs.Acts.{ActedOn, oneIn, twoIn, letsIn, dropsIn, goesIn, doesIn, cooperatesIn, thenActs, thenOn, byTruthIn, letsOn, storesOn, choosesOn, loopsOn, evaluatedIn, storedIn, request, startsIn, oneArgument, lastArgument, twoArguments, statementIn, itemIn, turnIn}
+use Rattle.acts.specs.Fates.{Turned}
+use Rattle.turns.specs.Acts.{ActedOn, oneIn, twoIn, letsIn, dropsIn, goesIn, doesIn, cooperatesIn, thenActs, thenOn, byTruthIn, letsOn, storesOn, choosesOn, loopsOn, evaluatedIn, request, startsIn, oneArgument, lastArgument, twoArguments, statementIn}
 use Rattle.stepper.proofs.Grows.{Grown, grown-on, grows-eval}
 use Rattle.stepper.proofs.Fates.{Acts, turnAt}
-use Rattle.stepper.proofs.Items.{Short, short-at, Is-who, here-fits, evaluation-is, fit}
+use Rattle.stepper.proofs.Items.{Is-who, here-fits, evaluation-is, fit}
 
 -- ---- each way to come to something, with n cells in use
 module _ (n : ℕ) (h : n ≤ 256) (th : ThreadWords) where
-  abbrev Few : Acted → Type 0
+  abbrev Few : Turned → Type 0
   Few a = a .used ≤ 256
 
   one-few : (a : ℕ) → oneIn th n a .used ≤ 256
@@ -59,13 +57,13 @@ module _ (n : ℕ) (h : n ≤ 256) (th : ThreadWords) where
   unfolding cooperatesIn
   cooperates-few = if-all Few (eqb (th .place) 1) _ _ (λ _. h) (λ _. h)
 
-  then-few : (o : Outcome) (K : Value → Acted) → ((v : Value) → K v .used ≤ 256) → thenActs o th n K .used ≤ 256
+  then-few : (o : Outcome) (K : Value → Turned) → ((v : Value) → K v .used ≤ 256) → thenActs o th n K .used ≤ 256
   then-few (Is v) K f = f v
   then-few Foreign K f = h
   then-few Spent K f = h
   then-few Stuck K f = h
 
-  truth-few : (v : Value) (a b : Acted) → a .used ≤ 256 → b .used ≤ 256 → byTruthIn v th n a b .used ≤ 256
+  truth-few : (v : Value) (a b : Turned) → a .used ≤ 256 → b .used ≤ 256 → byTruthIn v th n a b .used ≤ 256
   truth-few (Truth true) a b f g = f
   truth-few (Truth false) a b f g = g
   truth-few (Number m) a b f g = h
@@ -73,13 +71,13 @@ module _ (n : ℕ) (h : n ≤ 256) (th : ThreadWords) where
 
 lets-few : (n : ℕ) → n ≤ 256 → (th : ThreadWords) (v body : ℕ) → letsIn th n v body .used ≤ 256
 unfolding letsIn
-lets-few n h th v body = if-all (λ (a : Acted). a .used ≤ 256) (leb 25 (th .values)) _ _ (λ _. h) (λ _. two-few n h (pushValue v th) body 2048)
+lets-few n h th v body = if-all (λ (a : Turned). a .used ≤ 256) (leb 25 (th .values)) _ _ (λ _. h) (λ _. if-all (λ (a : Turned). a .used ≤ 256) (leb 24 (th .items)) _ _ (λ _. h) (λ _. h))
 
 does-few : (n : ℕ) → n ≤ 256 → (th : ThreadWords) (q body : ℕ) → doesIn th n q body .used ≤ 256
 unfolding doesIn
 does-few n h th q body =
-    if-all (λ (a : Acted). a .used ≤ 256) (eqb (th .place) 1 && eqb q 1) _ _ (λ _. h)
-    (λ _. if-all (λ (a : Acted). a .used ≤ 256) (leb 24 (th .items)) _ _ (λ _. h) (λ _. goes-few n h _ (th .place) q))
+    if-all (λ (a : Turned). a .used ≤ 256) (eqb (th .place) 1 && eqb q 1) _ _ (λ _. h)
+    (λ _. if-all (λ (a : Turned). a .used ≤ 256) (leb 24 (th .items)) _ _ (λ _. h) (λ _. goes-few n h _ (th .place) q))
 
 module _ {fs : List Frame} {P : Program} {n : ℕ} {w : List ℕ} {s : State} {c k : ℕ} (A : Acts fs P n w s c k) (x : Thread) (X : ThreadFits fs n x) (who : Who) (W : Is-who P k x who) where
   abbrev th : ThreadWords

@@ -2,8 +2,8 @@
 use mathlib.Core.Path.{_≡_}
 use mathlib.Core.List.{List}
 use mathlib.Core.Bool.{true}
-use Prim.Native.Nat.{ℕ, _-_, _<_, _≤_}
-use lib.ListN.{length, getD}
+use Prim.Native.Nat.{ℕ, _-_, _≤_}
+use lib.ListN.{length}
 use Rattle.text.specs.Frames.{framesOf}
 use Rattle.program.specs.Programs.{Program, programOf}
 use Rattle.layout.specs.Faults.{NoFault}
@@ -16,6 +16,7 @@ use Rattle.machine.specs.Calls.{Called}
 use Rattle.evaluator.specs.declared.operation.Who.{Who}
 use Rattle.states.specs.Threads.{wordsOf}
 use Rattle.acts.specs.declared.act.Acted.{Acted}
+use Rattle.acts.specs.Fates.{popped, turned, Room}
 use Rattle.turns.specs.Acts.{ActedOn, turnIn}
 use Rattle.commits.specs.Commits.{called, isList}
 use Rattle.stepper.specs.declared.file.File.{File}
@@ -48,7 +49,7 @@ TurnChoice frames c = isSchedulerOf (programOf (framesOf frames)) c ≡ isList c
 
 -- who acts in the turn of thread t
 abbrev pub whoIn : List ℕ → ℕ → List ℕ → ℕ → Who
-whoIn frames shared w t = record { thread = t; place = threadAt (stateIn frames w) t .place; shared = shared }
+whoIn frames shared w t = record { thread = t; place = record { number = threadAt (stateIn frames w) t .place }; shared = shared }
 
 -- the turn of thread t, on the words of its state
 abbrev pub turnOf : List ℕ → ℕ → List ℕ → ℕ → ActedOn
@@ -56,7 +57,9 @@ turnOf frames shared w t =
     let s = stateIn frames w in
     turnIn (framesOf frames) (whoIn frames shared w t) (wordsOf (threadAt s t)) (length (s .cells)) (cellWords (s .cells))
 
--- what the turn comes to, and the words with its cells
+-- what the turn comes to, the words with its cells, and that the thread's space has room for the change
 pub record turnOn (a : Acted) (v : List ℕ) (frames : List ℕ) (shared : ℕ) (w : List ℕ) (t : ℕ) : Type 0 where
-  pub acted : a ≡ turnOf frames shared w t .acted
+  pub acted : turned a (popped (wordsOf (threadAt (stateIn frames w) t))) ≡ turnOf frames shared w t .acted
   pub words : v ≡ pasted w 4562 (turnOf frames shared w t .cells) 256
+  pub whole : length (turnOf frames shared w t .cells) ≡ 256
+  pub room : Room (a .change) (wordsOf (threadAt (stateIn frames w) t) .items - 1) (wordsOf (threadAt (stateIn frames w) t) .values)

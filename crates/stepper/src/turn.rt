@@ -3,18 +3,33 @@ use acts::act::Acted;
 use commits::commit::commit;
 use commits::writing::leave;
 use evaluator::operation::Who;
-use states::thread::load_thread;
+use language::Place;
+use language::PlaceRead;
+use states::stack::top_item;
+use states::thread::load_variables;
 use states::thread::thread_count;
 use turns::item::act;
+use turns::view::View;
 ghost use mathlib.Core.Path.{_≡_};
 ghost use Prim.Native.Nat.{_≤_};
-ghost use lib.ListN.{length, getD};
+ghost use lib.ListN.{getD};
 ghost use Rattle.text.specs.Frames.{framesOf};
 ghost use Rattle.program.specs.Programs.{programOf};
 ghost use Rattle.machine.specs.Steps.{stepThread};
 ghost use Rattle.machine.specs.Calls.{calledOf};
-ghost use Rattle.commits.specs.Commits.{called, isList};
+ghost use Rattle.commits.specs.Commits.{called};
 ghost use Rattle.stepper.specs.Files.{StepWords, stateIn, turnOn, TurnChoice};
+
+// The place of a thread of a state that is in range.
+fn standing_at(place: u64) -> Place
+    requires { ⌜ (1 ≤ place) × (place ≤ 9) ⌝ }
+    ensures { λ r. ⌜ r ≡ record { number = place } ⌝ }
+{
+    match Place::new(place as u8) {
+        PlaceRead::At(p) => p,
+        PlaceRead::NoPlace => Place::PRIVATE,
+    }
+}
 
 // What the turn of a thread that is there comes to, and how many cells there were before it.
 fn act_in(frames: &[u64], shared: usize, state: &mut [u64], t: u64) -> Acted
@@ -22,13 +37,30 @@ fn act_in(frames: &[u64], shared: usize, state: &mut [u64], t: u64) -> Acted
     ensures { λ r. ⌜ turnOn r (now (state .exit)) (now (frames .entry)) shared (now (state .entry)) t ⌝ }
 {
     let used = state[1] as usize;
-    let th = load_thread(state, (t - 1) as usize);
+    let k = (t - 1) as usize;
+    let at = 1042 + 55 * k;
+    let v = View {
+        place: state[at],
+        items: state[at + 3],
+        values: state[at + 29],
+    };
     let who = Who {
         thread: t as u8,
-        place: th.place as u8,
+        place: standing_at(v.place),
         shared,
     };
-    act(frames, who, th, &mut state[4562..], used)
+    let item = top_item(state, k);
+    let variables = load_variables(state, k);
+    let n = v.values as usize;
+    act(
+        frames,
+        who,
+        v,
+        item,
+        &variables[..n],
+        &mut state[4562..],
+        used,
+    )
 }
 
 // Thread t takes its turn at that choice. One that a list names and that is not there ends: it leaves the list.

@@ -4,82 +4,86 @@ use mathlib.Core.List.{List}
 use Prim.Native.Nat.{ℕ, zero, suc}
 use Rattle.text.specs.Frames.{framesOf}
 use Rattle.program.specs.Trees.{Expr, arguments, expressionAt}
+use Rattle.machine.specs.Evaluation.{eval}
 use Rattle.machine.specs.Words.{valueWord}
 use Rattle.machine.specs.declared.value.Value.{Value}
 use Rattle.machine.specs.declared.value.Outcome.{Outcome}
 use Rattle.machine.specs.declared.value.Outcome.the-variants.{Is, Foreign, Spent, Stuck}
 use Rattle.evaluator.specs.declared.operation.Who.{Who}
 use Rattle.evaluator.specs.declared.operation.Answered.{Answered}
-use Rattle.evaluator.specs.Results.{after}
+use Rattle.evaluator.specs.Results.{after, hereOf, onWords, CellWords, ValueWords}
 use Rattle.evaluator.proofs.Agreement.{eval-behind}
 use Rattle.states.specs.declared.thread.ThreadWords.{ThreadWords}
 use Rattle.acts.specs.declared.act.Acted.{Acted}
-use Rattle.acts.specs.Fates.{refusedIn}
+use Rattle.acts.specs.Fates.{refusedWith}
+use Rattle.turns.specs.declared.view.View.{View}
 use Rattle.turns.specs.declared.start.Request.{Request}
-use Rattle.turns.specs.Acts.{ActedOn, actedOn, thenActs, thenOn, variablesIn, evaluatedIn, startsWith, oneArgument, lastArgument, twoArguments, startsIn, TurnWords}
+use Rattle.turns.specs.Acts.{ActedOn, thenActs, thenOn, evaluatedIn, startsWith, startWith, oneArgument, lastArgument, twoArguments, startsIn, Turns, TurnsOn}
+use Rattle.turns.proofs.ViewLaws.{act-of, refused-so, act-on, in-thread}
 
--- behind an evaluation the words may be lent again
-pub turn-behind : (fw : List ℕ) (who : Who) (th : ThreadWords) (i n : ℕ) (ws : List ℕ) (x : Answered) (us : List ℕ)
-    → after x us ≡ evaluatedIn who th (expressionAt (framesOf fw) i) n ws → TurnWords fw th n ws → TurnWords fw th (x .used) us
-turn-behind fw who th i n ws x us e g =
-    record {
-      ordered = g .ordered;
-      place = g .place;
-      items = g .items;
-      values = g .values;
-      variables = g .variables;
-      cells = eval-behind fw (variablesIn th) who i n ws (after x us) (g .variables) (g .cells) e .words;
-    }
+-- behind an evaluation the cells may be lent again
+pub cells-behind : (fw vs : List ℕ) (who : Who) (i n : ℕ) (ws : List ℕ) (x : Answered) (us : List ℕ)
+    → after x us ≡ onWords (eval (hereOf who vs) (expressionAt (framesOf fw) i)) n ws → ValueWords vs → CellWords n ws → CellWords (x .used) us
+cells-behind fw vs who i n ws x us e h g = eval-behind fw vs who i n ws (after x us) h g e .words
 
-module _ (expr : ℕ → Expr) (who : Who) (q : Request) (th : ThreadWords) (n : ℕ) (ws : List ℕ) (a b : ℕ) where
-  abbrev Starts : Acted → List ℕ → Type 0
-  Starts r us = actedOn r us ≡ startsIn who q th n ws (arguments expr a b)
-
+module _ (expr : ℕ → Expr) (who : Who) (q : Request) (n : ℕ) (ws : List ℕ) (a b : ℕ) where
   above : (m : ℕ) → (m ≡ 0 → ⊥) → (k : ℕ) × (m ≡ suc k)
   above zero h = absurd (h refl)
   above (suc k) h = (k, refl)
 
-  pub starts-none : (r : Acted) → a ≡ 0 → r ≡ startsWith q th n 0 0 0 → Starts r ws
-  starts-none r h e = ap (λ (x : Acted). actedOn x ws) e ∙ ap (λ (m : ℕ). startsIn who q th n ws (arguments expr m b)) (sym h)
+  -- ---- in a thread
+  module _ (th : ThreadWords) where
+    -- with both arguments
+    both : (r : ActedOn) → (a ≡ 0 → ⊥) → (b ≡ 0 → ⊥) → r ≡ twoArguments who q th (expr b) (evaluatedIn who th (expr a) n ws) → r ≡ startsIn who q th n ws (arguments expr a b)
+    both r h k e =
+        let m = above a h in
+        let p = above b k in
+        e ∙ ap (λ (j : ℕ). twoArguments who q th (expr b) (evaluatedIn who th (expr j) n ws)) (m .1)
+        ∙ ap (λ (j : ℕ). twoArguments who q th (expr j) (evaluatedIn who th (expr (suc (m .0))) n ws)) (p .1)
+        ∙ sym (ap (λ (j : ℕ). startsIn who q th n ws (arguments expr j b)) (m .1) ∙ ap (λ (j : ℕ). startsIn who q th n ws (arguments expr (suc (m .0)) j)) (p .1))
 
-  pub starts-one : (r : Acted) (x : Answered) (us : List ℕ) → (a ≡ 0 → ⊥) → b ≡ 0 → after x us ≡ evaluatedIn who th (expr a) n ws
-      → r ≡ thenActs (x .outcome) th (x .used) (λ v. startsWith q th (x .used) 1 (valueWord v) 0) → Starts r us
-  starts-one r x us h k e z =
-      let m = above a h in
-      ap (λ (y : Acted). actedOn y us) z ∙ ap (oneArgument q th) (e ∙ ap (λ (j : ℕ). evaluatedIn who th (expr j) n ws) (m .1))
-      ∙ sym (ap (λ (j : ℕ). startsIn who q th n ws (arguments expr j b)) (m .1) ∙ ap (λ (j : ℕ). startsIn who q th n ws (arguments expr (suc (m .0)) j)) k)
-
-  -- with both arguments
-  both : (r : ActedOn) → (a ≡ 0 → ⊥) → (b ≡ 0 → ⊥) → r ≡ twoArguments who q th (expr b) (evaluatedIn who th (expr a) n ws) → r ≡ startsIn who q th n ws (arguments expr a b)
-  both r h k e =
-      let m = above a h in
-      let p = above b k in
-      e ∙ ap (λ (j : ℕ). twoArguments who q th (expr b) (evaluatedIn who th (expr j) n ws)) (m .1)
-      ∙ ap (λ (j : ℕ). twoArguments who q th (expr j) (evaluatedIn who th (expr (suc (m .0))) n ws)) (p .1)
-      ∙ sym (ap (λ (j : ℕ). startsIn who q th n ws (arguments expr j b)) (m .1) ∙ ap (λ (j : ℕ). startsIn who q th n ws (arguments expr (suc (m .0)) j)) (p .1))
-
-  -- behind the first one, whose outcome is o
-  module _ (x : Answered) (us : List ℕ) (h : a ≡ 0 → ⊥) (k : b ≡ 0 → ⊥) (e : after x us ≡ evaluatedIn who th (expr a) n ws) where
-    behind : (r : ActedOn) (o : Outcome) → x .outcome ≡ o
+    -- behind the first one, whose outcome is o
+    behind : (x : Answered) (us : List ℕ) → (a ≡ 0 → ⊥) → (b ≡ 0 → ⊥) → after x us ≡ evaluatedIn who th (expr a) n ws → (r : ActedOn) (o : Outcome) → x .outcome ≡ o
         → r ≡ thenOn o th (x .used) us (λ v. lastArgument q th (valueWord v) (evaluatedIn who th (expr b) (x .used) us)) → r ≡ startsIn who q th n ws (arguments expr a b)
-    behind r o f z =
+    behind x us h k e r o f z =
         both r h k
         (z ∙ ap (λ (p : Outcome). thenOn p th (x .used) us (λ v. lastArgument q th (valueWord v) (evaluatedIn who th (expr b) (x .used) us))) (sym f)
         ∙ ap (twoArguments who q th (expr b)) e)
 
-    pub starts-two : (r : Acted) (v : Value) (w : ℕ) (y : Answered) (vs : List ℕ) → x .outcome ≡ Is v → after y vs ≡ evaluatedIn who th (expr b) (x .used) us → w ≡ valueWord v
-        → r ≡ thenActs (y .outcome) th (y .used) (λ u. startsWith q th (y .used) 2 w (valueWord u)) → Starts r vs
-    starts-two r v w y vs f g l z =
-        behind (actedOn r vs) (Is v) f
-        (ap (λ (s : Acted). actedOn s vs) z ∙ ap (λ (m : ℕ). lastArgument q th m (after y vs)) l ∙ ap (lastArgument q th (valueWord v)) g)
+  -- ---- in every thread that looks like this
+  module _ (v : View) (vs : List ℕ) where
+    abbrev Starts : Acted → List ℕ → Type 0
+    Starts r us = TurnsOn r us v vs (λ th. startsIn who q th n ws (arguments expr a b))
 
-    pub starts-foreign : (r : Acted) → x .outcome ≡ Foreign → r ≡ refusedIn 19 th (x .used) → Starts r us
-    starts-foreign r f z = behind (actedOn r us) Foreign f (ap (λ (s : Acted). actedOn s us) z)
+    pub starts-none : (r : Acted) → a ≡ 0 → r ≡ startWith q n 0 0 0 → Starts r ws
+    starts-none r h e =
+        act-on (act-of {f = λ th. startsWith q th n 0 0 0} (startWith q n 0 0 0) e (λ th w. refl) tt)
+        (λ th w l. ap (λ (m : ℕ). startsIn who q th n ws (arguments expr m b)) (sym h))
 
-    pub starts-spent : (r : Acted) → x .outcome ≡ Spent → r ≡ refusedIn 17 th (x .used) → Starts r us
-    starts-spent r f z = behind (actedOn r us) Spent f (ap (λ (s : Acted). actedOn s us) z)
+    pub starts-one : (r : Acted) (x : Answered) (us : List ℕ) → (a ≡ 0 → ⊥) → b ≡ 0 → after x us ≡ onWords (eval (hereOf who vs) (expr a)) n ws
+        → Turns r v (λ th. thenActs (x .outcome) th (x .used) (λ u. startsWith q th (x .used) 1 (valueWord u) 0)) → Starts r us
+    starts-one r x us h k e z =
+        let m = above a h in
+        act-on z
+        (λ th w l.
+        ap (oneArgument q th) (in-thread who th vs l n ws (after x us) (expr a) e ∙ ap (λ (j : ℕ). evaluatedIn who th (expr j) n ws) (m .1))
+        ∙ sym (ap (λ (j : ℕ). startsIn who q th n ws (arguments expr j b)) (m .1) ∙ ap (λ (j : ℕ). startsIn who q th n ws (arguments expr (suc (m .0)) j)) k))
 
-    pub starts-stuck : (r : Acted) → x .outcome ≡ Stuck → r ≡ refusedIn 20 th (x .used) → Starts r us
-    starts-stuck r f z = behind (actedOn r us) Stuck f (ap (λ (s : Acted). actedOn s us) z)
+    module _ (x : Answered) (us : List ℕ) (h : a ≡ 0 → ⊥) (k : b ≡ 0 → ⊥) (e : after x us ≡ onWords (eval (hereOf who vs) (expr a)) n ws) where
+      pub starts-two : (r : Acted) (w : Value) (m : ℕ) (y : Answered) (ys : List ℕ) → x .outcome ≡ Is w → after y ys ≡ onWords (eval (hereOf who vs) (expr b)) (x .used) us → m ≡ valueWord w
+          → Turns r v (λ th. thenActs (y .outcome) th (y .used) (λ u. startsWith q th (y .used) 2 m (valueWord u))) → Starts r ys
+      starts-two r w m y ys f g l z =
+          act-on z
+          (λ th p i.
+          behind th x us h k (in-thread who th vs i n ws (after x us) (expr a) e) _ (Is w) f
+          (ap (λ (j : ℕ). lastArgument q th j (after y ys)) l
+          ∙ ap (lastArgument q th (valueWord w)) (in-thread who th vs i (x .used) us (after y ys) (expr b) g)))
 
-pub ruleset starts-laws = (starts-none, starts-one, starts-two, starts-foreign, starts-spent, starts-stuck)
+      pub starts-foreign : (r : Acted) → x .outcome ≡ Foreign → r ≡ refusedWith 19 (x .used) → Starts r us
+      starts-foreign r f z = act-on (refused-so 19 (x .used) z) (λ th p i. behind th x us h k (in-thread who th vs i n ws (after x us) (expr a) e) _ Foreign f refl)
+
+      pub starts-spent : (r : Acted) → x .outcome ≡ Spent → r ≡ refusedWith 17 (x .used) → Starts r us
+      starts-spent r f z = act-on (refused-so 17 (x .used) z) (λ th p i. behind th x us h k (in-thread who th vs i n ws (after x us) (expr a) e) _ Spent f refl)
+
+      pub starts-stuck : (r : Acted) → x .outcome ≡ Stuck → r ≡ refusedWith 20 (x .used) → Starts r us
+      starts-stuck r f z = act-on (refused-so 20 (x .used) z) (λ th p i. behind th x us h k (in-thread who th vs i n ws (after x us) (expr a) e) _ Stuck f refl)

@@ -1,50 +1,80 @@
 -- Laws of the whole turn: its top item. Assumes nothing.
-use mathlib.Core.Path.{_≡_, sym, ap, ap₂, subst, _∙_}
+use mathlib.Core.Path.{_≡_, refl, sym, ap, ap₂, subst, _∙_}
 use mathlib.Core.List.{List}
 use Prim.Native.Nat.{ℕ, _-_, _<_, _≤_}
 use native.Mathlib.Omega.{arith}
-use lib.ListN.{length}
 use borrow.Author.Tests.{lt-ltb, le-ltb, eq-eqb, ne-eqb}
-use Rattle.basics.proofs.Ifs.{yes, no}
+use Rattle.basics.proofs.Ifs.{if-yes, if-no, yes, no}
 use Rattle.language.specs.declared.frame.Frame.{Frame}
 use Rattle.program.specs.Trees.{statementAt}
 use Rattle.evaluator.specs.declared.operation.Who.{Who}
 use Rattle.states.specs.declared.thread.ThreadWords.{ThreadWords}
 use Rattle.states.specs.Stacks.{popItem}
 use Rattle.acts.specs.declared.act.Fate.the-variants.{Leaves}
+use Rattle.acts.specs.declared.act.Change.the-variants.{End}
 use Rattle.acts.specs.declared.act.Acted.{Acted}
-use Rattle.acts.specs.Fates.{actedIn, endedIn}
-use Rattle.turns.specs.Acts.{actedOn, goesIn, dropsIn, statementIn, itemIn, topIn, turnIn, TurnWords, TopWord}
+use Rattle.acts.specs.Fates.{actedWith, popped, turned, Room}
+use Rattle.turns.specs.declared.view.View.{View}
+use Rattle.turns.specs.Acts.{actedOn, variablesIn, goesIn, dropsIn, statementIn, itemIn, turnIn, Views, Turns, TurnsOn, WholeTurn, TurnWords}
+use Rattle.turns.proofs.ViewLaws.{act-on, on-as}
 
-module _ (fs : List Frame) (who : Who) (th : ThreadWords) (n : ℕ) (ws : List ℕ) (r : Acted) where
-  pub item-statement : (item : ℕ) (us : List ℕ) → item < 1024 → actedOn r us ≡ statementIn who th n ws (statementAt fs item) → actedOn r us ≡ itemIn fs who th n ws item
-  unfolding itemIn
-  item-statement item us h e = yes _ (lt-ltb item 1024 h) e
+-- what is seen of a thread without its top item
+abbrev below : View → View
+below v = record { place = v .place; items = v .items - 1; values = v .values }
 
-  pub item-back : (item : ℕ) → 1024 ≤ item → item < 2048 → r ≡ goesIn (th .place) th n (item - 1024) → actedOn r ws ≡ itemIn fs who th n ws item
-  unfolding itemIn
-  item-back item h k e = no _ (le-ltb item 1024 h) (yes _ (lt-ltb item 2048 k) (ap (λ (x : Acted). actedOn x ws) e))
+pub below-words : (fw : List ℕ) (v : View) (vs : List ℕ) (n : ℕ) (ws : List ℕ) → TurnWords fw v vs n ws → TurnWords fw (below v) vs n ws
+below-words fw v vs n ws g =
+    record { ordered = g .ordered; place = g .place; items = let h = g .items in omega arith; count = g .count; variables = g .variables; cells = g .cells }
 
-  pub item-drop : (item : ℕ) → 1024 ≤ item → 2048 ≤ item → r ≡ dropsIn th n → actedOn r ws ≡ itemIn fs who th n ws item
-  unfolding itemIn
-  item-drop item h k e = no _ (le-ltb item 1024 h) (no _ (le-ltb item 2048 k) (ap (λ (x : Acted). actedOn x ws) e))
+module _ (v : View) (th : ThreadWords) (w : Views v th) where
+  popped-none : v .items ≡ 0 → popped th ≡ th
+  unfolding popped
+  popped-none h = if-yes th (popItem th) (eq-eqb (th .items) 0 (w .items ∙ h))
 
-  pub turn-ends : (p : ThreadWords) → th .items ≡ 0 → p ≡ endedIn th → r ≡ actedIn Leaves p n → actedOn r ws ≡ turnIn fs who th n ws
-  unfolding turnIn
-  turn-ends p h q e = yes _ (eq-eqb (th .items) 0 h) (ap (λ (x : Acted). actedOn x ws) (e ∙ ap (λ (x : ThreadWords). actedIn Leaves x n) q))
+  popped-one : (v .items ≡ 0 → ⊥) → popped th ≡ popItem th
+  unfolding popped
+  popped-one h = if-no th (popItem th) (ne-eqb (th .items) 0 (λ e. h (sym (w .items) ∙ e)))
 
-  pub turn-item : (p : ThreadWords) (item : ℕ) (us : List ℕ) → (th .items ≡ 0 → ⊥) → p ≡ popItem th → item ≡ topIn th → actedOn r us ≡ itemIn fs who p n ws item → actedOn r us ≡ turnIn fs who th n ws
-  unfolding turnIn
-  turn-item p item us h q k e = no _ (ne-eqb (th .items) 0 h) (e ∙ ap₂ (λ (x : ThreadWords) (y : ℕ). itemIn fs who x n ws y) q k)
+  below-views : Views (below v) (popItem th)
+  unfolding popItem
+  below-views = record { place = w .place; items = ap (λ (x : ℕ). x - 1) (w .items); values = w .values }
 
-pub ruleset item-laws = (item-statement, item-back, item-drop, turn-ends, turn-item)
-
--- ---- what the callees require
-pub popped : (fw : List ℕ) (th p : ThreadWords) (n : ℕ) (ws : List ℕ) → p ≡ popItem th → TurnWords fw th n ws → TurnWords fw p n ws
+same-variables : (th : ThreadWords) (vs : List ℕ) → variablesIn th ≡ vs → variablesIn (popItem th) ≡ vs
 unfolding popItem
-popped fw th p n ws e g =
-    subst (λ (x : ThreadWords). TurnWords fw x n ws) (sym e)
-    (record { ordered = g .ordered; place = g .place; items = let h = g .items in omega arith; values = g .values; variables = g .variables; cells = g .cells })
+same-variables th vs e = e
 
-pub top-there : (fw : List ℕ) (th : ThreadWords) (item : ℕ) → item ≡ topIn th → TopWord fw th → item < 1024 → item < length fw
-top-there fw th item e h = subst (λ (x : ℕ). x < 1024 → x < length fw) (sym e) h
+module _ (fs : List Frame) (who : Who) (v : View) (item : ℕ) (vs : List ℕ) (n : ℕ) (ws : List ℕ) (r : Acted) where
+  pub item-statement : (us : List ℕ) → item < 1024 → TurnsOn r us v vs (λ th. statementIn who th n ws (statementAt fs item)) → TurnsOn r us v vs (λ th. itemIn fs who th n ws item)
+  unfolding itemIn
+  item-statement us h z = on-as z (λ th. yes _ (lt-ltb item 1024 h) refl)
+
+  pub item-back : 1024 ≤ item → item < 2048 → Turns r v (λ th. goesIn (th .place) th n (item - 1024)) → TurnsOn r ws v vs (λ th. itemIn fs who th n ws item)
+  unfolding itemIn
+  item-back h k z = act-on z (λ th w e. no _ (le-ltb item 1024 h) (yes _ (lt-ltb item 2048 k) refl))
+
+  pub item-drop : 1024 ≤ item → 2048 ≤ item → Turns r v (λ th. dropsIn th n) → TurnsOn r ws v vs (λ th. itemIn fs who th n ws item)
+  unfolding itemIn
+  item-drop h k z = act-on z (λ th w e. no _ (le-ltb item 1024 h) (no _ (le-ltb item 2048 k) refl))
+
+  pub turn-ends : v .items ≡ 0 → r ≡ actedWith Leaves End n → WholeTurn r ws v item vs (λ th. turnIn fs who th n ws)
+  unfolding turnIn
+  turn-ends h e =
+      record {
+        thread =
+            λ th w i t.
+            ap₂ (λ (x : Acted) (y : ThreadWords). actedOn (turned x y) ws) e (popped-none v th w h)
+            ∙ yes _ (eq-eqb (th .items) 0 (w .items ∙ h)) refl;
+        room = subst (λ (x : Acted). Room (x .change) (v .items - 1) (v .values)) (sym e) tt;
+      }
+
+  pub turn-item : (us : List ℕ) → (v .items ≡ 0 → ⊥) → TurnsOn r us (below v) vs (λ th. itemIn fs who th n ws item) → WholeTurn r us v item vs (λ th. turnIn fs who th n ws)
+  unfolding turnIn
+  turn-item us h z =
+      record {
+        thread =
+            λ th w i t.
+            ap (λ (x : ThreadWords). actedOn (turned r x) us) (popped-one v th w h)
+            ∙ no _ (ne-eqb (th .items) 0 (λ e. h (sym (w .items) ∙ e)))
+            (z .thread (popItem th) (below-views v th w) (same-variables th vs i) ∙ ap (itemIn fs who (popItem th) n ws) (sym t));
+        room = z .room;
+      }

@@ -1,3 +1,4 @@
+pub mod ViewLaws
 pub mod PlaceLaws
 pub mod ThenLaws
 pub mod ArgumentLaws

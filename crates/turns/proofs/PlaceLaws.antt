@@ -1,99 +1,155 @@
 -- Laws of turns that evaluate nothing: one for each return of the code. Assumes nothing.
-use mathlib.Core.Path.{_≡_, sym, ap, _∙_}
+use mathlib.Core.Path.{_≡_, refl, sym, ap, _∙_}
 use mathlib.Core.Bool.{Bool, true, false, not, _&&_}
-use mathlib.Core.List.{List}
 use Prim.Native.Nat.{ℕ, _+_, _<_, _≤_}
 use native.Mathlib.Omega.{arith}
 use lib.Dec.{eqb}
-use lib.ListN.{length, take, length-take}
 use borrow.Author.Tests.{le-leb, lt-leb, eq-eqb, ne-eqb, not-true, not-false}
+use Rattle.basics.specs.If.{if_then_else_}
 use Rattle.basics.proofs.Ifs.{yes, no}
 use Rattle.states.specs.declared.thread.ThreadWords.{ThreadWords}
-use Rattle.states.specs.Stacks.{pushItem, pushValue, popValue, moveTo}
+use Rattle.states.specs.Stacks.{pushItem, moveTo}
 use Rattle.acts.specs.declared.act.Fate.the-variants.{Stays, Leaves, Joins}
+use Rattle.acts.specs.declared.act.Change.{Change}
+use Rattle.acts.specs.declared.act.Change.the-variants.{Same, Item, Items, Let, Drop, Move, Enter}
 use Rattle.acts.specs.declared.act.Acted.{Acted}
-use Rattle.acts.specs.Fates.{actedIn, refusedIn}
-use Rattle.turns.specs.Acts.{oneIn, twoIn, letsIn, dropsIn, goesIn, doesIn, cooperatesIn}
-
--- ---- room
-pub pushed-room : (th p : ThreadWords) (a : ℕ) → p ≡ pushItem a th → th .items < 24 → p .items < 25
-unfolding pushItem
-pushed-room th p a e h = let q : p .items ≡ th .items + 1 = ap (λ (x : ThreadWords). x .items) e in omega arith
-
-pub prefix-length : (vs : List ℕ) (n : ℕ) → length vs ≡ 25 → n ≤ 25 → n ≡ length (take n vs)
-prefix-length vs n e h = sym (length-take n vs ∙ omega arith)
+use Rattle.acts.specs.Fates.{actedIn, actedWith, refusedWith, changed, turned, Room}
+use Rattle.turns.specs.declared.view.View.{View}
+use Rattle.turns.specs.Acts.{oneIn, twoIn, letsIn, dropsIn, goesIn, doesIn, cooperatesIn, goesWith, Turns}
+use Rattle.turns.proofs.ViewLaws.{act-of}
 
 -- ---- the thread stays
-module _ (th : ThreadWords) (n : ℕ) (r : Acted) where
-  pub one-full : (a : ℕ) → 25 ≤ th .items → r ≡ refusedIn 20 th n → r ≡ oneIn th n a
+module _ (v : View) (n : ℕ) (r : Acted) where
+  pub one-full : (a : ℕ) → 25 ≤ v .items → r ≡ refusedWith 20 n → Turns r v (λ th. oneIn th n a)
   unfolding oneIn
-  one-full a h e = yes _ (le-leb 25 (th .items) h) e
+  one-full a h e = act-of (refusedWith 20 n) e (λ th w. let q = w .items in yes _ (le-leb 25 (th .items) (omega arith)) refl) tt
 
-  pub one-more : (a : ℕ) (p : ThreadWords) → th .items < 25 → p ≡ pushItem a th → r ≡ actedIn Stays p n → r ≡ oneIn th n a
+  pub one-more : (a : ℕ) → v .items < 25 → r ≡ actedWith Stays (Item a) n → Turns r v (λ th. oneIn th n a)
   unfolding oneIn
-  one-more a p h q e = no _ (lt-leb 25 (th .items) h) (e ∙ ap (λ (x : ThreadWords). actedIn Stays x n) q)
+  one-more a h e = act-of (actedWith Stays (Item a) n) e (λ th w. let q = w .items in no _ (lt-leb 25 (th .items) (omega arith)) refl) h
 
-  pub two-full : (a b : ℕ) → 24 ≤ th .items → r ≡ refusedIn 20 th n → r ≡ twoIn th n a b
+  pub two-full : (a b : ℕ) → 24 ≤ v .items → r ≡ refusedWith 20 n → Turns r v (λ th. twoIn th n a b)
   unfolding twoIn
-  two-full a b h e = yes _ (le-leb 24 (th .items) h) e
+  two-full a b h e = act-of (refusedWith 20 n) e (λ th w. let q = w .items in yes _ (le-leb 24 (th .items) (omega arith)) refl) tt
 
-  pub two-more : (a b : ℕ) (p q : ThreadWords) → th .items < 24 → p ≡ pushItem b th → q ≡ pushItem a p → r ≡ actedIn Stays q n → r ≡ twoIn th n a b
+  pub two-more : (a b : ℕ) → v .items < 24 → r ≡ actedWith Stays (Items a b) n → Turns r v (λ th. twoIn th n a b)
   unfolding twoIn
-  two-more a b p q h f g e = no _ (lt-leb 24 (th .items) h) (e ∙ ap (λ (x : ThreadWords). actedIn Stays x n) (g ∙ ap (pushItem a) f))
+  two-more a b h e = act-of (actedWith Stays (Items a b) n) e (λ th w. let q = w .items in no _ (lt-leb 24 (th .items) (omega arith)) refl) h
 
-  pub lets-full : (v body : ℕ) → 25 ≤ th .values → r ≡ refusedIn 20 th n → r ≡ letsIn th n v body
+  pub lets-values : (x body : ℕ) → 25 ≤ v .values → r ≡ refusedWith 20 n → Turns r v (λ th. letsIn th n x body)
   unfolding letsIn
-  lets-full v body h e = yes _ (le-leb 25 (th .values) h) e
+  lets-values x body h e = act-of (refusedWith 20 n) e (λ th w. let q = w .values in yes _ (le-leb 25 (th .values) (omega arith)) refl) tt
 
-  pub lets-more : (v body : ℕ) (p : ThreadWords) → th .values < 25 → p ≡ pushValue v th → r ≡ twoIn p n body 2048 → r ≡ letsIn th n v body
+  pub lets-items : (x body : ℕ) → v .values < 25 → 24 ≤ v .items → r ≡ refusedWith 20 n → Turns r v (λ th. letsIn th n x body)
   unfolding letsIn
-  lets-more v body p h q e = no _ (lt-leb 25 (th .values) h) (e ∙ ap (λ (x : ThreadWords). twoIn x n body 2048) q)
+  lets-items x body h k e =
+      act-of (refusedWith 20 n) e
+      (λ th w.
+      let p = w .values in
+      let q = w .items in
+      no _ (lt-leb 25 (th .values) (omega arith)) (yes _ (le-leb 24 (th .items) (omega arith)) refl))
+      tt
 
-  pub drops-none : th .values ≡ 0 → r ≡ refusedIn 20 th n → r ≡ dropsIn th n
+  pub lets-more : (x body : ℕ) → v .values < 25 → v .items < 24 → r ≡ actedWith Stays (Let x body) n → Turns r v (λ th. letsIn th n x body)
+  unfolding letsIn
+  lets-more x body h k e =
+      act-of (actedWith Stays (Let x body) n) e
+      (λ th w.
+      let p = w .values in
+      let q = w .items in
+      no _ (lt-leb 25 (th .values) (omega arith)) (no _ (lt-leb 24 (th .items) (omega arith)) refl))
+      (k, h)
+
+  pub drops-none : v .values ≡ 0 → r ≡ refusedWith 20 n → Turns r v (λ th. dropsIn th n)
   unfolding dropsIn
-  drops-none h e = yes _ (eq-eqb (th .values) 0 h) e
+  drops-none h e = act-of (refusedWith 20 n) e (λ th w. yes _ (eq-eqb (th .values) 0 (w .values ∙ h)) refl) tt
 
-  pub drops-one : (p : ThreadWords) → (th .values ≡ 0 → ⊥) → p ≡ popValue th → r ≡ actedIn Stays p n → r ≡ dropsIn th n
+  pub drops-one : (v .values ≡ 0 → ⊥) → r ≡ actedWith Stays Drop n → Turns r v (λ th. dropsIn th n)
   unfolding dropsIn
-  drops-one p h q e = no _ (ne-eqb (th .values) 0 h) (e ∙ ap (λ (x : ThreadWords). actedIn Stays x n) q)
-
-pub ruleset stay-laws = (one-full, one-more, two-full, two-more, lets-full, lets-more, drops-none, drops-one)
+  drops-one h e = act-of (actedWith Stays Drop n) e (λ th w. no _ (ne-eqb (th .values) 0 (λ z. h (sym (w .values) ∙ z))) refl) (omega (arith, h))
 
 -- ---- the thread goes
-module _ (th : ThreadWords) (n : ℕ) (r : Acted) where
-  pub goes-nowhere : (from q : ℕ) → q ≡ from → r ≡ actedIn Stays th n → r ≡ goesIn from th n q
-  unfolding goesIn
-  goes-nowhere from q h e = yes _ (eq-eqb q from h) e
+module _ (from n q : ℕ) (same moved : Change) (r : Acted) where
+  pub goes-nowhere : q ≡ from → r ≡ actedWith Stays same n → r ≡ goesWith from n q same moved
+  unfolding goesWith
+  goes-nowhere h e = yes _ (eq-eqb q from h) e
 
-  pub goes-out : (from q : ℕ) (p : ThreadWords) (b : Bool) → b ≡ eqb q 1 → p ≡ moveTo q th → (q ≡ from → ⊥) → b ≡ true → r ≡ actedIn Leaves p n → r ≡ goesIn from th n q
-  unfolding goesIn
-  goes-out from q p b z m h k e = no _ (ne-eqb q from h) (yes _ (sym z ∙ k) (e ∙ ap (λ (x : ThreadWords). actedIn Leaves x n) m))
+  pub goes-out : (b : Bool) → b ≡ eqb q 1 → (q ≡ from → ⊥) → b ≡ true → r ≡ actedWith Leaves moved n → r ≡ goesWith from n q same moved
+  unfolding goesWith
+  goes-out b z h k e = no _ (ne-eqb q from h) (yes _ (sym z ∙ k) e)
 
-  pub goes-there : (from q : ℕ) (p : ThreadWords) (b : Bool) → b ≡ eqb q 1 → p ≡ moveTo q th → (q ≡ from → ⊥) → b ≡ false → r ≡ actedIn (Joins q) p n → r ≡ goesIn from th n q
-  unfolding goesIn
-  goes-there from q p b z m h k e = no _ (ne-eqb q from h) (no _ (sym z ∙ k) (e ∙ ap (λ (x : ThreadWords). actedIn (Joins q) x n) m))
+  pub goes-there : (b : Bool) → b ≡ eqb q 1 → (q ≡ from → ⊥) → b ≡ false → r ≡ actedWith (Joins q) moved n → r ≡ goesWith from n q same moved
+  unfolding goesWith
+  goes-there b z h k e = no _ (ne-eqb q from h) (no _ (sym z ∙ k) e)
 
-  pub does-again : (q body : ℕ) (b : Bool) → b ≡ true → b ≡ (eqb (th .place) 1 && eqb q 1) → r ≡ refusedIn 20 th n → r ≡ doesIn th n q body
+-- with either change the thread is the one that goes, and there is room for both
+module _ (n q : ℕ) (same moved : Change) where
+  goes-made : (from : ℕ) (th p : ThreadWords) → changed same th ≡ p → changed moved th ≡ moveTo q p → turned (goesWith from n q same moved) th ≡ goesIn from p n q
+  unfolding goesWith goesIn if_then_else_
+  goes-made from th p h k = by (eqb q from) (eqb q 1)
+    where
+      by : (b c : Bool)
+          → turned (if b then actedWith Stays same n else if c then actedWith Leaves moved n else actedWith (Joins q) moved n) th
+          ≡ (if b then actedIn Stays p n else if c then actedIn Leaves (moveTo q p) n else actedIn (Joins q) (moveTo q p) n)
+      by true c = ap (λ (x : ThreadWords). actedIn Stays x n) h
+      by false true = ap (λ (x : ThreadWords). actedIn Leaves x n) k
+      by false false = ap (λ (x : ThreadWords). actedIn (Joins q) x n) k
+
+  goes-room : (from items values : ℕ) → Room same items values → Room moved items values → Room (goesWith from n q same moved .change) items values
+  unfolding goesWith if_then_else_
+  goes-room from items values h k = by (eqb q from) (eqb q 1)
+    where
+      by : (b c : Bool) → Room ((if b then actedWith Stays same n else if c then actedWith Leaves moved n else actedWith (Joins q) moved n) .change) items values
+      by true c = h
+      by false true = k
+      by false false = k
+
+module _ (v : View) (n : ℕ) (r : Acted) where
+  pub goes-back : (q : ℕ) → r ≡ goesWith (v .place) n q Same (Move q) → Turns r v (λ th. goesIn (th .place) th n q)
+  goes-back q e =
+      act-of (goesWith (v .place) n q Same (Move q)) e
+      (λ th w. goes-made n q Same (Move q) (v .place) th th refl refl ∙ ap (λ (x : ℕ). goesIn x th n q) (sym (w .place)))
+      (goes-room n q Same (Move q) (v .place) (v .items) (v .values) tt tt)
+
+  pub does-again : (q body : ℕ) (b : Bool) → b ≡ true → b ≡ (eqb (v .place) 1 && eqb q 1) → r ≡ refusedWith 20 n → Turns r v (λ th. doesIn th n q body)
   unfolding doesIn
-  does-again q body b t h e = yes _ (sym h ∙ t) e
+  does-again q body b t h e =
+      act-of (refusedWith 20 n) e (λ th w. yes _ (ap (λ (x : ℕ). eqb x 1 && eqb q 1) (w .place) ∙ sym h ∙ t) refl) tt
 
-  pub does-full : (q body : ℕ) (b : Bool) → b ≡ false → b ≡ (eqb (th .place) 1 && eqb q 1) → 24 ≤ th .items → r ≡ refusedIn 20 th n → r ≡ doesIn th n q body
+  pub does-full : (q body : ℕ) (b : Bool) → b ≡ false → b ≡ (eqb (v .place) 1 && eqb q 1) → 24 ≤ v .items → r ≡ refusedWith 20 n → Turns r v (λ th. doesIn th n q body)
   unfolding doesIn
-  does-full q body b t h l e = no _ (sym h ∙ t) (yes _ (le-leb 24 (th .items) l) e)
+  does-full q body b t h l e =
+      act-of (refusedWith 20 n) e
+      (λ th w.
+      let p = w .items in
+      no _ (ap (λ (x : ℕ). eqb x 1 && eqb q 1) (w .place) ∙ sym h ∙ t) (yes _ (le-leb 24 (th .items) (omega arith)) refl))
+      tt
 
-  pub does-there : (q body : ℕ) (b : Bool) (x y : ThreadWords) → b ≡ false → b ≡ (eqb (th .place) 1 && eqb q 1) → th .items < 24
-      → x ≡ pushItem (1024 + th .place) th → y ≡ pushItem body x → r ≡ goesIn (th .place) y n q → r ≡ doesIn th n q body
+  pub does-there : (q body : ℕ) (b : Bool) → b ≡ false → b ≡ (eqb (v .place) 1 && eqb q 1) → v .items < 24
+      → r ≡ goesWith (v .place) n q (Items body (1024 + v .place)) (Enter q body) → Turns r v (λ th. doesIn th n q body)
   unfolding doesIn
-  does-there q body b x y t h l f g e =
-      no _ (sym h ∙ t) (no _ (lt-leb 24 (th .items) l) (e ∙ ap (λ (z : ThreadWords). goesIn (th .place) z n q) (g ∙ ap (pushItem body) f)))
+  does-there q body b t h l e =
+      act-of (goesWith (v .place) n q (Items body (1024 + v .place)) (Enter q body)) e
+      (λ th w.
+      let p = w .items in
+      no _ (ap (λ (x : ℕ). eqb x 1 && eqb q 1) (w .place) ∙ sym h ∙ t)
+      (no _ (lt-leb 24 (th .items) (omega arith))
+      (goes-made n q (Items body (1024 + v .place)) (Enter q body) (v .place) th (pushItem body (pushItem (1024 + th .place) th))
+      (ap (λ (x : ℕ). pushItem body (pushItem (1024 + x) th)) (sym (w .place)))
+      refl
+      ∙ ap (λ (x : ℕ). goesIn x (pushItem body (pushItem (1024 + th .place) th)) n q) (sym (w .place)))))
+      (goes-room n q (Items body (1024 + v .place)) (Enter q body) (v .place) (v .items) (v .values) l l)
 
-  pub cooperates-not : (b : Bool) → b ≡ eqb (th .place) 1 → b ≡ true → r ≡ refusedIn 20 th n → r ≡ cooperatesIn th n
+  pub cooperates-not : (b : Bool) → b ≡ eqb (v .place) 1 → b ≡ true → r ≡ refusedWith 20 n → Turns r v (λ th. cooperatesIn th n)
   unfolding cooperatesIn
-  cooperates-not b z h e = yes _ (sym z ∙ h) e
+  cooperates-not b z h e = act-of (refusedWith 20 n) e (λ th w. yes _ (ap (λ (x : ℕ). eqb x 1) (w .place) ∙ sym z ∙ h) refl) tt
 
-  pub cooperates-next : (b : Bool) → b ≡ eqb (th .place) 1 → b ≡ false → r ≡ actedIn (Joins (th .place)) th n → r ≡ cooperatesIn th n
+  pub cooperates-next : (b : Bool) → b ≡ eqb (v .place) 1 → b ≡ false → r ≡ actedWith (Joins (v .place)) Same n → Turns r v (λ th. cooperatesIn th n)
   unfolding cooperatesIn
-  cooperates-next b z h e = no _ (sym z ∙ h) e
+  cooperates-next b z h e =
+      act-of (actedWith (Joins (v .place)) Same n) e
+      (λ th w. no _ (ap (λ (x : ℕ). eqb x 1) (w .place) ∙ sym z ∙ h) (ap (λ (x : ℕ). actedIn (Joins x) th n) (sym (w .place))))
+      tt
 
 pub again-not : (from q : ℕ) (b : Bool) → b ≡ eqb from 1 → not b ≡ true → false ≡ (eqb from 1 && eqb q 1)
 again-not from q b z h = ap (λ (x : Bool). x && eqb q 1) (sym (not-true b h) ∙ z)
@@ -101,4 +157,4 @@ again-not from q b z h = ap (λ (x : Bool). x && eqb q 1) (sym (not-true b h) �
 pub again-so : (from q : ℕ) (b r : Bool) → b ≡ eqb from 1 → r ≡ eqb q 1 → not b ≡ false → r ≡ (eqb from 1 && eqb q 1)
 again-so from q b r z e h = e ∙ ap (λ (x : Bool). x && eqb q 1) (sym (not-false b h) ∙ z)
 
-pub ruleset go-laws = (goes-nowhere, goes-out, goes-there, does-again, does-full, does-there, cooperates-not, cooperates-next, again-not, again-so)
+pub ruleset go-laws = (goes-nowhere, goes-out, goes-there, goes-back, again-not, again-so)

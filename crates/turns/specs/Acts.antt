@@ -1,7 +1,8 @@
 -- What a turn comes to, on the words of the thread and of the cells. No reader has to believe it: crate stepper shows that a turn committed is the step of the rules. Assumes nothing: definitions.
+use mathlib.Core.Path.{_≡_}
 use mathlib.Core.List.{List, [], _∷_}
 use mathlib.Core.Bool.{Bool, true, false, _&&_}
-use Prim.Native.Nat.{ℕ, _+_, _-_, _<_, _≤_}
+use Prim.Native.Nat.{ℕ, _+_, _-_, _≤_}
 use lib.Dec.{ltb, leb, eqb}
 use lib.ListN.{length, getD, take}
 use Rattle.basics.specs.If.{if_then_else_}
@@ -18,53 +19,58 @@ use Rattle.machine.specs.declared.value.Outcome.the-variants.{Is, Foreign, Spen
 use Rattle.evaluator.specs.declared.operation.Who.{Who}
 use Rattle.evaluator.specs.Results.{Result, hereOf, onWords, CellWords, ValueWords}
 use Rattle.states.specs.declared.thread.ThreadWords.{ThreadWords}
-use Rattle.states.specs.Stacks.{pushItem, popItem, pushValue, popValue, moveTo}
+use Rattle.states.specs.Stacks.{pushItem, popItem, pushValue, popValue, moveTo, ended}
 use Rattle.acts.specs.declared.act.Fate.the-variants.{Stays, Leaves, Joins, Starts}
+use Rattle.acts.specs.declared.act.Change.{Change}
+use Rattle.acts.specs.declared.act.Change.the-variants.{Same}
 use Rattle.acts.specs.declared.act.Acted.{Acted}
-use Rattle.acts.specs.Fates.{actedIn, refusedIn, endedIn}
+use Rattle.acts.specs.Fates.{Turned, actedIn, refusedIn, actedWith, popped, turned, Room}
+use Rattle.turns.specs.declared.view.View.{View}
 use Rattle.turns.specs.declared.start.Request.{Request}
 
 -- ---- the thread stays: with one item more, with two, with a variable and its body, with a variable less
 
-unfoldable pub oneIn : ThreadWords → ℕ → ℕ → Acted
+unfoldable pub oneIn : ThreadWords → ℕ → ℕ → Turned
 oneIn th n a = if leb 25 (th .items) then refusedIn 20 th n else actedIn Stays (pushItem a th) n
 
-unfoldable pub twoIn : ThreadWords → ℕ → ℕ → ℕ → Acted
+unfoldable pub twoIn : ThreadWords → ℕ → ℕ → ℕ → Turned
 twoIn th n top below = if leb 24 (th .items) then refusedIn 20 th n else actedIn Stays (pushItem top (pushItem below th)) n
 
--- where the items have no room the refused thread has the variable already: nobody looks at it
-unfoldable pub letsIn : ThreadWords → ℕ → ℕ → ℕ → Acted
-letsIn th n v body = if leb 25 (th .values) then refusedIn 20 th n else twoIn (pushValue v th) n body 2048
+unfoldable pub letsIn : ThreadWords → ℕ → ℕ → ℕ → Turned
+letsIn th n v body =
+    if leb 25 (th .values) then refusedIn 20 th n else
+    if leb 24 (th .items) then refusedIn 20 th n else
+    actedIn Stays (pushItem body (pushItem 2048 (pushValue v th))) n
 
-unfoldable pub dropsIn : ThreadWords → ℕ → Acted
+unfoldable pub dropsIn : ThreadWords → ℕ → Turned
 dropsIn th n = if eqb (th .values) 0 then refusedIn 20 th n else actedIn Stays (popValue th) n
 
 -- ---- the thread goes to place q, from that one
 
-unfoldable pub goesIn : ℕ → ThreadWords → ℕ → ℕ → Acted
+unfoldable pub goesIn : ℕ → ThreadWords → ℕ → ℕ → Turned
 goesIn from th n q =
     if eqb q from then actedIn Stays th n else
     if eqb q 1 then actedIn Leaves (moveTo q th) n else
     actedIn (Joins q) (moveTo q th) n
 
-unfoldable pub doesIn : ThreadWords → ℕ → ℕ → ℕ → Acted
+unfoldable pub doesIn : ThreadWords → ℕ → ℕ → ℕ → Turned
 doesIn th n q body =
     if eqb (th .place) 1 && eqb q 1 then refusedIn 20 th n else
     if leb 24 (th .items) then refusedIn 20 th n else
     goesIn (th .place) (pushItem body (pushItem (1024 + th .place) th)) n q
 
-unfoldable pub cooperatesIn : ThreadWords → ℕ → Acted
+unfoldable pub cooperatesIn : ThreadWords → ℕ → Turned
 cooperatesIn th n = if eqb (th .place) 1 then refusedIn 20 th n else actedIn (Joins (th .place)) th n
 
 -- ---- behind an evaluation
 
-abbrev pub thenActs : Outcome → ThreadWords → ℕ → (Value → Acted) → Acted
+abbrev pub thenActs : Outcome → ThreadWords → ℕ → (Value → Turned) → Turned
 thenActs (Is v) th n k = k v
 thenActs Foreign th n k = refusedIn 19 th n
 thenActs Spent th n k = refusedIn 17 th n
 thenActs Stuck th n k = refusedIn 20 th n
 
-abbrev pub byTruthIn : Value → ThreadWords → ℕ → Acted → Acted → Acted
+abbrev pub byTruthIn : Value → ThreadWords → ℕ → Turned → Turned → Turned
 byTruthIn (Truth true) th n a b = a
 byTruthIn (Truth false) th n a b = b
 byTruthIn (Number m) th n a b = refusedIn 20 th n
@@ -72,10 +78,10 @@ byTruthIn (Cell c) th n a b = refusedIn 20 th n
 
 -- with the words of the cells
 pub record ActedOn : Type 0 where
-  pub acted : Acted
+  pub acted : Turned
   pub cells : List ℕ
 
-abbrev pub actedOn : Acted → List ℕ → ActedOn
+abbrev pub actedOn : Turned → List ℕ → ActedOn
 actedOn a ws = record { acted = a; cells = ws }
 
 -- the thread's variables
@@ -104,7 +110,7 @@ loopsOn th body loop r =
 
 -- ---- a start, with the words of its arguments
 
-abbrev pub startsWith : Request → ThreadWords → ℕ → ℕ → ℕ → ℕ → Acted
+abbrev pub startsWith : Request → ThreadWords → ℕ → ℕ → ℕ → ℕ → Turned
 startsWith q th n given first second =
     record { fate = Starts (q .waits) (q .target); thread = th; used = n; given = given; first = first; second = second }
 
@@ -159,19 +165,49 @@ topIn th = getD (th .continuation) (th .items - 1) 0
 
 unfoldable pub turnIn : List Frame → Who → ThreadWords → ℕ → List ℕ → ActedOn
 turnIn fs who th n ws =
-    if eqb (th .items) 0 then actedOn (actedIn Leaves (endedIn th) n) ws else
+    if eqb (th .items) 0 then actedOn (actedIn Leaves (ended th) n) ws else
     itemIn fs who (popItem th) n ws (topIn th)
+
+-- ---- what the code says of its acts: they are those of every thread that looks like this
+
+-- a thread of which a turn sees where it stands, how many items it has and how many variables
+pub record Views (v : View) (th : ThreadWords) : Type 0 where
+  pub place : th .place ≡ v .place
+  pub items : th .items ≡ v .items
+  pub values : th .values ≡ v .values
+
+-- the act, its change made in such a thread without its top item, is that turn; and there is room for the change
+pub record Turns (a : Acted) (v : View) (f : ThreadWords → Turned) : Type 0 where
+  pub thread : (th : ThreadWords) → Views v th → turned a th ≡ f th
+  pub room : Room (a .change) (v .items) (v .values)
+
+-- the same with the words of the cells, for a thread of those variables
+pub record TurnsOn (a : Acted) (us : List ℕ) (v : View) (vs : List ℕ) (f : ThreadWords → ActedOn) : Type 0 where
+  pub thread : (th : ThreadWords) → Views v th → variablesIn th ≡ vs → actedOn (turned a th) us ≡ f th
+  pub room : Room (a .change) (v .items) (v .values)
+
+-- the same of the whole turn of a thread, with the word on top of its continuation
+pub record WholeTurn (a : Acted) (us : List ℕ) (v : View) (item : ℕ) (vs : List ℕ) (f : ThreadWords → ActedOn) : Type 0 where
+  pub thread : (th : ThreadWords) → Views v th → variablesIn th ≡ vs → topIn th ≡ item → actedOn (turned a (popped th)) us ≡ f th
+  pub room : Room (a .change) (v .items - 1) (v .values)
+
+-- to that place from that one: a move to one's own place is none
+unfoldable pub goesWith : ℕ → ℕ → ℕ → Change → Change → Acted
+goesWith from n q same moved =
+    if eqb q from then actedWith Stays same n else
+    if eqb q 1 then actedWith Leaves moved n else
+    actedWith (Joins q) moved n
+
+abbrev pub startWith : Request → ℕ → ℕ → ℕ → ℕ → Acted
+startWith q n given first second =
+    record { fate = Starts (q .waits) (q .target); change = Same; used = n; given = given; first = first; second = second }
 
 -- ---- what a caller has to show: words of a state that is not refused with 14, and frames that pass refusal 6
 
-pub record TurnWords (frames : List ℕ) (th : ThreadWords) (n : ℕ) (ws : List ℕ) : Type 0 where
+pub record TurnWords (frames : List ℕ) (v : View) (vs : List ℕ) (n : ℕ) (ws : List ℕ) : Type 0 where
   pub ordered : Ordered (framesOf frames)
-  pub place : th .place ≤ 9
-  pub items : th .items ≤ 25
-  pub values : th .values ≤ 25
-  pub variables : ValueWords (take (th .values) (th .variables))
+  pub place : v .place ≤ 9
+  pub items : v .items ≤ 25
+  pub count : length vs ≡ v .values
+  pub variables : ValueWords vs
   pub cells : CellWords n ws
-
--- a statement on top is a frame of the file
-abbrev pub TopWord : List ℕ → ThreadWords → Type 0
-TopWord frames th = topIn th < 1024 → topIn th < length frames

@@ -1,7 +1,8 @@
-// A thread's turn: what its top item comes to, on the thread's own words and the lent cells, before any list is touched.
+// A thread's turn: what its top item comes to, by what is seen of the thread and on the lent cells, before any list is touched.
 mod evaluated;
 pub mod item;
 mod moving;
 mod start;
 mod statement;
 mod staying;
+pub mod view;

@@ -1,51 +1,49 @@
 // Turns after which the thread stays where it is, with items or a variable more or less. A full space is 20.
+use crate::view::View;
 use acts::act::Acted;
+use acts::act::Change;
 use acts::act::Fate;
 use acts::act::comes_to;
 use acts::act::refused;
-use states::stack::pop_value;
-use states::stack::push_item;
-use states::stack::push_value;
-use states::thread::ThreadWords;
-ghost use mathlib.Core.Path.{_≡_};
-ghost use Prim.Native.Nat.{_≤_};
-ghost use Rattle.turns.specs.Acts.{oneIn, twoIn, letsIn, dropsIn};
+ghost use Rattle.turns.specs.Acts.{oneIn, twoIn, letsIn, dropsIn, Turns};
 
-pub fn stays_with(th: ThreadWords, used: usize, item: u64) -> Acted
-    ensures { λ r. ⌜ r ≡ oneIn th used item ⌝ }
+pub fn stays_with(v: View, used: usize, item: u64) -> Acted
+    ensures { λ r. ⌜ Turns r v (λ th. oneIn th used item) ⌝ }
 {
-    if 25 <= th.items {
-        return refused(20, th, used);
+    if 25 <= v.items {
+        return refused(20, used);
     }
-    comes_to(Fate::Stays, push_item(th, item), used)
+    comes_to(Fate::Stays, Change::Item(item), used)
 }
 
-pub fn stays_with_two(th: ThreadWords, used: usize, top: u64, below: u64) -> Acted
-    ensures { λ r. ⌜ r ≡ twoIn th used top below ⌝ }
+pub fn stays_with_two(v: View, used: usize, top: u64, below: u64) -> Acted
+    ensures { λ r. ⌜ Turns r v (λ th. twoIn th used top below) ⌝ }
 {
-    if 24 <= th.items {
-        return refused(20, th, used);
+    if 24 <= v.items {
+        return refused(20, used);
     }
-    comes_to(Fate::Stays, push_item(push_item(th, below), top), used)
+    comes_to(Fate::Stays, Change::Items(top, below), used)
 }
 
 // 16: one variable more, and the body above a drop of it.
-pub fn lets(th: ThreadWords, used: usize, value: u64, body: u64) -> Acted
-    ensures { λ r. ⌜ r ≡ letsIn th used value body ⌝ }
+pub fn lets(v: View, used: usize, value: u64, body: u64) -> Acted
+    ensures { λ r. ⌜ Turns r v (λ th. letsIn th used value body) ⌝ }
 {
-    if 25 <= th.values {
-        return refused(20, th, used);
+    if 25 <= v.values {
+        return refused(20, used);
     }
-    stays_with_two(push_value(th, value), used, body, 2048)
+    if 24 <= v.items {
+        return refused(20, used);
+    }
+    comes_to(Fate::Stays, Change::Let(value, body), used)
 }
 
 // A drop of the last variable.
-pub fn drops(th: ThreadWords, used: usize) -> Acted
-    requires { ⌜ th .values ≤ 25 ⌝ }
-    ensures { λ r. ⌜ r ≡ dropsIn th used ⌝ }
+pub fn drops(v: View, used: usize) -> Acted
+    ensures { λ r. ⌜ Turns r v (λ th. dropsIn th used) ⌝ }
 {
-    if th.values == 0 {
-        return refused(20, th, used);
+    if v.values == 0 {
+        return refused(20, used);
     }
-    comes_to(Fate::Stays, pop_value(th), used)
+    comes_to(Fate::Stays, Change::Drop, used)
 }

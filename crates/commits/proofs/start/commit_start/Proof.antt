@@ -1,11 +1,30 @@
 -- `commit_start` meets its contract. Assumes nothing.
 use Rattle.commits.proofs.StartLaws.{start-laws, free-count}
+use Rattle.commits.proofs.ChangeLaws.{place-is}
 use borrow.Author.Needs.{needs}
 use Rattle.commits.proofs.start.commit_start.Statement.{statement}
 use Rattle.commits.proofs.start.commit_start.Tie as tie
 
 module-at-requires : tie.Need-module-at-requires
 module-at-requires c κs = search needs
+
+sub-place-after : tie.Need-sub-place-after
+sub-place-after c = search needs
+
+mul-place-after : tie.Need-mul-place-after
+mul-place-after c = search needs
+
+add-place-after : tie.Need-add-place-after
+add-place-after c = search needs
+
+mul-place-after-2 : tie.Need-mul-place-after-2
+mul-place-after-2 c = search needs
+
+slice-read-place-after : tie.Need-slice-read-place-after
+slice-read-place-after c = search needs
+
+place-after-requires : tie.Need-place-after-requires
+place-after-requires c κs = search needs
 
 obstacle-requires : tie.Need-obstacle-requires
 obstacle-requires c κs = search needs
@@ -20,7 +39,7 @@ returns : tie.Need-returns
 returns c = search start-laws
 
 start-requires : tie.Need-start-requires
-start-requires c κs = (search needs, search free-count)
+start-requires c κs = (search needs, search free-count, search place-is)
 
 same-length-2 : tie.Need-same-length-2
 same-length-2 c = search needs
@@ -41,7 +60,7 @@ returns-3 : tie.Need-returns-3
 returns-3 c = search start-laws
 
 start-and-wait-requires : tie.Need-start-and-wait-requires
-start-and-wait-requires c κs = (search needs, search free-count)
+start-and-wait-requires c κs = (search needs, search (free-count, c .before .before .before .before .before .before .obstacle .ensures, c .before .before .before .before .before .if1 .left), search (place-is, c .before .before .before .before .before .before .before .before .place-after .ensures))
 
 same-length-4 : tie.Need-same-length-4
 same-length-4 c = search needs
@@ -54,6 +73,12 @@ commit-start-spec =
     tie.close
     (tie.spec
     module-at-requires
+    sub-place-after
+    mul-place-after
+    add-place-after
+    mul-place-after-2
+    slice-read-place-after
+    place-after-requires
     obstacle-requires
     clear-cells-requires
     same-length

@@ -1,46 +1,20 @@
 -- `obstacle` meets its contract. Assumes nothing.
 use borrow.Author.Needs.{needs}
-use Rattle.commits.proofs.StartLaws.{obstacle-laws}
+use Rattle.commits.proofs.StartLaws.{obstacle-is}
 use Rattle.commits.proofs.start.obstacle.Statement.{statement}
 use Rattle.commits.proofs.start.obstacle.Tie as tie
 
-is-private-requires : tie.Need-is-private-requires
-is-private-requires c κs = search needs
+misfit-requires : tie.Need-misfit-requires
+misfit-requires c κs = search needs
+
+spent-requires : tie.Need-spent-requires
+spent-requires c κs = search needs
+
+first-answer-requires : tie.Need-first-answer-requires
+first-answer-requires c κs = search needs
 
 returns : tie.Need-returns
-returns c = search obstacle-laws
-
-returns-2 : tie.Need-returns-2
-returns-2 c = search obstacle-laws
-
-returns-3 : tie.Need-returns-3
-returns-3 c = search obstacle-laws
-
-room-at-requires : tie.Need-room-at-requires
-room-at-requires c κs = search needs
-
-returns-4 : tie.Need-returns-4
-returns-4 c = search obstacle-laws
-
-thread-count-requires : tie.Need-thread-count-requires
-thread-count-requires c κs = search needs
-
-returns-5 : tie.Need-returns-5
-returns-5 c = search obstacle-laws
-
-returns-6 : tie.Need-returns-6
-returns-6 c = search obstacle-laws
+returns c = search obstacle-is
 
 pub obstacle-spec : {M : Type 1} → statement M
-obstacle-spec =
-    tie.close
-    (tie.spec
-    is-private-requires
-    returns
-    returns-2
-    returns-3
-    room-at-requires
-    returns-4
-    thread-count-requires
-    returns-5
-    returns-6)
+obstacle-spec = tie.close (tie.spec misfit-requires spent-requires first-answer-requires returns)

@@ -29,7 +29,7 @@ same-length : tie.Need-same-length
 same-length c = search needs
 
 returns : tie.Need-returns
-returns c = started _ _ _ _ _ _ _ (c .before .before .before .before .before .before .before .before .before .before .before .before .before .before .before .before .before .args .a) _ (c .before .before .join .ensures) (c .before .before .before .before .before .before .add-thread .ensures) (c .before .before .before .before .before .before .before .new-thread .ensures) (c .before .before .before .before .before .before .before .before .before .before .before .settle .ensures) (c .before .before .before .before .before .before .before .before .before .before .before .before .before .before .thread-count .ensures)
+returns c = started _ _ _ _ _ (c .before .before .before .before .before .before .before .before .before .before .before .before .before .before .before .before .args .a) _ _ (c .before .before .before .before .before .before .before .before .before .before .before .before .before .before .before .before .pre .2) (c .before .before .before .before .before .before .before .before .before .before .before .before .before .thread-count .ensures) (c .before .before .before .before .before .before .before .new-thread .ensures) _ _ (c .before .before .join .ensures) (c .before .before .before .before .before .before .add-thread .ensures) (c .before .before .before .before .before .before .before .before .before .before .before .settle .ensures)
 
 pub start-spec : {M : Type 1} → statement M
 start-spec =

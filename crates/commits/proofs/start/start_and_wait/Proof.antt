@@ -31,17 +31,14 @@ new-thread-requires c κs = search needs
 add-thread-requires : tie.Need-add-thread-requires
 add-thread-requires c κs = search needs
 
-join-requires : tie.Need-join-requires
-join-requires c κs = search needs
-
-join-requires-2 : tie.Need-join-requires-2
-join-requires-2 c κs = search needs
+join-both-requires : tie.Need-join-both-requires
+join-both-requires c κs = search needs
 
 same-length : tie.Need-same-length
 same-length c = search needs
 
 returns : tie.Need-returns
-returns c = waiting _ _ _ _ _ _ _ _ _ _ (c .before .before .before .before .before .before .before .before .before .before .before .before .before .before .before .before .before .before .before .before .before .before .before .before .before .args .a) _ (c .before .before .join2 .ensures) (c .before .before .before .before .before .before .join .ensures) (c .before .before .before .before .before .before .before .before .before .before .add-thread .ensures) (c .before .before .before .before .before .before .before .before .before .before .before .new-thread .ensures) (c .before .before .before .before .before .before .before .before .before .before .before .before .before .before .before .leave .ensures) (c .before .before .before .before .before .before .before .before .before .before .before .before .before .before .before .before .before .before .before .settle .ensures) (c .before .before .before .before .before .before .before .before .before .before .before .before .before .before .before .before .before .before .before .before .before .before .thread-count .ensures)
+returns c = waiting _ _ _ _ _ (c .before .before .before .before .before .before .before .before .before .before .before .before .before .before .before .before .before .before .before .before .args .a) _ _ (c .before .before .before .before .before .before .before .before .before .before .before .before .before .before .before .before .before .before .before .before .pre .2) (c .before .before .before .before .before .before .before .before .before .before .before .before .before .before .before .before .before .thread-count .ensures) (c .before .before .before .before .before .before .before .new-thread .ensures) _ _ _ _ (c .before .before .join-both .ensures) (c .before .before .before .before .before .before .add-thread .ensures) (c .before .before .before .before .before .before .before .before .before .before .before .leave .ensures) (c .before .before .before .before .before .before .before .before .before .before .before .before .before .before .before .settle .ensures)
 
 pub start-and-wait-spec : {M : Type 1} → statement M
 start-and-wait-spec =
@@ -56,7 +53,6 @@ start-and-wait-spec =
     leave-requires
     new-thread-requires
     add-thread-requires
-    join-requires
-    join-requires-2
+    join-both-requires
     same-length
     returns)

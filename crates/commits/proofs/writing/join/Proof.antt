@@ -1,23 +1,32 @@
 -- `join` meets its contract. Assumes nothing.
-use Rattle.commits.proofs.WritingLaws.{joined-laws}
 use borrow.Author.Needs.{needs}
+use native.Mathlib.Omega.{arith}
+use Prim.Native.Nat.{_≤_}
+use Rattle.commits.proofs.WritingLaws.{joined-laws, list-in}
 use Rattle.commits.proofs.writing.join.Statement.{statement}
 use Rattle.commits.proofs.writing.join.Tie as tie
+
+is-list-requires : tie.Need-is-list-requires
+is-list-requires c κs = search needs
 
 returns : tie.Need-returns
 returns c = search joined-laws
 
-returns-2 : tie.Need-returns-2
-returns-2 c = search joined-laws
+sub-append : tie.Need-sub-append
+sub-append c = list-in (c .before .before .before .before .args .q) _ (c .before .before .is-list .ensures) (c .before .if1 .left) .0
 
 append-requires : tie.Need-append-requires
-append-requires c κs = search needs
+append-requires c κs =
+    let p : (2 ≤ c .before .before .before .before .args .q) × (c .before .before .before .before .args .q ≤ 9) = list-in (c .before .before .before .before .args .q) _ (c .before .before .is-list .ensures) (c .before .if1 .left) in
+    let a = p .0 in
+    let b = p .1 in
+    (c .before .before .before .before .pre, omega arith)
 
 same-length : tie.Need-same-length
 same-length c = search needs
 
-returns-3 : tie.Need-returns-3
-returns-3 c = search joined-laws
+returns-2 : tie.Need-returns-2
+returns-2 c = search joined-laws
 
 pub join-spec : {M : Type 1} → statement M
-join-spec = tie.close (tie.spec returns returns-2 append-requires same-length returns-3)
+join-spec = tie.close (tie.spec is-list-requires returns sub-append append-requires same-length returns-2)

@@ -1,23 +1,32 @@
 -- `leave` meets its contract. Assumes nothing.
-use Rattle.commits.proofs.WritingLaws.{left-laws}
 use borrow.Author.Needs.{needs}
+use native.Mathlib.Omega.{arith}
+use Prim.Native.Nat.{_≤_}
+use Rattle.commits.proofs.WritingLaws.{left-laws, list-in}
 use Rattle.commits.proofs.writing.leave.Statement.{statement}
 use Rattle.commits.proofs.writing.leave.Tie as tie
+
+is-list-requires : tie.Need-is-list-requires
+is-list-requires c κs = search needs
 
 returns : tie.Need-returns
 returns c = search left-laws
 
-returns-2 : tie.Need-returns-2
-returns-2 c = search left-laws
+sub-drop-first : tie.Need-sub-drop-first
+sub-drop-first c = list-in (c .before .before .before .before .args .choice) _ (c .before .before .is-list .ensures) (c .before .if1 .left) .0
 
 drop-first-requires : tie.Need-drop-first-requires
-drop-first-requires c κs = search needs
+drop-first-requires c κs =
+    let p : (2 ≤ c .before .before .before .before .args .choice) × (c .before .before .before .before .args .choice ≤ 9) = list-in (c .before .before .before .before .args .choice) _ (c .before .before .is-list .ensures) (c .before .if1 .left) in
+    let a = p .0 in
+    let b = p .1 in
+    (c .before .before .before .before .pre, omega arith)
 
 same-length : tie.Need-same-length
 same-length c = search needs
 
-returns-3 : tie.Need-returns-3
-returns-3 c = search left-laws
+returns-2 : tie.Need-returns-2
+returns-2 c = search left-laws
 
 pub leave-spec : {M : Type 1} → statement M
-leave-spec = tie.close (tie.spec returns returns-2 drop-first-requires same-length returns-3)
+leave-spec = tie.close (tie.spec is-list-requires returns sub-drop-first drop-first-requires same-length returns-2)

@@ -1,20 +1,29 @@
 -- `room_at` meets its contract. Assumes nothing.
-use Rattle.commits.proofs.WritingLaws.{room-laws}
 use borrow.Author.Needs.{needs}
+use native.Mathlib.Omega.{arith}
+use Prim.Native.Nat.{_≤_}
+use Rattle.commits.proofs.WritingLaws.{room-laws, list-in}
 use Rattle.commits.proofs.writing.room_at.Statement.{statement}
 use Rattle.commits.proofs.writing.room_at.Tie as tie
+
+is-list-requires : tie.Need-is-list-requires
+is-list-requires c κs = search needs
 
 returns : tie.Need-returns
 returns c = search room-laws
 
+sub-has-room : tie.Need-sub-has-room
+sub-has-room c = list-in (c .before .before .before .args .q) _ (c .before .is-list .ensures) (c .if1 .left) .0
+
+has-room-requires : tie.Need-has-room-requires
+has-room-requires c κs =
+    let p : (2 ≤ c .before .before .before .args .q) × (c .before .before .before .args .q ≤ 9) = list-in (c .before .before .before .args .q) _ (c .before .is-list .ensures) (c .if1 .left) in
+    let a = p .0 in
+    let b = p .1 in
+    (c .before .before .before .pre, omega arith)
+
 returns-2 : tie.Need-returns-2
 returns-2 c = search room-laws
 
-has-room-requires : tie.Need-has-room-requires
-has-room-requires c κs = search needs
-
-returns-3 : tie.Need-returns-3
-returns-3 c = search room-laws
-
 pub room-at-spec : {M : Type 1} → statement M
-room-at-spec = tie.close (tie.spec returns returns-2 has-room-requires returns-3)
+room-at-spec = tie.close (tie.spec is-list-requires returns sub-has-room has-room-requires returns-2)

@@ -13,6 +13,12 @@ add-if1 c = search needs
 returns : tie.Need-returns
 returns c = search own-laws
 
+number-requires : tie.Need-number-requires
+number-requires c κs = search needs
+
+number-requires-2 : tie.Need-number-requires-2
+number-requires-2 c κs = search needs
+
 returns-2 : tie.Need-returns-2
 returns-2 c = search own-laws
 
@@ -24,4 +30,13 @@ returns-3 c = search own-laws
 
 pub is-own-spec : {M : Type 1} → statement M
 is-own-spec =
-    tie.close (tie.spec wide8-requires add-if1 returns returns-2 wide8-requires-2 returns-3)
+    tie.close
+    (tie.spec
+    wide8-requires
+    add-if1
+    returns
+    number-requires
+    number-requires-2
+    returns-2
+    wide8-requires-2
+    returns-3)

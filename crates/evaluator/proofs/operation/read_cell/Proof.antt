@@ -13,20 +13,11 @@ index8-requires c κs = search needs
 word-at-requires : tie.Need-word-at-requires
 word-at-requires c κs = search needs
 
-owner-of-requires : tie.Need-owner-of-requires
-owner-of-requires c κs = search needs
-
-is-own-requires : tie.Need-is-own-requires
-is-own-requires c κs = search needs
-
 content-of-requires : tie.Need-content-of-requires
 content-of-requires c κs = search needs
 
-returns : tie.Need-returns
-returns c = search read-laws
-
-returns-2 : tie.Need-returns-2
-returns-2 c = search read-laws
+access-requires : tie.Need-access-requires
+access-requires c κs = search needs
 
 enum-known-v-2 : tie.Need-enum-known-v-2
 enum-known-v-2 c = search needs
@@ -34,14 +25,14 @@ enum-known-v-2 c = search needs
 enum-known-v-3 : tie.Need-enum-known-v-3
 enum-known-v-3 c = search needs
 
+returns : tie.Need-returns
+returns c = search read-laws
+
+returns-2 : tie.Need-returns-2
+returns-2 c = search read-laws
+
 returns-3 : tie.Need-returns-3
 returns-3 c = search read-laws
-
-returns-4 : tie.Need-returns-4
-returns-4 c = search read-laws
-
-returns-5 : tie.Need-returns-5
-returns-5 c = search read-laws
 
 pub read-cell-spec : {M : Type 1} → statement M
 read-cell-spec =
@@ -50,13 +41,10 @@ read-cell-spec =
     enum-known-v
     index8-requires
     word-at-requires
-    owner-of-requires
-    is-own-requires
     content-of-requires
-    returns
-    returns-2
+    access-requires
     enum-known-v-2
     enum-known-v-3
-    returns-3
-    returns-4
-    returns-5)
+    returns
+    returns-2
+    returns-3)

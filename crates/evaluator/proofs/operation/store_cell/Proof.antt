@@ -1,6 +1,6 @@
 -- `store_cell` meets its contract. Assumes nothing.
 use borrow.Author.Needs.{needs}
-use Rattle.evaluator.proofs.Operations.{store-is, store-laws}
+use Rattle.evaluator.proofs.Operations.{store-is, store-number, store-truth}
 use Rattle.evaluator.proofs.operation.store_cell.Statement.{statement}
 use Rattle.evaluator.proofs.operation.store_cell.Tie as tie
 
@@ -13,30 +13,14 @@ index8-requires c κs = search needs
 word-at-requires : tie.Need-word-at-requires
 word-at-requires c κs = search needs
 
-owner-of-requires : tie.Need-owner-of-requires
-owner-of-requires c κs = search needs
+access-requires : tie.Need-access-requires
+access-requires c κs = search needs
 
-is-own-requires : tie.Need-is-own-requires
-is-own-requires c κs = search needs
-
-with-content-requires : tie.Need-with-content-requires
-with-content-requires c κs = search needs
+word-after-requires : tie.Need-word-after-requires
+word-after-requires c κs = search needs
 
 put-word-requires : tie.Need-put-word-requires
 put-word-requires c κs = search needs
-
-same-length : tie.Need-same-length
-same-length c = search needs
-
-returns : tie.Need-returns
-returns c =
-    store-is _ _ _ _ _ _ _ _ _ (c .before .before .before .before .before .before .before .before .before .before .before .before .before .v .given .1) (c .before .before .before .before .before .before .before .before .before .before .before .index8 .ensures) (c .before .before .before .before .before .before .before .before .before .before .if1 .taken) (c .before .before .before .before .before .before .before .before .word-at .ensures) (c .before .before .before .before .before .before .before .owner-of .ensures) (c .before .before .before .before .before .before .is-own .ensures) _ _ _ (c .before .before .before .before .before .if2 .taken) (c .before .before .before .with-content .ensures) (c .before .before .put-word .ensures)
-
-same-length-2 : tie.Need-same-length-2
-same-length-2 c = search needs
-
-returns-2 : tie.Need-returns-2
-returns-2 c = search store-laws
 
 enum-known-v-2 : tie.Need-enum-known-v-2
 enum-known-v-2 c = search needs
@@ -44,14 +28,19 @@ enum-known-v-2 c = search needs
 enum-known-v-3 : tie.Need-enum-known-v-3
 enum-known-v-3 c = search needs
 
+same-length : tie.Need-same-length
+same-length c = search needs
+
+returns : tie.Need-returns
+returns c =
+    let at = c .before .before .before .before .before in
+    store-is _ _ _ _ _ _ _ _ _ _ _ (at .before .before .before .before .before .v .given .1) (at .before .before .before .index8 .ensures) (at .before .word-at .ensures) (at .access .ensures) (c .before .before .before .word-after .ensures) (c .before .before .put-word .ensures)
+
+returns-2 : tie.Need-returns-2
+returns-2 c = search store-number
+
 returns-3 : tie.Need-returns-3
-returns-3 c = search store-laws
-
-returns-4 : tie.Need-returns-4
-returns-4 c = search store-laws
-
-returns-5 : tie.Need-returns-5
-returns-5 c = search store-laws
+returns-3 c = search store-truth
 
 pub store-cell-spec : {M : Type 1} → statement M
 store-cell-spec =
@@ -60,16 +49,12 @@ store-cell-spec =
     enum-known-v
     index8-requires
     word-at-requires
-    owner-of-requires
-    is-own-requires
-    with-content-requires
+    access-requires
+    word-after-requires
     put-word-requires
-    same-length
-    returns
-    same-length-2
-    returns-2
     enum-known-v-2
     enum-known-v-3
-    returns-3
-    returns-4
-    returns-5)
+    same-length
+    returns
+    returns-2
+    returns-3)

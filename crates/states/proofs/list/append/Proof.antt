@@ -1,7 +1,5 @@
 -- `append` meets its contract. Assumes nothing.
 use borrow.Author.Needs.{needs}
-use lib.ListN.{length-set}
-use native.Mathlib.Omega.{arith}
 use Rattle.states.proofs.ListLaws.{last-laws}
 use Rattle.states.proofs.list.append.Statement.{statement}
 use Rattle.states.proofs.list.append.Tie as tie
@@ -21,26 +19,8 @@ slice-read-n c = search needs
 returns : tie.Need-returns
 returns c = search last-laws
 
-add-state : tie.Need-add-state
-add-state c = search needs
-
-add-state-2 : tie.Need-add-state-2
-add-state-2 c = search needs
-
-mul-state : tie.Need-mul-state
-mul-state c = search needs
-
-slice-write-state : tie.Need-slice-write-state
-slice-write-state c = search needs
-
-add-state-3 : tie.Need-add-state-3
-add-state-3 c = search needs
-
-mul-state-2 : tie.Need-mul-state-2
-mul-state-2 c = search needs
-
-slice-write-state-2 : tie.Need-slice-write-state-2
-slice-write-state-2 c = simp length-set (omega arith)
+insert-requires : tie.Need-insert-requires
+insert-requires c κs = search needs
 
 same-length : tie.Need-same-length
 same-length c = search needs
@@ -51,18 +31,4 @@ returns-2 c = search last-laws
 pub append-spec : {M : Type 1} → statement M
 append-spec =
     tie.close
-    (tie.spec
-    mul-at
-    add-at
-    mul-n
-    slice-read-n
-    returns
-    add-state
-    add-state-2
-    mul-state
-    slice-write-state
-    add-state-3
-    mul-state-2
-    slice-write-state-2
-    same-length
-    returns-2)
+    (tie.spec mul-at add-at mul-n slice-read-n returns insert-requires same-length returns-2)

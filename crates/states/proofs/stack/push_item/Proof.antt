@@ -1,22 +1,72 @@
 -- `push_item` meets its contract. Assumes nothing.
+use Rattle.states.proofs.StackWords.{stack-laws}
+use lib.ListN.{length-set}
+use native.Mathlib.Omega.{arith}
 use borrow.Author.Needs.{needs}
-use mathlib.Core.Path.{refl}
-use Rattle.states.specs.Stacks.{pushItem}
 use Rattle.states.proofs.stack.push_item.Statement.{statement}
 use Rattle.states.proofs.stack.push_item.Tie as tie
 
-mul-p : tie.Need-mul-p
-mul-p c = search needs
+mul-at : tie.Need-mul-at
+mul-at c = search needs
 
-array-write-p : tie.Need-array-write-p
-array-write-p c = search needs
+add-at : tie.Need-add-at
+add-at c = search needs
 
-add-t10 : tie.Need-add-t10
-add-t10 c = search needs
+add-n : tie.Need-add-n
+add-n c = search needs
+
+mul-n : tie.Need-mul-n
+mul-n c = search needs
+
+slice-read-n : tie.Need-slice-read-n
+slice-read-n c = search needs
+
+add-state : tie.Need-add-state
+add-state c = search needs
+
+add-state-2 : tie.Need-add-state-2
+add-state-2 c = search needs
+
+mul-state : tie.Need-mul-state
+mul-state c = search needs
+
+slice-write-state : tie.Need-slice-write-state
+slice-write-state c = search needs
+
+add-state-3 : tie.Need-add-state-3
+add-state-3 c = search needs
+
+add-state-4 : tie.Need-add-state-4
+add-state-4 c = search needs
+
+mul-state-2 : tie.Need-mul-state-2
+mul-state-2 c = search needs
+
+slice-write-state-2 : tie.Need-slice-write-state-2
+slice-write-state-2 c = simp length-set (omega arith)
+
+same-length : tie.Need-same-length
+same-length c = search needs
 
 returns : tie.Need-returns
-unfolding pushItem
-returns c = refl
+returns c = search stack-laws
 
 pub push-item-spec : {M : Type 1} → statement M
-push-item-spec = tie.close (tie.spec mul-p array-write-p add-t10 returns)
+push-item-spec =
+    tie.close
+    (tie.spec
+    mul-at
+    add-at
+    add-n
+    mul-n
+    slice-read-n
+    add-state
+    add-state-2
+    mul-state
+    slice-write-state
+    add-state-3
+    add-state-4
+    mul-state-2
+    slice-write-state-2
+    same-length
+    returns)

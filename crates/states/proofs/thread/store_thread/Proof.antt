@@ -1,6 +1,6 @@
 -- `thread::store_thread` meets its contract. Assumes nothing.
 use Rattle.states.proofs.Store.{half-length, whole, whole-length}
-use Prim.Native.Nat.{_-_, _+_, _*_}
+use Prim.Native.Nat.{_+_, _*_}
 use lib.ListN.{length-set}
 use native.Mathlib.Omega.{arith}
 use borrow.Author.Needs.{needs}

@@ -2,67 +2,81 @@
 use borrow.Author.Needs.{needs}
 use native.Mathlib.Omega.{arith}
 use mathlib.Core.Path.{refl}
-use Rattle.stepper.proofs.StepLaws.{step-long, threads-few, place-byte, act-asks, act-gives}
+use Rattle.stepper.proofs.StepLaws.{step-long, threads-few, place-read, items-read, variables-room, variables-are, variables-count, who-at, act-asks, act-gives}
 use Rattle.stepper.proofs.turn.act_in.Statement.{statement}
 use Rattle.stepper.proofs.turn.act_in.Tie as tie
 
 slice-read-used : tie.Need-slice-read-used
-slice-read-used c = let p = c .before .before .before .pre in let l = step-long _ _ _ (p .0) in omega arith
+slice-read-used c = let p = c .before .before .before .pre in let l = step-long _ _ _ (p .0) in let m = threads-few _ _ _ (p .0) in let a = p .1 in let b = p .2 in omega arith
 
-sub-load-thread : tie.Need-sub-load-thread
-sub-load-thread c = search needs
+sub-k : tie.Need-sub-k
+sub-k c = let p = c .before .before .before .pre in let l = step-long _ _ _ (p .0) in let m = threads-few _ _ _ (p .0) in let a = p .1 in let b = p .2 in omega arith
 
-load-thread-requires : tie.Need-load-thread-requires
-load-thread-requires c κs =
-    let p = c .before .before .before .before .pre in
-    let l = step-long _ _ _ (p .0) in
-    let m = threads-few _ _ _ (p .0) in
-    let a = p .1 in
-    (l, omega arith)
+mul-at : tie.Need-mul-at
+mul-at c = let p = c .before .before .before .pre in let l = step-long _ _ _ (p .0) in let m = threads-few _ _ _ (p .0) in let a = p .1 in let b = p .2 in record { fits = omega arith }
 
-cast-t13 : tie.Need-cast-t13
-cast-t13 c = let p = c .before .before .before .before .before .pre in let m = threads-few _ _ _ (p .0) in let a = p .1 in record { fits = omega arith }
+add-at : tie.Need-add-at
+add-at c = let p = c .before .before .before .pre in let l = step-long _ _ _ (p .0) in let m = threads-few _ _ _ (p .0) in let a = p .1 in let b = p .2 in omega arith
 
-cast-t14 : tie.Need-cast-t14
-cast-t14 c =
-    let p = c .before .before .before .before .before .before .pre in
-    let m = place-byte _ _ _ (p .0) _ (p .1) (p .2) _ (c .before .load-thread .ensures) in
-    record { fits = omega arith }
+mul-t15 : tie.Need-mul-t15
+mul-t15 c = let p = c .before .before .before .pre in let l = step-long _ _ _ (p .0) in let m = threads-few _ _ _ (p .0) in let a = p .1 in let b = p .2 in record { fits = omega arith }
+
+slice-read-t14 : tie.Need-slice-read-t14
+slice-read-t14 c = let p = c .before .before .before .before .pre in let l = step-long _ _ _ (p .0) in let m = threads-few _ _ _ (p .0) in let a = p .1 in let b = p .2 in omega arith
+
+add-t17 : tie.Need-add-t17
+add-t17 c = let p = c .before .before .before .before .pre in let l = step-long _ _ _ (p .0) in let m = threads-few _ _ _ (p .0) in let a = p .1 in let b = p .2 in omega arith
+
+mul-t18 : tie.Need-mul-t18
+mul-t18 c = let p = c .before .before .before .before .pre in let l = step-long _ _ _ (p .0) in let m = threads-few _ _ _ (p .0) in let a = p .1 in let b = p .2 in record { fits = omega arith }
+
+slice-read-t20 : tie.Need-slice-read-t20
+slice-read-t20 c = let p = c .before .before .before .before .before .pre in let l = step-long _ _ _ (p .0) in let m = threads-few _ _ _ (p .0) in let a = p .1 in let b = p .2 in omega arith
+
+add-t21 : tie.Need-add-t21
+add-t21 c = let p = c .before .before .before .before .before .pre in let l = step-long _ _ _ (p .0) in let m = threads-few _ _ _ (p .0) in let a = p .1 in let b = p .2 in omega arith
+
+mul-t22 : tie.Need-mul-t22
+mul-t22 c = let p = c .before .before .before .before .before .pre in let l = step-long _ _ _ (p .0) in let m = threads-few _ _ _ (p .0) in let a = p .1 in let b = p .2 in record { fits = omega arith }
+
+slice-read-t24 : tie.Need-slice-read-t24
+slice-read-t24 c = let p = c .before .before .before .before .before .before .pre in let l = step-long _ _ _ (p .0) in let m = threads-few _ _ _ (p .0) in let a = p .1 in let b = p .2 in omega arith
+
+cast-t25 : tie.Need-cast-t25
+cast-t25 c = let p = c .before .before .before .before .before .before .pre in let l = step-long _ _ _ (p .0) in let m = threads-few _ _ _ (p .0) in let a = p .1 in let b = p .2 in record { fits = omega arith }
+
+standing-at-requires : tie.Need-standing-at-requires
+standing-at-requires c κs = let p = c .before .before .before .before .before .before .pre in place-read _ _ _ (p .0) _ (p .1) (p .2) _ refl
+
+top-item-requires : tie.Need-top-item-requires
+top-item-requires c κs = let p = c .before .before .before .before .before .before .before .before .pre in let l = step-long _ _ _ (p .0) in let m = threads-few _ _ _ (p .0) in let a = p .1 in let b = p .2 in (l, omega arith, items-read _ _ _ (p .0) _ (p .1) (p .2))
+
+load-variables-requires : tie.Need-load-variables-requires
+load-variables-requires c κs = let p = c .before .before .before .before .before .before .before .before .before .before .pre in let l = step-long _ _ _ (p .0) in let m = threads-few _ _ _ (p .0) in let a = p .1 in let b = p .2 in (l, omega arith)
+
+array-share-prefix-variables : tie.Need-array-share-prefix-variables
+array-share-prefix-variables c = let p = c .before .before .before .before .before .before .before .before .before .before .before .pre in variables-room _ _ _ (p .0) _ (p .1) (p .2) _ (c .load-variables .ensures)
+
+slice-aggregate-act : tie.Need-slice-aggregate-act
+slice-aggregate-act c = let p = c .before .before .before .before .before .before .before .before .before .before .before .before .pre in variables-count _ _ _ (p .0) _ (p .1) (p .2) _ (c .before .load-variables .ensures)
 
 sub-act : tie.Need-sub-act
-sub-act c = let p = c .before .before .before .before .before .before .pre in let l = step-long _ _ _ (p .0) in omega arith
+sub-act c = let p = c .before .before .before .before .before .before .before .before .before .before .before .before .pre in let l = step-long _ _ _ (p .0) in let m = threads-few _ _ _ (p .0) in let a = p .1 in let b = p .2 in omega arith
 
 part-act-start : tie.Need-part-act-start
-part-act-start c = let p = c .before .before .before .before .before .before .pre in let l = step-long _ _ _ (p .0) in omega arith
+part-act-start c = let p = c .before .before .before .before .before .before .before .before .before .before .before .before .pre in let l = step-long _ _ _ (p .0) in let m = threads-few _ _ _ (p .0) in let a = p .1 in let b = p .2 in omega arith
 
 part-act-end : tie.Need-part-act-end
 part-act-end c = search needs
 
 act-requires : tie.Need-act-requires
-act-requires c κs =
-    let p = c .before .before .before .before .before .before .before .pre in
-    act-asks _ _ _ (p .0) _ (p .1) (p .2) _ _ _ (c .before .before .load-thread .ensures) refl refl
+act-requires c κs = let p = c .before .before .before .before .before .before .before .before .before .before .before .before .before .pre in act-asks _ _ _ (p .0) _ (p .1) (p .2) _ _ _ _ _ (record { place = refl; items = refl; values = refl }) (c .before .before .before .before .top-item .ensures) (variables-are _ _ _ (p .0) _ (p .1) (p .2) _ (c .before .before .load-variables .ensures)) refl refl
 
 same-length : tie.Need-same-length
 same-length c = search needs
 
 returns : tie.Need-returns
-returns c =
-    let p = c .before .before .before .before .before .before .before .before .before .before .pre in
-    act-gives _ _ _ (p .0) _ (p .1) (p .2) _ _ _ _ _ _ _ (c .before .before .before .before .before .load-thread .ensures) refl refl refl (c .before .before .act .ensures) (c .before .before .act .kept .1 .1 .1 .0) refl
+returns c = let p = c .before .before .before .before .before .before .before .before .before .before .before .before .before .before .before .before .pre in act-gives _ _ _ (p .0) _ (p .1) (p .2) _ _ _ _ _ (record { place = refl; items = refl; values = refl }) (c .before .before .before .before .before .before .before .top-item .ensures) (variables-are _ _ _ (p .0) _ (p .1) (p .2) _ (c .before .before .before .before .before .load-variables .ensures)) refl refl _ _ _ _ (who-at _ _ _ _ (c .before .before .before .before .before .before .before .before .before .standing-at .ensures)) (c .before .before .act .ensures) (c .before .before .act .kept .1 .1 .1 .1 .1 .0) refl
 
 pub act-in-spec : {M : Type 1} → statement M
-act-in-spec =
-    tie.close
-    (tie.spec
-    slice-read-used
-    sub-load-thread
-    load-thread-requires
-    cast-t13
-    cast-t14
-    sub-act
-    part-act-start
-    part-act-end
-    act-requires
-    same-length
-    returns)
+act-in-spec = tie.close (tie.spec slice-read-used sub-k mul-at add-at mul-t15 slice-read-t14 add-t17 mul-t18 slice-read-t20 add-t21 mul-t22 slice-read-t24 cast-t25 standing-at-requires top-item-requires load-variables-requires array-share-prefix-variables slice-aggregate-act sub-act part-act-start part-act-end act-requires same-length returns)

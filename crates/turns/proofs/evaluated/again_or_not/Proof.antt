@@ -1,53 +1,54 @@
 -- `again_or_not` meets its contract. Assumes nothing.
 use borrow.Author.Needs.{needs}
-use Rattle.turns.proofs.ThenLaws.{truth-laws}
+use Rattle.turns.proofs.ViewLaws.{stays-so}
+use Rattle.turns.proofs.ThenLaws.{truth-yes, truth-no, truth-number, truth-cell}
 use Rattle.turns.proofs.evaluated.again_or_not.Statement.{statement}
 use Rattle.turns.proofs.evaluated.again_or_not.Tie as tie
 
-enum-known-v : tie.Need-enum-known-v
-enum-known-v c = search needs
+enum-known-w : tie.Need-enum-known-w
+enum-known-w c = search needs
 
 stays-with-two-requires : tie.Need-stays-with-two-requires
 stays-with-two-requires c κs = search needs
 
 returns : tie.Need-returns
-returns c = search truth-laws
+returns c = truth-yes _ _ _ _ _ _ _ (c .before .before .before .w .given .1) (c .before .if1 .taken) (c .stays-with-two .ensures)
 
 comes-to-requires : tie.Need-comes-to-requires
 comes-to-requires c κs = search needs
 
-enum-known-v-2 : tie.Need-enum-known-v-2
-enum-known-v-2 c = search needs
+enum-known-w-2 : tie.Need-enum-known-w-2
+enum-known-w-2 c = search needs
 
 refused-requires : tie.Need-refused-requires
 refused-requires c κs = search needs
 
-enum-known-v-3 : tie.Need-enum-known-v-3
-enum-known-v-3 c = search needs
+enum-known-w-3 : tie.Need-enum-known-w-3
+enum-known-w-3 c = search needs
 
 refused-requires-2 : tie.Need-refused-requires-2
 refused-requires-2 c κs = search needs
 
 returns-2 : tie.Need-returns-2
-returns-2 c = search truth-laws
+returns-2 c = truth-no _ _ _ _ _ _ _ (c .before .before .before .w .given .1) (c .before .if1 .left) (stays-so _ _ _ (c .comes-to .ensures))
 
 returns-3 : tie.Need-returns-3
-returns-3 c = search truth-laws
+returns-3 c = truth-number _ _ _ _ _ _ _ (c .before .before .w2 .given .1) (c .refused .ensures)
 
 returns-4 : tie.Need-returns-4
-returns-4 c = search truth-laws
+returns-4 c = truth-cell _ _ _ _ _ _ _ (c .before .before .w3 .given .1) (c .refused2 .ensures)
 
 pub again-or-not-spec : {M : Type 1} → statement M
 again-or-not-spec =
     tie.close
     (tie.spec
-    enum-known-v
+    enum-known-w
     stays-with-two-requires
     returns
     comes-to-requires
-    enum-known-v-2
+    enum-known-w-2
     refused-requires
-    enum-known-v-3
+    enum-known-w-3
     refused-requires-2
     returns-2
     returns-3

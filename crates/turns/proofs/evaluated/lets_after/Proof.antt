@@ -1,6 +1,6 @@
 -- `lets_after` meets its contract. Assumes nothing.
 use borrow.Author.Needs.{needs}
-use Rattle.turns.proofs.ThenLaws.{then-laws, lets-is}
+use Rattle.turns.proofs.ThenLaws.{lets-is, then-foreign, then-spent, then-stuck}
 use Rattle.turns.proofs.evaluated.lets_after.Statement.{statement}
 use Rattle.turns.proofs.evaluated.lets_after.Tie as tie
 
@@ -35,13 +35,13 @@ returns : tie.Need-returns
 returns c = lets-is _ _ _ _ _ _ (c .before .before .before .o .given .1) (c .before .value-word .ensures .0) _ (c .lets .ensures)
 
 returns-2 : tie.Need-returns-2
-returns-2 c = search then-laws
+returns-2 c = then-foreign _ _ _ _ _ (c .before .enum-told .given .1) (c .refused .ensures)
 
 returns-3 : tie.Need-returns-3
-returns-3 c = search then-laws
+returns-3 c = then-spent _ _ _ _ _ (c .before .enum-told2 .given .1) (c .refused2 .ensures)
 
 returns-4 : tie.Need-returns-4
-returns-4 c = search then-laws
+returns-4 c = then-stuck _ _ _ _ _ (c .before .enum-told3 .given .1) (c .refused3 .ensures)
 
 pub lets-after-spec : {M : Type 1} → statement M
 lets-after-spec =

@@ -1,6 +1,6 @@
 -- `loops_after` meets its contract. Assumes nothing.
 use borrow.Author.Needs.{needs}
-use Rattle.turns.proofs.ThenLaws.{then-laws}
+use Rattle.turns.proofs.ThenLaws.{then-is, then-foreign, then-spent, then-stuck}
 use Rattle.turns.proofs.evaluated.loops_after.Statement.{statement}
 use Rattle.turns.proofs.evaluated.loops_after.Tie as tie
 
@@ -29,16 +29,16 @@ refused-requires-3 : tie.Need-refused-requires-3
 refused-requires-3 c κs = search needs
 
 returns : tie.Need-returns
-returns c = search then-laws
+returns c = then-is _ _ _ _ _ _ (c .before .before .o .given .1) (c .again-or-not .ensures)
 
 returns-2 : tie.Need-returns-2
-returns-2 c = search then-laws
+returns-2 c = then-foreign _ _ _ _ _ (c .before .enum-told .given .1) (c .refused .ensures)
 
 returns-3 : tie.Need-returns-3
-returns-3 c = search then-laws
+returns-3 c = then-spent _ _ _ _ _ (c .before .enum-told2 .given .1) (c .refused2 .ensures)
 
 returns-4 : tie.Need-returns-4
-returns-4 c = search then-laws
+returns-4 c = then-stuck _ _ _ _ _ (c .before .enum-told3 .given .1) (c .refused3 .ensures)
 
 pub loops-after-spec : {M : Type 1} → statement M
 loops-after-spec =

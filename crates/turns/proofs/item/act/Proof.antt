@@ -1,45 +1,27 @@
 -- `act` meets its contract. Assumes nothing.
-use denote.Ref.{now}
 use borrow.Author.Needs.{needs}
-use Rattle.turns.proofs.ItemLaws.{item-laws, popped, top-there}
+use Rattle.turns.proofs.ItemLaws.{below-words, turn-ends, turn-item}
 use Rattle.turns.proofs.item.act.Statement.{statement}
 use Rattle.turns.proofs.item.act.Tie as tie
-
-ended-requires : tie.Need-ended-requires
-ended-requires c κs = search needs
 
 comes-to-requires : tie.Need-comes-to-requires
 comes-to-requires c κs = search needs
 
 returns : tie.Need-returns
-returns c = search item-laws
+returns c = turn-ends _ _ _ _ _ _ _ _ (c .before .if1 .taken) (c .comes-to .ensures)
 
-top-item-requires : tie.Need-top-item-requires
-top-item-requires c κs = search needs
-
-pop-item-requires : tie.Need-pop-item-requires
-pop-item-requires c κs = search needs
+sub-t12 : tie.Need-sub-t12
+sub-t12 c = search needs
 
 act-item-requires : tie.Need-act-item-requires
-act-item-requires c κs =
-    let at = c .before .before .before .before .before .before .before in
-    (search popped, top-there (now (at .args .frames)) (at .args .th) _ (c .before .before .top-item .ensures) (at .pre .1))
+act-item-requires c κs = (below-words _ _ _ _ _ (c .before .before .before .before .before .before .before .pre .0), c .before .before .before .before .before .before .before .pre .1)
 
 same-length : tie.Need-same-length
 same-length c = search needs
 
 returns-2 : tie.Need-returns-2
-returns-2 c = search item-laws
+returns-2 c = turn-item _ _ _ _ _ _ _ _ _ (c .before .before .before .before .before .if1 .left) (c .before .before .act-item .ensures)
 
 pub act-spec : {M : Type 1} → statement M
 act-spec =
-    tie.close
-    (tie.spec
-    ended-requires
-    comes-to-requires
-    returns
-    top-item-requires
-    pop-item-requires
-    act-item-requires
-    same-length
-    returns-2)
+    tie.close (tie.spec comes-to-requires returns sub-t12 act-item-requires same-length returns-2)

@@ -1,6 +1,6 @@
 -- `cooperates` meets its contract. Assumes nothing.
 use borrow.Author.Needs.{needs}
-use Rattle.turns.proofs.PlaceLaws.{go-laws}
+use Rattle.turns.proofs.PlaceLaws.{cooperates-not, cooperates-next}
 use Rattle.turns.proofs.moving.cooperates.Statement.{statement}
 use Rattle.turns.proofs.moving.cooperates.Tie as tie
 
@@ -11,13 +11,13 @@ refused-requires : tie.Need-refused-requires
 refused-requires c κs = search needs
 
 returns : tie.Need-returns
-returns c = search go-laws
+returns c = cooperates-not _ _ _ _ (c .before .before .is-private .ensures) (c .before .if1 .taken) (c .refused .ensures)
 
 comes-to-requires : tie.Need-comes-to-requires
 comes-to-requires c κs = search needs
 
 returns-2 : tie.Need-returns-2
-returns-2 c = search go-laws
+returns-2 c = cooperates-next _ _ _ _ (c .before .before .is-private .ensures) (c .before .if1 .left) (c .comes-to .ensures)
 
 pub cooperates-spec : {M : Type 1} → statement M
 cooperates-spec =

@@ -1,6 +1,6 @@
 -- `does_at` meets its contract. Assumes nothing.
 use borrow.Author.Needs.{needs}
-use Rattle.turns.proofs.PlaceLaws.{pushed-room, go-laws}
+use Rattle.turns.proofs.PlaceLaws.{does-again, does-full, does-there}
 use Rattle.turns.proofs.moving.does_at.Statement.{statement}
 use Rattle.turns.proofs.moving.does_at.Tie as tie
 
@@ -11,28 +11,22 @@ refused-requires : tie.Need-refused-requires
 refused-requires c κs = search needs
 
 returns : tie.Need-returns
-returns c = search go-laws
+returns c = does-again _ _ _ _ _ _ (c .before .if1 .taken) (c .before .before .unlinked-again .ensures) (c .refused .ensures)
 
 refused-requires-2 : tie.Need-refused-requires-2
 refused-requires-2 c κs = search needs
 
 returns-2 : tie.Need-returns-2
-returns-2 c = search go-laws
+returns-2 c = does-full _ _ _ _ _ _ (c .before .before .before .if1 .left) (c .before .before .before .before .unlinked-again .ensures) (c .before .if2 .taken) (c .refused2 .ensures)
 
-add-push-item : tie.Need-add-push-item
-add-push-item c = search needs
-
-push-item-requires : tie.Need-push-item-requires
-push-item-requires c κs = search needs
-
-push-item-requires-2 : tie.Need-push-item-requires-2
-push-item-requires-2 c κs = search pushed-room
+add-t8 : tie.Need-add-t8
+add-t8 c = search needs
 
 goes-requires : tie.Need-goes-requires
 goes-requires c κs = search needs
 
 returns-3 : tie.Need-returns-3
-returns-3 c = search go-laws
+returns-3 c = does-there _ _ _ _ _ _ (c .before .before .before .if1 .left) (c .before .before .before .before .unlinked-again .ensures) (c .before .if2 .left) (c .goes .ensures)
 
 pub does-at-spec : {M : Type 1} → statement M
 does-at-spec =
@@ -43,8 +37,6 @@ does-at-spec =
     returns
     refused-requires-2
     returns-2
-    add-push-item
-    push-item-requires
-    push-item-requires-2
+    add-t8
     goes-requires
     returns-3)

@@ -10,9 +10,6 @@ comes-to-requires c κs = search needs
 returns : tie.Need-returns
 returns c = search go-laws
 
-move-to-requires : tie.Need-move-to-requires
-move-to-requires c κs = search needs
-
 is-private-requires : tie.Need-is-private-requires
 is-private-requires c κs = search needs
 
@@ -34,7 +31,6 @@ goes-spec =
     (tie.spec
     comes-to-requires
     returns
-    move-to-requires
     is-private-requires
     comes-to-requires-2
     returns-2

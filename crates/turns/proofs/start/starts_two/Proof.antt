@@ -1,6 +1,6 @@
 -- `starts_two` meets its contract. Assumes nothing.
 use borrow.Author.Needs.{needs}
-use Rattle.turns.proofs.ThenLaws.{then-laws, two-is}
+use Rattle.turns.proofs.ThenLaws.{two-is, then-foreign, then-spent, then-stuck}
 use Rattle.turns.proofs.start.starts_two.Statement.{statement}
 use Rattle.turns.proofs.start.starts_two.Tie as tie
 
@@ -35,13 +35,13 @@ returns : tie.Need-returns
 returns c = two-is _ _ _ _ _ _ (c .before .before .before .o .given .1) (c .before .value-word .ensures .0) _ _ (c .starts-with .ensures)
 
 returns-2 : tie.Need-returns-2
-returns-2 c = search then-laws
+returns-2 c = then-foreign _ _ _ _ _ (c .before .enum-told .given .1) (c .refused .ensures)
 
 returns-3 : tie.Need-returns-3
-returns-3 c = search then-laws
+returns-3 c = then-spent _ _ _ _ _ (c .before .enum-told2 .given .1) (c .refused2 .ensures)
 
 returns-4 : tie.Need-returns-4
-returns-4 c = search then-laws
+returns-4 c = then-stuck _ _ _ _ _ (c .before .enum-told3 .given .1) (c .refused3 .ensures)
 
 pub starts-two-spec : {M : Type 1} → statement M
 starts-two-spec =

@@ -1,6 +1,6 @@
 -- `act_statement` meets its contract. Assumes nothing.
 use borrow.Author.Needs.{needs}
-use Rattle.turns.proofs.NodeLaws.{acts-laws, under-laws}
+use Rattle.turns.proofs.NodeLaws.{acts-nothing, acts-cooperate, acts-seq, acts-do, acts-start, acts-wait, acts-let, acts-store, acts-if, acts-while, while-a, under-laws}
 use Rattle.turns.proofs.statement.act_statement.Statement.{statement}
 use Rattle.turns.proofs.statement.act_statement.Tie as tie
 
@@ -79,11 +79,14 @@ cooperates-requires c κs = search needs
 enum-known-a-2 : tie.Need-enum-known-a-2
 enum-known-a-2 c = search needs
 
-cast-evaluate-in : tie.Need-cast-evaluate-in
-cast-evaluate-in c = search needs
+cast-evaluate : tie.Need-cast-evaluate
+cast-evaluate c = search needs
 
-evaluate-in-requires : tie.Need-evaluate-in-requires
-evaluate-in-requires c κs = (search needs, search under-laws)
+evaluate-requires : tie.Need-evaluate-requires
+evaluate-requires c κs =
+    let at = c .before .before .before .before .before .before .before .before .before .before in
+    let words = at .pre .0 in
+    (record { ordered = words .ordered; there = search under-laws }, words .variables, words .cells)
 
 cast-lets-after : tie.Need-cast-lets-after
 cast-lets-after c = search needs
@@ -94,14 +97,17 @@ lets-after-requires c κs = search needs
 enum-known-a-3 : tie.Need-enum-known-a-3
 enum-known-a-3 c = search needs
 
-cast-store-in : tie.Need-cast-store-in
-cast-store-in c = search needs
+cast-store : tie.Need-cast-store
+cast-store c = search needs
 
-cast-store-in-2 : tie.Need-cast-store-in-2
-cast-store-in-2 c = search needs
+cast-store-2 : tie.Need-cast-store-2
+cast-store-2 c = search needs
 
-store-in-requires : tie.Need-store-in-requires
-store-in-requires c κs = (search needs, search under-laws, search under-laws)
+store-requires : tie.Need-store-requires
+store-requires c κs =
+    let at = c .before .before .before .before .before .before .before .before .before .before in
+    let words = at .pre .0 in
+    (record { ordered = words .ordered; there = search under-laws }, record { ordered = words .ordered; there = search under-laws }, words .variables, words .cells)
 
 stores-after-requires : tie.Need-stores-after-requires
 stores-after-requires c κs = search needs
@@ -109,11 +115,14 @@ stores-after-requires c κs = search needs
 enum-known-a-4 : tie.Need-enum-known-a-4
 enum-known-a-4 c = search needs
 
-cast-evaluate-in-2 : tie.Need-cast-evaluate-in-2
-cast-evaluate-in-2 c = search needs
+cast-evaluate-2 : tie.Need-cast-evaluate-2
+cast-evaluate-2 c = search needs
 
-evaluate-in-requires-2 : tie.Need-evaluate-in-requires-2
-evaluate-in-requires-2 c κs = (search needs, search under-laws)
+evaluate-requires-2 : tie.Need-evaluate-requires-2
+evaluate-requires-2 c κs =
+    let at = c .before .before .before .before .before .before .before .before .before .before in
+    let words = at .pre .0 in
+    (record { ordered = words .ordered; there = search under-laws }, words .variables, words .cells)
 
 cast-chooses-after : tie.Need-cast-chooses-after
 cast-chooses-after c = search needs
@@ -127,11 +136,16 @@ chooses-after-requires c κs = search needs
 enum-known-a-5 : tie.Need-enum-known-a-5
 enum-known-a-5 c = search needs
 
-cast-evaluate-in-3 : tie.Need-cast-evaluate-in-3
-cast-evaluate-in-3 c = search needs
+cast-evaluate-3 : tie.Need-cast-evaluate-3
+cast-evaluate-3 c = search needs
 
-evaluate-in-requires-3 : tie.Need-evaluate-in-requires-3
-evaluate-in-requires-3 c κs = (search needs, search under-laws)
+evaluate-requires-3 : tie.Need-evaluate-requires-3
+evaluate-requires-3 c κs =
+    let node = c .before .before .before .before in
+    let at = node .before .before .before .before .before .before in
+    let words = at .pre .0 in
+    let there = while-a _ _ _ _ _ _ _ _ _ _ (c .before .before .a5 .given .1) (node .statement-node .ensures) (node .before .frame-of-word .ensures) words (at .pre .1) in
+    (record { ordered = words .ordered; there = there }, words .variables, words .cells)
 
 cast-loops-after : tie.Need-cast-loops-after
 cast-loops-after c = search needs
@@ -140,52 +154,102 @@ loops-after-requires : tie.Need-loops-after-requires
 loops-after-requires c κs = search needs
 
 returns : tie.Need-returns
-returns c = search acts-laws
+returns c =
+    let node = c .before .before .before in
+    let at = node .before .before .before .before .before .before in
+    acts-nothing _ _ _ _ _ _ _ _ _ _
+    (c .before .enum-told .given .1) (node .statement-node .ensures) (node .before .frame-of-word .ensures) (at .pre .0) (at .pre .1)
+    (c .comes-to .ensures)
 
 returns-2 : tie.Need-returns-2
-returns-2 c = search acts-laws
+returns-2 c =
+    let node = c .before .before .before .before in
+    let at = node .before .before .before .before .before .before in
+    acts-seq _ _ _ _ _ _ _ _ _ _ _ _
+    (c .before .before .a .given .1) (node .statement-node .ensures) (node .before .frame-of-word .ensures) (at .pre .0) (at .pre .1)
+    (c .stays-with-two .ensures)
 
 returns-3 : tie.Need-returns-3
-returns-3 c = search acts-laws
+returns-3 c =
+    let node = c .before .before .before .before in
+    let at = node .before .before .before .before .before .before in
+    acts-do _ _ _ _ _ _ _ _ _ _ _ _
+    (c .before .before .q .given .1) (node .statement-node .ensures) (node .before .frame-of-word .ensures) (at .pre .0) (at .pre .1)
+    (c .does-at .ensures)
 
 same-length : tie.Need-same-length
 same-length c = search needs
 
 returns-4 : tie.Need-returns-4
-returns-4 c = search acts-laws
+returns-4 c =
+    let node = c .before .before .before .before .before .before .before in
+    let at = node .before .before .before .before .before .before in
+    acts-start _ _ _ _ _ _ _ _ _ _ _ _ _ _
+    (c .before .before .before .before .before .m .given .1) (node .statement-node .ensures) (node .before .frame-of-word .ensures) (at .pre .0) (at .pre .1)
+    (c .before .before .starts .ensures)
 
 same-length-2 : tie.Need-same-length-2
 same-length-2 c = search needs
 
 returns-5 : tie.Need-returns-5
-returns-5 c = search acts-laws
+returns-5 c =
+    let node = c .before .before .before .before .before .before .before in
+    let at = node .before .before .before .before .before .before in
+    acts-wait _ _ _ _ _ _ _ _ _ _ _ _ _ _
+    (c .before .before .before .before .before .m2 .given .1) (node .statement-node .ensures) (node .before .frame-of-word .ensures) (at .pre .0) (at .pre .1)
+    (c .before .before .starts2 .ensures)
 
 returns-6 : tie.Need-returns-6
-returns-6 c = search acts-laws
+returns-6 c =
+    let node = c .before .before .before in
+    let at = node .before .before .before .before .before .before in
+    acts-cooperate _ _ _ _ _ _ _ _ _ _
+    (c .before .enum-told2 .given .1) (node .statement-node .ensures) (node .before .frame-of-word .ensures) (at .pre .0) (at .pre .1)
+    (c .cooperates .ensures)
 
 same-length-3 : tie.Need-same-length-3
 same-length-3 c = search needs
 
 returns-7 : tie.Need-returns-7
-returns-7 c = search acts-laws
+returns-7 c =
+    let node = c .before .before .before .before .before .before .before .before in
+    let at = node .before .before .before .before .before .before in
+    acts-let _ _ _ _ _ _ _ _ _ _ _ _ _ _
+    (c .before .before .before .before .before .before .a2 .given .1) (node .statement-node .ensures) (node .before .frame-of-word .ensures) (at .pre .0) (at .pre .1)
+    (c .before .before .before .evaluate .ensures) (c .lets-after .ensures)
 
 same-length-4 : tie.Need-same-length-4
 same-length-4 c = search needs
 
 returns-8 : tie.Need-returns-8
-returns-8 c = search acts-laws
+returns-8 c =
+    let node = c .before .before .before .before .before .before .before .before in
+    let at = node .before .before .before .before .before .before in
+    acts-store _ _ _ _ _ _ _ _ _ _ _ _ _ _
+    (c .before .before .before .before .before .before .a3 .given .1) (node .statement-node .ensures) (node .before .frame-of-word .ensures) (at .pre .0) (at .pre .1)
+    (c .before .before .before .store .ensures) (c .stores-after .ensures)
 
 same-length-5 : tie.Need-same-length-5
 same-length-5 c = search needs
 
 returns-9 : tie.Need-returns-9
-returns-9 c = search acts-laws
+returns-9 c =
+    let node = c .before .before .before .before .before .before .before .before in
+    let at = node .before .before .before .before .before .before in
+    acts-if _ _ _ _ _ _ _ _ _ _ _ _ _ _ _
+    (c .before .before .before .before .before .before .a4 .given .1) (node .statement-node .ensures) (node .before .frame-of-word .ensures) (at .pre .0) (at .pre .1)
+    (c .before .before .before .evaluate2 .ensures) (c .chooses-after .ensures)
 
 same-length-6 : tie.Need-same-length-6
 same-length-6 c = search needs
 
 returns-10 : tie.Need-returns-10
-returns-10 c = search acts-laws
+returns-10 c =
+    let node = c .before .before .before .before .before .before .before .before in
+    let at = node .before .before .before .before .before .before in
+    acts-while _ _ _ _ _ _ _ _ _ _ _ _ _ _
+    (c .before .before .before .before .before .before .a5 .given .1) (node .statement-node .ensures) (node .before .frame-of-word .ensures) (at .pre .0) (at .pre .1)
+    (c .before .before .before .evaluate3 .ensures) (c .loops-after .ensures)
 
 pub act-statement-spec : {M : Type 1} → statement M
 act-statement-spec =
@@ -216,24 +280,24 @@ act-statement-spec =
     enum-told-2
     cooperates-requires
     enum-known-a-2
-    cast-evaluate-in
-    evaluate-in-requires
+    cast-evaluate
+    evaluate-requires
     cast-lets-after
     lets-after-requires
     enum-known-a-3
-    cast-store-in
-    cast-store-in-2
-    store-in-requires
+    cast-store
+    cast-store-2
+    store-requires
     stores-after-requires
     enum-known-a-4
-    cast-evaluate-in-2
-    evaluate-in-requires-2
+    cast-evaluate-2
+    evaluate-requires-2
     cast-chooses-after
     cast-chooses-after-2
     chooses-after-requires
     enum-known-a-5
-    cast-evaluate-in-3
-    evaluate-in-requires-3
+    cast-evaluate-3
+    evaluate-requires-3
     cast-loops-after
     loops-after-requires
     returns

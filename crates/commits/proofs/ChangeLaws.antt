@@ -1,0 +1,160 @@
+-- Laws of the change of a thread, one for each turn and return of the code. Assumes nothing.
+use Prim.Native.Nat.{ℕ, _+_, _*_, _-_, _<_}
+use mathlib.Core.Path.{_≡_, refl, sym, ap, _∙_, subst}
+use mathlib.Core.List.{List}
+use native.Mathlib.Omega.{arith}
+use lib.ListN.{getD, length, set, take}
+use lib.Seq.{getD-set-other, drop-set-lt}
+use lib.Dec.{eqb}
+use borrow.Author.Tests.{eq-eqb, ne-eqb, eqb-true}
+use Rattle.basics.proofs.Ifs.{yes, no, if-all}
+use Rattle.machine.specs.Blocks.{part}
+use Rattle.states.specs.declared.thread.ThreadWords.{ThreadWords}
+use Rattle.states.specs.Threads.{threadIn, putThread}
+use Rattle.states.specs.Stacks.{pushItem, popItem, pushValue, popValue, moveTo, ended}
+use Rattle.states.proofs.Bridge.{fields-path}
+use Rattle.states.proofs.ThreadLaws.{Wide, in-wide, in-with, with-in, with-next}
+use Rattle.states.proofs.StackWords.{push-item-wide, pop-item-wide, push-value-wide, pop-value-wide, move-wide, ended-wide}
+use Rattle.acts.specs.declared.act.Change.{Change}
+use Rattle.acts.specs.declared.act.Change.the-variants.{Same, Item, Items, Let, Drop, Move, Enter, End}
+use Rattle.acts.specs.Fates.{changed, popped, Room}
+use Rattle.commits.specs.Commits.{placeAfter}
+
+-- ---- what a thread keeps
+pub popped-wide : (x : ThreadWords) → Wide x → Wide (popped x)
+unfolding popped
+popped-wide x h = if-all Wide (eqb (x .items) 0) x (popItem x) (λ _. h) (λ _. pop-item-wide x h)
+
+pub changed-wide : (c : Change) (x : ThreadWords) → Wide x → Wide (changed c x)
+changed-wide Same x h = h
+changed-wide (Item a) x h = push-item-wide a x h
+changed-wide (Items top below) x h = push-item-wide top (pushItem below x) (push-item-wide below x h)
+changed-wide (Let value body) x h = push-item-wide body (pushItem 2048 (pushValue value x)) (push-item-wide 2048 (pushValue value x) (push-value-wide value x h))
+changed-wide Drop x h = pop-value-wide x h
+changed-wide (Move q) x h = move-wide q x h
+changed-wide (Enter q body) x h =
+    move-wide q (pushItem body (pushItem (1024 + x .place) x)) (push-item-wide body (pushItem (1024 + x .place) x) (push-item-wide (1024 + x .place) x h))
+changed-wide End x h = ended-wide x h
+
+module _ (x : ThreadWords) where
+  pub popped-items : popped x .items ≡ x .items - 1
+  unfolding popped popItem
+  popped-items = if-all (λ (y : ThreadWords). y .items ≡ x .items - 1) (eqb (x .items) 0) x (popItem x) (λ e. let z : x .items ≡ 0 = eqb-true (x .items) 0 e in omega arith) (λ _. refl)
+
+  pub popped-values : popped x .values ≡ x .values
+  unfolding popped popItem
+  popped-values = if-all (λ (y : ThreadWords). y .values ≡ x .values) (eqb (x .items) 0) x (popItem x) (λ _. refl) (λ _. refl)
+
+  pub popped-place : popped x .place ≡ x .place
+  unfolding popped popItem
+  popped-place = if-all (λ (y : ThreadWords). y .place ≡ x .place) (eqb (x .items) 0) x (popItem x) (λ _. refl) (λ _. refl)
+
+changed-place : (c : Change) (x : ThreadWords) → changed c x .place ≡ placeAfter c (x .place)
+unfolding pushItem popItem pushValue popValue moveTo ended
+changed-place Same x = refl
+changed-place (Item a) x = refl
+changed-place (Items top below) x = refl
+changed-place (Let value body) x = refl
+changed-place Drop x = refl
+changed-place (Move q) x = refl
+changed-place (Enter q body) x = refl
+changed-place End x = refl
+
+-- where the thread stands behind its turn
+pub place-is : (x : ThreadWords) (c : Change) (p : ℕ) → p ≡ placeAfter c (x .place) → p ≡ changed c (popped x) .place
+place-is x c p e = e ∙ ap (placeAfter c) (sym (popped-place x)) ∙ sym (changed-place c (popped x))
+
+-- ---- in place
+module _ (w : List ℕ) (k : ℕ) (all : length w ≡ 4818) (room : k < 64) where
+  pub taken-none : getD w (1042 + 55 * k + 3) 0 ≡ 0 → w ≡ putThread w k (popped (threadIn w k))
+  unfolding popped
+  taken-none e = sym (with-in w k all room) ∙ ap (putThread w k) (yes _ (eq-eqb (getD w (1042 + 55 * k + 3) 0) 0 e) refl)
+
+  pub taken : (v : List ℕ) → v ≡ putThread w k (popItem (threadIn w k)) → (getD w (1042 + 55 * k + 3) 0 ≡ 0 → ⊥) → v ≡ putThread w k (popped (threadIn w k))
+  unfolding popped
+  taken v q e = q ∙ ap (putThread w k) (no _ (ne-eqb (getD w (1042 + 55 * k + 3) 0) 0 e) refl)
+
+  here : (v : List ℕ) (y : ThreadWords) → Wide y → v ≡ putThread w k y → threadIn v k ≡ y
+  here v y h e = ap (λ (l : List ℕ). threadIn l k) e ∙ in-with w k all room y h
+
+  one-more : (a : ℕ) → Wide (pushItem a (threadIn w k))
+  one-more a = push-item-wide a (threadIn w k) (in-wide w k all room)
+
+  module _ (v : List ℕ) (below : ℕ) (e : v ≡ putThread w k (pushItem below (threadIn w k))) where
+    pub two-room : threadIn w k .items < 24 → threadIn v k .items < 25
+    unfolding pushItem
+    two-room h = let z : threadIn v k .items ≡ threadIn w k .items + 1 = ap (λ (y : ThreadWords). y .items) (here v (pushItem below (threadIn w k)) (one-more below) e) in omega arith
+
+    pub two : (u : List ℕ) (top : ℕ) → u ≡ putThread v k (pushItem top (threadIn v k)) → u ≡ putThread w k (pushItem top (pushItem below (threadIn w k)))
+    two u top q = with-next w k all room v u (pushItem below (threadIn w k)) (pushItem top) (one-more below) (push-item-wide top (pushItem below (threadIn w k)) (one-more below)) e q
+
+  module _ (v : List ℕ) (value : ℕ) (e : v ≡ putThread w k (pushValue value (threadIn w k))) where
+    wide : Wide (pushValue value (threadIn w k))
+    wide = push-value-wide value (threadIn w k) (in-wide w k all room)
+
+    pub let-room : threadIn w k .items < 24 → threadIn v k .items < 24
+    unfolding pushValue
+    let-room h = let z : threadIn v k .items ≡ threadIn w k .items = ap (λ (y : ThreadWords). y .items) (here v (pushValue value (threadIn w k)) wide e) in omega arith
+
+    pub lets : (u : List ℕ) (body : ℕ) → u ≡ putThread v k (pushItem body (pushItem 2048 (threadIn v k))) → u ≡ putThread w k (changed (Let value body) (threadIn w k))
+    lets u body q = with-next w k all room v u (pushValue value (threadIn w k)) (λ (y : ThreadWords). pushItem body (pushItem 2048 y)) wide
+        (changed-wide (Let value body) (threadIn w k) (in-wide w k all room)) e q
+
+  pub entered : (v u : List ℕ) (q body : ℕ) → v ≡ putThread w k (pushItem body (pushItem (1024 + getD w (1042 + 55 * k) 0) (threadIn w k))) → u ≡ putThread v k (moveTo q (threadIn v k))
+      → u ≡ putThread w k (changed (Enter q body) (threadIn w k))
+  entered v u q body e f = with-next w k all room v u (pushItem body (pushItem (1024 + getD w (1042 + 55 * k) 0) (threadIn w k))) (moveTo q)
+      (push-item-wide body _ (one-more (1024 + getD w (1042 + 55 * k) 0))) (changed-wide (Enter q body) (threadIn w k) (in-wide w k all room)) e f
+
+-- ---- each change
+module _ (w : List ℕ) (k : ℕ) (c : Change) where
+  pub change-same : c ≡ Same → length w ≡ 4818 → k < 64 → w ≡ putThread w k (changed c (threadIn w k))
+  change-same e all room = sym (with-in w k all room) ∙ ap (λ (d : Change). putThread w k (changed d (threadIn w k))) (sym e)
+
+  pub change-made : (v : List ℕ) (d : Change) → c ≡ d → v ≡ putThread w k (changed d (threadIn w k)) → v ≡ putThread w k (changed c (threadIn w k))
+  change-made v d e f = f ∙ ap (λ (b : Change). putThread w k (changed b (threadIn w k))) (sym e)
+
+pub ruleset change-laws = (change-same, change-made)
+
+-- the room that each needs
+module _ (c : Change) (i n : ℕ) where
+  room : (d : Change) → c ≡ d → Room c i n → Room d i n
+  room d e h = subst (λ (b : Change). Room b i n) e h
+
+  pub room-item : (a : ℕ) → c ≡ Item a → Room c i n → i < 25
+  room-item a e h = room (Item a) e h
+
+  pub room-items : (a b : ℕ) → c ≡ Items a b → Room c i n → i < 24
+  room-items a b e h = room (Items a b) e h
+
+  pub room-let : (a b : ℕ) → c ≡ Let a b → Room c i n → i < 24
+  room-let a b e h = room (Let a b) e h .0
+
+  pub room-value : (a b : ℕ) → c ≡ Let a b → Room c i n → n < 25
+  room-value a b e h = room (Let a b) e h .1
+
+  pub room-drop : c ≡ Drop → Room c i n → 0 < n
+  room-drop e h = room Drop e h
+
+  pub room-enter : (a b : ℕ) → c ≡ Enter a b → Room c i n → i < 24
+  room-enter a b e h = room (Enter a b) e h
+
+pub ruleset change-room = (room-item, room-items, room-let, room-value, room-drop, room-enter)
+
+-- ---- behind the count of cells
+module _ (w : List ℕ) (k n : ℕ) where
+  run-kept : (i : ℕ) → 1 < i → part (set w 1 n) i 25 ≡ part w i 25
+  unfolding part
+  run-kept i h = ap (take 25) (drop-set-lt i w 1 n h)
+
+  word-kept : (i : ℕ) → 1 < i → getD (set w 1 n) i 0 ≡ getD w i 0
+  word-kept i h = getD-set-other w 1 i n 0 (λ e. omega arith)
+
+  pub thread-kept : threadIn (set w 1 n) k ≡ threadIn w k
+  thread-kept = fields-path (threadIn (set w 1 n) k) (threadIn w k)
+      (word-kept (1042 + 55 * k) (omega arith))
+      (word-kept (1042 + 55 * k + 1) (omega arith))
+      (word-kept (1042 + 55 * k + 2) (omega arith))
+      (word-kept (1042 + 55 * k + 3) (omega arith))
+      (run-kept (1042 + 55 * k + 4) (omega arith))
+      (word-kept (1042 + 55 * k + 29) (omega arith))
+      (run-kept (1042 + 55 * k + 30) (omega arith))

@@ -1,0 +1,86 @@
+// The change that a turn names, made where the thread's words lie. Thread k counts from 0.
+use acts::act::Change;
+use states::stack::end_thread;
+use states::stack::move_to;
+use states::stack::pop_item;
+use states::stack::pop_value;
+use states::stack::push_item;
+use states::stack::push_value;
+ghost use mathlib.Core.Path.{_≡_};
+ghost use Prim.Native.Nat.{_<_, _≤_};
+ghost use lib.ListN.{length};
+ghost use Rattle.states.specs.Threads.{threadIn, putThread};
+ghost use Rattle.states.specs.Stacks.{pushItem};
+ghost use Rattle.acts.specs.declared.act.Change.the-variants.{Let, Enter};
+ghost use Rattle.acts.specs.Fates.{changed, popped, Room};
+ghost use Rattle.commits.specs.Commits.{placeAfter};
+
+// The top item off the continuation; where there is none, nothing changes.
+pub fn take_item(state: &mut [u64], k: usize)
+    requires { ⌜ (length (now state) ≡ 4818) × (k < 64) × (threadIn (now state) k .items ≤ 25) ⌝ }
+    ensures { λ _. ⌜ now (state .exit) ≡ putThread (now (state .entry)) k (popped (threadIn (now (state .entry)) k)) ⌝ }
+{
+    if state[1042 + 55 * k + 3] == 0 {
+        return;
+    }
+    pop_item(state, k);
+}
+
+fn push_two(state: &mut [u64], k: usize, top: u64, below: u64)
+    requires { ⌜ (length (now state) ≡ 4818) × (k < 64) × (threadIn (now state) k .items < 24) ⌝ }
+    ensures { λ _. ⌜ now (state .exit) ≡ putThread (now (state .entry)) k (pushItem top (pushItem below (threadIn (now (state .entry)) k))) ⌝ }
+{
+    push_item(state, k, below);
+    push_item(state, k, top);
+}
+
+// 16: the variable, and its body above a drop of it.
+fn push_let(state: &mut [u64], k: usize, value: u64, body: u64)
+    requires { ⌜ (length (now state) ≡ 4818) × (k < 64) × (threadIn (now state) k .items < 24) × (threadIn (now state) k .values < 25) ⌝ }
+    ensures { λ _. ⌜ now (state .exit) ≡ putThread (now (state .entry)) k (changed (Let value body) (threadIn (now (state .entry)) k)) ⌝ }
+{
+    push_value(state, k, value);
+    push_two(state, k, body, 2048);
+}
+
+// 12: to place q, with the body above 'back to here'.
+fn enter(state: &mut [u64], k: usize, q: u64, body: u64)
+    requires { ⌜ (length (now state) ≡ 4818) × (k < 64) × (threadIn (now state) k .items < 24) × (threadIn (now state) k .place ≤ 9) ⌝ }
+    ensures { λ _. ⌜ now (state .exit) ≡ putThread (now (state .entry)) k (changed (Enter q body) (threadIn (now (state .entry)) k)) ⌝ }
+{
+    let from = state[1042 + 55 * k];
+    push_two(state, k, body, 1024 + from);
+    move_to(state, k, q);
+}
+
+pub fn change_thread(state: &mut [u64], k: usize, change: Change)
+    requires { ⌜ (length (now state) ≡ 4818) × (k < 64) × (threadIn (now state) k .values ≤ 25) × (threadIn (now state) k .place ≤ 9) × Room change (threadIn (now state) k .items) (threadIn (now state) k .values) ⌝ }
+    ensures { λ _. ⌜ now (state .exit) ≡ putThread (now (state .entry)) k (changed change (threadIn (now (state .entry)) k)) ⌝ }
+{
+    match change {
+        Change::Same => {}
+        Change::Item(a) => push_item(state, k, a),
+        Change::Items(top, below) => push_two(state, k, top, below),
+        Change::Let(value, body) => push_let(state, k, value, body),
+        Change::Drop => pop_value(state, k),
+        Change::Move(q) => move_to(state, k, q),
+        Change::Enter(q, body) => enter(state, k, q, body),
+        Change::End => end_thread(state, k),
+    }
+}
+
+// Where a thread that stands at that place stands behind the change.
+pub fn place_after(change: Change, place: u64) -> u64
+    ensures { λ r. ⌜ r ≡ placeAfter change place ⌝ }
+{
+    match change {
+        Change::Same => place,
+        Change::Item(a) => place,
+        Change::Items(top, below) => place,
+        Change::Let(value, body) => place,
+        Change::Drop => place,
+        Change::Move(q) => q,
+        Change::Enter(q, body) => q,
+        Change::End => place,
+    }
+}

@@ -1,0 +1,149 @@
+-- An item or a variable more or less, another place, the end: what is written where the thread's words lie. Assumes nothing.
+use Prim.Native.Nat.{ℕ, suc, _+_, _*_, _-_, _<_, _≤_}
+use mathlib.Core.Path.{_≡_, refl, sym, ap, _∙_}
+use mathlib.Core.List.{List, [], _∷_, _++_}
+use native.Mathlib.Omega.{arith}
+use native.Mathlib.Nat.{add-zero}
+use lib.ListN.{getD, length, set, length-set}
+use lib.Seq.{set-append-left, set-at}
+use Rattle.machine.proofs.WordLaws.{part-at}
+use Rattle.states.specs.Threads.{threadIn, putThread, blockOf}
+use Rattle.states.specs.Stacks.{pushItem, popItem, pushValue, popValue, moveTo, ended}
+use Rattle.states.specs.declared.thread.ThreadWords.{ThreadWords}
+use Rattle.states.proofs.ThreadLaws.{Wide, in-wide, with-in, with-set}
+
+-- ---- the lists keep their space
+pub push-item-wide : (v : ℕ) (x : ThreadWords) → Wide x → Wide (pushItem v x)
+unfolding pushItem
+push-item-wide v x h = record { continuation = length-set (x .continuation) (x .items) v ∙ h .continuation; variables = h .variables }
+
+pub pop-item-wide : (x : ThreadWords) → Wide x → Wide (popItem x)
+unfolding popItem
+pop-item-wide x h = record { continuation = length-set (x .continuation) (x .items - 1) 0 ∙ h .continuation; variables = h .variables }
+
+pub push-value-wide : (v : ℕ) (x : ThreadWords) → Wide x → Wide (pushValue v x)
+unfolding pushValue
+push-value-wide v x h = record { continuation = h .continuation; variables = length-set (x .variables) (x .values) v ∙ h .variables }
+
+pub pop-value-wide : (x : ThreadWords) → Wide x → Wide (popValue x)
+unfolding popValue
+pop-value-wide x h = record { continuation = h .continuation; variables = length-set (x .variables) (x .values - 1) 0 ∙ h .variables }
+
+pub move-wide : (p : ℕ) (x : ThreadWords) → Wide x → Wide (moveTo p x)
+unfolding moveTo
+move-wide p x h = record { continuation = h .continuation; variables = h .variables }
+
+pub ended-wide : (x : ThreadWords) → Wide x → Wide (ended x)
+unfolding ended
+ended-wide x h = record { continuation = h .continuation; variables = h .variables }
+
+-- ---- one word of the block
+abbrev itemsIn : ThreadWords → ℕ → List ℕ → ThreadWords
+itemsIn x n ws = record { place = x .place; starter = x .starter; alive = x .alive; items = n; continuation = ws; values = x .values; variables = x .variables }
+
+abbrev valuesIn : ThreadWords → ℕ → List ℕ → ThreadWords
+valuesIn x n ws = record { place = x .place; starter = x .starter; alive = x .alive; items = x .items; continuation = x .continuation; values = n; variables = ws }
+
+set-behind : (xs ys : List ℕ) (i v : ℕ) → set (xs ++ ys) (length xs + i) v ≡ xs ++ set ys i v
+set-behind [] ys i v = ap (λ (n : ℕ). set ys n v) (omega arith)
+set-behind (x ∷ xs) ys i v = let z : length (x ∷ xs) + i ≡ suc (length xs + i) = omega arith in
+    ap (λ (n : ℕ). set (x ∷ (xs ++ ys)) n v) z ∙ ap (λ (l : List ℕ). x ∷ l) (set-behind xs ys i v)
+
+module _ (x : ThreadWords) (h : Wide x) where
+  block-place : (p : ℕ) → set (blockOf x) 0 p ≡ blockOf (moveTo p x)
+  unfolding blockOf moveTo
+  block-place p = refl
+
+  block-end : set (blockOf x) 2 0 ≡ blockOf (ended x)
+  unfolding blockOf ended
+  block-end = refl
+
+  block-items : (m : ℕ) → set (blockOf x) 3 m ≡ blockOf (itemsIn x m (x .continuation))
+  unfolding blockOf
+  block-items m = refl
+
+  block-item : (n v : ℕ) → n < 25 → set (blockOf x) (4 + n) v ≡ blockOf (itemsIn x (x .items) (set (x .continuation) n v))
+  unfolding blockOf
+  block-item n v l = let z : 4 + n ≡ suc (suc (suc (suc n))) = omega arith in
+      let c : length (x .continuation) ≡ 25 = h .continuation in
+      ap (λ (i : ℕ). set (blockOf x) i v) z
+      ∙ ap (λ (ws : List ℕ). x .place ∷ x .starter ∷ x .alive ∷ x .items ∷ ws) (set-append-left (x .continuation) (x .values ∷ x .variables) n v (omega arith))
+
+  block-count : (m : ℕ) → set (blockOf x) 29 m ≡ blockOf (valuesIn x m (x .variables))
+  unfolding blockOf
+  block-count m = ap (λ (ws : List ℕ). x .place ∷ x .starter ∷ x .alive ∷ x .items ∷ ws) (set-at (x .continuation) (x .values) (x .variables) m 25 (h .continuation))
+
+  block-value : (n v : ℕ) → n < 25 → set (blockOf x) (30 + n) v ≡ blockOf (valuesIn x (x .values) (set (x .variables) n v))
+  unfolding blockOf
+  block-value n v l =
+      let c : length (x .continuation) ≡ 25 = h .continuation in
+      let z : 30 + n ≡ suc (suc (suc (suc (length (x .continuation) + suc n)))) = omega arith in
+      ap (λ (i : ℕ). set (blockOf x) i v) z
+      ∙ ap (λ (ws : List ℕ). x .place ∷ x .starter ∷ x .alive ∷ x .items ∷ ws) (set-behind (x .continuation) (x .values ∷ x .variables) (suc n) v)
+
+-- ---- what each leaf writes
+module _ (w : List ℕ) (k : ℕ) (all : length w ≡ 4818) (room : k < 64) where
+  one : (y : ThreadWords) (i j v : ℕ) → i ≡ 1042 + 55 * k + j → j < 55 → set (blockOf (threadIn w k)) j v ≡ blockOf y → set w i v ≡ putThread w k y
+  one y i j v z l e =
+      ap (λ (u : List ℕ). set u i v) (sym (with-in w k all room)) ∙ ap (λ (n : ℕ). set (putThread w k (threadIn w k)) n v) z
+      ∙ with-set w k all room (threadIn w k) (in-wide w k all room) y j v l e
+
+  pub moved : (p : ℕ) → set w (1042 + 55 * k) p ≡ putThread w k (moveTo p (threadIn w k))
+  moved p = one (moveTo p (threadIn w k)) (1042 + 55 * k) 0 p (sym (add-zero (1042 + 55 * k))) (omega arith) (block-place (threadIn w k) (in-wide w k all room) p)
+
+  pub ends : set w (1042 + 55 * k + 2) 0 ≡ putThread w k (ended (threadIn w k))
+  ends = one (ended (threadIn w k)) (1042 + 55 * k + 2) 2 0 refl (omega arith) (block-end (threadIn w k) (in-wide w k all room))
+
+  item-written : (n v m : ℕ) → n < 25 → set (set w (1042 + 55 * k + 4 + n) v) (1042 + 55 * k + 3) m ≡ putThread w k (itemsIn (threadIn w k) m (set (threadIn w k .continuation) n v))
+  item-written n v m l =
+      let x : ThreadWords = threadIn w k in
+      let h : Wide x = in-wide w k all room in
+      let y : ThreadWords = itemsIn x (x .items) (set (x .continuation) n v) in
+      let g : Wide y = record { continuation = length-set (x .continuation) n v ∙ h .continuation; variables = h .variables } in
+      ap (λ (u : List ℕ). set u (1042 + 55 * k + 3) m) (one y (1042 + 55 * k + 4 + n) (4 + n) v (omega arith) (omega arith) (block-item x h n v l))
+      ∙ with-set w k all room y g (itemsIn y m (y .continuation)) 3 m (omega arith) (block-items y g m)
+
+  value-written : (n v m : ℕ) → n < 25 → set (set w (1042 + 55 * k + 30 + n) v) (1042 + 55 * k + 29) m ≡ putThread w k (valuesIn (threadIn w k) m (set (threadIn w k .variables) n v))
+  value-written n v m l =
+      let x : ThreadWords = threadIn w k in
+      let h : Wide x = in-wide w k all room in
+      let y : ThreadWords = valuesIn x (x .values) (set (x .variables) n v) in
+      let g : Wide y = record { continuation = h .continuation; variables = length-set (x .variables) n v ∙ h .variables } in
+      ap (λ (u : List ℕ). set u (1042 + 55 * k + 29) m) (one y (1042 + 55 * k + 30 + n) (30 + n) v (omega arith) (omega arith) (block-value x h n v l))
+      ∙ with-set w k all room y g (valuesIn y m (y .variables)) 29 m (omega arith) (block-count y g m)
+
+  pub item-pushed : (v : ℕ) → threadIn w k .items < 25
+      → set (set w (1042 + 55 * k + 4 + getD w (1042 + 55 * k + 3) 0) v) (1042 + 55 * k + 3) (getD w (1042 + 55 * k + 3) 0 + 1) ≡ putThread w k (pushItem v (threadIn w k))
+  unfolding pushItem
+  item-pushed v l = item-written (getD w (1042 + 55 * k + 3) 0) v (getD w (1042 + 55 * k + 3) 0 + 1) l
+
+  pub item-popped : 0 < threadIn w k .items → threadIn w k .items ≤ 25
+      → set (set w (1042 + 55 * k + 4 + (getD w (1042 + 55 * k + 3) 0 - 1)) 0) (1042 + 55 * k + 3) (getD w (1042 + 55 * k + 3) 0 - 1) ≡ putThread w k (popItem (threadIn w k))
+  unfolding popItem
+  item-popped g l = item-written (getD w (1042 + 55 * k + 3) 0 - 1) 0 (getD w (1042 + 55 * k + 3) 0 - 1) (omega arith)
+
+  pub value-pushed : (v : ℕ) → threadIn w k .values < 25
+      → set (set w (1042 + 55 * k + 30 + getD w (1042 + 55 * k + 29) 0) v) (1042 + 55 * k + 29) (getD w (1042 + 55 * k + 29) 0 + 1) ≡ putThread w k (pushValue v (threadIn w k))
+  unfolding pushValue
+  value-pushed v l = value-written (getD w (1042 + 55 * k + 29) 0) v (getD w (1042 + 55 * k + 29) 0 + 1) l
+
+  pub value-popped : 0 < threadIn w k .values → threadIn w k .values ≤ 25
+      → set (set w (1042 + 55 * k + 30 + (getD w (1042 + 55 * k + 29) 0 - 1)) 0) (1042 + 55 * k + 29) (getD w (1042 + 55 * k + 29) 0 - 1) ≡ putThread w k (popValue (threadIn w k))
+  unfolding popValue
+  value-popped g l = value-written (getD w (1042 + 55 * k + 29) 0 - 1) 0 (getD w (1042 + 55 * k + 29) 0 - 1) (omega arith)
+
+pub ruleset stack-laws = (moved, ends, item-pushed, item-popped, value-pushed, value-popped)
+
+-- ---- the top item read
+module _ (w : List ℕ) (k : ℕ) where
+  read : (i n : ℕ) → i ≡ 1042 + 55 * k + 4 + n → n < 25 → getD w i 0 ≡ getD (threadIn w k .continuation) n 0
+  read i n z l = ap (λ (j : ℕ). getD w j 0) z ∙ sym (part-at w (1042 + 55 * k + 4) 25 n l)
+
+  pub top-none : getD w (1042 + 55 * k + 3) 0 ≡ 0 → getD w (1042 + 55 * k + 4) 0 ≡ getD (threadIn w k .continuation) (threadIn w k .items - 1) 0
+  top-none e = read (1042 + 55 * k + 4) (threadIn w k .items - 1) (omega arith) (omega arith)
+
+  pub top-there : (getD w (1042 + 55 * k + 3) 0 ≡ 0 → ⊥) → threadIn w k .items ≤ 25
+      → getD w (1042 + 55 * k + 3 + getD w (1042 + 55 * k + 3) 0) 0 ≡ getD (threadIn w k .continuation) (threadIn w k .items - 1) 0
+  top-there e l = read (1042 + 55 * k + 3 + getD w (1042 + 55 * k + 3) 0) (threadIn w k .items - 1) (omega arith) (omega arith)
+
+pub ruleset top-laws = (top-none, top-there)

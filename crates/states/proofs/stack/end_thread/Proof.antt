@@ -1,0 +1,31 @@
+-- `end_thread` meets its contract. Assumes nothing.
+use Rattle.states.proofs.StackWords.{stack-laws}
+use borrow.Author.Needs.{needs}
+use Rattle.states.proofs.stack.end_thread.Statement.{statement}
+use Rattle.states.proofs.stack.end_thread.Tie as tie
+
+mul-state : tie.Need-mul-state
+mul-state c = search needs
+
+add-state : tie.Need-add-state
+add-state c = search needs
+
+add-state-2 : tie.Need-add-state-2
+add-state-2 c = search needs
+
+mul-state-2 : tie.Need-mul-state-2
+mul-state-2 c = search needs
+
+slice-write-state : tie.Need-slice-write-state
+slice-write-state c = search needs
+
+same-length : tie.Need-same-length
+same-length c = search needs
+
+returns : tie.Need-returns
+returns c = search stack-laws
+
+pub end-thread-spec : {M : Type 1} → statement M
+end-thread-spec =
+    tie.close
+    (tie.spec mul-state add-state add-state-2 mul-state-2 slice-write-state same-length returns)
