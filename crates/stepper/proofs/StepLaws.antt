@@ -47,9 +47,9 @@ use Rattle.turns.specs.Acts.{ActedOn, actedOn, turnIn, topIn, variablesIn, View
 use Rattle.stepper.specs.Files.{FileWords, StepWords, stateIn, whoIn, turnOf, turnOn}
 use Rattle.stepper.proofs.Items.{take-padded}
 
--- who acts, on that place
-pub who-at : (thread shared i : ℕ) (p : Place) → p ≡ record { number = i } → _≡_ {A = Who} (record { thread = thread; place = p; shared = shared }) (record { thread = thread; place = record { number = i }; shared = shared })
-who-at thread shared i p e = ap (λ (q : Place). record { thread = thread; place = q; shared = shared }) e
+-- the number of a place
+pub number-is : (p : Place) (i : ℕ) → p ≡ record { number = i } → p .number ≡ i
+number-is p i e = ap (λ (q : Place). q .number) e
 
 -- ---- the file
 module _ (frames : List ℕ) (file : FileWords frames) where
@@ -218,7 +218,7 @@ module _ (frames : List ℕ) (shared : ℕ) (w : List ℕ) (h : StepWords frames
       )
 
       -- what it gives
-      pub act-gives : (who : Who) (a : Acted) (ds v' : List ℕ) → who ≡ record { thread = t; place = record { number = v .place }; shared = shared }
+      pub act-gives : (who : Who) (a : Acted) (ds v' : List ℕ) → who ≡ record { thread = t; place = v .place; shared = shared }
           → WholeTurn a ds v item vs (λ th. turnIn (framesOf frames) who th used cs)
           → length ds ≡ length cs → v' ≡ take 4562 w ++ (ds ++ list.drop (length w - 4562) (list.drop 4562 w)) → turnOn a v' frames shared w t
       unfolding pasted

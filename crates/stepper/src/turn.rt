@@ -39,14 +39,15 @@ fn act_in(frames: &[u64], shared: usize, state: &mut [u64], t: u64) -> Acted
     let used = state[1] as usize;
     let k = (t - 1) as usize;
     let at = 1042 + 55 * k;
+    let place = standing_at(state[at]);
     let v = View {
-        place: state[at],
+        place,
         items: state[at + 3],
         values: state[at + 29],
     };
     let who = Who {
         thread: t as u8,
-        place: standing_at(v.place),
+        place,
         shared,
     };
     let item = top_item(state, k);

@@ -104,51 +104,52 @@ module _ (n q : ℕ) (same moved : Change) where
       by false true = k
       by false false = k
 
-module _ (v : View) (n : ℕ) (r : Acted) where
-  pub goes-back : (q : ℕ) → r ≡ goesWith (v .place) n q Same (Move q) → Turns r v (λ th. goesIn (th .place) th n q)
+-- from is where it stands
+module _ (v : View) (n : ℕ) (r : Acted) (from : ℕ) (f : from ≡ v .place .number) where
+  pub goes-back : (q : ℕ) → r ≡ goesWith from n q Same (Move q) → Turns r v (λ th. goesIn (th .place) th n q)
   goes-back q e =
-      act-of (goesWith (v .place) n q Same (Move q)) e
-      (λ th w. goes-made n q Same (Move q) (v .place) th th refl refl ∙ ap (λ (x : ℕ). goesIn x th n q) (sym (w .place)))
-      (goes-room n q Same (Move q) (v .place) (v .items) (v .values) tt tt)
+      act-of (goesWith from n q Same (Move q)) e
+      (λ th w. goes-made n q Same (Move q) from th th refl refl ∙ ap (λ (x : ℕ). goesIn x th n q) (sym (w .place ∙ sym f)))
+      (goes-room n q Same (Move q) from (v .items) (v .values) tt tt)
 
-  pub does-again : (q body : ℕ) (b : Bool) → b ≡ true → b ≡ (eqb (v .place) 1 && eqb q 1) → r ≡ refusedWith 20 n → Turns r v (λ th. doesIn th n q body)
+  pub does-again : (q body : ℕ) (b : Bool) → b ≡ true → b ≡ (eqb from 1 && eqb q 1) → r ≡ refusedWith 20 n → Turns r v (λ th. doesIn th n q body)
   unfolding doesIn
   does-again q body b t h e =
-      act-of (refusedWith 20 n) e (λ th w. yes _ (ap (λ (x : ℕ). eqb x 1 && eqb q 1) (w .place) ∙ sym h ∙ t) refl) tt
+      act-of (refusedWith 20 n) e (λ th w. yes _ (ap (λ (x : ℕ). eqb x 1 && eqb q 1) (w .place ∙ sym f) ∙ sym h ∙ t) refl) tt
 
-  pub does-full : (q body : ℕ) (b : Bool) → b ≡ false → b ≡ (eqb (v .place) 1 && eqb q 1) → 24 ≤ v .items → r ≡ refusedWith 20 n → Turns r v (λ th. doesIn th n q body)
+  pub does-full : (q body : ℕ) (b : Bool) → b ≡ false → b ≡ (eqb from 1 && eqb q 1) → 24 ≤ v .items → r ≡ refusedWith 20 n → Turns r v (λ th. doesIn th n q body)
   unfolding doesIn
   does-full q body b t h l e =
       act-of (refusedWith 20 n) e
       (λ th w.
       let p = w .items in
-      no _ (ap (λ (x : ℕ). eqb x 1 && eqb q 1) (w .place) ∙ sym h ∙ t) (yes _ (le-leb 24 (th .items) (omega arith)) refl))
+      no _ (ap (λ (x : ℕ). eqb x 1 && eqb q 1) (w .place ∙ sym f) ∙ sym h ∙ t) (yes _ (le-leb 24 (th .items) (omega arith)) refl))
       tt
 
-  pub does-there : (q body : ℕ) (b : Bool) → b ≡ false → b ≡ (eqb (v .place) 1 && eqb q 1) → v .items < 24
-      → r ≡ goesWith (v .place) n q (Items body (1024 + v .place)) (Enter q body) → Turns r v (λ th. doesIn th n q body)
+  pub does-there : (q body : ℕ) (b : Bool) → b ≡ false → b ≡ (eqb from 1 && eqb q 1) → v .items < 24
+      → r ≡ goesWith from n q (Items body (1024 + from)) (Enter q body) → Turns r v (λ th. doesIn th n q body)
   unfolding doesIn
   does-there q body b t h l e =
-      act-of (goesWith (v .place) n q (Items body (1024 + v .place)) (Enter q body)) e
+      act-of (goesWith from n q (Items body (1024 + from)) (Enter q body)) e
       (λ th w.
       let p = w .items in
-      no _ (ap (λ (x : ℕ). eqb x 1 && eqb q 1) (w .place) ∙ sym h ∙ t)
+      no _ (ap (λ (x : ℕ). eqb x 1 && eqb q 1) (w .place ∙ sym f) ∙ sym h ∙ t)
       (no _ (lt-leb 24 (th .items) (omega arith))
-      (goes-made n q (Items body (1024 + v .place)) (Enter q body) (v .place) th (pushItem body (pushItem (1024 + th .place) th))
-      (ap (λ (x : ℕ). pushItem body (pushItem (1024 + x) th)) (sym (w .place)))
+      (goes-made n q (Items body (1024 + from)) (Enter q body) from th (pushItem body (pushItem (1024 + th .place) th))
+      (ap (λ (x : ℕ). pushItem body (pushItem (1024 + x) th)) (sym (w .place ∙ sym f)))
       refl
-      ∙ ap (λ (x : ℕ). goesIn x (pushItem body (pushItem (1024 + th .place) th)) n q) (sym (w .place)))))
-      (goes-room n q (Items body (1024 + v .place)) (Enter q body) (v .place) (v .items) (v .values) l l)
+      ∙ ap (λ (x : ℕ). goesIn x (pushItem body (pushItem (1024 + th .place) th)) n q) (sym (w .place ∙ sym f)))))
+      (goes-room n q (Items body (1024 + from)) (Enter q body) from (v .items) (v .values) l l)
 
-  pub cooperates-not : (b : Bool) → b ≡ eqb (v .place) 1 → b ≡ true → r ≡ refusedWith 20 n → Turns r v (λ th. cooperatesIn th n)
+  pub cooperates-not : (b : Bool) → b ≡ eqb from 1 → b ≡ true → r ≡ refusedWith 20 n → Turns r v (λ th. cooperatesIn th n)
   unfolding cooperatesIn
-  cooperates-not b z h e = act-of (refusedWith 20 n) e (λ th w. yes _ (ap (λ (x : ℕ). eqb x 1) (w .place) ∙ sym z ∙ h) refl) tt
+  cooperates-not b z h e = act-of (refusedWith 20 n) e (λ th w. yes _ (ap (λ (x : ℕ). eqb x 1) (w .place ∙ sym f) ∙ sym z ∙ h) refl) tt
 
-  pub cooperates-next : (b : Bool) → b ≡ eqb (v .place) 1 → b ≡ false → r ≡ actedWith (Joins (v .place)) Same n → Turns r v (λ th. cooperatesIn th n)
+  pub cooperates-next : (b : Bool) → b ≡ eqb from 1 → b ≡ false → r ≡ actedWith (Joins from) Same n → Turns r v (λ th. cooperatesIn th n)
   unfolding cooperatesIn
   cooperates-next b z h e =
-      act-of (actedWith (Joins (v .place)) Same n) e
-      (λ th w. no _ (ap (λ (x : ℕ). eqb x 1) (w .place) ∙ sym z ∙ h) (ap (λ (x : ℕ). actedIn (Joins x) th n) (sym (w .place))))
+      act-of (actedWith (Joins from) Same n) e
+      (λ th w. no _ (ap (λ (x : ℕ). eqb x 1) (w .place ∙ sym f) ∙ sym z ∙ h) (ap (λ (x : ℕ). actedIn (Joins x) th n) (sym (w .place ∙ sym f))))
       tt
 
 pub again-not : (from q : ℕ) (b : Bool) → b ≡ eqb from 1 → not b ≡ true → false ≡ (eqb from 1 && eqb q 1)

@@ -172,7 +172,7 @@ turnIn fs who th n ws =
 
 -- a thread of which a turn sees where it stands, how many items it has and how many variables
 pub record Views (v : View) (th : ThreadWords) : Type 0 where
-  pub place : th .place ≡ v .place
+  pub place : th .place ≡ v .place .number
   pub items : th .items ≡ v .items
   pub values : th .values ≡ v .values
 
@@ -206,7 +206,7 @@ startWith q n given first second =
 
 pub record TurnWords (frames : List ℕ) (v : View) (vs : List ℕ) (n : ℕ) (ws : List ℕ) : Type 0 where
   pub ordered : Ordered (framesOf frames)
-  pub place : v .place ≤ 9
+  pub place : v .place .number ≤ 9
   pub items : v .items ≤ 25
   pub count : length vs ≡ v .values
   pub variables : ValueWords vs

@@ -51,8 +51,9 @@ pub fn act(
     if v.items == 0 {
         return comes_to(Fate::Leaves, Change::End, used);
     }
+    let place = v.place;
     let below = View {
-        place: v.place,
+        place,
         items: v.items - 1,
         values: v.values,
     };

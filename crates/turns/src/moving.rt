@@ -6,6 +6,7 @@ use acts::act::Fate;
 use acts::act::comes_to;
 use acts::act::is_private;
 use acts::act::refused;
+use language::Place;
 ghost use mathlib.Core.Path.{_≡_};
 ghost use mathlib.Core.Bool.{_&&_};
 ghost use Prim.Native.Nat.{_≤_};
@@ -25,11 +26,18 @@ fn goes(from: u64, used: usize, q: u64, same: Change, moved: Change) -> Acted
     comes_to(Fate::Joins(q), moved, used)
 }
 
+// A place as the word that a thread has for it.
+fn word_of(place: Place) -> u64
+    ensures { λ r. ⌜ r ≡ place .number ⌝ }
+{
+    place.number() as u64
+}
+
 // 'Back to q'.
 pub fn goes_back(v: View, used: usize, q: u64) -> Acted
     ensures { λ r. ⌜ Turns r v (λ th. goesIn (th .place) th used q) ⌝ }
 {
-    goes(v.place, used, q, Change::Same, Change::Move(q))
+    goes(word_of(v.place), used, q, Change::Same, Change::Move(q))
 }
 
 // Refusal 12's condition met when running: unlinked already.
@@ -44,10 +52,10 @@ fn unlinked_again(from: u64, q: u64) -> bool
 
 // 12: the body above 'back to here'.
 pub fn does_at(v: View, used: usize, q: u64, body: u64) -> Acted
-    requires { ⌜ v .place ≤ 9 ⌝ }
+    requires { ⌜ v .place .number ≤ 9 ⌝ }
     ensures { λ r. ⌜ Turns r v (λ th. doesIn th used q body) ⌝ }
 {
-    let from = v.place;
+    let from = word_of(v.place);
     if unlinked_again(from, q) {
         return refused(20, used);
     }
@@ -67,7 +75,7 @@ pub fn does_at(v: View, used: usize, q: u64, body: u64) -> Acted
 pub fn cooperates(v: View, used: usize) -> Acted
     ensures { λ r. ⌜ Turns r v (λ th. cooperatesIn th used) ⌝ }
 {
-    let p = v.place;
+    let p = word_of(v.place);
     if is_private(p) {
         return refused(20, used);
     }

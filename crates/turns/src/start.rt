@@ -69,8 +69,8 @@ pub fn starts(
     variables: &[u64],
     cells: &mut [u64],
     used: usize,
-    a: usize,
-    b: usize,
+    a: u16,
+    b: u16,
 ) -> Acted
     requires { ⌜ TurnWords (now frames) v (now variables) used (now cells) × (a < length (now frames)) × (b < length (now frames)) ⌝ }
     ensures { λ r. ⌜ TurnsOn r (now (cells .exit)) v (now (variables .entry)) (λ th. startsIn who q th used (now (cells .entry)) (arguments (λ j. expressionAt (framesOf (now (frames .entry))) j) a b)) ⌝ }
@@ -78,14 +78,14 @@ pub fn starts(
     if a == 0 {
         return starts_with(q, used, 0, 0, 0);
     }
-    let x = evaluate(frames, who, variables, cells, used, a);
+    let x = evaluate(frames, who, variables, cells, used, a as usize);
     if b == 0 {
         return starts_one(q, x, v);
     }
     let o = x.outcome;
     match o {
         Outcome::Is(w) => {
-            let y = evaluate(frames, who, variables, cells, x.used, b);
+            let y = evaluate(frames, who, variables, cells, x.used, b as usize);
             starts_two(q, value_word(w), y, v)
         },
         Outcome::Foreign => refused(19, x.used),

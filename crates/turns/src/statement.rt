@@ -47,34 +47,14 @@ pub fn act_statement(
                 waits: false,
                 target: m,
             };
-            starts(
-                frames,
-                who,
-                q,
-                v,
-                variables,
-                cells,
-                used,
-                a as usize,
-                b as usize,
-            )
+            starts(frames, who, q, v, variables, cells, used, a, b)
         },
         StatementNode::StartWait(m, a, b) => {
             let q = Request {
                 waits: true,
                 target: m,
             };
-            starts(
-                frames,
-                who,
-                q,
-                v,
-                variables,
-                cells,
-                used,
-                a as usize,
-                b as usize,
-            )
+            starts(frames, who, q, v, variables, cells, used, a, b)
         },
         StatementNode::Cooperate => cooperates(v, used),
         StatementNode::LetIn(a, b) => {

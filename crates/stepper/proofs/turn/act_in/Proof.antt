@@ -1,8 +1,8 @@
 -- `act_in` meets its contract. Assumes nothing.
 use borrow.Author.Needs.{needs}
 use native.Mathlib.Omega.{arith}
-use mathlib.Core.Path.{refl}
-use Rattle.stepper.proofs.StepLaws.{step-long, threads-few, place-read, items-read, variables-room, variables-are, variables-count, who-at, act-asks, act-gives}
+use mathlib.Core.Path.{refl, sym}
+use Rattle.stepper.proofs.StepLaws.{step-long, threads-few, place-read, items-read, variables-room, variables-are, variables-count, number-is, act-asks, act-gives}
 use Rattle.stepper.proofs.turn.act_in.Statement.{statement}
 use Rattle.stepper.proofs.turn.act_in.Tie as tie
 
@@ -18,35 +18,35 @@ mul-at c = let p = c .before .before .before .pre in let l = step-long _ _ _ (p 
 add-at : tie.Need-add-at
 add-at c = let p = c .before .before .before .pre in let l = step-long _ _ _ (p .0) in let m = threads-few _ _ _ (p .0) in let a = p .1 in let b = p .2 in omega arith
 
-mul-t15 : tie.Need-mul-t15
-mul-t15 c = let p = c .before .before .before .pre in let l = step-long _ _ _ (p .0) in let m = threads-few _ _ _ (p .0) in let a = p .1 in let b = p .2 in record { fits = omega arith }
+mul-standing-at : tie.Need-mul-standing-at
+mul-standing-at c = let p = c .before .before .before .pre in let l = step-long _ _ _ (p .0) in let m = threads-few _ _ _ (p .0) in let a = p .1 in let b = p .2 in record { fits = omega arith }
 
-slice-read-t14 : tie.Need-slice-read-t14
-slice-read-t14 c = let p = c .before .before .before .before .pre in let l = step-long _ _ _ (p .0) in let m = threads-few _ _ _ (p .0) in let a = p .1 in let b = p .2 in omega arith
-
-add-t17 : tie.Need-add-t17
-add-t17 c = let p = c .before .before .before .before .pre in let l = step-long _ _ _ (p .0) in let m = threads-few _ _ _ (p .0) in let a = p .1 in let b = p .2 in omega arith
-
-mul-t18 : tie.Need-mul-t18
-mul-t18 c = let p = c .before .before .before .before .pre in let l = step-long _ _ _ (p .0) in let m = threads-few _ _ _ (p .0) in let a = p .1 in let b = p .2 in record { fits = omega arith }
-
-slice-read-t20 : tie.Need-slice-read-t20
-slice-read-t20 c = let p = c .before .before .before .before .before .pre in let l = step-long _ _ _ (p .0) in let m = threads-few _ _ _ (p .0) in let a = p .1 in let b = p .2 in omega arith
-
-add-t21 : tie.Need-add-t21
-add-t21 c = let p = c .before .before .before .before .before .pre in let l = step-long _ _ _ (p .0) in let m = threads-few _ _ _ (p .0) in let a = p .1 in let b = p .2 in omega arith
-
-mul-t22 : tie.Need-mul-t22
-mul-t22 c = let p = c .before .before .before .before .before .pre in let l = step-long _ _ _ (p .0) in let m = threads-few _ _ _ (p .0) in let a = p .1 in let b = p .2 in record { fits = omega arith }
-
-slice-read-t24 : tie.Need-slice-read-t24
-slice-read-t24 c = let p = c .before .before .before .before .before .before .pre in let l = step-long _ _ _ (p .0) in let m = threads-few _ _ _ (p .0) in let a = p .1 in let b = p .2 in omega arith
-
-cast-t25 : tie.Need-cast-t25
-cast-t25 c = let p = c .before .before .before .before .before .before .pre in let l = step-long _ _ _ (p .0) in let m = threads-few _ _ _ (p .0) in let a = p .1 in let b = p .2 in record { fits = omega arith }
+slice-read-standing-at : tie.Need-slice-read-standing-at
+slice-read-standing-at c = let p = c .before .before .before .before .pre in let l = step-long _ _ _ (p .0) in let m = threads-few _ _ _ (p .0) in let a = p .1 in let b = p .2 in omega arith
 
 standing-at-requires : tie.Need-standing-at-requires
-standing-at-requires c κs = let p = c .before .before .before .before .before .before .pre in place-read _ _ _ (p .0) _ (p .1) (p .2) _ refl
+standing-at-requires c κs = let p = c .before .before .before .before .pre in place-read _ _ _ (p .0) _ (p .1) (p .2) _ refl
+
+add-t16 : tie.Need-add-t16
+add-t16 c = let p = c .before .before .before .before .before .pre in let l = step-long _ _ _ (p .0) in let m = threads-few _ _ _ (p .0) in let a = p .1 in let b = p .2 in omega arith
+
+mul-t18 : tie.Need-mul-t18
+mul-t18 c = let p = c .before .before .before .before .before .pre in let l = step-long _ _ _ (p .0) in let m = threads-few _ _ _ (p .0) in let a = p .1 in let b = p .2 in record { fits = omega arith }
+
+slice-read-t15 : tie.Need-slice-read-t15
+slice-read-t15 c = let p = c .before .before .before .before .before .before .pre in let l = step-long _ _ _ (p .0) in let m = threads-few _ _ _ (p .0) in let a = p .1 in let b = p .2 in omega arith
+
+add-t20 : tie.Need-add-t20
+add-t20 c = let p = c .before .before .before .before .before .before .pre in let l = step-long _ _ _ (p .0) in let m = threads-few _ _ _ (p .0) in let a = p .1 in let b = p .2 in omega arith
+
+mul-t21 : tie.Need-mul-t21
+mul-t21 c = let p = c .before .before .before .before .before .before .pre in let l = step-long _ _ _ (p .0) in let m = threads-few _ _ _ (p .0) in let a = p .1 in let b = p .2 in record { fits = omega arith }
+
+slice-read-t23 : tie.Need-slice-read-t23
+slice-read-t23 c = let p = c .before .before .before .before .before .before .before .pre in let l = step-long _ _ _ (p .0) in let m = threads-few _ _ _ (p .0) in let a = p .1 in let b = p .2 in omega arith
+
+cast-t24 : tie.Need-cast-t24
+cast-t24 c = let p = c .before .before .before .before .before .before .before .pre in let l = step-long _ _ _ (p .0) in let m = threads-few _ _ _ (p .0) in let a = p .1 in let b = p .2 in record { fits = omega arith }
 
 top-item-requires : tie.Need-top-item-requires
 top-item-requires c κs = let p = c .before .before .before .before .before .before .before .before .pre in let l = step-long _ _ _ (p .0) in let m = threads-few _ _ _ (p .0) in let a = p .1 in let b = p .2 in (l, omega arith, items-read _ _ _ (p .0) _ (p .1) (p .2))
@@ -70,13 +70,13 @@ part-act-end : tie.Need-part-act-end
 part-act-end c = search needs
 
 act-requires : tie.Need-act-requires
-act-requires c κs = let p = c .before .before .before .before .before .before .before .before .before .before .before .before .before .pre in act-asks _ _ _ (p .0) _ (p .1) (p .2) _ _ _ _ _ (record { place = refl; items = refl; values = refl }) (c .before .before .before .before .top-item .ensures) (variables-are _ _ _ (p .0) _ (p .1) (p .2) _ (c .before .before .load-variables .ensures)) refl refl
+act-requires c κs = let p = c .before .before .before .before .before .before .before .before .before .before .before .before .before .pre in act-asks _ _ _ (p .0) _ (p .1) (p .2) _ _ _ _ _ (record { place = sym (number-is _ _ (c .before .before .before .before .before .before .before .before .standing-at .ensures)); items = refl; values = refl }) (c .before .before .before .before .top-item .ensures) (variables-are _ _ _ (p .0) _ (p .1) (p .2) _ (c .before .before .load-variables .ensures)) refl refl
 
 same-length : tie.Need-same-length
 same-length c = search needs
 
 returns : tie.Need-returns
-returns c = let p = c .before .before .before .before .before .before .before .before .before .before .before .before .before .before .before .before .pre in act-gives _ _ _ (p .0) _ (p .1) (p .2) _ _ _ _ _ (record { place = refl; items = refl; values = refl }) (c .before .before .before .before .before .before .before .top-item .ensures) (variables-are _ _ _ (p .0) _ (p .1) (p .2) _ (c .before .before .before .before .before .load-variables .ensures)) refl refl _ _ _ _ (who-at _ _ _ _ (c .before .before .before .before .before .before .before .before .before .standing-at .ensures)) (c .before .before .act .ensures) (c .before .before .act .kept .1 .1 .1 .1 .1 .0) refl
+returns c = let p = c .before .before .before .before .before .before .before .before .before .before .before .before .before .before .before .before .pre in act-gives _ _ _ (p .0) _ (p .1) (p .2) _ _ _ _ _ (record { place = sym (number-is _ _ (c .before .before .before .before .before .before .before .before .before .before .before .standing-at .ensures)); items = refl; values = refl }) (c .before .before .before .before .before .before .before .top-item .ensures) (variables-are _ _ _ (p .0) _ (p .1) (p .2) _ (c .before .before .before .before .before .load-variables .ensures)) refl refl _ _ _ _ refl (c .before .before .act .ensures) (c .before .before .act .kept .1 .1 .1 .1 .1 .0) refl
 
 pub act-in-spec : {M : Type 1} → statement M
-act-in-spec = tie.close (tie.spec slice-read-used sub-k mul-at add-at mul-t15 slice-read-t14 add-t17 mul-t18 slice-read-t20 add-t21 mul-t22 slice-read-t24 cast-t25 standing-at-requires top-item-requires load-variables-requires array-share-prefix-variables slice-aggregate-act sub-act part-act-start part-act-end act-requires same-length returns)
+act-in-spec = tie.close (tie.spec slice-read-used sub-k mul-at add-at mul-standing-at slice-read-standing-at standing-at-requires add-t16 mul-t18 slice-read-t15 add-t20 mul-t21 slice-read-t23 cast-t24 top-item-requires load-variables-requires array-share-prefix-variables slice-aggregate-act sub-act part-act-start part-act-end act-requires same-length returns)

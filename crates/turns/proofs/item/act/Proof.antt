@@ -10,18 +10,18 @@ comes-to-requires c κs = search needs
 returns : tie.Need-returns
 returns c = turn-ends _ _ _ _ _ _ _ _ (c .before .if1 .taken) (c .comes-to .ensures)
 
-sub-t12 : tie.Need-sub-t12
-sub-t12 c = search needs
+sub-t13 : tie.Need-sub-t13
+sub-t13 c = search needs
 
 act-item-requires : tie.Need-act-item-requires
-act-item-requires c κs = (below-words _ _ _ _ _ (c .before .before .before .before .before .before .before .pre .0), c .before .before .before .before .before .before .before .pre .1)
+act-item-requires c κs = (below-words _ _ _ _ _ (c .before .before .before .before .before .before .before .before .pre .0), c .before .before .before .before .before .before .before .before .pre .1)
 
 same-length : tie.Need-same-length
 same-length c = search needs
 
 returns-2 : tie.Need-returns-2
-returns-2 c = turn-item _ _ _ _ _ _ _ _ _ (c .before .before .before .before .before .if1 .left) (c .before .before .act-item .ensures)
+returns-2 c = turn-item _ _ _ _ _ _ _ _ _ (c .before .before .before .before .before .before .if1 .left) (c .before .before .act-item .ensures)
 
 pub act-spec : {M : Type 1} → statement M
 act-spec =
-    tie.close (tie.spec comes-to-requires returns sub-t12 act-item-requires same-length returns-2)
+    tie.close (tie.spec comes-to-requires returns sub-t13 act-item-requires same-length returns-2)

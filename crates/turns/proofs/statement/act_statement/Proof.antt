@@ -49,23 +49,11 @@ does-at-requires c κs = search needs
 enum-known-m : tie.Need-enum-known-m
 enum-known-m c = search needs
 
-cast-starts : tie.Need-cast-starts
-cast-starts c = search needs
-
-cast-starts-2 : tie.Need-cast-starts-2
-cast-starts-2 c = search needs
-
 starts-requires : tie.Need-starts-requires
 starts-requires c κs = (search needs, search under-laws, search under-laws)
 
 enum-known-m-2 : tie.Need-enum-known-m-2
 enum-known-m-2 c = search needs
-
-cast-starts-3 : tie.Need-cast-starts-3
-cast-starts-3 c = search needs
-
-cast-starts-4 : tie.Need-cast-starts-4
-cast-starts-4 c = search needs
 
 starts-requires-2 : tie.Need-starts-requires-2
 starts-requires-2 c κs = (search needs, search under-laws, search under-laws)
@@ -270,12 +258,8 @@ act-statement-spec =
     cast-does-at-2
     does-at-requires
     enum-known-m
-    cast-starts
-    cast-starts-2
     starts-requires
     enum-known-m-2
-    cast-starts-3
-    cast-starts-4
     starts-requires-2
     enum-told-2
     cooperates-requires
