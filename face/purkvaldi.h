@@ -33,10 +33,15 @@ uint32_t purkvaldi_step(const uint8_t *text, size_t length, uint64_t *state, siz
 /* How many bytes a listing's buffer has: 229,389, the longest listing. */
 size_t purkvaldi_listing_length(void);
 
-/* The listing of a run in the first bytes of `out`: how many they are, or 0 where `state` or `out` has another length than it has to
- * have, and nothing is written. `choices` are the bytes of a choices.txt. The listing begins with the check's line; where choices were
- * stepped, `state` is the fresh state stepped through those used, else it is as it was. */
-size_t purkvaldi_run(const uint8_t *text, size_t length, const uint8_t *choices, size_t choices_length, uint64_t *state,
-                     size_t words, uint8_t *out, size_t out_length);
+/* What `purkvaldi_run` gives: the code of its answer, 0 where the listing is printed, and how many bytes the listing has. */
+#define PURKVALDI_CODE(result) ((uint32_t)((result) >> 32))
+#define PURKVALDI_SIZE(result) ((size_t)((result) & 0xFFFFFFFFu))
+
+/* The listing of a run in the first bytes of `out`. `choices` are the bytes of a choices.txt. The listing begins with the check's line; after
+ * a refusal 1 to 7 it has no other, and `state` may have any length. Where choices were stepped, `state` is the fresh state stepped through
+ * those used, else it is as it was. Where `state` or `out` has another length than it needs, the code is that of the text's refusal 1 to 7,
+ * else that of 14, the size is 0, and nothing is written. */
+uint64_t purkvaldi_run(const uint8_t *text, size_t length, const uint8_t *choices, size_t choices_length, uint64_t *state,
+                       size_t words, uint8_t *out, size_t out_length);
 
 #endif

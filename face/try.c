@@ -3,13 +3,14 @@
 #include <stdio.h>
 #include <string.h>
 
-enum { WORDS = 4818 };
+enum { WORDS = 4818, OUT = 229389 };
 
 /* 01's three-line file: one module, which does nothing. */
 static const char three[] = "0001000000010000\n1000000000000000\n0200000100000000\n";
 static uint64_t state[WORDS + 1];
 static uint64_t before[WORDS + 1];
-static uint8_t out[229389 + 1];
+static uint8_t out[OUT + 1];
+static uint8_t out_before[OUT + 1];
 static int failures;
 
 static void expect(const char *what, uint32_t code, uint32_t wanted)
@@ -27,6 +28,36 @@ static void refused(const char *what, size_t words, uint64_t choice, uint32_t wa
     expect(what, purkvaldi_step((const uint8_t *)three, sizeof three - 1, state, words, choice), wanted);
     if (memcmp(before, state, sizeof state) != 0) {
         printf("%s: a refused step wrote\n", what);
+        failures++;
+    }
+}
+
+/* A listing that is refused leaves both buffers. */
+static void unprinted(const char *what, const uint8_t *text, size_t length, size_t words, size_t bytes, uint32_t wanted)
+{
+    uint64_t result;
+    memcpy(before, state, sizeof state);
+    memcpy(out_before, out, sizeof out);
+    result = purkvaldi_run(text, length, (const uint8_t *)"02\n", 3, state, words, out, bytes);
+    expect(what, PURKVALDI_CODE(result), wanted);
+    if (PURKVALDI_SIZE(result) != 0 || memcmp(before, state, sizeof state) != 0 || memcmp(out_before, out, sizeof out) != 0) {
+        printf("%s: a refused listing wrote\n", what);
+        failures++;
+    }
+}
+
+/* A listing that is printed, and no byte behind it. */
+static void printed(const char *what, const uint8_t *text, size_t length, const char *choices, size_t words, const char *wanted)
+{
+    uint64_t result;
+    size_t size = strlen(wanted);
+    memset(out, 7, sizeof out);
+    memset(out_before, 7, sizeof out);
+    memcpy(out_before, wanted, size);
+    result = purkvaldi_run(text, length, (const uint8_t *)choices, strlen(choices), state, words, out, OUT);
+    expect(what, PURKVALDI_CODE(result), 0);
+    if (PURKVALDI_SIZE(result) != size || memcmp(out, out_before, sizeof out) != 0) {
+        printf("%s: another listing\n", what);
         failures++;
     }
 }
@@ -73,24 +104,16 @@ int main(void)
         state[i] = kept;
     }
 
-    /* the listing of a run */
-    expect("listing length", (uint32_t)purkvaldi_listing_length(), sizeof out - 1);
-    expect("a run in a shorter buffer", (uint32_t)purkvaldi_run(text, length, NULL, 0, state, WORDS, out, sizeof out - 2), 0);
-    expect("a run in a longer buffer", (uint32_t)purkvaldi_run(text, length, NULL, 0, state, WORDS, out, sizeof out), 0);
-    expect("a run on a shorter state", (uint32_t)purkvaldi_run(text, length, NULL, 0, state, WORDS - 1, out, sizeof out - 1), 0);
-    expect("a run in no buffer", (uint32_t)purkvaldi_run(text, length, NULL, 0, NULL, 0, NULL, 0), 0);
-    for (i = 0; i < sizeof out; i++)
-        if (out[i] != 0)
-            failures++;
-    {
-        static const char choices[] = "02\n02\n02\n";
-        static const char wanted[] = "00 0000\n02 00 01 0000\n02 00 01 0000\n02 10 00 0000\n0003\n";
-        size_t n = purkvaldi_run(text, length, (const uint8_t *)choices, sizeof choices - 1, state, WORDS, out, sizeof out - 1);
-        if (n != sizeof wanted - 1 || memcmp(out, wanted, n) != 0) {
-            printf("a run: another listing\n");
-            failures++;
-        }
-    }
-    expect("a run of no text", (uint32_t)purkvaldi_run(NULL, 0, NULL, 0, state, WORDS, out, sizeof out - 1), 8);
+    /* the listing of a run: the text's refusal comes before 14, and what is refused writes nothing */
+    expect("listing length", (uint32_t)purkvaldi_listing_length(), OUT);
+    unprinted("a run in a shorter buffer", text, length, WORDS, OUT - 1, 0x0E0000);
+    unprinted("a run in a longer buffer", text, length, WORDS, OUT + 1, 0x0E0000);
+    unprinted("a run on a shorter state", text, length, WORDS - 1, OUT, 0x0E0000);
+    unprinted("a run of no text in a shorter buffer", NULL, 0, WORDS, OUT - 1, 0x010000);
+    unprinted("a run of half a text on a shorter state in a longer buffer", text, length - 8, WORDS - 1, OUT + 1, 0x030002);
+    expect("a run in no buffer", PURKVALDI_CODE(purkvaldi_run(text, length, NULL, 0, NULL, 0, NULL, 0)), 0x0E0000);
+    printed("a run", text, length, "02\n02\n02\n", WORDS, "00 0000\n02 00 01 0000\n02 00 01 0000\n02 10 00 0000\n0003\n");
+    printed("a run of no text", NULL, 0, "", WORDS, "01 0000\n");
+    printed("a run of no text on a shorter state", NULL, 0, "02\n", WORDS - 1, "01 0000\n");
     return failures != 0;
 }

@@ -10,7 +10,7 @@ use Rattle.stepper.specs.declared.answer.Answer.the-variants as A
 use Rattle.stepper.specs.Answers.{Answered, answered}
 use Rattle.runs.specs.Printed.{ListedOn, listedOn}
 use Rattle.runs.specs.declared.printing.Listed.{Listed}
-use Rattle.c_face.specs.Codes.{codeOf, answerCode, coded, codedOf, printed, printedOf}
+use Rattle.c_face.specs.Codes.{codeOf, answerCode, coded, codedOf, listedCode, printed, printedOf}
 
 pub code-accepted : (v : Verdict) → v ≡ Accepted → 0 ≡ codeOf v
 code-accepted v h = ap codeOf (sym h)
@@ -38,5 +38,6 @@ pub ruleset answer-laws = (answer-rejected, answer-refused, answer-done)
 pub answer-coded : (w : List ℕ) (x : Answered) (v : Answer) (r : ℕ) → answered v w ≡ x → r ≡ answerCode v → coded r w ≡ codedOf x
 answer-coded w x v r e h = ap (λ (n : ℕ). coded n w) h ∙ ap codedOf e
 
-pub listing-printed : (w out : List ℕ) (x : ListedOn) (l : Listed) (n : ℕ) → listedOn l w out ≡ x → n ≡ l .length → printed n w out ≡ printedOf x
-listing-printed w out x l n e h = ap (λ (k : ℕ). printed k w out) h ∙ ap printedOf e
+-- ---- a listing's answer and length
+pub listing-printed : (w out : List ℕ) (x : ListedOn) (l : Listed) (v : Answer) (n : ℕ) → listedOn l w out ≡ x → v ≡ l .answer → n ≡ listedCode v (l .length) → printed n w out ≡ printedOf x
+listing-printed w out x l v n e q h = ap (λ (k : ℕ). printed k w out) (h ∙ ap (λ (a : Answer). listedCode a (l .length)) q) ∙ ap printedOf e

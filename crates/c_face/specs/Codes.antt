@@ -29,14 +29,18 @@ coded n w = record { code = n; words = w }
 abbrev pub codedOf : Answered → Coded
 codedOf r = coded (answerCode (r .answer)) (r .words)
 
--- a listing's length, 0 where it is refused, and both lent buffers behind the call
+-- a listing's answer above 32 bits, and the listing's length
+abbrev pub listedCode : Answer → ℕ → ℕ
+listedCode a size = answerCode a * 2 ^ 32 + size
+
+-- that number, and both lent buffers behind the call
 pub record Printed : Type 0 where
-  pub size : ℕ
+  pub code : ℕ
   pub words : List ℕ
   pub out : List ℕ
 
 abbrev pub printed : ℕ → List ℕ → List ℕ → Printed
-printed n w out = record { size = n; words = w; out = out }
+printed n w out = record { code = n; words = w; out = out }
 
 abbrev pub printedOf : ListedOn → Printed
-printedOf r = printed (r .size) (r .words) (r .out)
+printedOf r = printed (listedCode (r .answer) (r .size)) (r .words) (r .out)

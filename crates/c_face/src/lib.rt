@@ -10,7 +10,7 @@ ghost use mathlib.Core.Path.{_≡_};
 ghost use Rattle.rules.specs.Verdict.{verdict};
 ghost use Rattle.stepper.specs.Answers.{freshText, stepText};
 ghost use Rattle.runs.specs.Printed.{listText};
-ghost use Rattle.c_face.specs.Codes.{codeOf, answerCode, coded, codedOf, printed, printedOf};
+ghost use Rattle.c_face.specs.Codes.{codeOf, answerCode, coded, codedOf, listedCode, printed, printedOf};
 
 fn wide8(n: u8) -> u32
     ensures { λ r. ⌜ r ≡ n ⌝ }
@@ -22,6 +22,12 @@ fn wide16(n: u16) -> u32
     ensures { λ r. ⌜ r ≡ n ⌝ }
 {
     n as u32
+}
+
+fn wide32(n: u32) -> u64
+    ensures { λ r. ⌜ r ≡ n ⌝ }
+{
+    n as u64
 }
 
 // A verdict as one number.
@@ -86,16 +92,25 @@ pub extern "C" fn purkvaldi_listing_length() -> usize
     229389
 }
 
-// The listing of a run, in the first bytes of `out`: how many they are, 0 where a buffer has another length and nothing is written. `choices` are the
-// bytes of choices.txt; the state behind the run is in `state` where choices were stepped.
+// A listing's answer above 32 bits, its length in them.
+fn listed_code(a: Answer, length: u32) -> u64
+    ensures { λ r. ⌜ r ≡ listedCode a length ⌝ }
+{
+    wide32(answer_code(a)) * 0x0000_0001_0000_0000 + wide32(length)
+}
+
+// The listing of a run, in the first bytes of `out`: how many they are. Where a buffer has another length than it needs, above 32 bits the code of the text's refusal 1 to 7, else of 14, and nothing is written.
+// `choices` are the bytes of choices.txt; the state behind the run is in `state` where choices were stepped.
 #[no_mangle]
 pub extern "C" fn purkvaldi_run(
     text: &[u8],
     choices: &[u8],
     state: &mut [u64],
     out: &mut [u8],
-) -> usize
+) -> u64
     ensures { λ r. ⌜ printed r (now (state .exit)) (now (out .exit)) ≡ printedOf (listText (now (text .entry)) (now (choices .entry)) (now (state .entry)) (now (out .entry))) ⌝ }
 {
-    run_listing(text, choices, state, out).length
+    let l = run_listing(text, choices, state, out);
+    let a = l.answer;
+    listed_code(a, l.length)
 }

@@ -19,12 +19,13 @@ pub fn read_file(path: &[u8], buffer: &mut [u8]) -> usize
 }
 
 // Whether the buffer has so many bytes; where it has fewer, nothing is printed. What the system does with them is outside the logic.
-pub fn print(bytes: &[u8], n: usize) -> bool
+pub fn print(bytes: &[u8], n: u32) -> bool
     ensures { λ r. ⌜ r ≡ leb n (length (now (bytes .entry))) ⌝ }
 {
-    if bytes.len() < n {
+    let count = n as usize;
+    if bytes.len() < count {
         return false;
     }
-    io::write_all(STDOUT_FILENO, &bytes[..n]);
+    io::write_all(STDOUT_FILENO, &bytes[..count]);
     true
 }

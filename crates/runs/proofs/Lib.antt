@@ -1,7 +1,9 @@
 pub mod RunLaws
-pub mod CheckLaws
 pub mod TextLaws
 pub mod CalledRuns
+pub mod CheckLaws
 pub mod LineRuns
+pub mod RunLines
+pub mod JudgedChoices
 pub mod Stops
-pub mod PrintLaws
+pub mod TextListings

@@ -1,3 +1,4 @@
 pub mod Runs
-pub mod Printed
+pub mod Lengths
 pub mod Checked
+pub mod Printed

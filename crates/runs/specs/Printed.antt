@@ -1,5 +1,5 @@
 -- What `run_listing` leaves in the lent buffers: a run's whole listing, and its state. Assumes nothing: definitions.
-use mathlib.Core.Bool.{true, false, _&&_}
+use mathlib.Core.Bool.{Bool, true, false, _&&_}
 use mathlib.Core.List.{List, []}
 use Prim.Native.Nat.{ℕ, _+_}
 use lib.Dec.{ltb, eqb}
@@ -8,11 +8,16 @@ use lib.Seq.{paste}
 use Rattle.basics.specs.If.{if_then_else_}
 use Rattle.language.specs.declared.frame.Frame.{Frame}
 use Rattle.language.specs.declared.verdict.Verdict.{Verdict}
+use Rattle.language.specs.declared.verdict.Verdict.the-variants.{Accepted, Rejected}
 use Rattle.text.specs.Frames.{textFrames}
 use Rattle.program.specs.Programs.{Program, programOf}
+use Rattle.layout.specs.LaidOut.{layoutVerdict}
 use Rattle.rules.specs.Verdict.{verdict}
 use Rattle.machine.specs.Runs.{steps}
-use Rattle.listing.specs.Listing.{stops, Choices, choices, malformed, choicesFrom, choiceLines, runListing}
+use Rattle.stepper.specs.declared.answer.Answer.{Answer}
+use Rattle.stepper.specs.declared.answer.Answer.the-variants as A
+use Rattle.listing.specs.Listing.{refusalLine, stops, Choices, choices, malformed, choicesFrom, choiceLines, runListing}
+use Rattle.runs.specs.Lengths.{wrongLength}
 use Rattle.runs.specs.Runs.{Behind, stepped}
 use Rattle.runs.specs.declared.printing.Listed.{Listed}
 
@@ -38,14 +43,14 @@ runStepped v fs w bytes = elim (stops v) [ true ↦ unstepped w | false ↦ choi
 
 -- the answer, the listing's length, how many choices were used, and both buffers
 pub record ListedOn : Type 0 where
-  pub answer : ℕ
+  pub answer : Answer
   pub size : ℕ
   pub used : ℕ
   pub words : List ℕ
   pub out : List ℕ
 
-abbrev pub listedAs : ℕ → ℕ → ℕ → List ℕ → List ℕ → ListedOn
-listedAs n size used w out = record { answer = n; size = size; used = used; words = w; out = out }
+abbrev pub listedAs : Answer → ℕ → ℕ → List ℕ → List ℕ → ListedOn
+listedAs a size used w out = record { answer = a; size = size; used = used; words = w; out = out }
 
 abbrev pub listedOn : Listed → List ℕ → List ℕ → ListedOn
 listedOn r w out = listedAs (r .answer) (r .length) (r .used) w out
@@ -56,14 +61,23 @@ written out at bytes = paste out at bytes (length bytes)
 
 -- the state's words, and the buffer that begins with the listing
 abbrev pub listedFrom : Behind → List ℕ → List ℕ → ListedOn
-listedFrom b listing out = listedAs 0 (length listing) (b .used) (b .words) (written out 0 listing)
+listedFrom b listing out = listedAs (A.Done 0) (length listing) (b .used) (b .words) (written out 0 listing)
 
--- of any text, any bytes of choices.txt and any buffers: 14 is 'a lent buffer of the wrong length', and the longest listing has 8 + 14 * 16,384 + 5 bytes
+-- nothing is printed: 'No buffer changes.'
+abbrev pub unlisted : Answer → List ℕ → List ℕ → ListedOn
+unlisted a w out = listedAs a 0 0 w out
+
+-- a listing that stops after 1 to 7 needs no state; any other needs one of its length
+abbrev pub stateFits : Verdict → List ℕ → Bool
+stateFits (Rejected n j) w = true
+stateFits Accepted w = eqb (length w) 4818
+
+-- of any text, any bytes of choices.txt and any buffers; the longest listing has 8 + 14 * 16,384 + 5 bytes
 unfoldable pub listText : List ℕ → List ℕ → List ℕ → List ℕ → ListedOn
 listText bs bytes w out =
-    if eqb (length w) 4818 && eqb (length out) 229389
+    if stateFits (layoutVerdict bs) w && eqb (length out) 229389
     then listedFrom (runStepped (verdict bs) (textFrames bs) w bytes) (runListing (verdict bs) (textFrames bs) bytes) out
-    else listedAs 14 0 0 w out
+    else unlisted (wrongLength (layoutVerdict bs)) w out
 
 -- ---- what the inner functions give. Whoever reads the promise can skip this
 
@@ -81,4 +95,9 @@ stepLines p cs = choiceLines cs (steps p cs)
 
 -- behind the check's line, which is 8 bytes
 abbrev pub listedBehind : Behind → List ℕ → List ℕ → ListedOn
-listedBehind b listing out = listedAs 0 (8 + length listing) (b .used) (b .words) (written out 8 listing)
+listedBehind b listing out = listedAs (A.Done 0) (8 + length listing) (b .used) (b .words) (written out 8 listing)
+
+-- of a text that refusal n at frame j stops
+unfoldable pub listedRejected : ℕ → ℕ → List ℕ → List ℕ → ListedOn
+listedRejected n j w out =
+    if eqb (length out) 229389 then listedFrom (unstepped w) (refusalLine n j) out else unlisted (A.Rejected n j) w out

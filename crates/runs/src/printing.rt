@@ -11,6 +11,7 @@ use listing::line::last_line;
 use listing::refusal_line;
 use rules::check::rules_of;
 use states::fresh::write_fresh;
+use stepper::answer::Answer;
 use stepper::file::file_of;
 ghost use mathlib.Core.Path.{_≡_};
 ghost use mathlib.Core.List.{[]};
@@ -22,12 +23,12 @@ ghost use Rattle.rules.specs.Checking.{rulesOf};
 ghost use Rattle.stepper.specs.Files.{FileWords};
 ghost use Rattle.listing.specs.Listing.{refusalLine, runLines, choicesListing, runListing};
 ghost use Rattle.runs.specs.Runs.{stepped};
-ghost use Rattle.runs.specs.Printed.{choicesOf, unstepped, choicesStepped, runStepped, listedOn, listedBehind, listedFrom, listText};
+ghost use Rattle.runs.specs.Printed.{choicesOf, unstepped, choicesStepped, runStepped, listedOn, listedBehind, listedFrom, listedRejected, listText};
 
-// 0 or 14, the listing's length, and how many choices were used.
+// Whether it is printed or why it is not, the listing's length, and how many choices were used.
 pub struct Listed {
-    pub answer: u8,
-    pub length: usize,
+    pub answer: Answer,
+    pub length: u32,
     pub used: usize,
 }
 
@@ -43,8 +44,8 @@ fn list_run(frames: &[u64], bytes: &[u8], n: usize, state: &mut [u64], out: &mut
     let line = last_line(used as u16);
     put(out, 8 + 14 * used, &line);
     Listed {
-        answer: 0,
-        length: 13 + 14 * used,
+        answer: Answer::Done(0),
+        length: (13 + 14 * used) as u32,
         used,
     }
 }
@@ -57,7 +58,7 @@ fn list_refusal(number: u8, line: u16, out: &mut [u8]) -> Listed
     let bytes = refusal_line(number, line);
     put(out, 8, &bytes);
     Listed {
-        answer: 0,
+        answer: Answer::Done(0),
         length: 16,
         used: 0,
     }
@@ -86,37 +87,50 @@ fn list_frames(frames: &[u64], bytes: &[u8], state: &mut [u64], out: &mut [u8]) 
     list_choices(frames, bytes, state, out)
 }
 
-// The listing of any text and of the bytes of choices.txt, and the state behind it; 14 for a buffer of another length. The longest listing has 8 + 14 * 16,384 + 5 bytes.
+// The line of a text that refusal n at frame j stops. Bytes of another length cannot take it: then the refusal is the answer.
+fn list_rejected(n: u8, j: u16, out: &mut [u8]) -> Listed
+    ensures { λ r. ⌜ listedOn r [] (now (out .exit)) ≡ listedRejected n j [] (now (out .entry)) ⌝ }
+{
+    if out.len() != 229389 {
+        return Listed {
+            answer: Answer::Rejected(n, j),
+            length: 0,
+            used: 0,
+        };
+    }
+    let line = refusal_line(n, j);
+    put(out, 0, &line);
+    Listed {
+        answer: Answer::Done(0),
+        length: 8,
+        used: 0,
+    }
+}
+
+// The listing of any text and of the bytes of choices.txt, and the state behind it. Where a buffer has another length than it needs, the text's refusal 1 to 7, else 14,
+// and nothing is written. The longest listing has 8 + 14 * 16,384 + 5 bytes.
 pub fn run_listing(text: &[u8], choices: &[u8], state: &mut [u64], out: &mut [u8]) -> Listed
     ensures { λ r. ⌜ listedOn r (now (state .exit)) (now (out .exit)) ≡ listText (now (text .entry)) (now (choices .entry)) (now (state .entry)) (now (out .entry)) ⌝ }
 {
-    if state.len() != 4818 {
-        return Listed {
-            answer: 14,
-            length: 0,
-            used: 0,
-        };
-    }
-    if out.len() != 229389 {
-        return Listed {
-            answer: 14,
-            length: 0,
-            used: 0,
-        };
-    }
     let l = lay_out(text);
     let v = l.verdict;
     match v {
-        Verdict::Rejected(n, j) => {
-            let line = refusal_line(n, j);
-            put(out, 0, &line);
-            Listed {
-                answer: 0,
-                length: 8,
-                used: 0,
-            }
-        }
+        Verdict::Rejected(n, j) => list_rejected(n, j, out),
         Verdict::Accepted => {
+            if state.len() != 4818 {
+                return Listed {
+                    answer: Answer::Refused(14, 0),
+                    length: 0,
+                    used: 0,
+                };
+            }
+            if out.len() != 229389 {
+                return Listed {
+                    answer: Answer::Refused(14, 0),
+                    length: 0,
+                    used: 0,
+                };
+            }
             let words = l.words;
             let n = l.count;
             list_frames(&words[..n], choices, state, out)

@@ -1,4 +1,4 @@
-//! The proved archive behind a safe function.
+//! The proved archive behind safe functions.
 
 extern "C" {
     fn purkvaldi_check(text: *const u8, length: usize) -> u32;
@@ -21,7 +21,7 @@ extern "C" {
         words: usize,
         out: *mut u8,
         out_length: usize,
-    ) -> usize;
+    ) -> u64;
 }
 
 /// How many bytes a listing's buffer has.
@@ -29,14 +29,15 @@ pub fn listing_length() -> usize {
     unsafe { purkvaldi_listing_length() }
 }
 
-/// The listing of a run of the bytes of a choices.txt, in the first bytes of `out`; none where a buffer has another length.
+/// The listing of a run of the bytes of a choices.txt, in the first bytes of `out`; where a buffer has another length than it needs,
+/// the answer: the text's refusal 1 to 7, else 14.
 pub fn run<'o>(
     text: &[u8],
     choices: &[u8],
     state: &mut [u64],
     out: &'o mut [u8],
-) -> Option<&'o [u8]> {
-    let length = unsafe {
+) -> Result<&'o [u8], Answer> {
+    let result = unsafe {
         purkvaldi_run(
             text.as_ptr(),
             text.len(),
@@ -48,7 +49,12 @@ pub fn run<'o>(
             out.len(),
         )
     };
-    (length > 0).then(|| &out[..length])
+    let answer = Answer::of_code((result >> 32) as u32);
+    if answer.number == 0 {
+        Ok(&out[..result as u32 as usize])
+    } else {
+        Err(answer)
+    }
 }
 
 /// What a call of the stepper answers: the number, 0 where it is done; and the frame of a refusal 1 to 7, else the acting

@@ -67,20 +67,56 @@ fn a_listing_is_that_of_the_second_program() {
         let theirs = second::listing::run(THREE, choices);
         assert_eq!(
             face::run(THREE, choices, &mut state, &mut out),
-            Some(&theirs[..])
+            Ok(&theirs[..])
         );
     }
 }
 
 #[test]
 fn a_listing_in_a_buffer_of_another_length_is_refused() {
-    let mut state = vec![3; face::state_length()];
-    for bytes in [0, 8, face::listing_length() - 1, face::listing_length() + 1] {
+    let length = face::listing_length();
+    for (words, bytes) in [
+        (4818, 0),
+        (4818, 8),
+        (4818, length - 1),
+        (4818, length + 1),
+        (4817, length),
+        (4819, length),
+        (0, 0),
+    ] {
+        let mut state = vec![3; words];
         let mut out = vec![7; bytes];
-        assert_eq!(face::run(THREE, b"02\n", &mut state, &mut out), None);
+        let refused = face::run(THREE, b"02\n", &mut state, &mut out);
+        assert_eq!(refused, Err(answer(14, 0)));
         assert_eq!(out, vec![7; bytes]);
-        assert_eq!(state, vec![3; 4818]);
+        assert_eq!(state, vec![3; words]);
     }
-    let mut out = vec![7; face::listing_length()];
-    assert_eq!(face::run(THREE, b"02\n", &mut [1, 2], &mut out), None);
+}
+
+/// 14 comes 'after 1 to 7'.
+#[test]
+fn a_text_refused_with_1_to_7_comes_before_the_buffers() {
+    for (text, number, frame) in [
+        (&b""[..], 1, 0),
+        (&THREE[..20], 3, 1),
+        (b"1000000000000000\n", 4, 0),
+    ] {
+        let line = format!("{number:02X} {frame:04X}\n");
+        for words in [0, 4817, 4818] {
+            let mut state = vec![3; words];
+            let mut out = vec![7; face::listing_length()];
+            assert_eq!(
+                face::run(text, b"02\n", &mut state, &mut out),
+                Ok(line.as_bytes())
+            );
+            assert_eq!(state, vec![3; words]);
+            let mut out = vec![7; 8];
+            assert_eq!(
+                face::run(text, b"02\n", &mut state, &mut out),
+                Err(answer(number, frame))
+            );
+            assert_eq!(state, vec![3; words]);
+            assert_eq!(out, vec![7; 8]);
+        }
+    }
 }

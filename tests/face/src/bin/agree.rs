@@ -98,7 +98,7 @@ fn main() {
             }
             let theirs = second::listing::run(&case.program, &case.choices);
             let ours = face::run(&case.program, &case.choices, &mut state, &mut out);
-            if ours != Some(&theirs[..]) {
+            if ours != Ok(&theirs[..]) {
                 differences += 1;
                 println!("seed {seed} case {cases}: another listing");
             }

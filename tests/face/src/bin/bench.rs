@@ -98,7 +98,7 @@ fn step_times(text: &[u8]) -> (u128, u128, u128) {
             .unwrap()
     };
     let inside = best(&mut || {
-        assert!(face::run(text, &choices, &mut state, &mut out).is_some());
+        assert!(face::run(text, &choices, &mut state, &mut out).is_ok());
     });
     let theirs = best(&mut || {
         std::hint::black_box(second::listing::run(text, &choices));

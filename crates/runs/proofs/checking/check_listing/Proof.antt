@@ -4,6 +4,9 @@ use Rattle.runs.proofs.CheckLaws.{buffer-wrong, buffer-line}
 use Rattle.runs.proofs.checking.check_listing.Statement.{statement}
 use Rattle.runs.proofs.checking.check_listing.Tie as tie
 
+unprinted-requires : tie.Need-unprinted-requires
+unprinted-requires c κs = search needs
+
 returns : tie.Need-returns
 returns c = search buffer-wrong
 
@@ -29,6 +32,7 @@ pub check-listing-spec : {M : Type 1} → statement M
 check-listing-spec =
     tie.close
     (tie.spec
+    unprinted-requires
     returns
     check-requires
     check-line-requires

@@ -1,6 +1,6 @@
 -- `list_frames` meets its contract. Assumes nothing.
 use borrow.Author.Needs.{needs}
-use Rattle.runs.proofs.PrintLaws.{file-in, listed-frames}
+use Rattle.runs.proofs.TextListings.{file-in, listed-frames}
 use Rattle.runs.proofs.printing.list_frames.Statement.{statement}
 use Rattle.runs.proofs.printing.list_frames.Tie as tie
 

@@ -1,6 +1,6 @@
 -- `list_refusal` meets its contract. Assumes nothing.
 use borrow.Author.Needs.{needs}
-use Rattle.runs.proofs.PrintLaws.{listed-refusal}
+use Rattle.runs.proofs.JudgedChoices.{listed-refusal}
 use Rattle.runs.proofs.printing.list_refusal.Statement.{statement}
 use Rattle.runs.proofs.printing.list_refusal.Tie as tie
 

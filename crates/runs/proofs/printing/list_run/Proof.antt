@@ -1,6 +1,6 @@
 -- `list_run` meets its contract. Assumes nothing.
 use borrow.Author.Needs.{needs}
-use Rattle.runs.proofs.PrintLaws.{listed-run}
+use Rattle.runs.proofs.RunLines.{listed-run}
 use Rattle.runs.proofs.printing.list_run.Statement.{statement}
 use Rattle.runs.proofs.printing.list_run.Tie as tie
 
@@ -40,6 +40,9 @@ mul-t20 c = search needs
 add-t21 : tie.Need-add-t21
 add-t21 c = search needs
 
+cast-t25 : tie.Need-cast-t25
+cast-t25 c = search needs
+
 same-length : tie.Need-same-length
 same-length c = search needs
 
@@ -67,6 +70,7 @@ list-run-spec =
     put-requires
     mul-t20
     add-t21
+    cast-t25
     same-length
     same-length-2
     returns)

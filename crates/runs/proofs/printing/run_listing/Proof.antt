@@ -2,15 +2,9 @@
 use borrow.Author.Needs.{needs}
 use Rattle.rules.proofs.CheckLaws.{check-room, check-length}
 use Rattle.stepper.proofs.AnswerLaws.{text-file}
-use Rattle.runs.proofs.PrintLaws.{list-short-state, list-short-out, list-rejected, list-accepted}
+use Rattle.runs.proofs.TextListings.{list-rejected, list-short-state, list-short-out, list-accepted}
 use Rattle.runs.proofs.printing.run_listing.Statement.{statement}
 use Rattle.runs.proofs.printing.run_listing.Tie as tie
-
-returns : tie.Need-returns
-returns c = search list-short-state
-
-returns-2 : tie.Need-returns-2
-returns-2 c = search list-short-out
 
 lay-out-requires : tie.Need-lay-out-requires
 lay-out-requires c κs = search needs
@@ -18,17 +12,17 @@ lay-out-requires c κs = search needs
 enum-known-v : tie.Need-enum-known-v
 enum-known-v c = search needs
 
-refusal-line-requires : tie.Need-refusal-line-requires
-refusal-line-requires c κs = search needs
-
-slice-aggregate-put : tie.Need-slice-aggregate-put
-slice-aggregate-put c = search needs
-
-put-requires : tie.Need-put-requires
-put-requires c κs = search needs
+list-rejected-requires : tie.Need-list-rejected-requires
+list-rejected-requires c κs = search needs
 
 enum-told : tie.Need-enum-told
 enum-told c = search needs
+
+returns : tie.Need-returns
+returns c = search list-short-state
+
+returns-2 : tie.Need-returns-2
+returns-2 c = search list-short-out
 
 array-share-prefix-words : tie.Need-array-share-prefix-words
 array-share-prefix-words c = search check-room
@@ -58,14 +52,12 @@ pub run-listing-spec : {M : Type 1} → statement M
 run-listing-spec =
     tie.close
     (tie.spec
-    returns
-    returns-2
     lay-out-requires
     enum-known-v
-    refusal-line-requires
-    slice-aggregate-put
-    put-requires
+    list-rejected-requires
     enum-told
+    returns
+    returns-2
     array-share-prefix-words
     slice-aggregate-list-frames
     list-frames-requires

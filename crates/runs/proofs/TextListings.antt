@@ -1,0 +1,141 @@
+-- From what 1 to 7 say of a text and the listing of its frames to the listing of the text. Assumes nothing.
+use Prim.Native.Nat.{ℕ}
+use mathlib.Core.Path.{_≡_, refl, sym, ap, ap₂, _∙_}
+use mathlib.Core.List.{List, [], _++_}
+use mathlib.Core.Bool.{Bool, true, false, _&&_}
+use native.Mathlib.Omega.{arith}
+use lib.Dec.{eqb}
+use lib.ListN.{length, take, length-append, length-map}
+use lib.Seq.{paste}
+use borrow.Author.Tests.{eq-eqb, ne-eqb}
+use Rattle.basics.specs.If.{if_then_else_}
+use Rattle.basics.proofs.Ifs.{if-yes, if-no, and-off}
+use Rattle.language.specs.declared.frame.Frame.{Frame}
+use Rattle.language.specs.declared.verdict.Verdict.{Verdict}
+use Rattle.language.specs.declared.verdict.Verdict.the-variants.{Accepted, Rejected}
+use Rattle.text.specs.Frames.{framesOf, textFrames}
+use Rattle.program.specs.Programs.{programOf}
+use Rattle.layout.specs.LaidOut.{layoutVerdict, laidOut}
+use Rattle.layout.specs.declared.LaidOut.{LaidOut}
+use Rattle.layout.proofs.Accepted.{laid-right}
+use Rattle.rules.specs.Checking.{rulesOf}
+use Rattle.rules.specs.Verdict.{verdict}
+use Rattle.rules.specs.Frames.{FileIn}
+use Rattle.rules.proofs.CheckLaws.{check-rejected, check-rules}
+use Rattle.reach.proofs.Passed.{some-frame}
+use Rattle.stepper.specs.declared.answer.Answer.the-variants as A
+use Rattle.stepper.specs.Files.{FileWords}
+use Rattle.listing.specs.Listing.{refusalLine, checkLine, stops, choicesListing, runListing}
+use Rattle.runs.specs.Lengths.{wrongLength}
+use Rattle.runs.specs.Runs.{Behind}
+use Rattle.runs.specs.Printed.{unstepped, choicesStepped, runStepped, ListedOn, listedAs, listedOn, written, listedFrom, unlisted, stateFits, listText, listedBehind, listedRejected}
+use Rattle.runs.specs.declared.printing.Listed.{Listed}
+use Rattle.runs.proofs.LineRuns.{written-put, written-more}
+use Rattle.runs.proofs.RunLines.{listed-path}
+use Rattle.runs.proofs.Stops.{layout-stops, rules-run}
+
+-- ---- the check's line
+module _ (v : Verdict) (fs : List Frame) (w bytes : List ℕ) where
+  goes-on : stops v ≡ false → (runStepped v fs w bytes ≡ choicesStepped (programOf fs) w bytes) × (runListing v fs bytes ≡ checkLine v ++ choicesListing (programOf fs) bytes)
+  unfolding runStepped runListing
+  goes-on h = (
+    ap (λ (b : Bool). elim b [ true ↦ unstepped w | false ↦ choicesStepped (programOf fs) w bytes ]) h,
+    ap (λ (b : Bool). checkLine v ++ elim b [ true ↦ [] | false ↦ choicesListing (programOf fs) bytes ]) h,
+  )
+
+  ends : stops v ≡ true → (runStepped v fs w bytes ≡ unstepped w) × (runListing v fs bytes ≡ checkLine v)
+  unfolding runStepped runListing
+  ends h = (
+    ap (λ (b : Bool). elim b [ true ↦ unstepped w | false ↦ choicesStepped (programOf fs) w bytes ]) h,
+    ap (λ (b : Bool). checkLine v ++ elim b [ true ↦ [] | false ↦ choicesListing (programOf fs) bytes ]) h,
+  )
+
+pub file-in : (frames : List ℕ) → FileWords frames → FileIn frames
+file-in frames g = record { laid-out = g .laid-out; some = rw length-map at (some-frame (g .laid-out)); few = g .few }
+
+module _ (frames : List ℕ) (g : FileWords frames) (v : Verdict) (e : v ≡ rulesOf (programOf (framesOf frames))) (line out o : List ℕ) (a : line ≡ checkLine v) (b : o ≡ paste out 0 line (length line)) where
+  abbrev fs : List Frame
+  fs = framesOf frames
+
+  pub listed-frames : (w bytes u new : List ℕ) (x : Listed) → listedOn x u new ≡ listedBehind (choicesStepped (programOf (framesOf frames)) w bytes) (choicesListing (programOf (framesOf frames)) bytes) o
+      → listedOn x u new ≡ listedFrom (runStepped (rulesOf (programOf (framesOf frames))) (framesOf frames) w bytes) (runListing (rulesOf (programOf (framesOf frames))) (framesOf frames) bytes) out
+  listed-frames w bytes u new x h =
+      let s = goes-on (rulesOf (programOf fs)) fs w bytes (rules-run fs (some-frame (g .laid-out)) (g .laid-out)) in
+      h ∙ ap (listedBehind (choicesStepped (programOf fs) w bytes) (choicesListing (programOf fs) bytes)) start
+      ∙ listed-path (let l = length-append (checkLine (rulesOf (programOf fs))) (choicesListing (programOf fs) bytes) in omega arith) refl refl (written-more out 0 (checkLine (rulesOf (programOf fs))) (choicesListing (programOf fs) bytes) (omega arith))
+      ∙ ap₂ (λ (y : Behind) (z : List ℕ). listedFrom y z out) (sym (s .0)) (sym (s .1))
+    where
+      start : o ≡ written out 0 (checkLine (rulesOf (programOf (framesOf frames))))
+      start = written-put out 0 line o b ∙ ap (written out 0) (a ∙ ap checkLine e)
+
+-- ---- the whole: by what 1 to 7 say of the text
+module _ (n j : ℕ) (out : List ℕ) where
+  pub rejected-unlisted : (length out ≡ 229389 → ⊥) → unlisted (A.Rejected n j) [] out ≡ listedRejected n j [] out
+  unfolding listedRejected
+  rejected-unlisted f = sym (if-no _ _ (ne-eqb (length out) 229389 f))
+
+  pub rejected-listed : (line new : List ℕ) → line ≡ refusalLine n j → new ≡ paste out 0 line (length line) → length out ≡ 229389 → listedAs (A.Done 0) 8 0 [] new ≡ listedRejected n j [] out
+  unfolding listedRejected
+  rejected-listed line new a b room =
+      listed-path refl refl refl (written-put out 0 line new b ∙ ap (written out 0) a)
+      ∙ sym (if-yes _ _ (eq-eqb (length out) 229389 room))
+
+  -- the listing of a text that 1 to 7 stop says nothing of the state: whichever is lent stays
+  module _ (w : List ℕ) where
+    abbrev withState : ListedOn → ListedOn
+    withState y = listedAs (y .answer) (y .size) (y .used) w (y .out)
+
+    either : (b : Bool) (x y : ListedOn) → withState (if b then x else y) ≡ (if b then withState x else withState y)
+    unfolding if_then_else_
+    either true x y = refl
+    either false x y = refl
+
+    with-state : (x : Listed) (new : List ℕ) → listedOn x [] new ≡ listedRejected n j [] out → listedOn x w new ≡ listedRejected n j w out
+    unfolding listedRejected
+    with-state x new k = ap withState k ∙ either (eqb (length out) 229389) _ _
+
+module _ (bs bytes w out : List ℕ) (l : LaidOut) (e : l ≡ laidOut bs) (v : Verdict) (h : v ≡ l .verdict) where
+  -- what the definition prints where no buffer hinders it
+  abbrev whole : ListedOn
+  whole = listedFrom (runStepped (verdict bs) (textFrames bs) w bytes) (runListing (verdict bs) (textFrames bs) bytes) out
+
+  layout-is : layoutVerdict bs ≡ v
+  unfolding laidOut
+  layout-is = sym (ap (λ (x : LaidOut). x .verdict) e) ∙ sym h
+
+  by-layout : (x : Verdict) → v ≡ x → (if stateFits x w && eqb (length out) 229389 then whole else unlisted (wrongLength x) w out) ≡ listText bs bytes w out
+  unfolding listText
+  by-layout x z = ap (λ (y : Verdict). if stateFits y w && eqb (length out) 229389 then whole else unlisted (wrongLength y) w out) (sym (layout-is ∙ z))
+
+  module _ (n j : ℕ) (z : v ≡ Rejected n j) where
+    whole-rejected : listedFrom (unstepped w) (refusalLine n j) out ≡ whole
+    whole-rejected =
+        let s = ends (Rejected n j) (textFrames bs) w bytes (layout-stops bs n j (layout-is ∙ z)) in
+        ap₂ (λ (y : Behind) (t : List ℕ). listedFrom y t out) (sym (s .0)) (sym (s .1))
+        ∙ ap (λ (x : Verdict). listedFrom (runStepped x (textFrames bs) w bytes) (runListing x (textFrames bs) bytes) out) (check-rejected bs l e v n j h z)
+
+    rejected-is : listedRejected n j w out ≡ listText bs bytes w out
+    unfolding listedRejected
+    rejected-is =
+        ap (λ (x : ListedOn). if eqb (length out) 229389 then x else unlisted (A.Rejected n j) w out) whole-rejected
+        ∙ by-layout (Rejected n j) z
+
+    pub list-rejected : (x : Listed) (new : List ℕ) → listedOn x [] new ≡ listedRejected n j [] out → listedOn x w new ≡ listText bs bytes w out
+    list-rejected x new k = with-state n j out w x new k ∙ rejected-is
+
+  module _ (a : v ≡ Accepted) where
+    pub list-short-state : (length w ≡ 4818 → ⊥) → unlisted (A.Refused 14 0) w out ≡ listText bs bytes w out
+    list-short-state f = sym (if-no _ _ (ap (λ (b : Bool). b && eqb (length out) 229389) (ne-eqb (length w) 4818 f))) ∙ by-layout Accepted a
+
+    pub list-short-out : (length out ≡ 229389 → ⊥) → unlisted (A.Refused 14 0) w out ≡ listText bs bytes w out
+    list-short-out f = sym (if-no _ _ (ap (λ (b : Bool). eqb (length w) 4818 && b) (ne-eqb (length out) 229389 f) ∙ and-off (eqb (length w) 4818))) ∙ by-layout Accepted a
+
+    pub list-accepted : length w ≡ 4818 → length out ≡ 229389 → (n : ℕ) → n ≡ l .count → (u new : List ℕ) (x : Listed)
+        → listedOn x u new ≡ listedFrom (runStepped (rulesOf (programOf (framesOf (take n (l .words))))) (framesOf (take n (l .words))) w bytes) (runListing (rulesOf (programOf (framesOf (take n (l .words))))) (framesOf (take n (l .words))) bytes) out
+        → listedOn x u new ≡ listText bs bytes w out
+    list-accepted size room n q u new x k =
+        let f : framesOf (take n (l .words)) ≡ textFrames bs = ap (λ (i : ℕ). framesOf (take i (l .words))) q ∙ laid-right bs l e (sym h ∙ a) .lines in
+        let r : rulesOf (programOf (framesOf (take n (l .words)))) ≡ verdict bs = check-rules bs l e v h a n _ q refl in
+        k ∙ ap₂ (λ (y : Verdict) (fs : List Frame). listedFrom (runStepped y fs w bytes) (runListing y fs bytes) out) r f
+        ∙ sym (if-yes _ _ (ap₂ (λ (b c : Bool). b && c) (eq-eqb (length w) 4818 size) (eq-eqb (length out) 229389 room)))
+        ∙ by-layout Accepted a
