@@ -8,13 +8,12 @@ use lib.ListN.{length, take}
 use Rattle.language.specs.declared.frame.Frame.{Frame}
 use Rattle.language.specs.declared.verdict.Verdict.the-variants.{Accepted}
 use Rattle.text.specs.Frames.{textFrames}
-use Rattle.text.specs.Reading.{reading}
 use Rattle.program.specs.Programs.{programOf}
 use Rattle.rules.specs.Verdict.{HasVerdict}
-use Rattle.machine.specs.Calls.{Called, unchanged, freshCall}
-use Rattle.safety.specs.Accepted.{wordsFrom, SafeCalls}
+use Rattle.machine.specs.Calls.{Called, unchanged, freshCall, wordsFrom}
+use Rattle.safety.specs.Accepted.{SafeCalls}
 use Rattle.stepper.specs.declared.answer.Answer.the-variants.{Done}
-use Rattle.stepper.specs.Answers.{Answered, onFrames}
+use Rattle.stepper.specs.Answers.{Answered, onText}
 use Rattle.listing.specs.Listing.{usedOf}
 use Rattle.runs.specs.Runs.{ranAs, runText}
 
@@ -24,7 +23,7 @@ exerciseCall fs cs w =
     elim (eqb (length w) 4818) [ true ↦ record { answer = 0; thread = 0; words = wordsFrom fs (freshCall fs w .words) cs } | false ↦ unchanged 14 0 w ]
 
 unfoldable pub exerciseText : List ℕ → List ℕ → List ℕ → Answered
-exerciseText bs cs w = onFrames (λ fs. exerciseCall fs cs w) w (reading bs)
+exerciseText bs cs w = onText bs w (λ fs. exerciseCall fs cs w)
 
 -- Of every text that the check accepts, on a buffer w of the right length that is v behind the call: v is what those calls left, and
 -- `SafeCalls`: every cell read, stored or made belonged to the acting thread or to the scheduler on which it stood; no scheduler's cell holds a
@@ -34,7 +33,7 @@ Assured bs cs w v =
     HasVerdict bs Accepted → length w ≡ 4818
     → SafeCalls (textFrames bs) w cs × (v ≡ wordsFrom (textFrames bs) (freshCall (textFrames bs) w .words) cs)
 
--- The choices that `run` uses are such a list: of an accepted text, what `run` leaves are the words behind those calls, and they are safe. Proved in proofs/Laws
+-- The choices that `run` uses are such a list: of an accepted text, what `run` leaves are the words behind those calls, and they are safe. Proved in proofs/UsedChoices
 abbrev pub RunAssured : Type 0
 RunAssured =
     (bs : List ℕ) → HasVerdict bs Accepted → (cs w : List ℕ) → length w ≡ 4818

@@ -21,4 +21,5 @@ pub mod FramePass
 pub mod Answers
 pub mod Scopes
 pub mod Accepted
+pub mod AfterLayout
 pub mod Users

@@ -3,7 +3,7 @@ use mathlib.Core.List.{List}
 use Prim.Native.Nat.{ℕ}
 use Rattle.language.specs.declared.frame.Frame.{Frame}
 use Rattle.language.specs.declared.verdict.Verdict.{Verdict}
-use Rattle.language.specs.declared.verdict.Verdict.the-variants.{Rejected}
+use Rattle.language.specs.declared.verdict.Verdict.the-variants.{Accepted, Rejected}
 use Rattle.text.specs.Reading.{Reading, frames, refused, reading, Reads, linesRead, textWords}
 use Rattle.layout.specs.declared.LaidOut.{LaidOut}
 use Rattle.layout.specs.Faults.{LayoutSays}
@@ -24,6 +24,18 @@ layoutRead (refused n j) = Rejected n j
 -- what the check of the layout answers; `Accepted` where the text passes 1 to 7
 unfoldable pub layoutVerdict : List ℕ → Verdict
 layoutVerdict bs = layoutRead (reading bs)
+
+-- ---- 'after 1 to 7': what a text comes to, from what a refusal of it and what the frames of one that passes come to
+
+abbrev pub afterLayout : {A : Type 0} → (ℕ → ℕ → A) → A → Verdict → A
+afterLayout refusal passed Accepted = passed
+afterLayout refusal passed (Rejected n j) = refusal n j
+
+abbrev pub afterReading : {A : Type 0} → (ℕ → ℕ → A) → (List Frame → A) → Reading → A
+afterReading refusal passed (frames fs) = afterLayout refusal (passed fs) (layoutOf fs)
+afterReading refusal passed (refused n j) = refusal n j
+
+-- ---- what the code gives
 
 -- with the lines that were read, and how many they are
 unfoldable pub laidOut : List ℕ → LaidOut

@@ -11,10 +11,10 @@ use Rattle.machine.specs.State.{State}
 use Rattle.machine.specs.Fresh.{fresh}
 use Rattle.machine.specs.Turns.{Stepped}
 use Rattle.machine.specs.Steps.{step}
-use Rattle.machine.specs.Runs.{stepsFrom, steps}
+use Rattle.machine.specs.Runs.{stepsFrom, stateFrom, steps, stateAfter}
 use Rattle.machine.specs.Words.{pack, unpack}
 use Rattle.machine.specs.Ranges.{inRange}
-use Rattle.machine.specs.Calls.{Called, unchanged, freshCall, stepCall, callsFrom}
+use Rattle.machine.specs.Calls.{Called, unchanged, freshCall, stepCall, callsFrom, wordsFrom}
 use Rattle.machine.proofs.Shapes.{Shaped}
 use Rattle.machine.proofs.Round.{unpack-pack}
 use Rattle.machine.proofs.InShape.{shaped-in-range}
@@ -58,3 +58,15 @@ module _ (fs : List Frame) (F : FileFits fs (programOf fs) (schedulersOf fs)) wh
   calls-are w cs e =
       ap (λ (x : Called). callsFrom fs (x .words) cs) (fresh-called fs w e)
       ∙ calls-from (fresh (programOf fs)) cs (fresh-shaped fs (programOf fs) (schedulersOf fs) F)
+
+  words-from : (s : State) (cs : List ℕ) → Shaped fs (schedulersOf fs) s → wordsFrom fs (pack s) cs ≡ pack (stateFrom (programOf fs) s cs)
+  unfolding wordsFrom stateFrom
+  words-from s [] z = refl
+  words-from s (c ∷ cs) z =
+      ap (λ (x : Called). wordsFrom fs (x .words) cs) (call-is s c z)
+      ∙ words-from (step (programOf fs) s c .state) cs (keeps-step fs (programOf fs) (schedulersOf fs) F s c z)
+
+  pub words-are : (w cs : List ℕ) → length w ≡ 4818 → wordsFrom fs (freshCall fs w .words) cs ≡ pack (stateAfter (programOf fs) cs)
+  words-are w cs e =
+      ap (λ (x : Called). wordsFrom fs (x .words) cs) (fresh-called fs w e)
+      ∙ words-from (fresh (programOf fs)) cs (fresh-shaped fs (programOf fs) (schedulersOf fs) F)

@@ -40,3 +40,8 @@ stepCall fs w c =
 unfoldable pub callsFrom : List Frame → List ℕ → List ℕ → List Called
 callsFrom fs w [] = []
 callsFrom fs w (c ∷ cs) = let r = stepCall fs w c in r ∷ callsFrom fs (r .words) cs
+
+-- the words that the last of these calls leaves
+unfoldable pub wordsFrom : List Frame → List ℕ → List ℕ → List ℕ
+wordsFrom fs w [] = w
+wordsFrom fs w (c ∷ cs) = wordsFrom fs (stepCall fs w c .words) cs

@@ -9,20 +9,19 @@ use Rattle.language.specs.declared.verdict.Verdict.{Verdict}
 use Rattle.language.specs.declared.verdict.Verdict.the-variants.{Accepted, Rejected}
 use Rattle.language.specs.declared.frame.Frame.{Frame}
 use Rattle.text.specs.Frames.{frameOfWord, framesOf, textFrames}
-use Rattle.text.specs.Reading.{Reading, frames, refused, reading}
 use Rattle.program.specs.Programs.{programOf, typeOfShared, sharedOf, cellsOf, modulesFrom}
 use Rattle.layout.specs.Fields.{isShared, countOf}
 use Rattle.layout.specs.Faults.{NoFault}
-use Rattle.layout.specs.Scans.{layoutOf}
 use Rattle.layout.specs.Passes.{tallyOf}
-use Rattle.layout.specs.LaidOut.{layoutRead, layoutVerdict, laidOut}
+use Rattle.layout.specs.LaidOut.{laidOut}
 use Rattle.layout.specs.declared.LaidOut.{LaidOut}
 use Rattle.layout.specs.declared.fields.Tally.{Tally}
 use Rattle.layout.proofs.Tallies.{count-cells}
-use Rattle.layout.proofs.Scopes.{cells-most, no-fault-accepted}
+use Rattle.layout.proofs.Scopes.{cells-most}
 use Rattle.layout.proofs.Accepted.{Right, laid-right}
+use Rattle.layout.proofs.AfterLayout.{text-refused, text-passed}
 use Rattle.rules.specs.Checking.{modulesIn, rulesOf}
-use Rattle.rules.specs.Verdict.{afterLayout, afterReading, verdict, Checked}
+use Rattle.rules.specs.Verdict.{verdict, Checked}
 use Rattle.rules.specs.Frames.{FileIn}
 use Rattle.rules.proofs.Whole.{verdict-computes}
 
@@ -59,19 +58,9 @@ promise : (bs : List ℕ) (r : Verdict) → r ≡ verdict bs → Checked bs r
 promise bs r e = subst (Checked bs) (sym e) (verdict-computes bs)
 
 module _ (bs : List ℕ) (l : LaidOut) (e : l ≡ laidOut bs) where
-  verdict-field : l .verdict ≡ layoutVerdict bs
-  unfolding laidOut
-  verdict-field = ap (λ (x : LaidOut). x .verdict) e
-
-  by-layout : (v : Verdict) → l .verdict ≡ v → (r : Reading) → reading bs ≡ r → (n j : ℕ) → v ≡ Rejected n j → Rejected n j ≡ verdict bs
-  unfolding verdict layoutVerdict
-  by-layout v h (refused m k) q n j z = sym z ∙ sym h ∙ verdict-field ∙ ap layoutRead q ∙ ap afterReading (sym q)
-  by-layout v h (frames fs) q n j z =
-      let y : layoutOf fs ≡ Rejected n j = sym (ap layoutRead q) ∙ sym verdict-field ∙ h ∙ z in
-      sym (ap afterReading q ∙ ap (afterLayout fs) y)
-
   pub check-rejected : (v : Verdict) (n j : ℕ) → v ≡ l .verdict → v ≡ Rejected n j → Rejected n j ≡ verdict bs
-  check-rejected v n j h z = by-layout (l .verdict) refl (reading bs) refl n j (sym h ∙ z)
+  unfolding verdict
+  check-rejected v n j h z = text-refused (λ n j. Rejected n j) (λ fs. rulesOf (programOf fs)) bs l e n j (sym h ∙ z)
 
   module _ (v : Verdict) (h : v ≡ l .verdict) (a : v ≡ Accepted) where
     right : Right bs l
@@ -95,10 +84,7 @@ module _ (bs : List ℕ) (l : LaidOut) (e : l ≡ laidOut bs) where
 
     pub check-rules : (n : ℕ) (r : Verdict) → n ≡ l .count → r ≡ rulesOf (programOf (framesOf (take n (l .words)))) → r ≡ verdict bs
     unfolding verdict
-    check-rules n r q z =
-        let w = right in
-        z ∙ ap (λ (k : ℕ). rulesOf (programOf (framesOf (take k (l .words))))) q ∙ ap (λ (fs : List Frame). rulesOf (programOf fs)) (w .lines)
-        ∙ sym (ap afterReading (w .reads) ∙ ap (afterLayout (textFrames bs)) (no-fault-accepted (textFrames bs) (let c = w .count in let s = w .some in omega arith) (w .no-fault)))
+    check-rules n r q z = z ∙ text-passed (λ n j. Rejected n j) (λ fs. rulesOf (programOf fs)) bs l e (sym h ∙ a) n q
 
 pub promised-rejected : (bs : List ℕ) (l : LaidOut) → l ≡ laidOut bs → (v : Verdict) (n j : ℕ) → v ≡ l .verdict → v ≡ Rejected n j → Checked bs (Rejected n j)
 promised-rejected bs l e v n j h z = promise bs (Rejected n j) (check-rejected bs l e v n j h z)

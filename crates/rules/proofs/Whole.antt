@@ -11,12 +11,13 @@ use Rattle.text.proofs.Readings.{reads, reads-one, some-frame}
 use Rattle.program.specs.Programs.{programOf}
 use Rattle.layout.specs.Faults.{NoFault, LayoutSays}
 use Rattle.layout.specs.Scans.{layoutOf}
+use Rattle.layout.specs.LaidOut.{afterLayout, afterReading}
 use Rattle.layout.proofs.Order.{all-trees}
 use Rattle.layout.proofs.Layouts.{layout-says, layout-one}
 use Rattle.layout.proofs.Parts.{placed-modules, has-main}
 use Rattle.rules.specs.Broken.{RulesSay}
 use Rattle.rules.specs.Checking.{rulesOf}
-use Rattle.rules.specs.Verdict.{HasVerdict, afterLayout, afterReading, verdict, VerdictComputes}
+use Rattle.rules.specs.Verdict.{HasVerdict, verdict, VerdictComputes}
 use Rattle.rules.proofs.Modules.{rules-say, rules-only}
 
 -- ---- the program of a file that passes refusals 1 to 7
@@ -30,15 +31,23 @@ module _ (fs : List Frame) (some : 0 < length fs) (fine : NoFault fs) where
   rules-alone = rules-only (programOf fs) (has-main fs some (fine 6)) (placed-modules fs (all-trees fs (fine 6)))
 
 -- ---- the computed verdict is a verdict
+
+-- the verdict, from what the layout says of the frames and from what the text reads as
+abbrev verdictOf : List Frame → Verdict → Verdict
+verdictOf fs r = afterLayout (λ n j. Rejected n j) (rulesOf (programOf fs)) r
+
+abbrev verdictRead : Reading → Verdict
+verdictRead r = afterReading (λ n j. Rejected n j) (λ fs. rulesOf (programOf fs)) r
+
 says-rules : {bs : List ℕ} (fs : List Frame) → Reads bs (frames fs) → NoFault fs → (r : Verdict) → RulesSay (programOf fs) r → HasVerdict bs r
 says-rules fs h n Accepted k = HasVerdict.accepted h n k
 says-rules fs h n (Rejected m j) k = HasVerdict.rules h n k
 
-says-layout : {bs : List ℕ} (fs : List Frame) → Reads bs (frames fs) → (r : Verdict) → LayoutSays fs r → HasVerdict bs (afterLayout fs r)
+says-layout : {bs : List ℕ} (fs : List Frame) → Reads bs (frames fs) → (r : Verdict) → LayoutSays fs r → HasVerdict bs (verdictOf fs r)
 says-layout fs h Accepted n = says-rules fs h n _ (rules-hold fs (some-frame h refl) n)
 says-layout fs h (Rejected n j) f = HasVerdict.layout h f
 
-says-reading : {bs : List ℕ} (r : Reading) → Reads bs r → HasVerdict bs (afterReading r)
+says-reading : {bs : List ℕ} (r : Reading) → Reads bs r → HasVerdict bs (verdictRead r)
 says-reading (frames fs) h = says-layout fs h (layoutOf fs) (layout-says fs (some-frame h refl))
 says-reading (refused n j) h = HasVerdict.text h
 
@@ -47,11 +56,11 @@ layout-is : {bs : List ℕ} (fs : List Frame) → Reads bs (frames fs) → (r : 
 layout-is fs g r h = layout-one fs (layoutOf fs) r (layout-says fs (some-frame g refl)) h
 
 -- where the text reads as fs and the layout says v
-by-layout : {bs : List ℕ} {fs : List Frame} (r : Reading) → Reads bs r → Reads bs (frames fs) → (v : Verdict) → LayoutSays fs v → afterLayout fs v ≡ afterReading r
-by-layout {fs = fs} r h g v l = sym (ap (afterLayout fs) (layout-is fs g v l)) ∙ ap afterReading (reads-one g h)
+by-layout : {bs : List ℕ} {fs : List Frame} (r : Reading) → Reads bs r → Reads bs (frames fs) → (v : Verdict) → LayoutSays fs v → verdictOf fs v ≡ verdictRead r
+by-layout {fs = fs} r h g v l = sym (ap (verdictOf fs) (layout-is fs g v l)) ∙ ap verdictRead (reads-one g h)
 
-only-reading : {bs : List ℕ} (r : Reading) → Reads bs r → (other : Verdict) → HasVerdict bs other → other ≡ afterReading r
-only-reading r h _ (HasVerdict.text g) = ap afterReading (reads-one g h)
+only-reading : {bs : List ℕ} (r : Reading) → Reads bs r → (other : Verdict) → HasVerdict bs other → other ≡ verdictRead r
+only-reading r h _ (HasVerdict.text g) = ap verdictRead (reads-one g h)
 only-reading r h (Rejected n j) (HasVerdict.layout g f) = by-layout r h g (Rejected n j) f
 only-reading r h (Rejected n j) (HasVerdict.rules {fs = fs} g m f) = rules-alone fs (some-frame g refl) m (Rejected n j) f ∙ by-layout r h g Accepted m
 only-reading r h Accepted (HasVerdict.accepted {fs = fs} g m f) = rules-alone fs (some-frame g refl) m Accepted f ∙ by-layout r h g Accepted m

@@ -5,10 +5,10 @@ use Prim.Native.Nat.{ℕ}
 use Rattle.language.specs.declared.frame.Frame.{Frame}
 use Rattle.language.specs.declared.verdict.Verdict.{Verdict}
 use Rattle.language.specs.declared.verdict.Verdict.the-variants.{Accepted, Rejected}
-use Rattle.text.specs.Reading.{Reading, frames, refused, reading, Reads}
+use Rattle.text.specs.Reading.{frames, refused, reading, Reads}
 use Rattle.program.specs.Programs.{programOf}
 use Rattle.layout.specs.Faults.{NoFault, FirstFault}
-use Rattle.layout.specs.Scans.{layoutOf}
+use Rattle.layout.specs.LaidOut.{afterReading}
 use Rattle.rules.specs.Rules.{Keeps}
 use Rattle.rules.specs.Broken.{FirstBroken}
 use Rattle.rules.specs.Checking.{rulesOf}
@@ -37,16 +37,8 @@ pub data HasVerdict : List ℕ → Verdict → Type 0 where
 
 -- ---- as a function: 1 to 3, then 4 to 7, then 8 to 13
 
-abbrev pub afterLayout : List Frame → Verdict → Verdict
-afterLayout fs Accepted = rulesOf (programOf fs)
-afterLayout fs (Rejected n j) = Rejected n j
-
-abbrev pub afterReading : Reading → Verdict
-afterReading (frames fs) = afterLayout fs (layoutOf fs)
-afterReading (refused n j) = Rejected n j
-
 unfoldable pub verdict : List ℕ → Verdict
-verdict bs = afterReading (reading bs)
+verdict bs = afterReading (λ n j. Rejected n j) (λ fs. rulesOf (programOf fs)) (reading bs)
 
 -- ---- the two are one
 

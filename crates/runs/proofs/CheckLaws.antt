@@ -11,6 +11,7 @@ use Rattle.language.specs.declared.verdict.Verdict.{Verdict}
 use Rattle.language.specs.declared.verdict.Verdict.the-variants.{Accepted, Rejected}
 use Rattle.layout.specs.LaidOut.{layoutVerdict, laidOut}
 use Rattle.layout.specs.declared.LaidOut.{LaidOut}
+use Rattle.layout.proofs.Answers.{verdict-is}
 use Rattle.rules.specs.Verdict.{verdict}
 use Rattle.stepper.specs.declared.answer.Answer.{Answer}
 use Rattle.stepper.specs.declared.answer.Answer.the-variants as A
@@ -21,8 +22,7 @@ use Rattle.runs.specs.Checked.{checkedOn, checkText}
 -- what 1 to 7 say comes before 14
 module _ (bs : List ℕ) (l : LaidOut) (e : l ≡ laidOut bs) (v : Verdict) (h : v ≡ l .verdict) where
   layout-is : layoutVerdict bs ≡ v
-  unfolding laidOut
-  layout-is = sym (ap (λ (x : LaidOut). x .verdict) e) ∙ sym h
+  layout-is = sym (verdict-is bs l e) ∙ sym h
 
   pub unprinted-rejected : (n j : ℕ) → v ≡ Rejected n j → A.Rejected n j ≡ wrongLength (layoutVerdict bs)
   unprinted-rejected n j z = ap wrongLength (sym (layout-is ∙ z))

@@ -2,27 +2,23 @@
 use Prim.Native.Nat.{ℕ, min}
 use mathlib.Core.Path.{_≡_, refl, sym, ap, _∙_}
 use mathlib.Core.List.{List}
-use native.Mathlib.Omega.{arith}
 use lib.ListN.{length, take}
 use borrow.Author.Tests.{eq-eqb, ne-eqb}
 use Rattle.basics.proofs.Ifs.{if-yes, if-no}
 use Rattle.language.specs.declared.frame.Frame.{Frame}
 use Rattle.language.specs.declared.verdict.Verdict.{Verdict}
 use Rattle.language.specs.declared.verdict.Verdict.the-variants.{Accepted, Rejected}
-use Rattle.text.specs.Frames.{framesOf, textFrames}
-use Rattle.text.specs.Reading.{Reading, frames, refused, reading}
+use Rattle.text.specs.Frames.{framesOf}
 use Rattle.program.specs.Programs.{Program, programOf}
-use Rattle.layout.specs.Scans.{layoutOf}
-use Rattle.layout.specs.LaidOut.{layoutRead, layoutVerdict, laidOut}
+use Rattle.layout.specs.LaidOut.{laidOut}
 use Rattle.layout.specs.declared.LaidOut.{LaidOut}
-use Rattle.layout.proofs.Scopes.{no-fault-accepted}
-use Rattle.layout.proofs.Accepted.{Right, laid-right}
+use Rattle.layout.proofs.AfterLayout.{text-refused, text-passed}
 use Rattle.machine.specs.Runs.{stateAfter}
 use Rattle.machine.specs.Words.{pack}
 use Rattle.stepper.specs.declared.answer.Answer.the-variants as A
 use Rattle.stepper.specs.declared.file.File.{File}
 use Rattle.stepper.specs.Files.{fileOf}
-use Rattle.runs.specs.Runs.{stepped, RanOn, ranAs, unused, runFrames, afterLayout, onFrames, runText}
+use Rattle.runs.specs.Runs.{stepped, ranAs, unused, runFrames, runText}
 
 -- ---- how many choices are used
 module _ (p : Program) (file : File) (e : file ≡ fileOf p) (n k : ℕ) (q : k ≡ min n (file .allowance)) where
@@ -50,40 +46,20 @@ module _ (fs : List Frame) (cs w : List ℕ) where
 
 -- ---- a text
 module _ (bs : List ℕ) (l : LaidOut) (e : l ≡ laidOut bs) where
-  verdict-field : l .verdict ≡ layoutVerdict bs
-  unfolding laidOut
-  verdict-field = ap (λ (x : LaidOut). x .verdict) e
-
-  by-reading : (run : List Frame → RanOn) (w : List ℕ) (r : Reading) → reading bs ≡ r → (n j : ℕ) → l .verdict ≡ Rejected n j → unused (A.Rejected n j) w ≡ onFrames run w r
-  unfolding layoutVerdict
-  by-reading run w (refused m k) q n j z =
-      let y : Rejected m k ≡ Rejected n j = sym (ap layoutRead q) ∙ sym verdict-field ∙ z in
-      sym (ap (λ (v : Verdict). afterLayout v w (run (textFrames bs))) y)
-  by-reading run w (frames fs) q n j z =
-      let y : layoutOf fs ≡ Rejected n j = sym (ap layoutRead q) ∙ sym verdict-field ∙ z in
-      sym (ap (λ (v : Verdict). afterLayout v w (run fs)) y)
-
   pub run-rejected : (v : Verdict) (n j : ℕ) → v ≡ l .verdict → v ≡ Rejected n j → (cs w : List ℕ) → unused (A.Rejected n j) w ≡ runText bs cs w
   unfolding runText
-  run-rejected v n j h z cs w = by-reading (λ fs. runFrames fs cs w) w (reading bs) refl n j (sym h ∙ z)
+  run-rejected v n j h z cs w = text-refused _ _ bs l e n j (sym h ∙ z)
 
   module _ (v : Verdict) (h : v ≡ l .verdict) (a : v ≡ Accepted) where
-    right : Right bs l
-    right = laid-right bs l e (sym h ∙ a)
-
-    by-run : (run : List Frame → RanOn) (w : List ℕ) (n : ℕ) → n ≡ l .count → run (framesOf (take n (l .words))) ≡ onFrames run w (reading bs)
-    by-run run w n q =
-        let r = right in
-        ap (λ (k : ℕ). run (framesOf (take k (l .words)))) q ∙ ap run (r .lines)
-        ∙ sym (ap (onFrames run w) (r .reads) ∙ ap (λ (x : Verdict). afterLayout x w (run (textFrames bs))) (no-fault-accepted (textFrames bs) (let c = r .count in let s = r .some in omega arith) (r .no-fault)))
+    by-run : (cs w : List ℕ) (n : ℕ) → n ≡ l .count → runFrames (framesOf (take n (l .words))) cs w ≡ runText bs cs w
+    unfolding runText
+    by-run cs w n q = text-passed (λ n j. unused (A.Rejected n j) w) (λ fs. runFrames fs cs w) bs l e (sym h ∙ a) n q
 
     pub run-wrong : (cs w : List ℕ) → (length w ≡ 4818 → ⊥) → unused (A.Refused 14 0) w ≡ runText bs cs w
-    unfolding runText
-    run-wrong cs w f = frames-wrong (framesOf (take (l .count) (l .words))) cs w f ∙ by-run (λ fs. runFrames fs cs w) w (l .count) refl
+    run-wrong cs w f = frames-wrong (framesOf (take (l .count) (l .words))) cs w f ∙ by-run cs w (l .count) refl
 
     pub run-done : (cs w u : List ℕ) (n k : ℕ) → n ≡ l .count → k ≡ stepped (programOf (framesOf (take n (l .words)))) cs .used → u ≡ stepped (programOf (framesOf (take n (l .words)))) cs .words
         → length w ≡ 4818 → ranAs (A.Done 0) k u ≡ runText bs cs w
-    unfolding runText
     run-done cs w u n k q x y z =
         ap (λ (i : ℕ). ranAs (A.Done 0) i u) x ∙ ap (λ (r : List ℕ). ranAs (A.Done 0) (stepped (programOf (framesOf (take n (l .words)))) cs .used) r) y
-        ∙ frames-done (framesOf (take n (l .words))) cs w z ∙ by-run (λ fs. runFrames fs cs w) w n q
+        ∙ frames-done (framesOf (take n (l .words))) cs w z ∙ by-run cs w n q

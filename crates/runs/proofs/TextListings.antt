@@ -17,6 +17,7 @@ use Rattle.text.specs.Frames.{framesOf, textFrames}
 use Rattle.program.specs.Programs.{programOf}
 use Rattle.layout.specs.LaidOut.{layoutVerdict, laidOut}
 use Rattle.layout.specs.declared.LaidOut.{LaidOut}
+use Rattle.layout.proofs.Answers.{verdict-is}
 use Rattle.layout.proofs.Accepted.{laid-right}
 use Rattle.rules.specs.Checking.{rulesOf}
 use Rattle.rules.specs.Verdict.{verdict}
@@ -100,8 +101,7 @@ module _ (bs bytes w out : List ℕ) (l : LaidOut) (e : l ≡ laidOut bs) (v : V
   whole = listedFrom (runStepped (verdict bs) (textFrames bs) w bytes) (runListing (verdict bs) (textFrames bs) bytes) out
 
   layout-is : layoutVerdict bs ≡ v
-  unfolding laidOut
-  layout-is = sym (ap (λ (x : LaidOut). x .verdict) e) ∙ sym h
+  layout-is = sym (verdict-is bs l e) ∙ sym h
 
   by-layout : (x : Verdict) → v ≡ x → (if stateFits x w && eqb (length out) 229389 then whole else unlisted (wrongLength x) w out) ≡ listText bs bytes w out
   unfolding listText

@@ -1,19 +1,17 @@
 -- What `run` gives on any text, any list of choices and any words. Assumes nothing: definitions.
 use mathlib.Core.Path.{_≡_}
-use mathlib.Core.List.{List, [], _∷_}
+use mathlib.Core.List.{List}
 use Prim.Native.Nat.{ℕ}
 use lib.Dec.{eqb}
 use lib.ListN.{length, take}
 use Rattle.basics.specs.If.{if_then_else_}
 use Rattle.language.specs.declared.frame.Frame.{Frame}
-use Rattle.language.specs.declared.verdict.Verdict.{Verdict}
-use Rattle.language.specs.declared.verdict.Verdict.the-variants.{Accepted, Rejected}
-use Rattle.text.specs.Reading.{Reading, frames, refused, reading}
+use Rattle.text.specs.Reading.{reading}
 use Rattle.program.specs.Programs.{Program, programOf}
-use Rattle.layout.specs.Scans.{layoutOf}
+use Rattle.layout.specs.LaidOut.{afterReading}
 use Rattle.machine.specs.Runs.{stateAfter}
 use Rattle.machine.specs.Words.{pack}
-use Rattle.machine.specs.Calls.{Called, freshCall, callsFrom}
+use Rattle.machine.specs.Calls.{freshCall, wordsFrom}
 use Rattle.reach.specs.Reached.{Passes}
 use Rattle.stepper.specs.declared.answer.Answer.{Answer}
 use Rattle.stepper.specs.declared.answer.Answer.the-variants as A
@@ -51,30 +49,12 @@ runFrames fs cs w =
     let b = stepped (programOf fs) cs in
     if eqb (length w) 4818 then ranAs (A.Done 0) (b .used) (b .words) else unused (A.Refused 14 0) w
 
--- 'after 1 to 7, in number order': the text's refusal; else the run
-abbrev pub afterLayout : Verdict → List ℕ → RanOn → RanOn
-afterLayout Accepted w r = r
-afterLayout (Rejected n j) w r = unused (A.Rejected n j) w
-
-abbrev pub onFrames : (List Frame → RanOn) → List ℕ → Reading → RanOn
-onFrames run w (frames fs) = afterLayout (layoutOf fs) w (run fs)
-onFrames run w (refused n j) = unused (A.Rejected n j) w
-
--- the run of a text; each choice is a number
+-- 'after 1 to 7, in number order': the text's refusal; else the run. Each choice is a number
 unfoldable pub runText : List ℕ → List ℕ → List ℕ → RanOn
-runText bs cs w = onFrames (λ fs. runFrames fs cs w) w (reading bs)
-
--- the words that the last of the calls left, w where there is none
-unfoldable pub lastWords : List ℕ → List Called → List ℕ
-lastWords w [] = w
-lastWords w (r ∷ rs) = lastWords (r .words) rs
-
--- the words that the calls leave, from the fresh call on
-abbrev pub wordsCalled : List Frame → List ℕ → List ℕ → List ℕ
-wordsCalled fs w cs = lastWords (freshCall fs w .words) (callsFrom fs (freshCall fs w .words) cs)
+runText bs cs w = afterReading (λ n j. unused (A.Rejected n j) w) (λ fs. runFrames fs cs w) (reading bs)
 
 -- 'States and answers are those that the calls give': of a text that passes refusals 1 to 7, `run` leaves the words that the calls leave, on the choices used. Proved in proofs/CalledRuns
 abbrev pub RunCalls : Type 0
 RunCalls =
     (bs : List ℕ) (fs : List Frame) → Passes bs fs → (cs w : List ℕ) → length w ≡ 4818
-    → runText bs cs w ≡ ranAs (A.Done 0) (usedOf (programOf fs) cs) (wordsCalled fs w (take (usedOf (programOf fs) cs) cs))
+    → runText bs cs w ≡ ranAs (A.Done 0) (usedOf (programOf fs) cs) (wordsFrom fs (freshCall fs w .words) (take (usedOf (programOf fs) cs) cs))

@@ -18,16 +18,16 @@ use Rattle.machine.specs.State.{State}
 use Rattle.machine.specs.Fresh.{fresh}
 use Rattle.machine.specs.Turns.{Stepped}
 use Rattle.machine.specs.Steps.{step}
-use Rattle.machine.specs.Runs.{stepsFrom, stateFrom, stateAfter, steps, allAccesses}
+use Rattle.machine.specs.Runs.{stepsFrom, stateAfter, steps, allAccesses}
 use Rattle.machine.specs.Words.{pack, unpack}
-use Rattle.machine.specs.Calls.{Called, freshCall}
+use Rattle.machine.specs.Calls.{Called, freshCall, wordsFrom}
 use Rattle.machine.proofs.Depth.{low-enough}
 use Rattle.machine.proofs.Shapes.{Shaped}
 use Rattle.machine.proofs.InShape.{shaped-in-range}
 use Rattle.machine.proofs.Round.{unpack-pack}
 use Rattle.machine.proofs.KeptCells.{all-getD}
 use Rattle.machine.proofs.KeptShape.{FileFits, keeps-step, fresh-shaped, reached-shaped}
-use Rattle.machine.proofs.CallRuns.{asCalled, fresh-called, call-is, calls-are}
+use Rattle.machine.proofs.CallRuns.{asCalled, fresh-called, call-is, calls-are, words-are}
 use Rattle.reach.proofs.Passed.{schedulers-range}
 use Rattle.reach.proofs.Laid.{LaidS, laid-deep}
 use Rattle.reach.proofs.Cells.{CellsFine, shared-fine}
@@ -35,7 +35,7 @@ use Rattle.reach.proofs.Modules.{IsPart, parts, main-plain, some-module, part-t
 use Rattle.reach.proofs.Sizes.{sized}
 use Rattle.reach.proofs.Fits.{file-fits}
 use Rattle.safety.specs.Safety.{Sound, Safe, Safety, NoPrivateInPublic, Apart}
-use Rattle.safety.specs.Accepted.{AcceptedSafe, stateOf, accessesUnder, accessesFrom, wordsFrom, SafeCalls, AcceptedCallsSafe}
+use Rattle.safety.specs.Accepted.{AcceptedSafe, stateOf, accessesUnder, accessesFrom, SafeCalls, AcceptedCallsSafe}
 use Rattle.safety.proofs.Goods.{Low}
 use Rattle.safety.proofs.Demand3.{Typed, demand-3}
 use Rattle.safety.proofs.Places.{main-typed}
@@ -115,11 +115,6 @@ module _ (fs : List Frame) (F : FileFits fs (programOf fs) (programOf fs .schedu
       ap₂ (λ (x : List Access) (y : List Access). x ++ y) (under-is s c z)
       (ap (λ (x : Called). accessesFrom fs (x .words) cs) (call-is fs F s c z) ∙ accesses-are (step P s c .state) cs (keeps-step fs P n F s c z))
 
-  pub words-are : (s : State) (cs : List ℕ) → Shaped fs n s → wordsFrom fs (pack s) cs ≡ pack (stateFrom P s cs)
-  unfolding wordsFrom stateFrom
-  words-are s [] z = refl
-  words-are s (c ∷ cs) z = ap (λ (x : Called). wordsFrom fs (x .words) cs) (call-is fs F s c z) ∙ words-are (step P s c .state) cs (keeps-step fs P n F s c z)
-
   sound-calls : (rs : List Stepped) → All Sound (map (λ (r : Stepped). r .answer) rs) → All (λ (r : Called). Sound (r .answer)) (map asCalled rs)
   sound-calls [] All.none = All.none
   sound-calls (r ∷ rs) (All.more h hs) = All.more h (sound-calls rs hs)
@@ -128,7 +123,7 @@ module _ (fs : List Frame) (F : FileFits fs (programOf fs) (programOf fs .schedu
   calls-safe w cs e s =
       let f = fresh-called fs w e in
       let z = fresh-shaped fs P n F in
-      let q : wordsFrom fs (freshCall fs w .words) cs ≡ pack (stateAfter P cs) = ap (λ (x : Called). wordsFrom fs (x .words) cs) f ∙ words-are (fresh P) cs z in
+      let q : wordsFrom fs (freshCall fs w .words) cs ≡ pack (stateAfter P cs) = words-are fs F w cs e in
       let u : stateOf fs (wordsFrom fs (freshCall fs w .words) cs) ≡ stateAfter P cs = ap (stateOf fs) q ∙ unpack-pack fs n (stateAfter P cs) (reached-shaped fs P n F cs) in
       record {
         fresh = ap (λ (x : Called). x .answer) f;

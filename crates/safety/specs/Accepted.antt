@@ -16,7 +16,7 @@ use Rattle.machine.specs.State.{State}
 use Rattle.machine.specs.Steps.{step}
 use Rattle.machine.specs.Words.{pack, unpack}
 use Rattle.machine.specs.Ranges.{inRange}
-use Rattle.machine.specs.Calls.{Called, freshCall, stepCall, callsFrom}
+use Rattle.machine.specs.Calls.{Called, freshCall, stepCall, callsFrom, wordsFrom}
 use Rattle.safety.specs.Safety.{NoPrivateInPublic, Apart, Sound, Safe}
 
 -- for every text that the check accepts, and every list of choices, of any length and content
@@ -33,14 +33,10 @@ stateOf fs w = unpack fs (programOf fs .schedulers) w
 unfoldable pub accessesUnder : List Frame → List ℕ → ℕ → List Access
 accessesUnder fs w c = elim (inRange fs (programOf fs .schedulers) w) [ true ↦ step (programOf fs) (stateOf fs w) c .accesses | false ↦ [] ]
 
--- the accesses of one call after the other, each on the words that the one before left, and the words behind them
+-- the accesses of one call after the other, each on the words that the one before left
 unfoldable pub accessesFrom : List Frame → List ℕ → List ℕ → List Access
 accessesFrom fs w [] = []
 accessesFrom fs w (c ∷ cs) = accessesUnder fs w c ++ accessesFrom fs (stepCall fs w c .words) cs
-
-unfoldable pub wordsFrom : List Frame → List ℕ → List ℕ → List ℕ
-wordsFrom fs w [] = w
-wordsFrom fs w (c ∷ cs) = wordsFrom fs (stepCall fs w c .words) cs
 
 -- of a file, a lent buffer w and a list of choices: the fresh call writes the buffer, then each choice is a call
 pub record SafeCalls (fs : List Frame) (w cs : List ℕ) : Type 0 where

@@ -11,14 +11,11 @@ use Rattle.basics.proofs.Ifs.{if-all, if-yes, if-no}
 use Rattle.language.specs.declared.frame.Frame.{Frame}
 use Rattle.language.specs.declared.verdict.Verdict.{Verdict}
 use Rattle.language.specs.declared.verdict.Verdict.the-variants.{Accepted, Rejected}
-use Rattle.text.specs.Frames.{framesOf, textFrames}
-use Rattle.text.specs.Reading.{Reading, frames, refused, reading}
+use Rattle.text.specs.Frames.{framesOf}
 use Rattle.program.specs.Programs.{programOf}
-use Rattle.layout.specs.Scans.{layoutOf}
-use Rattle.layout.specs.LaidOut.{layoutRead, layoutVerdict, laidOut}
+use Rattle.layout.specs.LaidOut.{laidOut}
 use Rattle.layout.specs.declared.LaidOut.{LaidOut}
-use Rattle.layout.proofs.Scopes.{no-fault-accepted}
-use Rattle.layout.proofs.Accepted.{Right, laid-right}
+use Rattle.layout.proofs.AfterLayout.{text-refused, text-passed}
 use Rattle.rules.proofs.CheckLaws.{check-file}
 use Rattle.machine.specs.Fresh.{fresh}
 use Rattle.machine.specs.Words.{pack}
@@ -30,7 +27,7 @@ use Rattle.stepper.specs.declared.answer.Answer.{Answer}
 use Rattle.stepper.specs.declared.answer.Answer.the-variants as A
 use Rattle.stepper.specs.declared.file.File.{File}
 use Rattle.stepper.specs.declared.party.Stepped.{Stepped}
-use Rattle.stepper.specs.Answers.{numberOf, threadOf, answerTo, answered, calledAs, afterLayout, onFrames, freshText, stepText}
+use Rattle.stepper.specs.Answers.{numberOf, threadOf, answerTo, answered, calledAs, onText, freshText, stepText}
 use Rattle.stepper.specs.Files.{FileWords, StepWords, fileOf, steppedOn}
 
 -- ---- one answer
@@ -78,40 +75,21 @@ step-in s r v k e h = ap (λ (a : Answer). answered a v) h ∙ ap calledAs e
 
 -- ---- a text
 module _ (bs : List ℕ) (l : LaidOut) (e : l ≡ laidOut bs) where
-  verdict-field : l .verdict ≡ layoutVerdict bs
-  unfolding laidOut
-  verdict-field = ap (λ (x : LaidOut). x .verdict) e
-
-  pub by-reading : (call : List Frame → Called) (w : List ℕ) (r : Reading) → reading bs ≡ r → (n j : ℕ) → l .verdict ≡ Rejected n j → answered (A.Rejected n j) w ≡ onFrames call w r
-  unfolding layoutVerdict
-  by-reading call w (refused m k) q n j z =
-      let y : Rejected m k ≡ Rejected n j = sym (ap layoutRead q) ∙ sym verdict-field ∙ z in
-      sym (ap (λ (v : Verdict). afterLayout v w (call (textFrames bs))) y)
-  by-reading call w (frames fs) q n j z =
-      let y : layoutOf fs ≡ Rejected n j = sym (ap layoutRead q) ∙ sym verdict-field ∙ z in
-      sym (ap (λ (v : Verdict). afterLayout v w (call fs)) y)
-
   module _ (v : Verdict) (n j : ℕ) (h : v ≡ l .verdict) (z : v ≡ Rejected n j) where
     pub fresh-rejected : (w : List ℕ) → answered (A.Rejected n j) w ≡ freshText bs w
     unfolding freshText
-    fresh-rejected w = by-reading (λ fs. freshCall fs w) w (reading bs) refl n j (sym h ∙ z)
+    fresh-rejected w = text-refused _ _ bs l e n j (sym h ∙ z)
 
     pub step-rejected : (w : List ℕ) (c : ℕ) → answered (A.Rejected n j) w ≡ stepText bs w c
     unfolding stepText
-    step-rejected w c = by-reading (λ fs. stepCall fs w c) w (reading bs) refl n j (sym h ∙ z)
+    step-rejected w c = text-refused _ _ bs l e n j (sym h ∙ z)
 
   module _ (v : Verdict) (h : v ≡ l .verdict) (a : v ≡ Accepted) where
-    right : Right bs l
-    right = laid-right bs l e (sym h ∙ a)
-
     pub text-file : (n : ℕ) → n ≡ l .count → FileWords (take n (l .words))
     text-file n q = let g = check-file bs l e v h a n q in record { laid-out = g .laid-out; few = g .few }
 
-    pub by-call : (call : List Frame → Called) (w : List ℕ) (n : ℕ) → n ≡ l .count → calledAs (call (framesOf (take n (l .words)))) ≡ onFrames call w (reading bs)
-    by-call call w n q =
-        let r = right in
-        ap (λ (k : ℕ). calledAs (call (framesOf (take k (l .words))))) q ∙ ap (λ (fs : List Frame). calledAs (call fs)) (r .lines)
-        ∙ sym (ap (onFrames call w) (r .reads) ∙ ap (λ (x : Verdict). afterLayout x w (call (textFrames bs))) (no-fault-accepted (textFrames bs) (let c = r .count in let s = r .some in omega arith) (r .no-fault)))
+    pub by-call : (call : List Frame → Called) (w : List ℕ) (n : ℕ) → n ≡ l .count → calledAs (call (framesOf (take n (l .words)))) ≡ onText bs w call
+    by-call call w n q = text-passed (λ n j. answered (A.Rejected n j) w) (λ fs. calledAs (call fs)) bs l e (sym h ∙ a) n q
 
     pub fresh-wrong : (w : List ℕ) → (length w ≡ 4818 → ⊥) → answered (A.Refused 14 0) w ≡ freshText bs w
     unfolding freshText

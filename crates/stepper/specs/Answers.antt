@@ -4,10 +4,8 @@ use Prim.Native.Nat.{ℕ}
 use lib.Dec.{eqb}
 use Rattle.basics.specs.If.{if_then_else_}
 use Rattle.language.specs.declared.frame.Frame.{Frame}
-use Rattle.language.specs.declared.verdict.Verdict.{Verdict}
-use Rattle.language.specs.declared.verdict.Verdict.the-variants.{Accepted, Rejected}
-use Rattle.text.specs.Reading.{Reading, frames, refused, reading}
-use Rattle.layout.specs.Scans.{layoutOf}
+use Rattle.text.specs.Reading.{reading}
+use Rattle.layout.specs.LaidOut.{afterReading}
 use Rattle.machine.specs.Calls.{Called, freshCall, stepCall}
 use Rattle.stepper.specs.declared.answer.Answer.{Answer}
 use Rattle.stepper.specs.declared.answer.Answer.the-variants as A
@@ -43,19 +41,14 @@ answered a w = record { answer = a; words = w }
 abbrev pub calledAs : Called → Answered
 calledAs r = answered (answerTo (r .answer) (r .thread)) (r .words)
 
--- 'after 1 to 7, in number order': the text's refusal, which changes no buffer; else what the call gives
-abbrev pub afterLayout : Verdict → List ℕ → Called → Answered
-afterLayout Accepted w r = calledAs r
-afterLayout (Rejected n j) w r = answered (A.Rejected n j) w
-
-abbrev pub onFrames : (List Frame → Called) → List ℕ → Reading → Answered
-onFrames call w (frames fs) = afterLayout (layoutOf fs) w (call fs)
-onFrames call w (refused n j) = answered (A.Rejected n j) w
+-- 'after 1 to 7, in number order': the text's refusal, which changes no buffer; else what the call gives on its frames
+abbrev pub onText : List ℕ → List ℕ → (List Frame → Called) → Answered
+onText bs w call = afterReading (λ n j. answered (A.Rejected n j) w) (λ fs. calledAs (call fs)) (reading bs)
 
 -- the fresh state of a text
 unfoldable pub freshText : List ℕ → List ℕ → Answered
-freshText bs w = onFrames (λ fs. freshCall fs w) w (reading bs)
+freshText bs w = onText bs w (λ fs. freshCall fs w)
 
 -- one choice
 unfoldable pub stepText : List ℕ → List ℕ → ℕ → Answered
-stepText bs w c = onFrames (λ fs. stepCall fs w c) w (reading bs)
+stepText bs w c = onText bs w (λ fs. stepCall fs w c)

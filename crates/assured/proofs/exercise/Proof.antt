@@ -2,7 +2,7 @@
 use borrow.Author.Needs.{needs}
 use Rattle.rules.proofs.CheckLaws.{check-room, check-length}
 use Rattle.stepper.proofs.AnswerLaws.{text-file}
-use Rattle.assured.proofs.Laws.{rejected, rejected-assured, wrong, wrong-assured, done, done-assured}
+use Rattle.assured.proofs.Exercised.{rejected, rejected-assured, wrong-length, wrong-length-assured, done, done-assured}
 use Rattle.assured.proofs.exercise.Statement.{statement}
 use Rattle.assured.proofs.exercise.Tie as tie
 
@@ -16,7 +16,7 @@ enum-told : tie.Need-enum-told
 enum-told c = search needs
 
 returns : tie.Need-returns
-returns c = (search wrong, search wrong-assured)
+returns c = (search wrong-length, search wrong-length-assured)
 
 array-share-prefix-words : tie.Need-array-share-prefix-words
 array-share-prefix-words c = search check-room

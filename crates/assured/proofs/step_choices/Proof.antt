@@ -4,7 +4,7 @@ use native.Mathlib.Omega.{arith}
 use Prim.Native.Nat.{_-_}
 use lib.ListN.{length}
 use Rattle.runs.proofs.RunLaws.{Running, running-start, running-asks, running-more, running-end}
-use Rattle.assured.proofs.Laws.{all-choices}
+use Rattle.assured.proofs.Exercised.{all-choices}
 use Rattle.assured.proofs.step_choices.Statement.{statement}
 use Rattle.assured.proofs.step_choices.Tie as tie
 

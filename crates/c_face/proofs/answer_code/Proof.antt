@@ -1,6 +1,6 @@
 -- `answer_code` meets its contract. Assumes nothing.
 use borrow.Author.Needs.{needs}
-use Rattle.c_face.proofs.Laws.{answer-laws}
+use Rattle.c_face.proofs.CodeLaws.{answer-laws}
 use Rattle.c_face.proofs.answer_code.Statement.{statement}
 use Rattle.c_face.proofs.answer_code.Tie as tie
 

@@ -1,6 +1,6 @@
 -- `code_of` meets its contract. Assumes nothing.
 use borrow.Author.Needs.{needs}
-use Rattle.c_face.proofs.Laws.{code-laws}
+use Rattle.c_face.proofs.CodeLaws.{code-laws}
 use Rattle.c_face.proofs.code_of.Statement.{statement}
 use Rattle.c_face.proofs.code_of.Tie as tie
 

@@ -1,6 +1,6 @@
 -- `purkvaldi_check` meets its contract. Assumes nothing.
 use borrow.Author.Needs.{needs}
-use Rattle.c_face.proofs.Laws.{code-checked}
+use Rattle.c_face.proofs.CodeLaws.{code-checked}
 use Rattle.c_face.proofs.purkvaldi_check.Statement.{statement}
 use Rattle.c_face.proofs.purkvaldi_check.Tie as tie
 

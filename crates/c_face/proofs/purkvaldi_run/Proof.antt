@@ -1,6 +1,6 @@
 -- `purkvaldi_run` meets its contract. Assumes nothing.
 use borrow.Author.Needs.{needs}
-use Rattle.c_face.proofs.Laws.{listing-printed}
+use Rattle.c_face.proofs.CodeLaws.{listing-printed}
 use Rattle.c_face.proofs.purkvaldi_run.Statement.{statement}
 use Rattle.c_face.proofs.purkvaldi_run.Tie as tie
 

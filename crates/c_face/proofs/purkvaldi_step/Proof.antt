@@ -1,6 +1,6 @@
 -- `purkvaldi_step` meets its contract. Assumes nothing.
 use borrow.Author.Needs.{needs}
-use Rattle.c_face.proofs.Laws.{answer-coded}
+use Rattle.c_face.proofs.CodeLaws.{answer-coded}
 use Rattle.c_face.proofs.purkvaldi_step.Statement.{statement}
 use Rattle.c_face.proofs.purkvaldi_step.Tie as tie
 

@@ -1,7 +1,7 @@
--- What the calls of a whole list leave, and that an accepted text's are safe. Assumes nothing.
+-- `exercise`: what the calls of a whole list leave, and that an accepted text's are safe. Assumes nothing.
 use Prim.Native.Nat.{ℕ}
 use mathlib.Core.Path.{_≡_, refl, sym, ap, _∙_}
-use mathlib.Core.List.{List, [], _∷_}
+use mathlib.Core.List.{List}
 use mathlib.Core.Bool.{Bool, true, false}
 use native.Mathlib.Omega.{arith}
 use lib.ListN.{length, take}
@@ -11,31 +11,25 @@ use Rattle.language.specs.declared.frame.Frame.{Frame}
 use Rattle.language.specs.declared.verdict.Verdict.{Verdict}
 use Rattle.language.specs.declared.verdict.Verdict.the-variants.{Accepted, Rejected}
 use Rattle.text.specs.Frames.{framesOf, textFrames}
-use Rattle.text.specs.Reading.{Reads, reading}
 use Rattle.program.specs.Programs.{programOf}
 use Rattle.layout.specs.LaidOut.{HasLayout, laidOut}
 use Rattle.layout.specs.declared.LaidOut.{LaidOut}
 use Rattle.layout.proofs.Answers.{verdict-is}
 use Rattle.layout.proofs.Accepted.{laid-right, layout-only}
+use Rattle.layout.proofs.AfterLayout.{text-refused}
 use Rattle.rules.specs.Verdict.{HasVerdict}
-use Rattle.machine.specs.Fresh.{fresh}
 use Rattle.machine.specs.Runs.{stateAfter}
 use Rattle.machine.specs.Words.{pack}
-use Rattle.machine.specs.Calls.{Called, unchanged, freshCall, stepCall, callsFrom}
-use Rattle.machine.proofs.KeptShape.{fresh-shaped}
-use Rattle.machine.proofs.CallRuns.{fresh-called}
-use Rattle.safety.specs.Accepted.{wordsFrom}
-use Rattle.safety.proofs.Accepted.{words-are, accepted-calls-safe}
+use Rattle.machine.specs.Calls.{unchanged, freshCall, wordsFrom}
+use Rattle.machine.proofs.CallRuns.{words-are}
+use Rattle.safety.proofs.Accepted.{accepted-calls-safe}
 use Rattle.stepper.specs.declared.answer.Answer.{Answer}
 use Rattle.stepper.specs.declared.answer.Answer.the-variants as A
 use Rattle.stepper.specs.Answers.{answered, calledAs}
 use Rattle.stepper.specs.Files.{FileWords}
 use Rattle.stepper.proofs.StepLaws.{fits-words}
-use Rattle.stepper.proofs.AnswerLaws.{refused-14, done-0, by-reading, by-call, text-file}
-use Rattle.listing.specs.Listing.{usedOf}
-use Rattle.runs.specs.Runs.{ranAs, lastWords}
-use Rattle.runs.proofs.CalledRuns.{run-calls}
-use Rattle.assured.specs.Assured.{exerciseCall, exerciseText, Assured, RunAssured}
+use Rattle.stepper.proofs.AnswerLaws.{refused-14, done-0, by-call, text-file}
+use Rattle.assured.specs.Assured.{exerciseCall, exerciseText, Assured}
 
 -- ---- the inner call
 pub all-choices : (cs v : List ℕ) (frames : List ℕ) → v ≡ pack (stateAfter (programOf (framesOf frames)) (take (length cs) cs)) → v ≡ pack (stateAfter (programOf (framesOf frames)) cs)
@@ -53,17 +47,14 @@ call-wrong fs cs w l = ap (λ (b : Bool). elim b [ true ↦ record { answer = 0;
 
 -- the words behind the calls are those of the state reached
 reached-words : (frames cs w v : List ℕ) → FileWords frames → length w ≡ 4818 → v ≡ pack (stateAfter (programOf (framesOf frames)) cs) → v ≡ wordsFrom (framesOf frames) (freshCall (framesOf frames) w .words) cs
-reached-words frames cs w v g l e =
-    let F = fits-words frames g in
-    let P = programOf (framesOf frames) in
-    e ∙ sym (ap (λ (x : Called). wordsFrom (framesOf frames) (x .words) cs) (fresh-called (framesOf frames) w l) ∙ words-are (framesOf frames) F (fresh P) cs (fresh-shaped (framesOf frames) P (P .schedulers) F))
+reached-words frames cs w v g l e = e ∙ sym (words-are (framesOf frames) (fits-words frames g) w cs l)
 
 -- ---- a text
 module _ (bs : List ℕ) (l : LaidOut) (e : l ≡ laidOut bs) (cs w : List ℕ) where
   module _ (v : Verdict) (n j : ℕ) (h : v ≡ l .verdict) (z : v ≡ Rejected n j) where
     pub rejected : answered (A.Rejected n j) w ≡ exerciseText bs cs w
     unfolding exerciseText
-    rejected = by-reading bs l e (λ fs. exerciseCall fs cs w) w (reading bs) refl n j (sym h ∙ z)
+    rejected = text-refused _ _ bs l e n j (sym h ∙ z)
 
     -- it is not accepted
     pub rejected-assured : Assured bs cs w w
@@ -76,14 +67,14 @@ module _ (bs : List ℕ) (l : LaidOut) (e : l ≡ laidOut bs) (cs w : List ℕ) 
         no (HasVerdict.accepted r f _) = differ (layout-only (HasLayout.layout r f) ∙ sym (verdict-is bs l e) ∙ sym h ∙ z)
 
   module _ (v : Verdict) (h : v ≡ l .verdict) (a : v ≡ Accepted) where
-    pub wrong : (length w ≡ 4818 → ⊥) → answered (A.Refused 14 0) w ≡ exerciseText bs cs w
+    pub wrong-length : (length w ≡ 4818 → ⊥) → answered (A.Refused 14 0) w ≡ exerciseText bs cs w
     unfolding exerciseText
-    wrong k =
+    wrong-length k =
         ap (λ (x : Answer). answered x w) refused-14 ∙ ap calledAs (call-wrong (framesOf (take (l .count) (l .words))) cs w k)
         ∙ by-call bs l e v h a (λ fs. exerciseCall fs cs w) w (l .count) refl
 
-    pub wrong-assured : (length w ≡ 4818 → ⊥) → Assured bs cs w w
-    wrong-assured k _ y = absurd (k y)
+    pub wrong-length-assured : (length w ≡ 4818 → ⊥) → Assured bs cs w w
+    wrong-length-assured k _ y = absurd (k y)
 
     module _ (u : List ℕ) (n : ℕ) (q : n ≡ l .count) (z : u ≡ pack (stateAfter (programOf (framesOf (take n (l .words)))) cs)) (k : length w ≡ 4818) where
       words : u ≡ wordsFrom (framesOf (take n (l .words))) (freshCall (framesOf (take n (l .words))) w .words) cs
@@ -100,16 +91,3 @@ module _ (bs : List ℕ) (l : LaidOut) (e : l ≡ laidOut bs) (cs w : List ℕ) 
 
       pub done-assured : Assured bs cs w u
       done-assured y _ = (accepted-calls-safe bs y w cs k, words ∙ ap (λ (fs : List Frame). wordsFrom fs (freshCall fs w .words) cs) same-frames)
-
--- ---- the choices that `run` uses
-last-from : (fs : List Frame) (w cs : List ℕ) → lastWords w (callsFrom fs w cs) ≡ wordsFrom fs w cs
-unfolding lastWords callsFrom wordsFrom
-last-from fs w [] = refl
-last-from fs w (c ∷ cs) = last-from fs (stepCall fs w c .words) cs
-
-pub run-assured : RunAssured
-run-assured bs (HasVerdict.accepted (Reads.whole a b c) h k) cs w e = (
-  accepted-calls-safe bs (HasVerdict.accepted (Reads.whole a b c) h k) w (take (usedOf (programOf (textFrames bs)) cs) cs) e,
-  run-calls bs (textFrames bs) (record { text = Reads.whole a b c; layout = h }) cs w e
-      ∙ ap (ranAs (A.Done 0) (usedOf (programOf (textFrames bs)) cs)) (last-from (textFrames bs) (freshCall (textFrames bs) w .words) (take (usedOf (programOf (textFrames bs)) cs) cs)),
-)
