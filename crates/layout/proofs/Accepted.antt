@@ -1,4 +1,4 @@
--- What the answer of `lay_out` means: by the rules, and where it is `Accepted`. Assumes nothing.
+-- What the answer of `lay_out` means: where it is `Accepted`, the lines kept are frames without fault; its verdict is the one that `HasLayout` allows. Assumes nothing.
 use mathlib.Core.Path.{_≡_, refl, sym, ap, _∙_}
 use mathlib.Core.List.{List}
 use Prim.Native.Nat.{ℕ, _≤_, _<_}

@@ -1,7 +1,6 @@
 -- What the layout check answers on a text, from what its passes find. Assumes nothing.
 use mathlib.Core.Path.{_≡_, refl, sym, ap, ap₂, _∙_}
 use mathlib.Core.List.{List}
-use mathlib.Core.Option.{none}
 use Prim.Native.Nat.{ℕ, zero, suc, _-_, _≤_, _<_}
 use native.Mathlib.Omega.{arith}
 use lib.ListN.{length, take, drop, replicate}
@@ -21,39 +20,36 @@ use Rattle.layout.specs.declared.found.Found.the-variants.{At, Nowhere}
 use Rattle.layout.specs.Scans.{headerFault, fieldFault, orderFault, depthFault, layoutOf}
 use Rattle.layout.specs.Passes.{found}
 use Rattle.layout.specs.LaidOut.{layoutRead, layoutVerdict, laidOut}
-use Rattle.layout.proofs.Rows.{nowhere-none, at-some}
+use Rattle.layout.proofs.Finds.{found-none, found-some}
 
--- ---- 4 to 7
-pub found-none : (fs : List Frame) (x : Found) → x ≡ Nowhere → x ≡ found (orderFault fs) → orderFault fs ≡ none
-found-none fs x e h = nowhere-none (orderFault fs) (sym h ∙ e)
-
+-- ---- 4 to 7: the code stops at the first pass that finds a frame
 module _ (fs : List Frame) (a : Found) (ha : a ≡ found (headerFault fs)) where
   pub laid-4 : (j : ℕ) → a ≡ At j → Rejected 4 j ≡ layoutOf fs
   unfolding layoutOf
-  laid-4 j e = rw (at-some (headerFault fs) j (sym ha ∙ e))
+  laid-4 j e = rw (found-some (headerFault fs) e ha)
 
   module _ (na : a ≡ Nowhere) (b : Found) (hb : b ≡ found (fieldFault fs)) where
     pub laid-5 : (j : ℕ) → b ≡ At j → Rejected 5 j ≡ layoutOf fs
     unfolding layoutOf
-    laid-5 j e = rw (nowhere-none (headerFault fs) (sym ha ∙ na), at-some (fieldFault fs) j (sym hb ∙ e))
+    laid-5 j e = rw (found-none (headerFault fs) na ha, found-some (fieldFault fs) e hb)
 
     module _ (nb : b ≡ Nowhere) (c : Found) (hc : c ≡ found (orderFault fs)) where
       pub laid-6 : (j : ℕ) → c ≡ At j → Rejected 6 j ≡ layoutOf fs
       unfolding layoutOf
-      laid-6 j e = rw (nowhere-none (headerFault fs) (sym ha ∙ na), nowhere-none (fieldFault fs) (sym hb ∙ nb), at-some (orderFault fs) j (sym hc ∙ e))
+      laid-6 j e = rw (found-none (headerFault fs) na ha, found-none (fieldFault fs) nb hb, found-some (orderFault fs) e hc)
 
       module _ (nc : c ≡ Nowhere) (d : Found) (hd : d ≡ found (depthFault fs)) where
         pub laid-7 : (j : ℕ) → d ≡ At j → Rejected 7 j ≡ layoutOf fs
         unfolding layoutOf
-        laid-7 j e = rw (nowhere-none (headerFault fs) (sym ha ∙ na), nowhere-none (fieldFault fs) (sym hb ∙ nb), nowhere-none (orderFault fs) (sym hc ∙ nc), at-some (depthFault fs) j (sym hd ∙ e))
+        laid-7 j e = rw (found-none (headerFault fs) na ha, found-none (fieldFault fs) nb hb, found-none (orderFault fs) nc hc, found-some (depthFault fs) e hd)
 
-        pub laid-right : d ≡ Nowhere → Accepted ≡ layoutOf fs
+        pub laid-accepted : d ≡ Nowhere → Accepted ≡ layoutOf fs
         unfolding layoutOf
-        laid-right e = rw (nowhere-none (headerFault fs) (sym ha ∙ na), nowhere-none (fieldFault fs) (sym hb ∙ nb), nowhere-none (orderFault fs) (sym hc ∙ nc), nowhere-none (depthFault fs) (sym hd ∙ e))
+        laid-accepted e = rw (found-none (headerFault fs) na ha, found-none (fieldFault fs) nb hb, found-none (orderFault fs) nc hc, found-none (depthFault fs) e hd)
 
-pub ruleset layout-laws = (laid-4, laid-5, laid-6, laid-7, laid-right)
+pub ruleset layout-laws = (laid-4, laid-5, laid-6, laid-7, laid-accepted)
 
--- ---- a text that reads as frames has these
+-- ---- a text that reads as n frames
 pub record Whole (bs : List ℕ) (n : ℕ) : Type 0 where
   pub is : reading bs ≡ frames (textFrames bs)
   pub count : length (textFrames bs) ≡ n
@@ -88,6 +84,7 @@ array-take : (n : ℕ) (bs : List ℕ) → take n (wordArray n bs) ≡ wordsOf n
 unfolding wordArray
 array-take n bs = take-at (wordsOf n bs) (replicate (1024 - n) 0) n (words-length n bs)
 
+-- ---- 1 to 7, with the lines read
 abbrev answer : Verdict → ℕ → List ℕ → LaidOut
 answer v n ws = record { verdict = v; count = n; words = ws }
 

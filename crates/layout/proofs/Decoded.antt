@@ -15,36 +15,36 @@ use Rattle.layout.proofs.Placed.{PlacedE, PlacedEs, PlacedS}
 use Rattle.layout.specs.Order.{Tree, Row}
 use Rattle.layout.proofs.Trees.{tree-le, row-le, One, Two, Three, one-of, two-of, three-of, childrenAs, row-as}
 
--- ---- expressions
-root-of : (rec : ℕ → Expr) (i : ℕ) (f : Frame) (k : Kind) → rootE (expressionOf rec i f k) ≡ i
-root-of rec i f Header = refl
-root-of rec i f Shared = refl
-root-of rec i f Module = refl
-root-of rec i f Unknown = refl
-root-of rec i f (Statement k) = refl
-root-of rec i f (Expression Number) = refl
-root-of rec i f (Expression Truth) = refl
-root-of rec i f (Expression Variable) = refl
-root-of rec i f (Expression SharedCell) = refl
-root-of rec i f (Expression NewCell) = refl
-root-of rec i f (Expression Content) = refl
-root-of rec i f (Expression Sum) = refl
-root-of rec i f (Expression Less) = refl
-root-of rec i f (Expression Choose) = refl
+-- ---- expressions: of a kind (`expressionOf`), down to a bound (`expressionTo`), at a frame (`expressionAt`)
+root-e-of : (rec : ℕ → Expr) (i : ℕ) (f : Frame) (k : Kind) → rootE (expressionOf rec i f k) ≡ i
+root-e-of rec i f Header = refl
+root-e-of rec i f Shared = refl
+root-e-of rec i f Module = refl
+root-e-of rec i f Unknown = refl
+root-e-of rec i f (Statement k) = refl
+root-e-of rec i f (Expression Number) = refl
+root-e-of rec i f (Expression Truth) = refl
+root-e-of rec i f (Expression Variable) = refl
+root-e-of rec i f (Expression SharedCell) = refl
+root-e-of rec i f (Expression NewCell) = refl
+root-e-of rec i f (Expression Content) = refl
+root-e-of rec i f (Expression Sum) = refl
+root-e-of rec i f (Expression Less) = refl
+root-e-of rec i f (Expression Choose) = refl
 
-root-e : (n : ℕ) (fs : List Frame) (i : ℕ) → rootE (expressionTo n fs i) ≡ i
+root-e-to : (n : ℕ) (fs : List Frame) (i : ℕ) → rootE (expressionTo n fs i) ≡ i
 unfolding expressionTo
-root-e zero fs i = refl
-root-e (suc n) fs i = root-of (λ j. expressionTo n fs j) i (frameAt fs i) (frameAt fs i .kind)
+root-e-to zero fs i = refl
+root-e-to (suc n) fs i = root-e-of (λ j. expressionTo n fs j) i (frameAt fs i) (frameAt fs i .kind)
 
-refrom : {lo lo' : ℕ} {x : Expr} → lo ≡ lo' → PlacedE lo x → PlacedE lo' x
-refrom e p = rw e at p
+from-e : {lo lo' : ℕ} {x : Expr} → lo ≡ lo' → PlacedE lo x → PlacedE lo' x
+from-e e p = rw e at p
 
 -- `rec` gives the children's trees
 module _ {fs : List Frame} (rec : ℕ → Expr) (roots : (j : ℕ) → rootE (rec j) ≡ j) (f : Frame) (lo i : ℕ) (placed : (j lo' : ℕ) → j < i → Tree fs lo' j → PlacedE lo' (rec j)) where
   -- a later child
   after : (a b : ℕ) → b < i → Tree fs (suc a) b → PlacedE (suc (rootE (rec a))) (rec b)
-  after a b l t = refrom (ap suc (sym (roots a))) (placed b (suc a) l t)
+  after a b l t = from-e (ap suc (sym (roots a))) (placed b (suc a) l t)
 
   below : (a : ℕ) → suc a ≡ i → rootE (rec a) < i
   below a e = let r = roots a in omega arith
@@ -63,60 +63,60 @@ module _ {fs : List Frame} (rec : ℕ → Expr) (roots : (j : ℕ) → rootE (re
       let m = tree-le (r .third) in
       make (placed a lo (omega arith) (r .tree)) (after a b (omega arith) (r .next)) (after b c (omega arith) (r .third)) (below c l)
 
-  e-kind : (k : Kind) → Row fs lo i (childrenAs k f) → PlacedE lo (expressionOf rec i f k)
-  e-kind Header r = PlacedE.number (row-le r)
-  e-kind Shared r = PlacedE.number (row-le r)
-  e-kind Module r = PlacedE.number (row-le r)
-  e-kind Unknown r = PlacedE.number (row-le r)
-  e-kind (Statement k) r = PlacedE.number (row-le r)
-  e-kind (Expression Number) r = PlacedE.number (row-le r)
-  e-kind (Expression Truth) r = PlacedE.truth (row-le r)
-  e-kind (Expression Variable) r = PlacedE.variable (row-le r)
-  e-kind (Expression SharedCell) r = PlacedE.shared (row-le r)
-  e-kind (Expression NewCell) r = e-one (f .a) (λ p l. PlacedE.new p l) (one-of r)
-  e-kind (Expression Content) r = e-one (f .a) (λ p l. PlacedE.content p l) (one-of r)
-  e-kind (Expression Sum) r = e-two (f .a) (f .b) (λ p q l. PlacedE.sum p q l) (two-of r)
-  e-kind (Expression Less) r = e-two (f .a) (f .b) (λ p q l. PlacedE.less p q l) (two-of r)
-  e-kind (Expression Choose) r = e-three (f .a) (f .b) (f .c) (λ p q s l. PlacedE.choose p q s l) (three-of r)
+  placed-e-of : (k : Kind) → Row fs lo i (childrenAs k f) → PlacedE lo (expressionOf rec i f k)
+  placed-e-of Header r = PlacedE.number (row-le r)
+  placed-e-of Shared r = PlacedE.number (row-le r)
+  placed-e-of Module r = PlacedE.number (row-le r)
+  placed-e-of Unknown r = PlacedE.number (row-le r)
+  placed-e-of (Statement k) r = PlacedE.number (row-le r)
+  placed-e-of (Expression Number) r = PlacedE.number (row-le r)
+  placed-e-of (Expression Truth) r = PlacedE.truth (row-le r)
+  placed-e-of (Expression Variable) r = PlacedE.variable (row-le r)
+  placed-e-of (Expression SharedCell) r = PlacedE.shared (row-le r)
+  placed-e-of (Expression NewCell) r = e-one (f .a) (λ p l. PlacedE.new p l) (one-of r)
+  placed-e-of (Expression Content) r = e-one (f .a) (λ p l. PlacedE.content p l) (one-of r)
+  placed-e-of (Expression Sum) r = e-two (f .a) (f .b) (λ p q l. PlacedE.sum p q l) (two-of r)
+  placed-e-of (Expression Less) r = e-two (f .a) (f .b) (λ p q l. PlacedE.less p q l) (two-of r)
+  placed-e-of (Expression Choose) r = e-three (f .a) (f .b) (f .c) (λ p q s l. PlacedE.choose p q s l) (three-of r)
 
-placed-e : (n : ℕ) (fs : List Frame) (i lo : ℕ) → i < n → Tree fs lo i → PlacedE lo (expressionTo n fs i)
+placed-e-to : (n : ℕ) (fs : List Frame) (i lo : ℕ) → i < n → Tree fs lo i → PlacedE lo (expressionTo n fs i)
 unfolding expressionTo
-placed-e zero fs i lo l t = absurd (omega arith)
-placed-e (suc n) fs i lo l t = e-kind (λ j. expressionTo n fs j) (root-e n fs) (frameAt fs i) lo i (λ j lo' k u. placed-e n fs j lo' (omega arith) u) (frameAt fs i .kind) (row-as t)
+placed-e-to zero fs i lo l t = absurd (omega arith)
+placed-e-to (suc n) fs i lo l t = placed-e-of (λ j. expressionTo n fs j) (root-e-to n fs) (frameAt fs i) lo i (λ j lo' k u. placed-e-to n fs j lo' (omega arith) u) (frameAt fs i .kind) (row-as t)
 
 pub placed-expr : (fs : List Frame) (i lo : ℕ) → Tree fs lo i → PlacedE lo (expressionAt fs i)
 unfolding expressionAt
-placed-expr fs i lo t = placed-e (suc i) fs i lo (omega arith) t
+placed-expr fs i lo t = placed-e-to (suc i) fs i lo (omega arith) t
 
 pub root-expr : (fs : List Frame) (i : ℕ) → rootE (expressionAt fs i) ≡ i
 unfolding expressionAt
-root-expr fs i = root-e (suc i) fs i
+root-expr fs i = root-e-to (suc i) fs i
 
--- ---- statements
-root-st : (expr : ℕ → Expr) (rec : ℕ → Stmt) (i : ℕ) (f : Frame) (k : Kind) → rootS (statementOf expr rec i f k) ≡ i
-root-st expr rec i f Header = refl
-root-st expr rec i f Shared = refl
-root-st expr rec i f Module = refl
-root-st expr rec i f Unknown = refl
-root-st expr rec i f (Expression k) = refl
-root-st expr rec i f (Statement Nothing) = refl
-root-st expr rec i f (Statement Then) = refl
-root-st expr rec i f (Statement DoAt) = refl
-root-st expr rec i f (Statement Start) = refl
-root-st expr rec i f (Statement StartWait) = refl
-root-st expr rec i f (Statement Cooperate) = refl
-root-st expr rec i f (Statement Let) = refl
-root-st expr rec i f (Statement Store) = refl
-root-st expr rec i f (Statement If) = refl
-root-st expr rec i f (Statement While) = refl
+-- ---- statements, in the same way
+root-s-of : (expr : ℕ → Expr) (rec : ℕ → Stmt) (i : ℕ) (f : Frame) (k : Kind) → rootS (statementOf expr rec i f k) ≡ i
+root-s-of expr rec i f Header = refl
+root-s-of expr rec i f Shared = refl
+root-s-of expr rec i f Module = refl
+root-s-of expr rec i f Unknown = refl
+root-s-of expr rec i f (Expression k) = refl
+root-s-of expr rec i f (Statement Nothing) = refl
+root-s-of expr rec i f (Statement Then) = refl
+root-s-of expr rec i f (Statement DoAt) = refl
+root-s-of expr rec i f (Statement Start) = refl
+root-s-of expr rec i f (Statement StartWait) = refl
+root-s-of expr rec i f (Statement Cooperate) = refl
+root-s-of expr rec i f (Statement Let) = refl
+root-s-of expr rec i f (Statement Store) = refl
+root-s-of expr rec i f (Statement If) = refl
+root-s-of expr rec i f (Statement While) = refl
 
-root-s : (n : ℕ) (fs : List Frame) (i : ℕ) → rootS (statementTo n fs i) ≡ i
+root-s-to : (n : ℕ) (fs : List Frame) (i : ℕ) → rootS (statementTo n fs i) ≡ i
 unfolding statementTo
-root-s zero fs i = refl
-root-s (suc n) fs i = root-st (λ j. expressionAt fs j) (λ j. statementTo n fs j) i (frameAt fs i) (frameAt fs i .kind)
+root-s-to zero fs i = refl
+root-s-to (suc n) fs i = root-s-of (λ j. expressionAt fs j) (λ j. statementTo n fs j) i (frameAt fs i) (frameAt fs i .kind)
 
-refromS : {lo lo' : ℕ} {p : Stmt} → lo ≡ lo' → PlacedS lo p → PlacedS lo' p
-refromS e p = rw e at p
+from-s : {lo lo' : ℕ} {p : Stmt} → lo ≡ lo' → PlacedS lo p → PlacedS lo' p
+from-s e p = rw e at p
 
 module _ (fs : List Frame) (rec : ℕ → Stmt) (roots : (j : ℕ) → rootS (rec j) ≡ j) (f : Frame) (lo i : ℕ) (placed : (j lo' : ℕ) → j < i → Tree fs lo' j → PlacedS lo' (rec j)) where
   abbrev expr : ℕ → Expr
@@ -124,13 +124,13 @@ module _ (fs : List Frame) (rec : ℕ → Stmt) (roots : (j : ℕ) → rootS (re
 
   -- a later child, behind a statement or behind an expression
   s-after-s : (a b : ℕ) → b < i → Tree fs (suc a) b → PlacedS (suc (rootS (rec a))) (rec b)
-  s-after-s a b l t = refromS (ap suc (sym (roots a))) (placed b (suc a) l t)
+  s-after-s a b l t = from-s (ap suc (sym (roots a))) (placed b (suc a) l t)
 
   s-after-e : (a b : ℕ) → b < i → Tree fs (suc a) b → PlacedS (suc (rootE (expr a))) (rec b)
-  s-after-e a b l t = refromS (ap suc (sym (root-expr fs a))) (placed b (suc a) l t)
+  s-after-e a b l t = from-s (ap suc (sym (root-expr fs a))) (placed b (suc a) l t)
 
   e-after-e : (a b : ℕ) → Tree fs (suc a) b → PlacedE (suc (rootE (expr a))) (expr b)
-  e-after-e a b t = refrom (ap suc (sym (root-expr fs a))) (placed-expr fs b (suc a) t)
+  e-after-e a b t = from-e (ap suc (sym (root-expr fs a))) (placed-expr fs b (suc a) t)
 
   below-s : (a : ℕ) → suc a ≡ i → rootS (rec a) < i
   below-s a e = let r = roots a in omega arith
@@ -162,32 +162,32 @@ module _ (fs : List Frame) (rec : ℕ → Stmt) (roots : (j : ℕ) → rootS (re
   s-arguments (suc a) zero r = let o = one-of r in PlacedEs.more (placed-expr fs (suc a) lo (o .tree)) (PlacedEs.none (below-e (suc a) (o .last)))
   s-arguments (suc a) (suc b) r = let o = two-of r in PlacedEs.more (placed-expr fs (suc a) lo (o .tree)) (PlacedEs.more (e-after-e (suc a) (suc b) (o .next)) (PlacedEs.none (below-e (suc b) (o .last))))
 
-  s-kind : (k : Kind) → Row fs lo i (childrenAs k f) → PlacedS lo (statementOf (λ j. expressionAt fs j) rec i f k)
-  s-kind Header r = PlacedS.nothing (row-le r)
-  s-kind Shared r = PlacedS.nothing (row-le r)
-  s-kind Module r = PlacedS.nothing (row-le r)
-  s-kind Unknown r = PlacedS.nothing (row-le r)
-  s-kind (Expression k) r = PlacedS.nothing (row-le r)
-  s-kind (Statement Nothing) r = PlacedS.nothing (row-le r)
-  s-kind (Statement Then) r = s-two (f .a) (f .b) (λ p q l. PlacedS.seq p q l) (two-of r)
-  s-kind (Statement DoAt) r = s-one (f .a) (λ p l. PlacedS.do-at p l) (one-of r)
-  s-kind (Statement Start) r = PlacedS.start (s-arguments (f .a) (f .b) r)
-  s-kind (Statement StartWait) r = PlacedS.start-wait (s-arguments (f .a) (f .b) r)
-  s-kind (Statement Cooperate) r = PlacedS.cooperate (row-le r)
-  s-kind (Statement Let) r = s-with (f .a) (f .b) (λ p q l. PlacedS.letIn p q l) (two-of r)
-  s-kind (Statement Store) r = s-store (f .a) (f .b) (two-of r)
-  s-kind (Statement If) r = s-ifElse (f .a) (f .b) (f .c) (three-of r)
-  s-kind (Statement While) r = s-with (f .a) (f .b) (λ p q l. PlacedS.while p q l) (two-of r)
+  placed-s-of : (k : Kind) → Row fs lo i (childrenAs k f) → PlacedS lo (statementOf (λ j. expressionAt fs j) rec i f k)
+  placed-s-of Header r = PlacedS.nothing (row-le r)
+  placed-s-of Shared r = PlacedS.nothing (row-le r)
+  placed-s-of Module r = PlacedS.nothing (row-le r)
+  placed-s-of Unknown r = PlacedS.nothing (row-le r)
+  placed-s-of (Expression k) r = PlacedS.nothing (row-le r)
+  placed-s-of (Statement Nothing) r = PlacedS.nothing (row-le r)
+  placed-s-of (Statement Then) r = s-two (f .a) (f .b) (λ p q l. PlacedS.seq p q l) (two-of r)
+  placed-s-of (Statement DoAt) r = s-one (f .a) (λ p l. PlacedS.do-at p l) (one-of r)
+  placed-s-of (Statement Start) r = PlacedS.start (s-arguments (f .a) (f .b) r)
+  placed-s-of (Statement StartWait) r = PlacedS.start-wait (s-arguments (f .a) (f .b) r)
+  placed-s-of (Statement Cooperate) r = PlacedS.cooperate (row-le r)
+  placed-s-of (Statement Let) r = s-with (f .a) (f .b) (λ p q l. PlacedS.letIn p q l) (two-of r)
+  placed-s-of (Statement Store) r = s-store (f .a) (f .b) (two-of r)
+  placed-s-of (Statement If) r = s-ifElse (f .a) (f .b) (f .c) (three-of r)
+  placed-s-of (Statement While) r = s-with (f .a) (f .b) (λ p q l. PlacedS.while p q l) (two-of r)
 
-placed-s : (n : ℕ) (fs : List Frame) (i lo : ℕ) → i < n → Tree fs lo i → PlacedS lo (statementTo n fs i)
+placed-s-to : (n : ℕ) (fs : List Frame) (i lo : ℕ) → i < n → Tree fs lo i → PlacedS lo (statementTo n fs i)
 unfolding statementTo
-placed-s zero fs i lo l t = absurd (omega arith)
-placed-s (suc n) fs i lo l t = s-kind fs (λ j. statementTo n fs j) (root-s n fs) (frameAt fs i) lo i (λ j lo' k u. placed-s n fs j lo' (omega arith) u) (frameAt fs i .kind) (row-as t)
+placed-s-to zero fs i lo l t = absurd (omega arith)
+placed-s-to (suc n) fs i lo l t = placed-s-of fs (λ j. statementTo n fs j) (root-s-to n fs) (frameAt fs i) lo i (λ j lo' k u. placed-s-to n fs j lo' (omega arith) u) (frameAt fs i .kind) (row-as t)
 
 pub placed-stmt : (fs : List Frame) (i lo : ℕ) → Tree fs lo i → PlacedS lo (statementAt fs i)
 unfolding statementAt
-placed-stmt fs i lo t = placed-s (suc i) fs i lo (omega arith) t
+placed-stmt fs i lo t = placed-s-to (suc i) fs i lo (omega arith) t
 
 pub root-stmt : (fs : List Frame) (i : ℕ) → rootS (statementAt fs i) ≡ i
 unfolding statementAt
-root-stmt fs i = root-s (suc i) fs i
+root-stmt fs i = root-s-to (suc i) fs i

@@ -1,4 +1,4 @@
--- The pass that looks for a frame that is no tree's root. Assumes nothing.
+-- Refusal 6, 'order, a child of the wrong class': `firstDisorder` gives the lowest frame that is no tree's root. Assumes nothing.
 use mathlib.Core.Bool.{Bool, true, false, _&&_, true≢false}
 use mathlib.Core.List.{List, [], _∷_, reverse, reverseAux, reverse-reverse}
 use mathlib.Core.Option.{Option, none, some}
@@ -18,6 +18,7 @@ use Rattle.layout.specs.Order.{Tree, Row}
 use Rattle.layout.specs.Scans.{Passed, passed, sameClass, rowFirst, firstDisorder}
 use Rattle.layout.proofs.Trees.{row-le, row-one, HasTree, From, from-next, from-start}
 
+-- ---- classes
 same-true : (a b : Class) → sameClass a b ≡ true → a ≡ b
 same-true Class.Statement Class.Statement h = refl
 same-true Class.Statement Class.Expression h = absurd (true≢false (sym h))
@@ -34,8 +35,24 @@ same-refl Class.Statement = refl
 same-refl Class.Expression = refl
 same-refl Class.Neither = refl
 
-abbrev nobody : Passed
+-- ---- the frames passed
+abbrev pub nobody : Passed
 nobody = passed Class.Neither 0
+
+-- they stand from the last to the first, so that frame c of i is at i - suc c: what holds of the last, p, and of those before it holds of each
+pub at-passed : (P : ℕ → Passed → Type 0) (i c : ℕ) (p : Passed) (ps : List Passed) → P i p → (c < i → P c (getD ps (i - suc c) nobody)) → c < suc i → P c (getD (p ∷ ps) (suc i - suc c) nobody)
+at-passed P i c p ps last before l = go (eqb c i) refl
+  where
+    go : (b : Bool) → eqb c i ≡ b → P c (getD (p ∷ ps) (suc i - suc c) nobody)
+    go true e =
+        let q : c ≡ i = eqb-true c i e in
+        let z : suc i - suc c ≡ 0 = omega arith in
+        rw (z, q) last
+    go false e =
+        let q : c ≡ i → ⊥ = eqb-false c i e in
+        let k : c < i = omega arith in
+        let z : suc i - suc c ≡ suc (i - suc c) = omega arith in
+        rw z (before k)
 
 -- ps tells of the i frames passed, each the root of a tree
 data Passing (fs : List Frame) : ℕ → List Passed → Type 0 where
@@ -48,19 +65,9 @@ record Known (fs : List Frame) (c : ℕ) (p : Passed) : Type 0 where
 
 known : {fs : List Frame} {i : ℕ} {ps : List Passed} → Passing fs i ps → (c : ℕ) → c < i → Known fs c (getD ps (i - suc c) nobody)
 known Passing.start c l = absurd (omega arith)
-known {fs} (Passing.more {i = i} {lo = lo} {ps = ps} h t) c l = go (eqb c i) refl (λ k. known h c k)
-  where
-    go : (b : Bool) → eqb c i ≡ b → (c < i → Known fs c (getD ps (i - suc c) nobody)) → Known fs c (getD (passed (classOf (frameAt fs i .kind)) lo ∷ ps) (suc i - suc c) nobody)
-    go true e r =
-        let q : c ≡ i = eqb-true c i e in
-        let z : suc i - suc c ≡ 0 = omega arith in
-        rw (z, q) (record { class = refl; tree = t })
-    go false e r =
-        let q : c ≡ i → ⊥ = eqb-false c i e in
-        let k : c < i = omega arith in
-        let z : suc i - suc c ≡ suc (i - suc c) = omega arith in
-        rw z (r k)
+known {fs} (Passing.more {i = i} {lo = lo} {ps = ps} h t) c l = at-passed (Known fs) i c _ ps (record { class = refl; tree = t }) (λ k. known h c k) l
 
+-- ---- one row
 -- what is found of a row of children that ends just before frame i
 data RowFound (fs : List Frame) (i : ℕ) (cs : List Child) : Option ℕ → Type 0 where
   yes : {lo : ℕ} → Row fs lo i cs → RowFound fs i cs (some lo)
@@ -78,6 +85,7 @@ rest : {fs : List Frame} {i lo : ℕ} (rc cs : List Child) → Row fs lo i (reve
 rest [] cs r = record { from = _; row = r }
 rest (c ∷ rc) cs r = row-tail (rest rc (c ∷ cs) r .row)
 
+-- a child that fails the test cannot stand in front of the row: that row begins at one frame only
 refuted : {fs : List Frame} {i stop lo : ℕ} {c : Child} {done : List Child} (p : Passed) → (c .at < i → Known fs (c .at) p) → Row fs stop i done → (eqb (suc (c .at)) stop && sameClass (p .class) (c .class)) ≡ false → Row fs lo i (c ∷ done) → ⊥
 refuted {i = i} {stop = stop} {c = c} p k r f (Row.more t e s) =
     let a : suc (c .at) ≡ stop = row-one s r in
@@ -90,6 +98,7 @@ refuted {i = i} {stop = stop} {c = c} p k r f (Row.more t e s) =
 restart : {fs : List Frame} {i s t : ℕ} {cs : List Child} → s ≡ t → Row fs s i cs → Row fs t i cs
 restart e r = rw e at r
 
+-- `rc` are the children still to come, from the last to the first; `done` is their row so far, from `stop` on
 row-found : {fs : List Frame} {i : ℕ} {ps : List Passed} → Passing fs i ps → (rc done : List Child) (stop : ℕ) → Row fs stop i done → RowFound fs i (reverseAux rc done) (rowFirst ps i stop rc)
 unfolding rowFirst
 row-found h [] done stop r = RowFound.yes r
@@ -104,24 +113,26 @@ row-found {fs} {i} {ps} h (c ∷ rc) done stop r = go (eqb (suc (c .at)) stop &&
         g _ (Row.more (k .tree) (sym (k .class) ∙ same-true _ _ (a .1)) (restart (sym q) r))
     go false e g = RowFound.no (λ lo x. refuted (getD ps (i - suc (c .at)) nobody) (λ l. known h (c .at) l) r e (rest rc (c ∷ done) x .row))
 
+-- all children of a frame
+found-row : {fs : List Frame} {i : ℕ} {ps : List Passed} → Passing fs i ps → (cs : List Child) → RowFound fs i cs (rowFirst ps i i (reverse cs))
+found-row {fs} {i} {ps} h cs = let r : RowFound fs i (reverse (reverse cs)) (rowFirst ps i i (reverse cs)) = row-found h (reverse cs) [] i Row.none in rw (reverse-reverse cs) at r
+
+-- ---- the pass: what it finds from frame i on
 data Disorder (fs : List Frame) (i : ℕ) : Option ℕ → Type 0 where
   fine : ((j : ℕ) → i ≤ j → j < length fs → HasTree fs j) → Disorder fs i none
   stop : {j : ℕ} → i ≤ j → j < length fs → (HasTree fs j → ⊥) → ((k : ℕ) → i ≤ k → k < j → HasTree fs k) → Disorder fs i (some j)
 
-found-row : {fs : List Frame} {i : ℕ} {ps : List Passed} → Passing fs i ps → (cs : List Child) → RowFound fs i cs (rowFirst ps i i (reverse cs))
-found-row {fs} {i} {ps} h cs = let r : RowFound fs i (reverse (reverse cs)) (rowFirst ps i i (reverse cs)) = row-found h (reverse cs) [] i Row.none in rw (reverse-reverse cs) at r
+-- where frame i has a tree, a frame from i on has one if those behind i have
+tree-from : {fs : List Frame} {i : ℕ} → HasTree fs i → (k : ℕ) → i ≤ k → (suc i ≤ k → HasTree fs k) → HasTree fs k
+tree-from {fs} {i} t k l g = go (eqb k i) refl
+  where
+    go : (b : Bool) → eqb k i ≡ b → HasTree fs k
+    go true e = (let z : k ≡ i = eqb-true k i e in rw z t)
+    go false e = (let z : k ≡ i → ⊥ = eqb-false k i e in g (omega arith))
 
-d-more : {fs : List Frame} {i : ℕ} {o : Option ℕ} → HasTree fs i → Disorder fs (suc i) o → Disorder fs i o
-d-more {fs} {i} t (Disorder.fine h) = Disorder.fine (λ j l k. go j (eqb j i) refl l k)
-  where
-    go : (j : ℕ) (b : Bool) → eqb j i ≡ b → i ≤ j → j < length fs → HasTree fs j
-    go j true e l k = (let z : j ≡ i = eqb-true j i e in rw z t)
-    go j false e l k = (let z : j ≡ i → ⊥ = eqb-false j i e in h j (omega arith) k)
-d-more {fs} {i} t (Disorder.stop {j = m} a b c d) = Disorder.stop {j = m} (omega arith) b c (λ k l n. go k (eqb k i) refl l n)
-  where
-    go : (k : ℕ) (b : Bool) → eqb k i ≡ b → i ≤ k → k < m → HasTree fs k
-    go k true e l n = (let z : k ≡ i = eqb-true k i e in rw z t)
-    go k false e l n = (let z : k ≡ i → ⊥ = eqb-false k i e in d k (omega arith) n)
+disorder-more : {fs : List Frame} {i : ℕ} {o : Option ℕ} → HasTree fs i → Disorder fs (suc i) o → Disorder fs i o
+disorder-more t (Disorder.fine h) = Disorder.fine (λ j l k. tree-from t j l (λ m. h j m k))
+disorder-more t (Disorder.stop {j = j} a b c d) = Disorder.stop {j = j} (omega arith) b c (λ k l n. tree-from t k l (λ m. d k m n))
 
 disorder : {fs : List Frame} (tail : List Frame) (i : ℕ) (ps : List Passed) → From fs i tail → Passing fs i ps → Disorder fs i (firstDisorder ps i tail)
 unfolding firstDisorder
@@ -138,9 +149,9 @@ disorder {fs} (f ∷ tail) i ps w h =
       where
         of-tree : {lo : ℕ} → Tree fs lo i → Row fs lo i (children (frameAt fs i))
         of-tree (Tree.root r) = r
-    go (some lo) (RowFound.yes r) g = d-more (record { from = lo; tree = Tree.root r }) (g lo (Tree.root r))
+    go (some lo) (RowFound.yes r) g = disorder-more (record { from = lo; tree = Tree.root r }) (g lo (Tree.root r))
 
--- no tree ends at j
+-- ---- the lowest frame at which no tree ends
 abbrev pub NoTree : List Frame → ℕ → Type 0
 NoTree fs j = (j < length fs) × ((lo : ℕ) → Tree fs lo j → ⊥)
 

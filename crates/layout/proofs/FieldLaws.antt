@@ -1,4 +1,4 @@
--- How the code tests the header, places, types and contents. Assumes nothing.
+-- How the code tests the header and the values of fields: places, types, first contents; and how it gives a shared cell's type. Assumes nothing.
 use mathlib.Core.Path.{_≡_, refl, sym, ap, ap₂, _∙_}
 use mathlib.Core.Bool.{Bool, true, false, not, _&&_, _||_, true≢false}
 use mathlib.Core.List.{List}
@@ -75,9 +75,9 @@ few-schedulers fs x e h = if-all (λ (o : Option ℕ). found o ≡ Nowhere → s
 pub schedulers-are : (ws : List ℕ) (f : Frame) → f ≡ frameAt (framesOf ws) 0 → schedulersOf (framesOf ws) ≤ 8 → f .b % 256 ≡ schedulersOf (framesOf ws)
 schedulers-are ws f e l = let q : f .b ≡ schedulersOf (framesOf ws) = ap (λ (g : Frame). g .b) e in omega arith
 
--- ---- places
-has-off : (low b v : ℕ) → b ≤ 8 → 9 < v → (leb low v && leb v (1 + b)) ≡ false
-has-off low b v l h = (let e : leb v (1 + b) ≡ false = lt-leb v (1 + b) (omega arith) in rw e (and-off (leb low v)))
+-- ---- places: from `low` on, which is 1 for a place and 2 for a scheduler, to the last of the file
+over-last : (low b v : ℕ) → b ≤ 8 → 9 < v → (leb low v && leb v (1 + b)) ≡ false
+over-last low b v l h = (let e : leb v (1 + b) ≡ false = lt-leb v (1 + b) (omega arith) in rw e (and-off (leb low v)))
 
 read-none : (t : Bool) (n : ℕ) → placeRead t n ≡ NoPlace → t ≡ false
 unfolding placeRead if_then_else_
@@ -94,31 +94,31 @@ no-place : (low b v : ℕ) → b ≤ 8 → (leb low v && leb v 9) ≡ false → 
 no-place low b v l h = go (leb v 9) refl
   where
     go : (t : Bool) → leb v 9 ≡ t → false ≡ (leb low v && leb v (1 + b))
-    go false e = sym (has-off low b v l (leb-false v 9 e))
+    go false e = sym (over-last low b v l (leb-false v 9 e))
     go true e = (let z : leb low v ≡ false = sym (and-yes (leb low v)) ∙ ap (λ (u : Bool). leb low v && u) (sym e) ∙ h in rw z)
       where
         and-yes : (a : Bool) → (a && true) ≡ a
         and-yes true = refl
         and-yes false = refl
 
-module _ (ws : List ℕ) (v b : ℕ) (few : schedulersOf (framesOf ws) ≤ 8) where
+module _ (ws : List ℕ) (v : ℕ) (few : schedulersOf (framesOf ws) ≤ 8) where
   pub place-over : 255 < v → false ≡ hasPlace (schedulersOf (framesOf ws)) v
-  place-over h = sym (has-off 1 (schedulersOf (framesOf ws)) v few (omega arith))
+  place-over h = sym (over-last 1 (schedulersOf (framesOf ws)) v few (omega arith))
 
   pub place-none : (x : PlaceRead) → x ≡ NoPlace → x ≡ placeRead (isPlace v) v → false ≡ hasPlace (schedulersOf (framesOf ws)) v
   place-none x e h = no-place 1 (schedulersOf (framesOf ws)) v few (read-none _ v (sym h ∙ e))
 
-  pub place-there : (x : PlaceRead) (p : Place) (r : Bool) → b ≡ schedulersOf (framesOf ws) → x ≡ PlaceAt p → x ≡ placeRead (isPlace v) v → r ≡ hasPlace b (p .number) → r ≡ hasPlace (schedulersOf (framesOf ws)) v
-  place-there x p r q e h g = g ∙ ap₂ hasPlace q (read-at _ v p (sym h ∙ e))
+  pub place-there : (b : ℕ) (x : PlaceRead) (p : Place) (r : Bool) → b ≡ schedulersOf (framesOf ws) → x ≡ PlaceAt p → x ≡ placeRead (isPlace v) v → r ≡ hasPlace b (p .number) → r ≡ hasPlace (schedulersOf (framesOf ws)) v
+  place-there b x p r q e h g = g ∙ ap₂ hasPlace q (read-at _ v p (sym h ∙ e))
 
   pub scheduler-over : 255 < v → false ≡ hasScheduler (schedulersOf (framesOf ws)) v
-  scheduler-over h = sym (has-off 2 (schedulersOf (framesOf ws)) v few (omega arith))
+  scheduler-over h = sym (over-last 2 (schedulersOf (framesOf ws)) v few (omega arith))
 
   pub scheduler-none : (x : PlaceRead) → x ≡ NoPlace → x ≡ placeRead (isScheduler v) v → false ≡ hasScheduler (schedulersOf (framesOf ws)) v
   scheduler-none x e h = no-place 2 (schedulersOf (framesOf ws)) v few (read-none _ v (sym h ∙ e))
 
-  pub scheduler-there : (x : PlaceRead) (p : Place) (r : Bool) → b ≡ schedulersOf (framesOf ws) → x ≡ PlaceAt p → x ≡ placeRead (isScheduler v) v → r ≡ hasScheduler b (p .number) → r ≡ hasScheduler (schedulersOf (framesOf ws)) v
-  scheduler-there x p r q e h g = g ∙ ap₂ hasScheduler q (read-at _ v p (sym h ∙ e))
+  pub scheduler-there : (b : ℕ) (x : PlaceRead) (p : Place) (r : Bool) → b ≡ schedulersOf (framesOf ws) → x ≡ PlaceAt p → x ≡ placeRead (isScheduler v) v → r ≡ hasScheduler b (p .number) → r ≡ hasScheduler (schedulersOf (framesOf ws)) v
+  scheduler-there b x p r q e h g = g ∙ ap₂ hasScheduler q (read-at _ v p (sym h ∙ e))
 
 pub ruleset place-laws = (place-over, place-none, place-there)
 
@@ -161,7 +161,7 @@ module _ (t : Tally) (k v : ℕ) (x : Bool) (h : x ≡ isCell k) where
 
 pub ruleset content-laws = (content-past, content-cell, content-number, content-truth)
 
--- ---- the type of a shared cell
+-- ---- the type of a shared cell: its owner is a scheduler and there is room around its content, so the code's arms that answer 0 are never met
 scheduler-place : (s : ℕ) → isScheduler s ≡ true → isPlace s ≡ true
 scheduler-place s h = let p = and-true _ _ h in let a : 2 ≤ s = leb-true _ _ (p .0) in let q : leb 1 s ≡ true = le-leb 1 s (omega arith) in rw (q, p .1)
 

@@ -1,24 +1,20 @@
 -- How the code reads frames and the children that their fields name. Assumes nothing.
 use mathlib.Core.Path.{_≡_, refl, sym, ap, ap₂, _∙_}
 use mathlib.Core.List.{List, [], _∷_, _++_, reverse}
-use mathlib.Core.Option.{Option, none, some}
-use Prim.Native.Nat.{ℕ, zero, suc, _≤_, _<_}
+use Prim.Native.Nat.{ℕ, zero, suc, _+_, _≤_, _<_}
 use native.Mathlib.Omega.{arith}
-use lib.ListN.{length, getD, length-map}
-use borrow.Author.Tests.{le-leb, lt-leb}
-use Rattle.basics.specs.Searches.{earlier}
-use Rattle.basics.proofs.Ifs.{yes, no}
-use Rattle.language.specs.Kinds.{Child, child, childIn}
+use lib.ListN.{length, getD, take, drop, length-map, drop-of-length-le}
+use lib.Seq.{take-suc, drop-cons}
+use Rattle.language.specs.Kinds.{uses, Child, child, childIn, children}
 use Rattle.language.specs.declared.kind.Class.{Class}
 use Rattle.language.specs.declared.kind.Use.{Use}
+use Rattle.language.specs.declared.kind.Uses.{Uses}
 use Rattle.language.specs.declared.frame.Frame.{Frame}
-use Rattle.program.specs.Trees.{frameAt}
+use Rattle.program.specs.Trees.{noFrame, frameAt}
 use Rattle.text.specs.Frames.{frameOfWord, framesOf}
-use Rattle.layout.specs.declared.found.Found.{Found}
-use Rattle.layout.specs.declared.found.Found.the-variants.{At, Nowhere}
 use Rattle.layout.specs.declared.frames.ChildRead.{ChildRead}
 use Rattle.layout.specs.declared.frames.ChildRead.the-variants.{ChildAt, NoChild}
-use Rattle.layout.specs.Passes.{found, optionOf, childRead}
+use Rattle.layout.specs.Passes.{childRead}
 
 -- ---- frames
 pub frames-length : (ws : List ℕ) → length (framesOf ws) ≡ length ws
@@ -32,40 +28,24 @@ frame-is (w ∷ ws) (suc i) l = frame-is ws i (omega arith)
 pub frame-read : (ws : List ℕ) (i : ℕ) (f : Frame) → f ≡ frameOfWord (getD ws i 0) → i < length ws → f ≡ frameAt (framesOf ws) i
 frame-read ws i f e l = e ∙ sym (frame-is ws i l)
 
--- ---- the lower of two finds
-found-back : (b : Found) → b ≡ found (optionOf b)
-found-back Nowhere = refl
-found-back (At j) = refl
+-- the frames from i on, and up to i
+pub frames-next : (ws : List ℕ) (i : ℕ) → i < length ws → drop i (framesOf ws) ≡ frameAt (framesOf ws) i ∷ drop (suc i) (framesOf ws)
+frames-next ws i l = drop-cons (framesOf ws) i noFrame (let z = frames-length ws in omega arith)
 
-module _ (a b : Found) where
-  pub lower-none : a ≡ Nowhere → b ≡ found (earlier (optionOf a) (optionOf b))
-  unfolding earlier
-  lower-none e = found-back b ∙ ap (λ (x : Found). found (earlier (optionOf x) (optionOf b))) (sym e)
+pub frames-end : (ws : List ℕ) (i : ℕ) → length ws ≤ i → drop i (framesOf ws) ≡ []
+frames-end ws i l = drop-of-length-le (framesOf ws) {i = i} (let z = frames-length ws in omega arith)
 
-  pub lower-only : (i : ℕ) → a ≡ At i → b ≡ Nowhere → At i ≡ found (earlier (optionOf a) (optionOf b))
-  unfolding earlier
-  lower-only i e f = ap₂ (λ (x y : Found). found (earlier (optionOf x) (optionOf y))) (sym e) (sym f)
-
-  pub lower-first : (i j : ℕ) → a ≡ At i → b ≡ At j → i ≤ j → At i ≡ found (earlier (optionOf a) (optionOf b))
-  unfolding earlier
-  lower-first i j e f l = ap At (yes j (le-leb i j l) refl) ∙ ap₂ (λ (x y : Found). found (earlier (optionOf x) (optionOf y))) (sym e) (sym f)
-
-  pub lower-second : (i j : ℕ) → a ≡ At i → b ≡ At j → j < i → At j ≡ found (earlier (optionOf a) (optionOf b))
-  unfolding earlier
-  lower-second i j e f l = ap At (no i (lt-leb i j l) refl) ∙ ap₂ (λ (x y : Found). found (earlier (optionOf x) (optionOf y))) (sym e) (sym f)
-
-pub ruleset lower-laws = (lower-none, lower-only, lower-first, lower-second)
+pub frames-more : (ws : List ℕ) (i : ℕ) (f : Frame) → f ≡ frameAt (framesOf ws) i → i < length ws → take i (framesOf ws) ++ (f ∷ []) ≡ take (i + 1) (framesOf ws)
+frames-more ws i f e l =
+    let s : i + 1 ≡ suc i = omega arith in
+    ap (λ (g : Frame). take i (framesOf ws) ++ (g ∷ [])) e ∙ sym (take-suc (framesOf ws) i noFrame (let z = frames-length ws in omega arith)) ∙ ap (λ (n : ℕ). take n (framesOf ws)) (sym s)
 
 -- ---- the child that a field names
-pub argument-none : (v : ℕ) → v ≡ 0 → NoChild ≡ childRead (childIn Use.Argument v)
-argument-none v e = rw e
-
 pub argument-some : (v : ℕ) → (v ≡ 0 → ⊥) → ChildAt Class.Expression v ≡ childRead (childIn Use.Argument v)
 argument-some zero n = absurd (n refl)
 argument-some (suc v) n = refl
 
-pub ruleset argument-laws = (argument-none, argument-some)
-
+-- each arm of the match on a use
 pub child-row : (u k : Use) (v : ℕ) (r : ChildRead) → u ≡ k → r ≡ childRead (childIn k v) → r ≡ childRead (childIn u v)
 child-row u k v r e h = h ∙ ap (λ (w : Use). childRead (childIn w v)) (sym e)
 
@@ -117,17 +97,24 @@ module _ (u : Use) (v : ℕ) (x : ChildRead) (h : x ≡ childRead (childIn u v))
   pub child-is : (k : Class) (n : ℕ) → x ≡ ChildAt k n → childIn u v ≡ child k n ∷ []
   child-is k n e = by-one k n (few u v) (sym h ∙ e)
 
--- so turning the children round turns the fields round
-pub turned : {xs ys zs : List Child} → Few xs → Few ys → Few zs → reverse (xs ++ ys ++ zs) ≡ zs ++ (ys ++ xs)
-turned Few.no-child Few.no-child Few.no-child = refl
-turned Few.no-child Few.no-child Few.one-child = refl
-turned Few.no-child Few.one-child Few.no-child = refl
-turned Few.no-child Few.one-child Few.one-child = refl
-turned Few.one-child Few.no-child Few.no-child = refl
-turned Few.one-child Few.no-child Few.one-child = refl
-turned Few.one-child Few.one-child Few.no-child = refl
-turned Few.one-child Few.one-child Few.one-child = refl
+-- ---- the children of a frame, field by field
+-- from the last to the first they are those that C, B and A name, since no field names two
+pub reversed : {xs ys zs : List Child} → Few xs → Few ys → Few zs → reverse (xs ++ ys ++ zs) ≡ zs ++ (ys ++ xs)
+reversed Few.no-child Few.no-child Few.no-child = refl
+reversed Few.no-child Few.no-child Few.one-child = refl
+reversed Few.no-child Few.one-child Few.no-child = refl
+reversed Few.no-child Few.one-child Few.one-child = refl
+reversed Few.one-child Few.no-child Few.no-child = refl
+reversed Few.one-child Few.no-child Few.one-child = refl
+reversed Few.one-child Few.one-child Few.no-child = refl
+reversed Few.one-child Few.one-child Few.one-child = refl
 
-pub option-found : (o : Option ℕ) → optionOf (found o) ≡ o
-option-found none = refl
-option-found (some j) = refl
+-- a walk through the children of a frame goes through those that A, B and C name, one field after another
+module _ {S : Type 0} (walk : S → List Child → S) (append : (xs ys : List Child) (u : S) → walk u (xs ++ ys) ≡ walk (walk u xs) ys) where
+  pub by-fields : (u t r s : S) (us : Uses) (f : Frame) → us ≡ uses (f .kind) → t ≡ walk u (childIn (us .a) (f .a)) → r ≡ walk t (childIn (us .b) (f .b)) → s ≡ walk r (childIn (us .c) (f .c)) → s ≡ walk u (children f)
+  unfolding children
+  by-fields u t r s us f e a b c =
+      c ∙ ap (λ (x : S). walk x (childIn (us .c) (f .c))) (b ∙ ap (λ (x : S). walk x (childIn (us .b) (f .b))) a)
+      ∙ sym (ap (λ (x : S). walk x (childIn (us .c) (f .c))) (append (childIn (us .a) (f .a)) (childIn (us .b) (f .b)) u))
+      ∙ sym (append (childIn (us .a) (f .a) ++ childIn (us .b) (f .b)) (childIn (us .c) (f .c)) u)
+      ∙ ap (λ (w : Uses). walk u (childIn (w .a) (f .a) ++ childIn (w .b) (f .b) ++ childIn (w .c) (f .c))) e

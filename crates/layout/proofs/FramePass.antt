@@ -1,12 +1,11 @@
--- The pass over the kinds and fields of the frames, with a running tally. Assumes nothing.
+-- The code's pass of refusal 5 over the kinds and fields of the frames, with a running tally. Assumes nothing.
 use mathlib.Core.Path.{_≡_, refl, sym, ap, _∙_}
 use mathlib.Core.Bool.{Bool, true, false, not, _&&_}
 use mathlib.Core.List.{List, [], _∷_, _++_}
-use Prim.Native.Nat.{ℕ, suc, _+_, _≤_, _<_}
+use Prim.Native.Nat.{ℕ, _+_, _≤_, _<_}
 use native.Mathlib.Omega.{arith}
 use lib.Dec.{ltb, leb}
 use lib.ListN.{length, take, set, replicate}
-use lib.Seq.{take-suc}
 use borrow.Author.Tests.{ltb-true, ltb-false, le-leb, leb-true, not-true, not-false}
 use Rattle.basics.proofs.Ifs.{and-true}
 use Rattle.language.proofs.Words.{depth-3}
@@ -18,7 +17,7 @@ use Rattle.language.specs.declared.kind.Kind.the-variants.{Shared, Module}
 use Rattle.language.specs.declared.kind.Use.{Use}
 use Rattle.language.specs.declared.kind.Uses.{Uses}
 use Rattle.language.specs.declared.frame.Frame.{Frame}
-use Rattle.program.specs.Trees.{noFrame, frameAt}
+use Rattle.program.specs.Trees.{frameAt}
 use Rattle.program.specs.Programs.{sharedOf}
 use Rattle.text.specs.Frames.{framesOf}
 use Rattle.layout.specs.declared.found.Found.the-variants.{At, Nowhere}
@@ -26,13 +25,9 @@ use Rattle.layout.specs.declared.fields.Tally.{Tally}
 use Rattle.layout.specs.Fields.{isShared, isModule, schedulersOf, firstContentFine, fieldFine, countOf, kindFine, frameFine}
 use Rattle.layout.specs.Scans.{fieldFault}
 use Rattle.layout.specs.Passes.{found, tallyOf}
-use Rattle.layout.proofs.FrameLaws.{frames-length}
+use Rattle.layout.proofs.FrameLaws.{frames-more}
 use Rattle.layout.proofs.Seeking.{Seeking, seek-here, seek-next, seek-end}
-use Rattle.layout.proofs.Tallies.{tally, is-shared, tally-cells, tally-modules, types-taken, types-length, counted-one, counted-none, tally-other, tally-module, tally-cell}
-
--- ---- the tally's array
-pub types-sixteen : (ws : List ℕ) (i : ℕ) (t : Tally) → t ≡ tallyOf (take i (framesOf ws)) → t .cells ≤ 16 → length (t .types) ≡ 16
-types-sixteen ws i t h l = types-length (take i (framesOf ws)) t h l
+use Rattle.layout.proofs.Tallies.{tally, is-shared, tally-cells, tally-modules, types-taken, counted-one, counted-none, tally-other, tally-module, tally-cell}
 
 -- ---- a field, by its use
 module _ (fs : List Frame) (i : ℕ) (f : Frame) (u : Use) (v : ℕ) (r : Bool) where
@@ -60,25 +55,27 @@ module _ (fs : List Frame) (i : ℕ) (f : Frame) (e : f ≡ frameAt fs i) where
 
 pub ruleset kind-laws = (kind-row, kind-shared, kind-module)
 
--- ---- a frame
-module _ (fs : List Frame) (i : ℕ) (f : Frame) (us : Uses) where
-  frame-is : f ≡ frameAt fs i → us ≡ uses (f .kind) → (kindFine fs i (frameAt fs i .kind) && fieldFine fs i f (us .s) (f .s) && fieldFine fs i f (us .a) (f .a) && fieldFine fs i f (us .b) (f .b) && fieldFine fs i f (us .c) (f .c)) ≡ frameFine fs i (frameAt fs i)
+-- ---- a frame: the code tests the kind, then S, A, B and C, and stops at the first that is wrong
+module _ (fs : List Frame) (i : ℕ) (f : Frame) (us : Uses) (e : f ≡ frameAt fs i) (u : us ≡ uses (f .kind)) (k : Bool) (hk : k ≡ kindFine fs i (frameAt fs i .kind)) (nk : not k ≡ false) (s : Bool) (hs : s ≡ fieldFine fs i f (us .s) (f .s)) where
+  frame-is : (kindFine fs i (frameAt fs i .kind) && fieldFine fs i f (us .s) (f .s) && fieldFine fs i f (us .a) (f .a) && fieldFine fs i f (us .b) (f .b) && fieldFine fs i f (us .c) (f .c)) ≡ frameFine fs i (frameAt fs i)
   unfolding frameFine
-  frame-is e u =
+  frame-is =
       ap (λ (w : Uses). kindFine fs i (frameAt fs i .kind) && fieldFine fs i f (w .s) (f .s) && fieldFine fs i f (w .a) (f .a) && fieldFine fs i f (w .b) (f .b) && fieldFine fs i f (w .c) (f .c)) u
       ∙ ap (λ (g : Frame). kindFine fs i (frameAt fs i .kind) && fieldFine fs i g (uses (g .kind) .s) (g .s) && fieldFine fs i g (uses (g .kind) .a) (g .a) && fieldFine fs i g (uses (g .kind) .b) (g .b) && fieldFine fs i g (uses (g .kind) .c) (g .c)) e
 
-  pub frame-s : (k s : Bool) → f ≡ frameAt fs i → us ≡ uses (f .kind) → k ≡ kindFine fs i (frameAt fs i .kind) → not k ≡ false → s ≡ fieldFine fs i f (us .s) (f .s) → not s ≡ true → false ≡ frameFine fs i (frameAt fs i)
-  frame-s k s e u hk nk hs ns = sym (sym (frame-is e u) ∙ rw (sym hk ∙ not-false k nk, sym hs ∙ not-true s ns))
+  pub frame-s : not s ≡ true → false ≡ frameFine fs i (frameAt fs i)
+  frame-s ns = sym (sym frame-is ∙ rw (sym hk ∙ not-false k nk, sym hs ∙ not-true s ns))
 
-  pub frame-a : (k s a : Bool) → f ≡ frameAt fs i → us ≡ uses (f .kind) → k ≡ kindFine fs i (frameAt fs i .kind) → not k ≡ false → s ≡ fieldFine fs i f (us .s) (f .s) → not s ≡ false → a ≡ fieldFine fs i f (us .a) (f .a) → not a ≡ true → false ≡ frameFine fs i (frameAt fs i)
-  frame-a k s a e u hk nk hs ns ha na = sym (sym (frame-is e u) ∙ rw (sym hk ∙ not-false k nk, sym hs ∙ not-false s ns, sym ha ∙ not-true a na))
+  module _ (ns : not s ≡ false) (a : Bool) (ha : a ≡ fieldFine fs i f (us .a) (f .a)) where
+    pub frame-a : not a ≡ true → false ≡ frameFine fs i (frameAt fs i)
+    frame-a na = sym (sym frame-is ∙ rw (sym hk ∙ not-false k nk, sym hs ∙ not-false s ns, sym ha ∙ not-true a na))
 
-  pub frame-b : (k s a b : Bool) → f ≡ frameAt fs i → us ≡ uses (f .kind) → k ≡ kindFine fs i (frameAt fs i .kind) → not k ≡ false → s ≡ fieldFine fs i f (us .s) (f .s) → not s ≡ false → a ≡ fieldFine fs i f (us .a) (f .a) → not a ≡ false → b ≡ fieldFine fs i f (us .b) (f .b) → not b ≡ true → false ≡ frameFine fs i (frameAt fs i)
-  frame-b k s a b e u hk nk hs ns ha na hb nb = sym (sym (frame-is e u) ∙ rw (sym hk ∙ not-false k nk, sym hs ∙ not-false s ns, sym ha ∙ not-false a na, sym hb ∙ not-true b nb))
+    module _ (na : not a ≡ false) (b : Bool) (hb : b ≡ fieldFine fs i f (us .b) (f .b)) where
+      pub frame-b : not b ≡ true → false ≡ frameFine fs i (frameAt fs i)
+      frame-b nb = sym (sym frame-is ∙ rw (sym hk ∙ not-false k nk, sym hs ∙ not-false s ns, sym ha ∙ not-false a na, sym hb ∙ not-true b nb))
 
-  pub frame-c : (k s a b c : Bool) → f ≡ frameAt fs i → us ≡ uses (f .kind) → k ≡ kindFine fs i (frameAt fs i .kind) → not k ≡ false → s ≡ fieldFine fs i f (us .s) (f .s) → not s ≡ false → a ≡ fieldFine fs i f (us .a) (f .a) → not a ≡ false → b ≡ fieldFine fs i f (us .b) (f .b) → not b ≡ false → c ≡ fieldFine fs i f (us .c) (f .c) → c ≡ frameFine fs i (frameAt fs i)
-  frame-c k s a b c e u hk nk hs ns ha na hb nb hc = hc ∙ sym (sym (frame-is e u) ∙ rw (sym hk ∙ not-false k nk, sym hs ∙ not-false s ns, sym ha ∙ not-false a na, sym hb ∙ not-false b nb))
+      pub frame-c : not b ≡ false → (c : Bool) → c ≡ fieldFine fs i f (us .c) (f .c) → c ≡ frameFine fs i (frameAt fs i)
+      frame-c nb c hc = hc ∙ sym (sym frame-is ∙ rw (sym hk ∙ not-false k nk, sym hs ∙ not-false s ns, sym ha ∙ not-false a na, sym hb ∙ not-false b nb))
 
 pub frame-kind : (fs : List Frame) (i : ℕ) (k : Bool) → k ≡ kindFine fs i (frameAt fs i .kind) → not k ≡ true → false ≡ frameFine fs i (frameAt fs i)
 unfolding frameFine
@@ -86,13 +83,8 @@ frame-kind fs i k hk nk = rw (sym hk ∙ not-true k nk)
 
 pub ruleset frame-laws = (frame-kind, frame-s, frame-a, frame-b, frame-c)
 
--- ---- one frame more
-take-more : (ws : List ℕ) (i : ℕ) (f : Frame) → f ≡ frameAt (framesOf ws) i → i < length ws → take i (framesOf ws) ++ (f ∷ []) ≡ take (i + 1) (framesOf ws)
-take-more ws i f e l =
-    let s : i + 1 ≡ suc i = omega arith in
-    ap (λ (g : Frame). take i (framesOf ws) ++ (g ∷ [])) e ∙ sym (take-suc (framesOf ws) i noFrame (let z = frames-length ws in omega arith)) ∙ ap (λ (n : ℕ). take n (framesOf ws)) (sym s)
-
--- a content type has at most two cells
+-- ---- the tally with one frame more
+-- a content type has at most two cells, so there is room for one around it
 word-depth : (b a : ℕ) → contentWord b a ≡ true → cellDepth a ≤ 2
 unfolding contentWord
 word-depth b a h = leb-true (cellDepth a) 2 (and-true (typeWord b a && public a) (leb (cellDepth a) 2) h .1)
@@ -104,7 +96,7 @@ word-room b a h = go (ltb a 0x1000) refl
     go true e = e
     go false e = absurd (let l : 0x1000 ≤ a = ltb-false a 0x1000 e in let z = depth-3 a (omega arith) (omega arith) l in let d = word-depth b a h in omega arith)
 
--- a frame without fault 5 is right in its kind and in each field
+-- a frame without fault 5 is right in its kind, its S and its A
 pub fine-parts : (fs : List Frame) (i : ℕ) (f : Frame) → frameFine fs i f ≡ true → (kindFine fs i (f .kind) ≡ true) × (fieldFine fs i f (uses (f .kind) .s) (f .s) ≡ true) × (fieldFine fs i f (uses (f .kind) .a) (f .a) ≡ true)
 unfolding frameFine
 fine-parts fs i f h =
@@ -136,55 +128,56 @@ module _ (ws : List ℕ) (i : ℕ) (f : Frame) (t : Tally) (e : f ≡ frameAt (f
   shared-room k = word-room (schedulersOf (framesOf ws)) (f .a) (sym (ap (λ (q : Kind). fieldFine (framesOf ws) i f (uses q .a) (f .a)) k) ∙ fine-parts (framesOf ws) i f fine-f .2)
 
   pub with-other : (k : Kind) → f .kind ≡ k → isShared k ≡ false → isModule k ≡ false → i < length ws → t ≡ tallyOf (take (i + 1) (framesOf ws))
-  with-other k q s m l = tally-other (take i (framesOf ws)) f t h (ap isShared q ∙ s) (ap isModule q ∙ m) ∙ ap tallyOf (take-more ws i f e l)
+  with-other k q s m l = tally-other (take i (framesOf ws)) f t h (ap isShared q ∙ s) (ap isModule q ∙ m) ∙ ap tallyOf (frames-more ws i f e l)
 
   pub with-module : (r : Tally) → f .kind ≡ Module → r ≡ tally (t .cells) (t .modules + 1) (t .types) → i < length ws → r ≡ tallyOf (take (i + 1) (framesOf ws))
-  with-module r q g l = g ∙ tally-module (take i (framesOf ws)) f t h (ap isShared q) (ap isModule q) ∙ ap tallyOf (take-more ws i f e l)
+  with-module r q g l = g ∙ tally-module (take i (framesOf ws)) f t h (ap isShared q) (ap isModule q) ∙ ap tallyOf (frames-more ws i f e l)
 
   pub with-shared : (r : Tally) (w : ℕ) → f .kind ≡ Shared → w ≡ cellType (f .s) (f .a) → r ≡ tally (t .cells + 1) (t .modules) (set (t .types) (t .cells) w) → i < length ws → r ≡ tallyOf (take (i + 1) (framesOf ws))
-  with-shared r w q v g l = g ∙ ap (λ (x : ℕ). tally (t .cells + 1) (t .modules) (set (t .types) (t .cells) x)) v ∙ tally-cell (take i (framesOf ws)) f t h (ap isShared q) (ap isModule q) (cell-room q) ∙ ap tallyOf (take-more ws i f e l)
+  with-shared r w q v g l = g ∙ ap (λ (x : ℕ). tally (t .cells + 1) (t .modules) (set (t .types) (t .cells) x)) v ∙ tally-cell (take i (framesOf ws)) f t h (ap isShared q) (ap isModule q) (cell-room q) ∙ ap tallyOf (frames-more ws i f e l)
 
 pub ruleset counted-laws = (with-module, with-shared, with-other)
 
 -- ---- the loop
-abbrev pub Fields : List Frame → ℕ → Type 0
-Fields fs i = Seeking (λ (j : ℕ) (f : Frame). not (frameFine fs j f)) fs i
+abbrev fieldTest : List Frame → ℕ → Frame → Bool
+fieldTest fs i f = not (frameFine fs i f)
+
+abbrev pub SeekingField : List Frame → ℕ → Type 0
+SeekingField fs i = Seeking (fieldTest fs) fs i
 
 pub tally-start : (fs : List Frame) → tally 0 0 (replicate 16 0) ≡ tallyOf (take 0 fs)
 unfolding tallyOf countOf sharedOf
 tally-start fs = refl
 
-pub fields-start : (fs : List Frame) → Fields fs 0
-fields-start fs = refl
-
 module _ (ws : List ℕ) (i : ℕ) (x : Bool) (e : x ≡ frameFine (framesOf ws) i (frameAt (framesOf ws) i)) where
   pub is-fine : not x ≡ false → frameFine (framesOf ws) i (frameAt (framesOf ws) i) ≡ true
   is-fine n = sym e ∙ not-false x n
 
-  pub fields-here : not x ≡ true → Fields (framesOf ws) i → i < length ws → At i ≡ found (fieldFault (framesOf ws))
+  pub fields-here : not x ≡ true → SeekingField (framesOf ws) i → i < length ws → At i ≡ found (fieldFault (framesOf ws))
   unfolding fieldFault
-  fields-here n g l = seek-here (λ (j : ℕ) (f : Frame). not (frameFine (framesOf ws) j f)) ws i g l (ap not (sym e) ∙ n)
+  fields-here n g l = seek-here (fieldTest (framesOf ws)) ws i g l (ap not (sym e) ∙ n)
 
-  pub fields-next : not x ≡ false → Fields (framesOf ws) i → i < length ws → Fields (framesOf ws) (i + 1)
-  fields-next n g l = seek-next (λ (j : ℕ) (f : Frame). not (frameFine (framesOf ws) j f)) ws i g l (ap not (sym e) ∙ n)
+  pub fields-next : not x ≡ false → SeekingField (framesOf ws) i → i < length ws → SeekingField (framesOf ws) (i + 1)
+  fields-next n g l = seek-next (fieldTest (framesOf ws)) ws i g l (ap not (sym e) ∙ n)
 
+  -- no 17th shared cell is counted
   pub room-next : (t r : Tally) → not x ≡ false → t ≡ tallyOf (take i (framesOf ws)) → r ≡ tallyOf (take (i + 1) (framesOf ws)) → t .cells ≤ 16 → i < length ws → r .cells ≤ 16
   room-next t r n h k m l = go (isShared (frameAt (framesOf ws) i .kind)) refl
     where
-      c-is : r .cells ≡ countOf isShared (take i (framesOf ws) ++ (frameAt (framesOf ws) i ∷ []))
-      c-is = tally-cells (take (i + 1) (framesOf ws)) r k ∙ ap (countOf isShared) (sym (take-more ws i (frameAt (framesOf ws) i) refl l))
+      cells-are : r .cells ≡ countOf isShared (take i (framesOf ws) ++ (frameAt (framesOf ws) i ∷ []))
+      cells-are = tally-cells (take (i + 1) (framesOf ws)) r k ∙ ap (countOf isShared) (sym (frames-more ws i (frameAt (framesOf ws) i) refl l))
 
       go : (b : Bool) → isShared (frameAt (framesOf ws) i .kind) ≡ b → r .cells ≤ 16
       go true s =
-          let a = c-is ∙ counted-one isShared (take i (framesOf ws)) (frameAt (framesOf ws) i) s in
+          let a = cells-are ∙ counted-one isShared (take i (framesOf ws)) (frameAt (framesOf ws) i) s in
           let b = cell-room ws i (frameAt (framesOf ws) i) t refl h (is-fine n) (is-shared _ s) in
           let d = tally-cells (take i (framesOf ws)) t h in
           omega arith
       go false s =
-          let a = c-is ∙ counted-none isShared (take i (framesOf ws)) (frameAt (framesOf ws) i) s in
+          let a = cells-are ∙ counted-none isShared (take i (framesOf ws)) (frameAt (framesOf ws) i) s in
           let d = tally-cells (take i (framesOf ws)) t h in
           omega arith
 
-pub fields-end : (ws : List ℕ) (i : ℕ) → Fields (framesOf ws) i → length ws ≤ i → Nowhere ≡ found (fieldFault (framesOf ws))
+pub fields-end : (ws : List ℕ) (i : ℕ) → SeekingField (framesOf ws) i → length ws ≤ i → Nowhere ≡ found (fieldFault (framesOf ws))
 unfolding fieldFault
-fields-end ws i g l = seek-end (λ (j : ℕ) (f : Frame). not (frameFine (framesOf ws) j f)) ws i g l
+fields-end ws i g l = seek-end (fieldTest (framesOf ws)) ws i g l

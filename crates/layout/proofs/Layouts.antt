@@ -1,4 +1,4 @@
--- The layout: the computed fault is the first, and the only first. Assumes nothing.
+-- Refusals 4 to 7: `layoutOf` gives the first fault, and there is only one first. Assumes nothing.
 use mathlib.Core.Path.{_≡_, refl, sym, ap, _∙_}
 use mathlib.Core.Logic.{_⊎_, inl, inr}
 use mathlib.Core.Bool.{Bool, true, false, not, true≢false}
@@ -21,6 +21,7 @@ use Rattle.layout.proofs.Searches.{Lowest, same-low, lowest-all}
 use Rattle.layout.proofs.Order.{order-low, all-trees}
 use Rattle.layout.proofs.Depths.{depth-low}
 
+-- what a fault 4 is, and a fault 5
 four : {fs : List Frame} {n j : ℕ} → Fault fs n j → n ≡ 4 → (j ≡ 0) × (headerFine (frameAt fs 0) ≡ false)
 four (Fault.header h) e = (refl, h)
 four (Fault.field l h) e = absurd (omega arith)
@@ -39,6 +40,7 @@ five (Fault.leftover a b c) e = absurd (omega arith)
 five (Fault.main a b) e = absurd (omega arith)
 five (Fault.depth d h) e = absurd (omega arith)
 
+-- every number is one of 4 to 7
 numbers : {fs : List Frame} {n j : ℕ} → Fault fs n j → (4 ≤ n) × (n ≤ 7)
 numbers (Fault.header h) = omega arith
 numbers (Fault.field l h) = omega arith
@@ -56,34 +58,38 @@ pub field-low : (fs : List Frame) → Lowest (Fault fs 5) (fieldFault fs)
 unfolding fieldFault
 field-low fs = same-low (λ j h. Fault.field (h .0) (not-true _ (h .1))) (λ j f. (let p = five f refl in (p .0, ap not (p .1)))) (lowest-all noFrame (λ (i : ℕ) (f : Frame). not (frameFine fs i f)) fs)
 
+-- ---- one number after the other
 -- no fault has a number below n
-abbrev From : List Frame → ℕ → Type 0
-From fs n = (m k : ℕ) → Fault fs m k → n ≤ m
+abbrev NoneBelow : List Frame → ℕ → Type 0
+NoneBelow fs n = (m k : ℕ) → Fault fs m k → n ≤ m
 
 renumber : {fs : List Frame} {n m k : ℕ} → m ≡ n → Fault fs m k → Fault fs n k
 renumber e f = rw e at f
 
-l-step : {fs : List Frame} (n : ℕ) (o : Option ℕ) (next : Unit {0} → Verdict) → From fs n → Lowest (Fault fs n) o → (From fs (suc n) → LayoutSays fs (next tt)) → LayoutSays fs (rejectAt n o next)
-l-step {fs} n none next low (Lowest.nowhere h) g = g (λ m k f. go m k f (eqb m n) refl)
+-- the lowest fault n, if there is one, is the first; else no fault has a number up to n
+reject-step : {fs : List Frame} (n : ℕ) (o : Option ℕ) (next : Unit {0} → Verdict) → NoneBelow fs n → Lowest (Fault fs n) o → (NoneBelow fs (suc n) → LayoutSays fs (next tt)) → LayoutSays fs (rejectAt n o next)
+reject-step {fs} n none next low (Lowest.nowhere h) g = g (λ m k f. go m k f (eqb m n) refl)
   where
     go : (m k : ℕ) → Fault fs m k → (b : Bool) → eqb m n ≡ b → suc n ≤ m
     go m k f true e = absurd (h k (renumber (eqb-true m n e) f))
     go m k f false e = (let z : m ≡ n → ⊥ = eqb-false m n e in let l = low m k f in omega arith)
-l-step {fs} n (some j) next low (Lowest.lowest-at f l) g = record { fault = f; least = λ m k x. go m k x (eqb m n) refl }
+reject-step {fs} n (some j) next low (Lowest.lowest-at f l) g = record { fault = f; least = λ m k x. go m k x (eqb m n) refl }
   where
     go : (m k : ℕ) → Fault fs m k → (b : Bool) → eqb m n ≡ b → (n < m) ⊎ ((n ≡ m) × (j ≤ k))
     go m k x true e = (let z : m ≡ n = eqb-true m n e in inr (sym z, l k (renumber z x)))
     go m k x false e = (let z : m ≡ n → ⊥ = eqb-false m n e in let y = low m k x in inl (omega arith))
 
+-- ---- the first fault
 pub layout-says : (fs : List Frame) → 0 < length fs → LayoutSays fs (layoutOf fs)
 unfolding layoutOf
 layout-says fs l =
-    l-step 4 (headerFault fs) _ (λ m k f. numbers f .0) (header-low fs) (λ a.
-    l-step 5 (fieldFault fs) _ a (field-low fs) (λ b.
-    l-step 6 (orderFault fs) _ b (order-low fs l) (λ c.
-    l-step 7 (depthFault fs) _ c (depth-low fs (all-trees fs (λ k f. (let z = c 6 k f in omega arith)))) (λ d.
+    reject-step 4 (headerFault fs) _ (λ m k f. numbers f .0) (header-low fs) (λ a.
+    reject-step 5 (fieldFault fs) _ a (field-low fs) (λ b.
+    reject-step 6 (orderFault fs) _ b (order-low fs l) (λ c.
+    reject-step 7 (depthFault fs) _ c (depth-low fs (all-trees fs (λ k f. (let z = c 6 k f in omega arith)))) (λ d.
     λ m k f. (let x = d m k f in let y = numbers f in omega arith)))))
 
+-- there is only one
 pub layout-one : (fs : List Frame) (r s : Verdict) → LayoutSays fs r → LayoutSays fs s → r ≡ s
 layout-one fs Accepted Accepted h g = refl
 layout-one fs Accepted (Rejected n j) h g = absurd (h n j (g .fault))

@@ -1,25 +1,29 @@
+-- ---- the definitions: what Scans computes is the first fault of Faults
 pub mod Searches
 pub mod Trees
 pub mod Disorder
 pub mod Order
 pub mod Depths
 pub mod Layouts
+-- ---- what a file without fault has
 pub mod Placed
 pub mod Decoded
 pub mod Parts
+pub mod Scopes
+pub mod Users
+-- ---- the code: its passes over a text's lines find what Scans computes
+pub mod Finds
 pub mod FrameLaws
 pub mod Seeking
-pub mod Rows
-pub mod Marks
-pub mod Orders
-pub mod Raises
-pub mod Deep
-pub mod Overs
 pub mod FieldLaws
 pub mod Tallies
 pub mod FramePass
+pub mod DisorderPass
+pub mod LeftoverPass
+pub mod OrderPass
+pub mod Raises
+pub mod DepthArray
+pub mod DepthPass
 pub mod Answers
-pub mod Scopes
 pub mod Accepted
 pub mod AfterLayout
-pub mod Users

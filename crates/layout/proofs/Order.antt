@@ -9,20 +9,20 @@ use native.Mathlib.Omega.{arith}
 use lib.ListN.{length, take, length-take}
 use lib.Seq.{getD-take}
 use borrow.Author.Tests.{not-true}
+use Rattle.basics.specs.Members.{All}
 use Rattle.basics.specs.Searches.{any, lowest}
 use Rattle.basics.proofs.Ifs.{and-true, if-all}
 use Rattle.language.specs.Kinds.{classOf, Child, children}
 use Rattle.language.specs.declared.frame.Frame.{Frame}
 use Rattle.program.specs.Trees.{noFrame, frameAt}
-use Rattle.layout.proofs.Searches.{Lowest, either, same-low, lowest-all, any-none, any-false, any-true, any-some}
+use Rattle.program.specs.Ordered.{Ordered}
+use Rattle.layout.proofs.Searches.{Lowest, either, same-low, lowest-all, any-more, any-none, any-false, any-true, any-some}
 use Rattle.layout.specs.Faults.{Fault}
 use Rattle.layout.specs.Fields.{isHeader, isShared}
 use Rattle.layout.specs.Order.{hasChild, hasClass, isMain, Tree, Row}
 use Rattle.layout.specs.Scans.{isBehind, isLeftover, firstLeftover, noMain, orderFault}
 use Rattle.layout.proofs.Trees.{HasTree, row-le}
 use Rattle.layout.proofs.Disorder.{NoTree, disorder-low, no-disorder}
-use Rattle.basics.specs.Members.{All}
-use Rattle.program.specs.Ordered.{Ordered}
 
 -- ---- a shared cell behind another kind
 record Behind (fs : List Frame) (j : ℕ) : Type 0 where
@@ -32,6 +32,7 @@ record Behind (fs : List Frame) (j : ℕ) : Type 0 where
   shared : isShared (frameAt fs j .kind) ≡ true
   kind : (isHeader (frameAt fs other .kind) || isShared (frameAt fs other .kind)) ≡ false
 
+-- a kind that no shared cell may stand behind
 abbrev pub isOther : Frame → Bool
 isOther g = not (isHeader (g .kind) || isShared (g .kind))
 
@@ -51,43 +52,35 @@ behind-low fs = same-low (λ j h. to j (isShared (frameAt fs j .kind)) refl (h .
     back : (j : ℕ) → Behind fs j → isBehind fs j (frameAt fs j) ≡ true
     back j h = rw (h .shared, isBehind) (any-some noFrame isOther (take j fs) (h .other) (let m = length-take j fs in let a = h .before in let b = h .inside in omega arith) (rw (getD-take j fs (h .other) noFrame (h .before)) (ap not (h .kind))))
 
--- ---- a leftover frame
+-- ---- a leftover frame: that the definition asks the later frames first changes nothing
 abbrev pub leftoverTest : List Frame → ℕ → Frame → Bool
 leftoverTest fs i f = hasClass (classOf (f .kind)) && not (any (hasChild i) fs)
 
-left-test : (fs : List Frame) (i : ℕ) (f : Frame) (tail : List Frame) → (any (hasChild i) tail ≡ true → any (hasChild i) fs ≡ true) → isLeftover fs i f tail ≡ leftoverTest fs i f
+leftover-test : (fs : List Frame) (i : ℕ) (f : Frame) (tail : List Frame) → (any (hasChild i) tail ≡ true → any (hasChild i) fs ≡ true) → isLeftover fs i f tail ≡ leftoverTest fs i f
 unfolding isLeftover
-left-test fs i f tail h = go (hasClass (classOf (f .kind))) (any (hasChild i) tail) h
+leftover-test fs i f tail h = go (hasClass (classOf (f .kind))) (any (hasChild i) tail) h
   where
     go : (a b : Bool) → (b ≡ true → any (hasChild i) fs ≡ true) → elim a [ true ↦ elim b [ true ↦ false | false ↦ not (any (hasChild i) fs) ] | false ↦ false ] ≡ (a && not (any (hasChild i) fs))
     go true true k = sym (ap not (k refl))
     go true false k = refl
     go false b k = refl
 
-any-more : (t : Frame → Bool) (f : Frame) (tail : List Frame) → any t tail ≡ true → any t (f ∷ tail) ≡ true
-unfolding any
-any-more t f tail h = go (t f)
-  where
-    go : (b : Bool) → elim b [ true ↦ true | false ↦ any t tail ] ≡ true
-    go true = refl
-    go false = h
-
-pub left-same : (fs tail : List Frame) (i : ℕ) → ((t : Frame → Bool) → any t tail ≡ true → any t fs ≡ true) → firstLeftover fs i tail ≡ lowest (leftoverTest fs) i tail
+pub leftover-lowest : (fs tail : List Frame) (i : ℕ) → ((t : Frame → Bool) → any t tail ≡ true → any t fs ≡ true) → firstLeftover fs i tail ≡ lowest (leftoverTest fs) i tail
 unfolding firstLeftover lowest
-left-same fs [] i h = refl
-left-same fs (f ∷ tail) i h = rw (left-test fs i f tail (λ e. h (hasChild i) (any-more (hasChild i) f tail e)), firstLeftover) (go (leftoverTest fs i f) (left-same fs tail (suc i) (λ t e. h t (any-more t f tail e))))
+leftover-lowest fs [] i h = refl
+leftover-lowest fs (f ∷ tail) i h = rw (leftover-test fs i f tail (λ e. h (hasChild i) (any-more (hasChild i) f tail e)), firstLeftover) (go (leftoverTest fs i f) (leftover-lowest fs tail (suc i) (λ t e. h t (any-more t f tail e))))
   where
     go : (b : Bool) → firstLeftover fs (suc i) tail ≡ lowest (leftoverTest fs) (suc i) tail → _≡_ {A = Option ℕ} (elim b [ true ↦ some i | false ↦ firstLeftover fs (suc i) tail ]) (elim b [ true ↦ some i | false ↦ lowest (leftoverTest fs) (suc i) tail ])
     go true e = refl
     go false e = e
 
-record Left (fs : List Frame) (j : ℕ) : Type 0 where
+record Leftover (fs : List Frame) (j : ℕ) : Type 0 where
   inside : j < length fs
   class : hasClass (classOf (frameAt fs j .kind)) ≡ true
   unused : (i : ℕ) → i < length fs → hasChild j (frameAt fs i) ≡ false
 
-left-low : (fs : List Frame) → Lowest (Left fs) (firstLeftover fs 0 fs)
-left-low fs = rw (left-same fs fs 0 (λ t e. e)) (same-low
+leftover-low : (fs : List Frame) → Lowest (Leftover fs) (firstLeftover fs 0 fs)
+leftover-low fs = rw (leftover-lowest fs fs 0 (λ t e. e)) (same-low
     (λ j h. (let a = and-true _ _ (h .1) in record { inside = h .0; class = a .0; unused = any-false noFrame (hasChild j) fs (not-true _ (a .1)) }))
     (λ j h. (h .inside, rw (h .class) (ap not (any-none noFrame (hasChild j) fs (h .unused)))))
     (lowest-all noFrame (leftoverTest fs) fs))
@@ -102,9 +95,9 @@ main-low fs l = if-all (Lowest (NoMain fs)) (isMain (frameAt fs (length fs - 1))
     (λ h. Lowest.nowhere (λ j p. (let e : j ≡ length fs - 1 = (let z = p .0 in omega arith) in true≢false (sym h ∙ (rw e at p .1)))))
     (λ h. Lowest.lowest-at (omega arith, h) (λ k p. (let z = p .0 in omega arith)))
 
--- ---- 6
+-- ---- the four faults together
 abbrev Six : List Frame → ℕ → Type 0
-Six fs j = NoTree fs j ⊎ (Behind fs j ⊎ (Left fs j ⊎ NoMain fs j))
+Six fs j = NoTree fs j ⊎ (Behind fs j ⊎ (Leftover fs j ⊎ NoMain fs j))
 
 to-six : {fs : List Frame} {n j : ℕ} → Fault fs n j → n ≡ 6 → Six fs j
 to-six (Fault.header h) e = absurd (omega arith)
@@ -123,9 +116,9 @@ from-six (inr (inr (inr h))) = Fault.main (h .0) (h .1)
 
 pub order-low : (fs : List Frame) → 0 < length fs → Lowest (Fault fs 6) (orderFault fs)
 unfolding orderFault
-order-low fs l = same-low (λ j h. from-six h) (λ j h. to-six h refl) (either (disorder-low fs) (either (behind-low fs) (either (left-low fs) (main-low fs l))))
+order-low fs l = same-low (λ j h. from-six h) (λ j h. to-six h refl) (either (disorder-low fs) (either (behind-low fs) (either (leftover-low fs) (main-low fs l))))
 
--- where no frame has a fault 6, every frame is the root of a tree
+-- ---- where no frame has a fault 6, every frame is the root of a tree
 pub all-trees : (fs : List Frame) → ((k : ℕ) → Fault fs 6 k → ⊥) → (j : ℕ) → j < length fs → HasTree fs j
 all-trees fs h = no-disorder fs (λ j n. h j (Fault.order (n .0) (n .1)))
 

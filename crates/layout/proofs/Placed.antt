@@ -1,4 +1,4 @@
--- Trees whose frames rise: a child before its parent, and an earlier child before a later one. The trees of a file that passes refusals 1 to 7 are such (proofs/Decoded, proofs/Parts). Assumes nothing: definitions.
+-- Trees whose frames rise: a child before its parent, and an earlier child before a later one, so that a walk through a tree, children first, goes in file order. The trees of a file that passes refusals 1 to 7 are such (proofs/Decoded, proofs/Parts). Assumes nothing: definitions.
 use mathlib.Core.List.{List, [], _∷_}
 use Prim.Native.Nat.{ℕ, suc, _≤_, _<_}
 use Rattle.program.specs.Trees.{Expr, Stmt, rootE, rootS}
@@ -21,6 +21,7 @@ pub data PlacedEs : ℕ → List Expr → ℕ → Type 0 where
   none : {lo stop : ℕ} → lo ≤ stop → PlacedEs lo [] stop
   more : {lo stop : ℕ} {x : Expr} {xs : List Expr} → PlacedE lo x → PlacedEs (suc (rootE x)) xs stop → PlacedEs lo (x ∷ xs) stop
 
+-- `PlacedS lo p`: the same of a statement
 pub data PlacedS : ℕ → Stmt → Type 0 where
   nothing : {lo i : ℕ} → lo ≤ i → PlacedS lo (Stmt.nothing i)
   cooperate : {lo i : ℕ} → lo ≤ i → PlacedS lo (Stmt.cooperate i)

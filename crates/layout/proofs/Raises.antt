@@ -1,4 +1,4 @@
--- How the depth pass raises depths, from the last frame down. Assumes nothing.
+-- The code's steps of the depth pass: how it raises depths in its array, from the last frame down (`depthsDown`). Assumes nothing.
 use mathlib.Core.Path.{_≡_, refl, sym, ap, _∙_}
 use mathlib.Core.Bool.{Bool, true, false}
 use mathlib.Core.List.{List, [], _∷_, _++_}
@@ -17,8 +17,9 @@ use Rattle.layout.specs.declared.frames.ChildRead.{ChildRead}
 use Rattle.layout.specs.declared.frames.ChildRead.the-variants.{ChildAt, NoChild}
 use Rattle.layout.specs.Fields.{isModule}
 use Rattle.layout.specs.Passes.{childRead, given, raised, raisedAll, depthsDown}
-use Rattle.layout.proofs.FrameLaws.{no-child-is, child-is}
+use Rattle.layout.proofs.FrameLaws.{no-child-is, child-is, by-fields}
 
+-- ---- one depth
 pub raise-past : (u : List ℕ) (d v : ℕ) → 1024 ≤ v → u ≡ raised u d v
 unfolding raised
 raise-past u d v l = no _ (le-ltb v 1024 l) refl
@@ -33,6 +34,7 @@ raise-set u d v h l = yes u (lt-ltb v 1024 l) (yes u (lt-ltb (getD u v 0) d h) r
 
 pub ruleset raise-laws = (raise-past, raise-not, raise-set)
 
+-- ---- the children of a field, of a frame
 module _ (t : List ℕ) (d : ℕ) (u : Use) (v : ℕ) (x : ChildRead) where
   pub field-unraised : x ≡ childRead (childIn u v) → x ≡ NoChild → t ≡ raisedAll t d (childIn u v)
   field-unraised h e = end ∙ ap (raisedAll t d) (sym (no-child-is u v x h e))
@@ -54,13 +56,9 @@ all-append [] ys u d = refl
 all-append (x ∷ xs) ys u d = all-append xs ys (raised u d (x .at)) d
 
 pub frame-raised : (u t r s : List ℕ) (d : ℕ) (us : Uses) (f : Frame) → us ≡ uses (f .kind) → t ≡ raisedAll u d (childIn (us .a) (f .a)) → r ≡ raisedAll t d (childIn (us .b) (f .b)) → s ≡ raisedAll r d (childIn (us .c) (f .c)) → s ≡ raisedAll u d (children f)
-unfolding children
-frame-raised u t r s d us f e a b c =
-    c ∙ ap (λ (x : List ℕ). raisedAll x d (childIn (us .c) (f .c))) (b ∙ ap (λ (x : List ℕ). raisedAll x d (childIn (us .b) (f .b))) a)
-    ∙ sym (ap (λ (x : List ℕ). raisedAll x d (childIn (us .c) (f .c))) (all-append (childIn (us .a) (f .a)) (childIn (us .b) (f .b)) u d))
-    ∙ sym (all-append (childIn (us .a) (f .a) ++ childIn (us .b) (f .b)) (childIn (us .c) (f .c)) u d)
-    ∙ ap (λ (w : Uses). raisedAll u d (childIn (w .a) (f .a) ++ childIn (w .b) (f .b) ++ childIn (w .c) (f .c))) e
+frame-raised u t r s d us f = by-fields (λ x cs. raisedAll x d cs) (λ xs ys x. all-append xs ys x d) u t r s us f
 
+-- ---- the depth that a frame gives to its children
 module _ (f : Frame) (d : ℕ) where
   pub given-body : (b : Bool) → b ≡ isModule (f .kind) → b ≡ true → d ≡ 0 → 1 ≡ given f d
   unfolding given
@@ -80,12 +78,9 @@ module _ (f : Frame) (d : ℕ) where
 
 pub ruleset given-laws = (given-body, given-none, given-deeper, given-over)
 
--- ---- the loop, downwards
+-- ---- the loop, downwards: from here on it is as from the last frame
 abbrev pub Sinking : List Frame → ℕ → List ℕ → List ℕ → ℕ → Type 0
 Sinking fs size start u n = depthsDown n fs u ≡ depthsDown size fs start
-
-pub sinking-start : (fs : List Frame) (size : ℕ) (u : List ℕ) → Sinking fs size u u size
-sinking-start fs size u = refl
 
 pub sinking-next : (fs : List Frame) (size : ℕ) (start u t : List ℕ) (n d : ℕ) (f : Frame) → f ≡ frameAt fs (n - 1) → d ≡ given f (getD u (n - 1) 0) → t ≡ raisedAll u d (children f) → Sinking fs size start u n → 0 < n → Sinking fs size start t (n - 1)
 sinking-next fs size start u t n d f e q r g l = go (n - 1) (omega arith) e q

@@ -1,4 +1,4 @@
--- What a file without fault has: depths of at most 24, room for its variables, children of their class, few modules and shared cells, `main` last. Assumes nothing.
+-- What a file without fault has: the verdict `Accepted`, depths of at most 24, room for its variables, children before their parents, at most 16 shared cells, `main` last. Assumes nothing.
 use mathlib.Core.Path.{_≡_, refl, sym, ap, _∙_}
 use mathlib.Core.Bool.{Bool, true, false}
 use mathlib.Core.List.{List, [], _∷_, _++_}
@@ -10,7 +10,7 @@ use lib.Seq.{take-suc, take-length}
 use borrow.Author.Tests.{ltb-true, ltb-false, eqb-true}
 use Rattle.basics.specs.Members.{In}
 use Rattle.basics.proofs.Ifs.{and-true}
-use Rattle.language.specs.Kinds.{classOf, uses, Child, childIn, children}
+use Rattle.language.specs.Kinds.{uses, Child, childIn, children}
 use Rattle.language.specs.declared.kind.StatementKind.the-variants.{Let}
 use Rattle.language.specs.declared.kind.Kind.{Kind}
 use Rattle.language.specs.declared.kind.Kind.the-variants.{Shared, Module, Statement}
@@ -19,12 +19,12 @@ use Rattle.language.specs.declared.verdict.Verdict.the-variants.{Accepted}
 use Rattle.program.specs.Trees.{noFrame, frameAt}
 use Rattle.program.specs.Programs.{sharedOf, programOf, typeOfShared}
 use Rattle.layout.specs.Fields.{isShared, countOf, kindFine, frameFine}
-use Rattle.layout.specs.Order.{Tree, Row, isMain}
+use Rattle.layout.specs.Order.{isMain}
 use Rattle.layout.specs.Depths.{Depth}
 use Rattle.layout.specs.Faults.{Fault, NoFault, LayoutSays}
 use Rattle.layout.specs.Scans.{layoutOf}
 use Rattle.layout.specs.Scope.{Room}
-use Rattle.layout.proofs.Trees.{is-module, HasTree, tree-in, childrenAs}
+use Rattle.layout.proofs.Trees.{is-module, tree-in, childrenAs, children-as}
 use Rattle.layout.proofs.Order.{all-trees}
 use Rattle.layout.proofs.Layouts.{layout-says, layout-one}
 use Rattle.layout.proofs.Tallies.{is-shared, count-cells, counted-one, counted-none}
@@ -51,12 +51,8 @@ in-right (x ∷ xs) ys m = In.later (in-right xs ys m)
 
 -- the children that the fields of a frame of a known kind name
 module _ (f : Frame) (k : Kind) (e : f .kind ≡ k) where
-  as-kind : children f ≡ childrenAs k f
-  unfolding children
-  as-kind = ap (λ (m : Kind). childrenAs m f) e
-
   in-children : {c : Child} → In c (childrenAs k f) → In c (children f)
-  in-children m = rw as-kind m
+  in-children m = rw (children-as f k e) m
 
   pub in-a : {c : Child} → In c (childIn (uses k .a) (f .a)) → In c (children f)
   in-a m = in-children (in-left (childIn (uses k .c) (f .c)) (in-left (childIn (uses k .b) (f .b)) m))
@@ -69,13 +65,13 @@ module _ {fs : List Frame} where
   pub room-body : (i n : ℕ) → i < length fs → frameAt fs i .kind ≡ Module → n ≤ 2 → Room fs (frameAt fs i .a) n
   room-body i n l e m = record { depth = 1; stands = Depth.body l e; enough = m }
 
-  -- a child has the room of its parent
-  pub room-child : {i n : ℕ} {c : Child} → Room fs i n → In c (children (frameAt fs i)) → Room fs (c .at) n
+  -- a child has room for one variable more than its parent
+  pub room-child : {i n : ℕ} {c : Child} → Room fs i n → In c (children (frameAt fs i)) → Room fs (c .at) (suc n)
   room-child r m = record { depth = suc (r .depth); stands = Depth.child (r .stands) m; enough = (let l = r .enough in omega arith) }
 
-  -- and the body of a let has room for its variable too
+  -- so the body of a let has room for its variable
   pub room-let : {i n : ℕ} → Room fs i n → frameAt fs i .kind ≡ Statement Let → Room fs (frameAt fs i .b) (suc n)
-  room-let {i} {n} r e = record { depth = suc (r .depth); stands = Depth.child (r .stands) (in-b (frameAt fs i) (Statement Let) e In.first); enough = (let l = r .enough in omega arith) }
+  room-let {i} r e = room-child r (in-b (frameAt fs i) (Statement Let) e In.first)
 
 -- ---- a file without fault
 module _ (fs : List Frame) (fine : NoFault fs) where
@@ -93,22 +89,9 @@ module _ (fs : List Frame) (fine : NoFault fs) where
   pub room-let-most : {i n : ℕ} → Room fs i n → frameAt fs i .kind ≡ Statement Let → n ≤ 24
   room-let-most r e = let l = room-most (room-let r e) in omega arith
 
-  trees : (j : ℕ) → j < length fs → HasTree fs j
-  trees = all-trees fs (λ k f. fine 6 k f)
-
-  row-class : {lo stop : ℕ} {cs : List Child} {c : Child} → Row fs lo stop cs → In c cs → classOf (frameAt fs (c .at) .kind) ≡ c .class
-  row-class (Row.more t e r) In.first = e
-  row-class (Row.more t e r) (In.later m) = row-class r m
-
-  tree-class : {lo i : ℕ} {c : Child} → Tree fs lo i → In c (children (frameAt fs i)) → classOf (frameAt fs (c .at) .kind) ≡ c .class
-  tree-class (Tree.root r) m = row-class r m
-
-  -- each child stands before its parent and is of its class
+  -- each child stands before its parent
   pub child-below : {i : ℕ} {c : Child} → i < length fs → In c (children (frameAt fs i)) → c .at < i
-  child-below {i} l m = tree-in (trees i l .tree) m
-
-  pub child-class : {i : ℕ} {c : Child} → i < length fs → In c (children (frameAt fs i)) → classOf (frameAt fs (c .at) .kind) ≡ c .class
-  child-class {i} l m = tree-class (trees i l .tree) m
+  child-below {i} l m = tree-in (all-trees fs (λ k f. fine 6 k f) i l .tree) m
 
   -- 'The last frame is main, a module with S 0.'
   pub main-last : 0 < length fs → (frameAt fs (length fs - 1) .kind ≡ Module) × (frameAt fs (length fs - 1) .s ≡ 0)
@@ -118,7 +101,7 @@ module _ (fs : List Frame) (fine : NoFault fs) where
       go true e = (let p = and-true _ _ e in (is-module _ (p .0), eqb-true _ 0 (p .1)))
       go false e = absurd (fine 6 (length fs - 1) (Fault.main (omega arith) e))
 
-  -- ---- at most 16 of a kind that is counted
+  -- ---- at most 16 of a kind of which each frame has fewer before it
   frame-right : (i : ℕ) → i < length fs → frameFine fs i (frameAt fs i) ≡ true
   frame-right i l = go (frameFine fs i (frameAt fs i)) refl
     where
@@ -143,7 +126,7 @@ module _ (fs : List Frame) (fine : NoFault fs) where
   shared-few : (i : ℕ) → i < length fs → isShared (frameAt fs i .kind) ≡ true → countOf isShared (take i fs) < 16
   shared-few i l e = let k : frameAt fs i .kind ≡ Shared = is-shared _ e in ltb-true _ 16 (ap (kindFine fs i) (sym k) ∙ fine-parts fs i (frameAt fs i) (frame-right i l) .0)
 
-  -- 'shared cells (at most 16)', 'Modules (at most 16)'
+  -- 'shared cells (at most 16)'
   pub cells-most : length (programOf fs .shared) ≤ 16
   unfolding programOf
   cells-most = let a = counts-all isShared shared-few in let b = count-cells fs in let c = length-map (sharedOf fs) typeOfShared in omega arith

@@ -1,8 +1,8 @@
--- Searches for the lowest frame. Assumes nothing.
+-- What searches find: `lowest` the lowest index, `earlier` the lower of two, `any` some member. Assumes nothing.
 use mathlib.Core.Path.{_≡_, refl, sym, ap, _∙_}
 use mathlib.Core.Logic.{_⊎_, inl, inr, ⊎-elim}
-use mathlib.Core.Bool.{Bool, true, false, true≢false}
-use mathlib.Core.List.{List, [], _∷_}
+use mathlib.Core.Bool.{Bool, true, false, _||_, true≢false}
+use mathlib.Core.List.{List, [], _∷_, _++_}
 use mathlib.Core.Option.{Option, none, some}
 use Prim.Native.Nat.{ℕ, zero, suc, _+_, _-_, _≤_, _<_}
 use native.Mathlib.Omega.{arith}
@@ -12,7 +12,7 @@ use lib.ListN.{getD, length}
 use Rattle.basics.specs.If.{if_then_else_}
 use Rattle.basics.specs.Searches.{earlier, any, lowest}
 
--- the lowest number that has the property P, where there is one
+-- ---- the lowest number that has the property P, where there is one
 pub data Lowest (P : ℕ → Type 0) : Option ℕ → Type 0 where
   nowhere : ((j : ℕ) → P j → ⊥) → Lowest P none
   lowest-at : {j : ℕ} → P j → ((k : ℕ) → P k → j ≤ k) → Lowest P (some j)
@@ -34,15 +34,16 @@ pub same-low : {P Q : ℕ → Type 0} {o : Option ℕ} → ((j : ℕ) → P j �
 same-low f g (Lowest.nowhere h) = Lowest.nowhere (λ j q. h j (g j q))
 same-low f g (Lowest.lowest-at {j = j} p l) = Lowest.lowest-at (f j p) (λ k q. l k (g k q))
 
--- and there is one: a pass that finds the lowest in another way finds the same
+-- there is only one lowest: a pass that finds it in another way finds the same
 pub lowest-one : {P : ℕ → Type 0} {o q : Option ℕ} → Lowest P o → Lowest P q → o ≡ q
 lowest-one (Lowest.nowhere h) (Lowest.nowhere g) = refl
 lowest-one (Lowest.nowhere h) (Lowest.lowest-at p l) = absurd (h _ p)
 lowest-one (Lowest.lowest-at p l) (Lowest.nowhere g) = absurd (g _ p)
 lowest-one (Lowest.lowest-at {j = i} p l) (Lowest.lowest-at {j = j} q m) = let a = l j q in let b = m i p in let e : i ≡ j = omega arith in ap some e
 
--- a search through a list that stands from i on
+-- ---- `lowest`: a search through a list that stands from i on
 module _ {A : Type 0} (d : A) (wrong : ℕ → A → Bool) where
+  -- the member j of the list is wrong
   abbrev Hit : ℕ → List A → ℕ → Type 0
   Hit i xs j = (i ≤ j) × (j < i + length xs) × (wrong j (getD xs (j - i) d) ≡ true)
 
@@ -76,7 +77,30 @@ module _ {A : Type 0} (d : A) (wrong : ℕ → A → Bool) where
   pub lowest-all : (xs : List A) → Lowest (λ j. (j < length xs) × (wrong j (getD xs j d) ≡ true)) (lowest wrong 0 xs)
   lowest-all xs = same-low (λ j h. (omega arith, (let e : j - 0 ≡ j = omega arith in rw e at h .2))) (λ j h. (omega arith, omega arith, (let e : j - 0 ≡ j = omega arith in rw e (h .1)))) (lowest-hit xs 0)
 
--- some member passes the test
+-- ---- `any`: some member passes the test
+module _ {A : Type 0} (test : A → Bool) where
+  pub any-more : (x : A) (xs : List A) → any test xs ≡ true → any test (x ∷ xs) ≡ true
+  unfolding any
+  any-more x xs h = go (test x)
+    where
+      go : (b : Bool) → elim b [ true ↦ true | false ↦ any test xs ] ≡ true
+      go true = refl
+      go false = h
+
+  pub any-append : (xs : List A) (x : A) → any test (xs ++ (x ∷ [])) ≡ (any test xs || test x)
+  unfolding any
+  any-append [] x = go (test x)
+    where
+      go : (b : Bool) → elim b [ true ↦ true | false ↦ false ] ≡ b
+      go true = refl
+      go false = refl
+  any-append (y ∷ xs) x = go (test y) (any-append xs x)
+    where
+      go : (b : Bool) → any test (xs ++ (x ∷ [])) ≡ (any test xs || test x) → elim b [ true ↦ true | false ↦ any test (xs ++ (x ∷ [])) ] ≡ (elim b [ true ↦ true | false ↦ any test xs ] || test x)
+      go true h = refl
+      go false h = h
+
+-- at an index
 module _ {A : Type 0} (d : A) (test : A → Bool) where
   pub any-none : (xs : List A) → ((q : ℕ) → q < length xs → test (getD xs q d) ≡ false) → any test xs ≡ false
   unfolding any

@@ -1,4 +1,4 @@
--- The running count of shared cells and modules, and the types of these cells. Assumes nothing.
+-- The tally of the frames passed: how many shared cells and modules there are, the types of these cells, and what one frame more adds. Assumes nothing.
 use mathlib.Core.Path.{_≡_, refl, sym, ap, ap₂, _∙_}
 use mathlib.Core.Bool.{Bool, true, false, true≢false}
 use mathlib.Core.List.{List, [], _∷_, _++_, append-assoc, append-nil}
@@ -26,22 +26,31 @@ is-shared (Statement k) h = absurd (true≢false (sym h))
 is-shared (Expression k) h = absurd (true≢false (sym h))
 is-shared Unknown h = absurd (true≢false (sym h))
 
--- ---- what a tally says
-abbrev pub tally : ℕ → ℕ → List ℕ → Tally
-tally n m ts = record { cells = n; modules = m; types = ts }
+-- a frame adds its type to those of the cells behind it, if it is one
+cells-first : (f : Frame) (gs : List Frame) → cellsOf (f ∷ gs) ≡ (if isShared (f .kind) then cellType (f .s) (f .a) ∷ cellsOf gs else cellsOf gs)
+unfolding sharedOf if_then_else_
+cells-first f gs = go (f .kind) (f .s) (f .a) (f .b) (f .c)
+  where
+    go : (k : Kind) (s a b c : ℕ) → cellsOf (record { kind = k; s = s; a = a; b = b; c = c } ∷ gs) ≡ (if isShared k then cellType s a ∷ cellsOf gs else cellsOf gs)
+    go Shared s a b c = refl
+    go Header s a b c = refl
+    go Module s a b c = refl
+    go (Statement k) s a b c = refl
+    go (Expression k) s a b c = refl
+    go Unknown s a b c = refl
 
 pub count-cells : (gs : List Frame) → countOf isShared gs ≡ length (cellsOf gs)
 unfolding countOf sharedOf if_then_else_
 count-cells [] = refl
-count-cells (f ∷ gs) = go (f .kind) (f .s) (f .a) (f .b) (f .c) (count-cells gs)
+count-cells (f ∷ gs) = go (isShared (f .kind)) (count-cells gs) ∙ sym (ap length (cells-first f gs))
   where
-    go : (k : Kind) (s a b c : ℕ) → countOf isShared gs ≡ length (cellsOf gs) → countOf isShared (record { kind = k; s = s; a = a; b = b; c = c } ∷ gs) ≡ length (cellsOf (record { kind = k; s = s; a = a; b = b; c = c } ∷ gs))
-    go Shared s a b c h = omega arith
-    go Header s a b c h = omega arith
-    go Module s a b c h = omega arith
-    go (Statement k) s a b c h = omega arith
-    go (Expression k) s a b c h = omega arith
-    go Unknown s a b c h = omega arith
+    go : (b : Bool) → countOf isShared gs ≡ length (cellsOf gs) → (if b then 1 else 0) + countOf isShared gs ≡ length (if b then cellType (f .s) (f .a) ∷ cellsOf gs else cellsOf gs)
+    go true h = omega arith
+    go false h = omega arith
+
+-- ---- what a tally says
+abbrev pub tally : ℕ → ℕ → List ℕ → Tally
+tally n m ts = record { cells = n; modules = m; types = ts }
 
 module _ (gs : List Frame) (t : Tally) (h : t ≡ tallyOf gs) where
   pub tally-cells : t .cells ≡ countOf isShared gs
@@ -71,41 +80,21 @@ count-more test [] f = omega arith
 count-more test (g ∷ gs) f = let h = count-more test gs f in omega arith
 
 cells-more : (gs : List Frame) (f : Frame) → cellsOf (gs ++ (f ∷ [])) ≡ cellsOf gs ++ cellsOf (f ∷ [])
-unfolding sharedOf
+unfolding sharedOf if_then_else_
 cells-more [] f = refl
-cells-more (g ∷ gs) f = go (g .kind) (g .s) (g .a) (g .b) (g .c) (cells-more gs f)
+cells-more (g ∷ gs) f = cells-first g (gs ++ (f ∷ [])) ∙ go (isShared (g .kind)) (cells-more gs f) ∙ sym (ap (λ (ts : List ℕ). ts ++ cellsOf (f ∷ [])) (cells-first g gs))
   where
-    go : (k : Kind) (s a b c : ℕ) → cellsOf (gs ++ (f ∷ [])) ≡ cellsOf gs ++ cellsOf (f ∷ []) → cellsOf (record { kind = k; s = s; a = a; b = b; c = c } ∷ (gs ++ (f ∷ []))) ≡ cellsOf (record { kind = k; s = s; a = a; b = b; c = c } ∷ gs) ++ cellsOf (f ∷ [])
-    go Shared s a b c h = ap (λ (ts : List ℕ). cellType s a ∷ ts) h
-    go Header s a b c h = h
-    go Module s a b c h = h
-    go (Statement k) s a b c h = h
-    go (Expression k) s a b c h = h
-    go Unknown s a b c h = h
+    go : (b : Bool) → cellsOf (gs ++ (f ∷ [])) ≡ cellsOf gs ++ cellsOf (f ∷ []) → (if b then cellType (g .s) (g .a) ∷ cellsOf (gs ++ (f ∷ [])) else cellsOf (gs ++ (f ∷ []))) ≡ (if b then cellType (g .s) (g .a) ∷ cellsOf gs else cellsOf gs) ++ cellsOf (f ∷ [])
+    go true h = ap (λ (ts : List ℕ). cellType (g .s) (g .a) ∷ ts) h
+    go false h = h
 
-one-cell : (f : Frame) → isShared (f .kind) ≡ true → cellsOf (f ∷ []) ≡ cellType (f .s) (f .a) ∷ []
+cells-one : (gs : List Frame) (f : Frame) → isShared (f .kind) ≡ true → cellsOf (gs ++ (f ∷ [])) ≡ cellsOf gs ++ (cellType (f .s) (f .a) ∷ [])
 unfolding sharedOf
-one-cell f h = go (f .kind) (f .s) (f .a) (f .b) (f .c) h
-  where
-    go : (k : Kind) (s a b c : ℕ) → isShared k ≡ true → cellsOf (record { kind = k; s = s; a = a; b = b; c = c } ∷ []) ≡ cellType s a ∷ []
-    go Shared s a b c h = refl
-    go Header s a b c h = absurd (true≢false (sym h))
-    go Module s a b c h = absurd (true≢false (sym h))
-    go (Statement k) s a b c h = absurd (true≢false (sym h))
-    go (Expression k) s a b c h = absurd (true≢false (sym h))
-    go Unknown s a b c h = absurd (true≢false (sym h))
+cells-one gs f s = cells-more gs f ∙ ap (λ (ts : List ℕ). cellsOf gs ++ ts) (cells-first f [] ∙ if-yes _ _ s)
 
-no-cell : (f : Frame) → isShared (f .kind) ≡ false → cellsOf (f ∷ []) ≡ []
+cells-same : (gs : List Frame) (f : Frame) → isShared (f .kind) ≡ false → cellsOf (gs ++ (f ∷ [])) ≡ cellsOf gs
 unfolding sharedOf
-no-cell f h = go (f .kind) (f .s) (f .a) (f .b) (f .c) h
-  where
-    go : (k : Kind) (s a b c : ℕ) → isShared k ≡ false → cellsOf (record { kind = k; s = s; a = a; b = b; c = c } ∷ []) ≡ []
-    go Shared s a b c h = absurd (true≢false h)
-    go Header s a b c h = refl
-    go Module s a b c h = refl
-    go (Statement k) s a b c h = refl
-    go (Expression k) s a b c h = refl
-    go Unknown s a b c h = refl
+cells-same gs f s = cells-more gs f ∙ ap (λ (ts : List ℕ). cellsOf gs ++ ts) (cells-first f [] ∙ if-no _ _ s) ∙ append-nil (cellsOf gs)
 
 pub counted-one : (test : Kind → Bool) (gs : List Frame) (f : Frame) → test (f .kind) ≡ true → countOf test (gs ++ (f ∷ [])) ≡ countOf test gs + 1
 counted-one test gs f h = count-more test gs f ∙ ap (λ (n : ℕ). countOf test gs + n) (if-yes 1 0 h)
@@ -116,6 +105,7 @@ counted-none test gs f h = let a : countOf test gs + 0 ≡ countOf test gs = ome
 tally-same : {n n' m m' : ℕ} {ts ts' : List ℕ} → n ≡ n' → m ≡ m' → ts ≡ ts' → tally n m ts ≡ tally n' m' ts'
 tally-same {n} {n'} {m} {m'} {ts} {ts'} e f g = ap₂ (λ (x y : ℕ). tally x y ts) e f ∙ ap (tally n' m') g
 
+-- a cell more takes the first 0 of the array
 padded-more : (ts : List ℕ) (w : ℕ) → length ts < 16 → set (ts ++ replicate (16 - length ts) 0) (length ts) w ≡ (ts ++ (w ∷ [])) ++ replicate (16 - length (ts ++ (w ∷ []))) 0
 padded-more ts w l =
     let e : 16 - length ts ≡ suc (16 - suc (length ts)) = omega arith in
@@ -128,25 +118,16 @@ padded-more ts w l =
 module _ (gs : List Frame) (f : Frame) (t : Tally) (h : t ≡ tallyOf gs) where
   pub tally-other : isShared (f .kind) ≡ false → isModule (f .kind) ≡ false → t ≡ tallyOf (gs ++ (f ∷ []))
   unfolding tallyOf
-  tally-other s m = h ∙ tally-same (sym (counted-none isShared gs f s)) (sym (counted-none isModule gs f m)) (ap (λ (ts : List ℕ). ts ++ replicate (16 - length ts) 0) (sym same))
-    where
-      same : cellsOf (gs ++ (f ∷ [])) ≡ cellsOf gs
-      same = cells-more gs f ∙ ap (λ (ts : List ℕ). cellsOf gs ++ ts) (no-cell f s) ∙ append-nil (cellsOf gs)
+  tally-other s m = h ∙ tally-same (sym (counted-none isShared gs f s)) (sym (counted-none isModule gs f m)) (ap (λ (ts : List ℕ). ts ++ replicate (16 - length ts) 0) (sym (cells-same gs f s)))
 
   pub tally-module : isShared (f .kind) ≡ false → isModule (f .kind) ≡ true → tally (t .cells) (t .modules + 1) (t .types) ≡ tallyOf (gs ++ (f ∷ []))
   unfolding tallyOf
-  tally-module s m = tally-same (tally-cells gs t h ∙ sym (counted-none isShared gs f s)) (ap (λ (n : ℕ). n + 1) (tally-modules gs t h) ∙ sym (counted-one isModule gs f m)) (tally-types gs t h ∙ ap (λ (ts : List ℕ). ts ++ replicate (16 - length ts) 0) (sym same))
-    where
-      same : cellsOf (gs ++ (f ∷ [])) ≡ cellsOf gs
-      same = cells-more gs f ∙ ap (λ (ts : List ℕ). cellsOf gs ++ ts) (no-cell f s) ∙ append-nil (cellsOf gs)
+  tally-module s m = tally-same (tally-cells gs t h ∙ sym (counted-none isShared gs f s)) (ap (λ (n : ℕ). n + 1) (tally-modules gs t h) ∙ sym (counted-one isModule gs f m)) (tally-types gs t h ∙ ap (λ (ts : List ℕ). ts ++ replicate (16 - length ts) 0) (sym (cells-same gs f s)))
 
   pub tally-cell : isShared (f .kind) ≡ true → isModule (f .kind) ≡ false → t .cells < 16 → tally (t .cells + 1) (t .modules) (set (t .types) (t .cells) (cellType (f .s) (f .a))) ≡ tallyOf (gs ++ (f ∷ []))
   unfolding tallyOf
   tally-cell s m l = tally-same (ap (λ (n : ℕ). n + 1) (tally-cells gs t h) ∙ sym (counted-one isShared gs f s)) (tally-modules gs t h ∙ sym (counted-none isModule gs f m))
-      (ap₂ (λ (ts : List ℕ) (n : ℕ). set ts n (cellType (f .s) (f .a))) (tally-types gs t h) n-is ∙ padded-more (cellsOf gs) (cellType (f .s) (f .a)) (let z = n-is in omega arith) ∙ ap (λ (ts : List ℕ). ts ++ replicate (16 - length ts) 0) (sym same))
+      (ap₂ (λ (ts : List ℕ) (n : ℕ). set ts n (cellType (f .s) (f .a))) (tally-types gs t h) n-is ∙ padded-more (cellsOf gs) (cellType (f .s) (f .a)) (let z = n-is in omega arith) ∙ ap (λ (ts : List ℕ). ts ++ replicate (16 - length ts) 0) (sym (cells-one gs f s)))
     where
       n-is : t .cells ≡ length (cellsOf gs)
       n-is = tally-cells gs t h ∙ count-cells gs
-
-      same : cellsOf (gs ++ (f ∷ [])) ≡ cellsOf gs ++ (cellType (f .s) (f .a) ∷ [])
-      same = cells-more gs f ∙ ap (λ (ts : List ℕ). cellsOf gs ++ ts) (one-cell f s)

@@ -18,9 +18,9 @@ use Rattle.layout.specs.Order.{Tree, Row, hasChild, hasClass}
 use Rattle.layout.specs.Depths.{Depth}
 use Rattle.layout.specs.Faults.{Fault, NoFault}
 use Rattle.layout.proofs.Searches.{any-true, any-false}
-use Rattle.layout.proofs.Trees.{tree-le, tree-one, tree-in, HasTree, childrenAs}
+use Rattle.layout.proofs.Trees.{tree-le, tree-one, tree-in, HasTree, childrenAs, children-as, Among, none-in}
 use Rattle.layout.proofs.Order.{all-trees}
-use Rattle.layout.proofs.Deep.{none-in, only-body}
+use Rattle.layout.proofs.Depths.{body-depth, child-depth}
 
 module _ {fs : List Frame} where
   -- the tree of a frame within a tree or a row begins within it
@@ -56,32 +56,24 @@ module _ {fs : List Frame} where
   apart : {lo lo' i j : ℕ} {c d : Child} → Tree fs lo i → Tree fs lo' j → In c (children (frameAt fs i)) → In d (children (frameAt fs j)) → c .at ≡ d .at → i < j → ⊥
   apart {lo} {lo'} {i} {j} t (Tree.root r) m n e l = let a = tree-from t m in let b = tree-in t m in let k = behind-child r n i lo (omega arith) l t in omega arith
 
--- some child of the list is frame j
-record Has (cs : List Child) (j : ℕ) : Type 0 where
-  child : Child
-  among : In child cs
-  at-it : child .at ≡ j
-
-has : (j : ℕ) (cs : List Child) → any (λ (c : Child). eqb (c .at) j) cs ≡ true → Has cs j
+among-any : (j : ℕ) (cs : List Child) → any (λ (c : Child). eqb (c .at) j) cs ≡ true → Among cs j
 unfolding any
-has j [] h = absurd (true≢false (sym h))
-has j (c ∷ cs) h = go (eqb (c .at) j) refl h (λ g. has j cs g)
+among-any j [] h = absurd (true≢false (sym h))
+among-any j (c ∷ cs) h = go (eqb (c .at) j) refl h (λ g. among-any j cs g)
   where
-    go : (b : Bool) → eqb (c .at) j ≡ b → elim b [ true ↦ true | false ↦ any (λ (c : Child). eqb (c .at) j) cs ] ≡ true → (any (λ (c : Child). eqb (c .at) j) cs ≡ true → Has cs j) → Has (c ∷ cs) j
+    go : (b : Bool) → eqb (c .at) j ≡ b → elim b [ true ↦ true | false ↦ any (λ (c : Child). eqb (c .at) j) cs ] ≡ true → (any (λ (c : Child). eqb (c .at) j) cs ≡ true → Among cs j) → Among (c ∷ cs) j
     go true e g r = record { child = c; among = In.first; at-it = eqb-true _ _ e }
     go false e g r = let p = r g in record { child = p .child; among = In.later (p .among); at-it = p .at-it }
 
-has-of : (j : ℕ) (f : Frame) → hasChild j f ≡ true → Has (children f) j
+among-children : (j : ℕ) (f : Frame) → hasChild j f ≡ true → Among (children f) j
 unfolding hasChild
-has-of j f h = has j (children f) h
+among-children j f h = among-any j (children f) h
 
 -- the frame that has frame j as a child, and the only one
 pub record User (fs : List Frame) (j : ℕ) : Type 0 where
   pub user : ℕ
   pub inside : user < length fs
-  pub child : Child
-  pub among : In child (children (frameAt fs user))
-  pub at-it : child .at ≡ j
+  pub has : Among (children (frameAt fs user)) j
   pub only : (i : ℕ) (c : Child) → i < length fs → In c (children (frameAt fs i)) → c .at ≡ j → i ≡ user
 
 pub one-user : (fs : List Frame) → NoFault fs → (j : ℕ) → j < length fs → hasClass (classOf (frameAt fs j .kind)) ≡ true → User fs j
@@ -102,8 +94,8 @@ one-user fs fine j l k = go (any (hasChild j) fs) refl
     go false e = absurd (fine 6 j (Fault.leftover l k (λ i p. any-false noFrame (hasChild j) fs e i p)))
     go true e =
         let p = any-true noFrame (hasChild j) fs e in
-        let h = has-of j (frameAt fs (p .at)) (p .passes) in
-        record { user = p .at; inside = p .inside; child = h .child; among = h .among; at-it = h .at-it; only = λ i c q m z. same i (p .at) c (h .child) q (p .inside) m (h .among) (z ∙ sym (h .at-it)) }
+        let h = among-children j (frameAt fs (p .at)) (p .passes) in
+        record { user = p .at; inside = p .inside; has = h; only = λ i c q m z. same i (p .at) c (h .child) q (p .inside) m (h .among) (z ∙ sym (h .at-it)) }
 
 -- ---- so each of them stands in the tree of a module
 pub record Stands (fs : List Frame) (j : ℕ) : Type 0 where
@@ -116,8 +108,7 @@ data Parent (k : Kind) : Type 0 where
   of-class : hasClass (classOf k) ≡ true → Parent k
 
 as-kind : (f : Frame) (k : Kind) {c : Child} → f .kind ≡ k → In c (children f) → In c (childrenAs k f)
-unfolding children
-as-kind f k {c} e m = let q : childrenAs (f .kind) f ≡ childrenAs k f = ap (λ (x : Kind). childrenAs x f) e in rw q at m
+as-kind f k {c} e m = rw (children-as f k e) at m
 
 parent : (f : Frame) (c : Child) → In c (children f) → Parent (f .kind)
 parent f c m = go (f .kind) refl
@@ -132,23 +123,18 @@ parent f c m = go (f .kind) refl
 
 module _ (fs : List Frame) (fine : NoFault fs) where
   up : (j : ℕ) (u : User fs j) → Parent (frameAt fs (u .user) .kind) → (hasClass (classOf (frameAt fs (u .user) .kind)) ≡ true → Stands fs (u .user)) → Stands fs j
-  up j u (Parent.of-module e) rec =
-      let q : frameAt fs (u .user) .a ≡ j = sym (only-body (frameAt fs (u .user)) (u .child) e (u .among)) ∙ u .at-it in
-      let b : Depth fs (frameAt fs (u .user) .a) 1 = Depth.body (u .inside) e in
-      record { depth = 1; is = (rw q at b) }
-  up j u (Parent.of-class h) rec =
-      let s = rec h in
-      let q : u .child .at ≡ j = u .at-it in
-      let b : Depth fs (u .child .at) (suc (s .depth)) = Depth.child (s .is) (u .among) in
-      record { depth = suc (s .depth); is = (rw q at b) }
+  up j u (Parent.of-module e) rec = record { depth = 1; is = body-depth (u .inside) e (u .has) }
+  up j u (Parent.of-class h) rec = let s = rec h in record { depth = suc (s .depth); is = child-depth (s .is) (u .has) }
 
+  -- a user stands behind its child: n bounds how many frames are left to climb to
   climb : (n j : ℕ) → length fs ≤ n + j → j < length fs → hasClass (classOf (frameAt fs j .kind)) ≡ true → Stands fs j
   climb zero j l k h = absurd (omega arith)
-  climb (suc n) j l k h =
-      let u = one-user fs fine j k h in
-      let a = tree-in (all-trees fs (λ m f. fine 6 m f) (u .user) (u .inside) .tree) (u .among) in
-      let e = u .at-it in
-      up j u (parent (frameAt fs (u .user)) (u .child) (u .among)) (λ g. climb n (u .user) (omega arith) (u .inside) g)
+  climb (suc n) j l k c =
+      let u = one-user fs fine j k c in
+      let h = u .has in
+      let a = tree-in (all-trees fs (λ m f. fine 6 m f) (u .user) (u .inside) .tree) (h .among) in
+      let e = h .at-it in
+      up j u (parent (frameAt fs (u .user)) (h .child) (h .among)) (λ g. climb n (u .user) (omega arith) (u .inside) g)
 
   pub stands : (j : ℕ) → j < length fs → hasClass (classOf (frameAt fs j .kind)) ≡ true → Stands fs j
   stands j l h = climb (length fs) j (omega arith) l h

@@ -1,14 +1,15 @@
 -- `depth` meets its contract. Assumes nothing.
+use mathlib.Core.Path.{refl}
 use Prim.Native.Nat.{_≤_, _-_}
 use lib.ListN.{length}
 use borrow.Author.Needs.{needs}
 use Rattle.text.specs.Frames.{framesOf}
-use Rattle.layout.proofs.Overs.{Over, over-start, over-here, over-next, over-end}
+use Rattle.layout.proofs.DepthPass.{SeekingOver, over-here, over-next, over-end}
 use Rattle.layout.proofs.depth.depth.Statement.{statement}
 use Rattle.layout.proofs.depth.depth.Tie as tie
 
 abbrev Inv-loop : tie.InvT-loop
-Inv-loop words u i₀ i = (i ≤ length words) × Over (framesOf words) i
+Inv-loop words u i₀ i = (i ≤ length words) × SeekingOver (framesOf words) i
 
 abbrev μ-loop : tie.MeasureT-loop
 μ-loop words u i₀ i = length words - i
@@ -17,7 +18,7 @@ depths-down-requires : tie.Need-depths-down-requires Inv-loop μ-loop
 depths-down-requires c κs = search needs
 
 loop-holds : tie.Need-loop-holds Inv-loop μ-loop
-loop-holds c = (search needs, search over-start)
+loop-holds c = (search needs, refl)
 
 array-read-if1 : tie.Need-array-read-if1 Inv-loop μ-loop
 array-read-if1 c = search needs

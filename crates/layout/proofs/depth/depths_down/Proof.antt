@@ -1,9 +1,10 @@
 -- `depths_down` meets its contract. Assumes nothing.
+use mathlib.Core.Path.{refl}
 use Prim.Native.Nat.{_≤_}
 use lib.ListN.{length}
 use borrow.Author.Needs.{needs}
 use Rattle.text.specs.Frames.{framesOf}
-use Rattle.layout.proofs.Raises.{Sinking, sinking-start, sinking-next, sinking-end}
+use Rattle.layout.proofs.Raises.{Sinking, sinking-next, sinking-end}
 use Rattle.layout.proofs.depth.depths_down.Statement.{statement}
 use Rattle.layout.proofs.depth.depths_down.Tie as tie
 
@@ -14,7 +15,7 @@ abbrev μ-loop : tie.MeasureT-loop
 μ-loop words u₀ n₀ u n = n
 
 loop-holds : tie.Need-loop-holds Inv-loop μ-loop
-loop-holds c = (search needs, sinking-start _ _ _)
+loop-holds c = (search needs, refl)
 
 sub-n : tie.Need-sub-n Inv-loop μ-loop
 sub-n c = search needs

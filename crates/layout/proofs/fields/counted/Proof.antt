@@ -1,5 +1,4 @@
 -- `counted` meets its contract. Assumes nothing.
-use mathlib.Core.Path.{refl}
 use borrow.Author.Needs.{needs}
 use Rattle.layout.proofs.FramePass.{shared-owner, shared-room, cell-room, module-room, counted-laws}
 use Rattle.layout.proofs.fields.counted.Statement.{statement}
@@ -36,22 +35,22 @@ enum-told-4 : tie.Need-enum-told-4
 enum-told-4 c = search needs
 
 returns : tie.Need-returns
-returns c = search (counted-laws, refl)
+returns c = search counted-laws
 
 returns-2 : tie.Need-returns-2
-returns-2 c = search (counted-laws, refl)
+returns-2 c = search counted-laws
 
 returns-3 : tie.Need-returns-3
-returns-3 c = search (counted-laws, refl)
+returns-3 c = search counted-laws
 
 returns-4 : tie.Need-returns-4
-returns-4 c = search (counted-laws, refl)
+returns-4 c = search counted-laws
 
 returns-5 : tie.Need-returns-5
-returns-5 c = search (counted-laws, refl)
+returns-5 c = search counted-laws
 
 returns-6 : tie.Need-returns-6
-returns-6 c = search (counted-laws, refl)
+returns-6 c = search counted-laws
 
 pub counted-spec : {M : Type 1} → statement M
 counted-spec =

@@ -1,7 +1,7 @@
 -- `field_fine` meets its contract. Assumes nothing.
-use mathlib.Core.Path.{refl}
 use borrow.Author.Needs.{needs}
-use Rattle.layout.proofs.FramePass.{types-sixteen, use-laws}
+use Rattle.layout.proofs.FramePass.{use-laws}
+use Rattle.layout.proofs.Tallies.{types-length}
 use Rattle.layout.proofs.fields.field_fine.Statement.{statement}
 use Rattle.layout.proofs.fields.field_fine.Tie as tie
 
@@ -54,7 +54,7 @@ enum-told-11 : tie.Need-enum-told-11
 enum-told-11 c = search needs
 
 first-content-fine-requires : tie.Need-first-content-fine-requires
-first-content-fine-requires c κs = (search needs, search types-sixteen)
+first-content-fine-requires c κs = (search needs, search types-length)
 
 enum-told-12 : tie.Need-enum-told-12
 enum-told-12 c = search needs
@@ -72,46 +72,46 @@ type-fine-requires-2 : tie.Need-type-fine-requires-2
 type-fine-requires-2 c κs = search needs
 
 returns : tie.Need-returns
-returns c = search (use-laws, refl)
+returns c = search use-laws
 
 returns-2 : tie.Need-returns-2
-returns-2 c = search (use-laws, refl)
+returns-2 c = search use-laws
 
 returns-3 : tie.Need-returns-3
-returns-3 c = search (use-laws, refl)
+returns-3 c = search use-laws
 
 returns-4 : tie.Need-returns-4
-returns-4 c = search (use-laws, refl)
+returns-4 c = search use-laws
 
 returns-5 : tie.Need-returns-5
-returns-5 c = search (use-laws, refl)
+returns-5 c = search use-laws
 
 returns-6 : tie.Need-returns-6
-returns-6 c = search (use-laws, refl)
+returns-6 c = search use-laws
 
 returns-7 : tie.Need-returns-7
-returns-7 c = search (use-laws, refl)
+returns-7 c = search use-laws
 
 returns-8 : tie.Need-returns-8
-returns-8 c = search (use-laws, refl)
+returns-8 c = search use-laws
 
 returns-9 : tie.Need-returns-9
-returns-9 c = search (use-laws, refl)
+returns-9 c = search use-laws
 
 returns-10 : tie.Need-returns-10
-returns-10 c = search (use-laws, refl)
+returns-10 c = search use-laws
 
 returns-11 : tie.Need-returns-11
-returns-11 c = search (use-laws, refl)
+returns-11 c = search use-laws
 
 returns-12 : tie.Need-returns-12
-returns-12 c = search (use-laws, refl)
+returns-12 c = search use-laws
 
 returns-13 : tie.Need-returns-13
-returns-13 c = search (use-laws, refl)
+returns-13 c = search use-laws
 
 returns-14 : tie.Need-returns-14
-returns-14 c = search (use-laws, refl)
+returns-14 c = search use-laws
 
 pub field-fine-spec : {M : Type 1} → statement M
 field-fine-spec =

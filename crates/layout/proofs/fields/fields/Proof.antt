@@ -1,22 +1,22 @@
 -- `fields` meets its contract. Assumes nothing.
 use Prim.Native.Nat.{_≤_, _-_}
-use mathlib.Core.Path.{_≡_}
+use mathlib.Core.Path.{_≡_, refl}
 use lib.ListN.{length, take}
 use borrow.Author.Needs.{needs}
 use Rattle.text.specs.Frames.{framesOf}
 use Rattle.layout.specs.Passes.{tallyOf}
-use Rattle.layout.proofs.FramePass.{Fields, tally-start, fields-start, is-fine, fields-here, fields-next, room-next, fields-end}
+use Rattle.layout.proofs.FramePass.{SeekingField, tally-start, is-fine, fields-here, fields-next, room-next, fields-end}
 use Rattle.layout.proofs.fields.fields.Statement.{statement}
 use Rattle.layout.proofs.fields.fields.Tie as tie
 
 abbrev Inv-loop : tie.InvT-loop
-Inv-loop words t₀ i₀ t i = (i ≤ length words) × (t ≡ tallyOf (take i (framesOf words))) × (t .cells ≤ 16) × Fields (framesOf words) i
+Inv-loop words t₀ i₀ t i = (i ≤ length words) × (t ≡ tallyOf (take i (framesOf words))) × (t .cells ≤ 16) × SeekingField (framesOf words) i
 
 abbrev μ-loop : tie.MeasureT-loop
 μ-loop words t₀ i₀ t i = length words - i
 
 loop-holds : tie.Need-loop-holds Inv-loop μ-loop
-loop-holds c = (search needs, search tally-start, search needs, search fields-start)
+loop-holds c = (search needs, search tally-start, search needs, refl)
 
 frame-fine-requires : tie.Need-frame-fine-requires Inv-loop μ-loop
 frame-fine-requires c κs = (search needs, search needs, search needs, search needs)

@@ -1,5 +1,4 @@
 -- `kind_fine` meets its contract. Assumes nothing.
-use mathlib.Core.Path.{refl}
 use borrow.Author.Needs.{needs}
 use Rattle.layout.proofs.FramePass.{kind-laws}
 use Rattle.layout.proofs.fields.kind_fine.Statement.{statement}
@@ -27,22 +26,22 @@ enum-told-4 : tie.Need-enum-told-4
 enum-told-4 c = search needs
 
 returns : tie.Need-returns
-returns c = search (kind-laws, refl)
+returns c = search kind-laws
 
 returns-2 : tie.Need-returns-2
-returns-2 c = search (kind-laws, refl)
+returns-2 c = search kind-laws
 
 returns-3 : tie.Need-returns-3
-returns-3 c = search (kind-laws, refl)
+returns-3 c = search kind-laws
 
 returns-4 : tie.Need-returns-4
-returns-4 c = search (kind-laws, refl)
+returns-4 c = search kind-laws
 
 returns-5 : tie.Need-returns-5
-returns-5 c = search (kind-laws, refl)
+returns-5 c = search kind-laws
 
 returns-6 : tie.Need-returns-6
-returns-6 c = search (kind-laws, refl)
+returns-6 c = search kind-laws
 
 pub kind-fine-spec : {M : Type 1} → statement M
 kind-fine-spec =

@@ -1,6 +1,6 @@
 -- `lower` meets its contract. Assumes nothing.
 use borrow.Author.Needs.{needs}
-use Rattle.layout.proofs.FrameLaws.{lower-laws}
+use Rattle.layout.proofs.Finds.{lower-laws}
 use Rattle.layout.proofs.found.lower.Statement.{statement}
 use Rattle.layout.proofs.found.lower.Tie as tie
 

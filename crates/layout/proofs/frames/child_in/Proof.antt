@@ -1,5 +1,4 @@
 -- `child_in` meets its contract. Assumes nothing.
-use mathlib.Core.Path.{refl}
 use borrow.Author.Needs.{needs}
 use Rattle.layout.proofs.FrameLaws.{child-row, further-row}
 use Rattle.layout.proofs.frames.child_in.Statement.{statement}
@@ -69,10 +68,10 @@ returns-5 : tie.Need-returns-5
 returns-5 c = search needs
 
 returns-6 : tie.Need-returns-6
-returns-6 c = search (further-row, child-row, refl)
+returns-6 c = search (further-row, child-row)
 
 returns-7 : tie.Need-returns-7
-returns-7 c = search (further-row, child-row, refl)
+returns-7 c = search (further-row, child-row)
 
 returns-8 : tie.Need-returns-8
 returns-8 c = search needs

@@ -1,20 +1,21 @@
 -- `behind` meets its contract. Assumes nothing.
+use mathlib.Core.Path.{refl}
 use Prim.Native.Nat.{_≤_, _-_}
 use lib.ListN.{length}
 use borrow.Author.Needs.{needs}
 use Rattle.text.specs.Frames.{framesOf}
-use Rattle.layout.proofs.Orders.{Others, Behind, others-start, others-next, behind-start, behind-here, behind-next, behind-end}
+use Rattle.layout.proofs.OrderPass.{Others, SeekingBehind, others-start, others-next, behind-here, behind-next, behind-end}
 use Rattle.layout.proofs.in_order.behind.Statement.{statement}
 use Rattle.layout.proofs.in_order.behind.Tie as tie
 
 abbrev Inv-loop : tie.InvT-loop
-Inv-loop words other₀ i₀ other i = (i ≤ length words) × Others (framesOf words) other i × Behind (framesOf words) i
+Inv-loop words other₀ i₀ other i = (i ≤ length words) × Others (framesOf words) other i × SeekingBehind (framesOf words) i
 
 abbrev μ-loop : tie.MeasureT-loop
 μ-loop words other₀ i₀ other i = length words - i
 
 loop-holds : tie.Need-loop-holds Inv-loop μ-loop
-loop-holds c = (search needs, search others-start, search behind-start)
+loop-holds c = (search needs, search others-start, refl)
 
 frame-at-requires : tie.Need-frame-at-requires Inv-loop μ-loop
 frame-at-requires c κs = search needs
@@ -40,8 +41,12 @@ add-i c = search needs
 loop-less : tie.Need-loop-less Inv-loop μ-loop
 loop-less c = search needs
 
+-- the facts are listed: with a Bool in the loop `search` breaks off
 loop-again : tie.Need-loop-again Inv-loop μ-loop
-loop-again c = (search needs, search (others-next, c .either .ensures, c .before .is-other .ensures, c .before .before .before .before .frame-at .ensures, c .before .before .before .before .before .before .loop .inv .1, c .before .before .before .before .before .loop-test .taken), search (behind-next, c .before .before .if1 .left, c .before .before .before .is-late .ensures, c .before .before .before .before .frame-at .ensures, c .before .before .before .before .before .before .loop .inv .1, c .before .before .before .before .before .before .loop .inv .2, c .before .before .before .before .before .loop-test .taken))
+loop-again c =
+    let read = c .before .before .before .before in
+    let top = read .before .before .loop in
+    (search needs, search (others-next, c .either .ensures, c .before .is-other .ensures, read .frame-at .ensures, top .inv .1, read .before .loop-test .taken), search (behind-next, c .before .before .if1 .left, c .before .before .before .is-late .ensures, read .frame-at .ensures, top .inv .1, top .inv .2, read .before .loop-test .taken))
 
 returns-2 : tie.Need-returns-2 Inv-loop μ-loop
 returns-2 c = search behind-end

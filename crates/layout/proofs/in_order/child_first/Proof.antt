@@ -1,6 +1,6 @@
 -- `child_first` meets its contract. Assumes nothing.
 use borrow.Author.Needs.{needs}
-use Rattle.layout.proofs.Rows.{child-laws}
+use Rattle.layout.proofs.DisorderPass.{child-laws}
 use Rattle.layout.proofs.in_order.child_first.Statement.{statement}
 use Rattle.layout.proofs.in_order.child_first.Tie as tie
 

@@ -5,18 +5,18 @@ use borrow.Author.Needs.{needs}
 use lib.ListN.{length}
 use Rattle.text.specs.Frames.{framesOf}
 use Rattle.layout.specs.Passes.{Backward}
-use Rattle.layout.proofs.Rows.{Going, going-start, back-start, back-next, pass-here, pass-next, pass-none}
+use Rattle.layout.proofs.DisorderPass.{SeekingDisorder, disorder-start, backward-start, backward-next, disorder-here, disorder-next, disorder-end}
 use Rattle.layout.proofs.in_order.disorder.Statement.{statement}
 use Rattle.layout.proofs.in_order.disorder.Tie as tie
 
 abbrev Inv-loop : tie.InvT-loop
-Inv-loop words first₀ i₀ first i = (i ≤ length words) × (length first ≡ 1024) × Backward first i × Going (framesOf words) first i
+Inv-loop words first₀ i₀ first i = (i ≤ length words) × (length first ≡ 1024) × Backward first i × SeekingDisorder (framesOf words) first i
 
 abbrev μ-loop : tie.MeasureT-loop
 μ-loop words first₀ i₀ first i = length words - i
 
 loop-holds : tie.Need-loop-holds Inv-loop μ-loop
-loop-holds c = (search needs, refl, search back-start, search going-start)
+loop-holds c = (search needs, refl, search backward-start, search disorder-start)
 
 frame-at-requires : tie.Need-frame-at-requires Inv-loop μ-loop
 frame-at-requires c κs = search needs
@@ -31,7 +31,7 @@ cast-t10 : tie.Need-cast-t10 Inv-loop μ-loop
 cast-t10 c = search needs
 
 returns : tie.Need-returns Inv-loop μ-loop
-returns c = search pass-here
+returns c = search disorder-here
 
 enum-known-lo : tie.Need-enum-known-lo Inv-loop μ-loop
 enum-known-lo c = search needs
@@ -49,10 +49,10 @@ loop-less : tie.Need-loop-less Inv-loop μ-loop
 loop-less c = search needs
 
 loop-again : tie.Need-loop-again Inv-loop μ-loop
-loop-again c = (search needs, search needs, search back-next, search pass-next)
+loop-again c = (search needs, search needs, search backward-next, search disorder-next)
 
 returns-2 : tie.Need-returns-2 Inv-loop μ-loop
-returns-2 c = search pass-none
+returns-2 c = search disorder-end
 
 pub disorder-spec : {M : Type 1} → statement M
 disorder-spec =

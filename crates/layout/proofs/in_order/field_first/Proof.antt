@@ -1,6 +1,6 @@
 -- `field_first` meets its contract. Assumes nothing.
 use borrow.Author.Needs.{needs}
-use Rattle.layout.proofs.Rows.{field-laws}
+use Rattle.layout.proofs.DisorderPass.{field-laws}
 use Rattle.layout.proofs.in_order.field_first.Statement.{statement}
 use Rattle.layout.proofs.in_order.field_first.Tie as tie
 

@@ -1,7 +1,6 @@
 -- `is_left` meets its contract. Assumes nothing.
-use mathlib.Core.Path.{refl}
 use borrow.Author.Needs.{needs}
-use Rattle.layout.proofs.Marks.{left-row}
+use Rattle.layout.proofs.LeftoverPass.{left-row}
 use Rattle.layout.proofs.in_order.is_left.Statement.{statement}
 use Rattle.layout.proofs.in_order.is_left.Tie as tie
 
@@ -15,10 +14,10 @@ enum-told-3 : tie.Need-enum-told-3
 enum-told-3 c = search needs
 
 returns : tie.Need-returns
-returns c = search (left-row, refl)
+returns c = search left-row
 
 returns-2 : tie.Need-returns-2
-returns-2 c = search (left-row, refl)
+returns-2 c = search left-row
 
 returns-3 : tie.Need-returns-3
 returns-3 c = search needs

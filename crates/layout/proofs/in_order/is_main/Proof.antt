@@ -1,6 +1,6 @@
 -- `is_main` meets its contract. Assumes nothing.
 use borrow.Author.Needs.{needs}
-use Rattle.layout.proofs.Orders.{main-laws}
+use Rattle.layout.proofs.OrderPass.{main-laws}
 use Rattle.layout.proofs.in_order.is_main.Statement.{statement}
 use Rattle.layout.proofs.in_order.is_main.Tie as tie
 

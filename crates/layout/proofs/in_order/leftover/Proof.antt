@@ -4,12 +4,12 @@ use mathlib.Core.Path.{refl}
 use lib.ListN.{length}
 use borrow.Author.Needs.{needs}
 use Rattle.text.specs.Frames.{framesOf}
-use Rattle.layout.proofs.Marks.{Leftover, left-start, left-here, left-next, left-end}
+use Rattle.layout.proofs.LeftoverPass.{SeekingLeftover, leftover-here, leftover-next, leftover-end}
 use Rattle.layout.proofs.in_order.leftover.Statement.{statement}
 use Rattle.layout.proofs.in_order.leftover.Tie as tie
 
 abbrev Inv-loop : tie.InvT-loop
-Inv-loop words used i₀ i = (i ≤ length words) × Leftover (framesOf words) i
+Inv-loop words used i₀ i = (i ≤ length words) × SeekingLeftover (framesOf words) i
 
 abbrev μ-loop : tie.MeasureT-loop
 μ-loop words used i₀ i = length words - i
@@ -18,7 +18,7 @@ mark-all-requires : tie.Need-mark-all-requires Inv-loop μ-loop
 mark-all-requires c κs = search needs
 
 loop-holds : tie.Need-loop-holds Inv-loop μ-loop
-loop-holds c = (search needs, search left-start)
+loop-holds c = (search needs, refl)
 
 frame-at-requires : tie.Need-frame-at-requires Inv-loop μ-loop
 frame-at-requires c κs = search needs
@@ -36,7 +36,7 @@ cast-t15 : tie.Need-cast-t15 Inv-loop μ-loop
 cast-t15 c = search needs
 
 returns : tie.Need-returns Inv-loop μ-loop
-returns c = search (left-here, refl)
+returns c = search leftover-here
 
 add-i : tie.Need-add-i Inv-loop μ-loop
 add-i c = search needs
@@ -45,10 +45,10 @@ loop-less : tie.Need-loop-less Inv-loop μ-loop
 loop-less c = search needs
 
 loop-again : tie.Need-loop-again Inv-loop μ-loop
-loop-again c = (search needs, search (left-next, refl))
+loop-again c = (search needs, search leftover-next)
 
 returns-2 : tie.Need-returns-2 Inv-loop μ-loop
-returns-2 c = search left-end
+returns-2 c = search leftover-end
 
 pub leftover-spec : {M : Type 1} → statement M
 leftover-spec =

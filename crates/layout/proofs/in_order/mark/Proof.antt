@@ -1,6 +1,6 @@
 -- `mark` meets its contract. Assumes nothing.
 use borrow.Author.Needs.{needs}
-use Rattle.layout.proofs.Marks.{mark-laws}
+use Rattle.layout.proofs.LeftoverPass.{mark-laws}
 use Rattle.layout.proofs.in_order.mark.Statement.{statement}
 use Rattle.layout.proofs.in_order.mark.Tie as tie
 

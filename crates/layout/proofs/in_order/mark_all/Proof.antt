@@ -1,9 +1,10 @@
 -- `mark_all` meets its contract. Assumes nothing.
+use mathlib.Core.Path.{refl}
 use Prim.Native.Nat.{_≤_, _-_}
 use lib.ListN.{length}
 use borrow.Author.Needs.{needs}
 use Rattle.text.specs.Frames.{framesOf}
-use Rattle.layout.proofs.Marks.{Marking, marking-start, marking-next, marking-end}
+use Rattle.layout.proofs.LeftoverPass.{Marking, marking-next, marking-end}
 use Rattle.layout.proofs.in_order.mark_all.Statement.{statement}
 use Rattle.layout.proofs.in_order.mark_all.Tie as tie
 
@@ -14,7 +15,7 @@ abbrev μ-loop : tie.MeasureT-loop
 μ-loop words used₀ i₀ used i = length words - i
 
 loop-holds : tie.Need-loop-holds Inv-loop μ-loop
-loop-holds c = (search needs, marking-start _ _)
+loop-holds c = (search needs, refl)
 
 frame-at-requires : tie.Need-frame-at-requires Inv-loop μ-loop
 frame-at-requires c κs = search needs

@@ -1,6 +1,6 @@
 -- `mark_field` meets its contract. Assumes nothing.
 use borrow.Author.Needs.{needs}
-use Rattle.layout.proofs.Marks.{field-laws}
+use Rattle.layout.proofs.LeftoverPass.{field-laws}
 use Rattle.layout.proofs.in_order.mark_field.Statement.{statement}
 use Rattle.layout.proofs.in_order.mark_field.Tie as tie
 

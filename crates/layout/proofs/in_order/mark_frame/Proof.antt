@@ -1,6 +1,6 @@
 -- `mark_frame` meets its contract. Assumes nothing.
 use borrow.Author.Needs.{needs}
-use Rattle.layout.proofs.Marks.{frame-marked}
+use Rattle.layout.proofs.LeftoverPass.{frame-marked}
 use Rattle.layout.proofs.in_order.mark_frame.Statement.{statement}
 use Rattle.layout.proofs.in_order.mark_frame.Tie as tie
 

@@ -1,6 +1,6 @@
 -- `no_main` meets its contract. Assumes nothing.
 use borrow.Author.Needs.{needs}
-use Rattle.layout.proofs.Orders.{no-main-laws}
+use Rattle.layout.proofs.OrderPass.{no-main-laws}
 use Rattle.layout.proofs.in_order.no_main.Statement.{statement}
 use Rattle.layout.proofs.in_order.no_main.Tie as tie
 

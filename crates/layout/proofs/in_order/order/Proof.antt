@@ -1,6 +1,6 @@
 -- `order` meets its contract. Assumes nothing.
 use borrow.Author.Needs.{needs}
-use Rattle.layout.proofs.Orders.{order-is}
+use Rattle.layout.proofs.OrderPass.{order-is}
 use Rattle.layout.proofs.in_order.order.Statement.{statement}
 use Rattle.layout.proofs.in_order.order.Tie as tie
 

@@ -1,6 +1,6 @@
 -- `row_first` meets its contract. Assumes nothing.
 use borrow.Author.Needs.{needs}
-use Rattle.layout.proofs.Rows.{row-back, rows-back, row-laws}
+use Rattle.layout.proofs.DisorderPass.{row-within, rows-within, row-laws}
 use Rattle.layout.proofs.in_order.row_first.Statement.{statement}
 use Rattle.layout.proofs.in_order.row_first.Tie as tie
 
@@ -20,7 +20,7 @@ enum-known-t : tie.Need-enum-known-t
 enum-known-t c = search needs
 
 field-first-requires-2 : tie.Need-field-first-requires-2
-field-first-requires-2 c κs = (search needs, search needs, search (row-back, needs))
+field-first-requires-2 c κs = (search needs, search needs, search (row-within, needs))
 
 enum-told-2 : tie.Need-enum-told-2
 enum-told-2 c = search needs
@@ -28,8 +28,12 @@ enum-told-2 c = search needs
 enum-known-s : tie.Need-enum-known-s
 enum-known-s c = search needs
 
+-- written out: `search` takes too many steps to tell the facts of the two calls apart
 field-first-requires-3 : tie.Need-field-first-requires-3
-field-first-requires-3 c κs = (search needs, search needs, rows-back _ _ _ (search needs) _ _ _ _ _ _ (c .before .before .before .before .before .t .given .1) (c .before .before .before .before .before .before .before .field-first .ensures) (c .before .s .given .1) (c .before .before .before .field-first2 .ensures))
+field-first-requires-3 c κs =
+    let for-b = c .before .before .before in
+    let for-c = for-b .before .before .before .before in
+    (search needs, search needs, rows-within _ _ _ (search needs) _ _ _ _ _ _ (for-b .before .before .t .given .1) (for-c .field-first .ensures) (c .before .s .given .1) (for-b .field-first2 .ensures))
 
 returns : tie.Need-returns
 returns c = search row-laws

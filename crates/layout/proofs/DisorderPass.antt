@@ -1,4 +1,4 @@
--- The pass that looks for a frame that is no tree's root, over an array of where the trees begin. Assumes nothing.
+-- The code's pass for a frame that is no tree's root is `firstDisorder`: its array of where the trees begin tells of the frames passed. Assumes nothing.
 use mathlib.Core.Path.{_≡_, refl, sym, ap, _∙_}
 use mathlib.Core.Bool.{Bool, true, false, not, _&&_}
 use mathlib.Core.List.{List, [], _∷_, _++_, reverse}
@@ -6,8 +6,8 @@ use mathlib.Core.Option.{Option, none, some}
 use Prim.Native.Nat.{ℕ, zero, suc, _+_, _-_, _≤_, _<_}
 use native.Mathlib.Omega.{arith}
 use lib.Dec.{eqb}
-use lib.ListN.{length, getD, set, drop, drop-of-length-le}
-use lib.Seq.{getD-set-same, getD-set-other, drop-cons}
+use lib.ListN.{length, getD, set, drop}
+use lib.Seq.{getD-set-same, getD-set-other}
 use borrow.Author.Tests.{eq-eqb, ne-eqb, eqb-true, eqb-false, not-true, not-false}
 use Rattle.basics.proofs.Ifs.{and-true}
 use Rattle.language.specs.Kinds.{classOf, uses, Child, child, childIn, children}
@@ -15,7 +15,7 @@ use Rattle.language.specs.declared.kind.Class.{Class}
 use Rattle.language.specs.declared.kind.Use.{Use}
 use Rattle.language.specs.declared.kind.Uses.{Uses}
 use Rattle.language.specs.declared.frame.Frame.{Frame}
-use Rattle.program.specs.Trees.{noFrame, frameAt}
+use Rattle.program.specs.Trees.{frameAt}
 use Rattle.text.specs.Frames.{framesOf}
 use Rattle.layout.specs.declared.found.Found.{Found}
 use Rattle.layout.specs.declared.found.Found.the-variants.{At, Nowhere}
@@ -23,27 +23,15 @@ use Rattle.layout.specs.declared.frames.ChildRead.{ChildRead}
 use Rattle.layout.specs.declared.frames.ChildRead.the-variants.{ChildAt, NoChild}
 use Rattle.layout.specs.Scans.{Passed, passed, sameClass, rowFirst, firstDisorder}
 use Rattle.layout.specs.Passes.{found, childRead, told, Backward}
-use Rattle.layout.proofs.FrameLaws.{frames-length, few, turned, no-child-is, child-is}
-
-abbrev nobody : Passed
-nobody = passed Class.Neither 0
+use Rattle.layout.proofs.Disorder.{nobody, at-passed}
+use Rattle.layout.proofs.Finds.{found-none, found-some}
+use Rattle.layout.proofs.FrameLaws.{frames-next, frames-end, few, reversed, no-child-is, child-is}
 
 -- ---- what the array tells
 told-get : (fs : List Frame) (first : List ℕ) (i c : ℕ) → c < i → getD (told fs first i) (i - suc c) nobody ≡ passed (classOf (frameAt fs c .kind)) (getD first c 0)
 unfolding told
 told-get fs first zero c l = absurd (omega arith)
-told-get fs first (suc i) c l = go (eqb c i) refl (λ k. told-get fs first i c k)
-  where
-    go : (b : Bool) → eqb c i ≡ b → (c < i → getD (told fs first i) (i - suc c) nobody ≡ passed (classOf (frameAt fs c .kind)) (getD first c 0)) → getD (passed (classOf (frameAt fs i .kind)) (getD first i 0) ∷ told fs first i) (suc i - suc c) nobody ≡ passed (classOf (frameAt fs c .kind)) (getD first c 0)
-    go true e r =
-        let q : c ≡ i = eqb-true c i e in
-        let z : suc i - suc c ≡ 0 = omega arith in
-        rw (z, q)
-    go false e r =
-        let q : c ≡ i → ⊥ = eqb-false c i e in
-        let k : c < i = omega arith in
-        let z : suc i - suc c ≡ suc (i - suc c) = omega arith in
-        rw z (r k)
+told-get fs first (suc i) c l = at-passed (λ (k : ℕ) (p : Passed). p ≡ passed (classOf (frameAt fs k .kind)) (getD first k 0)) i c _ (told fs first i) refl (λ k. told-get fs first i c k) l
 
 told-kept : (fs : List Frame) (first : List ℕ) (n i x : ℕ) → n ≤ i → told fs (set first i x) n ≡ told fs first n
 unfolding told
@@ -72,6 +60,7 @@ module _ (fs : List Frame) (first : List ℕ) (i stop v : ℕ) (k : Class) where
   unfolding rowFirst
   one-child = refl
 
+  -- a number from i on; one not just before `stop`; a frame of another class; and the child as it should be
   pub child-past : stop ≤ i → i ≤ v → Nowhere ≡ found (rowFirst (told fs first i) i stop (child k v ∷ []))
   child-past m l = ap found (sym (one-child ∙ ap (λ (b : Bool). chosen (at-v .first) (b && sameClass (at-v .class) k)) (ne-eqb (suc v) stop (λ e. omega arith))))
 
@@ -110,6 +99,7 @@ module _ (ps : List Passed) (i stop : ℕ) (u : Use) (v : ℕ) (x : ChildRead) w
 pub ruleset field-laws = (field-none, field-some)
 
 -- ---- the row
+-- a row goes on where the row behind it begins
 abbrev andThen : Option ℕ → (ℕ → Option ℕ) → Option ℕ
 andThen none f = none
 andThen (some s) f = f s
@@ -132,41 +122,34 @@ row-fields : (ps : List Passed) (i : ℕ) (f : Frame) (us : Uses) → us ≡ use
 unfolding children
 row-fields ps i f us e =
     ap (λ (w : Uses). rowFirst ps i i (reverse (childIn (w .a) (f .a) ++ childIn (w .b) (f .b) ++ childIn (w .c) (f .c)))) (sym e)
-    ∙ ap (rowFirst ps i i) (turned (few (us .a) (f .a)) (few (us .b) (f .b)) (few (us .c) (f .c)))
+    ∙ ap (rowFirst ps i i) (reversed (few (us .a) (f .a)) (few (us .b) (f .b)) (few (us .c) (f .c)))
     ∙ row-append ps i (childIn (us .c) (f .c)) (childIn (us .b) (f .b) ++ childIn (us .a) (f .a)) i
     ∙ and-same (rowFirst ps i i (childIn (us .c) (f .c))) _ _ (λ t. row-append ps i (childIn (us .b) (f .b)) (childIn (us .a) (f .a)) t)
 
-pub nowhere-none : (o : Option ℕ) → found o ≡ Nowhere → o ≡ none
-nowhere-none none e = refl
-nowhere-none (some n) e = absurd (let z : _≡_ {A = ℕ} 0 1 = cc in omega arith)
-
-pub at-some : (o : Option ℕ) (s : ℕ) → found o ≡ At s → o ≡ some s
-at-some none s e = absurd (let z : _≡_ {A = ℕ} 0 1 = cc in omega arith)
-at-some (some n) s e = let z : n ≡ s = cc in ap some z
-
+-- the code asks for C, then B, then A
 module _ (ps : List Passed) (i : ℕ) (f : Frame) (us : Uses) (h : us ≡ uses (f .kind)) where
   pub row-last : (x : Found) → x ≡ Nowhere → x ≡ found (rowFirst ps i i (childIn (us .c) (f .c))) → Nowhere ≡ found (rowFirst ps i i (reverse (children f)))
-  row-last x e p = let z = nowhere-none (rowFirst ps i i (childIn (us .c) (f .c))) (sym p ∙ e) in rw (row-fields ps i f us h, z)
+  row-last x e p = let z = found-none (rowFirst ps i i (childIn (us .c) (f .c))) e p in rw (row-fields ps i f us h, z)
 
   pub row-middle : (x y : Found) (t : ℕ) → x ≡ At t → x ≡ found (rowFirst ps i i (childIn (us .c) (f .c))) → y ≡ Nowhere → y ≡ found (rowFirst ps i t (childIn (us .b) (f .b))) → Nowhere ≡ found (rowFirst ps i i (reverse (children f)))
   row-middle x y t e p g q =
-      let z = at-some (rowFirst ps i i (childIn (us .c) (f .c))) t (sym p ∙ e) in
-      let w = nowhere-none (rowFirst ps i t (childIn (us .b) (f .b))) (sym q ∙ g) in
+      let z = found-some (rowFirst ps i i (childIn (us .c) (f .c))) e p in
+      let w = found-none (rowFirst ps i t (childIn (us .b) (f .b))) g q in
       rw (row-fields ps i f us h, z, w)
 
   pub row-whole : (x y r : Found) (t s : ℕ) → x ≡ At t → x ≡ found (rowFirst ps i i (childIn (us .c) (f .c))) → y ≡ At s → y ≡ found (rowFirst ps i t (childIn (us .b) (f .b))) → r ≡ found (rowFirst ps i s (childIn (us .a) (f .a))) → r ≡ found (rowFirst ps i i (reverse (children f)))
   row-whole x y r t s e p g q k =
-      let z = at-some (rowFirst ps i i (childIn (us .c) (f .c))) t (sym p ∙ e) in
-      let w = at-some (rowFirst ps i t (childIn (us .b) (f .b))) s (sym q ∙ g) in
+      let z = found-some (rowFirst ps i i (childIn (us .c) (f .c))) e p in
+      let w = found-some (rowFirst ps i t (childIn (us .b) (f .b))) g q in
       rw (row-fields ps i f us h, z, w) k
 
 pub ruleset row-laws = (row-last, row-middle, row-whole)
 
--- a row begins at its end or before
-back : (fs : List Frame) (first : List ℕ) (i : ℕ) → Backward first i → (cs : List Child) (stop lo : ℕ) → stop ≤ i → rowFirst (told fs first i) i stop cs ≡ some lo → lo ≤ stop
+-- ---- a row begins at its end or before, so that the next row ends within the frames passed
+first-le : (fs : List Frame) (first : List ℕ) (i : ℕ) → Backward first i → (cs : List Child) (stop lo : ℕ) → stop ≤ i → rowFirst (told fs first i) i stop cs ≡ some lo → lo ≤ stop
 unfolding rowFirst
-back fs first i h [] stop lo l e = let z : stop ≡ lo = cc in omega arith
-back fs first i h (c ∷ cs) stop lo l e = go (eqb (suc (c .at)) stop && sameClass (getD (told fs first i) (i - suc (c .at)) nobody .class) (c .class)) refl e (λ m k g. back fs first i h cs m lo k g)
+first-le fs first i h [] stop lo l e = let z : stop ≡ lo = cc in omega arith
+first-le fs first i h (c ∷ cs) stop lo l e = go (eqb (suc (c .at)) stop && sameClass (getD (told fs first i) (i - suc (c .at)) nobody .class) (c .class)) refl e (λ m k g. first-le fs first i h cs m lo k g)
   where
     go : (b : Bool) → (eqb (suc (c .at)) stop && sameClass (getD (told fs first i) (i - suc (c .at)) nobody .class) (c .class)) ≡ b
         → elim b [ true ↦ rowFirst (told fs first i) i (getD (told fs first i) (i - suc (c .at)) nobody .first) cs | false ↦ none ] ≡ some lo
@@ -181,55 +164,55 @@ back fs first i h (c ∷ cs) stop lo l e = go (eqb (suc (c .at)) stop && sameCla
         omega arith
 
 module _ (fs : List Frame) (first : List ℕ) (i : ℕ) (h : Backward first i) where
-  pub row-back : (cs : List Child) (x : Found) (stop t : ℕ) → x ≡ At t → x ≡ found (rowFirst (told fs first i) i stop cs) → stop ≤ i → t ≤ i
-  row-back cs x stop t e p l = let a = back fs first i h cs stop t l (at-some (rowFirst (told fs first i) i stop cs) t (sym p ∙ e)) in omega arith
+  pub row-within : (cs : List Child) (x : Found) (stop t : ℕ) → x ≡ At t → x ≡ found (rowFirst (told fs first i) i stop cs) → stop ≤ i → t ≤ i
+  row-within cs x stop t e p l = let a = first-le fs first i h cs stop t l (found-some (rowFirst (told fs first i) i stop cs) e p) in omega arith
 
-  pub rows-back : (cs ds : List Child) (x y : Found) (t s : ℕ) → x ≡ At t → x ≡ found (rowFirst (told fs first i) i i cs) → y ≡ At s → y ≡ found (rowFirst (told fs first i) i t ds) → s ≤ i
-  rows-back cs ds x y t s e p f q = row-back ds y t s f q (row-back cs x i t e p (omega arith))
+  pub rows-within : (cs ds : List Child) (x y : Found) (t s : ℕ) → x ≡ At t → x ≡ found (rowFirst (told fs first i) i i cs) → y ≡ At s → y ≡ found (rowFirst (told fs first i) i t ds) → s ≤ i
+  rows-within cs ds x y t s e p f q = row-within ds y t s f q (row-within cs x i t e p (omega arith))
 
 -- ---- the loop: the pass from here on is the pass from the start
-abbrev pub Going : List Frame → List ℕ → ℕ → Type 0
-Going fs first i = firstDisorder (told fs first i) i (drop i fs) ≡ firstDisorder [] 0 fs
+abbrev pub SeekingDisorder : List Frame → List ℕ → ℕ → Type 0
+SeekingDisorder fs first i = firstDisorder (told fs first i) i (drop i fs) ≡ firstDisorder [] 0 fs
 
-pub going-start : (fs : List Frame) (first : List ℕ) → Going fs first 0
+pub disorder-start : (fs : List Frame) (first : List ℕ) → SeekingDisorder fs first 0
 unfolding told
-going-start fs first = refl
+disorder-start fs first = refl
 
-module _ (fs : List Frame) (first : List ℕ) (i : ℕ) where
+module _ (ws first : List ℕ) (i : ℕ) where
   abbrev next : Option ℕ → Option ℕ
-  next o = elim o [ none ↦ some i | some lo ↦ firstDisorder (passed (classOf (frameAt fs i .kind)) lo ∷ told fs first i) (suc i) (drop (suc i) fs) ]
+  next o = elim o [ none ↦ some i | some lo ↦ firstDisorder (passed (classOf (frameAt (framesOf ws) i .kind)) lo ∷ told (framesOf ws) first i) (suc i) (drop (suc i) (framesOf ws)) ]
 
-  turn : i < length fs → firstDisorder (told fs first i) i (drop i fs) ≡ next (rowFirst (told fs first i) i i (reverse (children (frameAt fs i))))
-  turn l = ap (firstDisorder (told fs first i) i) (drop-cons fs i noFrame l) ∙ opened
+  look : i < length ws → firstDisorder (told (framesOf ws) first i) i (drop i (framesOf ws)) ≡ next (rowFirst (told (framesOf ws) first i) i i (reverse (children (frameAt (framesOf ws) i))))
+  look l = ap (firstDisorder (told (framesOf ws) first i) i) (frames-next ws i l) ∙ step
     where
-      opened : firstDisorder (told fs first i) i (frameAt fs i ∷ drop (suc i) fs) ≡ next (rowFirst (told fs first i) i i (reverse (children (frameAt fs i))))
-      opened = unfold firstDisorder in refl
+      step : firstDisorder (told (framesOf ws) first i) i (frameAt (framesOf ws) i ∷ drop (suc i) (framesOf ws)) ≡ next (rowFirst (told (framesOf ws) first i) i i (reverse (children (frameAt (framesOf ws) i))))
+      step = unfold firstDisorder in refl
 
 module _ (ws first : List ℕ) (i : ℕ) (f : Frame) (x : Found) (e : f ≡ frameAt (framesOf ws) i) (q : x ≡ found (rowFirst (told (framesOf ws) first i) i i (reverse (children f)))) where
   row-here : x ≡ found (rowFirst (told (framesOf ws) first i) i i (reverse (children (frameAt (framesOf ws) i))))
   row-here = q ∙ ap (λ (g : Frame). found (rowFirst (told (framesOf ws) first i) i i (reverse (children g)))) e
 
-  pub pass-here : x ≡ Nowhere → Going (framesOf ws) first i → i < length ws → At i ≡ found (firstDisorder [] 0 (framesOf ws))
-  pass-here n g l =
-      let z = nowhere-none (rowFirst (told (framesOf ws) first i) i i (reverse (children (frameAt (framesOf ws) i)))) (sym row-here ∙ n) in
-      ap found (sym (ap (next (framesOf ws) first i) z) ∙ sym (turn (framesOf ws) first i (let y = frames-length ws in omega arith)) ∙ g)
+  pub disorder-here : x ≡ Nowhere → SeekingDisorder (framesOf ws) first i → i < length ws → At i ≡ found (firstDisorder [] 0 (framesOf ws))
+  disorder-here n g l =
+      let z = found-none (rowFirst (told (framesOf ws) first i) i i (reverse (children (frameAt (framesOf ws) i)))) n row-here in
+      ap found (sym (ap (next ws first i) z) ∙ sym (look ws first i l) ∙ g)
 
-  pub pass-next : (lo : ℕ) → x ≡ At lo → Going (framesOf ws) first i → length first ≡ 1024 → i < length ws → length ws ≤ 1024 → Going (framesOf ws) (set first i lo) (i + 1)
-  pass-next lo n g a l m =
-      let z = at-some (rowFirst (told (framesOf ws) first i) i i (reverse (children (frameAt (framesOf ws) i)))) lo (sym row-here ∙ n) in
+  pub disorder-next : (lo : ℕ) → x ≡ At lo → SeekingDisorder (framesOf ws) first i → length first ≡ 1024 → i < length ws → length ws ≤ 1024 → SeekingDisorder (framesOf ws) (set first i lo) (i + 1)
+  disorder-next lo n g a l m =
+      let z = found-some (rowFirst (told (framesOf ws) first i) i i (reverse (children (frameAt (framesOf ws) i)))) n row-here in
       let t = told-next (framesOf ws) first i lo (omega arith) in
       let s : i + 1 ≡ suc i = omega arith in
       rw s (ap (λ (ps : List Passed). firstDisorder ps (suc i) (drop (suc i) (framesOf ws))) t
-      ∙ sym (ap (next (framesOf ws) first i) z)
-      ∙ sym (turn (framesOf ws) first i (let y = frames-length ws in omega arith)) ∙ g)
+      ∙ sym (ap (next ws first i) z)
+      ∙ sym (look ws first i l) ∙ g)
 
-  pub back-next : (lo : ℕ) → x ≡ At lo → Backward first i → length first ≡ 1024 → i < length ws → length ws ≤ 1024 → Backward (set first i lo) (i + 1)
-  back-next lo n h a l m j k = go (eqb j i) refl
+  pub backward-next : (lo : ℕ) → x ≡ At lo → Backward first i → length first ≡ 1024 → i < length ws → length ws ≤ 1024 → Backward (set first i lo) (i + 1)
+  backward-next lo n h a l m j k = go (eqb j i) refl
     where
       go : (b : Bool) → eqb j i ≡ b → getD (set first i lo) j 0 ≤ j
       go true y =
           let w : j ≡ i = eqb-true j i y in
-          let o : lo ≤ i = row-back (framesOf ws) first i h _ x i lo n q (omega arith) in
+          let o : lo ≤ i = row-within (framesOf ws) first i h _ x i lo n q (omega arith) in
           let p : getD (set first i lo) i 0 ≡ lo = getD-set-same first i lo 0 (omega arith) in
           rw w (omega arith)
       go false y =
@@ -238,11 +221,11 @@ module _ (ws first : List ℕ) (i : ℕ) (f : Frame) (x : Found) (e : f ≡ fram
           let r : getD first j 0 ≤ j = h j (omega arith) in
           omega arith
 
-pub back-start : (first : List ℕ) → Backward first 0
-back-start first j l = absurd (omega arith)
+pub backward-start : (first : List ℕ) → Backward first 0
+backward-start first j l = absurd (omega arith)
 
-pub pass-none : (ws first : List ℕ) (i : ℕ) → Going (framesOf ws) first i → length ws ≤ i → Nowhere ≡ found (firstDisorder [] 0 (framesOf ws))
-pass-none ws first i g l = ap found (end ∙ ap (firstDisorder (told (framesOf ws) first i) i) (sym (drop-of-length-le (framesOf ws) {i = i} (let y = frames-length ws in omega arith))) ∙ g)
+pub disorder-end : (ws first : List ℕ) (i : ℕ) → SeekingDisorder (framesOf ws) first i → length ws ≤ i → Nowhere ≡ found (firstDisorder [] 0 (framesOf ws))
+disorder-end ws first i g l = ap found (end ∙ ap (firstDisorder (told (framesOf ws) first i) i) (sym (frames-end ws i l)) ∙ g)
   where
     end : none ≡ firstDisorder (told (framesOf ws) first i) i []
     end = unfold firstDisorder in refl

@@ -1,18 +1,16 @@
--- The other passes of refusal 6: shared cells behind another kind, `main`, and the lowest frame of all. Assumes nothing.
+-- The code's other passes of refusal 6: shared cells behind another kind, `main`, and the lowest frame of all four passes. Assumes nothing.
 use mathlib.Core.Path.{_≡_, refl, sym, ap, ap₂, _∙_}
 use mathlib.Core.Bool.{Bool, true, false, not, _&&_, _||_}
-use mathlib.Core.List.{List, [], _∷_, _++_}
+use mathlib.Core.List.{List, []}
 use mathlib.Core.Option.{none, some}
-use Prim.Native.Nat.{ℕ, suc, _+_, _-_, _≤_, _<_}
-use native.Mathlib.Omega.{arith}
+use Prim.Native.Nat.{ℕ, _+_, _-_, _≤_, _<_}
 use lib.Dec.{eqb}
 use borrow.Author.Tests.{not-true, not-false}
 use lib.ListN.{length, take}
-use lib.Seq.{take-suc}
 use Rattle.basics.specs.Searches.{any, lowest, earlier}
 use Rattle.basics.proofs.Ifs.{yes, no}
 use Rattle.language.specs.declared.frame.Frame.{Frame}
-use Rattle.program.specs.Trees.{noFrame, frameAt}
+use Rattle.program.specs.Trees.{frameAt}
 use Rattle.text.specs.Frames.{framesOf}
 use Rattle.layout.specs.declared.found.Found.{Found}
 use Rattle.layout.specs.declared.found.Found.the-variants.{At, Nowhere}
@@ -20,62 +18,46 @@ use Rattle.layout.specs.Fields.{isHeader, isShared, isModule}
 use Rattle.layout.specs.Order.{isMain}
 use Rattle.layout.specs.Scans.{firstDisorder, isBehind, firstLeftover, noMain, orderFault}
 use Rattle.layout.specs.Passes.{found, optionOf}
-use Rattle.layout.proofs.FrameLaws.{frames-length, option-found}
+use Rattle.layout.proofs.Finds.{option-found}
+use Rattle.layout.proofs.FrameLaws.{frames-length, frames-more}
+use Rattle.layout.proofs.Searches.{any-append}
 use Rattle.layout.proofs.Order.{isOther}
 use Rattle.layout.proofs.Seeking.{Seeking, seek-here, seek-next, seek-end}
 
 -- ---- shared cells behind another kind: `other` says whether there was one before i
+-- `isBehind`, as the contract writes it
 abbrev behindTest : List Frame → ℕ → Frame → Bool
 behindTest fs i f = isBehind fs i f
 
-abbrev pub Behind : List Frame → ℕ → Type 0
-Behind fs i = Seeking (behindTest fs) fs i
+abbrev pub SeekingBehind : List Frame → ℕ → Type 0
+SeekingBehind fs i = Seeking (behindTest fs) fs i
 
 abbrev pub Others : List Frame → Bool → ℕ → Type 0
 Others fs other i = other ≡ any isOther (take i fs)
-
-any-append : (t : Frame → Bool) (xs : List Frame) (f : Frame) → any t (xs ++ (f ∷ [])) ≡ (any t xs || t f)
-unfolding any
-any-append t [] f = go (t f)
-  where
-    go : (b : Bool) → elim b [ true ↦ true | false ↦ false ] ≡ b
-    go true = refl
-    go false = refl
-any-append t (x ∷ xs) f = go (t x) (any-append t xs f)
-  where
-    go : (b : Bool) → any t (xs ++ (f ∷ [])) ≡ (any t xs || t f) → elim b [ true ↦ true | false ↦ any t (xs ++ (f ∷ [])) ] ≡ (elim b [ true ↦ true | false ↦ any t xs ] || t f)
-    go true h = refl
-    go false h = h
 
 pub others-start : (fs : List Frame) → Others fs false 0
 unfolding any
 others-start fs = refl
 
-pub behind-start : (fs : List Frame) → Behind fs 0
-behind-start fs = refl
-
 pub others-next : (ws : List ℕ) (i : ℕ) (other : Bool) (f : Frame) (x y : Bool) → f ≡ frameAt (framesOf ws) i → x ≡ not (isHeader (f .kind) || isShared (f .kind)) → y ≡ (other || x) → Others (framesOf ws) other i → i < length ws → Others (framesOf ws) y (i + 1)
-others-next ws i other f x y e h j g l =
-    let s : i + 1 ≡ suc i = omega arith in
-    let a : take (suc i) (framesOf ws) ≡ take i (framesOf ws) ++ (frameAt (framesOf ws) i ∷ []) = take-suc (framesOf ws) i noFrame (let z = frames-length ws in omega arith) in
-    j ∙ ap₂ (λ (p r : Bool). p || r) g (h ∙ ap (λ (k : Frame). isOther k) e) ∙ sym (any-append isOther (take i (framesOf ws)) (frameAt (framesOf ws) i)) ∙ ap (any isOther) (sym a) ∙ ap (λ (n : ℕ). any isOther (take n (framesOf ws))) (sym s)
+others-next ws i other f x y e h j g l = j ∙ ap₂ (λ (p r : Bool). p || r) g h ∙ sym (any-append isOther (take i (framesOf ws)) f) ∙ ap (any isOther) (frames-more ws i f e l)
 
-module _ (ws : List ℕ) (i : ℕ) (other : Bool) (f : Frame) (b : Bool) where
-  behind-is : f ≡ frameAt (framesOf ws) i → b ≡ (isShared (f .kind) && other) → Others (framesOf ws) other i → isBehind (framesOf ws) i (frameAt (framesOf ws) i) ≡ b
+module _ (ws : List ℕ) (i : ℕ) (other : Bool) (f : Frame) (b : Bool) (e : f ≡ frameAt (framesOf ws) i) (q : b ≡ (isShared (f .kind) && other)) where
+  behind-is : Others (framesOf ws) other i → isBehind (framesOf ws) i (frameAt (framesOf ws) i) ≡ b
   unfolding isBehind
-  behind-is e q o = go (isShared (frameAt (framesOf ws) i .kind)) ∙ sym (q ∙ ap₂ (λ (g : Frame) (x : Bool). isShared (g .kind) && x) e o)
+  behind-is o = go (isShared (frameAt (framesOf ws) i .kind)) ∙ sym (q ∙ ap₂ (λ (g : Frame) (x : Bool). isShared (g .kind) && x) e o)
     where
       go : (s : Bool) → elim s [ true ↦ any isOther (take i (framesOf ws)) | false ↦ false ] ≡ (s && any isOther (take i (framesOf ws)))
       go true = refl
       go false = refl
 
-  pub behind-here : f ≡ frameAt (framesOf ws) i → b ≡ (isShared (f .kind) && other) → b ≡ true → Others (framesOf ws) other i → Behind (framesOf ws) i → i < length ws → At i ≡ found (lowest (λ (j : ℕ) (g : Frame). isBehind (framesOf ws) j g) 0 (framesOf ws))
-  behind-here e q t o g l = seek-here (behindTest (framesOf ws)) ws i g l (behind-is e q o ∙ t)
+  pub behind-here : b ≡ true → Others (framesOf ws) other i → SeekingBehind (framesOf ws) i → i < length ws → At i ≡ found (lowest (λ (j : ℕ) (g : Frame). isBehind (framesOf ws) j g) 0 (framesOf ws))
+  behind-here t o g l = seek-here (behindTest (framesOf ws)) ws i g l (behind-is o ∙ t)
 
-  pub behind-next : f ≡ frameAt (framesOf ws) i → b ≡ (isShared (f .kind) && other) → b ≡ false → Others (framesOf ws) other i → Behind (framesOf ws) i → i < length ws → Behind (framesOf ws) (i + 1)
-  behind-next e q t o g l = seek-next (behindTest (framesOf ws)) ws i g l (behind-is e q o ∙ t)
+  pub behind-next : b ≡ false → Others (framesOf ws) other i → SeekingBehind (framesOf ws) i → i < length ws → SeekingBehind (framesOf ws) (i + 1)
+  behind-next t o g l = seek-next (behindTest (framesOf ws)) ws i g l (behind-is o ∙ t)
 
-pub behind-end : (ws : List ℕ) (i : ℕ) → Behind (framesOf ws) i → length ws ≤ i → Nowhere ≡ found (lowest (λ (j : ℕ) (g : Frame). isBehind (framesOf ws) j g) 0 (framesOf ws))
+pub behind-end : (ws : List ℕ) (i : ℕ) → SeekingBehind (framesOf ws) i → length ws ≤ i → Nowhere ≡ found (lowest (λ (j : ℕ) (g : Frame). isBehind (framesOf ws) j g) 0 (framesOf ws))
 behind-end ws i g l = seek-end (behindTest (framesOf ws)) ws i g l
 
 -- ---- main
@@ -101,7 +83,7 @@ module _ (ws : List ℕ) (f : Frame) (b : Bool) (e : f ≡ frameAt (framesOf ws)
 
 pub ruleset no-main-laws = (main-there, main-missing)
 
--- ---- the four together
+-- ---- the lowest of the four
 module _ (fs : List Frame) (d b l m x y r : Found) where
   pub order-is : d ≡ found (firstDisorder [] 0 fs) → b ≡ found (lowest (λ (i : ℕ) (f : Frame). isBehind fs i f) 0 fs) → l ≡ found (firstLeftover fs 0 fs) → m ≡ found (noMain fs) → x ≡ found (earlier (optionOf l) (optionOf m)) → y ≡ found (earlier (optionOf b) (optionOf x)) → r ≡ found (earlier (optionOf d) (optionOf y)) → r ≡ found (orderFault fs)
   unfolding orderFault

@@ -1,4 +1,4 @@
--- The leftover pass over an array of marks. Assumes nothing.
+-- The code's pass for a leftover frame, over an array with a mark at each frame that some frame has as a child. Assumes nothing.
 use mathlib.Core.Path.{_≡_, refl, sym, ap, ap₂, _∙_}
 use mathlib.Core.Bool.{Bool, true, false, not, _&&_}
 use mathlib.Core.List.{List, [], _∷_, _++_}
@@ -6,8 +6,8 @@ use Prim.Native.Nat.{ℕ, suc, _+_, _≤_, _<_}
 use native.Mathlib.Omega.{arith}
 use lib.Dec.{ltb, eqb}
 use borrow.Author.Tests.{lt-ltb, le-ltb, ne-eqb, eqb-true, eqb-false, ltb-false}
-use lib.ListN.{getD, length, set, drop, replicate, getD-replicate, length-replicate, length-set, drop-of-length-le}
-use lib.Seq.{getD-set-same, getD-set-other, drop-cons}
+use lib.ListN.{getD, length, set, drop, replicate, getD-replicate, length-replicate, length-set}
+use lib.Seq.{getD-set-same, getD-set-other}
 use Rattle.basics.specs.Searches.{any}
 use Rattle.basics.proofs.Ifs.{yes, no, if-all}
 use Rattle.language.specs.Kinds.{uses, classOf, Child, childIn, children}
@@ -15,7 +15,7 @@ use Rattle.language.specs.declared.kind.Class.{Class}
 use Rattle.language.specs.declared.kind.Use.{Use}
 use Rattle.language.specs.declared.kind.Uses.{Uses}
 use Rattle.language.specs.declared.frame.Frame.{Frame}
-use Rattle.program.specs.Trees.{noFrame, frameAt}
+use Rattle.program.specs.Trees.{frameAt}
 use Rattle.text.specs.Frames.{framesOf}
 use Rattle.layout.specs.declared.found.Found.the-variants.{At, Nowhere}
 use Rattle.layout.specs.declared.frames.ChildRead.{ChildRead}
@@ -23,8 +23,8 @@ use Rattle.layout.specs.declared.frames.ChildRead.the-variants.{ChildAt,
 use Rattle.layout.specs.Order.{hasChild, hasClass}
 use Rattle.layout.specs.Scans.{firstLeftover}
 use Rattle.layout.specs.Passes.{found, childRead, marked, marks, markAll}
-use Rattle.layout.proofs.FrameLaws.{frames-length, no-child-is, child-is}
-use Rattle.layout.proofs.Order.{leftoverTest, left-same}
+use Rattle.layout.proofs.FrameLaws.{frames-next, frames-end, no-child-is, child-is, by-fields}
+use Rattle.layout.proofs.Order.{leftoverTest, leftover-lowest}
 use Rattle.layout.proofs.Seeking.{Seeking, seek-here, seek-next, seek-end}
 
 -- ---- how the code marks
@@ -59,30 +59,22 @@ marks-append [] ys u = refl
 marks-append (x ∷ xs) ys u = marks-append xs ys (marked u (x .at))
 
 pub frame-marked : (u t r s : List ℕ) (us : Uses) (f : Frame) → us ≡ uses (f .kind) → t ≡ marks u (childIn (us .a) (f .a)) → r ≡ marks t (childIn (us .b) (f .b)) → s ≡ marks r (childIn (us .c) (f .c)) → s ≡ marks u (children f)
-unfolding children
-frame-marked u t r s us f e a b c =
-    c ∙ ap (λ (x : List ℕ). marks x (childIn (us .c) (f .c))) (b ∙ ap (λ (x : List ℕ). marks x (childIn (us .b) (f .b))) a)
-    ∙ sym (ap (λ (x : List ℕ). marks x (childIn (us .c) (f .c))) (marks-append (childIn (us .a) (f .a)) (childIn (us .b) (f .b)) u))
-    ∙ sym (marks-append (childIn (us .a) (f .a) ++ childIn (us .b) (f .b)) (childIn (us .c) (f .c)) u)
-    ∙ ap (λ (w : Uses). marks u (childIn (w .a) (f .a) ++ childIn (w .b) (f .b) ++ childIn (w .c) (f .c))) e
+frame-marked = by-fields marks marks-append
 
 -- ---- the loop that marks: from here on it is as from the start
 abbrev pub Marking : List Frame → List ℕ → List ℕ → ℕ → Type 0
 Marking fs start u i = markAll u (drop i fs) ≡ markAll start fs
 
-pub marking-start : (fs : List Frame) (u : List ℕ) → Marking fs u u 0
-marking-start fs u = refl
-
 pub marking-next : (ws start u t : List ℕ) (i : ℕ) (f : Frame) → f ≡ frameAt (framesOf ws) i → t ≡ marks u (children f) → Marking (framesOf ws) start u i → i < length ws → Marking (framesOf ws) start t (i + 1)
 marking-next ws start u t i f e q g l =
     let s : i + 1 ≡ suc i = omega arith in
-    rw s (ap (λ (x : List ℕ). markAll x (drop (suc i) (framesOf ws))) (q ∙ ap (λ (g : Frame). marks u (children g)) e) ∙ sym step ∙ sym (ap (markAll u) (drop-cons (framesOf ws) i noFrame (let y = frames-length ws in omega arith))) ∙ g)
+    rw s (ap (λ (x : List ℕ). markAll x (drop (suc i) (framesOf ws))) (q ∙ ap (λ (g : Frame). marks u (children g)) e) ∙ sym step ∙ sym (ap (markAll u) (frames-next ws i l)) ∙ g)
   where
     step : markAll u (frameAt (framesOf ws) i ∷ drop (suc i) (framesOf ws)) ≡ markAll (marks u (children (frameAt (framesOf ws) i))) (drop (suc i) (framesOf ws))
     step = unfold markAll in refl
 
 pub marking-end : (ws start u : List ℕ) (i : ℕ) → Marking (framesOf ws) start u i → length ws ≤ i → u ≡ markAll start (framesOf ws)
-marking-end ws start u i g l = end ∙ ap (markAll u) (sym (drop-of-length-le (framesOf ws) {i = i} (let y = frames-length ws in omega arith))) ∙ g
+marking-end ws start u i g l = end ∙ ap (markAll u) (sym (frames-end ws i l)) ∙ g
   where
     end : u ≡ markAll u []
     end = unfold markAll in refl
@@ -114,17 +106,18 @@ marked-says u v j o l = if-all (λ (x : List ℕ). eqb (getD x j 0) 0 ≡ (not (
     away : 1024 ≤ v → eqb (getD u j 0) 0 ≡ (not (eqb v j) && eqb (getD u j 0) 0)
     away h = (let e : eqb v j ≡ false = ne-eqb v j (λ q. omega arith) in rw e)
 
-swap : (a b x : Bool) → (not b && (not a && x)) ≡ (not (elim a [ true ↦ true | false ↦ b ]) && x)
-swap true true x = refl
-swap true false x = refl
-swap false b x = refl
+-- neither b nor a, where `any` asks for a first
+neither : (a b x : Bool) → (not b && (not a && x)) ≡ (not (elim a [ true ↦ true | false ↦ b ]) && x)
+neither true true x = refl
+neither true false x = refl
+neither false b x = refl
 
 marks-say : (cs : List Child) (u : List ℕ) (j : ℕ) → j < 1024 → j < length u → eqb (getD (marks u cs) j 0) 0 ≡ (not (any (isAt j) cs) && eqb (getD u j 0) 0)
 unfolding any marks
 marks-say [] u j o l = refl
 marks-say (c ∷ cs) u j o l =
     let m : j < length (marked u (c .at)) = (let y = marked-length u (c .at) in omega arith) in
-    marks-say cs (marked u (c .at)) j o m ∙ ap (λ (b : Bool). not (any (isAt j) cs) && b) (marked-says u (c .at) j o l) ∙ swap (eqb (c .at) j) (any (isAt j) cs) (eqb (getD u j 0) 0)
+    marks-say cs (marked u (c .at)) j o m ∙ ap (λ (b : Bool). not (any (isAt j) cs) && b) (marked-says u (c .at) j o l) ∙ neither (eqb (c .at) j) (any (isAt j) cs) (eqb (getD u j 0) 0)
 
 marks-length : (cs : List Child) (u : List ℕ) → length (marks u cs) ≡ length u
 unfolding marks
@@ -139,18 +132,19 @@ all-say (f ∷ fs) u j o l =
     let m : j < length (marks u (children f)) = (let y = marks-length (children f) u in omega arith) in
     all-say fs (marks u (children f)) j o m
     ∙ ap (λ (b : Bool). not (any (hasChild j) fs) && b) (marks-say (children f) u j o l)
-    ∙ swap (any (isAt j) (children f)) (any (hasChild j) fs) (eqb (getD u j 0) 0)
+    ∙ neither (any (isAt j) (children f)) (any (hasChild j) fs) (eqb (getD u j 0) 0)
 
 -- ---- the loop that looks for a leftover
-pub left-row : (k κ : Class) (m : ℕ) (r : Bool) → k ≡ κ → r ≡ (hasClass κ && eqb m 0) → r ≡ (hasClass k && eqb m 0)
-left-row k κ m r e h = h ∙ ap (λ (q : Class). hasClass q && eqb m 0) (sym e)
+-- each arm of the match on a class
+pub left-row : (k c : Class) (m : ℕ) (r : Bool) → k ≡ c → r ≡ (hasClass c && eqb m 0) → r ≡ (hasClass k && eqb m 0)
+left-row k c m r e h = h ∙ ap (λ (q : Class). hasClass q && eqb m 0) (sym e)
 
-abbrev pub Leftover : List Frame → ℕ → Type 0
-Leftover fs i = Seeking (leftoverTest fs) fs i
+abbrev pub SeekingLeftover : List Frame → ℕ → Type 0
+SeekingLeftover fs i = Seeking (leftoverTest fs) fs i
 
 -- the code's test is the definition's
-left-is : (ws zeros used : List ℕ) (i : ℕ) (k : Class) (f : Frame) → f ≡ frameAt (framesOf ws) i → k ≡ classOf (f .kind) → used ≡ markAll zeros (framesOf ws) → zeros ≡ replicate 1024 0 → i < 1024 → (hasClass k && eqb (getD used i 0) 0) ≡ leftoverTest (framesOf ws) i (frameAt (framesOf ws) i)
-left-is ws zeros used i k f e h u z l =
+leftover-is : (ws zeros used : List ℕ) (i : ℕ) (k : Class) (f : Frame) → f ≡ frameAt (framesOf ws) i → k ≡ classOf (f .kind) → used ≡ markAll zeros (framesOf ws) → zeros ≡ replicate 1024 0 → i < 1024 → (hasClass k && eqb (getD used i 0) 0) ≡ leftoverTest (framesOf ws) i (frameAt (framesOf ws) i)
+leftover-is ws zeros used i k f e h u z l =
     let a : hasClass k ≡ hasClass (classOf (frameAt (framesOf ws) i .kind)) = ap hasClass (h ∙ ap (λ (g : Frame). classOf (g .kind)) e) in
     let m : i < length zeros = (let y : length zeros ≡ 1024 = ap length z ∙ length-replicate {A = ℕ} 1024 0 in omega arith) in
     let y : getD zeros i 0 ≡ 0 = ap (λ (x : List ℕ). getD x i 0) z ∙ getD-replicate {A = ℕ} 1024 i 0 0 l in
@@ -162,18 +156,15 @@ left-is ws zeros used i k f e h u z l =
     and-yes true = refl
     and-yes false = refl
 
-pub left-start : (ws : List ℕ) → Leftover (framesOf ws) 0
-left-start ws = refl
+module _ (ws zeros used : List ℕ) (i : ℕ) (k : Class) (f : Frame) (b : Bool) (e : f ≡ frameAt (framesOf ws) i) (h : k ≡ classOf (f .kind)) (u : used ≡ markAll zeros (framesOf ws)) (z : zeros ≡ replicate 1024 0) (q : b ≡ (hasClass k && eqb (getD used i 0) 0)) where
+  test-is : i < length ws → length ws ≤ 1024 → leftoverTest (framesOf ws) i (frameAt (framesOf ws) i) ≡ b
+  test-is l m = sym (q ∙ leftover-is ws zeros used i k f e h u z (omega arith))
 
-module _ (ws zeros used : List ℕ) (i : ℕ) (k : Class) (f : Frame) (b : Bool) where
-  left-test : f ≡ frameAt (framesOf ws) i → k ≡ classOf (f .kind) → used ≡ markAll zeros (framesOf ws) → zeros ≡ replicate 1024 0 → b ≡ (hasClass k && eqb (getD used i 0) 0) → i < length ws → length ws ≤ 1024 → leftoverTest (framesOf ws) i (frameAt (framesOf ws) i) ≡ b
-  left-test e h u z q l m = sym (q ∙ left-is ws zeros used i k f e h u z (omega arith))
+  pub leftover-here : b ≡ true → SeekingLeftover (framesOf ws) i → i < length ws → length ws ≤ 1024 → At i ≡ found (firstLeftover (framesOf ws) 0 (framesOf ws))
+  leftover-here t g l m = seek-here (leftoverTest (framesOf ws)) ws i g l (test-is l m ∙ t) ∙ ap found (sym (leftover-lowest (framesOf ws) (framesOf ws) 0 (λ t e. e)))
 
-  pub left-here : f ≡ frameAt (framesOf ws) i → k ≡ classOf (f .kind) → used ≡ markAll zeros (framesOf ws) → zeros ≡ replicate 1024 0 → b ≡ (hasClass k && eqb (getD used i 0) 0) → b ≡ true → Leftover (framesOf ws) i → i < length ws → length ws ≤ 1024 → At i ≡ found (firstLeftover (framesOf ws) 0 (framesOf ws))
-  left-here e h u z q t g l m = seek-here (leftoverTest (framesOf ws)) ws i g l (left-test e h u z q l m ∙ t) ∙ ap found (sym (left-same (framesOf ws) (framesOf ws) 0 (λ t e. e)))
+  pub leftover-next : b ≡ false → SeekingLeftover (framesOf ws) i → i < length ws → length ws ≤ 1024 → SeekingLeftover (framesOf ws) (i + 1)
+  leftover-next t g l m = seek-next (leftoverTest (framesOf ws)) ws i g l (test-is l m ∙ t)
 
-  pub left-next : f ≡ frameAt (framesOf ws) i → k ≡ classOf (f .kind) → used ≡ markAll zeros (framesOf ws) → zeros ≡ replicate 1024 0 → b ≡ (hasClass k && eqb (getD used i 0) 0) → b ≡ false → Leftover (framesOf ws) i → i < length ws → length ws ≤ 1024 → Leftover (framesOf ws) (i + 1)
-  left-next e h u z q t g l m = seek-next (leftoverTest (framesOf ws)) ws i g l (left-test e h u z q l m ∙ t)
-
-pub left-end : (ws : List ℕ) (i : ℕ) → Leftover (framesOf ws) i → length ws ≤ i → Nowhere ≡ found (firstLeftover (framesOf ws) 0 (framesOf ws))
-left-end ws i g l = seek-end (leftoverTest (framesOf ws)) ws i g l ∙ ap found (sym (left-same (framesOf ws) (framesOf ws) 0 (λ t e. e)))
+pub leftover-end : (ws : List ℕ) (i : ℕ) → SeekingLeftover (framesOf ws) i → length ws ≤ i → Nowhere ≡ found (firstLeftover (framesOf ws) 0 (framesOf ws))
+leftover-end ws i g l = seek-end (leftoverTest (framesOf ws)) ws i g l ∙ ap found (sym (leftover-lowest (framesOf ws) (framesOf ws) 0 (λ t e. e)))

@@ -1,4 +1,4 @@
--- The depth pass from the last frame down finds the frames that are too deep. Assumes nothing.
+-- The array of depths: where each child stands before its parent, after one pass from the last frame down 25 stands exactly at the frames that are too deep. Assumes nothing.
 use mathlib.Core.Path.{_≡_, refl, sym, ap, _∙_}
 use mathlib.Core.Bool.{Bool, true, false, true≢false}
 use mathlib.Core.List.{List, [], _∷_}
@@ -11,16 +11,16 @@ use lib.Seq.{getD-set-same, getD-set-other}
 use Rattle.basics.specs.Members.{In}
 use Rattle.basics.proofs.Ifs.{if-all}
 use Rattle.language.specs.Kinds.{Child, children}
-use Rattle.language.specs.declared.kind.Class.{Class}
 use Rattle.language.specs.declared.kind.Kind.the-variants.{Module}
 use Rattle.language.specs.declared.frame.Frame.{Frame}
 use Rattle.program.specs.Trees.{frameAt}
 use Rattle.layout.specs.Fields.{isModule}
 use Rattle.layout.specs.Depths.{Depth}
 use Rattle.layout.specs.Passes.{given, raised, raisedAll, depthsDown}
-use Rattle.layout.proofs.Trees.{is-module}
+use Rattle.layout.proofs.Trees.{is-module, Among, in-body}
+use Rattle.layout.proofs.Depths.{AtLeast, body-depth, child-depth}
 
--- ---- raising
+-- ---- what raising does to the array
 raised-length : (u : List ℕ) (v d : ℕ) → length (raised u d v) ≡ length u
 unfolding raised
 raised-length u v d = if-all (λ (x : List ℕ). length x ≡ length u) (ltb v 1024) _ _ (λ o. if-all (λ (x : List ℕ). length x ≡ length u) (ltb (getD u v 0) d) _ _ (λ h. length-set u v d) (λ h. refl)) (λ o. refl)
@@ -53,6 +53,7 @@ raised-there : (u : List ℕ) (v d : ℕ) → v < 1024 → v < length u → d �
 unfolding raised
 raised-there u v d k l = if-all (λ (x : List ℕ). d ≤ getD x v 0) (ltb v 1024) _ _ (λ o. if-all (λ (x : List ℕ). d ≤ getD x v 0) (ltb (getD u v 0) d) _ _ (λ h. (let e : getD (set u v d) v 0 ≡ d = getD-set-same u v d 0 l in omega arith)) (λ h. ltb-false _ _ h)) (λ o. absurd (let z = ltb-false v 1024 o in omega arith))
 
+-- every child of the list has its place in the array
 abbrev Fit : List ℕ → List Child → Type 0
 Fit u cs = (c : Child) → In c cs → (c .at < 1024) × (c .at < length u)
 
@@ -74,11 +75,6 @@ unfolding raisedAll
 all-there (c ∷ cs) u d x h In.first = let a = raised-there u (c .at) d (h c In.first .0) (h c In.first .1) in let b = all-up cs (raised u d (c .at)) d (c .at) (fit-next u d c cs h) in omega arith
 all-there (c ∷ cs) u d x h (In.later m) = all-there cs (raised u d (c .at)) d x (fit-next u d c cs h) m
 
-record Among (cs : List Child) (j : ℕ) : Type 0 where
-  child : Child
-  among : In child cs
-  at-it : child .at ≡ j
-
 all-after : (cs : List Child) (u : List ℕ) (d j : ℕ) → Fit u cs → After u d j (Among cs j) (getD (raisedAll u d cs) j 0)
 unfolding raisedAll
 all-after [] u d j h = After.kept refl
@@ -92,7 +88,7 @@ all-after (c ∷ cs) u d j h = go _ (all-after cs (raised u d (c .at)) d j (fit-
     go x (After.kept e) = rw e (two _ (raised-after u (c .at) d j (h c In.first .1)))
     go x (After.lifted a e) = After.lifted (record { child = a .child; among = In.later (a .among); at-it = a .at-it }) e
 
--- ---- what a frame gives
+-- ---- what a frame gives: enough, up to 25
 given-up : (f : Frame) (x e : ℕ) → 0 < x → e ≤ suc x → e ≤ 25 → e ≤ given f x
 unfolding given
 given-up f x e p l m = if-all (λ (y : ℕ). e ≤ y) (eqb x 0) _ _ (λ h. absurd (let z : x ≡ 0 = eqb-true x 0 h in omega arith)) (λ h. if-all (λ (y : ℕ). e ≤ y) (ltb x 25) _ _ (λ k. l) (λ k. m))
@@ -101,7 +97,7 @@ given-module : (f : Frame) (x : ℕ) → isModule (f .kind) ≡ true → 1 ≤ g
 unfolding given
 given-module f x m = if-all (λ (y : ℕ). 1 ≤ y) (eqb x 0) _ _ (λ h. if-all (λ (y : ℕ). 1 ≤ y) (isModule (f .kind)) _ _ (λ k. omega arith) (λ k. absurd (true≢false (sym m ∙ k)))) (λ h. if-all (λ (y : ℕ). 1 ≤ y) (ltb x 25) _ _ (λ k. omega arith) (λ k. omega arith))
 
--- why it gives that
+-- and not more
 data Why (f : Frame) (x : ℕ) (y : ℕ) : Type 0 where
   nothing : y ≡ 0 → Why f x y
   module-body : isModule (f .kind) ≡ true → y ≡ 1 → Why f x y
@@ -112,33 +108,11 @@ unfolding given
 given-why f x = if-all (Why f x) (eqb x 0) _ _ (λ h. if-all (Why f x) (isModule (f .kind)) _ _ (λ k. Why.module-body k refl) (λ k. Why.nothing refl))
     (λ h. (let z : x ≡ 0 → ⊥ = eqb-false x 0 h in if-all (Why f x) (ltb x 25) _ _ (λ k. Why.child-of (omega arith) (omega arith)) (λ k. Why.child-of (omega arith) (let y = ltb-false x 25 k in omega arith))))
 
--- a depth of j of at least x
-pub record AtLeast (fs : List Frame) (j x : ℕ) : Type 0 where
-  pub depth : ℕ
-  pub is : Depth fs j depth
-  pub least : x ≤ depth
-
+-- ---- depths
 -- a depth that comes from a frame not below n
 data Via (fs : List Frame) (n : ℕ) : ℕ → ℕ → Type 0 where
   body : {i : ℕ} → n ≤ i → i < length fs → frameAt fs i .kind ≡ Module → Via fs n (frameAt fs i .a) 1
   child : {i d : ℕ} {c : Child} → n ≤ i → i < length fs → Depth fs i d → In c (children (frameAt fs i)) → Via fs n (c .at) (suc d)
-
-pub in-body : (f : Frame) → f .kind ≡ Module → In (record { class = Class.Statement; at = f .a }) (children f)
-unfolding children
-in-body f e = rw e In.first
-
-pub none-in : {c : Child} → In c [] → ⊥
-none-in m = elim m [ ]
-
-only-one : {c x : Child} → In c (x ∷ []) → c .at ≡ x .at
-only-one In.first = refl
-only-one (In.later m) = absurd (none-in m)
-
-pub only-body : (f : Frame) (c : Child) → f .kind ≡ Module → In c (children f) → c .at ≡ f .a
-unfolding children
-only-body f c e m =
-    let n : In c (record { class = Class.Statement; at = f .a } ∷ []) = (rw e at m) in
-    only-one n
 
 positive : {fs : List Frame} {j d : ℕ} → Depth fs j d → 0 < d
 positive (Depth.body l k) = omega arith
@@ -153,17 +127,15 @@ module _ (fs : List Frame) (below : (i : ℕ) (c : Child) → i < length fs → 
   via (Depth.body {i = i} l k) = Via.body (below i _ l (in-body (frameAt fs i) k)) l k
   via (Depth.child {i = i} {c = c} h m) = Via.child (below i c (inside h) m) (inside h) h m
 
-  -- the array after the frames from n on
-  record Told (n : ℕ) (u : List ℕ) : Type 0 where
+  -- ---- the pass
+  -- the array after the frames from n on: what stands in it is a depth, and each depth that these frames give stands in it, up to 25
+  record Settled (n : ℕ) (u : List ℕ) : Type 0 where
     size : length fs ≤ length u
     room : length fs ≤ 1024
     sound : (j : ℕ) → 0 < getD u j 0 → AtLeast fs j (getD u j 0)
     complete : (j d e : ℕ) → Via fs n j d → e ≤ d → e ≤ 25 → e ≤ getD u j 0
 
-  module _ (n : ℕ) (u : List ℕ) (l : n < length fs) (t : Told (suc n) u) where
-    abbrev frame : Frame
-    frame = frameAt fs n
-
+  module _ (n : ℕ) (u : List ℕ) (l : n < length fs) (t : Settled (suc n) u) where
     abbrev next : List ℕ
     next = raisedAll u (given (frameAt fs n) (getD u n 0)) (children (frameAt fs n))
 
@@ -172,23 +144,15 @@ module _ (fs : List Frame) (below : (i : ℕ) (c : Child) → i < length fs → 
 
     lifted-sound : (j y : ℕ) → Among (children (frameAt fs n)) j → 0 < y → Why (frameAt fs n) (getD u n 0) y → AtLeast fs j y
     lifted-sound j y a p (Why.nothing e) = absurd (omega arith)
-    lifted-sound j y a p (Why.module-body k e) =
-        let z : frameAt fs n .kind ≡ Module = is-module _ k in
-        let q : frameAt fs n .a ≡ j = sym (only-body (frameAt fs n) (a .child) z (a .among)) ∙ a .at-it in
-        let b : Depth fs (frameAt fs n .a) 1 = Depth.body l z in
-        record { depth = 1; is = (rw q at b); least = omega arith }
-    lifted-sound j y a p (Why.child-of k e) =
-        let s = t .sound n k in
-        let b : Depth fs (a .child .at) (suc (s .depth)) = Depth.child (s .is) (a .among) in
-        let q : a .child .at ≡ j = a .at-it in
-        record { depth = suc (s .depth); is = (rw q at b); least = (let w = s .least in omega arith) }
+    lifted-sound j y a p (Why.module-body k e) = record { depth = 1; is = body-depth l (is-module _ k) a; least = omega arith }
+    lifted-sound j y a p (Why.child-of k e) = let s = t .sound n k in record { depth = suc (s .depth); is = child-depth (s .is) a; least = (let w = s .least in omega arith) }
 
     next-sound : (j x : ℕ) → After u (given (frameAt fs n) (getD u n 0)) j (Among (children (frameAt fs n)) j) x → 0 < x → AtLeast fs j x
     next-sound j x (After.kept e) p = rw e (t .sound j (omega arith))
     next-sound j x (After.lifted a e) p = rw e (lifted-sound j _ a (omega arith) (given-why (frameAt fs n) (getD u n 0)))
 
-    old : (j d e : ℕ) → Via fs (suc n) j d → e ≤ d → e ≤ 25 → e ≤ getD next j 0
-    old j d e v p q = let a = t .complete j d e v p q in let b = all-up (children (frameAt fs n)) u (given (frameAt fs n) (getD u n 0)) j fits in omega arith
+    kept-complete : (j d e : ℕ) → Via fs (suc n) j d → e ≤ d → e ≤ 25 → e ≤ getD next j 0
+    kept-complete j d e v p q = let a = t .complete j d e v p q in let b = all-up (children (frameAt fs n)) u (given (frameAt fs n) (getD u n 0)) j fits in omega arith
 
     next-complete : (j d e : ℕ) → Via fs n j d → e ≤ d → e ≤ 25 → e ≤ getD next j 0
     next-complete j d e (Via.body {i = i} m k z) p q = go (eqb i n) refl
@@ -200,7 +164,7 @@ module _ (fs : List Frame) (below : (i : ℕ) (c : Child) → i < length fs → 
             let a = all-there (children (frameAt fs n)) u (given (frameAt fs n) (getD u n 0)) _ fits (in-body (frameAt fs n) zn) in
             let b : 1 ≤ given (frameAt fs n) (getD u n 0) = given-module (frameAt fs n) (getD u n 0) (ap isModule zn) in
             rw y (omega arith)
-        go false w = (let y : i ≡ n → ⊥ = eqb-false i n w in old _ 1 e (Via.body {i = i} (omega arith) k z) p q)
+        go false w = (let y : i ≡ n → ⊥ = eqb-false i n w in kept-complete _ 1 e (Via.body {i = i} (omega arith) k z) p q)
     next-complete j d e (Via.child {i = i} {d = g} {c = c} m k h x) p q = go (eqb i n) refl
       where
         go : (b : Bool) → eqb i n ≡ b → e ≤ getD next (c .at) 0
@@ -214,29 +178,29 @@ module _ (fs : List Frame) (below : (i : ℕ) (c : Child) → i < length fs → 
             let b : e - 1 ≤ getD u n 0 = t .complete n g (e - 1) (via hn) (omega arith) (omega arith) in
             let r : e ≤ given (frameAt fs n) (getD u n 0) = given-up (frameAt fs n) (getD u n 0) e one (omega arith) q in
             omega arith
-        go false w = (let y : i ≡ n → ⊥ = eqb-false i n w in old _ (suc g) e (Via.child {i = i} (omega arith) k h x) p q)
+        go false w = (let y : i ≡ n → ⊥ = eqb-false i n w in kept-complete _ (suc g) e (Via.child {i = i} (omega arith) k h x) p q)
 
-    told-down : Told n next
-    told-down = record { room = t .room; size = (let a = all-length (children (frameAt fs n)) u (given (frameAt fs n) (getD u n 0)) in let b = t .size in omega arith); sound = λ j p. next-sound j _ (all-after (children (frameAt fs n)) u (given (frameAt fs n) (getD u n 0)) j fits) p; complete = next-complete }
+    settled-next : Settled n next
+    settled-next = record { room = t .room; size = (let a = all-length (children (frameAt fs n)) u (given (frameAt fs n) (getD u n 0)) in let b = t .size in omega arith); sound = λ j p. next-sound j _ (all-after (children (frameAt fs n)) u (given (frameAt fs n) (getD u n 0)) j fits) p; complete = next-complete }
 
-  told-all : (n : ℕ) (u : List ℕ) → n ≤ length fs → Told n u → Told 0 (depthsDown n fs u)
+  settled-all : (n : ℕ) (u : List ℕ) → n ≤ length fs → Settled n u → Settled 0 (depthsDown n fs u)
   unfolding depthsDown
-  told-all zero u l t = t
-  told-all (suc n) u l t = told-all n _ (omega arith) (told-down n u (omega arith) t)
+  settled-all zero u l t = t
+  settled-all (suc n) u l t = settled-all n _ (omega arith) (settled-next n u (omega arith) t)
 
-  told-start : (u : List ℕ) → length fs ≤ 1024 → length fs ≤ length u → ((j : ℕ) → getD u j 0 ≡ 0) → Told (length fs) u
-  told-start u r s z = record { size = s; room = r; sound = λ j p. absurd (let e = z j in omega arith); complete = λ j d e v p q. absurd (past v) }
+  settled-start : (u : List ℕ) → length fs ≤ 1024 → length fs ≤ length u → ((j : ℕ) → getD u j 0 ≡ 0) → Settled (length fs) u
+  settled-start u r s z = record { size = s; room = r; sound = λ j p. absurd (let e = z j in omega arith); complete = λ j d e v p q. absurd (past v) }
     where
       past : {j d : ℕ} → Via fs (length fs) j d → ⊥
       past (Via.body m k x) = omega arith
       past (Via.child m k h x) = omega arith
 
   -- 25 stands exactly at the frames that are too deep
-  pub deep-found : (u : List ℕ) → length fs ≤ 1024 → length fs ≤ length u → ((j : ℕ) → getD u j 0 ≡ 0) → (j : ℕ) → 24 < getD (depthsDown (length fs) fs u) j 0 → AtLeast fs j 25
-  deep-found u r s z j l = let t = told-all (length fs) u (omega arith) (told-start u r s z) in let a = t .sound j (omega arith) in record { depth = a .depth; is = a .is; least = (let w = a .least in omega arith) }
+  pub over-sound : (u : List ℕ) → length fs ≤ 1024 → length fs ≤ length u → ((j : ℕ) → getD u j 0 ≡ 0) → (j : ℕ) → 24 < getD (depthsDown (length fs) fs u) j 0 → AtLeast fs j 25
+  over-sound u r s z j l = let t = settled-all (length fs) u (omega arith) (settled-start u r s z) in let a = t .sound j (omega arith) in record { depth = a .depth; is = a .is; least = (let w = a .least in omega arith) }
 
-  pub deep-told : (u : List ℕ) → length fs ≤ 1024 → length fs ≤ length u → ((j : ℕ) → getD u j 0 ≡ 0) → (j d : ℕ) → Depth fs j d → 24 < d → 24 < getD (depthsDown (length fs) fs u) j 0
-  deep-told u r s z j d h l = let t = told-all (length fs) u (omega arith) (told-start u r s z) in t .complete j d 25 (low (via h)) (omega arith) (omega arith)
+  pub over-complete : (u : List ℕ) → length fs ≤ 1024 → length fs ≤ length u → ((j : ℕ) → getD u j 0 ≡ 0) → (j d : ℕ) → Depth fs j d → 24 < d → 24 < getD (depthsDown (length fs) fs u) j 0
+  over-complete u r s z j d h l = let t = settled-all (length fs) u (omega arith) (settled-start u r s z) in t .complete j d 25 (low (via h)) (omega arith) (omega arith)
     where
       low : {m j d : ℕ} → Via fs m j d → Via fs 0 j d
       low (Via.body {i = i} m k x) = Via.body {i = i} (omega arith) k x
