@@ -1,6 +1,6 @@
--- The range test split into blocks, as the passes over the words go. Assumes nothing.
-use Prim.Native.Nat.{ℕ, zero, suc, _+_, _*_, _-_, _<_, _≤_}
-use mathlib.Core.Path.{_≡_, refl, sym, ap, _∙_, subst}
+-- The range test split into blocks, as the passes over the words go: of a list, a scheduler, a thread, and the whole, one law for each return of the code. Assumes nothing.
+use Prim.Native.Nat.{ℕ, suc, _+_, _*_, _-_, _<_, _≤_}
+use mathlib.Core.Path.{_≡_, refl, sym, ap, _∙_}
 use mathlib.Core.List.{List}
 use mathlib.Core.Bool.{Bool, true, false, not, true≢false}
 use native.Mathlib.Omega.{arith}
@@ -13,19 +13,11 @@ use Rattle.language.specs.Places.{hasPlace}
 use Rattle.language.specs.declared.frame.Frame.{Frame}
 use Rattle.machine.specs.Ranges.{threadInRange, valueInRange, itemInRange, entryInRange, cellInRange, listInRange, schedulerInRange, threadWordInRange, allBelow, inRange}
 use Rattle.machine.proofs.Ranges.{below-all, all-below, InRange, in-range, range-in, Space, space-of, of-space, range-place, range-starter, range-lives, range-items, range-variables, range-active, range-next}
-use Rattle.states.proofs.RangeLaws.{all-more}
 use Rattle.states.specs.Passes.{isZero, wordPasses, schedulerBlock, threadBlock}
+use Rattle.states.proofs.AllBelow.{cannot, same-test}
+use Rattle.states.proofs.BlockParts.{scheduler-parts, thread-parts}
 
--- a test that cannot pass fails
-pub cannot : (b : Bool) → (b ≡ true → ⊥) → false ≡ b
-cannot true h = absurd (h refl)
-cannot false h = refl
-
--- two tests are the same where each passes with the other
-pub same-test : (a b : Bool) → (a ≡ true → b ≡ true) → (b ≡ true → a ≡ true) → a ≡ b
-same-test true b f g = sym (f refl)
-same-test false b f g = cannot b (λ e. true≢false (sym (g e)))
-
+-- an answer t that is not as the test says it
 clash : (t : Bool) → not t ≡ true → t ≡ true → ⊥
 clash t f e = true≢false (sym e ∙ not-true t f)
 
@@ -97,15 +89,9 @@ module _ (w : List ℕ) (i : ℕ) where
 
   pub scheduler-rest : (t r : Bool) → t ≡ allBelow 65 (listInRange threadInRange 64 w i) → not t ≡ false → r ≡ allBelow 65 (listInRange entryInRange 64 w (i + 65)) → r ≡ allBelow 130 (schedulerInRange w i)
   scheduler-rest t r e f g = g ∙ same-test _ _
-      (λ q. all-below 130 (schedulerInRange w i) (λ j h. by q j h (ltb j 65) refl))
+      (λ q. all-below 130 (schedulerInRange w i) (scheduler-parts (λ j. schedulerInRange w i j ≡ true)
+      (λ j l. range-active w i j l ∙ below-all 65 (listInRange threadInRange 64 w i) (sym e ∙ not-false t f) j l) (λ j l. range-next w i j l ∙ below-all 65 (listInRange entryInRange 64 w (i + 65)) q j l)))
       (λ q. all-below 65 (listInRange entryInRange 64 w (i + 65)) (λ j h. sym (range-next w i j h) ∙ below-all 130 (schedulerInRange w i) q (65 + j) (omega arith)))
-    where
-      by : allBelow 65 (listInRange entryInRange 64 w (i + 65)) ≡ true → (j : ℕ) → j < 130 → (b : Bool) → ltb j 65 ≡ b → schedulerInRange w i j ≡ true
-      by q j h true a = let l : j < 65 = ltb-true j 65 a in range-active w i j l ∙ below-all 65 (listInRange threadInRange 64 w i) (sym e ∙ not-false t f) j l
-      by q j h false a =
-          let l : 65 ≤ j = ltb-false j 65 a in
-          let z : 65 + (j - 65) ≡ j = omega arith in
-          subst (λ (k : ℕ). schedulerInRange w i k ≡ true) z (range-next w i (j - 65) (omega arith) ∙ below-all 65 (listInRange entryInRange 64 w (i + 65)) q (j - 65) (omega arith))
 
 pub ruleset scheduler-laws = (scheduler-wrong, scheduler-rest)
 
@@ -118,13 +104,6 @@ unfolding schedulerBlock
 scheduler-none n k w r h e = no _ (le-ltb k n h) e
 
 pub ruleset scheduler-block-laws = (scheduler-there, scheduler-none)
-
--- ---- a loop over blocks
-pub block-wrong : (test : ℕ → Bool) (j n : ℕ) (t : Bool) → t ≡ test j → not t ≡ true → j < n → false ≡ allBelow n test
-block-wrong test j n t e f h = cannot _ (λ q. clash t f (e ∙ below-all n test q j h))
-
-pub block-more : (test : ℕ → Bool) (j : ℕ) (t : Bool) → allBelow j test ≡ true → t ≡ test j → not t ≡ false → allBelow (j + 1) test ≡ true
-block-more test j t h e f = all-more test j h (sym e ∙ not-false t f)
 
 -- ---- a thread
 module _ (fs : List Frame) (n : ℕ) (w : List ℕ) (i : ℕ) where
@@ -146,24 +125,11 @@ module _ (fs : List Frame) (n : ℕ) (w : List ℕ) (i : ℕ) where
   pub thread-rest : (t u r : Bool) → t ≡ hasPlace n (getD w i 0) → not t ≡ false → getD w (i + 1) 0 ≤ 64 → getD w (i + 2) 0 ≤ 1
       → u ≡ allBelow 26 (listInRange (itemInRange fs n) 25 w (i + 3)) → not u ≡ false → r ≡ allBelow 26 (listInRange valueInRange 25 w (i + 29)) → r ≡ allBelow 55 (threadWordInRange fs n w i)
   thread-rest t u r a b c d e f g = g ∙ same-test _ _
-      (λ q. all-below 55 (threadWordInRange fs n w i) (λ j h. at q j h))
+      (λ q. all-below 55 (threadWordInRange fs n w i) (thread-parts (λ j. threadWordInRange fs n w i j ≡ true)
+      (range-place fs n w i ∙ sym a ∙ not-false t b) (range-starter fs n w i ∙ le-leb _ 64 c) (range-lives fs n w i ∙ le-leb _ 1 d)
+      (λ j l. range-items fs n w i j l ∙ below-all 26 (listInRange (itemInRange fs n) 25 w (i + 3)) (sym e ∙ not-false u f) j l)
+      (λ j l. range-variables fs n w i j l ∙ below-all 26 (listInRange valueInRange 25 w (i + 29)) q j l)))
       (λ q. all-below 26 (listInRange valueInRange 25 w (i + 29)) (λ j h. sym (range-variables fs n w i j h) ∙ word-in q (29 + j) (omega arith)))
-    where
-      late : allBelow 26 (listInRange valueInRange 25 w (i + 29)) ≡ true → (j : ℕ) → 3 ≤ j → j < 55 → (x : Bool) → ltb j 29 ≡ x → threadWordInRange fs n w i j ≡ true
-      late q j l h true y =
-          let m : j < 29 = ltb-true j 29 y in
-          let z : 3 + (j - 3) ≡ j = omega arith in
-          subst (λ (k : ℕ). threadWordInRange fs n w i k ≡ true) z (range-items fs n w i (j - 3) (omega arith) ∙ below-all 26 (listInRange (itemInRange fs n) 25 w (i + 3)) (sym e ∙ not-false u f) (j - 3) (omega arith))
-      late q j l h false y =
-          let m : 29 ≤ j = ltb-false j 29 y in
-          let z : 29 + (j - 29) ≡ j = omega arith in
-          subst (λ (k : ℕ). threadWordInRange fs n w i k ≡ true) z (range-variables fs n w i (j - 29) (omega arith) ∙ below-all 26 (listInRange valueInRange 25 w (i + 29)) q (j - 29) (omega arith))
-
-      at : allBelow 26 (listInRange valueInRange 25 w (i + 29)) ≡ true → (j : ℕ) → j < 55 → threadWordInRange fs n w i j ≡ true
-      at q zero h = range-place fs n w i ∙ sym a ∙ not-false t b
-      at q (suc zero) h = range-starter fs n w i ∙ le-leb _ 64 c
-      at q (suc (suc zero)) h = range-lives fs n w i ∙ le-leb _ 1 d
-      at q (suc (suc (suc j))) h = late q (suc (suc (suc j))) (omega arith) h (ltb (suc (suc (suc j))) 29) refl
 
 pub ruleset thread-laws = (thread-place, thread-starter, thread-lives, thread-items, thread-rest)
 
@@ -221,21 +187,21 @@ module _ (fs : List Frame) (n : ℕ) (w : List ℕ) where
       (λ q. at-zero w (4562 + getD w 1 0) (256 - getD w 1 0) (λ j g. let z : 4562 + getD w 1 0 + j ≡ 4562 + (getD w 1 0 + j) = omega arith in
       ap (λ (k : ℕ). getD w k 0) z ∙ in-range fs n w q .no-cell (getD w 1 0 + j) (omega arith) (omega arith)))
     where
-      sched : (k : ℕ) → k < 8 → schedulerBlock n w k ≡ true
-      sched = below-all 8 (schedulerBlock n w) (sym dt ∙ not-false t ft)
+      scheduler-passes : (k : ℕ) → k < 8 → schedulerBlock n w k ≡ true
+      scheduler-passes = below-all 8 (schedulerBlock n w) (sym dt ∙ not-false t ft)
 
-      thr : (k : ℕ) → k < 64 → threadBlock fs n w k ≡ true
-      thr = below-all 64 (threadBlock fs n w) (sym du ∙ not-false u fu)
+      thread-passes : (k : ℕ) → k < 64 → threadBlock fs n w k ≡ true
+      thread-passes = below-all 64 (threadBlock fs n w) (sym du ∙ not-false u fu)
 
       there : allBelow (256 - getD w 1 0) (wordPasses isZero w (4562 + getD w 1 0)) ≡ true → inRange fs n w ≡ true
       there q = range-in fs n w (record {
         all = a;
         threads-room = b;
         cells-room = c;
-        scheduler = λ k j f g h. below-all 130 (schedulerInRange w (2 + 130 * k)) (sym (if-yes _ _ (lt-ltb k n h)) ∙ sched k f) j g;
-        no-scheduler = λ k j f g h. zero-at w (2 + 130 * k) 130 (sym (if-no _ _ (le-ltb k n h)) ∙ sched k f) j g;
-        thread = λ k j g h. below-all 55 (threadWordInRange fs n w (1042 + 55 * k)) (sym (if-yes _ _ (lt-ltb k (getD w 0 0) h)) ∙ thr k (omega arith)) j g;
-        no-thread = λ k j f g h. zero-at w (1042 + 55 * k) 55 (sym (if-no _ _ (le-ltb k (getD w 0 0) h)) ∙ thr k f) j g;
+        scheduler = λ k j f g h. below-all 130 (schedulerInRange w (2 + 130 * k)) (sym (if-yes _ _ (lt-ltb k n h)) ∙ scheduler-passes k f) j g;
+        no-scheduler = λ k j f g h. zero-at w (2 + 130 * k) 130 (sym (if-no _ _ (le-ltb k n h)) ∙ scheduler-passes k f) j g;
+        thread = λ k j g h. below-all 55 (threadWordInRange fs n w (1042 + 55 * k)) (sym (if-yes _ _ (lt-ltb k (getD w 0 0) h)) ∙ thread-passes k (omega arith)) j g;
+        no-thread = λ k j f g h. zero-at w (1042 + 55 * k) 55 (sym (if-no _ _ (le-ltb k (getD w 0 0) h)) ∙ thread-passes k f) j g;
         cell = λ k h. pass-at (cellInRange n) w 4562 (getD w 1 0) (sym dv ∙ not-false v fv) k h;
         no-cell = λ k f h. let z : 4562 + k ≡ 4562 + getD w 1 0 + (k - getD w 1 0) = omega arith in
             ap (λ (m : ℕ). getD w m 0) z ∙ zero-at w (4562 + getD w 1 0) (256 - getD w 1 0) q (k - getD w 1 0) (omega arith);

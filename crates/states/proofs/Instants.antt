@@ -13,7 +13,7 @@ use Rattle.basics.specs.Members.{All, none, more}
 use Rattle.basics.proofs.Ifs.{if-yes, if-no, and-true}
 use Rattle.machine.specs.State.{State, Thread, Scheduler, Entry, plain, waiting, noThread, noScheduler, withScheduler, schedulerAt}
 use Rattle.machine.specs.Waits.{endedFrom, isReady, threadOf, keepIf, readyThreads, stillWaiting}
-use Rattle.machine.specs.Words.{bit, entryWord, listWord, wordsAt, pack}
+use Rattle.machine.specs.Words.{entryWord, listWord, wordsAt, pack}
 use Rattle.machine.specs.Blocks.{pasted, padded}
 use Rattle.machine.specs.Ranges.{allBelow}
 use Rattle.machine.proofs.Tests.{and-both}
@@ -23,10 +23,12 @@ use Rattle.machine.proofs.Round.{thread-1, thread-2}
 use Rattle.machine.proofs.Ranges.{below-all, all-below}
 use Rattle.machine.proofs.Shapes.{EntryFits, plain-fits, waiting-fits}
 use Rattle.states.specs.Lists.{isQuiet, isReadyWord, readyWords, waitingWords, sortedOf, withInstantEnded}
-use Rattle.states.proofs.BlockLaws.{same-test}
+use Rattle.states.proofs.AllBelow.{same-test}
+use Rattle.states.proofs.Bridge.{ended-bit}
 use Rattle.states.proofs.Schedulers.{by-lists, scheduler-put, next-word, room-says}
 
 -- ---- the ready test
+-- thread t, which is x, has ended, or is neither thread u nor started by it: `isQuiet` on the state
 quiet : ℕ → ℕ → Thread → Bool
 quiet u t x = x .ended || not (eqb t u || eqb (x .starter) u)
 
@@ -44,10 +46,6 @@ each-ended u t [] h = refl
 each-ended u t (x ∷ xs) h =
     and-both (quiet u t x) (endedFrom u (suc t) xs) (ap (λ (n : ℕ). quiet u n x) (sym (add-zero t)) ∙ h 0 (omega arith))
     (each-ended u (suc t) xs (λ k g. let z : suc t + k ≡ t + suc k = omega arith in ap (λ (n : ℕ). quiet u n (getD xs k noThread)) z ∙ h (suc k) (omega arith)))
-
-ended-bit : (b : Bool) → eqb (bit (not b)) 0 ≡ b
-ended-bit true = refl
-ended-bit false = refl
 
 module _ (w : List ℕ) (s : State) (h : Says w s) (few : length (s .threads) ≤ 64) where
   quiet-says : (u k : ℕ) → k < length (s .threads) → isQuiet w u k ≡ quiet u (1 + k) (getD (s .threads) k noThread)
@@ -99,37 +97,48 @@ module _ (w : List ℕ) (s : State) (h : Says w s) (few : length (s .threads) �
       kept false = refl
 
 -- ---- the end of an instant
-list-in : (rs : List ℕ) (n : ℕ) → n ≡ length rs → (j : ℕ) → j < 65 → getD (n ∷ padded 64 rs) j 0 ≡ listWord rs j
-list-in rs n e zero g = e
-list-in rs n e (suc j) g = padded-at 64 rs j (omega arith)
+-- a list's words: its length, then its members in their space
+list-in : (rs : List ℕ) (j : ℕ) → j < 65 → getD (length rs ∷ padded 64 rs) j 0 ≡ listWord rs j
+list-in rs zero g = refl
+list-in rs (suc j) g = padded-at 64 rs j (omega arith)
 
 module _ (w : List ℕ) (s : State) (h : Says w s) (few : length (s .threads) ≤ 64) (q : ℕ) (a : q - 2 < 8) (b : q - 2 < length (s .schedulers))
     (room : length (schedulerAt s q .next) ≤ 64) (fit : All EntryFits (schedulerAt s q .next)) where
+  -- where the scheduler's words begin and where its next list does; the entries there, and the words of the ready ones and of those that wait
+  abbrev blockAt : ℕ
+  blockAt = 2 + 130 * (q - 2)
+
+  abbrev nextAt : ℕ
+  nextAt = 67 + 130 * (q - 2)
+
   abbrev es : List Entry
   es = getD (s .schedulers) (q - 2) noScheduler .next
 
-  entries : wordsAt w (67 + 130 * (q - 2)) ≡ map entryWord (getD (s .schedulers) (q - 2) noScheduler .next)
-  entries = ext-getD 0 (wordsAt w at) (map entryWord es) (tab-length (getD w at 0) (λ i. getD w i 0) (suc at) ∙ size) each
-    where
-      at : ℕ
-      at = 67 + 130 * (q - 2)
+  abbrev rs : List ℕ
+  rs = readyWords w (wordsAt w nextAt)
 
-      size : getD w (67 + 130 * (q - 2)) 0 ≡ length (map entryWord (getD (s .schedulers) (q - 2) noScheduler .next))
+  abbrev ws : List ℕ
+  ws = waitingWords w (wordsAt w nextAt)
+
+  entries-read : wordsAt w nextAt ≡ map entryWord es
+  entries-read = ext-getD 0 (wordsAt w nextAt) (map entryWord es) (tab-length (getD w nextAt 0) (λ i. getD w i 0) (suc nextAt) ∙ size) each
+    where
+      size : getD w nextAt 0 ≡ length (map entryWord es)
       size = room-says w s h q a b ∙ sym (length-map es entryWord)
 
-      each : (j : ℕ) → j < length (wordsAt w (67 + 130 * (q - 2))) → getD (wordsAt w (67 + 130 * (q - 2))) j 0 ≡ getD (map entryWord (getD (s .schedulers) (q - 2) noScheduler .next)) j 0
+      each : (j : ℕ) → j < length (wordsAt w nextAt) → getD (wordsAt w nextAt) j 0 ≡ getD (map entryWord es) j 0
       each j g =
-          let m : j < getD w (67 + 130 * (q - 2)) 0 = rw (tab-length (getD w (67 + 130 * (q - 2)) 0) (λ i. getD w i 0) (suc (67 + 130 * (q - 2)))) at g in
-          let n : getD w (67 + 130 * (q - 2)) 0 ≡ length (getD (s .schedulers) (q - 2) noScheduler .next) = room-says w s h q a b in
-          let r : length (getD (s .schedulers) (q - 2) noScheduler .next) ≤ 64 = room in
-          let z : suc (67 + 130 * (q - 2)) + j ≡ 2 + 130 * (q - 2) + (65 + suc j) = omega arith in
-          tab-from (getD w (67 + 130 * (q - 2)) 0) (λ i. getD w i 0) (suc (67 + 130 * (q - 2))) j 0 m ∙ ap (λ (i : ℕ). getD w i 0) z ∙ next-word w s h q a b (suc j) (omega arith)
+          let m : j < getD w nextAt 0 = rw (tab-length (getD w nextAt 0) (λ i. getD w i 0) (suc nextAt)) at g in
+          let n : getD w nextAt 0 ≡ length es = room-says w s h q a b in
+          let r : length es ≤ 64 = room in
+          let z : suc nextAt + j ≡ blockAt + (65 + suc j) = omega arith in
+          tab-from (getD w nextAt 0) (λ i. getD w i 0) (suc nextAt) j 0 m ∙ ap (λ (i : ℕ). getD w i 0) z ∙ next-word w s h q a b (suc j) (omega arith)
 
-  readies : readyWords w (wordsAt w (67 + 130 * (q - 2))) ≡ readyThreads (s .threads) (getD (s .schedulers) (q - 2) noScheduler .next)
-  readies = ap (readyWords w) entries ∙ ready-words w s h few es fit
+  readies : rs ≡ readyThreads (s .threads) es
+  readies = ap (readyWords w) entries-read ∙ ready-words w s h few es fit
 
-  waits : waitingWords w (wordsAt w (67 + 130 * (q - 2))) ≡ map entryWord (stillWaiting (s .threads) (getD (s .schedulers) (q - 2) noScheduler .next))
-  waits = ap (waitingWords w) entries ∙ waiting-words w s h few es fit
+  waits : ws ≡ map entryWord (stillWaiting (s .threads) es)
+  waits = ap (waitingWords w) entries-read ∙ waiting-words w s h few es fit
 
   -- the count that `end_instant` gives
   pub instant-readies : length (readyWords w (wordsAt w (67 + 130 * (q - 2)))) ≡ length (readyThreads (s .threads) (schedulerAt s q .next))
@@ -141,54 +150,48 @@ module _ (w : List ℕ) (s : State) (h : Says w s) (few : length (s .threads) �
   -- `end_instant`
   pub instant-says : Says (withInstantEnded w (q - 2)) (withScheduler q (record { active = readyThreads (s .threads) (schedulerAt s q .next); next = stillWaiting (s .threads) (schedulerAt s q .next) }) s)
   unfolding withInstantEnded sortedOf
-  instant-says = scheduler-put w s h q a b v after long (by-lists after (λ j. getD v (2 + 130 * (q - 2) + j) 0) active next)
-      (λ i f. pasted-out u (67 + 130 * (q - 2)) B 65 hd' hs' i (λ p r. f (omega arith) (omega arith)) ∙ pasted-out w (2 + 130 * (q - 2)) A 65 hd hs i (λ p r. f (omega arith) (omega arith)))
+  instant-says = scheduler-put w s h q a b v after long (by-lists after (λ j. getD v (blockAt + j) 0) active next)
+      (λ i f. pasted-out u nextAt nexts 65 hd' hs' i (λ p r. f (omega arith) (omega arith)) ∙ pasted-out w blockAt actives 65 hd hs i (λ p r. f (omega arith) (omega arith)))
     where
-      rs : List ℕ
-      rs = readyWords w (wordsAt w (67 + 130 * (q - 2)))
+      actives : List ℕ
+      actives = length rs ∷ padded 64 rs
 
-      ws : List ℕ
-      ws = waitingWords w (wordsAt w (67 + 130 * (q - 2)))
-
-      A : List ℕ
-      A = length (readyWords w (wordsAt w (67 + 130 * (q - 2)))) ∷ padded 64 (readyWords w (wordsAt w (67 + 130 * (q - 2))))
-
-      B : List ℕ
-      B = length (waitingWords w (wordsAt w (67 + 130 * (q - 2)))) ∷ padded 64 (waitingWords w (wordsAt w (67 + 130 * (q - 2))))
+      nexts : List ℕ
+      nexts = length ws ∷ padded 64 ws
 
       u : List ℕ
-      u = pasted w (2 + 130 * (q - 2)) A 65
+      u = pasted w blockAt actives 65
 
       v : List ℕ
-      v = pasted u (67 + 130 * (q - 2)) B 65
+      v = pasted u nextAt nexts 65
 
-      hd : 2 + 130 * (q - 2) + 65 ≤ length w
+      hd : blockAt + 65 ≤ length w
       hd = rw (h .all) (omega arith)
 
-      hs : 65 ≤ length A
-      hs = let p : length (padded 64 (readyWords w (wordsAt w (67 + 130 * (q - 2))))) ≡ 64 = padded-length 64 rs in omega arith
+      hs : 65 ≤ length actives
+      hs = let p : length (padded 64 rs) ≡ 64 = padded-length 64 rs in omega arith
 
       ul : length u ≡ 4818
-      ul = pasted-length w (2 + 130 * (q - 2)) A 65 hd hs ∙ h .all
+      ul = pasted-length w blockAt actives 65 hd hs ∙ h .all
 
-      hd' : 67 + 130 * (q - 2) + 65 ≤ length u
+      hd' : nextAt + 65 ≤ length u
       hd' = rw ul (omega arith)
 
-      hs' : 65 ≤ length B
-      hs' = let p : length (padded 64 (waitingWords w (wordsAt w (67 + 130 * (q - 2))))) ≡ 64 = padded-length 64 ws in omega arith
+      hs' : 65 ≤ length nexts
+      hs' = let p : length (padded 64 ws) ≡ 64 = padded-length 64 ws in omega arith
 
       long : length v ≡ 4818
-      long = pasted-length u (67 + 130 * (q - 2)) B 65 hd' hs' ∙ ul
+      long = pasted-length u nextAt nexts 65 hd' hs' ∙ ul
 
-      active : (j : ℕ) → j < 65 → getD v (2 + 130 * (q - 2) + j) 0 ≡ listWord (readyThreads (s .threads) (schedulerAt s q .next)) j
+      active : (j : ℕ) → j < 65 → getD v (blockAt + j) 0 ≡ listWord (readyThreads (s .threads) (schedulerAt s q .next)) j
       active j g =
-          pasted-out u (67 + 130 * (q - 2)) B 65 hd' hs' (2 + 130 * (q - 2) + j) (λ p r. omega arith) ∙ pasted-in w (2 + 130 * (q - 2)) A 65 hd hs j g
-          ∙ list-in rs (length rs) refl j g ∙ ap (λ (l : List ℕ). listWord l j) readies
+          pasted-out u nextAt nexts 65 hd' hs' (blockAt + j) (λ p r. omega arith) ∙ pasted-in w blockAt actives 65 hd hs j g
+          ∙ list-in rs j g ∙ ap (λ (l : List ℕ). listWord l j) readies
 
-      next : (j : ℕ) → j < 65 → getD v (2 + 130 * (q - 2) + (65 + j)) 0 ≡ listWord (map entryWord (stillWaiting (s .threads) (schedulerAt s q .next))) j
+      next : (j : ℕ) → j < 65 → getD v (blockAt + (65 + j)) 0 ≡ listWord (map entryWord (stillWaiting (s .threads) (schedulerAt s q .next))) j
       next j g =
-          let z : 2 + 130 * (q - 2) + (65 + j) ≡ 67 + 130 * (q - 2) + j = omega arith in
-          ap (λ (i : ℕ). getD v i 0) z ∙ pasted-in u (67 + 130 * (q - 2)) B 65 hd' hs' j g ∙ list-in ws (length ws) refl j g ∙ ap (λ (l : List ℕ). listWord l j) waits
+          let z : blockAt + (65 + j) ≡ nextAt + j = omega arith in
+          ap (λ (i : ℕ). getD v i 0) z ∙ pasted-in u nextAt nexts 65 hd' hs' j g ∙ list-in ws j g ∙ ap (λ (l : List ℕ). listWord l j) waits
 
 -- where none is ready all stay, so that the state is the same, and with it the words: 'nothing' (16) changes no buffer
 pub none-ready : (ts : List Thread) (es : List Entry) → readyThreads ts es ≡ [] → stillWaiting ts es ≡ es

@@ -1,4 +1,4 @@
--- Laws of the parties. Assumes nothing.
+-- Whether a choice names an unlinked thread: one law for each return of the code, and the test on words is `isUnlinked` of the state that they say. Assumes nothing.
 use Prim.Native.Nat.{ℕ, suc, _+_, _-_, _*_, _<_, _≤_}
 use mathlib.Core.Path.{_≡_, refl, ap, ap₂, _∙_}
 use mathlib.Core.List.{List}
@@ -9,11 +9,11 @@ use lib.ListN.{getD, length}
 use borrow.Author.Tests.{le-leb, lt-leb, leb-true, eq-eqb, ne-eqb}
 use Rattle.language.specs.Places.{private}
 use Rattle.machine.specs.State.{State, Thread, noThread, nth}
-use Rattle.machine.specs.Words.{bit}
 use Rattle.machine.specs.Steps.{isUnlinked}
 use Rattle.machine.proofs.WordLaws.{Says}
 use Rattle.machine.proofs.Round.{thread-0, thread-2}
 use Rattle.states.specs.Parties.{isUnlinkedWord}
+use Rattle.states.proofs.Bridge.{ended-bit}
 
 module _ (w : List ℕ) (c : ℕ) where
   pub unlinked-low : c < 17 → false ≡ isUnlinkedWord w c
@@ -33,10 +33,6 @@ module _ (w : List ℕ) (c : ℕ) where
   unlinked-rest a b h = rw (le-leb 17 c a, le-leb (c - 16) (getD w 0 0) b, eq-eqb (getD w (1042 + 55 * (c - 17)) 0) 1 h)
 
 pub ruleset unlinked-laws = (unlinked-low, unlinked-over, unlinked-elsewhere, unlinked-rest)
-
-ended-bit : (b : Bool) → eqb (bit (not b)) 0 ≡ b
-ended-bit true = refl
-ended-bit false = refl
 
 pub unlinked-says : (w : List ℕ) (s : State) → Says w s → length (s .threads) ≤ 64 → (c : ℕ) → isUnlinkedWord w c ≡ isUnlinked s c
 unfolding isUnlinkedWord isUnlinked

@@ -1,11 +1,11 @@
--- Laws of the range tests, one for each return of the code. Assumes nothing.
+-- Laws of the range tests of words, one for each return of the code; for lists and blocks of words see BlockLaws. Assumes nothing.
 use Prim.Native.Nat.{ℕ, zero, suc, _+_, _-_, _/_, _%_, _<_, _≤_}
 use mathlib.Core.Path.{_≡_, refl, sym, ap, _∙_}
 use mathlib.Core.List.{List, [], _∷_}
-use mathlib.Core.Bool.{Bool, true, false, not, true≢false}
+use mathlib.Core.Bool.{Bool, true, false, not}
 use native.Mathlib.Omega.{arith}
-use native.Mathlib.Numerals.{add-one}
-use lib.ListN.{getD, length, length-map, List·getD-eq-default}
+use lib.ListN.{getD, length, drop, length-map, List·getD-eq-default}
+use lib.Seq.{drop-cons}
 use lib.Dec.{leb, eqb}
 use borrow.Author.Tests.{lt-ltb, le-ltb, le-leb, lt-leb, eq-eqb, ne-eqb, not-true, not-false}
 use Rattle.basics.proofs.Ifs.{yes, no}
@@ -15,21 +15,20 @@ use Rattle.language.specs.declared.frame.Frame.{Frame}
 use Rattle.text.specs.Frames.{frameOfWord, framesOf}
 use Rattle.program.specs.Trees.{frameAt, noFrame}
 use Rattle.machine.specs.Ranges.{threadInRange, valueInRange, isStatement, itemInRange, entryInRange, ownerInRange, cellInRange, allBelow}
-use Rattle.machine.proofs.Tests.{and-both}
-use Rattle.machine.proofs.Ranges.{below-all}
 use Rattle.states.specs.Passes.{isZero, memberInRange, wordPasses}
 use Rattle.states.specs.declared.range.Member.{Member}
+use Rattle.states.proofs.AllBelow.{all-more, all-wrong, answer-more, answer-wrong}
 
--- ---- single words
-pub thread-low : (t : ℕ) → t < 1 → false ≡ threadInRange t
+-- ---- numbers of threads, values
+pub thread-number-low : (t : ℕ) → t < 1 → false ≡ threadInRange t
 unfolding threadInRange
-thread-low t h = rw (lt-leb 1 t h)
+thread-number-low t h = rw (lt-leb 1 t h)
 
-pub thread-rest : (t : ℕ) → 1 ≤ t → leb t 64 ≡ threadInRange t
+pub thread-number-rest : (t : ℕ) → 1 ≤ t → leb t 64 ≡ threadInRange t
 unfolding threadInRange
-thread-rest t h = rw (le-leb 1 t h)
+thread-number-rest t h = rw (le-leb 1 t h)
 
-pub ruleset thread-laws = (thread-low, thread-rest)
+pub ruleset thread-number-laws = (thread-number-low, thread-number-rest)
 
 pub value-number : (w : ℕ) → w < 0x0001_0000_0000 → true ≡ valueInRange w
 unfolding valueInRange
@@ -45,13 +44,21 @@ value-cell w a h = no _ (le-ltb _ _ a) (no _ (le-ltb _ _ h) refl)
 
 pub ruleset value-laws = (value-number, value-truth, value-cell)
 
-pub no-statement : (words : List ℕ) (i : ℕ) → length words ≤ i → false ≡ isStatement (frameAt (framesOf words) i .kind)
-no-statement words i h = ap (λ (f : Frame). isStatement (f .kind)) (sym (List·getD-eq-default (framesOf words) noFrame {n = i} (rw (length-map words frameOfWord) h)))
+-- ---- the frames of a text's lines: for an item's frame here, and for the loops over the lines elsewhere
+pub frames-length : (words : List ℕ) → length (framesOf words) ≡ length words
+frames-length words = length-map words frameOfWord
 
 pub frame-at : (words : List ℕ) (i : ℕ) → i < length words → frameAt (framesOf words) i ≡ frameOfWord (getD words i 0)
 frame-at [] i h = absurd (omega arith)
 frame-at (w ∷ ws) zero h = refl
 frame-at (w ∷ ws) (suc i) h = frame-at ws i (omega arith)
+
+pub next-frame : (words : List ℕ) (i : ℕ) → i < length words → drop i (framesOf words) ≡ frameOfWord (getD words i 0) ∷ drop (suc i) (framesOf words)
+next-frame words i l = drop-cons (framesOf words) i noFrame (rw (frames-length words) l) ∙ ap (λ (f : Frame). f ∷ drop (suc i) (framesOf words)) (frame-at words i l)
+
+-- ---- items
+pub no-statement : (words : List ℕ) (i : ℕ) → length words ≤ i → false ≡ isStatement (frameAt (framesOf words) i .kind)
+no-statement words i h = ap (λ (f : Frame). isStatement (f .kind)) (sym (List·getD-eq-default (framesOf words) noFrame {n = i} (rw (frames-length words) h)))
 
 pub some-statement : (words : List ℕ) (i : ℕ) (f : Frame) (k : Kind) (r : Bool) → i < length words → f ≡ frameOfWord (getD words i 0) → k ≡ f .kind → r ≡ isStatement k → r ≡ isStatement (frameAt (framesOf words) i .kind)
 some-statement words i f k r h e q s = s ∙ ap isStatement (q ∙ ap (λ (g : Frame). g .kind) (e ∙ sym (frame-at words i h)))
@@ -70,6 +77,7 @@ item-drop fs n w a h = no _ (le-ltb _ _ a) (no _ (le-ltb _ _ h) refl)
 
 pub ruleset item-laws = (item-statement, item-back, item-drop)
 
+-- ---- entries, owners, cells
 pub entry-plain : (w : ℕ) (r : Bool) → w < 128 → r ≡ threadInRange w → r ≡ entryInRange w
 unfolding entryInRange
 entry-plain w r h e = yes _ (lt-ltb _ _ h) e
@@ -98,36 +106,17 @@ owner-thread n o t e h l = rw (sym e ∙ h, le-leb 17 o l)
 
 pub ruleset owner-laws = (owner-scheduler, owner-low, owner-thread)
 
-pub cell-foreign : (n w : ℕ) (t : Bool) → t ≡ ownerInRange n (w / 0x0004_0000_0000) → not t ≡ true → false ≡ cellInRange n w
+pub cell-unowned : (n w : ℕ) (t : Bool) → t ≡ ownerInRange n (w / 0x0004_0000_0000) → not t ≡ true → false ≡ cellInRange n w
 unfolding cellInRange
-cell-foreign n w t e h = rw (sym e ∙ not-true t h)
+cell-unowned n w t e h = rw (sym e ∙ not-true t h)
 
 pub cell-rest : (n w : ℕ) (t r : Bool) → t ≡ ownerInRange n (w / 0x0004_0000_0000) → not t ≡ false → r ≡ valueInRange (w % 0x0004_0000_0000) → r ≡ cellInRange n w
 unfolding cellInRange
 cell-rest n w t r e h g = rw (sym e ∙ not-false t h) g
 
-pub ruleset cell-laws = (cell-foreign, cell-rest)
+pub ruleset cell-laws = (cell-unowned, cell-rest)
 
 -- ---- a loop over words
-pub all-none : (test : ℕ → Bool) → allBelow 0 test ≡ true
-unfolding allBelow
-all-none test = refl
-
-pub all-more : (test : ℕ → Bool) (j : ℕ) → allBelow j test ≡ true → test j ≡ true → allBelow (j + 1) test ≡ true
-unfolding allBelow
-all-more test j h g = ap (λ (k : ℕ). allBelow k test) (add-one j) ∙ and-both (test j) (allBelow j test) g h
-
-pub all-end : (test : ℕ → Bool) (j n : ℕ) → allBelow j test ≡ true → j ≤ n → n ≤ j → true ≡ allBelow n test
-all-end test j n h a b = sym h ∙ ap (λ (k : ℕ). allBelow k test) (omega arith)
-
--- one that fails: the whole fails
-pub all-wrong : (test : ℕ → Bool) (j n : ℕ) → test j ≡ false → j < n → false ≡ allBelow n test
-all-wrong test j n e h = by (allBelow n test) refl
-  where
-    by : (b : Bool) → allBelow n test ≡ b → false ≡ allBelow n test
-    by true q = absurd (true≢false (sym (below-all n test q j h) ∙ e))
-    by false q = sym q
-
 module _ (w : List ℕ) (at count j : ℕ) where
   pub zero-wrong : j < count → (getD w (at + j) 0 ≡ 0 → ⊥) → false ≡ allBelow count (wordPasses isZero w at)
   unfolding wordPasses isZero
@@ -139,11 +128,12 @@ module _ (w : List ℕ) (at count j : ℕ) where
 
   pub member-wrong : (test : ℕ → Bool) (t : Bool) → t ≡ test (getD w (at + j) 0) → not t ≡ true → j < count → false ≡ allBelow count (wordPasses test w at)
   unfolding wordPasses
-  member-wrong test t e f h = all-wrong (wordPasses test w at) j count (sym e ∙ not-true t f) h
+  member-wrong test t e f h = answer-wrong (wordPasses test w at) j count t e f h
 
   pub member-more : (test : ℕ → Bool) (t : Bool) → allBelow j (wordPasses test w at) ≡ true → t ≡ test (getD w (at + j) 0) → not t ≡ false → allBelow (j + 1) (wordPasses test w at) ≡ true
   unfolding wordPasses
-  member-more test t h e f = all-more (wordPasses test w at) j h (sym e ∙ not-false t f)
+  member-more test t h e f = answer-more (wordPasses test w at) j t h e f
 
+-- a match on the kind of member
 pub member-row : (fs : List Frame) (n w : ℕ) (k v : Member) (r : Bool) → k ≡ v → r ≡ memberInRange fs n v w → r ≡ memberInRange fs n k w
 member-row fs n w k v r e h = h ∙ ap (λ (x : Member). memberInRange fs n x w) (sym e)

@@ -4,7 +4,7 @@ use mathlib.Core.Path.{_≡_, sym, ap, ap₂, _∙_}
 use mathlib.Core.List.{List, [], _∷_, _++_, map, reverse, reverse-cons, map-append}
 use native.Mathlib.Omega.{arith}
 use native.Mathlib.Numerals.{add-one}
-use lib.ListN.{getD, length, set, length-map, length-reverse, length-append}
+use lib.ListN.{getD, length, set, length-map, length-append}
 use lib.Seq.{getD-at}
 use Rattle.machine.specs.State.{Thread, Item}
 use Rattle.machine.specs.declared.value.Value.{Value}
@@ -13,6 +13,7 @@ use Rattle.machine.specs.Blocks.{padded}
 use Rattle.machine.proofs.Padded.{padded-at, padded-push, padded-pop}
 use Rattle.states.specs.Threads.{wordsOf}
 use Rattle.states.specs.Stacks.{pushItem, popItem, pushValue, popValue}
+use Rattle.states.proofs.Bridge.{items-length}
 
 abbrev pub withContinuation : List Item → Thread → Thread
 withContinuation is x = record { place = x .place; continuation = is; variables = x .variables; starter = x .starter; ended = x .ended }
@@ -20,30 +21,29 @@ withContinuation is x = record { place = x .place; continuation = is; variables 
 abbrev pub withVariables : List Value → Thread → Thread
 withVariables vs x = record { place = x .place; continuation = x .continuation; variables = vs; starter = x .starter; ended = x .ended }
 
-bottom : (is : List Item) → length (reverse (map itemWord is)) ≡ length is
-bottom is = length-reverse (map itemWord is) ∙ length-map is itemWord
-
+-- ---- the words of a continuation lie from the bottom: its top item is the last of them
 module _ (i : Item) (is : List Item) (room : length is < 25) where
   top-first : reverse (map itemWord (i ∷ is)) ≡ reverse (map itemWord is) ++ (itemWord i ∷ [])
   top-first = reverse-cons (itemWord i) (map itemWord is)
 
   pushed : set (padded 25 (reverse (map itemWord is))) (length is) (itemWord i) ≡ padded 25 (reverse (map itemWord (i ∷ is)))
   pushed =
-      ap (λ (n : ℕ). set (padded 25 (reverse (map itemWord is))) n (itemWord i)) (sym (bottom is))
-      ∙ padded-push 25 (reverse (map itemWord is)) (itemWord i) (rw (bottom is) room) ∙ ap (padded 25) (sym top-first)
+      ap (λ (n : ℕ). set (padded 25 (reverse (map itemWord is))) n (itemWord i)) (sym (items-length is))
+      ∙ padded-push 25 (reverse (map itemWord is)) (itemWord i) (rw (items-length is) room) ∙ ap (padded 25) (sym top-first)
 
   popped : set (padded 25 (reverse (map itemWord (i ∷ is)))) (length is) 0 ≡ padded 25 (reverse (map itemWord is))
   popped =
-      ap₂ (λ (ws : List ℕ) (n : ℕ). set (padded 25 ws) n 0) top-first (sym (bottom is)) ∙ padded-pop 25 (reverse (map itemWord is)) (itemWord i) (rw (bottom is) room)
+      ap₂ (λ (ws : List ℕ) (n : ℕ). set (padded 25 ws) n 0) top-first (sym (items-length is)) ∙ padded-pop 25 (reverse (map itemWord is)) (itemWord i) (rw (items-length is) room)
 
   topmost : getD (padded 25 (reverse (map itemWord (i ∷ is)))) (length is) 0 ≡ itemWord i
   topmost =
       padded-at 25 (reverse (map itemWord (i ∷ is))) (length is) room ∙ ap (λ (ws : List ℕ). getD ws (length is) 0) top-first
-      ∙ getD-at (reverse (map itemWord is)) (itemWord i) [] 0 (length is) (bottom is)
+      ∙ getD-at (reverse (map itemWord is)) (itemWord i) [] 0 (length is) (items-length is)
 
 less-one : (n : ℕ) → suc n - 1 ≡ n
 less-one n = omega arith
 
+-- ---- the struct
 module _ (x : Thread) where
   pub push-item-is : (i : Item) → length (x .continuation) < 25 → pushItem (itemWord i) (wordsOf x) ≡ wordsOf (withContinuation (i ∷ x .continuation) x)
   unfolding pushItem

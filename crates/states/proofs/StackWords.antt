@@ -37,7 +37,7 @@ pub ended-wide : (x : ThreadWords) → Wide x → Wide (ended x)
 unfolding ended
 ended-wide x h = record { continuation = h .continuation; variables = h .variables }
 
--- ---- one word of the block
+-- ---- one word of the block: the code writes an item or a variable and then the count, so that in between a list and its count disagree
 abbrev itemsIn : ThreadWords → ℕ → List ℕ → ThreadWords
 itemsIn x n ws = record { place = x .place; starter = x .starter; alive = x .alive; items = n; continuation = ws; values = x .values; variables = x .variables }
 
@@ -50,49 +50,49 @@ set-behind (x ∷ xs) ys i v = let z : length (x ∷ xs) + i ≡ suc (length xs 
     ap (λ (n : ℕ). set (x ∷ (xs ++ ys)) n v) z ∙ ap (λ (l : List ℕ). x ∷ l) (set-behind xs ys i v)
 
 module _ (x : ThreadWords) (h : Wide x) where
-  block-place : (p : ℕ) → set (blockOf x) 0 p ≡ blockOf (moveTo p x)
+  set-place : (p : ℕ) → set (blockOf x) 0 p ≡ blockOf (moveTo p x)
   unfolding blockOf moveTo
-  block-place p = refl
+  set-place p = refl
 
-  block-end : set (blockOf x) 2 0 ≡ blockOf (ended x)
+  set-ended : set (blockOf x) 2 0 ≡ blockOf (ended x)
   unfolding blockOf ended
-  block-end = refl
+  set-ended = refl
 
-  block-items : (m : ℕ) → set (blockOf x) 3 m ≡ blockOf (itemsIn x m (x .continuation))
+  set-items : (m : ℕ) → set (blockOf x) 3 m ≡ blockOf (itemsIn x m (x .continuation))
   unfolding blockOf
-  block-items m = refl
+  set-items m = refl
 
-  block-item : (n v : ℕ) → n < 25 → set (blockOf x) (4 + n) v ≡ blockOf (itemsIn x (x .items) (set (x .continuation) n v))
+  set-item : (n v : ℕ) → n < 25 → set (blockOf x) (4 + n) v ≡ blockOf (itemsIn x (x .items) (set (x .continuation) n v))
   unfolding blockOf
-  block-item n v l = let z : 4 + n ≡ suc (suc (suc (suc n))) = omega arith in
+  set-item n v l = let z : 4 + n ≡ suc (suc (suc (suc n))) = omega arith in
       let c : length (x .continuation) ≡ 25 = h .continuation in
       ap (λ (i : ℕ). set (blockOf x) i v) z
       ∙ ap (λ (ws : List ℕ). x .place ∷ x .starter ∷ x .alive ∷ x .items ∷ ws) (set-append-left (x .continuation) (x .values ∷ x .variables) n v (omega arith))
 
-  block-count : (m : ℕ) → set (blockOf x) 29 m ≡ blockOf (valuesIn x m (x .variables))
+  set-values : (m : ℕ) → set (blockOf x) 29 m ≡ blockOf (valuesIn x m (x .variables))
   unfolding blockOf
-  block-count m = ap (λ (ws : List ℕ). x .place ∷ x .starter ∷ x .alive ∷ x .items ∷ ws) (set-at (x .continuation) (x .values) (x .variables) m 25 (h .continuation))
+  set-values m = ap (λ (ws : List ℕ). x .place ∷ x .starter ∷ x .alive ∷ x .items ∷ ws) (set-at (x .continuation) (x .values) (x .variables) m 25 (h .continuation))
 
-  block-value : (n v : ℕ) → n < 25 → set (blockOf x) (30 + n) v ≡ blockOf (valuesIn x (x .values) (set (x .variables) n v))
+  set-value : (n v : ℕ) → n < 25 → set (blockOf x) (30 + n) v ≡ blockOf (valuesIn x (x .values) (set (x .variables) n v))
   unfolding blockOf
-  block-value n v l =
+  set-value n v l =
       let c : length (x .continuation) ≡ 25 = h .continuation in
       let z : 30 + n ≡ suc (suc (suc (suc (length (x .continuation) + suc n)))) = omega arith in
       ap (λ (i : ℕ). set (blockOf x) i v) z
       ∙ ap (λ (ws : List ℕ). x .place ∷ x .starter ∷ x .alive ∷ x .items ∷ ws) (set-behind (x .continuation) (x .values ∷ x .variables) (suc n) v)
 
--- ---- what each leaf writes
+-- ---- what each function of `stack` writes
 module _ (w : List ℕ) (k : ℕ) (all : length w ≡ 4818) (room : k < 64) where
-  one : (y : ThreadWords) (i j v : ℕ) → i ≡ 1042 + 55 * k + j → j < 55 → set (blockOf (threadIn w k)) j v ≡ blockOf y → set w i v ≡ putThread w k y
-  one y i j v z l e =
+  one-word : (y : ThreadWords) (i j v : ℕ) → i ≡ 1042 + 55 * k + j → j < 55 → set (blockOf (threadIn w k)) j v ≡ blockOf y → set w i v ≡ putThread w k y
+  one-word y i j v z l e =
       ap (λ (u : List ℕ). set u i v) (sym (with-in w k all room)) ∙ ap (λ (n : ℕ). set (putThread w k (threadIn w k)) n v) z
       ∙ with-set w k all room (threadIn w k) (in-wide w k all room) y j v l e
 
   pub moved : (p : ℕ) → set w (1042 + 55 * k) p ≡ putThread w k (moveTo p (threadIn w k))
-  moved p = one (moveTo p (threadIn w k)) (1042 + 55 * k) 0 p (sym (add-zero (1042 + 55 * k))) (omega arith) (block-place (threadIn w k) (in-wide w k all room) p)
+  moved p = one-word (moveTo p (threadIn w k)) (1042 + 55 * k) 0 p (sym (add-zero (1042 + 55 * k))) (omega arith) (set-place (threadIn w k) (in-wide w k all room) p)
 
   pub ends : set w (1042 + 55 * k + 2) 0 ≡ putThread w k (ended (threadIn w k))
-  ends = one (ended (threadIn w k)) (1042 + 55 * k + 2) 2 0 refl (omega arith) (block-end (threadIn w k) (in-wide w k all room))
+  ends = one-word (ended (threadIn w k)) (1042 + 55 * k + 2) 2 0 refl (omega arith) (set-ended (threadIn w k) (in-wide w k all room))
 
   item-written : (n v m : ℕ) → n < 25 → set (set w (1042 + 55 * k + 4 + n) v) (1042 + 55 * k + 3) m ≡ putThread w k (itemsIn (threadIn w k) m (set (threadIn w k .continuation) n v))
   item-written n v m l =
@@ -100,8 +100,8 @@ module _ (w : List ℕ) (k : ℕ) (all : length w ≡ 4818) (room : k < 64) wher
       let h : Wide x = in-wide w k all room in
       let y : ThreadWords = itemsIn x (x .items) (set (x .continuation) n v) in
       let g : Wide y = record { continuation = length-set (x .continuation) n v ∙ h .continuation; variables = h .variables } in
-      ap (λ (u : List ℕ). set u (1042 + 55 * k + 3) m) (one y (1042 + 55 * k + 4 + n) (4 + n) v (omega arith) (omega arith) (block-item x h n v l))
-      ∙ with-set w k all room y g (itemsIn y m (y .continuation)) 3 m (omega arith) (block-items y g m)
+      ap (λ (u : List ℕ). set u (1042 + 55 * k + 3) m) (one-word y (1042 + 55 * k + 4 + n) (4 + n) v (omega arith) (omega arith) (set-item x h n v l))
+      ∙ with-set w k all room y g (itemsIn y m (y .continuation)) 3 m (omega arith) (set-items y g m)
 
   value-written : (n v m : ℕ) → n < 25 → set (set w (1042 + 55 * k + 30 + n) v) (1042 + 55 * k + 29) m ≡ putThread w k (valuesIn (threadIn w k) m (set (threadIn w k .variables) n v))
   value-written n v m l =
@@ -109,8 +109,8 @@ module _ (w : List ℕ) (k : ℕ) (all : length w ≡ 4818) (room : k < 64) wher
       let h : Wide x = in-wide w k all room in
       let y : ThreadWords = valuesIn x (x .values) (set (x .variables) n v) in
       let g : Wide y = record { continuation = h .continuation; variables = length-set (x .variables) n v ∙ h .variables } in
-      ap (λ (u : List ℕ). set u (1042 + 55 * k + 29) m) (one y (1042 + 55 * k + 30 + n) (30 + n) v (omega arith) (omega arith) (block-value x h n v l))
-      ∙ with-set w k all room y g (valuesIn y m (y .variables)) 29 m (omega arith) (block-count y g m)
+      ap (λ (u : List ℕ). set u (1042 + 55 * k + 29) m) (one-word y (1042 + 55 * k + 30 + n) (30 + n) v (omega arith) (omega arith) (set-value x h n v l))
+      ∙ with-set w k all room y g (valuesIn y m (y .variables)) 29 m (omega arith) (set-values y g m)
 
   pub item-pushed : (v : ℕ) → threadIn w k .items < 25
       → set (set w (1042 + 55 * k + 4 + getD w (1042 + 55 * k + 3) 0) v) (1042 + 55 * k + 3) (getD w (1042 + 55 * k + 3) 0 + 1) ≡ putThread w k (pushItem v (threadIn w k))

@@ -1,67 +1,20 @@
 -- A thread where its words lie: its block read, written, and written again. Assumes nothing.
-use Prim.Native.Nat.{ℕ, _+_, _*_, _-_, _<_, _≤_}
-use mathlib.Core.Path.{_≡_, refl, sym, ap, _∙_, subst}
+use Prim.Native.Nat.{ℕ, _+_, _*_, _<_, _≤_}
+use mathlib.Core.Path.{_≡_, refl, sym, ap, _∙_}
 use mathlib.Core.List.{List}
-use mathlib.Core.Bool.{Bool, true, false}
 use native.Mathlib.Omega.{arith}
 use native.Mathlib.Nat.{add-zero}
-use native.Mathlib.Decide.{ℕ-discrete}
-use lib.Dec.{ltb}
-use borrow.Author.Tests.{ltb-true, ltb-false}
-use lib.ListN.{getD, length, set, length-set}
-use lib.Seq.{ext-getD, getD-set-same, getD-set-other, set-getD}
+use lib.ListN.{getD, length, set}
+use lib.Seq.{ext-getD, set-getD}
 use Rattle.machine.specs.Blocks.{part, pasted}
-use Rattle.machine.proofs.WordLaws.{part-at, part-length, pasted-length, pasted-in, pasted-out}
+use Rattle.machine.proofs.WordLaws.{part-at, part-length, pasted-length, pasted-in}
 use Rattle.states.specs.Threads.{threadIn, putThread, blockOf}
 use Rattle.states.specs.declared.thread.ThreadWords.{ThreadWords}
-use Rattle.states.proofs.Store.{stored, block-length, block-continuation, block-values, block-variables}
-use Rattle.states.proofs.Bridge.{fields-path, block-0, block-1, block-2, block-3}
+use Rattle.states.proofs.PastedLaws.{pasted-self, pasted-set, pasted-pasted}
+use Rattle.states.proofs.Store.{stored, block-place, block-starter, block-alive, block-items, block-length, block-continuation, block-values, block-variables}
+use Rattle.states.proofs.Bridge.{fields-path}
 
--- words that are the block inside it and as before outside
-module _ (d e : List ℕ) (at : ℕ) (s : List ℕ) (n : ℕ) (hd : at + n ≤ length d) (hs : n ≤ length s) (long : length e ≡ length d)
-    (inside : (j : ℕ) → j < n → getD e (at + j) 0 ≡ getD s j 0) (outside : (i : ℕ) → (at ≤ i → i < at + n → ⊥) → getD e i 0 ≡ getD d i 0) where
-  word : (i : ℕ) (a b : Bool) → ltb i at ≡ a → ltb i (at + n) ≡ b → getD e i 0 ≡ getD (pasted d at s n) i 0
-  word i true b p q = let l : i < at = ltb-true i at p in outside i (λ x y. omega arith) ∙ sym (pasted-out d at s n hd hs i (λ x y. omega arith))
-  word i false false p q = let l : at + n ≤ i = ltb-false i (at + n) q in outside i (λ x y. omega arith) ∙ sym (pasted-out d at s n hd hs i (λ x y. omega arith))
-  word i false true p q =
-      let l : at ≤ i = ltb-false i at p in
-      let m : i < at + n = ltb-true i (at + n) q in
-      let z : at + (i - at) ≡ i = omega arith in
-      subst (λ (k : ℕ). getD e k 0 ≡ getD (pasted d at s n) k 0) z (inside (i - at) (omega arith) ∙ sym (pasted-in d at s n hd hs (i - at) (omega arith)))
-
-  same-pasted : e ≡ pasted d at s n
-  same-pasted = ext-getD 0 e (pasted d at s n) (long ∙ sym (pasted-length d at s n hd hs)) (λ i g. word i (ltb i at) (ltb i (at + n)) refl refl)
-
--- one more word of a block written
-module _ (d : List ℕ) (at : ℕ) (s : List ℕ) (n : ℕ) (hd : at + n ≤ length d) (hs : n ≤ length s) where
-  pasted-set : (j v : ℕ) → j < n → set (pasted d at s n) (at + j) v ≡ pasted d at (set s j v) n
-  pasted-set j v h = same-pasted d (set (pasted d at s n) (at + j) v) at (set s j v) n hd (rw (length-set s j v) hs)
-      (length-set (pasted d at s n) (at + j) v ∙ pasted-length d at s n hd hs)
-      (λ i g. here i g (ℕ-discrete i j))
-      (λ i g. getD-set-other (pasted d at s n) (at + j) i v 0 (λ e. g (omega arith) (omega arith)) ∙ pasted-out d at s n hd hs i g)
-    where
-      here : (i : ℕ) → i < n → Dec (i ≡ j) → getD (set (pasted d at s n) (at + j) v) (at + i) 0 ≡ getD (set s j v) i 0
-      here i g (yes e) =
-          ap (λ (k : ℕ). getD (set (pasted d at s n) (at + j) v) (at + k) 0) e
-          ∙ getD-set-same (pasted d at s n) (at + j) v 0 (rw (pasted-length d at s n hd hs) (omega arith))
-          ∙ sym (getD-set-same s j v 0 (omega arith)) ∙ ap (λ (k : ℕ). getD (set s j v) k 0) (sym e)
-      here i g (no e) =
-          getD-set-other (pasted d at s n) (at + j) (at + i) v 0 (λ q. e (omega arith)) ∙ pasted-in d at s n hd hs i g ∙ sym (getD-set-other s j i v 0 e)
-
-  -- the whole block written again
-  pasted-pasted : (t : List ℕ) → n ≤ length t → pasted (pasted d at s n) at t n ≡ pasted d at t n
-  pasted-pasted t ht = same-pasted d (pasted (pasted d at s n) at t n) at t n hd ht
-      (pasted-length (pasted d at s n) at t n hd2 ht ∙ long)
-      (λ j g. pasted-in (pasted d at s n) at t n hd2 ht j g)
-      (λ i g. pasted-out (pasted d at s n) at t n hd2 ht i g ∙ pasted-out d at s n hd hs i g)
-    where
-      long : length (pasted d at s n) ≡ length d
-      long = pasted-length d at s n hd hs
-
-      hd2 : at + n ≤ length (pasted d at s n)
-      hd2 = rw long hd
-
--- a thread whose two lists have their space
+-- a thread whose two lists have their space: each law below needs that its block is 55 words
 pub record Wide (x : ThreadWords) : Type 0 where
   pub continuation : length (x .continuation) ≡ 25
   pub variables : length (x .variables) ≡ 25
@@ -99,16 +52,18 @@ module _ (w : List ℕ) (k : ℕ) (all : length w ≡ 4818) (room : k < 64) wher
         pl : length (part (putThread w k x) (1042 + 55 * k + o) 25) ≡ 25
         pl = part-length (putThread w k x) (1042 + 55 * k + o) 25 (rw with-length (omega arith))
 
+    -- it is read back
     pub in-with : threadIn (putThread w k x) k ≡ x
     in-with = fields-path (threadIn (putThread w k x) k) x
-        (ap (λ (i : ℕ). getD (putThread w k x) i 0) (sym (add-zero (1042 + 55 * k))) ∙ with-word 0 (omega arith) ∙ block-0 x)
-        (with-word 1 (omega arith) ∙ block-1 x)
-        (with-word 2 (omega arith) ∙ block-2 x)
-        (with-word 3 (omega arith) ∙ block-3 x)
+        (ap (λ (i : ℕ). getD (putThread w k x) i 0) (sym (add-zero (1042 + 55 * k))) ∙ with-word 0 (omega arith) ∙ block-place x)
+        (with-word 1 (omega arith) ∙ block-starter x)
+        (with-word 2 (omega arith) ∙ block-alive x)
+        (with-word 3 (omega arith) ∙ block-items x)
         (with-run 4 (x .continuation) (omega arith) (h .continuation) (block-continuation x (h .continuation) (h .variables)))
         (with-word 29 (omega arith) ∙ block-values x (h .continuation) (h .variables))
         (with-run 30 (x .variables) (omega arith) (h .variables) (block-variables x (h .continuation) (h .variables)))
 
+    -- of two writes the last one counts
     pub with-with : (y : ThreadWords) → Wide y → putThread (putThread w k x) k y ≡ putThread w k y
     unfolding putThread
     with-with y g = pasted-pasted w (1042 + 55 * k) (blockOf x) 55 end long (blockOf y) (let l : length (blockOf y) ≡ 55 = wide-length y g in omega arith)
@@ -118,11 +73,7 @@ module _ (w : List ℕ) (k : ℕ) (all : length w ≡ 4818) (room : k < 64) wher
     unfolding putThread
     with-set y j v g e = pasted-set w (1042 + 55 * k) (blockOf x) 55 end long j v g ∙ ap (λ (b : List ℕ). pasted w (1042 + 55 * k) b 55) e
 
-  -- its own block
-  run-self : (at n : ℕ) → at + n ≤ 4818 → pasted w at (part w at n) n ≡ w
-  run-self at n h = let l : length (part w at n) ≡ n = part-length w at n (omega arith) in
-      sym (same-pasted w w at (part w at n) n (omega arith) (omega arith) refl (λ j g. sym (part-at w at n j g)) (λ i g. refl))
-
+  -- its own block written back
   pub with-in : putThread w k (threadIn w k) ≡ w
   unfolding putThread
   with-in =
@@ -132,9 +83,9 @@ module _ (w : List ℕ) (k : ℕ) (all : length w ≡ 4818) (room : k < 64) wher
         set-getD w (1042 + 55 * k + 1) 0,
         set-getD w (1042 + 55 * k + 2) 0,
         set-getD w (1042 + 55 * k + 3) 0,
-        run-self (1042 + 55 * k + 4) 25 (omega arith),
+        pasted-self w (1042 + 55 * k + 4) 25 (omega arith),
         set-getD w (1042 + 55 * k + 29) 0,
-        run-self (1042 + 55 * k + 30) 25 (omega arith),
+        pasted-self w (1042 + 55 * k + 30) 25 (omega arith),
       ) refl
 
   -- a change of the thread that another change has left there

@@ -1,4 +1,4 @@
--- The parties, in the words. Assumes nothing: definitions.
+-- The code's test for an unlinked thread, in the words. No reader has to believe it: on words that say a state it is `isUnlinked` of the state (proofs/PartyLaws). Assumes nothing: definitions.
 use mathlib.Core.List.{List}
 use mathlib.Core.Bool.{Bool, not, _&&_}
 use Prim.Native.Nat.{ℕ, _+_, _-_, _*_}

@@ -1,4 +1,4 @@
--- The range test by blocks: which test each word of a block has to pass. Assumes nothing: definitions.
+-- The range test by blocks, as the code passes over the words: which test each word of a block has to pass. No reader has to believe it: together the passes are `inRange` (proofs/BlockLaws). Assumes nothing: definitions.
 use mathlib.Core.List.{List}
 use mathlib.Core.Bool.{Bool}
 use Prim.Native.Nat.{ℕ, _+_, _*_}

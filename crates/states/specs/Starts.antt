@@ -1,4 +1,4 @@
--- What the fresh state's words are made of. Assumes nothing: definitions.
+-- What the code makes the fresh state's words of. No reader has to believe it: together they are `pack` of the fresh state (proofs/FreshWords). Assumes nothing: definitions.
 use mathlib.Core.List.{List, [], _∷_, map}
 use mathlib.Core.Bool.{Bool, true, false}
 use Prim.Native.Nat.{ℕ}

@@ -2,16 +2,14 @@
 use borrow.Author.Needs.{needs}
 use Prim.Native.Nat.{_≤_}
 use mathlib.Core.Path.{_≡_}
-use lib.ListN.{length, drop}
+use lib.ListN.{length}
 use mathlib.Core.List.{[]}
-use Rattle.states.proofs.FreshLaws.{main-start, main-found, main-more, main-none}
-use Rattle.program.specs.Programs.{modulesFrom}
-use Rattle.text.specs.Frames.{framesOf}
+use Rattle.states.proofs.MainLaws.{partsFrom, main-start, main-found, main-more, main-none}
 use Rattle.states.proofs.fresh.main_body.Statement.{statement}
 use Rattle.states.proofs.fresh.main_body.Tie as tie
 
 abbrev Inv-loop : tie.InvT-loop
-Inv-loop frames i₀ i = (i ≤ length frames) × (modulesFrom (framesOf frames) i (drop i (framesOf frames)) ≡ [])
+Inv-loop frames i₀ i = (i ≤ length frames) × (partsFrom frames i ≡ [])
 
 abbrev μ-loop : tie.MeasureT-loop
 μ-loop frames i₀ i = i

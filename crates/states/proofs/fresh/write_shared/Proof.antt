@@ -4,7 +4,7 @@ use Prim.Native.Nat.{_≤_, _-_}
 use mathlib.Core.Path.{_≡_}
 use lib.ListN.{length, length-set}
 use native.Mathlib.Omega.{arith}
-use Rattle.states.proofs.FreshLaws.{Sharing, sharing-start, sharing-other, sharing-over, sharing-one, sharing-count, sharing-words}
+use Rattle.states.proofs.SharedLaws.{Sharing, sharing-start, sharing-other, sharing-over, sharing-one, sharing-count, sharing-words}
 use Rattle.states.proofs.fresh.write_shared.Statement.{statement}
 use Rattle.states.proofs.fresh.write_shared.Tie as tie
 
@@ -47,6 +47,7 @@ add-c c = search needs
 loop-less-2 : tie.Need-loop-less-2 Inv-loop μ-loop
 loop-less-2 c = search needs
 
+-- written out: `search` takes too many steps over a turn that changes no word
 loop-again-2 : tie.Need-loop-again-2 Inv-loop μ-loop
 loop-again-2 c = (search needs, search needs, search needs, search needs, sharing-over _ _ _ _ _ _ _ (c .before .before .before .before .before .before .loop .inv .4) (c .before .before .before .before .before .loop-test .taken) (c .before .before .before .frame-of-word .ensures) (c .before .before .is-shared .ensures) (c .before .if1 .left) (c .if2 .taken))
 

@@ -1,6 +1,6 @@
 -- `end_instant` meets its contract. Assumes nothing.
 use borrow.Author.Needs.{needs}
-use Rattle.states.proofs.ListLaws.{instant-count, instant-words}
+use Rattle.states.proofs.SortLaws.{instant-count, instant-words}
 use Rattle.states.proofs.list.end_instant.Statement.{statement}
 use Rattle.states.proofs.list.end_instant.Tie as tie
 

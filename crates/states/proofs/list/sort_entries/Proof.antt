@@ -4,7 +4,7 @@ use Prim.Native.Nat.{_≤_, _-_}
 use mathlib.Core.Path.{_≡_, refl}
 use lib.ListN.{length, getD, length-set}
 use native.Mathlib.Omega.{arith}
-use Rattle.states.proofs.ListLaws.{Sorting, sorting-start, sort-laws}
+use Rattle.states.proofs.SortLaws.{Sorting, sorting-start, sort-laws}
 use Rattle.machine.specs.Words.{tabulate}
 use Rattle.machine.specs.Blocks.{padded}
 use Rattle.states.proofs.list.sort_entries.Statement.{statement}

@@ -4,9 +4,9 @@ use Prim.Native.Nat.{_≤_, _-_}
 use mathlib.Core.Path.{_≡_, refl}
 use lib.ListN.{length, length-set}
 use native.Mathlib.Omega.{arith}
-use Rattle.states.proofs.Copies.{exact}
 use Rattle.machine.proofs.WordLaws.{pasted-zero, pasted-more}
 use Rattle.machine.specs.Blocks.{pasted}
+use Rattle.states.proofs.PastedLaws.{pasted-end}
 use Rattle.states.proofs.list.store_members.Statement.{statement}
 use Rattle.states.proofs.list.store_members.Tie as tie
 
@@ -47,7 +47,7 @@ same-length : tie.Need-same-length Inv-loop μ-loop
 same-length c = search needs
 
 returns : tie.Need-returns Inv-loop μ-loop
-returns c = rw (exact 64 (c .before .loop .inv .0) (c .loop-test .left)) at (c .before .loop .inv .3)
+returns c = search pasted-end
 
 pub store-members-spec : {M : Type 1} → statement M
 store-members-spec =

@@ -5,10 +5,10 @@ use Rattle.states.proofs.range.has_place.Statement.{statement}
 use Rattle.states.proofs.range.has_place.Tie as tie
 
 returns : tie.Need-returns
-returns c = search (has-not, has, needs)
+returns c = search (has-not, needs)
 
 returns-2 : tie.Need-returns-2
-returns-2 c = search (has-not, has, needs)
+returns-2 c = search (has, needs)
 
 pub has-place-spec : {M : Type 1} → statement M
 has-place-spec = tie.close (tie.spec returns returns-2)

@@ -1,5 +1,4 @@
 -- `statement_at` meets its contract. Assumes nothing.
-use mathlib.Core.Path.{refl}
 use borrow.Author.Needs.{needs}
 use Rattle.states.proofs.RangeLaws.{no-statement, some-statement}
 use Rattle.states.proofs.range.statement_at.Statement.{statement}
@@ -21,7 +20,7 @@ is-statement-requires : tie.Need-is-statement-requires
 is-statement-requires c κs = search needs
 
 returns-2 : tie.Need-returns-2
-returns-2 c = search (some-statement, refl)
+returns-2 c = search some-statement
 
 pub statement-at-spec : {M : Type 1} → statement M
 statement-at-spec =

@@ -3,8 +3,7 @@ use borrow.Author.Needs.{needs}
 use Prim.Native.Nat.{_≤_, _-_}
 use mathlib.Core.Path.{_≡_}
 use mathlib.Core.Bool.{true}
-use Rattle.states.proofs.RangeLaws.{all-none, all-end}
-use Rattle.states.proofs.BlockLaws.{block-wrong, block-more}
+use Rattle.states.proofs.AllBelow.{all-none, all-end, answer-wrong, answer-more}
 use Rattle.states.specs.Passes.{threadBlock}
 use Rattle.machine.specs.Ranges.{allBelow}
 use Rattle.text.specs.Frames.{framesOf}
@@ -24,7 +23,7 @@ thread-block-in-range-requires : tie.Need-thread-block-in-range-requires Inv-loo
 thread-block-in-range-requires c κs = search needs
 
 returns : tie.Need-returns Inv-loop μ-loop
-returns c = search block-wrong
+returns c = search answer-wrong
 
 add-k : tie.Need-add-k Inv-loop μ-loop
 add-k c = search needs
@@ -33,7 +32,7 @@ loop-less : tie.Need-loop-less Inv-loop μ-loop
 loop-less c = search needs
 
 loop-again : tie.Need-loop-again Inv-loop μ-loop
-loop-again c = (search needs, search block-more)
+loop-again c = (search needs, search answer-more)
 
 returns-2 : tie.Need-returns-2 Inv-loop μ-loop
 returns-2 c = search all-end

@@ -3,7 +3,8 @@ use borrow.Author.Needs.{needs}
 use Prim.Native.Nat.{_≤_, _-_}
 use mathlib.Core.Path.{_≡_}
 use mathlib.Core.Bool.{true}
-use Rattle.states.proofs.RangeLaws.{all-none, all-end, zero-wrong, zero-more}
+use Rattle.states.proofs.AllBelow.{all-none, all-end}
+use Rattle.states.proofs.RangeLaws.{zero-wrong, zero-more}
 use Rattle.states.specs.Passes.{isZero, wordPasses}
 use Rattle.machine.specs.Ranges.{allBelow}
 use Rattle.states.proofs.range.zeros.Statement.{statement}

@@ -1,6 +1,6 @@
 -- `thread::load_run` meets its contract. Assumes nothing.
 use Rattle.machine.proofs.WordLaws.{pasted-zero, part-at, part-length}
-use Rattle.states.proofs.Copies.{fill-more, fill-all, exact}
+use Rattle.states.proofs.PastedLaws.{fill-more, fill-all}
 use Rattle.machine.specs.Blocks.{part, pasted}
 use Prim.Native.Nat.{_≤_, _-_}
 use lib.ListN.{length, length-set}
@@ -41,10 +41,14 @@ loop-less : tie.Need-loop-less Inv-loop μ-loop
 loop-less c = search needs
 
 loop-again : tie.Need-loop-again Inv-loop μ-loop
-loop-again c = (omega arith, simp length-set (omega arith), omega arith, fill-more _ _ _ _ _ (c .before .before .loop .inv .3) (sym (part-at _ _ 25 _ (c .before .loop-test .taken))) (omega arith) (rw (part-length _ _ 25 (c .before .before .before .pre)) (c .before .loop-test .taken)))
+loop-again c =
+    let below = c .before .loop-test .taken in
+    (omega arith, simp length-set (omega arith), omega arith, fill-more _ _ _ _ _ (c .before .before .loop .inv .3) (sym (part-at _ _ 25 _ below)) (omega arith) (rw (part-length _ _ 25 (c .before .before .before .pre)) below))
 
 returns : tie.Need-returns Inv-loop μ-loop
-returns c = fill-all _ _ _ 25 (rw (exact 25 (c .before .loop .inv .0) (c .loop-test .left)) at (c .before .loop .inv .3)) (c .before .loop .inv .2) (part-length _ _ 25 (c .before .before .pre))
+returns c =
+    let inv = c .before .loop .inv in
+    fill-all _ _ _ _ 25 (inv .3) (inv .0) (c .loop-test .left) (inv .2) (part-length _ _ 25 (c .before .before .pre))
 
 pub load-run-spec : {M : Type 1} → statement M
 load-run-spec =

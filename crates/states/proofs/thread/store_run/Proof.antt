@@ -1,7 +1,7 @@
 -- `thread::store_run` meets its contract. Assumes nothing.
 use Rattle.machine.proofs.WordLaws.{pasted-zero, pasted-more}
-use Rattle.states.proofs.Copies.{exact}
 use Rattle.machine.specs.Blocks.{pasted}
+use Rattle.states.proofs.PastedLaws.{pasted-end}
 use Prim.Native.Nat.{_≤_, _-_}
 use lib.ListN.{length, length-set}
 use borrow.Author.Needs.{needs}
@@ -47,7 +47,7 @@ same-length : tie.Need-same-length Inv-loop μ-loop
 same-length c = search needs
 
 returns : tie.Need-returns Inv-loop μ-loop
-returns c = rw (exact 25 (c .before .loop .inv .0) (c .loop-test .left)) at (c .before .loop .inv .3)
+returns c = search pasted-end
 
 pub store-run-spec : {M : Type 1} → statement M
 store-run-spec =

@@ -1,5 +1,5 @@
 -- `thread::store_thread` meets its contract. Assumes nothing.
-use Rattle.states.proofs.Store.{half-length, whole, whole-length}
+use Rattle.states.proofs.Store.{half-stored-length, whole-stored, whole-stored-length}
 use Prim.Native.Nat.{_+_, _*_}
 use lib.ListN.{length-set}
 use native.Mathlib.Omega.{arith}
@@ -58,20 +58,29 @@ add-state-4 c = search needs
 mul-state-5 : tie.Need-mul-state-5
 mul-state-5 c = search needs
 
+-- from here on two calls have changed the words, and `search` does not find the laws' arguments: they are written out
 slice-write-state-5 : tie.Need-slice-write-state-5
-slice-write-state-5 c = rw (half-length (c .before .before .before .before .before .before .args .th) (c .before .before .before .before .before .before .args .state .now) _ (1042 + 55 * c .before .before .before .before .before .before .args .k) (omega arith) (search needs) (c .before .before .store-run .ensures)) (omega arith)
+slice-write-state-5 c =
+    let start = c .before .before .before .before .before .before in
+    rw (half-stored-length (start .args .th) (start .args .state .now) _ (1042 + 55 * start .args .k) (omega arith) (search needs) (c .before .before .store-run .ensures)) (omega arith)
 
 add-store-run-2 : tie.Need-add-store-run-2
 add-store-run-2 c = search needs
 
 store-run-requires-2 : tie.Need-store-run-requires-2
-store-run-requires-2 c κs = rw length-set (rw (half-length (c .before .before .before .before .before .before .before .before .args .th) (c .before .before .before .before .before .before .before .before .args .state .now) _ (1042 + 55 * c .before .before .before .before .before .before .before .before .args .k) (omega arith) (search needs) (c .before .before .before .before .store-run .ensures)) (omega arith))
+store-run-requires-2 c κs =
+    let start = c .before .before .before .before .before .before .before .before in
+    rw length-set (rw (half-stored-length (start .args .th) (start .args .state .now) _ (1042 + 55 * start .args .k) (omega arith) (search needs) (c .before .before .before .before .store-run .ensures)) (omega arith))
 
 same-length : tie.Need-same-length
-same-length c = whole-length (c .before .before .before .before .before .before .before .before .before .before .before .args .th) (c .before .before .before .before .before .before .before .before .before .before .before .args .state .now) _ (1042 + 55 * c .before .before .before .before .before .before .before .before .before .before .before .args .k) (omega arith) (search needs) (c .before .before .before .before .before .before .before .store-run .ensures) (search needs) _ (c .before .before .store-run2 .ensures)
+same-length c =
+    let start = c .before .before .before .before .before .before .before .before .before .before .before in
+    whole-stored-length (start .args .th) (start .args .state .now) _ (1042 + 55 * start .args .k) (omega arith) (search needs) (c .before .before .before .before .before .before .before .store-run .ensures) (search needs) _ (c .before .before .store-run2 .ensures)
 
 returns : tie.Need-returns
-returns c = whole (c .before .before .before .before .before .before .before .before .before .before .before .args .th) (c .before .before .before .before .before .before .before .before .before .before .before .args .state .now) _ (1042 + 55 * c .before .before .before .before .before .before .before .before .before .before .before .args .k) (omega arith) (search needs) (c .before .before .before .before .before .before .before .store-run .ensures) (search needs) _ (c .before .before .store-run2 .ensures)
+returns c =
+    let start = c .before .before .before .before .before .before .before .before .before .before .before in
+    whole-stored (start .args .th) (start .args .state .now) _ (1042 + 55 * start .args .k) (omega arith) (search needs) (c .before .before .before .before .before .before .before .store-run .ensures) (search needs) _ (c .before .before .store-run2 .ensures)
 
 pub store-thread-spec : {M : Type 1} → statement M
 store-thread-spec =

@@ -4,8 +4,7 @@ use Prim.Native.Nat.{_≤_, _-_}
 use mathlib.Core.Path.{_≡_, refl}
 use mathlib.Core.Bool.{true}
 use lib.ListN.{getD}
-use Rattle.states.proofs.RangeLaws.{all-none, all-end}
-use Rattle.states.proofs.BlockLaws.{block-wrong, block-more}
+use Rattle.states.proofs.AllBelow.{all-none, all-end, answer-wrong, answer-more}
 use Rattle.machine.specs.Ranges.{allBelow}
 use Rattle.states.specs.Lists.{isQuiet}
 use Rattle.states.proofs.wait.all_quiet.Statement.{statement}
@@ -27,7 +26,7 @@ is-quiet-requires : tie.Need-is-quiet-requires Inv-loop μ-loop
 is-quiet-requires c κs = search needs
 
 returns : tie.Need-returns Inv-loop μ-loop
-returns c = search block-wrong
+returns c = search answer-wrong
 
 add-k : tie.Need-add-k Inv-loop μ-loop
 add-k c = search needs
@@ -36,7 +35,7 @@ loop-less : tie.Need-loop-less Inv-loop μ-loop
 loop-less c = search needs
 
 loop-again : tie.Need-loop-again Inv-loop μ-loop
-loop-again c = (search needs, search needs, search block-more)
+loop-again c = (search needs, search needs, search answer-more)
 
 returns-2 : tie.Need-returns-2 Inv-loop μ-loop
 returns-2 c = search all-end

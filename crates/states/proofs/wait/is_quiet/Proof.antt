@@ -1,6 +1,6 @@
 -- `is_quiet` meets its contract. Assumes nothing.
 use borrow.Author.Needs.{needs}
-use Rattle.states.proofs.ListLaws.{quiet-laws}
+use Rattle.states.proofs.WaitLaws.{quiet-laws}
 use Rattle.states.proofs.wait.is_quiet.Statement.{statement}
 use Rattle.states.proofs.wait.is_quiet.Tie as tie
 

@@ -1,6 +1,6 @@
 -- `is_ready` meets its contract. Assumes nothing.
 use borrow.Author.Needs.{needs}
-use Rattle.states.proofs.ListLaws.{ready-laws}
+use Rattle.states.proofs.WaitLaws.{ready-laws}
 use Rattle.states.proofs.wait.is_ready.Statement.{statement}
 use Rattle.states.proofs.wait.is_ready.Tie as tie
 
