@@ -1,4 +1,4 @@
--- Laws of the conditional and of the connectives, so that no proof unfolds them. Assumes nothing.
+-- Laws of the conditional, of the connectives and of equal tests, so that no proof unfolds them. Assumes nothing.
 use mathlib.Core.Path.{_≡_, refl, sym, _∙_}
 use mathlib.Core.Bool.{Bool, true, false, _&&_, _||_, true≢false}
 use Prim.Native.Nat.{ℕ, _≤_}
@@ -6,6 +6,8 @@ use lib.Dec.{leb}
 use borrow.Author.Tests.{le-leb, lt-leb, leb-true, leb-false}
 use native.Mathlib.Nat.{lt-of-not-le, not-le-of-lt}
 use Rattle.basics.specs.If.{if_then_else_}
+
+-- ---- the conditional
 
 -- P of a conditional, by both cases
 pub if-all {ℓ} : {A : Type ℓ} (P : A → Type 0) (b : Bool) (x y : A) → (b ≡ true → P x) → (b ≡ false → P y) → P (if b then x else y)
@@ -27,6 +29,7 @@ yes {x = x} y e h = h ∙ sym (if-yes x y e)
 pub no : {A : Type 0} {b : Bool} {z y : A} (x : A) → b ≡ false → z ≡ y → z ≡ (if b then x else y)
 no {y = y} x e h = h ∙ sym (if-no x y e)
 
+-- ---- the connectives
 pub and-true : (a b : Bool) → (a && b) ≡ true → (a ≡ true) × (b ≡ true)
 and-true true b h = (refl, h)
 and-true false b h = absurd (true≢false (sym h))
@@ -43,6 +46,12 @@ pub or-on : (a : Bool) → (a || true) ≡ true
 or-on true = refl
 or-on false = refl
 
+pub or-off : (b : Bool) → b ≡ (b || false)
+or-off true = refl
+or-off false = refl
+
+-- ---- tests
+
 -- two tests are the same where each fact follows from the other
 pub leb-same : (a b c d : ℕ) → (a ≤ b → c ≤ d) → (c ≤ d → a ≤ b) → leb a b ≡ leb c d
 leb-same a b c d f g = by (leb a b) refl
@@ -50,7 +59,3 @@ leb-same a b c d f g = by (leb a b) refl
     by : (t : Bool) → leb a b ≡ t → leb a b ≡ leb c d
     by true e = e ∙ sym (le-leb c d (f (leb-true a b e)))
     by false e = e ∙ sym (lt-leb c d (lt-of-not-le (λ h. not-le-of-lt (leb-false a b e) (g h))))
-
-pub or-off : (b : Bool) → b ≡ (b || false)
-or-off true = refl
-or-off false = refl

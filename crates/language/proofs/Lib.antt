@@ -1,6 +1,6 @@
 pub mod Tests
 pub mod Words
 pub mod Cells
-pub mod Sets
+pub mod EffectLaws
 pub mod Rows
 pub mod Members

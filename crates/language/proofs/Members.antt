@@ -8,7 +8,7 @@ use native.Mathlib.Decide.{ℕ-discrete}
 use lib.Dec.{eqb}
 use lib.Bits.{or-step, or-shr}
 use borrow.Author.Tests.{eq-eqb, ne-eqb, eqb-true, eqb-false}
-use Rattle.basics.proofs.Ifs.{if-all, and-true}
+use Rattle.basics.proofs.Ifs.{if-all, and-true, or-off}
 use Rattle.language.specs.Places.{isScheduler}
 use Rattle.language.specs.Effects.{member, noEffect, only, _∪_, withOwner, within}
 use Rattle.language.specs.declared.effect.Effect.{Effect}
@@ -40,7 +40,11 @@ other-bit zero (suc o) n = bit-zero (2 ^ suc o) ∙ even-power o
 other-bit (suc p) zero n = bit-suc p 1 ∙ ap (λ (m : ℕ). m % 2) (zero-div (2 ^ p))
 other-bit (suc p) (suc o) n = bit-suc p (2 ^ suc o) ∙ ap (bit p) (half-power o) ∙ other-bit p o (λ e. n (ap suc e))
 
--- a number other than 0 has a bit
+-- a bit of the half is one of the whole
+bit-of-half : (n : ℕ) → (q : ℕ) × (bit q (n / 2) ≡ 1) → (q : ℕ) × (bit q n ≡ 1)
+bit-of-half n (q, e) = (suc q, bit-suc q n ∙ e)
+
+-- a number other than 0 has a bit; k bounds it, for the recursion over halves
 below-power : (n : ℕ) → n < 2 ^ n
 below-power zero = omega arith
 below-power (suc n) = let e = pow-suc 2 n in let h = below-power n in omega arith
@@ -53,9 +57,7 @@ some-bit (suc k) n h m = go (some-bit k (n / 2)) (ℕ-discrete (n % 2) 1)
     go f (yes e) = (0, bit-zero n ∙ e)
     go f (no d) =
         let e = pow-suc 2 k in
-        let r = f (omega (arith, d)) (λ z. m (omega (arith, d, z))) in
-        let b : bit (suc (r .0)) n ≡ 1 = bit-suc (r .0) n ∙ r .1 in
-        (suc (r .0), b)
+        bit-of-half n (f (omega (arith, d)) (λ z. m (omega (arith, d, z))))
 
 -- a number whose one bit is p
 only-bit : (p n : ℕ) → (n ≡ 0 → ⊥) → ((q : ℕ) → bit q n ≡ 1 → q ≡ p) → n ≡ 2 ^ p
@@ -77,6 +79,8 @@ only-bit (suc p) n m f = go (only-bit p (n / 2)) (ℕ-discrete (n % 2) 1)
         omega (arith, d)
 
 -- ---- sets
+
+-- the empty set has no member
 pub member-none : (p : ℕ) → member p noEffect ≡ false
 member-none p = ne-eqb (bit p 0) 1 (λ e. let z = ap (λ (m : ℕ). m % 2) (zero-div (2 ^ p)) in omega arith)
 
@@ -102,10 +106,6 @@ member-only p o = go (ℕ-discrete p o)
     go (yes e) = eq-eqb _ _ (ap (λ (q : ℕ). bit q (2 ^ o)) e ∙ same-bit o) ∙ sym (eq-eqb p o e)
     go (no d) = ne-eqb (bit p (2 ^ o)) 1 (λ z. let k = other-bit p o d in omega arith) ∙ sym (ne-eqb p o d)
 
-or-off : (b : Bool) → b ≡ (b || false)
-or-off true = refl
-or-off false = refl
-
 -- '.. add the cell's owner if it is a scheduler'
 pub member-owner : (p o : ℕ) (e : Effect) → member p (withOwner o e) ≡ (member p e || isScheduler o && eqb p o)
 unfolding withOwner
@@ -114,11 +114,11 @@ member-owner p o e =
     (λ h. rw h (member-join p e (only o) ∙ ap (λ (b : Bool). member p e || b) (member-only p o)))
     (λ h. rw h (or-off (member p e)))
 
--- every member is p, which is a scheduler
+-- 'within {S}, or empty when S is 1', of the members: each is p, which is a scheduler
 abbrev pub Within : ℕ → Effect → Type 0
 Within p e = (q : ℕ) → member q e ≡ true → (q ≡ p) × (isScheduler p ≡ true)
 
--- 'within {S}, or empty when S is 1'
+-- the test `within` says just that
 pub within-members : (p : ℕ) (e : Effect) → within p e ≡ true → Within p e
 unfolding within
 within-members p e h q m = go (eqb (e .bits) 0) refl h

@@ -1,4 +1,4 @@
--- Rows of the tables of kinds. Assumes nothing.
+-- Tables of kinds read by a `match`: the row of the arm that is taken is the row of the kind given. Assumes nothing.
 use mathlib.Core.Path.{_≡_, ap, sym, _∙_}
 use Rattle.language.specs.Kinds.{statementUses, expressionUses, uses}
 use Rattle.language.specs.declared.kind.StatementKind.{StatementKind}

@@ -1,4 +1,4 @@
--- What the constructors and tests of places compute. Assumes nothing.
+-- What the constructors and the tests of `Place` compute, return by return, with the tests that lead there as premises. Assumes nothing.
 use mathlib.Core.Path.{_≡_, refl}
 use mathlib.Core.Bool.{false, _&&_}
 use Prim.Native.Nat.{ℕ, _+_, _-_, _≤_, _<_}
@@ -9,7 +9,7 @@ use Rattle.basics.proofs.Ifs.{yes, no, leb-same}
 use Rattle.language.specs.Places.{isPlace, isScheduler, placeRead}
 use Rattle.language.specs.declared.PlaceRead.the-variants.{At, NoPlace}
 
--- a constructor whose numbers are `low` to 9
+-- ---- a constructor whose numbers are `low` to 9: the number is too low, too high, or right
 module _ (low n : ℕ) where
   by-low : n < low → NoPlace ≡ placeRead (leb low n && leb n 9) n
   unfolding placeRead
@@ -45,7 +45,7 @@ scheduler-right = by-right 2
 
 pub ruleset scheduler-laws = (scheduler-low, scheduler-high, scheduler-right)
 
--- the places and the schedulers of a file
+-- ---- the places of a file (`low` is 1) and its schedulers (`low` is 2)
 module _ (low b p : ℕ) where
   pub has-not : p < low → false ≡ (leb low p && leb p (1 + b))
   has-not h = rw (lt-leb low p h)

@@ -1,4 +1,4 @@
--- Laws of type words: how deep, by their size. Assumes nothing.
+-- What the functions on type words compute, return by return, with the tests that lead there as premises: a ruleset for each function. Assumes nothing.
 use mathlib.Core.Bool.{Bool, true, false, not, _&&_, _||_}
 use mathlib.Core.Path.{_≡_, refl, sym, ap, _∙_}
 use Prim.Native.Nat.{ℕ, suc, _+_, _-_, _*_, _/_, _%_, _^_, _<_, _≤_}
@@ -9,6 +9,7 @@ use Rattle.basics.proofs.Ifs.{yes, no, and-off}
 use Rattle.language.specs.Types.{cellDepth, cellType, ownerOf, contentOf, cellRead, isCell, public, ownerDigit, typeWord, contentWord, digitOf}
 use Rattle.language.specs.declared.type_word.CellRead.the-variants.{Word, TooDeep}
 
+-- ---- how deep a type is, by its size
 pub depth-0 : (t : ℕ) → t < 0x0010 → 0 ≡ cellDepth t
 unfolding cellDepth
 depth-0 t h = yes _ (lt-ltb _ _ h) refl
@@ -27,7 +28,7 @@ depth-3 t a b h = no _ (le-ltb _ _ a) (no _ (le-ltb _ _ b) (no _ (le-ltb _ _ h) 
 
 pub ruleset depth-laws = (depth-0, depth-1, depth-2, depth-3)
 
--- the parts of a word, from its depth
+-- ---- the parts of a word, from its depth
 by-owner : (t d r : ℕ) → d ≡ cellDepth t → r ≡ t / 16 ^ d → r ≡ ownerOf t
 unfolding ownerOf
 by-owner t d r e h = h ∙ ap (λ (n : ℕ). t / 16 ^ n) e
@@ -64,34 +65,35 @@ content-3 t a b h = by-content t 3 _ (depth-3 t a b h) refl
 
 pub ruleset content-laws = (content-0, content-1, content-2, content-3)
 
--- a cell's type, by the constructor's tests
+-- ---- the type of a cell of owner o around t: o is no place, t has room for one cell more, or it has none
 by-cell : (o t d : ℕ) → 1 ≤ o → o ≤ 9 → t < 0x1000 → d ≡ cellDepth t → Word (o * 16 ^ suc d + t) ≡ cellRead o t
 unfolding cellRead cellType
 by-cell o t d a b h e = yes _ (simp (le-leb _ _ a, le-leb _ _ b, lt-ltb _ _ h)) (ap (λ (n : ℕ). Word (o * 16 ^ suc n + t)) e)
 
-pub read-low : (o t : ℕ) → o < 1 → TooDeep ≡ cellRead o t
+pub cell-owner-low : (o t : ℕ) → o < 1 → TooDeep ≡ cellRead o t
 unfolding cellRead
-read-low o t h = no _ (simp (lt-leb _ _ h)) refl
+cell-owner-low o t h = no _ (simp (lt-leb _ _ h)) refl
 
-pub read-high : (o t : ℕ) → 9 < o → TooDeep ≡ cellRead o t
+pub cell-owner-high : (o t : ℕ) → 9 < o → TooDeep ≡ cellRead o t
 unfolding cellRead
-read-high o t h = no _ (simp (le-leb 1 o (omega arith), lt-leb _ _ h)) refl
+cell-owner-high o t h = no _ (simp (le-leb 1 o (omega arith), lt-leb _ _ h)) refl
 
-pub read-0 : (o t : ℕ) → 1 ≤ o → o ≤ 9 → t < 0x0010 → Word (o * 0x0010 + t) ≡ cellRead o t
-read-0 o t a b h = by-cell o t 0 a b (omega arith) (depth-0 t h)
+pub cell-around-0 : (o t : ℕ) → 1 ≤ o → o ≤ 9 → t < 0x0010 → Word (o * 0x0010 + t) ≡ cellRead o t
+cell-around-0 o t a b h = by-cell o t 0 a b (omega arith) (depth-0 t h)
 
-pub read-1 : (o t : ℕ) → 1 ≤ o → o ≤ 9 → 0x0010 ≤ t → t < 0x0100 → Word (o * 0x0100 + t) ≡ cellRead o t
-read-1 o t a b x h = by-cell o t 1 a b (omega arith) (depth-1 t x h)
+pub cell-around-1 : (o t : ℕ) → 1 ≤ o → o ≤ 9 → 0x0010 ≤ t → t < 0x0100 → Word (o * 0x0100 + t) ≡ cellRead o t
+cell-around-1 o t a b x h = by-cell o t 1 a b (omega arith) (depth-1 t x h)
 
-pub read-2 : (o t : ℕ) → 1 ≤ o → o ≤ 9 → 0x0010 ≤ t → 0x0100 ≤ t → t < 0x1000 → Word (o * 0x1000 + t) ≡ cellRead o t
-read-2 o t a b x y h = by-cell o t 2 a b h (depth-2 t x y h)
+pub cell-around-2 : (o t : ℕ) → 1 ≤ o → o ≤ 9 → 0x0010 ≤ t → 0x0100 ≤ t → t < 0x1000 → Word (o * 0x1000 + t) ≡ cellRead o t
+cell-around-2 o t a b x y h = by-cell o t 2 a b h (depth-2 t x y h)
 
-pub read-3 : (o t : ℕ) → 0x1000 ≤ t → TooDeep ≡ cellRead o t
+pub cell-too-deep : (o t : ℕ) → 0x1000 ≤ t → TooDeep ≡ cellRead o t
 unfolding cellRead
-read-3 o t h = no _ (rw (le-ltb t 0x1000 h, and-off)) refl
+cell-too-deep o t h = no _ (rw (le-ltb t 0x1000 h, and-off)) refl
 
-pub ruleset read-laws = (read-low, read-high, read-0, read-1, read-2, read-3)
+pub ruleset cell-type-laws = (cell-owner-low, cell-owner-high, cell-around-0, cell-around-1, cell-around-2, cell-too-deep)
 
+-- ---- public types
 pub public-cell : (t o : ℕ) (x : Bool) → x ≡ isCell t → x ≡ true → o ≡ ownerOf t → not (eqb o 1) ≡ public t
 unfolding public
 public-cell t o x c n e = rw (sym c ∙ n, e)
@@ -102,7 +104,7 @@ public-basic t x c n = rw (sym c ∙ n)
 
 pub ruleset public-laws = (public-cell, public-basic)
 
--- an owner's digit
+-- ---- an owner's digit
 module _ (b left o : ℕ) where
   pub digit-0 : o ≡ 0 → eqb left 0 ≡ ownerDigit b left o
   unfolding ownerDigit
@@ -123,7 +125,7 @@ module _ (b left o : ℕ) where
 
 pub ruleset digit-laws = (digit-0, digit-high, digit-1, digit-more)
 
--- a type word, digit by digit
+-- ---- a type word, digit by digit: the last, then the owners from the right
 module _ (b t : ℕ) where
   pub word-low : t % 16 < 1 → false ≡ typeWord b t
   unfolding typeWord
@@ -133,9 +135,9 @@ module _ (b t : ℕ) where
   unfolding typeWord
   word-high h = rw (ne-eqb (digitOf 0 t) 1 (λ e. omega arith), ne-eqb (digitOf 0 t) 2 (λ e. omega arith))
 
-  word-by : (r : Bool) → 1 ≤ t % 16 → t % 16 ≤ 2 → r ≡ (ownerDigit b (digitOf 2 t) (digitOf 1 t) && ownerDigit b (digitOf 3 t) (digitOf 2 t) && ownerDigit b 0 (digitOf 3 t)) → r ≡ typeWord b t
+  by-word : (r : Bool) → 1 ≤ t % 16 → t % 16 ≤ 2 → r ≡ (ownerDigit b (digitOf 2 t) (digitOf 1 t) && ownerDigit b (digitOf 3 t) (digitOf 2 t) && ownerDigit b 0 (digitOf 3 t)) → r ≡ typeWord b t
   unfolding typeWord
-  word-by r l h e = e ∙ sym (rw (kind (eqb (digitOf 0 t) 1) refl))
+  by-word r l h e = e ∙ sym (rw (kind (eqb (digitOf 0 t) 1) refl))
     where
       at-2 : (digitOf 0 t ≡ 1 → ⊥) → digitOf 0 t ≡ 2
       at-2 n = omega (arith, l, h, n)
@@ -145,28 +147,28 @@ module _ (b t : ℕ) where
       kind false n = eq-eqb (digitOf 0 t) 2 (at-2 (eqb-false (digitOf 0 t) 1 n))
 
   pub word-1 : (x : Bool) → 1 ≤ t % 16 → t % 16 ≤ 2 → x ≡ ownerDigit b (t / 0x0100 % 16) (t / 0x0010 % 16) → not x ≡ true → false ≡ typeWord b t
-  word-1 x l h e n = word-by false l h (rw (sym e ∙ not-true x n))
+  word-1 x l h e n = by-word false l h (rw (sym e ∙ not-true x n))
 
   pub word-2 : (x y : Bool) → 1 ≤ t % 16 → t % 16 ≤ 2 → x ≡ ownerDigit b (t / 0x0100 % 16) (t / 0x0010 % 16) → not x ≡ false → y ≡ ownerDigit b (t / 0x1000 % 16) (t / 0x0100 % 16) → not y ≡ true → false ≡ typeWord b t
-  word-2 x y l h e n f m = word-by false l h (rw (sym e ∙ not-false x n, sym f ∙ not-true y m))
+  word-2 x y l h e n f m = by-word false l h (rw (sym e ∙ not-false x n, sym f ∙ not-true y m))
 
   pub word-3 : (x y z : Bool) → 1 ≤ t % 16 → t % 16 ≤ 2 → x ≡ ownerDigit b (t / 0x0100 % 16) (t / 0x0010 % 16) → not x ≡ false → y ≡ ownerDigit b (t / 0x1000 % 16) (t / 0x0100 % 16) → not y ≡ false → z ≡ ownerDigit b 0 (t / 0x1000 % 16) → z ≡ typeWord b t
-  word-3 x y z l h e n f m g = word-by z l h (g ∙ rw (sym e ∙ not-false x n, sym f ∙ not-false y m))
+  word-3 x y z l h e n f m g = by-word z l h (g ∙ rw (sym e ∙ not-false x n, sym f ∙ not-false y m))
 
 pub ruleset word-laws = (word-low, word-high, word-1, word-2, word-3)
 
--- the type of a shared cell's content
+-- ---- the type of a shared cell's content
 module _ (b t : ℕ) where
-  pub content-bad : (x : Bool) → x ≡ typeWord b t → not x ≡ true → false ≡ contentWord b t
+  pub content-word-bad : (x : Bool) → x ≡ typeWord b t → not x ≡ true → false ≡ contentWord b t
   unfolding contentWord
-  content-bad x e n = rw (sym e ∙ not-true x n)
+  content-word-bad x e n = rw (sym e ∙ not-true x n)
 
-  pub content-private : (x y : Bool) → x ≡ typeWord b t → not x ≡ false → y ≡ public t → not y ≡ true → false ≡ contentWord b t
+  pub content-word-private : (x y : Bool) → x ≡ typeWord b t → not x ≡ false → y ≡ public t → not y ≡ true → false ≡ contentWord b t
   unfolding contentWord
-  content-private x y e n f m = rw (sym e ∙ not-false x n, sym f ∙ not-true y m)
+  content-word-private x y e n f m = rw (sym e ∙ not-false x n, sym f ∙ not-true y m)
 
-  pub content-good : (x y : Bool) (d : ℕ) → x ≡ typeWord b t → not x ≡ false → y ≡ public t → not y ≡ false → d ≡ cellDepth t → leb d 2 ≡ contentWord b t
+  pub content-word-good : (x y : Bool) (d : ℕ) → x ≡ typeWord b t → not x ≡ false → y ≡ public t → not y ≡ false → d ≡ cellDepth t → leb d 2 ≡ contentWord b t
   unfolding contentWord
-  content-good x y d e n f m g = rw (sym e ∙ not-false x n, sym f ∙ not-false y m, g)
+  content-word-good x y d e n f m g = rw (sym e ∙ not-false x n, sym f ∙ not-false y m, g)
 
-pub ruleset content-word-laws = (content-bad, content-private, content-good)
+pub ruleset content-word-laws = (content-word-bad, content-word-private, content-word-good)

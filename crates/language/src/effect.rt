@@ -1,4 +1,4 @@
-// Effects: which schedulers' cells a statement or an expression may touch.
+// Effects: which schedulers' cells a statement or an expression may access.
 use crate::Place;
 ghost use mathlib.Core.Path.{_≡_};
 ghost use lib.Dec.{eqb};

@@ -7,7 +7,7 @@ pub const NUMBER: u16 = 0x0001;
 
 pub const TRUTH: u16 = 0x0002;
 
-// A cell's type around another: its word, or that there are three cells already.
+// A cell's type around another: its word, or that there is none, since there are three cells already or the owner is no place.
 pub enum CellRead {
     Word(u16),
     TooDeep,

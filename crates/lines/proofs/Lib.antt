@@ -1,2 +1,3 @@
-pub mod ReaderLaws
+pub mod LineNumbers
 pub mod Counts
+pub mod ReaderFields

@@ -25,10 +25,15 @@ frame k s a b c = record { kind = k; s = s; a = a; b = b; c = c }
 abbrev Below : ℕ → Frame → Type 0
 Below n f = All (λ (c : Child). c .at < n) (children f)
 
--- ---- two ways to give the children agree where they agree below n
-expressions-agree : (g h : ℕ → Expr) (n i : ℕ) (f : Frame) → Below n f → ((j : ℕ) → j < n → g j ≡ h j) → (k : ExpressionKind) → f .kind ≡ Expression k → expressionWith g i f k ≡ expressionWith h i f k
+-- the same of the frame with its kind written out
+below-as : (n : ℕ) (f : Frame) (k : Kind) → f .kind ≡ k → Below n f → Below n (frame k (f .s) (f .a) (f .b) (f .c))
 unfolding children
-expressions-agree g h n i f b e k q = go k (subst (λ (m : Kind). All (λ (c : Child). c .at < n) (childIn (uses m .a) (f .a) ++ childIn (uses m .b) (f .b) ++ childIn (uses m .c) (f .c))) q b)
+below-as n f k q b = subst (λ (m : Kind). All (λ (c : Child). c .at < n) (childIn (uses m .a) (f .a) ++ childIn (uses m .b) (f .b) ++ childIn (uses m .c) (f .c))) q b
+
+-- ---- expressions: two ways to give the children agree where they agree below n
+expression-with-agrees : (g h : ℕ → Expr) (n i : ℕ) (f : Frame) → Below n f → ((j : ℕ) → j < n → g j ≡ h j) → (k : ExpressionKind) → f .kind ≡ Expression k → expressionWith g i f k ≡ expressionWith h i f k
+unfolding children
+expression-with-agrees g h n i f b e k q = go k (below-as n f _ q b)
   where
     go : (k : ExpressionKind) → Below n (frame (Expression k) (f .s) (f .a) (f .b) (f .c)) → expressionWith g i f k ≡ expressionWith h i f k
     go Number x = refl
@@ -41,13 +46,13 @@ expressions-agree g h n i f b e k q = go k (subst (λ (m : Kind). All (λ (c : C
     go Less (All.more x (All.more y _)) = ap₂ (less i) (e (f .a) x) (e (f .b) y)
     go Choose (All.more x (All.more y (All.more z _))) = ap₂ (λ (u : Expr) (v : Expr). choose i u v (g (f .c))) (e (f .a) x) (e (f .b) y) ∙ ap (choose i (h (f .a)) (h (f .b))) (e (f .c) z)
 
-expression-agrees : (g h : ℕ → Expr) (n i : ℕ) (f : Frame) → Below n f → ((j : ℕ) → j < n → g j ≡ h j) → (k : Kind) → f .kind ≡ k → expressionOf g i f k ≡ expressionOf h i f k
-expression-agrees g h n i f b e (Expression k) q = expressions-agree g h n i f b e k q
-expression-agrees g h n i f b e (Statement k) q = refl
-expression-agrees g h n i f b e Header q = refl
-expression-agrees g h n i f b e Shared q = refl
-expression-agrees g h n i f b e Module q = refl
-expression-agrees g h n i f b e Unknown q = refl
+expression-of-agrees : (g h : ℕ → Expr) (n i : ℕ) (f : Frame) → Below n f → ((j : ℕ) → j < n → g j ≡ h j) → (k : Kind) → f .kind ≡ k → expressionOf g i f k ≡ expressionOf h i f k
+expression-of-agrees g h n i f b e (Expression k) q = expression-with-agrees g h n i f b e k q
+expression-of-agrees g h n i f b e (Statement k) q = refl
+expression-of-agrees g h n i f b e Header q = refl
+expression-of-agrees g h n i f b e Shared q = refl
+expression-of-agrees g h n i f b e Module q = refl
+expression-of-agrees g h n i f b e Unknown q = refl
 
 -- behind the last frame there is none, and none has no child
 past : (fs : List Frame) (i : ℕ) → length fs ≤ i → frameAt fs i ≡ noFrame
@@ -71,17 +76,18 @@ module _ (fs : List Frame) (o : Ordered fs) where
   expression-deep zero e i h k = absurd (omega arith)
   expression-deep (suc d) zero i h k = absurd (omega arith)
   expression-deep (suc d) (suc e) i h k =
-      expression-agrees (λ j. expressionTo d fs j) (λ j. expressionTo e fs j) i i (frameAt fs i) (below i) (λ j l. expression-deep d e j (omega arith) (omega arith)) (frameAt fs i .kind) refl
+      expression-of-agrees (λ j. expressionTo d fs j) (λ j. expressionTo e fs j) i i (frameAt fs i) (below i) (λ j l. expression-deep d e j (omega arith) (omega arith)) (frameAt fs i .kind) refl
 
+  -- so each child may be read to its own depth
   pub expression-at : (i : ℕ) → expressionAt fs i ≡ expressionOf (λ j. expressionAt fs j) i (frameAt fs i) (frameAt fs i .kind)
   unfolding expressionAt expressionTo
   expression-at i =
-      expression-agrees (λ j. expressionTo i fs j) (λ j. expressionTo (suc j) fs j) i i (frameAt fs i) (below i) (λ j l. expression-deep i (suc j) j l (omega arith)) (frameAt fs i .kind) refl
+      expression-of-agrees (λ j. expressionTo i fs j) (λ j. expressionTo (suc j) fs j) i i (frameAt fs i) (below i) (λ j l. expression-deep i (suc j) j l (omega arith)) (frameAt fs i .kind) refl
 
--- ---- statements
-statements-agree : (x : ℕ → Expr) (g h : ℕ → Stmt) (n i : ℕ) (f : Frame) → Below n f → ((j : ℕ) → j < n → g j ≡ h j) → (k : StatementKind) → f .kind ≡ Statement k → statementWith x g i f k ≡ statementWith x h i f k
+-- ---- statements, in the same way; the expressions among the children are given in one way
+statement-with-agrees : (x : ℕ → Expr) (g h : ℕ → Stmt) (n i : ℕ) (f : Frame) → Below n f → ((j : ℕ) → j < n → g j ≡ h j) → (k : StatementKind) → f .kind ≡ Statement k → statementWith x g i f k ≡ statementWith x h i f k
 unfolding children
-statements-agree x g h n i f b e k q = go k (subst (λ (m : Kind). All (λ (c : Child). c .at < n) (childIn (uses m .a) (f .a) ++ childIn (uses m .b) (f .b) ++ childIn (uses m .c) (f .c))) q b)
+statement-with-agrees x g h n i f b e k q = go k (below-as n f _ q b)
   where
     go : (k : StatementKind) → Below n (frame (Statement k) (f .s) (f .a) (f .b) (f .c)) → statementWith x g i f k ≡ statementWith x h i f k
     go Nothing y = refl
@@ -95,13 +101,13 @@ statements-agree x g h n i f b e k q = go k (subst (λ (m : Kind). All (λ (c : 
     go If (All.more y (All.more z (All.more w _))) = ap₂ (Stmt.ifElse i (x (f .a))) (e (f .b) z) (e (f .c) w)
     go While (All.more y (All.more z _)) = ap (Stmt.while i (x (f .a))) (e (f .b) z)
 
-statement-agrees : (x : ℕ → Expr) (g h : ℕ → Stmt) (n i : ℕ) (f : Frame) → Below n f → ((j : ℕ) → j < n → g j ≡ h j) → (k : Kind) → f .kind ≡ k → statementOf x g i f k ≡ statementOf x h i f k
-statement-agrees x g h n i f b e (Statement k) q = statements-agree x g h n i f b e k q
-statement-agrees x g h n i f b e (Expression k) q = refl
-statement-agrees x g h n i f b e Header q = refl
-statement-agrees x g h n i f b e Shared q = refl
-statement-agrees x g h n i f b e Module q = refl
-statement-agrees x g h n i f b e Unknown q = refl
+statement-of-agrees : (x : ℕ → Expr) (g h : ℕ → Stmt) (n i : ℕ) (f : Frame) → Below n f → ((j : ℕ) → j < n → g j ≡ h j) → (k : Kind) → f .kind ≡ k → statementOf x g i f k ≡ statementOf x h i f k
+statement-of-agrees x g h n i f b e (Statement k) q = statement-with-agrees x g h n i f b e k q
+statement-of-agrees x g h n i f b e (Expression k) q = refl
+statement-of-agrees x g h n i f b e Header q = refl
+statement-of-agrees x g h n i f b e Shared q = refl
+statement-of-agrees x g h n i f b e Module q = refl
+statement-of-agrees x g h n i f b e Unknown q = refl
 
 module _ (fs : List Frame) (o : Ordered fs) where
   statement-deep : (d e i : ℕ) → i < d → i < e → statementTo d fs i ≡ statementTo e fs i
@@ -109,9 +115,9 @@ module _ (fs : List Frame) (o : Ordered fs) where
   statement-deep zero e i h k = absurd (omega arith)
   statement-deep (suc d) zero i h k = absurd (omega arith)
   statement-deep (suc d) (suc e) i h k =
-      statement-agrees (λ j. expressionAt fs j) (λ j. statementTo d fs j) (λ j. statementTo e fs j) i i (frameAt fs i) (below fs o i) (λ j l. statement-deep d e j (omega arith) (omega arith)) (frameAt fs i .kind) refl
+      statement-of-agrees (λ j. expressionAt fs j) (λ j. statementTo d fs j) (λ j. statementTo e fs j) i i (frameAt fs i) (below fs o i) (λ j l. statement-deep d e j (omega arith) (omega arith)) (frameAt fs i .kind) refl
 
   pub statement-at : (i : ℕ) → statementAt fs i ≡ statementOf (λ j. expressionAt fs j) (λ j. statementAt fs j) i (frameAt fs i) (frameAt fs i .kind)
   unfolding statementAt statementTo
   statement-at i =
-      statement-agrees (λ j. expressionAt fs j) (λ j. statementTo i fs j) (λ j. statementTo (suc j) fs j) i i (frameAt fs i) (below fs o i) (λ j l. statement-deep i (suc j) j l (omega arith)) (frameAt fs i .kind) refl
+      statement-of-agrees (λ j. expressionAt fs j) (λ j. statementTo i fs j) (λ j. statementTo (suc j) fs j) i i (frameAt fs i) (below fs o i) (λ j l. statement-deep i (suc j) j l (omega arith)) (frameAt fs i .kind) refl

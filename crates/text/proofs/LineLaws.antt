@@ -1,4 +1,4 @@
--- Laws of the line that the reader takes, a byte at a time. Assumes nothing.
+-- Laws of the loop of `read_line`, which takes a line a byte at a time: what it keeps, and what each return of the function gives. Assumes nothing.
 use mathlib.Core.Path.{_≡_, refl, sym, ap, _∙_}
 use mathlib.Core.List.{List, [], _∷_}
 use Prim.Native.Nat.{ℕ, suc, _+_, _*_, _^_, _<_, _≤_}
@@ -37,7 +37,7 @@ missing : (k w : ℕ) → lineFrom k w [] ≡ WrongAt k
 unfolding lineFrom
 missing k w = refl
 
--- ---- the loop: from here on it is as from the start, and the number fits
+-- ---- the loop, behind k digits whose number is w: from here on it is as from the start, and the number fits
 pub record Taking (bytes : List ℕ) (w k : ℕ) : Type 0 where
   pub rest : lineFrom k w (drop k bytes) ≡ lineRead bytes
   pub fits : w < 16 ^ k
@@ -46,55 +46,52 @@ pub taking-start : (bytes : List ℕ) → Taking bytes 0 0
 taking-start bytes = record { rest = refl; fits = omega arith }
 
 module _ (bytes : List ℕ) (w k : ℕ) (t : Taking bytes w k) where
+  -- with the byte k in front
   here : k < length bytes → lineFrom k w (getD bytes k 0 ∷ drop (suc k) bytes) ≡ lineRead bytes
   here h = ap (lineFrom k w) (sym (drop-cons bytes k 0 h)) ∙ t .rest
 
   pub line-short : length bytes ≤ k → WrongAt k ≡ lineRead bytes
   line-short h = sym (missing k w) ∙ ap (lineFrom k w) (sym (drop-of-length-le bytes h)) ∙ t .rest
 
-  pub line-wrong : (d : ℕ) → k < 16 → k < length bytes → d ≡ digit (getD bytes k 0) → 16 ≤ d → WrongAt k ≡ lineRead bytes
-  line-wrong d l h e n = sym (digit-wrong k w (getD bytes k 0) (drop (suc k) bytes) (λ z. omega arith) (omega (arith, e))) ∙ here h
-
-  -- d is the digit, and v the same as the code widens it
-  pub taking-more : (d v : ℕ) → k < 16 → k < length bytes → d ≡ digit (getD bytes k 0) → d < 16 → v ≡ d → Taking bytes (w * 16 + v) (k + 1)
-  taking-more d v l h e n z =
-      record {
-        rest = rw (add-one, z, e) (sym (digit-more k w (getD bytes k 0) (drop (suc k) bytes) (λ z. omega arith) (omega (arith, e))) ∙ here h);
-        fits = rw add-one (let p = pow-suc 16 k in let f = t .fits in omega arith);
-      }
-
+  -- there is room for one digit more
   power : k < 16 → 16 ^ k * 16 ≤ 2 ^ 64
   power l = let p = pow-suc 16 k in let m = pow-le-pow-right {n = 16} (omega arith) {i = suc k} {j = 16} (omega arith) in omega arith
 
   pub times-fits : k < 16 → w * 16 < 2 ^ 64
   times-fits l = let f = t .fits in let p = power l in omega arith
 
+  -- d is the digit, and v the same as the code widens it
   pub word-fits : (d v : ℕ) → k < 16 → d < 16 → v ≡ d → w * 16 + v < 2 ^ 64
   word-fits d v l n z = let f = t .fits in let p = power l in omega arith
 
   -- behind the loop, k is 16
-  pub line-ends : 16 ≤ k → k ≤ 16 → length bytes ≤ 16 → WrongAt 16 ≡ lineRead bytes
-  line-ends a b h = ap WrongAt (omega arith) ∙ line-short (omega arith)
+  pub line-feed-missing : 16 ≤ k → k ≤ 16 → length bytes ≤ 16 → WrongAt 16 ≡ lineRead bytes
+  line-feed-missing a b h = ap WrongAt (omega arith) ∙ line-short (omega arith)
 
-  at-end : (r : Line) → 16 ≤ k → k ≤ 16 → lineFrom k w (getD bytes k 0 ∷ drop (suc k) bytes) ≡ r → 16 < length bytes → r ≡ lineRead bytes
-  at-end r a b e h = sym e ∙ here (omega arith)
+  at-end : (r : Line) → k ≤ 16 → lineFrom k w (getD bytes k 0 ∷ drop (suc k) bytes) ≡ r → 16 < length bytes → r ≡ lineRead bytes
+  at-end r b e h = sym e ∙ here (omega arith)
 
-  pub line-unfed : 16 ≤ k → k ≤ 16 → 16 < length bytes → (getD bytes 16 0 ≡ 10 → ⊥) → WrongAt 16 ≡ lineRead bytes
-  line-unfed a b h n =
+  pub line-feed-wrong : 16 ≤ k → k ≤ 16 → 16 < length bytes → (getD bytes 16 0 ≡ 10 → ⊥) → WrongAt 16 ≡ lineRead bytes
+  line-feed-wrong a b h n =
       let e : k ≡ 16 = omega arith in
-      at-end (WrongAt 16) a b (feed-wrong k w (getD bytes k 0) (drop (suc k) bytes) e (rw e n) ∙ ap WrongAt e) h
+      at-end (WrongAt 16) b (feed-wrong k w (getD bytes k 0) (drop (suc k) bytes) e (rw e n) ∙ ap WrongAt e) h
 
   pub line-done : 16 ≤ k → k ≤ 16 → 16 < length bytes → getD bytes 16 0 ≡ 10 → Word w ≡ lineRead bytes
   line-done a b h n =
       let e : k ≡ 16 = omega arith in
-      at-end (Word w) a b (feed-right k w (getD bytes k 0) (drop (suc k) bytes) e (rw e n)) h
+      at-end (Word w) b (feed-right k w (getD bytes k 0) (drop (suc k) bytes) e (rw e n)) h
 
--- the same with the digit read from a table
+-- one digit: it is read from the table, and v is the same as the code widens it
 module _ (bytes digits : List ℕ) (w k : ℕ) (t : Taking bytes w k) (e : digits ≡ digitsFrom 0 256) (b : getD bytes k 0 < 256) where
   pub table-wrong : k < 16 → k < length bytes → 16 ≤ getD digits (getD bytes k 0) 0 → WrongAt k ≡ lineRead bytes
-  table-wrong l h n = line-wrong bytes w k t (getD digits (getD bytes k 0) 0) l h (table-at digits (getD bytes k 0) e b) n
+  table-wrong l h n = let d = table-at digits (getD bytes k 0) e b in sym (digit-wrong k w (getD bytes k 0) (drop (suc k) bytes) (λ z. omega arith) (omega arith)) ∙ here bytes w k t h
 
   pub table-more : (v : ℕ) → k < 16 → k < length bytes → getD digits (getD bytes k 0) 0 < 16 → v ≡ getD digits (getD bytes k 0) 0 → Taking bytes (w * 16 + v) (k + 1)
-  table-more v l h n z = taking-more bytes w k t (getD digits (getD bytes k 0) 0) v l h (table-at digits (getD bytes k 0) e b) n z
+  table-more v l h n z =
+      let d = table-at digits (getD bytes k 0) e b in
+      record {
+        rest = rw (add-one, z, d) (sym (digit-more k w (getD bytes k 0) (drop (suc k) bytes) (λ z. omega arith) (omega arith)) ∙ here bytes w k t h);
+        fits = rw add-one (let p = pow-suc 16 k in let f = t .fits in omega arith);
+      }
 
-pub ruleset line-laws = (line-short, line-wrong, line-ends, line-unfed, line-done)
+pub ruleset line-laws = (line-short, line-feed-missing, line-feed-wrong, line-done)

@@ -1,4 +1,4 @@
--- The computed reading is the one that the definition gives, and the only one; and a text that reads as frames has one. Assumes nothing.
+-- The computed reading is the one that the definition gives, and the only one; and a text that reads as frames has at least one. Assumes nothing.
 use mathlib.Core.Path.{_≡_, refl, sym, ap, _∙_}
 use mathlib.Core.Logic.{_⊎_, inl, inr}
 use mathlib.Core.Bool.{Bool, true, false, true≢false}
@@ -17,10 +17,13 @@ use Rattle.text.specs.Frames.{textFrames}
 use Rattle.text.proofs.ReadLaws.{length-frames}
 use Rattle.text.specs.Reading.{rightAt, firstWrong, Reading, frames, refused, readLines, reading, WrongAt, Reads}
 
+-- ---- the scan finds the first wrong or missing byte
+
 -- the byte q of bs is wrong or missing, where bs stands from the position p on
 abbrev WrongFrom : ℕ → List ℕ → ℕ → Type 0
 WrongFrom p bs q = ((q < length bs) × (rightAt (p + q) (getD bs q 0) ≡ false)) ⊎ ((q ≡ length bs) × ((p + q) % 17 ≡ 0 → ⊥))
 
+-- the scan from p on found nothing wrong, or x, the first position that is
 data Scan (p : ℕ) (bs : List ℕ) : Option ℕ → Type 0 where
   fine : ((q : ℕ) → WrongFrom p bs q → ⊥) → Scan p bs none
   stop : {x q : ℕ} → x ≡ p + q → WrongFrom p bs q → ((r : ℕ) → WrongFrom p bs r → q ≤ r) → Scan p bs (some x)
@@ -31,32 +34,33 @@ at-zero p = omega arith
 at-suc : (p q : ℕ) → suc p + q ≡ p + suc q
 at-suc p q = omega arith
 
-down : (p q b : ℕ) (bs : List ℕ) → WrongFrom p (b ∷ bs) (suc q) → WrongFrom (suc p) bs q
-down p q b bs (inl h) = inl (omega arith, rw (at-suc p q) (h .1))
-down p q b bs (inr h) = inr (omega arith, rw (at-suc p q) (h .1))
+-- wrong in the list is wrong in its tail, one position later, and back
+wrong-tail : (p q b : ℕ) (bs : List ℕ) → WrongFrom p (b ∷ bs) (suc q) → WrongFrom (suc p) bs q
+wrong-tail p q b bs (inl h) = inl (omega arith, rw (at-suc p q) (h .1))
+wrong-tail p q b bs (inr h) = inr (omega arith, rw (at-suc p q) (h .1))
 
-up : (p q b : ℕ) (bs : List ℕ) → WrongFrom (suc p) bs q → WrongFrom p (b ∷ bs) (suc q)
-up p q b bs (inl h) = inl (omega arith, rw (sym (at-suc p q)) (h .1))
-up p q b bs (inr h) = inr (omega arith, rw (sym (at-suc p q)) (h .1))
+wrong-cons : (p q b : ℕ) (bs : List ℕ) → WrongFrom (suc p) bs q → WrongFrom p (b ∷ bs) (suc q)
+wrong-cons p q b bs (inl h) = inl (omega arith, rw (sym (at-suc p q)) (h .1))
+wrong-cons p q b bs (inr h) = inr (omega arith, rw (sym (at-suc p q)) (h .1))
 
 first-right : (p b : ℕ) (bs : List ℕ) → rightAt p b ≡ true → WrongFrom p (b ∷ bs) 0 → ⊥
 first-right p b bs t (inl h) = true≢false (sym t ∙ (rw (at-zero p) at h .1))
 first-right p b bs t (inr h) = omega arith
 
-s-more : (p b : ℕ) (bs : List ℕ) (o : Option ℕ) → rightAt p b ≡ true → Scan (suc p) bs o → Scan p (b ∷ bs) o
-s-more p b bs none t (Scan.fine h) = Scan.fine go
+scan-more : (p b : ℕ) (bs : List ℕ) (o : Option ℕ) → rightAt p b ≡ true → Scan (suc p) bs o → Scan p (b ∷ bs) o
+scan-more p b bs none t (Scan.fine h) = Scan.fine go
   where
     go : (q : ℕ) → WrongFrom p (b ∷ bs) q → ⊥
     go zero w = first-right p b bs t w
-    go (suc q) w = h q (down p q b bs w)
-s-more p b bs (some x) t (Scan.stop {q = q} e w l) = Scan.stop {x = x} {q = suc q} (omega arith) (up p q b bs w) go
+    go (suc q) w = h q (wrong-tail p q b bs w)
+scan-more p b bs (some x) t (Scan.stop {q = q} e w l) = Scan.stop {x = x} {q = suc q} (omega arith) (wrong-cons p q b bs w) go
   where
     go : (r : ℕ) → WrongFrom p (b ∷ bs) r → suc q ≤ r
     go zero v = absurd (first-right p b bs t v)
-    go (suc r) v = let a = l r (down p r b bs v) in omega arith
+    go (suc r) v = let a = l r (wrong-tail p r b bs v) in omega arith
 
-s-none : (p : ℕ) → Scan p [] (if eqb (p % 17) 0 then none else some p)
-s-none p = if-all (Scan p []) (eqb (p % 17) 0) _ _ (λ h. Scan.fine (good (eqb-true _ _ h))) (λ h. Scan.stop {q = 0} (sym (at-zero p)) (inr (refl, rw (at-zero p) (eqb-false _ _ h))) (λ r w. omega arith))
+scan-end : (p : ℕ) → Scan p [] (if eqb (p % 17) 0 then none else some p)
+scan-end p = if-all (Scan p []) (eqb (p % 17) 0) _ _ (λ h. Scan.fine (good (eqb-true _ _ h))) (λ h. Scan.stop {q = 0} (sym (at-zero p)) (inr (refl, rw (at-zero p) (eqb-false _ _ h))) (λ r w. omega arith))
   where
     good : p % 17 ≡ 0 → (q : ℕ) → WrongFrom p [] q → ⊥
     good e q (inl h) = omega arith
@@ -64,27 +68,28 @@ s-none p = if-all (Scan p []) (eqb (p % 17) 0) _ _ (λ h. Scan.fine (good (eqb-t
 
 scan : (bs : List ℕ) (p : ℕ) → Scan p bs (firstWrong p bs)
 unfolding firstWrong
-scan [] p = s-none p
+scan [] p = scan-end p
 scan (b ∷ bs) p = go (rightAt p b) refl (scan bs (suc p))
   where
     go : (t : Bool) → rightAt p b ≡ t → Scan (suc p) bs (firstWrong (suc p) bs) → Scan p (b ∷ bs) (elim t [ true ↦ firstWrong (suc p) bs | false ↦ some p ])
-    go true e s = s-more p b bs _ e s
+    go true e s = scan-more p b bs _ e s
     go false e s = Scan.stop {q = 0} (sym (at-zero p)) (inl (omega arith, rw (at-zero p) e)) (λ r w. omega arith)
 
 -- from position 0 on
-here : (bs : List ℕ) (q : ℕ) → WrongFrom 0 bs q → WrongAt bs q
-here bs q (inl h) = inl (h .0, rw (zero-add q) at h .1)
-here bs q (inr h) = inr (h .0, rw (zero-add q) at h .1)
+wrong-at : (bs : List ℕ) (q : ℕ) → WrongFrom 0 bs q → WrongAt bs q
+wrong-at bs q (inl h) = inl (h .0, rw (zero-add q) at h .1)
+wrong-at bs q (inr h) = inr (h .0, rw (zero-add q) at h .1)
 
-there : (bs : List ℕ) (q : ℕ) → WrongAt bs q → WrongFrom 0 bs q
-there bs q (inl h) = inl (h .0, rw (zero-add q) (h .1))
-there bs q (inr h) = inr (h .0, rw (zero-add q) (h .1))
+wrong-from : (bs : List ℕ) (q : ℕ) → WrongAt bs q → WrongFrom 0 bs q
+wrong-from bs q (inl h) = inl (h .0, rw (zero-add q) (h .1))
+wrong-from bs q (inr h) = inr (h .0, rw (zero-add q) (h .1))
 
-r-lines : (bs : List ℕ) → 0 < length bs → length bs ≤ 17408 → (o : Option ℕ) → Scan 0 bs o → Reads bs (readLines bs o)
-r-lines bs a b none (Scan.fine h) = Reads.whole a b (λ q w. h q (there bs q w))
-r-lines bs a b (some x) (Scan.stop {q = q} e w l) =
+-- ---- the reading
+reads-lines : (bs : List ℕ) → 0 < length bs → length bs ≤ 17408 → (o : Option ℕ) → Scan 0 bs o → Reads bs (readLines bs o)
+reads-lines bs a b none (Scan.fine h) = Reads.whole a b (λ q w. h q (wrong-from bs q w))
+reads-lines bs a b (some x) (Scan.stop {q = q} e w l) =
     let f : x ≡ q = omega arith in
-    rw f (Reads.wrong a b (here bs q w) (λ r v. l r (there bs r v)))
+    rw f (Reads.wrong a b (wrong-at bs q w) (λ r v. l r (wrong-from bs r v)))
 
 -- the theorem: what is computed is what the text reads as
 pub reads : (bs : List ℕ) → Reads bs (reading bs)
@@ -94,7 +99,7 @@ reads (b ∷ bs) = go (ltb 17408 (length (b ∷ bs))) refl
   where
     go : (t : Bool) → ltb 17408 (length (b ∷ bs)) ≡ t → Reads (b ∷ bs) (elim t [ true ↦ refused 2 0 | false ↦ readLines (b ∷ bs) (firstWrong 0 (b ∷ bs)) ])
     go true e = Reads.over (ltb-true _ _ e)
-    go false e = r-lines (b ∷ bs) (omega arith) (ltb-false _ _ e) _ (scan (b ∷ bs) 0)
+    go false e = reads-lines (b ∷ bs) (omega arith) (ltb-false _ _ e) _ (scan (b ∷ bs) 0)
 
 -- and a text reads as one thing only
 pub reads-one : {bs : List ℕ} {r s : Reading} → Reads bs r → Reads bs s → r ≡ s
@@ -115,7 +120,7 @@ reads-one (Reads.whole a b h) (Reads.over g) = absurd (omega arith)
 reads-one (Reads.whole a b h) (Reads.wrong c d w l) = absurd (h _ w)
 reads-one (Reads.whole a b h) (Reads.whole c d g) = refl
 
--- a text that reads as frames has one
+-- a text that reads as frames has at least one
 pub some-frame : {bs : List ℕ} {r : Reading} {fs : List Frame} → Reads bs r → r ≡ frames fs → 0 < length fs
 some-frame Reads.empty e = absurd (let z : _≡_ {A = ℕ} 0 1 = cc in omega arith)
 some-frame (Reads.over h) e = absurd (let z : _≡_ {A = ℕ} 0 1 = cc in omega arith)

@@ -12,14 +12,14 @@ abbrev pub digitsFrom : ℕ → ℕ → List ℕ
 digitsFrom k zero = []
 digitsFrom k (suc n) = digit k ∷ digitsFrom (suc k) n
 
-from : (n k i : ℕ) → i < n → getD (digitsFrom k n) i 0 ≡ digit (k + i)
-from zero k i h = absurd (omega arith)
-from (suc n) k zero h = ap digit (omega arith)
-from (suc n) k (suc i) h = from n (suc k) i (omega arith) ∙ ap digit (omega arith)
+digits-from : (n k i : ℕ) → i < n → getD (digitsFrom k n) i 0 ≡ digit (k + i)
+digits-from zero k i h = absurd (omega arith)
+digits-from (suc n) k zero h = ap digit (omega arith)
+digits-from (suc n) k (suc i) h = digits-from n (suc k) i (omega arith) ∙ ap digit (omega arith)
 
 -- entry b of such a table is the digit of byte b
 pub digit-at : (b : ℕ) → b < 256 → getD (digitsFrom 0 256) b 0 ≡ digit b
-digit-at b h = from 256 0 b h ∙ ap digit (zero-add b)
+digit-at b h = digits-from 256 0 b h ∙ ap digit (zero-add b)
 
 -- the same of an array that is such a table
 pub table-at : (digits : List ℕ) (b : ℕ) → digits ≡ digitsFrom 0 256 → b < 256 → getD digits b 0 ≡ digit b

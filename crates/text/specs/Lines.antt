@@ -27,6 +27,6 @@ abbrev pub frameOfLine : Line → FrameRead
 frameOfLine (Word w) = Read (frameOfWord w)
 frameOfLine (WrongAt k) = NoFrame
 
--- the frame i of a text, if its line is whole; proofs/ReadLaws shows that a text that reads as frames has these
+-- the frame i of a text, if its line is whole; proofs/FrameLaws shows that a text that reads as frames has these
 unfoldable pub frameRead : List ℕ → ℕ → FrameRead
 frameRead bs i = if ltb i 1024 then frameOfLine (lineRead (drop (i * 17) bs)) else NoFrame

@@ -1,7 +1,7 @@
 -- `frames_from` meets its contract. Assumes nothing.
 use Prim.Native.Nat.{_-_}
 use borrow.Author.Needs.{needs}
-use Rattle.lines.proofs.ReaderLaws.{Counting, counting-start, counting-more, count-laws}
+use Rattle.lines.proofs.Counts.{Counting, counting-start, counting-more, count-laws}
 use Rattle.lines.proofs.frames_from.Statement.{statement}
 use Rattle.lines.proofs.frames_from.Tie as tie
 

@@ -1,6 +1,6 @@
 -- `line_after` meets its contract. Assumes nothing.
 use borrow.Author.Needs.{needs}
-use Rattle.lines.proofs.ReaderLaws.{after-laws}
+use Rattle.lines.proofs.LineNumbers.{after-laws}
 use Rattle.lines.proofs.line_after.Statement.{statement}
 use Rattle.lines.proofs.line_after.Tie as tie
 

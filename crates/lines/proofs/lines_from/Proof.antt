@@ -1,6 +1,6 @@
 -- `lines_from` meets its contract. Assumes nothing.
 use borrow.Author.Needs.{needs}
-use Rattle.lines.proofs.ReaderLaws.{left-laws}
+use Rattle.lines.proofs.LineNumbers.{left-laws}
 use Rattle.lines.proofs.lines_from.Statement.{statement}
 use Rattle.lines.proofs.lines_from.Tie as tie
 

@@ -6,6 +6,7 @@ use Rattle.language.specs.Kinds.{kindOf}
 use Rattle.language.proofs.kind.kind_of.Statement.{statement}
 use Rattle.language.proofs.kind.kind_of.Tie as tie
 
+-- an arm of a number: `kindOf` computes at it
 returns : tie.Need-returns
 unfolding kindOf if_then_else_
 returns c = sym (ap kindOf (c .match .keys1))
@@ -94,6 +95,7 @@ returns-22 : tie.Need-returns-22
 unfolding kindOf if_then_else_
 returns-22 c = sym (ap kindOf (c .match .keys22))
 
+-- the last arm: each of the 22 tests is false, the first arm's first
 returns-23 : tie.Need-returns-23
 unfolding kindOf if_then_else_
 returns-23 c = simp (

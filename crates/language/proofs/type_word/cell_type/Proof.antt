@@ -1,14 +1,14 @@
 -- `cell_type` meets its contract. Assumes nothing.
 use borrow.Author.Needs.{needs}
-use Rattle.language.proofs.Words.{read-laws}
+use Rattle.language.proofs.Words.{cell-type-laws}
 use Rattle.language.proofs.type_word.cell_type.Statement.{statement}
 use Rattle.language.proofs.type_word.cell_type.Tie as tie
 
 returns : tie.Need-returns
-returns c = search read-laws
+returns c = search cell-type-laws
 
 returns-2 : tie.Need-returns-2
-returns-2 c = search read-laws
+returns-2 c = search cell-type-laws
 
 cast-t6 : tie.Need-cast-t6
 cast-t6 c = search needs
@@ -20,7 +20,7 @@ add-t8 : tie.Need-add-t8
 add-t8 c = search needs
 
 returns-3 : tie.Need-returns-3
-returns-3 c = search read-laws
+returns-3 c = search cell-type-laws
 
 cast-t9 : tie.Need-cast-t9
 cast-t9 c = search needs
@@ -32,7 +32,7 @@ add-t11 : tie.Need-add-t11
 add-t11 c = search needs
 
 returns-4 : tie.Need-returns-4
-returns-4 c = search read-laws
+returns-4 c = search cell-type-laws
 
 cast-t12 : tie.Need-cast-t12
 cast-t12 c = search needs
@@ -44,10 +44,10 @@ add-t14 : tie.Need-add-t14
 add-t14 c = search needs
 
 returns-5 : tie.Need-returns-5
-returns-5 c = search read-laws
+returns-5 c = search cell-type-laws
 
 returns-6 : tie.Need-returns-6
-returns-6 c = search read-laws
+returns-6 c = search cell-type-laws
 
 pub cell-type-spec : {M : Type 1} → statement M
 cell-type-spec =

@@ -1,6 +1,6 @@
 -- `frame_at` meets its contract. Assumes nothing.
 use borrow.Author.Needs.{needs}
-use Rattle.text.proofs.ReadLaws.{frame-laws}
+use Rattle.text.proofs.FrameLaws.{frame-laws}
 use Rattle.text.proofs.line.frame_at.Statement.{statement}
 use Rattle.text.proofs.line.frame_at.Tie as tie
 

@@ -1,6 +1,6 @@
 -- `frame_of_line` meets its contract. Assumes nothing.
 use borrow.Author.Needs.{needs}
-use Rattle.text.proofs.ReadLaws.{frame-row}
+use Rattle.text.proofs.FrameLaws.{frame-row}
 use Rattle.text.proofs.line.frame_of_line.Statement.{statement}
 use Rattle.text.proofs.line.frame_of_line.Tie as tie
 

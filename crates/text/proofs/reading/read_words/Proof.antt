@@ -14,10 +14,10 @@ abbrev μ-loop : tie.MeasureT-loop
 μ-loop text n words₀ i₀ at₀ words i at = length text - at
 
 returns : tie.Need-returns Inv-loop μ-loop
-returns c = search (words-laws, refl)
+returns c = search words-laws
 
 returns-2 : tie.Need-returns-2 Inv-loop μ-loop
-returns-2 c = search (words-laws, refl)
+returns-2 c = search words-laws
 
 loop-holds : tie.Need-loop-holds Inv-loop μ-loop
 loop-holds c = reader-start _ _ refl
@@ -29,10 +29,10 @@ part-read-line-start : tie.Need-part-read-line-start Inv-loop μ-loop
 part-read-line-start c = search (reader-index, reader-length, needs)
 
 part-read-line-end : tie.Need-part-read-line-end Inv-loop μ-loop
-part-read-line-end c = search (reader-index, reader-length, needs)
+part-read-line-end c = search needs
 
 read-line-requires : tie.Need-read-line-requires Inv-loop μ-loop
-read-line-requires c κs = search (reader-index, reader-length, needs)
+read-line-requires c κs = search needs
 
 enum-known-w : tie.Need-enum-known-w Inv-loop μ-loop
 enum-known-w c = search (reader-index, reader-length, needs)

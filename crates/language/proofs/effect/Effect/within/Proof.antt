@@ -1,6 +1,6 @@
 -- `Effect::within` meets its contract. Assumes nothing.
 use borrow.Author.Needs.{needs}
-use Rattle.language.proofs.Sets.{within-laws}
+use Rattle.language.proofs.EffectLaws.{within-laws}
 use Rattle.language.proofs.effect.Effect.within.Statement.{statement}
 use Rattle.language.proofs.effect.Effect.within.Tie as tie
 

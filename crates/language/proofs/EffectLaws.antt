@@ -1,4 +1,4 @@
--- Effects as sets: what the methods' code computes, and membership after each. Assumes nothing.
+-- What `Effect::with_owner` and `Effect::within` compute, return by return, with the tests that lead there as premises; what that means for the set is in Members. Assumes nothing.
 use mathlib.Core.Path.{_≡_, refl, ap}
 use mathlib.Core.Bool.{true, false}
 use Prim.Native.Nat.{ℕ, _*_, _%_, _^_, _<_, _≤_}
@@ -12,6 +12,7 @@ use Rattle.basics.proofs.Ifs.{yes, no}
 use Rattle.language.specs.Effects.{withOwner, within}
 use Rattle.language.specs.declared.effect.Effect.{Effect}
 
+-- the effect of those bits
 abbrev set : ℕ → Effect
 set n = record { bits = n }
 
@@ -19,6 +20,7 @@ set n = record { bits = n }
 bit-of : (o : ℕ) → o ≤ 9 → 1 * 2 ^ o % 65536 ≡ 2 ^ o
 bit-of o h = rw one-mul (mod-eq-of-lt (pow-lt {j = 16} (omega arith)))
 
+-- ---- with one owner added: the owner is below the schedulers, above them, or one of them
 module _ (o : ℕ) (e : Effect) where
   pub owner-low : o < 2 → set (e .bits) ≡ withOwner o e
   unfolding withOwner
@@ -32,8 +34,9 @@ module _ (o : ℕ) (e : Effect) where
   unfolding withOwner
   owner-added l h = yes _ (simp (le-leb 2 o l, le-leb o 9 h)) (ap (λ (n : ℕ). set (bitOr (e .bits) n)) (bit-of o h))
 
-pub ruleset owner-laws = (owner-low, owner-high, owner-added)
+pub ruleset with-owner-laws = (owner-low, owner-high, owner-added)
 
+-- ---- within a place
 module _ (p : ℕ) (e : Effect) where
   pub within-empty : e .bits ≡ 0 → true ≡ within p e
   unfolding within
