@@ -1,6 +1,8 @@
 pub mod WordLaws
 pub mod Operations
+pub mod Chains
 pub mod Nodes
 pub mod Cases
 pub mod Holding
+pub mod SmallNumbers
 pub mod Agreement

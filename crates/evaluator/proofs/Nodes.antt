@@ -1,7 +1,9 @@
--- Nodes and trees: the tree at a frame is made of its node and the trees at the node's operands, which stand before it. Assumes nothing.
+-- The node at a frame: how the code reads it from the frame's word, the tree that it and its operands' trees make, and that its operands stand before it. Assumes nothing.
 use mathlib.Core.Path.{_≡_, refl, sym, ap, _∙_, subst}
-use mathlib.Core.List.{List}
-use Prim.Native.Nat.{ℕ, _<_}
+use mathlib.Core.List.{List, [], _∷_}
+use Prim.Native.Nat.{ℕ, zero, suc, _<_}
+use native.Mathlib.Omega.{arith}
+use lib.ListN.{length, getD, length-map}
 use Rattle.basics.specs.Members.{All}
 use Rattle.basics.proofs.Ifs.{if-all}
 use Rattle.language.specs.Kinds.{Child, children}
@@ -9,7 +11,7 @@ use Rattle.language.specs.declared.kind.ExpressionKind.{ExpressionKind}
 use Rattle.language.specs.declared.kind.Kind.{Kind}
 use Rattle.language.specs.declared.kind.Kind.the-variants.{Header, Shared, Module, Statement, Expression, Unknown}
 use Rattle.language.specs.declared.frame.Frame.{Frame}
-use lib.ListN.{length}
+use Rattle.text.specs.Frames.{frameOfWord, framesOf}
 use Rattle.program.specs.Trees.{Expr, number, truth, variable, shared, new, content, sum, less, choose, frameAt, expressionOf, expressionAt}
 use Rattle.program.specs.Ordered.{Ordered}
 use Rattle.program.proofs.Decoding.{expression-at}
@@ -20,8 +22,26 @@ use Rattle.machine.specs.declared.value.Outcome.the-variants.{Is, Foreign, Spen
 use Rattle.evaluator.specs.declared.node.Node.{Node}
 use Rattle.evaluator.specs.declared.node.Node.the-variants.{Literal, Flag, Variable, SharedCell, NewCell, ContentOf, Numbers, ChooseOf}
 use Rattle.evaluator.specs.declared.node.Operator.the-variants.{Sum, Less}
-use Rattle.evaluator.specs.ByWords.{nodeOf, nodeAt, chosen, chosenBy}
+use Rattle.evaluator.specs.Results.{FrameWords}
+use Rattle.evaluator.specs.ByWords.{nodeWith, nodeOf, nodeAt, chosen, chosenBy}
 
+-- ---- the node, read by the code: a law for each arm of its matches
+pub node-row : (f : Frame) (k v : ExpressionKind) (r : Node) → k ≡ v → r ≡ nodeWith f v → r ≡ nodeWith f k
+node-row f k v r e h = h ∙ sym (ap (nodeWith f) e)
+
+pub node-kind : (f : Frame) (k v : Kind) (r : Node) → k ≡ v → r ≡ nodeOf f v → r ≡ nodeOf f k
+node-kind f k v r e h = h ∙ sym (ap (nodeOf f) e)
+
+-- the word at i reads as frame i
+frame-at : (ws : List ℕ) (i : ℕ) → i < length ws → frameOfWord (getD ws i 0) ≡ frameAt (framesOf ws) i
+frame-at [] i h = absurd (omega arith)
+frame-at (w ∷ ws) zero h = refl
+frame-at (w ∷ ws) (suc i) h = frame-at ws i (omega arith)
+
+pub node-read : (ws : List ℕ) (i : ℕ) (f : Frame) (r : Node) → r ≡ nodeOf f (f .kind) → f ≡ frameOfWord (getD ws i 0) → i < length ws → r ≡ nodeAt (framesOf ws) i
+node-read ws i f r h e l = h ∙ ap (λ (g : Frame). nodeOf g (g .kind)) (e ∙ frame-at ws i l)
+
+-- ---- the tree, from the node; `rec` gives the trees at its operands
 abbrev pub treeOf : (ℕ → Expr) → ℕ → Node → Expr
 treeOf rec i (Literal n) = number i n
 treeOf rec i (Flag s) = truth i s
@@ -55,8 +75,8 @@ of-tree rec i f Unknown = refl
 pub tree-at : (fs : List Frame) (i : ℕ) (d : Node) → Ordered fs → d ≡ nodeAt fs i → expressionAt fs i ≡ treeOf (expressionAt fs) i d
 tree-at fs i d o e = expression-at fs o i ∙ of-tree (expressionAt fs) i (frameAt fs i) (frameAt fs i .kind) ∙ ap (treeOf (expressionAt fs) i) (sym e)
 
--- ---- operands stand before their frame
-abbrev pub Below : ℕ → Node → Type 0
+-- ---- operands stand before their frame, so that the frame number falls in the recursion
+abbrev Below : ℕ → Node → Type 0
 Below i (Literal n) = Unit {0}
 Below i (Flag s) = Unit {0}
 Below i (Variable s) = Unit {0}
@@ -66,6 +86,7 @@ Below i (ContentOf a) = a < i
 Below i (Numbers op a b) = (a < i) × (b < i)
 Below i (ChooseOf a b c) = (a < i) × (b < i) × (c < i)
 
+-- the kind stands apart from the other fields, so that the children compute by cases of it
 abbrev frame : Kind → ℕ → ℕ → ℕ → ℕ → Frame
 frame k s a b c = record { kind = k; s = s; a = a; b = b; c = c }
 
@@ -92,17 +113,24 @@ of-below n f Shared x = tt
 of-below n f Module x = tt
 of-below n f Unknown x = tt
 
-pub below : (fs : List Frame) (i : ℕ) (d : Node) → Ordered fs → i < length fs → d ≡ nodeAt fs i → Below i d
-below fs i d o l e = subst (Below i) (sym e) (of-below i (frameAt fs i) (frameAt fs i .kind) (o i l))
+pub operands-below : (ws : List ℕ) (i : ℕ) (d : Node) → FrameWords ws i → d ≡ nodeAt (framesOf ws) i → Below i d
+operands-below ws i d h e =
+    let fs = framesOf ws in
+    subst (Below i) (sym e) (of-below i (frameAt fs i) (frameAt fs i .kind) (h .ordered i (rw length-map (h .there))))
 
--- a truth chooses one of two frames below
+-- 28's two branches: the one that is chosen, whatever became of the condition
 chosen-below : (v : Value) (b c i : ℕ) → b < i → c < i → chosen v b c < i
 chosen-below (Truth t) b c i l k = if-all (λ (x : ℕ). x < i) t b c (λ _. l) (λ _. k)
 chosen-below (Number n) b c i l k = k
 chosen-below (Cell j) b c i l k = k
 
-pub branch-below : (o : Outcome) (b c i : ℕ) → b < i → c < i → chosenBy o b c < i
-branch-below (Is v) b c i l k = chosen-below v b c i l k
-branch-below Foreign b c i l k = k
-branch-below Spent b c i l k = k
-branch-below Stuck b c i l k = k
+chosen-by-below : (o : Outcome) (b c i : ℕ) → b < i → c < i → chosenBy o b c < i
+chosen-by-below (Is v) b c i l k = chosen-below v b c i l k
+chosen-by-below Foreign b c i l k = k
+chosen-by-below Spent b c i l k = k
+chosen-by-below Stuck b c i l k = k
+
+pub branch-below : (ws : List ℕ) (i a b c j : ℕ) (o : Outcome) → FrameWords ws i → ChooseOf a b c ≡ nodeAt (framesOf ws) i → j ≡ chosenBy o b c → j < i
+branch-below ws i a b c j o h e q =
+    let u = operands-below ws i (ChooseOf a b c) h e in
+    subst (λ (k : ℕ). k < i) (sym q) (chosen-by-below o b c i (u .1) (u .2))

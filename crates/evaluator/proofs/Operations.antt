@@ -1,5 +1,5 @@
--- Laws of the operations, one for each return of the code. Assumes nothing.
-use mathlib.Core.Path.{_≡_, refl, sym, ap, ap₂, _∙_, subst}
+-- The operations of operation.rt: a law for each return of each function. Two numbers with an equation between them are one number at two widths, before and behind a cast. Assumes nothing.
+use mathlib.Core.Path.{_≡_, refl, sym, ap, ap₂, _∙_}
 use mathlib.Core.List.{List}
 use mathlib.Core.Bool.{Bool, true, false, not, _||_, _&&_}
 use Prim.Native.Nat.{ℕ, _+_, _%_, _^_, _<_, _≤_}
@@ -16,19 +16,10 @@ use Rattle.machine.specs.declared.value.Value.the-variants.{Number, Truth, Cell
 use Rattle.machine.specs.declared.value.Outcome.{Outcome}
 use Rattle.machine.specs.declared.value.Outcome.the-variants.{Is, Foreign, Spent, Stuck}
 use Rattle.evaluator.specs.declared.operation.Who.{Who}
-use Rattle.evaluator.specs.declared.operation.Answered.{Answered}
 use Rattle.evaluator.specs.declared.node.Operator.{Operator}
-use Rattle.evaluator.specs.Results.{Result, after}
-use Rattle.evaluator.specs.ByWords.{valueIn, ownerIn, contentIn, cellOf, result, thenBy, andThen, onlyBy, only, keeping, ownIn, newOwnerIn, variableIn, sharedIn, makeIn, refusalOr, accessIn, readIn, reading, wordAfter, storeIn, numbersOf, operation, operands, aTruth, aNumber, chosen, chosenBy}
+use Rattle.evaluator.specs.ByWords.{valueIn, ownerIn, contentIn, cellOf, result, ownIn, newOwnerIn, variableIn, sharedIn, makeIn, refusalOr, accessIn, readIn, reading, wordAfter, storeIn, numbersOf, operation, operands, aTruth, aNumber, chosen, chosenBy}
 
--- an outcome that is no value
-abbrev pub Refused : Outcome → Type 0
-Refused (Is v) = ⊥
-Refused Foreign = Unit {0}
-Refused Spent = Unit {0}
-Refused Stuck = Unit {0}
-
--- ---- owners
+-- ---- owners: the thread's own cells, then its scheduler's; an unlinked thread has none of those
 pub own-thread : (who : Who) (o r : ℕ) → r ≡ who .thread → o ≡ 16 + r → true ≡ ownIn who o
 unfolding ownIn
 own-thread who o r h e = ap (λ (b : Bool). b || leb 2 (who .place .number) && eqb o (who .place .number)) (sym (eq-eqb o (16 + who .thread) (omega arith)))
@@ -37,15 +28,15 @@ other-thread : (who : Who) (o r : ℕ) (b : Bool) → r ≡ who .thread → (o �
 unfolding ownIn
 other-thread who o r b h e q = q ∙ ap (λ (x : Bool). x || leb 2 (who .place .number) && eqb o (who .place .number)) (sym (ne-eqb o (16 + who .thread) (λ z. e (omega arith))))
 
--- p is the place's number, and k that of home
-pub own-not : (who : Who) (o r p k : ℕ) → r ≡ who .thread → (o ≡ 16 + r → ⊥) → p ≡ who .place .number → k ≡ 2 → p < k → false ≡ ownIn who o
-own-not who o r p k h e z y l = other-thread who o r false h e (ap (λ (x : Bool). x && eqb o (who .place .number)) (sym (lt-leb 2 (who .place .number) (omega arith))))
+-- k is the number of home
+pub own-unlinked : (who : Who) (o r p k : ℕ) → r ≡ who .thread → (o ≡ 16 + r → ⊥) → p ≡ who .place .number → k ≡ 2 → p < k → false ≡ ownIn who o
+own-unlinked who o r p k h e z y l = other-thread who o r false h e (ap (λ (x : Bool). x && eqb o (who .place .number)) (sym (lt-leb 2 (who .place .number) (omega arith))))
 
 pub own-place : (who : Who) (o r p k q : ℕ) → r ≡ who .thread → (o ≡ 16 + r → ⊥) → p ≡ who .place .number → k ≡ 2 → k ≤ p → q ≡ p → eqb o q ≡ ownIn who o
 own-place who o r p k q h e z y l a =
     other-thread who o r (eqb o q) h e (ap (eqb o) (a ∙ z) ∙ ap (λ (x : Bool). x && eqb o (who .place .number)) (sym (le-leb 2 (who .place .number) (omega arith))))
 
-pub ruleset own-laws = (own-thread, own-not, own-place)
+pub ruleset own-laws = (own-thread, own-unlinked, own-place)
 
 pub owner-private : (who : Who) (s r : ℕ) → s ≡ 1 → r ≡ who .thread → 16 + r ≡ newOwnerIn who s
 unfolding newOwnerIn
@@ -78,30 +69,30 @@ pub ruleset variable-laws = (variable-is, variable-none)
 
 pub ruleset shared-laws = (shared-is, shared-none)
 
--- ---- a new cell: made, no room (twice), foreign
+-- ---- a new cell: o is its owner, q the same as a word, b whether it is one's own. Behind the end of the words it is spent, as the 257th is
 module _ (who : Who) (s o n : ℕ) (v : Value) (ws : List ℕ) (b : Bool) (q : ℕ) (eo : o ≡ newOwnerIn who s) (eq : q ≡ o) (eb : b ≡ ownIn who q) where
-  may : {t : Bool} → b ≡ t → ownIn who (newOwnerIn who s) ≡ t
-  may e = sym (eb ∙ ap (ownIn who) (eq ∙ eo)) ∙ e
+  own-new : {t : Bool} → b ≡ t → ownIn who (newOwnerIn who s) ≡ t
+  own-new e = sym (eb ∙ ap (ownIn who) (eq ∙ eo)) ∙ e
 
   pub make-is : (w : ℕ) → b ≡ true → n < 256 → n < length ws → w ≡ cellOf o v → result (Is (Cell n)) (n + 1) (set ws n w) ≡ makeIn who s v n ws
   unfolding makeIn
-  make-is w t l k e = yes _ (may t) (yes _ (lt-ltb _ _ l) (yes _ (lt-ltb _ _ k) (ap (λ (y : ℕ). result (Is (Cell n)) (n + 1) (set ws n y)) (e ∙ ap (λ (y : ℕ). cellOf y v) eo))))
+  make-is w t l k e = yes _ (own-new t) (yes _ (lt-ltb _ _ l) (yes _ (lt-ltb _ _ k) (ap (λ (y : ℕ). result (Is (Cell n)) (n + 1) (set ws n y)) (e ∙ ap (λ (y : ℕ). cellOf y v) eo))))
 
   pub make-past : b ≡ true → n < 256 → length ws ≤ n → result Spent n ws ≡ makeIn who s v n ws
   unfolding makeIn
-  make-past t l k = yes _ (may t) (yes _ (lt-ltb _ _ l) (no _ (le-ltb _ _ k) refl))
+  make-past t l k = yes _ (own-new t) (yes _ (lt-ltb _ _ l) (no _ (le-ltb _ _ k) refl))
 
   pub make-spent : b ≡ true → 256 ≤ n → result Spent n ws ≡ makeIn who s v n ws
   unfolding makeIn
-  make-spent t l = yes _ (may t) (no _ (le-ltb _ _ l) refl)
+  make-spent t l = yes _ (own-new t) (no _ (le-ltb _ _ l) refl)
 
   pub make-foreign : b ≡ false → result Foreign n ws ≡ makeIn who s v n ws
   unfolding makeIn
-  make-foreign t = no _ (may t) refl
+  make-foreign t = no _ (own-new t) refl
 
 pub ruleset make-laws = (make-is, make-past, make-spent, make-foreign)
 
--- ---- an access to a cell whose word is w and whose owner is o
+-- ---- the first refusal of two that is met
 module _ (a b : Bool) (first second : Outcome) (v : Value) where
   pub refused-first : a ≡ true → first ≡ refusalOr a first b second v
   unfolding refusalOr
@@ -117,17 +108,18 @@ module _ (a b : Bool) (first second : Outcome) (v : Value) where
 
 pub ruleset refusal-laws = (refused-first, refused-second, refused-not)
 
-own-first : (v : Value) (b : Bool) → (if not b then Foreign else Is v) ≡ (if b then Is v else Foreign)
+-- ---- an access: the code tests what refuses it, the definition what lets it through
+not-own : (v : Value) (b : Bool) → (if not b then Foreign else Is v) ≡ (if b then Is v else Foreign)
 unfolding if_then_else_
-own-first v true = refl
-own-first v false = refl
+not-own v true = refl
+not-own v false = refl
 
 pub access-is : (who : Who) (c n w o : ℕ) (own : Bool) (v : Value) (r : Outcome) → o ≡ ownerIn w → own ≡ ownIn who o → r ≡ refusalOr (leb n c) Stuck (not own) Foreign v → r ≡ accessIn who c n w v
 unfolding refusalOr accessIn
 access-is who c n w o own v r e f h = h ∙ ap (λ (t : Bool). if leb n c then Stuck else if not t then Foreign else Is v) (f ∙ ap (ownIn who) e) ∙ by (ltb c n) refl (ownIn who (ownerIn w))
   where
     by : (t : Bool) → ltb c n ≡ t → (b : Bool) → (if leb n c then Stuck else if not b then Foreign else Is v) ≡ (if ltb c n then (if b then Is v else Foreign) else Stuck)
-    by true q b = if-no _ _ (lt-leb n c (ltb-true c n q)) ∙ own-first v b ∙ sym (if-yes _ _ q)
+    by true q b = if-no _ _ (lt-leb n c (ltb-true c n q)) ∙ not-own v b ∙ sym (if-yes _ _ q)
     by false q b = if-yes _ _ (le-leb n c (ltb-false c n q)) ∙ sym (if-no _ _ q)
 
 -- ---- a cell read: i is its index, w its word
@@ -145,13 +137,16 @@ pub read-truth : (who : Who) (v : Value) (t : Bool) (n : ℕ) (ws : List ℕ) �
 unfolding readIn
 read-truth who v t n ws e = ap (λ (x : Value). readIn who x n ws) (sym e)
 
+pub reading-is : (who : Who) (v : Value) (n : ℕ) (ws : List ℕ) (o : Outcome) → o ≡ readIn who v n ws → result o n ws ≡ reading who v n ws
+reading-is who v n ws o e = ap (λ (p : Outcome). result p n ws) e
+
 pub ruleset read-laws = (read-is, read-number, read-truth)
 
--- ---- a cell stored in: x is its word behind the store
-pub after-row : (o p : Outcome) (w r : ℕ) (u : Value) → o ≡ p → r ≡ wordAfter p w u → r ≡ wordAfter o w u
-after-row o p w r u e h = h ∙ sym (ap (λ (q : Outcome). wordAfter q w u) e)
+-- ---- a cell stored in: i is its index, w its word, x its word behind the store
+pub word-after-row : (o p : Outcome) (w r : ℕ) (u : Value) → o ≡ p → r ≡ wordAfter p w u → r ≡ wordAfter o w u
+word-after-row o p w r u e h = h ∙ sym (ap (λ (q : Outcome). wordAfter q w u) e)
 
--- a refused store puts the word that is there
+-- the code always writes: a refused store puts the word that is there
 store-at : (who : Who) (u : Value) (c n : ℕ) (ws : List ℕ) → let o = accessIn who c n (getD ws c 0) u in result o n (set ws c (wordAfter o (getD ws c 0) u)) ≡ storeIn who (Cell c) u n ws
 unfolding accessIn storeIn
 store-at who u c n ws =
@@ -205,58 +200,12 @@ operate-row op q v w r e h = h ∙ sym (ap (λ (x : Operator). numbersOf (operat
 pub operands-is : (op : Operator) (o : Outcome) (v w : Value) (r : Outcome) → o ≡ Is v → r ≡ numbersOf (operation op) v w → r ≡ operands op o w
 operands-is op o v w r e h = h ∙ sym (ap (λ (x : Outcome). operands op x w) e)
 
-pub operands-keep : (op : Operator) (o : Outcome) (w : Value) (p : Outcome) → o ≡ p → Refused p → o ≡ operands op o w
-operands-keep op o w p e h = e ∙ at p h ∙ sym (ap (λ (x : Outcome). operands op x w) e)
-  where
-    at : (p : Outcome) → Refused p → p ≡ operands op p w
-    at (Is v) h = absurd h
-    at Foreign h = refl
-    at Spent h = refl
-    at Stuck h = refl
+-- ---- which of two frames a truth chooses
+pub chosen-first : (v : Value) (t : Bool) (b c : ℕ) → v ≡ Truth t → t ≡ true → b ≡ chosen v b c
+chosen-first v t b c e h = yes _ h refl ∙ ap (λ (x : Value). chosen x b c) (sym e)
 
-pub chosen-is : (o : Outcome) (v : Value) (b c r : ℕ) → o ≡ Is v → r ≡ chosen v b c → r ≡ chosenBy o b c
-chosen-is o v b c r e h = h ∙ sym (ap (λ (x : Outcome). chosenBy x b c) e)
+pub chosen-second : (v : Value) (t : Bool) (b c : ℕ) → v ≡ Truth t → t ≡ false → c ≡ chosen v b c
+chosen-second v t b c e h = no _ h refl ∙ ap (λ (x : Value). chosen x b c) (sym e)
 
-pub choose-first : (v : Value) (t : Bool) (b c : ℕ) → v ≡ Truth t → t ≡ true → b ≡ chosen v b c
-choose-first v t b c e h = yes _ h refl ∙ ap (λ (x : Value). chosen x b c) (sym e)
-
-pub choose-second : (v : Value) (t : Bool) (b c : ℕ) → v ≡ Truth t → t ≡ false → c ≡ chosen v b c
-choose-second v t b c e h = no _ h refl ∙ ap (λ (x : Value). chosen x b c) (sym e)
-
--- ---- one after the other: an outcome that goes on, and one that is kept
-pub then-is : (x : Result) (v : Value) (k : Value → ℕ → List ℕ → Result) (r : Result) → x .outcome ≡ Is v → r ≡ k v (x .used) (x .words) → r ≡ andThen x k
-then-is x v k r e h = h ∙ sym (ap (λ (o : Outcome). thenBy o (x .used) (x .words) k) e)
-
-keeps-at : (o : Outcome) (n : ℕ) (ws : List ℕ) (k : Value → ℕ → List ℕ → Result) → Refused o → result o n ws ≡ thenBy o n ws k
-keeps-at (Is v) n ws k h = absurd h
-keeps-at Foreign n ws k h = refl
-keeps-at Spent n ws k h = refl
-keeps-at Stuck n ws k h = refl
-
-pub keeps : (x : Result) (k : Value → ℕ → List ℕ → Result) (o : Outcome) → x .outcome ≡ o → Refused o → x ≡ andThen x k
-keeps x k o e n = keeps-at (x .outcome) (x .used) (x .words) k (subst Refused (sym e) n)
-
-pub only-is : (x : Answered) (v : Value) (k : Value → Outcome) (r : Outcome) → x .outcome ≡ Is v → r ≡ k v → record { outcome = r; used = x .used } ≡ only x k
-only-is x v k r e h = ap (λ (o : Outcome). record { outcome = o; used = x .used }) (h ∙ sym (ap (λ (o : Outcome). onlyBy o k) e))
-
-only-keeps-at : (o : Outcome) (k : Value → Outcome) → Refused o → o ≡ onlyBy o k
-only-keeps-at (Is v) k h = absurd h
-only-keeps-at Foreign k h = refl
-only-keeps-at Spent k h = refl
-only-keeps-at Stuck k h = refl
-
-pub only-keeps : (x : Answered) (k : Value → Outcome) (o : Outcome) → x .outcome ≡ o → Refused o → x ≡ only x k
-only-keeps x k o e n = ap (λ (p : Outcome). record { outcome = p; used = x .used }) (only-keeps-at (x .outcome) k (subst Refused (sym e) n))
-
--- an outcome that changes no cell, beside any cells
-keeping-at : (o : Outcome) (k : Value → Outcome) (n : ℕ) (ws : List ℕ) → result (onlyBy o k) n ws ≡ thenBy o n ws (keeping k)
-keeping-at (Is v) k n ws = refl
-keeping-at Foreign k n ws = refl
-keeping-at Spent k n ws = refl
-keeping-at Stuck k n ws = refl
-
-pub keeping-is : (x r : Answered) (k : Value → Outcome) (ws : List ℕ) → r ≡ only x k → after r ws ≡ andThen (after x ws) (keeping k)
-keeping-is x r k ws e = ap (λ (d : Answered). after d ws) e ∙ keeping-at (x .outcome) k (x .used) ws
-
-pub reading-is : (who : Who) (v : Value) (n : ℕ) (ws : List ℕ) (o : Outcome) → o ≡ readIn who v n ws → result o n ws ≡ reading who v n ws
-reading-is who v n ws o e = ap (λ (p : Outcome). result p n ws) e
+pub chosen-by-is : (o : Outcome) (v : Value) (b c r : ℕ) → o ≡ Is v → r ≡ chosen v b c → r ≡ chosenBy o b c
+chosen-by-is o v b c r e h = h ∙ sym (ap (λ (x : Outcome). chosenBy x b c) e)

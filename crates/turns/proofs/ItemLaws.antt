@@ -1,4 +1,4 @@
--- Laws of the whole turn: its top item. Assumes nothing.
+-- The whole turn: what the word on top of the continuation says, and the end of a thread without an item. Assumes nothing.
 use mathlib.Core.Path.{_≡_, refl, sym, ap, ap₂, subst, _∙_}
 use mathlib.Core.List.{List}
 use Prim.Native.Nat.{ℕ, _-_, _<_, _≤_}
@@ -16,9 +16,9 @@ use Rattle.acts.specs.declared.act.Acted.{Acted}
 use Rattle.acts.specs.Fates.{actedWith, popped, turned, Room}
 use Rattle.turns.specs.declared.view.View.{View}
 use Rattle.turns.specs.Acts.{actedOn, variablesIn, goesIn, dropsIn, statementIn, itemIn, turnIn, Views, Turns, TurnsOn, WholeTurn, TurnWords}
-use Rattle.turns.proofs.ViewLaws.{act-on, on-as}
+use Rattle.turns.proofs.ViewLaws.{act-on, act-on-as}
 
--- what is seen of a thread without its top item
+-- ---- a thread without its top item: what is seen of it, and what a caller has to show
 abbrev below : View → View
 below v = record { place = v .place; items = v .items - 1; values = v .values }
 
@@ -43,10 +43,11 @@ same-variables : (th : ThreadWords) (vs : List ℕ) → variablesIn th ≡ vs �
 unfolding popItem
 same-variables th vs e = e
 
+-- ---- by the item: a statement, a way back to a place, a drop; and the turn
 module _ (fs : List Frame) (who : Who) (v : View) (item : ℕ) (vs : List ℕ) (n : ℕ) (ws : List ℕ) (r : Acted) where
   pub item-statement : (us : List ℕ) → item < 1024 → TurnsOn r us v vs (λ th. statementIn who th n ws (statementAt fs item)) → TurnsOn r us v vs (λ th. itemIn fs who th n ws item)
   unfolding itemIn
-  item-statement us h z = on-as z (λ th. yes _ (lt-ltb item 1024 h) refl)
+  item-statement us h z = act-on-as z (λ th. yes _ (lt-ltb item 1024 h) refl)
 
   pub item-back : 1024 ≤ item → item < 2048 → Turns r v (λ th. goesIn (th .place) th n (item - 1024)) → TurnsOn r ws v vs (λ th. itemIn fs who th n ws item)
   unfolding itemIn

@@ -1,4 +1,4 @@
--- Laws of turns behind an evaluation: one for each outcome, and one for each value that decides. Assumes nothing.
+-- Turns behind an evaluation: a law for each outcome, and for 18 and 19 one for each value of the condition. Assumes nothing.
 use mathlib.Core.Path.{_≡_, refl, sym, ap, _∙_}
 use mathlib.Core.Bool.{Bool, true, false}
 use Prim.Native.Nat.{ℕ}
@@ -15,6 +15,7 @@ use Rattle.turns.specs.declared.start.Request.{Request}
 use Rattle.turns.specs.Acts.{letsIn, thenActs, byTruthIn, startsWith, startWith, Turns}
 use Rattle.turns.proofs.ViewLaws.{act-of, refused-so}
 
+-- ---- by the outcome: a value goes on, a refusal is the turn's
 module _ (o : Outcome) (v : View) (n : ℕ) (k : ThreadWords → Value → Turned) (r : Acted) where
   pub then-is : (w : Value) → o ≡ Is w → Turns r v (λ th. k th w) → Turns r v (λ th. thenActs o th n (k th))
   then-is w e h = record { thread = λ th g. h .thread th g ∙ ap (λ (x : Outcome). thenActs x th n (k th)) (sym e); room = h .room }
@@ -34,16 +35,16 @@ module _ (o : Outcome) (w : Value) (m : ℕ) (v : View) (n : ℕ) (r : Acted) (e
   by-word k q =
       then-is o v n (λ th u. k th (valueWord u)) r w e (record { thread = λ th g. q .thread th g ∙ ap (k th) h; room = q .room })
 
-  pub lets-is : (body : ℕ) → Turns r v (λ th. letsIn th n m body) → Turns r v (λ th. thenActs o th n (λ u. letsIn th n (valueWord u) body))
-  lets-is body q = by-word (λ th x. letsIn th n x body) q
+  pub then-lets : (body : ℕ) → Turns r v (λ th. letsIn th n m body) → Turns r v (λ th. thenActs o th n (λ u. letsIn th n (valueWord u) body))
+  then-lets body q = by-word (λ th x. letsIn th n x body) q
 
-  pub one-is : (s : Request) → r ≡ startWith s n 1 m 0 → Turns r v (λ th. thenActs o th n (λ u. startsWith s th n 1 (valueWord u) 0))
-  one-is s q = by-word (λ th x. startsWith s th n 1 x 0) (act-of (startWith s n 1 m 0) q (λ th g. refl) tt)
+  pub then-starts-one : (s : Request) → r ≡ startWith s n 1 m 0 → Turns r v (λ th. thenActs o th n (λ u. startsWith s th n 1 (valueWord u) 0))
+  then-starts-one s q = by-word (λ th x. startsWith s th n 1 x 0) (act-of (startWith s n 1 m 0) q (λ th g. refl) tt)
 
-  pub two-is : (s : Request) (first : ℕ) → r ≡ startWith s n 2 first m → Turns r v (λ th. thenActs o th n (λ u. startsWith s th n 2 first (valueWord u)))
-  two-is s first q = by-word (λ th x. startsWith s th n 2 first x) (act-of (startWith s n 2 first m) q (λ th g. refl) tt)
+  pub then-starts-two : (s : Request) (first : ℕ) → r ≡ startWith s n 2 first m → Turns r v (λ th. thenActs o th n (λ u. startsWith s th n 2 first (valueWord u)))
+  then-starts-two s first q = by-word (λ th x. startsWith s th n 2 first x) (act-of (startWith s n 2 first m) q (λ th g. refl) tt)
 
--- ---- a truth
+-- ---- by the condition: a truth chooses, any other value is 20
 module _ (w : Value) (v : View) (n : ℕ) (a b : ThreadWords → Turned) (r : Acted) where
   truth-at : (u : Value) → w ≡ u → Turns r v (λ th. byTruthIn u th n (a th) (b th)) → Turns r v (λ th. byTruthIn w th n (a th) (b th))
   truth-at u e h = record { thread = λ th g. h .thread th g ∙ ap (λ (x : Value). byTruthIn x th n (a th) (b th)) (sym e); room = h .room }

@@ -1,12 +1,12 @@
--- `value_at`, `next_at` and `truth_at` meet their contracts: one proof for the cycle. Assumes nothing.
-use Prim.Native.Nat.{_*_, _+_}
+-- `value_at`, `next_at` and `truth_at` meet their contracts: one proof for the cycle. In a need, `at` is the function's entry, and `node` is where the frame's node has been read. Assumes nothing.
 use mathlib.Core.Path.{sym, _∙_}
 use borrow.Author.Needs.{needs}
 use denote.Ref.{now}
 use Rattle.evaluator.specs.Results.{after}
-use Rattle.evaluator.proofs.Operations.{then-is, keeps}
-use Rattle.evaluator.proofs.Cases.{fell, fell-branch, value-falls, next-falls, same-falls, case-literal, case-flag, case-variable, case-shared, case-new, case-content, case-numbers, case-choose, case-truth}
-use Prim.Native.Nat.{ℕ, _<_}
+use Rattle.evaluator.proofs.Chains.{then-is, then-keeps}
+use Rattle.evaluator.proofs.Nodes.{operands-below, branch-below}
+use Rattle.evaluator.proofs.Cases.{value-falls, next-falls, same-falls, case-literal, case-flag, case-variable, case-shared, case-new, case-content, case-numbers, case-choose, case-truth}
+use Prim.Native.Nat.{ℕ, _*_, _+_, _<_}
 use borrow.Fn.Kinds.{In}
 use borrow.Fn.PlainCycle.{Measures, is, falls, and}
 use Rattle.evaluator.proofs.evaluation.next_at.Reads as next-at
@@ -32,6 +32,7 @@ use Rattle.evaluator.proofs.operation.then_truth.Reads as then-truth-re
 use Rattle.evaluator.proofs.evaluation.+next_at+truth_at+value_at.{statement}
 use Rattle.evaluator.proofs.evaluation.+next_at+truth_at+value_at.Tie.{close}
 
+-- the measures: the sixth argument is the frame i (why 2 i and 2 i + 1: Cases)
 abbrev μ-next-at : Measures 3 next-at-kinds.ps ℕ
 μ-next-at κs a = 2 * a .1 .1 .1 .1 .1 .0 + 1
 
@@ -61,65 +62,40 @@ abbrev value-at-below : ℕ → In 3 value-at-kinds.ps
 value-at-below t =
     and 3 value-at-kinds.ps (falls 3 value-at-kinds.ps _<_ μ-value-at t) value-at.Pre
 
--- src/evaluation.rt:81:21
-next-at-enum-known-o :
-    (t : ℕ) →
-    next-at-lts.Need-enum-known-o (value-at-below t, value-at.Post) (next-at-at t) next-at.Post
-next-at-enum-known-o t c = search needs
-
 abbrev next-at-calls : ℕ → next-at-lts.Claims
 next-at-calls t = (value-at-below t, value-at.Post)
 
-next-at-value-at-requires : (t : ℕ) → next-at-lts.Need-value-at-requires (next-at-calls t) (next-at-at t) next-at.Post
-next-at-value-at-requires t c = λ κs. same-falls (now (c .before .before .before .before .before .before .before .args .frames)) _ _ (c .before .before .before .before .before .before .before .pre)
+next-at-enum-known-o : (t : ℕ) → next-at-lts.Need-enum-known-o (next-at-calls t) (next-at-at t) next-at.Post
+next-at-enum-known-o t c = search needs
 
--- src/evaluation.rt:82:29
-next-at-enum-told :
-    (t : ℕ) →
-    next-at-lts.Need-enum-told (value-at-below t, value-at.Post) (next-at-at t) next-at.Post
+next-at-value-at-requires : (t : ℕ) → next-at-lts.Need-value-at-requires (next-at-calls t) (next-at-at t) next-at.Post
+next-at-value-at-requires t c = λ κs.
+    let at = c .before .before .before .before .before .before .before in
+    same-falls (now (at .args .frames)) _ _ (at .pre)
+
+next-at-enum-told : (t : ℕ) → next-at-lts.Need-enum-told (next-at-calls t) (next-at-at t) next-at.Post
 next-at-enum-told t c = search needs
 
--- src/evaluation.rt:83:27
-next-at-enum-told-2 :
-    (t : ℕ) →
-    next-at-lts.Need-enum-told-2 (value-at-below t, value-at.Post) (next-at-at t) next-at.Post
+next-at-enum-told-2 : (t : ℕ) → next-at-lts.Need-enum-told-2 (next-at-calls t) (next-at-at t) next-at.Post
 next-at-enum-told-2 t c = search needs
 
--- src/evaluation.rt:84:27
-next-at-enum-told-3 :
-    (t : ℕ) →
-    next-at-lts.Need-enum-told-3 (value-at-below t, value-at.Post) (next-at-at t) next-at.Post
+next-at-enum-told-3 : (t : ℕ) → next-at-lts.Need-enum-told-3 (next-at-calls t) (next-at-at t) next-at.Post
 next-at-enum-told-3 t c = search needs
 
--- src/evaluation.rt:68:1
-next-at-same-length :
-    (t : ℕ) →
-    next-at-lts.Need-same-length (value-at-below t, value-at.Post) (next-at-at t) next-at.Post
+next-at-same-length : (t : ℕ) → next-at-lts.Need-same-length (next-at-calls t) (next-at-at t) next-at.Post
 next-at-same-length t c = search needs
 
--- src/evaluation.rt:68:1
-next-at-returns :
-    (t : ℕ) →
-    next-at-lts.Need-returns (value-at-below t, value-at.Post) (next-at-at t) next-at.Post
+next-at-returns : (t : ℕ) → next-at-lts.Need-returns (next-at-calls t) (next-at-at t) next-at.Post
 next-at-returns t c = then-is (after _ _) _ _ _ (c .before .before .before .before .before .o .given .1) (c .before .before .value-at .ensures)
 
--- src/evaluation.rt:68:1
-next-at-returns-2 :
-    (t : ℕ) →
-    next-at-lts.Need-returns-2 (value-at-below t, value-at.Post) (next-at-at t) next-at.Post
-next-at-returns-2 t c = keeps (after _ _) _ _ (c .enum-told .given .1) tt
+next-at-returns-2 : (t : ℕ) → next-at-lts.Need-returns-2 (next-at-calls t) (next-at-at t) next-at.Post
+next-at-returns-2 t c = then-keeps (after _ _) _ _ (c .enum-told .given .1) tt
 
--- src/evaluation.rt:68:1
-next-at-returns-3 :
-    (t : ℕ) →
-    next-at-lts.Need-returns-3 (value-at-below t, value-at.Post) (next-at-at t) next-at.Post
-next-at-returns-3 t c = keeps (after _ _) _ _ (c .enum-told2 .given .1) tt
+next-at-returns-3 : (t : ℕ) → next-at-lts.Need-returns-3 (next-at-calls t) (next-at-at t) next-at.Post
+next-at-returns-3 t c = then-keeps (after _ _) _ _ (c .enum-told2 .given .1) tt
 
--- src/evaluation.rt:68:1
-next-at-returns-4 :
-    (t : ℕ) →
-    next-at-lts.Need-returns-4 (value-at-below t, value-at.Post) (next-at-at t) next-at.Post
-next-at-returns-4 t c = keeps (after _ _) _ _ (c .enum-told3 .given .1) tt
+next-at-returns-4 : (t : ℕ) → next-at-lts.Need-returns-4 (next-at-calls t) (next-at-at t) next-at.Post
+next-at-returns-4 t c = then-keeps (after _ _) _ _ (c .enum-told3 .given .1) tt
 
 abbrev truth-at-calls : ℕ → truth-at-lts.Claims
 truth-at-calls t = (value-at-below t, value-at.Post, then-truth-reads.Asked, then-truth-reads.Learnt)
@@ -134,7 +110,9 @@ truth-at-same-length : (t : ℕ) → truth-at-lts.Need-same-length (truth-at-cal
 truth-at-same-length t c = search needs
 
 truth-at-returns : (t : ℕ) → truth-at-lts.Need-returns (truth-at-calls t) (truth-at-at t) truth-at.Post
-truth-at-returns t c = case-truth (now (c .before .before .before .before .before .before .before .before .args .frames)) (now (c .before .before .before .before .before .before .before .before .args .variables)) _ _ _ _ _ (c .before .before .before .value-at .result) _ (c .before .before .before .value-at .ensures) (c .then-truth .ensures)
+truth-at-returns t c =
+    let at = c .before .before .before .before .before .before .before .before in
+    case-truth (now (at .args .frames)) (now (at .args .variables)) _ _ _ _ _ (c .before .before .before .value-at .result) _ (c .before .before .before .value-at .ensures) (c .then-truth .ensures)
 
 abbrev value-at-calls : ℕ → value-at-lts.Claims
 value-at-calls t = (node-at-reads.Asked, node-at-reads.Learnt, wide16-reads.Asked, wide16-reads.Learnt, answer-of-reads.Asked, answer-of-reads.Learnt, read-variable-reads.Asked, read-variable-reads.Learnt, shared-cell-reads.Asked, shared-cell-reads.Learnt, value-at-below t, value-at.Post, then-make-reads.Asked, then-make-reads.Learnt, then-read-reads.Asked, then-read-reads.Learnt, next-at-below t, next-at.Post, then-operate-reads.Asked, then-operate-reads.Learnt, truth-at-below t, truth-at.Post, branch-reads.Asked, branch-reads.Learnt, then-number-reads.Asked, then-number-reads.Learnt)
@@ -179,7 +157,10 @@ value-at-enum-known-s-4 : (t : ℕ) → value-at-lts.Need-enum-known-s-4 (value-
 value-at-enum-known-s-4 t c = search needs
 
 value-at-value-at-requires : (t : ℕ) → value-at-lts.Need-value-at-requires (value-at-calls t) (value-at-at t) value-at.Post
-value-at-value-at-requires t c = λ κs. value-falls (now (c .before .before .before .before .before .before .before .before .args .frames)) _ _ _ (c .before .before .before .before .before .before .before .before .pre) (fell (now (c .before .before .before .before .before .before .before .before .args .frames)) _ _ (c .before .before .before .before .before .before .before .before .pre .1) (sym (c .before .before .s4 .given .1) ∙ c .before .before .before .before .node-at .ensures))
+value-at-value-at-requires t c = λ κs.
+    let node = c .before .before .before .before in
+    let at = node .before .before .before .before in
+    value-falls (now (at .args .frames)) _ _ _ (at .pre) (operands-below (now (at .args .frames)) _ _ (at .pre .1) (sym (c .before .before .s4 .given .1) ∙ node .node-at .ensures))
 
 value-at-then-make-requires : (t : ℕ) → value-at-lts.Need-then-make-requires (value-at-calls t) (value-at-at t) value-at.Post
 value-at-then-make-requires t c = λ κs. search needs
@@ -188,7 +169,10 @@ value-at-enum-known-a : (t : ℕ) → value-at-lts.Need-enum-known-a (value-at-c
 value-at-enum-known-a t c = search needs
 
 value-at-value-at-requires-2 : (t : ℕ) → value-at-lts.Need-value-at-requires-2 (value-at-calls t) (value-at-at t) value-at.Post
-value-at-value-at-requires-2 t c = λ κs. value-falls (now (c .before .before .before .before .before .before .before .before .args .frames)) _ _ _ (c .before .before .before .before .before .before .before .before .pre) (fell (now (c .before .before .before .before .before .before .before .before .args .frames)) _ _ (c .before .before .before .before .before .before .before .before .pre .1) (sym (c .before .before .a .given .1) ∙ c .before .before .before .before .node-at .ensures))
+value-at-value-at-requires-2 t c = λ κs.
+    let node = c .before .before .before .before in
+    let at = node .before .before .before .before in
+    value-falls (now (at .args .frames)) _ _ _ (at .pre) (operands-below (now (at .args .frames)) _ _ (at .pre .1) (sym (c .before .before .a .given .1) ∙ node .node-at .ensures))
 
 value-at-then-read-requires : (t : ℕ) → value-at-lts.Need-then-read-requires (value-at-calls t) (value-at-at t) value-at.Post
 value-at-then-read-requires t c = λ κs. search needs
@@ -197,10 +181,16 @@ value-at-enum-known-op : (t : ℕ) → value-at-lts.Need-enum-known-op (value-at
 value-at-enum-known-op t c = search needs
 
 value-at-value-at-requires-3 : (t : ℕ) → value-at-lts.Need-value-at-requires-3 (value-at-calls t) (value-at-at t) value-at.Post
-value-at-value-at-requires-3 t c = λ κs. value-falls (now (c .before .before .before .before .before .before .before .before .args .frames)) _ _ _ (c .before .before .before .before .before .before .before .before .pre) ((fell (now (c .before .before .before .before .before .before .before .before .args .frames)) _ _ (c .before .before .before .before .before .before .before .before .pre .1) (sym (c .before .before .op .given .1) ∙ c .before .before .before .before .node-at .ensures)) .0)
+value-at-value-at-requires-3 t c = λ κs.
+    let node = c .before .before .before .before in
+    let at = node .before .before .before .before in
+    value-falls (now (at .args .frames)) _ _ _ (at .pre) ((operands-below (now (at .args .frames)) _ _ (at .pre .1) (sym (c .before .before .op .given .1) ∙ node .node-at .ensures)) .0)
 
 value-at-next-at-requires : (t : ℕ) → value-at-lts.Need-next-at-requires (value-at-calls t) (value-at-at t) value-at.Post
-value-at-next-at-requires t c = λ κs. next-falls (now (c .before .before .before .before .before .before .before .before .before .before .before .before .args .frames)) _ _ _ (c .before .before .before .before .before .before .before .before .before .before .before .before .pre) ((fell (now (c .before .before .before .before .before .before .before .before .before .before .before .before .args .frames)) _ _ (c .before .before .before .before .before .before .before .before .before .before .before .before .pre .1) (sym (c .before .before .before .before .before .before .op .given .1) ∙ c .before .before .before .before .before .before .before .before .node-at .ensures)) .1)
+value-at-next-at-requires t c = λ κs.
+    let node = c .before .before .before .before .before .before .before .before in
+    let at = node .before .before .before .before in
+    next-falls (now (at .args .frames)) _ _ _ (at .pre) ((operands-below (now (at .args .frames)) _ _ (at .pre .1) (sym (c .before .before .before .before .before .before .op .given .1) ∙ node .node-at .ensures)) .1)
 
 value-at-then-operate-requires : (t : ℕ) → value-at-lts.Need-then-operate-requires (value-at-calls t) (value-at-at t) value-at.Post
 value-at-then-operate-requires t c = λ κs. search needs
@@ -209,52 +199,82 @@ value-at-enum-known-a-2 : (t : ℕ) → value-at-lts.Need-enum-known-a-2 (value-
 value-at-enum-known-a-2 t c = search needs
 
 value-at-truth-at-requires : (t : ℕ) → value-at-lts.Need-truth-at-requires (value-at-calls t) (value-at-at t) value-at.Post
-value-at-truth-at-requires t c = λ κs. next-falls (now (c .before .before .before .before .before .before .before .before .args .frames)) _ _ _ (c .before .before .before .before .before .before .before .before .pre) ((fell (now (c .before .before .before .before .before .before .before .before .args .frames)) _ _ (c .before .before .before .before .before .before .before .before .pre .1) (sym (c .before .before .a2 .given .1) ∙ c .before .before .before .before .node-at .ensures)) .0)
+value-at-truth-at-requires t c = λ κs.
+    let node = c .before .before .before .before in
+    let at = node .before .before .before .before in
+    next-falls (now (at .args .frames)) _ _ _ (at .pre) ((operands-below (now (at .args .frames)) _ _ (at .pre .1) (sym (c .before .before .a2 .given .1) ∙ node .node-at .ensures)) .0)
 
 value-at-branch-requires : (t : ℕ) → value-at-lts.Need-branch-requires (value-at-calls t) (value-at-at t) value-at.Post
 value-at-branch-requires t c = λ κs. search needs
 
 value-at-next-at-requires-2 : (t : ℕ) → value-at-lts.Need-next-at-requires-2 (value-at-calls t) (value-at-at t) value-at.Post
-value-at-next-at-requires-2 t c = λ κs. next-falls (now (c .before .before .before .before .before .before .before .before .before .before .before .before .before .args .frames)) _ _ _ (c .before .before .before .before .before .before .before .before .before .before .before .before .before .pre) (fell-branch (now (c .before .before .before .before .before .before .before .before .before .before .before .before .before .args .frames)) _ _ _ _ _ (c .before .before .before .before .truth-at .result) (c .before .before .before .before .before .before .before .before .before .before .before .before .before .pre .1) (sym (c .before .before .before .before .before .before .before .a2 .given .1) ∙ c .before .before .before .before .before .before .before .before .before .node-at .ensures) (c .branch .ensures))
+value-at-next-at-requires-2 t c = λ κs.
+    let node = c .before .before .before .before .before .before .before .before .before in
+    let at = node .before .before .before .before in
+    next-falls (now (at .args .frames)) _ _ _ (at .pre) (branch-below (now (at .args .frames)) _ _ _ _ _ (c .before .before .before .before .truth-at .result .outcome) (at .pre .1) (sym (c .before .before .before .before .before .before .before .a2 .given .1) ∙ node .node-at .ensures) (c .branch .ensures))
 
 value-at-then-number-requires : (t : ℕ) → value-at-lts.Need-then-number-requires (value-at-calls t) (value-at-at t) value-at.Post
 value-at-then-number-requires t c = λ κs. search needs
 
 value-at-returns : (t : ℕ) → value-at-lts.Need-returns (value-at-calls t) (value-at-at t) value-at.Post
-value-at-returns t c = case-literal (now (c .before .before .before .before .before .before .before .before .before .args .frames)) (now (c .before .before .before .before .before .before .before .before .before .args .variables)) _ _ _ _ (c .before .before .before .before .before .before .before .before .before .pre .1) _ _ _ (sym (c .before .before .before .n .given .1) ∙ c .before .before .before .before .before .node-at .ensures) (c .before .wide16 .ensures) (c .answer-of .ensures)
+value-at-returns t c =
+    let node = c .before .before .before .before .before in
+    let at = node .before .before .before .before in
+    case-literal (now (at .args .frames)) (now (at .args .variables)) _ _ _ _ (at .pre .1) _ _ _ (sym (c .before .before .before .n .given .1) ∙ node .node-at .ensures) (c .before .wide16 .ensures) (c .answer-of .ensures)
 
 value-at-returns-2 : (t : ℕ) → value-at-lts.Need-returns-2 (value-at-calls t) (value-at-at t) value-at.Post
-value-at-returns-2 t c = case-flag (now (c .before .before .before .before .before .before .before .before .args .frames)) (now (c .before .before .before .before .before .before .before .before .args .variables)) _ _ _ _ (c .before .before .before .before .before .before .before .before .pre .1) _ _ (sym (c .before .before .s .given .1) ∙ c .before .before .before .before .node-at .ensures) (c .answer-of2 .ensures)
+value-at-returns-2 t c =
+    let node = c .before .before .before .before in
+    let at = node .before .before .before .before in
+    case-flag (now (at .args .frames)) (now (at .args .variables)) _ _ _ _ (at .pre .1) _ _ (sym (c .before .before .s .given .1) ∙ node .node-at .ensures) (c .answer-of2 .ensures)
 
 value-at-returns-3 : (t : ℕ) → value-at-lts.Need-returns-3 (value-at-calls t) (value-at-at t) value-at.Post
-value-at-returns-3 t c = case-variable (now (c .before .before .before .before .before .before .before .before .before .args .frames)) (now (c .before .before .before .before .before .before .before .before .before .args .variables)) _ _ _ _ (c .before .before .before .before .before .before .before .before .before .pre .1) _ _ _ (sym (c .before .before .before .s2 .given .1) ∙ c .before .before .before .before .before .node-at .ensures) (c .before .read-variable .ensures) (c .answer-of3 .ensures)
+value-at-returns-3 t c =
+    let node = c .before .before .before .before .before in
+    let at = node .before .before .before .before in
+    case-variable (now (at .args .frames)) (now (at .args .variables)) _ _ _ _ (at .pre .1) _ _ _ (sym (c .before .before .before .s2 .given .1) ∙ node .node-at .ensures) (c .before .read-variable .ensures) (c .answer-of3 .ensures)
 
 value-at-returns-4 : (t : ℕ) → value-at-lts.Need-returns-4 (value-at-calls t) (value-at-at t) value-at.Post
-value-at-returns-4 t c = case-shared (now (c .before .before .before .before .before .before .before .before .before .args .frames)) (now (c .before .before .before .before .before .before .before .before .before .args .variables)) _ _ _ _ (c .before .before .before .before .before .before .before .before .before .pre .1) _ _ _ (sym (c .before .before .before .s3 .given .1) ∙ c .before .before .before .before .before .node-at .ensures) (c .before .shared-cell .ensures) (c .answer-of4 .ensures)
+value-at-returns-4 t c =
+    let node = c .before .before .before .before .before in
+    let at = node .before .before .before .before in
+    case-shared (now (at .args .frames)) (now (at .args .variables)) _ _ _ _ (at .pre .1) _ _ _ (sym (c .before .before .before .s3 .given .1) ∙ node .node-at .ensures) (c .before .shared-cell .ensures) (c .answer-of4 .ensures)
 
 value-at-same-length : (t : ℕ) → value-at-lts.Need-same-length (value-at-calls t) (value-at-at t) value-at.Post
 value-at-same-length t c = search needs
 
 value-at-returns-5 : (t : ℕ) → value-at-lts.Need-returns-5 (value-at-calls t) (value-at-at t) value-at.Post
-value-at-returns-5 t c = case-new (now (c .before .before .before .before .before .before .before .before .before .before .before .before .before .before .before .args .frames)) (now (c .before .before .before .before .before .before .before .before .before .before .before .before .before .before .before .args .variables)) _ _ _ _ (c .before .before .before .before .before .before .before .before .before .before .before .before .before .before .before .pre .1) _ _ _ _ (sym (c .before .before .before .before .before .before .before .before .before .s4 .given .1) ∙ c .before .before .before .before .before .before .before .before .before .before .before .node-at .ensures) (c .before .before .before .before .before .before .value-at .ensures) (c .before .before .then-make .ensures)
+value-at-returns-5 t c =
+    let node = c .before .before .before .before .before .before .before .before .before .before .before in
+    let at = node .before .before .before .before in
+    case-new (now (at .args .frames)) (now (at .args .variables)) _ _ _ _ (at .pre .1) _ _ _ _ (sym (c .before .before .before .before .before .before .before .before .before .s4 .given .1) ∙ node .node-at .ensures) (c .before .before .before .before .before .before .value-at .ensures) (c .before .before .then-make .ensures)
 
 value-at-same-length-2 : (t : ℕ) → value-at-lts.Need-same-length-2 (value-at-calls t) (value-at-at t) value-at.Post
 value-at-same-length-2 t c = search needs
 
 value-at-returns-6 : (t : ℕ) → value-at-lts.Need-returns-6 (value-at-calls t) (value-at-at t) value-at.Post
-value-at-returns-6 t c = case-content (now (c .before .before .before .before .before .before .before .before .before .before .before .before .before .args .frames)) (now (c .before .before .before .before .before .before .before .before .before .before .before .before .before .args .variables)) _ _ _ _ (c .before .before .before .before .before .before .before .before .before .before .before .before .before .pre .1) _ _ _ (sym (c .before .before .before .before .before .before .before .a .given .1) ∙ c .before .before .before .before .before .before .before .before .before .node-at .ensures) (c .before .before .before .before .value-at2 .ensures) (c .then-read .ensures)
+value-at-returns-6 t c =
+    let node = c .before .before .before .before .before .before .before .before .before in
+    let at = node .before .before .before .before in
+    case-content (now (at .args .frames)) (now (at .args .variables)) _ _ _ _ (at .pre .1) _ _ _ (sym (c .before .before .before .before .before .before .before .a .given .1) ∙ node .node-at .ensures) (c .before .before .before .before .value-at2 .ensures) (c .then-read .ensures)
 
 value-at-same-length-3 : (t : ℕ) → value-at-lts.Need-same-length-3 (value-at-calls t) (value-at-at t) value-at.Post
 value-at-same-length-3 t c = search needs
 
 value-at-returns-7 : (t : ℕ) → value-at-lts.Need-returns-7 (value-at-calls t) (value-at-at t) value-at.Post
-value-at-returns-7 t c = case-numbers (now (c .before .before .before .before .before .before .before .before .before .before .before .before .before .before .before .before .args .frames)) (now (c .before .before .before .before .before .before .before .before .before .before .before .before .before .before .before .before .args .variables)) _ _ _ _ (c .before .before .before .before .before .before .before .before .before .before .before .before .before .before .before .before .pre .1) _ _ _ (c .before .before .before .before .before .before .before .value-at3 .result) (c .before .before .before .next-at .result) _ _ _ (sym (c .before .before .before .before .before .before .before .before .before .before .op .given .1) ∙ c .before .before .before .before .before .before .before .before .before .before .before .before .node-at .ensures) (c .before .before .before .before .before .before .before .value-at3 .ensures) (c .before .before .before .next-at .ensures) (c .then-operate .ensures)
+value-at-returns-7 t c =
+    let node = c .before .before .before .before .before .before .before .before .before .before .before .before in
+    let at = node .before .before .before .before in
+    case-numbers (now (at .args .frames)) (now (at .args .variables)) _ _ _ _ (at .pre .1) _ _ _ (c .before .before .before .before .before .before .before .value-at3 .result) (c .before .before .before .next-at .result) _ _ _ (sym (c .before .before .before .before .before .before .before .before .before .before .op .given .1) ∙ node .node-at .ensures) (c .before .before .before .before .before .before .before .value-at3 .ensures) (c .before .before .before .next-at .ensures) (c .then-operate .ensures)
 
 value-at-same-length-4 : (t : ℕ) → value-at-lts.Need-same-length-4 (value-at-calls t) (value-at-at t) value-at.Post
 value-at-same-length-4 t c = search needs
 
 value-at-returns-8 : (t : ℕ) → value-at-lts.Need-returns-8 (value-at-calls t) (value-at-at t) value-at.Post
-value-at-returns-8 t c = case-choose (now (c .before .before .before .before .before .before .before .before .before .before .before .before .before .before .before .before .before .args .frames)) (now (c .before .before .before .before .before .before .before .before .before .before .before .before .before .before .before .before .before .args .variables)) _ _ _ _ (c .before .before .before .before .before .before .before .before .before .before .before .before .before .before .before .before .before .pre .1) _ _ _ _ (c .before .before .before .before .before .before .before .before .truth-at .result) (c .before .before .before .next-at2 .result) _ _ _ (sym (c .before .before .before .before .before .before .before .before .before .before .before .a2 .given .1) ∙ c .before .before .before .before .before .before .before .before .before .before .before .before .before .node-at .ensures) (c .before .before .before .before .before .before .before .before .truth-at .ensures) (c .before .before .before .before .branch .ensures) (c .before .before .before .next-at2 .ensures) (c .then-number .ensures)
+value-at-returns-8 t c =
+    let node = c .before .before .before .before .before .before .before .before .before .before .before .before .before in
+    let at = node .before .before .before .before in
+    case-choose (now (at .args .frames)) (now (at .args .variables)) _ _ _ _ (at .pre .1) _ _ _ _ (c .before .before .before .before .before .before .before .before .truth-at .result) (c .before .before .before .next-at2 .result) _ _ _ (sym (c .before .before .before .before .before .before .before .before .before .before .before .a2 .given .1) ∙ node .node-at .ensures) (c .before .before .before .before .before .before .before .before .truth-at .ensures) (c .before .before .before .before .branch .ensures) (c .before .before .before .next-at2 .ensures) (c .then-number .ensures)
 
 pub +next-at+truth-at+value-at-spec : {M : Type 1} → statement M
 +next-at+truth-at+value-at-spec = close μ-next-at μ-truth-at μ-value-at (λ t. next-at-lts.spec (next-at-calls t)

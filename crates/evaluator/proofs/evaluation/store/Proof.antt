@@ -32,26 +32,32 @@ same-length c = search needs
 
 returns : tie.Need-returns
 returns c =
-    store-runs (now (c .before .before .before .before .before .before .before .before .before .before .before .before .before .before .before .before .before .before .args .frames)) (now (c .before .before .before .before .before .before .before .before .before .before .before .before .before .before .before .before .before .before .args .variables)) _ _ _ _ _ (c .before .before .before .before .before .before .before .before .before .before .before .before .before .before .before .before .before .before .pre .2) (c .before .before .before .before .before .before .before .before .before .before .before .before .before .before .before .before .before .before .pre .3) _ _ _ _
-    (c .before .before .before .before .before .before .before .before .before .before .before .before .before .value-at .ensures) (c .before .before .before .before .before .before .before .before .before .o .given .1) (c .before .before .before .before .before .before .value-at2 .ensures) (c .before .before .then-store .ensures)
+    let at = c .before .before .before .before .before .before .before .before .before .before .before .before .before .before .before .before .before .before in
+    store-runs (now (at .args .frames)) (now (at .args .variables)) _ _ _ _ _ (at .pre .2) (at .pre .3) _ _ _ _ (c .before .before .before .before .before .before .before .before .before .before .before .before .before .value-at .ensures) (c .before .before .before .before .before .before .before .before .before .o .given .1) (c .before .before .before .before .before .before .value-at2 .ensures) (c .before .before .then-store .ensures)
 
 same-length-2 : tie.Need-same-length-2
 same-length-2 c = search needs
 
 returns-2 : tie.Need-returns-2
-returns-2 c = store-keeps (now (c .before .before .before .before .before .before .before .before .before .args .frames)) (now (c .before .before .before .before .before .before .before .before .before .args .variables)) _ _ _ _ _ (c .before .before .before .before .before .before .before .before .before .pre .2) (c .before .before .before .before .before .before .before .before .before .pre .3) (after _ _) _ (c .before .before .before .before .value-at .ensures) (c .enum-told .given .1) tt
+returns-2 c =
+    let at = c .before .before .before .before .before .before .before .before .before in
+    store-keeps (now (at .args .frames)) (now (at .args .variables)) _ _ _ _ _ (at .pre .2) (at .pre .3) (after _ _) _ (c .before .before .before .before .value-at .ensures) (c .enum-told .given .1) tt
 
 same-length-3 : tie.Need-same-length-3
 same-length-3 c = search needs
 
 returns-3 : tie.Need-returns-3
-returns-3 c = store-keeps (now (c .before .before .before .before .before .before .before .before .before .args .frames)) (now (c .before .before .before .before .before .before .before .before .before .args .variables)) _ _ _ _ _ (c .before .before .before .before .before .before .before .before .before .pre .2) (c .before .before .before .before .before .before .before .before .before .pre .3) (after _ _) _ (c .before .before .before .before .value-at .ensures) (c .enum-told2 .given .1) tt
+returns-3 c =
+    let at = c .before .before .before .before .before .before .before .before .before in
+    store-keeps (now (at .args .frames)) (now (at .args .variables)) _ _ _ _ _ (at .pre .2) (at .pre .3) (after _ _) _ (c .before .before .before .before .value-at .ensures) (c .enum-told2 .given .1) tt
 
 same-length-4 : tie.Need-same-length-4
 same-length-4 c = search needs
 
 returns-4 : tie.Need-returns-4
-returns-4 c = store-keeps (now (c .before .before .before .before .before .before .before .before .before .args .frames)) (now (c .before .before .before .before .before .before .before .before .before .args .variables)) _ _ _ _ _ (c .before .before .before .before .before .before .before .before .before .pre .2) (c .before .before .before .before .before .before .before .before .before .pre .3) (after _ _) _ (c .before .before .before .before .value-at .ensures) (c .enum-told3 .given .1) tt
+returns-4 c =
+    let at = c .before .before .before .before .before .before .before .before .before in
+    store-keeps (now (at .args .frames)) (now (at .args .variables)) _ _ _ _ _ (at .pre .2) (at .pre .3) (after _ _) _ (c .before .before .before .before .value-at .ensures) (c .enum-told3 .given .1) tt
 
 pub store-spec : {M : Type 1} → statement M
 store-spec =

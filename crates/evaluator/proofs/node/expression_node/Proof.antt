@@ -1,6 +1,6 @@
 -- `expression_node` meets its contract. Assumes nothing.
 use borrow.Author.Needs.{needs}
-use Rattle.evaluator.proofs.WordLaws.{node-row}
+use Rattle.evaluator.proofs.Nodes.{node-row}
 use Rattle.evaluator.proofs.node.expression_node.Statement.{statement}
 use Rattle.evaluator.proofs.node.expression_node.Tie as tie
 

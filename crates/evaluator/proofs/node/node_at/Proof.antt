@@ -1,6 +1,6 @@
 -- `node_at` meets its contract. Assumes nothing.
 use borrow.Author.Needs.{needs}
-use Rattle.evaluator.proofs.WordLaws.{node-read}
+use Rattle.evaluator.proofs.Nodes.{node-read}
 use Rattle.evaluator.proofs.node.node_at.Statement.{statement}
 use Rattle.evaluator.proofs.node.node_at.Tie as tie
 

@@ -1,6 +1,6 @@
 -- `node_of` meets its contract. Assumes nothing.
 use borrow.Author.Needs.{needs}
-use Rattle.evaluator.proofs.WordLaws.{node-kind}
+use Rattle.evaluator.proofs.Nodes.{node-kind}
 use Rattle.evaluator.proofs.node.node_of.Statement.{statement}
 use Rattle.evaluator.proofs.node.node_of.Tie as tie
 

@@ -1,6 +1,6 @@
 -- `branch` meets its contract. Assumes nothing.
 use borrow.Author.Needs.{needs}
-use Rattle.evaluator.proofs.Operations.{chosen-is}
+use Rattle.evaluator.proofs.Operations.{chosen-by-is}
 use Rattle.evaluator.proofs.operation.branch.Statement.{statement}
 use Rattle.evaluator.proofs.operation.branch.Tie as tie
 
@@ -20,7 +20,7 @@ enum-told-3 : tie.Need-enum-told-3
 enum-told-3 c = search needs
 
 returns : tie.Need-returns
-returns c = search chosen-is
+returns c = search chosen-by-is
 
 returns-2 : tie.Need-returns-2
 returns-2 c = search needs

@@ -1,6 +1,6 @@
 -- `branch_of` meets its contract. Assumes nothing.
 use borrow.Author.Needs.{needs}
-use Rattle.evaluator.proofs.Operations.{choose-first, choose-second}
+use Rattle.evaluator.proofs.Operations.{chosen-first, chosen-second}
 use Rattle.evaluator.proofs.operation.branch_of.Statement.{statement}
 use Rattle.evaluator.proofs.operation.branch_of.Tie as tie
 
@@ -8,7 +8,7 @@ enum-known-v : tie.Need-enum-known-v
 enum-known-v c = search needs
 
 returns : tie.Need-returns
-returns c = search (choose-first, choose-second)
+returns c = search chosen-first
 
 enum-known-v-2 : tie.Need-enum-known-v-2
 enum-known-v-2 c = search needs
@@ -17,7 +17,7 @@ enum-known-v-3 : tie.Need-enum-known-v-3
 enum-known-v-3 c = search needs
 
 returns-2 : tie.Need-returns-2
-returns-2 c = search (choose-first, choose-second)
+returns-2 c = search chosen-second
 
 returns-3 : tie.Need-returns-3
 returns-3 c = search needs

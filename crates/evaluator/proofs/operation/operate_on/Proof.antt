@@ -1,6 +1,6 @@
 -- `operate_on` meets its contract. Assumes nothing.
 use borrow.Author.Needs.{needs}
-use Rattle.evaluator.proofs.Operations.{operands-is, operands-keep}
+use Rattle.evaluator.proofs.Operations.{operands-is}
 use Rattle.evaluator.proofs.operation.operate_on.Statement.{statement}
 use Rattle.evaluator.proofs.operation.operate_on.Tie as tie
 
@@ -20,7 +20,7 @@ enum-told-3 : tie.Need-enum-told-3
 enum-told-3 c = search needs
 
 returns : tie.Need-returns
-returns c = search (operands-is, operands-keep)
+returns c = search operands-is
 
 returns-2 : tie.Need-returns-2
 returns-2 c = search needs

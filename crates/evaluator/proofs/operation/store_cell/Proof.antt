@@ -31,6 +31,7 @@ enum-known-v-3 c = search needs
 same-length : tie.Need-same-length
 same-length c = search needs
 
+-- written out: `search` breaks off behind so many calls on the same words
 returns : tie.Need-returns
 returns c =
     let at = c .before .before .before .before .before in

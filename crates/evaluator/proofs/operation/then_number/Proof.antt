@@ -1,6 +1,6 @@
 -- `then_number` meets its contract. Assumes nothing.
 use borrow.Author.Needs.{needs}
-use Rattle.evaluator.proofs.Operations.{only-is, only-keeps}
+use Rattle.evaluator.proofs.Chains.{only-is, only-keeps}
 use Rattle.evaluator.proofs.operation.then_number.Statement.{statement}
 use Rattle.evaluator.proofs.operation.then_number.Tie as tie
 
@@ -20,16 +20,16 @@ enum-told-3 : tie.Need-enum-told-3
 enum-told-3 c = search needs
 
 returns : tie.Need-returns
-returns c = search (only-is, only-keeps)
+returns c = search only-is
 
 returns-2 : tie.Need-returns-2
-returns-2 c = search (only-is, only-keeps)
+returns-2 c = search only-keeps
 
 returns-3 : tie.Need-returns-3
-returns-3 c = search (only-is, only-keeps)
+returns-3 c = search only-keeps
 
 returns-4 : tie.Need-returns-4
-returns-4 c = search (only-is, only-keeps)
+returns-4 c = search only-keeps
 
 pub then-number-spec : {M : Type 1} → statement M
 then-number-spec =

@@ -1,6 +1,7 @@
 -- `then_read` meets its contract. Assumes nothing.
 use borrow.Author.Needs.{needs}
-use Rattle.evaluator.proofs.Operations.{then-is, keeps, reading-is}
+use Rattle.evaluator.proofs.Operations.{reading-is}
+use Rattle.evaluator.proofs.Chains.{then-is, then-keeps}
 use Rattle.evaluator.proofs.operation.then_read.Statement.{statement}
 use Rattle.evaluator.proofs.operation.then_read.Tie as tie
 
@@ -20,16 +21,16 @@ enum-told-3 : tie.Need-enum-told-3
 enum-told-3 c = search needs
 
 returns : tie.Need-returns
-returns c = search (then-is, keeps, reading-is)
+returns c = search (then-is, reading-is)
 
 returns-2 : tie.Need-returns-2
-returns-2 c = search (then-is, keeps, reading-is)
+returns-2 c = search then-keeps
 
 returns-3 : tie.Need-returns-3
-returns-3 c = search (then-is, keeps, reading-is)
+returns-3 c = search then-keeps
 
 returns-4 : tie.Need-returns-4
-returns-4 c = search (then-is, keeps, reading-is)
+returns-4 c = search then-keeps
 
 pub then-read-spec : {M : Type 1} → statement M
 then-read-spec =

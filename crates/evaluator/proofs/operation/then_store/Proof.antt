@@ -1,6 +1,6 @@
 -- `then_store` meets its contract. Assumes nothing.
 use borrow.Author.Needs.{needs}
-use Rattle.evaluator.proofs.Operations.{then-is, keeps}
+use Rattle.evaluator.proofs.Chains.{then-is, then-keeps}
 use Rattle.evaluator.proofs.operation.then_store.Statement.{statement}
 use Rattle.evaluator.proofs.operation.then_store.Tie as tie
 
@@ -23,16 +23,16 @@ same-length : tie.Need-same-length
 same-length c = search needs
 
 returns : tie.Need-returns
-returns c = search (then-is, keeps)
+returns c = search then-is
 
 returns-2 : tie.Need-returns-2
-returns-2 c = search (then-is, keeps)
+returns-2 c = search then-keeps
 
 returns-3 : tie.Need-returns-3
-returns-3 c = search (then-is, keeps)
+returns-3 c = search then-keeps
 
 returns-4 : tie.Need-returns-4
-returns-4 c = search (then-is, keeps)
+returns-4 c = search then-keeps
 
 pub then-store-spec : {M : Type 1} → statement M
 then-store-spec =

@@ -1,6 +1,6 @@
 -- `word_after` meets its contract. Assumes nothing.
 use borrow.Author.Needs.{needs}
-use Rattle.evaluator.proofs.Operations.{after-row}
+use Rattle.evaluator.proofs.Operations.{word-after-row}
 use Rattle.evaluator.proofs.operation.word_after.Statement.{statement}
 use Rattle.evaluator.proofs.operation.word_after.Tie as tie
 
@@ -20,7 +20,7 @@ enum-told-3 : tie.Need-enum-told-3
 enum-told-3 c = search needs
 
 returns : tie.Need-returns
-returns c = search after-row
+returns c = search word-after-row
 
 returns-2 : tie.Need-returns-2
 returns-2 c = search needs

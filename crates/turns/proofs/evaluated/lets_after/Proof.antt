@@ -1,6 +1,6 @@
 -- `lets_after` meets its contract. Assumes nothing.
 use borrow.Author.Needs.{needs}
-use Rattle.turns.proofs.ThenLaws.{lets-is, then-foreign, then-spent, then-stuck}
+use Rattle.turns.proofs.ThenLaws.{then-lets, then-foreign, then-spent, then-stuck}
 use Rattle.turns.proofs.evaluated.lets_after.Statement.{statement}
 use Rattle.turns.proofs.evaluated.lets_after.Tie as tie
 
@@ -32,7 +32,7 @@ refused-requires-3 : tie.Need-refused-requires-3
 refused-requires-3 c κs = search needs
 
 returns : tie.Need-returns
-returns c = lets-is _ _ _ _ _ _ (c .before .before .before .o .given .1) (c .before .value-word .ensures .0) _ (c .lets .ensures)
+returns c = then-lets _ _ _ _ _ _ (c .before .before .before .o .given .1) (c .before .value-word .ensures .0) _ (c .lets .ensures)
 
 returns-2 : tie.Need-returns-2
 returns-2 c = then-foreign _ _ _ _ _ (c .before .enum-told .given .1) (c .refused .ensures)

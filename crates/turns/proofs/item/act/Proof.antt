@@ -14,7 +14,9 @@ sub-t13 : tie.Need-sub-t13
 sub-t13 c = search needs
 
 act-item-requires : tie.Need-act-item-requires
-act-item-requires c κs = (below-words _ _ _ _ _ (c .before .before .before .before .before .before .before .before .pre .0), c .before .before .before .before .before .before .before .before .pre .1)
+act-item-requires c κs =
+    let at = c .before .before .before .before .before .before .before .before in
+    (below-words _ _ _ _ _ (at .pre .0), at .pre .1)
 
 same-length : tie.Need-same-length
 same-length c = search needs

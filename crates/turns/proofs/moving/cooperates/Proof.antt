@@ -1,6 +1,6 @@
 -- `cooperates` meets its contract. Assumes nothing.
 use borrow.Author.Needs.{needs}
-use Rattle.turns.proofs.PlaceLaws.{cooperates-not, cooperates-next}
+use Rattle.turns.proofs.MoveLaws.{cooperates-unlinked, cooperates-next}
 use Rattle.turns.proofs.moving.cooperates.Statement.{statement}
 use Rattle.turns.proofs.moving.cooperates.Tie as tie
 
@@ -14,7 +14,7 @@ refused-requires : tie.Need-refused-requires
 refused-requires c κs = search needs
 
 returns : tie.Need-returns
-returns c = cooperates-not _ _ _ _ (c .before .before .before .word-of .ensures) _ (c .before .before .is-private .ensures) (c .before .if1 .taken) (c .refused .ensures)
+returns c = cooperates-unlinked _ _ _ _ (c .before .before .before .word-of .ensures) _ (c .before .before .is-private .ensures) (c .before .if1 .taken) (c .refused .ensures)
 
 comes-to-requires : tie.Need-comes-to-requires
 comes-to-requires c κs = search needs

@@ -1,6 +1,6 @@
 -- `does_at` meets its contract. Assumes nothing.
 use borrow.Author.Needs.{needs}
-use Rattle.turns.proofs.PlaceLaws.{does-again, does-full, does-there}
+use Rattle.turns.proofs.MoveLaws.{does-again, does-full, does-there}
 use Rattle.turns.proofs.moving.does_at.Statement.{statement}
 use Rattle.turns.proofs.moving.does_at.Tie as tie
 

@@ -1,6 +1,6 @@
 -- `goes` meets its contract. Assumes nothing.
 use borrow.Author.Needs.{needs}
-use Rattle.turns.proofs.PlaceLaws.{go-laws}
+use Rattle.turns.proofs.MoveLaws.{goes-laws}
 use Rattle.turns.proofs.moving.goes.Statement.{statement}
 use Rattle.turns.proofs.moving.goes.Tie as tie
 
@@ -8,7 +8,7 @@ comes-to-requires : tie.Need-comes-to-requires
 comes-to-requires c κs = search needs
 
 returns : tie.Need-returns
-returns c = search go-laws
+returns c = search goes-laws
 
 is-private-requires : tie.Need-is-private-requires
 is-private-requires c κs = search needs
@@ -17,13 +17,13 @@ comes-to-requires-2 : tie.Need-comes-to-requires-2
 comes-to-requires-2 c κs = search needs
 
 returns-2 : tie.Need-returns-2
-returns-2 c = search go-laws
+returns-2 c = search goes-laws
 
 comes-to-requires-3 : tie.Need-comes-to-requires-3
 comes-to-requires-3 c κs = search needs
 
 returns-3 : tie.Need-returns-3
-returns-3 c = search go-laws
+returns-3 c = search goes-laws
 
 pub goes-spec : {M : Type 1} → statement M
 goes-spec =

@@ -1,6 +1,6 @@
 -- `goes_back` meets its contract. Assumes nothing.
 use borrow.Author.Needs.{needs}
-use Rattle.turns.proofs.PlaceLaws.{goes-back}
+use Rattle.turns.proofs.MoveLaws.{goes-back}
 use Rattle.turns.proofs.moving.goes_back.Statement.{statement}
 use Rattle.turns.proofs.moving.goes_back.Tie as tie
 

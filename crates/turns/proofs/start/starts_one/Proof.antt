@@ -1,6 +1,6 @@
 -- `starts_one` meets its contract. Assumes nothing.
 use borrow.Author.Needs.{needs}
-use Rattle.turns.proofs.ThenLaws.{one-is, then-foreign, then-spent, then-stuck}
+use Rattle.turns.proofs.ThenLaws.{then-starts-one, then-foreign, then-spent, then-stuck}
 use Rattle.turns.proofs.start.starts_one.Statement.{statement}
 use Rattle.turns.proofs.start.starts_one.Tie as tie
 
@@ -32,7 +32,7 @@ refused-requires-3 : tie.Need-refused-requires-3
 refused-requires-3 c κs = search needs
 
 returns : tie.Need-returns
-returns c = one-is _ _ _ _ _ _ (c .before .before .before .o .given .1) (c .before .value-word .ensures .0) _ (c .starts-with .ensures)
+returns c = then-starts-one _ _ _ _ _ _ (c .before .before .before .o .given .1) (c .before .value-word .ensures .0) _ (c .starts-with .ensures)
 
 returns-2 : tie.Need-returns-2
 returns-2 c = then-foreign _ _ _ _ _ (c .before .enum-told .given .1) (c .refused .ensures)

@@ -1,6 +1,6 @@
 -- `starts_two` meets its contract. Assumes nothing.
 use borrow.Author.Needs.{needs}
-use Rattle.turns.proofs.ThenLaws.{two-is, then-foreign, then-spent, then-stuck}
+use Rattle.turns.proofs.ThenLaws.{then-starts-two, then-foreign, then-spent, then-stuck}
 use Rattle.turns.proofs.start.starts_two.Statement.{statement}
 use Rattle.turns.proofs.start.starts_two.Tie as tie
 
@@ -32,7 +32,7 @@ refused-requires-3 : tie.Need-refused-requires-3
 refused-requires-3 c κs = search needs
 
 returns : tie.Need-returns
-returns c = two-is _ _ _ _ _ _ (c .before .before .before .o .given .1) (c .before .value-word .ensures .0) _ _ (c .starts-with .ensures)
+returns c = then-starts-two _ _ _ _ _ _ (c .before .before .before .o .given .1) (c .before .value-word .ensures .0) _ _ (c .starts-with .ensures)
 
 returns-2 : tie.Need-returns-2
 returns-2 c = then-foreign _ _ _ _ _ (c .before .enum-told .given .1) (c .refused .ensures)

@@ -1,6 +1,7 @@
--- `act_statement` meets its contract. Assumes nothing.
+-- `act_statement` meets its contract. In a need, `at` is the function's entry, and `node` is where the statement's node has been read. Assumes nothing.
 use borrow.Author.Needs.{needs}
-use Rattle.turns.proofs.NodeLaws.{acts-nothing, acts-cooperate, acts-seq, acts-do, acts-start, acts-wait, acts-let, acts-store, acts-if, acts-while, while-a, under-laws}
+use Rattle.turns.proofs.NodeLaws.{acts-nothing, acts-cooperate, acts-seq, acts-do, acts-start, acts-wait, acts-let, acts-store, acts-if, acts-while}
+use Rattle.turns.proofs.OperandLaws.{under-laws}
 use Rattle.turns.proofs.statement.act_statement.Statement.{statement}
 use Rattle.turns.proofs.statement.act_statement.Tie as tie
 
@@ -129,11 +130,9 @@ cast-evaluate-3 c = search needs
 
 evaluate-requires-3 : tie.Need-evaluate-requires-3
 evaluate-requires-3 c κs =
-    let node = c .before .before .before .before in
-    let at = node .before .before .before .before .before .before in
+    let at = c .before .before .before .before .before .before .before .before .before .before in
     let words = at .pre .0 in
-    let there = while-a _ _ _ _ _ _ _ _ _ _ (c .before .before .a5 .given .1) (node .statement-node .ensures) (node .before .frame-of-word .ensures) words (at .pre .1) in
-    (record { ordered = words .ordered; there = there }, words .variables, words .cells)
+    (record { ordered = words .ordered; there = search under-laws }, words .variables, words .cells)
 
 cast-loops-after : tie.Need-cast-loops-after
 cast-loops-after c = search needs
@@ -145,25 +144,22 @@ returns : tie.Need-returns
 returns c =
     let node = c .before .before .before in
     let at = node .before .before .before .before .before .before in
-    acts-nothing _ _ _ _ _ _ _ _ _ _
-    (c .before .enum-told .given .1) (node .statement-node .ensures) (node .before .frame-of-word .ensures) (at .pre .0) (at .pre .1)
-    (c .comes-to .ensures)
+    acts-nothing _ _ _ _ _ _ _ _ _ (node .statement-node .ensures) (node .before .frame-of-word .ensures) (at .pre .0) (at .pre .1)
+    _ (c .before .enum-told .given .1) (c .comes-to .ensures)
 
 returns-2 : tie.Need-returns-2
 returns-2 c =
     let node = c .before .before .before .before in
     let at = node .before .before .before .before .before .before in
-    acts-seq _ _ _ _ _ _ _ _ _ _ _ _
-    (c .before .before .a .given .1) (node .statement-node .ensures) (node .before .frame-of-word .ensures) (at .pre .0) (at .pre .1)
-    (c .stays-with-two .ensures)
+    acts-seq _ _ _ _ _ _ _ _ _ (node .statement-node .ensures) (node .before .frame-of-word .ensures) (at .pre .0) (at .pre .1)
+    _ _ _ (c .before .before .a .given .1) (c .stays-with-two .ensures)
 
 returns-3 : tie.Need-returns-3
 returns-3 c =
     let node = c .before .before .before .before in
     let at = node .before .before .before .before .before .before in
-    acts-do _ _ _ _ _ _ _ _ _ _ _ _
-    (c .before .before .q .given .1) (node .statement-node .ensures) (node .before .frame-of-word .ensures) (at .pre .0) (at .pre .1)
-    (c .does-at .ensures)
+    acts-do _ _ _ _ _ _ _ _ _ (node .statement-node .ensures) (node .before .frame-of-word .ensures) (at .pre .0) (at .pre .1)
+    _ _ _ (c .before .before .q .given .1) (c .does-at .ensures)
 
 same-length : tie.Need-same-length
 same-length c = search needs
@@ -172,9 +168,8 @@ returns-4 : tie.Need-returns-4
 returns-4 c =
     let node = c .before .before .before .before .before .before .before in
     let at = node .before .before .before .before .before .before in
-    acts-start _ _ _ _ _ _ _ _ _ _ _ _ _ _
-    (c .before .before .before .before .before .m .given .1) (node .statement-node .ensures) (node .before .frame-of-word .ensures) (at .pre .0) (at .pre .1)
-    (c .before .before .starts .ensures)
+    acts-start _ _ _ _ _ _ _ _ _ (node .statement-node .ensures) (node .before .frame-of-word .ensures) (at .pre .0) (at .pre .1)
+    _ _ _ _ _ (c .before .before .before .before .before .m .given .1) (c .before .before .starts .ensures)
 
 same-length-2 : tie.Need-same-length-2
 same-length-2 c = search needs
@@ -183,17 +178,15 @@ returns-5 : tie.Need-returns-5
 returns-5 c =
     let node = c .before .before .before .before .before .before .before in
     let at = node .before .before .before .before .before .before in
-    acts-wait _ _ _ _ _ _ _ _ _ _ _ _ _ _
-    (c .before .before .before .before .before .m2 .given .1) (node .statement-node .ensures) (node .before .frame-of-word .ensures) (at .pre .0) (at .pre .1)
-    (c .before .before .starts2 .ensures)
+    acts-wait _ _ _ _ _ _ _ _ _ (node .statement-node .ensures) (node .before .frame-of-word .ensures) (at .pre .0) (at .pre .1)
+    _ _ _ _ _ (c .before .before .before .before .before .m2 .given .1) (c .before .before .starts2 .ensures)
 
 returns-6 : tie.Need-returns-6
 returns-6 c =
     let node = c .before .before .before in
     let at = node .before .before .before .before .before .before in
-    acts-cooperate _ _ _ _ _ _ _ _ _ _
-    (c .before .enum-told2 .given .1) (node .statement-node .ensures) (node .before .frame-of-word .ensures) (at .pre .0) (at .pre .1)
-    (c .cooperates .ensures)
+    acts-cooperate _ _ _ _ _ _ _ _ _ (node .statement-node .ensures) (node .before .frame-of-word .ensures) (at .pre .0) (at .pre .1)
+    _ (c .before .enum-told2 .given .1) (c .cooperates .ensures)
 
 same-length-3 : tie.Need-same-length-3
 same-length-3 c = search needs
@@ -202,9 +195,8 @@ returns-7 : tie.Need-returns-7
 returns-7 c =
     let node = c .before .before .before .before .before .before .before .before in
     let at = node .before .before .before .before .before .before in
-    acts-let _ _ _ _ _ _ _ _ _ _ _ _ _ _
-    (c .before .before .before .before .before .before .a2 .given .1) (node .statement-node .ensures) (node .before .frame-of-word .ensures) (at .pre .0) (at .pre .1)
-    (c .before .before .before .evaluate .ensures) (c .lets-after .ensures)
+    acts-let _ _ _ _ _ _ _ _ _ (node .statement-node .ensures) (node .before .frame-of-word .ensures) (at .pre .0) (at .pre .1)
+    _ _ _ _ _ (c .before .before .before .before .before .before .a2 .given .1) (c .before .before .before .evaluate .ensures) (c .lets-after .ensures)
 
 same-length-4 : tie.Need-same-length-4
 same-length-4 c = search needs
@@ -213,9 +205,8 @@ returns-8 : tie.Need-returns-8
 returns-8 c =
     let node = c .before .before .before .before .before .before .before .before in
     let at = node .before .before .before .before .before .before in
-    acts-store _ _ _ _ _ _ _ _ _ _ _ _ _ _
-    (c .before .before .before .before .before .before .a3 .given .1) (node .statement-node .ensures) (node .before .frame-of-word .ensures) (at .pre .0) (at .pre .1)
-    (c .before .before .before .store .ensures) (c .stores-after .ensures)
+    acts-store _ _ _ _ _ _ _ _ _ (node .statement-node .ensures) (node .before .frame-of-word .ensures) (at .pre .0) (at .pre .1)
+    _ _ _ _ _ (c .before .before .before .before .before .before .a3 .given .1) (c .before .before .before .store .ensures) (c .stores-after .ensures)
 
 same-length-5 : tie.Need-same-length-5
 same-length-5 c = search needs
@@ -224,9 +215,8 @@ returns-9 : tie.Need-returns-9
 returns-9 c =
     let node = c .before .before .before .before .before .before .before .before in
     let at = node .before .before .before .before .before .before in
-    acts-if _ _ _ _ _ _ _ _ _ _ _ _ _ _ _
-    (c .before .before .before .before .before .before .a4 .given .1) (node .statement-node .ensures) (node .before .frame-of-word .ensures) (at .pre .0) (at .pre .1)
-    (c .before .before .before .evaluate2 .ensures) (c .chooses-after .ensures)
+    acts-if _ _ _ _ _ _ _ _ _ (node .statement-node .ensures) (node .before .frame-of-word .ensures) (at .pre .0) (at .pre .1)
+    _ _ _ _ _ _ (c .before .before .before .before .before .before .a4 .given .1) (c .before .before .before .evaluate2 .ensures) (c .chooses-after .ensures)
 
 same-length-6 : tie.Need-same-length-6
 same-length-6 c = search needs
@@ -235,9 +225,8 @@ returns-10 : tie.Need-returns-10
 returns-10 c =
     let node = c .before .before .before .before .before .before .before .before in
     let at = node .before .before .before .before .before .before in
-    acts-while _ _ _ _ _ _ _ _ _ _ _ _ _ _
-    (c .before .before .before .before .before .before .a5 .given .1) (node .statement-node .ensures) (node .before .frame-of-word .ensures) (at .pre .0) (at .pre .1)
-    (c .before .before .before .evaluate3 .ensures) (c .loops-after .ensures)
+    acts-while _ _ _ _ _ _ _ _ _ (node .statement-node .ensures) (node .before .frame-of-word .ensures) (at .pre .0) (at .pre .1)
+    _ _ _ _ _ (c .before .before .before .before .before .before .a5 .given .1) (c .before .before .before .evaluate3 .ensures) (c .loops-after .ensures)
 
 pub act-statement-spec : {M : Type 1} → statement M
 act-statement-spec =

@@ -1,6 +1,6 @@
 -- `drops` meets its contract. Assumes nothing.
 use borrow.Author.Needs.{needs}
-use Rattle.turns.proofs.PlaceLaws.{drops-none, drops-one}
+use Rattle.turns.proofs.StayLaws.{drops-none, drops-one}
 use Rattle.turns.proofs.staying.drops.Statement.{statement}
 use Rattle.turns.proofs.staying.drops.Tie as tie
 

@@ -1,6 +1,6 @@
 -- `lets` meets its contract. Assumes nothing.
 use borrow.Author.Needs.{needs}
-use Rattle.turns.proofs.PlaceLaws.{lets-values, lets-items, lets-more}
+use Rattle.turns.proofs.StayLaws.{lets-values, lets-items, lets-more}
 use Rattle.turns.proofs.staying.lets.Statement.{statement}
 use Rattle.turns.proofs.staying.lets.Tie as tie
 

@@ -1,6 +1,6 @@
 -- `stays_with` meets its contract. Assumes nothing.
 use borrow.Author.Needs.{needs}
-use Rattle.turns.proofs.PlaceLaws.{one-full, one-more}
+use Rattle.turns.proofs.StayLaws.{one-full, one-more}
 use Rattle.turns.proofs.staying.stays_with.Statement.{statement}
 use Rattle.turns.proofs.staying.stays_with.Tie as tie
 

@@ -1,6 +1,6 @@
 -- `stays_with_two` meets its contract. Assumes nothing.
 use borrow.Author.Needs.{needs}
-use Rattle.turns.proofs.PlaceLaws.{two-full, two-more}
+use Rattle.turns.proofs.StayLaws.{two-full, two-more}
 use Rattle.turns.proofs.staying.stays_with_two.Statement.{statement}
 use Rattle.turns.proofs.staying.stays_with_two.Tie as tie
 
