@@ -17,6 +17,8 @@ use Rattle.machine.proofs.WordLaws.{pasted-length, pasted-in, pasted-ou
 pub says-pack : (s : State) → Says (pack s) s
 says-pack s = record { all = pack-length s; threads = word-0 s; cells = word-1 s; scheduler = word-scheduler s; thread = word-thread s; cell = word-cell s }
 
+-- ---- the words of a thread, a scheduler, the cells
+
 pub thread-length : (x : Thread) → length (threadWords x) ≡ 55
 unfolding threadWords
 thread-length x = tab-length 55 (threadWord x) 0
@@ -41,12 +43,11 @@ pub cells-at : (cs : List Stored) (j : ℕ) → j < 256 → getD (cellWords cs) 
 unfolding cellWords
 cells-at cs j h = tab-at 256 (λ i. cellWord (getD cs i noCell)) j 0 h
 
--- ---- readers
+-- ---- a block of the words replaced is a part of the state replaced
 module _ (w : List ℕ) (s : State) (h : Says w s) where
   size : length w ≡ 4818
   size = h .all
 
-  -- ---- a block replaced
   pub put-thread : (k : ℕ) (x : Thread) → k < 64 → k < length (s .threads) → Says (pasted w (1042 + 55 * k) (threadWords x) 55) (withThread (suc k) x s)
   put-thread k x a b = record {
     all = pasted-length w at ws 55 hd hs ∙ size;
@@ -118,7 +119,7 @@ module _ (w : List ℕ) (s : State) (h : Says w s) where
           out (2 + 130 * i + j) (λ p r. e (omega arith)) ∙ h .scheduler i j f g
           ∙ ap (λ (y : Scheduler). schedulerWord y j) (sym (getD-set-other (s .schedulers) k i x noScheduler e))
 
-  -- the count is stored apart
+  -- all cells; their count is stored apart
   pub put-cells : (cs : List Stored) → Says (set (pasted w 4562 (cellWords cs) 256) 1 (length cs)) (withCells cs s)
   put-cells cs = record {
     all = length-set (pasted w 4562 (cellWords cs) 256) 1 (length cs) ∙ pl ∙ size;
@@ -144,7 +145,7 @@ module _ (w : List ℕ) (s : State) (h : Says w s) where
       other : (i : ℕ) → (i ≡ 1 → ⊥) → getD (set (pasted w 4562 (cellWords cs) 256) 1 (length cs)) i 0 ≡ getD (pasted w 4562 (cellWords cs) 256) i 0
       other i e = getD-set-other (pasted w 4562 (cellWords cs) 256) 1 i (length cs) 0 e
 
--- one more thread
+-- one more thread; the count of threads is stored apart
 pub put-new : (w : List ℕ) (s : State) → Says w s → (x : Thread) → length (s .threads) < 64
     → Says (set (pasted w (1042 + 55 * length (s .threads)) (threadWords x) 55) 0 (length (s .threads) + 1)) (withNew x s)
 put-new w s h x l = record {

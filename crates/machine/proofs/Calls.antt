@@ -16,7 +16,7 @@ use Rattle.machine.specs.Calls.{Called, unchanged, calledOf, stepCall}
 use Rattle.machine.proofs.Fair.{fair}
 use Rattle.machine.proofs.Valid.{packed}
 
--- the state that words say, and its schedulers
+-- how many schedulers the program of a file has; the step on the state that words say
 abbrev pub schedulersOf : List Frame → ℕ
 schedulersOf fs = programOf fs .schedulers
 

@@ -1,5 +1,5 @@
--- From a fresh state no continuation and no variable space is ever full, and no drop misses its variable, in a program whose bodies are low enough.
--- Assumes nothing.
+-- Why no continuation and no variable space is ever full (20) from a fresh state on: a continuation with all the room that it will take, `Roomy`, fits its space,
+-- its drops find their variables, and each item taken from it leaves such a continuation. Assumes nothing.
 use mathlib.Core.Path.{_≡_}
 use mathlib.Core.List.{List, [], _∷_}
 use mathlib.Core.Bool.{true}
@@ -14,20 +14,22 @@ use Rattle.machine.specs.State.{Item, run, back, drop}
 use Rattle.machine.specs.Turns.{fits}
 use Rattle.machine.specs.declared.value.Value.{Value}
 
--- the items of a continuation that running it takes, itself among them; no more than its depth of statements
-unfoldable pub high : Stmt → ℕ
-high (nothing i) = 1
-high (seq i a b) = max (1 + high a) (high b)
-high (doAt i q a) = 1 + high a
-high (start i m xs) = 1
-high (startWait i m xs) = 1
-high (cooperate i) = 1
-high (letIn i x a) = 1 + high a
-high (store i x y) = 1
-high (ifElse i x a b) = max (high a) (high b)
-high (while i x a) = 1 + high a
+-- ---- the room that a statement takes
 
--- the lets around its innermost statement
+-- how many items of a continuation running it takes, itself among them
+unfoldable pub height : Stmt → ℕ
+height (nothing i) = 1
+height (seq i a b) = max (1 + height a) (height b)
+height (doAt i q a) = 1 + height a
+height (start i m xs) = 1
+height (startWait i m xs) = 1
+height (cooperate i) = 1
+height (letIn i x a) = 1 + height a
+height (store i x y) = 1
+height (ifElse i x a b) = max (height a) (height b)
+height (while i x a) = 1 + height a
+
+-- how many variables: the lets around its innermost statement
 unfoldable pub lets : Stmt → ℕ
 lets (nothing i) = 0
 lets (seq i a b) = max (lets a) (lets b)
@@ -40,29 +42,29 @@ lets (store i x y) = 0
 lets (ifElse i x a b) = max (lets a) (lets b)
 lets (while i x a) = lets a
 
-pub high-pos : (x : Stmt) → 1 ≤ high x
-unfolding high
-high-pos (nothing i) = omega arith
-high-pos (seq i a b) = omega arith
-high-pos (doAt i q a) = omega arith
-high-pos (start i m xs) = omega arith
-high-pos (startWait i m xs) = omega arith
-high-pos (cooperate i) = omega arith
-high-pos (letIn i x a) = omega arith
-high-pos (store i x y) = omega arith
-high-pos (ifElse i x a b) = let g = high-pos a in omega arith
-high-pos (while i x a) = omega arith
+pub height-pos : (x : Stmt) → 1 ≤ height x
+unfolding height
+height-pos (nothing i) = omega arith
+height-pos (seq i a b) = omega arith
+height-pos (doAt i q a) = omega arith
+height-pos (start i m xs) = omega arith
+height-pos (startWait i m xs) = omega arith
+height-pos (cooperate i) = omega arith
+height-pos (letIn i x a) = omega arith
+height-pos (store i x y) = omega arith
+height-pos (ifElse i x a b) = let g = height-pos a in omega arith
+height-pos (while i x a) = omega arith
 
--- a continuation over n variables with all the room that it will take
+-- ---- a continuation over n variables with all the room that it will take: for each statement in it, above what lies below
 pub data Roomy : ℕ → List Item → Type 0 where
   no-items : {n : ℕ} → n ≤ 25 → Roomy n []
-  run-item : {n : ℕ} {x : Stmt} {l : List Item} → length l + high x ≤ 25 → n + lets x ≤ 25 → Roomy n l → Roomy n (run x ∷ l)
+  run-item : {n : ℕ} {x : Stmt} {l : List Item} → length l + height x ≤ 25 → n + lets x ≤ 25 → Roomy n l → Roomy n (run x ∷ l)
   back-item : {n q : ℕ} {l : List Item} → length l < 25 → Roomy n l → Roomy n (back q ∷ l)
   drop-item : {n : ℕ} {l : List Item} → length l < 25 → n < 25 → Roomy n l → Roomy (suc n) (drop ∷ l)
 
 pub roomy-fits : {n : ℕ} {l : List Item} → Roomy n l → (length l ≤ 25) × (n ≤ 25)
 roomy-fits (no-items h) = (omega arith, h)
-roomy-fits (run-item {x = x} h g r) = let p = high-pos x in (omega arith, omega arith)
+roomy-fits (run-item {x = x} h g r) = let p = height-pos x in (omega arith, omega arith)
 roomy-fits (back-item h r) = (omega arith, roomy-fits r .1)
 roomy-fits (drop-item h g r) = (omega arith, omega arith)
 
@@ -70,34 +72,37 @@ pub fits-true : (l : List Item) (vs : List Value) → Roomy (length vs) l → fi
 unfolding fits
 fits-true l vs r = let g = roomy-fits r in and-both (leb (length l) 25) _ (le-leb (length l) 25 (g .0)) (le-leb (length vs) 25 (g .1))
 
--- ---- what lies above a continuation when a statement has been taken apart
+-- ---- it stays so when a statement is taken apart
 
-top : (n : ℕ) (x : Stmt) (l : List Item) → length l + high x ≤ 25 → n + lets x ≤ 25 → Roomy n l → Roomy n (run x ∷ l)
-top n x l h g r = run-item h g r
+-- run-item with its data given, from which omega knows what to show
+run-above : (n : ℕ) (x : Stmt) (l : List Item) → length l + height x ≤ 25 → n + lets x ≤ 25 → Roomy n l → Roomy n (run x ∷ l)
+run-above n x l h g r = run-item h g r
 
-pub below-seq : {n i : ℕ} {a b : Stmt} {l : List Item} → Roomy n (run (seq i a b) ∷ l) → Roomy n (run a ∷ run b ∷ l)
-unfolding high lets
-below-seq {n} {a = a} {b = b} {l = l} (run-item h g r) = top n a (run b ∷ l) (omega arith) (omega arith) (top n b l (omega arith) (omega arith) r)
+pub roomy-seq : {n i : ℕ} {a b : Stmt} {l : List Item} → Roomy n (run (seq i a b) ∷ l) → Roomy n (run a ∷ run b ∷ l)
+unfolding height lets
+roomy-seq {n} {a = a} {b = b} {l = l} (run-item h g r) = run-above n a (run b ∷ l) (omega arith) (omega arith) (run-above n b l (omega arith) (omega arith) r)
 
-pub below-do : {n i q : ℕ} {a : Stmt} {l : List Item} (p : ℕ) → Roomy n (run (doAt i q a) ∷ l) → Roomy n (run a ∷ back p ∷ l)
-unfolding high lets
-below-do {n} {a = a} {l = l} p (run-item h g r) = let k = high-pos a in top n a (back p ∷ l) (omega arith) (omega arith) (back-item (omega arith) r)
+pub roomy-do : {n i q : ℕ} {a : Stmt} {l : List Item} (p : ℕ) → Roomy n (run (doAt i q a) ∷ l) → Roomy n (run a ∷ back p ∷ l)
+unfolding height lets
+roomy-do {n} {a = a} {l = l} p (run-item h g r) = let k = height-pos a in run-above n a (back p ∷ l) (omega arith) (omega arith) (back-item (omega arith) r)
 
-pub below-let : {n i : ℕ} {x : Expr} {a : Stmt} {l : List Item} → Roomy n (run (letIn i x a) ∷ l) → Roomy (suc n) (run a ∷ drop ∷ l)
-unfolding high lets
-below-let {n} {a = a} {l = l} (run-item h g r) = let k = high-pos a in top (suc n) a (drop ∷ l) (omega arith) (omega arith) (drop-item (omega arith) (omega arith) r)
+pub roomy-let : {n i : ℕ} {x : Expr} {a : Stmt} {l : List Item} → Roomy n (run (letIn i x a) ∷ l) → Roomy (suc n) (run a ∷ drop ∷ l)
+unfolding height lets
+roomy-let {n} {a = a} {l = l} (run-item h g r) = let k = height-pos a in run-above (suc n) a (drop ∷ l) (omega arith) (omega arith) (drop-item (omega arith) (omega arith) r)
 
-pub below-while : {n i : ℕ} {x : Expr} {a : Stmt} {l : List Item} → Roomy n (run (while i x a) ∷ l) → Roomy n (run a ∷ run (while i x a) ∷ l)
-unfolding high lets
-below-while {n} {i} {x} {a} {l} (run-item h g r) = top n a (run (while i x a) ∷ l) (omega arith) (omega arith) (top n (while i x a) l h g r)
+pub roomy-while : {n i : ℕ} {x : Expr} {a : Stmt} {l : List Item} → Roomy n (run (while i x a) ∷ l) → Roomy n (run a ∷ run (while i x a) ∷ l)
+unfolding height lets
+roomy-while {n} {i} {x} {a} {l} (run-item h g r) = run-above n a (run (while i x a) ∷ l) (omega arith) (omega arith) (run-above n (while i x a) l h g r)
 
-pub below-then : {n i : ℕ} {x : Expr} {a b : Stmt} {l : List Item} → Roomy n (run (ifElse i x a b) ∷ l) → Roomy n (run a ∷ l)
-unfolding high lets
-below-then {n} {a = a} {l = l} (run-item h g r) = top n a l (omega arith) (omega arith) r
+pub roomy-then : {n i : ℕ} {x : Expr} {a b : Stmt} {l : List Item} → Roomy n (run (ifElse i x a b) ∷ l) → Roomy n (run a ∷ l)
+unfolding height lets
+roomy-then {n} {a = a} {l = l} (run-item h g r) = run-above n a l (omega arith) (omega arith) r
 
-pub below-else : {n i : ℕ} {x : Expr} {a b : Stmt} {l : List Item} → Roomy n (run (ifElse i x a b) ∷ l) → Roomy n (run b ∷ l)
-unfolding high lets
-below-else {n} {b = b} {l = l} (run-item h g r) = top n b l (omega arith) (omega arith) r
+pub roomy-else : {n i : ℕ} {x : Expr} {a b : Stmt} {l : List Item} → Roomy n (run (ifElse i x a b) ∷ l) → Roomy n (run b ∷ l)
+unfolding height lets
+roomy-else {n} {b = b} {l = l} (run-item h g r) = run-above n b l (omega arith) (omega arith) r
+
+-- ---- and what lies below an item is such a continuation
 
 pub below-run : {n : ℕ} {x : Stmt} {l : List Item} → Roomy n (run x ∷ l) → Roomy n l
 below-run (run-item h g r) = r
@@ -109,5 +114,5 @@ pub below-drop : {n : ℕ} {l : List Item} → Roomy (suc n) (drop ∷ l) → Ro
 below-drop (drop-item h g r) = r
 
 -- a drop finds its variable
-pub drop-pos : {n : ℕ} {l : List Item} → Roomy n (drop ∷ l) → 1 ≤ n
-drop-pos (drop-item h g r) = omega arith
+pub drop-finds : {n : ℕ} {l : List Item} → Roomy n (drop ∷ l) → 1 ≤ n
+drop-finds (drop-item h g r) = omega arith

@@ -1,10 +1,12 @@
--- A tree at most 24 deep takes at most 24 items of a continuation and 23 lets. Assumes nothing.
+-- A body at most 24 deep has room: it takes at most 24 items of a continuation and 23 variables, and of each there are 25. Assumes nothing.
 use Prim.Native.Nat.{ℕ, _+_, _≤_, _<_, max}
 use native.Mathlib.Omega.{arith}
+use lib.ListN.{length}
 use Rattle.program.specs.Trees.{Stmt, nothing, seq, doAt, start, startWait, cooperate, letIn, store, ifElse, while}
-use Rattle.machine.proofs.Continuations.{high, lets}
+use Rattle.program.specs.Programs.{Program, moduleAt}
+use Rattle.machine.proofs.Continuations.{height, lets}
 
--- how deep the statements go
+-- how deep the statements go; the expressions under them do not count
 unfoldable pub deep : Stmt → ℕ
 deep (nothing i) = 1
 deep (seq i a b) = 1 + max (deep a) (deep b)
@@ -17,18 +19,19 @@ deep (store i x y) = 1
 deep (ifElse i x a b) = 1 + max (deep a) (deep b)
 deep (while i x a) = 1 + deep a
 
-pub high-deep : (x : Stmt) → high x ≤ deep x
-unfolding high deep
-high-deep (nothing i) = omega arith
-high-deep (seq i a b) = let f = high-deep a in let g = high-deep b in omega arith
-high-deep (doAt i q a) = let f = high-deep a in omega arith
-high-deep (start i m xs) = omega arith
-high-deep (startWait i m xs) = omega arith
-high-deep (cooperate i) = omega arith
-high-deep (letIn i x a) = let f = high-deep a in omega arith
-high-deep (store i x y) = omega arith
-high-deep (ifElse i x a b) = let f = high-deep a in let g = high-deep b in omega arith
-high-deep (while i x a) = let f = high-deep a in omega arith
+-- each statement takes at most one item of the continuation, and at most one variable, for each level of depth
+pub height-deep : (x : Stmt) → height x ≤ deep x
+unfolding height deep
+height-deep (nothing i) = omega arith
+height-deep (seq i a b) = let f = height-deep a in let g = height-deep b in omega arith
+height-deep (doAt i q a) = let f = height-deep a in omega arith
+height-deep (start i m xs) = omega arith
+height-deep (startWait i m xs) = omega arith
+height-deep (cooperate i) = omega arith
+height-deep (letIn i x a) = let f = height-deep a in omega arith
+height-deep (store i x y) = omega arith
+height-deep (ifElse i x a b) = let f = height-deep a in let g = height-deep b in omega arith
+height-deep (while i x a) = let f = height-deep a in omega arith
 
 pub lets-deep : (x : Stmt) → lets x < deep x
 unfolding lets deep
@@ -43,6 +46,10 @@ lets-deep (store i x y) = omega arith
 lets-deep (ifElse i x a b) = let f = lets-deep a in let g = lets-deep b in omega arith
 lets-deep (while i x a) = let f = lets-deep a in omega arith
 
--- with two parameters at most, both spaces of 25 do
-pub low-enough : (x : Stmt) (n : ℕ) → deep x ≤ 24 → n ≤ 2 → (high x ≤ 25) × (n + lets x ≤ 25)
-low-enough x n d p = let f = high-deep x in let g = lets-deep x in (omega arith, omega arith)
+-- beside two parameters at most
+pub deep-fits : (x : Stmt) (n : ℕ) → deep x ≤ 24 → n ≤ 2 → (height x ≤ 25) × (n + lets x ≤ 25)
+deep-fits x n d p = let f = height-deep x in let g = lets-deep x in (omega arith, omega arith)
+
+-- each body has room for its items and, beside the module's parameters, for its variables
+abbrev pub BodiesFit : Program → Type 0
+BodiesFit P = (m : ℕ) → m < length (P .modules) → (height (moduleAt P m .body) ≤ 25) × (length (moduleAt P m .types) + lets (moduleAt P m .body) ≤ 25)

@@ -1,5 +1,5 @@
 -- Of every choice on every state: a refused one leaves the state, and one that is not foreign accesses only cells of its thread or its place.
--- So of demand 3 the first point follows from the last. Assumes nothing.
+-- So of demand 3 `accessed` follows from `answered`. Assumes nothing.
 use mathlib.Core.Path.{_≡_, refl}
 use mathlib.Core.Logic.{_≢_}
 use mathlib.Core.List.{List, [], _∷_}
@@ -21,15 +21,19 @@ use Rattle.machine.specs.declared.value.Value.{Value}
 use Rattle.machine.specs.declared.value.Value.the-variants.{Number, Truth, Cell}
 use Rattle.machine.specs.declared.value.Outcome.{Outcome}
 use Rattle.machine.specs.declared.value.Outcome.the-variants.{Is, Foreign, Spent, Stuck}
-use Rattle.machine.proofs.Tests.{all-append}
+use Rattle.machine.proofs.Lists.{all-append}
 use Rattle.machine.proofs.Owns.{IsForeign, Owns, owns-eval, owns-storing}
 
+-- what r says of a choice put to the state s: refused, it kept the state; not foreign, it accessed only cells of its own
 pub record Fair (s : State) (r : Stepped) : Type 0 where
   pub kept : r .answer ≢ 0 → r .state ≡ s
   pub own : r .answer ≢ 19 → All Own (r .accesses)
 
+-- the accesses of the turn so far were to cells of its own
 abbrev Owning : Turn → Type 0
 Owning u = All Own (u .accesses)
+
+-- ---- the ways in which a turn goes on and ends
 
 fair-refuse : (u : Turn) (n : ℕ) → Owning u → Fair (u .state) (refuse u n)
 fair-refuse u n h = record { kept = λ _. refl; own = λ _. h }
@@ -82,6 +86,8 @@ unfolding starting
 fair-starting u m vs r h g =
     let f = fair-refuse u 20 h in
     fair-if _ _ _ _ f (fair-if _ _ _ _ f (fair-if _ _ _ _ f (fair-if _ _ _ _ f (fair-if _ _ _ _ (fair-refuse u 18 h) g))))
+
+-- ---- each statement, each item, each choice
 
 fair-statement : (u : Turn) (x : Stmt) → Owning u → Fair (u .state) (stepStatement u x)
 unfolding stepNothing stepSeq stepDo stepStart startedWait stepStartWait stepCooperate stepLet stepStore stepIf stepWhile

@@ -1,14 +1,14 @@
--- A state is in shape where its words are in range, and words in range say a state in shape. Assumes nothing.
-use Prim.Native.Nat.{ℕ, suc, zero, _+_, _*_, _-_, _/_, _%_, _^_, _<_, _≤_}
+-- The words of a state in shape are in range, and words in range say a state in shape. Assumes nothing.
+use Prim.Native.Nat.{ℕ, suc, _+_, _*_, _-_, _/_, _%_, _^_, _<_, _≤_}
 use mathlib.Core.Path.{_≡_, refl, sym, ap, _∙_, subst}
-use mathlib.Core.List.{List, [], _∷_, map, reverse}
+use mathlib.Core.List.{List, map, reverse}
 use mathlib.Core.Bool.{Bool, true, false, not}
 use native.Mathlib.Omega.{arith}
 use native.Mathlib.Nat.{add-zero}
 use lib.ListN.{getD, length, length-map, length-reverse, List·getD-eq-default}
 use lib.Dec.{ltb, leb}
-use borrow.Author.Tests.{ltb-true, ltb-false, lt-ltb, le-ltb, leb-true, le-leb}
-use Rattle.basics.specs.Members.{All, none, more}
+use borrow.Author.Tests.{ltb-true, lt-ltb, le-ltb, leb-true, le-leb}
+use Rattle.basics.specs.Members.{All}
 use Rattle.basics.proofs.Ifs.{if-yes, if-no, and-true}
 use Rattle.language.specs.Places.{hasPlace}
 use Rattle.language.specs.declared.frame.Frame.{Frame}
@@ -19,14 +19,17 @@ use Rattle.machine.specs.declared.value.Value.the-variants.{Number, Trut
 use Rattle.machine.specs.Words.{bit, valueWord, wordValue, itemWord, wordItem, entryWord, wordEntry, cellWord, wordCell, listWord, threadWord, schedulerWord, wordsAt, threadFrom, schedulerFrom, unpack, pack}
 use Rattle.machine.specs.Ranges.{isStatement, itemInRange, valueInRange, entryInRange, threadInRange, cellInRange, ownerInRange, threadWordInRange, schedulerInRange, inRange}
 use Rattle.machine.proofs.Tests.{and-both}
-use Rattle.machine.proofs.WordLaws.{tab-length, tab-at, Says}
+use Rattle.machine.proofs.Lists.{all-getD, all-imply, all-map, all-reverse}
+use Rattle.machine.proofs.Regions.{by-thread-word, by-scheduler-word}
+use Rattle.machine.proofs.WordLaws.{tab-length, tab-at, Says, thread-says, scheduler-says}
 use Rattle.machine.proofs.Blocks.{says-pack}
 use Rattle.machine.proofs.Shapes.{ValueFits, number, truth, cell, ItemFits, run-fits, back-fits, drop-fits, EntryFits, plain-fits, waiting-fits, IsThread, ThreadFits, SchedulerFits, CellFits, Shaped}
 use Rattle.machine.proofs.Round.{thread-0, thread-1, thread-2, thread-continuation, thread-variables, scheduler-active, scheduler-next, value-below}
 use Rattle.machine.proofs.Ranges.{InRange, Space, of-space, range-place, range-starter, range-lives, range-items, range-variables, range-active, range-next, in-range, range-in}
-use Rattle.machine.proofs.Valid.{root-at, aux-all, list-all, items-space, values-space, active-space, next-space, no-thread-word, no-scheduler-word, no-cell-word}
+use Rattle.machine.proofs.Valid.{root-at, list-all, items-space, values-space, active-space, next-space, no-thread-word, no-scheduler-word, no-cell-word}
 
--- ---- single words of a state in shape
+-- ---- single words of a state in shape are in range
+
 thread-in : (t : ℕ) → IsThread t → threadInRange t ≡ true
 unfolding threadInRange
 thread-in t h = and-both (leb 1 t) (leb t 64) (le-leb 1 t (h .0)) (le-leb t 64 (h .1))
@@ -71,7 +74,8 @@ cell-in n x h =
     let b : (x .owner * 2 ^ 34 + valueWord (x .content)) % 2 ^ 34 ≡ valueWord (x .content) = omega arith in
     and-both _ _ (ap (ownerInRange n) a ∙ h .owner) (ap valueInRange b ∙ value-in (x .content) (h .value))
 
--- ---- single words in range
+-- ---- single words in range say what is in shape
+
 in-value : (v : ℕ) → valueInRange v ≡ true → ValueFits (wordValue v)
 unfolding valueInRange wordValue
 in-value v h = first (ltb v (2 ^ 32)) refl
@@ -127,39 +131,30 @@ in-cell n v h =
     let p = and-true (ownerInRange n (v / 2 ^ 34)) (valueInRange (v % 2 ^ 34)) h in
     record { owner = p .0; value = in-value (v % 2 ^ 34) (p .1) }
 
--- ---- lists
-all-map : {A B : Type 0} (Q : A → Type 0) (P : B → Type 0) (f : A → B) → ((x : A) → Q x → P (f x)) → (xs : List A) → All Q xs → All P (map f xs)
-all-map Q P f h [] none = none
-all-map Q P f h (x ∷ xs) (more q qs) = more (h x q) (all-map Q P f h xs qs)
+-- ---- a list in its space
 
-all-at : (P : ℕ → Type 0) (xs : List ℕ) (j : ℕ) → All P xs → j < length xs → P (getD xs j 0)
-all-at P [] j none h = absurd (omega arith)
-all-at P (x ∷ xs) zero (more p ps) h = p
-all-at P (x ∷ xs) (suc j) (more p ps) h = all-at P xs j ps (omega arith)
-
--- a list in its space
 list-space : (test : ℕ → Bool) (w : List ℕ) (i m : ℕ) (ws : List ℕ) → ((j : ℕ) → j < suc m → getD w (i + j) 0 ≡ listWord ws j)
     → length ws ≤ m → All (λ (v : ℕ). test v ≡ true) ws → Space test w i m
 list-space test w i m ws says fits all =
     record {
       room = rw long fits;
-      used = λ j g. let l : j < length ws = rw (← long) g in ap test (says (suc j) (omega arith)) ∙ all-at (λ (v : ℕ). test v ≡ true) ws j all l;
+      used = λ j g. let l : j < length ws = rw (← long) g in ap test (says (suc j) (omega arith)) ∙ all-getD (λ (v : ℕ). test v ≡ true) ws 0 j all l;
       unused = λ j l g. says (suc j) (omega arith) ∙ List·getD-eq-default ws 0 {n = j} (rw (← long) l);
     }
   where
     long : getD w i 0 ≡ length ws
     long = ap (λ (k : ℕ). getD w k 0) (sym (add-zero i)) ∙ says 0 (omega arith)
 
+-- ---- the words of a state in shape
 module _ (fs : List Frame) (n : ℕ) (w : List ℕ) (s : State) (h : Says w s) (z : Shaped fs n s) where
-  -- ---- the words of a state in shape
-  word : (k j i : ℕ) → k < 64 → j < 55 → i ≡ 1042 + 55 * k + j → getD w i 0 ≡ threadWord (getD (s .threads) k noThread) j
-  word k j i a b e = ap (λ (m : ℕ). getD w m 0) e ∙ h .thread k j a b
-
-  sword : (k j i : ℕ) → k < 8 → j < 130 → i ≡ 2 + 130 * k + j → getD w i 0 ≡ schedulerWord (getD (s .schedulers) k noScheduler) j
-  sword k j i a b e = ap (λ (m : ℕ). getD w m 0) e ∙ h .scheduler k j a b
-
   thread-range : (k j : ℕ) → k < 64 → j < 55 → ThreadFits fs n (getD (s .threads) k noThread) → threadWordInRange fs n w (1042 + 55 * k) j ≡ true
-  thread-range k j a b f = at j b
+  thread-range k j a b f =
+      by-thread-word (λ (i : ℕ). threadWordInRange fs n w (1042 + 55 * k) i ≡ true)
+      (range-place fs n w (1042 + 55 * k) ∙ ap (hasPlace n) (thread-says h k 0 (1042 + 55 * k) a (omega arith) (omega arith) ∙ thread-0 x) ∙ f .place)
+      (range-starter fs n w (1042 + 55 * k) ∙ le-leb (getD w (1042 + 55 * k + 1) 0) 64 starts)
+      (range-lives fs n w (1042 + 55 * k) ∙ le-leb (getD w (1042 + 55 * k + 2) 0) 1 lives)
+      (λ i g. range-items fs n w (1042 + 55 * k) i g ∙ of-space (itemInRange fs n) w (1042 + 55 * k + 3) 25 items i g)
+      (λ i g. range-variables fs n w (1042 + 55 * k) i g ∙ of-space valueInRange w (1042 + 55 * k + 29) 25 values i g) j b
     where
       x : Thread
       x = getD (s .threads) k noThread
@@ -167,15 +162,15 @@ module _ (fs : List Frame) (n : ℕ) (w : List ℕ) (s : State) (h : Says w s) (
       items : Space (itemInRange fs n) w (1042 + 55 * k + 3) 25
       items =
           list-space (itemInRange fs n) w (1042 + 55 * k + 3) 25 (reverse (map itemWord (x .continuation)))
-          (λ i g. word k (3 + i) (1042 + 55 * k + 3 + i) a (omega arith) (omega arith) ∙ thread-continuation x i (omega arith))
+          (λ i g. thread-says h k (3 + i) (1042 + 55 * k + 3 + i) a (omega arith) (omega arith) ∙ thread-continuation x i (omega arith))
           (rw (length-reverse (map itemWord (x .continuation)) ∙ length-map (x .continuation) itemWord) (f .items-room))
-          (aux-all (λ (v : ℕ). itemInRange fs n v ≡ true) (map itemWord (x .continuation)) []
-          (all-map (ItemFits fs n) (λ (v : ℕ). itemInRange fs n v ≡ true) itemWord (item-in fs n) (x .continuation) (f .items)) none)
+          (all-reverse (λ (v : ℕ). itemInRange fs n v ≡ true) (map itemWord (x .continuation))
+          (all-map (ItemFits fs n) (λ (v : ℕ). itemInRange fs n v ≡ true) itemWord (item-in fs n) (x .continuation) (f .items)))
 
       values : Space valueInRange w (1042 + 55 * k + 29) 25
       values =
           list-space valueInRange w (1042 + 55 * k + 29) 25 (map valueWord (x .variables))
-          (λ i g. word k (29 + i) (1042 + 55 * k + 29 + i) a (omega arith) (omega arith) ∙ thread-variables x i (omega arith))
+          (λ i g. thread-says h k (29 + i) (1042 + 55 * k + 29 + i) a (omega arith) (omega arith) ∙ thread-variables x i (omega arith))
           (rw (length-map (x .variables) valueWord) (f .variables-room))
           (all-map ValueFits (λ (v : ℕ). valueInRange v ≡ true) valueWord value-in (x .variables) (f .values))
 
@@ -184,33 +179,16 @@ module _ (fs : List Frame) (n : ℕ) (w : List ℕ) (s : State) (h : Says w s) (
       bit-le false = omega arith
 
       lives : getD w (1042 + 55 * k + 2) 0 ≤ 1
-      lives = rw (word k 2 (1042 + 55 * k + 2) a (omega arith) refl ∙ thread-2 x) (bit-le (not (x .ended)))
+      lives = rw (thread-says h k 2 (1042 + 55 * k + 2) a (omega arith) refl ∙ thread-2 x) (bit-le (not (x .ended)))
 
       starts : getD w (1042 + 55 * k + 1) 0 ≤ 64
-      starts = rw (word k 1 (1042 + 55 * k + 1) a (omega arith) refl ∙ thread-1 x) (f .starter)
-
-      far : (i : ℕ) → i < 55 → 3 ≤ i → (c : Bool) → ltb i 29 ≡ c → threadWordInRange fs n w (1042 + 55 * k) i ≡ true
-      far i g l true q =
-          let m : i < 29 = ltb-true i 29 q in
-          let e : 3 + (i - 3) ≡ i = omega arith in
-          subst (λ (j : ℕ). threadWordInRange fs n w (1042 + 55 * k) j ≡ true) e
-          (range-items fs n w (1042 + 55 * k) (i - 3) (omega arith) ∙ of-space (itemInRange fs n) w (1042 + 55 * k + 3) 25 items (i - 3) (omega arith))
-      far i g l false q =
-          let m : 29 ≤ i = ltb-false i 29 q in
-          let e : 29 + (i - 29) ≡ i = omega arith in
-          subst (λ (j : ℕ). threadWordInRange fs n w (1042 + 55 * k) j ≡ true) e
-          (range-variables fs n w (1042 + 55 * k) (i - 29) (omega arith) ∙ of-space valueInRange w (1042 + 55 * k + 29) 25 values (i - 29) (omega arith))
-
-      at : (i : ℕ) → i < 55 → threadWordInRange fs n w (1042 + 55 * k) i ≡ true
-      at zero g =
-          range-place fs n w (1042 + 55 * k)
-          ∙ ap (hasPlace n) (word k 0 (1042 + 55 * k) a (omega arith) (omega arith) ∙ thread-0 x) ∙ f .place
-      at (suc zero) g = range-starter fs n w (1042 + 55 * k) ∙ le-leb (getD w (1042 + 55 * k + 1) 0) 64 starts
-      at (suc (suc zero)) g = range-lives fs n w (1042 + 55 * k) ∙ le-leb (getD w (1042 + 55 * k + 2) 0) 1 lives
-      at (suc (suc (suc i))) g = far (suc (suc (suc i))) g (omega arith) (ltb (suc (suc (suc i))) 29) refl
+      starts = rw (thread-says h k 1 (1042 + 55 * k + 1) a (omega arith) refl ∙ thread-1 x) (f .starter)
 
   scheduler-range : (k j : ℕ) → k < 8 → j < 130 → SchedulerFits (getD (s .schedulers) k noScheduler) → schedulerInRange w (2 + 130 * k) j ≡ true
-  scheduler-range k j a b f = at (ltb j 65) refl
+  scheduler-range k j a b f =
+      by-scheduler-word (λ (i : ℕ). schedulerInRange w (2 + 130 * k) i ≡ true)
+      (λ i g. range-active w (2 + 130 * k) i g ∙ of-space threadInRange w (2 + 130 * k) 64 active i g)
+      (λ i g. range-next w (2 + 130 * k) i g ∙ of-space entryInRange w (2 + 130 * k + 65) 64 next i g) j b
     where
       x : Scheduler
       x = getD (s .schedulers) k noScheduler
@@ -218,27 +196,15 @@ module _ (fs : List Frame) (n : ℕ) (w : List ℕ) (s : State) (h : Says w s) (
       active : Space threadInRange w (2 + 130 * k) 64
       active =
           list-space threadInRange w (2 + 130 * k) 64 (x .active)
-          (λ i g. sword k i (2 + 130 * k + i) a (omega arith) refl ∙ scheduler-active x i (omega arith)) (f .active-room)
-          (copy (x .active) (f .threads))
-        where
-          copy : (l : List ℕ) → All IsThread l → All (λ (v : ℕ). threadInRange v ≡ true) l
-          copy [] none = none
-          copy (t ∷ l) (more p ps) = more (thread-in t p) (copy l ps)
+          (λ i g. scheduler-says h k i (2 + 130 * k + i) a (omega arith) refl ∙ scheduler-active x i (omega arith)) (f .active-room)
+          (all-imply thread-in (f .threads))
 
       next : Space entryInRange w (2 + 130 * k + 65) 64
       next =
           list-space entryInRange w (2 + 130 * k + 65) 64 (map entryWord (x .next))
-          (λ i g. sword k (65 + i) (2 + 130 * k + 65 + i) a (omega arith) (omega arith) ∙ scheduler-next x i (omega arith))
+          (λ i g. scheduler-says h k (65 + i) (2 + 130 * k + 65 + i) a (omega arith) (omega arith) ∙ scheduler-next x i (omega arith))
           (rw (length-map (x .next) entryWord) (f .next-room))
           (all-map EntryFits (λ (v : ℕ). entryInRange v ≡ true) entryWord entry-in (x .next) (f .entries))
-
-      at : (c : Bool) → ltb j 65 ≡ c → schedulerInRange w (2 + 130 * k) j ≡ true
-      at true q = range-active w (2 + 130 * k) j (ltb-true j 65 q) ∙ of-space threadInRange w (2 + 130 * k) 64 active j (ltb-true j 65 q)
-      at false q =
-          let m : 65 ≤ j = ltb-false j 65 q in
-          let e : 65 + (j - 65) ≡ j = omega arith in
-          subst (λ (i : ℕ). schedulerInRange w (2 + 130 * k) i ≡ true) e
-          (range-next w (2 + 130 * k) (j - 65) (omega arith) ∙ of-space entryInRange w (2 + 130 * k + 65) 64 next (j - 65) (omega arith))
 
   says-range : InRange fs n w
   says-range =
@@ -277,7 +243,7 @@ module _ (fs : List Frame) (n : ℕ) (w : List ℕ) (h : InRange fs n w) where
         variables-room = rw (length-map values wordValue ∙ tab-length (getD w (1042 + 55 * k + 29) 0) (λ j. getD w j 0) (suc (1042 + 55 * k + 29))) (values-space fs n w h k a .room);
         items =
             all-map (λ (v : ℕ). itemInRange fs n v ≡ true) (ItemFits fs n) (wordItem fs) (in-item fs n) (reverse items)
-            (aux-all (λ (v : ℕ). itemInRange fs n v ≡ true) items [] (list-all (itemInRange fs n) w (1042 + 55 * k + 3) 25 (items-space fs n w h k a)) none);
+            (all-reverse (λ (v : ℕ). itemInRange fs n v ≡ true) items (list-all (itemInRange fs n) w (1042 + 55 * k + 3) 25 (items-space fs n w h k a)));
         values =
             all-map (λ (v : ℕ). valueInRange v ≡ true) ValueFits wordValue in-value values
             (list-all valueInRange w (1042 + 55 * k + 29) 25 (values-space fs n w h k a));
@@ -295,16 +261,12 @@ module _ (fs : List Frame) (n : ℕ) (w : List ℕ) (h : InRange fs n w) where
       record {
         active-room = rw (tab-length (getD w (2 + 130 * k) 0) (λ j. getD w j 0) (suc (2 + 130 * k))) (active-space fs n w h k l a .room);
         next-room = rw (length-map next wordEntry ∙ tab-length (getD w (67 + 130 * k) 0) (λ j. getD w j 0) (suc (67 + 130 * k))) (next-space fs n w h k l a .room);
-        threads = copy (wordsAt w (2 + 130 * k)) (list-all threadInRange w (2 + 130 * k) 64 (active-space fs n w h k l a));
+        threads = all-imply in-thread (list-all threadInRange w (2 + 130 * k) 64 (active-space fs n w h k l a));
         entries = all-map (λ (v : ℕ). entryInRange v ≡ true) EntryFits wordEntry in-entry next (list-all entryInRange w (67 + 130 * k) 64 (next-space fs n w h k l a));
       }
     where
       next : List ℕ
       next = wordsAt w (67 + 130 * k)
-
-      copy : (l : List ℕ) → All (λ (v : ℕ). threadInRange v ≡ true) l → All IsThread l
-      copy [] none = none
-      copy (t ∷ l) (more p ps) = more (in-thread t p) (copy l ps)
 
   range-shaped : n ≤ 8 → Shaped fs n (unpack fs n w)
   unfolding unpack

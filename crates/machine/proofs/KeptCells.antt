@@ -1,16 +1,16 @@
 -- Evaluation keeps the cells in shape and gives values in shape. Assumes nothing.
-use Prim.Native.Nat.{ℕ, suc, zero, _+_, _%_, _^_, _<_, _≤_}
+use Prim.Native.Nat.{ℕ, _+_, _%_, _^_, _<_, _≤_}
 use mathlib.Core.Path.{_≡_, refl, sym, ap, _∙_, subst}
 use mathlib.Core.List.{List, [], _∷_, _++_}
-use mathlib.Core.Bool.{Bool, true, false, _||_}
+use mathlib.Core.Bool.{Bool, true, false}
 use native.Mathlib.Omega.{arith}
 use native.Mathlib.Decide.{ℕ-discrete}
 use lib.ListN.{getD, length, set, length-set, length-append, List·getD-append}
 use lib.Seq.{getD-set-same, getD-set-other, getD-at}
 use lib.Dec.{ltb, leb, eqb}
 use borrow.Author.Tests.{ltb-true, ltb-false, eqb-false, leb-true, le-leb}
-use Rattle.basics.specs.Members.{All, none, more}
-use Rattle.basics.proofs.Ifs.{if-all, and-true, or-on}
+use Rattle.basics.specs.Members.{All}
+use Rattle.basics.proofs.Ifs.{if-all, and-true}
 use Rattle.language.specs.Places.{hasPlace, hasScheduler}
 use Rattle.program.specs.Trees.{Expr}
 use Rattle.machine.specs.Accesses.{Access}
@@ -21,10 +21,12 @@ use Rattle.machine.specs.declared.value.Value.{Value}
 use Rattle.machine.specs.declared.value.Value.the-variants.{Number, Truth, Cell}
 use Rattle.machine.specs.declared.value.Outcome.{Outcome}
 use Rattle.machine.specs.declared.value.Outcome.the-variants.{Is, Foreign, Spent, Stuck}
-use Rattle.machine.proofs.Tests.{and-both}
+use Rattle.machine.proofs.Tests.{and-both, or-left, or-right}
+use Rattle.machine.proofs.Lists.{all-getD}
 use Rattle.machine.proofs.Shapes.{ValueFits, number, truth, cell, CellFits, IsThread}
 
--- ---- each member of a list, by its index
+-- ---- a list with a member replaced, and with one more, where Q holds of each by its index
+
 pub each-set : {A : Type 0} (Q : A → Type 0) (xs : List A) (i : ℕ) (x d : A) → ((k : ℕ) → k < length xs → Q (getD xs k d)) → (i < length xs → Q x)
     → (k : ℕ) → k < length (set xs i x) → Q (getD (set xs i x) k d)
 each-set {A} Q xs i x d h q k g = go (ℕ-discrete k i)
@@ -52,12 +54,8 @@ each-snoc {A} Q xs x d h q k g = go (ltb k (length xs)) refl
     go true e = subst Q (sym (List·getD-append xs (x ∷ []) d k (ltb-true k (length xs) e))) (h k (ltb-true k (length xs) e))
     go false e = subst Q (sym (getD-at xs x [] d k (last (ltb-false k (length xs) e) g l))) q
 
-pub all-getD : {A : Type 0} (Q : A → Type 0) (xs : List A) (d : A) (k : ℕ) → All Q xs → k < length xs → Q (getD xs k d)
-all-getD Q [] d k none h = absurd (omega arith)
-all-getD Q (x ∷ xs) d zero (more q qs) h = q
-all-getD Q (x ∷ xs) d (suc k) (more q qs) h = all-getD Q xs d k qs (omega arith)
-
 -- ---- cells and expressions in shape
+
 pub record CellsFit (n : ℕ) (cs : List Stored) : Type 0 where
   pub room : length cs ≤ 256
   pub each : (k : ℕ) → k < length cs → CellFits n (getD cs k noCell)
@@ -80,6 +78,7 @@ pub data ExprFits (n : ℕ) : Expr → Type 0 where
   a-less : {i : ℕ} {x y : Expr} → ExprFits n x → ExprFits n y → ExprFits n (Expr.less i x y)
   a-choice : {i : ℕ} {x y z : Expr} → ExprFits n x → ExprFits n y → ExprFits n z → ExprFits n (Expr.choose i x y z)
 
+-- what an evaluation gives: cells in shape, and a value in shape or a refusal
 pub data OutcomeFits : Outcome → Type 0 where
   is-value : {v : Value} → ValueFits v → OutcomeFits (Is v)
   is-foreign : OutcomeFits Foreign
@@ -91,6 +90,7 @@ pub record EvalFits (n : ℕ) (r : Evaluated) : Type 0 where
   pub outcome : OutcomeFits (r .outcome)
 
 -- ---- one after the other
+
 fit-after : {n : ℕ} (ts : List Access) (r : Evaluated) → EvalFits n r → EvalFits n (after ts r)
 fit-after ts r h = record { cells = h .cells; outcome = h .outcome }
 
@@ -110,6 +110,8 @@ fit-stuck cs c = record { cells = c; outcome = is-stuck }
 
 fit-is : {n : ℕ} (v : Value) (cs : List Stored) → CellsFit n cs → ValueFits v → EvalFits n (gives (Is v) cs)
 fit-is v cs c w = record { cells = c; outcome = is-value w }
+
+-- ---- one law for each kind, behind its operands
 
 fit-accessing : {n : ℕ} (h : Here) (c o : ℕ) (r : Evaluation) (cs : List Stored) → CellsFit n cs → EvalFits n (r cs) → EvalFits n (accessing h c o r cs)
 unfolding accessing
@@ -140,12 +142,6 @@ fit-store {n} h (Cell c) w cs d g =
     })
 fit-store h (Number m) w cs d g = fit-stuck cs d
 fit-store h (Truth b) w cs d g = fit-stuck cs d
-
-or-left : (a b : Bool) → a ≡ true → (a || b) ≡ true
-or-left a b e = ap (λ (x : Bool). x || b) e
-
-or-right : (a b : Bool) → b ≡ true → (a || b) ≡ true
-or-right a b e = ap (λ (x : Bool). a || x) e ∙ or-on a
 
 -- an owner that the file has, or the thread's own
 fit-owner : (n : ℕ) (h : Here) (s : ℕ) → IsThread (h .thread) → hasPlace n s ≡ true → ownerInRange n (newOwner h s) ≡ true
@@ -207,6 +203,8 @@ fit-plus a b = number (below (a + b))
   where
     below : (m : ℕ) → m % 2 ^ 32 < 2 ^ 32
     below m = omega arith
+
+-- ---- expressions, and 17's store
 
 pub fit-eval : {n : ℕ} {x : Expr} (h : Here) (cs : List Stored) → HereFits h → CellsFit n cs → ExprFits n x → EvalFits n (eval h x cs)
 unfolding eval readVariable sharedCell

@@ -1,12 +1,12 @@
--- Each choice keeps the state in shape, so a state reached from a fresh one is never 14; of a file that passes refusals 1 to 7. Assumes nothing.
+-- Each choice keeps the state in shape, so a state reached from a fresh one is never 14: in a file as refusals 1 to 7 leave it, `FileFits`, which crate reach proves of them. Assumes nothing.
 use Prim.Native.Nat.{ℕ, suc, zero, _+_, _-_, _<_, _≤_}
 use mathlib.Core.Path.{_≡_, refl, sym, ap, _∙_, subst}
 use mathlib.Core.List.{List, [], _∷_, map}
-use mathlib.Core.Bool.{Bool, true, false, not, _&&_, true≢false}
+use mathlib.Core.Bool.{Bool, true, false, not, _&&_}
 use native.Mathlib.Omega.{arith}
-use lib.ListN.{getD, length, set, take, replicate, length-set, length-append, length-map, List·getD-eq-default}
+use lib.ListN.{getD, length, set, replicate, length-set, length-append, length-map, length-replicate, List·getD-eq-default}
 use lib.Dec.{ltb, leb, eqb}
-use borrow.Author.Tests.{ltb-true, ltb-false, eqb-true, leb-true, leb-false, le-leb}
+use borrow.Author.Tests.{ltb-true, ltb-false, eqb-true, leb-true, leb-false, le-leb, not-false}
 use Rattle.basics.specs.Members.{All, none, more}
 use Rattle.basics.proofs.Ifs.{if-all, and-true}
 use Rattle.language.specs.Places.{hasPlace}
@@ -27,13 +27,13 @@ use Rattle.machine.specs.declared.value.Value.{Value}
 use Rattle.machine.specs.declared.value.Value.the-variants.{Number, Truth, Cell}
 use Rattle.machine.specs.declared.value.Outcome.{Outcome}
 use Rattle.machine.specs.declared.value.Outcome.the-variants.{Is, Foreign, Spent, Stuck}
-use Rattle.machine.proofs.Tests.{all-append}
+use Rattle.machine.proofs.Lists.{all-getD, all-map, all-append, all-take}
 use Rattle.machine.proofs.Space.{leave-threads, nth-length, parted}
 use Rattle.machine.proofs.Shapes.{ValueFits, ItemFits, run-fits, back-fits, drop-fits, IsThread, EntryFits, plain-fits, waiting-fits, ThreadFits, SchedulerFits, CellFits, Shaped}
 use Rattle.machine.proofs.InShape.{shaped-in-range}
-use Rattle.machine.proofs.KeptCells.{each-set, each-snoc, all-getD, CellsFit, HereFits, ExprFits, OutcomeFits, is-value, EvalFits, fit-eval, fit-storing}
+use Rattle.machine.proofs.KeptCells.{each-set, each-snoc, CellsFit, HereFits, ExprFits, OutcomeFits, is-value, EvalFits, fit-eval, fit-storing}
 
--- ---- a file that passes refusals 1 to 7
+-- ---- a file as refusals 1 to 7 leave it
 
 -- what a statement is made of: statements of the file, places that it has, expressions in shape
 pub data Parts (fs : List Frame) (n : ℕ) : Stmt → Type 0 where
@@ -48,6 +48,7 @@ pub data Parts (fs : List Frame) (n : ℕ) : Stmt → Type 0 where
   of-if : {i : ℕ} {x : Expr} {a b : Stmt} → ExprFits n x → ItemFits fs n (run a) → ItemFits fs n (run b) → Parts fs n (Stmt.ifElse i x a b)
   of-while : {i : ℕ} {x : Expr} {a : Stmt} → ExprFits n x → ItemFits fs n (run a) → Parts fs n (Stmt.while i x a)
 
+-- what the spaces need of a file of n schedulers: no number of it is out of range, and each statement that a continuation can hold is one of its frames
 pub record FileFits (fs : List Frame) (P : Program) (n : ℕ) : Type 0 where
   pub schedulers : P .schedulers ≡ n
   pub some-scheduler : 1 ≤ n
@@ -58,7 +59,8 @@ pub record FileFits (fs : List Frame) (P : Program) (n : ℕ) : Type 0 where
   pub bodies : (m : ℕ) → m < length (P .modules) → ItemFits fs n (run (moduleAt P m .body)) × (length (moduleAt P m .types) ≤ 25)
   pub statements : (i : ℕ) → i < 1024 → isStatement (frameAt fs i .kind) ≡ true → Parts fs n (statementAt fs i)
 
--- ---- lists of schedulers
+-- ---- how many entries next lists have, when a scheduler is replaced
+
 next-same : (xs : List Scheduler) (i j : ℕ) (y : Scheduler) → length (y .next) ≡ length (getD xs i noScheduler .next)
     → length (getD (set xs i y) j noScheduler .next) ≡ length (getD xs j noScheduler .next)
 next-same [] i j y e = refl
@@ -73,21 +75,15 @@ next-more [] i y e = omega arith
 next-more (x ∷ xs) zero y e = omega arith
 next-more (x ∷ xs) (suc i) y e = next-more xs i y e
 
-all-take : {A : Type 0} {Q : A → Type 0} (k : ℕ) (xs : List A) → All Q xs → All Q (take k xs)
-all-take zero xs h = none
-all-take (suc k) [] h = none
-all-take (suc k) (x ∷ xs) (more q qs) = more q (all-take k xs qs)
-
-not-no : (b : Bool) → not b ≡ false → b ≡ true
-not-no true e = refl
-not-no false e = absurd (true≢false e)
-
 module _ (fs : List Frame) (P : Program) (n : ℕ) (F : FileFits fs P n) where
+  -- a place's number fits the word of a 'back'
   pub place-small : (q : ℕ) → hasPlace n q ≡ true → q < 1024
   place-small q h = let l = leb-true q (1 + n) (and-true (leb 1 q) (leb q (1 + n)) h .1) in let m = F .most-schedulers in omega arith
 
   pub parts-of : {x : Stmt} → ItemFits fs n (run x) → Parts fs n x
   parts-of {x} (run-fits l k e) = subst (Parts fs n) e (F .statements (rootS x) l k)
+
+  -- ---- the parts of a state in shape, and the changes of them that a step makes
 
   none-fits : SchedulerFits noScheduler
   none-fits = record { active-room = omega arith; next-room = omega arith; threads = none; entries = none }
@@ -134,6 +130,7 @@ module _ (fs : List Frame) (P : Program) (n : ℕ) (F : FileFits fs P n) where
       }
 
   -- ---- a turn in shape
+
   pub record TurnFits (u : Turn) : Type 0 where
     pub before : Shaped fs n (u .state)
     pub cells : CellsFit n (u .cells)
@@ -146,23 +143,20 @@ module _ (fs : List Frame) (P : Program) (n : ℕ) (F : FileFits fs P n) where
 
   -- the acting thread replaced, where it is there
   settled-fits : (u : Turn) (x : Thread) → Shaped fs n (u .state) → CellsFit n (u .cells) → ((i : ℕ) → u .thread ≡ suc i → i < length (u .state .threads) → ThreadFits fs n x) → Shaped fs n (settled u x)
-  settled-fits u x z c f = go (u .thread) refl
+  settled-fits u x z c f = record {
+    threads-room = at (u .thread) (λ (l : List Thread). length l ≤ 64) (z .threads-room) (λ i q. rw (length-set (u .state .threads) i x) (z .threads-room));
+    schedulers-room = z .schedulers-room;
+    cells-room = c .room;
+    count = z .count;
+    threads = at (u .thread) (λ (l : List Thread). (k : ℕ) → k < length l → ThreadFits fs n (getD l k noThread)) (z .threads)
+        (λ i q. each-set (ThreadFits fs n) (u .state .threads) i x noThread (z .threads) (f i q));
+    schedulers = z .schedulers;
+    cells = c .each;
+  }
     where
-      go : (t : ℕ) → u .thread ≡ t → Shaped fs n (settled u x)
-      go t e = record {
-        threads-room = at (u .thread) (λ (l : List Thread). length l ≤ 64) (z .threads-room) (λ i q. rw (length-set (u .state .threads) i x) (z .threads-room));
-        schedulers-room = z .schedulers-room;
-        cells-room = c .room;
-        count = z .count;
-        threads = at (u .thread) (λ (l : List Thread). (k : ℕ) → k < length l → ThreadFits fs n (getD l k noThread)) (z .threads)
-            (λ i q. each-set (ThreadFits fs n) (u .state .threads) i x noThread (z .threads) (f i q));
-        schedulers = z .schedulers;
-        cells = c .each;
-      }
-        where
-          at : (t : ℕ) (Q : List Thread → Type 0) → Q (u .state .threads) → ((i : ℕ) → t ≡ suc i → Q (set (u .state .threads) i x)) → Q (setNth (u .state .threads) t x)
-          at zero Q a b = a
-          at (suc i) Q a b = b i refl
+      at : (t : ℕ) (Q : List Thread → Type 0) → Q (u .state .threads) → ((i : ℕ) → t ≡ suc i → Q (set (u .state .threads) i x)) → Q (setNth (u .state .threads) t x)
+      at zero Q a b = a
+      at (suc i) Q a b = b i refl
 
   keeps-settled : (u : Turn) (x : Thread) → TurnFits u → ThreadFits fs n x → Shaped fs n (settled u x)
   keeps-settled u x k f = settled-fits u x (k .before) (k .cells) (λ _ _ _. f)
@@ -199,6 +193,7 @@ module _ (fs : List Frame) (P : Program) (n : ℕ) (F : FileFits fs P n) where
   has-room u m q e = leb-true (length (schedulerAt (u .state) q .next) + m) 64 e
 
   -- ---- where a thread goes
+
   pub self-fits : (u : Turn) (q : ℕ) (items : List Item) (vars : List Value) → TurnFits u → hasPlace n q ≡ true → All (ItemFits fs n) items → All ValueFits vars → fits items vars ≡ true
       → ThreadFits fs n (selfAt u q items vars)
   unfolding fits
@@ -215,7 +210,7 @@ module _ (fs : List Frame) (P : Program) (n : ℕ) (F : FileFits fs P n) where
   unfolding move
   keeps-move u q items k p i =
       if-all Keeps (not (fits items (variables u))) _ _ (λ _. k .before)
-      (λ e. let z = leave-fits u _ (keeps-settled u (selfAt u q items (variables u)) k (self-fits u q items (variables u) k p i (k .self .values) (not-no (fits items (variables u)) e))) in
+      (λ e. let z = leave-fits u _ (keeps-settled u (selfAt u q items (variables u)) k (self-fits u q items (variables u) k p i (k .self .values) (not-false (fits items (variables u)) e))) in
       if-all Keeps (eqb q 1) _ _ (λ _. z)
       (λ _. if-all Keeps (room u 1 q) _ _
       (λ r. let l = leave-next u (settled u (selfAt u q items (variables u))) q in let m = has-room u 1 q r in
@@ -227,6 +222,7 @@ module _ (fs : List Frame) (P : Program) (n : ℕ) (F : FileFits fs P n) where
   keeps-goTo u q items k p i = if-all Keeps (eqb q (here u)) _ _ (λ _. keeps-stay u items (variables u) k i (k .self .values)) (λ _. keeps-move u q items k p i)
 
   -- ---- evaluations
+
   pub here-fits : (u : Turn) → TurnFits u → HereFits (evaluator u)
   here-fits u k = record { thread = k .thread; values = k .self .values; shared = subst (λ (p : Program). length (p .shared) ≤ 256) (sym (k .program)) (F .shared-room) }
 
@@ -237,11 +233,11 @@ module _ (fs : List Frame) (P : Program) (n : ℕ) (F : FileFits fs P n) where
   keeps-goOn u Stuck f k o h = k .before
 
   keeps-value : (u : Turn) (m : Here → Evaluation) (f : Value → Turn → Stepped) → TurnFits u → EvalFits n (m (evaluator u) (u .cells))
-      → ((v : Value) (w : Turn) → TurnFits w → ValueFits v → w .self ≡ u .self → Keeps (f v w)) → Keeps (withValue u m f)
+      → ((v : Value) (w : Turn) → TurnFits w → ValueFits v → Keeps (f v w)) → Keeps (withValue u m f)
   keeps-value u m f k e h =
       let r : Evaluated = m (evaluator u) (u .cells) in
       let b : TurnFits (behind u r) = record { before = k .before; cells = e .cells; thread = k .thread; self = k .self; program = k .program } in
-      keeps-goOn (behind u r) (r .outcome) f b (e .outcome) (λ v w. h v (behind u r) b w refl)
+      keeps-goOn (behind u r) (r .outcome) f b (e .outcome) (λ v. h v (behind u r) b)
 
   keeps-values : (u : Turn) (xs : List Expr) (f : List Value → Turn → Stepped) → TurnFits u → All (ExprFits n) xs
       → ((vs : List Value) (w : Turn) → TurnFits w → All ValueFits vs → Keeps (f vs w)) → Keeps (withValues u xs f)
@@ -249,7 +245,7 @@ module _ (fs : List Frame) (P : Program) (n : ℕ) (F : FileFits fs P n) where
   keeps-values u [] f k none h = h [] u k none
   keeps-values u (x ∷ xs) f k (more e es) h =
       keeps-value u (λ i. eval i x) _ k (fit-eval (evaluator u) (u .cells) (here-fits u k) (k .cells) e)
-      (λ v w j p _. keeps-values w xs _ j es (λ vs y b q. h (v ∷ vs) y b (more p q)))
+      (λ v w j p. keeps-values w xs _ j es (λ vs y b q. h (v ∷ vs) y b (more p q)))
 
   keeps-by : (u : Turn) (v : Value) (a b : Stepped) → TurnFits u → Keeps a → Keeps b → Keeps (byCondition u v a b)
   keeps-by u (Truth true) a b k f g = f
@@ -258,6 +254,7 @@ module _ (fs : List Frame) (P : Program) (n : ℕ) (F : FileFits fs P n) where
   keeps-by u (Cell c) a b k f g = k .before
 
   -- ---- starts
+
   keeps-starting : (u : Turn) (m : ℕ) (vs : List Value) (r : Stepped) → TurnFits u
       → (m < length (u .program .modules) → length vs ≡ length (moduleAt (u .program) m .types) → room u 1 (here u) ≡ true → length (u .state .threads) < 64 → Keeps r)
       → Keeps (starting u m vs r)
@@ -269,7 +266,7 @@ module _ (fs : List Frame) (P : Program) (n : ℕ) (F : FileFits fs P n) where
       (λ a. if-all Keeps (not (eqb (length vs) (length (moduleAt (u .program) m .types)))) _ _ (λ _. z)
       (λ b. if-all Keeps (not (room u 1 (here u))) _ _ (λ _. z)
       (λ c. if-all Keeps (leb 64 (length (u .state .threads))) _ _ (λ _. z)
-      (λ d. f (leb-false (length (u .program .modules)) m a) (eqb-true (length vs) (length (moduleAt (u .program) m .types)) (not-no _ b)) (not-no (room u 1 (here u)) c)
+      (λ d. f (leb-false (length (u .program .modules)) m a) (eqb-true (length vs) (length (moduleAt (u .program) m .types)) (not-false _ b)) (not-false (room u 1 (here u)) c)
       (leb-false 64 (length (u .state .threads)) d))))))
 
   pub started-fits : (u : Turn) (m : ℕ) (vs : List Value) → TurnFits u → m < length (u .program .modules) → length vs ≡ length (moduleAt (u .program) m .types) → All ValueFits vs
@@ -314,9 +311,6 @@ module _ (fs : List Frame) (P : Program) (n : ℕ) (F : FileFits fs P n) where
       (waiting-fits (k .thread) (new-is u l)) (two g))
       (λ _. k .before)
     where
-      left : State
-      left = leave u (settled u (u .self))
-
       s : State
       s = withNew (started u (moduleAt (u .program) m) vs) (leave u (settled u (u .self)))
 
@@ -336,7 +330,8 @@ module _ (fs : List Frame) (P : Program) (n : ℕ) (F : FileFits fs P n) where
           let f = enlist-next (withNew (started u (moduleAt (u .program) m) vs) (leave u (settled u (u .self)))) (here u) (plain (newThread u)) in
           omega arith
 
-  -- ---- each item
+  -- ---- each statement, each item, each thread
+
   keeps-statement : (u : Turn) (x : Stmt) → TurnFits u → ItemFits fs n (run x) → Parts fs n x → Keeps (stepStatement u x)
   unfolding stepNothing stepSeq stepDo stepStart stepStartWait stepCooperate stepLet stepStore stepIf stepWhile
   keeps-statement u x k i of-nothing = keeps-stay u _ _ k (k .self .items) (k .self .values)
@@ -356,16 +351,16 @@ module _ (fs : List Frame) (P : Program) (n : ℕ) (F : FileFits fs P n) where
       (λ _. k .before))
   keeps-statement u x k i (of-let {x = y} e a) =
       keeps-value u (λ h. eval h y) _ k (fit-eval (evaluator u) (u .cells) (here-fits u k) (k .cells) e)
-      (λ v w j p _. keeps-stay w _ _ j (more a (more drop-fits (j .self .items))) (all-append (j .self .values) (more p none)))
+      (λ v w j p. keeps-stay w _ _ j (more a (more drop-fits (j .self .items))) (all-append (j .self .values) (more p none)))
   keeps-statement u x k i (of-store {x = y} {y = y′} e g) =
       keeps-value u (λ h. storing h y y′) _ k (fit-storing (evaluator u) (u .cells) (here-fits u k) (k .cells) e g)
-      (λ v w j p _. keeps-stay w _ _ j (j .self .items) (j .self .values))
+      (λ v w j p. keeps-stay w _ _ j (j .self .items) (j .self .values))
   keeps-statement u x k i (of-if {x = y} e a b) =
       keeps-value u (λ h. eval h y) _ k (fit-eval (evaluator u) (u .cells) (here-fits u k) (k .cells) e)
-      (λ v w j p _. keeps-by w v _ _ j (keeps-stay w _ _ j (more a (j .self .items)) (j .self .values)) (keeps-stay w _ _ j (more b (j .self .items)) (j .self .values)))
+      (λ v w j p. keeps-by w v _ _ j (keeps-stay w _ _ j (more a (j .self .items)) (j .self .values)) (keeps-stay w _ _ j (more b (j .self .items)) (j .self .values)))
   keeps-statement u x k i (of-while {x = y} e a) =
       keeps-value u (λ h. eval h y) _ k (fit-eval (evaluator u) (u .cells) (here-fits u k) (k .cells) e)
-      (λ v w j p _. keeps-by w v _ _ j (keeps-stay w _ _ j (more a (more i (j .self .items))) (j .self .values)) (keeps-stay w _ _ j (j .self .items) (j .self .values)))
+      (λ v w j p. keeps-by w v _ _ j (keeps-stay w _ _ j (more a (more i (j .self .items))) (j .self .values)) (keeps-stay w _ _ j (j .self .items) (j .self .values)))
 
   -- the thread ends, whether it is there or not
   keeps-ends : (s : State) (c t : ℕ) → Shaped fs n s → Keeps (stepItems P s c t [])
@@ -411,6 +406,7 @@ module _ (fs : List Frame) (P : Program) (n : ℕ) (F : FileFits fs P n) where
           subst (λ (l : List Item). Keeps (stepItems P s c (suc i) l)) (sym (ap (λ (x : Thread). x .continuation) q)) (keeps-ends s c (suc i) z)
 
   -- ---- the end of an instant
+
   ready-fits : (ts : List Thread) (es : List Entry) → All EntryFits es → All IsThread (readyThreads ts es)
   unfolding readyThreads
   ready-fits ts [] none = none
@@ -458,6 +454,8 @@ module _ (fs : List Frame) (P : Program) (n : ℕ) (F : FileFits fs P n) where
       let r = z .threads-room in
       (omega arith, omega arith)
 
+  -- ---- each choice, and the states reached
+
   -- whatever state in shape it is put to
   pub keeps-step : (s : State) (c : ℕ) → Shaped fs n s → Shaped fs n (step P s c .state)
   unfolding step
@@ -477,7 +475,7 @@ module _ (fs : List Frame) (P : Program) (n : ℕ) (F : FileFits fs P n) where
       let one = F .some-scheduler in
       let most = F .most-schedulers in
       let eq = F .schedulers in
-      let long = replicate-length (P .schedulers - 1) in
+      let long = length-replicate (P .schedulers - 1) noScheduler in
       record {
         threads-room = omega arith;
         schedulers-room = omega arith;
@@ -485,17 +483,9 @@ module _ (fs : List Frame) (P : Program) (n : ℕ) (F : FileFits fs P n) where
         count = omega arith;
         threads = λ k g. main k g (b .0);
         schedulers = λ k g. lists k (P .schedulers - 1);
-        cells = λ k g. all-getD (CellFits n) (map firstCell (P .shared)) noCell k (first (P .shared) (F .shared)) g;
+        cells = λ k g. all-getD (CellFits n) (map firstCell (P .shared)) noCell k (all-map (λ (x : SharedCell). CellFits n (firstCell x)) (CellFits n) firstCell (λ _ p. p) (P .shared) (F .shared)) g;
       }
     where
-      replicate-length : (k : ℕ) → length (replicate k noScheduler) ≡ k
-      replicate-length zero = refl
-      replicate-length (suc k) = ap suc (replicate-length k)
-
-      first : (xs : List SharedCell) → All (λ (x : SharedCell). CellFits n (firstCell x)) xs → All (CellFits n) (map firstCell xs)
-      first [] none = none
-      first (x ∷ xs) (more p ps) = more p (first xs ps)
-
       home-fits : hasPlace n 2 ≡ true
       home-fits = let o = F .some-scheduler in le-leb 2 (1 + n) (omega arith)
 

@@ -1,18 +1,26 @@
+-- Tests and lists.
 pub mod Tests
+pub mod Lists
+-- Whose cells are accessed: by an evaluation, by a choice; and that a refused choice leaves the state.
 pub mod Owns
 pub mod Fair
+-- Why nothing is ever full (20) from a fresh state on: lists; continuations and variables; the depth of bodies.
 pub mod Space
 pub mod Continuations
 pub mod Depth
+-- The words of a state, and a block of them replaced.
+pub mod Regions
 pub mod WordLaws
-pub mod Shapes
 pub mod Blocks
+pub mod Padded
+-- States in shape and words in range: from a state to its words and back, from words to their state and back, and the one from the other.
+pub mod Shapes
 pub mod Round
 pub mod Ranges
 pub mod Valid
-pub mod Padded
-pub mod Calls
 pub mod InShape
+-- Each choice keeps a state in shape, so the calls on words are the steps.
 pub mod KeptCells
 pub mod KeptShape
+pub mod Calls
 pub mod CallRuns

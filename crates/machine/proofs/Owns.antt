@@ -16,7 +16,10 @@ use Rattle.machine.specs.declared.value.Value.{Value}
 use Rattle.machine.specs.declared.value.Value.the-variants.{Number, Truth, Cell}
 use Rattle.machine.specs.declared.value.Outcome.{Outcome}
 use Rattle.machine.specs.declared.value.Outcome.the-variants.{Is, Foreign, Spent, Stuck}
-use Rattle.machine.proofs.Tests.{or-true, all-append}
+use Rattle.machine.proofs.Tests.{or-true}
+use Rattle.machine.proofs.Lists.{all-append}
+
+-- ---- what is claimed, and that it holds of one evaluation after the other
 
 abbrev pub IsForeign : Outcome → Type 0
 IsForeign (Is v) = ⊥
@@ -40,6 +43,8 @@ owns-andThen k r Stuck e h g = h
 pub owns-then : (m : Evaluation) (k : Value → Evaluation) → ((cs : List Stored) → Owns (m cs)) → ((v : Value) (cs : List Stored) → Owns (k v cs)) → (cs : List Stored) → Owns ((m >>= k) cs)
 owns-then m k h g cs = owns-andThen k (m cs) (m cs .outcome) refl (h cs) g
 
+-- ---- an access: the test on the owner makes it one to a cell of one's own, or foreign
+
 is-own : (h : Here) (c o : ℕ) → isOwn h o ≡ true → Own (accessOf h c o)
 unfolding isOwn
 is-own h c o e =
@@ -53,6 +58,8 @@ owns-accessing h c o r cs g =
     if-all (λ x. Owns (after (accessOf h c o ∷ []) x)) (isOwn h o) (r cs) (gives Foreign cs)
     (λ e. owns-after (r cs) (more (is-own h c o e) none) g)
     (λ e n. absurd (n tt))
+
+-- ---- one law for each kind, behind its operands
 
 owns-variable : (h : Here) (s : ℕ) (cs : List Stored) → Owns (readVariable h s cs)
 unfolding readVariable
@@ -106,6 +113,8 @@ unfolding aNumber
 owns-number (Number n) cs = λ _. none
 owns-number (Truth b) cs = λ _. none
 owns-number (Cell c) cs = λ _. none
+
+-- ---- expressions, and 17's store
 
 pub owns-eval : (h : Here) (x : Expr) (cs : List Stored) → Owns (eval h x cs)
 unfolding eval

@@ -1,21 +1,23 @@
--- What words in range are, region by region; and the test of it from that. Assumes nothing.
+-- What the test `inRange` says of the words, region by region (`InRange`), and that this is enough for it to pass. Assumes nothing.
 use Prim.Native.Nat.{ℕ, suc, zero, _+_, _*_, _-_, _/_, _%_, _<_, _≤_}
-use mathlib.Core.Path.{_≡_, refl, sym, ap, ap₂, _∙_, subst}
+use mathlib.Core.Path.{_≡_, refl, sym, ap, ap₂, _∙_}
 use mathlib.Core.List.{List}
 use mathlib.Core.Bool.{Bool, true, false}
 use native.Mathlib.Omega.{arith}
-use native.Mathlib.Decide.{ℕ-discrete}
+use native.Mathlib.Decide.{decLt, ℕ-discrete}
 use lib.ListN.{getD, length}
 use lib.Dec.{ltb, leb, eqb}
 use borrow.Author.Tests.{ltb-true, ltb-false, lt-ltb, le-ltb, eq-eqb, ne-eqb, eqb-true, leb-true, le-leb}
 use Rattle.basics.specs.If.{if_then_else_}
-use Rattle.basics.proofs.Ifs.{if-yes, if-no, and-true}
+use Rattle.basics.proofs.Ifs.{if-all, if-yes, if-no, and-true}
 use Rattle.language.specs.Places.{hasPlace}
 use Rattle.language.specs.declared.frame.Frame.{Frame}
 use Rattle.machine.specs.Ranges.{threadInRange, valueInRange, itemInRange, entryInRange, cellInRange, listInRange, schedulerInRange, threadWordInRange, wordInRange, allBelow, inRange}
 use Rattle.machine.proofs.Tests.{and-both}
+use Rattle.machine.proofs.Regions.{by-region}
 
--- ---- a test at every number below n
+-- ---- a test at every number below n: what it says of each of them, and from each of them
+
 pub below-all : (n : ℕ) (test : ℕ → Bool) → allBelow n test ≡ true → (i : ℕ) → i < n → test i ≡ true
 unfolding allBelow
 below-all zero test e i h = absurd (omega arith)
@@ -131,54 +133,22 @@ module _ (fs : List Frame) (n : ℕ) (w : List ℕ) where
   unfolding inRange
   range-in h =
       and-both (eqb (length w) 4818) (allBelow 4818 (wordInRange fs n w)) (eq-eqb (length w) 4818 (h .all))
-      (all-below 4818 (wordInRange fs n w) (λ i g. at i g (ℕ-discrete i 0) (ℕ-discrete i 1)))
+      (all-below 4818 (wordInRange fs n w)
+      (by-region (λ (i : ℕ). wordInRange fs n w i ≡ true) (range-0 fs n w ∙ le-leb (getD w 0 0) 64 (h .threads-room)) (range-1 fs n w ∙ le-leb (getD w 1 0) 256 (h .cells-room))
+      (λ k j a b. scheduler k j a b (decLt k n)) (λ k j a b. thread k j a b (decLt k (getD w 0 0))) (λ c a. range-cells fs n w c a ∙ cell c a)))
     where
-      In : ℕ → Type 0
-      In i = wordInRange fs n w i ≡ true
+      scheduler : (k j : ℕ) → k < 8 → j < 130 → Dec (k < n) → wordInRange fs n w (2 + 130 * k + j) ≡ true
+      scheduler k j a b (yes l) = range-scheduler fs n w k j a b l ∙ h .scheduler k j a b l
+      scheduler k j a b (no m) = let l : n ≤ k = omega (arith, m) in range-no-scheduler fs n w k j a b l ∙ eq-eqb _ 0 (h .no-scheduler k j a b l)
 
-      third : (i : ℕ) → i < 4818 → 4562 ≤ i → In i
-      third i g l = let a : 4562 + (i - 4562) ≡ i = omega arith in subst In a (range-cells fs n w (i - 4562) (omega arith) ∙ go (ltb (i - 4562) (getD w 1 0)) refl)
-        where
-          c : ℕ
-          c = i - 4562
+      thread : (k j : ℕ) → k < 64 → j < 55 → Dec (k < getD w 0 0) → wordInRange fs n w (1042 + 55 * k + j) ≡ true
+      thread k j a b (yes l) = range-thread fs n w k j a b l ∙ h .thread k j b l
+      thread k j a b (no m) = let l : getD w 0 0 ≤ k = omega (arith, m) in range-no-thread fs n w k j a b l ∙ eq-eqb _ 0 (h .no-thread k j a b l)
 
-          go : (b : Bool) → ltb (i - 4562) (getD w 1 0) ≡ b → (if ltb (i - 4562) (getD w 1 0) then cellInRange n (getD w (4562 + (i - 4562)) 0) else eqb (getD w (4562 + (i - 4562)) 0) 0) ≡ true
-          go true e = if-yes _ _ e ∙ h .cell (i - 4562) (ltb-true (i - 4562) (getD w 1 0) e)
-          go false e = if-no _ _ e ∙ eq-eqb _ 0 (h .no-cell (i - 4562) (omega arith) (ltb-false (i - 4562) (getD w 1 0) e))
-
-      second : (i : ℕ) → i < 4818 → 1042 ≤ i → (b : Bool) → ltb i 4562 ≡ b → In i
-      second i g l true e =
-          let m : i < 4562 = ltb-true i 4562 e in
-          let k : ℕ = (i - 1042) / 55 in
-          let j : ℕ = (i - 1042) % 55 in
-          let a : 1042 + 55 * k + j ≡ i = omega arith in
-          subst In a (go k j (omega arith) (omega arith) (ltb k (getD w 0 0)) refl)
-        where
-          go : (k j : ℕ) → k < 64 → j < 55 → (b : Bool) → ltb k (getD w 0 0) ≡ b → In (1042 + 55 * k + j)
-          go k j a b true q = range-thread fs n w k j a b (ltb-true k (getD w 0 0) q) ∙ h .thread k j b (ltb-true k (getD w 0 0) q)
-          go k j a b false q = range-no-thread fs n w k j a b (ltb-false k (getD w 0 0) q) ∙ eq-eqb _ 0 (h .no-thread k j a b (ltb-false k (getD w 0 0) q))
-      second i g l false e = third i g (ltb-false i 4562 e)
-
-      first : (i : ℕ) → i < 4818 → 2 ≤ i → (b : Bool) → ltb i 1042 ≡ b → In i
-      first i g l true e =
-          let m : i < 1042 = ltb-true i 1042 e in
-          let k : ℕ = (i - 2) / 130 in
-          let j : ℕ = (i - 2) % 130 in
-          let a : 2 + 130 * k + j ≡ i = omega arith in
-          subst In a (go k j (omega arith) (omega arith) (ltb k n) refl)
-        where
-          go : (k j : ℕ) → k < 8 → j < 130 → (b : Bool) → ltb k n ≡ b → In (2 + 130 * k + j)
-          go k j a b true q = range-scheduler fs n w k j a b (ltb-true k n q) ∙ h .scheduler k j a b (ltb-true k n q)
-          go k j a b false q = range-no-scheduler fs n w k j a b (ltb-false k n q) ∙ eq-eqb _ 0 (h .no-scheduler k j a b (ltb-false k n q))
-      first i g l false e = second i g (ltb-false i 1042 e) (ltb i 4562) refl
-
-      at : (i : ℕ) → i < 4818 → Dec (i ≡ 0) → Dec (i ≡ 1) → In i
-      at i g (yes a) b = subst In (sym a) (range-0 fs n w ∙ le-leb (getD w 0 0) 64 (h .threads-room))
-      at i g (no a) (yes b) = subst In (sym b) (range-1 fs n w ∙ le-leb (getD w 1 0) 256 (h .cells-room))
-      at i g (no a) (no b) = first i g (two i a b) (ltb i 1042) refl
-        where
-          two : (i : ℕ) → (i ≡ 0 → ⊥) → (i ≡ 1 → ⊥) → 2 ≤ i
-          two i a b = omega arith
+      cell : (c : ℕ) → c < 256 → (if ltb c (getD w 1 0) then cellInRange n (getD w (4562 + c) 0) else eqb (getD w (4562 + c) 0) 0) ≡ true
+      cell c a =
+          if-all (λ (b : Bool). b ≡ true) (ltb c (getD w 1 0)) _ _ (λ e. h .cell c (ltb-true c (getD w 1 0) e))
+          (λ e. eq-eqb _ 0 (h .no-cell c a (ltb-false c (getD w 1 0) e)))
 
 -- ---- the words of a thread, of a scheduler
 pub range-place : (fs : List Frame) (n : ℕ) (w : List ℕ) (i : ℕ) → threadWordInRange fs n w i 0 ≡ hasPlace n (getD w i 0)

@@ -16,11 +16,12 @@ use Rattle.machine.specs.State.{State, Stored, Item, run, back, drop, Th
 use Rattle.machine.specs.declared.value.Value.{Value}
 use Rattle.machine.specs.declared.value.Value.the-variants.{Number, Truth, Cell}
 use Rattle.machine.specs.Words.{bit, valueWord, wordValue, itemWord, wordItem, entryWord, wordEntry, cellWord, wordCell, listWord, threadWord, schedulerWord, tabulate, wordsAt, threadFrom, schedulerFrom, unpack, pack}
-use Rattle.machine.proofs.WordLaws.{tab-length, tab-at, Says}
+use Rattle.machine.proofs.WordLaws.{tab-length, tab-at, Says, thread-says, scheduler-says}
 use Rattle.machine.proofs.Shapes.{ValueFits, number, truth, cell, ItemFits, run-fits, back-fits, drop-fits, EntryFits, plain-fits, waiting-fits, ThreadFits, SchedulerFits, Shaped}
 use Rattle.machine.proofs.Blocks.{says-pack}
 
--- ---- single words
+-- ---- single words: `x-back` says that the word of x says x
+
 pub value-back : (v : Value) → ValueFits v → wordValue (valueWord v) ≡ v
 unfolding valueWord wordValue
 value-back (Number n) (number h) = if-yes _ _ (lt-ltb n (2 ^ 32) h)
@@ -65,6 +66,7 @@ cell-back x h =
     ∙ ap (λ (y : Value). record { owner = x .owner; content = y }) (value-back (x .content) h)
 
 -- ---- lists
+
 pub map-back : {A B : Type 0} (P : A → Type 0) (f : A → B) (g : B → A) → ((x : A) → P x → g (f x) ≡ x) → (xs : List A) → All P xs → map g (map f xs) ≡ xs
 map-back P f g e [] none = refl
 map-back {A} P f g e (x ∷ xs) (more h hs) = ap₂ (λ (y : A) (ys : List A). y ∷ ys) (e x h) (map-back P f g e xs hs)
@@ -83,7 +85,8 @@ tab-list (suc n) (x ∷ ws) f i e h =
 words-back : (w ws : List ℕ) (i : ℕ) → getD w i 0 ≡ listWord ws 0 → ((j : ℕ) → j < length ws → getD w (i + suc j) 0 ≡ listWord ws (suc j)) → wordsAt w i ≡ ws
 words-back w ws i e h = tab-list (getD w i 0) ws (λ j. getD w j 0) (suc i) e (λ j g. let a : suc i + j ≡ i + suc j = omega arith in ap (λ (m : ℕ). getD w m 0) a ∙ h j g)
 
--- ---- the words of a thread, of a scheduler
+-- ---- what each word of a thread, of a scheduler is
+
 pub thread-0 : (x : Thread) → threadWord x 0 ≡ x .place
 unfolding threadWord
 thread-0 x = if-yes _ _ refl
@@ -127,22 +130,17 @@ bit-back : (b : Bool) → eqb (bit (not b)) 0 ≡ b
 bit-back true = refl
 bit-back false = refl
 
+-- ---- the state that the words say
 module _ (fs : List Frame) (n : ℕ) (w : List ℕ) (s : State) (h : Says w s) where
-  word : (k j i : ℕ) → k < 64 → j < 55 → i ≡ 1042 + 55 * k + j → getD w i 0 ≡ threadWord (getD (s .threads) k noThread) j
-  word k j i a b e = ap (λ (m : ℕ). getD w m 0) e ∙ h .thread k j a b
-
-  sword : (k j i : ℕ) → k < 8 → j < 130 → i ≡ 2 + 130 * k + j → getD w i 0 ≡ schedulerWord (getD (s .schedulers) k noScheduler) j
-  sword k j i a b e = ap (λ (m : ℕ). getD w m 0) e ∙ h .scheduler k j a b
-
   pub thread-back : (k : ℕ) → k < 64 → ThreadFits fs n (getD (s .threads) k noThread) → threadFrom fs w k ≡ getD (s .threads) k noThread
   unfolding threadFrom
   thread-back k a f =
       thread-path _ x
-      (word k 0 at a (omega arith) (omega arith) ∙ thread-0 x)
+      (thread-says h k 0 at a (omega arith) (omega arith) ∙ thread-0 x)
       (ap (λ (l : List ℕ). map (wordItem fs) (reverse l)) continuation ∙ ap (map (wordItem fs)) (reverse-reverse (map itemWord (x .continuation))) ∙ map-back (ItemFits fs n) itemWord (wordItem fs) (item-back fs n) (x .continuation) (f .items))
       (ap (map wordValue) variables ∙ map-back ValueFits valueWord wordValue value-back (x .variables) (f .values))
-      (word k 1 (at + 1) a (omega arith) (omega arith) ∙ thread-1 x)
-      (ap (λ (m : ℕ). eqb m 0) (word k 2 (at + 2) a (omega arith) (omega arith) ∙ thread-2 x) ∙ bit-back (x .ended))
+      (thread-says h k 1 (at + 1) a (omega arith) (omega arith) ∙ thread-1 x)
+      (ap (λ (m : ℕ). eqb m 0) (thread-says h k 2 (at + 2) a (omega arith) (omega arith) ∙ thread-2 x) ∙ bit-back (x .ended))
     where
       x : Thread
       x = getD (s .threads) k noThread
@@ -155,15 +153,15 @@ module _ (fs : List Frame) (n : ℕ) (w : List ℕ) (s : State) (h : Says w s) w
 
       continuation : wordsAt w (1042 + 55 * k + 3) ≡ reverse (map itemWord (x .continuation))
       continuation = words-back w (reverse (map itemWord (x .continuation))) (1042 + 55 * k + 3)
-          (word k 3 (1042 + 55 * k + 3) a (omega arith) refl ∙ thread-continuation x 0 (omega arith))
+          (thread-says h k 3 (1042 + 55 * k + 3) a (omega arith) refl ∙ thread-continuation x 0 (omega arith))
           (λ j g. let r : length (x .continuation) ≤ 25 = f .items-room in let m : j < length (x .continuation) = rw long at g in
-          word k (3 + suc j) (1042 + 55 * k + 3 + suc j) a (omega arith) (omega arith) ∙ thread-continuation x (suc j) (omega arith))
+          thread-says h k (3 + suc j) (1042 + 55 * k + 3 + suc j) a (omega arith) (omega arith) ∙ thread-continuation x (suc j) (omega arith))
 
       variables : wordsAt w (1042 + 55 * k + 29) ≡ map valueWord (x .variables)
       variables = words-back w (map valueWord (x .variables)) (1042 + 55 * k + 29)
-          (word k 29 (1042 + 55 * k + 29) a (omega arith) refl ∙ thread-variables x 0 (omega arith))
+          (thread-says h k 29 (1042 + 55 * k + 29) a (omega arith) refl ∙ thread-variables x 0 (omega arith))
           (λ j g. let r : length (x .variables) ≤ 25 = f .variables-room in let m : j < length (x .variables) = rw (length-map (x .variables) valueWord) at g in
-          word k (29 + suc j) (1042 + 55 * k + 29 + suc j) a (omega arith) (omega arith) ∙ thread-variables x (suc j) (omega arith))
+          thread-says h k (29 + suc j) (1042 + 55 * k + 29 + suc j) a (omega arith) (omega arith) ∙ thread-variables x (suc j) (omega arith))
 
   pub scheduler-back : (k : ℕ) → k < 8 → SchedulerFits (getD (s .schedulers) k noScheduler) → schedulerFrom w k ≡ getD (s .schedulers) k noScheduler
   unfolding schedulerFrom
@@ -176,15 +174,15 @@ module _ (fs : List Frame) (n : ℕ) (w : List ℕ) (s : State) (h : Says w s) w
 
       active : wordsAt w (2 + 130 * k) ≡ x .active
       active = words-back w (x .active) (2 + 130 * k)
-          (sword k 0 (2 + 130 * k) a (omega arith) (omega arith) ∙ scheduler-active x 0 (omega arith))
+          (scheduler-says h k 0 (2 + 130 * k) a (omega arith) (omega arith) ∙ scheduler-active x 0 (omega arith))
           (λ j g. let r : length (x .active) ≤ 64 = f .active-room in
-          sword k (suc j) (2 + 130 * k + suc j) a (omega arith) refl ∙ scheduler-active x (suc j) (omega arith))
+          scheduler-says h k (suc j) (2 + 130 * k + suc j) a (omega arith) refl ∙ scheduler-active x (suc j) (omega arith))
 
       next : wordsAt w (67 + 130 * k) ≡ map entryWord (x .next)
       next = words-back w (map entryWord (x .next)) (67 + 130 * k)
-          (sword k 65 (67 + 130 * k) a (omega arith) (omega arith) ∙ scheduler-next x 0 (omega arith))
+          (scheduler-says h k 65 (67 + 130 * k) a (omega arith) (omega arith) ∙ scheduler-next x 0 (omega arith))
           (λ j g. let r : length (x .next) ≤ 64 = f .next-room in let m : j < length (x .next) = rw (length-map (x .next) entryWord) at g in
-          sword k (65 + suc j) (67 + 130 * k + suc j) a (omega arith) (omega arith) ∙ scheduler-next x (suc j) (omega arith))
+          scheduler-says h k (65 + suc j) (67 + 130 * k + suc j) a (omega arith) (omega arith) ∙ scheduler-next x (suc j) (omega arith))
 
   state-path : (a b : State) → a .threads ≡ b .threads → a .schedulers ≡ b .schedulers → a .cells ≡ b .cells → a ≡ b
   state-path a b p q r = λ i. record { threads = p i; schedulers = q i; cells = r i }

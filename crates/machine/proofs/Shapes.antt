@@ -18,7 +18,7 @@ pub data ValueFits : Value → Type 0 where
   truth : {b : Bool} → ValueFits (Truth b)
   cell : {c : ℕ} → c < 256 → ValueFits (Cell c)
 
--- in a file of those frames and n schedulers
+-- in a file of those frames and n schedulers: a statement is the one at its frame, so its word says it
 pub data ItemFits (fs : List Frame) (n : ℕ) : Item → Type 0 where
   run-fits : {x : Stmt} → rootS x < 1024 → isStatement (frameAt fs (rootS x) .kind) ≡ true → statementAt fs (rootS x) ≡ x → ItemFits fs n (run x)
   back-fits : {q : ℕ} → q < 1024 → hasPlace n q ≡ true → ItemFits fs n (back q)

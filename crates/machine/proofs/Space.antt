@@ -1,4 +1,4 @@
--- From a fresh state no list is ever full: the entries of all lists and the unlinked threads are no more than the threads. Assumes nothing.
+-- Why no list is ever full (20) from a fresh state on: the entries of all lists and the unlinked threads are no more than the threads, of which there are 64 at most, and each choice keeps it so. Assumes nothing.
 use mathlib.Core.Path.{_≡_, refl, sym, ap, _∙_}
 use mathlib.Core.Logic.{_⊎_, inl, inr, ⊎-elim}
 use mathlib.Core.List.{List, [], _∷_, _++_}
@@ -20,7 +20,6 @@ use Rattle.machine.specs.Evaluation.{Here, Evaluated, Evaluation, eval, 
 use Rattle.machine.specs.Turns.{Stepped, Turn, here, variables, behind, evaluator, goOn, withValue, withValues, byCondition, selfAt, settled, behindFirst, isSchedulerOf, leave, room, unlinkedHere, stay, move, goTo}
 use Rattle.machine.specs.Steps.{isUnlinked, stepItems, stepThread, turn, turnInstant, endInstant, stepScheduler, step}
 use Rattle.machine.specs.Statements.{ends, drops, goesBack, stepNothing, stepSeq, stepDo, started, starting, stepStart, startedWait, stepStartWait, stepCooperate, stepLet, stepStore, stepIf, stepWhile, stepStatement}
-use Rattle.machine.specs.Runs.{stateFrom, stateAfter}
 use Rattle.machine.specs.declared.value.Value.{Value}
 use Rattle.machine.specs.declared.value.Value.the-variants.{Number, Truth, Cell}
 use Rattle.machine.specs.declared.value.Outcome.{Outcome}
@@ -30,22 +29,24 @@ use Rattle.machine.specs.declared.value.Outcome.the-variants.{Is, Foreig
 unfoldable pub weight : Scheduler → ℕ
 weight x = length (x .active) + length (x .next)
 
+-- the entries of all lists
 unfoldable pub total : List Scheduler → ℕ
 total [] = 0
 total (x ∷ xs) = weight x + total xs
 
+-- a thread that stands in no list: unlinked, and not ended
 unfoldable pub isFree : Thread → Bool
 isFree x = eqb (x .place) 1 && not (x .ended)
 
 unfoldable pub free : Thread → ℕ
 free x = bit (isFree x)
 
--- the unlinked threads
+-- how many of them there are
 unfoldable pub unlinkedCount : List Thread → ℕ
 unlinkedCount [] = 0
 unlinkedCount (x ∷ xs) = free x + unlinkedCount xs
 
--- ---- sums over lists, at one place
+-- ---- these sums when one scheduler or one thread is replaced
 
 total-set-le : (xs : List Scheduler) (i k : ℕ) (x : Scheduler) → weight x ≤ weight (getD xs i noScheduler) + k → total (set xs i x) ≤ total xs + k
 unfolding total
@@ -125,7 +126,7 @@ enlist-total : (q : ℕ) (e : Entry) (s : State) → total (enlist q e s .schedu
 unfolding enlist weight
 enlist-total q e s = total-set-le (s .schedulers) (q - 2) 1 _ (let g = length-append (schedulerAt s q .next) (e ∷ []) in omega arith)
 
--- ---- the invariant
+-- ---- the invariant: entries and unlinked threads together are no more than threads, so a list of 64 has room for each
 
 pub record Counted (s : State) : Type 0 where
   pub most : length (s .threads) ≤ 64
@@ -137,12 +138,14 @@ Stands u =
     ((isSchedulerOf (u .program) (u .choice) ≡ true) × (1 ≤ length (schedulerAt (u .state) (u .choice) .active)))
     ⊎ ((isSchedulerOf (u .program) (u .choice) ≡ false) × (free (threadAt (u .state) (u .thread)) ≡ 1))
 
+-- a turn of such a thread, in a state that keeps the invariant; `same`: what is left of it stands as it stood
 pub record Acting (u : Turn) : Type 0 where
   pub counted : Counted (u .state)
   pub stands : Stands u
   pub same : free (u .self) ≡ free (threadAt (u .state) (u .thread))
 
--- one more entry has room, and two where there is room for one more thread
+-- ---- so one more entry has room, and two where there is room for one more thread
+
 next-room : (u : Turn) → Acting u → (q : ℕ) → suc (length (schedulerAt (u .state) q .next)) ≤ length (u .state .threads)
 next-room u a q =
     let c = a .counted .count in
@@ -158,6 +161,8 @@ room-one u a q = let g = next-room u a q in let m = a .counted .most in le-leb (
 pub room-two : (u : Turn) → Acting u → (q : ℕ) → length (u .state .threads) < 64 → room u 2 q ≡ true
 unfolding room
 room-two u a q l = let g = next-room u a q in le-leb (length (schedulerAt (u .state) q .next) + 2) 64 (omega arith)
+
+-- ---- the changes of the state that a turn makes keep it
 
 -- the acting thread replaced, where it stays
 stay-counted : (u : Turn) → Acting u → (x : Thread) → free x ≡ free (u .self) → Counted (settled u x)
@@ -183,9 +188,9 @@ leave-total u s e h =
     (λ _. total-set-less (s .schedulers) (u .choice - 2) _ (first-less (schedulerAt s (u .choice)) h))
     (λ f. absurd (true≢false (sym e ∙ f)))
 
-leave-total-le : (u : Turn) (s : State) → isSchedulerOf (u .program) (u .choice) ≡ false → total (leave u s .schedulers) ≡ total (s .schedulers)
+leave-total-same : (u : Turn) (s : State) → isSchedulerOf (u .program) (u .choice) ≡ false → total (leave u s .schedulers) ≡ total (s .schedulers)
 unfolding leave
-leave-total-le u s e =
+leave-total-same u s e =
     if-all (λ (r : State). total (r .schedulers) ≡ total (s .schedulers)) (isSchedulerOf (u .program) (u .choice)) _ s
     (λ f. absurd (true≢false (sym f ∙ e))) (λ _. refl)
 
@@ -204,7 +209,7 @@ left-count u a x =
     let g = leave-total u (settled u x) (h .0) (h .1) in
     let l = nth-le (u .state .threads) (u .thread) (free x) x (omega arith) in omega arith)
     (λ h.
-    let g = leave-total-le u (settled u x) (h .0) in
+    let g = leave-total-same u (settled u x) (h .0) in
     let l = nth-less (u .state .threads) (u .thread) x (h .1) in omega arith)
     (a .stands)
 
@@ -236,8 +241,7 @@ enlisted-counted u a x q e z =
     let l = ap unlinkedCount (enlist-threads q e (leave u (settled u x))) in
     record { most = omega arith; count = omega arith }
 
--- ---- each step keeps it
-
+-- a thread that stands on a scheduler is not among the unlinked
 not-free : (x : Thread) → eqb (x .place) 1 ≡ false → free x ≡ 0
 unfolding free isFree
 not-free x e = ap (λ (b : Bool). bit (b && not (x .ended))) e
@@ -274,6 +278,8 @@ wait-counted u a x q e f z y r =
     let l′ = ap unlinkedCount (enlist-threads q f (enlist q e (withNew x b))) in
     let nl = new-unlinked b x in let nn = new-length b x in
     record { most = omega arith; count = omega arith }
+
+-- ---- each step keeps it: one law for each way in which a turn goes on, then each statement, item and choice
 
 abbrev Kept : Stepped → Type 0
 Kept r = Counted (r .state)
@@ -415,10 +421,7 @@ counted-step p s c h =
     (λ l. kept-thread p s c (c - 16) (record { counted = h; stands = inr (i, unlinked-free s c l); same = free-same p s c (c - 16) }))
     (λ _. h))
 
-counted-from : (p : Program) (s : State) (cs : List ℕ) → Counted s → Counted (stateFrom p s cs)
-unfolding stateFrom
-counted-from p s [] h = h
-counted-from p s (c ∷ cs) h = counted-from p (step p s c .state) cs (counted-step p s c h)
+-- ---- and the fresh state has it
 
 empty-total : (n : ℕ) → total (replicate n noScheduler) ≡ 0
 unfolding total weight
@@ -428,7 +431,3 @@ empty-total (suc n) = let g = empty-total n in omega arith
 pub fresh-counted : (p : Program) → Counted (fresh p)
 unfolding fresh total weight unlinkedCount free isFree
 fresh-counted p = let g = empty-total (p .schedulers - 1) in record { most = omega arith; count = omega arith }
-
--- after any list of choices, on any program: no more entries and unlinked threads than threads, and no more than 64 of these
-pub counted : (p : Program) (cs : List ℕ) → Counted (stateAfter p cs)
-counted p cs = counted-from p (fresh p) cs (fresh-counted p)

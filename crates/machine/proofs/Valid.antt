@@ -1,15 +1,15 @@
 -- Words in range are the words of their state: pack undoes unpack. Assumes nothing.
 use Prim.Native.Nat.{ℕ, suc, zero, _+_, _*_, _-_, _/_, _%_, _^_, _<_, _≤_}
 use mathlib.Core.Path.{_≡_, refl, sym, ap, _∙_, subst}
-use mathlib.Core.List.{List, [], _∷_, map, reverse, reverseAux, reverse-reverse}
+use mathlib.Core.List.{List, [], map, reverse, reverse-reverse}
 use mathlib.Core.Bool.{Bool, true, false, not}
 use native.Mathlib.Omega.{arith}
 use native.Mathlib.Nat.{add-zero}
 use native.Mathlib.Decide.{ℕ-discrete}
 use lib.ListN.{getD, List·getD-eq-default}
 use lib.Dec.{ltb, eqb}
-use borrow.Author.Tests.{ltb-true, ltb-false, eq-eqb, ne-eqb, eqb-true, leb-true, le-ltb as le-false}
-use Rattle.basics.specs.Members.{All, none, more, All, none, more}
+use borrow.Author.Tests.{ltb-true, ltb-false, eq-eqb, ne-eqb, eqb-true, leb-true, le-ltb}
+use Rattle.basics.specs.Members.{All, none, more}
 use Rattle.basics.proofs.Ifs.{if-yes, if-no, and-true}
 use Rattle.language.specs.declared.frame.Frame.{Frame}
 use Rattle.language.specs.declared.kind.Kind.{Kind}
@@ -20,11 +20,15 @@ use Rattle.program.specs.Trees.{statementTo, statementAt, frameAt, expressionAt
 use Rattle.machine.specs.State.{Stored, Thread, Scheduler, noThread, noScheduler, noCell}
 use Rattle.machine.specs.Words.{bit, valueWord, wordValue, itemWord, wordItem, entryWord, wordEntry, cellWord, wordCell, listWord, threadWord, schedulerWord, tabulate, wordsAt, threadFrom, schedulerFrom, unpack, pack}
 use Rattle.machine.specs.Ranges.{itemInRange, valueInRange, entryInRange, threadInRange, cellInRange, ownerInRange, inRange}
+use Rattle.machine.proofs.Lists.{all-reverse}
+use Rattle.machine.proofs.Regions.{by-thread-word, by-scheduler-word}
 use Rattle.machine.proofs.WordLaws.{tab-length, tab-at, tab-from, Says, is-pack}
 use Rattle.machine.proofs.Round.{map-back, thread-0, thread-1, thread-2, thread-continuation, thread-variables, scheduler-active, scheduler-next}
 use Rattle.machine.proofs.Ranges.{InRange, Space, space-of, range-items, range-variables, range-active, range-next, range-lives, in-range}
 
--- ---- single words
+-- ---- single words: `x-there` says that the word of what a word says is that word
+
+-- the statement at frame i has frame i as its root, whatever stands there
 pub root-at : (fs : List Frame) (i : ℕ) → rootS (statementAt fs i) ≡ i
 unfolding statementAt statementTo
 root-at fs i = of (frameAt fs i) (frameAt fs i .kind)
@@ -54,16 +58,13 @@ unfolding itemWord wordItem itemInRange
 item-there fs n v h = first (ltb v 1024) refl
   where
     second : 1024 ≤ v → (b : Bool) → ltb v 2048 ≡ b → itemWord (wordItem fs v) ≡ v
-    second l true e = ap itemWord (if-no _ _ (ge l) ∙ if-yes _ _ e) ∙ up l
+    second l true e = ap itemWord (if-no _ _ (le-ltb v 1024 l) ∙ if-yes _ _ e) ∙ up l
       where
         up : 1024 ≤ v → 1024 + (v - 1024) ≡ v
         up l = omega arith
-
-        ge : 1024 ≤ v → ltb v 1024 ≡ false
-        ge l = le-false v 1024 l
     second l false e =
-        ap itemWord (if-no _ _ (le-false v 1024 l) ∙ if-no _ _ e)
-        ∙ sym (eqb-true v 2048 (sym (if-no _ _ e) ∙ sym (if-no _ _ (le-false v 1024 l)) ∙ h))
+        ap itemWord (if-no _ _ (le-ltb v 1024 l) ∙ if-no _ _ e)
+        ∙ sym (eqb-true v 2048 (sym (if-no _ _ e) ∙ sym (if-no _ _ (le-ltb v 1024 l)) ∙ h))
 
     first : (b : Bool) → ltb v 1024 ≡ b → itemWord (wordItem fs v) ≡ v
     first true e = ap itemWord (if-yes _ _ e) ∙ root-at fs v
@@ -81,8 +82,8 @@ value-there v h = first (ltb v (2 ^ 32)) refl
         low a b e = omega arith
 
     second : 2 ^ 32 ≤ v → (b : Bool) → ltb v (2 * 2 ^ 32) ≡ b → valueWord (wordValue v) ≡ v
-    second l true e = ap valueWord (if-no _ _ (le-false v (2 ^ 32) l) ∙ if-yes _ _ e) ∙ truth l (leb-true v (2 ^ 32 + 1) (sym (if-no _ _ (le-false v (2 ^ 32) l) ∙ if-yes _ _ e) ∙ h)) (ℕ-discrete v (2 ^ 32 + 1))
-    second l false e = ap valueWord (if-no _ _ (le-false v (2 ^ 32) l) ∙ if-no _ _ e) ∙ up (ltb-false v (2 * 2 ^ 32) e)
+    second l true e = ap valueWord (if-no _ _ (le-ltb v (2 ^ 32) l) ∙ if-yes _ _ e) ∙ truth l (leb-true v (2 ^ 32 + 1) (sym (if-no _ _ (le-ltb v (2 ^ 32) l) ∙ if-yes _ _ e) ∙ h)) (ℕ-discrete v (2 ^ 32 + 1))
+    second l false e = ap valueWord (if-no _ _ (le-ltb v (2 ^ 32) l) ∙ if-no _ _ e) ∙ up (ltb-false v (2 * 2 ^ 32) e)
       where
         up : 2 * 2 ^ 32 ≤ v → 2 * 2 ^ 32 + (v - 2 * 2 ^ 32) ≡ v
         up a = omega arith
@@ -91,9 +92,9 @@ value-there v h = first (ltb v (2 ^ 32)) refl
     first true e = ap valueWord (if-yes _ _ e)
     first false e = second (ltb-false v (2 ^ 32) e) (ltb v (2 * 2 ^ 32)) refl
 
-pub entry-there : (v : ℕ) → entryInRange v ≡ true → entryWord (wordEntry v) ≡ v
+pub entry-there : (v : ℕ) → entryWord (wordEntry v) ≡ v
 unfolding entryWord wordEntry
-entry-there v h = first (ltb v 128) refl
+entry-there v = first (ltb v 128) refl
   where
     first : (b : Bool) → ltb v 128 ≡ b → entryWord (wordEntry v) ≡ v
     first true e = ap entryWord (if-yes _ _ e)
@@ -111,16 +112,13 @@ cell-there n v h =
     both v = omega arith
 
 -- ---- lists
+
 tab-all : (P : ℕ → Type 0) (n : ℕ) (f : ℕ → ℕ) (i : ℕ) → ((j : ℕ) → j < n → P (f (i + j))) → All P (tabulate n f i)
 unfolding tabulate
 tab-all P zero f i h = none
 tab-all P (suc n) f i h =
     let z : i + 0 ≡ i = add-zero i in
     more (subst (λ (k : ℕ). P (f k)) z (h 0 (omega arith))) (tab-all P n f (suc i) (λ j g. let a : i + suc j ≡ suc i + j = omega arith in subst (λ (k : ℕ). P (f k)) a (h (suc j) (omega arith))))
-
-pub aux-all : (P : ℕ → Type 0) (xs ys : List ℕ) → All P xs → All P ys → All P (reverseAux xs ys)
-aux-all P [] ys none h = h
-aux-all P (x ∷ xs) ys (more a g) h = aux-all P xs (x ∷ ys) g (more a h)
 
 module _ (test : ℕ → Bool) (w : List ℕ) (i most : ℕ) (s : Space test w i most) where
   pub list-all : All (λ (v : ℕ). test v ≡ true) (wordsAt w i)
@@ -136,29 +134,19 @@ module _ (test : ℕ → Bool) (w : List ℕ) (i most : ℕ) (s : Space test w i
       go false e = let l : getD w i 0 ≤ j = ltb-false j (getD w i 0) e in
           s .unused j l (omega arith) ∙ sym (List·getD-eq-default (wordsAt w i) 0 {n = j} (rw (tab-length (getD w i 0) (λ k. getD w k 0) (suc i)) l))
 
--- ---- a block, spot by spot
+-- ---- a block is a thread's or a scheduler's where each of its spots is
+
 thread-cases : (x : Thread) (v : ℕ → ℕ) → v 0 ≡ x .place → v 1 ≡ x .starter → v 2 ≡ bit (not (x .ended))
     → ((j : ℕ) → j < 26 → v (3 + j) ≡ listWord (reverse (map itemWord (x .continuation))) j) → ((j : ℕ) → j < 26 → v (29 + j) ≡ listWord (map valueWord (x .variables)) j)
     → (j : ℕ) → j < 55 → v j ≡ threadWord x j
-thread-cases x v a b c d e zero g = a ∙ sym (thread-0 x)
-thread-cases x v a b c d e (suc zero) g = b ∙ sym (thread-1 x)
-thread-cases x v a b c d e (suc (suc zero)) g = c ∙ sym (thread-2 x)
-thread-cases x v a b c d e (suc (suc (suc j))) g = go (suc (suc (suc j))) g (omega arith) (ltb (suc (suc (suc j))) 29) refl
-  where
-    go : (i : ℕ) → i < 55 → 3 ≤ i → (b : Bool) → ltb i 29 ≡ b → v i ≡ threadWord x i
-    go i g l true q = let m : i < 29 = ltb-true i 29 q in let z : 3 + (i - 3) ≡ i = omega arith in
-        subst (λ (k : ℕ). v k ≡ threadWord x k) z (d (i - 3) (omega arith) ∙ sym (thread-continuation x (i - 3) (omega arith)))
-    go i g l false q = let m : 29 ≤ i = ltb-false i 29 q in let z : 29 + (i - 29) ≡ i = omega arith in
-        subst (λ (k : ℕ). v k ≡ threadWord x k) z (e (i - 29) (omega arith) ∙ sym (thread-variables x (i - 29) (omega arith)))
+thread-cases x v a b c d e =
+    by-thread-word (λ (j : ℕ). v j ≡ threadWord x j) (a ∙ sym (thread-0 x)) (b ∙ sym (thread-1 x)) (c ∙ sym (thread-2 x))
+    (λ j g. d j g ∙ sym (thread-continuation x j g)) (λ j g. e j g ∙ sym (thread-variables x j g))
 
 scheduler-cases : (x : Scheduler) (v : ℕ → ℕ) → ((j : ℕ) → j < 65 → v j ≡ listWord (x .active) j) → ((j : ℕ) → j < 65 → v (65 + j) ≡ listWord (map entryWord (x .next)) j)
     → (j : ℕ) → j < 130 → v j ≡ schedulerWord x j
-scheduler-cases x v a b j g = go (ltb j 65) refl
-  where
-    go : (c : Bool) → ltb j 65 ≡ c → v j ≡ schedulerWord x j
-    go true q = a j (ltb-true j 65 q) ∙ sym (scheduler-active x j (ltb-true j 65 q))
-    go false q = let m : 65 ≤ j = ltb-false j 65 q in let z : 65 + (j - 65) ≡ j = omega arith in
-        subst (λ (k : ℕ). v k ≡ schedulerWord x k) z (b (j - 65) (omega arith) ∙ sym (scheduler-next x (j - 65) (omega arith)))
+scheduler-cases x v a b =
+    by-scheduler-word (λ (j : ℕ). v j ≡ schedulerWord x j) (λ j g. a j g ∙ sym (scheduler-active x j g)) (λ j g. b j g ∙ sym (scheduler-next x j g))
 
 nil-word : (j : ℕ) → 0 ≡ listWord [] j
 nil-word zero = refl
@@ -169,7 +157,8 @@ bit-there zero h = refl
 bit-there (suc zero) h = refl
 bit-there (suc (suc v)) h = absurd (omega arith)
 
--- ---- what is not there
+-- ---- the words of what is not there are 0
+
 pub no-thread-word : (j : ℕ) → j < 55 → 0 ≡ threadWord noThread j
 no-thread-word j g = thread-cases noThread (λ i. 0) refl refl refl (λ i q. nil-word i) (λ i q. nil-word i) j g
 
@@ -188,6 +177,7 @@ table-there m k f d P a b = go (ltb k m) refl
     go true e = subst P (sym (tab-at m f k d (ltb-true k m e))) (a (ltb-true k m e))
     go false e = subst P (sym (List·getD-eq-default (tabulate m f 0) d {n = k} (rw (tab-length m f 0) (ltb-false k m e)))) (b (ltb-false k m e))
 
+-- ---- words in range say each spot of their state
 module _ (fs : List Frame) (n : ℕ) (w : List ℕ) (h : InRange fs n w) where
   pub items-space : (k : ℕ) → k < getD w 0 0 → Space (itemInRange fs n) w (1042 + 55 * k + 3) 25
   items-space k a = space-of (itemInRange fs n) w (1042 + 55 * k + 3) 25 (λ j g. sym (range-items fs n w (1042 + 55 * k) j (omega arith)) ∙ h .thread k (3 + j) (omega arith) a)
@@ -221,7 +211,7 @@ module _ (fs : List Frame) (n : ℕ) (w : List ℕ) (h : InRange fs n w) where
       ps = wordsAt w (1042 + 55 * k + 3)
 
       continuation : reverse (map itemWord (map (wordItem fs) (reverse (wordsAt w (1042 + 55 * k + 3))))) ≡ wordsAt w (1042 + 55 * k + 3)
-      continuation = ap reverse (map-back (λ (v : ℕ). itemInRange fs n v ≡ true) (wordItem fs) itemWord (item-there fs n) (reverse ps) (aux-all (λ (v : ℕ). itemInRange fs n v ≡ true) ps [] (list-all (itemInRange fs n) w (1042 + 55 * k + 3) 25 (items-space k a)) none)) ∙ reverse-reverse ps
+      continuation = ap reverse (map-back (λ (v : ℕ). itemInRange fs n v ≡ true) (wordItem fs) itemWord (item-there fs n) (reverse ps) (all-reverse (λ (v : ℕ). itemInRange fs n v ≡ true) ps (list-all (itemInRange fs n) w (1042 + 55 * k + 3) 25 (items-space k a)))) ∙ reverse-reverse ps
 
       values : map valueWord (map wordValue (wordsAt w (1042 + 55 * k + 29))) ≡ wordsAt w (1042 + 55 * k + 29)
       values = map-back (λ (v : ℕ). valueInRange v ≡ true) wordValue valueWord value-there (wordsAt w (1042 + 55 * k + 29)) (list-all valueInRange w (1042 + 55 * k + 29) 25 (values-space k a))
@@ -235,7 +225,7 @@ module _ (fs : List Frame) (n : ℕ) (w : List ℕ) (h : InRange fs n w) where
       j g
     where
       entries : map entryWord (map wordEntry (wordsAt w (67 + 130 * k))) ≡ wordsAt w (67 + 130 * k)
-      entries = map-back (λ (v : ℕ). entryInRange v ≡ true) wordEntry entryWord entry-there (wordsAt w (67 + 130 * k)) (list-all entryInRange w (67 + 130 * k) 64 (next-space k l a))
+      entries = map-back (λ (v : ℕ). entryInRange v ≡ true) wordEntry entryWord (λ v _. entry-there v) (wordsAt w (67 + 130 * k)) (list-all entryInRange w (67 + 130 * k) 64 (next-space k l a))
 
   pub says-unpack : Says w (unpack fs n w)
   unfolding unpack

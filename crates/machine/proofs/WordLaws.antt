@@ -1,11 +1,10 @@
--- Lists: tables, parts, a block replaced; and the words of a packed state. Assumes nothing.
+-- The words of a packed state, spot by spot; and before them what they are made of: tables, parts of lists, a block of a list replaced. Assumes nothing.
 use Prim.Native.Nat.{ℕ, suc, zero, _+_, _*_, _-_, _/_, _%_, _<_, _≤_}
-use mathlib.Core.Path.{_≡_, refl, sym, ap, ap₂, _∙_, subst}
+use mathlib.Core.Path.{_≡_, refl, sym, ap, ap₂, _∙_}
 use mathlib.Core.List.{List, _++_}
 use mathlib.Core.Bool.{Bool, true, false}
 use native.Mathlib.Omega.{arith}
 use native.Mathlib.Nat.{zero-add}
-use native.Mathlib.Decide.{ℕ-discrete}
 use native.Mathlib.Numerals.{add-one}
 use lib.ListN.{getD, length, set, take, drop, length-drop, List·getD-append}
 use lib.Seq.{ext-getD, getD-take, getD-drop, length-take-le, length-paste, length-paste-head, getD-append-add, paste-zero, paste-suc}
@@ -15,6 +14,7 @@ use Rattle.basics.proofs.Ifs.{if-yes, if-no}
 use Rattle.machine.specs.State.{State, noThread, noScheduler, noCell}
 use Rattle.machine.specs.Words.{tabulate, threadWord, schedulerWord, cellWord, wordOf, pack}
 use Rattle.machine.specs.Blocks.{part, pasted}
+use Rattle.machine.proofs.Regions.{by-region}
 
 -- ---- tables
 pub tab-length : {A : Type 0} (n : ℕ) (f : ℕ → A) (i : ℕ) → length (tabulate n f i) ≡ n
@@ -140,7 +140,7 @@ word-cell s j g =
     ∙ if-no _ _ (le-ltb i 1042 (omega arith)) ∙ if-no _ _ (le-ltb i 4562 (omega arith))
     ∙ ap (λ (x : ℕ). cellWord (getD (s .cells) x noCell)) a
 
--- words that say of each spot what a state says are that state's
+-- each spot of w says what it says of the state s: the laws about changed words are stated of this, and come to `pack` only at the end, by `is-pack`
 pub record Says (w : List ℕ) (s : State) : Type 0 where
   pub all : length w ≡ 4818
   pub threads : getD w 0 0 ≡ length (s .threads)
@@ -149,36 +149,19 @@ pub record Says (w : List ℕ) (s : State) : Type 0 where
   pub thread : (k j : ℕ) → k < 64 → j < 55 → getD w (1042 + 55 * k + j) 0 ≡ threadWord (getD (s .threads) k noThread) j
   pub cell : (j : ℕ) → j < 256 → getD w (4562 + j) 0 ≡ cellWord (getD (s .cells) j noCell)
 
+-- the same at an index i that is not written as a block's first and an offset
+module _ {w : List ℕ} {s : State} (h : Says w s) where
+  pub thread-says : (k j i : ℕ) → k < 64 → j < 55 → i ≡ 1042 + 55 * k + j → getD w i 0 ≡ threadWord (getD (s .threads) k noThread) j
+  thread-says k j i a b e = ap (λ (m : ℕ). getD w m 0) e ∙ h .thread k j a b
+
+  pub scheduler-says : (k j i : ℕ) → k < 8 → j < 130 → i ≡ 2 + 130 * k + j → getD w i 0 ≡ schedulerWord (getD (s .schedulers) k noScheduler) j
+  scheduler-says k j i a b e = ap (λ (m : ℕ). getD w m 0) e ∙ h .scheduler k j a b
+
+-- words that say a state are its words
 pub is-pack : (w : List ℕ) (s : State) → Says w s → w ≡ pack s
-is-pack w s h = ext-getD 0 w (pack s) (h .all ∙ sym (pack-length s)) (λ i g. at i (rw (h .all) at g) (ℕ-discrete i 0) (ℕ-discrete i 1))
-  where
-    Same : ℕ → Type 0
-    Same i = getD w i 0 ≡ getD (pack s) i 0
-
-    third : (i : ℕ) → i < 4818 → 4562 ≤ i → Same i
-    third i g l = let a : 4562 + (i - 4562) ≡ i = omega arith in
-        subst Same a (h .cell (i - 4562) (omega arith) ∙ sym (word-cell s (i - 4562) (omega arith)))
-
-    second : (i : ℕ) → i < 4818 → 1042 ≤ i → (b : Bool) → ltb i 4562 ≡ b → Same i
-    second i g l true e =
-        let m : i < 4562 = ltb-true i 4562 e in
-        let k : ℕ = (i - 1042) / 55 in let j : ℕ = (i - 1042) % 55 in
-        let a : 1042 + 55 * k + j ≡ i = omega arith in
-        subst Same a (h .thread k j (omega arith) (omega arith) ∙ sym (word-thread s k j (omega arith) (omega arith)))
-    second i g l false e = third i g (ltb-false i 4562 e)
-
-    first : (i : ℕ) → i < 4818 → 2 ≤ i → (b : Bool) → ltb i 1042 ≡ b → Same i
-    first i g l true e =
-        let m : i < 1042 = ltb-true i 1042 e in
-        let k : ℕ = (i - 2) / 130 in let j : ℕ = (i - 2) % 130 in
-        let a : 2 + 130 * k + j ≡ i = omega arith in
-        subst Same a (h .scheduler k j (omega arith) (omega arith) ∙ sym (word-scheduler s k j (omega arith) (omega arith)))
-    first i g l false e = second i g (ltb-false i 1042 e) (ltb i 4562) refl
-
-    at : (i : ℕ) → i < 4818 → Dec (i ≡ 0) → Dec (i ≡ 1) → Same i
-    at i g (yes a) b = subst Same (sym a) (h .threads ∙ sym (word-0 s))
-    at i g (no a) (yes b) = subst Same (sym b) (h .cells ∙ sym (word-1 s))
-    at i g (no a) (no b) = first i g (two i a b) (ltb i 1042) refl
-      where
-        two : (i : ℕ) → (i ≡ 0 → ⊥) → (i ≡ 1 → ⊥) → 2 ≤ i
-        two i a b = omega arith
+is-pack w s h =
+    ext-getD 0 w (pack s) (h .all ∙ sym (pack-length s))
+    (λ i g. by-region (λ (i : ℕ). getD w i 0 ≡ getD (pack s) i 0) (h .threads ∙ sym (word-0 s)) (h .cells ∙ sym (word-1 s))
+    (λ k j a b. h .scheduler k j a b ∙ sym (word-scheduler s k j a b))
+    (λ k j a b. h .thread k j a b ∙ sym (word-thread s k j a b))
+    (λ c a. h .cell c a ∙ sym (word-cell s c a)) i (rw (h .all) at g))

@@ -28,8 +28,9 @@ use Rattle.machine.specs.State.{run}
 use Rattle.machine.specs.Fresh.{firstCell}
 use Rattle.machine.specs.Values.{firstContent}
 use Rattle.machine.specs.Ranges.{isStatement, ownerInRange}
+use Rattle.machine.proofs.Lists.{all-getD, all-imply}
 use Rattle.machine.proofs.Shapes.{ValueFits, CellFits, ItemFits, run-fits}
-use Rattle.machine.proofs.KeptCells.{ExprFits, a-number, a-truth, a-variable, a-shared, a-new, a-content, a-sum, a-less, a-choice, all-getD}
+use Rattle.machine.proofs.KeptCells.{ExprFits, a-number, a-truth, a-variable, a-shared, a-new, a-content, a-sum, a-less, a-choice}
 use Rattle.machine.proofs.KeptShape.{Parts, of-nothing, of-cooperate, of-seq, of-do, of-start, of-wait, of-let, of-store, of-if, of-while, FileFits, reached-in-range}
 use Rattle.machine.proofs.CallRuns.{calls-are}
 use Rattle.reach.specs.Reached.{Passes, ReachedInRange, CallsAreSteps}
@@ -39,10 +40,12 @@ use Rattle.reach.proofs.Cells.{CellFine, CellsFine, cells-few, shared-f
 use Rattle.reach.proofs.Modules.{IsPart, parts, some-module, part-types}
 use Rattle.reach.proofs.Sizes.{Sized, sized}
 
+-- numbers that a value can hold
 abbrev Small : ℕ → Type 0
 Small v = v < 2 ^ 32
 
 -- ---- expressions
+
 expr-fits : {n : ℕ} {x : Expr} → LaidE Small n x → ExprFits n x
 expr-fits (LaidE.number q) = a-number q
 expr-fits LaidE.truth = a-truth
@@ -54,11 +57,8 @@ expr-fits (LaidE.sum x y) = a-sum (expr-fits x) (expr-fits y)
 expr-fits (LaidE.less x y) = a-less (expr-fits x) (expr-fits y)
 expr-fits (LaidE.choose x y z) = a-choice (expr-fits x) (expr-fits y) (expr-fits z)
 
-exprs-fit : {n : ℕ} {xs : List Expr} → All (LaidE Small n) xs → All (ExprFits n) xs
-exprs-fit All.none = All.none
-exprs-fit (All.more x xs) = All.more (expr-fits x) (exprs-fit xs)
-
 -- ---- shared cells
+
 first-fits : {n : ℕ} {before : List SharedCell} {x : SharedCell} → CellFine Small n before x → ValueFits (firstCell x .content)
 unfolding firstContent firstContentFine
 first-fits {before = before} {x = x} f =
@@ -79,6 +79,7 @@ cells-fit CellsFine.none = All.none
 cells-fit {n} (CellsFine.more {x = x} f r) = All.more {x = x} (record { owner = rw (f .owner); value = first-fits f }) (cells-fit r)
 
 -- ---- statements
+
 is-statement : (k : Kind) → classOf k ≡ Class.Statement → isStatement k ≡ true
 is-statement (Statement k) e = refl
 is-statement (Expression k) e = absurd (let z : _≡_ {A = ℕ} 0 1 = cc in omega arith)
@@ -101,9 +102,10 @@ module _ {fs : List Frame} (size : Sized fs) (fine : NoFault fs) where
   e-fits j = expr-fits (laid-expr Small fine (omega arith) (size .a) j)
 
   es-fit : (a b : ℕ) → All (ExprFits n) (arguments (λ j. expressionAt fs j) a b)
-  es-fit a b = exprs-fit (laid-arguments Small fine (omega arith) (size .a) a b)
+  es-fit a b = all-imply (λ _ x. expr-fits x) (laid-arguments Small fine (omega arith) (size .a) a b)
 
   module _ (j : ℕ) (l : j < length fs) where
+    -- a child that is a statement, and then each kind of statement by its children
     child-fits : {lo : ℕ} {c : Child} {cs : List Child} → Row fs lo j cs → In c cs → c .class ≡ Class.Statement → ItemFits fs n (run (statementAt fs (c .at)))
     child-fits (Row.more t e r) In.first q = let k = row-le r in item-fits _ (omega arith) (e ∙ q)
     child-fits (Row.more t e r) (In.later m) q = child-fits r m q
@@ -164,6 +166,7 @@ module _ {fs : List Frame} (size : Sized fs) (fine : NoFault fs) where
       }
 
 -- ---- of every text
+
 pub fits : {bs : List ℕ} {fs : List Frame} → Passes bs fs → FileFits fs (programOf fs) (programOf fs .schedulers)
 fits p = file-fits (sized (p .text)) (p .layout)
 

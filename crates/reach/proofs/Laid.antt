@@ -20,7 +20,7 @@ use Rattle.layout.proofs.Trees.{tree-le, One, Two, Three, one-of, two-of, three
 use Rattle.machine.proofs.Depth.{deep}
 use Rattle.reach.proofs.Passed.{child-depth, fields, row-at, order, inside, not-deeper}
 
--- an expression whose owners are places of a file of n schedulers, and whose numbers have Q
+-- an expression whose owners are places of a file of n schedulers, and whose numbers have Q. What refusals 1 to 3 say of numbers is a premise apart, `each`: Q is below 2^32 for the state's spaces, and nothing for demand 3
 pub data LaidE (Q : ℕ → Type 0) (n : ℕ) : Expr → Type 0 where
   number : {i v : ℕ} → Q v → LaidE Q n (Expr.number i v)
   truth : {i v : ℕ} → LaidE Q n (Expr.truth i v)
@@ -45,6 +45,7 @@ pub data LaidS (Q : ℕ → Type 0) (n : ℕ) : ℕ → Stmt → Type 0 where
   ifElse : {d i : ℕ} {x : Expr} {a b : Stmt} → LaidE Q n x → LaidS Q n d a → LaidS Q n d b → LaidS Q n (suc d) (Stmt.ifElse i x a b)
   while : {d i : ℕ} {x : Expr} {a : Stmt} → LaidE Q n x → LaidS Q n d a → LaidS Q n (suc d) (Stmt.while i x a)
 
+-- 24 at most, by `laid-stmt`
 pub laid-deep : {Q : ℕ → Type 0} {n d : ℕ} {x : Stmt} → LaidS Q n d x → deep x ≤ d
 unfolding deep
 laid-deep LaidS.nothing = omega arith

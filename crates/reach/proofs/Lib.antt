@@ -1,6 +1,9 @@
+-- What refusals 1 to 3 leave of a file, and what 4 to 7 leave of each frame.
+pub mod Sizes
 pub mod Passed
+-- So of its trees, its shared cells, its modules.
 pub mod Laid
 pub mod Cells
 pub mod Modules
-pub mod Sizes
+-- So it fits the state's spaces.
 pub mod Fits

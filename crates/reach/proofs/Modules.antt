@@ -77,7 +77,7 @@ module _ {fs : List Frame} (fine : NoFault fs) where
       let e = ap length (r .same) in
       omega arith
 
-  -- 'S parameters, 0 to 2', 'A body stands at depth 1', 'the whole tree is at most 24 deep'
+  -- 'S parameters, 0 to 2'
   pub part-types : (m : Part) → IsPart fs m → length (m .types) ≤ 2
   part-types m h =
       let f = frameAt fs (h .at) in
@@ -85,6 +85,7 @@ module _ {fs : List Frame} (fine : NoFault fs) where
       let l = length-take (f .s) (f .b ∷ f .c ∷ []) in
       omega arith
 
+  -- 'A body stands at depth 1', 'the whole tree is at most 24 deep'
   pub part-laid : (Q : ℕ → Type 0) → Q 0 → ((j : ℕ) → Q (frameAt fs j .a)) → (m : Part) → IsPart fs m → LaidS Q (schedulersOf fs) 24 (m .body)
   part-laid Q none each m h =
       subst (λ (p : Part). LaidS Q (schedulersOf fs) 24 (p .body)) (sym (h .same))

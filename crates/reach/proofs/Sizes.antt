@@ -1,4 +1,4 @@
--- What refusals 1 to 3 leave of a file: at most 1,024 frames, and fields of four digits. Assumes nothing.
+-- What refusals 1 to 3 leave of a file: at most 1,024 frames, whose fields A and B, being of four digits, are numbers that a value can hold. Assumes nothing.
 use mathlib.Core.List.{List, [], _∷_, map}
 use Prim.Native.Nat.{ℕ, zero, suc, _/_, _^_, _≤_, _<_}
 use native.Mathlib.Omega.{arith}

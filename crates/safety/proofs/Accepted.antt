@@ -1,15 +1,13 @@
--- Demand 3: the rules give what its proof needs, so every accepted text is safe, as a list of steps and as a list of calls. Assumes nothing.
+-- Demand 3: every accepted text is safe under every list of choices, as a list of steps (`accepted-safe`) and as a list of calls (`accepted-calls-safe`). Assumes nothing.
 use mathlib.Core.Path.{_≡_, refl, sym, ap, ap₂, subst, _∙_}
 use mathlib.Core.Bool.{Bool, true, false}
 use mathlib.Core.List.{List, [], _∷_, _++_, map}
 use Prim.Native.Nat.{ℕ}
-use native.Mathlib.Omega.{arith}
-use lib.ListN.{length, length-map}
+use lib.ListN.{length}
 use Rattle.basics.specs.Members.{All}
 use Rattle.language.specs.declared.frame.Frame.{Frame}
 use Rattle.text.specs.Reading.{Reads}
-use Rattle.program.specs.Programs.{Part, Program, noModule, typeOfShared, modulesFrom, sharedOf, programOf}
-use Rattle.layout.specs.Fields.{schedulersOf}
+use Rattle.program.specs.Programs.{Program, programOf}
 use Rattle.layout.specs.Faults.{NoFault}
 use Rattle.rules.specs.Rules.{Keeps}
 use Rattle.rules.specs.Verdict.{HasVerdict}
@@ -21,66 +19,17 @@ use Rattle.machine.specs.Steps.{step}
 use Rattle.machine.specs.Runs.{stepsFrom, stateAfter, steps, allAccesses}
 use Rattle.machine.specs.Words.{pack, unpack}
 use Rattle.machine.specs.Calls.{Called, freshCall, wordsFrom}
-use Rattle.machine.proofs.Depth.{low-enough}
 use Rattle.machine.proofs.Shapes.{Shaped}
 use Rattle.machine.proofs.InShape.{shaped-in-range}
 use Rattle.machine.proofs.Round.{unpack-pack}
-use Rattle.machine.proofs.KeptCells.{all-getD}
 use Rattle.machine.proofs.KeptShape.{FileFits, keeps-step, fresh-shaped, reached-shaped}
 use Rattle.machine.proofs.CallRuns.{asCalled, fresh-called, call-is, calls-are, words-are}
-use Rattle.reach.proofs.Passed.{schedulers-range}
-use Rattle.reach.proofs.Laid.{LaidS, laid-deep}
-use Rattle.reach.proofs.Cells.{CellsFine, shared-fine}
-use Rattle.reach.proofs.Modules.{IsPart, parts, main-plain, some-module, part-types, part-laid}
 use Rattle.reach.proofs.Sizes.{sized}
 use Rattle.reach.proofs.Fits.{file-fits}
 use Rattle.safety.specs.Safety.{Sound, Safe, Safety, NoPrivateInPublic, Apart}
 use Rattle.safety.specs.Accepted.{AcceptedSafe, stateOf, accessesUnder, accessesFrom, SafeCalls, AcceptedCallsSafe}
-use Rattle.safety.proofs.Goods.{Low}
-use Rattle.safety.proofs.Demand3.{Typed, demand-3}
-use Rattle.safety.proofs.Places.{main-typed}
-use Rattle.safety.proofs.SharedCells.{keptOf, all-well, shared-is, shared-owners, first-good}
-
--- ---- the rules give types
-
--- numbers may be of any size here
-abbrev Any : ℕ → Type 0
-Any v = Unit {0}
-
-module _ {fs : List Frame} (fine : NoFault fs) where
-  laid : (m : Part) → IsPart fs m → LaidS Any (schedulersOf fs) 24 (m .body)
-  laid = part-laid fine Any tt (λ j. tt)
-
-  bodies : (ms : List Part) → All (IsPart fs) ms → All (λ (m : Part). LaidS Any (schedulersOf fs) 24 (m .body)) ms
-  bodies [] All.none = All.none
-  bodies (m ∷ ms) (All.more h hs) = All.more (laid m h) (bodies ms hs)
-
-  low : Low (programOf fs)
-  unfolding programOf
-  low m l =
-      let h = all-getD (IsPart fs) (modulesFrom fs 0 fs) noModule m (parts fs) l in
-      low-enough _ _ (laid-deep (laid _ h)) (part-types fine _ h)
-
-  cells : CellsFine Any (schedulersOf fs) [] (sharedOf fs)
-  cells = shared-fine Any fine (λ j. tt)
-
-  -- every file that passes refusals 4 to 7 and keeps the rules is typed
-  pub typed : Keeps (programOf fs) → Typed (programOf fs)
-  unfolding programOf fresh
-  typed rules =
-      let few = schedulers-range fine .1 in
-      let wells = all-well few cells in
-      let xs = sharedOf fs in
-      record {
-        sh = map keptOf xs;
-        count = length-map xs keptOf;
-        owners = shared-owners xs wells;
-        first = first-good few xs cells;
-        some = some-module fine;
-        main = main-typed (programOf fs) (map keptOf xs) (map typeOfShared xs) Any (schedulersOf fs) few (shared-is xs wells) [] (modulesFrom fs 0 fs) refl refl
-            (λ s l. absurd (omega arith)) (bodies _ (parts fs)) (main-plain fine) rules;
-        low = low;
-      }
+use Rattle.safety.proofs.Demand3.{demand-3}
+use Rattle.safety.proofs.TypedFiles.{typed}
 
 -- ---- demand 3 of the steps
 
@@ -94,7 +43,7 @@ accepted-frames-safe = demand-3 AcceptedFrames (λ fs h. typed (h .0) (h .1))
 pub accepted-safe : AcceptedSafe
 accepted-safe bs (HasVerdict.accepted (Reads.whole a b c) h k) cs = accepted-frames-safe _ (h, k) cs
 
--- ---- demand 3 of the calls
+-- ---- demand 3 of the calls: from the fresh words on, they give the steps' answers, accesses and states
 module _ (fs : List Frame) (F : FileFits fs (programOf fs) (programOf fs .schedulers)) where
   abbrev P : Program
   P = programOf fs

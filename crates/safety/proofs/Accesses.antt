@@ -1,4 +1,4 @@
--- The first point of demand 3 follows from the last: where no choice is foreign, every access is to one's own. Assumes nothing.
+-- Of demand 3, `accessed` follows from `answered`: where no choice is foreign, every access is to a cell of the acting thread or of its scheduler. Assumes nothing.
 use mathlib.Core.List.{List, [], _∷_, map}
 use Prim.Native.Nat.{ℕ}
 use Rattle.basics.specs.Members.{All, none, more}
@@ -9,7 +9,7 @@ use Rattle.machine.specs.Fresh.{fresh}
 use Rattle.machine.specs.Turns.{Stepped}
 use Rattle.machine.specs.Steps.{step}
 use Rattle.machine.specs.Runs.{stepsFrom, allAccesses, answers, accessesOf}
-use Rattle.machine.proofs.Tests.{all-append}
+use Rattle.machine.proofs.Lists.{all-append}
 use Rattle.machine.proofs.Fair.{fair}
 use Rattle.safety.specs.Safety.{Sound}
 

@@ -1,11 +1,11 @@
--- Demand 3 of every typed program. Assumes nothing.
-use mathlib.Core.Path.{_≡_, refl, ap, subst}
+-- Demand 3 of every typed program: its fresh state is good, each choice keeps it so, and a good state has what demand 3 says. Assumes nothing.
+use mathlib.Core.Path.{_≡_, ap, subst}
 use mathlib.Core.Logic.{⊎-elim}
 use mathlib.Core.List.{List, [], _∷_, map}
 use Prim.Native.Nat.{ℕ, zero, suc, _-_, _≤_, _<_}
 use native.Mathlib.Omega.{arith}
 use native.Mathlib.Decide.{decLt}
-use lib.ListN.{length, getD}
+use lib.ListN.{length, List·getD-eq-default}
 use Rattle.basics.specs.Members.{All}
 use Rattle.program.specs.Programs.{Program, mainOf, programOf}
 use Rattle.machine.specs.State.{State, Stored, cellAt, noCell}
@@ -17,35 +17,35 @@ use Rattle.machine.specs.declared.value.Value.{Value}
 use Rattle.machine.specs.declared.value.Value.the-variants.{Cell}
 use Rattle.machine.proofs.Space.{Counted, counted-step, fresh-counted}
 use Rattle.machine.proofs.Continuations.{no-items, run-item}
+use Rattle.machine.proofs.Depth.{BodiesFit}
 use Rattle.safety.specs.Safety.{Reaches, BelongsToThread, BelongsToScheduler, Sound, Safe, Safety}
-use Rattle.safety.proofs.Typing.{Ty, Pub, Kept, At, here, there, St}
+use Rattle.safety.proofs.Typing.{Ty, Pub, CellTyping, At, here, there, TypedS}
 use Rattle.language.specs.declared.frame.Frame.{Frame}
 use Rattle.safety.proofs.Accesses.{accessed}
 use Rattle.safety.proofs.Heap.{Val, is-cell, Held, by-thread, by-place, GoodCells, Vals, none, more, SharedOk, held-val}
-use Rattle.safety.proofs.Goods.{p-empty, p-run, Good, no-thread, ok-step, nil, cons, each-nth, Low}
+use Rattle.safety.proofs.Threads.{nil, cons, each-nth}
+use Rattle.safety.proofs.Invariant.{p-empty, p-run, Good, no-thread}
+use Rattle.safety.proofs.Preservation.{ok-step}
 
--- what acceptance must give: types for the shared cells, which their first contents have; `main` keeps the rules at home; and every body is within the depth
+-- a typed program, which is what acceptance must give: types for the shared cells, which their first contents have; `main` keeps the rules at home; and every body has room
 pub record Typed (P : Program) : Type 0 where
-  pub sh : List Kept
+  pub sh : List CellTyping
   pub count : length sh ≡ length (P .shared)
   pub owners : SharedOk sh sh
   pub first : GoodCells sh (fresh P .cells)
   pub some : 1 ≤ length (P .modules)
-  pub main : St P sh [] 2 (mainOf P .body)
-  pub low : Low P
+  pub main : TypedS P sh [] 2 (mainOf P .body)
+  pub bodies : BodiesFit P
 
--- the type of a cell in use
-at-of : (l : List Kept) (c : ℕ) → c < length l → (k : Kept) × At l c k
-at-of [] c h = absurd (omega arith)
-at-of (k ∷ l) zero h = (k, here)
-at-of (k ∷ l) (suc c) h = let r = at-of l c (omega arith) in (r .0, there (r .1))
+-- ---- what good cells come to: `public` and `apart` of `Safe`
 
-past : (cs : List Stored) (c : ℕ) → length cs ≤ c → getD cs c noCell ≡ noCell
-past [] c h = refl
-past (x ∷ cs) zero h = absurd (omega arith)
-past (x ∷ cs) (suc c) h = past cs c (omega arith)
+-- the typing of a cell in use
+typing-at : (l : List CellTyping) (c : ℕ) → c < length l → (k : CellTyping) × At l c k
+typing-at [] c h = absurd (omega arith)
+typing-at (k ∷ l) zero h = (k, here)
+typing-at (k ∷ l) (suc c) h = let r = typing-at l c (omega arith) in (r .0, there (r .1))
 
-module _ {Σ : List Kept} {cs : List Stored} (g : GoodCells Σ cs) where
+module _ {Σ : List CellTyping} {cs : List Stored} (g : GoodCells Σ cs) where
   -- whoever sees a value sees whatever it reaches
   sees : {v : Value} {τ : Ty} {c : ℕ} (t o : ℕ) → Reaches cs v c → Val Σ t v τ → BelongsToThread cs c o → o ≡ t
   sees t o Reaches.itself (is-cell {c = c} {k = k} a s) e =
@@ -53,12 +53,13 @@ module _ {Σ : List Kept} {cs : List Stored} (g : GoodCells Σ cs) where
       ⊎-elim (λ h. omega (arith, h .1, q, e)) (λ h. absurd (omega (arith, h .1, h .2, q, e))) s
   sees t o (Reaches.through l) (is-cell {c = b} {o = p} {k = k} a s) e = sees t o l (held-val t p s (g .each b k a .1)) e
 
+  -- no value of a public type is a thread's cell
   not-private : {τ : Ty} (u c t : ℕ) → Pub τ → Val Σ u (Cell c) τ → BelongsToThread cs c t → ⊥
   not-private u c t p (is-cell {k = k} a s) f =
       let q = g .each c k a .0 in
       ⊎-elim (λ h. omega (arith, p, h .0)) (λ h. omega (arith, h .1, h .2, q, f)) s
 
-  held-public : {k : Kept} {v : Value} (c t : ℕ) → k .own ≤ 9 → Held Σ k v → v ≡ Cell c → BelongsToThread cs c t → ⊥
+  held-public : {k : CellTyping} {v : Value} (c t : ℕ) → k .own ≤ 9 → Held Σ k v → v ≡ Cell c → BelongsToThread cs c t → ⊥
   held-public c t l (by-thread u e w) z f = omega (arith, e, l)
   held-public {k} c t l (by-place x y p w) z f = not-private 0 c t p (subst (λ (v : Value). Val Σ 0 v (k .ty)) z (w 0)) f
 
@@ -69,15 +70,17 @@ module _ {Σ : List Kept} {cs : List Stored} (g : GoodCells Σ cs) where
       go : Dec (b < length cs) → ⊥
       go (yes l) =
           let n = g .count in
-          let r = at-of Σ b (omega arith) in
+          let r = typing-at Σ b (omega arith) in
           let q = g .each b (r .0) (r .1) in
           held-public c t (omega (arith, h .1, q .0)) (q .1) e f
-      go (no l) = let q = ap (λ (x : Stored). x .owner) (past cs b (omega (arith, l))) in omega (arith, h .0, q)
+      go (no l) = let q = ap (λ (x : Stored). x .owner) (List·getD-eq-default cs noCell {n = b} (omega (arith, l))) in omega (arith, h .0, q)
 
+  -- no variable of t reaches another thread's cell
   apart : {vs : List Value} {Γ : List Ty} (t : ℕ) → Vals Σ t vs Γ → All (λ (v : Value). (c o : ℕ) → Reaches cs v c → BelongsToThread cs c o → o ≡ t) vs
   apart t none = All.none
   apart t (more w ws) = All.more (λ c o l e. sees t o l w e) (apart t ws)
 
+-- ---- the fresh state is good, and so is every state behind a list of choices
 module _ (P : Program) (T : Typed P) where
   abbrev GoodS : State → Type 0
   GoodS s = Good P (T .sh) s
@@ -85,7 +88,7 @@ module _ (P : Program) (T : Typed P) where
   fresh-good : GoodS (fresh P)
   unfolding fresh
   fresh-good =
-      let l = T .low (length (P .modules) - 1) (let k = T .some in omega arith) in (
+      let l = T .bodies (length (P .modules) - 1) (let k = T .some in omega arith) in (
         T .sh,
         record {
           cells = T .first;
@@ -99,17 +102,18 @@ module _ (P : Program) (T : Typed P) where
         },
       )
 
+  -- `answered`: no choice is foreign or stuck
   sound-from : (s : State) (cs : List ℕ) → GoodS s → Counted s → All Sound (map (λ (r : Stepped). r .answer) (stepsFrom P s cs))
   unfolding stepsFrom
   sound-from s [] g h = All.none
   sound-from s (c ∷ cs) g h =
-      let r = ok-step P (T .sh) (T .count) (T .low) s c g h in
+      let r = ok-step P (T .sh) (T .count) (T .bodies) s c g h in
       All.more (r .sound) (sound-from (step P s c .state) cs (r .good) (counted-step P s c h))
 
   good-from : (s : State) (cs : List ℕ) → GoodS s → Counted s → GoodS (stateFrom P s cs)
   unfolding stateFrom
   good-from s [] g h = g
-  good-from s (c ∷ cs) g h = good-from (step P s c .state) cs (ok-step P (T .sh) (T .count) (T .low) s c g h .good) (counted-step P s c h)
+  good-from s (c ∷ cs) g h = good-from (step P s c .state) cs (ok-step P (T .sh) (T .count) (T .bodies) s c g h .good) (counted-step P s c h)
 
   -- demand 3 of this program
   pub safe : (cs : List ℕ) → Safe P cs
@@ -123,6 +127,6 @@ module _ (P : Program) (T : Typed P) where
         answered = a;
       }
 
--- demand 3, of any acceptance that gives types
+-- demand 3 of any acceptance that gives types; TypedFiles shows that the rules do
 pub demand-3 : (Accepted : List Frame → Type 0) → ((fs : List Frame) → Accepted fs → Typed (programOf fs)) → Safety Accepted
 demand-3 Accepted typed fs h cs = safe (programOf fs) (typed fs h) cs

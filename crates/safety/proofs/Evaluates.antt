@@ -1,73 +1,66 @@
--- A typed expression, on its place, is neither foreign nor stuck, and gives a value of its type. Assumes nothing.
-use mathlib.Core.Path.{_≡_, refl, sym, ap, subst, _∙_}
+-- A typed expression, evaluated on its place over good cells, is neither foreign nor stuck: it gives a value of its type and good cells, or 17. Assumes nothing.
+use mathlib.Core.Path.{_≡_, refl, sym, subst, _∙_}
 use mathlib.Core.Logic.{inl, inr, ⊎-elim}
 use mathlib.Core.List.{List, [], _∷_, _++_}
-use mathlib.Core.Bool.{Bool, true, false, _&&_, _||_}
-use Prim.Native.Nat.{ℕ, _≤_, _<_}
+use mathlib.Core.Bool.{true, false}
+use Prim.Native.Nat.{ℕ, _≤_}
 use native.Mathlib.Omega.{arith}
 use lib.Dec.{leb, ltb, eqb}
-use lib.ListN.{length, getD}
+use lib.ListN.{length}
 use borrow.Author.Tests.{lt-ltb, le-leb, eq-eqb, eqb-true, eqb-false}
 use Rattle.basics.proofs.Ifs.{if-all}
 use Rattle.program.specs.Trees.{Expr}
 use Rattle.machine.specs.State.{Stored, cellAt, threadOwner}
 use Rattle.machine.specs.Evaluation.{Here, Evaluated, Evaluation, gives, after, andThen, _>>=_, isOwn, accessOf, accessing, readVariable, sharedCell, addCell, newOwner, makeCell, atCell, readCell, storeCell, ofNumbers, byTruth, aNumber, plus, lessThan, eval, storing}
 use Rattle.machine.specs.declared.value.Value.{Value}
-use Rattle.machine.specs.declared.value.Value.the-variants.{Number}
 use Rattle.machine.specs.declared.value.Outcome.{Outcome}
 use Rattle.machine.specs.declared.value.Outcome.the-variants.{Is, Foreign, Spent}
-use Rattle.machine.proofs.Tests.{taken}
-use Rattle.safety.proofs.Typing.{Ty, num, tru, cell, Pub, Kept, At, here, there, Reach, Ex, t-number, t-truth, t-variable, t-shared, t-new, t-content, t-sum, t-less, t-choose}
-use Rattle.safety.proofs.Heap.{Seen, Val, is-num, is-tru, is-cell, Held, GoodCells, More, Vals, more, SharedOk, val-more, vals-more, shared-more, held-val, val-held, val-public, at-below, at-snoc, at-last, new-good, put-good}
+use Rattle.machine.proofs.Tests.{taken, and-both, or-left, or-right}
+use Rattle.safety.proofs.Typing.{Ty, num, tru, cell, Pub, CellTyping, At, Allowed, TypedE, t-number, t-truth, t-variable, t-shared, t-new, t-content, t-sum, t-less, t-choose}
+use Rattle.safety.proofs.Heap.{Seen, Val, is-num, is-tru, is-cell, Held, GoodCells, More, Vals, SharedOk, val-more, vals-more, shared-more, held-val, val-held, val-public, at-below, at-snoc, at-last, vals-at, new-good, put-good}
 
--- an evaluation that went well, or spent the cells: never foreign, never stuck
-pub data FineO (Σ : List Kept) (t : ℕ) (τ : Ty) (cs : List Stored) : Outcome → Type 0 where
-  well : {v : Value} (Σ′ : List Kept) → More Σ Σ′ → GoodCells Σ′ cs → Val Σ′ t v τ → FineO Σ t τ cs (Is v)
+-- an evaluation that went well, under a larger store typing, or spent the cells: never foreign, never stuck
+pub data FineO (Σ : List CellTyping) (t : ℕ) (τ : Ty) (cs : List Stored) : Outcome → Type 0 where
+  well : {v : Value} (Σ′ : List CellTyping) → More Σ Σ′ → GoodCells Σ′ cs → Val Σ′ t v τ → FineO Σ t τ cs (Is v)
   spent : FineO Σ t τ cs Spent
 
-abbrev pub Fine : List Kept → ℕ → Ty → Evaluated → Type 0
+abbrev pub Fine : List CellTyping → ℕ → Ty → Evaluated → Type 0
 Fine Σ t τ r = FineO Σ t τ (r .cells) (r .outcome)
 
-widen : {Σ Σ′ : List Kept} {t : ℕ} {τ : Ty} {cs : List Stored} {o : Outcome} → More Σ Σ′ → FineO Σ′ t τ cs o → FineO Σ t τ cs o
+-- ---- one after the other: the second under the store typing that the first leaves
+
+widen : {Σ Σ′ : List CellTyping} {t : ℕ} {τ : Ty} {cs : List Stored} {o : Outcome} → More Σ Σ′ → FineO Σ′ t τ cs o → FineO Σ t τ cs o
 widen m (well Σ″ n g v) = well Σ″ (λ c k a. n c k (m c k a)) g v
 widen m spent = spent
 
-fine-andThen : {Σ : List Kept} {t : ℕ} {τ σ : Ty} (k : Value → Evaluation) (r : Evaluated) (o : Outcome) → r .outcome ≡ o → FineO Σ t τ (r .cells) o
-    → ((Σ′ : List Kept) (v : Value) (ds : List Stored) → More Σ Σ′ → GoodCells Σ′ ds → Val Σ′ t v τ → Fine Σ′ t σ (k v ds))
+fine-andThen : {Σ : List CellTyping} {t : ℕ} {τ σ : Ty} (k : Value → Evaluation) (r : Evaluated) (o : Outcome) → r .outcome ≡ o → FineO Σ t τ (r .cells) o
+    → ((Σ′ : List CellTyping) (v : Value) (ds : List Stored) → More Σ Σ′ → GoodCells Σ′ ds → Val Σ′ t v τ → Fine Σ′ t σ (k v ds))
     → Fine Σ t σ (andThen k r o)
 fine-andThen k r (Is v) e (well Σ′ m g w) h = widen m (h Σ′ v (r .cells) m g w)
 fine-andThen {Σ} {t} {τ} {σ} k r Spent e spent h = subst (λ (x : Outcome). FineO Σ t σ (r .cells) x) (sym e) spent
 
-pub fine-then : {Σ : List Kept} {t : ℕ} {τ σ : Ty} (m : Evaluation) (k : Value → Evaluation) (cs : List Stored) → Fine Σ t τ (m cs)
-    → ((Σ′ : List Kept) (v : Value) (ds : List Stored) → More Σ Σ′ → GoodCells Σ′ ds → Val Σ′ t v τ → Fine Σ′ t σ (k v ds))
+pub fine-then : {Σ : List CellTyping} {t : ℕ} {τ σ : Ty} (m : Evaluation) (k : Value → Evaluation) (cs : List Stored) → Fine Σ t τ (m cs)
+    → ((Σ′ : List CellTyping) (v : Value) (ds : List Stored) → More Σ Σ′ → GoodCells Σ′ ds → Val Σ′ t v τ → Fine Σ′ t σ (k v ds))
     → Fine Σ t σ ((m >>= k) cs)
 fine-then m k cs f h = fine-andThen k (m cs) (m cs .outcome) refl f h
 
-own-seen : (h : Here) (o own : ℕ) → Reach (h .place) o → Seen (h .thread) o own → isOwn h own ≡ true
+-- ---- accesses
+
+-- a cell that the thread sees as one of an allowed owner is its own
+own-seen : (h : Here) (o own : ℕ) → Allowed (h .place) o → Seen (h .thread) o own → isOwn h own ≡ true
 unfolding isOwn
 own-seen h o own r s =
-    let x = eqb own (threadOwner (h .thread)) in let y = leb 2 (h .place) in let z = eqb own (h .place) in
-    ⊎-elim (λ a. left x (y && z) (eq-eqb own (threadOwner (h .thread)) (a .1)))
+    ⊎-elim (λ a. or-left _ _ (eq-eqb own (threadOwner (h .thread)) (a .1)))
     (λ a. ⊎-elim (λ b. absurd (omega (arith, b, a .0)))
-    (λ b. right x y z (le-leb 2 (h .place) (b .0)) (eq-eqb own (h .place) (a .2 ∙ b .1))) r) s
-  where
-    left : (a b : Bool) → a ≡ true → (a || b) ≡ true
-    left a b e = ap (λ (x : Bool). x || b) e
+    (λ b. or-right (eqb own (threadOwner (h .thread))) _ (and-both (leb 2 (h .place)) _ (le-leb 2 (h .place) (b .0)) (eq-eqb own (h .place) (a .2 ∙ b .1)))) r) s
 
-    last : (a : Bool) → (a || true) ≡ true
-    last true = refl
-    last false = refl
-
-    right : (a b c : Bool) → b ≡ true → c ≡ true → (a || b && c) ≡ true
-    right a b c e f = ap (λ (x : Bool). a || x && c) e ∙ ap (λ (x : Bool). a || x) f ∙ last a
-
-fine-accessing : {Σ : List Kept} {τ : Ty} (h : Here) (c o own : ℕ) (r : Evaluation) (cs : List Stored) → Reach (h .place) o → Seen (h .thread) o own
+fine-accessing : {Σ : List CellTyping} {τ : Ty} (h : Here) (c o own : ℕ) (r : Evaluation) (cs : List Stored) → Allowed (h .place) o → Seen (h .thread) o own
     → Fine Σ (h .thread) τ (r cs) → Fine Σ (h .thread) τ (accessing h c own r cs)
 unfolding accessing
 fine-accessing {Σ} {τ} h c o own r cs a s f =
     taken (λ (x : Evaluated). Fine Σ (h .thread) τ (after (accessOf h c own ∷ []) x)) (isOwn h own) (r cs) (gives Foreign cs) (own-seen h o own a s) f
 
-fine-at : {Σ : List Kept} {τ : Ty} (h : Here) (c o : ℕ) (k : Kept) (r : Evaluation) (cs : List Stored) → Reach (h .place) o → GoodCells Σ cs → At Σ c k → Seen (h .thread) o (k .own)
+fine-at : {Σ : List CellTyping} {τ : Ty} (h : Here) (c o : ℕ) (k : CellTyping) (r : Evaluation) (cs : List Stored) → Allowed (h .place) o → GoodCells Σ cs → At Σ c k → Seen (h .thread) o (k .own)
     → Fine Σ (h .thread) τ (r cs) → Fine Σ (h .thread) τ (atCell h c r cs)
 unfolding atCell
 fine-at {Σ} {τ} h c o k r cs a g b s f =
@@ -75,13 +68,15 @@ fine-at {Σ} {τ} h c o k r cs a g b s f =
     taken (Fine Σ (h .thread) τ) (ltb c (length cs)) _ _ (lt-ltb c (length cs) (omega arith))
     (fine-accessing h c o (cellAt cs c .owner) r cs a (subst (Seen (h .thread) o) (sym (g .each c k b .0)) s) f)
 
-fine-content : {Σ : List Kept} {τ : Ty} {v : Value} (h : Here) (o : ℕ) (cs : List Stored) → Reach (h .place) o → GoodCells Σ cs → Val Σ (h .thread) v (cell o τ)
+-- ---- one law for each kind, behind its operands
+
+fine-content : {Σ : List CellTyping} {τ : Ty} {v : Value} (h : Here) (o : ℕ) (cs : List Stored) → Allowed (h .place) o → GoodCells Σ cs → Val Σ (h .thread) v (cell o τ)
     → Fine Σ (h .thread) τ (readCell h v cs)
 unfolding readCell
 fine-content {Σ} h o cs a g (is-cell {c = c} {k = k} b s) =
     fine-at h c o k _ cs a g b s (well Σ (λ _ _ x. x) g (held-val (h .thread) o s (g .each c k b .1)))
 
-fine-store : {Σ : List Kept} {τ : Ty} {v w : Value} (h : Here) (o : ℕ) (cs : List Stored) → Reach (h .place) o → GoodCells Σ cs → Val Σ (h .thread) v (cell o τ)
+fine-store : {Σ : List CellTyping} {τ : Ty} {v w : Value} (h : Here) (o : ℕ) (cs : List Stored) → Allowed (h .place) o → GoodCells Σ cs → Val Σ (h .thread) v (cell o τ)
     → Val Σ (h .thread) w τ → Fine Σ (h .thread) τ (storeCell h v w cs)
 unfolding storeCell
 fine-store {Σ} {w = w} h o cs a g (is-cell {c = c} {k = k} b s) x =
@@ -90,37 +85,31 @@ fine-store {Σ} {w = w} h o cs a g (is-cell {c = c} {k = k} b s) x =
   where
     keeps : Held Σ k (cellAt cs c .content) → Held Σ k w
     keeps (Held.by-thread t e _) = Held.by-thread t e (⊎-elim (λ q. subst (λ (n : ℕ). Val Σ n w (k .ty)) (omega (arith, q .1, e)) x) (λ q. absurd (omega (arith, q .1, q .2, e))) s)
-    keeps (Held.by-place i j p _) = Held.by-place i j p (λ t. val-any t p)
-      where
-        val-any : (t : ℕ) → Pub (k .ty) → Val Σ t w (k .ty)
-        val-any t p = val-public t p x
+    keeps (Held.by-place i j p _) = Held.by-place i j p (λ t. val-public t p x)
 
-pub seen-owner : (h : Here) (o : ℕ) → Reach (h .place) o → h .place ≤ 9 → Seen (h .thread) o (newOwner h o)
+-- a new cell is seen as one of the owner that its frame names
+pub seen-owner : (h : Here) (o : ℕ) → Allowed (h .place) o → h .place ≤ 9 → Seen (h .thread) o (newOwner h o)
 unfolding newOwner
 seen-owner h o a l =
     if-all (λ (n : ℕ). Seen (h .thread) o n) (eqb o 1) _ _ (λ e. inl (eqb-true o 1 e, refl))
     (λ e. ⊎-elim (λ b. absurd (eqb-false o 1 e b)) (λ b. inr (omega (arith, b .0, b .1), omega (arith, l, b .1), refl)) a)
 
-vals-at : {Σ : List Kept} {t i : ℕ} {vs : List Value} {Γ : List Ty} {τ : Ty} → Vals Σ t vs Γ → At Γ i τ → (i < length vs) × Val Σ t (getD vs i (Number 0)) τ
-vals-at (more v vs) here = (omega arith, v)
-vals-at (more v vs) (there a) = let g = vals-at vs a in (omega (arith, g .0), g .1)
-
-fine-numbers : {Σ : List Kept} {v w : Value} {τ : Ty} (h : Here) (f : ℕ → ℕ → Value) (cs : List Stored) → ((m n : ℕ) → Val Σ (h .thread) (f m n) τ) → GoodCells Σ cs
+fine-numbers : {Σ : List CellTyping} {v w : Value} {τ : Ty} (h : Here) (f : ℕ → ℕ → Value) (cs : List Stored) → ((m n : ℕ) → Val Σ (h .thread) (f m n) τ) → GoodCells Σ cs
     → Val Σ (h .thread) v num → Val Σ (h .thread) w num → Fine Σ (h .thread) τ (ofNumbers f v w cs)
 unfolding ofNumbers
 fine-numbers {Σ} h f cs q g is-num is-num = well Σ (λ _ _ a. a) g (q _ _)
 
-fine-number : {Σ : List Kept} {v : Value} (h : Here) (cs : List Stored) → GoodCells Σ cs → Val Σ (h .thread) v num → Fine Σ (h .thread) num (aNumber v cs)
+fine-number : {Σ : List CellTyping} {v : Value} (h : Here) (cs : List Stored) → GoodCells Σ cs → Val Σ (h .thread) v num → Fine Σ (h .thread) num (aNumber v cs)
 unfolding aNumber
 fine-number {Σ} h cs g is-num = well Σ (λ _ _ a. a) g is-num
 
-fine-by : {Σ : List Kept} {v : Value} {τ : Ty} (h : Here) (a b : Evaluation) (cs : List Stored) → Val Σ (h .thread) v tru → Fine Σ (h .thread) τ (a cs) → Fine Σ (h .thread) τ (b cs)
+fine-by : {Σ : List CellTyping} {v : Value} {τ : Ty} (h : Here) (a b : Evaluation) (cs : List Stored) → Val Σ (h .thread) v tru → Fine Σ (h .thread) τ (a cs) → Fine Σ (h .thread) τ (b cs)
     → Fine Σ (h .thread) τ (byTruth v a b cs)
 unfolding byTruth
 fine-by h a b cs (is-tru {b = true}) f g = f
 fine-by h a b cs (is-tru {b = false}) f g = g
 
-fine-make : {Σ : List Kept} {τ : Ty} {v : Value} (h : Here) (o : ℕ) (cs : List Stored) → Reach (h .place) o → h .place ≤ 9 → (2 ≤ o → Pub τ) → GoodCells Σ cs → Val Σ (h .thread) v τ
+fine-make : {Σ : List CellTyping} {τ : Ty} {v : Value} (h : Here) (o : ℕ) (cs : List Stored) → Allowed (h .place) o → h .place ≤ 9 → (2 ≤ o → Pub τ) → GoodCells Σ cs → Val Σ (h .thread) v τ
     → Fine Σ (h .thread) (cell o τ) (makeCell h o v cs)
 unfolding makeCell addCell
 fine-make {Σ} {τ} {v} h o cs a l p g w =
@@ -130,14 +119,16 @@ fine-make {Σ} {τ} {v} h o cs a l p g w =
     (is-cell {k = k} (subst (λ (n : ℕ). At (Σ ++ (k ∷ [])) n k) (g .count) (at-last Σ k)) seen))
     (λ _. spent))
   where
-    k : Kept
+    k : CellTyping
     k = record { own = newOwner h o; ty = τ }
 
     seen : Seen (h .thread) o (newOwner h o)
     seen = seen-owner h o a l
 
-pub fine-eval : {Σ sh : List Kept} {Γ : List Ty} {x : Expr} {τ : Ty} (h : Here) (cs : List Stored) → length sh ≡ h .shared → SharedOk Σ sh → Vals Σ (h .thread) (h .variables) Γ
-    → GoodCells Σ cs → Ex sh Γ (h .place) x τ → Fine Σ (h .thread) τ (eval h x cs)
+-- ---- expressions, and 17's store
+
+pub fine-eval : {Σ sh : List CellTyping} {Γ : List Ty} {x : Expr} {τ : Ty} (h : Here) (cs : List Stored) → length sh ≡ h .shared → SharedOk Σ sh → Vals Σ (h .thread) (h .variables) Γ
+    → GoodCells Σ cs → TypedE sh Γ (h .place) x τ → Fine Σ (h .thread) τ (eval h x cs)
 unfolding eval readVariable sharedCell ofNumbers aNumber
 fine-eval {Σ} h cs n s vs g t-number = well Σ (λ _ _ a. a) g is-num
 fine-eval {Σ} h cs n s vs g t-truth = well Σ (λ _ _ a. a) g is-tru
@@ -166,8 +157,8 @@ fine-eval h cs n s vs g (t-choose {x = x} {y = y} {z = z} d e f) =
     (fine-by h (eval h y) (eval h z) ds w (fine-eval h ds n (shared-more m s) (vals-more m vs) gd e) (fine-eval h ds n (shared-more m s) (vals-more m vs) gd f))
     (λ Σ″ u es m′ ge q. fine-number h es ge q))
 
-pub fine-storing : {Σ sh : List Kept} {Γ : List Ty} {x y : Expr} {o : ℕ} {τ : Ty} (h : Here) (cs : List Stored) → length sh ≡ h .shared → SharedOk Σ sh
-    → Vals Σ (h .thread) (h .variables) Γ → GoodCells Σ cs → Reach (h .place) o → Ex sh Γ (h .place) x (cell o τ) → Ex sh Γ (h .place) y τ → Fine Σ (h .thread) τ (storing h x y cs)
+pub fine-storing : {Σ sh : List CellTyping} {Γ : List Ty} {x y : Expr} {o : ℕ} {τ : Ty} (h : Here) (cs : List Stored) → length sh ≡ h .shared → SharedOk Σ sh
+    → Vals Σ (h .thread) (h .variables) Γ → GoodCells Σ cs → Allowed (h .place) o → TypedE sh Γ (h .place) x (cell o τ) → TypedE sh Γ (h .place) y τ → Fine Σ (h .thread) τ (storing h x y cs)
 fine-storing {x = x} {y = y} {o = o} h cs n s vs g r d e =
     fine-then (eval h x) _ cs (fine-eval h cs n s vs g d)
     (λ Σ′ v ds m gd w. fine-then (eval h y) _ ds (fine-eval h ds n (shared-more m s) (vals-more m vs) gd e)

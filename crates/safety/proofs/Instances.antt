@@ -34,6 +34,7 @@ unfoldable pub text : List ℕ
 unfolding bytes
 text = bytes "0001000000020000\n0102000100000000\n2300000000000000\n2000000100000000\n1700000200030000\n0200000400000000\n1300000000000000\n1202000600000000\n0200000700000000\n"
 
+-- by computing the definition of the check on this text
 computed : verdict text ≡ Accepted
 unfolding text bytes verdict reading firstWrong rightAt digit textFrames wordsOf lineWord hexadecimal frameOfWord kindOf children if_then_else_ any every sameNumbers lowest earlier typeWord ownerDigit cellDepth cellType ownerOf contentOf public contentWord within withOwner standingAt expressionTo expressionAt statementTo statementAt sharedOf modulesFrom allowanceOf programOf headerFine firstContentFine countOf frameFine hasChild headerFault fieldFault rowFirst firstDisorder isBehind isLeftover firstLeftover noMain orderFault lowestChild deepTo firstDeep depthFault layoutOf namedRule newRule contentRule numbersRule chooseRule typeIn argue typesIn startRule cooperateRule seqRule doRule joinRule storeRule ifElseRule whileRule runIn modulesIn rulesOf
 computed = refl

@@ -2,7 +2,7 @@
 use mathlib.Core.Path.{_≡_, refl, sym, ap, subst, _∙_}
 use mathlib.Core.Logic.{inl, inr}
 use mathlib.Core.Bool.{Bool, true, _||_, _&&_}
-use mathlib.Core.List.{List, [], _∷_, _++_, map, append-assoc}
+use mathlib.Core.List.{List, [], _∷_, _++_, map, append-assoc, map-append}
 use Prim.Native.Nat.{ℕ, zero, suc, _+_, _-_, _≤_, _<_}
 use native.Mathlib.Omega.{arith}
 use native.Mathlib.Decide.{decLt, ℕ-discrete}
@@ -20,14 +20,13 @@ use Rattle.language.proofs.Members.{member-join, member-owner, Within, within-m
 use Rattle.program.specs.Trees.{Expr, Stmt}
 use Rattle.program.specs.Programs.{Part, Program, noModule, moduleAt, mainOf}
 use Rattle.rules.specs.Rules.{Signature, noSignature, signatureAt, signature, HasType, HaveTypes, AllPublic, Runs, Modules}
-use Rattle.machine.proofs.KeptCells.{all-getD}
-use Rattle.machine.proofs.Tests.{all-append}
+use Rattle.machine.proofs.Lists.{all-getD, all-append}
 use Rattle.reach.proofs.Laid.{LaidE, LaidS}
 use Rattle.reach.proofs.Modules.{LastPlain}
-use Rattle.safety.proofs.Typing.{Ty, num, tru, cell, Pub, Kept, At, here, there, Reach, Ex, t-number, t-truth, t-variable, t-shared, t-new, t-content, t-sum, t-less, t-choose, Args, St, s-nothing, s-seq, s-do, s-start, s-start-wait, s-cooperate, s-let, s-store, s-if, s-while}
+use Rattle.safety.proofs.Typing.{Ty, num, tru, cell, Pub, CellTyping, At, here, there, Allowed, TypedE, t-number, t-truth, t-variable, t-shared, t-new, t-content, t-sum, t-less, t-choose, Args, TypedS, s-nothing, s-seq, s-do, s-start, s-start-wait, s-cooperate, s-let, s-store, s-if, s-while}
 use Rattle.safety.proofs.TypeWords.{tyOf, ty-number, ty-truth, ty-cell, Formed, formed-cell, formed-public}
 
--- ---- effects within a place
+-- ---- effects within a place: each part of one is within it too
 module _ (p : ℕ) (e f : Effect) (h : Within p (e ∪ f)) where
   in-left : Within p e
   in-left q m = h q (member-join q e f ∙ ap (λ (b : Bool). b || member q f) m)
@@ -39,11 +38,11 @@ module _ (p o : ℕ) (e : Effect) (h : Within p (withOwner o e)) where
   in-owned : Within p e
   in-owned q m = h q (member-owner q o e ∙ ap (λ (b : Bool). b || isScheduler o && eqb q o) m)
 
-  -- an owner added is the place, where it is a scheduler
-  reached : 1 ≤ o → o ≤ 9 → Reach p o
-  reached l k = go (ℕ-discrete o 1)
+  -- an owner added is allowed on p: it is p, where it is a scheduler
+  allowed : 1 ≤ o → o ≤ 9 → Allowed p o
+  allowed l k = go (ℕ-discrete o 1)
     where
-      go : Dec (o ≡ 1) → Reach p o
+      go : Dec (o ≡ 1) → Allowed p o
       go (yes q) = inl q
       go (no n) =
           let a : (isScheduler o && eqb o o) ≡ true = rw (le-leb 2 o (omega (arith, n)), le-leb o 9 k, eq-eqb o o refl) in
@@ -59,24 +58,22 @@ most : {at : Standing} {p : ℕ} → Stands at p → p ≤ 9
 most (on a b) = b
 most off = omega arith
 
--- ---- lists of types
-map-snoc : (Γ : List ℕ) (t : ℕ) → map tyOf (Γ ++ (t ∷ [])) ≡ map tyOf Γ ++ (tyOf t ∷ [])
-map-snoc [] t = refl
-map-snoc (x ∷ Γ) t = ap (λ (l : List Ty). tyOf x ∷ l) (map-snoc Γ t)
+-- ---- the types of variables and of shared cells
 
 at-map : (Γ : List ℕ) (s : ℕ) → s < length Γ → At (map tyOf Γ) s (tyOf (getD Γ s 0))
 at-map [] s h = absurd (omega arith)
 at-map (x ∷ Γ) zero h = here
 at-map (x ∷ Γ) (suc s) h = there (at-map Γ s (omega arith))
 
--- the type of the shared cell s
-pub record SharedIs (sh : List Kept) (cells : List ℕ) (s : ℕ) : Type 0 where
-  pub kept : Kept
-  pub at : At sh s kept
-  pub same : tyOf (getD cells s 0) ≡ cell (kept .own) (kept .ty)
+-- shared cell s: the rules' type word for it and the store typing say the same, and the word is well formed
+pub record SharedIs (sh : List CellTyping) (cells : List ℕ) (s : ℕ) : Type 0 where
+  pub typing : CellTyping
+  pub at : At sh s typing
+  pub same : tyOf (getD cells s 0) ≡ cell (typing .own) (typing .ty)
   pub formed : Formed (getD cells s 0)
 
-module _ (P : Program) (sh : List Kept) (cells : List ℕ) (Q : ℕ → Type 0) (n : ℕ) (few : n ≤ 8) (shared : (s : ℕ) → s < length cells → SharedIs sh cells s) where
+-- P is laid out as reach/proofs/Laid says (Q, n); its shared cells are, to the rules, of the type words `cells`, and sh types them
+module _ (P : Program) (sh : List CellTyping) (cells : List ℕ) (Q : ℕ → Type 0) (n : ℕ) (few : n ≤ 8) (shared : (s : ℕ) → s < length cells → SharedIs sh cells s) where
   place-range : (o : ℕ) → hasPlace n o ≡ true → (1 ≤ o) × (o ≤ 9)
   place-range o h =
       let q = and-true (leb 1 o) (leb o (1 + n)) h in
@@ -84,23 +81,25 @@ module _ (P : Program) (sh : List Kept) (cells : List ℕ) (Q : ℕ → Type 0) 
       (leb-true 1 o (q .0), omega arith)
 
   -- ---- expressions
+
+  -- what a rule's typing comes to at p: the typing there, of a well-formed type word
   record HasEx (Γ : List ℕ) (p : ℕ) (x : Expr) (t : ℕ) : Type 0 where
-    typed : Ex sh (map tyOf Γ) p x (tyOf t)
+    typed : TypedE sh (map tyOf Γ) p x (tyOf t)
     formed : Formed t
 
-  a-number : {Γ : List ℕ} {p : ℕ} {x : Expr} → HasEx Γ p x numberType → Ex sh (map tyOf Γ) p x num
+  a-number : {Γ : List ℕ} {p : ℕ} {x : Expr} → HasEx Γ p x numberType → TypedE sh (map tyOf Γ) p x num
   a-number h = rw ty-number at (h .typed)
 
-  a-truth : {Γ : List ℕ} {p : ℕ} {x : Expr} → HasEx Γ p x truthType → Ex sh (map tyOf Γ) p x tru
+  a-truth : {Γ : List ℕ} {p : ℕ} {x : Expr} → HasEx Γ p x truthType → TypedE sh (map tyOf Γ) p x tru
   a-truth h = rw ty-truth at (h .typed)
 
-  has-number : {Γ : List ℕ} {p : ℕ} {x : Expr} → Ex sh (map tyOf Γ) p x num → HasEx Γ p x numberType
+  has-number : {Γ : List ℕ} {p : ℕ} {x : Expr} → TypedE sh (map tyOf Γ) p x num → HasEx Γ p x numberType
   has-number h = record { typed = rw ty-number h; formed = Formed.number }
 
-  has-truth : {Γ : List ℕ} {p : ℕ} {x : Expr} → Ex sh (map tyOf Γ) p x tru → HasEx Γ p x truthType
+  has-truth : {Γ : List ℕ} {p : ℕ} {x : Expr} → TypedE sh (map tyOf Γ) p x tru → HasEx Γ p x truthType
   has-truth h = record { typed = rw ty-truth h; formed = Formed.truth }
 
-  has-new : {Γ : List ℕ} {p i o t : ℕ} {x : Expr} → p ≤ 9 → hasPlace n o ≡ true → t < 0x1000 → Reach p o → (2 ≤ o → Pub (tyOf t)) → HasEx Γ p x t → HasEx Γ p (Expr.new i o x) (cellType o t)
+  has-new : {Γ : List ℕ} {p i o t : ℕ} {x : Expr} → p ≤ 9 → hasPlace n o ≡ true → t < 0x1000 → Allowed p o → (2 ≤ o → Pub (tyOf t)) → HasEx Γ p x t → HasEx Γ p (Expr.new i o x) (cellType o t)
   has-new {o = o} {t = t} l h r k q x =
       let b = place-range o h in
       record { typed = rw (ty-cell o t (b .0) (b .1) r) (t-new k l q (x .typed)); formed = Formed.around-of (b .0) (b .1) r q (x .formed) }
@@ -114,11 +113,11 @@ module _ (P : Program) (sh : List Kept) (cells : List ℕ) (Q : ℕ → Type 0) 
   ex-typed p l g (LaidE.new {o = o} h a) w (HasType.new-public {t = t} {e = e} m d r k) =
       let b = place-range o h in
       let x = ex-typed p l g a (in-owned p o e w) d in
-      has-new l h (ltb-true t 0x1000 r) (reached p o e w (b .0) (b .1)) (λ _. formed-public (x .formed) k) x
+      has-new l h (ltb-true t 0x1000 r) (allowed p o e w (b .0) (b .1)) (λ _. formed-public (x .formed) k) x
   ex-typed {Γ} p l g (LaidE.content a) w (HasType.content {t = t} {x = x} {e = e} d h) =
       let r = ex-typed p l g a (in-owned p (ownerOf t) e w) d in
       let c = formed-cell (r .formed) h in
-      record { typed = t-content (reached p (ownerOf t) e w (c .low) (c .high)) (subst (Ex sh (map tyOf Γ) p x) (c .same) (r .typed)); formed = c .inner }
+      record { typed = t-content (allowed p (ownerOf t) e w (c .low) (c .high)) (subst (TypedE sh (map tyOf Γ) p x) (c .same) (r .typed)); formed = c .inner }
   ex-typed p l g (LaidE.sum a b) w (HasType.sum {e = e} {f = f} c d) =
       has-number (t-sum (a-number (ex-typed p l g a (in-left p e f w) c)) (a-number (ex-typed p l g b (in-right p e f w) d)))
   ex-typed p l g (LaidE.less a b) w (HasType.less {e = e} {f = f} c d) =
@@ -128,6 +127,7 @@ module _ (P : Program) (sh : List Kept) (cells : List ℕ) (Q : ℕ → Type 0) 
       has-number (t-choose (a-truth (ex-typed p l g a (in-left p e f m) d)) (a-number (ex-typed p l g b (in-right p e f m) u)) (a-number (ex-typed p l g c (in-right p (e ∪ f) k w) v)))
 
   -- ---- arguments
+
   record HasArgs (Γ : List ℕ) (p : ℕ) (xs : List Expr) (ts : List ℕ) : Type 0 where
     typed : Args sh (map tyOf Γ) p xs (map tyOf ts)
     formed : All Formed ts
@@ -139,11 +139,13 @@ module _ (P : Program) (sh : List Kept) (cells : List ℕ) (Q : ℕ → Type 0) 
       let r = args-typed p l g rest (in-right p e f w) ks ds in
       record { typed = Args.more (x .typed) (formed-public (x .formed) k) (r .typed); formed = All.more (x .formed) (r .formed) }
 
-  -- ---- what is known of module s, whose signature is g: its body runs on each place that its effect is within, where its parameters are well formed
+  -- ---- starts
+
+  -- what is known of module s, whose signature is g: its body runs on each place that its effect is within, where its parameters are well formed
   pub record Known (g : Signature) (s : ℕ) : Type 0 where
     pub inside : s < length (P .modules)
     pub types : length (g .types) ≡ length (moduleAt P s .types)
-    pub typed : All Formed (g .types) → (q : ℕ) → 2 ≤ q → q ≤ 9 → Within q (g .effect) → St P sh (map tyOf (g .types)) q (moduleAt P s .body)
+    pub typed : All Formed (g .types) → (q : ℕ) → 2 ≤ q → q ≤ 9 → Within q (g .effect) → TypedS P sh (map tyOf (g .types)) q (moduleAt P s .body)
 
   abbrev pub KnownBelow : List Signature → Type 0
   KnownBelow below = (s : ℕ) → s < length below → Known (signatureAt below s) s
@@ -154,7 +156,7 @@ module _ (P : Program) (sh : List Kept) (cells : List ℕ) (Q : ℕ → Type 0) 
     inside : s < length (P .modules)
     arguments : Args sh (map tyOf Γ) p xs types
     count : length types ≡ length (moduleAt P s .types)
-    body : St P sh types p (moduleAt P s .body)
+    body : TypedS P sh types p (moduleAt P s .body)
 
   started : {Γ : List ℕ} {xs : List Expr} (p s : ℕ) (e : Effect) (f : Signature) → Known f s → 2 ≤ p → p ≤ 9 → All Formed Γ → All (LaidE Q n) xs → Within p (e ∪ f .effect)
       → HaveTypes cells Γ xs (f .types) e → AllPublic (f .types) → Startable Γ p s xs
@@ -169,8 +171,9 @@ module _ (P : Program) (sh : List Kept) (cells : List ℕ) (Q : ℕ → Type 0) 
       }
 
   -- ---- statements
+
   st-typed : {below : List Signature} {Γ : List ℕ} {at : Standing} {x : Stmt} {e : Effect} {b : Bool} {d : ℕ} (p : ℕ)
-      → KnownBelow below → Stands at p → All Formed Γ → LaidS Q n d x → Within p e → Runs cells below Γ at x e b → St P sh (map tyOf Γ) p x
+      → KnownBelow below → Stands at p → All Formed Γ → LaidS Q n d x → Within p e → Runs cells below Γ at x e b → TypedS P sh (map tyOf Γ) p x
   st-typed p k s g a w Runs.nothing = s-nothing
   st-typed p k s g (LaidS.seq a b) w (Runs.seq {e = e} {f = f} c d) = s-seq (st-typed p k s g a (in-left p e f w) c) (st-typed p k s g b (in-right p e f w) d)
   st-typed p k (on l m) g (LaidS.do-at h a) w (Runs.do-unlinked {e = e} r v) = s-do {p = p} {q = 1} (λ z _. omega (arith, l, z)) (st-typed 1 k off g a (within-members 1 e v) r)
@@ -185,12 +188,12 @@ module _ (P : Program) (sh : List Kept) (cells : List ℕ) (Q : ℕ → Type 0) 
   st-typed p k (on l m) g a w Runs.cooperate = s-cooperate l
   st-typed {Γ = Γ} p k s g (LaidS.letIn {a = body} x a) w (Runs.letIn {t = t} {e = e} {f = f} d r) =
       let v = ex-typed p (most s) g x (in-left p e f w) d in
-      s-let (v .typed) (subst (λ (Δ : List Ty). St P sh Δ p body) (map-snoc Γ t) (st-typed p k s (all-append g (All.more (v .formed) All.none)) a (in-right p e f w) r))
+      s-let (v .typed) (subst (λ (Δ : List Ty). TypedS P sh Δ p body) (map-append tyOf Γ (t ∷ [])) (st-typed p k s (all-append g (All.more (v .formed) All.none)) a (in-right p e f w) r))
   st-typed {Γ = Γ} p k s g (LaidS.store {x = x} a b) w (Runs.store {t = t} {e = e} {f = f} c h d) =
       let v = in-owned p (ownerOf t) (e ∪ f) w in
       let u = ex-typed p (most s) g a (in-left p e f v) c in
       let q = formed-cell (u .formed) h in
-      s-store (reached p (ownerOf t) (e ∪ f) w (q .low) (q .high)) (subst (Ex sh (map tyOf Γ) p x) (q .same) (u .typed)) (ex-typed p (most s) g b (in-right p e f v) d .typed)
+      s-store (allowed p (ownerOf t) (e ∪ f) w (q .low) (q .high)) (subst (TypedE sh (map tyOf Γ) p x) (q .same) (u .typed)) (ex-typed p (most s) g b (in-right p e f v) d .typed)
   st-typed p k s g (LaidS.ifElse x a b) w (Runs.ifElse {e = e} {f = f} {g = h} c d r) =
       let v = in-left p (e ∪ f) h w in
       s-if (a-truth (ex-typed p (most s) g x (in-left p e f v) c)) (st-typed p k s g a (in-right p e f v) d) (st-typed p k s g b (in-right p (e ∪ f) h w) r)
@@ -198,6 +201,7 @@ module _ (P : Program) (sh : List Kept) (cells : List ℕ) (Q : ℕ → Type 0) 
       s-while (a-truth (ex-typed p (most s) g x (in-left p e f w) c)) (st-typed p k s g a (in-right p e f w) d)
 
   -- ---- modules: those below are typed first
+
   known-snoc : (below : List Signature) (g : Signature) → KnownBelow below → Known g (length below) → KnownBelow (below ++ (g ∷ []))
   known-snoc below g k y s h = go (decLt s (length below))
     where
@@ -219,16 +223,16 @@ module _ (P : Program) (sh : List Kept) (cells : List ℕ) (Q : ℕ → Type 0) 
   known-module {m = m} s l q k a r = record {
     inside = l;
     types = ap (λ (x : Part). length (x .types)) (sym q);
-    typed = λ g p low high w. subst (λ (x : Part). St P sh (map tyOf (m .types)) p (x .body)) (sym q) (st-typed p k (on low high) g a w r);
+    typed = λ g p low high w. subst (λ (x : Part). TypedS P sh (map tyOf (m .types)) p (x .body)) (sym q) (st-typed p k (on low high) g a w r);
   }
 
   -- `main`, the last, runs at home
   pub main-typed : {below : List Signature} (before ms : List Part) → P .modules ≡ before ++ ms → length before ≡ length below → KnownBelow below → All (λ (m : Part). LaidS Q n 24 (m .body)) ms → LastPlain ms
-      → Modules cells below ms → St P sh [] 2 (mainOf P .body)
+      → Modules cells below ms → TypedS P sh [] 2 (mainOf P .body)
   main-typed {below} before (m ∷ []) e l k (All.more a rest) (LastPlain.last t) (Modules.main {e = f} r w) =
       let h = module-here before m [] (length (P .modules) - 1) e (let x = ap length e in let y = length-append before (m ∷ []) in omega arith) in
-      subst (λ (x : Part). St P sh [] 2 (x .body)) (sym (h .1))
-      (subst (λ (Γ : List ℕ). St P sh (map tyOf Γ) 2 (m .body)) t
+      subst (λ (x : Part). TypedS P sh [] 2 (x .body)) (sym (h .1))
+      (subst (λ (Γ : List ℕ). TypedS P sh (map tyOf Γ) 2 (m .body)) t
       (st-typed 2 k (on (omega arith) (omega arith)) (subst (All Formed) (sym t) All.none) a (within-members 2 f w) r))
   main-typed {below} before (m ∷ n' ∷ ms) e l k (All.more a rest) (LastPlain.later p) (Modules.more {e = f} r rs) =
       let h = module-here before m (n' ∷ ms) (length below) e l in

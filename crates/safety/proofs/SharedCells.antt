@@ -1,8 +1,8 @@
--- The shared cells have well-formed types, which their first contents have. Assumes nothing.
+-- The shared cells of a file that passes refusal 5 have well-formed types, and their first contents have these types. Assumes nothing.
 use mathlib.Core.Path.{_≡_, refl, sym, ap, subst, _∙_}
 use mathlib.Core.Logic.{inr, ⊎-elim}
 use mathlib.Core.Bool.{true}
-use mathlib.Core.List.{List, [], _∷_, _++_, map, append-assoc}
+use mathlib.Core.List.{List, [], _∷_, _++_, map, append-assoc, map-append}
 use Prim.Native.Nat.{ℕ, zero, suc, _+_, _≤_, _<_}
 use native.Mathlib.Omega.{arith}
 use lib.Dec.{ltb, leb, eqb}
@@ -19,13 +19,14 @@ use Rattle.machine.specs.Values.{truthOf, firstContent}
 use Rattle.machine.specs.declared.value.Value.{Value}
 use Rattle.machine.specs.declared.value.Value.the-variants.{Number, Cell}
 use Rattle.reach.proofs.Cells.{CellFine, CellsFine}
-use Rattle.safety.proofs.Typing.{Kept, At, here, there}
+use Rattle.safety.proofs.Typing.{CellTyping, At, here, there}
 use Rattle.safety.proofs.Heap.{Val, is-num, is-tru, is-cell, Held, by-place, GoodCells, SharedOk}
 use Rattle.safety.proofs.TypeWords.{tyOf, ty-number, ty-truth, ty-cell, Formed, formed-plain, ContentWord, content-word}
 use Rattle.safety.proofs.Places.{SharedIs}
 
-abbrev pub keptOf : SharedCell → Kept
-keptOf x = record { own = x .owner; ty = tyOf (x .content) }
+-- the store typing has this of a shared cell
+abbrev pub typingOf : SharedCell → CellTyping
+typingOf x = record { own = x .owner; ty = tyOf (x .content) }
 
 -- what refusal 5 leaves of a shared cell: a scheduler's, around a public well-formed type
 pub record Well (x : SharedCell) : Type 0 where
@@ -45,34 +46,31 @@ module _ {Q : ℕ → Type 0} {n : ℕ} (few : n ≤ 8) where
   all-well (CellsFine.more f r) = All.more (well f) (all-well r)
 
 -- ---- their types
-pub shared-is : (xs : List SharedCell) → All Well xs → (s : ℕ) → s < length (map typeOfShared xs) → SharedIs (map keptOf xs) (map typeOfShared xs) s
+
+pub shared-is : (xs : List SharedCell) → All Well xs → (s : ℕ) → s < length (map typeOfShared xs) → SharedIs (map typingOf xs) (map typeOfShared xs) s
 shared-is [] g s l = absurd (omega arith)
 shared-is (x ∷ xs) (All.more h g) zero l =
     let a = h .low in
     let w = h .word in
     record {
-      kept = keptOf x;
+      typing = typingOf x;
       at = here;
       same = ty-cell (x .owner) (x .content) (omega arith) (h .high) (w .room);
       formed = Formed.around-of {o = x .owner} (omega arith) (h .high) (w .room) (λ _. w .public) (w .formed);
     }
-shared-is (x ∷ xs) (All.more h g) (suc s) l = let r = shared-is xs g s (omega arith) in record { kept = r .kept; at = there (r .at); same = r .same; formed = r .formed }
+shared-is (x ∷ xs) (All.more h g) (suc s) l = let r = shared-is xs g s (omega arith) in record { typing = r .typing; at = there (r .at); same = r .same; formed = r .formed }
 
-owner-of : {s : ℕ} {k : Kept} (xs : List SharedCell) → All Well xs → At (map keptOf xs) s k → (2 ≤ k .own) × (k .own ≤ 9)
+owner-of : {s : ℕ} {k : CellTyping} (xs : List SharedCell) → All Well xs → At (map typingOf xs) s k → (2 ≤ k .own) × (k .own ≤ 9)
 owner-of (x ∷ xs) (All.more h g) here = (h .low, h .high)
 owner-of (x ∷ xs) (All.more h g) (there a) = owner-of xs g a
 
-pub shared-owners : (xs : List SharedCell) → All Well xs → SharedOk (map keptOf xs) (map keptOf xs)
+pub shared-owners : (xs : List SharedCell) → All Well xs → SharedOk (map typingOf xs) (map typingOf xs)
 shared-owners xs g s k a = let r = owner-of xs g a in (a, r .0, r .1)
 
--- ---- their first contents
-map-append : (xs ys : List SharedCell) → map typeOfShared (xs ++ ys) ≡ map typeOfShared xs ++ map typeOfShared ys
-map-append [] ys = refl
-map-append (x ∷ xs) ys = ap (λ (l : List ℕ). typeOfShared x ∷ l) (map-append xs ys)
-
+-- ---- their first contents, in anybody's eyes
 module _ (all : List SharedCell) (wells : All Well all) where
-  abbrev Σ : List Kept
-  Σ = map keptOf all
+  abbrev Σ : List CellTyping
+  Σ = map typingOf all
 
   -- a cell type: an earlier shared cell of that type
   earlier : {Q : ℕ → Type 0} {n : ℕ} (before rest : List SharedCell) (x : SharedCell) → all ≡ before ++ rest → CellFine Q n before x → isCell (x .content) ≡ true → (t : ℕ) → Val Σ t (Cell (x .first)) (tyOf (x .content))
@@ -80,7 +78,7 @@ module _ (all : List SharedCell) (wells : All Well all) where
   earlier before rest x e f c t =
       let w = and-true (ltb (x .first) (length (map typeOfShared before))) (eqb (getD (map typeOfShared before) (x .first) 0) (x .content)) (sym (if-yes _ _ c) ∙ f .first) in
       let l = ltb-true (x .first) (length (map typeOfShared before)) (w .0) in
-      let a : map typeOfShared all ≡ map typeOfShared before ++ map typeOfShared rest = ap (map typeOfShared) e ∙ map-append before rest in
+      let a : map typeOfShared all ≡ map typeOfShared before ++ map typeOfShared rest = ap (map typeOfShared) e ∙ map-append typeOfShared before rest in
       let b = ap length a in
       let d = length-append (map typeOfShared before) (map typeOfShared rest) in
       let r = shared-is all wells (x .first) (omega arith) in
@@ -97,10 +95,11 @@ module _ (all : List SharedCell) (wells : All Well all) where
       (λ q. subst (Val Σ t (Number (x .first))) (sym (ap tyOf (eqb-true _ _ q) ∙ ty-number)) is-num)
       (λ q. ⊎-elim (λ z. absurd (eqb-false _ _ q z)) (λ z. subst (Val Σ t (truthOf (x .first))) (sym (ap tyOf z ∙ ty-truth)) is-tru) (formed-plain g c)))
 
-  held : {Q : ℕ → Type 0} {n : ℕ} (before xs : List SharedCell) → all ≡ before ++ xs → CellsFine Q n before xs → All Well xs → (c : ℕ) (k : Kept) → At (map keptOf xs) c k
+  -- each shared cell has its owner and holds what it may hold
+  held : {Q : ℕ → Type 0} {n : ℕ} (before xs : List SharedCell) → all ≡ before ++ xs → CellsFine Q n before xs → All Well xs → (c : ℕ) (k : CellTyping) → At (map typingOf xs) c k
       → (cellAt (map firstCell xs) c .owner ≡ k .own) × Held Σ k (cellAt (map firstCell xs) c .content)
   held before (x ∷ xs) e (CellsFine.more f r) (All.more w ws) zero k here = (refl, by-place (w .low) (w .high) (w .word .public) (first-typed before (x ∷ xs) x e f (w .word .formed)))
   held before (x ∷ xs) e (CellsFine.more f r) (All.more w ws) (suc c) k (there a) = held (before ++ (x ∷ [])) xs (e ∙ sym (append-assoc before (x ∷ []) xs)) r ws c k a
 
-pub first-good : {Q : ℕ → Type 0} {n : ℕ} (few : n ≤ 8) (xs : List SharedCell) → CellsFine Q n [] xs → GoodCells (map keptOf xs) (map firstCell xs)
-first-good few xs f = record { count = length-map xs keptOf ∙ sym (length-map xs firstCell); each = held xs (all-well few f) [] xs refl f (all-well few f) }
+pub first-good : {Q : ℕ → Type 0} {n : ℕ} (few : n ≤ 8) (xs : List SharedCell) → CellsFine Q n [] xs → GoodCells (map typingOf xs) (map firstCell xs)
+first-good few xs f = record { count = length-map xs typingOf ∙ sym (length-map xs firstCell); each = held xs (all-well few f) [] xs refl f (all-well few f) }

@@ -95,7 +95,9 @@ formed-public (Formed.around-of {o = o} {t = t} l h r p f) e = subst Pub (sym (t
         let x : not (isCell (cellType o t) && eqb (ownerOf (cellType o t)) private) ≡ false = rw (is-cell o t l h r, w) in
         absurd (true≢false (sym e ∙ x))
 
--- ---- the words that refusal 5 lets by
+-- ---- the words that refusal 5 lets by are well formed
+
+-- an owner digit o, with the digit `left` to its left
 record Digit (left o : ℕ) : Type 0 where
   low : 1 ≤ o
   high : o ≤ 9
@@ -127,6 +129,7 @@ three-digits : (t y : ℕ) → y ≡ t / 0x0010 → t / 0x0100 ≡ y / 0x0010 �
 three-digits t y e f h = omega arith
 
 module _ (b t : ℕ) (few : b ≤ 8) (room : t < 0x1000) (word : typeWord b t ≡ true) where
+  -- what `typeWord` says of the three digits of a word below 0x1000
   record Digits : Type 0 where
     last : (digitOf 0 t ≡ 1) ⊎ (digitOf 0 t ≡ 2)
     first : ownerDigit b (digitOf 2 t) (digitOf 1 t) ≡ true
@@ -149,6 +152,7 @@ module _ (b t : ℕ) (few : b ≤ 8) (room : t < 0x1000) (word : typeWord b t �
   base x (inl e) = subst (λ (y : ℕ). Formed y × (y < 0x0010) × Pub (tyOf y)) (sym e) (Formed.number, omega arith, subst Pub (sym ty-number) tt)
   base x (inr e) = subst (λ (y : ℕ). Formed y × (y < 0x0010) × Pub (tyOf y)) (sym e) (Formed.truth, omega arith, subst Pub (sym ty-truth) tt)
 
+  -- a cell around a word of no cell, and of one
   around-0 : (o x : ℕ) → x < 0x0010 → cellType o x ≡ o * 0x0010 + x
   unfolding cellType
   around-0 o x h = ap (λ (d : ℕ). o * 16 ^ suc d + x) (sym (depth-0 x h))
@@ -157,6 +161,7 @@ module _ (b t : ℕ) (few : b ≤ 8) (room : t < 0x1000) (word : typeWord b t �
   unfolding cellType
   around-1 o x a h = ap (λ (d : ℕ). o * 16 ^ suc d + x) (sym (depth-1 x a h))
 
+  -- t is of one cell, of two, around its last digit x
   one-cell : (x : ℕ) → digitOf 0 t ≡ x → Formed x → x < 0x0010 → Pub (tyOf x) → t < 0x0100 → Digit (digitOf 2 t) (digitOf 1 t) → Formed t
   one-cell x q f l p h d =
       let e = around-0 (digitOf 1 t) x l in

@@ -1,0 +1,56 @@
+-- Every file that passes refusals 4 to 7 and keeps the rules is typed, as demand 3's proof needs it. Assumes nothing.
+use mathlib.Core.Path.{refl}
+use mathlib.Core.List.{List, [], map}
+use Prim.Native.Nat.{ℕ}
+use native.Mathlib.Omega.{arith}
+use lib.ListN.{length-map}
+use Rattle.language.specs.declared.frame.Frame.{Frame}
+use Rattle.program.specs.Programs.{Part, noModule, typeOfShared, modulesFrom, sharedOf, programOf}
+use Rattle.layout.specs.Fields.{schedulersOf}
+use Rattle.layout.specs.Faults.{NoFault}
+use Rattle.rules.specs.Rules.{Keeps}
+use Rattle.machine.specs.Fresh.{fresh}
+use Rattle.machine.proofs.Lists.{all-getD, all-imply}
+use Rattle.machine.proofs.Depth.{deep-fits, BodiesFit}
+use Rattle.reach.proofs.Passed.{schedulers-range}
+use Rattle.reach.proofs.Laid.{LaidS, laid-deep}
+use Rattle.reach.proofs.Cells.{CellsFine, shared-fine}
+use Rattle.reach.proofs.Modules.{IsPart, parts, main-plain, some-module, part-types, part-laid}
+use Rattle.safety.proofs.Places.{main-typed}
+use Rattle.safety.proofs.SharedCells.{typingOf, all-well, shared-is, shared-owners, first-good}
+use Rattle.safety.proofs.Demand3.{Typed}
+
+-- numbers may be of any size here
+abbrev Any : ℕ → Type 0
+Any v = Unit {0}
+
+module _ {fs : List Frame} (fine : NoFault fs) where
+  laid : (m : Part) → IsPart fs m → LaidS Any (schedulersOf fs) 24 (m .body)
+  laid = part-laid fine Any tt (λ j. tt)
+
+  bodies : BodiesFit (programOf fs)
+  unfolding programOf
+  bodies m l =
+      let h = all-getD (IsPart fs) (modulesFrom fs 0 fs) noModule m (parts fs) l in
+      deep-fits _ _ (laid-deep (laid _ h)) (part-types fine _ h)
+
+  cells : CellsFine Any (schedulersOf fs) [] (sharedOf fs)
+  cells = shared-fine Any fine (λ j. tt)
+
+  -- every file that passes refusals 4 to 7 and keeps the rules is typed
+  pub typed : Keeps (programOf fs) → Typed (programOf fs)
+  unfolding programOf fresh
+  typed rules =
+      let few = schedulers-range fine .1 in
+      let wells = all-well few cells in
+      let xs = sharedOf fs in
+      record {
+        sh = map typingOf xs;
+        count = length-map xs typingOf;
+        owners = shared-owners xs wells;
+        first = first-good few xs cells;
+        some = some-module fine;
+        main = main-typed (programOf fs) (map typingOf xs) (map typeOfShared xs) Any (schedulersOf fs) few (shared-is xs wells) [] (modulesFrom fs 0 fs) refl refl
+            (λ s l. absurd (omega arith)) (all-imply laid (parts fs)) (main-plain fine) rules;
+        bodies = bodies;
+      }
