@@ -1,14 +1,15 @@
--- Laws of the change of a thread, one for each turn and return of the code. Assumes nothing.
-use Prim.Native.Nat.{ℕ, _+_, _*_, _-_, _<_}
+-- A thread's change made where its words lie: what each write of crate commits' `change` leaves is the changed thread, put back in its words. Assumes nothing.
+use Prim.Native.Nat.{ℕ, _+_, _*_, _-_, _<_, _≤_}
 use mathlib.Core.Path.{_≡_, refl, sym, ap, _∙_, subst}
 use mathlib.Core.List.{List}
 use native.Mathlib.Omega.{arith}
-use lib.ListN.{getD, length, set, take}
-use lib.Seq.{getD-set-other, drop-set-lt}
+use lib.ListN.{getD, length}
+use lib.Seq.{ext-getD}
 use lib.Dec.{eqb}
 use borrow.Author.Tests.{eq-eqb, ne-eqb, eqb-true}
 use Rattle.basics.proofs.Ifs.{yes, no, if-all}
 use Rattle.machine.specs.Blocks.{part}
+use Rattle.machine.proofs.WordLaws.{part-at, part-length}
 use Rattle.states.specs.declared.thread.ThreadWords.{ThreadWords}
 use Rattle.states.specs.Threads.{threadIn, putThread}
 use Rattle.states.specs.Stacks.{pushItem, popItem, pushValue, popValue, moveTo, ended}
@@ -20,7 +21,7 @@ use Rattle.acts.specs.declared.act.Change.the-variants.{Same, Item, Items, Let,
 use Rattle.acts.specs.Fates.{changed, popped, Room}
 use Rattle.commits.specs.Commits.{placeAfter}
 
--- ---- what a thread keeps
+-- ---- the thread without its top item, and the changed one: their spaces stay full, the counts and the place
 pub popped-wide : (x : ThreadWords) → Wide x → Wide (popped x)
 unfolding popped
 popped-wide x h = if-all Wide (eqb (x .items) 0) x (popItem x) (λ _. h) (λ _. pop-item-wide x h)
@@ -64,7 +65,7 @@ changed-place End x = refl
 pub place-is : (x : ThreadWords) (c : Change) (p : ℕ) → p ≡ placeAfter c (x .place) → p ≡ changed c (popped x) .place
 place-is x c p e = e ∙ ap (placeAfter c) (sym (popped-place x)) ∙ sym (changed-place c (popped x))
 
--- ---- in place
+-- ---- each write, and two in a row
 module _ (w : List ℕ) (k : ℕ) (all : length w ≡ 4818) (room : k < 64) where
   pub taken-none : getD w (1042 + 55 * k + 3) 0 ≡ 0 → w ≡ putThread w k (popped (threadIn w k))
   unfolding popped
@@ -74,38 +75,39 @@ module _ (w : List ℕ) (k : ℕ) (all : length w ≡ 4818) (room : k < 64) wher
   unfolding popped
   taken v q e = q ∙ ap (putThread w k) (no _ (ne-eqb (getD w (1042 + 55 * k + 3) 0) 0 e) refl)
 
-  here : (v : List ℕ) (y : ThreadWords) → Wide y → v ≡ putThread w k y → threadIn v k ≡ y
-  here v y h e = ap (λ (l : List ℕ). threadIn l k) e ∙ in-with w k all room y h
+  -- the thread that was put there is read back
+  put-back : (v : List ℕ) (y : ThreadWords) → Wide y → v ≡ putThread w k y → threadIn v k ≡ y
+  put-back v y h e = ap (λ (l : List ℕ). threadIn l k) e ∙ in-with w k all room y h
 
-  one-more : (a : ℕ) → Wide (pushItem a (threadIn w k))
-  one-more a = push-item-wide a (threadIn w k) (in-wide w k all room)
+  pushed-wide : (a : ℕ) → Wide (pushItem a (threadIn w k))
+  pushed-wide a = push-item-wide a (threadIn w k) (in-wide w k all room)
 
   module _ (v : List ℕ) (below : ℕ) (e : v ≡ putThread w k (pushItem below (threadIn w k))) where
-    pub two-room : threadIn w k .items < 24 → threadIn v k .items < 25
+    pub pushed-two-room : threadIn w k .items < 24 → threadIn v k .items < 25
     unfolding pushItem
-    two-room h = let z : threadIn v k .items ≡ threadIn w k .items + 1 = ap (λ (y : ThreadWords). y .items) (here v (pushItem below (threadIn w k)) (one-more below) e) in omega arith
+    pushed-two-room h = let z : threadIn v k .items ≡ threadIn w k .items + 1 = ap (λ (y : ThreadWords). y .items) (put-back v (pushItem below (threadIn w k)) (pushed-wide below) e) in omega arith
 
-    pub two : (u : List ℕ) (top : ℕ) → u ≡ putThread v k (pushItem top (threadIn v k)) → u ≡ putThread w k (pushItem top (pushItem below (threadIn w k)))
-    two u top q = with-next w k all room v u (pushItem below (threadIn w k)) (pushItem top) (one-more below) (push-item-wide top (pushItem below (threadIn w k)) (one-more below)) e q
+    pub pushed-two : (u : List ℕ) (top : ℕ) → u ≡ putThread v k (pushItem top (threadIn v k)) → u ≡ putThread w k (pushItem top (pushItem below (threadIn w k)))
+    pushed-two u top q = with-next w k all room v u (pushItem below (threadIn w k)) (pushItem top) (pushed-wide below) (push-item-wide top (pushItem below (threadIn w k)) (pushed-wide below)) e q
 
   module _ (v : List ℕ) (value : ℕ) (e : v ≡ putThread w k (pushValue value (threadIn w k))) where
-    wide : Wide (pushValue value (threadIn w k))
-    wide = push-value-wide value (threadIn w k) (in-wide w k all room)
+    value-wide : Wide (pushValue value (threadIn w k))
+    value-wide = push-value-wide value (threadIn w k) (in-wide w k all room)
 
-    pub let-room : threadIn w k .items < 24 → threadIn v k .items < 24
+    pub pushed-let-room : threadIn w k .items < 24 → threadIn v k .items < 24
     unfolding pushValue
-    let-room h = let z : threadIn v k .items ≡ threadIn w k .items = ap (λ (y : ThreadWords). y .items) (here v (pushValue value (threadIn w k)) wide e) in omega arith
+    pushed-let-room h = let z : threadIn v k .items ≡ threadIn w k .items = ap (λ (y : ThreadWords). y .items) (put-back v (pushValue value (threadIn w k)) value-wide e) in omega arith
 
-    pub lets : (u : List ℕ) (body : ℕ) → u ≡ putThread v k (pushItem body (pushItem 2048 (threadIn v k))) → u ≡ putThread w k (changed (Let value body) (threadIn w k))
-    lets u body q = with-next w k all room v u (pushValue value (threadIn w k)) (λ (y : ThreadWords). pushItem body (pushItem 2048 y)) wide
+    pub pushed-let : (u : List ℕ) (body : ℕ) → u ≡ putThread v k (pushItem body (pushItem 2048 (threadIn v k))) → u ≡ putThread w k (changed (Let value body) (threadIn w k))
+    pushed-let u body q = with-next w k all room v u (pushValue value (threadIn w k)) (λ (y : ThreadWords). pushItem body (pushItem 2048 y)) value-wide
         (changed-wide (Let value body) (threadIn w k) (in-wide w k all room)) e q
 
   pub entered : (v u : List ℕ) (q body : ℕ) → v ≡ putThread w k (pushItem body (pushItem (1024 + getD w (1042 + 55 * k) 0) (threadIn w k))) → u ≡ putThread v k (moveTo q (threadIn v k))
       → u ≡ putThread w k (changed (Enter q body) (threadIn w k))
   entered v u q body e f = with-next w k all room v u (pushItem body (pushItem (1024 + getD w (1042 + 55 * k) 0) (threadIn w k))) (moveTo q)
-      (push-item-wide body _ (one-more (1024 + getD w (1042 + 55 * k) 0))) (changed-wide (Enter q body) (threadIn w k) (in-wide w k all room)) e f
+      (push-item-wide body _ (pushed-wide (1024 + getD w (1042 + 55 * k) 0))) (changed-wide (Enter q body) (threadIn w k) (in-wide w k all room)) e f
 
--- ---- each change
+-- ---- each arm of `change_thread`: the change that the match has found is the one asked for
 module _ (w : List ℕ) (k : ℕ) (c : Change) where
   pub change-same : c ≡ Same → length w ≡ 4818 → k < 64 → w ≡ putThread w k (changed c (threadIn w k))
   change-same e all room = sym (with-in w k all room) ∙ ap (λ (d : Change). putThread w k (changed d (threadIn w k))) (sym e)
@@ -115,7 +117,7 @@ module _ (w : List ℕ) (k : ℕ) (c : Change) where
 
 pub ruleset change-laws = (change-same, change-made)
 
--- the room that each needs
+-- what the room for a change is, for the arm's call
 module _ (c : Change) (i n : ℕ) where
   room : (d : Change) → c ≡ d → Room c i n → Room d i n
   room d e h = subst (λ (b : Change). Room b i n) e h
@@ -140,21 +142,18 @@ module _ (c : Change) (i n : ℕ) where
 
 pub ruleset change-room = (room-item, room-items, room-let, room-value, room-drop, room-enter)
 
--- ---- behind the count of cells
-module _ (w : List ℕ) (k n : ℕ) where
-  run-kept : (i : ℕ) → 1 < i → part (set w 1 n) i 25 ≡ part w i 25
-  unfolding part
-  run-kept i h = ap (take 25) (drop-set-lt i w 1 n h)
-
-  word-kept : (i : ℕ) → 1 < i → getD (set w 1 n) i 0 ≡ getD w i 0
-  word-kept i h = getD-set-other w 1 i n 0 (λ e. omega arith)
-
-  pub thread-kept : threadIn (set w 1 n) k ≡ threadIn w k
-  thread-kept = fields-path (threadIn (set w 1 n) k) (threadIn w k)
-      (word-kept (1042 + 55 * k) (omega arith))
-      (word-kept (1042 + 55 * k + 1) (omega arith))
-      (word-kept (1042 + 55 * k + 2) (omega arith))
-      (word-kept (1042 + 55 * k + 3) (omega arith))
-      (run-kept (1042 + 55 * k + 4) (omega arith))
-      (word-kept (1042 + 55 * k + 29) (omega arith))
-      (run-kept (1042 + 55 * k + 30) (omega arith))
+-- ---- words that agree from the first thread's to the last one's have the same threads
+pub same-thread : (w v : List ℕ) (k : ℕ) → k < 64 → length w ≡ 4818 → length v ≡ 4818 → ((i : ℕ) → 1042 ≤ i → i < 4562 → getD v i 0 ≡ getD w i 0) → threadIn v k ≡ threadIn w k
+same-thread w v k l a b f = fields-path (threadIn v k) (threadIn w k)
+    (f (1042 + 55 * k) (omega arith) (omega arith))
+    (f (1042 + 55 * k + 1) (omega arith) (omega arith))
+    (f (1042 + 55 * k + 2) (omega arith) (omega arith))
+    (f (1042 + 55 * k + 3) (omega arith) (omega arith))
+    (run (1042 + 55 * k + 4) (omega arith) (omega arith))
+    (f (1042 + 55 * k + 29) (omega arith) (omega arith))
+    (run (1042 + 55 * k + 30) (omega arith) (omega arith))
+  where
+    run : (at : ℕ) → 1042 ≤ at → at + 25 ≤ 4562 → part v at 25 ≡ part w at 25
+    run at d g = let p : length (part v at 25) ≡ 25 = part-length v at 25 (omega arith) in
+        ext-getD 0 (part v at 25) (part w at 25) (p ∙ sym (part-length w at 25 (omega arith)))
+        (λ j m. let q : j < 25 = rw p at m in part-at v at 25 j q ∙ f (at + j) (omega arith) (omega arith) ∙ sym (part-at w at 25 j q))

@@ -1,4 +1,4 @@
--- Laws of a commit, one for each fate. Assumes nothing.
+-- The commit of each fate: the words and the answer that the code's calls give are those of the definition. Assumes nothing.
 use Prim.Native.Nat.{ℕ}
 use mathlib.Core.Path.{_≡_, sym, ap, _∙_}
 use mathlib.Core.List.{List}
@@ -15,15 +15,15 @@ pub leaves : (w v₁ v : List ℕ) (c t : ℕ) (a : Acted) → v ≡ leftIn v₁
 leaves w v₁ v c t a e f = e ∙ ap (λ (l : List ℕ). leftIn l c) f
 
 module _ (w v : List ℕ) (before c t : ℕ) (a : Acted) (q : ℕ) (r : Bool) (e : r ≡ roomIn w q 1) where
-  pub joins-not : not r ≡ true → v ≡ clearedIn w before (a .used) → called 20 t v ≡ joinsIn w before c t (after w t a) q
+  pub joins-full : not r ≡ true → v ≡ clearedIn w before (a .used) → called 20 t v ≡ joinsIn w before c t (after w t a) q
   unfolding joinsIn
-  joins-not h f = no _ (sym e ∙ not-true r h) (ap (called 20 t) f)
+  joins-full h f = no _ (sym e ∙ not-true r h) (ap (called 20 t) f)
 
   pub joins : not r ≡ false → (v₁ : List ℕ) → v ≡ joinedIn v₁ q t → v₁ ≡ leavesIn w c t (after w t a) → called 0 t v ≡ joinsIn w before c t (after w t a) q
   unfolding joinsIn
   joins h v₁ f g = yes _ (sym e ∙ not-false r h) (ap (called 0 t) (f ∙ ap (λ (l : List ℕ). joinedIn l q t) g))
 
-pub ruleset joins-laws = (joins-not, joins)
+pub ruleset joins-laws = (joins-full, joins)
 
 module _ (p : Program) (w v : List ℕ) (before c t : ℕ) (a : Acted) (x : Fate) where
   pub commit-refused : (n : ℕ) → x ≡ Refused n → v ≡ clearedIn w before (a .used) → called n t v ≡ committedIn p w before c t (after w t a) x

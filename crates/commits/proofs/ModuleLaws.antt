@@ -1,4 +1,4 @@
--- Laws of a module found, one for each turn and return of the code. Assumes nothing.
+-- A module found by its number, frame by frame: the loop of `module_at`, a law for each turn and each return. Assumes nothing.
 use Prim.Native.Nat.{ℕ, zero, suc, _+_, _-_, _<_, _≤_}
 use mathlib.Core.Path.{_≡_, refl, sym, ap, _∙_}
 use mathlib.Core.List.{List, [], _∷_}
@@ -31,6 +31,8 @@ pub few-types : (s : ℕ) → s ≤ 2 → s ≡ parametersIn s
 unfolding parametersIn
 few-types s h = no _ (le-ltb 2 s h) refl
 
+pub ruleset types-laws = (two-types, few-types)
+
 types-length : (s b c : ℕ) → parametersIn s ≡ length (take s (b ∷ c ∷ []))
 unfolding parametersIn
 types-length zero b c = if-no _ _ (le-ltb 2 0 (omega arith))
@@ -38,7 +40,7 @@ types-length (suc zero) b c = if-no _ _ (le-ltb 2 1 (omega arith))
 types-length (suc (suc zero)) b c = if-no _ _ (le-ltb 2 2 (omega arith))
 types-length (suc (suc (suc s))) b c = if-yes _ _ (lt-ltb 2 (suc (suc (suc s))) (omega arith))
 
--- ---- a frame more
+-- ---- a frame that is no module, and one that is
 part-no : (fs : List Frame) (i : ℕ) (f : Frame) (k : Kind) (ps : List Part) → isModule k ≡ false → withPart fs i f k ps ≡ ps
 part-no fs i f Module ps e = absurd (true≢false e)
 part-no fs i f Header ps e = refl
@@ -55,8 +57,16 @@ part-yes fs i f (Statement k) ps e = absurd (true≢false (sym e))
 part-yes fs i f (Expression k) ps e = absurd (true≢false (sym e))
 part-yes fs i f Unknown ps e = absurd (true≢false (sym e))
 
-frames-length : (words : List ℕ) → length (framesOf words) ≡ length words
+-- ---- the frames of a file's words, one after another
+pub frames-length : (words : List ℕ) → length (framesOf words) ≡ length words
 frames-length words = length-map words frameOfWord
+
+pub next-frame : (words : List ℕ) (i : ℕ) (f : Frame) → i < length words → f ≡ frameOfWord (getD words i 0) → drop i (framesOf words) ≡ f ∷ drop (i + 1) (framesOf words)
+next-frame words i f l e =
+    drop-cons (framesOf words) i noFrame (rw (frames-length words) l) ∙ ap (λ (g : Frame). g ∷ drop (suc i) (framesOf words)) (frame-at words i l ∙ sym e)
+    ∙ ap (λ (k : ℕ). f ∷ drop k (framesOf words)) (sym (add-one i))
+
+-- ---- the module looked for
 
 -- the modules from frame i
 abbrev pub partsFrom : List ℕ → ℕ → List Part
@@ -74,28 +84,23 @@ found-path : (x y : ModuleFound) → x .there ≡ y .there → x .parameters ≡
 found-path x y p q r = λ i. record { there = p i; parameters = q i; body = r i }
 
 module _ (words : List ℕ) (m i n : ℕ) (f : Frame) (t : Bool) (s : Finding words m i n) (l : i < length words) (e : f ≡ frameOfWord (getD words i 0)) (q : t ≡ isModule (f .kind)) where
-  next-frame : drop i (framesOf words) ≡ f ∷ drop (i + 1) (framesOf words)
-  next-frame =
-      drop-cons (framesOf words) i noFrame (rw (frames-length words) l) ∙ ap (λ (g : Frame). g ∷ drop (suc i) (framesOf words)) (frame-at words i l ∙ sym e)
-      ∙ ap (λ (k : ℕ). f ∷ drop k (framesOf words)) (sym (add-one i))
-
   from-here : partsFrom words i ≡ withPart (framesOf words) i f (f .kind) (partsFrom words (i + 1))
   unfolding modulesFrom
-  from-here = ap (modulesFrom (framesOf words) i) next-frame ∙ ap (λ (k : ℕ). withPart (framesOf words) i f (f .kind) (modulesFrom (framesOf words) k (drop (i + 1) (framesOf words)))) (sym (add-one i))
+  from-here = ap (modulesFrom (framesOf words) i) (next-frame words i f l e) ∙ ap (λ (k : ℕ). withPart (framesOf words) i f (f .kind) (modulesFrom (framesOf words) k (drop (i + 1) (framesOf words)))) (sym (add-one i))
 
   pub finding-other : not t ≡ true → Finding words m (i + 1) n
   finding-other h =
       let z : partsFrom words (i + 1) ≡ partsFrom words i = sym (from-here ∙ part-no (framesOf words) i f (f .kind) (partsFrom words (i + 1)) (sym q ∙ not-true t h)) in
       record { same = ap (λ (ps : List Part). getD ps n noModule) z ∙ s .same; there = ap (λ (ps : List Part). ltb n (length ps)) z ∙ s .there }
 
-  one : not t ≡ false → partsFrom words i ≡ partOf (framesOf words) i f ∷ partsFrom words (i + 1)
-  one h = from-here ∙ part-yes (framesOf words) i f (f .kind) (partsFrom words (i + 1)) (sym q ∙ not-false t h)
+  module-first : not t ≡ false → partsFrom words i ≡ partOf (framesOf words) i f ∷ partsFrom words (i + 1)
+  module-first h = from-here ∙ part-yes (framesOf words) i f (f .kind) (partsFrom words (i + 1)) (sym q ∙ not-false t h)
 
   pub finding-one : not t ≡ false → (n ≡ 0 → ⊥) → Finding words m (i + 1) (n - 1)
   finding-one h z =
       record {
-        same = behind n z (partsFrom words (i + 1)) ∙ ap (λ (ps : List Part). getD ps n noModule) (sym (one h)) ∙ s .same;
-        there = fewer n z (length (partsFrom words (i + 1))) ∙ ap (λ (ps : List Part). ltb n (length ps)) (sym (one h)) ∙ s .there;
+        same = behind n z (partsFrom words (i + 1)) ∙ ap (λ (ps : List Part). getD ps n noModule) (sym (module-first h)) ∙ s .same;
+        there = fewer n z (length (partsFrom words (i + 1))) ∙ ap (λ (ps : List Part). ltb n (length ps)) (sym (module-first h)) ∙ s .there;
       }
     where
       behind : (n : ℕ) → (n ≡ 0 → ⊥) → (ps : List Part) → getD ps (n - 1) noModule ≡ getD (partOf (framesOf words) i f ∷ ps) n noModule
@@ -110,11 +115,11 @@ module _ (words : List ℕ) (m i n : ℕ) (f : Frame) (t : Bool) (s : Finding wo
       → _≡_ {A = ModuleFound} (record { there = true; parameters = r; body = f .a }) (foundIn (programOf (framesOf words)) m)
   unfolding foundIn programOf
   found-here r u h z = found-path _ _
-      (sym (sym (s .there) ∙ ap (λ (ps : List Part). ltb n (length ps)) (one h) ∙ lt-ltb n (suc (length (partsFrom words (i + 1)))) (omega arith)))
+      (sym (sym (s .there) ∙ ap (λ (ps : List Part). ltb n (length ps)) (module-first h) ∙ lt-ltb n (suc (length (partsFrom words (i + 1)))) (omega arith)))
       (u ∙ types-length (f .s) (f .b) (f .c) ∙ ap (λ (p : Part). length (p .types)) here) (sym (root-at (framesOf words) (f .a)) ∙ ap (λ (p : Part). rootS (p .body)) here)
     where
       here : partOf (framesOf words) i f ≡ getD (partsFrom words 0) m noModule
-      here = ap (λ (k : ℕ). getD (partOf (framesOf words) i f ∷ partsFrom words (i + 1)) k noModule) (sym z) ∙ ap (λ (ps : List Part). getD ps n noModule) (sym (one h)) ∙ s .same
+      here = ap (λ (k : ℕ). getD (partOf (framesOf words) i f ∷ partsFrom words (i + 1)) k noModule) (sym z) ∙ ap (λ (ps : List Part). getD ps n noModule) (sym (module-first h)) ∙ s .same
 
 pub found-none : (words : List ℕ) (m i n : ℕ) → Finding words m i n → length words ≤ i
     → _≡_ {A = ModuleFound} (record { there = false; parameters = 0; body = 0 }) (foundIn (programOf (framesOf words)) m)
@@ -128,5 +133,3 @@ found-none words m i n s l = found-path _ _
 
     here : noModule ≡ getD (partsFrom words 0) m noModule
     here = ap (λ (ps : List Part). getD ps n noModule) (sym nothing) ∙ s .same
-
-pub ruleset types-laws = (two-types, few-types)

@@ -1,4 +1,4 @@
--- Laws of a start, one for each return of the code. Assumes nothing.
+-- A start committed: what stands in its way, the words behind it, and the answer. Assumes nothing.
 use Prim.Native.Nat.{ℕ, _+_, _*_, _-_, _<_, _≤_}
 use mathlib.Core.Path.{_≡_, refl, sym, ap, ap₂, _∙_}
 use mathlib.Core.List.{List}
@@ -18,39 +18,39 @@ use Rattle.commits.specs.declared.module.ModuleFound.{ModuleFound}
 use Rattle.commits.specs.Commits.{called, after, placeAfter, clearedIn, staysIn, leftIn, roomIn, joinedIn, newThread, newIn, misfitIn, spentIn, firstAnswer, obstacleIn, startedIn, waitingIn, startsIn}
 use Rattle.commits.proofs.ChangeLaws.{place-is}
 
--- ---- what stands in the way
+-- ---- what stands in the way: why a start does not fit, 20, then a 65th thread, 18
 module _ (w : List ℕ) (x : ModuleFound) (p g : ℕ) (y : Bool) (z : y ≡ eqb p 1) where
-  pub at-home : y ≡ true → 20 ≡ misfitIn w x p g
+  pub misfit-unlinked : y ≡ true → 20 ≡ misfitIn w x p g
   unfolding misfitIn
-  at-home a = yes _ (sym z ∙ a) refl
+  misfit-unlinked a = yes _ (sym z ∙ a) refl
 
-  pub not-there : y ≡ false → not (x .there) ≡ true → 20 ≡ misfitIn w x p g
+  pub misfit-no-module : y ≡ false → not (x .there) ≡ true → 20 ≡ misfitIn w x p g
   unfolding misfitIn
-  not-there a b = no _ (sym z ∙ a) (yes _ b refl)
+  misfit-no-module a b = no _ (sym z ∙ a) (yes _ b refl)
 
-  pub other-count : y ≡ false → not (x .there) ≡ false → (x .parameters ≡ g → ⊥) → 20 ≡ misfitIn w x p g
+  pub misfit-arguments : y ≡ false → not (x .there) ≡ false → (x .parameters ≡ g → ⊥) → 20 ≡ misfitIn w x p g
   unfolding misfitIn
-  other-count a b c = no _ (sym z ∙ a) (no _ b (yes _ (ap not (ne-eqb (x .parameters) g c)) refl))
+  misfit-arguments a b c = no _ (sym z ∙ a) (no _ b (yes _ (ap not (ne-eqb (x .parameters) g c)) refl))
 
-  pub no-room : (r : Bool) → r ≡ roomIn w p 1 → y ≡ false → not (x .there) ≡ false → x .parameters ≡ g → not r ≡ true → 20 ≡ misfitIn w x p g
+  pub misfit-full-list : (r : Bool) → r ≡ roomIn w p 1 → y ≡ false → not (x .there) ≡ false → x .parameters ≡ g → not r ≡ true → 20 ≡ misfitIn w x p g
   unfolding misfitIn
-  no-room r e a b c d = no _ (sym z ∙ a) (no _ b (no _ (ap not (eq-eqb (x .parameters) g c)) (yes _ (ap not (sym e) ∙ d) refl)))
+  misfit-full-list r e a b c d = no _ (sym z ∙ a) (no _ b (no _ (ap not (eq-eqb (x .parameters) g c)) (yes _ (ap not (sym e) ∙ d) refl)))
 
-  pub it-fits : (r : Bool) → r ≡ roomIn w p 1 → y ≡ false → not (x .there) ≡ false → x .parameters ≡ g → not r ≡ false → 0 ≡ misfitIn w x p g
+  pub misfit-none : (r : Bool) → r ≡ roomIn w p 1 → y ≡ false → not (x .there) ≡ false → x .parameters ≡ g → not r ≡ false → 0 ≡ misfitIn w x p g
   unfolding misfitIn
-  it-fits r e a b c d = no _ (sym z ∙ a) (no _ b (no _ (ap not (eq-eqb (x .parameters) g c)) (no _ (ap not (sym e) ∙ d) refl)))
+  misfit-none r e a b c d = no _ (sym z ∙ a) (no _ b (no _ (ap not (eq-eqb (x .parameters) g c)) (no _ (ap not (sym e) ∙ d) refl)))
 
-pub ruleset misfit-laws = (at-home, not-there, other-count, no-room, it-fits)
+pub ruleset misfit-laws = (misfit-unlinked, misfit-no-module, misfit-arguments, misfit-full-list, misfit-none)
 
-pub too-many : (w : List ℕ) (n : ℕ) → n ≡ getD w 0 0 → 64 ≤ n → 18 ≡ spentIn w
+pub spent-all : (w : List ℕ) (n : ℕ) → n ≡ getD w 0 0 → 64 ≤ n → 18 ≡ spentIn w
 unfolding spentIn
-too-many w n f h = yes _ (ap (leb 64) (sym f) ∙ le-leb 64 n h) refl
+spent-all w n f h = yes _ (ap (leb 64) (sym f) ∙ le-leb 64 n h) refl
 
-pub one-fits : (w : List ℕ) (n : ℕ) → n ≡ getD w 0 0 → n < 64 → 0 ≡ spentIn w
+pub spent-not : (w : List ℕ) (n : ℕ) → n ≡ getD w 0 0 → n < 64 → 0 ≡ spentIn w
 unfolding spentIn
-one-fits w n f h = no _ (ap (leb 64) (sym f) ∙ lt-leb 64 n h) refl
+spent-not w n f h = no _ (ap (leb 64) (sym f) ∙ lt-leb 64 n h) refl
 
-pub ruleset spent-laws = (too-many, one-fits)
+pub ruleset spent-laws = (spent-all, spent-not)
 
 pub answer-second : (a b : ℕ) → a ≡ 0 → b ≡ firstAnswer a b
 unfolding firstAnswer
@@ -62,11 +62,11 @@ answer-first a b h = no _ (ne-eqb a 0 h) refl
 
 pub ruleset answer-laws = (answer-second, answer-first)
 
--- a 20 comes first
-twenty : (b : Bool) (m o s : ℕ) → firstAnswer m s ≡ o → firstAnswer (if b then 20 else m) s ≡ (if b then 20 else o)
+-- `obstacle` asks two functions, its definition is one chain: a test that answers 20 moves out of the first answer
+twenty-out : (b : Bool) (m o s : ℕ) → firstAnswer m s ≡ o → firstAnswer (if b then 20 else m) s ≡ (if b then 20 else o)
 unfolding firstAnswer if_then_else_
-twenty true m o s h = refl
-twenty false m o s h = h
+twenty-out true m o s h = refl
+twenty-out false m o s h = h
 
 none-before : (s : ℕ) → firstAnswer 0 s ≡ s
 unfolding firstAnswer if_then_else_
@@ -76,24 +76,24 @@ pub obstacle-is : (w : List ℕ) (x : ModuleFound) (p g m s r : ℕ) → m ≡ m
 unfolding misfitIn spentIn obstacleIn
 obstacle-is w x p g m s r e f h =
     h ∙ ap₂ firstAnswer e f
-    ∙ twenty (eqb p 1) _ _ _ (twenty (not (x .there)) _ _ _ (twenty (not (eqb (x .parameters) g)) _ _ _ (twenty (not (roomIn w p 1)) _ _ _ (none-before _))))
+    ∙ twenty-out (eqb p 1) _ _ _ (twenty-out (not (x .there)) _ _ _ (twenty-out (not (eqb (x .parameters) g)) _ _ _ (twenty-out (not (roomIn w p 1)) _ _ _ (none-before _))))
 
 -- ---- the words behind a start, whose starter stands at q
 module _ (w v : List ℕ) (t body n : ℕ) (a : Acted) (q : ℕ) (x : ThreadWords) (z : q ≡ after w t a .thread .place) (k : n ≡ getD w 0 0) (g : x ≡ newThread q (a .given) (a .first) (a .second) t body) where
-  new : x ≡ newIn (after w t a) t body
-  new = g ∙ ap (λ (p : ℕ). newThread p (a .given) (a .first) (a .second) t body) z
+  new-is : x ≡ newIn (after w t a) t body
+  new-is = g ∙ ap (λ (p : ℕ). newThread p (a .given) (a .first) (a .second) t body) z
 
   pub started : (v₁ v₂ : List ℕ) → v ≡ joinedIn v₂ q (n + 1) → v₂ ≡ withOneMore v₁ x → v₁ ≡ staysIn w t (after w t a) → v ≡ startedIn w t (after w t a) body
   started v₁ v₂ e f h =
       e ∙ ap (λ (p : ℕ). joinedIn v₂ p (n + 1)) z
-      ∙ ap₂ (λ (l : List ℕ) (i : ℕ). joinedIn l (after w t a .thread .place) (i + 1)) (f ∙ ap₂ (λ (l : List ℕ) (y : ThreadWords). withOneMore l y) h new) k
+      ∙ ap₂ (λ (l : List ℕ) (i : ℕ). joinedIn l (after w t a .thread .place) (i + 1)) (f ∙ ap₂ (λ (l : List ℕ) (y : ThreadWords). withOneMore l y) h new-is) k
 
   pub waiting : (c : ℕ) (v₁ v₂ v₃ : List ℕ) → v ≡ joinedIn (joinedIn v₃ q (n + 1)) q (128 * (n + 1) + t) → v₃ ≡ withOneMore v₂ x → v₂ ≡ leftIn v₁ c → v₁ ≡ staysIn w t (after w t a)
       → v ≡ waitingIn w c t (after w t a) body
   waiting c v₁ v₂ v₃ e f o h =
       e ∙ ap (λ (p : ℕ). joinedIn (joinedIn v₃ p (n + 1)) p (128 * (n + 1) + t)) z
       ∙ ap₂ (λ (l : List ℕ) (i : ℕ). joinedIn (joinedIn l (after w t a .thread .place) (i + 1)) (after w t a .thread .place) (128 * (i + 1) + t))
-      (f ∙ ap₂ (λ (l : List ℕ) (y : ThreadWords). withOneMore l y) (o ∙ ap (λ (l : List ℕ). leftIn l c) h) new) k
+      (f ∙ ap₂ (λ (l : List ℕ) (y : ThreadWords). withOneMore l y) (o ∙ ap (λ (l : List ℕ). leftIn l c) h) new-is) k
 
 -- ---- the answer
 module _ (p : Program) (w v : List ℕ) (before c t : ℕ) (a : Acted) (waits : Bool) (m : ℕ) (x : ModuleFound) (n q : ℕ) (e : x ≡ foundIn p m) (z : q ≡ placeAfter (a .change) (getD w (1042 + 55 * (t - 1)) 0))
@@ -101,34 +101,34 @@ module _ (p : Program) (w v : List ℕ) (before c t : ℕ) (a : Acted) (waits : 
   at-place : q ≡ after w t a .thread .place
   at-place = place-is (threadIn w (t - 1)) (a .change) q z
 
-  stands : n ≡ obstacleIn w (foundIn p m) (after w t a .thread .place) (a .given)
-  stands = f ∙ ap₂ (λ (y : ModuleFound) (i : ℕ). obstacleIn w y i (a .given)) e at-place
+  obstacle-at : n ≡ obstacleIn w (foundIn p m) (after w t a .thread .place) (a .given)
+  obstacle-at = f ∙ ap₂ (λ (y : ModuleFound) (i : ℕ). obstacleIn w y i (a .given)) e at-place
 
   pub start-refused : (n ≡ 0 → ⊥) → v ≡ clearedIn w before (a .used) → called n t v ≡ startsIn p w before c t (after w t a) waits m
   unfolding startsIn
-  start-refused h g = yes _ (ap (λ (k : ℕ). not (eqb k 0)) (sym stands) ∙ ap not (ne-eqb n 0 h)) (ap₂ (λ (k : ℕ) (l : List ℕ). called k t l) stands g)
+  start-refused h g = yes _ (ap (λ (k : ℕ). not (eqb k 0)) (sym obstacle-at) ∙ ap not (ne-eqb n 0 h)) (ap₂ (λ (k : ℕ) (l : List ℕ). called k t l) obstacle-at g)
 
-  free : n ≡ 0 → not (eqb (obstacleIn w (foundIn p m) (after w t a .thread .place) (a .given)) 0) ≡ false
-  free h = ap (λ (k : ℕ). not (eqb k 0)) (sym stands) ∙ ap not (eq-eqb n 0 h)
+  no-obstacle : n ≡ 0 → not (eqb (obstacleIn w (foundIn p m) (after w t a .thread .place) (a .given)) 0) ≡ false
+  no-obstacle h = ap (λ (k : ℕ). not (eqb k 0)) (sym obstacle-at) ∙ ap not (eq-eqb n 0 h)
 
   pub start-only : n ≡ 0 → not waits ≡ true → v ≡ startedIn w t (after w t a) (x .body) → called 0 t v ≡ startsIn p w before c t (after w t a) waits m
   unfolding startsIn
-  start-only h b g = no _ (free h) (yes _ b (ap (called 0 t) (g ∙ ap (λ (y : ModuleFound). startedIn w t (after w t a) (y .body)) e)))
+  start-only h b g = no _ (no-obstacle h) (yes _ b (ap (called 0 t) (g ∙ ap (λ (y : ModuleFound). startedIn w t (after w t a) (y .body)) e)))
 
-  full : (r : Bool) → r ≡ roomIn w q 2 → not (roomIn w (after w t a .thread .place) 2) ≡ not r
-  full r g = ap not (ap (λ (i : ℕ). roomIn w i 2) (sym at-place) ∙ sym g)
+  room-for-two : (r : Bool) → r ≡ roomIn w q 2 → not (roomIn w (after w t a .thread .place) 2) ≡ not r
+  room-for-two r g = ap not (ap (λ (i : ℕ). roomIn w i 2) (sym at-place) ∙ sym g)
 
   pub start-full : (r : Bool) → r ≡ roomIn w q 2 → n ≡ 0 → not waits ≡ false → not r ≡ true → v ≡ clearedIn w before (a .used) → called 20 t v ≡ startsIn p w before c t (after w t a) waits m
   unfolding startsIn
-  start-full r o h b d g = no _ (free h) (no _ b (yes _ (full r o ∙ d) (ap (called 20 t) g)))
+  start-full r o h b d g = no _ (no-obstacle h) (no _ b (yes _ (room-for-two r o ∙ d) (ap (called 20 t) g)))
 
   pub start-waits : (r : Bool) → r ≡ roomIn w q 2 → n ≡ 0 → not waits ≡ false → not r ≡ false → v ≡ waitingIn w c t (after w t a) (x .body) → called 0 t v ≡ startsIn p w before c t (after w t a) waits m
   unfolding startsIn
-  start-waits r o h b d g = no _ (free h) (no _ b (no _ (full r o ∙ d) (ap (called 0 t) (g ∙ ap (λ (y : ModuleFound). waitingIn w c t (after w t a) (y .body)) e))))
+  start-waits r o h b d g = no _ (no-obstacle h) (no _ b (no _ (room-for-two r o ∙ d) (ap (called 0 t) (g ∙ ap (λ (y : ModuleFound). waitingIn w c t (after w t a) (y .body)) e))))
 
 pub ruleset start-laws = (start-refused, start-only, start-full, start-waits)
 
--- nothing stands in the way: below 64 threads
+-- where nothing stands in the way, there are fewer than 64 threads
 pub free-count : (w : List ℕ) (x : ModuleFound) (p g n : ℕ) → n ≡ obstacleIn w x p g → n ≡ 0 → getD w 0 0 < 64
 unfolding obstacleIn
 free-count w x p g n e h = all (sym h ∙ e)

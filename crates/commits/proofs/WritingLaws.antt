@@ -1,10 +1,11 @@
--- Laws of the single changes, one for each turn and return of the code. Assumes nothing.
+-- The single writes that a commit is made of: cells cleared, a thread settled, a scheduler's list left or joined, and the test of room before it. Assumes nothing.
 use Prim.Native.Nat.{ℕ, _+_, _*_, _-_, _<_, _≤_}
 use mathlib.Core.Path.{_≡_, refl, sym, ap, _∙_}
 use mathlib.Core.List.{List}
 use mathlib.Core.Bool.{Bool, true, false, not, _&&_}
 use native.Mathlib.Omega.{arith}
 use lib.ListN.{getD, length, set, length-set, replicate, length-replicate, getD-replicate}
+use lib.Seq.{getD-set-other}
 use lib.Dec.{leb}
 use borrow.Author.Tests.{le-leb, lt-leb, leb-true, not-true, not-false}
 use Rattle.basics.proofs.Ifs.{yes, no, and-true}
@@ -17,9 +18,9 @@ use Rattle.states.proofs.ThreadLaws.{Wide, in-wide, in-with, with-next, with-le
 use Rattle.acts.specs.declared.act.Change.{Change}
 use Rattle.acts.specs.Fates.{changed, popped, Room}
 use Rattle.commits.specs.Commits.{clearedIn, settledIn, isList, leftIn, roomIn, joinedIn, SettleWords}
-use Rattle.commits.proofs.ChangeLaws.{popped-wide, changed-wide, popped-items, popped-values, popped-place, thread-kept}
+use Rattle.commits.proofs.ChangeLaws.{popped-wide, changed-wide, popped-items, popped-values, popped-place, same-thread}
 
--- ---- cells no longer there
+-- ---- cells cleared: before the loop, a turn of it, behind it
 pub cells-start : (w : List ℕ) (from upto : ℕ) → w ≡ pasted w (4562 + from) (replicate (upto - from) 0) (from - from)
 cells-start w from upto =
     let z : 0 ≡ from - from = omega arith in
@@ -39,23 +40,24 @@ module _ (w v : List ℕ) (from upto j : ℕ) (e : v ≡ pasted w (4562 + from) 
   unfolding clearedIn
   cells-end a b = let z : j - from ≡ upto - from = omega arith in e ∙ ap (pasted w (4562 + from) (replicate (upto - from) 0)) z
 
--- ---- a thread and the count of cells
+-- ---- a thread settled: the count of cells is written, its top item taken off, then the change made
 module _ (w : List ℕ) (k n : ℕ) (c : Change) (h : SettleWords w k c) where
   counted : length (set w 1 n) ≡ 4818
   counted = length-set w 1 n ∙ h .all
 
+  -- the count is no word of a thread
+  thread-kept : threadIn (set w 1 n) k ≡ threadIn w k
+  thread-kept = same-thread w (set w 1 n) k (h .thread) (h .all) counted (λ i l m. getD-set-other w 1 i n 0 (λ e. omega arith))
+
   pub settle-items : threadIn (set w 1 n) k .items ≤ 25
-  settle-items =
-      let z : threadIn (set w 1 n) k .items ≡ threadIn w k .items = ap (λ (x : ThreadWords). x .items) (thread-kept w k n) in
-      let l : threadIn w k .items ≤ 25 = h .items in
-      omega arith
+  settle-items = rw (ap (λ (x : ThreadWords). x .items) thread-kept) (h .items)
 
   module _ (v : List ℕ) (e : v ≡ putThread (set w 1 n) k (popped (threadIn (set w 1 n) k))) where
     wide : Wide (popped (threadIn w k))
     wide = popped-wide (threadIn w k) (in-wide w k (h .all) (h .thread))
 
     popped-in : v ≡ putThread (set w 1 n) k (popped (threadIn w k))
-    popped-in = e ∙ ap (λ (x : ThreadWords). putThread (set w 1 n) k (popped x)) (thread-kept w k n)
+    popped-in = e ∙ ap (λ (x : ThreadWords). putThread (set w 1 n) k (popped x)) thread-kept
 
     here : threadIn v k ≡ popped (threadIn w k)
     here = ap (λ (l : List ℕ). threadIn l k) popped-in ∙ in-with (set w 1 n) k counted (h .thread) (popped (threadIn w k)) wide
@@ -77,16 +79,24 @@ module _ (w : List ℕ) (k n : ℕ) (c : Change) (h : SettleWords w k c) where
     settled u q = with-next (set w 1 n) k counted (h .thread) v u (popped (threadIn w k)) (changed c) wide (changed-wide c (popped (threadIn w k)) wide) popped-in q
 
 -- ---- a scheduler, 2 to 9
-pub list-low : (q h : ℕ) → h ≡ 2 → q < h → false ≡ isList q
-list-low q h e l = let g : q < 2 = rw e at l in ap (λ (t : Bool). t && leb q 9) (sym (lt-leb 2 q g))
+pub below-lists : (q h : ℕ) → h ≡ 2 → q < h → false ≡ isList q
+below-lists q h e l = let g : q < 2 = rw e at l in ap (λ (t : Bool). t && leb q 9) (sym (lt-leb 2 q g))
 
-pub list-last : (q h k : ℕ) → h ≡ 2 → k ≡ 9 → h ≤ q → leb q k ≡ isList q
-list-last q h k e f l = let g : 2 ≤ q = rw e at l in ap (leb q) f ∙ ap (λ (t : Bool). t && leb q 9) (sym (le-leb 2 q g))
+pub up-to-last : (q h k : ℕ) → h ≡ 2 → k ≡ 9 → h ≤ q → leb q k ≡ isList q
+up-to-last q h k e f l = let g : 2 ≤ q = rw e at l in ap (leb q) f ∙ ap (λ (t : Bool). t && leb q 9) (sym (le-leb 2 q g))
 
-pub ruleset list-laws = (list-low, list-last)
+pub ruleset list-laws = (below-lists, up-to-last)
 
-pub list-in : (q : ℕ) (b : Bool) → b ≡ isList q → not b ≡ false → (2 ≤ q) × (q ≤ 9)
-list-in q b e h = let p = and-true (leb 2 q) (leb q 9) (sym e ∙ not-false b h) in (leb-true 2 q (p .0), leb-true q 9 (p .1))
+-- the block of its lists is one of 8
+pub list-block : (q : ℕ) → isList q ≡ true → (2 ≤ q) × (q - 2 < 8)
+list-block q e =
+    let b = and-true (leb 2 q) (leb q 9) e in
+    let low = leb-true 2 q (b .0) in
+    let high = leb-true q 9 (b .1) in
+    (low, omega arith)
+
+pub list-in : (q : ℕ) (b : Bool) → b ≡ isList q → not b ≡ false → (2 ≤ q) × (q - 2 < 8)
+list-in q b e h = list-block q (sym e ∙ not-false b h)
 
 module _ (w : List ℕ) (q : ℕ) (b : Bool) (e : b ≡ isList q) where
   pub left-none : not b ≡ true → w ≡ leftIn w q

@@ -1,4 +1,4 @@
--- From the layout's answer and a call's to that of the stepper. Assumes nothing.
+-- The answers of the public calls: the layout's refusal of the text, else what the call on the text's frames gives. Assumes nothing.
 use Prim.Native.Nat.{ℕ}
 use mathlib.Core.Path.{_≡_, refl, sym, ap, _∙_}
 use mathlib.Core.List.{List}
@@ -57,7 +57,7 @@ refused-14 = answer-refused 14 0 (λ h. omega arith)
 pub done-0 : A.Done 0 ≡ answerTo 0 0
 done-0 = answer-done 0 0 refl
 
--- ---- a step on frames
+-- ---- a step on frames: 14, or the step on words in range
 module _ (frames w : List ℕ) (file : File) (e : file ≡ fileOf (programOf (framesOf frames))) where
   range-of : (x : Bool) → x ≡ inRange (framesOf frames) (file .schedulers) w → x ≡ inRange (framesOf frames) (programOf (framesOf frames) .schedulers) w
   range-of x q = q ∙ ap (λ (f : File). inRange (framesOf frames) (f .schedulers) w) e
@@ -73,7 +73,7 @@ module _ (frames w : List ℕ) (file : File) (e : file ≡ fileOf (programOf (fr
 pub step-in : (s : Stepped) (r : Answer) (v : List ℕ) (k : Called) → steppedOn s v ≡ k → r ≡ answerTo (s .answer) (s .thread) → answered r v ≡ calledAs k
 step-in s r v k e h = ap (λ (a : Answer). answered a v) h ∙ ap calledAs e
 
--- ---- a text
+-- ---- a text: a rejected one gives that refusal whatever the call (`by-reading`), an accepted one what the call gives (`by-call`)
 module _ (bs : List ℕ) (l : LaidOut) (e : l ≡ laidOut bs) where
   module _ (v : Verdict) (n j : ℕ) (h : v ≡ l .verdict) (z : v ≡ Rejected n j) where
     pub fresh-rejected : (w : List ℕ) → answered (A.Rejected n j) w ≡ freshText bs w

@@ -6,17 +6,17 @@ use mathlib.Core.Bool.{Bool, true, false, _&&_}
 use native.Mathlib.Omega.{arith}
 use lib.Dec.{leb, eqb}
 use lib.ListN.{length, length-set}
-use borrow.Author.Tests.{leb-true, le-leb}
+use borrow.Author.Tests.{leb-true, le-leb, eqb-false}
 use Rattle.basics.specs.If.{if_then_else_}
 use Rattle.basics.proofs.Ifs.{if-all, if-yes, if-no, and-true}
-use Rattle.language.specs.Places.{hasScheduler}
+use Rattle.language.specs.Places.{private, hasPlace, hasScheduler}
 use Rattle.language.specs.declared.frame.Frame.{Frame}
 use Rattle.program.specs.Programs.{Program}
 use Rattle.machine.specs.Accesses.{Access}
 use Rattle.machine.specs.State.{State, Stored, Thread, Entry, plain, schedulerAt, enlist}
 use Rattle.machine.specs.Turns.{Stepped, Turn, refuse, accept, settled, isSchedulerOf, leave, room}
 use Rattle.machine.specs.Words.{pack, entryWord}
-use Rattle.machine.specs.Blocks.{pasted, cellWords}
+use Rattle.machine.specs.Blocks.{pasted}
 use Rattle.machine.specs.Calls.{Called, calledOf}
 use Rattle.machine.proofs.WordLaws.{Says, is-pack}
 use Rattle.machine.proofs.Shapes.{Shaped}
@@ -25,13 +25,12 @@ use Rattle.states.specs.declared.thread.ThreadWords.{ThreadWords}
 use Rattle.states.specs.Threads.{wordsOf}
 use Rattle.acts.specs.declared.act.Fate.the-variants.{Stays, Leaves, Joins}
 use Rattle.acts.specs.Fates.{Turned, actedIn, refusedIn}
+use Rattle.turns.specs.Acts.{ActedOn}
 use Rattle.commits.specs.Commits.{called, settledIn, isList, leftIn, roomIn, joinsIn, committedIn}
 use Rattle.stepper.proofs.Grows.{Grown}
-use Rattle.stepper.proofs.Commits.{left-says, joined-says, settled-says, room-is, cleared-is}
+use Rattle.stepper.proofs.Commits.{withCellWords, left-says, joined-says, settled-says, room-is, cleared-is}
 
-pub less-one : (k : ℕ) → suc k - 1 ≡ k
-less-one k = omega arith
-
+-- ---- schedulers: how many there are, and which
 pub leave-count : (u : Turn) (s : State) → length (leave u s .schedulers) ≡ length (s .schedulers)
 unfolding leave
 leave-count u s =
@@ -42,7 +41,28 @@ pub enlist-count : (q : ℕ) (e : Entry) (s : State) → length (enlist q e s .s
 unfolding enlist
 enlist-count q e s = length-set (s .schedulers) (q - 2) _
 
--- thread k + 1 is there and acts at choice c, on words w of the state s
+-- a place of the file that is not private is a scheduler
+pub place-scheduler : (n q : ℕ) → hasPlace n q ≡ true → eqb q private ≡ false → hasScheduler n q ≡ true
+place-scheduler n q p e =
+    let b = and-true (leb 1 q) (leb q (1 + n)) p in
+    let low = leb-true 1 q (b .0) in
+    let other = eqb-false q 1 e in
+    ap₂ _&&_ (le-leb 2 q (omega arith)) (b .1)
+
+-- a scheduler of the file has its lists in the state and in the words
+pub scheduler-there : {fs : List Frame} {P : Program} {n : ℕ} {s : State} → FileFits fs P n → Shaped fs n s → (q : ℕ) → hasScheduler n q ≡ true → (q - 2 < length (s .schedulers)) × (isList q ≡ true)
+scheduler-there {n = n} F S q e =
+    let b = and-true (leb 2 q) (leb q (1 + n)) e in
+    let l = leb-true 2 q (b .0) in
+    let m = leb-true q (1 + n) (b .1) in
+    let z = S .count in
+    let y = F .most-schedulers in
+    (omega arith, ap₂ _&&_ (b .0) (le-leb q 9 (omega arith)))
+
+less-one : (k : ℕ) → suc k - 1 ≡ k
+less-one k = omega arith
+
+-- ---- thread k + 1 is there and acts at choice c, on words w of the state s
 pub record Acts (fs : List Frame) (P : Program) (n : ℕ) (w : List ℕ) (s : State) (c k : ℕ) : Type 0 where
   pub file : FileFits fs P n
   pub says : Says w s
@@ -55,21 +75,19 @@ module _ {fs : List Frame} {P : Program} {n : ℕ} {w : List ℕ} {s : State} {c
   abbrev pub turnAt : Thread → List Stored → List Access → Turn
   turnAt x cs acc = record { program = P; state = s; choice = c; thread = suc k; self = x; cells = cs; accesses = acc }
 
+  -- what the turn has come to, committed: on the words with those cells, and where the cells are given as words
   abbrev pub commit : Turned → List Stored → Called
-  commit a cs = committedIn P (pasted w 4562 (cellWords cs) 256) (length (s .cells)) c (suc k) a (a .fate)
+  commit a cs = committedIn P (withCellWords w cs) (length (s .cells)) c (suc k) a (a .fate)
+
+  abbrev pub commitOn : ActedOn → Called
+  commitOn r = committedIn P (pasted w 4562 (r .cells) 256) (length (s .cells)) c (suc k) (r .acted) (r .acted .fate)
 
   -- ---- what holds of lists
-  pub few : k < 64
+  few : k < 64
   few = let a = A .shape .threads-room in let b = A .there in omega arith
 
   pub list-there : (q : ℕ) → hasScheduler n q ≡ true → (q - 2 < length (s .schedulers)) × (isList q ≡ true)
-  list-there q e =
-      let b = and-true (leb 2 q) (leb q (1 + n)) e in
-      let l = leb-true 2 q (b .0) in
-      let m = leb-true q (1 + n) (b .1) in
-      let z = A .shape .count in
-      let y = A .file .most-schedulers in
-      (omega arith, ap₂ _&&_ (b .0) (le-leb q 9 (omega arith)))
+  list-there q e = scheduler-there (A .file) (A .shape) q e
 
   chosen-there : isSchedulerOf P c ≡ true → c - 2 < length (s .schedulers)
   unfolding isSchedulerOf
@@ -79,33 +97,36 @@ module _ {fs : List Frame} {P : Program} {n : ℕ} {w : List ℕ} {s : State} {c
   active-few q = scheduler-fits fs P n (A .file) s (A .shape) q .active-room
 
   module _ (x : Thread) (cs : List Stored) (acc : List Access) where
+    abbrev u : Turn
+    u = turnAt x cs acc
+
     -- ---- refused
-    pub refuse-is : (m : ℕ) (th : ThreadWords) → Grown (s .cells) cs → length cs ≤ 256 → eqb m 0 ≡ false → commit (refusedIn m th (length cs)) cs ≡ calledOf w (refuse (turnAt x cs acc) m)
+    pub refuse-is : (m : ℕ) (th : ThreadWords) → Grown (s .cells) cs → length cs ≤ 256 → eqb m 0 ≡ false → commit (refusedIn m th (length cs)) cs ≡ calledOf w (refuse u m)
     refuse-is m th g l e =
         ap (called m (suc k)) (cleared-is w s (A .says) cs g l) ∙ ap (λ (b : Bool). called m (suc k) (elim b [ true ↦ pack s | false ↦ w ])) (sym e)
 
-    -- ---- the thread is y
+    -- ---- the acting thread is y behind the turn
     module _ (y : Thread) where
       abbrev after : State
-      after = settled (turnAt x cs acc) y
+      after = settled u y
 
-      pub settled-is : Says (settledIn (pasted w 4562 (cellWords cs) 256) (suc k - 1) (wordsOf y) (length cs)) (settled (turnAt x cs acc) y)
+      pub settled-is : Says (settledIn (withCellWords w cs) (suc k - 1) (wordsOf y) (length cs)) after
       settled-is =
-          subst (λ (i : ℕ). Says (settledIn (pasted w 4562 (cellWords cs) 256) i (wordsOf y) (length cs)) (settled (turnAt x cs acc) y)) (sym (less-one k))
+          subst (λ (i : ℕ). Says (settledIn (withCellWords w cs) i (wordsOf y) (length cs)) after) (sym (less-one k))
           (settled-says w s (A .says) cs k y few (A .there))
 
-      pub left-is : Says (leftIn (settledIn (pasted w 4562 (cellWords cs) 256) (suc k - 1) (wordsOf y) (length cs)) c) (leave (turnAt x cs acc) (settled (turnAt x cs acc) y))
-      left-is = left-says _ after settled-is (turnAt x cs acc) (A .list) chosen-there (active-few c)
+      pub left-is : Says (leftIn (settledIn (withCellWords w cs) (suc k - 1) (wordsOf y) (length cs)) c) (leave u after)
+      left-is = left-says _ after settled-is u (A .list) chosen-there (active-few c)
 
-      pub stays-is : commit (actedIn Stays (wordsOf y) (length cs)) cs ≡ calledOf w (accept (turnAt x cs acc) (settled (turnAt x cs acc) y))
+      pub stays-is : commit (actedIn Stays (wordsOf y) (length cs)) cs ≡ calledOf w (accept u after)
       stays-is = ap (called 0 (suc k)) (is-pack _ after settled-is)
 
-      pub leaves-is : commit (actedIn Leaves (wordsOf y) (length cs)) cs ≡ calledOf w (accept (turnAt x cs acc) (leave (turnAt x cs acc) (settled (turnAt x cs acc) y)))
-      leaves-is = ap (called 0 (suc k)) (is-pack _ (leave (turnAt x cs acc) after) left-is)
+      pub leaves-is : commit (actedIn Leaves (wordsOf y) (length cs)) cs ≡ calledOf w (accept u (leave u after))
+      leaves-is = ap (called 0 (suc k)) (is-pack _ (leave u after) left-is)
 
       pub joins-is : (q : ℕ) → hasScheduler n q ≡ true → Grown (s .cells) cs → length cs ≤ 256
           → commit (actedIn (Joins q) (wordsOf y) (length cs)) cs
-          ≡ calledOf w (if room (turnAt x cs acc) 1 q then accept (turnAt x cs acc) (enlist q (plain (suc k)) (leave (turnAt x cs acc) (settled (turnAt x cs acc) y))) else refuse (turnAt x cs acc) 20)
+          ≡ calledOf w (if room u 1 q then accept u (enlist q (plain (suc k)) (leave u after)) else refuse u 20)
       unfolding joinsIn room entryWord
       joins-is q e g l =
           if-all (λ (r : Stepped). commit (actedIn (Joins q) (wordsOf y) (length cs)) cs ≡ calledOf w r) (leb (length (schedulerAt s q .next) + 1) 64) _ _
@@ -116,10 +137,10 @@ module _ {fs : List Frame} {P : Program} {n : ℕ} {w : List ℕ} {s : State} {c
           z = list-there q e
 
           left : State
-          left = leave (turnAt x cs acc) (settled (turnAt x cs acc) y)
+          left = leave u after
 
-          same : roomIn (pasted w 4562 (cellWords cs) 256) q 1 ≡ leb (length (schedulerAt s q .next) + 1) 64
+          same : roomIn (withCellWords w cs) q 1 ≡ leb (length (schedulerAt s q .next) + 1) 64
           same = room-is w s (A .says) cs q 1 (z .1) (z .0)
 
-          short : length (schedulerAt s q .next) + 1 ≤ 64 → length (schedulerAt (leave (turnAt x cs acc) (settled (turnAt x cs acc) y)) q .next) < 64
-          short h = let e = leave-next fs P n (A .file) (turnAt x cs acc) after q in omega arith
+          short : length (schedulerAt s q .next) + 1 ≤ 64 → length (schedulerAt (leave u after) q .next) < 64
+          short h = let e = leave-next fs P n (A .file) u after q in omega arith

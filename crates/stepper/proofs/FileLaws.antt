@@ -4,8 +4,7 @@ use mathlib.Core.Path.{_≡_, refl, sym, ap, _∙_}
 use mathlib.Core.List.{List, _∷_}
 use mathlib.Core.Bool.{Bool, true, false, not, true≢false}
 use native.Mathlib.Omega.{arith}
-use lib.ListN.{getD, length, drop, length-map, drop-of-length-le}
-use lib.Seq.{drop-cons}
+use lib.ListN.{getD, length, drop, drop-of-length-le}
 use borrow.Author.Tests.{eq-eqb, ne-eqb, not-true, not-false}
 use Rattle.basics.proofs.Ifs.{if-yes, if-no}
 use Rattle.language.specs.declared.kind.Kind.{Kind}
@@ -16,6 +15,7 @@ use Rattle.program.specs.Trees.{noFrame}
 use Rattle.program.specs.Programs.{sharedOf, allowanceOf, programOf}
 use Rattle.states.specs.Starts.{isShared}
 use Rattle.states.proofs.RangeLaws.{frame-at}
+use Rattle.commits.proofs.ModuleLaws.{frames-length, next-frame}
 use Rattle.reach.proofs.Passed.{schedulers-range, some-frame}
 use Rattle.stepper.specs.declared.file.File.{File}
 use Rattle.stepper.specs.Files.{FileWords, fileOf}
@@ -57,9 +57,6 @@ count-yes f fs e = by (f .kind) refl
     by (Expression k) q = absurd (true≢false (sym e ∙ ap isShared q))
     by Unknown q = absurd (true≢false (sym e ∙ ap isShared q))
 
-frames-length : (words : List ℕ) → length (framesOf words) ≡ length words
-frames-length words = length-map words frameOfWord
-
 -- i frames are read, and n shared cells were among them
 pub record Counting (words : List ℕ) (i n : ℕ) : Type 0 where
   pub sum : n + length (sharedOf (drop i (framesOf words))) ≡ length (sharedOf (framesOf words))
@@ -69,10 +66,7 @@ counting-start words = record { sum = omega arith }
 
 module _ (words : List ℕ) (i n : ℕ) (f : Frame) (t : Bool) (s : Counting words i n) (l : i < length words) (e : f ≡ frameOfWord (getD words i 0)) (q : t ≡ isShared (f .kind)) where
   here : drop i (framesOf words) ≡ f ∷ drop (i + 1) (framesOf words)
-  here =
-      let z : suc i ≡ i + 1 = omega arith in
-      drop-cons (framesOf words) i noFrame (rw (frames-length words) l) ∙ ap (λ (g : Frame). g ∷ drop (suc i) (framesOf words)) (frame-at words i l ∙ sym e)
-      ∙ ap (λ (k : ℕ). f ∷ drop k (framesOf words)) z
+  here = next-frame words i f l e
 
   pub counting-other : not t ≡ true → Counting words (i + 1) n
   counting-other h = record { sum = ap (λ (k : ℕ). n + k) (sym (ap (λ (fs : List Frame). length (sharedOf fs)) here ∙ count-no f _ (sym q ∙ not-true t h))) ∙ s .sum }

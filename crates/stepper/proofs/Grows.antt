@@ -94,7 +94,7 @@ grows-eval h (choose i x y z) cs =
     grows-then (eval h x) _ cs (grows-eval h x cs)
     (λ v ds. grows-then (byTruth v (eval h y) (eval h z)) _ ds (grows-by v (eval h y) (eval h z) ds (grows-eval h y ds) (grows-eval h z ds)) (λ w es. grows-number w es))
 
--- ---- 17: unless it gives a value
+-- ---- 17's store changes an old cell only where it gives a value: unless it does, the cells have only grown
 abbrev pub UnlessValue : Outcome → Type 0 → Type 0
 UnlessValue (Is v) A = Unit {0}
 UnlessValue Foreign A = A
@@ -104,13 +104,13 @@ UnlessValue Stuck A = A
 abbrev Unless : List Stored → Evaluated → Type 0
 Unless cs r = UnlessValue (r .outcome) (Grown cs (r .cells))
 
-unless-on : (o : Outcome) (cs ds es : List Stored) → Grown cs ds → UnlessValue o (Grown ds es) → UnlessValue o (Grown cs es)
+pub unless-on : (o : Outcome) (cs ds es : List Stored) → Grown cs ds → UnlessValue o (Grown ds es) → UnlessValue o (Grown cs es)
 unless-on (Is v) cs ds es g h = tt
 unless-on Foreign cs ds es g h = grown-on g h
 unless-on Spent cs ds es g h = grown-on g h
 unless-on Stuck cs ds es g h = grown-on g h
 
-unless-grown : (o : Outcome) {cs ds : List Stored} → Grown cs ds → UnlessValue o (Grown cs ds)
+pub unless-grown : (o : Outcome) {cs ds : List Stored} → Grown cs ds → UnlessValue o (Grown cs ds)
 unless-grown (Is v) g = tt
 unless-grown Foreign g = g
 unless-grown Spent g = g

@@ -1,18 +1,13 @@
 -- A thread's turn, on words, comes to what the rules say of its top item. Assumes nothing.
-use Prim.Native.Nat.{ℕ, zero, suc, _<_, _≤_}
-use mathlib.Core.Path.{_≡_, refl, sym, ap, _∙_, subst}
+use Prim.Native.Nat.{ℕ, suc, _≤_}
+use mathlib.Core.Path.{_≡_, refl, ap, _∙_, subst}
 use mathlib.Core.List.{List, [], _∷_, _++_, map}
 use mathlib.Core.Bool.{Bool, true, false}
 use native.Mathlib.Omega.{arith}
-use lib.ListN.{length, take, length-map}
-use lib.Seq.{ext-getD, getD-take, length-take-le}
+use lib.ListN.{length, length-map}
 use Rattle.basics.specs.Members.{All, none, more}
-use Rattle.language.specs.declared.kind.StatementKind.{StatementKind}
-use Rattle.language.specs.declared.kind.StatementKind.the-variants as K
-use Rattle.language.specs.declared.kind.Kind.{Kind}
-use Rattle.language.specs.declared.kind.Kind.the-variants.{Header, Shared, Module, Statement, Expression, Unknown}
 use Rattle.language.specs.declared.frame.Frame.{Frame}
-use Rattle.program.specs.Trees.{Expr, Stmt, nothing, seq, doAt, start, startWait, cooperate, letIn, store, ifElse, while, rootS, frameAt, arguments, statementWith, statementOf, statementTo, statementAt, expressionAt}
+use Rattle.program.specs.Trees.{Expr, Stmt, while, rootS}
 use Rattle.program.specs.Programs.{Program}
 use Rattle.machine.specs.Accesses.{Access}
 use Rattle.machine.specs.State.{State, Stored, Thread, run, drop}
@@ -20,13 +15,12 @@ use Rattle.machine.specs.Evaluation.{Here, Evaluated, Evaluation, eval, storing
 use Rattle.machine.specs.Turns.{Stepped, Turn, continuation, variables, accept, evaluator, behind, goOn, withValue, withValues, byCondition, stay, settled}
 use Rattle.machine.specs.Statements.{stepNothing, stepSeq, stepStart, stepStartWait, stepLet, stepStore, stepIf, stepWhile, starting, startedWait, withStarted, stepStatement}
 use Rattle.machine.specs.Words.{itemWord, valueWord, wordValue}
-use Rattle.machine.specs.Blocks.{pasted, padded, cellWords}
-use Rattle.machine.specs.Calls.{Called, calledOf}
+use Rattle.machine.specs.Blocks.{cellWords}
+use Rattle.machine.specs.Calls.{calledOf}
 use Rattle.machine.specs.declared.value.Value.{Value}
 use Rattle.machine.specs.declared.value.Value.the-variants.{Number, Truth, Cell}
 use Rattle.machine.specs.declared.value.Outcome.{Outcome}
 use Rattle.machine.specs.declared.value.Outcome.the-variants.{Is, Foreign, Spent, Stuck}
-use Rattle.machine.proofs.Padded.{padded-length, padded-at}
 use Rattle.machine.proofs.Round.{value-back, map-back}
 use Rattle.machine.proofs.Shapes.{ValueFits, ThreadFits}
 use Rattle.machine.proofs.KeptCells.{CellsFit, HereFits, ExprFits, OutcomeFits, EvalFits, fit-eval, fit-storing}
@@ -37,83 +31,30 @@ use Rattle.evaluator.proofs.Holding.{Holds, holds-cells}
 use Rattle.states.specs.Threads.{wordsOf}
 use Rattle.acts.specs.Fates.{Turned}
 use Rattle.turns.specs.Acts.{ActedOn, actedOn, thenActs, thenOn, byTruthIn, letsOn, storesOn, choosesOn, loopsOn, variablesIn, evaluatedIn, storedIn, request, startsIn, oneArgument, lastArgument, twoArguments, statementIn}
-use Rattle.commits.specs.Commits.{committedIn}
-use Rattle.stepper.proofs.Grows.{Grown, grown-on, grows-eval, UnlessValue, grows-storing}
-use Rattle.stepper.proofs.Fates.{Acts, turnAt, commit, refuse-is}
+use Rattle.stepper.proofs.Grows.{Grown, grown-on, grows-eval, UnlessValue, unless-on, unless-grown, grows-storing}
+use Rattle.stepper.proofs.Fates.{Acts, turnAt, commit, commitOn, refuse-is}
+use Rattle.stepper.proofs.Arguments.{FewArguments}
+use Rattle.stepper.proofs.Variables.{variables-words}
 use Rattle.stepper.proofs.StartFates.{argued, start-commits, started-is, waits-is}
 use Rattle.stepper.proofs.Moves.{stay-none, stay-one, stay-two, stay-let, does-is, cooperates-is}
 
-pub take-padded : (n : ℕ) (ws : List ℕ) → length ws ≤ n → take (length ws) (padded n ws) ≡ ws
-take-padded n ws h =
-    ext-getD 0 (take (length ws) (padded n ws)) ws long
-    (λ j g. let l : j < length ws = rw long at g in getD-take (length ws) (padded n ws) j 0 l ∙ padded-at n ws j (omega arith))
-  where
-    long : length (take (length ws) (padded n ws)) ≡ length ws
-    long = length-take-le (length ws) (padded n ws) (rw (padded-length n ws) h)
-
--- at most two arguments
-abbrev pub Short : Stmt → Type 0
-Short (start i m xs) = length xs ≤ 2
-Short (startWait i m xs) = length xs ≤ 2
-Short (nothing i) = Unit {0}
-Short (cooperate i) = Unit {0}
-Short (seq i a b) = Unit {0}
-Short (doAt i q a) = Unit {0}
-Short (letIn i x a) = Unit {0}
-Short (store i x y) = Unit {0}
-Short (ifElse i x a b) = Unit {0}
-Short (while i x a) = Unit {0}
-
-few-arguments : (f : ℕ → Expr) (a b : ℕ) → length (arguments f a b) ≤ 2
-few-arguments f zero b = omega arith
-few-arguments f (suc a) zero = omega arith
-few-arguments f (suc a) (suc b) = omega arith
-
-pub short-at : (fs : List Frame) (i : ℕ) → Short (statementAt fs i)
-unfolding statementAt statementTo
-short-at fs i = of (frameAt fs i .kind)
-  where
-    by : (k : StatementKind) → Short (statementWith (λ j. expressionAt fs j) (λ j. statementTo i fs j) i (frameAt fs i) k)
-    by K.Nothing = tt
-    by K.Then = tt
-    by K.DoAt = tt
-    by K.Start = few-arguments (λ j. expressionAt fs j) (frameAt fs i .a) (frameAt fs i .b)
-    by K.StartWait = few-arguments (λ j. expressionAt fs j) (frameAt fs i .a) (frameAt fs i .b)
-    by K.Cooperate = tt
-    by K.Let = tt
-    by K.Store = tt
-    by K.If = tt
-    by K.While = tt
-
-    of : (k : Kind) → Short (statementOf (λ j. expressionAt fs j) (λ j. statementTo i fs j) i (frameAt fs i) k)
-    of (Statement k) = by k
-    of (Expression k) = tt
-    of Header = tt
-    of Shared = tt
-    of Module = tt
-    of Unknown = tt
-
--- who acts
-pub record Is-who (P : Program) (k : ℕ) (x : Thread) (who : Who) : Type 0 where
+-- who evaluates is thread k + 1, which is x
+pub record IsWho (P : Program) (k : ℕ) (x : Thread) (who : Who) : Type 0 where
   pub thread : who .thread ≡ suc k
   pub place : who .place .number ≡ x .place
   pub shared : who .shared ≡ length (P .shared)
 
-module _ {fs : List Frame} {P : Program} {n : ℕ} {w : List ℕ} {s : State} {c k : ℕ} (A : Acts fs P n w s c k) (x : Thread) (X : ThreadFits fs n x) (who : Who) (W : Is-who P k x who) where
+module _ {fs : List Frame} {P : Program} {n : ℕ} {w : List ℕ} {s : State} {c k : ℕ} (A : Acts fs P n w s c k) (x : Thread) (X : ThreadFits fs n x) (who : Who) (W : IsWho P k x who) where
   abbrev vs : List Value
   vs = x .variables
 
-  -- what a turn with those cells in words is to be committed to
-  abbrev commitOn : ActedOn → Called
-  commitOn r = committedIn P (pasted w 4562 (r .cells) 256) (length (s .cells)) c (suc k) (r .acted) (r .acted .fate)
-
+  -- ---- an evaluation on words is the one of the rules
   module _ (cs : List Stored) (acc : List Access) where
     here-same : hereOf who (variablesIn (wordsOf x)) ≡ evaluator (turnAt A x cs acc)
     here-same = λ i. record {
       thread = W .thread i;
       place = W .place i;
-      variables = (ap (λ (j : ℕ). map wordValue (take j (padded 25 (map valueWord vs)))) (sym (length-map vs valueWord))
-          ∙ ap (map wordValue) (take-padded 25 (map valueWord vs) (rw (length-map vs valueWord) (X .variables-room))) ∙ map-back ValueFits valueWord wordValue value-back vs (X .values)) i;
+      variables = (ap (map wordValue) (variables-words x (X .variables-room)) ∙ map-back ValueFits valueWord wordValue value-back vs (X .values)) i;
       shared = W .shared i;
     }
 
@@ -129,6 +70,9 @@ module _ {fs : List Frame} {P : Program} {n : ℕ} {w : List ℕ} {s : State} {c
       evaluation-is m =
           ap (λ (ds : List Stored). resultOf (m (hereOf who (variablesIn (wordsOf x))) ds)) (holds-cells (length cs) (cellWords cs) cs held)
           ∙ ap (λ (h : Here). resultOf (m h cs)) here-same
+
+      pub eval-fits : (e : Expr) → ExprFits n e → EvalFits n (eval (evaluator (turnAt A x cs acc)) e cs)
+      eval-fits e E = fit-eval (evaluator (turnAt A x cs acc)) cs here-fits C E
 
   -- ---- behind an evaluation
   module _ (cs : List Stored) (acc : List Access) (l : length cs ≤ 256) where
@@ -146,12 +90,6 @@ module _ {fs : List Frame} {P : Program} {n : ℕ} {w : List ℕ} {s : State} {c
     by-truth (Number m) a b y z g f h = refuse-is A x cs acc 20 (wordsOf x) g l refl
     by-truth (Cell d) a b y z g f h = refuse-is A x cs acc 20 (wordsOf x) g l refl
 
-  any : (o : Outcome) {cs : List Stored} → Grown (s .cells) cs → UnlessValue o (Grown (s .cells) cs)
-  any (Is v) g = tt
-  any Foreign g = g
-  any Spent g = g
-  any Stuck g = g
-
   module _ (cs : List Stored) (acc : List Access) (C : CellsFit n cs) (g : Grown (s .cells) cs) where
     abbrev u : Turn
     u = turnAt A x cs acc
@@ -161,61 +99,55 @@ module _ {fs : List Frame} {P : Program} {n : ℕ} {w : List ℕ} {s : State} {c
       abbrev r : Evaluated
       r = eval (evaluator u) e cs
 
-      pub fit : EvalFits n (eval (evaluator (turnAt A x cs acc)) e cs)
-      fit = fit-eval (evaluator u) cs (here-fits cs acc) C E
+      fits : EvalFits n r
+      fits = eval-fits cs acc C e E
 
-      grown : Grown (s .cells) (eval (evaluator (turnAt A x cs acc)) e cs .cells)
+      grown : Grown (s .cells) (r .cells)
       grown = grown-on g (grows-eval (evaluator u) e cs)
 
       value-is : (On : Result → ActedOn) (K : Value → Turned) (F : Value → Turn → Stepped)
-          → On (resultOf (eval (evaluator (turnAt A x cs acc)) e cs)) ≡ actedOn (thenActs (eval (evaluator (turnAt A x cs acc)) e cs .outcome) (wordsOf x) (length (eval (evaluator (turnAt A x cs acc)) e cs .cells)) K) (cellWords (eval (evaluator (turnAt A x cs acc)) e cs .cells))
-          → ((v : Value) → OutcomeFits (Is v) → commit A (K v) (eval (evaluator (turnAt A x cs acc)) e cs .cells) ≡ calledOf w (F v (behind (turnAt A x cs acc) (eval (evaluator (turnAt A x cs acc)) e cs))))
-          → commitOn (On (evaluatedIn who (wordsOf x) e (length cs) (cellWords cs))) ≡ calledOf w (withValue (turnAt A x cs acc) (λ h. eval h e) F)
+          → On (resultOf r) ≡ actedOn (thenActs (r .outcome) (wordsOf x) (length (r .cells)) K) (cellWords (r .cells))
+          → ((v : Value) → OutcomeFits (Is v) → commit A (K v) (r .cells) ≡ calledOf w (F v (behind u r)))
+          → commitOn A (On (evaluatedIn who (wordsOf x) e (length cs) (cellWords cs))) ≡ calledOf w (withValue u (λ h. eval h e) F)
       value-is On K F z f =
-          ap (λ (q : Result). commitOn (On q)) (evaluation-is cs acc C (λ h. eval h e)) ∙ ap commitOn z
-          ∙ then-is (r .cells) (acc ++ r .accesses) (fit .cells .room) (r .outcome) K F (any (r .outcome) grown) (λ v q. f v (subst OutcomeFits q (fit .outcome)))
+          ap (λ (q : Result). commitOn A (On q)) (evaluation-is cs acc C (λ h. eval h e)) ∙ ap (commitOn A) z
+          ∙ then-is (r .cells) (acc ++ r .accesses) (fits .cells .room) (r .outcome) K F (unless-grown (r .outcome) grown) (λ v q. f v (subst OutcomeFits q (fits .outcome)))
 
     -- ---- each kind of statement with expressions
-    let-is : (e : Expr) (a : Stmt) → ExprFits n e → commitOn (letsOn (wordsOf x) (rootS a) (evaluatedIn who (wordsOf x) e (length cs) (cellWords cs))) ≡ calledOf w (stepLet (turnAt A x cs acc) e a)
+    let-is : (e : Expr) (a : Stmt) → ExprFits n e → commitOn A (letsOn (wordsOf x) (rootS a) (evaluatedIn who (wordsOf x) e (length cs) (cellWords cs))) ≡ calledOf w (stepLet u e a)
     unfolding stepLet
     let-is e a E =
         value-is e E (letsOn (wordsOf x) (rootS a)) _ (λ v y. stay y (run a ∷ drop ∷ continuation y) (variables y ++ (v ∷ []))) refl
-        (λ v _. stay-let A x X (r e E .cells) (acc ++ r e E .accesses) (grown e E) (fit e E .cells .room) v a)
+        (λ v _. stay-let A x X (r e E .cells) (acc ++ r e E .accesses) (grown e E) (fits e E .cells .room) v a)
 
-    if-is : (e : Expr) (a b : Stmt) → ExprFits n e → commitOn (choosesOn (wordsOf x) (rootS a) (rootS b) (evaluatedIn who (wordsOf x) e (length cs) (cellWords cs))) ≡ calledOf w (stepIf (turnAt A x cs acc) e a b)
+    if-is : (e : Expr) (a b : Stmt) → ExprFits n e → commitOn A (choosesOn (wordsOf x) (rootS a) (rootS b) (evaluatedIn who (wordsOf x) e (length cs) (cellWords cs))) ≡ calledOf w (stepIf u e a b)
     unfolding stepIf itemWord
     if-is e a b E =
         value-is e E (choosesOn (wordsOf x) (rootS a) (rootS b)) _ (λ v y. byCondition y v (stay y (run a ∷ continuation y) (variables y)) (stay y (run b ∷ continuation y) (variables y))) refl
-        (λ v _. by-truth (r e E .cells) (acc ++ r e E .accesses) (fit e E .cells .room) v _ _ _ _ (grown e E)
-        (stay-one A x X (r e E .cells) (acc ++ r e E .accesses) (grown e E) (fit e E .cells .room) (run a))
-        (stay-one A x X (r e E .cells) (acc ++ r e E .accesses) (grown e E) (fit e E .cells .room) (run b)))
+        (λ v _. by-truth (r e E .cells) (acc ++ r e E .accesses) (fits e E .cells .room) v _ _ _ _ (grown e E)
+        (stay-one A x X (r e E .cells) (acc ++ r e E .accesses) (grown e E) (fits e E .cells .room) (run a))
+        (stay-one A x X (r e E .cells) (acc ++ r e E .accesses) (grown e E) (fits e E .cells .room) (run b)))
 
-    while-is : (i : ℕ) (e : Expr) (a : Stmt) → ExprFits n e → commitOn (loopsOn (wordsOf x) (rootS a) i (evaluatedIn who (wordsOf x) e (length cs) (cellWords cs))) ≡ calledOf w (stepWhile (turnAt A x cs acc) e a (while i e a))
+    while-is : (i : ℕ) (e : Expr) (a : Stmt) → ExprFits n e → commitOn A (loopsOn (wordsOf x) (rootS a) i (evaluatedIn who (wordsOf x) e (length cs) (cellWords cs))) ≡ calledOf w (stepWhile u e a (while i e a))
     unfolding stepWhile itemWord
     while-is i e a E =
         value-is e E (loopsOn (wordsOf x) (rootS a) i) _ (λ v y. byCondition y v (stay y (run a ∷ run (while i e a) ∷ continuation y) (variables y)) (stay y (continuation y) (variables y))) refl
-        (λ v _. by-truth (r e E .cells) (acc ++ r e E .accesses) (fit e E .cells .room) v _ _ _ _ (grown e E)
-        (stay-two A x X (r e E .cells) (acc ++ r e E .accesses) (grown e E) (fit e E .cells .room) vs (X .variables-room) (run a) (run (while i e a)))
+        (λ v _. by-truth (r e E .cells) (acc ++ r e E .accesses) (fits e E .cells .room) v _ _ _ _ (grown e E)
+        (stay-two A x X (r e E .cells) (acc ++ r e E .accesses) (grown e E) (fits e E .cells .room) (run a) (run (while i e a)))
         (stay-none A x X (r e E .cells) (acc ++ r e E .accesses)))
 
-    store-is : (d e : Expr) → ExprFits n d → ExprFits n e → commitOn (storesOn (wordsOf x) (storedIn who (wordsOf x) d e (length cs) (cellWords cs))) ≡ calledOf w (stepStore (turnAt A x cs acc) d e)
+    store-is : (d e : Expr) → ExprFits n d → ExprFits n e → commitOn A (storesOn (wordsOf x) (storedIn who (wordsOf x) d e (length cs) (cellWords cs))) ≡ calledOf w (stepStore u d e)
     unfolding stepStore
     store-is d e D E =
-        ap (λ (q : Result). commitOn (storesOn (wordsOf x) q)) (evaluation-is cs acc C (λ h. storing h d e))
-        ∙ then-is (z .cells) (acc ++ z .accesses) (f .cells .room) (z .outcome) _ (λ v y. stay y (continuation y) (variables y)) (unless (z .outcome) (z .cells) (grows-storing (evaluator u) d e cs))
+        ap (λ (q : Result). commitOn A (storesOn (wordsOf x) q)) (evaluation-is cs acc C (λ h. storing h d e))
+        ∙ then-is (z .cells) (acc ++ z .accesses) (f .cells .room) (z .outcome) _ (λ v y. stay y (continuation y) (variables y)) (unless-on (z .outcome) (s .cells) cs (z .cells) g (grows-storing (evaluator u) d e cs))
         (λ v _. stay-none A x X (z .cells) (acc ++ z .accesses))
       where
         z : Evaluated
         z = storing (evaluator u) d e cs
 
-        f : EvalFits n (storing (evaluator (turnAt A x cs acc)) d e cs)
+        f : EvalFits n (storing (evaluator u) d e cs)
         f = fit-storing (evaluator u) cs (here-fits cs acc) C D E
-
-        unless : (o : Outcome) (ds : List Stored) → UnlessValue o (Grown cs ds) → UnlessValue o (Grown (s .cells) ds)
-        unless (Is v) ds h = tt
-        unless Foreign ds h = grown-on g h
-        unless Spent ds h = grown-on g h
-        unless Stuck ds h = grown-on g h
 
   -- ---- starts
   module _ (m : ℕ) where
@@ -233,44 +165,41 @@ module _ {fs : List Frame} {P : Program} {n : ℕ} {w : List ℕ} {s : State} {c
         (λ ob e r less. started-is A x (X .place) cs acc g l m args (rw (length-map args valueWord) h) ob e less r)
 
     module _ (waits : Bool) (cs : List Stored) (acc : List Access) (C : CellsFit n cs) (g : Grown (s .cells) cs) where
-      abbrev y : Turn
-      y = turnAt A x cs acc
+      then-on : (o : Outcome) (K : Value → ActedOn) (F : Value → Turn → Stepped) → ((v : Value) → o ≡ Is v → commitOn A (K v) ≡ calledOf w (F v (turnAt A x cs acc)))
+          → commitOn A (thenOn o (wordsOf x) (length cs) (cellWords cs) K) ≡ calledOf w (goOn (turnAt A x cs acc) o F)
+      then-on (Is v) K F f = f v refl
+      then-on Foreign K F f = refuse-is A x cs acc 19 (wordsOf x) g (C .room) refl
+      then-on Spent K F f = refuse-is A x cs acc 17 (wordsOf x) g (C .room) refl
+      then-on Stuck K F f = refuse-is A x cs acc 20 (wordsOf x) g (C .room) refl
 
-      then-on : (o : Outcome) (K : Value → ActedOn) (F : Value → Turn → Stepped) → Grown (s .cells) cs → ((v : Value) → o ≡ Is v → commitOn (K v) ≡ calledOf w (F v (turnAt A x cs acc)))
-          → commitOn (thenOn o (wordsOf x) (length cs) (cellWords cs) K) ≡ calledOf w (goOn (turnAt A x cs acc) o F)
-      then-on (Is v) K F g f = f v refl
-      then-on Foreign K F g f = refuse-is A x cs acc 19 (wordsOf x) g (C .room) refl
-      then-on Spent K F g f = refuse-is A x cs acc 17 (wordsOf x) g (C .room) refl
-      then-on Stuck K F g f = refuse-is A x cs acc 20 (wordsOf x) g (C .room) refl
-
-      -- the last of them, behind those values
+      -- the second of two, behind the first one's value
       last-is : (e : Expr) → ExprFits n e → (v : Value)
-          → commitOn (lastArgument (request waits m) (wordsOf x) (valueWord v) (evaluatedIn who (wordsOf x) e (length cs) (cellWords cs)))
+          → commitOn A (lastArgument (request waits m) (wordsOf x) (valueWord v) (evaluatedIn who (wordsOf x) e (length cs) (cellWords cs)))
           ≡ calledOf w (withValue (turnAt A x cs acc) (λ h. eval h e) (λ d z. starting z m (v ∷ d ∷ []) (next waits (v ∷ d ∷ []) z)))
       last-is e E v =
           value-is cs acc C g e E (lastArgument (request waits m) (wordsOf x) (valueWord v)) _ (λ d z. starting z m (v ∷ d ∷ []) (next waits (v ∷ d ∷ []) z)) refl
-          (λ d _. start-is waits (v ∷ d ∷ []) (omega arith) (r cs acc C g e E .cells) (acc ++ r cs acc C g e E .accesses) (grown cs acc C g e E) (fit cs acc C g e E .cells .room))
+          (λ d _. start-is waits (v ∷ d ∷ []) (omega arith) (r cs acc C g e E .cells) (acc ++ r cs acc C g e E .accesses) (grown cs acc C g e E) (fits cs acc C g e E .cells .room))
 
     starts-is : (waits : Bool) (cs : List Stored) (acc : List Access) (C : CellsFit n cs) (g : Grown (s .cells) cs) (xs : List Expr) → length xs ≤ 2 → All (ExprFits n) xs
-        → commitOn (startsIn who (request waits m) (wordsOf x) (length cs) (cellWords cs) xs) ≡ calledOf w (withValues (turnAt A x cs acc) xs (λ args z. starting z m args (next waits args z)))
+        → commitOn A (startsIn who (request waits m) (wordsOf x) (length cs) (cellWords cs) xs) ≡ calledOf w (withValues (turnAt A x cs acc) xs (λ args z. starting z m args (next waits args z)))
     unfolding withValues
     starts-is waits cs acc C g [] h none = start-is waits [] (omega arith) cs acc g (C .room)
     starts-is waits cs acc C g (e ∷ []) h (more E none) =
         value-is cs acc C g e E (oneArgument (request waits m) (wordsOf x)) _ (λ v z. starting z m (v ∷ []) (next waits (v ∷ []) z)) refl
-        (λ v _. start-is waits (v ∷ []) (omega arith) (r cs acc C g e E .cells) (acc ++ r cs acc C g e E .accesses) (grown cs acc C g e E) (fit cs acc C g e E .cells .room))
+        (λ v _. start-is waits (v ∷ []) (omega arith) (r cs acc C g e E .cells) (acc ++ r cs acc C g e E .accesses) (grown cs acc C g e E) (fits cs acc C g e E .cells .room))
     starts-is waits cs acc C g (e ∷ d ∷ []) h (more E (more D none)) =
-        ap (λ (q : Result). commitOn (twoArguments who (request waits m) (wordsOf x) d q)) (evaluation-is cs acc C (λ i. eval i e))
-        ∙ then-on waits (r cs acc C g e E .cells) (acc ++ r cs acc C g e E .accesses) (fit cs acc C g e E .cells) (grown cs acc C g e E) (r cs acc C g e E .outcome) _ _ (grown cs acc C g e E)
-        (λ v _. last-is waits (r cs acc C g e E .cells) (acc ++ r cs acc C g e E .accesses) (fit cs acc C g e E .cells) (grown cs acc C g e E) d D v)
+        ap (λ (q : Result). commitOn A (twoArguments who (request waits m) (wordsOf x) d q)) (evaluation-is cs acc C (λ i. eval i e))
+        ∙ then-on waits (r cs acc C g e E .cells) (acc ++ r cs acc C g e E .accesses) (fits cs acc C g e E .cells) (grown cs acc C g e E) (r cs acc C g e E .outcome) _ _
+        (λ v _. last-is waits (r cs acc C g e E .cells) (acc ++ r cs acc C g e E .accesses) (fits cs acc C g e E .cells) (grown cs acc C g e E) d D v)
     starts-is waits cs acc C g (e ∷ d ∷ f ∷ xs) h all = absurd (omega arith)
 
   -- ---- every statement
-  pub statement-is : (cs : List Stored) (acc : List Access) → CellsFit n cs → Grown (s .cells) cs → (st : Stmt) → Parts fs n st → Short st
-      → commitOn (statementIn who (wordsOf x) (length cs) (cellWords cs) st) ≡ calledOf w (stepStatement (turnAt A x cs acc) st)
+  pub statement-is : (cs : List Stored) (acc : List Access) → CellsFit n cs → Grown (s .cells) cs → (st : Stmt) → Parts fs n st → FewArguments st
+      → commitOn A (statementIn who (wordsOf x) (length cs) (cellWords cs) st) ≡ calledOf w (stepStatement (turnAt A x cs acc) st)
   unfolding stepNothing stepSeq stepStart stepStartWait itemWord
   statement-is cs acc C g st of-nothing h = stay-none A x X cs acc
   statement-is cs acc C g st of-cooperate h = cooperates-is A x X cs acc g (C .room)
-  statement-is cs acc C g st (of-seq {a = a} {b = b} i j) h = stay-two A x X cs acc g (C .room) vs (X .variables-room) (run a) (run b)
+  statement-is cs acc C g st (of-seq {a = a} {b = b} i j) h = stay-two A x X cs acc g (C .room) (run a) (run b)
   statement-is cs acc C g st (of-do {q = q} {a = a} p i) h = does-is A x X cs acc g (C .room) q a p
   statement-is cs acc C g st (of-start {m = m} {xs = xs} es) h = starts-is m false cs acc C g xs h es
   statement-is cs acc C g st (of-wait {m = m} {xs = xs} es) h = starts-is m true cs acc C g xs h es

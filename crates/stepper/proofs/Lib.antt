@@ -3,10 +3,13 @@ pub mod Commits
 pub mod Fates
 pub mod StartFates
 pub mod Moves
+pub mod Arguments
+pub mod Variables
 pub mod Items
 pub mod Uses
 pub mod Threads
 pub mod StepLaws
+pub mod ActLaws
 pub mod TurnLaws
 pub mod PartyLaws
 pub mod FileLaws

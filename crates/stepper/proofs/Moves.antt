@@ -9,8 +9,8 @@ use lib.ListN.{length, getD, take, length-append}
 use lib.Seq.{take-suc, take-length, length-take-le}
 use borrow.Author.Tests.{leb-true, leb-false, le-leb, lt-leb, eqb-false}
 use Rattle.basics.specs.If.{if_then_else_}
-use Rattle.basics.proofs.Ifs.{if-all, if-yes, if-no, and-true, and-off}
-use Rattle.language.specs.Places.{private, hasPlace, hasScheduler}
+use Rattle.basics.proofs.Ifs.{if-all, if-yes, if-no, and-off}
+use Rattle.language.specs.Places.{private, hasPlace}
 use Rattle.language.specs.declared.frame.Frame.{Frame}
 use Rattle.program.specs.Trees.{Stmt, rootS}
 use Rattle.program.specs.Programs.{Program}
@@ -31,9 +31,10 @@ use Rattle.acts.specs.declared.act.Fate.the-variants.{Stays, Leaves, Joins}
 use Rattle.acts.specs.Fates.{Turned, actedIn, refusedIn}
 use Rattle.turns.specs.Acts.{oneIn, twoIn, letsIn, dropsIn, goesIn, doesIn, cooperatesIn}
 use Rattle.stepper.proofs.Grows.{Grown}
-use Rattle.stepper.proofs.Fates.{Acts, turnAt, commit, refuse-is, stays-is, leaves-is, joins-is}
+use Rattle.stepper.proofs.Fates.{Acts, turnAt, commit, place-scheduler, refuse-is, stays-is, leaves-is, joins-is}
 
-pub fits-yes : (items : List Item) (vars : List Value) → length items ≤ 25 → length vars ≤ 25 → fits items vars ≡ true
+-- ---- a thread's space, by its two counts
+fits-yes : (items : List Item) (vars : List Value) → length items ≤ 25 → length vars ≤ 25 → fits items vars ≡ true
 unfolding fits
 fits-yes items vars a b = ap₂ _&&_ (le-leb (length items) 25 a) (le-leb (length vars) 25 b)
 
@@ -70,57 +71,55 @@ module _ {fs : List Frame} {P : Program} {n : ℕ} {w : List ℕ} {s : State} {c
   vars = x .variables
 
   -- the acting thread at that place, with those items and variables
-  abbrev pub self : ℕ → List Item → List Value → Thread
+  abbrev self : ℕ → List Item → List Value → Thread
   self q is vs = selfAt u q is vs
 
-  -- ---- nothing more
-  pub stay-none : commit A (actedIn Stays (wordsOf x) (length cs)) cs ≡ calledOf w (stay (turnAt A x cs acc) (x .continuation) (x .variables))
+  -- ---- the thread stays: with the items and variables that it has, with one item more, with two, with a variable more or less
+  pub stay-none : commit A (actedIn Stays (wordsOf x) (length cs)) cs ≡ calledOf w (stay u items vars)
   stay-none = stays-is A x cs acc x ∙ ap (calledOf w) (sym (stay-yes u items vars (fits-yes items vars (X .items-room) (X .variables-room))))
 
   module _ (g : Grown (s .cells) cs) (l : length cs ≤ 256) where
-    no : (th : ThreadWords) → commit A (refusedIn 20 th (length cs)) cs ≡ calledOf w (refuse (turnAt A x cs acc) 20)
-    no th = refuse-is A x cs acc 20 th g l refl
+    refused-20 : (th : ThreadWords) → commit A (refusedIn 20 th (length cs)) cs ≡ calledOf w (refuse u 20)
+    refused-20 th = refuse-is A x cs acc 20 th g l refl
 
-    no-stay : (th : ThreadWords) (is : List Item) (vs : List Value) → fits is vs ≡ false → commit A (refusedIn 20 th (length cs)) cs ≡ calledOf w (stay (turnAt A x cs acc) is vs)
-    no-stay th is vs e = no th ∙ ap (calledOf w) (sym (stay-no u is vs e))
+    no-stay : (th : ThreadWords) (is : List Item) (vs : List Value) → fits is vs ≡ false → commit A (refusedIn 20 th (length cs)) cs ≡ calledOf w (stay u is vs)
+    no-stay th is vs e = refused-20 th ∙ ap (calledOf w) (sym (stay-no u is vs e))
 
     yes-stay : (th : ThreadWords) (is : List Item) (vs : List Value) → fits is vs ≡ true → th ≡ wordsOf (self (x .place) is vs)
-        → commit A (actedIn Stays th (length cs)) cs ≡ calledOf w (stay (turnAt A x cs acc) is vs)
+        → commit A (actedIn Stays th (length cs)) cs ≡ calledOf w (stay u is vs)
     yes-stay th is vs e q =
         ap (λ (y : ThreadWords). commit A (actedIn Stays y (length cs)) cs) q ∙ stays-is A x cs acc (self (x .place) is vs) ∙ ap (calledOf w) (sym (stay-yes u is vs e))
 
-    pub stay-one : (i : Item) → commit A (oneIn (wordsOf x) (length cs) (itemWord i)) cs ≡ calledOf w (stay (turnAt A x cs acc) (i ∷ x .continuation) (x .variables))
+    pub stay-one : (i : Item) → commit A (oneIn (wordsOf x) (length cs) (itemWord i)) cs ≡ calledOf w (stay u (i ∷ items) vars)
     unfolding oneIn
     stay-one i =
-        if-all (λ (a : Turned). commit A a cs ≡ calledOf w (stay u (i ∷ items) vars)) (leb 25 (length (x .continuation))) _ _
-        (λ e. let h = leb-true 25 (length (x .continuation)) e in no-stay (wordsOf x) (i ∷ items) vars (fits-items (i ∷ items) vars (omega arith)))
-        (λ e. let h = leb-false 25 (length (x .continuation)) e in
+        if-all (λ (a : Turned). commit A a cs ≡ calledOf w (stay u (i ∷ items) vars)) (leb 25 (length items)) _ _
+        (λ e. let h = leb-true 25 (length items) e in no-stay (wordsOf x) (i ∷ items) vars (fits-items (i ∷ items) vars (omega arith)))
+        (λ e. let h = leb-false 25 (length items) e in
         yes-stay (pushItem (itemWord i) (wordsOf x)) (i ∷ items) vars (fits-yes (i ∷ items) vars (omega arith) (X .variables-room)) (push-item-is x i h))
 
-    -- two items more, above those variables
-    pub stay-two : (vs : List Value) → length vs ≤ 25 → (i j : Item)
-        → commit A (twoIn (wordsOf (self (x .place) (x .continuation) vs)) (length cs) (itemWord i) (itemWord j)) cs ≡ calledOf w (stay (turnAt A x cs acc) (i ∷ j ∷ x .continuation) vs)
+    pub stay-two : (i j : Item) → commit A (twoIn (wordsOf x) (length cs) (itemWord i) (itemWord j)) cs ≡ calledOf w (stay u (i ∷ j ∷ items) vars)
     unfolding twoIn
-    stay-two vs b i j =
-        if-all (λ (a : Turned). commit A a cs ≡ calledOf w (stay u (i ∷ j ∷ items) vs)) (leb 24 (length (x .continuation))) _ _
-        (λ e. let h = leb-true 24 (length (x .continuation)) e in no-stay (wordsOf (self (x .place) items vs)) (i ∷ j ∷ items) vs (fits-items (i ∷ j ∷ items) vs (omega arith)))
-        (λ e. let h = leb-false 24 (length (x .continuation)) e in
-        yes-stay (pushItem (itemWord i) (pushItem (itemWord j) (wordsOf (self (x .place) items vs)))) (i ∷ j ∷ items) vs (fits-yes (i ∷ j ∷ items) vs (omega arith) b)
-        (ap (pushItem (itemWord i)) (push-item-is (self (x .place) items vs) j (omega arith)) ∙ push-item-is (self (x .place) (j ∷ items) vs) i (omega arith)))
+    stay-two i j =
+        if-all (λ (a : Turned). commit A a cs ≡ calledOf w (stay u (i ∷ j ∷ items) vars)) (leb 24 (length items)) _ _
+        (λ e. let h = leb-true 24 (length items) e in no-stay (wordsOf x) (i ∷ j ∷ items) vars (fits-items (i ∷ j ∷ items) vars (omega arith)))
+        (λ e. let h = leb-false 24 (length items) e in
+        yes-stay (pushItem (itemWord i) (pushItem (itemWord j) (wordsOf x))) (i ∷ j ∷ items) vars (fits-yes (i ∷ j ∷ items) vars (omega arith) (X .variables-room))
+        (ap (pushItem (itemWord i)) (push-item-is x j (omega arith)) ∙ push-item-is (self (x .place) (j ∷ items) vars) i (omega arith)))
 
     -- 16
     pub stay-let : (v : Value) (a : Stmt)
-        → commit A (letsIn (wordsOf x) (length cs) (valueWord v) (rootS a)) cs ≡ calledOf w (stay (turnAt A x cs acc) (run a ∷ drop ∷ x .continuation) (x .variables ++ (v ∷ [])))
+        → commit A (letsIn (wordsOf x) (length cs) (valueWord v) (rootS a)) cs ≡ calledOf w (stay u (run a ∷ drop ∷ items) (vars ++ (v ∷ [])))
     unfolding letsIn itemWord
     stay-let v a =
-        if-all (λ (y : Turned). commit A y cs ≡ calledOf w (stay u (run a ∷ drop ∷ items) (vars ++ (v ∷ [])))) (leb 25 (length (x .variables))) _ _
-        (λ e. let h = leb-true 25 (length (x .variables)) e in let z = length-append vars (v ∷ []) in
+        if-all (λ (y : Turned). commit A y cs ≡ calledOf w (stay u (run a ∷ drop ∷ items) (vars ++ (v ∷ [])))) (leb 25 (length vars)) _ _
+        (λ e. let h = leb-true 25 (length vars) e in let z = length-append vars (v ∷ []) in
         no-stay (wordsOf x) (run a ∷ drop ∷ items) (vars ++ (v ∷ [])) (fits-vars (run a ∷ drop ∷ items) (vars ++ (v ∷ [])) (omega arith)))
-        (λ e. let h = leb-false 25 (length (x .variables)) e in let z = length-append vars (v ∷ []) in
-        if-all (λ (y : Turned). commit A y cs ≡ calledOf w (stay u (run a ∷ drop ∷ items) (vars ++ (v ∷ [])))) (leb 24 (length (x .continuation))) _ _
-        (λ f. let g = leb-true 24 (length (x .continuation)) f in
+        (λ e. let h = leb-false 25 (length vars) e in let z = length-append vars (v ∷ []) in
+        if-all (λ (y : Turned). commit A y cs ≡ calledOf w (stay u (run a ∷ drop ∷ items) (vars ++ (v ∷ [])))) (leb 24 (length items)) _ _
+        (λ f. let g = leb-true 24 (length items) f in
         no-stay (wordsOf x) (run a ∷ drop ∷ items) (vars ++ (v ∷ [])) (fits-items (run a ∷ drop ∷ items) (vars ++ (v ∷ [])) (omega arith)))
-        (λ f. let g = leb-false 24 (length (x .continuation)) f in
+        (λ f. let g = leb-false 24 (length items) f in
         yes-stay (pushItem (rootS a) (pushItem 2048 (pushValue (valueWord v) (wordsOf x)))) (run a ∷ drop ∷ items) (vars ++ (v ∷ []))
         (fits-yes (run a ∷ drop ∷ items) (vars ++ (v ∷ [])) (omega arith) (omega arith))
         (ap (λ (th : ThreadWords). pushItem (rootS a) (pushItem 2048 th)) (push-value-is x v h)
@@ -128,118 +127,105 @@ module _ {fs : List Frame} {P : Program} {n : ℕ} {w : List ℕ} {s : State} {c
         ∙ push-item-is (self (x .place) (drop ∷ items) (vars ++ (v ∷ []))) (run a) (omega arith))))
 
     -- a drop
-    pub drops-is : commit A (dropsIn (wordsOf x) (length cs)) cs ≡ calledOf w (drops (turnAt A x cs acc))
+    pub drops-is : commit A (dropsIn (wordsOf x) (length cs)) cs ≡ calledOf w (drops u)
     unfolding drops dropsIn
-    drops-is = go (eqb (length (x .variables)) 0) refl
+    drops-is = go (eqb (length vars) 0) refl
       where
         rest : List Value
-        rest = take (length (x .variables) - 1) (x .variables)
+        rest = take (length vars - 1) vars
 
-        fewer : length (take (length (x .variables) - 1) (x .variables)) ≡ length (x .variables) - 1
+        fewer : length (take (length vars - 1) vars) ≡ length vars - 1
         fewer = length-take-le (length vars - 1) vars (omega arith)
 
-        popped : 0 < length (x .variables) → popValue (wordsOf x) ≡ wordsOf (self (x .place) (x .continuation) (take (length (x .variables) - 1) (x .variables)))
+        popped : 0 < length vars → popValue (wordsOf x) ≡ wordsOf (self (x .place) items (take (length vars - 1) vars))
         popped h =
             let r = X .variables-room in let z = fewer in
             ap (λ (vs : List Value). popValue (wordsOf (self (x .place) items vs))) (with-last vars h)
-            ∙ pop-value-is (self (x .place) items (take (length (x .variables) - 1) (x .variables))) (getD vars (length vars - 1) (Number 0)) (omega arith)
+            ∙ pop-value-is (self (x .place) items (take (length vars - 1) vars)) (getD vars (length vars - 1) (Number 0)) (omega arith)
 
-        go : (b : Bool) → eqb (length (x .variables)) 0 ≡ b
-            → commit A (if eqb (length (x .variables)) 0 then refusedIn 20 (wordsOf x) (length cs) else actedIn Stays (popValue (wordsOf x)) (length cs)) cs
-            ≡ calledOf w (if eqb (length (x .variables)) 0 then refuse (turnAt A x cs acc) 20 else stay (turnAt A x cs acc) (x .continuation) (take (length (x .variables) - 1) (x .variables)))
-        go true e = ap (λ (a : Turned). commit A a cs) (if-yes _ _ e) ∙ no (wordsOf x) ∙ ap (calledOf w) (sym (if-yes _ _ e))
+        go : (b : Bool) → eqb (length vars) 0 ≡ b
+            → commit A (if eqb (length vars) 0 then refusedIn 20 (wordsOf x) (length cs) else actedIn Stays (popValue (wordsOf x)) (length cs)) cs
+            ≡ calledOf w (if eqb (length vars) 0 then refuse u 20 else stay u items (take (length vars - 1) vars))
+        go true e = ap (λ (a : Turned). commit A a cs) (if-yes _ _ e) ∙ refused-20 (wordsOf x) ∙ ap (calledOf w) (sym (if-yes _ _ e))
         go false e =
-            let h = eqb-false (length (x .variables)) 0 e in let r = X .variables-room in let z = fewer in
+            let h = eqb-false (length vars) 0 e in let r = X .variables-room in let z = fewer in
             ap (λ (a : Turned). commit A a cs) (if-no _ _ e)
             ∙ yes-stay (popValue (wordsOf x)) items rest (fits-yes items rest (X .items-room) (omega arith)) (popped (omega arith))
             ∙ ap (calledOf w) (sym (if-no _ _ e))
 
     -- ---- moves
-    scheduler-of : (q : ℕ) → hasPlace n q ≡ true → eqb q private ≡ false → hasScheduler n q ≡ true
-    scheduler-of q p e =
-        let b = and-true (leb 1 q) (leb q (1 + n)) p in
-        let low = leb-true 1 q (b .0) in
-        let other = eqb-false q 1 e in
-        ap₂ _&&_ (le-leb 2 q (omega arith)) (b .1)
-
-    move-fits : (q : ℕ) (is : List Item) → fits is (x .variables) ≡ true
-        → move (turnAt A x cs acc) q is
-        ≡ (if eqb q private then accept (turnAt A x cs acc) (leave (turnAt A x cs acc) (settled (turnAt A x cs acc) (self q is (x .variables))))
-        else if room (turnAt A x cs acc) 1 q then accept (turnAt A x cs acc) (enlist q (plain (suc k)) (leave (turnAt A x cs acc) (settled (turnAt A x cs acc) (self q is (x .variables))))) else refuse (turnAt A x cs acc) 20)
+    move-fits : (q : ℕ) (is : List Item) → fits is vars ≡ true
+        → move u q is
+        ≡ (if eqb q private then accept u (leave u (settled u (self q is vars)))
+        else if room u 1 q then accept u (enlist q (plain (suc k)) (leave u (settled u (self q is vars)))) else refuse u 20)
     unfolding move
     move-fits q is e = if-no _ _ (ap not e)
 
-    move-full : (q : ℕ) (is : List Item) → fits is (x .variables) ≡ false → move (turnAt A x cs acc) q is ≡ refuse (turnAt A x cs acc) 20
+    move-full : (q : ℕ) (is : List Item) → fits is vars ≡ false → move u q is ≡ refuse u 20
     unfolding move
     move-full q is e = if-yes _ _ (ap not e)
 
-    go-full : (q : ℕ) (is : List Item) → fits is (x .variables) ≡ false → goTo (turnAt A x cs acc) q is ≡ refuse (turnAt A x cs acc) 20
+    go-full : (q : ℕ) (is : List Item) → fits is vars ≡ false → goTo u q is ≡ refuse u 20
     unfolding goTo
     go-full q is e = if-all (λ (r : Stepped). r ≡ refuse u 20) (eqb q (x .place)) _ _ (λ _. stay-no u is vars e) (λ _. move-full q is e)
 
     pub goes-is : (q : ℕ) (is : List Item) → hasPlace n q ≡ true → length is ≤ 25
-        → commit A (goesIn (x .place) (wordsOf (self (x .place) is (x .variables))) (length cs) q) cs ≡ calledOf w (goTo (turnAt A x cs acc) q is)
+        → commit A (goesIn (x .place) (wordsOf (self (x .place) is vars)) (length cs) q) cs ≡ calledOf w (goTo u q is)
     unfolding goesIn goTo moveTo
     goes-is q is p h = go (eqb q (x .place)) (eqb q private) refl refl
       where
-        f : fits is (x .variables) ≡ true
+        f : fits is vars ≡ true
         f = fits-yes is vars h (X .variables-room)
 
         th : ThreadWords
-        th = wordsOf (self (x .place) is (x .variables))
-
-        G : Turned → Stepped → Type 0
-        G a r = commit A a cs ≡ calledOf w r
-
-        gone : Stepped
-        gone = accept (turnAt A x cs acc) (leave (turnAt A x cs acc) (settled (turnAt A x cs acc) (self q is (x .variables))))
+        th = wordsOf (self (x .place) is vars)
 
         go : (b d : Bool) → eqb q (x .place) ≡ b → eqb q private ≡ d
             → commit A (if eqb q (x .place) then actedIn Stays th (length cs) else if eqb q 1 then actedIn Leaves (moveTo q th) (length cs) else actedIn (Joins q) (moveTo q th) (length cs)) cs
-            ≡ calledOf w (if eqb q (x .place) then stay (turnAt A x cs acc) is (x .variables) else move (turnAt A x cs acc) q is)
+            ≡ calledOf w (if eqb q (x .place) then stay u is vars else move u q is)
         go true d e z = ap (λ (a : Turned). commit A a cs) (if-yes _ _ e) ∙ yes-stay th is vars f refl ∙ ap (calledOf w) (sym (if-yes _ _ e))
         go false true e z =
             ap (λ (a : Turned). commit A a cs) (if-no _ _ e ∙ if-yes _ _ z) ∙ leaves-is A x cs acc (self q is vars)
             ∙ ap (calledOf w) (sym (if-no _ _ e ∙ move-fits q is f ∙ if-yes _ _ z))
         go false false e z =
-            ap (λ (a : Turned). commit A a cs) (if-no _ _ e ∙ if-no _ _ z) ∙ joins-is A x cs acc (self q is vars) q (scheduler-of q p z) g l
+            ap (λ (a : Turned). commit A a cs) (if-no _ _ e ∙ if-no _ _ z) ∙ joins-is A x cs acc (self q is vars) q (place-scheduler n q p z) g l
             ∙ ap (calledOf w) (sym (if-no _ _ e ∙ move-fits q is f ∙ if-no _ _ z))
 
     -- 12
-    pub does-is : (q : ℕ) (a : Stmt) → hasPlace n q ≡ true → commit A (doesIn (wordsOf x) (length cs) q (rootS a)) cs ≡ calledOf w (stepDo (turnAt A x cs acc) q a)
+    pub does-is : (q : ℕ) (a : Stmt) → hasPlace n q ≡ true → commit A (doesIn (wordsOf x) (length cs) q (rootS a)) cs ≡ calledOf w (stepDo u q a)
     unfolding doesIn stepDo itemWord
-    does-is q a p = go (eqb (x .place) 1 && eqb q 1) (leb 24 (length (x .continuation))) refl refl
+    does-is q a p = go (eqb (x .place) 1 && eqb q 1) (leb 24 (length items)) refl refl
       where
         is : List Item
-        is = run a ∷ back (x .place) ∷ x .continuation
+        is = run a ∷ back (x .place) ∷ items
 
         th : ThreadWords
         th = pushItem (rootS a) (pushItem (1024 + x .place) (wordsOf x))
 
-        go : (b d : Bool) → (eqb (x .place) 1 && eqb q 1) ≡ b → leb 24 (length (x .continuation)) ≡ d
-            → commit A (if eqb (x .place) 1 && eqb q 1 then refusedIn 20 (wordsOf x) (length cs) else if leb 24 (length (x .continuation)) then refusedIn 20 (wordsOf x) (length cs) else goesIn (x .place) th (length cs) q) cs
-            ≡ calledOf w (if eqb (x .place) 1 && eqb q 1 then refuse (turnAt A x cs acc) 20 else goTo (turnAt A x cs acc) q is)
-        go true d e z = ap (λ (y : Turned). commit A y cs) (if-yes _ _ e) ∙ no (wordsOf x) ∙ ap (calledOf w) (sym (if-yes _ _ e))
+        go : (b d : Bool) → (eqb (x .place) 1 && eqb q 1) ≡ b → leb 24 (length items) ≡ d
+            → commit A (if eqb (x .place) 1 && eqb q 1 then refusedIn 20 (wordsOf x) (length cs) else if leb 24 (length items) then refusedIn 20 (wordsOf x) (length cs) else goesIn (x .place) th (length cs) q) cs
+            ≡ calledOf w (if eqb (x .place) 1 && eqb q 1 then refuse u 20 else goTo u q is)
+        go true d e z = ap (λ (y : Turned). commit A y cs) (if-yes _ _ e) ∙ refused-20 (wordsOf x) ∙ ap (calledOf w) (sym (if-yes _ _ e))
         go false true e z =
-            let h = leb-true 24 (length (x .continuation)) z in
-            ap (λ (y : Turned). commit A y cs) (if-no _ _ e ∙ if-yes _ _ z) ∙ no (wordsOf x) ∙ ap (calledOf w) (sym (if-no _ _ e ∙ go-full q is (fits-items is vars (omega arith))))
+            let h = leb-true 24 (length items) z in
+            ap (λ (y : Turned). commit A y cs) (if-no _ _ e ∙ if-yes _ _ z) ∙ refused-20 (wordsOf x) ∙ ap (calledOf w) (sym (if-no _ _ e ∙ go-full q is (fits-items is vars (omega arith))))
         go false false e z =
-            let h = leb-false 24 (length (x .continuation)) z in
+            let h = leb-false 24 (length items) z in
             ap (λ (y : Turned). commit A y cs) (if-no _ _ e ∙ if-no _ _ z)
             ∙ ap (λ (y : ThreadWords). commit A (goesIn (x .place) y (length cs) q) cs)
             (ap (pushItem (rootS a)) (push-item-is x (back (x .place)) (omega arith)) ∙ push-item-is (self (x .place) (back (x .place) ∷ items) vars) (run a) (omega arith))
             ∙ goes-is q is p (omega arith) ∙ ap (calledOf w) (sym (if-no _ _ e))
 
     -- 15
-    pub cooperates-is : commit A (cooperatesIn (wordsOf x) (length cs)) cs ≡ calledOf w (stepCooperate (turnAt A x cs acc))
+    pub cooperates-is : commit A (cooperatesIn (wordsOf x) (length cs)) cs ≡ calledOf w (stepCooperate u)
     unfolding cooperatesIn stepCooperate
     cooperates-is = go (eqb (x .place) private) refl
       where
         next : Stepped
-        next = if room (turnAt A x cs acc) 1 (x .place) then accept (turnAt A x cs acc) (enlist (x .place) (plain (suc k)) (leave (turnAt A x cs acc) (settled (turnAt A x cs acc) x))) else refuse (turnAt A x cs acc) 20
+        next = if room u 1 (x .place) then accept u (enlist (x .place) (plain (suc k)) (leave u (settled u x))) else refuse u 20
 
         go : (b : Bool) → eqb (x .place) private ≡ b
-            → commit A (if eqb (x .place) 1 then refusedIn 20 (wordsOf x) (length cs) else actedIn (Joins (x .place)) (wordsOf x) (length cs)) cs ≡ calledOf w (if eqb (x .place) private then refuse (turnAt A x cs acc) 20 else next)
-        go true e = ap (λ (y : Turned). commit A y cs) (if-yes _ _ e) ∙ no (wordsOf x) ∙ ap (calledOf w) (sym (if-yes _ _ e))
+            → commit A (if eqb (x .place) 1 then refusedIn 20 (wordsOf x) (length cs) else actedIn (Joins (x .place)) (wordsOf x) (length cs)) cs ≡ calledOf w (if eqb (x .place) private then refuse u 20 else next)
+        go true e = ap (λ (y : Turned). commit A y cs) (if-yes _ _ e) ∙ refused-20 (wordsOf x) ∙ ap (calledOf w) (sym (if-yes _ _ e))
         go false e =
-            ap (λ (y : Turned). commit A y cs) (if-no _ _ e) ∙ joins-is A x cs acc x (x .place) (scheduler-of (x .place) (X .place) e) g l ∙ ap (calledOf w) (sym (if-no _ _ e))
+            ap (λ (y : Turned). commit A y cs) (if-no _ _ e) ∙ joins-is A x cs acc x (x .place) (place-scheduler n (x .place) (X .place) e) g l ∙ ap (calledOf w) (sym (if-no _ _ e))

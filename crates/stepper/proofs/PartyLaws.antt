@@ -1,14 +1,13 @@
--- The party that a choice names, on words known to be good. Assumes nothing.
+-- The party that a choice names, on words in range: a scheduler with an active thread or without, an unlinked thread, or none; what each call asks and what the choice gives. Assumes nothing.
 use Prim.Native.Nat.{ℕ, _+_, _-_, _*_, _<_, _≤_}
 use mathlib.Core.Path.{_≡_, refl, sym, ap, ap₂, _∙_, subst}
 use mathlib.Core.List.{List, [], _∷_}
 use mathlib.Core.Bool.{Bool, true, false, _&&_}
 use native.Mathlib.Omega.{arith}
-use lib.Dec.{leb}
 use lib.ListN.{length, getD}
-use borrow.Author.Tests.{leb-true, le-leb, lt-leb}
+use borrow.Author.Tests.{le-leb, lt-leb}
 use Rattle.basics.specs.Members.{All, more}
-use Rattle.basics.proofs.Ifs.{if-yes, if-no, and-true}
+use Rattle.basics.proofs.Ifs.{if-yes, if-no}
 use Rattle.language.specs.Places.{hasScheduler}
 use Rattle.text.specs.Frames.{framesOf}
 use Rattle.program.specs.Programs.{Program, programOf}
@@ -28,8 +27,10 @@ use Rattle.states.proofs.Schedulers.{first-says, room-says}
 use Rattle.states.proofs.Instants.{instant-readies, instant-says, instant-none}
 use Rattle.states.proofs.PartyLaws.{unlinked-says}
 use Rattle.commits.specs.Commits.{called, isList}
+use Rattle.commits.proofs.WritingLaws.{list-block}
 use Rattle.stepper.specs.declared.file.File.{File}
 use Rattle.stepper.specs.Files.{StepWords, stateIn, TurnChoice, fileOf}
+use Rattle.stepper.proofs.Fates.{scheduler-there}
 use Rattle.stepper.proofs.StepLaws.{fits-in, shaped, says, step-long, threads-few}
 
 module _ (frames : List ℕ) (shared : ℕ) (w : List ℕ) (h : StepWords frames shared w) (c : ℕ) where
@@ -39,41 +40,35 @@ module _ (frames : List ℕ) (shared : ℕ) (w : List ℕ) (h : StepWords frames
   abbrev s : State
   s = stateIn frames w
 
-  fit : SchedulerFits (schedulerAt (stateIn frames w) c)
+  fit : SchedulerFits (schedulerAt s c)
   fit = scheduler-fits (framesOf frames) P _ (fits-in frames shared w h) s (shaped frames shared w h) c
 
   -- ---- a scheduler of the file
-  module _ (e : isSchedulerOf (programOf (framesOf frames)) c ≡ true) where
-    bounds : (2 ≤ c) × (c ≤ 9) × (c - 2 < length (stateIn frames w .schedulers))
+  module _ (e : isSchedulerOf P c ≡ true) where
+    there : (c - 2 < length (s .schedulers)) × (isList c ≡ true)
     unfolding isSchedulerOf
-    bounds =
-        let b = and-true (leb 2 c) (leb c (1 + P .schedulers)) e in
-        let l = leb-true 2 c (b .0) in
-        let m = leb-true c (1 + P .schedulers) (b .1) in
-        let y = fits-in frames shared w h .most-schedulers in
-        let z = shaped frames shared w h .count in
-        (l, omega arith, omega arith)
+    there = scheduler-there (fits-in frames shared w h) (shaped frames shared w h) c e
 
     pub scheduler-low : 2 ≤ c
-    scheduler-low = bounds .0
+    scheduler-low = list-block c (there .1) .0
 
     pub list-asks : (length w ≡ 4818) × (c - 2 < 8)
-    list-asks = (step-long frames shared w h, (let b = bounds in omega arith))
+    list-asks = (step-long frames shared w h, list-block c (there .1) .1)
 
     pub turn-choice : TurnChoice frames c
-    turn-choice = e ∙ sym (ap₂ _&&_ (le-leb 2 c (bounds .0)) (le-leb c 9 (bounds .1)))
+    turn-choice = e ∙ sym (there .1)
 
-    first : (t : ℕ) → t ≡ getD w (3 + 130 * (c - 2)) 0 → t ≡ getD (schedulerAt (stateIn frames w) c .active) 0 0
-    first t q = q ∙ first-says w s (says frames shared w h) c (list-asks .1) (bounds .2)
+    first : (t : ℕ) → t ≡ getD w (3 + 130 * (c - 2)) 0 → t ≡ getD (schedulerAt s c .active) 0 0
+    first t q = q ∙ first-says w s (says frames shared w h) c (list-asks .1) (there .0)
 
-    -- with a first active thread
+    -- ---- with a first active thread
     module _ (t : ℕ) (q : t ≡ getD w (3 + 130 * (c - 2)) 0) (some : t ≡ 0 → ⊥) where
-      go : (ts : List ℕ) → t ≡ getD ts 0 0 → All IsThread ts → IsThread t
-      go [] z f = absurd (some z)
-      go (a ∷ ts) z (more f fs) = subst IsThread (sym z) f
-
       is-thread : IsThread t
-      is-thread = go (schedulerAt s c .active) (first t q) (fit .threads)
+      is-thread = by (schedulerAt s c .active) (first t q) (fit .threads)
+        where
+          by : (ts : List ℕ) → t ≡ getD ts 0 0 → All IsThread ts → IsThread t
+          by [] z f = absurd (some z)
+          by (a ∷ ts) z (more f fs) = subst IsThread (sym z) f
 
       pub turn-asks : (1 ≤ t) × (t ≤ 64)
       turn-asks = is-thread
@@ -81,21 +76,21 @@ module _ (frames : List ℕ) (shared : ℕ) (w : List ℕ) (h : StepWords frames
       pub turn-byte : t < 256
       turn-byte = let z = is-thread in omega arith
 
-      pub turn-done : (v : List ℕ) (r : ℕ) → called r t v ≡ calledOf w (stepThread (programOf (framesOf frames)) (stateIn frames w) c t)
-          → called r t v ≡ calledOf w (stepScheduler (programOf (framesOf frames)) (stateIn frames w) c (schedulerAt (stateIn frames w) c .active))
+      pub turn-done : (v : List ℕ) (r : ℕ) → called r t v ≡ calledOf w (stepThread P s c t)
+          → called r t v ≡ calledOf w (stepScheduler P s c (schedulerAt s c .active))
       turn-done v r k = by (schedulerAt s c .active) (first t q)
         where
-          by : (ts : List ℕ) → t ≡ getD ts 0 0 → called r t v ≡ calledOf w (stepScheduler (programOf (framesOf frames)) (stateIn frames w) c ts)
+          by : (ts : List ℕ) → t ≡ getD ts 0 0 → called r t v ≡ calledOf w (stepScheduler P s c ts)
           by [] z = absurd (some z)
           by (a ∷ ts) z = k ∙ ap (λ (i : ℕ). calledOf w (stepThread P s c i)) z
 
-    -- with none
+    -- ---- with none: an instant ends
     pub instant-asks : (length w ≡ 4818) × (c - 2 < 8) × (getD w 0 0 ≤ 64) × (getD w (67 + 130 * (c - 2)) 0 ≤ 64)
     instant-asks =
-        (list-asks .0, list-asks .1, threads-few frames shared w h, rw (room-says w s (says frames shared w h) c (list-asks .1) (bounds .2)) (fit .next-room))
+        (list-asks .0, list-asks .1, threads-few frames shared w h, rw (room-says w s (says frames shared w h) c (list-asks .1) (there .0)) (fit .next-room))
 
     module _ (t : ℕ) (q : t ≡ getD w (3 + 130 * (c - 2)) 0) (zero-is : t ≡ 0) where
-      idle : schedulerAt (stateIn frames w) c .active ≡ []
+      idle : schedulerAt s c .active ≡ []
       idle = by (schedulerAt s c .active) (sym zero-is ∙ first t q) (fit .threads)
         where
           by : (ts : List ℕ) → 0 ≡ getD ts 0 0 → All IsThread ts → ts ≡ []
@@ -103,63 +98,63 @@ module _ (frames : List ℕ) (shared : ℕ) (w : List ℕ) (h : StepWords frames
           by (a ∷ ts) z (more f fs) = absurd (let y = f .0 in omega arith)
 
       module _ (v : List ℕ) (k : ℕ) (count : k ≡ length (readyWords w (wordsAt w (67 + 130 * (c - 2))))) (out : v ≡ withInstantEnded w (c - 2)) where
-        few : length (stateIn frames w .threads) ≤ 64
+        few : length (s .threads) ≤ 64
         few = shaped frames shared w h .threads-room
 
-        readies : k ≡ length (readyThreads (stateIn frames w .threads) (schedulerAt (stateIn frames w) c .next))
-        readies = count ∙ instant-readies w s (says frames shared w h) few c (list-asks .1) (bounds .2) (fit .next-room) (fit .entries)
+        readies : k ≡ length (readyThreads (s .threads) (schedulerAt s c .next))
+        readies = count ∙ instant-readies w s (says frames shared w h) few c (list-asks .1) (there .0) (fit .next-room) (fit .entries)
 
-        ended : called 0 0 v ≡ called 0 0 (pack (withScheduler c (record { active = readyThreads (stateIn frames w .threads) (schedulerAt (stateIn frames w) c .next); next = stillWaiting (stateIn frames w .threads) (schedulerAt (stateIn frames w) c .next) }) (stateIn frames w)))
-        ended = ap (called 0 0) (out ∙ is-pack _ _ (instant-says w s (says frames shared w h) few c (list-asks .1) (bounds .2) (fit .next-room) (fit .entries)))
+        ended : called 0 0 v ≡ called 0 0 (pack (withScheduler c (record { active = readyThreads (s .threads) (schedulerAt s c .next); next = stillWaiting (s .threads) (schedulerAt s c .next) }) s))
+        ended = ap (called 0 0) (out ∙ is-pack _ _ (instant-says w s (says frames shared w h) few c (list-asks .1) (there .0) (fit .next-room) (fit .entries)))
 
-        pub instant-nothing : k ≡ 0 → called 16 0 v ≡ calledOf w (stepScheduler (programOf (framesOf frames)) (stateIn frames w) c (schedulerAt (stateIn frames w) c .active))
+        pub instant-nothing : k ≡ 0 → called 16 0 v ≡ calledOf w (stepScheduler P s c (schedulerAt s c .active))
         unfolding endInstant
         instant-nothing z =
-            ap (called 16 0) (out ∙ instant-none w s (says frames shared w h) few c (list-asks .1) (bounds .2) (fit .next-room) (fit .entries) idle none-ready)
+            ap (called 16 0) (out ∙ instant-none w s (says frames shared w h) few c (list-asks .1) (there .0) (fit .next-room) (fit .entries) idle none-ready)
             ∙ ap (λ (ts : List ℕ). calledOf w (turnInstant s c ts (stillWaiting (s .threads) (schedulerAt s c .next)))) (sym none-ready)
             ∙ ap (λ (ts : List ℕ). calledOf w (stepScheduler P s c ts)) (sym idle)
           where
-            none-ready : readyThreads (stateIn frames w .threads) (schedulerAt (stateIn frames w) c .next) ≡ []
+            none-ready : readyThreads (s .threads) (schedulerAt s c .next) ≡ []
             none-ready = by (readyThreads (s .threads) (schedulerAt s c .next)) (sym z ∙ readies)
               where
                 by : (ts : List ℕ) → 0 ≡ length ts → ts ≡ []
                 by [] y = refl
                 by (a ∷ ts) y = absurd (omega arith)
 
-        pub instant-done : (k ≡ 0 → ⊥) → called 0 0 v ≡ calledOf w (stepScheduler (programOf (framesOf frames)) (stateIn frames w) c (schedulerAt (stateIn frames w) c .active))
+        pub instant-done : (k ≡ 0 → ⊥) → called 0 0 v ≡ calledOf w (stepScheduler P s c (schedulerAt s c .active))
         unfolding endInstant
         instant-done z =
             ended ∙ by (readyThreads (s .threads) (schedulerAt s c .next)) readies
             ∙ ap (λ (ts : List ℕ). calledOf w (stepScheduler P s c ts)) (sym idle)
           where
             by : (ts : List ℕ) → k ≡ length ts
-                → called 0 0 (pack (withScheduler c (record { active = ts; next = stillWaiting (stateIn frames w .threads) (schedulerAt (stateIn frames w) c .next) }) (stateIn frames w)))
-                ≡ calledOf w (turnInstant (stateIn frames w) c ts (stillWaiting (stateIn frames w .threads) (schedulerAt (stateIn frames w) c .next)))
+                → called 0 0 (pack (withScheduler c (record { active = ts; next = stillWaiting (s .threads) (schedulerAt s c .next) }) s))
+                ≡ calledOf w (turnInstant s c ts (stillWaiting (s .threads) (schedulerAt s c .next)))
             by [] y = absurd (z y)
             by (a ∷ ts) y = refl
 
-  -- ---- the whole choice
-  module _ (b : Bool) (file : File) (f : file ≡ fileOf (programOf (framesOf frames))) (q : b ≡ hasScheduler (file .schedulers) c) where
-    same : b ≡ isSchedulerOf (programOf (framesOf frames)) c
+  -- ---- the whole choice, by the tests of `step_valid`
+  module _ (b : Bool) (file : File) (f : file ≡ fileOf P) (q : b ≡ hasScheduler (file .schedulers) c) where
+    same : b ≡ isSchedulerOf P c
     unfolding isSchedulerOf
     same = q ∙ ap (λ (x : File). hasScheduler (x .schedulers) c) f
 
-    pub is-scheduler : b ≡ true → isSchedulerOf (programOf (framesOf frames)) c ≡ true
+    pub is-scheduler : b ≡ true → isSchedulerOf P c ≡ true
     is-scheduler e = sym same ∙ e
 
-    whole : stepCall (framesOf frames) w c ≡ calledOf w (step (programOf (framesOf frames)) (stateIn frames w) c)
+    whole : stepCall (framesOf frames) w c ≡ calledOf w (step P s c)
     whole = called-in (framesOf frames) w c (h .range)
 
-    pub scheduler-steps : b ≡ true → (r : Called) → r ≡ calledOf w (stepScheduler (programOf (framesOf frames)) (stateIn frames w) c (schedulerAt (stateIn frames w) c .active)) → r ≡ stepCall (framesOf frames) w c
+    pub scheduler-steps : b ≡ true → (r : Called) → r ≡ calledOf w (stepScheduler P s c (schedulerAt s c .active)) → r ≡ stepCall (framesOf frames) w c
     unfolding step
     scheduler-steps e r k = k ∙ ap (calledOf w) (sym (if-yes _ _ (is-scheduler e))) ∙ sym whole
 
     module _ (no : b ≡ false) where
-      not-scheduler : isSchedulerOf (programOf (framesOf frames)) c ≡ false
+      not-scheduler : isSchedulerOf P c ≡ false
       not-scheduler = sym same ∙ no
 
       module _ (d : Bool) (u : d ≡ isUnlinkedWord w c) where
-        unlinked : d ≡ isUnlinked (stateIn frames w) c
+        unlinked : d ≡ isUnlinked s c
         unlinked = u ∙ unlinked-says w s (says frames shared w h) (shaped frames shared w h .threads-room) c
 
         module _ (yes : d ≡ true) where
@@ -178,7 +173,7 @@ module _ (frames : List ℕ) (shared : ℕ) (w : List ℕ) (h : StepWords frames
           pub thread-byte : c - 16 < 256
           thread-byte = let z = thread in omega arith
 
-          pub thread-steps : (r : Called) → r ≡ calledOf w (stepThread (programOf (framesOf frames)) (stateIn frames w) c (c - 16)) → r ≡ stepCall (framesOf frames) w c
+          pub thread-steps : (r : Called) → r ≡ calledOf w (stepThread P s c (c - 16)) → r ≡ stepCall (framesOf frames) w c
           unfolding step
           thread-steps r k = k ∙ ap (calledOf w) (sym (if-no _ _ not-scheduler ∙ if-yes _ _ (sym unlinked ∙ yes))) ∙ sym whole
 

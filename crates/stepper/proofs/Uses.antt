@@ -28,15 +28,14 @@ use Rattle.states.specs.declared.thread.ThreadWords.{ThreadWords}
 use Rattle.states.specs.Threads.{wordsOf}
 use Rattle.acts.specs.Fates.{Turned}
 use Rattle.turns.specs.Acts.{ActedOn, oneIn, twoIn, letsIn, dropsIn, goesIn, doesIn, cooperatesIn, thenActs, thenOn, byTruthIn, letsOn, storesOn, choosesOn, loopsOn, evaluatedIn, request, startsIn, oneArgument, lastArgument, twoArguments, statementIn}
-use Rattle.stepper.proofs.Grows.{Grown, grown-on, grows-eval}
 use Rattle.stepper.proofs.Fates.{Acts, turnAt}
-use Rattle.stepper.proofs.Items.{Is-who, here-fits, evaluation-is, fit}
+use Rattle.stepper.proofs.Items.{IsWho, here-fits, evaluation-is, eval-fits}
 
 -- ---- each way to come to something, with n cells in use
-module _ (n : ℕ) (h : n ≤ 256) (th : ThreadWords) where
-  abbrev Few : Turned → Type 0
-  Few a = a .used ≤ 256
+abbrev Few : Turned → Type 0
+Few a = a .used ≤ 256
 
+module _ (n : ℕ) (h : n ≤ 256) (th : ThreadWords) where
   one-few : (a : ℕ) → oneIn th n a .used ≤ 256
   unfolding oneIn
   one-few a = if-all Few (leb 25 (th .items)) _ _ (λ _. h) (λ _. h)
@@ -71,24 +70,24 @@ module _ (n : ℕ) (h : n ≤ 256) (th : ThreadWords) where
 
 lets-few : (n : ℕ) → n ≤ 256 → (th : ThreadWords) (v body : ℕ) → letsIn th n v body .used ≤ 256
 unfolding letsIn
-lets-few n h th v body = if-all (λ (a : Turned). a .used ≤ 256) (leb 25 (th .values)) _ _ (λ _. h) (λ _. if-all (λ (a : Turned). a .used ≤ 256) (leb 24 (th .items)) _ _ (λ _. h) (λ _. h))
+lets-few n h th v body = if-all Few (leb 25 (th .values)) _ _ (λ _. h) (λ _. if-all Few (leb 24 (th .items)) _ _ (λ _. h) (λ _. h))
 
 does-few : (n : ℕ) → n ≤ 256 → (th : ThreadWords) (q body : ℕ) → doesIn th n q body .used ≤ 256
 unfolding doesIn
 does-few n h th q body =
-    if-all (λ (a : Turned). a .used ≤ 256) (eqb (th .place) 1 && eqb q 1) _ _ (λ _. h)
-    (λ _. if-all (λ (a : Turned). a .used ≤ 256) (leb 24 (th .items)) _ _ (λ _. h) (λ _. goes-few n h _ (th .place) q))
+    if-all Few (eqb (th .place) 1 && eqb q 1) _ _ (λ _. h)
+    (λ _. if-all Few (leb 24 (th .items)) _ _ (λ _. h) (λ _. goes-few n h _ (th .place) q))
 
-module _ {fs : List Frame} {P : Program} {n : ℕ} {w : List ℕ} {s : State} {c k : ℕ} (A : Acts fs P n w s c k) (x : Thread) (X : ThreadFits fs n x) (who : Who) (W : Is-who P k x who) where
+module _ {fs : List Frame} {P : Program} {n : ℕ} {w : List ℕ} {s : State} {c k : ℕ} (A : Acts fs P n w s c k) (x : Thread) (X : ThreadFits fs n x) (who : Who) (W : IsWho P k x who) where
   abbrev th : ThreadWords
   th = wordsOf x
 
   -- the value of an expression
-  module _ (cs : List Stored) (C : CellsFit n cs) (g : Grown (s .cells) cs) (e : Expr) (E : ExprFits n e) where
+  module _ (cs : List Stored) (C : CellsFit n cs) (e : Expr) (E : ExprFits n e) where
     value-few : (On : Result → ActedOn) → ((r : Evaluated) → length (r .cells) ≤ 256 → On (resultOf r) .acted .used ≤ 256) → On (evaluatedIn who (wordsOf x) e (length cs) (cellWords cs)) .acted .used ≤ 256
     value-few On f =
         subst (λ (r : Result). On r .acted .used ≤ 256) (sym (evaluation-is A x X who W cs [] C (λ h. eval h e)))
-        (f (eval (evaluator (turnAt A x cs [])) e cs) (fit A x X who W cs [] C g e E .cells .room))
+        (f (eval (evaluator (turnAt A x cs [])) e cs) (eval-fits A x X who W cs [] C e E .cells .room))
 
   on-few : (o : Outcome) (m : ℕ) (ws : List ℕ) (K : Value → ActedOn) → m ≤ 256 → ((v : Value) → K v .acted .used ≤ 256) → thenOn o (wordsOf x) m ws K .acted .used ≤ 256
   on-few (Is v) m ws K h f = f v
@@ -96,38 +95,38 @@ module _ {fs : List Frame} {P : Program} {n : ℕ} {w : List ℕ} {s : State} {c
   on-few Spent m ws K h f = h
   on-few Stuck m ws K h f = h
 
-  starts-few : (waits : Bool) (m : ℕ) (cs : List Stored) → CellsFit n cs → Grown (s .cells) cs → (xs : List Expr) → All (ExprFits n) xs → startsIn who (request waits m) (wordsOf x) (length cs) (cellWords cs) xs .acted .used ≤ 256
-  starts-few waits m cs C g [] f = C .room
-  starts-few waits m cs C g (e ∷ []) (more E f) =
-      value-few cs C g e E (oneArgument (request waits m) th) (λ r h. then-few (length (r .cells)) h th (r .outcome) _ (λ _. h))
-  starts-few waits m cs C g (e ∷ d ∷ xs) (more E (more D f)) =
+  starts-few : (waits : Bool) (m : ℕ) (cs : List Stored) → CellsFit n cs → (xs : List Expr) → All (ExprFits n) xs → startsIn who (request waits m) (wordsOf x) (length cs) (cellWords cs) xs .acted .used ≤ 256
+  starts-few waits m cs C [] f = C .room
+  starts-few waits m cs C (e ∷ []) (more E f) =
+      value-few cs C e E (oneArgument (request waits m) th) (λ r h. then-few (length (r .cells)) h th (r .outcome) _ (λ _. h))
+  starts-few waits m cs C (e ∷ d ∷ xs) (more E (more D f)) =
       subst (λ (r : Result). twoArguments who (request waits m) th d r .acted .used ≤ 256) (sym (evaluation-is A x X who W cs [] C (λ h. eval h e)))
       (on-few (r .outcome) (length (r .cells)) (cellWords (r .cells)) _ (F .cells .room)
-      (λ v. value-few (r .cells) (F .cells) (grown-on g (grows-eval (evaluator (turnAt A x cs [])) e cs)) d D (lastArgument (request waits m) th (valueWord v))
+      (λ v. value-few (r .cells) (F .cells) d D (lastArgument (request waits m) th (valueWord v))
       (λ q h. then-few (length (q .cells)) h th (q .outcome) _ (λ _. h))))
     where
       r : Evaluated
       r = eval (evaluator (turnAt A x cs [])) e cs
 
       F : EvalFits n (eval (evaluator (turnAt A x cs [])) e cs)
-      F = fit A x X who W cs [] C g e E
+      F = eval-fits A x X who W cs [] C e E
 
-  pub statement-few : (cs : List Stored) → CellsFit n cs → Grown (s .cells) cs → (st : Stmt) → Parts fs n st → statementIn who (wordsOf x) (length cs) (cellWords cs) st .acted .used ≤ 256
-  statement-few cs C g st of-nothing = C .room
-  statement-few cs C g st of-cooperate = cooperates-few (length cs) (C .room) th
-  statement-few cs C g st (of-seq {a = a} {b = b} i j) = two-few (length cs) (C .room) th (rootS a) (rootS b)
-  statement-few cs C g st (of-do {q = q} {a = a} p i) = does-few (length cs) (C .room) th q (rootS a)
-  statement-few cs C g st (of-start {m = m} {xs = xs} es) = starts-few false m cs C g xs es
-  statement-few cs C g st (of-wait {m = m} {xs = xs} es) = starts-few true m cs C g xs es
-  statement-few cs C g st (of-let {x = e} {a = a} E i) =
-      value-few cs C g e E (letsOn th (rootS a)) (λ r h. then-few (length (r .cells)) h th (r .outcome) _ (λ v. lets-few (length (r .cells)) h th (valueWord v) (rootS a)))
-  statement-few cs C g st (of-store {x = d} {y = e} D E) =
+  pub statement-few : (cs : List Stored) → CellsFit n cs → (st : Stmt) → Parts fs n st → statementIn who (wordsOf x) (length cs) (cellWords cs) st .acted .used ≤ 256
+  statement-few cs C st of-nothing = C .room
+  statement-few cs C st of-cooperate = cooperates-few (length cs) (C .room) th
+  statement-few cs C st (of-seq {a = a} {b = b} i j) = two-few (length cs) (C .room) th (rootS a) (rootS b)
+  statement-few cs C st (of-do {q = q} {a = a} p i) = does-few (length cs) (C .room) th q (rootS a)
+  statement-few cs C st (of-start {m = m} {xs = xs} es) = starts-few false m cs C xs es
+  statement-few cs C st (of-wait {m = m} {xs = xs} es) = starts-few true m cs C xs es
+  statement-few cs C st (of-let {x = e} {a = a} E i) =
+      value-few cs C e E (letsOn th (rootS a)) (λ r h. then-few (length (r .cells)) h th (r .outcome) _ (λ v. lets-few (length (r .cells)) h th (valueWord v) (rootS a)))
+  statement-few cs C st (of-store {x = d} {y = e} D E) =
       subst (λ (r : Result). storesOn th r .acted .used ≤ 256) (sym (evaluation-is A x X who W cs [] C (λ h. storing h d e)))
       (let l = fit-storing (evaluator (turnAt A x cs [])) cs (here-fits A x X who W cs []) C D E .cells .room in
       then-few (length (storing (evaluator (turnAt A x cs [])) d e cs .cells)) l th (storing (evaluator (turnAt A x cs [])) d e cs .outcome) _ (λ _. l))
-  statement-few cs C g st (of-if {x = e} {a = a} {b = b} E i j) =
-      value-few cs C g e E (choosesOn th (rootS a) (rootS b))
+  statement-few cs C st (of-if {x = e} {a = a} {b = b} E i j) =
+      value-few cs C e E (choosesOn th (rootS a) (rootS b))
       (λ r h. then-few (length (r .cells)) h th (r .outcome) _ (λ v. truth-few (length (r .cells)) h th v _ _ (one-few (length (r .cells)) h th (rootS a)) (one-few (length (r .cells)) h th (rootS b))))
-  statement-few cs C g st (of-while {i = i} {x = e} {a = a} E j) =
-      value-few cs C g e E (loopsOn th (rootS a) i)
+  statement-few cs C st (of-while {i = i} {x = e} {a = a} E j) =
+      value-few cs C e E (loopsOn th (rootS a) i)
       (λ r h. then-few (length (r .cells)) h th (r .outcome) _ (λ v. truth-few (length (r .cells)) h th v _ _ (two-few (length (r .cells)) h th (rootS a) i) h))

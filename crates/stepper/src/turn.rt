@@ -31,7 +31,7 @@ fn standing_at(place: u64) -> Place
     }
 }
 
-// What the turn of a thread that is there comes to, and how many cells there were before it.
+// What the turn of a thread that is there comes to. Of the words, only those of the cells are written.
 fn act_in(frames: &[u64], shared: usize, state: &mut [u64], t: u64) -> Acted
     requires { ⌜ StepWords (now frames) shared (now state) × (1 ≤ t) × (t ≤ getD (now state) 0 0) ⌝ }
     ensures { λ r. ⌜ turnOn r (now (state .exit)) (now (frames .entry)) shared (now (state .entry)) t ⌝ }

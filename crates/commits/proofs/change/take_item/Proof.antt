@@ -20,7 +20,7 @@ slice-read-if1 : tie.Need-slice-read-if1
 slice-read-if1 c = search needs
 
 returns : tie.Need-returns
-returns c = search (taken-none, taken)
+returns c = search taken-none
 
 pop-item-requires : tie.Need-pop-item-requires
 pop-item-requires c κs = search needs
@@ -29,7 +29,7 @@ same-length : tie.Need-same-length
 same-length c = search needs
 
 returns-2 : tie.Need-returns-2
-returns-2 c = search (taken-none, taken)
+returns-2 c = search taken
 
 pub take-item-spec : {M : Type 1} → statement M
 take-item-spec =

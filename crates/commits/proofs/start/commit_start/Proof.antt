@@ -60,7 +60,9 @@ returns-3 : tie.Need-returns-3
 returns-3 c = search start-laws
 
 start-and-wait-requires : tie.Need-start-and-wait-requires
-start-and-wait-requires c κs = (search needs, search (free-count, c .before .before .before .before .before .before .obstacle .ensures, c .before .before .before .before .before .if1 .left), search (place-is, c .before .before .before .before .before .before .before .before .place-after .ensures))
+start-and-wait-requires c κs =
+    let tested = c .before .before .before .before .before in
+    (search needs, search (free-count, tested .before .obstacle .ensures, tested .if1 .left), search (place-is, tested .before .before .before .place-after .ensures))
 
 same-length-4 : tie.Need-same-length-4
 same-length-4 c = search needs

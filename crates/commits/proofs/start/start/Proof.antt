@@ -28,8 +28,16 @@ join-requires c κs = search needs
 same-length : tie.Need-same-length
 same-length c = search needs
 
+-- by hand: `search` breaks off behind so many calls on the same words
 returns : tie.Need-returns
-returns c = started _ _ _ _ _ (c .before .before .before .before .before .before .before .before .before .before .before .before .before .before .before .before .args .a) _ _ (c .before .before .before .before .before .before .before .before .before .before .before .before .before .before .before .before .pre .2) (c .before .before .before .before .before .before .before .before .before .before .before .before .before .thread-count .ensures) (c .before .before .before .before .before .before .before .new-thread .ensures) _ _ (c .before .before .join .ensures) (c .before .before .before .before .before .before .add-thread .ensures) (c .before .before .before .before .before .before .before .before .before .before .before .settle .ensures)
+returns c =
+    let joins = c .before .before in
+    let adds = joins .before .before .before .before in
+    let makes = adds .before in
+    let settles = makes .before .before .before .before in
+    let counts = settles .before .before in
+    let entry = counts .before .before .before in
+    started _ _ _ _ _ (entry .args .a) _ _ (entry .pre .2) (counts .thread-count .ensures) (makes .new-thread .ensures) _ _ (joins .join .ensures) (adds .add-thread .ensures) (settles .settle .ensures)
 
 pub start-spec : {M : Type 1} → statement M
 start-spec =

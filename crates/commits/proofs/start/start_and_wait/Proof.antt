@@ -37,8 +37,17 @@ join-both-requires c κs = search needs
 same-length : tie.Need-same-length
 same-length c = search needs
 
+-- by hand: `search` breaks off behind so many calls on the same words
 returns : tie.Need-returns
-returns c = waiting _ _ _ _ _ (c .before .before .before .before .before .before .before .before .before .before .before .before .before .before .before .before .before .before .before .before .args .a) _ _ (c .before .before .before .before .before .before .before .before .before .before .before .before .before .before .before .before .before .before .before .before .pre .2) (c .before .before .before .before .before .before .before .before .before .before .before .before .before .before .before .before .before .thread-count .ensures) (c .before .before .before .before .before .before .before .new-thread .ensures) _ _ _ _ (c .before .before .join-both .ensures) (c .before .before .before .before .before .before .add-thread .ensures) (c .before .before .before .before .before .before .before .before .before .before .before .leave .ensures) (c .before .before .before .before .before .before .before .before .before .before .before .before .before .before .before .settle .ensures)
+returns c =
+    let joins = c .before .before in
+    let adds = joins .before .before .before .before in
+    let makes = adds .before in
+    let leaves = makes .before .before .before .before in
+    let settles = leaves .before .before .before .before in
+    let counts = settles .before .before in
+    let entry = counts .before .before .before in
+    waiting _ _ _ _ _ (entry .args .a) _ _ (entry .pre .2) (counts .thread-count .ensures) (makes .new-thread .ensures) _ _ _ _ (joins .join-both .ensures) (adds .add-thread .ensures) (leaves .leave .ensures) (settles .settle .ensures)
 
 pub start-and-wait-spec : {M : Type 1} → statement M
 start-and-wait-spec =

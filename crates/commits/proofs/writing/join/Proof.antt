@@ -1,7 +1,5 @@
 -- `join` meets its contract. Assumes nothing.
 use borrow.Author.Needs.{needs}
-use native.Mathlib.Omega.{arith}
-use Prim.Native.Nat.{_≤_}
 use Rattle.commits.proofs.WritingLaws.{joined-laws, list-in}
 use Rattle.commits.proofs.writing.join.Statement.{statement}
 use Rattle.commits.proofs.writing.join.Tie as tie
@@ -13,14 +11,10 @@ returns : tie.Need-returns
 returns c = search joined-laws
 
 sub-append : tie.Need-sub-append
-sub-append c = list-in (c .before .before .before .before .args .q) _ (c .before .before .is-list .ensures) (c .before .if1 .left) .0
+sub-append c = list-in _ _ (c .before .before .is-list .ensures) (c .before .if1 .left) .0
 
 append-requires : tie.Need-append-requires
-append-requires c κs =
-    let p : (2 ≤ c .before .before .before .before .args .q) × (c .before .before .before .before .args .q ≤ 9) = list-in (c .before .before .before .before .args .q) _ (c .before .before .is-list .ensures) (c .before .if1 .left) in
-    let a = p .0 in
-    let b = p .1 in
-    (c .before .before .before .before .pre, omega arith)
+append-requires c κs = (c .before .before .before .before .pre, list-in _ _ (c .before .before .is-list .ensures) (c .before .if1 .left) .1)
 
 same-length : tie.Need-same-length
 same-length c = search needs

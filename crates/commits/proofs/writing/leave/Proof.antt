@@ -1,7 +1,5 @@
 -- `leave` meets its contract. Assumes nothing.
 use borrow.Author.Needs.{needs}
-use native.Mathlib.Omega.{arith}
-use Prim.Native.Nat.{_≤_}
 use Rattle.commits.proofs.WritingLaws.{left-laws, list-in}
 use Rattle.commits.proofs.writing.leave.Statement.{statement}
 use Rattle.commits.proofs.writing.leave.Tie as tie
@@ -13,14 +11,10 @@ returns : tie.Need-returns
 returns c = search left-laws
 
 sub-drop-first : tie.Need-sub-drop-first
-sub-drop-first c = list-in (c .before .before .before .before .args .choice) _ (c .before .before .is-list .ensures) (c .before .if1 .left) .0
+sub-drop-first c = list-in _ _ (c .before .before .is-list .ensures) (c .before .if1 .left) .0
 
 drop-first-requires : tie.Need-drop-first-requires
-drop-first-requires c κs =
-    let p : (2 ≤ c .before .before .before .before .args .choice) × (c .before .before .before .before .args .choice ≤ 9) = list-in (c .before .before .before .before .args .choice) _ (c .before .before .is-list .ensures) (c .before .if1 .left) in
-    let a = p .0 in
-    let b = p .1 in
-    (c .before .before .before .before .pre, omega arith)
+drop-first-requires c κs = (c .before .before .before .before .pre, list-in _ _ (c .before .before .is-list .ensures) (c .before .if1 .left) .1)
 
 same-length : tie.Need-same-length
 same-length c = search needs

@@ -1,7 +1,5 @@
 -- `room_at` meets its contract. Assumes nothing.
 use borrow.Author.Needs.{needs}
-use native.Mathlib.Omega.{arith}
-use Prim.Native.Nat.{_≤_}
 use Rattle.commits.proofs.WritingLaws.{room-laws, list-in}
 use Rattle.commits.proofs.writing.room_at.Statement.{statement}
 use Rattle.commits.proofs.writing.room_at.Tie as tie
@@ -13,14 +11,10 @@ returns : tie.Need-returns
 returns c = search room-laws
 
 sub-has-room : tie.Need-sub-has-room
-sub-has-room c = list-in (c .before .before .before .args .q) _ (c .before .is-list .ensures) (c .if1 .left) .0
+sub-has-room c = list-in _ _ (c .before .is-list .ensures) (c .if1 .left) .0
 
 has-room-requires : tie.Need-has-room-requires
-has-room-requires c κs =
-    let p : (2 ≤ c .before .before .before .args .q) × (c .before .before .before .args .q ≤ 9) = list-in (c .before .before .before .args .q) _ (c .before .is-list .ensures) (c .if1 .left) in
-    let a = p .0 in
-    let b = p .1 in
-    (c .before .before .before .pre, omega arith)
+has-room-requires c κs = (c .before .before .before .pre, list-in _ _ (c .before .is-list .ensures) (c .if1 .left) .1)
 
 returns-2 : tie.Need-returns-2
 returns-2 c = search room-laws

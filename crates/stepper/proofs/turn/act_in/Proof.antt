@@ -2,57 +2,57 @@
 use borrow.Author.Needs.{needs}
 use native.Mathlib.Omega.{arith}
 use mathlib.Core.Path.{refl, sym}
-use Rattle.stepper.proofs.StepLaws.{step-long, threads-few, place-read, items-read, variables-room, variables-are, variables-count, number-is, act-asks, act-gives}
+use Rattle.stepper.proofs.ActLaws.{act-bounds, place-read, items-read, variables-room, variables-are, variables-count, number-is, act-asks, act-gives}
 use Rattle.stepper.proofs.turn.act_in.Statement.{statement}
 use Rattle.stepper.proofs.turn.act_in.Tie as tie
 
 slice-read-used : tie.Need-slice-read-used
-slice-read-used c = let p = c .before .before .before .pre in let l = step-long _ _ _ (p .0) in let m = threads-few _ _ _ (p .0) in let a = p .1 in let b = p .2 in omega arith
+slice-read-used c = let b = act-bounds (c .before .before .before .pre) in omega arith
 
 sub-k : tie.Need-sub-k
-sub-k c = let p = c .before .before .before .pre in let l = step-long _ _ _ (p .0) in let m = threads-few _ _ _ (p .0) in let a = p .1 in let b = p .2 in omega arith
+sub-k c = let b = act-bounds (c .before .before .before .pre) in omega arith
 
 mul-at : tie.Need-mul-at
-mul-at c = let p = c .before .before .before .pre in let l = step-long _ _ _ (p .0) in let m = threads-few _ _ _ (p .0) in let a = p .1 in let b = p .2 in record { fits = omega arith }
+mul-at c = let b = act-bounds (c .before .before .before .pre) in record { fits = omega arith }
 
 add-at : tie.Need-add-at
-add-at c = let p = c .before .before .before .pre in let l = step-long _ _ _ (p .0) in let m = threads-few _ _ _ (p .0) in let a = p .1 in let b = p .2 in omega arith
+add-at c = let b = act-bounds (c .before .before .before .pre) in omega arith
 
 mul-standing-at : tie.Need-mul-standing-at
-mul-standing-at c = let p = c .before .before .before .pre in let l = step-long _ _ _ (p .0) in let m = threads-few _ _ _ (p .0) in let a = p .1 in let b = p .2 in record { fits = omega arith }
+mul-standing-at c = let b = act-bounds (c .before .before .before .pre) in record { fits = omega arith }
 
 slice-read-standing-at : tie.Need-slice-read-standing-at
-slice-read-standing-at c = let p = c .before .before .before .before .pre in let l = step-long _ _ _ (p .0) in let m = threads-few _ _ _ (p .0) in let a = p .1 in let b = p .2 in omega arith
+slice-read-standing-at c = let b = act-bounds (c .before .before .before .before .pre) in omega arith
 
 standing-at-requires : tie.Need-standing-at-requires
 standing-at-requires c κs = let p = c .before .before .before .before .pre in place-read _ _ _ (p .0) _ (p .1) (p .2) _ refl
 
 add-t16 : tie.Need-add-t16
-add-t16 c = let p = c .before .before .before .before .before .pre in let l = step-long _ _ _ (p .0) in let m = threads-few _ _ _ (p .0) in let a = p .1 in let b = p .2 in omega arith
+add-t16 c = let b = act-bounds (c .before .before .before .before .before .pre) in omega arith
 
 mul-t18 : tie.Need-mul-t18
-mul-t18 c = let p = c .before .before .before .before .before .pre in let l = step-long _ _ _ (p .0) in let m = threads-few _ _ _ (p .0) in let a = p .1 in let b = p .2 in record { fits = omega arith }
+mul-t18 c = let b = act-bounds (c .before .before .before .before .before .pre) in record { fits = omega arith }
 
 slice-read-t15 : tie.Need-slice-read-t15
-slice-read-t15 c = let p = c .before .before .before .before .before .before .pre in let l = step-long _ _ _ (p .0) in let m = threads-few _ _ _ (p .0) in let a = p .1 in let b = p .2 in omega arith
+slice-read-t15 c = let b = act-bounds (c .before .before .before .before .before .before .pre) in omega arith
 
 add-t20 : tie.Need-add-t20
-add-t20 c = let p = c .before .before .before .before .before .before .pre in let l = step-long _ _ _ (p .0) in let m = threads-few _ _ _ (p .0) in let a = p .1 in let b = p .2 in omega arith
+add-t20 c = let b = act-bounds (c .before .before .before .before .before .before .pre) in omega arith
 
 mul-t21 : tie.Need-mul-t21
-mul-t21 c = let p = c .before .before .before .before .before .before .pre in let l = step-long _ _ _ (p .0) in let m = threads-few _ _ _ (p .0) in let a = p .1 in let b = p .2 in record { fits = omega arith }
+mul-t21 c = let b = act-bounds (c .before .before .before .before .before .before .pre) in record { fits = omega arith }
 
 slice-read-t23 : tie.Need-slice-read-t23
-slice-read-t23 c = let p = c .before .before .before .before .before .before .before .pre in let l = step-long _ _ _ (p .0) in let m = threads-few _ _ _ (p .0) in let a = p .1 in let b = p .2 in omega arith
+slice-read-t23 c = let b = act-bounds (c .before .before .before .before .before .before .before .pre) in omega arith
 
 cast-t24 : tie.Need-cast-t24
-cast-t24 c = let p = c .before .before .before .before .before .before .before .pre in let l = step-long _ _ _ (p .0) in let m = threads-few _ _ _ (p .0) in let a = p .1 in let b = p .2 in record { fits = omega arith }
+cast-t24 c = let b = act-bounds (c .before .before .before .before .before .before .before .pre) in record { fits = omega arith }
 
 top-item-requires : tie.Need-top-item-requires
-top-item-requires c κs = let p = c .before .before .before .before .before .before .before .before .pre in let l = step-long _ _ _ (p .0) in let m = threads-few _ _ _ (p .0) in let a = p .1 in let b = p .2 in (l, omega arith, items-read _ _ _ (p .0) _ (p .1) (p .2))
+top-item-requires c κs = let p = c .before .before .before .before .before .before .before .before .pre in let b = act-bounds p in (b .0, omega arith, items-read _ _ _ (p .0) _ (p .1) (p .2))
 
 load-variables-requires : tie.Need-load-variables-requires
-load-variables-requires c κs = let p = c .before .before .before .before .before .before .before .before .before .before .pre in let l = step-long _ _ _ (p .0) in let m = threads-few _ _ _ (p .0) in let a = p .1 in let b = p .2 in (l, omega arith)
+load-variables-requires c κs = let p = c .before .before .before .before .before .before .before .before .before .before .pre in let b = act-bounds p in (b .0, omega arith)
 
 array-share-prefix-variables : tie.Need-array-share-prefix-variables
 array-share-prefix-variables c = let p = c .before .before .before .before .before .before .before .before .before .before .before .pre in variables-room _ _ _ (p .0) _ (p .1) (p .2) _ (c .load-variables .ensures)
@@ -61,10 +61,10 @@ slice-aggregate-act : tie.Need-slice-aggregate-act
 slice-aggregate-act c = let p = c .before .before .before .before .before .before .before .before .before .before .before .before .pre in variables-count _ _ _ (p .0) _ (p .1) (p .2) _ (c .before .load-variables .ensures)
 
 sub-act : tie.Need-sub-act
-sub-act c = let p = c .before .before .before .before .before .before .before .before .before .before .before .before .pre in let l = step-long _ _ _ (p .0) in let m = threads-few _ _ _ (p .0) in let a = p .1 in let b = p .2 in omega arith
+sub-act c = let b = act-bounds (c .before .before .before .before .before .before .before .before .before .before .before .before .pre) in omega arith
 
 part-act-start : tie.Need-part-act-start
-part-act-start c = let p = c .before .before .before .before .before .before .before .before .before .before .before .before .pre in let l = step-long _ _ _ (p .0) in let m = threads-few _ _ _ (p .0) in let a = p .1 in let b = p .2 in omega arith
+part-act-start c = let b = act-bounds (c .before .before .before .before .before .before .before .before .before .before .before .before .pre) in omega arith
 
 part-act-end : tie.Need-part-act-end
 part-act-end c = search needs

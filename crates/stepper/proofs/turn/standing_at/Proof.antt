@@ -1,7 +1,7 @@
 -- `standing_at` meets its contract. Assumes nothing.
 use borrow.Author.Needs.{needs}
 use native.Mathlib.Omega.{arith}
-use Rattle.stepper.proofs.TurnLaws.{stands-at, stands-nowhere}
+use Rattle.stepper.proofs.ActLaws.{stands-at, stands-nowhere}
 use Rattle.stepper.proofs.turn.standing_at.Statement.{statement}
 use Rattle.stepper.proofs.turn.standing_at.Tie as tie
 

@@ -1,0 +1,229 @@
+-- What `act_in` reads of a thread that is there, that this is what `act` asks, and what it gives. Assumes nothing.
+use Prim.Native.Nat.{ℕ, zero, suc, _+_, _-_, _*_, _<_, _≤_}
+use mathlib.Core.Path.{_≡_, refl, sym, ap, ap₂, _∙_, subst}
+use mathlib.Core.List.{List, [], _∷_, _++_, map, reverse, append-assoc}
+use mathlib.Core.Bool.{Bool, true, _&&_, false≢true}
+use native.Mathlib.Omega.{arith}
+use lib.ListN as list
+use lib.ListN.{length, getD, take, length-map, length-drop}
+use lib.Seq.{ext-getD, length-take-le, getD-take, getD-drop, take-all, drop-drop}
+use lib.Dec.{leb}
+use borrow.Author.Tests.{le-leb}
+use Rattle.basics.specs.Members.{All, more}
+use Rattle.basics.proofs.Ifs.{if-yes}
+use Rattle.language.specs.Places.{isPlace, placeRead}
+use Rattle.language.specs.declared.Place.{Place}
+use Rattle.language.specs.declared.PlaceRead.{PlaceRead}
+use Rattle.language.specs.declared.PlaceRead.the-variants.{At, NoPlace}
+use Rattle.language.specs.declared.kind.Kind.{Kind}
+use Rattle.language.specs.declared.kind.Kind.the-variants.{Header, Shared, Module, Statement, Expression, Unknown}
+use Rattle.text.specs.Frames.{framesOf}
+use Rattle.program.specs.Trees.{rootS, frameAt}
+use Rattle.program.specs.Programs.{programOf}
+use Rattle.machine.specs.State.{State, Thread, Item, run, back, drop, threadAt}
+use Rattle.machine.specs.Words.{itemWord, valueWord}
+use Rattle.machine.specs.Ranges.{isStatement}
+use Rattle.machine.specs.Blocks.{pasted, padded, cellWords}
+use Rattle.machine.specs.declared.value.Value.{Value}
+use Rattle.machine.proofs.WordLaws.{part-length}
+use Rattle.machine.proofs.Blocks.{cells-length, cells-at}
+use Rattle.machine.proofs.Shapes.{ThreadFits, ValueFits, ItemFits, run-fits}
+use Rattle.machine.proofs.InShape.{value-in}
+use Rattle.machine.proofs.Padded.{padded-at}
+use Rattle.evaluator.specs.declared.operation.Who.{Who}
+use Rattle.evaluator.specs.Results.{CellWords, ValueWords}
+use Rattle.evaluator.proofs.Holding.{holds-words}
+use Rattle.states.specs.declared.thread.ThreadWords.{ThreadWords}
+use Rattle.states.specs.Threads.{wordsOf, threadIn}
+use Rattle.states.proofs.StackLaws.{withContinuation, top-item-is}
+use Rattle.reach.proofs.Passed.{order, inside, some-frame}
+use Rattle.acts.specs.declared.act.Acted.{Acted}
+use Rattle.acts.specs.Fates.{popped, turned, Room}
+use Rattle.turns.specs.declared.view.View.{View}
+use Rattle.turns.specs.Acts.{ActedOn, actedOn, turnIn, topIn, variablesIn, Views, WholeTurn, TurnWords}
+use Rattle.stepper.specs.Files.{StepWords, stateIn, whoIn, turnOf, turnOn}
+use Rattle.stepper.proofs.Variables.{variables-words}
+use Rattle.stepper.proofs.StepLaws.{shaped, says, step-long, threads-few, thread-read, fit, place-in}
+
+-- ---- the place on which a thread stands
+is-place : (n : ℕ) → 1 ≤ n → n ≤ 9 → isPlace n ≡ true
+is-place n a b = ap (λ (t : Bool). t && leb n 9) (le-leb 1 n a) ∙ le-leb n 9 b
+
+module _ (r : PlaceRead) (n : ℕ) (e : r ≡ placeRead (isPlace n) n) (low : 1 ≤ n) (high : n ≤ 9) where
+  read-at : r ≡ At (record { number = n })
+  unfolding placeRead
+  read-at = e ∙ if-yes _ _ (is-place n low high)
+
+  pub stands-at : (p : Place) → r ≡ At p → p ≡ record { number = n }
+  stands-at p h = let z : At p ≡ At (record { number = n }) = sym h ∙ read-at in cc
+
+  pub stands-nowhere : (p : Place) → r ≡ NoPlace → p ≡ record { number = n }
+  stands-nowhere p h = absurd (let z : NoPlace ≡ At (record { number = n }) = sym h ∙ read-at in let y : _≡_ {A = ℕ} 0 1 = cc in omega arith)
+
+pub number-is : (p : Place) (i : ℕ) → p ≡ record { number = i } → p .number ≡ i
+number-is p i e = ap (λ (q : Place). q .number) e
+
+-- ---- where the words lie that are read
+pub act-bounds : {frames : List ℕ} {shared : ℕ} {w : List ℕ} {t : ℕ} → StepWords frames shared w × (1 ≤ t) × (t ≤ getD w 0 0) → (length w ≡ 4818) × (1 ≤ t) × (t ≤ 64)
+act-bounds {frames} {shared} {w} p = let m = threads-few frames shared w (p .0) in let a = p .1 in let b = p .2 in (step-long frames shared w (p .0), a, omega arith)
+
+module _ (frames : List ℕ) (shared : ℕ) (w : List ℕ) (h : StepWords frames shared w) (t : ℕ) (low : 1 ≤ t) (high : t ≤ getD w 0 0) where
+  abbrev s : State
+  s = stateIn frames w
+
+  abbrev x : Thread
+  x = threadAt (stateIn frames w) t
+
+  abbrev th : ThreadWords
+  th = threadIn w (t - 1)
+
+  abbrev n : ℕ
+  n = programOf (framesOf frames) .schedulers
+
+  read : th ≡ wordsOf x
+  read = thread-read frames shared w h t low high
+
+  fits : ThreadFits (framesOf frames) n x
+  fits = fit frames shared w h t low high
+
+  long : length w ≡ 4818
+  long = step-long frames shared w h
+
+  -- ---- the place and the counts
+  pub place-read : (p : ℕ) → p ≡ getD w (1042 + 55 * (t - 1)) 0 → (1 ≤ p) × (p ≤ 9)
+  place-read p e = subst (λ (i : ℕ). (1 ≤ i) × (i ≤ 9)) (sym (e ∙ ap (λ (y : ThreadWords). y .place) read)) (place-in frames shared w h t low high)
+
+  pub items-read : getD w (1042 + 55 * (t - 1) + 3) 0 ≤ 25
+  items-read = subst (λ (y : ThreadWords). y .items ≤ 25) (sym read) (fits .items-room)
+
+  values-read : getD w (1042 + 55 * (t - 1) + 29) 0 ≤ 25
+  values-read = subst (λ (y : ThreadWords). y .values ≤ 25) (sym read) (fits .variables-room)
+
+  -- ---- the variables, of the 25 words that are copied
+  wide : length (th .variables) ≡ 25
+  wide = let l = long in let m = threads-few frames shared w h in part-length w (1042 + 55 * (t - 1) + 30) 25 (omega arith)
+
+  module _ (a : List ℕ) (e : a ≡ th .variables) where
+    pub variables-room : th .values ≤ length a
+    variables-room = let z : length a ≡ 25 = ap length e ∙ wide in let b = values-read in omega arith
+
+    pub variables-are : take (th .values) a ≡ variablesIn th
+    variables-are = ap (take (th .values)) e
+
+    pub variables-count : th .values ≡ length (take (th .values) a)
+    variables-count = sym (length-take-le (th .values) a variables-room)
+
+  values-in : (vs : List Value) → All ValueFits vs → ValueWords (map valueWord vs)
+  values-in [] f k g = absurd (omega arith)
+  values-in (v ∷ vs) (more p f) zero g = value-in v p
+  values-in (v ∷ vs) (more p f) (suc k) g = values-in vs f k (omega arith)
+
+  variables-in : ValueWords (variablesIn (wordsOf x))
+  variables-in = subst ValueWords (sym (variables-words x (fits .variables-room))) (values-in (x .variables) (fits .values))
+
+  -- ---- the top item: one that is a statement's is a frame of the file
+  statement-there : (i : ℕ) → isStatement (frameAt (framesOf frames) i .kind) ≡ true → i < length frames
+  statement-there i e = rw length-map at (by (frameAt (framesOf frames) i .kind) refl e)
+    where
+      by : (k : Kind) → frameAt (framesOf frames) i .kind ≡ k → isStatement k ≡ true → i < length (framesOf frames)
+      by (Statement k) q e = inside (h .file .laid-out) i (Statement k) q refl
+      by (Expression k) q e = absurd (false≢true e)
+      by Header q e = absurd (false≢true e)
+      by Shared q e = absurd (false≢true e)
+      by Module q e = absurd (false≢true e)
+      by Unknown q e = absurd (false≢true e)
+
+  item-there : (i : Item) → ItemFits (framesOf frames) n i → itemWord i < 1024 → itemWord i < length frames
+  unfolding itemWord
+  item-there (run st) (run-fits l k e) g = statement-there (rootS st) k
+  item-there (back q) f g = absurd (omega arith)
+  item-there drop f g = absurd (omega arith)
+
+  -- where there is no item, its word is 0, which is a frame of every file
+  top-there : topIn (wordsOf x) < 1024 → topIn (wordsOf x) < length frames
+  top-there = go (x .continuation) refl (fits .items) (fits .items-room)
+    where
+      Goal : List Item → Type 0
+      Goal is = topIn (wordsOf (withContinuation is x)) < 1024 → topIn (wordsOf (withContinuation is x)) < length frames
+
+      go : (is : List Item) → x .continuation ≡ is → All (ItemFits (framesOf frames) n) is → length is ≤ 25 → Goal (x .continuation)
+      go [] e f l = subst Goal (sym e) (λ g. let z : 0 < length (framesOf frames) = some-frame (h .file .laid-out) in
+          let y : getD (padded 25 (reverse (map itemWord []))) (0 - 1) 0 ≡ 0 = padded-at 25 [] 0 (omega arith) in
+          rw y (rw length-map at z))
+      go (i ∷ is) e (more p f) l = subst Goal (sym e) (λ g. let q = top-item-is (withContinuation is x) i (omega arith) in rw q (item-there i p (rw q at g)))
+
+  -- ---- the cells: the words from 4562 on
+  cells-part : take (length w - 4562) (list.drop 4562 w) ≡ cellWords (s .cells)
+  cells-part =
+      ext-getD 0 (take (length w - 4562) (list.drop 4562 w)) (cellWords (s .cells)) (size ∙ sym (cells-length (s .cells)))
+      (λ j g. let l : j < 256 = rw size at g in
+      getD-take (length w - 4562) (list.drop 4562 w) j 0 (let z = long in omega arith) ∙ getD-drop 4562 w j 0 ∙ says frames shared w h .cell j l ∙ sym (cells-at (s .cells) j l))
+    where
+      size : length (take (length w - 4562) (list.drop 4562 w)) ≡ 256
+      size =
+          let z = long in
+          let d = length-drop 4562 w in
+          length-take-le (length w - 4562) (list.drop 4562 w) (omega arith) ∙ (let r : length w - 4562 ≡ 256 = omega arith in r)
+
+  cells-in : CellWords (length (s .cells)) (cellWords (s .cells))
+  cells-in = holds-words (length (s .cells)) (cellWords (s .cells)) (s .cells)
+      (record { count = refl; words = refl; room = shaped frames shared w h .cells-room; each = λ k g. shaped frames shared w h .cells k g .value })
+
+  -- ---- `act`, on what is seen of the thread, its top item, its variables and the cells
+  module _ (v : View) (item : ℕ) (vs : List ℕ) (used : ℕ) (cs : List ℕ) (seen : Views v th) (top : item ≡ topIn th) (variables : vs ≡ variablesIn th)
+      (u : used ≡ getD w 1 0) (cells : cs ≡ take (length w - 4562) (list.drop 4562 w)) where
+    sees : Views v (wordsOf x)
+    sees = subst (Views v) read seen
+
+    used-is : used ≡ length (s .cells)
+    used-is = u ∙ says frames shared w h .cells
+
+    cells-are : cs ≡ cellWords (s .cells)
+    cells-are = cells ∙ cells-part
+
+    pub act-asks : TurnWords frames v vs used cs × (item < 1024 → item < length frames)
+    act-asks = (
+      record {
+        ordered = order (h .file .laid-out);
+        place = subst (λ (i : ℕ). i ≤ 9) (sees .place) (place-in frames shared w h t low high .1);
+        items = subst (λ (i : ℕ). i ≤ 25) (sees .items) (fits .items-room);
+        count = ap length variables ∙ length-take-le (th .values) (th .variables) (let a = values-read in let b = wide in omega arith) ∙ seen .values;
+        variables = subst ValueWords (sym (variables ∙ ap variablesIn read)) variables-in;
+        cells = rw (used-is, cells-are) cells-in;
+      },
+      subst (λ (i : ℕ). i < 1024 → i < length frames) (sym (top ∙ ap topIn read)) top-there,
+    )
+
+    -- the words behind it are those before with its cells pasted in
+    pub act-gives : (who : Who) (a : Acted) (ds v' : List ℕ) → who ≡ record { thread = t; place = v .place; shared = shared }
+        → WholeTurn a ds v item vs (λ y. turnIn (framesOf frames) who y used cs)
+        → length ds ≡ length cs → v' ≡ take 4562 w ++ (ds ++ list.drop (length w - 4562) (list.drop 4562 w)) → turnOn a v' frames shared w t
+    unfolding pasted
+    act-gives who a ds v' o r l z = record {
+      acted = ap (λ (y : ActedOn). y .acted) same;
+      words = z ∙ whole;
+      whole = ap length (sym ds-is) ∙ size;
+      room = subst (λ (i : ℕ). Room (a .change) (i - 1) (wordsOf x .values)) (sym (sees .items)) (subst (λ (i : ℕ). Room (a .change) (v .items - 1) i) (sym (sees .values)) (r .room));
+    }
+      where
+        who-is : who ≡ whoIn frames shared w t
+        who-is = o ∙ ap (λ (i : ℕ). record { thread = t; place = record { number = i }; shared = shared }) (sym (sees .place))
+
+        same : actedOn (turned a (popped (wordsOf x))) ds ≡ turnOf frames shared w t
+        same = r .thread (wordsOf x) sees (sym (variables ∙ ap variablesIn read)) (sym (top ∙ ap topIn read))
+            ∙ ap₂ (λ (i : ℕ) (l : List ℕ). turnIn (framesOf frames) who (wordsOf x) i l) used-is cells-are
+            ∙ ap (λ (y : Who). turnIn (framesOf frames) y (wordsOf x) (length (s .cells)) (cellWords (s .cells))) who-is
+
+        size : length ds ≡ 256
+        size = l ∙ ap length cells-are ∙ cells-length (s .cells)
+
+        ds-is : ds ≡ turnOf frames shared w t .cells
+        ds-is = ap (λ (y : ActedOn). y .cells) same
+
+        whole : take 4562 w ++ (ds ++ list.drop (length w - 4562) (list.drop 4562 w)) ≡ pasted w 4562 (turnOf frames shared w t .cells) 256
+        whole =
+            let a : length ds ≤ 256 = rw size (omega arith) in
+            let b : length w - 4562 ≡ 256 = (let z = long in omega arith) in
+            ap (λ (y : List ℕ). take 4562 w ++ (ds ++ y)) (ap (λ (i : ℕ). list.drop i (list.drop 4562 w)) b ∙ drop-drop 256 4562 w)
+            ∙ ap (λ (y : List ℕ). take 4562 w ++ (y ++ list.drop (4562 + 256) w)) (sym (take-all 256 ds a))
+            ∙ sym (append-assoc (take 4562 w) (take 256 ds) (list.drop (4562 + 256) w)) ∙ ap (λ (y : List ℕ). pasted w 4562 y 256) ds-is
