@@ -15,7 +15,7 @@ use Rattle.program.specs.Programs.{programOf}
 use Rattle.layout.specs.LaidOut.{HasLayout, laidOut}
 use Rattle.layout.specs.declared.LaidOut.{LaidOut}
 use Rattle.layout.proofs.Answers.{verdict-is}
-use Rattle.layout.proofs.Accepted.{laid-right, layout-only}
+use Rattle.layout.proofs.Accepted.{laid-passed, layout-only}
 use Rattle.layout.proofs.AfterLayout.{text-refused}
 use Rattle.rules.specs.Verdict.{HasVerdict}
 use Rattle.machine.specs.Runs.{stateAfter}
@@ -27,7 +27,7 @@ use Rattle.stepper.specs.declared.answer.Answer.{Answer}
 use Rattle.stepper.specs.declared.answer.Answer.the-variants as A
 use Rattle.stepper.specs.Answers.{answered, calledAs}
 use Rattle.stepper.specs.Files.{FileWords}
-use Rattle.stepper.proofs.StepLaws.{fits-words}
+use Rattle.stepper.proofs.GoodWords.{fits-words}
 use Rattle.stepper.proofs.AnswerLaws.{refused-14, done-0, by-call, text-file}
 use Rattle.assured.specs.Assured.{exerciseCall, exerciseText, Assured}
 
@@ -87,7 +87,7 @@ module _ (bs : List ℕ) (l : LaidOut) (e : l ≡ laidOut bs) (cs w : List ℕ) 
           ∙ by-call bs l e v h a (λ fs. exerciseCall fs cs w) w n q
 
       same-frames : framesOf (take n (l .words)) ≡ textFrames bs
-      same-frames = ap (λ (i : ℕ). framesOf (take i (l .words))) q ∙ laid-right bs l e (sym h ∙ a) .lines
+      same-frames = ap (λ (i : ℕ). framesOf (take i (l .words))) q ∙ laid-passed bs l e (sym h ∙ a) .lines
 
       pub done-assured : Assured bs cs w u
       done-assured y _ = (accepted-calls-safe bs y w cs k, words ∙ ap (λ (fs : List Frame). wordsFrom fs (freshCall fs w .words) cs) same-frames)

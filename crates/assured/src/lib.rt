@@ -1,42 +1,28 @@
 // Demand 3, said of a call: a function that steps a whole list of choices and promises that all of it was safe.
 use language::verdict::Verdict;
 use layout::lay_out;
+use runs::steps::run_steps;
 use states::fresh::write_fresh;
 use stepper::answer::Answer;
-use stepper::file::File;
 use stepper::file::file_of;
-use stepper::valid::step_valid;
 ghost use mathlib.Core.Path.{_≡_};
 ghost use lib.ListN.{length};
 ghost use Rattle.text.specs.Frames.{framesOf};
 ghost use Rattle.program.specs.Programs.{programOf};
-ghost use Rattle.machine.specs.Fresh.{fresh};
 ghost use Rattle.machine.specs.Runs.{stateAfter};
 ghost use Rattle.machine.specs.Words.{pack};
 ghost use Rattle.stepper.specs.Answers.{answered};
-ghost use Rattle.stepper.specs.Files.{FileWords, fileOf};
+ghost use Rattle.stepper.specs.Files.{FileWords};
 ghost use Rattle.assured.specs.Assured.{exerciseText, Assured};
 
-// Every choice, from the fresh state on. The words are those of a state that was reached, so nothing is validated again.
-fn step_choices(frames: &[u64], file: File, choices: &[u64], state: &mut [u64])
-    requires { ⌜ FileWords (now frames) × (file ≡ fileOf (programOf (framesOf (now frames)))) × (now state ≡ pack (fresh (programOf (framesOf (now frames))))) ⌝ }
-    ensures { λ _. ⌜ now (state .exit) ≡ pack (stateAfter (programOf (framesOf (now (frames .entry)))) (now (choices .entry))) ⌝ }
-{
-    let mut k: usize = 0;
-    while k < choices.len() {
-        step_valid(frames, file, state, choices[k]);
-        k += 1;
-    }
-}
-
-// The whole list, from the fresh state of a file that passes refusals 1 to 7.
+// The whole list, from the fresh state of a file that passes refusals 1 to 7. The words are those of a state that was reached, so nothing is validated again.
 fn exercise_frames(frames: &[u64], choices: &[u64], state: &mut [u64])
     requires { ⌜ FileWords (now frames) × (length (now state) ≡ 4818) ⌝ }
     ensures { λ _. ⌜ now (state .exit) ≡ pack (stateAfter (programOf (framesOf (now (frames .entry)))) (now (choices .entry))) ⌝ }
 {
     let file = file_of(frames);
     write_fresh(frames, state);
-    step_choices(frames, file, choices, state);
+    run_steps(frames, file, choices, choices.len(), state);
 }
 
 // Any text, any list of choices, whatever each of them names, any lent words: the text's refusal 1 to 7, or 14 for a buffer of another length, and nothing

@@ -13,8 +13,8 @@ use Rattle.machine.proofs.WordLaws.{part-at, part-length}
 use Rattle.states.specs.declared.thread.ThreadWords.{ThreadWords}
 use Rattle.states.specs.Threads.{threadIn, putThread}
 use Rattle.states.specs.Stacks.{pushItem, popItem, pushValue, popValue, moveTo, ended}
-use Rattle.states.proofs.Bridge.{fields-path}
-use Rattle.states.proofs.ThreadLaws.{Wide, in-wide, in-with, with-in, with-next}
+use Rattle.states.proofs.ThreadSays.{fields-path}
+use Rattle.states.proofs.ThreadLaws.{Wide, in-wide, put-read, put-same, put-then}
 use Rattle.states.proofs.StackWords.{push-item-wide, pop-item-wide, push-value-wide, pop-value-wide, move-wide, ended-wide}
 use Rattle.acts.specs.declared.act.Change.{Change}
 use Rattle.acts.specs.declared.act.Change.the-variants.{Same, Item, Items, Let, Drop, Move, Enter, End}
@@ -69,7 +69,7 @@ place-is x c p e = e ∙ ap (placeAfter c) (sym (popped-place x)) ∙ sym (chang
 module _ (w : List ℕ) (k : ℕ) (all : length w ≡ 4818) (room : k < 64) where
   pub taken-none : getD w (1042 + 55 * k + 3) 0 ≡ 0 → w ≡ putThread w k (popped (threadIn w k))
   unfolding popped
-  taken-none e = sym (with-in w k all room) ∙ ap (putThread w k) (yes _ (eq-eqb (getD w (1042 + 55 * k + 3) 0) 0 e) refl)
+  taken-none e = sym (put-same w k all room) ∙ ap (putThread w k) (yes _ (eq-eqb (getD w (1042 + 55 * k + 3) 0) 0 e) refl)
 
   pub taken : (v : List ℕ) → v ≡ putThread w k (popItem (threadIn w k)) → (getD w (1042 + 55 * k + 3) 0 ≡ 0 → ⊥) → v ≡ putThread w k (popped (threadIn w k))
   unfolding popped
@@ -77,7 +77,7 @@ module _ (w : List ℕ) (k : ℕ) (all : length w ≡ 4818) (room : k < 64) wher
 
   -- the thread that was put there is read back
   put-back : (v : List ℕ) (y : ThreadWords) → Wide y → v ≡ putThread w k y → threadIn v k ≡ y
-  put-back v y h e = ap (λ (l : List ℕ). threadIn l k) e ∙ in-with w k all room y h
+  put-back v y h e = ap (λ (l : List ℕ). threadIn l k) e ∙ put-read w k all room y h
 
   pushed-wide : (a : ℕ) → Wide (pushItem a (threadIn w k))
   pushed-wide a = push-item-wide a (threadIn w k) (in-wide w k all room)
@@ -88,7 +88,7 @@ module _ (w : List ℕ) (k : ℕ) (all : length w ≡ 4818) (room : k < 64) wher
     pushed-two-room h = let z : threadIn v k .items ≡ threadIn w k .items + 1 = ap (λ (y : ThreadWords). y .items) (put-back v (pushItem below (threadIn w k)) (pushed-wide below) e) in omega arith
 
     pub pushed-two : (u : List ℕ) (top : ℕ) → u ≡ putThread v k (pushItem top (threadIn v k)) → u ≡ putThread w k (pushItem top (pushItem below (threadIn w k)))
-    pushed-two u top q = with-next w k all room v u (pushItem below (threadIn w k)) (pushItem top) (pushed-wide below) (push-item-wide top (pushItem below (threadIn w k)) (pushed-wide below)) e q
+    pushed-two u top q = put-then w k all room v u (pushItem below (threadIn w k)) (pushItem top) (pushed-wide below) (push-item-wide top (pushItem below (threadIn w k)) (pushed-wide below)) e q
 
   module _ (v : List ℕ) (value : ℕ) (e : v ≡ putThread w k (pushValue value (threadIn w k))) where
     value-wide : Wide (pushValue value (threadIn w k))
@@ -99,18 +99,18 @@ module _ (w : List ℕ) (k : ℕ) (all : length w ≡ 4818) (room : k < 64) wher
     pushed-let-room h = let z : threadIn v k .items ≡ threadIn w k .items = ap (λ (y : ThreadWords). y .items) (put-back v (pushValue value (threadIn w k)) value-wide e) in omega arith
 
     pub pushed-let : (u : List ℕ) (body : ℕ) → u ≡ putThread v k (pushItem body (pushItem 2048 (threadIn v k))) → u ≡ putThread w k (changed (Let value body) (threadIn w k))
-    pushed-let u body q = with-next w k all room v u (pushValue value (threadIn w k)) (λ (y : ThreadWords). pushItem body (pushItem 2048 y)) value-wide
+    pushed-let u body q = put-then w k all room v u (pushValue value (threadIn w k)) (λ (y : ThreadWords). pushItem body (pushItem 2048 y)) value-wide
         (changed-wide (Let value body) (threadIn w k) (in-wide w k all room)) e q
 
   pub entered : (v u : List ℕ) (q body : ℕ) → v ≡ putThread w k (pushItem body (pushItem (1024 + getD w (1042 + 55 * k) 0) (threadIn w k))) → u ≡ putThread v k (moveTo q (threadIn v k))
       → u ≡ putThread w k (changed (Enter q body) (threadIn w k))
-  entered v u q body e f = with-next w k all room v u (pushItem body (pushItem (1024 + getD w (1042 + 55 * k) 0) (threadIn w k))) (moveTo q)
+  entered v u q body e f = put-then w k all room v u (pushItem body (pushItem (1024 + getD w (1042 + 55 * k) 0) (threadIn w k))) (moveTo q)
       (push-item-wide body _ (pushed-wide (1024 + getD w (1042 + 55 * k) 0))) (changed-wide (Enter q body) (threadIn w k) (in-wide w k all room)) e f
 
 -- ---- each arm of `change_thread`: the change that the match has found is the one asked for
 module _ (w : List ℕ) (k : ℕ) (c : Change) where
   pub change-same : c ≡ Same → length w ≡ 4818 → k < 64 → w ≡ putThread w k (changed c (threadIn w k))
-  change-same e all room = sym (with-in w k all room) ∙ ap (λ (d : Change). putThread w k (changed d (threadIn w k))) (sym e)
+  change-same e all room = sym (put-same w k all room) ∙ ap (λ (d : Change). putThread w k (changed d (threadIn w k))) (sym e)
 
   pub change-made : (v : List ℕ) (d : Change) → c ≡ d → v ≡ putThread w k (changed d (threadIn w k)) → v ≡ putThread w k (changed c (threadIn w k))
   change-made v d e f = f ∙ ap (λ (b : Change). putThread w k (changed b (threadIn w k))) (sym e)

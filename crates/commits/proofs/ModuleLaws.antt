@@ -2,23 +2,22 @@
 use Prim.Native.Nat.{ℕ, zero, suc, _+_, _-_, _<_, _≤_}
 use mathlib.Core.Path.{_≡_, refl, sym, ap, _∙_}
 use mathlib.Core.List.{List, [], _∷_}
-use mathlib.Core.Bool.{Bool, true, false, not, true≢false}
+use mathlib.Core.Bool.{Bool, true, false, not}
 use native.Mathlib.Omega.{arith}
 use native.Mathlib.Numerals.{add-one}
-use lib.ListN.{getD, length, drop, take, length-map, drop-of-length-le}
-use lib.Seq.{drop-cons}
+use lib.ListN.{getD, length, drop, take}
 use lib.Dec.{ltb, leb·suc-suc}
 use borrow.Author.Tests.{lt-ltb, le-ltb, not-true, not-false}
 use Rattle.basics.proofs.Ifs.{yes, no, if-yes, if-no}
-use Rattle.language.specs.declared.kind.Kind.{Kind}
-use Rattle.language.specs.declared.kind.Kind.the-variants.{Header, Shared, Module, Statement, Expression, Unknown}
+use Rattle.language.specs.Kinds.{isModule}
 use Rattle.language.specs.declared.frame.Frame.{Frame}
 use Rattle.text.specs.Frames.{frameOfWord, framesOf}
-use Rattle.program.specs.Trees.{rootS, noFrame}
+use Rattle.text.proofs.FrameWords.{next-frame, frames-end}
+use Rattle.program.specs.Trees.{rootS}
 use Rattle.program.specs.Programs.{Part, partOf, withPart, modulesFrom, programOf, noModule}
-use Rattle.machine.proofs.Valid.{root-at}
-use Rattle.states.specs.Starts.{isModule}
-use Rattle.states.proofs.RangeLaws.{frame-at}
+use Rattle.program.proofs.Roots.{statement-root}
+use Rattle.program.proofs.OneMore.{part-no, part-yes}
+use Rattle.states.proofs.MainLaws.{partsFrom}
 use Rattle.commits.specs.Modules.{parametersIn, foundIn}
 use Rattle.commits.specs.declared.module.ModuleFound.{ModuleFound}
 
@@ -40,37 +39,7 @@ types-length (suc zero) b c = if-no _ _ (le-ltb 2 1 (omega arith))
 types-length (suc (suc zero)) b c = if-no _ _ (le-ltb 2 2 (omega arith))
 types-length (suc (suc (suc s))) b c = if-yes _ _ (lt-ltb 2 (suc (suc (suc s))) (omega arith))
 
--- ---- a frame that is no module, and one that is
-part-no : (fs : List Frame) (i : ℕ) (f : Frame) (k : Kind) (ps : List Part) → isModule k ≡ false → withPart fs i f k ps ≡ ps
-part-no fs i f Module ps e = absurd (true≢false e)
-part-no fs i f Header ps e = refl
-part-no fs i f Shared ps e = refl
-part-no fs i f (Statement k) ps e = refl
-part-no fs i f (Expression k) ps e = refl
-part-no fs i f Unknown ps e = refl
-
-part-yes : (fs : List Frame) (i : ℕ) (f : Frame) (k : Kind) (ps : List Part) → isModule k ≡ true → withPart fs i f k ps ≡ partOf fs i f ∷ ps
-part-yes fs i f Module ps e = refl
-part-yes fs i f Header ps e = absurd (true≢false (sym e))
-part-yes fs i f Shared ps e = absurd (true≢false (sym e))
-part-yes fs i f (Statement k) ps e = absurd (true≢false (sym e))
-part-yes fs i f (Expression k) ps e = absurd (true≢false (sym e))
-part-yes fs i f Unknown ps e = absurd (true≢false (sym e))
-
--- ---- the frames of a file's words, one after another
-pub frames-length : (words : List ℕ) → length (framesOf words) ≡ length words
-frames-length words = length-map words frameOfWord
-
-pub next-frame : (words : List ℕ) (i : ℕ) (f : Frame) → i < length words → f ≡ frameOfWord (getD words i 0) → drop i (framesOf words) ≡ f ∷ drop (i + 1) (framesOf words)
-next-frame words i f l e =
-    drop-cons (framesOf words) i noFrame (rw (frames-length words) l) ∙ ap (λ (g : Frame). g ∷ drop (suc i) (framesOf words)) (frame-at words i l ∙ sym e)
-    ∙ ap (λ (k : ℕ). f ∷ drop k (framesOf words)) (sym (add-one i))
-
 -- ---- the module looked for
-
--- the modules from frame i
-abbrev pub partsFrom : List ℕ → ℕ → List Part
-partsFrom words i = modulesFrom (framesOf words) i (drop i (framesOf words))
 
 -- i frames are read: the module is number n of those from there
 pub record Finding (words : List ℕ) (m i n : ℕ) : Type 0 where
@@ -116,7 +85,7 @@ module _ (words : List ℕ) (m i n : ℕ) (f : Frame) (t : Bool) (s : Finding wo
   unfolding foundIn programOf
   found-here r u h z = found-path _ _
       (sym (sym (s .there) ∙ ap (λ (ps : List Part). ltb n (length ps)) (module-first h) ∙ lt-ltb n (suc (length (partsFrom words (i + 1)))) (omega arith)))
-      (u ∙ types-length (f .s) (f .b) (f .c) ∙ ap (λ (p : Part). length (p .types)) here) (sym (root-at (framesOf words) (f .a)) ∙ ap (λ (p : Part). rootS (p .body)) here)
+      (u ∙ types-length (f .s) (f .b) (f .c) ∙ ap (λ (p : Part). length (p .types)) here) (sym (statement-root (framesOf words) (f .a)) ∙ ap (λ (p : Part). rootS (p .body)) here)
     where
       here : partOf (framesOf words) i f ≡ getD (partsFrom words 0) m noModule
       here = ap (λ (k : ℕ). getD (partOf (framesOf words) i f ∷ partsFrom words (i + 1)) k noModule) (sym z) ∙ ap (λ (ps : List Part). getD ps n noModule) (sym (module-first h)) ∙ s .same
@@ -129,7 +98,7 @@ found-none words m i n s l = found-path _ _
     (ap (λ (p : Part). length (p .types)) here) (ap (λ (p : Part). rootS (p .body)) here)
   where
     nothing : partsFrom words i ≡ []
-    nothing = ap (modulesFrom (framesOf words) i) (drop-of-length-le (framesOf words) {i = i} (rw (frames-length words) l))
+    nothing = ap (modulesFrom (framesOf words) i) (frames-end words i l)
 
     here : noModule ≡ getD (partsFrom words 0) m noModule
     here = ap (λ (ps : List Part). getD ps n noModule) (sym nothing) ∙ s .same

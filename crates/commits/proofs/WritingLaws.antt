@@ -9,15 +9,16 @@ use lib.Seq.{getD-set-other}
 use lib.Dec.{leb}
 use borrow.Author.Tests.{le-leb, lt-leb, leb-true, not-true, not-false}
 use Rattle.basics.proofs.Ifs.{yes, no, and-true}
+use Rattle.language.specs.Places.{isScheduler}
 use Rattle.machine.specs.Blocks.{pasted}
 use Rattle.machine.proofs.WordLaws.{pasted-zero, pasted-more}
 use Rattle.states.specs.declared.thread.ThreadWords.{ThreadWords}
 use Rattle.states.specs.Threads.{threadIn, putThread}
 use Rattle.states.specs.Lists.{withoutFirst, withLast}
-use Rattle.states.proofs.ThreadLaws.{Wide, in-wide, in-with, with-next, with-length}
+use Rattle.states.proofs.ThreadLaws.{Wide, in-wide, put-read, put-then, put-length}
 use Rattle.acts.specs.declared.act.Change.{Change}
 use Rattle.acts.specs.Fates.{changed, popped, Room}
-use Rattle.commits.specs.Commits.{clearedIn, settledIn, isList, leftIn, roomIn, joinedIn, SettleWords}
+use Rattle.commits.specs.Commits.{clearedIn, settledIn, leftIn, roomIn, joinedIn, SettleWords}
 use Rattle.commits.proofs.ChangeLaws.{popped-wide, changed-wide, popped-items, popped-values, popped-place, same-thread}
 
 -- ---- cells cleared: before the loop, a turn of it, behind it
@@ -60,10 +61,10 @@ module _ (w : List ℕ) (k n : ℕ) (c : Change) (h : SettleWords w k c) where
     popped-in = e ∙ ap (λ (x : ThreadWords). putThread (set w 1 n) k (popped x)) thread-kept
 
     here : threadIn v k ≡ popped (threadIn w k)
-    here = ap (λ (l : List ℕ). threadIn l k) popped-in ∙ in-with (set w 1 n) k counted (h .thread) (popped (threadIn w k)) wide
+    here = ap (λ (l : List ℕ). threadIn l k) popped-in ∙ put-read (set w 1 n) k counted (h .thread) (popped (threadIn w k)) wide
 
     pub settle-length : length v ≡ 4818
-    settle-length = ap length popped-in ∙ with-length (set w 1 n) k counted (h .thread) (popped (threadIn w k)) wide
+    settle-length = ap length popped-in ∙ put-length (set w 1 n) k counted (h .thread) (popped (threadIn w k)) wide
 
     pub settle-values : threadIn v k .values ≤ 25
     settle-values = rw (ap (λ (x : ThreadWords). x .values) here ∙ popped-values (threadIn w k)) (h .values)
@@ -76,29 +77,29 @@ module _ (w : List ℕ) (k n : ℕ) (c : Change) (h : SettleWords w k c) where
 
     pub settled : (u : List ℕ) → u ≡ putThread v k (changed c (threadIn v k)) → u ≡ settledIn w k (changed c (popped (threadIn w k))) n
     unfolding settledIn
-    settled u q = with-next (set w 1 n) k counted (h .thread) v u (popped (threadIn w k)) (changed c) wide (changed-wide c (popped (threadIn w k)) wide) popped-in q
+    settled u q = put-then (set w 1 n) k counted (h .thread) v u (popped (threadIn w k)) (changed c) wide (changed-wide c (popped (threadIn w k)) wide) popped-in q
 
 -- ---- a scheduler, 2 to 9
-pub below-lists : (q h : ℕ) → h ≡ 2 → q < h → false ≡ isList q
+pub below-lists : (q h : ℕ) → h ≡ 2 → q < h → false ≡ isScheduler q
 below-lists q h e l = let g : q < 2 = rw e at l in ap (λ (t : Bool). t && leb q 9) (sym (lt-leb 2 q g))
 
-pub up-to-last : (q h k : ℕ) → h ≡ 2 → k ≡ 9 → h ≤ q → leb q k ≡ isList q
+pub up-to-last : (q h k : ℕ) → h ≡ 2 → k ≡ 9 → h ≤ q → leb q k ≡ isScheduler q
 up-to-last q h k e f l = let g : 2 ≤ q = rw e at l in ap (leb q) f ∙ ap (λ (t : Bool). t && leb q 9) (sym (le-leb 2 q g))
 
 pub ruleset list-laws = (below-lists, up-to-last)
 
 -- the block of its lists is one of 8
-pub list-block : (q : ℕ) → isList q ≡ true → (2 ≤ q) × (q - 2 < 8)
+pub list-block : (q : ℕ) → isScheduler q ≡ true → (2 ≤ q) × (q - 2 < 8)
 list-block q e =
     let b = and-true (leb 2 q) (leb q 9) e in
     let low = leb-true 2 q (b .0) in
     let high = leb-true q 9 (b .1) in
     (low, omega arith)
 
-pub list-in : (q : ℕ) (b : Bool) → b ≡ isList q → not b ≡ false → (2 ≤ q) × (q - 2 < 8)
+pub list-in : (q : ℕ) (b : Bool) → b ≡ isScheduler q → not b ≡ false → (2 ≤ q) × (q - 2 < 8)
 list-in q b e h = list-block q (sym e ∙ not-false b h)
 
-module _ (w : List ℕ) (q : ℕ) (b : Bool) (e : b ≡ isList q) where
+module _ (w : List ℕ) (q : ℕ) (b : Bool) (e : b ≡ isScheduler q) where
   pub left-none : not b ≡ true → w ≡ leftIn w q
   unfolding leftIn
   left-none h = no _ (sym e ∙ not-true b h) refl

@@ -6,6 +6,7 @@ use Prim.Native.Nat.{ℕ, _+_, _-_, _*_, _<_, _≤_}
 use lib.Dec.{leb, eqb}
 use lib.ListN.{length, getD, set, replicate}
 use Rattle.basics.specs.If.{if_then_else_}
+use Rattle.language.specs.Places.{isScheduler}
 use Rattle.program.specs.Programs.{Program}
 use Rattle.machine.specs.Blocks.{pasted, padded}
 use Rattle.machine.specs.Calls.{Called}
@@ -33,18 +34,14 @@ clearedIn w from upto = pasted w (4562 + from) (replicate (upto - from) 0) (upto
 unfoldable pub settledIn : List ℕ → ℕ → ThreadWords → ℕ → List ℕ
 settledIn w k th n = putThread (set w 1 n) k th
 
--- a scheduler, 2 to 9
-abbrev pub isList : ℕ → Bool
-isList q = leb 2 q && leb q 9
-
 unfoldable pub leftIn : List ℕ → ℕ → List ℕ
-leftIn w c = if isList c then withoutFirst w (c - 2) else w
+leftIn w c = if isScheduler c then withoutFirst w (c - 2) else w
 
 unfoldable pub roomIn : List ℕ → ℕ → ℕ → Bool
-roomIn w q more = isList q && leb (getD w (67 + 130 * (q - 2)) 0 + more) 64
+roomIn w q more = isScheduler q && leb (getD w (67 + 130 * (q - 2)) 0 + more) 64
 
 unfoldable pub joinedIn : List ℕ → ℕ → ℕ → List ℕ
-joinedIn w q e = if isList q then withLast w (q - 2) e else w
+joinedIn w q e = if isScheduler q then withLast w (q - 2) e else w
 
 -- ---- each fate, of thread t at choice c, where `before` cells were in use
 

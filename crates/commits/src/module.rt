@@ -1,5 +1,5 @@
 // Modules by their number.
-use states::fresh::is_module;
+use language::kind::is_module;
 use text::line::frame_of_word;
 ghost use mathlib.Core.Path.{_≡_};
 ghost use Rattle.text.specs.Frames.{framesOf};

@@ -9,9 +9,10 @@ use states::list::has_room;
 ghost use mathlib.Core.Path.{_≡_};
 ghost use Prim.Native.Nat.{_≤_};
 ghost use lib.ListN.{length};
+ghost use Rattle.language.specs.Places.{isScheduler};
 ghost use Rattle.states.specs.Threads.{threadIn};
 ghost use Rattle.acts.specs.Fates.{changed, popped};
-ghost use Rattle.commits.specs.Commits.{clearedIn, settledIn, isList, leftIn, roomIn, joinedIn, SettleWords};
+ghost use Rattle.commits.specs.Commits.{clearedIn, settledIn, leftIn, roomIn, joinedIn, SettleWords};
 
 // The cells from that one to below that other are no longer there.
 pub fn clear_cells(state: &mut [u64], from: usize, upto: usize)
@@ -37,7 +38,7 @@ pub fn settle(state: &mut [u64], k: usize, change: Change, used: usize)
 
 // A scheduler, which has two lists.
 fn is_list(q: u64) -> bool
-    ensures { λ r. ⌜ r ≡ isList q ⌝ }
+    ensures { λ r. ⌜ r ≡ isScheduler q ⌝ }
 {
     if q < Place::HOME.number() as u64 {
         return false;

@@ -1,8 +1,10 @@
+-- The code, by words: single words, the operations, one evaluation behind another, the node at a frame, the recursion.
 pub mod WordLaws
 pub mod Operations
 pub mod Chains
 pub mod Nodes
 pub mod Cases
+-- From words to the rules: words that hold cells, numbers that fit, and that the recursion gives what `eval` gives.
 pub mod Holding
 pub mod SmallNumbers
 pub mod Agreement

@@ -1,8 +1,7 @@
 -- The node at a frame: how the code reads it from the frame's word, the tree that it and its operands' trees make, and that its operands stand before it. Assumes nothing.
 use mathlib.Core.Path.{_≡_, refl, sym, ap, _∙_, subst}
-use mathlib.Core.List.{List, [], _∷_}
-use Prim.Native.Nat.{ℕ, zero, suc, _<_}
-use native.Mathlib.Omega.{arith}
+use mathlib.Core.List.{List, _∷_}
+use Prim.Native.Nat.{ℕ, _<_}
 use lib.ListN.{length, getD, length-map}
 use Rattle.basics.specs.Members.{All}
 use Rattle.basics.proofs.Ifs.{if-all}
@@ -12,7 +11,8 @@ use Rattle.language.specs.declared.kind.Kind.{Kind}
 use Rattle.language.specs.declared.kind.Kind.the-variants.{Header, Shared, Module, Statement, Expression, Unknown}
 use Rattle.language.specs.declared.frame.Frame.{Frame}
 use Rattle.text.specs.Frames.{frameOfWord, framesOf}
-use Rattle.program.specs.Trees.{Expr, number, truth, variable, shared, new, content, sum, less, choose, frameAt, expressionOf, expressionAt}
+use Rattle.text.proofs.FrameWords.{frame-at}
+use Rattle.program.specs.Trees.{Expr, number, truth, variable, shared, new, content, sum, less, choose, frameAt, expressionOf, expressionAt, noFrame}
 use Rattle.program.specs.Ordered.{Ordered}
 use Rattle.program.proofs.Decoding.{expression-at}
 use Rattle.machine.specs.declared.value.Value.{Value}
@@ -32,14 +32,8 @@ node-row f k v r e h = h ∙ sym (ap (nodeWith f) e)
 pub node-kind : (f : Frame) (k v : Kind) (r : Node) → k ≡ v → r ≡ nodeOf f v → r ≡ nodeOf f k
 node-kind f k v r e h = h ∙ sym (ap (nodeOf f) e)
 
--- the word at i reads as frame i
-frame-at : (ws : List ℕ) (i : ℕ) → i < length ws → frameOfWord (getD ws i 0) ≡ frameAt (framesOf ws) i
-frame-at [] i h = absurd (omega arith)
-frame-at (w ∷ ws) zero h = refl
-frame-at (w ∷ ws) (suc i) h = frame-at ws i (omega arith)
-
 pub node-read : (ws : List ℕ) (i : ℕ) (f : Frame) (r : Node) → r ≡ nodeOf f (f .kind) → f ≡ frameOfWord (getD ws i 0) → i < length ws → r ≡ nodeAt (framesOf ws) i
-node-read ws i f r h e l = h ∙ ap (λ (g : Frame). nodeOf g (g .kind)) (e ∙ frame-at ws i l)
+node-read ws i f r h e l = h ∙ ap (λ (g : Frame). nodeOf g (g .kind)) (e ∙ sym (frame-at ws i noFrame l))
 
 -- ---- the tree, from the node; `rec` gives the trees at its operands
 abbrev pub treeOf : (ℕ → Expr) → ℕ → Node → Expr

@@ -54,7 +54,7 @@ nodeAt fs i = nodeOf (frameAt fs i) (frameAt fs i .kind)
 
 -- ---- words
 
--- `wordValue`, but total: a cell's number fits a byte
+-- `wordValue`, but a cell's number fits a byte whatever the word is
 unfoldable pub valueIn : ℕ → Value
 valueIn w = if ltb w (2 ^ 32) then Number w else if ltb w (2 * 2 ^ 32) then Truth (eqb w (2 ^ 32 + 1)) else Cell (w % 256)
 

@@ -1,6 +1,10 @@
-pub mod Tests
+-- Places.
+pub mod PlaceLaws
+-- Type words: what the functions compute, what a cell's type means.
 pub mod Words
 pub mod Cells
+-- Effects: what the functions compute, what that means for the sets.
 pub mod EffectLaws
-pub mod Rows
 pub mod Members
+-- Kinds.
+pub mod Rows

@@ -1,4 +1,5 @@
 -- The table of kinds: each kind's number, and what each of its fields holds. Assumes nothing: definitions.
+use mathlib.Core.Bool.{Bool, true, false}
 use mathlib.Core.List.{List, [], _∷_, _++_}
 use Prim.Native.Nat.{ℕ, zero, suc}
 use lib.Dec.{eqb}
@@ -40,6 +41,31 @@ kindOf k =
     if eqb k 0x27 then Expression Less else
     if eqb k 0x28 then Expression Choose else
     Unknown
+
+-- ---- the kinds that stand outside the trees: 00 header, 01 shared cell, 02 module
+abbrev pub isHeader : Kind → Bool
+isHeader Header = true
+isHeader Shared = false
+isHeader Module = false
+isHeader (Statement k) = false
+isHeader (Expression k) = false
+isHeader Unknown = false
+
+abbrev pub isShared : Kind → Bool
+isShared Header = false
+isShared Shared = true
+isShared Module = false
+isShared (Statement k) = false
+isShared (Expression k) = false
+isShared Unknown = false
+
+abbrev pub isModule : Kind → Bool
+isModule Header = false
+isModule Shared = false
+isModule Module = true
+isModule (Statement k) = false
+isModule (Expression k) = false
+isModule Unknown = false
 
 -- ---- what S, A, B and C hold. 'Unused fields are 0.'
 abbrev sabc : Use → Use → Use → Use → Uses

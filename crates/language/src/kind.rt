@@ -1,6 +1,6 @@
 // Kinds of frames, and what each field of a kind holds.
 ghost use mathlib.Core.Path.{_≡_};
-ghost use Rattle.language.specs.Kinds.{kindOf, statementUses, expressionUses, uses, classOf};
+ghost use Rattle.language.specs.Kinds.{kindOf, statementUses, expressionUses, uses, classOf, isHeader, isShared, isModule};
 
 // Statements, K 10 to 19.
 pub enum StatementKind {
@@ -112,6 +112,45 @@ pub fn kind_of(k: u8) -> Kind
         0x27 => Kind::Expression(ExpressionKind::Less),
         0x28 => Kind::Expression(ExpressionKind::Choose),
         _ => Kind::Unknown,
+    }
+}
+
+pub fn is_header(k: Kind) -> bool
+    ensures { λ r. ⌜ r ≡ isHeader k ⌝ }
+{
+    match k {
+        Kind::Header => true,
+        Kind::Shared => false,
+        Kind::Module => false,
+        Kind::Statement(s) => false,
+        Kind::Expression(e) => false,
+        Kind::Unknown => false,
+    }
+}
+
+pub fn is_shared(k: Kind) -> bool
+    ensures { λ r. ⌜ r ≡ isShared k ⌝ }
+{
+    match k {
+        Kind::Header => false,
+        Kind::Shared => true,
+        Kind::Module => false,
+        Kind::Statement(s) => false,
+        Kind::Expression(e) => false,
+        Kind::Unknown => false,
+    }
+}
+
+pub fn is_module(k: Kind) -> bool
+    ensures { λ r. ⌜ r ≡ isModule k ⌝ }
+{
+    match k {
+        Kind::Header => false,
+        Kind::Shared => false,
+        Kind::Module => true,
+        Kind::Statement(s) => false,
+        Kind::Expression(e) => false,
+        Kind::Unknown => false,
     }
 }
 

@@ -20,7 +20,7 @@ use Rattle.layout.proofs.Answers.{Whole, whole, frames-are, verdict-is}
 use Rattle.layout.proofs.Scopes.{accepted-no-fault}
 
 -- the text passes 1 to 7: its frames are those of the lines kept, at most 1,024, and have no fault
-pub record Right (bs : List ℕ) (l : LaidOut) : Type 0 where
+pub record Passed (bs : List ℕ) (l : LaidOut) : Type 0 where
   pub reads : reading bs ≡ frames (textFrames bs)
   pub lines : framesOf (take (l .count) (l .words)) ≡ textFrames bs
   pub count : length (textFrames bs) ≡ l .count
@@ -40,9 +40,9 @@ laid-accepts : (bs : List ℕ) (n : ℕ) → Whole bs n → layoutVerdict bs ≡
 unfolding layoutVerdict
 laid-accepts bs n w e = ap layoutRead (sym (w .is)) ∙ e
 
-pub laid-right : (bs : List ℕ) (l : LaidOut) → l ≡ laidOut bs → l .verdict ≡ Accepted → Right bs l
+pub laid-passed : (bs : List ℕ) (l : LaidOut) → l ≡ laidOut bs → l .verdict ≡ Accepted → Passed bs l
 unfolding laidOut
-laid-right bs l e v =
+laid-passed bs l e v =
     let a : layoutVerdict bs ≡ Accepted = sym (verdict-is bs l e) ∙ v in
     let w = laid-reads bs a in
     let c : l .count ≡ linesRead (reading bs) = ap (λ (x : LaidOut). x .count) e in

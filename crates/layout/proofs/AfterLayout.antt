@@ -5,7 +5,6 @@ use Prim.Native.Nat.{ℕ}
 use native.Mathlib.Omega.{arith}
 use lib.ListN.{take}
 use Rattle.language.specs.declared.frame.Frame.{Frame}
-use Rattle.language.specs.declared.verdict.Verdict.{Verdict}
 use Rattle.language.specs.declared.verdict.Verdict.the-variants.{Accepted, Rejected}
 use Rattle.text.specs.Frames.{framesOf, textFrames}
 use Rattle.text.specs.Reading.{Reading, frames, refused, reading, Reads}
@@ -16,7 +15,7 @@ use Rattle.layout.specs.Scans.{layoutOf}
 use Rattle.layout.specs.LaidOut.{layoutRead, layoutVerdict, laidOut, afterLayout, afterReading}
 use Rattle.layout.proofs.Answers.{verdict-is}
 use Rattle.layout.proofs.Scopes.{no-fault-accepted}
-use Rattle.layout.proofs.Accepted.{Right, laid-right}
+use Rattle.layout.proofs.Accepted.{laid-passed}
 
 module _ {A : Type 0} (refusal : ℕ → ℕ → A) (passed : List Frame → A) (bs : List ℕ) where
   -- by the rules: the text reads as these frames, and they have no fault
@@ -41,7 +40,7 @@ module _ {A : Type 0} (refusal : ℕ → ℕ → A) (passed : List Frame → A) 
 
     pub text-passed : l .verdict ≡ Accepted → (n : ℕ) → n ≡ l .count → passed (framesOf (take n (l .words))) ≡ afterReading refusal passed (reading bs)
     text-passed a n q =
-        let r = laid-right bs l e a in
+        let r = laid-passed bs l e a in
         ap (λ (k : ℕ). passed (framesOf (take k (l .words)))) q ∙ ap passed (r .lines)
         ∙ sym
         (ap (afterReading refusal passed) (r .reads)

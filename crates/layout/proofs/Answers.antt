@@ -1,9 +1,9 @@
 -- What the layout check answers on a text, from what its passes find. Assumes nothing.
 use mathlib.Core.Path.{_≡_, refl, sym, ap, ap₂, _∙_}
 use mathlib.Core.List.{List}
-use Prim.Native.Nat.{ℕ, zero, suc, _-_, _≤_, _<_}
+use Prim.Native.Nat.{ℕ, _-_, _≤_, _<_}
 use native.Mathlib.Omega.{arith}
-use lib.ListN.{length, take, drop, replicate}
+use lib.ListN.{length, take, replicate}
 use lib.Seq.{take-at}
 use Rattle.language.specs.declared.frame.Frame.{Frame}
 use Rattle.language.specs.declared.verdict.Verdict.{Verdict}
@@ -13,7 +13,7 @@ use Rattle.text.specs.Reading.{Reading, frames, refused, reading, Reads, textRe
 use Rattle.text.specs.declared.reading.TextRead.the-variants.{Frames, Refused}
 use Rattle.text.specs.declared.reading.TextWords.{TextWords}
 use Rattle.text.proofs.Readings.{reads, some-frame}
-use Rattle.text.proofs.ReadLaws.{length-frames, array-length, read-field}
+use Rattle.text.proofs.ReadLaws.{length-frames, array-length, read-field, length-words}
 use Rattle.layout.specs.declared.LaidOut.{LaidOut}
 use Rattle.layout.specs.declared.found.Found.{Found}
 use Rattle.layout.specs.declared.found.Found.the-variants.{At, Nowhere}
@@ -75,14 +75,9 @@ whole bs n e = go (reading bs) refl (reads bs) e
         let s = some-frame h refl in
         record { is = q ∙ ap frames a; count = c; fits = (let z = length-frames bs in let y = w .1 in omega arith); some = omega arith }
 
-words-length : (n : ℕ) (bs : List ℕ) → length (wordsOf n bs) ≡ n
-unfolding wordsOf
-words-length zero bs = refl
-words-length (suc n) bs = ap suc (words-length n (drop 17 bs))
-
 array-take : (n : ℕ) (bs : List ℕ) → take n (wordArray n bs) ≡ wordsOf n bs
 unfolding wordArray
-array-take n bs = take-at (wordsOf n bs) (replicate (1024 - n) 0) n (words-length n bs)
+array-take n bs = take-at (wordsOf n bs) (replicate (1024 - n) 0) n (length-words n bs)
 
 -- ---- 1 to 7, with the lines read
 abbrev answer : Verdict → ℕ → List ℕ → LaidOut
@@ -118,7 +113,7 @@ module _ (bs : List ℕ) (t : TextWords) (h : t ≡ textWords bs) where
     taken = ap (take n) array ∙ array-take n bs
 
     pub lines-count : length (take n (t .words)) ≡ n
-    lines-count = ap length taken ∙ words-length n bs
+    lines-count = ap length taken ∙ length-words n bs
 
     pub lines-some : 0 < length (take n (t .words))
     lines-some = let a = lines-count in let b = w .some in omega arith

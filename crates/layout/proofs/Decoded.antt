@@ -1,5 +1,5 @@
 -- The trees of a file whose frames stand in order: their frames rise. Assumes nothing.
-use mathlib.Core.Path.{_≡_, refl, sym, ap}
+use mathlib.Core.Path.{_≡_, sym, ap}
 use mathlib.Core.List.{List, [], _++_}
 use Prim.Native.Nat.{ℕ, zero, suc, _<_}
 use native.Mathlib.Omega.{arith}
@@ -11,32 +11,12 @@ use Rattle.language.specs.declared.frame.Frame.{Frame}
 use Rattle.language.specs.declared.kind.Use.{Use}
 use Rattle.language.specs.Kinds.{childIn}
 use Rattle.program.specs.Trees.{Expr, Stmt, rootE, rootS, frameAt, expressionOf, expressionTo, expressionAt, arguments, statementOf, statementTo, statementAt}
+use Rattle.program.proofs.Roots.{expression-root-to, expression-root, statement-root-to}
 use Rattle.layout.proofs.Placed.{PlacedE, PlacedEs, PlacedS}
 use Rattle.layout.specs.Order.{Tree, Row}
 use Rattle.layout.proofs.Trees.{tree-le, row-le, One, Two, Three, one-of, two-of, three-of, childrenAs, row-as}
 
 -- ---- expressions: of a kind (`expressionOf`), down to a bound (`expressionTo`), at a frame (`expressionAt`)
-root-e-of : (rec : ℕ → Expr) (i : ℕ) (f : Frame) (k : Kind) → rootE (expressionOf rec i f k) ≡ i
-root-e-of rec i f Header = refl
-root-e-of rec i f Shared = refl
-root-e-of rec i f Module = refl
-root-e-of rec i f Unknown = refl
-root-e-of rec i f (Statement k) = refl
-root-e-of rec i f (Expression Number) = refl
-root-e-of rec i f (Expression Truth) = refl
-root-e-of rec i f (Expression Variable) = refl
-root-e-of rec i f (Expression SharedCell) = refl
-root-e-of rec i f (Expression NewCell) = refl
-root-e-of rec i f (Expression Content) = refl
-root-e-of rec i f (Expression Sum) = refl
-root-e-of rec i f (Expression Less) = refl
-root-e-of rec i f (Expression Choose) = refl
-
-root-e-to : (n : ℕ) (fs : List Frame) (i : ℕ) → rootE (expressionTo n fs i) ≡ i
-unfolding expressionTo
-root-e-to zero fs i = refl
-root-e-to (suc n) fs i = root-e-of (λ j. expressionTo n fs j) i (frameAt fs i) (frameAt fs i .kind)
-
 from-e : {lo lo' : ℕ} {x : Expr} → lo ≡ lo' → PlacedE lo x → PlacedE lo' x
 from-e e p = rw e at p
 
@@ -82,39 +62,13 @@ module _ {fs : List Frame} (rec : ℕ → Expr) (roots : (j : ℕ) → rootE (re
 placed-e-to : (n : ℕ) (fs : List Frame) (i lo : ℕ) → i < n → Tree fs lo i → PlacedE lo (expressionTo n fs i)
 unfolding expressionTo
 placed-e-to zero fs i lo l t = absurd (omega arith)
-placed-e-to (suc n) fs i lo l t = placed-e-of (λ j. expressionTo n fs j) (root-e-to n fs) (frameAt fs i) lo i (λ j lo' k u. placed-e-to n fs j lo' (omega arith) u) (frameAt fs i .kind) (row-as t)
+placed-e-to (suc n) fs i lo l t = placed-e-of (λ j. expressionTo n fs j) (expression-root-to n fs) (frameAt fs i) lo i (λ j lo' k u. placed-e-to n fs j lo' (omega arith) u) (frameAt fs i .kind) (row-as t)
 
 pub placed-expr : (fs : List Frame) (i lo : ℕ) → Tree fs lo i → PlacedE lo (expressionAt fs i)
 unfolding expressionAt
 placed-expr fs i lo t = placed-e-to (suc i) fs i lo (omega arith) t
 
-pub root-expr : (fs : List Frame) (i : ℕ) → rootE (expressionAt fs i) ≡ i
-unfolding expressionAt
-root-expr fs i = root-e-to (suc i) fs i
-
 -- ---- statements, in the same way
-root-s-of : (expr : ℕ → Expr) (rec : ℕ → Stmt) (i : ℕ) (f : Frame) (k : Kind) → rootS (statementOf expr rec i f k) ≡ i
-root-s-of expr rec i f Header = refl
-root-s-of expr rec i f Shared = refl
-root-s-of expr rec i f Module = refl
-root-s-of expr rec i f Unknown = refl
-root-s-of expr rec i f (Expression k) = refl
-root-s-of expr rec i f (Statement Nothing) = refl
-root-s-of expr rec i f (Statement Then) = refl
-root-s-of expr rec i f (Statement DoAt) = refl
-root-s-of expr rec i f (Statement Start) = refl
-root-s-of expr rec i f (Statement StartWait) = refl
-root-s-of expr rec i f (Statement Cooperate) = refl
-root-s-of expr rec i f (Statement Let) = refl
-root-s-of expr rec i f (Statement Store) = refl
-root-s-of expr rec i f (Statement If) = refl
-root-s-of expr rec i f (Statement While) = refl
-
-root-s-to : (n : ℕ) (fs : List Frame) (i : ℕ) → rootS (statementTo n fs i) ≡ i
-unfolding statementTo
-root-s-to zero fs i = refl
-root-s-to (suc n) fs i = root-s-of (λ j. expressionAt fs j) (λ j. statementTo n fs j) i (frameAt fs i) (frameAt fs i .kind)
-
 from-s : {lo lo' : ℕ} {p : Stmt} → lo ≡ lo' → PlacedS lo p → PlacedS lo' p
 from-s e p = rw e at p
 
@@ -127,16 +81,16 @@ module _ (fs : List Frame) (rec : ℕ → Stmt) (roots : (j : ℕ) → rootS (re
   s-after-s a b l t = from-s (ap suc (sym (roots a))) (placed b (suc a) l t)
 
   s-after-e : (a b : ℕ) → b < i → Tree fs (suc a) b → PlacedS (suc (rootE (expr a))) (rec b)
-  s-after-e a b l t = from-s (ap suc (sym (root-expr fs a))) (placed b (suc a) l t)
+  s-after-e a b l t = from-s (ap suc (sym (expression-root fs a))) (placed b (suc a) l t)
 
   e-after-e : (a b : ℕ) → Tree fs (suc a) b → PlacedE (suc (rootE (expr a))) (expr b)
-  e-after-e a b t = from-e (ap suc (sym (root-expr fs a))) (placed-expr fs b (suc a) t)
+  e-after-e a b t = from-e (ap suc (sym (expression-root fs a))) (placed-expr fs b (suc a) t)
 
   below-s : (a : ℕ) → suc a ≡ i → rootS (rec a) < i
   below-s a e = let r = roots a in omega arith
 
   below-e : (a : ℕ) → suc a ≡ i → rootE (expr a) < i
-  below-e a e = let r = root-expr fs a in omega arith
+  below-e a e = let r = expression-root fs a in omega arith
 
   -- q is made of a statement, of two, of an expression and a statement, of two expressions, of an expression and two statements
   s-one : {q : Stmt} (a : ℕ) → (PlacedS lo (rec a) → rootS (rec a) < i → PlacedS lo q) → One fs lo i a → PlacedS lo q
@@ -182,12 +136,8 @@ module _ (fs : List Frame) (rec : ℕ → Stmt) (roots : (j : ℕ) → rootS (re
 placed-s-to : (n : ℕ) (fs : List Frame) (i lo : ℕ) → i < n → Tree fs lo i → PlacedS lo (statementTo n fs i)
 unfolding statementTo
 placed-s-to zero fs i lo l t = absurd (omega arith)
-placed-s-to (suc n) fs i lo l t = placed-s-of fs (λ j. statementTo n fs j) (root-s-to n fs) (frameAt fs i) lo i (λ j lo' k u. placed-s-to n fs j lo' (omega arith) u) (frameAt fs i .kind) (row-as t)
+placed-s-to (suc n) fs i lo l t = placed-s-of fs (λ j. statementTo n fs j) (statement-root-to n fs) (frameAt fs i) lo i (λ j lo' k u. placed-s-to n fs j lo' (omega arith) u) (frameAt fs i .kind) (row-as t)
 
 pub placed-stmt : (fs : List Frame) (i lo : ℕ) → Tree fs lo i → PlacedS lo (statementAt fs i)
 unfolding statementAt
 placed-stmt fs i lo t = placed-s-to (suc i) fs i lo (omega arith) t
-
-pub root-stmt : (fs : List Frame) (i : ℕ) → rootS (statementAt fs i) ≡ i
-unfolding statementAt
-root-stmt fs i = root-s-to (suc i) fs i

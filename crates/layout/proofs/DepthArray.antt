@@ -10,11 +10,10 @@ use lib.ListN.{getD, length, set, length-set}
 use lib.Seq.{getD-set-same, getD-set-other}
 use Rattle.basics.specs.Members.{In}
 use Rattle.basics.proofs.Ifs.{if-all}
-use Rattle.language.specs.Kinds.{Child, children}
+use Rattle.language.specs.Kinds.{isModule, Child, children}
 use Rattle.language.specs.declared.kind.Kind.the-variants.{Module}
 use Rattle.language.specs.declared.frame.Frame.{Frame}
 use Rattle.program.specs.Trees.{frameAt}
-use Rattle.layout.specs.Fields.{isModule}
 use Rattle.layout.specs.Depths.{Depth}
 use Rattle.layout.specs.Passes.{given, raised, raisedAll, depthsDown}
 use Rattle.layout.proofs.Trees.{is-module, Among, in-body}

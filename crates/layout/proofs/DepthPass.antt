@@ -14,6 +14,7 @@ use Rattle.language.specs.Kinds.{Child, children}
 use Rattle.language.specs.declared.frame.Frame.{Frame}
 use Rattle.program.specs.Trees.{noFrame, frameAt}
 use Rattle.text.specs.Frames.{framesOf}
+use Rattle.text.proofs.FrameWords.{frames-length}
 use Rattle.layout.specs.declared.found.Found.the-variants.{At, Nowhere}
 use Rattle.layout.specs.Faults.{Fault}
 use Rattle.layout.specs.Scans.{orderFault, depthFault}
@@ -23,7 +24,6 @@ use Rattle.layout.proofs.Trees.{HasTree, tree-in}
 use Rattle.layout.proofs.Order.{order-low, all-trees}
 use Rattle.layout.proofs.Depths.{seven, depth-low}
 use Rattle.layout.proofs.DepthArray.{over-sound, over-complete, inside}
-use Rattle.layout.proofs.FrameLaws.{frames-length}
 use Rattle.layout.proofs.Seeking.{Seeking, seek-here, seek-next, seek-end}
 
 -- ---- what the array says is the lowest frame too deep

@@ -17,6 +17,7 @@ use Rattle.language.specs.declared.kind.Uses.{Uses}
 use Rattle.language.specs.declared.frame.Frame.{Frame}
 use Rattle.program.specs.Trees.{frameAt}
 use Rattle.text.specs.Frames.{framesOf}
+use Rattle.text.proofs.FrameWords.{frames-end}
 use Rattle.layout.specs.declared.found.Found.{Found}
 use Rattle.layout.specs.declared.found.Found.the-variants.{At, Nowhere}
 use Rattle.layout.specs.declared.frames.ChildRead.{ChildRead}
@@ -25,7 +26,7 @@ use Rattle.layout.specs.Scans.{Passed, passed, sameClass, rowFirst, firs
 use Rattle.layout.specs.Passes.{found, childRead, told, Backward}
 use Rattle.layout.proofs.Disorder.{nobody, at-passed}
 use Rattle.layout.proofs.Finds.{found-none, found-some}
-use Rattle.layout.proofs.FrameLaws.{frames-next, frames-end, few, reversed, no-child-is, child-is}
+use Rattle.layout.proofs.FrameLaws.{frames-next, few, reversed, no-child-is, child-is}
 
 -- ---- what the array tells
 told-get : (fs : List Frame) (first : List ℕ) (i c : ℕ) → c < i → getD (told fs first i) (i - suc c) nobody ≡ passed (classOf (frameAt fs c .kind)) (getD first c 0)

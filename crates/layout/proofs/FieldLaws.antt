@@ -11,6 +11,7 @@ use lib.Seq.{getD-take}
 use borrow.Author.Tests.{lt-ltb, le-ltb, le-leb, lt-leb, leb-true, leb-false, eq-eqb, ne-eqb, not-true, not-false}
 use Rattle.basics.specs.If.{if_then_else_}
 use Rattle.basics.proofs.Ifs.{yes, no, if-yes, if-all, and-true, and-off}
+use Rattle.language.specs.Kinds.{isHeader}
 use Rattle.language.specs.Places.{isPlace, isScheduler, hasPlace, hasScheduler, placeRead}
 use Rattle.language.specs.Types.{cellType, isCell, typeWord, roomAround, cellRead}
 use Rattle.language.specs.declared.Place.{Place}
@@ -24,7 +25,7 @@ use Rattle.text.specs.Frames.{framesOf}
 use Rattle.layout.specs.declared.found.Found.{Found}
 use Rattle.layout.specs.declared.found.Found.the-variants.{At, Nowhere}
 use Rattle.layout.specs.declared.fields.Tally.{Tally}
-use Rattle.layout.specs.Fields.{isHeader, headerFine, schedulersOf, firstContentFine}
+use Rattle.layout.specs.Fields.{headerFine, schedulersOf, firstContentFine}
 use Rattle.layout.specs.Scans.{headerFault}
 use Rattle.layout.specs.Passes.{found}
 

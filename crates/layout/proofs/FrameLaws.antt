@@ -3,7 +3,7 @@ use mathlib.Core.Path.{_≡_, refl, sym, ap, ap₂, _∙_}
 use mathlib.Core.List.{List, [], _∷_, _++_, reverse}
 use Prim.Native.Nat.{ℕ, zero, suc, _+_, _≤_, _<_}
 use native.Mathlib.Omega.{arith}
-use lib.ListN.{length, getD, take, drop, length-map, drop-of-length-le}
+use lib.ListN.{length, getD, take, drop}
 use lib.Seq.{take-suc, drop-cons}
 use Rattle.language.specs.Kinds.{uses, Child, child, childIn, children}
 use Rattle.language.specs.declared.kind.Class.{Class}
@@ -12,28 +12,18 @@ use Rattle.language.specs.declared.kind.Uses.{Uses}
 use Rattle.language.specs.declared.frame.Frame.{Frame}
 use Rattle.program.specs.Trees.{noFrame, frameAt}
 use Rattle.text.specs.Frames.{frameOfWord, framesOf}
+use Rattle.text.proofs.FrameWords.{frames-length, frame-at}
 use Rattle.layout.specs.declared.frames.ChildRead.{ChildRead}
 use Rattle.layout.specs.declared.frames.ChildRead.the-variants.{ChildAt, NoChild}
 use Rattle.layout.specs.Passes.{childRead}
 
 -- ---- frames
-pub frames-length : (ws : List ℕ) → length (framesOf ws) ≡ length ws
-frames-length ws = length-map ws frameOfWord
-
-frame-is : (ws : List ℕ) (i : ℕ) → i < length ws → frameAt (framesOf ws) i ≡ frameOfWord (getD ws i 0)
-frame-is [] i l = absurd (omega arith)
-frame-is (w ∷ ws) zero l = refl
-frame-is (w ∷ ws) (suc i) l = frame-is ws i (omega arith)
-
 pub frame-read : (ws : List ℕ) (i : ℕ) (f : Frame) → f ≡ frameOfWord (getD ws i 0) → i < length ws → f ≡ frameAt (framesOf ws) i
-frame-read ws i f e l = e ∙ sym (frame-is ws i l)
+frame-read ws i f e l = e ∙ sym (frame-at ws i noFrame l)
 
 -- the frames from i on, and up to i
 pub frames-next : (ws : List ℕ) (i : ℕ) → i < length ws → drop i (framesOf ws) ≡ frameAt (framesOf ws) i ∷ drop (suc i) (framesOf ws)
 frames-next ws i l = drop-cons (framesOf ws) i noFrame (let z = frames-length ws in omega arith)
-
-pub frames-end : (ws : List ℕ) (i : ℕ) → length ws ≤ i → drop i (framesOf ws) ≡ []
-frames-end ws i l = drop-of-length-le (framesOf ws) {i = i} (let z = frames-length ws in omega arith)
 
 pub frames-more : (ws : List ℕ) (i : ℕ) (f : Frame) → f ≡ frameAt (framesOf ws) i → i < length ws → take i (framesOf ws) ++ (f ∷ []) ≡ take (i + 1) (framesOf ws)
 frames-more ws i f e l =

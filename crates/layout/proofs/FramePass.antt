@@ -11,7 +11,7 @@ use Rattle.basics.proofs.Ifs.{and-true}
 use Rattle.language.proofs.Words.{depth-3}
 use Rattle.language.specs.Places.{isScheduler, hasScheduler}
 use Rattle.language.specs.Types.{cellDepth, cellType, public, typeWord, contentWord, roomAround}
-use Rattle.language.specs.Kinds.{uses}
+use Rattle.language.specs.Kinds.{isShared, isModule, uses}
 use Rattle.language.specs.declared.kind.Kind.{Kind}
 use Rattle.language.specs.declared.kind.Kind.the-variants.{Shared, Module}
 use Rattle.language.specs.declared.kind.Use.{Use}
@@ -22,7 +22,7 @@ use Rattle.program.specs.Programs.{sharedOf}
 use Rattle.text.specs.Frames.{framesOf}
 use Rattle.layout.specs.declared.found.Found.the-variants.{At, Nowhere}
 use Rattle.layout.specs.declared.fields.Tally.{Tally}
-use Rattle.layout.specs.Fields.{isShared, isModule, schedulersOf, firstContentFine, fieldFine, countOf, kindFine, frameFine}
+use Rattle.layout.specs.Fields.{schedulersOf, firstContentFine, fieldFine, countOf, kindFine, frameFine}
 use Rattle.layout.specs.Scans.{fieldFault}
 use Rattle.layout.specs.Passes.{found, tallyOf}
 use Rattle.layout.proofs.FrameLaws.{frames-more}

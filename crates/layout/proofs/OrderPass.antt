@@ -9,17 +9,18 @@ use borrow.Author.Tests.{not-true, not-false}
 use lib.ListN.{length, take}
 use Rattle.basics.specs.Searches.{any, lowest, earlier}
 use Rattle.basics.proofs.Ifs.{yes, no}
+use Rattle.language.specs.Kinds.{isHeader, isShared, isModule}
 use Rattle.language.specs.declared.frame.Frame.{Frame}
 use Rattle.program.specs.Trees.{frameAt}
 use Rattle.text.specs.Frames.{framesOf}
+use Rattle.text.proofs.FrameWords.{frames-length}
 use Rattle.layout.specs.declared.found.Found.{Found}
 use Rattle.layout.specs.declared.found.Found.the-variants.{At, Nowhere}
-use Rattle.layout.specs.Fields.{isHeader, isShared, isModule}
 use Rattle.layout.specs.Order.{isMain}
 use Rattle.layout.specs.Scans.{firstDisorder, isBehind, firstLeftover, noMain, orderFault}
 use Rattle.layout.specs.Passes.{found, optionOf}
 use Rattle.layout.proofs.Finds.{option-found}
-use Rattle.layout.proofs.FrameLaws.{frames-length, frames-more}
+use Rattle.layout.proofs.FrameLaws.{frames-more}
 use Rattle.layout.proofs.Searches.{any-append}
 use Rattle.layout.proofs.Order.{isOther}
 use Rattle.layout.proofs.Seeking.{Seeking, seek-here, seek-next, seek-end}

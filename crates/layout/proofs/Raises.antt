@@ -7,7 +7,7 @@ use native.Mathlib.Omega.{arith}
 use borrow.Author.Tests.{lt-ltb, le-ltb, eq-eqb, ne-eqb}
 use lib.ListN.{getD, set}
 use Rattle.basics.proofs.Ifs.{yes, no}
-use Rattle.language.specs.Kinds.{uses, Child, childIn, children}
+use Rattle.language.specs.Kinds.{isModule, uses, Child, childIn, children}
 use Rattle.language.specs.declared.kind.Class.{Class}
 use Rattle.language.specs.declared.kind.Use.{Use}
 use Rattle.language.specs.declared.kind.Uses.{Uses}
@@ -15,7 +15,6 @@ use Rattle.language.specs.declared.frame.Frame.{Frame}
 use Rattle.program.specs.Trees.{frameAt}
 use Rattle.layout.specs.declared.frames.ChildRead.{ChildRead}
 use Rattle.layout.specs.declared.frames.ChildRead.the-variants.{ChildAt, NoChild}
-use Rattle.layout.specs.Fields.{isModule}
 use Rattle.layout.specs.Passes.{childRead, given, raised, raisedAll, depthsDown}
 use Rattle.layout.proofs.FrameLaws.{no-child-is, child-is, by-fields}
 

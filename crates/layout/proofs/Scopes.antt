@@ -10,7 +10,7 @@ use lib.Seq.{take-suc, take-length}
 use borrow.Author.Tests.{ltb-true, ltb-false, eqb-true}
 use Rattle.basics.specs.Members.{In}
 use Rattle.basics.proofs.Ifs.{and-true}
-use Rattle.language.specs.Kinds.{uses, Child, childIn, children}
+use Rattle.language.specs.Kinds.{isShared, uses, Child, childIn, children}
 use Rattle.language.specs.declared.kind.StatementKind.the-variants.{Let}
 use Rattle.language.specs.declared.kind.Kind.{Kind}
 use Rattle.language.specs.declared.kind.Kind.the-variants.{Shared, Module, Statement}
@@ -18,7 +18,7 @@ use Rattle.language.specs.declared.frame.Frame.{Frame}
 use Rattle.language.specs.declared.verdict.Verdict.the-variants.{Accepted}
 use Rattle.program.specs.Trees.{noFrame, frameAt}
 use Rattle.program.specs.Programs.{sharedOf, programOf, typeOfShared}
-use Rattle.layout.specs.Fields.{isShared, countOf, kindFine, frameFine}
+use Rattle.layout.specs.Fields.{countOf, kindFine, frameFine}
 use Rattle.layout.specs.Order.{isMain}
 use Rattle.layout.specs.Depths.{Depth}
 use Rattle.layout.specs.Faults.{Fault, NoFault, LayoutSays}
@@ -65,13 +65,15 @@ module _ {fs : List Frame} where
   pub room-body : (i n : ℕ) → i < length fs → frameAt fs i .kind ≡ Module → n ≤ 2 → Room fs (frameAt fs i .a) n
   room-body i n l e m = record { depth = 1; stands = Depth.body l e; enough = m }
 
-  -- a child has room for one variable more than its parent
-  pub room-child : {i n : ℕ} {c : Child} → Room fs i n → In c (children (frameAt fs i)) → Room fs (c .at) (suc n)
+  -- a child has room for one variable more than its parent, which the body of a let needs, and so for as many
+  pub room-more : {i n : ℕ} {c : Child} → Room fs i n → In c (children (frameAt fs i)) → Room fs (c .at) (suc n)
+  room-more r m = record { depth = suc (r .depth); stands = Depth.child (r .stands) m; enough = (let l = r .enough in omega arith) }
+
+  pub room-child : {i n : ℕ} {c : Child} → Room fs i n → In c (children (frameAt fs i)) → Room fs (c .at) n
   room-child r m = record { depth = suc (r .depth); stands = Depth.child (r .stands) m; enough = (let l = r .enough in omega arith) }
 
-  -- so the body of a let has room for its variable
   pub room-let : {i n : ℕ} → Room fs i n → frameAt fs i .kind ≡ Statement Let → Room fs (frameAt fs i .b) (suc n)
-  room-let {i} r e = room-child r (in-b (frameAt fs i) (Statement Let) e In.first)
+  room-let {i} r e = room-more r (in-b (frameAt fs i) (Statement Let) e In.first)
 
 -- ---- a file without fault
 module _ (fs : List Frame) (fine : NoFault fs) where

@@ -10,9 +10,10 @@ use Rattle.basics.specs.Searches.{lowest}
 use Rattle.language.specs.declared.frame.Frame.{Frame}
 use Rattle.program.specs.Trees.{frameAt}
 use Rattle.text.specs.Frames.{framesOf}
+use Rattle.text.proofs.FrameWords.{frames-end}
 use Rattle.layout.specs.declared.found.Found.the-variants.{At, Nowhere}
 use Rattle.layout.specs.Passes.{found}
-use Rattle.layout.proofs.FrameLaws.{frames-next, frames-end}
+use Rattle.layout.proofs.FrameLaws.{frames-next}
 
 -- the invariant of such a loop; at i = 0 it holds by `refl`
 abbrev pub Seeking : (ℕ → Frame → Bool) → List Frame → ℕ → Type 0

@@ -1,20 +1,22 @@
 -- The tally of the frames passed: how many shared cells and modules there are, the types of these cells, and what one frame more adds. Assumes nothing.
 use mathlib.Core.Path.{_≡_, refl, sym, ap, ap₂, _∙_}
 use mathlib.Core.Bool.{Bool, true, false, true≢false}
-use mathlib.Core.List.{List, [], _∷_, _++_, append-assoc, append-nil}
+use mathlib.Core.List.{List, [], _∷_, _++_, map, append-assoc, append-nil}
 use Prim.Native.Nat.{ℕ, suc, _+_, _-_, _≤_, _<_}
 use native.Mathlib.Omega.{arith}
 use lib.ListN.{length, take, set, replicate, length-append, length-replicate}
 use lib.Seq.{take-append-seam, set-at}
 use Rattle.basics.specs.If.{if_then_else_}
-use Rattle.basics.proofs.Ifs.{if-yes, if-no}
+use Rattle.basics.proofs.Ifs.{if-yes, if-no, if-all}
+use Rattle.language.specs.Kinds.{isShared, isModule}
 use Rattle.language.specs.Types.{cellType}
 use Rattle.language.specs.declared.kind.Kind.{Kind}
 use Rattle.language.specs.declared.kind.Kind.the-variants.{Header, Shared, Module, Statement, Expression, Unknown}
 use Rattle.language.specs.declared.frame.Frame.{Frame}
-use Rattle.program.specs.Programs.{sharedOf, cellsOf}
+use Rattle.program.specs.Programs.{typeOfShared, sharedOf, cellsOf}
+use Rattle.program.proofs.OneMore.{shared-no, shared-yes}
 use Rattle.layout.specs.declared.fields.Tally.{Tally}
-use Rattle.layout.specs.Fields.{isShared, isModule, countOf}
+use Rattle.layout.specs.Fields.{countOf}
 use Rattle.layout.specs.Passes.{tallyOf}
 
 -- ---- shared cells
@@ -28,16 +30,10 @@ is-shared Unknown h = absurd (true≢false (sym h))
 
 -- a frame adds its type to those of the cells behind it, if it is one
 cells-first : (f : Frame) (gs : List Frame) → cellsOf (f ∷ gs) ≡ (if isShared (f .kind) then cellType (f .s) (f .a) ∷ cellsOf gs else cellsOf gs)
-unfolding sharedOf if_then_else_
-cells-first f gs = go (f .kind) (f .s) (f .a) (f .b) (f .c)
-  where
-    go : (k : Kind) (s a b c : ℕ) → cellsOf (record { kind = k; s = s; a = a; b = b; c = c } ∷ gs) ≡ (if isShared k then cellType s a ∷ cellsOf gs else cellsOf gs)
-    go Shared s a b c = refl
-    go Header s a b c = refl
-    go Module s a b c = refl
-    go (Statement k) s a b c = refl
-    go (Expression k) s a b c = refl
-    go Unknown s a b c = refl
+cells-first f gs =
+    if-all (λ (ts : List ℕ). cellsOf (f ∷ gs) ≡ ts) (isShared (f .kind)) _ _
+    (λ e. ap (map typeOfShared) (shared-yes f gs e))
+    (λ e. ap (map typeOfShared) (shared-no f gs e))
 
 pub count-cells : (gs : List Frame) → countOf isShared gs ≡ length (cellsOf gs)
 unfolding countOf sharedOf if_then_else_

@@ -6,13 +6,12 @@ use Prim.Native.Nat.{ℕ, suc, _+_, _≤_, _<_}
 use native.Mathlib.Omega.{arith}
 use lib.ListN.{length}
 use Rattle.basics.specs.Members.{In}
-use Rattle.language.specs.Kinds.{Child, children, uses, childIn}
+use Rattle.language.specs.Kinds.{isModule, Child, children, uses, childIn}
 use Rattle.language.specs.declared.kind.Class.{Class}
 use Rattle.language.specs.declared.kind.Kind.the-variants.{Header, Shared, Module, Statement, Expression, Unknown}
 use Rattle.language.specs.declared.kind.Kind.{Kind}
 use Rattle.language.specs.declared.frame.Frame.{Frame}
 use Rattle.program.specs.Trees.{frameAt}
-use Rattle.layout.specs.Fields.{isModule}
 use Rattle.layout.specs.Order.{Tree, Row}
 
 pub is-module : (k : Kind) → isModule k ≡ true → k ≡ Module

@@ -5,12 +5,12 @@ use mathlib.Core.Bool.{true, false, _||_}
 use mathlib.Core.List.{List}
 use Prim.Native.Nat.{ℕ, suc, _<_, _≤_}
 use lib.ListN.{length}
-use Rattle.language.specs.Kinds.{classOf}
+use Rattle.language.specs.Kinds.{isHeader, isShared, classOf}
 use Rattle.language.specs.declared.frame.Frame.{Frame}
 use Rattle.language.specs.declared.verdict.Verdict.{Verdict}
 use Rattle.language.specs.declared.verdict.Verdict.the-variants.{Accepted, Rejected}
 use Rattle.program.specs.Trees.{frameAt}
-use Rattle.layout.specs.Fields.{isHeader, isShared, headerFine, frameFine}
+use Rattle.layout.specs.Fields.{headerFine, frameFine}
 use Rattle.layout.specs.Order.{Tree, hasChild, hasClass, isMain}
 use Rattle.layout.specs.Depths.{deepest, Depth}
 

@@ -7,38 +7,13 @@ use lib.ListN.{length, getD, take}
 use Rattle.basics.specs.If.{if_then_else_}
 use Rattle.language.specs.Places.{hasPlace, hasScheduler}
 use Rattle.language.specs.Types.{truthType, isCell, typeWord, contentWord}
-use Rattle.language.specs.Kinds.{uses}
+use Rattle.language.specs.Kinds.{isHeader, isShared, isModule, uses}
 use Rattle.language.specs.declared.kind.Kind.{Kind}
 use Rattle.language.specs.declared.kind.Kind.the-variants.{Header, Shared, Module, Statement, Expression, Unknown}
 use Rattle.language.specs.declared.kind.Use.{Use}
 use Rattle.language.specs.declared.frame.Frame.{Frame}
 use Rattle.program.specs.Trees.{frameAt}
 use Rattle.program.specs.Programs.{cellsOf}
-
--- the kinds that stand outside the trees: 00 header, 01 shared cell, 02 module
-abbrev pub isHeader : Kind → Bool
-isHeader Header = true
-isHeader Shared = false
-isHeader Module = false
-isHeader (Statement k) = false
-isHeader (Expression k) = false
-isHeader Unknown = false
-
-abbrev pub isShared : Kind → Bool
-isShared Header = false
-isShared Shared = true
-isShared Module = false
-isShared (Statement k) = false
-isShared (Expression k) = false
-isShared Unknown = false
-
-abbrev pub isModule : Kind → Bool
-isModule Header = false
-isModule Shared = false
-isModule Module = true
-isModule (Statement k) = false
-isModule (Expression k) = false
-isModule Unknown = false
 
 -- 4: 'header (frame 0 not K 00, or its S, B or C not as said)': 'S version 01, A step allowance (0 means 4,096), B schedulers, 1 to 8'
 unfoldable pub headerFine : Frame → Bool

@@ -5,11 +5,10 @@ use mathlib.Core.List.{List, [], _∷_}
 use Prim.Native.Nat.{ℕ, suc}
 use lib.Dec.{eqb}
 use Rattle.basics.specs.Searches.{any}
-use Rattle.language.specs.Kinds.{classOf, Child, children}
+use Rattle.language.specs.Kinds.{isModule, classOf, Child, children}
 use Rattle.language.specs.declared.kind.Class.{Class}
 use Rattle.language.specs.declared.frame.Frame.{Frame}
 use Rattle.program.specs.Trees.{frameAt}
-use Rattle.layout.specs.Fields.{isModule}
 
 -- 'child-before-parent order: a frame's last child is the frame just before it, and each earlier child ends just before the next one's first frame'
 mutual

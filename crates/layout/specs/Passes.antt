@@ -6,7 +6,7 @@ use lib.Dec.{ltb, eqb}
 use lib.ListN.{length, getD, set, replicate}
 use Rattle.basics.specs.If.{if_then_else_}
 use Rattle.basics.specs.Searches.{lowest}
-use Rattle.language.specs.Kinds.{classOf, Child, children}
+use Rattle.language.specs.Kinds.{isShared, isModule, classOf, Child, children}
 use Rattle.language.specs.declared.frame.Frame.{Frame}
 use Rattle.program.specs.Trees.{frameAt}
 use Rattle.program.specs.Programs.{cellsOf}
@@ -15,7 +15,7 @@ use Rattle.layout.specs.declared.found.Found.the-variants.{At, Nowhere}
 use Rattle.layout.specs.declared.frames.ChildRead.{ChildRead}
 use Rattle.layout.specs.declared.frames.ChildRead.the-variants.{ChildAt, NoChild}
 use Rattle.layout.specs.declared.fields.Tally.{Tally}
-use Rattle.layout.specs.Fields.{isShared, isModule, countOf}
+use Rattle.layout.specs.Fields.{countOf}
 use Rattle.layout.specs.Depths.{deepest}
 use Rattle.layout.specs.Scans.{Passed, passed}
 

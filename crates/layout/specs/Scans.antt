@@ -7,13 +7,13 @@ use lib.Dec.{ltb, eqb}
 use lib.ListN.{length, getD, take}
 use Rattle.basics.specs.If.{if_then_else_}
 use Rattle.basics.specs.Searches.{any, lowest, earlier}
-use Rattle.language.specs.Kinds.{classOf, Child, children}
+use Rattle.language.specs.Kinds.{isHeader, isShared, isModule, classOf, Child, children}
 use Rattle.language.specs.declared.kind.Class.{Class}
 use Rattle.language.specs.declared.frame.Frame.{Frame}
 use Rattle.language.specs.declared.verdict.Verdict.{Verdict}
 use Rattle.language.specs.declared.verdict.Verdict.the-variants.{Accepted, Rejected}
 use Rattle.program.specs.Trees.{frameAt}
-use Rattle.layout.specs.Fields.{isHeader, isShared, isModule, headerFine, frameFine}
+use Rattle.layout.specs.Fields.{headerFine, frameFine}
 use Rattle.layout.specs.Order.{hasChild, hasClass, isMain}
 use Rattle.layout.specs.Depths.{deepest}
 

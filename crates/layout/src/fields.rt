@@ -1,12 +1,12 @@
 // Refusals 4 and 5: the header, and the kind and the fields of each frame.
 use crate::found::Found;
 use crate::frames::frame_at;
-use crate::frames::is_header;
 use language::Place;
 use language::PlaceRead;
 use language::frame::Frame;
 use language::kind::Kind;
 use language::kind::Use;
+use language::kind::is_header;
 use language::kind::uses_of;
 use language::type_word::CellRead;
 use language::type_word::TRUTH;

@@ -1,7 +1,6 @@
 // Frames of a text's lines, and the child that a field names.
 use language::frame::Frame;
 use language::kind::Class;
-use language::kind::Kind;
 use language::kind::Use;
 use text::line::frame_of_word;
 ghost use mathlib.Core.Path.{_≡_};
@@ -10,7 +9,6 @@ ghost use lib.ListN.{length};
 ghost use Rattle.language.specs.Kinds.{childIn};
 ghost use Rattle.program.specs.Trees.{frameAt};
 ghost use Rattle.text.specs.Frames.{framesOf};
-ghost use Rattle.layout.specs.Fields.{isHeader, isShared, isModule};
 ghost use Rattle.layout.specs.Scans.{sameClass};
 ghost use Rattle.layout.specs.Passes.{childRead};
 
@@ -25,45 +23,6 @@ pub fn frame_at(words: &[u64], i: usize) -> Frame
     ensures { λ r. ⌜ r ≡ frameAt (framesOf (now (words .entry))) i ⌝ }
 {
     frame_of_word(words[i])
-}
-
-pub fn is_header(k: Kind) -> bool
-    ensures { λ r. ⌜ r ≡ isHeader k ⌝ }
-{
-    match k {
-        Kind::Header => true,
-        Kind::Shared => false,
-        Kind::Module => false,
-        Kind::Statement(s) => false,
-        Kind::Expression(e) => false,
-        Kind::Unknown => false,
-    }
-}
-
-pub fn is_shared(k: Kind) -> bool
-    ensures { λ r. ⌜ r ≡ isShared k ⌝ }
-{
-    match k {
-        Kind::Header => false,
-        Kind::Shared => true,
-        Kind::Module => false,
-        Kind::Statement(s) => false,
-        Kind::Expression(e) => false,
-        Kind::Unknown => false,
-    }
-}
-
-pub fn is_module(k: Kind) -> bool
-    ensures { λ r. ⌜ r ≡ isModule k ⌝ }
-{
-    match k {
-        Kind::Header => false,
-        Kind::Shared => false,
-        Kind::Module => true,
-        Kind::Statement(s) => false,
-        Kind::Expression(e) => false,
-        Kind::Unknown => false,
-    }
 }
 
 pub fn same_class(a: Class, b: Class) -> bool

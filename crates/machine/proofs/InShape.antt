@@ -13,6 +13,7 @@ use Rattle.basics.proofs.Ifs.{if-yes, if-no, and-true}
 use Rattle.language.specs.Places.{hasPlace}
 use Rattle.language.specs.declared.frame.Frame.{Frame}
 use Rattle.program.specs.Trees.{frameAt, statementAt, rootS}
+use Rattle.program.proofs.Roots.{statement-root}
 use Rattle.machine.specs.State.{State, Stored, Item, run, back, drop, Thread, Entry, plain, waiting, Scheduler, noThread, noScheduler, noCell}
 use Rattle.machine.specs.declared.value.Value.{Value}
 use Rattle.machine.specs.declared.value.Value.the-variants.{Number, Truth, Cell}
@@ -26,7 +27,7 @@ use Rattle.machine.proofs.Blocks.{says-pack}
 use Rattle.machine.proofs.Shapes.{ValueFits, number, truth, cell, ItemFits, run-fits, back-fits, drop-fits, EntryFits, plain-fits, waiting-fits, IsThread, ThreadFits, SchedulerFits, CellFits, Shaped}
 use Rattle.machine.proofs.Round.{thread-0, thread-1, thread-2, thread-continuation, thread-variables, scheduler-active, scheduler-next, value-below}
 use Rattle.machine.proofs.Ranges.{InRange, Space, of-space, range-place, range-starter, range-lives, range-items, range-variables, range-active, range-next, in-range, range-in}
-use Rattle.machine.proofs.Valid.{root-at, list-all, items-space, values-space, active-space, next-space, no-thread-word, no-scheduler-word, no-cell-word}
+use Rattle.machine.proofs.Valid.{list-all, items-space, values-space, active-space, next-space, no-thread-word, no-scheduler-word, no-cell-word}
 
 -- ---- single words of a state in shape are in range
 
@@ -108,7 +109,7 @@ in-item fs n v h = first (ltb v 1024) refl
 
     first : (b : Bool) → ltb v 1024 ≡ b → ItemFits fs n (wordItem fs v)
     first true e =
-        let r = root-at fs v in
+        let r = statement-root fs v in
         subst (ItemFits fs n) (sym (if-yes _ _ e))
         (run-fits (subst (λ (i : ℕ). i < 1024) (sym r) (ltb-true v 1024 e))
         (ap (λ (i : ℕ). isStatement (frameAt fs i .kind)) r ∙ sym (if-yes _ _ e) ∙ h)

@@ -18,10 +18,10 @@ use Rattle.machine.proofs.Regions.{by-region}
 
 -- ---- a test at every number below n: what it says of each of them, and from each of them
 
-pub below-all : (n : ℕ) (test : ℕ → Bool) → allBelow n test ≡ true → (i : ℕ) → i < n → test i ≡ true
+pub below-each : (n : ℕ) (test : ℕ → Bool) → allBelow n test ≡ true → (i : ℕ) → i < n → test i ≡ true
 unfolding allBelow
-below-all zero test e i h = absurd (omega arith)
-below-all (suc n) test e i h = go (ℕ-discrete i n) (λ k g. below-all n test (and-true (test n) (allBelow n test) e .1) k g)
+below-each zero test e i h = absurd (omega arith)
+below-each (suc n) test e i h = go (ℕ-discrete i n) (λ k g. below-each n test (and-true (test n) (allBelow n test) e .1) k g)
   where
     go : Dec (i ≡ n) → ((k : ℕ) → k < n → test k ≡ true) → test i ≡ true
     go (yes q) f = ap test q ∙ and-true (test n) (allBelow n test) e .0
@@ -121,7 +121,7 @@ module _ (fs : List Frame) (n : ℕ) (w : List ℕ) where
       p = and-true (eqb (length w) 4818) (allBelow 4818 (wordInRange fs n w)) e
 
       each : (i : ℕ) → i < 4818 → wordInRange fs n w i ≡ true
-      each = below-all 4818 (wordInRange fs n w) (p .1)
+      each = below-each 4818 (wordInRange fs n w) (p .1)
 
       most : getD w 0 0 ≤ 64
       most = leb-true (getD w 0 0) 64 (sym (range-0 fs n w) ∙ each 0 (omega arith))

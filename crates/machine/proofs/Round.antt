@@ -126,9 +126,10 @@ scheduler-next x j h =
 thread-path : (a b : Thread) → a .place ≡ b .place → a .continuation ≡ b .continuation → a .variables ≡ b .variables → a .starter ≡ b .starter → a .ended ≡ b .ended → a ≡ b
 thread-path a b p q r s t = λ i. record { place = p i; continuation = q i; variables = r i; starter = s i; ended = t i }
 
-bit-back : (b : Bool) → eqb (bit (not b)) 0 ≡ b
-bit-back true = refl
-bit-back false = refl
+-- a thread that has ended has 0 for its word `alive`
+pub ended-bit : (b : Bool) → eqb (bit (not b)) 0 ≡ b
+ended-bit true = refl
+ended-bit false = refl
 
 -- ---- the state that the words say
 module _ (fs : List Frame) (n : ℕ) (w : List ℕ) (s : State) (h : Says w s) where
@@ -140,7 +141,7 @@ module _ (fs : List Frame) (n : ℕ) (w : List ℕ) (s : State) (h : Says w s) w
       (ap (λ (l : List ℕ). map (wordItem fs) (reverse l)) continuation ∙ ap (map (wordItem fs)) (reverse-reverse (map itemWord (x .continuation))) ∙ map-back (ItemFits fs n) itemWord (wordItem fs) (item-back fs n) (x .continuation) (f .items))
       (ap (map wordValue) variables ∙ map-back ValueFits valueWord wordValue value-back (x .variables) (f .values))
       (thread-says h k 1 (at + 1) a (omega arith) (omega arith) ∙ thread-1 x)
-      (ap (λ (m : ℕ). eqb m 0) (thread-says h k 2 (at + 2) a (omega arith) (omega arith) ∙ thread-2 x) ∙ bit-back (x .ended))
+      (ap (λ (m : ℕ). eqb m 0) (thread-says h k 2 (at + 2) a (omega arith) (omega arith) ∙ thread-2 x) ∙ ended-bit (x .ended))
     where
       x : Thread
       x = getD (s .threads) k noThread

@@ -12,11 +12,7 @@ use borrow.Author.Tests.{ltb-true, ltb-false, eq-eqb, ne-eqb, eqb-true, leb-true
 use Rattle.basics.specs.Members.{All, none, more}
 use Rattle.basics.proofs.Ifs.{if-yes, if-no, and-true}
 use Rattle.language.specs.declared.frame.Frame.{Frame}
-use Rattle.language.specs.declared.kind.Kind.{Kind}
-use Rattle.language.specs.declared.kind.Kind.the-variants.{Header, Shared, Module, Statement, Expression, Unknown}
-use Rattle.language.specs.declared.kind.StatementKind.{StatementKind}
-use Rattle.language.specs.declared.kind.StatementKind.the-variants.{Nothing, Then, DoAt, Start, StartWait, Cooperate, Let, Store, If, While}
-use Rattle.program.specs.Trees.{statementTo, statementAt, frameAt, expressionAt, statementWith, statementOf, rootS}
+use Rattle.program.proofs.Roots.{statement-root}
 use Rattle.machine.specs.State.{Stored, Thread, Scheduler, noThread, noScheduler, noCell}
 use Rattle.machine.specs.Words.{bit, valueWord, wordValue, itemWord, wordItem, entryWord, wordEntry, cellWord, wordCell, listWord, threadWord, schedulerWord, tabulate, wordsAt, threadFrom, schedulerFrom, unpack, pack}
 use Rattle.machine.specs.Ranges.{itemInRange, valueInRange, entryInRange, threadInRange, cellInRange, ownerInRange, inRange}
@@ -27,31 +23,6 @@ use Rattle.machine.proofs.Round.{map-back, thread-0, thread-1, thread-2
 use Rattle.machine.proofs.Ranges.{InRange, Space, space-of, range-items, range-variables, range-active, range-next, range-lives, in-range}
 
 -- ---- single words: `x-there` says that the word of what a word says is that word
-
--- the statement at frame i has frame i as its root, whatever stands there
-pub root-at : (fs : List Frame) (i : ℕ) → rootS (statementAt fs i) ≡ i
-unfolding statementAt statementTo
-root-at fs i = of (frameAt fs i) (frameAt fs i .kind)
-  where
-    with-kind : (f : Frame) (k : StatementKind) → rootS (statementWith (λ j. expressionAt fs j) (λ j. statementTo i fs j) i f k) ≡ i
-    with-kind f Nothing = refl
-    with-kind f Then = refl
-    with-kind f DoAt = refl
-    with-kind f Start = refl
-    with-kind f StartWait = refl
-    with-kind f Cooperate = refl
-    with-kind f Let = refl
-    with-kind f Store = refl
-    with-kind f If = refl
-    with-kind f While = refl
-
-    of : (f : Frame) (k : Kind) → rootS (statementOf (λ j. expressionAt fs j) (λ j. statementTo i fs j) i f k) ≡ i
-    of f (Statement k) = with-kind f k
-    of f (Expression k) = refl
-    of f Header = refl
-    of f Shared = refl
-    of f Module = refl
-    of f Unknown = refl
 
 pub item-there : (fs : List Frame) (n v : ℕ) → itemInRange fs n v ≡ true → itemWord (wordItem fs v) ≡ v
 unfolding itemWord wordItem itemInRange
@@ -67,7 +38,7 @@ item-there fs n v h = first (ltb v 1024) refl
         ∙ sym (eqb-true v 2048 (sym (if-no _ _ e) ∙ sym (if-no _ _ (le-ltb v 1024 l)) ∙ h))
 
     first : (b : Bool) → ltb v 1024 ≡ b → itemWord (wordItem fs v) ≡ v
-    first true e = ap itemWord (if-yes _ _ e) ∙ root-at fs v
+    first true e = ap itemWord (if-yes _ _ e) ∙ statement-root fs v
     first false e = second (ltb-false v 1024 e) (ltb v 2048) refl
 
 pub value-there : (v : ℕ) → valueInRange v ≡ true → valueWord (wordValue v) ≡ v

@@ -1,1 +1,5 @@
+-- Trees: their roots, and the tree at a frame from those at its children.
+pub mod Roots
 pub mod Decoding
+-- Shared cells and modules.
+pub mod OneMore

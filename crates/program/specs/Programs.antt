@@ -33,8 +33,12 @@ pub record Program : Type 0 where
 abbrev pub typeOfShared : SharedCell → ℕ
 typeOfShared x = cellType (x .owner) (x .content)
 
+-- the shared cell that such a frame declares
+abbrev pub cellOf : Frame → SharedCell
+cellOf f = record { owner = f .s; content = f .a; first = f .b }
+
 abbrev withShared : Frame → Kind → List SharedCell → List SharedCell
-withShared f Shared cs = record { owner = f .s; content = f .a; first = f .b } ∷ cs
+withShared f Shared cs = cellOf f ∷ cs
 withShared f Header cs = cs
 withShared f Module cs = cs
 withShared f (Statement k) cs = cs

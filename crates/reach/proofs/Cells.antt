@@ -5,18 +5,20 @@ use mathlib.Core.List.{List, [], _∷_, _++_, map, append-assoc, append-nil}
 use Prim.Native.Nat.{ℕ, _+_, _≤_, _<_}
 use native.Mathlib.Omega.{arith}
 use borrow.Author.Tests.{ltb-true}
-use lib.ListN.{length, take, length-append}
+use lib.ListN.{length, take, length-append, length-map}
 use lib.Seq.{take-at, getD-append-seam}
-use Rattle.basics.specs.If.{if_then_else_}
+use Rattle.language.specs.Kinds.{isShared}
 use Rattle.language.specs.Places.{hasScheduler}
 use Rattle.language.specs.Types.{contentWord}
 use Rattle.language.specs.declared.kind.Kind.{Kind}
 use Rattle.language.specs.declared.kind.Kind.the-variants.{Header, Shared, Module, Statement, Expression, Unknown}
 use Rattle.language.specs.declared.frame.Frame.{Frame}
 use Rattle.program.specs.Trees.{frameAt, noFrame}
-use Rattle.program.specs.Programs.{SharedCell, typeOfShared, sharedOf}
-use Rattle.layout.specs.Fields.{isShared, schedulersOf, firstContentFine, countOf}
+use Rattle.program.specs.Programs.{SharedCell, typeOfShared, cellOf, sharedOf}
+use Rattle.program.proofs.OneMore.{cellIn, shared-more}
+use Rattle.layout.specs.Fields.{schedulersOf, firstContentFine, countOf}
 use Rattle.layout.specs.Faults.{NoFault}
+use Rattle.layout.proofs.Tallies.{count-cells}
 use Rattle.reach.proofs.Passed.{fields}
 
 -- x is as refusal 5 wants it behind the cells `before`, in a file of n schedulers, and its first content has Q
@@ -41,55 +43,25 @@ cells-few {before = before} (CellsFine.more {x = x} f r) h =
     let m = cells-few r (omega arith) in
     omega arith
 
--- ---- the shared cell that a frame of the kind k is, if it is one
-abbrev cellIn : Frame → Kind → List SharedCell
-cellIn f Shared = record { owner = f .s; content = f .a; first = f .b } ∷ []
-cellIn f Header = []
-cellIn f Module = []
-cellIn f (Statement k) = []
-cellIn f (Expression k) = []
-cellIn f Unknown = []
-
-shared-cons : (f : Frame) (fs : List Frame) → sharedOf (f ∷ fs) ≡ cellIn f (f .kind) ++ sharedOf fs
-unfolding sharedOf
-shared-cons f fs = go (f .kind)
-  where
-    go : (k : Kind) → sharedOf (record { kind = k; s = f .s; a = f .a; b = f .b; c = f .c } ∷ fs) ≡ cellIn f k ++ sharedOf fs
-    go Shared = refl
-    go Header = refl
-    go Module = refl
-    go (Statement k) = refl
-    go (Expression k) = refl
-    go Unknown = refl
-
+-- ---- the shared cells of one more frame
 shared-append : (xs ys : List Frame) → sharedOf (xs ++ ys) ≡ sharedOf xs ++ sharedOf ys
 unfolding sharedOf
 shared-append [] ys = refl
 shared-append (f ∷ xs) ys =
-    shared-cons f (xs ++ ys) ∙ ap (λ (l : List SharedCell). cellIn f (f .kind) ++ l) (shared-append xs ys)
-    ∙ sym (append-assoc (cellIn f (f .kind)) (sharedOf xs) (sharedOf ys)) ∙ ap (λ (l : List SharedCell). l ++ sharedOf ys) (sym (shared-cons f xs))
+    shared-more f (xs ++ ys) ∙ ap (λ (l : List SharedCell). cellIn f (f .kind) ++ l) (shared-append xs ys)
+    ∙ sym (append-assoc (cellIn f (f .kind)) (sharedOf xs) (sharedOf ys)) ∙ ap (λ (l : List SharedCell). l ++ sharedOf ys) (sym (shared-more f xs))
 
 shared-snoc : (xs : List Frame) (f : Frame) → sharedOf (xs ++ (f ∷ [])) ≡ sharedOf xs ++ cellIn f (f .kind)
 unfolding sharedOf
-shared-snoc xs f = shared-append xs (f ∷ []) ∙ ap (λ (l : List SharedCell). sharedOf xs ++ l) (shared-cons f [] ∙ append-nil (cellIn f (f .kind)))
+shared-snoc xs f = shared-append xs (f ∷ []) ∙ ap (λ (l : List SharedCell). sharedOf xs ++ l) (shared-more f [] ∙ append-nil (cellIn f (f .kind)))
 
 count-shared : (fs : List Frame) → countOf isShared fs ≡ length (sharedOf fs)
-unfolding countOf sharedOf if_then_else_
-count-shared [] = refl
-count-shared (f ∷ fs) = go (f .kind) (count-shared fs) ∙ ap length (sym (shared-cons f fs))
-  where
-    go : (k : Kind) → countOf isShared fs ≡ length (sharedOf fs) → (if isShared k then 1 else 0) + countOf isShared fs ≡ length (cellIn f k ++ sharedOf fs)
-    go Shared e = omega arith
-    go Header e = omega arith
-    go Module e = omega arith
-    go (Statement k) e = omega arith
-    go (Expression k) e = omega arith
-    go Unknown e = omega arith
+count-shared fs = count-cells fs ∙ length-map (sharedOf fs) typeOfShared
 
 module _ (Q : ℕ → Type 0) {fs : List Frame} (fine : NoFault fs) (each : (j : ℕ) → Q (frameAt fs j .b)) where
   -- the frame f behind the frames `before`
   cell-fine : (before : List Frame) (f : Frame) → length before < length fs → frameAt fs (length before) ≡ f → take (length before) fs ≡ before → f .kind ≡ Shared
-      → CellFine Q (schedulersOf fs) (sharedOf before) (record { owner = f .s; content = f .a; first = f .b })
+      → CellFine Q (schedulersOf fs) (sharedOf before) (cellOf f)
   cell-fine before f l e t k =
       let r = fields fine (length before) l Shared (ap (λ (g : Frame). g .kind) e ∙ k) in
       record {
@@ -105,7 +77,7 @@ module _ (Q : ℕ → Type 0) {fs : List Frame} (fine : NoFault fs) (each : (j :
   unfolding sharedOf
   cells-from before [] e = CellsFine.none
   cells-from before (f ∷ tail) e =
-      subst (CellsFine Q (schedulersOf fs) (sharedOf before)) (sym (shared-cons f tail))
+      subst (CellsFine Q (schedulersOf fs) (sharedOf before)) (sym (shared-more f tail))
       (go (f .kind) refl (subst (λ (l : List SharedCell). CellsFine Q (schedulersOf fs) l (sharedOf tail)) (shared-snoc before f) (cells-from (before ++ (f ∷ [])) tail (e ∙ sym (append-assoc before (f ∷ []) tail)))))
     where
       here : frameAt fs (length before) ≡ f

@@ -23,7 +23,7 @@ use Rattle.layout.specs.Fields.{schedulersOf, firstContentFine}
 use Rattle.layout.specs.Order.{Row, hasClass}
 use Rattle.layout.specs.Faults.{NoFault}
 use Rattle.layout.proofs.Trees.{row-le}
-use Rattle.layout.proofs.Decoded.{root-stmt}
+use Rattle.program.proofs.Roots.{statement-root}
 use Rattle.machine.specs.State.{run}
 use Rattle.machine.specs.Fresh.{firstCell}
 use Rattle.machine.specs.Values.{firstContent}
@@ -94,7 +94,7 @@ module _ {fs : List Frame} (size : Sized fs) (fine : NoFault fs) where
 
   item-fits : (i : ℕ) → i < length fs → classOf (frameAt fs i .kind) ≡ Class.Statement → ItemFits fs n (run (statementAt fs i))
   item-fits i l c =
-      let r = root-stmt fs i in
+      let r = statement-root fs i in
       let k = size .few in
       run-fits {x = statementAt fs i} (omega arith) (subst (λ (j : ℕ). isStatement (frameAt fs j .kind) ≡ true) (sym r) (is-statement (frameAt fs i .kind) c)) (ap (statementAt fs) r)
 

@@ -10,13 +10,13 @@ use borrow.Author.Tests.{leb-true, eqb-true}
 use lib.ListN.{length, List·getD-eq-default}
 use Rattle.basics.specs.Members.{In}
 use Rattle.basics.proofs.Ifs.{and-true}
-use Rattle.language.specs.Kinds.{uses, classOf, Child, children}
+use Rattle.language.specs.Kinds.{isHeader, uses, classOf, Child, children}
 use Rattle.language.specs.declared.kind.Kind.{Kind}
 use Rattle.language.specs.declared.kind.Kind.the-variants.{Module}
 use Rattle.language.specs.declared.frame.Frame.{Frame}
 use Rattle.program.specs.Trees.{frameAt, noFrame}
 use Rattle.program.specs.Ordered.{Ordered}
-use Rattle.layout.specs.Fields.{isHeader, headerFine, schedulersOf, fieldFine, kindFine, frameFine}
+use Rattle.layout.specs.Fields.{headerFine, schedulersOf, fieldFine, kindFine, frameFine}
 use Rattle.layout.specs.Order.{Row, hasClass, isMain}
 use Rattle.layout.specs.Depths.{Depth}
 use Rattle.layout.specs.Faults.{Fault, NoFault}

@@ -14,11 +14,11 @@ pub record Sized (fs : List Frame) : Type 0 where
   pub a : (j : ℕ) → frameAt fs j .a < 2 ^ 32
   pub b : (j : ℕ) → frameAt fs j .b < 2 ^ 32
 
-pub small : (ws : List ℕ) (j : ℕ) → (getD (map frameOfWord ws) j noFrame .a < 2 ^ 32) × (getD (map frameOfWord ws) j noFrame .b < 2 ^ 32)
+pub fields-small : (ws : List ℕ) (j : ℕ) → (getD (map frameOfWord ws) j noFrame .a < 2 ^ 32) × (getD (map frameOfWord ws) j noFrame .b < 2 ^ 32)
 unfolding frameOfWord
-small [] j = (omega arith, omega arith)
-small (w ∷ ws) zero = (omega arith, omega arith)
-small (w ∷ ws) (suc j) = small ws j
+fields-small [] j = (omega arith, omega arith)
+fields-small (w ∷ ws) zero = (omega arith, omega arith)
+fields-small (w ∷ ws) (suc j) = fields-small ws j
 
 -- what reading as frames says of them
 abbrev SizedOf : Reading → Type 0
@@ -32,7 +32,7 @@ sized-of (Reads.over h) = tt
 sized-of (Reads.wrong a b w l) = tt
 sized-of (Reads.whole {bs = bs} a b h) =
     let ws = wordsOf (length bs / 17) bs in
-    record { few = (let l = length-frames bs in omega arith); a = λ j. small ws j .0; b = λ j. small ws j .1 }
+    record { few = (let l = length-frames bs in omega arith); a = λ j. fields-small ws j .0; b = λ j. fields-small ws j .1 }
 
 pub sized : {bs : List ℕ} {fs : List Frame} → Reads bs (frames fs) → Sized fs
 sized r = sized-of r

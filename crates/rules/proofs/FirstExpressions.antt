@@ -21,9 +21,9 @@ use Rattle.rules.specs.Broken.{ChildE, BrokenE}
 use Rattle.rules.specs.Checking.{namedRule, newRule, contentRule, numbersRule, chooseRule, typeIn}
 use Rattle.rules.proofs.Sooner.{Sooner, exactly, smaller}
 use Rattle.rules.proofs.Expressions.{complete, FoundE, soundE}
-use Rattle.rules.proofs.Ranges.{lo-leE, rangeE}
+use Rattle.rules.proofs.Ranges.{root-aboveE, rangeE}
 
--- a type, or a fault before frame j
+-- ---- a type, or a fault before frame j
 pub data BeforeE (j : ℕ) : Typing → Type 0 where
   typed : {t : ℕ} {e : Effect} → BeforeE j (Typed t e)
   before : {m k : ℕ} → k < j → BeforeE j (Untyped m k)
@@ -36,40 +36,41 @@ beforeE cells Γ {j = j} {x = x} p l = go (typeIn cells Γ x) (soundE cells Γ x
     go (Typed t e) h = BeforeE.typed
     go (Untyped m k) b = let r = rangeE b p in BeforeE.before {k = k} (omega arith)
 
--- an earlier child's fault is the whole's
+-- ---- a child's fault that comes no later than rule n at frame j is the whole's: the first child's at once, a later one's where each child before it has no fault, or one before j.
 module _ {n j : ℕ} where
-  l-new : (s i : ℕ) {r : Typing} → Sooner Untyped n j r → Sooner Untyped n j (newRule s i r)
+  under-new : (s i : ℕ) {r : Typing} → Sooner Untyped n j r → Sooner Untyped n j (newRule s i r)
   unfolding newRule
-  l-new s i (Sooner.sooner h) = Sooner.sooner h
+  under-new s i (Sooner.sooner h) = Sooner.sooner h
 
-  l-content : (i : ℕ) {r : Typing} → Sooner Untyped n j r → Sooner Untyped n j (contentRule i r)
+  under-content : (i : ℕ) {r : Typing} → Sooner Untyped n j r → Sooner Untyped n j (contentRule i r)
   unfolding contentRule
-  l-content i (Sooner.sooner h) = Sooner.sooner h
+  under-content i (Sooner.sooner h) = Sooner.sooner h
 
-  l-numbers-a : (w i : ℕ) {r : Typing} (s : Typing) → Sooner Untyped n j r → Sooner Untyped n j (numbersRule w i r s)
+  under-numbers-a : (w i : ℕ) {r : Typing} (s : Typing) → Sooner Untyped n j r → Sooner Untyped n j (numbersRule w i r s)
   unfolding numbersRule
-  l-numbers-a w i s (Sooner.sooner h) = Sooner.sooner h
+  under-numbers-a w i s (Sooner.sooner h) = Sooner.sooner h
 
-  l-numbers-b : (w i : ℕ) {r s : Typing} → BeforeE j r → Sooner Untyped n j s → Sooner Untyped n j (numbersRule w i r s)
+  under-numbers-b : (w i : ℕ) {r s : Typing} → BeforeE j r → Sooner Untyped n j s → Sooner Untyped n j (numbersRule w i r s)
   unfolding numbersRule
-  l-numbers-b w i BeforeE.typed (Sooner.sooner h) = Sooner.sooner h
-  l-numbers-b w i (BeforeE.before l) (Sooner.sooner h) = Sooner.sooner (inl l)
+  under-numbers-b w i BeforeE.typed (Sooner.sooner h) = Sooner.sooner h
+  under-numbers-b w i (BeforeE.before l) (Sooner.sooner h) = Sooner.sooner (inl l)
 
-  l-choose-a : (i : ℕ) {r : Typing} (s t : Typing) → Sooner Untyped n j r → Sooner Untyped n j (chooseRule i r s t)
+  under-choose-a : (i : ℕ) {r : Typing} (s t : Typing) → Sooner Untyped n j r → Sooner Untyped n j (chooseRule i r s t)
   unfolding chooseRule
-  l-choose-a i s t (Sooner.sooner h) = Sooner.sooner h
+  under-choose-a i s t (Sooner.sooner h) = Sooner.sooner h
 
-  l-choose-b : (i : ℕ) {r s : Typing} (t : Typing) → BeforeE j r → Sooner Untyped n j s → Sooner Untyped n j (chooseRule i r s t)
+  under-choose-b : (i : ℕ) {r s : Typing} (t : Typing) → BeforeE j r → Sooner Untyped n j s → Sooner Untyped n j (chooseRule i r s t)
   unfolding chooseRule
-  l-choose-b i t BeforeE.typed (Sooner.sooner h) = Sooner.sooner h
-  l-choose-b i t (BeforeE.before l) (Sooner.sooner h) = Sooner.sooner (inl l)
+  under-choose-b i t BeforeE.typed (Sooner.sooner h) = Sooner.sooner h
+  under-choose-b i t (BeforeE.before l) (Sooner.sooner h) = Sooner.sooner (inl l)
 
-  l-choose-c : (i : ℕ) {r s t : Typing} → BeforeE j r → BeforeE j s → Sooner Untyped n j t → Sooner Untyped n j (chooseRule i r s t)
+  under-choose-c : (i : ℕ) {r s t : Typing} → BeforeE j r → BeforeE j s → Sooner Untyped n j t → Sooner Untyped n j (chooseRule i r s t)
   unfolding chooseRule
-  l-choose-c i BeforeE.typed BeforeE.typed (Sooner.sooner h) = Sooner.sooner h
-  l-choose-c i BeforeE.typed (BeforeE.before l) (Sooner.sooner h) = Sooner.sooner (inl l)
-  l-choose-c i (BeforeE.before l) b (Sooner.sooner h) = Sooner.sooner (inl l)
+  under-choose-c i BeforeE.typed BeforeE.typed (Sooner.sooner h) = Sooner.sooner h
+  under-choose-c i BeforeE.typed (BeforeE.before l) (Sooner.sooner h) = Sooner.sooner (inl l)
+  under-choose-c i (BeforeE.before l) b (Sooner.sooner h) = Sooner.sooner (inl l)
 
+-- ---- a rule that the root breaks: what is found there is that rule, or a smaller number
 own-named : (ts : List ℕ) (s i : ℕ) → length ts ≤ s → Sooner Untyped 8 i (namedRule ts s i)
 unfolding namedRule
 own-named ts s i h = if-all (Sooner Untyped 8 i) (ltb s (length ts)) _ _ (λ l. absurd (let a : s < length ts = ltb-true _ _ l in omega arith)) (λ l. exactly)
@@ -78,7 +79,6 @@ own-numbers : (w i t u : ℕ) (e f : Effect) → ((t ≡ numberType) × (u ≡ n
 unfolding numbersRule
 own-numbers w i t u e f z = if-all (Sooner Untyped 9 i) (eqb t numberType && eqb u numberType) _ _ (λ p. let q = and-true _ _ p in absurd (z (eqb-true _ _ (q .0), eqb-true _ _ (q .1)))) (λ p. exactly)
 
--- a rule that the root breaks
 ownE : {cells Γ : List ℕ} {x : Expr} {n : ℕ} → BreaksE cells Γ x n → Sooner Untyped n (rootE x) (typeIn cells Γ x)
 unfolding typeIn newRule contentRule chooseRule
 ownE (BreaksE.variable h) = own-named _ _ _ h
@@ -96,18 +96,19 @@ ownE (BreaksE.choose {t = t} {u = u} {v = v} x y z w) =
     rw (complete x, complete y, complete z) (if-all (Sooner Untyped 9 _) (eqb t truthType && eqb u numberType && eqb v numberType) _ _
     (λ p. let q = and-true (eqb t truthType && eqb u numberType) _ p in let r = and-true _ _ (q .0) in absurd (w (eqb-true _ _ (r .0), eqb-true _ _ (r .1), eqb-true _ _ (q .1)))) (λ p. exactly))
 
+-- ---- whatever is broken, at the root or below it
 pub leastE : {cells Γ : List ℕ} {lo n j : ℕ} {x : Expr} → BrokenE cells Γ x n j → PlacedE lo x → Sooner Untyped n j (typeIn cells Γ x)
 unfolding typeIn
 leastE (BrokenE.here b) p = ownE b
-leastE (BrokenE.under ChildE.new b) (PlacedE.new p e) = l-new _ _ (leastE b p)
-leastE (BrokenE.under ChildE.content b) (PlacedE.content p e) = l-content _ (leastE b p)
-leastE (BrokenE.under ChildE.sum-a b) (PlacedE.sum p q e) = l-numbers-a _ _ _ (leastE b p)
-leastE (BrokenE.under ChildE.sum-b b) (PlacedE.sum p q e) = let r = rangeE b q in l-numbers-b _ _ (beforeE _ _ p (omega arith)) (leastE b q)
-leastE (BrokenE.under ChildE.less-a b) (PlacedE.less p q e) = l-numbers-a _ _ _ (leastE b p)
-leastE (BrokenE.under ChildE.less-b b) (PlacedE.less p q e) = let r = rangeE b q in l-numbers-b _ _ (beforeE _ _ p (omega arith)) (leastE b q)
-leastE (BrokenE.under ChildE.choose-a b) (PlacedE.choose p q r e) = l-choose-a _ _ _ (leastE b p)
-leastE (BrokenE.under ChildE.choose-b b) (PlacedE.choose p q r e) = let a = rangeE b q in l-choose-b _ _ (beforeE _ _ p (omega arith)) (leastE b q)
+leastE (BrokenE.under ChildE.new b) (PlacedE.new p e) = under-new _ _ (leastE b p)
+leastE (BrokenE.under ChildE.content b) (PlacedE.content p e) = under-content _ (leastE b p)
+leastE (BrokenE.under ChildE.sum-a b) (PlacedE.sum p q e) = under-numbers-a _ _ _ (leastE b p)
+leastE (BrokenE.under ChildE.sum-b b) (PlacedE.sum p q e) = let r = rangeE b q in under-numbers-b _ _ (beforeE _ _ p (omega arith)) (leastE b q)
+leastE (BrokenE.under ChildE.less-a b) (PlacedE.less p q e) = under-numbers-a _ _ _ (leastE b p)
+leastE (BrokenE.under ChildE.less-b b) (PlacedE.less p q e) = let r = rangeE b q in under-numbers-b _ _ (beforeE _ _ p (omega arith)) (leastE b q)
+leastE (BrokenE.under ChildE.choose-a b) (PlacedE.choose p q r e) = under-choose-a _ _ _ (leastE b p)
+leastE (BrokenE.under ChildE.choose-b b) (PlacedE.choose p q r e) = let a = rangeE b q in under-choose-b _ _ (beforeE _ _ p (omega arith)) (leastE b q)
 leastE (BrokenE.under ChildE.choose-c b) (PlacedE.choose p q r e) =
     let a = rangeE b r in
-    let l = lo-leE q in
-    l-choose-c _ (beforeE _ _ p (omega arith)) (beforeE _ _ q (omega arith)) (leastE b r)
+    let l = root-aboveE q in
+    under-choose-c _ (beforeE _ _ p (omega arith)) (beforeE _ _ q (omega arith)) (leastE b r)

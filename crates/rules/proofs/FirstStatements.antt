@@ -29,10 +29,11 @@ use Rattle.rules.proofs.Sooner.{Sooner, exactly, smaller}
 use Rattle.rules.proofs.Lists.{same-true, all-true}
 use Rattle.rules.proofs.Expressions.{complete}
 use Rattle.rules.proofs.Statements.{completeEs, completeS, FoundEs, soundEs, FoundS, soundS}
-use Rattle.rules.proofs.Ranges.{rangeE, rangeEs, lo-leS, rangeS}
+use Rattle.rules.proofs.Ranges.{rangeE, rangeEs, root-aboveS, rangeS}
 use Rattle.rules.proofs.FirstExpressions.{BeforeE, beforeE, leastE}
 
-pub data BeforeS (j : ℕ) : Conduct → Type 0 where
+-- ---- a conduct, or types of arguments, or a fault before frame j
+data BeforeS (j : ℕ) : Conduct → Type 0 where
   runs : {e : Effect} {b : Bool} → BeforeS j (Does e b)
   before : {m k : ℕ} → k < j → BeforeS j (Fails m k)
 
@@ -47,87 +48,88 @@ beforeEs cells Γ {stop = stop} {xs = xs} p = go (typesIn cells Γ xs) (soundEs 
     go (Argued.have ts e) h = BeforeA.are
     go (Argued.fail m k) b = let r = rangeEs (b .among) (b .broken) p in BeforeA.before {k = k} (omega arith)
 
-pub beforeS : (cells : List ℕ) (below : List Signature) (Γ : List ℕ) (at : Standing) {lo j : ℕ} {p : Stmt} → PlacedS lo p → rootS p < j → BeforeS j (runIn cells below Γ at p)
+beforeS : (cells : List ℕ) (below : List Signature) (Γ : List ℕ) (at : Standing) {lo j : ℕ} {p : Stmt} → PlacedS lo p → rootS p < j → BeforeS j (runIn cells below Γ at p)
 beforeS cells below Γ at {j = j} {p = p} h l = go (runIn cells below Γ at p) (soundS cells below Γ at p)
   where
     go : (r : Conduct) → FoundS cells below Γ at p r → BeforeS j r
     go (Does e b) g = BeforeS.runs
     go (Fails m k) b = let r = rangeS b h in BeforeS.before {k = k} (omega arith)
 
--- an earlier child's fault is the whole's
+-- ---- a child's fault that comes no later than rule n at frame j is the whole's: the first child's at once, a later one's where each child before it has no fault, or one before j.
 module _ {n j : ℕ} where
-  l-argue-a : {r : Typing} (a : Argued) → Sooner Untyped n j r → Sooner Argued.fail n j (argue r a)
+  under-argue-a : {r : Typing} (a : Argued) → Sooner Untyped n j r → Sooner Argued.fail n j (argue r a)
   unfolding argue
-  l-argue-a a (Sooner.sooner h) = Sooner.sooner h
+  under-argue-a a (Sooner.sooner h) = Sooner.sooner h
 
-  l-argue-b : {r : Typing} {a : Argued} → BeforeE j r → Sooner Argued.fail n j a → Sooner Argued.fail n j (argue r a)
+  under-argue-b : {r : Typing} {a : Argued} → BeforeE j r → Sooner Argued.fail n j a → Sooner Argued.fail n j (argue r a)
   unfolding argue
-  l-argue-b BeforeE.typed (Sooner.sooner h) = Sooner.sooner h
-  l-argue-b (BeforeE.before l) (Sooner.sooner h) = Sooner.sooner (inl l)
+  under-argue-b BeforeE.typed (Sooner.sooner h) = Sooner.sooner h
+  under-argue-b (BeforeE.before l) (Sooner.sooner h) = Sooner.sooner (inl l)
 
-  l-start : (once : Bool) (below : List Signature) (at : Standing) (s i : ℕ) {a : Argued} → Sooner Argued.fail n j a → Sooner Fails n j (startRule once below at s i a)
+  under-start : (once : Bool) (below : List Signature) (at : Standing) (s i : ℕ) {a : Argued} → Sooner Argued.fail n j a → Sooner Fails n j (startRule once below at s i a)
   unfolding startRule
-  l-start once below at s i (Sooner.sooner h) = Sooner.sooner h
+  under-start once below at s i (Sooner.sooner h) = Sooner.sooner h
 
-  l-seq-a : {r : Conduct} (s : Conduct) → Sooner Fails n j r → Sooner Fails n j (seqRule r s)
+  under-seq-a : {r : Conduct} (s : Conduct) → Sooner Fails n j r → Sooner Fails n j (seqRule r s)
   unfolding seqRule
-  l-seq-a s (Sooner.sooner h) = Sooner.sooner h
+  under-seq-a s (Sooner.sooner h) = Sooner.sooner h
 
-  l-seq-b : {r s : Conduct} → BeforeS j r → Sooner Fails n j s → Sooner Fails n j (seqRule r s)
+  under-seq-b : {r s : Conduct} → BeforeS j r → Sooner Fails n j s → Sooner Fails n j (seqRule r s)
   unfolding seqRule
-  l-seq-b BeforeS.runs (Sooner.sooner h) = Sooner.sooner h
-  l-seq-b (BeforeS.before l) (Sooner.sooner h) = Sooner.sooner (inl l)
+  under-seq-b BeforeS.runs (Sooner.sooner h) = Sooner.sooner h
+  under-seq-b (BeforeS.before l) (Sooner.sooner h) = Sooner.sooner (inl l)
 
-  l-do : (at : Standing) (s i : ℕ) {r : Conduct} → Sooner Fails n j r → Sooner Fails n j (doRule at s i r)
+  under-do : (at : Standing) (s i : ℕ) {r : Conduct} → Sooner Fails n j r → Sooner Fails n j (doRule at s i r)
   unfolding doRule
-  l-do at s i (Sooner.sooner h) = Sooner.sooner h
+  under-do at s i (Sooner.sooner h) = Sooner.sooner h
 
-  l-join : (e : Effect) {r : Conduct} → Sooner Fails n j r → Sooner Fails n j (joinRule e r)
+  under-join : (e : Effect) {r : Conduct} → Sooner Fails n j r → Sooner Fails n j (joinRule e r)
   unfolding joinRule
-  l-join e (Sooner.sooner h) = Sooner.sooner h
+  under-join e (Sooner.sooner h) = Sooner.sooner h
 
-  l-let : (body : List ℕ → Conduct) (Γ : List ℕ) {r : Typing} → Sooner Untyped n j r → Sooner Fails n j (letRule body Γ r)
-  l-let body Γ (Sooner.sooner h) = Sooner.sooner h
+  under-let : (body : List ℕ → Conduct) (Γ : List ℕ) {r : Typing} → Sooner Untyped n j r → Sooner Fails n j (letRule body Γ r)
+  under-let body Γ (Sooner.sooner h) = Sooner.sooner h
 
-  l-store-a : (i : ℕ) {r : Typing} (s : Typing) → Sooner Untyped n j r → Sooner Fails n j (storeRule i r s)
+  under-store-a : (i : ℕ) {r : Typing} (s : Typing) → Sooner Untyped n j r → Sooner Fails n j (storeRule i r s)
   unfolding storeRule
-  l-store-a i s (Sooner.sooner h) = Sooner.sooner h
+  under-store-a i s (Sooner.sooner h) = Sooner.sooner h
 
-  l-store-b : (i : ℕ) {r s : Typing} → BeforeE j r → Sooner Untyped n j s → Sooner Fails n j (storeRule i r s)
+  under-store-b : (i : ℕ) {r s : Typing} → BeforeE j r → Sooner Untyped n j s → Sooner Fails n j (storeRule i r s)
   unfolding storeRule
-  l-store-b i BeforeE.typed (Sooner.sooner h) = Sooner.sooner h
-  l-store-b i (BeforeE.before l) (Sooner.sooner h) = Sooner.sooner (inl l)
+  under-store-b i BeforeE.typed (Sooner.sooner h) = Sooner.sooner h
+  under-store-b i (BeforeE.before l) (Sooner.sooner h) = Sooner.sooner (inl l)
 
-  l-ifElse-a : (i : ℕ) {r : Typing} (s t : Conduct) → Sooner Untyped n j r → Sooner Fails n j (ifElseRule i r s t)
+  under-ifElse-a : (i : ℕ) {r : Typing} (s t : Conduct) → Sooner Untyped n j r → Sooner Fails n j (ifElseRule i r s t)
   unfolding ifElseRule
-  l-ifElse-a i s t (Sooner.sooner h) = Sooner.sooner h
+  under-ifElse-a i s t (Sooner.sooner h) = Sooner.sooner h
 
-  l-ifElse-b : (i : ℕ) {r : Typing} {s : Conduct} (t : Conduct) → BeforeE j r → Sooner Fails n j s → Sooner Fails n j (ifElseRule i r s t)
+  under-ifElse-b : (i : ℕ) {r : Typing} {s : Conduct} (t : Conduct) → BeforeE j r → Sooner Fails n j s → Sooner Fails n j (ifElseRule i r s t)
   unfolding ifElseRule
-  l-ifElse-b i t BeforeE.typed (Sooner.sooner h) = Sooner.sooner h
-  l-ifElse-b i t (BeforeE.before l) (Sooner.sooner h) = Sooner.sooner (inl l)
+  under-ifElse-b i t BeforeE.typed (Sooner.sooner h) = Sooner.sooner h
+  under-ifElse-b i t (BeforeE.before l) (Sooner.sooner h) = Sooner.sooner (inl l)
 
-  l-ifElse-c : (i : ℕ) {r : Typing} {s t : Conduct} → BeforeE j r → BeforeS j s → Sooner Fails n j t → Sooner Fails n j (ifElseRule i r s t)
+  under-ifElse-c : (i : ℕ) {r : Typing} {s t : Conduct} → BeforeE j r → BeforeS j s → Sooner Fails n j t → Sooner Fails n j (ifElseRule i r s t)
   unfolding ifElseRule
-  l-ifElse-c i BeforeE.typed BeforeS.runs (Sooner.sooner h) = Sooner.sooner h
-  l-ifElse-c i BeforeE.typed (BeforeS.before l) (Sooner.sooner h) = Sooner.sooner (inl l)
-  l-ifElse-c i (BeforeE.before l) b (Sooner.sooner h) = Sooner.sooner (inl l)
+  under-ifElse-c i BeforeE.typed BeforeS.runs (Sooner.sooner h) = Sooner.sooner h
+  under-ifElse-c i BeforeE.typed (BeforeS.before l) (Sooner.sooner h) = Sooner.sooner (inl l)
+  under-ifElse-c i (BeforeE.before l) b (Sooner.sooner h) = Sooner.sooner (inl l)
 
-  l-while-a : (i : ℕ) {r : Typing} (s : Conduct) → Sooner Untyped n j r → Sooner Fails n j (whileRule i r s)
+  under-while-a : (i : ℕ) {r : Typing} (s : Conduct) → Sooner Untyped n j r → Sooner Fails n j (whileRule i r s)
   unfolding whileRule
-  l-while-a i s (Sooner.sooner h) = Sooner.sooner h
+  under-while-a i s (Sooner.sooner h) = Sooner.sooner h
 
-  l-while-b : (i : ℕ) {r : Typing} {s : Conduct} → BeforeE j r → Sooner Fails n j s → Sooner Fails n j (whileRule i r s)
+  under-while-b : (i : ℕ) {r : Typing} {s : Conduct} → BeforeE j r → Sooner Fails n j s → Sooner Fails n j (whileRule i r s)
   unfolding whileRule
-  l-while-b i BeforeE.typed (Sooner.sooner h) = Sooner.sooner h
-  l-while-b i (BeforeE.before l) (Sooner.sooner h) = Sooner.sooner (inl l)
+  under-while-b i BeforeE.typed (Sooner.sooner h) = Sooner.sooner h
+  under-while-b i (BeforeE.before l) (Sooner.sooner h) = Sooner.sooner (inl l)
 
+-- whatever is broken in one of the arguments
 leastEs : {cells Γ : List ℕ} {lo stop n j : ℕ} {x : Expr} {xs : List Expr} → In x xs → BrokenE cells Γ x n j → PlacedEs lo xs stop → Sooner Argued.fail n j (typesIn cells Γ xs)
 unfolding typesIn
-leastEs In.first b (PlacedEs.more p q) = l-argue-a _ (leastE b p)
-leastEs (In.later i) b (PlacedEs.more p q) = let r = rangeEs i b q in l-argue-b (beforeE _ _ p (omega arith)) (leastEs i b q)
+leastEs In.first b (PlacedEs.more p q) = under-argue-a _ (leastE b p)
+leastEs (In.later i) b (PlacedEs.more p q) = let r = rangeEs i b q in under-argue-b (beforeE _ _ p (omega arith)) (leastEs i b q)
 
--- a rule that the root breaks
+-- ---- a rule that the root breaks: what is found is that rule, a smaller number there, or an earlier fault
 module _ (once : Bool) (below : List Signature) (at : Standing) (s i : ℕ) where
   own-module : {a : Argued} → BeforeA i a → length below ≤ s → Sooner Fails 8 i (startRule once below at s i a)
   unfolding startRule
@@ -192,7 +194,7 @@ ownS (BreaksS.start-module Starts.start-wait h) (PlacedS.start-wait p) = own-mod
 ownS (BreaksS.start-types Starts.start h xs z) (PlacedS.start p) = rw (completeEs xs) (own-types _ _ _ _ _ _ _ h z)
 ownS (BreaksS.start-types Starts.start-wait h xs z) (PlacedS.start-wait p) = rw (completeEs xs) (own-types _ _ _ _ _ _ _ h z)
 ownS (BreaksS.store x y z) (PlacedS.store p q e) = rw (complete x, complete y) (own-store _ _ _ _ _ z)
-ownS (BreaksS.ifElse x z) (PlacedS.ifElse p q r e) = let a = lo-leS r in rw (complete x) (own-ifElse _ _ _ z (beforeS _ _ _ _ q (omega arith)) (beforeS _ _ _ _ r (omega arith)))
+ownS (BreaksS.ifElse x z) (PlacedS.ifElse p q r e) = let a = root-aboveS r in rw (complete x) (own-ifElse _ _ _ z (beforeS _ _ _ _ q (omega arith)) (beforeS _ _ _ _ r (omega arith)))
 ownS (BreaksS.while x z) (PlacedS.while p q e) = rw (complete x) (own-while _ _ _ z (beforeS _ _ _ _ q (omega arith)))
 ownS (BreaksS.start-escapes Starts.start xs z) (PlacedS.start p) = rw (completeEs xs) (own-escapes _ _ _ _ _ _ _ z)
 ownS (BreaksS.start-escapes Starts.start-wait xs z) (PlacedS.start-wait p) = rw (completeEs xs) (own-escapes _ _ _ _ _ _ _ z)
@@ -201,25 +203,26 @@ ownS (BreaksS.start-unlinked Starts.start) (PlacedS.start p) = own-unlinked _ _ 
 ownS (BreaksS.start-unlinked Starts.start-wait) (PlacedS.start-wait p) = own-unlinked _ _ _ _ (beforeEs _ _ p)
 ownS BreaksS.cooperate-unlinked p = exactly
 ownS BreaksS.do-unlinked (PlacedS.do-at p e) = own-do-unlinked _ (beforeS _ _ _ _ p e)
-ownS (BreaksS.while-body r) (PlacedS.while p q e) = let a = lo-leS q in rw (completeS r) (own-body _ _ (beforeE _ _ p (omega arith)))
+ownS (BreaksS.while-body r) (PlacedS.while p q e) = let a = root-aboveS q in rw (completeS r) (own-body _ _ (beforeE _ _ p (omega arith)))
 
+-- ---- whatever is broken, at the root or below it
 pub leastS : {cells : List ℕ} {below : List Signature} {Γ : List ℕ} {at : Standing} {lo n j : ℕ} {p : Stmt} → BrokenS cells below Γ at p n j → PlacedS lo p → Sooner Fails n j (runIn cells below Γ at p)
 unfolding runIn
 leastS (BrokenS.here b) p = ownS b p
-leastS (BrokenS.operand (Operand.argument Starts.start i) b) (PlacedS.start p) = l-start _ _ _ _ _ (leastEs i b p)
-leastS (BrokenS.operand (Operand.argument Starts.start-wait i) b) (PlacedS.start-wait p) = l-start _ _ _ _ _ (leastEs i b p)
-leastS (BrokenS.operand Operand.letIn b) (PlacedS.letIn p q e) = l-let _ _ (leastE b p)
-leastS (BrokenS.operand Operand.store-a b) (PlacedS.store p q e) = l-store-a _ _ (leastE b p)
-leastS (BrokenS.operand Operand.store-b b) (PlacedS.store p q e) = let a = rangeE b q in l-store-b _ (beforeE _ _ p (omega arith)) (leastE b q)
-leastS (BrokenS.operand Operand.ifElse b) (PlacedS.ifElse p q r e) = l-ifElse-a _ _ _ (leastE b p)
-leastS (BrokenS.operand Operand.while b) (PlacedS.while p q e) = l-while-a _ _ (leastE b p)
-leastS (BrokenS.under ChildS.seq-a b) (PlacedS.seq p q e) = l-seq-a _ (leastS b p)
-leastS (BrokenS.under ChildS.seq-b b) (PlacedS.seq p q e) = let a = rangeS b q in l-seq-b (beforeS _ _ _ _ p (omega arith)) (leastS b q)
-leastS (BrokenS.under ChildS.do-at b) (PlacedS.do-at p e) = l-do _ _ _ (leastS b p)
-leastS (BrokenS.under (ChildS.letIn h) b) (PlacedS.letIn p q e) = rw (complete h) (l-join _ (leastS b q))
-leastS (BrokenS.under ChildS.ifElse-b b) (PlacedS.ifElse p q r e) = let a = rangeS b q in l-ifElse-b _ _ (beforeE _ _ p (omega arith)) (leastS b q)
+leastS (BrokenS.operand (Operand.argument Starts.start i) b) (PlacedS.start p) = under-start _ _ _ _ _ (leastEs i b p)
+leastS (BrokenS.operand (Operand.argument Starts.start-wait i) b) (PlacedS.start-wait p) = under-start _ _ _ _ _ (leastEs i b p)
+leastS (BrokenS.operand Operand.letIn b) (PlacedS.letIn p q e) = under-let _ _ (leastE b p)
+leastS (BrokenS.operand Operand.store-a b) (PlacedS.store p q e) = under-store-a _ _ (leastE b p)
+leastS (BrokenS.operand Operand.store-b b) (PlacedS.store p q e) = let a = rangeE b q in under-store-b _ (beforeE _ _ p (omega arith)) (leastE b q)
+leastS (BrokenS.operand Operand.ifElse b) (PlacedS.ifElse p q r e) = under-ifElse-a _ _ _ (leastE b p)
+leastS (BrokenS.operand Operand.while b) (PlacedS.while p q e) = under-while-a _ _ (leastE b p)
+leastS (BrokenS.under ChildS.seq-a b) (PlacedS.seq p q e) = under-seq-a _ (leastS b p)
+leastS (BrokenS.under ChildS.seq-b b) (PlacedS.seq p q e) = let a = rangeS b q in under-seq-b (beforeS _ _ _ _ p (omega arith)) (leastS b q)
+leastS (BrokenS.under ChildS.do-at b) (PlacedS.do-at p e) = under-do _ _ _ (leastS b p)
+leastS (BrokenS.under (ChildS.letIn h) b) (PlacedS.letIn p q e) = rw (complete h) (under-join _ (leastS b q))
+leastS (BrokenS.under ChildS.ifElse-b b) (PlacedS.ifElse p q r e) = let a = rangeS b q in under-ifElse-b _ _ (beforeE _ _ p (omega arith)) (leastS b q)
 leastS (BrokenS.under ChildS.ifElse-c b) (PlacedS.ifElse p q r e) =
     let a = rangeS b r in
-    let c = lo-leS q in
-    l-ifElse-c _ (beforeE _ _ p (omega arith)) (beforeS _ _ _ _ q (omega arith)) (leastS b r)
-leastS (BrokenS.under ChildS.while b) (PlacedS.while p q e) = let a = rangeS b q in l-while-b _ (beforeE _ _ p (omega arith)) (leastS b q)
+    let c = root-aboveS q in
+    under-ifElse-c _ (beforeE _ _ p (omega arith)) (beforeS _ _ _ _ q (omega arith)) (leastS b r)
+leastS (BrokenS.under ChildS.while b) (PlacedS.while p q e) = let a = rangeS b q in under-while-b _ (beforeE _ _ p (omega arith)) (leastS b q)

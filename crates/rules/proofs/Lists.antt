@@ -1,9 +1,11 @@
--- Laws of the searches in lists that the rules use. Assumes nothing.
-use mathlib.Core.Path.{_≡_, refl, sym, ap₂}
+-- Laws of lists that the rules use: the searches in them, and the length of a prefix. Assumes nothing.
+use mathlib.Core.Path.{_≡_, refl, sym, ap₂, _∙_}
 use mathlib.Core.Bool.{Bool, true, false, true≢false}
 use mathlib.Core.List.{List, [], _∷_}
-use Prim.Native.Nat.{ℕ}
+use Prim.Native.Nat.{ℕ, _≤_}
+use native.Mathlib.Omega.{arith}
 use lib.Dec.{eqb}
+use lib.ListN.{length, take, length-take}
 use borrow.Author.Tests.{eqb-true, eq-eqb}
 use Rattle.basics.specs.Searches.{every, sameNumbers}
 use Rattle.basics.specs.Members.{All}
@@ -42,3 +44,7 @@ pub all-every : {A : Type 0} (test : A → Bool) {xs : List A} → All (λ (x : 
 unfolding every
 all-every test All.none = refl
 all-every test (All.more h r) = rw (h, every) (all-every test r)
+
+-- the first n of a list are n, where it is long enough
+pub prefix-length : (xs : List ℕ) (n : ℕ) {wide : ℕ} → length xs ≡ wide → n ≤ wide → n ≡ length (take n xs)
+prefix-length xs n e h = sym (length-take n xs ∙ omega arith)

@@ -1,17 +1,16 @@
--- The loops over the frames and the modules of a laid-out file. Assumes nothing.
+-- The functions over the modules of a laid-out file: main's effect, the tally, the next module, a module's body, the loop over all. Assumes nothing.
 use mathlib.Core.Path.{_≡_, refl, sym, ap, ap₂, subst, _∙_}
-use mathlib.Core.Bool.{Bool, true, false, _&&_, true≢false}
+use mathlib.Core.Bool.{Bool, true, false, true≢false}
 use mathlib.Core.List.{List, [], _∷_, _++_, map, map-append}
 use Prim.Native.Nat.{ℕ, zero, suc, _+_, _-_, _^_, _≤_, _<_}
 use native.Mathlib.Numerals.{add-one}
 use native.Mathlib.Omega.{arith}
-use lib.ListN.{length, take, drop, set, replicate, length-map, length-set, length-take, drop-of-length-le}
+use lib.ListN.{length, take, drop, set, replicate, length-map, length-set, drop-of-length-le}
 use lib.Seq.{drop-cons, take-all, take-suc, take-suc-set}
-use borrow.Author.Tests.{ltb-true, leb-true}
-use Rattle.basics.specs.Members.{In, first}
-use Rattle.basics.proofs.Ifs.{yes, no, and-true}
+use Rattle.basics.specs.Members.{In}
+use Rattle.basics.proofs.Ifs.{yes, no}
 use Rattle.language.specs.Places.{linked}
-use Rattle.language.specs.Kinds.{uses, child}
+use Rattle.language.specs.Kinds.{isModule, child}
 use Rattle.language.specs.Effects.{within}
 use Rattle.language.specs.declared.effect.Effect.{Effect}
 use Rattle.language.specs.declared.verdict.Verdict.{Verdict}
@@ -23,8 +22,7 @@ use Rattle.language.specs.declared.frame.Frame.{Frame}
 use Rattle.text.specs.Frames.{frameOfWord, framesOf}
 use Rattle.program.specs.Trees.{noFrame, frameAt, statementAt}
 use Rattle.program.specs.Programs.{Part, partOf, withPart, modulesFrom, sharedOf}
-use Rattle.layout.specs.Fields.{isModule, countOf, schedulersOf, kindFine, fieldFine, frameFine}
-use Rattle.layout.specs.Faults.{NoFault}
+use Rattle.layout.specs.Fields.{countOf, schedulersOf, frameFine}
 use Rattle.layout.specs.Scope.{Room}
 use Rattle.layout.specs.Passes.{tallyOf}
 use Rattle.layout.specs.declared.fields.Tally.{Tally}
@@ -38,7 +36,7 @@ use Rattle.rules.specs.Frames.{FrameIn, FileIn}
 use Rattle.rules.specs.Modules.{NextModule}
 use Rattle.rules.specs.declared.finding.Conduct.{Conduct}
 use Rattle.rules.specs.declared.finding.Conduct.the-variants.{Does, Fails}
-use Rattle.rules.proofs.NodeLaws.{frame-fine, few-schedulers}
+use Rattle.rules.proofs.FineFrames.{frame-fine, few-schedulers, few-modules, few-parameters}
 
 -- ---- 'main has an effect within {2}'
 pub main-within : (i : ℕ) (e : Effect) (x : Bool) → x ≡ within 2 e → x ≡ true → Accepted ≡ mainRule i e
@@ -67,8 +65,13 @@ pub tally-end : (ws : List ℕ) (t : Tally) (i : ℕ) → Tallied ws t i → len
 tally-end ws t i g h = g .1 ∙ ap tallyOf (take-all i (framesOf ws) (rw length-map h))
 
 -- ---- the next module
+
+-- the modules of the file from frame k on
+abbrev partsFrom : List Frame → ℕ → List Part
+partsFrom fs k = modulesFrom fs k (drop k fs)
+
 module _ (fs : List Frame) where
-  from : (k : ℕ) → k < length fs → modulesFrom fs k (drop k fs) ≡ withPart fs k (frameAt fs k) (frameAt fs k .kind) (modulesFrom fs (suc k) (drop (suc k) fs))
+  from : (k : ℕ) → k < length fs → partsFrom fs k ≡ withPart fs k (frameAt fs k) (frameAt fs k .kind) (partsFrom fs (suc k))
   unfolding modulesFrom
   from k h = ap (modulesFrom fs k) (drop-cons fs k noFrame h)
 
@@ -80,17 +83,17 @@ module _ (fs : List Frame) where
   no-part k f (Expression s) ps h = refl
   no-part k f Unknown ps h = refl
 
-  pub part-at : (k : ℕ) → k < length fs → frameAt fs k .kind ≡ Module → modulesFrom fs k (drop k fs) ≡ partOf fs k (frameAt fs k) ∷ modulesFrom fs (suc k) (drop (suc k) fs)
-  part-at k h e = from k h ∙ ap (λ (q : Kind). withPart fs k (frameAt fs k) q (modulesFrom fs (suc k) (drop (suc k) fs))) e
+  part-at : (k : ℕ) → k < length fs → frameAt fs k .kind ≡ Module → partsFrom fs k ≡ partOf fs k (frameAt fs k) ∷ partsFrom fs (suc k)
+  part-at k h e = from k h ∙ ap (λ (q : Kind). withPart fs k (frameAt fs k) q (partsFrom fs (suc k))) e
 
-  skip : (k : ℕ) → k < length fs → isModule (frameAt fs k .kind) ≡ false → modulesFrom fs k (drop k fs) ≡ modulesFrom fs (suc k) (drop (suc k) fs)
-  skip k h e = from k h ∙ no-part k (frameAt fs k) (frameAt fs k .kind) (modulesFrom fs (suc k) (drop (suc k) fs)) e
+  skip : (k : ℕ) → k < length fs → isModule (frameAt fs k .kind) ≡ false → partsFrom fs k ≡ partsFrom fs (suc k)
+  skip k h e = from k h ∙ no-part k (frameAt fs k) (frameAt fs k .kind) (partsFrom fs (suc k)) e
 
 -- k is at or behind i, and no module stands between
 pub record Seeking (ws : List ℕ) (i k : ℕ) : Type 0 where
   pub onward : i ≤ k
   pub there : k < length ws
-  pub same : modulesFrom (framesOf ws) i (drop i (framesOf ws)) ≡ modulesFrom (framesOf ws) k (drop k (framesOf ws))
+  pub same : partsFrom (framesOf ws) i ≡ partsFrom (framesOf ws) k
   pub count : countOf isModule (take i (framesOf ws)) ≡ countOf isModule (take k (framesOf ws))
 
 pub seek-start : (ws : List ℕ) (i : ℕ) → FrameIn ws i → Seeking ws i i
@@ -109,7 +112,7 @@ module _ (ws : List ℕ) (i k : ℕ) (s : Seeking ws i k) where
       record {
         onward = (let o = s .onward in omega arith);
         there = l;
-        same = s .same ∙ skip (framesOf ws) k inside q ∙ ap (λ (n : ℕ). modulesFrom (framesOf ws) n (drop n (framesOf ws))) (sym (add-one k));
+        same = s .same ∙ skip (framesOf ws) k inside q ∙ ap (partsFrom (framesOf ws)) (sym (add-one k));
         count = s .count ∙ sym (ap (countOf isModule) (take-suc (framesOf ws) k noFrame inside) ∙ counted-none isModule (take k (framesOf ws)) (frameAt (framesOf ws) k) q) ∙ ap (λ (n : ℕ). countOf isModule (take n (framesOf ws))) (sym (add-one k));
       }
 
@@ -132,144 +135,116 @@ pub conduct-is : (cells below ws : List ℕ) (f : Frame) (m : ℕ) (r : Conduct)
     → r ≡ runIn cells (map signatureOf (take m below)) (take (f .s) (f .b ∷ f .c ∷ [])) linked (statementAt (framesOf ws) (f .a))
 conduct-is cells below ws f m r h e = e ∙ ap (λ (Γ : List ℕ). runIn cells (map signatureOf (take m below)) Γ linked (statementAt (framesOf ws) (f .a))) (take-two (f .s) (f .b) (f .c) (replicate 23 0) h)
 
-pub below-length : (below : List ℕ) (m : ℕ) → length below ≡ 16 → m ≤ 16 → m ≡ length (take m below)
-below-length below m e h = sym (length-take m below ∙ omega arith)
+-- ---- the loop over modules
 
--- ---- what a module's frame has in a laid-out file
-module _ (fs : List Frame) (clean : NoFault fs) (i : ℕ) (h : i < length fs) (e : frameAt fs i .kind ≡ Module) where
-  fine : frameFine fs i (frameAt fs i) ≡ true
-  fine = frame-fine fs clean i h
+-- what a module leaves to be said, by what its body was found to be
+module _ (rest : List Signature → Verdict) (below : List Signature) (p : Part) where
+  after-fails : (ms : List Part) (n j : ℕ) → afterModule rest below p ms (Fails n j) ≡ Rejected n j
+  after-fails [] n j = refl
+  after-fails (q ∷ qs) n j = refl
 
-  parts : (k v w x y : Bool) → (k && v && w && x && y) ≡ true → (k ≡ true) × (v ≡ true)
-  parts k v w x y q = and-true k v (and-true (k && v) w (and-true (k && v && w) x (and-true (k && v && w && x) y q .0) .0) .0)
+  after-last : {ms : List Part} (e : Effect) (b : Bool) → ms ≡ [] → afterModule rest below p ms (Does e b) ≡ mainRule (p .frame) e
+  after-last e b h = ap (λ (ns : List Part). afterModule rest below p ns (Does e b)) h
 
-  both : (kindFine fs i (frameAt fs i .kind) ≡ true) × (fieldFine fs i (frameAt fs i) (uses (frameAt fs i .kind) .s) (frameAt fs i .s) ≡ true)
-  unfolding frameFine
-  both = parts _ _ _ _ _ fine
+  after-earlier : {q : Part} {ms qs : List Part} (e : Effect) (b : Bool) → ms ≡ q ∷ qs → afterModule rest below p ms (Does e b) ≡ rest (below ++ (signature p e ∷ []))
+  after-earlier e b h = ap (λ (ns : List Part). afterModule rest below p ns (Does e b)) h
 
-  few-modules : countOf isModule (take i fs) < 16
-  few-modules = ltb-true _ _ (ap (kindFine fs i) (sym e) ∙ both .0)
+-- what the rules say of all modules of the file
+abbrev allModules : List ℕ → List ℕ → Verdict
+allModules cells ws = modulesIn cells [] (modulesFrom (framesOf ws) 0 (framesOf ws))
 
-  few-parameters : frameAt fs i .s ≤ 2
-  few-parameters = leb-true _ _ (ap (λ (k : Kind). fieldFine fs i (frameAt fs i) (uses k .s) (frameAt fs i .s)) (sym e) ∙ both .1)
-
-  body-below : frameAt fs i .a < i
-  body-below = child-below fs clean {c = child Class.Statement (frameAt fs i .a)} h (in-a (frameAt fs i) Module e In.first)
-
--- ---- the loop over modules: m of them are passed, and the next is frame i
+-- m modules are passed, and the next is frame i
 pub record Judging (cells ws below : List ℕ) (m i : ℕ) : Type 0 where
   pub file : FileIn ws
   pub there : i < length ws
   pub module-at : frameAt (framesOf ws) i .kind ≡ Module
   pub count : m ≡ countOf isModule (take i (framesOf ws))
   pub wide : length below ≡ 16
-  pub rest : modulesIn cells (map signatureOf (take m below)) (modulesFrom (framesOf ws) i (drop i (framesOf ws))) ≡ modulesIn cells [] (modulesFrom (framesOf ws) 0 (framesOf ws))
+  pub rest : modulesIn cells (map signatureOf (take m below)) (partsFrom (framesOf ws) i) ≡ allModules cells ws
+
+pub file-first : (ws : List ℕ) → FileIn ws → FrameIn ws 0
+file-first ws g = record { laid-out = g .laid-out; there = g .some; few = g .few }
 
 pub judge-start : (cells ws : List ℕ) (i : ℕ) → FileIn ws → NextModule ws 0 i → Judging cells ws (replicate 16 0) 0 i
 unfolding countOf
 judge-start cells ws i g n = record { file = g; there = n .there; module-at = n .is; count = n .count; wide = refl; rest = ap (modulesIn cells []) (sym (n .same)) }
 
-pub file-first : (ws : List ℕ) → FileIn ws → FrameIn ws 0
-file-first ws g = record { laid-out = g .laid-out; there = g .some; few = g .few }
-
 module _ (cells ws below : List ℕ) (m i : ℕ) (j : Judging cells ws below m i) where
-  abbrev fs : List Frame
-  fs = framesOf ws
-
   inside-fs : i < length (framesOf ws)
   inside-fs = rw length-map (j .there)
 
+  pub judge-index : i < length ws
+  judge-index = j .there
+
+  pub judge-fits : i < 2 ^ 16
+  judge-fits = let t = j .there in let f = j .file .few in omega arith
+
+  pub judge-next : i + 1 < length ws → FrameIn ws (i + 1)
+  judge-next h = record { laid-out = j .file .laid-out; there = h; few = j .file .few }
+
   pub judge-few : m < 16
   judge-few = let c = j .count in let k = few-modules (framesOf ws) (j .file .laid-out) i inside-fs (j .module-at) in omega arith
+
+  pub judge-most : m ≤ 16
+  judge-most = let h = judge-few in omega arith
+
+  pub judge-add : m + 1 < 2 ^ 64
+  judge-add = let h = judge-few in omega arith
 
   pub judge-parameters : (f : Frame) → f ≡ frameAt (framesOf ws) i → f .s ≤ 2
   judge-parameters f e = subst (λ (g : Frame). g .s ≤ 2) (sym e) (few-parameters (framesOf ws) (j .file .laid-out) i inside-fs (j .module-at))
 
   pub judge-body : (f : Frame) → f ≡ frameAt (framesOf ws) i → FrameIn ws (f .a)
   judge-body f e =
-      let b = body-below (framesOf ws) (j .file .laid-out) i inside-fs (j .module-at) in
+      let g = frameAt (framesOf ws) i in
+      let b : g .a < i = child-below (framesOf ws) (j .file .laid-out) {c = child Class.Statement (g .a)} inside-fs (in-a g Module (j .module-at) In.first) in
       let t = j .there in
-      subst (λ (g : Frame). FrameIn ws (g .a)) (sym e) (record { laid-out = j .file .laid-out; there = omega arith; few = j .file .few })
+      subst (λ (h : Frame). FrameIn ws (h .a)) (sym e) (record { laid-out = j .file .laid-out; there = omega arith; few = j .file .few })
 
   pub judge-room : (f : Frame) → f ≡ frameAt (framesOf ws) i → Room (framesOf ws) (f .a) (f .s)
   judge-room f e = subst (λ (g : Frame). Room (framesOf ws) (g .a) (g .s)) (sym e) (room-body i (frameAt (framesOf ws) i .s) inside-fs (j .module-at) (few-parameters (framesOf ws) (j .file .laid-out) i inside-fs (j .module-at)))
 
-  -- what the verdict is, by what the body was found to be
-  by-body : (f : Frame) (c v : Conduct) → f ≡ frameAt (framesOf ws) i → c ≡ v
-      → c ≡ runIn cells (map signatureOf (take m below)) (take (f .s) (f .b ∷ f .c ∷ [])) linked (statementAt (framesOf ws) (f .a))
-      → afterModule (λ sigs. modulesIn cells sigs (modulesFrom (framesOf ws) (suc i) (drop (suc i) (framesOf ws)))) (map signatureOf (take m below)) (partOf (framesOf ws) i f) (modulesFrom (framesOf ws) (suc i) (drop (suc i) (framesOf ws))) v
-      ≡ modulesIn cells [] (modulesFrom (framesOf ws) 0 (framesOf ws))
-  unfolding modulesIn
-  by-body f c v e h k =
-      let ms = modulesFrom (framesOf ws) (suc i) (drop (suc i) (framesOf ws)) in
-      ap (afterModule (λ sigs. modulesIn cells sigs ms) (map signatureOf (take m below)) (partOf (framesOf ws) i f) ms) (sym h ∙ k)
-      ∙ ap (λ (g : Frame). modulesIn cells (map signatureOf (take m below)) (partOf (framesOf ws) i g ∷ ms)) e
-      ∙ ap (modulesIn cells (map signatureOf (take m below))) (sym (part-at (framesOf ws) i inside-fs (j .module-at)))
-      ∙ j .rest
+  -- ---- what the rules say of all modules, once the body of this one was found to be c
+  abbrev known : List Signature
+  known = map signatureOf (take m below)
+
+  abbrev later : List Part
+  later = partsFrom (framesOf ws) (suc i)
 
   module _ (f : Frame) (c : Conduct) (q : f ≡ frameAt (framesOf ws) i) (k : c ≡ runIn cells (map signatureOf (take m below)) (take (f .s) (f .b ∷ f .c ∷ [])) linked (statementAt (framesOf ws) (f .a))) where
-    pub judge-fails : (n o : ℕ) → c ≡ Fails n o → Rejected n o ≡ modulesIn cells [] (modulesFrom (framesOf ws) 0 (framesOf ws))
-    judge-fails n o h = after (modulesFrom (framesOf ws) (suc i) (drop (suc i) (framesOf ws))) refl ∙ by-body f c (Fails n o) q h k
-      where
-        after : (ms : List Part) → modulesFrom (framesOf ws) (suc i) (drop (suc i) (framesOf ws)) ≡ ms
-            → Rejected n o ≡ afterModule (λ sigs. modulesIn cells sigs (modulesFrom (framesOf ws) (suc i) (drop (suc i) (framesOf ws)))) (map signatureOf (take m below)) (partOf (framesOf ws) i f) (modulesFrom (framesOf ws) (suc i) (drop (suc i) (framesOf ws))) (Fails n o)
-        after ms e = sym (ap (λ (ns : List Part). afterModule (λ sigs. modulesIn cells sigs (modulesFrom (framesOf ws) (suc i) (drop (suc i) (framesOf ws)))) (map signatureOf (take m below)) (partOf (framesOf ws) i f) ns (Fails n o)) e ∙ go ms)
-          where
-            go : (ns : List Part) → afterModule (λ sigs. modulesIn cells sigs (modulesFrom (framesOf ws) (suc i) (drop (suc i) (framesOf ws)))) (map signatureOf (take m below)) (partOf (framesOf ws) i f) ns (Fails n o) ≡ Rejected n o
-            go [] = refl
-            go (p ∷ ns) = refl
+    by-body : (v : Conduct) → c ≡ v → afterModule (λ sigs. modulesIn cells sigs later) known (partOf (framesOf ws) i f) later v ≡ allModules cells ws
+    unfolding modulesIn
+    by-body v h =
+        ap (afterModule (λ sigs. modulesIn cells sigs later) known (partOf (framesOf ws) i f) later) (sym h ∙ k)
+        ∙ ap (λ (g : Frame). modulesIn cells known (partOf (framesOf ws) i g ∷ later)) q
+        ∙ ap (modulesIn cells known) (sym (part-at (framesOf ws) i inside-fs (j .module-at)))
+        ∙ j .rest
 
-    pub judge-main : (e : Effect) (b : Bool) (r : Verdict) → c ≡ Does e b → length ws ≤ i + 1 → r ≡ mainRule i e → r ≡ modulesIn cells [] (modulesFrom (framesOf ws) 0 (framesOf ws))
+    pub judge-fails : (n o : ℕ) → c ≡ Fails n o → Rejected n o ≡ allModules cells ws
+    judge-fails n o h = sym (after-fails (λ sigs. modulesIn cells sigs later) known (partOf (framesOf ws) i f) later n o) ∙ by-body (Fails n o) h
+
+    pub judge-main : (e : Effect) (b : Bool) (r : Verdict) → c ≡ Does e b → length ws ≤ i + 1 → r ≡ mainRule i e → r ≡ allModules cells ws
     unfolding modulesFrom
     judge-main e b r h l d =
-        let z : drop (suc i) (framesOf ws) ≡ [] = drop-of-length-le (framesOf ws) {i = suc i} (rw length-map (omega arith)) in
-        d ∙ sym (ap (λ (gs : List Frame). afterModule (λ sigs. modulesIn cells sigs (modulesFrom (framesOf ws) (suc i) gs)) (map signatureOf (take m below)) (partOf (framesOf ws) i f) (modulesFrom (framesOf ws) (suc i) gs) (Does e b)) z)
-        ∙ by-body f c (Does e b) q h k
+        let z : later ≡ [] = ap (modulesFrom (framesOf ws) (suc i)) (drop-of-length-le (framesOf ws) {i = suc i} (rw length-map (omega arith))) in
+        d ∙ sym (after-last (λ sigs. modulesIn cells sigs later) known (partOf (framesOf ws) i f) e b z) ∙ by-body (Does e b) h
 
     pub judge-more : (e : Effect) (b : Bool) (w r : ℕ) → c ≡ Does e b → signatureOf w ≡ signatureWith (f .s) (f .b) (f .c) e → NextModule ws (i + 1) r → Judging cells ws (set below m w) (m + 1) r
     judge-more e b w r h d n =
         let s = judge-few in
         let wide = j .wide in
-        let ms = modulesFrom (framesOf ws) (suc i) (drop (suc i) (framesOf ws)) in
-        let next : ms ≡ modulesFrom (framesOf ws) r (drop r (framesOf ws)) = ap (λ (x : ℕ). modulesFrom (framesOf ws) x (drop x (framesOf ws))) (sym (add-one i)) ∙ n .same in
-        let head : ms ≡ partOf (framesOf ws) r (frameAt (framesOf ws) r) ∷ modulesFrom (framesOf ws) (suc r) (drop (suc r) (framesOf ws)) = next ∙ part-at (framesOf ws) r (rw length-map (n .there)) (n .is) in
-        let sigs : map signatureOf (take (m + 1) (set below m w)) ≡ map signatureOf (take m below) ++ (signature (partOf (framesOf ws) i f) e ∷ []) =
-        ap (λ (x : ℕ). map signatureOf (take x (set below m w))) (add-one m) ∙ ap (map signatureOf) (take-suc-set below m w (omega arith)) ∙ map-append signatureOf (take m below) (w ∷ []) ∙ ap (λ (g : Signature). map signatureOf (take m below) ++ (g ∷ [])) d in
+        let next : later ≡ partsFrom (framesOf ws) r = ap (partsFrom (framesOf ws)) (sym (add-one i)) ∙ n .same in
+        let head : later ≡ partOf (framesOf ws) r (frameAt (framesOf ws) r) ∷ partsFrom (framesOf ws) (suc r) = next ∙ part-at (framesOf ws) r (rw length-map (n .there)) (n .is) in
+        let sigs : map signatureOf (take (m + 1) (set below m w)) ≡ known ++ (signature (partOf (framesOf ws) i f) e ∷ []) =
+        ap (λ (x : ℕ). map signatureOf (take x (set below m w))) (add-one m) ∙ ap (map signatureOf) (take-suc-set below m w (omega arith)) ∙ map-append signatureOf (take m below) (w ∷ []) ∙ ap (λ (g : Signature). known ++ (g ∷ [])) d in
         record {
           file = j .file;
           there = n .there;
           module-at = n .is;
           count = ap (λ (x : ℕ). x + 1) (j .count) ∙ sym (counted-one isModule (take i (framesOf ws)) (frameAt (framesOf ws) i) (ap isModule (j .module-at))) ∙ ap (countOf isModule) (sym (take-suc (framesOf ws) i noFrame inside-fs)) ∙ ap (λ (x : ℕ). countOf isModule (take x (framesOf ws))) (sym (add-one i)) ∙ n .count;
           wide = length-set below m w ∙ j .wide;
-          rest =
-              ap₂ (modulesIn cells) sigs (sym next)
-              ∙ after ms head
-              ∙ by-body f c (Does e b) q h k;
+          rest = ap₂ (modulesIn cells) sigs (sym next) ∙ sym (after-earlier (λ sigs. modulesIn cells sigs later) known (partOf (framesOf ws) i f) e b head) ∙ by-body (Does e b) h;
         }
-      where
-        after : (ms : List Part) {p : Part} {ps : List Part} → ms ≡ p ∷ ps
-            → modulesIn cells (map signatureOf (take m below) ++ (signature (partOf (framesOf ws) i f) e ∷ [])) ms ≡ afterModule (λ sigs. modulesIn cells sigs ms) (map signatureOf (take m below)) (partOf (framesOf ws) i f) ms (Does e b)
-        after ms {p} {ps} h = sym (ap (λ (ns : List Part). afterModule (λ sigs. modulesIn cells sigs ms) (map signatureOf (take m below)) (partOf (framesOf ws) i f) ns (Does e b)) h)
-
-pub ruleset judge-laws = (judge-fails, judge-main)
-
-pub judge-next : (cells ws below : List ℕ) (m i : ℕ) → Judging cells ws below m i → i + 1 < length ws → FrameIn ws (i + 1)
-judge-next cells ws below m i j h = record { laid-out = j .file .laid-out; there = h; few = j .file .few }
-
-pub judge-index : (cells ws below : List ℕ) (m i : ℕ) → Judging cells ws below m i → i < length ws
-judge-index cells ws below m i j = j .there
-
-pub judge-most : (cells ws below : List ℕ) (m i : ℕ) → Judging cells ws below m i → m ≤ 16
-judge-most cells ws below m i j = let h = judge-few cells ws below m i j in omega arith
-
-pub judge-wide : (cells ws below : List ℕ) (m i : ℕ) → Judging cells ws below m i → m < length below
-judge-wide cells ws below m i j = let h = judge-few cells ws below m i j in let w = j .wide in omega arith
-
-pub judge-fits : (cells ws below : List ℕ) (m i : ℕ) → Judging cells ws below m i → i < 2 ^ 16
-judge-fits cells ws below m i j = let t = j .there in let f = j .file .few in omega arith
 
 pub judge-falls : (ws : List ℕ) (i r : ℕ) → NextModule ws (i + 1) r → i + 1 < length ws → length ws - r < length ws - i
 judge-falls ws i r n h = let o = n .onward in omega arith
-
-pub judge-add : (cells ws below : List ℕ) (m i : ℕ) → Judging cells ws below m i → m + 1 < 2 ^ 64
-judge-add cells ws below m i j = let h = judge-few cells ws below m i j in omega arith

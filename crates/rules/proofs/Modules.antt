@@ -24,42 +24,46 @@ use Rattle.rules.proofs.Sooner.{Sooner, exactly}
 use Rattle.rules.proofs.Statements.{completeS, FoundS, soundS}
 use Rattle.rules.proofs.FirstStatements.{leastS}
 
+-- ---- what keeps the rules is accepted
 pub completeM : {cells : List ℕ} {below : List Signature} {ms : List Part} → Modules cells below ms → modulesIn cells below ms ≡ Accepted
 unfolding modulesIn if_then_else_
 completeM (Modules.main r h) = rw (completeS r) (rw h)
 completeM (Modules.more r ms) = rw (completeS r) (completeM ms)
 
+-- ---- whatever is found holds
 abbrev pub FoundM : List ℕ → List Signature → List Part → Verdict → Type 0
 FoundM cells below ms Accepted = Modules cells below ms
 FoundM cells below ms (Rejected n j) = BrokenM cells below ms n j
 
 module _ (cells : List ℕ) (below : List Signature) (m : Part) where
-  f-main : (rest : List Signature → Verdict) (r : Conduct) → FoundS cells below (m .types) linked (m .body) r → FoundM cells below (m ∷ []) (afterModule rest below m [] r)
-  f-main rest (Does e b) h = if-all (FoundM cells below (m ∷ [])) (within home e) _ _ (λ l. Modules.main h l) (λ l. BrokenM.main h l)
-  f-main rest (Fails n j) h = BrokenM.body h
+  found-main : (rest : List Signature → Verdict) (r : Conduct) → FoundS cells below (m .types) linked (m .body) r → FoundM cells below (m ∷ []) (afterModule rest below m [] r)
+  found-main rest (Does e b) h = if-all (FoundM cells below (m ∷ [])) (within home e) _ _ (λ l. Modules.main h l) (λ l. BrokenM.main h l)
+  found-main rest (Fails n j) h = BrokenM.body h
 
-  f-more : (n : Part) (ms : List Part) (rest : List Signature → Verdict) → ((sigs : List Signature) → FoundM cells sigs (n ∷ ms) (rest sigs)) → (r : Conduct) → FoundS cells below (m .types) linked (m .body) r → FoundM cells below (m ∷ n ∷ ms) (afterModule rest below m (n ∷ ms) r)
-  f-more n ms rest g (Does e b) h = go (rest (below ++ (signature m e ∷ []))) (g (below ++ (signature m e ∷ [])))
+  found-more : (n : Part) (ms : List Part) (rest : List Signature → Verdict) → ((sigs : List Signature) → FoundM cells sigs (n ∷ ms) (rest sigs)) → (r : Conduct) → FoundS cells below (m .types) linked (m .body) r → FoundM cells below (m ∷ n ∷ ms) (afterModule rest below m (n ∷ ms) r)
+  found-more n ms rest g (Does e b) h = go (rest (below ++ (signature m e ∷ []))) (g (below ++ (signature m e ∷ [])))
     where
       go : (a : Verdict) → FoundM cells (below ++ (signature m e ∷ [])) (n ∷ ms) a → FoundM cells below (m ∷ n ∷ ms) a
       go Accepted k = Modules.more h k
       go (Rejected i j) k = BrokenM.later h k
-  f-more n ms rest g (Fails i j) h = BrokenM.body h
+  found-more n ms rest g (Fails i j) h = BrokenM.body h
 
 pub soundM : (cells : List ℕ) (ms : List Part) (below : List Signature) (m : Part) → FoundM cells below (m ∷ ms) (modulesIn cells below (m ∷ ms))
 unfolding modulesIn
-soundM cells [] below m = f-main cells below m (λ sigs. modulesIn cells sigs []) (runIn cells below (m .types) linked (m .body)) (soundS cells below (m .types) linked (m .body))
-soundM cells (n ∷ ms) below m = f-more cells below m n ms (λ sigs. modulesIn cells sigs (n ∷ ms)) (λ sigs. soundM cells ms sigs n) (runIn cells below (m .types) linked (m .body)) (soundS cells below (m .types) linked (m .body))
+soundM cells [] below m = found-main cells below m (λ sigs. modulesIn cells sigs []) (runIn cells below (m .types) linked (m .body)) (soundS cells below (m .types) linked (m .body))
+soundM cells (n ∷ ms) below m = found-more cells below m n ms (λ sigs. modulesIn cells sigs (n ∷ ms)) (λ sigs. soundM cells ms sigs n) (runIn cells below (m .types) linked (m .body)) (soundS cells below (m .types) linked (m .body))
 
-l-body : {n j : ℕ} (rest : List Signature → Verdict) (below : List Signature) (m : Part) (ms : List Part) {r : Conduct} → Sooner Fails n j r → Sooner Rejected n j (afterModule rest below m ms r)
-l-body rest below m ms (Sooner.sooner h) = Sooner.sooner h
+-- ---- whatever is broken, the finding is a fault no later
+under-body : {n j : ℕ} (rest : List Signature → Verdict) (below : List Signature) (m : Part) (ms : List Part) {r : Conduct} → Sooner Fails n j r → Sooner Rejected n j (afterModule rest below m ms r)
+under-body rest below m ms (Sooner.sooner h) = Sooner.sooner h
 
 own-main : (i : ℕ) (e : Effect) → within home e ≡ false → Sooner Rejected 11 i (mainRule i e)
 own-main i e h = if-all (Sooner Rejected 11 i) (within home e) _ _ (λ l. absurd (true≢false (sym l ∙ h))) (λ l. exactly)
 
+-- the case within `later` shows that a module follows, so that this one is not main
 pub leastM : {cells : List ℕ} {below : List Signature} {ms : List Part} {n j : ℕ} → BrokenM cells below ms n j → PlacedM ms → Sooner Rejected n j (modulesIn cells below ms)
 unfolding modulesIn
-leastM (BrokenM.body b) (PlacedM.more p q) = l-body _ _ _ _ (leastS b p)
+leastM (BrokenM.body b) (PlacedM.more p q) = under-body _ _ _ _ (leastS b p)
 leastM (BrokenM.later r (BrokenM.body b)) (PlacedM.more p q) = rw (completeS r) (leastM (BrokenM.body b) q)
 leastM (BrokenM.later r (BrokenM.later s b)) (PlacedM.more p q) = rw (completeS r) (leastM (BrokenM.later s b) q)
 leastM (BrokenM.later r (BrokenM.main s h)) (PlacedM.more p q) = rw (completeS r) (leastM (BrokenM.main s h) q)

@@ -1,13 +1,14 @@
 -- What each rule's function computes, one law for each of its returns. Assumes nothing.
 use mathlib.Core.Path.{_≡_, refl, sym, ap, _∙_}
-use mathlib.Core.Bool.{Bool, true, false, not, _&&_, _||_}
+use mathlib.Core.Bool.{Bool, true, false, not, _&&_, _||_, true≢false}
 use mathlib.Core.List.{List}
 use Prim.Native.Nat.{ℕ, _^_, _<_, _≤_}
 use native.Mathlib.Omega.{arith}
 use lib.Dec.{leb, eqb}
 use lib.ListN.{length, getD}
 use borrow.Author.Tests.{lt-ltb, le-ltb, eq-eqb, ne-eqb, le-leb, leb-true, not-true, not-false}
-use Rattle.basics.proofs.Ifs.{yes, no, and-true, or-off}
+use Rattle.basics.specs.If.{if_then_else_}
+use Rattle.basics.proofs.Ifs.{if-all, yes, no, and-true, or-off}
 use Rattle.language.specs.Places.{isPlace, placeRead}
 use Rattle.language.specs.Types.{isCell, cellType, ownerOf, contentOf, roomAround, public, cellRead}
 use Rattle.language.specs.Effects.{noEffect, _∪_, withOwner, within}
@@ -24,7 +25,37 @@ use Rattle.rules.specs.declared.finding.Typing.the-variants.{Typed, Unty
 use Rattle.rules.specs.declared.finding.Conduct.{Conduct}
 use Rattle.rules.specs.declared.finding.Conduct.the-variants.{Does, Fails}
 
--- ---- a variable or a shared cell
+-- In the names: X-fault is what is found where the first child has a fault, X-fault-2 where the second has the first fault; X-row hands on the answer of the function that takes the children's types and effects; X-by is the rule on equal findings.
+
+-- ---- what a constructor of places, and of types of cells, answered
+read-at : (t : Bool) (s : ℕ) (q : Place) → placeRead t s ≡ At q → q .number ≡ s
+unfolding placeRead if_then_else_
+read-at true s q e = cc
+read-at false s q e = absurd (let z : _≡_ {A = ℕ} 0 1 = cc in omega arith)
+
+read-none : (t : Bool) (s : ℕ) → placeRead t s ≡ NoPlace → t ≡ false
+unfolding placeRead if_then_else_
+read-none true s e = absurd (let z : _≡_ {A = ℕ} 0 1 = cc in omega arith)
+read-none false s e = refl
+
+read-word : (o t w : ℕ) → cellRead o t ≡ Word w → (roomAround t ≡ true) × (w ≡ cellType o t)
+unfolding cellRead
+read-word o t w =
+    if-all (λ (r : CellRead). r ≡ Word w → (roomAround t ≡ true) × (w ≡ cellType o t)) (isPlace o && roomAround t) _ _
+    (λ k e. (and-true (isPlace o) (roomAround t) k .1, cc))
+    (λ k e. absurd (let z : _≡_ {A = ℕ} 0 1 = cc in omega arith))
+
+read-deep : (o t : ℕ) → isPlace o ≡ true → cellRead o t ≡ TooDeep → roomAround t ≡ false
+unfolding cellRead
+read-deep o t p =
+    if-all (λ (r : CellRead). r ≡ TooDeep → roomAround t ≡ false) (isPlace o && roomAround t) _ _
+    (λ k e. absurd (let z : _≡_ {A = ℕ} 0 1 = cc in omega arith))
+    (λ k e. sym (ap (λ (x : Bool). x && roomAround t) p) ∙ k)
+
+is-place : (s : ℕ) → 1 ≤ s → s ≤ 9 → isPlace s ≡ true
+is-place s a b = rw (le-leb 1 s a, le-leb s 9 b)
+
+-- ---- 22 and 23, a variable or a shared cell
 module _ (ts : List ℕ) (s i : ℕ) where
   pub named-there : (e : Effect) → s < length ts → e ≡ noEffect → Typed (getD ts s 0) e ≡ namedRule ts s i
   unfolding namedRule
@@ -36,72 +67,25 @@ module _ (ts : List ℕ) (s i : ℕ) where
 
 pub ruleset named-laws = (named-there, named-missing)
 
--- ---- a new cell
-cell-place : (s : ℕ) (p : PlaceRead) (q : Place) → p ≡ placeRead (isPlace s) s → p ≡ At q → 1 ≤ s → s ≤ 9 → q .number ≡ s
-unfolding placeRead
-cell-place s p q e f a b = ap number-of (sym f ∙ e ∙ sym (yes _ (rw (le-leb 1 s a, le-leb s 9 b)) refl))
-  where
-    number-of : PlaceRead → ℕ
-    number-of (At x) = x .number
-    number-of NoPlace = 0
-
-no-place : (s : ℕ) (p : PlaceRead) → p ≡ placeRead (isPlace s) s → p ≡ NoPlace → 1 ≤ s → s ≤ 9 → ⊥
-unfolding placeRead
-no-place s p e f a b = let z : _≡_ {A = ℕ} 0 1 = ap is-there (sym f ∙ e ∙ sym (yes _ (rw (le-leb 1 s a, le-leb s 9 b)) refl)) in omega arith
-  where
-    is-there : PlaceRead → ℕ
-    is-there (At x) = 1
-    is-there NoPlace = 0
-
-cell-deep : (o t : ℕ) (c : CellRead) → c ≡ cellRead o t → c ≡ TooDeep → 1 ≤ o → o ≤ 9 → roomAround t ≡ false
-unfolding cellRead
-cell-deep o t c e f a b = go (roomAround t) refl
-  where
-    is-word : CellRead → ℕ
-    is-word (Word w) = 1
-    is-word TooDeep = 0
-
-    go : (r : Bool) → roomAround t ≡ r → r ≡ false
-    go true k = let z : _≡_ {A = ℕ} 0 1 = ap is-word (sym f ∙ e ∙ sym (yes TooDeep (rw (le-leb 1 o a, le-leb o 9 b, k)) refl)) in absurd (omega arith)
-    go false k = refl
-
-cell-word : (o t w : ℕ) (c : CellRead) → c ≡ cellRead o t → c ≡ Word w → (roomAround t ≡ true) × (w ≡ cellType o t)
-unfolding cellRead
-cell-word o t w c e f = go (isPlace o && roomAround t) refl
-  where
-    word-of : CellRead → ℕ
-    word-of (Word x) = x
-    word-of TooDeep = 0
-
-    is-word : CellRead → ℕ
-    is-word (Word x) = 1
-    is-word TooDeep = 0
-
-    second : (x y : Bool) → (x && y) ≡ true → y ≡ true
-    second x y h = and-true x y h .1
-
-    go : (r : Bool) → (isPlace o && roomAround t) ≡ r → (roomAround t ≡ true) × (w ≡ cellType o t)
-    go true k = (second (isPlace o) (roomAround t) k, ap word-of (sym f ∙ e ∙ sym (yes TooDeep k refl)))
-    go false k = let z : _≡_ {A = ℕ} 1 0 = ap is-word (sym f ∙ e ∙ sym (no (Word (cellType o t)) k refl)) in absurd (omega arith)
-
+-- ---- 24, a new cell
 module _ (s i t : ℕ) (e : Effect) (p : PlaceRead) (r : p ≡ placeRead (isPlace s) s) (a : 1 ≤ s) (b : s ≤ 9) where
   pub new-none : p ≡ NoPlace → Untyped 9 i ≡ newRule s i (Typed t e)
-  new-none f = absurd (no-place s p r f a b)
+  new-none f = absurd (true≢false (sym (is-place s a b) ∙ read-none (isPlace s) s (sym r ∙ f)))
 
   module _ (q : Place) (f : p ≡ At q) (c : CellRead) (d : c ≡ cellRead (q .number) t) where
     same : q .number ≡ s
-    same = cell-place s p q r f a b
+    same = read-at (isPlace s) s q (sym r ∙ f)
 
     pub new-deep : c ≡ TooDeep → Untyped 9 i ≡ newRule s i (Typed t e)
     unfolding newRule
-    new-deep h = let z = same in yes _ (rw (cell-deep (q .number) t c d h (omega arith) (omega arith))) refl
+    new-deep h = yes _ (ap not (read-deep (q .number) t (ap isPlace same ∙ is-place s a b) (sym d ∙ h))) refl
 
     module _ (w : ℕ) (h : c ≡ Word w) where
       room : not (roomAround t) ≡ false
-      room = rw (cell-word (q .number) t w c d h .0)
+      room = ap not (read-word (q .number) t w (sym d ∙ h) .0)
 
       word : w ≡ cellType s t
-      word = cell-word (q .number) t w c d h .1 ∙ ap (λ (o : ℕ). cellType o t) same
+      word = read-word (q .number) t w (sym d ∙ h) .1 ∙ ap (λ (o : ℕ). cellType o t) same
 
       pub new-private : (x : Bool) → x ≡ eqb (q .number) 1 → x ≡ true → Typed w e ≡ newRule s i (Typed t e)
       unfolding newRule
@@ -118,7 +102,6 @@ module _ (s i t : ℕ) (e : Effect) (p : PlaceRead) (r : p ≡ placeRead (isPlac
 
 pub ruleset new-typed-laws = (new-none, new-deep, new-private, new-public, new-escapes)
 
--- ---- a rule asked of what a child was found to be: by its cases
 pub new-fault : (s i n j : ℕ) (x : Typing) → x ≡ Untyped n j → Untyped n j ≡ newRule s i x
 unfolding newRule
 new-fault s i n j x h = ap (newRule s i) (sym h)
@@ -128,7 +111,7 @@ new-row s i t e x r h k = k ∙ ap (newRule s i) (sym h)
 
 pub ruleset new-laws = (new-fault, new-row)
 
--- ---- 25
+-- ---- 25, the content of a cell
 module _ (i : ℕ) (x : Typing) where
   pub content-fault : (n j : ℕ) → x ≡ Untyped n j → Untyped n j ≡ contentRule i x
   unfolding contentRule
@@ -145,78 +128,78 @@ module _ (i : ℕ) (x : Typing) where
 
 pub ruleset content-laws = (content-fault, content-read, content-none)
 
--- ---- 26, 27
+-- ---- 26 and 27, a sum and a comparison
 module _ (w i t : ℕ) (e : Effect) (u : ℕ) (f : Effect) where
-  pub first-no-number : (t ≡ 1 → ⊥) → Untyped 9 i ≡ numbersRule w i (Typed t e) (Typed u f)
+  pub numbers-no-first : (t ≡ 1 → ⊥) → Untyped 9 i ≡ numbersRule w i (Typed t e) (Typed u f)
   unfolding numbersRule
-  first-no-number n = no _ (rw (ne-eqb t 1 n)) refl
+  numbers-no-first n = no _ (rw (ne-eqb t 1 n)) refl
 
-  pub second-no-number : t ≡ 1 → (u ≡ 1 → ⊥) → Untyped 9 i ≡ numbersRule w i (Typed t e) (Typed u f)
+  pub numbers-no-second : t ≡ 1 → (u ≡ 1 → ⊥) → Untyped 9 i ≡ numbersRule w i (Typed t e) (Typed u f)
   unfolding numbersRule
-  second-no-number m n = no _ (rw (eq-eqb t 1 m, ne-eqb u 1 n)) refl
+  numbers-no-second m n = no _ (rw (eq-eqb t 1 m, ne-eqb u 1 n)) refl
 
-  pub both-numbers : (g : Effect) → t ≡ 1 → u ≡ 1 → g ≡ e ∪ f → Typed w g ≡ numbersRule w i (Typed t e) (Typed u f)
+  pub numbers-both : (g : Effect) → t ≡ 1 → u ≡ 1 → g ≡ e ∪ f → Typed w g ≡ numbersRule w i (Typed t e) (Typed u f)
   unfolding numbersRule
-  both-numbers g m n h = yes _ (rw (eq-eqb t 1 m, eq-eqb u 1 n)) (ap (Typed w) h)
+  numbers-both g m n h = yes _ (rw (eq-eqb t 1 m, eq-eqb u 1 n)) (ap (Typed w) h)
 
-pub ruleset numbers-typed-laws = (first-no-number, second-no-number, both-numbers)
+pub ruleset numbers-typed-laws = (numbers-no-first, numbers-no-second, numbers-both)
 
 module _ (w i : ℕ) (x y : Typing) where
-  pub first-fault : (n j : ℕ) → x ≡ Untyped n j → Untyped n j ≡ numbersRule w i x y
+  pub numbers-fault : (n j : ℕ) → x ≡ Untyped n j → Untyped n j ≡ numbersRule w i x y
   unfolding numbersRule
-  first-fault n j h = ap (λ (z : Typing). numbersRule w i z y) (sym h)
+  numbers-fault n j h = ap (λ (z : Typing). numbersRule w i z y) (sym h)
 
-  pub second-fault : (t : ℕ) (e : Effect) (n j : ℕ) → x ≡ Typed t e → y ≡ Untyped n j → Untyped n j ≡ numbersRule w i x y
+  pub numbers-fault-2 : (t : ℕ) (e : Effect) (n j : ℕ) → x ≡ Typed t e → y ≡ Untyped n j → Untyped n j ≡ numbersRule w i x y
   unfolding numbersRule
-  second-fault t e n j h k = ap (numbersRule w i (Typed t e)) (sym k) ∙ ap (λ (z : Typing). numbersRule w i z y) (sym h)
+  numbers-fault-2 t e n j h k = ap (numbersRule w i (Typed t e)) (sym k) ∙ ap (λ (z : Typing). numbersRule w i z y) (sym h)
 
   pub numbers-row : (t : ℕ) (e : Effect) (u : ℕ) (f : Effect) (r : Typing) → x ≡ Typed t e → y ≡ Typed u f → r ≡ numbersRule w i (Typed t e) (Typed u f) → r ≡ numbersRule w i x y
   numbers-row t e u f r h k q = q ∙ ap (numbersRule w i (Typed t e)) (sym k) ∙ ap (λ (z : Typing). numbersRule w i z y) (sym h)
 
-pub ruleset numbers-laws = (first-fault, second-fault, numbers-row)
+pub ruleset numbers-laws = (numbers-fault, numbers-fault-2, numbers-row)
 
--- ---- 28
+-- ---- 28, a number by a truth
 module _ (i t : ℕ) (e : Effect) (u : ℕ) (f : Effect) (v : ℕ) (g : Effect) where
-  pub no-truth : (t ≡ 2 → ⊥) → Untyped 9 i ≡ chooseRule i (Typed t e) (Typed u f) (Typed v g)
+  pub choose-no-truth : (t ≡ 2 → ⊥) → Untyped 9 i ≡ chooseRule i (Typed t e) (Typed u f) (Typed v g)
   unfolding chooseRule
-  no-truth n = no _ (rw (ne-eqb t 2 n)) refl
+  choose-no-truth n = no _ (rw (ne-eqb t 2 n)) refl
 
-  pub first-choice : t ≡ 2 → (u ≡ 1 → ⊥) → Untyped 9 i ≡ chooseRule i (Typed t e) (Typed u f) (Typed v g)
+  pub choose-no-first : t ≡ 2 → (u ≡ 1 → ⊥) → Untyped 9 i ≡ chooseRule i (Typed t e) (Typed u f) (Typed v g)
   unfolding chooseRule
-  first-choice m n = no _ (rw (eq-eqb t 2 m, ne-eqb u 1 n)) refl
+  choose-no-first m n = no _ (rw (eq-eqb t 2 m, ne-eqb u 1 n)) refl
 
-  pub second-choice : t ≡ 2 → u ≡ 1 → (v ≡ 1 → ⊥) → Untyped 9 i ≡ chooseRule i (Typed t e) (Typed u f) (Typed v g)
+  pub choose-no-second : t ≡ 2 → u ≡ 1 → (v ≡ 1 → ⊥) → Untyped 9 i ≡ chooseRule i (Typed t e) (Typed u f) (Typed v g)
   unfolding chooseRule
-  second-choice m n o = no _ (rw (eq-eqb t 2 m, eq-eqb u 1 n, ne-eqb v 1 o)) refl
+  choose-no-second m n o = no _ (rw (eq-eqb t 2 m, eq-eqb u 1 n, ne-eqb v 1 o)) refl
 
-  pub both-choices : (h k : Effect) → t ≡ 2 → u ≡ 1 → v ≡ 1 → h ≡ e ∪ f → k ≡ h ∪ g → Typed 1 k ≡ chooseRule i (Typed t e) (Typed u f) (Typed v g)
+  pub choose-both : (h k : Effect) → t ≡ 2 → u ≡ 1 → v ≡ 1 → h ≡ e ∪ f → k ≡ h ∪ g → Typed 1 k ≡ chooseRule i (Typed t e) (Typed u f) (Typed v g)
   unfolding chooseRule
-  both-choices h k m n o p q = yes _ (rw (eq-eqb t 2 m, eq-eqb u 1 n, eq-eqb v 1 o)) (ap (Typed 1) (q ∙ ap (λ (z : Effect). z ∪ g) p))
+  choose-both h k m n o p q = yes _ (rw (eq-eqb t 2 m, eq-eqb u 1 n, eq-eqb v 1 o)) (ap (Typed 1) (q ∙ ap (λ (z : Effect). z ∪ g) p))
 
-pub ruleset choose-typed-laws = (no-truth, first-choice, second-choice, both-choices)
+pub ruleset choose-typed-laws = (choose-no-truth, choose-no-first, choose-no-second, choose-both)
 
 module _ (i : ℕ) (x y z : Typing) where
-  by-three : (a b c : Typing) → x ≡ a → y ≡ b → z ≡ c → chooseRule i a b c ≡ chooseRule i x y z
-  by-three a b c h k l = sym (ap (λ (w : Typing). chooseRule i w y z) h ∙ ap (λ (w : Typing). chooseRule i a w z) k ∙ ap (chooseRule i a b) l)
+  choose-by : (a b c : Typing) → x ≡ a → y ≡ b → z ≡ c → chooseRule i a b c ≡ chooseRule i x y z
+  choose-by a b c h k l = sym (ap (λ (w : Typing). chooseRule i w y z) h ∙ ap (λ (w : Typing). chooseRule i a w z) k ∙ ap (chooseRule i a b) l)
 
   pub choose-fault : (n j : ℕ) → x ≡ Untyped n j → Untyped n j ≡ chooseRule i x y z
   unfolding chooseRule
-  choose-fault n j h = by-three (Untyped n j) y z h refl refl
+  choose-fault n j h = choose-by (Untyped n j) y z h refl refl
 
   pub choose-fault-2 : (t : ℕ) (e : Effect) (n j : ℕ) → x ≡ Typed t e → y ≡ Untyped n j → Untyped n j ≡ chooseRule i x y z
   unfolding chooseRule
-  choose-fault-2 t e n j h k = by-three (Typed t e) (Untyped n j) z h k refl
+  choose-fault-2 t e n j h k = choose-by (Typed t e) (Untyped n j) z h k refl
 
   pub choose-fault-3 : (t : ℕ) (e : Effect) (u : ℕ) (f : Effect) (n j : ℕ) → x ≡ Typed t e → y ≡ Typed u f → z ≡ Untyped n j → Untyped n j ≡ chooseRule i x y z
   unfolding chooseRule
-  choose-fault-3 t e u f n j h k l = by-three (Typed t e) (Typed u f) (Untyped n j) h k l
+  choose-fault-3 t e u f n j h k l = choose-by (Typed t e) (Typed u f) (Untyped n j) h k l
 
   pub choose-row : (t : ℕ) (e : Effect) (u : ℕ) (f : Effect) (v : ℕ) (g : Effect) (r : Typing) → x ≡ Typed t e → y ≡ Typed u f → z ≡ Typed v g → r ≡ chooseRule i (Typed t e) (Typed u f) (Typed v g) → r ≡ chooseRule i x y z
-  choose-row t e u f v g r h k l q = q ∙ by-three (Typed t e) (Typed u f) (Typed v g) h k l
+  choose-row t e u f v g r h k l q = q ∙ choose-by (Typed t e) (Typed u f) (Typed v g) h k l
 
 pub ruleset choose-laws = (choose-fault, choose-fault-2, choose-fault-3, choose-row)
 
--- ---- statements: 15
+-- ---- 15, cooperate
 pub cooperate-linked : (l : Bool) (i : ℕ) (e : Effect) → l ≡ true → e ≡ noEffect → Does e false ≡ cooperateRule (standing l) i
 unfolding cooperateRule
 cooperate-linked l i e h k = ap (λ (f : Effect). Does f false) k ∙ ap (λ (b : Bool). cooperateRule (standing b) i) (sym h)
@@ -227,59 +210,43 @@ cooperate-unlinked l i h = ap (λ (b : Bool). cooperateRule (standing b) i) (sym
 
 pub ruleset cooperate-laws = (cooperate-linked, cooperate-unlinked)
 
--- ---- 11
+-- ---- 11, one after the other
 module _ (x y : Conduct) where
-  by-two : (a b : Conduct) → x ≡ a → y ≡ b → seqRule a b ≡ seqRule x y
-  by-two a b h k = sym (ap (λ (w : Conduct). seqRule w y) h ∙ ap (seqRule a) k)
+  seq-by : (a b : Conduct) → x ≡ a → y ≡ b → seqRule a b ≡ seqRule x y
+  seq-by a b h k = sym (ap (λ (w : Conduct). seqRule w y) h ∙ ap (seqRule a) k)
 
   pub seq-fault : (n j : ℕ) → x ≡ Fails n j → Fails n j ≡ seqRule x y
   unfolding seqRule
-  seq-fault n j h = by-two (Fails n j) y h refl
+  seq-fault n j h = seq-by (Fails n j) y h refl
 
   pub seq-fault-2 : (e : Effect) (a : Bool) (n j : ℕ) → x ≡ Does e a → y ≡ Fails n j → Fails n j ≡ seqRule x y
   unfolding seqRule
-  seq-fault-2 e a n j h k = by-two (Does e a) (Fails n j) h k
+  seq-fault-2 e a n j h k = seq-by (Does e a) (Fails n j) h k
 
   -- `a && b` is a branch of the code on a
   pub seq-first : (e f g : Effect) (a b : Bool) → x ≡ Does e a → y ≡ Does f b → g ≡ e ∪ f → a ≡ true → Does g b ≡ seqRule x y
   unfolding seqRule
-  seq-first e f g a b h k q z = ap (λ (o : Effect). Does o b) q ∙ ap (λ (c : Bool). Does (e ∪ f) (c && b)) (sym z) ∙ by-two (Does e a) (Does f b) h k
+  seq-first e f g a b h k q z = ap (λ (o : Effect). Does o b) q ∙ ap (λ (c : Bool). Does (e ∪ f) (c && b)) (sym z) ∙ seq-by (Does e a) (Does f b) h k
 
   pub seq-never : (e f g : Effect) (a b : Bool) → x ≡ Does e a → y ≡ Does f b → g ≡ e ∪ f → a ≡ false → Does g false ≡ seqRule x y
   unfolding seqRule
-  seq-never e f g a b h k q z = ap (λ (o : Effect). Does o false) q ∙ ap (λ (c : Bool). Does (e ∪ f) (c && b)) (sym z) ∙ by-two (Does e a) (Does f b) h k
+  seq-never e f g a b h k q z = ap (λ (o : Effect). Does o false) q ∙ ap (λ (c : Bool). Does (e ∪ f) (c && b)) (sym z) ∙ seq-by (Does e a) (Does f b) h k
 
 pub ruleset seq-laws = (seq-fault, seq-fault-2, seq-first, seq-never)
 
--- ---- 12
+-- ---- 12, at a place
 module _ (e : Effect) (s : ℕ) (p : PlaceRead) (r : p ≡ placeRead (isPlace s) s) where
-  there : PlaceRead → ℕ
-  there (At x) = 1
-  there NoPlace = 0
-
-  number-of : PlaceRead → ℕ
-  number-of (At x) = x .number
-  number-of NoPlace = 0
-
   pub within-there : (q : Place) (b : Bool) → p ≡ At q → b ≡ within (q .number) e → b ≡ within s e
-  unfolding placeRead there number-of
-  within-there q b f h = h ∙ ap (λ (n : ℕ). within n e) (go (isPlace s) refl)
-    where
-      go : (t : Bool) → isPlace s ≡ t → q .number ≡ s
-      go true k = ap number-of (sym f ∙ r ∙ sym (yes NoPlace k refl))
-      go false k = let z : _≡_ {A = ℕ} 1 0 = ap there (sym f ∙ r ∙ sym (no (At (record { number = s })) k refl)) in absurd (omega arith)
+  within-there q b f h = h ∙ ap (λ (n : ℕ). within n e) (read-at (isPlace s) s q (sym r ∙ f))
 
   pub within-nowhere : (b : Bool) → p ≡ NoPlace → b ≡ eqb (e .bits) 0 → b ≡ within s e
-  unfolding placeRead within there
-  within-nowhere b f h = go (isPlace s) refl
+  unfolding within
+  within-nowhere b f h = h ∙ low (leb 2 s) refl
     where
-      go : (t : Bool) → isPlace s ≡ t → b ≡ within s e
-      go true k = let z : _≡_ {A = ℕ} 0 1 = ap there (sym f ∙ r ∙ sym (yes NoPlace k refl)) in absurd (omega arith)
-      go false k = h ∙ low (leb 2 s) refl
-        where
-          low : (u : Bool) → leb 2 s ≡ u → eqb (e .bits) 0 ≡ (eqb (e .bits) 0 || (leb 2 s && leb s 9) && eqb (e .bits) (2 ^ s))
-          low true v = rw (v, sym (ap (λ (a : Bool). a && leb s 9) (le-leb 1 s (let w = leb-true 2 s v in omega arith))) ∙ k) (or-off (eqb (e .bits) 0))
-          low false v = rw v (or-off (eqb (e .bits) 0))
+      -- what is no place is no scheduler
+      low : (u : Bool) → leb 2 s ≡ u → eqb (e .bits) 0 ≡ (eqb (e .bits) 0 || (leb 2 s && leb s 9) && eqb (e .bits) (2 ^ s))
+      low true v = rw (v, sym (ap (λ (a : Bool). a && leb s 9) (le-leb 1 s (let w = leb-true 2 s v in omega arith))) ∙ read-none (isPlace s) s (sym r ∙ f)) (or-off (eqb (e .bits) 0))
+      low false v = rw v (or-off (eqb (e .bits) 0))
 
 pub ruleset within-laws = (within-there, within-nowhere)
 
@@ -314,7 +281,7 @@ module _ (l : Bool) (s i : ℕ) (x : Conduct) where
 
 pub ruleset do-laws = (do-fault, do-effect, do-linked, do-elsewhere, do-twice)
 
--- ---- 16
+-- ---- 16, the body of a let
 pub join-fault : (e : Effect) (x : Conduct) (n j : ℕ) → x ≡ Fails n j → Fails n j ≡ joinRule e x
 unfolding joinRule
 join-fault e x n j h = ap (joinRule e) (sym h)
@@ -325,7 +292,7 @@ join-row e f g b x h q = ap (λ (o : Effect). Does o b) q ∙ ap (joinRule e) (s
 
 pub ruleset join-laws = (join-fault, join-row)
 
--- ---- 17
+-- ---- 17, a store
 module _ (i t : ℕ) (e : Effect) (u : ℕ) (f : Effect) (x : Bool) (h : x ≡ isCell t) where
   pub store-no-cell : not x ≡ true → Fails 9 i ≡ storeRule i (Typed t e) (Typed u f)
   unfolding storeRule
@@ -358,7 +325,7 @@ module _ (i : ℕ) (x y : Typing) where
 
 pub ruleset store-laws = (store-fault, store-fault-2, store-row)
 
--- ---- 18
+-- ---- 18, if
 module _ (i t : ℕ) (e f : Effect) (a : Bool) (g : Effect) (b : Bool) where
   pub if-no-truth : (t ≡ 2 → ⊥) → Fails 9 i ≡ ifElseRule i (Typed t e) (Does f a) (Does g b)
   unfolding ifElseRule
@@ -395,7 +362,7 @@ module _ (i : ℕ) (x : Typing) (y z : Conduct) where
 
 pub ruleset if-laws = (if-fault, if-fault-2, if-fault-3, if-row)
 
--- ---- 19
+-- ---- 19, while
 module _ (i t : ℕ) (e f : Effect) (b : Bool) where
   pub while-no-truth : (t ≡ 2 → ⊥) → Fails 9 i ≡ whileRule i (Typed t e) (Does f b)
   unfolding whileRule

@@ -9,6 +9,7 @@ use Rattle.rules.specs.Broken.{NoLater}
 pub data Sooner {R : Type 0} (fault : ℕ → ℕ → R) (n j : ℕ) : R → Type 0 where
   sooner : {m k : ℕ} → NoLater m k n j → Sooner fault n j (fault m k)
 
+-- that rule at that frame
 pub exactly : {R : Type 0} {fault : ℕ → ℕ → R} {n i : ℕ} → Sooner fault n i (fault n i)
 exactly {n = n} {i = i} = Sooner.sooner {m = n} {k = i} (inr (refl, omega arith))
 

@@ -85,6 +85,11 @@ every-step : (x : ℕ) (xs : List ℕ) (b : Bool) → public x ≡ b → every p
 unfolding every
 every-step x xs b h = ap (λ (c : Bool). elim c [ true ↦ every public xs | false ↦ false ]) h
 
+-- either way the lists end apart
+short : (x : Bool) → false ≡ elim x [ true ↦ false | false ↦ false ]
+short true = refl
+short false = refl
+
 -- the last test is the answer
 last : (x : Bool) → elim x [ true ↦ true | false ↦ false ] ≡ x
 last true = refl
@@ -102,16 +107,8 @@ module _ (t u a b : ℕ) where
   apart UpToTwo.one UpToTwo.none d = refl
   apart UpToTwo.one UpToTwo.one d = absurd (d refl)
   apart UpToTwo.one UpToTwo.two d = short (eqb t a)
-    where
-      short : (x : Bool) → false ≡ (elim x [ true ↦ false | false ↦ false ])
-      short true = refl
-      short false = refl
   apart UpToTwo.two UpToTwo.none d = refl
   apart UpToTwo.two UpToTwo.one d = short (eqb t a)
-    where
-      short : (x : Bool) → false ≡ (elim x [ true ↦ false | false ↦ false ])
-      short true = refl
-      short false = refl
   apart UpToTwo.two UpToTwo.two d = absurd (d refl)
 
   first-apart : {n : ℕ} → UpToTwo n → (n ≡ 0 → ⊥) → (t ≡ a → ⊥) → false ≡ Same n n
@@ -133,9 +130,13 @@ module _ (n t u w : ℕ) (l : n ≤ 2) where
   abbrev Fits : Bool → Type 0
   Fits r = r ≡ sameNumbers (take n (t ∷ u ∷ [])) (signatureOf w .types)
 
-  by-same : (r : Bool) → n ≡ w / 2 ^ 48 % 3 → r ≡ Same t u (w % 2 ^ 16) (w / 2 ^ 16 % 2 ^ 16) n n → Fits r
+  -- the first a of the two types are the first b of those in the word
+  abbrev SameHere : ℕ → ℕ → Bool
+  SameHere a b = Same t u (w % 2 ^ 16) (w / 2 ^ 16 % 2 ^ 16) a b
+
+  by-same : (r : Bool) → n ≡ w / 2 ^ 48 % 3 → r ≡ SameHere n n → Fits r
   unfolding signatureOf
-  by-same r e h = h ∙ ap (λ (m : ℕ). Same t u (w % 2 ^ 16) (w / 2 ^ 16 % 2 ^ 16) n m) e
+  by-same r e h = h ∙ ap (SameHere n) e
 
   pub types-count : (n ≡ w / 2 ^ 48 % 3 → ⊥) → Fits false
   unfolding signatureOf
@@ -143,18 +144,18 @@ module _ (n t u w : ℕ) (l : n ≤ 2) where
 
   pub types-none : n ≡ w / 2 ^ 48 % 3 → n ≡ 0 → Fits true
   unfolding sameNumbers
-  types-none e z = by-same true e (ap (λ (m : ℕ). Same t u (w % 2 ^ 16) (w / 2 ^ 16 % 2 ^ 16) m m) (sym z))
+  types-none e z = by-same true e (ap (λ (m : ℕ). SameHere m m) (sym z))
 
   pub types-first : n ≡ w / 2 ^ 48 % 3 → (n ≡ 0 → ⊥) → (t ≡ w % 2 ^ 16 → ⊥) → Fits false
   types-first e z d = by-same false e (first-apart t u (w % 2 ^ 16) (w / 2 ^ 16 % 2 ^ 16) (up-to-two n l) z d)
 
   pub types-one : n ≡ w / 2 ^ 48 % 3 → n ≡ 1 → t ≡ w % 2 ^ 16 → Fits true
-  types-one e z d = by-same true e (same-one t u (w % 2 ^ 16) (w / 2 ^ 16 % 2 ^ 16) d ∙ ap (λ (m : ℕ). Same t u (w % 2 ^ 16) (w / 2 ^ 16 % 2 ^ 16) m m) (sym z))
+  types-one e z d = by-same true e (same-one t u (w % 2 ^ 16) (w / 2 ^ 16 % 2 ^ 16) d ∙ ap (λ (m : ℕ). SameHere m m) (sym z))
 
   pub types-two : n ≡ w / 2 ^ 48 % 3 → (n ≡ 0 → ⊥) → (n ≡ 1 → ⊥) → t ≡ w % 2 ^ 16 → Fits (eqb u (w / 2 ^ 16 % 2 ^ 16))
   types-two e z o d =
       let k : 2 ≡ n = omega (arith, z, o, l) in
-      by-same _ e (same-both t u (w % 2 ^ 16) (w / 2 ^ 16 % 2 ^ 16) d ∙ ap (λ (m : ℕ). Same t u (w % 2 ^ 16) (w / 2 ^ 16 % 2 ^ 16) m m) k)
+      by-same _ e (same-both t u (w % 2 ^ 16) (w / 2 ^ 16 % 2 ^ 16) d ∙ ap (λ (m : ℕ). SameHere m m) k)
 
 pub ruleset types-laws = (types-count, types-none, types-first, types-one, types-two)
 
@@ -196,6 +197,7 @@ at-word : (ws : List ℕ) (s : ℕ) → signatureAt (map signatureOf ws) s ≡ s
 unfolding signatureOf
 at-word ws s = List·getD-map signatureOf ws s 0
 
+-- with arguments of the types ts; the modules of tests stand inside each other as the returns of the code do
 module _ (once : Bool) (ws : List ℕ) (linked : Bool) (s i : ℕ) (ts : List ℕ) (e : Effect) where
   abbrev Start : Conduct → Type 0
   Start r = r ≡ startRule once (map signatureOf ws) (standing linked) s i (Argued.have ts e)
@@ -241,24 +243,25 @@ module _ (once : Bool) (ws : List ℕ) (linked : Bool) (s i : ℕ) (ts : List �
 
 pub ruleset start-typed-laws = (start-none, start-types, start-escapes, start-unlinked, start-does)
 
+-- with whatever the arguments were found to be
 module _ (once : Bool) (ws : List ℕ) (linked : Bool) (s i : ℕ) (args : Arguments) where
-  abbrev Starts : Conduct → Type 0
-  Starts r = r ≡ startRule once (map signatureOf ws) (standing linked) s i (arguedOf args)
+  abbrev StartWith : Conduct → Type 0
+  StartWith r = r ≡ startRule once (map signatureOf ws) (standing linked) s i (arguedOf args)
 
-  by-arguments : (v : Arguments) (r : Conduct) → args ≡ v → r ≡ startRule once (map signatureOf ws) (standing linked) s i (arguedOf v) → Starts r
+  by-arguments : (v : Arguments) (r : Conduct) → args ≡ v → r ≡ startRule once (map signatureOf ws) (standing linked) s i (arguedOf v) → StartWith r
   by-arguments v r h k = k ∙ ap (λ (w : Arguments). startRule once (map signatureOf ws) (standing linked) s i (arguedOf w)) (sym h)
 
-  pub start-fault : (n j : ℕ) → args ≡ Fault n j → Starts (Fails n j)
+  pub start-fault : (n j : ℕ) → args ≡ Fault n j → StartWith (Fails n j)
   unfolding startRule
   start-fault n j h = by-arguments (Fault n j) (Fails n j) h refl
 
-  pub start-nothing : (e : Effect) (r : Conduct) → args ≡ Nothing → e ≡ noEffect → r ≡ startRule once (map signatureOf ws) (standing linked) s i (Argued.have (take 0 (0 ∷ 0 ∷ [])) e) → Starts r
+  pub start-nothing : (e : Effect) (r : Conduct) → args ≡ Nothing → e ≡ noEffect → r ≡ startRule once (map signatureOf ws) (standing linked) s i (Argued.have (take 0 (0 ∷ 0 ∷ [])) e) → StartWith r
   start-nothing e r h q k = by-arguments Nothing r h (k ∙ ap (λ (o : Effect). startRule once (map signatureOf ws) (standing linked) s i (Argued.have [] o)) q)
 
-  pub start-one : (t : ℕ) (e : Effect) (r : Conduct) → args ≡ One t e → r ≡ startRule once (map signatureOf ws) (standing linked) s i (Argued.have (take 1 (t ∷ 0 ∷ [])) e) → Starts r
+  pub start-one : (t : ℕ) (e : Effect) (r : Conduct) → args ≡ One t e → r ≡ startRule once (map signatureOf ws) (standing linked) s i (Argued.have (take 1 (t ∷ 0 ∷ [])) e) → StartWith r
   start-one t e r h k = by-arguments (One t e) r h k
 
-  pub start-two : (t u : ℕ) (e : Effect) (r : Conduct) → args ≡ Two t u e → r ≡ startRule once (map signatureOf ws) (standing linked) s i (Argued.have (take 2 (t ∷ u ∷ [])) e) → Starts r
+  pub start-two : (t u : ℕ) (e : Effect) (r : Conduct) → args ≡ Two t u e → r ≡ startRule once (map signatureOf ws) (standing linked) s i (Argued.have (take 2 (t ∷ u ∷ [])) e) → StartWith r
   start-two t u e r h k = by-arguments (Two t u e) r h k
 
 pub ruleset start-laws = (start-fault, start-nothing, start-one, start-two)

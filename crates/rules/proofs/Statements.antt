@@ -55,7 +55,7 @@ completeS (Runs.store {t = t} x h y) = simp (complete x, complete y, h, eq-eqb (
 completeS (Runs.ifElse x p q) = rw (complete x, completeS p, completeS q)
 completeS (Runs.while x p) = rw (complete x, completeS p)
 
--- ---- whatever is found holds
+-- ---- whatever is found holds: first of arguments, then of a statement
 
 -- frame j of one of the expressions breaks rule n
 pub record BrokenArgument (cells Γ : List ℕ) (xs : List Expr) (n j : ℕ) : Type 0 where
@@ -67,16 +67,16 @@ abbrev pub FoundEs : List ℕ → List ℕ → List Expr → Argued → Type 0
 FoundEs cells Γ xs (Argued.have ts e) = HaveTypes cells Γ xs ts e
 FoundEs cells Γ xs (Argued.fail n j) = BrokenArgument cells Γ xs n j
 
-f-argue : (cells Γ : List ℕ) (x : Expr) (xs : List Expr) (r : Typing) (a : Argued) → FoundE cells Γ x r → FoundEs cells Γ xs a → FoundEs cells Γ (x ∷ xs) (argue r a)
+found-argue : (cells Γ : List ℕ) (x : Expr) (xs : List Expr) (r : Typing) (a : Argued) → FoundE cells Γ x r → FoundEs cells Γ xs a → FoundEs cells Γ (x ∷ xs) (argue r a)
 unfolding argue
-f-argue cells Γ x xs (Typed t e) (Argued.have ts f) h g = HaveTypes.more h g
-f-argue cells Γ x xs (Typed t e) (Argued.fail n j) h g = record { argument = g .argument; among = In.later (g .among); broken = g .broken }
-f-argue cells Γ x xs (Untyped n j) a h g = record { argument = x; among = In.first; broken = h }
+found-argue cells Γ x xs (Typed t e) (Argued.have ts f) h g = HaveTypes.more h g
+found-argue cells Γ x xs (Typed t e) (Argued.fail n j) h g = record { argument = g .argument; among = In.later (g .among); broken = g .broken }
+found-argue cells Γ x xs (Untyped n j) a h g = record { argument = x; among = In.first; broken = h }
 
 pub soundEs : (cells Γ : List ℕ) (xs : List Expr) → FoundEs cells Γ xs (typesIn cells Γ xs)
 unfolding typesIn
 soundEs cells Γ [] = HaveTypes.none
-soundEs cells Γ (x ∷ xs) = f-argue cells Γ x xs _ _ (soundE cells Γ x) (soundEs cells Γ xs)
+soundEs cells Γ (x ∷ xs) = found-argue cells Γ x xs _ _ (soundE cells Γ x) (soundEs cells Γ xs)
 
 abbrev pub FoundS : List ℕ → List Signature → List ℕ → Standing → Stmt → Conduct → Type 0
 FoundS cells below Γ at p (Does e b) = Runs cells below Γ at p e b
@@ -88,25 +88,26 @@ retypes p x = rw p at x
 republic : {ts us : List ℕ} → ts ≡ us → AllPublic ts → AllPublic us
 republic p x = rw p at x
 
+-- the answer of each rule holds, where what was found of the children holds
 module _ (cells : List ℕ) (below : List Signature) (Γ : List ℕ) where
-  f-cooperate : (at : Standing) (i : ℕ) → FoundS cells below Γ at (Stmt.cooperate i) (cooperateRule at i)
+  found-cooperate : (at : Standing) (i : ℕ) → FoundS cells below Γ at (Stmt.cooperate i) (cooperateRule at i)
   unfolding cooperateRule
-  f-cooperate linked i = Runs.cooperate
-  f-cooperate unlinked i = BrokenS.here BreaksS.cooperate-unlinked
+  found-cooperate linked i = Runs.cooperate
+  found-cooperate unlinked i = BrokenS.here BreaksS.cooperate-unlinked
 
-  f-seq : (at : Standing) (i : ℕ) (p q : Stmt) (r s : Conduct) → FoundS cells below Γ at p r → FoundS cells below Γ at q s → FoundS cells below Γ at (Stmt.seq i p q) (seqRule r s)
+  found-seq : (at : Standing) (i : ℕ) (p q : Stmt) (r s : Conduct) → FoundS cells below Γ at p r → FoundS cells below Γ at q s → FoundS cells below Γ at (Stmt.seq i p q) (seqRule r s)
   unfolding seqRule
-  f-seq at i p q (Does e a) (Does f b) h g = Runs.seq h g
-  f-seq at i p q (Does e a) (Fails n j) h g = BrokenS.under ChildS.seq-b g
-  f-seq at i p q (Fails n j) s h g = BrokenS.under ChildS.seq-a h
+  found-seq at i p q (Does e a) (Does f b) h g = Runs.seq h g
+  found-seq at i p q (Does e a) (Fails n j) h g = BrokenS.under ChildS.seq-b g
+  found-seq at i p q (Fails n j) s h g = BrokenS.under ChildS.seq-a h
 
   -- 13 and 14: p starts module s with the arguments xs
-  f-start : (at : Standing) (p : Stmt) (s : ℕ) (xs : List Expr) (once : Bool) → Starts p s xs
+  found-start : (at : Standing) (p : Stmt) (s : ℕ) (xs : List Expr) (once : Bool) → Starts p s xs
       → ((e : Effect) → s < length below → HaveTypes cells Γ xs (signatureAt below s .types) e → AllPublic (signatureAt below s .types) → Runs cells below Γ linked p (e ∪ signatureAt below s .effect) once)
       → (a : Argued) → FoundEs cells Γ xs a → FoundS cells below Γ at p (startRule once below at s (rootS p) a)
   unfolding startRule
-  f-start at p s xs once st runs (Argued.fail n j) b = BrokenS.operand (Operand.argument st (b .among)) (b .broken)
-  f-start at p s xs once st runs (Argued.have ts e) h =
+  found-start at p s xs once st runs (Argued.fail n j) b = BrokenS.operand (Operand.argument st (b .among)) (b .broken)
+  found-start at p s xs once st runs (Argued.have ts e) h =
       let test = if-all (FoundS cells below Γ at p) in
       test (leb (length below) s) _ _ (λ l. BrokenS.here (BreaksS.start-module st (leb-true _ _ l)))
       (λ l. test (not (sameNumbers ts (signatureAt below s .types))) _ _ (λ m. BrokenS.here (BreaksS.start-types st (leb-false _ _ l) h (λ z. true≢false (sym (same-eq _ _ z) ∙ not-true _ m))))
@@ -131,6 +132,7 @@ module _ (cells : List ℕ) (below : List Signature) (Γ : List ℕ) where
   do-linked : (at : Standing) (i s : ℕ) (p : Stmt) (e : Effect) (a : Bool) → (s ≡ private → ⊥) → Runs cells below Γ (standingAt s) p e a → within s e ≡ true → Runs cells below Γ at (Stmt.doAt i s p) noEffect a
   do-linked at i s p e a z r h = Runs.do-linked z (rw (stands-linked s z) at r) h
 
+  -- 12, where the effect lies within the place
   do-rest : (i s : ℕ) (p : Stmt) (e : Effect) (a : Bool) → Runs cells below Γ (standingAt s) p e a → within s e ≡ true → (at : Standing) (b : Bool) → eqb s private ≡ b → FoundS cells below Γ at (Stmt.doAt i s p) (if not (isLinked at) && b then Fails 12 i else Does noEffect a)
   unfolding if_then_else_
   do-rest i s p e a h l linked true q = do-unlinked i s p e a (eqb-true _ _ q) h l
@@ -138,64 +140,65 @@ module _ (cells : List ℕ) (below : List Signature) (Γ : List ℕ) where
   do-rest i s p e a h l unlinked true q = BrokenS.here (do-breaks i s p (eqb-true _ _ q))
   do-rest i s p e a h l unlinked false q = do-linked unlinked i s p e a (eqb-false _ _ q) h l
 
-  f-do : (at : Standing) (i s : ℕ) (p : Stmt) (r : Conduct) → FoundS cells below Γ (standingAt s) p r → FoundS cells below Γ at (Stmt.doAt i s p) (doRule at s i r)
+  found-do : (at : Standing) (i s : ℕ) (p : Stmt) (r : Conduct) → FoundS cells below Γ (standingAt s) p r → FoundS cells below Γ at (Stmt.doAt i s p) (doRule at s i r)
   unfolding doRule
-  f-do at i s p (Fails n j) b = BrokenS.under ChildS.do-at b
-  f-do at i s p (Does e a) h =
+  found-do at i s p (Fails n j) b = BrokenS.under ChildS.do-at b
+  found-do at i s p (Does e a) h =
       if-all (FoundS cells below Γ at (Stmt.doAt i s p)) (not (within s e)) _ _ (λ l. BrokenS.here (BreaksS.do-effect h (not-true _ l)))
       (λ l. do-rest i s p e a h (not-false _ l) at (eqb s private) refl)
 
-  f-join : (at : Standing) (i t : ℕ) (x : Expr) (p : Stmt) (e : Effect) (r : Conduct) → HasType cells Γ x t e → FoundS cells below (Γ ++ (t ∷ [])) at p r → FoundS cells below Γ at (Stmt.letIn i x p) (joinRule e r)
+  found-join : (at : Standing) (i t : ℕ) (x : Expr) (p : Stmt) (e : Effect) (r : Conduct) → HasType cells Γ x t e → FoundS cells below (Γ ++ (t ∷ [])) at p r → FoundS cells below Γ at (Stmt.letIn i x p) (joinRule e r)
   unfolding joinRule
-  f-join at i t x p e (Does f b) h g = Runs.letIn h g
-  f-join at i t x p e (Fails n j) h g = BrokenS.under (ChildS.letIn h) g
+  found-join at i t x p e (Does f b) h g = Runs.letIn h g
+  found-join at i t x p e (Fails n j) h g = BrokenS.under (ChildS.letIn h) g
 
-  f-let : (at : Standing) (i : ℕ) (x : Expr) (p : Stmt) (r : Typing) → FoundE cells Γ x r → ((Δ : List ℕ) → FoundS cells below Δ at p (runIn cells below Δ at p)) → FoundS cells below Γ at (Stmt.letIn i x p) (letRule (λ Δ. runIn cells below Δ at p) Γ r)
-  f-let at i x p (Typed t e) h g = f-join at i t x p e _ h (g (Γ ++ (t ∷ [])))
-  f-let at i x p (Untyped n j) h g = BrokenS.operand Operand.letIn h
+  found-let : (at : Standing) (i : ℕ) (x : Expr) (p : Stmt) (r : Typing) → FoundE cells Γ x r → ((Δ : List ℕ) → FoundS cells below Δ at p (runIn cells below Δ at p)) → FoundS cells below Γ at (Stmt.letIn i x p) (letRule (λ Δ. runIn cells below Δ at p) Γ r)
+  found-let at i x p (Typed t e) h g = found-join at i t x p e _ h (g (Γ ++ (t ∷ [])))
+  found-let at i x p (Untyped n j) h g = BrokenS.operand Operand.letIn h
 
-  f-store : (at : Standing) (i : ℕ) (x y : Expr) (r s : Typing) → FoundE cells Γ x r → FoundE cells Γ y s → FoundS cells below Γ at (Stmt.store i x y) (storeRule i r s)
+  found-store : (at : Standing) (i : ℕ) (x y : Expr) (r s : Typing) → FoundE cells Γ x r → FoundE cells Γ y s → FoundS cells below Γ at (Stmt.store i x y) (storeRule i r s)
   unfolding storeRule
-  f-store at i x y (Typed t e) (Typed u f) g h =
+  found-store at i x y (Typed t e) (Typed u f) g h =
       if-all (FoundS cells below Γ at (Stmt.store i x y)) (isCell t && eqb u (contentOf t)) _ _
       (λ p. let q = and-true _ _ p in Runs.store g (q .0) (retype (eqb-true _ _ (q .1)) h))
       (λ p. BrokenS.here (BreaksS.store g h (λ z. and-false _ _ p (z .0) (eq-eqb _ _ (z .1)))))
-  f-store at i x y (Typed t e) (Untyped n j) g h = BrokenS.operand Operand.store-b h
-  f-store at i x y (Untyped n j) s g h = BrokenS.operand Operand.store-a g
+  found-store at i x y (Typed t e) (Untyped n j) g h = BrokenS.operand Operand.store-b h
+  found-store at i x y (Untyped n j) s g h = BrokenS.operand Operand.store-a g
 
-  f-ifElse : (at : Standing) (i : ℕ) (x : Expr) (p q : Stmt) (r : Typing) (s t : Conduct) → FoundE cells Γ x r → FoundS cells below Γ at p s → FoundS cells below Γ at q t → FoundS cells below Γ at (Stmt.ifElse i x p q) (ifElseRule i r s t)
+  found-ifElse : (at : Standing) (i : ℕ) (x : Expr) (p q : Stmt) (r : Typing) (s t : Conduct) → FoundE cells Γ x r → FoundS cells below Γ at p s → FoundS cells below Γ at q t → FoundS cells below Γ at (Stmt.ifElse i x p q) (ifElseRule i r s t)
   unfolding ifElseRule
-  f-ifElse at i x p q (Typed t e) (Does f a) (Does g b) h k l =
+  found-ifElse at i x p q (Typed t e) (Does f a) (Does g b) h k l =
       if-all (FoundS cells below Γ at (Stmt.ifElse i x p q)) (eqb t truthType) _ _
       (λ z. Runs.ifElse (retype (eqb-true _ _ z) h) k l)
       (λ z. BrokenS.here (BreaksS.ifElse h (eqb-false _ _ z)))
-  f-ifElse at i x p q (Typed t e) (Does f a) (Fails n j) h k l = BrokenS.under ChildS.ifElse-c l
-  f-ifElse at i x p q (Typed t e) (Fails n j) s h k l = BrokenS.under ChildS.ifElse-b k
-  f-ifElse at i x p q (Untyped n j) r s h k l = BrokenS.operand Operand.ifElse h
+  found-ifElse at i x p q (Typed t e) (Does f a) (Fails n j) h k l = BrokenS.under ChildS.ifElse-c l
+  found-ifElse at i x p q (Typed t e) (Fails n j) s h k l = BrokenS.under ChildS.ifElse-b k
+  found-ifElse at i x p q (Untyped n j) r s h k l = BrokenS.operand Operand.ifElse h
 
+  -- 19, where the condition is a truth
   while-rest : (at : Standing) (i t : ℕ) (x : Expr) (p : Stmt) (e f : Effect) → HasType cells Γ x t e → t ≡ truthType → (b : Bool) → Runs cells below Γ at p f b → FoundS cells below Γ at (Stmt.while i x p) (if b then Fails 13 i else Does (e ∪ f) true)
   unfolding if_then_else_
   while-rest at i t x p e f h z true k = BrokenS.here (BreaksS.while-body k)
   while-rest at i t x p e f h z false k = Runs.while (retype z h) k
 
-  f-while : (at : Standing) (i : ℕ) (x : Expr) (p : Stmt) (r : Typing) (s : Conduct) → FoundE cells Γ x r → FoundS cells below Γ at p s → FoundS cells below Γ at (Stmt.while i x p) (whileRule i r s)
+  found-while : (at : Standing) (i : ℕ) (x : Expr) (p : Stmt) (r : Typing) (s : Conduct) → FoundE cells Γ x r → FoundS cells below Γ at p s → FoundS cells below Γ at (Stmt.while i x p) (whileRule i r s)
   unfolding whileRule
-  f-while at i x p (Typed t e) (Does f b) h k =
+  found-while at i x p (Typed t e) (Does f b) h k =
       if-all (FoundS cells below Γ at (Stmt.while i x p)) (not (eqb t truthType)) _ _
       (λ z. BrokenS.here (BreaksS.while h (eqb-false _ _ (not-true _ z))))
       (λ z. while-rest at i t x p e f h (eqb-true _ _ (not-false _ z)) b k)
-  f-while at i x p (Typed t e) (Fails n j) h k = BrokenS.under ChildS.while k
-  f-while at i x p (Untyped n j) s h k = BrokenS.operand Operand.while h
+  found-while at i x p (Typed t e) (Fails n j) h k = BrokenS.under ChildS.while k
+  found-while at i x p (Untyped n j) s h k = BrokenS.operand Operand.while h
 
 pub soundS : (cells : List ℕ) (below : List Signature) (Γ : List ℕ) (at : Standing) (p : Stmt) → FoundS cells below Γ at p (runIn cells below Γ at p)
 unfolding runIn
 soundS cells below Γ at (Stmt.nothing i) = Runs.nothing
-soundS cells below Γ at (Stmt.cooperate i) = f-cooperate cells below Γ at i
-soundS cells below Γ at (Stmt.seq i p q) = f-seq cells below Γ at i p q _ _ (soundS cells below Γ at p) (soundS cells below Γ at q)
-soundS cells below Γ at (Stmt.doAt i s p) = f-do cells below Γ at i s p _ (soundS cells below Γ (standingAt s) p)
-soundS cells below Γ at (Stmt.start i s xs) = f-start cells below Γ at (Stmt.start i s xs) s xs true Starts.start (λ e l h o. Runs.start l h o) _ (soundEs cells Γ xs)
-soundS cells below Γ at (Stmt.startWait i s xs) = f-start cells below Γ at (Stmt.startWait i s xs) s xs false Starts.start-wait (λ e l h o. Runs.start-wait l h o) _ (soundEs cells Γ xs)
-soundS cells below Γ at (Stmt.letIn i x p) = f-let cells below Γ at i x p (typeIn cells Γ x) (soundE cells Γ x) (λ Δ. soundS cells below Δ at p)
-soundS cells below Γ at (Stmt.store i x y) = f-store cells below Γ at i x y _ _ (soundE cells Γ x) (soundE cells Γ y)
-soundS cells below Γ at (Stmt.ifElse i x p q) = f-ifElse cells below Γ at i x p q _ _ _ (soundE cells Γ x) (soundS cells below Γ at p) (soundS cells below Γ at q)
-soundS cells below Γ at (Stmt.while i x p) = f-while cells below Γ at i x p _ _ (soundE cells Γ x) (soundS cells below Γ at p)
+soundS cells below Γ at (Stmt.cooperate i) = found-cooperate cells below Γ at i
+soundS cells below Γ at (Stmt.seq i p q) = found-seq cells below Γ at i p q _ _ (soundS cells below Γ at p) (soundS cells below Γ at q)
+soundS cells below Γ at (Stmt.doAt i s p) = found-do cells below Γ at i s p _ (soundS cells below Γ (standingAt s) p)
+soundS cells below Γ at (Stmt.start i s xs) = found-start cells below Γ at (Stmt.start i s xs) s xs true Starts.start (λ e l h o. Runs.start l h o) _ (soundEs cells Γ xs)
+soundS cells below Γ at (Stmt.startWait i s xs) = found-start cells below Γ at (Stmt.startWait i s xs) s xs false Starts.start-wait (λ e l h o. Runs.start-wait l h o) _ (soundEs cells Γ xs)
+soundS cells below Γ at (Stmt.letIn i x p) = found-let cells below Γ at i x p (typeIn cells Γ x) (soundE cells Γ x) (λ Δ. soundS cells below Δ at p)
+soundS cells below Γ at (Stmt.store i x y) = found-store cells below Γ at i x y _ _ (soundE cells Γ x) (soundE cells Γ y)
+soundS cells below Γ at (Stmt.ifElse i x p q) = found-ifElse cells below Γ at i x p q _ _ _ (soundE cells Γ x) (soundS cells below Γ at p) (soundS cells below Γ at q)
+soundS cells below Γ at (Stmt.while i x p) = found-while cells below Γ at i x p _ _ (soundE cells Γ x) (soundS cells below Γ at p)

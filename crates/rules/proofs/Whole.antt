@@ -22,7 +22,7 @@ use Rattle.rules.proofs.Modules.{rules-say, rules-only}
 
 -- ---- the program of a file that passes refusals 1 to 7
 module _ (fs : List Frame) (some : 0 < length fs) (fine : NoFault fs) where
-  rules-hold : RulesSay (programOf fs) (rulesOf (programOf fs))
+  pub rules-hold : RulesSay (programOf fs) (rulesOf (programOf fs))
   unfolding programOf
   rules-hold = rules-say (programOf fs) (has-main fs some (fine 6)) (placed-modules fs (all-trees fs (fine 6)))
 

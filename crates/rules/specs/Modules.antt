@@ -3,11 +3,12 @@ use mathlib.Core.Path.{_≡_}
 use mathlib.Core.List.{List}
 use Prim.Native.Nat.{ℕ, _<_, _≤_}
 use lib.ListN.{length, take, drop}
+use Rattle.language.specs.Kinds.{isModule}
 use Rattle.language.specs.declared.kind.Kind.the-variants.{Module}
 use Rattle.text.specs.Frames.{framesOf}
 use Rattle.program.specs.Trees.{frameAt}
 use Rattle.program.specs.Programs.{modulesFrom}
-use Rattle.layout.specs.Fields.{isModule, countOf}
+use Rattle.layout.specs.Fields.{countOf}
 
 -- r is the first module at frame i or behind it: the modules from i on are those from r on
 pub record NextModule (words : List ℕ) (i r : ℕ) : Type 0 where

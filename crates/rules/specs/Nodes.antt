@@ -1,4 +1,4 @@
--- How the code takes a frame apart: a node with the numbers that its kind uses. Whoever reads the rules can skip this; proofs/NodeLaws ties it to the trees. Assumes nothing: definitions.
+-- How the code takes a frame apart: a node with the numbers that its kind uses. Whoever reads the rules can skip this; proofs/TypingLaws and proofs/ConductLaws tie it to the trees. Assumes nothing: definitions.
 use Prim.Native.Nat.{ℕ}
 use Rattle.language.specs.declared.kind.StatementKind.{StatementKind}
 use Rattle.language.specs.declared.kind.StatementKind.the-variants as S

@@ -32,7 +32,7 @@ ghost use Rattle.rules.specs.Signatures.{arguedOf, signatureOf};
 ghost use Rattle.rules.specs.Frames.{FrameIn};
 
 // The variables in scope are the first n of an array; a laid-out file has at most 25.
-fn type_in(frames: &[u64], cells: &[u16], scope: [u16; 25], n: usize, i: usize) -> Typing
+fn type_in(frames: &[u64], cells: &[u16], scope: [u16; 25], n: usize, i: u16) -> Typing
     requires { ⌜ FrameIn (now frames) i × (n ≤ 25) ⌝ }
     ensures { λ r. ⌜ r ≡ typeIn (now (cells .entry)) (take n scope) (expressionAt (framesOf (now (frames .entry))) i) ⌝ }
 {
@@ -65,7 +65,7 @@ fn arguments_of(
     cells: &[u16],
     scope: [u16; 25],
     n: usize,
-    i: usize,
+    i: u16,
     a: u16,
     b: u16,
 ) -> Arguments
@@ -76,11 +76,11 @@ fn arguments_of(
         return Arguments::Nothing;
     }
     if b == 0 {
-        return one_argument(type_in(frames, cells, scope, n, a as usize));
+        return one_argument(type_in(frames, cells, scope, n, a));
     }
     two_arguments(
-        type_in(frames, cells, scope, n, a as usize),
-        type_in(frames, cells, scope, n, b as usize),
+        type_in(frames, cells, scope, n, a),
+        type_in(frames, cells, scope, n, b),
     )
 }
 
@@ -94,72 +94,50 @@ pub fn conduct_of(
     scope: [u16; 25],
     n: usize,
     linked: bool,
-    i: usize,
+    i: u16,
 ) -> Conduct
     requires { ⌜ FrameIn (now frames) i × Room (framesOf (now frames)) i n ⌝ }
     ensures { λ r. ⌜ r ≡ runIn (now (cells .entry)) (map signatureOf (now (below .entry))) (take n scope) (standing linked) (statementAt (framesOf (now (frames .entry))) i) ⌝ }
 {
-    let at = i as u16;
-    let node = statement_node(frame_of_word(frames[i]));
-    match node {
+    match statement_node(frame_of_word(frames[i as usize])) {
         StatementNode::Nothing => Conduct::Does(Effect::none(), true),
-        StatementNode::Cooperate => cooperate_rule(linked, at),
-        StatementNode::Seq(a, b) => seq_rule(
-            conduct_of(frames, cells, below, scope, n, linked, a as usize),
-            conduct_of(frames, cells, below, scope, n, linked, b as usize),
-        ),
-        StatementNode::DoAt(s, a) => do_rule(
-            linked,
-            s,
-            at,
-            conduct_of(frames, cells, below, scope, n, is_linked(s), a as usize),
-        ),
-        StatementNode::Start(s, a, b) => start_rule(
-            true,
-            below,
-            linked,
-            s,
-            at,
-            arguments_of(frames, cells, scope, n, i, a, b),
-        ),
-        StatementNode::StartWait(s, a, b) => start_rule(
-            false,
-            below,
-            linked,
-            s,
-            at,
-            arguments_of(frames, cells, scope, n, i, a, b),
-        ),
-        StatementNode::LetIn(a, b) => match type_in(frames, cells, scope, n, a as usize) {
+        StatementNode::Cooperate => cooperate_rule(linked, i),
+        StatementNode::Seq(a, b) => {
+            let x = conduct_of(frames, cells, below, scope, n, linked, a);
+            seq_rule(x, conduct_of(frames, cells, below, scope, n, linked, b))
+        }
+        StatementNode::DoAt(s, a) => {
+            let x = conduct_of(frames, cells, below, scope, n, is_linked(s), a);
+            do_rule(linked, s, i, x)
+        }
+        StatementNode::Start(s, a, b) => {
+            let args = arguments_of(frames, cells, scope, n, i, a, b);
+            start_rule(true, below, linked, s, i, args)
+        }
+        StatementNode::StartWait(s, a, b) => {
+            let args = arguments_of(frames, cells, scope, n, i, a, b);
+            start_rule(false, below, linked, s, i, args)
+        }
+        StatementNode::LetIn(a, b) => match type_in(frames, cells, scope, n, a) {
             Typing::Untyped(m, j) => Conduct::Fails(m, j),
-            Typing::Typed(t, e) => join_rule(
-                e,
-                conduct_of(
-                    frames,
-                    cells,
-                    below,
-                    extended(scope, n, t),
-                    n + 1,
-                    linked,
-                    b as usize,
-                ),
-            ),
+            Typing::Typed(t, e) => {
+                let inner = extended(scope, n, t);
+                join_rule(e, conduct_of(frames, cells, below, inner, n + 1, linked, b))
+            }
         },
-        StatementNode::Store(a, b) => store_rule(
-            at,
-            type_in(frames, cells, scope, n, a as usize),
-            type_in(frames, cells, scope, n, b as usize),
-        ),
-        StatementNode::IfElse(a, b, c) => if_else_rule(
-            at,
-            type_in(frames, cells, scope, n, a as usize),
-            conduct_of(frames, cells, below, scope, n, linked, b as usize),
-            conduct_of(frames, cells, below, scope, n, linked, c as usize),
-        ),
-        StatementNode::While(a, b) => while_rule(
-            at,
-            type_in(frames, cells, scope, n, a as usize),
-            conduct_of(frames, cells, below, scope, n, linked, b as usize),
-        ),
+        StatementNode::Store(a, b) => {
+            let x = type_in(frames, cells, scope, n, a);
+            store_rule(i, x, type_in(frames, cells, scope, n, b))
+        }
+        StatementNode::IfElse(a, b, c) => {
+            let x = type_in(frames, cells, scope, n, a);
+            let y = conduct_of(frames, cells, below, scope, n, linked, b);
+            let z = conduct_of(frames, cells, below, scope, n, linked, c);
+            if_else_rule(i, x, y, z)
+        }
+        StatementNode::While(a, b) => {
+            let x = type_in(frames, cells, scope, n, a);
+            while_rule(i, x, conduct_of(frames, cells, below, scope, n, linked, b))
+        }
     }
 }

@@ -5,11 +5,11 @@ use crate::start::signature_word;
 use language::Place;
 use language::effect::Effect;
 use language::frame::Frame;
+use language::kind::is_module;
 use language::verdict::Verdict;
 use layout::fields::Tally;
 use layout::fields::counted;
 use layout::frames::frame_at;
-use layout::frames::is_module;
 ghost use mathlib.Core.Path.{_≡_};
 ghost use mathlib.Core.List.{[], _∷_, map};
 ghost use Prim.Native.Nat.{_<_, _≤_};
@@ -75,8 +75,7 @@ pub fn module_conduct(
     scope[0] = f.b;
     scope[1] = f.c;
     let n = f.s as usize;
-    let a = f.a as usize;
-    conduct_of(frames, cells, &below[..m], scope, n, true, a)
+    conduct_of(frames, cells, &below[..m], scope, n, true, f.a)
 }
 
 // 'main has an effect within {2}'.

@@ -19,36 +19,34 @@ ghost use Rattle.rules.specs.Frames.{FrameIn};
 
 // What the expression at frame i is found to be, where the shared cells have the types `cells` and the variables the
 // types `scope`. The frames are laid out, so that a child's number is below its parent's and the recursion ends.
-pub fn type_of(frames: &[u64], cells: &[u16], scope: &[u16], i: usize) -> Typing
+pub fn type_of(frames: &[u64], cells: &[u16], scope: &[u16], i: u16) -> Typing
     requires { ⌜ FrameIn (now frames) i ⌝ }
     ensures { λ r. ⌜ r ≡ typeIn (now (cells .entry)) (now (scope .entry)) (expressionAt (framesOf (now (frames .entry))) i) ⌝ }
 {
-    let at = i as u16;
-    let node = expression_node(frame_of_word(frames[i]));
-    match node {
+    match expression_node(frame_of_word(frames[i as usize])) {
         ExpressionNode::Number => Typing::Typed(NUMBER, Effect::none()),
         ExpressionNode::Truth => Typing::Typed(TRUTH, Effect::none()),
-        ExpressionNode::Variable(s) => named_rule(scope, s, at),
-        ExpressionNode::SharedCell(s) => named_rule(cells, s, at),
-        ExpressionNode::NewCell(s, a) => new_rule(s, at, type_of(frames, cells, scope, a as usize)),
-        ExpressionNode::Content(a) => content_rule(at, type_of(frames, cells, scope, a as usize)),
+        ExpressionNode::Variable(s) => named_rule(scope, s, i),
+        ExpressionNode::SharedCell(s) => named_rule(cells, s, i),
+        ExpressionNode::NewCell(s, a) => new_rule(s, i, type_of(frames, cells, scope, a)),
+        ExpressionNode::Content(a) => content_rule(i, type_of(frames, cells, scope, a)),
         ExpressionNode::Sum(a, b) => numbers_rule(
             NUMBER,
-            at,
-            type_of(frames, cells, scope, a as usize),
-            type_of(frames, cells, scope, b as usize),
+            i,
+            type_of(frames, cells, scope, a),
+            type_of(frames, cells, scope, b),
         ),
         ExpressionNode::Less(a, b) => numbers_rule(
             TRUTH,
-            at,
-            type_of(frames, cells, scope, a as usize),
-            type_of(frames, cells, scope, b as usize),
+            i,
+            type_of(frames, cells, scope, a),
+            type_of(frames, cells, scope, b),
         ),
         ExpressionNode::Choose(a, b, c) => choose_rule(
-            at,
-            type_of(frames, cells, scope, a as usize),
-            type_of(frames, cells, scope, b as usize),
-            type_of(frames, cells, scope, c as usize),
+            i,
+            type_of(frames, cells, scope, a),
+            type_of(frames, cells, scope, b),
+            type_of(frames, cells, scope, c),
         ),
     }
 }

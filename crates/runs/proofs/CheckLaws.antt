@@ -1,4 +1,4 @@
--- The check's line in a buffer of its own length. Assumes nothing.
+-- The check's line in a buffer of its length, and what is answered in one of another. Assumes nothing.
 use mathlib.Core.Path.{_≡_, sym, ap, ap₂, _∙_}
 use mathlib.Core.List.{List, _++_, append-nil}
 use Prim.Native.Nat.{ℕ, _+_}

@@ -19,8 +19,8 @@ use Rattle.listing.proofs.ChoicesAt.{choices-count}
 use Rattle.runs.specs.Runs.{Behind, stepped}
 use Rattle.runs.specs.Printed.{unstepped, steppedOf, choicesStepped, ListedOn, listedAs, listedOn, written, listOf, choicesOf, listedBehind}
 use Rattle.runs.specs.declared.printing.Listed.{Listed}
-use Rattle.runs.proofs.LineRuns.{written-put}
-use Rattle.runs.proofs.RunLines.{listed-path}
+use Rattle.runs.proofs.ListingLoop.{written-put}
+use Rattle.runs.proofs.ListedRun.{listed-path}
 
 pub listed-refusal : (n i : ℕ) (w out line new : List ℕ) → line ≡ refusalLine n i → new ≡ paste out 8 line (length line) → listedAs (A.Done 0) 16 0 w new ≡ listedBehind (unstepped w) (refusalLine n i) out
 listed-refusal n i w out line new a b = listed-path refl refl refl (written-put out 8 line new b ∙ ap (written out 8) a)

@@ -16,14 +16,12 @@ use Rattle.program.specs.Trees.{Expr, Stmt}
 use Rattle.program.specs.Programs.{Part, programOf}
 use Rattle.layout.specs.Faults.{Fault, NoFault, LayoutSays}
 use Rattle.layout.specs.LaidOut.{layoutRead, layoutVerdict}
-use Rattle.layout.proofs.Order.{all-trees}
 use Rattle.layout.proofs.Layouts.{layout-says}
-use Rattle.layout.proofs.Parts.{placed-modules, has-main}
 use Rattle.rules.specs.Rules.{Signature}
 use Rattle.rules.specs.Breaks.{BreaksE, BreaksS}
 use Rattle.rules.specs.Broken.{BrokenE, BrokenS, BrokenM, RulesSay}
 use Rattle.rules.specs.Checking.{rulesOf}
-use Rattle.rules.proofs.Modules.{rules-say}
+use Rattle.rules.proofs.Whole.{rules-hold}
 use Rattle.listing.specs.Listing.{stops}
 
 -- ---- 1 to 3
@@ -90,12 +88,8 @@ in-modules (BrokenM.later r h) = in-modules h
 in-modules (BrokenM.main r e) = omega arith
 
 module _ (fs : List Frame) (some : 0 < length fs) (fine : NoFault fs) where
-  rules-hold : RulesSay (programOf fs) (rulesOf (programOf fs))
-  unfolding programOf
-  rules-hold = rules-say (programOf fs) (has-main fs some (fine 6)) (placed-modules fs (all-trees fs (fine 6)))
-
   pub rules-run : stops (rulesOf (programOf fs)) ≡ false
-  rules-run = go (rulesOf (programOf fs)) rules-hold
+  rules-run = go (rulesOf (programOf fs)) (rules-hold fs some fine)
     where
       go : (v : Verdict) → RulesSay (programOf fs) v → stops v ≡ false
       go Accepted h = refl

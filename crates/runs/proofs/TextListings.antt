@@ -18,7 +18,7 @@ use Rattle.program.specs.Programs.{programOf}
 use Rattle.layout.specs.LaidOut.{layoutVerdict, laidOut}
 use Rattle.layout.specs.declared.LaidOut.{LaidOut}
 use Rattle.layout.proofs.Answers.{verdict-is}
-use Rattle.layout.proofs.Accepted.{laid-right}
+use Rattle.layout.proofs.Accepted.{laid-passed}
 use Rattle.rules.specs.Checking.{rulesOf}
 use Rattle.rules.specs.Verdict.{verdict}
 use Rattle.rules.specs.Frames.{FileIn}
@@ -31,8 +31,8 @@ use Rattle.runs.specs.Lengths.{wrongLength}
 use Rattle.runs.specs.Runs.{Behind}
 use Rattle.runs.specs.Printed.{unstepped, choicesStepped, runStepped, ListedOn, listedAs, listedOn, written, listedFrom, unlisted, stateFits, listText, listedBehind, listedRejected}
 use Rattle.runs.specs.declared.printing.Listed.{Listed}
-use Rattle.runs.proofs.LineRuns.{written-put, written-more}
-use Rattle.runs.proofs.RunLines.{listed-path}
+use Rattle.runs.proofs.ListingLoop.{written-put, written-more}
+use Rattle.runs.proofs.ListedRun.{listed-path}
 use Rattle.runs.proofs.Stops.{layout-stops, rules-run}
 
 -- ---- the check's line
@@ -134,7 +134,7 @@ module _ (bs bytes w out : List ℕ) (l : LaidOut) (e : l ≡ laidOut bs) (v : V
         → listedOn x u new ≡ listedFrom (runStepped (rulesOf (programOf (framesOf (take n (l .words))))) (framesOf (take n (l .words))) w bytes) (runListing (rulesOf (programOf (framesOf (take n (l .words))))) (framesOf (take n (l .words))) bytes) out
         → listedOn x u new ≡ listText bs bytes w out
     list-accepted size room n q u new x k =
-        let f : framesOf (take n (l .words)) ≡ textFrames bs = ap (λ (i : ℕ). framesOf (take i (l .words))) q ∙ laid-right bs l e (sym h ∙ a) .lines in
+        let f : framesOf (take n (l .words)) ≡ textFrames bs = ap (λ (i : ℕ). framesOf (take i (l .words))) q ∙ laid-passed bs l e (sym h ∙ a) .lines in
         let r : rulesOf (programOf (framesOf (take n (l .words)))) ≡ verdict bs = check-rules bs l e v h a n _ q refl in
         k ∙ ap₂ (λ (y : Verdict) (fs : List Frame). listedFrom (runStepped y fs w bytes) (runListing y fs bytes) out) r f
         ∙ sym (if-yes _ _ (ap₂ (λ (b c : Bool). b && c) (eq-eqb (length w) 4818 size) (eq-eqb (length out) 229389 room)))

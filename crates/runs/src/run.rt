@@ -20,7 +20,7 @@ pub struct Ran {
 }
 
 // A run of a file that passes refusals 1 to 7: how many choices it used.
-fn run_frames(frames: &[u64], choices: &[u8], state: &mut [u64]) -> usize
+fn run_frames(frames: &[u64], choices: &[u64], state: &mut [u64]) -> usize
     requires { ⌜ FileWords (now frames) × (length (now state) ≡ 4818) ⌝ }
     ensures used { λ r. ⌜ r ≡ stepped (programOf (framesOf (now (frames .entry)))) (now (choices .entry)) .used ⌝ }
     ensures words { λ r. ⌜ now (state .exit) ≡ stepped (programOf (framesOf (now (frames .entry)))) (now (choices .entry)) .words ⌝ }
@@ -32,8 +32,8 @@ fn run_frames(frames: &[u64], choices: &[u8], state: &mut [u64]) -> usize
     used
 }
 
-// The text's refusal 1 to 7; 14 for a buffer of another length; else the fresh state is made and the choices used are stepped, a byte each.
-pub fn run(text: &[u8], choices: &[u8], state: &mut [u64]) -> Ran
+// The text's refusal 1 to 7; 14 for a buffer of another length; else the fresh state is made and the choices used are stepped, whatever each of them names.
+pub fn run(text: &[u8], choices: &[u64], state: &mut [u64]) -> Ran
     ensures { λ r. ⌜ ranOn r (now (state .exit)) ≡ runText (now (text .entry)) (now (choices .entry)) (now (state .entry)) ⌝ }
 {
     let l = lay_out(text);

@@ -22,13 +22,13 @@ pub fn used_of(n: usize, allowance: u16) -> usize
 }
 
 // The first n choices, from the fresh state on. The words are those of a state that was reached, so nothing is validated again.
-pub fn run_steps(frames: &[u64], file: File, choices: &[u8], n: usize, state: &mut [u64])
+pub fn run_steps(frames: &[u64], file: File, choices: &[u64], n: usize, state: &mut [u64])
     requires { ⌜ FileWords (now frames) × (file ≡ fileOf (programOf (framesOf (now frames)))) × (n ≤ length (now choices)) × (now state ≡ pack (fresh (programOf (framesOf (now frames))))) ⌝ }
     ensures { λ _. ⌜ now (state .exit) ≡ pack (stateAfter (programOf (framesOf (now (frames .entry)))) (take n (now (choices .entry)))) ⌝ }
 {
     let mut k: usize = 0;
     while k < n {
-        step_valid(frames, file, state, choices[k] as u64);
+        step_valid(frames, file, state, choices[k]);
         k += 1;
     }
 }

@@ -7,7 +7,7 @@ use native.Mathlib.Numerals.{add-one}
 use borrow.Author.Tests.{not-true, not-false}
 use Rattle.machine.specs.Ranges.{allBelow}
 use Rattle.machine.proofs.Tests.{and-both}
-use Rattle.machine.proofs.Ranges.{below-all}
+use Rattle.machine.proofs.Ranges.{below-each}
 
 -- ---- tests by their facts
 -- a test that cannot pass fails
@@ -30,7 +30,7 @@ unfolding allBelow
 all-more test j h g = ap (λ (k : ℕ). allBelow k test) (add-one j) ∙ and-both (test j) (allBelow j test) g h
 
 pub all-wrong : (test : ℕ → Bool) (j n : ℕ) → test j ≡ false → j < n → false ≡ allBelow n test
-all-wrong test j n e h = cannot (allBelow n test) (λ q. true≢false (sym (below-all n test q j h) ∙ e))
+all-wrong test j n e h = cannot (allBelow n test) (λ q. true≢false (sym (below-each n test q j h) ∙ e))
 
 pub all-end : (test : ℕ → Bool) (j n : ℕ) → allBelow j test ≡ true → j ≤ n → n ≤ j → true ≡ allBelow n test
 all-end test j n h a b = sym h ∙ ap (λ (k : ℕ). allBelow k test) (omega arith)

@@ -12,7 +12,7 @@ use Rattle.basics.proofs.Ifs.{if-yes, if-no, yes, no}
 use Rattle.language.specs.Places.{hasPlace}
 use Rattle.language.specs.declared.frame.Frame.{Frame}
 use Rattle.machine.specs.Ranges.{threadInRange, valueInRange, itemInRange, entryInRange, cellInRange, listInRange, schedulerInRange, threadWordInRange, allBelow, inRange}
-use Rattle.machine.proofs.Ranges.{below-all, all-below, InRange, in-range, range-in, Space, space-of, of-space, range-place, range-starter, range-lives, range-items, range-variables, range-active, range-next}
+use Rattle.machine.proofs.Ranges.{below-each, all-below, InRange, in-range, range-in, Space, space-of, of-space, range-place, range-starter, range-lives, range-items, range-variables, range-active, range-next}
 use Rattle.states.specs.Passes.{isZero, wordPasses, schedulerBlock, threadBlock}
 use Rattle.states.proofs.AllBelow.{cannot, same-test}
 use Rattle.states.proofs.BlockParts.{scheduler-parts, thread-parts}
@@ -24,7 +24,7 @@ clash t f e = true≢false (sym e ∙ not-true t f)
 -- ---- words that pass
 pub pass-at : (test : ℕ → Bool) (w : List ℕ) (i n : ℕ) → allBelow n (wordPasses test w i) ≡ true → (j : ℕ) → j < n → test (getD w (i + j) 0) ≡ true
 unfolding wordPasses
-pass-at test w i n h j g = below-all n (wordPasses test w i) h j g
+pass-at test w i n h j g = below-each n (wordPasses test w i) h j g
 
 pub at-pass : (test : ℕ → Bool) (w : List ℕ) (i n : ℕ) → ((j : ℕ) → j < n → test (getD w (i + j) 0) ≡ true) → allBelow n (wordPasses test w i) ≡ true
 unfolding wordPasses
@@ -41,7 +41,7 @@ at-zero w i n h = at-pass isZero w i n (λ j g. eq-eqb (getD w (i + j) 0) 0 (h j
 -- ---- a list
 module _ (test : ℕ → Bool) (most : ℕ) (w : List ℕ) (i : ℕ) where
   listed : allBelow (most + 1) (listInRange test most w i) ≡ true → Space test w i most
-  listed h = space-of test w i most (λ j g. below-all (most + 1) (listInRange test most w i) h j (rw (add-one most) g))
+  listed h = space-of test w i most (λ j g. below-each (most + 1) (listInRange test most w i) h j (rw (add-one most) g))
 
   pub list-over : most < getD w i 0 → false ≡ allBelow (most + 1) (listInRange test most w i)
   list-over h = cannot _ (λ e. let r = listed e .room in omega arith)
@@ -85,13 +85,13 @@ pub ruleset list-laws = (list-over, list-wrong, list-rest)
 -- ---- a scheduler
 module _ (w : List ℕ) (i : ℕ) where
   pub scheduler-wrong : (t : Bool) → t ≡ allBelow 65 (listInRange threadInRange 64 w i) → not t ≡ true → false ≡ allBelow 130 (schedulerInRange w i)
-  scheduler-wrong t e f = cannot _ (λ q. clash t f (e ∙ all-below 65 (listInRange threadInRange 64 w i) (λ j g. sym (range-active w i j g) ∙ below-all 130 (schedulerInRange w i) q j (omega arith))))
+  scheduler-wrong t e f = cannot _ (λ q. clash t f (e ∙ all-below 65 (listInRange threadInRange 64 w i) (λ j g. sym (range-active w i j g) ∙ below-each 130 (schedulerInRange w i) q j (omega arith))))
 
   pub scheduler-rest : (t r : Bool) → t ≡ allBelow 65 (listInRange threadInRange 64 w i) → not t ≡ false → r ≡ allBelow 65 (listInRange entryInRange 64 w (i + 65)) → r ≡ allBelow 130 (schedulerInRange w i)
   scheduler-rest t r e f g = g ∙ same-test _ _
       (λ q. all-below 130 (schedulerInRange w i) (scheduler-parts (λ j. schedulerInRange w i j ≡ true)
-      (λ j l. range-active w i j l ∙ below-all 65 (listInRange threadInRange 64 w i) (sym e ∙ not-false t f) j l) (λ j l. range-next w i j l ∙ below-all 65 (listInRange entryInRange 64 w (i + 65)) q j l)))
-      (λ q. all-below 65 (listInRange entryInRange 64 w (i + 65)) (λ j h. sym (range-next w i j h) ∙ below-all 130 (schedulerInRange w i) q (65 + j) (omega arith)))
+      (λ j l. range-active w i j l ∙ below-each 65 (listInRange threadInRange 64 w i) (sym e ∙ not-false t f) j l) (λ j l. range-next w i j l ∙ below-each 65 (listInRange entryInRange 64 w (i + 65)) q j l)))
+      (λ q. all-below 65 (listInRange entryInRange 64 w (i + 65)) (λ j h. sym (range-next w i j h) ∙ below-each 130 (schedulerInRange w i) q (65 + j) (omega arith)))
 
 pub ruleset scheduler-laws = (scheduler-wrong, scheduler-rest)
 
@@ -108,7 +108,7 @@ pub ruleset scheduler-block-laws = (scheduler-there, scheduler-none)
 -- ---- a thread
 module _ (fs : List Frame) (n : ℕ) (w : List ℕ) (i : ℕ) where
   word-in : allBelow 55 (threadWordInRange fs n w i) ≡ true → (j : ℕ) → j < 55 → threadWordInRange fs n w i j ≡ true
-  word-in q = below-all 55 (threadWordInRange fs n w i) q
+  word-in q = below-each 55 (threadWordInRange fs n w i) q
 
   pub thread-place : (t : Bool) → t ≡ hasPlace n (getD w i 0) → not t ≡ true → false ≡ allBelow 55 (threadWordInRange fs n w i)
   thread-place t e f = cannot _ (λ q. clash t f (e ∙ sym (range-place fs n w i) ∙ word-in q 0 (omega arith)))
@@ -127,8 +127,8 @@ module _ (fs : List Frame) (n : ℕ) (w : List ℕ) (i : ℕ) where
   thread-rest t u r a b c d e f g = g ∙ same-test _ _
       (λ q. all-below 55 (threadWordInRange fs n w i) (thread-parts (λ j. threadWordInRange fs n w i j ≡ true)
       (range-place fs n w i ∙ sym a ∙ not-false t b) (range-starter fs n w i ∙ le-leb _ 64 c) (range-lives fs n w i ∙ le-leb _ 1 d)
-      (λ j l. range-items fs n w i j l ∙ below-all 26 (listInRange (itemInRange fs n) 25 w (i + 3)) (sym e ∙ not-false u f) j l)
-      (λ j l. range-variables fs n w i j l ∙ below-all 26 (listInRange valueInRange 25 w (i + 29)) q j l)))
+      (λ j l. range-items fs n w i j l ∙ below-each 26 (listInRange (itemInRange fs n) 25 w (i + 3)) (sym e ∙ not-false u f) j l)
+      (λ j l. range-variables fs n w i j l ∙ below-each 26 (listInRange valueInRange 25 w (i + 29)) q j l)))
       (λ q. all-below 26 (listInRange valueInRange 25 w (i + 29)) (λ j h. sym (range-variables fs n w i j h) ∙ word-in q (29 + j) (omega arith)))
 
 pub ruleset thread-laws = (thread-place, thread-starter, thread-lives, thread-items, thread-rest)
@@ -188,19 +188,19 @@ module _ (fs : List Frame) (n : ℕ) (w : List ℕ) where
       ap (λ (k : ℕ). getD w k 0) z ∙ in-range fs n w q .no-cell (getD w 1 0 + j) (omega arith) (omega arith)))
     where
       scheduler-passes : (k : ℕ) → k < 8 → schedulerBlock n w k ≡ true
-      scheduler-passes = below-all 8 (schedulerBlock n w) (sym dt ∙ not-false t ft)
+      scheduler-passes = below-each 8 (schedulerBlock n w) (sym dt ∙ not-false t ft)
 
       thread-passes : (k : ℕ) → k < 64 → threadBlock fs n w k ≡ true
-      thread-passes = below-all 64 (threadBlock fs n w) (sym du ∙ not-false u fu)
+      thread-passes = below-each 64 (threadBlock fs n w) (sym du ∙ not-false u fu)
 
       there : allBelow (256 - getD w 1 0) (wordPasses isZero w (4562 + getD w 1 0)) ≡ true → inRange fs n w ≡ true
       there q = range-in fs n w (record {
         all = a;
         threads-room = b;
         cells-room = c;
-        scheduler = λ k j f g h. below-all 130 (schedulerInRange w (2 + 130 * k)) (sym (if-yes _ _ (lt-ltb k n h)) ∙ scheduler-passes k f) j g;
+        scheduler = λ k j f g h. below-each 130 (schedulerInRange w (2 + 130 * k)) (sym (if-yes _ _ (lt-ltb k n h)) ∙ scheduler-passes k f) j g;
         no-scheduler = λ k j f g h. zero-at w (2 + 130 * k) 130 (sym (if-no _ _ (le-ltb k n h)) ∙ scheduler-passes k f) j g;
-        thread = λ k j g h. below-all 55 (threadWordInRange fs n w (1042 + 55 * k)) (sym (if-yes _ _ (lt-ltb k (getD w 0 0) h)) ∙ thread-passes k (omega arith)) j g;
+        thread = λ k j g h. below-each 55 (threadWordInRange fs n w (1042 + 55 * k)) (sym (if-yes _ _ (lt-ltb k (getD w 0 0) h)) ∙ thread-passes k (omega arith)) j g;
         no-thread = λ k j f g h. zero-at w (1042 + 55 * k) 55 (sym (if-no _ _ (le-ltb k (getD w 0 0) h)) ∙ thread-passes k f) j g;
         cell = λ k h. pass-at (cellInRange n) w 4562 (getD w 1 0) (sym dv ∙ not-false v fv) k h;
         no-cell = λ k f h. let z : 4562 + k ≡ 4562 + getD w 1 0 + (k - getD w 1 0) = omega arith in

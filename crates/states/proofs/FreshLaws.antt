@@ -8,6 +8,7 @@ use lib.ListN.{length, set, replicate, length-replicate, getD-replicate}
 use lib.Dec.{eqb}
 use borrow.Author.Tests.{le-leb, lt-leb, eq-eqb, ne-eqb}
 use Rattle.basics.proofs.Ifs.{if-yes, if-no, if-all}
+use Rattle.program.specs.Programs.{cellOf}
 use Rattle.language.specs.Types.{isCell, numberType}
 use Rattle.language.specs.declared.frame.Frame.{Frame}
 use Rattle.machine.specs.Values.{firstContent}
@@ -15,7 +16,6 @@ use Rattle.machine.specs.declared.value.Value.{Value}
 use Rattle.machine.specs.Fresh.{firstCell}
 use Rattle.machine.specs.Words.{valueWord, cellWord}
 use Rattle.machine.specs.Blocks.{pasted}
-use Rattle.states.specs.Starts.{cellOf}
 use Rattle.states.proofs.PastedLaws.{fill-more, fill-all}
 
 -- ---- the word of a first content, and of its cell

@@ -19,13 +19,12 @@ use Rattle.machine.specs.Ranges.{allBelow}
 use Rattle.machine.proofs.Tests.{and-both}
 use Rattle.machine.proofs.WordLaws.{Says, is-pack, tab-length, tab-from, pasted-length, pasted-in, pasted-out}
 use Rattle.machine.proofs.Padded.{padded-length, padded-at}
-use Rattle.machine.proofs.Round.{thread-1, thread-2}
-use Rattle.machine.proofs.Ranges.{below-all, all-below}
+use Rattle.machine.proofs.Round.{thread-1, thread-2, ended-bit}
+use Rattle.machine.proofs.Ranges.{below-each, all-below}
 use Rattle.machine.proofs.Shapes.{EntryFits, plain-fits, waiting-fits}
 use Rattle.states.specs.Lists.{isQuiet, isReadyWord, readyWords, waitingWords, sortedOf, withInstantEnded}
 use Rattle.states.proofs.AllBelow.{same-test}
-use Rattle.states.proofs.Bridge.{ended-bit}
-use Rattle.states.proofs.Schedulers.{by-lists, scheduler-put, next-word, room-says}
+use Rattle.states.proofs.SchedulerSays.{by-lists, scheduler-put, next-word, room-says}
 
 -- ---- the ready test
 -- thread t, which is x, has ended, or is neither thread u nor started by it: `isQuiet` on the state
@@ -62,7 +61,7 @@ module _ (w : List ℕ) (s : State) (h : Says w s) (few : length (s .threads) �
   all-quiet-says u =
       ap (λ (n : ℕ). allBelow n (isQuiet w u)) (h .threads)
       ∙ same-test _ _
-      (λ e. each-ended u 1 (s .threads) (λ k g. sym (quiet-says u k g) ∙ below-all (length (s .threads)) (isQuiet w u) e k g))
+      (λ e. each-ended u 1 (s .threads) (λ k g. sym (quiet-says u k g) ∙ below-each (length (s .threads)) (isQuiet w u) e k g))
       (λ e. all-below (length (s .threads)) (isQuiet w u) (λ k g. quiet-says u k g ∙ ended-each u 1 (s .threads) e k g))
 
   pub ready-says : (e : Entry) → EntryFits e → isReadyWord w (entryWord e) ≡ isReady (s .threads) e

@@ -1,39 +1,24 @@
 -- Main's body as the code finds it, from the last frame down: the first module met is the program's last. Assumes nothing.
 use Prim.Native.Nat.{ℕ, suc, _+_, _-_, _<_, _≤_}
-use mathlib.Core.Path.{_≡_, refl, sym, ap, _∙_}
+use mathlib.Core.Path.{_≡_, refl, sym, ap, ap₂, _∙_}
 use mathlib.Core.List.{List, [], _∷_, _++_}
-use mathlib.Core.Bool.{Bool, true, false, true≢false}
+use mathlib.Core.Bool.{Bool, true, false}
 use native.Mathlib.Omega.{arith}
 use native.Mathlib.Nat.{zero-add}
-use lib.ListN.{getD, length, drop, take, length-append, take-append-drop, drop-of-length-le}
+use lib.ListN.{getD, length, drop, take, length-append, take-append-drop}
 use lib.Seq.{getD-at, length-take-le}
+use Rattle.language.specs.Kinds.{isModule}
 use Rattle.language.specs.declared.kind.Kind.{Kind}
 use Rattle.language.specs.declared.kind.Kind.the-variants.{Header, Shared, Module, Statement, Expression, Unknown}
 use Rattle.language.specs.declared.frame.Frame.{Frame}
 use Rattle.text.specs.Frames.{frameOfWord, framesOf}
+use Rattle.text.proofs.FrameWords.{frames-length, next-frame, frames-end}
 use Rattle.program.specs.Trees.{rootS}
 use Rattle.program.specs.Programs.{Part, partOf, withPart, modulesFrom, programOf, mainOf, noModule}
-use Rattle.machine.proofs.Valid.{root-at}
-use Rattle.states.specs.Starts.{isModule}
-use Rattle.states.proofs.RangeLaws.{frames-length, next-frame}
+use Rattle.program.proofs.Roots.{statement-root}
+use Rattle.program.proofs.OneMore.{part-no, part-yes}
 
 -- ---- the modules of frames, one frame more
-pub part-no : (fs : List Frame) (i : ℕ) (f : Frame) (k : Kind) (ps : List Part) → isModule k ≡ false → withPart fs i f k ps ≡ ps
-part-no fs i f Module ps e = absurd (true≢false e)
-part-no fs i f Header ps e = refl
-part-no fs i f Shared ps e = refl
-part-no fs i f (Statement k) ps e = refl
-part-no fs i f (Expression k) ps e = refl
-part-no fs i f Unknown ps e = refl
-
-pub part-yes : (fs : List Frame) (i : ℕ) (f : Frame) (k : Kind) (ps : List Part) → isModule k ≡ true → withPart fs i f k ps ≡ partOf fs i f ∷ ps
-part-yes fs i f Module ps e = refl
-part-yes fs i f Header ps e = absurd (true≢false (sym e))
-part-yes fs i f Shared ps e = absurd (true≢false (sym e))
-part-yes fs i f (Statement k) ps e = absurd (true≢false (sym e))
-part-yes fs i f (Expression k) ps e = absurd (true≢false (sym e))
-part-yes fs i f Unknown ps e = absurd (true≢false (sym e))
-
 part-append : (fs : List Frame) (i : ℕ) (f : Frame) (k : Kind) (ps qs : List Part) → withPart fs i f k (ps ++ qs) ≡ withPart fs i f k ps ++ qs
 part-append fs i f Module ps qs = refl
 part-append fs i f Header ps qs = refl
@@ -63,26 +48,28 @@ partsFrom words i = modulesFrom (framesOf words) i (drop i (framesOf words))
 
 pub main-start : (words : List ℕ) → partsFrom words (length words) ≡ []
 unfolding modulesFrom
-main-start words = ap (modulesFrom (framesOf words) (length words)) (drop-of-length-le (framesOf words) {i = length words} (rw (frames-length words) (omega arith)))
+main-start words = ap (modulesFrom (framesOf words) (length words)) (frames-end words (length words) (omega arith))
 
 module _ (words : List ℕ) (i : ℕ) (f : Frame) (t : Bool) (e : f ≡ frameOfWord (getD words (i - 1) 0)) (q : t ≡ isModule (f .kind)) (p : 0 < i) (l : i ≤ length words)
     (none : partsFrom words i ≡ []) where
   after : suc (i - 1) ≡ i
   after = omega arith
 
+  again : i - 1 + 1 ≡ i
+  again = omega arith
+
   from-here : partsFrom words (i - 1) ≡ withPart (framesOf words) (i - 1) f (f .kind) []
   unfolding modulesFrom
   from-here =
-      ap (modulesFrom (framesOf words) (i - 1)) (next-frame words (i - 1) (omega arith))
-      ∙ ap (λ (g : Frame). withPart (framesOf words) (i - 1) g (g .kind) (modulesFrom (framesOf words) (suc (i - 1)) (drop (suc (i - 1)) (framesOf words)))) (sym e)
-      ∙ ap (withPart (framesOf words) (i - 1) f (f .kind)) (ap (partsFrom words) after ∙ none)
+      ap (modulesFrom (framesOf words) (i - 1)) (next-frame words (i - 1) f (omega arith) e)
+      ∙ ap (withPart (framesOf words) (i - 1) f (f .kind)) (ap₂ (λ (j k : ℕ). modulesFrom (framesOf words) j (drop k (framesOf words))) after again ∙ none)
 
   pub main-more : t ≡ false → partsFrom words (i - 1) ≡ []
   main-more h = from-here ∙ part-no (framesOf words) (i - 1) f (f .kind) [] (sym q ∙ h)
 
   pub main-found : t ≡ true → f .a ≡ rootS (mainOf (programOf (framesOf words)) .body)
   unfolding programOf
-  main-found h = sym (ap (λ (ps : List Part). rootS (getD ps (length ps - 1) noModule .body)) split ∙ ap (λ (x : Part). rootS (x .body)) (last-part (modulesFrom fs 0 (take (i - 1) fs)) (partOf fs (i - 1) f)) ∙ root-at fs (f .a))
+  main-found h = sym (ap (λ (ps : List Part). rootS (getD ps (length ps - 1) noModule .body)) split ∙ ap (λ (x : Part). rootS (x .body)) (last-part (modulesFrom fs 0 (take (i - 1) fs)) (partOf fs (i - 1) f)) ∙ statement-root fs (f .a))
     where
       fs : List Frame
       fs = framesOf words

@@ -11,9 +11,8 @@ use Rattle.language.specs.Places.{private}
 use Rattle.machine.specs.State.{State, Thread, noThread, nth}
 use Rattle.machine.specs.Steps.{isUnlinked}
 use Rattle.machine.proofs.WordLaws.{Says}
-use Rattle.machine.proofs.Round.{thread-0, thread-2}
+use Rattle.machine.proofs.Round.{thread-0, thread-2, ended-bit}
 use Rattle.states.specs.Parties.{isUnlinkedWord}
-use Rattle.states.proofs.Bridge.{ended-bit}
 
 module _ (w : List ℕ) (c : ℕ) where
   pub unlinked-low : c < 17 → false ≡ isUnlinkedWord w c

@@ -1,11 +1,9 @@
 -- Laws of the range tests of words, one for each return of the code; for lists and blocks of words see BlockLaws. Assumes nothing.
-use Prim.Native.Nat.{ℕ, zero, suc, _+_, _-_, _/_, _%_, _<_, _≤_}
+use Prim.Native.Nat.{ℕ, _+_, _-_, _/_, _%_, _<_, _≤_}
 use mathlib.Core.Path.{_≡_, refl, sym, ap, _∙_}
-use mathlib.Core.List.{List, [], _∷_}
+use mathlib.Core.List.{List, _∷_}
 use mathlib.Core.Bool.{Bool, true, false, not}
-use native.Mathlib.Omega.{arith}
-use lib.ListN.{getD, length, drop, length-map, List·getD-eq-default}
-use lib.Seq.{drop-cons}
+use lib.ListN.{getD, length, List·getD-eq-default}
 use lib.Dec.{leb, eqb}
 use borrow.Author.Tests.{lt-ltb, le-ltb, le-leb, lt-leb, eq-eqb, ne-eqb, not-true, not-false}
 use Rattle.basics.proofs.Ifs.{yes, no}
@@ -13,6 +11,7 @@ use Rattle.language.specs.Places.{hasPlace, hasScheduler}
 use Rattle.language.specs.declared.kind.Kind.{Kind}
 use Rattle.language.specs.declared.frame.Frame.{Frame}
 use Rattle.text.specs.Frames.{frameOfWord, framesOf}
+use Rattle.text.proofs.FrameWords.{frames-length, frame-at}
 use Rattle.program.specs.Trees.{frameAt, noFrame}
 use Rattle.machine.specs.Ranges.{threadInRange, valueInRange, isStatement, itemInRange, entryInRange, ownerInRange, cellInRange, allBelow}
 use Rattle.states.specs.Passes.{isZero, memberInRange, wordPasses}
@@ -44,24 +43,12 @@ value-cell w a h = no _ (le-ltb _ _ a) (no _ (le-ltb _ _ h) refl)
 
 pub ruleset value-laws = (value-number, value-truth, value-cell)
 
--- ---- the frames of a text's lines: for an item's frame here, and for the loops over the lines elsewhere
-pub frames-length : (words : List ℕ) → length (framesOf words) ≡ length words
-frames-length words = length-map words frameOfWord
-
-pub frame-at : (words : List ℕ) (i : ℕ) → i < length words → frameAt (framesOf words) i ≡ frameOfWord (getD words i 0)
-frame-at [] i h = absurd (omega arith)
-frame-at (w ∷ ws) zero h = refl
-frame-at (w ∷ ws) (suc i) h = frame-at ws i (omega arith)
-
-pub next-frame : (words : List ℕ) (i : ℕ) → i < length words → drop i (framesOf words) ≡ frameOfWord (getD words i 0) ∷ drop (suc i) (framesOf words)
-next-frame words i l = drop-cons (framesOf words) i noFrame (rw (frames-length words) l) ∙ ap (λ (f : Frame). f ∷ drop (suc i) (framesOf words)) (frame-at words i l)
-
 -- ---- items
 pub no-statement : (words : List ℕ) (i : ℕ) → length words ≤ i → false ≡ isStatement (frameAt (framesOf words) i .kind)
 no-statement words i h = ap (λ (f : Frame). isStatement (f .kind)) (sym (List·getD-eq-default (framesOf words) noFrame {n = i} (rw (frames-length words) h)))
 
 pub some-statement : (words : List ℕ) (i : ℕ) (f : Frame) (k : Kind) (r : Bool) → i < length words → f ≡ frameOfWord (getD words i 0) → k ≡ f .kind → r ≡ isStatement k → r ≡ isStatement (frameAt (framesOf words) i .kind)
-some-statement words i f k r h e q s = s ∙ ap isStatement (q ∙ ap (λ (g : Frame). g .kind) (e ∙ sym (frame-at words i h)))
+some-statement words i f k r h e q s = s ∙ ap isStatement (q ∙ ap (λ (g : Frame). g .kind) (e ∙ sym (frame-at words i noFrame h)))
 
 pub item-statement : (fs : List Frame) (n w : ℕ) (r : Bool) → w < 1024 → r ≡ isStatement (frameAt fs w .kind) → r ≡ itemInRange fs n w
 unfolding itemInRange

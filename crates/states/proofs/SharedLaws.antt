@@ -2,53 +2,27 @@
 use Prim.Native.Nat.{ℕ, zero, suc, _+_, _-_, _<_, _≤_}
 use mathlib.Core.Path.{_≡_, refl, sym, ap, _∙_}
 use mathlib.Core.List.{List, [], _∷_, map}
-use mathlib.Core.Bool.{Bool, true, false, not, true≢false}
+use mathlib.Core.Bool.{Bool, true, false, not}
 use native.Mathlib.Omega.{arith}
-use native.Mathlib.Numerals.{add-one}
-use lib.ListN.{getD, length, set, drop, length-drop, drop-of-length-le}
+use lib.ListN.{getD, length, set, drop, length-drop}
 use lib.Seq.{drop-drop, getD-drop}
 use lib.Dec.{leb}
 use borrow.Author.Tests.{le-leb, lt-leb, leb-true, not-true, not-false}
 use Rattle.basics.specs.If.{if_then_else_}
 use Rattle.basics.proofs.Ifs.{if-yes, if-no}
-use Rattle.language.specs.declared.kind.Kind.{Kind}
-use Rattle.language.specs.declared.kind.Kind.the-variants.{Header, Shared, Module, Statement, Expression, Unknown}
+use Rattle.language.specs.Kinds.{isShared}
 use Rattle.language.specs.declared.frame.Frame.{Frame}
 use Rattle.text.specs.Frames.{frameOfWord, framesOf}
-use Rattle.program.specs.Programs.{SharedCell, sharedOf}
+use Rattle.text.proofs.FrameWords.{next-frame, frames-end}
+use Rattle.program.specs.Programs.{SharedCell, sharedOf, cellOf}
+use Rattle.program.proofs.OneMore.{shared-no, shared-yes}
 use Rattle.machine.specs.Fresh.{firstCell}
 use Rattle.machine.specs.State.{Stored, noCell}
 use Rattle.machine.specs.Words.{cellWord}
 use Rattle.machine.specs.Blocks.{pasted, cellWords}
 use Rattle.machine.proofs.WordLaws.{pasted-zero, pasted-more}
 use Rattle.machine.proofs.Blocks.{cells-length, cells-at}
-use Rattle.states.specs.Starts.{isShared, cellOf, withShared}
-use Rattle.states.proofs.RangeLaws.{frames-length, next-frame}
-
--- ---- one frame more
-pub shared-no : (f : Frame) (fs : List Frame) → isShared (f .kind) ≡ false → sharedOf (f ∷ fs) ≡ sharedOf fs
-unfolding sharedOf
-shared-no f fs e = by (f .kind) refl
-  where
-    by : (k : Kind) → f .kind ≡ k → sharedOf (f ∷ fs) ≡ sharedOf fs
-    by Shared q = absurd (true≢false (ap isShared (sym q) ∙ e))
-    by Header q = rw q refl
-    by Module q = rw q refl
-    by (Statement k) q = rw q refl
-    by (Expression k) q = rw q refl
-    by Unknown q = rw q refl
-
-pub shared-yes : (f : Frame) (fs : List Frame) → isShared (f .kind) ≡ true → sharedOf (f ∷ fs) ≡ cellOf f ∷ sharedOf fs
-unfolding sharedOf
-shared-yes f fs e = by (f .kind) refl
-  where
-    by : (k : Kind) → f .kind ≡ k → sharedOf (f ∷ fs) ≡ cellOf f ∷ sharedOf fs
-    by Shared q = rw q refl
-    by Header q = absurd (true≢false (sym e ∙ ap isShared q))
-    by Module q = absurd (true≢false (sym e ∙ ap isShared q))
-    by (Statement k) q = absurd (true≢false (sym e ∙ ap isShared q))
-    by (Expression k) q = absurd (true≢false (sym e ∙ ap isShared q))
-    by Unknown q = absurd (true≢false (sym e ∙ ap isShared q))
+use Rattle.states.specs.Starts.{withShared}
 
 -- ---- the loop
 -- the shared cells of a text's lines, as declared and as they are at first
@@ -73,18 +47,15 @@ unfolding upTo
 sharing-start words w = record { rest = refl; below = omega arith; written = pasted-zero w 4562 _ ∙ ap (pasted w 4562 (cellWords (cellsIn words))) (sym (if-yes _ _ (le-leb 0 256 (omega arith)))) }
 
 module _ (words w v : List ℕ) (i c : ℕ) (f : Frame) (t : Bool) (s : Sharing words w v i c) (l : i < length words) (e : f ≡ frameOfWord (getD words i 0)) (q : t ≡ isShared (f .kind)) where
-  from-here : drop c (sharedIn words) ≡ sharedOf (f ∷ drop (suc i) (framesOf words))
-  from-here = s .rest ∙ ap sharedOf (next-frame words i l ∙ ap (λ (g : Frame). g ∷ drop (suc i) (framesOf words)) (sym e))
-
-  from-next : drop (suc i) (framesOf words) ≡ drop (i + 1) (framesOf words)
-  from-next = ap (λ (n : ℕ). drop n (framesOf words)) (sym (add-one i))
+  from-here : drop c (sharedIn words) ≡ sharedOf (f ∷ drop (i + 1) (framesOf words))
+  from-here = s .rest ∙ ap sharedOf (next-frame words i f l e)
 
   pub sharing-other : not t ≡ true → Sharing words w v (i + 1) c
-  sharing-other h = record { rest = from-here ∙ shared-no f _ (sym q ∙ not-true t h) ∙ ap sharedOf from-next; below = s .below; written = s .written }
+  sharing-other h = record { rest = from-here ∙ shared-no f _ (sym q ∙ not-true t h); below = s .below; written = s .written }
 
   -- where the frame is a shared cell, it is the next one
   one-cell : not t ≡ false → drop c (sharedIn words) ≡ cellOf f ∷ sharedOf (drop (i + 1) (framesOf words))
-  one-cell h = from-here ∙ shared-yes f _ (sym q ∙ not-false t h) ∙ ap (λ (fs : List Frame). cellOf f ∷ sharedOf fs) from-next
+  one-cell h = from-here ∙ shared-yes f _ (sym q ∙ not-false t h)
 
   one-cell-rest : not t ≡ false → drop (c + 1) (sharedIn words) ≡ sharedOf (drop (i + 1) (framesOf words))
   one-cell-rest h = sym (drop-drop 1 c (sharedIn words)) ∙ ap (drop 1) (one-cell h)
@@ -133,7 +104,7 @@ module _ (words w v : List ℕ) (i c : ℕ) (f : Frame) (t : Bool) (s : Sharing 
 module _ (words w v : List ℕ) (i c : ℕ) (s : Sharing words w v i c) (l : length words ≤ i) where
   pub sharing-count : c ≡ length (sharedIn words)
   unfolding sharedOf
-  sharing-count = all (length-drop c (sharedIn words)) (ap length (s .rest ∙ ap sharedOf (drop-of-length-le (framesOf words) {i = i} (rw (frames-length words) l)))) (s .below)
+  sharing-count = all (length-drop c (sharedIn words)) (ap length (s .rest ∙ ap sharedOf (frames-end words i l))) (s .below)
     where
       all : {a n : ℕ} → a ≡ n - c → a ≡ 0 → c ≤ n → c ≡ n
       all x y z = omega arith

@@ -13,7 +13,7 @@ use Rattle.machine.specs.Blocks.{padded}
 use Rattle.machine.proofs.Padded.{padded-at, padded-push, padded-pop}
 use Rattle.states.specs.Threads.{wordsOf}
 use Rattle.states.specs.Stacks.{pushItem, popItem, pushValue, popValue}
-use Rattle.states.proofs.Bridge.{items-length}
+use Rattle.states.proofs.ThreadSays.{items-length}
 
 abbrev pub withContinuation : List Item → Thread → Thread
 withContinuation is x = record { place = x .place; continuation = is; variables = x .variables; starter = x .starter; ended = x .ended }

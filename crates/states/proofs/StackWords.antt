@@ -10,7 +10,7 @@ use Rattle.machine.proofs.WordLaws.{part-at}
 use Rattle.states.specs.Threads.{threadIn, putThread, blockOf}
 use Rattle.states.specs.Stacks.{pushItem, popItem, pushValue, popValue, moveTo, ended}
 use Rattle.states.specs.declared.thread.ThreadWords.{ThreadWords}
-use Rattle.states.proofs.ThreadLaws.{Wide, in-wide, with-in, with-set}
+use Rattle.states.proofs.ThreadLaws.{Wide, in-wide, put-same, put-set}
 
 -- ---- the lists keep their space
 pub push-item-wide : (v : ℕ) (x : ThreadWords) → Wide x → Wide (pushItem v x)
@@ -85,8 +85,8 @@ module _ (x : ThreadWords) (h : Wide x) where
 module _ (w : List ℕ) (k : ℕ) (all : length w ≡ 4818) (room : k < 64) where
   one-word : (y : ThreadWords) (i j v : ℕ) → i ≡ 1042 + 55 * k + j → j < 55 → set (blockOf (threadIn w k)) j v ≡ blockOf y → set w i v ≡ putThread w k y
   one-word y i j v z l e =
-      ap (λ (u : List ℕ). set u i v) (sym (with-in w k all room)) ∙ ap (λ (n : ℕ). set (putThread w k (threadIn w k)) n v) z
-      ∙ with-set w k all room (threadIn w k) (in-wide w k all room) y j v l e
+      ap (λ (u : List ℕ). set u i v) (sym (put-same w k all room)) ∙ ap (λ (n : ℕ). set (putThread w k (threadIn w k)) n v) z
+      ∙ put-set w k all room (threadIn w k) (in-wide w k all room) y j v l e
 
   pub moved : (p : ℕ) → set w (1042 + 55 * k) p ≡ putThread w k (moveTo p (threadIn w k))
   moved p = one-word (moveTo p (threadIn w k)) (1042 + 55 * k) 0 p (sym (add-zero (1042 + 55 * k))) (omega arith) (set-place (threadIn w k) (in-wide w k all room) p)
@@ -101,7 +101,7 @@ module _ (w : List ℕ) (k : ℕ) (all : length w ≡ 4818) (room : k < 64) wher
       let y : ThreadWords = itemsIn x (x .items) (set (x .continuation) n v) in
       let g : Wide y = record { continuation = length-set (x .continuation) n v ∙ h .continuation; variables = h .variables } in
       ap (λ (u : List ℕ). set u (1042 + 55 * k + 3) m) (one-word y (1042 + 55 * k + 4 + n) (4 + n) v (omega arith) (omega arith) (set-item x h n v l))
-      ∙ with-set w k all room y g (itemsIn y m (y .continuation)) 3 m (omega arith) (set-items y g m)
+      ∙ put-set w k all room y g (itemsIn y m (y .continuation)) 3 m (omega arith) (set-items y g m)
 
   value-written : (n v m : ℕ) → n < 25 → set (set w (1042 + 55 * k + 30 + n) v) (1042 + 55 * k + 29) m ≡ putThread w k (valuesIn (threadIn w k) m (set (threadIn w k .variables) n v))
   value-written n v m l =
@@ -110,7 +110,7 @@ module _ (w : List ℕ) (k : ℕ) (all : length w ≡ 4818) (room : k < 64) wher
       let y : ThreadWords = valuesIn x (x .values) (set (x .variables) n v) in
       let g : Wide y = record { continuation = h .continuation; variables = length-set (x .variables) n v ∙ h .variables } in
       ap (λ (u : List ℕ). set u (1042 + 55 * k + 29) m) (one-word y (1042 + 55 * k + 30 + n) (30 + n) v (omega arith) (omega arith) (set-value x h n v l))
-      ∙ with-set w k all room y g (valuesIn y m (y .variables)) 29 m (omega arith) (set-values y g m)
+      ∙ put-set w k all room y g (valuesIn y m (y .variables)) 29 m (omega arith) (set-values y g m)
 
   pub item-pushed : (v : ℕ) → threadIn w k .items < 25
       → set (set w (1042 + 55 * k + 4 + getD w (1042 + 55 * k + 3) 0) v) (1042 + 55 * k + 3) (getD w (1042 + 55 * k + 3) 0 + 1) ≡ putThread w k (pushItem v (threadIn w k))

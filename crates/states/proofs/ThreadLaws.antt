@@ -12,7 +12,7 @@ use Rattle.states.specs.Threads.{threadIn, putThread, blockOf}
 use Rattle.states.specs.declared.thread.ThreadWords.{ThreadWords}
 use Rattle.states.proofs.PastedLaws.{pasted-self, pasted-set, pasted-pasted}
 use Rattle.states.proofs.Store.{stored, block-place, block-starter, block-alive, block-items, block-length, block-continuation, block-values, block-variables}
-use Rattle.states.proofs.Bridge.{fields-path}
+use Rattle.states.proofs.ThreadSays.{fields-path}
 
 -- a thread whose two lists have their space: each law below needs that its block is 55 words
 pub record Wide (x : ThreadWords) : Type 0 where
@@ -36,9 +36,9 @@ module _ (w : List ℕ) (k : ℕ) (all : length w ≡ 4818) (room : k < 64) wher
     long : 55 ≤ length (blockOf x)
     long = let l : length (blockOf x) ≡ 55 = wide-length x h in omega arith
 
-    pub with-length : length (putThread w k x) ≡ 4818
+    pub put-length : length (putThread w k x) ≡ 4818
     unfolding putThread
-    with-length = pasted-length w (1042 + 55 * k) (blockOf x) 55 end long ∙ all
+    put-length = pasted-length w (1042 + 55 * k) (blockOf x) 55 end long ∙ all
 
     with-word : (j : ℕ) → j < 55 → getD (putThread w k x) (1042 + 55 * k + j) 0 ≡ getD (blockOf x) j 0
     unfolding putThread
@@ -50,11 +50,11 @@ module _ (w : List ℕ) (k : ℕ) (all : length w ≡ 4818) (room : k < 64) wher
         part-at (putThread w k x) (1042 + 55 * k + o) 25 j m ∙ ap (λ (i : ℕ). getD (putThread w k x) i 0) z ∙ with-word (o + j) (omega arith) ∙ f j m)
       where
         pl : length (part (putThread w k x) (1042 + 55 * k + o) 25) ≡ 25
-        pl = part-length (putThread w k x) (1042 + 55 * k + o) 25 (rw with-length (omega arith))
+        pl = part-length (putThread w k x) (1042 + 55 * k + o) 25 (rw put-length (omega arith))
 
     -- it is read back
-    pub in-with : threadIn (putThread w k x) k ≡ x
-    in-with = fields-path (threadIn (putThread w k x) k) x
+    pub put-read : threadIn (putThread w k x) k ≡ x
+    put-read = fields-path (threadIn (putThread w k x) k) x
         (ap (λ (i : ℕ). getD (putThread w k x) i 0) (sym (add-zero (1042 + 55 * k))) ∙ with-word 0 (omega arith) ∙ block-place x)
         (with-word 1 (omega arith) ∙ block-starter x)
         (with-word 2 (omega arith) ∙ block-alive x)
@@ -64,19 +64,19 @@ module _ (w : List ℕ) (k : ℕ) (all : length w ≡ 4818) (room : k < 64) wher
         (with-run 30 (x .variables) (omega arith) (h .variables) (block-variables x (h .continuation) (h .variables)))
 
     -- of two writes the last one counts
-    pub with-with : (y : ThreadWords) → Wide y → putThread (putThread w k x) k y ≡ putThread w k y
+    pub put-put : (y : ThreadWords) → Wide y → putThread (putThread w k x) k y ≡ putThread w k y
     unfolding putThread
-    with-with y g = pasted-pasted w (1042 + 55 * k) (blockOf x) 55 end long (blockOf y) (let l : length (blockOf y) ≡ 55 = wide-length y g in omega arith)
+    put-put y g = pasted-pasted w (1042 + 55 * k) (blockOf x) 55 end long (blockOf y) (let l : length (blockOf y) ≡ 55 = wide-length y g in omega arith)
 
     -- one word of it written
-    pub with-set : (y : ThreadWords) (j v : ℕ) → j < 55 → set (blockOf x) j v ≡ blockOf y → set (putThread w k x) (1042 + 55 * k + j) v ≡ putThread w k y
+    pub put-set : (y : ThreadWords) (j v : ℕ) → j < 55 → set (blockOf x) j v ≡ blockOf y → set (putThread w k x) (1042 + 55 * k + j) v ≡ putThread w k y
     unfolding putThread
-    with-set y j v g e = pasted-set w (1042 + 55 * k) (blockOf x) 55 end long j v g ∙ ap (λ (b : List ℕ). pasted w (1042 + 55 * k) b 55) e
+    put-set y j v g e = pasted-set w (1042 + 55 * k) (blockOf x) 55 end long j v g ∙ ap (λ (b : List ℕ). pasted w (1042 + 55 * k) b 55) e
 
   -- its own block written back
-  pub with-in : putThread w k (threadIn w k) ≡ w
+  pub put-same : putThread w k (threadIn w k) ≡ w
   unfolding putThread
-  with-in =
+  put-same =
       sym (stored (threadIn w k) (in-wide .continuation) (in-wide .variables) w (1042 + 55 * k) end)
       ∙ rw (
         set-getD w (1042 + 55 * k) 0,
@@ -89,6 +89,6 @@ module _ (w : List ℕ) (k : ℕ) (all : length w ≡ 4818) (room : k < 64) wher
       ) refl
 
   -- a change of the thread that another change has left there
-  pub with-next : (v u : List ℕ) (x : ThreadWords) (f : ThreadWords → ThreadWords) → Wide x → Wide (f x) → v ≡ putThread w k x → u ≡ putThread v k (f (threadIn v k)) → u ≡ putThread w k (f x)
-  with-next v u x f hx hf e q =
-      q ∙ ap (λ (l : List ℕ). putThread l k (f (threadIn l k))) e ∙ ap (λ (y : ThreadWords). putThread (putThread w k x) k (f y)) (in-with x hx) ∙ with-with x hx (f x) hf
+  pub put-then : (v u : List ℕ) (x : ThreadWords) (f : ThreadWords → ThreadWords) → Wide x → Wide (f x) → v ≡ putThread w k x → u ≡ putThread v k (f (threadIn v k)) → u ≡ putThread w k (f x)
+  put-then v u x f hx hf e q =
+      q ∙ ap (λ (l : List ℕ). putThread l k (f (threadIn l k))) e ∙ ap (λ (y : ThreadWords). putThread (putThread w k x) k (f y)) (put-read x hx) ∙ put-put x hx (f x) hf

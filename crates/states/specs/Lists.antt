@@ -1,4 +1,4 @@
--- What the code does to the lists of schedulers, and its ready test, in the words. No reader has to believe it: on words that say a state each is what the rules do to the state (proofs/Schedulers, proofs/Instants). Scheduler k counts from 0, and its words begin at 2 + 130 k. Assumes nothing: definitions.
+-- What the code does to the lists of schedulers, and its ready test, in the words. No reader has to believe it: on words that say a state each is what the rules do to the state (proofs/SchedulerSays, proofs/Instants). Scheduler k counts from 0, and its words begin at 2 + 130 k. Assumes nothing: definitions.
 use mathlib.Core.List.{List, [], _∷_, _++_}
 use mathlib.Core.Bool.{Bool, true, not, _||_}
 use Prim.Native.Nat.{ℕ, suc, _+_, _-_, _*_, _/_, _%_}

@@ -1,38 +1,14 @@
 -- What the code makes the fresh state's words of. No reader has to believe it: together they are `pack` of the fresh state (proofs/FreshWords). Assumes nothing: definitions.
 use mathlib.Core.List.{List, [], _∷_, map}
-use mathlib.Core.Bool.{Bool, true, false}
 use Prim.Native.Nat.{ℕ}
 use lib.Dec.{leb}
 use lib.ListN.{length}
 use Rattle.basics.specs.If.{if_then_else_}
-use Rattle.language.specs.declared.kind.Kind.{Kind}
-use Rattle.language.specs.declared.kind.Kind.the-variants.{Header, Shared, Module, Statement, Expression, Unknown}
-use Rattle.language.specs.declared.frame.Frame.{Frame}
 use Rattle.program.specs.Programs.{SharedCell}
 use Rattle.machine.specs.Fresh.{firstCell}
 use Rattle.machine.specs.Blocks.{pasted, padded, cellWords}
 use Rattle.machine.specs.Calls.{Called}
 use Rattle.states.specs.declared.thread.ThreadWords.{ThreadWords}
-
-abbrev pub isShared : Kind → Bool
-isShared Shared = true
-isShared Header = false
-isShared Module = false
-isShared (Statement k) = false
-isShared (Expression k) = false
-isShared Unknown = false
-
-abbrev pub isModule : Kind → Bool
-isModule Module = true
-isModule Header = false
-isModule Shared = false
-isModule (Statement k) = false
-isModule (Expression k) = false
-isModule Unknown = false
-
--- the shared cell that a frame declares
-abbrev pub cellOf : Frame → SharedCell
-cellOf f = record { owner = f .s; content = f .a; first = f .b }
 
 -- the words with the first contents of those cells, at most 256
 unfoldable pub withShared : List ℕ → List SharedCell → List ℕ

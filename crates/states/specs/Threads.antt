@@ -1,4 +1,4 @@
--- A thread's words as the code's struct, read, written and added. No reader has to believe it: on words that say a state it is the state's thread (proofs/Bridge). Assumes nothing: definitions.
+-- A thread's words as the code's struct, read, written and added. No reader has to believe it: on words that say a state it is the state's thread (proofs/ThreadSays). Assumes nothing: definitions.
 use mathlib.Core.List.{List, _∷_, _++_, map, reverse}
 use mathlib.Core.Bool.{not}
 use Prim.Native.Nat.{ℕ, _+_, _*_}

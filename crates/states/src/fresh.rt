@@ -3,43 +3,18 @@ use crate::thread::ThreadWords;
 use crate::thread::add_thread;
 use language::Place;
 use language::frame::Frame;
-use language::kind::Kind;
+use language::kind::is_module;
+use language::kind::is_shared;
 use text::line::frame_of_word;
 ghost use mathlib.Core.Path.{_≡_};
 ghost use lib.ListN.{length, set, replicate};
 ghost use Rattle.text.specs.Frames.{framesOf};
 ghost use Rattle.program.specs.Trees.{rootS};
-ghost use Rattle.program.specs.Programs.{sharedOf, programOf, mainOf};
+ghost use Rattle.program.specs.Programs.{sharedOf, programOf, mainOf, cellOf};
 ghost use Rattle.machine.specs.Values.{firstContent};
 ghost use Rattle.machine.specs.Fresh.{firstCell, fresh};
 ghost use Rattle.machine.specs.Words.{valueWord, cellWord, pack};
-ghost use Rattle.states.specs.Starts.{isShared, isModule, cellOf, mainWords, withShared};
-
-pub fn is_shared(k: Kind) -> bool
-    ensures { λ r. ⌜ r ≡ isShared k ⌝ }
-{
-    match k {
-        Kind::Header => false,
-        Kind::Shared => true,
-        Kind::Module => false,
-        Kind::Statement(s) => false,
-        Kind::Expression(e) => false,
-        Kind::Unknown => false,
-    }
-}
-
-pub fn is_module(k: Kind) -> bool
-    ensures { λ r. ⌜ r ≡ isModule k ⌝ }
-{
-    match k {
-        Kind::Header => false,
-        Kind::Shared => false,
-        Kind::Module => true,
-        Kind::Statement(s) => false,
-        Kind::Expression(e) => false,
-        Kind::Unknown => false,
-    }
-}
+ghost use Rattle.states.specs.Starts.{mainWords, withShared};
 
 // The word of a first content: a cell, a number, or a truth, by its type.
 fn content_word(content: u16, first: u16) -> u64

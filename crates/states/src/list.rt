@@ -37,7 +37,7 @@ pub fn has_room(state: &[u64], k: usize, more: u8) -> bool
     n + more as u64 <= 64
 }
 
-// The 64 words at that place move down by one.
+// Each of the 64 words at that place moves to the index below it.
 fn shift(state: &mut [u64], at: usize)
     requires { ⌜ at + 64 ≤ length (now state) ⌝ }
     ensures { λ _. ⌜ now (state .exit) ≡ pasted (now (state .entry)) at (shifted (part (now (state .entry)) at 64)) 64 ⌝ }
@@ -50,7 +50,7 @@ fn shift(state: &mut [u64], at: usize)
     state[at + 63] = 0;
 }
 
-// The first active thread leaves the list, the others move up; an empty list stays.
+// The first active thread leaves the list, each other moves to the index below it; an empty list stays.
 pub fn drop_first(state: &mut [u64], k: usize)
     requires { ⌜ (length (now state) ≡ 4818) × (k < 8) ⌝ }
     ensures { λ _. ⌜ now (state .exit) ≡ withoutFirst (now (state .entry)) k ⌝ }
@@ -64,7 +64,7 @@ pub fn drop_first(state: &mut [u64], k: usize)
     state[at] = n - 1;
 }
 
-// The entry stands at that position of the list at that place, which has n members; those from there on move back by one.
+// The entry stands at that position of the list at that place, which has n members; each from there on moves to the index above it.
 fn insert(state: &mut [u64], at: usize, n: usize, position: usize, entry: u64)
     requires { ⌜ (at + 65 ≤ length (now state)) × (n < 64) × (position ≤ n) ⌝ }
     ensures { λ _. ⌜ now (state .exit) ≡ insertedIn (now (state .entry)) at n position entry ⌝ }

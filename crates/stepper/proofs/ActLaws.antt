@@ -43,7 +43,7 @@ use Rattle.turns.specs.declared.view.View.{View}
 use Rattle.turns.specs.Acts.{ActedOn, actedOn, turnIn, topIn, variablesIn, Views, WholeTurn, TurnWords}
 use Rattle.stepper.specs.Files.{StepWords, stateIn, whoIn, turnOf, turnOn}
 use Rattle.stepper.proofs.Variables.{variables-words}
-use Rattle.stepper.proofs.StepLaws.{shaped, says, step-long, threads-few, thread-read, fit, place-in}
+use Rattle.stepper.proofs.GoodWords.{shaped, says, step-long, threads-few, thread-read, fit, place-in}
 
 -- ---- the place on which a thread stands
 is-place : (n : ℕ) → 1 ≤ n → n ≤ 9 → isPlace n ≡ true

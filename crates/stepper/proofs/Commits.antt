@@ -8,6 +8,7 @@ use lib.Dec.{ltb, leb}
 use lib.ListN.{length, getD, replicate, length-append, length-replicate, getD-replicate, List·getD-append, List·getD-eq-default}
 use borrow.Author.Tests.{ltb-true, ltb-false}
 use Rattle.basics.proofs.Ifs.{if-all, if-yes, if-no}
+use Rattle.language.specs.Places.{isScheduler}
 use Rattle.machine.specs.State.{State, Stored, Thread, Entry, noCell, schedulerAt, withThread, withCells, withScheduler, enlist}
 use Rattle.machine.specs.Turns.{Turn, isSchedulerOf, behindFirst, leave}
 use Rattle.machine.specs.Words.{entryWord, cellWord}
@@ -16,27 +17,27 @@ use Rattle.machine.proofs.WordLaws.{Says, is-pack, pasted-length, pasted-in, pa
 use Rattle.machine.proofs.Blocks.{put-cells, cells-length, cells-at}
 use Rattle.machine.proofs.Valid.{no-cell-word}
 use Rattle.states.specs.Threads.{putThread, wordsOf}
-use Rattle.states.proofs.Bridge.{store-says}
-use Rattle.states.proofs.Schedulers.{room-says, leave-says, last-says}
-use Rattle.commits.specs.Commits.{clearedIn, settledIn, isList, leftIn, roomIn, joinedIn}
+use Rattle.states.proofs.ThreadSays.{store-says}
+use Rattle.states.proofs.SchedulerSays.{room-says, leave-says, last-says}
+use Rattle.commits.specs.Commits.{clearedIn, settledIn, leftIn, roomIn, joinedIn}
 use Rattle.commits.proofs.WritingLaws.{list-block}
 use Rattle.stepper.proofs.Grows.{Grown}
 
 -- ---- a scheduler's list left, and joined
 module _ (v : List ℕ) (s : State) (h : Says v s) where
-  pub left-says : (u : Turn) → isSchedulerOf (u .program) (u .choice) ≡ isList (u .choice) → (isSchedulerOf (u .program) (u .choice) ≡ true → u .choice - 2 < length (s .schedulers))
+  pub left-says : (u : Turn) → isSchedulerOf (u .program) (u .choice) ≡ isScheduler (u .choice) → (isSchedulerOf (u .program) (u .choice) ≡ true → u .choice - 2 < length (s .schedulers))
       → length (schedulerAt s (u .choice) .active) ≤ 64 → Says (leftIn v (u .choice)) (leave u s)
   unfolding leftIn leave
   left-says u e there short =
       if-all (λ (r : State). Says (leftIn v c) r) (isSchedulerOf (u .program) c) _ s
-      (λ q. let l : isList (u .choice) ≡ true = sym e ∙ q in
+      (λ q. let l : isScheduler (u .choice) ≡ true = sym e ∙ q in
       subst (λ (x : List ℕ). Says x (withScheduler (u .choice) (record { active = behindFirst (schedulerAt s (u .choice) .active); next = schedulerAt s (u .choice) .next }) s)) (sym (if-yes _ _ l)) (leave-says v s h c (list-block c l .1) (there q) short))
       (λ q. subst (λ (x : List ℕ). Says x s) (sym (if-no _ _ (sym e ∙ q))) h)
     where
       c : ℕ
       c = u .choice
 
-  pub joined-says : (q : ℕ) (e : Entry) → isList q ≡ true → q - 2 < length (s .schedulers) → length (schedulerAt s q .next) < 64 → Says (joinedIn v q (entryWord e)) (enlist q e s)
+  pub joined-says : (q : ℕ) (e : Entry) → isScheduler q ≡ true → q - 2 < length (s .schedulers) → length (schedulerAt s q .next) < 64 → Says (joinedIn v q (entryWord e)) (enlist q e s)
   unfolding joinedIn
   joined-says q e l there room = subst (λ (x : List ℕ). Says x (enlist q e s)) (sym (if-yes _ _ l)) (last-says v s h q (list-block q l .1) there e room)
 
@@ -65,7 +66,7 @@ module _ (w : List ℕ) (s : State) (h : Says w s) where
     unfolding settledIn putThread
     settled-says k x a b = store-says _ (withCells cs s) (put-cells w s h cs) k x a b
 
-    pub room-is : (q m : ℕ) → isList q ≡ true → q - 2 < length (s .schedulers) → roomIn (withCellWords w cs) q m ≡ leb (length (schedulerAt s q .next) + m) 64
+    pub room-is : (q m : ℕ) → isScheduler q ≡ true → q - 2 < length (s .schedulers) → roomIn (withCellWords w cs) q m ≡ leb (length (schedulerAt s q .next) + m) 64
     unfolding roomIn
     room-is q m l there =
         let b = list-block q l in

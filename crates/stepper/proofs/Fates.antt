@@ -9,7 +9,7 @@ use lib.ListN.{length, length-set}
 use borrow.Author.Tests.{leb-true, le-leb, eqb-false}
 use Rattle.basics.specs.If.{if_then_else_}
 use Rattle.basics.proofs.Ifs.{if-all, if-yes, if-no, and-true}
-use Rattle.language.specs.Places.{private, hasPlace, hasScheduler}
+use Rattle.language.specs.Places.{private, hasPlace, hasScheduler, isScheduler}
 use Rattle.language.specs.declared.frame.Frame.{Frame}
 use Rattle.program.specs.Programs.{Program}
 use Rattle.machine.specs.Accesses.{Access}
@@ -26,7 +26,7 @@ use Rattle.states.specs.Threads.{wordsOf}
 use Rattle.acts.specs.declared.act.Fate.the-variants.{Stays, Leaves, Joins}
 use Rattle.acts.specs.Fates.{Turned, actedIn, refusedIn}
 use Rattle.turns.specs.Acts.{ActedOn}
-use Rattle.commits.specs.Commits.{called, settledIn, isList, leftIn, roomIn, joinsIn, committedIn}
+use Rattle.commits.specs.Commits.{called, settledIn, leftIn, roomIn, joinsIn, committedIn}
 use Rattle.stepper.proofs.Grows.{Grown}
 use Rattle.stepper.proofs.Commits.{withCellWords, left-says, joined-says, settled-says, room-is, cleared-is}
 
@@ -50,7 +50,7 @@ place-scheduler n q p e =
     ap₂ _&&_ (le-leb 2 q (omega arith)) (b .1)
 
 -- a scheduler of the file has its lists in the state and in the words
-pub scheduler-there : {fs : List Frame} {P : Program} {n : ℕ} {s : State} → FileFits fs P n → Shaped fs n s → (q : ℕ) → hasScheduler n q ≡ true → (q - 2 < length (s .schedulers)) × (isList q ≡ true)
+pub scheduler-there : {fs : List Frame} {P : Program} {n : ℕ} {s : State} → FileFits fs P n → Shaped fs n s → (q : ℕ) → hasScheduler n q ≡ true → (q - 2 < length (s .schedulers)) × (isScheduler q ≡ true)
 scheduler-there {n = n} F S q e =
     let b = and-true (leb 2 q) (leb q (1 + n)) e in
     let l = leb-true 2 q (b .0) in
@@ -68,7 +68,7 @@ pub record Acts (fs : List Frame) (P : Program) (n : ℕ) (w : List ℕ) (s : St
   pub says : Says w s
   pub shape : Shaped fs n s
   pub there : k < length (s .threads)
-  pub list : isSchedulerOf P c ≡ isList c
+  pub list : isSchedulerOf P c ≡ isScheduler c
 
 module _ {fs : List Frame} {P : Program} {n : ℕ} {w : List ℕ} {s : State} {c k : ℕ} (A : Acts fs P n w s c k) where
   -- the turn of that thread, with those cells and accesses so far
@@ -86,7 +86,7 @@ module _ {fs : List Frame} {P : Program} {n : ℕ} {w : List ℕ} {s : State} {c
   few : k < 64
   few = let a = A .shape .threads-room in let b = A .there in omega arith
 
-  pub list-there : (q : ℕ) → hasScheduler n q ≡ true → (q - 2 < length (s .schedulers)) × (isList q ≡ true)
+  pub list-there : (q : ℕ) → hasScheduler n q ≡ true → (q - 2 < length (s .schedulers)) × (isScheduler q ≡ true)
   list-there q e = scheduler-there (A .file) (A .shape) q e
 
   chosen-there : isSchedulerOf P c ≡ true → c - 2 < length (s .schedulers)
@@ -133,7 +133,7 @@ module _ {fs : List Frame} {P : Program} {n : ℕ} {w : List ℕ} {s : State} {c
           (λ b. if-yes _ _ (same ∙ b) ∙ ap (called 0 (suc k)) (is-pack _ _ (joined-says _ left left-is q (plain (suc k)) (z .1) (rw leave-count (z .0)) (short (leb-true _ 64 b)))))
           (λ b. if-no _ _ (same ∙ b) ∙ refuse-is 20 (wordsOf y) g l refl)
         where
-          z : (q - 2 < length (s .schedulers)) × (isList q ≡ true)
+          z : (q - 2 < length (s .schedulers)) × (isScheduler q ≡ true)
           z = list-there q e
 
           left : State

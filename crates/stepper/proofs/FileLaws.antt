@@ -1,21 +1,19 @@
 -- What a step needs to know of a file, from its frames. Assumes nothing.
 use Prim.Native.Nat.{ℕ, suc, _+_, _^_, _<_, _≤_}
-use mathlib.Core.Path.{_≡_, refl, sym, ap, _∙_}
+use mathlib.Core.Path.{_≡_, sym, ap, _∙_}
 use mathlib.Core.List.{List, _∷_}
-use mathlib.Core.Bool.{Bool, true, false, not, true≢false}
+use mathlib.Core.Bool.{Bool, true, false, not}
 use native.Mathlib.Omega.{arith}
-use lib.ListN.{getD, length, drop, drop-of-length-le}
+use lib.ListN.{getD, length, drop}
 use borrow.Author.Tests.{eq-eqb, ne-eqb, not-true, not-false}
 use Rattle.basics.proofs.Ifs.{if-yes, if-no}
-use Rattle.language.specs.declared.kind.Kind.{Kind}
-use Rattle.language.specs.declared.kind.Kind.the-variants.{Header, Shared, Module, Statement, Expression, Unknown}
+use Rattle.language.specs.Kinds.{isShared}
 use Rattle.language.specs.declared.frame.Frame.{Frame}
 use Rattle.text.specs.Frames.{frameOfWord, framesOf}
+use Rattle.text.proofs.FrameWords.{frames-length, frame-at, next-frame, frames-end}
 use Rattle.program.specs.Trees.{noFrame}
 use Rattle.program.specs.Programs.{sharedOf, allowanceOf, programOf}
-use Rattle.states.specs.Starts.{isShared}
-use Rattle.states.proofs.RangeLaws.{frame-at}
-use Rattle.commits.proofs.ModuleLaws.{frames-length, next-frame}
+use Rattle.program.proofs.OneMore.{shared-no, shared-yes}
 use Rattle.reach.proofs.Passed.{schedulers-range, some-frame}
 use Rattle.stepper.specs.declared.file.File.{File}
 use Rattle.stepper.specs.Files.{FileWords, fileOf}
@@ -33,30 +31,6 @@ module _ (a : ℕ) where
 pub ruleset allowance-laws = (allowance-none, allowance-some)
 
 -- ---- the shared cells
-count-no : (f : Frame) (fs : List Frame) → isShared (f .kind) ≡ false → length (sharedOf (f ∷ fs)) ≡ length (sharedOf fs)
-unfolding sharedOf
-count-no f fs e = by (f .kind) refl
-  where
-    by : (k : Kind) → f .kind ≡ k → length (sharedOf (f ∷ fs)) ≡ length (sharedOf fs)
-    by Shared q = absurd (true≢false (ap isShared (sym q) ∙ e))
-    by Header q = rw q refl
-    by Module q = rw q refl
-    by (Statement k) q = rw q refl
-    by (Expression k) q = rw q refl
-    by Unknown q = rw q refl
-
-count-yes : (f : Frame) (fs : List Frame) → isShared (f .kind) ≡ true → length (sharedOf (f ∷ fs)) ≡ suc (length (sharedOf fs))
-unfolding sharedOf
-count-yes f fs e = by (f .kind) refl
-  where
-    by : (k : Kind) → f .kind ≡ k → length (sharedOf (f ∷ fs)) ≡ suc (length (sharedOf fs))
-    by Shared q = rw q refl
-    by Header q = absurd (true≢false (sym e ∙ ap isShared q))
-    by Module q = absurd (true≢false (sym e ∙ ap isShared q))
-    by (Statement k) q = absurd (true≢false (sym e ∙ ap isShared q))
-    by (Expression k) q = absurd (true≢false (sym e ∙ ap isShared q))
-    by Unknown q = absurd (true≢false (sym e ∙ ap isShared q))
-
 -- i frames are read, and n shared cells were among them
 pub record Counting (words : List ℕ) (i n : ℕ) : Type 0 where
   pub sum : n + length (sharedOf (drop i (framesOf words))) ≡ length (sharedOf (framesOf words))
@@ -69,17 +43,17 @@ module _ (words : List ℕ) (i n : ℕ) (f : Frame) (t : Bool) (s : Counting wor
   here = next-frame words i f l e
 
   pub counting-other : not t ≡ true → Counting words (i + 1) n
-  counting-other h = record { sum = ap (λ (k : ℕ). n + k) (sym (ap (λ (fs : List Frame). length (sharedOf fs)) here ∙ count-no f _ (sym q ∙ not-true t h))) ∙ s .sum }
+  counting-other h = record { sum = ap (λ (k : ℕ). n + k) (sym (ap (λ (fs : List Frame). length (sharedOf fs)) here ∙ ap length (shared-no f _ (sym q ∙ not-true t h)))) ∙ s .sum }
 
   pub counting-one : not t ≡ false → Counting words (i + 1) (n + 1)
-  counting-one h = record { sum = moved (ap (λ (fs : List Frame). length (sharedOf fs)) here ∙ count-yes f _ (sym q ∙ not-false t h)) (s .sum) }
+  counting-one h = record { sum = moved (ap (λ (fs : List Frame). length (sharedOf fs)) here ∙ ap length (shared-yes f _ (sym q ∙ not-false t h))) (s .sum) }
     where
       moved : {a b m : ℕ} → a ≡ suc b → n + a ≡ m → n + 1 + b ≡ m
       moved x y = omega arith
 
 pub counting-end : (words : List ℕ) (i n : ℕ) → Counting words i n → length words ≤ i → n ≡ length (sharedOf (framesOf words))
 unfolding sharedOf
-counting-end words i n s l = all (ap (λ (fs : List Frame). length (sharedOf fs)) (drop-of-length-le (framesOf words) {i = i} (rw (frames-length words) l))) (s .sum)
+counting-end words i n s l = all (ap (λ (fs : List Frame). length (sharedOf fs)) (frames-end words i l)) (s .sum)
   where
     all : {a m : ℕ} → a ≡ 0 → n + a ≡ m → n ≡ m
     all x y = omega arith
@@ -90,7 +64,7 @@ module _ (words : List ℕ) (g : FileWords words) where
   file-some = let l = some-frame (g .laid-out) in let z = frames-length words in omega arith
 
   file-header : (f : Frame) → f ≡ frameOfWord (getD words 0 0) → f ≡ getD (framesOf words) 0 noFrame
-  file-header f e = e ∙ sym (frame-at words 0 file-some)
+  file-header f e = e ∙ sym (frame-at words 0 noFrame file-some)
 
 pub file-fits : (words : List ℕ) (f : Frame) → f ≡ frameOfWord (getD words 0 0) → FileWords words → f .b < 2 ^ 8
 file-fits words f e g =

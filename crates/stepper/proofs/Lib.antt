@@ -1,16 +1,20 @@
+-- Words to rules: what a refused turn takes back, each change and each fate of a commit.
 pub mod Grows
 pub mod Commits
 pub mod Fates
 pub mod StartFates
+-- The turn: by the kind of its top item, then whole (`turn-is`).
 pub mod Moves
 pub mod Arguments
 pub mod Variables
 pub mod Items
 pub mod Uses
 pub mod Threads
-pub mod StepLaws
+-- What words in range give to each call of the code.
+pub mod GoodWords
 pub mod ActLaws
 pub mod TurnLaws
 pub mod PartyLaws
+-- The public calls: the file, the answer.
 pub mod FileLaws
 pub mod AnswerLaws

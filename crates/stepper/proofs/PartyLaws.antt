@@ -8,7 +8,7 @@ use lib.ListN.{length, getD}
 use borrow.Author.Tests.{le-leb, lt-leb}
 use Rattle.basics.specs.Members.{All, more}
 use Rattle.basics.proofs.Ifs.{if-yes, if-no}
-use Rattle.language.specs.Places.{hasScheduler}
+use Rattle.language.specs.Places.{hasScheduler, isScheduler}
 use Rattle.text.specs.Frames.{framesOf}
 use Rattle.program.specs.Programs.{Program, programOf}
 use Rattle.machine.specs.State.{State, schedulerAt, withScheduler}
@@ -23,15 +23,15 @@ use Rattle.machine.proofs.Calls.{called-in}
 use Rattle.machine.proofs.KeptShape.{scheduler-fits, unlinked-is}
 use Rattle.states.specs.Lists.{readyWords, withInstantEnded}
 use Rattle.states.specs.Parties.{isUnlinkedWord}
-use Rattle.states.proofs.Schedulers.{first-says, room-says}
+use Rattle.states.proofs.SchedulerSays.{first-says, room-says}
 use Rattle.states.proofs.Instants.{instant-readies, instant-says, instant-none}
 use Rattle.states.proofs.PartyLaws.{unlinked-says}
-use Rattle.commits.specs.Commits.{called, isList}
+use Rattle.commits.specs.Commits.{called}
 use Rattle.commits.proofs.WritingLaws.{list-block}
 use Rattle.stepper.specs.declared.file.File.{File}
 use Rattle.stepper.specs.Files.{StepWords, stateIn, TurnChoice, fileOf}
 use Rattle.stepper.proofs.Fates.{scheduler-there}
-use Rattle.stepper.proofs.StepLaws.{fits-in, shaped, says, step-long, threads-few}
+use Rattle.stepper.proofs.GoodWords.{fits-in, shaped, says, step-long, threads-few}
 
 module _ (frames : List ℕ) (shared : ℕ) (w : List ℕ) (h : StepWords frames shared w) (c : ℕ) where
   abbrev P : Program
@@ -45,7 +45,7 @@ module _ (frames : List ℕ) (shared : ℕ) (w : List ℕ) (h : StepWords frames
 
   -- ---- a scheduler of the file
   module _ (e : isSchedulerOf P c ≡ true) where
-    there : (c - 2 < length (s .schedulers)) × (isList c ≡ true)
+    there : (c - 2 < length (s .schedulers)) × (isScheduler c ≡ true)
     unfolding isSchedulerOf
     there = scheduler-there (fits-in frames shared w h) (shaped frames shared w h) c e
 
@@ -167,7 +167,7 @@ module _ (frames : List ℕ) (shared : ℕ) (w : List ℕ) (h : StepWords frames
           pub thread-asks : (1 ≤ c - 16) × (c - 16 ≤ 64) × TurnChoice frames c
           thread-asks = (thread .0, thread .1, not-scheduler ∙ sym over)
             where
-              over : isList c ≡ false
+              over : isScheduler c ≡ false
               over = let z = thread in ap₂ _&&_ (le-leb 2 c (omega arith)) (lt-leb c 9 (omega arith))
 
           pub thread-byte : c - 16 < 256

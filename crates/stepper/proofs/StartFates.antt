@@ -11,7 +11,7 @@ use lib.Seq.{ext-getD}
 use borrow.Author.Tests.{leb-true, leb-false, le-ltb, lt-ltb, eqb-true, eqb-false, eq-eqb, ne-eqb, not-false}
 use Rattle.basics.specs.If.{if_then_else_}
 use Rattle.basics.proofs.Ifs.{if-all, if-yes, if-no}
-use Rattle.language.specs.Places.{hasPlace, hasScheduler}
+use Rattle.language.specs.Places.{hasPlace, hasScheduler, isScheduler}
 use Rattle.language.specs.declared.frame.Frame.{Frame}
 use Rattle.program.specs.Trees.{rootS}
 use Rattle.program.specs.Programs.{Program, moduleAt}
@@ -29,11 +29,11 @@ use Rattle.machine.proofs.Space.{leave-threads}
 use Rattle.machine.proofs.KeptShape.{leave-next, enlist-next, has-room, settled-length}
 use Rattle.states.specs.declared.thread.ThreadWords.{ThreadWords}
 use Rattle.states.specs.Threads.{wordsOf, withOneMore}
-use Rattle.states.proofs.Bridge.{add-says}
+use Rattle.states.proofs.ThreadSays.{add-says}
 use Rattle.acts.specs.Fates.{Turned}
 use Rattle.turns.specs.Acts.{startsWith, request}
 use Rattle.commits.specs.Modules.{foundIn}
-use Rattle.commits.specs.Commits.{called, settledIn, isList, leftIn, roomIn, joinedIn, newIn, obstacleIn, refusesIn, startsIn, startedIn, waitingIn}
+use Rattle.commits.specs.Commits.{called, settledIn, leftIn, roomIn, joinedIn, newIn, obstacleIn, refusesIn, startsIn, startedIn, waitingIn}
 use Rattle.stepper.proofs.Grows.{Grown}
 use Rattle.stepper.proofs.Commits.{withCellWords, cells-out, joined-says, room-is}
 use Rattle.stepper.proofs.Fates.{Acts, turnAt, commit, place-scheduler, list-there, leave-count, enlist-count, refuse-is, settled-is, left-is}
@@ -165,7 +165,7 @@ module _ {fs : List Frame} {P : Program} {n : ℕ} {w : List ℕ} {s : State} {c
 
   module _ (m : ℕ) (vs : List Value) (few : length (map valueWord vs) ≤ 2) (ob : obstacleIn v (foundIn P m) (x .place) (length vs) ≡ 0) (linked : unlinkedHere u ≡ false)
       (less : length (s .threads) < 64) where
-    list-here : (x .place - 2 < length (s .schedulers)) × (isList (x .place) ≡ true)
+    list-here : (x .place - 2 < length (s .schedulers)) × (isScheduler (x .place) ≡ true)
     list-here = list-there A (x .place) (linked-place linked)
 
     next-new : getD v 0 0 + 1 ≡ suc (length (s .threads))

@@ -29,7 +29,7 @@ use Rattle.stepper.proofs.Commits.{left-says}
 use Rattle.stepper.proofs.Fates.{scheduler-there, Acts}
 use Rattle.stepper.proofs.Items.{IsWho}
 use Rattle.stepper.proofs.Threads.{turn-is, turn-few}
-use Rattle.stepper.proofs.StepLaws.{fits-in, shaped, says, threads-few, index, in-list, fit, place-in, thread-read}
+use Rattle.stepper.proofs.GoodWords.{fits-in, shaped, says, threads-few, index, in-list, fit, place-in, thread-read}
 
 module _ (frames : List ℕ) (shared : ℕ) (w : List ℕ) (h : StepWords frames shared w) (t : ℕ) (low : 1 ≤ t) (c : ℕ) (choice : TurnChoice frames c) where
   abbrev P : Program

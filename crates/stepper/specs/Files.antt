@@ -4,6 +4,7 @@ use mathlib.Core.List.{List}
 use mathlib.Core.Bool.{true}
 use Prim.Native.Nat.{ℕ, _-_, _≤_}
 use lib.ListN.{length}
+use Rattle.language.specs.Places.{isScheduler}
 use Rattle.text.specs.Frames.{framesOf}
 use Rattle.program.specs.Programs.{Program, programOf}
 use Rattle.layout.specs.Faults.{NoFault}
@@ -18,7 +19,7 @@ use Rattle.states.specs.Threads.{wordsOf}
 use Rattle.acts.specs.declared.act.Acted.{Acted}
 use Rattle.acts.specs.Fates.{popped, turned, Room}
 use Rattle.turns.specs.Acts.{ActedOn, turnIn}
-use Rattle.commits.specs.Commits.{called, isList}
+use Rattle.commits.specs.Commits.{called}
 use Rattle.stepper.specs.declared.file.File.{File}
 use Rattle.stepper.specs.declared.party.Stepped.{Stepped}
 
@@ -45,7 +46,7 @@ pub record StepWords (frames : List ℕ) (shared : ℕ) (w : List ℕ) : Type 0 
 
 -- the choice of a turn: a scheduler of the file, or none at all
 abbrev pub TurnChoice : List ℕ → ℕ → Type 0
-TurnChoice frames c = isSchedulerOf (programOf (framesOf frames)) c ≡ isList c
+TurnChoice frames c = isSchedulerOf (programOf (framesOf frames)) c ≡ isScheduler c
 
 -- who acts in the turn of thread t
 abbrev pub whoIn : List ℕ → ℕ → List ℕ → ℕ → Who

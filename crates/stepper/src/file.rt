@@ -1,5 +1,5 @@
 // What a step needs to know of a file beside its frames.
-use states::fresh::is_shared;
+use language::kind::is_shared;
 use text::line::frame_of_word;
 ghost use mathlib.Core.Path.{_≡_};
 ghost use lib.ListN.{length};

@@ -1,6 +1,11 @@
+-- The digit table.
 pub mod Table
+-- The definition of a reading, and the function that computes it.
+pub mod Readings
+-- The code: a line, a line as a step of the scan, the whole text, the frame of an index.
 pub mod LineLaws
 pub mod LineScan
 pub mod ReadLaws
 pub mod FrameLaws
-pub mod Readings
+-- Frames as numbers, for the crates behind.
+pub mod FrameWords

@@ -10,16 +10,16 @@ use Rattle.language.specs.declared.kind.Kind.{Kind}
 use Rattle.language.specs.declared.kind.Kind.the-variants.{Header, Shared, Module, Statement, Expression, Unknown}
 use Rattle.language.specs.declared.frame.Frame.{Frame}
 use Rattle.text.specs.Frames.{frameOfWord, framesOf}
-use Rattle.program.specs.Trees.{Expr, Stmt, frameAt, arguments, expressionAt, statementOf, statementAt}
+use Rattle.text.proofs.FrameWords.{frame-at}
+use Rattle.program.specs.Trees.{Expr, Stmt, frameAt, arguments, expressionAt, statementOf, statementAt, noFrame}
 use Rattle.program.specs.Ordered.{Ordered}
 use Rattle.program.proofs.Decoding.{statement-at}
 use Rattle.rules.specs.Nodes.{statementNodeOf, statementNodeIn, statementNode}
 use Rattle.rules.specs.declared.node.StatementNode.{StatementNode}
 use Rattle.rules.specs.declared.node.StatementNode.the-variants as Y
-use Rattle.rules.proofs.NodeLaws.{frame-word}
 use Rattle.machine.specs.Evaluation.{eval, storing}
 use Rattle.machine.specs.Words.{valueWord}
-use Rattle.machine.proofs.Valid.{root-at}
+use Rattle.program.proofs.Roots.{statement-root}
 use Rattle.evaluator.specs.declared.operation.Who.{Who}
 use Rattle.evaluator.specs.declared.operation.Answered.{Answered}
 use Rattle.evaluator.specs.Results.{after, hereOf, onWords}
@@ -54,15 +54,15 @@ module _ (fw : List ℕ) (who : Who) (th : ThreadWords) (n : ℕ) (ws : List ℕ
 
   by-statement : (f : Frame) (k : StatementKind) → statementIn who th n ws (statementOf expr stmt i f (Statement k)) ≡ turnBy (statementNodeOf k (f .s) (f .a) (f .b) (f .c))
   by-statement f S.Nothing = refl
-  by-statement f S.Then = ap₂ (λ (x y : ℕ). actedOn (twoIn th n x y) ws) (root-at (framesOf fw) (f .a)) (root-at (framesOf fw) (f .b))
-  by-statement f S.DoAt = ap (λ (x : ℕ). actedOn (doesIn th n (f .s) x) ws) (root-at (framesOf fw) (f .a))
+  by-statement f S.Then = ap₂ (λ (x y : ℕ). actedOn (twoIn th n x y) ws) (statement-root (framesOf fw) (f .a)) (statement-root (framesOf fw) (f .b))
+  by-statement f S.DoAt = ap (λ (x : ℕ). actedOn (doesIn th n (f .s) x) ws) (statement-root (framesOf fw) (f .a))
   by-statement f S.Start = refl
   by-statement f S.StartWait = refl
   by-statement f S.Cooperate = refl
-  by-statement f S.Let = ap (λ (x : ℕ). letsOn th x (evaluatedIn who th (expr (f .a)) n ws)) (root-at (framesOf fw) (f .b))
+  by-statement f S.Let = ap (λ (x : ℕ). letsOn th x (evaluatedIn who th (expr (f .a)) n ws)) (statement-root (framesOf fw) (f .b))
   by-statement f S.Store = refl
-  by-statement f S.If = ap₂ (λ (x y : ℕ). choosesOn th x y (evaluatedIn who th (expr (f .a)) n ws)) (root-at (framesOf fw) (f .b)) (root-at (framesOf fw) (f .c))
-  by-statement f S.While = ap (λ (x : ℕ). loopsOn th x i (evaluatedIn who th (expr (f .a)) n ws)) (root-at (framesOf fw) (f .b))
+  by-statement f S.If = ap₂ (λ (x y : ℕ). choosesOn th x y (evaluatedIn who th (expr (f .a)) n ws)) (statement-root (framesOf fw) (f .b)) (statement-root (framesOf fw) (f .c))
+  by-statement f S.While = ap (λ (x : ℕ). loopsOn th x i (evaluatedIn who th (expr (f .a)) n ws)) (statement-root (framesOf fw) (f .b))
 
   by-kind : (f : Frame) (k : Kind) → statementIn who th n ws (statementOf expr stmt i f k) ≡ turnBy (statementNodeIn k f)
   by-kind f Header = refl
@@ -79,7 +79,7 @@ module _ (fw : List ℕ) (who : Who) (th : ThreadWords) (n : ℕ) (ws : List ℕ
       z
       ∙ sym (ap (statementIn who th n ws) (statement-at (framesOf fw) g i)
       ∙ by-kind (frameAt (framesOf fw) i) (frameAt (framesOf fw) i .kind)
-      ∙ ap (λ (x : Frame). turnBy (statementNode x)) (frame-word fw i l ∙ sym e)
+      ∙ ap (λ (x : Frame). turnBy (statementNode x)) (frame-at fw i noFrame l ∙ sym e)
       ∙ ap turnBy (sym k ∙ h))
 
 -- ---- in every thread that looks like the view: a law for each kind of statement

@@ -5,7 +5,7 @@ use Prim.Native.Nat.{ℕ, zero, suc, _<_}
 use native.Mathlib.Omega.{arith}
 use lib.ListN.{length, getD, length-map}
 use Rattle.basics.specs.Members.{All}
-use Rattle.language.specs.Kinds.{Child, children, childIn, uses}
+use Rattle.language.specs.Kinds.{Child, children, childIn}
 use Rattle.language.specs.declared.kind.StatementKind.{StatementKind}
 use Rattle.language.specs.declared.kind.StatementKind.the-variants as S
 use Rattle.language.specs.declared.kind.Kind.{Kind}
@@ -13,11 +13,12 @@ use Rattle.language.specs.declared.kind.Kind.the-variants.{Header, Shared, Modu
 use Rattle.language.specs.declared.kind.Use.{Use}
 use Rattle.language.specs.declared.frame.Frame.{Frame}
 use Rattle.text.specs.Frames.{frameOfWord, framesOf}
-use Rattle.program.specs.Trees.{frameAt}
+use Rattle.text.proofs.FrameWords.{frame-at}
+use Rattle.program.specs.Trees.{frameAt, noFrame}
+use Rattle.layout.proofs.Trees.{childrenAs}
 use Rattle.rules.specs.Nodes.{statementNodeOf, statementNodeIn, statementNode}
 use Rattle.rules.specs.declared.node.StatementNode.{StatementNode}
 use Rattle.rules.specs.declared.node.StatementNode.the-variants as Y
-use Rattle.rules.proofs.NodeLaws.{frame-word}
 use Rattle.turns.specs.declared.view.View.{View}
 use Rattle.turns.specs.Acts.{TurnWords}
 
@@ -43,7 +44,7 @@ module _ (m i : ℕ) (l : i < m) where
   under-arguments (suc a) (suc b) (All.more x (All.more y h)) = (omega arith, omega arith)
 
   under-statement : (f : Frame) (k : StatementKind)
-      → All (λ (c : Child). c .at < i) (childIn (uses (Statement k) .a) (f .a) ++ childIn (uses (Statement k) .b) (f .b) ++ childIn (uses (Statement k) .c) (f .c))
+      → All (λ (c : Child). c .at < i) (childrenAs (Statement k) f)
       → Under m (statementNodeOf k (f .s) (f .a) (f .b) (f .c))
   under-statement f S.Nothing h = tt
   under-statement f S.Then h = tt
@@ -56,7 +57,7 @@ module _ (m i : ℕ) (l : i < m) where
   under-statement f S.If (All.more x h) = omega arith
   under-statement f S.While (All.more x h) = omega arith
 
-  under-kind : (f : Frame) (k : Kind) → All (λ (c : Child). c .at < i) (childIn (uses k .a) (f .a) ++ childIn (uses k .b) (f .b) ++ childIn (uses k .c) (f .c)) → Under m (statementNodeIn k f)
+  under-kind : (f : Frame) (k : Kind) → All (λ (c : Child). c .at < i) (childrenAs k f) → Under m (statementNodeIn k f)
   under-kind f Header h = tt
   under-kind f Shared h = tt
   under-kind f Module h = tt
@@ -72,7 +73,7 @@ module _ (m i : ℕ) (l : i < m) where
 module _ (fw : List ℕ) (v : View) (vs : List ℕ) (n : ℕ) (ws : List ℕ) (i : ℕ) (f : Frame) (d : StatementNode) (k : d ≡ statementNode f) (e : f ≡ frameOfWord (getD fw i 0)) (g : TurnWords fw v vs n ws) (l : i < length fw) where
   under : (y : StatementNode) → d ≡ y → Under (length fw) y
   under y h =
-      subst (Under (length fw)) (ap statementNode (frame-word fw i l ∙ sym e) ∙ sym k ∙ h)
+      subst (Under (length fw)) (ap statementNode (frame-at fw i noFrame l ∙ sym e) ∙ sym k ∙ h)
       (under-frame (length fw) i l (frameAt (framesOf fw) i) (g .ordered i (rw length-map l)))
 
   pub start-a : (s a b : ℕ) → d ≡ Y.Start s a b → a < length fw

@@ -1,5 +1,5 @@
 -- `Place::new` meets its contract. Assumes nothing.
-use Rattle.language.proofs.Tests.{place-laws}
+use Rattle.language.proofs.PlaceLaws.{place-laws}
 use Rattle.language.proofs.Place.new.Statement.{statement}
 use Rattle.language.proofs.Place.new.Tie as tie
 

@@ -1,5 +1,5 @@
 -- `Place::scheduler` meets its contract. Assumes nothing.
-use Rattle.language.proofs.Tests.{scheduler-laws}
+use Rattle.language.proofs.PlaceLaws.{scheduler-laws}
 use Rattle.language.proofs.Place.scheduler.Statement.{statement}
 use Rattle.language.proofs.Place.scheduler.Tie as tie
 

@@ -1,5 +1,4 @@
 -- `check` meets its contract. Assumes nothing.
-use mathlib.Core.Path.{refl}
 use borrow.Author.Needs.{needs}
 use Rattle.rules.proofs.CheckLaws.{check-room, check-length, check-file, check-rejected, check-rules, promised-rejected, promised-rules}
 use Rattle.rules.proofs.check.check.Statement.{statement}
@@ -15,19 +14,19 @@ enum-told : tie.Need-enum-told
 enum-told c = search needs
 
 array-share-prefix-words : tie.Need-array-share-prefix-words
-array-share-prefix-words c = search (check-room, refl)
+array-share-prefix-words c = search check-room
 
 slice-aggregate-rules-of : tie.Need-slice-aggregate-rules-of
-slice-aggregate-rules-of c = search (check-length, refl)
+slice-aggregate-rules-of c = search check-length
 
 rules-of-requires : tie.Need-rules-of-requires
-rules-of-requires c κs = search (check-file, refl)
+rules-of-requires c κs = search check-file
 
 returns : tie.Need-returns
-returns c = (search (check-rejected, refl), search (promised-rejected, refl))
+returns c = (search check-rejected, search promised-rejected)
 
 returns-2 : tie.Need-returns-2
-returns-2 c = (search (check-rules, refl), search (promised-rules, refl))
+returns-2 c = (search check-rules, search promised-rules)
 
 pub check-spec : {M : Type 1} → statement M
 check-spec =

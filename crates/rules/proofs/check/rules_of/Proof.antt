@@ -1,8 +1,6 @@
 -- `rules_of` meets its contract. Assumes nothing.
-use mathlib.Core.Path.{_≡_, refl}
-use lib.ListN.{length}
 use borrow.Author.Needs.{needs}
-use Rattle.rules.proofs.CheckLaws.{tally-room, tally-length, rules-are}
+use Rattle.rules.proofs.TallyLaws.{tally-room, tally-length, rules-are}
 use Rattle.rules.proofs.check.rules_of.Statement.{statement}
 use Rattle.rules.proofs.check.rules_of.Tie as tie
 
@@ -13,10 +11,7 @@ array-share-prefix-types : tie.Need-array-share-prefix-types
 array-share-prefix-types c = search tally-room
 
 slice-aggregate-modules-rule : tie.Need-slice-aggregate-modules-rule
-slice-aggregate-modules-rule c =
-    let t = c .before .before .tally in
-    let wide : length (t .result .types) ≡ 16 = search needs in
-    search (tally-length, refl)
+slice-aggregate-modules-rule c = search tally-length
 
 modules-rule-requires : tie.Need-modules-rule-requires
 modules-rule-requires c κs = search needs

@@ -1,8 +1,9 @@
--- The recursion meets its contract: one law for each arm, and a child's number falls. Assumes nothing.
+-- `conduct_of`, the recursion, meets its contract: one law for each arm, and a child's number falls. Assumes nothing.
 use mathlib.Core.Path.{_≡_}
 use lib.ListN.{length}
 use borrow.Author.Needs.{needs}
-use Rattle.rules.proofs.StatementLaws.{run-laws, run-if, if-c-falls, if-c-in, if-c-room, run-let, let-adds, statement-falls, statement-in, statement-room, room-fits, let-fits, start-first, start-second, wait-first, wait-second}
+use Rattle.rules.proofs.DescentLaws.{seq-a-falls, seq-a-in, seq-a-room, seq-b-falls, seq-b-in, seq-b-room, do-a-falls, do-a-in, do-a-room, let-a-in, let-b-falls, let-b-in, let-b-room, let-fits, let-adds, store-a-in, store-b-in, if-a-in, if-b-falls, if-b-in, if-b-room, if-c-falls, if-c-in, if-c-room, while-a-in, while-b-falls, while-b-in, while-b-room, start-first, start-second, wait-first, wait-second, room-fits}
+use Rattle.rules.proofs.ConductLaws.{run-nothing, run-cooperate, run-seq, run-do, run-start, run-wait, run-let-fault, run-let, run-store, run-if, run-while}
 use Prim.Native.Nat.{ℕ, _<_}
 use borrow.Fn.Kinds.{In}
 use borrow.Fn.PlainCycle.{Measures, is, falls, and}
@@ -41,9 +42,6 @@ conduct-of-below t =
 abbrev conduct-of-calls : ℕ → conduct-of-lts.Claims
 conduct-of-calls t = (frame-of-word-reads.Asked, frame-of-word-reads.Learnt, statement-node-reads.Asked, statement-node-reads.Learnt, none-reads.Asked, none-reads.Learnt, cooperate-rule-reads.Asked, cooperate-rule-reads.Learnt, conduct-of-below t, conduct-of.Post, seq-rule-reads.Asked, seq-rule-reads.Learnt, is-linked-reads.Asked, is-linked-reads.Learnt, do-rule-reads.Asked, do-rule-reads.Learnt, arguments-of-reads.Asked, arguments-of-reads.Learnt, start-rule-reads.Asked, start-rule-reads.Learnt, type-in-reads.Asked, type-in-reads.Learnt, extended-reads.Asked, extended-reads.Learnt, join-rule-reads.Asked, join-rule-reads.Learnt, store-rule-reads.Asked, store-rule-reads.Learnt, if-else-rule-reads.Asked, if-else-rule-reads.Learnt, while-rule-reads.Asked, while-rule-reads.Learnt)
 
-conduct-of-cast-at : (t : ℕ) → conduct-of-lts.Need-cast-at (conduct-of-calls t) (conduct-of-at t) conduct-of.Post
-conduct-of-cast-at t c = search needs
-
 conduct-of-mul-frame-of-word : (t : ℕ) → conduct-of-lts.Need-mul-frame-of-word (conduct-of-calls t) (conduct-of-at t) conduct-of.Post
 conduct-of-mul-frame-of-word t c = search needs
 
@@ -68,41 +66,32 @@ conduct-of-enum-told-2 t c = search needs
 conduct-of-cooperate-rule-requires : (t : ℕ) → conduct-of-lts.Need-cooperate-rule-requires (conduct-of-calls t) (conduct-of-at t) conduct-of.Post
 conduct-of-cooperate-rule-requires t c = λ κs. search needs
 
-conduct-of-enum-known-node : (t : ℕ) → conduct-of-lts.Need-enum-known-node (conduct-of-calls t) (conduct-of-at t) conduct-of.Post
-conduct-of-enum-known-node t c = search needs
-
-conduct-of-cast-conduct-of : (t : ℕ) → conduct-of-lts.Need-cast-conduct-of (conduct-of-calls t) (conduct-of-at t) conduct-of.Post
-conduct-of-cast-conduct-of t c = search needs
+conduct-of-enum-known-a : (t : ℕ) → conduct-of-lts.Need-enum-known-a (conduct-of-calls t) (conduct-of-at t) conduct-of.Post
+conduct-of-enum-known-a t c = search needs
 
 conduct-of-conduct-of-requires : (t : ℕ) → conduct-of-lts.Need-conduct-of-requires (conduct-of-calls t) (conduct-of-at t) conduct-of.Post
-conduct-of-conduct-of-requires t c = λ κs. (search statement-falls, (search statement-in, search statement-room))
-
-conduct-of-cast-conduct-of-2 : (t : ℕ) → conduct-of-lts.Need-cast-conduct-of-2 (conduct-of-calls t) (conduct-of-at t) conduct-of.Post
-conduct-of-cast-conduct-of-2 t c = search needs
+conduct-of-conduct-of-requires t c = λ κs. (search seq-a-falls, (search seq-a-in, search seq-a-room))
 
 conduct-of-conduct-of-requires-2 : (t : ℕ) → conduct-of-lts.Need-conduct-of-requires-2 (conduct-of-calls t) (conduct-of-at t) conduct-of.Post
-conduct-of-conduct-of-requires-2 t c = λ κs. (search statement-falls, (search statement-in, search statement-room))
+conduct-of-conduct-of-requires-2 t c = λ κs. (search seq-b-falls, (search seq-b-in, search seq-b-room))
 
 conduct-of-seq-rule-requires : (t : ℕ) → conduct-of-lts.Need-seq-rule-requires (conduct-of-calls t) (conduct-of-at t) conduct-of.Post
 conduct-of-seq-rule-requires t c = λ κs. search needs
 
-conduct-of-enum-known-node-2 : (t : ℕ) → conduct-of-lts.Need-enum-known-node-2 (conduct-of-calls t) (conduct-of-at t) conduct-of.Post
-conduct-of-enum-known-node-2 t c = search needs
+conduct-of-enum-known-s : (t : ℕ) → conduct-of-lts.Need-enum-known-s (conduct-of-calls t) (conduct-of-at t) conduct-of.Post
+conduct-of-enum-known-s t c = search needs
 
 conduct-of-is-linked-requires : (t : ℕ) → conduct-of-lts.Need-is-linked-requires (conduct-of-calls t) (conduct-of-at t) conduct-of.Post
 conduct-of-is-linked-requires t c = λ κs. search needs
 
-conduct-of-cast-conduct-of-3 : (t : ℕ) → conduct-of-lts.Need-cast-conduct-of-3 (conduct-of-calls t) (conduct-of-at t) conduct-of.Post
-conduct-of-cast-conduct-of-3 t c = search needs
-
 conduct-of-conduct-of-requires-3 : (t : ℕ) → conduct-of-lts.Need-conduct-of-requires-3 (conduct-of-calls t) (conduct-of-at t) conduct-of.Post
-conduct-of-conduct-of-requires-3 t c = λ κs. (search statement-falls, (search statement-in, search statement-room))
+conduct-of-conduct-of-requires-3 t c = λ κs. (search do-a-falls, (search do-a-in, search do-a-room))
 
 conduct-of-do-rule-requires : (t : ℕ) → conduct-of-lts.Need-do-rule-requires (conduct-of-calls t) (conduct-of-at t) conduct-of.Post
 conduct-of-do-rule-requires t c = λ κs. search needs
 
-conduct-of-enum-known-node-3 : (t : ℕ) → conduct-of-lts.Need-enum-known-node-3 (conduct-of-calls t) (conduct-of-at t) conduct-of.Post
-conduct-of-enum-known-node-3 t c = search needs
+conduct-of-enum-known-s-2 : (t : ℕ) → conduct-of-lts.Need-enum-known-s-2 (conduct-of-calls t) (conduct-of-at t) conduct-of.Post
+conduct-of-enum-known-s-2 t c = search needs
 
 conduct-of-arguments-of-requires : (t : ℕ) → conduct-of-lts.Need-arguments-of-requires (conduct-of-calls t) (conduct-of-at t) conduct-of.Post
 conduct-of-arguments-of-requires t c = λ κs. (search needs, search room-fits, search start-first, search start-second)
@@ -110,8 +99,8 @@ conduct-of-arguments-of-requires t c = λ κs. (search needs, search room-fits, 
 conduct-of-start-rule-requires : (t : ℕ) → conduct-of-lts.Need-start-rule-requires (conduct-of-calls t) (conduct-of-at t) conduct-of.Post
 conduct-of-start-rule-requires t c = λ κs. search needs
 
-conduct-of-enum-known-node-4 : (t : ℕ) → conduct-of-lts.Need-enum-known-node-4 (conduct-of-calls t) (conduct-of-at t) conduct-of.Post
-conduct-of-enum-known-node-4 t c = search needs
+conduct-of-enum-known-s-3 : (t : ℕ) → conduct-of-lts.Need-enum-known-s-3 (conduct-of-calls t) (conduct-of-at t) conduct-of.Post
+conduct-of-enum-known-s-3 t c = search needs
 
 conduct-of-arguments-of-requires-2 : (t : ℕ) → conduct-of-lts.Need-arguments-of-requires-2 (conduct-of-calls t) (conduct-of-at t) conduct-of.Post
 conduct-of-arguments-of-requires-2 t c = λ κs. (search needs, search room-fits, search wait-first, search wait-second)
@@ -119,14 +108,11 @@ conduct-of-arguments-of-requires-2 t c = λ κs. (search needs, search room-fits
 conduct-of-start-rule-requires-2 : (t : ℕ) → conduct-of-lts.Need-start-rule-requires-2 (conduct-of-calls t) (conduct-of-at t) conduct-of.Post
 conduct-of-start-rule-requires-2 t c = λ κs. search needs
 
-conduct-of-enum-known-node-5 : (t : ℕ) → conduct-of-lts.Need-enum-known-node-5 (conduct-of-calls t) (conduct-of-at t) conduct-of.Post
-conduct-of-enum-known-node-5 t c = search needs
-
-conduct-of-cast-type-in : (t : ℕ) → conduct-of-lts.Need-cast-type-in (conduct-of-calls t) (conduct-of-at t) conduct-of.Post
-conduct-of-cast-type-in t c = search needs
+conduct-of-enum-known-a-2 : (t : ℕ) → conduct-of-lts.Need-enum-known-a-2 (conduct-of-calls t) (conduct-of-at t) conduct-of.Post
+conduct-of-enum-known-a-2 t c = search needs
 
 conduct-of-type-in-requires : (t : ℕ) → conduct-of-lts.Need-type-in-requires (conduct-of-calls t) (conduct-of-at t) conduct-of.Post
-conduct-of-type-in-requires t c = λ κs. (search statement-in, search room-fits)
+conduct-of-type-in-requires t c = λ κs. (search let-a-in, search room-fits)
 
 conduct-of-enum-known-m : (t : ℕ) → conduct-of-lts.Need-enum-known-m (conduct-of-calls t) (conduct-of-at t) conduct-of.Post
 conduct-of-enum-known-m t c = search needs
@@ -140,50 +126,32 @@ conduct-of-extended-requires t c = λ κs. search let-fits
 conduct-of-add-conduct-of : (t : ℕ) → conduct-of-lts.Need-add-conduct-of (conduct-of-calls t) (conduct-of-at t) conduct-of.Post
 conduct-of-add-conduct-of t c = record { fits = search let-adds }
 
-conduct-of-cast-conduct-of-4 : (t : ℕ) → conduct-of-lts.Need-cast-conduct-of-4 (conduct-of-calls t) (conduct-of-at t) conduct-of.Post
-conduct-of-cast-conduct-of-4 t c = search needs
-
 conduct-of-conduct-of-requires-4 : (t : ℕ) → conduct-of-lts.Need-conduct-of-requires-4 (conduct-of-calls t) (conduct-of-at t) conduct-of.Post
-conduct-of-conduct-of-requires-4 t c = λ κs. (search statement-falls, (search statement-in, search statement-room))
+conduct-of-conduct-of-requires-4 t c = λ κs. (search let-b-falls, (search let-b-in, search let-b-room))
 
 conduct-of-join-rule-requires : (t : ℕ) → conduct-of-lts.Need-join-rule-requires (conduct-of-calls t) (conduct-of-at t) conduct-of.Post
 conduct-of-join-rule-requires t c = λ κs. search needs
 
-conduct-of-enum-known-node-6 : (t : ℕ) → conduct-of-lts.Need-enum-known-node-6 (conduct-of-calls t) (conduct-of-at t) conduct-of.Post
-conduct-of-enum-known-node-6 t c = search needs
-
-conduct-of-cast-type-in-2 : (t : ℕ) → conduct-of-lts.Need-cast-type-in-2 (conduct-of-calls t) (conduct-of-at t) conduct-of.Post
-conduct-of-cast-type-in-2 t c = search needs
+conduct-of-enum-known-a-3 : (t : ℕ) → conduct-of-lts.Need-enum-known-a-3 (conduct-of-calls t) (conduct-of-at t) conduct-of.Post
+conduct-of-enum-known-a-3 t c = search needs
 
 conduct-of-type-in-requires-2 : (t : ℕ) → conduct-of-lts.Need-type-in-requires-2 (conduct-of-calls t) (conduct-of-at t) conduct-of.Post
-conduct-of-type-in-requires-2 t c = λ κs. (search statement-in, search room-fits)
-
-conduct-of-cast-type-in-3 : (t : ℕ) → conduct-of-lts.Need-cast-type-in-3 (conduct-of-calls t) (conduct-of-at t) conduct-of.Post
-conduct-of-cast-type-in-3 t c = search needs
+conduct-of-type-in-requires-2 t c = λ κs. (search store-a-in, search room-fits)
 
 conduct-of-type-in-requires-3 : (t : ℕ) → conduct-of-lts.Need-type-in-requires-3 (conduct-of-calls t) (conduct-of-at t) conduct-of.Post
-conduct-of-type-in-requires-3 t c = λ κs. (search statement-in, search room-fits)
+conduct-of-type-in-requires-3 t c = λ κs. (search store-b-in, search room-fits)
 
 conduct-of-store-rule-requires : (t : ℕ) → conduct-of-lts.Need-store-rule-requires (conduct-of-calls t) (conduct-of-at t) conduct-of.Post
 conduct-of-store-rule-requires t c = λ κs. search needs
 
-conduct-of-enum-known-node-7 : (t : ℕ) → conduct-of-lts.Need-enum-known-node-7 (conduct-of-calls t) (conduct-of-at t) conduct-of.Post
-conduct-of-enum-known-node-7 t c = search needs
-
-conduct-of-cast-type-in-4 : (t : ℕ) → conduct-of-lts.Need-cast-type-in-4 (conduct-of-calls t) (conduct-of-at t) conduct-of.Post
-conduct-of-cast-type-in-4 t c = search needs
+conduct-of-enum-known-a-4 : (t : ℕ) → conduct-of-lts.Need-enum-known-a-4 (conduct-of-calls t) (conduct-of-at t) conduct-of.Post
+conduct-of-enum-known-a-4 t c = search needs
 
 conduct-of-type-in-requires-4 : (t : ℕ) → conduct-of-lts.Need-type-in-requires-4 (conduct-of-calls t) (conduct-of-at t) conduct-of.Post
-conduct-of-type-in-requires-4 t c = λ κs. (search statement-in, search room-fits)
-
-conduct-of-cast-conduct-of-5 : (t : ℕ) → conduct-of-lts.Need-cast-conduct-of-5 (conduct-of-calls t) (conduct-of-at t) conduct-of.Post
-conduct-of-cast-conduct-of-5 t c = search needs
+conduct-of-type-in-requires-4 t c = λ κs. (search if-a-in, search room-fits)
 
 conduct-of-conduct-of-requires-5 : (t : ℕ) → conduct-of-lts.Need-conduct-of-requires-5 (conduct-of-calls t) (conduct-of-at t) conduct-of.Post
-conduct-of-conduct-of-requires-5 t c = λ κs. (search statement-falls, (search statement-in, search statement-room))
-
-conduct-of-cast-conduct-of-6 : (t : ℕ) → conduct-of-lts.Need-cast-conduct-of-6 (conduct-of-calls t) (conduct-of-at t) conduct-of.Post
-conduct-of-cast-conduct-of-6 t c = search needs
+conduct-of-conduct-of-requires-5 t c = λ κs. (search if-b-falls, (search if-b-in, search if-b-room))
 
 conduct-of-conduct-of-requires-6 : (t : ℕ) → conduct-of-lts.Need-conduct-of-requires-6 (conduct-of-calls t) (conduct-of-at t) conduct-of.Post
 conduct-of-conduct-of-requires-6 t c = λ κs. (search if-c-falls, (search if-c-in, search if-c-room))
@@ -191,45 +159,40 @@ conduct-of-conduct-of-requires-6 t c = λ κs. (search if-c-falls, (search if-c-
 conduct-of-if-else-rule-requires : (t : ℕ) → conduct-of-lts.Need-if-else-rule-requires (conduct-of-calls t) (conduct-of-at t) conduct-of.Post
 conduct-of-if-else-rule-requires t c = λ κs. search needs
 
-conduct-of-enum-known-node-8 : (t : ℕ) → conduct-of-lts.Need-enum-known-node-8 (conduct-of-calls t) (conduct-of-at t) conduct-of.Post
-conduct-of-enum-known-node-8 t c = search needs
-
-conduct-of-cast-type-in-5 : (t : ℕ) → conduct-of-lts.Need-cast-type-in-5 (conduct-of-calls t) (conduct-of-at t) conduct-of.Post
-conduct-of-cast-type-in-5 t c = search needs
+conduct-of-enum-known-a-5 : (t : ℕ) → conduct-of-lts.Need-enum-known-a-5 (conduct-of-calls t) (conduct-of-at t) conduct-of.Post
+conduct-of-enum-known-a-5 t c = search needs
 
 conduct-of-type-in-requires-5 : (t : ℕ) → conduct-of-lts.Need-type-in-requires-5 (conduct-of-calls t) (conduct-of-at t) conduct-of.Post
-conduct-of-type-in-requires-5 t c = λ κs. (search statement-in, search room-fits)
-
-conduct-of-cast-conduct-of-7 : (t : ℕ) → conduct-of-lts.Need-cast-conduct-of-7 (conduct-of-calls t) (conduct-of-at t) conduct-of.Post
-conduct-of-cast-conduct-of-7 t c = search needs
+conduct-of-type-in-requires-5 t c = λ κs. (search while-a-in, search room-fits)
 
 conduct-of-conduct-of-requires-7 : (t : ℕ) → conduct-of-lts.Need-conduct-of-requires-7 (conduct-of-calls t) (conduct-of-at t) conduct-of.Post
-conduct-of-conduct-of-requires-7 t c = λ κs. (search statement-falls, (search statement-in, search statement-room))
+conduct-of-conduct-of-requires-7 t c = λ κs. (search while-b-falls, (search while-b-in, search while-b-room))
 
 conduct-of-while-rule-requires : (t : ℕ) → conduct-of-lts.Need-while-rule-requires (conduct-of-calls t) (conduct-of-at t) conduct-of.Post
 conduct-of-while-rule-requires t c = λ κs. search needs
 
 conduct-of-returns : (t : ℕ) → conduct-of-lts.Need-returns (conduct-of-calls t) (conduct-of-at t) conduct-of.Post
-conduct-of-returns t c = search run-laws
+conduct-of-returns t c = search run-nothing
 
 conduct-of-returns-2 : (t : ℕ) → conduct-of-lts.Need-returns-2 (conduct-of-calls t) (conduct-of-at t) conduct-of.Post
-conduct-of-returns-2 t c = search run-laws
+conduct-of-returns-2 t c = search run-cooperate
 
 conduct-of-returns-3 : (t : ℕ) → conduct-of-lts.Need-returns-3 (conduct-of-calls t) (conduct-of-at t) conduct-of.Post
-conduct-of-returns-3 t c = search run-laws
+conduct-of-returns-3 t c = search run-seq
 
 conduct-of-returns-4 : (t : ℕ) → conduct-of-lts.Need-returns-4 (conduct-of-calls t) (conduct-of-at t) conduct-of.Post
-conduct-of-returns-4 t c = search run-laws
+conduct-of-returns-4 t c = search run-do
 
 conduct-of-returns-5 : (t : ℕ) → conduct-of-lts.Need-returns-5 (conduct-of-calls t) (conduct-of-at t) conduct-of.Post
-conduct-of-returns-5 t c = search run-laws
+conduct-of-returns-5 t c = search run-start
 
 conduct-of-returns-6 : (t : ℕ) → conduct-of-lts.Need-returns-6 (conduct-of-calls t) (conduct-of-at t) conduct-of.Post
-conduct-of-returns-6 t c = search run-laws
+conduct-of-returns-6 t c = search run-wait
 
 conduct-of-returns-7 : (t : ℕ) → conduct-of-lts.Need-returns-7 (conduct-of-calls t) (conduct-of-at t) conduct-of.Post
-conduct-of-returns-7 t c = search run-laws
+conduct-of-returns-7 t c = search run-let-fault
 
+-- the array's length is no hypothesis: it is asked for at the function's start
 conduct-of-returns-8 : (t : ℕ) → conduct-of-lts.Need-returns-8 (conduct-of-calls t) (conduct-of-at t) conduct-of.Post
 conduct-of-returns-8 t c =
     let at = c .before .before .before .before .before .before .before .before .before .before .before .before .before .before .before .before in
@@ -237,8 +200,9 @@ conduct-of-returns-8 t c =
     search run-let
 
 conduct-of-returns-9 : (t : ℕ) → conduct-of-lts.Need-returns-9 (conduct-of-calls t) (conduct-of-at t) conduct-of.Post
-conduct-of-returns-9 t c = search run-laws
+conduct-of-returns-9 t c = search run-store
 
+-- a search enters at most 128 records, so that what stands at the function's start is named
 conduct-of-returns-10 : (t : ℕ) → conduct-of-lts.Need-returns-10 (conduct-of-calls t) (conduct-of-at t) conduct-of.Post
 conduct-of-returns-10 t c =
     let at = c .before .before .before .before .before .before .before .before .before .before .before .before .before in
@@ -246,13 +210,12 @@ conduct-of-returns-10 t c =
     search run-if
 
 conduct-of-returns-11 : (t : ℕ) → conduct-of-lts.Need-returns-11 (conduct-of-calls t) (conduct-of-at t) conduct-of.Post
-conduct-of-returns-11 t c = search run-laws
+conduct-of-returns-11 t c = search run-while
 
 pub +conduct-of-spec : {M : Type 1} → statement M
 +conduct-of-spec = close μ-conduct-of λ t. conduct-of-lts.spec (conduct-of-calls t)
     (conduct-of-at t)
     conduct-of.Post
-    (conduct-of-cast-at t)
     (conduct-of-mul-frame-of-word t)
     (conduct-of-shared-slice-read-frame-of-word t)
     (conduct-of-frame-of-word-requires t)
@@ -261,51 +224,39 @@ pub +conduct-of-spec : {M : Type 1} → statement M
     (conduct-of-none-requires t)
     (conduct-of-enum-told-2 t)
     (conduct-of-cooperate-rule-requires t)
-    (conduct-of-enum-known-node t)
-    (conduct-of-cast-conduct-of t)
+    (conduct-of-enum-known-a t)
     (conduct-of-conduct-of-requires t)
-    (conduct-of-cast-conduct-of-2 t)
     (conduct-of-conduct-of-requires-2 t)
     (conduct-of-seq-rule-requires t)
-    (conduct-of-enum-known-node-2 t)
+    (conduct-of-enum-known-s t)
     (conduct-of-is-linked-requires t)
-    (conduct-of-cast-conduct-of-3 t)
     (conduct-of-conduct-of-requires-3 t)
     (conduct-of-do-rule-requires t)
-    (conduct-of-enum-known-node-3 t)
+    (conduct-of-enum-known-s-2 t)
     (conduct-of-arguments-of-requires t)
     (conduct-of-start-rule-requires t)
-    (conduct-of-enum-known-node-4 t)
+    (conduct-of-enum-known-s-3 t)
     (conduct-of-arguments-of-requires-2 t)
     (conduct-of-start-rule-requires-2 t)
-    (conduct-of-enum-known-node-5 t)
-    (conduct-of-cast-type-in t)
+    (conduct-of-enum-known-a-2 t)
     (conduct-of-type-in-requires t)
     (conduct-of-enum-known-m t)
     (conduct-of-enum-known-t t)
     (conduct-of-extended-requires t)
     (conduct-of-add-conduct-of t)
-    (conduct-of-cast-conduct-of-4 t)
     (conduct-of-conduct-of-requires-4 t)
     (conduct-of-join-rule-requires t)
-    (conduct-of-enum-known-node-6 t)
-    (conduct-of-cast-type-in-2 t)
+    (conduct-of-enum-known-a-3 t)
     (conduct-of-type-in-requires-2 t)
-    (conduct-of-cast-type-in-3 t)
     (conduct-of-type-in-requires-3 t)
     (conduct-of-store-rule-requires t)
-    (conduct-of-enum-known-node-7 t)
-    (conduct-of-cast-type-in-4 t)
+    (conduct-of-enum-known-a-4 t)
     (conduct-of-type-in-requires-4 t)
-    (conduct-of-cast-conduct-of-5 t)
     (conduct-of-conduct-of-requires-5 t)
-    (conduct-of-cast-conduct-of-6 t)
     (conduct-of-conduct-of-requires-6 t)
     (conduct-of-if-else-rule-requires t)
-    (conduct-of-enum-known-node-8 t)
-    (conduct-of-cast-type-in-5 t)
+    (conduct-of-enum-known-a-5 t)
     (conduct-of-type-in-requires-5 t)
-    (conduct-of-cast-conduct-of-7 t)
     (conduct-of-conduct-of-requires-7 t)
     (conduct-of-while-rule-requires t)
     (conduct-of-returns t)

@@ -1,6 +1,6 @@
 -- `arguments_of` meets its contract. Assumes nothing.
 use borrow.Author.Needs.{needs}
-use Rattle.rules.proofs.StatementLaws.{arguments-laws, argument-in, further-in}
+use Rattle.rules.proofs.ConductLaws.{arguments-laws, argument-in, further-in}
 use Rattle.rules.proofs.conduct.arguments_of.Statement.{statement}
 use Rattle.rules.proofs.conduct.arguments_of.Tie as tie
 

@@ -1,6 +1,6 @@
 -- `is_linked` meets its contract. Assumes nothing.
 use borrow.Author.Needs.{needs}
-use Rattle.rules.proofs.StatementLaws.{linked-laws}
+use Rattle.rules.proofs.ConductLaws.{linked-laws}
 use Rattle.rules.proofs.conduct.is_linked.Statement.{statement}
 use Rattle.rules.proofs.conduct.is_linked.Tie as tie
 

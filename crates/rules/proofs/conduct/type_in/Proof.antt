@@ -2,7 +2,7 @@
 use mathlib.Core.Path.{_≡_}
 use lib.ListN.{length}
 use borrow.Author.Needs.{needs}
-use Rattle.rules.proofs.StatementLaws.{scope-length}
+use Rattle.rules.proofs.Lists.{prefix-length}
 use Rattle.rules.proofs.conduct.type_in.Statement.{statement}
 use Rattle.rules.proofs.conduct.type_in.Tie as tie
 
@@ -12,8 +12,8 @@ array-share-prefix-scope c = search needs
 slice-aggregate-type-of : tie.Need-slice-aggregate-type-of
 slice-aggregate-type-of c =
     let at = c .before .before .before in
-    let l : length (at .args .t3) ≡ 25 = search needs in
-    scope-length (at .args .t3) (at .args .n) l (at .pre .1)
+    let wide : length (at .args .t3) ≡ 25 = search needs in
+    prefix-length (at .args .t3) (at .args .n) wide (at .pre .1)
 
 type-of-requires : tie.Need-type-of-requires
 type-of-requires c κs = search needs

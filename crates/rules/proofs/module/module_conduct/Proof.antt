@@ -2,7 +2,8 @@
 use mathlib.Core.Path.{_≡_}
 use lib.ListN.{length}
 use borrow.Author.Needs.{needs}
-use Rattle.rules.proofs.ModuleLaws.{conduct-is, below-length}
+use Rattle.rules.proofs.Lists.{prefix-length}
+use Rattle.rules.proofs.ModuleLaws.{conduct-is}
 use Rattle.rules.proofs.module.module_conduct.Statement.{statement}
 use Rattle.rules.proofs.module.module_conduct.Tie as tie
 
@@ -15,17 +16,14 @@ array-write-scope-2 c = search needs
 cast-n : tie.Need-cast-n
 cast-n c = search needs
 
-cast-a : tie.Need-cast-a
-cast-a c = search needs
-
 array-share-prefix-below : tie.Need-array-share-prefix-below
 array-share-prefix-below c = search needs
 
 slice-aggregate-conduct-of : tie.Need-slice-aggregate-conduct-of
 slice-aggregate-conduct-of c =
-    let at = c .before .before .before .before .before in
+    let at = c .before .before .before .before in
     let wide : length (at .args .t3) ≡ 16 = search needs in
-    below-length (at .args .t3) (at .args .m) wide (at .pre .3)
+    prefix-length (at .args .t3) (at .args .m) wide (at .pre .3)
 
 conduct-of-requires : tie.Need-conduct-of-requires
 conduct-of-requires c κs = search needs
@@ -40,7 +38,6 @@ module-conduct-spec =
     array-write-scope
     array-write-scope-2
     cast-n
-    cast-a
     array-share-prefix-below
     slice-aggregate-conduct-of
     conduct-of-requires

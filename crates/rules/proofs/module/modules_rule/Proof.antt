@@ -2,7 +2,7 @@
 use Prim.Native.Nat.{_-_}
 use lib.ListN.{length}
 use borrow.Author.Needs.{needs}
-use Rattle.rules.proofs.ModuleLaws.{Judging, judge-start, judge-index, judge-few, judge-most, judge-wide, judge-fits, judge-parameters, judge-body, judge-room, judge-next, judge-fails, judge-main, judge-more, judge-falls, judge-add, file-first}
+use Rattle.rules.proofs.ModuleLaws.{Judging, judge-start, judge-index, judge-few, judge-most, judge-fits, judge-parameters, judge-body, judge-room, judge-next, judge-fails, judge-main, judge-more, judge-falls, judge-add, file-first}
 use Rattle.rules.proofs.module.modules_rule.Statement.{statement}
 use Rattle.rules.proofs.module.modules_rule.Tie as tie
 
@@ -43,7 +43,7 @@ mul-below : tie.Need-mul-below Inv-loop μ-loop
 mul-below c = search (judge-few, judge-index, needs)
 
 array-write-below : tie.Need-array-write-below Inv-loop μ-loop
-array-write-below c = search (judge-few, judge-wide, needs)
+array-write-below c = search (judge-few, needs)
 
 add-m : tie.Need-add-m Inv-loop μ-loop
 add-m c = record { fits = search judge-add }
@@ -76,7 +76,7 @@ cast-main-rule : tie.Need-cast-main-rule Inv-loop μ-loop
 cast-main-rule c = record { fits = search judge-fits }
 
 main-rule-requires : tie.Need-main-rule-requires Inv-loop μ-loop
-main-rule-requires c κs = search (judge-few, judge-index, needs)
+main-rule-requires c κs = search needs
 
 returns-2 : tie.Need-returns-2 Inv-loop μ-loop
 returns-2 c = search judge-fails

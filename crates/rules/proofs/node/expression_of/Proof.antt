@@ -1,5 +1,4 @@
 -- `expression_of` meets its contract. Assumes nothing.
-use mathlib.Core.Path.{refl}
 use borrow.Author.Needs.{needs}
 use Rattle.rules.proofs.NodeLaws.{expression-row}
 use Rattle.rules.proofs.node.expression_of.Statement.{statement}
@@ -39,25 +38,25 @@ returns-2 : tie.Need-returns-2
 returns-2 c = search needs
 
 returns-3 : tie.Need-returns-3
-returns-3 c = search (expression-row, refl)
+returns-3 c = search expression-row
 
 returns-4 : tie.Need-returns-4
-returns-4 c = search (expression-row, refl)
+returns-4 c = search expression-row
 
 returns-5 : tie.Need-returns-5
-returns-5 c = search (expression-row, refl)
+returns-5 c = search expression-row
 
 returns-6 : tie.Need-returns-6
-returns-6 c = search (expression-row, refl)
+returns-6 c = search expression-row
 
 returns-7 : tie.Need-returns-7
-returns-7 c = search (expression-row, refl)
+returns-7 c = search expression-row
 
 returns-8 : tie.Need-returns-8
-returns-8 c = search (expression-row, refl)
+returns-8 c = search expression-row
 
 returns-9 : tie.Need-returns-9
-returns-9 c = search (expression-row, refl)
+returns-9 c = search expression-row
 
 pub expression-of-spec : {M : Type 1} → statement M
 expression-of-spec =

@@ -1,5 +1,4 @@
 -- `statement_of` meets its contract. Assumes nothing.
-use mathlib.Core.Path.{refl}
 use borrow.Author.Needs.{needs}
 use Rattle.rules.proofs.NodeLaws.{statement-row}
 use Rattle.rules.proofs.node.statement_of.Statement.{statement}
@@ -39,31 +38,31 @@ returns : tie.Need-returns
 returns c = search needs
 
 returns-2 : tie.Need-returns-2
-returns-2 c = search (statement-row, refl)
+returns-2 c = search statement-row
 
 returns-3 : tie.Need-returns-3
-returns-3 c = search (statement-row, refl)
+returns-3 c = search statement-row
 
 returns-4 : tie.Need-returns-4
-returns-4 c = search (statement-row, refl)
+returns-4 c = search statement-row
 
 returns-5 : tie.Need-returns-5
-returns-5 c = search (statement-row, refl)
+returns-5 c = search statement-row
 
 returns-6 : tie.Need-returns-6
 returns-6 c = search needs
 
 returns-7 : tie.Need-returns-7
-returns-7 c = search (statement-row, refl)
+returns-7 c = search statement-row
 
 returns-8 : tie.Need-returns-8
-returns-8 c = search (statement-row, refl)
+returns-8 c = search statement-row
 
 returns-9 : tie.Need-returns-9
-returns-9 c = search (statement-row, refl)
+returns-9 c = search statement-row
 
 returns-10 : tie.Need-returns-10
-returns-10 c = search (statement-row, refl)
+returns-10 c = search statement-row
 
 pub statement-of-spec : {M : Type 1} → statement M
 statement-of-spec =

@@ -2,7 +2,7 @@
 use borrow.Author.Needs.{needs}
 use native.Mathlib.Omega.{arith}
 use Prim.Native.Nat.{_-_}
-use Rattle.runs.proofs.LineRuns.{Lining, lining-start, lining-asks, lining-long, lining-cells, lining-more, lining-words, lining-lines}
+use Rattle.runs.proofs.ListingLoop.{Lining, lining-start, lining-asks, lining-long, lining-cells, lining-more, lining-words, lining-lines}
 use Rattle.runs.proofs.lines.step_lines.Statement.{statement}
 use Rattle.runs.proofs.lines.step_lines.Tie as tie
 

@@ -1,6 +1,6 @@
 -- `list_run` meets its contract. Assumes nothing.
 use borrow.Author.Needs.{needs}
-use Rattle.runs.proofs.RunLines.{listed-run}
+use Rattle.runs.proofs.ListedRun.{listed-run}
 use Rattle.runs.proofs.printing.list_run.Statement.{statement}
 use Rattle.runs.proofs.printing.list_run.Tie as tie
 

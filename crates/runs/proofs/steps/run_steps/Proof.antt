@@ -1,8 +1,7 @@
 -- `run_steps` meets its contract. Assumes nothing.
 use borrow.Author.Needs.{needs}
-use native.Mathlib.Omega.{arith}
 use Prim.Native.Nat.{_-_}
-use Rattle.runs.proofs.RunLaws.{Running, running-start, running-asks, running-more, running-end}
+use Rattle.runs.proofs.RunLoop.{Running, running-start, running-asks, running-more, running-end}
 use Rattle.runs.proofs.steps.run_steps.Statement.{statement}
 use Rattle.runs.proofs.steps.run_steps.Tie as tie
 
@@ -15,11 +14,11 @@ abbrev μ-loop : tie.MeasureT-loop
 loop-holds : tie.Need-loop-holds Inv-loop μ-loop
 loop-holds c = search running-start
 
+mul-step-valid : tie.Need-mul-step-valid Inv-loop μ-loop
+mul-step-valid c = search needs
+
 shared-slice-read-step-valid : tie.Need-shared-slice-read-step-valid Inv-loop μ-loop
 shared-slice-read-step-valid c = search needs
-
-cast-step-valid : tie.Need-cast-step-valid Inv-loop μ-loop
-cast-step-valid c = omega (arith, c .shared-slice-known3 .given (c .before .before .before .loop .k))
 
 step-valid-requires : tie.Need-step-valid-requires Inv-loop μ-loop
 step-valid-requires c κs =
@@ -50,8 +49,8 @@ run-steps-spec =
     Inv-loop
     μ-loop
     loop-holds
+    mul-step-valid
     shared-slice-read-step-valid
-    cast-step-valid
     step-valid-requires
     add-k
     loop-less

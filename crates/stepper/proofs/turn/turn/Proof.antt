@@ -2,7 +2,7 @@
 use borrow.Author.Needs.{needs}
 use native.Mathlib.Omega.{arith}
 use mathlib.Core.Path.{refl}
-use Rattle.stepper.proofs.StepLaws.{step-long}
+use Rattle.stepper.proofs.GoodWords.{step-long}
 use Rattle.stepper.proofs.TurnLaws.{commit-asks, commit-gives, gone-is}
 use Rattle.stepper.proofs.turn.turn.Statement.{statement}
 use Rattle.stepper.proofs.turn.turn.Tie as tie

@@ -1,7 +1,7 @@
 -- `step_valid` meets its contract. Assumes nothing.
 use borrow.Author.Needs.{needs}
 use native.Mathlib.Omega.{arith}
-use Rattle.stepper.proofs.StepLaws.{step-long, threads-few}
+use Rattle.stepper.proofs.GoodWords.{step-long, threads-few}
 use Rattle.stepper.proofs.PartyLaws.{is-scheduler, scheduler-steps, thread-low, thread-asks, thread-byte, thread-steps, no-party}
 use Rattle.stepper.proofs.valid.step_valid.Statement.{statement}
 use Rattle.stepper.proofs.valid.step_valid.Tie as tie

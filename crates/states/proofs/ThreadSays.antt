@@ -2,13 +2,11 @@
 use Prim.Native.Nat.{ℕ, suc, zero, _+_, _*_, _<_, _≤_}
 use mathlib.Core.Path.{_≡_, refl, sym, ap, ap₂, _∙_, subst}
 use mathlib.Core.List.{List, map, reverse}
-use mathlib.Core.Bool.{Bool, true, false, not}
 use native.Mathlib.Omega.{arith}
-use lib.Dec.{eqb}
 use lib.ListN.{getD, length, set, length-map, length-reverse}
 use lib.Seq.{ext-getD}
 use Rattle.machine.specs.State.{State, Thread, Item, noThread, withThread, withNew}
-use Rattle.machine.specs.Words.{bit, itemWord, valueWord, threadWord}
+use Rattle.machine.specs.Words.{itemWord, valueWord, threadWord}
 use Rattle.machine.specs.Blocks.{part, pasted, padded, threadWords}
 use Rattle.states.specs.Threads.{wordsOf, fieldsAt, blockOf, withOneMore}
 use Rattle.states.specs.declared.thread.ThreadWords.{ThreadWords}
@@ -21,11 +19,6 @@ use Rattle.states.proofs.Store.{block-place, block-starter, block-alive
 
 pub items-length : (is : List Item) → length (reverse (map itemWord is)) ≡ length is
 items-length is = length-reverse (map itemWord is) ∙ length-map is itemWord
-
--- a thread that has ended has 0 for its word `alive`
-pub ended-bit : (b : Bool) → eqb (bit (not b)) 0 ≡ b
-ended-bit true = refl
-ended-bit false = refl
 
 -- structs with the same fields
 pub fields-path : (a b : ThreadWords) → a .place ≡ b .place → a .starter ≡ b .starter → a .alive ≡ b .alive → a .items ≡ b .items → a .continuation ≡ b .continuation → a .values ≡ b .values → a .variables ≡ b .variables → a ≡ b

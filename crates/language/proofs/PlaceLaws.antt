@@ -47,8 +47,8 @@ pub ruleset scheduler-laws = (scheduler-low, scheduler-high, scheduler-right)
 
 -- ---- the places of a file (`low` is 1) and its schedulers (`low` is 2)
 module _ (low b p : ℕ) where
-  pub has-not : p < low → false ≡ (leb low p && leb p (1 + b))
-  has-not h = rw (lt-leb low p h)
+  pub file-has-not : p < low → false ≡ (leb low p && leb p (1 + b))
+  file-has-not h = rw (lt-leb low p h)
 
-  pub has : 1 ≤ low → low ≤ p → leb (p - 1) b ≡ (leb low p && leb p (1 + b))
-  has m l = rw (le-leb low p l) (leb-same (p - 1) b p (1 + b) (λ h. omega arith) (λ h. omega arith))
+  pub file-has : 1 ≤ low → low ≤ p → leb (p - 1) b ≡ (leb low p && leb p (1 + b))
+  file-has m l = rw (le-leb low p l) (leb-same (p - 1) b p (1 + b) (λ h. omega arith) (λ h. omega arith))

@@ -18,7 +18,7 @@ use Rattle.machine.proofs.CallRuns.{asCalled, call-is}
 use Rattle.stepper.specs.declared.file.File.{File}
 use Rattle.stepper.specs.declared.party.Stepped.{Stepped}
 use Rattle.stepper.specs.Files.{FileWords, StepWords, fileOf, steppedOn}
-use Rattle.stepper.proofs.StepLaws.{fits-words}
+use Rattle.stepper.proofs.GoodWords.{fits-words}
 
 -- ---- one choice more
 state-snoc : (p : Program) (s : State) (xs : List ℕ) (c : ℕ) → stateFrom p s (xs ++ (c ∷ [])) ≡ step p (stateFrom p s xs) c .state

@@ -20,12 +20,12 @@ use Rattle.machine.proofs.KeptShape.{reached-shaped}
 use Rattle.stepper.specs.declared.file.File.{File}
 use Rattle.stepper.specs.declared.party.Stepped.{Stepped as Answered}
 use Rattle.stepper.specs.Files.{FileWords, StepWords, fileOf, steppedOn}
-use Rattle.stepper.proofs.StepLaws.{fits-words}
+use Rattle.stepper.proofs.GoodWords.{fits-words}
 use Rattle.listing.specs.Listing.{Choices, choices, malformed, choicesFrom, choiceLineOf, choiceLine, choiceLines}
 use Rattle.listing.specs.Choices.{choiceAt}
 use Rattle.listing.proofs.ChoicesAt.{choices-at}
 use Rattle.runs.specs.Printed.{written, listOf, choicesOf, stepLines}
-use Rattle.runs.proofs.RunLaws.{next-choice, state-next, reached-words, reached-call}
+use Rattle.runs.proofs.RunLoop.{next-choice, state-next, reached-words, reached-call}
 
 -- ---- bytes behind bytes
 module _ (out : List ℕ) (at : ℕ) where

@@ -16,7 +16,7 @@ use Rattle.listing.specs.Listing.{usedOf, lastLine, runLines}
 use Rattle.runs.specs.Runs.{stepped}
 use Rattle.runs.specs.Printed.{listedAs, written, stepLines, listedBehind}
 use Rattle.runs.proofs.TextLaws.{used-is}
-use Rattle.runs.proofs.LineRuns.{written-put, written-more, step-lines-size}
+use Rattle.runs.proofs.ListingLoop.{written-put, written-more, step-lines-size}
 
 -- a printed listing, by its length, the choices used and both buffers
 pub listed-path : {s t k j : ℕ} {w v o u : List ℕ} → s ≡ t → k ≡ j → w ≡ v → o ≡ u → listedAs (A.Done 0) s k w o ≡ listedAs (A.Done 0) t j v u

@@ -18,15 +18,15 @@ use Rattle.machine.proofs.Valid.{packed}
 use Rattle.machine.proofs.InShape.{in-range-shaped}
 use Rattle.machine.proofs.KeptShape.{FileFits}
 use Rattle.states.specs.Threads.{wordsOf, threadIn}
-use Rattle.states.proofs.Bridge.{load-is}
-use Rattle.reach.proofs.Sizes.{Sized, small}
+use Rattle.states.proofs.ThreadSays.{load-is}
+use Rattle.reach.proofs.Sizes.{Sized, fields-small}
 use Rattle.reach.proofs.Fits.{file-fits}
 use Rattle.stepper.specs.Files.{FileWords, StepWords, stateIn}
 
 -- ---- the file
 module _ (frames : List ℕ) (file : FileWords frames) where
   sized-words : Sized (framesOf frames)
-  sized-words = record { few = rw length-map (file .few); a = λ j. small frames j .0; b = λ j. small frames j .1 }
+  sized-words = record { few = rw length-map (file .few); a = λ j. fields-small frames j .0; b = λ j. fields-small frames j .1 }
 
   pub fits-words : FileFits (framesOf frames) (programOf (framesOf frames)) (programOf (framesOf frames) .schedulers)
   fits-words = file-fits sized-words (file .laid-out)
