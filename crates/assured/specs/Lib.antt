@@ -1,1 +1,3 @@
 pub mod Assured
+pub mod TextCalls
+pub mod SafeListing

@@ -10,7 +10,7 @@ use borrow.Author.Tests.{ltb-true, lt-ltb}
 use Rattle.basics.proofs.Ifs.{if-all, if-yes, if-no}
 use Rattle.text.specs.Frames.{framesOf}
 use Rattle.program.specs.Trees.{Expr, number, truth, variable, shared, new, content, sum, less, choose, expressionAt}
-use Rattle.machine.specs.State.{Stored, cellAt}
+use Rattle.machine.specs.State.{Stored, cellAt, isUsed, freeNumber, usedCells}
 use Rattle.machine.specs.Evaluation as def
 use Rattle.machine.specs.Evaluation.{Here, Evaluated, Evaluation, gives, accessOf, accessing, atCell, isOwn, newOwner, readVariable, sharedCell, addCell, makeCell, readCell, storeCell, ofNumbers, plus, lessThan, byTruth, eval, storing, _>>=_}
 use Rattle.machine.specs.Words.{wordValue}
@@ -80,7 +80,7 @@ module _ (who : Who) (vs : List ℕ) where
     stuck = unchanged Stuck is-stuck
 
     -- cells in use, by the words and by the cells
-    in-use : (c : ℕ) (b : Bool) → ltb c (length cs) ≡ b → ltb c n ≡ b
+    in-use : (c : ℕ) (b : Bool) → isUsed cs c ≡ b → ltb c n ≡ b
     in-use c b e = ap (ltb c) (holds .count) ∙ e
 
     -- ---- each kind of expression, behind its operands
@@ -104,9 +104,9 @@ module _ (who : Who) (vs : List ℕ) where
     agree-make : (s : ℕ) (v : Value) → ValueFits v → Agrees (makeIn who s v n ws) (makeCell here s v cs)
     unfolding makeIn makeCell accessing addCell newOwnerIn newOwner
     agree-make s v f =
-        if-all (λ (r : Evaluated). Agrees (makeIn who s v n ws) (def.after (accessOf here (length cs) o ∷ []) r)) (isOwn here o) _ _
-        (λ e. if-all (λ (r : Evaluated). Agrees (makeIn who s v n ws) (def.after (accessOf here (length cs) o ∷ []) r)) (ltb (length cs) 256) _ _
-        (λ q. let m : length cs < 256 = ltb-true (length cs) 256 q in
+        if-all (λ (r : Evaluated). Agrees (makeIn who s v n ws) (def.after (accessOf here (freeNumber cs) o ∷ []) r)) (isOwn here o) _ _
+        (λ e. if-all (λ (r : Evaluated). Agrees (makeIn who s v n ws) (def.after (accessOf here (freeNumber cs) o ∷ []) r)) (ltb (usedCells cs) 256) _ _
+        (λ q. let m : usedCells cs < 256 = ltb-true (usedCells cs) 256 q in
         agree-left (if-yes _ _ (own-same o true e) ∙ if-yes _ _ (lt-ltb n 256 (inside m (holds .count))) ∙ if-yes _ _ (lt-ltb n (length ws) (under m (holds .count) (holds-length holds))))
         (record { outcome = ap (λ (k : ℕ). Is (Cell k)) (holds .count); cells = holds-push n ws cs (record { owner = o; content = v }) holds m f; fits = is-value (shape.cell m) }))
         (λ q. agree-left (if-yes _ _ (own-same o true e) ∙ if-no _ _ (ap (λ (k : ℕ). ltb k 256) (holds .count) ∙ q)) (record { outcome = refl; cells = holds; fits = is-spent })))
@@ -115,10 +115,10 @@ module _ (who : Who) (vs : List ℕ) where
         o : ℕ
         o = newOwner here s
 
-        inside : length cs < 256 → n ≡ length cs → n < 256
+        inside : usedCells cs < 256 → n ≡ usedCells cs → n < 256
         inside m e = omega arith
 
-        under : length cs < 256 → n ≡ length cs → length ws ≡ 256 → n < length ws
+        under : usedCells cs < 256 → n ≡ usedCells cs → length ws ≡ 256 → n < length ws
         under m e z = omega arith
 
     -- at a cell that is there: the word's owner and content are the cell's
@@ -135,7 +135,7 @@ module _ (who : Who) (vs : List ℕ) where
     agree-read : (v : Value) → Agrees (reading who v n ws) (readCell here v cs)
     unfolding accessIn readIn readCell atCell accessing
     agree-read (Cell c) =
-        if-all (Agrees (reading who (Cell c) n ws)) (ltb c (length cs)) _ _
+        if-all (Agrees (reading who (Cell c) n ws)) (isUsed cs c) _ _
         (λ e. let l : c < length cs = ltb-true c (length cs) e in
         if-all (λ (r : Evaluated). Agrees (reading who (Cell c) n ws) (def.after (accessOf here c (cellAt cs c .owner) ∷ []) r)) (isOwn here (cellAt cs c .owner)) _ _
         (λ q. agree-left (ap (λ (o : Outcome). result o n ws) (if-yes _ _ (in-use c true e) ∙ if-yes _ _ (own-at c l true q) ∙ ap Is (content-at c l)))
@@ -148,7 +148,7 @@ module _ (who : Who) (vs : List ℕ) where
     agree-store : (v u : Value) → ValueFits u → Agrees (storeIn who v u n ws) (storeCell here v u cs)
     unfolding storeIn storeCell atCell accessing
     agree-store (Cell c) u f =
-        if-all (Agrees (storeIn who (Cell c) u n ws)) (ltb c (length cs)) _ _
+        if-all (Agrees (storeIn who (Cell c) u n ws)) (isUsed cs c) _ _
         (λ e. let l : c < length cs = ltb-true c (length cs) e in
         if-all (λ (r : Evaluated). Agrees (storeIn who (Cell c) u n ws) (def.after (accessOf here c (cellAt cs c .owner) ∷ []) r)) (isOwn here (cellAt cs c .owner)) _ _
         (λ q. agree-left (if-yes _ _ (in-use c true e) ∙ if-yes _ _ (own-at c l true q) ∙ ap (λ (o : ℕ). result (Is u) n (set ws c (cellOf o u))) (owner-at c l))
@@ -232,7 +232,7 @@ module _ (who : Who) (vs : List ℕ) where
 equation : (l : Result) (r : Evaluated) → Agrees l r → l ≡ resultOf r
 equation l r a =
     ap (λ (o : Outcome). result o (l .used) (l .words)) (a .outcome) ∙ ap (λ (n : ℕ). result (r .outcome) n (l .words)) (a .cells .count)
-    ∙ ap (λ (ws : List ℕ). result (r .outcome) (length (r .cells)) ws) (a .cells .words)
+    ∙ ap (λ (ws : List ℕ). result (r .outcome) (usedCells (r .cells)) ws) (a .cells .words)
 
 pub eval-on : (fw vs : List ℕ) (who : Who) (i n : ℕ) (ws : List ℕ) → ValueWords vs → CellWords n ws
     → evalIn who vs (expressionAt (framesOf fw) i) n ws ≡ onWords (eval (hereOf who vs) (expressionAt (framesOf fw) i)) n ws

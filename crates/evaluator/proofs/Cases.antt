@@ -1,107 +1,127 @@
--- The returns of `value_at` and `truth_at`, a law for each, and what the recursive calls require; `next_at` returns by the laws of Chains. Assumes nothing.
+-- The returns of `value_at`, `number_at` and `truth_at`, a law for each, and what their calls require: each goes to an operand, so the frame number itself falls. Assumes nothing.
 use mathlib.Core.Path.{_≡_, refl, sym, ap, _∙_}
 use mathlib.Core.List.{List}
-use Prim.Native.Nat.{ℕ, _+_, _*_, _<_}
+use mathlib.Core.Bool.{true, false}
+use Prim.Native.Nat.{ℕ, _<_}
 use native.Mathlib.Omega.{arith}
 use native.Mathlib.Nat.{lt-trans}
-use lib.Dec.{eqb}
 use Rattle.text.specs.Frames.{framesOf}
 use Rattle.program.specs.Trees.{Expr, expressionAt}
-use Rattle.machine.specs.Evaluation.{plus, lessThan}
-use Rattle.machine.specs.declared.value.Value.the-variants.{Number, Truth}
+use Rattle.machine.specs.declared.value.Value.{Value}
 use Rattle.machine.specs.declared.value.Outcome.{Outcome}
-use Rattle.machine.specs.declared.value.Outcome.the-variants.{Is}
 use Rattle.evaluator.specs.declared.operation.Who.{Who}
 use Rattle.evaluator.specs.declared.operation.Answered.{Answered}
+use Rattle.evaluator.specs.declared.operation.Wanted.{Wanted}
 use Rattle.evaluator.specs.declared.node.Node.{Node}
-use Rattle.evaluator.specs.declared.node.Node.the-variants.{Literal, Flag, Variable, SharedCell, NewCell, ContentOf, Numbers, ChooseOf}
+use Rattle.evaluator.specs.declared.node.Node.the-variants.{Plain, Cells, Numbers, ChooseOf}
+use Rattle.evaluator.specs.declared.node.Leaf.{Leaf}
+use Rattle.evaluator.specs.declared.node.Leaf.the-variants.{Literal, Flag, Variable, SharedCell}
+use Rattle.evaluator.specs.declared.node.CellUse.{CellUse}
+use Rattle.evaluator.specs.declared.node.CellUse.the-variants.{Make, Read}
 use Rattle.evaluator.specs.declared.node.Operator.{Operator}
 use Rattle.evaluator.specs.declared.node.Operator.the-variants.{Sum, Less}
 use Rattle.evaluator.specs.Results.{Result, after, FrameWords}
-use Rattle.evaluator.specs.ByWords.{nodeAt, result, andThen, only, keeping, variableIn, sharedIn, makeIn, reading, numbersOf, aTruth, aNumber, operands, chosen, chosenBy, evalIn, evaluating, truthIn}
-use Rattle.evaluator.proofs.Chains.{keeping-is, then-both, then-chosen}
+use Rattle.evaluator.specs.ByWords.{nodeAt, result, andThen, only, keeping, leafIn, usingIn, numbersOf, operation, aTruth, aNumber, chosen, operandStops, outcomeStops, operatedBy, asNumber, asAnswer, wanted, WantedResult, numberOf, chosenBy, evalIn, numberIn, truthIn}
+use Rattle.evaluator.proofs.Chains.{keeping-is, number-stopped, stopped-number, stops-answer, stopped, numbers-ran, choice-ran}
 use Rattle.evaluator.proofs.Nodes.{treeOf, tree-at}
 
--- ---- what a recursive call requires: a smaller measure, and a frame of the file
--- The measure at frame i is 2 i for `value_at` and 2 i + 1 for `next_at` and `truth_at`, which call `value_at` at the same frame.
-pub value-falls : (ws : List ℕ) (i a t : ℕ) → (2 * i ≡ t) × FrameWords ws i → a < i → (2 * a < t) × FrameWords ws a
-value-falls ws i a t p l = let e = p .0 in (omega arith, record { ordered = p .1 .ordered; there = lt-trans l (p .1 .there) })
-
-pub next-falls : (ws : List ℕ) (i a t : ℕ) → (2 * i ≡ t) × FrameWords ws i → a < i → (2 * a + 1 < t) × FrameWords ws a
-next-falls ws i a t p l = let e = p .0 in (omega arith, record { ordered = p .1 .ordered; there = lt-trans l (p .1 .there) })
-
-pub same-falls : (ws : List ℕ) (i t : ℕ) → (2 * i + 1 ≡ t) × FrameWords ws i → (2 * i < t) × FrameWords ws i
-same-falls ws i t p = let e = p .0 in (omega arith, p .1)
+-- ---- what a call requires: a smaller frame number, and a frame of the file
+pub falls-to : (ws : List ℕ) (i a t : ℕ) → (i ≡ t) × FrameWords ws i → a < i → (a < t) × FrameWords ws a
+falls-to ws i a t p l = let e = p .0 in (omega arith, record { ordered = p .1 .ordered; there = lt-trans l (p .1 .there) })
 
 -- ---- the returns
 module _ (fw vs : List ℕ) (who : Who) where
-  -- what the recursion gives at frame i: as a value, as a truth, and behind the answer x
+  -- what the recursion gives at frame i: as a value, as a number, as a truth
   abbrev Ran : ℕ → ℕ → List ℕ → Result → Type 0
   Ran i n ws x = x ≡ evalIn who vs (expressionAt (framesOf fw) i) n ws
+
+  abbrev RanNumber : ℕ → ℕ → List ℕ → WantedResult → Type 0
+  RanNumber i n ws x = x ≡ numberIn who vs (expressionAt (framesOf fw) i) n ws
 
   abbrev RanTruth : ℕ → ℕ → List ℕ → Result → Type 0
   RanTruth i n ws x = x ≡ truthIn who vs (expressionAt (framesOf fw) i) n ws
 
-  abbrev RanNext : ℕ → Answered → List ℕ → Result → Type 0
-  RanNext i x ts r = r ≡ andThen (after x ts) (evaluating who vs (expressionAt (framesOf fw) i))
+  -- what follows the first operand of 26 or 27, and the condition of 28
+  abbrev second : Operator → ℕ → Value → ℕ → List ℕ → Result
+  second op b v m us = andThen (evalIn who vs (expressionAt (framesOf fw) b) m us) (keeping (numbersOf (operation op) v))
+
+  abbrev branch : ℕ → ℕ → Value → ℕ → List ℕ → Result
+  branch b c v m us = andThen (chosen v (evalIn who vs (expressionAt (framesOf fw) b) m us) (evalIn who vs (expressionAt (framesOf fw) c) m us)) (keeping aNumber)
+
+  -- a value as a number, and as a truth
+  pub to-number : (i n : ℕ) (ws us : List ℕ) (y : Answered) (r : Wanted) → Ran i n ws (after y us) → r ≡ asNumber y → RanNumber i n ws (wanted r us)
+  to-number i n ws us y r k z = ap (λ (x : Wanted). wanted x us) z ∙ ap numberOf k
+
+  pub to-truth : (i n : ℕ) (ws us : List ℕ) (y r : Answered) → Ran i n ws (after y us) → r ≡ only y aTruth → RanTruth i n ws (after r us)
+  to-truth i n ws us y r k z = keeping-is y r aTruth us z ∙ ap (λ (u : Result). andThen u (keeping aTruth)) k
+
+  -- a refusal as a truth: itself
+  pub stopped-truth : (i n : ℕ) (ws us : List ℕ) (y : Answered) → Ran i n ws (after y us) → outcomeStops (y .outcome) ≡ true → RanTruth i n ws (after y us)
+  stopped-truth i n ws us y k h = stopped (after y us) (keeping aTruth) h ∙ ap (λ (u : Result). andThen u (keeping aTruth)) k
 
   module _ (i n : ℕ) (ws : List ℕ) (h : FrameWords fw i) where
     -- it is enough to meet the tree that the node makes
     at-node : (d : Node) (r : Result) → d ≡ nodeAt (framesOf fw) i → r ≡ evalIn who vs (treeOf (expressionAt (framesOf fw)) i d) n ws → Ran i n ws r
     at-node d r e k = k ∙ ap (λ (x : Expr). evalIn who vs x n ws) (sym (tree-at (framesOf fw) i d (h .ordered) e))
 
-    pub case-literal : (m k : ℕ) (r : Answered) → Literal m ≡ nodeAt (framesOf fw) i → k ≡ m → r ≡ record { outcome = Is (Number k); used = n } → Ran i n ws (after r ws)
-    unfolding evalIn
-    case-literal m k r e q z = at-node (Literal m) _ e (ap (λ (x : Answered). after x ws) z ∙ ap (λ (x : ℕ). result (Is (Number x)) n ws) q)
+    -- no operand
+    leaf-tree : (l : Leaf) → result (leafIn who vs l) n ws ≡ evalIn who vs (treeOf (expressionAt (framesOf fw)) i (Plain l)) n ws
+    unfolding evalIn leafIn
+    leaf-tree (Literal m) = refl
+    leaf-tree (Flag s) = refl
+    leaf-tree (Variable s) = refl
+    leaf-tree (SharedCell s) = refl
 
-    pub case-flag : (s : ℕ) (r : Answered) → Flag s ≡ nodeAt (framesOf fw) i → r ≡ record { outcome = Is (Truth (eqb s 1)); used = n } → Ran i n ws (after r ws)
-    unfolding evalIn
-    case-flag s r e z = at-node (Flag s) _ e (ap (λ (x : Answered). after x ws) z)
-
-    pub case-variable : (s : ℕ) (o : Outcome) (r : Answered) → Variable s ≡ nodeAt (framesOf fw) i → o ≡ variableIn vs s → r ≡ record { outcome = o; used = n } → Ran i n ws (after r ws)
-    unfolding evalIn
-    case-variable s o r e q z = at-node (Variable s) _ e (ap (λ (x : Answered). after x ws) z ∙ ap (λ (x : Outcome). result x n ws) q)
-
-    pub case-shared : (s : ℕ) (o : Outcome) (r : Answered) → SharedCell s ≡ nodeAt (framesOf fw) i → o ≡ sharedIn who s → r ≡ record { outcome = o; used = n } → Ran i n ws (after r ws)
-    unfolding evalIn
-    case-shared s o r e q z = at-node (SharedCell s) _ e (ap (λ (x : Answered). after x ws) z ∙ ap (λ (x : Outcome). result x n ws) q)
+    pub case-plain : (l : Leaf) (o : Outcome) (r : Answered) → Plain l ≡ nodeAt (framesOf fw) i → o ≡ leafIn who vs l → r ≡ record { outcome = o; used = n } → Ran i n ws (after r ws)
+    case-plain l o r e q z = at-node (Plain l) _ e (ap (λ (x : Answered). after x ws) z ∙ ap (λ (x : Outcome). result x n ws) q ∙ leaf-tree l)
 
     -- one operand
-    pub case-new : (s a : ℕ) (x r : Result) → NewCell s a ≡ nodeAt (framesOf fw) i → Ran a n ws x → r ≡ andThen x (makeIn who s) → Ran i n ws r
+    using-tree : (u : CellUse) (a : ℕ) → andThen (evalIn who vs (expressionAt (framesOf fw) a) n ws) (usingIn who u) ≡ evalIn who vs (treeOf (expressionAt (framesOf fw)) i (Cells u a)) n ws
     unfolding evalIn
-    case-new s a x r e q k = at-node (NewCell s a) r e (k ∙ ap (λ (y : Result). andThen y (makeIn who s)) q)
+    using-tree (Make s) a = refl
+    using-tree Read a = refl
 
-    pub case-content : (a : ℕ) (x r : Result) → ContentOf a ≡ nodeAt (framesOf fw) i → Ran a n ws x → r ≡ andThen x (reading who) → Ran i n ws r
-    unfolding evalIn
-    case-content a x r e q k = at-node (ContentOf a) r e (k ∙ ap (λ (y : Result). andThen y (reading who)) q)
+    pub case-cells : (u : CellUse) (a : ℕ) (x r : Result) → Cells u a ≡ nodeAt (framesOf fw) i → Ran a n ws x → r ≡ andThen x (usingIn who u) → Ran i n ws r
+    case-cells u a x r e q k = at-node (Cells u a) r e (k ∙ ap (λ (y : Result). andThen y (usingIn who u)) q ∙ using-tree u a)
 
-    -- two operands: the second is evaluated on the cells that the first left
-    pub case-numbers : (op : Operator) (a b : ℕ) (x y r : Answered) (ts us : List ℕ) → Numbers op a b ≡ nodeAt (framesOf fw) i
-        → Ran a n ws (after x ts) → RanNext b x ts (after y us) → r ≡ only y (operands op (x .outcome)) → Ran i n ws (after r us)
+    -- two numbers: the first is refused, or the second is evaluated on the cells that the first left
+    pub case-first : (op : Operator) (a b : ℕ) (x : Wanted) (r : Answered) (ts : List ℕ) → Numbers op a b ≡ nodeAt (framesOf fw) i
+        → RanNumber a n ws (wanted x ts) → operandStops (x .operand) ≡ true → r ≡ asAnswer x → Ran i n ws (after r ts)
     unfolding evalIn
-    case-numbers op a b x y r ts us e q k z = at-node (Numbers op a b) (after r us) e (keeping-is y r (operands op (x .outcome)) us z ∙ go op)
+    case-first op a b x r ts e q t z = at-node (Numbers op a b) (after r ts) e (ap (λ (y : Answered). after y ts) z ∙ go op)
       where
-        go : (op : Operator) → andThen (after y us) (keeping (operands op (x .outcome))) ≡ evalIn who vs (treeOf (expressionAt (framesOf fw)) i (Numbers op a b)) n ws
-        go Sum =
-            ap (λ (u : Result). andThen u (keeping (operands Sum (x .outcome)))) k
-            ∙ then-both (numbersOf plus) (operands Sum) (λ v. refl) (evalIn who vs (expressionAt (framesOf fw) b)) (x .outcome) (x .used) ts
-            ∙ ap (λ (u : Result). andThen u (λ v m us. andThen (evalIn who vs (expressionAt (framesOf fw) b) m us) (keeping (numbersOf plus v)))) q
-        go Less =
-            ap (λ (u : Result). andThen u (keeping (operands Less (x .outcome)))) k
-            ∙ then-both (numbersOf lessThan) (operands Less) (λ v. refl) (evalIn who vs (expressionAt (framesOf fw) b)) (x .outcome) (x .used) ts
-            ∙ ap (λ (u : Result). andThen u (λ v m us. andThen (evalIn who vs (expressionAt (framesOf fw) b) m us) (keeping (numbersOf lessThan v)))) q
+        go : (op : Operator) → after (asAnswer x) ts ≡ evalIn who vs (treeOf (expressionAt (framesOf fw)) i (Numbers op a b)) n ws
+        go Sum = number-stopped x (evalIn who vs (expressionAt (framesOf fw) a) n ws) ts (second Sum b) q t
+        go Less = number-stopped x (evalIn who vs (expressionAt (framesOf fw) a) n ws) ts (second Less b) q t
 
-    -- the condition as a truth, then one branch as a number
-    pub case-choose : (a b c j : ℕ) (x y r : Answered) (ts us : List ℕ) → ChooseOf a b c ≡ nodeAt (framesOf fw) i
-        → RanTruth a n ws (after x ts) → j ≡ chosenBy (x .outcome) b c → RanNext j x ts (after y us) → r ≡ only y aNumber → Ran i n ws (after r us)
+    -- the same refusal where a number or a truth is wanted
+    pub first-as-number : (op : Operator) (a b : ℕ) (x : Wanted) (ts : List ℕ) → Numbers op a b ≡ nodeAt (framesOf fw) i
+        → RanNumber a n ws (wanted x ts) → operandStops (x .operand) ≡ true → RanNumber i n ws (wanted x ts)
+    first-as-number op a b x ts e q t = stopped-number x ts t ∙ ap numberOf (case-first op a b x (asAnswer x) ts e q t refl)
+
+    pub first-as-truth : (op : Operator) (a b : ℕ) (x : Wanted) (r : Answered) (ts : List ℕ) → Numbers op a b ≡ nodeAt (framesOf fw) i
+        → RanNumber a n ws (wanted x ts) → operandStops (x .operand) ≡ true → r ≡ asAnswer x → RanTruth i n ws (after r ts)
+    first-as-truth op a b x r ts e q t z = stopped-truth i n ws ts r (case-first op a b x r ts e q t z) (ap (λ (y : Answered). outcomeStops (y .outcome)) z ∙ stops-answer (x .operand) t)
+
+    pub case-both : (op : Operator) (a b : ℕ) (x y : Wanted) (r : Answered) (ts us : List ℕ) → Numbers op a b ≡ nodeAt (framesOf fw) i
+        → RanNumber a n ws (wanted x ts) → operandStops (x .operand) ≡ false → RanNumber b (x .used) ts (wanted y us) → r ≡ operatedBy op x y → Ran i n ws (after r us)
     unfolding evalIn
-    case-choose a b c j x y r ts us e q w k z =
-        let at : ℕ → ℕ → List ℕ → Result = λ d m ts. evalIn who vs (expressionAt (framesOf fw) d) m ts in
-        at-node (ChooseOf a b c) (after r us) e
-        (keeping-is y r aNumber us z
-        ∙ ap (λ (u : Result). andThen u (keeping aNumber)) (k ∙ ap (λ (d : ℕ). andThen (after x ts) (evaluating who vs (expressionAt (framesOf fw) d))) w)
-        ∙ then-chosen at b c (x .outcome) (x .used) ts
-        ∙ ap (λ (u : Result). andThen u (λ v m us. andThen (chosen v (at b m us) (at c m us)) (keeping aNumber))) q)
+    case-both op a b x y r ts us e q t k z = at-node (Numbers op a b) (after r us) e (ap (λ (y : Answered). after y us) z ∙ go op)
+      where
+        go : (op : Operator) → after (operatedBy op x y) us ≡ evalIn who vs (treeOf (expressionAt (framesOf fw)) i (Numbers op a b)) n ws
+        go Sum = numbers-ran Sum (evalIn who vs (expressionAt (framesOf fw) b)) (evalIn who vs (expressionAt (framesOf fw) a) n ws) x y ts us q t k
+        go Less = numbers-ran Less (evalIn who vs (expressionAt (framesOf fw) b)) (evalIn who vs (expressionAt (framesOf fw) a) n ws) x y ts us q t k
 
-  pub case-truth : (i n : ℕ) (ws us : List ℕ) (y r : Answered) → Ran i n ws (after y us) → r ≡ only y aTruth → RanTruth i n ws (after r us)
-  case-truth i n ws us y r k z = keeping-is y r aTruth us z ∙ ap (λ (u : Result). andThen u (keeping aTruth)) k
+    -- a truth, and behind it one of two numbers
+    pub case-condition : (a b c : ℕ) (x : Answered) (ts : List ℕ) → ChooseOf a b c ≡ nodeAt (framesOf fw) i → RanTruth a n ws (after x ts) → outcomeStops (x .outcome) ≡ true → Ran i n ws (after x ts)
+    unfolding evalIn
+    case-condition a b c x ts e q t = at-node (ChooseOf a b c) (after x ts) e (stopped (after x ts) (branch b c) t ∙ ap (λ (u : Result). andThen u (branch b c)) q)
+
+    pub case-choice : (a b c j : ℕ) (x : Answered) (y : Wanted) (r : Answered) (ts us : List ℕ) → ChooseOf a b c ≡ nodeAt (framesOf fw) i
+        → RanTruth a n ws (after x ts) → outcomeStops (x .outcome) ≡ false → j ≡ chosenBy (x .outcome) b c → RanNumber j (x .used) ts (wanted y us) → r ≡ asAnswer y → Ran i n ws (after r us)
+    unfolding evalIn
+    case-choice a b c j x y r ts us e q t w k z =
+        at-node (ChooseOf a b c) (after r us) e
+        (ap (λ (y : Answered). after y us) z
+        ∙ choice-ran (λ d m ts. evalIn who vs (expressionAt (framesOf fw) d) m ts) b c j x y ts us t w k
+        ∙ ap (λ (u : Result). andThen u (branch b c)) q)

@@ -9,7 +9,7 @@ use lib.Dec.{ltb}
 use lib.ListN.{length, getD, set, length-set, length-append, List·getD-append, List·getD-eq-default}
 use lib.Seq.{ext-getD, getD-set-same, getD-set-other, getD-at}
 use borrow.Author.Tests.{ltb-true, ltb-false}
-use Rattle.machine.specs.State.{Stored, noCell}
+use Rattle.machine.specs.State.{Stored, noCell, usedCells, withNewCell}
 use Rattle.machine.specs.Words.{cellWord, wordCell}
 use Rattle.machine.specs.Ranges.{valueInRange}
 use Rattle.machine.specs.Blocks.{cellWords}
@@ -24,7 +24,7 @@ use Rattle.evaluator.proofs.WordLaws.{value-fits, cell-there, content-i
 
 -- the n cells cs are these words; every content fits a word
 pub record Holds (n : ℕ) (ws : List ℕ) (cs : List Stored) : Type 0 where
-  pub count : n ≡ length cs
+  pub count : n ≡ usedCells cs
   pub words : ws ≡ cellWords cs
   pub room : length cs ≤ 256
   pub each : (k : ℕ) → k < length cs → ValueFits (getD cs k noCell .content)
@@ -86,30 +86,30 @@ holds-cells n ws cs h = ext-getD noCell (cellsFrom n ws) cs (from-length n ws �
     from-at n ws k m ∙ ap wordCell (holds-at n ws cs k h q) ∙ cell-back (getD cs k noCell) (h .each k q))
 
 -- ---- one more cell
-pub holds-push : (n : ℕ) (ws : List ℕ) (cs : List Stored) (x : Stored) → Holds n ws cs → length cs < 256 → ValueFits (x .content)
-    → Holds (n + 1) (set ws n (cellWord x)) (cs ++ (x ∷ []))
+pub holds-push : (n : ℕ) (ws : List ℕ) (cs : List Stored) (x : Stored) → Holds n ws cs → usedCells cs < 256 → ValueFits (x .content)
+    → Holds (n + 1) (set ws n (cellWord x)) (withNewCell cs x)
 holds-push n ws cs x h l f = record {
-  count = let e = h .count in let z : length (cs ++ (x ∷ [])) ≡ length cs + 1 = longer in omega arith;
-  words = words-are (set ws n (cellWord x)) (cs ++ (x ∷ [])) (length-set ws n (cellWord x) ∙ holds-length h) (λ j g. at j g (ℕ-discrete j n));
-  room = let z : length (cs ++ (x ∷ [])) ≡ length cs + 1 = longer in omega arith;
+  count = let e = h .count in let z : length (withNewCell cs x) ≡ length cs + 1 = longer in omega arith;
+  words = words-are (set ws n (cellWord x)) (withNewCell cs x) (length-set ws n (cellWord x) ∙ holds-length h) (λ j g. at j g (ℕ-discrete j n));
+  room = let z : length (withNewCell cs x) ≡ length cs + 1 = longer in omega arith;
   each = each-snoc (λ (y : Stored). ValueFits (y .content)) cs x noCell (h .each) f;
 }
   where
-    longer : length (cs ++ (x ∷ [])) ≡ length cs + 1
+    longer : length (withNewCell cs x) ≡ length cs + 1
     longer = length-append cs (x ∷ [])
 
-    beyond : (j : ℕ) → (j ≡ n → ⊥) → n ≡ length cs → length cs ≤ j → length (cs ++ (x ∷ [])) ≡ length cs + 1 → length (cs ++ (x ∷ [])) ≤ j
+    beyond : (j : ℕ) → (j ≡ n → ⊥) → n ≡ length cs → length cs ≤ j → length (withNewCell cs x) ≡ length cs + 1 → length (withNewCell cs x) ≤ j
     beyond j e c g z = omega arith
 
-    same : (j : ℕ) → (j ≡ n → ⊥) → (b : Bool) → ltb j (length cs) ≡ b → getD cs j noCell ≡ getD (cs ++ (x ∷ [])) j noCell
+    same : (j : ℕ) → (j ≡ n → ⊥) → (b : Bool) → ltb j (length cs) ≡ b → getD cs j noCell ≡ getD (withNewCell cs x) j noCell
     same j e true q = sym (List·getD-append cs (x ∷ []) noCell j (ltb-true j (length cs) q))
     same j e false q = let g : length cs ≤ j = ltb-false j (length cs) q in
-        List·getD-eq-default cs noCell {n = j} g ∙ sym (List·getD-eq-default (cs ++ (x ∷ [])) noCell {n = j} (beyond j e (h .count) g longer))
+        List·getD-eq-default cs noCell {n = j} g ∙ sym (List·getD-eq-default (withNewCell cs x) noCell {n = j} (beyond j e (h .count) g longer))
 
     inside : n ≡ length cs → length ws ≡ 256 → n < length ws
     inside c s = omega arith
 
-    at : (j : ℕ) → j < 256 → Dec (j ≡ n) → getD (set ws n (cellWord x)) j 0 ≡ cellWord (getD (cs ++ (x ∷ [])) j noCell)
+    at : (j : ℕ) → j < 256 → Dec (j ≡ n) → getD (set ws n (cellWord x)) j 0 ≡ cellWord (getD (withNewCell cs x) j noCell)
     at j g (yes e) =
         ap (λ (k : ℕ). getD (set ws n (cellWord x)) k 0) e ∙ getD-set-same ws n (cellWord x) 0 (inside (h .count) (holds-length h))
         ∙ ap cellWord (sym (getD-at cs x [] noCell j (sym (h .count) ∙ sym e)))

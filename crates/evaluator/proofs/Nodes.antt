@@ -20,7 +20,9 @@ use Rattle.machine.specs.declared.value.Value.the-variants.{Number, Truth, Cell
 use Rattle.machine.specs.declared.value.Outcome.{Outcome}
 use Rattle.machine.specs.declared.value.Outcome.the-variants.{Is, Foreign, Spent, Stuck}
 use Rattle.evaluator.specs.declared.node.Node.{Node}
-use Rattle.evaluator.specs.declared.node.Node.the-variants.{Literal, Flag, Variable, SharedCell, NewCell, ContentOf, Numbers, ChooseOf}
+use Rattle.evaluator.specs.declared.node.Node.the-variants.{Plain, Cells, Numbers, ChooseOf}
+use Rattle.evaluator.specs.declared.node.Leaf.the-variants.{Literal, Flag, Variable, SharedCell}
+use Rattle.evaluator.specs.declared.node.CellUse.the-variants.{Make, Read}
 use Rattle.evaluator.specs.declared.node.Operator.the-variants.{Sum, Less}
 use Rattle.evaluator.specs.Results.{FrameWords}
 use Rattle.evaluator.specs.ByWords.{nodeWith, nodeOf, nodeAt, chosen, chosenBy}
@@ -37,12 +39,12 @@ node-read ws i f r h e l = h ∙ ap (λ (g : Frame). nodeOf g (g .kind)) (e ∙ 
 
 -- ---- the tree, from the node; `rec` gives the trees at its operands
 abbrev pub treeOf : (ℕ → Expr) → ℕ → Node → Expr
-treeOf rec i (Literal n) = number i n
-treeOf rec i (Flag s) = truth i s
-treeOf rec i (Variable s) = variable i s
-treeOf rec i (SharedCell s) = shared i s
-treeOf rec i (NewCell s a) = new i s (rec a)
-treeOf rec i (ContentOf a) = content i (rec a)
+treeOf rec i (Plain (Literal n)) = number i n
+treeOf rec i (Plain (Flag s)) = truth i s
+treeOf rec i (Plain (Variable s)) = variable i s
+treeOf rec i (Plain (SharedCell s)) = shared i s
+treeOf rec i (Cells (Make s) a) = new i s (rec a)
+treeOf rec i (Cells Read a) = content i (rec a)
 treeOf rec i (Numbers Sum a b) = sum i (rec a) (rec b)
 treeOf rec i (Numbers Less a b) = less i (rec a) (rec b)
 treeOf rec i (ChooseOf a b c) = choose i (rec a) (rec b) (rec c)
@@ -71,12 +73,8 @@ tree-at fs i d o e = expression-at fs o i ∙ of-tree (expressionAt fs) i (frame
 
 -- ---- operands stand before their frame, so that the frame number falls in the recursion
 abbrev Below : ℕ → Node → Type 0
-Below i (Literal n) = Unit {0}
-Below i (Flag s) = Unit {0}
-Below i (Variable s) = Unit {0}
-Below i (SharedCell s) = Unit {0}
-Below i (NewCell s a) = a < i
-Below i (ContentOf a) = a < i
+Below i (Plain l) = Unit {0}
+Below i (Cells u a) = a < i
 Below i (Numbers op a b) = (a < i) × (b < i)
 Below i (ChooseOf a b c) = (a < i) × (b < i) × (c < i)
 

@@ -10,14 +10,19 @@ use lib.Seq.{set-getD}
 use borrow.Author.Tests.{ltb-true, ltb-false, lt-ltb, le-ltb, le-leb, lt-leb, eq-eqb, ne-eqb}
 use Rattle.basics.specs.If.{if_then_else_}
 use Rattle.basics.proofs.Ifs.{if-all, if-yes, if-no, yes, no}
-use Rattle.machine.specs.Evaluation.{plus, lessThan}
 use Rattle.machine.specs.declared.value.Value.{Value}
 use Rattle.machine.specs.declared.value.Value.the-variants.{Number, Truth, Cell}
 use Rattle.machine.specs.declared.value.Outcome.{Outcome}
 use Rattle.machine.specs.declared.value.Outcome.the-variants.{Is, Foreign, Spent, Stuck}
 use Rattle.evaluator.specs.declared.operation.Who.{Who}
+use Rattle.evaluator.specs.declared.operation.Answered.{Answered}
+use Rattle.evaluator.specs.declared.operation.Operand.{Operand}
+use Rattle.evaluator.specs.declared.operation.Wanted.{Wanted}
 use Rattle.evaluator.specs.declared.node.Operator.{Operator}
-use Rattle.evaluator.specs.ByWords.{valueIn, ownerIn, contentIn, cellOf, result, ownIn, newOwnerIn, variableIn, sharedIn, makeIn, refusalOr, accessIn, readIn, reading, wordAfter, storeIn, numbersOf, operation, operands, aTruth, aNumber, chosen, chosenBy}
+use Rattle.evaluator.specs.declared.node.Operator.the-variants.{Sum, Less}
+use Rattle.evaluator.specs.declared.node.Leaf.{Leaf}
+use Rattle.evaluator.specs.declared.node.Leaf.the-variants.{Literal, Flag, Variable, SharedCell}
+use Rattle.evaluator.specs.ByWords.{valueIn, ownerIn, contentIn, cellOf, result, ownIn, newOwnerIn, variableIn, sharedIn, leafIn, makeIn, refusalOr, accessIn, readIn, reading, wordAfter, storeIn, operation, firstBy, bothBy, operatedBy, numberOr, operandOf, asNumber, outcomeOf, asAnswer, aTruth, chosen, chosenBy}
 
 -- ---- owners: the thread's own cells, then its scheduler's; an unlinked thread has none of those
 pub own-thread : (who : Who) (o r : ℕ) → r ≡ who .thread → o ≡ 16 + r → true ≡ ownIn who o
@@ -68,6 +73,23 @@ shared-none who s r e l = no _ (le-ltb s (who .shared) (omega arith)) refl
 pub ruleset variable-laws = (variable-is, variable-none)
 
 pub ruleset shared-laws = (shared-is, shared-none)
+
+-- ---- 20 to 23
+pub leaf-literal : (who : Who) (vs : List ℕ) (l : Leaf) (m k : ℕ) → l ≡ Literal m → k ≡ m → Is (Number k) ≡ leafIn who vs l
+unfolding leafIn
+leaf-literal who vs l m k e h = ap (λ (x : ℕ). Is (Number x)) h ∙ sym (ap (leafIn who vs) e)
+
+pub leaf-flag : (who : Who) (vs : List ℕ) (l : Leaf) (s : ℕ) → l ≡ Flag s → Is (Truth (eqb s 1)) ≡ leafIn who vs l
+unfolding leafIn
+leaf-flag who vs l s e = sym (ap (leafIn who vs) e)
+
+pub leaf-variable : (who : Who) (vs : List ℕ) (l : Leaf) (s : ℕ) (o : Outcome) → l ≡ Variable s → o ≡ variableIn vs s → o ≡ leafIn who vs l
+unfolding leafIn
+leaf-variable who vs l s o e h = h ∙ sym (ap (leafIn who vs) e)
+
+pub leaf-shared : (who : Who) (vs : List ℕ) (l : Leaf) (s : ℕ) (o : Outcome) → l ≡ SharedCell s → o ≡ sharedIn who s → o ≡ leafIn who vs l
+unfolding leafIn
+leaf-shared who vs l s o e h = h ∙ sym (ap (leafIn who vs) e)
 
 -- ---- a new cell: o is its owner, q the same as a word, b whether it is one's own. Behind the end of the words it is spent, as the 257th is
 module _ (who : Who) (s o n : ℕ) (v : Value) (ws : List ℕ) (b : Bool) (q : ℕ) (eo : o ≡ newOwnerIn who s) (eq : q ≡ o) (eb : b ≡ ownIn who q) where
@@ -182,23 +204,35 @@ unfolding storeIn
 store-truth who v u t n ws e = ap (λ (x : Value). storeIn who x u n ws) (sym e)
 
 -- ---- numbers and truths
-pub is-number : (v : Value) (n : ℕ) → v ≡ Number n → Is (Number n) ≡ aNumber v
-is-number v n e = sym (ap aNumber e)
-
 pub is-truth : (v : Value) (b : Bool) → v ≡ Truth b → Is (Truth b) ≡ aTruth v
 is-truth v b e = sym (ap aTruth e)
 
-pub sum-is : (v w : Value) (m n r : ℕ) → v ≡ Number m → w ≡ Number n → r ≡ (m + n) % 2 ^ 32 → Is (Number r) ≡ numbersOf plus v w
-sum-is v w m n r e f h = ap (λ (x : ℕ). Is (Number x)) h ∙ sym (ap₂ (numbersOf plus) e f)
+pub sum-row : (op : Operator) (m n r : ℕ) → op ≡ Sum → r ≡ (m + n) % 2 ^ 32 → Number r ≡ operation op m n
+sum-row op m n r e h = ap Number h ∙ sym (ap (λ (x : Operator). operation x m n) e)
 
-pub less-is : (v w : Value) (m n : ℕ) → v ≡ Number m → w ≡ Number n → Is (Truth (ltb m n)) ≡ numbersOf lessThan v w
-less-is v w m n e f = sym (ap₂ (numbersOf lessThan) e f)
+pub less-row : (op : Operator) (m n : ℕ) → op ≡ Less → Truth (ltb m n) ≡ operation op m n
+less-row op m n e = sym (ap (λ (x : Operator). operation x m n) e)
 
-pub operate-row : (op q : Operator) (v w : Value) (r : Outcome) → op ≡ q → r ≡ numbersOf (operation q) v w → r ≡ numbersOf (operation op) v w
-operate-row op q v w r e h = h ∙ sym (ap (λ (x : Operator). numbersOf (operation x) v w) e)
+pub first-number : (op : Operator) (p : Operand) (m n : ℕ) (v : Value) → p ≡ Operand.Number m → v ≡ operation op m n → Is v ≡ firstBy op p n
+first-number op p m n v e h = ap Is h ∙ sym (ap (λ (x : Operand). firstBy op x n) e)
 
-pub operands-is : (op : Operator) (o : Outcome) (v w : Value) (r : Outcome) → o ≡ Is v → r ≡ numbersOf (operation op) v w → r ≡ operands op o w
-operands-is op o v w r e h = h ∙ sym (ap (λ (x : Outcome). operands op x w) e)
+pub both-row : (op : Operator) (p q w : Operand) (r : Outcome) → q ≡ w → r ≡ bothBy op p w → r ≡ bothBy op p q
+both-row op p q w r e h = h ∙ sym (ap (bothBy op p) e)
+
+pub operated-is : (op : Operator) (x y : Wanted) (r : Outcome) → r ≡ bothBy op (x .operand) (y .operand) → record { outcome = r; used = y .used } ≡ operatedBy op x y
+operated-is op x y r e = ap (λ (o : Outcome). record { outcome = o; used = y .used }) e
+
+pub number-row : (v w : Value) (r : Operand) → v ≡ w → r ≡ numberOr w → r ≡ numberOr v
+number-row v w r e h = h ∙ sym (ap numberOr e)
+
+pub as-number-is : (x : Answered) (r : Operand) → r ≡ operandOf (x .outcome) → record { operand = r; used = x .used } ≡ asNumber x
+as-number-is x r e = ap (λ (o : Operand). record { operand = o; used = x .used }) e
+
+pub outcome-row : (p q : Operand) (r : Outcome) → p ≡ q → r ≡ outcomeOf q → r ≡ outcomeOf p
+outcome-row p q r e h = h ∙ sym (ap outcomeOf e)
+
+pub as-answer-is : (x : Wanted) (r : Outcome) → r ≡ outcomeOf (x .operand) → record { outcome = r; used = x .used } ≡ asAnswer x
+as-answer-is x r e = ap (λ (o : Outcome). record { outcome = o; used = x .used }) e
 
 -- ---- which of two frames a truth chooses
 pub chosen-first : (v : Value) (t : Bool) (b c : ℕ) → v ≡ Truth t → t ≡ true → b ≡ chosen v b c

@@ -1,6 +1,6 @@
 -- The evaluator's own recursion, on words. No reader has to believe it: on words of cells it gives what `eval` gives (proofs/Agreement). Assumes nothing: definitions.
 use mathlib.Core.List.{List}
-use mathlib.Core.Bool.{Bool, _||_, _&&_}
+use mathlib.Core.Bool.{Bool, true, false, _||_, _&&_}
 use Prim.Native.Nat.{ℕ, _+_, _*_, _/_, _%_, _^_}
 use lib.Dec.{ltb, leb, eqb}
 use lib.ListN.{length, getD, set}
@@ -22,7 +22,13 @@ use Rattle.machine.specs.declared.value.Outcome.the-variants.{Is, Foreign, Spen
 use Rattle.evaluator.specs.declared.operation.Who.{Who}
 use Rattle.evaluator.specs.declared.operation.Answered.{Answered}
 use Rattle.evaluator.specs.declared.node.Node.{Node}
-use Rattle.evaluator.specs.declared.node.Node.the-variants.{Literal, Flag, Variable, SharedCell, NewCell, ContentOf, Numbers, ChooseOf}
+use Rattle.evaluator.specs.declared.node.Node.the-variants.{Plain, Cells, Numbers, ChooseOf}
+use Rattle.evaluator.specs.declared.node.Leaf.{Leaf}
+use Rattle.evaluator.specs.declared.node.Leaf.the-variants.{Literal, Flag, Variable, SharedCell}
+use Rattle.evaluator.specs.declared.node.CellUse.{CellUse}
+use Rattle.evaluator.specs.declared.node.CellUse.the-variants.{Make, Read}
+use Rattle.evaluator.specs.declared.operation.Operand.{Operand}
+use Rattle.evaluator.specs.declared.operation.Wanted.{Wanted}
 use Rattle.evaluator.specs.declared.node.Operator.{Operator}
 use Rattle.evaluator.specs.declared.node.Operator.the-variants.{Sum, Less}
 use Rattle.evaluator.specs.Results.{Result}
@@ -30,12 +36,12 @@ use Rattle.evaluator.specs.Results.{Result}
 -- ---- frames as nodes: an expression's kind with the frames of its operands
 
 abbrev pub nodeWith : Frame → ExpressionKind → Node
-nodeWith f ExpressionKind.Number = Literal (f .a)
-nodeWith f ExpressionKind.Truth = Flag (f .s)
-nodeWith f ExpressionKind.Variable = Variable (f .s)
-nodeWith f ExpressionKind.SharedCell = SharedCell (f .s)
-nodeWith f ExpressionKind.NewCell = NewCell (f .s) (f .a)
-nodeWith f ExpressionKind.Content = ContentOf (f .a)
+nodeWith f ExpressionKind.Number = Plain (Literal (f .a))
+nodeWith f ExpressionKind.Truth = Plain (Flag (f .s))
+nodeWith f ExpressionKind.Variable = Plain (Variable (f .s))
+nodeWith f ExpressionKind.SharedCell = Plain (SharedCell (f .s))
+nodeWith f ExpressionKind.NewCell = Cells (Make (f .s)) (f .a)
+nodeWith f ExpressionKind.Content = Cells Read (f .a)
 nodeWith f ExpressionKind.Sum = Numbers Sum (f .a) (f .b)
 nodeWith f ExpressionKind.Less = Numbers Less (f .a) (f .b)
 nodeWith f ExpressionKind.Choose = ChooseOf (f .a) (f .b) (f .c)
@@ -43,11 +49,11 @@ nodeWith f ExpressionKind.Choose = ChooseOf (f .a) (f .b) (f .c)
 -- as `expressionOf`: what is no expression reads as the number 0
 abbrev pub nodeOf : Frame → Kind → Node
 nodeOf f (Expression k) = nodeWith f k
-nodeOf f (Statement k) = Literal 0
-nodeOf f Header = Literal 0
-nodeOf f Shared = Literal 0
-nodeOf f Module = Literal 0
-nodeOf f Unknown = Literal 0
+nodeOf f (Statement k) = Plain (Literal 0)
+nodeOf f Header = Plain (Literal 0)
+nodeOf f Shared = Plain (Literal 0)
+nodeOf f Module = Plain (Literal 0)
+nodeOf f Unknown = Plain (Literal 0)
 
 abbrev pub nodeAt : List Frame → ℕ → Node
 nodeAt fs i = nodeOf (frameAt fs i) (frameAt fs i .kind)
@@ -117,6 +123,12 @@ makeIn who s v n ws =
     else result Spent n ws)
     else result Foreign n ws
 
+unfoldable pub leafIn : Who → List ℕ → Leaf → Outcome
+leafIn who vs (Literal m) = Is (Number m)
+leafIn who vs (Flag s) = Is (truthOf s)
+leafIn who vs (Variable s) = variableIn vs s
+leafIn who vs (SharedCell s) = sharedIn who s
+
 -- the first refusal of two that is met, or v
 unfoldable pub refusalOr : Bool → Outcome → Bool → Outcome → Value → Outcome
 refusalOr a first b second v = if a then first else if b then second else Is v
@@ -132,6 +144,10 @@ readIn who (Truth b) n ws = Stuck
 
 abbrev pub reading : Who → Value → ℕ → List ℕ → Result
 reading who v n ws = result (readIn who v n ws) n ws
+
+abbrev pub usingIn : Who → CellUse → Value → ℕ → List ℕ → Result
+usingIn who (Make s) = makeIn who s
+usingIn who Read = reading who
 
 -- the word of a cell behind a store: a refusal changes nothing
 abbrev pub wordAfter : Outcome → ℕ → Value → ℕ
@@ -159,12 +175,61 @@ abbrev pub operation : Operator → ℕ → ℕ → Value
 operation Sum = plus
 operation Less = lessThan
 
--- the same where the first operand is what its evaluation gave
-abbrev pub operands : Operator → Outcome → Value → Outcome
-operands op (Is v) w = numbersOf (operation op) v w
-operands op Foreign w = Foreign
-operands op Spent w = Spent
-operands op Stuck w = Stuck
+-- ---- numbers that are wanted: a wrong kind waits, a refusal stands
+abbrev pub numberOr : Value → Operand
+numberOr (Number n) = Operand.Number n
+numberOr (Truth b) = Operand.Other
+numberOr (Cell c) = Operand.Other
+
+abbrev pub operandOf : Outcome → Operand
+operandOf (Is v) = numberOr v
+operandOf Foreign = Operand.Foreign
+operandOf Spent = Operand.Spent
+operandOf Stuck = Operand.Stuck
+
+abbrev pub asNumber : Answered → Wanted
+asNumber x = record { operand = operandOf (x .outcome); used = x .used }
+
+abbrev pub outcomeOf : Operand → Outcome
+outcomeOf (Operand.Number n) = Is (Number n)
+outcomeOf Operand.Other = Stuck
+outcomeOf Operand.Foreign = Foreign
+outcomeOf Operand.Spent = Spent
+outcomeOf Operand.Stuck = Stuck
+
+abbrev pub asAnswer : Wanted → Answered
+asAnswer x = record { outcome = outcomeOf (x .operand); used = x .used }
+
+abbrev pub operandStops : Operand → Bool
+operandStops (Operand.Number n) = false
+operandStops Operand.Other = false
+operandStops Operand.Foreign = true
+operandStops Operand.Spent = true
+operandStops Operand.Stuck = true
+
+abbrev pub outcomeStops : Outcome → Bool
+outcomeStops (Is v) = false
+outcomeStops Foreign = true
+outcomeStops Spent = true
+outcomeStops Stuck = true
+
+-- 26 and 27 behind their operands: the second's refusal, then 20 for either's kind
+abbrev pub firstBy : Operator → Operand → ℕ → Outcome
+firstBy op (Operand.Number m) n = Is (operation op m n)
+firstBy op Operand.Other n = Stuck
+firstBy op Operand.Foreign n = Foreign
+firstBy op Operand.Spent n = Spent
+firstBy op Operand.Stuck n = Stuck
+
+abbrev pub bothBy : Operator → Operand → Operand → Outcome
+bothBy op p (Operand.Number n) = firstBy op p n
+bothBy op p Operand.Other = Stuck
+bothBy op p Operand.Foreign = Foreign
+bothBy op p Operand.Spent = Spent
+bothBy op p Operand.Stuck = Stuck
+
+abbrev pub operatedBy : Operator → Wanted → Wanted → Answered
+operatedBy op x y = record { outcome = bothBy op (x .operand) (y .operand); used = y .used }
 
 abbrev pub aTruth : Value → Outcome
 aTruth (Truth b) = Is (Truth b)
@@ -201,9 +266,20 @@ evalIn who vs (choose i x y z) n ws =
     andThen (andThen (evalIn who vs x n ws) (keeping aTruth))
     (λ v m us. andThen (chosen v (evalIn who vs y m us) (evalIn who vs z m us)) (keeping aNumber))
 
--- behind another evaluation, whose value it does not need
-abbrev pub evaluating : Who → List ℕ → Expr → Value → ℕ → List ℕ → Result
-evaluating who vs x v n ws = evalIn who vs x n ws
+-- where a number is wanted: `evalIn`, with all that is no number as one
+pub record WantedResult : Type 0 where
+  pub operand : Operand
+  pub used : ℕ
+  pub words : List ℕ
+
+abbrev pub wanted : Wanted → List ℕ → WantedResult
+wanted r ws = record { operand = r .operand; used = r .used; words = ws }
+
+abbrev pub numberOf : Result → WantedResult
+numberOf r = record { operand = operandOf (r .outcome); used = r .used; words = r .words }
+
+abbrev pub numberIn : Who → List ℕ → Expr → ℕ → List ℕ → WantedResult
+numberIn who vs x n ws = numberOf (evalIn who vs x n ws)
 
 -- 28's condition
 abbrev pub truthIn : Who → List ℕ → Expr → ℕ → List ℕ → Result

@@ -6,7 +6,7 @@ use Prim.Native.Nat.{ℕ, _%_, _^_, _<_, _≤_}
 use lib.ListN.{length, getD}
 use Rattle.text.specs.Frames.{framesOf}
 use Rattle.program.specs.Ordered.{Ordered}
-use Rattle.machine.specs.State.{Stored}
+use Rattle.machine.specs.State.{Stored, usedCells}
 use Rattle.machine.specs.Evaluation.{Here, Evaluated, Evaluation}
 use Rattle.machine.specs.Words.{wordValue, wordCell, tabulate}
 use Rattle.machine.specs.Ranges.{valueInRange}
@@ -34,7 +34,7 @@ cellsFrom n ws = tabulate n (λ c. wordCell (getD ws c 0)) 0
 
 -- the words of what an evaluation gives; behind the cells in use they are 0
 abbrev pub resultOf : Evaluated → Result
-resultOf r = record { outcome = r .outcome; used = length (r .cells); words = cellWords (r .cells) }
+resultOf r = record { outcome = r .outcome; used = usedCells (r .cells); words = cellWords (r .cells) }
 
 -- an evaluation on the cells that the first n words are
 unfoldable pub onWords : Evaluation → ℕ → List ℕ → Result

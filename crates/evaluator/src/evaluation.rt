@@ -2,33 +2,28 @@
 use crate::node::Node;
 use crate::node::node_at;
 use crate::operation::Answered;
+use crate::operation::Wanted;
 use crate::operation::Who;
 use crate::operation::answer_of;
+use crate::operation::as_answer;
+use crate::operation::as_number;
 use crate::operation::branch;
-use crate::operation::read_variable;
-use crate::operation::shared_cell;
-use crate::operation::then_make;
-use crate::operation::then_number;
-use crate::operation::then_operate;
-use crate::operation::then_read;
+use crate::operation::leaf;
+use crate::operation::number_stops;
+use crate::operation::operated;
+use crate::operation::stops;
 use crate::operation::then_store;
 use crate::operation::then_truth;
+use crate::operation::then_use;
 use machine::value::Outcome;
-use machine::value::Value;
 ghost use mathlib.Core.Path.{_≡_};
 ghost use Rattle.text.specs.Frames.{framesOf};
 ghost use Rattle.program.specs.Trees.{expressionAt};
 ghost use Rattle.machine.specs.Evaluation.{eval, storing};
 ghost use Rattle.evaluator.specs.Results.{after, hereOf, onWords, CellWords, ValueWords, FrameWords};
-ghost use Rattle.evaluator.specs.ByWords.{andThen, evalIn, evaluating, truthIn};
+ghost use Rattle.evaluator.specs.ByWords.{evalIn, wanted, numberIn, truthIn};
 
-fn wide16(x: u16) -> u32
-    ensures { λ r. ⌜ r ≡ x ⌝ }
-{
-    x as u32
-}
-
-// The value of frame i, by the evaluator's own recursion on words.
+// The value of frame i, of any kind.
 fn value_at(
     frames: &[u64],
     who: Who,
@@ -41,51 +36,68 @@ fn value_at(
     ensures { λ r. ⌜ after r (now (cells .exit)) ≡ evalIn who (now (variables .entry)) (expressionAt (framesOf (now (frames .entry))) i) used (now (cells .entry)) ⌝ }
 {
     match node_at(frames, i) {
-        Node::Literal(n) => answer_of(Outcome::Is(Value::Number(wide16(n))), used),
-        Node::Flag(s) => answer_of(Outcome::Is(Value::Truth(s == 1)), used),
-        Node::Variable(s) => answer_of(read_variable(variables, s), used),
-        Node::SharedCell(s) => answer_of(shared_cell(who, s), used),
-        Node::NewCell(s, a) => {
+        Node::Plain(l) => answer_of(leaf(who, variables, l), used),
+        Node::Cells(u, a) => {
             let x = value_at(frames, who, variables, cells, used, a);
-            then_make(who, s, x, cells)
-        },
-        Node::ContentOf(a) => {
-            let x = value_at(frames, who, variables, cells, used, a);
-            then_read(who, x, cells)
+            then_use(u, who, x, cells)
         },
         Node::Numbers(op, a, b) => {
-            let x = value_at(frames, who, variables, cells, used, a);
-            then_operate(op, x, next_at(frames, who, variables, cells, x, b))
+            let x = number_at(frames, who, variables, cells, used, a);
+            if number_stops(x) {
+                return as_answer(x);
+            }
+            let y = number_at(frames, who, variables, cells, x.used, b);
+            operated(op, x, y)
         },
         Node::ChooseOf(a, b, c) => {
             let x = truth_at(frames, who, variables, cells, used, a);
-            then_number(next_at(frames, who, variables, cells, x, branch(x, b, c)))
+            if stops(x) {
+                return x;
+            }
+            let y = number_at(frames, who, variables, cells, x.used, branch(x, b, c));
+            as_answer(y)
         },
     }
 }
 
-// Frame i behind the evaluation that gave x, whose refusal stands.
-fn next_at(
+// The number of frame i. A wrong kind is not refused here: it waits until the frame that wants the number has evaluated all that it evaluates.
+fn number_at(
     frames: &[u64],
     who: Who,
     variables: &[u64],
     cells: &mut [u64],
-    x: Answered,
+    used: usize,
     i: usize,
-) -> Answered
+) -> Wanted
     requires { ⌜ FrameWords (now frames) i ⌝ }
-    ensures { λ r. ⌜ after r (now (cells .exit)) ≡ andThen (after x (now (cells .entry))) (evaluating who (now (variables .entry)) (expressionAt (framesOf (now (frames .entry))) i)) ⌝ }
+    ensures { λ r. ⌜ wanted r (now (cells .exit)) ≡ numberIn who (now (variables .entry)) (expressionAt (framesOf (now (frames .entry))) i) used (now (cells .entry)) ⌝ }
 {
-    let o = x.outcome;
-    match o {
-        Outcome::Is(v) => value_at(frames, who, variables, cells, x.used, i),
-        Outcome::Foreign => x,
-        Outcome::Spent => x,
-        Outcome::Stuck => x,
+    match node_at(frames, i) {
+        Node::Plain(l) => as_number(answer_of(leaf(who, variables, l), used)),
+        Node::Cells(u, a) => {
+            let x = value_at(frames, who, variables, cells, used, a);
+            as_number(then_use(u, who, x, cells))
+        },
+        Node::Numbers(op, a, b) => {
+            let x = number_at(frames, who, variables, cells, used, a);
+            if number_stops(x) {
+                return x;
+            }
+            let y = number_at(frames, who, variables, cells, x.used, b);
+            as_number(operated(op, x, y))
+        },
+        Node::ChooseOf(a, b, c) => {
+            let x = truth_at(frames, who, variables, cells, used, a);
+            if stops(x) {
+                return as_number(x);
+            }
+            let y = number_at(frames, who, variables, cells, x.used, branch(x, b, c));
+            as_number(as_answer(y))
+        },
     }
 }
 
-// The same, as a truth: 28's condition is tested before its branch.
+// The truth of frame i. A wrong kind is refused here: 28's condition is tested before its branch.
 fn truth_at(
     frames: &[u64],
     who: Who,
@@ -97,7 +109,29 @@ fn truth_at(
     requires { ⌜ FrameWords (now frames) i ⌝ }
     ensures { λ r. ⌜ after r (now (cells .exit)) ≡ truthIn who (now (variables .entry)) (expressionAt (framesOf (now (frames .entry))) i) used (now (cells .entry)) ⌝ }
 {
-    then_truth(value_at(frames, who, variables, cells, used, i))
+    match node_at(frames, i) {
+        Node::Plain(l) => then_truth(answer_of(leaf(who, variables, l), used)),
+        Node::Cells(u, a) => {
+            let x = value_at(frames, who, variables, cells, used, a);
+            then_truth(then_use(u, who, x, cells))
+        },
+        Node::Numbers(op, a, b) => {
+            let x = number_at(frames, who, variables, cells, used, a);
+            if number_stops(x) {
+                return as_answer(x);
+            }
+            let y = number_at(frames, who, variables, cells, x.used, b);
+            then_truth(operated(op, x, y))
+        },
+        Node::ChooseOf(a, b, c) => {
+            let x = truth_at(frames, who, variables, cells, used, a);
+            if stops(x) {
+                return x;
+            }
+            let y = number_at(frames, who, variables, cells, x.used, branch(x, b, c));
+            then_truth(as_answer(y))
+        },
+    }
 }
 
 // The value of frame i of a file, on the cells that the words are. Each `requires` is what refusals 3, 6 and 14 leave: the words of

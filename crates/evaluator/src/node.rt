@@ -15,14 +15,24 @@ pub enum Operator {
     Less,
 }
 
-// The kind of an expression with what it needs: a number, an index, an owner, the frames of its operands.
-pub enum Node {
+// An expression without operands, 20 to 23: a number, or the S of a truth, of a variable, of a shared cell.
+pub enum Leaf {
     Literal(u16),
     Flag(u8),
     Variable(u8),
     SharedCell(u8),
-    NewCell(u8, usize),
-    ContentOf(usize),
+}
+
+// What becomes of a value: a new cell's content, its owner S beside it, or the cell whose content is read.
+pub enum CellUse {
+    Make(u8),
+    Read,
+}
+
+// The kind of an expression with the frames of its operands: none, any value, two numbers, a truth and two numbers.
+pub enum Node {
+    Plain(Leaf),
+    Cells(CellUse, usize),
     Numbers(Operator, usize, usize),
     ChooseOf(usize, usize, usize),
 }
@@ -37,12 +47,12 @@ fn expression_node(f: Frame, k: ExpressionKind) -> Node
     ensures { λ r. ⌜ r ≡ nodeWith f k ⌝ }
 {
     match k {
-        ExpressionKind::Number => Node::Literal(f.a),
-        ExpressionKind::Truth => Node::Flag(f.s),
-        ExpressionKind::Variable => Node::Variable(f.s),
-        ExpressionKind::SharedCell => Node::SharedCell(f.s),
-        ExpressionKind::NewCell => Node::NewCell(f.s, index16(f.a)),
-        ExpressionKind::Content => Node::ContentOf(index16(f.a)),
+        ExpressionKind::Number => Node::Plain(Leaf::Literal(f.a)),
+        ExpressionKind::Truth => Node::Plain(Leaf::Flag(f.s)),
+        ExpressionKind::Variable => Node::Plain(Leaf::Variable(f.s)),
+        ExpressionKind::SharedCell => Node::Plain(Leaf::SharedCell(f.s)),
+        ExpressionKind::NewCell => Node::Cells(CellUse::Make(f.s), index16(f.a)),
+        ExpressionKind::Content => Node::Cells(CellUse::Read, index16(f.a)),
         ExpressionKind::Sum => Node::Numbers(Operator::Sum, index16(f.a), index16(f.b)),
         ExpressionKind::Less => Node::Numbers(Operator::Less, index16(f.a), index16(f.b)),
         ExpressionKind::Choose => Node::ChooseOf(index16(f.a), index16(f.b), index16(f.c)),
@@ -55,11 +65,11 @@ fn node_of(f: Frame) -> Node
     let k = f.kind;
     match k {
         Kind::Expression(e) => expression_node(f, e),
-        Kind::Header => Node::Literal(0),
-        Kind::Shared => Node::Literal(0),
-        Kind::Module => Node::Literal(0),
-        Kind::Statement(s) => Node::Literal(0),
-        Kind::Unknown => Node::Literal(0),
+        Kind::Header => Node::Plain(Leaf::Literal(0)),
+        Kind::Shared => Node::Plain(Leaf::Literal(0)),
+        Kind::Module => Node::Plain(Leaf::Literal(0)),
+        Kind::Statement(s) => Node::Plain(Leaf::Literal(0)),
+        Kind::Unknown => Node::Plain(Leaf::Literal(0)),
     }
 }
 

@@ -1,4 +1,6 @@
 // Operations on values and cells: what each kind of expression does behind its operands.
+use crate::node::CellUse;
+use crate::node::Leaf;
 use crate::node::Operator;
 use crate::word::cell_word;
 use crate::word::content_of;
@@ -10,9 +12,8 @@ use machine::value::Outcome;
 use machine::value::Value;
 ghost use mathlib.Core.Path.{_≡_};
 ghost use lib.ListN.{getD, set};
-ghost use Rattle.machine.specs.Evaluation.{plus, lessThan};
 ghost use Rattle.evaluator.specs.Results.{after};
-ghost use Rattle.evaluator.specs.ByWords.{ownIn, newOwnerIn, variableIn, sharedIn, refusalOr, accessIn, readIn, reading, makeIn, wordAfter, storeIn, numbersOf, aTruth, aNumber, operation, operands, chosen, chosenBy, andThen, only};
+ghost use Rattle.evaluator.specs.ByWords.{ownIn, newOwnerIn, variableIn, sharedIn, leafIn, refusalOr, accessIn, readIn, reading, makeIn, usingIn, wordAfter, storeIn, aTruth, operation, firstBy, bothBy, operatedBy, numberOr, operandOf, asNumber, outcomeOf, asAnswer, operandStops, outcomeStops, chosen, chosenBy, andThen, only};
 
 // Who evaluates: the acting thread, the place on which it stands, and how many cells are shared.
 pub struct Who {
@@ -24,6 +25,20 @@ pub struct Who {
 // What an evaluation answers, and how many cells are in use behind it.
 pub struct Answered {
     pub outcome: Outcome,
+    pub used: usize,
+}
+
+// What a frame comes to where a number is wanted of it. `Other` is a value of another kind: 20, but behind all expressions of the frame that wants the number.
+pub enum Operand {
+    Number(u32),
+    Other,
+    Foreign,
+    Spent,
+    Stuck,
+}
+
+pub struct Wanted {
+    pub operand: Operand,
     pub used: usize,
 }
 
@@ -49,6 +64,12 @@ fn wide16(x: u16) -> u64
     ensures { λ r. ⌜ r ≡ x ⌝ }
 {
     x as u64
+}
+
+fn number16(x: u16) -> u32
+    ensures { λ r. ⌜ r ≡ x ⌝ }
+{
+    x as u32
 }
 
 fn index8(x: u8) -> usize
@@ -101,7 +122,7 @@ pub fn new_owner(who: Who, s: u8) -> u16
 }
 
 // 22
-pub fn read_variable(variables: &[u64], s: u8) -> Outcome
+fn read_variable(variables: &[u64], s: u8) -> Outcome
     ensures { λ r. ⌜ r ≡ variableIn (now (variables .entry)) s ⌝ }
 {
     let i = index8(s);
@@ -112,13 +133,25 @@ pub fn read_variable(variables: &[u64], s: u8) -> Outcome
 }
 
 // 23
-pub fn shared_cell(who: Who, s: u8) -> Outcome
+fn shared_cell(who: Who, s: u8) -> Outcome
     ensures { λ r. ⌜ r ≡ sharedIn who s ⌝ }
 {
     if index8(s) < who.shared {
         return Outcome::Is(Value::Cell(s));
     }
     Outcome::Stuck
+}
+
+// 20 to 23
+pub fn leaf(who: Who, variables: &[u64], l: Leaf) -> Outcome
+    ensures { λ r. ⌜ r ≡ leafIn who (now (variables .entry)) l ⌝ }
+{
+    match l {
+        Leaf::Literal(n) => Outcome::Is(Value::Number(number16(n))),
+        Leaf::Flag(s) => Outcome::Is(Value::Truth(s == 1)),
+        Leaf::Variable(s) => read_variable(variables, s),
+        Leaf::SharedCell(s) => shared_cell(who, s),
+    }
 }
 
 // 24: 19 is tested before 17.
@@ -223,36 +256,6 @@ pub fn store_cell(who: Who, v: Value, u: Value, cells: &mut [u64], used: usize) 
     }
 }
 
-// 26
-pub fn sum_of(v: Value, w: Value) -> Outcome
-    ensures { λ r. ⌜ r ≡ numbersOf plus v w ⌝ }
-{
-    match v {
-        Value::Number(m) => match w {
-            Value::Number(n) => Outcome::Is(Value::Number(std::num::wrapping_add_u32(m, n))),
-            Value::Truth(t) => Outcome::Stuck,
-            Value::Cell(c) => Outcome::Stuck,
-        },
-        Value::Truth(t) => Outcome::Stuck,
-        Value::Cell(c) => Outcome::Stuck,
-    }
-}
-
-// 27
-pub fn less_of(v: Value, w: Value) -> Outcome
-    ensures { λ r. ⌜ r ≡ numbersOf lessThan v w ⌝ }
-{
-    match v {
-        Value::Number(m) => match w {
-            Value::Number(n) => Outcome::Is(Value::Truth(m < n)),
-            Value::Truth(t) => Outcome::Stuck,
-            Value::Cell(c) => Outcome::Stuck,
-        },
-        Value::Truth(t) => Outcome::Stuck,
-        Value::Cell(c) => Outcome::Stuck,
-    }
-}
-
 // Only a truth goes on: 28's condition.
 pub fn a_truth(v: Value) -> Outcome
     ensures { λ r. ⌜ r ≡ aTruth v ⌝ }
@@ -264,36 +267,131 @@ pub fn a_truth(v: Value) -> Outcome
     }
 }
 
-// Only a number goes on: 28's chosen value.
-pub fn a_number(v: Value) -> Outcome
-    ensures { λ r. ⌜ r ≡ aNumber v ⌝ }
-{
-    match v {
-        Value::Number(n) => Outcome::Is(Value::Number(n)),
-        Value::Truth(t) => Outcome::Stuck,
-        Value::Cell(c) => Outcome::Stuck,
-    }
-}
-
-// 26 or 27
-fn operate(op: Operator, v: Value, w: Value) -> Outcome
-    ensures { λ r. ⌜ r ≡ numbersOf (operation op) v w ⌝ }
+// 26 or 27 of two numbers
+fn operate(op: Operator, m: u32, n: u32) -> Value
+    ensures { λ r. ⌜ r ≡ operation op m n ⌝ }
 {
     match op {
-        Operator::Sum => sum_of(v, w),
-        Operator::Less => less_of(v, w),
+        Operator::Sum => Value::Number(std::num::wrapping_add_u32(m, n)),
+        Operator::Less => Value::Truth(m < n),
     }
 }
 
-// The same where the first operand is what its evaluation gave.
-fn operate_on(op: Operator, o: Outcome, w: Value) -> Outcome
-    ensures { λ r. ⌜ r ≡ operands op o w ⌝ }
+// The same where the first is what a number was wanted of.
+fn operate_first(op: Operator, p: Operand, n: u32) -> Outcome
+    ensures { λ r. ⌜ r ≡ firstBy op p n ⌝ }
+{
+    match p {
+        Operand::Number(m) => Outcome::Is(operate(op, m, n)),
+        Operand::Other => Outcome::Stuck,
+        Operand::Foreign => Outcome::Foreign,
+        Operand::Spent => Outcome::Spent,
+        Operand::Stuck => Outcome::Stuck,
+    }
+}
+
+// The same where both are: the second's refusal comes before 20 for a wrong kind of the first.
+fn operate_both(op: Operator, p: Operand, q: Operand) -> Outcome
+    ensures { λ r. ⌜ r ≡ bothBy op p q ⌝ }
+{
+    match q {
+        Operand::Number(n) => operate_first(op, p, n),
+        Operand::Other => Outcome::Stuck,
+        Operand::Foreign => Outcome::Foreign,
+        Operand::Spent => Outcome::Spent,
+        Operand::Stuck => Outcome::Stuck,
+    }
+}
+
+pub fn operated(op: Operator, x: Wanted, y: Wanted) -> Answered
+    ensures { λ r. ⌜ r ≡ operatedBy op x y ⌝ }
+{
+    let p = x.operand;
+    let q = y.operand;
+    Answered {
+        outcome: operate_both(op, p, q),
+        used: y.used,
+    }
+}
+
+// A value where a number is wanted.
+fn number_in(v: Value) -> Operand
+    ensures { λ r. ⌜ r ≡ numberOr v ⌝ }
+{
+    match v {
+        Value::Number(n) => Operand::Number(n),
+        Value::Truth(t) => Operand::Other,
+        Value::Cell(c) => Operand::Other,
+    }
+}
+
+fn operand_of(o: Outcome) -> Operand
+    ensures { λ r. ⌜ r ≡ operandOf o ⌝ }
 {
     match o {
-        Outcome::Is(v) => operate(op, v, w),
-        Outcome::Foreign => o,
-        Outcome::Spent => o,
-        Outcome::Stuck => o,
+        Outcome::Is(v) => number_in(v),
+        Outcome::Foreign => Operand::Foreign,
+        Outcome::Spent => Operand::Spent,
+        Outcome::Stuck => Operand::Stuck,
+    }
+}
+
+pub fn as_number(x: Answered) -> Wanted
+    ensures { λ r. ⌜ r ≡ asNumber x ⌝ }
+{
+    let o = x.outcome;
+    Wanted {
+        operand: operand_of(o),
+        used: x.used,
+    }
+}
+
+// The other way, for who wants nothing else any more: a wrong kind is 20.
+fn outcome_of(p: Operand) -> Outcome
+    ensures { λ r. ⌜ r ≡ outcomeOf p ⌝ }
+{
+    match p {
+        Operand::Number(n) => Outcome::Is(Value::Number(n)),
+        Operand::Other => Outcome::Stuck,
+        Operand::Foreign => Outcome::Foreign,
+        Operand::Spent => Outcome::Spent,
+        Operand::Stuck => Outcome::Stuck,
+    }
+}
+
+pub fn as_answer(x: Wanted) -> Answered
+    ensures { λ r. ⌜ r ≡ asAnswer x ⌝ }
+{
+    let p = x.operand;
+    Answered {
+        outcome: outcome_of(p),
+        used: x.used,
+    }
+}
+
+// Whether it is a refusal, behind which nothing more is evaluated.
+pub fn number_stops(x: Wanted) -> bool
+    ensures { λ r. ⌜ r ≡ operandStops (x .operand) ⌝ }
+{
+    let p = x.operand;
+    match p {
+        Operand::Number(n) => false,
+        Operand::Other => false,
+        Operand::Foreign => true,
+        Operand::Spent => true,
+        Operand::Stuck => true,
+    }
+}
+
+pub fn stops(x: Answered) -> bool
+    ensures { λ r. ⌜ r ≡ outcomeStops (x .outcome) ⌝ }
+{
+    let o = x.outcome;
+    match o {
+        Outcome::Is(v) => false,
+        Outcome::Foreign => true,
+        Outcome::Spent => true,
+        Outcome::Stuck => true,
     }
 }
 
@@ -328,7 +426,7 @@ pub fn branch(x: Answered, b: usize, c: usize) -> usize
 
 // ---- each of them behind the evaluation of its last operand, whose refusal stands
 
-pub fn then_make(who: Who, s: u8, x: Answered, cells: &mut [u64]) -> Answered
+fn then_make(who: Who, s: u8, x: Answered, cells: &mut [u64]) -> Answered
     ensures { λ r. ⌜ after r (now (cells .exit)) ≡ andThen (after x (now (cells .entry))) (makeIn who s) ⌝ }
 {
     let o = x.outcome;
@@ -340,7 +438,7 @@ pub fn then_make(who: Who, s: u8, x: Answered, cells: &mut [u64]) -> Answered
     }
 }
 
-pub fn then_read(who: Who, x: Answered, cells: &[u64]) -> Answered
+fn then_read(who: Who, x: Answered, cells: &[u64]) -> Answered
     ensures { λ r. ⌜ after r (now (cells .entry)) ≡ andThen (after x (now (cells .entry))) (reading who) ⌝ }
 {
     let o = x.outcome;
@@ -352,6 +450,16 @@ pub fn then_read(who: Who, x: Answered, cells: &[u64]) -> Answered
         Outcome::Foreign => x,
         Outcome::Spent => x,
         Outcome::Stuck => x,
+    }
+}
+
+// 24 or 25
+pub fn then_use(u: CellUse, who: Who, x: Answered, cells: &mut [u64]) -> Answered
+    ensures { λ r. ⌜ after r (now (cells .exit)) ≡ andThen (after x (now (cells .entry))) (usingIn who u) ⌝ }
+{
+    match u {
+        CellUse::Make(s) => then_make(who, s, x, cells),
+        CellUse::Read => then_read(who, x, cells),
     }
 }
 
@@ -367,22 +475,6 @@ pub fn then_store(who: Who, v: Value, x: Answered, cells: &mut [u64]) -> Answere
     }
 }
 
-pub fn then_operate(op: Operator, x: Answered, y: Answered) -> Answered
-    ensures { λ r. ⌜ r ≡ only y (operands op (x .outcome)) ⌝ }
-{
-    let o = y.outcome;
-    let p = x.outcome;
-    match o {
-        Outcome::Is(w) => Answered {
-            outcome: operate_on(op, p, w),
-            used: y.used,
-        },
-        Outcome::Foreign => y,
-        Outcome::Spent => y,
-        Outcome::Stuck => y,
-    }
-}
-
 pub fn then_truth(x: Answered) -> Answered
     ensures { λ r. ⌜ r ≡ only x aTruth ⌝ }
 {
@@ -390,21 +482,6 @@ pub fn then_truth(x: Answered) -> Answered
     match o {
         Outcome::Is(v) => Answered {
             outcome: a_truth(v),
-            used: x.used,
-        },
-        Outcome::Foreign => x,
-        Outcome::Spent => x,
-        Outcome::Stuck => x,
-    }
-}
-
-pub fn then_number(x: Answered) -> Answered
-    ensures { λ r. ⌜ r ≡ only x aNumber ⌝ }
-{
-    let o = x.outcome;
-    match o {
-        Outcome::Is(v) => Answered {
-            outcome: a_number(v),
             used: x.used,
         },
         Outcome::Foreign => x,

@@ -11,6 +11,7 @@ use Rattle.language.specs.declared.verdict.Verdict.{Verdict}
 use Rattle.language.specs.declared.verdict.Verdict.the-variants.{Accepted, Rejected}
 use Rattle.program.specs.Programs.{Program, programOf}
 use Rattle.text.specs.Digits.{digit}
+use Rattle.machine.specs.State.{usedCells}
 use Rattle.machine.specs.Turns.{Stepped}
 use Rattle.machine.specs.Runs.{steps}
 
@@ -82,7 +83,7 @@ choiceLineOf choice answer thread cells =
     ++ lineFeed ∷ []
 
 unfoldable pub choiceLine : ℕ → Stepped → List ℕ
-choiceLine c r = choiceLineOf c (r .answer) (r .thread) (length (r .state .cells))
+choiceLine c r = choiceLineOf c (r .answer) (r .thread) (usedCells (r .state .cells))
 
 unfoldable pub choiceLines : List ℕ → List Stepped → List ℕ
 choiceLines [] rs = []

@@ -9,7 +9,7 @@ use borrow.Author.Tests.{ltb-true, ltb-false}
 use native.Mathlib.Decide.{ℕ-discrete}
 use lib.ListN.{getD, length, set, length-set, length-append, List·getD-append, List·getD-eq-default}
 use lib.Seq.{getD-set-same, getD-set-other, getD-at}
-use Rattle.machine.specs.State.{State, Stored, Thread, Scheduler, noThread, noScheduler, noCell, withThread, withScheduler, withCells, withNew}
+use Rattle.machine.specs.State.{State, Stored, Thread, Scheduler, noThread, noScheduler, noCell, usedCells, withThread, withScheduler, withCells, withNew}
 use Rattle.machine.specs.Words.{threadWord, schedulerWord, cellWord, pack}
 use Rattle.machine.specs.Blocks.{pasted, threadWords, schedulerWords, cellWords}
 use Rattle.machine.proofs.WordLaws.{pasted-length, pasted-in, pasted-out, Says, pack-length, word-0, word-1, word-scheduler, word-thread, word-cell, tab-length, tab-at}
@@ -120,11 +120,11 @@ module _ (w : List ℕ) (s : State) (h : Says w s) where
           ∙ ap (λ (y : Scheduler). schedulerWord y j) (sym (getD-set-other (s .schedulers) k i x noScheduler e))
 
   -- all cells; their count is stored apart
-  pub put-cells : (cs : List Stored) → Says (set (pasted w 4562 (cellWords cs) 256) 1 (length cs)) (withCells cs s)
+  pub put-cells : (cs : List Stored) → Says (set (pasted w 4562 (cellWords cs) 256) 1 (usedCells cs)) (withCells cs s)
   put-cells cs = record {
-    all = length-set (pasted w 4562 (cellWords cs) 256) 1 (length cs) ∙ pl ∙ size;
+    all = length-set (pasted w 4562 (cellWords cs) 256) 1 (usedCells cs) ∙ pl ∙ size;
     threads = other 0 (λ e. omega arith) ∙ out 0 (λ p q. omega arith) ∙ h .threads;
-    cells = getD-set-same (pasted w 4562 (cellWords cs) 256) 1 (length cs) 0 (rw (pl, size) (omega arith));
+    cells = getD-set-same (pasted w 4562 (cellWords cs) 256) 1 (usedCells cs) 0 (rw (pl, size) (omega arith));
     scheduler = λ i j f g. other (2 + 130 * i + j) (λ e. omega arith) ∙ out (2 + 130 * i + j) (λ p q. omega arith) ∙ h .scheduler i j f g;
     thread = λ i j f g. other (1042 + 55 * i + j) (λ e. omega arith) ∙ out (1042 + 55 * i + j) (λ p q. omega arith) ∙ h .thread i j f g;
     cell = λ j g. other (4562 + j) (λ e. omega arith) ∙ pasted-in w 4562 (cellWords cs) 256 hd hs j g ∙ cells-at cs j g;
@@ -142,8 +142,8 @@ module _ (w : List ℕ) (s : State) (h : Says w s) where
       out : (i : ℕ) → (4562 ≤ i → i < 4562 + 256 → ⊥) → getD (pasted w 4562 (cellWords cs) 256) i 0 ≡ getD w i 0
       out = pasted-out w 4562 (cellWords cs) 256 hd hs
 
-      other : (i : ℕ) → (i ≡ 1 → ⊥) → getD (set (pasted w 4562 (cellWords cs) 256) 1 (length cs)) i 0 ≡ getD (pasted w 4562 (cellWords cs) 256) i 0
-      other i e = getD-set-other (pasted w 4562 (cellWords cs) 256) 1 i (length cs) 0 e
+      other : (i : ℕ) → (i ≡ 1 → ⊥) → getD (set (pasted w 4562 (cellWords cs) 256) 1 (usedCells cs)) i 0 ≡ getD (pasted w 4562 (cellWords cs) 256) i 0
+      other i e = getD-set-other (pasted w 4562 (cellWords cs) 256) 1 i (usedCells cs) 0 e
 
 -- one more thread; the count of threads is stored apart
 pub put-new : (w : List ℕ) (s : State) → Says w s → (x : Thread) → length (s .threads) < 64

@@ -1,6 +1,6 @@
 -- Why no continuation and no variable space is ever full (20) from a fresh state on: a continuation with all the room that it will take, `Roomy`, fits its space,
 -- its drops find their variables, and each item taken from it leaves such a continuation. Assumes nothing.
-use mathlib.Core.Path.{_≡_}
+use mathlib.Core.Path.{_≡_, ap, _∙_}
 use mathlib.Core.List.{List, [], _∷_}
 use mathlib.Core.Bool.{true}
 use Prim.Native.Nat.{ℕ, suc, _+_, _≤_, _<_, max}
@@ -11,7 +11,7 @@ use borrow.Author.Tests.{le-leb}
 use Rattle.program.specs.Trees.{Expr, Stmt, nothing, seq, doAt, start, startWait, cooperate, letIn, store, ifElse, while}
 use Rattle.machine.proofs.Tests.{and-both}
 use Rattle.machine.specs.State.{Item, run, back, drop}
-use Rattle.machine.specs.Turns.{fits}
+use Rattle.machine.specs.Turns.{Spaces, stateSpaces, fits}
 use Rattle.machine.specs.declared.value.Value.{Value}
 
 -- ---- the room that a statement takes
@@ -68,9 +68,9 @@ roomy-fits (run-item {x = x} h g r) = let p = height-pos x in (omega arith, omeg
 roomy-fits (back-item h r) = (omega arith, roomy-fits r .1)
 roomy-fits (drop-item h g r) = (omega arith, omega arith)
 
-pub fits-true : (l : List Item) (vs : List Value) → Roomy (length vs) l → fits l vs ≡ true
+pub fits-true : (z : Spaces) → z ≡ stateSpaces → (l : List Item) (vs : List Value) → Roomy (length vs) l → fits z l vs ≡ true
 unfolding fits
-fits-true l vs r = let g = roomy-fits r in and-both (leb (length l) 25) _ (le-leb (length l) 25 (g .0)) (le-leb (length vs) 25 (g .1))
+fits-true z e l vs r = let g = roomy-fits r in ap (λ (y : Spaces). fits y l vs) e ∙ and-both (leb (length l) 25) _ (le-leb (length l) 25 (g .0)) (le-leb (length vs) 25 (g .1))
 
 -- ---- it stays so when a statement is taken apart
 

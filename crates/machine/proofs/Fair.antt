@@ -15,7 +15,7 @@ use Rattle.machine.specs.State.{State, Stored, Item, run, back, drop, En
 use Rattle.machine.specs.Waits.{readyThreads, stillWaiting}
 use Rattle.machine.specs.Evaluation.{Here, Evaluated, Evaluation, eval, storing}
 use Rattle.machine.specs.Turns.{Stepped, Turn, refuse, accept, behind, evaluator, goOn, withValue, withValues, byCondition, stay, move, goTo}
-use Rattle.machine.specs.Steps.{stepItems, stepThread, turn, nobody, turnInstant, endInstant, stepScheduler, step}
+use Rattle.machine.specs.Steps.{stepItems, stepThread, stepThreadWithin, turn, nobody, turnInstant, endInstant, stepScheduler, step, stepWithin}
 use Rattle.machine.specs.Statements.{ends, drops, goesBack, stepNothing, stepSeq, stepDo, starting, stepStart, startedWait, stepStartWait, stepCooperate, stepLet, stepStore, stepIf, stepWhile, stepStatement}
 use Rattle.machine.specs.declared.value.Value.{Value}
 use Rattle.machine.specs.declared.value.Value.the-variants.{Number, Truth, Cell}
@@ -110,7 +110,7 @@ fair-items p s c t (back q ∷ items) = fair-goTo (turn p s c t items) q _ none
 fair-items p s c t (drop ∷ items) = fair-if _ _ _ _ (fair-refuse (turn p s c t items) 20 none) (fair-stay (turn p s c t items) _ _ none)
 
 fair-thread : (p : Program) (s : State) (c t : ℕ) → Fair s (stepThread p s c t)
-unfolding stepThread
+unfolding stepThreadWithin
 fair-thread p s c t = fair-items p s c t (threadAt s t .continuation)
 
 fair-nobody : (n : ℕ) (s : State) → Fair s (nobody n s)
@@ -126,5 +126,5 @@ fair-scheduler p s c [] = let es = schedulerAt s c .next in fair-instant s c (re
 fair-scheduler p s c (t ∷ ts) = fair-thread p s c t
 
 pub fair : (p : Program) (s : State) (c : ℕ) → Fair s (step p s c)
-unfolding step
+unfolding stepWithin
 fair p s c = fair-if _ _ _ _ (fair-scheduler p s c (schedulerAt s c .active)) (fair-if _ _ _ _ (fair-thread p s c _) (fair-nobody 15 s))

@@ -14,7 +14,7 @@ use Rattle.basics.proofs.Ifs.{if-all, and-true}
 use Rattle.language.specs.Places.{hasPlace, hasScheduler}
 use Rattle.program.specs.Trees.{Expr}
 use Rattle.machine.specs.Accesses.{Access}
-use Rattle.machine.specs.State.{Stored, cellAt, noCell, threadOwner}
+use Rattle.machine.specs.State.{Stored, cellAt, noCell, isUsed, usedCells, withNewCell, threadOwner}
 use Rattle.machine.specs.Evaluation.{Here, Evaluated, Evaluation, gives, after, andThen, _>>=_, isOwn, accessOf, accessing, atCell, readVariable, sharedCell, addCell, newOwner, makeCell, readCell, putIn, storeCell, ofNumbers, plus, lessThan, byTruth, aNumber, eval, storing}
 use Rattle.machine.specs.Ranges.{ownerInRange}
 use Rattle.machine.specs.declared.value.Value.{Value}
@@ -118,14 +118,14 @@ unfolding accessing
 fit-accessing {n} h c o r cs d f =
     fit-after (accessOf h c o ∷ []) _ (if-all (EvalFits n) (isOwn h o) (r cs) (gives Foreign cs) (λ _. f) (λ _. record { cells = d; outcome = is-foreign }))
 
-fit-at : {n : ℕ} (h : Here) (c : ℕ) (r : Evaluation) (cs : List Stored) → CellsFit n cs → (c < length cs → EvalFits n (r cs)) → EvalFits n (atCell h c r cs)
+fit-at : {n : ℕ} (h : Here) (c : ℕ) (r : Evaluation) (cs : List Stored) → CellsFit n cs → (isUsed cs c ≡ true → EvalFits n (r cs)) → EvalFits n (atCell h c r cs)
 unfolding atCell
 fit-at {n} h c r cs d f =
-    if-all (EvalFits n) (ltb c (length cs)) _ _ (λ e. fit-accessing h c _ r cs d (f (ltb-true c (length cs) e))) (λ _. fit-stuck cs d)
+    if-all (EvalFits n) (isUsed cs c) _ _ (λ e. fit-accessing h c _ r cs d (f e)) (λ _. fit-stuck cs d)
 
 fit-read : {n : ℕ} (h : Here) (v : Value) (cs : List Stored) → CellsFit n cs → EvalFits n (readCell h v cs)
 unfolding readCell
-fit-read h (Cell c) cs d = fit-at h c _ cs d (λ l. fit-is _ cs d (d .each c l .value))
+fit-read h (Cell c) cs d = fit-at h c _ cs d (λ e. fit-is _ cs d (d .each c (ltb-true c (length cs) e) .value))
 fit-read h (Number m) cs d = fit-stuck cs d
 fit-read h (Truth b) cs d = fit-stuck cs d
 
@@ -161,9 +161,9 @@ fit-owner n h s t p =
 fit-add : (n o : ℕ) (v : Value) (cs : List Stored) → CellsFit n cs → ownerInRange n o ≡ true → ValueFits v → EvalFits n (addCell o v cs)
 unfolding addCell
 fit-add n o v cs d p w =
-    if-all (EvalFits n) (ltb (length cs) 256) _ _
+    if-all (EvalFits n) (ltb (usedCells cs) 256) _ _
     (λ e. let l : length cs < 256 = ltb-true (length cs) 256 e in
-    let m : length (cs ++ (x ∷ [])) ≡ length cs + 1 = length-append cs (x ∷ []) in
+    let m : length (withNewCell cs x) ≡ length cs + 1 = length-append cs (x ∷ []) in
     record {
       cells = record { room = omega arith; each = each-snoc (CellFits n) cs x noCell (d .each) (record { owner = p; value = w }) };
       outcome = is-value (cell l);

@@ -17,9 +17,9 @@ use Rattle.machine.specs.State.{State, Item, run, back, drop, Thread, En
 use Rattle.machine.specs.Fresh.{fresh, firstCell, mainThread, homeScheduler}
 use Rattle.machine.specs.Waits.{isReady, threadOf, keepIf, readyThreads, stillWaiting}
 use Rattle.machine.specs.Evaluation.{Here, Evaluated, Evaluation, eval, storing}
-use Rattle.machine.specs.Turns.{Stepped, Turn, here, continuation, variables, unlinkedHere, evaluator, behind, goOn, withValue, withValues, byCondition, selfAt, settled, isSchedulerOf, behindFirst, leave, room, fits, stay, move, goTo}
+use Rattle.machine.specs.Turns.{Spaces, holds, stateSpaces, Stepped, Turn, here, continuation, variables, unlinkedHere, evaluator, behind, goOn, withValue, withValues, byCondition, selfAt, settled, isSchedulerOf, behindFirst, leave, room, fits, stay, move, goTo}
 use Rattle.machine.specs.Statements.{ends, drops, goesBack, stepNothing, stepSeq, stepDo, started, newThread, withStarted, starting, stepStart, startedWait, stepStartWait, stepCooperate, stepLet, stepStore, stepIf, stepWhile, stepStatement}
-use Rattle.machine.specs.Steps.{turn, stepItems, stepThread, turnInstant, endInstant, stepScheduler, isUnlinked, step}
+use Rattle.machine.specs.Steps.{turn, stepItems, stepThread, stepThreadWithin, turnInstant, endInstant, stepScheduler, isUnlinked, step, stepWithin}
 use Rattle.machine.specs.Runs.{stateFrom, stateAfter}
 use Rattle.machine.specs.Words.{pack}
 use Rattle.machine.specs.Ranges.{isStatement, inRange}
@@ -137,6 +137,7 @@ module _ (fs : List Frame) (P : Program) (n : ℕ) (F : FileFits fs P n) where
     pub thread : IsThread (u .thread)
     pub self : ThreadFits fs n (u .self)
     pub program : u .program ≡ P
+    pub spaces : u .spaces ≡ stateSpaces
 
   abbrev Keeps : Stepped → Type 0
   Keeps r = Shaped fs n (r .state)
@@ -188,32 +189,32 @@ module _ (fs : List Frame) (P : Program) (n : ℕ) (F : FileFits fs P n) where
   unfolding enlist
   enlist-next s q e = next-more (s .schedulers) (q - 2) _ (length-append (schedulerAt s q .next) (e ∷ []))
 
-  pub has-room : (u : Turn) (m q : ℕ) → room u m q ≡ true → length (schedulerAt (u .state) q .next) + m ≤ 64
+  pub has-room : (u : Turn) (m q : ℕ) → u .spaces ≡ stateSpaces → room u m q ≡ true → length (schedulerAt (u .state) q .next) + m ≤ 64
   unfolding room
-  has-room u m q e = leb-true (length (schedulerAt (u .state) q .next) + m) 64 e
+  has-room u m q s e = let l = length (schedulerAt (u .state) q .next) + m in leb-true l 64 (sym (ap (λ (z : Spaces). holds (z .entries) l) s) ∙ e)
 
   -- ---- where a thread goes
 
-  pub self-fits : (u : Turn) (q : ℕ) (items : List Item) (vars : List Value) → TurnFits u → hasPlace n q ≡ true → All (ItemFits fs n) items → All ValueFits vars → fits items vars ≡ true
+  pub self-fits : (u : Turn) (q : ℕ) (items : List Item) (vars : List Value) → TurnFits u → hasPlace n q ≡ true → All (ItemFits fs n) items → All ValueFits vars → fits (u .spaces) items vars ≡ true
       → ThreadFits fs n (selfAt u q items vars)
   unfolding fits
   self-fits u q items vars k p i v e =
-      let l = and-true (leb (length items) 25) (leb (length vars) 25) e in
+      let l = and-true (leb (length items) 25) (leb (length vars) 25) (sym (ap (λ (z : Spaces). fits z items vars) (k .spaces)) ∙ e) in
       record { place = p; starter = k .self .starter; items-room = leb-true (length items) 25 (l .0); variables-room = leb-true (length vars) 25 (l .1); items = i; values = v }
 
   keeps-stay : (u : Turn) (items : List Item) (vars : List Value) → TurnFits u → All (ItemFits fs n) items → All ValueFits vars → Keeps (stay u items vars)
   unfolding stay
   keeps-stay u items vars k i v =
-      if-all Keeps (fits items vars) _ _ (λ e. keeps-settled u _ k (self-fits u (here u) items vars k (k .self .place) i v e)) (λ _. k .before)
+      if-all Keeps (fits (u .spaces) items vars) _ _ (λ e. keeps-settled u _ k (self-fits u (here u) items vars k (k .self .place) i v e)) (λ _. k .before)
 
   keeps-move : (u : Turn) (q : ℕ) (items : List Item) → TurnFits u → hasPlace n q ≡ true → All (ItemFits fs n) items → Keeps (move u q items)
   unfolding move
   keeps-move u q items k p i =
-      if-all Keeps (not (fits items (variables u))) _ _ (λ _. k .before)
-      (λ e. let z = leave-fits u _ (keeps-settled u (selfAt u q items (variables u)) k (self-fits u q items (variables u) k p i (k .self .values) (not-false (fits items (variables u)) e))) in
+      if-all Keeps (not (fits (u .spaces) items (variables u))) _ _ (λ _. k .before)
+      (λ e. let z = leave-fits u _ (keeps-settled u (selfAt u q items (variables u)) k (self-fits u q items (variables u) k p i (k .self .values) (not-false (fits (u .spaces) items (variables u)) e))) in
       if-all Keeps (eqb q 1) _ _ (λ _. z)
       (λ _. if-all Keeps (room u 1 q) _ _
-      (λ r. let l = leave-next u (settled u (selfAt u q items (variables u))) q in let m = has-room u 1 q r in
+      (λ r. let l = leave-next u (settled u (selfAt u q items (variables u))) q in let m = has-room u 1 q (k .spaces) r in
       enlist-fits (leave u (settled u (selfAt u q items (variables u)))) q (plain (u .thread)) z (plain-fits (k .thread)) (omega arith))
       (λ _. k .before)))
 
@@ -236,7 +237,7 @@ module _ (fs : List Frame) (P : Program) (n : ℕ) (F : FileFits fs P n) where
       → ((v : Value) (w : Turn) → TurnFits w → ValueFits v → Keeps (f v w)) → Keeps (withValue u m f)
   keeps-value u m f k e h =
       let r : Evaluated = m (evaluator u) (u .cells) in
-      let b : TurnFits (behind u r) = record { before = k .before; cells = e .cells; thread = k .thread; self = k .self; program = k .program } in
+      let b : TurnFits (behind u r) = record { before = k .before; cells = e .cells; thread = k .thread; self = k .self; program = k .program; spaces = k .spaces } in
       keeps-goOn (behind u r) (r .outcome) f b (e .outcome) (λ v. h v (behind u r) b)
 
   keeps-values : (u : Turn) (xs : List Expr) (f : List Value → Turn → Stepped) → TurnFits u → All (ExprFits n) xs
@@ -295,7 +296,7 @@ module _ (fs : List Frame) (P : Program) (n : ℕ) (F : FileFits fs P n) where
       → room u 1 (here u) ≡ true → length (u .state .threads) < 64 → Shaped fs n (withStarted u m vs (settled u (u .self)))
   keeps-start u m vs k a b v r l =
       let e = settled-length u (u .self) in
-      let g = has-room u 1 (here u) r in
+      let g = has-room u 1 (here u) (k .spaces) r in
       enlist-fits (withNew (started u (moduleAt (u .program) m) vs) (settled u (u .self))) (here u) (plain (newThread u))
       (with-new (settled u (u .self)) _ (keeps-settled u (u .self) k (k .self)) (started-fits u m vs k a b v) (omega arith))
       (plain-fits (new-is u l)) g
@@ -305,7 +306,7 @@ module _ (fs : List Frame) (P : Program) (n : ℕ) (F : FileFits fs P n) where
   unfolding startedWait
   keeps-wait u m vs k a b v l =
       if-all Keeps (room u 2 (here u)) _ _
-      (λ r. let g = has-room u 2 (here u) r in
+      (λ r. let g = has-room u 2 (here u) (k .spaces) r in
       enlist-fits (enlist (here u) (plain (newThread u)) s) (here u) (waiting (u .thread) (newThread u))
       (enlist-fits s (here u) (plain (newThread u)) fit (plain-fits (new-is u l)) (one g))
       (waiting-fits (k .thread) (new-is u l)) (two g))
@@ -346,7 +347,7 @@ module _ (fs : List Frame) (P : Program) (n : ℕ) (F : FileFits fs P n) where
   keeps-statement u x k i of-cooperate =
       if-all Keeps (unlinkedHere u) _ _ (λ _. k .before)
       (λ _. if-all Keeps (room u 1 (here u)) _ _
-      (λ r. let e = leave-next u (settled u (u .self)) (here u) in let g = has-room u 1 (here u) r in
+      (λ r. let e = leave-next u (settled u (u .self)) (here u) in let g = has-room u 1 (here u) (k .spaces) r in
       enlist-fits (leave u (settled u (u .self))) (here u) (plain (u .thread)) (leave-fits u (settled u (u .self)) (keeps-settled u (u .self) k (k .self))) (plain-fits (k .thread)) (omega arith))
       (λ _. k .before))
   keeps-statement u x k i (of-let {x = y} e a) =
@@ -379,6 +380,7 @@ module _ (fs : List Frame) (P : Program) (n : ℕ) (F : FileFits fs P n) where
         thread = h;
         self = record { place = f .place; starter = f .starter; items-room = l; variables-room = f .variables-room; items = is; values = f .values };
         program = refl;
+        spaces = refl;
       }
 
   -- the acting thread is there, and this is its continuation
@@ -393,7 +395,7 @@ module _ (fs : List Frame) (P : Program) (n : ℕ) (F : FileFits fs P n) where
       (λ _. keeps-stay (turn P s c t items) _ _ (turn-fits s c t items z h f is (omega arith)) is (all-take (length (threadAt s t .variables) - 1) (threadAt s t .variables) (f .values)))
 
   keeps-thread : (s : State) (c t : ℕ) → Shaped fs n s → IsThread t → Keeps (stepThread P s c t)
-  unfolding stepThread
+  unfolding stepThreadWithin
   keeps-thread s c zero z h = keeps-ends s c 0 z
   keeps-thread s c (suc i) z h = go (ltb i (length (s .threads))) refl
     where
@@ -458,7 +460,7 @@ module _ (fs : List Frame) (P : Program) (n : ℕ) (F : FileFits fs P n) where
 
   -- whatever state in shape it is put to
   pub keeps-step : (s : State) (c : ℕ) → Shaped fs n s → Shaped fs n (step P s c .state)
-  unfolding step
+  unfolding stepWithin
   keeps-step s c z =
       if-all Keeps (isSchedulerOf P c) _ _ (λ _. keeps-scheduler s c (schedulerAt s c .active) z (scheduler-fits s z c .threads))
       (λ _. if-all Keeps (isUnlinked s c) _ _ (λ e. keeps-thread s c (c - 16) z (unlinked-is s c z e)) (λ _. z))

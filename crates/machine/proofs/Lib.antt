@@ -1,13 +1,17 @@
 -- Tests and lists.
 pub mod Tests
 pub mod Lists
--- Whose cells are accessed: by an evaluation, by a choice; and that a refused choice leaves the state.
+-- The cells in use.
+pub mod UsedCells
+-- Whose cells are accessed: by an evaluation, by a choice; and that a refused choice leaves the state. What a choice can answer.
 pub mod Owns
 pub mod Fair
--- Why nothing is ever full (20) from a fresh state on: lists; continuations and variables; the depth of bodies.
+pub mod Numbers
+-- Why nothing is ever full (20) from a fresh state on: lists; continuations and variables; the depth of bodies; so each choice is as in spaces without end.
 pub mod Space
 pub mod Continuations
 pub mod Depth
+pub mod NeverFull
 -- The words of a state, and a block of them replaced.
 pub mod Regions
 pub mod WordLaws

@@ -17,8 +17,8 @@ use Rattle.machine.specs.Words.{bit}
 use Rattle.machine.specs.Waits.{isReady, threadOf, keepIf, readyThreads, stillWaiting}
 use Rattle.machine.specs.Fresh.{fresh}
 use Rattle.machine.specs.Evaluation.{Here, Evaluated, Evaluation, eval, storing}
-use Rattle.machine.specs.Turns.{Stepped, Turn, here, variables, behind, evaluator, goOn, withValue, withValues, byCondition, selfAt, settled, behindFirst, isSchedulerOf, leave, room, unlinkedHere, stay, move, goTo}
-use Rattle.machine.specs.Steps.{isUnlinked, stepItems, stepThread, turn, turnInstant, endInstant, stepScheduler, step}
+use Rattle.machine.specs.Turns.{Spaces, holds, stateSpaces, Stepped, Turn, here, variables, behind, evaluator, goOn, withValue, withValues, byCondition, selfAt, settled, behindFirst, isSchedulerOf, leave, room, unlinkedHere, stay, move, goTo}
+use Rattle.machine.specs.Steps.{isUnlinked, stepItems, stepThread, stepThreadWithin, turn, turnInstant, endInstant, stepScheduler, step, stepWithin}
 use Rattle.machine.specs.Statements.{ends, drops, goesBack, stepNothing, stepSeq, stepDo, started, starting, stepStart, startedWait, stepStartWait, stepCooperate, stepLet, stepStore, stepIf, stepWhile, stepStatement}
 use Rattle.machine.specs.declared.value.Value.{Value}
 use Rattle.machine.specs.declared.value.Value.the-variants.{Number, Truth, Cell}
@@ -143,6 +143,7 @@ pub record Acting (u : Turn) : Type 0 where
   pub counted : Counted (u .state)
   pub stands : Stands u
   pub same : free (u .self) ≡ free (threadAt (u .state) (u .thread))
+  pub spaces : u .spaces ≡ stateSpaces
 
 -- ---- so one more entry has room, and two where there is room for one more thread
 
@@ -154,13 +155,17 @@ next-room u a q =
     (λ h. let g = next-le (u .state .schedulers) (q - 2) in let k = nth-pos (u .state .threads) (u .thread) (h .1) in omega arith)
     (a .stands)
 
+-- whether n have room in a next list, in the spaces that a state has
+in-entries : (u : Turn) → Acting u → (n : ℕ) → holds (u .spaces .entries) n ≡ leb n 64
+in-entries u a n = ap (λ (z : Spaces). holds (z .entries) n) (a .spaces)
+
 pub room-one : (u : Turn) → Acting u → (q : ℕ) → room u 1 q ≡ true
 unfolding room
-room-one u a q = let g = next-room u a q in let m = a .counted .most in le-leb (length (schedulerAt (u .state) q .next) + 1) 64 (omega arith)
+room-one u a q = let g = next-room u a q in let m = a .counted .most in in-entries u a _ ∙ le-leb (length (schedulerAt (u .state) q .next) + 1) 64 (omega arith)
 
 pub room-two : (u : Turn) → Acting u → (q : ℕ) → length (u .state .threads) < 64 → room u 2 q ≡ true
 unfolding room
-room-two u a q l = let g = next-room u a q in le-leb (length (schedulerAt (u .state) q .next) + 2) 64 (omega arith)
+room-two u a q l = let g = next-room u a q in in-entries u a _ ∙ le-leb (length (schedulerAt (u .state) q .next) + 2) 64 (omega arith)
 
 -- ---- the changes of the state that a turn makes keep it
 
@@ -296,7 +301,7 @@ kept-goOn u Stuck k a g = a .counted
 kept-value : (u : Turn) (m : Here → Evaluation) (k : Value → Turn → Stepped) → Acting u → ((v : Value) (w : Turn) → Acting w → Kept (k v w)) → Kept (withValue u m k)
 kept-value u m k a g =
     let r : Evaluated = m (evaluator u) (u .cells) in
-    let b : Acting (behind u r) = record { counted = a .counted; stands = a .stands; same = a .same } in
+    let b : Acting (behind u r) = record { counted = a .counted; stands = a .stands; same = a .same; spaces = a .spaces } in
     kept-goOn (behind u r) (r .outcome) k b (λ v. g v (behind u r) b)
 
 kept-values : (u : Turn) (xs : List Expr) (k : List Value → Turn → Stepped) → Acting u → ((vs : List Value) (w : Turn) → Acting w → Kept (k vs w)) → Kept (withValues u xs k)
@@ -360,7 +365,7 @@ free-same p s c t = refl
 
 pub acting-with : (p : Program) (s : State) (c t : ℕ) (items : List Item) → Acting (turn p s c t []) → Acting (turn p s c t items)
 unfolding free isFree
-acting-with p s c t items a = record { counted = a .counted; stands = a .stands; same = refl }
+acting-with p s c t items a = record { counted = a .counted; stands = a .stands; same = refl; spaces = refl }
 
 kept-items : (p : Program) (s : State) (c t : ℕ) (items : List Item) → Acting (turn p s c t []) → Kept (stepItems p s c t items)
 unfolding ends drops goesBack
@@ -370,7 +375,7 @@ kept-items p s c t (back q ∷ items) a = kept-goTo (turn p s c t items) q _ (ac
 kept-items p s c t (drop ∷ items) a = kept-if _ _ _ (λ _. a .counted) (λ _. kept-stay (turn p s c t items) _ _ (acting-with p s c t items a))
 
 kept-thread : (p : Program) (s : State) (c t : ℕ) → Acting (turn p s c t []) → Kept (stepThread p s c t)
-unfolding stepThread
+unfolding stepThreadWithin
 kept-thread p s c t a = kept-items p s c t (threadAt s t .continuation) a
 
 -- ready entries become active, waiting ones stay: none is lost, none is doubled
@@ -404,7 +409,7 @@ kept-scheduler p s c [] h i e =
     kept-instant s c (readyThreads (s .threads) es) (stillWaiting (s .threads) es) h (omega arith)
 kept-scheduler p s c (t ∷ ts) h i e =
     let n = ap (length {A = ℕ}) e in
-    kept-thread p s c t (record { counted = h; stands = inl (i, omega arith); same = free-same p s c t })
+    kept-thread p s c t (record { counted = h; stands = inl (i, omega arith); same = free-same p s c t; spaces = refl })
 
 pub unlinked-free : (s : State) (c : ℕ) → isUnlinked s c ≡ true → free (threadAt s (c - 16)) ≡ 1
 unfolding isUnlinked free isFree
@@ -414,11 +419,11 @@ unlinked-free s c e =
     ap (λ (x : Bool). bit (x && not (threadAt s (c - 16) .ended))) (b .1) ∙ ap bit (a .1)
 
 pub counted-step : (p : Program) (s : State) (c : ℕ) → Counted s → Counted (step p s c .state)
-unfolding step
+unfolding stepWithin
 counted-step p s c h =
     kept-if (isSchedulerOf p c) _ _ (λ i. kept-scheduler p s c (schedulerAt s c .active) h i refl)
     (λ i. kept-if (isUnlinked s c) _ _
-    (λ l. kept-thread p s c (c - 16) (record { counted = h; stands = inr (i, unlinked-free s c l); same = free-same p s c (c - 16) }))
+    (λ l. kept-thread p s c (c - 16) (record { counted = h; stands = inr (i, unlinked-free s c l); same = free-same p s c (c - 16); spaces = refl }))
     (λ _. h))
 
 -- ---- and the fresh state has it

@@ -11,7 +11,7 @@ use lib.Seq.{ext-getD, getD-take, getD-drop, length-take-le, length-paste, lengt
 use lib.Dec.{ltb}
 use borrow.Author.Tests.{ltb-true, ltb-false, lt-ltb, le-ltb, eq-eqb, ne-eqb}
 use Rattle.basics.proofs.Ifs.{if-yes, if-no}
-use Rattle.machine.specs.State.{State, noThread, noScheduler, noCell}
+use Rattle.machine.specs.State.{State, noThread, noScheduler, noCell, usedCells}
 use Rattle.machine.specs.Words.{tabulate, threadWord, schedulerWord, cellWord, wordOf, pack}
 use Rattle.machine.specs.Blocks.{part, pasted}
 use Rattle.machine.proofs.Regions.{by-region}
@@ -107,7 +107,7 @@ pub word-0 : (s : State) → getD (pack s) 0 0 ≡ length (s .threads)
 unfolding wordOf
 word-0 s = pack-at s 0 (omega arith) ∙ if-yes _ _ (eq-eqb 0 0 refl)
 
-pub word-1 : (s : State) → getD (pack s) 1 0 ≡ length (s .cells)
+pub word-1 : (s : State) → getD (pack s) 1 0 ≡ usedCells (s .cells)
 unfolding wordOf
 word-1 s = pack-at s 1 (omega arith) ∙ if-no _ _ (ne-eqb 1 0 (λ e. omega arith)) ∙ if-yes _ _ (eq-eqb 1 1 refl)
 
@@ -144,7 +144,7 @@ word-cell s j g =
 pub record Says (w : List ℕ) (s : State) : Type 0 where
   pub all : length w ≡ 4818
   pub threads : getD w 0 0 ≡ length (s .threads)
-  pub cells : getD w 1 0 ≡ length (s .cells)
+  pub cells : getD w 1 0 ≡ usedCells (s .cells)
   pub scheduler : (k j : ℕ) → k < 8 → j < 130 → getD w (2 + 130 * k + j) 0 ≡ schedulerWord (getD (s .schedulers) k noScheduler) j
   pub thread : (k j : ℕ) → k < 64 → j < 55 → getD w (1042 + 55 * k + j) 0 ≡ threadWord (getD (s .threads) k noThread) j
   pub cell : (j : ℕ) → j < 256 → getD w (4562 + j) 0 ≡ cellWord (getD (s .cells) j noCell)

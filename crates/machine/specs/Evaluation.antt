@@ -9,7 +9,7 @@ use Rattle.language.specs.Places.{private, home}
 use Rattle.program.specs.Trees.{Expr, number, truth, variable, shared, new, content, sum, less, choose}
 use Rattle.machine.specs.Accesses.{Access}
 use Rattle.machine.specs.Values.{truthOf}
-use Rattle.machine.specs.State.{Stored, cellAt, threadOwner}
+use Rattle.machine.specs.State.{Stored, cellAt, isUsed, freeNumber, usedCells, withNewCell, threadOwner}
 use Rattle.machine.specs.declared.value.Value.{Value}
 use Rattle.machine.specs.declared.value.Value.the-variants.{Number, Truth, Cell}
 use Rattle.machine.specs.declared.value.Outcome.{Outcome}
@@ -66,7 +66,7 @@ accessing h c o r = λ cs. after (accessOf h c o ∷ []) (if isOwn h o then r cs
 
 -- at cell c, if it is there, an access and then r: 20 before 19
 unfoldable pub atCell : Here → ℕ → Evaluation → Evaluation
-atCell h c r = λ cs. if ltb c (length cs) then accessing h c (cellAt cs c .owner) r cs else gives Stuck cs
+atCell h c r = λ cs. if isUsed cs c then accessing h c (cellAt cs c .owner) r cs else gives Stuck cs
 
 -- ---- one definition for each kind, behind its operands
 
@@ -81,8 +81,8 @@ sharedCell h s = if ltb s (h .shared) then gives (Is (Cell s)) else gives Stuck
 -- 24: the new cell takes the next number; '17 spent, a 257th cell'
 unfoldable pub addCell : ℕ → Value → Evaluation
 addCell o v = λ cs.
-    if ltb (length cs) 256
-    then record { outcome = Is (Cell (length cs)); cells = cs ++ (record { owner = o; content = v } ∷ []); accesses = [] }
+    if ltb (usedCells cs) 256
+    then record { outcome = Is (Cell (freeNumber cs)); cells = withNewCell cs (record { owner = o; content = v }); accesses = [] }
     else gives Spent cs
 
 -- 'the S it was declared or made with, or 16+t where thread t made it with S 1'
@@ -91,7 +91,7 @@ newOwner h s = if eqb s private then threadOwner (h .thread) else s
 
 -- a creation is an access: 19 before 17
 unfoldable pub makeCell : Here → ℕ → Value → Evaluation
-makeCell h s v = λ cs. accessing h (length cs) (newOwner h s) (addCell (newOwner h s) v) cs
+makeCell h s v = λ cs. accessing h (freeNumber cs) (newOwner h s) (addCell (newOwner h s) v) cs
 
 -- 25: any other value than a cell is 20
 unfoldable pub readCell : Here → Value → Evaluation

@@ -2,7 +2,8 @@
 use mathlib.Core.List.{List, [], _∷_, _++_}
 use mathlib.Core.Bool.{Bool, true}
 use Prim.Native.Nat.{ℕ, zero, suc, _+_, _-_}
-use lib.ListN.{getD, set}
+use lib.Dec.{ltb}
+use lib.ListN.{length, getD, set}
 use Rattle.language.specs.Places.{home}
 use Rattle.program.specs.Trees.{Stmt}
 use Rattle.machine.specs.declared.value.Value.{Value}
@@ -75,6 +76,19 @@ schedulerAt s q = getD (s .schedulers) (q - home) noScheduler
 
 abbrev pub cellAt : List Stored → ℕ → Stored
 cellAt cs c = getD cs c noCell
+
+-- ---- the cells in use: whether c is one; the number that a new one takes; how many they are; with a new one. What is not said here of the list of cells is in proofs/UsedCells
+abbrev pub isUsed : List Stored → ℕ → Bool
+isUsed cs c = ltb c (length cs)
+
+abbrev pub freeNumber : List Stored → ℕ
+freeNumber cs = length cs
+
+abbrev pub usedCells : List Stored → ℕ
+usedCells cs = length cs
+
+abbrev pub withNewCell : List Stored → Stored → List Stored
+withNewCell cs x = cs ++ (x ∷ [])
 
 -- ---- a state with another thread t, another scheduler q, other cells, one more thread (the last)
 abbrev pub withThread : ℕ → Thread → State → State

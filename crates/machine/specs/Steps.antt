@@ -9,12 +9,12 @@ use Rattle.language.specs.Places.{private}
 use Rattle.program.specs.Programs.{Program}
 use Rattle.machine.specs.State.{State, Item, run, back, drop, Entry, threadAt, schedulerAt, withScheduler}
 use Rattle.machine.specs.Waits.{readyThreads, stillWaiting}
-use Rattle.machine.specs.Turns.{Stepped, Turn, isSchedulerOf}
+use Rattle.machine.specs.Turns.{Stepped, Spaces, stateSpaces, Turn, isSchedulerOf}
 use Rattle.machine.specs.Statements.{ends, drops, goesBack, stepStatement}
 
--- the turn of thread t at choice c, with that continuation left
-abbrev pub turn : Program → State → ℕ → ℕ → List Item → Turn
-turn p s c t items =
+-- the turn of thread t at choice c, with that continuation left, in a state of the spaces z
+abbrev pub turnWithin : Spaces → Program → State → ℕ → ℕ → List Item → Turn
+turnWithin z p s c t items =
     let x = threadAt s t in
     record {
       program = p;
@@ -24,17 +24,18 @@ turn p s c t items =
       self = record { place = x .place; continuation = items; variables = x .variables; starter = x .starter; ended = x .ended };
       cells = s .cells;
       accesses = [];
+      spaces = z;
     }
 
 -- 'A thread's step takes its top pile item'
-abbrev pub stepItems : Program → State → ℕ → ℕ → List Item → Stepped
-stepItems p s c t [] = ends (turn p s c t [])
-stepItems p s c t (run x ∷ items) = stepStatement (turn p s c t items) x
-stepItems p s c t (back q ∷ items) = goesBack (turn p s c t items) q
-stepItems p s c t (drop ∷ items) = drops (turn p s c t items)
+abbrev pub stepItemsWithin : Spaces → Program → State → ℕ → ℕ → List Item → Stepped
+stepItemsWithin z p s c t [] = ends (turnWithin z p s c t [])
+stepItemsWithin z p s c t (run x ∷ items) = stepStatement (turnWithin z p s c t items) x
+stepItemsWithin z p s c t (back q ∷ items) = goesBack (turnWithin z p s c t items) q
+stepItemsWithin z p s c t (drop ∷ items) = drops (turnWithin z p s c t items)
 
-unfoldable pub stepThread : Program → State → ℕ → ℕ → Stepped
-stepThread p s c t = stepItems p s c t (threadAt s t .continuation)
+unfoldable pub stepThreadWithin : Spaces → Program → State → ℕ → ℕ → Stepped
+stepThreadWithin z p s c t = stepItemsWithin z p s c t (threadAt s t .continuation)
 
 -- an answer in which no thread acts
 abbrev pub nobody : ℕ → State → Stepped
@@ -51,9 +52,9 @@ endInstant s c =
     turnInstant s c (readyThreads (s .threads) es) (stillWaiting (s .threads) es)
 
 -- 'Choosing a scheduler steps its first active thread; with none active, an instant ends'
-abbrev pub stepScheduler : Program → State → ℕ → List ℕ → Stepped
-stepScheduler p s c [] = endInstant s c
-stepScheduler p s c (t ∷ ts) = stepThread p s c t
+abbrev pub stepSchedulerWithin : Spaces → Program → State → ℕ → List ℕ → Stepped
+stepSchedulerWithin z p s c [] = endInstant s c
+stepSchedulerWithin z p s c (t ∷ ts) = stepThreadWithin z p s c t
 
 -- the thread that a choice names where it is no scheduler: '16+t the loose thread t'
 abbrev pub threadChosen : ℕ → ℕ
@@ -65,8 +66,25 @@ isUnlinked s c =
     leb 17 c && leb (threadChosen c) (length (s .threads)) && eqb (threadAt s (threadChosen c) .place) private && not (threadAt s (threadChosen c) .ended)
 
 -- '15 no such party (neither a scheduler of the file nor a thread now loose)'
-unfoldable pub step : Program → State → ℕ → Stepped
-step p s c =
-    if isSchedulerOf p c then stepScheduler p s c (schedulerAt s c .active) else
-    if isUnlinked s c then stepThread p s c (threadChosen c) else
+unfoldable pub stepWithin : Spaces → Program → State → ℕ → Stepped
+stepWithin z p s c =
+    if isSchedulerOf p c then stepSchedulerWithin z p s c (schedulerAt s c .active) else
+    if isUnlinked s c then stepThreadWithin z p s c (threadChosen c) else
     nobody 15 s
+
+-- ---- in the spaces that a state has
+
+abbrev pub turn : Program → State → ℕ → ℕ → List Item → Turn
+turn p s c t items = turnWithin stateSpaces p s c t items
+
+abbrev pub stepItems : Program → State → ℕ → ℕ → List Item → Stepped
+stepItems p s c t items = stepItemsWithin stateSpaces p s c t items
+
+abbrev pub stepThread : Program → State → ℕ → ℕ → Stepped
+stepThread p s c t = stepThreadWithin stateSpaces p s c t
+
+abbrev pub stepScheduler : Program → State → ℕ → List ℕ → Stepped
+stepScheduler p s c ts = stepSchedulerWithin stateSpaces p s c ts
+
+abbrev pub step : Program → State → ℕ → Stepped
+step p s c = stepWithin stateSpaces p s c

@@ -17,6 +17,30 @@ use Rattle.machine.specs.declared.value.Value.the-variants.{Number, Trut
 use Rattle.machine.specs.declared.value.Outcome.{Outcome}
 use Rattle.machine.specs.declared.value.Outcome.the-variants.{Is, Foreign, Spent, Stuck}
 
+-- a space of a state: for so many, or without end
+pub data Space : Type 0 where
+  atMost : ℕ → Space
+  endless : Space
+
+-- it has room for n
+abbrev pub holds : Space → ℕ → Bool
+holds (atMost m) n = leb n m
+holds endless n = true
+
+-- the spaces of a state: of each next list, of each continuation, of the variables of each thread
+pub record Spaces : Type 0 where
+  pub entries : Space
+  pub items : Space
+  pub values : Space
+
+-- those that a state has
+abbrev pub stateSpaces : Spaces
+stateSpaces = record { entries = atMost 64; items = atMost 25; values = atMost 25 }
+
+-- none of them has an end: `NeverFull` (crate reach) compares the two
+abbrev pub endlessSpaces : Spaces
+endlessSpaces = record { entries = endless; items = endless; values = endless }
+
 -- what a choice gives: the answer, the acting thread (0: none), the state, the accesses
 pub record Stepped : Type 0 where
   pub answer : ℕ
@@ -24,7 +48,7 @@ pub record Stepped : Type 0 where
   pub state : State
   pub accesses : List Access
 
--- a turn: the choice, the thread that acts, and that thread without its top item; `cells` and `accesses` are those of the step so far, `state` is the one it was given
+-- a turn: the choice, the thread that acts, and that thread without its top item; `spaces` are the state's; `cells` and `accesses` are those of the step so far, `state` is the one it was given
 pub record Turn : Type 0 where
   pub program : Program
   pub state : State
@@ -33,6 +57,7 @@ pub record Turn : Type 0 where
   pub self : Thread
   pub cells : List Stored
   pub accesses : List Access
+  pub spaces : Spaces
 
 abbrev pub here : Turn → ℕ
 here u = u .self .place
@@ -70,6 +95,7 @@ behind u r =
       self = u .self;
       cells = r .cells;
       accesses = u .accesses ++ r .accesses;
+      spaces = u .spaces;
     }
 
 -- go on with the value, or answer the evaluation's refusal
@@ -119,23 +145,23 @@ leave u s =
     then withScheduler (u .choice) (record { active = behindFirst (x .active); next = x .next }) s
     else s
 
--- n more entries have room in the next list of scheduler q: 64 are its space
+-- n more entries have room in the next list of scheduler q
 unfoldable pub room : Turn → ℕ → ℕ → Bool
-room u n q = leb (length (schedulerAt (u .state) q .next) + n) 64
+room u n q = holds (u .spaces .entries) (length (schedulerAt (u .state) q .next) + n)
 
--- the continuation and the variables have room: 25 are the space of each
-unfoldable pub fits : List Item → List Value → Bool
-fits items vars = leb (length items) 25 && leb (length vars) 25
+-- the continuation and the variables have room
+unfoldable pub fits : Spaces → List Item → List Value → Bool
+fits z items vars = holds (z .items) (length items) && holds (z .values) (length vars)
 
 -- the thread stays where it is, first, with that continuation and those variables; 'a full .. pile or variable space' is 20
 unfoldable pub stay : Turn → List Item → List Value → Stepped
-stay u items vars = if fits items vars then accept u (settled u (selfAt u (here u) items vars)) else refuse u 20
+stay u items vars = if fits (u .spaces) items vars then accept u (settled u (selfAt u (here u) items vars)) else refuse u 20
 
 -- 'the thread moves: to the end of that next list, or loose'
 unfoldable pub move : Turn → ℕ → List Item → Stepped
 move u q items =
     let s = leave u (settled u (selfAt u q items (variables u))) in
-    if not (fits items (variables u)) then refuse u 20 else
+    if not (fits (u .spaces) items (variables u)) then refuse u 20 else
     if eqb q private then accept u s else
     if room u 1 q then accept u (enlist q (plain (u .thread)) s) else refuse u 20
 

@@ -12,7 +12,7 @@ use lib.ListN.{length, getD}
 use Rattle.basics.specs.If.{if_then_else_}
 use Rattle.language.specs.declared.frame.Frame.{Frame}
 use Rattle.program.specs.Trees.{rootS, statementAt}
-use Rattle.machine.specs.State.{State, Stored, Item, run, back, drop, Thread, Entry, plain, waiting, Scheduler, cellAt, nth, schedulerAt}
+use Rattle.machine.specs.State.{State, Stored, Item, run, back, drop, Thread, Entry, plain, waiting, Scheduler, cellAt, usedCells, nth, schedulerAt}
 use Rattle.machine.specs.declared.value.Value.{Value}
 use Rattle.machine.specs.declared.value.Value.the-variants.{Number, Truth, Cell}
 
@@ -76,7 +76,7 @@ threadWord x j =
 unfoldable pub wordOf : State → ℕ → ℕ
 wordOf s i =
     if eqb i 0 then length (s .threads) else
-    if eqb i 1 then length (s .cells) else
+    if eqb i 1 then usedCells (s .cells) else
     if ltb i 1042 then schedulerWord (schedulerAt s (2 + (i - 2) / 130)) ((i - 2) % 130) else
     if ltb i 4562 then threadWord (nth (s .threads) (suc ((i - 1042) / 55))) ((i - 1042) % 55) else
     cellWord (cellAt (s .cells) (i - 4562))

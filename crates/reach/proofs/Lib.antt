@@ -7,3 +7,5 @@ pub mod Cells
 pub mod Modules
 -- So it fits the state's spaces.
 pub mod Fits
+-- So no list, continuation or variable space is ever full.
+pub mod NeverFull

@@ -8,7 +8,8 @@ use Rattle.language.specs.declared.frame.Frame.{Frame}
 use Rattle.text.specs.Reading.{Reads, frames}
 use Rattle.program.specs.Programs.{programOf}
 use Rattle.layout.specs.Faults.{NoFault}
-use Rattle.machine.specs.Turns.{Stepped}
+use Rattle.machine.specs.Turns.{endlessSpaces, Stepped}
+use Rattle.machine.specs.Steps.{step, stepWithin}
 use Rattle.machine.specs.Runs.{steps, stateAfter}
 use Rattle.machine.specs.Words.{pack}
 use Rattle.machine.specs.Ranges.{inRange}
@@ -29,3 +30,9 @@ CallsAreSteps =
     (bs : List ℕ) (fs : List Frame) → Passes bs fs → (w cs : List ℕ) → length w ≡ 4818
     → callsFrom fs (freshCall fs w .words) cs
     ≡ map (λ (r : Stepped). record { answer = r .answer; thread = r .thread; words = pack (r .state) }) (steps (programOf fs) cs)
+
+-- 'a full list, pile or variable space, which only a caller's own state can bring': in each state reached from the fresh one, each choice gives what it would give if no list, continuation or variable space had an end: the same answer, state and accesses
+abbrev pub NeverFull : Type 0
+NeverFull =
+    (bs : List ℕ) (fs : List Frame) → Passes bs fs → (cs : List ℕ) (c : ℕ)
+    → let s = stateAfter (programOf fs) cs in step (programOf fs) s c ≡ stepWithin endlessSpaces (programOf fs) s c

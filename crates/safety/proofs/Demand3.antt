@@ -1,28 +1,28 @@
 -- Demand 3 of every typed program: its fresh state is good, each choice keeps it so, and a good state has what demand 3 says. Assumes nothing.
-use mathlib.Core.Path.{_≡_, ap, subst}
+use mathlib.Core.Path.{_≡_, subst}
 use mathlib.Core.Logic.{⊎-elim}
 use mathlib.Core.List.{List, [], _∷_, map}
-use Prim.Native.Nat.{ℕ, zero, suc, _-_, _≤_, _<_}
+use Prim.Native.Nat.{ℕ, _-_, _≤_}
 use native.Mathlib.Omega.{arith}
-use native.Mathlib.Decide.{decLt}
-use lib.ListN.{length, List·getD-eq-default}
+use lib.ListN.{length}
 use Rattle.basics.specs.Members.{All}
 use Rattle.program.specs.Programs.{Program, mainOf, programOf}
-use Rattle.machine.specs.State.{State, Stored, cellAt, noCell}
+use Rattle.machine.specs.State.{State, Stored, cellAt}
 use Rattle.machine.specs.Fresh.{fresh}
 use Rattle.machine.specs.Turns.{Stepped}
 use Rattle.machine.specs.Steps.{step}
 use Rattle.machine.specs.Runs.{stepsFrom, stateFrom}
 use Rattle.machine.specs.declared.value.Value.{Value}
 use Rattle.machine.specs.declared.value.Value.the-variants.{Cell}
+use Rattle.machine.proofs.UsedCells.{owner-used}
 use Rattle.machine.proofs.Space.{Counted, counted-step, fresh-counted}
 use Rattle.machine.proofs.Continuations.{no-items, run-item}
 use Rattle.machine.proofs.Depth.{BodiesFit}
 use Rattle.safety.specs.Safety.{Reaches, BelongsToThread, BelongsToScheduler, Sound, Safe, Safety}
-use Rattle.safety.proofs.Typing.{Ty, Pub, CellTyping, At, here, there, TypedS}
+use Rattle.safety.proofs.Typing.{Ty, Pub, CellTyping, Store, TypedS}
 use Rattle.language.specs.declared.frame.Frame.{Frame}
 use Rattle.safety.proofs.Accesses.{accessed}
-use Rattle.safety.proofs.Heap.{Val, is-cell, Held, by-thread, by-place, GoodCells, Vals, none, more, SharedOk, held-val}
+use Rattle.safety.proofs.Heap.{Val, is-cell, Held, by-thread, by-place, GoodCells, Vals, none, more, SharedOk, storeOf, held-val}
 use Rattle.safety.proofs.Threads.{nil, cons, each-nth}
 use Rattle.safety.proofs.Invariant.{p-empty, p-run, Good, no-thread}
 use Rattle.safety.proofs.Preservation.{ok-step}
@@ -31,21 +31,15 @@ use Rattle.safety.proofs.Preservation.{ok-step}
 pub record Typed (P : Program) : Type 0 where
   pub sh : List CellTyping
   pub count : length sh ≡ length (P .shared)
-  pub owners : SharedOk sh sh
-  pub first : GoodCells sh (fresh P .cells)
+  pub owners : SharedOk (storeOf sh) sh
+  pub first : GoodCells (storeOf sh) (fresh P .cells)
   pub some : 1 ≤ length (P .modules)
   pub main : TypedS P sh [] 2 (mainOf P .body)
   pub bodies : BodiesFit P
 
 -- ---- what good cells come to: `public` and `apart` of `Safe`
 
--- the typing of a cell in use
-typing-at : (l : List CellTyping) (c : ℕ) → c < length l → (k : CellTyping) × At l c k
-typing-at [] c h = absurd (omega arith)
-typing-at (k ∷ l) zero h = (k, here)
-typing-at (k ∷ l) (suc c) h = let r = typing-at l c (omega arith) in (r .0, there (r .1))
-
-module _ {Σ : List CellTyping} {cs : List Stored} (g : GoodCells Σ cs) where
+module _ {Σ : Store} {cs : List Stored} (g : GoodCells Σ cs) where
   -- whoever sees a value sees whatever it reaches
   sees : {v : Value} {τ : Ty} {c : ℕ} (t o : ℕ) → Reaches cs v c → Val Σ t v τ → BelongsToThread cs c o → o ≡ t
   sees t o Reaches.itself (is-cell {c = c} {k = k} a s) e =
@@ -65,15 +59,10 @@ module _ {Σ : List CellTyping} {cs : List Stored} (g : GoodCells Σ cs) where
 
   -- a scheduler's cell holds no thread's cell
   public : (b c t : ℕ) → BelongsToScheduler cs b → cellAt cs b .content ≡ Cell c → BelongsToThread cs c t → ⊥
-  public b c t h e f = go (decLt b (length cs))
-    where
-      go : Dec (b < length cs) → ⊥
-      go (yes l) =
-          let n = g .count in
-          let r = typing-at Σ b (omega arith) in
-          let q = g .each b (r .0) (r .1) in
-          held-public c t (omega (arith, h .1, q .0)) (q .1) e f
-      go (no l) = let q = ap (λ (x : Stored). x .owner) (List·getD-eq-default cs noCell {n = b} (omega (arith, l))) in omega (arith, h .0, q)
+  public b c t h e f =
+      let r = g .all b (owner-used cs b (λ z. omega (arith, h .0, z))) in
+      let q = g .each b (r .0) (r .1) in
+      held-public c t (omega (arith, h .1, q .0)) (q .1) e f
 
   -- no variable of t reaches another thread's cell
   apart : {vs : List Value} {Γ : List Ty} (t : ℕ) → Vals Σ t vs Γ → All (λ (v : Value). (c o : ℕ) → Reaches cs v c → BelongsToThread cs c o → o ≡ t) vs
@@ -89,14 +78,14 @@ module _ (P : Program) (T : Typed P) where
   unfolding fresh
   fresh-good =
       let l = T .bodies (length (P .modules) - 1) (let k = T .some in omega arith) in (
-        T .sh,
+        storeOf (T .sh),
         record {
           cells = T .first;
           shared = T .owners;
           threads = cons (record {
             types = [];
             vars = none;
-            typed = p-run (T .main) p-empty;
+            typed = p-run (T .main) (p-empty All.none);
             roomy = run-item {n = 0} {x = mainOf P .body} {l = []} (omega (arith, l .0)) (omega (arith, l .1)) (no-items {n = 0} (omega arith));
           }) nil;
         },

@@ -17,7 +17,7 @@ use Rattle.machine.specs.State.{State, Item, run, back, drop, Thread, Entry, th
 use Rattle.machine.specs.Waits.{readyThreads, stillWaiting}
 use Rattle.machine.specs.Evaluation.{Here, Evaluated, Evaluation, eval, storing}
 use Rattle.machine.specs.Turns.{Stepped, Turn, here, continuation, variables, refuse, accept, behind, evaluator, goOn, withValue, withValues, byCondition, selfAt, settled, isSchedulerOf, leave, room, fits, unlinkedHere, stay, move, goTo}
-use Rattle.machine.specs.Steps.{isUnlinked, stepItems, stepThread, turn, nobody, turnInstant, endInstant, stepScheduler, step}
+use Rattle.machine.specs.Steps.{isUnlinked, stepItems, stepThread, stepThreadWithin, turn, nobody, turnInstant, endInstant, stepScheduler, step, stepWithin}
 use Rattle.machine.specs.Statements.{ends, drops, goesBack, stepNothing, stepSeq, stepDo, started, newThread, starting, stepStart, startedWait, stepStartWait, stepCooperate, stepLet, stepStore, stepIf, stepWhile, stepStatement}
 use Rattle.machine.specs.declared.value.Value.{Value}
 use Rattle.machine.specs.declared.value.Outcome.{Outcome}
@@ -27,7 +27,7 @@ use Rattle.machine.proofs.Space.{Counted, acting-with, free-same, unlinked-free
 use Rattle.machine.proofs.Continuations.{Roomy, no-items, run-item, fits-true, roomy-seq, roomy-do, roomy-let, roomy-while, roomy-then, roomy-else, below-run, below-back, below-drop, drop-finds}
 use Rattle.machine.proofs.Depth.{BodiesFit}
 use Rattle.safety.specs.Safety.{Sound}
-use Rattle.safety.proofs.Typing.{Ty, tru, Pub, CellTyping, TypedE, Args, TypedS, s-nothing, s-seq, s-do, s-start, s-start-wait, s-cooperate, s-let, s-store, s-if, s-while}
+use Rattle.safety.proofs.Typing.{Ty, tru, Pub, CellTyping, Store, TypedE, Args, TypedS, s-nothing, s-seq, s-do, s-start, s-start-wait, s-cooperate, s-let, s-store, s-if, s-while}
 use Rattle.safety.proofs.Heap.{Val, is-tru, GoodCells, More, Vals, none, more, val-more, vals-more, shared-more, vals-public, vals-length, vals-snoc, vals-take}
 use Rattle.safety.proofs.Evaluates.{FineO, well, spent, Fine, fine-eval, fine-storing}
 use Rattle.safety.proofs.Threads.{each-nth, each-map}
@@ -43,7 +43,7 @@ module _ (P : Program) (sh : List CellTyping) where
   pub record Ready (Γ : List Ty) (u : Turn) : Type 0 where
     pub before : Good P sh (u .state)
     pub acting : Acting u
-    pub typing : List CellTyping
+    pub typing : Store
     pub now : GoodIn P sh typing (u .state .threads) (u .cells)
     pub vars : Vals typing (u .thread) (variables u) Γ
     pub program : u .program ≡ P
@@ -60,14 +60,14 @@ module _ (P : Program) (sh : List CellTyping) where
       → Vals (r .typing) (u .thread) vs Δ → TypedItems P sh Δ (here u) items → Roomy (length vs) items → Okay (stay u items vs)
   unfolding stay
   ok-stay u items vs Δ r v p o =
-      taken Okay (fits items vs) _ _ (fits-true items vs o)
+      taken Okay (fits (u .spaces) items vs) _ _ (fits-true (u .spaces) (r .acting .spaces) items vs o)
       (ok-accept u _ (r .typing, settled-good P sh u (selfAt u (here u) items vs) (r .now) (record { types = Δ; vars = v; typed = p; roomy = o })))
 
   ok-move : {Γ : List Ty} (u : Turn) (q : ℕ) (items : List Item) (r : Ready Γ u) → TypedItems P sh Γ q items → Roomy (length (variables u)) items → Okay (move u q items)
   unfolding move
   ok-move {Γ} u q items r p o =
       let g = left-good P sh u (selfAt u q items (variables u)) (r .now) (record { types = Γ; vars = r .vars; typed = p; roomy = o }) in
-      passed Okay (not (fits items (variables u))) _ _ (ap not (fits-true items (variables u) o))
+      passed Okay (not (fits (u .spaces) items (variables u))) _ _ (ap not (fits-true (u .spaces) (r .acting .spaces) items (variables u) o))
       (if-all Okay (eqb q 1) _ _ (λ _. ok-accept u _ (r .typing, g))
       (λ _. taken Okay (room u 1 q) _ _ (room-one u (r .acting) q) (ok-accept u _ (enlisted-good P sh q _ _ (r .typing, g)))))
 
@@ -80,11 +80,11 @@ module _ (P : Program) (sh : List CellTyping) where
 
   -- ---- evaluations in a turn: any refusal of them is 17
 
-  behind-ready : {Γ : List Ty} (u : Turn) (e : Evaluated) (r : Ready Γ u) (Σ : List CellTyping) → More (r .typing) Σ → GoodCells Σ (e .cells) → Ready Γ (behind u e)
+  behind-ready : {Γ : List Ty} (u : Turn) (e : Evaluated) (r : Ready Γ u) (Σ : Store) → More (r .typing) Σ → GoodCells Σ (e .cells) → Ready Γ (behind u e)
   behind-ready u e r Σ m g =
       record {
         before = r .before;
-        acting = record { counted = r .acting .counted; stands = r .acting .stands; same = r .acting .same };
+        acting = record { counted = r .acting .counted; stands = r .acting .stands; same = r .acting .same; spaces = r .acting .spaces };
         typing = Σ;
         now = record { cells = g; shared = shared-more m (r .now .shared); threads = each-map 1 (thread-more P sh m) (r .now .threads) };
         vars = vals-more m (r .vars);
@@ -101,7 +101,7 @@ module _ (P : Program) (sh : List CellTyping) where
       → ((e : Evaluated) (v : Value) (q : Ready Γ (behind u e)) → More (r .typing) (q .typing) → Val (q .typing) (u .thread) v τ → Okay (k v (behind u e))) → Okay (withValue u m k)
   ok-value u m k r f h = let e : Evaluated = m (evaluator u) (u .cells) in ok-goOn u e (e .outcome) k r f (h e)
 
-  ok-by : {Σ : List CellTyping} {t : ℕ} {v : Value} (u : Turn) (a b : Stepped) → Val Σ t v tru → Okay a → Okay b → Okay (byCondition u v a b)
+  ok-by : {Σ : Store} {t : ℕ} {v : Value} (u : Turn) (a b : Stepped) → Val Σ t v tru → Okay a → Okay b → Okay (byCondition u v a b)
   ok-by u a b (is-tru {b = true}) f g = f
   ok-by u a b (is-tru {b = false}) f g = g
 
@@ -153,7 +153,7 @@ module _ (P : Program) (sh : List CellTyping) where
         (record {
           types = Δ;
           vars = vals-public (newThread u) k v;
-          typed = p-run d p-empty;
+          typed = p-run d (p-empty k);
           roomy = let g = bodies m b in run-item {n = length vs} {x = moduleAt P m .body} {l = []} (omega (arith, g .0)) (omega (arith, g .1, c)) (no-items {n = length vs} (omega (arith, g .1, c)));
         })
 
@@ -230,15 +230,15 @@ module _ (P : Program) (sh : List CellTyping) where
 
     -- ---- each item: the acting thread, whose variables are of types Γ, takes the top of that continuation
 
-    turn-ready : (s : State) (c t : ℕ) (Σ : List CellTyping) (Γ : List Ty) (items : List Item) → GoodIn P sh Σ (s .threads) (s .cells) → Acting (turn P s c t [])
+    turn-ready : (s : State) (c t : ℕ) (Σ : Store) (Γ : List Ty) (items : List Item) → GoodIn P sh Σ (s .threads) (s .cells) → Acting (turn P s c t [])
         → Vals Σ t (threadAt s t .variables) Γ → Ready Γ (turn P s c t items)
     turn-ready s c t Σ Γ items g a v = record { before = (Σ, g); acting = acting-with P s c t items a; typing = Σ; now = g; vars = v; program = refl }
 
-    ok-items : (s : State) (c t : ℕ) (Σ : List CellTyping) (Γ : List Ty) (items : List Item) → GoodIn P sh Σ (s .threads) (s .cells) → Acting (turn P s c t [])
+    ok-items : (s : State) (c t : ℕ) (Σ : Store) (Γ : List Ty) (items : List Item) → GoodIn P sh Σ (s .threads) (s .cells) → Acting (turn P s c t [])
         → Vals Σ t (threadAt s t .variables) Γ → TypedItems P sh Γ (threadAt s t .place) items → Roomy (length (threadAt s t .variables)) items → Okay (stepItems P s c t items)
     unfolding ends drops goesBack turn-ready
-    ok-items s c t Σ Γ [] g a v p o =
-        ok-accept (turn P s c t []) _ (Σ, left-good P sh (turn P s c t []) _ g (record { types = Γ; vars = v; typed = p-empty; roomy = o }))
+    ok-items s c t Σ Γ [] g a v (p-empty k) o =
+        ok-accept (turn P s c t []) _ (Σ, left-good P sh (turn P s c t []) _ g (record { types = Γ; vars = v; typed = p-empty k; roomy = o }))
     ok-items s c t Σ Γ (run x ∷ items) g a v (p-run d p) o =
         ok-statement (turn P s c t items) x (turn-ready s c t Σ Γ items g a v) d p o
     ok-items s c t Σ Γ (back q ∷ items) g a v (p-back p) o =
@@ -259,7 +259,7 @@ module _ (P : Program) (sh : List CellTyping) where
     -- ---- each choice
 
     ok-thread : (s : State) (c t : ℕ) → Good P sh s → Acting (turn P s c t []) → Okay (stepThread P s c t)
-    unfolding stepThread
+    unfolding stepThreadWithin
     ok-thread s c t g a =
         let x = each-nth t (g .1 .threads) (no-thread P sh (g .0) t) in
         ok-items s c t (g .0) (x .types) (threadAt s t .continuation) (g .1) a (x .vars) (x .typed) (x .roomy)
@@ -277,13 +277,13 @@ module _ (P : Program) (sh : List CellTyping) where
     ok-scheduler s c [] g h i e = let es = schedulerAt s c .next in ok-instant s c (readyThreads (s .threads) es) (stillWaiting (s .threads) es) g
     ok-scheduler s c (t ∷ ts) g h i e =
         let k = ap (length {A = ℕ}) e in
-        ok-thread s c t g (record { counted = h; stands = inl (i, omega arith); same = free-same P s c t })
+        ok-thread s c t g (record { counted = h; stands = inl (i, omega arith); same = free-same P s c t; spaces = refl })
 
     -- preservation: of any good state in which no list is full, and any choice
     pub ok-step : (s : State) (c : ℕ) → Good P sh s → Counted s → Okay (step P s c)
-    unfolding step
+    unfolding stepWithin
     ok-step s c g h =
         if-all Okay (isSchedulerOf P c) _ _ (λ i. ok-scheduler s c (schedulerAt s c .active) g h i refl)
         (λ i. if-all Okay (isUnlinked s c) _ _
-        (λ l. ok-thread s c (c - 16) g (record { counted = h; stands = inr (i, unlinked-free s c l); same = free-same P s c (c - 16) }))
+        (λ l. ok-thread s c (c - 16) g (record { counted = h; stands = inr (i, unlinked-free s c l); same = free-same P s c (c - 16); spaces = refl }))
         (λ _. ok-nobody 15 s g (λ e. omega (arith, e), λ e. omega (arith, e))))

@@ -19,8 +19,8 @@ use Rattle.machine.specs.Values.{truthOf, firstContent}
 use Rattle.machine.specs.declared.value.Value.{Value}
 use Rattle.machine.specs.declared.value.Value.the-variants.{Number, Cell}
 use Rattle.reach.proofs.Cells.{CellFine, CellsFine}
-use Rattle.safety.proofs.Typing.{CellTyping, At, here, there}
-use Rattle.safety.proofs.Heap.{Val, is-num, is-tru, is-cell, Held, by-place, GoodCells, SharedOk}
+use Rattle.safety.proofs.Typing.{CellTyping, Store, At, here, there}
+use Rattle.safety.proofs.Heap.{Val, is-num, is-tru, is-cell, Held, by-place, GoodCells, SharedOk, storeOf, store-at, at-store, typing-at}
 use Rattle.safety.proofs.TypeWords.{tyOf, ty-number, ty-truth, ty-cell, Formed, formed-plain, ContentWord, content-word}
 use Rattle.safety.proofs.Places.{SharedIs}
 
@@ -64,13 +64,13 @@ owner-of : {s : ℕ} {k : CellTyping} (xs : List SharedCell) → All Well xs →
 owner-of (x ∷ xs) (All.more h g) here = (h .low, h .high)
 owner-of (x ∷ xs) (All.more h g) (there a) = owner-of xs g a
 
-pub shared-owners : (xs : List SharedCell) → All Well xs → SharedOk (map typingOf xs) (map typingOf xs)
-shared-owners xs g s k a = let r = owner-of xs g a in (a, r .0, r .1)
+pub shared-owners : (xs : List SharedCell) → All Well xs → SharedOk (storeOf (map typingOf xs)) (map typingOf xs)
+shared-owners xs g s k a = let r = owner-of xs g a in (store-at a, r .0, r .1)
 
 -- ---- their first contents, in anybody's eyes
 module _ (all : List SharedCell) (wells : All Well all) where
-  abbrev Σ : List CellTyping
-  Σ = map typingOf all
+  abbrev Σ : Store
+  Σ = storeOf (map typingOf all)
 
   -- a cell type: an earlier shared cell of that type
   earlier : {Q : ℕ → Type 0} {n : ℕ} (before rest : List SharedCell) (x : SharedCell) → all ≡ before ++ rest → CellFine Q n before x → isCell (x .content) ≡ true → (t : ℕ) → Val Σ t (Cell (x .first)) (tyOf (x .content))
@@ -85,7 +85,7 @@ module _ (all : List SharedCell) (wells : All Well all) where
       let o = owner-of all wells (r .at) in
       let q : getD (map typeOfShared all) (x .first) 0 ≡ x .content =
       ap (λ (ts : List ℕ). getD ts (x .first) 0) a ∙ List·getD-append (map typeOfShared before) (map typeOfShared rest) 0 (x .first) l ∙ eqb-true _ _ (w .1) in
-      subst (Val Σ t (Cell (x .first))) (sym (r .same) ∙ ap tyOf q) (is-cell (r .at) (inr (o .0, o .1, refl)))
+      subst (Val Σ t (Cell (x .first))) (sym (r .same) ∙ ap tyOf q) (is-cell (store-at (r .at)) (inr (o .0, o .1, refl)))
 
   first-typed : {Q : ℕ → Type 0} {n : ℕ} (before rest : List SharedCell) (x : SharedCell) → all ≡ before ++ rest → CellFine Q n before x → Formed (x .content) → (t : ℕ) → Val Σ t (firstContent (x .content) (x .first)) (tyOf (x .content))
   unfolding firstContent
@@ -101,5 +101,9 @@ module _ (all : List SharedCell) (wells : All Well all) where
   held before (x ∷ xs) e (CellsFine.more f r) (All.more w ws) zero k here = (refl, by-place (w .low) (w .high) (w .word .public) (first-typed before (x ∷ xs) x e f (w .word .formed)))
   held before (x ∷ xs) e (CellsFine.more f r) (All.more w ws) (suc c) k (there a) = held (before ++ (x ∷ [])) xs (e ∙ sym (append-assoc before (x ∷ []) xs)) r ws c k a
 
-pub first-good : {Q : ℕ → Type 0} {n : ℕ} (few : n ≤ 8) (xs : List SharedCell) → CellsFine Q n [] xs → GoodCells (map typingOf xs) (map firstCell xs)
-first-good few xs f = record { count = length-map xs typingOf ∙ sym (length-map xs firstCell); each = held xs (all-well few f) [] xs refl f (all-well few f) }
+pub first-good : {Q : ℕ → Type 0} {n : ℕ} (few : n ≤ 8) (xs : List SharedCell) → CellsFine Q n [] xs → GoodCells (storeOf (map typingOf xs)) (map firstCell xs)
+first-good few xs f =
+    record {
+      each = λ c k e. held xs (all-well few f) [] xs refl f (all-well few f) c k (at-store (map typingOf xs) c e);
+      all = λ c u. let l = ltb-true c (length (map firstCell xs)) u in let n = length-map xs typingOf in let m = length-map xs firstCell in typing-at (map typingOf xs) c (omega arith);
+    }

@@ -1,39 +1,24 @@
 -- Every file that passes refusals 4 to 7 and keeps the rules is typed, as demand 3's proof needs it. Assumes nothing.
 use mathlib.Core.Path.{refl}
 use mathlib.Core.List.{List, [], map}
-use Prim.Native.Nat.{ℕ}
 use native.Mathlib.Omega.{arith}
 use lib.ListN.{length-map}
 use Rattle.language.specs.declared.frame.Frame.{Frame}
-use Rattle.program.specs.Programs.{Part, noModule, typeOfShared, modulesFrom, sharedOf, programOf}
+use Rattle.program.specs.Programs.{typeOfShared, modulesFrom, sharedOf, programOf}
 use Rattle.layout.specs.Fields.{schedulersOf}
 use Rattle.layout.specs.Faults.{NoFault}
 use Rattle.rules.specs.Rules.{Keeps}
 use Rattle.machine.specs.Fresh.{fresh}
-use Rattle.machine.proofs.Lists.{all-getD, all-imply}
-use Rattle.machine.proofs.Depth.{deep-fits, BodiesFit}
+use Rattle.machine.proofs.Lists.{all-imply}
 use Rattle.reach.proofs.Passed.{schedulers-range}
-use Rattle.reach.proofs.Laid.{LaidS, laid-deep}
 use Rattle.reach.proofs.Cells.{CellsFine, shared-fine}
-use Rattle.reach.proofs.Modules.{IsPart, parts, main-plain, some-module, part-types, part-laid}
+use Rattle.reach.proofs.Modules.{parts, main-plain, some-module}
+use Rattle.reach.proofs.NeverFull.{Any, laid, bodies}
 use Rattle.safety.proofs.Places.{main-typed}
 use Rattle.safety.proofs.SharedCells.{typingOf, all-well, shared-is, shared-owners, first-good}
 use Rattle.safety.proofs.Demand3.{Typed}
 
--- numbers may be of any size here
-abbrev Any : ℕ → Type 0
-Any v = Unit {0}
-
 module _ {fs : List Frame} (fine : NoFault fs) where
-  laid : (m : Part) → IsPart fs m → LaidS Any (schedulersOf fs) 24 (m .body)
-  laid = part-laid fine Any tt (λ j. tt)
-
-  bodies : BodiesFit (programOf fs)
-  unfolding programOf
-  bodies m l =
-      let h = all-getD (IsPart fs) (modulesFrom fs 0 fs) noModule m (parts fs) l in
-      deep-fits _ _ (laid-deep (laid _ h)) (part-types fine _ h)
-
   cells : CellsFine Any (schedulersOf fs) [] (sharedOf fs)
   cells = shared-fine Any fine (λ j. tt)
 
@@ -51,6 +36,6 @@ module _ {fs : List Frame} (fine : NoFault fs) where
         first = first-good few xs cells;
         some = some-module fine;
         main = main-typed (programOf fs) (map typingOf xs) (map typeOfShared xs) Any (schedulersOf fs) few (shared-is xs wells) [] (modulesFrom fs 0 fs) refl refl
-            (λ s l. absurd (omega arith)) (all-imply laid (parts fs)) (main-plain fine) rules;
-        bodies = bodies;
+            (λ s l. absurd (omega arith)) (all-imply (laid fine) (parts fs)) (main-plain fine) rules;
+        bodies = bodies fine;
       }

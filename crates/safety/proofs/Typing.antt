@@ -2,6 +2,7 @@
 use mathlib.Core.Path.{_≡_}
 use mathlib.Core.Logic.{_⊎_}
 use mathlib.Core.List.{List, [], _∷_, _++_}
+use mathlib.Core.Option.{Option}
 use Prim.Native.Nat.{ℕ, zero, suc, _≤_, _<_}
 use lib.ListN.{length}
 use Rattle.program.specs.Trees.{Expr, Stmt}
@@ -18,10 +19,14 @@ Pub num = Unit {0}
 Pub tru = Unit {0}
 Pub (cell o τ) = 2 ≤ o
 
--- a cell's owner, and the type of its content. A list of them is a store typing: one for each cell in use
+-- a cell's owner, and the type of its content
 pub record CellTyping : Type 0 where
   pub own : ℕ
   pub ty : Ty
+
+-- a store typing: one for each cell in use
+abbrev pub Store : Type 0
+Store = ℕ → Option CellTyping
 
 -- the member at that index
 pub data At {A : Type 0} : List A → ℕ → A → Type 0 where

@@ -27,7 +27,7 @@ use Rattle.machine.specs.Fresh.{fresh}
 use Rattle.machine.specs.Waits.{isReady, readyThreads, stillWaiting}
 use Rattle.machine.specs.Turns.{isSchedulerOf, leave, fits, stay}
 use Rattle.machine.specs.Statements.{ends, stepNothing}
-use Rattle.machine.specs.Steps.{stepThread, endInstant, isUnlinked, step}
+use Rattle.machine.specs.Steps.{stepThreadWithin, endInstant, isUnlinked, stepWithin}
 use Rattle.machine.specs.Runs.{stepsFrom, answers}
 use Rattle.samples.specs.Bytes.{bytes}
 use Rattle.samples.specs.Samples.{Sample, samples}
@@ -45,7 +45,7 @@ said x = record { verdict-of = x .verdict; answers-of = x .answers }
 
 -- the whole table, computed at once
 pub table : map computed samples ≡ map said samples
-unfolding bytes if_then_else_ any every sameNumbers lowest earlier standingAt cellDepth cellType ownerOf contentOf public ownerDigit typeWord contentWord withOwner within kindOf children digit hexadecimal lineWord frameOfWord wordsOf textFrames rightAt firstWrong reading expressionTo expressionAt statementTo statementAt sharedOf modulesFrom allowanceOf programOf headerFine firstContentFine countOf frameFine hasChild headerFault fieldFault rowFirst firstDisorder isBehind isLeftover firstLeftover noMain orderFault lowestChild deepTo firstDeep depthFault layoutOf namedRule newRule contentRule numbersRule chooseRule typeIn argue typesIn startRule cooperateRule seqRule doRule joinRule storeRule ifElseRule whileRule runIn modulesIn rulesOf verdict firstContent enlist fresh isReady readyThreads stillWaiting isSchedulerOf leave fits stay ends stepNothing stepThread endInstant isUnlinked step stepsFrom
+unfolding bytes if_then_else_ any every sameNumbers lowest earlier standingAt cellDepth cellType ownerOf contentOf public ownerDigit typeWord contentWord withOwner within kindOf children digit hexadecimal lineWord frameOfWord wordsOf textFrames rightAt firstWrong reading expressionTo expressionAt statementTo statementAt sharedOf modulesFrom allowanceOf programOf headerFine firstContentFine countOf frameFine hasChild headerFault fieldFault rowFirst firstDisorder isBehind isLeftover firstLeftover noMain orderFault lowestChild deepTo firstDeep depthFault layoutOf namedRule newRule contentRule numbersRule chooseRule typeIn argue typesIn startRule cooperateRule seqRule doRule joinRule storeRule ifElseRule whileRule runIn modulesIn rulesOf verdict firstContent enlist fresh isReady readyThreads stillWaiting isSchedulerOf leave fits stay ends stepNothing stepThreadWithin endInstant isUnlinked stepWithin stepsFrom
 table = refl
 
 -- ---- each row: the verdict is the one that the rules give, and the answers are those of the steps

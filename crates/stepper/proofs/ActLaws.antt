@@ -20,7 +20,7 @@ use Rattle.language.specs.declared.kind.Kind.the-variants.{Header, Shared, Modu
 use Rattle.text.specs.Frames.{framesOf}
 use Rattle.program.specs.Trees.{rootS, frameAt}
 use Rattle.program.specs.Programs.{programOf}
-use Rattle.machine.specs.State.{State, Thread, Item, run, back, drop, threadAt}
+use Rattle.machine.specs.State.{State, Thread, Item, run, back, drop, threadAt, usedCells}
 use Rattle.machine.specs.Words.{itemWord, valueWord}
 use Rattle.machine.specs.Ranges.{isStatement}
 use Rattle.machine.specs.Blocks.{pasted, padded, cellWords}
@@ -165,8 +165,8 @@ module _ (frames : List ℕ) (shared : ℕ) (w : List ℕ) (h : StepWords frames
           let d = length-drop 4562 w in
           length-take-le (length w - 4562) (list.drop 4562 w) (omega arith) ∙ (let r : length w - 4562 ≡ 256 = omega arith in r)
 
-  cells-in : CellWords (length (s .cells)) (cellWords (s .cells))
-  cells-in = holds-words (length (s .cells)) (cellWords (s .cells)) (s .cells)
+  cells-in : CellWords (usedCells (s .cells)) (cellWords (s .cells))
+  cells-in = holds-words (usedCells (s .cells)) (cellWords (s .cells)) (s .cells)
       (record { count = refl; words = refl; room = shaped frames shared w h .cells-room; each = λ k g. shaped frames shared w h .cells k g .value })
 
   -- ---- `act`, on what is seen of the thread, its top item, its variables and the cells
@@ -175,7 +175,7 @@ module _ (frames : List ℕ) (shared : ℕ) (w : List ℕ) (h : StepWords frames
     sees : Views v (wordsOf x)
     sees = subst (Views v) read seen
 
-    used-is : used ≡ length (s .cells)
+    used-is : used ≡ usedCells (s .cells)
     used-is = u ∙ says frames shared w h .cells
 
     cells-are : cs ≡ cellWords (s .cells)
@@ -212,7 +212,7 @@ module _ (frames : List ℕ) (shared : ℕ) (w : List ℕ) (h : StepWords frames
         same : actedOn (turned a (popped (wordsOf x))) ds ≡ turnOf frames shared w t
         same = r .thread (wordsOf x) sees (sym (variables ∙ ap variablesIn read)) (sym (top ∙ ap topIn read))
             ∙ ap₂ (λ (i : ℕ) (l : List ℕ). turnIn (framesOf frames) who (wordsOf x) i l) used-is cells-are
-            ∙ ap (λ (y : Who). turnIn (framesOf frames) y (wordsOf x) (length (s .cells)) (cellWords (s .cells))) who-is
+            ∙ ap (λ (y : Who). turnIn (framesOf frames) y (wordsOf x) (usedCells (s .cells)) (cellWords (s .cells))) who-is
 
         size : length ds ≡ 256
         size = l ∙ ap length cells-are ∙ cells-length (s .cells)

@@ -9,7 +9,7 @@ use lib.ListN.{length, getD, replicate, length-append, length-replicate, getD-re
 use borrow.Author.Tests.{ltb-true, ltb-false}
 use Rattle.basics.proofs.Ifs.{if-all, if-yes, if-no}
 use Rattle.language.specs.Places.{isScheduler}
-use Rattle.machine.specs.State.{State, Stored, Thread, Entry, noCell, schedulerAt, withThread, withCells, withScheduler, enlist}
+use Rattle.machine.specs.State.{State, Stored, Thread, Entry, noCell, schedulerAt, withThread, withCells, withScheduler, enlist, usedCells}
 use Rattle.machine.specs.Turns.{Turn, isSchedulerOf, behindFirst, leave}
 use Rattle.machine.specs.Words.{entryWord, cellWord}
 use Rattle.machine.specs.Blocks.{pasted, cellWords}
@@ -62,7 +62,7 @@ module _ (w : List ℕ) (s : State) (h : Says w s) where
     cells-in : (j : ℕ) → j < 256 → getD (withCellWords w cs) (4562 + j) 0 ≡ cellWord (getD cs j noCell)
     cells-in j l = pasted-in w 4562 (cellWords cs) 256 words-room cells-room j l ∙ cells-at cs j l
 
-    pub settled-says : (k : ℕ) (x : Thread) → k < 64 → k < length (s .threads) → Says (settledIn (withCellWords w cs) k (wordsOf x) (length cs)) (withThread (suc k) x (withCells cs s))
+    pub settled-says : (k : ℕ) (x : Thread) → k < 64 → k < length (s .threads) → Says (settledIn (withCellWords w cs) k (wordsOf x) (usedCells cs)) (withThread (suc k) x (withCells cs s))
     unfolding settledIn putThread
     settled-says k x a b = store-says _ (withCells cs s) (put-cells w s h cs) k x a b
 
@@ -76,7 +76,7 @@ module _ (w : List ℕ) (s : State) (h : Says w s) where
   -- where the turn has made the cells ds behind the old ones, clearing those gives the words of s again
   module _ (ds : List Stored) (few : length (s .cells ++ ds) ≤ 256) where
     abbrev old : ℕ
-    old = length (s .cells)
+    old = usedCells (s .cells)
 
     abbrev all : ℕ
     all = length (s .cells ++ ds)
@@ -139,6 +139,6 @@ module _ (w : List ℕ) (s : State) (h : Says w s) where
     cleared-back = is-pack cleared s cleared-says ∙ sym (is-pack w s h)
 
   -- a refused turn leaves the words as they were
-  pub cleared-is : (cs : List Stored) → Grown (s .cells) cs → length cs ≤ 256 → clearedIn (withCellWords w cs) (length (s .cells)) (length cs) ≡ w
+  pub cleared-is : (cs : List Stored) → Grown (s .cells) cs → usedCells cs ≤ 256 → clearedIn (withCellWords w cs) (usedCells (s .cells)) (usedCells cs) ≡ w
   cleared-is cs g few =
-      subst (λ (l : List Stored). length l ≤ 256 → clearedIn (withCellWords w l) (length (s .cells)) (length l) ≡ w) (sym (g .is)) (λ k. cleared-back (g .more) k) few
+      subst (λ (l : List Stored). length l ≤ 256 → clearedIn (withCellWords w l) (usedCells (s .cells)) (length l) ≡ w) (sym (g .is)) (λ k. cleared-back (g .more) k) few

@@ -13,8 +13,8 @@ use Rattle.language.specs.Places.{private, hasPlace, hasScheduler, isScheduler}
 use Rattle.language.specs.declared.frame.Frame.{Frame}
 use Rattle.program.specs.Programs.{Program}
 use Rattle.machine.specs.Accesses.{Access}
-use Rattle.machine.specs.State.{State, Stored, Thread, Entry, plain, schedulerAt, enlist}
-use Rattle.machine.specs.Turns.{Stepped, Turn, refuse, accept, settled, isSchedulerOf, leave, room}
+use Rattle.machine.specs.State.{State, Stored, Thread, Entry, plain, schedulerAt, enlist, usedCells}
+use Rattle.machine.specs.Turns.{stateSpaces, Stepped, Turn, refuse, accept, settled, isSchedulerOf, leave, room}
 use Rattle.machine.specs.Words.{pack, entryWord}
 use Rattle.machine.specs.Blocks.{pasted}
 use Rattle.machine.specs.Calls.{Called, calledOf}
@@ -73,14 +73,14 @@ pub record Acts (fs : List Frame) (P : Program) (n : ℕ) (w : List ℕ) (s : St
 module _ {fs : List Frame} {P : Program} {n : ℕ} {w : List ℕ} {s : State} {c k : ℕ} (A : Acts fs P n w s c k) where
   -- the turn of that thread, with those cells and accesses so far
   abbrev pub turnAt : Thread → List Stored → List Access → Turn
-  turnAt x cs acc = record { program = P; state = s; choice = c; thread = suc k; self = x; cells = cs; accesses = acc }
+  turnAt x cs acc = record { program = P; state = s; choice = c; thread = suc k; self = x; cells = cs; accesses = acc; spaces = stateSpaces }
 
   -- what the turn has come to, committed: on the words with those cells, and where the cells are given as words
   abbrev pub commit : Turned → List Stored → Called
-  commit a cs = committedIn P (withCellWords w cs) (length (s .cells)) c (suc k) a (a .fate)
+  commit a cs = committedIn P (withCellWords w cs) (usedCells (s .cells)) c (suc k) a (a .fate)
 
   abbrev pub commitOn : ActedOn → Called
-  commitOn r = committedIn P (pasted w 4562 (r .cells) 256) (length (s .cells)) c (suc k) (r .acted) (r .acted .fate)
+  commitOn r = committedIn P (pasted w 4562 (r .cells) 256) (usedCells (s .cells)) c (suc k) (r .acted) (r .acted .fate)
 
   -- ---- what holds of lists
   few : k < 64
@@ -101,7 +101,7 @@ module _ {fs : List Frame} {P : Program} {n : ℕ} {w : List ℕ} {s : State} {c
     u = turnAt x cs acc
 
     -- ---- refused
-    pub refuse-is : (m : ℕ) (th : ThreadWords) → Grown (s .cells) cs → length cs ≤ 256 → eqb m 0 ≡ false → commit (refusedIn m th (length cs)) cs ≡ calledOf w (refuse u m)
+    pub refuse-is : (m : ℕ) (th : ThreadWords) → Grown (s .cells) cs → usedCells cs ≤ 256 → eqb m 0 ≡ false → commit (refusedIn m th (usedCells cs)) cs ≡ calledOf w (refuse u m)
     refuse-is m th g l e =
         ap (called m (suc k)) (cleared-is w s (A .says) cs g l) ∙ ap (λ (b : Bool). called m (suc k) (elim b [ true ↦ pack s | false ↦ w ])) (sym e)
 
@@ -110,26 +110,26 @@ module _ {fs : List Frame} {P : Program} {n : ℕ} {w : List ℕ} {s : State} {c
       abbrev after : State
       after = settled u y
 
-      pub settled-is : Says (settledIn (withCellWords w cs) (suc k - 1) (wordsOf y) (length cs)) after
+      pub settled-is : Says (settledIn (withCellWords w cs) (suc k - 1) (wordsOf y) (usedCells cs)) after
       settled-is =
-          subst (λ (i : ℕ). Says (settledIn (withCellWords w cs) i (wordsOf y) (length cs)) after) (sym (less-one k))
+          subst (λ (i : ℕ). Says (settledIn (withCellWords w cs) i (wordsOf y) (usedCells cs)) after) (sym (less-one k))
           (settled-says w s (A .says) cs k y few (A .there))
 
-      pub left-is : Says (leftIn (settledIn (withCellWords w cs) (suc k - 1) (wordsOf y) (length cs)) c) (leave u after)
+      pub left-is : Says (leftIn (settledIn (withCellWords w cs) (suc k - 1) (wordsOf y) (usedCells cs)) c) (leave u after)
       left-is = left-says _ after settled-is u (A .list) chosen-there (active-few c)
 
-      pub stays-is : commit (actedIn Stays (wordsOf y) (length cs)) cs ≡ calledOf w (accept u after)
+      pub stays-is : commit (actedIn Stays (wordsOf y) (usedCells cs)) cs ≡ calledOf w (accept u after)
       stays-is = ap (called 0 (suc k)) (is-pack _ after settled-is)
 
-      pub leaves-is : commit (actedIn Leaves (wordsOf y) (length cs)) cs ≡ calledOf w (accept u (leave u after))
+      pub leaves-is : commit (actedIn Leaves (wordsOf y) (usedCells cs)) cs ≡ calledOf w (accept u (leave u after))
       leaves-is = ap (called 0 (suc k)) (is-pack _ (leave u after) left-is)
 
-      pub joins-is : (q : ℕ) → hasScheduler n q ≡ true → Grown (s .cells) cs → length cs ≤ 256
-          → commit (actedIn (Joins q) (wordsOf y) (length cs)) cs
+      pub joins-is : (q : ℕ) → hasScheduler n q ≡ true → Grown (s .cells) cs → usedCells cs ≤ 256
+          → commit (actedIn (Joins q) (wordsOf y) (usedCells cs)) cs
           ≡ calledOf w (if room u 1 q then accept u (enlist q (plain (suc k)) (leave u after)) else refuse u 20)
       unfolding joinsIn room entryWord
       joins-is q e g l =
-          if-all (λ (r : Stepped). commit (actedIn (Joins q) (wordsOf y) (length cs)) cs ≡ calledOf w r) (leb (length (schedulerAt s q .next) + 1) 64) _ _
+          if-all (λ (r : Stepped). commit (actedIn (Joins q) (wordsOf y) (usedCells cs)) cs ≡ calledOf w r) (leb (length (schedulerAt s q .next) + 1) 64) _ _
           (λ b. if-yes _ _ (same ∙ b) ∙ ap (called 0 (suc k)) (is-pack _ _ (joined-says _ left left-is q (plain (suc k)) (z .1) (rw leave-count (z .0)) (short (leb-true _ 64 b)))))
           (λ b. if-no _ _ (same ∙ b) ∙ refuse-is 20 (wordsOf y) g l refl)
         where

@@ -7,7 +7,7 @@ use lib.Dec.{ltb}
 use lib.ListN.{length}
 use Rattle.basics.proofs.Ifs.{if-all}
 use Rattle.program.specs.Trees.{Expr, number, truth, variable, shared, new, content, sum, less, choose}
-use Rattle.machine.specs.State.{Stored, cellAt}
+use Rattle.machine.specs.State.{Stored, cellAt, isUsed, freeNumber, usedCells}
 use Rattle.machine.specs.Evaluation.{Here, Evaluated, Evaluation, gives, after, andThen, _>>=_, isOwn, accessOf, accessing, atCell, readVariable, sharedCell, addCell, newOwner, makeCell, readCell, storeCell, putIn, ofNumbers, plus, lessThan, byTruth, aNumber, eval, storing}
 use Rattle.machine.specs.declared.value.Value.{Value}
 use Rattle.machine.specs.declared.value.Value.the-variants.{Number, Truth, Cell}
@@ -44,12 +44,12 @@ grows-accessing h c o r cs g = if-all (λ (x : Evaluated). Grows cs (after (acce
 
 grows-at : (h : Here) (c : ℕ) (r : Evaluation) (cs : List Stored) → Grows cs (r cs) → Grows cs (atCell h c r cs)
 unfolding atCell
-grows-at h c r cs g = if-all (Grows cs) (ltb c (length cs)) _ _ (λ _. grows-accessing h c _ r cs g) (λ _. grown-same cs)
+grows-at h c r cs g = if-all (Grows cs) (isUsed cs c) _ _ (λ _. grows-accessing h c _ r cs g) (λ _. grown-same cs)
 
 grows-make : (h : Here) (s : ℕ) (v : Value) (cs : List Stored) → Grows cs (makeCell h s v cs)
 unfolding makeCell addCell
 grows-make h s v cs =
-    grows-accessing h (length cs) _ _ cs (if-all (Grows cs) (ltb (length cs) 256) _ _ (λ _. record { more = record { owner = newOwner h s; content = v } ∷ []; is = refl }) (λ _. grown-same cs))
+    grows-accessing h (freeNumber cs) _ _ cs (if-all (Grows cs) (ltb (usedCells cs) 256) _ _ (λ _. record { more = record { owner = newOwner h s; content = v } ∷ []; is = refl }) (λ _. grown-same cs))
 
 grows-read : (h : Here) (v : Value) (cs : List Stored) → Grows cs (readCell h v cs)
 unfolding readCell
@@ -125,7 +125,7 @@ unless-andThen cs k r Stuck e g f = unless-grown (r .outcome) g
 unless-store : (h : Here) (v w : Value) (cs : List Stored) → Unless cs (storeCell h v w cs)
 unfolding storeCell atCell accessing
 unless-store h (Cell c) w cs =
-    if-all (Unless cs) (ltb c (length cs)) _ _
+    if-all (Unless cs) (isUsed cs c) _ _
     (λ _. if-all (λ (x : Evaluated). Unless cs (after (accessOf h c (cellAt cs c .owner) ∷ []) x)) (isOwn h (cellAt cs c .owner)) (putIn c w cs) (gives Foreign cs) (λ _. tt) (λ _. grown-same cs))
     (λ _. grown-same cs)
 unless-store h (Number n) w cs = grown-same cs

@@ -14,7 +14,7 @@ use Rattle.program.specs.Programs.{Program, programOf}
 use Rattle.machine.specs.State.{State, schedulerAt, withScheduler}
 use Rattle.machine.specs.Waits.{readyThreads, stillWaiting}
 use Rattle.machine.specs.Turns.{isSchedulerOf}
-use Rattle.machine.specs.Steps.{stepThread, turnInstant, endInstant, stepScheduler, isUnlinked, step}
+use Rattle.machine.specs.Steps.{stepThread, turnInstant, endInstant, stepScheduler, isUnlinked, step, stepWithin}
 use Rattle.machine.specs.Words.{pack, wordsAt}
 use Rattle.machine.specs.Calls.{Called, calledOf, stepCall}
 use Rattle.machine.proofs.WordLaws.{is-pack}
@@ -146,7 +146,7 @@ module _ (frames : List ℕ) (shared : ℕ) (w : List ℕ) (h : StepWords frames
     whole = called-in (framesOf frames) w c (h .range)
 
     pub scheduler-steps : b ≡ true → (r : Called) → r ≡ calledOf w (stepScheduler P s c (schedulerAt s c .active)) → r ≡ stepCall (framesOf frames) w c
-    unfolding step
+    unfolding stepWithin
     scheduler-steps e r k = k ∙ ap (calledOf w) (sym (if-yes _ _ (is-scheduler e))) ∙ sym whole
 
     module _ (no : b ≡ false) where
@@ -174,9 +174,9 @@ module _ (frames : List ℕ) (shared : ℕ) (w : List ℕ) (h : StepWords frames
           thread-byte = let z = thread in omega arith
 
           pub thread-steps : (r : Called) → r ≡ calledOf w (stepThread P s c (c - 16)) → r ≡ stepCall (framesOf frames) w c
-          unfolding step
+          unfolding stepWithin
           thread-steps r k = k ∙ ap (calledOf w) (sym (if-no _ _ not-scheduler ∙ if-yes _ _ (sym unlinked ∙ yes))) ∙ sym whole
 
         pub no-party : d ≡ false → called 15 0 w ≡ stepCall (framesOf frames) w c
-        unfolding step
+        unfolding stepWithin
         no-party e = ap (calledOf w) (sym (if-no _ _ not-scheduler ∙ if-no _ _ (sym unlinked ∙ e))) ∙ sym whole

@@ -16,7 +16,7 @@ use Rattle.language.specs.declared.frame.Frame.{Frame}
 use Rattle.program.specs.Trees.{rootS}
 use Rattle.program.specs.Programs.{Program, moduleAt}
 use Rattle.machine.specs.Accesses.{Access}
-use Rattle.machine.specs.State.{State, Stored, Thread, plain, waiting, withNew, enlist}
+use Rattle.machine.specs.State.{State, Stored, Thread, plain, waiting, withNew, enlist, usedCells}
 use Rattle.machine.specs.Turns.{Stepped, Turn, unlinkedHere, refuse, accept, settled, leave, room}
 use Rattle.machine.specs.Statements.{started, withStarted, starting, startedWait}
 use Rattle.machine.specs.Words.{itemWord, valueWord, entryWord}
@@ -72,7 +72,7 @@ eqb-sym a b = go (eqb a b) refl
     go false e = e ∙ sym (ne-eqb b a (λ z. eqb-false a b e (sym z)))
 
 module _ {fs : List Frame} {P : Program} {n : ℕ} {w : List ℕ} {s : State} {c k : ℕ} (A : Acts fs P n w s c k) (x : Thread) (place : hasPlace n (x .place) ≡ true) (cs : List Stored) (acc : List Access)
-    (g : Grown (s .cells) cs) (l : length cs ≤ 256) where
+    (g : Grown (s .cells) cs) (l : usedCells cs ≤ 256) where
   abbrev u : Turn
   u = turnAt A x cs acc
 
@@ -82,7 +82,7 @@ module _ {fs : List Frame} {P : Program} {n : ℕ} {w : List ℕ} {s : State} {c
   -- the turn's words, with those arguments
   abbrev pub argued : Bool → ℕ → List Value → Turned
   argued waits m vs =
-      startsWith (request waits m) (wordsOf x) (length cs) (length vs) (getD (map valueWord vs) 0 0) (getD (map valueWord vs) 1 0)
+      startsWith (request waits m) (wordsOf x) (usedCells cs) (length vs) (getD (map valueWord vs) 0 0) (getD (map valueWord vs) 1 0)
 
   new-is : (waits : Bool) (m : ℕ) (vs : List Value) → length (map valueWord vs) ≤ 2
       → newIn (argued waits m vs) (suc k) (rootS (moduleAt P m .body)) ≡ wordsOf (started u (moduleAt P m) vs)
@@ -145,7 +145,7 @@ module _ {fs : List Frame} {P : Program} {n : ℕ} {w : List ℕ} {s : State} {c
       unfolding startsIn
       refused i h e =
           if-yes _ _ (ap (λ (j : ℕ). not (eqb j 0)) h ∙ ap not e)
-          ∙ ap (λ (j : ℕ). refusesIn v (length (s .cells)) (suc k) (argued waits m vs) j) h ∙ refuse-is A x cs acc i (wordsOf x) g l e
+          ∙ ap (λ (j : ℕ). refusesIn v (usedCells (s .cells)) (suc k) (argued waits m vs) j) h ∙ refuse-is A x cs acc i (wordsOf x) g l e
 
       pub start-commits : (r : Stepped)
           → (obstacle ≡ 0 → unlinkedHere u ≡ false → room u 1 (x .place) ≡ true → length (s .threads) < 64
@@ -176,7 +176,7 @@ module _ {fs : List Frame} {P : Program} {n : ℕ} {w : List ℕ} {s : State} {c
     plain-commit = if-no _ _ (ap (λ (j : ℕ). not (eqb j 0)) ob) ∙ if-yes _ _ refl
 
     waiting-commit : commit A (argued true m vs) cs
-        ≡ (if not (roomIn v (x .place) 2) then refusesIn v (length (s .cells)) (suc k) (argued true m vs) 20 else called 0 (suc k) (waitingIn v c (suc k) (argued true m vs) (rootS (moduleAt P m .body))))
+        ≡ (if not (roomIn v (x .place) 2) then refusesIn v (usedCells (s .cells)) (suc k) (argued true m vs) 20 else called 0 (suc k) (waitingIn v c (suc k) (argued true m vs) (rootS (moduleAt P m .body))))
     unfolding startsIn foundIn
     waiting-commit = if-no _ _ (ap (λ (j : ℕ). not (eqb j 0)) ob) ∙ if-no _ _ refl
 
@@ -186,7 +186,7 @@ module _ {fs : List Frame} {P : Program} {n : ℕ} {w : List ℕ} {s : State} {c
     unfolding entryWord
     started-is r =
         plain-commit
-        ∙ ap (called 0 (suc k)) (ap₂ (λ (th : ThreadWords) (e : ℕ). joinedIn (withOneMore (settledIn v (suc k - 1) (wordsOf x) (length cs)) th) (x .place) e) (new-is false m vs few) next-new ∙ is-pack _ _ says)
+        ∙ ap (called 0 (suc k)) (ap₂ (λ (th : ThreadWords) (e : ℕ). joinedIn (withOneMore (settledIn v (suc k - 1) (wordsOf x) (usedCells cs)) th) (x .place) e) (new-is false m vs few) next-new ∙ is-pack _ _ says)
       where
         new : Thread
         new = started u (moduleAt P m) vs
@@ -194,25 +194,25 @@ module _ {fs : List Frame} {P : Program} {n : ℕ} {w : List ℕ} {s : State} {c
         after : State
         after = withNew (started u (moduleAt P m) vs) (settled u x)
 
-        says : Says (joinedIn (withOneMore (settledIn v (suc k - 1) (wordsOf x) (length cs)) (wordsOf (started u (moduleAt P m) vs))) (x .place) (entryWord (plain (suc (length (s .threads))))))
+        says : Says (joinedIn (withOneMore (settledIn v (suc k - 1) (wordsOf x) (usedCells cs)) (wordsOf (started u (moduleAt P m) vs))) (x .place) (entryWord (plain (suc (length (s .threads))))))
             (enlist (x .place) (plain (suc (length (s .threads)))) (withNew (started u (moduleAt P m) vs) (settled u x)))
         says =
             joined-says _ after (add-says _ (settled u x) (settled-is A x cs acc x) new (rw (settled-length fs P n (A .file) u x) less)) (x .place) (plain (suc (length (s .threads)))) (list-here .1) (list-here .0)
-            (let h = has-room fs P n (A .file) u 1 (x .place) r in omega arith)
+            (let h = has-room fs P n (A .file) u 1 (x .place) refl r in omega arith)
 
     -- ---- 14
     pub waits-is : commit A (argued true m vs) cs ≡ calledOf w (startedWait u m vs)
     unfolding startedWait entryWord
     waits-is =
         waiting-commit
-        ∙ if-all (λ (y : Stepped). (if not (roomIn v (x .place) 2) then refusesIn v (length (s .cells)) (suc k) (argued true m vs) 20 else called 0 (suc k) (waitingIn v c (suc k) (argued true m vs) (rootS (moduleAt P m .body)))) ≡ calledOf w y)
+        ∙ if-all (λ (y : Stepped). (if not (roomIn v (x .place) 2) then refusesIn v (usedCells (s .cells)) (suc k) (argued true m vs) 20 else called 0 (suc k) (waitingIn v c (suc k) (argued true m vs) (rootS (moduleAt P m .body)))) ≡ calledOf w y)
         (room u 2 (x .place)) (accept u (enlist (x .place) (waiting (suc k) t) first)) (refuse u 20)
         (λ e. if-no _ _ (ap not (room-same 2 linked ∙ e))
         ∙ ap (called 0 (suc k)) (ap₂ (λ (th : ThreadWords) (i : ℕ). joinedIn (joinedIn (withOneMore left th) (x .place) i) (x .place) (128 * i + suc k)) (new-is true m vs few) next-new ∙ is-pack _ _ (says e)))
         (λ e. if-yes _ _ (ap not (room-same 2 linked ∙ e)) ∙ refuse-is A x cs acc 20 (wordsOf x) g l refl)
       where
         left : List ℕ
-        left = leftIn (settledIn v (suc k - 1) (wordsOf x) (length cs)) c
+        left = leftIn (settledIn v (suc k - 1) (wordsOf x) (usedCells cs)) c
 
         new : Thread
         new = started u (moduleAt P m) vs
@@ -235,13 +235,13 @@ module _ {fs : List Frame} {P : Program} {n : ℕ} {w : List ℕ} {s : State} {c
         one : room u 2 (x .place) ≡ true → Says (joinedIn (withOneMore left (wordsOf new)) (x .place) (entryWord (plain t))) first
         one e =
             joined-says _ (withNew new gone) (add-says _ gone (left-is A x cs acc x) new fewer) (x .place) (plain t) (list-here .1) there
-            (let h = has-room fs P n (A .file) u 2 (x .place) e in let b = leave-next fs P n (A .file) u (settled u x) (x .place) in omega arith)
+            (let h = has-room fs P n (A .file) u 2 (x .place) refl e in let b = leave-next fs P n (A .file) u (settled u x) (x .place) in omega arith)
 
         says : room u 2 (x .place) ≡ true
             → Says (joinedIn (joinedIn (withOneMore left (wordsOf new)) (x .place) (entryWord (plain t))) (x .place) (entryWord (waiting (suc k) t))) (enlist (x .place) (waiting (suc k) t) first)
         says e =
             joined-says _ first (one e) (x .place) (waiting (suc k) t) (list-here .1) kept
-            (let h = has-room fs P n (A .file) u 2 (x .place) e in let b = leave-next fs P n (A .file) u (settled u x) (x .place) in let d = enlist-next fs P n (A .file) (withNew new gone) (x .place) (plain t) in omega arith)
+            (let h = has-room fs P n (A .file) u 2 (x .place) refl e in let b = leave-next fs P n (A .file) u (settled u x) (x .place) in let d = enlist-next fs P n (A .file) (withNew new gone) (x .place) (plain t) in omega arith)
           where
             kept : x .place - 2 < length (first .schedulers)
             kept = rw (enlist-count (x .place) (plain t) (withNew new gone)) there

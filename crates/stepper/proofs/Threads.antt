@@ -11,9 +11,9 @@ use Rattle.basics.proofs.Ifs.{if-yes, if-no}
 use Rattle.language.specs.declared.frame.Frame.{Frame}
 use Rattle.program.specs.Trees.{Stmt, rootS, statementAt}
 use Rattle.program.specs.Programs.{Program}
-use Rattle.machine.specs.State.{State, Thread, Item, run, back, drop, threadAt}
+use Rattle.machine.specs.State.{State, Thread, Item, run, back, drop, threadAt, usedCells}
 use Rattle.machine.specs.Statements.{ends, goesBack}
-use Rattle.machine.specs.Steps.{stepItems, stepThread}
+use Rattle.machine.specs.Steps.{stepItems, stepThread, stepThreadWithin}
 use Rattle.machine.specs.Words.{itemWord}
 use Rattle.machine.specs.Blocks.{cellWords}
 use Rattle.machine.specs.Calls.{calledOf}
@@ -58,7 +58,7 @@ module _ {fs : List Frame} {P : Program} {n : ℕ} {w : List ℕ} {s : State} {c
   ws = cellWords (s .cells)
 
   abbrev used : ℕ
-  used = length (s .cells)
+  used = usedCells (s .cells)
 
   -- ---- what the words come to, by the item that is on top
   in-run : (st : Stmt) (is : List Item) → rootS st < 1024 → statementAt fs (rootS st) ≡ st → itemIn fs who (wordsOf (rest is)) used ws (rootS st) ≡ statementIn who (wordsOf (rest is)) used ws st
@@ -104,7 +104,7 @@ module _ {fs : List Frame} {P : Program} {n : ℕ} {w : List ℕ} {s : State} {c
   turn-from (i ∷ is) (more p f) h = ap (commitOn A) (in-items i is (omega arith)) ∙ item-is i is p f (omega arith)
 
   pub turn-is : commitOn A (turnIn fs who (wordsOf x) used ws) ≡ calledOf w (stepThread P s c (suc k))
-  unfolding stepThread
+  unfolding stepThreadWithin
   turn-is = turn-from (x .continuation) (X .items) (X .items-room)
 
   -- ---- with at most 256 cells in use

@@ -8,10 +8,10 @@ use lib.ListN.{length, getD, List·getD-eq-default}
 use lib.Seq.{set-out}
 use Rattle.text.specs.Frames.{framesOf}
 use Rattle.program.specs.Programs.{Program, programOf}
-use Rattle.machine.specs.State.{State, Thread, Item, noThread, nth, setNth, threadAt}
+use Rattle.machine.specs.State.{State, Thread, Item, noThread, nth, setNth, threadAt, usedCells}
 use Rattle.machine.specs.Turns.{Turn, isSchedulerOf, leave, settled}
 use Rattle.machine.specs.Statements.{ends}
-use Rattle.machine.specs.Steps.{turn, stepItems, stepThread}
+use Rattle.machine.specs.Steps.{turn, stepItems, stepThread, stepThreadWithin}
 use Rattle.machine.specs.Words.{pack}
 use Rattle.machine.specs.Blocks.{pasted, cellWords}
 use Rattle.machine.specs.Calls.{calledOf}
@@ -52,7 +52,7 @@ module _ (frames : List ℕ) (shared : ℕ) (w : List ℕ) (h : StepWords frames
 
     -- the turn of thread i, so that a law of thread suc (t - 1) is one of thread t
     abbrev turnFor : ℕ → ActedOn
-    turnFor i = turnIn (framesOf frames) (whoIn frames shared w t) (wordsOf (threadAt s i)) (length (s .cells)) (cellWords (s .cells))
+    turnFor i = turnIn (framesOf frames) (whoIn frames shared w t) (wordsOf (threadAt s i)) (usedCells (s .cells)) (cellWords (s .cells))
 
     -- the turn has changed the cells alone: the thread's words are as before
     kept : (a : Acted) (v : List ℕ) → turnOn a v frames shared w t → threadIn v (t - 1) ≡ wordsOf (threadAt s t)
@@ -95,7 +95,7 @@ module _ (frames : List ℕ) (shared : ℕ) (w : List ℕ) (h : StepWords frames
         ∙ subst Goal number-same (turn-is acts (whoIn frames shared w t) who-is)
       where
         Goal : ℕ → Type 0
-        Goal i = committedIn P (pasted w 4562 (turnFor i .cells) 256) (length (s .cells)) c i (turnFor i .acted) (turnFor i .acted .fate) ≡ calledOf w (stepThread P s c i)
+        Goal i = committedIn P (pasted w 4562 (turnFor i .cells) 256) (usedCells (s .cells)) c i (turnFor i .acted) (turnFor i .acted .fate) ≡ calledOf w (stepThread P s c i)
 
   -- ---- a thread that is not there has nothing to run: it ends, and no thread changes
   module _ (high : getD w 0 0 < t) where
@@ -124,7 +124,7 @@ module _ (frames : List ℕ) (shared : ℕ) (w : List ℕ) (h : StepWords frames
     chosen-there e = scheduler-there (fits-in frames shared w h) (shaped frames shared w h) c e .0
 
     pub gone-is : (v : List ℕ) → v ≡ leftIn w c → called 0 t v ≡ calledOf w (stepThread P s c t)
-    unfolding stepThread ends
+    unfolding stepThreadWithin ends
     gone-is v e =
         ap (called 0 t) (e ∙ is-pack _ (leave gone s) (left-says w s (says frames shared w h) gone choice chosen-there (scheduler-fits (framesOf frames) _ _ (fits-in frames shared w h) s (shaped frames shared w h) c .active-room))
         ∙ ap (λ (x : State). pack (leave gone x)) (sym (same-state _)))

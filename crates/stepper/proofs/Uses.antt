@@ -10,7 +10,7 @@ use Rattle.basics.proofs.Ifs.{if-all}
 use Rattle.language.specs.declared.frame.Frame.{Frame}
 use Rattle.program.specs.Trees.{Expr, Stmt, rootS}
 use Rattle.program.specs.Programs.{Program}
-use Rattle.machine.specs.State.{State, Stored, Thread}
+use Rattle.machine.specs.State.{State, Stored, Thread, usedCells}
 use Rattle.machine.specs.Evaluation.{Evaluated, eval, storing}
 use Rattle.machine.specs.Turns.{evaluator}
 use Rattle.machine.specs.Words.{valueWord}
@@ -84,7 +84,7 @@ module _ {fs : List Frame} {P : Program} {n : ℕ} {w : List ℕ} {s : State} {c
 
   -- the value of an expression
   module _ (cs : List Stored) (C : CellsFit n cs) (e : Expr) (E : ExprFits n e) where
-    value-few : (On : Result → ActedOn) → ((r : Evaluated) → length (r .cells) ≤ 256 → On (resultOf r) .acted .used ≤ 256) → On (evaluatedIn who (wordsOf x) e (length cs) (cellWords cs)) .acted .used ≤ 256
+    value-few : (On : Result → ActedOn) → ((r : Evaluated) → usedCells (r .cells) ≤ 256 → On (resultOf r) .acted .used ≤ 256) → On (evaluatedIn who (wordsOf x) e (usedCells cs) (cellWords cs)) .acted .used ≤ 256
     value-few On f =
         subst (λ (r : Result). On r .acted .used ≤ 256) (sym (evaluation-is A x X who W cs [] C (λ h. eval h e)))
         (f (eval (evaluator (turnAt A x cs [])) e cs) (eval-fits A x X who W cs [] C e E .cells .room))
@@ -95,15 +95,15 @@ module _ {fs : List Frame} {P : Program} {n : ℕ} {w : List ℕ} {s : State} {c
   on-few Spent m ws K h f = h
   on-few Stuck m ws K h f = h
 
-  starts-few : (waits : Bool) (m : ℕ) (cs : List Stored) → CellsFit n cs → (xs : List Expr) → All (ExprFits n) xs → startsIn who (request waits m) (wordsOf x) (length cs) (cellWords cs) xs .acted .used ≤ 256
+  starts-few : (waits : Bool) (m : ℕ) (cs : List Stored) → CellsFit n cs → (xs : List Expr) → All (ExprFits n) xs → startsIn who (request waits m) (wordsOf x) (usedCells cs) (cellWords cs) xs .acted .used ≤ 256
   starts-few waits m cs C [] f = C .room
   starts-few waits m cs C (e ∷ []) (more E f) =
-      value-few cs C e E (oneArgument (request waits m) th) (λ r h. then-few (length (r .cells)) h th (r .outcome) _ (λ _. h))
+      value-few cs C e E (oneArgument (request waits m) th) (λ r h. then-few (usedCells (r .cells)) h th (r .outcome) _ (λ _. h))
   starts-few waits m cs C (e ∷ d ∷ xs) (more E (more D f)) =
       subst (λ (r : Result). twoArguments who (request waits m) th d r .acted .used ≤ 256) (sym (evaluation-is A x X who W cs [] C (λ h. eval h e)))
-      (on-few (r .outcome) (length (r .cells)) (cellWords (r .cells)) _ (F .cells .room)
+      (on-few (r .outcome) (usedCells (r .cells)) (cellWords (r .cells)) _ (F .cells .room)
       (λ v. value-few (r .cells) (F .cells) d D (lastArgument (request waits m) th (valueWord v))
-      (λ q h. then-few (length (q .cells)) h th (q .outcome) _ (λ _. h))))
+      (λ q h. then-few (usedCells (q .cells)) h th (q .outcome) _ (λ _. h))))
     where
       r : Evaluated
       r = eval (evaluator (turnAt A x cs [])) e cs
@@ -111,22 +111,22 @@ module _ {fs : List Frame} {P : Program} {n : ℕ} {w : List ℕ} {s : State} {c
       F : EvalFits n (eval (evaluator (turnAt A x cs [])) e cs)
       F = eval-fits A x X who W cs [] C e E
 
-  pub statement-few : (cs : List Stored) → CellsFit n cs → (st : Stmt) → Parts fs n st → statementIn who (wordsOf x) (length cs) (cellWords cs) st .acted .used ≤ 256
+  pub statement-few : (cs : List Stored) → CellsFit n cs → (st : Stmt) → Parts fs n st → statementIn who (wordsOf x) (usedCells cs) (cellWords cs) st .acted .used ≤ 256
   statement-few cs C st of-nothing = C .room
-  statement-few cs C st of-cooperate = cooperates-few (length cs) (C .room) th
-  statement-few cs C st (of-seq {a = a} {b = b} i j) = two-few (length cs) (C .room) th (rootS a) (rootS b)
-  statement-few cs C st (of-do {q = q} {a = a} p i) = does-few (length cs) (C .room) th q (rootS a)
+  statement-few cs C st of-cooperate = cooperates-few (usedCells cs) (C .room) th
+  statement-few cs C st (of-seq {a = a} {b = b} i j) = two-few (usedCells cs) (C .room) th (rootS a) (rootS b)
+  statement-few cs C st (of-do {q = q} {a = a} p i) = does-few (usedCells cs) (C .room) th q (rootS a)
   statement-few cs C st (of-start {m = m} {xs = xs} es) = starts-few false m cs C xs es
   statement-few cs C st (of-wait {m = m} {xs = xs} es) = starts-few true m cs C xs es
   statement-few cs C st (of-let {x = e} {a = a} E i) =
-      value-few cs C e E (letsOn th (rootS a)) (λ r h. then-few (length (r .cells)) h th (r .outcome) _ (λ v. lets-few (length (r .cells)) h th (valueWord v) (rootS a)))
+      value-few cs C e E (letsOn th (rootS a)) (λ r h. then-few (usedCells (r .cells)) h th (r .outcome) _ (λ v. lets-few (usedCells (r .cells)) h th (valueWord v) (rootS a)))
   statement-few cs C st (of-store {x = d} {y = e} D E) =
       subst (λ (r : Result). storesOn th r .acted .used ≤ 256) (sym (evaluation-is A x X who W cs [] C (λ h. storing h d e)))
       (let l = fit-storing (evaluator (turnAt A x cs [])) cs (here-fits A x X who W cs []) C D E .cells .room in
-      then-few (length (storing (evaluator (turnAt A x cs [])) d e cs .cells)) l th (storing (evaluator (turnAt A x cs [])) d e cs .outcome) _ (λ _. l))
+      then-few (usedCells (storing (evaluator (turnAt A x cs [])) d e cs .cells)) l th (storing (evaluator (turnAt A x cs [])) d e cs .outcome) _ (λ _. l))
   statement-few cs C st (of-if {x = e} {a = a} {b = b} E i j) =
       value-few cs C e E (choosesOn th (rootS a) (rootS b))
-      (λ r h. then-few (length (r .cells)) h th (r .outcome) _ (λ v. truth-few (length (r .cells)) h th v _ _ (one-few (length (r .cells)) h th (rootS a)) (one-few (length (r .cells)) h th (rootS b))))
+      (λ r h. then-few (usedCells (r .cells)) h th (r .outcome) _ (λ v. truth-few (usedCells (r .cells)) h th v _ _ (one-few (usedCells (r .cells)) h th (rootS a)) (one-few (usedCells (r .cells)) h th (rootS b))))
   statement-few cs C st (of-while {i = i} {x = e} {a = a} E j) =
       value-few cs C e E (loopsOn th (rootS a) i)
-      (λ r h. then-few (length (r .cells)) h th (r .outcome) _ (λ v. truth-few (length (r .cells)) h th v _ _ (two-few (length (r .cells)) h th (rootS a) i) h))
+      (λ r h. then-few (usedCells (r .cells)) h th (r .outcome) _ (λ v. truth-few (usedCells (r .cells)) h th v _ _ (two-few (usedCells (r .cells)) h th (rootS a) i) h))

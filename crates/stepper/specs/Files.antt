@@ -8,7 +8,7 @@ use Rattle.language.specs.Places.{isScheduler}
 use Rattle.text.specs.Frames.{framesOf}
 use Rattle.program.specs.Programs.{Program, programOf}
 use Rattle.layout.specs.Faults.{NoFault}
-use Rattle.machine.specs.State.{State, threadAt}
+use Rattle.machine.specs.State.{State, threadAt, usedCells}
 use Rattle.machine.specs.Turns.{isSchedulerOf}
 use Rattle.machine.specs.Words.{unpack}
 use Rattle.machine.specs.Ranges.{inRange}
@@ -56,7 +56,7 @@ whoIn frames shared w t = record { thread = t; place = record { number = threadA
 abbrev pub turnOf : List ℕ → ℕ → List ℕ → ℕ → ActedOn
 turnOf frames shared w t =
     let s = stateIn frames w in
-    turnIn (framesOf frames) (whoIn frames shared w t) (wordsOf (threadAt s t)) (length (s .cells)) (cellWords (s .cells))
+    turnIn (framesOf frames) (whoIn frames shared w t) (wordsOf (threadAt s t)) (usedCells (s .cells)) (cellWords (s .cells))
 
 -- what the turn comes to, the words with its cells, and that the thread's space has room for the change
 pub record turnOn (a : Acted) (v : List ℕ) (frames : List ℕ) (shared : ℕ) (w : List ℕ) (t : ℕ) : Type 0 where

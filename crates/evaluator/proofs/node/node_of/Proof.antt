@@ -29,19 +29,19 @@ returns : tie.Need-returns
 returns c = search node-kind
 
 returns-2 : tie.Need-returns-2
-returns-2 c = search needs
+returns-2 c = search node-kind
 
 returns-3 : tie.Need-returns-3
-returns-3 c = search needs
+returns-3 c = search node-kind
 
 returns-4 : tie.Need-returns-4
-returns-4 c = search needs
+returns-4 c = search node-kind
 
 returns-5 : tie.Need-returns-5
-returns-5 c = search needs
+returns-5 c = search node-kind
 
 returns-6 : tie.Need-returns-6
-returns-6 c = search needs
+returns-6 c = search node-kind
 
 pub node-of-spec : {M : Type 1} → statement M
 node-of-spec =

@@ -1,8 +1,8 @@
--- `a_number` meets its contract. Assumes nothing.
+-- `number_in` meets its contract. Assumes nothing.
 use borrow.Author.Needs.{needs}
-use Rattle.evaluator.proofs.Operations.{is-number}
-use Rattle.evaluator.proofs.operation.a_number.Statement.{statement}
-use Rattle.evaluator.proofs.operation.a_number.Tie as tie
+use Rattle.evaluator.proofs.Operations.{number-row}
+use Rattle.evaluator.proofs.operation.number_in.Statement.{statement}
+use Rattle.evaluator.proofs.operation.number_in.Tie as tie
 
 enum-known-v : tie.Need-enum-known-v
 enum-known-v c = search needs
@@ -14,7 +14,7 @@ enum-known-v-3 : tie.Need-enum-known-v-3
 enum-known-v-3 c = search needs
 
 returns : tie.Need-returns
-returns c = search is-number
+returns c = search number-row
 
 returns-2 : tie.Need-returns-2
 returns-2 c = search needs
@@ -22,6 +22,6 @@ returns-2 c = search needs
 returns-3 : tie.Need-returns-3
 returns-3 c = search needs
 
-pub a-number-spec : {M : Type 1} → statement M
-a-number-spec =
+pub number-in-spec : {M : Type 1} → statement M
+number-in-spec =
     tie.close (tie.spec enum-known-v enum-known-v-2 enum-known-v-3 returns returns-2 returns-3)

@@ -1,11 +1,11 @@
--- `operate_on` meets its contract. Assumes nothing.
+-- `operate_first` meets its contract. Assumes nothing.
 use borrow.Author.Needs.{needs}
-use Rattle.evaluator.proofs.Operations.{operands-is}
-use Rattle.evaluator.proofs.operation.operate_on.Statement.{statement}
-use Rattle.evaluator.proofs.operation.operate_on.Tie as tie
+use Rattle.evaluator.proofs.Operations.{first-number}
+use Rattle.evaluator.proofs.operation.operate_first.Statement.{statement}
+use Rattle.evaluator.proofs.operation.operate_first.Tie as tie
 
-enum-known-o : tie.Need-enum-known-o
-enum-known-o c = search needs
+enum-known-p : tie.Need-enum-known-p
+enum-known-p c = search needs
 
 operate-requires : tie.Need-operate-requires
 operate-requires c κs = search needs
@@ -19,8 +19,11 @@ enum-told-2 c = search needs
 enum-told-3 : tie.Need-enum-told-3
 enum-told-3 c = search needs
 
+enum-told-4 : tie.Need-enum-told-4
+enum-told-4 c = search needs
+
 returns : tie.Need-returns
-returns c = search operands-is
+returns c = search first-number
 
 returns-2 : tie.Need-returns-2
 returns-2 c = search needs
@@ -31,16 +34,21 @@ returns-3 c = search needs
 returns-4 : tie.Need-returns-4
 returns-4 c = search needs
 
-pub operate-on-spec : {M : Type 1} → statement M
-operate-on-spec =
+returns-5 : tie.Need-returns-5
+returns-5 c = search needs
+
+pub operate-first-spec : {M : Type 1} → statement M
+operate-first-spec =
     tie.close
     (tie.spec
-    enum-known-o
+    enum-known-p
     operate-requires
     enum-told
     enum-told-2
     enum-told-3
+    enum-told-4
     returns
     returns-2
     returns-3
-    returns-4)
+    returns-4
+    returns-5)

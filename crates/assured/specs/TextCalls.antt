@@ -1,0 +1,71 @@
+-- Demand 3 of the very calls: of what the public functions `fresh` and `step` promise on a text, `freshText` and `stepText`, one call after the other. Assumes nothing: definitions; the theorems are in proofs/CalledTexts.
+use mathlib.Core.Path.{_≡_}
+use mathlib.Core.Logic.{_≢_}
+use mathlib.Core.List.{List, [], _∷_, _++_}
+use Prim.Native.Nat.{ℕ}
+use lib.ListN.{length}
+use Rattle.basics.specs.Members.{All}
+use Rattle.language.specs.declared.frame.Frame.{Frame}
+use Rattle.language.specs.declared.verdict.Verdict.the-variants.{Accepted}
+use Rattle.text.specs.Frames.{textFrames}
+use Rattle.rules.specs.Verdict.{HasVerdict}
+use Rattle.machine.specs.Accesses.{Access, Own}
+use Rattle.machine.specs.State.{State}
+use Rattle.machine.specs.Words.{pack}
+use Rattle.reach.specs.Reached.{Passes}
+use Rattle.safety.specs.Safety.{NoPrivateInPublic, Apart}
+use Rattle.safety.specs.Accepted.{stateOf, accessesUnder}
+use Rattle.stepper.specs.declared.answer.Answer.the-variants.{Done}
+use Rattle.stepper.specs.Answers.{numberOf, Answered, freshText, stepText}
+
+-- an answer that is neither a refusal of the text (1 to 13), nor 14, nor foreign (19), nor stuck (20)
+pub data Plain : ℕ → Type 0 where
+  done : Plain 0
+  no-party : Plain 15
+  nothing : Plain 16
+  cells-spent : Plain 17
+  threads-spent : Plain 18
+
+-- one call of `step` after the other, each on the words that the one before left
+unfoldable pub textCallsFrom : List ℕ → List ℕ → List ℕ → List Answered
+textCallsFrom bs w [] = []
+textCallsFrom bs w (c ∷ cs) = let r = stepText bs w c in r ∷ textCallsFrom bs (r .words) cs
+
+-- the words that the last of these calls leaves
+unfoldable pub textWordsFrom : List ℕ → List ℕ → List ℕ → List ℕ
+textWordsFrom bs w [] = w
+textWordsFrom bs w (c ∷ cs) = textWordsFrom bs (stepText bs w c .words) cs
+
+-- the accesses under these calls: 'those that the stepping rules make on the state it was given, those before a refusal too'
+unfoldable pub textAccessesFrom : List ℕ → List ℕ → List ℕ → List Access
+textAccessesFrom bs w [] = []
+textAccessesFrom bs w (c ∷ cs) = accessesUnder (textFrames bs) w c ++ textAccessesFrom bs (stepText bs w c .words) cs
+
+-- the words behind a call of `fresh` on the buffer w and those calls, and the state that they are
+abbrev pub wordsLeft : List ℕ → List ℕ → List ℕ → List ℕ
+wordsLeft bs w cs = textWordsFrom bs (freshText bs w .words) cs
+
+abbrev pub stateLeft : List ℕ → List ℕ → List ℕ → State
+stateLeft bs w cs = stateOf (textFrames bs) (wordsLeft bs w cs)
+
+-- of a text, a lent buffer and a list of choices: the call of `fresh` writes the buffer, then each choice is a call of `step`
+pub record SafeTexts (bs w cs : List ℕ) : Type 0 where
+  pub fresh : freshText bs w .answer ≡ Done 0
+  -- every access under every call was to a cell of the acting thread or of the scheduler on which it stood
+  pub accessed : All Own (textAccessesFrom bs (freshText bs w .words) cs)
+  -- no call was 14, foreign or stuck, nor was the text refused
+  pub answered : All (λ (r : Answered). Plain (numberOf (r .answer))) (textCallsFrom bs (freshText bs w .words) cs)
+  -- the words behind the list are those of a state, in which no scheduler's cell holds a thread's, and no thread's variables reach another thread's cell
+  pub words : wordsLeft bs w cs ≡ pack (stateLeft bs w cs)
+  pub public : NoPrivateInPublic (stateLeft bs w cs)
+  pub apart : Apart (stateLeft bs w cs)
+
+-- for every text that the check accepts, every lent buffer of the right length, and every list of choices
+abbrev pub AcceptedTextsSafe : Type 0
+AcceptedTextsSafe = (bs : List ℕ) → HasVerdict bs Accepted → (w cs : List ℕ) → length w ≡ 4818 → SafeTexts bs w cs
+
+-- for every text that passes refusals 1 to 7, accepted or not: 'a state reached from a fresh one is never 14', of the very calls
+abbrev pub TextsNever14 : Type 0
+TextsNever14 =
+    (bs : List ℕ) (fs : List Frame) → Passes bs fs → (w cs : List ℕ) → length w ≡ 4818
+    → All (λ (r : Answered). numberOf (r .answer) ≢ 14) (textCallsFrom bs (freshText bs w .words) cs)
