@@ -33,14 +33,15 @@ uint32_t purkvaldi_step(const uint8_t *text, size_t length, uint64_t *state, siz
 /* How many bytes a listing's buffer has: 229,389, the longest listing. */
 size_t purkvaldi_listing_length(void);
 
-/* What `purkvaldi_run` gives: the code of its answer, 0 where the listing is printed, and how many bytes the listing has. */
+/* What `purkvaldi_run` gives: a code, and how many bytes of `out` were written, which hold the listing. */
 #define PURKVALDI_CODE(result) ((uint32_t)((result) >> 32))
 #define PURKVALDI_SIZE(result) ((size_t)((result) & 0xFFFFFFFFu))
 
-/* The listing of a run in the first bytes of `out`. `choices` are the bytes of a choices.txt. The listing begins with the check's line; after
- * a refusal 1 to 7 it has no other, and `state` may have any length. Where choices were stepped, `state` is the fresh state stepped through
- * those used, else it is as it was. Where `state` or `out` has another length than it needs, the code is that of the text's refusal 1 to 7,
- * else that of 14, the size is 0, and nothing is written. */
+/* The listing of a run in the first bytes of `out`. `choices` are the bytes of a choices.txt.
+ * The code is that of the text's refusal 1 to 7, whatever the buffers' lengths; else that of 14 where `state` or `out` has another length
+ * than the listing needs; else 0. Where a needed length is wrong, nothing is written and the size is 0.
+ * The listing begins with the check's line; after a refusal 1 to 7 it has no other, and needs only `out`: `state` may have any length.
+ * Where choices were stepped, `state` is the fresh state stepped through those used, else it is as it was. */
 uint64_t purkvaldi_run(const uint8_t *text, size_t length, const uint8_t *choices, size_t choices_length, uint64_t *state,
                        size_t words, uint8_t *out, size_t out_length);
 

@@ -32,7 +32,7 @@ static void refused(const char *what, size_t words, uint64_t choice, uint32_t wa
     }
 }
 
-/* A listing that is refused leaves both buffers. */
+/* A listing that a buffer cannot take leaves both buffers. */
 static void unprinted(const char *what, const uint8_t *text, size_t length, size_t words, size_t bytes, uint32_t wanted)
 {
     uint64_t result;
@@ -41,13 +41,14 @@ static void unprinted(const char *what, const uint8_t *text, size_t length, size
     result = purkvaldi_run(text, length, (const uint8_t *)"02\n", 3, state, words, out, bytes);
     expect(what, PURKVALDI_CODE(result), wanted);
     if (PURKVALDI_SIZE(result) != 0 || memcmp(before, state, sizeof state) != 0 || memcmp(out_before, out, sizeof out) != 0) {
-        printf("%s: a refused listing wrote\n", what);
+        printf("%s: a listing without its buffers wrote\n", what);
         failures++;
     }
 }
 
-/* A listing that is printed, and no byte behind it. */
-static void printed(const char *what, const uint8_t *text, size_t length, const char *choices, size_t words, const char *wanted)
+/* A listing that is written, with that code, and no byte behind it. */
+static void printed(const char *what, const uint8_t *text, size_t length, const char *choices, size_t words,
+                    uint32_t code, const char *wanted)
 {
     uint64_t result;
     size_t size = strlen(wanted);
@@ -55,7 +56,7 @@ static void printed(const char *what, const uint8_t *text, size_t length, const 
     memset(out_before, 7, sizeof out);
     memcpy(out_before, wanted, size);
     result = purkvaldi_run(text, length, (const uint8_t *)choices, strlen(choices), state, words, out, OUT);
-    expect(what, PURKVALDI_CODE(result), 0);
+    expect(what, PURKVALDI_CODE(result), code);
     if (PURKVALDI_SIZE(result) != size || memcmp(out, out_before, sizeof out) != 0) {
         printf("%s: another listing\n", what);
         failures++;
@@ -104,7 +105,8 @@ int main(void)
         state[i] = kept;
     }
 
-    /* the listing of a run: the text's refusal comes before 14, and what is refused writes nothing */
+    /* the listing of a run: the code is the text's refusal 1 to 7, else 14, else 0; the line of a refused text is in a buffer
+     * of the right length */
     expect("listing length", (uint32_t)purkvaldi_listing_length(), OUT);
     unprinted("a run in a shorter buffer", text, length, WORDS, OUT - 1, 0x0E0000);
     unprinted("a run in a longer buffer", text, length, WORDS, OUT + 1, 0x0E0000);
@@ -112,8 +114,10 @@ int main(void)
     unprinted("a run of no text in a shorter buffer", NULL, 0, WORDS, OUT - 1, 0x010000);
     unprinted("a run of half a text on a shorter state in a longer buffer", text, length - 8, WORDS - 1, OUT + 1, 0x030002);
     expect("a run in no buffer", PURKVALDI_CODE(purkvaldi_run(text, length, NULL, 0, NULL, 0, NULL, 0)), 0x0E0000);
-    printed("a run", text, length, "02\n02\n02\n", WORDS, "00 0000\n02 00 01 0000\n02 00 01 0000\n02 10 00 0000\n0003\n");
-    printed("a run of no text", NULL, 0, "", WORDS, "01 0000\n");
-    printed("a run of no text on a shorter state", NULL, 0, "02\n", WORDS - 1, "01 0000\n");
+    printed("a run", text, length, "02\n02\n02\n", WORDS, 0,
+            "00 0000\n02 00 01 0000\n02 00 01 0000\n02 10 00 0000\n0003\n");
+    printed("a run of no text", NULL, 0, "", WORDS, 0x010000, "01 0000\n");
+    printed("a run of no text on a shorter state", NULL, 0, "02\n", WORDS - 1, 0x010000, "01 0000\n");
+    printed("a run of half a text", text, length - 8, "02\n", WORDS, 0x030002, "03 0002\n");
     return failures != 0;
 }

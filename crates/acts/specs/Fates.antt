@@ -43,8 +43,8 @@ changed (Item a) th = pushItem a th
 changed (Items top below) th = pushItem top (pushItem below th)
 changed (Let value body) th = pushItem body (pushItem 2048 (pushValue value th))
 changed Drop th = popValue th
-changed (Move q) th = moveTo q th
-changed (Enter q body) th = moveTo q (pushItem body (pushItem (1024 + th .place) th))
+changed (Move q) th = moveTo (q .number) th
+changed (Enter q body) th = moveTo (q .number) (pushItem body (pushItem (1024 + th .place) th))
 changed End th = ended th
 
 abbrev pub turned : Acted → ThreadWords → Turned

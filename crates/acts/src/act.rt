@@ -1,8 +1,6 @@
 // What a turn comes to.
 use language::Place;
 ghost use mathlib.Core.Path.{_≡_};
-ghost use lib.Dec.{eqb};
-ghost use Rattle.language.specs.Places.{private};
 ghost use Rattle.acts.specs.Fates.{actedWith, refusedWith};
 
 // What becomes of the thread: refused with that number; it stays first in its list; it leaves it for none, since it has ended or is
@@ -11,7 +9,7 @@ pub enum Fate {
     Refused(u8),
     Stays,
     Leaves,
-    Joins(u64),
+    Joins(Place),
     Starts(bool, u8),
 }
 
@@ -24,8 +22,8 @@ pub enum Change {
     Items(u64, u64),
     Let(u64, u64),
     Drop,
-    Move(u64),
-    Enter(u64, u64),
+    Move(Place),
+    Enter(Place, u64),
     End,
 }
 
@@ -56,11 +54,4 @@ pub fn refused(answer: u8, used: usize) -> Acted
     ensures { λ r. ⌜ r ≡ refusedWith answer used ⌝ }
 {
     comes_to(Fate::Refused(answer), Change::Same, used)
-}
-
-// A thread at this place is unlinked.
-pub fn is_private(place: u64) -> bool
-    ensures { λ r. ⌜ r ≡ eqb place private ⌝ }
-{
-    place == Place::PRIVATE.number() as u64
 }

@@ -15,11 +15,11 @@ use Rattle.layout.proofs.AfterLayout.{text-fine}
 use Rattle.rules.specs.Verdict.{HasVerdict}
 use Rattle.machine.specs.Accesses.{Access, Own}
 use Rattle.machine.specs.Turns.{Stepped}
-use Rattle.machine.specs.Runs.{steps, answers}
+use Rattle.machine.specs.Runs.{steps, stateAfter, answers}
 use Rattle.machine.specs.Fresh.{fresh}
 use Rattle.machine.specs.Words.{pack}
 use Rattle.machine.specs.Calls.{Called, freshCall, stepCall, callsFrom, wordsFrom}
-use Rattle.machine.proofs.CallRuns.{asCalled, calls-are, fresh-called}
+use Rattle.machine.proofs.CallRuns.{asCalled, calls-are, fresh-called, words-are as called-words}
 use Rattle.machine.proofs.Lists.{all-imply}
 use Rattle.reach.proofs.Fits.{fits}
 use Rattle.safety.specs.Safety.{Sound, NoPrivateInPublic, Apart}
@@ -99,6 +99,10 @@ module _ (bs : List ℕ) (read : Reads bs (frames (textFrames bs))) (fine : NoFa
 
     left : textWordsFrom bs (freshText bs w .words) cs ≡ wordsFrom fs (freshCall fs w .words) cs
     left = ap (λ (v : List ℕ). textWordsFrom bs v cs) first ∙ words-are (freshCall fs w .words) cs
+
+    -- the words left are those of the state that the choices reach
+    pub left-packed : textWordsFrom bs (freshText bs w .words) cs ≡ pack (stateAfter (programOf fs) cs)
+    left-packed = left ∙ called-words fs (fits (record { text = read; layout = fine })) w cs long
 
     given : textCallsFrom bs (freshText bs w .words) cs ≡ map calledAs (map asCalled (steps (programOf fs) cs))
     given =

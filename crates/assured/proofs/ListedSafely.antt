@@ -1,4 +1,4 @@
--- What `run` prints of an accepted text: a plain line for each choice used. Assumes nothing.
+-- A run leaves what the calls leave; of an accepted text it is safe, and prints a plain line for each choice used. Assumes nothing.
 use Prim.Native.Nat.{ℕ, _≤_}
 use mathlib.Core.Path.{_≡_, refl, sym, ap, ap₂, _∙_}
 use mathlib.Core.Logic.{_≢_}
@@ -13,12 +13,16 @@ use Rattle.basics.specs.If.{if_then_else_}
 use Rattle.basics.proofs.Ifs.{if-yes}
 use Rattle.language.specs.declared.frame.Frame.{Frame}
 use Rattle.language.specs.declared.verdict.Verdict.{Verdict}
-use Rattle.language.specs.declared.verdict.Verdict.the-variants.{Accepted}
+use Rattle.language.specs.declared.verdict.Verdict.the-variants.{Accepted, Rejected}
 use Rattle.text.specs.Frames.{textFrames}
-use Rattle.text.specs.Reading.{Reads}
+use Rattle.text.specs.Reading.{Reads, frames}
+use Rattle.text.proofs.Readings.{some-frame}
 use Rattle.program.specs.Programs.{Program, programOf}
 use Rattle.layout.specs.LaidOut.{HasLayout, layoutVerdict}
+use Rattle.layout.specs.Faults.{NoFault}
 use Rattle.layout.proofs.Accepted.{layout-only}
+use Rattle.layout.proofs.AfterLayout.{text-fine}
+use Rattle.rules.specs.Checking.{rulesOf}
 use Rattle.rules.specs.Verdict.{HasVerdict, verdict}
 use Rattle.rules.proofs.Whole.{verdict-computes}
 use Rattle.machine.specs.State.{State}
@@ -28,13 +32,16 @@ use Rattle.machine.specs.Fresh.{fresh}
 use Rattle.machine.specs.Runs.{stepsFrom, steps}
 use Rattle.machine.proofs.Tests.{and-both}
 use Rattle.safety.proofs.Accepted.{accepted-safe}
-use Rattle.listing.specs.Listing.{digitByte, twoDigits, refusalLine, checkLine, choices, choicesFrom, choiceLine, choiceLines, usedOf, lastLine, runLines, linesOf, choicesListing, runListing}
+use Rattle.listing.specs.Listing.{digitByte, twoDigits, refusalLine, checkLine, choices, choicesFrom, stops, choiceLine, choiceLines, usedOf, lastLine, runLines, linesOf, choicesListing}
+use Rattle.stepper.specs.declared.answer.Answer.the-variants as A
 use Rattle.runs.specs.Runs.{Behind, stepped}
-use Rattle.runs.specs.Printed.{unstepped, steppedOf, choicesStepped, runStepped, listedFrom, stateFits, listText}
-use Rattle.assured.specs.TextCalls.{Plain}
-use Rattle.assured.specs.SafeListing.{PlainLines, AcceptedListingSafe}
+use Rattle.runs.proofs.Stops.{rules-run}
+use Rattle.runs.proofs.TextListings.{goes-on}
+use Rattle.runs.specs.Printed.{unstepped, steppedOf, choicesStepped, ListedOn, listedFrom, listedWhole, unlisted, answerFor, buffersFit, listText}
+use Rattle.assured.specs.TextCalls.{Plain, wordsLeft}
+use Rattle.assured.specs.SafeListing.{PlainLines, ListingCalls, AcceptedListingSafe}
 use Rattle.machine.proofs.Numbers.{all-numbered}
-use Rattle.assured.proofs.CalledTexts.{plain-steps}
+use Rattle.assured.proofs.CalledTexts.{plain-steps, left-packed, accepted-texts-safe}
 
 -- ---- the lines
 
@@ -61,39 +68,77 @@ module _ (p : Program) (bytes cs : List ℕ) (few : length bytes ≤ 49152) (rea
       ap (λ (b : Bool). elim b [ true ↦ refusalLine 2 0 | false ↦ linesOf p (choicesFrom 0 bytes) ]) short
       ∙ ap (linesOf p) read
 
-module _ (fs : List Frame) (bytes w : List ℕ) where
-  run-stepped : runStepped Accepted fs w bytes ≡ choicesStepped (programOf fs) w bytes
-  unfolding runStepped
-  run-stepped = refl
+-- the definition, by what 1 to 7 say
+abbrev byLayout : List ℕ → List ℕ → List ℕ → List ℕ → Verdict → ListedOn
+byLayout bs bytes w out x =
+    if buffersFit x w out
+    then listedWhole (answerFor x true) (verdict bs) (textFrames bs) bytes w out
+    else unlisted (answerFor x false) w out
 
-  run-lines : runListing Accepted fs bytes ≡ checkLine Accepted ++ choicesListing (programOf fs) bytes
-  unfolding runListing
-  run-lines = refl
+-- of a text that passes 1 to 7: what 8 to 13 say of it stops no listing
+module _ (bs : List ℕ) (read : Reads bs (frames (textFrames bs))) (fine : NoFault (textFrames bs)) where
+  abbrev fs : List Frame
+  fs = textFrames bs
 
-list-accepted : (bs bytes w out : List ℕ) → layoutVerdict bs ≡ Accepted → verdict bs ≡ Accepted → length w ≡ 4818 → length out ≡ 229389
-    → listText bs bytes w out ≡ listedFrom (runStepped Accepted (textFrames bs) w bytes) (runListing Accepted (textFrames bs) bytes) out
-unfolding listText
-list-accepted bs bytes w out l v e f =
-    if-yes _ _ (and-both (stateFits (layoutVerdict bs) w) (eqb (length out) 229389) (ap (λ (x : Verdict). stateFits x w) l ∙ eq-eqb (length w) 4818 e) (eq-eqb (length out) 229389 f))
-    ∙ ap (λ (x : Verdict). listedFrom (runStepped x (textFrames bs) w bytes) (runListing x (textFrames bs) bytes) out) v
+  runs : stops (verdict bs) ≡ false
+  unfolding verdict
+  runs =
+      ap stops (sym (text-fine (λ n j. Rejected n j) (λ gs. rulesOf (programOf gs)) bs fs read fine))
+      ∙ rules-run fs (some-frame read refl) fine
+
+  module _ (bytes w out : List ℕ) (e : length w ≡ 4818) (f : length out ≡ 229389) where
+    whole : listText bs bytes w out ≡ listedWhole (A.Done 0) (verdict bs) fs bytes w out
+    unfolding listText
+    whole =
+        ap (byLayout bs bytes w out) (sym (layout-only {v = Accepted} (HasLayout.layout {v = Accepted} read fine)))
+        ∙ if-yes _ _ (and-both (eqb (length w) 4818) (eqb (length out) 229389)
+        (eq-eqb (length w) 4818 e) (eq-eqb (length out) 229389 f))
+
+    module _ (cs : List ℕ) (few : length bytes ≤ 49152) (is : choicesFrom 0 bytes ≡ choices cs) where
+      pub listed-is : listText bs bytes w out
+          ≡ listedFrom (A.Done 0) (stepped (programOf fs) cs) (checkLine (verdict bs) ++ runLines (programOf fs) cs) out
+      listed-is =
+          whole
+          ∙ ap₂ (λ (x : Behind) (l : List ℕ). listedFrom (A.Done 0) x l out)
+          (goes-on (verdict bs) fs w bytes runs .0 ∙ behind-is (programOf fs) bytes cs few is w)
+          (goes-on (verdict bs) fs w bytes runs .1
+          ∙ ap (λ (l : List ℕ). checkLine (verdict bs) ++ l) (lines-are (programOf fs) bytes cs few is))
+
+      pub listed-calls : let used = usedOf (programOf fs) cs in
+          (listText bs bytes w out .used ≡ used) × (listText bs bytes w out .words ≡ wordsLeft bs w (take used cs))
+      unfolding stepped
+      listed-calls = (
+        ap (λ (r : ListedOn). r .used) listed-is,
+        ap (λ (r : ListedOn). r .words) listed-is ∙ sym (left-packed bs read fine w (take (usedOf (programOf fs) cs) cs) e),
+      )
+
+by-reading : {bs : List ℕ} {fs : List Frame} → Reads bs (frames fs) → NoFault fs
+    → (bytes cs : List ℕ) → length bytes ≤ 49152 → choicesFrom 0 bytes ≡ choices cs
+    → (w out : List ℕ) → length w ≡ 4818 → length out ≡ 229389
+    → let used = usedOf (programOf fs) cs in
+    (listText bs bytes w out .used ≡ used) × (listText bs bytes w out .words ≡ wordsLeft bs w (take used cs))
+by-reading {bs} (Reads.whole a b c) h bytes cs few is w out e f = listed-calls bs (Reads.whole a b c) h bytes w out e f cs few is
+
+pub listing-calls : ListingCalls
+listing-calls bs fs h bytes cs few is w out e f = by-reading (h .text) (h .layout) bytes cs few is w out e f
 
 run-split : (p : Program) (cs : List ℕ) → runLines p cs ≡ choiceLines (take (usedOf p cs) cs) (steps p (take (usedOf p cs) cs)) ++ lastLine (usedOf p cs)
 unfolding runLines
 run-split p cs = refl
 
 pub accepted-listing-safe : AcceptedListingSafe
-accepted-listing-safe bs (HasVerdict.accepted (Reads.whole a b c) h k) bytes cs few read w out e f =
+accepted-listing-safe bs (HasVerdict.accepted (Reads.whole a b c) h k) bytes cs few is w out e f =
     let y = HasVerdict.accepted (Reads.whole a b c) h k in
-    let fs = textFrames bs in
-    let p = programOf fs in
+    let p = programOf (textFrames bs) in
     let used = take (usedOf p cs) cs in
     record {
+      safe = accepted-texts-safe bs y w used e;
       lines = choiceLines used (steps p used);
       plain = plain-lines p (fresh p) used (plain-steps (steps p used) (all-numbered p (fresh p) used) (accepted-safe bs y used .answered));
       listed =
-          list-accepted bs bytes w out (sym (layout-only (HasLayout.layout (Reads.whole a b c) h))) (sym (verdict-computes bs .only Accepted y)) e f
-          ∙ ap₂ (λ (x : Behind) (l : List ℕ). listedFrom x l out) (run-stepped fs bytes w ∙ behind-is p bytes cs few read w)
-          (run-lines fs bytes w ∙ ap (λ (l : List ℕ). checkLine Accepted ++ l) (lines-are p bytes cs few read ∙ run-split p cs));
+          listed-is bs (Reads.whole a b c) h bytes w out e f cs few is
+          ∙ ap₂ (λ (v : Verdict) (l : List ℕ). listedFrom (A.Done 0) (stepped p cs) (checkLine v ++ l) out)
+          (sym (verdict-computes bs .only Accepted y)) (run-split p cs);
     }
 
 -- ---- neither 13 nor 14 is printed

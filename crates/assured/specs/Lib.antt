@@ -1,3 +1,2 @@
-pub mod Assured
 pub mod TextCalls
 pub mod SafeListing

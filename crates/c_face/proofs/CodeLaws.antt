@@ -3,14 +3,14 @@ use mathlib.Core.Path.{_≡_, sym, ap, ap₂, _∙_}
 use Prim.Native.Nat.{ℕ, _+_, _*_}
 use Rattle.language.specs.declared.verdict.Verdict.{Verdict}
 use Rattle.language.specs.declared.verdict.Verdict.the-variants.{Accepted, Rejected}
-use Rattle.rules.specs.Verdict.{verdict}
+use Rattle.rules.specs.Verdict.{verdict, Checked}
 use mathlib.Core.List.{List}
 use Rattle.stepper.specs.declared.answer.Answer.{Answer}
 use Rattle.stepper.specs.declared.answer.Answer.the-variants as A
 use Rattle.stepper.specs.Answers.{Answered, answered}
 use Rattle.runs.specs.Printed.{ListedOn, listedOn}
 use Rattle.runs.specs.declared.printing.Listed.{Listed}
-use Rattle.c_face.specs.Codes.{codeOf, answerCode, coded, codedOf, listedCode, printed, printedOf}
+use Rattle.c_face.specs.Codes.{codeOf, CheckedCode, answerCode, coded, codedOf, listedCode, printed, printedOf}
 
 pub code-accepted : (v : Verdict) → v ≡ Accepted → 0 ≡ codeOf v
 code-accepted v h = ap codeOf (sym h)
@@ -22,6 +22,10 @@ pub ruleset code-laws = (code-accepted, code-rejected)
 
 pub code-checked : (bs : List ℕ) (v : Verdict) (r : ℕ) → v ≡ verdict bs → r ≡ codeOf v → r ≡ codeOf (verdict bs)
 code-checked bs v r e h = h ∙ ap codeOf e
+
+pub code-promised : (bs : List ℕ) (v : Verdict) (r : ℕ)
+    → Checked bs v → r ≡ codeOf v → CheckedCode bs r
+code-promised bs v r p h = record { verdict = v; checked = p; code = h }
 
 -- ---- a call's answer
 pub answer-rejected : (v : Answer) (n j a b : ℕ) → v ≡ A.Rejected n j → a ≡ n → b ≡ j → a * 65536 + b ≡ answerCode v

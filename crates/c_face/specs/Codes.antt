@@ -1,8 +1,10 @@
 -- Verdicts and answers as one number. Assumes nothing: definitions.
+use mathlib.Core.Path.{_≡_}
 use mathlib.Core.List.{List}
 use Prim.Native.Nat.{ℕ, _+_, _*_, _^_}
 use Rattle.language.specs.Verdicts.{numberOf, frameOf}
 use Rattle.language.specs.declared.verdict.Verdict.{Verdict}
+use Rattle.rules.specs.Verdict.{Checked}
 use Rattle.stepper.specs.declared.answer.Answer.{Answer}
 use Rattle.stepper.specs.declared.answer.Answer.the-variants.{Rejected, Refused, Done}
 use Rattle.stepper.specs.Answers.{Answered}
@@ -12,7 +14,14 @@ use Rattle.runs.specs.Printed.{ListedOn}
 abbrev pub codeOf : Verdict → ℕ
 codeOf v = numberOf v * 2 ^ 16 + frameOf v
 
--- the same of a call's answer, with the acting thread where no frame is named
+-- what the check's number promises, with no checker named: it is the code of the verdict that the
+-- rules give of the text, and they give no other (`Checked`)
+pub record CheckedCode (bs : List ℕ) (r : ℕ) : Type 0 where
+  pub verdict : Verdict
+  pub checked : Checked bs verdict
+  pub code : r ≡ codeOf verdict
+
+-- the code of a call's answer, with the acting thread where no frame is named
 abbrev pub answerCode : Answer → ℕ
 answerCode (Rejected n j) = n * 2 ^ 16 + j
 answerCode (Refused n t) = n * 2 ^ 16 + t

@@ -10,7 +10,7 @@ ghost use mathlib.Core.Path.{_≡_};
 ghost use Rattle.rules.specs.Verdict.{verdict};
 ghost use Rattle.stepper.specs.Answers.{freshText, stepText};
 ghost use Rattle.runs.specs.Printed.{listText};
-ghost use Rattle.c_face.specs.Codes.{codeOf, answerCode, coded, codedOf, listedCode, printed, printedOf};
+ghost use Rattle.c_face.specs.Codes.{codeOf, CheckedCode, answerCode, coded, codedOf, listedCode, printed, printedOf};
 
 fn wide8(n: u8) -> u32
     ensures { λ r. ⌜ r ≡ n ⌝ }
@@ -40,10 +40,12 @@ fn code_of(v: Verdict) -> u32
     }
 }
 
-// What the check answers on `length` bytes: the number of the refusal above 16 bits, the frame in them; 0 where it accepts.
+// What the check answers on `length` bytes: the number of the refusal above 16 bits, the frame in them; 0 where it accepts. It is the
+// code of the one verdict that the rules give.
 #[no_mangle]
 pub extern "C" fn purkvaldi_check(text: &[u8]) -> u32
-    ensures { λ r. ⌜ r ≡ codeOf (verdict (now (text .entry))) ⌝ }
+    ensures computed { λ r. ⌜ r ≡ codeOf (verdict (now (text .entry))) ⌝ }
+    ensures promised { λ r. ⌜ CheckedCode (now (text .entry)) r ⌝ }
 {
     code_of(check(text))
 }
@@ -99,8 +101,9 @@ fn listed_code(a: Answer, length: u32) -> u64
     wide32(answer_code(a)) * 0x0000_0001_0000_0000 + wide32(length)
 }
 
-// The listing of a run, in the first bytes of `out`: how many they are. Where a buffer has another length than it needs, above 32 bits the code of the text's refusal 1 to 7, else of 14, and nothing is written.
-// `choices` are the bytes of choices.txt; the state behind the run is in `state` where choices were stepped.
+// The listing of a run, in the first bytes of `out`: in the low 32 bits how many they are, 0 where nothing is written; above them the code of the text's
+// refusal 1 to 7, whatever the lengths, else of 14 where a buffer has another length than the listing needs, else 0. The line of a refusal 1 to 7 is in
+// `out` where `out` has its length. `choices` are the bytes of choices.txt; the state behind the run is in `state` where choices were stepped.
 #[no_mangle]
 pub extern "C" fn purkvaldi_run(
     text: &[u8],

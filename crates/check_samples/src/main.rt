@@ -1,6 +1,7 @@
 // The check on many files: the bench samples of document 01 that concern it, and the vectors. For each of data/000 to data/297 it
 // prints the file's name and the check's line; the report is compared with the stored one.
-use libc::STDOUT_FILENO;
+use files::print;
+use files::read_file;
 
 // The name of the sample: its number in three digits.
 fn name(i: usize) -> [u8; 3] {
@@ -12,18 +13,16 @@ fn name(i: usize) -> [u8; 3] {
 
 fn report(i: usize) {
     let path = name(i);
-    io::write_all(STDOUT_FILENO, &path);
-    io::write_all(STDOUT_FILENO, b" ");
-    let fd = os::open_read(&path);
-    if fd < 0 {
-        io::write_all(STDOUT_FILENO, b"absent\n");
+    let mut text = [0u8; 17426];
+    let file = read_file(&path, &mut text);
+    if !file.readable {
         return;
     }
-    let mut text = [0u8; 17426];
-    let n = io::read_full(fd, &mut text);
-    libc::close(fd);
+    let n = file.count;
     let line = listing::check_line(rules::check::check(&text[..n]));
-    io::write_all(STDOUT_FILENO, &line);
+    print(&path, 3);
+    print(b" ", 1);
+    print(&line, 8);
 }
 
 fn main() {

@@ -1,13 +1,17 @@
 -- A thread's change made where its words lie: what each write of crate commits' `change` leaves is the changed thread, put back in its words. Assumes nothing.
-use Prim.Native.Nat.{ℕ, _+_, _*_, _-_, _<_, _≤_}
+use Prim.Native.Nat.{ℕ, _+_, _*_, _-_, _^_, _<_, _≤_}
 use mathlib.Core.Path.{_≡_, refl, sym, ap, _∙_, subst}
 use mathlib.Core.List.{List}
+use mathlib.Core.Bool.{true}
 use native.Mathlib.Omega.{arith}
 use lib.ListN.{getD, length}
 use lib.Seq.{ext-getD}
 use lib.Dec.{eqb}
 use borrow.Author.Tests.{eq-eqb, ne-eqb, eqb-true}
 use Rattle.basics.proofs.Ifs.{yes, no, if-all}
+use Rattle.language.specs.Places.{isPlace}
+use Rattle.language.specs.declared.Place.{Place}
+use Rattle.language.proofs.PlaceLaws.{fits-byte}
 use Rattle.machine.specs.Blocks.{part}
 use Rattle.machine.proofs.WordLaws.{part-at, part-length}
 use Rattle.states.specs.declared.thread.ThreadWords.{ThreadWords}
@@ -32,9 +36,11 @@ changed-wide (Item a) x h = push-item-wide a x h
 changed-wide (Items top below) x h = push-item-wide top (pushItem below x) (push-item-wide below x h)
 changed-wide (Let value body) x h = push-item-wide body (pushItem 2048 (pushValue value x)) (push-item-wide 2048 (pushValue value x) (push-value-wide value x h))
 changed-wide Drop x h = pop-value-wide x h
-changed-wide (Move q) x h = move-wide q x h
+changed-wide (Move q) x h = move-wide (q .number) x h
 changed-wide (Enter q body) x h =
-    move-wide q (pushItem body (pushItem (1024 + x .place) x)) (push-item-wide body (pushItem (1024 + x .place) x) (push-item-wide (1024 + x .place) x h))
+    let from = 1024 + x .place in
+    move-wide (q .number) (pushItem body (pushItem from x))
+    (push-item-wide body (pushItem from x) (push-item-wide from x h))
 changed-wide End x h = ended-wide x h
 
 module _ (x : ThreadWords) where
@@ -50,20 +56,29 @@ module _ (x : ThreadWords) where
   unfolding popped popItem
   popped-place = if-all (λ (y : ThreadWords). y .place ≡ x .place) (eqb (x .items) 0) x (popItem x) (λ _. refl) (λ _. refl)
 
-changed-place : (c : Change) (x : ThreadWords) → changed c x .place ≡ placeAfter c (x .place)
+-- a thread that stands at p before the change stands at `placeAfter c p` behind it
+changed-place : (c : Change) (x : ThreadWords) (p : Place) → p .number ≡ x .place
+    → placeAfter c p .number ≡ changed c x .place
 unfolding pushItem popItem pushValue popValue moveTo ended
-changed-place Same x = refl
-changed-place (Item a) x = refl
-changed-place (Items top below) x = refl
-changed-place (Let value body) x = refl
-changed-place Drop x = refl
-changed-place (Move q) x = refl
-changed-place (Enter q body) x = refl
-changed-place End x = refl
+changed-place Same x p e = e
+changed-place (Item a) x p e = e
+changed-place (Items top below) x p e = e
+changed-place (Let value body) x p e = e
+changed-place Drop x p e = e
+changed-place (Move q) x p e = refl
+changed-place (Enter q body) x p e = refl
+changed-place End x p e = e
 
 -- where the thread stands behind its turn
-pub place-is : (x : ThreadWords) (c : Change) (p : ℕ) → p ≡ placeAfter c (x .place) → p ≡ changed c (popped x) .place
-place-is x c p e = e ∙ ap (placeAfter c) (sym (popped-place x)) ∙ sym (changed-place c (popped x))
+pub place-is : (x : ThreadWords) (c : Change) (p q : Place) → q ≡ placeAfter c p
+    → p ≡ record { number = x .place } → q .number ≡ changed c (popped x) .place
+place-is x c p q e f =
+    ap (λ (y : Place). y .number) e
+    ∙ changed-place c (popped x) p (ap (λ (y : Place). y .number) f ∙ sym (popped-place x))
+
+-- a place's number as a word of the continuation
+pub back-fits : (n : ℕ) → isPlace n ≡ true → 1024 + n < 2 ^ 64
+back-fits n h = let z = fits-byte n h in omega arith
 
 -- ---- each write, and two in a row
 module _ (w : List ℕ) (k : ℕ) (all : length w ≡ 4818) (room : k < 64) where
@@ -102,10 +117,16 @@ module _ (w : List ℕ) (k : ℕ) (all : length w ≡ 4818) (room : k < 64) wher
     pushed-let u body q = put-then w k all room v u (pushValue value (threadIn w k)) (λ (y : ThreadWords). pushItem body (pushItem 2048 y)) value-wide
         (changed-wide (Let value body) (threadIn w k) (in-wide w k all room)) e q
 
-  pub entered : (v u : List ℕ) (q body : ℕ) → v ≡ putThread w k (pushItem body (pushItem (1024 + getD w (1042 + 55 * k) 0) (threadIn w k))) → u ≡ putThread v k (moveTo q (threadIn v k))
+  pub entered : (v u : List ℕ) (q : Place) (body : ℕ)
+      → v ≡ putThread w k
+      (pushItem body (pushItem (1024 + getD w (1042 + 55 * k) 0) (threadIn w k)))
+      → u ≡ putThread v k (moveTo (q .number) (threadIn v k))
       → u ≡ putThread w k (changed (Enter q body) (threadIn w k))
-  entered v u q body e f = put-then w k all room v u (pushItem body (pushItem (1024 + getD w (1042 + 55 * k) 0) (threadIn w k))) (moveTo q)
-      (push-item-wide body _ (pushed-wide (1024 + getD w (1042 + 55 * k) 0))) (changed-wide (Enter q body) (threadIn w k) (in-wide w k all room)) e f
+  entered v u q body e f =
+      let from = 1024 + getD w (1042 + 55 * k) 0 in
+      put-then w k all room v u (pushItem body (pushItem from (threadIn w k))) (moveTo (q .number))
+      (push-item-wide body _ (pushed-wide from))
+      (changed-wide (Enter q body) (threadIn w k) (in-wide w k all room)) e f
 
 -- ---- each arm of `change_thread`: the change that the match has found is the one asked for
 module _ (w : List ℕ) (k : ℕ) (c : Change) where
@@ -137,7 +158,7 @@ module _ (c : Change) (i n : ℕ) where
   pub room-drop : c ≡ Drop → Room c i n → 0 < n
   room-drop e h = room Drop e h
 
-  pub room-enter : (a b : ℕ) → c ≡ Enter a b → Room c i n → i < 24
+  pub room-enter : (a : Place) (b : ℕ) → c ≡ Enter a b → Room c i n → i < 24
   room-enter a b e h = room (Enter a b) e h
 
 pub ruleset change-room = (room-item, room-items, room-let, room-value, room-drop, room-enter)

@@ -5,6 +5,7 @@ use mathlib.Core.List.{List}
 use mathlib.Core.Bool.{Bool, true, false, not}
 use borrow.Author.Tests.{not-true, not-false}
 use Rattle.basics.proofs.Ifs.{yes, no}
+use Rattle.language.specs.declared.Place.{Place}
 use Rattle.program.specs.Programs.{Program}
 use Rattle.acts.specs.declared.act.Fate.{Fate}
 use Rattle.acts.specs.declared.act.Fate.the-variants.{Refused, Stays, Leaves, Joins, Starts}
@@ -35,7 +36,9 @@ module _ (p : Program) (w v : List ℕ) (before c t : ℕ) (a : Acted) (x : Fate
   pub commit-leaves : x ≡ Leaves → v ≡ leavesIn w c t (after w t a) → called 0 t v ≡ committedIn p w before c t (after w t a) x
   commit-leaves e f = ap (called 0 t) f ∙ ap (committedIn p w before c t (after w t a)) (sym e)
 
-  pub commit-joins : (q n : ℕ) → x ≡ Joins q → called n t v ≡ joinsIn w before c t (after w t a) q → called n t v ≡ committedIn p w before c t (after w t a) x
+  pub commit-joins : (q : Place) (n : ℕ) → x ≡ Joins q
+      → called n t v ≡ joinsIn w before c t (after w t a) (q .number)
+      → called n t v ≡ committedIn p w before c t (after w t a) x
   commit-joins q n e f = f ∙ ap (committedIn p w before c t (after w t a)) (sym e)
 
   pub commit-starts : (b : Bool) (m n : ℕ) → x ≡ Starts b m → called n t v ≡ startsIn p w before c t (after w t a) b m → called n t v ≡ committedIn p w before c t (after w t a) x

@@ -9,6 +9,8 @@ use lib.Dec.{leb, eqb}
 use borrow.Author.Tests.{le-leb, lt-leb, leb-false, eq-eqb, ne-eqb}
 use Rattle.basics.specs.If.{if_then_else_}
 use Rattle.basics.proofs.Ifs.{yes, no, if-all}
+use Rattle.language.specs.Places.{private, isScheduler}
+use Rattle.language.specs.declared.Place.{Place}
 use Rattle.program.specs.Programs.{Program}
 use Rattle.states.specs.declared.thread.ThreadWords.{ThreadWords}
 use Rattle.states.specs.Threads.{threadIn, withOneMore}
@@ -17,9 +19,10 @@ use Rattle.commits.specs.Modules.{foundIn}
 use Rattle.commits.specs.declared.module.ModuleFound.{ModuleFound}
 use Rattle.commits.specs.Commits.{called, after, placeAfter, clearedIn, staysIn, leftIn, roomIn, joinedIn, newThread, newIn, misfitIn, spentIn, firstAnswer, obstacleIn, startedIn, waitingIn, startsIn}
 use Rattle.commits.proofs.ChangeLaws.{place-is}
+use Rattle.commits.proofs.WritingLaws.{room-scheduler}
 
 -- ---- what stands in the way: why a start does not fit, 20, then a 65th thread, 18
-module _ (w : List ℕ) (x : ModuleFound) (p g : ℕ) (y : Bool) (z : y ≡ eqb p 1) where
+module _ (w : List ℕ) (x : ModuleFound) (p g : ℕ) (y : Bool) (z : y ≡ eqb p private) where
   pub misfit-unlinked : y ≡ true → 20 ≡ misfitIn w x p g
   unfolding misfitIn
   misfit-unlinked a = yes _ (sym z ∙ a) refl
@@ -76,7 +79,9 @@ pub obstacle-is : (w : List ℕ) (x : ModuleFound) (p g m s r : ℕ) → m ≡ m
 unfolding misfitIn spentIn obstacleIn
 obstacle-is w x p g m s r e f h =
     h ∙ ap₂ firstAnswer e f
-    ∙ twenty-out (eqb p 1) _ _ _ (twenty-out (not (x .there)) _ _ _ (twenty-out (not (eqb (x .parameters) g)) _ _ _ (twenty-out (not (roomIn w p 1)) _ _ _ (none-before _))))
+    ∙ twenty-out (eqb p private) _ _ _ (twenty-out (not (x .there)) _ _ _
+    (twenty-out (not (eqb (x .parameters) g)) _ _ _
+    (twenty-out (not (roomIn w p 1)) _ _ _ (none-before _))))
 
 -- ---- the words behind a start, whose starter stands at q
 module _ (w v : List ℕ) (t body n : ℕ) (a : Acted) (q : ℕ) (x : ThreadWords) (z : q ≡ after w t a .thread .place) (k : n ≡ getD w 0 0) (g : x ≡ newThread q (a .given) (a .first) (a .second) t body) where
@@ -95,11 +100,13 @@ module _ (w v : List ℕ) (t body n : ℕ) (a : Acted) (q : ℕ) (x : ThreadWord
       ∙ ap₂ (λ (l : List ℕ) (i : ℕ). joinedIn (joinedIn l (after w t a .thread .place) (i + 1)) (after w t a .thread .place) (128 * (i + 1) + t))
       (f ∙ ap₂ (λ (l : List ℕ) (y : ThreadWords). withOneMore l y) (o ∙ ap (λ (l : List ℕ). leftIn l c) h) new-is) k
 
--- ---- the answer
-module _ (p : Program) (w v : List ℕ) (before c t : ℕ) (a : Acted) (waits : Bool) (m : ℕ) (x : ModuleFound) (n q : ℕ) (e : x ≡ foundIn p m) (z : q ≡ placeAfter (a .change) (getD w (1042 + 55 * (t - 1)) 0))
-    (f : n ≡ obstacleIn w x q (a .given)) where
-  at-place : q ≡ after w t a .thread .place
-  at-place = place-is (threadIn w (t - 1)) (a .change) q z
+-- ---- the answer, where the starter stood at o and stands at q
+module _ (p : Program) (w v : List ℕ) (before c t : ℕ) (a : Acted) (waits : Bool) (m : ℕ)
+    (x : ModuleFound) (n : ℕ) (o q : Place) (e : x ≡ foundIn p m)
+    (z : q ≡ placeAfter (a .change) o) (y : o ≡ record { number = getD w (1042 + 55 * (t - 1)) 0 })
+    (f : n ≡ obstacleIn w x (q .number) (a .given)) where
+  at-place : q .number ≡ after w t a .thread .place
+  at-place = place-is (threadIn w (t - 1)) (a .change) o q z y
 
   obstacle-at : n ≡ obstacleIn w (foundIn p m) (after w t a .thread .place) (a .given)
   obstacle-at = f ∙ ap₂ (λ (y : ModuleFound) (i : ℕ). obstacleIn w y i (a .given)) e at-place
@@ -115,31 +122,41 @@ module _ (p : Program) (w v : List ℕ) (before c t : ℕ) (a : Acted) (waits : 
   unfolding startsIn
   start-only h b g = no _ (no-obstacle h) (yes _ b (ap (called 0 t) (g ∙ ap (λ (y : ModuleFound). startedIn w t (after w t a) (y .body)) e)))
 
-  room-for-two : (r : Bool) → r ≡ roomIn w q 2 → not (roomIn w (after w t a .thread .place) 2) ≡ not r
+  room-for-two : (r : Bool) → r ≡ roomIn w (q .number) 2
+      → not (roomIn w (after w t a .thread .place) 2) ≡ not r
   room-for-two r g = ap not (ap (λ (i : ℕ). roomIn w i 2) (sym at-place) ∙ sym g)
 
-  pub start-full : (r : Bool) → r ≡ roomIn w q 2 → n ≡ 0 → not waits ≡ false → not r ≡ true → v ≡ clearedIn w before (a .used) → called 20 t v ≡ startsIn p w before c t (after w t a) waits m
+  pub start-full : (r : Bool) → r ≡ roomIn w (q .number) 2 → n ≡ 0 → not waits ≡ false
+      → not r ≡ true → v ≡ clearedIn w before (a .used)
+      → called 20 t v ≡ startsIn p w before c t (after w t a) waits m
   unfolding startsIn
   start-full r o h b d g = no _ (no-obstacle h) (no _ b (yes _ (room-for-two r o ∙ d) (ap (called 20 t) g)))
 
-  pub start-waits : (r : Bool) → r ≡ roomIn w q 2 → n ≡ 0 → not waits ≡ false → not r ≡ false → v ≡ waitingIn w c t (after w t a) (x .body) → called 0 t v ≡ startsIn p w before c t (after w t a) waits m
+  pub start-waits : (r : Bool) → r ≡ roomIn w (q .number) 2 → n ≡ 0 → not waits ≡ false
+      → not r ≡ false → v ≡ waitingIn w c t (after w t a) (x .body)
+      → called 0 t v ≡ startsIn p w before c t (after w t a) waits m
   unfolding startsIn
   start-waits r o h b d g = no _ (no-obstacle h) (no _ b (no _ (room-for-two r o ∙ d) (ap (called 0 t) (g ∙ ap (λ (y : ModuleFound). waitingIn w c t (after w t a) (y .body)) e))))
 
 pub ruleset start-laws = (start-refused, start-only, start-full, start-waits)
 
--- where nothing stands in the way, there are fewer than 64 threads
-pub free-count : (w : List ℕ) (x : ModuleFound) (p g n : ℕ) → n ≡ obstacleIn w x p g → n ≡ 0 → getD w 0 0 < 64
-unfolding obstacleIn
-free-count w x p g n e h = all (sym h ∙ e)
-  where
-    P : ℕ → Type 0
-    P v = 0 ≡ v → getD w 0 0 < 64
+-- ---- where nothing stands in the way: a scheduler with room, and fewer than 64 threads
+module _ (w : List ℕ) (x : ModuleFound) (p g n : ℕ) (e : n ≡ obstacleIn w x p g) (h : n ≡ 0) where
+  abbrev Free : ℕ → Type 0
+  Free v = 0 ≡ v → (not (roomIn w p 1) ≡ false) × (getD w 0 0 < 64)
 
-    all : P (obstacleIn w x p g)
-    all =
-        if-all P (eqb p 1) 20 _ (λ _ z. absurd (omega arith))
-        (λ _. if-all P (not (x .there)) 20 _ (λ _ z. absurd (omega arith))
-        (λ _. if-all P (not (eqb (x .parameters) g)) 20 _ (λ _ z. absurd (omega arith))
-        (λ _. if-all P (not (roomIn w p 1)) 20 _ (λ _ z. absurd (omega arith))
-        (λ _. if-all P (leb 64 (getD w 0 0)) 18 0 (λ _ z. absurd (omega arith)) (λ q z. leb-false 64 (getD w 0 0) q)))))
+  free : Free (obstacleIn w x p g)
+  unfolding obstacleIn
+  free =
+      if-all Free (eqb p private) 20 _ (λ _ z. absurd (omega arith))
+      (λ _. if-all Free (not (x .there)) 20 _ (λ _ z. absurd (omega arith))
+      (λ _. if-all Free (not (eqb (x .parameters) g)) 20 _ (λ _ z. absurd (omega arith))
+      (λ _. if-all Free (not (roomIn w p 1)) 20 _ (λ _ z. absurd (omega arith))
+      (λ r. if-all Free (leb 64 (getD w 0 0)) 18 0 (λ _ z. absurd (omega arith))
+      (λ q z. (r, leb-false 64 (getD w 0 0) q))))))
+
+  pub free-count : getD w 0 0 < 64
+  free-count = free (sym h ∙ e) .1
+
+  pub free-scheduler : isScheduler p ≡ true
+  free-scheduler = room-scheduler w p 1 (roomIn w p 1) refl (free (sym h ∙ e) .0)

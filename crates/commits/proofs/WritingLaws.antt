@@ -2,14 +2,18 @@
 use Prim.Native.Nat.{ℕ, _+_, _*_, _-_, _<_, _≤_}
 use mathlib.Core.Path.{_≡_, refl, sym, ap, _∙_}
 use mathlib.Core.List.{List}
-use mathlib.Core.Bool.{Bool, true, false, not, _&&_}
+use mathlib.Core.Bool.{Bool, true, false, not}
 use native.Mathlib.Omega.{arith}
 use lib.ListN.{getD, length, set, length-set, replicate, length-replicate, getD-replicate}
 use lib.Seq.{getD-set-other}
 use lib.Dec.{leb}
-use borrow.Author.Tests.{le-leb, lt-leb, leb-true, not-true, not-false}
+use borrow.Author.Tests.{not-true, not-false}
 use Rattle.basics.proofs.Ifs.{yes, no, and-true}
-use Rattle.language.specs.Places.{isScheduler}
+use Rattle.language.specs.Places.{home, isPlace, isScheduler, placeRead}
+use Rattle.language.specs.declared.Place.{Place}
+use Rattle.language.specs.declared.PlaceRead.{PlaceRead}
+use Rattle.language.specs.declared.PlaceRead.the-variants.{At, NoPlace}
+use Rattle.language.proofs.PlaceLaws.{read-at, read-none, test-bounds}
 use Rattle.machine.specs.Blocks.{pasted}
 use Rattle.machine.proofs.WordLaws.{pasted-zero, pasted-more}
 use Rattle.states.specs.declared.thread.ThreadWords.{ThreadWords}
@@ -69,7 +73,7 @@ module _ (w : List ℕ) (k n : ℕ) (c : Change) (h : SettleWords w k c) where
     pub settle-values : threadIn v k .values ≤ 25
     settle-values = rw (ap (λ (x : ThreadWords). x .values) here ∙ popped-values (threadIn w k)) (h .values)
 
-    pub settle-place : threadIn v k .place ≤ 9
+    pub settle-place : isPlace (threadIn v k .place) ≡ true
     settle-place = rw (ap (λ (x : ThreadWords). x .place) here ∙ popped-place (threadIn w k)) (h .place)
 
     pub settle-room : Room c (threadIn v k .items) (threadIn v k .values)
@@ -79,54 +83,53 @@ module _ (w : List ℕ) (k n : ℕ) (c : Change) (h : SettleWords w k c) where
     unfolding settledIn
     settled u q = put-then (set w 1 n) k counted (h .thread) v u (popped (threadIn w k)) (changed c) wide (changed-wide c (popped (threadIn w k)) wide) popped-in q
 
--- ---- a scheduler, 2 to 9
-pub below-lists : (q h : ℕ) → h ≡ 2 → q < h → false ≡ isScheduler q
-below-lists q h e l = let g : q < 2 = rw e at l in ap (λ (t : Bool). t && leb q 9) (sym (lt-leb 2 q g))
-
-pub up-to-last : (q h k : ℕ) → h ≡ 2 → k ≡ 9 → h ≤ q → leb q k ≡ isScheduler q
-up-to-last q h k e f l = let g : 2 ≤ q = rw e at l in ap (leb q) f ∙ ap (λ (t : Bool). t && leb q 9) (sym (le-leb 2 q g))
-
-pub ruleset list-laws = (below-lists, up-to-last)
-
--- the block of its lists is one of 8
+-- ---- a scheduler's lists: the block of them is one of 8
 pub list-block : (q : ℕ) → isScheduler q ≡ true → (2 ≤ q) × (q - 2 < 8)
-list-block q e =
-    let b = and-true (leb 2 q) (leb q 9) e in
-    let low = leb-true 2 q (b .0) in
-    let high = leb-true q 9 (b .1) in
-    (low, omega arith)
+list-block q e = let (low, high) = test-bounds 2 q e in (low, omega arith)
 
-pub list-in : (q : ℕ) (b : Bool) → b ≡ isScheduler q → not b ≡ false → (2 ≤ q) × (q - 2 < 8)
-list-in q b e h = list-block q (sym e ∙ not-false b h)
-
-module _ (w : List ℕ) (q : ℕ) (b : Bool) (e : b ≡ isScheduler q) where
-  pub left-none : not b ≡ true → w ≡ leftIn w q
+module _ (w : List ℕ) (c : ℕ) (x : PlaceRead) (e : x ≡ placeRead (isScheduler c) c) where
+  pub left-none : x ≡ NoPlace → w ≡ leftIn w c
   unfolding leftIn
-  left-none h = no _ (sym e ∙ not-true b h) refl
+  left-none h = no _ (read-none (isScheduler c) c (sym e ∙ h)) refl
 
-  pub left-list : (v : List ℕ) → v ≡ withoutFirst w (q - 2) → not b ≡ false → v ≡ leftIn w q
-  unfolding leftIn
-  left-list v f h = yes _ (sym e ∙ not-false b h) f
+  module _ (q : Place) (h : x ≡ At q) where
+    there : (isScheduler c ≡ true) × (q .number ≡ c)
+    there = read-at (isScheduler c) c q (sym e ∙ h)
 
-  pub joined-none : (n : ℕ) → not b ≡ true → w ≡ joinedIn w q n
-  unfolding joinedIn
-  joined-none n h = no _ (sym e ∙ not-true b h) refl
+    pub chosen-scheduler : isScheduler (q .number) ≡ true
+    chosen-scheduler = ap isScheduler (there .1) ∙ there .0
 
-  pub joined-list : (n : ℕ) (v : List ℕ) → v ≡ withLast w (q - 2) n → not b ≡ false → v ≡ joinedIn w q n
-  unfolding joinedIn
-  joined-list n v f h = yes _ (sym e ∙ not-false b h) f
-
-  pub room-none : (n : ℕ) → not b ≡ true → false ≡ roomIn w q n
-  unfolding roomIn
-  room-none n h = ap (λ (t : Bool). t && leb (getD w (67 + 130 * (q - 2)) 0 + n) 64) (sym (sym e ∙ not-true b h))
-
-  pub room-list : (n : ℕ) (r : Bool) → r ≡ leb (getD w (67 + 130 * (q - 2)) 0 + n) 64 → not b ≡ false → r ≡ roomIn w q n
-  unfolding roomIn
-  room-list n r f h = f ∙ ap (λ (t : Bool). t && leb (getD w (67 + 130 * (q - 2)) 0 + n) 64) (sym (sym e ∙ not-false b h))
+    pub left-list : (v : List ℕ) → v ≡ withoutFirst w (q .number - home) → v ≡ leftIn w c
+    unfolding leftIn
+    left-list v f = yes _ (there .0) (f ∙ ap (λ (n : ℕ). withoutFirst w (n - home)) (there .1))
 
 pub ruleset left-laws = (left-none, left-list)
 
-pub ruleset joined-laws = (joined-none, joined-list)
+module _ (w : List ℕ) (q n : ℕ) where
+  pub joined : (v : List ℕ) → isScheduler q ≡ true → v ≡ withLast w (q - home) n
+      → v ≡ joinedIn w q n
+  unfolding joinedIn
+  joined v e f = yes _ e f
+
+  module _ (b : Bool) (e : b ≡ isScheduler q) where
+    pub room-none : not b ≡ true → false ≡ roomIn w q n
+    unfolding roomIn
+    room-none h = rw (sym e ∙ not-true b h)
+
+    pub room-list : (r : Bool) → r ≡ leb (getD w (67 + 130 * (q - home)) 0 + n) 64 → not b ≡ false
+        → r ≡ roomIn w q n
+    unfolding roomIn
+    room-list r f h = rw (sym e ∙ not-false b h) f
+
+    pub tested-scheduler : not b ≡ false → isScheduler q ≡ true
+    tested-scheduler h = sym e ∙ not-false b h
+
+  -- where there is room, there is a list
+  pub room-scheduler : (r : Bool) → r ≡ roomIn w q n → not r ≡ false → isScheduler q ≡ true
+  unfolding roomIn
+  room-scheduler r e h =
+      let fits = leb (getD w (67 + 130 * (q - home)) 0 + n) 64 in
+      and-true (isScheduler q) fits (sym e ∙ not-false r h) .0
 
 pub ruleset room-laws = (room-none, room-list)
 

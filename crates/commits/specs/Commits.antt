@@ -1,12 +1,13 @@
 -- A turn committed, on words. No reader has to believe it: crate stepper shows that it is the step of the rules. Assumes nothing: definitions.
 use mathlib.Core.Path.{_≡_}
 use mathlib.Core.List.{List, [], _∷_}
-use mathlib.Core.Bool.{Bool, _&&_, not}
+use mathlib.Core.Bool.{Bool, true, _&&_, not}
 use Prim.Native.Nat.{ℕ, _+_, _-_, _*_, _<_, _≤_}
 use lib.Dec.{leb, eqb}
 use lib.ListN.{length, getD, set, replicate}
 use Rattle.basics.specs.If.{if_then_else_}
-use Rattle.language.specs.Places.{isScheduler}
+use Rattle.language.specs.Places.{private, home, isPlace, isScheduler}
+use Rattle.language.specs.declared.Place.{Place}
 use Rattle.program.specs.Programs.{Program}
 use Rattle.machine.specs.Blocks.{pasted, padded}
 use Rattle.machine.specs.Calls.{Called}
@@ -35,13 +36,13 @@ unfoldable pub settledIn : List ℕ → ℕ → ThreadWords → ℕ → List ℕ
 settledIn w k th n = putThread (set w 1 n) k th
 
 unfoldable pub leftIn : List ℕ → ℕ → List ℕ
-leftIn w c = if isScheduler c then withoutFirst w (c - 2) else w
+leftIn w c = if isScheduler c then withoutFirst w (c - home) else w
 
 unfoldable pub roomIn : List ℕ → ℕ → ℕ → Bool
-roomIn w q more = isScheduler q && leb (getD w (67 + 130 * (q - 2)) 0 + more) 64
+roomIn w q more = isScheduler q && leb (getD w (67 + 130 * (q - home)) 0 + more) 64
 
 unfoldable pub joinedIn : List ℕ → ℕ → ℕ → List ℕ
-joinedIn w q e = if isScheduler q then withLast w (q - 2) e else w
+joinedIn w q e = if isScheduler q then withLast w (q - home) e else w
 
 -- ---- each fate, of thread t at choice c, where `before` cells were in use
 
@@ -76,7 +77,7 @@ newIn a t body = newThread (a .thread .place) (a .given) (a .first) (a .second) 
 -- a start that does not fit is 20, a 65th thread 18; 0 is neither
 unfoldable pub misfitIn : List ℕ → ModuleFound → ℕ → ℕ → ℕ
 misfitIn w found place given =
-    if eqb place 1 then 20 else
+    if eqb place private then 20 else
     if not (found .there) then 20 else
     if not (eqb (found .parameters) given) then 20 else
     if not (roomIn w place 1) then 20 else
@@ -90,7 +91,7 @@ firstAnswer a b = if eqb a 0 then b else a
 
 unfoldable pub obstacleIn : List ℕ → ModuleFound → ℕ → ℕ → ℕ
 obstacleIn w found place given =
-    if eqb place 1 then 20 else
+    if eqb place private then 20 else
     if not (found .there) then 20 else
     if not (eqb (found .parameters) given) then 20 else
     if not (roomIn w place 1) then 20 else
@@ -117,13 +118,13 @@ abbrev pub committedIn : Program → List ℕ → ℕ → ℕ → ℕ → Turned
 committedIn p w before c t a (Refused n) = refusesIn w before t a n
 committedIn p w before c t a Stays = called 0 t (staysIn w t a)
 committedIn p w before c t a Leaves = called 0 t (leavesIn w c t a)
-committedIn p w before c t a (Joins q) = joinsIn w before c t a q
+committedIn p w before c t a (Joins q) = joinsIn w before c t a (q .number)
 committedIn p w before c t a (Starts waits m) = startsIn p w before c t a waits m
 
 -- ---- the act as it is committed
 
 -- where a thread that stands at p stands behind the change
-abbrev pub placeAfter : Change → ℕ → ℕ
+abbrev pub placeAfter : Change → Place → Place
 placeAfter Same p = p
 placeAfter (Item a) p = p
 placeAfter (Items top below) p = p
@@ -143,7 +144,7 @@ after w t a = turned a (popped (threadIn w (t - 1)))
 pub record SettleWords (w : List ℕ) (k : ℕ) (c : Change) : Type 0 where
   pub all : length w ≡ 4818
   pub thread : k < 64
-  pub place : threadIn w k .place ≤ 9
+  pub place : isPlace (threadIn w k .place) ≡ true
   pub items : threadIn w k .items ≤ 25
   pub values : threadIn w k .values ≤ 25
   pub room : Room c (threadIn w k .items - 1) (threadIn w k .values)

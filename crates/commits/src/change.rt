@@ -1,5 +1,6 @@
 // The change that a turn names, made where the thread's words lie. Thread k counts from 0.
 use acts::act::Change;
+use language::Place;
 use states::stack::end_thread;
 use states::stack::move_to;
 use states::stack::pop_item;
@@ -7,8 +8,10 @@ use states::stack::pop_value;
 use states::stack::push_item;
 use states::stack::push_value;
 ghost use mathlib.Core.Path.{_≡_};
+ghost use mathlib.Core.Bool.{true};
 ghost use Prim.Native.Nat.{_<_, _≤_};
 ghost use lib.ListN.{length};
+ghost use Rattle.language.specs.Places.{isPlace};
 ghost use Rattle.states.specs.Threads.{threadIn, putThread};
 ghost use Rattle.states.specs.Stacks.{pushItem};
 ghost use Rattle.acts.specs.declared.act.Change.the-variants.{Let, Enter};
@@ -16,7 +19,7 @@ ghost use Rattle.acts.specs.Fates.{changed, popped, Room};
 ghost use Rattle.commits.specs.Commits.{placeAfter};
 
 // The top item off the continuation; where there is none, nothing changes.
-pub fn take_item(state: &mut [u64], k: usize)
+pub(crate) fn take_item(state: &mut [u64], k: usize)
     requires { ⌜ (length (now state) ≡ 4818) × (k < 64) × (threadIn (now state) k .items ≤ 25) ⌝ }
     ensures { λ _. ⌜ now (state .exit) ≡ putThread (now (state .entry)) k (popped (threadIn (now (state .entry)) k)) ⌝ }
 {
@@ -44,8 +47,9 @@ fn push_let(state: &mut [u64], k: usize, value: u64, body: u64)
 }
 
 // 12: to place q, with the body above 'back to here'.
-fn enter(state: &mut [u64], k: usize, q: u64, body: u64)
-    requires { ⌜ (length (now state) ≡ 4818) × (k < 64) × (threadIn (now state) k .items < 24) × (threadIn (now state) k .place ≤ 9) ⌝ }
+fn enter(state: &mut [u64], k: usize, q: Place, body: u64)
+    requires { ⌜ (length (now state) ≡ 4818) × (k < 64) × (threadIn (now state) k .items < 24)
+        × (isPlace (threadIn (now state) k .place) ≡ true) ⌝ }
     ensures { λ _. ⌜ now (state .exit) ≡ putThread (now (state .entry)) k (changed (Enter q body) (threadIn (now (state .entry)) k)) ⌝ }
 {
     let from = state[1042 + 55 * k];
@@ -53,8 +57,10 @@ fn enter(state: &mut [u64], k: usize, q: u64, body: u64)
     move_to(state, k, q);
 }
 
-pub fn change_thread(state: &mut [u64], k: usize, change: Change)
-    requires { ⌜ (length (now state) ≡ 4818) × (k < 64) × (threadIn (now state) k .values ≤ 25) × (threadIn (now state) k .place ≤ 9) × Room change (threadIn (now state) k .items) (threadIn (now state) k .values) ⌝ }
+pub(crate) fn change_thread(state: &mut [u64], k: usize, change: Change)
+    requires { ⌜ (length (now state) ≡ 4818) × (k < 64) × (threadIn (now state) k .values ≤ 25)
+        × (isPlace (threadIn (now state) k .place) ≡ true)
+        × Room change (threadIn (now state) k .items) (threadIn (now state) k .values) ⌝ }
     ensures { λ _. ⌜ now (state .exit) ≡ putThread (now (state .entry)) k (changed change (threadIn (now (state .entry)) k)) ⌝ }
 {
     match change {
@@ -70,7 +76,7 @@ pub fn change_thread(state: &mut [u64], k: usize, change: Change)
 }
 
 // Where a thread that stands at that place stands behind the change.
-pub fn place_after(change: Change, place: u64) -> u64
+pub(crate) fn place_after(change: Change, place: Place) -> Place
     ensures { λ r. ⌜ r ≡ placeAfter change place ⌝ }
 {
     match change {

@@ -1,12 +1,13 @@
 // What becomes of the thread, committed.
+use crate::leave::leave;
 use crate::start::commit_start;
 use crate::writing::clear_cells;
 use crate::writing::join;
-use crate::writing::leave;
 use crate::writing::room_at;
 use crate::writing::settle;
 use acts::act::Acted;
 use acts::act::Fate;
+use language::Place;
 ghost use mathlib.Core.Path.{_≡_};
 ghost use Rattle.text.specs.Frames.{framesOf};
 ghost use Rattle.program.specs.Programs.{programOf};
@@ -21,9 +22,10 @@ fn commit_leaves(state: &mut [u64], choice: u64, t: u64, a: Acted)
     leave(state, choice);
 }
 
-fn commit_joins(state: &mut [u64], before: usize, choice: u64, t: u64, a: Acted, q: u64) -> u8
+fn commit_joins(state: &mut [u64], before: usize, choice: u64, t: u64, a: Acted, q: Place) -> u8
     requires { ⌜ CommitWords (now state) t a ⌝ }
-    ensures { λ r. ⌜ called r t (now (state .exit)) ≡ joinsIn (now (state .entry)) before choice t (after (now (state .entry)) t a) q ⌝ }
+    ensures { λ r. ⌜ called r t (now (state .exit)) ≡ joinsIn (now (state .entry)) before choice t
+        (after (now (state .entry)) t a) (q .number) ⌝ }
 {
     if !room_at(state, q, 1) {
         clear_cells(state, before, a.used);

@@ -1,6 +1,7 @@
 // A turn committed to the lent words: the thread, the lists, the cells made; or, refused, the words as they were.
 mod change;
 pub mod commit;
-pub mod module;
+pub mod leave;
+mod module;
 mod start;
-pub mod writing;
+mod writing;

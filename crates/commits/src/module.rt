@@ -7,7 +7,7 @@ ghost use Rattle.program.specs.Programs.{programOf};
 ghost use Rattle.commits.specs.Modules.{foundIn, parametersIn};
 
 // Whether the file has the module; how many parameters it has, and its body's frame.
-pub struct ModuleFound {
+pub(crate) struct ModuleFound {
     pub there: bool,
     pub parameters: u64,
     pub body: u64,
@@ -23,7 +23,7 @@ fn parameters_of(s: u8) -> u64
     s as u64
 }
 
-pub fn module_at(frames: &[u64], m: u8) -> ModuleFound
+pub(crate) fn module_at(frames: &[u64], m: u8) -> ModuleFound
     ensures { λ r. ⌜ r ≡ foundIn (programOf (framesOf (now (frames .entry)))) m ⌝ }
 {
     let mut i: usize = 0;

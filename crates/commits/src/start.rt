@@ -1,28 +1,31 @@
 // A start committed: the new thread is the last, and the last in the starter's next list; a starter that waits stands behind it.
 use crate::change::place_after;
+use crate::leave::leave;
 use crate::module::ModuleFound;
 use crate::module::module_at;
 use crate::writing::clear_cells;
 use crate::writing::join;
 use crate::writing::join_both;
-use crate::writing::leave;
 use crate::writing::room_at;
 use crate::writing::settle;
 use acts::act::Acted;
-use acts::act::is_private;
+use language::Place;
 use states::thread::ThreadWords;
 use states::thread::add_thread;
 use states::thread::thread_count;
 ghost use mathlib.Core.Path.{_≡_};
+ghost use mathlib.Core.Bool.{true};
 ghost use Prim.Native.Nat.{_<_};
 ghost use lib.ListN.{length, getD};
+ghost use Rattle.language.specs.Places.{isScheduler};
 ghost use Rattle.text.specs.Frames.{framesOf};
 ghost use Rattle.program.specs.Programs.{programOf};
 ghost use Rattle.commits.specs.Commits.{CommitWords, newThread, after, misfitIn, spentIn, firstAnswer, obstacleIn, startedIn, waitingIn, startsIn, called};
 
 // The new thread: at the starter's place, its continuation the module's body, its variables the arguments.
-fn new_thread(a: Acted, place: u64, t: u64, body: u64) -> ThreadWords
-    ensures { λ r. ⌜ r ≡ newThread place (a .given) (a .first) (a .second) t body ⌝ }
+fn new_thread(a: Acted, place: Place, t: u64, body: u64) -> ThreadWords
+    ensures { λ r. ⌜ r
+        ≡ newThread (place .number) (a .given) (a .first) (a .second) t body ⌝ }
 {
     let mut items = [0u64; 25];
     items[0] = body;
@@ -30,7 +33,7 @@ fn new_thread(a: Acted, place: u64, t: u64, body: u64) -> ThreadWords
     values[0] = a.first;
     values[1] = a.second;
     ThreadWords {
-        place,
+        place: place.word(),
         starter: t,
         alive: 1,
         items: 1,
@@ -44,11 +47,11 @@ fn new_thread(a: Acted, place: u64, t: u64, body: u64) -> ThreadWords
 const NO_ROOM: u8 = 20;
 
 // 20 where the start does not fit: at no scheduler, no such module, another count of arguments, a full list; 0 where it fits.
-fn misfit(state: &[u64], found: ModuleFound, place: u64, given: u64) -> u8
+fn misfit(state: &[u64], found: ModuleFound, place: Place, given: u64) -> u8
     requires { ⌜ length (now state) ≡ 4818 ⌝ }
-    ensures { λ r. ⌜ r ≡ misfitIn (now (state .entry)) found place given ⌝ }
+    ensures { λ r. ⌜ r ≡ misfitIn (now (state .entry)) found (place .number) given ⌝ }
 {
-    if is_private(place) {
+    if place.is_private() {
         return 20;
     }
     if !found.there {
@@ -85,18 +88,20 @@ fn first_answer(a: u8, b: u8) -> u8
 }
 
 // What stands in the way of a start, 20 before 18; 0 where nothing does.
-fn obstacle(state: &[u64], found: ModuleFound, place: u64, given: u64) -> u8
+fn obstacle(state: &[u64], found: ModuleFound, place: Place, given: u64) -> u8
     requires { ⌜ length (now state) ≡ 4818 ⌝ }
-    ensures { λ r. ⌜ r ≡ obstacleIn (now (state .entry)) found place given ⌝ }
+    ensures { λ r. ⌜ r ≡ obstacleIn (now (state .entry)) found (place .number) given ⌝ }
 {
     let misfits = misfit(state, found, place, given);
     let full = spent(state);
     first_answer(misfits, full)
 }
 
-// 13. The starter stands at that place.
-fn start(state: &mut [u64], t: u64, a: Acted, place: u64, body: u64)
-    requires { ⌜ CommitWords (now state) t a × (getD (now state) 0 0 < 64) × (place ≡ after (now state) t a .thread .place) ⌝ }
+// 13. The starter stands at that place, a scheduler.
+fn start(state: &mut [u64], t: u64, a: Acted, place: Place, body: u64)
+    requires { ⌜ CommitWords (now state) t a × (getD (now state) 0 0 < 64)
+        × (isScheduler (place .number) ≡ true)
+        × (place .number ≡ after (now state) t a .thread .place) ⌝ }
     ensures { λ _. ⌜ now (state .exit) ≡ startedIn (now (state .entry)) t (after (now (state .entry)) t a) body ⌝ }
 {
     let new = thread_count(state) + 1;
@@ -107,8 +112,10 @@ fn start(state: &mut [u64], t: u64, a: Acted, place: u64, body: u64)
 }
 
 // 14: the starter's entry stands behind the new thread.
-fn start_and_wait(state: &mut [u64], choice: u64, t: u64, a: Acted, place: u64, body: u64)
-    requires { ⌜ CommitWords (now state) t a × (getD (now state) 0 0 < 64) × (place ≡ after (now state) t a .thread .place) ⌝ }
+fn start_and_wait(state: &mut [u64], choice: u64, t: u64, a: Acted, place: Place, body: u64)
+    requires { ⌜ CommitWords (now state) t a × (getD (now state) 0 0 < 64)
+        × (isScheduler (place .number) ≡ true)
+        × (place .number ≡ after (now state) t a .thread .place) ⌝ }
     ensures { λ _. ⌜ now (state .exit) ≡ waitingIn (now (state .entry)) choice t (after (now (state .entry)) t a) body ⌝ }
 {
     let started = thread_count(state) + 1;
@@ -121,7 +128,7 @@ fn start_and_wait(state: &mut [u64], choice: u64, t: u64, a: Acted, place: u64, 
 }
 
 // The room for the starter itself is tested last.
-pub fn commit_start(
+pub(crate) fn commit_start(
     frames: &[u64],
     state: &mut [u64],
     before: usize,
@@ -136,7 +143,7 @@ pub fn commit_start(
 {
     let found = module_at(frames, m);
     let change = a.change;
-    let place = place_after(change, state[1042 + 55 * (t - 1) as usize]);
+    let place = place_after(change, Place::known(state[1042 + 55 * (t - 1) as usize]));
     let no = obstacle(state, found, place, a.given);
     if no != 0 {
         clear_cells(state, before, a.used);

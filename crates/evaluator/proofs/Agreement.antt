@@ -21,13 +21,13 @@ use Rattle.machine.specs.declared.value.Outcome.the-variants.{Is, Foreign, Spen
 use Rattle.machine.proofs.Shapes as shape
 use Rattle.machine.proofs.Shapes.{ValueFits}
 use Rattle.machine.proofs.KeptCells.{OutcomeFits, is-value, is-foreign, is-spent, is-stuck}
-use Rattle.evaluator.specs.declared.operation.Who.{Who}
+use Rattle.evaluator.specs.declared.Who.{Who}
 use Rattle.evaluator.specs.Results.{Result, hereOf, resultOf, onWords, cellsFrom, CellWords, ValueWords}
 use Rattle.evaluator.specs.ByWords.{valueIn, ownerIn, contentIn, cellOf, result, thenBy, andThen, keeping, ownIn, newOwnerIn, variableIn, sharedIn, makeIn, accessIn, readIn, reading, storeIn, numbersOf, aTruth, aNumber, chosen, evalIn, storingIn}
 use Rattle.evaluator.proofs.Chains.{Refused, then-is, then-keeps, regroup}
 use Rattle.evaluator.proofs.WordLaws.{value-same, value-fits, owner-back, content-back}
 use Rattle.evaluator.proofs.SmallNumbers.{Small, small-at}
-use Rattle.evaluator.proofs.Holding.{Holds, holds-at, holds-length, holds-from, holds-words, holds-push, holds-put}
+use Rattle.evaluator.proofs.Holding.{Holds, holds-at, holds-from, holds-words, holds-push, holds-put}
 
 -- what the recursion gives on words, and what the definition gives on cells
 record Agrees (l : Result) (r : Evaluated) : Type 0 where
@@ -107,7 +107,8 @@ module _ (who : Who) (vs : List ℕ) where
         if-all (λ (r : Evaluated). Agrees (makeIn who s v n ws) (def.after (accessOf here (freeNumber cs) o ∷ []) r)) (isOwn here o) _ _
         (λ e. if-all (λ (r : Evaluated). Agrees (makeIn who s v n ws) (def.after (accessOf here (freeNumber cs) o ∷ []) r)) (ltb (usedCells cs) 256) _ _
         (λ q. let m : usedCells cs < 256 = ltb-true (usedCells cs) 256 q in
-        agree-left (if-yes _ _ (own-same o true e) ∙ if-yes _ _ (lt-ltb n 256 (inside m (holds .count))) ∙ if-yes _ _ (lt-ltb n (length ws) (under m (holds .count) (holds-length holds))))
+        agree-left
+        (if-yes _ _ (own-same o true e) ∙ if-yes _ _ (lt-ltb n 256 (inside m (holds .count))))
         (record { outcome = ap (λ (k : ℕ). Is (Cell k)) (holds .count); cells = holds-push n ws cs (record { owner = o; content = v }) holds m f; fits = is-value (shape.cell m) }))
         (λ q. agree-left (if-yes _ _ (own-same o true e) ∙ if-no _ _ (ap (λ (k : ℕ). ltb k 256) (holds .count) ∙ q)) (record { outcome = refl; cells = holds; fits = is-spent })))
         (λ e. agree-left (if-no _ _ (own-same o false e)) (record { outcome = refl; cells = holds; fits = is-foreign }))
@@ -117,9 +118,6 @@ module _ (who : Who) (vs : List ℕ) where
 
         inside : usedCells cs < 256 → n ≡ usedCells cs → n < 256
         inside m e = omega arith
-
-        under : usedCells cs < 256 → n ≡ usedCells cs → length ws ≡ 256 → n < length ws
-        under m e z = omega arith
 
     -- at a cell that is there: the word's owner and content are the cell's
     module _ (c : ℕ) (l : c < length cs) where

@@ -9,8 +9,8 @@ use Rattle.text.specs.Frames.{framesOf}
 use Rattle.program.specs.Trees.{Expr, expressionAt}
 use Rattle.machine.specs.declared.value.Value.{Value}
 use Rattle.machine.specs.declared.value.Outcome.{Outcome}
-use Rattle.evaluator.specs.declared.operation.Who.{Who}
-use Rattle.evaluator.specs.declared.operation.Answered.{Answered}
+use Rattle.evaluator.specs.declared.Who.{Who}
+use Rattle.evaluator.specs.declared.Answered.{Answered}
 use Rattle.evaluator.specs.declared.operation.Wanted.{Wanted}
 use Rattle.evaluator.specs.declared.node.Node.{Node}
 use Rattle.evaluator.specs.declared.node.Node.the-variants.{Plain, Cells, Numbers, ChooseOf}
@@ -27,7 +27,11 @@ use Rattle.evaluator.proofs.Nodes.{treeOf, tree-at}
 
 -- ---- what a call requires: a smaller frame number, and a frame of the file
 pub falls-to : (ws : List ℕ) (i a t : ℕ) → (i ≡ t) × FrameWords ws i → a < i → (a < t) × FrameWords ws a
-falls-to ws i a t p l = let e = p .0 in (omega arith, record { ordered = p .1 .ordered; there = lt-trans l (p .1 .there) })
+falls-to ws i a t p l =
+    let e = p .0 in
+    let h = p .1 in
+    let there = lt-trans l (h .there) in
+    (omega arith, record { ordered = h .ordered; placed = h .placed; there = there })
 
 -- ---- the returns
 module _ (fw vs : List ℕ) (who : Who) where

@@ -8,8 +8,8 @@ use Rattle.machine.specs.declared.value.Value.{Value}
 use Rattle.machine.specs.declared.value.Value.the-variants.{Number, Truth, Cell}
 use Rattle.machine.specs.declared.value.Outcome.{Outcome}
 use Rattle.machine.specs.declared.value.Outcome.the-variants.{Is, Foreign, Spent, Stuck}
-use Rattle.evaluator.specs.declared.operation.Who.{Who}
-use Rattle.evaluator.specs.declared.operation.Answered.{Answered}
+use Rattle.evaluator.specs.declared.Who.{Who}
+use Rattle.evaluator.specs.declared.Answered.{Answered}
 use Rattle.evaluator.specs.declared.operation.Operand.{Operand}
 use Rattle.evaluator.specs.declared.operation.Wanted.{Wanted}
 use Rattle.evaluator.specs.declared.node.Operator.{Operator}

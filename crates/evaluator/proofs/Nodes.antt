@@ -1,11 +1,11 @@
 -- The node at a frame: how the code reads it from the frame's word, the tree that it and its operands' trees make, and that its operands stand before it. Assumes nothing.
 use mathlib.Core.Path.{_≡_, refl, sym, ap, _∙_, subst}
-use mathlib.Core.List.{List, _∷_}
+use mathlib.Core.List.{List}
 use Prim.Native.Nat.{ℕ, _<_}
 use lib.ListN.{length, getD, length-map}
 use Rattle.basics.specs.Members.{All}
 use Rattle.basics.proofs.Ifs.{if-all}
-use Rattle.language.specs.Kinds.{Child, children}
+use Rattle.language.specs.Kinds.{NamesPlace, Child, children}
 use Rattle.language.specs.declared.kind.ExpressionKind.{ExpressionKind}
 use Rattle.language.specs.declared.kind.Kind.{Kind}
 use Rattle.language.specs.declared.kind.Kind.the-variants.{Header, Shared, Module, Statement, Expression, Unknown}
@@ -37,13 +37,20 @@ node-kind f k v r e h = h ∙ sym (ap (nodeOf f) e)
 pub node-read : (ws : List ℕ) (i : ℕ) (f : Frame) (r : Node) → r ≡ nodeOf f (f .kind) → f ≡ frameOfWord (getD ws i 0) → i < length ws → r ≡ nodeAt (framesOf ws) i
 node-read ws i f r h e l = h ∙ ap (λ (g : Frame). nodeOf g (g .kind)) (e ∙ sym (frame-at ws i noFrame l))
 
+-- ---- what reading it requires: where S is to name a place, it names one
+pub frame-named : (ws : List ℕ) (i : ℕ) (f : Frame)
+    → FrameWords ws i → f ≡ frameOfWord (getD ws i 0) → NamesPlace f
+frame-named ws i f h e =
+    subst NamesPlace (frame-at ws i noFrame (h .there) ∙ sym e)
+    (h .placed i (rw length-map (h .there)))
+
 -- ---- the tree, from the node; `rec` gives the trees at its operands
 abbrev pub treeOf : (ℕ → Expr) → ℕ → Node → Expr
 treeOf rec i (Plain (Literal n)) = number i n
 treeOf rec i (Plain (Flag s)) = truth i s
 treeOf rec i (Plain (Variable s)) = variable i s
 treeOf rec i (Plain (SharedCell s)) = shared i s
-treeOf rec i (Cells (Make s) a) = new i s (rec a)
+treeOf rec i (Cells (Make s) a) = new i (s .number) (rec a)
 treeOf rec i (Cells Read a) = content i (rec a)
 treeOf rec i (Numbers Sum a b) = sum i (rec a) (rec b)
 treeOf rec i (Numbers Less a b) = less i (rec a) (rec b)

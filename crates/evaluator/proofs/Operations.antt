@@ -1,5 +1,5 @@
 -- The operations of operation.rt: a law for each return of each function. Two numbers with an equation between them are one number at two widths, before and behind a cast. Assumes nothing.
-use mathlib.Core.Path.{_≡_, refl, sym, ap, ap₂, _∙_}
+use mathlib.Core.Path.{_≡_, refl, sym, ap, _∙_}
 use mathlib.Core.List.{List}
 use mathlib.Core.Bool.{Bool, true, false, not, _||_, _&&_}
 use Prim.Native.Nat.{ℕ, _+_, _%_, _^_, _<_, _≤_}
@@ -10,12 +10,13 @@ use lib.Seq.{set-getD}
 use borrow.Author.Tests.{ltb-true, ltb-false, lt-ltb, le-ltb, le-leb, lt-leb, eq-eqb, ne-eqb}
 use Rattle.basics.specs.If.{if_then_else_}
 use Rattle.basics.proofs.Ifs.{if-all, if-yes, if-no, yes, no}
+use Rattle.language.specs.Places.{private}
 use Rattle.machine.specs.declared.value.Value.{Value}
 use Rattle.machine.specs.declared.value.Value.the-variants.{Number, Truth, Cell}
 use Rattle.machine.specs.declared.value.Outcome.{Outcome}
 use Rattle.machine.specs.declared.value.Outcome.the-variants.{Is, Foreign, Spent, Stuck}
-use Rattle.evaluator.specs.declared.operation.Who.{Who}
-use Rattle.evaluator.specs.declared.operation.Answered.{Answered}
+use Rattle.evaluator.specs.declared.Who.{Who}
+use Rattle.evaluator.specs.declared.Answered.{Answered}
 use Rattle.evaluator.specs.declared.operation.Operand.{Operand}
 use Rattle.evaluator.specs.declared.operation.Wanted.{Wanted}
 use Rattle.evaluator.specs.declared.node.Operator.{Operator}
@@ -37,19 +38,25 @@ other-thread who o r b h e q = q ∙ ap (λ (x : Bool). x || leb 2 (who .place .
 pub own-unlinked : (who : Who) (o r p k : ℕ) → r ≡ who .thread → (o ≡ 16 + r → ⊥) → p ≡ who .place .number → k ≡ 2 → p < k → false ≡ ownIn who o
 own-unlinked who o r p k h e z y l = other-thread who o r false h e (ap (λ (x : Bool). x && eqb o (who .place .number)) (sym (lt-leb 2 (who .place .number) (omega arith))))
 
-pub own-place : (who : Who) (o r p k q : ℕ) → r ≡ who .thread → (o ≡ 16 + r → ⊥) → p ≡ who .place .number → k ≡ 2 → k ≤ p → q ≡ p → eqb o q ≡ ownIn who o
-own-place who o r p k q h e z y l a =
-    other-thread who o r (eqb o q) h e (ap (eqb o) (a ∙ z) ∙ ap (λ (x : Bool). x && eqb o (who .place .number)) (sym (le-leb 2 (who .place .number) (omega arith))))
+pub own-place : (who : Who) (o r p k : ℕ) → r ≡ who .thread → (o ≡ 16 + r → ⊥)
+    → p ≡ who .place .number → k ≡ 2 → k ≤ p → eqb o p ≡ ownIn who o
+own-place who o r p k h e z y l =
+    let q = who .place .number in
+    other-thread who o r (eqb o p) h e
+    (ap (eqb o) z ∙ ap (λ (x : Bool). x && eqb o q) (sym (le-leb 2 q (omega arith))))
 
 pub ruleset own-laws = (own-thread, own-unlinked, own-place)
 
-pub owner-private : (who : Who) (s r : ℕ) → s ≡ 1 → r ≡ who .thread → 16 + r ≡ newOwnerIn who s
+-- b is whether S is private
+pub owner-private : (who : Who) (s r : ℕ) (b : Bool)
+    → b ≡ eqb s private → b ≡ true → r ≡ who .thread → 16 + r ≡ newOwnerIn who s
 unfolding newOwnerIn
-owner-private who s r e h = yes _ (eq-eqb _ _ e) (ap (λ (x : ℕ). 16 + x) h)
+owner-private who s r b e t h = yes _ (sym e ∙ t) (ap (λ (x : ℕ). 16 + x) h)
 
-pub owner-given : (who : Who) (s r : ℕ) → (s ≡ 1 → ⊥) → r ≡ s → r ≡ newOwnerIn who s
+pub owner-given : (who : Who) (s r m : ℕ) (b : Bool)
+    → b ≡ eqb s private → b ≡ false → m ≡ s → r ≡ m → r ≡ newOwnerIn who s
 unfolding newOwnerIn
-owner-given who s r e h = no _ (ne-eqb _ _ e) h
+owner-given who s r m b e t h k = no _ (sym e ∙ t) (k ∙ h)
 
 pub ruleset owner-laws = (owner-private, owner-given)
 
@@ -91,18 +98,19 @@ pub leaf-shared : (who : Who) (vs : List ℕ) (l : Leaf) (s : ℕ) (o : Outcome)
 unfolding leafIn
 leaf-shared who vs l s o e h = h ∙ sym (ap (leafIn who vs) e)
 
--- ---- a new cell: o is its owner, q the same as a word, b whether it is one's own. Behind the end of the words it is spent, as the 257th is
+-- ---- a new cell: o is its owner, q the same as a word, b whether it is one's own
 module _ (who : Who) (s o n : ℕ) (v : Value) (ws : List ℕ) (b : Bool) (q : ℕ) (eo : o ≡ newOwnerIn who s) (eq : q ≡ o) (eb : b ≡ ownIn who q) where
   own-new : {t : Bool} → b ≡ t → ownIn who (newOwnerIn who s) ≡ t
   own-new e = sym (eb ∙ ap (ownIn who) (eq ∙ eo)) ∙ e
 
-  pub make-is : (w : ℕ) → b ≡ true → n < 256 → n < length ws → w ≡ cellOf o v → result (Is (Cell n)) (n + 1) (set ws n w) ≡ makeIn who s v n ws
+  -- w is the cell's word, us the words with it
+  pub make-is : (w : ℕ) (us : List ℕ) → b ≡ true → n < 256 → w ≡ cellOf o v → us ≡ set ws n w
+      → result (Is (Cell n)) (n + 1) us ≡ makeIn who s v n ws
   unfolding makeIn
-  make-is w t l k e = yes _ (own-new t) (yes _ (lt-ltb _ _ l) (yes _ (lt-ltb _ _ k) (ap (λ (y : ℕ). result (Is (Cell n)) (n + 1) (set ws n y)) (e ∙ ap (λ (y : ℕ). cellOf y v) eo))))
-
-  pub make-past : b ≡ true → n < 256 → length ws ≤ n → result Spent n ws ≡ makeIn who s v n ws
-  unfolding makeIn
-  make-past t l k = yes _ (own-new t) (yes _ (lt-ltb _ _ l) (no _ (le-ltb _ _ k) refl))
+  make-is w us t l e u =
+      yes _ (own-new t)
+      (yes _ (lt-ltb _ _ l)
+      (ap (result (Is (Cell n)) (n + 1)) (u ∙ ap (set ws n) (e ∙ ap (λ (y : ℕ). cellOf y v) eo))))
 
   pub make-spent : b ≡ true → 256 ≤ n → result Spent n ws ≡ makeIn who s v n ws
   unfolding makeIn
@@ -112,7 +120,7 @@ module _ (who : Who) (s o n : ℕ) (v : Value) (ws : List ℕ) (b : Bool) (q : �
   unfolding makeIn
   make-foreign t = no _ (own-new t) refl
 
-pub ruleset make-laws = (make-is, make-past, make-spent, make-foreign)
+pub ruleset make-laws = (make-is, make-spent, make-foreign)
 
 -- ---- the first refusal of two that is met
 module _ (a b : Bool) (first second : Outcome) (v : Value) where

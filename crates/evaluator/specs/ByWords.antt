@@ -19,8 +19,8 @@ use Rattle.machine.specs.declared.value.Value.{Value}
 use Rattle.machine.specs.declared.value.Value.the-variants.{Number, Truth, Cell}
 use Rattle.machine.specs.declared.value.Outcome.{Outcome}
 use Rattle.machine.specs.declared.value.Outcome.the-variants.{Is, Foreign, Spent, Stuck}
-use Rattle.evaluator.specs.declared.operation.Who.{Who}
-use Rattle.evaluator.specs.declared.operation.Answered.{Answered}
+use Rattle.evaluator.specs.declared.Who.{Who}
+use Rattle.evaluator.specs.declared.Answered.{Answered}
 use Rattle.evaluator.specs.declared.node.Node.{Node}
 use Rattle.evaluator.specs.declared.node.Node.the-variants.{Plain, Cells, Numbers, ChooseOf}
 use Rattle.evaluator.specs.declared.node.Leaf.{Leaf}
@@ -40,7 +40,7 @@ nodeWith f ExpressionKind.Number = Plain (Literal (f .a))
 nodeWith f ExpressionKind.Truth = Plain (Flag (f .s))
 nodeWith f ExpressionKind.Variable = Plain (Variable (f .s))
 nodeWith f ExpressionKind.SharedCell = Plain (SharedCell (f .s))
-nodeWith f ExpressionKind.NewCell = Cells (Make (f .s)) (f .a)
+nodeWith f ExpressionKind.NewCell = Cells (Make (record { number = f .s })) (f .a)
 nodeWith f ExpressionKind.Content = Cells Read (f .a)
 nodeWith f ExpressionKind.Sum = Numbers Sum (f .a) (f .b)
 nodeWith f ExpressionKind.Less = Numbers Less (f .a) (f .b)
@@ -118,8 +118,7 @@ sharedIn who s = if ltb s (who .shared) then Is (Cell s) else Stuck
 unfoldable pub makeIn : Who → ℕ → Value → ℕ → List ℕ → Result
 makeIn who s v n ws =
     if ownIn who (newOwnerIn who s) then
-    (if ltb n 256 then
-    (if ltb n (length ws) then result (Is (Cell n)) (n + 1) (set ws n (cellOf (newOwnerIn who s) v)) else result Spent n ws)
+    (if ltb n 256 then result (Is (Cell n)) (n + 1) (set ws n (cellOf (newOwnerIn who s) v))
     else result Spent n ws)
     else result Foreign n ws
 
@@ -146,7 +145,7 @@ abbrev pub reading : Who → Value → ℕ → List ℕ → Result
 reading who v n ws = result (readIn who v n ws) n ws
 
 abbrev pub usingIn : Who → CellUse → Value → ℕ → List ℕ → Result
-usingIn who (Make s) = makeIn who s
+usingIn who (Make s) = makeIn who (s .number)
 usingIn who Read = reading who
 
 -- the word of a cell behind a store: a refusal changes nothing

@@ -5,15 +5,15 @@ use mathlib.Core.Bool.{true}
 use Prim.Native.Nat.{ℕ, _%_, _^_, _<_, _≤_}
 use lib.ListN.{length, getD}
 use Rattle.text.specs.Frames.{framesOf}
-use Rattle.program.specs.Ordered.{Ordered}
+use Rattle.program.specs.Ordered.{Ordered, Placed}
 use Rattle.machine.specs.State.{Stored, usedCells}
 use Rattle.machine.specs.Evaluation.{Here, Evaluated, Evaluation}
 use Rattle.machine.specs.Words.{wordValue, wordCell, tabulate}
 use Rattle.machine.specs.Ranges.{valueInRange}
 use Rattle.machine.specs.Blocks.{cellWords}
 use Rattle.machine.specs.declared.value.Outcome.{Outcome}
-use Rattle.evaluator.specs.declared.operation.Who.{Who}
-use Rattle.evaluator.specs.declared.operation.Answered.{Answered}
+use Rattle.evaluator.specs.declared.Who.{Who}
+use Rattle.evaluator.specs.declared.Answered.{Answered}
 
 -- what a function on lent cells gives: the outcome, how many cells are in use, and all lent words
 pub record Result : Type 0 where
@@ -53,7 +53,9 @@ pub record CellWords (n : ℕ) (ws : List ℕ) : Type 0 where
 abbrev pub ValueWords : List ℕ → Type 0
 ValueWords vs = (k : ℕ) → k < length vs → valueInRange (getD vs k 0) ≡ true
 
--- children stand before their parents, and frame i is there: so the frame number falls in the recursion
+-- children stand before their parents, and frame i is there: so the frame number falls in the
+-- recursion; and an owner is a place
 pub record FrameWords (frames : List ℕ) (i : ℕ) : Type 0 where
   pub ordered : Ordered (framesOf frames)
+  pub placed : Placed (framesOf frames)
   pub there : i < length frames

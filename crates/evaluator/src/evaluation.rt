@@ -1,9 +1,9 @@
 // Evaluation: numbers and truths call each other, and the frame number falls at each call.
+use crate::Answered;
+use crate::Who;
 use crate::node::Node;
 use crate::node::node_at;
-use crate::operation::Answered;
 use crate::operation::Wanted;
-use crate::operation::Who;
 use crate::operation::answer_of;
 use crate::operation::as_answer;
 use crate::operation::as_number;

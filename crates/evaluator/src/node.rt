@@ -1,22 +1,26 @@
 // Expression frames as nodes.
+use language::Place;
 use language::frame::Frame;
 use language::kind::ExpressionKind;
 use language::kind::Kind;
 use text::line::frame_of_word;
 ghost use mathlib.Core.Path.{_≡_};
-ghost use Prim.Native.Nat.{_<_};
-ghost use lib.ListN.{length};
+ghost use mathlib.Core.Bool.{true};
+ghost use Rattle.language.specs.Places.{isPlace};
+ghost use Rattle.language.specs.Kinds.{expressionUses, NamesPlace};
+ghost use Rattle.language.specs.declared.kind.Use.{Use};
 ghost use Rattle.text.specs.Frames.{framesOf};
+ghost use Rattle.evaluator.specs.Results.{FrameWords};
 ghost use Rattle.evaluator.specs.ByWords.{nodeWith, nodeOf, nodeAt};
 
 // What becomes of two numbers: their sum, or whether the first is less.
-pub enum Operator {
+pub(crate) enum Operator {
     Sum,
     Less,
 }
 
 // An expression without operands, 20 to 23: a number, or the S of a truth, of a variable, of a shared cell.
-pub enum Leaf {
+pub(crate) enum Leaf {
     Literal(u16),
     Flag(u8),
     Variable(u8),
@@ -24,13 +28,13 @@ pub enum Leaf {
 }
 
 // What becomes of a value: a new cell's content, its owner S beside it, or the cell whose content is read.
-pub enum CellUse {
-    Make(u8),
+pub(crate) enum CellUse {
+    Make(Place),
     Read,
 }
 
 // The kind of an expression with the frames of its operands: none, any value, two numbers, a truth and two numbers.
-pub enum Node {
+pub(crate) enum Node {
     Plain(Leaf),
     Cells(CellUse, usize),
     Numbers(Operator, usize, usize),
@@ -44,6 +48,7 @@ fn index16(x: u16) -> usize
 }
 
 fn expression_node(f: Frame, k: ExpressionKind) -> Node
+    requires { ⌜ (expressionUses k .s ≡ Use.Place → isPlace (f .s) ≡ true) ⌝ }
     ensures { λ r. ⌜ r ≡ nodeWith f k ⌝ }
 {
     match k {
@@ -51,7 +56,10 @@ fn expression_node(f: Frame, k: ExpressionKind) -> Node
         ExpressionKind::Truth => Node::Plain(Leaf::Flag(f.s)),
         ExpressionKind::Variable => Node::Plain(Leaf::Variable(f.s)),
         ExpressionKind::SharedCell => Node::Plain(Leaf::SharedCell(f.s)),
-        ExpressionKind::NewCell => Node::Cells(CellUse::Make(f.s), index16(f.a)),
+        ExpressionKind::NewCell => {
+            let owner = Place::known(f.s as u64);
+            Node::Cells(CellUse::Make(owner), index16(f.a))
+        },
         ExpressionKind::Content => Node::Cells(CellUse::Read, index16(f.a)),
         ExpressionKind::Sum => Node::Numbers(Operator::Sum, index16(f.a), index16(f.b)),
         ExpressionKind::Less => Node::Numbers(Operator::Less, index16(f.a), index16(f.b)),
@@ -59,7 +67,9 @@ fn expression_node(f: Frame, k: ExpressionKind) -> Node
     }
 }
 
+// Of a frame that passes refusal 5: an owner is a place.
 fn node_of(f: Frame) -> Node
+    requires { ⌜ NamesPlace f ⌝ }
     ensures { λ r. ⌜ r ≡ nodeOf f (f .kind) ⌝ }
 {
     let k = f.kind;
@@ -74,8 +84,8 @@ fn node_of(f: Frame) -> Node
 }
 
 // The node that frame i is. There is such a frame: the recursion goes from frames of the file to their children.
-pub fn node_at(frames: &[u64], i: usize) -> Node
-    requires { ⌜ i < length (now frames) ⌝ }
+pub(crate) fn node_at(frames: &[u64], i: usize) -> Node
+    requires { ⌜ FrameWords (now frames) i ⌝ }
     ensures { λ r. ⌜ r ≡ nodeAt (framesOf (now (frames .entry))) i ⌝ }
 {
     node_of(frame_of_word(frames[i]))

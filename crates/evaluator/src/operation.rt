@@ -1,12 +1,14 @@
 // Operations on values and cells: what each kind of expression does behind its operands.
+use crate::Answered;
+use crate::Who;
+use crate::cell::cell_word;
+use crate::cell::content_of;
+use crate::cell::owner_of;
+use crate::cell::value_of;
+use crate::cell::with_content;
 use crate::node::CellUse;
 use crate::node::Leaf;
 use crate::node::Operator;
-use crate::word::cell_word;
-use crate::word::content_of;
-use crate::word::owner_of;
-use crate::word::value_of;
-use crate::word::with_content;
 use language::Place;
 use machine::value::Outcome;
 use machine::value::Value;
@@ -15,21 +17,8 @@ ghost use lib.ListN.{getD, set};
 ghost use Rattle.evaluator.specs.Results.{after};
 ghost use Rattle.evaluator.specs.ByWords.{ownIn, newOwnerIn, variableIn, sharedIn, leafIn, refusalOr, accessIn, readIn, reading, makeIn, usingIn, wordAfter, storeIn, aTruth, operation, firstBy, bothBy, operatedBy, numberOr, operandOf, asNumber, outcomeOf, asAnswer, operandStops, outcomeStops, chosen, chosenBy, andThen, only};
 
-// Who evaluates: the acting thread, the place on which it stands, and how many cells are shared.
-pub struct Who {
-    pub thread: u8,
-    pub place: Place,
-    pub shared: usize,
-}
-
-// What an evaluation answers, and how many cells are in use behind it.
-pub struct Answered {
-    pub outcome: Outcome,
-    pub used: usize,
-}
-
 // What a frame comes to where a number is wanted of it. `Other` is a value of another kind: 20, but behind all expressions of the frame that wants the number.
-pub enum Operand {
+pub(crate) enum Operand {
     Number(u32),
     Other,
     Foreign,
@@ -37,12 +26,12 @@ pub enum Operand {
     Stuck,
 }
 
-pub struct Wanted {
+pub(crate) struct Wanted {
     pub operand: Operand,
     pub used: usize,
 }
 
-pub fn answer_of(outcome: Outcome, used: usize) -> Answered
+pub(crate) fn answer_of(outcome: Outcome, used: usize) -> Answered
     ensures { λ r. ⌜ r ≡ record { outcome = outcome; used = used } ⌝ }
 {
     Answered { outcome, used }
@@ -98,27 +87,27 @@ fn put_word(words: &mut [u64], i: usize, w: u64)
 }
 
 // Whether an access to a cell of that owner is not foreign: it is the thread's own or its scheduler's.
-pub fn is_own(who: Who, owner: u64) -> bool
+fn is_own(who: Who, owner: u64) -> bool
     ensures { λ r. ⌜ r ≡ ownIn who owner ⌝ }
 {
     if owner == 16 + wide8(who.thread) {
         return true;
     }
-    let p = who.place.number();
-    if p < Place::HOME.number() {
+    let p = who.place.word();
+    if p < Place::HOME.word() {
         return false;
     }
-    owner == wide8(p)
+    owner == p
 }
 
-// The owner of a new cell: S, or the thread itself where S is 1.
-pub fn new_owner(who: Who, s: u8) -> u16
-    ensures { λ r. ⌜ r ≡ newOwnerIn who s ⌝ }
+// The owner of a new cell: S, or the thread itself where S is private.
+fn new_owner(who: Who, s: Place) -> u16
+    ensures { λ r. ⌜ r ≡ newOwnerIn who (s .number) ⌝ }
 {
-    if s == 1 {
+    if s.is_private() {
         return 16 + half8(who.thread);
     }
-    half8(s)
+    half8(s.number())
 }
 
 // 22
@@ -143,7 +132,7 @@ fn shared_cell(who: Who, s: u8) -> Outcome
 }
 
 // 20 to 23
-pub fn leaf(who: Who, variables: &[u64], l: Leaf) -> Outcome
+pub(crate) fn leaf(who: Who, variables: &[u64], l: Leaf) -> Outcome
     ensures { λ r. ⌜ r ≡ leafIn who (now (variables .entry)) l ⌝ }
 {
     match l {
@@ -155,19 +144,18 @@ pub fn leaf(who: Who, variables: &[u64], l: Leaf) -> Outcome
 }
 
 // 24: 19 is tested before 17.
-pub fn make_cell(who: Who, s: u8, v: Value, cells: &mut [u64], used: usize) -> Answered
-    ensures { λ r. ⌜ after r (now (cells .exit)) ≡ makeIn who s v used (now (cells .entry)) ⌝ }
+fn make_cell(who: Who, s: Place, v: Value, cells: &mut [u64], used: usize) -> Answered
+    ensures { λ r. ⌜ after r (now (cells .exit))
+        ≡ makeIn who (s .number) v used (now (cells .entry)) ⌝ }
 {
     let owner = new_owner(who, s);
     if is_own(who, wide16(owner)) {
         if used < 256 {
-            if used < cells.len() {
-                cells[used] = cell_word(owner, v);
-                return Answered {
-                    outcome: Outcome::Is(Value::Cell(used as u8)),
-                    used: used + 1,
-                };
-            }
+            put_word(cells, used, cell_word(owner, v));
+            return Answered {
+                outcome: Outcome::Is(Value::Cell(used as u8)),
+                used: used + 1,
+            };
         }
         return Answered {
             outcome: Outcome::Spent,
@@ -203,7 +191,7 @@ fn access(who: Who, j: usize, used: usize, w: u64, x: Value) -> Outcome
 }
 
 // 25
-pub fn read_cell(who: Who, v: Value, cells: &[u64], used: usize) -> Outcome
+pub(crate) fn read_cell(who: Who, v: Value, cells: &[u64], used: usize) -> Outcome
     ensures { λ r. ⌜ r ≡ readIn who v used (now (cells .entry)) ⌝ }
 {
     match v {
@@ -231,7 +219,7 @@ fn word_after(o: Outcome, w: u64, u: Value) -> u64
 }
 
 // 17: the cell takes any value and keeps its owner.
-pub fn store_cell(who: Who, v: Value, u: Value, cells: &mut [u64], used: usize) -> Answered
+fn store_cell(who: Who, v: Value, u: Value, cells: &mut [u64], used: usize) -> Answered
     ensures { λ r. ⌜ after r (now (cells .exit)) ≡ storeIn who v u used (now (cells .entry)) ⌝ }
 {
     match v {
@@ -257,7 +245,7 @@ pub fn store_cell(who: Who, v: Value, u: Value, cells: &mut [u64], used: usize) 
 }
 
 // Only a truth goes on: 28's condition.
-pub fn a_truth(v: Value) -> Outcome
+fn a_truth(v: Value) -> Outcome
     ensures { λ r. ⌜ r ≡ aTruth v ⌝ }
 {
     match v {
@@ -303,7 +291,7 @@ fn operate_both(op: Operator, p: Operand, q: Operand) -> Outcome
     }
 }
 
-pub fn operated(op: Operator, x: Wanted, y: Wanted) -> Answered
+pub(crate) fn operated(op: Operator, x: Wanted, y: Wanted) -> Answered
     ensures { λ r. ⌜ r ≡ operatedBy op x y ⌝ }
 {
     let p = x.operand;
@@ -336,7 +324,7 @@ fn operand_of(o: Outcome) -> Operand
     }
 }
 
-pub fn as_number(x: Answered) -> Wanted
+pub(crate) fn as_number(x: Answered) -> Wanted
     ensures { λ r. ⌜ r ≡ asNumber x ⌝ }
 {
     let o = x.outcome;
@@ -359,7 +347,7 @@ fn outcome_of(p: Operand) -> Outcome
     }
 }
 
-pub fn as_answer(x: Wanted) -> Answered
+pub(crate) fn as_answer(x: Wanted) -> Answered
     ensures { λ r. ⌜ r ≡ asAnswer x ⌝ }
 {
     let p = x.operand;
@@ -370,7 +358,7 @@ pub fn as_answer(x: Wanted) -> Answered
 }
 
 // Whether it is a refusal, behind which nothing more is evaluated.
-pub fn number_stops(x: Wanted) -> bool
+pub(crate) fn number_stops(x: Wanted) -> bool
     ensures { λ r. ⌜ r ≡ operandStops (x .operand) ⌝ }
 {
     let p = x.operand;
@@ -383,7 +371,7 @@ pub fn number_stops(x: Wanted) -> bool
     }
 }
 
-pub fn stops(x: Answered) -> bool
+pub(crate) fn stops(x: Answered) -> bool
     ensures { λ r. ⌜ r ≡ outcomeStops (x .outcome) ⌝ }
 {
     let o = x.outcome;
@@ -412,7 +400,7 @@ fn branch_of(v: Value, b: usize, c: usize) -> usize
 }
 
 // The same by an outcome; a refusal chooses what is then not evaluated.
-pub fn branch(x: Answered, b: usize, c: usize) -> usize
+pub(crate) fn branch(x: Answered, b: usize, c: usize) -> usize
     ensures { λ r. ⌜ r ≡ chosenBy (x .outcome) b c ⌝ }
 {
     let o = x.outcome;
@@ -426,8 +414,9 @@ pub fn branch(x: Answered, b: usize, c: usize) -> usize
 
 // ---- each of them behind the evaluation of its last operand, whose refusal stands
 
-fn then_make(who: Who, s: u8, x: Answered, cells: &mut [u64]) -> Answered
-    ensures { λ r. ⌜ after r (now (cells .exit)) ≡ andThen (after x (now (cells .entry))) (makeIn who s) ⌝ }
+fn then_make(who: Who, s: Place, x: Answered, cells: &mut [u64]) -> Answered
+    ensures { λ r. ⌜ after r (now (cells .exit))
+        ≡ andThen (after x (now (cells .entry))) (makeIn who (s .number)) ⌝ }
 {
     let o = x.outcome;
     match o {
@@ -454,7 +443,7 @@ fn then_read(who: Who, x: Answered, cells: &[u64]) -> Answered
 }
 
 // 24 or 25
-pub fn then_use(u: CellUse, who: Who, x: Answered, cells: &mut [u64]) -> Answered
+pub(crate) fn then_use(u: CellUse, who: Who, x: Answered, cells: &mut [u64]) -> Answered
     ensures { λ r. ⌜ after r (now (cells .exit)) ≡ andThen (after x (now (cells .entry))) (usingIn who u) ⌝ }
 {
     match u {
@@ -463,7 +452,7 @@ pub fn then_use(u: CellUse, who: Who, x: Answered, cells: &mut [u64]) -> Answere
     }
 }
 
-pub fn then_store(who: Who, v: Value, x: Answered, cells: &mut [u64]) -> Answered
+pub(crate) fn then_store(who: Who, v: Value, x: Answered, cells: &mut [u64]) -> Answered
     ensures { λ r. ⌜ after r (now (cells .exit)) ≡ andThen (after x (now (cells .entry))) (storeIn who v) ⌝ }
 {
     let o = x.outcome;
@@ -475,7 +464,7 @@ pub fn then_store(who: Who, v: Value, x: Answered, cells: &mut [u64]) -> Answere
     }
 }
 
-pub fn then_truth(x: Answered) -> Answered
+pub(crate) fn then_truth(x: Answered) -> Answered
     ensures { λ r. ⌜ r ≡ only x aTruth ⌝ }
 {
     let o = x.outcome;

@@ -1,57 +1,58 @@
 -- What `Effect::with_owner` and `Effect::within` compute, return by return, with the tests that lead there as premises; what that means for the set is in Members. Assumes nothing.
-use mathlib.Core.Path.{_≡_, refl, ap}
-use mathlib.Core.Bool.{true, false}
-use Prim.Native.Nat.{ℕ, _*_, _%_, _^_, _<_, _≤_}
+use mathlib.Core.Path.{_≡_, refl, sym, ap, _∙_}
+use mathlib.Core.Bool.{Bool, true, false, not}
+use Prim.Native.Nat.{ℕ, _-_, _*_, _%_, _^_, _<_}
 use native.Mathlib.Nat.{mod-eq-of-lt, one-mul}
 use native.Mathlib.Omega.{arith}
 use lib.Pow.{pow-lt}
 use lib.Dec.{eqb}
 use lib.Bits.{bitOr}
-use borrow.Author.Tests.{lt-leb, le-leb, eq-eqb, ne-eqb}
+use borrow.Author.Tests.{eq-eqb, ne-eqb, not-true, not-false}
 use Rattle.basics.proofs.Ifs.{yes, no}
-use Rattle.language.specs.Effects.{withOwner, within}
+use Rattle.language.specs.Places.{isScheduler}
+use Rattle.language.specs.Effects.{only, withOwner, within}
 use Rattle.language.specs.declared.effect.Effect.{Effect}
+use Rattle.language.proofs.PlaceLaws.{test-bounds}
 
 -- the effect of those bits
 abbrev set : ℕ → Effect
 set n = record { bits = n }
 
 -- a scheduler's bit as the machine shifts it
-bit-of : (o : ℕ) → o ≤ 9 → 1 * 2 ^ o % 65536 ≡ 2 ^ o
-bit-of o h = rw one-mul (mod-eq-of-lt (pow-lt {j = 16} (omega arith)))
+pub bit-small : (p : ℕ) → isScheduler p ≡ true → p - 2 < 8
+bit-small p h = let (a, b) = test-bounds 2 p h in omega arith
 
--- ---- with one owner added: the owner is below the schedulers, above them, or one of them
-module _ (o : ℕ) (e : Effect) where
-  pub owner-low : o < 2 → set (e .bits) ≡ withOwner o e
+pub bit-is : (p : ℕ) → isScheduler p ≡ true → 1 * 2 ^ (p - 2) % 256 ≡ only p .bits
+bit-is p h = rw one-mul (mod-eq-of-lt (pow-lt {j = 8} (bit-small p h)))
+
+-- what the test has found
+pub scheduler-known : (o : ℕ) (b : Bool) → b ≡ isScheduler o → not b ≡ false → isScheduler o ≡ true
+scheduler-known o b t h = sym t ∙ not-false b h
+
+-- ---- with one owner added: it is a scheduler, or not
+module _ (o : ℕ) (e : Effect) (b : Bool) (t : b ≡ isScheduler o) where
+  pub owner-other : not b ≡ true → set (e .bits) ≡ withOwner o e
   unfolding withOwner
-  owner-low h = no _ (simp (lt-leb 2 o h)) refl
+  owner-other h = no _ (sym t ∙ not-true b h) refl
 
-  pub owner-high : 9 < o → set (e .bits) ≡ withOwner o e
+  pub owner-added : (n : ℕ) → not b ≡ false → n ≡ only o .bits → set (bitOr (e .bits) n) ≡ withOwner o e
   unfolding withOwner
-  owner-high h = no _ (simp (le-leb 2 o (omega arith), lt-leb o 9 h)) refl
+  owner-added n h k = yes _ (sym t ∙ not-false b h) (ap (λ (m : ℕ). set (bitOr (e .bits) m)) k)
 
-  pub owner-added : 2 ≤ o → o ≤ 9 → set (bitOr (e .bits) (1 * 2 ^ o % 65536)) ≡ withOwner o e
-  unfolding withOwner
-  owner-added l h = yes _ (simp (le-leb 2 o l, le-leb o 9 h)) (ap (λ (n : ℕ). set (bitOr (e .bits) n)) (bit-of o h))
-
-pub ruleset with-owner-laws = (owner-low, owner-high, owner-added)
+pub ruleset with-owner-laws = (owner-other, owner-added)
 
 -- ---- within a place
-module _ (p : ℕ) (e : Effect) where
-  pub within-empty : e .bits ≡ 0 → true ≡ within p e
-  unfolding within
-  within-empty h = rw (eq-eqb _ _ h)
+pub within-empty : (p : ℕ) (e : Effect) → e .bits ≡ 0 → true ≡ within p e
+unfolding within
+within-empty p e h = rw (eq-eqb _ _ h)
 
-  pub within-low : (e .bits ≡ 0 → ⊥) → p < 2 → false ≡ within p e
+module _ (p : ℕ) (e : Effect) (some : e .bits ≡ 0 → ⊥) (b : Bool) (t : b ≡ isScheduler p) where
+  pub within-private : not b ≡ true → false ≡ within p e
   unfolding within
-  within-low n h = rw (ne-eqb _ _ n, lt-leb 2 p h)
+  within-private h = rw (ne-eqb _ _ some, sym t ∙ not-true b h)
 
-  pub within-high : (e .bits ≡ 0 → ⊥) → 9 < p → false ≡ within p e
+  pub within-one : (n : ℕ) → not b ≡ false → n ≡ only p .bits → eqb (e .bits) n ≡ within p e
   unfolding within
-  within-high n h = rw (ne-eqb _ _ n, le-leb 2 p (omega arith), lt-leb p 9 h)
+  within-one n h k = rw (ne-eqb _ _ some, sym t ∙ not-false b h, k)
 
-  pub within-one : (e .bits ≡ 0 → ⊥) → 2 ≤ p → p ≤ 9 → eqb (e .bits) (1 * 2 ^ p % 65536) ≡ within p e
-  unfolding within
-  within-one n l h = rw (ne-eqb _ _ n, le-leb 2 p l, le-leb p 9 h, bit-of p h)
-
-pub ruleset within-laws = (within-empty, within-low, within-high, within-one)
+pub ruleset within-laws = (within-empty, within-private, within-one)

@@ -1,17 +1,18 @@
 -- What effects mean as sets of schedulers: membership in the empty set, in a join, with one owner added, and what it is to lie within a place. Assumes nothing.
 use mathlib.Core.Path.{_≡_, refl, sym, ap, _∙_}
 use mathlib.Core.Bool.{Bool, true, false, _&&_, _||_}
-use Prim.Native.Nat.{ℕ, zero, suc, _/_, _%_, _^_, _<_, max}
+use Prim.Native.Nat.{ℕ, zero, suc, _+_, _-_, _/_, _%_, _^_, _<_, _≤_, max}
 use native.Mathlib.Nat.{div-div-eq-div-mul, pow-suc, pow-succ', div-one, zero-div}
 use native.Mathlib.Omega.{arith}
 use native.Mathlib.Decide.{ℕ-discrete}
-use lib.Dec.{eqb}
+use lib.Dec.{leb, eqb}
 use lib.Bits.{or-step, or-shr}
-use borrow.Author.Tests.{eq-eqb, ne-eqb, eqb-true, eqb-false}
-use Rattle.basics.proofs.Ifs.{if-all, and-true, or-off}
+use borrow.Author.Tests.{le-leb, eq-eqb, ne-eqb, leb-true, eqb-true, eqb-false}
+use Rattle.basics.proofs.Ifs.{if-all, and-true, and-off, or-off}
 use Rattle.language.specs.Places.{isScheduler}
 use Rattle.language.specs.Effects.{member, noEffect, only, _∪_, withOwner, within}
 use Rattle.language.specs.declared.effect.Effect.{Effect}
+use Rattle.language.proofs.PlaceLaws.{from-home}
 
 -- ---- bits
 abbrev bit : ℕ → ℕ → ℕ
@@ -82,10 +83,13 @@ only-bit (suc p) n m f = go (only-bit p (n / 2)) (ℕ-discrete (n % 2) 1)
 
 -- the empty set has no member
 pub member-none : (p : ℕ) → member p noEffect ≡ false
-member-none p = ne-eqb (bit p 0) 1 (λ e. let z = ap (λ (m : ℕ). m % 2) (zero-div (2 ^ p)) in omega arith)
+member-none p =
+    ap (λ (b : Bool). leb 2 p && b)
+    (ne-eqb (bit (p - 2) 0) 1 (λ e. let z = ap (λ (m : ℕ). m % 2) (zero-div (2 ^ (p - 2))) in omega arith))
+    ∙ and-off (leb 2 p)
 
-bit-join : (p : ℕ) (e f : Effect) → bit p ((e ∪ f) .bits) ≡ max (bit p (e .bits)) (bit p (f .bits))
-bit-join p e f = ap (λ (n : ℕ). n % 2) (or-shr (e .bits) (f .bits) p ∙ or-step (e .bits / 2 ^ p) (f .bits / 2 ^ p)) ∙ omega arith
+bit-join : (q : ℕ) (e f : Effect) → bit q ((e ∪ f) .bits) ≡ max (bit q (e .bits)) (bit q (f .bits))
+bit-join q e f = ap (λ (n : ℕ). n % 2) (or-shr (e .bits) (f .bits) q ∙ or-step (e .bits / 2 ^ q) (f .bits / 2 ^ q)) ∙ omega arith
 
 either : (x y z : ℕ) → x < 2 → y < 2 → z ≡ max x y → eqb z 1 ≡ (eqb x 1 || eqb y 1)
 either x y z a b e = go (eqb x 1) refl (eqb y 1) refl
@@ -95,23 +99,41 @@ either x y z a b e = go (eqb x 1) refl (eqb y 1) refl
     go false f true g = let h = eqb-true y 1 g in eq-eqb z 1 (omega arith)
     go false f false g = ne-eqb z 1 (λ i. let h = eqb-false x 1 f in let k = eqb-false y 1 g in omega (arith, h, k))
 
+and-or : (a x y : Bool) → (a && (x || y)) ≡ (a && x || a && y)
+and-or true x y = refl
+and-or false x y = refl
+
 -- 'A frame joins its children's effects': a member of the join is a member of one or of the other
 pub member-join : (p : ℕ) (e f : Effect) → member p (e ∪ f) ≡ (member p e || member p f)
-member-join p e f = either (bit p (e .bits)) (bit p (f .bits)) _ (omega arith) (omega arith) (bit-join p e f)
+member-join p e f =
+    ap (λ (b : Bool). leb 2 p && b)
+    (either (bit (p - 2) (e .bits)) (bit (p - 2) (f .bits)) _ (omega arith) (omega arith) (bit-join (p - 2) e f))
+    ∙ and-or (leb 2 p) (eqb (bit (p - 2) (e .bits)) 1) (eqb (bit (p - 2) (f .bits)) 1)
 
-member-only : (p o : ℕ) → member p (only o) ≡ eqb p o
-member-only p o = go (ℕ-discrete p o)
+-- the set of one scheduler
+member-only : (p o : ℕ) → 2 ≤ o → member p (only o) ≡ eqb p o
+member-only p o l = go (ℕ-discrete p o)
   where
+    same : p ≡ o → bit (p - 2) (2 ^ (o - 2)) ≡ 1
+    same e = ap (λ (q : ℕ). bit (q - 2) (2 ^ (o - 2))) e ∙ same-bit (o - 2)
+
+    other : (p ≡ o → ⊥) → 2 ≤ p → bit (p - 2) (2 ^ (o - 2)) ≡ 1 → ⊥
+    other d h z = let k = other-bit (p - 2) (o - 2) (λ e. d (omega arith)) in omega arith
+
+    none : (p ≡ o → ⊥) → (b : Bool) → leb 2 p ≡ b → (b && eqb (bit (p - 2) (2 ^ (o - 2))) 1) ≡ false
+    none d true h = ne-eqb _ 1 (other d (leb-true 2 p h))
+    none d false h = refl
+
     go : Dec (p ≡ o) → member p (only o) ≡ eqb p o
-    go (yes e) = eq-eqb _ _ (ap (λ (q : ℕ). bit q (2 ^ o)) e ∙ same-bit o) ∙ sym (eq-eqb p o e)
-    go (no d) = ne-eqb (bit p (2 ^ o)) 1 (λ z. let k = other-bit p o d in omega arith) ∙ sym (ne-eqb p o d)
+    go (yes e) = rw (le-leb 2 p (omega arith)) (eq-eqb _ _ (same e) ∙ sym (eq-eqb p o e))
+    go (no d) = none d (leb 2 p) refl ∙ sym (ne-eqb p o d)
 
 -- '.. add the cell's owner if it is a scheduler'
 pub member-owner : (p o : ℕ) (e : Effect) → member p (withOwner o e) ≡ (member p e || isScheduler o && eqb p o)
 unfolding withOwner
 member-owner p o e =
     if-all (λ (f : Effect). member p f ≡ (member p e || isScheduler o && eqb p o)) (isScheduler o) (e ∪ only o) e
-    (λ h. rw h (member-join p e (only o) ∙ ap (λ (b : Bool). member p e || b) (member-only p o)))
+    (λ h. rw h (member-join p e (only o) ∙ ap (λ (b : Bool). member p e || b) (member-only p o (from-home o h))))
     (λ h. rw h (or-off (member p e)))
 
 -- 'within {S}, or empty when S is 1', of the members: each is p, which is a scheduler
@@ -123,21 +145,35 @@ pub within-members : (p : ℕ) (e : Effect) → within p e ≡ true → Within p
 unfolding within
 within-members p e h q m = go (eqb (e .bits) 0) refl h
   where
-    go : (t : Bool) → eqb (e .bits) 0 ≡ t → (t || isScheduler p && eqb (e .bits) (2 ^ p)) ≡ true → (q ≡ p) × (isScheduler p ≡ true)
+    has : bit (q - 2) (e .bits) ≡ 1
+    has = eqb-true _ _ (and-true (leb 2 q) _ m .1)
+
+    go : (t : Bool) → eqb (e .bits) 0 ≡ t → (t || isScheduler p && eqb (e .bits) (only p .bits)) ≡ true → (q ≡ p) × (isScheduler p ≡ true)
     go true z k =
-        let n : bit q (e .bits) ≡ 0 = ap (λ (b : ℕ). bit q b) (eqb-true _ _ z) ∙ ap (λ (a : ℕ). a % 2) (zero-div (2 ^ q)) in
-        let o : bit q (e .bits) ≡ 1 = eqb-true _ _ m in
+        let n : bit (q - 2) (e .bits) ≡ 0 = ap (λ (b : ℕ). bit (q - 2) b) (eqb-true _ _ z) ∙ ap (λ (a : ℕ). a % 2) (zero-div (2 ^ (q - 2))) in
+        let o = has in
         absurd (omega arith)
-    go false z k = let r = and-true _ _ k in (eqb-true _ _ (sym (member-only q p) ∙ ap (λ (b : ℕ). member q (record { bits = b })) (sym (eqb-true _ _ (r .1))) ∙ m), r .0)
+    go false z k =
+        let r = and-true (isScheduler p) (eqb (e .bits) (only p .bits)) k in
+        (eqb-true _ _ (sym (member-only q p (from-home p (r .0))) ∙ ap (λ (b : ℕ). member q (record { bits = b })) (sym (eqb-true _ _ (r .1))) ∙ m), r .0)
+
+-- a bit is a scheduler's
+bit-member : (q : ℕ) (e : Effect) → bit q (e .bits) ≡ 1 → member (2 + q) e ≡ true
+bit-member q e h =
+    rw (le-leb 2 (2 + q) (omega arith))
+    (eq-eqb _ _ (ap (λ (k : ℕ). bit k (e .bits)) (let z : 2 + q - 2 ≡ q = omega arith in z) ∙ h))
 
 pub members-within : (p : ℕ) (e : Effect) → Within p e → within p e ≡ true
 unfolding within
 members-within p e h = go (ℕ-discrete (e .bits) 0)
   where
-    go : Dec (e .bits ≡ 0) → (eqb (e .bits) 0 || isScheduler p && eqb (e .bits) (2 ^ p)) ≡ true
+    below : (q : ℕ) → bit q (e .bits) ≡ 1 → q ≡ p - 2
+    below q k = let z = h (2 + q) (bit-member q e k) .0 in omega arith
+
+    go : Dec (e .bits ≡ 0) → (eqb (e .bits) 0 || isScheduler p && eqb (e .bits) (only p .bits)) ≡ true
     go (yes z) = rw (eq-eqb _ _ z)
     go (no d) =
         let b = some-bit (e .bits) (e .bits) (below-power (e .bits)) d in
-        let s = h (b .0) (eq-eqb _ _ (b .1)) .1 in
-        let o = only-bit p (e .bits) d (λ q k. h q (eq-eqb _ _ k) .0) in
+        let s = h (2 + b .0) (bit-member (b .0) e (b .1)) .1 in
+        let o = only-bit (p - 2) (e .bits) d below in
         rw (ne-eqb _ _ d, s, eq-eqb _ _ o)

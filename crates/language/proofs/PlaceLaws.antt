@@ -1,12 +1,15 @@
 -- What the constructors and the tests of `Place` compute, return by return, with the tests that lead there as premises. Assumes nothing.
-use mathlib.Core.Path.{_≡_, refl}
-use mathlib.Core.Bool.{false, _&&_}
+use mathlib.Core.Path.{_≡_, refl, sym, _∙_}
+use mathlib.Core.Bool.{Bool, true, false, _&&_}
 use Prim.Native.Nat.{ℕ, _+_, _-_, _≤_, _<_}
 use native.Mathlib.Omega.{arith}
 use lib.Dec.{leb}
-use borrow.Author.Tests.{lt-leb, le-leb}
-use Rattle.basics.proofs.Ifs.{yes, no, leb-same}
-use Rattle.language.specs.Places.{isPlace, isScheduler, placeRead}
+use borrow.Author.Tests.{lt-leb, le-leb, leb-true}
+use Rattle.basics.specs.If.{if_then_else_}
+use Rattle.basics.proofs.Ifs.{yes, no, and-true, leb-same}
+use Rattle.language.specs.Places.{isPlace, isScheduler, hasPlace, hasScheduler, placeRead}
+use Rattle.language.specs.declared.Place.{Place}
+use Rattle.language.specs.declared.PlaceRead.{PlaceRead}
 use Rattle.language.specs.declared.PlaceRead.the-variants.{At, NoPlace}
 
 -- ---- a constructor whose numbers are `low` to 9: the number is too low, too high, or right
@@ -45,10 +48,70 @@ scheduler-right = by-right 2
 
 pub ruleset scheduler-laws = (scheduler-low, scheduler-high, scheduler-right)
 
--- ---- the places of a file (`low` is 1) and its schedulers (`low` is 2)
-module _ (low b p : ℕ) where
-  pub file-has-not : p < low → false ≡ (leb low p && leb p (1 + b))
-  file-has-not h = rw (lt-leb low p h)
+-- ---- what a constructor's answer says of the number: a place is that number's, and its test holds
+pub read-at : (t : Bool) (n : ℕ) (p : Place) → placeRead t n ≡ At p → (t ≡ true) × (p .number ≡ n)
+unfolding placeRead if_then_else_
+read-at true n p e = (refl, cc)
+read-at false n p e = absurd (let z : _≡_ {A = ℕ} 0 1 = cc in omega arith)
 
-  pub file-has : 1 ≤ low → low ≤ p → leb (p - 1) b ≡ (leb low p && leb p (1 + b))
-  file-has m l = rw (le-leb low p l) (leb-same (p - 1) b p (1 + b) (λ h. omega arith) (λ h. omega arith))
+pub read-none : (t : Bool) (n : ℕ) → placeRead t n ≡ NoPlace → t ≡ false
+unfolding placeRead if_then_else_
+read-none true n e = absurd (let z : _≡_ {A = ℕ} 0 1 = cc in omega arith)
+read-none false n e = refl
+
+-- a number of which it is known that it is one of `low` to 9
+pub test-bounds : (low n : ℕ) → (leb low n && leb n 9) ≡ true → (low ≤ n) × (n ≤ 9)
+test-bounds low n h = let z = and-true (leb low n) (leb n 9) h in (leb-true low n (z .0), leb-true n 9 (z .1))
+
+pub from-home : (n : ℕ) → isScheduler n ≡ true → 2 ≤ n
+from-home n h = test-bounds 2 n h .0
+
+pub fits-byte : (n : ℕ) → isPlace n ≡ true → n < 256
+fits-byte n h = let (a, b) = test-bounds 1 n h in omega arith
+
+-- a scheduler's number is a place's
+pub scheduler-place : (n : ℕ) → isScheduler n ≡ true → isPlace n ≡ true
+scheduler-place n h = let z = test-bounds 2 n h in rw (le-leb 1 n (let (a, b) = z in omega arith), le-leb n 9 (z .1))
+
+-- ---- whether a place is a scheduler
+module _ (n : ℕ) where
+  pub scheduler-under : n < 2 → false ≡ isScheduler n
+  scheduler-under h = rw (lt-leb 2 n h)
+
+  pub scheduler-up-to : 2 ≤ n → leb n 9 ≡ isScheduler n
+  scheduler-up-to h = rw (le-leb 2 n h)
+
+pub ruleset is-scheduler-laws = (scheduler-under, scheduler-up-to)
+
+-- ---- the places of a file (`low` is 1) and its schedulers (`low` is 2)
+module _ (low b n : ℕ) (x : PlaceRead) (e : x ≡ placeRead (leb low n && leb n 9) n) where
+  pub file-has-not : x ≡ NoPlace → false ≡ (leb low n && leb n 9 && leb n (1 + b))
+  file-has-not h = rw (read-none (leb low n && leb n 9) n (sym e ∙ h))
+
+  module _ (p : Place) (h : x ≡ At p) (l : 1 ≤ low) where
+    there : ((leb low n && leb n 9) ≡ true) × (p .number ≡ n)
+    there = read-at (leb low n && leb n 9) n p (sym e ∙ h)
+
+    pub file-some : 1 ≤ p .number
+    file-some = let a = test-bounds low n (there .0) in let q = there .1 in let (c, d) = a in omega arith
+
+    pub file-has : leb (p .number - 1) b ≡ (leb low n && leb n 9 && leb n (1 + b))
+    file-has =
+        let q = there .1 in
+        let s = file-some in
+        rw (there .0)
+        (leb-same (p .number - 1) b n (1 + b) (λ k. omega arith) (λ k. omega arith))
+
+-- ---- what is known of a place and of a scheduler of a file
+pub has-place : (b n : ℕ) → hasPlace b n ≡ true → (isPlace n ≡ true) × (n ≤ 1 + b)
+has-place b n h = let z = and-true (isPlace n) (leb n (1 + b)) h in (z .0, leb-true n (1 + b) (z .1))
+
+pub has-scheduler : (b n : ℕ) → hasScheduler b n ≡ true → (isScheduler n ≡ true) × (n ≤ 1 + b)
+has-scheduler b n h = let z = and-true (isScheduler n) (leb n (1 + b)) h in (z .0, leb-true n (1 + b) (z .1))
+
+-- one that is not private is a scheduler
+pub place-scheduler : (b n : ℕ) → hasPlace b n ≡ true → (n ≡ 1 → ⊥) → hasScheduler b n ≡ true
+place-scheduler b n h d =
+    let (p, m) = has-place b n h in
+    let (l, k) = test-bounds 1 n p in
+    rw (le-leb 2 n (omega (arith, d)), le-leb n 9 k, le-leb n (1 + b) m)

@@ -1,13 +1,18 @@
 -- What the functions on type words compute, return by return, with the tests that lead there as premises: a ruleset for each function. Assumes nothing.
-use mathlib.Core.Bool.{Bool, true, false, not, _&&_, _||_}
+use mathlib.Core.Bool.{Bool, true, false, not, _&&_, _||_, true≢false}
 use mathlib.Core.Path.{_≡_, refl, sym, ap, _∙_}
 use Prim.Native.Nat.{ℕ, suc, _+_, _-_, _*_, _/_, _%_, _^_, _<_, _≤_}
 use native.Mathlib.Omega.{arith}
 use lib.Dec.{leb, eqb}
 use borrow.Author.Tests.{lt-ltb, le-ltb, le-leb, lt-leb, eq-eqb, ne-eqb, eqb-false, not-true, not-false}
 use Rattle.basics.proofs.Ifs.{yes, no, and-off}
+use Rattle.language.specs.Places.{isPlace, hasPlace, placeRead}
 use Rattle.language.specs.Types.{cellDepth, cellType, ownerOf, contentOf, cellRead, isCell, public, ownerDigit, typeWord, contentWord, digitOf}
+use Rattle.language.specs.declared.Place.{Place}
+use Rattle.language.specs.declared.PlaceRead.{PlaceRead}
+use Rattle.language.specs.declared.PlaceRead.the-variants.{At, NoPlace}
 use Rattle.language.specs.declared.type_word.CellRead.the-variants.{Word, TooDeep}
+use Rattle.language.proofs.PlaceLaws.{read-at, read-none}
 
 -- ---- how deep a type is, by its size
 pub depth-0 : (t : ℕ) → t < 0x0010 → 0 ≡ cellDepth t
@@ -29,21 +34,22 @@ depth-3 t a b h = no _ (le-ltb _ _ a) (no _ (le-ltb _ _ b) (no _ (le-ltb _ _ h) 
 pub ruleset depth-laws = (depth-0, depth-1, depth-2, depth-3)
 
 -- ---- the parts of a word, from its depth
-by-owner : (t d r : ℕ) → d ≡ cellDepth t → r ≡ t / 16 ^ d → r ≡ ownerOf t
+by-owner : (t d r : ℕ) → 0x0010 ≤ t → d ≡ cellDepth t → r ≡ t / 16 ^ d → r ≡ ownerOf t
 unfolding ownerOf
-by-owner t d r e h = h ∙ ap (λ (n : ℕ). t / 16 ^ n) e
+by-owner t d r c e h = yes _ (le-leb 0x0010 t c) (h ∙ ap (λ (n : ℕ). t / 16 ^ n) e)
 
-pub owner-0 : (t : ℕ) → t < 0x0010 → t % 256 ≡ ownerOf t
-owner-0 t h = by-owner t 0 _ (depth-0 t h) (omega arith)
+pub owner-0 : (t : ℕ) → t < 0x0010 → 0 ≡ ownerOf t
+unfolding ownerOf
+owner-0 t h = no _ (lt-leb 0x0010 t h) refl
 
 pub owner-1 : (t : ℕ) → 0x0010 ≤ t → t < 0x0100 → t / 0x0010 ≡ ownerOf t
-owner-1 t a h = by-owner t 1 _ (depth-1 t a h) refl
+owner-1 t a h = by-owner t 1 _ a (depth-1 t a h) refl
 
 pub owner-2 : (t : ℕ) → 0x0010 ≤ t → 0x0100 ≤ t → t < 0x1000 → t / 0x0100 ≡ ownerOf t
-owner-2 t a b h = by-owner t 2 _ (depth-2 t a b h) refl
+owner-2 t a b h = by-owner t 2 _ a (depth-2 t a b h) refl
 
 pub owner-3 : (t : ℕ) → 0x0010 ≤ t → 0x0100 ≤ t → 0x1000 ≤ t → t / 0x1000 ≡ ownerOf t
-owner-3 t a b h = by-owner t 3 _ (depth-3 t a b h) refl
+owner-3 t a b h = by-owner t 3 _ a (depth-3 t a b h) refl
 
 pub ruleset owner-laws = (owner-0, owner-1, owner-2, owner-3)
 
@@ -93,16 +99,23 @@ cell-too-deep o t h = no _ (rw (le-ltb t 0x1000 h, and-off)) refl
 
 pub ruleset cell-type-laws = (cell-owner-low, cell-owner-high, cell-around-0, cell-around-1, cell-around-2, cell-too-deep)
 
--- ---- public types
-pub public-cell : (t o : ℕ) (x : Bool) → x ≡ isCell t → x ≡ true → o ≡ ownerOf t → not (eqb o 1) ≡ public t
-unfolding public
-public-cell t o x c n e = rw (sym c ∙ n, e)
+-- ---- the owner read as a place
+pub owner-read : (t o : ℕ) (x : PlaceRead) → o ≡ ownerOf t → x ≡ placeRead (isPlace o) o → x ≡ placeRead (isPlace (ownerOf t)) (ownerOf t)
+owner-read t o x e h = h ∙ ap (λ (n : ℕ). placeRead (isPlace n) n) e
 
-pub public-basic : (t : ℕ) (x : Bool) → x ≡ isCell t → x ≡ false → true ≡ public t
-unfolding public
-public-basic t x c n = rw (sym c ∙ n)
+-- ---- public types: a place that is not 1, or no place at all
+module _ (t : ℕ) (x : PlaceRead) (e : x ≡ placeRead (isPlace (ownerOf t)) (ownerOf t)) where
+  pub public-owned : (p : Place) (y : Bool) → x ≡ At p → y ≡ eqb (p .number) 1 → not y ≡ public t
+  unfolding public
+  public-owned p y h f = ap not (f ∙ ap (λ (n : ℕ). eqb n 1) (read-at (isPlace (ownerOf t)) (ownerOf t) p (sym e ∙ h) .1))
 
-pub ruleset public-laws = (public-cell, public-basic)
+  pub public-unowned : x ≡ NoPlace → true ≡ public t
+  unfolding public
+  public-unowned h =
+      rw (ne-eqb (ownerOf t) 1
+      (λ k. true≢false (sym (ap isPlace k) ∙ read-none (isPlace (ownerOf t)) (ownerOf t) (sym e ∙ h))))
+
+pub ruleset public-laws = (public-owned, public-unowned)
 
 -- ---- an owner's digit
 module _ (b left o : ℕ) where
@@ -110,20 +123,21 @@ module _ (b left o : ℕ) where
   unfolding ownerDigit
   digit-0 e = yes _ (eq-eqb _ _ e) refl
 
-  by-digit : (r : Bool) → (o ≡ 0 → ⊥) → r ≡ ((leb 1 o && leb o (1 + b)) && (not (eqb o 1) || leb left 1)) → r ≡ ownerDigit b left o
+  by-digit : (r : Bool) → (o ≡ 0 → ⊥) → r ≡ (hasPlace b o && (not (eqb o 1) || leb left 1)) → r ≡ ownerDigit b left o
   unfolding ownerDigit
   by-digit r n h = no _ (ne-eqb _ _ n) h
 
-  pub digit-high : (o ≡ 0 → ⊥) → b < o - 1 → false ≡ ownerDigit b left o
-  digit-high n h = by-digit false n (rw (lt-leb o (1 + b) (omega arith), and-off))
+  module _ (n : o ≡ 0 → ⊥) (x : Bool) (f : x ≡ hasPlace b o) where
+    pub digit-none : not x ≡ true → false ≡ ownerDigit b left o
+    digit-none h = by-digit false n (rw (sym f ∙ not-true x h))
 
-  pub digit-1 : (o ≡ 0 → ⊥) → o - 1 ≤ b → o ≡ 1 → leb left 1 ≡ ownerDigit b left o
-  digit-1 n h e = by-digit _ n (rw (le-leb 1 o (omega arith), le-leb o (1 + b) (omega arith), eq-eqb o 1 e))
+    pub digit-private : not x ≡ false → o ≡ 1 → leb left 1 ≡ ownerDigit b left o
+    digit-private h e = by-digit _ n (rw (sym f ∙ not-false x h, eq-eqb o 1 e))
 
-  pub digit-more : (o ≡ 0 → ⊥) → o - 1 ≤ b → (o ≡ 1 → ⊥) → true ≡ ownerDigit b left o
-  digit-more n h e = by-digit _ n (rw (le-leb 1 o (omega arith), le-leb o (1 + b) (omega arith), ne-eqb o 1 e))
+    pub digit-scheduler : not x ≡ false → (o ≡ 1 → ⊥) → true ≡ ownerDigit b left o
+    digit-scheduler h e = by-digit _ n (rw (sym f ∙ not-false x h, ne-eqb o 1 e))
 
-pub ruleset digit-laws = (digit-0, digit-high, digit-1, digit-more)
+pub ruleset digit-laws = (digit-0, digit-none, digit-private, digit-scheduler)
 
 -- ---- a type word, digit by digit: the last, then the owners from the right
 module _ (b t : ℕ) where

@@ -1,15 +1,15 @@
--- 'An effect is a set of schedulers.' The set is a number: the scheduler p is a member where bit p is set. Assumes nothing: definitions; what they mean as sets is proved in proofs/Members.
+-- 'An effect is a set of schedulers.' The set is a number below 256: the scheduler p is a member where bit p - 2 is set. Assumes nothing: definitions; what they mean as sets is proved in proofs/Members.
 use mathlib.Core.Bool.{Bool, _||_, _&&_}
-use Prim.Native.Nat.{ℕ, _/_, _%_, _^_}
-use lib.Dec.{eqb}
+use Prim.Native.Nat.{ℕ, _-_, _/_, _%_, _^_}
+use lib.Dec.{leb, eqb}
 use lib.Bits.{bitOr}
 use Rattle.basics.specs.If.{if_then_else_}
-use Rattle.language.specs.Places.{isScheduler}
+use Rattle.language.specs.Places.{home, isScheduler}
 use Rattle.language.specs.declared.effect.Effect.{Effect}
 
 -- the scheduler p is a member of e
 abbrev pub member : ℕ → Effect → Bool
-member p e = eqb (e .bits / 2 ^ p % 2) 1
+member p e = leb home p && eqb (e .bits / 2 ^ (p - home) % 2) 1
 
 -- the empty set
 abbrev pub noEffect : Effect
@@ -17,7 +17,7 @@ noEffect = record { bits = 0 }
 
 -- the set {p}
 abbrev pub only : ℕ → Effect
-only p = record { bits = 2 ^ p }
+only p = record { bits = 2 ^ (p - home) }
 
 infixl 60 _∪_
 -- 'A frame joins its children's effects.'
@@ -30,4 +30,4 @@ withOwner o e = if isScheduler o then e ∪ only o else e
 
 -- 'within {S}, or empty when S is 1'
 unfoldable pub within : ℕ → Effect → Bool
-within p e = eqb (e .bits) 0 || isScheduler p && eqb (e .bits) (2 ^ p)
+within p e = eqb (e .bits) 0 || isScheduler p && eqb (e .bits) (only p .bits)

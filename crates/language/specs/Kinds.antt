@@ -1,9 +1,11 @@
 -- The table of kinds: each kind's number, and what each of its fields holds. Assumes nothing: definitions.
+use mathlib.Core.Path.{_≡_}
 use mathlib.Core.Bool.{Bool, true, false}
 use mathlib.Core.List.{List, [], _∷_, _++_}
 use Prim.Native.Nat.{ℕ, zero, suc}
 use lib.Dec.{eqb}
 use Rattle.basics.specs.If.{if_then_else_}
+use Rattle.language.specs.Places.{isPlace}
 use Rattle.language.specs.declared.kind.StatementKind.{StatementKind}
 use Rattle.language.specs.declared.kind.StatementKind.the-variants.{Nothing, Then, DoAt, Start, StartWait, Cooperate, Let, Store, If, While}
 use Rattle.language.specs.declared.kind.ExpressionKind.{ExpressionKind}
@@ -124,6 +126,10 @@ uses (Statement k) = statementUses k
 uses (Expression k) = expressionUses k
 -- the kind is the fault
 uses Unknown = sabc Use.Free Use.Free Use.Free Use.Free
+
+-- where S is to name a place, it names one: 5 refuses any other frame
+abbrev pub NamesPlace : Frame → Type 0
+NamesPlace f = uses (f .kind) .s ≡ Use.Place → isPlace (f .s) ≡ true
 
 -- '10 to 19 are statements, 20 to 28 expressions.'
 abbrev pub classOf : Kind → Class

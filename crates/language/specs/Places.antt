@@ -24,10 +24,10 @@ isScheduler p = leb home p && leb p lastScheduler
 
 -- p is a place, and a scheduler, of a file with b schedulers: 'a file has 2 to 1+B'
 abbrev pub hasPlace : ℕ → ℕ → Bool
-hasPlace b p = leb private p && leb p (1 + b)
+hasPlace b p = isPlace p && leb p (1 + b)
 
 abbrev pub hasScheduler : ℕ → ℕ → Bool
-hasScheduler b p = leb home p && leb p (1 + b)
+hasScheduler b p = isScheduler p && leb p (1 + b)
 
 -- what a constructor of places answers at the number n, by its test
 unfoldable pub placeRead : Bool → ℕ → PlaceRead

@@ -25,9 +25,9 @@ isCell t = leb 0x0010 t
 unfoldable pub cellType : ℕ → ℕ → ℕ
 cellType o t = o * 16 ^ suc (cellDepth t) + t
 
--- of a cell's type: the outermost owner, and the type of what the cell holds
+-- of a cell's type: the outermost owner, 0 where the type is no cell's; and the type of what the cell holds
 unfoldable pub ownerOf : ℕ → ℕ
-ownerOf t = t / 16 ^ cellDepth t
+ownerOf t = if isCell t then t / 16 ^ cellDepth t else 0
 
 unfoldable pub contentOf : ℕ → ℕ
 contentOf t = t % 16 ^ cellDepth t
@@ -38,7 +38,7 @@ roomAround t = ltb t 0x1000
 
 -- 'Public: the outermost owner isn't 1.'
 unfoldable pub public : ℕ → Bool
-public t = not (isCell t && eqb (ownerOf t) private)
+public t = not (eqb (ownerOf t) private)
 
 -- the digit k of a word, from the right
 abbrev pub digitOf : ℕ → ℕ → ℕ

@@ -1,12 +1,21 @@
 // Effects: which schedulers' cells a statement or an expression may access.
 use crate::Place;
 ghost use mathlib.Core.Path.{_≡_};
-ghost use lib.Dec.{eqb};
-ghost use Rattle.language.specs.Effects.{noEffect, _∪_, withOwner, within};
+ghost use mathlib.Core.Bool.{true};
+ghost use Rattle.language.specs.Places.{isScheduler};
+ghost use Rattle.language.specs.Effects.{noEffect, only, _∪_, withOwner, within};
 
-// A set of schedulers, 2 to 9: the scheduler p is a member where bit p is set.
+// A set of schedulers, 2 to 9, a bit for each: scheduler p is a member where bit p - 2 is set. So each number is a set of schedulers.
 pub struct Effect {
-    bits: u16,
+    bits: u8,
+}
+
+// The bit of a scheduler.
+fn bit_of(place: Place) -> u8
+    requires { ⌜ isScheduler (place .number) ≡ true ⌝ }
+    ensures { λ r. ⌜ r ≡ only (place .number) .bits ⌝ }
+{
+    1u8 << (place.number - Place::HOME.number)
 }
 
 impl Effect {
@@ -17,22 +26,16 @@ impl Effect {
     }
 
     // The set as a number, and back: for an effect kept in a word.
-    pub fn number(self) -> u16
+    pub fn number(self) -> u8
         ensures { λ r. ⌜ r ≡ self .bits ⌝ }
     {
         self.bits
     }
 
-    pub fn from_number(bits: u16) -> Self
+    pub fn from_number(bits: u8) -> Self
         ensures { λ r. ⌜ r ≡ record { bits = bits } ⌝ }
     {
         Self { bits }
-    }
-
-    pub fn is_empty(self) -> bool
-        ensures { λ r. ⌜ r ≡ eqb (self .bits) 0 ⌝ }
-    {
-        self.bits == 0
     }
 
     // Both sets together.
@@ -45,18 +48,15 @@ impl Effect {
     }
 
     // With one owner added, if that is a scheduler.
-    pub fn with_owner(self, owner: u8) -> Self
-        ensures { λ r. ⌜ r ≡ withOwner owner self ⌝ }
+    pub fn with_owner(self, owner: Place) -> Self
+        ensures { λ r. ⌜ r ≡ withOwner (owner .number) self ⌝ }
     {
         let bits = self.bits;
-        if owner < Place::HOME.number {
-            return Self { bits };
-        }
-        if Place::LAST_SCHEDULER.number < owner {
+        if !owner.is_scheduler() {
             return Self { bits };
         }
         Self {
-            bits: bits | (1u16 << owner),
+            bits: bits | bit_of(owner),
         }
     }
 
@@ -65,16 +65,12 @@ impl Effect {
         ensures { λ r. ⌜ r ≡ within (place .number) self ⌝ }
     {
         let bits = self.bits;
-        let p = place.number;
         if bits == 0 {
             return true;
         }
-        if p < Place::HOME.number {
+        if !place.is_scheduler() {
             return false;
         }
-        if Place::LAST_SCHEDULER.number < p {
-            return false;
-        }
-        bits == 1u16 << p
+        bits == bit_of(place)
     }
 }

@@ -168,7 +168,7 @@ pub fn class_of(k: Kind) -> Class
 }
 
 // The fields of a statement.
-pub fn statement_uses(k: StatementKind) -> Uses
+fn statement_uses(k: StatementKind) -> Uses
     ensures { λ r. ⌜ r ≡ statementUses k ⌝ }
 {
     match k {
@@ -191,7 +191,7 @@ pub fn statement_uses(k: StatementKind) -> Uses
 }
 
 // The fields of an expression.
-pub fn expression_uses(k: ExpressionKind) -> Uses
+fn expression_uses(k: ExpressionKind) -> Uses
     ensures { λ r. ⌜ r ≡ expressionUses k ⌝ }
 {
     match k {

@@ -1,7 +1,9 @@
 // The words of the language: places here, and type words, effects, kinds of frames, frames and verdicts in modules.
 ghost use mathlib.Core.Path.{_≡_};
+ghost use mathlib.Core.Bool.{true};
+ghost use Prim.Native.Nat.{_-_};
 ghost use lib.Dec.{eqb};
-ghost use Rattle.language.specs.Places.{private, isPlace, isScheduler, hasPlace, hasScheduler, placeRead};
+ghost use Rattle.language.specs.Places.{private, home, isPlace, isScheduler, hasPlace, hasScheduler, placeRead};
 
 pub mod effect;
 pub mod frame;
@@ -28,29 +30,51 @@ impl Place {
     pub const LAST_SCHEDULER: Place = Place { number: 9 };
 
     // The place of that number.
-    pub fn new(n: u8) -> PlaceRead
+    pub fn new(n: u64) -> PlaceRead
         ensures { λ r. ⌜ r ≡ placeRead (isPlace n) n ⌝ }
     {
-        if n < Place::PRIVATE.number {
+        if n < Place::PRIVATE.number as u64 {
             return PlaceRead::NoPlace;
         }
-        if Place::LAST_SCHEDULER.number < n {
+        if (Place::LAST_SCHEDULER.number as u64) < n {
             return PlaceRead::NoPlace;
         }
-        PlaceRead::At(Place { number: n })
+        PlaceRead::At(Place { number: n as u8 })
     }
 
     // The scheduler of that number.
-    pub fn scheduler(n: u8) -> PlaceRead
+    pub fn scheduler(n: u64) -> PlaceRead
         ensures { λ r. ⌜ r ≡ placeRead (isScheduler n) n ⌝ }
     {
-        if n < Place::HOME.number {
+        if n < Place::HOME.number as u64 {
             return PlaceRead::NoPlace;
         }
-        if Place::LAST_SCHEDULER.number < n {
+        if (Place::LAST_SCHEDULER.number as u64) < n {
             return PlaceRead::NoPlace;
         }
-        PlaceRead::At(Place { number: n })
+        PlaceRead::At(Place { number: n as u8 })
+    }
+
+    // The place of a number that has been found to be one: S of a frame that passes refusal 5, a word of a state in range. So no answer
+    // is needed for the others: the contract refuses them.
+    pub fn known(n: u64) -> Self
+        requires { ⌜ isPlace n ≡ true ⌝ }
+        ensures { λ r. ⌜ r ≡ record { number = n } ⌝ }
+    {
+        Place { number: n as u8 }
+    }
+
+    pub fn number(self) -> u8
+        ensures { λ r. ⌜ r ≡ self .number ⌝ }
+    {
+        self.number
+    }
+
+    // As a word of a state has it.
+    pub fn word(self) -> u64
+        ensures { λ r. ⌜ r ≡ self .number ⌝ }
+    {
+        self.number as u64
     }
 
     pub fn is_private(self) -> bool
@@ -59,29 +83,46 @@ impl Place {
         self.number == Place::PRIVATE.number
     }
 
-    // A file with so many schedulers has this place.
-    pub fn in_file(self, schedulers: u8) -> bool
-        ensures { λ r. ⌜ r ≡ hasPlace schedulers (self .number) ⌝ }
+    pub fn is_same(self, other: Place) -> bool
+        ensures { λ r. ⌜ r ≡ eqb (self .number) (other .number) ⌝ }
     {
-        if self.number < Place::PRIVATE.number {
-            return false;
-        }
-        self.number - 1 <= schedulers
+        self.number == other.number
     }
 
-    // A file with so many schedulers has this one.
-    pub fn is_scheduler_in_file(self, schedulers: u8) -> bool
-        ensures { λ r. ⌜ r ≡ hasScheduler schedulers (self .number) ⌝ }
+    pub fn is_scheduler(self) -> bool
+        ensures { λ r. ⌜ r ≡ isScheduler (self .number) ⌝ }
     {
         if self.number < Place::HOME.number {
             return false;
         }
-        self.number - 1 <= schedulers
+        self.number <= Place::LAST_SCHEDULER.number
     }
 
-    pub fn number(self) -> u8
-        ensures { λ r. ⌜ r ≡ self .number ⌝ }
+    // Which of the schedulers it is, from 0.
+    pub fn index(self) -> usize
+        requires { ⌜ isScheduler (self .number) ≡ true ⌝ }
+        ensures { λ r. ⌜ r ≡ self .number - home ⌝ }
     {
-        self.number
+        (self.number - Place::HOME.number) as usize
+    }
+
+    // Whether the number names a place of a file with so many schedulers.
+    pub fn is_in_file(n: u64, schedulers: u8) -> bool
+        ensures { λ r. ⌜ r ≡ hasPlace schedulers n ⌝ }
+    {
+        match Place::new(n) {
+            PlaceRead::At(p) => p.number - Place::PRIVATE.number <= schedulers,
+            PlaceRead::NoPlace => false,
+        }
+    }
+
+    // Whether the number names a scheduler of a file with so many.
+    pub fn is_scheduler_in_file(n: u64, schedulers: u8) -> bool
+        ensures { λ r. ⌜ r ≡ hasScheduler schedulers n ⌝ }
+    {
+        match Place::scheduler(n) {
+            PlaceRead::At(p) => p.number - Place::PRIVATE.number <= schedulers,
+            PlaceRead::NoPlace => false,
+        }
     }
 }

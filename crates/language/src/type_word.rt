@@ -1,6 +1,8 @@
 // Type words: four hexadecimal digits, the owners of nested cells from the outside in, then 1 (number) or 2 (truth).
 use crate::Place;
+use crate::PlaceRead;
 ghost use mathlib.Core.Path.{_≡_};
+ghost use Rattle.language.specs.Places.{isPlace, placeRead};
 ghost use Rattle.language.specs.Types.{cellDepth, isCell, ownerOf, contentOf, public, ownerDigit, typeWord, contentWord, cellRead};
 
 pub const NUMBER: u16 = 0x0001;
@@ -13,7 +15,7 @@ pub enum CellRead {
     TooDeep,
 }
 
-pub fn cell_depth(t: u16) -> u8
+fn cell_depth(t: u16) -> u8
     ensures { λ r. ⌜ r ≡ cellDepth t ⌝ }
 {
     if t < 0x0010 {
@@ -34,20 +36,27 @@ pub fn is_cell(t: u16) -> bool
     0x0010 <= t
 }
 
-// The outermost owner of a cell's type.
-pub fn owner_of(t: u16) -> u8
+// The leftmost digit of a cell's type, its outermost owner; 0 where it is no cell's.
+fn owner_digit(t: u16) -> u16
     ensures { λ r. ⌜ r ≡ ownerOf t ⌝ }
 {
     if t < 0x0010 {
-        return (t % 256) as u8;
+        return 0;
     }
     if t < 0x0100 {
-        return (t / 0x0010) as u8;
+        return t / 0x0010;
     }
     if t < 0x1000 {
-        return (t / 0x0100) as u8;
+        return t / 0x0100;
     }
-    (t / 0x1000) as u8
+    t / 0x1000
+}
+
+// The outermost owner of a cell's type; a number and a truth have none.
+pub fn owner_of(t: u16) -> PlaceRead
+    ensures { λ r. ⌜ r ≡ placeRead (isPlace (ownerOf t)) (ownerOf t) ⌝ }
+{
+    Place::new(owner_digit(t) as u64)
 }
 
 // The type of what a cell of that type holds.
@@ -69,10 +78,10 @@ pub fn content_of(t: u16) -> u16
 pub fn is_public(t: u16) -> bool
     ensures { λ r. ⌜ r ≡ public t ⌝ }
 {
-    if is_cell(t) {
-        return owner_of(t) != Place::PRIVATE.number;
+    match owner_of(t) {
+        PlaceRead::At(owner) => !owner.is_private(),
+        PlaceRead::NoPlace => true,
     }
-    true
 }
 
 // The type of a cell of that owner around a type.
@@ -105,11 +114,11 @@ fn is_owner_digit(schedulers: u8, left: u16, o: u16) -> bool
     if o == 0 {
         return left == 0;
     }
-    if (schedulers as u16) < o - 1 {
+    if !Place::is_in_file(o as u64, schedulers) {
         return false;
     }
-    if o == 1 {
-        return left <= 1;
+    if o == Place::PRIVATE.number as u16 {
+        return left <= Place::PRIVATE.number as u16;
     }
     true
 }

@@ -1,22 +1,23 @@
 -- What the answer of `lay_out` means: where it is `Accepted`, the lines kept are frames without fault; its verdict is the one that `HasLayout` allows. Assumes nothing.
-use mathlib.Core.Path.{_≡_, refl, sym, ap, _∙_}
+use mathlib.Core.Path.{_≡_, refl, sym, ap, subst, _∙_}
 use mathlib.Core.List.{List}
 use Prim.Native.Nat.{ℕ, _≤_, _<_}
 use native.Mathlib.Omega.{arith}
 use lib.ListN.{length, take}
 use Rattle.language.specs.declared.verdict.Verdict.{Verdict}
-use Rattle.language.specs.declared.verdict.Verdict.the-variants.{Accepted}
+use Rattle.language.specs.declared.verdict.Verdict.the-variants.{Accepted, Rejected}
 use Rattle.text.specs.Frames.{framesOf, textFrames}
 use Rattle.text.specs.Reading.{Reading, frames, refused, reading, Reads, textRead, linesRead, textWords}
-use Rattle.text.specs.declared.reading.TextRead.the-variants.{Frames}
+use Rattle.text.specs.declared.reading.TextRead.the-variants.{Frames, Refused}
+use Rattle.text.specs.declared.reading.TextWords.{TextWords}
 use Rattle.text.proofs.Readings.{reads, reads-one, some-frame}
 use Rattle.text.proofs.ReadLaws.{read-field}
 use Rattle.layout.specs.declared.LaidOut.{LaidOut}
 use Rattle.layout.specs.Faults.{NoFault}
 use Rattle.layout.specs.Scans.{layoutOf}
-use Rattle.layout.specs.LaidOut.{HasLayout, layoutRead, layoutVerdict, laidOut}
+use Rattle.layout.specs.LaidOut.{HasLayout, Judged, layoutRead, layoutVerdict, laidOut}
 use Rattle.layout.proofs.Layouts.{layout-says, layout-one}
-use Rattle.layout.proofs.Answers.{Whole, whole, frames-are, verdict-is}
+use Rattle.layout.proofs.Answers.{Whole, whole, frames-are, verdict-is, laid-refused, laid-whole}
 use Rattle.layout.proofs.Scopes.{accepted-no-fault}
 
 -- the text passes 1 to 7: its frames are those of the lines kept, at most 1,024, and have no fault
@@ -69,3 +70,21 @@ pub layout-only : {bs : List ℕ} {v : Verdict} → HasLayout bs v → v ≡ lay
 unfolding layoutVerdict
 layout-only {bs} (HasLayout.text h) = ap layoutRead (reads-one h (reads bs))
 layout-only {bs} {v} (HasLayout.layout {fs = fs} h s) = layout-one fs v (layoutOf fs) s (layout-says fs (some-frame h refl)) ∙ ap layoutRead (reads-one h (reads bs))
+
+judged : (bs : List ℕ) (l : LaidOut) → l ≡ laidOut bs → Judged bs (l .verdict)
+judged bs l e =
+    let v : l .verdict ≡ layoutVerdict bs = verdict-is bs l e in
+    record {
+      says = subst (HasLayout bs) (sym v) (has-layout bs);
+      only = λ other h. layout-only h ∙ sym v;
+    }
+
+-- of each answer of `lay_out`
+module _ (bs : List ℕ) (t : TextWords) (h : t ≡ textWords bs) where
+  pub judged-refused : (n j : ℕ) → t .read ≡ Refused n j → Judged bs (Rejected n j)
+  judged-refused n j e = judged bs _ (laid-refused bs t h n j e)
+
+  pub judged-whole : (n : ℕ) → t .read ≡ Frames n → (v : Verdict) → v ≡ layoutOf (framesOf (take n (t .words))) → Judged bs v
+  judged-whole n e v q = judged bs _ (laid-whole bs t h n e v q)
+
+pub ruleset judged-laws = (judged-refused, judged-whole)

@@ -14,7 +14,8 @@ use Rattle.program.specs.Trees.{Expr, Stmt, rootE, rootS, frameAt, expressionOf
 use Rattle.program.proofs.Roots.{expression-root-to, expression-root, statement-root-to}
 use Rattle.layout.proofs.Placed.{PlacedE, PlacedEs, PlacedS}
 use Rattle.layout.specs.Order.{Tree, Row}
-use Rattle.layout.proofs.Trees.{tree-le, row-le, One, Two, Three, one-of, two-of, three-of, childrenAs, row-as}
+use Rattle.program.proofs.NodeLaws.{childrenAs}
+use Rattle.layout.proofs.Trees.{tree-le, row-le, One, Two, Three, one-of, two-of, three-of, row-as}
 
 -- ---- expressions: of a kind (`expressionOf`), down to a bound (`expressionTo`), at a frame (`expressionAt`)
 from-e : {lo lo' : ℕ} {x : Expr} → lo ≡ lo' → PlacedE lo x → PlacedE lo' x

@@ -1,6 +1,6 @@
 -- How the code tests the header and the values of fields: places, types, first contents; and how it gives a shared cell's type. Assumes nothing.
-use mathlib.Core.Path.{_≡_, refl, sym, ap, ap₂, _∙_}
-use mathlib.Core.Bool.{Bool, true, false, not, _&&_, _||_, true≢false}
+use mathlib.Core.Path.{_≡_, refl, sym, ap, _∙_}
+use mathlib.Core.Bool.{Bool, true, false, not, _&&_, _||_}
 use mathlib.Core.List.{List}
 use mathlib.Core.Option.{Option, none, some}
 use Prim.Native.Nat.{ℕ, _+_, _%_, _≤_, _<_}
@@ -8,15 +8,13 @@ use native.Mathlib.Omega.{arith}
 use lib.Dec.{leb, eqb}
 use lib.ListN.{length, getD, take, length-take}
 use lib.Seq.{getD-take}
-use borrow.Author.Tests.{lt-ltb, le-ltb, le-leb, lt-leb, leb-true, leb-false, eq-eqb, ne-eqb, not-true, not-false}
+use borrow.Author.Tests.{lt-ltb, le-ltb, le-leb, lt-leb, leb-true, eq-eqb, ne-eqb, not-true, not-false}
 use Rattle.basics.specs.If.{if_then_else_}
-use Rattle.basics.proofs.Ifs.{yes, no, if-yes, if-all, and-true, and-off}
+use Rattle.basics.proofs.Ifs.{yes, no, if-yes, if-all, and-true}
 use Rattle.language.specs.Kinds.{isHeader}
-use Rattle.language.specs.Places.{isPlace, isScheduler, hasPlace, hasScheduler, placeRead}
+use Rattle.language.specs.Places.{isPlace, hasPlace, hasScheduler}
 use Rattle.language.specs.Types.{cellType, isCell, typeWord, roomAround, cellRead}
 use Rattle.language.specs.declared.Place.{Place}
-use Rattle.language.specs.declared.PlaceRead.{PlaceRead}
-use Rattle.language.specs.declared.PlaceRead.the-variants.{At as PlaceAt, NoPlace}
 use Rattle.language.specs.declared.type_word.CellRead.{CellRead}
 use Rattle.language.specs.declared.type_word.CellRead.the-variants.{Word, TooDeep}
 use Rattle.language.specs.declared.frame.Frame.{Frame}
@@ -76,54 +74,13 @@ few-schedulers fs x e h = if-all (λ (o : Option ℕ). found o ≡ Nowhere → s
 pub schedulers-are : (ws : List ℕ) (f : Frame) → f ≡ frameAt (framesOf ws) 0 → schedulersOf (framesOf ws) ≤ 8 → f .b % 256 ≡ schedulersOf (framesOf ws)
 schedulers-are ws f e l = let q : f .b ≡ schedulersOf (framesOf ws) = ap (λ (g : Frame). g .b) e in omega arith
 
--- ---- places: from `low` on, which is 1 for a place and 2 for a scheduler, to the last of the file
-over-last : (low b v : ℕ) → b ≤ 8 → 9 < v → (leb low v && leb v (1 + b)) ≡ false
-over-last low b v l h = (let e : leb v (1 + b) ≡ false = lt-leb v (1 + b) (omega arith) in rw e (and-off (leb low v)))
+-- ---- places and schedulers, of as many schedulers as the code reads
+module _ (fs : List Frame) (v b : ℕ) (r : Bool) (e : b ≡ schedulersOf fs) where
+  pub place-as : r ≡ hasPlace b v → r ≡ hasPlace (schedulersOf fs) v
+  place-as h = h ∙ ap (λ (n : ℕ). hasPlace n v) e
 
-read-none : (t : Bool) (n : ℕ) → placeRead t n ≡ NoPlace → t ≡ false
-unfolding placeRead if_then_else_
-read-none true n e = absurd (let z : _≡_ {A = ℕ} 0 1 = cc in omega arith)
-read-none false n e = refl
-
-read-at : (t : Bool) (n : ℕ) (p : Place) → placeRead t n ≡ PlaceAt p → p .number ≡ n
-unfolding placeRead if_then_else_
-read-at true n p e = cc
-read-at false n p e = absurd (let z : _≡_ {A = ℕ} 0 1 = cc in omega arith)
-
--- no place from `low` to 9, so none of the file
-no-place : (low b v : ℕ) → b ≤ 8 → (leb low v && leb v 9) ≡ false → false ≡ (leb low v && leb v (1 + b))
-no-place low b v l h = go (leb v 9) refl
-  where
-    go : (t : Bool) → leb v 9 ≡ t → false ≡ (leb low v && leb v (1 + b))
-    go false e = sym (over-last low b v l (leb-false v 9 e))
-    go true e = (let z : leb low v ≡ false = sym (and-yes (leb low v)) ∙ ap (λ (u : Bool). leb low v && u) (sym e) ∙ h in rw z)
-      where
-        and-yes : (a : Bool) → (a && true) ≡ a
-        and-yes true = refl
-        and-yes false = refl
-
-module _ (ws : List ℕ) (v : ℕ) (few : schedulersOf (framesOf ws) ≤ 8) where
-  pub place-over : 255 < v → false ≡ hasPlace (schedulersOf (framesOf ws)) v
-  place-over h = sym (over-last 1 (schedulersOf (framesOf ws)) v few (omega arith))
-
-  pub place-none : (x : PlaceRead) → x ≡ NoPlace → x ≡ placeRead (isPlace v) v → false ≡ hasPlace (schedulersOf (framesOf ws)) v
-  place-none x e h = no-place 1 (schedulersOf (framesOf ws)) v few (read-none _ v (sym h ∙ e))
-
-  pub place-there : (b : ℕ) (x : PlaceRead) (p : Place) (r : Bool) → b ≡ schedulersOf (framesOf ws) → x ≡ PlaceAt p → x ≡ placeRead (isPlace v) v → r ≡ hasPlace b (p .number) → r ≡ hasPlace (schedulersOf (framesOf ws)) v
-  place-there b x p r q e h g = g ∙ ap₂ hasPlace q (read-at _ v p (sym h ∙ e))
-
-  pub scheduler-over : 255 < v → false ≡ hasScheduler (schedulersOf (framesOf ws)) v
-  scheduler-over h = sym (over-last 2 (schedulersOf (framesOf ws)) v few (omega arith))
-
-  pub scheduler-none : (x : PlaceRead) → x ≡ NoPlace → x ≡ placeRead (isScheduler v) v → false ≡ hasScheduler (schedulersOf (framesOf ws)) v
-  scheduler-none x e h = no-place 2 (schedulersOf (framesOf ws)) v few (read-none _ v (sym h ∙ e))
-
-  pub scheduler-there : (b : ℕ) (x : PlaceRead) (p : Place) (r : Bool) → b ≡ schedulersOf (framesOf ws) → x ≡ PlaceAt p → x ≡ placeRead (isScheduler v) v → r ≡ hasScheduler b (p .number) → r ≡ hasScheduler (schedulersOf (framesOf ws)) v
-  scheduler-there b x p r q e h g = g ∙ ap₂ hasScheduler q (read-at _ v p (sym h ∙ e))
-
-pub ruleset place-laws = (place-over, place-none, place-there)
-
-pub ruleset scheduler-laws = (scheduler-over, scheduler-none, scheduler-there)
+  pub scheduler-as : r ≡ hasScheduler b v → r ≡ hasScheduler (schedulersOf fs) v
+  scheduler-as h = h ∙ ap (λ (n : ℕ). hasScheduler n v) e
 
 -- ---- the other fields
 pub further-none : (a v : ℕ) → v ≡ 0 → true ≡ (eqb v 0 || not (eqb a 0))
@@ -162,25 +119,18 @@ module _ (t : Tally) (k v : ℕ) (x : Bool) (h : x ≡ isCell k) where
 
 pub ruleset content-laws = (content-past, content-cell, content-number, content-truth)
 
--- ---- the type of a shared cell: its owner is a scheduler and there is room around its content, so the code's arms that answer 0 are never met
-scheduler-place : (s : ℕ) → isScheduler s ≡ true → isPlace s ≡ true
-scheduler-place s h = let p = and-true _ _ h in let a : 2 ≤ s = leb-true _ _ (p .0) in let q : leb 1 s ≡ true = le-leb 1 s (omega arith) in rw (q, p .1)
-
-module _ (f : Frame) (x : PlaceRead) (h : isScheduler (f .s) ≡ true) (m : roomAround (f .a) ≡ true) (e : x ≡ placeRead (isScheduler (f .s)) (f .s)) where
-  pub type-nowhere : x ≡ NoPlace → 0 ≡ cellType (f .s) (f .a)
-  type-nowhere q = absurd (true≢false (sym h ∙ read-none _ (f .s) (sym e ∙ q)))
-
-  cell-word : (p : Place) (y : CellRead) → x ≡ PlaceAt p → y ≡ cellRead (p .number) (f .a) → y ≡ Word (cellType (f .s) (f .a))
+-- ---- the type of a shared cell: its owner is a place and there is room around its content, so the arm that answers 0 is never met
+module _ (f : Frame) (q : Place) (y : CellRead) (h : isPlace (f .s) ≡ true) (m : roomAround (f .a) ≡ true) where
+  cell-word : q ≡ record { number = f .s } → y ≡ cellRead (q .number) (f .a) → y ≡ Word (cellType (f .s) (f .a))
   unfolding cellRead
-  cell-word p y q g =
-      let n : p .number ≡ f .s = read-at _ (f .s) p (sym e ∙ q) in
-      let t : (isPlace (f .s) && roomAround (f .a)) ≡ true = (rw (scheduler-place (f .s) h, m)) in
-      g ∙ ap (λ (o : ℕ). if isPlace o && roomAround (f .a) then Word (cellType o (f .a)) else TooDeep) n ∙ if-yes _ _ t
+  cell-word e g =
+      let t : (isPlace (f .s) && roomAround (f .a)) ≡ true = (rw (h, m)) in
+      g ∙ ap (λ (p : Place). cellRead (p .number) (f .a)) e ∙ if-yes _ _ t
 
-  pub type-deep : (p : Place) (y : CellRead) → x ≡ PlaceAt p → y ≡ cellRead (p .number) (f .a) → y ≡ TooDeep → 0 ≡ cellType (f .s) (f .a)
-  type-deep p y q g d = absurd (let w = cell-word p y q g in let z : _≡_ {A = ℕ} 0 1 = cc in omega arith)
+  pub type-deep : q ≡ record { number = f .s } → y ≡ cellRead (q .number) (f .a) → y ≡ TooDeep → 0 ≡ cellType (f .s) (f .a)
+  type-deep e g d = absurd (let w = cell-word e g in let z : _≡_ {A = ℕ} 0 1 = cc in omega arith)
 
-  pub type-word : (p : Place) (y : CellRead) (w : ℕ) → x ≡ PlaceAt p → y ≡ cellRead (p .number) (f .a) → y ≡ Word w → w ≡ cellType (f .s) (f .a)
-  type-word p y w q g d = let v = cell-word p y q g in cc
+  pub type-word : (w : ℕ) → q ≡ record { number = f .s } → y ≡ cellRead (q .number) (f .a) → y ≡ Word w → w ≡ cellType (f .s) (f .a)
+  type-word w e g d = let v = cell-word e g in cc
 
-pub ruleset shared-laws = (type-nowhere, type-deep, type-word)
+pub ruleset shared-laws = (type-deep, type-word)

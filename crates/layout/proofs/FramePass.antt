@@ -9,7 +9,8 @@ use lib.ListN.{length, take, set, replicate}
 use borrow.Author.Tests.{ltb-true, ltb-false, le-leb, leb-true, not-true, not-false}
 use Rattle.basics.proofs.Ifs.{and-true}
 use Rattle.language.proofs.Words.{depth-3}
-use Rattle.language.specs.Places.{isScheduler, hasScheduler}
+use Rattle.language.proofs.PlaceLaws.{scheduler-place, has-scheduler}
+use Rattle.language.specs.Places.{isPlace, hasScheduler}
 use Rattle.language.specs.Types.{cellDepth, cellType, public, typeWord, contentWord, roomAround}
 use Rattle.language.specs.Kinds.{isShared, isModule, uses}
 use Rattle.language.specs.declared.kind.Kind.{Kind}
@@ -116,13 +117,10 @@ module _ (ws : List ℕ) (i : ℕ) (f : Frame) (t : Tally) (e : f ≡ frameAt (f
   pub module-room : f .kind ≡ Module → t .modules < 16
   module-room k = let a : ltb (countOf isModule (take i (framesOf ws))) 16 ≡ true = sym (ap (kindFine (framesOf ws) i) k) ∙ fine-parts (framesOf ws) i f fine-f .0 in let b : countOf isModule (take i (framesOf ws)) < 16 = ltb-true _ 16 a in let c = tally-modules (take i (framesOf ws)) t h in omega arith
 
-  pub shared-owner : f .kind ≡ Shared → schedulersOf (framesOf ws) ≤ 8 → isScheduler (f .s) ≡ true
-  shared-owner k l =
+  pub shared-owner : f .kind ≡ Shared → isPlace (f .s) ≡ true
+  shared-owner k =
       let a : hasScheduler (schedulersOf (framesOf ws)) (f .s) ≡ true = sym (ap (λ (q : Kind). fieldFine (framesOf ws) i f (uses q .s) (f .s)) k) ∙ fine-parts (framesOf ws) i f fine-f .1 in
-      let p = and-true (leb 2 (f .s)) (leb (f .s) (1 + schedulersOf (framesOf ws))) a in
-      let b : f .s ≤ 1 + schedulersOf (framesOf ws) = leb-true (f .s) (1 + schedulersOf (framesOf ws)) (p .1) in
-      let c : leb (f .s) 9 ≡ true = le-leb (f .s) 9 (omega arith) in
-      rw (p .0, c)
+      scheduler-place (f .s) (has-scheduler (schedulersOf (framesOf ws)) (f .s) a .0)
 
   pub shared-room : f .kind ≡ Shared → roomAround (f .a) ≡ true
   shared-room k = word-room (schedulersOf (framesOf ws)) (f .a) (sym (ap (λ (q : Kind). fieldFine (framesOf ws) i f (uses q .a) (f .a)) k) ∙ fine-parts (framesOf ws) i f fine-f .2)

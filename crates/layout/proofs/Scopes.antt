@@ -1,4 +1,4 @@
--- What a file without fault has: the verdict `Accepted`, depths of at most 24, room for its variables, children before their parents, at most 16 shared cells, `main` last. Assumes nothing.
+-- What a file without fault has: the verdict `Accepted`, depths of at most 24, room for its variables, children before their parents, places where frames name some, at most 16 shared cells, `main` last. Assumes nothing.
 use mathlib.Core.Path.{_≡_, refl, sym, ap, _∙_}
 use mathlib.Core.Bool.{Bool, true, false}
 use mathlib.Core.List.{List, [], _∷_, _++_}
@@ -14,17 +14,21 @@ use Rattle.language.specs.Kinds.{isShared, uses, Child, childIn, children}
 use Rattle.language.specs.declared.kind.StatementKind.the-variants.{Let}
 use Rattle.language.specs.declared.kind.Kind.{Kind}
 use Rattle.language.specs.declared.kind.Kind.the-variants.{Shared, Module, Statement}
+use Rattle.language.specs.declared.kind.Use.{Use}
 use Rattle.language.specs.declared.frame.Frame.{Frame}
 use Rattle.language.specs.declared.verdict.Verdict.the-variants.{Accepted}
+use Rattle.language.proofs.PlaceLaws.{has-place}
 use Rattle.program.specs.Trees.{noFrame, frameAt}
+use Rattle.program.specs.Ordered.{Placed}
 use Rattle.program.specs.Programs.{sharedOf, programOf, typeOfShared}
-use Rattle.layout.specs.Fields.{countOf, kindFine, frameFine}
+use Rattle.layout.specs.Fields.{schedulersOf, fieldFine, countOf, kindFine, frameFine}
 use Rattle.layout.specs.Order.{isMain}
 use Rattle.layout.specs.Depths.{Depth}
 use Rattle.layout.specs.Faults.{Fault, NoFault, LayoutSays}
 use Rattle.layout.specs.Scans.{layoutOf}
 use Rattle.layout.specs.Scope.{Room}
-use Rattle.layout.proofs.Trees.{is-module, tree-in, childrenAs, children-as}
+use Rattle.program.proofs.NodeLaws.{childrenAs, children-as}
+use Rattle.layout.proofs.Trees.{is-module, tree-in}
 use Rattle.layout.proofs.Order.{all-trees}
 use Rattle.layout.proofs.Layouts.{layout-says, layout-one}
 use Rattle.layout.proofs.Tallies.{is-shared, count-cells, counted-one, counted-none}
@@ -103,14 +107,23 @@ module _ (fs : List Frame) (fine : NoFault fs) where
       go true e = (let p = and-true _ _ e in (is-module _ (p .0), eqb-true _ 0 (p .1)))
       go false e = absurd (fine 6 (length fs - 1) (Fault.main (omega arith) e))
 
-  -- ---- at most 16 of a kind of which each frame has fewer before it
-  frame-right : (i : ℕ) → i < length fs → frameFine fs i (frameAt fs i) ≡ true
+  -- ---- what 5 leaves of each frame
+  pub frame-right : (i : ℕ) → i < length fs → frameFine fs i (frameAt fs i) ≡ true
   frame-right i l = go (frameFine fs i (frameAt fs i)) refl
     where
       go : (b : Bool) → frameFine fs i (frameAt fs i) ≡ b → frameFine fs i (frameAt fs i) ≡ true
       go true e = e
       go false e = absurd (fine 5 i (Fault.field l e))
 
+  -- 5 refuses 'a place that the file lacks'
+  pub placed : Placed fs
+  placed i l u =
+      let f = frameAt fs i in
+      let h = fine-parts fs i f (frame-right i l) .1 in
+      let p = sym (ap (λ (v : Use). fieldFine fs i f v (f .s)) u) ∙ h in
+      has-place (schedulersOf fs) (f .s) p .0
+
+  -- ---- at most 16 of a kind of which each frame has fewer before it
   counts : (test : Kind → Bool) → ((i : ℕ) → i < length fs → test (frameAt fs i .kind) ≡ true → countOf test (take i fs) < 16) → (n : ℕ) → n ≤ length fs → countOf test (take n fs) ≤ 16
   counts test h zero l = unfold countOf in omega arith
   counts test h (suc n) l = go (test (frameAt fs n .kind)) refl (counts test h n (omega arith))

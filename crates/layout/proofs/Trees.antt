@@ -12,6 +12,7 @@ use Rattle.language.specs.declared.kind.Kind.the-variants.{Header, Shared, Modu
 use Rattle.language.specs.declared.kind.Kind.{Kind}
 use Rattle.language.specs.declared.frame.Frame.{Frame}
 use Rattle.program.specs.Trees.{frameAt}
+use Rattle.program.proofs.NodeLaws.{childrenAs, children-as}
 use Rattle.layout.specs.Order.{Tree, Row}
 
 pub is-module : (k : Kind) → isModule k ≡ true → k ≡ Module
@@ -93,15 +94,7 @@ two-of (Row.more t e (Row.more u f r)) = record { tree = t; next = u; last = row
 pub three-of : {fs : List Frame} {lo i : ℕ} {x y z : Child} → Row fs lo i (x ∷ y ∷ z ∷ []) → Three fs lo i (x .at) (y .at) (z .at)
 three-of (Row.more t e (Row.more u f (Row.more v g r))) = record { tree = t; next = u; third = v; last = row-end r }
 
--- ---- the children of a frame of a known kind
-abbrev pub childrenAs : Kind → Frame → List Child
-childrenAs k f = childIn (uses k .a) (f .a) ++ childIn (uses k .b) (f .b) ++ childIn (uses k .c) (f .c)
-
-pub children-as : (f : Frame) (k : Kind) → f .kind ≡ k → children f ≡ childrenAs k f
-unfolding children
-children-as f k e = ap (λ (m : Kind). childrenAs m f) e
-
--- their row
+-- ---- the children of a frame of a known kind: their row
 pub row-of : {fs : List Frame} (k : Kind) (i lo : ℕ) → frameAt fs i .kind ≡ k → Tree fs lo i → Row fs lo i (childrenAs k (frameAt fs i))
 row-of {fs} k i lo e (Tree.root r) = rw (children-as (frameAt fs i) k e) at r
 

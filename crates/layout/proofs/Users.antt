@@ -18,7 +18,8 @@ use Rattle.layout.specs.Order.{Tree, Row, hasChild, hasClass}
 use Rattle.layout.specs.Depths.{Depth}
 use Rattle.layout.specs.Faults.{Fault, NoFault}
 use Rattle.layout.proofs.Searches.{any-true, any-false}
-use Rattle.layout.proofs.Trees.{tree-le, tree-one, tree-in, HasTree, childrenAs, children-as, Among, none-in}
+use Rattle.program.proofs.NodeLaws.{childrenAs, children-as}
+use Rattle.layout.proofs.Trees.{tree-le, tree-one, tree-in, HasTree, Among, none-in}
 use Rattle.layout.proofs.Order.{all-trees}
 use Rattle.layout.proofs.Depths.{body-depth, child-depth}
 

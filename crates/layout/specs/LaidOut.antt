@@ -1,4 +1,5 @@
 -- Refusals 1 to 7 on a text. Assumes nothing: definitions.
+use mathlib.Core.Path.{_≡_}
 use mathlib.Core.List.{List}
 use Prim.Native.Nat.{ℕ}
 use Rattle.language.specs.declared.frame.Frame.{Frame}
@@ -13,6 +14,11 @@ use Rattle.layout.specs.Scans.{layoutOf}
 pub data HasLayout : List ℕ → Verdict → Type 0 where
   text : {bs : List ℕ} {n j : ℕ} → Reads bs (refused n j) → HasLayout bs (Rejected n j)
   layout : {bs : List ℕ} {fs : List Frame} {v : Verdict} → Reads bs (frames fs) → LayoutSays fs v → HasLayout bs v
+
+-- v is what they say of the text, and nothing else is
+pub record Judged (bs : List ℕ) (v : Verdict) : Type 0 where
+  pub says : HasLayout bs v
+  pub only : (other : Verdict) → HasLayout bs other → other ≡ v
 
 -- ---- as functions; proofs/Accepted shows that `layoutVerdict` gives the one v that `HasLayout` allows
 

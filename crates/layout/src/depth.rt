@@ -88,7 +88,7 @@ fn depths_down(words: &[u64], u: &mut [u8; 1024])
 }
 
 // The lowest frame deeper than 24. Without a fault 6 the children of each frame stand before it; only then does one pass see every parent before its children.
-pub fn depth(words: &[u64]) -> Found
+pub(crate) fn depth(words: &[u64]) -> Found
     requires { ⌜ (0 < length (now words)) × (length (now words) ≤ 1024) × (orderFault (framesOf (now words)) ≡ none) ⌝ }
     ensures { λ r. ⌜ r ≡ found (depthFault (framesOf (now (words .entry)))) ⌝ }
 {

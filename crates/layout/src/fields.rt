@@ -2,7 +2,6 @@
 use crate::found::Found;
 use crate::frames::frame_at;
 use language::Place;
-use language::PlaceRead;
 use language::frame::Frame;
 use language::kind::Kind;
 use language::kind::Use;
@@ -20,7 +19,7 @@ ghost use Prim.Native.Nat.{_+_, _<_, _≤_};
 ghost use lib.Dec.{leb, eqb};
 ghost use lib.ListN.{length, take, set};
 ghost use Rattle.basics.specs.If.{if_then_else_};
-ghost use Rattle.language.specs.Places.{isScheduler, hasPlace, hasScheduler};
+ghost use Rattle.language.specs.Places.{isPlace, hasPlace, hasScheduler};
 ghost use Rattle.language.specs.Types.{typeWord, cellType, roomAround};
 ghost use Rattle.program.specs.Trees.{frameAt};
 ghost use Rattle.text.specs.Frames.{framesOf};
@@ -55,7 +54,7 @@ fn header_fine(f: Frame) -> bool
 }
 
 // The frame with the fault 4, if there is one.
-pub fn header(words: &[u64]) -> Found
+pub(crate) fn header(words: &[u64]) -> Found
     requires { ⌜ 0 < length (now words) ⌝ }
     ensures { λ r. ⌜ r ≡ found (headerFault (framesOf (now (words .entry)))) ⌝ }
 {
@@ -78,28 +77,14 @@ fn place_fine(words: &[u64], v: u16) -> bool
     requires { ⌜ (0 < length (now words)) × (schedulersOf (framesOf (now words)) ≤ 8) ⌝ }
     ensures { λ r. ⌜ r ≡ hasPlace (schedulersOf (framesOf (now (words .entry)))) v ⌝ }
 {
-    if 255 < v {
-        return false;
-    }
-    let b = schedulers_in(words);
-    match Place::new(v as u8) {
-        PlaceRead::NoPlace => false,
-        PlaceRead::At(p) => p.in_file(b),
-    }
+    Place::is_in_file(v as u64, schedulers_in(words))
 }
 
 fn scheduler_fine(words: &[u64], v: u16) -> bool
     requires { ⌜ (0 < length (now words)) × (schedulersOf (framesOf (now words)) ≤ 8) ⌝ }
     ensures { λ r. ⌜ r ≡ hasScheduler (schedulersOf (framesOf (now (words .entry)))) v ⌝ }
 {
-    if 255 < v {
-        return false;
-    }
-    let b = schedulers_in(words);
-    match Place::scheduler(v as u8) {
-        PlaceRead::NoPlace => false,
-        PlaceRead::At(p) => p.is_scheduler_in_file(b),
-    }
+    Place::is_scheduler_in_file(v as u64, schedulers_in(words))
 }
 
 // The second argument needs the first.
@@ -210,15 +195,12 @@ fn frame_fine(words: &[u64], i: usize, t: Tally) -> bool
 
 // The type of a shared cell whose owner and content type are right.
 fn shared_type(f: Frame) -> u16
-    requires { ⌜ (isScheduler (f .s) ≡ true) × (roomAround (f .a) ≡ true) ⌝ }
+    requires { ⌜ (isPlace (f .s) ≡ true) × (roomAround (f .a) ≡ true) ⌝ }
     ensures { λ r. ⌜ r ≡ cellType (f .s) (f .a) ⌝ }
 {
-    match Place::scheduler(f.s) {
-        PlaceRead::NoPlace => 0,
-        PlaceRead::At(p) => match cell_type(p, f.a) {
-            CellRead::TooDeep => 0,
-            CellRead::Word(w) => w,
-        },
+    match cell_type(Place::known(f.s as u64), f.a) {
+        CellRead::TooDeep => 0,
+        CellRead::Word(w) => w,
     }
 }
 
@@ -266,7 +248,7 @@ pub fn counted(words: &[u64], i: usize, t: Tally) -> Tally
 }
 
 // The lowest frame with the fault 5. It stops there, so that no 17th cell is counted. With a right header there are at most 8 schedulers, and a place is one of the nine.
-pub fn fields(words: &[u64]) -> Found
+pub(crate) fn fields(words: &[u64]) -> Found
     requires { ⌜ (0 < length (now words)) × (length (now words) ≤ 1024) × (schedulersOf (framesOf (now words)) ≤ 8) ⌝ }
     ensures { λ r. ⌜ r ≡ found (fieldFault (framesOf (now (words .entry)))) ⌝ }
 {

@@ -4,13 +4,13 @@ ghost use Rattle.basics.specs.Searches.{earlier};
 ghost use Rattle.layout.specs.Passes.{found, optionOf};
 
 // The lowest frame that has a fault, if one has it.
-pub enum Found {
+pub(crate) enum Found {
     At(u16),
     Nowhere,
 }
 
 // The lower of two.
-pub fn lower(a: Found, b: Found) -> Found
+pub(crate) fn lower(a: Found, b: Found) -> Found
     ensures { λ r. ⌜ r ≡ found (earlier (optionOf a) (optionOf b)) ⌝ }
 {
     match a {

@@ -13,7 +13,7 @@ ghost use Rattle.layout.specs.Scans.{sameClass};
 ghost use Rattle.layout.specs.Passes.{childRead};
 
 // A field's child: the class that it is to be of, and its frame's number.
-pub enum ChildRead {
+pub(crate) enum ChildRead {
     ChildAt(Class, u16),
     NoChild,
 }
@@ -25,7 +25,7 @@ pub fn frame_at(words: &[u64], i: usize) -> Frame
     frame_of_word(words[i])
 }
 
-pub fn same_class(a: Class, b: Class) -> bool
+pub(crate) fn same_class(a: Class, b: Class) -> bool
     ensures { λ r. ⌜ r ≡ sameClass a b ⌝ }
 {
     match a {
@@ -58,7 +58,7 @@ fn argument_in(v: u16) -> ChildRead
 }
 
 // The child that a field of that use names by v.
-pub fn child_in(u: Use, v: u16) -> ChildRead
+pub(crate) fn child_in(u: Use, v: u16) -> ChildRead
     ensures { λ r. ⌜ r ≡ childRead (childIn u v) ⌝ }
 {
     match u {

@@ -257,7 +257,7 @@ fn no_main(words: &[u64]) -> Found
 }
 
 // The lowest frame with a fault 6.
-pub fn order(words: &[u64]) -> Found
+pub(crate) fn order(words: &[u64]) -> Found
     requires { ⌜ (0 < length (now words)) × (length (now words) ≤ 1024) ⌝ }
     ensures { λ r. ⌜ r ≡ found (orderFault (framesOf (now (words .entry)))) ⌝ }
 {

@@ -12,7 +12,7 @@ ghost use Prim.Native.Nat.{_<_, _≤_};
 ghost use lib.ListN.{length};
 ghost use Rattle.text.specs.Frames.{framesOf};
 ghost use Rattle.layout.specs.Scans.{layoutOf};
-ghost use Rattle.layout.specs.LaidOut.{layoutVerdict, laidOut};
+ghost use Rattle.layout.specs.LaidOut.{Judged, laidOut};
 
 mod depth;
 pub mod fields;
@@ -47,9 +47,10 @@ fn layout_of(words: &[u64]) -> Verdict
     }
 }
 
-// Refusals 1 to 7 on any text, with its lines.
+// Refusals 1 to 7 on any text, with its lines: the one verdict that their rules give, and no other.
 pub fn lay_out(text: &[u8]) -> LaidOut
-    ensures { λ r. ⌜ r ≡ laidOut (now (text .entry)) ⌝ }
+    ensures computed { λ r. ⌜ r ≡ laidOut (now (text .entry)) ⌝ }
+    ensures promised { λ r. ⌜ Judged (now (text .entry)) (r .verdict) ⌝ }
 {
     let t = read_words(text);
     let read = t.read;
@@ -70,11 +71,4 @@ pub fn lay_out(text: &[u8]) -> LaidOut
             }
         }
     }
-}
-
-// Refusals 1 to 7 on any text.
-pub fn layout(text: &[u8]) -> Verdict
-    ensures { λ r. ⌜ r ≡ layoutVerdict (now (text .entry)) ⌝ }
-{
-    lay_out(text).verdict
 }

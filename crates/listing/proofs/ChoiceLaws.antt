@@ -9,8 +9,8 @@ use lib.ListN.{length, getD, drop, length-drop, drop-of-length-le}
 use lib.Seq.{drop-cons}
 use borrow.Author.Tests.{lt-ltb, le-ltb, eq-eqb, ne-eqb}
 use Rattle.basics.proofs.Ifs.{yes, no}
-use Rattle.text.specs.Digits.{digit}
-use Rattle.text.proofs.Table.{digitsFrom, table-at}
+use Rattle.text.specs.Digits.{digit, digitTable}
+use Rattle.text.proofs.Table.{table-at}
 use Rattle.listing.specs.Listing.{Choices, choices, malformed, alsoChoice, isChoice, choicesFrom}
 use Rattle.listing.specs.Choices.{countRead, judged, choiceAt}
 use Rattle.listing.specs.declared.choices.ChoicesRead.{ChoicesRead}
@@ -73,14 +73,14 @@ pub record Judging (bytes digits : List ℕ) (k at : ℕ) : Type 0 where
   pub short : length bytes ≤ 49152
   pub three : at ≡ 3 * k
   pub fits : at ≤ length bytes
-  pub table : digits ≡ digitsFrom 0 256
+  pub table : digits ≡ digitTable
   pub rest : countBehind k (choicesFrom k (drop at bytes)) ≡ judged bytes
 
 pub judged-over : (bytes : List ℕ) → 49152 < length bytes → read.TooLong ≡ judged bytes
 unfolding judged
 judged-over bytes h = yes _ (lt-ltb 49152 (length bytes) h) refl
 
-pub judging-start : (bytes digits : List ℕ) → length bytes ≤ 49152 → digits ≡ digitsFrom 0 256 → Judging bytes digits 0 0
+pub judging-start : (bytes digits : List ℕ) → length bytes ≤ 49152 → digits ≡ digitTable → Judging bytes digits 0 0
 unfolding judged
 judging-start bytes digits h e =
     record { short = h; three = refl; fits = omega arith; table = e; rest = no _ (le-ltb 49152 (length bytes) h) (count-start (choicesFrom 0 bytes)) }

@@ -1,6 +1,6 @@
 // choices.txt: two digits and a line feed for each choice.
-use text::digit::DIGITS;
 use text::digit::digit;
+use text::digit::digit_table;
 ghost use mathlib.Core.Path.{_≡_};
 ghost use Rattle.listing.specs.Choices.{judged, choiceAt};
 
@@ -12,7 +12,7 @@ pub enum ChoicesRead {
     Choices(usize),
 }
 
-// Judges the bytes whole, before any step. The table is taken once, since each use of a constant array writes it out anew.
+// Judges the bytes whole, before any step.
 pub fn judge(bytes: &[u8]) -> ChoicesRead
     ensures { λ r. ⌜ r ≡ judged (now (bytes .entry)) ⌝ }
 {
@@ -20,7 +20,7 @@ pub fn judge(bytes: &[u8]) -> ChoicesRead
     if 49152 < n {
         return ChoicesRead::TooLong;
     }
-    let digits = DIGITS;
+    let digits = digit_table();
     let mut k: u16 = 0;
     let mut at: usize = 0;
     while at < n {

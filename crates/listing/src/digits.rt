@@ -14,7 +14,7 @@ fn digit_byte(n: u8) -> u8
     55 + n
 }
 
-pub fn two_digits(n: u8) -> [u8; 2]
+pub(crate) fn two_digits(n: u8) -> [u8; 2]
     ensures { λ r. ⌜ r ≡ twoDigits n ⌝ }
 {
     let a = digit_byte(n / 16 % 16);

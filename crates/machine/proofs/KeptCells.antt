@@ -12,6 +12,7 @@ use borrow.Author.Tests.{ltb-true, ltb-false, eqb-false, leb-true, le-leb}
 use Rattle.basics.specs.Members.{All}
 use Rattle.basics.proofs.Ifs.{if-all, and-true}
 use Rattle.language.specs.Places.{hasPlace, hasScheduler}
+use Rattle.language.proofs.PlaceLaws.{place-scheduler}
 use Rattle.program.specs.Trees.{Expr}
 use Rattle.machine.specs.Accesses.{Access}
 use Rattle.machine.specs.State.{Stored, cellAt, noCell, isUsed, usedCells, withNewCell, threadOwner}
@@ -151,12 +152,7 @@ fit-owner n h s t p =
     (λ _. let a = t .0 in let b = t .1 in
     or-right (hasScheduler n (16 + h .thread)) _
     (and-both (leb 17 (16 + h .thread)) (leb (16 + h .thread) 80) (le-leb 17 (16 + h .thread) (omega arith)) (le-leb (16 + h .thread) 80 (omega arith))))
-    (λ e. let q = and-true (leb 1 s) (leb s (1 + n)) p in
-    let a = leb-true 1 s (q .0) in
-    or-left (hasScheduler n s) _ (and-both (leb 2 s) (leb s (1 + n)) (le-leb 2 s (two (eqb-false s 1 e) a)) (q .1)))
-  where
-    two : (s ≡ 1 → ⊥) → 1 ≤ s → 2 ≤ s
-    two e l = omega arith
+    (λ e. or-left (hasScheduler n s) _ (place-scheduler n s p (eqb-false s 1 e)))
 
 fit-add : (n o : ℕ) (v : Value) (cs : List Stored) → CellsFit n cs → ownerInRange n o ≡ true → ValueFits v → EvalFits n (addCell o v cs)
 unfolding addCell

@@ -10,6 +10,7 @@ use borrow.Author.Tests.{ltb-true, ltb-false, eqb-true, leb-true, leb-false, le-
 use Rattle.basics.specs.Members.{All, none, more}
 use Rattle.basics.proofs.Ifs.{if-all, and-true}
 use Rattle.language.specs.Places.{hasPlace}
+use Rattle.language.proofs.PlaceLaws.{has-place}
 use Rattle.language.specs.declared.frame.Frame.{Frame}
 use Rattle.program.specs.Trees.{Expr, Stmt, nothing, seq, doAt, start, startWait, cooperate, letIn, store, ifElse, while, frameAt, statementAt, rootS}
 use Rattle.program.specs.Programs.{Program, SharedCell, moduleAt, mainOf}
@@ -78,7 +79,7 @@ next-more (x ∷ xs) (suc i) y e = next-more xs i y e
 module _ (fs : List Frame) (P : Program) (n : ℕ) (F : FileFits fs P n) where
   -- a place's number fits the word of a 'back'
   pub place-small : (q : ℕ) → hasPlace n q ≡ true → q < 1024
-  place-small q h = let l = leb-true q (1 + n) (and-true (leb 1 q) (leb q (1 + n)) h .1) in let m = F .most-schedulers in omega arith
+  place-small q h = let l = has-place n q h .1 in let m = F .most-schedulers in omega arith
 
   pub parts-of : {x : Stmt} → ItemFits fs n (run x) → Parts fs n x
   parts-of {x} (run-fits l k e) = subst (Parts fs n) e (F .statements (rootS x) l k)

@@ -3,3 +3,5 @@ pub mod Roots
 pub mod Decoding
 -- Shared cells and modules.
 pub mod OneMore
+-- Frames taken apart.
+pub mod NodeLaws

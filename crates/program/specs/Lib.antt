@@ -1,3 +1,4 @@
 pub mod Trees
 pub mod Programs
 pub mod Ordered
+pub mod Nodes

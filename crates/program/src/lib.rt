@@ -1,1 +1,2 @@
-// Programs: the trees of statements and expressions that frames are. Definitions only.
+// Programs: the trees of statements and expressions that frames are, and a frame taken apart.
+pub mod node;

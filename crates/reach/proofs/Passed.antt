@@ -20,7 +20,8 @@ use Rattle.layout.specs.Fields.{headerFine, schedulersOf, fieldFine, kindFine, 
 use Rattle.layout.specs.Order.{Row, hasClass, isMain}
 use Rattle.layout.specs.Depths.{Depth}
 use Rattle.layout.specs.Faults.{Fault, NoFault}
-use Rattle.layout.proofs.Trees.{HasTree, childrenAs, row-of, is-module}
+use Rattle.program.proofs.NodeLaws.{childrenAs}
+use Rattle.layout.proofs.Trees.{HasTree, row-of, is-module}
 use Rattle.layout.proofs.Order.{all-trees, is-ordered}
 
 pub not-wrong : (b : Bool) → (b ≡ false → ⊥) → b ≡ true

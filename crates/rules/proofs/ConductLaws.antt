@@ -1,16 +1,17 @@
 -- What the rules find of a statement, from the node at its root and what they find of its children: one law for each arm of `conduct_of`, and those of its helpers. Assumes nothing.
 use mathlib.Core.Path.{_≡_, refl, sym, ap, _∙_}
-use mathlib.Core.Bool.{Bool, true, false}
+use mathlib.Core.Bool.{Bool, true, false, not}
 use mathlib.Core.List.{List, [], _∷_, _++_, map}
 use Prim.Native.Nat.{ℕ, zero, suc, _+_, _<_}
 use native.Mathlib.Numerals.{add-one}
 use native.Mathlib.Omega.{arith}
 use lib.ListN.{length, take, set}
 use lib.Seq.{take-suc-set}
-use borrow.Author.Tests.{eq-eqb, ne-eqb}
-use Rattle.basics.proofs.Ifs.{if-yes, if-no}
+use lib.Dec.{eqb}
+use Rattle.basics.proofs.Ifs.{if-all}
 use Rattle.language.specs.Places.{Standing, linked, unlinked, standingAt}
 use Rattle.language.specs.Effects.{noEffect}
+use Rattle.language.specs.declared.Place.{Place}
 use Rattle.language.specs.declared.effect.Effect.{Effect}
 use Rattle.language.specs.declared.kind.StatementKind.{StatementKind}
 use Rattle.language.specs.declared.kind.StatementKind.the-variants as S
@@ -22,15 +23,15 @@ use Rattle.program.specs.Trees.{frameAt, expressionAt, arguments, statementOf, 
 use Rattle.program.proofs.Decoding.{statement-at}
 use Rattle.layout.specs.Scope.{Room}
 use Rattle.rules.specs.Rules.{Signature}
-use Rattle.rules.specs.Checking.{Argued, argue, typesIn, startRule, cooperateRule, seqRule, doRule, joinRule, letRule, storeRule, ifElseRule, whileRule, runIn}
+use Rattle.rules.specs.Checking.{Argued, argue, typesIn, isLinked, startRule, cooperateRule, seqRule, doRule, joinRule, letRule, storeRule, ifElseRule, whileRule, runIn}
 use Rattle.rules.specs.Standings.{standing}
 use Rattle.rules.specs.Signatures.{noArguments, arguedOf, signatureOf}
-use Rattle.rules.specs.Nodes.{statementNodeOf, statementNodeIn}
+use Rattle.program.specs.Nodes.{statementNodeOf, statementNodeIn}
 use Rattle.rules.specs.Frames.{FrameIn}
 use Rattle.rules.specs.declared.start.Arguments.{Arguments}
 use Rattle.rules.specs.declared.start.Arguments.the-variants as A
-use Rattle.rules.specs.declared.node.StatementNode.{StatementNode}
-use Rattle.rules.specs.declared.node.StatementNode.the-variants as Y
+use Rattle.program.specs.declared.node.StatementNode.{StatementNode}
+use Rattle.program.specs.declared.node.StatementNode.the-variants as Y
 use Rattle.rules.specs.declared.finding.Typing.{Typing}
 use Rattle.rules.specs.declared.finding.Typing.the-variants.{Typed, Untyped}
 use Rattle.rules.specs.declared.finding.Conduct.{Conduct}
@@ -40,15 +41,15 @@ use Rattle.rules.proofs.TypingLaws.{TypeAt}
 use Rattle.rules.proofs.DescentLaws.{lower-in, let-fits}
 
 -- ---- where a statement stands
-pub is-private : (s o : ℕ) → o ≡ 1 → s ≡ o → standing false ≡ standingAt s
+pub linked-at : (s : ℕ) (x : Bool) → x ≡ eqb s 1 → not x ≡ isLinked (standingAt s)
 unfolding standingAt
-is-private s o e h = sym (if-yes unlinked linked (eq-eqb s 1 (h ∙ e)))
+linked-at s x e =
+    let b = eqb s 1 in
+    ap not e ∙ if-all (λ (z : Standing). not b ≡ isLinked z) b unlinked linked (ap not) (ap not)
 
-pub is-scheduler : (s o : ℕ) → o ≡ 1 → (s ≡ o → ⊥) → standing true ≡ standingAt s
-unfolding standingAt
-is-scheduler s o e h = sym (if-no unlinked linked (ne-eqb s 1 (λ q. h (q ∙ sym e))))
-
-pub ruleset linked-laws = (is-private, is-scheduler)
+standing-is : (z : Standing) → standing (isLinked z) ≡ z
+standing-is linked = refl
+standing-is unlinked = refl
 
 -- ---- the arguments of a start
 abbrev ArgueAt : List ℕ → List ℕ → List ℕ → ℕ → ℕ → Argued
@@ -91,7 +92,8 @@ abbrev conductBy : (ℕ → Typing) → (ℕ → List ℕ → Standing → Condu
 conductBy T R As below Γ at i Y.Nothing let-in = Does noEffect true
 conductBy T R As below Γ at i Y.Cooperate let-in = cooperateRule at i
 conductBy T R As below Γ at i (Y.Seq a b) let-in = seqRule (R a Γ at) (R b Γ at)
-conductBy T R As below Γ at i (Y.DoAt s a) let-in = doRule at s i (R a Γ (standingAt s))
+conductBy T R As below Γ at i (Y.DoAt s a) let-in =
+    doRule at (s .number) i (R a Γ (standingAt (s .number)))
 conductBy T R As below Γ at i (Y.Start s a b) let-in = startRule true below at s i (As a b)
 conductBy T R As below Γ at i (Y.StartWait s a b) let-in = startRule false below at s i (As a b)
 conductBy T R As below Γ at i (Y.LetIn a b) let-in = let-in b (T a)
@@ -162,8 +164,15 @@ module _ (cells sigs ws scope : List ℕ) (m i : ℕ) (l : Bool) (f : Frame) (n 
   pub run-seq : (a b : ℕ) (x y r : Conduct) → Where (Y.Seq a b) (R a x → R b y → r ≡ seqRule x y → R i r)
   run-seq a b x y r h k q g u v z = by-node (Y.Seq a b) r h k q g (z ∙ ap (λ (c : Conduct). seqRule c y) u ∙ ap (seqRule (found a)) v)
 
-  pub run-do : (s a : ℕ) (o : Bool) (x r : Conduct) → Where (Y.DoAt s a) (standing o ≡ standingAt s → x ≡ RunAt cells (map signatureOf sigs) ws a (take m scope) (standing o) → r ≡ doRule (standing l) s i x → R i r)
-  run-do s a o x r h k q g d u z = by-node (Y.DoAt s a) r h k q g (z ∙ ap (doRule (standing l) s i) (u ∙ ap (RunAt cells (map signatureOf sigs) ws a (take m scope)) d))
+  pub run-do : (s : Place) (a : ℕ) (o : Bool) (x r : Conduct)
+      → Where (Y.DoAt s a) (o ≡ isLinked (standingAt (s .number))
+      → x ≡ RunAt cells (map signatureOf sigs) ws a (take m scope) (standing o)
+      → r ≡ doRule (standing l) (s .number) i x → R i r)
+  run-do s a o x r h k q g d u z =
+      let e = ap standing d ∙ standing-is (standingAt (s .number)) in
+      by-node (Y.DoAt s a) r h k q g
+      (z ∙ ap (doRule (standing l) (s .number) i)
+      (u ∙ ap (RunAt cells (map signatureOf sigs) ws a (take m scope)) e))
 
   pub run-start : (s a b : ℕ) (x : Arguments) (r : Conduct) → Where (Y.Start s a b) (arguedOf x ≡ ArgueAt cells (take m scope) ws a b → r ≡ startRule true (map signatureOf sigs) (standing l) s i (arguedOf x) → R i r)
   run-start s a b x r h k q g d z = by-node (Y.Start s a b) r h k q g (z ∙ ap (startRule true (map signatureOf sigs) (standing l) s i) d)

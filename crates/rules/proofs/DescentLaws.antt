@@ -7,6 +7,7 @@ use native.Mathlib.Omega.{arith}
 use lib.ListN.{length-map}
 use Rattle.basics.specs.Members.{In, first, later}
 use Rattle.language.specs.Kinds.{Child, child, children, childIn}
+use Rattle.language.specs.declared.Place.{Place}
 use Rattle.language.specs.declared.kind.StatementKind.{StatementKind}
 use Rattle.language.specs.declared.kind.StatementKind.the-variants as S
 use Rattle.language.specs.declared.kind.ExpressionKind.{ExpressionKind}
@@ -19,14 +20,14 @@ use Rattle.language.specs.declared.frame.Frame.{Frame}
 use Rattle.text.specs.Frames.{framesOf}
 use Rattle.program.specs.Trees.{frameAt}
 use Rattle.layout.specs.Scope.{Room}
-use Rattle.layout.proofs.Trees.{childrenAs}
+use Rattle.program.proofs.NodeLaws.{childrenAs}
 use Rattle.layout.proofs.Scopes.{child-below, room-more, room-child, room-most}
-use Rattle.rules.specs.Nodes.{expressionNodeOf, expressionNodeIn, expressionNode, statementNodeOf, statementNodeIn, statementNode}
+use Rattle.program.specs.Nodes.{expressionNodeOf, expressionNodeIn, expressionNode, statementNodeOf, statementNodeIn, statementNode}
 use Rattle.rules.specs.Frames.{FrameIn}
-use Rattle.rules.specs.declared.node.ExpressionNode.{ExpressionNode}
-use Rattle.rules.specs.declared.node.ExpressionNode.the-variants as X
-use Rattle.rules.specs.declared.node.StatementNode.{StatementNode}
-use Rattle.rules.specs.declared.node.StatementNode.the-variants as Y
+use Rattle.program.specs.declared.node.ExpressionNode.{ExpressionNode}
+use Rattle.program.specs.declared.node.ExpressionNode.the-variants as X
+use Rattle.program.specs.declared.node.StatementNode.{StatementNode}
+use Rattle.program.specs.declared.node.StatementNode.the-variants as Y
 use Rattle.rules.proofs.NodeLaws.{AtExpression, expression-here, AtStatement, statement-here}
 
 -- ---- a child of frame i
@@ -140,10 +141,10 @@ module _ (ws : List ℕ) (i : ℕ) (f : Frame) (n : ExpressionNode) where
   its-kidsE : {v : ExpressionNode} → WhereE v (KidsE (children (frameAt (framesOf ws) i)) v)
   its-kidsE {v} h k e g = subst (KidsE (children (frameAt (framesOf ws) i))) (expression-here ws i f n v h k e g) (kidsE (frameAt (framesOf ws) i))
 
-  pub new-a-falls : (t s a : ℕ) → WhereE (X.NewCell s a) (i ≡ t → a < t)
+  pub new-a-falls : (t : ℕ) (s : Place) (a : ℕ) → WhereE (X.NewCell s a) (i ≡ t → a < t)
   new-a-falls t s a h k e g = child-falls g (its-kidsE h k e g) t
 
-  pub new-a-in : (s a : ℕ) → WhereE (X.NewCell s a) (FrameIn ws a)
+  pub new-a-in : (s : Place) (a : ℕ) → WhereE (X.NewCell s a) (FrameIn ws a)
   new-a-in s a h k e g = child-in g (its-kidsE h k e g)
 
   pub content-a-falls : (t a : ℕ) → WhereE (X.Content a) (i ≡ t → a < t)
@@ -220,13 +221,14 @@ module _ (ws : List ℕ) (i : ℕ) (f : Frame) (n : StatementNode) where
   pub seq-b-room : (m a b : ℕ) → WhereS (Y.Seq a b) (Room (framesOf ws) i m → Room (framesOf ws) b m)
   seq-b-room m a b h k e g r = room-child r (its-kidsS h k e g .1)
 
-  pub do-a-falls : (t s a : ℕ) → WhereS (Y.DoAt s a) (i ≡ t → a < t)
+  pub do-a-falls : (t : ℕ) (s : Place) (a : ℕ) → WhereS (Y.DoAt s a) (i ≡ t → a < t)
   do-a-falls t s a h k e g = child-falls g (its-kidsS h k e g) t
 
-  pub do-a-in : (s a : ℕ) → WhereS (Y.DoAt s a) (FrameIn ws a)
+  pub do-a-in : (s : Place) (a : ℕ) → WhereS (Y.DoAt s a) (FrameIn ws a)
   do-a-in s a h k e g = child-in g (its-kidsS h k e g)
 
-  pub do-a-room : (m s a : ℕ) → WhereS (Y.DoAt s a) (Room (framesOf ws) i m → Room (framesOf ws) a m)
+  pub do-a-room : (m : ℕ) (s : Place) (a : ℕ)
+      → WhereS (Y.DoAt s a) (Room (framesOf ws) i m → Room (framesOf ws) a m)
   do-a-room m s a h k e g r = room-child r (its-kidsS h k e g)
 
   pub let-a-in : (a b : ℕ) → WhereS (Y.LetIn a b) (FrameIn ws a)

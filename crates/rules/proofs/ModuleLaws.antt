@@ -7,8 +7,9 @@ use native.Mathlib.Numerals.{add-one}
 use native.Mathlib.Omega.{arith}
 use lib.ListN.{length, take, drop, set, replicate, length-map, length-set, drop-of-length-le}
 use lib.Seq.{drop-cons, take-all, take-suc, take-suc-set}
+use Rattle.basics.specs.If.{if_then_else_}
 use Rattle.basics.specs.Members.{In}
-use Rattle.basics.proofs.Ifs.{yes, no}
+use Rattle.basics.proofs.Ifs.{if-yes, if-no, yes, no}
 use Rattle.language.specs.Places.{linked}
 use Rattle.language.specs.Kinds.{isModule, child}
 use Rattle.language.specs.Effects.{within}
@@ -24,19 +25,20 @@ use Rattle.program.specs.Trees.{noFrame, frameAt, statementAt}
 use Rattle.program.specs.Programs.{Part, partOf, withPart, modulesFrom, sharedOf}
 use Rattle.layout.specs.Fields.{countOf, schedulersOf, frameFine}
 use Rattle.layout.specs.Scope.{Room}
+use Rattle.layout.specs.Faults.{NoFault}
 use Rattle.layout.specs.Passes.{tallyOf}
 use Rattle.layout.specs.declared.fields.Tally.{Tally}
-use Rattle.layout.proofs.Scopes.{in-a, room-body, child-below, main-last}
+use Rattle.layout.proofs.Scopes.{in-a, room-body, child-below, main-last, frame-right}
 use Rattle.layout.proofs.Tallies.{counted-one, counted-none}
 use Rattle.layout.proofs.Trees.{is-module}
 use Rattle.rules.specs.Rules.{Signature, signature}
 use Rattle.rules.specs.Checking.{runIn, mainRule, afterModule, modulesIn}
 use Rattle.rules.specs.Signatures.{signatureOf, signatureWith}
 use Rattle.rules.specs.Frames.{FrameIn, FileIn}
-use Rattle.rules.specs.Modules.{NextModule}
+use Rattle.rules.specs.Modules.{nextModule}
 use Rattle.rules.specs.declared.finding.Conduct.{Conduct}
 use Rattle.rules.specs.declared.finding.Conduct.the-variants.{Does, Fails}
-use Rattle.rules.proofs.FineFrames.{frame-fine, few-schedulers, few-modules, few-parameters}
+use Rattle.rules.proofs.FineFrames.{few-schedulers, few-modules, few-parameters}
 
 -- ---- 'main has an effect within {2}'
 pub main-within : (i : ℕ) (e : Effect) (x : Bool) → x ≡ within 2 e → x ≡ true → Accepted ≡ mainRule i e
@@ -59,7 +61,7 @@ pub file-schedulers : (ws : List ℕ) → FileIn ws → schedulersOf (framesOf w
 file-schedulers ws g = few-schedulers (framesOf ws) (g .laid-out)
 
 pub file-fine : (ws : List ℕ) (i : ℕ) → FileIn ws → i < length ws → frameFine (framesOf ws) i (frameAt (framesOf ws) i) ≡ true
-file-fine ws i g h = frame-fine (framesOf ws) (g .laid-out) i (rw length-map h)
+file-fine ws i g h = frame-right (framesOf ws) (g .laid-out) i (rw length-map h)
 
 pub tally-end : (ws : List ℕ) (t : Tally) (i : ℕ) → Tallied ws t i → length ws ≤ i → t ≡ tallyOf (framesOf ws)
 tally-end ws t i g h = g .1 ∙ ap tallyOf (take-all i (framesOf ws) (rw length-map h))
@@ -89,39 +91,112 @@ module _ (fs : List Frame) where
   skip : (k : ℕ) → k < length fs → isModule (frameAt fs k .kind) ≡ false → partsFrom fs k ≡ partsFrom fs (suc k)
   skip k h e = from k h ∙ no-part k (frameAt fs k) (frameAt fs k .kind) (partsFrom fs (suc k)) e
 
--- k is at or behind i, and no module stands between
+-- the next module at frame k or behind it
+abbrev nextFrom : List ℕ → ℕ → ℕ
+nextFrom ws k = nextModule k (drop k (framesOf ws))
+
+module _ (ws : List ℕ) (k : ℕ) (l : k < length ws) where
+  inside : k < length (framesOf ws)
+  inside = rw length-map l
+
+  next-step : nextFrom ws k
+      ≡ (if isModule (frameAt (framesOf ws) k .kind) then k else nextFrom ws (suc k))
+  unfolding nextModule
+  next-step = ap (nextModule k) (drop-cons (framesOf ws) k noFrame inside)
+
+  next-here : isModule (frameAt (framesOf ws) k .kind) ≡ true → nextFrom ws k ≡ k
+  next-here e = next-step ∙ if-yes k (nextFrom ws (suc k)) e
+
+  next-on : isModule (frameAt (framesOf ws) k .kind) ≡ false → nextFrom ws k ≡ nextFrom ws (suc k)
+  next-on e = next-step ∙ if-no k (nextFrom ws (suc k)) e
+
+  -- the last frame is one
+  last-module : NoFault (framesOf ws) → length ws ≤ k + 1 → frameAt (framesOf ws) k .kind ≡ Module
+  last-module clean h =
+      let n : length (framesOf ws) - 1 ≡ k =
+      ap (λ (m : ℕ). m - 1) (length-map ws frameOfWord) ∙ omega arith in
+      let m = main-last (framesOf ws) clean (rw length-map (omega arith)) .0 in
+      ap (λ (j : ℕ). frameAt (framesOf ws) j .kind) (sym n) ∙ m
+
+-- the code's loop: no module stands between i and k
 pub record Seeking (ws : List ℕ) (i k : ℕ) : Type 0 where
-  pub onward : i ≤ k
   pub there : k < length ws
-  pub same : partsFrom (framesOf ws) i ≡ partsFrom (framesOf ws) k
-  pub count : countOf isModule (take i (framesOf ws)) ≡ countOf isModule (take k (framesOf ws))
+  pub same : nextFrom ws i ≡ nextFrom ws k
 
 pub seek-start : (ws : List ℕ) (i : ℕ) → FrameIn ws i → Seeking ws i i
-seek-start ws i g = record { onward = omega arith; there = g .there; same = refl; count = refl }
+seek-start ws i g = record { there = g .there; same = refl }
 
 module _ (ws : List ℕ) (i k : ℕ) (s : Seeking ws i k) where
-  inside : k < length (framesOf ws)
-  inside = rw length-map (s .there)
+  module _ (f : Frame) (x : Bool)
+      (e : f ≡ frameAt (framesOf ws) k) (h : x ≡ isModule (f .kind)) where
+    kind-is : (b : Bool) → x ≡ b → isModule (frameAt (framesOf ws) k .kind) ≡ b
+    kind-is b t = ap (λ (g : Frame). isModule (g .kind)) (sym e) ∙ sym h ∙ t
 
-  pub seek-here : (f : Frame) (x : Bool) → f ≡ frameAt (framesOf ws) k → x ≡ isModule (f .kind) → x ≡ true → NextModule ws i k
-  seek-here f x e h t = record { onward = s .onward; there = s .there; is = is-module _ (ap (λ (g : Frame). isModule (g .kind)) (sym e) ∙ sym h ∙ t); same = s .same; count = s .count }
+    pub seek-here : x ≡ true → k ≡ nextFrom ws i
+    seek-here t = sym (s .same ∙ next-here ws k (s .there) (kind-is true t))
 
-  pub seek-on : (f : Frame) (x : Bool) → f ≡ frameAt (framesOf ws) k → x ≡ isModule (f .kind) → x ≡ false → k + 1 < length ws → Seeking ws i (k + 1)
-  seek-on f x e h t l =
-      let q : isModule (frameAt (framesOf ws) k .kind) ≡ false = ap (λ (g : Frame). isModule (g .kind)) (sym e) ∙ sym h ∙ t in
+    pub seek-on : x ≡ false → k + 1 < length ws → Seeking ws i (k + 1)
+    seek-on t l =
+        let n = next-on ws k (s .there) (kind-is false t) in
+        record { there = l; same = s .same ∙ n ∙ ap (nextFrom ws) (sym (add-one k)) }
+
+  pub seek-last : FrameIn ws i → length ws ≤ k + 1 → k ≡ nextFrom ws i
+  seek-last g l =
+      let e = last-module ws k (s .there) (g .laid-out) l in
+      sym (s .same ∙ next-here ws k (s .there) (ap isModule e))
+
+-- r is the first module at frame i or behind it: the modules from i on are those from r on
+record NextModule (ws : List ℕ) (i r : ℕ) : Type 0 where
+  onward : i ≤ r
+  there : r < length ws
+  is : frameAt (framesOf ws) r .kind ≡ Module
+  same : partsFrom (framesOf ws) i ≡ partsFrom (framesOf ws) r
+  count : countOf isModule (take i (framesOf ws)) ≡ countOf isModule (take r (framesOf ws))
+
+module _ (ws : List ℕ) (clean : NoFault (framesOf ws)) where
+  at-module : (k : ℕ) → k < length ws → frameAt (framesOf ws) k .kind ≡ Module
+      → NextModule ws k (nextFrom ws k)
+  at-module k l e =
+      subst (NextModule ws k) (sym (next-here ws k l (ap isModule e)))
+      (record { onward = omega arith; there = l; is = e; same = refl; count = refl })
+
+  before-module : (k r : ℕ) → k < length ws → isModule (frameAt (framesOf ws) k .kind) ≡ false
+      → NextModule ws (suc k) r → NextModule ws k r
+  before-module k r l e n =
+      let fs = framesOf ws in
+      let h = inside ws k l in
+      let one = ap (countOf isModule) (take-suc fs k noFrame h) in
+      let none = counted-none isModule (take k fs) (frameAt fs k) e in
       record {
-        onward = (let o = s .onward in omega arith);
-        there = l;
-        same = s .same ∙ skip (framesOf ws) k inside q ∙ ap (partsFrom (framesOf ws)) (sym (add-one k));
-        count = s .count ∙ sym (ap (countOf isModule) (take-suc (framesOf ws) k noFrame inside) ∙ counted-none isModule (take k (framesOf ws)) (frameAt (framesOf ws) k) q) ∙ ap (λ (n : ℕ). countOf isModule (take n (framesOf ws))) (sym (add-one k));
+        onward = (let o = n .onward in omega arith);
+        there = n .there;
+        is = n .is;
+        same = skip fs k h e ∙ n .same;
+        count = sym (one ∙ none) ∙ n .count;
       }
 
-  pub seek-last : FrameIn ws i → length ws ≤ k + 1 → NextModule ws i k
-  seek-last g l =
-      let t = s .there in
-      let n : length (framesOf ws) - 1 ≡ k = ap (λ (m : ℕ). m - 1) (length-map ws frameOfWord) ∙ omega arith in
-      let m = main-last (framesOf ws) (g .laid-out) (rw length-map (omega arith)) .0 in
-      record { onward = s .onward; there = t; is = ap (λ (j : ℕ). frameAt (framesOf ws) j .kind) (sym n) ∙ m; same = s .same; count = s .count }
+  -- by the number of frames behind k
+  next-from : (n k : ℕ) → length ws ≡ suc (n + k) → NextModule ws k (nextFrom ws k)
+  next-from zero k e =
+      let l : k < length ws = omega arith in
+      at-module k l (last-module ws k l clean (omega arith))
+  next-from (suc n) k e =
+      go (isModule (frameAt (framesOf ws) k .kind)) refl (next-from n (suc k) (omega arith))
+    where
+      l : k < length ws
+      l = omega arith
+
+      go : (b : Bool) → isModule (frameAt (framesOf ws) k .kind) ≡ b
+          → NextModule ws (suc k) (nextFrom ws (suc k)) → NextModule ws k (nextFrom ws k)
+      go true t m = at-module k l (is-module _ t)
+      go false t m =
+          let e = sym (next-on ws k l t) in
+          before-module k (nextFrom ws k) l t (subst (NextModule ws (suc k)) e m)
+
+next-is : (ws : List ℕ) (i r : ℕ) → r ≡ nextFrom ws i → FrameIn ws i → NextModule ws i r
+next-is ws i r e g =
+    let t = g .there in
+    subst (NextModule ws i) (sym e) (next-from ws (g .laid-out) (length ws - suc i) i (omega arith))
 
 -- ---- the body of a module
 take-two : (s b c : ℕ) (l : List ℕ) → s ≤ 2 → take s (b ∷ c ∷ l) ≡ take s (b ∷ c ∷ [])
@@ -165,9 +240,19 @@ pub record Judging (cells ws below : List ℕ) (m i : ℕ) : Type 0 where
 pub file-first : (ws : List ℕ) → FileIn ws → FrameIn ws 0
 file-first ws g = record { laid-out = g .laid-out; there = g .some; few = g .few }
 
-pub judge-start : (cells ws : List ℕ) (i : ℕ) → FileIn ws → NextModule ws 0 i → Judging cells ws (replicate 16 0) 0 i
+pub judge-start : (cells ws : List ℕ) (i : ℕ) → i ≡ nextFrom ws 0 → FileIn ws
+    → Judging cells ws (replicate 16 0) 0 i
 unfolding countOf
-judge-start cells ws i g n = record { file = g; there = n .there; module-at = n .is; count = n .count; wide = refl; rest = ap (modulesIn cells []) (sym (n .same)) }
+judge-start cells ws i e g =
+    let n = next-is ws 0 i e (file-first ws g) in
+    record {
+      file = g;
+      there = n .there;
+      module-at = n .is;
+      count = n .count;
+      wide = refl;
+      rest = ap (modulesIn cells []) (sym (n .same));
+    }
 
 module _ (cells ws below : List ℕ) (m i : ℕ) (j : Judging cells ws below m i) where
   inside-fs : i < length (framesOf ws)
@@ -229,8 +314,11 @@ module _ (cells ws below : List ℕ) (m i : ℕ) (j : Judging cells ws below m i
         let z : later ≡ [] = ap (modulesFrom (framesOf ws) (suc i)) (drop-of-length-le (framesOf ws) {i = suc i} (rw length-map (omega arith))) in
         d ∙ sym (after-last (λ sigs. modulesIn cells sigs later) known (partOf (framesOf ws) i f) e b z) ∙ by-body (Does e b) h
 
-    pub judge-more : (e : Effect) (b : Bool) (w r : ℕ) → c ≡ Does e b → signatureOf w ≡ signatureWith (f .s) (f .b) (f .c) e → NextModule ws (i + 1) r → Judging cells ws (set below m w) (m + 1) r
-    judge-more e b w r h d n =
+    pub judge-more : (e : Effect) (b : Bool) (w r : ℕ) → c ≡ Does e b
+        → signatureOf w ≡ signatureWith (f .s) (f .b) (f .c) e
+        → r ≡ nextFrom ws (i + 1) → i + 1 < length ws → Judging cells ws (set below m w) (m + 1) r
+    judge-more e b w r h d x y =
+        let n = next-is ws (i + 1) r x (judge-next y) in
         let s = judge-few in
         let wide = j .wide in
         let next : later ≡ partsFrom (framesOf ws) r = ap (partsFrom (framesOf ws)) (sym (add-one i)) ∙ n .same in
@@ -246,5 +334,6 @@ module _ (cells ws below : List ℕ) (m i : ℕ) (j : Judging cells ws below m i
           rest = ap₂ (modulesIn cells) sigs (sym next) ∙ sym (after-earlier (λ sigs. modulesIn cells sigs later) known (partOf (framesOf ws) i f) e b head) ∙ by-body (Does e b) h;
         }
 
-pub judge-falls : (ws : List ℕ) (i r : ℕ) → NextModule ws (i + 1) r → i + 1 < length ws → length ws - r < length ws - i
-judge-falls ws i r n h = let o = n .onward in omega arith
+  pub judge-falls : (r : ℕ) → r ≡ nextFrom ws (i + 1) → i + 1 < length ws
+      → length ws - r < length ws - i
+  judge-falls r e h = let o = next-is ws (i + 1) r e (judge-next h) .onward in omega arith

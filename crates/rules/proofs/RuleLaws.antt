@@ -2,14 +2,13 @@
 use mathlib.Core.Path.{_≡_, refl, sym, ap, _∙_}
 use mathlib.Core.Bool.{Bool, true, false, not, _&&_, _||_, true≢false}
 use mathlib.Core.List.{List}
-use Prim.Native.Nat.{ℕ, _^_, _<_, _≤_}
+use Prim.Native.Nat.{ℕ, _<_, _≤_}
 use native.Mathlib.Omega.{arith}
-use lib.Dec.{leb, eqb}
+use lib.Dec.{eqb}
 use lib.ListN.{length, getD}
-use borrow.Author.Tests.{lt-ltb, le-ltb, eq-eqb, ne-eqb, le-leb, leb-true, not-true, not-false}
-use Rattle.basics.specs.If.{if_then_else_}
-use Rattle.basics.proofs.Ifs.{if-all, yes, no, and-true, or-off}
-use Rattle.language.specs.Places.{isPlace, placeRead}
+use borrow.Author.Tests.{lt-ltb, le-ltb, eq-eqb, ne-eqb, not-true, not-false}
+use Rattle.basics.proofs.Ifs.{if-all, yes, no, and-true}
+use Rattle.language.specs.Places.{isPlace, isScheduler, placeRead}
 use Rattle.language.specs.Types.{isCell, cellType, ownerOf, contentOf, roomAround, public, cellRead}
 use Rattle.language.specs.Effects.{noEffect, _∪_, withOwner, within}
 use Rattle.language.specs.declared.Place.{Place}
@@ -18,6 +17,7 @@ use Rattle.language.specs.declared.PlaceRead.the-variants.{At, NoPlace}
 use Rattle.language.specs.declared.type_word.CellRead.{CellRead}
 use Rattle.language.specs.declared.type_word.CellRead.the-variants.{Word, TooDeep}
 use Rattle.language.specs.declared.effect.Effect.{Effect}
+use Rattle.language.proofs.PlaceLaws.{read-at, read-none, scheduler-place}
 use Rattle.rules.specs.Checking.{namedRule, newRule, contentRule, numbersRule, chooseRule, cooperateRule, seqRule, doRule, joinRule, storeRule, ifElseRule, whileRule}
 use Rattle.rules.specs.Standings.{standing}
 use Rattle.rules.specs.declared.finding.Typing.{Typing}
@@ -27,17 +27,7 @@ use Rattle.rules.specs.declared.finding.Conduct.the-variants.{Does, Fail
 
 -- In the names: X-fault is what is found where the first child has a fault, X-fault-2 where the second has the first fault; X-row hands on the answer of the function that takes the children's types and effects; X-by is the rule on equal findings.
 
--- ---- what a constructor of places, and of types of cells, answered
-read-at : (t : Bool) (s : ℕ) (q : Place) → placeRead t s ≡ At q → q .number ≡ s
-unfolding placeRead if_then_else_
-read-at true s q e = cc
-read-at false s q e = absurd (let z : _≡_ {A = ℕ} 0 1 = cc in omega arith)
-
-read-none : (t : Bool) (s : ℕ) → placeRead t s ≡ NoPlace → t ≡ false
-unfolding placeRead if_then_else_
-read-none true s e = absurd (let z : _≡_ {A = ℕ} 0 1 = cc in omega arith)
-read-none false s e = refl
-
+-- ---- what the constructor of a cell's type answered
 read-word : (o t w : ℕ) → cellRead o t ≡ Word w → (roomAround t ≡ true) × (w ≡ cellType o t)
 unfolding cellRead
 read-word o t w =
@@ -52,9 +42,6 @@ read-deep o t p =
     (λ k e. absurd (let z : _≡_ {A = ℕ} 0 1 = cc in omega arith))
     (λ k e. sym (ap (λ (x : Bool). x && roomAround t) p) ∙ k)
 
-is-place : (s : ℕ) → 1 ≤ s → s ≤ 9 → isPlace s ≡ true
-is-place s a b = rw (le-leb 1 s a, le-leb s 9 b)
-
 -- ---- 22 and 23, a variable or a shared cell
 module _ (ts : List ℕ) (s i : ℕ) where
   pub named-there : (e : Effect) → s < length ts → e ≡ noEffect → Typed (getD ts s 0) e ≡ namedRule ts s i
@@ -68,39 +55,35 @@ module _ (ts : List ℕ) (s i : ℕ) where
 pub ruleset named-laws = (named-there, named-missing)
 
 -- ---- 24, a new cell
-module _ (s i t : ℕ) (e : Effect) (p : PlaceRead) (r : p ≡ placeRead (isPlace s) s) (a : 1 ≤ s) (b : s ≤ 9) where
-  pub new-none : p ≡ NoPlace → Untyped 9 i ≡ newRule s i (Typed t e)
-  new-none f = absurd (true≢false (sym (is-place s a b) ∙ read-none (isPlace s) s (sym r ∙ f)))
+module _ (s i t : ℕ) (e : Effect) (c : CellRead) (d : c ≡ cellRead s t) where
+  pub new-deep : c ≡ TooDeep → isPlace s ≡ true → Untyped 9 i ≡ newRule s i (Typed t e)
+  unfolding newRule
+  new-deep h p = yes _ (ap not (read-deep s t p (sym d ∙ h))) refl
 
-  module _ (q : Place) (f : p ≡ At q) (c : CellRead) (d : c ≡ cellRead (q .number) t) where
-    same : q .number ≡ s
-    same = read-at (isPlace s) s q (sym r ∙ f)
+  module _ (w : ℕ) (h : c ≡ Word w) where
+    room : not (roomAround t) ≡ false
+    room = ap not (read-word s t w (sym d ∙ h) .0)
 
-    pub new-deep : c ≡ TooDeep → Untyped 9 i ≡ newRule s i (Typed t e)
+    word : w ≡ cellType s t
+    word = read-word s t w (sym d ∙ h) .1
+
+    pub new-private : (x : Bool) → x ≡ eqb s 1 → x ≡ true → Typed w e ≡ newRule s i (Typed t e)
     unfolding newRule
-    new-deep h = yes _ (ap not (read-deep (q .number) t (ap isPlace same ∙ is-place s a b) (sym d ∙ h))) refl
+    new-private x g k = no _ room (yes _ (sym g ∙ k) (ap (λ (n : ℕ). Typed n e) word))
 
-    module _ (w : ℕ) (h : c ≡ Word w) where
-      room : not (roomAround t) ≡ false
-      room = ap not (read-word (q .number) t w (sym d ∙ h) .0)
-
-      word : w ≡ cellType s t
-      word = read-word (q .number) t w (sym d ∙ h) .1 ∙ ap (λ (o : ℕ). cellType o t) same
-
-      pub new-private : (x : Bool) → x ≡ eqb (q .number) 1 → x ≡ true → Typed w e ≡ newRule s i (Typed t e)
+    module _ (x : Bool) (g : x ≡ eqb s 1) (k : x ≡ false) (y : Bool) (l : y ≡ public t) where
+      pub new-public : (o : Effect) → o ≡ withOwner s e → y ≡ true
+          → Typed w o ≡ newRule s i (Typed t e)
       unfolding newRule
-      new-private x g k = no _ room (yes _ (ap (λ (o : ℕ). eqb o 1) (sym same) ∙ sym g ∙ k) (ap (λ (n : ℕ). Typed n e) word))
+      new-public o n m =
+          no _ room (no _ (sym g ∙ k) (no _ (ap not (sym l ∙ m))
+          (ap (λ (u : ℕ). Typed u o) word ∙ ap (Typed (cellType s t)) n)))
 
-      module _ (x : Bool) (g : x ≡ eqb (q .number) 1) (k : x ≡ false) (y : Bool) (l : y ≡ public t) where
-        pub new-public : (o : Effect) → o ≡ withOwner s e → y ≡ true → Typed w o ≡ newRule s i (Typed t e)
-        unfolding newRule
-        new-public o n m = no _ room (no _ (ap (λ (o : ℕ). eqb o 1) (sym same) ∙ sym g ∙ k) (no _ (ap not (sym l ∙ m)) (ap (λ (u : ℕ). Typed u o) word ∙ ap (Typed (cellType s t)) n)))
+      pub new-escapes : y ≡ false → Untyped 10 i ≡ newRule s i (Typed t e)
+      unfolding newRule
+      new-escapes m = no _ room (no _ (sym g ∙ k) (yes _ (ap not (sym l ∙ m)) refl))
 
-        pub new-escapes : y ≡ false → Untyped 10 i ≡ newRule s i (Typed t e)
-        unfolding newRule
-        new-escapes m = no _ room (no _ (ap (λ (o : ℕ). eqb o 1) (sym same) ∙ sym g ∙ k) (yes _ (ap not (sym l ∙ m)) refl))
-
-pub ruleset new-typed-laws = (new-none, new-deep, new-private, new-public, new-escapes)
+pub ruleset new-typed-laws = (new-deep, new-private, new-public, new-escapes)
 
 pub new-fault : (s i n j : ℕ) (x : Typing) → x ≡ Untyped n j → Untyped n j ≡ newRule s i x
 unfolding newRule
@@ -111,6 +94,29 @@ new-row s i t e x r h k = k ∙ ap (newRule s i) (sym h)
 
 pub ruleset new-laws = (new-fault, new-row)
 
+-- ---- the owner of a cell's type, added to an effect
+
+-- what is no place is no scheduler
+no-scheduler : (n : ℕ) (b : Bool) → isScheduler n ≡ b → isPlace n ≡ false → isScheduler n ≡ false
+no-scheduler n true e h = absurd (true≢false (sym (scheduler-place n e) ∙ h))
+no-scheduler n false e h = e
+
+module _ (t : ℕ) (e : Effect) (p : PlaceRead)
+    (r : p ≡ placeRead (isPlace (ownerOf t)) (ownerOf t)) where
+  pub owner-there : (q : Place) (f : Effect) → p ≡ At q → f ≡ withOwner (q .number) e
+      → f ≡ withOwner (ownerOf t) e
+  owner-there q f h k =
+      let n = read-at (isPlace (ownerOf t)) (ownerOf t) q (sym r ∙ h) .1 in
+      k ∙ ap (λ (o : ℕ). withOwner o e) n
+
+  pub owner-none : p ≡ NoPlace → e ≡ withOwner (ownerOf t) e
+  unfolding withOwner
+  owner-none h =
+      let n = read-none (isPlace (ownerOf t)) (ownerOf t) (sym r ∙ h) in
+      no _ (no-scheduler (ownerOf t) (isScheduler (ownerOf t)) refl n) refl
+
+pub ruleset owner-laws = (owner-there, owner-none)
+
 -- ---- 25, the content of a cell
 module _ (i : ℕ) (x : Typing) where
   pub content-fault : (n j : ℕ) → x ≡ Untyped n j → Untyped n j ≡ contentRule i x
@@ -118,9 +124,13 @@ module _ (i : ℕ) (x : Typing) where
   content-fault n j h = ap (contentRule i) (sym h)
 
   module _ (t : ℕ) (e : Effect) (h : x ≡ Typed t e) (y : Bool) (k : y ≡ isCell t) where
-    pub content-read : (u o : ℕ) (f : Effect) → y ≡ true → u ≡ contentOf t → o ≡ ownerOf t → f ≡ withOwner o e → Typed u f ≡ contentRule i x
+    pub content-read : (u : ℕ) (f : Effect)
+        → y ≡ true → u ≡ contentOf t → f ≡ withOwner (ownerOf t) e
+        → Typed u f ≡ contentRule i x
     unfolding contentRule
-    content-read u o f m a b d = yes (Untyped 9 i) (sym k ∙ m) (ap (λ (n : ℕ). Typed n f) a ∙ ap (Typed (contentOf t)) (d ∙ ap (λ (n : ℕ). withOwner n e) b)) ∙ ap (contentRule i) (sym h)
+    content-read u f m a d =
+        yes (Untyped 9 i) (sym k ∙ m) (ap (λ (n : ℕ). Typed n f) a ∙ ap (Typed (contentOf t)) d)
+        ∙ ap (contentRule i) (sym h)
 
     pub content-none : y ≡ false → Untyped 9 i ≡ contentRule i x
     unfolding contentRule
@@ -235,21 +245,6 @@ module _ (x y : Conduct) where
 pub ruleset seq-laws = (seq-fault, seq-fault-2, seq-first, seq-never)
 
 -- ---- 12, at a place
-module _ (e : Effect) (s : ℕ) (p : PlaceRead) (r : p ≡ placeRead (isPlace s) s) where
-  pub within-there : (q : Place) (b : Bool) → p ≡ At q → b ≡ within (q .number) e → b ≡ within s e
-  within-there q b f h = h ∙ ap (λ (n : ℕ). within n e) (read-at (isPlace s) s q (sym r ∙ f))
-
-  pub within-nowhere : (b : Bool) → p ≡ NoPlace → b ≡ eqb (e .bits) 0 → b ≡ within s e
-  unfolding within
-  within-nowhere b f h = h ∙ low (leb 2 s) refl
-    where
-      -- what is no place is no scheduler
-      low : (u : Bool) → leb 2 s ≡ u → eqb (e .bits) 0 ≡ (eqb (e .bits) 0 || (leb 2 s && leb s 9) && eqb (e .bits) (2 ^ s))
-      low true v = rw (v, sym (ap (λ (a : Bool). a && leb s 9) (le-leb 1 s (let w = leb-true 2 s v in omega arith))) ∙ read-none (isPlace s) s (sym r ∙ f)) (or-off (eqb (e .bits) 0))
-      low false v = rw v (or-off (eqb (e .bits) 0))
-
-pub ruleset within-laws = (within-there, within-nowhere)
-
 module _ (l : Bool) (s i : ℕ) (x : Conduct) where
   do-by : (c : Conduct) (m : Bool) → x ≡ c → l ≡ m → doRule (standing m) s i c ≡ doRule (standing l) s i x
   do-by c m h k = sym (ap (λ (w : Conduct). doRule (standing l) s i w) h ∙ ap (λ (b : Bool). doRule (standing b) s i c) k)
@@ -271,13 +266,19 @@ module _ (l : Bool) (s i : ℕ) (x : Conduct) where
       unfolding doRule
       do-linked k = no (Fails 11 i) inside (no (Fails 12 i) refl (ap (λ (o : Effect). Does o a) z)) ∙ do-by (Does e a) true h k
 
-      pub do-elsewhere : l ≡ false → (o : ℕ) → o ≡ 1 → (s ≡ o → ⊥) → Does f a ≡ doRule (standing l) s i x
+      pub do-elsewhere : l ≡ false → (y : Bool) → y ≡ eqb s 1 → y ≡ false
+          → Does f a ≡ doRule (standing l) s i x
       unfolding doRule
-      do-elsewhere k o y d = no (Fails 11 i) inside (no (Fails 12 i) (ne-eqb s 1 (λ v. d (v ∙ sym y))) (ap (λ (g : Effect). Does g a) z)) ∙ do-by (Does e a) false h k
+      do-elsewhere k y d v =
+          no (Fails 11 i) inside (no (Fails 12 i) (sym d ∙ v) (ap (λ (g : Effect). Does g a) z))
+          ∙ do-by (Does e a) false h k
 
-    pub do-twice : not w ≡ false → l ≡ false → (o : ℕ) → o ≡ 1 → s ≡ o → Fails 12 i ≡ doRule (standing l) s i x
+    pub do-twice : not w ≡ false → l ≡ false → (y : Bool) → y ≡ eqb s 1 → y ≡ true
+        → Fails 12 i ≡ doRule (standing l) s i x
     unfolding doRule
-    do-twice n k o y d = no (Fails 11 i) (ap not (sym q) ∙ n) (yes (Does noEffect a) (eq-eqb s 1 (d ∙ y)) refl) ∙ do-by (Does e a) false h k
+    do-twice n k y d v =
+        no (Fails 11 i) (ap not (sym q) ∙ n) (yes (Does noEffect a) (sym d ∙ v) refl)
+        ∙ do-by (Does e a) false h k
 
 pub ruleset do-laws = (do-fault, do-effect, do-linked, do-elsewhere, do-twice)
 
@@ -302,9 +303,13 @@ module _ (i t : ℕ) (e : Effect) (u : ℕ) (f : Effect) (x : Bool) (h : x ≡ i
   unfolding storeRule
   store-apart c n k d = no _ (rw (sym h ∙ not-false x n, ne-eqb u (contentOf t) (λ v. d (v ∙ sym k)))) refl
 
-  pub store-equal : (c o : ℕ) (g w : Effect) → not x ≡ false → c ≡ contentOf t → u ≡ c → o ≡ ownerOf t → g ≡ e ∪ f → w ≡ withOwner o g → Does w true ≡ storeRule i (Typed t e) (Typed u f)
+  pub store-equal : (c : ℕ) (g w : Effect) → not x ≡ false → c ≡ contentOf t → u ≡ c
+      → g ≡ e ∪ f → w ≡ withOwner (ownerOf t) g
+      → Does w true ≡ storeRule i (Typed t e) (Typed u f)
   unfolding storeRule
-  store-equal c o g w n k d q r z = yes (Fails 9 i) (rw (sym h ∙ not-false x n, eq-eqb u (contentOf t) (d ∙ k))) (ap (λ (v : Effect). Does v true) (z ∙ ap (λ (m : ℕ). withOwner m g) q ∙ ap (withOwner (ownerOf t)) r))
+  store-equal c g w n k d r z =
+      yes (Fails 9 i) (rw (sym h ∙ not-false x n, eq-eqb u (contentOf t) (d ∙ k)))
+      (ap (λ (v : Effect). Does v true) (z ∙ ap (withOwner (ownerOf t)) r))
 
 pub ruleset store-typed-laws = (store-no-cell, store-apart, store-equal)
 

@@ -15,7 +15,7 @@ use Rattle.language.specs.declared.effect.Effect.{Effect}
 use Rattle.rules.specs.Rules.{Signature, signatureAt}
 use Rattle.rules.specs.Checking.{Argued, argue, isLinked, startRule}
 use Rattle.rules.specs.Standings.{standing}
-use Rattle.rules.specs.Signatures.{noArguments, arguedOf, signatureWith, signatureOf}
+use Rattle.rules.specs.Signatures.{noArguments, arguedOf, signatureWith, signatureWord, signatureOf}
 use Rattle.rules.specs.declared.start.Arguments.{Arguments}
 use Rattle.rules.specs.declared.start.Arguments.the-variants.{Nothing, One, Two, Fault}
 use Rattle.rules.specs.declared.finding.Typing.{Typing}
@@ -24,6 +24,23 @@ use Rattle.rules.specs.declared.finding.Conduct.{Conduct}
 use Rattle.rules.specs.declared.finding.Conduct.the-variants.{Does, Fails}
 
 -- ---- arguments
+
+-- one form of each in the code, so that a contract of `arguedOf` fixes the result
+abbrev form : Argued → Arguments
+form (Argued.have [] e) = Nothing
+form (Argued.have (t ∷ []) e) = One t e
+form (Argued.have (t ∷ u ∷ ts) e) = Two t u e
+form (Argued.fail n j) = Fault n j
+
+one-form : (x : Arguments) → form (arguedOf x) ≡ x
+one-form Nothing = refl
+one-form (One t e) = refl
+one-form (Two t u e) = refl
+one-form (Fault n j) = refl
+
+pub argued-once : (x y : Arguments) → arguedOf x ≡ arguedOf y → x ≡ y
+argued-once x y h = sym (one-form x) ∙ ap form h ∙ one-form y
+
 module _ (x : Typing) where
   pub one-fault : (n j : ℕ) → x ≡ Untyped n j → arguedOf (Fault n j) ≡ argue x noArguments
   unfolding argue
@@ -57,12 +74,23 @@ pub ruleset two-laws = (two-fault, two-fault-2, two-typed)
 record-is : (m n : ℕ) (a b c d : ℕ) (e : Effect) (f : ℕ) → m ≡ n → a ≡ c → b ≡ d → f ≡ e .bits → signatureWith m a b (record { bits = f }) ≡ signatureWith n c d e
 record-is m n a b c d e f h k l q = ap₂ (λ (o : ℕ) (p : ℕ). signatureWith o p b (record { bits = f })) h k ∙ ap₂ (λ (o : ℕ) (p : ℕ). signatureWith n c o (record { bits = p })) l q
 
-pub word-of : (count first second f : ℕ) (e : Effect) → count ≤ 2 → first < 65536 → second < 65536 → f ≡ e .bits → f < 65536
-    → signatureOf ((count * 65536 + f) * 4294967296 + (second * 65536 + first)) ≡ signatureWith count first second e
-unfolding signatureOf
-word-of count first second f e a b c d g =
-    let w : ℕ = (count * 65536 + f) * 4294967296 + (second * 65536 + first) in
-    record-is (w / 2 ^ 48 % 3) count (w % 2 ^ 16) (w / 2 ^ 16 % 2 ^ 16) first second e (w / 2 ^ 32 % 2 ^ 16) (omega arith) (omega arith) (omega arith) (omega arith)
+-- the code's sum
+pub word-of : (count first second f : ℕ) (e : Effect) → f ≡ e .bits
+    → (count * 65536 + f) * 4294967296 + (second * 65536 + first)
+    ≡ signatureWord count first second e
+unfolding signatureWord
+word-of count first second f e h = omega arith
+
+-- such a word reads back
+pub word-says : (count first second : ℕ) (e : Effect) (w : ℕ)
+    → w ≡ signatureWord count first second e
+    → count ≤ 2 → first < 2 ^ 16 → second < 2 ^ 16 → e .bits < 2 ^ 8
+    → signatureOf w ≡ signatureWith count first second e
+unfolding signatureOf signatureWord
+word-says count first second e w h a b c d =
+    record-is (w / 2 ^ 48 % 3) count (w % 2 ^ 16) (w / 2 ^ 16 % 2 ^ 16) first second
+    e (w / 2 ^ 32 % 2 ^ 8)
+    (omega arith) (omega arith) (omega arith) (omega arith)
 
 -- ---- the first n of two types
 data UpToTwo : ℕ → Type 0 where
@@ -188,7 +216,8 @@ module _ (n t u : ℕ) (l : n ≤ 2) where
 
 pub ruleset public-laws = (public-none, public-first, public-one, public-two)
 
-pub effect-of : (w : ℕ) (r : Effect) → r ≡ record { bits = w / 2 ^ 32 % 2 ^ 16 } → r ≡ signatureOf w .effect
+pub effect-of : (w : ℕ) (r : Effect)
+    → r ≡ record { bits = w / 2 ^ 32 % 2 ^ 8 } → r ≡ signatureOf w .effect
 unfolding signatureOf
 effect-of w r h = h
 

@@ -4,6 +4,7 @@ use mathlib.Core.List.{List}
 use Prim.Native.Nat.{ℕ}
 use Rattle.language.specs.Types.{numberType, truthType}
 use Rattle.language.specs.Effects.{noEffect}
+use Rattle.language.specs.declared.Place.{Place}
 use Rattle.language.specs.declared.effect.Effect.{Effect}
 use Rattle.language.specs.declared.kind.ExpressionKind.{ExpressionKind}
 use Rattle.language.specs.declared.kind.ExpressionKind.the-variants as E
@@ -14,9 +15,9 @@ use Rattle.text.specs.Frames.{framesOf}
 use Rattle.program.specs.Trees.{Expr, frameAt, expressionOf, expressionAt}
 use Rattle.program.proofs.Decoding.{expression-at}
 use Rattle.rules.specs.Checking.{namedRule, newRule, contentRule, numbersRule, chooseRule, typeIn}
-use Rattle.rules.specs.Nodes.{expressionNodeOf, expressionNodeIn}
-use Rattle.rules.specs.declared.node.ExpressionNode.{ExpressionNode}
-use Rattle.rules.specs.declared.node.ExpressionNode.the-variants as X
+use Rattle.program.specs.Nodes.{expressionNodeOf, expressionNodeIn}
+use Rattle.program.specs.declared.node.ExpressionNode.{ExpressionNode}
+use Rattle.program.specs.declared.node.ExpressionNode.the-variants as X
 use Rattle.rules.specs.declared.finding.Typing.{Typing}
 use Rattle.rules.specs.declared.finding.Typing.the-variants.{Typed}
 use Rattle.rules.proofs.NodeLaws.{ordered, AtExpression, expression-here}
@@ -27,7 +28,7 @@ typeBy T cells Γ i X.Number = Typed numberType noEffect
 typeBy T cells Γ i X.Truth = Typed truthType noEffect
 typeBy T cells Γ i (X.Variable s) = namedRule Γ s i
 typeBy T cells Γ i (X.SharedCell s) = namedRule cells s i
-typeBy T cells Γ i (X.NewCell s a) = newRule s i (T a)
+typeBy T cells Γ i (X.NewCell s a) = newRule (s .number) i (T a)
 typeBy T cells Γ i (X.Content a) = contentRule i (T a)
 typeBy T cells Γ i (X.Sum a b) = numbersRule numberType i (T a) (T b)
 typeBy T cells Γ i (X.Less a b) = numbersRule truthType i (T a) (T b)
@@ -89,8 +90,10 @@ module _ (cells Γ ws : List ℕ) (i : ℕ) (f : Frame) (n : ExpressionNode) whe
   pub type-shared : (s : ℕ) (r : Typing) → Where (X.SharedCell s) (r ≡ namedRule cells s i → T i r)
   type-shared s r h k e g z = by-node (X.SharedCell s) r h k e g z
 
-  pub type-new : (s a : ℕ) (x r : Typing) → Where (X.NewCell s a) (T a x → r ≡ newRule s i x → T i r)
-  type-new s a x r h k e g u z = by-node (X.NewCell s a) r h k e g (z ∙ ap (newRule s i) u)
+  pub type-new : (s : Place) (a : ℕ) (x r : Typing)
+      → Where (X.NewCell s a) (T a x → r ≡ newRule (s .number) i x → T i r)
+  type-new s a x r h k e g u z =
+      by-node (X.NewCell s a) r h k e g (z ∙ ap (newRule (s .number) i) u)
 
   pub type-content : (a : ℕ) (x r : Typing) → Where (X.Content a) (T a x → r ≡ contentRule i x → T i r)
   type-content a x r h k e g u z = by-node (X.Content a) r h k e g (z ∙ ap (contentRule i) u)

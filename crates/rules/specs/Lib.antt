@@ -4,7 +4,6 @@ pub mod Broken
 pub mod Checking
 pub mod Standings
 pub mod Signatures
-pub mod Nodes
 pub mod Frames
 pub mod Modules
 pub mod Verdict

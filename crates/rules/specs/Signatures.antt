@@ -1,6 +1,6 @@
 -- How the code keeps arguments and what is known of modules. Assumes nothing: definitions.
 use mathlib.Core.List.{[], _∷_}
-use Prim.Native.Nat.{ℕ, _/_, _%_, _^_}
+use Prim.Native.Nat.{ℕ, _+_, _*_, _/_, _%_, _^_}
 use lib.ListN.{take}
 use Rattle.language.specs.Effects.{noEffect}
 use Rattle.language.specs.declared.effect.Effect.{Effect}
@@ -12,7 +12,7 @@ use Rattle.rules.specs.declared.start.Arguments.the-variants.{Nothing, O
 abbrev pub noArguments : Argued
 noArguments = Argued.have [] noEffect
 
--- what the code's arguments are
+-- what the code's arguments are: one to one (proofs/StartLaws, `argued-once`)
 abbrev pub arguedOf : Arguments → Argued
 arguedOf Nothing = noArguments
 arguedOf (One t e) = Argued.have (t ∷ []) e
@@ -23,6 +23,13 @@ arguedOf (Fault n j) = Argued.fail n j
 abbrev pub signatureWith : ℕ → ℕ → ℕ → Effect → Signature
 signatureWith count first second e = record { types = take count (first ∷ second ∷ []); effect = e }
 
--- a module's signature in one word: its parameters' types, 16 bits each, its effect, 16 bits, and how many parameters
+-- a module's signature in one word, from the right: its parameters' types, 16 bits each, its effect,
+-- 8 bits with room for 16, and how many parameters
+unfoldable pub signatureWord : ℕ → ℕ → ℕ → Effect → ℕ
+signatureWord count first second e = first + second * 2 ^ 16 + e .bits * 2 ^ 32 + count * 2 ^ 48
+
+-- what a word of that layout says: it reads back (proofs/StartLaws, `word-says`)
 unfoldable pub signatureOf : ℕ → Signature
-signatureOf w = signatureWith (w / 2 ^ 48 % 3) (w % 2 ^ 16) (w / 2 ^ 16 % 2 ^ 16) (record { bits = w / 2 ^ 32 % 2 ^ 16 })
+signatureOf w =
+    signatureWith (w / 2 ^ 48 % 3) (w % 2 ^ 16) (w / 2 ^ 16 % 2 ^ 16)
+    (record { bits = w / 2 ^ 32 % 2 ^ 8 })

@@ -1,8 +1,6 @@
 // Effects and cooperation of statements: the recursion over a frame's children.
 use crate::finding::Conduct;
 use crate::finding::Typing;
-use crate::node::StatementNode;
-use crate::node::statement_node;
 use crate::start::Arguments;
 use crate::start::one_argument;
 use crate::start::start_rule;
@@ -17,6 +15,8 @@ use crate::statement::while_rule;
 use crate::typing::type_of;
 use language::Place;
 use language::effect::Effect;
+use program::node::StatementNode;
+use program::node::statement_node;
 use text::line::frame_of_word;
 ghost use mathlib.Core.Path.{_≡_};
 ghost use mathlib.Core.List.{map};
@@ -26,7 +26,7 @@ ghost use Rattle.language.specs.Places.{standingAt};
 ghost use Rattle.text.specs.Frames.{framesOf};
 ghost use Rattle.program.specs.Trees.{expressionAt, arguments, statementAt};
 ghost use Rattle.layout.specs.Scope.{Room};
-ghost use Rattle.rules.specs.Checking.{typeIn, typesIn, runIn};
+ghost use Rattle.rules.specs.Checking.{typeIn, typesIn, isLinked, runIn};
 ghost use Rattle.rules.specs.Standings.{standing};
 ghost use Rattle.rules.specs.Signatures.{arguedOf, signatureOf};
 ghost use Rattle.rules.specs.Frames.{FrameIn};
@@ -50,13 +50,10 @@ fn extended(scope: [u16; 25], n: usize, t: u16) -> [u16; 25]
 }
 
 // Whether a thread at that place is linked to a scheduler.
-fn is_linked(s: u8) -> bool
-    ensures { λ r. ⌜ standing r ≡ standingAt s ⌝ }
+fn is_linked(s: Place) -> bool
+    ensures { λ r. ⌜ r ≡ isLinked (standingAt (s .number)) ⌝ }
 {
-    if s == Place::PRIVATE.number() {
-        return false;
-    }
-    true
+    !s.is_private()
 }
 
 // The arguments of a start at frame i: a 0 is none.
@@ -87,7 +84,7 @@ fn arguments_of(
 // What the statement at frame i is found to be: with the types `cells` of the shared cells, the signatures `below` of the
 // modules before its own, the first n of `scope` as the types of the variables, and `linked` where it stands at a scheduler.
 // The frames are laid out, so that a child's number is below its parent's and 25 variables are room enough.
-pub fn conduct_of(
+pub(crate) fn conduct_of(
     frames: &[u64],
     cells: &[u16],
     below: &[u64],

@@ -12,12 +12,15 @@ use language::type_word::is_cell;
 use language::type_word::is_public;
 use language::type_word::owner_of;
 ghost use mathlib.Core.Path.{_≡_};
-ghost use Prim.Native.Nat.{_≤_};
+ghost use mathlib.Core.Bool.{true};
+ghost use Rattle.language.specs.Places.{isPlace};
+ghost use Rattle.language.specs.Types.{ownerOf};
+ghost use Rattle.language.specs.Effects.{withOwner};
 ghost use Rattle.rules.specs.Checking.{namedRule, newRule, contentRule, numbersRule, chooseRule};
 ghost use Rattle.rules.specs.declared.finding.Typing.the-variants.{Typed};
 
 // 22 and 23: a variable or a shared cell, by its index in the types of those there are.
-pub fn named_rule(types: &[u16], s: u8, i: u16) -> Typing
+pub(crate) fn named_rule(types: &[u16], s: u8, i: u16) -> Typing
     ensures { λ r. ⌜ r ≡ namedRule (now (types .entry)) s i ⌝ }
 {
     let at = s as usize;
@@ -29,46 +32,53 @@ pub fn named_rule(types: &[u16], s: u8, i: u16) -> Typing
 }
 
 // 24: an owner is a place, as the layout has it, since no other fits a type word.
-fn new_typed(s: u8, i: u16, t: u16, e: Effect) -> Typing
-    requires { ⌜ (1 ≤ s) × (s ≤ 9) ⌝ }
-    ensures { λ r. ⌜ r ≡ newRule s i (Typed t e) ⌝ }
+fn new_typed(owner: Place, i: u16, t: u16, e: Effect) -> Typing
+    requires { ⌜ isPlace (owner .number) ≡ true ⌝ }
+    ensures { λ r. ⌜ r ≡ newRule (owner .number) i (Typed t e) ⌝ }
 {
-    match Place::new(s) {
-        PlaceRead::NoPlace => Typing::Untyped(9, i),
-        PlaceRead::At(owner) => match cell_type(owner, t) {
-            CellRead::TooDeep => Typing::Untyped(9, i),
-            CellRead::Word(w) => {
-                if owner.is_private() {
-                    return Typing::Typed(w, e);
-                }
-                if is_public(t) {
-                    return Typing::Typed(w, e.with_owner(s));
-                }
-                Typing::Untyped(10, i)
+    match cell_type(owner, t) {
+        CellRead::TooDeep => Typing::Untyped(9, i),
+        CellRead::Word(w) => {
+            if owner.is_private() {
+                return Typing::Typed(w, e);
             }
-        },
+            if is_public(t) {
+                return Typing::Typed(w, e.with_owner(owner));
+            }
+            Typing::Untyped(10, i)
+        }
     }
 }
 
-pub fn new_rule(s: u8, i: u16, x: Typing) -> Typing
-    requires { ⌜ (1 ≤ s) × (s ≤ 9) ⌝ }
-    ensures { λ r. ⌜ r ≡ newRule s i x ⌝ }
+pub(crate) fn new_rule(owner: Place, i: u16, x: Typing) -> Typing
+    requires { ⌜ isPlace (owner .number) ≡ true ⌝ }
+    ensures { λ r. ⌜ r ≡ newRule (owner .number) i x ⌝ }
 {
     match x {
         Typing::Untyped(n, j) => Typing::Untyped(n, j),
-        Typing::Typed(t, e) => new_typed(s, i, t, e),
+        Typing::Typed(t, e) => new_typed(owner, i, t, e),
+    }
+}
+
+// The effect with the owner of a cell's type added.
+pub(crate) fn with_owner_of(e: Effect, t: u16) -> Effect
+    ensures { λ r. ⌜ r ≡ withOwner (ownerOf t) e ⌝ }
+{
+    match owner_of(t) {
+        PlaceRead::At(owner) => e.with_owner(owner),
+        PlaceRead::NoPlace => e,
     }
 }
 
 // 25
-pub fn content_rule(i: u16, x: Typing) -> Typing
+pub(crate) fn content_rule(i: u16, x: Typing) -> Typing
     ensures { λ r. ⌜ r ≡ contentRule i x ⌝ }
 {
     match x {
         Typing::Untyped(n, j) => Typing::Untyped(n, j),
         Typing::Typed(t, e) => {
             if is_cell(t) {
-                return Typing::Typed(content_of(t), e.with_owner(owner_of(t)));
+                return Typing::Typed(content_of(t), with_owner_of(e, t));
             }
             Typing::Untyped(9, i)
         }
@@ -88,7 +98,7 @@ fn numbers_typed(w: u16, i: u16, t: u16, e: Effect, u: u16, f: Effect) -> Typing
     Typing::Typed(w, e.joined(f))
 }
 
-pub fn numbers_rule(w: u16, i: u16, x: Typing, y: Typing) -> Typing
+pub(crate) fn numbers_rule(w: u16, i: u16, x: Typing, y: Typing) -> Typing
     ensures { λ r. ⌜ r ≡ numbersRule w i x y ⌝ }
 {
     match x {
@@ -116,7 +126,7 @@ fn choose_typed(i: u16, t: u16, e: Effect, u: u16, f: Effect, v: u16, g: Effect)
     Typing::Typed(NUMBER, e.joined(f).joined(g))
 }
 
-pub fn choose_rule(i: u16, x: Typing, y: Typing, z: Typing) -> Typing
+pub(crate) fn choose_rule(i: u16, x: Typing, y: Typing, z: Typing) -> Typing
     ensures { λ r. ⌜ r ≡ chooseRule i x y z ⌝ }
 {
     match x {

@@ -3,13 +3,13 @@
 use language::effect::Effect;
 
 // Of an expression: its type and its effect, or the first fault in it.
-pub enum Typing {
+pub(crate) enum Typing {
     Typed(u16, Effect),
     Untyped(u8, u16),
 }
 
 // Of a statement: its effect and whether it ends at once, or the first fault in it.
-pub enum Conduct {
+pub(crate) enum Conduct {
     Does(Effect, bool),
     Fails(u8, u16),
 }

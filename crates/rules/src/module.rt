@@ -13,7 +13,7 @@ use layout::frames::frame_at;
 ghost use mathlib.Core.Path.{_≡_};
 ghost use mathlib.Core.List.{[], _∷_, map};
 ghost use Prim.Native.Nat.{_<_, _≤_};
-ghost use lib.ListN.{take};
+ghost use lib.ListN.{take, drop};
 ghost use Rattle.language.specs.Places.{linked};
 ghost use Rattle.text.specs.Frames.{framesOf};
 ghost use Rattle.program.specs.Trees.{statementAt};
@@ -21,12 +21,12 @@ ghost use Rattle.program.specs.Programs.{modulesFrom};
 ghost use Rattle.layout.specs.Scope.{Room};
 ghost use Rattle.layout.specs.Passes.{tallyOf};
 ghost use Rattle.rules.specs.Checking.{runIn, mainRule, modulesIn};
-ghost use Rattle.rules.specs.Signatures.{signatureOf, signatureWith};
+ghost use Rattle.rules.specs.Signatures.{signatureOf, signatureWith, signatureWord};
 ghost use Rattle.rules.specs.Frames.{FrameIn, FileIn};
-ghost use Rattle.rules.specs.Modules.{NextModule};
+ghost use Rattle.rules.specs.Modules.{nextModule};
 
 // How many shared cells and modules a laid-out file has, and the types of its cells.
-pub fn tally(frames: &[u64]) -> Tally
+pub(crate) fn tally(frames: &[u64]) -> Tally
     requires { ⌜ FileIn (now frames) ⌝ }
     ensures { λ r. ⌜ r ≡ tallyOf (framesOf (now (frames .entry))) ⌝ }
 {
@@ -44,9 +44,9 @@ pub fn tally(frames: &[u64]) -> Tally
 }
 
 // The first module at frame i or behind it: the last frame is one.
-pub fn next_module(frames: &[u64], i: usize) -> usize
+pub(crate) fn next_module(frames: &[u64], i: usize) -> usize
     requires { ⌜ FrameIn (now frames) i ⌝ }
-    ensures { λ r. ⌜ NextModule (now (frames .entry)) i r ⌝ }
+    ensures { λ r. ⌜ r ≡ nextModule i (drop i (framesOf (now (frames .entry)))) ⌝ }
 {
     let mut k = i;
     while k + 1 < frames.len() {
@@ -61,7 +61,7 @@ pub fn next_module(frames: &[u64], i: usize) -> usize
 }
 
 // What the body of a module is found to be, behind the first m modules.
-pub fn module_conduct(
+pub(crate) fn module_conduct(
     frames: &[u64],
     cells: &[u16],
     below: [u64; 16],
@@ -79,7 +79,7 @@ pub fn module_conduct(
 }
 
 // 'main has an effect within {2}'.
-pub fn main_rule(i: u16, e: Effect) -> Verdict
+pub(crate) fn main_rule(i: u16, e: Effect) -> Verdict
     ensures { λ r. ⌜ r ≡ mainRule i e ⌝ }
 {
     if e.within(Place::HOME) {
@@ -91,13 +91,14 @@ pub fn main_rule(i: u16, e: Effect) -> Verdict
 // What is known of a module whose body has that effect.
 fn module_signature(f: Frame, e: Effect) -> u64
     requires { ⌜ f .s ≤ 2 ⌝ }
-    ensures { λ r. ⌜ signatureOf r ≡ signatureWith (f .s) (f .b) (f .c) e ⌝ }
+    ensures kept { λ r. ⌜ r ≡ signatureWord (f .s) (f .b) (f .c) e ⌝ }
+    ensures says { λ r. ⌜ signatureOf r ≡ signatureWith (f .s) (f .b) (f .c) e ⌝ }
 {
     signature_word(f.s, f.b, f.c, e)
 }
 
 // The first broken rule of a laid-out file, module after module; the last is main.
-pub fn modules_rule(frames: &[u64], cells: &[u16]) -> Verdict
+pub(crate) fn modules_rule(frames: &[u64], cells: &[u16]) -> Verdict
     requires { ⌜ FileIn (now frames) ⌝ }
     ensures { λ r. ⌜ r ≡ modulesIn (now (cells .entry)) [] (modulesFrom (framesOf (now (frames .entry))) 0 (framesOf (now (frames .entry)))) ⌝ }
 {

@@ -11,17 +11,17 @@ ghost use Rattle.basics.specs.Searches.{every, sameNumbers};
 ghost use Rattle.language.specs.Types.{public};
 ghost use Rattle.rules.specs.Checking.{Argued, argue, startRule};
 ghost use Rattle.rules.specs.Standings.{standing};
-ghost use Rattle.rules.specs.Signatures.{arguedOf, signatureOf, signatureWith, noArguments};
+ghost use Rattle.rules.specs.Signatures.{arguedOf, signatureOf, signatureWord, noArguments};
 
 // What the arguments of a start are found to be: their types and their effect, or the first fault in them.
-pub enum Arguments {
+pub(crate) enum Arguments {
     Nothing,
     One(u16, Effect),
     Two(u16, u16, Effect),
     Fault(u8, u16),
 }
 
-pub fn one_argument(x: Typing) -> Arguments
+pub(crate) fn one_argument(x: Typing) -> Arguments
     ensures { λ r. ⌜ arguedOf r ≡ argue x noArguments ⌝ }
 {
     match x {
@@ -30,7 +30,7 @@ pub fn one_argument(x: Typing) -> Arguments
     }
 }
 
-pub fn two_arguments(x: Typing, y: Typing) -> Arguments
+pub(crate) fn two_arguments(x: Typing, y: Typing) -> Arguments
     ensures { λ r. ⌜ arguedOf r ≡ argue x (argue y noArguments) ⌝ }
 {
     match x {
@@ -42,10 +42,10 @@ pub fn two_arguments(x: Typing, y: Typing) -> Arguments
     }
 }
 
-// What is known of a module, in one word: 16 bits for each of two types, 16 for the effect, and how many parameters.
-pub fn signature_word(count: u8, first: u16, second: u16, effect: Effect) -> u64
-    requires { ⌜ count ≤ 2 ⌝ }
-    ensures { λ r. ⌜ signatureOf r ≡ signatureWith count first second effect ⌝ }
+// What is known of a module, in one word: 16 bits for each of two types, the effect's 8 with room
+// for 16, and how many parameters.
+pub(crate) fn signature_word(count: u8, first: u16, second: u16, effect: Effect) -> u64
+    ensures { λ r. ⌜ r ≡ signatureWord count first second effect ⌝ }
 {
     let low = (second as u64) * 0x0001_0000 + (first as u64);
     let high = (count as u64) * 0x0001_0000 + (effect.number() as u64);
@@ -93,7 +93,7 @@ fn all_public(n: u8, t: u16, u: u16) -> bool
 fn signature_effect(w: u64) -> Effect
     ensures { λ r. ⌜ r ≡ signatureOf w .effect ⌝ }
 {
-    Effect::from_number((w / 0x0001_0000_0000 % 0x0001_0000) as u16)
+    Effect::from_number((w / 0x0001_0000_0000 % 0x0100) as u8)
 }
 
 // A start with the first n of two types.
@@ -128,7 +128,7 @@ fn start_typed(
     Conduct::Fails(12, i)
 }
 
-pub fn start_rule(
+pub(crate) fn start_rule(
     once: bool,
     below: &[u64],
     linked: bool,

@@ -1,22 +1,20 @@
 // One function for each rule of statements: what a node is found to be, from what its children were found to be.
+use crate::expression::with_owner_of;
 use crate::finding::Conduct;
 use crate::finding::Typing;
 use language::Place;
-use language::PlaceRead;
 use language::effect::Effect;
 use language::type_word::TRUTH;
 use language::type_word::content_of;
 use language::type_word::is_cell;
-use language::type_word::owner_of;
 ghost use mathlib.Core.Path.{_≡_};
 ghost use Rattle.rules.specs.Checking.{cooperateRule, seqRule, doRule, joinRule, storeRule, ifElseRule, whileRule};
 ghost use Rattle.rules.specs.Standings.{standing};
 ghost use Rattle.rules.specs.declared.finding.Typing.the-variants.{Typed};
 ghost use Rattle.rules.specs.declared.finding.Conduct.the-variants.{Does};
-ghost use Rattle.language.specs.Effects.{within};
 
 // 15
-pub fn cooperate_rule(linked: bool, i: u16) -> Conduct
+pub(crate) fn cooperate_rule(linked: bool, i: u16) -> Conduct
     ensures { λ r. ⌜ r ≡ cooperateRule (standing linked) i ⌝ }
 {
     if linked {
@@ -26,7 +24,7 @@ pub fn cooperate_rule(linked: bool, i: u16) -> Conduct
 }
 
 // 11
-pub fn seq_rule(x: Conduct, y: Conduct) -> Conduct
+pub(crate) fn seq_rule(x: Conduct, y: Conduct) -> Conduct
     ensures { λ r. ⌜ r ≡ seqRule x y ⌝ }
 {
     match x {
@@ -43,30 +41,20 @@ pub fn seq_rule(x: Conduct, y: Conduct) -> Conduct
     }
 }
 
-// Whether the effect lies within the place of that number.
-fn within_place(e: Effect, s: u8) -> bool
-    ensures { λ r. ⌜ r ≡ within s e ⌝ }
-{
-    match Place::new(s) {
-        PlaceRead::At(p) => e.within(p),
-        PlaceRead::NoPlace => e.is_empty(),
-    }
-}
-
 // 12
-pub fn do_rule(linked: bool, s: u8, i: u16, x: Conduct) -> Conduct
-    ensures { λ r. ⌜ r ≡ doRule (standing linked) s i x ⌝ }
+pub(crate) fn do_rule(linked: bool, s: Place, i: u16, x: Conduct) -> Conduct
+    ensures { λ r. ⌜ r ≡ doRule (standing linked) (s .number) i x ⌝ }
 {
     match x {
         Conduct::Fails(n, j) => Conduct::Fails(n, j),
         Conduct::Does(e, a) => {
-            if !within_place(e, s) {
+            if !e.within(s) {
                 return Conduct::Fails(11, i);
             }
             if linked {
                 return Conduct::Does(Effect::none(), a);
             }
-            if s == Place::PRIVATE.number() {
+            if s.is_private() {
                 return Conduct::Fails(12, i);
             }
             Conduct::Does(Effect::none(), a)
@@ -75,7 +63,7 @@ pub fn do_rule(linked: bool, s: u8, i: u16, x: Conduct) -> Conduct
 }
 
 // 16: the effect of what the variable is, joined to the body's.
-pub fn join_rule(e: Effect, x: Conduct) -> Conduct
+pub(crate) fn join_rule(e: Effect, x: Conduct) -> Conduct
     ensures { λ r. ⌜ r ≡ joinRule e x ⌝ }
 {
     match x {
@@ -94,10 +82,10 @@ fn store_typed(i: u16, t: u16, e: Effect, u: u16, f: Effect) -> Conduct
     if u != content_of(t) {
         return Conduct::Fails(9, i);
     }
-    Conduct::Does(e.joined(f).with_owner(owner_of(t)), true)
+    Conduct::Does(with_owner_of(e.joined(f), t), true)
 }
 
-pub fn store_rule(i: u16, x: Typing, y: Typing) -> Conduct
+pub(crate) fn store_rule(i: u16, x: Typing, y: Typing) -> Conduct
     ensures { λ r. ⌜ r ≡ storeRule i x y ⌝ }
 {
     match x {
@@ -122,7 +110,7 @@ fn if_typed(i: u16, t: u16, e: Effect, f: Effect, a: bool, g: Effect, b: bool) -
     Conduct::Does(e.joined(f).joined(g), b)
 }
 
-pub fn if_else_rule(i: u16, x: Typing, y: Conduct, z: Conduct) -> Conduct
+pub(crate) fn if_else_rule(i: u16, x: Typing, y: Conduct, z: Conduct) -> Conduct
     ensures { λ r. ⌜ r ≡ ifElseRule i x y z ⌝ }
 {
     match x {
@@ -150,7 +138,7 @@ fn while_typed(i: u16, t: u16, e: Effect, f: Effect, b: bool) -> Conduct
     Conduct::Does(e.joined(f), true)
 }
 
-pub fn while_rule(i: u16, x: Typing, y: Conduct) -> Conduct
+pub(crate) fn while_rule(i: u16, x: Typing, y: Conduct) -> Conduct
     ensures { λ r. ⌜ r ≡ whileRule i x y ⌝ }
 {
     match x {

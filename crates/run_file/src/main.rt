@@ -1,15 +1,42 @@
 // Reads prog.txt and choices.txt in the folder it runs in, an absent file as empty, and prints the listing of the run: the check's line, a
-// line for each choice used, and how many were used.
+// line for each choice used, and how many were used. Where one of the two cannot be read, nothing.
+use files::FileRead;
 use files::print;
 use files::read_file;
+use language::verdict::Verdict;
+use layout::lay_out;
 use runs::printing::run_listing;
+ghost use Rattle.io.specs.Counts.{Counts};
+
+// The bytes of choices.txt. A text that refusals 1 to 7 stop needs none, so there the file is not read.
+fn choices_for(text: &[u8], choices: &mut [u8]) -> FileRead
+    ensures { λ r. ⌜ Counts (r .count) (now (choices .exit)) ⌝ }
+{
+    let l = lay_out(text);
+    let v = l.verdict;
+    match v {
+        Verdict::Rejected(n, j) => FileRead {
+            readable: true,
+            count: 0,
+        },
+        Verdict::Accepted => read_file(b"choices.txt", choices),
+    }
+}
 
 // Each file's buffer has one byte more than the longest that is read, so that a longer file is seen to be longer.
 fn main() {
     let mut text = [0u8; 17409];
-    let n = read_file(b"prog.txt", &mut text);
+    let program = read_file(b"prog.txt", &mut text);
+    if !program.readable {
+        return;
+    }
+    let n = program.count;
     let mut choices = [0u8; 49153];
-    let m = read_file(b"choices.txt", &mut choices);
+    let list = choices_for(&text[..n], &mut choices);
+    if !list.readable {
+        return;
+    }
+    let m = list.count;
     let mut state = [0u64; 4818];
     let mut out = [0u8; 229389];
     let l = run_listing(&text[..n], &choices[..m], &mut state, &mut out);

@@ -14,9 +14,17 @@ fn name(i: usize, which: u8) -> [u8; 4] {
 
 fn report(i: usize) {
     let mut text = [0u8; 17409];
-    let n = read_file(&name(i, b'p'), &mut text);
+    let program = read_file(&name(i, b'p'), &mut text);
+    if !program.readable {
+        return;
+    }
     let mut choices = [0u8; 49153];
-    let m = read_file(&name(i, b'c'), &mut choices);
+    let list = read_file(&name(i, b'c'), &mut choices);
+    if !list.readable {
+        return;
+    }
+    let n = program.count;
+    let m = list.count;
     let mut state = [0u64; 4818];
     let mut out = [0u8; 229389];
     let l = run_listing(&text[..n], &choices[..m], &mut state, &mut out);

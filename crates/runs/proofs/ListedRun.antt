@@ -9,18 +9,23 @@ use lib.Seq.{paste, length-take-le}
 use Rattle.program.specs.Programs.{Program}
 use Rattle.machine.specs.Runs.{stateAfter}
 use Rattle.machine.specs.Words.{pack}
+use Rattle.stepper.specs.declared.answer.Answer.{Answer}
 use Rattle.stepper.specs.declared.answer.Answer.the-variants as A
 use Rattle.stepper.specs.declared.file.File.{File}
 use Rattle.stepper.specs.Files.{fileOf}
 use Rattle.listing.specs.Listing.{usedOf, lastLine, runLines}
 use Rattle.runs.specs.Runs.{stepped}
 use Rattle.runs.specs.Printed.{listedAs, written, stepLines, listedBehind}
-use Rattle.runs.proofs.TextLaws.{used-is}
 use Rattle.runs.proofs.ListingLoop.{written-put, written-more, step-lines-size}
 
--- a printed listing, by its length, the choices used and both buffers
-pub listed-path : {s t k j : ℕ} {w v o u : List ℕ} → s ≡ t → k ≡ j → w ≡ v → o ≡ u → listedAs (A.Done 0) s k w o ≡ listedAs (A.Done 0) t j v u
-listed-path a b c d = λ i. listedAs (A.Done 0) (a i) (b i) (c i) (d i)
+-- a listing, by its length, the choices used and both buffers
+pub listed-path : {x : Answer} {s t k j : ℕ} {w v o u : List ℕ} → s ≡ t → k ≡ j → w ≡ v → o ≡ u
+    → listedAs x s k w o ≡ listedAs x t j v u
+listed-path {x} a b c d = λ i. listedAs x (a i) (b i) (c i) (d i)
+
+-- ---- how many choices are used
+used-is : (p : Program) (file : File) → file ≡ fileOf p → (n k : ℕ) → k ≡ min n (file .allowance) → k ≡ min n (p .allowance)
+used-is p file e n k q = q ∙ ap (λ (f : File). min n (f .allowance)) e
 
 -- ---- all choices, and the last line
 module _ (p : Program) (cs : List ℕ) (file : File) (n k : ℕ) (e : file ≡ fileOf p) (m : n ≡ length cs) (q : k ≡ min n (file .allowance)) where

@@ -1,4 +1,4 @@
--- The loop of a run: behind k choices the words are those of the state that the first k choices reach. Assumes nothing.
+-- One choice more of a run, on the words of the state that those before it reach. Assumes nothing.
 use Prim.Native.Nat.{ℕ, suc, _+_, _<_, _≤_}
 use mathlib.Core.Path.{_≡_, refl, sym, ap, _∙_}
 use mathlib.Core.List.{List, [], _∷_, _++_}
@@ -53,33 +53,3 @@ module _ (frames : List ℕ) (file : File) (cs w : List ℕ) (g : FileWords fram
   reached-call s v c z =
       z ∙ ap (λ (x : List ℕ). stepCall (framesOf frames) x c) q
       ∙ call-is (framesOf frames) fits (stateAfter P cs) c (reached-shaped (framesOf frames) P (P .schedulers) fits cs)
-
--- ---- the loop: k of n choices are stepped
-pub record Running (frames choices : List ℕ) (n : ℕ) (old w : List ℕ) (k : ℕ) : Type 0 where
-  pub few : k ≤ n
-  pub long : length w ≡ length old
-  pub words : w ≡ pack (stateAfter (programOf (framesOf frames)) (take k choices))
-
-pub running-start : (frames choices : List ℕ) (n : ℕ) (w : List ℕ) → w ≡ pack (fresh (programOf (framesOf frames))) → Running frames choices n w w 0
-unfolding stateFrom
-running-start frames choices n w q = record { few = omega arith; long = refl; words = q }
-
-module _ (frames : List ℕ) (file : File) (choices : List ℕ) (n : ℕ) (old w : List ℕ) (k : ℕ) (g : FileWords frames) (e : file ≡ fileOf (programOf (framesOf frames))) (r : Running frames choices n old w k) where
-  pub running-asks : StepWords frames (file .shared) w
-  running-asks = reached-words frames file (take k choices) w g e (r .words)
-
-  pub running-more : (s : Stepped) (v : List ℕ) → steppedOn s v ≡ stepCall (framesOf frames) w (getD choices k 0) → length v ≡ length w → n ≤ length choices → k < n → Running frames choices n old v (k + 1)
-  running-more s v z y l h =
-      record {
-        few = omega arith;
-        long = y ∙ r .long;
-        words =
-            ap (λ (x : Called). x .words) (reached-call frames file (take k choices) w g e (r .words) s v (getD choices k 0) z)
-            ∙ ap pack (sym (state-next (programOf (framesOf frames)) choices k (omega arith)));
-      }
-
-pub running-end : (frames choices : List ℕ) (n : ℕ) (old w : List ℕ) (k : ℕ) → Running frames choices n old w k → n ≤ k → w ≡ pack (stateAfter (programOf (framesOf frames)) (take n choices))
-running-end frames choices n old w k r h =
-    let f = r .few in
-    let z : k ≡ n = omega arith in
-    r .words ∙ ap (λ (i : ℕ). pack (stateAfter (programOf (framesOf frames)) (take i choices))) z

@@ -24,12 +24,12 @@ use Rattle.rules.specs.Verdict.{verdict}
 use Rattle.rules.specs.Frames.{FileIn}
 use Rattle.rules.proofs.CheckLaws.{check-rejected, check-rules}
 use Rattle.reach.proofs.Passed.{some-frame}
+use Rattle.stepper.specs.declared.answer.Answer.{Answer}
 use Rattle.stepper.specs.declared.answer.Answer.the-variants as A
 use Rattle.stepper.specs.Files.{FileWords}
 use Rattle.listing.specs.Listing.{refusalLine, checkLine, stops, choicesListing, runListing}
-use Rattle.runs.specs.Lengths.{wrongLength}
 use Rattle.runs.specs.Runs.{Behind}
-use Rattle.runs.specs.Printed.{unstepped, choicesStepped, runStepped, ListedOn, listedAs, listedOn, written, listedFrom, unlisted, stateFits, listText, listedBehind, listedRejected}
+use Rattle.runs.specs.Printed.{unstepped, choicesStepped, runStepped, ListedOn, listedAs, listedOn, written, listedFrom, listedWhole, unlisted, answerFor, buffersFit, listText, listedBehind, listedRejected}
 use Rattle.runs.specs.declared.printing.Listed.{Listed}
 use Rattle.runs.proofs.ListingLoop.{written-put, written-more}
 use Rattle.runs.proofs.ListedRun.{listed-path}
@@ -37,7 +37,7 @@ use Rattle.runs.proofs.Stops.{layout-stops, rules-run}
 
 -- ---- the check's line
 module _ (v : Verdict) (fs : List Frame) (w bytes : List ℕ) where
-  goes-on : stops v ≡ false → (runStepped v fs w bytes ≡ choicesStepped (programOf fs) w bytes) × (runListing v fs bytes ≡ checkLine v ++ choicesListing (programOf fs) bytes)
+  pub goes-on : stops v ≡ false → (runStepped v fs w bytes ≡ choicesStepped (programOf fs) w bytes) × (runListing v fs bytes ≡ checkLine v ++ choicesListing (programOf fs) bytes)
   unfolding runStepped runListing
   goes-on h = (
     ap (λ (b : Bool). elim b [ true ↦ unstepped w | false ↦ choicesStepped (programOf fs) w bytes ]) h,
@@ -59,12 +59,12 @@ module _ (frames : List ℕ) (g : FileWords frames) (v : Verdict) (e : v ≡ rul
   fs = framesOf frames
 
   pub listed-frames : (w bytes u new : List ℕ) (x : Listed) → listedOn x u new ≡ listedBehind (choicesStepped (programOf (framesOf frames)) w bytes) (choicesListing (programOf (framesOf frames)) bytes) o
-      → listedOn x u new ≡ listedFrom (runStepped (rulesOf (programOf (framesOf frames))) (framesOf frames) w bytes) (runListing (rulesOf (programOf (framesOf frames))) (framesOf frames) bytes) out
+      → listedOn x u new ≡ listedWhole (A.Done 0) (rulesOf (programOf (framesOf frames))) (framesOf frames) bytes w out
   listed-frames w bytes u new x h =
       let s = goes-on (rulesOf (programOf fs)) fs w bytes (rules-run fs (some-frame (g .laid-out)) (g .laid-out)) in
       h ∙ ap (listedBehind (choicesStepped (programOf fs) w bytes) (choicesListing (programOf fs) bytes)) start
       ∙ listed-path (let l = length-append (checkLine (rulesOf (programOf fs))) (choicesListing (programOf fs) bytes) in omega arith) refl refl (written-more out 0 (checkLine (rulesOf (programOf fs))) (choicesListing (programOf fs) bytes) (omega arith))
-      ∙ ap₂ (λ (y : Behind) (z : List ℕ). listedFrom y z out) (sym (s .0)) (sym (s .1))
+      ∙ ap₂ (λ (y : Behind) (z : List ℕ). listedFrom (A.Done 0) y z out) (sym (s .0)) (sym (s .1))
     where
       start : o ≡ written out 0 (checkLine (rulesOf (programOf (framesOf frames))))
       start = written-put out 0 line o b ∙ ap (written out 0) (a ∙ ap checkLine e)
@@ -75,7 +75,9 @@ module _ (n j : ℕ) (out : List ℕ) where
   unfolding listedRejected
   rejected-unlisted f = sym (if-no _ _ (ne-eqb (length out) 229389 f))
 
-  pub rejected-listed : (line new : List ℕ) → line ≡ refusalLine n j → new ≡ paste out 0 line (length line) → length out ≡ 229389 → listedAs (A.Done 0) 8 0 [] new ≡ listedRejected n j [] out
+  pub rejected-listed : (line new : List ℕ) → line ≡ refusalLine n j
+      → new ≡ paste out 0 line (length line) → length out ≡ 229389
+      → listedAs (A.Rejected n j) 8 0 [] new ≡ listedRejected n j [] out
   unfolding listedRejected
   rejected-listed line new a b room =
       listed-path refl refl refl (written-put out 0 line new b ∙ ap (written out 0) a)
@@ -96,23 +98,32 @@ module _ (n j : ℕ) (out : List ℕ) where
     with-state x new k = ap withState k ∙ either (eqb (length out) 229389) _ _
 
 module _ (bs bytes w out : List ℕ) (l : LaidOut) (e : l ≡ laidOut bs) (v : Verdict) (h : v ≡ l .verdict) where
-  -- what the definition prints where no buffer hinders it
-  abbrev whole : ListedOn
-  whole = listedFrom (runStepped (verdict bs) (textFrames bs) w bytes) (runListing (verdict bs) (textFrames bs) bytes) out
+  -- what the definition gives with that answer where no buffer hinders it
+  abbrev whole : Answer → ListedOn
+  whole a = listedWhole a (verdict bs) (textFrames bs) bytes w out
+
+  -- the definition, by what 1 to 7 say
+  abbrev byVerdict : Verdict → ListedOn
+  byVerdict x =
+      if buffersFit x w out then whole (answerFor x true) else unlisted (answerFor x false) w out
 
   layout-is : layoutVerdict bs ≡ v
   layout-is = sym (verdict-is bs l e) ∙ sym h
 
-  by-layout : (x : Verdict) → v ≡ x → (if stateFits x w && eqb (length out) 229389 then whole else unlisted (wrongLength x) w out) ≡ listText bs bytes w out
+  by-layout : (x : Verdict) → v ≡ x → byVerdict x ≡ listText bs bytes w out
   unfolding listText
-  by-layout x z = ap (λ (y : Verdict). if stateFits y w && eqb (length out) 229389 then whole else unlisted (wrongLength y) w out) (sym (layout-is ∙ z))
+  by-layout x z = ap byVerdict (sym (layout-is ∙ z))
 
   module _ (n j : ℕ) (z : v ≡ Rejected n j) where
-    whole-rejected : listedFrom (unstepped w) (refusalLine n j) out ≡ whole
+    abbrev refusal : Answer
+    refusal = A.Rejected n j
+
+    whole-rejected : listedFrom refusal (unstepped w) (refusalLine n j) out ≡ whole refusal
     whole-rejected =
         let s = ends (Rejected n j) (textFrames bs) w bytes (layout-stops bs n j (layout-is ∙ z)) in
-        ap₂ (λ (y : Behind) (t : List ℕ). listedFrom y t out) (sym (s .0)) (sym (s .1))
-        ∙ ap (λ (x : Verdict). listedFrom (runStepped x (textFrames bs) w bytes) (runListing x (textFrames bs) bytes) out) (check-rejected bs l e v n j h z)
+        ap₂ (λ (y : Behind) (t : List ℕ). listedFrom refusal y t out) (sym (s .0)) (sym (s .1))
+        ∙ ap (λ (x : Verdict). listedWhole refusal x (textFrames bs) bytes w out)
+        (check-rejected bs l e v n j h z)
 
     rejected-is : listedRejected n j w out ≡ listText bs bytes w out
     unfolding listedRejected
@@ -131,11 +142,13 @@ module _ (bs bytes w out : List ℕ) (l : LaidOut) (e : l ≡ laidOut bs) (v : V
     list-short-out f = sym (if-no _ _ (ap (λ (b : Bool). eqb (length w) 4818 && b) (ne-eqb (length out) 229389 f) ∙ and-off (eqb (length w) 4818))) ∙ by-layout Accepted a
 
     pub list-accepted : length w ≡ 4818 → length out ≡ 229389 → (n : ℕ) → n ≡ l .count → (u new : List ℕ) (x : Listed)
-        → listedOn x u new ≡ listedFrom (runStepped (rulesOf (programOf (framesOf (take n (l .words))))) (framesOf (take n (l .words))) w bytes) (runListing (rulesOf (programOf (framesOf (take n (l .words))))) (framesOf (take n (l .words))) bytes) out
+        → listedOn x u new
+        ≡ listedWhole (A.Done 0) (rulesOf (programOf (framesOf (take n (l .words)))))
+        (framesOf (take n (l .words))) bytes w out
         → listedOn x u new ≡ listText bs bytes w out
     list-accepted size room n q u new x k =
         let f : framesOf (take n (l .words)) ≡ textFrames bs = ap (λ (i : ℕ). framesOf (take i (l .words))) q ∙ laid-passed bs l e (sym h ∙ a) .lines in
         let r : rulesOf (programOf (framesOf (take n (l .words)))) ≡ verdict bs = check-rules bs l e v h a n _ q refl in
-        k ∙ ap₂ (λ (y : Verdict) (fs : List Frame). listedFrom (runStepped y fs w bytes) (runListing y fs bytes) out) r f
+        k ∙ ap₂ (λ (y : Verdict) (fs : List Frame). listedWhole (A.Done 0) y fs bytes w out) r f
         ∙ sym (if-yes _ _ (ap₂ (λ (b c : Bool). b && c) (eq-eqb (length w) 4818 size) (eq-eqb (length out) 229389 room)))
         ∙ by-layout Accepted a

@@ -1,4 +1,2 @@
 pub mod Runs
-pub mod Lengths
-pub mod Checked
 pub mod Printed

@@ -17,7 +17,6 @@ use Rattle.machine.specs.Runs.{steps}
 use Rattle.stepper.specs.declared.answer.Answer.{Answer}
 use Rattle.stepper.specs.declared.answer.Answer.the-variants as A
 use Rattle.listing.specs.Listing.{refusalLine, stops, Choices, choices, malformed, choicesFrom, choiceLines, runListing}
-use Rattle.runs.specs.Lengths.{wrongLength}
 use Rattle.runs.specs.Runs.{Behind, stepped}
 use Rattle.runs.specs.declared.printing.Listed.{Listed}
 
@@ -60,24 +59,39 @@ unfoldable pub written : List ℕ → ℕ → List ℕ → List ℕ
 written out at bytes = paste out at bytes (length bytes)
 
 -- the state's words, and the buffer that begins with the listing
-abbrev pub listedFrom : Behind → List ℕ → List ℕ → ListedOn
-listedFrom b listing out = listedAs (A.Done 0) (length listing) (b .used) (b .words) (written out 0 listing)
+abbrev pub listedFrom : Answer → Behind → List ℕ → List ℕ → ListedOn
+listedFrom a b listing out =
+    listedAs a (length listing) (b .used) (b .words) (written out 0 listing)
+
+-- the whole listing of a text with that verdict and those frames
+abbrev pub listedWhole : Answer → Verdict → List Frame → List ℕ → List ℕ → List ℕ → ListedOn
+listedWhole a v fs bytes w out =
+    listedFrom a (runStepped v fs w bytes) (runListing v fs bytes) out
 
 -- nothing is printed: 'No buffer changes.'
 abbrev pub unlisted : Answer → List ℕ → List ℕ → ListedOn
 unlisted a w out = listedAs a 0 0 w out
 
--- a listing that stops after 1 to 7 needs no state; any other needs one of its length
-abbrev pub stateFits : Verdict → List ℕ → Bool
-stateFits (Rejected n j) w = true
-stateFits Accepted w = eqb (length w) 4818
+-- the answer, from what 1 to 7 say of the text (`layoutVerdict`; 8 to 13 stop no listing) and from
+-- whether the buffers have the lengths that the listing needs: the text's refusal 1 to 7; else 14,
+-- 'after 1 to 7 .. a lent buffer of the wrong length'; else it is done
+abbrev pub answerFor : Verdict → Bool → Answer
+answerFor (Rejected n j) fit = A.Rejected n j
+answerFor Accepted false = A.Refused 14 0
+answerFor Accepted true = A.Done 0
 
--- of any text, any bytes of choices.txt and any buffers; the longest listing has 8 + 14 * 16,384 + 5 bytes
+-- a listing that stops after 1 to 7 needs no state; any other needs one of its length. The longest
+-- listing has 8 + 14 * 16,384 + 5 bytes
+abbrev pub buffersFit : Verdict → List ℕ → List ℕ → Bool
+buffersFit (Rejected n j) w out = eqb (length out) 229389
+buffersFit Accepted w out = eqb (length w) 4818 && eqb (length out) 229389
+
+-- of any text, any bytes of choices.txt and any buffers
 unfoldable pub listText : List ℕ → List ℕ → List ℕ → List ℕ → ListedOn
 listText bs bytes w out =
-    if stateFits (layoutVerdict bs) w && eqb (length out) 229389
-    then listedFrom (runStepped (verdict bs) (textFrames bs) w bytes) (runListing (verdict bs) (textFrames bs) bytes) out
-    else unlisted (wrongLength (layoutVerdict bs)) w out
+    if buffersFit (layoutVerdict bs) w out
+    then listedWhole (answerFor (layoutVerdict bs) true) (verdict bs) (textFrames bs) bytes w out
+    else unlisted (answerFor (layoutVerdict bs) false) w out
 
 -- ---- what the inner functions give. Whoever reads the promise can skip this
 
@@ -100,4 +114,6 @@ listedBehind b listing out = listedAs (A.Done 0) (8 + length listing) (b .used) 
 -- of a text that refusal n at frame j stops
 unfoldable pub listedRejected : ℕ → ℕ → List ℕ → List ℕ → ListedOn
 listedRejected n j w out =
-    if eqb (length out) 229389 then listedFrom (unstepped w) (refusalLine n j) out else unlisted (A.Rejected n j) w out
+    if eqb (length out) 229389
+    then listedFrom (A.Rejected n j) (unstepped w) (refusalLine n j) out
+    else unlisted (A.Rejected n j) w out

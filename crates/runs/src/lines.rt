@@ -16,7 +16,7 @@ ghost use Rattle.stepper.specs.Files.{FileWords, fileOf};
 ghost use Rattle.runs.specs.Printed.{choicesOf, stepLines, written};
 
 // The first n choices of choices.txt, from the fresh state on, and a line of 14 bytes for each; its cells in use are those behind the step.
-pub fn step_lines(
+pub(crate) fn step_lines(
     frames: &[u64],
     file: File,
     bytes: &[u8],

@@ -1,6 +1,5 @@
 // What `run` prints, whole, in a lent buffer.
 use crate::lines::step_lines;
-use crate::steps::used_of;
 use language::verdict::Verdict;
 use layout::lay_out;
 use listing::buffer::put;
@@ -15,21 +14,32 @@ use stepper::answer::Answer;
 use stepper::file::file_of;
 ghost use mathlib.Core.Path.{_≡_};
 ghost use mathlib.Core.List.{[]};
-ghost use Prim.Native.Nat.{_≤_};
+ghost use Prim.Native.Nat.{_≤_, min};
 ghost use lib.ListN.{length};
 ghost use Rattle.text.specs.Frames.{framesOf};
 ghost use Rattle.program.specs.Programs.{programOf};
 ghost use Rattle.rules.specs.Checking.{rulesOf};
 ghost use Rattle.stepper.specs.Files.{FileWords};
-ghost use Rattle.listing.specs.Listing.{refusalLine, runLines, choicesListing, runListing};
+ghost use Rattle.stepper.specs.declared.answer.Answer.the-variants.{Done};
+ghost use Rattle.listing.specs.Listing.{refusalLine, runLines, choicesListing};
 ghost use Rattle.runs.specs.Runs.{stepped};
-ghost use Rattle.runs.specs.Printed.{choicesOf, unstepped, choicesStepped, runStepped, listedOn, listedBehind, listedFrom, listedRejected, listText};
+ghost use Rattle.runs.specs.Printed.{choicesOf, unstepped, choicesStepped, listedOn, listedBehind, listedWhole, listedRejected, listText};
 
-// Whether it is printed or why it is not, the listing's length, and how many choices were used.
+// The answer: the text's refusal 1 to 7, else 14, else 0; how many bytes of the buffer hold the listing; how many choices were used.
 pub struct Listed {
     pub answer: Answer,
     pub length: u32,
     pub used: usize,
+}
+
+// How many of n choices a run uses.
+fn used_of(n: usize, allowance: u16) -> usize
+    ensures { λ r. ⌜ r ≡ min n allowance ⌝ }
+{
+    if n <= allowance as usize {
+        return n;
+    }
+    allowance as usize
 }
 
 // The n choices of choices.txt, as far as the allowance goes: a line for each, and the last.
@@ -80,14 +90,14 @@ fn list_choices(frames: &[u64], bytes: &[u8], state: &mut [u64], out: &mut [u8])
 // A file that passes refusals 1 to 7 runs, whatever its rules say.
 fn list_frames(frames: &[u64], bytes: &[u8], state: &mut [u64], out: &mut [u8]) -> Listed
     requires { ⌜ FileWords (now frames) × (length (now state) ≡ 4818) × (length (now out) ≡ 229389) ⌝ }
-    ensures { λ r. ⌜ listedOn r (now (state .exit)) (now (out .exit)) ≡ listedFrom (runStepped (rulesOf (programOf (framesOf (now (frames .entry))))) (framesOf (now (frames .entry))) (now (state .entry)) (now (bytes .entry))) (runListing (rulesOf (programOf (framesOf (now (frames .entry))))) (framesOf (now (frames .entry))) (now (bytes .entry))) (now (out .entry)) ⌝ }
+    ensures { λ r. ⌜ listedOn r (now (state .exit)) (now (out .exit)) ≡ listedWhole (Done 0) (rulesOf (programOf (framesOf (now (frames .entry))))) (framesOf (now (frames .entry))) (now (bytes .entry)) (now (state .entry)) (now (out .entry)) ⌝ }
 {
     let line = check_line(rules_of(frames));
     put(out, 0, &line);
     list_choices(frames, bytes, state, out)
 }
 
-// The line of a text that refusal n at frame j stops. Bytes of another length cannot take it: then the refusal is the answer.
+// A text that refusal n at frame j stops: the refusal is the answer, and its line is the listing. Bytes of another length cannot take the line.
 fn list_rejected(n: u8, j: u16, out: &mut [u8]) -> Listed
     ensures { λ r. ⌜ listedOn r [] (now (out .exit)) ≡ listedRejected n j [] (now (out .entry)) ⌝ }
 {
@@ -101,14 +111,14 @@ fn list_rejected(n: u8, j: u16, out: &mut [u8]) -> Listed
     let line = refusal_line(n, j);
     put(out, 0, &line);
     Listed {
-        answer: Answer::Done(0),
+        answer: Answer::Rejected(n, j),
         length: 8,
         used: 0,
     }
 }
 
-// The listing of any text and of the bytes of choices.txt, and the state behind it. Where a buffer has another length than it needs, the text's refusal 1 to 7, else 14,
-// and nothing is written. The longest listing has 8 + 14 * 16,384 + 5 bytes.
+// The listing of any text and of the bytes of choices.txt, and the state behind it. The answer is the text's refusal 1 to 7 whatever the lengths, else 14 where a
+// buffer has another length than the listing needs, else 0. Where one has, nothing is written. The longest listing has 8 + 14 * 16,384 + 5 bytes.
 pub fn run_listing(text: &[u8], choices: &[u8], state: &mut [u64], out: &mut [u8]) -> Listed
     ensures { λ r. ⌜ listedOn r (now (state .exit)) (now (out .exit)) ≡ listText (now (text .entry)) (now (choices .entry)) (now (state .entry)) (now (out .entry)) ⌝ }
 {

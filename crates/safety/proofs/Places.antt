@@ -13,6 +13,7 @@ use lib.Seq.{getD-at}
 use Rattle.basics.specs.Members.{All}
 use Rattle.basics.proofs.Ifs.{and-true, or-on}
 use Rattle.language.specs.Places.{hasPlace, isScheduler, Standing, linked, unlinked}
+use Rattle.language.proofs.PlaceLaws.{test-bounds, has-place}
 use Rattle.language.specs.Types.{numberType, truthType, cellType, ownerOf}
 use Rattle.language.specs.Effects.{_∪_, withOwner, member}
 use Rattle.language.specs.declared.effect.Effect.{Effect}
@@ -73,12 +74,9 @@ pub record SharedIs (sh : List CellTyping) (cells : List ℕ) (s : ℕ) : Type 0
   pub formed : Formed (getD cells s 0)
 
 -- P is laid out as reach/proofs/Laid says (Q, n); its shared cells are, to the rules, of the type words `cells`, and sh types them
-module _ (P : Program) (sh : List CellTyping) (cells : List ℕ) (Q : ℕ → Type 0) (n : ℕ) (few : n ≤ 8) (shared : (s : ℕ) → s < length cells → SharedIs sh cells s) where
+module _ (P : Program) (sh : List CellTyping) (cells : List ℕ) (Q : ℕ → Type 0) (n : ℕ) (shared : (s : ℕ) → s < length cells → SharedIs sh cells s) where
   place-range : (o : ℕ) → hasPlace n o ≡ true → (1 ≤ o) × (o ≤ 9)
-  place-range o h =
-      let q = and-true (leb 1 o) (leb o (1 + n)) h in
-      let m = leb-true o (1 + n) (q .1) in
-      (leb-true 1 o (q .0), omega arith)
+  place-range o h = test-bounds 1 o (has-place n o h .0)
 
   -- ---- expressions
 

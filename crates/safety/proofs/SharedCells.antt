@@ -5,11 +5,12 @@ use mathlib.Core.Bool.{true}
 use mathlib.Core.List.{List, [], _∷_, _++_, map, append-assoc, map-append}
 use Prim.Native.Nat.{ℕ, zero, suc, _+_, _≤_, _<_}
 use native.Mathlib.Omega.{arith}
-use lib.Dec.{ltb, leb, eqb}
-use borrow.Author.Tests.{ltb-true, leb-true, eqb-true, eqb-false}
+use lib.Dec.{ltb, eqb}
+use borrow.Author.Tests.{ltb-true, eqb-true, eqb-false}
 use lib.ListN.{length, getD, length-append, length-map, List·getD-append}
 use Rattle.basics.specs.Members.{All}
 use Rattle.basics.proofs.Ifs.{if-all, if-yes, and-true}
+use Rattle.language.proofs.PlaceLaws.{test-bounds, has-scheduler}
 use Rattle.language.specs.Types.{numberType, isCell}
 use Rattle.program.specs.Programs.{SharedCell, typeOfShared}
 use Rattle.layout.specs.Fields.{firstContentFine}
@@ -34,12 +35,11 @@ pub record Well (x : SharedCell) : Type 0 where
   pub high : x .owner ≤ 9
   pub word : ContentWord (x .content)
 
-module _ {Q : ℕ → Type 0} {n : ℕ} (few : n ≤ 8) where
+module _ {Q : ℕ → Type 0} {n : ℕ} where
   well : {before : List SharedCell} {x : SharedCell} → CellFine Q n before x → Well x
   well {x = x} f =
-      let r = and-true (leb 2 (x .owner)) (leb (x .owner) (1 + n)) (f .owner) in
-      let l = leb-true (x .owner) (1 + n) (r .1) in
-      record { low = leb-true 2 (x .owner) (r .0); high = omega arith; word = content-word n (x .content) few (f .content) }
+      let (l, m) = test-bounds 2 (x .owner) (has-scheduler n (x .owner) (f .owner) .0) in
+      record { low = l; high = m; word = content-word n (x .content) (f .content) }
 
   pub all-well : {before xs : List SharedCell} → CellsFine Q n before xs → All Well xs
   all-well CellsFine.none = All.none
@@ -101,9 +101,9 @@ module _ (all : List SharedCell) (wells : All Well all) where
   held before (x ∷ xs) e (CellsFine.more f r) (All.more w ws) zero k here = (refl, by-place (w .low) (w .high) (w .word .public) (first-typed before (x ∷ xs) x e f (w .word .formed)))
   held before (x ∷ xs) e (CellsFine.more f r) (All.more w ws) (suc c) k (there a) = held (before ++ (x ∷ [])) xs (e ∙ sym (append-assoc before (x ∷ []) xs)) r ws c k a
 
-pub first-good : {Q : ℕ → Type 0} {n : ℕ} (few : n ≤ 8) (xs : List SharedCell) → CellsFine Q n [] xs → GoodCells (storeOf (map typingOf xs)) (map firstCell xs)
-first-good few xs f =
+pub first-good : {Q : ℕ → Type 0} {n : ℕ} (xs : List SharedCell) → CellsFine Q n [] xs → GoodCells (storeOf (map typingOf xs)) (map firstCell xs)
+first-good xs f =
     record {
-      each = λ c k e. held xs (all-well few f) [] xs refl f (all-well few f) c k (at-store (map typingOf xs) c e);
+      each = λ c k e. held xs (all-well f) [] xs refl f (all-well f) c k (at-store (map typingOf xs) c e);
       all = λ c u. let l = ltb-true c (length (map firstCell xs)) u in let n = length-map xs typingOf in let m = length-map xs firstCell in typing-at (map typingOf xs) c (omega arith);
     }

@@ -12,6 +12,7 @@ use Rattle.basics.specs.If.{if_then_else_}
 use Rattle.basics.proofs.Ifs.{if-yes, if-no, and-true}
 use Rattle.language.specs.Places.{private, hasPlace}
 use Rattle.language.specs.Types.{numberType, truthType, cellDepth, isCell, cellType, ownerOf, contentOf, public, digitOf, ownerDigit, typeWord, contentWord}
+use Rattle.language.proofs.PlaceLaws.{test-bounds, has-place}
 use Rattle.language.proofs.Words.{depth-0, depth-1, depth-3}
 use Rattle.language.proofs.Cells.{Around, around}
 use Rattle.safety.proofs.Typing.{Ty, num, tru, cell, Pub}
@@ -92,8 +93,7 @@ formed-public (Formed.around-of {o = o} {t = t} l h r p f) e = subst Pub (sym (t
     two (no n) = omega (arith, n)
     two (yes q) =
         let w : eqb (ownerOf (cellType o t)) private ≡ true = eq-eqb _ 1 (of-cell o t l h r .owner ∙ q) in
-        let x : not (isCell (cellType o t) && eqb (ownerOf (cellType o t)) private) ≡ false = rw (is-cell o t l h r, w) in
-        absurd (true≢false (sym e ∙ x))
+        absurd (true≢false (sym e ∙ ap not w))
 
 -- ---- the words that refusal 5 lets by are well formed
 
@@ -104,14 +104,12 @@ record Digit (left o : ℕ) : Type 0 where
   -- 'A digit 1 (as owner) has only 1 or 0 to its left.'
   public : 2 ≤ left → 2 ≤ o
 
-owner-digit : (b left o : ℕ) → b ≤ 8 → ownerDigit b left o ≡ true → (o ≡ 0 → ⊥) → Digit left o
+owner-digit : (b left o : ℕ) → ownerDigit b left o ≡ true → (o ≡ 0 → ⊥) → Digit left o
 unfolding ownerDigit
-owner-digit b left o k h n =
+owner-digit b left o h n =
     let w = and-true (hasPlace b o) (not (eqb o private) || leb left private) (sym (if-no (eqb left 0) (hasPlace b o && (not (eqb o private) || leb left private)) (ne-eqb o 0 n)) ∙ h) in
-    let q = and-true (leb 1 o) (leb o (1 + b)) (w .0) in
-    let l = leb-true 1 o (q .0) in
-    let m = leb-true o (1 + b) (q .1) in
-    record { low = l; high = omega arith; public = λ two. one (ℕ-discrete o 1) l (w .1) two }
+    let (l, m) = test-bounds 1 o (has-place b o (w .0) .0) in
+    record { low = l; high = m; public = λ two. one (ℕ-discrete o 1) l (w .1) two }
   where
     one : Dec (o ≡ 1) → 1 ≤ o → (not (eqb o private) || leb left private) ≡ true → 2 ≤ left → 2 ≤ o
     one (no m) l e two = omega (arith, m)
@@ -128,7 +126,7 @@ no-digit b left o h e = eqb-true left 0 (sym (if-yes (eqb left 0) _ (eq-eqb o 0 
 three-digits : (t y : ℕ) → y ≡ t / 0x0010 → t / 0x0100 ≡ y / 0x0010 → t < 0x1000 → t / 0x0100 % 16 * 0x0100 + (y % 16 * 0x0010 + t % 16) ≡ t
 three-digits t y e f h = omega arith
 
-module _ (b t : ℕ) (few : b ≤ 8) (room : t < 0x1000) (word : typeWord b t ≡ true) where
+module _ (b t : ℕ) (room : t < 0x1000) (word : typeWord b t ≡ true) where
   -- what `typeWord` says of the three digits of a word below 0x1000
   record Digits : Type 0 where
     last : (digitOf 0 t ≡ 1) ⊎ (digitOf 0 t ≡ 2)
@@ -188,11 +186,11 @@ module _ (b t : ℕ) (few : b ≤ 8) (room : t < 0x1000) (word : typeWord b t �
     where
       go : Dec (t < 0x0010) → Dec (t < 0x0100) → Formed (digitOf 0 t) → digitOf 0 t < 0x0010 → Pub (tyOf (digitOf 0 t)) → ownerDigit b (digitOf 2 t) (digitOf 1 t) ≡ true → ownerDigit b (digitOf 3 t) (digitOf 2 t) ≡ true → Formed t
       go (yes l) _ f k p x y = let e : digitOf 0 t ≡ t = omega arith in subst Formed e f
-      go (no m) (yes l) f k p x y = one-cell (digitOf 0 t) refl f k p l (owner-digit b (digitOf 2 t) (digitOf 1 t) few x (λ z. omega (arith, m, z)))
+      go (no m) (yes l) f k p x y = one-cell (digitOf 0 t) refl f k p l (owner-digit b (digitOf 2 t) (digitOf 1 t) x (λ z. omega (arith, m, z)))
       go (no m) (no l) f k p x y =
           let two : digitOf 2 t ≡ 0 → ⊥ = λ z. omega (arith, l, z) in
-          two-cells (digitOf 0 t) refl f k p (owner-digit b (digitOf 2 t) (digitOf 1 t) few x (λ z. two (no-digit b (digitOf 2 t) (digitOf 1 t) x z)))
-          (owner-digit b (digitOf 3 t) (digitOf 2 t) few y two)
+          two-cells (digitOf 0 t) refl f k p (owner-digit b (digitOf 2 t) (digitOf 1 t) x (λ z. two (no-digit b (digitOf 2 t) (digitOf 1 t) x z)))
+          (owner-digit b (digitOf 3 t) (digitOf 2 t) y two)
 
 -- 'A shared cell's content type is public, at most two cells deep.'
 pub record ContentWord (t : ℕ) : Type 0 where
@@ -200,14 +198,14 @@ pub record ContentWord (t : ℕ) : Type 0 where
   pub formed : Formed t
   pub public : Pub (tyOf t)
 
-pub content-word : (b t : ℕ) → b ≤ 8 → contentWord b t ≡ true → ContentWord t
+pub content-word : (b t : ℕ) → contentWord b t ≡ true → ContentWord t
 unfolding contentWord
-content-word b t few h =
+content-word b t h =
     let w = and-true _ (leb (cellDepth t) 2) h in
     let v = and-true (typeWord b t) (public t) (w .0) in
     let d = leb-true (cellDepth t) 2 (w .1) in
     let r = fits (decLt t 0x1000) d in
-    let f = formed-word b t few r (v .0) in
+    let f = formed-word b t r (v .0) in
     record { room = r; formed = f; public = formed-public f (v .1) }
   where
     fits : Dec (t < 0x1000) → cellDepth t ≤ 2 → t < 0x1000

@@ -10,7 +10,6 @@ use Rattle.layout.specs.Faults.{NoFault}
 use Rattle.rules.specs.Rules.{Keeps}
 use Rattle.machine.specs.Fresh.{fresh}
 use Rattle.machine.proofs.Lists.{all-imply}
-use Rattle.reach.proofs.Passed.{schedulers-range}
 use Rattle.reach.proofs.Cells.{CellsFine, shared-fine}
 use Rattle.reach.proofs.Modules.{parts, main-plain, some-module}
 use Rattle.reach.proofs.NeverFull.{Any, laid, bodies}
@@ -26,16 +25,15 @@ module _ {fs : List Frame} (fine : NoFault fs) where
   pub typed : Keeps (programOf fs) → Typed (programOf fs)
   unfolding programOf fresh
   typed rules =
-      let few = schedulers-range fine .1 in
-      let wells = all-well few cells in
+      let wells = all-well cells in
       let xs = sharedOf fs in
       record {
         sh = map typingOf xs;
         count = length-map xs typingOf;
         owners = shared-owners xs wells;
-        first = first-good few xs cells;
+        first = first-good xs cells;
         some = some-module fine;
-        main = main-typed (programOf fs) (map typingOf xs) (map typeOfShared xs) Any (schedulersOf fs) few (shared-is xs wells) [] (modulesFrom fs 0 fs) refl refl
+        main = main-typed (programOf fs) (map typingOf xs) (map typeOfShared xs) Any (schedulersOf fs) (shared-is xs wells) [] (modulesFrom fs 0 fs) refl refl
             (λ s l. absurd (omega arith)) (all-imply (laid fine) (parts fs)) (main-plain fine) rules;
         bodies = bodies fine;
       }

@@ -2,14 +2,17 @@
 use Prim.Native.Nat.{ℕ, suc, _+_, _*_, _-_, _<_, _≤_}
 use mathlib.Core.Path.{_≡_, refl, sym, ap, _∙_}
 use mathlib.Core.List.{List, [], _∷_}
-use mathlib.Core.Bool.{false}
+use mathlib.Core.Bool.{true, false}
 use native.Mathlib.Omega.{arith}
 use native.Mathlib.Numerals.{add-one}
 use lib.ListN.{getD, length, set, drop, length-append, length-drop, List·getD-append}
 use lib.Seq.{getD-drop, getD-at}
-use lib.Dec.{leb}
+use lib.Dec.{leb, ltb, eqb}
 use borrow.Author.Tests.{lt-ltb, le-ltb, lt-leb, eq-eqb, ne-eqb}
+use Rattle.basics.specs.If.{if_then_else_}
 use Rattle.basics.proofs.Ifs.{yes, no}
+use Rattle.language.specs.Places.{isScheduler}
+use Rattle.language.proofs.PlaceLaws.{test-bounds}
 use Rattle.machine.specs.Blocks.{part, pasted}
 use Rattle.machine.proofs.WordLaws.{pasted-more, pasted-length, pasted-out, part-at, part-length}
 use Rattle.states.specs.Lists.{shifted, withoutFirst, insertedIn, withLast}
@@ -36,24 +39,50 @@ pub inserted : (w v : List ℕ) (at n p e : ℕ) → v ≡ pasted w (at + 1 + p)
 unfolding insertedIn
 inserted w v at n p e h = ap (λ (x : List ℕ). set x at (n + 1)) h
 
+-- ---- where the lists of a scheduler begin; k is which of the schedulers it is, from 0
+pub active-place : (n k : ℕ) → k ≡ n - 2 → 2 + 130 * k ≡ 2 + 130 * (n - 2)
+active-place n k e = ap (λ (i : ℕ). 2 + 130 * i) e
+
+pub active-space : (n k : ℕ) → k ≡ n - 2 → isScheduler n ≡ true → 2 + 130 * k + 130 ≤ 1042
+active-space n k e h = let (a, b) = test-bounds 2 n h in omega arith
+
+pub first-read : (w : List ℕ) (at k : ℕ) → at ≡ 2 + 130 * k
+    → getD w (at + 1) 0 ≡ getD w (3 + 130 * k) 0
+first-read w at k e = let z : at + 1 ≡ 3 + 130 * k = omega arith in ap (λ (i : ℕ). getD w i 0) z
+
 -- ---- the end of a next list
-pub no-room : (n m : ℕ) → 64 < n → false ≡ leb (n + m) 64
-no-room n m h = sym (lt-leb (n + m) 64 (omega arith))
+module _ (w : List ℕ) (at i m : ℕ) (z : at ≡ i) where
+  pub room-rest : leb (getD w at 0 + m) 64 ≡ leb (getD w i 0 + m) 64
+  room-rest = ap (λ (j : ℕ). leb (getD w j 0 + m) 64) z
 
-pub last-full : (w : List ℕ) (k e : ℕ) → 64 ≤ getD w (67 + 130 * k) 0 → w ≡ withLast w k e
-unfolding withLast
-last-full w k e h = no _ (le-ltb (getD w (67 + 130 * k) 0) 64 h) refl
+  pub room-none : 64 < getD w at 0 → false ≡ leb (getD w i 0 + m) 64
+  room-none h = sym (lt-leb (getD w at 0 + m) 64 (omega arith)) ∙ room-rest
 
-pub last-more : (w v : List ℕ) (k e n : ℕ) → n ≡ getD w (67 + 130 * k) 0 → n < 64 → length w ≡ 4818 → k < 8 → v ≡ insertedIn w (67 + 130 * k) n n e → v ≡ withLast w k e
-unfolding insertedIn withLast
-last-more w v k e n q h l g f =
-    f ∙ ap (λ (m : ℕ). set (pasted w (67 + 130 * k + 1 + n) (e ∷ part w (67 + 130 * k + 1 + n) m) (m + 1)) (67 + 130 * k) (n + 1)) none
-    ∙ ap (λ (x : List ℕ). set x (67 + 130 * k) (n + 1)) (sym (first-word w (67 + 130 * k + 1 + n) (e ∷ part w (67 + 130 * k + 1 + n) 0) e refl (omega arith) (omega arith)))
-    ∙ ap (λ (m : ℕ). set (set w (67 + 130 * k + 1 + m) e) (67 + 130 * k) (m + 1)) q
-    ∙ yes _ (lt-ltb (getD w (67 + 130 * k) 0) 64 (omega arith)) refl
-  where
-    none : n - n ≡ 0
-    none = omega arith
+pub ruleset room-laws = (room-none, room-rest)
+
+module _ (w : List ℕ) (at k e : ℕ) (z : at ≡ 67 + 130 * k) where
+  abbrev last-at : ℕ → List ℕ
+  last-at i =
+      if ltb (getD w i 0) 64 then set (set w (i + 1 + getD w i 0) e) i (getD w i 0 + 1) else w
+
+  pub last-full : 64 ≤ getD w at 0 → w ≡ withLast w k e
+  unfolding withLast
+  last-full h = no _ (le-ltb (getD w at 0) 64 h) refl ∙ ap last-at z
+
+  pub last-more : (v : List ℕ) (n : ℕ) → n ≡ getD w at 0 → n < 64 → at + 65 ≤ 1042
+      → length w ≡ 4818 → v ≡ insertedIn w at n n e → v ≡ withLast w k e
+  unfolding insertedIn withLast
+  last-more v n q h g l f =
+      let end = at + 1 + n in
+      f ∙ ap (λ (m : ℕ). set (pasted w end (e ∷ part w end m) (m + 1)) at (n + 1)) none
+      ∙ ap (λ (x : List ℕ). set x at (n + 1))
+      (sym (first-word w end (e ∷ part w end 0) e refl (omega arith) (omega arith)))
+      ∙ ap (λ (m : ℕ). set (set w (at + 1 + m) e) at (m + 1)) q
+      ∙ yes _ (lt-ltb (getD w at 0) 64 (omega arith)) refl
+      ∙ ap last-at z
+    where
+      none : n - n ≡ 0
+      none = omega arith
 
 pub ruleset last-laws = (last-full, last-more)
 
@@ -99,14 +128,23 @@ module _ (w v : List ℕ) (at j : ℕ) (e : v ≡ pasted w at (shifted (part w a
       pasted-more w (shifted (part w at 64)) v at 63 0 (e ∙ ap (pasted w at (shifted (part w at 64))) z) (sym (shifted-last (part w at 64) block)) (omega arith) (let l = long in omega arith)
 
 -- `drop_first`
-pub first-none : (w : List ℕ) (k : ℕ) → getD w (2 + 130 * k) 0 ≡ 0 → w ≡ withoutFirst w k
-unfolding withoutFirst
-first-none w k h = yes _ (eq-eqb (getD w (2 + 130 * k) 0) 0 h) refl
+module _ (w : List ℕ) (at k : ℕ) (z : at ≡ 2 + 130 * k) where
+  abbrev rest-at : ℕ → List ℕ
+  rest-at i =
+      if eqb (getD w i 0) 0 then w else
+      set (pasted w (i + 1) (shifted (part w (i + 1) 64)) 64) i (getD w i 0 - 1)
 
-pub first-gone : (w v : List ℕ) (k : ℕ) → (getD w (2 + 130 * k) 0 ≡ 0 → ⊥) → v ≡ pasted w (2 + 130 * k + 1) (shifted (part w (2 + 130 * k + 1) 64)) 64
-    → set v (2 + 130 * k) (getD w (2 + 130 * k) 0 - 1) ≡ withoutFirst w k
-unfolding withoutFirst
-first-gone w v k h e = no _ (ne-eqb (getD w (2 + 130 * k) 0) 0 h) (ap (λ (l : List ℕ). set l (2 + 130 * k) (getD w (2 + 130 * k) 0 - 1)) e)
+  pub first-none : getD w at 0 ≡ 0 → w ≡ withoutFirst w k
+  unfolding withoutFirst
+  first-none h = yes _ (eq-eqb (getD w at 0) 0 h) refl ∙ ap rest-at z
+
+  pub first-gone : (v : List ℕ) → (getD w at 0 ≡ 0 → ⊥)
+      → v ≡ pasted w (at + 1) (shifted (part w (at + 1) 64)) 64
+      → set v at (getD w at 0 - 1) ≡ withoutFirst w k
+  unfolding withoutFirst
+  first-gone v h e =
+      no _ (ne-eqb (getD w at 0) 0 h) (ap (λ (l : List ℕ). set l at (getD w at 0 - 1)) e)
+      ∙ ap rest-at z
 
 pub ruleset first-laws = (first-none, first-gone)
 

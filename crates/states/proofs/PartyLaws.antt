@@ -1,6 +1,6 @@
 -- Whether a choice names an unlinked thread: one law for each return of the code, and the test on words is `isUnlinked` of the state that they say. Assumes nothing.
 use Prim.Native.Nat.{ℕ, suc, _+_, _-_, _*_, _<_, _≤_}
-use mathlib.Core.Path.{_≡_, refl, ap, ap₂, _∙_}
+use mathlib.Core.Path.{_≡_, refl, sym, ap, ap₂, _∙_}
 use mathlib.Core.List.{List}
 use mathlib.Core.Bool.{Bool, true, false, not, _&&_}
 use native.Mathlib.Omega.{arith}
@@ -15,21 +15,36 @@ use Rattle.machine.proofs.Round.{thread-0, thread-2, ended-bit}
 use Rattle.states.specs.Parties.{isUnlinkedWord}
 
 module _ (w : List ℕ) (c : ℕ) where
-  pub unlinked-low : c < 17 → false ≡ isUnlinkedWord w c
+  pub unlinked-low : c ≤ 16 → false ≡ isUnlinkedWord w c
   unfolding isUnlinkedWord
-  unlinked-low h = rw (lt-leb 17 c h)
+  unlinked-low h = rw (lt-leb 17 c (omega arith))
 
-  pub unlinked-over : 17 ≤ c → getD w 0 0 < c - 16 → false ≡ isUnlinkedWord w c
+  pub unlinked-over : 16 < c → getD w 0 0 < c - 16 → false ≡ isUnlinkedWord w c
   unfolding isUnlinkedWord
-  unlinked-over a h = rw (le-leb 17 c a, lt-leb (c - 16) (getD w 0 0) h)
+  unlinked-over a h = rw (le-leb 17 c (omega arith), lt-leb (c - 16) (getD w 0 0) h)
 
-  pub unlinked-elsewhere : 17 ≤ c → c - 16 ≤ getD w 0 0 → (getD w (1042 + 55 * (c - 17)) 0 ≡ 1 → ⊥) → false ≡ isUnlinkedWord w c
-  unfolding isUnlinkedWord
-  unlinked-elsewhere a b h = rw (le-leb 17 c a, le-leb (c - 16) (getD w 0 0) b, ne-eqb (getD w (1042 + 55 * (c - 17)) 0) 1 h)
+  -- the thread's words as the code finds them
+  same-at : c - 16 - 1 ≡ c - 17
+  same-at = omega arith
 
-  pub unlinked-rest : 17 ≤ c → c - 16 ≤ getD w 0 0 → getD w (1042 + 55 * (c - 17)) 0 ≡ 1 → not (eqb (getD w (1042 + 55 * (c - 17) + 2) 0) 0) ≡ isUnlinkedWord w c
-  unfolding isUnlinkedWord
-  unlinked-rest a b h = rw (le-leb 17 c a, le-leb (c - 16) (getD w 0 0) b, eq-eqb (getD w (1042 + 55 * (c - 17)) 0) 1 h)
+  module _ (p : ℕ) (e : p ≡ private) (a : 16 < c) (b : c - 16 ≤ getD w 0 0) where
+    -- the thread is there: what is left of the definition
+    there : isUnlinkedWord w c
+        ≡ (eqb (getD w (1042 + 55 * (c - 16 - 1)) 0) private
+        && not (eqb (getD w (1042 + 55 * (c - 16 - 1) + 2) 0) 0))
+    unfolding isUnlinkedWord
+    there = rw (le-leb 17 c (omega arith), le-leb (c - 16) (getD w 0 0) b, same-at) refl
+
+    pub unlinked-elsewhere : (getD w (1042 + 55 * (c - 16 - 1)) 0 ≡ p → ⊥)
+        → false ≡ isUnlinkedWord w c
+    unlinked-elsewhere h =
+        let other = ne-eqb (getD w (1042 + 55 * (c - 16 - 1)) 0) private (λ z. h (z ∙ sym e)) in
+        sym (there ∙ rw other refl)
+
+    pub unlinked-rest : getD w (1042 + 55 * (c - 16 - 1)) 0 ≡ p
+        → not (eqb (getD w (1042 + 55 * (c - 16 - 1) + 2) 0) 0) ≡ isUnlinkedWord w c
+    unlinked-rest h =
+        sym (there ∙ rw (eq-eqb (getD w (1042 + 55 * (c - 16 - 1)) 0) private (h ∙ e)) refl)
 
 pub ruleset unlinked-laws = (unlinked-low, unlinked-over, unlinked-elsewhere, unlinked-rest)
 

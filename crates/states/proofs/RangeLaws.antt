@@ -1,12 +1,13 @@
 -- Laws of the range tests of words, one for each return of the code; for lists and blocks of words see BlockLaws. Assumes nothing.
 use Prim.Native.Nat.{ℕ, _+_, _-_, _/_, _%_, _<_, _≤_}
-use mathlib.Core.Path.{_≡_, refl, sym, ap, _∙_}
-use mathlib.Core.List.{List, _∷_}
-use mathlib.Core.Bool.{Bool, true, false, not}
+use mathlib.Core.Path.{_≡_, refl, sym, ap, ap₂, _∙_}
+use mathlib.Core.List.{List}
+use mathlib.Core.Bool.{Bool, true, false, not, _&&_}
+use native.Mathlib.Omega.{arith}
 use lib.ListN.{getD, length, List·getD-eq-default}
 use lib.Dec.{leb, eqb}
 use borrow.Author.Tests.{lt-ltb, le-ltb, le-leb, lt-leb, eq-eqb, ne-eqb, not-true, not-false}
-use Rattle.basics.proofs.Ifs.{yes, no}
+use Rattle.basics.proofs.Ifs.{yes, no, leb-same}
 use Rattle.language.specs.Places.{hasPlace, hasScheduler}
 use Rattle.language.specs.declared.kind.Kind.{Kind}
 use Rattle.language.specs.declared.frame.Frame.{Frame}
@@ -83,13 +84,18 @@ pub owner-scheduler : (n o : ℕ) (t : Bool) → t ≡ hasScheduler n o → t �
 unfolding ownerInRange
 owner-scheduler n o t e h = rw (sym e ∙ h)
 
-pub owner-low : (n o : ℕ) (t : Bool) → t ≡ hasScheduler n o → t ≡ false → o < 17 → false ≡ ownerInRange n o
+pub owner-low : (n o : ℕ) (t : Bool) → t ≡ hasScheduler n o → t ≡ false → o < 16
+    → false ≡ ownerInRange n o
 unfolding ownerInRange
-owner-low n o t e h l = rw (sym e ∙ h, lt-leb 17 o l)
+owner-low n o t e h l = rw (sym e ∙ h, lt-leb 17 o (omega arith))
 
-pub owner-thread : (n o : ℕ) (t : Bool) → t ≡ hasScheduler n o → t ≡ false → 17 ≤ o → leb o 80 ≡ ownerInRange n o
-unfolding ownerInRange
-owner-thread n o t e h l = rw (sym e ∙ h, le-leb 17 o l)
+pub owner-thread : (n o : ℕ) (t r : Bool) → t ≡ hasScheduler n o → t ≡ false → 16 ≤ o
+    → r ≡ threadInRange (o - 16) → r ≡ ownerInRange n o
+unfolding ownerInRange threadInRange
+owner-thread n o t r e h l q =
+    rw (sym e ∙ h) (q ∙ ap₂ (λ (x y : Bool). x && y)
+    (leb-same 1 (o - 16) 17 o (λ z. omega arith) (λ z. omega arith))
+    (leb-same (o - 16) 64 o 80 (λ z. omega arith) (λ z. omega arith)))
 
 pub ruleset owner-laws = (owner-scheduler, owner-low, owner-thread)
 

@@ -137,13 +137,24 @@ module _ (w : List ℕ) where
 pub ruleset sort-laws = (sort-ready, sort-waiting, sort-end)
 
 -- ---- the end of an instant
-pub instant-words : (w u v : List ℕ) (k : ℕ) (x : Sorted) → x ≡ sortedOf w (wordsAt w (67 + 130 * k)) → u ≡ pasted w (2 + 130 * k) (x .readies ∷ x .ready) 65
-    → v ≡ pasted u (67 + 130 * k) (x .waits ∷ x .waiting) 65 → v ≡ withInstantEnded w k
-unfolding withInstantEnded
-instant-words w u v k x e f g =
-    g ∙ ap (λ (l : List ℕ). pasted l (67 + 130 * k) (x .waits ∷ x .waiting) 65) f
-    ∙ ap (λ (y : Sorted). pasted (pasted w (2 + 130 * k) (y .readies ∷ y .ready) 65) (67 + 130 * k) (y .waits ∷ y .waiting) 65) e
+module _ (w : List ℕ) (k next : ℕ) (z : next ≡ 67 + 130 * k) where
+  pub next-short : getD w (67 + 130 * k) 0 ≤ 64 → getD w next 0 ≤ 64
+  next-short h = rw z h
 
-pub instant-count : (w : List ℕ) (k : ℕ) (x : Sorted) → x ≡ sortedOf w (wordsAt w (67 + 130 * k)) → x .readies ≡ length (readyWords w (wordsAt w (67 + 130 * k)))
-unfolding sortedOf
-instant-count w k x e = ap (λ (y : Sorted). y .readies) e
+  module _ (x : Sorted) (e : x ≡ sortedOf w (wordsAt w next)) where
+    sorted : x ≡ sortedOf w (wordsAt w (67 + 130 * k))
+    sorted = e ∙ ap (λ (i : ℕ). sortedOf w (wordsAt w i)) z
+
+    pub instant-count : x .readies ≡ length (readyWords w (wordsAt w (67 + 130 * k)))
+    unfolding sortedOf
+    instant-count = ap (λ (y : Sorted). y .readies) sorted
+
+    pub instant-words : (active : ℕ) (u v : List ℕ) → active ≡ 2 + 130 * k
+        → u ≡ pasted w active (x .readies ∷ x .ready) 65
+        → v ≡ pasted u next (x .waits ∷ x .waiting) 65 → v ≡ withInstantEnded w k
+    unfolding withInstantEnded
+    instant-words active u v y f g =
+        g ∙ ap₂ (λ (l : List ℕ) (i : ℕ). pasted l i (x .waits ∷ x .waiting) 65)
+        (f ∙ ap (λ (i : ℕ). pasted w i (x .readies ∷ x .ready) 65) y) z
+        ∙ ap (λ (s : Sorted). pasted (pasted w (2 + 130 * k) (s .readies ∷ s .ready) 65)
+        (67 + 130 * k) (s .waits ∷ s .waiting) 65) sorted

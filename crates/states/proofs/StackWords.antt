@@ -88,8 +88,11 @@ module _ (w : List ℕ) (k : ℕ) (all : length w ≡ 4818) (room : k < 64) wher
       ap (λ (u : List ℕ). set u i v) (sym (put-same w k all room)) ∙ ap (λ (n : ℕ). set (putThread w k (threadIn w k)) n v) z
       ∙ put-set w k all room (threadIn w k) (in-wide w k all room) y j v l e
 
-  pub moved : (p : ℕ) → set w (1042 + 55 * k) p ≡ putThread w k (moveTo p (threadIn w k))
-  moved p = one-word (moveTo p (threadIn w k)) (1042 + 55 * k) 0 p (sym (add-zero (1042 + 55 * k))) (omega arith) (set-place (threadIn w k) (in-wide w k all room) p)
+  pub moved : (v p : ℕ) → v ≡ p → set w (1042 + 55 * k) v ≡ putThread w k (moveTo p (threadIn w k))
+  moved v p e =
+      ap (set w (1042 + 55 * k)) e
+      ∙ one-word (moveTo p (threadIn w k)) (1042 + 55 * k) 0 p (sym (add-zero (1042 + 55 * k)))
+      (omega arith) (set-place (threadIn w k) (in-wide w k all room) p)
 
   pub ends : set w (1042 + 55 * k + 2) 0 ≡ putThread w k (ended (threadIn w k))
   ends = one-word (ended (threadIn w k)) (1042 + 55 * k + 2) 2 0 refl (omega arith) (set-ended (threadIn w k) (in-wide w k all room))

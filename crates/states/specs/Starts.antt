@@ -4,6 +4,7 @@ use Prim.Native.Nat.{ℕ}
 use lib.Dec.{leb}
 use lib.ListN.{length}
 use Rattle.basics.specs.If.{if_then_else_}
+use Rattle.language.specs.Places.{home}
 use Rattle.program.specs.Programs.{SharedCell}
 use Rattle.machine.specs.Fresh.{firstCell}
 use Rattle.machine.specs.Blocks.{pasted, padded, cellWords}
@@ -16,7 +17,16 @@ withShared w cs = pasted w 4562 (cellWords (map firstCell cs)) (if leb (length c
 
 -- main's thread, with that body, in the code's form
 abbrev pub mainWords : ℕ → ThreadWords
-mainWords body = record { place = 2; starter = 0; alive = 1; items = 1; continuation = padded 25 (body ∷ []); values = 0; variables = padded 25 [] }
+mainWords body =
+    record {
+      place = home;
+      starter = 0;
+      alive = 1;
+      items = 1;
+      continuation = padded 25 (body ∷ []);
+      values = 0;
+      variables = padded 25 [];
+    }
 
 -- the answer, the acting thread and the words of a call
 abbrev pub called : ℕ → ℕ → List ℕ → Called

@@ -106,7 +106,7 @@ fn main_thread(body: u64) -> ThreadWords
     items[0] = body;
     let none = [0u64; 25];
     ThreadWords {
-        place: Place::HOME.number() as u64,
+        place: Place::HOME.word(),
         starter: 0,
         alive: 1,
         items: 1,

@@ -5,4 +5,4 @@ pub mod party;
 pub mod range;
 pub mod stack;
 pub mod thread;
-pub mod wait;
+mod wait;

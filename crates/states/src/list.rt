@@ -1,36 +1,58 @@
-// A scheduler's active list and next list in the lent words. Scheduler k counts from 0: it is scheduler k + 2 of the file.
+// A scheduler's active list and next list in the lent words.
 use crate::wait::is_ready;
+use language::Place;
 ghost use mathlib.Core.Path.{_≡_};
+ghost use mathlib.Core.Bool.{true};
 ghost use mathlib.Core.List.{_∷_};
-ghost use Prim.Native.Nat.{_+_, _*_, _<_, _≤_};
+ghost use Prim.Native.Nat.{_+_, _-_, _*_, _<_, _≤_};
 ghost use lib.Dec.{leb};
 ghost use lib.ListN.{length, getD};
+ghost use Rattle.language.specs.Places.{home, isScheduler};
 ghost use Rattle.machine.specs.Blocks.{part, pasted};
 ghost use Rattle.machine.specs.Words.{wordsAt};
 ghost use Rattle.states.specs.Lists.{shifted, withoutFirst, insertedIn, withLast, sortedOf, withInstantEnded, readyWords};
 
 // A next list's entries: the threads of the ready ones, and those that wait, each with its count and 0 behind.
-pub struct Sorted {
-    pub readies: u64,
-    pub ready: [u64; 64],
-    pub waits: u64,
-    pub waiting: [u64; 64],
+struct Sorted {
+    readies: u64,
+    ready: [u64; 64],
+    waits: u64,
+    waiting: [u64; 64],
+}
+
+// Where the scheduler's active list begins: its count, then the space of 64 threads.
+fn active_list(q: Place) -> usize
+    requires { ⌜ isScheduler (q .number) ≡ true ⌝ }
+    ensures place { λ r. ⌜ r ≡ 2 + 130 * (q .number - home) ⌝ }
+    ensures space { λ r. ⌜ r + 130 ≤ 1042 ⌝ }
+{
+    2 + 130 * q.index()
+}
+
+// Where its next list begins, right behind: its count, then the space of 64 entries.
+fn next_list(q: Place) -> usize
+    requires { ⌜ isScheduler (q .number) ≡ true ⌝ }
+    ensures place { λ r. ⌜ r ≡ 67 + 130 * (q .number - home) ⌝ }
+    ensures space { λ r. ⌜ r + 65 ≤ 1042 ⌝ }
+{
+    active_list(q) + 65
 }
 
 // The first active thread; 0 where there is none.
-pub fn first_active(state: &[u64], k: usize) -> u64
-    requires { ⌜ (length (now state) ≡ 4818) × (k < 8) ⌝ }
-    ensures { λ r. ⌜ r ≡ getD (now (state .entry)) (3 + 130 * k) 0 ⌝ }
+pub fn first_active(state: &[u64], q: Place) -> u64
+    requires { ⌜ (length (now state) ≡ 4818) × (isScheduler (q .number) ≡ true) ⌝ }
+    ensures { λ r. ⌜ r ≡ getD (now (state .entry)) (3 + 130 * (q .number - home)) 0 ⌝ }
 {
-    state[3 + 130 * k]
+    state[active_list(q) + 1]
 }
 
 // So many more entries have room in the next list.
-pub fn has_room(state: &[u64], k: usize, more: u8) -> bool
-    requires { ⌜ (length (now state) ≡ 4818) × (k < 8) ⌝ }
-    ensures { λ r. ⌜ r ≡ leb (getD (now (state .entry)) (67 + 130 * k) 0 + more) 64 ⌝ }
+pub fn has_room(state: &[u64], q: Place, more: u8) -> bool
+    requires { ⌜ (length (now state) ≡ 4818) × (isScheduler (q .number) ≡ true) ⌝ }
+    ensures { λ r. ⌜ r
+        ≡ leb (getD (now (state .entry)) (67 + 130 * (q .number - home)) 0 + more) 64 ⌝ }
 {
-    let n = state[67 + 130 * k];
+    let n = state[next_list(q)];
     if 64 < n {
         return false;
     }
@@ -51,11 +73,11 @@ fn shift(state: &mut [u64], at: usize)
 }
 
 // The first active thread leaves the list, each other moves to the index below it; an empty list stays.
-pub fn drop_first(state: &mut [u64], k: usize)
-    requires { ⌜ (length (now state) ≡ 4818) × (k < 8) ⌝ }
-    ensures { λ _. ⌜ now (state .exit) ≡ withoutFirst (now (state .entry)) k ⌝ }
+pub fn drop_first(state: &mut [u64], q: Place)
+    requires { ⌜ (length (now state) ≡ 4818) × (isScheduler (q .number) ≡ true) ⌝ }
+    ensures { λ _. ⌜ now (state .exit) ≡ withoutFirst (now (state .entry)) (q .number - home) ⌝ }
 {
-    let at = 2 + 130 * k;
+    let at = active_list(q);
     let n = state[at];
     if n == 0 {
         return;
@@ -84,11 +106,11 @@ fn insert(state: &mut [u64], at: usize, n: usize, position: usize, entry: u64)
 }
 
 // The entry goes to the end of the next list; a full list stays as it is.
-pub fn append(state: &mut [u64], k: usize, entry: u64)
-    requires { ⌜ (length (now state) ≡ 4818) × (k < 8) ⌝ }
-    ensures { λ _. ⌜ now (state .exit) ≡ withLast (now (state .entry)) k entry ⌝ }
+pub fn append(state: &mut [u64], q: Place, entry: u64)
+    requires { ⌜ (length (now state) ≡ 4818) × (isScheduler (q .number) ≡ true) ⌝ }
+    ensures { λ _. ⌜ now (state .exit) ≡ withLast (now (state .entry)) (q .number - home) entry ⌝ }
 {
-    let at = 67 + 130 * k;
+    let at = next_list(q);
     let n = state[at] as usize;
     if 64 <= n {
         return;
@@ -145,16 +167,20 @@ fn store_list(state: &mut [u64], at: usize, count: u64, members: [u64; 64])
 }
 
 // The instant of a scheduler with no active thread ends: how many entries were ready. Where none was, nothing changes.
-pub fn end_instant(state: &mut [u64], k: usize) -> u64
-    requires { ⌜ (length (now state) ≡ 4818) × (k < 8) × (getD (now state) 0 0 ≤ 64) × (getD (now state) (67 + 130 * k) 0 ≤ 64) ⌝ }
-    ensures count { λ r. ⌜ r ≡ length (readyWords (now (state .entry)) (wordsAt (now (state .entry)) (67 + 130 * k))) ⌝ }
-    ensures words { λ r. ⌜ now (state .exit) ≡ withInstantEnded (now (state .entry)) k ⌝ }
+pub fn end_instant(state: &mut [u64], q: Place) -> u64
+    requires { ⌜ (length (now state) ≡ 4818) × (isScheduler (q .number) ≡ true)
+        × (getD (now state) 0 0 ≤ 64)
+        × (getD (now state) (67 + 130 * (q .number - home)) 0 ≤ 64) ⌝ }
+    ensures count { λ r. ⌜ r ≡ length (readyWords (now (state .entry))
+        (wordsAt (now (state .entry)) (67 + 130 * (q .number - home)))) ⌝ }
+    ensures words { λ r. ⌜ now (state .exit)
+        ≡ withInstantEnded (now (state .entry)) (q .number - home) ⌝ }
 {
-    let next = 67 + 130 * k;
+    let next = next_list(q);
     let s = sort_entries(state, next);
     let r = s.readies;
     let ready = s.ready;
-    store_list(state, 2 + 130 * k, r, ready);
+    store_list(state, active_list(q), r, ready);
     let w = s.waits;
     let waiting = s.waiting;
     store_list(state, next, w, waiting);

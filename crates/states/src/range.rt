@@ -1,17 +1,18 @@
 // Whether lent words are a state of the file (answer 14): word by word, list by list, block by block.
+use crate::party::THREADS_FROM;
+use language::Place;
 use language::kind::Kind;
 use text::line::frame_of_word;
 ghost use mathlib.Core.Path.{_≡_};
 ghost use Prim.Native.Nat.{_+_, _*_, _≤_, _<_};
 ghost use lib.ListN.{length};
-ghost use Rattle.language.specs.Places.{hasPlace, hasScheduler};
 ghost use Rattle.text.specs.Frames.{framesOf};
 ghost use Rattle.program.specs.Trees.{frameAt};
 ghost use Rattle.machine.specs.Ranges.{threadInRange, valueInRange, isStatement, itemInRange, entryInRange, ownerInRange, cellInRange, listInRange, schedulerInRange, threadWordInRange, allBelow, inRange};
 ghost use Rattle.states.specs.Passes.{isZero, memberInRange, wordPasses, schedulerBlock, threadBlock};
 
 // What the words of a list or of a block are.
-pub enum Member {
+enum Member {
     Thread,
     Entry,
     Item,
@@ -38,24 +39,6 @@ fn value_in_range(w: u64) -> bool
         return w <= 0x0001_0000_0001;
     }
     w <= 0x0002_0000_00FF
-}
-
-fn has_place(schedulers: u8, p: u64) -> bool
-    ensures { λ r. ⌜ r ≡ hasPlace schedulers p ⌝ }
-{
-    if p < 1 {
-        return false;
-    }
-    p - 1 <= schedulers as u64
-}
-
-pub fn has_scheduler(schedulers: u8, p: u64) -> bool
-    ensures { λ r. ⌜ r ≡ hasScheduler schedulers p ⌝ }
-{
-    if p < 2 {
-        return false;
-    }
-    p - 1 <= schedulers as u64
 }
 
 fn is_statement(k: Kind) -> bool
@@ -89,7 +72,7 @@ fn item_in_range(frames: &[u64], schedulers: u8, w: u64) -> bool
         return statement_at(frames, w as usize);
     }
     if w < 2048 {
-        return has_place(schedulers, w - 1024);
+        return Place::is_in_file(w - 1024, schedulers);
     }
     w == 2048
 }
@@ -109,13 +92,13 @@ fn entry_in_range(w: u64) -> bool
 fn owner_in_range(schedulers: u8, o: u64) -> bool
     ensures { λ r. ⌜ r ≡ ownerInRange schedulers o ⌝ }
 {
-    if has_scheduler(schedulers, o) {
+    if Place::is_scheduler_in_file(o, schedulers) {
         return true;
     }
-    if o < 17 {
+    if o < THREADS_FROM {
         return false;
     }
-    o <= 80
+    thread_in_range(o - THREADS_FROM)
 }
 
 fn cell_in_range(schedulers: u8, w: u64) -> bool
@@ -238,7 +221,7 @@ fn thread_words_in_range(frames: &[u64], schedulers: u8, state: &[u64], at: usiz
     requires { ⌜ at + 55 ≤ length (now state) ⌝ }
     ensures { λ r. ⌜ r ≡ allBelow 55 (threadWordInRange (framesOf (now (frames .entry))) schedulers (now (state .entry)) at) ⌝ }
 {
-    if !has_place(schedulers, state[at]) {
+    if !Place::is_in_file(state[at], schedulers) {
         return false;
     }
     if 64 < state[at + 1] {

@@ -1,5 +1,6 @@
 // A thread's continuation, variables and place, changed where its words lie. Thread k counts from 0: it is thread k + 1 of the state. Whoever
 // calls has tested that there is an item or a variable to take off, or room for one more.
+use language::Place;
 ghost use mathlib.Core.Path.{_≡_};
 ghost use Prim.Native.Nat.{_-_, _<_, _≤_};
 ghost use lib.ListN.{length, getD};
@@ -59,11 +60,12 @@ pub fn pop_value(state: &mut [u64], k: usize)
     state[at + 29] = n;
 }
 
-pub fn move_to(state: &mut [u64], k: usize, place: u64)
+pub fn move_to(state: &mut [u64], k: usize, place: Place)
     requires { ⌜ (length (now state) ≡ 4818) × (k < 64) ⌝ }
-    ensures { λ _. ⌜ now (state .exit) ≡ putThread (now (state .entry)) k (moveTo place (threadIn (now (state .entry)) k)) ⌝ }
+    ensures { λ _. ⌜ now (state .exit) ≡ putThread (now (state .entry)) k
+        (moveTo (place .number) (threadIn (now (state .entry)) k)) ⌝ }
 {
-    state[1042 + 55 * k] = place;
+    state[1042 + 55 * k] = place.word();
 }
 
 // The thread as one that has ended.

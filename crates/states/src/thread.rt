@@ -50,7 +50,7 @@ pub fn load_variables(state: &[u64], k: usize) -> [u64; 25]
     load_run(state, 1042 + 55 * k + 30)
 }
 
-pub fn store_thread(state: &mut [u64], k: usize, th: ThreadWords)
+fn store_thread(state: &mut [u64], k: usize, th: ThreadWords)
     requires { ⌜ (length (now state) ≡ 4818) × (k < 64) ⌝ }
     ensures { λ _. ⌜ now (state .exit) ≡ pasted (now (state .entry)) (1042 + 55 * k) (blockOf th) 55 ⌝ }
 {

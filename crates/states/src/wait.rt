@@ -37,7 +37,7 @@ fn all_quiet(state: &[u64], u: u64) -> bool
 }
 
 // An entry of a next list is ready: the thread for which it waits, and each that this one started itself, has ended.
-pub fn is_ready(state: &[u64], e: u64) -> bool
+pub(crate) fn is_ready(state: &[u64], e: u64) -> bool
     requires { ⌜ (length (now state) ≡ 4818) × (getD (now state) 0 0 ≤ 64) ⌝ }
     ensures { λ r. ⌜ r ≡ isReadyWord (now (state .entry)) e ⌝ }
 {

@@ -2,19 +2,15 @@
 use Prim.Native.Nat.{ℕ, zero, suc, _+_, _-_, _*_, _<_, _≤_}
 use mathlib.Core.Path.{_≡_, refl, sym, ap, ap₂, _∙_, subst}
 use mathlib.Core.List.{List, [], _∷_, _++_, map, reverse, append-assoc}
-use mathlib.Core.Bool.{Bool, true, _&&_, false≢true}
+use mathlib.Core.Bool.{true, false≢true}
 use native.Mathlib.Omega.{arith}
 use lib.ListN as list
 use lib.ListN.{length, getD, take, length-map, length-drop}
 use lib.Seq.{ext-getD, length-take-le, getD-take, getD-drop, take-all, drop-drop}
-use lib.Dec.{leb}
-use borrow.Author.Tests.{le-leb}
 use Rattle.basics.specs.Members.{All, more}
-use Rattle.basics.proofs.Ifs.{if-yes}
-use Rattle.language.specs.Places.{isPlace, placeRead}
+use Rattle.language.specs.Places.{isPlace}
+use Rattle.language.proofs.PlaceLaws.{test-bounds, has-place}
 use Rattle.language.specs.declared.Place.{Place}
-use Rattle.language.specs.declared.PlaceRead.{PlaceRead}
-use Rattle.language.specs.declared.PlaceRead.the-variants.{At, NoPlace}
 use Rattle.language.specs.declared.kind.Kind.{Kind}
 use Rattle.language.specs.declared.kind.Kind.the-variants.{Header, Shared, Module, Statement, Expression, Unknown}
 use Rattle.text.specs.Frames.{framesOf}
@@ -27,39 +23,28 @@ use Rattle.machine.specs.Blocks.{pasted, padded, cellWords}
 use Rattle.machine.specs.declared.value.Value.{Value}
 use Rattle.machine.proofs.WordLaws.{part-length}
 use Rattle.machine.proofs.Blocks.{cells-length, cells-at}
-use Rattle.machine.proofs.Shapes.{ThreadFits, ValueFits, ItemFits, run-fits}
+use Rattle.machine.proofs.Shapes.{ThreadFits, ValueFits, ItemFits, run-fits, back-fits}
 use Rattle.machine.proofs.InShape.{value-in}
 use Rattle.machine.proofs.Padded.{padded-at}
-use Rattle.evaluator.specs.declared.operation.Who.{Who}
+use Rattle.evaluator.specs.declared.Who.{Who}
 use Rattle.evaluator.specs.Results.{CellWords, ValueWords}
 use Rattle.evaluator.proofs.Holding.{holds-words}
 use Rattle.states.specs.declared.thread.ThreadWords.{ThreadWords}
 use Rattle.states.specs.Threads.{wordsOf, threadIn}
 use Rattle.states.proofs.StackLaws.{withContinuation, top-item-is}
+use Rattle.layout.proofs.Scopes.{placed}
 use Rattle.reach.proofs.Passed.{order, inside, some-frame}
 use Rattle.acts.specs.declared.act.Acted.{Acted}
 use Rattle.acts.specs.Fates.{popped, turned, Room}
 use Rattle.turns.specs.declared.view.View.{View}
+use Rattle.turns.specs.Actions.{actOn, turnAct}
+use Rattle.turns.proofs.TurnLaws.{act-turns}
 use Rattle.turns.specs.Acts.{ActedOn, actedOn, turnIn, topIn, variablesIn, Views, WholeTurn, TurnWords}
 use Rattle.stepper.specs.Files.{StepWords, stateIn, whoIn, turnOf, turnOn}
 use Rattle.stepper.proofs.Variables.{variables-words}
 use Rattle.stepper.proofs.GoodWords.{shaped, says, step-long, threads-few, thread-read, fit, place-in}
 
 -- ---- the place on which a thread stands
-is-place : (n : ℕ) → 1 ≤ n → n ≤ 9 → isPlace n ≡ true
-is-place n a b = ap (λ (t : Bool). t && leb n 9) (le-leb 1 n a) ∙ le-leb n 9 b
-
-module _ (r : PlaceRead) (n : ℕ) (e : r ≡ placeRead (isPlace n) n) (low : 1 ≤ n) (high : n ≤ 9) where
-  read-at : r ≡ At (record { number = n })
-  unfolding placeRead
-  read-at = e ∙ if-yes _ _ (is-place n low high)
-
-  pub stands-at : (p : Place) → r ≡ At p → p ≡ record { number = n }
-  stands-at p h = let z : At p ≡ At (record { number = n }) = sym h ∙ read-at in cc
-
-  pub stands-nowhere : (p : Place) → r ≡ NoPlace → p ≡ record { number = n }
-  stands-nowhere p h = absurd (let z : NoPlace ≡ At (record { number = n }) = sym h ∙ read-at in let y : _≡_ {A = ℕ} 0 1 = cc in omega arith)
-
 pub number-is : (p : Place) (i : ℕ) → p ≡ record { number = i } → p .number ≡ i
 number-is p i e = ap (λ (q : Place). q .number) e
 
@@ -90,8 +75,8 @@ module _ (frames : List ℕ) (shared : ℕ) (w : List ℕ) (h : StepWords frames
   long = step-long frames shared w h
 
   -- ---- the place and the counts
-  pub place-read : (p : ℕ) → p ≡ getD w (1042 + 55 * (t - 1)) 0 → (1 ≤ p) × (p ≤ 9)
-  place-read p e = subst (λ (i : ℕ). (1 ≤ i) × (i ≤ 9)) (sym (e ∙ ap (λ (y : ThreadWords). y .place) read)) (place-in frames shared w h t low high)
+  pub place-read : (p : ℕ) → p ≡ getD w (1042 + 55 * (t - 1)) 0 → isPlace p ≡ true
+  place-read p e = subst (λ (i : ℕ). isPlace i ≡ true) (sym (e ∙ ap (λ (y : ThreadWords). y .place) read)) (place-in frames shared w h t low high)
 
   pub items-read : getD w (1042 + 55 * (t - 1) + 3) 0 ≤ 25
   items-read = subst (λ (y : ThreadWords). y .items ≤ 25) (sym read) (fits .items-room)
@@ -152,6 +137,24 @@ module _ (frames : List ℕ) (shared : ℕ) (w : List ℕ) (h : StepWords frames
           rw y (rw length-map at z))
       go (i ∷ is) e (more p f) l = subst Goal (sym e) (λ g. let q = top-item-is (withContinuation is x) i (omega arith) in rw q (item-there i p (rw q at g)))
 
+  -- one that is 'back to q' has a place of the file
+  item-place : (i : Item) → ItemFits (framesOf frames) n i → 1024 ≤ itemWord i → itemWord i < 2048 → isPlace (itemWord i - 1024) ≡ true
+  unfolding itemWord
+  item-place (run st) (run-fits l k e) a b = absurd (let z = statement-there (rootS st) k in let y = h .file .few in omega arith)
+  item-place (back q) (back-fits l p) a b = let z : 1024 + q - 1024 ≡ q = omega arith in rw z (has-place n q p .0)
+  item-place drop f a b = absurd (omega arith)
+
+  top-place : 1024 ≤ topIn (wordsOf x) → topIn (wordsOf x) < 2048 → isPlace (topIn (wordsOf x) - 1024) ≡ true
+  top-place = go (x .continuation) refl (fits .items) (fits .items-room)
+    where
+      Goal : List Item → Type 0
+      Goal is = 1024 ≤ topIn (wordsOf (withContinuation is x)) → topIn (wordsOf (withContinuation is x)) < 2048
+          → isPlace (topIn (wordsOf (withContinuation is x)) - 1024) ≡ true
+
+      go : (is : List Item) → x .continuation ≡ is → All (ItemFits (framesOf frames) n) is → length is ≤ 25 → Goal (x .continuation)
+      go [] e f l = subst Goal (sym e) (λ a b. absurd (let y : getD (padded 25 (reverse (map itemWord []))) (0 - 1) 0 ≡ 0 = padded-at 25 [] 0 (omega arith) in omega arith))
+      go (i ∷ is) e (more p f) l = subst Goal (sym e) (λ a b. let q = top-item-is (withContinuation is x) i (omega arith) in rw q (item-place i p (rw q at a) (rw q at b)))
+
   -- ---- the cells: the words from 4562 on
   cells-part : take (length w - 4562) (list.drop 4562 w) ≡ cellWords (s .cells)
   cells-part =
@@ -182,30 +185,36 @@ module _ (frames : List ℕ) (shared : ℕ) (w : List ℕ) (h : StepWords frames
     cells-are = cells ∙ cells-part
 
     pub act-asks : TurnWords frames v vs used cs × (item < 1024 → item < length frames)
+        × (1024 ≤ item → item < 2048 → isPlace (item - 1024) ≡ true)
     act-asks = (
       record {
         ordered = order (h .file .laid-out);
-        place = subst (λ (i : ℕ). i ≤ 9) (sees .place) (place-in frames shared w h t low high .1);
+        placed = placed (framesOf frames) (h .file .laid-out);
+        place = subst (λ (i : ℕ). i ≤ 9) (sees .place) (test-bounds 1 (x .place) (place-in frames shared w h t low high) .1);
         items = subst (λ (i : ℕ). i ≤ 25) (sees .items) (fits .items-room);
         count = ap length variables ∙ length-take-le (th .values) (th .variables) (let a = values-read in let b = wide in omega arith) ∙ seen .values;
         variables = subst ValueWords (sym (variables ∙ ap variablesIn read)) variables-in;
         cells = rw (used-is, cells-are) cells-in;
       },
       subst (λ (i : ℕ). i < 1024 → i < length frames) (sym (top ∙ ap topIn read)) top-there,
+      subst (λ (i : ℕ). 1024 ≤ i → i < 2048 → isPlace (i - 1024) ≡ true) (sym (top ∙ ap topIn read)) top-place,
     )
 
     -- the words behind it are those before with its cells pasted in
     pub act-gives : (who : Who) (a : Acted) (ds v' : List ℕ) → who ≡ record { thread = t; place = v .place; shared = shared }
-        → WholeTurn a ds v item vs (λ y. turnIn (framesOf frames) who y used cs)
+        → actOn a ds ≡ turnAct (framesOf frames) who v item vs used cs
         → length ds ≡ length cs → v' ≡ take 4562 w ++ (ds ++ list.drop (length w - 4562) (list.drop 4562 w)) → turnOn a v' frames shared w t
     unfolding pasted
-    act-gives who a ds v' o r l z = record {
+    act-gives who a ds v' o e l z = record {
       acted = ap (λ (y : ActedOn). y .acted) same;
       words = z ∙ whole;
       whole = ap length (sym ds-is) ∙ size;
       room = subst (λ (i : ℕ). Room (a .change) (i - 1) (wordsOf x .values)) (sym (sees .items)) (subst (λ (i : ℕ). Room (a .change) (v .items - 1) i) (sym (sees .values)) (r .room));
     }
       where
+        r : WholeTurn a ds v item vs (λ y. turnIn (framesOf frames) who y used cs)
+        r = act-turns (framesOf frames) who v item vs used cs a ds e
+
         who-is : who ≡ whoIn frames shared w t
         who-is = o ∙ ap (λ (i : ℕ). record { thread = t; place = record { number = i }; shared = shared }) (sym (sees .place))
 

@@ -11,6 +11,7 @@ use Rattle.basics.specs.If.{if_then_else_}
 use Rattle.basics.proofs.Ifs.{if-all, if-yes, if-no, and-true}
 use Rattle.language.specs.Places.{private, hasPlace, hasScheduler, isScheduler}
 use Rattle.language.specs.declared.frame.Frame.{Frame}
+use Rattle.language.proofs.PlaceLaws.{from-home, has-scheduler, place-scheduler as file-scheduler}
 use Rattle.program.specs.Programs.{Program}
 use Rattle.machine.specs.Accesses.{Access}
 use Rattle.machine.specs.State.{State, Stored, Thread, Entry, plain, schedulerAt, enlist, usedCells}
@@ -44,20 +45,15 @@ enlist-count q e s = length-set (s .schedulers) (q - 2) _
 -- a place of the file that is not private is a scheduler
 pub place-scheduler : (n q : ℕ) → hasPlace n q ≡ true → eqb q private ≡ false → hasScheduler n q ≡ true
 place-scheduler n q p e =
-    let b = and-true (leb 1 q) (leb q (1 + n)) p in
-    let low = leb-true 1 q (b .0) in
-    let other = eqb-false q 1 e in
-    ap₂ _&&_ (le-leb 2 q (omega arith)) (b .1)
+    file-scheduler n q p (eqb-false q 1 e)
 
 -- a scheduler of the file has its lists in the state and in the words
 pub scheduler-there : {fs : List Frame} {P : Program} {n : ℕ} {s : State} → FileFits fs P n → Shaped fs n s → (q : ℕ) → hasScheduler n q ≡ true → (q - 2 < length (s .schedulers)) × (isScheduler q ≡ true)
 scheduler-there {n = n} F S q e =
-    let b = and-true (leb 2 q) (leb q (1 + n)) e in
-    let l = leb-true 2 q (b .0) in
-    let m = leb-true q (1 + n) (b .1) in
+    let (b, m) = has-scheduler n q e in
+    let l = from-home q b in
     let z = S .count in
-    let y = F .most-schedulers in
-    (omega arith, ap₂ _&&_ (b .0) (le-leb q 9 (omega arith)))
+    (omega arith, b)
 
 less-one : (k : ℕ) → suc k - 1 ≡ k
 less-one k = omega arith
@@ -125,11 +121,11 @@ module _ {fs : List Frame} {P : Program} {n : ℕ} {w : List ℕ} {s : State} {c
       leaves-is = ap (called 0 (suc k)) (is-pack _ (leave u after) left-is)
 
       pub joins-is : (q : ℕ) → hasScheduler n q ≡ true → Grown (s .cells) cs → usedCells cs ≤ 256
-          → commit (actedIn (Joins q) (wordsOf y) (usedCells cs)) cs
+          → commit (actedIn (Joins (record { number = q })) (wordsOf y) (usedCells cs)) cs
           ≡ calledOf w (if room u 1 q then accept u (enlist q (plain (suc k)) (leave u after)) else refuse u 20)
       unfolding joinsIn room entryWord
       joins-is q e g l =
-          if-all (λ (r : Stepped). commit (actedIn (Joins q) (wordsOf y) (usedCells cs)) cs ≡ calledOf w r) (leb (length (schedulerAt s q .next) + 1) 64) _ _
+          if-all (λ (r : Stepped). commit (actedIn (Joins (record { number = q })) (wordsOf y) (usedCells cs)) cs ≡ calledOf w r) (leb (length (schedulerAt s q .next) + 1) 64) _ _
           (λ b. if-yes _ _ (same ∙ b) ∙ ap (called 0 (suc k)) (is-pack _ _ (joined-says _ left left-is q (plain (suc k)) (z .1) (rw leave-count (z .0)) (short (leb-true _ 64 b)))))
           (λ b. if-no _ _ (same ∙ b) ∙ refuse-is 20 (wordsOf y) g l refl)
         where

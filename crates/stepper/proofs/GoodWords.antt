@@ -2,12 +2,12 @@
 use Prim.Native.Nat.{ℕ, suc, _+_, _-_, _<_, _≤_}
 use mathlib.Core.Path.{_≡_, sym, ap, _∙_, subst}
 use mathlib.Core.List.{List}
+use mathlib.Core.Bool.{true}
 use native.Mathlib.Omega.{arith}
 use lib.ListN.{length, getD, length-map}
-use lib.Dec.{leb}
-use borrow.Author.Tests.{leb-true}
-use Rattle.basics.proofs.Ifs.{and-true}
+use Rattle.language.specs.Places.{isPlace}
 use Rattle.language.specs.declared.frame.Frame.{Frame}
+use Rattle.language.proofs.PlaceLaws.{has-place}
 use Rattle.text.specs.Frames.{framesOf}
 use Rattle.program.specs.Programs.{Program, programOf}
 use Rattle.machine.specs.State.{State, nth, threadAt}
@@ -74,10 +74,5 @@ module _ (frames : List ℕ) (shared : ℕ) (w : List ℕ) (h : StepWords frames
     pub fit : ThreadFits fs n (threadAt s t)
     fit = subst (λ (i : ℕ). ThreadFits fs n (nth (s .threads) i)) index (shaped .threads (t - 1) in-list)
 
-    pub place-in : (1 ≤ threadAt s t .place) × (threadAt s t .place ≤ 9)
-    place-in =
-        let b = and-true (leb 1 (threadAt s t .place)) (leb (threadAt s t .place) (1 + n)) (fit .place) in
-        let p = leb-true 1 (threadAt s t .place) (b .0) in
-        let q = leb-true (threadAt s t .place) (1 + n) (b .1) in
-        let m = fits-in .most-schedulers in
-        (p, omega arith)
+    pub place-in : isPlace (threadAt s t .place) ≡ true
+    place-in = has-place n (threadAt s t .place) (fit .place) .0

@@ -25,7 +25,7 @@ use Rattle.machine.proofs.Round.{value-back, map-back}
 use Rattle.machine.proofs.Shapes.{ValueFits, ThreadFits}
 use Rattle.machine.proofs.KeptCells.{CellsFit, HereFits, ExprFits, OutcomeFits, EvalFits, fit-eval, fit-storing}
 use Rattle.machine.proofs.KeptShape.{Parts, of-nothing, of-cooperate, of-seq, of-do, of-start, of-wait, of-let, of-store, of-if, of-while}
-use Rattle.evaluator.specs.declared.operation.Who.{Who}
+use Rattle.evaluator.specs.declared.Who.{Who}
 use Rattle.evaluator.specs.Results.{Result, hereOf, resultOf, onWords}
 use Rattle.evaluator.proofs.Holding.{Holds, holds-cells}
 use Rattle.states.specs.Threads.{wordsOf}

@@ -181,7 +181,7 @@ module _ {fs : List Frame} {P : Program} {n : ℕ} {w : List ℕ} {s : State} {c
         th = wordsOf (self (x .place) is vars)
 
         go : (b d : Bool) → eqb q (x .place) ≡ b → eqb q private ≡ d
-            → commit A (if eqb q (x .place) then actedIn Stays th (usedCells cs) else if eqb q 1 then actedIn Leaves (moveTo q th) (usedCells cs) else actedIn (Joins q) (moveTo q th) (usedCells cs)) cs
+            → commit A (if eqb q (x .place) then actedIn Stays th (usedCells cs) else if eqb q 1 then actedIn Leaves (moveTo q th) (usedCells cs) else actedIn (Joins (record { number = q })) (moveTo q th) (usedCells cs)) cs
             ≡ calledOf w (if eqb q (x .place) then stay u is vars else move u q is)
         go true d e z = ap (λ (a : Turned). commit A a cs) (if-yes _ _ e) ∙ yes-stay th is vars f refl ∙ ap (calledOf w) (sym (if-yes _ _ e))
         go false true e z =
@@ -225,7 +225,7 @@ module _ {fs : List Frame} {P : Program} {n : ℕ} {w : List ℕ} {s : State} {c
         next = if room u 1 (x .place) then accept u (enlist (x .place) (plain (suc k)) (leave u (settled u x))) else refuse u 20
 
         go : (b : Bool) → eqb (x .place) private ≡ b
-            → commit A (if eqb (x .place) 1 then refusedIn 20 (wordsOf x) (usedCells cs) else actedIn (Joins (x .place)) (wordsOf x) (usedCells cs)) cs ≡ calledOf w (if eqb (x .place) private then refuse u 20 else next)
+            → commit A (if eqb (x .place) 1 then refusedIn 20 (wordsOf x) (usedCells cs) else actedIn (Joins (record { number = x .place })) (wordsOf x) (usedCells cs)) cs ≡ calledOf w (if eqb (x .place) private then refuse u 20 else next)
         go true e = ap (λ (y : Turned). commit A y cs) (if-yes _ _ e) ∙ refused-20 (wordsOf x) ∙ ap (calledOf w) (sym (if-yes _ _ e))
         go false e =
             ap (λ (y : Turned). commit A y cs) (if-no _ _ e) ∙ joins-is A x cs acc x (x .place) (place-scheduler n (x .place) (X .place) e) g l ∙ ap (calledOf w) (sym (if-no _ _ e))

@@ -8,7 +8,9 @@ use lib.ListN.{length, getD}
 use borrow.Author.Tests.{le-leb, lt-leb}
 use Rattle.basics.specs.Members.{All, more}
 use Rattle.basics.proofs.Ifs.{if-yes, if-no}
-use Rattle.language.specs.Places.{hasScheduler, isScheduler}
+use Rattle.language.specs.Places.{isPlace, hasScheduler, isScheduler}
+use Rattle.language.specs.declared.Place.{Place}
+use Rattle.language.proofs.PlaceLaws.{test-bounds, scheduler-place}
 use Rattle.text.specs.Frames.{framesOf}
 use Rattle.program.specs.Programs.{Program, programOf}
 use Rattle.machine.specs.State.{State, schedulerAt, withScheduler}
@@ -27,7 +29,6 @@ use Rattle.states.proofs.SchedulerSays.{first-says, room-says}
 use Rattle.states.proofs.Instants.{instant-readies, instant-says, instant-none}
 use Rattle.states.proofs.PartyLaws.{unlinked-says}
 use Rattle.commits.specs.Commits.{called}
-use Rattle.commits.proofs.WritingLaws.{list-block}
 use Rattle.stepper.specs.declared.file.File.{File}
 use Rattle.stepper.specs.Files.{StepWords, stateIn, TurnChoice, fileOf}
 use Rattle.stepper.proofs.Fates.{scheduler-there}
@@ -49,17 +50,40 @@ module _ (frames : List ℕ) (shared : ℕ) (w : List ℕ) (h : StepWords frames
     unfolding isSchedulerOf
     there = scheduler-there (fits-in frames shared w h) (shaped frames shared w h) c e
 
-    pub scheduler-low : 2 ≤ c
-    scheduler-low = list-block c (there .1) .0
+    pub party-place : isPlace c ≡ true
+    party-place = scheduler-place c (there .1)
 
-    pub list-asks : (length w ≡ 4818) × (c - 2 < 8)
-    list-asks = (step-long frames shared w h, list-block c (there .1) .1)
+    in-lists : c - 2 < 8
+    in-lists = let (a, b) = test-bounds 2 c (there .1) in omega arith
 
     pub turn-choice : TurnChoice frames c
     turn-choice = e ∙ sym (there .1)
 
     first : (t : ℕ) → t ≡ getD w (3 + 130 * (c - 2)) 0 → t ≡ getD (schedulerAt s c .active) 0 0
-    first t q = q ∙ first-says w s (says frames shared w h) c (list-asks .1) (there .0)
+    first t q = q ∙ first-says w s (says frames shared w h) c in-lists (there .0)
+
+    -- ---- the scheduler as a place
+    module _ (p : Place) (at : p ≡ record { number = c }) where
+      pub list-asks : (length w ≡ 4818) × (isScheduler (p .number) ≡ true)
+      list-asks = (step-long frames shared w h, ap (λ (q : Place). isScheduler (q .number)) at ∙ there .1)
+
+      pub first-at : (t : ℕ) → t ≡ getD w (3 + 130 * (p .number - 2)) 0 → t ≡ getD w (3 + 130 * (c - 2)) 0
+      first-at t e = e ∙ ap (λ (q : Place). getD w (3 + 130 * (q .number - 2)) 0) at
+
+      pub instant-asks : (length w ≡ 4818) × (isScheduler (p .number) ≡ true) × (getD w 0 0 ≤ 64) × (getD w (67 + 130 * (p .number - 2)) 0 ≤ 64)
+      instant-asks = (
+        list-asks .0,
+        list-asks .1,
+        threads-few frames shared w h,
+        subst (λ (q : Place). getD w (67 + 130 * (q .number - 2)) 0 ≤ 64) (sym at)
+            (rw (room-says w s (says frames shared w h) c in-lists (there .0)) (fit .next-room)),
+      )
+
+      pub count-at : (k : ℕ) → k ≡ length (readyWords w (wordsAt w (67 + 130 * (p .number - 2)))) → k ≡ length (readyWords w (wordsAt w (67 + 130 * (c - 2))))
+      count-at k e = e ∙ ap (λ (q : Place). length (readyWords w (wordsAt w (67 + 130 * (q .number - 2))))) at
+
+      pub ended-at : (v : List ℕ) → v ≡ withInstantEnded w (p .number - 2) → v ≡ withInstantEnded w (c - 2)
+      ended-at v e = e ∙ ap (λ (q : Place). withInstantEnded w (q .number - 2)) at
 
     -- ---- with a first active thread
     module _ (t : ℕ) (q : t ≡ getD w (3 + 130 * (c - 2)) 0) (some : t ≡ 0 → ⊥) where
@@ -85,10 +109,6 @@ module _ (frames : List ℕ) (shared : ℕ) (w : List ℕ) (h : StepWords frames
           by (a ∷ ts) z = k ∙ ap (λ (i : ℕ). calledOf w (stepThread P s c i)) z
 
     -- ---- with none: an instant ends
-    pub instant-asks : (length w ≡ 4818) × (c - 2 < 8) × (getD w 0 0 ≤ 64) × (getD w (67 + 130 * (c - 2)) 0 ≤ 64)
-    instant-asks =
-        (list-asks .0, list-asks .1, threads-few frames shared w h, rw (room-says w s (says frames shared w h) c (list-asks .1) (there .0)) (fit .next-room))
-
     module _ (t : ℕ) (q : t ≡ getD w (3 + 130 * (c - 2)) 0) (zero-is : t ≡ 0) where
       idle : schedulerAt s c .active ≡ []
       idle = by (schedulerAt s c .active) (sym zero-is ∙ first t q) (fit .threads)
@@ -102,15 +122,15 @@ module _ (frames : List ℕ) (shared : ℕ) (w : List ℕ) (h : StepWords frames
         few = shaped frames shared w h .threads-room
 
         readies : k ≡ length (readyThreads (s .threads) (schedulerAt s c .next))
-        readies = count ∙ instant-readies w s (says frames shared w h) few c (list-asks .1) (there .0) (fit .next-room) (fit .entries)
+        readies = count ∙ instant-readies w s (says frames shared w h) few c in-lists (there .0) (fit .next-room) (fit .entries)
 
         ended : called 0 0 v ≡ called 0 0 (pack (withScheduler c (record { active = readyThreads (s .threads) (schedulerAt s c .next); next = stillWaiting (s .threads) (schedulerAt s c .next) }) s))
-        ended = ap (called 0 0) (out ∙ is-pack _ _ (instant-says w s (says frames shared w h) few c (list-asks .1) (there .0) (fit .next-room) (fit .entries)))
+        ended = ap (called 0 0) (out ∙ is-pack _ _ (instant-says w s (says frames shared w h) few c in-lists (there .0) (fit .next-room) (fit .entries)))
 
         pub instant-nothing : k ≡ 0 → called 16 0 v ≡ calledOf w (stepScheduler P s c (schedulerAt s c .active))
         unfolding endInstant
         instant-nothing z =
-            ap (called 16 0) (out ∙ instant-none w s (says frames shared w h) few c (list-asks .1) (there .0) (fit .next-room) (fit .entries) idle none-ready)
+            ap (called 16 0) (out ∙ instant-none w s (says frames shared w h) few c in-lists (there .0) (fit .next-room) (fit .entries) idle none-ready)
             ∙ ap (λ (ts : List ℕ). calledOf w (turnInstant s c ts (stillWaiting (s .threads) (schedulerAt s c .next)))) (sym none-ready)
             ∙ ap (λ (ts : List ℕ). calledOf w (stepScheduler P s c ts)) (sym idle)
           where

@@ -20,7 +20,7 @@ use Rattle.machine.specs.Calls.{calledOf}
 use Rattle.machine.proofs.Shapes.{ItemFits, run-fits, back-fits, drop-fits, ThreadFits}
 use Rattle.machine.proofs.KeptCells.{CellsFit}
 use Rattle.machine.proofs.KeptShape.{parts-of}
-use Rattle.evaluator.specs.declared.operation.Who.{Who}
+use Rattle.evaluator.specs.declared.Who.{Who}
 use Rattle.states.specs.declared.thread.ThreadWords.{ThreadWords}
 use Rattle.states.specs.Threads.{wordsOf}
 use Rattle.states.proofs.StackLaws.{withContinuation, pop-item-is, top-item-is}

@@ -6,6 +6,7 @@ use mathlib.Core.Bool.{true}
 use native.Mathlib.Omega.{arith}
 use lib.ListN.{length, getD, List·getD-eq-default}
 use lib.Seq.{set-out}
+use Rattle.language.specs.Places.{isPlace}
 use Rattle.text.specs.Frames.{framesOf}
 use Rattle.program.specs.Programs.{Program, programOf}
 use Rattle.machine.specs.State.{State, Thread, Item, noThread, nth, setNth, threadAt, usedCells}
@@ -77,7 +78,7 @@ module _ (frames : List ℕ) (shared : ℕ) (w : List ℕ) (h : StepWords frames
               record {
                 all = l ∙ says frames shared w h .all;
                 thread = omega arith;
-                place = subst (λ (x : ThreadWords). x .place ≤ 9) (sym (kept a v o)) (place-in frames shared w h t low high .1);
+                place = subst (λ (x : ThreadWords). isPlace (x .place) ≡ true) (sym (kept a v o)) (place-in frames shared w h t low high);
                 items = subst (λ (x : ThreadWords). x .items ≤ 25) (sym (kept a v o)) (fit frames shared w h t low high .items-room);
                 values = subst (λ (x : ThreadWords). x .values ≤ 25) (sym (kept a v o)) (fit frames shared w h t low high .variables-room);
                 room = subst (λ (x : ThreadWords). Room (a .change) (x .items - 1) (x .values)) (sym (kept a v o)) (o .room);

@@ -14,7 +14,7 @@ use Rattle.machine.specs.Words.{unpack}
 use Rattle.machine.specs.Ranges.{inRange}
 use Rattle.machine.specs.Blocks.{pasted, cellWords}
 use Rattle.machine.specs.Calls.{Called}
-use Rattle.evaluator.specs.declared.operation.Who.{Who}
+use Rattle.evaluator.specs.declared.Who.{Who}
 use Rattle.states.specs.Threads.{wordsOf}
 use Rattle.acts.specs.declared.act.Acted.{Acted}
 use Rattle.acts.specs.Fates.{popped, turned, Room}

@@ -10,7 +10,7 @@ pub enum Answer {
     Done(u8),
 }
 
-pub fn answer_of(number: u8, thread: u8) -> Answer
+pub(crate) fn answer_of(number: u8, thread: u8) -> Answer
     ensures { λ r. ⌜ r ≡ answerTo number thread ⌝ }
 {
     if number == 0 {

@@ -1,5 +1,6 @@
 // The party that a choice names.
 use crate::turn::turn;
+use language::Place;
 use states::list::end_instant;
 use states::list::first_active;
 ghost use mathlib.Core.Path.{_≡_};
@@ -19,12 +20,17 @@ pub struct Stepped {
 }
 
 // Choosing a scheduler steps its first active thread; with none active, an instant ends.
-pub fn step_scheduler(frames: &[u64], shared: usize, state: &mut [u64], choice: u64) -> Stepped
+pub(crate) fn step_scheduler(
+    frames: &[u64],
+    shared: usize,
+    state: &mut [u64],
+    choice: u64,
+) -> Stepped
     requires { ⌜ StepWords (now frames) shared (now state) × (isSchedulerOf (programOf (framesOf (now frames))) choice ≡ true) ⌝ }
     ensures { λ r. ⌜ steppedOn r (now (state .exit)) ≡ calledOf (now (state .entry)) (stepScheduler (programOf (framesOf (now (frames .entry)))) (stateIn (now (frames .entry)) (now (state .entry))) choice (schedulerAt (stateIn (now (frames .entry)) (now (state .entry))) choice .active)) ⌝ }
 {
-    let k = (choice - 2) as usize;
-    let t = first_active(state, k);
+    let q = Place::known(choice);
+    let t = first_active(state, q);
     if t != 0 {
         let answer = turn(frames, shared, state, choice, t);
         return Stepped {
@@ -32,7 +38,7 @@ pub fn step_scheduler(frames: &[u64], shared: usize, state: &mut [u64], choice: 
             thread: t as u8,
         };
     }
-    if end_instant(state, k) == 0 {
+    if end_instant(state, q) == 0 {
         return Stepped {
             answer: 16,
             thread: 0,

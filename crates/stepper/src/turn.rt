@@ -1,10 +1,9 @@
 // The turn of one thread on the lent words.
 use acts::act::Acted;
 use commits::commit::commit;
-use commits::writing::leave;
-use evaluator::operation::Who;
+use commits::leave::leave;
+use evaluator::Who;
 use language::Place;
-use language::PlaceRead;
 use states::stack::top_item;
 use states::thread::load_variables;
 use states::thread::thread_count;
@@ -20,17 +19,6 @@ ghost use Rattle.machine.specs.Calls.{calledOf};
 ghost use Rattle.commits.specs.Commits.{called};
 ghost use Rattle.stepper.specs.Files.{StepWords, stateIn, turnOn, TurnChoice};
 
-// The place of a thread of a state that is in range.
-fn standing_at(place: u64) -> Place
-    requires { ⌜ (1 ≤ place) × (place ≤ 9) ⌝ }
-    ensures { λ r. ⌜ r ≡ record { number = place } ⌝ }
-{
-    match Place::new(place as u8) {
-        PlaceRead::At(p) => p,
-        PlaceRead::NoPlace => Place::PRIVATE,
-    }
-}
-
 // What the turn of a thread that is there comes to. Of the words, only those of the cells are written.
 fn act_in(frames: &[u64], shared: usize, state: &mut [u64], t: u64) -> Acted
     requires { ⌜ StepWords (now frames) shared (now state) × (1 ≤ t) × (t ≤ getD (now state) 0 0) ⌝ }
@@ -39,7 +27,7 @@ fn act_in(frames: &[u64], shared: usize, state: &mut [u64], t: u64) -> Acted
     let used = state[1] as usize;
     let k = (t - 1) as usize;
     let at = 1042 + 55 * k;
-    let place = standing_at(state[at]);
+    let place = Place::known(state[at]);
     let v = View {
         place,
         items: state[at + 3],
@@ -65,7 +53,7 @@ fn act_in(frames: &[u64], shared: usize, state: &mut [u64], t: u64) -> Acted
 }
 
 // Thread t takes its turn at that choice. One that a list names and that is not there ends: it leaves the list.
-pub fn turn(frames: &[u64], shared: usize, state: &mut [u64], choice: u64, t: u64) -> u8
+pub(crate) fn turn(frames: &[u64], shared: usize, state: &mut [u64], choice: u64, t: u64) -> u8
     requires { ⌜ StepWords (now frames) shared (now state) × (1 ≤ t) × (t ≤ 64) × TurnChoice (now frames) choice ⌝ }
     ensures { λ r. ⌜ called r t (now (state .exit)) ≡ calledOf (now (state .entry)) (stepThread (programOf (framesOf (now (frames .entry)))) (stateIn (now (frames .entry)) (now (state .entry))) choice t) ⌝ }
 {

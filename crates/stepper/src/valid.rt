@@ -3,8 +3,9 @@ use crate::file::File;
 use crate::party::Stepped;
 use crate::party::step_scheduler;
 use crate::turn::turn;
+use language::Place;
+use states::party::THREADS_FROM;
 use states::party::is_unlinked;
-use states::range::has_scheduler;
 ghost use mathlib.Core.Path.{_≡_};
 ghost use Rattle.text.specs.Frames.{framesOf};
 ghost use Rattle.program.specs.Programs.{programOf};
@@ -16,11 +17,11 @@ pub fn step_valid(frames: &[u64], file: File, state: &mut [u64], choice: u64) ->
     requires { ⌜ StepWords (now frames) (file .shared) (now state) × (file ≡ fileOf (programOf (framesOf (now frames)))) ⌝ }
     ensures { λ r. ⌜ steppedOn r (now (state .exit)) ≡ stepCall (framesOf (now (frames .entry))) (now (state .entry)) choice ⌝ }
 {
-    if has_scheduler(file.schedulers, choice) {
+    if Place::is_scheduler_in_file(choice, file.schedulers) {
         return step_scheduler(frames, file.shared, state, choice);
     }
     if is_unlinked(state, choice) {
-        let t = choice - 16;
+        let t = choice - THREADS_FROM;
         let answer = turn(frames, file.shared, state, choice, t);
         return Stepped {
             answer,

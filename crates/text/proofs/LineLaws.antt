@@ -9,9 +9,9 @@ use lib.ListN.{length, getD, drop, drop-of-length-le}
 use lib.Seq.{drop-cons}
 use borrow.Author.Tests.{eq-eqb, ne-eqb, lt-ltb, le-ltb}
 use Rattle.basics.proofs.Ifs.{if-yes, if-no}
-use Rattle.text.specs.Digits.{digit}
+use Rattle.text.specs.Digits.{digit, digitTable}
 use Rattle.text.specs.Lines.{lineFrom, lineRead}
-use Rattle.text.proofs.Table.{digitsFrom, table-at}
+use Rattle.text.proofs.Table.{table-at}
 use Rattle.text.specs.declared.line.Line.{Line}
 use Rattle.text.specs.declared.line.Line.the-variants.{Word, WrongAt}
 
@@ -82,7 +82,7 @@ module _ (bytes : List ℕ) (w k : ℕ) (t : Taking bytes w k) where
       at-end (Word w) b (feed-right k w (getD bytes k 0) (drop (suc k) bytes) e (rw e n)) h
 
 -- one digit: it is read from the table, and v is the same as the code widens it
-module _ (bytes digits : List ℕ) (w k : ℕ) (t : Taking bytes w k) (e : digits ≡ digitsFrom 0 256) (b : getD bytes k 0 < 256) where
+module _ (bytes digits : List ℕ) (w k : ℕ) (t : Taking bytes w k) (e : digits ≡ digitTable) (b : getD bytes k 0 < 256) where
   pub table-wrong : k < 16 → k < length bytes → 16 ≤ getD digits (getD bytes k 0) 0 → WrongAt k ≡ lineRead bytes
   table-wrong l h n = let d = table-at digits (getD bytes k 0) e b in sym (digit-wrong k w (getD bytes k 0) (drop (suc k) bytes) (λ z. omega arith) (omega arith)) ∙ here bytes w k t h
 

@@ -1,5 +1,6 @@
 -- Digits. 'Digits are read through a table of 256 numbers, one for each byte: the digit's value, or 255.' Assumes nothing: a definition.
-use Prim.Native.Nat.{ℕ, _-_}
+use mathlib.Core.List.{List, [], _∷_}
+use Prim.Native.Nat.{ℕ, zero, suc, _-_}
 use lib.Dec.{ltb}
 use Rattle.basics.specs.If.{if_then_else_}
 
@@ -10,3 +11,12 @@ digit b =
     if ltb b 58 then b - 48 else
     if ltb b 65 then 255 else
     if ltb b 71 then b - 55 else 255
+
+-- the digits of the n bytes from k on
+abbrev pub digitsFrom : ℕ → ℕ → List ℕ
+digitsFrom k zero = []
+digitsFrom k (suc n) = digit k ∷ digitsFrom (suc k) n
+
+-- 'a table of 256 numbers, one for each byte'
+unfoldable pub digitTable : List ℕ
+digitTable = digitsFrom 0 256

@@ -1,9 +1,9 @@
 // Digits: the table of a byte's value.
 ghost use mathlib.Core.Path.{_≡_};
-ghost use Rattle.text.specs.Digits.{digit};
+ghost use Rattle.text.specs.Digits.{digit, digitTable};
 
 // One number for each byte: the value of the digit that it is, or 255.
-pub const DIGITS: [u8; 256] = [
+const DIGITS: [u8; 256] = [
     255,
     255,
     255,
@@ -262,8 +262,17 @@ pub const DIGITS: [u8; 256] = [
     255,
 ];
 
+// The whole table. A reader takes it once, since each use of a constant array writes it out anew.
+pub fn digit_table() -> [u8; 256]
+    ensures { λ r. ⌜ r ≡ digitTable ⌝ }
+{
+    DIGITS
+}
+
+// The digit of one byte.
 pub fn digit(b: u8) -> u8
     ensures { λ r. ⌜ r ≡ digit b ⌝ }
 {
-    DIGITS[b as usize]
+    let digits = digit_table();
+    digits[b as usize]
 }

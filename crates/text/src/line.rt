@@ -1,5 +1,5 @@
 // Lines, and the frames that they are.
-use crate::digit::DIGITS;
+use crate::digit::digit_table;
 use language::frame::Frame;
 use language::kind::kind_of;
 ghost use mathlib.Core.Path.{_≡_};
@@ -7,7 +7,7 @@ ghost use Rattle.text.specs.Frames.{frameOfWord};
 ghost use Rattle.text.specs.Lines.{lineRead, frameOfLine, frameRead};
 
 // What stands at the start of some bytes: a line, as one number of 16 digits, or the place of its first wrong or missing byte.
-pub enum Line {
+pub(crate) enum Line {
     Word(u64),
     WrongAt(usize),
 }
@@ -24,11 +24,11 @@ fn wide(d: u8) -> u64
     d as u64
 }
 
-// The line with which the bytes begin. The table is taken once for the line, since each use of a constant array writes it out anew.
-pub fn read_line(bytes: &[u8]) -> Line
+// The line with which the bytes begin.
+pub(crate) fn read_line(bytes: &[u8]) -> Line
     ensures { λ r. ⌜ r ≡ lineRead (now (bytes .entry)) ⌝ }
 {
-    let digits = DIGITS;
+    let digits = digit_table();
     let mut w: u64 = 0;
     let mut k: usize = 0;
     while k < 16 {

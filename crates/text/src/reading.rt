@@ -2,7 +2,7 @@
 use crate::line::Line;
 use crate::line::read_line;
 ghost use mathlib.Core.Path.{_≡_};
-ghost use Rattle.text.specs.Reading.{reading, textRead, textWords};
+ghost use Rattle.text.specs.Reading.{textWords};
 
 // How many frames a text has, or the number of its refusal and the frame that it names.
 pub enum TextRead {
@@ -47,11 +47,4 @@ pub fn read_words(text: &[u8]) -> TextWords
     }
     let read = TextRead::Frames(i as u16);
     TextWords { read, words }
-}
-
-// What any bytes read as.
-pub fn read_text(text: &[u8]) -> TextRead
-    ensures { λ r. ⌜ r ≡ textRead (reading (now (text .entry))) ⌝ }
-{
-    read_words(text).read
 }

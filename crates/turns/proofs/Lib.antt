@@ -1,11 +1,15 @@
--- What an act is to a turn.
+-- The code: a law for each return of each function.
+pub mod StayRows
+pub mod MoveRows
+pub mod AfterRows
+pub mod StartRows
+pub mod OperandLaws
+pub mod StatementRows
+pub mod ItemRows
+-- The acts made in a thread are the turns of specs/Acts: single turns, and the whole turn.
 pub mod ViewLaws
--- The single turns.
 pub mod StayLaws
 pub mod MoveLaws
-pub mod ThenLaws
-pub mod ArgumentLaws
--- Which of them a statement's turn is, and the whole turn.
-pub mod NodeLaws
-pub mod OperandLaws
-pub mod ItemLaws
+pub mod AfterLaws
+pub mod StartLaws
+pub mod TurnLaws

@@ -1,120 +1,118 @@
--- Turns after which the thread is at a place, another or the same (moving.rt): a law for each return. Assumes nothing.
+-- The acts after which the thread is at a place are its turns. Assumes nothing.
 use mathlib.Core.Path.{_≡_, refl, sym, ap, _∙_}
-use mathlib.Core.Bool.{Bool, true, false, not, _&&_}
-use Prim.Native.Nat.{ℕ, _+_, _<_, _≤_}
-use native.Mathlib.Omega.{arith}
-use lib.Dec.{eqb}
-use borrow.Author.Tests.{le-leb, lt-leb, eq-eqb, ne-eqb, not-true, not-false}
+use mathlib.Core.Bool.{Bool, true, false, _&&_}
+use Prim.Native.Nat.{ℕ, _+_}
+use lib.Dec.{leb, eqb}
+use borrow.Author.Tests.{leb-false}
 use Rattle.basics.specs.If.{if_then_else_}
-use Rattle.basics.proofs.Ifs.{yes, no}
+use Rattle.basics.proofs.Ifs.{if-all, yes, no}
+use Rattle.language.specs.Places.{private}
+use Rattle.language.specs.declared.Place.{Place}
 use Rattle.states.specs.declared.thread.ThreadWords.{ThreadWords}
 use Rattle.states.specs.Stacks.{pushItem, moveTo}
 use Rattle.acts.specs.declared.act.Fate.the-variants.{Stays, Leaves, Joins}
 use Rattle.acts.specs.declared.act.Change.{Change}
 use Rattle.acts.specs.declared.act.Change.the-variants.{Same, Items, Move, Enter}
 use Rattle.acts.specs.declared.act.Acted.{Acted}
-use Rattle.acts.specs.Fates.{actedIn, actedWith, refusedWith, changed, turned, Room}
+use Rattle.acts.specs.Fates.{actedIn, actedWith, changed, turned, Room}
 use Rattle.turns.specs.declared.view.View.{View}
-use Rattle.turns.specs.Acts.{goesIn, doesIn, cooperatesIn, goesWith, Views, Turns}
-use Rattle.turns.proofs.ViewLaws.{act-of}
-
--- ---- to place q: the act; b is whether q is private
-module _ (from n q : ℕ) (same moved : Change) (r : Acted) where
-  pub goes-nowhere : q ≡ from → r ≡ actedWith Stays same n → r ≡ goesWith from n q same moved
-  unfolding goesWith
-  goes-nowhere h e = yes _ (eq-eqb q from h) e
-
-  pub goes-unlinked : (b : Bool) → b ≡ eqb q 1 → (q ≡ from → ⊥) → b ≡ true → r ≡ actedWith Leaves moved n → r ≡ goesWith from n q same moved
-  unfolding goesWith
-  goes-unlinked b z h k e = no _ (ne-eqb q from h) (yes _ (sym z ∙ k) e)
-
-  pub goes-joins : (b : Bool) → b ≡ eqb q 1 → (q ≡ from → ⊥) → b ≡ false → r ≡ actedWith (Joins q) moved n → r ≡ goesWith from n q same moved
-  unfolding goesWith
-  goes-joins b z h k e = no _ (ne-eqb q from h) (no _ (sym z ∙ k) e)
-
-pub ruleset goes-laws = (goes-nowhere, goes-unlinked, goes-joins)
+use Rattle.turns.specs.Acts.{goesIn, doesIn, cooperatesIn, Views}
+use Rattle.turns.specs.Actions.{goTo, goBack, unlinkedAgain, doThere, cooperation}
+use Rattle.turns.proofs.ViewLaws.{Turns}
 
 -- ---- the act made in a thread: with either change it is the thread that goes, and there is room for both
-module _ (n q : ℕ) (same moved : Change) where
-  goes-made : (from : ℕ) (th p : ThreadWords) → changed same th ≡ p → changed moved th ≡ moveTo q p → turned (goesWith from n q same moved) th ≡ goesIn from p n q
-  unfolding goesWith goesIn if_then_else_
-  goes-made from th p h k = by (eqb q from) (eqb q 1)
+module _ (from q : Place) (n : ℕ) (same moved : Change) where
+  abbrev act : Bool → Bool → Acted
+  act b c =
+      if b then actedWith Stays same n else
+      if c then actedWith Leaves moved n else
+      actedWith (Joins q) moved n
+
+  goes-made : (th p : ThreadWords) → changed same th ≡ p → changed moved th ≡ moveTo (q .number) p
+      → turned (goTo from n q same moved) th ≡ goesIn (from .number) p n (q .number)
+  unfolding goTo goesIn if_then_else_
+  goes-made th p h k = by (eqb (q .number) (from .number)) (eqb (q .number) private)
     where
       by : (b c : Bool)
-          → turned (if b then actedWith Stays same n else if c then actedWith Leaves moved n else actedWith (Joins q) moved n) th
-          ≡ (if b then actedIn Stays p n else if c then actedIn Leaves (moveTo q p) n else actedIn (Joins q) (moveTo q p) n)
+          → turned (act b c) th
+          ≡ (if b then actedIn Stays p n else
+          if c then actedIn Leaves (moveTo (q .number) p) n else
+          actedIn (Joins q) (moveTo (q .number) p) n)
       by true c = ap (λ (x : ThreadWords). actedIn Stays x n) h
       by false true = ap (λ (x : ThreadWords). actedIn Leaves x n) k
       by false false = ap (λ (x : ThreadWords). actedIn (Joins q) x n) k
 
-  goes-room : (from items values : ℕ) → Room same items values → Room moved items values → Room (goesWith from n q same moved .change) items values
-  unfolding goesWith if_then_else_
-  goes-room from items values h k = by (eqb q from) (eqb q 1)
+  goes-room : (items values : ℕ) → Room same items values → Room moved items values
+      → Room (goTo from n q same moved .change) items values
+  unfolding goTo if_then_else_
+  goes-room items values h k = by (eqb (q .number) (from .number)) (eqb (q .number) private)
     where
-      by : (b c : Bool) → Room ((if b then actedWith Stays same n else if c then actedWith Leaves moved n else actedWith (Joins q) moved n) .change) items values
+      by : (b c : Bool) → Room (act b c .change) items values
       by true c = h
       by false true = k
       by false false = k
 
--- ---- in every thread that looks like the view; from is where it stands
-module _ (v : View) (n : ℕ) (r : Acted) (from : ℕ) (f : from ≡ v .place .number) where
-  stands : {th : ThreadWords} → Views v th → th .place ≡ from
-  stands w = w .place ∙ sym f
+module _ (v : View) (n : ℕ) where
+  pub back-turns : (q : Place) → Turns (goBack v n q) v (λ th. goesIn (th .place) th n (q .number))
+  back-turns q =
+      record {
+        thread =
+            λ th w.
+            goes-made (v .place) q n Same (Move q) th th refl refl
+            ∙ ap (λ (x : ℕ). goesIn x th n (q .number)) (sym (w .place));
+        room = goes-room (v .place) q n Same (Move q) (v .items) (v .values) tt tt;
+      }
 
-  again-at : {th : ThreadWords} → Views v th → (q : ℕ) (b t : Bool) → b ≡ (eqb from 1 && eqb q 1) → b ≡ t → (eqb (th .place) 1 && eqb q 1) ≡ t
-  again-at w q b t h e = ap (λ (x : ℕ). eqb x 1 && eqb q 1) (stands w) ∙ sym h ∙ e
+  again-at : {th : ThreadWords} {t : Bool} (q : Place) → Views v th → unlinkedAgain (v .place) q ≡ t
+      → (eqb (th .place) private && eqb (q .number) private) ≡ t
+  again-at q w e = ap (λ (x : ℕ). eqb x private && eqb (q .number) private) (w .place) ∙ e
 
-  pub goes-back : (q : ℕ) → r ≡ goesWith from n q Same (Move q) → Turns r v (λ th. goesIn (th .place) th n q)
-  goes-back q e =
-      act-of (goesWith from n q Same (Move q)) e
-      (λ th w. goes-made n q Same (Move q) from th th refl refl ∙ ap (λ (x : ℕ). goesIn x th n q) (sym (stands w)))
-      (goes-room n q Same (Move q) from (v .items) (v .values) tt tt)
+  pub does-turns : (q : Place) (body : ℕ)
+      → Turns (doThere v n q body) v (λ th. doesIn th n (q .number) body)
+  unfolding doThere doesIn
+  does-turns q body =
+      if-all (λ (a : Acted). Turns a v (λ th. doesIn th n (q .number) body))
+      (unlinkedAgain (v .place) q) _ _
+      (λ e. record { thread = λ th w. yes _ (again-at q w e) refl; room = tt })
+      (λ e.
+      if-all (λ (a : Acted). Turns a v (λ th. doesIn th n (q .number) body)) (leb 24 (v .items)) _ _
+      (λ k.
+      record {
+        thread = λ th w. no _ (again-at q w e) (yes _ (ap (leb 24) (w .items) ∙ k) refl);
+        room = tt;
+      })
+      (λ k.
+      record {
+        thread =
+            λ th w.
+            no _ (again-at q w e)
+            (no _ (ap (leb 24) (w .items) ∙ k)
+            (let p = pushItem body (pushItem (1024 + th .place) th) in
+            goes-made (v .place) q n (Items body (1024 + v .place .number)) (Enter q body) th p
+            (ap (λ (x : ℕ). pushItem body (pushItem (1024 + x) th)) (sym (w .place)))
+            refl
+            ∙ ap (λ (x : ℕ). goesIn x p n (q .number)) (sym (w .place))));
+        room =
+            let h = leb-false 24 (v .items) k in
+            goes-room (v .place) q n (Items body (1024 + v .place .number)) (Enter q body)
+            (v .items) (v .values) h h;
+      }))
 
-  pub does-again : (q body : ℕ) (b : Bool) → b ≡ true → b ≡ (eqb from 1 && eqb q 1) → r ≡ refusedWith 20 n → Turns r v (λ th. doesIn th n q body)
-  unfolding doesIn
-  does-again q body b t h e =
-      act-of (refusedWith 20 n) e (λ th w. yes _ (again-at w q b true h t) refl) tt
-
-  pub does-full : (q body : ℕ) (b : Bool) → b ≡ false → b ≡ (eqb from 1 && eqb q 1) → 24 ≤ v .items → r ≡ refusedWith 20 n → Turns r v (λ th. doesIn th n q body)
-  unfolding doesIn
-  does-full q body b t h l e =
-      act-of (refusedWith 20 n) e
-      (λ th w.
-      let p = w .items in
-      no _ (again-at w q b false h t) (yes _ (le-leb 24 (th .items) (omega arith)) refl))
-      tt
-
-  pub does-there : (q body : ℕ) (b : Bool) → b ≡ false → b ≡ (eqb from 1 && eqb q 1) → v .items < 24
-      → r ≡ goesWith from n q (Items body (1024 + from)) (Enter q body) → Turns r v (λ th. doesIn th n q body)
-  unfolding doesIn
-  does-there q body b t h l e =
-      act-of (goesWith from n q (Items body (1024 + from)) (Enter q body)) e
-      (λ th w.
-      let p = w .items in
-      no _ (again-at w q b false h t)
-      (no _ (lt-leb 24 (th .items) (omega arith))
-      (goes-made n q (Items body (1024 + from)) (Enter q body) from th (pushItem body (pushItem (1024 + th .place) th))
-      (ap (λ (x : ℕ). pushItem body (pushItem (1024 + x) th)) (sym (stands w)))
-      refl
-      ∙ ap (λ (x : ℕ). goesIn x (pushItem body (pushItem (1024 + th .place) th)) n q) (sym (stands w)))))
-      (goes-room n q (Items body (1024 + from)) (Enter q body) from (v .items) (v .values) l l)
-
-  pub cooperates-unlinked : (b : Bool) → b ≡ eqb from 1 → b ≡ true → r ≡ refusedWith 20 n → Turns r v (λ th. cooperatesIn th n)
-  unfolding cooperatesIn
-  cooperates-unlinked b z h e = act-of (refusedWith 20 n) e (λ th w. yes _ (ap (λ (x : ℕ). eqb x 1) (stands w) ∙ sym z ∙ h) refl) tt
-
-  pub cooperates-next : (b : Bool) → b ≡ eqb from 1 → b ≡ false → r ≡ actedWith (Joins from) Same n → Turns r v (λ th. cooperatesIn th n)
-  unfolding cooperatesIn
-  cooperates-next b z h e =
-      act-of (actedWith (Joins from) Same n) e
-      (λ th w. no _ (ap (λ (x : ℕ). eqb x 1) (stands w) ∙ sym z ∙ h) (ap (λ (x : ℕ). actedIn (Joins x) th n) (sym (stands w))))
-      tt
-
--- ---- refusal 12's condition met when running (`unlinked_again`): not unlinked, or what q says
-pub again-linked : (from q : ℕ) (b : Bool) → b ≡ eqb from 1 → not b ≡ true → false ≡ (eqb from 1 && eqb q 1)
-again-linked from q b z h = ap (λ (x : Bool). x && eqb q 1) (sym (not-true b h) ∙ z)
-
-pub again-unlinked : (from q : ℕ) (b r : Bool) → b ≡ eqb from 1 → r ≡ eqb q 1 → not b ≡ false → r ≡ (eqb from 1 && eqb q 1)
-again-unlinked from q b r z e h = e ∙ ap (λ (x : Bool). x && eqb q 1) (sym (not-false b h) ∙ z)
-
-pub ruleset again-laws = (again-linked, again-unlinked)
+  pub cooperates-turns : Turns (cooperation v n) v (λ th. cooperatesIn th n)
+  unfolding cooperation cooperatesIn
+  cooperates-turns =
+      if-all (λ (a : Acted). Turns a v (λ th. cooperatesIn th n))
+      (eqb (v .place .number) private) _ _
+      (λ e.
+      record {
+        thread = λ th w. yes _ (ap (λ (x : ℕ). eqb x private) (w .place) ∙ e) refl;
+        room = tt;
+      })
+      (λ e.
+      record {
+        thread =
+            λ th w.
+            no _ (ap (λ (x : ℕ). eqb x private) (w .place) ∙ e)
+            (ap (λ (x : ℕ). actedIn (Joins (record { number = x })) th n) (sym (w .place)));
+        room = tt;
+      })

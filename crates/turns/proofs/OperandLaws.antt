@@ -1,11 +1,12 @@
--- The expressions that a statement's turn evaluates are frames of the file, as `evaluate` requires. Assumes nothing.
+-- What a statement's turn requires of the file: its frame names a place where it is to, and the
+-- expressions that it evaluates are frames of the file. Assumes nothing.
 use mathlib.Core.Path.{_≡_, sym, ap, subst, _∙_}
 use mathlib.Core.List.{List, [], _++_}
 use Prim.Native.Nat.{ℕ, zero, suc, _<_}
 use native.Mathlib.Omega.{arith}
 use lib.ListN.{length, getD, length-map}
 use Rattle.basics.specs.Members.{All}
-use Rattle.language.specs.Kinds.{Child, children, childIn}
+use Rattle.language.specs.Kinds.{NamesPlace, Child, children, childIn}
 use Rattle.language.specs.declared.kind.StatementKind.{StatementKind}
 use Rattle.language.specs.declared.kind.StatementKind.the-variants as S
 use Rattle.language.specs.declared.kind.Kind.{Kind}
@@ -15,10 +16,12 @@ use Rattle.language.specs.declared.frame.Frame.{Frame}
 use Rattle.text.specs.Frames.{frameOfWord, framesOf}
 use Rattle.text.proofs.FrameWords.{frame-at}
 use Rattle.program.specs.Trees.{frameAt, noFrame}
-use Rattle.layout.proofs.Trees.{childrenAs}
-use Rattle.rules.specs.Nodes.{statementNodeOf, statementNodeIn, statementNode}
-use Rattle.rules.specs.declared.node.StatementNode.{StatementNode}
-use Rattle.rules.specs.declared.node.StatementNode.the-variants as Y
+use Rattle.program.proofs.NodeLaws.{childrenAs}
+use Rattle.program.specs.Nodes.{statementNodeOf, statementNodeIn, statementNode}
+use Rattle.program.specs.declared.node.StatementNode.{StatementNode}
+use Rattle.program.specs.declared.node.StatementNode.the-variants as Y
+use Rattle.evaluator.specs.Results.{FrameWords}
+use Rattle.evaluator.proofs.Nodes.{frame-named}
 use Rattle.turns.specs.declared.view.View.{View}
 use Rattle.turns.specs.Acts.{TurnWords}
 
@@ -70,37 +73,51 @@ module _ (m i : ℕ) (l : i < m) where
   under-frame f h = under-kind f (f .kind) h
 
 -- ---- at frame i, whose node the code has read as d
-module _ (fw : List ℕ) (v : View) (vs : List ℕ) (n : ℕ) (ws : List ℕ) (i : ℕ) (f : Frame) (d : StatementNode) (k : d ≡ statementNode f) (e : f ≡ frameOfWord (getD fw i 0)) (g : TurnWords fw v vs n ws) (l : i < length fw) where
-  under : (y : StatementNode) → d ≡ y → Under (length fw) y
-  under y h =
-      subst (Under (length fw)) (ap statementNode (frame-at fw i noFrame l ∙ sym e) ∙ sym k ∙ h)
-      (under-frame (length fw) i l (frameAt (framesOf fw) i) (g .ordered i (rw length-map l)))
+pub frame-words : (fw : List ℕ) (v : View) (vs : List ℕ) (n : ℕ) (ws : List ℕ) (i : ℕ)
+    → TurnWords fw v vs n ws → i < length fw → FrameWords fw i
+frame-words fw v vs n ws i g l = record { ordered = g .ordered; placed = g .placed; there = l }
 
-  pub start-a : (s a b : ℕ) → d ≡ Y.Start s a b → a < length fw
-  start-a s a b h = under (Y.Start s a b) h .0
+module _
+    (fw : List ℕ) (v : View) (vs : List ℕ) (n : ℕ) (ws : List ℕ) (i : ℕ)
+    (f : Frame) (e : f ≡ frameOfWord (getD fw i 0))
+    (g : TurnWords fw v vs n ws) (l : i < length fw) where
+  pub statement-named : NamesPlace f
+  statement-named = frame-named fw i f (frame-words fw v vs n ws i g l) e
 
-  pub start-b : (s a b : ℕ) → d ≡ Y.Start s a b → b < length fw
-  start-b s a b h = under (Y.Start s a b) h .1
+  module _ (d : StatementNode) (k : d ≡ statementNode f) where
+    under : (y : StatementNode) → d ≡ y → Under (length fw) y
+    under y h =
+        subst (Under (length fw)) (ap statementNode (frame-at fw i noFrame l ∙ sym e) ∙ sym k ∙ h)
+        (under-frame (length fw) i l (frameAt (framesOf fw) i) (g .ordered i (rw length-map l)))
 
-  pub wait-a : (s a b : ℕ) → d ≡ Y.StartWait s a b → a < length fw
-  wait-a s a b h = under (Y.StartWait s a b) h .0
+    there : {j : ℕ} → j < length fw → FrameWords fw j
+    there {j} h = frame-words fw v vs n ws j g h
 
-  pub wait-b : (s a b : ℕ) → d ≡ Y.StartWait s a b → b < length fw
-  wait-b s a b h = under (Y.StartWait s a b) h .1
+    pub start-a : (s a b : ℕ) → d ≡ Y.Start s a b → FrameWords fw a
+    start-a s a b h = there (under (Y.Start s a b) h .0)
 
-  pub let-a : (a b : ℕ) → d ≡ Y.LetIn a b → a < length fw
-  let-a a b h = under (Y.LetIn a b) h
+    pub start-b : (s a b : ℕ) → d ≡ Y.Start s a b → FrameWords fw b
+    start-b s a b h = there (under (Y.Start s a b) h .1)
 
-  pub store-a : (a b : ℕ) → d ≡ Y.Store a b → a < length fw
-  store-a a b h = under (Y.Store a b) h .0
+    pub wait-a : (s a b : ℕ) → d ≡ Y.StartWait s a b → FrameWords fw a
+    wait-a s a b h = there (under (Y.StartWait s a b) h .0)
 
-  pub store-b : (a b : ℕ) → d ≡ Y.Store a b → b < length fw
-  store-b a b h = under (Y.Store a b) h .1
+    pub wait-b : (s a b : ℕ) → d ≡ Y.StartWait s a b → FrameWords fw b
+    wait-b s a b h = there (under (Y.StartWait s a b) h .1)
 
-  pub if-a : (a b c : ℕ) → d ≡ Y.IfElse a b c → a < length fw
-  if-a a b c h = under (Y.IfElse a b c) h
+    pub let-a : (a b : ℕ) → d ≡ Y.LetIn a b → FrameWords fw a
+    let-a a b h = there (under (Y.LetIn a b) h)
 
-  pub while-a : (a b : ℕ) → d ≡ Y.While a b → a < length fw
-  while-a a b h = under (Y.While a b) h
+    pub store-a : (a b : ℕ) → d ≡ Y.Store a b → FrameWords fw a
+    store-a a b h = there (under (Y.Store a b) h .0)
+
+    pub store-b : (a b : ℕ) → d ≡ Y.Store a b → FrameWords fw b
+    store-b a b h = there (under (Y.Store a b) h .1)
+
+    pub if-a : (a b c : ℕ) → d ≡ Y.IfElse a b c → FrameWords fw a
+    if-a a b c h = there (under (Y.IfElse a b c) h)
+
+    pub while-a : (a b : ℕ) → d ≡ Y.While a b → FrameWords fw a
+    while-a a b h = there (under (Y.While a b) h)
 
 pub ruleset under-laws = (start-a, start-b, wait-a, wait-b, let-a, store-a, store-b, if-a, while-a)

@@ -6,25 +6,24 @@ use Prim.Native.Nat.{ℕ, _+_, _-_, _≤_}
 use lib.Dec.{ltb, leb, eqb}
 use lib.ListN.{length, getD, take}
 use Rattle.basics.specs.If.{if_then_else_}
+use Rattle.language.specs.Places.{private}
 use Rattle.language.specs.declared.frame.Frame.{Frame}
 use Rattle.text.specs.Frames.{framesOf}
 use Rattle.program.specs.Trees.{Expr, Stmt, nothing, seq, doAt, start, startWait, cooperate, letIn, store, ifElse, while, rootS, statementAt}
-use Rattle.program.specs.Ordered.{Ordered}
+use Rattle.program.specs.Ordered.{Ordered, Placed}
 use Rattle.machine.specs.Evaluation.{eval, storing}
 use Rattle.machine.specs.Words.{valueWord}
 use Rattle.machine.specs.declared.value.Value.{Value}
 use Rattle.machine.specs.declared.value.Value.the-variants.{Number, Truth, Cell}
 use Rattle.machine.specs.declared.value.Outcome.{Outcome}
 use Rattle.machine.specs.declared.value.Outcome.the-variants.{Is, Foreign, Spent, Stuck}
-use Rattle.evaluator.specs.declared.operation.Who.{Who}
+use Rattle.evaluator.specs.declared.Who.{Who}
 use Rattle.evaluator.specs.Results.{Result, hereOf, onWords, CellWords, ValueWords}
 use Rattle.states.specs.declared.thread.ThreadWords.{ThreadWords}
 use Rattle.states.specs.Stacks.{pushItem, popItem, pushValue, popValue, moveTo, ended}
 use Rattle.acts.specs.declared.act.Fate.the-variants.{Stays, Leaves, Joins, Starts}
-use Rattle.acts.specs.declared.act.Change.{Change}
-use Rattle.acts.specs.declared.act.Change.the-variants.{Same}
 use Rattle.acts.specs.declared.act.Acted.{Acted}
-use Rattle.acts.specs.Fates.{Turned, actedIn, refusedIn, actedWith, popped, turned, Room}
+use Rattle.acts.specs.Fates.{Turned, actedIn, refusedIn, popped, turned, Room}
 use Rattle.turns.specs.declared.view.View.{View}
 use Rattle.turns.specs.declared.start.Request.{Request}
 
@@ -50,17 +49,19 @@ dropsIn th n = if eqb (th .values) 0 then refusedIn 20 th n else actedIn Stays (
 unfoldable pub goesIn : ℕ → ThreadWords → ℕ → ℕ → Turned
 goesIn from th n q =
     if eqb q from then actedIn Stays th n else
-    if eqb q 1 then actedIn Leaves (moveTo q th) n else
-    actedIn (Joins q) (moveTo q th) n
+    if eqb q private then actedIn Leaves (moveTo q th) n else
+    actedIn (Joins (record { number = q })) (moveTo q th) n
 
 unfoldable pub doesIn : ThreadWords → ℕ → ℕ → ℕ → Turned
 doesIn th n q body =
-    if eqb (th .place) 1 && eqb q 1 then refusedIn 20 th n else
+    if eqb (th .place) private && eqb q private then refusedIn 20 th n else
     if leb 24 (th .items) then refusedIn 20 th n else
     goesIn (th .place) (pushItem body (pushItem (1024 + th .place) th)) n q
 
 unfoldable pub cooperatesIn : ThreadWords → ℕ → Turned
-cooperatesIn th n = if eqb (th .place) 1 then refusedIn 20 th n else actedIn (Joins (th .place)) th n
+cooperatesIn th n =
+    if eqb (th .place) private then refusedIn 20 th n else
+    actedIn (Joins (record { number = th .place })) th n
 
 -- ---- behind an evaluation
 
@@ -168,7 +169,7 @@ turnIn fs who th n ws =
     if eqb (th .items) 0 then actedOn (actedIn Leaves (ended th) n) ws else
     itemIn fs who (popItem th) n ws (topIn th)
 
--- ---- what the code says of its acts: they are those of every thread that looks like this
+-- ---- what an act is to a turn: it is that of every thread that looks like the view
 
 -- a thread of which a turn sees where it stands, how many items it has and how many variables
 pub record Views (v : View) (th : ThreadWords) : Type 0 where
@@ -176,36 +177,20 @@ pub record Views (v : View) (th : ThreadWords) : Type 0 where
   pub items : th .items ≡ v .items
   pub values : th .values ≡ v .values
 
--- the act, its change made in such a thread without its top item, is that turn; and there is room for the change
-pub record Turns (a : Acted) (v : View) (f : ThreadWords → Turned) : Type 0 where
-  pub thread : (th : ThreadWords) → Views v th → turned a th ≡ f th
-  pub room : Room (a .change) (v .items) (v .values)
-
--- the same with the words of the cells, for a thread of those variables
-pub record TurnsOn (a : Acted) (us : List ℕ) (v : View) (vs : List ℕ) (f : ThreadWords → ActedOn) : Type 0 where
-  pub thread : (th : ThreadWords) → Views v th → variablesIn th ≡ vs → actedOn (turned a th) us ≡ f th
-  pub room : Room (a .change) (v .items) (v .values)
-
--- the same of the whole turn of a thread, with the word on top of its continuation
-pub record WholeTurn (a : Acted) (us : List ℕ) (v : View) (item : ℕ) (vs : List ℕ) (f : ThreadWords → ActedOn) : Type 0 where
-  pub thread : (th : ThreadWords) → Views v th → variablesIn th ≡ vs → topIn th ≡ item → actedOn (turned a (popped th)) us ≡ f th
+-- the act a, its change made in such a thread of those variables, without the word on top of its
+-- continuation, is with the cells us that turn; and there is room for the change
+pub record WholeTurn (a : Acted) (us : List ℕ) (v : View) (item : ℕ) (vs : List ℕ)
+    (f : ThreadWords → ActedOn) : Type 0 where
+  pub thread : (th : ThreadWords) → Views v th → variablesIn th ≡ vs → topIn th ≡ item
+      → actedOn (turned a (popped th)) us ≡ f th
   pub room : Room (a .change) (v .items - 1) (v .values)
 
--- to that place from that one: a move to one's own place is none
-unfoldable pub goesWith : ℕ → ℕ → ℕ → Change → Change → Acted
-goesWith from n q same moved =
-    if eqb q from then actedWith Stays same n else
-    if eqb q 1 then actedWith Leaves moved n else
-    actedWith (Joins q) moved n
-
-abbrev pub startWith : Request → ℕ → ℕ → ℕ → ℕ → Acted
-startWith q n given first second =
-    record { fate = Starts (q .waits) (q .target); change = Same; used = n; given = given; first = first; second = second }
-
--- ---- what a caller has to show: words of a state that is not refused with 14, and frames that pass refusal 6
+-- ---- what a caller has to show: words of a state that is not refused with 14, and frames that
+-- pass refusals 5 and 6
 
 pub record TurnWords (frames : List ℕ) (v : View) (vs : List ℕ) (n : ℕ) (ws : List ℕ) : Type 0 where
   pub ordered : Ordered (framesOf frames)
+  pub placed : Placed (framesOf frames)
   pub place : v .place .number ≤ 9
   pub items : v .items ≤ 25
   pub count : length vs ≡ v .values

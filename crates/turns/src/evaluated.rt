@@ -8,43 +8,58 @@ use acts::act::Change;
 use acts::act::Fate;
 use acts::act::comes_to;
 use acts::act::refused;
-use evaluator::operation::Answered;
+use evaluator::Answered;
 use evaluator::word::value_word;
 use machine::value::Outcome;
 use machine::value::Value;
-ghost use Rattle.machine.specs.Words.{valueWord};
-ghost use Rattle.turns.specs.Acts.{thenActs, byTruthIn, oneIn, twoIn, letsIn, Turns};
-ghost use Rattle.acts.specs.Fates.{actedIn};
-ghost use Rattle.acts.specs.declared.act.Fate.the-variants.{Stays};
+ghost use mathlib.Core.Path.{_≡_};
+ghost use Rattle.machine.specs.Values.{answerOf};
+ghost use Rattle.acts.specs.Fates.{refusedWith};
+ghost use Rattle.turns.specs.Actions.{afterValue, letAfter, storeAfter, chooseAfter, loopAfter};
+
+// The number of a refusal.
+fn answer_of(o: Outcome) -> u8
+    ensures { λ r. ⌜ r ≡ answerOf o ⌝ }
+{
+    match o {
+        Outcome::Is(w) => 0,
+        Outcome::Foreign => 19,
+        Outcome::Spent => 17,
+        Outcome::Stuck => 20,
+    }
+}
+
+// A refused evaluation refuses the turn.
+pub(crate) fn refused_by(o: Outcome, used: usize) -> Acted
+    ensures { λ r. ⌜ r ≡ refusedWith (answerOf o) used ⌝ }
+{
+    refused(answer_of(o), used)
+}
 
 // 16.
-pub fn lets_after(x: Answered, v: View, body: u64) -> Acted
-    ensures { λ r. ⌜ Turns r v (λ th. thenActs (x .outcome) th (x .used) (λ w. letsIn th (x .used) (valueWord w) body)) ⌝ }
+pub(crate) fn lets_after(x: Answered, v: View, body: u64) -> Acted
+    ensures { λ r. ⌜ r ≡ afterValue (x .outcome) (x .used) (letAfter v body (x .used)) ⌝ }
 {
     let o = x.outcome;
-    match o {
-        Outcome::Is(w) => lets(v, x.used, value_word(w), body),
-        Outcome::Foreign => refused(19, x.used),
-        Outcome::Spent => refused(17, x.used),
-        Outcome::Stuck => refused(20, x.used),
-    }
+    let Outcome::Is(w) = o else {
+        return refused_by(o, x.used);
+    };
+    lets(v, x.used, value_word(w), body)
 }
 
 // 17.
-pub fn stores_after(x: Answered, v: View) -> Acted
-    ensures { λ r. ⌜ Turns r v (λ th. thenActs (x .outcome) th (x .used) (λ w. actedIn Stays th (x .used))) ⌝ }
+pub(crate) fn stores_after(x: Answered) -> Acted
+    ensures { λ r. ⌜ r ≡ afterValue (x .outcome) (x .used) (storeAfter (x .used)) ⌝ }
 {
     let o = x.outcome;
-    match o {
-        Outcome::Is(w) => comes_to(Fate::Stays, Change::Same, x.used),
-        Outcome::Foreign => refused(19, x.used),
-        Outcome::Spent => refused(17, x.used),
-        Outcome::Stuck => refused(20, x.used),
-    }
+    let Outcome::Is(w) = o else {
+        return refused_by(o, x.used);
+    };
+    comes_to(Fate::Stays, Change::Same, x.used)
 }
 
 fn one_of(w: Value, v: View, used: usize, a: u64, b: u64) -> Acted
-    ensures { λ r. ⌜ Turns r v (λ th. byTruthIn w th used (oneIn th used a) (oneIn th used b)) ⌝ }
+    ensures { λ r. ⌜ r ≡ chooseAfter v a b used w ⌝ }
 {
     match w {
         Value::Truth(t) => {
@@ -59,20 +74,18 @@ fn one_of(w: Value, v: View, used: usize, a: u64, b: u64) -> Acted
 }
 
 // 18: one branch.
-pub fn chooses_after(x: Answered, v: View, a: u64, b: u64) -> Acted
-    ensures { λ r. ⌜ Turns r v (λ th. thenActs (x .outcome) th (x .used) (λ w. byTruthIn w th (x .used) (oneIn th (x .used) a) (oneIn th (x .used) b))) ⌝ }
+pub(crate) fn chooses_after(x: Answered, v: View, a: u64, b: u64) -> Acted
+    ensures { λ r. ⌜ r ≡ afterValue (x .outcome) (x .used) (chooseAfter v a b (x .used)) ⌝ }
 {
     let o = x.outcome;
-    match o {
-        Outcome::Is(w) => one_of(w, v, x.used, a, b),
-        Outcome::Foreign => refused(19, x.used),
-        Outcome::Spent => refused(17, x.used),
-        Outcome::Stuck => refused(20, x.used),
-    }
+    let Outcome::Is(w) = o else {
+        return refused_by(o, x.used);
+    };
+    one_of(w, v, x.used, a, b)
 }
 
 fn again_or_not(w: Value, v: View, used: usize, body: u64, again: u64) -> Acted
-    ensures { λ r. ⌜ Turns r v (λ th. byTruthIn w th used (twoIn th used body again) (actedIn Stays th used)) ⌝ }
+    ensures { λ r. ⌜ r ≡ loopAfter v body again used w ⌝ }
 {
     match w {
         Value::Truth(t) => {
@@ -87,14 +100,12 @@ fn again_or_not(w: Value, v: View, used: usize, body: u64, again: u64) -> Acted
 }
 
 // 19: if true, the body above the same loop.
-pub fn loops_after(x: Answered, v: View, body: u64, again: u64) -> Acted
-    ensures { λ r. ⌜ Turns r v (λ th. thenActs (x .outcome) th (x .used) (λ w. byTruthIn w th (x .used) (twoIn th (x .used) body again) (actedIn Stays th (x .used)))) ⌝ }
+pub(crate) fn loops_after(x: Answered, v: View, body: u64, again: u64) -> Acted
+    ensures { λ r. ⌜ r ≡ afterValue (x .outcome) (x .used) (loopAfter v body again (x .used)) ⌝ }
 {
     let o = x.outcome;
-    match o {
-        Outcome::Is(w) => again_or_not(w, v, x.used, body, again),
-        Outcome::Foreign => refused(19, x.used),
-        Outcome::Spent => refused(17, x.used),
-        Outcome::Stuck => refused(20, x.used),
-    }
+    let Outcome::Is(w) = o else {
+        return refused_by(o, x.used);
+    };
+    again_or_not(w, v, x.used, body, again)
 }

@@ -7,11 +7,16 @@ use acts::act::Acted;
 use acts::act::Change;
 use acts::act::Fate;
 use acts::act::comes_to;
-use evaluator::operation::Who;
-ghost use Prim.Native.Nat.{_<_};
+use evaluator::Who;
+use language::Place;
+ghost use mathlib.Core.Path.{_≡_};
+ghost use mathlib.Core.Bool.{true};
+ghost use Prim.Native.Nat.{_-_, _<_, _≤_};
 ghost use lib.ListN.{length};
+ghost use Rattle.language.specs.Places.{isPlace};
 ghost use Rattle.text.specs.Frames.{framesOf};
-ghost use Rattle.turns.specs.Acts.{itemIn, turnIn, TurnsOn, WholeTurn, TurnWords};
+ghost use Rattle.turns.specs.Acts.{TurnWords};
+ghost use Rattle.turns.specs.Actions.{itemAct, turnAct, actOn};
 
 // The item that is off its continuation: v sees those below it.
 fn act_item(
@@ -23,14 +28,18 @@ fn act_item(
     used: usize,
     item: u64,
 ) -> Acted
-    requires { ⌜ TurnWords (now frames) v (now variables) used (now cells) × (item < 1024 → item < length (now frames)) ⌝ }
-    ensures { λ r. ⌜ TurnsOn r (now (cells .exit)) v (now (variables .entry)) (λ th. itemIn (framesOf (now (frames .entry))) who th used (now (cells .entry)) item) ⌝ }
+    requires { ⌜ TurnWords (now frames) v (now variables) used (now cells)
+        × (item < 1024 → item < length (now frames))
+        × (1024 ≤ item → item < 2048 → isPlace (item - 1024) ≡ true) ⌝ }
+    ensures { λ r. ⌜ actOn r (now (cells .exit))
+        ≡ itemAct (framesOf (now (frames .entry))) who v item (now (variables .entry)) used
+        (now (cells .entry)) ⌝ }
 {
     if item < 1024 {
         return act_statement(frames, who, v, variables, cells, used, item as usize);
     }
     if item < 2048 {
-        return goes_back(v, used, item - 1024);
+        return goes_back(v, used, Place::known(item - 1024));
     }
     drops(v, used)
 }
@@ -45,8 +54,12 @@ pub fn act(
     cells: &mut [u64],
     used: usize,
 ) -> Acted
-    requires { ⌜ TurnWords (now frames) v (now variables) used (now cells) × (item < 1024 → item < length (now frames)) ⌝ }
-    ensures { λ r. ⌜ WholeTurn r (now (cells .exit)) v item (now (variables .entry)) (λ th. turnIn (framesOf (now (frames .entry))) who th used (now (cells .entry))) ⌝ }
+    requires { ⌜ TurnWords (now frames) v (now variables) used (now cells)
+        × (item < 1024 → item < length (now frames))
+        × (1024 ≤ item → item < 2048 → isPlace (item - 1024) ≡ true) ⌝ }
+    ensures { λ r. ⌜ actOn r (now (cells .exit))
+        ≡ turnAct (framesOf (now (frames .entry))) who v item (now (variables .entry)) used
+        (now (cells .entry)) ⌝ }
 {
     if v.items == 0 {
         return comes_to(Fate::Leaves, Change::End, used);

@@ -1,24 +1,21 @@
 // 13 and 14: a start with its arguments.
-use crate::view::View;
+use crate::evaluated::refused_by;
 use acts::act::Acted;
 use acts::act::Change;
 use acts::act::Fate;
-use acts::act::refused;
+use evaluator::Answered;
+use evaluator::Who;
 use evaluator::evaluation::evaluate;
-use evaluator::operation::Answered;
-use evaluator::operation::Who;
 use evaluator::word::value_word;
 use machine::value::Outcome;
 ghost use mathlib.Core.Path.{_≡_};
-ghost use Prim.Native.Nat.{_<_};
-ghost use lib.ListN.{length};
 ghost use Rattle.text.specs.Frames.{framesOf};
 ghost use Rattle.program.specs.Trees.{arguments, expressionAt};
-ghost use Rattle.machine.specs.Words.{valueWord};
-ghost use Rattle.turns.specs.Acts.{startWith, startsWith, startsIn, thenActs, Turns, TurnsOn, TurnWords};
+ghost use Rattle.evaluator.specs.Results.{CellWords, ValueWords, FrameWords};
+ghost use Rattle.turns.specs.Actions.{startWith, startOne, startTwo, afterValue, startAct, actOn};
 
 // Which module is started, and whether the starter waits.
-pub struct Request {
+pub(crate) struct Request {
     pub waits: bool,
     pub target: u8,
 }
@@ -36,60 +33,54 @@ fn starts_with(q: Request, used: usize, given: u64, first: u64, second: u64) -> 
     }
 }
 
-fn starts_one(q: Request, x: Answered, v: View) -> Acted
-    ensures { λ r. ⌜ Turns r v (λ th. thenActs (x .outcome) th (x .used) (λ w. startsWith q th (x .used) 1 (valueWord w) 0)) ⌝ }
+fn starts_one(q: Request, x: Answered) -> Acted
+    ensures { λ r. ⌜ r ≡ afterValue (x .outcome) (x .used) (startOne q (x .used)) ⌝ }
 {
     let o = x.outcome;
-    match o {
-        Outcome::Is(w) => starts_with(q, x.used, 1, value_word(w), 0),
-        Outcome::Foreign => refused(19, x.used),
-        Outcome::Spent => refused(17, x.used),
-        Outcome::Stuck => refused(20, x.used),
-    }
+    let Outcome::Is(w) = o else {
+        return refused_by(o, x.used);
+    };
+    starts_with(q, x.used, 1, value_word(w), 0)
 }
 
-fn starts_two(q: Request, first: u64, y: Answered, v: View) -> Acted
-    ensures { λ r. ⌜ Turns r v (λ th. thenActs (y .outcome) th (y .used) (λ w. startsWith q th (y .used) 2 first (valueWord w))) ⌝ }
+fn starts_two(q: Request, first: u64, y: Answered) -> Acted
+    ensures { λ r. ⌜ r ≡ afterValue (y .outcome) (y .used) (startTwo q first (y .used)) ⌝ }
 {
     let o = y.outcome;
-    match o {
-        Outcome::Is(w) => starts_with(q, y.used, 2, first, value_word(w)),
-        Outcome::Foreign => refused(19, y.used),
-        Outcome::Spent => refused(17, y.used),
-        Outcome::Stuck => refused(20, y.used),
-    }
+    let Outcome::Is(w) = o else {
+        return refused_by(o, y.used);
+    };
+    starts_with(q, y.used, 2, first, value_word(w))
 }
 
 // The arguments are frames a and b, where 0 is none: A, then B.
-pub fn starts(
+pub(crate) fn starts(
     frames: &[u64],
     who: Who,
     q: Request,
-    v: View,
     variables: &[u64],
     cells: &mut [u64],
     used: usize,
     a: u16,
     b: u16,
 ) -> Acted
-    requires { ⌜ TurnWords (now frames) v (now variables) used (now cells) × (a < length (now frames)) × (b < length (now frames)) ⌝ }
-    ensures { λ r. ⌜ TurnsOn r (now (cells .exit)) v (now (variables .entry)) (λ th. startsIn who q th used (now (cells .entry)) (arguments (λ j. expressionAt (framesOf (now (frames .entry))) j) a b)) ⌝ }
+    requires { ⌜ FrameWords (now frames) a × FrameWords (now frames) b
+        × ValueWords (now variables) × CellWords used (now cells) ⌝ }
+    ensures { λ r. ⌜ actOn r (now (cells .exit))
+        ≡ startAct who q (now (variables .entry)) used (now (cells .entry))
+        (arguments (expressionAt (framesOf (now (frames .entry)))) a b) ⌝ }
 {
     if a == 0 {
         return starts_with(q, used, 0, 0, 0);
     }
     let x = evaluate(frames, who, variables, cells, used, a as usize);
     if b == 0 {
-        return starts_one(q, x, v);
+        return starts_one(q, x);
     }
     let o = x.outcome;
-    match o {
-        Outcome::Is(w) => {
-            let y = evaluate(frames, who, variables, cells, x.used, b as usize);
-            starts_two(q, value_word(w), y, v)
-        },
-        Outcome::Foreign => refused(19, x.used),
-        Outcome::Spent => refused(17, x.used),
-        Outcome::Stuck => refused(20, x.used),
-    }
+    let Outcome::Is(w) = o else {
+        return refused_by(o, x.used);
+    };
+    let y = evaluate(frames, who, variables, cells, x.used, b as usize);
+    starts_two(q, value_word(w), y)
 }

@@ -13,20 +13,22 @@ use acts::act::Acted;
 use acts::act::Change;
 use acts::act::Fate;
 use acts::act::comes_to;
+use evaluator::Who;
 use evaluator::evaluation::evaluate;
 use evaluator::evaluation::store;
-use evaluator::operation::Who;
-use rules::node::StatementNode;
-use rules::node::statement_node;
+use program::node::StatementNode;
+use program::node::statement_node;
 use text::line::frame_of_word;
+ghost use mathlib.Core.Path.{_≡_};
 ghost use Prim.Native.Nat.{_<_};
 ghost use lib.ListN.{length};
 ghost use Rattle.text.specs.Frames.{framesOf};
 ghost use Rattle.program.specs.Trees.{statementAt};
-ghost use Rattle.turns.specs.Acts.{statementIn, TurnsOn, TurnWords};
+ghost use Rattle.turns.specs.Acts.{TurnWords};
+ghost use Rattle.turns.specs.Actions.{statementAct, actOn};
 
 // Statement i, on top of a continuation that no longer has it.
-pub fn act_statement(
+pub(crate) fn act_statement(
     frames: &[u64],
     who: Who,
     v: View,
@@ -36,25 +38,27 @@ pub fn act_statement(
     i: usize,
 ) -> Acted
     requires { ⌜ TurnWords (now frames) v (now variables) used (now cells) × (i < length (now frames)) ⌝ }
-    ensures { λ r. ⌜ TurnsOn r (now (cells .exit)) v (now (variables .entry)) (λ th. statementIn who th used (now (cells .entry)) (statementAt (framesOf (now (frames .entry))) i)) ⌝ }
+    ensures { λ r. ⌜ actOn r (now (cells .exit))
+        ≡ statementAct who v (now (variables .entry)) used (now (cells .entry))
+        (statementAt (framesOf (now (frames .entry))) i) ⌝ }
 {
     match statement_node(frame_of_word(frames[i])) {
         StatementNode::Nothing => comes_to(Fate::Stays, Change::Same, used),
         StatementNode::Seq(a, b) => stays_with_two(v, used, a as u64, b as u64),
-        StatementNode::DoAt(q, a) => does_at(v, used, q as u64, a as u64),
+        StatementNode::DoAt(q, a) => does_at(v, used, q, a as u64),
         StatementNode::Start(m, a, b) => {
             let q = Request {
                 waits: false,
                 target: m,
             };
-            starts(frames, who, q, v, variables, cells, used, a, b)
+            starts(frames, who, q, variables, cells, used, a, b)
         },
         StatementNode::StartWait(m, a, b) => {
             let q = Request {
                 waits: true,
                 target: m,
             };
-            starts(frames, who, q, v, variables, cells, used, a, b)
+            starts(frames, who, q, variables, cells, used, a, b)
         },
         StatementNode::Cooperate => cooperates(v, used),
         StatementNode::LetIn(a, b) => {
@@ -63,7 +67,7 @@ pub fn act_statement(
         },
         StatementNode::Store(a, b) => {
             let x = store(frames, who, variables, cells, used, a as usize, b as usize);
-            stores_after(x, v)
+            stores_after(x)
         },
         StatementNode::IfElse(a, b, c) => {
             let x = evaluate(frames, who, variables, cells, used, a as usize);

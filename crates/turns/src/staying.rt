@@ -5,10 +5,11 @@ use acts::act::Change;
 use acts::act::Fate;
 use acts::act::comes_to;
 use acts::act::refused;
-ghost use Rattle.turns.specs.Acts.{oneIn, twoIn, letsIn, dropsIn, Turns};
+ghost use mathlib.Core.Path.{_≡_};
+ghost use Rattle.turns.specs.Actions.{oneMore, twoMore, letMore, dropOne};
 
-pub fn stays_with(v: View, used: usize, item: u64) -> Acted
-    ensures { λ r. ⌜ Turns r v (λ th. oneIn th used item) ⌝ }
+pub(crate) fn stays_with(v: View, used: usize, item: u64) -> Acted
+    ensures { λ r. ⌜ r ≡ oneMore v used item ⌝ }
 {
     if 25 <= v.items {
         return refused(20, used);
@@ -16,8 +17,8 @@ pub fn stays_with(v: View, used: usize, item: u64) -> Acted
     comes_to(Fate::Stays, Change::Item(item), used)
 }
 
-pub fn stays_with_two(v: View, used: usize, top: u64, below: u64) -> Acted
-    ensures { λ r. ⌜ Turns r v (λ th. twoIn th used top below) ⌝ }
+pub(crate) fn stays_with_two(v: View, used: usize, top: u64, below: u64) -> Acted
+    ensures { λ r. ⌜ r ≡ twoMore v used top below ⌝ }
 {
     if 24 <= v.items {
         return refused(20, used);
@@ -26,8 +27,8 @@ pub fn stays_with_two(v: View, used: usize, top: u64, below: u64) -> Acted
 }
 
 // 16: one variable more, and the body above a drop of it.
-pub fn lets(v: View, used: usize, value: u64, body: u64) -> Acted
-    ensures { λ r. ⌜ Turns r v (λ th. letsIn th used value body) ⌝ }
+pub(crate) fn lets(v: View, used: usize, value: u64, body: u64) -> Acted
+    ensures { λ r. ⌜ r ≡ letMore v used value body ⌝ }
 {
     if 25 <= v.values {
         return refused(20, used);
@@ -39,8 +40,8 @@ pub fn lets(v: View, used: usize, value: u64, body: u64) -> Acted
 }
 
 // A drop of the last variable.
-pub fn drops(v: View, used: usize) -> Acted
-    ensures { λ r. ⌜ Turns r v (λ th. dropsIn th used) ⌝ }
+pub(crate) fn drops(v: View, used: usize) -> Acted
+    ensures { λ r. ⌜ r ≡ dropOne v used ⌝ }
 {
     if v.values == 0 {
         return refused(20, used);

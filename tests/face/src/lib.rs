@@ -29,14 +29,21 @@ pub fn listing_length() -> usize {
     unsafe { purkvaldi_listing_length() }
 }
 
-/// The listing of a run of the bytes of a choices.txt, in the first bytes of `out`; where a buffer has another length than it needs,
-/// the answer: the text's refusal 1 to 7, else 14.
+/// What a listing gives: the text's refusal 1 to 7, else 14 where a buffer has another length than the listing needs, else 0; and
+/// the bytes that were written.
+#[derive(Clone, Copy, PartialEq, Eq, Debug)]
+pub struct Listing<'o> {
+    pub answer: Answer,
+    pub bytes: &'o [u8],
+}
+
+/// The listing of a run of the bytes of a choices.txt, in the first bytes of `out`.
 pub fn run<'o>(
     text: &[u8],
     choices: &[u8],
     state: &mut [u64],
     out: &'o mut [u8],
-) -> Result<&'o [u8], Answer> {
+) -> Listing<'o> {
     let result = unsafe {
         purkvaldi_run(
             text.as_ptr(),
@@ -49,11 +56,9 @@ pub fn run<'o>(
             out.len(),
         )
     };
-    let answer = Answer::of_code((result >> 32) as u32);
-    if answer.number == 0 {
-        Ok(&out[..result as u32 as usize])
-    } else {
-        Err(answer)
+    Listing {
+        answer: Answer::of_code((result >> 32) as u32),
+        bytes: &out[..result as u32 as usize],
     }
 }
 

@@ -1,5 +1,6 @@
-//! The wrapper tried on wrong lengths, empty buffers and garbage states.
-use face::Answer;
+//! The wrapper tried on wrong lengths, empty buffers and garbage states; demand 3 tried on the accepted vectors.
+use face::{Answer, Listing};
+use std::path::Path;
 
 const THREE: &[u8] = b"0001000000010000\n1000000000000000\n0200000100000000\n";
 
@@ -67,7 +68,10 @@ fn a_listing_is_that_of_the_second_program() {
         let theirs = second::listing::run(THREE, choices);
         assert_eq!(
             face::run(THREE, choices, &mut state, &mut out),
-            Ok(&theirs[..])
+            Listing {
+                answer: answer(0, 0),
+                bytes: &theirs,
+            }
         );
     }
 }
@@ -87,15 +91,22 @@ fn a_listing_in_a_buffer_of_another_length_is_refused() {
         let mut state = vec![3; words];
         let mut out = vec![7; bytes];
         let refused = face::run(THREE, b"02\n", &mut state, &mut out);
-        assert_eq!(refused, Err(answer(14, 0)));
+        assert_eq!(
+            refused,
+            Listing {
+                answer: answer(14, 0),
+                bytes: b"",
+            }
+        );
         assert_eq!(out, vec![7; bytes]);
         assert_eq!(state, vec![3; words]);
     }
 }
 
-/// 14 comes 'after 1 to 7'.
+/// 14 comes 'after 1 to 7': the answer is the text's refusal whatever the lengths, and its line is written where `out` has its length.
 #[test]
 fn a_text_refused_with_1_to_7_comes_before_the_buffers() {
+    let length = face::listing_length();
     for (text, number, frame) in [
         (&b""[..], 1, 0),
         (&THREE[..20], 3, 1),
@@ -103,20 +114,78 @@ fn a_text_refused_with_1_to_7_comes_before_the_buffers() {
     ] {
         let line = format!("{number:02X} {frame:04X}\n");
         for words in [0, 4817, 4818] {
-            let mut state = vec![3; words];
-            let mut out = vec![7; face::listing_length()];
-            assert_eq!(
-                face::run(text, b"02\n", &mut state, &mut out),
-                Ok(line.as_bytes())
-            );
-            assert_eq!(state, vec![3; words]);
-            let mut out = vec![7; 8];
-            assert_eq!(
-                face::run(text, b"02\n", &mut state, &mut out),
-                Err(answer(number, frame))
-            );
-            assert_eq!(state, vec![3; words]);
-            assert_eq!(out, vec![7; 8]);
+            for (bytes, written) in [(length, line.as_bytes()), (8, b""), (length - 1, b"")] {
+                let mut state = vec![3; words];
+                let mut out = vec![7; bytes];
+                assert_eq!(
+                    face::run(text, b"02\n", &mut state, &mut out),
+                    Listing {
+                        answer: answer(number, frame),
+                        bytes: written,
+                    }
+                );
+                assert_eq!(state, vec![3; words]);
+                assert!(out[written.len()..].iter().all(|b| *b == 7));
+            }
         }
     }
+}
+
+/// A file of the repository; an absent one reads as empty.
+fn read(path: &str) -> Vec<u8> {
+    let root = Path::new(env!("CARGO_MANIFEST_DIR")).join("../..");
+    std::fs::read(root.join(path)).unwrap_or_default()
+}
+
+/// The numbers of the answers of these choices, each a call of `step`, from the fresh state on.
+fn numbers(text: &[u8], choices: impl Iterator<Item = u8>) -> Vec<u8> {
+    let mut state = vec![0; face::state_length()];
+    assert_eq!(face::fresh(text, &mut state), answer(0, 0));
+    choices
+        .map(|choice| face::step(text, &mut state, u64::from(choice)).number)
+        .collect()
+}
+
+/// 500 choices of 0 to 255, the same for every text.
+fn any_choices() -> impl Iterator<Item = u8> {
+    let mut random = 1u32;
+    std::iter::repeat_with(move || {
+        random = random.wrapping_mul(1_664_525).wrapping_add(1_013_904_223);
+        (random >> 24) as u8
+    })
+    .take(500)
+}
+
+/// Demand 3 as a trial: on an accepted text no call is 14, foreign (19) or stuck (20).
+#[test]
+fn accepted_vectors_are_never_14_19_or_20() {
+    let mut texts = 0;
+    for vector in 0..1000 {
+        let folder = format!("tests/vectors/{vector:03}");
+        if read(&format!("{folder}/check.txt")) != b"00 0000\n" {
+            continue;
+        }
+        texts += 1;
+        let text = read(&format!("{folder}/prog.txt"));
+        let own = second::text::choices(&read(&format!("{folder}/choices.txt")));
+        let own = own.unwrap_or_default();
+        for number in [
+            numbers(&text, own.into_iter()),
+            numbers(&text, any_choices()),
+        ]
+        .concat()
+        {
+            assert!(![14, 19, 20].contains(&number), "{folder}: {number}");
+        }
+    }
+    assert!(texts > 50, "only {texts} accepted vectors were found");
+}
+
+/// The trial can fail: case R, which the check refuses, is foreign.
+#[test]
+fn case_r_is_foreign() {
+    let text = read("examples/r/prog.txt");
+    let choices = second::text::choices(&read("examples/r/choices.txt"));
+    let choices = choices.unwrap_or_default();
+    assert!(numbers(&text, choices.into_iter()).contains(&19));
 }

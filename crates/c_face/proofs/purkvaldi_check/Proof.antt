@@ -1,6 +1,6 @@
 -- `purkvaldi_check` meets its contract. Assumes nothing.
 use borrow.Author.Needs.{needs}
-use Rattle.c_face.proofs.CodeLaws.{code-checked}
+use Rattle.c_face.proofs.CodeLaws.{code-checked, code-promised}
 use Rattle.c_face.proofs.purkvaldi_check.Statement.{statement}
 use Rattle.c_face.proofs.purkvaldi_check.Tie as tie
 
@@ -11,7 +11,7 @@ code-of-requires : tie.Need-code-of-requires
 code-of-requires c κs = search needs
 
 returns : tie.Need-returns
-returns c = search code-checked
+returns c = (search code-checked, search code-promised)
 
 pub purkvaldi-check-spec : {M : Type 1} → statement M
 purkvaldi-check-spec = tie.close (tie.spec check-requires code-of-requires returns)

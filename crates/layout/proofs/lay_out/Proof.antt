@@ -1,6 +1,7 @@
 -- `lay_out` meets its contract. Assumes nothing.
 use borrow.Author.Needs.{needs}
 use Rattle.layout.proofs.Answers.{lines-fit, lines-count, lines-some, lines-few, laid-laws}
+use Rattle.layout.proofs.Accepted.{judged-laws}
 use Rattle.layout.proofs.lay_out.Statement.{statement}
 use Rattle.layout.proofs.lay_out.Tie as tie
 
@@ -29,10 +30,10 @@ layout-of-requires : tie.Need-layout-of-requires
 layout-of-requires c κs = (search lines-some, search lines-few)
 
 returns : tie.Need-returns
-returns c = search laid-laws
+returns c = (search laid-laws, search judged-laws)
 
 returns-2 : tie.Need-returns-2
-returns-2 c = search laid-laws
+returns-2 c = (search laid-laws, search judged-laws)
 
 pub lay-out-spec : {M : Type 1} → statement M
 lay-out-spec =

@@ -98,7 +98,8 @@ fn step_times(text: &[u8]) -> (u128, u128, u128) {
             .unwrap()
     };
     let inside = best(&mut || {
-        assert!(face::run(text, &choices, &mut state, &mut out).is_ok());
+        let listing = face::run(text, &choices, &mut state, &mut out);
+        assert_eq!(listing.answer.number, 0);
     });
     let theirs = best(&mut || {
         std::hint::black_box(second::listing::run(text, &choices));

@@ -1,5 +1,5 @@
 -- `enter` meets its contract. Assumes nothing.
-use Rattle.commits.proofs.ChangeLaws.{entered}
+use Rattle.commits.proofs.ChangeLaws.{entered, back-fits}
 use borrow.Author.Needs.{needs}
 use Rattle.commits.proofs.change.enter.Statement.{statement}
 use Rattle.commits.proofs.change.enter.Tie as tie
@@ -17,7 +17,7 @@ slice-read-from : tie.Need-slice-read-from
 slice-read-from c = search needs
 
 add-push-two : tie.Need-add-push-two
-add-push-two c = search needs
+add-push-two c = record { fits = search back-fits }
 
 push-two-requires : tie.Need-push-two-requires
 push-two-requires c κs = search needs

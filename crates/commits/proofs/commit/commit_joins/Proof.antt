@@ -1,5 +1,6 @@
 -- `commit_joins` meets its contract. Assumes nothing.
 use Rattle.commits.proofs.CommitLaws.{joins-laws}
+use Rattle.commits.proofs.WritingLaws.{room-scheduler}
 use borrow.Author.Needs.{needs}
 use Rattle.commits.proofs.commit.commit_joins.Statement.{statement}
 use Rattle.commits.proofs.commit.commit_joins.Tie as tie
@@ -20,7 +21,7 @@ commit-leaves-requires : tie.Need-commit-leaves-requires
 commit-leaves-requires c κs = search needs
 
 join-requires : tie.Need-join-requires
-join-requires c κs = search needs
+join-requires c κs = (search needs, search room-scheduler)
 
 same-length-2 : tie.Need-same-length-2
 same-length-2 c = search needs

@@ -1,27 +1,30 @@
 -- `commit_start` meets its contract. Assumes nothing.
-use Rattle.commits.proofs.StartLaws.{start-laws, free-count}
-use Rattle.commits.proofs.ChangeLaws.{place-is}
 use borrow.Author.Needs.{needs}
+use Rattle.commits.proofs.StartLaws.{start-laws, free-count, free-scheduler}
+use Rattle.commits.proofs.ChangeLaws.{place-is}
 use Rattle.commits.proofs.start.commit_start.Statement.{statement}
 use Rattle.commits.proofs.start.commit_start.Tie as tie
 
 module-at-requires : tie.Need-module-at-requires
 module-at-requires c κs = search needs
 
-sub-place-after : tie.Need-sub-place-after
-sub-place-after c = search needs
+sub-known : tie.Need-sub-known
+sub-known c = search needs
 
-mul-place-after : tie.Need-mul-place-after
-mul-place-after c = search needs
+mul-known : tie.Need-mul-known
+mul-known c = search needs
 
-add-place-after : tie.Need-add-place-after
-add-place-after c = search needs
+add-known : tie.Need-add-known
+add-known c = search needs
 
-mul-place-after-2 : tie.Need-mul-place-after-2
-mul-place-after-2 c = search needs
+mul-known-2 : tie.Need-mul-known-2
+mul-known-2 c = search needs
 
-slice-read-place-after : tie.Need-slice-read-place-after
-slice-read-place-after c = search needs
+slice-read-known : tie.Need-slice-read-known
+slice-read-known c = search needs
+
+known-requires : tie.Need-known-requires
+known-requires c κs = search needs
 
 place-after-requires : tie.Need-place-after-requires
 place-after-requires c κs = search needs
@@ -39,7 +42,7 @@ returns : tie.Need-returns
 returns c = search start-laws
 
 start-requires : tie.Need-start-requires
-start-requires c κs = (search needs, search free-count, search place-is)
+start-requires c κs = (search needs, search free-count, search free-scheduler, search place-is)
 
 same-length-2 : tie.Need-same-length-2
 same-length-2 c = search needs
@@ -62,7 +65,13 @@ returns-3 c = search start-laws
 start-and-wait-requires : tie.Need-start-and-wait-requires
 start-and-wait-requires c κs =
     let tested = c .before .before .before .before .before in
-    (search needs, search (free-count, tested .before .obstacle .ensures, tested .if1 .left), search (place-is, tested .before .before .before .place-after .ensures))
+    let none = tested .before .obstacle .ensures in
+    let zero = tested .if1 .left in (
+      search needs,
+      search (free-count, none, zero),
+      search (free-scheduler, none, zero),
+      search place-is,
+    )
 
 same-length-4 : tie.Need-same-length-4
 same-length-4 c = search needs
@@ -75,11 +84,12 @@ commit-start-spec =
     tie.close
     (tie.spec
     module-at-requires
-    sub-place-after
-    mul-place-after
-    add-place-after
-    mul-place-after-2
-    slice-read-place-after
+    sub-known
+    mul-known
+    add-known
+    mul-known-2
+    slice-read-known
+    known-requires
     place-after-requires
     obstacle-requires
     clear-cells-requires

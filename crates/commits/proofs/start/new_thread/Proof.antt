@@ -1,8 +1,10 @@
 -- `new_thread` meets its contract. Assumes nothing.
-use mathlib.Core.Path.{refl}
+use borrow.Author.Needs.{needs}
+use Prim.Native.Nat.{ℕ}
+use mathlib.Core.Path.{ap}
 use Rattle.machine.specs.Blocks.{padded}
 use Rattle.machine.specs.Words.{tabulate}
-use borrow.Author.Needs.{needs}
+use Rattle.commits.specs.Commits.{newThread}
 use Rattle.commits.proofs.start.new_thread.Statement.{statement}
 use Rattle.commits.proofs.start.new_thread.Tie as tie
 
@@ -15,10 +17,18 @@ array-write-values c = search needs
 array-write-values-2 : tie.Need-array-write-values-2
 array-write-values-2 c = search needs
 
+word-requires : tie.Need-word-requires
+word-requires c κs = search needs
+
 returns : tie.Need-returns
 unfolding padded tabulate
-returns c = refl
+returns c =
+    let at = c .before .args in
+    let a = at .a in
+    ap (λ (p : ℕ). newThread p (a .given) (a .first) (a .second) (at .t) (at .body))
+    (c .word .ensures)
 
 pub new-thread-spec : {M : Type 1} → statement M
 new-thread-spec =
-    tie.close (tie.spec array-write-items array-write-values array-write-values-2 returns)
+    tie.close
+    (tie.spec array-write-items array-write-values array-write-values-2 word-requires returns)

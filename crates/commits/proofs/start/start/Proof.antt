@@ -37,7 +37,9 @@ returns c =
     let settles = makes .before .before .before .before in
     let counts = settles .before .before in
     let entry = counts .before .before .before in
-    started _ _ _ _ _ (entry .args .a) _ _ (entry .pre .2) (counts .thread-count .ensures) (makes .new-thread .ensures) _ _ (joins .join .ensures) (adds .add-thread .ensures) (settles .settle .ensures)
+    started _ _ _ _ _ (entry .args .a) _ _ (entry .pre .3) (counts .thread-count .ensures)
+    (makes .new-thread .ensures) _ _ (joins .join .ensures) (adds .add-thread .ensures)
+    (settles .settle .ensures)
 
 pub start-spec : {M : Type 1} → statement M
 start-spec =

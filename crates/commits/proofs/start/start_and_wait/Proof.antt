@@ -47,7 +47,9 @@ returns c =
     let settles = leaves .before .before .before .before in
     let counts = settles .before .before in
     let entry = counts .before .before .before in
-    waiting _ _ _ _ _ (entry .args .a) _ _ (entry .pre .2) (counts .thread-count .ensures) (makes .new-thread .ensures) _ _ _ _ (joins .join-both .ensures) (adds .add-thread .ensures) (leaves .leave .ensures) (settles .settle .ensures)
+    waiting _ _ _ _ _ (entry .args .a) _ _ (entry .pre .3) (counts .thread-count .ensures)
+    (makes .new-thread .ensures) _ _ _ _ (joins .join-both .ensures) (adds .add-thread .ensures)
+    (leaves .leave .ensures) (settles .settle .ensures)
 
 pub start-and-wait-spec : {M : Type 1} → statement M
 start-and-wait-spec =

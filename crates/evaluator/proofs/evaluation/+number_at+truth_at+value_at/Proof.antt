@@ -65,7 +65,7 @@ abbrev number-at-calls : ℕ → number-at-lts.Claims
 number-at-calls t = (node-at-reads.Asked, node-at-reads.Learnt, leaf-reads.Asked, leaf-reads.Learnt, answer-of-reads.Asked, answer-of-reads.Learnt, as-number-reads.Asked, as-number-reads.Learnt, value-at-below t, value-at.Post, then-use-reads.Asked, then-use-reads.Learnt, number-at-below t, number-at.Post, number-stops-reads.Asked, number-stops-reads.Learnt, operated-reads.Asked, operated-reads.Learnt, truth-at-below t, truth-at.Post, stops-reads.Asked, stops-reads.Learnt, branch-reads.Asked, branch-reads.Learnt, as-answer-reads.Asked, as-answer-reads.Learnt)
 
 number-at-node-at-requires : (t : ℕ) → number-at-lts.Need-node-at-requires (number-at-calls t) (number-at-at t) number-at.Post
-number-at-node-at-requires t c = λ κs. c .before .before .before .pre .1 .there
+number-at-node-at-requires t c = λ κs. c .before .before .before .pre .1
 
 number-at-enum-known-l : (t : ℕ) → number-at-lts.Need-enum-known-l (number-at-calls t) (number-at-at t) number-at.Post
 number-at-enum-known-l t c = search needs
@@ -203,7 +203,7 @@ abbrev truth-at-calls : ℕ → truth-at-lts.Claims
 truth-at-calls t = (node-at-reads.Asked, node-at-reads.Learnt, leaf-reads.Asked, leaf-reads.Learnt, answer-of-reads.Asked, answer-of-reads.Learnt, then-truth-reads.Asked, then-truth-reads.Learnt, value-at-below t, value-at.Post, then-use-reads.Asked, then-use-reads.Learnt, number-at-below t, number-at.Post, number-stops-reads.Asked, number-stops-reads.Learnt, as-answer-reads.Asked, as-answer-reads.Learnt, operated-reads.Asked, operated-reads.Learnt, truth-at-below t, truth-at.Post, stops-reads.Asked, stops-reads.Learnt, branch-reads.Asked, branch-reads.Learnt)
 
 truth-at-node-at-requires : (t : ℕ) → truth-at-lts.Need-node-at-requires (truth-at-calls t) (truth-at-at t) truth-at.Post
-truth-at-node-at-requires t c = λ κs. c .before .before .before .pre .1 .there
+truth-at-node-at-requires t c = λ κs. c .before .before .before .pre .1
 
 truth-at-enum-known-l : (t : ℕ) → truth-at-lts.Need-enum-known-l (truth-at-calls t) (truth-at-at t) truth-at.Post
 truth-at-enum-known-l t c = search needs
@@ -341,7 +341,7 @@ abbrev value-at-calls : ℕ → value-at-lts.Claims
 value-at-calls t = (node-at-reads.Asked, node-at-reads.Learnt, leaf-reads.Asked, leaf-reads.Learnt, answer-of-reads.Asked, answer-of-reads.Learnt, value-at-below t, value-at.Post, then-use-reads.Asked, then-use-reads.Learnt, number-at-below t, number-at.Post, number-stops-reads.Asked, number-stops-reads.Learnt, as-answer-reads.Asked, as-answer-reads.Learnt, operated-reads.Asked, operated-reads.Learnt, truth-at-below t, truth-at.Post, stops-reads.Asked, stops-reads.Learnt, branch-reads.Asked, branch-reads.Learnt)
 
 value-at-node-at-requires : (t : ℕ) → value-at-lts.Need-node-at-requires (value-at-calls t) (value-at-at t) value-at.Post
-value-at-node-at-requires t c = λ κs. c .before .before .before .pre .1 .there
+value-at-node-at-requires t c = λ κs. c .before .before .before .pre .1
 
 value-at-enum-known-l : (t : ℕ) → value-at-lts.Need-enum-known-l (value-at-calls t) (value-at-at t) value-at.Post
 value-at-enum-known-l t c = search needs

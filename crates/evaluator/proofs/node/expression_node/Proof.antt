@@ -1,5 +1,6 @@
 -- `expression_node` meets its contract. Assumes nothing.
 use borrow.Author.Needs.{needs}
+use Rattle.program.proofs.NodeLaws.{owner-named}
 use Rattle.evaluator.proofs.Nodes.{node-row}
 use Rattle.evaluator.proofs.node.expression_node.Statement.{statement}
 use Rattle.evaluator.proofs.node.expression_node.Tie as tie
@@ -18,6 +19,12 @@ enum-told-4 c = search needs
 
 enum-told-5 : tie.Need-enum-told-5
 enum-told-5 c = search needs
+
+cast-known : tie.Need-cast-known
+cast-known c = search needs
+
+known-requires : tie.Need-known-requires
+known-requires c κs = search owner-named
 
 index16-requires : tie.Need-index16-requires
 index16-requires c κs = search needs
@@ -94,6 +101,8 @@ expression-node-spec =
     enum-told-3
     enum-told-4
     enum-told-5
+    cast-known
+    known-requires
     index16-requires
     enum-told-6
     index16-requires-2

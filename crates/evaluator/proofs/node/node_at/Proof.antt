@@ -1,6 +1,6 @@
 -- `node_at` meets its contract. Assumes nothing.
 use borrow.Author.Needs.{needs}
-use Rattle.evaluator.proofs.Nodes.{node-read}
+use Rattle.evaluator.proofs.Nodes.{node-read, frame-named}
 use Rattle.evaluator.proofs.node.node_at.Statement.{statement}
 use Rattle.evaluator.proofs.node.node_at.Tie as tie
 
@@ -14,7 +14,7 @@ frame-of-word-requires : tie.Need-frame-of-word-requires
 frame-of-word-requires c κs = search needs
 
 node-of-requires : tie.Need-node-of-requires
-node-of-requires c κs = search needs
+node-of-requires c κs = search frame-named
 
 returns : tie.Need-returns
 returns c = search (node-read, needs)

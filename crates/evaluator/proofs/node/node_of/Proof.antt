@@ -1,5 +1,6 @@
 -- `node_of` meets its contract. Assumes nothing.
 use borrow.Author.Needs.{needs}
+use Rattle.program.proofs.NodeLaws.{expression-named}
 use Rattle.evaluator.proofs.Nodes.{node-kind}
 use Rattle.evaluator.proofs.node.node_of.Statement.{statement}
 use Rattle.evaluator.proofs.node.node_of.Tie as tie
@@ -8,7 +9,7 @@ enum-known-k : tie.Need-enum-known-k
 enum-known-k c = search needs
 
 expression-node-requires : tie.Need-expression-node-requires
-expression-node-requires c κs = search needs
+expression-node-requires c κs = search expression-named
 
 enum-told : tie.Need-enum-told
 enum-told c = search needs

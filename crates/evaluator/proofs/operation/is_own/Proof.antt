@@ -13,17 +13,14 @@ add-if1 c = search needs
 returns : tie.Need-returns
 returns c = search own-laws
 
-number-requires : tie.Need-number-requires
-number-requires c κs = search needs
+word-requires : tie.Need-word-requires
+word-requires c κs = search needs
 
-number-requires-2 : tie.Need-number-requires-2
-number-requires-2 c κs = search needs
+word-requires-2 : tie.Need-word-requires-2
+word-requires-2 c κs = search needs
 
 returns-2 : tie.Need-returns-2
 returns-2 c = search own-laws
-
-wide8-requires-2 : tie.Need-wide8-requires-2
-wide8-requires-2 c κs = search needs
 
 returns-3 : tie.Need-returns-3
 returns-3 c = search own-laws
@@ -31,12 +28,4 @@ returns-3 c = search own-laws
 pub is-own-spec : {M : Type 1} → statement M
 is-own-spec =
     tie.close
-    (tie.spec
-    wide8-requires
-    add-if1
-    returns
-    number-requires
-    number-requires-2
-    returns-2
-    wide8-requires-2
-    returns-3)
+    (tie.spec wide8-requires add-if1 returns word-requires word-requires-2 returns-2 returns-3)

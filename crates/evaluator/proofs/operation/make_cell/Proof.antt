@@ -16,17 +16,14 @@ is-own-requires c κs = search needs
 cell-word-requires : tie.Need-cell-word-requires
 cell-word-requires c κs = search needs
 
-mul-cells : tie.Need-mul-cells
-mul-cells c = search needs
+put-word-requires : tie.Need-put-word-requires
+put-word-requires c κs = search needs
 
-slice-write-cells : tie.Need-slice-write-cells
-slice-write-cells c = search needs
+cast-t14 : tie.Need-cast-t14
+cast-t14 c = search needs
 
-cast-t15 : tie.Need-cast-t15
-cast-t15 c = search needs
-
-add-t13 : tie.Need-add-t13
-add-t13 c = search needs
+add-t17 : tie.Need-add-t17
+add-t17 c = search needs
 
 same-length : tie.Need-same-length
 same-length c = search needs
@@ -40,9 +37,6 @@ returns-2 c = search make-laws
 returns-3 : tie.Need-returns-3
 returns-3 c = search make-laws
 
-returns-4 : tie.Need-returns-4
-returns-4 c = search make-laws
-
 pub make-cell-spec : {M : Type 1} → statement M
 make-cell-spec =
     tie.close
@@ -51,12 +45,10 @@ make-cell-spec =
     wide16-requires
     is-own-requires
     cell-word-requires
-    mul-cells
-    slice-write-cells
-    cast-t15
-    add-t13
+    put-word-requires
+    cast-t14
+    add-t17
     same-length
     returns
     returns-2
-    returns-3
-    returns-4)
+    returns-3)

@@ -1,16 +1,26 @@
 -- `Place::new` meets its contract. Assumes nothing.
+use borrow.Author.Needs.{needs}
 use Rattle.language.proofs.PlaceLaws.{place-laws}
 use Rattle.language.proofs.Place.new.Statement.{statement}
 use Rattle.language.proofs.Place.new.Tie as tie
 
+cast-if1 : tie.Need-cast-if1
+cast-if1 c = search needs
+
 returns : tie.Need-returns
 returns c = search place-laws
 
+cast-if2 : tie.Need-cast-if2
+cast-if2 c = search needs
+
 returns-2 : tie.Need-returns-2
 returns-2 c = search place-laws
+
+cast-t5 : tie.Need-cast-t5
+cast-t5 c = search needs
 
 returns-3 : tie.Need-returns-3
 returns-3 c = search place-laws
 
 pub new-spec : {M : Type 1} → statement M
-new-spec = tie.close (tie.spec returns returns-2 returns-3)
+new-spec = tie.close (tie.spec cast-if1 returns cast-if2 returns-2 cast-t5 returns-3)

@@ -1,11 +1,8 @@
 -- `judge` meets its contract. Assumes nothing.
 use borrow.Author.Needs.{needs}
 use Prim.Native.Nat.{_+_, _-_}
-use mathlib.Core.Path.{refl}
 use lib.ListN.{length}
 use native.Mathlib.Omega.{arith}
-use Rattle.basics.specs.If.{if_then_else_}
-use Rattle.text.specs.Digits.{digit}
 use Rattle.listing.proofs.ChoiceLaws.{Judging, judging-start, judging-more, judged-over, judged-short, judged-first, judged-second, judged-feed, judged-all}
 use Rattle.listing.proofs.choices.judge.Statement.{statement}
 use Rattle.listing.proofs.choices.judge.Tie as tie
@@ -19,9 +16,11 @@ abbrev μ-loop : tie.MeasureT-loop
 returns : tie.Need-returns Inv-loop μ-loop
 returns c = search judged-over
 
+digit-table-requires : tie.Need-digit-table-requires Inv-loop μ-loop
+digit-table-requires c κs = search needs
+
 loop-holds : tie.Need-loop-holds Inv-loop μ-loop
-unfolding digit if_then_else_
-loop-holds c = judging-start _ _ (search needs) refl
+loop-holds c = search judging-start
 
 add-if2 : tie.Need-add-if2 Inv-loop μ-loop
 add-if2 c = search needs
@@ -33,13 +32,13 @@ shared-slice-read-if3 : tie.Need-shared-slice-read-if3 Inv-loop μ-loop
 shared-slice-read-if3 c = search needs
 
 cast-if3 : tie.Need-cast-if3 Inv-loop μ-loop
-cast-if3 c = omega (arith, c .shared-slice-known .given (c .before .before .before .loop .at))
+cast-if3 c = omega (arith, c .shared-slice-known2 .given (c .before .before .before .loop .at))
 
 array-read-if3 : tie.Need-array-read-if3 Inv-loop μ-loop
-array-read-if3 c = omega (arith, c .shared-slice-known .given (c .before .before .before .loop .at))
+array-read-if3 c = omega (arith, c .shared-slice-known2 .given (c .before .before .before .loop .at))
 
 returns-3 : tie.Need-returns-3 Inv-loop μ-loop
-returns-3 c = search (judged-first, c .before .shared-slice-known .given (c .before .before .before .before .loop .at) .fits)
+returns-3 c = search (judged-first, c .before .shared-slice-known2 .given (c .before .before .before .before .loop .at) .fits)
 
 add-if4 : tie.Need-add-if4 Inv-loop μ-loop
 add-if4 c = search needs
@@ -48,13 +47,13 @@ shared-slice-read-if4 : tie.Need-shared-slice-read-if4 Inv-loop μ-loop
 shared-slice-read-if4 c = search needs
 
 cast-if4 : tie.Need-cast-if4 Inv-loop μ-loop
-cast-if4 c = omega (arith, c .shared-slice-known2 .given (c .before .before .before .before .before .loop .at + 1))
+cast-if4 c = omega (arith, c .shared-slice-known3 .given (c .before .before .before .before .before .loop .at + 1))
 
 array-read-if4 : tie.Need-array-read-if4 Inv-loop μ-loop
-array-read-if4 c = omega (arith, c .shared-slice-known2 .given (c .before .before .before .before .before .loop .at + 1))
+array-read-if4 c = omega (arith, c .shared-slice-known3 .given (c .before .before .before .before .before .loop .at + 1))
 
 returns-4 : tie.Need-returns-4 Inv-loop μ-loop
-returns-4 c = search (judged-second, c .before .before .before .shared-slice-known .given (c .before .before .before .before .before .before .loop .at) .fits, c .before .shared-slice-known2 .given (c .before .before .before .before .before .before .loop .at + 1) .fits)
+returns-4 c = search (judged-second, c .before .before .before .shared-slice-known2 .given (c .before .before .before .before .before .before .loop .at) .fits, c .before .shared-slice-known3 .given (c .before .before .before .before .before .before .loop .at + 1) .fits)
 
 add-if5 : tie.Need-add-if5 Inv-loop μ-loop
 add-if5 c = search needs
@@ -63,7 +62,7 @@ shared-slice-read-if5 : tie.Need-shared-slice-read-if5 Inv-loop μ-loop
 shared-slice-read-if5 c = search needs
 
 returns-5 : tie.Need-returns-5 Inv-loop μ-loop
-returns-5 c = search (judged-feed, c .before .before .before .before .before .shared-slice-known .given (c .before .before .before .before .before .before .before .before .loop .at) .fits, c .before .before .before .shared-slice-known2 .given (c .before .before .before .before .before .before .before .before .loop .at + 1) .fits)
+returns-5 c = search (judged-feed, c .before .before .before .before .before .shared-slice-known2 .given (c .before .before .before .before .before .before .before .before .loop .at) .fits, c .before .before .before .shared-slice-known3 .given (c .before .before .before .before .before .before .before .before .loop .at + 1) .fits)
 
 add-at : tie.Need-add-at Inv-loop μ-loop
 add-at c = search needs
@@ -75,7 +74,7 @@ loop-less : tie.Need-loop-less Inv-loop μ-loop
 loop-less c = search needs
 
 loop-again : tie.Need-loop-again Inv-loop μ-loop
-loop-again c = search (judging-more, c .before .before .before .before .before .shared-slice-known .given (c .before .before .before .before .before .before .before .before .loop .at) .fits, c .before .before .before .shared-slice-known2 .given (c .before .before .before .before .before .before .before .before .loop .at + 1) .fits)
+loop-again c = search (judging-more, c .before .before .before .before .before .shared-slice-known2 .given (c .before .before .before .before .before .before .before .before .loop .at) .fits, c .before .before .before .shared-slice-known3 .given (c .before .before .before .before .before .before .before .before .loop .at + 1) .fits)
 
 cast-t20 : tie.Need-cast-t20 Inv-loop μ-loop
 cast-t20 c = search needs
@@ -90,6 +89,7 @@ judge-spec =
     Inv-loop
     μ-loop
     returns
+    digit-table-requires
     loop-holds
     add-if2
     returns-2

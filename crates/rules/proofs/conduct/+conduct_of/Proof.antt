@@ -2,6 +2,7 @@
 use mathlib.Core.Path.{_≡_}
 use lib.ListN.{length}
 use borrow.Author.Needs.{needs}
+use Rattle.rules.proofs.FineFrames.{names-place}
 use Rattle.rules.proofs.DescentLaws.{seq-a-falls, seq-a-in, seq-a-room, seq-b-falls, seq-b-in, seq-b-room, do-a-falls, do-a-in, do-a-room, let-a-in, let-b-falls, let-b-in, let-b-room, let-fits, let-adds, store-a-in, store-b-in, if-a-in, if-b-falls, if-b-in, if-b-room, if-c-falls, if-c-in, if-c-room, while-a-in, while-b-falls, while-b-in, while-b-room, start-first, start-second, wait-first, wait-second, room-fits}
 use Rattle.rules.proofs.ConductLaws.{run-nothing, run-cooperate, run-seq, run-do, run-start, run-wait, run-let-fault, run-let, run-store, run-if, run-while}
 use Prim.Native.Nat.{ℕ, _<_}
@@ -15,7 +16,7 @@ use Rattle.rules.proofs.conduct.arguments_of.Reads as arguments-of-read
 use Rattle.rules.proofs.conduct.extended.Reads as extended-reads
 use Rattle.rules.proofs.conduct.is_linked.Reads as is-linked-reads
 use Rattle.rules.proofs.conduct.type_in.Reads as type-in-reads
-use Rattle.rules.proofs.node.statement_node.Reads as statement-node-reads
+use Rattle.program.proofs.node.statement_node.Reads as statement-node-reads
 use Rattle.rules.proofs.start.start_rule.Reads as start-rule-reads
 use Rattle.rules.proofs.statement.cooperate_rule.Reads as cooperate-rule-reads
 use Rattle.rules.proofs.statement.do_rule.Reads as do-rule-reads
@@ -52,7 +53,7 @@ conduct-of-frame-of-word-requires : (t : ℕ) → conduct-of-lts.Need-frame-of-w
 conduct-of-frame-of-word-requires t c = λ κs. search needs
 
 conduct-of-statement-node-requires : (t : ℕ) → conduct-of-lts.Need-statement-node-requires (conduct-of-calls t) (conduct-of-at t) conduct-of.Post
-conduct-of-statement-node-requires t c = λ κs. search needs
+conduct-of-statement-node-requires t c = λ κs. search names-place
 
 conduct-of-enum-told : (t : ℕ) → conduct-of-lts.Need-enum-told (conduct-of-calls t) (conduct-of-at t) conduct-of.Post
 conduct-of-enum-told t c = search needs

@@ -16,11 +16,8 @@ is-cell-requires c κs = search needs
 content-of-requires : tie.Need-content-of-requires
 content-of-requires c κs = search needs
 
-owner-of-requires : tie.Need-owner-of-requires
-owner-of-requires c κs = search needs
-
-with-owner-requires : tie.Need-with-owner-requires
-with-owner-requires c κs = search needs
+with-owner-of-requires : tie.Need-with-owner-of-requires
+with-owner-of-requires c κs = search needs
 
 returns : tie.Need-returns
 returns c = search content-laws
@@ -39,8 +36,7 @@ content-rule-spec =
     enum-known-x-2
     is-cell-requires
     content-of-requires
-    owner-of-requires
-    with-owner-requires
+    with-owner-of-requires
     returns
     returns-2
     returns-3)

@@ -4,20 +4,11 @@ use Rattle.rules.proofs.RuleLaws.{new-typed-laws}
 use Rattle.rules.proofs.expression.new_typed.Statement.{statement}
 use Rattle.rules.proofs.expression.new_typed.Tie as tie
 
-new-requires : tie.Need-new-requires
-new-requires c κs = search needs
-
-enum-told : tie.Need-enum-told
-enum-told c = search needs
-
-enum-known-owner : tie.Need-enum-known-owner
-enum-known-owner c = search needs
-
 cell-type-requires : tie.Need-cell-type-requires
 cell-type-requires c κs = search needs
 
-enum-told-2 : tie.Need-enum-told-2
-enum-told-2 c = search needs
+enum-told : tie.Need-enum-told
+enum-told c = search needs
 
 enum-known-w : tie.Need-enum-known-w
 enum-known-w c = search needs
@@ -43,18 +34,12 @@ returns-3 c = search new-typed-laws
 returns-4 : tie.Need-returns-4
 returns-4 c = search new-typed-laws
 
-returns-5 : tie.Need-returns-5
-returns-5 c = search new-typed-laws
-
 pub new-typed-spec : {M : Type 1} → statement M
 new-typed-spec =
     tie.close
     (tie.spec
-    new-requires
-    enum-told
-    enum-known-owner
     cell-type-requires
-    enum-told-2
+    enum-told
     enum-known-w
     is-private-requires
     returns
@@ -62,5 +47,4 @@ new-typed-spec =
     with-owner-requires
     returns-2
     returns-3
-    returns-4
-    returns-5)
+    returns-4)

@@ -29,7 +29,7 @@ add-result : tie.Need-add-result
 add-result c = search needs
 
 returns : tie.Need-returns
-returns c = search (word-of, needs)
+returns c = search word-of
 
 pub signature-word-spec : {M : Type 1} → statement M
 signature-word-spec =

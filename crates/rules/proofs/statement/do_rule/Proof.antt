@@ -10,8 +10,8 @@ enum-known-x c = search needs
 enum-known-x-2 : tie.Need-enum-known-x-2
 enum-known-x-2 c = search needs
 
-within-place-requires : tie.Need-within-place-requires
-within-place-requires c κs = search needs
+within-requires : tie.Need-within-requires
+within-requires c κs = search needs
 
 returns : tie.Need-returns
 returns c = search do-laws
@@ -22,8 +22,8 @@ none-requires c κs = search needs
 returns-2 : tie.Need-returns-2
 returns-2 c = search do-laws
 
-number-requires : tie.Need-number-requires
-number-requires c κs = search needs
+is-private-requires : tie.Need-is-private-requires
+is-private-requires c κs = search needs
 
 returns-3 : tie.Need-returns-3
 returns-3 c = search do-laws
@@ -43,11 +43,11 @@ do-rule-spec =
     (tie.spec
     enum-known-x
     enum-known-x-2
-    within-place-requires
+    within-requires
     returns
     none-requires
     returns-2
-    number-requires
+    is-private-requires
     returns-3
     none-requires-2
     returns-4

@@ -19,11 +19,8 @@ returns-2 c = search store-typed-laws
 joined-requires : tie.Need-joined-requires
 joined-requires c κs = search needs
 
-owner-of-requires : tie.Need-owner-of-requires
-owner-of-requires c κs = search needs
-
-with-owner-requires : tie.Need-with-owner-requires
-with-owner-requires c κs = search needs
+with-owner-of-requires : tie.Need-with-owner-of-requires
+with-owner-of-requires c κs = search needs
 
 returns-3 : tie.Need-returns-3
 returns-3 c = search store-typed-laws
@@ -37,6 +34,5 @@ store-typed-spec =
     content-of-requires
     returns-2
     joined-requires
-    owner-of-requires
-    with-owner-requires
+    with-owner-of-requires
     returns-3)

@@ -1,6 +1,6 @@
 -- `type_of`, the recursion, meets its contract: one law for each arm, and a child's number falls. Assumes nothing.
 use borrow.Author.Needs.{needs}
-use Rattle.rules.proofs.FineFrames.{owner-low, owner-high}
+use Rattle.rules.proofs.FineFrames.{names-place, owner-place}
 use Rattle.rules.proofs.TypingLaws.{type-number, type-truth, type-variable, type-shared, type-new, type-content, type-sum, type-less, type-choose}
 use Rattle.rules.proofs.DescentLaws.{new-a-falls, new-a-in, content-a-falls, content-a-in, sum-a-falls, sum-a-in, sum-b-falls, sum-b-in, less-a-falls, less-a-in, less-b-falls, less-b-in, choose-a-falls, choose-a-in, choose-b-falls, choose-b-in, choose-c-falls, choose-c-in}
 use Prim.Native.Nat.{ℕ, _<_}
@@ -15,7 +15,7 @@ use Rattle.rules.proofs.expression.content_rule.Reads as content-rule-r
 use Rattle.rules.proofs.expression.named_rule.Reads as named-rule-reads
 use Rattle.rules.proofs.expression.new_rule.Reads as new-rule-reads
 use Rattle.rules.proofs.expression.numbers_rule.Reads as numbers-rule-reads
-use Rattle.rules.proofs.node.expression_node.Reads as expression-node-reads
+use Rattle.program.proofs.node.expression_node.Reads as expression-node-reads
 use Rattle.text.proofs.line.frame_of_word.Reads as frame-of-word-reads
 use Rattle.rules.proofs.typing.+type_of.{statement}
 use Rattle.rules.proofs.typing.+type_of.Tie.{close}
@@ -44,7 +44,7 @@ type-of-frame-of-word-requires : (t : ℕ) → type-of-lts.Need-frame-of-word-re
 type-of-frame-of-word-requires t c = λ κs. search needs
 
 type-of-expression-node-requires : (t : ℕ) → type-of-lts.Need-expression-node-requires (type-of-calls t) (type-of-at t) type-of.Post
-type-of-expression-node-requires t c = λ κs. search needs
+type-of-expression-node-requires t c = λ κs. search names-place
 
 type-of-enum-told : (t : ℕ) → type-of-lts.Need-enum-told (type-of-calls t) (type-of-at t) type-of.Post
 type-of-enum-told t c = search needs
@@ -70,14 +70,14 @@ type-of-enum-known-s-2 t c = search needs
 type-of-named-rule-requires-2 : (t : ℕ) → type-of-lts.Need-named-rule-requires-2 (type-of-calls t) (type-of-at t) type-of.Post
 type-of-named-rule-requires-2 t c = λ κs. search needs
 
-type-of-enum-known-s-3 : (t : ℕ) → type-of-lts.Need-enum-known-s-3 (type-of-calls t) (type-of-at t) type-of.Post
-type-of-enum-known-s-3 t c = search needs
+type-of-enum-known-owner : (t : ℕ) → type-of-lts.Need-enum-known-owner (type-of-calls t) (type-of-at t) type-of.Post
+type-of-enum-known-owner t c = search needs
 
 type-of-type-of-requires : (t : ℕ) → type-of-lts.Need-type-of-requires (type-of-calls t) (type-of-at t) type-of.Post
 type-of-type-of-requires t c = λ κs. (search new-a-falls, search new-a-in)
 
 type-of-new-rule-requires : (t : ℕ) → type-of-lts.Need-new-rule-requires (type-of-calls t) (type-of-at t) type-of.Post
-type-of-new-rule-requires t c = λ κs. (search owner-low, search owner-high)
+type-of-new-rule-requires t c = λ κs. search owner-place
 
 type-of-enum-known-a : (t : ℕ) → type-of-lts.Need-enum-known-a (type-of-calls t) (type-of-at t) type-of.Post
 type-of-enum-known-a t c = search needs
@@ -170,7 +170,7 @@ pub +type-of-spec : {M : Type 1} → statement M
     (type-of-named-rule-requires t)
     (type-of-enum-known-s-2 t)
     (type-of-named-rule-requires-2 t)
-    (type-of-enum-known-s-3 t)
+    (type-of-enum-known-owner t)
     (type-of-type-of-requires t)
     (type-of-new-rule-requires t)
     (type-of-enum-known-a t)

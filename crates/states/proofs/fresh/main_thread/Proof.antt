@@ -12,17 +12,14 @@ use Rattle.states.proofs.fresh.main_thread.Tie as tie
 array-write-items : tie.Need-array-write-items
 array-write-items c = search needs
 
-number-requires : tie.Need-number-requires
-number-requires c κs = search needs
-
-cast-t8 : tie.Need-cast-t8
-cast-t8 c = search needs
+word-requires : tie.Need-word-requires
+word-requires c κs = search needs
 
 returns : tie.Need-returns
 unfolding padded tabulate
 returns c =
     let on : ℕ → ThreadWords = λ p. record { place = p; starter = 0; alive = 1; items = 1; continuation = padded 25 (c .before .args .body ∷ []); values = 0; variables = padded 25 [] } in
-    ap on (c .number .ensures)
+    ap on (c .word .ensures)
 
 pub main-thread-spec : {M : Type 1} → statement M
-main-thread-spec = tie.close (tie.spec array-write-items number-requires cast-t8 returns)
+main-thread-spec = tie.close (tie.spec array-write-items word-requires returns)

@@ -4,11 +4,8 @@ use Rattle.states.proofs.ListLaws.{last-laws}
 use Rattle.states.proofs.list.append.Statement.{statement}
 use Rattle.states.proofs.list.append.Tie as tie
 
-mul-at : tie.Need-mul-at
-mul-at c = search needs
-
-add-at : tie.Need-add-at
-add-at c = search needs
+next-list-requires : tie.Need-next-list-requires
+next-list-requires c κs = search needs
 
 mul-n : tie.Need-mul-n
 mul-n c = search needs
@@ -31,4 +28,4 @@ returns-2 c = search last-laws
 pub append-spec : {M : Type 1} → statement M
 append-spec =
     tie.close
-    (tie.spec mul-at add-at mul-n slice-read-n returns insert-requires same-length returns-2)
+    (tie.spec next-list-requires mul-n slice-read-n returns insert-requires same-length returns-2)

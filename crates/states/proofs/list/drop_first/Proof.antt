@@ -4,11 +4,8 @@ use Rattle.states.proofs.ListLaws.{first-laws}
 use Rattle.states.proofs.list.drop_first.Statement.{statement}
 use Rattle.states.proofs.list.drop_first.Tie as tie
 
-mul-at : tie.Need-mul-at
-mul-at c = search needs
-
-add-at : tie.Need-add-at
-add-at c = search needs
+active-list-requires : tie.Need-active-list-requires
+active-list-requires c κs = search needs
 
 mul-n : tie.Need-mul-n
 mul-n c = search needs
@@ -44,8 +41,7 @@ pub drop-first-spec : {M : Type 1} → statement M
 drop-first-spec =
     tie.close
     (tie.spec
-    mul-at
-    add-at
+    active-list-requires
     mul-n
     slice-read-n
     returns

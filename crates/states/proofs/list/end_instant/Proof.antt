@@ -1,23 +1,17 @@
 -- `end_instant` meets its contract. Assumes nothing.
 use borrow.Author.Needs.{needs}
-use Rattle.states.proofs.SortLaws.{instant-count, instant-words}
+use Rattle.states.proofs.SortLaws.{next-short, instant-count, instant-words}
 use Rattle.states.proofs.list.end_instant.Statement.{statement}
 use Rattle.states.proofs.list.end_instant.Tie as tie
 
-mul-next : tie.Need-mul-next
-mul-next c = search needs
-
-add-next : tie.Need-add-next
-add-next c = search needs
+next-list-requires : tie.Need-next-list-requires
+next-list-requires c κs = search needs
 
 sort-entries-requires : tie.Need-sort-entries-requires
-sort-entries-requires c κs = search needs
+sort-entries-requires c κs = (search needs, search needs, search needs, search next-short)
 
-mul-store-list : tie.Need-mul-store-list
-mul-store-list c = search needs
-
-add-store-list : tie.Need-add-store-list
-add-store-list c = search needs
+active-list-requires : tie.Need-active-list-requires
+active-list-requires c κs = search needs
 
 store-list-requires : tie.Need-store-list-requires
 store-list-requires c κs = search needs
@@ -35,11 +29,9 @@ pub end-instant-spec : {M : Type 1} → statement M
 end-instant-spec =
     tie.close
     (tie.spec
-    mul-next
-    add-next
+    next-list-requires
     sort-entries-requires
-    mul-store-list
-    add-store-list
+    active-list-requires
     store-list-requires
     store-list-requires-2
     same-length

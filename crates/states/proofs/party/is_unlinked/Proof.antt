@@ -7,14 +7,17 @@ use Rattle.states.proofs.party.is_unlinked.Tie as tie
 returns : tie.Need-returns
 returns c = search unlinked-laws
 
+sub-t : tie.Need-sub-t
+sub-t c = search needs
+
 shared-slice-read-if2 : tie.Need-shared-slice-read-if2
 shared-slice-read-if2 c = search needs
 
-sub-if2 : tie.Need-sub-if2
-sub-if2 c = search needs
-
 returns-2 : tie.Need-returns-2
 returns-2 c = search unlinked-laws
+
+sub-at : tie.Need-sub-at
+sub-at c = search needs
 
 mul-at : tie.Need-mul-at
 mul-at c = search needs
@@ -27,6 +30,9 @@ mul-if3 c = search needs
 
 shared-slice-read-if3 : tie.Need-shared-slice-read-if3
 shared-slice-read-if3 c = search needs
+
+word-requires : tie.Need-word-requires
+word-requires c κs = search needs
 
 returns-3 : tie.Need-returns-3
 returns-3 c = search unlinked-laws
@@ -48,13 +54,15 @@ is-unlinked-spec =
     tie.close
     (tie.spec
     returns
+    sub-t
     shared-slice-read-if2
-    sub-if2
     returns-2
+    sub-at
     mul-at
     add-at
     mul-if3
     shared-slice-read-if3
+    word-requires
     returns-3
     add-result
     mul-result

@@ -10,8 +10,8 @@ statement-at-requires c κs = search needs
 returns : tie.Need-returns
 returns c = search item-laws
 
-has-place-requires : tie.Need-has-place-requires
-has-place-requires c κs = search needs
+is-in-file-requires : tie.Need-is-in-file-requires
+is-in-file-requires c κs = search needs
 
 returns-2 : tie.Need-returns-2
 returns-2 c = search item-laws
@@ -21,4 +21,4 @@ returns-3 c = search item-laws
 
 pub item-in-range-spec : {M : Type 1} → statement M
 item-in-range-spec =
-    tie.close (tie.spec statement-at-requires returns has-place-requires returns-2 returns-3)
+    tie.close (tie.spec statement-at-requires returns is-in-file-requires returns-2 returns-3)

@@ -4,14 +4,14 @@ use Rattle.states.proofs.BlockLaws.{thread-laws}
 use Rattle.states.proofs.range.thread_words_in_range.Statement.{statement}
 use Rattle.states.proofs.range.thread_words_in_range.Tie as tie
 
-mul-has-place : tie.Need-mul-has-place
-mul-has-place c = search needs
+mul-is-in-file : tie.Need-mul-is-in-file
+mul-is-in-file c = search needs
 
-shared-slice-read-has-place : tie.Need-shared-slice-read-has-place
-shared-slice-read-has-place c = search needs
+shared-slice-read-is-in-file : tie.Need-shared-slice-read-is-in-file
+shared-slice-read-is-in-file c = search needs
 
-has-place-requires : tie.Need-has-place-requires
-has-place-requires c κs = search needs
+is-in-file-requires : tie.Need-is-in-file-requires
+is-in-file-requires c κs = search needs
 
 returns : tie.Need-returns
 returns c = search thread-laws
@@ -62,9 +62,9 @@ pub thread-words-in-range-spec : {M : Type 1} → statement M
 thread-words-in-range-spec =
     tie.close
     (tie.spec
-    mul-has-place
-    shared-slice-read-has-place
-    has-place-requires
+    mul-is-in-file
+    shared-slice-read-is-in-file
+    is-in-file-requires
     returns
     add-if2
     mul-if2

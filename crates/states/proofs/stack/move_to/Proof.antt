@@ -1,8 +1,11 @@
 -- `move_to` meets its contract. Assumes nothing.
-use Rattle.states.proofs.StackWords.{stack-laws}
 use borrow.Author.Needs.{needs}
+use Rattle.states.proofs.StackWords.{stack-laws}
 use Rattle.states.proofs.stack.move_to.Statement.{statement}
 use Rattle.states.proofs.stack.move_to.Tie as tie
+
+word-requires : tie.Need-word-requires
+word-requires c κs = search needs
 
 mul-state : tie.Need-mul-state
 mul-state c = search needs
@@ -24,4 +27,5 @@ returns c = search stack-laws
 
 pub move-to-spec : {M : Type 1} → statement M
 move-to-spec =
-    tie.close (tie.spec mul-state add-state mul-state-2 slice-write-state same-length returns)
+    tie.close
+    (tie.spec word-requires mul-state add-state mul-state-2 slice-write-state same-length returns)

@@ -18,14 +18,14 @@ mul-at c = let b = act-bounds (c .before .before .before .pre) in record { fits 
 add-at : tie.Need-add-at
 add-at c = let b = act-bounds (c .before .before .before .pre) in omega arith
 
-mul-standing-at : tie.Need-mul-standing-at
-mul-standing-at c = let b = act-bounds (c .before .before .before .pre) in record { fits = omega arith }
+mul-known : tie.Need-mul-known
+mul-known c = let b = act-bounds (c .before .before .before .pre) in record { fits = omega arith }
 
-slice-read-standing-at : tie.Need-slice-read-standing-at
-slice-read-standing-at c = let b = act-bounds (c .before .before .before .before .pre) in omega arith
+slice-read-known : tie.Need-slice-read-known
+slice-read-known c = let b = act-bounds (c .before .before .before .before .pre) in omega arith
 
-standing-at-requires : tie.Need-standing-at-requires
-standing-at-requires c κs = let p = c .before .before .before .before .pre in place-read _ _ _ (p .0) _ (p .1) (p .2) _ refl
+known-requires : tie.Need-known-requires
+known-requires c κs = let p = c .before .before .before .before .pre in place-read _ _ _ (p .0) _ (p .1) (p .2) _ refl
 
 add-t16 : tie.Need-add-t16
 add-t16 c = let b = act-bounds (c .before .before .before .before .before .pre) in omega arith
@@ -70,13 +70,13 @@ part-act-end : tie.Need-part-act-end
 part-act-end c = search needs
 
 act-requires : tie.Need-act-requires
-act-requires c κs = let p = c .before .before .before .before .before .before .before .before .before .before .before .before .before .pre in act-asks _ _ _ (p .0) _ (p .1) (p .2) _ _ _ _ _ (record { place = sym (number-is _ _ (c .before .before .before .before .before .before .before .before .standing-at .ensures)); items = refl; values = refl }) (c .before .before .before .before .top-item .ensures) (variables-are _ _ _ (p .0) _ (p .1) (p .2) _ (c .before .before .load-variables .ensures)) refl refl
+act-requires c κs = let p = c .before .before .before .before .before .before .before .before .before .before .before .before .before .pre in act-asks _ _ _ (p .0) _ (p .1) (p .2) _ _ _ _ _ (record { place = sym (number-is _ _ (c .before .before .before .before .before .before .before .before .known .ensures)); items = refl; values = refl }) (c .before .before .before .before .top-item .ensures) (variables-are _ _ _ (p .0) _ (p .1) (p .2) _ (c .before .before .load-variables .ensures)) refl refl
 
 same-length : tie.Need-same-length
 same-length c = search needs
 
 returns : tie.Need-returns
-returns c = let p = c .before .before .before .before .before .before .before .before .before .before .before .before .before .before .before .before .pre in act-gives _ _ _ (p .0) _ (p .1) (p .2) _ _ _ _ _ (record { place = sym (number-is _ _ (c .before .before .before .before .before .before .before .before .before .before .before .standing-at .ensures)); items = refl; values = refl }) (c .before .before .before .before .before .before .before .top-item .ensures) (variables-are _ _ _ (p .0) _ (p .1) (p .2) _ (c .before .before .before .before .before .load-variables .ensures)) refl refl _ _ _ _ refl (c .before .before .act .ensures) (c .before .before .act .kept .1 .1 .1 .1 .1 .0) refl
+returns c = let p = c .before .before .before .before .before .before .before .before .before .before .before .before .before .before .before .before .pre in act-gives _ _ _ (p .0) _ (p .1) (p .2) _ _ _ _ _ (record { place = sym (number-is _ _ (c .before .before .before .before .before .before .before .before .before .before .before .known .ensures)); items = refl; values = refl }) (c .before .before .before .before .before .before .before .top-item .ensures) (variables-are _ _ _ (p .0) _ (p .1) (p .2) _ (c .before .before .before .before .before .load-variables .ensures)) refl refl _ _ _ _ refl (c .before .before .act .ensures) (c .before .before .act .kept .1 .1 .1 .1 .1 .0) refl
 
 pub act-in-spec : {M : Type 1} → statement M
-act-in-spec = tie.close (tie.spec slice-read-used sub-k mul-at add-at mul-standing-at slice-read-standing-at standing-at-requires add-t16 mul-t18 slice-read-t15 add-t20 mul-t21 slice-read-t23 cast-t24 top-item-requires load-variables-requires array-share-prefix-variables slice-aggregate-act sub-act part-act-start part-act-end act-requires same-length returns)
+act-in-spec = tie.close (tie.spec slice-read-used sub-k mul-at add-at mul-known slice-read-known known-requires add-t16 mul-t18 slice-read-t15 add-t20 mul-t21 slice-read-t23 cast-t24 top-item-requires load-variables-requires array-share-prefix-variables slice-aggregate-act sub-act part-act-start part-act-end act-requires same-length returns)

@@ -1,24 +1,24 @@
 -- `read_line` meets its contract. Assumes nothing.
-use mathlib.Core.Path.{_≡_, refl}
+use mathlib.Core.Path.{_≡_}
 use Prim.Native.Nat.{_≤_, _-_}
 use native.Mathlib.Omega.{arith}
 use borrow.Author.Needs.{needs}
-use Rattle.basics.specs.If.{if_then_else_}
-use Rattle.text.specs.Digits.{digit}
-use Rattle.text.proofs.Table.{digitsFrom}
+use Rattle.text.specs.Digits.{digitTable}
 use Rattle.text.proofs.LineLaws.{Taking, taking-start, table-wrong, table-more, times-fits, word-fits, line-laws}
 use Rattle.text.proofs.line.read_line.Statement.{statement}
 use Rattle.text.proofs.line.read_line.Tie as tie
 
 abbrev Inv-loop : tie.InvT-loop
-Inv-loop bytes digits w₀ k₀ w k = (k ≤ 16) × Taking bytes w k × (digits ≡ digitsFrom 0 256)
+Inv-loop bytes digits w₀ k₀ w k = (k ≤ 16) × Taking bytes w k × (digits ≡ digitTable)
 
 abbrev μ-loop : tie.MeasureT-loop
 μ-loop bytes digits w₀ k₀ w k = 16 - k
 
+digit-table-requires : tie.Need-digit-table-requires Inv-loop μ-loop
+digit-table-requires c κs = search needs
+
 loop-holds : tie.Need-loop-holds Inv-loop μ-loop
-unfolding digit if_then_else_
-loop-holds c = (search needs, taking-start _, refl)
+loop-holds c = (search needs, taking-start _, search needs)
 
 returns : tie.Need-returns Inv-loop μ-loop
 returns c = search line-laws
@@ -71,6 +71,7 @@ read-line-spec =
     (tie.spec
     Inv-loop
     μ-loop
+    digit-table-requires
     loop-holds
     returns
     shared-slice-read-d

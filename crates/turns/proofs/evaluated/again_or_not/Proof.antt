@@ -1,7 +1,6 @@
 -- `again_or_not` meets its contract. Assumes nothing.
 use borrow.Author.Needs.{needs}
-use Rattle.turns.proofs.ViewLaws.{stays-so}
-use Rattle.turns.proofs.ThenLaws.{truth-yes, truth-no, truth-number, truth-cell}
+use Rattle.turns.proofs.AfterRows.{truth-rows}
 use Rattle.turns.proofs.evaluated.again_or_not.Statement.{statement}
 use Rattle.turns.proofs.evaluated.again_or_not.Tie as tie
 
@@ -12,7 +11,7 @@ stays-with-two-requires : tie.Need-stays-with-two-requires
 stays-with-two-requires c κs = search needs
 
 returns : tie.Need-returns
-returns c = truth-yes _ _ _ _ _ _ _ (c .before .before .before .w .given .1) (c .before .if1 .taken) (c .stays-with-two .ensures)
+returns c = search truth-rows
 
 comes-to-requires : tie.Need-comes-to-requires
 comes-to-requires c κs = search needs
@@ -30,13 +29,13 @@ refused-requires-2 : tie.Need-refused-requires-2
 refused-requires-2 c κs = search needs
 
 returns-2 : tie.Need-returns-2
-returns-2 c = truth-no _ _ _ _ _ _ _ (c .before .before .before .w .given .1) (c .before .if1 .left) (stays-so _ _ _ (c .comes-to .ensures))
+returns-2 c = search truth-rows
 
 returns-3 : tie.Need-returns-3
-returns-3 c = truth-number _ _ _ _ _ _ _ (c .before .before .w2 .given .1) (c .refused .ensures)
+returns-3 c = search truth-rows
 
 returns-4 : tie.Need-returns-4
-returns-4 c = truth-cell _ _ _ _ _ _ _ (c .before .before .w3 .given .1) (c .refused2 .ensures)
+returns-4 c = search truth-rows
 
 pub again-or-not-spec : {M : Type 1} → statement M
 again-or-not-spec =

@@ -1,6 +1,6 @@
 -- `act` meets its contract. Assumes nothing.
 use borrow.Author.Needs.{needs}
-use Rattle.turns.proofs.ItemLaws.{below-words, turn-ends, turn-item}
+use Rattle.turns.proofs.ItemRows.{below-words, turn-ends, turn-item}
 use Rattle.turns.proofs.item.act.Statement.{statement}
 use Rattle.turns.proofs.item.act.Tie as tie
 
@@ -8,7 +8,7 @@ comes-to-requires : tie.Need-comes-to-requires
 comes-to-requires c κs = search needs
 
 returns : tie.Need-returns
-returns c = turn-ends _ _ _ _ _ _ _ _ (c .before .if1 .taken) (c .comes-to .ensures)
+returns c = search turn-ends
 
 sub-t13 : tie.Need-sub-t13
 sub-t13 c = search needs
@@ -16,13 +16,13 @@ sub-t13 c = search needs
 act-item-requires : tie.Need-act-item-requires
 act-item-requires c κs =
     let at = c .before .before .before .before .before .before .before .before in
-    (below-words _ _ _ _ _ (at .pre .0), at .pre .1)
+    (below-words _ _ _ _ _ (at .pre .0), at .pre .1, at .pre .2)
 
 same-length : tie.Need-same-length
 same-length c = search needs
 
 returns-2 : tie.Need-returns-2
-returns-2 c = turn-item _ _ _ _ _ _ _ _ _ (c .before .before .before .before .before .before .if1 .left) (c .before .before .act-item .ensures)
+returns-2 c = search turn-item
 
 pub act-spec : {M : Type 1} → statement M
 act-spec =

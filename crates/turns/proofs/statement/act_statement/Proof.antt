@@ -1,7 +1,7 @@
--- `act_statement` meets its contract. In a need, `at` is the function's entry, and `node` is where the statement's node has been read. Assumes nothing.
+-- `act_statement` meets its contract. In a need, `at` is the function's entry. Assumes nothing.
 use borrow.Author.Needs.{needs}
-use Rattle.turns.proofs.NodeLaws.{acts-nothing, acts-cooperate, acts-seq, acts-do, acts-start, acts-wait, acts-let, acts-store, acts-if, acts-while}
-use Rattle.turns.proofs.OperandLaws.{under-laws}
+use Rattle.turns.proofs.OperandLaws.{statement-named, under-laws}
+use Rattle.turns.proofs.StatementRows.{acts-nothing, acts-cooperate, acts-seq, acts-do, acts-start, acts-wait, acts-let, acts-store, acts-if, acts-while}
 use Rattle.turns.proofs.statement.act_statement.Statement.{statement}
 use Rattle.turns.proofs.statement.act_statement.Tie as tie
 
@@ -15,7 +15,9 @@ frame-of-word-requires : tie.Need-frame-of-word-requires
 frame-of-word-requires c κs = search needs
 
 statement-node-requires : tie.Need-statement-node-requires
-statement-node-requires c κs = search needs
+statement-node-requires c κs =
+    let at = c .before .before .before .before .before in
+    statement-named _ _ _ _ _ _ _ (c .frame-of-word .ensures) (at .pre .0) (at .pre .1)
 
 enum-told : tie.Need-enum-told
 enum-told c = search needs
@@ -41,9 +43,6 @@ enum-known-q c = search needs
 cast-does-at : tie.Need-cast-does-at
 cast-does-at c = search needs
 
-cast-does-at-2 : tie.Need-cast-does-at-2
-cast-does-at-2 c = search needs
-
 does-at-requires : tie.Need-does-at-requires
 does-at-requires c κs = search needs
 
@@ -51,13 +50,19 @@ enum-known-m : tie.Need-enum-known-m
 enum-known-m c = search needs
 
 starts-requires : tie.Need-starts-requires
-starts-requires c κs = (search needs, search under-laws, search under-laws)
+starts-requires c κs =
+    let at = c .before .before .before .before .before .before .before .before .before .before in
+    let words = at .pre .0 in
+    (search under-laws, search under-laws, words .variables, words .cells)
 
 enum-known-m-2 : tie.Need-enum-known-m-2
 enum-known-m-2 c = search needs
 
 starts-requires-2 : tie.Need-starts-requires-2
-starts-requires-2 c κs = (search needs, search under-laws, search under-laws)
+starts-requires-2 c κs =
+    let at = c .before .before .before .before .before .before .before .before .before .before in
+    let words = at .pre .0 in
+    (search under-laws, search under-laws, words .variables, words .cells)
 
 enum-told-2 : tie.Need-enum-told-2
 enum-told-2 c = search needs
@@ -75,7 +80,7 @@ evaluate-requires : tie.Need-evaluate-requires
 evaluate-requires c κs =
     let at = c .before .before .before .before .before .before .before .before .before .before in
     let words = at .pre .0 in
-    (record { ordered = words .ordered; there = search under-laws }, words .variables, words .cells)
+    (search under-laws, words .variables, words .cells)
 
 cast-lets-after : tie.Need-cast-lets-after
 cast-lets-after c = search needs
@@ -96,7 +101,7 @@ store-requires : tie.Need-store-requires
 store-requires c κs =
     let at = c .before .before .before .before .before .before .before .before .before .before in
     let words = at .pre .0 in
-    (record { ordered = words .ordered; there = search under-laws }, record { ordered = words .ordered; there = search under-laws }, words .variables, words .cells)
+    (search under-laws, search under-laws, words .variables, words .cells)
 
 stores-after-requires : tie.Need-stores-after-requires
 stores-after-requires c κs = search needs
@@ -111,7 +116,7 @@ evaluate-requires-2 : tie.Need-evaluate-requires-2
 evaluate-requires-2 c κs =
     let at = c .before .before .before .before .before .before .before .before .before .before in
     let words = at .pre .0 in
-    (record { ordered = words .ordered; there = search under-laws }, words .variables, words .cells)
+    (search under-laws, words .variables, words .cells)
 
 cast-chooses-after : tie.Need-cast-chooses-after
 cast-chooses-after c = search needs
@@ -132,7 +137,7 @@ evaluate-requires-3 : tie.Need-evaluate-requires-3
 evaluate-requires-3 c κs =
     let at = c .before .before .before .before .before .before .before .before .before .before in
     let words = at .pre .0 in
-    (record { ordered = words .ordered; there = search under-laws }, words .variables, words .cells)
+    (search under-laws, words .variables, words .cells)
 
 cast-loops-after : tie.Need-cast-loops-after
 cast-loops-after c = search needs
@@ -141,92 +146,52 @@ loops-after-requires : tie.Need-loops-after-requires
 loops-after-requires c κs = search needs
 
 returns : tie.Need-returns
-returns c =
-    let node = c .before .before .before in
-    let at = node .before .before .before .before .before .before in
-    acts-nothing _ _ _ _ _ _ _ _ _ (node .statement-node .ensures) (node .before .frame-of-word .ensures) (at .pre .0) (at .pre .1)
-    _ (c .before .enum-told .given .1) (c .comes-to .ensures)
+returns c = search acts-nothing
 
 returns-2 : tie.Need-returns-2
-returns-2 c =
-    let node = c .before .before .before .before in
-    let at = node .before .before .before .before .before .before in
-    acts-seq _ _ _ _ _ _ _ _ _ (node .statement-node .ensures) (node .before .frame-of-word .ensures) (at .pre .0) (at .pre .1)
-    _ _ _ (c .before .before .a .given .1) (c .stays-with-two .ensures)
+returns-2 c = search acts-seq
 
 returns-3 : tie.Need-returns-3
-returns-3 c =
-    let node = c .before .before .before .before in
-    let at = node .before .before .before .before .before .before in
-    acts-do _ _ _ _ _ _ _ _ _ (node .statement-node .ensures) (node .before .frame-of-word .ensures) (at .pre .0) (at .pre .1)
-    _ _ _ (c .before .before .q .given .1) (c .does-at .ensures)
+returns-3 c = search acts-do
 
 same-length : tie.Need-same-length
 same-length c = search needs
 
 returns-4 : tie.Need-returns-4
-returns-4 c =
-    let node = c .before .before .before .before .before .before .before in
-    let at = node .before .before .before .before .before .before in
-    acts-start _ _ _ _ _ _ _ _ _ (node .statement-node .ensures) (node .before .frame-of-word .ensures) (at .pre .0) (at .pre .1)
-    _ _ _ _ _ (c .before .before .before .before .before .m .given .1) (c .before .before .starts .ensures)
+returns-4 c = search acts-start
 
 same-length-2 : tie.Need-same-length-2
 same-length-2 c = search needs
 
 returns-5 : tie.Need-returns-5
-returns-5 c =
-    let node = c .before .before .before .before .before .before .before in
-    let at = node .before .before .before .before .before .before in
-    acts-wait _ _ _ _ _ _ _ _ _ (node .statement-node .ensures) (node .before .frame-of-word .ensures) (at .pre .0) (at .pre .1)
-    _ _ _ _ _ (c .before .before .before .before .before .m2 .given .1) (c .before .before .starts2 .ensures)
+returns-5 c = search acts-wait
 
 returns-6 : tie.Need-returns-6
-returns-6 c =
-    let node = c .before .before .before in
-    let at = node .before .before .before .before .before .before in
-    acts-cooperate _ _ _ _ _ _ _ _ _ (node .statement-node .ensures) (node .before .frame-of-word .ensures) (at .pre .0) (at .pre .1)
-    _ (c .before .enum-told2 .given .1) (c .cooperates .ensures)
+returns-6 c = search acts-cooperate
 
 same-length-3 : tie.Need-same-length-3
 same-length-3 c = search needs
 
 returns-7 : tie.Need-returns-7
-returns-7 c =
-    let node = c .before .before .before .before .before .before .before .before in
-    let at = node .before .before .before .before .before .before in
-    acts-let _ _ _ _ _ _ _ _ _ (node .statement-node .ensures) (node .before .frame-of-word .ensures) (at .pre .0) (at .pre .1)
-    _ _ _ _ _ (c .before .before .before .before .before .before .a2 .given .1) (c .before .before .before .evaluate .ensures) (c .lets-after .ensures)
+returns-7 c = search acts-let
 
 same-length-4 : tie.Need-same-length-4
 same-length-4 c = search needs
 
 returns-8 : tie.Need-returns-8
-returns-8 c =
-    let node = c .before .before .before .before .before .before .before .before in
-    let at = node .before .before .before .before .before .before in
-    acts-store _ _ _ _ _ _ _ _ _ (node .statement-node .ensures) (node .before .frame-of-word .ensures) (at .pre .0) (at .pre .1)
-    _ _ _ _ _ (c .before .before .before .before .before .before .a3 .given .1) (c .before .before .before .store .ensures) (c .stores-after .ensures)
+returns-8 c = search acts-store
 
 same-length-5 : tie.Need-same-length-5
 same-length-5 c = search needs
 
 returns-9 : tie.Need-returns-9
-returns-9 c =
-    let node = c .before .before .before .before .before .before .before .before in
-    let at = node .before .before .before .before .before .before in
-    acts-if _ _ _ _ _ _ _ _ _ (node .statement-node .ensures) (node .before .frame-of-word .ensures) (at .pre .0) (at .pre .1)
-    _ _ _ _ _ _ (c .before .before .before .before .before .before .a4 .given .1) (c .before .before .before .evaluate2 .ensures) (c .chooses-after .ensures)
+returns-9 c = search acts-if
 
 same-length-6 : tie.Need-same-length-6
 same-length-6 c = search needs
 
 returns-10 : tie.Need-returns-10
-returns-10 c =
-    let node = c .before .before .before .before .before .before .before .before in
-    let at = node .before .before .before .before .before .before in
-    acts-while _ _ _ _ _ _ _ _ _ (node .statement-node .ensures) (node .before .frame-of-word .ensures) (at .pre .0) (at .pre .1)
-    _ _ _ _ _ (c .before .before .before .before .before .before .a5 .given .1) (c .before .before .before .evaluate3 .ensures) (c .loops-after .ensures)
+returns-10 c = search acts-while
 
 pub act-statement-spec : {M : Type 1} → statement M
 act-statement-spec =
@@ -244,7 +209,6 @@ act-statement-spec =
     stays-with-two-requires
     enum-known-q
     cast-does-at
-    cast-does-at-2
     does-at-requires
     enum-known-m
     starts-requires

@@ -1,6 +1,6 @@
 -- `drops` meets its contract. Assumes nothing.
 use borrow.Author.Needs.{needs}
-use Rattle.turns.proofs.StayLaws.{drops-none, drops-one}
+use Rattle.turns.proofs.StayRows.{drops-rows}
 use Rattle.turns.proofs.staying.drops.Statement.{statement}
 use Rattle.turns.proofs.staying.drops.Tie as tie
 
@@ -8,13 +8,13 @@ refused-requires : tie.Need-refused-requires
 refused-requires c κs = search needs
 
 returns : tie.Need-returns
-returns c = drops-none _ _ _ (c .before .if1 .taken) (c .refused .ensures)
+returns c = search drops-rows
 
 comes-to-requires : tie.Need-comes-to-requires
 comes-to-requires c κs = search needs
 
 returns-2 : tie.Need-returns-2
-returns-2 c = drops-one _ _ _ (c .before .if1 .left) (c .comes-to .ensures)
+returns-2 c = search drops-rows
 
 pub drops-spec : {M : Type 1} → statement M
 drops-spec = tie.close (tie.spec refused-requires returns comes-to-requires returns-2)

@@ -1,0 +1,106 @@
+// A frame as a node of a tree: its kind with the numbers that the kind uses, children by their frames.
+use language::Place;
+use language::frame::Frame;
+use language::kind::ExpressionKind;
+use language::kind::Kind;
+use language::kind::StatementKind;
+ghost use mathlib.Core.Path.{_≡_};
+ghost use mathlib.Core.Bool.{true};
+ghost use Rattle.language.specs.Places.{isPlace};
+ghost use Rattle.language.specs.Kinds.{statementUses, expressionUses, NamesPlace};
+ghost use Rattle.language.specs.declared.kind.Use.{Use};
+ghost use Rattle.program.specs.Nodes.{expressionNode, expressionNodeOf, statementNode, statementNodeOf};
+
+// An expression, or another frame, which reads as a number.
+pub enum ExpressionNode {
+    Number,
+    Truth,
+    Variable(u8),
+    SharedCell(u8),
+    NewCell(Place, u16),
+    Content(u16),
+    Sum(u16, u16),
+    Less(u16, u16),
+    Choose(u16, u16, u16),
+}
+
+// A statement, or another frame, which reads as nothing.
+pub enum StatementNode {
+    Nothing,
+    Cooperate,
+    Seq(u16, u16),
+    DoAt(Place, u16),
+    Start(u8, u16, u16),
+    StartWait(u8, u16, u16),
+    LetIn(u16, u16),
+    Store(u16, u16),
+    IfElse(u16, u16, u16),
+    While(u16, u16),
+}
+
+fn expression_of(k: ExpressionKind, s: u8, a: u16, b: u16, c: u16) -> ExpressionNode
+    requires { ⌜ (expressionUses k .s ≡ Use.Place → isPlace s ≡ true) ⌝ }
+    ensures { λ r. ⌜ r ≡ expressionNodeOf k s a b c ⌝ }
+{
+    match k {
+        ExpressionKind::Number => ExpressionNode::Number,
+        ExpressionKind::Truth => ExpressionNode::Truth,
+        ExpressionKind::Variable => ExpressionNode::Variable(s),
+        ExpressionKind::SharedCell => ExpressionNode::SharedCell(s),
+        ExpressionKind::NewCell => ExpressionNode::NewCell(Place::known(s as u64), a),
+        ExpressionKind::Content => ExpressionNode::Content(a),
+        ExpressionKind::Sum => ExpressionNode::Sum(a, b),
+        ExpressionKind::Less => ExpressionNode::Less(a, b),
+        ExpressionKind::Choose => ExpressionNode::Choose(a, b, c),
+    }
+}
+
+// Of a frame that passes refusal 5: an owner is a place.
+pub fn expression_node(f: Frame) -> ExpressionNode
+    requires { ⌜ NamesPlace f ⌝ }
+    ensures { λ r. ⌜ r ≡ expressionNode f ⌝ }
+{
+    let kind = f.kind;
+    match kind {
+        Kind::Header => ExpressionNode::Number,
+        Kind::Shared => ExpressionNode::Number,
+        Kind::Module => ExpressionNode::Number,
+        Kind::Statement(k) => ExpressionNode::Number,
+        Kind::Expression(k) => expression_of(k, f.s, f.a, f.b, f.c),
+        Kind::Unknown => ExpressionNode::Number,
+    }
+}
+
+fn statement_of(k: StatementKind, s: u8, a: u16, b: u16, c: u16) -> StatementNode
+    requires { ⌜ (statementUses k .s ≡ Use.Place → isPlace s ≡ true) ⌝ }
+    ensures { λ r. ⌜ r ≡ statementNodeOf k s a b c ⌝ }
+{
+    match k {
+        StatementKind::Nothing => StatementNode::Nothing,
+        StatementKind::Then => StatementNode::Seq(a, b),
+        StatementKind::DoAt => StatementNode::DoAt(Place::known(s as u64), a),
+        StatementKind::Start => StatementNode::Start(s, a, b),
+        StatementKind::StartWait => StatementNode::StartWait(s, a, b),
+        StatementKind::Cooperate => StatementNode::Cooperate,
+        StatementKind::Let => StatementNode::LetIn(a, b),
+        StatementKind::Store => StatementNode::Store(a, b),
+        StatementKind::If => StatementNode::IfElse(a, b, c),
+        StatementKind::While => StatementNode::While(a, b),
+    }
+}
+
+// Of a frame that passes refusal 5: where a body is done is a place.
+pub fn statement_node(f: Frame) -> StatementNode
+    requires { ⌜ NamesPlace f ⌝ }
+    ensures { λ r. ⌜ r ≡ statementNode f ⌝ }
+{
+    let kind = f.kind;
+    match kind {
+        Kind::Header => StatementNode::Nothing,
+        Kind::Shared => StatementNode::Nothing,
+        Kind::Module => StatementNode::Nothing,
+        Kind::Statement(k) => statement_of(k, f.s, f.a, f.b, f.c),
+        Kind::Expression(k) => StatementNode::Nothing,
+        Kind::Unknown => StatementNode::Nothing,
+    }
+}

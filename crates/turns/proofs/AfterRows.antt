@@ -1,0 +1,87 @@
+-- The returns behind an evaluation (evaluated.rt, and the starts of start.rt): a refusal, a value,
+-- and for 18 and 19 each value of the condition. Assumes nothing.
+use mathlib.Core.Path.{_≡_, refl, sym, ap, _∙_}
+use mathlib.Core.Bool.{Bool, true, false}
+use mathlib.Core.Logic.{inl, inr}
+use mathlib.Core.List.{[], _∷_}
+use Prim.Native.Nat.{ℕ}
+use native.Mathlib.Omega.{arith}
+use denote.Enum.Declared.{tagOf}
+use types.Run.{OneOf}
+use Rattle.machine.specs.Values.{answerOf}
+use Rattle.machine.specs.Words.{valueWord}
+use Rattle.machine.specs.declared.value.Value.{Value}
+use Rattle.machine.specs.declared.value.Value.the-variants.{Number, Truth, Cell}
+use Rattle.machine.specs.declared.value.Outcome.{Outcome}
+use Rattle.machine.specs.declared.value.Outcome.the-variants.{Is, Foreign, Spent, Stuck}
+use Rattle.machine.proofs.value.Outcome as outcome
+use Rattle.acts.specs.declared.act.Acted.{Acted}
+use Rattle.acts.specs.Fates.{refusedWith}
+use Rattle.turns.specs.declared.view.View.{View}
+use Rattle.turns.specs.declared.start.Request.{Request}
+use Rattle.turns.specs.Actions.{letMore, afterValue, byTruth, letAfter, startWith, startOne, startTwo}
+
+-- ---- what is told where an outcome is no value: it is the second, third or fourth variant
+abbrev pub IsRefusal : Outcome → Type 0
+IsRefusal o = OneOf (1 ∷ 2 ∷ 3 ∷ []) (tagOf outcome.the-type o)
+
+pub no-refusal : (v : Value) → IsRefusal (Is v) → ⊥
+no-refusal v (inl e) = omega arith
+no-refusal v (inr (inl e)) = omega arith
+no-refusal v (inr (inr e)) = omega arith
+
+pub refused-as : (o : Outcome) (n m : ℕ) (r : Acted) → m ≡ answerOf o → r ≡ refusedWith m n
+    → r ≡ refusedWith (answerOf o) n
+refused-as o n m r e h = h ∙ ap (λ (x : ℕ). refusedWith x n) e
+
+-- ---- by the outcome
+module _ (o : Outcome) (n : ℕ) (k : Value → Acted) (r : Acted) where
+  pub after-refused : IsRefusal o → r ≡ refusedWith (answerOf o) n → r ≡ afterValue o n k
+  unfolding afterValue
+  after-refused h e = e ∙ by o h
+    where
+      by : (p : Outcome) → IsRefusal p → refusedWith (answerOf p) n ≡ afterValue p n k
+      by (Is v) l = absurd (no-refusal v l)
+      by Foreign l = refl
+      by Spent l = refl
+      by Stuck l = refl
+
+  pub after-is : (x : Value) → o ≡ Is x → r ≡ k x → r ≡ afterValue o n k
+  unfolding afterValue
+  after-is x e h = h ∙ ap (λ (p : Outcome). afterValue p n k) (sym e)
+
+-- a value that goes on as its word
+module _
+    (o : Outcome) (n : ℕ) (r : Acted) (x : Value) (m : ℕ) (e : o ≡ Is x) (h : m ≡ valueWord x) where
+  pub after-lets : (v : View) (body : ℕ) → r ≡ letMore v n m body
+      → r ≡ afterValue o n (letAfter v body n)
+  after-lets v body q =
+      after-is o n (letAfter v body n) r x e (q ∙ ap (λ (w : ℕ). letMore v n w body) h)
+
+  pub after-starts-one : (s : Request) → r ≡ startWith s n 1 m 0 → r ≡ afterValue o n (startOne s n)
+  after-starts-one s q =
+      after-is o n (startOne s n) r x e (q ∙ ap (λ (w : ℕ). startWith s n 1 w 0) h)
+
+  pub after-starts-two : (s : Request) (first : ℕ) → r ≡ startWith s n 2 first m
+      → r ≡ afterValue o n (startTwo s first n)
+  after-starts-two s first q =
+      after-is o n (startTwo s first n) r x e (q ∙ ap (λ (w : ℕ). startWith s n 2 first w) h)
+
+-- ---- by the condition: a truth chooses, any other value is 20
+module _ (x : Value) (n : ℕ) (a b r : Acted) where
+  at-value : (u : Value) → x ≡ u → r ≡ byTruth u n a b → r ≡ byTruth x n a b
+  at-value u e h = h ∙ ap (λ (w : Value). byTruth w n a b) (sym e)
+
+  pub truth-yes : (t : Bool) → x ≡ Truth t → t ≡ true → r ≡ a → r ≡ byTruth x n a b
+  truth-yes t e h q = at-value (Truth true) (e ∙ ap Truth h) q
+
+  pub truth-no : (t : Bool) → x ≡ Truth t → t ≡ false → r ≡ b → r ≡ byTruth x n a b
+  truth-no t e h q = at-value (Truth false) (e ∙ ap Truth h) q
+
+  pub truth-number : (m : ℕ) → x ≡ Number m → r ≡ refusedWith 20 n → r ≡ byTruth x n a b
+  truth-number m e q = at-value (Number m) e q
+
+  pub truth-cell : (c : ℕ) → x ≡ Cell c → r ≡ refusedWith 20 n → r ≡ byTruth x n a b
+  truth-cell c e q = at-value (Cell c) e q
+
+pub ruleset truth-rows = (truth-yes, truth-no, truth-number, truth-cell)

@@ -1,0 +1,69 @@
+-- The returns of item.rt: what the word on top of the continuation says, and the end of a thread
+-- without an item. Assumes nothing.
+use mathlib.Core.Path.{_≡_, ap, _∙_}
+use mathlib.Core.List.{List}
+use Prim.Native.Nat.{ℕ, _-_, _<_, _≤_}
+use native.Mathlib.Omega.{arith}
+use borrow.Author.Tests.{lt-ltb, le-ltb, eq-eqb, ne-eqb}
+use Rattle.basics.proofs.Ifs.{yes, no}
+use Rattle.language.specs.declared.Place.{Place}
+use Rattle.language.specs.declared.frame.Frame.{Frame}
+use Rattle.program.specs.Trees.{statementAt}
+use Rattle.evaluator.specs.declared.Who.{Who}
+use Rattle.acts.specs.declared.act.Fate.the-variants.{Leaves}
+use Rattle.acts.specs.declared.act.Change.the-variants.{End}
+use Rattle.acts.specs.declared.act.Acted.{Acted}
+use Rattle.acts.specs.Fates.{actedWith}
+use Rattle.turns.specs.declared.view.View.{View}
+use Rattle.turns.specs.Acts.{TurnWords}
+use Rattle.turns.specs.Actions.{actOn, placeAt, goBack, dropOne, statementAct, itemAct, below, turnAct}
+
+-- what a caller has shown holds without the top item
+pub below-words : (fw : List ℕ) (v : View) (vs : List ℕ) (n : ℕ) (ws : List ℕ)
+    → TurnWords fw v vs n ws → TurnWords fw (below v) vs n ws
+below-words fw v vs n ws g =
+    record {
+      ordered = g .ordered;
+      placed = g .placed;
+      place = g .place;
+      items = let h = g .items in omega arith;
+      count = g .count;
+      variables = g .variables;
+      cells = g .cells;
+    }
+
+module _
+    (fs : List Frame) (who : Who) (v : View) (item : ℕ) (vs : List ℕ) (n : ℕ) (ws : List ℕ)
+    (r : Acted) where
+  -- ---- by the item: a statement, a way back to a place, a drop
+  pub item-statement : (us : List ℕ) → item < 1024
+      → actOn r us ≡ statementAct who v vs n ws (statementAt fs item)
+      → actOn r us ≡ itemAct fs who v item vs n ws
+  unfolding itemAct
+  item-statement us h z = yes _ (lt-ltb item 1024 h) z
+
+  pub item-back : (q : Place) → 1024 ≤ item → item < 2048 → q ≡ placeAt (item - 1024)
+      → r ≡ goBack v n q → actOn r ws ≡ itemAct fs who v item vs n ws
+  unfolding itemAct
+  item-back q h k e z =
+      no _ (le-ltb item 1024 h)
+      (yes _ (lt-ltb item 2048 k)
+      (ap (λ (x : Acted). actOn x ws) z ∙ ap (λ (p : Place). actOn (goBack v n p) ws) e))
+
+  pub item-drop : 1024 ≤ item → 2048 ≤ item → r ≡ dropOne v n
+      → actOn r ws ≡ itemAct fs who v item vs n ws
+  unfolding itemAct
+  item-drop h k z =
+      no _ (le-ltb item 1024 h) (no _ (le-ltb item 2048 k) (ap (λ (x : Acted). actOn x ws) z))
+
+  -- ---- the turn
+  pub turn-ends : v .items ≡ 0 → r ≡ actedWith Leaves End n
+      → actOn r ws ≡ turnAct fs who v item vs n ws
+  unfolding turnAct
+  turn-ends h e = yes _ (eq-eqb (v .items) 0 h) (ap (λ (x : Acted). actOn x ws) e)
+
+  pub turn-item : (us : List ℕ) → (v .items ≡ 0 → ⊥)
+      → actOn r us ≡ itemAct fs who (below v) item vs n ws
+      → actOn r us ≡ turnAct fs who v item vs n ws
+  unfolding turnAct
+  turn-item us h z = no _ (ne-eqb (v .items) 0 h) z

@@ -1,0 +1,69 @@
+-- The acts of 13 and 14 are turns: no argument, one, two. Assumes nothing.
+use mathlib.Core.Path.{refl, ap}
+use mathlib.Core.List.{List, [], _∷_}
+use Prim.Native.Nat.{ℕ}
+use Rattle.program.specs.Trees.{Expr}
+use Rattle.machine.specs.Words.{valueWord}
+use Rattle.machine.specs.declared.value.Value.{Value}
+use Rattle.machine.specs.declared.value.Outcome.{Outcome}
+use Rattle.machine.specs.declared.value.Outcome.the-variants.{Is, Foreign, Spent, Stuck}
+use Rattle.evaluator.specs.declared.Who.{Who}
+use Rattle.evaluator.specs.Results.{Result}
+use Rattle.states.specs.declared.thread.ThreadWords.{ThreadWords}
+use Rattle.turns.specs.declared.view.View.{View}
+use Rattle.turns.specs.declared.start.Request.{Request}
+use Rattle.turns.specs.Acts.{ActedOn, thenOn, startsWith, oneArgument, lastArgument, twoArguments, startsIn}
+use Rattle.turns.specs.Actions.{ActOn, startWith, startOne, startTwo, behind, evaluatedBy, firstThen, bothArguments, startAct}
+use Rattle.turns.proofs.ViewLaws.{Turns, Turning, refused-so, act-on, act-on-as, in-thread}
+use Rattle.turns.proofs.AfterLaws.{after-turns}
+
+-- behind the first of two arguments, whose outcome is o
+first-turns : (o : Outcome) (n : ℕ) (us : List ℕ) (v : View) (vs : List ℕ) (k : Value → ActOn)
+    (f : ThreadWords → Value → ActedOn)
+    → ((x : Value) → Turning (k x) v vs (λ th. f th x))
+    → Turning (firstThen o n us k) v vs (λ th. thenOn o th n us (f th))
+first-turns (Is x) n us v vs k f h = h x
+first-turns Foreign n us v vs k f h = act-on (refused-so v 19 n) (λ th e. refl)
+first-turns Spent n us v vs k f h = act-on (refused-so v 17 n) (λ th e. refl)
+first-turns Stuck n us v vs k f h = act-on (refused-so v 20 n) (λ th e. refl)
+
+module _ (who : Who) (q : Request) (v : View) (vs : List ℕ) where
+  with-words : (n given first second : ℕ)
+      → Turns (startWith q n given first second) v (λ th. startsWith q th n given first second)
+  with-words n given first second = record { thread = λ th w. refl; room = tt }
+
+  one-turns : (r : Result)
+      → Turning (behind r (startOne q)) v vs (λ th. oneArgument q th r)
+  one-turns r =
+      act-on
+      (after-turns (r .outcome) (r .used) v (startOne q (r .used))
+      (λ th x. startsWith q th (r .used) 1 (valueWord x) 0)
+      (λ x. with-words (r .used) 1 (valueWord x) 0))
+      (λ th e. refl)
+
+  last-turns : (first : ℕ) (r : Result)
+      → Turning (behind r (startTwo q first)) v vs (λ th. lastArgument q th first r)
+  last-turns first r =
+      act-on
+      (after-turns (r .outcome) (r .used) v (startTwo q first (r .used))
+      (λ th x. startsWith q th (r .used) 2 first (valueWord x))
+      (λ x. with-words (r .used) 2 first (valueWord x)))
+      (λ th e. refl)
+
+  both-turns : (y : Expr) (r : Result)
+      → Turning (bothArguments who q vs y r) v vs (λ th. twoArguments who q th y r)
+  both-turns y r =
+      first-turns (r .outcome) (r .used) (r .words) v vs _ _
+      (λ x.
+      act-on-as (last-turns (valueWord x) (evaluatedBy who vs y (r .used) (r .words)))
+      (λ th e. ap (lastArgument q th (valueWord x)) (in-thread who th vs e (r .used) (r .words) y)))
+
+  pub starts-turns : (n : ℕ) (ws : List ℕ) (xs : List Expr)
+      → Turning (startAct who q vs n ws xs) v vs (λ th. startsIn who q th n ws xs)
+  starts-turns n ws [] = act-on (with-words n 0 0 0) (λ th e. refl)
+  starts-turns n ws (x ∷ []) =
+      act-on-as (one-turns (evaluatedBy who vs x n ws))
+      (λ th e. ap (oneArgument q th) (in-thread who th vs e n ws x))
+  starts-turns n ws (x ∷ y ∷ ys) =
+      act-on-as (both-turns y (evaluatedBy who vs x n ws))
+      (λ th e. ap (twoArguments who q th y) (in-thread who th vs e n ws x))
