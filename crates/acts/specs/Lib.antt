@@ -1,1 +1,1 @@
-pub mod Fates
+pub mod inner

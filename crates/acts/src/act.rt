@@ -1,7 +1,7 @@
 // What a turn comes to.
 use language::Place;
 ghost use mathlib.Core.Path.{_≡_};
-ghost use Rattle.acts.specs.Fates.{actedWith, refusedWith};
+ghost use Rattle.acts.specs.inner.Fates.{actedWith, refusedWith};
 
 // What becomes of the thread: refused with that number; it stays first in its list; it leaves it for none, since it has ended or is
 // unlinked; it joins the next list of that scheduler; it starts that module, and waits for it or not.

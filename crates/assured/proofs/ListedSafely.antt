@@ -22,7 +22,7 @@ use Rattle.layout.specs.LaidOut.{HasLayout, layoutVerdict}
 use Rattle.layout.specs.Faults.{NoFault}
 use Rattle.layout.proofs.Accepted.{layout-only}
 use Rattle.layout.proofs.AfterLayout.{text-fine}
-use Rattle.rules.specs.Checking.{rulesOf}
+use Rattle.rules.specs.inner.Checking.{rulesOf}
 use Rattle.rules.specs.Verdict.{HasVerdict, verdict}
 use Rattle.rules.proofs.Whole.{verdict-computes}
 use Rattle.machine.specs.State.{State}

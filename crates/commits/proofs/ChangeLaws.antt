@@ -12,18 +12,18 @@ use Rattle.basics.proofs.Ifs.{yes, no, if-all}
 use Rattle.language.specs.Places.{isPlace}
 use Rattle.language.specs.declared.Place.{Place}
 use Rattle.language.proofs.PlaceLaws.{fits-byte}
-use Rattle.machine.specs.Blocks.{part}
+use Rattle.machine.specs.inner.Blocks.{part}
 use Rattle.machine.proofs.WordLaws.{part-at, part-length}
 use Rattle.states.specs.declared.thread.ThreadWords.{ThreadWords}
-use Rattle.states.specs.Threads.{threadIn, putThread}
-use Rattle.states.specs.Stacks.{pushItem, popItem, pushValue, popValue, moveTo, ended}
+use Rattle.states.specs.inner.Threads.{threadIn, putThread}
+use Rattle.states.specs.inner.Stacks.{pushItem, popItem, pushValue, popValue, moveTo, ended}
 use Rattle.states.proofs.ThreadSays.{fields-path}
 use Rattle.states.proofs.ThreadLaws.{Wide, in-wide, put-read, put-same, put-then}
 use Rattle.states.proofs.StackWords.{push-item-wide, pop-item-wide, push-value-wide, pop-value-wide, move-wide, ended-wide}
 use Rattle.acts.specs.declared.act.Change.{Change}
 use Rattle.acts.specs.declared.act.Change.the-variants.{Same, Item, Items, Let, Drop, Move, Enter, End}
-use Rattle.acts.specs.Fates.{changed, popped, Room}
-use Rattle.commits.specs.Commits.{placeAfter}
+use Rattle.acts.specs.inner.Fates.{changed, popped, Room}
+use Rattle.commits.specs.inner.Commits.{placeAfter}
 
 -- ---- the thread without its top item, and the changed one: their spaces stay full, the counts and the place
 pub popped-wide : (x : ThreadWords) → Wide x → Wide (popped x)

@@ -10,7 +10,7 @@ use Rattle.program.specs.Programs.{Program}
 use Rattle.acts.specs.declared.act.Fate.{Fate}
 use Rattle.acts.specs.declared.act.Fate.the-variants.{Refused, Stays, Leaves, Joins, Starts}
 use Rattle.acts.specs.declared.act.Acted.{Acted}
-use Rattle.commits.specs.Commits.{called, after, clearedIn, staysIn, leftIn, roomIn, joinedIn, leavesIn, joinsIn, startsIn, committedIn}
+use Rattle.commits.specs.inner.Commits.{called, after, clearedIn, staysIn, leftIn, roomIn, joinedIn, leavesIn, joinsIn, startsIn, committedIn}
 
 pub leaves : (w v₁ v : List ℕ) (c t : ℕ) (a : Acted) → v ≡ leftIn v₁ c → v₁ ≡ staysIn w t (after w t a) → v ≡ leavesIn w c t (after w t a)
 leaves w v₁ v c t a e f = e ∙ ap (λ (l : List ℕ). leftIn l c) f

@@ -13,11 +13,11 @@ use Rattle.language.specs.Places.{private, isScheduler}
 use Rattle.language.specs.declared.Place.{Place}
 use Rattle.program.specs.Programs.{Program}
 use Rattle.states.specs.declared.thread.ThreadWords.{ThreadWords}
-use Rattle.states.specs.Threads.{threadIn, withOneMore}
+use Rattle.states.specs.inner.Threads.{threadIn, withOneMore}
 use Rattle.acts.specs.declared.act.Acted.{Acted}
-use Rattle.commits.specs.Modules.{foundIn}
-use Rattle.commits.specs.declared.module.ModuleFound.{ModuleFound}
-use Rattle.commits.specs.Commits.{called, after, placeAfter, clearedIn, staysIn, leftIn, roomIn, joinedIn, newThread, newIn, misfitIn, spentIn, firstAnswer, obstacleIn, startedIn, waitingIn, startsIn}
+use Rattle.program.specs.inner.Modules.{foundIn}
+use Rattle.program.specs.declared.module.ModuleFound.{ModuleFound}
+use Rattle.commits.specs.inner.Commits.{called, after, placeAfter, clearedIn, staysIn, leftIn, roomIn, joinedIn, newThread, newIn, misfitIn, spentIn, firstAnswer, obstacleIn, startedIn, waitingIn, startsIn}
 use Rattle.commits.proofs.ChangeLaws.{place-is}
 use Rattle.commits.proofs.WritingLaws.{room-scheduler}
 

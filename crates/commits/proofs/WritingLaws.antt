@@ -14,15 +14,15 @@ use Rattle.language.specs.declared.Place.{Place}
 use Rattle.language.specs.declared.PlaceRead.{PlaceRead}
 use Rattle.language.specs.declared.PlaceRead.the-variants.{At, NoPlace}
 use Rattle.language.proofs.PlaceLaws.{read-at, read-none, test-bounds}
-use Rattle.machine.specs.Blocks.{pasted}
+use Rattle.machine.specs.inner.Blocks.{pasted}
 use Rattle.machine.proofs.WordLaws.{pasted-zero, pasted-more}
 use Rattle.states.specs.declared.thread.ThreadWords.{ThreadWords}
-use Rattle.states.specs.Threads.{threadIn, putThread}
-use Rattle.states.specs.Lists.{withoutFirst, withLast}
+use Rattle.states.specs.inner.Threads.{threadIn, putThread}
+use Rattle.states.specs.inner.Lists.{withoutFirst, withLast}
 use Rattle.states.proofs.ThreadLaws.{Wide, in-wide, put-read, put-then, put-length}
 use Rattle.acts.specs.declared.act.Change.{Change}
-use Rattle.acts.specs.Fates.{changed, popped, Room}
-use Rattle.commits.specs.Commits.{clearedIn, settledIn, leftIn, roomIn, joinedIn, SettleWords}
+use Rattle.acts.specs.inner.Fates.{changed, popped, Room}
+use Rattle.commits.specs.inner.Commits.{clearedIn, settledIn, leftIn, roomIn, joinedIn, SettleWords}
 use Rattle.commits.proofs.ChangeLaws.{popped-wide, changed-wide, popped-items, popped-values, popped-place, same-thread}
 
 -- ---- cells cleared: before the loop, a turn of it, behind it

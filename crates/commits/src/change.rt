@@ -12,11 +12,11 @@ ghost use mathlib.Core.Bool.{true};
 ghost use Prim.Native.Nat.{_<_, _≤_};
 ghost use lib.ListN.{length};
 ghost use Rattle.language.specs.Places.{isPlace};
-ghost use Rattle.states.specs.Threads.{threadIn, putThread};
-ghost use Rattle.states.specs.Stacks.{pushItem};
+ghost use Rattle.states.specs.inner.Threads.{threadIn, putThread};
+ghost use Rattle.states.specs.inner.Stacks.{pushItem};
 ghost use Rattle.acts.specs.declared.act.Change.the-variants.{Let, Enter};
-ghost use Rattle.acts.specs.Fates.{changed, popped, Room};
-ghost use Rattle.commits.specs.Commits.{placeAfter};
+ghost use Rattle.acts.specs.inner.Fates.{changed, popped, Room};
+ghost use Rattle.commits.specs.inner.Commits.{placeAfter};
 
 // The top item off the continuation; where there is none, nothing changes.
 pub(crate) fn take_item(state: &mut [u64], k: usize)

@@ -11,7 +11,7 @@ use language::Place;
 ghost use mathlib.Core.Path.{_≡_};
 ghost use Rattle.text.specs.Frames.{framesOf};
 ghost use Rattle.program.specs.Programs.{programOf};
-ghost use Rattle.commits.specs.Commits.{CommitWords, after, leavesIn, joinsIn, committedIn, called};
+ghost use Rattle.commits.specs.inner.Commits.{CommitWords, after, leavesIn, joinsIn, committedIn, called};
 
 fn commit_leaves(state: &mut [u64], choice: u64, t: u64, a: Acted)
     requires { ⌜ CommitWords (now state) t a ⌝ }

@@ -4,7 +4,7 @@ use language::PlaceRead;
 use states::list::drop_first;
 ghost use mathlib.Core.Path.{_≡_};
 ghost use lib.ListN.{length};
-ghost use Rattle.commits.specs.Commits.{leftIn};
+ghost use Rattle.commits.specs.inner.Commits.{leftIn};
 
 // A chosen thread stands in no list.
 pub fn leave(state: &mut [u64], choice: u64)

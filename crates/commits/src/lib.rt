@@ -2,6 +2,5 @@
 mod change;
 pub mod commit;
 pub mod leave;
-mod module;
 mod start;
 mod writing;

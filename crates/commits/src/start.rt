@@ -1,8 +1,6 @@
 // A start committed: the new thread is the last, and the last in the starter's next list; a starter that waits stands behind it.
 use crate::change::place_after;
 use crate::leave::leave;
-use crate::module::ModuleFound;
-use crate::module::module_at;
 use crate::writing::clear_cells;
 use crate::writing::join;
 use crate::writing::join_both;
@@ -10,6 +8,8 @@ use crate::writing::room_at;
 use crate::writing::settle;
 use acts::act::Acted;
 use language::Place;
+use program::module::ModuleFound;
+use program::module::module_at;
 use states::thread::ThreadWords;
 use states::thread::add_thread;
 use states::thread::thread_count;
@@ -20,7 +20,7 @@ ghost use lib.ListN.{length, getD};
 ghost use Rattle.language.specs.Places.{isScheduler};
 ghost use Rattle.text.specs.Frames.{framesOf};
 ghost use Rattle.program.specs.Programs.{programOf};
-ghost use Rattle.commits.specs.Commits.{CommitWords, newThread, after, misfitIn, spentIn, firstAnswer, obstacleIn, startedIn, waitingIn, startsIn, called};
+ghost use Rattle.commits.specs.inner.Commits.{CommitWords, newThread, after, misfitIn, spentIn, firstAnswer, obstacleIn, startedIn, waitingIn, startsIn, called};
 
 // The new thread: at the starter's place, its continuation the module's body, its variables the arguments.
 fn new_thread(a: Acted, place: Place, t: u64, body: u64) -> ThreadWords

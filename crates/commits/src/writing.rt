@@ -10,9 +10,9 @@ ghost use mathlib.Core.Bool.{true};
 ghost use Prim.Native.Nat.{_≤_};
 ghost use lib.ListN.{length};
 ghost use Rattle.language.specs.Places.{isScheduler};
-ghost use Rattle.states.specs.Threads.{threadIn};
-ghost use Rattle.acts.specs.Fates.{changed, popped};
-ghost use Rattle.commits.specs.Commits.{clearedIn, settledIn, roomIn, joinedIn, SettleWords};
+ghost use Rattle.states.specs.inner.Threads.{threadIn};
+ghost use Rattle.acts.specs.inner.Fates.{changed, popped};
+ghost use Rattle.commits.specs.inner.Commits.{clearedIn, settledIn, roomIn, joinedIn, SettleWords};
 
 // The cells from that one to below that other are no longer there.
 pub(crate) fn clear_cells(state: &mut [u64], from: usize, upto: usize)

@@ -18,12 +18,12 @@ use Rattle.machine.specs.declared.value.Value.{Value}
 use Rattle.machine.specs.declared.value.Value.the-variants.{Number, Truth, Cell}
 use Rattle.machine.specs.declared.value.Outcome.{Outcome}
 use Rattle.machine.specs.declared.value.Outcome.the-variants.{Is, Foreign, Spent, Stuck}
-use Rattle.machine.proofs.Shapes as shape
-use Rattle.machine.proofs.Shapes.{ValueFits}
+use Rattle.machine.specs.Shapes as shape
+use Rattle.machine.specs.Shapes.{ValueFits}
 use Rattle.machine.proofs.KeptCells.{OutcomeFits, is-value, is-foreign, is-spent, is-stuck}
 use Rattle.evaluator.specs.declared.Who.{Who}
-use Rattle.evaluator.specs.Results.{Result, hereOf, resultOf, onWords, cellsFrom, CellWords, ValueWords}
-use Rattle.evaluator.specs.ByWords.{valueIn, ownerIn, contentIn, cellOf, result, thenBy, andThen, keeping, ownIn, newOwnerIn, variableIn, sharedIn, makeIn, accessIn, readIn, reading, storeIn, numbersOf, aTruth, aNumber, chosen, evalIn, storingIn}
+use Rattle.evaluator.specs.inner.Results.{Result, hereOf, resultOf, onWords, cellsFrom, CellWords, ValueWords}
+use Rattle.evaluator.specs.inner.ByWords.{valueIn, ownerIn, contentIn, cellOf, result, thenBy, andThen, keeping, ownIn, newOwnerIn, variableIn, sharedIn, makeIn, accessIn, readIn, reading, storeIn, numbersOf, aTruth, aNumber, chosen, evalIn, storingIn}
 use Rattle.evaluator.proofs.Chains.{Refused, then-is, then-keeps, regroup}
 use Rattle.evaluator.proofs.WordLaws.{value-same, value-fits, owner-back, content-back}
 use Rattle.evaluator.proofs.SmallNumbers.{Small, small-at}

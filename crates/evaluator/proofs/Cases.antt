@@ -20,8 +20,8 @@ use Rattle.evaluator.specs.declared.node.CellUse.{CellUse}
 use Rattle.evaluator.specs.declared.node.CellUse.the-variants.{Make, Read}
 use Rattle.evaluator.specs.declared.node.Operator.{Operator}
 use Rattle.evaluator.specs.declared.node.Operator.the-variants.{Sum, Less}
-use Rattle.evaluator.specs.Results.{Result, after, FrameWords}
-use Rattle.evaluator.specs.ByWords.{nodeAt, result, andThen, only, keeping, leafIn, usingIn, numbersOf, operation, aTruth, aNumber, chosen, operandStops, outcomeStops, operatedBy, asNumber, asAnswer, wanted, WantedResult, numberOf, chosenBy, evalIn, numberIn, truthIn}
+use Rattle.evaluator.specs.inner.Results.{Result, after, FrameWords}
+use Rattle.evaluator.specs.inner.ByWords.{nodeAt, result, andThen, only, keeping, leafIn, usingIn, numbersOf, operation, aTruth, aNumber, chosen, operandStops, outcomeStops, operatedBy, asNumber, asAnswer, wanted, WantedResult, numberOf, chosenBy, evalIn, numberIn, truthIn}
 use Rattle.evaluator.proofs.Chains.{keeping-is, number-stopped, stopped-number, stops-answer, stopped, numbers-ran, choice-ran}
 use Rattle.evaluator.proofs.Nodes.{treeOf, tree-at}
 

@@ -14,8 +14,8 @@ use Rattle.evaluator.specs.declared.operation.Operand.{Operand}
 use Rattle.evaluator.specs.declared.operation.Wanted.{Wanted}
 use Rattle.evaluator.specs.declared.node.Operator.{Operator}
 use Rattle.evaluator.specs.declared.node.CellUse.{CellUse}
-use Rattle.evaluator.specs.Results.{Result, after}
-use Rattle.evaluator.specs.ByWords.{result, usingIn, thenBy, andThen, onlyBy, only, keeping, numbersOf, operation, numberOr, operandOf, outcomeOf, operandStops, outcomeStops, bothBy, operatedBy, asNumber, asAnswer, WantedResult, wanted, numberOf, aNumber, chosen, chosenBy}
+use Rattle.evaluator.specs.inner.Results.{Result, after}
+use Rattle.evaluator.specs.inner.ByWords.{result, usingIn, thenBy, andThen, onlyBy, only, keeping, numbersOf, operation, numberOr, operandOf, outcomeOf, operandStops, outcomeStops, bothBy, operatedBy, asNumber, asAnswer, WantedResult, wanted, numberOf, aNumber, chosen, chosenBy}
 
 -- an outcome that is no value
 abbrev pub Refused : Outcome → Type 0

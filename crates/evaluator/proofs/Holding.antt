@@ -11,15 +11,15 @@ use lib.Seq.{ext-getD, getD-set-same, getD-set-other, getD-at}
 use borrow.Author.Tests.{ltb-true, ltb-false}
 use Rattle.machine.specs.State.{Stored, noCell, usedCells, withNewCell}
 use Rattle.machine.specs.Words.{cellWord, wordCell}
-use Rattle.machine.specs.Ranges.{valueInRange}
-use Rattle.machine.specs.Blocks.{cellWords}
-use Rattle.machine.proofs.Shapes.{ValueFits}
+use Rattle.machine.specs.inner.Ranges.{valueInRange}
+use Rattle.machine.specs.inner.Blocks.{cellWords}
+use Rattle.machine.specs.Shapes.{ValueFits}
 use Rattle.machine.proofs.WordLaws.{tab-length, tab-at}
 use Rattle.machine.proofs.Blocks.{cells-length, cells-at}
 use Rattle.machine.proofs.Round.{cell-back}
 use Rattle.machine.proofs.Valid.{no-cell-word}
 use Rattle.machine.proofs.KeptCells.{each-set, each-snoc}
-use Rattle.evaluator.specs.Results.{CellWords, cellsFrom}
+use Rattle.evaluator.specs.inner.Results.{CellWords, cellsFrom}
 use Rattle.evaluator.proofs.WordLaws.{value-fits, cell-there, content-in}
 
 -- the n cells cs are these words; every content fits a word

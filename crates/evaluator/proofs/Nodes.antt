@@ -13,7 +13,7 @@ use Rattle.language.specs.declared.frame.Frame.{Frame}
 use Rattle.text.specs.Frames.{frameOfWord, framesOf}
 use Rattle.text.proofs.FrameWords.{frame-at}
 use Rattle.program.specs.Trees.{Expr, number, truth, variable, shared, new, content, sum, less, choose, frameAt, expressionOf, expressionAt, noFrame}
-use Rattle.program.specs.Ordered.{Ordered}
+use Rattle.program.specs.inner.Ordered.{Ordered}
 use Rattle.program.proofs.Decoding.{expression-at}
 use Rattle.machine.specs.declared.value.Value.{Value}
 use Rattle.machine.specs.declared.value.Value.the-variants.{Number, Truth, Cell}
@@ -24,8 +24,8 @@ use Rattle.evaluator.specs.declared.node.Node.the-variants.{Plain, Cells
 use Rattle.evaluator.specs.declared.node.Leaf.the-variants.{Literal, Flag, Variable, SharedCell}
 use Rattle.evaluator.specs.declared.node.CellUse.the-variants.{Make, Read}
 use Rattle.evaluator.specs.declared.node.Operator.the-variants.{Sum, Less}
-use Rattle.evaluator.specs.Results.{FrameWords}
-use Rattle.evaluator.specs.ByWords.{nodeWith, nodeOf, nodeAt, chosen, chosenBy}
+use Rattle.evaluator.specs.inner.Results.{FrameWords}
+use Rattle.evaluator.specs.inner.ByWords.{nodeWith, nodeOf, nodeAt, chosen, chosenBy}
 
 -- ---- the node, read by the code: a law for each arm of its matches
 pub node-row : (f : Frame) (k v : ExpressionKind) (r : Node) → k ≡ v → r ≡ nodeWith f v → r ≡ nodeWith f k

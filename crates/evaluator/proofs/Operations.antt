@@ -23,7 +23,7 @@ use Rattle.evaluator.specs.declared.node.Operator.{Operator}
 use Rattle.evaluator.specs.declared.node.Operator.the-variants.{Sum, Less}
 use Rattle.evaluator.specs.declared.node.Leaf.{Leaf}
 use Rattle.evaluator.specs.declared.node.Leaf.the-variants.{Literal, Flag, Variable, SharedCell}
-use Rattle.evaluator.specs.ByWords.{valueIn, ownerIn, contentIn, cellOf, result, ownIn, newOwnerIn, variableIn, sharedIn, leafIn, makeIn, refusalOr, accessIn, readIn, reading, wordAfter, storeIn, operation, firstBy, bothBy, operatedBy, numberOr, operandOf, asNumber, outcomeOf, asAnswer, aTruth, chosen, chosenBy}
+use Rattle.evaluator.specs.inner.ByWords.{valueIn, ownerIn, contentIn, cellOf, result, ownIn, newOwnerIn, variableIn, sharedIn, leafIn, makeIn, refusalOr, accessIn, readIn, reading, wordAfter, storeIn, operation, firstBy, bothBy, operatedBy, numberOr, operandOf, asNumber, outcomeOf, asAnswer, aTruth, chosen, chosenBy}
 
 -- ---- owners: the thread's own cells, then its scheduler's; an unlinked thread has none of those
 pub own-thread : (who : Who) (o r : ℕ) → r ≡ who .thread → o ≡ 16 + r → true ≡ ownIn who o

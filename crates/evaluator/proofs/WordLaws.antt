@@ -11,14 +11,14 @@ use borrow.Author.Tests.{ltb-true, ltb-false, lt-ltb, le-ltb, leb-true}
 use Rattle.basics.proofs.Ifs.{if-yes, if-no, yes, no}
 use Rattle.machine.specs.State.{Stored}
 use Rattle.machine.specs.Words.{valueWord, wordValue, cellWord, wordCell}
-use Rattle.machine.specs.Ranges.{valueInRange}
+use Rattle.machine.specs.inner.Ranges.{valueInRange}
 use Rattle.machine.specs.declared.value.Value.{Value}
 use Rattle.machine.specs.declared.value.Value.the-variants.{Number, Truth, Cell}
-use Rattle.machine.proofs.Shapes.{ValueFits, number, truth, cell}
+use Rattle.machine.specs.Shapes.{ValueFits, number, truth, cell}
 use Rattle.machine.proofs.Round.{value-below}
 use Rattle.machine.proofs.InShape.{value-in}
 use Rattle.machine.proofs.Valid.{value-there}
-use Rattle.evaluator.specs.ByWords.{valueIn, ownerIn, contentIn, cellOf}
+use Rattle.evaluator.specs.inner.ByWords.{valueIn, ownerIn, contentIn, cellOf}
 
 -- ---- the word of a value
 pub word-number : (v : Value) (n r : ℕ) → v ≡ Number n → r ≡ n → r ≡ valueWord v

@@ -2,7 +2,7 @@
 use crate::word::value_word;
 use machine::value::Value;
 ghost use mathlib.Core.Path.{_≡_};
-ghost use Rattle.evaluator.specs.ByWords.{valueIn, ownerIn, contentIn, cellOf};
+ghost use Rattle.evaluator.specs.inner.ByWords.{valueIn, ownerIn, contentIn, cellOf};
 
 fn wide16(x: u16) -> u64
     ensures { λ r. ⌜ r ≡ x ⌝ }

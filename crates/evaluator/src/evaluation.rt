@@ -20,8 +20,8 @@ ghost use mathlib.Core.Path.{_≡_};
 ghost use Rattle.text.specs.Frames.{framesOf};
 ghost use Rattle.program.specs.Trees.{expressionAt};
 ghost use Rattle.machine.specs.Evaluation.{eval, storing};
-ghost use Rattle.evaluator.specs.Results.{after, hereOf, onWords, CellWords, ValueWords, FrameWords};
-ghost use Rattle.evaluator.specs.ByWords.{evalIn, wanted, numberIn, truthIn};
+ghost use Rattle.evaluator.specs.inner.Results.{after, hereOf, onWords, CellWords, ValueWords, FrameWords};
+ghost use Rattle.evaluator.specs.inner.ByWords.{evalIn, wanted, numberIn, truthIn};
 
 // The value of frame i, of any kind.
 fn value_at(

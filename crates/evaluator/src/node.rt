@@ -10,8 +10,8 @@ ghost use Rattle.language.specs.Places.{isPlace};
 ghost use Rattle.language.specs.Kinds.{expressionUses, NamesPlace};
 ghost use Rattle.language.specs.declared.kind.Use.{Use};
 ghost use Rattle.text.specs.Frames.{framesOf};
-ghost use Rattle.evaluator.specs.Results.{FrameWords};
-ghost use Rattle.evaluator.specs.ByWords.{nodeWith, nodeOf, nodeAt};
+ghost use Rattle.evaluator.specs.inner.Results.{FrameWords};
+ghost use Rattle.evaluator.specs.inner.ByWords.{nodeWith, nodeOf, nodeAt};
 
 // What becomes of two numbers: their sum, or whether the first is less.
 pub(crate) enum Operator {

@@ -14,8 +14,8 @@ use machine::value::Outcome;
 use machine::value::Value;
 ghost use mathlib.Core.Path.{_≡_};
 ghost use lib.ListN.{getD, set};
-ghost use Rattle.evaluator.specs.Results.{after};
-ghost use Rattle.evaluator.specs.ByWords.{ownIn, newOwnerIn, variableIn, sharedIn, leafIn, refusalOr, accessIn, readIn, reading, makeIn, usingIn, wordAfter, storeIn, aTruth, operation, firstBy, bothBy, operatedBy, numberOr, operandOf, asNumber, outcomeOf, asAnswer, operandStops, outcomeStops, chosen, chosenBy, andThen, only};
+ghost use Rattle.evaluator.specs.inner.Results.{after};
+ghost use Rattle.evaluator.specs.inner.ByWords.{ownIn, newOwnerIn, variableIn, sharedIn, leafIn, refusalOr, accessIn, readIn, reading, makeIn, usingIn, wordAfter, storeIn, aTruth, operation, firstBy, bothBy, operatedBy, numberOr, operandOf, asNumber, outcomeOf, asAnswer, operandStops, outcomeStops, chosen, chosenBy, andThen, only};
 
 // What a frame comes to where a number is wanted of it. `Other` is a value of another kind: 20, but behind all expressions of the frame that wants the number.
 pub(crate) enum Operand {

@@ -14,7 +14,7 @@ use Rattle.text.proofs.Readings.{reads, reads-one, some-frame}
 use Rattle.text.proofs.ReadLaws.{read-field}
 use Rattle.layout.specs.declared.LaidOut.{LaidOut}
 use Rattle.layout.specs.Faults.{NoFault}
-use Rattle.layout.specs.Scans.{layoutOf}
+use Rattle.layout.specs.inner.Scans.{layoutOf}
 use Rattle.layout.specs.LaidOut.{HasLayout, Judged, layoutRead, layoutVerdict, laidOut}
 use Rattle.layout.proofs.Layouts.{layout-says, layout-one}
 use Rattle.layout.proofs.Answers.{Whole, whole, frames-are, verdict-is, laid-refused, laid-whole}

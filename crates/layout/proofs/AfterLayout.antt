@@ -11,7 +11,7 @@ use Rattle.text.specs.Reading.{Reading, frames, refused, reading, Reads}
 use Rattle.text.proofs.Readings.{reads, reads-one, some-frame}
 use Rattle.layout.specs.declared.LaidOut.{LaidOut}
 use Rattle.layout.specs.Faults.{NoFault}
-use Rattle.layout.specs.Scans.{layoutOf}
+use Rattle.layout.specs.inner.Scans.{layoutOf}
 use Rattle.layout.specs.LaidOut.{layoutRead, layoutVerdict, laidOut, afterLayout, afterReading}
 use Rattle.layout.proofs.Answers.{verdict-is}
 use Rattle.layout.proofs.Scopes.{no-fault-accepted}

@@ -17,8 +17,8 @@ use Rattle.text.proofs.ReadLaws.{length-frames, array-length, read-field, lengt
 use Rattle.layout.specs.declared.LaidOut.{LaidOut}
 use Rattle.layout.specs.declared.found.Found.{Found}
 use Rattle.layout.specs.declared.found.Found.the-variants.{At, Nowhere}
-use Rattle.layout.specs.Scans.{headerFault, fieldFault, orderFault, depthFault, layoutOf}
-use Rattle.layout.specs.Passes.{found}
+use Rattle.layout.specs.inner.Scans.{headerFault, fieldFault, orderFault, depthFault, layoutOf}
+use Rattle.layout.specs.inner.Passes.{found}
 use Rattle.layout.specs.LaidOut.{layoutRead, layoutVerdict, laidOut}
 use Rattle.layout.proofs.Finds.{found-none, found-some}
 

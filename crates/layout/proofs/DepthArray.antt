@@ -15,7 +15,7 @@ use Rattle.language.specs.declared.kind.Kind.the-variants.{Module}
 use Rattle.language.specs.declared.frame.Frame.{Frame}
 use Rattle.program.specs.Trees.{frameAt}
 use Rattle.layout.specs.Depths.{Depth}
-use Rattle.layout.specs.Passes.{given, raised, raisedAll, depthsDown}
+use Rattle.layout.specs.inner.Passes.{given, raised, raisedAll, depthsDown}
 use Rattle.layout.proofs.Trees.{is-module, Among, in-body}
 use Rattle.layout.proofs.Depths.{AtLeast, body-depth, child-depth}
 

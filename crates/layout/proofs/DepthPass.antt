@@ -17,8 +17,8 @@ use Rattle.text.specs.Frames.{framesOf}
 use Rattle.text.proofs.FrameWords.{frames-length}
 use Rattle.layout.specs.declared.found.Found.the-variants.{At, Nowhere}
 use Rattle.layout.specs.Faults.{Fault}
-use Rattle.layout.specs.Scans.{orderFault, depthFault}
-use Rattle.layout.specs.Passes.{found, depthsDown, firstOver}
+use Rattle.layout.specs.inner.Scans.{orderFault, depthFault}
+use Rattle.layout.specs.inner.Passes.{found, depthsDown, firstOver}
 use Rattle.layout.proofs.Searches.{Lowest, same-low, lowest-all, lowest-one}
 use Rattle.layout.proofs.Trees.{HasTree, tree-in}
 use Rattle.layout.proofs.Order.{order-low, all-trees}

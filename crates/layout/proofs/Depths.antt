@@ -18,7 +18,7 @@ use Rattle.language.specs.Kinds.{isModule, Child, children}
 use Rattle.program.specs.Trees.{frameAt}
 use Rattle.layout.specs.Depths.{deepest, Depth}
 use Rattle.layout.specs.Faults.{Fault}
-use Rattle.layout.specs.Scans.{lowestChild, deepTo, deepIn, firstDeep, depthFault}
+use Rattle.layout.specs.inner.Scans.{lowestChild, deepTo, deepIn, firstDeep, depthFault}
 use Rattle.basics.proofs.Ifs.{if-all}
 use Rattle.layout.proofs.Searches.{Lowest, either, same-low}
 use Rattle.layout.proofs.Trees.{is-module, tree-in, HasTree, From, from-next, from-start, Among, none-in, in-body, only-body}

@@ -22,8 +22,8 @@ use Rattle.layout.specs.declared.found.Found.{Found}
 use Rattle.layout.specs.declared.found.Found.the-variants.{At, Nowhere}
 use Rattle.layout.specs.declared.frames.ChildRead.{ChildRead}
 use Rattle.layout.specs.declared.frames.ChildRead.the-variants.{ChildAt, NoChild}
-use Rattle.layout.specs.Scans.{Passed, passed, sameClass, rowFirst, firstDisorder}
-use Rattle.layout.specs.Passes.{found, childRead, told, Backward}
+use Rattle.layout.specs.inner.Scans.{Passed, passed, sameClass, rowFirst, firstDisorder}
+use Rattle.layout.specs.inner.Passes.{found, childRead, told, Backward}
 use Rattle.layout.proofs.Disorder.{nobody, at-passed}
 use Rattle.layout.proofs.Finds.{found-none, found-some}
 use Rattle.layout.proofs.FrameLaws.{frames-next, few, reversed, no-child-is, child-is}

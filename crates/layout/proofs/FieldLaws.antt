@@ -24,8 +24,8 @@ use Rattle.layout.specs.declared.found.Found.{Found}
 use Rattle.layout.specs.declared.found.Found.the-variants.{At, Nowhere}
 use Rattle.layout.specs.declared.fields.Tally.{Tally}
 use Rattle.layout.specs.Fields.{headerFine, schedulersOf, firstContentFine}
-use Rattle.layout.specs.Scans.{headerFault}
-use Rattle.layout.specs.Passes.{found}
+use Rattle.layout.specs.inner.Scans.{headerFault}
+use Rattle.layout.specs.inner.Passes.{found}
 
 -- ---- the header
 module _ (f : Frame) (x : Bool) (h : x ≡ isHeader (f .kind)) where

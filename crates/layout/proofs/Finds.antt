@@ -8,7 +8,7 @@ use Rattle.basics.specs.Searches.{earlier}
 use Rattle.basics.proofs.Ifs.{yes, no}
 use Rattle.layout.specs.declared.found.Found.{Found}
 use Rattle.layout.specs.declared.found.Found.the-variants.{At, Nowhere}
-use Rattle.layout.specs.Passes.{found, optionOf}
+use Rattle.layout.specs.inner.Passes.{found, optionOf}
 
 pub option-found : (o : Option ℕ) → optionOf (found o) ≡ o
 option-found none = refl

@@ -15,7 +15,7 @@ use Rattle.text.specs.Frames.{frameOfWord, framesOf}
 use Rattle.text.proofs.FrameWords.{frames-length, frame-at}
 use Rattle.layout.specs.declared.frames.ChildRead.{ChildRead}
 use Rattle.layout.specs.declared.frames.ChildRead.the-variants.{ChildAt, NoChild}
-use Rattle.layout.specs.Passes.{childRead}
+use Rattle.layout.specs.inner.Passes.{childRead}
 
 -- ---- frames
 pub frame-read : (ws : List ℕ) (i : ℕ) (f : Frame) → f ≡ frameOfWord (getD ws i 0) → i < length ws → f ≡ frameAt (framesOf ws) i

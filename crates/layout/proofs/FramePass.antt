@@ -24,8 +24,8 @@ use Rattle.text.specs.Frames.{framesOf}
 use Rattle.layout.specs.declared.found.Found.the-variants.{At, Nowhere}
 use Rattle.layout.specs.declared.fields.Tally.{Tally}
 use Rattle.layout.specs.Fields.{schedulersOf, firstContentFine, fieldFine, countOf, kindFine, frameFine}
-use Rattle.layout.specs.Scans.{fieldFault}
-use Rattle.layout.specs.Passes.{found, tallyOf}
+use Rattle.layout.specs.inner.Scans.{fieldFault}
+use Rattle.layout.specs.inner.Passes.{found, tallyOf}
 use Rattle.layout.proofs.FrameLaws.{frames-more}
 use Rattle.layout.proofs.Seeking.{Seeking, seek-here, seek-next, seek-end}
 use Rattle.layout.proofs.Tallies.{tally, is-shared, tally-cells, tally-modules, types-taken, counted-one, counted-none, tally-other, tally-module, tally-cell}

@@ -15,7 +15,7 @@ use Rattle.language.specs.declared.verdict.Verdict.the-variants.{Accepted, Reje
 use Rattle.program.specs.Trees.{noFrame, frameAt}
 use Rattle.layout.specs.Faults.{Fault, LayoutSays}
 use Rattle.layout.specs.Fields.{headerFine, frameFine}
-use Rattle.layout.specs.Scans.{headerFault, fieldFault, orderFault, depthFault, rejectAt, layoutOf}
+use Rattle.layout.specs.inner.Scans.{headerFault, fieldFault, orderFault, depthFault, rejectAt, layoutOf}
 use Rattle.basics.proofs.Ifs.{if-all}
 use Rattle.layout.proofs.Searches.{Lowest, same-low, lowest-all}
 use Rattle.layout.proofs.Order.{order-low, all-trees}

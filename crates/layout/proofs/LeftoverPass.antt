@@ -22,8 +22,8 @@ use Rattle.layout.specs.declared.found.Found.the-variants.{At, Nowhere}
 use Rattle.layout.specs.declared.frames.ChildRead.{ChildRead}
 use Rattle.layout.specs.declared.frames.ChildRead.the-variants.{ChildAt, NoChild}
 use Rattle.layout.specs.Order.{hasChild, hasClass}
-use Rattle.layout.specs.Scans.{firstLeftover}
-use Rattle.layout.specs.Passes.{found, childRead, marked, marks, markAll}
+use Rattle.layout.specs.inner.Scans.{firstLeftover}
+use Rattle.layout.specs.inner.Passes.{found, childRead, marked, marks, markAll}
 use Rattle.layout.proofs.FrameLaws.{frames-next, no-child-is, child-is, by-fields}
 use Rattle.layout.proofs.Order.{leftoverTest, leftover-lowest}
 use Rattle.layout.proofs.Seeking.{Seeking, seek-here, seek-next, seek-end}

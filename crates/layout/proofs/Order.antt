@@ -15,11 +15,11 @@ use Rattle.basics.proofs.Ifs.{and-true, if-all}
 use Rattle.language.specs.Kinds.{isHeader, isShared, classOf, Child, children}
 use Rattle.language.specs.declared.frame.Frame.{Frame}
 use Rattle.program.specs.Trees.{noFrame, frameAt}
-use Rattle.program.specs.Ordered.{Ordered}
+use Rattle.program.specs.inner.Ordered.{Ordered}
 use Rattle.layout.proofs.Searches.{Lowest, either, same-low, lowest-all, any-more, any-none, any-false, any-true, any-some}
 use Rattle.layout.specs.Faults.{Fault}
 use Rattle.layout.specs.Order.{hasChild, hasClass, isMain, Tree, Row}
-use Rattle.layout.specs.Scans.{isBehind, isLeftover, firstLeftover, noMain, orderFault}
+use Rattle.layout.specs.inner.Scans.{isBehind, isLeftover, firstLeftover, noMain, orderFault}
 use Rattle.layout.proofs.Trees.{HasTree, row-le}
 use Rattle.layout.proofs.Disorder.{NoTree, disorder-low, no-disorder}
 

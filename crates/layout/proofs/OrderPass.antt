@@ -17,8 +17,8 @@ use Rattle.text.proofs.FrameWords.{frames-length}
 use Rattle.layout.specs.declared.found.Found.{Found}
 use Rattle.layout.specs.declared.found.Found.the-variants.{At, Nowhere}
 use Rattle.layout.specs.Order.{isMain}
-use Rattle.layout.specs.Scans.{firstDisorder, isBehind, firstLeftover, noMain, orderFault}
-use Rattle.layout.specs.Passes.{found, optionOf}
+use Rattle.layout.specs.inner.Scans.{firstDisorder, isBehind, firstLeftover, noMain, orderFault}
+use Rattle.layout.specs.inner.Passes.{found, optionOf}
 use Rattle.layout.proofs.Finds.{option-found}
 use Rattle.layout.proofs.FrameLaws.{frames-more}
 use Rattle.layout.proofs.Searches.{any-append}

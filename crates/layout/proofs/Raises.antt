@@ -15,7 +15,7 @@ use Rattle.language.specs.declared.frame.Frame.{Frame}
 use Rattle.program.specs.Trees.{frameAt}
 use Rattle.layout.specs.declared.frames.ChildRead.{ChildRead}
 use Rattle.layout.specs.declared.frames.ChildRead.the-variants.{ChildAt, NoChild}
-use Rattle.layout.specs.Passes.{childRead, given, raised, raisedAll, depthsDown}
+use Rattle.layout.specs.inner.Passes.{childRead, given, raised, raisedAll, depthsDown}
 use Rattle.layout.proofs.FrameLaws.{no-child-is, child-is, by-fields}
 
 -- ---- one depth

@@ -19,14 +19,14 @@ use Rattle.language.specs.declared.frame.Frame.{Frame}
 use Rattle.language.specs.declared.verdict.Verdict.the-variants.{Accepted}
 use Rattle.language.proofs.PlaceLaws.{has-place}
 use Rattle.program.specs.Trees.{noFrame, frameAt}
-use Rattle.program.specs.Ordered.{Placed}
+use Rattle.program.specs.inner.Ordered.{Placed}
 use Rattle.program.specs.Programs.{sharedOf, programOf, typeOfShared}
 use Rattle.layout.specs.Fields.{schedulersOf, fieldFine, countOf, kindFine, frameFine}
 use Rattle.layout.specs.Order.{isMain}
 use Rattle.layout.specs.Depths.{Depth}
 use Rattle.layout.specs.Faults.{Fault, NoFault, LayoutSays}
-use Rattle.layout.specs.Scans.{layoutOf}
-use Rattle.layout.specs.Scope.{Room}
+use Rattle.layout.specs.inner.Scans.{layoutOf}
+use Rattle.layout.specs.inner.Scope.{Room}
 use Rattle.program.proofs.NodeLaws.{childrenAs, children-as}
 use Rattle.layout.proofs.Trees.{is-module, tree-in}
 use Rattle.layout.proofs.Order.{all-trees}

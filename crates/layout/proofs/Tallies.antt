@@ -17,7 +17,7 @@ use Rattle.program.specs.Programs.{typeOfShared, sharedOf, cellsOf}
 use Rattle.program.proofs.OneMore.{shared-no, shared-yes}
 use Rattle.layout.specs.declared.fields.Tally.{Tally}
 use Rattle.layout.specs.Fields.{countOf}
-use Rattle.layout.specs.Passes.{tallyOf}
+use Rattle.layout.specs.inner.Passes.{tallyOf}
 
 -- ---- shared cells
 pub is-shared : (k : Kind) → isShared k ≡ true → k ≡ Shared

@@ -8,7 +8,7 @@ use Rattle.language.specs.declared.verdict.Verdict.the-variants.{Accepted, Reje
 use Rattle.text.specs.Reading.{Reading, frames, refused, reading, Reads, linesRead, textWords}
 use Rattle.layout.specs.declared.LaidOut.{LaidOut}
 use Rattle.layout.specs.Faults.{LayoutSays}
-use Rattle.layout.specs.Scans.{layoutOf}
+use Rattle.layout.specs.inner.Scans.{layoutOf}
 
 -- `HasLayout bs v`: what refusals 1 to 7 say of the text bs, by their rules; nothing is computed here
 pub data HasLayout : List ℕ → Verdict → Type 0 where

@@ -13,8 +13,8 @@ ghost use Prim.Native.Nat.{_<_, _≤_};
 ghost use lib.ListN.{length};
 ghost use Rattle.language.specs.Kinds.{childIn, children};
 ghost use Rattle.text.specs.Frames.{framesOf};
-ghost use Rattle.layout.specs.Scans.{orderFault, depthFault};
-ghost use Rattle.layout.specs.Passes.{found, given, raised, raisedAll, depthsDown};
+ghost use Rattle.layout.specs.inner.Scans.{orderFault, depthFault};
+ghost use Rattle.layout.specs.inner.Passes.{found, given, raised, raisedAll, depthsDown};
 
 // At v a depth of at least d. A number behind the last frame raises nothing.
 fn raise(u: &mut [u8; 1024], d: u8, v: u16)

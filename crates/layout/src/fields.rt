@@ -24,8 +24,8 @@ ghost use Rattle.language.specs.Types.{typeWord, cellType, roomAround};
 ghost use Rattle.program.specs.Trees.{frameAt};
 ghost use Rattle.text.specs.Frames.{framesOf};
 ghost use Rattle.layout.specs.Fields.{headerFine, schedulersOf, firstContentFine, fieldFine, kindFine, frameFine};
-ghost use Rattle.layout.specs.Scans.{headerFault, fieldFault};
-ghost use Rattle.layout.specs.Passes.{found, tallyOf};
+ghost use Rattle.layout.specs.inner.Scans.{headerFault, fieldFault};
+ghost use Rattle.layout.specs.inner.Passes.{found, tallyOf};
 
 // Of the frames passed: how many are shared cells, how many are modules, and the types of these cells.
 pub struct Tally {

@@ -1,7 +1,7 @@
 // What a pass finds.
 ghost use mathlib.Core.Path.{_≡_};
 ghost use Rattle.basics.specs.Searches.{earlier};
-ghost use Rattle.layout.specs.Passes.{found, optionOf};
+ghost use Rattle.layout.specs.inner.Passes.{found, optionOf};
 
 // The lowest frame that has a fault, if one has it.
 pub(crate) enum Found {

@@ -9,8 +9,8 @@ ghost use lib.ListN.{length};
 ghost use Rattle.language.specs.Kinds.{childIn};
 ghost use Rattle.program.specs.Trees.{frameAt};
 ghost use Rattle.text.specs.Frames.{framesOf};
-ghost use Rattle.layout.specs.Scans.{sameClass};
-ghost use Rattle.layout.specs.Passes.{childRead};
+ghost use Rattle.layout.specs.inner.Scans.{sameClass};
+ghost use Rattle.layout.specs.inner.Passes.{childRead};
 
 // A field's child: the class that it is to be of, and its frame's number.
 pub(crate) enum ChildRead {

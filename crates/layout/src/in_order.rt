@@ -25,8 +25,8 @@ ghost use Rattle.language.specs.Kinds.{isHeader, isShared, child, childIn, chil
 ghost use Rattle.language.specs.declared.frame.Frame.{Frame};
 ghost use Rattle.text.specs.Frames.{framesOf};
 ghost use Rattle.layout.specs.Order.{hasClass, isMain};
-ghost use Rattle.layout.specs.Scans.{rowFirst, firstDisorder, isBehind, firstLeftover, noMain, orderFault};
-ghost use Rattle.layout.specs.Passes.{found, told, Backward, marked, marks, markAll};
+ghost use Rattle.layout.specs.inner.Scans.{rowFirst, firstDisorder, isBehind, firstLeftover, noMain, orderFault};
+ghost use Rattle.layout.specs.inner.Passes.{found, told, Backward, marked, marks, markAll};
 
 // Where the tree of the child v begins, which is to be of that class and to end just before `stop`; `first` says where the tree of each frame before i begins. A row ends at i or before, so that a number from i on is out of order.
 fn child_first(

@@ -11,7 +11,7 @@ ghost use mathlib.Core.Path.{_≡_};
 ghost use Prim.Native.Nat.{_<_, _≤_};
 ghost use lib.ListN.{length};
 ghost use Rattle.text.specs.Frames.{framesOf};
-ghost use Rattle.layout.specs.Scans.{layoutOf};
+ghost use Rattle.layout.specs.inner.Scans.{layoutOf};
 ghost use Rattle.layout.specs.LaidOut.{Judged, laidOut};
 
 mod depth;

@@ -7,7 +7,7 @@ use native.Mathlib.Numerals.{add-one}
 use native.Mathlib.Omega.{arith}
 use borrow.Author.Tests.{not-true, not-false}
 use Rattle.basics.proofs.Ifs.{if-yes, if-no}
-use Rattle.text.specs.Lines.{frameRead}
+use Rattle.text.specs.inner.Lines.{frameRead}
 use Rattle.text.specs.declared.line.FrameRead.{FrameRead}
 use Rattle.text.proofs.FrameLaws.{frame-over}
 use Rattle.lines.specs.Readers.{isRead, framesOfNext, framesFrom}

@@ -6,7 +6,7 @@ use lib.Dec.{ltb}
 use lib.ListN.{length}
 use denote.Ref.{RefT, now}
 use Rattle.basics.specs.If.{if_then_else_}
-use Rattle.text.specs.Lines.{frameRead}
+use Rattle.text.specs.inner.Lines.{frameRead}
 use Rattle.text.specs.declared.line.FrameRead.{FrameRead}
 use Rattle.text.specs.declared.line.FrameRead.the-variants.{Read, NoFrame}
 use Rattle.lines.specs.declared.LineReader.{LineReader}

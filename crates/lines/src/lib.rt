@@ -3,7 +3,7 @@
 use text::line::FrameRead;
 use text::line::frame_at;
 ghost use mathlib.Core.Path.{_≡_};
-ghost use Rattle.text.specs.Lines.{frameRead};
+ghost use Rattle.text.specs.inner.Lines.{frameRead};
 ghost use Rattle.lines.specs.Readers.{lineAfter, linesFrom, isRead, framesFrom, opened, frameHere, moved, linesLeft, framesAhead};
 
 pub struct LineReader<'a> {

@@ -12,7 +12,7 @@ use Rattle.basics.proofs.Ifs.{yes, no}
 use Rattle.text.specs.Digits.{digit, digitTable}
 use Rattle.text.proofs.Table.{table-at}
 use Rattle.listing.specs.Listing.{Choices, choices, malformed, alsoChoice, isChoice, choicesFrom}
-use Rattle.listing.specs.Choices.{countRead, judged, choiceAt}
+use Rattle.listing.specs.inner.Choices.{countRead, judged, choiceAt}
 use Rattle.listing.specs.declared.choices.ChoicesRead.{ChoicesRead}
 use Rattle.listing.specs.declared.choices.ChoicesRead.the-variants as read
 

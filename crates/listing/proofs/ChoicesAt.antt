@@ -11,7 +11,7 @@ use borrow.Author.Tests.{ltb-true, lt-ltb}
 use Rattle.basics.proofs.Ifs.{and-true, yes}
 use Rattle.text.specs.Digits.{digit}
 use Rattle.listing.specs.Listing.{Choices, choices, malformed, alsoChoice, isChoice, choicesFrom}
-use Rattle.listing.specs.Choices.{choiceAt}
+use Rattle.listing.specs.inner.Choices.{choiceAt}
 
 -- the bytes are the lines of these choices
 data Lines : List ℕ → List ℕ → Type 0 where

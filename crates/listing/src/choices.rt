@@ -2,7 +2,7 @@
 use text::digit::digit;
 use text::digit::digit_table;
 ghost use mathlib.Core.Path.{_≡_};
-ghost use Rattle.listing.specs.Choices.{judged, choiceAt};
+ghost use Rattle.listing.specs.inner.Choices.{judged, choiceAt};
 
 // How many choices the bytes are, or why they are none.
 pub enum ChoicesRead {

@@ -11,7 +11,7 @@ use lib.ListN.{getD, length, set, length-set, length-append, List·getD-append, 
 use lib.Seq.{getD-set-same, getD-set-other, getD-at}
 use Rattle.machine.specs.State.{State, Stored, Thread, Scheduler, noThread, noScheduler, noCell, usedCells, withThread, withScheduler, withCells, withNew}
 use Rattle.machine.specs.Words.{threadWord, schedulerWord, cellWord, pack}
-use Rattle.machine.specs.Blocks.{pasted, threadWords, schedulerWords, cellWords}
+use Rattle.machine.specs.inner.Blocks.{pasted, threadWords, schedulerWords, cellWords}
 use Rattle.machine.proofs.WordLaws.{pasted-length, pasted-in, pasted-out, Says, pack-length, word-0, word-1, word-scheduler, word-thread, word-cell, tab-length, tab-at}
 
 pub says-pack : (s : State) → Says (pack s) s

@@ -13,9 +13,9 @@ use Rattle.machine.specs.Turns.{Stepped}
 use Rattle.machine.specs.Steps.{step}
 use Rattle.machine.specs.Runs.{stepsFrom, stateFrom, steps, stateAfter}
 use Rattle.machine.specs.Words.{pack, unpack}
-use Rattle.machine.specs.Ranges.{inRange}
+use Rattle.machine.specs.inner.Ranges.{inRange}
 use Rattle.machine.specs.Calls.{Called, unchanged, freshCall, stepCall, callsFrom, wordsFrom}
-use Rattle.machine.proofs.Shapes.{Shaped}
+use Rattle.machine.specs.Shapes.{Shaped}
 use Rattle.machine.proofs.Round.{unpack-pack}
 use Rattle.machine.proofs.InShape.{shaped-in-range}
 use Rattle.machine.proofs.Calls.{programSchedulers, called-in, step-packs}

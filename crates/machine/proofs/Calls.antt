@@ -11,7 +11,7 @@ use Rattle.program.specs.Programs.{programOf}
 use Rattle.machine.specs.Turns.{Stepped}
 use Rattle.machine.specs.Steps.{step}
 use Rattle.machine.specs.Words.{pack, unpack}
-use Rattle.machine.specs.Ranges.{inRange}
+use Rattle.machine.specs.inner.Ranges.{inRange}
 use Rattle.machine.specs.Calls.{Called, unchanged, calledOf, stepCall}
 use Rattle.machine.proofs.Fair.{fair}
 use Rattle.machine.proofs.Valid.{packed}

@@ -18,16 +18,17 @@ use Rattle.machine.specs.State.{State, Stored, Item, run, back, drop, Th
 use Rattle.machine.specs.declared.value.Value.{Value}
 use Rattle.machine.specs.declared.value.Value.the-variants.{Number, Truth, Cell}
 use Rattle.machine.specs.Words.{bit, valueWord, wordValue, itemWord, wordItem, entryWord, wordEntry, cellWord, wordCell, listWord, threadWord, schedulerWord, wordsAt, threadFrom, schedulerFrom, unpack, pack}
-use Rattle.machine.specs.Ranges.{isStatement, itemInRange, valueInRange, entryInRange, threadInRange, cellInRange, ownerInRange, threadWordInRange, schedulerInRange, inRange}
+use Rattle.machine.specs.inner.Ranges.{itemInRange, valueInRange, entryInRange, threadInRange, cellInRange, threadWordInRange, schedulerInRange, inRange}
+use Rattle.machine.specs.Shapes.{isStatement, ownerInRange, ValueFits, number, truth, cell, ItemFits, run-fits, back-fits, drop-fits, EntryFits, plain-fits, waiting-fits, IsThread, ThreadFits, SchedulerFits, CellFits, Shaped}
 use Rattle.machine.proofs.Tests.{and-both}
 use Rattle.machine.proofs.Lists.{all-getD, all-imply, all-map, all-reverse}
 use Rattle.machine.proofs.Regions.{by-thread-word, by-scheduler-word}
 use Rattle.machine.proofs.WordLaws.{tab-length, tab-at, Says, thread-says, scheduler-says}
 use Rattle.machine.proofs.Blocks.{says-pack}
-use Rattle.machine.proofs.Shapes.{ValueFits, number, truth, cell, ItemFits, run-fits, back-fits, drop-fits, EntryFits, plain-fits, waiting-fits, IsThread, ThreadFits, SchedulerFits, CellFits, Shaped}
 use Rattle.machine.proofs.Round.{thread-0, thread-1, thread-2, thread-continuation, thread-variables, scheduler-active, scheduler-next, value-below}
 use Rattle.machine.proofs.Ranges.{InRange, Space, of-space, range-place, range-starter, range-lives, range-items, range-variables, range-active, range-next, in-range, range-in}
-use Rattle.machine.proofs.Valid.{list-all, items-space, values-space, active-space, next-space, no-thread-word, no-scheduler-word, no-cell-word}
+use Rattle.machine.specs.Validity.{InRangeComputes}
+use Rattle.machine.proofs.Valid.{packed, list-all, items-space, values-space, active-space, next-space, no-thread-word, no-scheduler-word, no-cell-word}
 
 -- ---- single words of a state in shape are in range
 
@@ -291,3 +292,10 @@ module _ (fs : List Frame) (n : ℕ) (w : List ℕ) (h : InRange fs n w) where
 -- words in range say a state in shape
 pub in-range-shaped : (fs : List Frame) (n : ℕ) (w : List ℕ) → n ≤ 8 → inRange fs n w ≡ true → Shaped fs n (unpack fs n w)
 in-range-shaped fs n w m e = range-shaped fs n w (in-range fs n w e) m
+
+-- ---- 14: words are in range exactly where they are those of a state in shape
+pub in-range-computes : InRangeComputes
+in-range-computes fs n m w = (
+  λ e. record { state = unpack fs n w; shaped = in-range-shaped fs n w m e; words = packed fs n w e },
+  λ z. ap (inRange fs n) (z .words) ∙ shaped-in-range fs n (z .state) (z .shaped),
+)

@@ -17,14 +17,13 @@ use Rattle.program.specs.Trees.{Expr}
 use Rattle.machine.specs.Accesses.{Access}
 use Rattle.machine.specs.State.{Stored, cellAt, noCell, isUsed, usedCells, withNewCell, threadOwner}
 use Rattle.machine.specs.Evaluation.{Here, Evaluated, Evaluation, gives, after, andThen, _>>=_, isOwn, accessOf, accessing, atCell, readVariable, sharedCell, addCell, newOwner, makeCell, readCell, putIn, storeCell, ofNumbers, plus, lessThan, byTruth, aNumber, eval, storing}
-use Rattle.machine.specs.Ranges.{ownerInRange}
+use Rattle.machine.specs.Shapes.{ownerInRange, ValueFits, number, truth, cell, CellFits, IsThread}
 use Rattle.machine.specs.declared.value.Value.{Value}
 use Rattle.machine.specs.declared.value.Value.the-variants.{Number, Truth, Cell}
 use Rattle.machine.specs.declared.value.Outcome.{Outcome}
 use Rattle.machine.specs.declared.value.Outcome.the-variants.{Is, Foreign, Spent, Stuck}
 use Rattle.machine.proofs.Tests.{and-both, or-left, or-right}
 use Rattle.machine.proofs.Lists.{all-getD}
-use Rattle.machine.proofs.Shapes.{ValueFits, number, truth, cell, CellFits, IsThread}
 
 -- ---- a list with a member replaced, and with one more, where Q holds of each by its index
 

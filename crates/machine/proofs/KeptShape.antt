@@ -23,14 +23,14 @@ use Rattle.machine.specs.Statements.{ends, drops, goesBack, stepNothing,
 use Rattle.machine.specs.Steps.{turn, stepItems, stepThread, stepThreadWithin, turnInstant, endInstant, stepScheduler, isUnlinked, step, stepWithin}
 use Rattle.machine.specs.Runs.{stateFrom, stateAfter}
 use Rattle.machine.specs.Words.{pack}
-use Rattle.machine.specs.Ranges.{isStatement, inRange}
+use Rattle.machine.specs.inner.Ranges.{inRange}
+use Rattle.machine.specs.Shapes.{isStatement, ValueFits, ItemFits, run-fits, back-fits, drop-fits, IsThread, EntryFits, plain-fits, waiting-fits, ThreadFits, SchedulerFits, CellFits, Shaped}
 use Rattle.machine.specs.declared.value.Value.{Value}
 use Rattle.machine.specs.declared.value.Value.the-variants.{Number, Truth, Cell}
 use Rattle.machine.specs.declared.value.Outcome.{Outcome}
 use Rattle.machine.specs.declared.value.Outcome.the-variants.{Is, Foreign, Spent, Stuck}
 use Rattle.machine.proofs.Lists.{all-getD, all-map, all-append, all-take}
 use Rattle.machine.proofs.Space.{leave-threads, nth-length, parted}
-use Rattle.machine.proofs.Shapes.{ValueFits, ItemFits, run-fits, back-fits, drop-fits, IsThread, EntryFits, plain-fits, waiting-fits, ThreadFits, SchedulerFits, CellFits, Shaped}
 use Rattle.machine.proofs.InShape.{shaped-in-range}
 use Rattle.machine.proofs.KeptCells.{each-set, each-snoc, CellsFit, HereFits, ExprFits, OutcomeFits, is-value, EvalFits, fit-eval, fit-storing}
 

@@ -18,7 +18,6 @@ pub mod WordLaws
 pub mod Blocks
 pub mod Padded
 -- States in shape and words in range: from a state to its words and back, from words to their state and back, and the one from the other.
-pub mod Shapes
 pub mod Round
 pub mod Ranges
 pub mod Valid

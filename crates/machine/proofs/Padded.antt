@@ -9,7 +9,7 @@ use lib.Dec.{ltb}
 use borrow.Author.Tests.{ltb-true, ltb-false}
 use lib.ListN.{getD, length, set, length-set, length-append, List·getD-append, List·getD-eq-default}
 use lib.Seq.{ext-getD, getD-at, getD-set-same, getD-set-other}
-use Rattle.machine.specs.Blocks.{padded}
+use Rattle.machine.specs.inner.Blocks.{padded}
 use Rattle.machine.proofs.WordLaws.{tab-length, tab-at}
 
 pub padded-length : (n : ℕ) (ws : List ℕ) → length (padded n ws) ≡ n

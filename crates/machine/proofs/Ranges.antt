@@ -12,7 +12,7 @@ use Rattle.basics.specs.If.{if_then_else_}
 use Rattle.basics.proofs.Ifs.{if-all, if-yes, if-no, and-true}
 use Rattle.language.specs.Places.{hasPlace}
 use Rattle.language.specs.declared.frame.Frame.{Frame}
-use Rattle.machine.specs.Ranges.{threadInRange, valueInRange, itemInRange, entryInRange, cellInRange, listInRange, schedulerInRange, threadWordInRange, wordInRange, allBelow, inRange}
+use Rattle.machine.specs.inner.Ranges.{threadInRange, valueInRange, itemInRange, entryInRange, cellInRange, listInRange, schedulerInRange, threadWordInRange, wordInRange, allBelow, inRange}
 use Rattle.machine.proofs.Tests.{and-both}
 use Rattle.machine.proofs.Regions.{by-region}
 

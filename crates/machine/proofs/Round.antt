@@ -17,7 +17,7 @@ use Rattle.machine.specs.declared.value.Value.{Value}
 use Rattle.machine.specs.declared.value.Value.the-variants.{Number, Truth, Cell}
 use Rattle.machine.specs.Words.{bit, valueWord, wordValue, itemWord, wordItem, entryWord, wordEntry, cellWord, wordCell, listWord, threadWord, schedulerWord, tabulate, wordsAt, threadFrom, schedulerFrom, unpack, pack}
 use Rattle.machine.proofs.WordLaws.{tab-length, tab-at, Says, thread-says, scheduler-says}
-use Rattle.machine.proofs.Shapes.{ValueFits, number, truth, cell, ItemFits, run-fits, back-fits, drop-fits, EntryFits, plain-fits, waiting-fits, ThreadFits, SchedulerFits, Shaped}
+use Rattle.machine.specs.Shapes.{ValueFits, number, truth, cell, ItemFits, run-fits, back-fits, drop-fits, EntryFits, plain-fits, waiting-fits, ThreadFits, SchedulerFits, Shaped}
 use Rattle.machine.proofs.Blocks.{says-pack}
 
 -- ---- single words: `x-back` says that the word of x says x

@@ -15,7 +15,8 @@ use Rattle.language.specs.declared.frame.Frame.{Frame}
 use Rattle.program.proofs.Roots.{statement-root}
 use Rattle.machine.specs.State.{Stored, Thread, Scheduler, noThread, noScheduler, noCell}
 use Rattle.machine.specs.Words.{bit, valueWord, wordValue, itemWord, wordItem, entryWord, wordEntry, cellWord, wordCell, listWord, threadWord, schedulerWord, tabulate, wordsAt, threadFrom, schedulerFrom, unpack, pack}
-use Rattle.machine.specs.Ranges.{itemInRange, valueInRange, entryInRange, threadInRange, cellInRange, ownerInRange, inRange}
+use Rattle.machine.specs.inner.Ranges.{itemInRange, valueInRange, entryInRange, threadInRange, cellInRange, inRange}
+use Rattle.machine.specs.Shapes.{ownerInRange}
 use Rattle.machine.proofs.Lists.{all-reverse}
 use Rattle.machine.proofs.Regions.{by-thread-word, by-scheduler-word}
 use Rattle.machine.proofs.WordLaws.{tab-length, tab-at, tab-from, Says, is-pack}

@@ -13,7 +13,7 @@ use borrow.Author.Tests.{ltb-true, ltb-false, lt-ltb, le-ltb, eq-eqb, ne-eqb}
 use Rattle.basics.proofs.Ifs.{if-yes, if-no}
 use Rattle.machine.specs.State.{State, noThread, noScheduler, noCell, usedCells}
 use Rattle.machine.specs.Words.{tabulate, threadWord, schedulerWord, cellWord, wordOf, pack}
-use Rattle.machine.specs.Blocks.{part, pasted}
+use Rattle.machine.specs.inner.Blocks.{part, pasted}
 use Rattle.machine.proofs.Regions.{by-region}
 
 -- ---- tables

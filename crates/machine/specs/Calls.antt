@@ -10,7 +10,7 @@ use Rattle.machine.specs.Turns.{Stepped}
 use Rattle.machine.specs.Fresh.{fresh}
 use Rattle.machine.specs.Steps.{step}
 use Rattle.machine.specs.Words.{pack, unpack}
-use Rattle.machine.specs.Ranges.{inRange}
+use Rattle.machine.specs.inner.Ranges.{inRange}
 
 -- the answer, the acting thread (0: none), and the words behind the call
 pub record Called : Type 0 where

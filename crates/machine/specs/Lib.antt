@@ -9,6 +9,7 @@ pub mod Statements
 pub mod Steps
 pub mod Runs
 pub mod Words
-pub mod Ranges
+pub mod Shapes
+pub mod Validity
 pub mod Calls
-pub mod Blocks
+pub mod inner

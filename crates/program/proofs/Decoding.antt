@@ -15,7 +15,7 @@ use Rattle.language.specs.declared.kind.Kind.{Kind}
 use Rattle.language.specs.declared.kind.Kind.the-variants.{Header, Shared, Module, Statement, Expression, Unknown}
 use Rattle.language.specs.declared.frame.Frame.{Frame}
 use Rattle.program.specs.Trees.{Expr, new, content, sum, less, choose, Stmt, noFrame, frameAt, expressionWith, expressionOf, expressionTo, expressionAt, statementWith, statementOf, statementTo, statementAt}
-use Rattle.program.specs.Ordered.{Ordered}
+use Rattle.program.specs.inner.Ordered.{Ordered}
 
 -- a frame with its kind written out, for the laws to compute on
 abbrev frame : Kind → ℕ → ℕ → ℕ → ℕ → Frame

@@ -5,3 +5,7 @@ pub mod Decoding
 pub mod OneMore
 -- Frames taken apart.
 pub mod NodeLaws
+-- Modules by number, main's body, the shared cells counted.
+pub mod MainLaws
+pub mod ModuleLaws
+pub mod SharedLaws

@@ -13,7 +13,7 @@ use Rattle.language.specs.declared.kind.Kind.{Kind}
 use Rattle.language.specs.declared.kind.Kind.the-variants.{Statement, Expression}
 use Rattle.language.specs.declared.kind.Use.{Use}
 use Rattle.language.specs.declared.frame.Frame.{Frame}
-use Rattle.program.specs.Nodes.{expressionNodeOf, expressionNodeIn, expressionNode, statementNodeOf, statementNodeIn, statementNode}
+use Rattle.program.specs.inner.Nodes.{expressionNodeOf, expressionNodeIn, expressionNode, statementNodeOf, statementNodeIn, statementNode}
 use Rattle.program.specs.declared.node.ExpressionNode.{ExpressionNode}
 use Rattle.program.specs.declared.node.StatementNode.{StatementNode}
 

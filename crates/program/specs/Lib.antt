@@ -1,4 +1,3 @@
 pub mod Trees
 pub mod Programs
-pub mod Ordered
-pub mod Nodes
+pub mod inner

@@ -1,2 +1,4 @@
-// Programs: the trees of statements and expressions that frames are, and a frame taken apart.
+// Programs: the trees of statements and expressions that frames are, and frames taken apart.
+pub mod module;
 pub mod node;
+pub mod shared;

@@ -9,7 +9,7 @@ ghost use mathlib.Core.Bool.{true};
 ghost use Rattle.language.specs.Places.{isPlace};
 ghost use Rattle.language.specs.Kinds.{statementUses, expressionUses, NamesPlace};
 ghost use Rattle.language.specs.declared.kind.Use.{Use};
-ghost use Rattle.program.specs.Nodes.{expressionNode, expressionNodeOf, statementNode, statementNodeOf};
+ghost use Rattle.program.specs.inner.Nodes.{expressionNode, expressionNodeOf, statementNode, statementNodeOf};
 
 // An expression, or another frame, which reads as a number.
 pub enum ExpressionNode {

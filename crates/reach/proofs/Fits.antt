@@ -27,9 +27,8 @@ use Rattle.program.proofs.Roots.{statement-root}
 use Rattle.machine.specs.State.{run}
 use Rattle.machine.specs.Fresh.{firstCell}
 use Rattle.machine.specs.Values.{firstContent}
-use Rattle.machine.specs.Ranges.{isStatement, ownerInRange}
+use Rattle.machine.specs.Shapes.{isStatement, ownerInRange, ValueFits, CellFits, ItemFits, run-fits}
 use Rattle.machine.proofs.Lists.{all-getD, all-imply}
-use Rattle.machine.proofs.Shapes.{ValueFits, CellFits, ItemFits, run-fits}
 use Rattle.machine.proofs.KeptCells.{ExprFits, a-number, a-truth, a-variable, a-shared, a-new, a-content, a-sum, a-less, a-choice}
 use Rattle.machine.proofs.KeptShape.{Parts, of-nothing, of-cooperate, of-seq, of-do, of-start, of-wait, of-let, of-store, of-if, of-while, FileFits, reached-in-range}
 use Rattle.machine.proofs.CallRuns.{calls-are}

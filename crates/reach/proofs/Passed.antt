@@ -15,7 +15,7 @@ use Rattle.language.specs.declared.kind.Kind.{Kind}
 use Rattle.language.specs.declared.kind.Kind.the-variants.{Module}
 use Rattle.language.specs.declared.frame.Frame.{Frame}
 use Rattle.program.specs.Trees.{frameAt, noFrame}
-use Rattle.program.specs.Ordered.{Ordered}
+use Rattle.program.specs.inner.Ordered.{Ordered}
 use Rattle.layout.specs.Fields.{headerFine, schedulersOf, fieldFine, kindFine, frameFine}
 use Rattle.layout.specs.Order.{Row, hasClass, isMain}
 use Rattle.layout.specs.Depths.{Depth}

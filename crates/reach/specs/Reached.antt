@@ -12,7 +12,7 @@ use Rattle.machine.specs.Turns.{endlessSpaces, Stepped}
 use Rattle.machine.specs.Steps.{step, stepWithin}
 use Rattle.machine.specs.Runs.{steps, stateAfter}
 use Rattle.machine.specs.Words.{pack}
-use Rattle.machine.specs.Ranges.{inRange}
+use Rattle.machine.specs.inner.Ranges.{inRange}
 use Rattle.machine.specs.Calls.{freshCall, callsFrom}
 
 -- the frames fs are those of some text, and pass refusals 4 to 7

@@ -13,9 +13,9 @@ use Rattle.layout.specs.LaidOut.{laidOut}
 use Rattle.layout.specs.declared.LaidOut.{LaidOut}
 use Rattle.layout.proofs.Accepted.{Passed, laid-passed}
 use Rattle.layout.proofs.AfterLayout.{text-refused, text-passed}
-use Rattle.rules.specs.Checking.{rulesOf}
+use Rattle.rules.specs.inner.Checking.{rulesOf}
 use Rattle.rules.specs.Verdict.{verdict, Checked}
-use Rattle.rules.specs.Frames.{FileIn}
+use Rattle.rules.specs.inner.Frames.{FileIn}
 use Rattle.rules.proofs.Whole.{verdict-computes}
 
 promise : (bs : List ℕ) (r : Verdict) → r ≡ verdict bs → Checked bs r

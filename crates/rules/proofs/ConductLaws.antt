@@ -21,13 +21,13 @@ use Rattle.language.specs.declared.frame.Frame.{Frame}
 use Rattle.text.specs.Frames.{framesOf}
 use Rattle.program.specs.Trees.{frameAt, expressionAt, arguments, statementOf, statementAt}
 use Rattle.program.proofs.Decoding.{statement-at}
-use Rattle.layout.specs.Scope.{Room}
+use Rattle.layout.specs.inner.Scope.{Room}
 use Rattle.rules.specs.Rules.{Signature}
-use Rattle.rules.specs.Checking.{Argued, argue, typesIn, isLinked, startRule, cooperateRule, seqRule, doRule, joinRule, letRule, storeRule, ifElseRule, whileRule, runIn}
-use Rattle.rules.specs.Standings.{standing}
-use Rattle.rules.specs.Signatures.{noArguments, arguedOf, signatureOf}
-use Rattle.program.specs.Nodes.{statementNodeOf, statementNodeIn}
-use Rattle.rules.specs.Frames.{FrameIn}
+use Rattle.rules.specs.inner.Checking.{Argued, argue, typesIn, isLinked, startRule, cooperateRule, seqRule, doRule, joinRule, letRule, storeRule, ifElseRule, whileRule, runIn}
+use Rattle.rules.specs.inner.Standings.{standing}
+use Rattle.rules.specs.inner.Signatures.{noArguments, arguedOf, signatureOf}
+use Rattle.program.specs.inner.Nodes.{statementNodeOf, statementNodeIn}
+use Rattle.rules.specs.inner.Frames.{FrameIn}
 use Rattle.rules.specs.declared.start.Arguments.{Arguments}
 use Rattle.rules.specs.declared.start.Arguments.the-variants as A
 use Rattle.program.specs.declared.node.StatementNode.{StatementNode}

@@ -19,11 +19,11 @@ use Rattle.language.specs.declared.kind.Use.{Use}
 use Rattle.language.specs.declared.frame.Frame.{Frame}
 use Rattle.text.specs.Frames.{framesOf}
 use Rattle.program.specs.Trees.{frameAt}
-use Rattle.layout.specs.Scope.{Room}
+use Rattle.layout.specs.inner.Scope.{Room}
 use Rattle.program.proofs.NodeLaws.{childrenAs}
 use Rattle.layout.proofs.Scopes.{child-below, room-more, room-child, room-most}
-use Rattle.program.specs.Nodes.{expressionNodeOf, expressionNodeIn, expressionNode, statementNodeOf, statementNodeIn, statementNode}
-use Rattle.rules.specs.Frames.{FrameIn}
+use Rattle.program.specs.inner.Nodes.{expressionNodeOf, expressionNodeIn, expressionNode, statementNodeOf, statementNodeIn, statementNode}
+use Rattle.rules.specs.inner.Frames.{FrameIn}
 use Rattle.program.specs.declared.node.ExpressionNode.{ExpressionNode}
 use Rattle.program.specs.declared.node.ExpressionNode.the-variants as X
 use Rattle.program.specs.declared.node.StatementNode.{StatementNode}

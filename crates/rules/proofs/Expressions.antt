@@ -18,7 +18,7 @@ use Rattle.rules.specs.declared.finding.Typing.the-variants.{Typed, Unty
 use Rattle.rules.specs.Rules.{HasType}
 use Rattle.rules.specs.Breaks.{BreaksE}
 use Rattle.rules.specs.Broken.{ChildE, BrokenE}
-use Rattle.rules.specs.Checking.{namedRule, newRule, contentRule, numbersRule, chooseRule, typeIn}
+use Rattle.rules.specs.inner.Checking.{namedRule, newRule, contentRule, numbersRule, chooseRule, typeIn}
 
 -- ---- whatever has a type is found to have it
 pub complete : {cells Γ : List ℕ} {x : Expr} {t : ℕ} {e : Effect} → HasType cells Γ x t e → typeIn cells Γ x ≡ Typed t e

@@ -19,14 +19,14 @@ use Rattle.language.specs.declared.frame.Frame.{Frame}
 use Rattle.text.specs.Frames.{frameOfWord, framesOf}
 use Rattle.text.proofs.FrameWords.{frame-at}
 use Rattle.program.specs.Trees.{frameAt, noFrame}
-use Rattle.program.specs.Nodes.{expressionNodeOf, expressionNodeIn}
+use Rattle.program.specs.inner.Nodes.{expressionNodeOf, expressionNodeIn}
 use Rattle.program.specs.declared.node.ExpressionNode.{ExpressionNode}
 use Rattle.program.specs.declared.node.ExpressionNode.the-variants as X
 use Rattle.layout.specs.Fields.{countOf, headerFine, schedulersOf, kindFine, fieldFine}
 use Rattle.layout.specs.Faults.{Fault, NoFault}
 use Rattle.layout.proofs.FramePass.{fine-parts}
 use Rattle.layout.proofs.Scopes.{frame-right, placed}
-use Rattle.rules.specs.Frames.{FrameIn}
+use Rattle.rules.specs.inner.Frames.{FrameIn}
 use Rattle.rules.proofs.NodeLaws.{AtExpression}
 
 module _ (fs : List Frame) (clean : NoFault fs) where

@@ -18,7 +18,7 @@ use Rattle.rules.specs.declared.finding.Typing.{Typing}
 use Rattle.rules.specs.declared.finding.Typing.the-variants.{Typed, Untyped}
 use Rattle.rules.specs.Breaks.{BreaksE}
 use Rattle.rules.specs.Broken.{ChildE, BrokenE}
-use Rattle.rules.specs.Checking.{namedRule, newRule, contentRule, numbersRule, chooseRule, typeIn}
+use Rattle.rules.specs.inner.Checking.{namedRule, newRule, contentRule, numbersRule, chooseRule, typeIn}
 use Rattle.rules.proofs.Sooner.{Sooner, exactly, smaller}
 use Rattle.rules.proofs.Expressions.{complete, FoundE, soundE}
 use Rattle.rules.proofs.Ranges.{root-aboveE, rangeE}

@@ -24,7 +24,7 @@ use Rattle.rules.specs.declared.finding.Conduct.the-variants.{Does, Fail
 use Rattle.rules.specs.Rules.{Signature, signatureAt, AllPublic}
 use Rattle.rules.specs.Breaks.{BreaksS, Starts}
 use Rattle.rules.specs.Broken.{BrokenE, Operand, ChildS, BrokenS}
-use Rattle.rules.specs.Checking.{Argued, argue, typesIn, startRule, cooperateRule, seqRule, doRule, joinRule, letRule, storeRule, ifElseRule, whileRule, runIn}
+use Rattle.rules.specs.inner.Checking.{Argued, argue, typesIn, startRule, cooperateRule, seqRule, doRule, joinRule, letRule, storeRule, ifElseRule, whileRule, runIn}
 use Rattle.rules.proofs.Sooner.{Sooner, exactly, smaller}
 use Rattle.rules.proofs.Lists.{same-true, all-true}
 use Rattle.rules.proofs.Expressions.{complete}

@@ -24,18 +24,18 @@ use Rattle.text.specs.Frames.{frameOfWord, framesOf}
 use Rattle.program.specs.Trees.{noFrame, frameAt, statementAt}
 use Rattle.program.specs.Programs.{Part, partOf, withPart, modulesFrom, sharedOf}
 use Rattle.layout.specs.Fields.{countOf, schedulersOf, frameFine}
-use Rattle.layout.specs.Scope.{Room}
+use Rattle.layout.specs.inner.Scope.{Room}
 use Rattle.layout.specs.Faults.{NoFault}
-use Rattle.layout.specs.Passes.{tallyOf}
+use Rattle.layout.specs.inner.Passes.{tallyOf}
 use Rattle.layout.specs.declared.fields.Tally.{Tally}
 use Rattle.layout.proofs.Scopes.{in-a, room-body, child-below, main-last, frame-right}
 use Rattle.layout.proofs.Tallies.{counted-one, counted-none}
 use Rattle.layout.proofs.Trees.{is-module}
 use Rattle.rules.specs.Rules.{Signature, signature}
-use Rattle.rules.specs.Checking.{runIn, mainRule, afterModule, modulesIn}
-use Rattle.rules.specs.Signatures.{signatureOf, signatureWith}
-use Rattle.rules.specs.Frames.{FrameIn, FileIn}
-use Rattle.rules.specs.Modules.{nextModule}
+use Rattle.rules.specs.inner.Checking.{runIn, mainRule, afterModule, modulesIn}
+use Rattle.rules.specs.inner.Signatures.{signatureOf, signatureWith}
+use Rattle.rules.specs.inner.Frames.{FrameIn, FileIn}
+use Rattle.rules.specs.inner.Modules.{nextModule}
 use Rattle.rules.specs.declared.finding.Conduct.{Conduct}
 use Rattle.rules.specs.declared.finding.Conduct.the-variants.{Does, Fails}
 use Rattle.rules.proofs.FineFrames.{few-schedulers, few-modules, few-parameters}

@@ -18,7 +18,7 @@ use Rattle.layout.proofs.Placed.{PlacedM}
 use Rattle.layout.proofs.Parts.{NonEmpty}
 use Rattle.rules.specs.Rules.{Signature, signature, Modules}
 use Rattle.rules.specs.Broken.{BrokenM, Broken, NoLater, RulesSay}
-use Rattle.rules.specs.Checking.{runIn, mainRule, afterModule, modulesIn, rulesOf}
+use Rattle.rules.specs.inner.Checking.{runIn, mainRule, afterModule, modulesIn, rulesOf}
 use Rattle.basics.proofs.Ifs.{if-all}
 use Rattle.rules.proofs.Sooner.{Sooner, exactly}
 use Rattle.rules.proofs.Statements.{completeS, FoundS, soundS}

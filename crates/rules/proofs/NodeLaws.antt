@@ -7,10 +7,10 @@ use Rattle.language.specs.declared.frame.Frame.{Frame}
 use Rattle.text.specs.Frames.{frameOfWord, framesOf}
 use Rattle.text.proofs.FrameWords.{frame-at}
 use Rattle.program.specs.Trees.{frameAt, noFrame}
-use Rattle.program.specs.Ordered.{Ordered}
+use Rattle.program.specs.inner.Ordered.{Ordered}
 use Rattle.layout.proofs.Order.{is-ordered}
-use Rattle.program.specs.Nodes.{expressionNode, statementNode}
-use Rattle.rules.specs.Frames.{FrameIn}
+use Rattle.program.specs.inner.Nodes.{expressionNode, statementNode}
+use Rattle.rules.specs.inner.Frames.{FrameIn}
 use Rattle.program.specs.declared.node.ExpressionNode.{ExpressionNode}
 use Rattle.program.specs.declared.node.StatementNode.{StatementNode}
 

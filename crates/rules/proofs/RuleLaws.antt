@@ -18,8 +18,8 @@ use Rattle.language.specs.declared.type_word.CellRead.{CellRead}
 use Rattle.language.specs.declared.type_word.CellRead.the-variants.{Word, TooDeep}
 use Rattle.language.specs.declared.effect.Effect.{Effect}
 use Rattle.language.proofs.PlaceLaws.{read-at, read-none, scheduler-place}
-use Rattle.rules.specs.Checking.{namedRule, newRule, contentRule, numbersRule, chooseRule, cooperateRule, seqRule, doRule, joinRule, storeRule, ifElseRule, whileRule}
-use Rattle.rules.specs.Standings.{standing}
+use Rattle.rules.specs.inner.Checking.{namedRule, newRule, contentRule, numbersRule, chooseRule, cooperateRule, seqRule, doRule, joinRule, storeRule, ifElseRule, whileRule}
+use Rattle.rules.specs.inner.Standings.{standing}
 use Rattle.rules.specs.declared.finding.Typing.{Typing}
 use Rattle.rules.specs.declared.finding.Typing.the-variants.{Typed, Untyped}
 use Rattle.rules.specs.declared.finding.Conduct.{Conduct}

@@ -13,9 +13,9 @@ use Rattle.language.specs.Types.{public}
 use Rattle.language.specs.Effects.{noEffect, _∪_}
 use Rattle.language.specs.declared.effect.Effect.{Effect}
 use Rattle.rules.specs.Rules.{Signature, signatureAt}
-use Rattle.rules.specs.Checking.{Argued, argue, isLinked, startRule}
-use Rattle.rules.specs.Standings.{standing}
-use Rattle.rules.specs.Signatures.{noArguments, arguedOf, signatureWith, signatureWord, signatureOf}
+use Rattle.rules.specs.inner.Checking.{Argued, argue, isLinked, startRule}
+use Rattle.rules.specs.inner.Standings.{standing}
+use Rattle.rules.specs.inner.Signatures.{noArguments, arguedOf, signatureWith, signatureWord, signatureOf}
 use Rattle.rules.specs.declared.start.Arguments.{Arguments}
 use Rattle.rules.specs.declared.start.Arguments.the-variants.{Nothing, One, Two, Fault}
 use Rattle.rules.specs.declared.finding.Typing.{Typing}

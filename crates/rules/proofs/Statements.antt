@@ -22,7 +22,7 @@ use Rattle.rules.specs.declared.finding.Conduct.the-variants.{Does, Fail
 use Rattle.rules.specs.Rules.{HasType, Signature, signatureAt, HaveTypes, AllPublic, Runs}
 use Rattle.rules.specs.Breaks.{BreaksS, Starts}
 use Rattle.rules.specs.Broken.{BrokenE, Operand, ChildS, BrokenS}
-use Rattle.rules.specs.Checking.{typeIn, Argued, argue, typesIn, isLinked, startRule, cooperateRule, seqRule, doRule, joinRule, letRule, storeRule, ifElseRule, whileRule, runIn}
+use Rattle.rules.specs.inner.Checking.{typeIn, Argued, argue, typesIn, isLinked, startRule, cooperateRule, seqRule, doRule, joinRule, letRule, storeRule, ifElseRule, whileRule, runIn}
 use Rattle.rules.proofs.Lists.{same-true, same-refl, same-eq, all-true, all-every}
 use Rattle.rules.proofs.Expressions.{complete, FoundE, soundE, retype}
 

@@ -7,10 +7,10 @@ use lib.ListN.{length, take, length-append, replicate}
 use Rattle.language.specs.declared.verdict.Verdict.{Verdict}
 use Rattle.text.specs.Frames.{framesOf}
 use Rattle.program.specs.Programs.{programOf, cellsOf, modulesFrom}
-use Rattle.layout.specs.Passes.{tallyOf}
+use Rattle.layout.specs.inner.Passes.{tallyOf}
 use Rattle.layout.specs.declared.fields.Tally.{Tally}
 use Rattle.layout.proofs.Tallies.{count-cells, types-taken}
-use Rattle.rules.specs.Checking.{modulesIn, rulesOf}
+use Rattle.rules.specs.inner.Checking.{modulesIn, rulesOf}
 use Rattle.rules.proofs.Lists.{prefix-length}
 
 module _ (ws : List ℕ) (t : Tally) (e : t ≡ tallyOf (framesOf ws)) where

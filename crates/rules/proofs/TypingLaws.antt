@@ -14,8 +14,8 @@ use Rattle.language.specs.declared.frame.Frame.{Frame}
 use Rattle.text.specs.Frames.{framesOf}
 use Rattle.program.specs.Trees.{Expr, frameAt, expressionOf, expressionAt}
 use Rattle.program.proofs.Decoding.{expression-at}
-use Rattle.rules.specs.Checking.{namedRule, newRule, contentRule, numbersRule, chooseRule, typeIn}
-use Rattle.program.specs.Nodes.{expressionNodeOf, expressionNodeIn}
+use Rattle.rules.specs.inner.Checking.{namedRule, newRule, contentRule, numbersRule, chooseRule, typeIn}
+use Rattle.program.specs.inner.Nodes.{expressionNodeOf, expressionNodeIn}
 use Rattle.program.specs.declared.node.ExpressionNode.{ExpressionNode}
 use Rattle.program.specs.declared.node.ExpressionNode.the-variants as X
 use Rattle.rules.specs.declared.finding.Typing.{Typing}

@@ -10,13 +10,13 @@ use Rattle.text.specs.Reading.{Reading, frames, refused, reading, Reads}
 use Rattle.text.proofs.Readings.{reads, reads-one, some-frame}
 use Rattle.program.specs.Programs.{programOf}
 use Rattle.layout.specs.Faults.{NoFault, LayoutSays}
-use Rattle.layout.specs.Scans.{layoutOf}
+use Rattle.layout.specs.inner.Scans.{layoutOf}
 use Rattle.layout.specs.LaidOut.{afterLayout, afterReading}
 use Rattle.layout.proofs.Order.{all-trees}
 use Rattle.layout.proofs.Layouts.{layout-says, layout-one}
 use Rattle.layout.proofs.Parts.{placed-modules, has-main}
 use Rattle.rules.specs.Broken.{RulesSay}
-use Rattle.rules.specs.Checking.{rulesOf}
+use Rattle.rules.specs.inner.Checking.{rulesOf}
 use Rattle.rules.specs.Verdict.{HasVerdict, verdict, VerdictComputes}
 use Rattle.rules.proofs.Modules.{rules-say, rules-only}
 

@@ -1,9 +1,5 @@
 pub mod Rules
 pub mod Breaks
 pub mod Broken
-pub mod Checking
-pub mod Standings
-pub mod Signatures
-pub mod Frames
-pub mod Modules
 pub mod Verdict
+pub mod inner

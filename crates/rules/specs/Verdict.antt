@@ -11,7 +11,7 @@ use Rattle.layout.specs.Faults.{NoFault, FirstFault}
 use Rattle.layout.specs.LaidOut.{afterReading}
 use Rattle.rules.specs.Rules.{Keeps}
 use Rattle.rules.specs.Broken.{FirstBroken}
-use Rattle.rules.specs.Checking.{rulesOf}
+use Rattle.rules.specs.inner.Checking.{rulesOf}
 
 -- `HasVerdict bs v`: what document 01 says of the text bs. No checker is named here: 'The check's promise is the rules themselves, written without the checker.'
 pub data HasVerdict : List ℕ → Verdict → Type 0 where

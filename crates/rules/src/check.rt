@@ -6,9 +6,9 @@ use layout::lay_out;
 ghost use mathlib.Core.Path.{_≡_};
 ghost use Rattle.text.specs.Frames.{framesOf};
 ghost use Rattle.program.specs.Programs.{programOf};
-ghost use Rattle.rules.specs.Checking.{rulesOf};
+ghost use Rattle.rules.specs.inner.Checking.{rulesOf};
 ghost use Rattle.rules.specs.Verdict.{verdict, Checked};
-ghost use Rattle.rules.specs.Frames.{FileIn};
+ghost use Rattle.rules.specs.inner.Frames.{FileIn};
 
 // The first broken rule of a laid-out file.
 pub fn rules_of(frames: &[u64]) -> Verdict

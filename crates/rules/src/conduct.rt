@@ -25,11 +25,11 @@ ghost use lib.ListN.{take, set};
 ghost use Rattle.language.specs.Places.{standingAt};
 ghost use Rattle.text.specs.Frames.{framesOf};
 ghost use Rattle.program.specs.Trees.{expressionAt, arguments, statementAt};
-ghost use Rattle.layout.specs.Scope.{Room};
-ghost use Rattle.rules.specs.Checking.{typeIn, typesIn, isLinked, runIn};
-ghost use Rattle.rules.specs.Standings.{standing};
-ghost use Rattle.rules.specs.Signatures.{arguedOf, signatureOf};
-ghost use Rattle.rules.specs.Frames.{FrameIn};
+ghost use Rattle.layout.specs.inner.Scope.{Room};
+ghost use Rattle.rules.specs.inner.Checking.{typeIn, typesIn, isLinked, runIn};
+ghost use Rattle.rules.specs.inner.Standings.{standing};
+ghost use Rattle.rules.specs.inner.Signatures.{arguedOf, signatureOf};
+ghost use Rattle.rules.specs.inner.Frames.{FrameIn};
 
 // The variables in scope are the first n of an array; a laid-out file has at most 25.
 fn type_in(frames: &[u64], cells: &[u16], scope: [u16; 25], n: usize, i: u16) -> Typing

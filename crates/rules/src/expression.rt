@@ -16,7 +16,7 @@ ghost use mathlib.Core.Bool.{true};
 ghost use Rattle.language.specs.Places.{isPlace};
 ghost use Rattle.language.specs.Types.{ownerOf};
 ghost use Rattle.language.specs.Effects.{withOwner};
-ghost use Rattle.rules.specs.Checking.{namedRule, newRule, contentRule, numbersRule, chooseRule};
+ghost use Rattle.rules.specs.inner.Checking.{namedRule, newRule, contentRule, numbersRule, chooseRule};
 ghost use Rattle.rules.specs.declared.finding.Typing.the-variants.{Typed};
 
 // 22 and 23: a variable or a shared cell, by its index in the types of those there are.

@@ -18,12 +18,12 @@ ghost use Rattle.language.specs.Places.{linked};
 ghost use Rattle.text.specs.Frames.{framesOf};
 ghost use Rattle.program.specs.Trees.{statementAt};
 ghost use Rattle.program.specs.Programs.{modulesFrom};
-ghost use Rattle.layout.specs.Scope.{Room};
-ghost use Rattle.layout.specs.Passes.{tallyOf};
-ghost use Rattle.rules.specs.Checking.{runIn, mainRule, modulesIn};
-ghost use Rattle.rules.specs.Signatures.{signatureOf, signatureWith, signatureWord};
-ghost use Rattle.rules.specs.Frames.{FrameIn, FileIn};
-ghost use Rattle.rules.specs.Modules.{nextModule};
+ghost use Rattle.layout.specs.inner.Scope.{Room};
+ghost use Rattle.layout.specs.inner.Passes.{tallyOf};
+ghost use Rattle.rules.specs.inner.Checking.{runIn, mainRule, modulesIn};
+ghost use Rattle.rules.specs.inner.Signatures.{signatureOf, signatureWith, signatureWord};
+ghost use Rattle.rules.specs.inner.Frames.{FrameIn, FileIn};
+ghost use Rattle.rules.specs.inner.Modules.{nextModule};
 
 // How many shared cells and modules a laid-out file has, and the types of its cells.
 pub(crate) fn tally(frames: &[u64]) -> Tally

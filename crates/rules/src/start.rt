@@ -9,9 +9,9 @@ ghost use Prim.Native.Nat.{_≤_};
 ghost use lib.ListN.{take};
 ghost use Rattle.basics.specs.Searches.{every, sameNumbers};
 ghost use Rattle.language.specs.Types.{public};
-ghost use Rattle.rules.specs.Checking.{Argued, argue, startRule};
-ghost use Rattle.rules.specs.Standings.{standing};
-ghost use Rattle.rules.specs.Signatures.{arguedOf, signatureOf, signatureWord, noArguments};
+ghost use Rattle.rules.specs.inner.Checking.{Argued, argue, startRule};
+ghost use Rattle.rules.specs.inner.Standings.{standing};
+ghost use Rattle.rules.specs.inner.Signatures.{arguedOf, signatureOf, signatureWord, noArguments};
 
 // What the arguments of a start are found to be: their types and their effect, or the first fault in them.
 pub(crate) enum Arguments {

@@ -8,8 +8,8 @@ use language::type_word::TRUTH;
 use language::type_word::content_of;
 use language::type_word::is_cell;
 ghost use mathlib.Core.Path.{_≡_};
-ghost use Rattle.rules.specs.Checking.{cooperateRule, seqRule, doRule, joinRule, storeRule, ifElseRule, whileRule};
-ghost use Rattle.rules.specs.Standings.{standing};
+ghost use Rattle.rules.specs.inner.Checking.{cooperateRule, seqRule, doRule, joinRule, storeRule, ifElseRule, whileRule};
+ghost use Rattle.rules.specs.inner.Standings.{standing};
 ghost use Rattle.rules.specs.declared.finding.Typing.the-variants.{Typed};
 ghost use Rattle.rules.specs.declared.finding.Conduct.the-variants.{Does};
 

@@ -14,8 +14,8 @@ use text::line::frame_of_word;
 ghost use mathlib.Core.Path.{_≡_};
 ghost use Rattle.text.specs.Frames.{framesOf};
 ghost use Rattle.program.specs.Trees.{expressionAt};
-ghost use Rattle.rules.specs.Checking.{typeIn};
-ghost use Rattle.rules.specs.Frames.{FrameIn};
+ghost use Rattle.rules.specs.inner.Checking.{typeIn};
+ghost use Rattle.rules.specs.inner.Frames.{FrameIn};
 
 // What the expression at frame i is found to be, where the shared cells have the types `cells` and the variables the
 // types `scope`. The frames are laid out, so that a child's number is below its parent's and the recursion ends.

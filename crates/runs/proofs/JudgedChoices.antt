@@ -12,12 +12,13 @@ use Rattle.basics.proofs.Ifs.{if-all}
 use Rattle.program.specs.Programs.{Program}
 use Rattle.stepper.specs.declared.answer.Answer.the-variants as A
 use Rattle.listing.specs.Listing.{refusalLine, Choices, choices, malformed, choicesFrom, runLines, linesOf, choicesListing}
-use Rattle.listing.specs.Choices.{countRead, judged}
+use Rattle.listing.specs.inner.Choices.{countRead, judged}
 use Rattle.listing.specs.declared.choices.ChoicesRead.{ChoicesRead}
 use Rattle.listing.specs.declared.choices.ChoicesRead.the-variants as read
 use Rattle.listing.proofs.ChoicesAt.{choices-count}
 use Rattle.runs.specs.Runs.{Behind, stepped}
-use Rattle.runs.specs.Printed.{unstepped, steppedOf, choicesStepped, ListedOn, listedAs, listedOn, written, listOf, choicesOf, listedBehind}
+use Rattle.runs.specs.Printed.{unstepped, steppedOf, choicesStepped, ListedOn, listedAs, listedOn, written}
+use Rattle.runs.specs.inner.Parts.{listOf, choicesOf, listedBehind}
 use Rattle.runs.specs.declared.printing.Listed.{Listed}
 use Rattle.runs.proofs.ListingLoop.{written-put}
 use Rattle.runs.proofs.ListedRun.{listed-path}

@@ -12,10 +12,11 @@ use Rattle.machine.specs.Words.{pack}
 use Rattle.stepper.specs.declared.answer.Answer.{Answer}
 use Rattle.stepper.specs.declared.answer.Answer.the-variants as A
 use Rattle.stepper.specs.declared.file.File.{File}
-use Rattle.stepper.specs.Files.{fileOf}
+use Rattle.stepper.specs.inner.Files.{fileOf}
 use Rattle.listing.specs.Listing.{usedOf, lastLine, runLines}
 use Rattle.runs.specs.Runs.{stepped}
-use Rattle.runs.specs.Printed.{listedAs, written, stepLines, listedBehind}
+use Rattle.runs.specs.Printed.{listedAs, written}
+use Rattle.runs.specs.inner.Parts.{stepLines, listedBehind}
 use Rattle.runs.proofs.ListingLoop.{written-put, written-more, step-lines-size}
 
 -- a listing, by its length, the choices used and both buffers

@@ -19,12 +19,13 @@ use Rattle.machine.proofs.CallRuns.{asCalled}
 use Rattle.machine.proofs.KeptShape.{reached-shaped}
 use Rattle.stepper.specs.declared.file.File.{File}
 use Rattle.stepper.specs.declared.party.Stepped.{Stepped as Answered}
-use Rattle.stepper.specs.Files.{FileWords, StepWords, fileOf, steppedOn}
+use Rattle.stepper.specs.inner.Files.{FileWords, StepWords, fileOf, steppedOn}
 use Rattle.stepper.proofs.GoodWords.{fits-words}
 use Rattle.listing.specs.Listing.{Choices, choices, malformed, choicesFrom, choiceLineOf, choiceLine, choiceLines}
-use Rattle.listing.specs.Choices.{choiceAt}
+use Rattle.listing.specs.inner.Choices.{choiceAt}
 use Rattle.listing.proofs.ChoicesAt.{choices-at}
-use Rattle.runs.specs.Printed.{written, listOf, choicesOf, stepLines}
+use Rattle.runs.specs.Printed.{written}
+use Rattle.runs.specs.inner.Parts.{listOf, choicesOf, stepLines}
 use Rattle.runs.proofs.RunLoop.{next-choice, state-next, reached-words, reached-call}
 
 -- ---- bytes behind bytes

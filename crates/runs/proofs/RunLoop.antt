@@ -17,7 +17,7 @@ use Rattle.machine.proofs.KeptShape.{FileFits, reached-shaped, reached-in-range
 use Rattle.machine.proofs.CallRuns.{asCalled, call-is}
 use Rattle.stepper.specs.declared.file.File.{File}
 use Rattle.stepper.specs.declared.party.Stepped.{Stepped}
-use Rattle.stepper.specs.Files.{FileWords, StepWords, fileOf, steppedOn}
+use Rattle.stepper.specs.inner.Files.{FileWords, StepWords, fileOf, steppedOn}
 use Rattle.stepper.proofs.GoodWords.{fits-words}
 
 -- ---- one choice more

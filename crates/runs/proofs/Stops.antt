@@ -20,7 +20,7 @@ use Rattle.layout.proofs.Layouts.{layout-says}
 use Rattle.rules.specs.Rules.{Signature}
 use Rattle.rules.specs.Breaks.{BreaksE, BreaksS}
 use Rattle.rules.specs.Broken.{BrokenE, BrokenS, BrokenM, RulesSay}
-use Rattle.rules.specs.Checking.{rulesOf}
+use Rattle.rules.specs.inner.Checking.{rulesOf}
 use Rattle.rules.proofs.Whole.{rules-hold}
 use Rattle.listing.specs.Listing.{stops}
 

@@ -19,17 +19,18 @@ use Rattle.layout.specs.LaidOut.{layoutVerdict, laidOut}
 use Rattle.layout.specs.declared.LaidOut.{LaidOut}
 use Rattle.layout.proofs.Answers.{verdict-is}
 use Rattle.layout.proofs.Accepted.{laid-passed}
-use Rattle.rules.specs.Checking.{rulesOf}
+use Rattle.rules.specs.inner.Checking.{rulesOf}
 use Rattle.rules.specs.Verdict.{verdict}
-use Rattle.rules.specs.Frames.{FileIn}
+use Rattle.rules.specs.inner.Frames.{FileIn}
 use Rattle.rules.proofs.CheckLaws.{check-rejected, check-rules}
 use Rattle.reach.proofs.Passed.{some-frame}
 use Rattle.stepper.specs.declared.answer.Answer.{Answer}
 use Rattle.stepper.specs.declared.answer.Answer.the-variants as A
-use Rattle.stepper.specs.Files.{FileWords}
+use Rattle.stepper.specs.inner.Files.{FileWords}
 use Rattle.listing.specs.Listing.{refusalLine, checkLine, stops, choicesListing, runListing}
 use Rattle.runs.specs.Runs.{Behind}
-use Rattle.runs.specs.Printed.{unstepped, choicesStepped, runStepped, ListedOn, listedAs, listedOn, written, listedFrom, listedWhole, unlisted, answerFor, buffersFit, listText, listedBehind, listedRejected}
+use Rattle.runs.specs.Printed.{unstepped, choicesStepped, runStepped, ListedOn, listedAs, listedOn, written, listedFrom, listedWhole, unlisted, answerFor, buffersFit, listText}
+use Rattle.runs.specs.inner.Parts.{listedBehind, listedRejected}
 use Rattle.runs.specs.declared.printing.Listed.{Listed}
 use Rattle.runs.proofs.ListingLoop.{written-put, written-more}
 use Rattle.runs.proofs.ListedRun.{listed-path}

@@ -13,10 +13,9 @@ use Rattle.text.specs.Frames.{textFrames}
 use Rattle.program.specs.Programs.{Program, programOf}
 use Rattle.layout.specs.LaidOut.{layoutVerdict}
 use Rattle.rules.specs.Verdict.{verdict}
-use Rattle.machine.specs.Runs.{steps}
 use Rattle.stepper.specs.declared.answer.Answer.{Answer}
 use Rattle.stepper.specs.declared.answer.Answer.the-variants as A
-use Rattle.listing.specs.Listing.{refusalLine, stops, Choices, choices, malformed, choicesFrom, choiceLines, runListing}
+use Rattle.listing.specs.Listing.{stops, Choices, choices, malformed, choicesFrom, runListing}
 use Rattle.runs.specs.Runs.{Behind, stepped}
 use Rattle.runs.specs.declared.printing.Listed.{Listed}
 
@@ -92,28 +91,3 @@ listText bs bytes w out =
     if buffersFit (layoutVerdict bs) w out
     then listedWhole (answerFor (layoutVerdict bs) true) (verdict bs) (textFrames bs) bytes w out
     else unlisted (answerFor (layoutVerdict bs) false) w out
-
--- ---- what the inner functions give. Whoever reads the promise can skip this
-
--- the choices that bytes are; none where they are malformed
-abbrev pub listOf : Choices → List ℕ
-listOf (choices cs) = cs
-listOf (malformed k) = []
-
-unfoldable pub choicesOf : List ℕ → List ℕ
-choicesOf bytes = listOf (choicesFrom 0 bytes)
-
--- the lines of all those choices
-unfoldable pub stepLines : Program → List ℕ → List ℕ
-stepLines p cs = choiceLines cs (steps p cs)
-
--- behind the check's line, which is 8 bytes
-abbrev pub listedBehind : Behind → List ℕ → List ℕ → ListedOn
-listedBehind b listing out = listedAs (A.Done 0) (8 + length listing) (b .used) (b .words) (written out 8 listing)
-
--- of a text that refusal n at frame j stops
-unfoldable pub listedRejected : ℕ → ℕ → List ℕ → List ℕ → ListedOn
-listedRejected n j w out =
-    if eqb (length out) 229389
-    then listedFrom (A.Rejected n j) (unstepped w) (refusalLine n j) out
-    else unlisted (A.Rejected n j) w out

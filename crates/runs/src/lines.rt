@@ -12,8 +12,9 @@ ghost use Rattle.program.specs.Programs.{programOf};
 ghost use Rattle.machine.specs.Fresh.{fresh};
 ghost use Rattle.machine.specs.Runs.{stateAfter};
 ghost use Rattle.machine.specs.Words.{pack};
-ghost use Rattle.stepper.specs.Files.{FileWords, fileOf};
-ghost use Rattle.runs.specs.Printed.{choicesOf, stepLines, written};
+ghost use Rattle.stepper.specs.inner.Files.{FileWords, fileOf};
+ghost use Rattle.runs.specs.Printed.{written};
+ghost use Rattle.runs.specs.inner.Parts.{choicesOf, stepLines};
 
 // The first n choices of choices.txt, from the fresh state on, and a line of 14 bytes for each; its cells in use are those behind the step.
 pub(crate) fn step_lines(

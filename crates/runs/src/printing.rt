@@ -18,12 +18,13 @@ ghost use Prim.Native.Nat.{_≤_, min};
 ghost use lib.ListN.{length};
 ghost use Rattle.text.specs.Frames.{framesOf};
 ghost use Rattle.program.specs.Programs.{programOf};
-ghost use Rattle.rules.specs.Checking.{rulesOf};
-ghost use Rattle.stepper.specs.Files.{FileWords};
+ghost use Rattle.rules.specs.inner.Checking.{rulesOf};
+ghost use Rattle.stepper.specs.inner.Files.{FileWords};
 ghost use Rattle.stepper.specs.declared.answer.Answer.the-variants.{Done};
 ghost use Rattle.listing.specs.Listing.{refusalLine, runLines, choicesListing};
 ghost use Rattle.runs.specs.Runs.{stepped};
-ghost use Rattle.runs.specs.Printed.{choicesOf, unstepped, choicesStepped, listedOn, listedBehind, listedWhole, listedRejected, listText};
+ghost use Rattle.runs.specs.Printed.{unstepped, choicesStepped, listedOn, listedWhole, listText};
+ghost use Rattle.runs.specs.inner.Parts.{choicesOf, listedBehind, listedRejected};
 
 // The answer: the text's refusal 1 to 7, else 14, else 0; how many bytes of the buffer hold the listing; how many choices were used.
 pub struct Listed {

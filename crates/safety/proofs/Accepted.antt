@@ -19,7 +19,7 @@ use Rattle.machine.specs.Steps.{step}
 use Rattle.machine.specs.Runs.{stepsFrom, stateAfter, steps, allAccesses}
 use Rattle.machine.specs.Words.{pack, unpack}
 use Rattle.machine.specs.Calls.{Called, freshCall, wordsFrom}
-use Rattle.machine.proofs.Shapes.{Shaped}
+use Rattle.machine.specs.Shapes.{Shaped}
 use Rattle.machine.proofs.InShape.{shaped-in-range}
 use Rattle.machine.proofs.Round.{unpack-pack}
 use Rattle.machine.proofs.KeptShape.{FileFits, keeps-step, fresh-shaped, reached-shaped}

@@ -15,7 +15,7 @@ use Rattle.machine.specs.Accesses.{Access, Own}
 use Rattle.machine.specs.State.{State}
 use Rattle.machine.specs.Steps.{step}
 use Rattle.machine.specs.Words.{pack, unpack}
-use Rattle.machine.specs.Ranges.{inRange}
+use Rattle.machine.specs.inner.Ranges.{inRange}
 use Rattle.machine.specs.Calls.{Called, freshCall, stepCall, callsFrom, wordsFrom}
 use Rattle.safety.specs.Safety.{NoPrivateInPublic, Apart, Sound, Safe}
 

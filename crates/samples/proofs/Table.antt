@@ -17,8 +17,8 @@ use Rattle.program.specs.Trees.{expressionTo, expressionAt, statementTo, statem
 use Rattle.program.specs.Programs.{sharedOf, modulesFrom, allowanceOf, programOf}
 use Rattle.layout.specs.Fields.{headerFine, firstContentFine, countOf, frameFine}
 use Rattle.layout.specs.Order.{hasChild}
-use Rattle.layout.specs.Scans.{headerFault, fieldFault, rowFirst, firstDisorder, isBehind, isLeftover, firstLeftover, noMain, orderFault, lowestChild, deepTo, firstDeep, depthFault, layoutOf}
-use Rattle.rules.specs.Checking.{namedRule, newRule, contentRule, numbersRule, chooseRule, typeIn, argue, typesIn, startRule, cooperateRule, seqRule, doRule, joinRule, storeRule, ifElseRule, whileRule, runIn, modulesIn, rulesOf}
+use Rattle.layout.specs.inner.Scans.{headerFault, fieldFault, rowFirst, firstDisorder, isBehind, isLeftover, firstLeftover, noMain, orderFault, lowestChild, deepTo, firstDeep, depthFault, layoutOf}
+use Rattle.rules.specs.inner.Checking.{namedRule, newRule, contentRule, numbersRule, chooseRule, typeIn, argue, typesIn, startRule, cooperateRule, seqRule, doRule, joinRule, storeRule, ifElseRule, whileRule, runIn, modulesIn, rulesOf}
 use Rattle.rules.specs.Verdict.{HasVerdict, verdict}
 use Rattle.rules.proofs.Whole.{verdict-computes}
 use Rattle.machine.specs.Values.{firstContent}

@@ -11,9 +11,9 @@ use borrow.Author.Tests.{lt-ltb, le-ltb, le-leb, leb-true, ltb-true, ltb-false, 
 use Rattle.basics.proofs.Ifs.{if-yes, if-no, yes, no}
 use Rattle.language.specs.Places.{hasPlace}
 use Rattle.language.specs.declared.frame.Frame.{Frame}
-use Rattle.machine.specs.Ranges.{threadInRange, valueInRange, itemInRange, entryInRange, cellInRange, listInRange, schedulerInRange, threadWordInRange, allBelow, inRange}
+use Rattle.machine.specs.inner.Ranges.{threadInRange, valueInRange, itemInRange, entryInRange, cellInRange, listInRange, schedulerInRange, threadWordInRange, allBelow, inRange}
 use Rattle.machine.proofs.Ranges.{below-each, all-below, InRange, in-range, range-in, Space, space-of, of-space, range-place, range-starter, range-lives, range-items, range-variables, range-active, range-next}
-use Rattle.states.specs.Passes.{isZero, wordPasses, schedulerBlock, threadBlock}
+use Rattle.states.specs.inner.Passes.{isZero, wordPasses, schedulerBlock, threadBlock}
 use Rattle.states.proofs.AllBelow.{cannot, same-test}
 use Rattle.states.proofs.BlockParts.{scheduler-parts, thread-parts}
 

@@ -15,7 +15,7 @@ use Rattle.machine.specs.Values.{firstContent}
 use Rattle.machine.specs.declared.value.Value.{Value}
 use Rattle.machine.specs.Fresh.{firstCell}
 use Rattle.machine.specs.Words.{valueWord, cellWord}
-use Rattle.machine.specs.Blocks.{pasted}
+use Rattle.machine.specs.inner.Blocks.{pasted}
 use Rattle.states.proofs.PastedLaws.{fill-more, fill-all}
 
 -- ---- the word of a first content, and of its cell

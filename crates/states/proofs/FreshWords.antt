@@ -15,14 +15,14 @@ use Rattle.program.specs.Programs.{SharedCell, Program, sharedOf, programOf, ma
 use Rattle.machine.specs.State.{State, Stored, Scheduler, noScheduler, noCell, withCells, withNew, withScheduler}
 use Rattle.machine.specs.Fresh.{firstCell, mainThread, homeScheduler, fresh}
 use Rattle.machine.specs.Words.{itemWord, listWord, schedulerWord, cellWord, pack}
-use Rattle.machine.specs.Blocks.{pasted, cellWords}
+use Rattle.machine.specs.inner.Blocks.{pasted, cellWords}
 use Rattle.machine.specs.Calls.{unchanged, freshCall}
 use Rattle.machine.proofs.WordLaws.{Says, is-pack, pasted-length, pasted-in, pasted-out}
 use Rattle.machine.proofs.Blocks.{cells-length, cells-at, put-cells}
 use Rattle.machine.proofs.Valid.{no-thread-word, no-scheduler-word, no-cell-word}
 use Rattle.machine.proofs.CallRuns.{fresh-called}
-use Rattle.states.specs.Threads.{wordsOf, withOneMore}
-use Rattle.states.specs.Starts.{mainWords, withShared, called}
+use Rattle.states.specs.inner.Threads.{wordsOf, withOneMore}
+use Rattle.states.specs.inner.Starts.{mainWords, withShared, called}
 use Rattle.states.specs.declared.thread.ThreadWords.{ThreadWords}
 use Rattle.states.proofs.PastedLaws.{same-pasted}
 use Rattle.states.proofs.ThreadSays.{add-says}

@@ -14,15 +14,15 @@ use Rattle.basics.proofs.Ifs.{if-yes, if-no, and-true}
 use Rattle.machine.specs.State.{State, Thread, Scheduler, Entry, plain, waiting, noThread, noScheduler, withScheduler, schedulerAt}
 use Rattle.machine.specs.Waits.{endedFrom, isReady, threadOf, keepIf, readyThreads, stillWaiting}
 use Rattle.machine.specs.Words.{entryWord, listWord, wordsAt, pack}
-use Rattle.machine.specs.Blocks.{pasted, padded}
-use Rattle.machine.specs.Ranges.{allBelow}
+use Rattle.machine.specs.inner.Blocks.{pasted, padded}
+use Rattle.machine.specs.inner.Ranges.{allBelow}
 use Rattle.machine.proofs.Tests.{and-both}
 use Rattle.machine.proofs.WordLaws.{Says, is-pack, tab-length, tab-from, pasted-length, pasted-in, pasted-out}
 use Rattle.machine.proofs.Padded.{padded-length, padded-at}
 use Rattle.machine.proofs.Round.{thread-1, thread-2, ended-bit}
 use Rattle.machine.proofs.Ranges.{below-each, all-below}
-use Rattle.machine.proofs.Shapes.{EntryFits, plain-fits, waiting-fits}
-use Rattle.states.specs.Lists.{isQuiet, isReadyWord, readyWords, waitingWords, sortedOf, withInstantEnded}
+use Rattle.machine.specs.Shapes.{EntryFits, plain-fits, waiting-fits}
+use Rattle.states.specs.inner.Lists.{isQuiet, isReadyWord, readyWords, waitingWords, sortedOf, withInstantEnded}
 use Rattle.states.proofs.AllBelow.{same-test}
 use Rattle.states.proofs.SchedulerSays.{by-lists, scheduler-put, next-word, room-says}
 

@@ -21,6 +21,5 @@ pub mod Instants
 pub mod PartyLaws
 -- The fresh state: its parts, and the whole.
 pub mod FreshLaws
-pub mod MainLaws
 pub mod SharedLaws
 pub mod FreshWords

@@ -13,9 +13,9 @@ use Rattle.basics.specs.If.{if_then_else_}
 use Rattle.basics.proofs.Ifs.{yes, no}
 use Rattle.language.specs.Places.{isScheduler}
 use Rattle.language.proofs.PlaceLaws.{test-bounds}
-use Rattle.machine.specs.Blocks.{part, pasted}
+use Rattle.machine.specs.inner.Blocks.{part, pasted}
 use Rattle.machine.proofs.WordLaws.{pasted-more, pasted-length, pasted-out, part-at, part-length}
-use Rattle.states.specs.Lists.{shifted, withoutFirst, insertedIn, withLast}
+use Rattle.states.specs.inner.Lists.{shifted, withoutFirst, insertedIn, withLast}
 use Rattle.states.proofs.PastedLaws.{first-word, next-run}
 
 -- ---- an entry put into a list: j words are written, and e is the next

@@ -12,7 +12,7 @@ use Rattle.machine.specs.State.{State, Thread, noThread, nth}
 use Rattle.machine.specs.Steps.{isUnlinked}
 use Rattle.machine.proofs.WordLaws.{Says}
 use Rattle.machine.proofs.Round.{thread-0, thread-2, ended-bit}
-use Rattle.states.specs.Parties.{isUnlinkedWord}
+use Rattle.states.specs.inner.Parties.{isUnlinkedWord}
 
 module _ (w : List ℕ) (c : ℕ) where
   pub unlinked-low : c ≤ 16 → false ≡ isUnlinkedWord w c

@@ -10,7 +10,7 @@ use lib.Dec.{ltb}
 use borrow.Author.Tests.{ltb-true, ltb-false}
 use lib.ListN.{getD, length, set, length-set}
 use lib.Seq.{ext-getD, getD-set-same, getD-set-other}
-use Rattle.machine.specs.Blocks.{part, pasted}
+use Rattle.machine.specs.inner.Blocks.{part, pasted}
 use Rattle.machine.proofs.WordLaws.{part-at, part-length, pasted-zero, pasted-more, pasted-length, pasted-in, pasted-out}
 
 -- ---- a block written from its first word on; one more word is `pasted-more`

@@ -14,8 +14,9 @@ use Rattle.language.specs.declared.frame.Frame.{Frame}
 use Rattle.text.specs.Frames.{frameOfWord, framesOf}
 use Rattle.text.proofs.FrameWords.{frames-length, frame-at}
 use Rattle.program.specs.Trees.{frameAt, noFrame}
-use Rattle.machine.specs.Ranges.{threadInRange, valueInRange, isStatement, itemInRange, entryInRange, ownerInRange, cellInRange, allBelow}
-use Rattle.states.specs.Passes.{isZero, memberInRange, wordPasses}
+use Rattle.machine.specs.inner.Ranges.{threadInRange, valueInRange, itemInRange, entryInRange, cellInRange, allBelow}
+use Rattle.machine.specs.Shapes.{isStatement, ownerInRange}
+use Rattle.states.specs.inner.Passes.{isZero, memberInRange, wordPasses}
 use Rattle.states.specs.declared.range.Member.{Member}
 use Rattle.states.proofs.AllBelow.{all-more, all-wrong, answer-more, answer-wrong}
 

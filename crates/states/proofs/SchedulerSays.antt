@@ -12,11 +12,11 @@ use Rattle.basics.proofs.Ifs.{if-yes, if-no}
 use Rattle.machine.specs.State.{State, Scheduler, Entry, noScheduler, withScheduler, schedulerAt, enlist}
 use Rattle.machine.specs.Turns.{behindFirst}
 use Rattle.machine.specs.Words.{entryWord, listWord, schedulerWord}
-use Rattle.machine.specs.Blocks.{part, pasted, schedulerWords}
+use Rattle.machine.specs.inner.Blocks.{part, pasted, schedulerWords}
 use Rattle.machine.proofs.WordLaws.{Says, pasted-length, pasted-in, pasted-out, part-at, part-length}
 use Rattle.machine.proofs.Blocks.{put-scheduler, scheduler-length, scheduler-at}
 use Rattle.machine.proofs.Round.{scheduler-active, scheduler-next}
-use Rattle.states.specs.Lists.{shifted, withoutFirst, withLast}
+use Rattle.states.specs.inner.Lists.{shifted, withoutFirst, withLast}
 use Rattle.states.proofs.BlockParts.{scheduler-parts}
 use Rattle.states.proofs.PastedLaws.{same-pasted}
 use Rattle.states.proofs.ListLaws.{shifted-length, shifted-at, shifted-last}

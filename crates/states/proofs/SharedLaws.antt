@@ -19,10 +19,10 @@ use Rattle.program.proofs.OneMore.{shared-no, shared-yes}
 use Rattle.machine.specs.Fresh.{firstCell}
 use Rattle.machine.specs.State.{Stored, noCell}
 use Rattle.machine.specs.Words.{cellWord}
-use Rattle.machine.specs.Blocks.{pasted, cellWords}
+use Rattle.machine.specs.inner.Blocks.{pasted, cellWords}
 use Rattle.machine.proofs.WordLaws.{pasted-zero, pasted-more}
 use Rattle.machine.proofs.Blocks.{cells-length, cells-at}
-use Rattle.states.specs.Starts.{withShared}
+use Rattle.states.specs.inner.Starts.{withShared}
 
 -- ---- the loop
 -- the shared cells of a text's lines, as declared and as they are at first

@@ -9,10 +9,10 @@ use lib.ListN.{getD, length, set, take, length-append}
 use lib.Seq.{take-suc, take-all}
 use Rattle.machine.specs.Waits.{keepIf}
 use Rattle.machine.specs.Words.{wordsAt}
-use Rattle.machine.specs.Blocks.{pasted, padded}
+use Rattle.machine.specs.inner.Blocks.{pasted, padded}
 use Rattle.machine.proofs.WordLaws.{tab-length, tab-from}
 use Rattle.machine.proofs.Padded.{padded-push}
-use Rattle.states.specs.Lists.{isReadyWord, readyWords, waitingWords, sortedOf, withInstantEnded}
+use Rattle.states.specs.inner.Lists.{isReadyWord, readyWords, waitingWords, sortedOf, withInstantEnded}
 use Rattle.states.specs.declared.list.Sorted.{Sorted}
 
 -- ---- one entry more

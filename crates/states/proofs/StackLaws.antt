@@ -9,10 +9,10 @@ use lib.Seq.{getD-at}
 use Rattle.machine.specs.State.{Thread, Item}
 use Rattle.machine.specs.declared.value.Value.{Value}
 use Rattle.machine.specs.Words.{itemWord, valueWord}
-use Rattle.machine.specs.Blocks.{padded}
+use Rattle.machine.specs.inner.Blocks.{padded}
 use Rattle.machine.proofs.Padded.{padded-at, padded-push, padded-pop}
-use Rattle.states.specs.Threads.{wordsOf}
-use Rattle.states.specs.Stacks.{pushItem, popItem, pushValue, popValue}
+use Rattle.states.specs.inner.Threads.{wordsOf}
+use Rattle.states.specs.inner.Stacks.{pushItem, popItem, pushValue, popValue}
 use Rattle.states.proofs.ThreadSays.{items-length}
 
 abbrev pub withContinuation : List Item → Thread → Thread

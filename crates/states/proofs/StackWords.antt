@@ -7,8 +7,8 @@ use native.Mathlib.Nat.{add-zero}
 use lib.ListN.{getD, length, set, length-set}
 use lib.Seq.{set-append-left, set-at}
 use Rattle.machine.proofs.WordLaws.{part-at}
-use Rattle.states.specs.Threads.{threadIn, putThread, blockOf}
-use Rattle.states.specs.Stacks.{pushItem, popItem, pushValue, popValue, moveTo, ended}
+use Rattle.states.specs.inner.Threads.{threadIn, putThread, blockOf}
+use Rattle.states.specs.inner.Stacks.{pushItem, popItem, pushValue, popValue, moveTo, ended}
 use Rattle.states.specs.declared.thread.ThreadWords.{ThreadWords}
 use Rattle.states.proofs.ThreadLaws.{Wide, in-wide, put-same, put-set}
 

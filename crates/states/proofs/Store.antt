@@ -7,8 +7,8 @@ use borrow.Author.Tests.{lt-ltb, le-ltb}
 use lib.ListN.{getD, length, set, length-append, length-set, List·getD-append}
 use lib.Seq.{getD-at, getD-append-add}
 use Rattle.basics.proofs.Ifs.{if-yes, if-no}
-use Rattle.machine.specs.Blocks.{pasted}
-use Rattle.states.specs.Threads.{blockOf, withOneMore}
+use Rattle.machine.specs.inner.Blocks.{pasted}
+use Rattle.states.specs.inner.Threads.{blockOf, withOneMore}
 use Rattle.states.specs.declared.thread.ThreadWords.{ThreadWords}
 use Rattle.machine.proofs.WordLaws.{pasted-more, pasted-length}
 use Rattle.states.proofs.PastedLaws.{first-word, next-run}

@@ -7,8 +7,8 @@ use lib.ListN.{getD, length, set, length-map, length-reverse}
 use lib.Seq.{ext-getD}
 use Rattle.machine.specs.State.{State, Thread, Item, noThread, withThread, withNew}
 use Rattle.machine.specs.Words.{itemWord, valueWord, threadWord}
-use Rattle.machine.specs.Blocks.{part, pasted, padded, threadWords}
-use Rattle.states.specs.Threads.{wordsOf, fieldsAt, blockOf, withOneMore}
+use Rattle.machine.specs.inner.Blocks.{part, pasted, padded, threadWords}
+use Rattle.states.specs.inner.Threads.{wordsOf, fieldsAt, blockOf, withOneMore}
 use Rattle.states.specs.declared.thread.ThreadWords.{ThreadWords}
 use Rattle.machine.proofs.WordLaws.{part-at, part-length, Says}
 use Rattle.machine.proofs.Blocks.{put-thread, put-new, thread-length, thread-at}

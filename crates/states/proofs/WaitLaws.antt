@@ -8,8 +8,8 @@ use lib.ListN.{getD}
 use lib.Dec.{eqb}
 use borrow.Author.Tests.{lt-ltb, le-ltb, eq-eqb, ne-eqb}
 use Rattle.basics.proofs.Ifs.{yes, no}
-use Rattle.machine.specs.Ranges.{allBelow}
-use Rattle.states.specs.Lists.{isQuiet, isReadyWord}
+use Rattle.machine.specs.inner.Ranges.{allBelow}
+use Rattle.states.specs.inner.Lists.{isQuiet, isReadyWord}
 
 module _ (w : List ℕ) (u k : ℕ) where
   pub quiet-ended : getD w (1042 + 55 * k + 2) 0 ≡ 0 → true ≡ isQuiet w u k

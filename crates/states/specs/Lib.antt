@@ -1,6 +1,1 @@
-pub mod Passes
-pub mod Threads
-pub mod Lists
-pub mod Starts
-pub mod Stacks
-pub mod Parties
+pub mod inner

@@ -3,18 +3,17 @@ use crate::thread::ThreadWords;
 use crate::thread::add_thread;
 use language::Place;
 use language::frame::Frame;
-use language::kind::is_module;
 use language::kind::is_shared;
+use program::module::main_body;
 use text::line::frame_of_word;
 ghost use mathlib.Core.Path.{_≡_};
 ghost use lib.ListN.{length, set, replicate};
 ghost use Rattle.text.specs.Frames.{framesOf};
-ghost use Rattle.program.specs.Trees.{rootS};
-ghost use Rattle.program.specs.Programs.{sharedOf, programOf, mainOf, cellOf};
+ghost use Rattle.program.specs.Programs.{sharedOf, programOf, cellOf};
 ghost use Rattle.machine.specs.Values.{firstContent};
 ghost use Rattle.machine.specs.Fresh.{firstCell, fresh};
 ghost use Rattle.machine.specs.Words.{valueWord, cellWord, pack};
-ghost use Rattle.states.specs.Starts.{mainWords, withShared};
+ghost use Rattle.states.specs.inner.Starts.{mainWords, withShared};
 
 // The word of a first content: a cell, a number, or a truth, by its type.
 fn content_word(content: u16, first: u16) -> u64
@@ -81,22 +80,6 @@ fn write_cells(frames: &[u64], state: &mut [u64])
 {
     let cells = write_shared(frames, state);
     state[1] = cells;
-}
-
-// The body's frame of the last module, which is main; 0 where a file has no module.
-fn main_body(frames: &[u64]) -> u64
-    ensures { λ r. ⌜ r ≡ rootS (mainOf (programOf (framesOf (now (frames .entry)))) .body) ⌝ }
-{
-    let mut i = frames.len();
-    while 0 < i {
-        i -= 1;
-        let f = frame_of_word(frames[i]);
-        let k = f.kind;
-        if is_module(k) {
-            return f.a as u64;
-        }
-    }
-    0
 }
 
 fn main_thread(body: u64) -> ThreadWords

@@ -8,9 +8,9 @@ ghost use Prim.Native.Nat.{_+_, _-_, _*_, _<_, _≤_};
 ghost use lib.Dec.{leb};
 ghost use lib.ListN.{length, getD};
 ghost use Rattle.language.specs.Places.{home, isScheduler};
-ghost use Rattle.machine.specs.Blocks.{part, pasted};
+ghost use Rattle.machine.specs.inner.Blocks.{part, pasted};
 ghost use Rattle.machine.specs.Words.{wordsAt};
-ghost use Rattle.states.specs.Lists.{shifted, withoutFirst, insertedIn, withLast, sortedOf, withInstantEnded, readyWords};
+ghost use Rattle.states.specs.inner.Lists.{shifted, withoutFirst, insertedIn, withLast, sortedOf, withInstantEnded, readyWords};
 
 // A next list's entries: the threads of the ready ones, and those that wait, each with its count and 0 behind.
 struct Sorted {

@@ -3,7 +3,7 @@ use language::Place;
 ghost use mathlib.Core.Path.{_≡_};
 ghost use Prim.Native.Nat.{_≤_};
 ghost use lib.ListN.{length, getD};
-ghost use Rattle.states.specs.Parties.{isUnlinkedWord};
+ghost use Rattle.states.specs.inner.Parties.{isUnlinkedWord};
 
 // The choice or owner 16 + t is thread t.
 pub const THREADS_FROM: u64 = 16;

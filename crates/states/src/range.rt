@@ -8,8 +8,9 @@ ghost use Prim.Native.Nat.{_+_, _*_, _≤_, _<_};
 ghost use lib.ListN.{length};
 ghost use Rattle.text.specs.Frames.{framesOf};
 ghost use Rattle.program.specs.Trees.{frameAt};
-ghost use Rattle.machine.specs.Ranges.{threadInRange, valueInRange, isStatement, itemInRange, entryInRange, ownerInRange, cellInRange, listInRange, schedulerInRange, threadWordInRange, allBelow, inRange};
-ghost use Rattle.states.specs.Passes.{isZero, memberInRange, wordPasses, schedulerBlock, threadBlock};
+ghost use Rattle.machine.specs.inner.Ranges.{threadInRange, valueInRange, itemInRange, entryInRange, cellInRange, listInRange, schedulerInRange, threadWordInRange, allBelow, inRange};
+ghost use Rattle.machine.specs.Shapes.{isStatement, ownerInRange};
+ghost use Rattle.states.specs.inner.Passes.{isZero, memberInRange, wordPasses, schedulerBlock, threadBlock};
 
 // What the words of a list or of a block are.
 enum Member {

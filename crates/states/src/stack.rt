@@ -4,8 +4,8 @@ use language::Place;
 ghost use mathlib.Core.Path.{_≡_};
 ghost use Prim.Native.Nat.{_-_, _<_, _≤_};
 ghost use lib.ListN.{length, getD};
-ghost use Rattle.states.specs.Threads.{threadIn, putThread};
-ghost use Rattle.states.specs.Stacks.{pushItem, popItem, pushValue, popValue, moveTo, ended};
+ghost use Rattle.states.specs.inner.Threads.{threadIn, putThread};
+ghost use Rattle.states.specs.inner.Stacks.{pushItem, popItem, pushValue, popValue, moveTo, ended};
 
 // The item on top of the continuation, its last word; 0 where there is none.
 pub fn top_item(state: &[u64], k: usize) -> u64

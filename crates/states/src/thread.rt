@@ -2,8 +2,8 @@
 ghost use mathlib.Core.Path.{_≡_};
 ghost use Prim.Native.Nat.{_+_, _*_, _<_, _≤_};
 ghost use lib.ListN.{length, getD};
-ghost use Rattle.machine.specs.Blocks.{part, pasted};
-ghost use Rattle.states.specs.Threads.{blockOf, threadIn, withOneMore};
+ghost use Rattle.machine.specs.inner.Blocks.{part, pasted};
+ghost use Rattle.states.specs.inner.Threads.{blockOf, threadIn, withOneMore};
 
 // Where it stands, which thread started it, 1 while it lives; its continuation from the bottom and its variables from
 // the first, each behind its length and with 0 behind its members.

@@ -2,8 +2,8 @@
 ghost use mathlib.Core.Path.{_≡_};
 ghost use Prim.Native.Nat.{_<_, _≤_};
 ghost use lib.ListN.{length, getD};
-ghost use Rattle.machine.specs.Ranges.{allBelow};
-ghost use Rattle.states.specs.Lists.{isQuiet, isReadyWord};
+ghost use Rattle.machine.specs.inner.Ranges.{allBelow};
+ghost use Rattle.states.specs.inner.Lists.{isQuiet, isReadyWord};
 
 // Thread k + 1 has ended, or is neither thread u nor started by it.
 fn is_quiet(state: &[u64], u: u64, k: usize) -> bool

@@ -18,29 +18,28 @@ use Rattle.program.specs.Trees.{rootS, frameAt}
 use Rattle.program.specs.Programs.{programOf}
 use Rattle.machine.specs.State.{State, Thread, Item, run, back, drop, threadAt, usedCells}
 use Rattle.machine.specs.Words.{itemWord, valueWord}
-use Rattle.machine.specs.Ranges.{isStatement}
-use Rattle.machine.specs.Blocks.{pasted, padded, cellWords}
+use Rattle.machine.specs.Shapes.{isStatement, ThreadFits, ValueFits, ItemFits, run-fits, back-fits}
+use Rattle.machine.specs.inner.Blocks.{pasted, padded, cellWords}
 use Rattle.machine.specs.declared.value.Value.{Value}
 use Rattle.machine.proofs.WordLaws.{part-length}
 use Rattle.machine.proofs.Blocks.{cells-length, cells-at}
-use Rattle.machine.proofs.Shapes.{ThreadFits, ValueFits, ItemFits, run-fits, back-fits}
 use Rattle.machine.proofs.InShape.{value-in}
 use Rattle.machine.proofs.Padded.{padded-at}
 use Rattle.evaluator.specs.declared.Who.{Who}
-use Rattle.evaluator.specs.Results.{CellWords, ValueWords}
+use Rattle.evaluator.specs.inner.Results.{CellWords, ValueWords}
 use Rattle.evaluator.proofs.Holding.{holds-words}
 use Rattle.states.specs.declared.thread.ThreadWords.{ThreadWords}
-use Rattle.states.specs.Threads.{wordsOf, threadIn}
+use Rattle.states.specs.inner.Threads.{wordsOf, threadIn}
 use Rattle.states.proofs.StackLaws.{withContinuation, top-item-is}
 use Rattle.layout.proofs.Scopes.{placed}
 use Rattle.reach.proofs.Passed.{order, inside, some-frame}
 use Rattle.acts.specs.declared.act.Acted.{Acted}
-use Rattle.acts.specs.Fates.{popped, turned, Room}
+use Rattle.acts.specs.inner.Fates.{popped, turned, Room}
 use Rattle.turns.specs.declared.view.View.{View}
-use Rattle.turns.specs.Actions.{actOn, turnAct}
+use Rattle.turns.specs.inner.Actions.{actOn, turnAct}
 use Rattle.turns.proofs.TurnLaws.{act-turns}
-use Rattle.turns.specs.Acts.{ActedOn, actedOn, turnIn, topIn, variablesIn, Views, WholeTurn, TurnWords}
-use Rattle.stepper.specs.Files.{StepWords, stateIn, whoIn, turnOf, turnOn}
+use Rattle.turns.specs.inner.Acts.{ActedOn, actedOn, turnIn, topIn, variablesIn, Views, WholeTurn, TurnWords}
+use Rattle.stepper.specs.inner.Files.{StepWords, stateIn, whoIn, turnOf, turnOn}
 use Rattle.stepper.proofs.Variables.{variables-words}
 use Rattle.stepper.proofs.GoodWords.{shaped, says, step-long, threads-few, thread-read, fit, place-in}
 

@@ -19,7 +19,7 @@ use Rattle.layout.proofs.AfterLayout.{text-refused, text-passed}
 use Rattle.rules.proofs.CheckLaws.{check-file}
 use Rattle.machine.specs.Fresh.{fresh}
 use Rattle.machine.specs.Words.{pack}
-use Rattle.machine.specs.Ranges.{inRange}
+use Rattle.machine.specs.inner.Ranges.{inRange}
 use Rattle.machine.specs.Calls.{Called, freshCall, stepCall}
 use Rattle.machine.proofs.Calls.{called-out}
 use Rattle.states.proofs.FreshWords.{call-wrong, call-fresh}
@@ -28,7 +28,7 @@ use Rattle.stepper.specs.declared.answer.Answer.the-variants as A
 use Rattle.stepper.specs.declared.file.File.{File}
 use Rattle.stepper.specs.declared.party.Stepped.{Stepped}
 use Rattle.stepper.specs.Answers.{numberOf, threadOf, answerTo, answered, calledAs, onText, freshText, stepText}
-use Rattle.stepper.specs.Files.{FileWords, StepWords, fileOf, steppedOn}
+use Rattle.stepper.specs.inner.Files.{FileWords, StepWords, fileOf, steppedOn}
 
 -- ---- one answer
 module _ (n t : ℕ) where

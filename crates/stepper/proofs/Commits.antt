@@ -12,14 +12,14 @@ use Rattle.language.specs.Places.{isScheduler}
 use Rattle.machine.specs.State.{State, Stored, Thread, Entry, noCell, schedulerAt, withThread, withCells, withScheduler, enlist, usedCells}
 use Rattle.machine.specs.Turns.{Turn, isSchedulerOf, behindFirst, leave}
 use Rattle.machine.specs.Words.{entryWord, cellWord}
-use Rattle.machine.specs.Blocks.{pasted, cellWords}
+use Rattle.machine.specs.inner.Blocks.{pasted, cellWords}
 use Rattle.machine.proofs.WordLaws.{Says, is-pack, pasted-length, pasted-in, pasted-out}
 use Rattle.machine.proofs.Blocks.{put-cells, cells-length, cells-at}
 use Rattle.machine.proofs.Valid.{no-cell-word}
-use Rattle.states.specs.Threads.{putThread, wordsOf}
+use Rattle.states.specs.inner.Threads.{putThread, wordsOf}
 use Rattle.states.proofs.ThreadSays.{store-says}
 use Rattle.states.proofs.SchedulerSays.{room-says, leave-says, last-says}
-use Rattle.commits.specs.Commits.{clearedIn, settledIn, leftIn, roomIn, joinedIn}
+use Rattle.commits.specs.inner.Commits.{clearedIn, settledIn, leftIn, roomIn, joinedIn}
 use Rattle.commits.proofs.WritingLaws.{list-block}
 use Rattle.stepper.proofs.Grows.{Grown}
 

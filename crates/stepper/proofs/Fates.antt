@@ -17,17 +17,17 @@ use Rattle.machine.specs.Accesses.{Access}
 use Rattle.machine.specs.State.{State, Stored, Thread, Entry, plain, schedulerAt, enlist, usedCells}
 use Rattle.machine.specs.Turns.{stateSpaces, Stepped, Turn, refuse, accept, settled, isSchedulerOf, leave, room}
 use Rattle.machine.specs.Words.{pack, entryWord}
-use Rattle.machine.specs.Blocks.{pasted}
+use Rattle.machine.specs.inner.Blocks.{pasted}
 use Rattle.machine.specs.Calls.{Called, calledOf}
 use Rattle.machine.proofs.WordLaws.{Says, is-pack}
-use Rattle.machine.proofs.Shapes.{Shaped}
+use Rattle.machine.specs.Shapes.{Shaped}
 use Rattle.machine.proofs.KeptShape.{FileFits, scheduler-fits, leave-next}
 use Rattle.states.specs.declared.thread.ThreadWords.{ThreadWords}
-use Rattle.states.specs.Threads.{wordsOf}
+use Rattle.states.specs.inner.Threads.{wordsOf}
 use Rattle.acts.specs.declared.act.Fate.the-variants.{Stays, Leaves, Joins}
-use Rattle.acts.specs.Fates.{Turned, actedIn, refusedIn}
-use Rattle.turns.specs.Acts.{ActedOn}
-use Rattle.commits.specs.Commits.{called, settledIn, leftIn, roomIn, joinsIn, committedIn}
+use Rattle.acts.specs.inner.Fates.{Turned, actedIn, refusedIn}
+use Rattle.turns.specs.inner.Acts.{ActedOn}
+use Rattle.commits.specs.inner.Commits.{called, settledIn, leftIn, roomIn, joinsIn, committedIn}
 use Rattle.stepper.proofs.Grows.{Grown}
 use Rattle.stepper.proofs.Commits.{withCellWords, left-says, joined-says, settled-says, room-is, cleared-is}
 

@@ -13,15 +13,15 @@ use Rattle.program.specs.Programs.{Program, programOf}
 use Rattle.machine.specs.State.{State, nth, threadAt}
 use Rattle.machine.proofs.WordLaws.{Says}
 use Rattle.machine.proofs.Blocks.{says-pack}
-use Rattle.machine.proofs.Shapes.{Shaped, ThreadFits}
+use Rattle.machine.specs.Shapes.{Shaped, ThreadFits}
 use Rattle.machine.proofs.Valid.{packed}
 use Rattle.machine.proofs.InShape.{in-range-shaped}
 use Rattle.machine.proofs.KeptShape.{FileFits}
-use Rattle.states.specs.Threads.{wordsOf, threadIn}
+use Rattle.states.specs.inner.Threads.{wordsOf, threadIn}
 use Rattle.states.proofs.ThreadSays.{load-is}
 use Rattle.reach.proofs.Sizes.{Sized, fields-small}
 use Rattle.reach.proofs.Fits.{file-fits}
-use Rattle.stepper.specs.Files.{FileWords, StepWords, stateIn}
+use Rattle.stepper.specs.inner.Files.{FileWords, StepWords, stateIn}
 
 -- ---- the file
 module _ (frames : List ℕ) (file : FileWords frames) where

@@ -15,22 +15,22 @@ use Rattle.machine.specs.Evaluation.{Here, Evaluated, Evaluation, eval, storing
 use Rattle.machine.specs.Turns.{Stepped, Turn, continuation, variables, accept, evaluator, behind, goOn, withValue, withValues, byCondition, stay, settled}
 use Rattle.machine.specs.Statements.{stepNothing, stepSeq, stepStart, stepStartWait, stepLet, stepStore, stepIf, stepWhile, starting, startedWait, withStarted, stepStatement}
 use Rattle.machine.specs.Words.{itemWord, valueWord, wordValue}
-use Rattle.machine.specs.Blocks.{cellWords}
+use Rattle.machine.specs.inner.Blocks.{cellWords}
 use Rattle.machine.specs.Calls.{calledOf}
 use Rattle.machine.specs.declared.value.Value.{Value}
 use Rattle.machine.specs.declared.value.Value.the-variants.{Number, Truth, Cell}
 use Rattle.machine.specs.declared.value.Outcome.{Outcome}
 use Rattle.machine.specs.declared.value.Outcome.the-variants.{Is, Foreign, Spent, Stuck}
 use Rattle.machine.proofs.Round.{value-back, map-back}
-use Rattle.machine.proofs.Shapes.{ValueFits, ThreadFits}
+use Rattle.machine.specs.Shapes.{ValueFits, ThreadFits}
 use Rattle.machine.proofs.KeptCells.{CellsFit, HereFits, ExprFits, OutcomeFits, EvalFits, fit-eval, fit-storing}
 use Rattle.machine.proofs.KeptShape.{Parts, of-nothing, of-cooperate, of-seq, of-do, of-start, of-wait, of-let, of-store, of-if, of-while}
 use Rattle.evaluator.specs.declared.Who.{Who}
-use Rattle.evaluator.specs.Results.{Result, hereOf, resultOf, onWords}
+use Rattle.evaluator.specs.inner.Results.{Result, hereOf, resultOf, onWords}
 use Rattle.evaluator.proofs.Holding.{Holds, holds-cells}
-use Rattle.states.specs.Threads.{wordsOf}
-use Rattle.acts.specs.Fates.{Turned}
-use Rattle.turns.specs.Acts.{ActedOn, actedOn, thenActs, thenOn, byTruthIn, letsOn, storesOn, choosesOn, loopsOn, variablesIn, evaluatedIn, storedIn, request, startsIn, oneArgument, lastArgument, twoArguments, statementIn}
+use Rattle.states.specs.inner.Threads.{wordsOf}
+use Rattle.acts.specs.inner.Fates.{Turned}
+use Rattle.turns.specs.inner.Acts.{ActedOn, actedOn, thenActs, thenOn, byTruthIn, letsOn, storesOn, choosesOn, loopsOn, variablesIn, evaluatedIn, storedIn, request, startsIn, oneArgument, lastArgument, twoArguments, statementIn}
 use Rattle.stepper.proofs.Grows.{Grown, grown-on, grows-eval, UnlessValue, unless-on, unless-grown, grows-storing}
 use Rattle.stepper.proofs.Fates.{Acts, turnAt, commit, commitOn, refuse-is}
 use Rattle.stepper.proofs.Arguments.{FewArguments}

@@ -22,14 +22,14 @@ use Rattle.machine.specs.Words.{itemWord, valueWord}
 use Rattle.machine.specs.Calls.{calledOf}
 use Rattle.machine.specs.declared.value.Value.{Value}
 use Rattle.machine.specs.declared.value.Value.the-variants.{Number}
-use Rattle.machine.proofs.Shapes.{ThreadFits}
+use Rattle.machine.specs.Shapes.{ThreadFits}
 use Rattle.states.specs.declared.thread.ThreadWords.{ThreadWords}
-use Rattle.states.specs.Threads.{wordsOf}
-use Rattle.states.specs.Stacks.{pushItem, pushValue, popValue, moveTo}
+use Rattle.states.specs.inner.Threads.{wordsOf}
+use Rattle.states.specs.inner.Stacks.{pushItem, pushValue, popValue, moveTo}
 use Rattle.states.proofs.StackLaws.{push-item-is, push-value-is, pop-value-is}
 use Rattle.acts.specs.declared.act.Fate.the-variants.{Stays, Leaves, Joins}
-use Rattle.acts.specs.Fates.{Turned, actedIn, refusedIn}
-use Rattle.turns.specs.Acts.{oneIn, twoIn, letsIn, dropsIn, goesIn, doesIn, cooperatesIn}
+use Rattle.acts.specs.inner.Fates.{Turned, actedIn, refusedIn}
+use Rattle.turns.specs.inner.Acts.{oneIn, twoIn, letsIn, dropsIn, goesIn, doesIn, cooperatesIn}
 use Rattle.stepper.proofs.Grows.{Grown}
 use Rattle.stepper.proofs.Fates.{Acts, turnAt, commit, place-scheduler, refuse-is, stays-is, leaves-is, joins-is}
 

@@ -20,17 +20,17 @@ use Rattle.machine.specs.Steps.{stepThread, turnInstant, endInstant, stepSchedu
 use Rattle.machine.specs.Words.{pack, wordsAt}
 use Rattle.machine.specs.Calls.{Called, calledOf, stepCall}
 use Rattle.machine.proofs.WordLaws.{is-pack}
-use Rattle.machine.proofs.Shapes.{IsThread, SchedulerFits}
+use Rattle.machine.specs.Shapes.{IsThread, SchedulerFits}
 use Rattle.machine.proofs.Calls.{called-in}
 use Rattle.machine.proofs.KeptShape.{scheduler-fits, unlinked-is}
-use Rattle.states.specs.Lists.{readyWords, withInstantEnded}
-use Rattle.states.specs.Parties.{isUnlinkedWord}
+use Rattle.states.specs.inner.Lists.{readyWords, withInstantEnded}
+use Rattle.states.specs.inner.Parties.{isUnlinkedWord}
 use Rattle.states.proofs.SchedulerSays.{first-says, room-says}
 use Rattle.states.proofs.Instants.{instant-readies, instant-says, instant-none}
 use Rattle.states.proofs.PartyLaws.{unlinked-says}
-use Rattle.commits.specs.Commits.{called}
+use Rattle.commits.specs.inner.Commits.{called}
 use Rattle.stepper.specs.declared.file.File.{File}
-use Rattle.stepper.specs.Files.{StepWords, stateIn, TurnChoice, fileOf}
+use Rattle.stepper.specs.inner.Files.{StepWords, stateIn, TurnChoice, fileOf}
 use Rattle.stepper.proofs.Fates.{scheduler-there}
 use Rattle.stepper.proofs.GoodWords.{fits-in, shaped, says, step-long, threads-few}
 

@@ -20,7 +20,7 @@ use Rattle.machine.specs.State.{State, Stored, Thread, plain, waiting, withNew,
 use Rattle.machine.specs.Turns.{Stepped, Turn, unlinkedHere, refuse, accept, settled, leave, room}
 use Rattle.machine.specs.Statements.{started, withStarted, starting, startedWait}
 use Rattle.machine.specs.Words.{itemWord, valueWord, entryWord}
-use Rattle.machine.specs.Blocks.{padded}
+use Rattle.machine.specs.inner.Blocks.{padded}
 use Rattle.machine.specs.Calls.{calledOf}
 use Rattle.machine.specs.declared.value.Value.{Value}
 use Rattle.machine.proofs.WordLaws.{Says, is-pack}
@@ -28,12 +28,12 @@ use Rattle.machine.proofs.Padded.{padded-length, padded-at}
 use Rattle.machine.proofs.Space.{leave-threads}
 use Rattle.machine.proofs.KeptShape.{leave-next, enlist-next, has-room, settled-length}
 use Rattle.states.specs.declared.thread.ThreadWords.{ThreadWords}
-use Rattle.states.specs.Threads.{wordsOf, withOneMore}
+use Rattle.states.specs.inner.Threads.{wordsOf, withOneMore}
 use Rattle.states.proofs.ThreadSays.{add-says}
-use Rattle.acts.specs.Fates.{Turned}
-use Rattle.turns.specs.Acts.{startsWith, request}
-use Rattle.commits.specs.Modules.{foundIn}
-use Rattle.commits.specs.Commits.{called, settledIn, leftIn, roomIn, joinedIn, newIn, obstacleIn, refusesIn, startsIn, startedIn, waitingIn}
+use Rattle.acts.specs.inner.Fates.{Turned}
+use Rattle.turns.specs.inner.Acts.{startsWith, request}
+use Rattle.program.specs.inner.Modules.{foundIn}
+use Rattle.commits.specs.inner.Commits.{called, settledIn, leftIn, roomIn, joinedIn, newIn, obstacleIn, refusesIn, startsIn, startedIn, waitingIn}
 use Rattle.stepper.proofs.Grows.{Grown}
 use Rattle.stepper.proofs.Commits.{withCellWords, cells-out, joined-says, room-is}
 use Rattle.stepper.proofs.Fates.{Acts, turnAt, commit, place-scheduler, list-there, leave-count, enlist-count, refuse-is, settled-is, left-is}

@@ -14,18 +14,18 @@ use Rattle.machine.specs.Turns.{Turn, isSchedulerOf, leave, settled}
 use Rattle.machine.specs.Statements.{ends}
 use Rattle.machine.specs.Steps.{turn, stepItems, stepThread, stepThreadWithin}
 use Rattle.machine.specs.Words.{pack}
-use Rattle.machine.specs.Blocks.{pasted, cellWords}
+use Rattle.machine.specs.inner.Blocks.{pasted, cellWords}
 use Rattle.machine.specs.Calls.{calledOf}
 use Rattle.machine.proofs.WordLaws.{is-pack, pasted-length, pasted-out}
 use Rattle.machine.proofs.KeptShape.{scheduler-fits}
 use Rattle.states.specs.declared.thread.ThreadWords.{ThreadWords}
-use Rattle.states.specs.Threads.{wordsOf, threadIn}
+use Rattle.states.specs.inner.Threads.{wordsOf, threadIn}
 use Rattle.acts.specs.declared.act.Acted.{Acted}
-use Rattle.acts.specs.Fates.{Turned, popped, turned, Room}
-use Rattle.turns.specs.Acts.{ActedOn, turnIn}
-use Rattle.commits.specs.Commits.{called, leftIn, after, committedIn, CommitWords}
+use Rattle.acts.specs.inner.Fates.{Turned, popped, turned, Room}
+use Rattle.turns.specs.inner.Acts.{ActedOn, turnIn}
+use Rattle.commits.specs.inner.Commits.{called, leftIn, after, committedIn, CommitWords}
 use Rattle.commits.proofs.ChangeLaws.{same-thread}
-use Rattle.stepper.specs.Files.{StepWords, stateIn, TurnChoice, whoIn, turnOf, turnOn}
+use Rattle.stepper.specs.inner.Files.{StepWords, stateIn, TurnChoice, whoIn, turnOf, turnOn}
 use Rattle.stepper.proofs.Commits.{left-says}
 use Rattle.stepper.proofs.Fates.{scheduler-there, Acts}
 use Rattle.stepper.proofs.Items.{IsWho}

@@ -14,20 +14,20 @@ use Rattle.machine.specs.State.{State, Stored, Thread, usedCells}
 use Rattle.machine.specs.Evaluation.{Evaluated, eval, storing}
 use Rattle.machine.specs.Turns.{evaluator}
 use Rattle.machine.specs.Words.{valueWord}
-use Rattle.machine.specs.Blocks.{cellWords}
+use Rattle.machine.specs.inner.Blocks.{cellWords}
 use Rattle.machine.specs.declared.value.Value.{Value}
 use Rattle.machine.specs.declared.value.Value.the-variants.{Number, Truth, Cell}
 use Rattle.machine.specs.declared.value.Outcome.{Outcome}
 use Rattle.machine.specs.declared.value.Outcome.the-variants.{Is, Foreign, Spent, Stuck}
-use Rattle.machine.proofs.Shapes.{ThreadFits}
+use Rattle.machine.specs.Shapes.{ThreadFits}
 use Rattle.machine.proofs.KeptCells.{CellsFit, ExprFits, EvalFits, fit-storing}
 use Rattle.machine.proofs.KeptShape.{Parts, of-nothing, of-cooperate, of-seq, of-do, of-start, of-wait, of-let, of-store, of-if, of-while}
 use Rattle.evaluator.specs.declared.Who.{Who}
-use Rattle.evaluator.specs.Results.{Result, resultOf}
+use Rattle.evaluator.specs.inner.Results.{Result, resultOf}
 use Rattle.states.specs.declared.thread.ThreadWords.{ThreadWords}
-use Rattle.states.specs.Threads.{wordsOf}
-use Rattle.acts.specs.Fates.{Turned}
-use Rattle.turns.specs.Acts.{ActedOn, oneIn, twoIn, letsIn, dropsIn, goesIn, doesIn, cooperatesIn, thenActs, thenOn, byTruthIn, letsOn, storesOn, choosesOn, loopsOn, evaluatedIn, request, startsIn, oneArgument, lastArgument, twoArguments, statementIn}
+use Rattle.states.specs.inner.Threads.{wordsOf}
+use Rattle.acts.specs.inner.Fates.{Turned}
+use Rattle.turns.specs.inner.Acts.{ActedOn, oneIn, twoIn, letsIn, dropsIn, goesIn, doesIn, cooperatesIn, thenActs, thenOn, byTruthIn, letsOn, storesOn, choosesOn, loopsOn, evaluatedIn, request, startsIn, oneArgument, lastArgument, twoArguments, statementIn}
 use Rattle.stepper.proofs.Fates.{Acts, turnAt}
 use Rattle.stepper.proofs.Items.{IsWho, here-fits, evaluation-is, eval-fits}
 

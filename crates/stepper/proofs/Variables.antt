@@ -7,10 +7,10 @@ use lib.ListN.{length, take, length-map}
 use lib.Seq.{ext-getD, getD-take, length-take-le}
 use Rattle.machine.specs.State.{Thread}
 use Rattle.machine.specs.Words.{valueWord}
-use Rattle.machine.specs.Blocks.{padded}
+use Rattle.machine.specs.inner.Blocks.{padded}
 use Rattle.machine.proofs.Padded.{padded-length, padded-at}
-use Rattle.states.specs.Threads.{wordsOf}
-use Rattle.turns.specs.Acts.{variablesIn}
+use Rattle.states.specs.inner.Threads.{wordsOf}
+use Rattle.turns.specs.inner.Acts.{variablesIn}
 
 take-padded : (n : ℕ) (ws : List ℕ) → length ws ≤ n → take (length ws) (padded n ws) ≡ ws
 take-padded n ws h =

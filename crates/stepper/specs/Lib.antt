@@ -1,2 +1,2 @@
 pub mod Answers
-pub mod Files
+pub mod inner

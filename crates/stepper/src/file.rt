@@ -1,34 +1,16 @@
 // What a step needs to know of a file beside its frames.
-use language::kind::is_shared;
+use program::shared::count_shared;
 use text::line::frame_of_word;
 ghost use mathlib.Core.Path.{_≡_};
-ghost use lib.ListN.{length};
 ghost use Rattle.text.specs.Frames.{framesOf};
-ghost use Rattle.program.specs.Programs.{sharedOf, allowanceOf, programOf};
-ghost use Rattle.stepper.specs.Files.{FileWords, fileOf};
+ghost use Rattle.program.specs.Programs.{allowanceOf, programOf};
+ghost use Rattle.stepper.specs.inner.Files.{FileWords, fileOf};
 
 // How many schedulers it has, how many shared cells, and how many choices a run may use.
 pub struct File {
     pub schedulers: u8,
     pub shared: usize,
     pub allowance: u16,
-}
-
-fn count_shared(frames: &[u64]) -> usize
-    ensures { λ r. ⌜ r ≡ length (sharedOf (framesOf (now (frames .entry)))) ⌝ }
-{
-    let mut i: usize = 0;
-    let mut n: usize = 0;
-    while i < frames.len() {
-        let f = frame_of_word(frames[i]);
-        let k = f.kind;
-        i += 1;
-        if !is_shared(k) {
-            continue;
-        }
-        n += 1;
-    }
-    n
 }
 
 fn allowance_in(a: u16) -> u16

@@ -11,7 +11,7 @@ ghost use Rattle.machine.specs.State.{schedulerAt};
 ghost use Rattle.machine.specs.Turns.{isSchedulerOf};
 ghost use Rattle.machine.specs.Steps.{stepScheduler};
 ghost use Rattle.machine.specs.Calls.{calledOf};
-ghost use Rattle.stepper.specs.Files.{StepWords, stateIn, steppedOn};
+ghost use Rattle.stepper.specs.inner.Files.{StepWords, stateIn, steppedOn};
 
 // The number of the answer, 0 where the step is done, and the acting thread, 0 where none acts.
 pub struct Stepped {

@@ -10,7 +10,7 @@ use states::range::in_range;
 ghost use mathlib.Core.Path.{_≡_};
 ghost use Rattle.text.specs.Frames.{framesOf};
 ghost use Rattle.machine.specs.Calls.{stepCall};
-ghost use Rattle.stepper.specs.Files.{FileWords};
+ghost use Rattle.stepper.specs.inner.Files.{FileWords};
 ghost use Rattle.stepper.specs.Answers.{answered, calledAs, freshText, stepText};
 
 // How many words a state is.

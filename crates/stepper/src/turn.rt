@@ -16,8 +16,8 @@ ghost use Rattle.text.specs.Frames.{framesOf};
 ghost use Rattle.program.specs.Programs.{programOf};
 ghost use Rattle.machine.specs.Steps.{stepThread};
 ghost use Rattle.machine.specs.Calls.{calledOf};
-ghost use Rattle.commits.specs.Commits.{called};
-ghost use Rattle.stepper.specs.Files.{StepWords, stateIn, turnOn, TurnChoice};
+ghost use Rattle.commits.specs.inner.Commits.{called};
+ghost use Rattle.stepper.specs.inner.Files.{StepWords, stateIn, turnOn, TurnChoice};
 
 // What the turn of a thread that is there comes to. Of the words, only those of the cells are written.
 fn act_in(frames: &[u64], shared: usize, state: &mut [u64], t: u64) -> Acted

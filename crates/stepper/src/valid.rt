@@ -10,7 +10,7 @@ ghost use mathlib.Core.Path.{_≡_};
 ghost use Rattle.text.specs.Frames.{framesOf};
 ghost use Rattle.program.specs.Programs.{programOf};
 ghost use Rattle.machine.specs.Calls.{stepCall};
-ghost use Rattle.stepper.specs.Files.{StepWords, fileOf, steppedOn};
+ghost use Rattle.stepper.specs.inner.Files.{StepWords, fileOf, steppedOn};
 
 // One choice. A run calls this after the text has passed refusals 1 to 7, on a state that it has made itself.
 pub fn step_valid(frames: &[u64], file: File, state: &mut [u64], choice: u64) -> Stepped

@@ -10,7 +10,7 @@ use Rattle.basics.proofs.Ifs.{if-yes, yes, no}
 use Rattle.language.specs.declared.frame.Frame.{Frame}
 use Rattle.text.specs.Frames.{lineWord, frameOfWord, wordsOf, textFrames}
 use Rattle.text.specs.Reading.{firstWrong}
-use Rattle.text.specs.Lines.{lineFrom, lineRead, frameOfLine, frameRead}
+use Rattle.text.specs.inner.Lines.{lineFrom, lineRead, frameOfLine, frameRead}
 use Rattle.text.specs.declared.line.Line.{Line}
 use Rattle.text.specs.declared.line.Line.the-variants.{Word, WrongAt}
 use Rattle.text.specs.declared.line.FrameRead.{FrameRead}

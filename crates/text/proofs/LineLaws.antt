@@ -10,7 +10,7 @@ use lib.Seq.{drop-cons}
 use borrow.Author.Tests.{eq-eqb, ne-eqb, lt-ltb, le-ltb}
 use Rattle.basics.proofs.Ifs.{if-yes, if-no}
 use Rattle.text.specs.Digits.{digit, digitTable}
-use Rattle.text.specs.Lines.{lineFrom, lineRead}
+use Rattle.text.specs.inner.Lines.{lineFrom, lineRead}
 use Rattle.text.proofs.Table.{table-at}
 use Rattle.text.specs.declared.line.Line.{Line}
 use Rattle.text.specs.declared.line.Line.the-variants.{Word, WrongAt}

@@ -11,7 +11,7 @@ use lib.Seq.{drop-drop, take-all, set-at}
 use borrow.Author.Tests.{lt-ltb, le-ltb}
 use Rattle.text.specs.Frames.{lineWord, frameOfWord, wordsOf, textFrames}
 use Rattle.text.specs.Reading.{firstWrong, Reading, frames, refused, readLines, reading, linesRead, wordArray, textRead, textWords}
-use Rattle.text.specs.Lines.{lineRead}
+use Rattle.text.specs.inner.Lines.{lineRead}
 use Rattle.text.specs.declared.line.Line.{Line}
 use Rattle.text.specs.declared.line.Line.the-variants.{Word, WrongAt}
 use Rattle.text.specs.declared.reading.TextRead.{TextRead}

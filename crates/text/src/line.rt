@@ -4,7 +4,7 @@ use language::frame::Frame;
 use language::kind::kind_of;
 ghost use mathlib.Core.Path.{_≡_};
 ghost use Rattle.text.specs.Frames.{frameOfWord};
-ghost use Rattle.text.specs.Lines.{lineRead, frameOfLine, frameRead};
+ghost use Rattle.text.specs.inner.Lines.{lineRead, frameOfLine, frameRead};
 
 // What stands at the start of some bytes: a line, as one number of 16 digits, or the place of its first wrong or missing byte.
 pub(crate) enum Line {

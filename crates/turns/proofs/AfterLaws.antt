@@ -7,10 +7,10 @@ use Rattle.machine.specs.declared.value.Outcome.{Outcome}
 use Rattle.machine.specs.declared.value.Outcome.the-variants.{Is, Foreign, Spent, Stuck}
 use Rattle.states.specs.declared.thread.ThreadWords.{ThreadWords}
 use Rattle.acts.specs.declared.act.Acted.{Acted}
-use Rattle.acts.specs.Fates.{Turned}
+use Rattle.acts.specs.inner.Fates.{Turned}
 use Rattle.turns.specs.declared.view.View.{View}
-use Rattle.turns.specs.Acts.{thenActs, byTruthIn}
-use Rattle.turns.specs.Actions.{afterValue, byTruth}
+use Rattle.turns.specs.inner.Acts.{thenActs, byTruthIn}
+use Rattle.turns.specs.inner.Actions.{afterValue, byTruth}
 use Rattle.turns.proofs.ViewLaws.{Turns, refused-so}
 
 pub after-turns : (o : Outcome) (n : ℕ) (v : View) (k : Value → Acted)

@@ -16,10 +16,10 @@ use Rattle.machine.specs.declared.value.Outcome.{Outcome}
 use Rattle.machine.specs.declared.value.Outcome.the-variants.{Is, Foreign, Spent, Stuck}
 use Rattle.machine.proofs.value.Outcome as outcome
 use Rattle.acts.specs.declared.act.Acted.{Acted}
-use Rattle.acts.specs.Fates.{refusedWith}
+use Rattle.acts.specs.inner.Fates.{refusedWith}
 use Rattle.turns.specs.declared.view.View.{View}
 use Rattle.turns.specs.declared.start.Request.{Request}
-use Rattle.turns.specs.Actions.{letMore, afterValue, byTruth, letAfter, startWith, startOne, startTwo}
+use Rattle.turns.specs.inner.Actions.{letMore, afterValue, byTruth, letAfter, startWith, startOne, startTwo}
 
 -- ---- what is told where an outcome is no value: it is the second, third or fourth variant
 abbrev pub IsRefusal : Outcome → Type 0

@@ -13,10 +13,10 @@ use Rattle.evaluator.specs.declared.Who.{Who}
 use Rattle.acts.specs.declared.act.Fate.the-variants.{Leaves}
 use Rattle.acts.specs.declared.act.Change.the-variants.{End}
 use Rattle.acts.specs.declared.act.Acted.{Acted}
-use Rattle.acts.specs.Fates.{actedWith}
+use Rattle.acts.specs.inner.Fates.{actedWith}
 use Rattle.turns.specs.declared.view.View.{View}
-use Rattle.turns.specs.Acts.{TurnWords}
-use Rattle.turns.specs.Actions.{actOn, placeAt, goBack, dropOne, statementAct, itemAct, below, turnAct}
+use Rattle.turns.specs.inner.Acts.{TurnWords}
+use Rattle.turns.specs.inner.Actions.{actOn, placeAt, goBack, dropOne, statementAct, itemAct, below, turnAct}
 
 -- what a caller has shown holds without the top item
 pub below-words : (fw : List ℕ) (v : View) (vs : List ℕ) (n : ℕ) (ws : List ℕ)

@@ -9,15 +9,15 @@ use Rattle.basics.proofs.Ifs.{if-all, yes, no}
 use Rattle.language.specs.Places.{private}
 use Rattle.language.specs.declared.Place.{Place}
 use Rattle.states.specs.declared.thread.ThreadWords.{ThreadWords}
-use Rattle.states.specs.Stacks.{pushItem, moveTo}
+use Rattle.states.specs.inner.Stacks.{pushItem, moveTo}
 use Rattle.acts.specs.declared.act.Fate.the-variants.{Stays, Leaves, Joins}
 use Rattle.acts.specs.declared.act.Change.{Change}
 use Rattle.acts.specs.declared.act.Change.the-variants.{Same, Items, Move, Enter}
 use Rattle.acts.specs.declared.act.Acted.{Acted}
-use Rattle.acts.specs.Fates.{actedIn, actedWith, changed, turned, Room}
+use Rattle.acts.specs.inner.Fates.{actedIn, actedWith, changed, turned, Room}
 use Rattle.turns.specs.declared.view.View.{View}
-use Rattle.turns.specs.Acts.{goesIn, doesIn, cooperatesIn, Views}
-use Rattle.turns.specs.Actions.{goTo, goBack, unlinkedAgain, doThere, cooperation}
+use Rattle.turns.specs.inner.Acts.{goesIn, doesIn, cooperatesIn, Views}
+use Rattle.turns.specs.inner.Actions.{goTo, goBack, unlinkedAgain, doThere, cooperation}
 use Rattle.turns.proofs.ViewLaws.{Turns}
 
 -- ---- the act made in a thread: with either change it is the thread that goes, and there is room for both

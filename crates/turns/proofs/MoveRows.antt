@@ -11,9 +11,9 @@ use Rattle.acts.specs.declared.act.Fate.the-variants.{Stays, Leaves, Joins}
 use Rattle.acts.specs.declared.act.Change.{Change}
 use Rattle.acts.specs.declared.act.Change.the-variants.{Same, Items, Enter}
 use Rattle.acts.specs.declared.act.Acted.{Acted}
-use Rattle.acts.specs.Fates.{actedWith, refusedWith}
+use Rattle.acts.specs.inner.Fates.{actedWith, refusedWith}
 use Rattle.turns.specs.declared.view.View.{View}
-use Rattle.turns.specs.Actions.{goTo, unlinkedAgain, doThere, cooperation}
+use Rattle.turns.specs.inner.Actions.{goTo, unlinkedAgain, doThere, cooperation}
 
 -- ---- to place q: s is whether it is the same place, b whether it is private
 module _

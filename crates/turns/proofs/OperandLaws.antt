@@ -17,13 +17,13 @@ use Rattle.text.specs.Frames.{frameOfWord, framesOf}
 use Rattle.text.proofs.FrameWords.{frame-at}
 use Rattle.program.specs.Trees.{frameAt, noFrame}
 use Rattle.program.proofs.NodeLaws.{childrenAs}
-use Rattle.program.specs.Nodes.{statementNodeOf, statementNodeIn, statementNode}
+use Rattle.program.specs.inner.Nodes.{statementNodeOf, statementNodeIn, statementNode}
 use Rattle.program.specs.declared.node.StatementNode.{StatementNode}
 use Rattle.program.specs.declared.node.StatementNode.the-variants as Y
-use Rattle.evaluator.specs.Results.{FrameWords}
+use Rattle.evaluator.specs.inner.Results.{FrameWords}
 use Rattle.evaluator.proofs.Nodes.{frame-named}
 use Rattle.turns.specs.declared.view.View.{View}
-use Rattle.turns.specs.Acts.{TurnWords}
+use Rattle.turns.specs.inner.Acts.{TurnWords}
 
 -- the expressions that the turn evaluates, where m is how many frames there are
 abbrev Under : ℕ → StatementNode → Type 0

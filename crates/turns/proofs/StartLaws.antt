@@ -8,12 +8,12 @@ use Rattle.machine.specs.declared.value.Value.{Value}
 use Rattle.machine.specs.declared.value.Outcome.{Outcome}
 use Rattle.machine.specs.declared.value.Outcome.the-variants.{Is, Foreign, Spent, Stuck}
 use Rattle.evaluator.specs.declared.Who.{Who}
-use Rattle.evaluator.specs.Results.{Result}
+use Rattle.evaluator.specs.inner.Results.{Result}
 use Rattle.states.specs.declared.thread.ThreadWords.{ThreadWords}
 use Rattle.turns.specs.declared.view.View.{View}
 use Rattle.turns.specs.declared.start.Request.{Request}
-use Rattle.turns.specs.Acts.{ActedOn, thenOn, startsWith, oneArgument, lastArgument, twoArguments, startsIn}
-use Rattle.turns.specs.Actions.{ActOn, startWith, startOne, startTwo, behind, evaluatedBy, firstThen, bothArguments, startAct}
+use Rattle.turns.specs.inner.Acts.{ActedOn, thenOn, startsWith, oneArgument, lastArgument, twoArguments, startsIn}
+use Rattle.turns.specs.inner.Actions.{ActOn, startWith, startOne, startTwo, behind, evaluatedBy, firstThen, bothArguments, startAct}
 use Rattle.turns.proofs.ViewLaws.{Turns, Turning, refused-so, act-on, act-on-as, in-thread}
 use Rattle.turns.proofs.AfterLaws.{after-turns}
 

@@ -14,12 +14,12 @@ use Rattle.machine.specs.declared.value.Outcome.{Outcome}
 use Rattle.machine.specs.declared.value.Outcome.the-variants.{Is, Foreign, Spent, Stuck}
 use Rattle.evaluator.specs.declared.Who.{Who}
 use Rattle.evaluator.specs.declared.Answered.{Answered}
-use Rattle.evaluator.specs.Results.{Result, after, hereOf, onWords, CellWords, ValueWords}
+use Rattle.evaluator.specs.inner.Results.{Result, after, hereOf, onWords, CellWords, ValueWords}
 use Rattle.evaluator.proofs.Agreement.{eval-leaves}
 use Rattle.acts.specs.declared.act.Acted.{Acted}
-use Rattle.acts.specs.Fates.{refusedWith}
+use Rattle.acts.specs.inner.Fates.{refusedWith}
 use Rattle.turns.specs.declared.start.Request.{Request}
-use Rattle.turns.specs.Actions.{ActOn, actOn, afterValue, startWith, startOne, startTwo, behind, evaluatedBy, firstThen, bothArguments, startAct}
+use Rattle.turns.specs.inner.Actions.{ActOn, actOn, afterValue, startWith, startOne, startTwo, behind, evaluatedBy, firstThen, bothArguments, startAct}
 use Rattle.turns.proofs.AfterRows.{IsRefusal, no-refusal}
 
 -- behind an evaluation the cells may be lent again

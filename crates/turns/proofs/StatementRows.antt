@@ -14,21 +14,21 @@ use Rattle.language.specs.declared.frame.Frame.{Frame}
 use Rattle.text.specs.Frames.{frameOfWord, framesOf}
 use Rattle.text.proofs.FrameWords.{frame-at}
 use Rattle.program.specs.Trees.{Expr, Stmt, frameAt, arguments, expressionAt, rootS, statementOf, statementAt, noFrame}
-use Rattle.program.specs.Nodes.{statementNodeOf, statementNodeIn, statementNode}
+use Rattle.program.specs.inner.Nodes.{statementNodeOf, statementNodeIn, statementNode}
 use Rattle.program.specs.declared.node.StatementNode.{StatementNode}
 use Rattle.program.specs.declared.node.StatementNode.the-variants as Y
 use Rattle.program.proofs.Decoding.{statement-at}
 use Rattle.program.proofs.Roots.{statement-root}
 use Rattle.evaluator.specs.declared.Who.{Who}
 use Rattle.evaluator.specs.declared.Answered.{Answered}
-use Rattle.evaluator.specs.Results.{Result, after}
+use Rattle.evaluator.specs.inner.Results.{Result, after}
 use Rattle.acts.specs.declared.act.Fate.the-variants.{Stays}
 use Rattle.acts.specs.declared.act.Change.the-variants.{Same}
 use Rattle.acts.specs.declared.act.Acted.{Acted}
-use Rattle.acts.specs.Fates.{actedWith}
+use Rattle.acts.specs.inner.Fates.{actedWith}
 use Rattle.turns.specs.declared.view.View.{View}
-use Rattle.turns.specs.Acts.{request, TurnWords}
-use Rattle.turns.specs.Actions.{ActOn, actOn, placeAt, twoMore, doThere, cooperation, afterValue, letAfter, storeAfter, chooseAfter, loopAfter, behind, evaluatedBy, storedBy, startAct, statementAct}
+use Rattle.turns.specs.inner.Acts.{request, TurnWords}
+use Rattle.turns.specs.inner.Actions.{ActOn, actOn, placeAt, twoMore, doThere, cooperation, afterValue, letAfter, storeAfter, chooseAfter, loopAfter, behind, evaluatedBy, storedBy, startAct, statementAct}
 
 -- ---- the act that a node says
 module _ (fw : List ℕ) (who : Who) (v : View) (vs : List ℕ) (n : ℕ) (ws : List ℕ) (i : ℕ) where

@@ -7,8 +7,8 @@ use borrow.Author.Tests.{leb-false, eqb-false}
 use Rattle.basics.proofs.Ifs.{if-all, yes, no}
 use Rattle.acts.specs.declared.act.Acted.{Acted}
 use Rattle.turns.specs.declared.view.View.{View}
-use Rattle.turns.specs.Acts.{oneIn, twoIn, letsIn, dropsIn}
-use Rattle.turns.specs.Actions.{oneMore, twoMore, letMore, dropOne}
+use Rattle.turns.specs.inner.Acts.{oneIn, twoIn, letsIn, dropsIn}
+use Rattle.turns.specs.inner.Actions.{oneMore, twoMore, letMore, dropOne}
 use Rattle.turns.proofs.ViewLaws.{Turns}
 
 module _ (v : View) (n : ℕ) where

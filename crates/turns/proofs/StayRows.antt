@@ -6,9 +6,9 @@ use Rattle.basics.proofs.Ifs.{yes, no}
 use Rattle.acts.specs.declared.act.Fate.the-variants.{Stays}
 use Rattle.acts.specs.declared.act.Change.the-variants.{Item, Items, Let, Drop}
 use Rattle.acts.specs.declared.act.Acted.{Acted}
-use Rattle.acts.specs.Fates.{actedWith, refusedWith}
+use Rattle.acts.specs.inner.Fates.{actedWith, refusedWith}
 use Rattle.turns.specs.declared.view.View.{View}
-use Rattle.turns.specs.Actions.{oneMore, twoMore, letMore, dropOne}
+use Rattle.turns.specs.inner.Actions.{oneMore, twoMore, letMore, dropOne}
 
 module _ (v : View) (n : ℕ) (r : Acted) where
   pub one-full : (a : ℕ) → 25 ≤ v .items → r ≡ refusedWith 20 n → r ≡ oneMore v n a

@@ -11,16 +11,16 @@ use Rattle.program.specs.Trees.{Stmt, nothing, seq, doAt, start, startWait, coo
 use Rattle.machine.specs.Words.{valueWord}
 use Rattle.machine.specs.declared.value.Value.{Value}
 use Rattle.evaluator.specs.declared.Who.{Who}
-use Rattle.evaluator.specs.Results.{Result}
+use Rattle.evaluator.specs.inner.Results.{Result}
 use Rattle.states.specs.declared.thread.ThreadWords.{ThreadWords}
-use Rattle.states.specs.Stacks.{popItem}
+use Rattle.states.specs.inner.Stacks.{popItem}
 use Rattle.acts.specs.declared.act.Fate.the-variants.{Stays, Leaves}
 use Rattle.acts.specs.declared.act.Change.the-variants.{End}
 use Rattle.acts.specs.declared.act.Acted.{Acted}
-use Rattle.acts.specs.Fates.{Turned, actedIn, actedWith, popped, turned}
+use Rattle.acts.specs.inner.Fates.{Turned, actedIn, actedWith, popped, turned}
 use Rattle.turns.specs.declared.view.View.{View}
-use Rattle.turns.specs.Acts.{actedOn, oneIn, twoIn, letsIn, thenActs, byTruthIn, variablesIn, letsOn, storesOn, choosesOn, loopsOn, request, statementIn, itemIn, turnIn, Views, WholeTurn}
-use Rattle.turns.specs.Actions.{ActOn, actOn, placeAt, letAfter, storeAfter, chooseAfter, loopAfter, behind, evaluatedBy, storedBy, statementAct, itemAct, below, turnAct}
+use Rattle.turns.specs.inner.Acts.{actedOn, oneIn, twoIn, letsIn, thenActs, byTruthIn, variablesIn, letsOn, storesOn, choosesOn, loopsOn, request, statementIn, itemIn, turnIn, Views, WholeTurn}
+use Rattle.turns.specs.inner.Actions.{ActOn, actOn, placeAt, letAfter, storeAfter, chooseAfter, loopAfter, behind, evaluatedBy, storedBy, statementAct, itemAct, below, turnAct}
 use Rattle.turns.proofs.ViewLaws.{Turns, Turning, stays-so, act-on, act-on-as, in-thread, stored-in}
 use Rattle.turns.proofs.StayLaws.{one-turns, two-turns, lets-turns, drops-turns}
 use Rattle.turns.proofs.MoveLaws.{back-turns, does-turns, cooperates-turns}

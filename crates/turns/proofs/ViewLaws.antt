@@ -6,15 +6,15 @@ use Prim.Native.Nat.{ℕ}
 use Rattle.program.specs.Trees.{Expr}
 use Rattle.machine.specs.Evaluation.{eval, storing}
 use Rattle.evaluator.specs.declared.Who.{Who}
-use Rattle.evaluator.specs.Results.{hereOf, onWords}
+use Rattle.evaluator.specs.inner.Results.{hereOf, onWords}
 use Rattle.states.specs.declared.thread.ThreadWords.{ThreadWords}
 use Rattle.acts.specs.declared.act.Fate.the-variants.{Stays}
 use Rattle.acts.specs.declared.act.Change.the-variants.{Same}
 use Rattle.acts.specs.declared.act.Acted.{Acted}
-use Rattle.acts.specs.Fates.{Turned, actedIn, actedWith, refusedIn, refusedWith, turned, Room}
+use Rattle.acts.specs.inner.Fates.{Turned, actedIn, actedWith, refusedIn, refusedWith, turned, Room}
 use Rattle.turns.specs.declared.view.View.{View}
-use Rattle.turns.specs.Acts.{ActedOn, actedOn, variablesIn, evaluatedIn, storedIn, Views}
-use Rattle.turns.specs.Actions.{ActOn, evaluatedBy, storedBy}
+use Rattle.turns.specs.inner.Acts.{ActedOn, actedOn, variablesIn, evaluatedIn, storedIn, Views}
+use Rattle.turns.specs.inner.Actions.{ActOn, evaluatedBy, storedBy}
 
 -- the act, its change made in such a thread without its top item, is that turn; and there is room
 -- for the change

@@ -14,8 +14,8 @@ use machine::value::Outcome;
 use machine::value::Value;
 ghost use mathlib.Core.Path.{_≡_};
 ghost use Rattle.machine.specs.Values.{answerOf};
-ghost use Rattle.acts.specs.Fates.{refusedWith};
-ghost use Rattle.turns.specs.Actions.{afterValue, letAfter, storeAfter, chooseAfter, loopAfter};
+ghost use Rattle.acts.specs.inner.Fates.{refusedWith};
+ghost use Rattle.turns.specs.inner.Actions.{afterValue, letAfter, storeAfter, chooseAfter, loopAfter};
 
 // The number of a refusal.
 fn answer_of(o: Outcome) -> u8

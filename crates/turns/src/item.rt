@@ -15,8 +15,8 @@ ghost use Prim.Native.Nat.{_-_, _<_, _≤_};
 ghost use lib.ListN.{length};
 ghost use Rattle.language.specs.Places.{isPlace};
 ghost use Rattle.text.specs.Frames.{framesOf};
-ghost use Rattle.turns.specs.Acts.{TurnWords};
-ghost use Rattle.turns.specs.Actions.{itemAct, turnAct, actOn};
+ghost use Rattle.turns.specs.inner.Acts.{TurnWords};
+ghost use Rattle.turns.specs.inner.Actions.{itemAct, turnAct, actOn};
 
 // The item that is off its continuation: v sees those below it.
 fn act_item(

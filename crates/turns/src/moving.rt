@@ -8,7 +8,7 @@ use acts::act::refused;
 use language::Place;
 ghost use mathlib.Core.Path.{_≡_};
 ghost use Prim.Native.Nat.{_≤_};
-ghost use Rattle.turns.specs.Actions.{goTo, goBack, unlinkedAgain, doThere, cooperation};
+ghost use Rattle.turns.specs.inner.Actions.{goTo, goBack, unlinkedAgain, doThere, cooperation};
 
 // To place q, from that place: a move to one's own place is none. The change is the one or the other.
 fn goes(from: Place, used: usize, q: Place, same: Change, moved: Change) -> Acted

@@ -11,8 +11,8 @@ use machine::value::Outcome;
 ghost use mathlib.Core.Path.{_≡_};
 ghost use Rattle.text.specs.Frames.{framesOf};
 ghost use Rattle.program.specs.Trees.{arguments, expressionAt};
-ghost use Rattle.evaluator.specs.Results.{CellWords, ValueWords, FrameWords};
-ghost use Rattle.turns.specs.Actions.{startWith, startOne, startTwo, afterValue, startAct, actOn};
+ghost use Rattle.evaluator.specs.inner.Results.{CellWords, ValueWords, FrameWords};
+ghost use Rattle.turns.specs.inner.Actions.{startWith, startOne, startTwo, afterValue, startAct, actOn};
 
 // Which module is started, and whether the starter waits.
 pub(crate) struct Request {

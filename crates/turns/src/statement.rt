@@ -24,8 +24,8 @@ ghost use Prim.Native.Nat.{_<_};
 ghost use lib.ListN.{length};
 ghost use Rattle.text.specs.Frames.{framesOf};
 ghost use Rattle.program.specs.Trees.{statementAt};
-ghost use Rattle.turns.specs.Acts.{TurnWords};
-ghost use Rattle.turns.specs.Actions.{statementAct, actOn};
+ghost use Rattle.turns.specs.inner.Acts.{TurnWords};
+ghost use Rattle.turns.specs.inner.Actions.{statementAct, actOn};
 
 // Statement i, on top of a continuation that no longer has it.
 pub(crate) fn act_statement(

@@ -6,7 +6,7 @@ use acts::act::Fate;
 use acts::act::comes_to;
 use acts::act::refused;
 ghost use mathlib.Core.Path.{_≡_};
-ghost use Rattle.turns.specs.Actions.{oneMore, twoMore, letMore, dropOne};
+ghost use Rattle.turns.specs.inner.Actions.{oneMore, twoMore, letMore, dropOne};
 
 pub(crate) fn stays_with(v: View, used: usize, item: u64) -> Acted
     ensures { λ r. ⌜ r ≡ oneMore v used item ⌝ }

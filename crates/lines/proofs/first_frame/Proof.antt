@@ -44,7 +44,7 @@ use denote.Triple.Table.{entered, cited}
 use denote.Triple.Walked.{says, Stays, stay-none-slice, walkOf, goes-none-slice, Walks, ends-at, walked, walk-meets}
 use denote.Exit.{yes}
 use denote.Triple.Clauses.{ensured, lasts}
-use Rattle.text.specs.Lines.{frameRead}
+use Rattle.text.specs.inner.Lines.{frameRead}
 use Rattle.text.specs.declared.line.FrameRead.{FrameRead}
 use Rattle.text.proofs.line.FrameRead as S
 use Rattle.text.proofs.line.FrameRead.Laws as S′

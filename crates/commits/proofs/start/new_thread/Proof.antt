@@ -2,9 +2,9 @@
 use borrow.Author.Needs.{needs}
 use Prim.Native.Nat.{ℕ}
 use mathlib.Core.Path.{ap}
-use Rattle.machine.specs.Blocks.{padded}
+use Rattle.machine.specs.inner.Blocks.{padded}
 use Rattle.machine.specs.Words.{tabulate}
-use Rattle.commits.specs.Commits.{newThread}
+use Rattle.commits.specs.inner.Commits.{newThread}
 use Rattle.commits.proofs.start.new_thread.Statement.{statement}
 use Rattle.commits.proofs.start.new_thread.Tie as tie
 

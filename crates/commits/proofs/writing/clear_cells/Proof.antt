@@ -1,5 +1,5 @@
 -- `clear_cells` meets its contract. Assumes nothing.
-use Rattle.machine.specs.Blocks.{pasted}
+use Rattle.machine.specs.inner.Blocks.{pasted}
 use mathlib.Core.Path.{_≡_}
 use Prim.Native.Nat.{_≤_, _+_, _-_}
 use lib.ListN.{length, replicate, length-set}

@@ -4,7 +4,7 @@ use mathlib.Core.Path.{_≡_, refl}
 use lib.ListN.{length, take}
 use borrow.Author.Needs.{needs}
 use Rattle.text.specs.Frames.{framesOf}
-use Rattle.layout.specs.Passes.{tallyOf}
+use Rattle.layout.specs.inner.Passes.{tallyOf}
 use Rattle.layout.proofs.FramePass.{SeekingField, tally-start, is-fine, fields-here, fields-next, room-next, fields-end}
 use Rattle.layout.proofs.fields.fields.Statement.{statement}
 use Rattle.layout.proofs.fields.fields.Tie as tie

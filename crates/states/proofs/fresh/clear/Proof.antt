@@ -6,7 +6,7 @@ use lib.ListN.{length, replicate, length-set}
 use native.Mathlib.Omega.{arith}
 use Rattle.states.proofs.FreshLaws.{clear-more, clear-end}
 use Rattle.machine.proofs.WordLaws.{pasted-zero}
-use Rattle.machine.specs.Blocks.{pasted}
+use Rattle.machine.specs.inner.Blocks.{pasted}
 use Rattle.states.proofs.fresh.clear.Statement.{statement}
 use Rattle.states.proofs.fresh.clear.Tie as tie
 

@@ -3,7 +3,7 @@ use borrow.Author.Needs.{needs}
 use Prim.Native.Nat.{ℕ}
 use mathlib.Core.Path.{ap}
 use mathlib.Core.List.{[], _∷_}
-use Rattle.machine.specs.Blocks.{padded}
+use Rattle.machine.specs.inner.Blocks.{padded}
 use Rattle.machine.specs.Words.{tabulate}
 use Rattle.states.specs.declared.thread.ThreadWords.{ThreadWords}
 use Rattle.states.proofs.fresh.main_thread.Statement.{statement}

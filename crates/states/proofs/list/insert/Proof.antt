@@ -6,7 +6,7 @@ use mathlib.Core.List.{_∷_}
 use lib.ListN.{length, getD, length-set}
 use native.Mathlib.Omega.{arith}
 use Rattle.machine.proofs.WordLaws.{pasted-zero}
-use Rattle.machine.specs.Blocks.{part, pasted}
+use Rattle.machine.specs.inner.Blocks.{part, pasted}
 use Rattle.states.proofs.ListLaws.{insert-more, insert-next, insert-last, inserted}
 use Rattle.states.proofs.list.insert.Statement.{statement}
 use Rattle.states.proofs.list.insert.Tie as tie

@@ -6,8 +6,8 @@ use lib.ListN.{length, length-set}
 use native.Mathlib.Omega.{arith}
 use Rattle.states.proofs.ListLaws.{shift-more, shift-end}
 use Rattle.machine.proofs.WordLaws.{pasted-zero}
-use Rattle.machine.specs.Blocks.{part, pasted}
-use Rattle.states.specs.Lists.{shifted}
+use Rattle.machine.specs.inner.Blocks.{part, pasted}
+use Rattle.states.specs.inner.Lists.{shifted}
 use Rattle.states.proofs.list.shift.Statement.{statement}
 use Rattle.states.proofs.list.shift.Tie as tie
 

@@ -6,7 +6,7 @@ use lib.ListN.{length, getD, length-set}
 use native.Mathlib.Omega.{arith}
 use Rattle.states.proofs.SortLaws.{Sorting, sorting-start, sort-laws}
 use Rattle.machine.specs.Words.{tabulate}
-use Rattle.machine.specs.Blocks.{padded}
+use Rattle.machine.specs.inner.Blocks.{padded}
 use Rattle.states.proofs.list.sort_entries.Statement.{statement}
 use Rattle.states.proofs.list.sort_entries.Tie as tie
 

@@ -5,7 +5,7 @@ use mathlib.Core.Path.{_≡_, refl}
 use lib.ListN.{length, length-set}
 use native.Mathlib.Omega.{arith}
 use Rattle.machine.proofs.WordLaws.{pasted-zero, pasted-more}
-use Rattle.machine.specs.Blocks.{pasted}
+use Rattle.machine.specs.inner.Blocks.{pasted}
 use Rattle.states.proofs.PastedLaws.{pasted-end}
 use Rattle.states.proofs.list.store_members.Statement.{statement}
 use Rattle.states.proofs.list.store_members.Tie as tie

@@ -5,8 +5,8 @@ use mathlib.Core.Path.{_≡_}
 use mathlib.Core.Bool.{true}
 use Rattle.states.proofs.AllBelow.{all-none, all-end}
 use Rattle.states.proofs.RangeLaws.{member-wrong, member-more}
-use Rattle.states.specs.Passes.{memberInRange, wordPasses}
-use Rattle.machine.specs.Ranges.{allBelow}
+use Rattle.states.specs.inner.Passes.{memberInRange, wordPasses}
+use Rattle.machine.specs.inner.Ranges.{allBelow}
 use Rattle.text.specs.Frames.{framesOf}
 use Rattle.states.proofs.range.members_in_range.Statement.{statement}
 use Rattle.states.proofs.range.members_in_range.Tie as tie

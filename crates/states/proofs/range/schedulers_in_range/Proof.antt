@@ -4,8 +4,8 @@ use Prim.Native.Nat.{_≤_, _-_}
 use mathlib.Core.Path.{_≡_}
 use mathlib.Core.Bool.{true}
 use Rattle.states.proofs.AllBelow.{all-none, all-end, answer-wrong, answer-more}
-use Rattle.states.specs.Passes.{schedulerBlock}
-use Rattle.machine.specs.Ranges.{allBelow}
+use Rattle.states.specs.inner.Passes.{schedulerBlock}
+use Rattle.machine.specs.inner.Ranges.{allBelow}
 use Rattle.states.proofs.range.schedulers_in_range.Statement.{statement}
 use Rattle.states.proofs.range.schedulers_in_range.Tie as tie
 

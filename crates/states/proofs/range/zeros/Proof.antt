@@ -5,8 +5,8 @@ use mathlib.Core.Path.{_≡_}
 use mathlib.Core.Bool.{true}
 use Rattle.states.proofs.AllBelow.{all-none, all-end}
 use Rattle.states.proofs.RangeLaws.{zero-wrong, zero-more}
-use Rattle.states.specs.Passes.{isZero, wordPasses}
-use Rattle.machine.specs.Ranges.{allBelow}
+use Rattle.states.specs.inner.Passes.{isZero, wordPasses}
+use Rattle.machine.specs.inner.Ranges.{allBelow}
 use Rattle.states.proofs.range.zeros.Statement.{statement}
 use Rattle.states.proofs.range.zeros.Tie as tie
 

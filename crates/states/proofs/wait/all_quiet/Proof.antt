@@ -5,8 +5,8 @@ use mathlib.Core.Path.{_≡_, refl}
 use mathlib.Core.Bool.{true}
 use lib.ListN.{getD}
 use Rattle.states.proofs.AllBelow.{all-none, all-end, answer-wrong, answer-more}
-use Rattle.machine.specs.Ranges.{allBelow}
-use Rattle.states.specs.Lists.{isQuiet}
+use Rattle.machine.specs.inner.Ranges.{allBelow}
+use Rattle.states.specs.inner.Lists.{isQuiet}
 use Rattle.states.proofs.wait.all_quiet.Statement.{statement}
 use Rattle.states.proofs.wait.all_quiet.Tie as tie
 

@@ -1,0 +1,62 @@
+-- What a turn comes to, made of its parts, and the thread that it leaves. No reader has to believe it: crate stepper shows that a turn committed is the step of the rules. Assumes nothing: definitions.
+use Prim.Native.Nat.{ℕ, _+_, _<_}
+use lib.Dec.{eqb}
+use Rattle.basics.specs.If.{if_then_else_}
+use Rattle.states.specs.declared.thread.ThreadWords.{ThreadWords}
+use Rattle.states.specs.inner.Stacks.{pushItem, popItem, pushValue, popValue, moveTo, ended}
+use Rattle.acts.specs.declared.act.Fate.{Fate}
+use Rattle.acts.specs.declared.act.Fate.the-variants.{Refused}
+use Rattle.acts.specs.declared.act.Change.{Change}
+use Rattle.acts.specs.declared.act.Change.the-variants.{Same, Item, Items, Let, Drop, Move, Enter, End}
+use Rattle.acts.specs.declared.act.Acted.{Acted}
+
+abbrev pub actedWith : Fate → Change → ℕ → Acted
+actedWith f c n = record { fate = f; change = c; used = n; given = 0; first = 0; second = 0 }
+
+abbrev pub refusedWith : ℕ → ℕ → Acted
+refusedWith answer n = actedWith (Refused answer) Same n
+
+-- ---- the same with the thread behind the turn in place of the change
+
+pub record Turned : Type 0 where
+  pub fate : Fate
+  pub thread : ThreadWords
+  pub used : ℕ
+  pub given : ℕ
+  pub first : ℕ
+  pub second : ℕ
+
+abbrev pub actedIn : Fate → ThreadWords → ℕ → Turned
+actedIn f th n = record { fate = f; thread = th; used = n; given = 0; first = 0; second = 0 }
+
+abbrev pub refusedIn : ℕ → ThreadWords → ℕ → Turned
+refusedIn answer th n = actedIn (Refused answer) th n
+
+-- a thread without its top item; one without any stays
+unfoldable pub popped : ThreadWords → ThreadWords
+popped th = if eqb (th .items) 0 then th else popItem th
+
+-- the change made in such a thread
+abbrev pub changed : Change → ThreadWords → ThreadWords
+changed Same th = th
+changed (Item a) th = pushItem a th
+changed (Items top below) th = pushItem top (pushItem below th)
+changed (Let value body) th = pushItem body (pushItem 2048 (pushValue value th))
+changed Drop th = popValue th
+changed (Move q) th = moveTo (q .number) th
+changed (Enter q body) th = moveTo (q .number) (pushItem body (pushItem (1024 + th .place) th))
+changed End th = ended th
+
+abbrev pub turned : Acted → ThreadWords → Turned
+turned a th = record { fate = a .fate; thread = changed (a .change) th; used = a .used; given = a .given; first = a .first; second = a .second }
+
+-- so many items and variables leave room for the change, or there is a variable to drop
+abbrev pub Room : Change → ℕ → ℕ → Type 0
+Room Same items values = Unit {0}
+Room (Item a) items values = items < 25
+Room (Items top below) items values = items < 24
+Room (Let value body) items values = (items < 24) × (values < 25)
+Room Drop items values = 0 < values
+Room (Move q) items values = Unit {0}
+Room (Enter q body) items values = items < 24
+Room End items values = Unit {0}

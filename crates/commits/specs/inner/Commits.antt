@@ -1,0 +1,156 @@
+-- A turn committed, on words. No reader has to believe it: crate stepper shows that it is the step of the rules. Assumes nothing: definitions.
+use mathlib.Core.Path.{_≡_}
+use mathlib.Core.List.{List, [], _∷_}
+use mathlib.Core.Bool.{Bool, true, _&&_, not}
+use Prim.Native.Nat.{ℕ, _+_, _-_, _*_, _<_, _≤_}
+use lib.Dec.{leb, eqb}
+use lib.ListN.{length, getD, set, replicate}
+use Rattle.basics.specs.If.{if_then_else_}
+use Rattle.language.specs.Places.{private, home, isPlace, isScheduler}
+use Rattle.language.specs.declared.Place.{Place}
+use Rattle.program.specs.Programs.{Program}
+use Rattle.machine.specs.inner.Blocks.{pasted, padded}
+use Rattle.machine.specs.Calls.{Called}
+use Rattle.states.specs.declared.thread.ThreadWords.{ThreadWords}
+use Rattle.states.specs.inner.Threads.{threadIn, putThread, withOneMore}
+use Rattle.states.specs.inner.Lists.{withoutFirst, withLast}
+use Rattle.acts.specs.declared.act.Fate.{Fate}
+use Rattle.acts.specs.declared.act.Fate.the-variants.{Refused, Stays, Leaves, Joins, Starts}
+use Rattle.acts.specs.declared.act.Change.{Change}
+use Rattle.acts.specs.declared.act.Change.the-variants.{Same, Item, Items, Let, Drop, Move, Enter, End}
+use Rattle.acts.specs.declared.act.Acted.{Acted}
+use Rattle.acts.specs.inner.Fates.{Turned, popped, turned, Room}
+use Rattle.program.specs.declared.module.ModuleFound.{ModuleFound}
+use Rattle.program.specs.inner.Modules.{foundIn}
+
+abbrev pub called : ℕ → ℕ → List ℕ → Called
+called n t w = record { answer = n; thread = t; words = w }
+
+-- ---- the single changes
+
+-- the cells from that one to below that other are 0
+unfoldable pub clearedIn : List ℕ → ℕ → ℕ → List ℕ
+clearedIn w from upto = pasted w (4562 + from) (replicate (upto - from) 0) (upto - from)
+
+unfoldable pub settledIn : List ℕ → ℕ → ThreadWords → ℕ → List ℕ
+settledIn w k th n = putThread (set w 1 n) k th
+
+unfoldable pub leftIn : List ℕ → ℕ → List ℕ
+leftIn w c = if isScheduler c then withoutFirst w (c - home) else w
+
+unfoldable pub roomIn : List ℕ → ℕ → ℕ → Bool
+roomIn w q more = isScheduler q && leb (getD w (67 + 130 * (q - home)) 0 + more) 64
+
+unfoldable pub joinedIn : List ℕ → ℕ → ℕ → List ℕ
+joinedIn w q e = if isScheduler q then withLast w (q - home) e else w
+
+-- ---- each fate, of thread t at choice c, where `before` cells were in use
+
+abbrev pub refusesIn : List ℕ → ℕ → ℕ → Turned → ℕ → Called
+refusesIn w before t a n = called n t (clearedIn w before (a .used))
+
+abbrev pub staysIn : List ℕ → ℕ → Turned → List ℕ
+staysIn w t a = settledIn w (t - 1) (a .thread) (a .used)
+
+abbrev pub leavesIn : List ℕ → ℕ → ℕ → Turned → List ℕ
+leavesIn w c t a = leftIn (staysIn w t a) c
+
+unfoldable pub joinsIn : List ℕ → ℕ → ℕ → ℕ → Turned → ℕ → Called
+joinsIn w before c t a q = if roomIn w q 1 then called 0 t (joinedIn (leavesIn w c t a) q t) else refusesIn w before t a 20
+
+-- the new thread, at that place, with so many arguments
+abbrev pub newThread : ℕ → ℕ → ℕ → ℕ → ℕ → ℕ → ThreadWords
+newThread place given first second t body =
+    record {
+      place = place;
+      starter = t;
+      alive = 1;
+      items = 1;
+      continuation = padded 25 (body ∷ []);
+      values = given;
+      variables = padded 25 (first ∷ second ∷ []);
+    }
+
+abbrev pub newIn : Turned → ℕ → ℕ → ThreadWords
+newIn a t body = newThread (a .thread .place) (a .given) (a .first) (a .second) t body
+
+-- a start that does not fit is 20, a 65th thread 18; 0 is neither
+unfoldable pub misfitIn : List ℕ → ModuleFound → ℕ → ℕ → ℕ
+misfitIn w found place given =
+    if eqb place private then 20 else
+    if not (found .there) then 20 else
+    if not (eqb (found .parameters) given) then 20 else
+    if not (roomIn w place 1) then 20 else
+    0
+
+unfoldable pub spentIn : List ℕ → ℕ
+spentIn w = if leb 64 (getD w 0 0) then 18 else 0
+
+unfoldable pub firstAnswer : ℕ → ℕ → ℕ
+firstAnswer a b = if eqb a 0 then b else a
+
+unfoldable pub obstacleIn : List ℕ → ModuleFound → ℕ → ℕ → ℕ
+obstacleIn w found place given =
+    if eqb place private then 20 else
+    if not (found .there) then 20 else
+    if not (eqb (found .parameters) given) then 20 else
+    if not (roomIn w place 1) then 20 else
+    if leb 64 (getD w 0 0) then 18 else
+    0
+
+abbrev pub startedIn : List ℕ → ℕ → Turned → ℕ → List ℕ
+startedIn w t a body = joinedIn (withOneMore (staysIn w t a) (newIn a t body)) (a .thread .place) (getD w 0 0 + 1)
+
+abbrev pub waitingIn : List ℕ → ℕ → ℕ → Turned → ℕ → List ℕ
+waitingIn w c t a body =
+    joinedIn (joinedIn (withOneMore (leavesIn w c t a) (newIn a t body)) (a .thread .place) (getD w 0 0 + 1)) (a .thread .place) (128 * (getD w 0 0 + 1) + t)
+
+unfoldable pub startsIn : Program → List ℕ → ℕ → ℕ → ℕ → Turned → Bool → ℕ → Called
+startsIn p w before c t a waits m =
+    let found = foundIn p m in
+    let no = obstacleIn w found (a .thread .place) (a .given) in
+    if not (eqb no 0) then refusesIn w before t a no else
+    if not waits then called 0 t (startedIn w t a (found .body)) else
+    if not (roomIn w (a .thread .place) 2) then refusesIn w before t a 20 else
+    called 0 t (waitingIn w c t a (found .body))
+
+abbrev pub committedIn : Program → List ℕ → ℕ → ℕ → ℕ → Turned → Fate → Called
+committedIn p w before c t a (Refused n) = refusesIn w before t a n
+committedIn p w before c t a Stays = called 0 t (staysIn w t a)
+committedIn p w before c t a Leaves = called 0 t (leavesIn w c t a)
+committedIn p w before c t a (Joins q) = joinsIn w before c t a (q .number)
+committedIn p w before c t a (Starts waits m) = startsIn p w before c t a waits m
+
+-- ---- the act as it is committed
+
+-- where a thread that stands at p stands behind the change
+abbrev pub placeAfter : Change → Place → Place
+placeAfter Same p = p
+placeAfter (Item a) p = p
+placeAfter (Items top below) p = p
+placeAfter (Let value body) p = p
+placeAfter Drop p = p
+placeAfter (Move q) p = q
+placeAfter (Enter q body) p = q
+placeAfter End p = p
+
+-- what thread t's act comes to on those words
+abbrev pub after : List ℕ → ℕ → Acted → Turned
+after w t a = turned a (popped (threadIn w (t - 1)))
+
+-- ---- what a caller has to show
+
+-- thread k is within its space, and behind its top item there is room for the change
+pub record SettleWords (w : List ℕ) (k : ℕ) (c : Change) : Type 0 where
+  pub all : length w ≡ 4818
+  pub thread : k < 64
+  pub place : isPlace (threadIn w k .place) ≡ true
+  pub items : threadIn w k .items ≤ 25
+  pub values : threadIn w k .values ≤ 25
+  pub room : Room c (threadIn w k .items - 1) (threadIn w k .values)
+
+pub record CommitWords (w : List ℕ) (t : ℕ) (a : Acted) : Type 0 where
+  pub first : 1 ≤ t
+  pub last : t ≤ 64
+  pub cells : a .used ≤ 256
+  pub settle : SettleWords w (t - 1) (a .change)

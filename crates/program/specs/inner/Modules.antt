@@ -1,0 +1,16 @@
+-- A module as the code finds it. No reader has to believe it: crate stepper shows that a turn committed is the step of the rules. Assumes nothing: definitions.
+use Prim.Native.Nat.{ℕ}
+use lib.Dec.{ltb}
+use lib.ListN.{length}
+use Rattle.basics.specs.If.{if_then_else_}
+use Rattle.program.specs.Trees.{rootS}
+use Rattle.program.specs.Programs.{Program, moduleAt}
+use Rattle.program.specs.declared.module.ModuleFound.{ModuleFound}
+
+-- the first s of two types
+unfoldable pub parametersIn : ℕ → ℕ
+parametersIn s = if ltb 2 s then 2 else s
+
+-- where there is none, `moduleAt` has no parameter, and frame 0 for a body
+unfoldable pub foundIn : Program → ℕ → ModuleFound
+foundIn p m = record { there = ltb m (length (p .modules)); parameters = length (moduleAt p m .types); body = rootS (moduleAt p m .body) }

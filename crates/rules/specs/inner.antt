@@ -1,0 +1,6 @@
+-- What ties the code to the definitions: no reader has to believe it.
+pub mod Checking
+pub mod Standings
+pub mod Signatures
+pub mod Frames
+pub mod Modules

@@ -1,0 +1,35 @@
+-- The parts of a listing, as the inner functions give them. Assumes nothing: definitions.
+use mathlib.Core.List.{List, []}
+use Prim.Native.Nat.{ℕ, _+_}
+use lib.Dec.{eqb}
+use lib.ListN.{length}
+use Rattle.basics.specs.If.{if_then_else_}
+use Rattle.program.specs.Programs.{Program}
+use Rattle.machine.specs.Runs.{steps}
+use Rattle.stepper.specs.declared.answer.Answer.the-variants as A
+use Rattle.listing.specs.Listing.{refusalLine, Choices, choices, malformed, choicesFrom, choiceLines}
+use Rattle.runs.specs.Runs.{Behind}
+use Rattle.runs.specs.Printed.{unstepped, ListedOn, listedAs, written, listedFrom, unlisted}
+
+-- the choices that bytes are; none where they are malformed
+abbrev pub listOf : Choices → List ℕ
+listOf (choices cs) = cs
+listOf (malformed k) = []
+
+unfoldable pub choicesOf : List ℕ → List ℕ
+choicesOf bytes = listOf (choicesFrom 0 bytes)
+
+-- the lines of all those choices
+unfoldable pub stepLines : Program → List ℕ → List ℕ
+stepLines p cs = choiceLines cs (steps p cs)
+
+-- behind the check's line, which is 8 bytes
+abbrev pub listedBehind : Behind → List ℕ → List ℕ → ListedOn
+listedBehind b listing out = listedAs (A.Done 0) (8 + length listing) (b .used) (b .words) (written out 8 listing)
+
+-- of a text that refusal n at frame j stops
+unfoldable pub listedRejected : ℕ → ℕ → List ℕ → List ℕ → ListedOn
+listedRejected n j w out =
+    if eqb (length out) 229389
+    then listedFrom (A.Rejected n j) (unstepped w) (refusalLine n j) out
+    else unlisted (A.Rejected n j) w out

@@ -1,0 +1,33 @@
+-- What the code makes the fresh state's words of. No reader has to believe it: together they are `pack` of the fresh state (proofs/FreshWords). Assumes nothing: definitions.
+use mathlib.Core.List.{List, [], _∷_, map}
+use Prim.Native.Nat.{ℕ}
+use lib.Dec.{leb}
+use lib.ListN.{length}
+use Rattle.basics.specs.If.{if_then_else_}
+use Rattle.language.specs.Places.{home}
+use Rattle.program.specs.Programs.{SharedCell}
+use Rattle.machine.specs.Fresh.{firstCell}
+use Rattle.machine.specs.inner.Blocks.{pasted, padded, cellWords}
+use Rattle.machine.specs.Calls.{Called}
+use Rattle.states.specs.declared.thread.ThreadWords.{ThreadWords}
+
+-- the words with the first contents of those cells, at most 256
+unfoldable pub withShared : List ℕ → List SharedCell → List ℕ
+withShared w cs = pasted w 4562 (cellWords (map firstCell cs)) (if leb (length cs) 256 then length cs else 256)
+
+-- main's thread, with that body, in the code's form
+abbrev pub mainWords : ℕ → ThreadWords
+mainWords body =
+    record {
+      place = home;
+      starter = 0;
+      alive = 1;
+      items = 1;
+      continuation = padded 25 (body ∷ []);
+      values = 0;
+      variables = padded 25 [];
+    }
+
+-- the answer, the acting thread and the words of a call
+abbrev pub called : ℕ → ℕ → List ℕ → Called
+called answer thread words = record { answer = answer; thread = thread; words = words }

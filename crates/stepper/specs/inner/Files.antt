@@ -1,0 +1,66 @@
+-- What the inner functions of the stepper ask of a file and a state, and give. Whoever reads the promises can skip this. Assumes nothing: definitions.
+use mathlib.Core.Path.{_≡_}
+use mathlib.Core.List.{List}
+use mathlib.Core.Bool.{true}
+use Prim.Native.Nat.{ℕ, _-_, _≤_}
+use lib.ListN.{length}
+use Rattle.language.specs.Places.{isScheduler}
+use Rattle.text.specs.Frames.{framesOf}
+use Rattle.program.specs.Programs.{Program, programOf}
+use Rattle.layout.specs.Faults.{NoFault}
+use Rattle.machine.specs.State.{State, threadAt, usedCells}
+use Rattle.machine.specs.Turns.{isSchedulerOf}
+use Rattle.machine.specs.Words.{unpack}
+use Rattle.machine.specs.inner.Ranges.{inRange}
+use Rattle.machine.specs.inner.Blocks.{pasted, cellWords}
+use Rattle.machine.specs.Calls.{Called}
+use Rattle.evaluator.specs.declared.Who.{Who}
+use Rattle.states.specs.inner.Threads.{wordsOf}
+use Rattle.acts.specs.declared.act.Acted.{Acted}
+use Rattle.acts.specs.inner.Fates.{popped, turned, Room}
+use Rattle.turns.specs.inner.Acts.{ActedOn, turnIn}
+use Rattle.commits.specs.inner.Commits.{called}
+use Rattle.stepper.specs.declared.file.File.{File}
+use Rattle.stepper.specs.declared.party.Stepped.{Stepped}
+
+abbrev pub fileOf : Program → File
+fileOf p = record { schedulers = p .schedulers; shared = length (p .shared); allowance = p .allowance }
+
+abbrev pub steppedOn : Stepped → List ℕ → Called
+steppedOn r w = called (r .answer) (r .thread) w
+
+-- the frames of a file that passes refusals 1 to 7
+pub record FileWords (frames : List ℕ) : Type 0 where
+  pub laid-out : NoFault (framesOf frames)
+  pub few : length frames ≤ 1024
+
+-- the state that words in range are
+abbrev pub stateIn : List ℕ → List ℕ → State
+stateIn frames w = unpack (framesOf frames) (programOf (framesOf frames) .schedulers) w
+
+-- such a file, its count of shared cells, and words that are not refused with 14
+pub record StepWords (frames : List ℕ) (shared : ℕ) (w : List ℕ) : Type 0 where
+  pub file : FileWords frames
+  pub count : shared ≡ length (programOf (framesOf frames) .shared)
+  pub range : inRange (framesOf frames) (programOf (framesOf frames) .schedulers) w ≡ true
+
+-- the choice of a turn: a scheduler of the file, or none at all
+abbrev pub TurnChoice : List ℕ → ℕ → Type 0
+TurnChoice frames c = isSchedulerOf (programOf (framesOf frames)) c ≡ isScheduler c
+
+-- who acts in the turn of thread t
+abbrev pub whoIn : List ℕ → ℕ → List ℕ → ℕ → Who
+whoIn frames shared w t = record { thread = t; place = record { number = threadAt (stateIn frames w) t .place }; shared = shared }
+
+-- the turn of thread t, on the words of its state
+abbrev pub turnOf : List ℕ → ℕ → List ℕ → ℕ → ActedOn
+turnOf frames shared w t =
+    let s = stateIn frames w in
+    turnIn (framesOf frames) (whoIn frames shared w t) (wordsOf (threadAt s t)) (usedCells (s .cells)) (cellWords (s .cells))
+
+-- what the turn comes to, the words with its cells, and that the thread's space has room for the change
+pub record turnOn (a : Acted) (v : List ℕ) (frames : List ℕ) (shared : ℕ) (w : List ℕ) (t : ℕ) : Type 0 where
+  pub acted : turned a (popped (wordsOf (threadAt (stateIn frames w) t))) ≡ turnOf frames shared w t .acted
+  pub words : v ≡ pasted w 4562 (turnOf frames shared w t .cells) 256
+  pub whole : length (turnOf frames shared w t .cells) ≡ 256
+  pub room : Room (a .change) (wordsOf (threadAt (stateIn frames w) t) .items - 1) (wordsOf (threadAt (stateIn frames w) t) .values)
