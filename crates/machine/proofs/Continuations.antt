@@ -11,7 +11,7 @@ use borrow.Author.Tests.{le-leb}
 use Rattle.program.specs.Trees.{Expr, Stmt, nothing, seq, doAt, start, startWait, cooperate, letIn, store, ifElse, while}
 use Rattle.machine.proofs.Tests.{and-both}
 use Rattle.machine.specs.State.{Item, run, back, drop}
-use Rattle.machine.specs.Turns.{Spaces, stateSpaces, fits}
+use Rattle.machine.specs.Turns.{holds, Spaces, stateSpaces, fits}
 use Rattle.machine.specs.declared.value.Value.{Value}
 
 -- ---- the room that a statement takes
@@ -70,7 +70,11 @@ roomy-fits (drop-item h g r) = (omega arith, omega arith)
 
 pub fits-true : (z : Spaces) → z ≡ stateSpaces → (l : List Item) (vs : List Value) → Roomy (length vs) l → fits z l vs ≡ true
 unfolding fits
-fits-true z e l vs r = let g = roomy-fits r in ap (λ (y : Spaces). fits y l vs) e ∙ and-both (leb (length l) 25) _ (le-leb (length l) 25 (g .0)) (le-leb (length vs) 25 (g .1))
+fits-true z e l vs r =
+    let (a, b) = roomy-fits r in
+    ap (λ (y : Spaces). fits y l vs) e
+    ∙ and-both (holds (stateSpaces .items) (length l)) (holds (stateSpaces .values) (length vs))
+    (le-leb (length l) _ (omega arith)) (le-leb (length vs) _ (omega arith))
 
 -- ---- it stays so when a statement is taken apart
 

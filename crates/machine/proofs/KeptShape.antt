@@ -192,7 +192,10 @@ module _ (fs : List Frame) (P : Program) (n : ℕ) (F : FileFits fs P n) where
 
   pub has-room : (u : Turn) (m q : ℕ) → u .spaces ≡ stateSpaces → room u m q ≡ true → length (schedulerAt (u .state) q .next) + m ≤ 64
   unfolding room
-  has-room u m q s e = let l = length (schedulerAt (u .state) q .next) + m in leb-true l 64 (sym (ap (λ (z : Spaces). holds (z .entries) l) s) ∙ e)
+  has-room u m q s e =
+      let l = length (schedulerAt (u .state) q .next) + m in
+      let g = leb-true l _ (sym (ap (λ (z : Spaces). holds (z .entries) l) s) ∙ e) in
+      omega arith
 
   -- ---- where a thread goes
 
@@ -200,8 +203,12 @@ module _ (fs : List Frame) (P : Program) (n : ℕ) (F : FileFits fs P n) where
       → ThreadFits fs n (selfAt u q items vars)
   unfolding fits
   self-fits u q items vars k p i v e =
-      let l = and-true (leb (length items) 25) (leb (length vars) 25) (sym (ap (λ (z : Spaces). fits z items vars) (k .spaces)) ∙ e) in
-      record { place = p; starter = k .self .starter; items-room = leb-true (length items) 25 (l .0); variables-room = leb-true (length vars) 25 (l .1); items = i; values = v }
+      let l =
+      and-true (holds (stateSpaces .items) (length items)) (holds (stateSpaces .values) (length vars))
+      (sym (ap (λ (z : Spaces). fits z items vars) (k .spaces)) ∙ e) in
+      let a = leb-true (length items) _ (l .0) in
+      let b = leb-true (length vars) _ (l .1) in
+      record { place = p; starter = k .self .starter; items-room = omega arith; variables-room = omega arith; items = i; values = v }
 
   keeps-stay : (u : Turn) (items : List Item) (vars : List Value) → TurnFits u → All (ItemFits fs n) items → All ValueFits vars → Keeps (stay u items vars)
   unfolding stay

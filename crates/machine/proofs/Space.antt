@@ -155,17 +155,17 @@ next-room u a q =
     (λ h. let g = next-le (u .state .schedulers) (q - 2) in let k = nth-pos (u .state .threads) (u .thread) (h .1) in omega arith)
     (a .stands)
 
--- whether n have room in a next list, in the spaces that a state has
-in-entries : (u : Turn) → Acting u → (n : ℕ) → holds (u .spaces .entries) n ≡ leb n 64
-in-entries u a n = ap (λ (z : Spaces). holds (z .entries) n) (a .spaces)
+-- as many as there are threads have room in a next list, in the spaces that a state has
+in-entries : (u : Turn) → Acting u → (n : ℕ) → n ≤ 64 → holds (u .spaces .entries) n ≡ true
+in-entries u a n h = ap (λ (z : Spaces). holds (z .entries) n) (a .spaces) ∙ le-leb n _ (omega arith)
 
 pub room-one : (u : Turn) → Acting u → (q : ℕ) → room u 1 q ≡ true
 unfolding room
-room-one u a q = let g = next-room u a q in let m = a .counted .most in in-entries u a _ ∙ le-leb (length (schedulerAt (u .state) q .next) + 1) 64 (omega arith)
+room-one u a q = let g = next-room u a q in let m = a .counted .most in in-entries u a (length (schedulerAt (u .state) q .next) + 1) (omega arith)
 
 pub room-two : (u : Turn) → Acting u → (q : ℕ) → length (u .state .threads) < 64 → room u 2 q ≡ true
 unfolding room
-room-two u a q l = let g = next-room u a q in in-entries u a _ ∙ le-leb (length (schedulerAt (u .state) q .next) + 2) 64 (omega arith)
+room-two u a q l = let g = next-room u a q in in-entries u a (length (schedulerAt (u .state) q .next) + 2) (omega arith)
 
 -- ---- the changes of the state that a turn makes keep it
 
