@@ -12,7 +12,7 @@ use Rattle.text.specs.Reading.{Reads, frames}
 use Rattle.program.specs.Programs.{programOf}
 use Rattle.layout.specs.Faults.{NoFault}
 use Rattle.layout.proofs.AfterLayout.{text-fine}
-use Rattle.rules.specs.Verdict.{HasVerdict}
+use Rattle.checker.specs.Verdict.{HasVerdict}
 use Rattle.machine.specs.Accesses.{Access, Own}
 use Rattle.machine.specs.Turns.{Stepped}
 use Rattle.machine.specs.Runs.{steps, stateAfter, answers}

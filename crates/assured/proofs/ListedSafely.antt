@@ -18,29 +18,29 @@ use Rattle.text.specs.Frames.{textFrames}
 use Rattle.text.specs.Reading.{Reads, frames}
 use Rattle.text.proofs.Readings.{some-frame}
 use Rattle.program.specs.Programs.{Program, programOf}
-use Rattle.layout.specs.LaidOut.{HasLayout, layoutVerdict}
+use Rattle.layout.specs.LaidOut.{HasLayout}
 use Rattle.layout.specs.Faults.{NoFault}
 use Rattle.layout.proofs.Accepted.{layout-only}
 use Rattle.layout.proofs.AfterLayout.{text-fine}
 use Rattle.rules.specs.inner.Checking.{rulesOf}
-use Rattle.rules.specs.Verdict.{HasVerdict, verdict}
-use Rattle.rules.proofs.Whole.{verdict-computes}
+use Rattle.checker.specs.Verdict.{HasVerdict, verdict}
+use Rattle.checker.proofs.Whole.{verdict-computes}
 use Rattle.machine.specs.State.{State}
 use Rattle.machine.specs.Turns.{Stepped}
 use Rattle.machine.specs.Steps.{step}
 use Rattle.machine.specs.Fresh.{fresh}
 use Rattle.machine.specs.Runs.{stepsFrom, steps}
 use Rattle.machine.proofs.Tests.{and-both}
+use Rattle.machine.proofs.Numbers.{all-numbered}
+use Rattle.stepper.specs.declared.answer.Answer.the-variants as A
 use Rattle.safety.proofs.Accepted.{accepted-safe}
 use Rattle.listing.specs.Listing.{digitByte, twoDigits, refusalLine, checkLine, choices, choicesFrom, stops, choiceLine, choiceLines, usedOf, lastLine, runLines, linesOf, choicesListing}
-use Rattle.stepper.specs.declared.answer.Answer.the-variants as A
 use Rattle.runs.specs.Runs.{Behind, stepped}
+use Rattle.runs.specs.Printed.{unstepped, steppedOf, choicesStepped, ListedOn, listedFrom, listedWhole, unlisted, answerFor, buffersFit, listText}
 use Rattle.runs.proofs.Stops.{rules-run}
 use Rattle.runs.proofs.TextListings.{goes-on}
-use Rattle.runs.specs.Printed.{unstepped, steppedOf, choicesStepped, ListedOn, listedFrom, listedWhole, unlisted, answerFor, buffersFit, listText}
 use Rattle.assured.specs.TextCalls.{Plain, wordsLeft}
 use Rattle.assured.specs.SafeListing.{PlainLines, ListingCalls, AcceptedListingSafe}
-use Rattle.machine.proofs.Numbers.{all-numbered}
 use Rattle.assured.proofs.CalledTexts.{plain-steps, left-packed, accepted-texts-safe}
 
 -- ---- the lines

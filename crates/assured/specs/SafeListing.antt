@@ -5,12 +5,14 @@ use Prim.Native.Nat.{ℕ, _≤_}
 use lib.ListN.{length, take}
 use Rattle.language.specs.declared.frame.Frame.{Frame}
 use Rattle.language.specs.declared.verdict.Verdict.the-variants.{Accepted}
+use Rattle.language.specs.Limits.{mostChoiceBytes, mostListingBytes}
 use Rattle.text.specs.Frames.{textFrames}
 use Rattle.program.specs.Programs.{programOf}
-use Rattle.rules.specs.Verdict.{HasVerdict}
+use Rattle.checker.specs.Verdict.{HasVerdict}
+use Rattle.machine.specs.Offsets.{stateLength}
 use Rattle.reach.specs.Reached.{Passes}
-use Rattle.listing.specs.Listing.{checkLine, choices, choicesFrom, choiceLineOf, usedOf, lastLine}
 use Rattle.stepper.specs.declared.answer.Answer.the-variants.{Done}
+use Rattle.listing.specs.Listing.{checkLine, choices, choicesFrom, choiceLineOf, usedOf, lastLine}
 use Rattle.runs.specs.Runs.{stepped}
 use Rattle.runs.specs.Printed.{listedFrom, listText}
 use Rattle.assured.specs.TextCalls.{Plain, wordsLeft, SafeTexts}
@@ -27,8 +29,8 @@ pub data PlainLines : List ℕ → List ℕ → Type 0 where
 abbrev pub ListingCalls : Type 0
 ListingCalls =
     (bs : List ℕ) (fs : List Frame) → Passes bs fs
-    → (bytes cs : List ℕ) → length bytes ≤ 49152 → choicesFrom 0 bytes ≡ choices cs
-    → (w out : List ℕ) → length w ≡ 4818 → length out ≡ 229389
+    → (bytes cs : List ℕ) → length bytes ≤ mostChoiceBytes → choicesFrom 0 bytes ≡ choices cs
+    → (w out : List ℕ) → length w ≡ stateLength → length out ≡ mostListingBytes
     → let used = usedOf (programOf fs) cs in
     (listText bs bytes w out .used ≡ used)
     × (listText bs bytes w out .words ≡ wordsLeft bs w (take used cs))
@@ -50,6 +52,6 @@ pub record SafelyListed (bs bytes cs w out : List ℕ) : Type 0 where
 abbrev pub AcceptedListingSafe : Type 0
 AcceptedListingSafe =
     (bs : List ℕ) → HasVerdict bs Accepted
-    → (bytes cs : List ℕ) → length bytes ≤ 49152 → choicesFrom 0 bytes ≡ choices cs
-    → (w out : List ℕ) → length w ≡ 4818 → length out ≡ 229389
+    → (bytes cs : List ℕ) → length bytes ≤ mostChoiceBytes → choicesFrom 0 bytes ≡ choices cs
+    → (w out : List ℕ) → length w ≡ stateLength → length out ≡ mostListingBytes
     → SafelyListed bs bytes cs w out

@@ -7,24 +7,26 @@ use lib.ListN.{length}
 use Rattle.basics.specs.Members.{All}
 use Rattle.language.specs.declared.frame.Frame.{Frame}
 use Rattle.language.specs.declared.verdict.Verdict.the-variants.{Accepted}
+use Rattle.language.specs.Refusals.{wrongState, noParty, nothingReady, cellsSpent, threadsSpent}
 use Rattle.text.specs.Frames.{textFrames}
-use Rattle.rules.specs.Verdict.{HasVerdict}
+use Rattle.checker.specs.Verdict.{HasVerdict}
+use Rattle.machine.specs.Offsets.{stateLength}
 use Rattle.machine.specs.Accesses.{Access, Own}
 use Rattle.machine.specs.State.{State}
 use Rattle.machine.specs.Words.{pack}
 use Rattle.reach.specs.Reached.{Passes}
-use Rattle.safety.specs.Safety.{NoPrivateInPublic, Apart}
-use Rattle.safety.specs.Accepted.{stateOf, accessesUnder}
 use Rattle.stepper.specs.declared.answer.Answer.the-variants.{Done}
 use Rattle.stepper.specs.Answers.{numberOf, Answered, freshText, stepText}
+use Rattle.safety.specs.Safety.{NoPrivateInPublic, Apart}
+use Rattle.safety.specs.Accepted.{stateOf, accessesUnder}
 
 -- an answer that is neither a refusal of the text (1 to 13), nor 14, nor foreign (19), nor stuck (20)
 pub data Plain : ℕ → Type 0 where
   done : Plain 0
-  no-party : Plain 15
-  nothing : Plain 16
-  cells-spent : Plain 17
-  threads-spent : Plain 18
+  no-party : Plain noParty
+  nothing : Plain nothingReady
+  cells-spent : Plain cellsSpent
+  threads-spent : Plain threadsSpent
 
 -- one call of `step` after the other, each on the words that the one before left
 unfoldable pub textCallsFrom : List ℕ → List ℕ → List ℕ → List Answered
@@ -62,10 +64,10 @@ pub record SafeTexts (bs w cs : List ℕ) : Type 0 where
 
 -- for every text that the check accepts, every lent buffer of the right length, and every list of choices
 abbrev pub AcceptedTextsSafe : Type 0
-AcceptedTextsSafe = (bs : List ℕ) → HasVerdict bs Accepted → (w cs : List ℕ) → length w ≡ 4818 → SafeTexts bs w cs
+AcceptedTextsSafe = (bs : List ℕ) → HasVerdict bs Accepted → (w cs : List ℕ) → length w ≡ stateLength → SafeTexts bs w cs
 
 -- for every text that passes refusals 1 to 7, accepted or not: 'a state reached from a fresh one is never 14', of the very calls
 abbrev pub TextsNever14 : Type 0
 TextsNever14 =
-    (bs : List ℕ) (fs : List Frame) → Passes bs fs → (w cs : List ℕ) → length w ≡ 4818
-    → All (λ (r : Answered). numberOf (r .answer) ≢ 14) (textCallsFrom bs (freshText bs w .words) cs)
+    (bs : List ℕ) (fs : List Frame) → Passes bs fs → (w cs : List ℕ) → length w ≡ stateLength
+    → All (λ (r : Answered). numberOf (r .answer) ≢ wrongState) (textCallsFrom bs (freshText bs w .words) cs)

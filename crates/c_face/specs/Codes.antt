@@ -4,7 +4,7 @@ use mathlib.Core.List.{List}
 use Prim.Native.Nat.{ℕ, _+_, _*_, _^_}
 use Rattle.language.specs.Verdicts.{numberOf, frameOf}
 use Rattle.language.specs.declared.verdict.Verdict.{Verdict}
-use Rattle.rules.specs.Verdict.{Checked}
+use Rattle.checker.specs.Verdict.{Checked}
 use Rattle.stepper.specs.declared.answer.Answer.{Answer}
 use Rattle.stepper.specs.declared.answer.Answer.the-variants.{Rejected, Refused, Done}
 use Rattle.stepper.specs.Answers.{Answered}

@@ -1,13 +1,16 @@
 // The face for C and Rust: functions on numbers and on pointers with lengths. None has a `requires`.
+use checker::check::check;
+use language::limit::MOST_LISTING_BYTES;
 use language::verdict::Verdict;
-use rules::check::check;
 use runs::printing::run_listing;
 use stepper::answer::Answer;
 use stepper::step::fresh;
 use stepper::step::state_length;
 use stepper::step::step;
 ghost use mathlib.Core.Path.{_≡_};
-ghost use Rattle.rules.specs.Verdict.{verdict};
+ghost use Rattle.language.specs.Limits.{mostListingBytes};
+ghost use Rattle.machine.specs.Offsets.{stateLength};
+ghost use Rattle.checker.specs.Verdict.{verdict};
 ghost use Rattle.stepper.specs.Answers.{freshText, stepText};
 ghost use Rattle.runs.specs.Printed.{listText};
 ghost use Rattle.c_face.specs.Codes.{codeOf, CheckedCode, answerCode, coded, codedOf, listedCode, printed, printedOf};
@@ -64,7 +67,7 @@ fn answer_code(a: Answer) -> u32
 // How many words of 64 bits a state is.
 #[no_mangle]
 pub extern "C" fn purkvaldi_state_length() -> usize
-    ensures { λ r. ⌜ r ≡ 4818 ⌝ }
+    ensures { λ r. ⌜ r ≡ stateLength ⌝ }
 {
     state_length()
 }
@@ -89,9 +92,9 @@ pub extern "C" fn purkvaldi_step(text: &[u8], state: &mut [u64], choice: u64) ->
 // How many bytes a listing's buffer has: the longest listing.
 #[no_mangle]
 pub extern "C" fn purkvaldi_listing_length() -> usize
-    ensures { λ r. ⌜ r ≡ 229389 ⌝ }
+    ensures { λ r. ⌜ r ≡ mostListingBytes ⌝ }
 {
-    229389
+    MOST_LISTING_BYTES
 }
 
 // A listing's answer above 32 bits, its length in them.

@@ -19,7 +19,7 @@ fn report(i: usize) {
         return;
     }
     let n = file.count;
-    let line = listing::check_line(rules::check::check(&text[..n]));
+    let line = listing::check_line(checker::check::check(&text[..n]));
     print(&path, 3);
     print(b" ", 1);
     print(&line, 8);

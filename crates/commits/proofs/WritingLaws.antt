@@ -9,16 +9,17 @@ use lib.Seq.{getD-set-other}
 use lib.Dec.{leb}
 use borrow.Author.Tests.{not-true, not-false}
 use Rattle.basics.proofs.Ifs.{yes, no, and-true}
-use Rattle.language.specs.Places.{home, isPlace, isScheduler, placeRead}
+use Rattle.language.specs.Places.{home, isPlace, isScheduler}
+use Rattle.language.specs.inner.Reads.{placeRead}
 use Rattle.language.specs.declared.Place.{Place}
 use Rattle.language.specs.declared.PlaceRead.{PlaceRead}
 use Rattle.language.specs.declared.PlaceRead.the-variants.{At, NoPlace}
 use Rattle.language.proofs.PlaceLaws.{read-at, read-none, test-bounds}
 use Rattle.machine.specs.inner.Blocks.{pasted}
 use Rattle.machine.proofs.WordLaws.{pasted-zero, pasted-more}
+use Rattle.lists.specs.inner.Lists.{withoutFirst, withLast}
 use Rattle.states.specs.declared.thread.ThreadWords.{ThreadWords}
 use Rattle.states.specs.inner.Threads.{threadIn, putThread}
-use Rattle.states.specs.inner.Lists.{withoutFirst, withLast}
 use Rattle.states.proofs.ThreadLaws.{Wide, in-wide, put-read, put-then, put-length}
 use Rattle.acts.specs.declared.act.Change.{Change}
 use Rattle.acts.specs.inner.Fates.{changed, popped, Room}

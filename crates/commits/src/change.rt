@@ -1,6 +1,11 @@
 // The change that a turn names, made where the thread's words lie. Thread k counts from 0.
 use acts::act::Change;
 use language::Place;
+use machine::offset::BACK_FROM;
+use machine::offset::DROP_WORD;
+use machine::offset::ITEMS_FIELD;
+use machine::offset::THREAD_LENGTH;
+use machine::offset::THREADS_AT;
 use states::stack::end_thread;
 use states::stack::move_to;
 use states::stack::pop_item;
@@ -9,9 +14,11 @@ use states::stack::push_item;
 use states::stack::push_value;
 ghost use mathlib.Core.Path.{_≡_};
 ghost use mathlib.Core.Bool.{true};
-ghost use Prim.Native.Nat.{_<_, _≤_};
+ghost use Prim.Native.Nat.{_-_, _<_, _≤_};
 ghost use lib.ListN.{length};
 ghost use Rattle.language.specs.Places.{isPlace};
+ghost use Rattle.language.specs.Limits.{mostVariables, mostThreads, mostItems};
+ghost use Rattle.machine.specs.Offsets.{stateLength};
 ghost use Rattle.states.specs.inner.Threads.{threadIn, putThread};
 ghost use Rattle.states.specs.inner.Stacks.{pushItem};
 ghost use Rattle.acts.specs.declared.act.Change.the-variants.{Let, Enter};
@@ -20,18 +27,22 @@ ghost use Rattle.commits.specs.inner.Commits.{placeAfter};
 
 // The top item off the continuation; where there is none, nothing changes.
 pub(crate) fn take_item(state: &mut [u64], k: usize)
-    requires { ⌜ (length (now state) ≡ 4818) × (k < 64) × (threadIn (now state) k .items ≤ 25) ⌝ }
-    ensures { λ _. ⌜ now (state .exit) ≡ putThread (now (state .entry)) k (popped (threadIn (now (state .entry)) k)) ⌝ }
+    requires { ⌜ (length (now state) ≡ stateLength) × (k < mostThreads)
+        × (threadIn (now state) k .items ≤ mostItems) ⌝ }
+    ensures { λ _. ⌜ now (state .exit)
+        ≡ putThread (now (state .entry)) k (popped (threadIn (now (state .entry)) k)) ⌝ }
 {
-    if state[1042 + 55 * k + 3] == 0 {
+    if state[THREADS_AT + THREAD_LENGTH * k + ITEMS_FIELD] == 0 {
         return;
     }
     pop_item(state, k);
 }
 
 fn push_two(state: &mut [u64], k: usize, top: u64, below: u64)
-    requires { ⌜ (length (now state) ≡ 4818) × (k < 64) × (threadIn (now state) k .items < 24) ⌝ }
-    ensures { λ _. ⌜ now (state .exit) ≡ putThread (now (state .entry)) k (pushItem top (pushItem below (threadIn (now (state .entry)) k))) ⌝ }
+    requires { ⌜ (length (now state) ≡ stateLength) × (k < mostThreads)
+        × (threadIn (now state) k .items < mostItems - 1) ⌝ }
+    ensures { λ _. ⌜ now (state .exit) ≡ putThread (now (state .entry)) k
+        (pushItem top (pushItem below (threadIn (now (state .entry)) k))) ⌝ }
 {
     push_item(state, k, below);
     push_item(state, k, top);
@@ -39,29 +50,36 @@ fn push_two(state: &mut [u64], k: usize, top: u64, below: u64)
 
 // 16: the variable, and its body above a drop of it.
 fn push_let(state: &mut [u64], k: usize, value: u64, body: u64)
-    requires { ⌜ (length (now state) ≡ 4818) × (k < 64) × (threadIn (now state) k .items < 24) × (threadIn (now state) k .values < 25) ⌝ }
-    ensures { λ _. ⌜ now (state .exit) ≡ putThread (now (state .entry)) k (changed (Let value body) (threadIn (now (state .entry)) k)) ⌝ }
+    requires { ⌜ (length (now state) ≡ stateLength) × (k < mostThreads)
+        × (threadIn (now state) k .items < mostItems - 1)
+        × (threadIn (now state) k .values < mostVariables) ⌝ }
+    ensures { λ _. ⌜ now (state .exit) ≡ putThread (now (state .entry)) k
+        (changed (Let value body) (threadIn (now (state .entry)) k)) ⌝ }
 {
     push_value(state, k, value);
-    push_two(state, k, body, 2048);
+    push_two(state, k, body, DROP_WORD);
 }
 
 // 12: to place q, with the body above 'back to here'.
 fn enter(state: &mut [u64], k: usize, q: Place, body: u64)
-    requires { ⌜ (length (now state) ≡ 4818) × (k < 64) × (threadIn (now state) k .items < 24)
+    requires { ⌜ (length (now state) ≡ stateLength) × (k < mostThreads)
+        × (threadIn (now state) k .items < mostItems - 1)
         × (isPlace (threadIn (now state) k .place) ≡ true) ⌝ }
-    ensures { λ _. ⌜ now (state .exit) ≡ putThread (now (state .entry)) k (changed (Enter q body) (threadIn (now (state .entry)) k)) ⌝ }
+    ensures { λ _. ⌜ now (state .exit) ≡ putThread (now (state .entry)) k
+        (changed (Enter q body) (threadIn (now (state .entry)) k)) ⌝ }
 {
-    let from = state[1042 + 55 * k];
-    push_two(state, k, body, 1024 + from);
+    let from = state[THREADS_AT + THREAD_LENGTH * k];
+    push_two(state, k, body, BACK_FROM + from);
     move_to(state, k, q);
 }
 
 pub(crate) fn change_thread(state: &mut [u64], k: usize, change: Change)
-    requires { ⌜ (length (now state) ≡ 4818) × (k < 64) × (threadIn (now state) k .values ≤ 25)
+    requires { ⌜ (length (now state) ≡ stateLength) × (k < mostThreads)
+        × (threadIn (now state) k .values ≤ mostVariables)
         × (isPlace (threadIn (now state) k .place) ≡ true)
         × Room change (threadIn (now state) k .items) (threadIn (now state) k .values) ⌝ }
-    ensures { λ _. ⌜ now (state .exit) ≡ putThread (now (state .entry)) k (changed change (threadIn (now (state .entry)) k)) ⌝ }
+    ensures { λ _. ⌜ now (state .exit) ≡ putThread (now (state .entry)) k
+        (changed change (threadIn (now (state .entry)) k)) ⌝ }
 {
     match change {
         Change::Same => {}

@@ -8,14 +8,17 @@ use crate::writing::settle;
 use acts::act::Acted;
 use acts::act::Fate;
 use language::Place;
+use language::refusal::STUCK;
 ghost use mathlib.Core.Path.{_≡_};
 ghost use Rattle.text.specs.Frames.{framesOf};
 ghost use Rattle.program.specs.Programs.{programOf};
-ghost use Rattle.commits.specs.inner.Commits.{CommitWords, after, leavesIn, joinsIn, committedIn, called};
+ghost use Rattle.commits.specs.inner.Commits.{CommitWords, after, leavesIn, joinsIn};
+ghost use Rattle.commits.specs.inner.Commits.{committedIn, called};
 
 fn commit_leaves(state: &mut [u64], choice: u64, t: u64, a: Acted)
     requires { ⌜ CommitWords (now state) t a ⌝ }
-    ensures { λ _. ⌜ now (state .exit) ≡ leavesIn (now (state .entry)) choice t (after (now (state .entry)) t a) ⌝ }
+    ensures { λ _. ⌜ now (state .exit)
+        ≡ leavesIn (now (state .entry)) choice t (after (now (state .entry)) t a) ⌝ }
 {
     let change = a.change;
     settle(state, (t - 1) as usize, change, a.used);
@@ -29,17 +32,20 @@ fn commit_joins(state: &mut [u64], before: usize, choice: u64, t: u64, a: Acted,
 {
     if !room_at(state, q, 1) {
         clear_cells(state, before, a.used);
-        return 20;
+        return STUCK;
     }
     commit_leaves(state, choice, t, a);
     join(state, q, t);
     0
 }
 
-// The answer. The turn of thread t has changed the cells' words, of which `before` were in use; a refusal takes back the cells made.
+// The answer. The turn of thread t has changed the cells' words, of which `before` were in use; a
+// refusal takes back the cells made.
 pub fn commit(frames: &[u64], state: &mut [u64], before: usize, choice: u64, t: u64, a: Acted) -> u8
     requires { ⌜ CommitWords (now state) t a ⌝ }
-    ensures { λ r. ⌜ called r t (now (state .exit)) ≡ committedIn (programOf (framesOf (now (frames .entry)))) (now (state .entry)) before choice t (after (now (state .entry)) t a) (a .fate) ⌝ }
+    ensures { λ r. ⌜ called r t (now (state .exit))
+        ≡ committedIn (programOf (framesOf (now (frames .entry)))) (now (state .entry)) before
+        choice t (after (now (state .entry)) t a) (a .fate) ⌝ }
 {
     let fate = a.fate;
     match fate {

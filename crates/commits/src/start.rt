@@ -1,4 +1,5 @@
-// A start committed: the new thread is the last, and the last in the starter's next list; a starter that waits stands behind it.
+// A start committed: the new thread is the last, and the last in the starter's next list; a starter
+// that waits stands behind it.
 use crate::change::place_after;
 use crate::leave::leave;
 use crate::writing::clear_cells;
@@ -8,6 +9,14 @@ use crate::writing::room_at;
 use crate::writing::settle;
 use acts::act::Acted;
 use language::Place;
+use language::limit::MOST_ITEMS;
+use language::limit::MOST_THREADS;
+use language::limit::MOST_VARIABLES;
+use language::refusal::STUCK;
+use language::refusal::THREADS_SPENT;
+use machine::offset::THREAD_LENGTH;
+use machine::offset::THREADS_AT;
+use machine::offset::WAITING_FACTOR;
 use program::module::ModuleFound;
 use program::module::module_at;
 use states::thread::ThreadWords;
@@ -18,18 +27,23 @@ ghost use mathlib.Core.Bool.{true};
 ghost use Prim.Native.Nat.{_<_};
 ghost use lib.ListN.{length, getD};
 ghost use Rattle.language.specs.Places.{isScheduler};
+ghost use Rattle.language.specs.Limits.{mostThreads};
 ghost use Rattle.text.specs.Frames.{framesOf};
 ghost use Rattle.program.specs.Programs.{programOf};
-ghost use Rattle.commits.specs.inner.Commits.{CommitWords, newThread, after, misfitIn, spentIn, firstAnswer, obstacleIn, startedIn, waitingIn, startsIn, called};
+ghost use Rattle.machine.specs.Offsets.{stateLength, threadCountAt};
+ghost use Rattle.commits.specs.inner.Commits.{CommitWords, newThread, after, misfitIn};
+ghost use Rattle.commits.specs.inner.Commits.{spentIn, firstAnswer, obstacleIn, startedIn};
+ghost use Rattle.commits.specs.inner.Commits.{waitingIn, startsIn, called};
 
-// The new thread: at the starter's place, its continuation the module's body, its variables the arguments.
+// The new thread: at the starter's place, its continuation the module's body, its variables the
+// arguments.
 fn new_thread(a: Acted, place: Place, t: u64, body: u64) -> ThreadWords
     ensures { λ r. ⌜ r
         ≡ newThread (place .number) (a .given) (a .first) (a .second) t body ⌝ }
 {
-    let mut items = [0u64; 25];
+    let mut items = [0u64; MOST_ITEMS];
     items[0] = body;
-    let mut values = [0u64; 25];
+    let mut values = [0u64; MOST_VARIABLES];
     values[0] = a.first;
     values[1] = a.second;
     ThreadWords {
@@ -43,36 +57,34 @@ fn new_thread(a: Acted, place: Place, t: u64, body: u64) -> ThreadWords
     }
 }
 
-// The answer where a next list is full.
-const NO_ROOM: u8 = 20;
-
-// 20 where the start does not fit: at no scheduler, no such module, another count of arguments, a full list; 0 where it fits.
+// Stuck where the start does not fit: at no scheduler, no such module, another count of arguments,
+// a full list; 0 where it fits.
 fn misfit(state: &[u64], found: ModuleFound, place: Place, given: u64) -> u8
-    requires { ⌜ length (now state) ≡ 4818 ⌝ }
+    requires { ⌜ length (now state) ≡ stateLength ⌝ }
     ensures { λ r. ⌜ r ≡ misfitIn (now (state .entry)) found (place .number) given ⌝ }
 {
     if place.is_private() {
-        return 20;
+        return STUCK;
     }
     if !found.there {
-        return 20;
+        return STUCK;
     }
     if found.parameters != given {
-        return 20;
+        return STUCK;
     }
     if !room_at(state, place, 1) {
-        return NO_ROOM;
+        return STUCK;
     }
     0
 }
 
-// 18 where there are 64 threads, else 0.
+// Spent where there is no room for one more thread, else 0.
 fn spent(state: &[u64]) -> u8
-    requires { ⌜ length (now state) ≡ 4818 ⌝ }
+    requires { ⌜ length (now state) ≡ stateLength ⌝ }
     ensures { λ r. ⌜ r ≡ spentIn (now (state .entry)) ⌝ }
 {
-    if 64 <= thread_count(state) {
-        return 18;
+    if MOST_THREADS as u64 <= thread_count(state) {
+        return THREADS_SPENT;
     }
     0
 }
@@ -87,9 +99,9 @@ fn first_answer(a: u8, b: u8) -> u8
     a
 }
 
-// What stands in the way of a start, 20 before 18; 0 where nothing does.
+// What stands in the way of a start, stuck before spent; 0 where nothing does.
 fn obstacle(state: &[u64], found: ModuleFound, place: Place, given: u64) -> u8
-    requires { ⌜ length (now state) ≡ 4818 ⌝ }
+    requires { ⌜ length (now state) ≡ stateLength ⌝ }
     ensures { λ r. ⌜ r ≡ obstacleIn (now (state .entry)) found (place .number) given ⌝ }
 {
     let misfits = misfit(state, found, place, given);
@@ -99,10 +111,11 @@ fn obstacle(state: &[u64], found: ModuleFound, place: Place, given: u64) -> u8
 
 // 13. The starter stands at that place, a scheduler.
 fn start(state: &mut [u64], t: u64, a: Acted, place: Place, body: u64)
-    requires { ⌜ CommitWords (now state) t a × (getD (now state) 0 0 < 64)
+    requires { ⌜ CommitWords (now state) t a × (getD (now state) threadCountAt 0 < mostThreads)
         × (isScheduler (place .number) ≡ true)
         × (place .number ≡ after (now state) t a .thread .place) ⌝ }
-    ensures { λ _. ⌜ now (state .exit) ≡ startedIn (now (state .entry)) t (after (now (state .entry)) t a) body ⌝ }
+    ensures { λ _. ⌜ now (state .exit)
+        ≡ startedIn (now (state .entry)) t (after (now (state .entry)) t a) body ⌝ }
 {
     let new = thread_count(state) + 1;
     let change = a.change;
@@ -113,13 +126,14 @@ fn start(state: &mut [u64], t: u64, a: Acted, place: Place, body: u64)
 
 // 14: the starter's entry stands behind the new thread.
 fn start_and_wait(state: &mut [u64], choice: u64, t: u64, a: Acted, place: Place, body: u64)
-    requires { ⌜ CommitWords (now state) t a × (getD (now state) 0 0 < 64)
+    requires { ⌜ CommitWords (now state) t a × (getD (now state) threadCountAt 0 < mostThreads)
         × (isScheduler (place .number) ≡ true)
         × (place .number ≡ after (now state) t a .thread .place) ⌝ }
-    ensures { λ _. ⌜ now (state .exit) ≡ waitingIn (now (state .entry)) choice t (after (now (state .entry)) t a) body ⌝ }
+    ensures { λ _. ⌜ now (state .exit)
+        ≡ waitingIn (now (state .entry)) choice t (after (now (state .entry)) t a) body ⌝ }
 {
     let started = thread_count(state) + 1;
-    let entry = 128 * started + t;
+    let entry = WAITING_FACTOR * started + t;
     let change = a.change;
     settle(state, (t - 1) as usize, change, a.used);
     leave(state, choice);
@@ -139,11 +153,16 @@ pub(crate) fn commit_start(
     m: u8,
 ) -> u8
     requires { ⌜ CommitWords (now state) t a ⌝ }
-    ensures { λ r. ⌜ called r t (now (state .exit)) ≡ startsIn (programOf (framesOf (now (frames .entry)))) (now (state .entry)) before choice t (after (now (state .entry)) t a) waits m ⌝ }
+    ensures { λ r. ⌜ called r t (now (state .exit))
+        ≡ startsIn (programOf (framesOf (now (frames .entry)))) (now (state .entry)) before choice t
+        (after (now (state .entry)) t a) waits m ⌝ }
 {
     let found = module_at(frames, m);
     let change = a.change;
-    let place = place_after(change, Place::known(state[1042 + 55 * (t - 1) as usize]));
+    let place = place_after(
+        change,
+        Place::known(state[THREADS_AT + THREAD_LENGTH * (t - 1) as usize]),
+    );
     let no = obstacle(state, found, place, a.given);
     if no != 0 {
         clear_cells(state, before, a.used);
@@ -155,7 +174,7 @@ pub(crate) fn commit_start(
     }
     if !room_at(state, place, 2) {
         clear_cells(state, before, a.used);
-        return NO_ROOM;
+        return STUCK;
     }
     start_and_wait(state, choice, t, a, place, found.body);
     0

@@ -3,42 +3,49 @@ use crate::change::change_thread;
 use crate::change::take_item;
 use acts::act::Change;
 use language::Place;
-use states::list::append;
-use states::list::has_room;
+use lists::list::append;
+use lists::list::has_room;
+use machine::offset::CELL_COUNT_AT;
+use machine::offset::CELLS_AT;
 ghost use mathlib.Core.Path.{_≡_};
 ghost use mathlib.Core.Bool.{true};
 ghost use Prim.Native.Nat.{_≤_};
 ghost use lib.ListN.{length};
 ghost use Rattle.language.specs.Places.{isScheduler};
+ghost use Rattle.language.specs.Limits.{mostCells};
+ghost use Rattle.machine.specs.Offsets.{stateLength};
 ghost use Rattle.states.specs.inner.Threads.{threadIn};
 ghost use Rattle.acts.specs.inner.Fates.{changed, popped};
-ghost use Rattle.commits.specs.inner.Commits.{clearedIn, settledIn, roomIn, joinedIn, SettleWords};
+ghost use Rattle.commits.specs.inner.Commits.{clearedIn, settledIn, roomIn, joinedIn};
+ghost use Rattle.commits.specs.inner.Commits.{SettleWords};
 
 // The cells from that one to below that other are no longer there.
 pub(crate) fn clear_cells(state: &mut [u64], from: usize, upto: usize)
-    requires { ⌜ (length (now state) ≡ 4818) × (upto ≤ 256) ⌝ }
+    requires { ⌜ (length (now state) ≡ stateLength) × (upto ≤ mostCells) ⌝ }
     ensures { λ _. ⌜ now (state .exit) ≡ clearedIn (now (state .entry)) from upto ⌝ }
 {
     let mut j = from;
     while j < upto {
-        state[4562 + j] = 0;
+        state[CELLS_AT + j] = 0;
         j += 1;
     }
 }
 
-// Thread k, from 0, with the change made once its top item is off, and how many cells are in use; the cells' words are the turn's already.
+// Thread k, from 0, with the change made once its top item is off, and how many cells are in use;
+// the cells' words are the turn's already.
 pub(crate) fn settle(state: &mut [u64], k: usize, change: Change, used: usize)
     requires { ⌜ SettleWords (now state) k change ⌝ }
-    ensures { λ _. ⌜ now (state .exit) ≡ settledIn (now (state .entry)) k (changed change (popped (threadIn (now (state .entry)) k))) used ⌝ }
+    ensures { λ _. ⌜ now (state .exit) ≡ settledIn (now (state .entry)) k
+        (changed change (popped (threadIn (now (state .entry)) k))) used ⌝ }
 {
-    state[1] = used as u64;
+    state[CELL_COUNT_AT] = used as u64;
     take_item(state, k);
     change_thread(state, k, change);
 }
 
 // So many more entries have room in the next list of q; only a scheduler has one.
 pub(crate) fn room_at(state: &[u64], q: Place, more: u8) -> bool
-    requires { ⌜ length (now state) ≡ 4818 ⌝ }
+    requires { ⌜ length (now state) ≡ stateLength ⌝ }
     ensures { λ r. ⌜ r ≡ roomIn (now (state .entry)) (q .number) more ⌝ }
 {
     if !q.is_scheduler() {
@@ -49,7 +56,7 @@ pub(crate) fn room_at(state: &[u64], q: Place, more: u8) -> bool
 
 // The entry is the last of the next list of q.
 pub(crate) fn join(state: &mut [u64], q: Place, entry: u64)
-    requires { ⌜ (length (now state) ≡ 4818) × (isScheduler (q .number) ≡ true) ⌝ }
+    requires { ⌜ (length (now state) ≡ stateLength) × (isScheduler (q .number) ≡ true) ⌝ }
     ensures { λ _. ⌜ now (state .exit) ≡ joinedIn (now (state .entry)) (q .number) entry ⌝ }
 {
     append(state, q, entry);
@@ -57,7 +64,7 @@ pub(crate) fn join(state: &mut [u64], q: Place, entry: u64)
 
 // Two entries, the one behind the other.
 pub(crate) fn join_both(state: &mut [u64], q: Place, first: u64, second: u64)
-    requires { ⌜ (length (now state) ≡ 4818) × (isScheduler (q .number) ≡ true) ⌝ }
+    requires { ⌜ (length (now state) ≡ stateLength) × (isScheduler (q .number) ≡ true) ⌝ }
     ensures { λ _. ⌜ now (state .exit)
         ≡ joinedIn (joinedIn (now (state .entry)) (q .number) first) (q .number) second ⌝ }
 {

@@ -21,11 +21,14 @@ use Rattle.machine.specs.declared.value.Outcome.the-variants.{Is, Foreign, Spen
 use Rattle.machine.specs.Shapes as shape
 use Rattle.machine.specs.Shapes.{ValueFits}
 use Rattle.machine.proofs.KeptCells.{OutcomeFits, is-value, is-foreign, is-spent, is-stuck}
-use Rattle.evaluator.specs.declared.Who.{Who}
-use Rattle.evaluator.specs.inner.Results.{Result, hereOf, resultOf, onWords, cellsFrom, CellWords, ValueWords}
-use Rattle.evaluator.specs.inner.ByWords.{valueIn, ownerIn, contentIn, cellOf, result, thenBy, andThen, keeping, ownIn, newOwnerIn, variableIn, sharedIn, makeIn, accessIn, readIn, reading, storeIn, numbersOf, aTruth, aNumber, chosen, evalIn, storingIn}
-use Rattle.evaluator.proofs.Chains.{Refused, then-is, then-keeps, regroup}
-use Rattle.evaluator.proofs.WordLaws.{value-same, value-fits, owner-back, content-back}
+use Rattle.operations.specs.declared.Who.{Who}
+use Rattle.operations.specs.inner.Results.{Result, result, thenBy, andThen, keeping}
+use Rattle.evaluator.specs.inner.Results.{hereOf, resultOf, onWords, cellsFrom, CellWords, ValueWords}
+use Rattle.operations.specs.inner.ByWords.{valueIn, ownerIn, contentIn, cellOf, ownIn, newOwnerIn, variableIn, sharedIn, makeIn, accessIn, readIn, reading, storeIn, aTruth, chosen}
+use Rattle.evaluator.specs.inner.ByWords.{numbersOf, aNumber, evalIn, storingIn}
+use Rattle.operations.proofs.Chains.{Refused, then-is, then-keeps}
+use Rattle.evaluator.proofs.Chains.{regroup}
+use Rattle.operations.proofs.WordLaws.{value-same, value-fits, owner-back, content-back}
 use Rattle.evaluator.proofs.SmallNumbers.{Small, small-at}
 use Rattle.evaluator.proofs.Holding.{Holds, holds-at, holds-from, holds-words, holds-push, holds-put}
 

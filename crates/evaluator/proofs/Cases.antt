@@ -7,23 +7,25 @@ use native.Mathlib.Omega.{arith}
 use native.Mathlib.Nat.{lt-trans}
 use Rattle.text.specs.Frames.{framesOf}
 use Rattle.program.specs.Trees.{Expr, expressionAt}
+use Rattle.program.specs.declared.node.Leaf.{Leaf}
+use Rattle.program.specs.declared.node.CellUse.{CellUse}
+use Rattle.program.specs.declared.node.CellUse.the-variants.{Make, Read}
+use Rattle.program.specs.declared.node.Operator.{Operator}
+use Rattle.program.specs.declared.node.Operator.the-variants.{Sum, Less}
+use Rattle.program.specs.declared.node.ExpressionNode.{ExpressionNode}
+use Rattle.program.specs.declared.node.ExpressionNode.the-variants.{Plain, OfValue, OfNumbers, Choose}
+use Rattle.program.proofs.NodeTrees.{treeOf, tree-at}
 use Rattle.machine.specs.declared.value.Value.{Value}
 use Rattle.machine.specs.declared.value.Outcome.{Outcome}
-use Rattle.evaluator.specs.declared.Who.{Who}
-use Rattle.evaluator.specs.declared.Answered.{Answered}
-use Rattle.evaluator.specs.declared.operation.Wanted.{Wanted}
-use Rattle.evaluator.specs.declared.node.Node.{Node}
-use Rattle.evaluator.specs.declared.node.Node.the-variants.{Plain, Cells, Numbers, ChooseOf}
-use Rattle.evaluator.specs.declared.node.Leaf.{Leaf}
-use Rattle.evaluator.specs.declared.node.Leaf.the-variants.{Literal, Flag, Variable, SharedCell}
-use Rattle.evaluator.specs.declared.node.CellUse.{CellUse}
-use Rattle.evaluator.specs.declared.node.CellUse.the-variants.{Make, Read}
-use Rattle.evaluator.specs.declared.node.Operator.{Operator}
-use Rattle.evaluator.specs.declared.node.Operator.the-variants.{Sum, Less}
-use Rattle.evaluator.specs.inner.Results.{Result, after, FrameWords}
-use Rattle.evaluator.specs.inner.ByWords.{nodeAt, result, andThen, only, keeping, leafIn, usingIn, numbersOf, operation, aTruth, aNumber, chosen, operandStops, outcomeStops, operatedBy, asNumber, asAnswer, wanted, WantedResult, numberOf, chosenBy, evalIn, numberIn, truthIn}
+use Rattle.operations.specs.declared.Who.{Who}
+use Rattle.operations.specs.declared.Answered.{Answered}
+use Rattle.operations.specs.declared.operand.Wanted.{Wanted}
+use Rattle.operations.specs.inner.Results.{Result, after, result, andThen, only, keeping}
+use Rattle.evaluator.specs.inner.Results.{FrameWords}
+use Rattle.operations.specs.inner.ByWords.{leafIn, usingIn, operation, aTruth, chosen, operandStops, outcomeStops, operatedBy, asNumber, asAnswer, chosenBy}
+use Rattle.evaluator.specs.inner.ByWords.{numbersOf, aNumber, wanted, WantedResult, numberOf, evalIn, numberIn, truthIn}
 use Rattle.evaluator.proofs.Chains.{keeping-is, number-stopped, stopped-number, stops-answer, stopped, numbers-ran, choice-ran}
-use Rattle.evaluator.proofs.Nodes.{treeOf, tree-at}
+use Rattle.evaluator.proofs.Nodes.{NodeAt}
 
 -- ---- what a call requires: a smaller frame number, and a frame of the file
 pub falls-to : (ws : List ℕ) (i a t : ℕ) → (i ≡ t) × FrameWords ws i → a < i → (a < t) × FrameWords ws a
@@ -65,67 +67,67 @@ module _ (fw vs : List ℕ) (who : Who) where
 
   module _ (i n : ℕ) (ws : List ℕ) (h : FrameWords fw i) where
     -- it is enough to meet the tree that the node makes
-    at-node : (d : Node) (r : Result) → d ≡ nodeAt (framesOf fw) i → r ≡ evalIn who vs (treeOf (expressionAt (framesOf fw)) i d) n ws → Ran i n ws r
+    at-node : (d : ExpressionNode) (r : Result) → NodeAt fw i d → r ≡ evalIn who vs (treeOf (expressionAt (framesOf fw)) i d) n ws → Ran i n ws r
     at-node d r e k = k ∙ ap (λ (x : Expr). evalIn who vs x n ws) (sym (tree-at (framesOf fw) i d (h .ordered) e))
 
     -- no operand
     leaf-tree : (l : Leaf) → result (leafIn who vs l) n ws ≡ evalIn who vs (treeOf (expressionAt (framesOf fw)) i (Plain l)) n ws
     unfolding evalIn leafIn
-    leaf-tree (Literal m) = refl
-    leaf-tree (Flag s) = refl
-    leaf-tree (Variable s) = refl
-    leaf-tree (SharedCell s) = refl
+    leaf-tree (Leaf.Number m) = refl
+    leaf-tree (Leaf.Truth s) = refl
+    leaf-tree (Leaf.Variable s) = refl
+    leaf-tree (Leaf.SharedCell s) = refl
 
-    pub case-plain : (l : Leaf) (o : Outcome) (r : Answered) → Plain l ≡ nodeAt (framesOf fw) i → o ≡ leafIn who vs l → r ≡ record { outcome = o; used = n } → Ran i n ws (after r ws)
+    pub case-plain : (l : Leaf) (o : Outcome) (r : Answered) → NodeAt fw i (Plain l) → o ≡ leafIn who vs l → r ≡ record { outcome = o; used = n } → Ran i n ws (after r ws)
     case-plain l o r e q z = at-node (Plain l) _ e (ap (λ (x : Answered). after x ws) z ∙ ap (λ (x : Outcome). result x n ws) q ∙ leaf-tree l)
 
     -- one operand
-    using-tree : (u : CellUse) (a : ℕ) → andThen (evalIn who vs (expressionAt (framesOf fw) a) n ws) (usingIn who u) ≡ evalIn who vs (treeOf (expressionAt (framesOf fw)) i (Cells u a)) n ws
+    using-tree : (u : CellUse) (a : ℕ) → andThen (evalIn who vs (expressionAt (framesOf fw) a) n ws) (usingIn who u) ≡ evalIn who vs (treeOf (expressionAt (framesOf fw)) i (OfValue u a)) n ws
     unfolding evalIn
     using-tree (Make s) a = refl
     using-tree Read a = refl
 
-    pub case-cells : (u : CellUse) (a : ℕ) (x r : Result) → Cells u a ≡ nodeAt (framesOf fw) i → Ran a n ws x → r ≡ andThen x (usingIn who u) → Ran i n ws r
-    case-cells u a x r e q k = at-node (Cells u a) r e (k ∙ ap (λ (y : Result). andThen y (usingIn who u)) q ∙ using-tree u a)
+    pub case-cells : (u : CellUse) (a : ℕ) (x r : Result) → NodeAt fw i (OfValue u a) → Ran a n ws x → r ≡ andThen x (usingIn who u) → Ran i n ws r
+    case-cells u a x r e q k = at-node (OfValue u a) r e (k ∙ ap (λ (y : Result). andThen y (usingIn who u)) q ∙ using-tree u a)
 
     -- two numbers: the first is refused, or the second is evaluated on the cells that the first left
-    pub case-first : (op : Operator) (a b : ℕ) (x : Wanted) (r : Answered) (ts : List ℕ) → Numbers op a b ≡ nodeAt (framesOf fw) i
+    pub case-first : (op : Operator) (a b : ℕ) (x : Wanted) (r : Answered) (ts : List ℕ) → NodeAt fw i (OfNumbers op a b)
         → RanNumber a n ws (wanted x ts) → operandStops (x .operand) ≡ true → r ≡ asAnswer x → Ran i n ws (after r ts)
     unfolding evalIn
-    case-first op a b x r ts e q t z = at-node (Numbers op a b) (after r ts) e (ap (λ (y : Answered). after y ts) z ∙ go op)
+    case-first op a b x r ts e q t z = at-node (OfNumbers op a b) (after r ts) e (ap (λ (y : Answered). after y ts) z ∙ go op)
       where
-        go : (op : Operator) → after (asAnswer x) ts ≡ evalIn who vs (treeOf (expressionAt (framesOf fw)) i (Numbers op a b)) n ws
+        go : (op : Operator) → after (asAnswer x) ts ≡ evalIn who vs (treeOf (expressionAt (framesOf fw)) i (OfNumbers op a b)) n ws
         go Sum = number-stopped x (evalIn who vs (expressionAt (framesOf fw) a) n ws) ts (second Sum b) q t
         go Less = number-stopped x (evalIn who vs (expressionAt (framesOf fw) a) n ws) ts (second Less b) q t
 
     -- the same refusal where a number or a truth is wanted
-    pub first-as-number : (op : Operator) (a b : ℕ) (x : Wanted) (ts : List ℕ) → Numbers op a b ≡ nodeAt (framesOf fw) i
+    pub first-as-number : (op : Operator) (a b : ℕ) (x : Wanted) (ts : List ℕ) → NodeAt fw i (OfNumbers op a b)
         → RanNumber a n ws (wanted x ts) → operandStops (x .operand) ≡ true → RanNumber i n ws (wanted x ts)
     first-as-number op a b x ts e q t = stopped-number x ts t ∙ ap numberOf (case-first op a b x (asAnswer x) ts e q t refl)
 
-    pub first-as-truth : (op : Operator) (a b : ℕ) (x : Wanted) (r : Answered) (ts : List ℕ) → Numbers op a b ≡ nodeAt (framesOf fw) i
+    pub first-as-truth : (op : Operator) (a b : ℕ) (x : Wanted) (r : Answered) (ts : List ℕ) → NodeAt fw i (OfNumbers op a b)
         → RanNumber a n ws (wanted x ts) → operandStops (x .operand) ≡ true → r ≡ asAnswer x → RanTruth i n ws (after r ts)
     first-as-truth op a b x r ts e q t z = stopped-truth i n ws ts r (case-first op a b x r ts e q t z) (ap (λ (y : Answered). outcomeStops (y .outcome)) z ∙ stops-answer (x .operand) t)
 
-    pub case-both : (op : Operator) (a b : ℕ) (x y : Wanted) (r : Answered) (ts us : List ℕ) → Numbers op a b ≡ nodeAt (framesOf fw) i
+    pub case-both : (op : Operator) (a b : ℕ) (x y : Wanted) (r : Answered) (ts us : List ℕ) → NodeAt fw i (OfNumbers op a b)
         → RanNumber a n ws (wanted x ts) → operandStops (x .operand) ≡ false → RanNumber b (x .used) ts (wanted y us) → r ≡ operatedBy op x y → Ran i n ws (after r us)
     unfolding evalIn
-    case-both op a b x y r ts us e q t k z = at-node (Numbers op a b) (after r us) e (ap (λ (y : Answered). after y us) z ∙ go op)
+    case-both op a b x y r ts us e q t k z = at-node (OfNumbers op a b) (after r us) e (ap (λ (y : Answered). after y us) z ∙ go op)
       where
-        go : (op : Operator) → after (operatedBy op x y) us ≡ evalIn who vs (treeOf (expressionAt (framesOf fw)) i (Numbers op a b)) n ws
+        go : (op : Operator) → after (operatedBy op x y) us ≡ evalIn who vs (treeOf (expressionAt (framesOf fw)) i (OfNumbers op a b)) n ws
         go Sum = numbers-ran Sum (evalIn who vs (expressionAt (framesOf fw) b)) (evalIn who vs (expressionAt (framesOf fw) a) n ws) x y ts us q t k
         go Less = numbers-ran Less (evalIn who vs (expressionAt (framesOf fw) b)) (evalIn who vs (expressionAt (framesOf fw) a) n ws) x y ts us q t k
 
     -- a truth, and behind it one of two numbers
-    pub case-condition : (a b c : ℕ) (x : Answered) (ts : List ℕ) → ChooseOf a b c ≡ nodeAt (framesOf fw) i → RanTruth a n ws (after x ts) → outcomeStops (x .outcome) ≡ true → Ran i n ws (after x ts)
+    pub case-condition : (a b c : ℕ) (x : Answered) (ts : List ℕ) → NodeAt fw i (Choose a b c) → RanTruth a n ws (after x ts) → outcomeStops (x .outcome) ≡ true → Ran i n ws (after x ts)
     unfolding evalIn
-    case-condition a b c x ts e q t = at-node (ChooseOf a b c) (after x ts) e (stopped (after x ts) (branch b c) t ∙ ap (λ (u : Result). andThen u (branch b c)) q)
+    case-condition a b c x ts e q t = at-node (Choose a b c) (after x ts) e (stopped (after x ts) (branch b c) t ∙ ap (λ (u : Result). andThen u (branch b c)) q)
 
-    pub case-choice : (a b c j : ℕ) (x : Answered) (y : Wanted) (r : Answered) (ts us : List ℕ) → ChooseOf a b c ≡ nodeAt (framesOf fw) i
+    pub case-choice : (a b c j : ℕ) (x : Answered) (y : Wanted) (r : Answered) (ts us : List ℕ) → NodeAt fw i (Choose a b c)
         → RanTruth a n ws (after x ts) → outcomeStops (x .outcome) ≡ false → j ≡ chosenBy (x .outcome) b c → RanNumber j (x .used) ts (wanted y us) → r ≡ asAnswer y → Ran i n ws (after r us)
     unfolding evalIn
     case-choice a b c j x y r ts us e q t w k z =
-        at-node (ChooseOf a b c) (after r us) e
+        at-node (Choose a b c) (after r us) e
         (ap (λ (y : Answered). after y us) z
         ∙ choice-ran (λ d m ts. evalIn who vs (expressionAt (framesOf fw) d) m ts) b c j x y ts us t w k
         ∙ ap (λ (u : Result). andThen u (branch b c)) q)

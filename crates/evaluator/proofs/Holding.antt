@@ -1,6 +1,6 @@
 -- Words that hold cells: `Holds` from the words that a caller lends and back to them, with one more cell, with another content. Assumes nothing.
 use mathlib.Core.Path.{_≡_, refl, sym, ap, _∙_, subst}
-use mathlib.Core.List.{List, [], _∷_, _++_}
+use mathlib.Core.List.{List, [], _∷_}
 use mathlib.Core.Bool.{Bool, true, false}
 use Prim.Native.Nat.{ℕ, _+_, _%_, _^_, _<_, _≤_}
 use native.Mathlib.Omega.{arith}
@@ -20,7 +20,7 @@ use Rattle.machine.proofs.Round.{cell-back}
 use Rattle.machine.proofs.Valid.{no-cell-word}
 use Rattle.machine.proofs.KeptCells.{each-set, each-snoc}
 use Rattle.evaluator.specs.inner.Results.{CellWords, cellsFrom}
-use Rattle.evaluator.proofs.WordLaws.{value-fits, cell-there, content-in}
+use Rattle.operations.proofs.WordLaws.{value-fits, cell-there, content-in}
 
 -- the n cells cs are these words; every content fits a word
 pub record Holds (n : ℕ) (ws : List ℕ) (cs : List Stored) : Type 0 where

@@ -1,6 +1,4 @@
--- The code, by words: single words, the operations, one evaluation behind another, the node at a frame, the recursion.
-pub mod WordLaws
-pub mod Operations
+-- The code, by words: one evaluation behind another, the node at a frame, the recursion.
 pub mod Chains
 pub mod Nodes
 pub mod Cases

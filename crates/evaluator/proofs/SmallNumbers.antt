@@ -4,7 +4,7 @@ use Prim.Native.Nat.{ℕ, zero, suc, _^_, _<_}
 use native.Mathlib.Omega.{arith}
 use Rattle.language.specs.declared.kind.ExpressionKind.{ExpressionKind}
 use Rattle.language.specs.declared.kind.Kind.{Kind}
-use Rattle.language.specs.declared.kind.Kind.the-variants.{Header, Shared, Module, Statement, Expression, Unknown}
+use Rattle.language.specs.declared.kind.Kind.the-variants.{Header, Declared, Module, Statement, Expression, Unknown}
 use Rattle.language.specs.declared.frame.Frame.{Frame}
 use Rattle.text.specs.Frames.{frameOfWord, framesOf}
 use Rattle.program.specs.Trees.{Expr, number, truth, variable, shared, new, content, sum, less, choose, frameAt, expressionWith, expressionOf, expressionTo, expressionAt}
@@ -42,7 +42,7 @@ small-of : (rec : ℕ → Expr) (i : ℕ) (f : Frame) (k : Kind) → f .s < 256 
 small-of rec i f (Expression k) l m h = small-with rec i f k l m h
 small-of rec i f (Statement k) l m h = omega arith
 small-of rec i f Header l m h = omega arith
-small-of rec i f Shared l m h = omega arith
+small-of rec i f (Declared d) l m h = omega arith
 small-of rec i f Module l m h = omega arith
 small-of rec i f Unknown l m h = omega arith
 

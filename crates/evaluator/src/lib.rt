@@ -1,22 +1,2 @@
 // The evaluator: expressions on lent words, a word for each cell.
-use language::Place;
-use machine::value::Outcome;
-
-mod cell;
 pub mod evaluation;
-mod node;
-mod operation;
-pub mod word;
-
-// Who evaluates: the acting thread, the place on which it stands, and how many cells are shared.
-pub struct Who {
-    pub thread: u8,
-    pub place: Place,
-    pub shared: usize,
-}
-
-// What an evaluation answers, and how many cells are in use behind it.
-pub struct Answered {
-    pub outcome: Outcome,
-    pub used: usize,
-}

@@ -7,7 +7,8 @@ use lib.Dec.{leb}
 use borrow.Author.Tests.{lt-leb, le-leb, leb-true}
 use Rattle.basics.specs.If.{if_then_else_}
 use Rattle.basics.proofs.Ifs.{yes, no, and-true, leb-same}
-use Rattle.language.specs.Places.{isPlace, isScheduler, hasPlace, hasScheduler, placeRead}
+use Rattle.language.specs.Places.{isPlace, isScheduler, hasPlace, hasScheduler}
+use Rattle.language.specs.inner.Reads.{placeRead}
 use Rattle.language.specs.declared.Place.{Place}
 use Rattle.language.specs.declared.PlaceRead.{PlaceRead}
 use Rattle.language.specs.declared.PlaceRead.the-variants.{At, NoPlace}

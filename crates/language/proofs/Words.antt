@@ -1,13 +1,14 @@
 -- What the functions on type words compute, return by return, with the tests that lead there as premises: a ruleset for each function. Assumes nothing.
 use mathlib.Core.Bool.{Bool, true, false, not, _&&_, _||_, true≢false}
 use mathlib.Core.Path.{_≡_, refl, sym, ap, _∙_}
-use Prim.Native.Nat.{ℕ, suc, _+_, _-_, _*_, _/_, _%_, _^_, _<_, _≤_}
+use Prim.Native.Nat.{ℕ, suc, _+_, _*_, _/_, _%_, _^_, _<_, _≤_}
 use native.Mathlib.Omega.{arith}
 use lib.Dec.{leb, eqb}
 use borrow.Author.Tests.{lt-ltb, le-ltb, le-leb, lt-leb, eq-eqb, ne-eqb, eqb-false, not-true, not-false}
 use Rattle.basics.proofs.Ifs.{yes, no, and-off}
-use Rattle.language.specs.Places.{isPlace, hasPlace, placeRead}
-use Rattle.language.specs.Types.{cellDepth, cellType, ownerOf, contentOf, cellRead, isCell, public, ownerDigit, typeWord, contentWord, digitOf}
+use Rattle.language.specs.Places.{isPlace, hasPlace}
+use Rattle.language.specs.inner.Reads.{placeRead, cellRead}
+use Rattle.language.specs.Types.{cellDepth, cellType, ownerOf, contentOf, public, ownerDigit, typeWord, contentWord, digitOf}
 use Rattle.language.specs.declared.Place.{Place}
 use Rattle.language.specs.declared.PlaceRead.{PlaceRead}
 use Rattle.language.specs.declared.PlaceRead.the-variants.{At, NoPlace}

@@ -1,17 +1,17 @@
 -- The table of kinds: each kind's number, and what each of its fields holds. Assumes nothing: definitions.
-use mathlib.Core.Path.{_≡_}
 use mathlib.Core.Bool.{Bool, true, false}
 use mathlib.Core.List.{List, [], _∷_, _++_}
 use Prim.Native.Nat.{ℕ, zero, suc}
 use lib.Dec.{eqb}
 use Rattle.basics.specs.If.{if_then_else_}
-use Rattle.language.specs.Places.{isPlace}
+use Rattle.language.specs.declared.kind.DeclarationKind.{DeclarationKind}
+use Rattle.language.specs.declared.kind.DeclarationKind.the-variants.{Shared}
 use Rattle.language.specs.declared.kind.StatementKind.{StatementKind}
 use Rattle.language.specs.declared.kind.StatementKind.the-variants.{Nothing, Then, DoAt, Start, StartWait, Cooperate, Let, Store, If, While}
 use Rattle.language.specs.declared.kind.ExpressionKind.{ExpressionKind}
 use Rattle.language.specs.declared.kind.ExpressionKind.the-variants.{Number, Truth, Variable, SharedCell, NewCell, Content, Sum, Less, Choose}
 use Rattle.language.specs.declared.kind.Kind.{Kind}
-use Rattle.language.specs.declared.kind.Kind.the-variants.{Header, Shared, Module, Statement, Expression, Unknown}
+use Rattle.language.specs.declared.kind.Kind.the-variants.{Header, Declared, Module, Statement, Expression, Unknown}
 use Rattle.language.specs.declared.kind.Class.{Class}
 use Rattle.language.specs.declared.kind.Use.{Use}
 use Rattle.language.specs.declared.kind.Uses.{Uses}
@@ -21,7 +21,7 @@ use Rattle.language.specs.declared.frame.Frame.{Frame}
 unfoldable pub kindOf : ℕ → Kind
 kindOf k =
     if eqb k 0x00 then Header else
-    if eqb k 0x01 then Shared else
+    if eqb k 0x01 then Declared Shared else
     if eqb k 0x02 then Module else
     if eqb k 0x10 then Statement Nothing else
     if eqb k 0x11 then Statement Then else
@@ -47,7 +47,7 @@ kindOf k =
 -- ---- the kinds that stand outside the trees: 00 header, 01 shared cell, 02 module
 abbrev pub isHeader : Kind → Bool
 isHeader Header = true
-isHeader Shared = false
+isHeader (Declared d) = false
 isHeader Module = false
 isHeader (Statement k) = false
 isHeader (Expression k) = false
@@ -55,7 +55,7 @@ isHeader Unknown = false
 
 abbrev pub isShared : Kind → Bool
 isShared Header = false
-isShared Shared = true
+isShared (Declared Shared) = true
 isShared Module = false
 isShared (Statement k) = false
 isShared (Expression k) = false
@@ -63,7 +63,7 @@ isShared Unknown = false
 
 abbrev pub isModule : Kind → Bool
 isModule Header = false
-isModule Shared = false
+isModule (Declared d) = false
 isModule Module = true
 isModule (Statement k) = false
 isModule (Expression k) = false
@@ -72,6 +72,10 @@ isModule Unknown = false
 -- ---- what S, A, B and C hold. 'Unused fields are 0.'
 abbrev sabc : Use → Use → Use → Use → Uses
 sabc s a b c = record { s = s; a = a; b = b; c = c }
+
+abbrev pub declarationUses : DeclarationKind → Uses
+-- 01 shared cell: S owner (a scheduler), A content type, B first content
+declarationUses Shared = sabc Use.Scheduler Use.ContentType Use.FirstContent Use.Unused
 
 abbrev pub statementUses : StatementKind → Uses
 -- 10 nothing
@@ -118,8 +122,7 @@ expressionUses Choose = sabc Use.Unused Use.Expression Use.Expression Use.Expres
 abbrev pub uses : Kind → Uses
 -- 00: its faults have a number of their own, 4
 uses Header = sabc Use.Free Use.Free Use.Free Use.Free
--- 01 shared cell: S owner (a scheduler), A content type, B first content
-uses Shared = sabc Use.Scheduler Use.ContentType Use.FirstContent Use.Unused
+uses (Declared k) = declarationUses k
 -- 02 module: S parameters, A body, B and C their types
 uses Module = sabc Use.Parameters Use.Statement Use.FirstType Use.SecondType
 uses (Statement k) = statementUses k
@@ -127,14 +130,10 @@ uses (Expression k) = expressionUses k
 -- the kind is the fault
 uses Unknown = sabc Use.Free Use.Free Use.Free Use.Free
 
--- where S is to name a place, it names one: 5 refuses any other frame
-abbrev pub NamesPlace : Frame → Type 0
-NamesPlace f = uses (f .kind) .s ≡ Use.Place → isPlace (f .s) ≡ true
-
 -- '10 to 19 are statements, 20 to 28 expressions.'
 abbrev pub classOf : Kind → Class
 classOf Header = Class.Neither
-classOf Shared = Class.Neither
+classOf (Declared d) = Class.Neither
 classOf Module = Class.Neither
 classOf (Statement k) = Class.Statement
 classOf (Expression k) = Class.Expression

@@ -3,8 +3,6 @@ use mathlib.Core.Bool.{Bool, _&&_}
 use Prim.Native.Nat.{ℕ, _+_}
 use lib.Dec.{leb, eqb}
 use Rattle.basics.specs.If.{if_then_else_}
-use Rattle.language.specs.declared.PlaceRead.{PlaceRead}
-use Rattle.language.specs.declared.PlaceRead.the-variants.{At, NoPlace}
 
 abbrev pub private : ℕ
 private = 1
@@ -28,10 +26,6 @@ hasPlace b p = isPlace p && leb p (1 + b)
 
 abbrev pub hasScheduler : ℕ → ℕ → Bool
 hasScheduler b p = isScheduler p && leb p (1 + b)
-
--- what a constructor of places answers at the number n, by its test
-unfoldable pub placeRead : Bool → ℕ → PlaceRead
-placeRead test n = if test then At (record { number = n }) else NoPlace
 
 -- How a statement stands: linked to a scheduler, or unlinked (01: loose)
 pub data Standing : Type 0 where

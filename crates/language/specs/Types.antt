@@ -3,9 +3,7 @@ use mathlib.Core.Bool.{Bool, not, _&&_, _||_}
 use Prim.Native.Nat.{ℕ, suc, _+_, _*_, _/_, _%_, _^_}
 use lib.Dec.{ltb, leb, eqb}
 use Rattle.basics.specs.If.{if_then_else_}
-use Rattle.language.specs.Places.{private, isPlace, hasPlace}
-use Rattle.language.specs.declared.type_word.CellRead.{CellRead}
-use Rattle.language.specs.declared.type_word.CellRead.the-variants.{Word, TooDeep}
+use Rattle.language.specs.Places.{private, hasPlace}
 
 abbrev pub numberType : ℕ
 numberType = 0x0001
@@ -59,7 +57,3 @@ typeWord b t =
 -- 'A shared cell's content type is public, at most two cells deep.'
 unfoldable pub contentWord : ℕ → ℕ → Bool
 contentWord b t = typeWord b t && public t && leb (cellDepth t) 2
-
--- what the constructor of a cell's type answers
-unfoldable pub cellRead : ℕ → ℕ → CellRead
-cellRead o t = if isPlace o && roomAround t then Word (cellType o t) else TooDeep

@@ -1,6 +1,11 @@
 // Kinds of frames, and what each field of a kind holds.
 ghost use mathlib.Core.Path.{_≡_};
-ghost use Rattle.language.specs.Kinds.{kindOf, statementUses, expressionUses, uses, classOf, isHeader, isShared, isModule};
+ghost use Rattle.language.specs.Kinds.{kindOf, declarationUses, statementUses, expressionUses, uses, classOf, isHeader, isShared, isModule};
+
+// Declarations that stand before the modules: a shared cell, K 01.
+pub enum DeclarationKind {
+    Shared,
+}
 
 // Statements, K 10 to 19.
 pub enum StatementKind {
@@ -31,7 +36,7 @@ pub enum ExpressionKind {
 
 pub enum Kind {
     Header,
-    Shared,
+    Declared(DeclarationKind),
     Module,
     Statement(StatementKind),
     Expression(ExpressionKind),
@@ -90,7 +95,7 @@ pub fn kind_of(k: u8) -> Kind
 {
     match k {
         0x00 => Kind::Header,
-        0x01 => Kind::Shared,
+        0x01 => Kind::Declared(DeclarationKind::Shared),
         0x02 => Kind::Module,
         0x10 => Kind::Statement(StatementKind::Nothing),
         0x11 => Kind::Statement(StatementKind::Then),
@@ -120,7 +125,7 @@ pub fn is_header(k: Kind) -> bool
 {
     match k {
         Kind::Header => true,
-        Kind::Shared => false,
+        Kind::Declared(d) => false,
         Kind::Module => false,
         Kind::Statement(s) => false,
         Kind::Expression(e) => false,
@@ -133,7 +138,9 @@ pub fn is_shared(k: Kind) -> bool
 {
     match k {
         Kind::Header => false,
-        Kind::Shared => true,
+        Kind::Declared(d) => match d {
+            DeclarationKind::Shared => true,
+        },
         Kind::Module => false,
         Kind::Statement(s) => false,
         Kind::Expression(e) => false,
@@ -146,7 +153,7 @@ pub fn is_module(k: Kind) -> bool
 {
     match k {
         Kind::Header => false,
-        Kind::Shared => false,
+        Kind::Declared(d) => false,
         Kind::Module => true,
         Kind::Statement(s) => false,
         Kind::Expression(e) => false,
@@ -159,11 +166,25 @@ pub fn class_of(k: Kind) -> Class
 {
     match k {
         Kind::Header => Class::Neither,
-        Kind::Shared => Class::Neither,
+        Kind::Declared(d) => Class::Neither,
         Kind::Module => Class::Neither,
         Kind::Statement(_) => Class::Statement,
         Kind::Expression(_) => Class::Expression,
         Kind::Unknown => Class::Neither,
+    }
+}
+
+// The fields of a declaration.
+fn declaration_uses(k: DeclarationKind) -> Uses
+    ensures { λ r. ⌜ r ≡ declarationUses k ⌝ }
+{
+    match k {
+        DeclarationKind::Shared => uses_are(
+            Use::Scheduler,
+            Use::ContentType,
+            Use::FirstContent,
+            Use::Unused,
+        ),
     }
 }
 
@@ -223,12 +244,7 @@ pub fn uses_of(k: Kind) -> Uses
 {
     match k {
         Kind::Header => uses_are(Use::Free, Use::Free, Use::Free, Use::Free),
-        Kind::Shared => uses_are(
-            Use::Scheduler,
-            Use::ContentType,
-            Use::FirstContent,
-            Use::Unused,
-        ),
+        Kind::Declared(d) => declaration_uses(d),
         Kind::Module => uses_are(
             Use::Parameters,
             Use::Statement,

@@ -3,11 +3,14 @@ ghost use mathlib.Core.Path.{_≡_};
 ghost use mathlib.Core.Bool.{true};
 ghost use Prim.Native.Nat.{_-_};
 ghost use lib.Dec.{eqb};
-ghost use Rattle.language.specs.Places.{private, home, isPlace, isScheduler, hasPlace, hasScheduler, placeRead};
+ghost use Rattle.language.specs.Places.{private, home, isPlace, isScheduler, hasPlace, hasScheduler};
+ghost use Rattle.language.specs.inner.Reads.{placeRead};
 
 pub mod effect;
 pub mod frame;
 pub mod kind;
+pub mod limit;
+pub mod refusal;
 pub mod type_word;
 pub mod verdict;
 

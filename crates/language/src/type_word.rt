@@ -2,8 +2,9 @@
 use crate::Place;
 use crate::PlaceRead;
 ghost use mathlib.Core.Path.{_≡_};
-ghost use Rattle.language.specs.Places.{isPlace, placeRead};
-ghost use Rattle.language.specs.Types.{cellDepth, isCell, ownerOf, contentOf, public, ownerDigit, typeWord, contentWord, cellRead};
+ghost use Rattle.language.specs.Places.{isPlace};
+ghost use Rattle.language.specs.inner.Reads.{placeRead, cellRead};
+ghost use Rattle.language.specs.Types.{cellDepth, isCell, ownerOf, contentOf, public, ownerDigit, typeWord, contentWord};
 
 pub const NUMBER: u16 = 0x0001;
 

@@ -7,7 +7,8 @@ use lib.ListN.{length, take}
 use Rattle.language.specs.declared.verdict.Verdict.{Verdict}
 use Rattle.language.specs.declared.verdict.Verdict.the-variants.{Accepted, Rejected}
 use Rattle.text.specs.Frames.{framesOf, textFrames}
-use Rattle.text.specs.Reading.{Reading, frames, refused, reading, Reads, textRead, linesRead, textWords}
+use Rattle.text.specs.Reading.{Reading, frames, refused, Reads}
+use Rattle.text.specs.inner.Reading.{reading, textRead, linesRead, textWords}
 use Rattle.text.specs.declared.reading.TextRead.the-variants.{Frames, Refused}
 use Rattle.text.specs.declared.reading.TextWords.{TextWords}
 use Rattle.text.proofs.Readings.{reads, reads-one, some-frame}
@@ -15,7 +16,8 @@ use Rattle.text.proofs.ReadLaws.{read-field}
 use Rattle.layout.specs.declared.LaidOut.{LaidOut}
 use Rattle.layout.specs.Faults.{NoFault}
 use Rattle.layout.specs.inner.Scans.{layoutOf}
-use Rattle.layout.specs.LaidOut.{HasLayout, Judged, layoutRead, layoutVerdict, laidOut}
+use Rattle.layout.specs.LaidOut.{HasLayout, Judged}
+use Rattle.layout.specs.inner.Layouts.{layoutRead, layoutVerdict, laidOut}
 use Rattle.layout.proofs.Layouts.{layout-says, layout-one}
 use Rattle.layout.proofs.Answers.{Whole, whole, frames-are, verdict-is, laid-refused, laid-whole}
 use Rattle.layout.proofs.Scopes.{accepted-no-fault}

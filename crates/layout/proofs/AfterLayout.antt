@@ -7,12 +7,14 @@ use lib.ListN.{take}
 use Rattle.language.specs.declared.frame.Frame.{Frame}
 use Rattle.language.specs.declared.verdict.Verdict.the-variants.{Accepted, Rejected}
 use Rattle.text.specs.Frames.{framesOf, textFrames}
-use Rattle.text.specs.Reading.{Reading, frames, refused, reading, Reads}
+use Rattle.text.specs.Reading.{Reading, frames, refused, Reads}
+use Rattle.text.specs.inner.Reading.{reading}
 use Rattle.text.proofs.Readings.{reads, reads-one, some-frame}
 use Rattle.layout.specs.declared.LaidOut.{LaidOut}
 use Rattle.layout.specs.Faults.{NoFault}
 use Rattle.layout.specs.inner.Scans.{layoutOf}
-use Rattle.layout.specs.LaidOut.{layoutRead, layoutVerdict, laidOut, afterLayout, afterReading}
+use Rattle.layout.specs.inner.Layouts.{layoutRead, layoutVerdict, laidOut}
+use Rattle.layout.specs.LaidOut.{afterLayout, afterReading}
 use Rattle.layout.proofs.Answers.{verdict-is}
 use Rattle.layout.proofs.Scopes.{no-fault-accepted}
 use Rattle.layout.proofs.Accepted.{laid-passed}

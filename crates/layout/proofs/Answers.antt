@@ -9,18 +9,19 @@ use Rattle.language.specs.declared.frame.Frame.{Frame}
 use Rattle.language.specs.declared.verdict.Verdict.{Verdict}
 use Rattle.language.specs.declared.verdict.Verdict.the-variants.{Accepted, Rejected}
 use Rattle.text.specs.Frames.{wordsOf, framesOf, textFrames}
-use Rattle.text.specs.Reading.{Reading, frames, refused, reading, Reads, textRead, linesRead, wordArray, textWords}
+use Rattle.text.specs.Reading.{Reading, frames, refused, Reads}
+use Rattle.text.specs.inner.Reading.{reading, textRead, linesRead, wordArray, textWords}
 use Rattle.text.specs.declared.reading.TextRead.the-variants.{Frames, Refused}
 use Rattle.text.specs.declared.reading.TextWords.{TextWords}
 use Rattle.text.proofs.Readings.{reads, some-frame}
 use Rattle.text.proofs.ReadLaws.{length-frames, array-length, read-field, length-words}
+use Rattle.fields.specs.declared.found.Found.{Found}
+use Rattle.fields.specs.declared.found.Found.the-variants.{At, Nowhere}
+use Rattle.fields.specs.inner.Scans.{headerFault, fieldFault, found}
+use Rattle.fields.proofs.Finds.{found-none, found-some}
 use Rattle.layout.specs.declared.LaidOut.{LaidOut}
-use Rattle.layout.specs.declared.found.Found.{Found}
-use Rattle.layout.specs.declared.found.Found.the-variants.{At, Nowhere}
-use Rattle.layout.specs.inner.Scans.{headerFault, fieldFault, orderFault, depthFault, layoutOf}
-use Rattle.layout.specs.inner.Passes.{found}
-use Rattle.layout.specs.LaidOut.{layoutRead, layoutVerdict, laidOut}
-use Rattle.layout.proofs.Finds.{found-none, found-some}
+use Rattle.layout.specs.inner.Scans.{orderFault, depthFault, layoutOf}
+use Rattle.layout.specs.inner.Layouts.{layoutRead, layoutVerdict, laidOut}
 
 -- ---- 4 to 7: the code stops at the first pass that finds a frame
 module _ (fs : List Frame) (a : Found) (ha : a ≡ found (headerFault fs)) where

@@ -6,15 +6,15 @@ use native.Mathlib.Omega.{arith}
 use Rattle.language.specs.declared.kind.StatementKind.the-variants.{Nothing, Then, DoAt, Start, StartWait, Cooperate, Let, Store, If, While}
 use Rattle.language.specs.declared.kind.ExpressionKind.the-variants.{Number, Truth, Variable, SharedCell, NewCell, Content, Sum, Less, Choose}
 use Rattle.language.specs.declared.kind.Kind.{Kind}
-use Rattle.language.specs.declared.kind.Kind.the-variants.{Header, Shared, Module, Statement, Expression, Unknown}
+use Rattle.language.specs.declared.kind.Kind.the-variants.{Header, Declared, Module, Statement, Expression, Unknown}
 use Rattle.language.specs.declared.frame.Frame.{Frame}
 use Rattle.language.specs.declared.kind.Use.{Use}
 use Rattle.language.specs.Kinds.{childIn}
 use Rattle.program.specs.Trees.{Expr, Stmt, rootE, rootS, frameAt, expressionOf, expressionTo, expressionAt, arguments, statementOf, statementTo, statementAt}
 use Rattle.program.proofs.Roots.{expression-root-to, expression-root, statement-root-to}
-use Rattle.layout.proofs.Placed.{PlacedE, PlacedEs, PlacedS}
-use Rattle.layout.specs.Order.{Tree, Row}
 use Rattle.program.proofs.NodeLaws.{childrenAs}
+use Rattle.layout.specs.Order.{Tree, Row}
+use Rattle.layout.proofs.Placed.{PlacedE, PlacedEs, PlacedS}
 use Rattle.layout.proofs.Trees.{tree-le, row-le, One, Two, Three, one-of, two-of, three-of, row-as}
 
 -- ---- expressions: of a kind (`expressionOf`), down to a bound (`expressionTo`), at a frame (`expressionAt`)
@@ -46,7 +46,7 @@ module _ {fs : List Frame} (rec : ℕ → Expr) (roots : (j : ℕ) → rootE (re
 
   placed-e-of : (k : Kind) → Row fs lo i (childrenAs k f) → PlacedE lo (expressionOf rec i f k)
   placed-e-of Header r = PlacedE.number (row-le r)
-  placed-e-of Shared r = PlacedE.number (row-le r)
+  placed-e-of (Declared d) r = PlacedE.number (row-le r)
   placed-e-of Module r = PlacedE.number (row-le r)
   placed-e-of Unknown r = PlacedE.number (row-le r)
   placed-e-of (Statement k) r = PlacedE.number (row-le r)
@@ -119,7 +119,7 @@ module _ (fs : List Frame) (rec : ℕ → Stmt) (roots : (j : ℕ) → rootS (re
 
   placed-s-of : (k : Kind) → Row fs lo i (childrenAs k f) → PlacedS lo (statementOf (λ j. expressionAt fs j) rec i f k)
   placed-s-of Header r = PlacedS.nothing (row-le r)
-  placed-s-of Shared r = PlacedS.nothing (row-le r)
+  placed-s-of (Declared d) r = PlacedS.nothing (row-le r)
   placed-s-of Module r = PlacedS.nothing (row-le r)
   placed-s-of Unknown r = PlacedS.nothing (row-le r)
   placed-s-of (Expression k) r = PlacedS.nothing (row-le r)

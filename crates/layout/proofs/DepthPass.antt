@@ -12,19 +12,20 @@ use Rattle.basics.specs.Members.{In}
 use Rattle.basics.specs.Searches.{lowest}
 use Rattle.language.specs.Kinds.{Child, children}
 use Rattle.language.specs.declared.frame.Frame.{Frame}
-use Rattle.program.specs.Trees.{noFrame, frameAt}
 use Rattle.text.specs.Frames.{framesOf}
 use Rattle.text.proofs.FrameWords.{frames-length}
-use Rattle.layout.specs.declared.found.Found.the-variants.{At, Nowhere}
+use Rattle.program.specs.Trees.{noFrame, frameAt}
+use Rattle.fields.specs.declared.found.Found.the-variants.{At, Nowhere}
+use Rattle.fields.specs.inner.Scans.{found}
+use Rattle.fields.proofs.Seeking.{Seeking, seek-here, seek-next, seek-end}
 use Rattle.layout.specs.Faults.{Fault}
 use Rattle.layout.specs.inner.Scans.{orderFault, depthFault}
-use Rattle.layout.specs.inner.Passes.{found, depthsDown, firstOver}
+use Rattle.layout.specs.inner.Passes.{depthsDown, firstOver}
 use Rattle.layout.proofs.Searches.{Lowest, same-low, lowest-all, lowest-one}
 use Rattle.layout.proofs.Trees.{HasTree, tree-in}
 use Rattle.layout.proofs.Order.{order-low, all-trees}
 use Rattle.layout.proofs.Depths.{seven, depth-low}
 use Rattle.layout.proofs.DepthArray.{over-sound, over-complete, inside}
-use Rattle.layout.proofs.Seeking.{Seeking, seek-here, seek-next, seek-end}
 
 -- ---- what the array says is the lowest frame too deep
 abbrev overTest : List Frame → ℕ → Frame → Bool

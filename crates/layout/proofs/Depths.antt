@@ -9,17 +9,18 @@ use native.Mathlib.Omega.{arith}
 use lib.Dec.{ltb}
 use borrow.Author.Tests.{ltb-true, ltb-false}
 use lib.ListN.{length}
+use Rattle.basics.specs.If.{if_then_else_}
+use Rattle.basics.specs.Members.{In}
+use Rattle.basics.proofs.Ifs.{if-all}
 use Rattle.language.specs.declared.kind.Kind.{Kind}
 use Rattle.language.specs.declared.kind.Kind.the-variants.{Module}
 use Rattle.language.specs.declared.frame.Frame.{Frame}
-use Rattle.basics.specs.If.{if_then_else_}
-use Rattle.basics.specs.Members.{In}
 use Rattle.language.specs.Kinds.{isModule, Child, children}
+use Rattle.language.specs.Limits.{mostDepth}
 use Rattle.program.specs.Trees.{frameAt}
-use Rattle.layout.specs.Depths.{deepest, Depth}
+use Rattle.layout.specs.Depths.{Depth}
 use Rattle.layout.specs.Faults.{Fault}
 use Rattle.layout.specs.inner.Scans.{lowestChild, deepTo, deepIn, firstDeep, depthFault}
-use Rattle.basics.proofs.Ifs.{if-all}
 use Rattle.layout.proofs.Searches.{Lowest, either, same-low}
 use Rattle.layout.proofs.Trees.{is-module, tree-in, HasTree, From, from-next, from-start, Among, none-in, in-body, only-body}
 
@@ -70,7 +71,7 @@ depth-on (Reach.down m r) h = depth-on r (Depth.child h m)
 record Deep (fs : List Frame) (i d j : ℕ) : Type 0 where
   depth : ℕ
   reach : Reach fs i d j depth
-  over : deepest < depth
+  over : mostDepth < depth
 
 -- P of some child
 record Some (P : ℕ → ℕ → Type 0) (cs : List Child) (j : ℕ) : Type 0 where
@@ -87,8 +88,8 @@ child-low P find (c ∷ cs) h = same-low (λ j. ⊎-elim (λ p. record { child =
     split j x In.first p = inl p
     split j x (In.later m) p = inr (record { child = x; among = m; holds = p })
 
-self-low : (i d : ℕ) → Lowest (λ j. (j ≡ i) × (deepest < d)) (if ltb deepest d then some i else none)
-self-low i d = if-all (Lowest (λ j. (j ≡ i) × (deepest < d))) (ltb deepest d) _ _ (λ h. Lowest.lowest-at (refl, ltb-true _ _ h) (λ k p. (let e = p .0 in omega arith))) (λ h. Lowest.nowhere (λ j p. (let a = ltb-false deepest d h in let b = p .1 in omega arith)))
+self-low : (i d : ℕ) → Lowest (λ j. (j ≡ i) × (mostDepth < d)) (if ltb mostDepth d then some i else none)
+self-low i d = if-all (Lowest (λ j. (j ≡ i) × (mostDepth < d))) (ltb mostDepth d) _ _ (λ h. Lowest.lowest-at (refl, ltb-true _ _ h) (λ k p. (let e = p .0 in omega arith))) (λ h. Lowest.nowhere (λ j p. (let a = ltb-false mostDepth d h in let b = p .1 in omega arith)))
 
 module _ (fs : List Frame) (trees : (j : ℕ) → j < length fs → HasTree fs j) where
   deep-low : (n i d : ℕ) → i < n → i < length fs → Lowest (Deep fs i d) (deepTo n fs d i)
@@ -100,10 +101,10 @@ module _ (fs : List Frame) (trees : (j : ℕ) → j < length fs → HasTree fs j
       under : {j : ℕ} (c : Child) → In c (children (frameAt fs i)) → Deep fs (c .at) (suc d) j → Deep fs i d j
       under c m p = record { depth = p .depth; reach = Reach.down m (p .reach); over = p .over }
 
-      self : (j : ℕ) → j ≡ i → deepest < d → Deep fs i d j
+      self : (j : ℕ) → j ≡ i → mostDepth < d → Deep fs i d j
       self j e h = rw e (record { depth = d; reach = Reach.here; over = h })
 
-      split : (j e : ℕ) → Reach fs i d j e → deepest < e → Some (λ c k. Deep fs c (suc d) k) (children (frameAt fs i)) j ⊎ ((j ≡ i) × (deepest < d))
+      split : (j e : ℕ) → Reach fs i d j e → mostDepth < e → Some (λ c k. Deep fs c (suc d) k) (children (frameAt fs i)) j ⊎ ((j ≡ i) × (mostDepth < d))
       split j e Reach.here h = inr (refl, h)
       split j e (Reach.down {c = c} m r) h = inl (record { child = c; among = m; holds = record { depth = e; reach = r; over = h } })
 

@@ -13,9 +13,10 @@ use Rattle.language.specs.Kinds.{Child, children, classOf}
 use Rattle.language.specs.declared.kind.Class.{Class}
 use Rattle.language.specs.declared.frame.Frame.{Frame}
 use Rattle.program.specs.Trees.{frameAt}
-use Rattle.layout.proofs.Searches.{Lowest}
+use Rattle.program.specs.inner.Children.{sameClass}
 use Rattle.layout.specs.Order.{Tree, Row}
-use Rattle.layout.specs.inner.Scans.{Passed, passed, sameClass, rowFirst, firstDisorder}
+use Rattle.layout.specs.inner.Scans.{Passed, passed, rowFirst, firstDisorder}
+use Rattle.layout.proofs.Searches.{Lowest}
 use Rattle.layout.proofs.Trees.{row-le, row-one, HasTree, From, from-next, from-start}
 
 -- ---- classes

@@ -15,18 +15,20 @@ use Rattle.language.specs.declared.kind.Class.{Class}
 use Rattle.language.specs.declared.kind.Use.{Use}
 use Rattle.language.specs.declared.kind.Uses.{Uses}
 use Rattle.language.specs.declared.frame.Frame.{Frame}
-use Rattle.program.specs.Trees.{frameAt}
 use Rattle.text.specs.Frames.{framesOf}
 use Rattle.text.proofs.FrameWords.{frames-end}
-use Rattle.layout.specs.declared.found.Found.{Found}
-use Rattle.layout.specs.declared.found.Found.the-variants.{At, Nowhere}
-use Rattle.layout.specs.declared.frames.ChildRead.{ChildRead}
-use Rattle.layout.specs.declared.frames.ChildRead.the-variants.{ChildAt, NoChild}
-use Rattle.layout.specs.inner.Scans.{Passed, passed, sameClass, rowFirst, firstDisorder}
-use Rattle.layout.specs.inner.Passes.{found, childRead, told, Backward}
+use Rattle.program.specs.Trees.{frameAt}
+use Rattle.program.specs.declared.frames.ChildRead.{ChildRead}
+use Rattle.program.specs.declared.frames.ChildRead.the-variants.{ChildAt, NoChild}
+use Rattle.program.specs.inner.Children.{sameClass, childRead}
+use Rattle.program.proofs.FrameLaws.{frames-next, few, reversed, no-child-is, child-is}
+use Rattle.fields.specs.declared.found.Found.{Found}
+use Rattle.fields.specs.declared.found.Found.the-variants.{At, Nowhere}
+use Rattle.fields.specs.inner.Scans.{found}
+use Rattle.fields.proofs.Finds.{found-none, found-some}
+use Rattle.layout.specs.inner.Scans.{Passed, passed, rowFirst, firstDisorder}
+use Rattle.layout.specs.inner.Passes.{told, Backward}
 use Rattle.layout.proofs.Disorder.{nobody, at-passed}
-use Rattle.layout.proofs.Finds.{found-none, found-some}
-use Rattle.layout.proofs.FrameLaws.{frames-next, few, reversed, no-child-is, child-is}
 
 -- ---- what the array tells
 told-get : (fs : List Frame) (first : List ℕ) (i c : ℕ) → c < i → getD (told fs first i) (i - suc c) nobody ≡ passed (classOf (frameAt fs c .kind)) (getD first c 0)

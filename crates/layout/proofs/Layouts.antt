@@ -9,14 +9,15 @@ use native.Mathlib.Omega.{arith}
 use lib.Dec.{eqb}
 use borrow.Author.Tests.{eqb-true, eqb-false, not-true}
 use lib.ListN.{length}
+use Rattle.basics.proofs.Ifs.{if-all}
 use Rattle.language.specs.declared.frame.Frame.{Frame}
 use Rattle.language.specs.declared.verdict.Verdict.{Verdict}
 use Rattle.language.specs.declared.verdict.Verdict.the-variants.{Accepted, Rejected}
 use Rattle.program.specs.Trees.{noFrame, frameAt}
+use Rattle.fields.specs.Fields.{headerFine, frameFine}
+use Rattle.fields.specs.inner.Scans.{headerFault, fieldFault}
 use Rattle.layout.specs.Faults.{Fault, LayoutSays}
-use Rattle.layout.specs.Fields.{headerFine, frameFine}
-use Rattle.layout.specs.inner.Scans.{headerFault, fieldFault, orderFault, depthFault, rejectAt, layoutOf}
-use Rattle.basics.proofs.Ifs.{if-all}
+use Rattle.layout.specs.inner.Scans.{orderFault, depthFault, rejectAt, layoutOf}
 use Rattle.layout.proofs.Searches.{Lowest, same-low, lowest-all}
 use Rattle.layout.proofs.Order.{order-low, all-trees}
 use Rattle.layout.proofs.Depths.{depth-low}

@@ -15,18 +15,20 @@ use Rattle.language.specs.declared.kind.Class.{Class}
 use Rattle.language.specs.declared.kind.Use.{Use}
 use Rattle.language.specs.declared.kind.Uses.{Uses}
 use Rattle.language.specs.declared.frame.Frame.{Frame}
-use Rattle.program.specs.Trees.{frameAt}
 use Rattle.text.specs.Frames.{framesOf}
 use Rattle.text.proofs.FrameWords.{frames-end}
-use Rattle.layout.specs.declared.found.Found.the-variants.{At, Nowhere}
-use Rattle.layout.specs.declared.frames.ChildRead.{ChildRead}
-use Rattle.layout.specs.declared.frames.ChildRead.the-variants.{ChildAt, NoChild}
+use Rattle.program.specs.Trees.{frameAt}
+use Rattle.program.specs.declared.frames.ChildRead.{ChildRead}
+use Rattle.program.specs.declared.frames.ChildRead.the-variants.{ChildAt, NoChild}
+use Rattle.program.specs.inner.Children.{childRead}
+use Rattle.program.proofs.FrameLaws.{frames-next, no-child-is, child-is, by-fields}
+use Rattle.fields.specs.declared.found.Found.the-variants.{At, Nowhere}
+use Rattle.fields.specs.inner.Scans.{found}
+use Rattle.fields.proofs.Seeking.{Seeking, seek-here, seek-next, seek-end}
 use Rattle.layout.specs.Order.{hasChild, hasClass}
 use Rattle.layout.specs.inner.Scans.{firstLeftover}
-use Rattle.layout.specs.inner.Passes.{found, childRead, marked, marks, markAll}
-use Rattle.layout.proofs.FrameLaws.{frames-next, no-child-is, child-is, by-fields}
+use Rattle.layout.specs.inner.Passes.{marked, marks, markAll}
 use Rattle.layout.proofs.Order.{leftoverTest, leftover-lowest}
-use Rattle.layout.proofs.Seeking.{Seeking, seek-here, seek-next, seek-end}
 
 -- ---- how the code marks
 pub mark-past : (u : List ℕ) (v : ℕ) → 1024 ≤ v → u ≡ marked u v

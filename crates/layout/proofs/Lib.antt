@@ -12,12 +12,6 @@ pub mod Parts
 pub mod Scopes
 pub mod Users
 -- ---- the code: its passes over a text's lines find what Scans computes
-pub mod Finds
-pub mod FrameLaws
-pub mod Seeking
-pub mod FieldLaws
-pub mod Tallies
-pub mod FramePass
 pub mod DisorderPass
 pub mod LeftoverPass
 pub mod OrderPass

@@ -11,19 +11,19 @@ use Rattle.basics.specs.Searches.{any, lowest, earlier}
 use Rattle.basics.proofs.Ifs.{yes, no}
 use Rattle.language.specs.Kinds.{isHeader, isShared, isModule}
 use Rattle.language.specs.declared.frame.Frame.{Frame}
-use Rattle.program.specs.Trees.{frameAt}
 use Rattle.text.specs.Frames.{framesOf}
 use Rattle.text.proofs.FrameWords.{frames-length}
-use Rattle.layout.specs.declared.found.Found.{Found}
-use Rattle.layout.specs.declared.found.Found.the-variants.{At, Nowhere}
+use Rattle.program.specs.Trees.{frameAt}
+use Rattle.program.proofs.FrameLaws.{frames-more}
+use Rattle.fields.specs.declared.found.Found.{Found}
+use Rattle.fields.specs.declared.found.Found.the-variants.{At, Nowhere}
+use Rattle.fields.specs.inner.Scans.{found, optionOf}
+use Rattle.fields.proofs.Finds.{option-found}
+use Rattle.fields.proofs.Seeking.{Seeking, seek-here, seek-next, seek-end}
 use Rattle.layout.specs.Order.{isMain}
 use Rattle.layout.specs.inner.Scans.{firstDisorder, isBehind, firstLeftover, noMain, orderFault}
-use Rattle.layout.specs.inner.Passes.{found, optionOf}
-use Rattle.layout.proofs.Finds.{option-found}
-use Rattle.layout.proofs.FrameLaws.{frames-more}
 use Rattle.layout.proofs.Searches.{any-append}
 use Rattle.layout.proofs.Order.{isOther}
-use Rattle.layout.proofs.Seeking.{Seeking, seek-here, seek-next, seek-end}
 
 -- ---- shared cells behind another kind: `other` says whether there was one before i
 -- `isBehind`, as the contract writes it

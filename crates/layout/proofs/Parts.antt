@@ -5,15 +5,15 @@ use mathlib.Core.List.{List, [], _∷_}
 use Prim.Native.Nat.{ℕ, zero, suc, _+_, _-_, _<_}
 use native.Mathlib.Omega.{arith}
 use lib.ListN.{length}
+use Rattle.basics.proofs.Ifs.{and-true}
 use Rattle.language.specs.declared.kind.Kind.{Kind}
-use Rattle.language.specs.declared.kind.Kind.the-variants.{Header, Shared, Module, Statement, Expression, Unknown}
+use Rattle.language.specs.declared.kind.Kind.the-variants.{Header, Declared, Module, Statement, Expression, Unknown}
 use Rattle.language.specs.declared.frame.Frame.{Frame}
 use Rattle.program.specs.Trees.{frameAt}
 use Rattle.program.specs.Programs.{Part, partOf, withPart, modulesFrom}
-use Rattle.layout.proofs.Placed.{PlacedM}
 use Rattle.layout.specs.Order.{isMain}
 use Rattle.layout.specs.Faults.{Fault}
-use Rattle.basics.proofs.Ifs.{and-true}
+use Rattle.layout.proofs.Placed.{PlacedM}
 use Rattle.layout.proofs.Trees.{is-module, HasTree, From, from-next, from-start, one-of, row-of}
 use Rattle.layout.proofs.Decoded.{placed-stmt}
 
@@ -21,7 +21,7 @@ module _ (fs : List Frame) (trees : (j : ℕ) → j < length fs → HasTree fs j
   with-part : (i : ℕ) (k : Kind) → frameAt fs i .kind ≡ k → HasTree fs i → (ps : List Part) → PlacedM ps → PlacedM (withPart fs i (frameAt fs i) k ps)
   with-part i Module e t ps h = PlacedM.more (placed-stmt fs _ _ (one-of (row-of Module i _ e (t .tree)) .tree)) h
   with-part i Header e t ps h = h
-  with-part i Shared e t ps h = h
+  with-part i (Declared d) e t ps h = h
   with-part i (Statement k) e t ps h = h
   with-part i (Expression k) e t ps h = h
   with-part i Unknown e t ps h = h
@@ -47,7 +47,7 @@ pub record NonEmpty (ps : List Part) : Type 0 where
 with-some : (fs : List Frame) (i : ℕ) (f : Frame) (k : Kind) (ps : List Part) → NonEmpty ps → NonEmpty (withPart fs i f k ps)
 with-some fs i f Module ps h = record { head = partOf fs i f; tail = ps; same = refl }
 with-some fs i f Header ps h = h
-with-some fs i f Shared ps h = h
+with-some fs i f (Declared d) ps h = h
 with-some fs i f (Statement k) ps h = h
 with-some fs i f (Expression k) ps h = h
 with-some fs i f Unknown ps h = h

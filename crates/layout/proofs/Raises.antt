@@ -13,10 +13,11 @@ use Rattle.language.specs.declared.kind.Use.{Use}
 use Rattle.language.specs.declared.kind.Uses.{Uses}
 use Rattle.language.specs.declared.frame.Frame.{Frame}
 use Rattle.program.specs.Trees.{frameAt}
-use Rattle.layout.specs.declared.frames.ChildRead.{ChildRead}
-use Rattle.layout.specs.declared.frames.ChildRead.the-variants.{ChildAt, NoChild}
-use Rattle.layout.specs.inner.Passes.{childRead, given, raised, raisedAll, depthsDown}
-use Rattle.layout.proofs.FrameLaws.{no-child-is, child-is, by-fields}
+use Rattle.program.specs.declared.frames.ChildRead.{ChildRead}
+use Rattle.program.specs.declared.frames.ChildRead.the-variants.{ChildAt, NoChild}
+use Rattle.program.specs.inner.Children.{childRead}
+use Rattle.program.proofs.FrameLaws.{no-child-is, child-is, by-fields}
+use Rattle.layout.specs.inner.Passes.{given, raised, raisedAll, depthsDown}
 
 -- ---- one depth
 pub raise-past : (u : List ℕ) (d v : ℕ) → 1024 ≤ v → u ≡ raised u d v

@@ -13,7 +13,8 @@ use Rattle.basics.proofs.Ifs.{and-true}
 use Rattle.language.specs.Kinds.{isShared, uses, Child, childIn, children}
 use Rattle.language.specs.declared.kind.StatementKind.the-variants.{Let}
 use Rattle.language.specs.declared.kind.Kind.{Kind}
-use Rattle.language.specs.declared.kind.Kind.the-variants.{Shared, Module, Statement}
+use Rattle.language.specs.declared.kind.DeclarationKind.the-variants.{Shared}
+use Rattle.language.specs.declared.kind.Kind.the-variants.{Declared, Module, Statement}
 use Rattle.language.specs.declared.kind.Use.{Use}
 use Rattle.language.specs.declared.frame.Frame.{Frame}
 use Rattle.language.specs.declared.verdict.Verdict.the-variants.{Accepted}
@@ -21,18 +22,18 @@ use Rattle.language.proofs.PlaceLaws.{has-place}
 use Rattle.program.specs.Trees.{noFrame, frameAt}
 use Rattle.program.specs.inner.Ordered.{Placed}
 use Rattle.program.specs.Programs.{sharedOf, programOf, typeOfShared}
-use Rattle.layout.specs.Fields.{schedulersOf, fieldFine, countOf, kindFine, frameFine}
+use Rattle.program.proofs.NodeLaws.{childrenAs, children-as}
+use Rattle.fields.specs.Fields.{schedulersOf, fieldFine, countOf, kindFine, frameFine}
+use Rattle.fields.proofs.Tallies.{is-shared, count-cells, counted-one, counted-none}
+use Rattle.fields.proofs.FramePass.{fine-parts}
 use Rattle.layout.specs.Order.{isMain}
 use Rattle.layout.specs.Depths.{Depth}
 use Rattle.layout.specs.Faults.{Fault, NoFault, LayoutSays}
 use Rattle.layout.specs.inner.Scans.{layoutOf}
 use Rattle.layout.specs.inner.Scope.{Room}
-use Rattle.program.proofs.NodeLaws.{childrenAs, children-as}
 use Rattle.layout.proofs.Trees.{is-module, tree-in}
 use Rattle.layout.proofs.Order.{all-trees}
 use Rattle.layout.proofs.Layouts.{layout-says, layout-one}
-use Rattle.layout.proofs.Tallies.{is-shared, count-cells, counted-one, counted-none}
-use Rattle.layout.proofs.FramePass.{fine-parts}
 
 -- ---- the verdict and the faults
 pub accepted-no-fault : (fs : List Frame) → 0 < length fs → layoutOf fs ≡ Accepted → NoFault fs
@@ -139,7 +140,7 @@ module _ (fs : List Frame) (fine : NoFault fs) where
   counts-all test h = let a = counts test h (length fs) (omega arith) in let e = ap (countOf test) (take-length fs) in omega arith
 
   shared-few : (i : ℕ) → i < length fs → isShared (frameAt fs i .kind) ≡ true → countOf isShared (take i fs) < 16
-  shared-few i l e = let k : frameAt fs i .kind ≡ Shared = is-shared _ e in ltb-true _ 16 (ap (kindFine fs i) (sym k) ∙ fine-parts fs i (frameAt fs i) (frame-right i l) .0)
+  shared-few i l e = let k : frameAt fs i .kind ≡ Declared Shared = is-shared _ e in ltb-true _ 16 (ap (kindFine fs i) (sym k) ∙ fine-parts fs i (frameAt fs i) (frame-right i l) .0)
 
   -- 'shared cells (at most 16)'
   pub cells-most : length (programOf fs .shared) ≤ 16

@@ -1,14 +1,14 @@
 -- Laws of trees and rows of frames: where they begin, which children they have, what is a child of a known kind of frame. Assumes nothing.
 use mathlib.Core.Bool.{true, true≢false}
-use mathlib.Core.List.{List, [], _∷_, _++_}
-use mathlib.Core.Path.{_≡_, refl, sym, ap}
+use mathlib.Core.List.{List, [], _∷_}
+use mathlib.Core.Path.{_≡_, refl, sym}
 use Prim.Native.Nat.{ℕ, suc, _+_, _≤_, _<_}
 use native.Mathlib.Omega.{arith}
 use lib.ListN.{length}
 use Rattle.basics.specs.Members.{In}
-use Rattle.language.specs.Kinds.{isModule, Child, children, uses, childIn}
+use Rattle.language.specs.Kinds.{isModule, Child, children}
 use Rattle.language.specs.declared.kind.Class.{Class}
-use Rattle.language.specs.declared.kind.Kind.the-variants.{Header, Shared, Module, Statement, Expression, Unknown}
+use Rattle.language.specs.declared.kind.Kind.the-variants.{Header, Declared, Module, Statement, Expression, Unknown}
 use Rattle.language.specs.declared.kind.Kind.{Kind}
 use Rattle.language.specs.declared.frame.Frame.{Frame}
 use Rattle.program.specs.Trees.{frameAt}
@@ -17,7 +17,7 @@ use Rattle.layout.specs.Order.{Tree, Row}
 
 pub is-module : (k : Kind) → isModule k ≡ true → k ≡ Module
 is-module Header h = absurd (true≢false (sym h))
-is-module Shared h = absurd (true≢false (sym h))
+is-module (Declared d) h = absurd (true≢false (sym h))
 is-module Module h = refl
 is-module (Statement k) h = absurd (true≢false (sym h))
 is-module (Expression k) h = absurd (true≢false (sym h))

@@ -10,15 +10,16 @@ use borrow.Author.Tests.{ltb-true, ltb-false, leb-true, leb-false, eqb-true, eqb
 use Rattle.basics.specs.Members.{In}
 use Rattle.basics.specs.Searches.{any}
 use Rattle.language.specs.Kinds.{classOf, Child, children}
+use Rattle.language.specs.declared.kind.DeclarationKind.the-variants.{Shared}
 use Rattle.language.specs.declared.kind.Kind.{Kind}
-use Rattle.language.specs.declared.kind.Kind.the-variants.{Header, Shared, Module, Statement, Expression, Unknown}
+use Rattle.language.specs.declared.kind.Kind.the-variants.{Header, Declared, Module, Statement, Expression, Unknown}
 use Rattle.language.specs.declared.frame.Frame.{Frame}
 use Rattle.program.specs.Trees.{noFrame, frameAt}
+use Rattle.program.proofs.NodeLaws.{childrenAs, children-as}
 use Rattle.layout.specs.Order.{Tree, Row, hasChild, hasClass}
 use Rattle.layout.specs.Depths.{Depth}
 use Rattle.layout.specs.Faults.{Fault, NoFault}
 use Rattle.layout.proofs.Searches.{any-true, any-false}
-use Rattle.program.proofs.NodeLaws.{childrenAs, children-as}
 use Rattle.layout.proofs.Trees.{tree-le, tree-one, tree-in, HasTree, Among, none-in}
 use Rattle.layout.proofs.Order.{all-trees}
 use Rattle.layout.proofs.Depths.{body-depth, child-depth}
@@ -119,7 +120,7 @@ parent f c m = go (f .kind) refl
     go (Statement k) e = Parent.of-class (ap (λ (q : Kind). hasClass (classOf q)) e)
     go (Expression k) e = Parent.of-class (ap (λ (q : Kind). hasClass (classOf q)) e)
     go Header e = absurd (none-in (as-kind f Header e m))
-    go Shared e = absurd (none-in (as-kind f Shared e m))
+    go (Declared Shared) e = absurd (none-in (as-kind f (Declared Shared) e m))
     go Unknown e = absurd (none-in (as-kind f Unknown e m))
 
 module _ (fs : List Frame) (fine : NoFault fs) where

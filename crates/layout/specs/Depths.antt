@@ -9,10 +9,6 @@ use Rattle.language.specs.declared.kind.Kind.the-variants.{Module}
 use Rattle.language.specs.declared.frame.Frame.{Frame}
 use Rattle.program.specs.Trees.{frameAt}
 
--- 'the whole tree is at most 24 deep'
-abbrev pub deepest : ℕ
-deepest = 24
-
 -- `Depth fs i d`: frame i stands at the depth d. 'A body stands at depth 1, a child one deeper'
 pub data Depth (fs : List Frame) : ℕ → ℕ → Type 0 where
   body : {i : ℕ} → i < length fs → frameAt fs i .kind ≡ Module → Depth fs (frameAt fs i .a) 1

@@ -9,35 +9,37 @@ use Rattle.language.specs.Kinds.{isHeader, isShared, classOf}
 use Rattle.language.specs.declared.frame.Frame.{Frame}
 use Rattle.language.specs.declared.verdict.Verdict.{Verdict}
 use Rattle.language.specs.declared.verdict.Verdict.the-variants.{Accepted, Rejected}
+use Rattle.language.specs.Refusals.{wrongHeader, wrongField, wrongOrder, tooDeep}
+use Rattle.language.specs.Limits.{mostDepth}
 use Rattle.program.specs.Trees.{frameAt}
-use Rattle.layout.specs.Fields.{headerFine, frameFine}
+use Rattle.fields.specs.Fields.{headerFine, frameFine}
 use Rattle.layout.specs.Order.{Tree, hasChild, hasClass, isMain}
-use Rattle.layout.specs.Depths.{deepest, Depth}
+use Rattle.layout.specs.Depths.{Depth}
 
 -- `Fault fs n j`: the frame j has the fault n
 pub data Fault (fs : List Frame) : ℕ → ℕ → Type 0 where
-  header : headerFine (frameAt fs 0) ≡ false → Fault fs 4 0
+  header : headerFine (frameAt fs 0) ≡ false → Fault fs wrongHeader 0
   -- 'kind (a later 00 too), field .., type word, owner, a 17th shared cell or module, or a place that the file lacks'
-  field : {j : ℕ} → j < length fs → frameFine fs j (frameAt fs j) ≡ false → Fault fs 5 j
+  field : {j : ℕ} → j < length fs → frameFine fs j (frameAt fs j) ≡ false → Fault fs wrongField j
   -- 'order, a child of the wrong class': no tree ends at j
-  order : {j : ℕ} → j < length fs → ((lo : ℕ) → Tree fs lo j → ⊥) → Fault fs 6 j
+  order : {j : ℕ} → j < length fs → ((lo : ℕ) → Tree fs lo j → ⊥) → Fault fs wrongOrder j
   -- 'Frames stand as header, shared cells .., then the rest': the shared cell j is behind another kind
   behind : {i j : ℕ}
       → i < j
       → j < length fs
       → isShared (frameAt fs j .kind) ≡ true
       → (isHeader (frameAt fs i .kind) || isShared (frameAt fs i .kind)) ≡ false
-      → Fault fs 6 j
+      → Fault fs wrongOrder j
   -- 'a leftover frame (a statement or expression that no frame has as a child)'
   leftover : {j : ℕ}
       → j < length fs
       → hasClass (classOf (frameAt fs j .kind)) ≡ true
       → ((i : ℕ) → i < length fs → hasChild j (frameAt fs i) ≡ false)
-      → Fault fs 6 j
+      → Fault fs wrongOrder j
   -- 'no main last (frame: that last frame)'
-  main : {j : ℕ} → suc j ≡ length fs → isMain (frameAt fs j) ≡ false → Fault fs 6 j
+  main : {j : ℕ} → suc j ≡ length fs → isMain (frameAt fs j) ≡ false → Fault fs wrongOrder j
   -- 'the whole tree is at most 24 deep'
-  depth : {j d : ℕ} → Depth fs j d → deepest < d → Fault fs 7 j
+  depth : {j d : ℕ} → Depth fs j d → mostDepth < d → Fault fs tooDeep j
 
 -- the file passes refusals 4 to 7
 abbrev pub NoFault : List Frame → Type 0

@@ -5,8 +5,7 @@ use Prim.Native.Nat.{ℕ}
 use Rattle.language.specs.declared.frame.Frame.{Frame}
 use Rattle.language.specs.declared.verdict.Verdict.{Verdict}
 use Rattle.language.specs.declared.verdict.Verdict.the-variants.{Accepted, Rejected}
-use Rattle.text.specs.Reading.{Reading, frames, refused, reading, Reads, linesRead, textWords}
-use Rattle.layout.specs.declared.LaidOut.{LaidOut}
+use Rattle.text.specs.Reading.{Reading, frames, refused, Reads}
 use Rattle.layout.specs.Faults.{LayoutSays}
 use Rattle.layout.specs.inner.Scans.{layoutOf}
 
@@ -20,17 +19,6 @@ pub record Judged (bs : List ℕ) (v : Verdict) : Type 0 where
   pub says : HasLayout bs v
   pub only : (other : Verdict) → HasLayout bs other → other ≡ v
 
--- ---- as functions; proofs/Accepted shows that `layoutVerdict` gives the one v that `HasLayout` allows
-
--- 1 to 3, then 4 to 7
-abbrev pub layoutRead : Reading → Verdict
-layoutRead (frames fs) = layoutOf fs
-layoutRead (refused n j) = Rejected n j
-
--- what the check of the layout answers; `Accepted` where the text passes 1 to 7
-unfoldable pub layoutVerdict : List ℕ → Verdict
-layoutVerdict bs = layoutRead (reading bs)
-
 -- ---- 'after 1 to 7': what a text comes to, from what a refusal of it and what the frames of one that passes come to
 
 abbrev pub afterLayout : {A : Type 0} → (ℕ → ℕ → A) → A → Verdict → A
@@ -40,9 +28,3 @@ afterLayout refusal passed (Rejected n j) = refusal n j
 abbrev pub afterReading : {A : Type 0} → (ℕ → ℕ → A) → (List Frame → A) → Reading → A
 afterReading refusal passed (frames fs) = afterLayout refusal (passed fs) (layoutOf fs)
 afterReading refusal passed (refused n j) = refusal n j
-
--- ---- what the code gives
-
--- with the lines that were read, and how many they are
-unfoldable pub laidOut : List ℕ → LaidOut
-laidOut bs = record { verdict = layoutVerdict bs; count = linesRead (reading bs); words = textWords bs .words }

@@ -1,4 +1,3 @@
-pub mod Fields
 pub mod Order
 pub mod Depths
 pub mod Faults

@@ -2,3 +2,4 @@
 pub mod Scans
 pub mod Passes
 pub mod Scope
+pub mod Layouts

@@ -1,27 +1,31 @@
 // Refusal 7: the depth of frames, from the last frame to the first, since parents stand behind their children.
-use crate::found::Found;
-use crate::frames::ChildRead;
-use crate::frames::child_in;
-use crate::frames::frame_at;
+use fields::found::Found;
 use language::frame::Frame;
 use language::kind::Use;
 use language::kind::is_module;
 use language::kind::uses_of;
+use language::limit::MOST_DEPTH;
+use language::limit::MOST_LINES;
+use program::frames::ChildRead;
+use program::frames::child_in;
+use program::frames::frame_at;
 ghost use mathlib.Core.Path.{_≡_};
 ghost use mathlib.Core.Option.{none};
 ghost use Prim.Native.Nat.{_<_, _≤_};
 ghost use lib.ListN.{length};
 ghost use Rattle.language.specs.Kinds.{childIn, children};
+ghost use Rattle.language.specs.Limits.{mostLines};
 ghost use Rattle.text.specs.Frames.{framesOf};
+ghost use Rattle.fields.specs.inner.Scans.{found};
 ghost use Rattle.layout.specs.inner.Scans.{orderFault, depthFault};
-ghost use Rattle.layout.specs.inner.Passes.{found, given, raised, raisedAll, depthsDown};
+ghost use Rattle.layout.specs.inner.Passes.{given, raised, raisedAll, depthsDown};
 
 // At v a depth of at least d. A number behind the last frame raises nothing.
-fn raise(u: &mut [u8; 1024], d: u8, v: u16)
+fn raise(u: &mut [u8; MOST_LINES], d: u8, v: u16)
     ensures { λ r. ⌜ now (u .exit) ≡ raised (now (u .entry)) d v ⌝ }
 {
     let j = v as usize;
-    if 1024 <= j {
+    if MOST_LINES <= j {
         return;
     }
     if d <= u[j] {
@@ -30,7 +34,7 @@ fn raise(u: &mut [u8; 1024], d: u8, v: u16)
     u[j] = d;
 }
 
-fn raise_field(u: &mut [u8; 1024], d: u8, k: Use, v: u16)
+fn raise_field(u: &mut [u8; MOST_LINES], d: u8, k: Use, v: u16)
     ensures { λ r. ⌜ now (u .exit) ≡ raisedAll (now (u .entry)) d (childIn k v) ⌝ }
 {
     match child_in(k, v) {
@@ -44,7 +48,7 @@ fn raise_field(u: &mut [u8; 1024], d: u8, k: Use, v: u16)
     }
 }
 
-fn raise_frame(u: &mut [u8; 1024], d: u8, f: Frame)
+fn raise_frame(u: &mut [u8; MOST_LINES], d: u8, f: Frame)
     ensures { λ r. ⌜ now (u .exit) ≡ raisedAll (now (u .entry)) d (children f) ⌝ }
 {
     let kind = f.kind;
@@ -57,7 +61,10 @@ fn raise_frame(u: &mut [u8; 1024], d: u8, f: Frame)
     raise_field(u, d, uc, f.c);
 }
 
-// The depth of the children of f, which stands at the depth d, or at none where d is 0. 25 stands for every depth over 24.
+// Stands for every depth that is too deep.
+const OVER: u8 = MOST_DEPTH + 1;
+
+// The depth of the children of f, which stands at the depth d, or at none where d is 0.
 fn given_by(f: Frame, d: u8) -> u8
     ensures { λ r. ⌜ r ≡ given f d ⌝ }
 {
@@ -68,14 +75,14 @@ fn given_by(f: Frame, d: u8) -> u8
         }
         return 0;
     }
-    if d < 25 {
+    if d < OVER {
         return d + 1;
     }
-    25
+    OVER
 }
 
-fn depths_down(words: &[u64], u: &mut [u8; 1024])
-    requires { ⌜ length (now words) ≤ 1024 ⌝ }
+fn depths_down(words: &[u64], u: &mut [u8; MOST_LINES])
+    requires { ⌜ length (now words) ≤ mostLines ⌝ }
     ensures { λ r. ⌜ now (u .exit) ≡ depthsDown (length (now (words .entry))) (framesOf (now (words .entry))) (now (u .entry)) ⌝ }
 {
     let mut n = words.len();
@@ -89,14 +96,14 @@ fn depths_down(words: &[u64], u: &mut [u8; 1024])
 
 // The lowest frame deeper than 24. Without a fault 6 the children of each frame stand before it; only then does one pass see every parent before its children.
 pub(crate) fn depth(words: &[u64]) -> Found
-    requires { ⌜ (0 < length (now words)) × (length (now words) ≤ 1024) × (orderFault (framesOf (now words)) ≡ none) ⌝ }
+    requires { ⌜ (0 < length (now words)) × (length (now words) ≤ mostLines) × (orderFault (framesOf (now words)) ≡ none) ⌝ }
     ensures { λ r. ⌜ r ≡ found (depthFault (framesOf (now (words .entry)))) ⌝ }
 {
-    let mut u = [0u8; 1024];
+    let mut u = [0u8; MOST_LINES];
     depths_down(words, &mut u);
     let mut i = 0;
     while i < words.len() {
-        if u[i] > 24 {
+        if u[i] > MOST_DEPTH {
             return Found::At(i as u16);
         }
         i += 1;

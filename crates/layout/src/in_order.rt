@@ -1,10 +1,6 @@
 // Refusal 6: the order of frames.
-use crate::found::Found;
-use crate::found::lower;
-use crate::frames::ChildRead;
-use crate::frames::child_in;
-use crate::frames::frame_at;
-use crate::frames::same_class;
+use fields::found::Found;
+use fields::found::lower;
 use language::frame::Frame;
 use language::kind::Class;
 use language::kind::Kind;
@@ -14,6 +10,11 @@ use language::kind::is_header;
 use language::kind::is_module;
 use language::kind::is_shared;
 use language::kind::uses_of;
+use language::limit::MOST_LINES;
+use program::frames::ChildRead;
+use program::frames::child_in;
+use program::frames::frame_at;
+use program::frames::same_class;
 ghost use mathlib.Core.Path.{_≡_};
 ghost use mathlib.Core.Bool.{not, _&&_, _||_};
 ghost use mathlib.Core.List.{[], _∷_, reverse};
@@ -23,21 +24,23 @@ ghost use lib.ListN.{length};
 ghost use Rattle.basics.specs.Searches.{lowest};
 ghost use Rattle.language.specs.Kinds.{isHeader, isShared, child, childIn, children};
 ghost use Rattle.language.specs.declared.frame.Frame.{Frame};
+ghost use Rattle.language.specs.Limits.{mostLines};
 ghost use Rattle.text.specs.Frames.{framesOf};
+ghost use Rattle.fields.specs.inner.Scans.{found};
 ghost use Rattle.layout.specs.Order.{hasClass, isMain};
 ghost use Rattle.layout.specs.inner.Scans.{rowFirst, firstDisorder, isBehind, firstLeftover, noMain, orderFault};
-ghost use Rattle.layout.specs.inner.Passes.{found, told, Backward, marked, marks, markAll};
+ghost use Rattle.layout.specs.inner.Passes.{told, Backward, marked, marks, markAll};
 
 // Where the tree of the child v begins, which is to be of that class and to end just before `stop`; `first` says where the tree of each frame before i begins. A row ends at i or before, so that a number from i on is out of order.
 fn child_first(
     words: &[u64],
-    first: &[u16; 1024],
+    first: &[u16; MOST_LINES],
     i: usize,
     class: Class,
     v: u16,
     stop: u16,
 ) -> Found
-    requires { ⌜ (i ≤ length (now words)) × (length (now words) ≤ 1024) × (stop ≤ i) ⌝ }
+    requires { ⌜ (i ≤ length (now words)) × (length (now words) ≤ mostLines) × (stop ≤ i) ⌝ }
     ensures { λ r. ⌜ r ≡ found (rowFirst (told (framesOf (now (words .entry))) (now (first .entry)) i) i stop (child class v ∷ [])) ⌝ }
 {
     let j = v as usize;
@@ -56,8 +59,15 @@ fn child_first(
 }
 
 // The same for the child that a field names, if it names one.
-fn field_first(words: &[u64], first: &[u16; 1024], i: usize, u: Use, v: u16, stop: u16) -> Found
-    requires { ⌜ (i ≤ length (now words)) × (length (now words) ≤ 1024) × (stop ≤ i) ⌝ }
+fn field_first(
+    words: &[u64],
+    first: &[u16; MOST_LINES],
+    i: usize,
+    u: Use,
+    v: u16,
+    stop: u16,
+) -> Found
+    requires { ⌜ (i ≤ length (now words)) × (length (now words) ≤ mostLines) × (stop ≤ i) ⌝ }
     ensures { λ r. ⌜ r ≡ found (rowFirst (told (framesOf (now (words .entry))) (now (first .entry)) i) i stop (childIn u v)) ⌝ }
 {
     match child_in(u, v) {
@@ -67,8 +77,8 @@ fn field_first(words: &[u64], first: &[u16; 1024], i: usize, u: Use, v: u16, sto
 }
 
 // Where the tree of frame i begins, from its last child to its first. `Backward` keeps each row's end from moving past i.
-fn row_first(words: &[u64], first: &[u16; 1024], i: usize, f: Frame) -> Found
-    requires { ⌜ (i ≤ length (now words)) × (length (now words) ≤ 1024) × Backward (now first) i ⌝ }
+fn row_first(words: &[u64], first: &[u16; MOST_LINES], i: usize, f: Frame) -> Found
+    requires { ⌜ (i ≤ length (now words)) × (length (now words) ≤ mostLines) × Backward (now first) i ⌝ }
     ensures { λ r. ⌜ r ≡ found (rowFirst (told (framesOf (now (words .entry))) (now (first .entry)) i) i i (reverse (children f))) ⌝ }
 {
     let kind = f.kind;
@@ -87,10 +97,10 @@ fn row_first(words: &[u64], first: &[u16; 1024], i: usize, f: Frame) -> Found
 
 // The lowest frame whose children are out of order or of a wrong class.
 fn disorder(words: &[u64]) -> Found
-    requires { ⌜ length (now words) ≤ 1024 ⌝ }
+    requires { ⌜ length (now words) ≤ mostLines ⌝ }
     ensures { λ r. ⌜ r ≡ found (firstDisorder [] 0 (framesOf (now (words .entry)))) ⌝ }
 {
-    let mut first = [0u16; 1024];
+    let mut first = [0u16; MOST_LINES];
     let mut i = 0;
     while i < words.len() {
         let f = frame_at(words, i);
@@ -128,7 +138,7 @@ fn is_other(k: Kind) -> bool
 
 // The lowest shared cell behind another kind.
 fn behind(words: &[u64]) -> Found
-    requires { ⌜ length (now words) ≤ 1024 ⌝ }
+    requires { ⌜ length (now words) ≤ mostLines ⌝ }
     ensures { λ r. ⌜ r ≡ found (lowest (λ (i : ℕ) (f : Frame). isBehind (framesOf (now (words .entry))) i f) 0 (framesOf (now (words .entry)))) ⌝ }
 {
     let mut other = false;
@@ -156,17 +166,17 @@ fn is_late(k: Kind, other: bool) -> bool
 }
 
 // Each array of marks has a 1 at the frames that some frame has as a child. A number behind the last frame marks nothing.
-fn mark(used: &mut [u8; 1024], v: u16)
+fn mark(used: &mut [u8; MOST_LINES], v: u16)
     ensures { λ r. ⌜ now (used .exit) ≡ marked (now (used .entry)) v ⌝ }
 {
     let j = v as usize;
-    if 1024 <= j {
+    if MOST_LINES <= j {
         return;
     }
     used[j] = 1;
 }
 
-fn mark_field(used: &mut [u8; 1024], u: Use, v: u16)
+fn mark_field(used: &mut [u8; MOST_LINES], u: Use, v: u16)
     ensures { λ r. ⌜ now (used .exit) ≡ marks (now (used .entry)) (childIn u v) ⌝ }
 {
     match child_in(u, v) {
@@ -180,7 +190,7 @@ fn mark_field(used: &mut [u8; 1024], u: Use, v: u16)
     }
 }
 
-fn mark_frame(used: &mut [u8; 1024], f: Frame)
+fn mark_frame(used: &mut [u8; MOST_LINES], f: Frame)
     ensures { λ r. ⌜ now (used .exit) ≡ marks (now (used .entry)) (children f) ⌝ }
 {
     let kind = f.kind;
@@ -193,7 +203,7 @@ fn mark_frame(used: &mut [u8; 1024], f: Frame)
     mark_field(used, uc, f.c);
 }
 
-fn mark_all(words: &[u64], used: &mut [u8; 1024])
+fn mark_all(words: &[u64], used: &mut [u8; MOST_LINES])
     ensures { λ r. ⌜ now (used .exit) ≡ markAll (now (used .entry)) (framesOf (now (words .entry))) ⌝ }
 {
     let mut i = 0;
@@ -217,10 +227,10 @@ fn is_left(k: Class, mark: u8) -> bool
 
 // The lowest statement or expression that no frame has as a child.
 fn leftover(words: &[u64]) -> Found
-    requires { ⌜ length (now words) ≤ 1024 ⌝ }
+    requires { ⌜ length (now words) ≤ mostLines ⌝ }
     ensures { λ r. ⌜ r ≡ found (firstLeftover (framesOf (now (words .entry))) 0 (framesOf (now (words .entry)))) ⌝ }
 {
-    let mut used = [0u8; 1024];
+    let mut used = [0u8; MOST_LINES];
     mark_all(words, &mut used);
     let mut i = 0;
     while i < words.len() {
@@ -246,7 +256,7 @@ fn is_main(f: Frame) -> bool
 
 // The last frame, if it is not `main`.
 fn no_main(words: &[u64]) -> Found
-    requires { ⌜ (0 < length (now words)) × (length (now words) ≤ 1024) ⌝ }
+    requires { ⌜ (0 < length (now words)) × (length (now words) ≤ mostLines) ⌝ }
     ensures { λ r. ⌜ r ≡ found (noMain (framesOf (now (words .entry)))) ⌝ }
 {
     let last = words.len() - 1;
@@ -258,7 +268,7 @@ fn no_main(words: &[u64]) -> Found
 
 // The lowest frame with a fault 6.
 pub(crate) fn order(words: &[u64]) -> Found
-    requires { ⌜ (0 < length (now words)) × (length (now words) ≤ 1024) ⌝ }
+    requires { ⌜ (0 < length (now words)) × (length (now words) ≤ mostLines) ⌝ }
     ensures { λ r. ⌜ r ≡ found (orderFault (framesOf (now (words .entry)))) ⌝ }
 {
     let d = disorder(words);

@@ -2,9 +2,10 @@
 // are frames, up to the first that is none. Of a file that cannot be read, nothing.
 use files::print;
 use files::read_file;
+use language::limit::MOST_BYTES;
 
 fn main() {
-    let mut text = [0u8; 17408];
+    let mut text = [0u8; MOST_BYTES];
     let file = read_file(b"prog.txt", &mut text);
     if !file.readable {
         return;

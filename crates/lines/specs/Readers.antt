@@ -6,6 +6,7 @@ use lib.Dec.{ltb}
 use lib.ListN.{length}
 use denote.Ref.{RefT, now}
 use Rattle.basics.specs.If.{if_then_else_}
+use Rattle.language.specs.Limits.{lineLength, mostLines}
 use Rattle.text.specs.inner.Lines.{frameRead}
 use Rattle.text.specs.declared.line.FrameRead.{FrameRead}
 use Rattle.text.specs.declared.line.FrameRead.the-variants.{Read, NoFrame}
@@ -15,11 +16,11 @@ use Rattle.lines.specs.declared.LineReader.{LineReader}
 
 -- the line behind line n; behind the last whole line there is none, and the number stays
 unfoldable pub lineAfter : List ℕ → ℕ → ℕ
-lineAfter bs n = if ltb n (length bs / 17) then suc n else n
+lineAfter bs n = if ltb n (length bs / lineLength) then suc n else n
 
 -- how many whole lines there are from line n on
 unfoldable pub linesFrom : List ℕ → ℕ → ℕ
-linesFrom bs n = length bs / 17 - n
+linesFrom bs n = length bs / lineLength - n
 
 abbrev pub isRead : FrameRead → Bool
 isRead (Read f) = true
@@ -34,7 +35,7 @@ framesOfNext (suc k) bs n =
 
 -- how many lines from line n on are frames, up to the first that is none; a frame's number is below 1024
 unfoldable pub framesFrom : List ℕ → ℕ → ℕ
-framesFrom bs n = framesOfNext (1024 - n) bs n
+framesFrom bs n = framesOfNext (mostLines - n) bs n
 
 -- ---- of a reader
 

@@ -1,5 +1,7 @@
 // A reader of a text's lines: it holds the caller's text and the number of the next line. What has a reader in it is proved by
 // a walk by hand, so each such function is thin, and the work is in covered functions on the text and the number.
+use language::limit::LINE_LENGTH;
+use language::limit::MOST_LINES;
 use text::line::FrameRead;
 use text::line::frame_at;
 ghost use mathlib.Core.Path.{_≡_};
@@ -15,7 +17,7 @@ pub struct LineReader<'a> {
 fn line_after(text: &[u8], n: usize) -> usize
     ensures { λ r. ⌜ r ≡ lineAfter (now (text .entry)) n ⌝ }
 {
-    if text.len() / 17 <= n {
+    if text.len() / LINE_LENGTH <= n {
         return n;
     }
     n + 1
@@ -25,7 +27,7 @@ fn line_after(text: &[u8], n: usize) -> usize
 fn lines_from(text: &[u8], n: usize) -> usize
     ensures { λ r. ⌜ r ≡ linesFrom (now (text .entry)) n ⌝ }
 {
-    let lines = text.len() / 17;
+    let lines = text.len() / LINE_LENGTH;
     if lines <= n {
         return 0;
     }
@@ -46,7 +48,7 @@ fn frames_from(text: &[u8], n: usize) -> usize
     ensures { λ r. ⌜ r ≡ framesFrom (now (text .entry)) n ⌝ }
 {
     let mut at = n;
-    while at < 1024 {
+    while at < MOST_LINES {
         if !is_read(frame_at(text, at)) {
             return at - n;
         }

@@ -9,8 +9,10 @@ use Rattle.language.specs.declared.frame.Frame.{Frame}
 use Rattle.language.specs.Verdicts.{numberOf, frameOf}
 use Rattle.language.specs.declared.verdict.Verdict.{Verdict}
 use Rattle.language.specs.declared.verdict.Verdict.the-variants.{Accepted, Rejected}
-use Rattle.program.specs.Programs.{Program, programOf}
+use Rattle.language.specs.Limits.{mostChoiceBytes}
+use Rattle.language.specs.Refusals.{longText, malformedText, tooDeep}
 use Rattle.text.specs.Digits.{digit}
+use Rattle.program.specs.Programs.{Program, programOf}
 use Rattle.machine.specs.State.{usedCells}
 use Rattle.machine.specs.Turns.{Stepped}
 use Rattle.machine.specs.Runs.{steps}
@@ -46,7 +48,7 @@ checkLine v = refusalLine (numberOf v) (frameOf v)
 -- '`run` prints that line, then after 1 to 7 stops.'
 abbrev pub stops : Verdict → Bool
 stops Accepted = false
-stops (Rejected n i) = leb n 7
+stops (Rejected n i) = leb n tooDeep
 
 -- ---- choices.txt
 
@@ -106,11 +108,11 @@ runLines p cs =
 
 abbrev pub linesOf : Program → Choices → List ℕ
 linesOf p (choices cs) = runLines p cs
-linesOf p (malformed k) = refusalLine 3 k
+linesOf p (malformed k) = refusalLine malformedText k
 
 -- behind the check's line, from the bytes of choices.txt, which are judged whole before any step: 'over 49,152 bytes prints `02 0000`, else the first malformed one `03` and its line'
 unfoldable pub choicesListing : Program → List ℕ → List ℕ
-choicesListing p bytes = elim (ltb 49152 (length bytes)) [ true ↦ refusalLine 2 0 | false ↦ linesOf p (choicesFrom 0 bytes) ]
+choicesListing p bytes = elim (ltb mostChoiceBytes (length bytes)) [ true ↦ refusalLine longText 0 | false ↦ linesOf p (choicesFrom 0 bytes) ]
 
 -- what `run` prints of a text with that verdict and those frames, and of the bytes of choices.txt
 unfoldable pub runListing : Verdict → List Frame → List ℕ → List ℕ

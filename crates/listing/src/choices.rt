@@ -1,4 +1,5 @@
 // choices.txt: two digits and a line feed for each choice.
+use language::limit::MOST_CHOICE_BYTES;
 use text::digit::digit;
 use text::digit::digit_table;
 ghost use mathlib.Core.Path.{_≡_};
@@ -17,7 +18,7 @@ pub fn judge(bytes: &[u8]) -> ChoicesRead
     ensures { λ r. ⌜ r ≡ judged (now (bytes .entry)) ⌝ }
 {
     let n = bytes.len();
-    if 49152 < n {
+    if MOST_CHOICE_BYTES < n {
         return ChoicesRead::TooLong;
     }
     let digits = digit_table();

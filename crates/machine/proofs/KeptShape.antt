@@ -10,8 +10,8 @@ use borrow.Author.Tests.{ltb-true, ltb-false, eqb-true, leb-true, leb-false, le-
 use Rattle.basics.specs.Members.{All, none, more}
 use Rattle.basics.proofs.Ifs.{if-all, and-true}
 use Rattle.language.specs.Places.{hasPlace}
-use Rattle.language.proofs.PlaceLaws.{has-place}
 use Rattle.language.specs.declared.frame.Frame.{Frame}
+use Rattle.language.proofs.PlaceLaws.{has-place}
 use Rattle.program.specs.Trees.{Expr, Stmt, nothing, seq, doAt, start, startWait, cooperate, letIn, store, ifElse, while, frameAt, statementAt, rootS}
 use Rattle.program.specs.Programs.{Program, SharedCell, moduleAt, mainOf}
 use Rattle.machine.specs.State.{State, Item, run, back, drop, Thread, Entry, plain, waiting, Scheduler, noThread, noScheduler, noCell, threadAt, setNth, schedulerAt, withScheduler, withNew, enlist}
@@ -20,7 +20,8 @@ use Rattle.machine.specs.Waits.{isReady, threadOf, keepIf, readyThreads,
 use Rattle.machine.specs.Evaluation.{Here, Evaluated, Evaluation, eval, storing}
 use Rattle.machine.specs.Turns.{Spaces, holds, stateSpaces, Stepped, Turn, here, continuation, variables, unlinkedHere, evaluator, behind, goOn, withValue, withValues, byCondition, selfAt, settled, isSchedulerOf, behindFirst, leave, room, fits, stay, move, goTo}
 use Rattle.machine.specs.Statements.{ends, drops, goesBack, stepNothing, stepSeq, stepDo, started, newThread, withStarted, starting, stepStart, startedWait, stepStartWait, stepCooperate, stepLet, stepStore, stepIf, stepWhile, stepStatement}
-use Rattle.machine.specs.Steps.{turn, stepItems, stepThread, stepThreadWithin, turnInstant, endInstant, stepScheduler, isUnlinked, step, stepWithin}
+use Rattle.machine.specs.inner.Parts.{turn, stepItems, stepThread, stepScheduler}
+use Rattle.machine.specs.Steps.{stepThreadWithin, turnInstant, endInstant, isUnlinked, step, stepWithin}
 use Rattle.machine.specs.Runs.{stateFrom, stateAfter}
 use Rattle.machine.specs.Words.{pack}
 use Rattle.machine.specs.inner.Ranges.{inRange}

@@ -19,7 +19,8 @@ use Rattle.machine.specs.Fresh.{fresh}
 use Rattle.machine.specs.Evaluation.{Here, Evaluated, Evaluation, eval, storing}
 use Rattle.machine.specs.Turns.{endlessSpaces, Stepped, Turn, here, continuation, variables, refuse, accept, behind, evaluator, goOn, withValue, withValues, byCondition, selfAt, settled, isSchedulerOf, leave, unlinkedHere, room, fits, stay, move, goTo}
 use Rattle.machine.specs.Statements.{ends, drops, goesBack, stepNothing, stepSeq, stepDo, started, starting, stepStart, startedWait, stepStartWait, stepCooperate, stepLet, stepStore, stepIf, stepWhile, stepStatement}
-use Rattle.machine.specs.Steps.{turn, stepItems, stepItemsWithin, stepThread, stepThreadWithin, turnInstant, endInstant, stepScheduler, stepSchedulerWithin, isUnlinked, step, stepWithin}
+use Rattle.machine.specs.inner.Parts.{turn, stepItems, stepThread, stepScheduler}
+use Rattle.machine.specs.Steps.{stepItemsWithin, stepThreadWithin, turnInstant, endInstant, stepSchedulerWithin, isUnlinked, step, stepWithin}
 use Rattle.machine.specs.Runs.{stateFrom, stateAfter}
 use Rattle.machine.specs.declared.value.Value.{Value}
 use Rattle.machine.specs.declared.value.Value.the-variants.{Number, Truth, Cell}

@@ -11,7 +11,8 @@ use Rattle.machine.specs.State.{State, Item, run, back, drop, Entry, sch
 use Rattle.machine.specs.Waits.{readyThreads, stillWaiting}
 use Rattle.machine.specs.Evaluation.{Here, Evaluated, Evaluation, eval, storing}
 use Rattle.machine.specs.Turns.{Stepped, Turn, behind, evaluator, goOn, withValue, withValues, byCondition, stay, move, goTo}
-use Rattle.machine.specs.Steps.{stepItems, stepThread, stepThreadWithin, turn, turnInstant, endInstant, stepScheduler, step, stepWithin}
+use Rattle.machine.specs.inner.Parts.{stepItems, stepThread, turn, stepScheduler}
+use Rattle.machine.specs.Steps.{stepThreadWithin, turnInstant, endInstant, step, stepWithin}
 use Rattle.machine.specs.Statements.{ends, drops, goesBack, stepNothing, stepSeq, stepDo, starting, stepStart, startedWait, stepStartWait, stepCooperate, stepLet, stepStore, stepIf, stepWhile, stepStatement}
 use Rattle.machine.specs.Runs.{stepsFrom}
 use Rattle.machine.specs.declared.value.Value.{Value}

@@ -45,7 +45,7 @@ owns-then m k h g cs = owns-andThen k (m cs) (m cs .outcome) refl (h cs) g
 
 -- ---- an access: the test on the owner makes it one to a cell of one's own, or foreign
 
-is-own : (h : Here) (c o : ℕ) → isOwn h o ≡ true → Own (accessOf h c o)
+pub is-own : (h : Here) (c o : ℕ) → isOwn h o ≡ true → Own (accessOf h c o)
 unfolding isOwn
 is-own h c o e =
     ⊎-elim (λ a. inl (eqb-true o (threadOwner (h .thread)) a))

@@ -18,7 +18,8 @@ use Rattle.machine.specs.Waits.{isReady, threadOf, keepIf, readyThreads,
 use Rattle.machine.specs.Fresh.{fresh}
 use Rattle.machine.specs.Evaluation.{Here, Evaluated, Evaluation, eval, storing}
 use Rattle.machine.specs.Turns.{Spaces, holds, stateSpaces, Stepped, Turn, here, variables, behind, evaluator, goOn, withValue, withValues, byCondition, selfAt, settled, behindFirst, isSchedulerOf, leave, room, unlinkedHere, stay, move, goTo}
-use Rattle.machine.specs.Steps.{isUnlinked, stepItems, stepThread, stepThreadWithin, turn, turnInstant, endInstant, stepScheduler, step, stepWithin}
+use Rattle.machine.specs.Steps.{isUnlinked, stepThreadWithin, turnInstant, endInstant, step, stepWithin}
+use Rattle.machine.specs.inner.Parts.{stepItems, stepThread, turn, stepScheduler}
 use Rattle.machine.specs.Statements.{ends, drops, goesBack, stepNothing, stepSeq, stepDo, started, starting, stepStart, startedWait, stepStartWait, stepCooperate, stepLet, stepStore, stepIf, stepWhile, stepStatement}
 use Rattle.machine.specs.declared.value.Value.{Value}
 use Rattle.machine.specs.declared.value.Value.the-variants.{Number, Truth, Cell}

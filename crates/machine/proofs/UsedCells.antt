@@ -6,7 +6,7 @@ use Prim.Native.Nat.{ℕ, _+_, _≤_, _<_}
 use native.Mathlib.Omega.{arith}
 use lib.Dec.{ltb}
 use lib.ListN.{length, getD, set, length-append, length-set, List·getD-append, List·getD-eq-default}
-use lib.Seq.{getD-set-same, getD-append-seam}
+use lib.Seq.{getD-set-same, getD-set-other, getD-append-seam}
 use borrow.Author.Tests.{ltb-true, ltb-false, lt-ltb, le-ltb}
 use Rattle.machine.specs.State.{Stored, noCell, cellAt, isUsed, freeNumber, usedCells, withNewCell}
 use Rattle.machine.specs.declared.value.Value.{Value}
@@ -61,6 +61,10 @@ put cs c v = set cs c (record { owner = cellAt cs c .owner; content = v })
 
 pub put-at : (cs : List Stored) (c : ℕ) (v : Value) → isUsed cs c ≡ true → cellAt (put cs c v) c ≡ record { owner = cellAt cs c .owner; content = v }
 put-at cs c v e = getD-set-same cs c _ noCell (ltb-true c (length cs) e)
+
+pub put-other : (cs : List Stored) (c : ℕ) (v : Value) (d : ℕ) → (d ≡ c → ⊥)
+    → cellAt (put cs c v) d ≡ cellAt cs d
+put-other cs c v d n = getD-set-other cs c d _ noCell n
 
 pub put-used : (cs : List Stored) (c : ℕ) (v : Value) (d : ℕ) → isUsed (put cs c v) d ≡ isUsed cs d
 put-used cs c v d = ap (ltb d) (length-set cs c _)

@@ -5,7 +5,9 @@ use Prim.Native.Nat.{ℕ}
 use lib.Dec.{eqb}
 use lib.ListN.{length}
 use Rattle.language.specs.declared.frame.Frame.{Frame}
+use Rattle.language.specs.Refusals.{wrongState}
 use Rattle.program.specs.Programs.{programOf}
+use Rattle.machine.specs.Offsets.{stateLength}
 use Rattle.machine.specs.Turns.{Stepped}
 use Rattle.machine.specs.Fresh.{fresh}
 use Rattle.machine.specs.Steps.{step}
@@ -24,7 +26,7 @@ unchanged n t w = record { answer = n; thread = t; words = w }
 
 -- the fresh state; 14 is 'a lent buffer of the wrong length', whatever its words
 unfoldable pub freshCall : List Frame → List ℕ → Called
-freshCall fs w = elim (eqb (length w) 4818) [ true ↦ record { answer = 0; thread = 0; words = pack (fresh (programOf fs)) } | false ↦ unchanged 14 0 w ]
+freshCall fs w = elim (eqb (length w) stateLength) [ true ↦ record { answer = 0; thread = 0; words = pack (fresh (programOf fs)) } | false ↦ unchanged wrongState 0 w ]
 
 -- what a choice gives on words w: the words of its state, or, where it is refused, the same
 abbrev pub calledOf : List ℕ → Stepped → Called
@@ -34,7 +36,7 @@ calledOf w r = record { answer = r .answer; thread = r .thread; words = elim (eq
 unfoldable pub stepCall : List Frame → List ℕ → ℕ → Called
 stepCall fs w c =
     let p = programOf fs in
-    elim (inRange fs (p .schedulers) w) [ true ↦ calledOf w (step p (unpack fs (p .schedulers) w) c) | false ↦ unchanged 14 0 w ]
+    elim (inRange fs (p .schedulers) w) [ true ↦ calledOf w (step p (unpack fs (p .schedulers) w) c) | false ↦ unchanged wrongState 0 w ]
 
 -- one call after the other, each on the words that the one before left
 unfoldable pub callsFrom : List Frame → List ℕ → List ℕ → List Called

@@ -6,6 +6,7 @@ use lib.Dec.{ltb, leb, eqb}
 use lib.ListN.{length, getD, set}
 use Rattle.basics.specs.If.{if_then_else_}
 use Rattle.language.specs.Places.{private, home}
+use Rattle.language.specs.Limits.{mostCells}
 use Rattle.program.specs.Trees.{Expr, number, truth, variable, shared, new, content, sum, less, choose}
 use Rattle.machine.specs.Accesses.{Access}
 use Rattle.machine.specs.Values.{truthOf}
@@ -51,7 +52,7 @@ andThen k r Stuck = r
 abbrev pub _>>=_ : Evaluation → (Value → Evaluation) → Evaluation
 _>>=_ m k = λ cs. let r = m cs in andThen k r (r .outcome)
 
--- ---- accesses
+-- ---- the cells. Rules read and change them by `load`, `store` and `allocate` alone, and each of these logs the access that it makes
 
 -- not foreign: 'owned .. by the acting thread' or 'by the scheduler on which it stands'
 unfoldable pub isOwn : Here → ℕ → Bool
@@ -68,6 +69,28 @@ accessing h c o r = λ cs. after (accessOf h c o ∷ []) (if isOwn h o then r cs
 unfoldable pub atCell : Here → ℕ → Evaluation → Evaluation
 atCell h c r = λ cs. if isUsed cs c then accessing h c (cellAt cs c .owner) r cs else gives Stuck cs
 
+-- the content of cell c
+abbrev pub load : Here → ℕ → Evaluation
+load h c = atCell h c (λ cs. gives (Is (cellAt cs c .content)) cs)
+
+-- v in cell c: 'the cell takes any value' and keeps its owner
+abbrev pub putIn : ℕ → Value → Evaluation
+putIn c v = λ cs. record { outcome = Is v; cells = set cs c (record { owner = cellAt cs c .owner; content = v }); accesses = [] }
+
+abbrev pub store : Here → ℕ → Value → Evaluation
+store h c v = atCell h c (putIn c v)
+
+-- a new cell of owner o takes the next number; '17 spent, a 257th cell'
+unfoldable pub addCell : ℕ → Value → Evaluation
+addCell o v = λ cs.
+    if ltb (usedCells cs) mostCells
+    then record { outcome = Is (Cell (freeNumber cs)); cells = withNewCell cs (record { owner = o; content = v }); accesses = [] }
+    else gives Spent cs
+
+-- a creation is an access: 19 before 17
+abbrev pub allocate : Here → ℕ → Value → Evaluation
+allocate h o v = λ cs. accessing h (freeNumber cs) o (addCell o v) cs
+
 -- ---- one definition for each kind, behind its operands
 
 -- 22: 'a missing variable' is 20
@@ -78,33 +101,23 @@ readVariable h s = if ltb s (length (h .variables)) then gives (Is (getD (h .var
 unfoldable pub sharedCell : Here → ℕ → Evaluation
 sharedCell h s = if ltb s (h .shared) then gives (Is (Cell s)) else gives Stuck
 
--- 24: the new cell takes the next number; '17 spent, a 257th cell'
-unfoldable pub addCell : ℕ → Value → Evaluation
-addCell o v = λ cs.
-    if ltb (usedCells cs) 256
-    then record { outcome = Is (Cell (freeNumber cs)); cells = withNewCell cs (record { owner = o; content = v }); accesses = [] }
-    else gives Spent cs
-
--- 'the S it was declared or made with, or 16+t where thread t made it with S 1'
+-- 24's owner: 'the S it was declared or made with, or 16+t where thread t made it with S 1'
 unfoldable pub newOwner : Here → ℕ → ℕ
 newOwner h s = if eqb s private then threadOwner (h .thread) else s
 
--- a creation is an access: 19 before 17
+-- 24
 unfoldable pub makeCell : Here → ℕ → Value → Evaluation
-makeCell h s v = λ cs. accessing h (freeNumber cs) (newOwner h s) (addCell (newOwner h s) v) cs
+makeCell h s v = allocate h (newOwner h s) v
 
 -- 25: any other value than a cell is 20
 unfoldable pub readCell : Here → Value → Evaluation
-readCell h (Cell c) = atCell h c (λ cs. gives (Is (cellAt cs c .content)) cs)
+readCell h (Cell c) = load h c
 readCell h (Number n) = gives Stuck
 readCell h (Truth b) = gives Stuck
 
--- 17: 'the cell takes any value'
-abbrev pub putIn : ℕ → Value → Evaluation
-putIn c v = λ cs. record { outcome = Is v; cells = set cs c (record { owner = cellAt cs c .owner; content = v }); accesses = [] }
-
+-- 17
 unfoldable pub storeCell : Here → Value → Value → Evaluation
-storeCell h (Cell c) v = atCell h c (putIn c v)
+storeCell h (Cell c) v = store h c v
 storeCell h (Number n) v = gives Stuck
 storeCell h (Truth b) v = gives Stuck
 

@@ -1,3 +1,4 @@
+pub mod Offsets
 pub mod Values
 pub mod State
 pub mod Fresh

@@ -2,7 +2,7 @@
 -- that are those of no such state: 'a state with a word out of range (a place, frame or party that the
 -- file lacks, a pile frame that is no statement, a thread over 64, a cell over 255, a list or pile longer
 -- than its space; ..)'. Assumes nothing: definitions.
-use Prim.Native.Nat.{ℕ, _^_, _<_, _≤_}
+use Prim.Native.Nat.{ℕ, _<_, _≤_}
 use mathlib.Core.Path.{_≡_}
 use mathlib.Core.List.{List}
 use mathlib.Core.Bool.{Bool, true, false, _&&_, _||_}
@@ -11,9 +11,11 @@ use lib.ListN.{getD, length}
 use Rattle.basics.specs.Members.{All}
 use Rattle.language.specs.Places.{hasPlace, hasScheduler}
 use Rattle.language.specs.declared.kind.Kind.{Kind}
-use Rattle.language.specs.declared.kind.Kind.the-variants.{Header, Shared, Module, Statement, Expression, Unknown}
+use Rattle.language.specs.declared.kind.Kind.the-variants.{Header, Declared, Module, Statement, Expression, Unknown}
 use Rattle.language.specs.declared.frame.Frame.{Frame}
+use Rattle.language.specs.Limits.{mostSchedulers, mostVariables, mostThreads, mostCells, mostItems}
 use Rattle.program.specs.Trees.{Stmt, statementAt, frameAt, rootS}
+use Rattle.machine.specs.Offsets.{backFrom, truthFrom}
 use Rattle.machine.specs.State.{State, Stored, Item, run, back, drop, Thread, Entry, plain, waiting, Scheduler, noThread, noScheduler, noCell, threadOwner}
 use Rattle.machine.specs.Words.{pack}
 use Rattle.machine.specs.declared.value.Value.{Value}
@@ -25,29 +27,29 @@ abbrev pub isStatement : Kind → Bool
 isStatement (Statement k) = true
 isStatement (Expression k) = false
 isStatement Header = false
-isStatement Shared = false
+isStatement (Declared d) = false
 isStatement Module = false
 isStatement Unknown = false
 
 -- a scheduler of the file, or a thread's own
 unfoldable pub ownerInRange : ℕ → ℕ → Bool
-ownerInRange n o = hasScheduler n o || leb (threadOwner 1) o && leb o (threadOwner 64)
+ownerInRange n o = hasScheduler n o || leb (threadOwner 1) o && leb o (threadOwner mostThreads)
 
 -- a number of 32 bits, a truth, or a cell, 0 to 255
 pub data ValueFits : Value → Type 0 where
-  number : {n : ℕ} → n < 2 ^ 32 → ValueFits (Number n)
+  number : {n : ℕ} → n < truthFrom → ValueFits (Number n)
   truth : {b : Bool} → ValueFits (Truth b)
-  cell : {c : ℕ} → c < 256 → ValueFits (Cell c)
+  cell : {c : ℕ} → c < mostCells → ValueFits (Cell c)
 
 -- a statement of the file, the one at its frame; a back to a place of the file; a drop
 pub data ItemFits (fs : List Frame) (n : ℕ) : Item → Type 0 where
-  run-fits : {x : Stmt} → rootS x < 1024 → isStatement (frameAt fs (rootS x) .kind) ≡ true → statementAt fs (rootS x) ≡ x → ItemFits fs n (run x)
-  back-fits : {q : ℕ} → q < 1024 → hasPlace n q ≡ true → ItemFits fs n (back q)
+  run-fits : {x : Stmt} → rootS x < backFrom → isStatement (frameAt fs (rootS x) .kind) ≡ true → statementAt fs (rootS x) ≡ x → ItemFits fs n (run x)
+  back-fits : {q : ℕ} → q < backFrom → hasPlace n q ≡ true → ItemFits fs n (back q)
   drop-fits : ItemFits fs n drop
 
 -- 'Threads are 1 to 64'
 abbrev pub IsThread : ℕ → Type 0
-IsThread t = (1 ≤ t) × (t ≤ 64)
+IsThread t = (1 ≤ t) × (t ≤ mostThreads)
 
 pub data EntryFits : Entry → Type 0 where
   plain-fits : {t : ℕ} → IsThread t → EntryFits (plain t)
@@ -56,15 +58,15 @@ pub data EntryFits : Entry → Type 0 where
 -- ---- threads, schedulers, cells
 pub record ThreadFits (fs : List Frame) (n : ℕ) (x : Thread) : Type 0 where
   pub place : hasPlace n (x .place) ≡ true
-  pub starter : x .starter ≤ 64
-  pub items-room : length (x .continuation) ≤ 25
-  pub variables-room : length (x .variables) ≤ 25
+  pub starter : x .starter ≤ mostThreads
+  pub items-room : length (x .continuation) ≤ mostItems
+  pub variables-room : length (x .variables) ≤ mostVariables
   pub items : All (ItemFits fs n) (x .continuation)
   pub values : All ValueFits (x .variables)
 
 pub record SchedulerFits (x : Scheduler) : Type 0 where
-  pub active-room : length (x .active) ≤ 64
-  pub next-room : length (x .next) ≤ 64
+  pub active-room : length (x .active) ≤ mostThreads
+  pub next-room : length (x .next) ≤ mostThreads
   pub threads : All IsThread (x .active)
   pub entries : All EntryFits (x .next)
 
@@ -74,9 +76,9 @@ pub record CellFits (n : ℕ) (x : Stored) : Type 0 where
 
 -- ---- the state
 pub record Shaped (fs : List Frame) (n : ℕ) (s : State) : Type 0 where
-  pub threads-room : length (s .threads) ≤ 64
-  pub schedulers-room : length (s .schedulers) ≤ 8
-  pub cells-room : length (s .cells) ≤ 256
+  pub threads-room : length (s .threads) ≤ mostThreads
+  pub schedulers-room : length (s .schedulers) ≤ mostSchedulers
+  pub cells-room : length (s .cells) ≤ mostCells
   pub count : length (s .schedulers) ≡ n
   pub threads : (k : ℕ) → k < length (s .threads) → ThreadFits fs n (getD (s .threads) k noThread)
   pub schedulers : (k : ℕ) → k < length (s .schedulers) → SchedulerFits (getD (s .schedulers) k noScheduler)

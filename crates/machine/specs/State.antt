@@ -6,6 +6,7 @@ use lib.Dec.{ltb}
 use lib.ListN.{length, getD, set}
 use Rattle.language.specs.Places.{home}
 use Rattle.program.specs.Trees.{Stmt}
+use Rattle.machine.specs.Offsets.{threadOwnerFrom}
 use Rattle.machine.specs.declared.value.Value.{Value}
 use Rattle.machine.specs.declared.value.Value.the-variants.{Number}
 
@@ -16,7 +17,7 @@ pub record Stored : Type 0 where
 
 -- 'A private cell's owner is 16+t.'
 abbrev pub threadOwner : ℕ → ℕ
-threadOwner t = 16 + t
+threadOwner t = threadOwnerFrom + t
 
 -- an item of a continuation: a statement to run; 'back to here', with the place; 'a drop of the variable', the last one
 pub data Item : Type 0 where

@@ -6,6 +6,8 @@ use lib.Dec.{leb, eqb}
 use lib.ListN.{length, take}
 use Rattle.basics.specs.If.{if_then_else_}
 use Rattle.language.specs.Places.{private}
+use Rattle.language.specs.Limits.{mostThreads}
+use Rattle.language.specs.Refusals.{threadsSpent, stuck}
 use Rattle.program.specs.Trees.{Expr, Stmt, nothing, seq, doAt, start, startWait, cooperate, letIn, store, ifElse, while}
 use Rattle.program.specs.Programs.{Part, moduleAt}
 use Rattle.machine.specs.State.{run, back, drop, Thread, plain, waiting, State, withNew, enlist}
@@ -23,7 +25,7 @@ ends u =
 unfoldable pub drops : Turn → Stepped
 drops u =
     if eqb (length (variables u)) 0
-    then refuse u 20
+    then refuse u stuck
     else stay u (continuation u) (take (length (variables u) - 1) (variables u))
 
 -- ''Back' moves in the same way.'
@@ -40,7 +42,7 @@ stepSeq u a b = stay u (run a ∷ run b ∷ continuation u) (variables u)
 
 -- 12: 'A above 'back to here''. 'refusal 12's condition met when running' is 20: while unlinked, with S 1
 unfoldable pub stepDo : Turn → ℕ → Stmt → Stepped
-stepDo u q a = if unlinkedHere u && eqb q private then refuse u 20 else goTo u q (run a ∷ back (here u) ∷ continuation u)
+stepDo u q a = if unlinkedHere u && eqb q private then refuse u stuck else goTo u q (run a ∷ back (here u) ∷ continuation u)
 
 -- ---- 13, 14
 
@@ -59,11 +61,11 @@ withStarted u m vs s = enlist (here u) (plain (newThread u)) (withNew (started u
 -- what stands in the way of a start, '20, 19, 17, 18': unlinked, a missing module, another number of arguments, a full list; '18 spent, a 65th thread'; else r
 unfoldable pub starting : Turn → ℕ → List Value → Stepped → Stepped
 starting u m vs r =
-    if unlinkedHere u then refuse u 20 else
-    if leb (length (u .program .modules)) m then refuse u 20 else
-    if not (eqb (length vs) (length (moduleAt (u .program) m .types))) then refuse u 20 else
-    if not (room u 1 (here u)) then refuse u 20 else
-    if leb 64 (length (u .state .threads)) then refuse u 18 else r
+    if unlinkedHere u then refuse u stuck else
+    if leb (length (u .program .modules)) m then refuse u stuck else
+    if not (eqb (length vs) (length (moduleAt (u .program) m .types))) then refuse u stuck else
+    if not (room u 1 (here u)) then refuse u stuck else
+    if leb mostThreads (length (u .state .threads)) then refuse u threadsSpent else r
 
 -- 13
 unfoldable pub stepStart : Turn → ℕ → List Expr → Stepped
@@ -73,7 +75,7 @@ stepStart u m xs = withValues u xs (λ vs w. starting w m vs (accept w (withStar
 unfoldable pub startedWait : Turn → ℕ → List Value → Stepped
 startedWait u m vs =
     let s = withStarted u m vs (leave u (settled u (u .self))) in
-    if room u 2 (here u) then accept u (enlist (here u) (waiting (u .thread) (newThread u)) s) else refuse u 20
+    if room u 2 (here u) then accept u (enlist (here u) (waiting (u .thread) (newThread u)) s) else refuse u stuck
 
 unfoldable pub stepStartWait : Turn → ℕ → List Expr → Stepped
 stepStartWait u m xs = withValues u xs (λ vs w. starting w m vs (startedWait w m vs))
@@ -83,8 +85,8 @@ stepStartWait u m xs = withValues u xs (λ vs w. starting w m vs (startedWait w 
 -- 15: 'to the end of the next list'; while unlinked it is 20
 unfoldable pub stepCooperate : Turn → Stepped
 stepCooperate u =
-    if unlinkedHere u then refuse u 20 else
-    if room u 1 (here u) then accept u (enlist (here u) (plain (u .thread)) (leave u (settled u (u .self)))) else refuse u 20
+    if unlinkedHere u then refuse u stuck else
+    if room u 1 (here u) then accept u (enlist (here u) (plain (u .thread)) (leave u (settled u (u .self)))) else refuse u stuck
 
 -- 16: 'body above a drop of the variable'
 unfoldable pub stepLet : Turn → Expr → Stmt → Stepped

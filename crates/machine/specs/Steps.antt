@@ -6,8 +6,10 @@ use lib.Dec.{leb, eqb}
 use lib.ListN.{length}
 use Rattle.basics.specs.If.{if_then_else_}
 use Rattle.language.specs.Places.{private}
+use Rattle.language.specs.Refusals.{noParty, nothingReady}
 use Rattle.program.specs.Programs.{Program}
-use Rattle.machine.specs.State.{State, Item, run, back, drop, Entry, threadAt, schedulerAt, withScheduler}
+use Rattle.machine.specs.Offsets.{threadOwnerFrom}
+use Rattle.machine.specs.State.{State, Item, run, back, drop, Entry, threadAt, schedulerAt, withScheduler, threadOwner}
 use Rattle.machine.specs.Waits.{readyThreads, stillWaiting}
 use Rattle.machine.specs.Turns.{Stepped, Spaces, stateSpaces, Turn, isSchedulerOf}
 use Rattle.machine.specs.Statements.{ends, drops, goesBack, stepStatement}
@@ -43,7 +45,7 @@ nobody n s = record { answer = n; thread = 0; state = s; accesses = [] }
 
 -- 'ready entries of the next list become active in order, waiting ones stay'; '16 'nothing': no active thread there and no ready one in its next list'
 abbrev pub turnInstant : State → ℕ → List ℕ → List Entry → Stepped
-turnInstant s c [] es = nobody 16 s
+turnInstant s c [] es = nobody nothingReady s
 turnInstant s c (t ∷ ts) es = nobody 0 (withScheduler c (record { active = t ∷ ts; next = es }) s)
 
 unfoldable pub endInstant : State → ℕ → Stepped
@@ -58,33 +60,20 @@ stepSchedulerWithin z p s c (t ∷ ts) = stepThreadWithin z p s c t
 
 -- the thread that a choice names where it is no scheduler: '16+t the loose thread t'
 abbrev pub threadChosen : ℕ → ℕ
-threadChosen c = c - 16
+threadChosen c = c - threadOwnerFrom
 
 -- that thread is there, stands on 1 and has not ended
 unfoldable pub isUnlinked : State → ℕ → Bool
 isUnlinked s c =
-    leb 17 c && leb (threadChosen c) (length (s .threads)) && eqb (threadAt s (threadChosen c) .place) private && not (threadAt s (threadChosen c) .ended)
+    leb (threadOwner 1) c && leb (threadChosen c) (length (s .threads)) && eqb (threadAt s (threadChosen c) .place) private && not (threadAt s (threadChosen c) .ended)
 
 -- '15 no such party (neither a scheduler of the file nor a thread now loose)'
 unfoldable pub stepWithin : Spaces → Program → State → ℕ → Stepped
 stepWithin z p s c =
     if isSchedulerOf p c then stepSchedulerWithin z p s c (schedulerAt s c .active) else
     if isUnlinked s c then stepThreadWithin z p s c (threadChosen c) else
-    nobody 15 s
+    nobody noParty s
 
--- ---- in the spaces that a state has
-
-abbrev pub turn : Program → State → ℕ → ℕ → List Item → Turn
-turn p s c t items = turnWithin stateSpaces p s c t items
-
-abbrev pub stepItems : Program → State → ℕ → ℕ → List Item → Stepped
-stepItems p s c t items = stepItemsWithin stateSpaces p s c t items
-
-abbrev pub stepThread : Program → State → ℕ → ℕ → Stepped
-stepThread p s c t = stepThreadWithin stateSpaces p s c t
-
-abbrev pub stepScheduler : Program → State → ℕ → List ℕ → Stepped
-stepScheduler p s c ts = stepSchedulerWithin stateSpaces p s c ts
-
+-- in the spaces that a state has
 abbrev pub step : Program → State → ℕ → Stepped
 step p s c = stepWithin stateSpaces p s c

@@ -6,6 +6,8 @@ use lib.Dec.{leb, eqb}
 use lib.ListN.{length}
 use Rattle.basics.specs.If.{if_then_else_}
 use Rattle.language.specs.Places.{private, hasScheduler}
+use Rattle.language.specs.Limits.{mostVariables, mostThreads, mostItems}
+use Rattle.language.specs.Refusals.{stuck}
 use Rattle.program.specs.Trees.{Expr}
 use Rattle.program.specs.Programs.{Program}
 use Rattle.machine.specs.Values.{answerOf}
@@ -35,7 +37,7 @@ pub record Spaces : Type 0 where
 
 -- those that a state has
 abbrev pub stateSpaces : Spaces
-stateSpaces = record { entries = atMost 64; items = atMost 25; values = atMost 25 }
+stateSpaces = record { entries = atMost mostThreads; items = atMost mostItems; values = atMost mostVariables }
 
 -- none of them has an end: `NeverFull` (crate reach) compares the two
 abbrev pub endlessSpaces : Spaces
@@ -116,8 +118,8 @@ withValues u (x ∷ xs) k = withValue u (λ h. eval h x) (λ v w. withValues w x
 abbrev pub byCondition : Turn → Value → Stepped → Stepped → Stepped
 byCondition u (Truth true) a b = a
 byCondition u (Truth false) a b = b
-byCondition u (Number n) a b = refuse u 20
-byCondition u (Cell c) a b = refuse u 20
+byCondition u (Number n) a b = refuse u stuck
+byCondition u (Cell c) a b = refuse u stuck
 
 -- ---- the thread, and the lists in which it stands
 
@@ -155,15 +157,15 @@ fits z items vars = holds (z .items) (length items) && holds (z .values) (length
 
 -- the thread stays where it is, first, with that continuation and those variables; 'a full .. pile or variable space' is 20
 unfoldable pub stay : Turn → List Item → List Value → Stepped
-stay u items vars = if fits (u .spaces) items vars then accept u (settled u (selfAt u (here u) items vars)) else refuse u 20
+stay u items vars = if fits (u .spaces) items vars then accept u (settled u (selfAt u (here u) items vars)) else refuse u stuck
 
 -- 'the thread moves: to the end of that next list, or loose'
 unfoldable pub move : Turn → ℕ → List Item → Stepped
 move u q items =
     let s = leave u (settled u (selfAt u q items (variables u))) in
-    if not (fits (u .spaces) items (variables u)) then refuse u 20 else
+    if not (fits (u .spaces) items (variables u)) then refuse u stuck else
     if eqb q private then accept u s else
-    if room u 1 q then accept u (enlist q (plain (u .thread)) s) else refuse u 20
+    if room u 1 q then accept u (enlist q (plain (u .thread)) s) else refuse u stuck
 
 -- 'if S is another place, the thread moves'
 unfoldable pub goTo : Turn → ℕ → List Item → Stepped

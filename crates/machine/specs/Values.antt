@@ -3,6 +3,7 @@ use Prim.Native.Nat.{ℕ}
 use lib.Dec.{eqb}
 use Rattle.basics.specs.If.{if_then_else_}
 use Rattle.language.specs.Types.{numberType, isCell}
+use Rattle.language.specs.Refusals.{cellsSpent, foreign, stuck}
 use Rattle.machine.specs.declared.value.Value.{Value}
 use Rattle.machine.specs.declared.value.Value.the-variants.{Number, Truth, Cell}
 use Rattle.machine.specs.declared.value.Outcome.{Outcome}
@@ -11,9 +12,9 @@ use Rattle.machine.specs.declared.value.Outcome.the-variants.{Is, Foreig
 -- the paper's number of each case: '17 spent', 'Foreign is 19, stuck is 20.'
 abbrev pub answerOf : Outcome → ℕ
 answerOf (Is v) = 0
-answerOf Spent = 17
-answerOf Foreign = 19
-answerOf Stuck = 20
+answerOf Spent = cellsSpent
+answerOf Foreign = foreign
+answerOf Stuck = stuck
 
 -- the truth that a number says: '21 truth S (0 or 1)'
 abbrev pub truthOf : ℕ → Value

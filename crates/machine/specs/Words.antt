@@ -6,12 +6,14 @@
 -- A list stands as its length, then its members.
 use mathlib.Core.List.{List, [], _∷_, map, reverse}
 use mathlib.Core.Bool.{Bool, true, false, not}
-use Prim.Native.Nat.{ℕ, zero, suc, _+_, _-_, _*_, _/_, _%_, _^_}
+use Prim.Native.Nat.{ℕ, zero, suc, _+_, _-_, _*_, _/_, _%_}
 use lib.Dec.{ltb, eqb}
 use lib.ListN.{length, getD}
 use Rattle.basics.specs.If.{if_then_else_}
+use Rattle.language.specs.Places.{home}
 use Rattle.language.specs.declared.frame.Frame.{Frame}
 use Rattle.program.specs.Trees.{rootS, statementAt}
+use Rattle.machine.specs.Offsets.{stateLength, threadCountAt, cellCountAt, schedulersAt, schedulerLength, listLength, nextListAt, threadsAt, threadLength, placeField, starterField, livesField, itemsField, variablesField, cellsAt, backFrom, dropWord, waitingFactor, truthFrom, cellFrom, ownerFactor}
 use Rattle.machine.specs.State.{State, Stored, Item, run, back, drop, Thread, Entry, plain, waiting, Scheduler, cellAt, usedCells, nth, schedulerAt}
 use Rattle.machine.specs.declared.value.Value.{Value}
 use Rattle.machine.specs.declared.value.Value.the-variants.{Number, Truth, Cell}
@@ -25,35 +27,35 @@ bit false = 0
 -- a number is itself, a truth 2^32 and 0 or 1, a cell 2^33 and its number
 unfoldable pub valueWord : Value → ℕ
 valueWord (Number n) = n
-valueWord (Truth b) = 2 ^ 32 + bit b
-valueWord (Cell c) = 2 * 2 ^ 32 + c
+valueWord (Truth b) = truthFrom + bit b
+valueWord (Cell c) = cellFrom + c
 
 unfoldable pub wordValue : ℕ → Value
-wordValue w = if ltb w (2 ^ 32) then Number w else if ltb w (2 * 2 ^ 32) then Truth (eqb w (2 ^ 32 + 1)) else Cell (w - 2 * 2 ^ 32)
+wordValue w = if ltb w truthFrom then Number w else if ltb w cellFrom then Truth (eqb w (truthFrom + 1)) else Cell (w - cellFrom)
 
 -- a statement is its frame, a back 1024 and its place, a drop 2048
 unfoldable pub itemWord : Item → ℕ
 itemWord (run x) = rootS x
-itemWord (back q) = 1024 + q
-itemWord drop = 2048
+itemWord (back q) = backFrom + q
+itemWord drop = dropWord
 
 unfoldable pub wordItem : List Frame → ℕ → Item
-wordItem fs w = let x = run (statementAt fs w) in if ltb w 1024 then x else if ltb w 2048 then back (w - 1024) else drop
+wordItem fs w = let x = run (statementAt fs w) in if ltb w backFrom then x else if ltb w dropWord then back (w - backFrom) else drop
 
 -- a thread is itself; one that waits for thread u has 128 u added
 unfoldable pub entryWord : Entry → ℕ
 entryWord (plain t) = t
-entryWord (waiting t u) = 128 * u + t
+entryWord (waiting t u) = waitingFactor * u + t
 
 unfoldable pub wordEntry : ℕ → Entry
-wordEntry w = if ltb w 128 then plain w else waiting (w % 128) (w / 128)
+wordEntry w = if ltb w waitingFactor then plain w else waiting (w % waitingFactor) (w / waitingFactor)
 
 -- the owner 2^34 times, and the content
 unfoldable pub cellWord : Stored → ℕ
-cellWord x = x .owner * 2 ^ 34 + valueWord (x .content)
+cellWord x = x .owner * ownerFactor + valueWord (x .content)
 
 unfoldable pub wordCell : ℕ → Stored
-wordCell w = record { owner = w / 2 ^ 34; content = wordValue (w % 2 ^ 34) }
+wordCell w = record { owner = w / ownerFactor; content = wordValue (w % ownerFactor) }
 
 -- ---- the words of a state
 
@@ -63,23 +65,23 @@ listWord ws zero = length ws
 listWord ws (suc j) = getD ws j 0
 
 unfoldable pub schedulerWord : Scheduler → ℕ → ℕ
-schedulerWord x j = if ltb j 65 then listWord (x .active) j else listWord (map entryWord (x .next)) (j - 65)
+schedulerWord x j = if ltb j listLength then listWord (x .active) j else listWord (map entryWord (x .next)) (j - listLength)
 
 unfoldable pub threadWord : Thread → ℕ → ℕ
 threadWord x j =
-    if eqb j 0 then x .place else
-    if eqb j 1 then x .starter else
-    if eqb j 2 then bit (not (x .ended)) else
-    if ltb j 29 then listWord (reverse (map itemWord (x .continuation))) (j - 3) else
-    listWord (map valueWord (x .variables)) (j - 29)
+    if eqb j placeField then x .place else
+    if eqb j starterField then x .starter else
+    if eqb j livesField then bit (not (x .ended)) else
+    if ltb j variablesField then listWord (reverse (map itemWord (x .continuation))) (j - itemsField) else
+    listWord (map valueWord (x .variables)) (j - variablesField)
 
 unfoldable pub wordOf : State → ℕ → ℕ
 wordOf s i =
-    if eqb i 0 then length (s .threads) else
-    if eqb i 1 then usedCells (s .cells) else
-    if ltb i 1042 then schedulerWord (schedulerAt s (2 + (i - 2) / 130)) ((i - 2) % 130) else
-    if ltb i 4562 then threadWord (nth (s .threads) (suc ((i - 1042) / 55))) ((i - 1042) % 55) else
-    cellWord (cellAt (s .cells) (i - 4562))
+    if eqb i threadCountAt then length (s .threads) else
+    if eqb i cellCountAt then usedCells (s .cells) else
+    if ltb i threadsAt then schedulerWord (schedulerAt s (home + (i - schedulersAt) / schedulerLength)) ((i - schedulersAt) % schedulerLength) else
+    if ltb i cellsAt then threadWord (nth (s .threads) (suc ((i - threadsAt) / threadLength))) ((i - threadsAt) % threadLength) else
+    cellWord (cellAt (s .cells) (i - cellsAt))
 
 -- f i, f (i + 1), .. , n of them
 unfoldable pub tabulate : {A : Type 0} → ℕ → (ℕ → A) → ℕ → List A
@@ -87,7 +89,7 @@ tabulate zero f i = []
 tabulate (suc n) f i = f i ∷ tabulate n f (suc i)
 
 unfoldable pub pack : State → List ℕ
-pack s = tabulate 4818 (wordOf s) 0
+pack s = tabulate stateLength (wordOf s) 0
 
 -- ---- the state of the words
 
@@ -97,23 +99,23 @@ wordsAt w i = tabulate (getD w i 0) (λ j. getD w j 0) (suc i)
 
 unfoldable pub threadFrom : List Frame → List ℕ → ℕ → Thread
 threadFrom fs w k =
-    let i = 1042 + 55 * k in
+    let i = threadsAt + threadLength * k in
     record {
       place = getD w i 0;
-      starter = getD w (i + 1) 0;
-      ended = eqb (getD w (i + 2) 0) 0;
-      continuation = map (wordItem fs) (reverse (wordsAt w (i + 3)));
-      variables = map wordValue (wordsAt w (i + 29));
+      starter = getD w (i + starterField) 0;
+      ended = eqb (getD w (i + livesField) 0) 0;
+      continuation = map (wordItem fs) (reverse (wordsAt w (i + itemsField)));
+      variables = map wordValue (wordsAt w (i + variablesField));
     }
 
 unfoldable pub schedulerFrom : List ℕ → ℕ → Scheduler
-schedulerFrom w k = record { active = wordsAt w (2 + 130 * k); next = map wordEntry (wordsAt w (67 + 130 * k)) }
+schedulerFrom w k = record { active = wordsAt w (schedulersAt + schedulerLength * k); next = map wordEntry (wordsAt w (nextListAt + schedulerLength * k)) }
 
 -- in a file of those frames and n schedulers
 unfoldable pub unpack : List Frame → ℕ → List ℕ → State
 unpack fs n w =
     record {
-      threads = tabulate (getD w 0 0) (threadFrom fs w) 0;
+      threads = tabulate (getD w threadCountAt 0) (threadFrom fs w) 0;
       schedulers = tabulate n (schedulerFrom w) 0;
-      cells = tabulate (getD w 1 0) (λ c. wordCell (getD w (4562 + c) 0)) 0;
+      cells = tabulate (getD w cellCountAt 0) (λ c. wordCell (getD w (cellsAt + c) 0)) 0;
     }

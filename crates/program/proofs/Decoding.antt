@@ -12,7 +12,7 @@ use Rattle.language.specs.declared.kind.StatementKind.the-variants.{Nothing, Th
 use Rattle.language.specs.declared.kind.ExpressionKind.{ExpressionKind}
 use Rattle.language.specs.declared.kind.ExpressionKind.the-variants.{Number, Truth, Variable, SharedCell, NewCell, Content, Sum, Less, Choose}
 use Rattle.language.specs.declared.kind.Kind.{Kind}
-use Rattle.language.specs.declared.kind.Kind.the-variants.{Header, Shared, Module, Statement, Expression, Unknown}
+use Rattle.language.specs.declared.kind.Kind.the-variants.{Header, Declared, Module, Statement, Expression, Unknown}
 use Rattle.language.specs.declared.frame.Frame.{Frame}
 use Rattle.program.specs.Trees.{Expr, new, content, sum, less, choose, Stmt, noFrame, frameAt, expressionWith, expressionOf, expressionTo, expressionAt, statementWith, statementOf, statementTo, statementAt}
 use Rattle.program.specs.inner.Ordered.{Ordered}
@@ -50,7 +50,7 @@ expression-of-agrees : (g h : ℕ → Expr) (n i : ℕ) (f : Frame) → Below n 
 expression-of-agrees g h n i f b e (Expression k) q = expression-with-agrees g h n i f b e k q
 expression-of-agrees g h n i f b e (Statement k) q = refl
 expression-of-agrees g h n i f b e Header q = refl
-expression-of-agrees g h n i f b e Shared q = refl
+expression-of-agrees g h n i f b e (Declared d) q = refl
 expression-of-agrees g h n i f b e Module q = refl
 expression-of-agrees g h n i f b e Unknown q = refl
 
@@ -105,7 +105,7 @@ statement-of-agrees : (x : ℕ → Expr) (g h : ℕ → Stmt) (n i : ℕ) (f : F
 statement-of-agrees x g h n i f b e (Statement k) q = statement-with-agrees x g h n i f b e k q
 statement-of-agrees x g h n i f b e (Expression k) q = refl
 statement-of-agrees x g h n i f b e Header q = refl
-statement-of-agrees x g h n i f b e Shared q = refl
+statement-of-agrees x g h n i f b e (Declared d) q = refl
 statement-of-agrees x g h n i f b e Module q = refl
 statement-of-agrees x g h n i f b e Unknown q = refl
 

@@ -3,8 +3,10 @@ pub mod Roots
 pub mod Decoding
 -- Shared cells and modules.
 pub mod OneMore
--- Frames taken apart.
+-- Frames taken apart: a frame of a text, the children in its fields, its node.
+pub mod FrameLaws
 pub mod NodeLaws
+pub mod NodeTrees
 -- Modules by number, main's body, the shared cells counted.
 pub mod MainLaws
 pub mod ModuleLaws

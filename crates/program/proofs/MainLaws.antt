@@ -9,7 +9,7 @@ use lib.ListN.{getD, length, drop, take, length-append, take-append-drop}
 use lib.Seq.{getD-at, length-take-le}
 use Rattle.language.specs.Kinds.{isModule}
 use Rattle.language.specs.declared.kind.Kind.{Kind}
-use Rattle.language.specs.declared.kind.Kind.the-variants.{Header, Shared, Module, Statement, Expression, Unknown}
+use Rattle.language.specs.declared.kind.Kind.the-variants.{Header, Declared, Module, Statement, Expression, Unknown}
 use Rattle.language.specs.declared.frame.Frame.{Frame}
 use Rattle.text.specs.Frames.{frameOfWord, framesOf}
 use Rattle.text.proofs.FrameWords.{frames-length, next-frame, frames-end}
@@ -22,7 +22,7 @@ use Rattle.program.proofs.OneMore.{part-no, part-yes}
 part-append : (fs : List Frame) (i : ℕ) (f : Frame) (k : Kind) (ps qs : List Part) → withPart fs i f k (ps ++ qs) ≡ withPart fs i f k ps ++ qs
 part-append fs i f Module ps qs = refl
 part-append fs i f Header ps qs = refl
-part-append fs i f Shared ps qs = refl
+part-append fs i f (Declared d) ps qs = refl
 part-append fs i f (Statement k) ps qs = refl
 part-append fs i f (Expression k) ps qs = refl
 part-append fs i f Unknown ps qs = refl

@@ -4,7 +4,8 @@ use mathlib.Core.Bool.{true}
 use mathlib.Core.List.{List, _++_}
 use Prim.Native.Nat.{ℕ}
 use Rattle.language.specs.Places.{isPlace}
-use Rattle.language.specs.Kinds.{statementUses, expressionUses, uses, NamesPlace, Child, childIn, children}
+use Rattle.language.specs.Kinds.{statementUses, expressionUses, uses, Child, childIn, children}
+use Rattle.language.specs.inner.Reads.{NamesPlace}
 use Rattle.language.specs.declared.kind.StatementKind.{StatementKind}
 use Rattle.language.specs.declared.kind.StatementKind.the-variants as S
 use Rattle.language.specs.declared.kind.ExpressionKind.{ExpressionKind}
@@ -26,6 +27,10 @@ statement-row k v s a b c r e h = h ∙ ap (λ (w : StatementKind). statementNod
 
 pub expression-node : (f : Frame) (k : ExpressionKind) (r : ExpressionNode) → f .kind ≡ Expression k → r ≡ expressionNodeOf k (f .s) (f .a) (f .b) (f .c) → r ≡ expressionNode f
 expression-node f k r e h = h ∙ ap (λ (w : Kind). expressionNodeIn w f) (sym e)
+
+-- a frame of another kind
+pub other-expression : (f : Frame) (k : Kind) (r : ExpressionNode) → f .kind ≡ k → r ≡ expressionNodeIn k f → r ≡ expressionNode f
+other-expression f k r e h = h ∙ ap (λ (w : Kind). expressionNodeIn w f) (sym e)
 
 pub statement-node : (f : Frame) (k : StatementKind) (r : StatementNode) → f .kind ≡ Statement k → r ≡ statementNodeOf k (f .s) (f .a) (f .b) (f .c) → r ≡ statementNode f
 statement-node f k r e h = h ∙ ap (λ (w : Kind). statementNodeIn w f) (sym e)

@@ -5,7 +5,8 @@ use mathlib.Core.Bool.{true, false, true≢false}
 use Prim.Native.Nat.{ℕ}
 use Rattle.language.specs.Kinds.{isShared, isModule}
 use Rattle.language.specs.declared.kind.Kind.{Kind}
-use Rattle.language.specs.declared.kind.Kind.the-variants.{Header, Shared, Module, Statement, Expression, Unknown}
+use Rattle.language.specs.declared.kind.DeclarationKind.the-variants.{Shared}
+use Rattle.language.specs.declared.kind.Kind.the-variants.{Header, Declared, Module, Statement, Expression, Unknown}
 use Rattle.language.specs.declared.frame.Frame.{Frame}
 use Rattle.program.specs.Programs.{SharedCell, cellOf, sharedOf, Part, partOf, withPart}
 
@@ -13,7 +14,7 @@ use Rattle.program.specs.Programs.{SharedCell, cellOf, sharedOf, Part, p
 
 -- the cell that a frame of the kind k is, if it is one
 abbrev pub cellIn : Frame → Kind → List SharedCell
-cellIn f Shared = cellOf f ∷ []
+cellIn f (Declared Shared) = cellOf f ∷ []
 cellIn f Header = []
 cellIn f Module = []
 cellIn f (Statement k) = []
@@ -25,7 +26,7 @@ unfolding sharedOf
 shared-more f fs = go (f .kind)
   where
     go : (k : Kind) → sharedOf (record { kind = k; s = f .s; a = f .a; b = f .b; c = f .c } ∷ fs) ≡ cellIn f k ++ sharedOf fs
-    go Shared = refl
+    go (Declared Shared) = refl
     go Header = refl
     go Module = refl
     go (Statement k) = refl
@@ -33,7 +34,7 @@ shared-more f fs = go (f .kind)
     go Unknown = refl
 
 cell-none : (f : Frame) (k : Kind) → isShared k ≡ false → cellIn f k ≡ []
-cell-none f Shared e = absurd (true≢false e)
+cell-none f (Declared Shared) e = absurd (true≢false e)
 cell-none f Header e = refl
 cell-none f Module e = refl
 cell-none f (Statement k) e = refl
@@ -41,7 +42,7 @@ cell-none f (Expression k) e = refl
 cell-none f Unknown e = refl
 
 cell-one : (f : Frame) (k : Kind) → isShared k ≡ true → cellIn f k ≡ cellOf f ∷ []
-cell-one f Shared e = refl
+cell-one f (Declared Shared) e = refl
 cell-one f Header e = absurd (true≢false (sym e))
 cell-one f Module e = absurd (true≢false (sym e))
 cell-one f (Statement k) e = absurd (true≢false (sym e))
@@ -58,7 +59,7 @@ shared-yes f fs e = shared-more f fs ∙ ap (λ (cs : List SharedCell). cs ++ sh
 pub part-no : (fs : List Frame) (i : ℕ) (f : Frame) (k : Kind) (ps : List Part) → isModule k ≡ false → withPart fs i f k ps ≡ ps
 part-no fs i f Module ps e = absurd (true≢false e)
 part-no fs i f Header ps e = refl
-part-no fs i f Shared ps e = refl
+part-no fs i f (Declared d) ps e = refl
 part-no fs i f (Statement k) ps e = refl
 part-no fs i f (Expression k) ps e = refl
 part-no fs i f Unknown ps e = refl
@@ -66,7 +67,7 @@ part-no fs i f Unknown ps e = refl
 pub part-yes : (fs : List Frame) (i : ℕ) (f : Frame) (k : Kind) (ps : List Part) → isModule k ≡ true → withPart fs i f k ps ≡ partOf fs i f ∷ ps
 part-yes fs i f Module ps e = refl
 part-yes fs i f Header ps e = absurd (true≢false (sym e))
-part-yes fs i f Shared ps e = absurd (true≢false (sym e))
+part-yes fs i f (Declared d) ps e = absurd (true≢false (sym e))
 part-yes fs i f (Statement k) ps e = absurd (true≢false (sym e))
 part-yes fs i f (Expression k) ps e = absurd (true≢false (sym e))
 part-yes fs i f Unknown ps e = absurd (true≢false (sym e))

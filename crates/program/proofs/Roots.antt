@@ -5,14 +5,14 @@ use Prim.Native.Nat.{ℕ, zero, suc}
 use Rattle.language.specs.declared.kind.StatementKind.the-variants.{Nothing, Then, DoAt, Start, StartWait, Cooperate, Let, Store, If, While}
 use Rattle.language.specs.declared.kind.ExpressionKind.the-variants.{Number, Truth, Variable, SharedCell, NewCell, Content, Sum, Less, Choose}
 use Rattle.language.specs.declared.kind.Kind.{Kind}
-use Rattle.language.specs.declared.kind.Kind.the-variants.{Header, Shared, Module, Statement, Expression, Unknown}
+use Rattle.language.specs.declared.kind.Kind.the-variants.{Header, Declared, Module, Statement, Expression, Unknown}
 use Rattle.language.specs.declared.frame.Frame.{Frame}
 use Rattle.program.specs.Trees.{Expr, Stmt, rootE, rootS, frameAt, expressionOf, expressionTo, expressionAt, statementOf, statementTo, statementAt}
 
 -- ---- expressions
 expression-root-of : (rec : ℕ → Expr) (i : ℕ) (f : Frame) (k : Kind) → rootE (expressionOf rec i f k) ≡ i
 expression-root-of rec i f Header = refl
-expression-root-of rec i f Shared = refl
+expression-root-of rec i f (Declared d) = refl
 expression-root-of rec i f Module = refl
 expression-root-of rec i f Unknown = refl
 expression-root-of rec i f (Statement k) = refl
@@ -38,7 +38,7 @@ expression-root fs i = expression-root-to (suc i) fs i
 -- ---- statements
 statement-root-of : (expr : ℕ → Expr) (rec : ℕ → Stmt) (i : ℕ) (f : Frame) (k : Kind) → rootS (statementOf expr rec i f k) ≡ i
 statement-root-of expr rec i f Header = refl
-statement-root-of expr rec i f Shared = refl
+statement-root-of expr rec i f (Declared d) = refl
 statement-root-of expr rec i f Module = refl
 statement-root-of expr rec i f Unknown = refl
 statement-root-of expr rec i f (Expression k) = refl

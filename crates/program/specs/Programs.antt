@@ -6,8 +6,10 @@ use lib.ListN.{length, getD, take}
 use Rattle.basics.specs.If.{if_then_else_}
 use Rattle.language.specs.Types.{cellType}
 use Rattle.language.specs.declared.kind.Kind.{Kind}
-use Rattle.language.specs.declared.kind.Kind.the-variants.{Header, Shared, Module, Statement, Expression, Unknown}
+use Rattle.language.specs.declared.kind.DeclarationKind.the-variants.{Shared}
+use Rattle.language.specs.declared.kind.Kind.the-variants.{Header, Declared, Module, Statement, Expression, Unknown}
 use Rattle.language.specs.declared.frame.Frame.{Frame}
+use Rattle.language.specs.Limits.{defaultAllowance}
 use Rattle.program.specs.Trees.{Stmt, nothing, frameAt, statementAt}
 
 -- '01 shared cell: S owner (a scheduler), A content type, B first content'
@@ -38,7 +40,7 @@ abbrev pub cellOf : Frame → SharedCell
 cellOf f = record { owner = f .s; content = f .a; first = f .b }
 
 abbrev withShared : Frame → Kind → List SharedCell → List SharedCell
-withShared f Shared cs = cellOf f ∷ cs
+withShared f (Declared Shared) cs = cellOf f ∷ cs
 withShared f Header cs = cs
 withShared f Module cs = cs
 withShared f (Statement k) cs = cs
@@ -60,7 +62,7 @@ partOf fs i f = record { frame = i; types = take (f .s) (f .b ∷ f .c ∷ []); 
 abbrev pub withPart : List Frame → ℕ → Frame → Kind → List Part → List Part
 withPart fs i f Module ps = partOf fs i f ∷ ps
 withPart fs i f Header ps = ps
-withPart fs i f Shared ps = ps
+withPart fs i f (Declared d) ps = ps
 withPart fs i f (Statement k) ps = ps
 withPart fs i f (Expression k) ps = ps
 withPart fs i f Unknown ps = ps
@@ -72,7 +74,7 @@ modulesFrom fs i (f ∷ rest) = withPart fs i f (f .kind) (modulesFrom fs (suc i
 
 -- 'A step allowance (0 means 4,096)'
 unfoldable pub allowanceOf : ℕ → ℕ
-allowanceOf n = if eqb n 0 then 4096 else n
+allowanceOf n = if eqb n 0 then defaultAllowance else n
 
 unfoldable pub programOf : List Frame → Program
 programOf fs =

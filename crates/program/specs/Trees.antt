@@ -7,7 +7,7 @@ use Rattle.language.specs.declared.kind.StatementKind.the-variants.{Nothing, Th
 use Rattle.language.specs.declared.kind.ExpressionKind.{ExpressionKind}
 use Rattle.language.specs.declared.kind.ExpressionKind.the-variants.{Number, Truth, Variable, SharedCell, NewCell, Content, Sum, Less, Choose}
 use Rattle.language.specs.declared.kind.Kind.{Kind}
-use Rattle.language.specs.declared.kind.Kind.the-variants.{Header, Shared, Module, Statement, Expression, Unknown}
+use Rattle.language.specs.declared.kind.Kind.the-variants.{Header, Declared, Module, Statement, Expression, Unknown}
 use Rattle.language.specs.declared.frame.Frame.{Frame}
 
 -- K 20 to 28. The first number is the frame's; the second, where there is one, is the number, the truth, the index of the variable or of the shared cell, or the new cell's owner
@@ -77,7 +77,7 @@ abbrev pub expressionOf : (ℕ → Expr) → ℕ → Frame → Kind → Expr
 expressionOf rec i f (Expression k) = expressionWith rec i f k
 expressionOf rec i f (Statement k) = number i 0
 expressionOf rec i f Header = number i 0
-expressionOf rec i f Shared = number i 0
+expressionOf rec i f (Declared d) = number i 0
 expressionOf rec i f Module = number i 0
 expressionOf rec i f Unknown = number i 0
 
@@ -113,7 +113,7 @@ abbrev pub statementOf : (ℕ → Expr) → (ℕ → Stmt) → ℕ → Frame →
 statementOf expr rec i f (Statement k) = statementWith expr rec i f k
 statementOf expr rec i f (Expression k) = nothing i
 statementOf expr rec i f Header = nothing i
-statementOf expr rec i f Shared = nothing i
+statementOf expr rec i f (Declared d) = nothing i
 statementOf expr rec i f Module = nothing i
 statementOf expr rec i f Unknown = nothing i
 

@@ -2,3 +2,5 @@
 pub mod Nodes
 pub mod Ordered
 pub mod Modules
+pub mod Shared
+pub mod Children

@@ -1,5 +1,6 @@
 // Modules by their number, and main, the last.
 use language::kind::is_module;
+use language::limit::MOST_PARAMETERS;
 use text::line::frame_of_word;
 ghost use mathlib.Core.Path.{_≡_};
 ghost use Rattle.text.specs.Frames.{framesOf};
@@ -18,8 +19,8 @@ pub struct ModuleFound {
 fn parameters_of(s: u8) -> u64
     ensures { λ r. ⌜ r ≡ parametersIn s ⌝ }
 {
-    if 2 < s {
-        return 2;
+    if MOST_PARAMETERS < s {
+        return MOST_PARAMETERS as u64;
     }
     s as u64
 }

@@ -7,20 +7,39 @@ use language::kind::StatementKind;
 ghost use mathlib.Core.Path.{_≡_};
 ghost use mathlib.Core.Bool.{true};
 ghost use Rattle.language.specs.Places.{isPlace};
-ghost use Rattle.language.specs.Kinds.{statementUses, expressionUses, NamesPlace};
+ghost use Rattle.language.specs.Kinds.{statementUses, expressionUses};
+ghost use Rattle.language.specs.inner.Reads.{NamesPlace};
 ghost use Rattle.language.specs.declared.kind.Use.{Use};
 ghost use Rattle.program.specs.inner.Nodes.{expressionNode, expressionNodeOf, statementNode, statementNodeOf};
 
-// An expression, or another frame, which reads as a number.
-pub enum ExpressionNode {
-    Number,
-    Truth,
+// An expression without operands, K 20 to 23: the number, the truth, the index of a variable or of a
+// shared cell.
+pub enum Leaf {
+    Number(u16),
+    Truth(u8),
     Variable(u8),
     SharedCell(u8),
-    NewCell(Place, u16),
-    Content(u16),
-    Sum(u16, u16),
-    Less(u16, u16),
+}
+
+// What becomes of a value, K 24 and 25: the content of a new cell of that owner, or the cell whose
+// content is read.
+pub enum CellUse {
+    Make(Place),
+    Read,
+}
+
+// What becomes of two numbers, K 26 and 27.
+pub enum Operator {
+    Sum,
+    Less,
+}
+
+// An expression by its operands: none, a value, two numbers, a truth and two numbers. Another frame
+// reads as the number 0.
+pub enum ExpressionNode {
+    Plain(Leaf),
+    OfValue(CellUse, u16),
+    OfNumbers(Operator, u16, u16),
     Choose(u16, u16, u16),
 }
 
@@ -43,14 +62,17 @@ fn expression_of(k: ExpressionKind, s: u8, a: u16, b: u16, c: u16) -> Expression
     ensures { λ r. ⌜ r ≡ expressionNodeOf k s a b c ⌝ }
 {
     match k {
-        ExpressionKind::Number => ExpressionNode::Number,
-        ExpressionKind::Truth => ExpressionNode::Truth,
-        ExpressionKind::Variable => ExpressionNode::Variable(s),
-        ExpressionKind::SharedCell => ExpressionNode::SharedCell(s),
-        ExpressionKind::NewCell => ExpressionNode::NewCell(Place::known(s as u64), a),
-        ExpressionKind::Content => ExpressionNode::Content(a),
-        ExpressionKind::Sum => ExpressionNode::Sum(a, b),
-        ExpressionKind::Less => ExpressionNode::Less(a, b),
+        ExpressionKind::Number => ExpressionNode::Plain(Leaf::Number(a)),
+        ExpressionKind::Truth => ExpressionNode::Plain(Leaf::Truth(s)),
+        ExpressionKind::Variable => ExpressionNode::Plain(Leaf::Variable(s)),
+        ExpressionKind::SharedCell => ExpressionNode::Plain(Leaf::SharedCell(s)),
+        ExpressionKind::NewCell => {
+            let owner = Place::known(s as u64);
+            ExpressionNode::OfValue(CellUse::Make(owner), a)
+        },
+        ExpressionKind::Content => ExpressionNode::OfValue(CellUse::Read, a),
+        ExpressionKind::Sum => ExpressionNode::OfNumbers(Operator::Sum, a, b),
+        ExpressionKind::Less => ExpressionNode::OfNumbers(Operator::Less, a, b),
         ExpressionKind::Choose => ExpressionNode::Choose(a, b, c),
     }
 }
@@ -62,12 +84,12 @@ pub fn expression_node(f: Frame) -> ExpressionNode
 {
     let kind = f.kind;
     match kind {
-        Kind::Header => ExpressionNode::Number,
-        Kind::Shared => ExpressionNode::Number,
-        Kind::Module => ExpressionNode::Number,
-        Kind::Statement(k) => ExpressionNode::Number,
+        Kind::Header => ExpressionNode::Plain(Leaf::Number(0)),
+        Kind::Declared(d) => ExpressionNode::Plain(Leaf::Number(0)),
+        Kind::Module => ExpressionNode::Plain(Leaf::Number(0)),
+        Kind::Statement(k) => ExpressionNode::Plain(Leaf::Number(0)),
         Kind::Expression(k) => expression_of(k, f.s, f.a, f.b, f.c),
-        Kind::Unknown => ExpressionNode::Number,
+        Kind::Unknown => ExpressionNode::Plain(Leaf::Number(0)),
     }
 }
 
@@ -97,7 +119,7 @@ pub fn statement_node(f: Frame) -> StatementNode
     let kind = f.kind;
     match kind {
         Kind::Header => StatementNode::Nothing,
-        Kind::Shared => StatementNode::Nothing,
+        Kind::Declared(d) => StatementNode::Nothing,
         Kind::Module => StatementNode::Nothing,
         Kind::Statement(k) => statement_of(k, f.s, f.a, f.b, f.c),
         Kind::Expression(k) => StatementNode::Nothing,

@@ -11,14 +11,15 @@ use Rattle.language.specs.Kinds.{isShared}
 use Rattle.language.specs.Places.{hasScheduler}
 use Rattle.language.specs.Types.{contentWord}
 use Rattle.language.specs.declared.kind.Kind.{Kind}
-use Rattle.language.specs.declared.kind.Kind.the-variants.{Header, Shared, Module, Statement, Expression, Unknown}
+use Rattle.language.specs.declared.kind.DeclarationKind.the-variants.{Shared}
+use Rattle.language.specs.declared.kind.Kind.the-variants.{Header, Declared, Module, Statement, Expression, Unknown}
 use Rattle.language.specs.declared.frame.Frame.{Frame}
 use Rattle.program.specs.Trees.{frameAt, noFrame}
 use Rattle.program.specs.Programs.{SharedCell, typeOfShared, cellOf, sharedOf}
 use Rattle.program.proofs.OneMore.{cellIn, shared-more}
-use Rattle.layout.specs.Fields.{schedulersOf, firstContentFine, countOf}
+use Rattle.fields.specs.Fields.{schedulersOf, firstContentFine, countOf}
+use Rattle.fields.proofs.Tallies.{count-cells}
 use Rattle.layout.specs.Faults.{NoFault}
-use Rattle.layout.proofs.Tallies.{count-cells}
 use Rattle.reach.proofs.Passed.{fields}
 
 -- x is as refusal 5 wants it behind the cells `before`, in a file of n schedulers, and its first content has Q
@@ -60,10 +61,10 @@ count-shared fs = count-cells fs ∙ length-map (sharedOf fs) typeOfShared
 
 module _ (Q : ℕ → Type 0) {fs : List Frame} (fine : NoFault fs) (each : (j : ℕ) → Q (frameAt fs j .b)) where
   -- the frame f behind the frames `before`
-  cell-fine : (before : List Frame) (f : Frame) → length before < length fs → frameAt fs (length before) ≡ f → take (length before) fs ≡ before → f .kind ≡ Shared
+  cell-fine : (before : List Frame) (f : Frame) → length before < length fs → frameAt fs (length before) ≡ f → take (length before) fs ≡ before → f .kind ≡ Declared Shared
       → CellFine Q (schedulersOf fs) (sharedOf before) (cellOf f)
   cell-fine before f l e t k =
-      let r = fields fine (length before) l Shared (ap (λ (g : Frame). g .kind) e ∙ k) in
+      let r = fields fine (length before) l (Declared Shared) (ap (λ (g : Frame). g .kind) e ∙ k) in
       record {
         few = subst (λ (m : ℕ). m < 16) (ap (countOf isShared) t ∙ count-shared before) (ltb-true _ 16 (r .kind));
         owner = subst (λ (g : Frame). hasScheduler (schedulersOf fs) (g .s) ≡ true) e (r .s);
@@ -93,7 +94,7 @@ module _ (Q : ℕ → Type 0) {fs : List Frame} (fine : NoFault fs) (each : (j :
       on r = rw append-nil at r
 
       go : (k : Kind) → f .kind ≡ k → CellsFine Q (schedulersOf fs) (sharedOf before ++ cellIn f k) (sharedOf tail) → CellsFine Q (schedulersOf fs) (sharedOf before) (cellIn f k ++ sharedOf tail)
-      go Shared q r = CellsFine.more (cell-fine before f inside here upto q) r
+      go (Declared Shared) q r = CellsFine.more (cell-fine before f inside here upto q) r
       go Header q r = on r
       go Module q r = on r
       go (Statement k) q r = on r

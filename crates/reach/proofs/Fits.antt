@@ -14,16 +14,16 @@ use Rattle.language.specs.Kinds.{classOf, Child}
 use Rattle.language.specs.declared.kind.Class.{Class}
 use Rattle.language.specs.declared.kind.StatementKind.the-variants.{Nothing, Then, DoAt, Start, StartWait, Cooperate, Let, Store, If, While}
 use Rattle.language.specs.declared.kind.Kind.{Kind}
-use Rattle.language.specs.declared.kind.Kind.the-variants.{Header, Shared, Module, Statement, Expression, Unknown}
+use Rattle.language.specs.declared.kind.Kind.the-variants.{Header, Declared, Module, Statement, Expression, Unknown}
 use Rattle.language.specs.declared.frame.Frame.{Frame}
 use Rattle.program.specs.Trees.{Expr, frameAt, expressionAt, arguments, statementOf, statementAt}
 use Rattle.program.specs.Programs.{Part, SharedCell, typeOfShared, noModule, modulesFrom, programOf}
 use Rattle.program.proofs.Decoding.{statement-at}
-use Rattle.layout.specs.Fields.{schedulersOf, firstContentFine}
+use Rattle.program.proofs.Roots.{statement-root}
+use Rattle.fields.specs.Fields.{schedulersOf, firstContentFine}
 use Rattle.layout.specs.Order.{Row, hasClass}
 use Rattle.layout.specs.Faults.{NoFault}
 use Rattle.layout.proofs.Trees.{row-le}
-use Rattle.program.proofs.Roots.{statement-root}
 use Rattle.machine.specs.State.{run}
 use Rattle.machine.specs.Fresh.{firstCell}
 use Rattle.machine.specs.Values.{firstContent}
@@ -83,7 +83,7 @@ is-statement : (k : Kind) → classOf k ≡ Class.Statement → isStatement k �
 is-statement (Statement k) e = refl
 is-statement (Expression k) e = absurd (let z : _≡_ {A = ℕ} 0 1 = cc in omega arith)
 is-statement Header e = absurd (let z : _≡_ {A = ℕ} 0 1 = cc in omega arith)
-is-statement Shared e = absurd (let z : _≡_ {A = ℕ} 0 1 = cc in omega arith)
+is-statement (Declared d) e = absurd (let z : _≡_ {A = ℕ} 0 1 = cc in omega arith)
 is-statement Module e = absurd (let z : _≡_ {A = ℕ} 0 1 = cc in omega arith)
 is-statement Unknown e = absurd (let z : _≡_ {A = ℕ} 0 1 = cc in omega arith)
 
@@ -112,7 +112,7 @@ module _ {fs : List Frame} (size : Sized fs) (fine : NoFault fs) where
     of-kind : (k : Kind) → isStatement k ≡ true → frameAt fs j .kind ≡ k → Parts fs n (statementOf (λ i. expressionAt fs i) (λ i. statementAt fs i) j (frameAt fs j) k)
     of-kind (Expression k) s q = absurd (true≢false (sym s))
     of-kind Header s q = absurd (true≢false (sym s))
-    of-kind Shared s q = absurd (true≢false (sym s))
+    of-kind (Declared d) s q = absurd (true≢false (sym s))
     of-kind Module s q = absurd (true≢false (sym s))
     of-kind Unknown s q = absurd (true≢false (sym s))
     of-kind (Statement Nothing) s q = of-nothing
@@ -130,7 +130,7 @@ module _ {fs : List Frame} (size : Sized fs) (fine : NoFault fs) where
   has-class (Statement k) s = refl
   has-class (Expression k) s = refl
   has-class Header s = s
-  has-class Shared s = s
+  has-class (Declared d) s = s
   has-class Module s = s
   has-class Unknown s = s
 

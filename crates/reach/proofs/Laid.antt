@@ -9,11 +9,11 @@ use Rattle.language.specs.Places.{hasPlace}
 use Rattle.language.specs.declared.kind.StatementKind.the-variants.{Nothing, Then, DoAt, Start, StartWait, Cooperate, Let, Store, If, While}
 use Rattle.language.specs.declared.kind.ExpressionKind.the-variants.{Number, Truth, Variable, SharedCell, NewCell, Content, Sum, Less, Choose}
 use Rattle.language.specs.declared.kind.Kind.{Kind}
-use Rattle.language.specs.declared.kind.Kind.the-variants.{Header, Shared, Module, Statement, Expression, Unknown}
+use Rattle.language.specs.declared.kind.Kind.the-variants.{Header, Declared, Module, Statement, Expression, Unknown}
 use Rattle.language.specs.declared.frame.Frame.{Frame}
 use Rattle.program.specs.Trees.{Expr, Stmt, frameAt, expressionOf, expressionAt, arguments, statementOf, statementAt}
 use Rattle.program.proofs.Decoding.{expression-at, statement-at}
-use Rattle.layout.specs.Fields.{schedulersOf}
+use Rattle.fields.specs.Fields.{schedulersOf}
 use Rattle.layout.specs.Depths.{Depth}
 use Rattle.layout.specs.Faults.{NoFault}
 use Rattle.layout.proofs.Trees.{tree-le, One, Two, Three, one-of, two-of, three-of}
@@ -83,7 +83,7 @@ module _ (Q : ℕ → Type 0) {fs : List Frame} (fine : NoFault fs) (none : Q 0)
 
     e-kind : (k : Kind) → frameAt fs j .kind ≡ k → Fine (expressionOf At j (frameAt fs j) k)
     e-kind Header e = LaidE.number none
-    e-kind Shared e = LaidE.number none
+    e-kind (Declared d) e = LaidE.number none
     e-kind Module e = LaidE.number none
     e-kind Unknown e = LaidE.number none
     e-kind (Statement k) e = LaidE.number none
@@ -113,7 +113,7 @@ module _ (Q : ℕ → Type 0) {fs : List Frame} (fine : NoFault fs) (none : Q 0)
   module _ (d j e : ℕ) (at : Depth fs j e) (rec : (i : ℕ) → Depth fs i (suc e) → LaidS Q (schedulersOf fs) d (statementAt fs i)) where
     s-kind : (k : Kind) → frameAt fs j .kind ≡ k → LaidS Q (schedulersOf fs) (suc d) (statementOf (λ i. expressionAt fs i) (λ i. statementAt fs i) j (frameAt fs j) k)
     s-kind Header q = LaidS.nothing
-    s-kind Shared q = LaidS.nothing
+    s-kind (Declared d) q = LaidS.nothing
     s-kind Module q = LaidS.nothing
     s-kind Unknown q = LaidS.nothing
     s-kind (Expression k) q = LaidS.nothing

@@ -6,11 +6,11 @@ use native.Mathlib.Omega.{arith}
 use lib.ListN.{length, take, length-take}
 use Rattle.basics.specs.Members.{All}
 use Rattle.language.specs.declared.kind.Kind.{Kind}
-use Rattle.language.specs.declared.kind.Kind.the-variants.{Header, Shared, Module, Statement, Expression, Unknown}
+use Rattle.language.specs.declared.kind.Kind.the-variants.{Header, Declared, Module, Statement, Expression, Unknown}
 use Rattle.language.specs.declared.frame.Frame.{Frame}
 use Rattle.program.specs.Trees.{frameAt}
 use Rattle.program.specs.Programs.{Part, partOf, withPart, modulesFrom}
-use Rattle.layout.specs.Fields.{schedulersOf}
+use Rattle.fields.specs.Fields.{schedulersOf}
 use Rattle.layout.specs.Depths.{Depth}
 use Rattle.layout.specs.Faults.{NoFault}
 use Rattle.layout.proofs.Trees.{From, from-next, from-start}
@@ -28,7 +28,7 @@ pub record IsPart (fs : List Frame) (m : Part) : Type 0 where
 with-part : {fs : List Frame} (i : ℕ) (f : Frame) (k : Kind) (ps : List Part) → i < length fs → f ≡ frameAt fs i → f .kind ≡ k → All (IsPart fs) ps → All (IsPart fs) (withPart fs i f k ps)
 with-part {fs} i f Module ps l e k h = All.more (record { at = i; inside = l; kind = ap (λ (g : Frame). g .kind) (sym e) ∙ k; same = ap (partOf fs i) e }) h
 with-part i f Header ps l e k h = h
-with-part i f Shared ps l e k h = h
+with-part i f (Declared d) ps l e k h = h
 with-part i f (Statement q) ps l e k h = h
 with-part i f (Expression q) ps l e k h = h
 with-part i f Unknown ps l e k h = h
@@ -51,7 +51,7 @@ pub data LastPlain : List Part → Type 0 where
 with-later : (fs : List Frame) (i : ℕ) (f : Frame) (k : Kind) {ps : List Part} → LastPlain ps → LastPlain (withPart fs i f k ps)
 with-later fs i f Module h = LastPlain.later h
 with-later fs i f Header h = h
-with-later fs i f Shared h = h
+with-later fs i f (Declared d) h = h
 with-later fs i f (Statement q) h = h
 with-later fs i f (Expression q) h = h
 with-later fs i f Unknown h = h

@@ -4,7 +4,7 @@ use Prim.Native.Nat.{ℕ, _≤_}
 use lib.ListN.{length}
 use Rattle.language.specs.declared.frame.Frame.{Frame}
 use Rattle.program.specs.Programs.{Part, noModule, modulesFrom, programOf}
-use Rattle.layout.specs.Fields.{schedulersOf}
+use Rattle.fields.specs.Fields.{schedulersOf}
 use Rattle.layout.specs.Faults.{NoFault}
 use Rattle.machine.proofs.Lists.{all-getD}
 use Rattle.machine.proofs.Depth.{deep-fits, BodiesFit}

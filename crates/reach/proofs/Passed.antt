@@ -16,11 +16,11 @@ use Rattle.language.specs.declared.kind.Kind.the-variants.{Module}
 use Rattle.language.specs.declared.frame.Frame.{Frame}
 use Rattle.program.specs.Trees.{frameAt, noFrame}
 use Rattle.program.specs.inner.Ordered.{Ordered}
-use Rattle.layout.specs.Fields.{headerFine, schedulersOf, fieldFine, kindFine, frameFine}
+use Rattle.program.proofs.NodeLaws.{childrenAs}
+use Rattle.fields.specs.Fields.{headerFine, schedulersOf, fieldFine, kindFine, frameFine}
 use Rattle.layout.specs.Order.{Row, hasClass, isMain}
 use Rattle.layout.specs.Depths.{Depth}
 use Rattle.layout.specs.Faults.{Fault, NoFault}
-use Rattle.program.proofs.NodeLaws.{childrenAs}
 use Rattle.layout.proofs.Trees.{HasTree, row-of, is-module}
 use Rattle.layout.proofs.Order.{all-trees, is-ordered}
 

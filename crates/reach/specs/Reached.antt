@@ -8,6 +8,7 @@ use Rattle.language.specs.declared.frame.Frame.{Frame}
 use Rattle.text.specs.Reading.{Reads, frames}
 use Rattle.program.specs.Programs.{programOf}
 use Rattle.layout.specs.Faults.{NoFault}
+use Rattle.machine.specs.Offsets.{stateLength}
 use Rattle.machine.specs.Turns.{endlessSpaces, Stepped}
 use Rattle.machine.specs.Steps.{step, stepWithin}
 use Rattle.machine.specs.Runs.{steps, stateAfter}
@@ -27,7 +28,7 @@ ReachedInRange = (bs : List ℕ) (fs : List Frame) → Passes bs fs → (cs : Li
 -- 'States and answers are those that the calls give': on any lent buffer of the right length, from the fresh call on, each call answers as its step does, and leaves the words of its state
 abbrev pub CallsAreSteps : Type 0
 CallsAreSteps =
-    (bs : List ℕ) (fs : List Frame) → Passes bs fs → (w cs : List ℕ) → length w ≡ 4818
+    (bs : List ℕ) (fs : List Frame) → Passes bs fs → (w cs : List ℕ) → length w ≡ stateLength
     → callsFrom fs (freshCall fs w .words) cs
     ≡ map (λ (r : Stepped). record { answer = r .answer; thread = r .thread; words = pack (r .state) }) (steps (programOf fs) cs)
 

@@ -12,6 +12,7 @@ use Rattle.basics.proofs.Ifs.{if-all, and-true}
 use Rattle.language.specs.Places.{private}
 use Rattle.language.specs.Types.{numberType, truthType, isCell, roomAround, public}
 use Rattle.language.specs.declared.effect.Effect.{Effect}
+use Rattle.language.specs.Refusals.{unbound, illTyped, escaping}
 use Rattle.program.specs.Trees.{Expr, rootE}
 use Rattle.layout.proofs.Placed.{PlacedE}
 use Rattle.rules.specs.declared.finding.Typing.{Typing}
@@ -71,29 +72,29 @@ module _ {n j : ℕ} where
   under-choose-c i (BeforeE.before l) b (Sooner.sooner h) = Sooner.sooner (inl l)
 
 -- ---- a rule that the root breaks: what is found there is that rule, or a smaller number
-own-named : (ts : List ℕ) (s i : ℕ) → length ts ≤ s → Sooner Untyped 8 i (namedRule ts s i)
+own-named : (ts : List ℕ) (s i : ℕ) → length ts ≤ s → Sooner Untyped unbound i (namedRule ts s i)
 unfolding namedRule
-own-named ts s i h = if-all (Sooner Untyped 8 i) (ltb s (length ts)) _ _ (λ l. absurd (let a : s < length ts = ltb-true _ _ l in omega arith)) (λ l. exactly)
+own-named ts s i h = if-all (Sooner Untyped unbound i) (ltb s (length ts)) _ _ (λ l. absurd (let a : s < length ts = ltb-true _ _ l in omega arith)) (λ l. exactly)
 
-own-numbers : (w i t u : ℕ) (e f : Effect) → ((t ≡ numberType) × (u ≡ numberType) → ⊥) → Sooner Untyped 9 i (numbersRule w i (Typed t e) (Typed u f))
+own-numbers : (w i t u : ℕ) (e f : Effect) → ((t ≡ numberType) × (u ≡ numberType) → ⊥) → Sooner Untyped illTyped i (numbersRule w i (Typed t e) (Typed u f))
 unfolding numbersRule
-own-numbers w i t u e f z = if-all (Sooner Untyped 9 i) (eqb t numberType && eqb u numberType) _ _ (λ p. let q = and-true _ _ p in absurd (z (eqb-true _ _ (q .0), eqb-true _ _ (q .1)))) (λ p. exactly)
+own-numbers w i t u e f z = if-all (Sooner Untyped illTyped i) (eqb t numberType && eqb u numberType) _ _ (λ p. let q = and-true _ _ p in absurd (z (eqb-true _ _ (q .0), eqb-true _ _ (q .1)))) (λ p. exactly)
 
 ownE : {cells Γ : List ℕ} {x : Expr} {n : ℕ} → BreaksE cells Γ x n → Sooner Untyped n (rootE x) (typeIn cells Γ x)
 unfolding typeIn newRule contentRule chooseRule
 ownE (BreaksE.variable h) = own-named _ _ _ h
 ownE (BreaksE.shared h) = own-named _ _ _ h
-ownE (BreaksE.new-deep {i = i} {t = t} x h) = rw (complete x) (if-all (Sooner Untyped 9 i) (not (roomAround t)) _ _ (λ l. exactly) (λ l. absurd (true≢false (sym (not-false _ l) ∙ h))))
+ownE (BreaksE.new-deep {i = i} {t = t} x h) = rw (complete x) (if-all (Sooner Untyped illTyped i) (not (roomAround t)) _ _ (λ l. exactly) (λ l. absurd (true≢false (sym (not-false _ l) ∙ h))))
 ownE (BreaksE.new-escapes {i = i} {s = s} {t = t} ne x o) =
     rw (complete x) (
-    if-all (Sooner Untyped 10 i) (not (roomAround t)) _ _ (λ l. smaller {m = 9} (omega arith))
-    (λ l. if-all (Sooner Untyped 10 i) (eqb s private) _ _ (λ p. absurd (ne (eqb-true _ _ p)))
-    (λ p. if-all (Sooner Untyped 10 i) (not (public t)) _ _ (λ q. exactly) (λ q. absurd (true≢false (sym (not-false _ q) ∙ o))))))
-ownE (BreaksE.content {i = i} {t = t} x h) = rw (complete x) (if-all (Sooner Untyped 9 i) (isCell t) _ _ (λ l. absurd (true≢false (sym l ∙ h))) (λ l. exactly))
+    if-all (Sooner Untyped escaping i) (not (roomAround t)) _ _ (λ l. smaller {m = illTyped} (omega arith))
+    (λ l. if-all (Sooner Untyped escaping i) (eqb s private) _ _ (λ p. absurd (ne (eqb-true _ _ p)))
+    (λ p. if-all (Sooner Untyped escaping i) (not (public t)) _ _ (λ q. exactly) (λ q. absurd (true≢false (sym (not-false _ q) ∙ o))))))
+ownE (BreaksE.content {i = i} {t = t} x h) = rw (complete x) (if-all (Sooner Untyped illTyped i) (isCell t) _ _ (λ l. absurd (true≢false (sym l ∙ h))) (λ l. exactly))
 ownE (BreaksE.sum x y z) = rw (complete x, complete y) (own-numbers _ _ _ _ _ _ z)
 ownE (BreaksE.less x y z) = rw (complete x, complete y) (own-numbers _ _ _ _ _ _ z)
 ownE (BreaksE.choose {t = t} {u = u} {v = v} x y z w) =
-    rw (complete x, complete y, complete z) (if-all (Sooner Untyped 9 _) (eqb t truthType && eqb u numberType && eqb v numberType) _ _
+    rw (complete x, complete y, complete z) (if-all (Sooner Untyped illTyped _) (eqb t truthType && eqb u numberType && eqb v numberType) _ _
     (λ p. let q = and-true (eqb t truthType && eqb u numberType) _ p in let r = and-true _ _ (q .0) in absurd (w (eqb-true _ _ (r .0), eqb-true _ _ (r .1), eqb-true _ _ (q .1)))) (λ p. exactly))
 
 -- ---- whatever is broken, at the root or below it

@@ -15,13 +15,14 @@ use Rattle.language.specs.Places.{private, Standing, unlinked}
 use Rattle.language.specs.Types.{truthType, isCell, public, contentOf}
 use Rattle.language.specs.Effects.{within}
 use Rattle.language.specs.declared.effect.Effect.{Effect}
+use Rattle.language.specs.Refusals.{unbound, illTyped, escaping, wrongEffect, whileUnlinked, instantLoop}
 use Rattle.program.specs.Trees.{Expr, Stmt, rootS}
 use Rattle.layout.proofs.Placed.{PlacedEs, PlacedS}
 use Rattle.rules.specs.declared.finding.Typing.{Typing}
 use Rattle.rules.specs.declared.finding.Typing.the-variants.{Typed, Untyped}
 use Rattle.rules.specs.declared.finding.Conduct.{Conduct}
 use Rattle.rules.specs.declared.finding.Conduct.the-variants.{Does, Fails}
-use Rattle.rules.specs.Rules.{Signature, signatureAt, AllPublic}
+use Rattle.rules.specs.Rules.{Setting, Signature, signatureAt, AllPublic}
 use Rattle.rules.specs.Breaks.{BreaksS, Starts}
 use Rattle.rules.specs.Broken.{BrokenE, Operand, ChildS, BrokenS}
 use Rattle.rules.specs.inner.Checking.{Argued, argue, typesIn, startRule, cooperateRule, seqRule, doRule, joinRule, letRule, storeRule, ifElseRule, whileRule, runIn}
@@ -48,10 +49,10 @@ beforeEs cells Γ {stop = stop} {xs = xs} p = go (typesIn cells Γ xs) (soundEs 
     go (Argued.have ts e) h = BeforeA.are
     go (Argued.fail m k) b = let r = rangeEs (b .among) (b .broken) p in BeforeA.before {k = k} (omega arith)
 
-beforeS : (cells : List ℕ) (below : List Signature) (Γ : List ℕ) (at : Standing) {lo j : ℕ} {p : Stmt} → PlacedS lo p → rootS p < j → BeforeS j (runIn cells below Γ at p)
-beforeS cells below Γ at {j = j} {p = p} h l = go (runIn cells below Γ at p) (soundS cells below Γ at p)
+beforeS : (env : Setting) (below : List Signature) (Γ : List ℕ) (at : Standing) {lo j : ℕ} {p : Stmt} → PlacedS lo p → rootS p < j → BeforeS j (runIn env below Γ at p)
+beforeS env below Γ at {j = j} {p = p} h l = go (runIn env below Γ at p) (soundS env below Γ at p)
   where
-    go : (r : Conduct) → FoundS cells below Γ at p r → BeforeS j r
+    go : (r : Conduct) → FoundS env below Γ at p r → BeforeS j r
     go (Does e b) g = BeforeS.runs
     go (Fails m k) b = let r = rangeS b h in BeforeS.before {k = k} (omega arith)
 
@@ -131,63 +132,63 @@ leastEs (In.later i) b (PlacedEs.more p q) = let r = rangeEs i b q in under-argu
 
 -- ---- a rule that the root breaks: what is found is that rule, a smaller number there, or an earlier fault
 module _ (once : Bool) (below : List Signature) (at : Standing) (s i : ℕ) where
-  own-module : {a : Argued} → BeforeA i a → length below ≤ s → Sooner Fails 8 i (startRule once below at s i a)
+  own-module : {a : Argued} → BeforeA i a → length below ≤ s → Sooner Fails unbound i (startRule once below at s i a)
   unfolding startRule
-  own-module BeforeA.are h = if-all (Sooner Fails 8 i) (leb (length below) s) _ _ (λ l. exactly) (λ l. absurd (true≢false (sym (le-leb _ _ h) ∙ l)))
+  own-module BeforeA.are h = if-all (Sooner Fails unbound i) (leb (length below) s) _ _ (λ l. exactly) (λ l. absurd (true≢false (sym (le-leb _ _ h) ∙ l)))
   own-module (BeforeA.before l) h = Sooner.sooner (inl l)
 
-  own-types : (ts : List ℕ) (e : Effect) → s < length below → (ts ≡ signatureAt below s .types → ⊥) → Sooner Fails 9 i (startRule once below at s i (Argued.have ts e))
+  own-types : (ts : List ℕ) (e : Effect) → s < length below → (ts ≡ signatureAt below s .types → ⊥) → Sooner Fails illTyped i (startRule once below at s i (Argued.have ts e))
   unfolding startRule
   own-types ts e h z =
-      if-all (Sooner Fails 9 i) (leb (length below) s) _ _ (λ l. smaller {m = 8} (omega arith))
-      (λ l. if-all (Sooner Fails 9 i) (not (sameNumbers ts (signatureAt below s .types))) _ _ (λ m. exactly) (λ m. absurd (z (same-true _ _ (not-false _ m)))))
+      if-all (Sooner Fails illTyped i) (leb (length below) s) _ _ (λ l. smaller {m = unbound} (omega arith))
+      (λ l. if-all (Sooner Fails illTyped i) (not (sameNumbers ts (signatureAt below s .types))) _ _ (λ m. exactly) (λ m. absurd (z (same-true _ _ (not-false _ m)))))
 
-  own-escapes : (ts : List ℕ) (e : Effect) → (AllPublic ts → ⊥) → Sooner Fails 10 i (startRule once below at s i (Argued.have ts e))
+  own-escapes : (ts : List ℕ) (e : Effect) → (AllPublic ts → ⊥) → Sooner Fails escaping i (startRule once below at s i (Argued.have ts e))
   unfolding startRule
   own-escapes ts e z =
-      if-all (Sooner Fails 10 i) (leb (length below) s) _ _ (λ l. smaller {m = 8} (omega arith))
-      (λ l. if-all (Sooner Fails 10 i) (not (sameNumbers ts (signatureAt below s .types))) _ _ (λ m. smaller {m = 9} (omega arith))
-      (λ m. if-all (Sooner Fails 10 i) (not (every public ts)) _ _ (λ o. exactly) (λ o. absurd (z (all-true public _ (not-false _ o))))))
+      if-all (Sooner Fails escaping i) (leb (length below) s) _ _ (λ l. smaller {m = unbound} (omega arith))
+      (λ l. if-all (Sooner Fails escaping i) (not (sameNumbers ts (signatureAt below s .types))) _ _ (λ m. smaller {m = illTyped} (omega arith))
+      (λ m. if-all (Sooner Fails escaping i) (not (every public ts)) _ _ (λ o. exactly) (λ o. absurd (z (all-true public _ (not-false _ o))))))
 
-own-unlinked : (once : Bool) (below : List Signature) (s i : ℕ) {a : Argued} → BeforeA i a → Sooner Fails 12 i (startRule once below unlinked s i a)
+own-unlinked : (once : Bool) (below : List Signature) (s i : ℕ) {a : Argued} → BeforeA i a → Sooner Fails whileUnlinked i (startRule once below unlinked s i a)
 unfolding startRule
 own-unlinked once below s i (BeforeA.are {ts = ts}) =
-    if-all (Sooner Fails 12 i) (leb (length below) s) _ _ (λ l. smaller {m = 8} (omega arith))
-    (λ l. if-all (Sooner Fails 12 i) (not (sameNumbers ts (signatureAt below s .types))) _ _ (λ m. smaller {m = 9} (omega arith))
-    (λ m. if-all (Sooner Fails 12 i) (not (every public ts)) _ _ (λ o. smaller {m = 10} (omega arith))
-    (λ o. if-all (Sooner Fails 12 i) true _ _ (λ k. exactly) (λ k. absurd (true≢false k)))))
+    if-all (Sooner Fails whileUnlinked i) (leb (length below) s) _ _ (λ l. smaller {m = unbound} (omega arith))
+    (λ l. if-all (Sooner Fails whileUnlinked i) (not (sameNumbers ts (signatureAt below s .types))) _ _ (λ m. smaller {m = illTyped} (omega arith))
+    (λ m. if-all (Sooner Fails whileUnlinked i) (not (every public ts)) _ _ (λ o. smaller {m = escaping} (omega arith))
+    (λ o. if-all (Sooner Fails whileUnlinked i) true _ _ (λ k. exactly) (λ k. absurd (true≢false k)))))
 own-unlinked once below s i (BeforeA.before l) = Sooner.sooner (inl l)
 
-own-effect : (at : Standing) (s i : ℕ) (e : Effect) (a : Bool) → within s e ≡ false → Sooner Fails 11 i (doRule at s i (Does e a))
+own-effect : (at : Standing) (s i : ℕ) (e : Effect) (a : Bool) → within s e ≡ false → Sooner Fails wrongEffect i (doRule at s i (Does e a))
 unfolding doRule
-own-effect at s i e a h = if-all (Sooner Fails 11 i) (not (within s e)) _ _ (λ l. exactly) (λ l. absurd (true≢false (sym (not-false _ l) ∙ h)))
+own-effect at s i e a h = if-all (Sooner Fails wrongEffect i) (not (within s e)) _ _ (λ l. exactly) (λ l. absurd (true≢false (sym (not-false _ l) ∙ h)))
 
-own-do-unlinked : (i : ℕ) {r : Conduct} → BeforeS i r → Sooner Fails 12 i (doRule unlinked private i r)
+own-do-unlinked : (i : ℕ) {r : Conduct} → BeforeS i r → Sooner Fails whileUnlinked i (doRule unlinked private i r)
 unfolding doRule
-own-do-unlinked i (BeforeS.runs {e = e}) = if-all (Sooner Fails 12 i) (not (within private e)) _ _ (λ l. smaller {m = 11} (omega arith)) (λ l. if-all (Sooner Fails 12 i) true _ _ (λ k. exactly) (λ k. absurd (true≢false k)))
+own-do-unlinked i (BeforeS.runs {e = e}) = if-all (Sooner Fails whileUnlinked i) (not (within private e)) _ _ (λ l. smaller {m = wrongEffect} (omega arith)) (λ l. if-all (Sooner Fails whileUnlinked i) true _ _ (λ k. exactly) (λ k. absurd (true≢false k)))
 own-do-unlinked i (BeforeS.before l) = Sooner.sooner (inl l)
 
-own-store : (i t u : ℕ) (e f : Effect) → ((isCell t ≡ true) × (u ≡ contentOf t) → ⊥) → Sooner Fails 9 i (storeRule i (Typed t e) (Typed u f))
+own-store : (i t u : ℕ) (e f : Effect) → ((isCell t ≡ true) × (u ≡ contentOf t) → ⊥) → Sooner Fails illTyped i (storeRule i (Typed t e) (Typed u f))
 unfolding storeRule
-own-store i t u e f z = if-all (Sooner Fails 9 i) (isCell t && eqb u (contentOf t)) _ _ (λ p. let q = and-true _ _ p in absurd (z (q .0, eqb-true _ _ (q .1)))) (λ p. exactly)
+own-store i t u e f z = if-all (Sooner Fails illTyped i) (isCell t && eqb u (contentOf t)) _ _ (λ p. let q = and-true _ _ p in absurd (z (q .0, eqb-true _ _ (q .1)))) (λ p. exactly)
 
-own-ifElse : (i t : ℕ) (e : Effect) {r s : Conduct} → (t ≡ truthType → ⊥) → BeforeS i r → BeforeS i s → Sooner Fails 9 i (ifElseRule i (Typed t e) r s)
+own-ifElse : (i t : ℕ) (e : Effect) {r s : Conduct} → (t ≡ truthType → ⊥) → BeforeS i r → BeforeS i s → Sooner Fails illTyped i (ifElseRule i (Typed t e) r s)
 unfolding ifElseRule
-own-ifElse i t e z BeforeS.runs BeforeS.runs = if-all (Sooner Fails 9 i) (eqb t truthType) _ _ (λ p. absurd (z (eqb-true _ _ p))) (λ p. exactly)
+own-ifElse i t e z BeforeS.runs BeforeS.runs = if-all (Sooner Fails illTyped i) (eqb t truthType) _ _ (λ p. absurd (z (eqb-true _ _ p))) (λ p. exactly)
 own-ifElse i t e z BeforeS.runs (BeforeS.before l) = Sooner.sooner (inl l)
 own-ifElse i t e z (BeforeS.before l) q = Sooner.sooner (inl l)
 
-own-while : (i t : ℕ) (e : Effect) {r : Conduct} → (t ≡ truthType → ⊥) → BeforeS i r → Sooner Fails 9 i (whileRule i (Typed t e) r)
+own-while : (i t : ℕ) (e : Effect) {r : Conduct} → (t ≡ truthType → ⊥) → BeforeS i r → Sooner Fails illTyped i (whileRule i (Typed t e) r)
 unfolding whileRule
-own-while i t e z BeforeS.runs = if-all (Sooner Fails 9 i) (not (eqb t truthType)) _ _ (λ p. exactly) (λ p. absurd (z (eqb-true _ _ (not-false _ p))))
+own-while i t e z BeforeS.runs = if-all (Sooner Fails illTyped i) (not (eqb t truthType)) _ _ (λ p. exactly) (λ p. absurd (z (eqb-true _ _ (not-false _ p))))
 own-while i t e z (BeforeS.before l) = Sooner.sooner (inl l)
 
-own-body : (i : ℕ) (f : Effect) {r : Typing} → BeforeE i r → Sooner Fails 13 i (whileRule i r (Does f true))
+own-body : (i : ℕ) (f : Effect) {r : Typing} → BeforeE i r → Sooner Fails instantLoop i (whileRule i r (Does f true))
 unfolding whileRule
-own-body i f (BeforeE.typed {t = t}) = if-all (Sooner Fails 13 i) (not (eqb t truthType)) _ _ (λ p. smaller {m = 9} (omega arith)) (λ p. if-all (Sooner Fails 13 i) true _ _ (λ k. exactly) (λ k. absurd (true≢false k)))
+own-body i f (BeforeE.typed {t = t}) = if-all (Sooner Fails instantLoop i) (not (eqb t truthType)) _ _ (λ p. smaller {m = illTyped} (omega arith)) (λ p. if-all (Sooner Fails instantLoop i) true _ _ (λ k. exactly) (λ k. absurd (true≢false k)))
 own-body i f (BeforeE.before l) = Sooner.sooner (inl l)
 
-ownS : {cells : List ℕ} {below : List Signature} {Γ : List ℕ} {at : Standing} {lo n : ℕ} {p : Stmt} → BreaksS cells below Γ at p n → PlacedS lo p → Sooner Fails n (rootS p) (runIn cells below Γ at p)
+ownS : {env : Setting} {below : List Signature} {Γ : List ℕ} {at : Standing} {lo n : ℕ} {p : Stmt} → BreaksS env below Γ at p n → PlacedS lo p → Sooner Fails n (rootS p) (runIn env below Γ at p)
 unfolding runIn cooperateRule
 ownS (BreaksS.start-module Starts.start h) (PlacedS.start p) = own-module _ _ _ _ _ (beforeEs _ _ p) h
 ownS (BreaksS.start-module Starts.start-wait h) (PlacedS.start-wait p) = own-module _ _ _ _ _ (beforeEs _ _ p) h
@@ -206,7 +207,7 @@ ownS BreaksS.do-unlinked (PlacedS.do-at p e) = own-do-unlinked _ (beforeS _ _ _ 
 ownS (BreaksS.while-body r) (PlacedS.while p q e) = let a = root-aboveS q in rw (completeS r) (own-body _ _ (beforeE _ _ p (omega arith)))
 
 -- ---- whatever is broken, at the root or below it
-pub leastS : {cells : List ℕ} {below : List Signature} {Γ : List ℕ} {at : Standing} {lo n j : ℕ} {p : Stmt} → BrokenS cells below Γ at p n j → PlacedS lo p → Sooner Fails n j (runIn cells below Γ at p)
+pub leastS : {env : Setting} {below : List Signature} {Γ : List ℕ} {at : Standing} {lo n j : ℕ} {p : Stmt} → BrokenS env below Γ at p n j → PlacedS lo p → Sooner Fails n j (runIn env below Γ at p)
 unfolding runIn
 leastS (BrokenS.here b) p = ownS b p
 leastS (BrokenS.operand (Operand.argument Starts.start i) b) (PlacedS.start p) = under-start _ _ _ _ _ (leastEs i b p)

@@ -6,6 +6,7 @@ use mathlib.Core.List.{List, [], _∷_, _++_}
 use Prim.Native.Nat.{ℕ}
 use native.Mathlib.Omega.{arith}
 use Rattle.language.specs.declared.effect.Effect.{Effect}
+use Rattle.language.specs.Refusals.{wrongEffect}
 use Rattle.rules.specs.declared.finding.Conduct.{Conduct}
 use Rattle.rules.specs.declared.finding.Conduct.the-variants.{Does, Fails}
 use Rattle.language.specs.declared.verdict.Verdict.{Verdict}
@@ -13,10 +14,10 @@ use Rattle.language.specs.declared.verdict.Verdict.the-variants.{Accepted, Reje
 use Rattle.basics.specs.If.{if_then_else_}
 use Rattle.language.specs.Places.{home, linked}
 use Rattle.language.specs.Effects.{within}
-use Rattle.program.specs.Programs.{Part, Program, cells as cellTypes}
+use Rattle.program.specs.Programs.{Part, Program}
 use Rattle.layout.proofs.Placed.{PlacedM}
 use Rattle.layout.proofs.Parts.{NonEmpty}
-use Rattle.rules.specs.Rules.{Signature, signature, Modules}
+use Rattle.rules.specs.Rules.{Setting, settingOf, Signature, signature, Modules}
 use Rattle.rules.specs.Broken.{BrokenM, Broken, NoLater, RulesSay}
 use Rattle.rules.specs.inner.Checking.{runIn, mainRule, afterModule, modulesIn, rulesOf}
 use Rattle.basics.proofs.Ifs.{if-all}
@@ -25,43 +26,43 @@ use Rattle.rules.proofs.Statements.{completeS, FoundS, soundS}
 use Rattle.rules.proofs.FirstStatements.{leastS}
 
 -- ---- what keeps the rules is accepted
-pub completeM : {cells : List ℕ} {below : List Signature} {ms : List Part} → Modules cells below ms → modulesIn cells below ms ≡ Accepted
+pub completeM : {env : Setting} {below : List Signature} {ms : List Part} → Modules env below ms → modulesIn env below ms ≡ Accepted
 unfolding modulesIn if_then_else_
 completeM (Modules.main r h) = rw (completeS r) (rw h)
 completeM (Modules.more r ms) = rw (completeS r) (completeM ms)
 
 -- ---- whatever is found holds
-abbrev pub FoundM : List ℕ → List Signature → List Part → Verdict → Type 0
-FoundM cells below ms Accepted = Modules cells below ms
-FoundM cells below ms (Rejected n j) = BrokenM cells below ms n j
+abbrev pub FoundM : Setting → List Signature → List Part → Verdict → Type 0
+FoundM env below ms Accepted = Modules env below ms
+FoundM env below ms (Rejected n j) = BrokenM env below ms n j
 
-module _ (cells : List ℕ) (below : List Signature) (m : Part) where
-  found-main : (rest : List Signature → Verdict) (r : Conduct) → FoundS cells below (m .types) linked (m .body) r → FoundM cells below (m ∷ []) (afterModule rest below m [] r)
-  found-main rest (Does e b) h = if-all (FoundM cells below (m ∷ [])) (within home e) _ _ (λ l. Modules.main h l) (λ l. BrokenM.main h l)
+module _ (env : Setting) (below : List Signature) (m : Part) where
+  found-main : (rest : List Signature → Verdict) (r : Conduct) → FoundS env below (m .types) linked (m .body) r → FoundM env below (m ∷ []) (afterModule rest below m [] r)
+  found-main rest (Does e b) h = if-all (FoundM env below (m ∷ [])) (within home e) _ _ (λ l. Modules.main h l) (λ l. BrokenM.main h l)
   found-main rest (Fails n j) h = BrokenM.body h
 
-  found-more : (n : Part) (ms : List Part) (rest : List Signature → Verdict) → ((sigs : List Signature) → FoundM cells sigs (n ∷ ms) (rest sigs)) → (r : Conduct) → FoundS cells below (m .types) linked (m .body) r → FoundM cells below (m ∷ n ∷ ms) (afterModule rest below m (n ∷ ms) r)
+  found-more : (n : Part) (ms : List Part) (rest : List Signature → Verdict) → ((sigs : List Signature) → FoundM env sigs (n ∷ ms) (rest sigs)) → (r : Conduct) → FoundS env below (m .types) linked (m .body) r → FoundM env below (m ∷ n ∷ ms) (afterModule rest below m (n ∷ ms) r)
   found-more n ms rest g (Does e b) h = go (rest (below ++ (signature m e ∷ []))) (g (below ++ (signature m e ∷ [])))
     where
-      go : (a : Verdict) → FoundM cells (below ++ (signature m e ∷ [])) (n ∷ ms) a → FoundM cells below (m ∷ n ∷ ms) a
+      go : (a : Verdict) → FoundM env (below ++ (signature m e ∷ [])) (n ∷ ms) a → FoundM env below (m ∷ n ∷ ms) a
       go Accepted k = Modules.more h k
       go (Rejected i j) k = BrokenM.later h k
   found-more n ms rest g (Fails i j) h = BrokenM.body h
 
-pub soundM : (cells : List ℕ) (ms : List Part) (below : List Signature) (m : Part) → FoundM cells below (m ∷ ms) (modulesIn cells below (m ∷ ms))
+pub soundM : (env : Setting) (ms : List Part) (below : List Signature) (m : Part) → FoundM env below (m ∷ ms) (modulesIn env below (m ∷ ms))
 unfolding modulesIn
-soundM cells [] below m = found-main cells below m (λ sigs. modulesIn cells sigs []) (runIn cells below (m .types) linked (m .body)) (soundS cells below (m .types) linked (m .body))
-soundM cells (n ∷ ms) below m = found-more cells below m n ms (λ sigs. modulesIn cells sigs (n ∷ ms)) (λ sigs. soundM cells ms sigs n) (runIn cells below (m .types) linked (m .body)) (soundS cells below (m .types) linked (m .body))
+soundM env [] below m = found-main env below m (λ sigs. modulesIn env sigs []) (runIn env below (m .types) linked (m .body)) (soundS env below (m .types) linked (m .body))
+soundM env (n ∷ ms) below m = found-more env below m n ms (λ sigs. modulesIn env sigs (n ∷ ms)) (λ sigs. soundM env ms sigs n) (runIn env below (m .types) linked (m .body)) (soundS env below (m .types) linked (m .body))
 
 -- ---- whatever is broken, the finding is a fault no later
 under-body : {n j : ℕ} (rest : List Signature → Verdict) (below : List Signature) (m : Part) (ms : List Part) {r : Conduct} → Sooner Fails n j r → Sooner Rejected n j (afterModule rest below m ms r)
 under-body rest below m ms (Sooner.sooner h) = Sooner.sooner h
 
-own-main : (i : ℕ) (e : Effect) → within home e ≡ false → Sooner Rejected 11 i (mainRule i e)
-own-main i e h = if-all (Sooner Rejected 11 i) (within home e) _ _ (λ l. absurd (true≢false (sym l ∙ h))) (λ l. exactly)
+own-main : (i : ℕ) (e : Effect) → within home e ≡ false → Sooner Rejected wrongEffect i (mainRule i e)
+own-main i e h = if-all (Sooner Rejected wrongEffect i) (within home e) _ _ (λ l. absurd (true≢false (sym l ∙ h))) (λ l. exactly)
 
 -- the case within `later` shows that a module follows, so that this one is not main
-pub leastM : {cells : List ℕ} {below : List Signature} {ms : List Part} {n j : ℕ} → BrokenM cells below ms n j → PlacedM ms → Sooner Rejected n j (modulesIn cells below ms)
+pub leastM : {env : Setting} {below : List Signature} {ms : List Part} {n j : ℕ} → BrokenM env below ms n j → PlacedM ms → Sooner Rejected n j (modulesIn env below ms)
 unfolding modulesIn
 leastM (BrokenM.body b) (PlacedM.more p q) = under-body _ _ _ _ (leastS b p)
 leastM (BrokenM.later r (BrokenM.body b)) (PlacedM.more p q) = rw (completeS r) (leastM (BrokenM.body b) q)
@@ -85,10 +86,10 @@ not-accepted s = elim s [ ]
 -- for a program that has a module, and whose trees' frames rise
 module _ (file : Program) (some : NonEmpty (file .modules)) (placed : PlacedM (file .modules)) where
   abbrev found : Verdict
-  found = modulesIn (cellTypes file) [] (file .modules)
+  found = modulesIn (settingOf file) [] (file .modules)
 
-  found-sound : FoundM (cellTypes file) [] (file .modules) found
-  found-sound = rw (some .same) (soundM (cellTypes file) (some .tail) [] (some .head))
+  found-sound : FoundM (settingOf file) [] (file .modules) found
+  found-sound = rw (some .same) (soundM (settingOf file) (some .tail) [] (some .head))
 
   found-sooner : {n j : ℕ} {r : Verdict} → found ≡ r → Broken file n j → Sooner Rejected n j r
   found-sooner {n} {j} q b = let x : Sooner Rejected n j found = leastM b placed in rw q at x
@@ -98,7 +99,7 @@ module _ (file : Program) (some : NonEmpty (file .modules)) (placed : PlacedM (f
   unfolding rulesOf
   rules-say = go found refl found-sound
     where
-      go : (r : Verdict) → found ≡ r → FoundM (cellTypes file) [] (file .modules) r → RulesSay file r
+      go : (r : Verdict) → found ≡ r → FoundM (settingOf file) [] (file .modules) r → RulesSay file r
       go Accepted q h = h
       go (Rejected n j) q b = record { broken = b; least = λ i k c. later-than (found-sooner q c) }
 
@@ -108,7 +109,7 @@ module _ (file : Program) (some : NonEmpty (file .modules)) (placed : PlacedM (f
   rules-only Accepted h = sym (completeM h)
   rules-only (Rejected n j) f = go found refl found-sound
     where
-      go : (r : Verdict) → found ≡ r → FoundM (cellTypes file) [] (file .modules) r → Rejected n j ≡ found
+      go : (r : Verdict) → found ≡ r → FoundM (settingOf file) [] (file .modules) r → Rejected n j ≡ found
       go Accepted q h = absurd (not-accepted (found-sooner q (f .broken)))
       go (Rejected i k) q b =
           let s = same-place n j i k (f .least i k b) (later-than (found-sooner q (f .broken))) in

@@ -6,7 +6,7 @@ use Rattle.basics.specs.Members.{In}
 use Rattle.language.specs.Places.{Standing}
 use Rattle.program.specs.Trees.{Expr, rootE, Stmt, rootS}
 use Rattle.layout.proofs.Placed.{PlacedE, PlacedEs, PlacedS}
-use Rattle.rules.specs.Rules.{Signature}
+use Rattle.rules.specs.Rules.{Setting, Signature}
 use Rattle.rules.specs.Breaks.{Starts}
 use Rattle.rules.specs.Broken.{ChildE, BrokenE, Operand, ChildS, BrokenS}
 
@@ -55,7 +55,7 @@ pub rangeEs : {cells Γ : List ℕ} {lo stop n j : ℕ} {x : Expr} {xs : List Ex
 rangeEs In.first b (PlacedEs.more p q) = let a = rangeE b p in let c = end-aboveEs q in omega arith
 rangeEs (In.later i) b (PlacedEs.more p q) = let a = rangeEs i b q in let c = root-aboveE p in omega arith
 
-pub rangeS : {cells : List ℕ} {below : List Signature} {Γ : List ℕ} {at : Standing} {lo n j : ℕ} {p : Stmt} → BrokenS cells below Γ at p n j → PlacedS lo p → (lo ≤ j) × (j ≤ rootS p)
+pub rangeS : {env : Setting} {below : List Signature} {Γ : List ℕ} {at : Standing} {lo n j : ℕ} {p : Stmt} → BrokenS env below Γ at p n j → PlacedS lo p → (lo ≤ j) × (j ≤ rootS p)
 rangeS (BrokenS.here b) p = let a = root-aboveS p in omega arith
 rangeS (BrokenS.operand (Operand.argument Starts.start i) b) (PlacedS.start p) = let a = rangeEs i b p in omega arith
 rangeS (BrokenS.operand (Operand.argument Starts.start-wait i) b) (PlacedS.start-wait p) = let a = rangeEs i b p in omega arith

@@ -1,5 +1,5 @@
 -- What each rule's function computes, one law for each of its returns. Assumes nothing.
-use mathlib.Core.Path.{_≡_, refl, sym, ap, _∙_}
+use mathlib.Core.Path.{_≡_, refl, sym, ap, subst, _∙_}
 use mathlib.Core.Bool.{Bool, true, false, not, _&&_, _||_, true≢false}
 use mathlib.Core.List.{List}
 use Prim.Native.Nat.{ℕ, _<_, _≤_}
@@ -8,8 +8,9 @@ use lib.Dec.{eqb}
 use lib.ListN.{length, getD}
 use borrow.Author.Tests.{lt-ltb, le-ltb, eq-eqb, ne-eqb, not-true, not-false}
 use Rattle.basics.proofs.Ifs.{if-all, yes, no, and-true}
-use Rattle.language.specs.Places.{isPlace, isScheduler, placeRead}
-use Rattle.language.specs.Types.{isCell, cellType, ownerOf, contentOf, roomAround, public, cellRead}
+use Rattle.language.specs.Places.{isPlace, isScheduler}
+use Rattle.language.specs.inner.Reads.{placeRead, cellRead}
+use Rattle.language.specs.Types.{numberType, truthType, isCell, cellType, ownerOf, contentOf, roomAround, public}
 use Rattle.language.specs.Effects.{noEffect, _∪_, withOwner, within}
 use Rattle.language.specs.declared.Place.{Place}
 use Rattle.language.specs.declared.PlaceRead.{PlaceRead}
@@ -17,8 +18,13 @@ use Rattle.language.specs.declared.PlaceRead.the-variants.{At, NoPlace}
 use Rattle.language.specs.declared.type_word.CellRead.{CellRead}
 use Rattle.language.specs.declared.type_word.CellRead.the-variants.{Word, TooDeep}
 use Rattle.language.specs.declared.effect.Effect.{Effect}
+use Rattle.language.specs.Refusals.{unbound, illTyped, escaping, wrongEffect, whileUnlinked, instantLoop}
 use Rattle.language.proofs.PlaceLaws.{read-at, read-none, scheduler-place}
+use Rattle.program.specs.declared.node.Leaf.{Leaf}
+use Rattle.program.specs.declared.node.CellUse.{CellUse}
+use Rattle.program.specs.declared.node.Operator.{Operator}
 use Rattle.rules.specs.inner.Checking.{namedRule, newRule, contentRule, numbersRule, chooseRule, cooperateRule, seqRule, doRule, joinRule, storeRule, ifElseRule, whileRule}
+use Rattle.rules.specs.inner.NodeRules.{leafRule, OwnerPlaced, cellRule, madeBy}
 use Rattle.rules.specs.inner.Standings.{standing}
 use Rattle.rules.specs.declared.finding.Typing.{Typing}
 use Rattle.rules.specs.declared.finding.Typing.the-variants.{Typed, Untyped}
@@ -48,15 +54,57 @@ module _ (ts : List ℕ) (s i : ℕ) where
   unfolding namedRule
   named-there e h q = yes _ (lt-ltb _ _ h) (ap (Typed (getD ts s 0)) q)
 
-  pub named-missing : length ts ≤ s → Untyped 8 i ≡ namedRule ts s i
+  pub named-missing : length ts ≤ s → Untyped unbound i ≡ namedRule ts s i
   unfolding namedRule
   named-missing h = no _ (le-ltb _ _ h) refl
 
 pub ruleset named-laws = (named-there, named-missing)
 
+-- ---- 20 to 23, by the leaf
+module _ (cells Γ : List ℕ) (l : Leaf) (i : ℕ) where
+  leaf-row : (v : Leaf) (r : Typing) → l ≡ v → r ≡ leafRule cells Γ v i → r ≡ leafRule cells Γ l i
+  leaf-row v r h z = z ∙ ap (λ (m : Leaf). leafRule cells Γ m i) (sym h)
+
+  pub leaf-number : (v : ℕ) (e : Effect) → l ≡ Leaf.Number v → e ≡ noEffect
+      → Typed numberType e ≡ leafRule cells Γ l i
+  leaf-number v e h z = leaf-row (Leaf.Number v) _ h (ap (Typed numberType) z)
+
+  pub leaf-truth : (v : ℕ) (e : Effect) → l ≡ Leaf.Truth v → e ≡ noEffect
+      → Typed truthType e ≡ leafRule cells Γ l i
+  leaf-truth v e h z = leaf-row (Leaf.Truth v) _ h (ap (Typed truthType) z)
+
+  pub leaf-variable : (s : ℕ) (r : Typing) → l ≡ Leaf.Variable s → r ≡ namedRule Γ s i
+      → r ≡ leafRule cells Γ l i
+  leaf-variable s r h z = leaf-row (Leaf.Variable s) r h z
+
+  pub leaf-shared : (s : ℕ) (r : Typing) → l ≡ Leaf.SharedCell s → r ≡ namedRule cells s i
+      → r ≡ leafRule cells Γ l i
+  leaf-shared s r h z = leaf-row (Leaf.SharedCell s) r h z
+
+pub ruleset leaf-laws = (leaf-number, leaf-truth, leaf-variable, leaf-shared)
+
+-- ---- 24 and 25, by what becomes of the value
+module _ (u : CellUse) where
+  pub cell-owner : (s : Place) → u ≡ CellUse.Make s → OwnerPlaced u → isPlace (s .number) ≡ true
+  cell-owner s h g = subst OwnerPlaced h g
+
+  pub cell-made : (i : ℕ) (x r : Typing) (s : Place) → u ≡ CellUse.Make s
+      → r ≡ newRule (s .number) i x → r ≡ cellRule u i x
+  cell-made i x r s h z = z ∙ ap (λ (v : CellUse). cellRule v i x) (sym h)
+
+  pub cell-read : (i : ℕ) (x r : Typing) → u ≡ CellUse.Read → r ≡ contentRule i x
+      → r ≡ cellRule u i x
+  cell-read i x r h z = z ∙ ap (λ (v : CellUse). cellRule v i x) (sym h)
+
+pub ruleset cell-laws = (cell-made, cell-read)
+
+-- ---- 26 and 27, the type of what an operator makes
+pub made-row : (op v : Operator) (r : ℕ) → op ≡ v → r ≡ madeBy v → r ≡ madeBy op
+made-row op v r h z = z ∙ ap madeBy (sym h)
+
 -- ---- 24, a new cell
 module _ (s i t : ℕ) (e : Effect) (c : CellRead) (d : c ≡ cellRead s t) where
-  pub new-deep : c ≡ TooDeep → isPlace s ≡ true → Untyped 9 i ≡ newRule s i (Typed t e)
+  pub new-deep : c ≡ TooDeep → isPlace s ≡ true → Untyped illTyped i ≡ newRule s i (Typed t e)
   unfolding newRule
   new-deep h p = yes _ (ap not (read-deep s t p (sym d ∙ h))) refl
 
@@ -79,7 +127,7 @@ module _ (s i t : ℕ) (e : Effect) (c : CellRead) (d : c ≡ cellRead s t) wher
           no _ room (no _ (sym g ∙ k) (no _ (ap not (sym l ∙ m))
           (ap (λ (u : ℕ). Typed u o) word ∙ ap (Typed (cellType s t)) n)))
 
-      pub new-escapes : y ≡ false → Untyped 10 i ≡ newRule s i (Typed t e)
+      pub new-escapes : y ≡ false → Untyped escaping i ≡ newRule s i (Typed t e)
       unfolding newRule
       new-escapes m = no _ room (no _ (sym g ∙ k) (yes _ (ap not (sym l ∙ m)) refl))
 
@@ -129,10 +177,10 @@ module _ (i : ℕ) (x : Typing) where
         → Typed u f ≡ contentRule i x
     unfolding contentRule
     content-read u f m a d =
-        yes (Untyped 9 i) (sym k ∙ m) (ap (λ (n : ℕ). Typed n f) a ∙ ap (Typed (contentOf t)) d)
+        yes (Untyped illTyped i) (sym k ∙ m) (ap (λ (n : ℕ). Typed n f) a ∙ ap (Typed (contentOf t)) d)
         ∙ ap (contentRule i) (sym h)
 
-    pub content-none : y ≡ false → Untyped 9 i ≡ contentRule i x
+    pub content-none : y ≡ false → Untyped illTyped i ≡ contentRule i x
     unfolding contentRule
     content-none m = no (Typed (contentOf t) (withOwner (ownerOf t) e)) (sym k ∙ m) refl ∙ ap (contentRule i) (sym h)
 
@@ -140,11 +188,11 @@ pub ruleset content-laws = (content-fault, content-read, content-none)
 
 -- ---- 26 and 27, a sum and a comparison
 module _ (w i t : ℕ) (e : Effect) (u : ℕ) (f : Effect) where
-  pub numbers-no-first : (t ≡ 1 → ⊥) → Untyped 9 i ≡ numbersRule w i (Typed t e) (Typed u f)
+  pub numbers-no-first : (t ≡ 1 → ⊥) → Untyped illTyped i ≡ numbersRule w i (Typed t e) (Typed u f)
   unfolding numbersRule
   numbers-no-first n = no _ (rw (ne-eqb t 1 n)) refl
 
-  pub numbers-no-second : t ≡ 1 → (u ≡ 1 → ⊥) → Untyped 9 i ≡ numbersRule w i (Typed t e) (Typed u f)
+  pub numbers-no-second : t ≡ 1 → (u ≡ 1 → ⊥) → Untyped illTyped i ≡ numbersRule w i (Typed t e) (Typed u f)
   unfolding numbersRule
   numbers-no-second m n = no _ (rw (eq-eqb t 1 m, ne-eqb u 1 n)) refl
 
@@ -170,15 +218,15 @@ pub ruleset numbers-laws = (numbers-fault, numbers-fault-2, numbers-row)
 
 -- ---- 28, a number by a truth
 module _ (i t : ℕ) (e : Effect) (u : ℕ) (f : Effect) (v : ℕ) (g : Effect) where
-  pub choose-no-truth : (t ≡ 2 → ⊥) → Untyped 9 i ≡ chooseRule i (Typed t e) (Typed u f) (Typed v g)
+  pub choose-no-truth : (t ≡ 2 → ⊥) → Untyped illTyped i ≡ chooseRule i (Typed t e) (Typed u f) (Typed v g)
   unfolding chooseRule
   choose-no-truth n = no _ (rw (ne-eqb t 2 n)) refl
 
-  pub choose-no-first : t ≡ 2 → (u ≡ 1 → ⊥) → Untyped 9 i ≡ chooseRule i (Typed t e) (Typed u f) (Typed v g)
+  pub choose-no-first : t ≡ 2 → (u ≡ 1 → ⊥) → Untyped illTyped i ≡ chooseRule i (Typed t e) (Typed u f) (Typed v g)
   unfolding chooseRule
   choose-no-first m n = no _ (rw (eq-eqb t 2 m, ne-eqb u 1 n)) refl
 
-  pub choose-no-second : t ≡ 2 → u ≡ 1 → (v ≡ 1 → ⊥) → Untyped 9 i ≡ chooseRule i (Typed t e) (Typed u f) (Typed v g)
+  pub choose-no-second : t ≡ 2 → u ≡ 1 → (v ≡ 1 → ⊥) → Untyped illTyped i ≡ chooseRule i (Typed t e) (Typed u f) (Typed v g)
   unfolding chooseRule
   choose-no-second m n o = no _ (rw (eq-eqb t 2 m, eq-eqb u 1 n, ne-eqb v 1 o)) refl
 
@@ -214,7 +262,7 @@ pub cooperate-linked : (l : Bool) (i : ℕ) (e : Effect) → l ≡ true → e �
 unfolding cooperateRule
 cooperate-linked l i e h k = ap (λ (f : Effect). Does f false) k ∙ ap (λ (b : Bool). cooperateRule (standing b) i) (sym h)
 
-pub cooperate-unlinked : (l : Bool) (i : ℕ) → l ≡ false → Fails 12 i ≡ cooperateRule (standing l) i
+pub cooperate-unlinked : (l : Bool) (i : ℕ) → l ≡ false → Fails whileUnlinked i ≡ cooperateRule (standing l) i
 unfolding cooperateRule
 cooperate-unlinked l i h = ap (λ (b : Bool). cooperateRule (standing b) i) (sym h)
 
@@ -254,7 +302,7 @@ module _ (l : Bool) (s i : ℕ) (x : Conduct) where
   do-fault n j h = do-by (Fails n j) l h refl
 
   module _ (e : Effect) (a : Bool) (h : x ≡ Does e a) (w : Bool) (q : w ≡ within s e) where
-    pub do-effect : not w ≡ true → Fails 11 i ≡ doRule (standing l) s i x
+    pub do-effect : not w ≡ true → Fails wrongEffect i ≡ doRule (standing l) s i x
     unfolding doRule
     do-effect n = yes _ (ap not (sym q) ∙ n) refl ∙ do-by (Does e a) l h refl
 
@@ -264,20 +312,20 @@ module _ (l : Bool) (s i : ℕ) (x : Conduct) where
 
       pub do-linked : l ≡ true → Does f a ≡ doRule (standing l) s i x
       unfolding doRule
-      do-linked k = no (Fails 11 i) inside (no (Fails 12 i) refl (ap (λ (o : Effect). Does o a) z)) ∙ do-by (Does e a) true h k
+      do-linked k = no (Fails wrongEffect i) inside (no (Fails whileUnlinked i) refl (ap (λ (o : Effect). Does o a) z)) ∙ do-by (Does e a) true h k
 
       pub do-elsewhere : l ≡ false → (y : Bool) → y ≡ eqb s 1 → y ≡ false
           → Does f a ≡ doRule (standing l) s i x
       unfolding doRule
       do-elsewhere k y d v =
-          no (Fails 11 i) inside (no (Fails 12 i) (sym d ∙ v) (ap (λ (g : Effect). Does g a) z))
+          no (Fails wrongEffect i) inside (no (Fails whileUnlinked i) (sym d ∙ v) (ap (λ (g : Effect). Does g a) z))
           ∙ do-by (Does e a) false h k
 
     pub do-twice : not w ≡ false → l ≡ false → (y : Bool) → y ≡ eqb s 1 → y ≡ true
-        → Fails 12 i ≡ doRule (standing l) s i x
+        → Fails whileUnlinked i ≡ doRule (standing l) s i x
     unfolding doRule
     do-twice n k y d v =
-        no (Fails 11 i) (ap not (sym q) ∙ n) (yes (Does noEffect a) (sym d ∙ v) refl)
+        no (Fails wrongEffect i) (ap not (sym q) ∙ n) (yes (Does noEffect a) (sym d ∙ v) refl)
         ∙ do-by (Does e a) false h k
 
 pub ruleset do-laws = (do-fault, do-effect, do-linked, do-elsewhere, do-twice)
@@ -295,11 +343,11 @@ pub ruleset join-laws = (join-fault, join-row)
 
 -- ---- 17, a store
 module _ (i t : ℕ) (e : Effect) (u : ℕ) (f : Effect) (x : Bool) (h : x ≡ isCell t) where
-  pub store-no-cell : not x ≡ true → Fails 9 i ≡ storeRule i (Typed t e) (Typed u f)
+  pub store-no-cell : not x ≡ true → Fails illTyped i ≡ storeRule i (Typed t e) (Typed u f)
   unfolding storeRule
   store-no-cell n = no _ (rw (sym h ∙ not-true x n)) refl
 
-  pub store-apart : (c : ℕ) → not x ≡ false → c ≡ contentOf t → (u ≡ c → ⊥) → Fails 9 i ≡ storeRule i (Typed t e) (Typed u f)
+  pub store-apart : (c : ℕ) → not x ≡ false → c ≡ contentOf t → (u ≡ c → ⊥) → Fails illTyped i ≡ storeRule i (Typed t e) (Typed u f)
   unfolding storeRule
   store-apart c n k d = no _ (rw (sym h ∙ not-false x n, ne-eqb u (contentOf t) (λ v. d (v ∙ sym k)))) refl
 
@@ -308,7 +356,7 @@ module _ (i t : ℕ) (e : Effect) (u : ℕ) (f : Effect) (x : Bool) (h : x ≡ i
       → Does w true ≡ storeRule i (Typed t e) (Typed u f)
   unfolding storeRule
   store-equal c g w n k d r z =
-      yes (Fails 9 i) (rw (sym h ∙ not-false x n, eq-eqb u (contentOf t) (d ∙ k)))
+      yes (Fails illTyped i) (rw (sym h ∙ not-false x n, eq-eqb u (contentOf t) (d ∙ k)))
       (ap (λ (v : Effect). Does v true) (z ∙ ap (withOwner (ownerOf t)) r))
 
 pub ruleset store-typed-laws = (store-no-cell, store-apart, store-equal)
@@ -332,17 +380,17 @@ pub ruleset store-laws = (store-fault, store-fault-2, store-row)
 
 -- ---- 18, if
 module _ (i t : ℕ) (e f : Effect) (a : Bool) (g : Effect) (b : Bool) where
-  pub if-no-truth : (t ≡ 2 → ⊥) → Fails 9 i ≡ ifElseRule i (Typed t e) (Does f a) (Does g b)
+  pub if-no-truth : (t ≡ 2 → ⊥) → Fails illTyped i ≡ ifElseRule i (Typed t e) (Does f a) (Does g b)
   unfolding ifElseRule
   if-no-truth n = no _ (ne-eqb t 2 n) refl
 
   pub if-first : (h k : Effect) → t ≡ 2 → h ≡ e ∪ f → k ≡ h ∪ g → a ≡ true → Does k true ≡ ifElseRule i (Typed t e) (Does f a) (Does g b)
   unfolding ifElseRule
-  if-first h k n p q z = yes (Fails 9 i) (eq-eqb t 2 n) (ap (λ (o : Effect). Does o true) (q ∙ ap (λ (o : Effect). o ∪ g) p) ∙ ap (λ (c : Bool). Does (e ∪ f ∪ g) (c || b)) (sym z))
+  if-first h k n p q z = yes (Fails illTyped i) (eq-eqb t 2 n) (ap (λ (o : Effect). Does o true) (q ∙ ap (λ (o : Effect). o ∪ g) p) ∙ ap (λ (c : Bool). Does (e ∪ f ∪ g) (c || b)) (sym z))
 
   pub if-second : (h k : Effect) → t ≡ 2 → h ≡ e ∪ f → k ≡ h ∪ g → a ≡ false → Does k b ≡ ifElseRule i (Typed t e) (Does f a) (Does g b)
   unfolding ifElseRule
-  if-second h k n p q z = yes (Fails 9 i) (eq-eqb t 2 n) (ap (λ (o : Effect). Does o b) (q ∙ ap (λ (o : Effect). o ∪ g) p) ∙ ap (λ (c : Bool). Does (e ∪ f ∪ g) (c || b)) (sym z))
+  if-second h k n p q z = yes (Fails illTyped i) (eq-eqb t 2 n) (ap (λ (o : Effect). Does o b) (q ∙ ap (λ (o : Effect). o ∪ g) p) ∙ ap (λ (c : Bool). Does (e ∪ f ∪ g) (c || b)) (sym z))
 
 pub ruleset if-typed-laws = (if-no-truth, if-first, if-second)
 
@@ -369,11 +417,11 @@ pub ruleset if-laws = (if-fault, if-fault-2, if-fault-3, if-row)
 
 -- ---- 19, while
 module _ (i t : ℕ) (e f : Effect) (b : Bool) where
-  pub while-no-truth : (t ≡ 2 → ⊥) → Fails 9 i ≡ whileRule i (Typed t e) (Does f b)
+  pub while-no-truth : (t ≡ 2 → ⊥) → Fails illTyped i ≡ whileRule i (Typed t e) (Does f b)
   unfolding whileRule
   while-no-truth n = yes _ (ap not (ne-eqb t 2 n)) refl
 
-  pub while-instant : t ≡ 2 → b ≡ true → Fails 13 i ≡ whileRule i (Typed t e) (Does f b)
+  pub while-instant : t ≡ 2 → b ≡ true → Fails instantLoop i ≡ whileRule i (Typed t e) (Does f b)
   unfolding whileRule
   while-instant n k = no _ (ap not (eq-eqb t 2 n)) (yes _ k refl)
 

@@ -12,6 +12,7 @@ use Rattle.basics.proofs.Ifs.{yes, no}
 use Rattle.language.specs.Types.{public}
 use Rattle.language.specs.Effects.{noEffect, _∪_}
 use Rattle.language.specs.declared.effect.Effect.{Effect}
+use Rattle.language.specs.Refusals.{unbound, illTyped, escaping, whileUnlinked}
 use Rattle.rules.specs.Rules.{Signature, signatureAt}
 use Rattle.rules.specs.inner.Checking.{Argued, argue, isLinked, startRule}
 use Rattle.rules.specs.inner.Standings.{standing}
@@ -231,7 +232,7 @@ module _ (once : Bool) (ws : List ℕ) (linked : Bool) (s i : ℕ) (ts : List �
   abbrev Start : Conduct → Type 0
   Start r = r ≡ startRule once (map signatureOf ws) (standing linked) s i (Argued.have ts e)
 
-  pub start-none : length ws ≤ s → Start (Fails 8 i)
+  pub start-none : length ws ≤ s → Start (Fails unbound i)
   unfolding startRule
   start-none h = yes _ (le-leb (length (map signatureOf ws)) s (rw length-map h)) refl
 
@@ -243,16 +244,16 @@ module _ (once : Bool) (ws : List ℕ) (linked : Bool) (s i : ℕ) (ts : List �
       same : x ≡ sameNumbers ts (signatureAt (map signatureOf ws) s .types)
       same = k ∙ ap (λ (g : Signature). sameNumbers ts (g .types)) (sym (at-word ws s))
 
-      pub start-types : not x ≡ true → Start (Fails 9 i)
+      pub start-types : not x ≡ true → Start (Fails illTyped i)
       unfolding startRule
       start-types n = no _ there (yes _ (ap not (sym same) ∙ n) refl)
 
       module _ (n : not x ≡ false) (y : Bool) (q : y ≡ every public ts) where
-        pub start-escapes : not y ≡ true → Start (Fails 10 i)
+        pub start-escapes : not y ≡ true → Start (Fails escaping i)
         unfolding startRule
         start-escapes m = no _ there (no _ (ap not (sym same) ∙ n) (yes _ (ap not (sym q) ∙ m) refl))
 
-        pub start-unlinked : not y ≡ false → linked ≡ false → Start (Fails 12 i)
+        pub start-unlinked : not y ≡ false → linked ≡ false → Start (Fails whileUnlinked i)
         unfolding startRule
         start-unlinked m z = no _ there (no _ (ap not (sym same) ∙ n) (no _ (ap not (sym q) ∙ m) (yes _ (unlinked linked z) refl)))
           where

@@ -14,12 +14,13 @@ use Rattle.language.specs.Places.{private, Standing, linked, unlinked, standing
 use Rattle.language.specs.Types.{truthType, isCell, public, contentOf}
 use Rattle.language.specs.Effects.{noEffect, _∪_, within}
 use Rattle.language.specs.declared.effect.Effect.{Effect}
+use Rattle.language.specs.Refusals.{whileUnlinked, instantLoop}
 use Rattle.program.specs.Trees.{Expr, Stmt, rootS}
 use Rattle.rules.specs.declared.finding.Typing.{Typing}
 use Rattle.rules.specs.declared.finding.Typing.the-variants.{Typed, Untyped}
 use Rattle.rules.specs.declared.finding.Conduct.{Conduct}
 use Rattle.rules.specs.declared.finding.Conduct.the-variants.{Does, Fails}
-use Rattle.rules.specs.Rules.{HasType, Signature, signatureAt, HaveTypes, AllPublic, Runs}
+use Rattle.rules.specs.Rules.{Setting, HasType, Signature, signatureAt, HaveTypes, AllPublic, Runs}
 use Rattle.rules.specs.Breaks.{BreaksS, Starts}
 use Rattle.rules.specs.Broken.{BrokenE, Operand, ChildS, BrokenS}
 use Rattle.rules.specs.inner.Checking.{typeIn, Argued, argue, typesIn, isLinked, startRule, cooperateRule, seqRule, doRule, joinRule, letRule, storeRule, ifElseRule, whileRule, runIn}
@@ -41,7 +42,7 @@ unfolding typesIn argue
 completeEs HaveTypes.none = refl
 completeEs (HaveTypes.more x xs) = rw (complete x, completeEs xs)
 
-pub completeS : {cells : List ℕ} {below : List Signature} {Γ : List ℕ} {at : Standing} {p : Stmt} {e : Effect} {b : Bool} → Runs cells below Γ at p e b → runIn cells below Γ at p ≡ Does e b
+pub completeS : {env : Setting} {below : List Signature} {Γ : List ℕ} {at : Standing} {p : Stmt} {e : Effect} {b : Bool} → Runs env below Γ at p e b → runIn env below Γ at p ≡ Does e b
 unfolding runIn startRule cooperateRule seqRule doRule joinRule storeRule ifElseRule whileRule if_then_else_
 completeS Runs.nothing = refl
 completeS (Runs.seq p q) = rw (completeS p, completeS q)
@@ -78,9 +79,9 @@ unfolding typesIn
 soundEs cells Γ [] = HaveTypes.none
 soundEs cells Γ (x ∷ xs) = found-argue cells Γ x xs _ _ (soundE cells Γ x) (soundEs cells Γ xs)
 
-abbrev pub FoundS : List ℕ → List Signature → List ℕ → Standing → Stmt → Conduct → Type 0
-FoundS cells below Γ at p (Does e b) = Runs cells below Γ at p e b
-FoundS cells below Γ at p (Fails n j) = BrokenS cells below Γ at p n j
+abbrev pub FoundS : Setting → List Signature → List ℕ → Standing → Stmt → Conduct → Type 0
+FoundS env below Γ at p (Does e b) = Runs env below Γ at p e b
+FoundS env below Γ at p (Fails n j) = BrokenS env below Γ at p n j
 
 retypes : {cells Γ : List ℕ} {xs : List Expr} {ts us : List ℕ} {e : Effect} → ts ≡ us → HaveTypes cells Γ xs ts e → HaveTypes cells Γ xs us e
 retypes p x = rw p at x
@@ -89,13 +90,13 @@ republic : {ts us : List ℕ} → ts ≡ us → AllPublic ts → AllPublic us
 republic p x = rw p at x
 
 -- the answer of each rule holds, where what was found of the children holds
-module _ (cells : List ℕ) (below : List Signature) (Γ : List ℕ) where
-  found-cooperate : (at : Standing) (i : ℕ) → FoundS cells below Γ at (Stmt.cooperate i) (cooperateRule at i)
+module _ (env : Setting) (below : List Signature) (Γ : List ℕ) where
+  found-cooperate : (at : Standing) (i : ℕ) → FoundS env below Γ at (Stmt.cooperate i) (cooperateRule at i)
   unfolding cooperateRule
   found-cooperate linked i = Runs.cooperate
   found-cooperate unlinked i = BrokenS.here BreaksS.cooperate-unlinked
 
-  found-seq : (at : Standing) (i : ℕ) (p q : Stmt) (r s : Conduct) → FoundS cells below Γ at p r → FoundS cells below Γ at q s → FoundS cells below Γ at (Stmt.seq i p q) (seqRule r s)
+  found-seq : (at : Standing) (i : ℕ) (p q : Stmt) (r s : Conduct) → FoundS env below Γ at p r → FoundS env below Γ at q s → FoundS env below Γ at (Stmt.seq i p q) (seqRule r s)
   unfolding seqRule
   found-seq at i p q (Does e a) (Does f b) h g = Runs.seq h g
   found-seq at i p q (Does e a) (Fails n j) h g = BrokenS.under ChildS.seq-b g
@@ -103,72 +104,72 @@ module _ (cells : List ℕ) (below : List Signature) (Γ : List ℕ) where
 
   -- 13 and 14: p starts module s with the arguments xs
   found-start : (at : Standing) (p : Stmt) (s : ℕ) (xs : List Expr) (once : Bool) → Starts p s xs
-      → ((e : Effect) → s < length below → HaveTypes cells Γ xs (signatureAt below s .types) e → AllPublic (signatureAt below s .types) → Runs cells below Γ linked p (e ∪ signatureAt below s .effect) once)
-      → (a : Argued) → FoundEs cells Γ xs a → FoundS cells below Γ at p (startRule once below at s (rootS p) a)
+      → ((e : Effect) → s < length below → HaveTypes (env .cells) Γ xs (signatureAt below s .types) e → AllPublic (signatureAt below s .types) → Runs env below Γ linked p (e ∪ signatureAt below s .effect) once)
+      → (a : Argued) → FoundEs (env .cells) Γ xs a → FoundS env below Γ at p (startRule once below at s (rootS p) a)
   unfolding startRule
   found-start at p s xs once st runs (Argued.fail n j) b = BrokenS.operand (Operand.argument st (b .among)) (b .broken)
   found-start at p s xs once st runs (Argued.have ts e) h =
-      let test = if-all (FoundS cells below Γ at p) in
+      let test = if-all (FoundS env below Γ at p) in
       test (leb (length below) s) _ _ (λ l. BrokenS.here (BreaksS.start-module st (leb-true _ _ l)))
       (λ l. test (not (sameNumbers ts (signatureAt below s .types))) _ _ (λ m. BrokenS.here (BreaksS.start-types st (leb-false _ _ l) h (λ z. true≢false (sym (same-eq _ _ z) ∙ not-true _ m))))
       (λ m. test (not (every public ts)) _ _ (λ o. BrokenS.here (BreaksS.start-escapes st h (λ z. true≢false (sym (all-every public z) ∙ not-true _ o))))
       (λ o. test (not (isLinked at)) _ _ (λ k. is-unlinked at (not-true _ k))
       (λ k. is-linked at (not-false _ k) (leb-false _ _ l) (same-true _ _ (not-false _ m)) (all-true public _ (not-false _ o))))))
     where
-      is-unlinked : (at : Standing) → isLinked at ≡ false → FoundS cells below Γ at p (Fails 12 (rootS p))
+      is-unlinked : (at : Standing) → isLinked at ≡ false → FoundS env below Γ at p (Fails whileUnlinked (rootS p))
       is-unlinked linked k = absurd (true≢false k)
       is-unlinked unlinked k = BrokenS.here (BreaksS.start-unlinked st)
 
-      is-linked : (at : Standing) → isLinked at ≡ true → s < length below → ts ≡ signatureAt below s .types → AllPublic ts → FoundS cells below Γ at p (Does (e ∪ signatureAt below s .effect) once)
+      is-linked : (at : Standing) → isLinked at ≡ true → s < length below → ts ≡ signatureAt below s .types → AllPublic ts → FoundS env below Γ at p (Does (e ∪ signatureAt below s .effect) once)
       is-linked linked k l m o = runs e l (retypes m h) (republic m o)
       is-linked unlinked k l m o = absurd (true≢false (sym k))
 
-  do-breaks : (i s : ℕ) (p : Stmt) → s ≡ private → BreaksS cells below Γ unlinked (Stmt.doAt i s p) 12
+  do-breaks : (i s : ℕ) (p : Stmt) → s ≡ private → BreaksS env below Γ unlinked (Stmt.doAt i s p) whileUnlinked
   do-breaks i s p e = rw e BreaksS.do-unlinked
 
-  do-unlinked : (i s : ℕ) (p : Stmt) (e : Effect) (a : Bool) → s ≡ private → Runs cells below Γ (standingAt s) p e a → within s e ≡ true → Runs cells below Γ linked (Stmt.doAt i s p) noEffect a
+  do-unlinked : (i s : ℕ) (p : Stmt) (e : Effect) (a : Bool) → s ≡ private → Runs env below Γ (standingAt s) p e a → within s e ≡ true → Runs env below Γ linked (Stmt.doAt i s p) noEffect a
   do-unlinked i s p e a z r h = rw z (Runs.do-unlinked (rw stands-unlinked at (rw z at r)) (rw z at h))
 
-  do-linked : (at : Standing) (i s : ℕ) (p : Stmt) (e : Effect) (a : Bool) → (s ≡ private → ⊥) → Runs cells below Γ (standingAt s) p e a → within s e ≡ true → Runs cells below Γ at (Stmt.doAt i s p) noEffect a
+  do-linked : (at : Standing) (i s : ℕ) (p : Stmt) (e : Effect) (a : Bool) → (s ≡ private → ⊥) → Runs env below Γ (standingAt s) p e a → within s e ≡ true → Runs env below Γ at (Stmt.doAt i s p) noEffect a
   do-linked at i s p e a z r h = Runs.do-linked z (rw (stands-linked s z) at r) h
 
   -- 12, where the effect lies within the place
-  do-rest : (i s : ℕ) (p : Stmt) (e : Effect) (a : Bool) → Runs cells below Γ (standingAt s) p e a → within s e ≡ true → (at : Standing) (b : Bool) → eqb s private ≡ b → FoundS cells below Γ at (Stmt.doAt i s p) (if not (isLinked at) && b then Fails 12 i else Does noEffect a)
+  do-rest : (i s : ℕ) (p : Stmt) (e : Effect) (a : Bool) → Runs env below Γ (standingAt s) p e a → within s e ≡ true → (at : Standing) (b : Bool) → eqb s private ≡ b → FoundS env below Γ at (Stmt.doAt i s p) (if not (isLinked at) && b then Fails whileUnlinked i else Does noEffect a)
   unfolding if_then_else_
   do-rest i s p e a h l linked true q = do-unlinked i s p e a (eqb-true _ _ q) h l
   do-rest i s p e a h l linked false q = do-linked linked i s p e a (eqb-false _ _ q) h l
   do-rest i s p e a h l unlinked true q = BrokenS.here (do-breaks i s p (eqb-true _ _ q))
   do-rest i s p e a h l unlinked false q = do-linked unlinked i s p e a (eqb-false _ _ q) h l
 
-  found-do : (at : Standing) (i s : ℕ) (p : Stmt) (r : Conduct) → FoundS cells below Γ (standingAt s) p r → FoundS cells below Γ at (Stmt.doAt i s p) (doRule at s i r)
+  found-do : (at : Standing) (i s : ℕ) (p : Stmt) (r : Conduct) → FoundS env below Γ (standingAt s) p r → FoundS env below Γ at (Stmt.doAt i s p) (doRule at s i r)
   unfolding doRule
   found-do at i s p (Fails n j) b = BrokenS.under ChildS.do-at b
   found-do at i s p (Does e a) h =
-      if-all (FoundS cells below Γ at (Stmt.doAt i s p)) (not (within s e)) _ _ (λ l. BrokenS.here (BreaksS.do-effect h (not-true _ l)))
+      if-all (FoundS env below Γ at (Stmt.doAt i s p)) (not (within s e)) _ _ (λ l. BrokenS.here (BreaksS.do-effect h (not-true _ l)))
       (λ l. do-rest i s p e a h (not-false _ l) at (eqb s private) refl)
 
-  found-join : (at : Standing) (i t : ℕ) (x : Expr) (p : Stmt) (e : Effect) (r : Conduct) → HasType cells Γ x t e → FoundS cells below (Γ ++ (t ∷ [])) at p r → FoundS cells below Γ at (Stmt.letIn i x p) (joinRule e r)
+  found-join : (at : Standing) (i t : ℕ) (x : Expr) (p : Stmt) (e : Effect) (r : Conduct) → HasType (env .cells) Γ x t e → FoundS env below (Γ ++ (t ∷ [])) at p r → FoundS env below Γ at (Stmt.letIn i x p) (joinRule e r)
   unfolding joinRule
   found-join at i t x p e (Does f b) h g = Runs.letIn h g
   found-join at i t x p e (Fails n j) h g = BrokenS.under (ChildS.letIn h) g
 
-  found-let : (at : Standing) (i : ℕ) (x : Expr) (p : Stmt) (r : Typing) → FoundE cells Γ x r → ((Δ : List ℕ) → FoundS cells below Δ at p (runIn cells below Δ at p)) → FoundS cells below Γ at (Stmt.letIn i x p) (letRule (λ Δ. runIn cells below Δ at p) Γ r)
+  found-let : (at : Standing) (i : ℕ) (x : Expr) (p : Stmt) (r : Typing) → FoundE (env .cells) Γ x r → ((Δ : List ℕ) → FoundS env below Δ at p (runIn env below Δ at p)) → FoundS env below Γ at (Stmt.letIn i x p) (letRule (λ Δ. runIn env below Δ at p) Γ r)
   found-let at i x p (Typed t e) h g = found-join at i t x p e _ h (g (Γ ++ (t ∷ [])))
   found-let at i x p (Untyped n j) h g = BrokenS.operand Operand.letIn h
 
-  found-store : (at : Standing) (i : ℕ) (x y : Expr) (r s : Typing) → FoundE cells Γ x r → FoundE cells Γ y s → FoundS cells below Γ at (Stmt.store i x y) (storeRule i r s)
+  found-store : (at : Standing) (i : ℕ) (x y : Expr) (r s : Typing) → FoundE (env .cells) Γ x r → FoundE (env .cells) Γ y s → FoundS env below Γ at (Stmt.store i x y) (storeRule i r s)
   unfolding storeRule
   found-store at i x y (Typed t e) (Typed u f) g h =
-      if-all (FoundS cells below Γ at (Stmt.store i x y)) (isCell t && eqb u (contentOf t)) _ _
+      if-all (FoundS env below Γ at (Stmt.store i x y)) (isCell t && eqb u (contentOf t)) _ _
       (λ p. let q = and-true _ _ p in Runs.store g (q .0) (retype (eqb-true _ _ (q .1)) h))
       (λ p. BrokenS.here (BreaksS.store g h (λ z. and-false _ _ p (z .0) (eq-eqb _ _ (z .1)))))
   found-store at i x y (Typed t e) (Untyped n j) g h = BrokenS.operand Operand.store-b h
   found-store at i x y (Untyped n j) s g h = BrokenS.operand Operand.store-a g
 
-  found-ifElse : (at : Standing) (i : ℕ) (x : Expr) (p q : Stmt) (r : Typing) (s t : Conduct) → FoundE cells Γ x r → FoundS cells below Γ at p s → FoundS cells below Γ at q t → FoundS cells below Γ at (Stmt.ifElse i x p q) (ifElseRule i r s t)
+  found-ifElse : (at : Standing) (i : ℕ) (x : Expr) (p q : Stmt) (r : Typing) (s t : Conduct) → FoundE (env .cells) Γ x r → FoundS env below Γ at p s → FoundS env below Γ at q t → FoundS env below Γ at (Stmt.ifElse i x p q) (ifElseRule i r s t)
   unfolding ifElseRule
   found-ifElse at i x p q (Typed t e) (Does f a) (Does g b) h k l =
-      if-all (FoundS cells below Γ at (Stmt.ifElse i x p q)) (eqb t truthType) _ _
+      if-all (FoundS env below Γ at (Stmt.ifElse i x p q)) (eqb t truthType) _ _
       (λ z. Runs.ifElse (retype (eqb-true _ _ z) h) k l)
       (λ z. BrokenS.here (BreaksS.ifElse h (eqb-false _ _ z)))
   found-ifElse at i x p q (Typed t e) (Does f a) (Fails n j) h k l = BrokenS.under ChildS.ifElse-c l
@@ -176,29 +177,29 @@ module _ (cells : List ℕ) (below : List Signature) (Γ : List ℕ) where
   found-ifElse at i x p q (Untyped n j) r s h k l = BrokenS.operand Operand.ifElse h
 
   -- 19, where the condition is a truth
-  while-rest : (at : Standing) (i t : ℕ) (x : Expr) (p : Stmt) (e f : Effect) → HasType cells Γ x t e → t ≡ truthType → (b : Bool) → Runs cells below Γ at p f b → FoundS cells below Γ at (Stmt.while i x p) (if b then Fails 13 i else Does (e ∪ f) true)
+  while-rest : (at : Standing) (i t : ℕ) (x : Expr) (p : Stmt) (e f : Effect) → HasType (env .cells) Γ x t e → t ≡ truthType → (b : Bool) → Runs env below Γ at p f b → FoundS env below Γ at (Stmt.while i x p) (if b then Fails instantLoop i else Does (e ∪ f) true)
   unfolding if_then_else_
   while-rest at i t x p e f h z true k = BrokenS.here (BreaksS.while-body k)
   while-rest at i t x p e f h z false k = Runs.while (retype z h) k
 
-  found-while : (at : Standing) (i : ℕ) (x : Expr) (p : Stmt) (r : Typing) (s : Conduct) → FoundE cells Γ x r → FoundS cells below Γ at p s → FoundS cells below Γ at (Stmt.while i x p) (whileRule i r s)
+  found-while : (at : Standing) (i : ℕ) (x : Expr) (p : Stmt) (r : Typing) (s : Conduct) → FoundE (env .cells) Γ x r → FoundS env below Γ at p s → FoundS env below Γ at (Stmt.while i x p) (whileRule i r s)
   unfolding whileRule
   found-while at i x p (Typed t e) (Does f b) h k =
-      if-all (FoundS cells below Γ at (Stmt.while i x p)) (not (eqb t truthType)) _ _
+      if-all (FoundS env below Γ at (Stmt.while i x p)) (not (eqb t truthType)) _ _
       (λ z. BrokenS.here (BreaksS.while h (eqb-false _ _ (not-true _ z))))
       (λ z. while-rest at i t x p e f h (eqb-true _ _ (not-false _ z)) b k)
   found-while at i x p (Typed t e) (Fails n j) h k = BrokenS.under ChildS.while k
   found-while at i x p (Untyped n j) s h k = BrokenS.operand Operand.while h
 
-pub soundS : (cells : List ℕ) (below : List Signature) (Γ : List ℕ) (at : Standing) (p : Stmt) → FoundS cells below Γ at p (runIn cells below Γ at p)
+pub soundS : (env : Setting) (below : List Signature) (Γ : List ℕ) (at : Standing) (p : Stmt) → FoundS env below Γ at p (runIn env below Γ at p)
 unfolding runIn
-soundS cells below Γ at (Stmt.nothing i) = Runs.nothing
-soundS cells below Γ at (Stmt.cooperate i) = found-cooperate cells below Γ at i
-soundS cells below Γ at (Stmt.seq i p q) = found-seq cells below Γ at i p q _ _ (soundS cells below Γ at p) (soundS cells below Γ at q)
-soundS cells below Γ at (Stmt.doAt i s p) = found-do cells below Γ at i s p _ (soundS cells below Γ (standingAt s) p)
-soundS cells below Γ at (Stmt.start i s xs) = found-start cells below Γ at (Stmt.start i s xs) s xs true Starts.start (λ e l h o. Runs.start l h o) _ (soundEs cells Γ xs)
-soundS cells below Γ at (Stmt.startWait i s xs) = found-start cells below Γ at (Stmt.startWait i s xs) s xs false Starts.start-wait (λ e l h o. Runs.start-wait l h o) _ (soundEs cells Γ xs)
-soundS cells below Γ at (Stmt.letIn i x p) = found-let cells below Γ at i x p (typeIn cells Γ x) (soundE cells Γ x) (λ Δ. soundS cells below Δ at p)
-soundS cells below Γ at (Stmt.store i x y) = found-store cells below Γ at i x y _ _ (soundE cells Γ x) (soundE cells Γ y)
-soundS cells below Γ at (Stmt.ifElse i x p q) = found-ifElse cells below Γ at i x p q _ _ _ (soundE cells Γ x) (soundS cells below Γ at p) (soundS cells below Γ at q)
-soundS cells below Γ at (Stmt.while i x p) = found-while cells below Γ at i x p _ _ (soundE cells Γ x) (soundS cells below Γ at p)
+soundS env below Γ at (Stmt.nothing i) = Runs.nothing
+soundS env below Γ at (Stmt.cooperate i) = found-cooperate env below Γ at i
+soundS env below Γ at (Stmt.seq i p q) = found-seq env below Γ at i p q _ _ (soundS env below Γ at p) (soundS env below Γ at q)
+soundS env below Γ at (Stmt.doAt i s p) = found-do env below Γ at i s p _ (soundS env below Γ (standingAt s) p)
+soundS env below Γ at (Stmt.start i s xs) = found-start env below Γ at (Stmt.start i s xs) s xs true Starts.start (λ e l h o. Runs.start l h o) _ (soundEs (env .cells) Γ xs)
+soundS env below Γ at (Stmt.startWait i s xs) = found-start env below Γ at (Stmt.startWait i s xs) s xs false Starts.start-wait (λ e l h o. Runs.start-wait l h o) _ (soundEs (env .cells) Γ xs)
+soundS env below Γ at (Stmt.letIn i x p) = found-let env below Γ at i x p (typeIn (env .cells) Γ x) (soundE (env .cells) Γ x) (λ Δ. soundS env below Δ at p)
+soundS env below Γ at (Stmt.store i x y) = found-store env below Γ at i x y _ _ (soundE (env .cells) Γ x) (soundE (env .cells) Γ y)
+soundS env below Γ at (Stmt.ifElse i x p q) = found-ifElse env below Γ at i x p q _ _ _ (soundE (env .cells) Γ x) (soundS env below Γ at p) (soundS env below Γ at q)
+soundS env below Γ at (Stmt.while i x p) = found-while env below Γ at i x p _ _ (soundE (env .cells) Γ x) (soundS env below Γ at p)

@@ -1,4 +1,5 @@
--- Which rule a program breaks first: refusals 8 to 13 over a whole file. Nothing is computed here. Assumes nothing: definitions.
+-- Which rule a program breaks first: refusals 8 to 13 over a whole file. Nothing is computed here.
+-- Assumes nothing: definitions.
 use mathlib.Core.Path.{_≡_}
 use mathlib.Core.Logic.{_⊎_}
 use mathlib.Core.Bool.{Bool, false}
@@ -10,9 +11,10 @@ use Rattle.language.specs.Effects.{within}
 use Rattle.language.specs.declared.effect.Effect.{Effect}
 use Rattle.language.specs.declared.verdict.Verdict.{Verdict}
 use Rattle.language.specs.declared.verdict.Verdict.the-variants.{Accepted, Rejected}
+use Rattle.language.specs.Refusals.{wrongEffect}
 use Rattle.program.specs.Trees.{Expr, Stmt, rootE, rootS}
-use Rattle.program.specs.Programs.{Part, Program, cells as cellTypes}
-use Rattle.rules.specs.Rules.{Signature, signature, HasType, Runs, Keeps}
+use Rattle.program.specs.Programs.{Part, Program}
+use Rattle.rules.specs.Rules.{Setting, settingOf, Signature, signature, HasType, Runs, Keeps}
 use Rattle.rules.specs.Breaks.{BreaksE, BreaksS, Starts}
 
 -- y is a child of the expression x
@@ -36,59 +38,67 @@ pub data Operand : Stmt → Expr → Type 0 where
   ifElse : {i : ℕ} {x : Expr} {p q : Stmt} → Operand (Stmt.ifElse i x p q) x
   while : {i : ℕ} {x : Expr} {p : Stmt} → Operand (Stmt.while i x p) x
 
--- `ChildS cells Γ at p Δ by q`: q is a child of the statement p, and a statement; where p stands in the variables Γ and `at`, q stands in Δ and `by`
-pub data ChildS (cells : List ℕ) : List ℕ → Standing → Stmt → List ℕ → Standing → Stmt → Type 0 where
-  seq-a : {Γ : List ℕ} {at : Standing} {i : ℕ} {p q : Stmt} → ChildS cells Γ at (Stmt.seq i p q) Γ at p
-  seq-b : {Γ : List ℕ} {at : Standing} {i : ℕ} {p q : Stmt} → ChildS cells Γ at (Stmt.seq i p q) Γ at q
-  do-at : {Γ : List ℕ} {at : Standing} {i s : ℕ} {p : Stmt} → ChildS cells Γ at (Stmt.doAt i s p) Γ (standingAt s) p
+-- `ChildS env Γ at p Δ by q`: q is a child of the statement p, and a statement; where p stands in
+-- the variables Γ and `at`, q stands in Δ and `by`
+pub data ChildS (env : Setting) : List ℕ → Standing → Stmt → List ℕ → Standing → Stmt → Type 0 where
+  seq-a : {Γ : List ℕ} {at : Standing} {i : ℕ} {p q : Stmt}
+      → ChildS env Γ at (Stmt.seq i p q) Γ at p
+  seq-b : {Γ : List ℕ} {at : Standing} {i : ℕ} {p q : Stmt}
+      → ChildS env Γ at (Stmt.seq i p q) Γ at q
+  do-at : {Γ : List ℕ} {at : Standing} {i s : ℕ} {p : Stmt}
+      → ChildS env Γ at (Stmt.doAt i s p) Γ (standingAt s) p
   letIn : {Γ : List ℕ} {at : Standing} {i t : ℕ} {x : Expr} {p : Stmt} {e : Effect}
-      → HasType cells Γ x t e
-      → ChildS cells Γ at (Stmt.letIn i x p) (Γ ++ (t ∷ [])) at p
+      → HasType (env .cells) Γ x t e
+      → ChildS env Γ at (Stmt.letIn i x p) (Γ ++ (t ∷ [])) at p
   ifElse-b : {Γ : List ℕ} {at : Standing} {i : ℕ} {x : Expr} {p q : Stmt}
-      → ChildS cells Γ at (Stmt.ifElse i x p q) Γ at p
+      → ChildS env Γ at (Stmt.ifElse i x p q) Γ at p
   ifElse-c : {Γ : List ℕ} {at : Standing} {i : ℕ} {x : Expr} {p q : Stmt}
-      → ChildS cells Γ at (Stmt.ifElse i x p q) Γ at q
-  while : {Γ : List ℕ} {at : Standing} {i : ℕ} {x : Expr} {p : Stmt} → ChildS cells Γ at (Stmt.while i x p) Γ at p
+      → ChildS env Γ at (Stmt.ifElse i x p q) Γ at q
+  while : {Γ : List ℕ} {at : Standing} {i : ℕ} {x : Expr} {p : Stmt}
+      → ChildS env Γ at (Stmt.while i x p) Γ at p
 
 -- `BrokenE cells Γ x n j`: in the expression x, frame j breaks rule n
 pub data BrokenE (cells Γ : List ℕ) : Expr → ℕ → ℕ → Type 0 where
   here : {x : Expr} {n : ℕ} → BreaksE cells Γ x n → BrokenE cells Γ x n (rootE x)
   under : {x y : Expr} {n j : ℕ} → ChildE x y → BrokenE cells Γ y n j → BrokenE cells Γ x n j
 
--- `BrokenS cells below Γ at p n j`: in the statement p, frame j breaks rule n
-pub data BrokenS (cells : List ℕ) (below : List Signature) : List ℕ → Standing → Stmt → ℕ → ℕ → Type 0 where
+-- `BrokenS env below Γ at p n j`: in the statement p, frame j breaks rule n
+pub data BrokenS (env : Setting) (below : List Signature)
+    : List ℕ → Standing → Stmt → ℕ → ℕ → Type 0 where
   here : {Γ : List ℕ} {at : Standing} {p : Stmt} {n : ℕ}
-      → BreaksS cells below Γ at p n
-      → BrokenS cells below Γ at p n (rootS p)
+      → BreaksS env below Γ at p n
+      → BrokenS env below Γ at p n (rootS p)
   operand : {Γ : List ℕ} {at : Standing} {p : Stmt} {x : Expr} {n j : ℕ}
       → Operand p x
-      → BrokenE cells Γ x n j
-      → BrokenS cells below Γ at p n j
+      → BrokenE (env .cells) Γ x n j
+      → BrokenS env below Γ at p n j
   under : {Γ Δ : List ℕ} {at by : Standing} {p q : Stmt} {n j : ℕ}
-      → ChildS cells Γ at p Δ by q
-      → BrokenS cells below Δ by q n j
-      → BrokenS cells below Γ at p n j
+      → ChildS env Γ at p Δ by q
+      → BrokenS env below Δ by q n j
+      → BrokenS env below Γ at p n j
 
--- `BrokenM cells below ms n j`: in the modules ms, which stand behind modules with the signatures `below`, frame j breaks rule n
-pub data BrokenM (cells : List ℕ) : List Signature → List Part → ℕ → ℕ → Type 0 where
+-- `BrokenM env below ms n j`: in the modules ms, which stand behind modules with the signatures
+-- `below`, frame j breaks rule n
+pub data BrokenM (env : Setting) : List Signature → List Part → ℕ → ℕ → Type 0 where
   body : {below : List Signature} {m : Part} {ms : List Part} {n j : ℕ}
-      → BrokenS cells below (m .types) linked (m .body) n j
-      → BrokenM cells below (m ∷ ms) n j
+      → BrokenS env below (m .types) linked (m .body) n j
+      → BrokenM env below (m ∷ ms) n j
   later : {below : List Signature} {m : Part} {ms : List Part} {e : Effect} {b : Bool} {n j : ℕ}
-      → Runs cells below (m .types) linked (m .body) e b
-      → BrokenM cells (below ++ (signature m e ∷ [])) ms n j
-      → BrokenM cells below (m ∷ ms) n j
+      → Runs env below (m .types) linked (m .body) e b
+      → BrokenM env (below ++ (signature m e ∷ [])) ms n j
+      → BrokenM env below (m ∷ ms) n j
   -- 11 'effect, .. at main': main is the last
   main : {below : List Signature} {m : Part} {e : Effect} {b : Bool}
-      → Runs cells below (m .types) linked (m .body) e b
+      → Runs env below (m .types) linked (m .body) e b
       → within home e ≡ false
-      → BrokenM cells below (m ∷ []) 11 (m .frame)
+      → BrokenM env below (m ∷ []) wrongEffect (m .frame)
 
 -- in the program, frame j breaks rule n
 abbrev pub Broken : Program → ℕ → ℕ → Type 0
-Broken file n j = BrokenM (cellTypes file) [] (file .modules) n j
+Broken file n j = BrokenM (settingOf file) [] (file .modules) n j
 
--- rule n at frame j comes no later than rule m at frame k: 'First frame in file order; there, the smallest number.'
+-- rule n at frame j comes no later than rule m at frame k: 'First frame in file order; there, the
+-- smallest number.'
 abbrev pub NoLater : ℕ → ℕ → ℕ → ℕ → Type 0
 NoLater n j m k = (j < k) ⊎ ((j ≡ k) × (n ≤ m))
 

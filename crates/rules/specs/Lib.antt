@@ -1,5 +1,4 @@
 pub mod Rules
 pub mod Breaks
 pub mod Broken
-pub mod Verdict
 pub mod inner

@@ -1,15 +1,15 @@
-// What the check of the rules finds of a part of a program. A fault is the number of a refusal and the frame that it
-// names: the first one in that part.
+// What the check of the rules finds of a part of a program. A fault is the number of a refusal and
+// the frame that it names: the first one in that part.
 use language::effect::Effect;
 
 // Of an expression: its type and its effect, or the first fault in it.
-pub(crate) enum Typing {
+pub enum Typing {
     Typed(u16, Effect),
     Untyped(u8, u16),
 }
 
 // Of a statement: its effect and whether it ends at once, or the first fault in it.
-pub(crate) enum Conduct {
+pub enum Conduct {
     Does(Effect, bool),
     Fails(u8, u16),
 }

@@ -1,9 +1,5 @@
-// The rules of types, effects and cooperation, refusals 8 to 13.
-pub mod check;
-mod conduct;
-mod expression;
-mod finding;
-mod module;
-mod start;
-mod statement;
-mod typing;
+// The rules of types, effects and cooperation, refusals 8 to 13: one function for each rule.
+pub mod expression;
+pub mod finding;
+pub mod start;
+pub mod statement;

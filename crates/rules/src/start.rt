@@ -2,6 +2,10 @@
 use crate::finding::Conduct;
 use crate::finding::Typing;
 use language::effect::Effect;
+use language::refusal::ESCAPING;
+use language::refusal::ILL_TYPED;
+use language::refusal::UNBOUND;
+use language::refusal::WHILE_UNLINKED;
 use language::type_word::is_public;
 ghost use mathlib.Core.Path.{_≡_};
 ghost use mathlib.Core.List.{[], _∷_, map};
@@ -11,17 +15,19 @@ ghost use Rattle.basics.specs.Searches.{every, sameNumbers};
 ghost use Rattle.language.specs.Types.{public};
 ghost use Rattle.rules.specs.inner.Checking.{Argued, argue, startRule};
 ghost use Rattle.rules.specs.inner.Standings.{standing};
-ghost use Rattle.rules.specs.inner.Signatures.{arguedOf, signatureOf, signatureWord, noArguments};
+ghost use Rattle.rules.specs.inner.Signatures.{arguedOf, noArguments};
+ghost use Rattle.rules.specs.inner.Signatures.{signatureOf, signatureWord};
 
-// What the arguments of a start are found to be: their types and their effect, or the first fault in them.
-pub(crate) enum Arguments {
+// What the arguments of a start are found to be: their types and their effect, or the first fault
+// in them.
+pub enum Arguments {
     Nothing,
     One(u16, Effect),
     Two(u16, u16, Effect),
     Fault(u8, u16),
 }
 
-pub(crate) fn one_argument(x: Typing) -> Arguments
+pub fn one_argument(x: Typing) -> Arguments
     ensures { λ r. ⌜ arguedOf r ≡ argue x noArguments ⌝ }
 {
     match x {
@@ -30,7 +36,7 @@ pub(crate) fn one_argument(x: Typing) -> Arguments
     }
 }
 
-pub(crate) fn two_arguments(x: Typing, y: Typing) -> Arguments
+pub fn two_arguments(x: Typing, y: Typing) -> Arguments
     ensures { λ r. ⌜ arguedOf r ≡ argue x (argue y noArguments) ⌝ }
 {
     match x {
@@ -42,14 +48,25 @@ pub(crate) fn two_arguments(x: Typing, y: Typing) -> Arguments
     }
 }
 
-// What is known of a module, in one word: 16 bits for each of two types, the effect's 8 with room
-// for 16, and how many parameters.
-pub(crate) fn signature_word(count: u8, first: u16, second: u16, effect: Effect) -> u64
+// A word that keeps what is known of a module has fields of 16 bits, from the right: two types, the
+// effect, how many parameters. As multipliers: one field, two, three.
+const FIELD: u64 = 0x0001_0000;
+
+const TWO_FIELDS: u64 = 0x0001_0000_0000;
+
+const THREE_FIELDS: u64 = 0x0001_0000_0000_0000;
+// An effect's number has 8 bits, a number of parameters is one of three.
+const EFFECTS: u64 = 0x0100;
+
+const COUNTS: u64 = 3;
+
+// What is known of a module, in one word.
+pub fn signature_word(count: u8, first: u16, second: u16, effect: Effect) -> u64
     ensures { λ r. ⌜ r ≡ signatureWord count first second effect ⌝ }
 {
-    let low = (second as u64) * 0x0001_0000 + (first as u64);
-    let high = (count as u64) * 0x0001_0000 + (effect.number() as u64);
-    high * 0x0001_0000_0000 + low
+    let low = (second as u64) * FIELD + (first as u64);
+    let high = (count as u64) * FIELD + (effect.number() as u64);
+    high * TWO_FIELDS + low
 }
 
 // Whether the first n of two types are the types of a module's parameters.
@@ -57,20 +74,20 @@ fn same_types(n: u8, t: u16, u: u16, w: u64) -> bool
     requires { ⌜ n ≤ 2 ⌝ }
     ensures { λ r. ⌜ r ≡ sameNumbers (take n (t ∷ u ∷ [])) (signatureOf w .types) ⌝ }
 {
-    let m = (w / 0x0001_0000_0000_0000 % 3) as u8;
+    let m = (w / THREE_FIELDS % COUNTS) as u8;
     if n != m {
         return false;
     }
     if n == 0 {
         return true;
     }
-    if t != (w % 0x0001_0000) as u16 {
+    if t != (w % FIELD) as u16 {
         return false;
     }
     if n == 1 {
         return true;
     }
-    u == (w / 0x0001_0000 % 0x0001_0000) as u16
+    u == (w / FIELD % FIELD) as u16
 }
 
 // Whether the first n of two types are public.
@@ -93,7 +110,7 @@ fn all_public(n: u8, t: u16, u: u16) -> bool
 fn signature_effect(w: u64) -> Effect
     ensures { λ r. ⌜ r ≡ signatureOf w .effect ⌝ }
 {
-    Effect::from_number((w / 0x0001_0000_0000 % 0x0100) as u8)
+    Effect::from_number((w / TWO_FIELDS % EFFECTS) as u8)
 }
 
 // A start with the first n of two types.
@@ -109,26 +126,28 @@ fn start_typed(
     e: Effect,
 ) -> Conduct
     requires { ⌜ n ≤ 2 ⌝ }
-    ensures { λ r. ⌜ r ≡ startRule once (map signatureOf (now (below .entry))) (standing linked) s i (Argued.have (take n (t ∷ u ∷ [])) e) ⌝ }
+    ensures { λ r. ⌜ r
+        ≡ startRule once (map signatureOf (now (below .entry))) (standing linked) s i
+        (Argued.have (take n (t ∷ u ∷ [])) e) ⌝ }
 {
     let at = s as usize;
     if below.len() <= at {
-        return Conduct::Fails(8, i);
+        return Conduct::Fails(UNBOUND, i);
     }
     let w = below[at];
     if !same_types(n, t, u, w) {
-        return Conduct::Fails(9, i);
+        return Conduct::Fails(ILL_TYPED, i);
     }
     if !all_public(n, t, u) {
-        return Conduct::Fails(10, i);
+        return Conduct::Fails(ESCAPING, i);
     }
     if linked {
         return Conduct::Does(e.joined(signature_effect(w)), once);
     }
-    Conduct::Fails(12, i)
+    Conduct::Fails(WHILE_UNLINKED, i)
 }
 
-pub(crate) fn start_rule(
+pub fn start_rule(
     once: bool,
     below: &[u64],
     linked: bool,
@@ -136,7 +155,9 @@ pub(crate) fn start_rule(
     i: u16,
     args: Arguments,
 ) -> Conduct
-    ensures { λ r. ⌜ r ≡ startRule once (map signatureOf (now (below .entry))) (standing linked) s i (arguedOf args) ⌝ }
+    ensures { λ r. ⌜ r
+        ≡ startRule once (map signatureOf (now (below .entry))) (standing linked) s i
+        (arguedOf args) ⌝ }
 {
     match args {
         Arguments::Fault(n, j) => Conduct::Fails(n, j),

@@ -3,8 +3,12 @@
 use files::FileRead;
 use files::print;
 use files::read_file;
+use language::limit::MOST_BYTES;
+use language::limit::MOST_CHOICE_BYTES;
+use language::limit::MOST_LISTING_BYTES;
 use language::verdict::Verdict;
 use layout::lay_out;
+use machine::offset::STATE_LENGTH;
 use runs::printing::run_listing;
 ghost use Rattle.io.specs.Counts.{Counts};
 
@@ -25,20 +29,20 @@ fn choices_for(text: &[u8], choices: &mut [u8]) -> FileRead
 
 // Each file's buffer has one byte more than the longest that is read, so that a longer file is seen to be longer.
 fn main() {
-    let mut text = [0u8; 17409];
+    let mut text = [0u8; MOST_BYTES + 1];
     let program = read_file(b"prog.txt", &mut text);
     if !program.readable {
         return;
     }
     let n = program.count;
-    let mut choices = [0u8; 49153];
+    let mut choices = [0u8; MOST_CHOICE_BYTES + 1];
     let list = choices_for(&text[..n], &mut choices);
     if !list.readable {
         return;
     }
     let m = list.count;
-    let mut state = [0u64; 4818];
-    let mut out = [0u8; 229389];
+    let mut state = [0u64; STATE_LENGTH];
+    let mut out = [0u8; MOST_LISTING_BYTES];
     let l = run_listing(&text[..n], &choices[..m], &mut state, &mut out);
     print(&out, l.length);
 }

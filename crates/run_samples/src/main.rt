@@ -2,6 +2,10 @@
 // and the choices in data/iiic, and prints the sample's name and the listing; the report is compared with the stored one.
 use files::print;
 use files::read_file;
+use language::limit::MOST_BYTES;
+use language::limit::MOST_CHOICE_BYTES;
+use language::limit::MOST_LISTING_BYTES;
+use machine::offset::STATE_LENGTH;
 use runs::printing::run_listing;
 
 // The number of the sample in three digits, and which of its two files.
@@ -13,20 +17,20 @@ fn name(i: usize, which: u8) -> [u8; 4] {
 }
 
 fn report(i: usize) {
-    let mut text = [0u8; 17409];
+    let mut text = [0u8; MOST_BYTES + 1];
     let program = read_file(&name(i, b'p'), &mut text);
     if !program.readable {
         return;
     }
-    let mut choices = [0u8; 49153];
+    let mut choices = [0u8; MOST_CHOICE_BYTES + 1];
     let list = read_file(&name(i, b'c'), &mut choices);
     if !list.readable {
         return;
     }
     let n = program.count;
     let m = list.count;
-    let mut state = [0u64; 4818];
-    let mut out = [0u8; 229389];
+    let mut state = [0u64; STATE_LENGTH];
+    let mut out = [0u8; MOST_LISTING_BYTES];
     let l = run_listing(&text[..n], &choices[..m], &mut state, &mut out);
     print(&name(i, b'\n'), 4);
     print(&out, l.length);

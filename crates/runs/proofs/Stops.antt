@@ -10,18 +10,19 @@ use Rattle.language.specs.Places.{Standing}
 use Rattle.language.specs.declared.frame.Frame.{Frame}
 use Rattle.language.specs.declared.verdict.Verdict.{Verdict}
 use Rattle.language.specs.declared.verdict.Verdict.the-variants.{Accepted, Rejected}
-use Rattle.text.specs.Reading.{Reading, frames, refused, reading, Reads}
+use Rattle.text.specs.Reading.{Reading, frames, refused, Reads}
+use Rattle.text.specs.inner.Reading.{reading}
 use Rattle.text.proofs.Readings.{reads, some-frame}
 use Rattle.program.specs.Trees.{Expr, Stmt}
 use Rattle.program.specs.Programs.{Part, programOf}
 use Rattle.layout.specs.Faults.{Fault, NoFault, LayoutSays}
-use Rattle.layout.specs.LaidOut.{layoutRead, layoutVerdict}
+use Rattle.layout.specs.inner.Layouts.{layoutRead, layoutVerdict}
 use Rattle.layout.proofs.Layouts.{layout-says}
-use Rattle.rules.specs.Rules.{Signature}
+use Rattle.rules.specs.Rules.{Setting, Signature}
 use Rattle.rules.specs.Breaks.{BreaksE, BreaksS}
 use Rattle.rules.specs.Broken.{BrokenE, BrokenS, BrokenM, RulesSay}
 use Rattle.rules.specs.inner.Checking.{rulesOf}
-use Rattle.rules.proofs.Whole.{rules-hold}
+use Rattle.checker.proofs.Whole.{rules-hold}
 use Rattle.listing.specs.Listing.{stops}
 
 -- ---- 1 to 3
@@ -60,7 +61,7 @@ at-expression (BreaksE.less a b c) = omega arith
 at-expression (BreaksE.choose a b c d) = omega arith
 at-expression (BreaksE.new-escapes a b c) = omega arith
 
-at-statement : {cells : List ℕ} {below : List Signature} {Γ : List ℕ} {at : Standing} {p : Stmt} {n : ℕ} → BreaksS cells below Γ at p n → 7 < n
+at-statement : {env : Setting} {below : List Signature} {Γ : List ℕ} {at : Standing} {p : Stmt} {n : ℕ} → BreaksS env below Γ at p n → 7 < n
 at-statement (BreaksS.start-module a b) = omega arith
 at-statement (BreaksS.start-types a b c d) = omega arith
 at-statement (BreaksS.store a b c) = omega arith
@@ -77,12 +78,12 @@ in-expression : {cells Γ : List ℕ} {x : Expr} {n j : ℕ} → BrokenE cells �
 in-expression (BrokenE.here h) = at-expression h
 in-expression (BrokenE.under c h) = in-expression h
 
-in-statement : {cells : List ℕ} {below : List Signature} {Γ : List ℕ} {at : Standing} {p : Stmt} {n j : ℕ} → BrokenS cells below Γ at p n j → 7 < n
+in-statement : {env : Setting} {below : List Signature} {Γ : List ℕ} {at : Standing} {p : Stmt} {n j : ℕ} → BrokenS env below Γ at p n j → 7 < n
 in-statement (BrokenS.here h) = at-statement h
 in-statement (BrokenS.operand o h) = in-expression h
 in-statement (BrokenS.under c h) = in-statement h
 
-in-modules : {cells : List ℕ} {below : List Signature} {ms : List Part} {n j : ℕ} → BrokenM cells below ms n j → 7 < n
+in-modules : {env : Setting} {below : List Signature} {ms : List Part} {n j : ℕ} → BrokenM env below ms n j → 7 < n
 in-modules (BrokenM.body h) = in-statement h
 in-modules (BrokenM.later r h) = in-modules h
 in-modules (BrokenM.main r e) = omega arith

@@ -15,14 +15,14 @@ use Rattle.language.specs.declared.verdict.Verdict.{Verdict}
 use Rattle.language.specs.declared.verdict.Verdict.the-variants.{Accepted, Rejected}
 use Rattle.text.specs.Frames.{framesOf, textFrames}
 use Rattle.program.specs.Programs.{programOf}
-use Rattle.layout.specs.LaidOut.{layoutVerdict, laidOut}
+use Rattle.layout.specs.inner.Layouts.{layoutVerdict, laidOut}
 use Rattle.layout.specs.declared.LaidOut.{LaidOut}
 use Rattle.layout.proofs.Answers.{verdict-is}
 use Rattle.layout.proofs.Accepted.{laid-passed}
 use Rattle.rules.specs.inner.Checking.{rulesOf}
-use Rattle.rules.specs.Verdict.{verdict}
-use Rattle.rules.specs.inner.Frames.{FileIn}
-use Rattle.rules.proofs.CheckLaws.{check-rejected, check-rules}
+use Rattle.checker.specs.Verdict.{verdict}
+use Rattle.checker.specs.inner.Frames.{FileIn}
+use Rattle.checker.proofs.CheckLaws.{check-rejected, check-rules}
 use Rattle.reach.proofs.Passed.{some-frame}
 use Rattle.stepper.specs.declared.answer.Answer.{Answer}
 use Rattle.stepper.specs.declared.answer.Answer.the-variants as A

@@ -1,7 +1,7 @@
 -- What `run_listing` leaves in the lent buffers: a run's whole listing, and its state. Assumes nothing: definitions.
 use mathlib.Core.Bool.{Bool, true, false, _&&_}
-use mathlib.Core.List.{List, []}
-use Prim.Native.Nat.{ℕ, _+_}
+use mathlib.Core.List.{List}
+use Prim.Native.Nat.{ℕ}
 use lib.Dec.{ltb, eqb}
 use lib.ListN.{length}
 use lib.Seq.{paste}
@@ -9,10 +9,13 @@ use Rattle.basics.specs.If.{if_then_else_}
 use Rattle.language.specs.declared.frame.Frame.{Frame}
 use Rattle.language.specs.declared.verdict.Verdict.{Verdict}
 use Rattle.language.specs.declared.verdict.Verdict.the-variants.{Accepted, Rejected}
+use Rattle.language.specs.Limits.{mostChoiceBytes, mostListingBytes}
+use Rattle.language.specs.Refusals.{wrongState}
 use Rattle.text.specs.Frames.{textFrames}
 use Rattle.program.specs.Programs.{Program, programOf}
-use Rattle.layout.specs.LaidOut.{layoutVerdict}
-use Rattle.rules.specs.Verdict.{verdict}
+use Rattle.layout.specs.inner.Layouts.{layoutVerdict}
+use Rattle.checker.specs.Verdict.{verdict}
+use Rattle.machine.specs.Offsets.{stateLength}
 use Rattle.stepper.specs.declared.answer.Answer.{Answer}
 use Rattle.stepper.specs.declared.answer.Answer.the-variants as A
 use Rattle.listing.specs.Listing.{stops, Choices, choices, malformed, choicesFrom, runListing}
@@ -31,7 +34,7 @@ steppedOf p w (malformed k) = unstepped w
 
 -- the bytes of choices.txt are judged whole before any step, in the order of `choicesListing`
 unfoldable pub choicesStepped : Program → List ℕ → List ℕ → Behind
-choicesStepped p w bytes = elim (ltb 49152 (length bytes)) [ true ↦ unstepped w | false ↦ steppedOf p w (choicesFrom 0 bytes) ]
+choicesStepped p w bytes = elim (ltb mostChoiceBytes (length bytes)) [ true ↦ unstepped w | false ↦ steppedOf p w (choicesFrom 0 bytes) ]
 
 -- '`run` prints that line, then after 1 to 7 stops.'
 unfoldable pub runStepped : Verdict → List Frame → List ℕ → List ℕ → Behind
@@ -76,14 +79,14 @@ unlisted a w out = listedAs a 0 0 w out
 -- 'after 1 to 7 .. a lent buffer of the wrong length'; else it is done
 abbrev pub answerFor : Verdict → Bool → Answer
 answerFor (Rejected n j) fit = A.Rejected n j
-answerFor Accepted false = A.Refused 14 0
+answerFor Accepted false = A.Refused wrongState 0
 answerFor Accepted true = A.Done 0
 
 -- a listing that stops after 1 to 7 needs no state; any other needs one of its length. The longest
 -- listing has 8 + 14 * 16,384 + 5 bytes
 abbrev pub buffersFit : Verdict → List ℕ → List ℕ → Bool
-buffersFit (Rejected n j) w out = eqb (length out) 229389
-buffersFit Accepted w out = eqb (length w) 4818 && eqb (length out) 229389
+buffersFit (Rejected n j) w out = eqb (length out) mostListingBytes
+buffersFit Accepted w out = eqb (length w) stateLength && eqb (length out) mostListingBytes
 
 -- of any text, any bytes of choices.txt and any buffers
 unfoldable pub listText : List ℕ → List ℕ → List ℕ → List ℕ → ListedOn

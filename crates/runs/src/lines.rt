@@ -1,7 +1,10 @@
 // The lines of a run, gathered in the buffer behind the check's line.
+use language::limit::CHECK_LINE;
+use language::limit::CHOICE_LINE;
 use listing::buffer::put;
 use listing::choices::choice_at;
 use listing::line::choice_line;
+use machine::offset::CELL_COUNT_AT;
 use stepper::file::File;
 use stepper::valid::step_valid;
 ghost use mathlib.Core.Path.{_≡_};
@@ -14,9 +17,9 @@ ghost use Rattle.machine.specs.Runs.{stateAfter};
 ghost use Rattle.machine.specs.Words.{pack};
 ghost use Rattle.stepper.specs.inner.Files.{FileWords, fileOf};
 ghost use Rattle.runs.specs.Printed.{written};
-ghost use Rattle.runs.specs.inner.Parts.{choicesOf, stepLines};
+ghost use Rattle.runs.specs.inner.Parts.{choicesOf, stepLines, checkLength, choiceLength};
 
-// The first n choices of choices.txt, from the fresh state on, and a line of 14 bytes for each; its cells in use are those behind the step.
+// The first n choices of choices.txt, from the fresh state on, and a line for each; its cells in use are those behind the step.
 pub(crate) fn step_lines(
     frames: &[u64],
     file: File,
@@ -25,16 +28,16 @@ pub(crate) fn step_lines(
     state: &mut [u64],
     out: &mut [u8],
 )
-    requires { ⌜ FileWords (now frames) × (file ≡ fileOf (programOf (framesOf (now frames)))) × (n ≤ length (choicesOf (now bytes))) × (8 + 14 * n ≤ length (now out)) × (now state ≡ pack (fresh (programOf (framesOf (now frames))))) ⌝ }
+    requires { ⌜ FileWords (now frames) × (file ≡ fileOf (programOf (framesOf (now frames)))) × (n ≤ length (choicesOf (now bytes))) × (checkLength + choiceLength * n ≤ length (now out)) × (now state ≡ pack (fresh (programOf (framesOf (now frames))))) ⌝ }
     ensures words { λ _. ⌜ now (state .exit) ≡ pack (stateAfter (programOf (framesOf (now (frames .entry)))) (take n (choicesOf (now (bytes .entry))))) ⌝ }
-    ensures lines { λ _. ⌜ now (out .exit) ≡ written (now (out .entry)) 8 (stepLines (programOf (framesOf (now (frames .entry)))) (take n (choicesOf (now (bytes .entry))))) ⌝ }
+    ensures lines { λ _. ⌜ now (out .exit) ≡ written (now (out .entry)) checkLength (stepLines (programOf (framesOf (now (frames .entry)))) (take n (choicesOf (now (bytes .entry))))) ⌝ }
 {
     let mut k: usize = 0;
     while k < n {
         let c = choice_at(bytes, k);
         let s = step_valid(frames, file, state, c as u64);
-        let line = choice_line(c, s.answer, s.thread, state[1] as u16);
-        put(out, 8 + 14 * k, &line);
+        let line = choice_line(c, s.answer, s.thread, state[CELL_COUNT_AT] as u16);
+        put(out, CHECK_LINE + CHOICE_LINE * k, &line);
         k += 1;
     }
 }

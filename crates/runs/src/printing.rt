@@ -1,5 +1,13 @@
 // What `run` prints, whole, in a lent buffer.
 use crate::lines::step_lines;
+use checker::check::rules_of;
+use language::limit::CHECK_LINE;
+use language::limit::CHOICE_LINE;
+use language::limit::LAST_LINE;
+use language::limit::MOST_LISTING_BYTES;
+use language::refusal::LONG_TEXT;
+use language::refusal::MALFORMED_TEXT;
+use language::refusal::WRONG_STATE;
 use language::verdict::Verdict;
 use layout::lay_out;
 use listing::buffer::put;
@@ -8,7 +16,7 @@ use listing::choices::ChoicesRead;
 use listing::choices::judge;
 use listing::line::last_line;
 use listing::refusal_line;
-use rules::check::rules_of;
+use machine::offset::STATE_LENGTH;
 use states::fresh::write_fresh;
 use stepper::answer::Answer;
 use stepper::file::file_of;
@@ -16,8 +24,10 @@ ghost use mathlib.Core.Path.{_≡_};
 ghost use mathlib.Core.List.{[]};
 ghost use Prim.Native.Nat.{_≤_, min};
 ghost use lib.ListN.{length};
+ghost use Rattle.language.specs.Limits.{mostChoices, mostListingBytes};
 ghost use Rattle.text.specs.Frames.{framesOf};
 ghost use Rattle.program.specs.Programs.{programOf};
+ghost use Rattle.machine.specs.Offsets.{stateLength};
 ghost use Rattle.rules.specs.inner.Checking.{rulesOf};
 ghost use Rattle.stepper.specs.inner.Files.{FileWords};
 ghost use Rattle.stepper.specs.declared.answer.Answer.the-variants.{Done};
@@ -33,6 +43,13 @@ pub struct Listed {
     pub used: usize,
 }
 
+// The first line and the last; the lines of a refused text or list of choices.
+const ENDS: usize = CHECK_LINE + LAST_LINE;
+
+const ONE_LINE: u32 = CHECK_LINE as u32;
+
+const TWO_LINES: u32 = 2 * CHECK_LINE as u32;
+
 // How many of n choices a run uses.
 fn used_of(n: usize, allowance: u16) -> usize
     ensures { λ r. ⌜ r ≡ min n allowance ⌝ }
@@ -45,7 +62,7 @@ fn used_of(n: usize, allowance: u16) -> usize
 
 // The n choices of choices.txt, as far as the allowance goes: a line for each, and the last.
 fn list_run(frames: &[u64], bytes: &[u8], n: usize, state: &mut [u64], out: &mut [u8]) -> Listed
-    requires { ⌜ FileWords (now frames) × (n ≡ length (choicesOf (now bytes))) × (n ≤ 16384) × (length (now state) ≡ 4818) × (length (now out) ≡ 229389) ⌝ }
+    requires { ⌜ FileWords (now frames) × (n ≡ length (choicesOf (now bytes))) × (n ≤ mostChoices) × (length (now state) ≡ stateLength) × (length (now out) ≡ mostListingBytes) ⌝ }
     ensures { λ r. ⌜ listedOn r (now (state .exit)) (now (out .exit)) ≡ listedBehind (stepped (programOf (framesOf (now (frames .entry)))) (choicesOf (now (bytes .entry)))) (runLines (programOf (framesOf (now (frames .entry)))) (choicesOf (now (bytes .entry)))) (now (out .entry)) ⌝ }
 {
     let file = file_of(frames);
@@ -53,44 +70,44 @@ fn list_run(frames: &[u64], bytes: &[u8], n: usize, state: &mut [u64], out: &mut
     write_fresh(frames, state);
     step_lines(frames, file, bytes, used, state, out);
     let line = last_line(used as u16);
-    put(out, 8 + 14 * used, &line);
+    put(out, CHECK_LINE + CHOICE_LINE * used, &line);
     Listed {
         answer: Answer::Done(0),
-        length: (13 + 14 * used) as u32,
+        length: (ENDS + CHOICE_LINE * used) as u32,
         used,
     }
 }
 
 // Why no choice is stepped: the line of a number and of a line of choices.txt.
 fn list_refusal(number: u8, line: u16, out: &mut [u8]) -> Listed
-    requires { ⌜ length (now out) ≡ 229389 ⌝ }
+    requires { ⌜ length (now out) ≡ mostListingBytes ⌝ }
     ensures { λ r. ⌜ listedOn r [] (now (out .exit)) ≡ listedBehind (unstepped []) (refusalLine number line) (now (out .entry)) ⌝ }
 {
     let bytes = refusal_line(number, line);
-    put(out, 8, &bytes);
+    put(out, CHECK_LINE, &bytes);
     Listed {
         answer: Answer::Done(0),
-        length: 16,
+        length: TWO_LINES,
         used: 0,
     }
 }
 
 // Behind the check's line: choices.txt is judged whole before any step.
 fn list_choices(frames: &[u64], bytes: &[u8], state: &mut [u64], out: &mut [u8]) -> Listed
-    requires { ⌜ FileWords (now frames) × (length (now state) ≡ 4818) × (length (now out) ≡ 229389) ⌝ }
+    requires { ⌜ FileWords (now frames) × (length (now state) ≡ stateLength) × (length (now out) ≡ mostListingBytes) ⌝ }
     ensures { λ r. ⌜ listedOn r (now (state .exit)) (now (out .exit)) ≡ listedBehind (choicesStepped (programOf (framesOf (now (frames .entry)))) (now (state .entry)) (now (bytes .entry))) (choicesListing (programOf (framesOf (now (frames .entry)))) (now (bytes .entry))) (now (out .entry)) ⌝ }
 {
     let c = judge(bytes);
     match c {
-        ChoicesRead::TooLong => list_refusal(2, 0, out),
-        ChoicesRead::Malformed(k) => list_refusal(3, k, out),
+        ChoicesRead::TooLong => list_refusal(LONG_TEXT, 0, out),
+        ChoicesRead::Malformed(k) => list_refusal(MALFORMED_TEXT, k, out),
         ChoicesRead::Choices(n) => list_run(frames, bytes, n, state, out),
     }
 }
 
 // A file that passes refusals 1 to 7 runs, whatever its rules say.
 fn list_frames(frames: &[u64], bytes: &[u8], state: &mut [u64], out: &mut [u8]) -> Listed
-    requires { ⌜ FileWords (now frames) × (length (now state) ≡ 4818) × (length (now out) ≡ 229389) ⌝ }
+    requires { ⌜ FileWords (now frames) × (length (now state) ≡ stateLength) × (length (now out) ≡ mostListingBytes) ⌝ }
     ensures { λ r. ⌜ listedOn r (now (state .exit)) (now (out .exit)) ≡ listedWhole (Done 0) (rulesOf (programOf (framesOf (now (frames .entry))))) (framesOf (now (frames .entry))) (now (bytes .entry)) (now (state .entry)) (now (out .entry)) ⌝ }
 {
     let line = check_line(rules_of(frames));
@@ -102,7 +119,7 @@ fn list_frames(frames: &[u64], bytes: &[u8], state: &mut [u64], out: &mut [u8]) 
 fn list_rejected(n: u8, j: u16, out: &mut [u8]) -> Listed
     ensures { λ r. ⌜ listedOn r [] (now (out .exit)) ≡ listedRejected n j [] (now (out .entry)) ⌝ }
 {
-    if out.len() != 229389 {
+    if out.len() != MOST_LISTING_BYTES {
         return Listed {
             answer: Answer::Rejected(n, j),
             length: 0,
@@ -113,7 +130,7 @@ fn list_rejected(n: u8, j: u16, out: &mut [u8]) -> Listed
     put(out, 0, &line);
     Listed {
         answer: Answer::Rejected(n, j),
-        length: 8,
+        length: ONE_LINE,
         used: 0,
     }
 }
@@ -128,16 +145,16 @@ pub fn run_listing(text: &[u8], choices: &[u8], state: &mut [u64], out: &mut [u8
     match v {
         Verdict::Rejected(n, j) => list_rejected(n, j, out),
         Verdict::Accepted => {
-            if state.len() != 4818 {
+            if state.len() != STATE_LENGTH {
                 return Listed {
-                    answer: Answer::Refused(14, 0),
+                    answer: Answer::Refused(WRONG_STATE, 0),
                     length: 0,
                     used: 0,
                 };
             }
-            if out.len() != 229389 {
+            if out.len() != MOST_LISTING_BYTES {
                 return Listed {
-                    answer: Answer::Refused(14, 0),
+                    answer: Answer::Refused(WRONG_STATE, 0),
                     length: 0,
                     used: 0,
                 };

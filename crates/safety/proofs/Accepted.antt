@@ -10,7 +10,7 @@ use Rattle.text.specs.Reading.{Reads}
 use Rattle.program.specs.Programs.{Program, programOf}
 use Rattle.layout.specs.Faults.{NoFault}
 use Rattle.rules.specs.Rules.{Keeps}
-use Rattle.rules.specs.Verdict.{HasVerdict}
+use Rattle.checker.specs.Verdict.{HasVerdict}
 use Rattle.machine.specs.Accesses.{Access, Own}
 use Rattle.machine.specs.State.{State}
 use Rattle.machine.specs.Fresh.{fresh}

@@ -20,7 +20,7 @@ use Rattle.language.specs.declared.effect.Effect.{Effect}
 use Rattle.language.proofs.Members.{member-join, member-owner, Within, within-members}
 use Rattle.program.specs.Trees.{Expr, Stmt}
 use Rattle.program.specs.Programs.{Part, Program, noModule, moduleAt, mainOf}
-use Rattle.rules.specs.Rules.{Signature, noSignature, signatureAt, signature, HasType, HaveTypes, AllPublic, Runs, Modules}
+use Rattle.rules.specs.Rules.{Setting, Signature, noSignature, signatureAt, signature, HasType, HaveTypes, AllPublic, Runs, Modules}
 use Rattle.machine.proofs.Lists.{all-getD, all-append}
 use Rattle.reach.proofs.Laid.{LaidE, LaidS}
 use Rattle.reach.proofs.Modules.{LastPlain}
@@ -73,8 +73,8 @@ pub record SharedIs (sh : List CellTyping) (cells : List ℕ) (s : ℕ) : Type 0
   pub same : tyOf (getD cells s 0) ≡ cell (typing .own) (typing .ty)
   pub formed : Formed (getD cells s 0)
 
--- P is laid out as reach/proofs/Laid says (Q, n); its shared cells are, to the rules, of the type words `cells`, and sh types them
-module _ (P : Program) (sh : List CellTyping) (cells : List ℕ) (Q : ℕ → Type 0) (n : ℕ) (shared : (s : ℕ) → s < length cells → SharedIs sh cells s) where
+-- P is laid out as reach/proofs/Laid says (Q, n); its shared cells are, to the rules, of the type words in `env`, and sh types them
+module _ (P : Program) (sh : List CellTyping) (env : Setting) (Q : ℕ → Type 0) (n : ℕ) (shared : (s : ℕ) → s < length (env .cells) → SharedIs sh (env .cells) s) where
   place-range : (o : ℕ) → hasPlace n o ≡ true → (1 ≤ o) × (o ≤ 9)
   place-range o h = test-bounds 1 o (has-place n o h .0)
 
@@ -102,7 +102,7 @@ module _ (P : Program) (sh : List CellTyping) (cells : List ℕ) (Q : ℕ → Ty
       let b = place-range o h in
       record { typed = rw (ty-cell o t (b .0) (b .1) r) (t-new k l q (x .typed)); formed = Formed.around-of (b .0) (b .1) r q (x .formed) }
 
-  ex-typed : {Γ : List ℕ} {x : Expr} {t : ℕ} {e : Effect} (p : ℕ) → p ≤ 9 → All Formed Γ → LaidE Q n x → Within p e → HasType cells Γ x t e → HasEx Γ p x t
+  ex-typed : {Γ : List ℕ} {x : Expr} {t : ℕ} {e : Effect} (p : ℕ) → p ≤ 9 → All Formed Γ → LaidE Q n x → Within p e → HasType (env .cells) Γ x t e → HasEx Γ p x t
   ex-typed p l g a w HasType.number = has-number t-number
   ex-typed p l g a w HasType.truth = has-truth t-truth
   ex-typed {Γ} p l g a w (HasType.variable {s = s} h) = record { typed = t-variable (at-map Γ s h); formed = all-getD Formed Γ 0 s g h }
@@ -130,7 +130,7 @@ module _ (P : Program) (sh : List CellTyping) (cells : List ℕ) (Q : ℕ → Ty
     typed : Args sh (map tyOf Γ) p xs (map tyOf ts)
     formed : All Formed ts
 
-  args-typed : {Γ : List ℕ} {xs : List Expr} {ts : List ℕ} {e : Effect} (p : ℕ) → p ≤ 9 → All Formed Γ → All (LaidE Q n) xs → Within p e → AllPublic ts → HaveTypes cells Γ xs ts e → HasArgs Γ p xs ts
+  args-typed : {Γ : List ℕ} {xs : List Expr} {ts : List ℕ} {e : Effect} (p : ℕ) → p ≤ 9 → All Formed Γ → All (LaidE Q n) xs → Within p e → AllPublic ts → HaveTypes (env .cells) Γ xs ts e → HasArgs Γ p xs ts
   args-typed p l g a w k HaveTypes.none = record { typed = Args.none; formed = All.none }
   args-typed p l g (All.more a rest) w (All.more k ks) (HaveTypes.more {e = e} {f = f} d ds) =
       let x = ex-typed p l g a (in-left p e f w) d in
@@ -157,7 +157,7 @@ module _ (P : Program) (sh : List CellTyping) (cells : List ℕ) (Q : ℕ → Ty
     body : TypedS P sh types p (moduleAt P s .body)
 
   started : {Γ : List ℕ} {xs : List Expr} (p s : ℕ) (e : Effect) (f : Signature) → Known f s → 2 ≤ p → p ≤ 9 → All Formed Γ → All (LaidE Q n) xs → Within p (e ∪ f .effect)
-      → HaveTypes cells Γ xs (f .types) e → AllPublic (f .types) → Startable Γ p s xs
+      → HaveTypes (env .cells) Γ xs (f .types) e → AllPublic (f .types) → Startable Γ p s xs
   started p s e f y l m g a w ds ps =
       let r = args-typed p m g a (in-left p e (f .effect) w) ps ds in
       record {
@@ -171,7 +171,7 @@ module _ (P : Program) (sh : List CellTyping) (cells : List ℕ) (Q : ℕ → Ty
   -- ---- statements
 
   st-typed : {below : List Signature} {Γ : List ℕ} {at : Standing} {x : Stmt} {e : Effect} {b : Bool} {d : ℕ} (p : ℕ)
-      → KnownBelow below → Stands at p → All Formed Γ → LaidS Q n d x → Within p e → Runs cells below Γ at x e b → TypedS P sh (map tyOf Γ) p x
+      → KnownBelow below → Stands at p → All Formed Γ → LaidS Q n d x → Within p e → Runs env below Γ at x e b → TypedS P sh (map tyOf Γ) p x
   st-typed p k s g a w Runs.nothing = s-nothing
   st-typed p k s g (LaidS.seq a b) w (Runs.seq {e = e} {f = f} c d) = s-seq (st-typed p k s g a (in-left p e f w) c) (st-typed p k s g b (in-right p e f w) d)
   st-typed p k (on l m) g (LaidS.do-at h a) w (Runs.do-unlinked {e = e} r v) = s-do {p = p} {q = 1} (λ z _. omega (arith, l, z)) (st-typed 1 k off g a (within-members 1 e v) r)
@@ -217,7 +217,7 @@ module _ (P : Program) (sh : List CellTyping) (cells : List ℕ) (Q : ℕ → Ty
       (omega arith, ap (λ (ps : List Part). getD ps s noModule) e ∙ getD-at before m ms noModule s l)
 
   known-module : {below : List Signature} {m : Part} {e : Effect} {b : Bool} (s : ℕ) → s < length (P .modules) → moduleAt P s ≡ m → KnownBelow below → LaidS Q n 24 (m .body)
-      → Runs cells below (m .types) linked (m .body) e b → Known (signature m e) s
+      → Runs env below (m .types) linked (m .body) e b → Known (signature m e) s
   known-module {m = m} s l q k a r = record {
     inside = l;
     types = ap (λ (x : Part). length (x .types)) (sym q);
@@ -226,7 +226,7 @@ module _ (P : Program) (sh : List CellTyping) (cells : List ℕ) (Q : ℕ → Ty
 
   -- `main`, the last, runs at home
   pub main-typed : {below : List Signature} (before ms : List Part) → P .modules ≡ before ++ ms → length before ≡ length below → KnownBelow below → All (λ (m : Part). LaidS Q n 24 (m .body)) ms → LastPlain ms
-      → Modules cells below ms → TypedS P sh [] 2 (mainOf P .body)
+      → Modules env below ms → TypedS P sh [] 2 (mainOf P .body)
   main-typed {below} before (m ∷ []) e l k (All.more a rest) (LastPlain.last t) (Modules.main {e = f} r w) =
       let h = module-here before m [] (length (P .modules) - 1) e (let x = ap length e in let y = length-append before (m ∷ []) in omega arith) in
       subst (λ (x : Part). TypedS P sh [] 2 (x .body)) (sym (h .1))

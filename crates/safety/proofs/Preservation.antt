@@ -17,7 +17,8 @@ use Rattle.machine.specs.State.{State, Item, run, back, drop, Thread, Entry, th
 use Rattle.machine.specs.Waits.{readyThreads, stillWaiting}
 use Rattle.machine.specs.Evaluation.{Here, Evaluated, Evaluation, eval, storing}
 use Rattle.machine.specs.Turns.{Stepped, Turn, here, continuation, variables, refuse, accept, behind, evaluator, goOn, withValue, withValues, byCondition, selfAt, settled, isSchedulerOf, leave, room, fits, unlinkedHere, stay, move, goTo}
-use Rattle.machine.specs.Steps.{isUnlinked, stepItems, stepThread, stepThreadWithin, turn, nobody, turnInstant, endInstant, stepScheduler, step, stepWithin}
+use Rattle.machine.specs.Steps.{isUnlinked, stepThreadWithin, nobody, turnInstant, endInstant, step, stepWithin}
+use Rattle.machine.specs.inner.Parts.{stepItems, stepThread, turn, stepScheduler}
 use Rattle.machine.specs.Statements.{ends, drops, goesBack, stepNothing, stepSeq, stepDo, started, newThread, starting, stepStart, startedWait, stepStartWait, stepCooperate, stepLet, stepStore, stepIf, stepWhile, stepStatement}
 use Rattle.machine.specs.declared.value.Value.{Value}
 use Rattle.machine.specs.declared.value.Outcome.{Outcome}

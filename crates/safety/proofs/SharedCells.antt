@@ -13,7 +13,7 @@ use Rattle.basics.proofs.Ifs.{if-all, if-yes, and-true}
 use Rattle.language.proofs.PlaceLaws.{test-bounds, has-scheduler}
 use Rattle.language.specs.Types.{numberType, isCell}
 use Rattle.program.specs.Programs.{SharedCell, typeOfShared}
-use Rattle.layout.specs.Fields.{firstContentFine}
+use Rattle.fields.specs.Fields.{firstContentFine}
 use Rattle.machine.specs.State.{cellAt}
 use Rattle.machine.specs.Fresh.{firstCell}
 use Rattle.machine.specs.Values.{truthOf, firstContent}

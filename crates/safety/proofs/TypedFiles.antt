@@ -4,10 +4,10 @@ use mathlib.Core.List.{List, [], map}
 use native.Mathlib.Omega.{arith}
 use lib.ListN.{length-map}
 use Rattle.language.specs.declared.frame.Frame.{Frame}
-use Rattle.program.specs.Programs.{typeOfShared, modulesFrom, sharedOf, programOf}
-use Rattle.layout.specs.Fields.{schedulersOf}
+use Rattle.program.specs.Programs.{modulesFrom, sharedOf, programOf}
+use Rattle.fields.specs.Fields.{schedulersOf}
 use Rattle.layout.specs.Faults.{NoFault}
-use Rattle.rules.specs.Rules.{Keeps}
+use Rattle.rules.specs.Rules.{settingOf, Keeps}
 use Rattle.machine.specs.Fresh.{fresh}
 use Rattle.machine.proofs.Lists.{all-imply}
 use Rattle.reach.proofs.Cells.{CellsFine, shared-fine}
@@ -33,7 +33,7 @@ module _ {fs : List Frame} (fine : NoFault fs) where
         owners = shared-owners xs wells;
         first = first-good xs cells;
         some = some-module fine;
-        main = main-typed (programOf fs) (map typingOf xs) (map typeOfShared xs) Any (schedulersOf fs) (shared-is xs wells) [] (modulesFrom fs 0 fs) refl refl
+        main = main-typed (programOf fs) (map typingOf xs) (settingOf (programOf fs)) Any (schedulersOf fs) (shared-is xs wells) [] (modulesFrom fs 0 fs) refl refl
             (λ s l. absurd (omega arith)) (all-imply (laid fine) (parts fs)) (main-plain fine) rules;
         bodies = bodies fine;
       }

@@ -10,7 +10,8 @@ use Rattle.language.specs.declared.frame.Frame.{Frame}
 use Rattle.language.specs.declared.verdict.Verdict.the-variants.{Accepted}
 use Rattle.text.specs.Frames.{textFrames}
 use Rattle.program.specs.Programs.{programOf}
-use Rattle.rules.specs.Verdict.{HasVerdict}
+use Rattle.machine.specs.Offsets.{stateLength}
+use Rattle.checker.specs.Verdict.{HasVerdict}
 use Rattle.machine.specs.Accesses.{Access, Own}
 use Rattle.machine.specs.State.{State}
 use Rattle.machine.specs.Steps.{step}
@@ -52,4 +53,4 @@ pub record SafeCalls (fs : List Frame) (w cs : List ℕ) : Type 0 where
 
 -- for every text that the check accepts, every lent buffer of the right length, and every list of choices
 abbrev pub AcceptedCallsSafe : Type 0
-AcceptedCallsSafe = (bs : List ℕ) → HasVerdict bs Accepted → (w cs : List ℕ) → length w ≡ 4818 → SafeCalls (textFrames bs) w cs
+AcceptedCallsSafe = (bs : List ℕ) → HasVerdict bs Accepted → (w cs : List ℕ) → length w ≡ stateLength → SafeCalls (textFrames bs) w cs

@@ -6,6 +6,7 @@ use Prim.Native.Nat.{ℕ, _≤_}
 use Rattle.basics.specs.Members.{All}
 use Rattle.language.specs.Places.{home, lastScheduler}
 use Rattle.language.specs.declared.frame.Frame.{Frame}
+use Rattle.language.specs.Refusals.{foreign, stuck}
 use Rattle.program.specs.Programs.{Program, programOf}
 use Rattle.machine.specs.Accesses.{Own}
 use Rattle.machine.specs.State.{State, Stored, cellAt, threadAt, threadOwner}
@@ -41,7 +42,7 @@ Apart s =
 
 -- ---- of an answer: 'Foreign is 19, stuck is 20.'
 abbrev pub Sound : ℕ → Type 0
-Sound n = (n ≢ 19) × (n ≢ 20)
+Sound n = (n ≢ foreign) × (n ≢ stuck)
 
 -- ---- the statement, of a program and a list of choices. Its runs start at the fresh state, and each choice is put to the state that the one before returned or left
 

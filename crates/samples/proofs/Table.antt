@@ -12,15 +12,17 @@ use Rattle.language.specs.Places.{standingAt}
 use Rattle.language.specs.declared.verdict.Verdict.{Verdict}
 use Rattle.text.specs.Digits.{digit}
 use Rattle.text.specs.Frames.{hexadecimal, lineWord, frameOfWord, wordsOf, textFrames}
-use Rattle.text.specs.Reading.{rightAt, firstWrong, reading}
+use Rattle.text.specs.Reading.{rightAt}
+use Rattle.text.specs.inner.Reading.{firstWrong, reading}
 use Rattle.program.specs.Trees.{expressionTo, expressionAt, statementTo, statementAt}
 use Rattle.program.specs.Programs.{sharedOf, modulesFrom, allowanceOf, programOf}
-use Rattle.layout.specs.Fields.{headerFine, firstContentFine, countOf, frameFine}
+use Rattle.fields.specs.Fields.{headerFine, firstContentFine, countOf, frameFine}
+use Rattle.fields.specs.inner.Scans.{headerFault, fieldFault}
 use Rattle.layout.specs.Order.{hasChild}
-use Rattle.layout.specs.inner.Scans.{headerFault, fieldFault, rowFirst, firstDisorder, isBehind, isLeftover, firstLeftover, noMain, orderFault, lowestChild, deepTo, firstDeep, depthFault, layoutOf}
+use Rattle.layout.specs.inner.Scans.{rowFirst, firstDisorder, isBehind, isLeftover, firstLeftover, noMain, orderFault, lowestChild, deepTo, firstDeep, depthFault, layoutOf}
 use Rattle.rules.specs.inner.Checking.{namedRule, newRule, contentRule, numbersRule, chooseRule, typeIn, argue, typesIn, startRule, cooperateRule, seqRule, doRule, joinRule, storeRule, ifElseRule, whileRule, runIn, modulesIn, rulesOf}
-use Rattle.rules.specs.Verdict.{HasVerdict, verdict}
-use Rattle.rules.proofs.Whole.{verdict-computes}
+use Rattle.checker.specs.Verdict.{HasVerdict, verdict}
+use Rattle.checker.proofs.Whole.{verdict-computes}
 use Rattle.machine.specs.Values.{firstContent}
 use Rattle.machine.specs.State.{enlist}
 use Rattle.machine.specs.Fresh.{fresh}

@@ -6,37 +6,42 @@ use mathlib.Core.Bool.{Bool, true, false}
 use native.Mathlib.Omega.{arith}
 use lib.ListN.{length, set, replicate, length-replicate, getD-replicate}
 use lib.Dec.{eqb}
-use borrow.Author.Tests.{le-leb, lt-leb, eq-eqb, ne-eqb}
+use borrow.Author.Tests.{eq-eqb, ne-eqb}
 use Rattle.basics.proofs.Ifs.{if-yes, if-no, if-all}
 use Rattle.program.specs.Programs.{cellOf}
 use Rattle.language.specs.Types.{isCell, numberType}
 use Rattle.language.specs.declared.frame.Frame.{Frame}
+use Rattle.machine.specs.Offsets.{truthFrom, cellFrom}
 use Rattle.machine.specs.Values.{firstContent}
 use Rattle.machine.specs.declared.value.Value.{Value}
 use Rattle.machine.specs.Fresh.{firstCell}
 use Rattle.machine.specs.Words.{valueWord, cellWord}
 use Rattle.machine.specs.inner.Blocks.{pasted}
-use Rattle.states.proofs.PastedLaws.{fill-more, fill-all}
+use Rattle.machine.proofs.PastedLaws.{fill-more, fill-all}
 
--- ---- the word of a first content, and of its cell
-module _ (t n : ℕ) where
-  pub content-cell : 0x0010 ≤ t → 0x0002_0000_0000 + n ≡ valueWord (firstContent t n)
+-- ---- the word of a first content, and of its cell; x is what the code's test for a cell's type gave
+module _ (t n : ℕ) (x : Bool) (d : x ≡ isCell t) where
+  pub content-cell : x ≡ true → cellFrom + n ≡ valueWord (firstContent t n)
   unfolding valueWord firstContent
-  content-cell h = ap valueWord (sym (if-yes _ _ (le-leb 0x0010 t h)))
+  content-cell h = ap valueWord (sym (if-yes _ _ (sym d ∙ h)))
 
-  pub content-number : t < 0x0010 → t ≡ 1 → n ≡ valueWord (firstContent t n)
+  pub content-number : x ≡ false → t ≡ numberType → n ≡ valueWord (firstContent t n)
   unfolding valueWord firstContent
-  content-number h e = ap valueWord (sym (if-no _ _ (lt-leb 0x0010 t h) ∙ if-yes _ _ (eq-eqb t 1 e)))
+  content-number h e = ap valueWord (sym (if-no _ _ (sym d ∙ h) ∙ if-yes _ _ (eq-eqb t numberType e)))
 
-  truth-word : t < 0x0010 → (t ≡ 1 → ⊥) → (b : Bool) → eqb n 1 ≡ b → valueWord (firstContent t n) ≡ valueWord (Value.Truth b)
+  truth-word : x ≡ false → (t ≡ numberType → ⊥) → (b : Bool) → eqb n 1 ≡ b
+      → valueWord (firstContent t n) ≡ valueWord (Value.Truth b)
   unfolding firstContent
-  truth-word h e b q = ap valueWord (if-no _ _ (lt-leb 0x0010 t h) ∙ if-no _ _ (ne-eqb t 1 e) ∙ ap Value.Truth q)
+  truth-word h e b q =
+      ap valueWord (if-no _ _ (sym d ∙ h) ∙ if-no _ _ (ne-eqb t numberType e) ∙ ap Value.Truth q)
 
-  pub content-true : t < 0x0010 → (t ≡ 1 → ⊥) → n ≡ 1 → 0x0001_0000_0001 ≡ valueWord (firstContent t n)
+  pub content-true : x ≡ false → (t ≡ numberType → ⊥) → n ≡ 1
+      → truthFrom + 1 ≡ valueWord (firstContent t n)
   unfolding valueWord
   content-true h e q = sym (truth-word h e true (eq-eqb n 1 q))
 
-  pub content-false : t < 0x0010 → (t ≡ 1 → ⊥) → (n ≡ 1 → ⊥) → 0x0001_0000_0000 ≡ valueWord (firstContent t n)
+  pub content-false : x ≡ false → (t ≡ numberType → ⊥) → (n ≡ 1 → ⊥)
+      → truthFrom ≡ valueWord (firstContent t n)
   unfolding valueWord
   content-false h e q = sym (truth-word h e false (ne-eqb n 1 q))
 

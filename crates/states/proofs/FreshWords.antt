@@ -24,10 +24,10 @@ use Rattle.machine.proofs.CallRuns.{fresh-called}
 use Rattle.states.specs.inner.Threads.{wordsOf, withOneMore}
 use Rattle.states.specs.inner.Starts.{mainWords, withShared, called}
 use Rattle.states.specs.declared.thread.ThreadWords.{ThreadWords}
-use Rattle.states.proofs.PastedLaws.{same-pasted}
+use Rattle.machine.proofs.PastedLaws.{same-pasted}
 use Rattle.states.proofs.ThreadSays.{add-says}
 use Rattle.states.proofs.SharedLaws.{sharedIn, cellsIn}
-use Rattle.states.proofs.SchedulerSays.{by-lists, scheduler-put}
+use Rattle.lists.proofs.SchedulerSays.{by-lists, scheduler-put}
 
 -- ---- zeros are a state with nothing in it
 -- a member of a list of one thing, or the default behind it, which is that thing

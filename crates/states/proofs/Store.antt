@@ -11,7 +11,7 @@ use Rattle.machine.specs.inner.Blocks.{pasted}
 use Rattle.states.specs.inner.Threads.{blockOf, withOneMore}
 use Rattle.states.specs.declared.thread.ThreadWords.{ThreadWords}
 use Rattle.machine.proofs.WordLaws.{pasted-more, pasted-length}
-use Rattle.states.proofs.PastedLaws.{first-word, next-run}
+use Rattle.machine.proofs.PastedLaws.{first-word, next-run}
 
 -- ---- the words of a struct
 pub block-place : (x : ThreadWords) → getD (blockOf x) 0 0 ≡ x .place

@@ -10,7 +10,7 @@ use Rattle.machine.specs.inner.Blocks.{part, pasted}
 use Rattle.machine.proofs.WordLaws.{part-at, part-length, pasted-length, pasted-in}
 use Rattle.states.specs.inner.Threads.{threadIn, putThread, blockOf}
 use Rattle.states.specs.declared.thread.ThreadWords.{ThreadWords}
-use Rattle.states.proofs.PastedLaws.{pasted-self, pasted-set, pasted-pasted}
+use Rattle.machine.proofs.PastedLaws.{pasted-self, pasted-set, pasted-pasted}
 use Rattle.states.proofs.Store.{stored, block-place, block-starter, block-alive, block-items, block-length, block-continuation, block-values, block-variables}
 use Rattle.states.proofs.ThreadSays.{fields-path}
 

@@ -14,7 +14,7 @@ use Rattle.machine.proofs.WordLaws.{part-at, part-length, Says}
 use Rattle.machine.proofs.Blocks.{put-thread, put-new, thread-length, thread-at}
 use Rattle.machine.proofs.Round.{thread-0, thread-1, thread-2, thread-continuation, thread-variables}
 use Rattle.machine.proofs.Padded.{padded-length, padded-at}
-use Rattle.states.proofs.BlockParts.{thread-parts}
+use Rattle.machine.proofs.BlockParts.{thread-parts}
 use Rattle.states.proofs.Store.{block-place, block-starter, block-alive, block-items, block-length, block-continuation, block-values, block-variables, one-more}
 
 pub items-length : (is : List Item) → length (reverse (map itemWord is)) ≡ length is

@@ -3,38 +3,55 @@ use crate::thread::ThreadWords;
 use crate::thread::add_thread;
 use language::Place;
 use language::frame::Frame;
-use language::kind::is_shared;
+use language::limit::MOST_CELLS;
+use language::limit::MOST_ITEMS;
+use language::limit::MOST_VARIABLES;
+use language::type_word::NUMBER;
+use language::type_word::is_cell;
+use machine::offset::CELL_COUNT_AT;
+use machine::offset::CELL_FROM;
+use machine::offset::CELLS_AT;
+use machine::offset::OWNER_FACTOR;
+use machine::offset::SCHEDULERS_AT;
+use machine::offset::TRUTH_FROM;
 use program::module::main_body;
+use program::shared::next_shared;
 use text::line::frame_of_word;
 ghost use mathlib.Core.Path.{_≡_};
 ghost use lib.ListN.{length, set, replicate};
 ghost use Rattle.text.specs.Frames.{framesOf};
 ghost use Rattle.program.specs.Programs.{sharedOf, programOf, cellOf};
+ghost use Rattle.machine.specs.Offsets.{stateLength, cellCountAt};
 ghost use Rattle.machine.specs.Values.{firstContent};
 ghost use Rattle.machine.specs.Fresh.{firstCell, fresh};
 ghost use Rattle.machine.specs.Words.{valueWord, cellWord, pack};
 ghost use Rattle.states.specs.inner.Starts.{mainWords, withShared};
 
+// The word of true, and where the first active thread of the first scheduler is.
+const TRUE_WORD: u64 = TRUTH_FROM + 1;
+
+const FIRST_ACTIVE: usize = SCHEDULERS_AT + 1;
+
 // The word of a first content: a cell, a number, or a truth, by its type.
 fn content_word(content: u16, first: u16) -> u64
     ensures { λ r. ⌜ r ≡ valueWord (firstContent content first) ⌝ }
 {
-    if 0x0010 <= content {
-        return 0x0002_0000_0000 + first as u64;
+    if is_cell(content) {
+        return CELL_FROM + first as u64;
     }
-    if content == 1 {
+    if content == NUMBER {
         return first as u64;
     }
     if first == 1 {
-        return 0x0001_0000_0001;
+        return TRUE_WORD;
     }
-    0x0001_0000_0000
+    TRUTH_FROM
 }
 
 fn cell_word(f: Frame) -> u64
     ensures { λ r. ⌜ r ≡ cellWord (firstCell (cellOf f)) ⌝ }
 {
-    f.s as u64 * 0x0004_0000_0000 + content_word(f.a, f.b)
+    f.s as u64 * OWNER_FACTOR + content_word(f.a, f.b)
 }
 
 fn clear(state: &mut [u64])
@@ -47,47 +64,44 @@ fn clear(state: &mut [u64])
     }
 }
 
-// The first contents of the shared cells, and how many there are; 256 are the space of cells.
+// The first contents of the shared cells, as far as there is space, and how many there are.
 fn write_shared(frames: &[u64], state: &mut [u64]) -> u64
-    requires { ⌜ length (now state) ≡ 4818 ⌝ }
+    requires { ⌜ length (now state) ≡ stateLength ⌝ }
     ensures count { λ r. ⌜ r ≡ length (sharedOf (framesOf (now (frames .entry)))) ⌝ }
-    ensures words { λ r. ⌜ now (state .exit) ≡ withShared (now (state .entry)) (sharedOf (framesOf (now (frames .entry)))) ⌝ }
+    ensures words { λ r. ⌜ now (state .exit)
+        ≡ withShared (now (state .entry)) (sharedOf (framesOf (now (frames .entry)))) ⌝ }
 {
-    let mut i: usize = 0;
+    let mut i = next_shared(frames, 0);
     let mut c: usize = 0;
     while i < frames.len() {
-        let f = frame_of_word(frames[i]);
-        let k = f.kind;
-        if !is_shared(k) {
-            i += 1;
-            continue;
-        }
-        if 256 <= c {
-            i += 1;
+        if MOST_CELLS <= c {
             c += 1;
+            i = next_shared(frames, i + 1);
             continue;
         }
-        state[4562 + c] = cell_word(f);
-        i += 1;
+        state[CELLS_AT + c] = cell_word(frame_of_word(frames[i]));
         c += 1;
+        i = next_shared(frames, i + 1);
     }
     c as u64
 }
 
 fn write_cells(frames: &[u64], state: &mut [u64])
-    requires { ⌜ length (now state) ≡ 4818 ⌝ }
-    ensures { λ _. ⌜ now (state .exit) ≡ set (withShared (now (state .entry)) (sharedOf (framesOf (now (frames .entry))))) 1 (length (sharedOf (framesOf (now (frames .entry))))) ⌝ }
+    requires { ⌜ length (now state) ≡ stateLength ⌝ }
+    ensures { λ _. ⌜ now (state .exit)
+        ≡ set (withShared (now (state .entry)) (sharedOf (framesOf (now (frames .entry)))))
+        cellCountAt (length (sharedOf (framesOf (now (frames .entry))))) ⌝ }
 {
     let cells = write_shared(frames, state);
-    state[1] = cells;
+    state[CELL_COUNT_AT] = cells;
 }
 
 fn main_thread(body: u64) -> ThreadWords
     ensures { λ r. ⌜ r ≡ mainWords body ⌝ }
 {
-    let mut items = [0u64; 25];
+    let mut items = [0u64; MOST_ITEMS];
     items[0] = body;
-    let none = [0u64; 25];
+    let none = [0u64; MOST_VARIABLES];
     ThreadWords {
         place: Place::HOME.word(),
         starter: 0,
@@ -101,12 +115,14 @@ fn main_thread(body: u64) -> ThreadWords
 
 // The fresh state. The caller has tested the buffer's length.
 pub fn write_fresh(frames: &[u64], state: &mut [u64])
-    requires { ⌜ length (now state) ≡ 4818 ⌝ }
-    ensures { λ _. ⌜ now (state .exit) ≡ pack (fresh (programOf (framesOf (now (frames .entry))))) ⌝ }
+    requires { ⌜ length (now state) ≡ stateLength ⌝ }
+    ensures { λ _. ⌜ now (state .exit)
+        ≡ pack (fresh (programOf (framesOf (now (frames .entry))))) ⌝ }
 {
     clear(state);
     write_cells(frames, state);
     add_thread(state, main_thread(main_body(frames)));
-    state[2] = 1;
-    state[3] = 1;
+    // `main` is active at home, the first scheduler.
+    state[SCHEDULERS_AT] = 1;
+    state[FIRST_ACTIVE] = 1;
 }

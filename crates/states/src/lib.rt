@@ -1,8 +1,5 @@
-// The state that a caller lends, in its words: whether they are in range, and the parts of it that a step reads and writes.
+// Threads in the lent words: the fresh state, and what a step reads and writes of a thread.
 pub mod fresh;
-pub mod list;
 pub mod party;
-pub mod range;
 pub mod stack;
 pub mod thread;
-mod wait;

@@ -9,13 +9,14 @@ use lib.ListN.{length, getD, take, length-map, length-drop}
 use lib.Seq.{ext-getD, length-take-le, getD-take, getD-drop, take-all, drop-drop}
 use Rattle.basics.specs.Members.{All, more}
 use Rattle.language.specs.Places.{isPlace}
-use Rattle.language.proofs.PlaceLaws.{test-bounds, has-place}
 use Rattle.language.specs.declared.Place.{Place}
 use Rattle.language.specs.declared.kind.Kind.{Kind}
-use Rattle.language.specs.declared.kind.Kind.the-variants.{Header, Shared, Module, Statement, Expression, Unknown}
+use Rattle.language.specs.declared.kind.Kind.the-variants.{Header, Declared, Module, Statement, Expression, Unknown}
+use Rattle.language.proofs.PlaceLaws.{test-bounds, has-place}
 use Rattle.text.specs.Frames.{framesOf}
 use Rattle.program.specs.Trees.{rootS, frameAt}
 use Rattle.program.specs.Programs.{programOf}
+use Rattle.layout.proofs.Scopes.{placed}
 use Rattle.machine.specs.State.{State, Thread, Item, run, back, drop, threadAt, usedCells}
 use Rattle.machine.specs.Words.{itemWord, valueWord}
 use Rattle.machine.specs.Shapes.{isStatement, ThreadFits, ValueFits, ItemFits, run-fits, back-fits}
@@ -25,20 +26,19 @@ use Rattle.machine.proofs.WordLaws.{part-length}
 use Rattle.machine.proofs.Blocks.{cells-length, cells-at}
 use Rattle.machine.proofs.InShape.{value-in}
 use Rattle.machine.proofs.Padded.{padded-at}
-use Rattle.evaluator.specs.declared.Who.{Who}
+use Rattle.operations.specs.declared.Who.{Who}
 use Rattle.evaluator.specs.inner.Results.{CellWords, ValueWords}
 use Rattle.evaluator.proofs.Holding.{holds-words}
 use Rattle.states.specs.declared.thread.ThreadWords.{ThreadWords}
 use Rattle.states.specs.inner.Threads.{wordsOf, threadIn}
 use Rattle.states.proofs.StackLaws.{withContinuation, top-item-is}
-use Rattle.layout.proofs.Scopes.{placed}
-use Rattle.reach.proofs.Passed.{order, inside, some-frame}
 use Rattle.acts.specs.declared.act.Acted.{Acted}
 use Rattle.acts.specs.inner.Fates.{popped, turned, Room}
 use Rattle.turns.specs.declared.view.View.{View}
 use Rattle.turns.specs.inner.Actions.{actOn, turnAct}
-use Rattle.turns.proofs.TurnLaws.{act-turns}
 use Rattle.turns.specs.inner.Acts.{ActedOn, actedOn, turnIn, topIn, variablesIn, Views, WholeTurn, TurnWords}
+use Rattle.turns.proofs.TurnLaws.{act-turns}
+use Rattle.reach.proofs.Passed.{order, inside, some-frame}
 use Rattle.stepper.specs.inner.Files.{StepWords, stateIn, whoIn, turnOf, turnOn}
 use Rattle.stepper.proofs.Variables.{variables-words}
 use Rattle.stepper.proofs.GoodWords.{shaped, says, step-long, threads-few, thread-read, fit, place-in}
@@ -113,7 +113,7 @@ module _ (frames : List ℕ) (shared : ℕ) (w : List ℕ) (h : StepWords frames
       by (Statement k) q e = inside (h .file .laid-out) i (Statement k) q refl
       by (Expression k) q e = absurd (false≢true e)
       by Header q e = absurd (false≢true e)
-      by Shared q e = absurd (false≢true e)
+      by (Declared d) q e = absurd (false≢true e)
       by Module q e = absurd (false≢true e)
       by Unknown q e = absurd (false≢true e)
 

@@ -13,10 +13,10 @@ use Rattle.language.specs.declared.verdict.Verdict.{Verdict}
 use Rattle.language.specs.declared.verdict.Verdict.the-variants.{Accepted, Rejected}
 use Rattle.text.specs.Frames.{framesOf}
 use Rattle.program.specs.Programs.{programOf}
-use Rattle.layout.specs.LaidOut.{laidOut}
+use Rattle.layout.specs.inner.Layouts.{laidOut}
 use Rattle.layout.specs.declared.LaidOut.{LaidOut}
 use Rattle.layout.proofs.AfterLayout.{text-refused, text-passed}
-use Rattle.rules.proofs.CheckLaws.{check-file}
+use Rattle.checker.proofs.CheckLaws.{check-file}
 use Rattle.machine.specs.Fresh.{fresh}
 use Rattle.machine.specs.Words.{pack}
 use Rattle.machine.specs.inner.Ranges.{inRange}

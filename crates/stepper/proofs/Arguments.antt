@@ -6,7 +6,7 @@ use lib.ListN.{length}
 use Rattle.language.specs.declared.kind.StatementKind.{StatementKind}
 use Rattle.language.specs.declared.kind.StatementKind.the-variants as K
 use Rattle.language.specs.declared.kind.Kind.{Kind}
-use Rattle.language.specs.declared.kind.Kind.the-variants.{Header, Shared, Module, Statement, Expression, Unknown}
+use Rattle.language.specs.declared.kind.Kind.the-variants.{Header, Declared, Module, Statement, Expression, Unknown}
 use Rattle.language.specs.declared.frame.Frame.{Frame}
 use Rattle.program.specs.Trees.{Expr, Stmt, nothing, seq, doAt, start, startWait, cooperate, letIn, store, ifElse, while, frameAt, arguments, statementWith, statementOf, statementTo, statementAt, expressionAt}
 
@@ -47,6 +47,6 @@ few-arguments-at fs i = of (frameAt fs i .kind)
     of (Statement k) = by k
     of (Expression k) = tt
     of Header = tt
-    of Shared = tt
+    of (Declared d) = tt
     of Module = tt
     of Unknown = tt

@@ -18,7 +18,7 @@ use Rattle.machine.proofs.Blocks.{put-cells, cells-length, cells-at}
 use Rattle.machine.proofs.Valid.{no-cell-word}
 use Rattle.states.specs.inner.Threads.{putThread, wordsOf}
 use Rattle.states.proofs.ThreadSays.{store-says}
-use Rattle.states.proofs.SchedulerSays.{room-says, leave-says, last-says}
+use Rattle.lists.proofs.SchedulerSays.{room-says, leave-says, last-says}
 use Rattle.commits.specs.inner.Commits.{clearedIn, settledIn, leftIn, roomIn, joinedIn}
 use Rattle.commits.proofs.WritingLaws.{list-block}
 use Rattle.stepper.proofs.Grows.{Grown}

@@ -25,8 +25,9 @@ use Rattle.machine.proofs.Round.{value-back, map-back}
 use Rattle.machine.specs.Shapes.{ValueFits, ThreadFits}
 use Rattle.machine.proofs.KeptCells.{CellsFit, HereFits, ExprFits, OutcomeFits, EvalFits, fit-eval, fit-storing}
 use Rattle.machine.proofs.KeptShape.{Parts, of-nothing, of-cooperate, of-seq, of-do, of-start, of-wait, of-let, of-store, of-if, of-while}
-use Rattle.evaluator.specs.declared.Who.{Who}
-use Rattle.evaluator.specs.inner.Results.{Result, hereOf, resultOf, onWords}
+use Rattle.operations.specs.declared.Who.{Who}
+use Rattle.operations.specs.inner.Results.{Result}
+use Rattle.evaluator.specs.inner.Results.{hereOf, resultOf, onWords}
 use Rattle.evaluator.proofs.Holding.{Holds, holds-cells}
 use Rattle.states.specs.inner.Threads.{wordsOf}
 use Rattle.acts.specs.inner.Fates.{Turned}

@@ -16,17 +16,18 @@ use Rattle.program.specs.Programs.{Program, programOf}
 use Rattle.machine.specs.State.{State, schedulerAt, withScheduler}
 use Rattle.machine.specs.Waits.{readyThreads, stillWaiting}
 use Rattle.machine.specs.Turns.{isSchedulerOf}
-use Rattle.machine.specs.Steps.{stepThread, turnInstant, endInstant, stepScheduler, isUnlinked, step, stepWithin}
+use Rattle.machine.specs.inner.Parts.{stepThread, stepScheduler}
+use Rattle.machine.specs.Steps.{turnInstant, endInstant, isUnlinked, step, stepWithin}
 use Rattle.machine.specs.Words.{pack, wordsAt}
 use Rattle.machine.specs.Calls.{Called, calledOf, stepCall}
-use Rattle.machine.proofs.WordLaws.{is-pack}
 use Rattle.machine.specs.Shapes.{IsThread, SchedulerFits}
+use Rattle.machine.proofs.WordLaws.{is-pack}
 use Rattle.machine.proofs.Calls.{called-in}
 use Rattle.machine.proofs.KeptShape.{scheduler-fits, unlinked-is}
-use Rattle.states.specs.inner.Lists.{readyWords, withInstantEnded}
+use Rattle.lists.specs.inner.Lists.{readyWords, withInstantEnded}
+use Rattle.lists.proofs.SchedulerSays.{first-says, room-says}
+use Rattle.lists.proofs.Instants.{instant-readies, instant-says, instant-none}
 use Rattle.states.specs.inner.Parties.{isUnlinkedWord}
-use Rattle.states.proofs.SchedulerSays.{first-says, room-says}
-use Rattle.states.proofs.Instants.{instant-readies, instant-says, instant-none}
 use Rattle.states.proofs.PartyLaws.{unlinked-says}
 use Rattle.commits.specs.inner.Commits.{called}
 use Rattle.stepper.specs.declared.file.File.{File}

@@ -13,18 +13,19 @@ use Rattle.program.specs.Trees.{Stmt, rootS, statementAt}
 use Rattle.program.specs.Programs.{Program}
 use Rattle.machine.specs.State.{State, Thread, Item, run, back, drop, threadAt, usedCells}
 use Rattle.machine.specs.Statements.{ends, goesBack}
-use Rattle.machine.specs.Steps.{stepItems, stepThread, stepThreadWithin}
+use Rattle.machine.specs.inner.Parts.{stepItems, stepThread}
+use Rattle.machine.specs.Steps.{stepThreadWithin}
 use Rattle.machine.specs.Words.{itemWord}
 use Rattle.machine.specs.inner.Blocks.{cellWords}
 use Rattle.machine.specs.Calls.{calledOf}
 use Rattle.machine.specs.Shapes.{ItemFits, run-fits, back-fits, drop-fits, ThreadFits}
 use Rattle.machine.proofs.KeptCells.{CellsFit}
 use Rattle.machine.proofs.KeptShape.{parts-of}
-use Rattle.evaluator.specs.declared.Who.{Who}
+use Rattle.operations.specs.declared.Who.{Who}
 use Rattle.states.specs.declared.thread.ThreadWords.{ThreadWords}
 use Rattle.states.specs.inner.Threads.{wordsOf}
-use Rattle.states.proofs.StackLaws.{withContinuation, pop-item-is, top-item-is}
 use Rattle.states.specs.inner.Stacks.{ended}
+use Rattle.states.proofs.StackLaws.{withContinuation, pop-item-is, top-item-is}
 use Rattle.turns.specs.inner.Acts.{ActedOn, statementIn, goesIn, dropsIn, actedOn, itemIn, turnIn}
 use Rattle.stepper.proofs.Grows.{grown-same}
 use Rattle.stepper.proofs.Fates.{Acts, commitOn, leaves-is}

@@ -12,7 +12,8 @@ use Rattle.program.specs.Programs.{Program, programOf}
 use Rattle.machine.specs.State.{State, Thread, Item, noThread, nth, setNth, threadAt, usedCells}
 use Rattle.machine.specs.Turns.{Turn, isSchedulerOf, leave, settled}
 use Rattle.machine.specs.Statements.{ends}
-use Rattle.machine.specs.Steps.{turn, stepItems, stepThread, stepThreadWithin}
+use Rattle.machine.specs.inner.Parts.{turn, stepItems, stepThread}
+use Rattle.machine.specs.Steps.{stepThreadWithin}
 use Rattle.machine.specs.Words.{pack}
 use Rattle.machine.specs.inner.Blocks.{pasted, cellWords}
 use Rattle.machine.specs.Calls.{calledOf}

@@ -22,8 +22,9 @@ use Rattle.machine.specs.declared.value.Outcome.the-variants.{Is, Foreign, Spen
 use Rattle.machine.specs.Shapes.{ThreadFits}
 use Rattle.machine.proofs.KeptCells.{CellsFit, ExprFits, EvalFits, fit-storing}
 use Rattle.machine.proofs.KeptShape.{Parts, of-nothing, of-cooperate, of-seq, of-do, of-start, of-wait, of-let, of-store, of-if, of-while}
-use Rattle.evaluator.specs.declared.Who.{Who}
-use Rattle.evaluator.specs.inner.Results.{Result, resultOf}
+use Rattle.operations.specs.declared.Who.{Who}
+use Rattle.operations.specs.inner.Results.{Result}
+use Rattle.evaluator.specs.inner.Results.{resultOf}
 use Rattle.states.specs.declared.thread.ThreadWords.{ThreadWords}
 use Rattle.states.specs.inner.Threads.{wordsOf}
 use Rattle.acts.specs.inner.Fates.{Turned}

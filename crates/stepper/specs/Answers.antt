@@ -4,7 +4,7 @@ use Prim.Native.Nat.{ℕ}
 use lib.Dec.{eqb}
 use Rattle.basics.specs.If.{if_then_else_}
 use Rattle.language.specs.declared.frame.Frame.{Frame}
-use Rattle.text.specs.Reading.{reading}
+use Rattle.text.specs.inner.Reading.{reading}
 use Rattle.layout.specs.LaidOut.{afterReading}
 use Rattle.machine.specs.Calls.{Called, freshCall, stepCall}
 use Rattle.stepper.specs.declared.answer.Answer.{Answer}

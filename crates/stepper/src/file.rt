@@ -1,4 +1,5 @@
 // What a step needs to know of a file beside its frames.
+use language::limit::DEFAULT_ALLOWANCE;
 use program::shared::count_shared;
 use text::line::frame_of_word;
 ghost use mathlib.Core.Path.{_≡_};
@@ -17,7 +18,7 @@ fn allowance_in(a: u16) -> u16
     ensures { λ r. ⌜ r ≡ allowanceOf a ⌝ }
 {
     if a == 0 {
-        return 4096;
+        return DEFAULT_ALLOWANCE;
     }
     a
 }

@@ -1,15 +1,16 @@
 // The party that a choice names.
 use crate::turn::turn;
 use language::Place;
-use states::list::end_instant;
-use states::list::first_active;
+use language::refusal::NOTHING_READY;
+use lists::list::end_instant;
+use lists::list::first_active;
 ghost use mathlib.Core.Path.{_≡_};
 ghost use mathlib.Core.Bool.{true};
 ghost use Rattle.text.specs.Frames.{framesOf};
 ghost use Rattle.program.specs.Programs.{programOf};
 ghost use Rattle.machine.specs.State.{schedulerAt};
 ghost use Rattle.machine.specs.Turns.{isSchedulerOf};
-ghost use Rattle.machine.specs.Steps.{stepScheduler};
+ghost use Rattle.machine.specs.inner.Parts.{stepScheduler};
 ghost use Rattle.machine.specs.Calls.{calledOf};
 ghost use Rattle.stepper.specs.inner.Files.{StepWords, stateIn, steppedOn};
 
@@ -40,7 +41,7 @@ pub(crate) fn step_scheduler(
     }
     if end_instant(state, q) == 0 {
         return Stepped {
-            answer: 16,
+            answer: NOTHING_READY,
             thread: 0,
         };
     }

@@ -3,21 +3,24 @@ use crate::answer::Answer;
 use crate::answer::answer_of;
 use crate::file::file_of;
 use crate::valid::step_valid;
+use language::refusal::WRONG_STATE;
 use language::verdict::Verdict;
 use layout::lay_out;
+use machine::offset::STATE_LENGTH;
+use ranges::range::in_range;
 use states::fresh::write_fresh;
-use states::range::in_range;
 ghost use mathlib.Core.Path.{_≡_};
 ghost use Rattle.text.specs.Frames.{framesOf};
+ghost use Rattle.machine.specs.Offsets.{stateLength};
 ghost use Rattle.machine.specs.Calls.{stepCall};
 ghost use Rattle.stepper.specs.inner.Files.{FileWords};
 ghost use Rattle.stepper.specs.Answers.{answered, calledAs, freshText, stepText};
 
 // How many words a state is.
 pub fn state_length() -> usize
-    ensures { λ r. ⌜ r ≡ 4818 ⌝ }
+    ensures { λ r. ⌜ r ≡ stateLength ⌝ }
 {
-    4818
+    STATE_LENGTH
 }
 
 // The fresh state of a text that passes refusals 1 to 7; a buffer of another length is 14.
@@ -29,8 +32,8 @@ pub fn fresh(text: &[u8], state: &mut [u64]) -> Answer
     match v {
         Verdict::Rejected(n, j) => Answer::Rejected(n, j),
         Verdict::Accepted => {
-            if state.len() != 4818 {
-                return Answer::Refused(14, 0);
+            if state.len() != STATE_LENGTH {
+                return Answer::Refused(WRONG_STATE, 0);
             }
             let words = l.words;
             let n = l.count;
@@ -47,7 +50,7 @@ fn step_frames(frames: &[u64], state: &mut [u64], choice: u64) -> Answer
 {
     let file = file_of(frames);
     if !in_range(frames, file.schedulers, state) {
-        return Answer::Refused(14, 0);
+        return Answer::Refused(WRONG_STATE, 0);
     }
     let s = step_valid(frames, file, state, choice);
     answer_of(s.answer, s.thread)

@@ -2,8 +2,14 @@
 use acts::act::Acted;
 use commits::commit::commit;
 use commits::leave::leave;
-use evaluator::Who;
 use language::Place;
+use machine::offset::CELL_COUNT_AT;
+use machine::offset::CELLS_AT;
+use machine::offset::ITEMS_FIELD;
+use machine::offset::THREAD_LENGTH;
+use machine::offset::THREADS_AT;
+use machine::offset::VARIABLES_FIELD;
+use operations::Who;
 use states::stack::top_item;
 use states::thread::load_variables;
 use states::thread::thread_count;
@@ -12,26 +18,28 @@ use turns::view::View;
 ghost use mathlib.Core.Path.{_≡_};
 ghost use Prim.Native.Nat.{_≤_};
 ghost use lib.ListN.{getD};
+ghost use Rattle.language.specs.Limits.{mostThreads};
 ghost use Rattle.text.specs.Frames.{framesOf};
 ghost use Rattle.program.specs.Programs.{programOf};
-ghost use Rattle.machine.specs.Steps.{stepThread};
+ghost use Rattle.machine.specs.Offsets.{threadCountAt};
+ghost use Rattle.machine.specs.inner.Parts.{stepThread};
 ghost use Rattle.machine.specs.Calls.{calledOf};
 ghost use Rattle.commits.specs.inner.Commits.{called};
 ghost use Rattle.stepper.specs.inner.Files.{StepWords, stateIn, turnOn, TurnChoice};
 
 // What the turn of a thread that is there comes to. Of the words, only those of the cells are written.
 fn act_in(frames: &[u64], shared: usize, state: &mut [u64], t: u64) -> Acted
-    requires { ⌜ StepWords (now frames) shared (now state) × (1 ≤ t) × (t ≤ getD (now state) 0 0) ⌝ }
+    requires { ⌜ StepWords (now frames) shared (now state) × (1 ≤ t) × (t ≤ getD (now state) threadCountAt 0) ⌝ }
     ensures { λ r. ⌜ turnOn r (now (state .exit)) (now (frames .entry)) shared (now (state .entry)) t ⌝ }
 {
-    let used = state[1] as usize;
+    let used = state[CELL_COUNT_AT] as usize;
     let k = (t - 1) as usize;
-    let at = 1042 + 55 * k;
+    let at = THREADS_AT + THREAD_LENGTH * k;
     let place = Place::known(state[at]);
     let v = View {
         place,
-        items: state[at + 3],
-        values: state[at + 29],
+        items: state[at + ITEMS_FIELD],
+        values: state[at + VARIABLES_FIELD],
     };
     let who = Who {
         thread: t as u8,
@@ -47,21 +55,21 @@ fn act_in(frames: &[u64], shared: usize, state: &mut [u64], t: u64) -> Acted
         v,
         item,
         &variables[..n],
-        &mut state[4562..],
+        &mut state[CELLS_AT..],
         used,
     )
 }
 
 // Thread t takes its turn at that choice. One that a list names and that is not there ends: it leaves the list.
 pub(crate) fn turn(frames: &[u64], shared: usize, state: &mut [u64], choice: u64, t: u64) -> u8
-    requires { ⌜ StepWords (now frames) shared (now state) × (1 ≤ t) × (t ≤ 64) × TurnChoice (now frames) choice ⌝ }
+    requires { ⌜ StepWords (now frames) shared (now state) × (1 ≤ t) × (t ≤ mostThreads) × TurnChoice (now frames) choice ⌝ }
     ensures { λ r. ⌜ called r t (now (state .exit)) ≡ calledOf (now (state .entry)) (stepThread (programOf (framesOf (now (frames .entry)))) (stateIn (now (frames .entry)) (now (state .entry))) choice t) ⌝ }
 {
     if thread_count(state) < t {
         leave(state, choice);
         return 0;
     }
-    let used = state[1] as usize;
+    let used = state[CELL_COUNT_AT] as usize;
     let a = act_in(frames, shared, state, t);
     commit(frames, state, used, choice, t, a)
 }

@@ -4,7 +4,8 @@ use crate::party::Stepped;
 use crate::party::step_scheduler;
 use crate::turn::turn;
 use language::Place;
-use states::party::THREADS_FROM;
+use language::refusal::NO_PARTY;
+use machine::offset::THREAD_OWNER_FROM;
 use states::party::is_unlinked;
 ghost use mathlib.Core.Path.{_≡_};
 ghost use Rattle.text.specs.Frames.{framesOf};
@@ -21,7 +22,7 @@ pub fn step_valid(frames: &[u64], file: File, state: &mut [u64], choice: u64) ->
         return step_scheduler(frames, file.shared, state, choice);
     }
     if is_unlinked(state, choice) {
-        let t = choice - THREADS_FROM;
+        let t = choice - THREAD_OWNER_FROM;
         let answer = turn(frames, file.shared, state, choice, t);
         return Stepped {
             answer,
@@ -29,7 +30,7 @@ pub fn step_valid(frames: &[u64], file: File, state: &mut [u64], choice: u64) ->
         };
     }
     Stepped {
-        answer: 15,
+        answer: NO_PARTY,
         thread: 0,
     }
 }

@@ -9,7 +9,7 @@ use borrow.Author.Tests.{lt-ltb, le-ltb}
 use Rattle.basics.proofs.Ifs.{if-yes, yes, no}
 use Rattle.language.specs.declared.frame.Frame.{Frame}
 use Rattle.text.specs.Frames.{lineWord, frameOfWord, wordsOf, textFrames}
-use Rattle.text.specs.Reading.{firstWrong}
+use Rattle.text.specs.inner.Reading.{firstWrong}
 use Rattle.text.specs.inner.Lines.{lineFrom, lineRead, frameOfLine, frameRead}
 use Rattle.text.specs.declared.line.Line.{Line}
 use Rattle.text.specs.declared.line.Line.the-variants.{Word, WrongAt}

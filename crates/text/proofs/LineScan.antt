@@ -13,7 +13,8 @@ use Rattle.basics.specs.If.{if_then_else_}
 use Rattle.basics.proofs.Ifs.{if-all, if-yes, if-no}
 use Rattle.text.specs.Digits.{digit}
 use Rattle.text.specs.Frames.{hexadecimal, lineWord}
-use Rattle.text.specs.Reading.{rightAt, firstWrong}
+use Rattle.text.specs.Reading.{rightAt}
+use Rattle.text.specs.inner.Reading.{firstWrong}
 use Rattle.text.specs.inner.Lines.{lineFrom, lineRead}
 use Rattle.text.specs.declared.line.Line.{Line}
 use Rattle.text.specs.declared.line.Line.the-variants.{Word, WrongAt}

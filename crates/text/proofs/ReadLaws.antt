@@ -10,7 +10,8 @@ use lib.ListN.{length, take, drop, set, replicate, length-map, length-append, le
 use lib.Seq.{drop-drop, take-all, set-at}
 use borrow.Author.Tests.{lt-ltb, le-ltb}
 use Rattle.text.specs.Frames.{lineWord, frameOfWord, wordsOf, textFrames}
-use Rattle.text.specs.Reading.{firstWrong, Reading, frames, refused, readLines, reading, linesRead, wordArray, textRead, textWords}
+use Rattle.text.specs.inner.Reading.{firstWrong, readLines, reading, linesRead, wordArray, textRead, textWords}
+use Rattle.text.specs.Reading.{Reading, frames, refused}
 use Rattle.text.specs.inner.Lines.{lineRead}
 use Rattle.text.specs.declared.line.Line.{Line}
 use Rattle.text.specs.declared.line.Line.the-variants.{Word, WrongAt}

@@ -14,8 +14,9 @@ use Rattle.basics.specs.If.{if_then_else_}
 use Rattle.basics.proofs.Ifs.{if-all}
 use Rattle.language.specs.declared.frame.Frame.{Frame}
 use Rattle.text.specs.Frames.{textFrames}
+use Rattle.text.specs.Reading.{rightAt, Reading, frames, refused, WrongAt, Reads}
+use Rattle.text.specs.inner.Reading.{firstWrong, readLines, reading}
 use Rattle.text.proofs.ReadLaws.{length-frames}
-use Rattle.text.specs.Reading.{rightAt, firstWrong, Reading, frames, refused, readLines, reading, WrongAt, Reads}
 
 -- ---- the scan finds the first wrong or missing byte
 

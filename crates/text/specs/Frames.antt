@@ -4,6 +4,7 @@ use Prim.Native.Nat.{ℕ, zero, suc, _+_, _*_, _/_, _%_, _^_}
 use lib.ListN.{length, take, drop}
 use Rattle.language.specs.Kinds.{kindOf}
 use Rattle.language.specs.declared.frame.Frame.{Frame}
+use Rattle.language.specs.Limits.{lineLength}
 use Rattle.text.specs.Digits.{digit}
 
 -- the number that hexadecimal digits write, behind w
@@ -29,11 +30,11 @@ frameOfWord w =
 -- the first n lines of a text, 17 bytes each
 unfoldable pub wordsOf : ℕ → List ℕ → List ℕ
 wordsOf zero bs = []
-wordsOf (suc n) bs = lineWord bs ∷ wordsOf n (drop 17 bs)
+wordsOf (suc n) bs = lineWord bs ∷ wordsOf n (drop lineLength bs)
 
 abbrev pub framesOf : List ℕ → List Frame
 framesOf words = map frameOfWord words
 
 -- the frames of a text, of which each line is one
 unfoldable pub textFrames : List ℕ → List Frame
-textFrames bs = framesOf (wordsOf (length bs / 17) bs)
+textFrames bs = framesOf (wordsOf (length bs / lineLength) bs)

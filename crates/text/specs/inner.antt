@@ -1,2 +1,3 @@
 -- What ties the code to the definitions: no reader has to believe it.
 pub mod Lines
+pub mod Reading

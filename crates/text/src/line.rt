@@ -2,6 +2,8 @@
 use crate::digit::digit_table;
 use language::frame::Frame;
 use language::kind::kind_of;
+use language::limit::LINE_LENGTH;
+use language::limit::MOST_LINES;
 ghost use mathlib.Core.Path.{_≡_};
 ghost use Rattle.text.specs.Frames.{frameOfWord};
 ghost use Rattle.text.specs.inner.Lines.{lineRead, frameOfLine, frameRead};
@@ -78,10 +80,10 @@ fn frame_of_line(line: Line) -> FrameRead
 pub fn frame_at(text: &[u8], i: usize) -> FrameRead
     ensures { λ r. ⌜ r ≡ frameRead (now (text .entry)) i ⌝ }
 {
-    if 1024 <= i {
+    if MOST_LINES <= i {
         return FrameRead::NoFrame;
     }
-    let at = i * 17;
+    let at = i * LINE_LENGTH;
     if text.len() < at {
         return FrameRead::NoFrame;
     }

@@ -9,7 +9,7 @@ use Rattle.basics.proofs.Ifs.{yes, no}
 use Rattle.language.specs.declared.Place.{Place}
 use Rattle.language.specs.declared.frame.Frame.{Frame}
 use Rattle.program.specs.Trees.{statementAt}
-use Rattle.evaluator.specs.declared.Who.{Who}
+use Rattle.operations.specs.declared.Who.{Who}
 use Rattle.acts.specs.declared.act.Fate.the-variants.{Leaves}
 use Rattle.acts.specs.declared.act.Change.the-variants.{End}
 use Rattle.acts.specs.declared.act.Acted.{Acted}

@@ -6,20 +6,21 @@ use Prim.Native.Nat.{ℕ, zero, suc, _<_}
 use native.Mathlib.Omega.{arith}
 use lib.ListN.{length, getD, length-map}
 use Rattle.basics.specs.Members.{All}
-use Rattle.language.specs.Kinds.{NamesPlace, Child, children, childIn}
+use Rattle.language.specs.inner.Reads.{NamesPlace}
+use Rattle.language.specs.Kinds.{Child, children, childIn}
 use Rattle.language.specs.declared.kind.StatementKind.{StatementKind}
 use Rattle.language.specs.declared.kind.StatementKind.the-variants as S
 use Rattle.language.specs.declared.kind.Kind.{Kind}
-use Rattle.language.specs.declared.kind.Kind.the-variants.{Header, Shared, Module, Statement, Expression, Unknown}
+use Rattle.language.specs.declared.kind.Kind.the-variants.{Header, Declared, Module, Statement, Expression, Unknown}
 use Rattle.language.specs.declared.kind.Use.{Use}
 use Rattle.language.specs.declared.frame.Frame.{Frame}
 use Rattle.text.specs.Frames.{frameOfWord, framesOf}
 use Rattle.text.proofs.FrameWords.{frame-at}
 use Rattle.program.specs.Trees.{frameAt, noFrame}
-use Rattle.program.proofs.NodeLaws.{childrenAs}
 use Rattle.program.specs.inner.Nodes.{statementNodeOf, statementNodeIn, statementNode}
 use Rattle.program.specs.declared.node.StatementNode.{StatementNode}
 use Rattle.program.specs.declared.node.StatementNode.the-variants as Y
+use Rattle.program.proofs.NodeLaws.{childrenAs}
 use Rattle.evaluator.specs.inner.Results.{FrameWords}
 use Rattle.evaluator.proofs.Nodes.{frame-named}
 use Rattle.turns.specs.declared.view.View.{View}
@@ -62,7 +63,7 @@ module _ (m i : ℕ) (l : i < m) where
 
   under-kind : (f : Frame) (k : Kind) → All (λ (c : Child). c .at < i) (childrenAs k f) → Under m (statementNodeIn k f)
   under-kind f Header h = tt
-  under-kind f Shared h = tt
+  under-kind f (Declared d) h = tt
   under-kind f Module h = tt
   under-kind f (Statement k) h = under-statement f k h
   under-kind f (Expression k) h = tt

@@ -12,9 +12,10 @@ use Rattle.machine.specs.Words.{valueWord}
 use Rattle.machine.specs.declared.value.Value.{Value}
 use Rattle.machine.specs.declared.value.Outcome.{Outcome}
 use Rattle.machine.specs.declared.value.Outcome.the-variants.{Is, Foreign, Spent, Stuck}
-use Rattle.evaluator.specs.declared.Who.{Who}
-use Rattle.evaluator.specs.declared.Answered.{Answered}
-use Rattle.evaluator.specs.inner.Results.{Result, after, hereOf, onWords, CellWords, ValueWords}
+use Rattle.operations.specs.declared.Who.{Who}
+use Rattle.operations.specs.declared.Answered.{Answered}
+use Rattle.operations.specs.inner.Results.{Result, after}
+use Rattle.evaluator.specs.inner.Results.{hereOf, onWords, CellWords, ValueWords}
 use Rattle.evaluator.proofs.Agreement.{eval-leaves}
 use Rattle.acts.specs.declared.act.Acted.{Acted}
 use Rattle.acts.specs.inner.Fates.{refusedWith}

@@ -9,7 +9,7 @@ use Rattle.language.specs.declared.Place.{Place}
 use Rattle.language.specs.declared.kind.StatementKind.{StatementKind}
 use Rattle.language.specs.declared.kind.StatementKind.the-variants as S
 use Rattle.language.specs.declared.kind.Kind.{Kind}
-use Rattle.language.specs.declared.kind.Kind.the-variants.{Header, Shared, Module, Statement, Expression, Unknown}
+use Rattle.language.specs.declared.kind.Kind.the-variants.{Header, Declared, Module, Statement, Expression, Unknown}
 use Rattle.language.specs.declared.frame.Frame.{Frame}
 use Rattle.text.specs.Frames.{frameOfWord, framesOf}
 use Rattle.text.proofs.FrameWords.{frame-at}
@@ -19,9 +19,9 @@ use Rattle.program.specs.declared.node.StatementNode.{StatementNode}
 use Rattle.program.specs.declared.node.StatementNode.the-variants as Y
 use Rattle.program.proofs.Decoding.{statement-at}
 use Rattle.program.proofs.Roots.{statement-root}
-use Rattle.evaluator.specs.declared.Who.{Who}
-use Rattle.evaluator.specs.declared.Answered.{Answered}
-use Rattle.evaluator.specs.inner.Results.{Result, after}
+use Rattle.operations.specs.declared.Who.{Who}
+use Rattle.operations.specs.declared.Answered.{Answered}
+use Rattle.operations.specs.inner.Results.{Result, after}
 use Rattle.acts.specs.declared.act.Fate.the-variants.{Stays}
 use Rattle.acts.specs.declared.act.Change.the-variants.{Same}
 use Rattle.acts.specs.declared.act.Acted.{Acted}
@@ -75,7 +75,7 @@ module _ (fw : List ℕ) (who : Who) (v : View) (vs : List ℕ) (n : ℕ) (ws : 
   by-kind : (f : Frame) (k : Kind)
       → statementAct who v vs n ws (statementOf expr stmt i f k) ≡ actBy (statementNodeIn k f)
   by-kind f Header = refl
-  by-kind f Shared = refl
+  by-kind f (Declared d) = refl
   by-kind f Module = refl
   by-kind f (Statement k) = by-statement f k
   by-kind f (Expression k) = refl

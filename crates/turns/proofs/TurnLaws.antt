@@ -10,8 +10,8 @@ use Rattle.language.specs.declared.frame.Frame.{Frame}
 use Rattle.program.specs.Trees.{Stmt, nothing, seq, doAt, start, startWait, cooperate, letIn, store, ifElse, while, rootS, statementAt}
 use Rattle.machine.specs.Words.{valueWord}
 use Rattle.machine.specs.declared.value.Value.{Value}
-use Rattle.evaluator.specs.declared.Who.{Who}
-use Rattle.evaluator.specs.inner.Results.{Result}
+use Rattle.operations.specs.declared.Who.{Who}
+use Rattle.operations.specs.inner.Results.{Result}
 use Rattle.states.specs.declared.thread.ThreadWords.{ThreadWords}
 use Rattle.states.specs.inner.Stacks.{popItem}
 use Rattle.acts.specs.declared.act.Fate.the-variants.{Stays, Leaves}

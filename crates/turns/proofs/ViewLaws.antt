@@ -5,7 +5,7 @@ use mathlib.Core.List.{List}
 use Prim.Native.Nat.{ℕ}
 use Rattle.program.specs.Trees.{Expr}
 use Rattle.machine.specs.Evaluation.{eval, storing}
-use Rattle.evaluator.specs.declared.Who.{Who}
+use Rattle.operations.specs.declared.Who.{Who}
 use Rattle.evaluator.specs.inner.Results.{hereOf, onWords}
 use Rattle.states.specs.declared.thread.ThreadWords.{ThreadWords}
 use Rattle.acts.specs.declared.act.Fate.the-variants.{Stays}

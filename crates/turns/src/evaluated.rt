@@ -8,14 +8,18 @@ use acts::act::Change;
 use acts::act::Fate;
 use acts::act::comes_to;
 use acts::act::refused;
-use evaluator::Answered;
-use evaluator::word::value_word;
+use language::refusal::CELLS_SPENT;
+use language::refusal::FOREIGN;
+use language::refusal::STUCK;
 use machine::value::Outcome;
 use machine::value::Value;
+use operations::Answered;
+use operations::word::value_word;
 ghost use mathlib.Core.Path.{_≡_};
 ghost use Rattle.machine.specs.Values.{answerOf};
 ghost use Rattle.acts.specs.inner.Fates.{refusedWith};
-ghost use Rattle.turns.specs.inner.Actions.{afterValue, letAfter, storeAfter, chooseAfter, loopAfter};
+ghost use Rattle.turns.specs.inner.Actions.{afterValue, letAfter, storeAfter};
+ghost use Rattle.turns.specs.inner.Actions.{chooseAfter, loopAfter};
 
 // The number of a refusal.
 fn answer_of(o: Outcome) -> u8
@@ -23,9 +27,9 @@ fn answer_of(o: Outcome) -> u8
 {
     match o {
         Outcome::Is(w) => 0,
-        Outcome::Foreign => 19,
-        Outcome::Spent => 17,
-        Outcome::Stuck => 20,
+        Outcome::Foreign => FOREIGN,
+        Outcome::Spent => CELLS_SPENT,
+        Outcome::Stuck => STUCK,
     }
 }
 
@@ -68,8 +72,8 @@ fn one_of(w: Value, v: View, used: usize, a: u64, b: u64) -> Acted
             }
             stays_with(v, used, b)
         },
-        Value::Number(n) => refused(20, used),
-        Value::Cell(c) => refused(20, used),
+        Value::Number(n) => refused(STUCK, used),
+        Value::Cell(c) => refused(STUCK, used),
     }
 }
 
@@ -94,8 +98,8 @@ fn again_or_not(w: Value, v: View, used: usize, body: u64, again: u64) -> Acted
             }
             comes_to(Fate::Stays, Change::Same, used)
         },
-        Value::Number(n) => refused(20, used),
-        Value::Cell(c) => refused(20, used),
+        Value::Number(n) => refused(STUCK, used),
+        Value::Cell(c) => refused(STUCK, used),
     }
 }
 

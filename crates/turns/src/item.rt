@@ -7,13 +7,16 @@ use acts::act::Acted;
 use acts::act::Change;
 use acts::act::Fate;
 use acts::act::comes_to;
-use evaluator::Who;
 use language::Place;
+use machine::offset::BACK_FROM;
+use machine::offset::DROP_WORD;
+use operations::Who;
 ghost use mathlib.Core.Path.{_≡_};
 ghost use mathlib.Core.Bool.{true};
 ghost use Prim.Native.Nat.{_-_, _<_, _≤_};
 ghost use lib.ListN.{length};
 ghost use Rattle.language.specs.Places.{isPlace};
+ghost use Rattle.machine.specs.Offsets.{backFrom, dropWord};
 ghost use Rattle.text.specs.Frames.{framesOf};
 ghost use Rattle.turns.specs.inner.Acts.{TurnWords};
 ghost use Rattle.turns.specs.inner.Actions.{itemAct, turnAct, actOn};
@@ -29,17 +32,17 @@ fn act_item(
     item: u64,
 ) -> Acted
     requires { ⌜ TurnWords (now frames) v (now variables) used (now cells)
-        × (item < 1024 → item < length (now frames))
-        × (1024 ≤ item → item < 2048 → isPlace (item - 1024) ≡ true) ⌝ }
+        × (item < backFrom → item < length (now frames))
+        × (backFrom ≤ item → item < dropWord → isPlace (item - backFrom) ≡ true) ⌝ }
     ensures { λ r. ⌜ actOn r (now (cells .exit))
         ≡ itemAct (framesOf (now (frames .entry))) who v item (now (variables .entry)) used
         (now (cells .entry)) ⌝ }
 {
-    if item < 1024 {
+    if item < BACK_FROM {
         return act_statement(frames, who, v, variables, cells, used, item as usize);
     }
-    if item < 2048 {
-        return goes_back(v, used, Place::known(item - 1024));
+    if item < DROP_WORD {
+        return goes_back(v, used, Place::known(item - BACK_FROM));
     }
     drops(v, used)
 }
@@ -55,8 +58,8 @@ pub fn act(
     used: usize,
 ) -> Acted
     requires { ⌜ TurnWords (now frames) v (now variables) used (now cells)
-        × (item < 1024 → item < length (now frames))
-        × (1024 ≤ item → item < 2048 → isPlace (item - 1024) ≡ true) ⌝ }
+        × (item < backFrom → item < length (now frames))
+        × (backFrom ≤ item → item < dropWord → isPlace (item - backFrom) ≡ true) ⌝ }
     ensures { λ r. ⌜ actOn r (now (cells .exit))
         ≡ turnAct (framesOf (now (frames .entry))) who v item (now (variables .entry)) used
         (now (cells .entry)) ⌝ }

@@ -1,4 +1,5 @@
 // Turns after which the thread is at a place: another or the same.
+use crate::view::ONE_ITEM_LEFT;
 use crate::view::View;
 use acts::act::Acted;
 use acts::act::Change;
@@ -6,11 +7,16 @@ use acts::act::Fate;
 use acts::act::comes_to;
 use acts::act::refused;
 use language::Place;
+use language::refusal::STUCK;
+use machine::offset::BACK_FROM;
 ghost use mathlib.Core.Path.{_≡_};
 ghost use Prim.Native.Nat.{_≤_};
-ghost use Rattle.turns.specs.inner.Actions.{goTo, goBack, unlinkedAgain, doThere, cooperation};
+ghost use Rattle.language.specs.Places.{lastScheduler};
+ghost use Rattle.turns.specs.inner.Actions.{goTo, goBack, unlinkedAgain, doThere};
+ghost use Rattle.turns.specs.inner.Actions.{cooperation};
 
-// To place q, from that place: a move to one's own place is none. The change is the one or the other.
+// To place q, from that place: a move to one's own place is none. The change is the one or the
+// other.
 fn goes(from: Place, used: usize, q: Place, same: Change, moved: Change) -> Acted
     ensures { λ r. ⌜ r ≡ goTo from used q same moved ⌝ }
 {
@@ -42,21 +48,21 @@ fn unlinked_again(from: Place, q: Place) -> bool
 
 // 12: the body above 'back to here'.
 pub(crate) fn does_at(v: View, used: usize, q: Place, body: u64) -> Acted
-    requires { ⌜ v .place .number ≤ 9 ⌝ }
+    requires { ⌜ v .place .number ≤ lastScheduler ⌝ }
     ensures { λ r. ⌜ r ≡ doThere v used q body ⌝ }
 {
     let from = v.place;
     if unlinked_again(from, q) {
-        return refused(20, used);
+        return refused(STUCK, used);
     }
-    if 24 <= v.items {
-        return refused(20, used);
+    if ONE_ITEM_LEFT <= v.items {
+        return refused(STUCK, used);
     }
     goes(
         from,
         used,
         q,
-        Change::Items(body, 1024 + from.word()),
+        Change::Items(body, BACK_FROM + from.word()),
         Change::Enter(q, body),
     )
 }
@@ -67,7 +73,7 @@ pub(crate) fn cooperates(v: View, used: usize) -> Acted
 {
     let p = v.place;
     if p.is_private() {
-        return refused(20, used);
+        return refused(STUCK, used);
     }
     comes_to(Fate::Joins(p), Change::Same, used)
 }

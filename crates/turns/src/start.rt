@@ -3,16 +3,17 @@ use crate::evaluated::refused_by;
 use acts::act::Acted;
 use acts::act::Change;
 use acts::act::Fate;
-use evaluator::Answered;
-use evaluator::Who;
 use evaluator::evaluation::evaluate;
-use evaluator::word::value_word;
 use machine::value::Outcome;
+use operations::Answered;
+use operations::Who;
+use operations::word::value_word;
 ghost use mathlib.Core.Path.{_≡_};
 ghost use Rattle.text.specs.Frames.{framesOf};
 ghost use Rattle.program.specs.Trees.{arguments, expressionAt};
 ghost use Rattle.evaluator.specs.inner.Results.{CellWords, ValueWords, FrameWords};
-ghost use Rattle.turns.specs.inner.Actions.{startWith, startOne, startTwo, afterValue, startAct, actOn};
+ghost use Rattle.turns.specs.inner.Actions.{startWith, startOne, startTwo, startAct};
+ghost use Rattle.turns.specs.inner.Actions.{afterValue, actOn};
 
 // Which module is started, and whether the starter waits.
 pub(crate) struct Request {
@@ -73,7 +74,7 @@ pub(crate) fn starts(
     if a == 0 {
         return starts_with(q, used, 0, 0, 0);
     }
-    let x = evaluate(frames, who, variables, cells, used, a as usize);
+    let x = evaluate(frames, who, variables, cells, used, a);
     if b == 0 {
         return starts_one(q, x);
     }
@@ -81,6 +82,6 @@ pub(crate) fn starts(
     let Outcome::Is(w) = o else {
         return refused_by(o, x.used);
     };
-    let y = evaluate(frames, who, variables, cells, x.used, b as usize);
+    let y = evaluate(frames, who, variables, cells, x.used, b);
     starts_two(q, value_word(w), y)
 }

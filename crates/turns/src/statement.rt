@@ -13,9 +13,9 @@ use acts::act::Acted;
 use acts::act::Change;
 use acts::act::Fate;
 use acts::act::comes_to;
-use evaluator::Who;
 use evaluator::evaluation::evaluate;
 use evaluator::evaluation::store;
+use operations::Who;
 use program::node::StatementNode;
 use program::node::statement_node;
 use text::line::frame_of_word;
@@ -37,7 +37,8 @@ pub(crate) fn act_statement(
     used: usize,
     i: usize,
 ) -> Acted
-    requires { ⌜ TurnWords (now frames) v (now variables) used (now cells) × (i < length (now frames)) ⌝ }
+    requires { ⌜ TurnWords (now frames) v (now variables) used (now cells)
+        × (i < length (now frames)) ⌝ }
     ensures { λ r. ⌜ actOn r (now (cells .exit))
         ≡ statementAct who v (now (variables .entry)) used (now (cells .entry))
         (statementAt (framesOf (now (frames .entry))) i) ⌝ }
@@ -62,19 +63,19 @@ pub(crate) fn act_statement(
         },
         StatementNode::Cooperate => cooperates(v, used),
         StatementNode::LetIn(a, b) => {
-            let x = evaluate(frames, who, variables, cells, used, a as usize);
+            let x = evaluate(frames, who, variables, cells, used, a);
             lets_after(x, v, b as u64)
         },
         StatementNode::Store(a, b) => {
-            let x = store(frames, who, variables, cells, used, a as usize, b as usize);
+            let x = store(frames, who, variables, cells, used, a, b);
             stores_after(x)
         },
         StatementNode::IfElse(a, b, c) => {
-            let x = evaluate(frames, who, variables, cells, used, a as usize);
+            let x = evaluate(frames, who, variables, cells, used, a);
             chooses_after(x, v, b as u64, c as u64)
         },
         StatementNode::While(a, b) => {
-            let x = evaluate(frames, who, variables, cells, used, a as usize);
+            let x = evaluate(frames, who, variables, cells, used, a);
             loops_after(x, v, b as u64, i as u64)
         },
     }

@@ -1,18 +1,23 @@
-// Turns after which the thread stays where it is, with items or a variable more or less. A full space is 20.
+// Turns after which the thread stays where it is, with items or a variable more or less. A full
+// space is 20.
+use crate::view::ITEM_SPACE;
+use crate::view::ONE_ITEM_LEFT;
+use crate::view::VARIABLE_SPACE;
 use crate::view::View;
 use acts::act::Acted;
 use acts::act::Change;
 use acts::act::Fate;
 use acts::act::comes_to;
 use acts::act::refused;
+use language::refusal::STUCK;
 ghost use mathlib.Core.Path.{_≡_};
 ghost use Rattle.turns.specs.inner.Actions.{oneMore, twoMore, letMore, dropOne};
 
 pub(crate) fn stays_with(v: View, used: usize, item: u64) -> Acted
     ensures { λ r. ⌜ r ≡ oneMore v used item ⌝ }
 {
-    if 25 <= v.items {
-        return refused(20, used);
+    if ITEM_SPACE <= v.items {
+        return refused(STUCK, used);
     }
     comes_to(Fate::Stays, Change::Item(item), used)
 }
@@ -20,8 +25,8 @@ pub(crate) fn stays_with(v: View, used: usize, item: u64) -> Acted
 pub(crate) fn stays_with_two(v: View, used: usize, top: u64, below: u64) -> Acted
     ensures { λ r. ⌜ r ≡ twoMore v used top below ⌝ }
 {
-    if 24 <= v.items {
-        return refused(20, used);
+    if ONE_ITEM_LEFT <= v.items {
+        return refused(STUCK, used);
     }
     comes_to(Fate::Stays, Change::Items(top, below), used)
 }
@@ -30,11 +35,11 @@ pub(crate) fn stays_with_two(v: View, used: usize, top: u64, below: u64) -> Acte
 pub(crate) fn lets(v: View, used: usize, value: u64, body: u64) -> Acted
     ensures { λ r. ⌜ r ≡ letMore v used value body ⌝ }
 {
-    if 25 <= v.values {
-        return refused(20, used);
+    if VARIABLE_SPACE <= v.values {
+        return refused(STUCK, used);
     }
-    if 24 <= v.items {
-        return refused(20, used);
+    if ONE_ITEM_LEFT <= v.items {
+        return refused(STUCK, used);
     }
     comes_to(Fate::Stays, Change::Let(value, body), used)
 }
@@ -44,7 +49,7 @@ pub(crate) fn drops(v: View, used: usize) -> Acted
     ensures { λ r. ⌜ r ≡ dropOne v used ⌝ }
 {
     if v.values == 0 {
-        return refused(20, used);
+        return refused(STUCK, used);
     }
     comes_to(Fate::Stays, Change::Drop, used)
 }

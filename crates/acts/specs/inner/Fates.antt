@@ -1,7 +1,11 @@
--- What a turn comes to, made of its parts, and the thread that it leaves. No reader has to believe it: crate stepper shows that a turn committed is the step of the rules. Assumes nothing: definitions.
-use Prim.Native.Nat.{ℕ, _+_, _<_}
+-- What a turn comes to, made of its parts, and the thread that it leaves. No reader has to believe
+-- it: crate stepper shows that a turn committed is the step of the rules. Assumes nothing:
+-- definitions.
+use Prim.Native.Nat.{ℕ, _+_, _-_, _<_}
 use lib.Dec.{eqb}
 use Rattle.basics.specs.If.{if_then_else_}
+use Rattle.language.specs.Limits.{mostVariables, mostItems}
+use Rattle.machine.specs.Offsets.{backFrom, dropWord}
 use Rattle.states.specs.declared.thread.ThreadWords.{ThreadWords}
 use Rattle.states.specs.inner.Stacks.{pushItem, popItem, pushValue, popValue, moveTo, ended}
 use Rattle.acts.specs.declared.act.Fate.{Fate}
@@ -41,22 +45,30 @@ abbrev pub changed : Change → ThreadWords → ThreadWords
 changed Same th = th
 changed (Item a) th = pushItem a th
 changed (Items top below) th = pushItem top (pushItem below th)
-changed (Let value body) th = pushItem body (pushItem 2048 (pushValue value th))
+changed (Let value body) th = pushItem body (pushItem dropWord (pushValue value th))
 changed Drop th = popValue th
 changed (Move q) th = moveTo (q .number) th
-changed (Enter q body) th = moveTo (q .number) (pushItem body (pushItem (1024 + th .place) th))
+changed (Enter q body) th = moveTo (q .number) (pushItem body (pushItem (backFrom + th .place) th))
 changed End th = ended th
 
 abbrev pub turned : Acted → ThreadWords → Turned
-turned a th = record { fate = a .fate; thread = changed (a .change) th; used = a .used; given = a .given; first = a .first; second = a .second }
+turned a th =
+    record {
+      fate = a .fate;
+      thread = changed (a .change) th;
+      used = a .used;
+      given = a .given;
+      first = a .first;
+      second = a .second;
+    }
 
 -- so many items and variables leave room for the change, or there is a variable to drop
 abbrev pub Room : Change → ℕ → ℕ → Type 0
 Room Same items values = Unit {0}
-Room (Item a) items values = items < 25
-Room (Items top below) items values = items < 24
-Room (Let value body) items values = (items < 24) × (values < 25)
+Room (Item a) items values = items < mostItems
+Room (Items top below) items values = items < mostItems - 1
+Room (Let value body) items values = (items < mostItems - 1) × (values < mostVariables)
 Room Drop items values = 0 < values
 Room (Move q) items values = Unit {0}
-Room (Enter q body) items values = items < 24
+Room (Enter q body) items values = items < mostItems - 1
 Room End items values = Unit {0}

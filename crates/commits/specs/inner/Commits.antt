@@ -1,4 +1,5 @@
--- A turn committed, on words. No reader has to believe it: crate stepper shows that it is the step of the rules. Assumes nothing: definitions.
+-- A turn committed, on words. No reader has to believe it: crate stepper shows that it is the step
+-- of the rules. Assumes nothing: definitions.
 use mathlib.Core.Path.{_≡_}
 use mathlib.Core.List.{List, [], _∷_}
 use mathlib.Core.Bool.{Bool, true, _&&_, not}
@@ -8,20 +9,25 @@ use lib.ListN.{length, getD, set, replicate}
 use Rattle.basics.specs.If.{if_then_else_}
 use Rattle.language.specs.Places.{private, home, isPlace, isScheduler}
 use Rattle.language.specs.declared.Place.{Place}
+use Rattle.language.specs.Limits.{mostVariables, mostThreads, mostCells, mostItems}
+use Rattle.language.specs.Refusals.{threadsSpent, stuck}
 use Rattle.program.specs.Programs.{Program}
 use Rattle.machine.specs.inner.Blocks.{pasted, padded}
 use Rattle.machine.specs.Calls.{Called}
 use Rattle.states.specs.declared.thread.ThreadWords.{ThreadWords}
 use Rattle.states.specs.inner.Threads.{threadIn, putThread, withOneMore}
-use Rattle.states.specs.inner.Lists.{withoutFirst, withLast}
+use Rattle.lists.specs.inner.Lists.{withoutFirst, withLast}
 use Rattle.acts.specs.declared.act.Fate.{Fate}
 use Rattle.acts.specs.declared.act.Fate.the-variants.{Refused, Stays, Leaves, Joins, Starts}
 use Rattle.acts.specs.declared.act.Change.{Change}
-use Rattle.acts.specs.declared.act.Change.the-variants.{Same, Item, Items, Let, Drop, Move, Enter, End}
+use Rattle.acts.specs.declared.act.Change.the-variants.{Same, Item, Items, Let, Drop, Move, Enter}
+use Rattle.acts.specs.declared.act.Change.the-variants.{End}
 use Rattle.acts.specs.declared.act.Acted.{Acted}
 use Rattle.acts.specs.inner.Fates.{Turned, popped, turned, Room}
 use Rattle.program.specs.declared.module.ModuleFound.{ModuleFound}
 use Rattle.program.specs.inner.Modules.{foundIn}
+use Rattle.machine.specs.Offsets.{stateLength, threadCountAt, cellCountAt, schedulerLength}
+use Rattle.machine.specs.Offsets.{nextListAt, cellsAt, waitingFactor}
 
 abbrev pub called : ℕ → ℕ → List ℕ → Called
 called n t w = record { answer = n; thread = t; words = w }
@@ -30,16 +36,18 @@ called n t w = record { answer = n; thread = t; words = w }
 
 -- the cells from that one to below that other are 0
 unfoldable pub clearedIn : List ℕ → ℕ → ℕ → List ℕ
-clearedIn w from upto = pasted w (4562 + from) (replicate (upto - from) 0) (upto - from)
+clearedIn w from upto = pasted w (cellsAt + from) (replicate (upto - from) 0) (upto - from)
 
 unfoldable pub settledIn : List ℕ → ℕ → ThreadWords → ℕ → List ℕ
-settledIn w k th n = putThread (set w 1 n) k th
+settledIn w k th n = putThread (set w cellCountAt n) k th
 
 unfoldable pub leftIn : List ℕ → ℕ → List ℕ
 leftIn w c = if isScheduler c then withoutFirst w (c - home) else w
 
 unfoldable pub roomIn : List ℕ → ℕ → ℕ → Bool
-roomIn w q more = isScheduler q && leb (getD w (67 + 130 * (q - home)) 0 + more) 64
+roomIn w q more =
+    isScheduler q
+    && leb (getD w (nextListAt + schedulerLength * (q - home)) 0 + more) mostThreads
 
 unfoldable pub joinedIn : List ℕ → ℕ → ℕ → List ℕ
 joinedIn w q e = if isScheduler q then withLast w (q - home) e else w
@@ -56,7 +64,10 @@ abbrev pub leavesIn : List ℕ → ℕ → ℕ → Turned → List ℕ
 leavesIn w c t a = leftIn (staysIn w t a) c
 
 unfoldable pub joinsIn : List ℕ → ℕ → ℕ → ℕ → Turned → ℕ → Called
-joinsIn w before c t a q = if roomIn w q 1 then called 0 t (joinedIn (leavesIn w c t a) q t) else refusesIn w before t a 20
+joinsIn w before c t a q =
+    if roomIn w q 1
+    then called 0 t (joinedIn (leavesIn w c t a) q t)
+    else refusesIn w before t a stuck
 
 -- the new thread, at that place, with so many arguments
 abbrev pub newThread : ℕ → ℕ → ℕ → ℕ → ℕ → ℕ → ThreadWords
@@ -66,9 +77,9 @@ newThread place given first second t body =
       starter = t;
       alive = 1;
       items = 1;
-      continuation = padded 25 (body ∷ []);
+      continuation = padded mostItems (body ∷ []);
       values = given;
-      variables = padded 25 (first ∷ second ∷ []);
+      variables = padded mostVariables (first ∷ second ∷ []);
     }
 
 abbrev pub newIn : Turned → ℕ → ℕ → ThreadWords
@@ -77,33 +88,37 @@ newIn a t body = newThread (a .thread .place) (a .given) (a .first) (a .second) 
 -- a start that does not fit is 20, a 65th thread 18; 0 is neither
 unfoldable pub misfitIn : List ℕ → ModuleFound → ℕ → ℕ → ℕ
 misfitIn w found place given =
-    if eqb place private then 20 else
-    if not (found .there) then 20 else
-    if not (eqb (found .parameters) given) then 20 else
-    if not (roomIn w place 1) then 20 else
+    if eqb place private then stuck else
+    if not (found .there) then stuck else
+    if not (eqb (found .parameters) given) then stuck else
+    if not (roomIn w place 1) then stuck else
     0
 
 unfoldable pub spentIn : List ℕ → ℕ
-spentIn w = if leb 64 (getD w 0 0) then 18 else 0
+spentIn w = if leb mostThreads (getD w threadCountAt 0) then threadsSpent else 0
 
 unfoldable pub firstAnswer : ℕ → ℕ → ℕ
 firstAnswer a b = if eqb a 0 then b else a
 
 unfoldable pub obstacleIn : List ℕ → ModuleFound → ℕ → ℕ → ℕ
 obstacleIn w found place given =
-    if eqb place private then 20 else
-    if not (found .there) then 20 else
-    if not (eqb (found .parameters) given) then 20 else
-    if not (roomIn w place 1) then 20 else
-    if leb 64 (getD w 0 0) then 18 else
+    if eqb place private then stuck else
+    if not (found .there) then stuck else
+    if not (eqb (found .parameters) given) then stuck else
+    if not (roomIn w place 1) then stuck else
+    if leb mostThreads (getD w threadCountAt 0) then threadsSpent else
     0
 
 abbrev pub startedIn : List ℕ → ℕ → Turned → ℕ → List ℕ
-startedIn w t a body = joinedIn (withOneMore (staysIn w t a) (newIn a t body)) (a .thread .place) (getD w 0 0 + 1)
+startedIn w t a body =
+    joinedIn (withOneMore (staysIn w t a) (newIn a t body)) (a .thread .place)
+    (getD w threadCountAt 0 + 1)
 
 abbrev pub waitingIn : List ℕ → ℕ → ℕ → Turned → ℕ → List ℕ
 waitingIn w c t a body =
-    joinedIn (joinedIn (withOneMore (leavesIn w c t a) (newIn a t body)) (a .thread .place) (getD w 0 0 + 1)) (a .thread .place) (128 * (getD w 0 0 + 1) + t)
+    joinedIn (joinedIn (withOneMore (leavesIn w c t a) (newIn a t body)) (a .thread .place)
+    (getD w threadCountAt 0 + 1)) (a .thread .place)
+    (waitingFactor * (getD w threadCountAt 0 + 1) + t)
 
 unfoldable pub startsIn : Program → List ℕ → ℕ → ℕ → ℕ → Turned → Bool → ℕ → Called
 startsIn p w before c t a waits m =
@@ -111,7 +126,7 @@ startsIn p w before c t a waits m =
     let no = obstacleIn w found (a .thread .place) (a .given) in
     if not (eqb no 0) then refusesIn w before t a no else
     if not waits then called 0 t (startedIn w t a (found .body)) else
-    if not (roomIn w (a .thread .place) 2) then refusesIn w before t a 20 else
+    if not (roomIn w (a .thread .place) 2) then refusesIn w before t a stuck else
     called 0 t (waitingIn w c t a (found .body))
 
 abbrev pub committedIn : Program → List ℕ → ℕ → ℕ → ℕ → Turned → Fate → Called
@@ -142,15 +157,15 @@ after w t a = turned a (popped (threadIn w (t - 1)))
 
 -- thread k is within its space, and behind its top item there is room for the change
 pub record SettleWords (w : List ℕ) (k : ℕ) (c : Change) : Type 0 where
-  pub all : length w ≡ 4818
-  pub thread : k < 64
+  pub all : length w ≡ stateLength
+  pub thread : k < mostThreads
   pub place : isPlace (threadIn w k .place) ≡ true
-  pub items : threadIn w k .items ≤ 25
-  pub values : threadIn w k .values ≤ 25
+  pub items : threadIn w k .items ≤ mostItems
+  pub values : threadIn w k .values ≤ mostVariables
   pub room : Room c (threadIn w k .items - 1) (threadIn w k .values)
 
 pub record CommitWords (w : List ℕ) (t : ℕ) (a : Acted) : Type 0 where
   pub first : 1 ≤ t
-  pub last : t ≤ 64
-  pub cells : a .used ≤ 256
+  pub last : t ≤ mostThreads
+  pub cells : a .used ≤ mostCells
   pub settle : SettleWords w (t - 1) (a .change)

@@ -1,32 +1,31 @@
--- Evaluation on the words that a caller lends: what the public contracts cite. Assumes nothing: definitions.
+-- Evaluation on the words that a caller lends: what the public contracts cite. Assumes nothing:
+-- definitions.
 use mathlib.Core.Path.{_≡_}
 use mathlib.Core.List.{List, map}
 use mathlib.Core.Bool.{true}
-use Prim.Native.Nat.{ℕ, _%_, _^_, _<_, _≤_}
+use Prim.Native.Nat.{ℕ, _%_, _<_, _≤_}
 use lib.ListN.{length, getD}
+use Rattle.language.specs.Limits.{mostCells}
 use Rattle.text.specs.Frames.{framesOf}
 use Rattle.program.specs.inner.Ordered.{Ordered, Placed}
+use Rattle.machine.specs.Offsets.{ownerFactor}
 use Rattle.machine.specs.State.{Stored, usedCells}
 use Rattle.machine.specs.Evaluation.{Here, Evaluated, Evaluation}
 use Rattle.machine.specs.Words.{wordValue, wordCell, tabulate}
 use Rattle.machine.specs.inner.Ranges.{valueInRange}
 use Rattle.machine.specs.inner.Blocks.{cellWords}
-use Rattle.machine.specs.declared.value.Outcome.{Outcome}
-use Rattle.evaluator.specs.declared.Who.{Who}
-use Rattle.evaluator.specs.declared.Answered.{Answered}
-
--- what a function on lent cells gives: the outcome, how many cells are in use, and all lent words
-pub record Result : Type 0 where
-  pub outcome : Outcome
-  pub used : ℕ
-  pub words : List ℕ
-
-abbrev pub after : Answered → List ℕ → Result
-after r ws = record { outcome = r .outcome; used = r .used; words = ws }
+use Rattle.operations.specs.declared.Who.{Who}
+use Rattle.operations.specs.inner.Results.{Result}
 
 -- who evaluates, with the variables of those words
 abbrev pub hereOf : Who → List ℕ → Here
-hereOf who vs = record { thread = who .thread; place = who .place .number; variables = map wordValue vs; shared = who .shared }
+hereOf who vs =
+    record {
+      thread = who .thread;
+      place = who .place .number;
+      variables = map wordValue vs;
+      shared = who .shared;
+    }
 
 -- the cells that the first n words are
 unfoldable pub cellsFrom : ℕ → List ℕ → List Stored
@@ -34,7 +33,8 @@ cellsFrom n ws = tabulate n (λ c. wordCell (getD ws c 0)) 0
 
 -- the words of what an evaluation gives; behind the cells in use they are 0
 abbrev pub resultOf : Evaluated → Result
-resultOf r = record { outcome = r .outcome; used = usedCells (r .cells); words = cellWords (r .cells) }
+resultOf r =
+    record { outcome = r .outcome; used = usedCells (r .cells); words = cellWords (r .cells) }
 
 -- an evaluation on the cells that the first n words are
 unfoldable pub onWords : Evaluation → ℕ → List ℕ → Result
@@ -44,10 +44,10 @@ onWords m n ws = resultOf (m (cellsFrom n ws))
 
 -- the words of n cells: each content is in range, and unused words are 0
 pub record CellWords (n : ℕ) (ws : List ℕ) : Type 0 where
-  pub all : length ws ≡ 256
-  pub room : n ≤ 256
-  pub each : (k : ℕ) → k < n → valueInRange (getD ws k 0 % 2 ^ 34) ≡ true
-  pub unused : (k : ℕ) → n ≤ k → k < 256 → getD ws k 0 ≡ 0
+  pub all : length ws ≡ mostCells
+  pub room : n ≤ mostCells
+  pub each : (k : ℕ) → k < n → valueInRange (getD ws k 0 % ownerFactor) ≡ true
+  pub unused : (k : ℕ) → n ≤ k → k < mostCells → getD ws k 0 ≡ 0
 
 -- the words of values
 abbrev pub ValueWords : List ℕ → Type 0

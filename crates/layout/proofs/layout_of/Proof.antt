@@ -1,8 +1,8 @@
 -- `layout_of` meets its contract. Assumes nothing.
 use borrow.Author.Needs.{needs}
+use Rattle.fields.proofs.FieldLaws.{few-schedulers}
+use Rattle.fields.proofs.Finds.{found-none}
 use Rattle.layout.proofs.Answers.{layout-laws}
-use Rattle.layout.proofs.FieldLaws.{few-schedulers}
-use Rattle.layout.proofs.Finds.{found-none}
 use Rattle.layout.proofs.layout_of.Statement.{statement}
 use Rattle.layout.proofs.layout_of.Tie as tie
 

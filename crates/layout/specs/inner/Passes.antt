@@ -1,41 +1,16 @@
 -- What the passes of the code hold in their arrays. A reader of the rules can skip this file: proofs/ ties each pass to the definitions of Scans. Assumes nothing: definitions.
-use mathlib.Core.List.{List, [], _∷_, _++_}
-use mathlib.Core.Option.{Option, none, some}
-use Prim.Native.Nat.{ℕ, zero, suc, _-_, _<_, _≤_}
+use mathlib.Core.List.{List, [], _∷_}
+use mathlib.Core.Option.{Option}
+use Prim.Native.Nat.{ℕ, zero, suc, _<_, _≤_}
 use lib.Dec.{ltb, eqb}
 use lib.ListN.{length, getD, set, replicate}
 use Rattle.basics.specs.If.{if_then_else_}
 use Rattle.basics.specs.Searches.{lowest}
-use Rattle.language.specs.Kinds.{isShared, isModule, classOf, Child, children}
+use Rattle.language.specs.Kinds.{isModule, classOf, Child, children}
 use Rattle.language.specs.declared.frame.Frame.{Frame}
+use Rattle.language.specs.Limits.{mostLines, mostDepth}
 use Rattle.program.specs.Trees.{frameAt}
-use Rattle.program.specs.Programs.{cellsOf}
-use Rattle.layout.specs.declared.found.Found.{Found}
-use Rattle.layout.specs.declared.found.Found.the-variants.{At, Nowhere}
-use Rattle.layout.specs.declared.frames.ChildRead.{ChildRead}
-use Rattle.layout.specs.declared.frames.ChildRead.the-variants.{ChildAt, NoChild}
-use Rattle.layout.specs.declared.fields.Tally.{Tally}
-use Rattle.layout.specs.Fields.{countOf}
-use Rattle.layout.specs.Depths.{deepest}
 use Rattle.layout.specs.inner.Scans.{Passed, passed}
-
--- the code's answers
-abbrev pub found : Option ℕ → Found
-found none = Nowhere
-found (some j) = At j
-
-abbrev pub optionOf : Found → Option ℕ
-optionOf Nowhere = none
-optionOf (At j) = some j
-
--- a field names at most one child
-abbrev pub childRead : List Child → ChildRead
-childRead [] = NoChild
-childRead (c ∷ cs) = ChildAt (c .class) (c .at)
-
--- ---- 5: of the frames passed, how many are shared cells and modules, and the types of the cells in an array of 16
-unfoldable pub tallyOf : List Frame → Tally
-tallyOf fs = record { cells = countOf isShared fs; modules = countOf isModule fs; types = cellsOf fs ++ replicate (16 - length (cellsOf fs)) 0 }
 
 -- ---- 6: what an array that says where the tree of each of the i frames passed begins tells of them, from the last to the first
 unfoldable pub told : List Frame → List ℕ → ℕ → List Passed
@@ -48,7 +23,7 @@ Backward first i = (j : ℕ) → j < i → getD first j 0 ≤ j
 
 -- a 1 at each frame that some frame has as a child
 unfoldable pub marked : List ℕ → ℕ → List ℕ
-marked u v = if ltb v 1024 then set u v 1 else u
+marked u v = if ltb v mostLines then set u v 1 else u
 
 unfoldable pub marks : List ℕ → List Child → List ℕ
 marks u [] = u
@@ -60,11 +35,11 @@ markAll u (f ∷ fs) = markAll (marks u (children f)) fs
 
 -- ---- 7: the depth of each frame, 0 where it has none, 25 for every depth over 24
 unfoldable pub given : Frame → ℕ → ℕ
-given f d = if eqb d 0 then (if isModule (f .kind) then 1 else 0) else if ltb d 25 then suc d else 25
+given f d = if eqb d 0 then (if isModule (f .kind) then 1 else 0) else if ltb d (suc mostDepth) then suc d else suc mostDepth
 
 -- at v a depth of at least d
 unfoldable pub raised : List ℕ → ℕ → ℕ → List ℕ
-raised u d v = if ltb v 1024 then (if ltb (getD u v 0) d then set u v d else u) else u
+raised u d v = if ltb v mostLines then (if ltb (getD u v 0) d then set u v d else u) else u
 
 unfoldable pub raisedAll : List ℕ → ℕ → List Child → List ℕ
 raisedAll u d [] = u
@@ -77,4 +52,4 @@ depthsDown (suc n) fs u = depthsDown n fs (raisedAll u (given (frameAt fs n) (ge
 
 -- the lowest frame over whose depth 24 is
 unfoldable pub firstOver : List Frame → Option ℕ
-firstOver fs = lowest (λ (i : ℕ) (f : Frame). ltb deepest (getD (depthsDown (length fs) fs (replicate 1024 0)) i 0)) 0 fs
+firstOver fs = lowest (λ (i : ℕ) (f : Frame). ltb mostDepth (getD (depthsDown (length fs) fs (replicate mostLines 0)) i 0)) 0 fs

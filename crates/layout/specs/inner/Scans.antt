@@ -12,17 +12,12 @@ use Rattle.language.specs.declared.kind.Class.{Class}
 use Rattle.language.specs.declared.frame.Frame.{Frame}
 use Rattle.language.specs.declared.verdict.Verdict.{Verdict}
 use Rattle.language.specs.declared.verdict.Verdict.the-variants.{Accepted, Rejected}
+use Rattle.language.specs.Refusals.{wrongHeader, wrongField, wrongOrder, tooDeep}
+use Rattle.language.specs.Limits.{mostDepth}
 use Rattle.program.specs.Trees.{frameAt}
-use Rattle.layout.specs.Fields.{headerFine, frameFine}
+use Rattle.program.specs.inner.Children.{sameClass}
+use Rattle.fields.specs.inner.Scans.{headerFault, fieldFault}
 use Rattle.layout.specs.Order.{hasChild, hasClass, isMain}
-use Rattle.layout.specs.Depths.{deepest}
-
--- ---- the lowest frame with the fault 4, and with 5
-unfoldable pub headerFault : List Frame → Option ℕ
-headerFault fs = if headerFine (frameAt fs 0) then none else some 0
-
-unfoldable pub fieldFault : List Frame → Option ℕ
-fieldFault fs = lowest (λ (i : ℕ) (f : Frame). not (frameFine fs i f)) 0 fs
 
 -- ---- 6, 'order, a child of the wrong class': one pass, which stops at the first frame without a tree
 
@@ -33,18 +28,6 @@ pub record Passed : Type 0 where
 
 abbrev pub passed : Class → ℕ → Passed
 passed k n = record { class = k; first = n }
-
--- the class that a child is of is the class that it is to be of
-abbrev pub sameClass : Class → Class → Bool
-sameClass Class.Statement Class.Statement = true
-sameClass Class.Statement Class.Expression = false
-sameClass Class.Statement Class.Neither = false
-sameClass Class.Expression Class.Statement = false
-sameClass Class.Expression Class.Expression = true
-sameClass Class.Expression Class.Neither = false
-sameClass Class.Neither Class.Statement = false
-sameClass Class.Neither Class.Expression = false
-sameClass Class.Neither Class.Neither = true
 
 -- where the row of children begins that ends just before `stop`, the children from the last to the first; ps are the i frames passed, from the last to the first
 unfoldable pub rowFirst : List Passed → ℕ → ℕ → List Child → Option ℕ
@@ -105,7 +88,7 @@ unfoldable pub deepTo : ℕ → List Frame → ℕ → ℕ → Option ℕ
 deepTo zero fs d i = none
 deepTo (suc n) fs d i =
     earlier (lowestChild (λ c. deepTo n fs (suc d) c) (children (frameAt fs i)))
-    (if ltb deepest d then some i else none)
+    (if ltb mostDepth d then some i else none)
 
 -- in the body of f, if f is a module: a child's number is below its parent's, so that bound is enough
 abbrev pub deepIn : List Frame → Frame → Option ℕ
@@ -129,8 +112,8 @@ rejectAt n none next = next tt
 -- 'Over the whole file, smallest number first, then lowest frame'
 unfoldable pub layoutOf : List Frame → Verdict
 layoutOf fs =
-    rejectAt 4 (headerFault fs) λ _.
-    rejectAt 5 (fieldFault fs) λ _.
-    rejectAt 6 (orderFault fs) λ _.
-    rejectAt 7 (depthFault fs) λ _.
+    rejectAt wrongHeader (headerFault fs) λ _.
+    rejectAt wrongField (fieldFault fs) λ _.
+    rejectAt wrongOrder (orderFault fs) λ _.
+    rejectAt tooDeep (depthFault fs) λ _.
     Accepted

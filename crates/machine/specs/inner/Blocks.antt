@@ -3,6 +3,8 @@ use mathlib.Core.List.{List}
 use Prim.Native.Nat.{ℕ}
 use lib.ListN.{take, drop, getD}
 use lib.Seq.{paste}
+use Rattle.language.specs.Limits.{mostCells}
+use Rattle.machine.specs.Offsets.{schedulerLength, threadLength}
 use Rattle.machine.specs.State.{Stored, Thread, Scheduler, cellAt}
 use Rattle.machine.specs.Words.{tabulate, threadWord, schedulerWord, cellWord}
 
@@ -19,10 +21,10 @@ unfoldable pub padded : ℕ → List ℕ → List ℕ
 padded n ws = tabulate n (λ j. getD ws j 0) 0
 
 unfoldable pub threadWords : Thread → List ℕ
-threadWords x = tabulate 55 (threadWord x) 0
+threadWords x = tabulate threadLength (threadWord x) 0
 
 unfoldable pub schedulerWords : Scheduler → List ℕ
-schedulerWords x = tabulate 130 (schedulerWord x) 0
+schedulerWords x = tabulate schedulerLength (schedulerWord x) 0
 
 unfoldable pub cellWords : List Stored → List ℕ
-cellWords cs = tabulate 256 (λ i. cellWord (cellAt cs i)) 0
+cellWords cs = tabulate mostCells (λ i. cellWord (cellAt cs i)) 0

@@ -1,39 +1,41 @@
 -- The range of each lent word, as a test: it computes what Validity says of a state in shape. Assumes nothing: definitions.
 -- '14 a lent buffer of the wrong length, or a state with a word out of range (a place, frame or party that the file lacks, a pile frame that is no statement, a thread over 64, a cell over 255, a list or pile longer than its space ..)'
 use mathlib.Core.List.{List}
-use mathlib.Core.Bool.{Bool, true, false, _&&_, _||_}
-use Prim.Native.Nat.{ℕ, zero, suc, _+_, _-_, _*_, _/_, _%_, _^_}
+use mathlib.Core.Bool.{Bool, true, _&&_}
+use Prim.Native.Nat.{ℕ, zero, suc, _+_, _-_, _*_, _/_, _%_}
 use lib.Dec.{ltb, leb, eqb}
 use lib.ListN.{length, getD}
 use Rattle.basics.specs.If.{if_then_else_}
 use Rattle.language.specs.Places.{hasPlace}
 use Rattle.language.specs.declared.frame.Frame.{Frame}
+use Rattle.language.specs.Limits.{mostVariables, mostThreads, mostCells, mostItems}
 use Rattle.program.specs.Trees.{frameAt}
+use Rattle.machine.specs.Offsets.{stateLength, threadCountAt, cellCountAt, schedulersAt, schedulerLength, listLength, threadsAt, threadLength, placeField, starterField, livesField, itemsField, variablesField, cellsAt, backFrom, dropWord, waitingFactor, truthFrom, cellFrom, ownerFactor}
 use Rattle.machine.specs.Shapes.{isStatement, ownerInRange}
 
 -- ---- single words, in a file of those frames and n schedulers
 
 -- 'Threads are 1 to 64'
 unfoldable pub threadInRange : ℕ → Bool
-threadInRange t = leb 1 t && leb t 64
+threadInRange t = leb 1 t && leb t mostThreads
 
 -- a number of 32 bits, a truth, or a cell, 0 to 255
 unfoldable pub valueInRange : ℕ → Bool
-valueInRange w = if ltb w (2 ^ 32) then true else if ltb w (2 * 2 ^ 32) then leb w (2 ^ 32 + 1) else leb w (2 * 2 ^ 32 + 255)
+valueInRange w = if ltb w truthFrom then true else if ltb w cellFrom then leb w (truthFrom + 1) else leb w (cellFrom + 255)
 
 -- a statement of the file, a back to a place of the file, or a drop
 unfoldable pub itemInRange : List Frame → ℕ → ℕ → Bool
 itemInRange fs n w =
-    if ltb w 1024 then isStatement (frameAt fs w .kind) else
-    if ltb w 2048 then hasPlace n (w - 1024) else
-    eqb w 2048
+    if ltb w backFrom then isStatement (frameAt fs w .kind) else
+    if ltb w dropWord then hasPlace n (w - backFrom) else
+    eqb w dropWord
 
 -- a thread, or a thread that waits for another
 unfoldable pub entryInRange : ℕ → Bool
-entryInRange w = if ltb w 128 then threadInRange w else threadInRange (w % 128) && threadInRange (w / 128)
+entryInRange w = if ltb w waitingFactor then threadInRange w else threadInRange (w % waitingFactor) && threadInRange (w / waitingFactor)
 
 unfoldable pub cellInRange : ℕ → ℕ → Bool
-cellInRange n w = ownerInRange n (w / 2 ^ 34) && valueInRange (w % 2 ^ 34)
+cellInRange n w = ownerInRange n (w / ownerFactor) && valueInRange (w % ownerFactor)
 
 -- ---- the words of a list, a scheduler, a thread
 
@@ -46,34 +48,34 @@ listInRange test most w i (suc j) =
 -- word j of the scheduler whose words begin at i
 unfoldable pub schedulerInRange : List ℕ → ℕ → ℕ → Bool
 schedulerInRange w i j =
-    if ltb j 65 then listInRange threadInRange 64 w i j else
-    listInRange entryInRange 64 w (i + 65) (j - 65)
+    if ltb j listLength then listInRange threadInRange mostThreads w i j else
+    listInRange entryInRange mostThreads w (i + listLength) (j - listLength)
 
 -- word j of the thread whose words begin at i: its place, its starter (0: none), whether it lives, its continuation, its variables
 unfoldable pub threadWordInRange : List Frame → ℕ → List ℕ → ℕ → ℕ → Bool
 threadWordInRange fs n w i j =
-    if eqb j 0 then hasPlace n (getD w i 0) else
-    if eqb j 1 then leb (getD w (i + 1) 0) 64 else
-    if eqb j 2 then leb (getD w (i + 2) 0) 1 else
-    if ltb j 29 then listInRange (itemInRange fs n) 25 w (i + 3) (j - 3) else
-    listInRange valueInRange 25 w (i + 29) (j - 29)
+    if eqb j placeField then hasPlace n (getD w i 0) else
+    if eqb j starterField then leb (getD w (i + starterField) 0) mostThreads else
+    if eqb j livesField then leb (getD w (i + livesField) 0) 1 else
+    if ltb j variablesField then listInRange (itemInRange fs n) mostItems w (i + itemsField) (j - itemsField) else
+    listInRange valueInRange mostVariables w (i + variablesField) (j - variablesField)
 
 -- ---- the words of a state
 
 -- word i: of a scheduler, a thread or a cell that there is, or 0
 unfoldable pub wordInRange : List Frame → ℕ → List ℕ → ℕ → Bool
 wordInRange fs n w i =
-    if eqb i 0 then leb (getD w 0 0) 64 else
-    if eqb i 1 then leb (getD w 1 0) 256 else
-    if ltb i 1042 then
-    (if ltb ((i - 2) / 130) n
-    then schedulerInRange w (2 + 130 * ((i - 2) / 130)) ((i - 2) % 130)
+    if eqb i threadCountAt then leb (getD w threadCountAt 0) mostThreads else
+    if eqb i cellCountAt then leb (getD w cellCountAt 0) mostCells else
+    if ltb i threadsAt then
+    (if ltb ((i - schedulersAt) / schedulerLength) n
+    then schedulerInRange w (schedulersAt + schedulerLength * ((i - schedulersAt) / schedulerLength)) ((i - schedulersAt) % schedulerLength)
     else eqb (getD w i 0) 0) else
-    if ltb i 4562 then
-    (if ltb ((i - 1042) / 55) (getD w 0 0)
-    then threadWordInRange fs n w (1042 + 55 * ((i - 1042) / 55)) ((i - 1042) % 55)
+    if ltb i cellsAt then
+    (if ltb ((i - threadsAt) / threadLength) (getD w threadCountAt 0)
+    then threadWordInRange fs n w (threadsAt + threadLength * ((i - threadsAt) / threadLength)) ((i - threadsAt) % threadLength)
     else eqb (getD w i 0) 0) else
-    if ltb (i - 4562) (getD w 1 0) then cellInRange n (getD w i 0) else eqb (getD w i 0) 0
+    if ltb (i - cellsAt) (getD w cellCountAt 0) then cellInRange n (getD w i 0) else eqb (getD w i 0) 0
 
 -- the test passes at every number below n
 unfoldable pub allBelow : ℕ → (ℕ → Bool) → Bool
@@ -82,4 +84,4 @@ allBelow (suc n) test = test n && allBelow n test
 
 -- the words are as many as they have to be, and none is out of range
 unfoldable pub inRange : List Frame → ℕ → List ℕ → Bool
-inRange fs n w = eqb (length w) 4818 && allBelow 4818 (wordInRange fs n w)
+inRange fs n w = eqb (length w) stateLength && allBelow stateLength (wordInRange fs n w)

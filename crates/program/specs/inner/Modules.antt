@@ -3,13 +3,14 @@ use Prim.Native.Nat.{ℕ}
 use lib.Dec.{ltb}
 use lib.ListN.{length}
 use Rattle.basics.specs.If.{if_then_else_}
+use Rattle.language.specs.Limits.{mostParameters}
 use Rattle.program.specs.Trees.{rootS}
 use Rattle.program.specs.Programs.{Program, moduleAt}
 use Rattle.program.specs.declared.module.ModuleFound.{ModuleFound}
 
 -- the first s of two types
 unfoldable pub parametersIn : ℕ → ℕ
-parametersIn s = if ltb 2 s then 2 else s
+parametersIn s = if ltb mostParameters s then mostParameters else s
 
 -- where there is none, `moduleAt` has no parameter, and frame 0 for a body
 unfoldable pub foundIn : Program → ℕ → ModuleFound

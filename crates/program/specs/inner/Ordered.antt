@@ -3,7 +3,8 @@ use mathlib.Core.List.{List}
 use Prim.Native.Nat.{ℕ, _<_}
 use lib.ListN.{length}
 use Rattle.basics.specs.Members.{All}
-use Rattle.language.specs.Kinds.{NamesPlace, Child, children}
+use Rattle.language.specs.inner.Reads.{NamesPlace}
+use Rattle.language.specs.Kinds.{Child, children}
 use Rattle.language.specs.declared.frame.Frame.{Frame}
 use Rattle.program.specs.Trees.{frameAt}
 

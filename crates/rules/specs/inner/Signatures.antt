@@ -23,8 +23,8 @@ arguedOf (Fault n j) = Argued.fail n j
 abbrev pub signatureWith : ℕ → ℕ → ℕ → Effect → Signature
 signatureWith count first second e = record { types = take count (first ∷ second ∷ []); effect = e }
 
--- a module's signature in one word, from the right: its parameters' types, 16 bits each, its effect,
--- 8 bits with room for 16, and how many parameters
+-- a module's signature in one word, from the right: its parameters' types, 16 bits each, its
+-- effect, 8 bits with room for 16, and how many parameters
 unfoldable pub signatureWord : ℕ → ℕ → ℕ → Effect → ℕ
 signatureWord count first second e = first + second * 2 ^ 16 + e .bits * 2 ^ 32 + count * 2 ^ 48
 

@@ -4,6 +4,7 @@ use Prim.Native.Nat.{ℕ, _+_}
 use lib.Dec.{eqb}
 use lib.ListN.{length}
 use Rattle.basics.specs.If.{if_then_else_}
+use Rattle.language.specs.Limits.{mostListingBytes}
 use Rattle.program.specs.Programs.{Program}
 use Rattle.machine.specs.Runs.{steps}
 use Rattle.stepper.specs.declared.answer.Answer.the-variants as A
@@ -23,13 +24,20 @@ choicesOf bytes = listOf (choicesFrom 0 bytes)
 unfoldable pub stepLines : Program → List ℕ → List ℕ
 stepLines p cs = choiceLines cs (steps p cs)
 
--- behind the check's line, which is 8 bytes
+-- how long the check's line is, and a choice's
+abbrev pub checkLength : ℕ
+checkLength = 8
+
+abbrev pub choiceLength : ℕ
+choiceLength = 14
+
+-- after the check's line
 abbrev pub listedBehind : Behind → List ℕ → List ℕ → ListedOn
-listedBehind b listing out = listedAs (A.Done 0) (8 + length listing) (b .used) (b .words) (written out 8 listing)
+listedBehind b listing out = listedAs (A.Done 0) (checkLength + length listing) (b .used) (b .words) (written out checkLength listing)
 
 -- of a text that refusal n at frame j stops
 unfoldable pub listedRejected : ℕ → ℕ → List ℕ → List ℕ → ListedOn
 listedRejected n j w out =
-    if eqb (length out) 229389
+    if eqb (length out) mostListingBytes
     then listedFrom (A.Rejected n j) (unstepped w) (refusalLine n j) out
     else unlisted (A.Rejected n j) w out

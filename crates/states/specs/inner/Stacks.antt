@@ -1,4 +1,6 @@
--- What the code does to a thread's struct: one item or one variable more or less, another place, the end. No reader has to believe it: each is what the rules do to the thread (proofs/StackLaws; place and end in crate stepper). Assumes nothing: definitions.
+-- What the code does to a thread's struct: one item or one variable more or less, another place,
+-- the end. No reader has to believe it: each is what the rules do to the thread (proofs/StackLaws;
+-- place and end in crate stepper). Assumes nothing: definitions.
 use Prim.Native.Nat.{ℕ, _+_, _-_}
 use lib.ListN.{set}
 use Rattle.states.specs.declared.thread.ThreadWords.{ThreadWords}

@@ -1,11 +1,14 @@
--- What the code makes the fresh state's words of. No reader has to believe it: together they are `pack` of the fresh state (proofs/FreshWords). Assumes nothing: definitions.
+-- What the code makes the fresh state's words of. No reader has to believe it: together they are
+-- `pack` of the fresh state (proofs/FreshWords). Assumes nothing: definitions.
 use mathlib.Core.List.{List, [], _∷_, map}
 use Prim.Native.Nat.{ℕ}
 use lib.Dec.{leb}
 use lib.ListN.{length}
 use Rattle.basics.specs.If.{if_then_else_}
 use Rattle.language.specs.Places.{home}
+use Rattle.language.specs.Limits.{mostVariables, mostCells, mostItems}
 use Rattle.program.specs.Programs.{SharedCell}
+use Rattle.machine.specs.Offsets.{cellsAt}
 use Rattle.machine.specs.Fresh.{firstCell}
 use Rattle.machine.specs.inner.Blocks.{pasted, padded, cellWords}
 use Rattle.machine.specs.Calls.{Called}
@@ -13,7 +16,9 @@ use Rattle.states.specs.declared.thread.ThreadWords.{ThreadWords}
 
 -- the words with the first contents of those cells, at most 256
 unfoldable pub withShared : List ℕ → List SharedCell → List ℕ
-withShared w cs = pasted w 4562 (cellWords (map firstCell cs)) (if leb (length cs) 256 then length cs else 256)
+withShared w cs =
+    pasted w cellsAt (cellWords (map firstCell cs))
+    (if leb (length cs) mostCells then length cs else mostCells)
 
 -- main's thread, with that body, in the code's form
 abbrev pub mainWords : ℕ → ThreadWords
@@ -23,9 +28,9 @@ mainWords body =
       starter = 0;
       alive = 1;
       items = 1;
-      continuation = padded 25 (body ∷ []);
+      continuation = padded mostItems (body ∷ []);
       values = 0;
-      variables = padded 25 [];
+      variables = padded mostVariables [];
     }
 
 -- the answer, the acting thread and the words of a call

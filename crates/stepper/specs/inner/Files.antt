@@ -5,16 +5,18 @@ use mathlib.Core.Bool.{true}
 use Prim.Native.Nat.{ℕ, _-_, _≤_}
 use lib.ListN.{length}
 use Rattle.language.specs.Places.{isScheduler}
+use Rattle.language.specs.Limits.{mostLines, mostCells}
 use Rattle.text.specs.Frames.{framesOf}
 use Rattle.program.specs.Programs.{Program, programOf}
 use Rattle.layout.specs.Faults.{NoFault}
+use Rattle.machine.specs.Offsets.{cellsAt}
 use Rattle.machine.specs.State.{State, threadAt, usedCells}
 use Rattle.machine.specs.Turns.{isSchedulerOf}
 use Rattle.machine.specs.Words.{unpack}
 use Rattle.machine.specs.inner.Ranges.{inRange}
 use Rattle.machine.specs.inner.Blocks.{pasted, cellWords}
 use Rattle.machine.specs.Calls.{Called}
-use Rattle.evaluator.specs.declared.Who.{Who}
+use Rattle.operations.specs.declared.Who.{Who}
 use Rattle.states.specs.inner.Threads.{wordsOf}
 use Rattle.acts.specs.declared.act.Acted.{Acted}
 use Rattle.acts.specs.inner.Fates.{popped, turned, Room}
@@ -32,7 +34,7 @@ steppedOn r w = called (r .answer) (r .thread) w
 -- the frames of a file that passes refusals 1 to 7
 pub record FileWords (frames : List ℕ) : Type 0 where
   pub laid-out : NoFault (framesOf frames)
-  pub few : length frames ≤ 1024
+  pub few : length frames ≤ mostLines
 
 -- the state that words in range are
 abbrev pub stateIn : List ℕ → List ℕ → State
@@ -61,6 +63,6 @@ turnOf frames shared w t =
 -- what the turn comes to, the words with its cells, and that the thread's space has room for the change
 pub record turnOn (a : Acted) (v : List ℕ) (frames : List ℕ) (shared : ℕ) (w : List ℕ) (t : ℕ) : Type 0 where
   pub acted : turned a (popped (wordsOf (threadAt (stateIn frames w) t))) ≡ turnOf frames shared w t .acted
-  pub words : v ≡ pasted w 4562 (turnOf frames shared w t .cells) 256
-  pub whole : length (turnOf frames shared w t .cells) ≡ 256
+  pub words : v ≡ pasted w cellsAt (turnOf frames shared w t .cells) mostCells
+  pub whole : length (turnOf frames shared w t .cells) ≡ mostCells
   pub room : Room (a .change) (wordsOf (threadAt (stateIn frames w) t) .items - 1) (wordsOf (threadAt (stateIn frames w) t) .values)

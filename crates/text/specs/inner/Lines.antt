@@ -4,6 +4,7 @@ use Prim.Native.Nat.{ℕ, suc, _+_, _*_}
 use lib.Dec.{ltb, eqb}
 use lib.ListN.{drop}
 use Rattle.basics.specs.If.{if_then_else_}
+use Rattle.language.specs.Limits.{lineLength, mostLines}
 use Rattle.text.specs.Digits.{digit}
 use Rattle.text.specs.Frames.{frameOfWord}
 use Rattle.text.specs.declared.line.Line.{Line}
@@ -29,4 +30,4 @@ frameOfLine (WrongAt k) = NoFrame
 
 -- the frame i of a text, if its line is whole; proofs/FrameLaws shows that a text that reads as frames has these
 unfoldable pub frameRead : List ℕ → ℕ → FrameRead
-frameRead bs i = if ltb i 1024 then frameOfLine (lineRead (drop (i * 17) bs)) else NoFrame
+frameRead bs i = if ltb i mostLines then frameOfLine (lineRead (drop (i * lineLength) bs)) else NoFrame

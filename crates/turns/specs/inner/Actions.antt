@@ -1,5 +1,5 @@
--- The act of a turn, from what it sees of its thread: what the contracts of the code cite. No reader
--- has to believe it: made in a thread that looks like the view, the act is the turn of Acts
+-- The act of a turn, from what it sees of its thread: what the contracts of the code cite. No
+-- reader has to believe it: made in a thread that looks like the view, the act is the turn of Acts
 -- (proofs/TurnLaws). Assumes nothing: definitions.
 use mathlib.Core.List.{List, [], _∷_}
 use mathlib.Core.Bool.{Bool, true, false, _&&_}
@@ -9,7 +9,10 @@ use Rattle.basics.specs.If.{if_then_else_}
 use Rattle.language.specs.Places.{private}
 use Rattle.language.specs.declared.Place.{Place}
 use Rattle.language.specs.declared.frame.Frame.{Frame}
+use Rattle.language.specs.Limits.{mostVariables, mostItems}
+use Rattle.language.specs.Refusals.{stuck}
 use Rattle.program.specs.Trees.{Expr, Stmt, nothing, seq, doAt, start, startWait, cooperate, letIn, store, ifElse, while, rootS, statementAt}
+use Rattle.machine.specs.Offsets.{backFrom, dropWord}
 use Rattle.machine.specs.Evaluation.{eval, storing}
 use Rattle.machine.specs.Values.{answerOf}
 use Rattle.machine.specs.Words.{valueWord}
@@ -17,8 +20,9 @@ use Rattle.machine.specs.declared.value.Value.{Value}
 use Rattle.machine.specs.declared.value.Value.the-variants.{Number, Truth, Cell}
 use Rattle.machine.specs.declared.value.Outcome.{Outcome}
 use Rattle.machine.specs.declared.value.Outcome.the-variants.{Is, Foreign, Spent, Stuck}
-use Rattle.evaluator.specs.declared.Who.{Who}
-use Rattle.evaluator.specs.inner.Results.{Result, hereOf, onWords}
+use Rattle.operations.specs.declared.Who.{Who}
+use Rattle.operations.specs.inner.Results.{Result}
+use Rattle.evaluator.specs.inner.Results.{hereOf, onWords}
 use Rattle.acts.specs.declared.act.Fate.the-variants.{Stays, Leaves, Joins, Starts}
 use Rattle.acts.specs.declared.act.Change.{Change}
 use Rattle.acts.specs.declared.act.Change.the-variants.{Same, Item, Items, Let, Drop, Move, Enter, End}
@@ -35,23 +39,23 @@ placeAt q = record { number = q }
 
 unfoldable pub oneMore : View → ℕ → ℕ → Acted
 oneMore v n item =
-    if leb 25 (v .items) then refusedWith 20 n else
+    if leb mostItems (v .items) then refusedWith stuck n else
     actedWith Stays (Item item) n
 
 unfoldable pub twoMore : View → ℕ → ℕ → ℕ → Acted
 twoMore v n top below =
-    if leb 24 (v .items) then refusedWith 20 n else
+    if leb (mostItems - 1) (v .items) then refusedWith stuck n else
     actedWith Stays (Items top below) n
 
 unfoldable pub letMore : View → ℕ → ℕ → ℕ → Acted
 letMore v n x body =
-    if leb 25 (v .values) then refusedWith 20 n else
-    if leb 24 (v .items) then refusedWith 20 n else
+    if leb mostVariables (v .values) then refusedWith stuck n else
+    if leb (mostItems - 1) (v .items) then refusedWith stuck n else
     actedWith Stays (Let x body) n
 
 unfoldable pub dropOne : View → ℕ → Acted
 dropOne v n =
-    if eqb (v .values) 0 then refusedWith 20 n else
+    if eqb (v .values) 0 then refusedWith stuck n else
     actedWith Stays Drop n
 
 -- ---- the thread goes to place q: a move to one's own place is none
@@ -73,14 +77,14 @@ unlinkedAgain from q = eqb (from .number) private && eqb (q .number) private
 -- the body above 'back to here'
 unfoldable pub doThere : View → ℕ → Place → ℕ → Acted
 doThere v n q body =
-    if unlinkedAgain (v .place) q then refusedWith 20 n else
-    if leb 24 (v .items) then refusedWith 20 n else
-    goTo (v .place) n q (Items body (1024 + v .place .number)) (Enter q body)
+    if unlinkedAgain (v .place) q then refusedWith stuck n else
+    if leb (mostItems - 1) (v .items) then refusedWith stuck n else
+    goTo (v .place) n q (Items body (backFrom + v .place .number)) (Enter q body)
 
 -- to the end of the next list
 unfoldable pub cooperation : View → ℕ → Acted
 cooperation v n =
-    if eqb (v .place .number) private then refusedWith 20 n else
+    if eqb (v .place .number) private then refusedWith stuck n else
     actedWith (Joins (v .place)) Same n
 
 -- ---- behind an evaluation, with n cells in use: its refusal stands, or its value decides
@@ -95,8 +99,8 @@ afterValue Stuck n k = refusedWith (answerOf Stuck) n
 abbrev pub byTruth : Value → ℕ → Acted → Acted → Acted
 byTruth (Truth true) n a b = a
 byTruth (Truth false) n a b = b
-byTruth (Number m) n a b = refusedWith 20 n
-byTruth (Cell c) n a b = refusedWith 20 n
+byTruth (Number m) n a b = refusedWith stuck n
+byTruth (Cell c) n a b = refusedWith stuck n
 
 -- 16, 17, 18 and 19
 abbrev pub letAfter : View → ℕ → ℕ → Value → Acted
@@ -184,8 +188,8 @@ statementAct who v vs n ws (while i x a) =
 -- the item that the word is; the view is of those below it
 unfoldable pub itemAct : List Frame → Who → View → ℕ → List ℕ → ℕ → List ℕ → ActOn
 itemAct fs who v item vs n ws =
-    if ltb item 1024 then statementAct who v vs n ws (statementAt fs item) else
-    if ltb item 2048 then actOn (goBack v n (placeAt (item - 1024))) ws else
+    if ltb item backFrom then statementAct who v vs n ws (statementAt fs item) else
+    if ltb item dropWord then actOn (goBack v n (placeAt (item - backFrom))) ws else
     actOn (dropOne v n) ws
 
 -- without the top item

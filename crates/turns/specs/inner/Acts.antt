@@ -1,4 +1,5 @@
--- What a turn comes to, on the words of the thread and of the cells. No reader has to believe it: crate stepper shows that a turn committed is the step of the rules. Assumes nothing: definitions.
+-- What a turn comes to, on the words of the thread and of the cells. No reader has to believe it:
+-- crate stepper shows that a turn committed is the step of the rules. Assumes nothing: definitions.
 use mathlib.Core.Path.{_≡_}
 use mathlib.Core.List.{List, [], _∷_}
 use mathlib.Core.Bool.{Bool, true, false, _&&_}
@@ -6,19 +7,23 @@ use Prim.Native.Nat.{ℕ, _+_, _-_, _≤_}
 use lib.Dec.{ltb, leb, eqb}
 use lib.ListN.{length, getD, take}
 use Rattle.basics.specs.If.{if_then_else_}
-use Rattle.language.specs.Places.{private}
+use Rattle.language.specs.Places.{private, lastScheduler}
 use Rattle.language.specs.declared.frame.Frame.{Frame}
+use Rattle.language.specs.Limits.{mostVariables, mostItems}
+use Rattle.language.specs.Refusals.{cellsSpent, foreign, stuck}
 use Rattle.text.specs.Frames.{framesOf}
 use Rattle.program.specs.Trees.{Expr, Stmt, nothing, seq, doAt, start, startWait, cooperate, letIn, store, ifElse, while, rootS, statementAt}
 use Rattle.program.specs.inner.Ordered.{Ordered, Placed}
+use Rattle.machine.specs.Offsets.{backFrom, dropWord}
 use Rattle.machine.specs.Evaluation.{eval, storing}
 use Rattle.machine.specs.Words.{valueWord}
 use Rattle.machine.specs.declared.value.Value.{Value}
 use Rattle.machine.specs.declared.value.Value.the-variants.{Number, Truth, Cell}
 use Rattle.machine.specs.declared.value.Outcome.{Outcome}
 use Rattle.machine.specs.declared.value.Outcome.the-variants.{Is, Foreign, Spent, Stuck}
-use Rattle.evaluator.specs.declared.Who.{Who}
-use Rattle.evaluator.specs.inner.Results.{Result, hereOf, onWords, CellWords, ValueWords}
+use Rattle.operations.specs.declared.Who.{Who}
+use Rattle.operations.specs.inner.Results.{Result}
+use Rattle.evaluator.specs.inner.Results.{hereOf, onWords, CellWords, ValueWords}
 use Rattle.states.specs.declared.thread.ThreadWords.{ThreadWords}
 use Rattle.states.specs.inner.Stacks.{pushItem, popItem, pushValue, popValue, moveTo, ended}
 use Rattle.acts.specs.declared.act.Fate.the-variants.{Stays, Leaves, Joins, Starts}
@@ -27,22 +32,27 @@ use Rattle.acts.specs.inner.Fates.{Turned, actedIn, refusedIn, popped, turned, 
 use Rattle.turns.specs.declared.view.View.{View}
 use Rattle.turns.specs.declared.start.Request.{Request}
 
--- ---- the thread stays: with one item more, with two, with a variable and its body, with a variable less
+-- ---- the thread stays: with one item more, with two, with a variable and its body, with a
+-- variable less
 
 unfoldable pub oneIn : ThreadWords → ℕ → ℕ → Turned
-oneIn th n a = if leb 25 (th .items) then refusedIn 20 th n else actedIn Stays (pushItem a th) n
+oneIn th n a =
+    if leb mostItems (th .items) then refusedIn stuck th n else
+    actedIn Stays (pushItem a th) n
 
 unfoldable pub twoIn : ThreadWords → ℕ → ℕ → ℕ → Turned
-twoIn th n top below = if leb 24 (th .items) then refusedIn 20 th n else actedIn Stays (pushItem top (pushItem below th)) n
+twoIn th n top below =
+    if leb (mostItems - 1) (th .items) then refusedIn stuck th n else
+    actedIn Stays (pushItem top (pushItem below th)) n
 
 unfoldable pub letsIn : ThreadWords → ℕ → ℕ → ℕ → Turned
 letsIn th n v body =
-    if leb 25 (th .values) then refusedIn 20 th n else
-    if leb 24 (th .items) then refusedIn 20 th n else
-    actedIn Stays (pushItem body (pushItem 2048 (pushValue v th))) n
+    if leb mostVariables (th .values) then refusedIn stuck th n else
+    if leb (mostItems - 1) (th .items) then refusedIn stuck th n else
+    actedIn Stays (pushItem body (pushItem dropWord (pushValue v th))) n
 
 unfoldable pub dropsIn : ThreadWords → ℕ → Turned
-dropsIn th n = if eqb (th .values) 0 then refusedIn 20 th n else actedIn Stays (popValue th) n
+dropsIn th n = if eqb (th .values) 0 then refusedIn stuck th n else actedIn Stays (popValue th) n
 
 -- ---- the thread goes to place q, from that one
 
@@ -54,28 +64,28 @@ goesIn from th n q =
 
 unfoldable pub doesIn : ThreadWords → ℕ → ℕ → ℕ → Turned
 doesIn th n q body =
-    if eqb (th .place) private && eqb q private then refusedIn 20 th n else
-    if leb 24 (th .items) then refusedIn 20 th n else
-    goesIn (th .place) (pushItem body (pushItem (1024 + th .place) th)) n q
+    if eqb (th .place) private && eqb q private then refusedIn stuck th n else
+    if leb (mostItems - 1) (th .items) then refusedIn stuck th n else
+    goesIn (th .place) (pushItem body (pushItem (backFrom + th .place) th)) n q
 
 unfoldable pub cooperatesIn : ThreadWords → ℕ → Turned
 cooperatesIn th n =
-    if eqb (th .place) private then refusedIn 20 th n else
+    if eqb (th .place) private then refusedIn stuck th n else
     actedIn (Joins (record { number = th .place })) th n
 
 -- ---- behind an evaluation
 
 abbrev pub thenActs : Outcome → ThreadWords → ℕ → (Value → Turned) → Turned
 thenActs (Is v) th n k = k v
-thenActs Foreign th n k = refusedIn 19 th n
-thenActs Spent th n k = refusedIn 17 th n
-thenActs Stuck th n k = refusedIn 20 th n
+thenActs Foreign th n k = refusedIn foreign th n
+thenActs Spent th n k = refusedIn cellsSpent th n
+thenActs Stuck th n k = refusedIn stuck th n
 
 abbrev pub byTruthIn : Value → ThreadWords → ℕ → Turned → Turned → Turned
 byTruthIn (Truth true) th n a b = a
 byTruthIn (Truth false) th n a b = b
-byTruthIn (Number m) th n a b = refusedIn 20 th n
-byTruthIn (Cell c) th n a b = refusedIn 20 th n
+byTruthIn (Number m) th n a b = refusedIn stuck th n
+byTruthIn (Cell c) th n a b = refusedIn stuck th n
 
 -- with the words of the cells
 pub record ActedOn : Type 0 where
@@ -96,41 +106,65 @@ abbrev pub storedIn : Who → ThreadWords → Expr → Expr → ℕ → List ℕ
 storedIn who th x y n ws = onWords (storing (hereOf who (variablesIn th)) x y) n ws
 
 abbrev pub letsOn : ThreadWords → ℕ → Result → ActedOn
-letsOn th body r = actedOn (thenActs (r .outcome) th (r .used) (λ v. letsIn th (r .used) (valueWord v) body)) (r .words)
+letsOn th body r =
+    actedOn
+    (thenActs (r .outcome) th (r .used) (λ v. letsIn th (r .used) (valueWord v) body))
+    (r .words)
 
 abbrev pub storesOn : ThreadWords → Result → ActedOn
-storesOn th r = actedOn (thenActs (r .outcome) th (r .used) (λ v. actedIn Stays th (r .used))) (r .words)
+storesOn th r =
+    actedOn (thenActs (r .outcome) th (r .used) (λ v. actedIn Stays th (r .used))) (r .words)
 
 abbrev pub choosesOn : ThreadWords → ℕ → ℕ → Result → ActedOn
 choosesOn th a b r =
-    actedOn (thenActs (r .outcome) th (r .used) (λ v. byTruthIn v th (r .used) (oneIn th (r .used) a) (oneIn th (r .used) b))) (r .words)
+    actedOn
+    (thenActs (r .outcome) th (r .used)
+    (λ v. byTruthIn v th (r .used) (oneIn th (r .used) a) (oneIn th (r .used) b)))
+    (r .words)
 
 abbrev pub loopsOn : ThreadWords → ℕ → ℕ → Result → ActedOn
 loopsOn th body loop r =
-    actedOn (thenActs (r .outcome) th (r .used) (λ v. byTruthIn v th (r .used) (twoIn th (r .used) body loop) (actedIn Stays th (r .used)))) (r .words)
+    actedOn
+    (thenActs (r .outcome) th (r .used)
+    (λ v. byTruthIn v th (r .used) (twoIn th (r .used) body loop) (actedIn Stays th (r .used))))
+    (r .words)
 
 -- ---- a start, with the words of its arguments
 
 abbrev pub startsWith : Request → ThreadWords → ℕ → ℕ → ℕ → ℕ → Turned
 startsWith q th n given first second =
-    record { fate = Starts (q .waits) (q .target); thread = th; used = n; given = given; first = first; second = second }
+    record {
+      fate = Starts (q .waits) (q .target);
+      thread = th;
+      used = n;
+      given = given;
+      first = first;
+      second = second;
+    }
 
 abbrev pub oneArgument : Request → ThreadWords → Result → ActedOn
-oneArgument q th r = actedOn (thenActs (r .outcome) th (r .used) (λ v. startsWith q th (r .used) 1 (valueWord v) 0)) (r .words)
+oneArgument q th r =
+    actedOn
+    (thenActs (r .outcome) th (r .used) (λ v. startsWith q th (r .used) 1 (valueWord v) 0))
+    (r .words)
 
 abbrev pub lastArgument : Request → ThreadWords → ℕ → Result → ActedOn
-lastArgument q th first r = actedOn (thenActs (r .outcome) th (r .used) (λ v. startsWith q th (r .used) 2 first (valueWord v))) (r .words)
+lastArgument q th first r =
+    actedOn
+    (thenActs (r .outcome) th (r .used) (λ v. startsWith q th (r .used) 2 first (valueWord v)))
+    (r .words)
 
 -- behind the first of two arguments
 abbrev pub thenOn : Outcome → ThreadWords → ℕ → List ℕ → (Value → ActedOn) → ActedOn
 thenOn (Is v) th n ws k = k v
-thenOn Foreign th n ws k = actedOn (refusedIn 19 th n) ws
-thenOn Spent th n ws k = actedOn (refusedIn 17 th n) ws
-thenOn Stuck th n ws k = actedOn (refusedIn 20 th n) ws
+thenOn Foreign th n ws k = actedOn (refusedIn foreign th n) ws
+thenOn Spent th n ws k = actedOn (refusedIn cellsSpent th n) ws
+thenOn Stuck th n ws k = actedOn (refusedIn stuck th n) ws
 
 abbrev pub twoArguments : Who → Request → ThreadWords → Expr → Result → ActedOn
 twoArguments who q th y r =
-    thenOn (r .outcome) th (r .used) (r .words) (λ v. lastArgument q th (valueWord v) (evaluatedIn who th y (r .used) (r .words)))
+    thenOn (r .outcome) th (r .used) (r .words)
+    (λ v. lastArgument q th (valueWord v) (evaluatedIn who th y (r .used) (r .words)))
 
 abbrev pub startsIn : Who → Request → ThreadWords → ℕ → List ℕ → List Expr → ActedOn
 startsIn who q th n ws [] = actedOn (startsWith q th n 0 0 0) ws
@@ -151,14 +185,15 @@ statementIn who th n ws (startWait i m xs) = startsIn who (request true m) th n 
 statementIn who th n ws (cooperate i) = actedOn (cooperatesIn th n) ws
 statementIn who th n ws (letIn i x a) = letsOn th (rootS a) (evaluatedIn who th x n ws)
 statementIn who th n ws (store i x y) = storesOn th (storedIn who th x y n ws)
-statementIn who th n ws (ifElse i x a b) = choosesOn th (rootS a) (rootS b) (evaluatedIn who th x n ws)
+statementIn who th n ws (ifElse i x a b) =
+    choosesOn th (rootS a) (rootS b) (evaluatedIn who th x n ws)
 statementIn who th n ws (while i x a) = loopsOn th (rootS a) i (evaluatedIn who th x n ws)
 
 -- the item that the word is, on top of a continuation that no longer has it
 unfoldable pub itemIn : List Frame → Who → ThreadWords → ℕ → List ℕ → ℕ → ActedOn
 itemIn fs who th n ws item =
-    if ltb item 1024 then statementIn who th n ws (statementAt fs item) else
-    if ltb item 2048 then actedOn (goesIn (th .place) th n (item - 1024)) ws else
+    if ltb item backFrom then statementIn who th n ws (statementAt fs item) else
+    if ltb item dropWord then actedOn (goesIn (th .place) th n (item - backFrom)) ws else
     actedOn (dropsIn th n) ws
 
 abbrev pub topIn : ThreadWords → ℕ
@@ -191,8 +226,8 @@ pub record WholeTurn (a : Acted) (us : List ℕ) (v : View) (item : ℕ) (vs : L
 pub record TurnWords (frames : List ℕ) (v : View) (vs : List ℕ) (n : ℕ) (ws : List ℕ) : Type 0 where
   pub ordered : Ordered (framesOf frames)
   pub placed : Placed (framesOf frames)
-  pub place : v .place .number ≤ 9
-  pub items : v .items ≤ 25
+  pub place : v .place .number ≤ lastScheduler
+  pub items : v .items ≤ mostItems
   pub count : length vs ≡ v .values
   pub variables : ValueWords vs
   pub cells : CellWords n ws

@@ -16,17 +16,17 @@ use Rattle.evaluator.proofs.evaluation.+number_at+truth_at+value_at.Lts
 use Rattle.evaluator.proofs.evaluation.value_at.Reads as value-at
 use Rattle.evaluator.proofs.evaluation.value_at.Kinds as value-at-kinds
 use Rattle.evaluator.proofs.evaluation.+number_at+truth_at+value_at.Lts-value_at as value-at-lts
-use Rattle.evaluator.proofs.node.node_at.Reads as node-at-reads
-use Rattle.evaluator.proofs.operation.answer_of.Reads as answer-of-reads
-use Rattle.evaluator.proofs.operation.as_answer.Reads as as-answer-reads
-use Rattle.evaluator.proofs.operation.as_number.Reads as as-number-reads
-use Rattle.evaluator.proofs.operation.branch.Reads as branch-reads
-use Rattle.evaluator.proofs.operation.leaf.Reads as leaf-reads
-use Rattle.evaluator.proofs.operation.number_stops.Reads as number-stops-reads
-use Rattle.evaluator.proofs.operation.operated.Reads as operated-reads
-use Rattle.evaluator.proofs.operation.stops.Reads as stops-reads
-use Rattle.evaluator.proofs.operation.then_truth.Reads as then-truth-reads
-use Rattle.evaluator.proofs.operation.then_use.Reads as then-use-reads
+use Rattle.evaluator.proofs.evaluation.node_at.Reads as node-at-reads
+use Rattle.operations.proofs.operation.answer_of.Reads as answer-of-reads
+use Rattle.operations.proofs.operand.as_answer.Reads as as-answer-reads
+use Rattle.operations.proofs.operand.as_number.Reads as as-number-reads
+use Rattle.operations.proofs.operand.branch.Reads as branch-reads
+use Rattle.operations.proofs.operation.leaf.Reads as leaf-reads
+use Rattle.operations.proofs.operand.number_stops.Reads as number-stops-reads
+use Rattle.operations.proofs.operand.operated.Reads as operated-reads
+use Rattle.operations.proofs.operand.stops.Reads as stops-reads
+use Rattle.operations.proofs.operand.then_truth.Reads as then-truth-reads
+use Rattle.operations.proofs.operation.then_use.Reads as then-use-reads
 use Rattle.evaluator.proofs.evaluation.+number_at+truth_at+value_at.{statement}
 use Rattle.evaluator.proofs.evaluation.+number_at+truth_at+value_at.Tie.{close}
 

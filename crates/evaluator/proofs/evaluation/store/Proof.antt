@@ -1,6 +1,6 @@
 -- `store` meets its contract. Assumes nothing.
 use denote.Ref.{now}
-use Rattle.evaluator.specs.inner.Results.{after}
+use Rattle.operations.specs.inner.Results.{after}
 use Rattle.evaluator.proofs.Agreement.{store-runs, store-keeps}
 use borrow.Author.Needs.{needs}
 use Rattle.evaluator.proofs.evaluation.store.Statement.{statement}

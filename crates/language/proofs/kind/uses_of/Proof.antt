@@ -10,11 +10,29 @@ enum-told c = search needs
 uses-are-requires : tie.Need-uses-are-requires
 uses-are-requires c κs = search needs
 
+enum-known-k : tie.Need-enum-known-k
+enum-known-k c = search needs
+
+declaration-uses-requires : tie.Need-declaration-uses-requires
+declaration-uses-requires c κs = search needs
+
 enum-told-2 : tie.Need-enum-told-2
 enum-told-2 c = search needs
 
 uses-are-requires-2 : tie.Need-uses-are-requires-2
 uses-are-requires-2 c κs = search needs
+
+enum-known-k-2 : tie.Need-enum-known-k-2
+enum-known-k-2 c = search needs
+
+statement-uses-requires : tie.Need-statement-uses-requires
+statement-uses-requires c κs = search needs
+
+enum-known-k-3 : tie.Need-enum-known-k-3
+enum-known-k-3 c = search needs
+
+expression-uses-requires : tie.Need-expression-uses-requires
+expression-uses-requires c κs = search needs
 
 enum-told-3 : tie.Need-enum-told-3
 enum-told-3 c = search needs
@@ -22,29 +40,11 @@ enum-told-3 c = search needs
 uses-are-requires-3 : tie.Need-uses-are-requires-3
 uses-are-requires-3 c κs = search needs
 
-enum-known-k : tie.Need-enum-known-k
-enum-known-k c = search needs
-
-statement-uses-requires : tie.Need-statement-uses-requires
-statement-uses-requires c κs = search needs
-
-enum-known-k-2 : tie.Need-enum-known-k-2
-enum-known-k-2 c = search needs
-
-expression-uses-requires : tie.Need-expression-uses-requires
-expression-uses-requires c κs = search needs
-
-enum-told-4 : tie.Need-enum-told-4
-enum-told-4 c = search needs
-
-uses-are-requires-4 : tie.Need-uses-are-requires-4
-uses-are-requires-4 c κs = search needs
-
 returns : tie.Need-returns
 returns c = search kind-row
 
 returns-2 : tie.Need-returns-2
-returns-2 c = search kind-row
+returns-2 c = search needs
 
 returns-3 : tie.Need-returns-3
 returns-3 c = search kind-row
@@ -64,16 +64,16 @@ uses-of-spec =
     (tie.spec
     enum-told
     uses-are-requires
+    enum-known-k
+    declaration-uses-requires
     enum-told-2
     uses-are-requires-2
+    enum-known-k-2
+    statement-uses-requires
+    enum-known-k-3
+    expression-uses-requires
     enum-told-3
     uses-are-requires-3
-    enum-known-k
-    statement-uses-requires
-    enum-known-k-2
-    expression-uses-requires
-    enum-told-4
-    uses-are-requires-4
     returns
     returns-2
     returns-3

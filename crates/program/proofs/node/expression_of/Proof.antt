@@ -35,10 +35,10 @@ enum-told-9 : tie.Need-enum-told-9
 enum-told-9 c = search needs
 
 returns : tie.Need-returns
-returns c = search needs
+returns c = search expression-row
 
 returns-2 : tie.Need-returns-2
-returns-2 c = search needs
+returns-2 c = search expression-row
 
 returns-3 : tie.Need-returns-3
 returns-3 c = search expression-row

@@ -7,23 +7,23 @@ use Rattle.program.proofs.node.statement_node.Tie as tie
 enum-told : tie.Need-enum-told
 enum-told c = search needs
 
-enum-told-2 : tie.Need-enum-told-2
-enum-told-2 c = search needs
-
-enum-told-3 : tie.Need-enum-told-3
-enum-told-3 c = search needs
-
 enum-known-kind : tie.Need-enum-known-kind
 enum-known-kind c = search needs
 
-statement-of-requires : tie.Need-statement-of-requires
-statement-of-requires c κs = search statement-named
+enum-told-2 : tie.Need-enum-told-2
+enum-told-2 c = search needs
 
 enum-known-kind-2 : tie.Need-enum-known-kind-2
 enum-known-kind-2 c = search needs
 
-enum-told-4 : tie.Need-enum-told-4
-enum-told-4 c = search needs
+statement-of-requires : tie.Need-statement-of-requires
+statement-of-requires c κs = search statement-named
+
+enum-known-kind-3 : tie.Need-enum-known-kind-3
+enum-known-kind-3 c = search needs
+
+enum-told-3 : tie.Need-enum-told-3
+enum-told-3 c = search needs
 
 returns : tie.Need-returns
 returns c = search needs
@@ -48,12 +48,12 @@ statement-node-spec =
     tie.close
     (tie.spec
     enum-told
-    enum-told-2
-    enum-told-3
     enum-known-kind
-    statement-of-requires
+    enum-told-2
     enum-known-kind-2
-    enum-told-4
+    statement-of-requires
+    enum-known-kind-3
+    enum-told-3
     returns
     returns-2
     returns-3

@@ -1,6 +1,6 @@
 -- `run_listing` meets its contract. Assumes nothing.
 use borrow.Author.Needs.{needs}
-use Rattle.rules.proofs.CheckLaws.{check-room, check-length}
+use Rattle.checker.proofs.CheckLaws.{check-room, check-length}
 use Rattle.stepper.proofs.AnswerLaws.{text-file}
 use Rattle.runs.proofs.TextListings.{list-rejected, list-short-state, list-short-out, list-accepted}
 use Rattle.runs.proofs.printing.run_listing.Statement.{statement}

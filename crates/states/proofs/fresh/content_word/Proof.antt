@@ -4,6 +4,9 @@ use Rattle.states.proofs.FreshLaws.{content-laws}
 use Rattle.states.proofs.fresh.content_word.Statement.{statement}
 use Rattle.states.proofs.fresh.content_word.Tie as tie
 
+is-cell-requires : tie.Need-is-cell-requires
+is-cell-requires c κs = search needs
+
 add-result : tie.Need-add-result
 add-result c = search needs
 
@@ -20,4 +23,5 @@ returns-4 : tie.Need-returns-4
 returns-4 c = search content-laws
 
 pub content-word-spec : {M : Type 1} → statement M
-content-word-spec = tie.close (tie.spec add-result returns returns-2 returns-3 returns-4)
+content-word-spec =
+    tie.close (tie.spec is-cell-requires add-result returns returns-2 returns-3 returns-4)

@@ -1,6 +1,6 @@
 -- `thread::load_run` meets its contract. Assumes nothing.
 use Rattle.machine.proofs.WordLaws.{pasted-zero, part-at, part-length}
-use Rattle.states.proofs.PastedLaws.{fill-more, fill-all}
+use Rattle.machine.proofs.PastedLaws.{fill-more, fill-all}
 use Rattle.machine.specs.inner.Blocks.{part, pasted}
 use Prim.Native.Nat.{_≤_, _-_}
 use lib.ListN.{length, length-set}

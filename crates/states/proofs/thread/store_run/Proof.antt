@@ -1,7 +1,7 @@
 -- `thread::store_run` meets its contract. Assumes nothing.
 use Rattle.machine.proofs.WordLaws.{pasted-zero, pasted-more}
 use Rattle.machine.specs.inner.Blocks.{pasted}
-use Rattle.states.proofs.PastedLaws.{pasted-end}
+use Rattle.machine.proofs.PastedLaws.{pasted-end}
 use Prim.Native.Nat.{_≤_, _-_}
 use lib.ListN.{length, length-set}
 use borrow.Author.Needs.{needs}

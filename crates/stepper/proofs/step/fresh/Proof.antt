@@ -1,6 +1,6 @@
 -- `fresh` meets its contract. Assumes nothing.
 use borrow.Author.Needs.{needs}
-use Rattle.rules.proofs.CheckLaws.{check-room, check-length}
+use Rattle.checker.proofs.CheckLaws.{check-room, check-length}
 use Rattle.stepper.proofs.AnswerLaws.{fresh-rejected, fresh-wrong, fresh-done}
 use Rattle.stepper.proofs.step.fresh.Statement.{statement}
 use Rattle.stepper.proofs.step.fresh.Tie as tie

@@ -1,6 +1,6 @@
 -- `step` meets its contract. Assumes nothing.
 use borrow.Author.Needs.{needs}
-use Rattle.rules.proofs.CheckLaws.{check-room, check-length}
+use Rattle.checker.proofs.CheckLaws.{check-room, check-length}
 use Rattle.stepper.proofs.AnswerLaws.{text-file, step-rejected, step-done}
 use Rattle.stepper.proofs.step.step.Statement.{statement}
 use Rattle.stepper.proofs.step.step.Tie as tie

@@ -73,9 +73,6 @@ cooperates-requires c κs = search needs
 enum-known-a-2 : tie.Need-enum-known-a-2
 enum-known-a-2 c = search needs
 
-cast-evaluate : tie.Need-cast-evaluate
-cast-evaluate c = search needs
-
 evaluate-requires : tie.Need-evaluate-requires
 evaluate-requires c κs =
     let at = c .before .before .before .before .before .before .before .before .before .before in
@@ -91,12 +88,6 @@ lets-after-requires c κs = search needs
 enum-known-a-3 : tie.Need-enum-known-a-3
 enum-known-a-3 c = search needs
 
-cast-store : tie.Need-cast-store
-cast-store c = search needs
-
-cast-store-2 : tie.Need-cast-store-2
-cast-store-2 c = search needs
-
 store-requires : tie.Need-store-requires
 store-requires c κs =
     let at = c .before .before .before .before .before .before .before .before .before .before in
@@ -108,9 +99,6 @@ stores-after-requires c κs = search needs
 
 enum-known-a-4 : tie.Need-enum-known-a-4
 enum-known-a-4 c = search needs
-
-cast-evaluate-2 : tie.Need-cast-evaluate-2
-cast-evaluate-2 c = search needs
 
 evaluate-requires-2 : tie.Need-evaluate-requires-2
 evaluate-requires-2 c κs =
@@ -129,9 +117,6 @@ chooses-after-requires c κs = search needs
 
 enum-known-a-5 : tie.Need-enum-known-a-5
 enum-known-a-5 c = search needs
-
-cast-evaluate-3 : tie.Need-cast-evaluate-3
-cast-evaluate-3 c = search needs
 
 evaluate-requires-3 : tie.Need-evaluate-requires-3
 evaluate-requires-3 c κs =
@@ -217,23 +202,18 @@ act-statement-spec =
     enum-told-2
     cooperates-requires
     enum-known-a-2
-    cast-evaluate
     evaluate-requires
     cast-lets-after
     lets-after-requires
     enum-known-a-3
-    cast-store
-    cast-store-2
     store-requires
     stores-after-requires
     enum-known-a-4
-    cast-evaluate-2
     evaluate-requires-2
     cast-chooses-after
     cast-chooses-after-2
     chooses-after-requires
     enum-known-a-5
-    cast-evaluate-3
     evaluate-requires-3
     cast-loops-after
     loops-after-requires

@@ -1,0 +1,210 @@
+-- What the rules find of a statement, from the node at its root and what they find of its children: one law for each arm of `conduct_of`, and those of its helpers. Assumes nothing.
+use mathlib.Core.Path.{_≡_, refl, sym, ap, _∙_}
+use mathlib.Core.Bool.{Bool, true, false, not}
+use mathlib.Core.List.{List, [], _∷_, _++_, map}
+use Prim.Native.Nat.{ℕ, zero, suc, _+_, _<_}
+use native.Mathlib.Numerals.{add-one}
+use native.Mathlib.Omega.{arith}
+use lib.ListN.{length, take, set}
+use lib.Seq.{take-suc-set}
+use lib.Dec.{eqb}
+use Rattle.basics.proofs.Ifs.{if-all}
+use Rattle.language.specs.Places.{Standing, linked, unlinked, standingAt}
+use Rattle.language.specs.Effects.{noEffect}
+use Rattle.language.specs.declared.Place.{Place}
+use Rattle.language.specs.declared.effect.Effect.{Effect}
+use Rattle.language.specs.declared.kind.StatementKind.{StatementKind}
+use Rattle.language.specs.declared.kind.StatementKind.the-variants as S
+use Rattle.language.specs.declared.kind.Kind.{Kind}
+use Rattle.language.specs.declared.kind.Kind.the-variants.{Header, Declared, Module, Statement, Expression, Unknown}
+use Rattle.language.specs.declared.frame.Frame.{Frame}
+use Rattle.text.specs.Frames.{framesOf}
+use Rattle.program.specs.Trees.{frameAt, expressionAt, arguments, statementOf, statementAt}
+use Rattle.program.proofs.Decoding.{statement-at}
+use Rattle.layout.specs.inner.Scope.{Room}
+use Rattle.rules.specs.Rules.{Setting, Signature}
+use Rattle.rules.specs.inner.Checking.{Argued, argue, typesIn, isLinked, startRule, cooperateRule, seqRule, doRule, joinRule, letRule, storeRule, ifElseRule, whileRule, runIn}
+use Rattle.rules.specs.inner.Standings.{standing}
+use Rattle.rules.specs.inner.Signatures.{noArguments, arguedOf, signatureOf}
+use Rattle.program.specs.inner.Nodes.{statementNodeOf, statementNodeIn}
+use Rattle.checker.specs.inner.Frames.{FrameIn}
+use Rattle.rules.specs.declared.start.Arguments.{Arguments}
+use Rattle.rules.specs.declared.start.Arguments.the-variants as A
+use Rattle.program.specs.declared.node.StatementNode.{StatementNode}
+use Rattle.program.specs.declared.node.StatementNode.the-variants as Y
+use Rattle.rules.specs.declared.finding.Typing.{Typing}
+use Rattle.rules.specs.declared.finding.Typing.the-variants.{Typed, Untyped}
+use Rattle.rules.specs.declared.finding.Conduct.{Conduct}
+use Rattle.rules.specs.declared.finding.Conduct.the-variants.{Does, Fails}
+use Rattle.checker.proofs.NodeLaws.{ordered, AtStatement, statement-here}
+use Rattle.checker.proofs.TypingLaws.{TypeAt}
+use Rattle.checker.proofs.DescentLaws.{lower-in, let-fits}
+
+-- ---- where a statement stands
+pub linked-at : (s : ℕ) (x : Bool) → x ≡ eqb s 1 → not x ≡ isLinked (standingAt s)
+unfolding standingAt
+linked-at s x e =
+    let b = eqb s 1 in
+    ap not e ∙ if-all (λ (z : Standing). not b ≡ isLinked z) b unlinked linked (ap not) (ap not)
+
+standing-is : (z : Standing) → standing (isLinked z) ≡ z
+standing-is linked = refl
+standing-is unlinked = refl
+
+-- ---- the arguments of a start
+abbrev ArgueAt : List ℕ → List ℕ → List ℕ → ℕ → ℕ → Argued
+ArgueAt cells Γ ws a b = typesIn cells Γ (arguments (expressionAt (framesOf ws)) a b)
+
+one-more : (m : ℕ) → (m ≡ 0 → ⊥) → (k : ℕ) × (m ≡ suc k)
+one-more zero h = absurd (h refl)
+one-more (suc k) h = (k, refl)
+
+module _ (cells Γ ws : List ℕ) (a b : ℕ) where
+  pub arguments-none : a ≡ 0 → arguedOf A.Nothing ≡ ArgueAt cells Γ ws a b
+  unfolding typesIn
+  arguments-none h = ap (λ (m : ℕ). ArgueAt cells Γ ws m b) (sym h)
+
+  pub arguments-one : (x : Typing) (r : Arguments) → (a ≡ 0 → ⊥) → b ≡ 0 → x ≡ TypeAt cells Γ ws a → arguedOf r ≡ argue x noArguments → arguedOf r ≡ ArgueAt cells Γ ws a b
+  unfolding typesIn
+  arguments-one x r n z h k =
+      let m = one-more a n in
+      k ∙ ap (λ (t : Typing). argue t noArguments) (h ∙ ap (TypeAt cells Γ ws) (m .1))
+      ∙ sym (ap (λ (p : ℕ). ArgueAt cells Γ ws p b) (m .1) ∙ ap (ArgueAt cells Γ ws (suc (m .0))) z)
+
+  pub arguments-two : (x y : Typing) (r : Arguments) → (a ≡ 0 → ⊥) → (b ≡ 0 → ⊥) → x ≡ TypeAt cells Γ ws a → y ≡ TypeAt cells Γ ws b → arguedOf r ≡ argue x (argue y noArguments) → arguedOf r ≡ ArgueAt cells Γ ws a b
+  unfolding typesIn
+  arguments-two x y r n o h l k =
+      let m = one-more a n in
+      let p = one-more b o in
+      k ∙ ap (λ (t : Typing). argue t (argue y noArguments)) (h ∙ ap (TypeAt cells Γ ws) (m .1)) ∙ ap (λ (t : Typing). argue (TypeAt cells Γ ws (suc (m .0))) (argue t noArguments)) (l ∙ ap (TypeAt cells Γ ws) (p .1))
+      ∙ sym (ap (λ (q : ℕ). ArgueAt cells Γ ws q b) (m .1) ∙ ap (ArgueAt cells Γ ws (suc (m .0))) (p .1))
+
+pub ruleset arguments-laws = (arguments-none, arguments-one, arguments-two)
+
+pub argument-in : (ws : List ℕ) (i a : ℕ) → FrameIn ws i → ((a ≡ 0 → ⊥) → a < i) → (a ≡ 0 → ⊥) → FrameIn ws a
+argument-in ws i a g h n = lower-in ws i a g (h n)
+
+pub further-in : (ws : List ℕ) (i a b : ℕ) → FrameIn ws i → ((a ≡ 0 → ⊥) → (b ≡ 0 → ⊥) → b < i) → (a ≡ 0 → ⊥) → (b ≡ 0 → ⊥) → FrameIn ws b
+further-in ws i a b g h n o = lower-in ws i b g (h n o)
+
+-- ---- the definition by nodes: what is found at frame i, where T, R and As say what is found of the expressions, the statements and the arguments at its children. The body of a let is asked with a variable more, so `let-in` is a parameter of its own
+abbrev conductBy : (ℕ → Typing) → (ℕ → List ℕ → Standing → Conduct) → (ℕ → ℕ → Argued) → List Signature → List ℕ → Standing → ℕ → StatementNode → (ℕ → Typing → Conduct) → Conduct
+conductBy T R As below Γ at i Y.Nothing let-in = Does noEffect true
+conductBy T R As below Γ at i Y.Cooperate let-in = cooperateRule at i
+conductBy T R As below Γ at i (Y.Seq a b) let-in = seqRule (R a Γ at) (R b Γ at)
+conductBy T R As below Γ at i (Y.DoAt s a) let-in =
+    doRule at (s .number) i (R a Γ (standingAt (s .number)))
+conductBy T R As below Γ at i (Y.Start s a b) let-in = startRule true below at s i (As a b)
+conductBy T R As below Γ at i (Y.StartWait s a b) let-in = startRule false below at s i (As a b)
+conductBy T R As below Γ at i (Y.LetIn a b) let-in = let-in b (T a)
+conductBy T R As below Γ at i (Y.Store a b) let-in = storeRule i (T a) (T b)
+conductBy T R As below Γ at i (Y.IfElse a b c) let-in = ifElseRule i (T a) (R b Γ at) (R c Γ at)
+conductBy T R As below Γ at i (Y.While a b) let-in = whileRule i (T a) (R b Γ at)
+
+-- ---- at a frame of a laid-out file
+abbrev RunAt : Setting → List Signature → List ℕ → ℕ → List ℕ → Standing → Conduct
+RunAt env below ws i Γ at = runIn env below Γ at (statementAt (framesOf ws) i)
+
+module _ (env : Setting) (below : List Signature) (ws Γ : List ℕ) (at : Standing) (i : ℕ) where
+  abbrev By : StatementNode → Conduct
+  By n = conductBy (TypeAt (env .cells) Γ ws) (RunAt env below ws) (ArgueAt (env .cells) Γ ws) below Γ at i n (λ b x. letRule (λ Δ. RunAt env below ws b Δ at) Γ x)
+
+  by-statement : (f : Frame) (k : StatementKind) → runIn env below Γ at (statementOf (λ j. expressionAt (framesOf ws) j) (λ j. statementAt (framesOf ws) j) i f (Statement k)) ≡ By (statementNodeOf k (f .s) (f .a) (f .b) (f .c))
+  unfolding runIn
+  by-statement f S.Nothing = refl
+  by-statement f S.Then = refl
+  by-statement f S.DoAt = refl
+  by-statement f S.Start = refl
+  by-statement f S.StartWait = refl
+  by-statement f S.Cooperate = refl
+  by-statement f S.Let = refl
+  by-statement f S.Store = refl
+  by-statement f S.If = refl
+  by-statement f S.While = refl
+
+  by-kind : (f : Frame) (k : Kind) → runIn env below Γ at (statementOf (λ j. expressionAt (framesOf ws) j) (λ j. statementAt (framesOf ws) j) i f k) ≡ By (statementNodeIn k f)
+  unfolding runIn
+  by-kind f Header = refl
+  by-kind f (Declared d) = refl
+  by-kind f Module = refl
+  by-kind f (Statement k) = by-statement f k
+  by-kind f (Expression k) = refl
+  by-kind f Unknown = refl
+
+  run-by : (f : Frame) (n v : StatementNode) → AtStatement ws i f n v (RunAt env below ws i Γ at ≡ By v)
+  run-by f n v h k e g =
+      ap (runIn env below Γ at) (statement-at (framesOf ws) (ordered ws i g) i)
+      ∙ by-kind (frameAt (framesOf ws) i) (frameAt (framesOf ws) i .kind)
+      ∙ ap By (statement-here ws i f n v h k e g)
+
+-- ---- the code's returns: l says whether the thread is linked, the first m of `scope` are the variables
+module _ (env : Setting) (sigs ws scope : List ℕ) (m i : ℕ) (l : Bool) (f : Frame) (n : StatementNode) where
+  abbrev Where : StatementNode → Type 0 → Type 0
+  Where v C = AtStatement ws i f n v C
+
+  -- what is found of the statement at frame a, and x is that; x is what is found of the expression there
+  abbrev found : ℕ → Conduct
+  found a = RunAt env (map signatureOf sigs) ws a (take m scope) (standing l)
+
+  abbrev R : ℕ → Conduct → Type 0
+  R a x = x ≡ found a
+
+  abbrev T : ℕ → Typing → Type 0
+  T a x = x ≡ TypeAt (env .cells) (take m scope) ws a
+
+  by-node : (v : StatementNode) (r : Conduct) → Where v (r ≡ By env (map signatureOf sigs) ws (take m scope) (standing l) i v → R i r)
+  by-node v r h k e g q = q ∙ sym (run-by env (map signatureOf sigs) ws (take m scope) (standing l) i f n v h k e g)
+
+  pub run-nothing : (e : Effect) → Where Y.Nothing (e ≡ noEffect → R i (Does e true))
+  run-nothing e h k q g z = by-node Y.Nothing (Does e true) h k q g (ap (λ (o : Effect). Does o true) z)
+
+  pub run-cooperate : (r : Conduct) → Where Y.Cooperate (r ≡ cooperateRule (standing l) i → R i r)
+  run-cooperate r h k q g z = by-node Y.Cooperate r h k q g z
+
+  pub run-seq : (a b : ℕ) (x y r : Conduct) → Where (Y.Seq a b) (R a x → R b y → r ≡ seqRule x y → R i r)
+  run-seq a b x y r h k q g u v z = by-node (Y.Seq a b) r h k q g (z ∙ ap (λ (c : Conduct). seqRule c y) u ∙ ap (seqRule (found a)) v)
+
+  pub run-do : (s : Place) (a : ℕ) (o : Bool) (x r : Conduct)
+      → Where (Y.DoAt s a) (o ≡ isLinked (standingAt (s .number))
+      → x ≡ RunAt env (map signatureOf sigs) ws a (take m scope) (standing o)
+      → r ≡ doRule (standing l) (s .number) i x → R i r)
+  run-do s a o x r h k q g d u z =
+      let e = ap standing d ∙ standing-is (standingAt (s .number)) in
+      by-node (Y.DoAt s a) r h k q g
+      (z ∙ ap (doRule (standing l) (s .number) i)
+      (u ∙ ap (RunAt env (map signatureOf sigs) ws a (take m scope)) e))
+
+  pub run-start : (s a b : ℕ) (x : Arguments) (r : Conduct) → Where (Y.Start s a b) (arguedOf x ≡ ArgueAt (env .cells) (take m scope) ws a b → r ≡ startRule true (map signatureOf sigs) (standing l) s i (arguedOf x) → R i r)
+  run-start s a b x r h k q g d z = by-node (Y.Start s a b) r h k q g (z ∙ ap (startRule true (map signatureOf sigs) (standing l) s i) d)
+
+  pub run-wait : (s a b : ℕ) (x : Arguments) (r : Conduct) → Where (Y.StartWait s a b) (arguedOf x ≡ ArgueAt (env .cells) (take m scope) ws a b → r ≡ startRule false (map signatureOf sigs) (standing l) s i (arguedOf x) → R i r)
+  run-wait s a b x r h k q g d z = by-node (Y.StartWait s a b) r h k q g (z ∙ ap (startRule false (map signatureOf sigs) (standing l) s i) d)
+
+  pub run-store : (a b : ℕ) (x y : Typing) (r : Conduct) → Where (Y.Store a b) (T a x → T b y → r ≡ storeRule i x y → R i r)
+  run-store a b x y r h k q g u v z = by-node (Y.Store a b) r h k q g (z ∙ ap (λ (c : Typing). storeRule i c y) u ∙ ap (storeRule i (TypeAt (env .cells) (take m scope) ws a)) v)
+
+  pub run-if : (a b c : ℕ) (x : Typing) (y w r : Conduct) → r ≡ ifElseRule i x y w → Where (Y.IfElse a b c) (T a x → R b y → R c w → R i r)
+  run-if a b c x y w r z h k q g u v t =
+      by-node (Y.IfElse a b c) r h k q g
+      (z ∙ ap (λ (d : Typing). ifElseRule i d y w) u ∙ ap (λ (d : Conduct). ifElseRule i (TypeAt (env .cells) (take m scope) ws a) d w) v ∙ ap (ifElseRule i (TypeAt (env .cells) (take m scope) ws a) (found b)) t)
+
+  pub run-while : (a b : ℕ) (x : Typing) (y r : Conduct) → Where (Y.While a b) (T a x → R b y → r ≡ whileRule i x y → R i r)
+  run-while a b x y r h k q g u v z = by-node (Y.While a b) r h k q g (z ∙ ap (λ (d : Typing). whileRule i d y) u ∙ ap (whileRule i (TypeAt (env .cells) (take m scope) ws a)) v)
+
+  -- a let, whose body is found at b in the variables Δ
+  abbrev letAt : ℕ → Typing → Conduct
+  letAt b x = letRule (λ Δ. RunAt env (map signatureOf sigs) ws b Δ (standing l)) (take m scope) x
+
+  let-by : (a b : ℕ) (x v : Typing) → x ≡ v → T a x → letAt b v ≡ letAt b (TypeAt (env .cells) (take m scope) ws a)
+  let-by a b x v h u = ap (letAt b) (sym h ∙ u)
+
+  pub run-let-fault : (a b : ℕ) (x : Typing) (p j : ℕ) → Where (Y.LetIn a b) (T a x → x ≡ Untyped p j → R i (Fails p j))
+  run-let-fault a b x p j h k q g u z = by-node (Y.LetIn a b) (Fails p j) h k q g (let-by a b x (Untyped p j) z u)
+
+  pub run-let : (a b : ℕ) (x : Typing) (t : ℕ) (e : Effect) (inner : List ℕ) (y r : Conduct) → r ≡ joinRule e y
+      → Where (Y.LetIn a b) (Room (framesOf ws) i m → T a x → x ≡ Typed t e → inner ≡ set scope m t → length scope ≡ 25 → y ≡ RunAt env (map signatureOf sigs) ws b (take (m + 1) inner) (standing l) → R i r)
+  run-let a b x t e inner y r o h k q g p u z w d v =
+      let s = let-fits ws i f n m a b h k q g p in
+      let c : take (m + 1) inner ≡ take m scope ++ (t ∷ []) = ap (take (m + 1)) w ∙ ap (λ (j : ℕ). take j (set scope m t)) (add-one m) ∙ take-suc-set scope m t (omega arith) in
+      by-node (Y.LetIn a b) r h k q g
+      (o ∙ ap (joinRule e) (v ∙ ap (λ (Δ : List ℕ). RunAt env (map signatureOf sigs) ws b Δ (standing l)) c) ∙ let-by a b x (Typed t e) z u)

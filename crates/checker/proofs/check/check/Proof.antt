@@ -1,0 +1,42 @@
+-- `check` meets its contract. Assumes nothing.
+use borrow.Author.Needs.{needs}
+use Rattle.checker.proofs.CheckLaws.{check-room, check-length, check-file, check-rejected, check-rules, promised-rejected, promised-rules}
+use Rattle.checker.proofs.check.check.Statement.{statement}
+use Rattle.checker.proofs.check.check.Tie as tie
+
+lay-out-requires : tie.Need-lay-out-requires
+lay-out-requires c κs = search needs
+
+enum-known-v : tie.Need-enum-known-v
+enum-known-v c = search needs
+
+enum-told : tie.Need-enum-told
+enum-told c = search needs
+
+array-share-prefix-words : tie.Need-array-share-prefix-words
+array-share-prefix-words c = search check-room
+
+slice-aggregate-rules-of : tie.Need-slice-aggregate-rules-of
+slice-aggregate-rules-of c = search check-length
+
+rules-of-requires : tie.Need-rules-of-requires
+rules-of-requires c κs = search check-file
+
+returns : tie.Need-returns
+returns c = (search check-rejected, search promised-rejected)
+
+returns-2 : tie.Need-returns-2
+returns-2 c = (search check-rules, search promised-rules)
+
+pub check-spec : {M : Type 1} → statement M
+check-spec =
+    tie.close
+    (tie.spec
+    lay-out-requires
+    enum-known-v
+    enum-told
+    array-share-prefix-words
+    slice-aggregate-rules-of
+    rules-of-requires
+    returns
+    returns-2)

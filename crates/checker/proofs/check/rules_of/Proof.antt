@@ -1,0 +1,30 @@
+-- `rules_of` meets its contract. Assumes nothing.
+use borrow.Author.Needs.{needs}
+use Rattle.checker.proofs.TallyLaws.{tally-room, tally-length, rules-are}
+use Rattle.checker.proofs.check.rules_of.Statement.{statement}
+use Rattle.checker.proofs.check.rules_of.Tie as tie
+
+tally-requires : tie.Need-tally-requires
+tally-requires c κs = search needs
+
+array-share-prefix-types : tie.Need-array-share-prefix-types
+array-share-prefix-types c = search tally-room
+
+slice-aggregate-modules-rule : tie.Need-slice-aggregate-modules-rule
+slice-aggregate-modules-rule c = search tally-length
+
+modules-rule-requires : tie.Need-modules-rule-requires
+modules-rule-requires c κs = search needs
+
+returns : tie.Need-returns
+returns c = search rules-are
+
+pub rules-of-spec : {M : Type 1} → statement M
+rules-of-spec =
+    tie.close
+    (tie.spec
+    tally-requires
+    array-share-prefix-types
+    slice-aggregate-modules-rule
+    modules-rule-requires
+    returns)

@@ -1,0 +1,39 @@
+// The check of a text: refusals 1 to 13.
+use crate::module::modules_rule;
+use crate::module::tally;
+use language::verdict::Verdict;
+use layout::lay_out;
+ghost use mathlib.Core.Path.{_≡_};
+ghost use Rattle.text.specs.Frames.{framesOf};
+ghost use Rattle.program.specs.Programs.{programOf};
+ghost use Rattle.rules.specs.inner.Checking.{rulesOf};
+ghost use Rattle.checker.specs.Verdict.{verdict, Checked};
+ghost use Rattle.checker.specs.inner.Frames.{FileIn};
+
+// The first broken rule of a laid-out file.
+pub fn rules_of(frames: &[u64]) -> Verdict
+    requires { ⌜ FileIn (now frames) ⌝ }
+    ensures { λ r. ⌜ r ≡ rulesOf (programOf (framesOf (now (frames .entry)))) ⌝ }
+{
+    let t = tally(frames);
+    let n = t.cells;
+    let types = t.types;
+    modules_rule(frames, &types[..n])
+}
+
+// What document 01 says of any bytes: the one verdict that the rules give, and no other.
+pub fn check(text: &[u8]) -> Verdict
+    ensures computed { λ r. ⌜ r ≡ verdict (now (text .entry)) ⌝ }
+    ensures promised { λ r. ⌜ Checked (now (text .entry)) r ⌝ }
+{
+    let l = lay_out(text);
+    let v = l.verdict;
+    match v {
+        Verdict::Rejected(n, j) => Verdict::Rejected(n, j),
+        Verdict::Accepted => {
+            let words = l.words;
+            let n = l.count;
+            rules_of(&words[..n])
+        }
+    }
+}

@@ -1,0 +1,5 @@
+// The check: the rules asked of every part of a laid-out file, and of a text as a whole.
+pub mod check;
+mod conduct;
+mod module;
+mod typing;

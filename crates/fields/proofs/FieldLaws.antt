@@ -1,0 +1,136 @@
+-- How the code tests the header and the values of fields: places, types, first contents; and how it gives a shared cell's type. Assumes nothing.
+use mathlib.Core.Path.{_≡_, refl, sym, ap, _∙_}
+use mathlib.Core.Bool.{Bool, true, false, not, _&&_, _||_}
+use mathlib.Core.List.{List}
+use mathlib.Core.Option.{Option, none, some}
+use Prim.Native.Nat.{ℕ, _%_, _≤_, _<_}
+use native.Mathlib.Omega.{arith}
+use lib.Dec.{leb, eqb}
+use lib.ListN.{length, getD, take, length-take}
+use lib.Seq.{getD-take}
+use borrow.Author.Tests.{lt-ltb, le-ltb, le-leb, lt-leb, leb-true, eq-eqb, ne-eqb, not-true, not-false}
+use Rattle.basics.specs.If.{if_then_else_}
+use Rattle.basics.proofs.Ifs.{yes, no, if-yes, if-all, and-true}
+use Rattle.language.specs.Kinds.{isHeader}
+use Rattle.language.specs.Places.{isPlace, hasPlace, hasScheduler}
+use Rattle.language.specs.Types.{cellType, isCell, typeWord, roomAround}
+use Rattle.language.specs.inner.Reads.{cellRead}
+use Rattle.language.specs.declared.Place.{Place}
+use Rattle.language.specs.declared.type_word.CellRead.{CellRead}
+use Rattle.language.specs.declared.type_word.CellRead.the-variants.{Word, TooDeep}
+use Rattle.language.specs.declared.frame.Frame.{Frame}
+use Rattle.text.specs.Frames.{framesOf}
+use Rattle.program.specs.Trees.{frameAt}
+use Rattle.fields.specs.declared.found.Found.{Found}
+use Rattle.fields.specs.declared.found.Found.the-variants.{At, Nowhere}
+use Rattle.fields.specs.declared.field.Tally.{Tally}
+use Rattle.fields.specs.Fields.{headerFine, schedulersOf, firstContentFine}
+use Rattle.fields.specs.inner.Scans.{headerFault, found}
+
+-- ---- the header
+module _ (f : Frame) (x : Bool) (h : x ≡ isHeader (f .kind)) where
+  pub header-kind : not x ≡ true → false ≡ headerFine f
+  unfolding headerFine
+  header-kind n = rw (sym h ∙ not-true x n)
+
+  pub header-version : not x ≡ false → (f .s ≡ 1 → ⊥) → false ≡ headerFine f
+  unfolding headerFine
+  header-version n s = rw (sym h ∙ not-false x n, ne-eqb (f .s) 1 s)
+
+  pub header-few : not x ≡ false → f .s ≡ 1 → f .b < 1 → false ≡ headerFine f
+  unfolding headerFine
+  header-few n s l = rw (sym h ∙ not-false x n, eq-eqb (f .s) 1 s, lt-leb 1 (f .b) l)
+
+  pub header-many : not x ≡ false → f .s ≡ 1 → 1 ≤ f .b → 8 < f .b → false ≡ headerFine f
+  unfolding headerFine
+  header-many n s l m = rw (sym h ∙ not-false x n, eq-eqb (f .s) 1 s, le-leb 1 (f .b) l, lt-leb (f .b) 8 m)
+
+  pub header-right : not x ≡ false → f .s ≡ 1 → 1 ≤ f .b → f .b ≤ 8 → eqb (f .c) 0 ≡ headerFine f
+  unfolding headerFine
+  header-right n s l m = rw (sym h ∙ not-false x n, eq-eqb (f .s) 1 s, le-leb 1 (f .b) l, le-leb (f .b) 8 m)
+
+pub ruleset header-laws = (header-kind, header-version, header-few, header-many, header-right)
+
+module _ (ws : List ℕ) (f : Frame) (b : Bool) (e : f ≡ frameAt (framesOf ws) 0) (h : b ≡ headerFine f) where
+  pub header-there : b ≡ true → Nowhere ≡ found (headerFault (framesOf ws))
+  unfolding headerFault
+  header-there t = ap found (yes (some 0) (sym (h ∙ ap headerFine e) ∙ t) refl)
+
+  pub header-wrong : b ≡ false → At 0 ≡ found (headerFault (framesOf ws))
+  unfolding headerFault
+  header-wrong t = ap found (no none (sym (h ∙ ap headerFine e) ∙ t) refl)
+
+pub ruleset header-faults = (header-there, header-wrong)
+
+-- a right header has at most 8 schedulers
+fine-few : (f : Frame) → headerFine f ≡ true → f .b ≤ 8
+unfolding headerFine
+fine-few f t = leb-true (f .b) 8 (and-true (isHeader (f .kind) && eqb (f .s) 1 && leb 1 (f .b)) (leb (f .b) 8) (and-true (isHeader (f .kind) && eqb (f .s) 1 && leb 1 (f .b) && leb (f .b) 8) (eqb (f .c) 0) t .0) .1)
+
+pub few-schedulers : (fs : List Frame) (x : Found) → x ≡ Nowhere → x ≡ found (headerFault fs) → schedulersOf fs ≤ 8
+unfolding headerFault
+few-schedulers fs x e h = if-all (λ (o : Option ℕ). found o ≡ Nowhere → schedulersOf fs ≤ 8) (headerFine (frameAt fs 0)) none (some 0) (λ t q. fine-few (frameAt fs 0) t) (λ t q. absurd (let z : _≡_ {A = ℕ} 0 1 = cc in omega arith)) (sym h ∙ e)
+
+pub schedulers-are : (ws : List ℕ) (f : Frame) → f ≡ frameAt (framesOf ws) 0 → schedulersOf (framesOf ws) ≤ 8 → f .b % 256 ≡ schedulersOf (framesOf ws)
+schedulers-are ws f e l = let q : f .b ≡ schedulersOf (framesOf ws) = ap (λ (g : Frame). g .b) e in omega arith
+
+-- ---- places and schedulers, of as many schedulers as the code reads
+module _ (fs : List Frame) (v b : ℕ) (r : Bool) (e : b ≡ schedulersOf fs) where
+  pub place-as : r ≡ hasPlace b v → r ≡ hasPlace (schedulersOf fs) v
+  place-as h = h ∙ ap (λ (n : ℕ). hasPlace n v) e
+
+  pub scheduler-as : r ≡ hasScheduler b v → r ≡ hasScheduler (schedulersOf fs) v
+  scheduler-as h = h ∙ ap (λ (n : ℕ). hasScheduler n v) e
+
+-- ---- the other fields
+pub further-none : (a v : ℕ) → v ≡ 0 → true ≡ (eqb v 0 || not (eqb a 0))
+further-none a v e = rw (eq-eqb v 0 e)
+
+pub further-some : (a v : ℕ) → (v ≡ 0 → ⊥) → not (eqb a 0) ≡ (eqb v 0 || not (eqb a 0))
+further-some a v n = rw (ne-eqb v 0 n)
+
+pub ruleset further-laws = (further-none, further-some)
+
+module _ (b n s v : ℕ) where
+  pub type-unused : s < n → eqb v 0 ≡ (if leb n s then typeWord b v else eqb v 0)
+  type-unused l = no _ (lt-leb n s l) refl
+
+  pub type-used : (c : ℕ) (r : Bool) → n ≤ s → c ≡ b → r ≡ typeWord c v → r ≡ (if leb n s then typeWord b v else eqb v 0)
+  type-used c r l e h = yes _ (le-leb n s l) (h ∙ ap (λ (k : ℕ). typeWord k v) e)
+
+pub ruleset type-laws = (type-unused, type-used)
+
+module _ (t : Tally) (k v : ℕ) (x : Bool) (h : x ≡ isCell k) where
+  pub content-past : x ≡ true → t .cells ≤ v → false ≡ firstContentFine (take (t .cells) (t .types)) k v
+  unfolding firstContentFine
+  content-past c l = yes _ (sym h ∙ c) (rw (le-ltb v (length (take (t .cells) (t .types))) (let m = length-take (t .cells) (t .types) in omega arith)))
+
+  pub content-cell : x ≡ true → v < t .cells → t .cells ≤ 16 → length (t .types) ≡ 16 → eqb (getD (t .types) v 0) k ≡ firstContentFine (take (t .cells) (t .types)) k v
+  unfolding firstContentFine
+  content-cell c l m o = yes _ (sym h ∙ c) (rw (lt-ltb v (length (take (t .cells) (t .types))) (let q = length-take (t .cells) (t .types) in omega arith), getD-take (t .cells) (t .types) v 0 l))
+
+  pub content-number : x ≡ false → (k ≡ 2 → ⊥) → true ≡ firstContentFine (take (t .cells) (t .types)) k v
+  unfolding firstContentFine
+  content-number c n = no _ (sym h ∙ c) (rw (ne-eqb k 2 n))
+
+  pub content-truth : x ≡ false → k ≡ 2 → leb v 1 ≡ firstContentFine (take (t .cells) (t .types)) k v
+  unfolding firstContentFine
+  content-truth c n = no _ (sym h ∙ c) (rw (eq-eqb k 2 n))
+
+pub ruleset content-laws = (content-past, content-cell, content-number, content-truth)
+
+-- ---- the type of a shared cell: its owner is a place and there is room around its content, so the arm that answers 0 is never met
+module _ (f : Frame) (q : Place) (y : CellRead) (h : isPlace (f .s) ≡ true) (m : roomAround (f .a) ≡ true) where
+  cell-word : q ≡ record { number = f .s } → y ≡ cellRead (q .number) (f .a) → y ≡ Word (cellType (f .s) (f .a))
+  unfolding cellRead
+  cell-word e g =
+      let t : (isPlace (f .s) && roomAround (f .a)) ≡ true = (rw (h, m)) in
+      g ∙ ap (λ (p : Place). cellRead (p .number) (f .a)) e ∙ if-yes _ _ t
+
+  pub type-deep : q ≡ record { number = f .s } → y ≡ cellRead (q .number) (f .a) → y ≡ TooDeep → 0 ≡ cellType (f .s) (f .a)
+  type-deep e g d = absurd (let w = cell-word e g in let z : _≡_ {A = ℕ} 0 1 = cc in omega arith)
+
+  pub type-word : (w : ℕ) → q ≡ record { number = f .s } → y ≡ cellRead (q .number) (f .a) → y ≡ Word w → w ≡ cellType (f .s) (f .a)
+  type-word w e g d = let v = cell-word e g in cc
+
+pub ruleset shared-laws = (type-deep, type-word)

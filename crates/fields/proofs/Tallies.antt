@@ -1,0 +1,135 @@
+-- The tally of the frames passed: how many shared cells and modules there are, the types of these cells, and what one frame more adds. Assumes nothing.
+use mathlib.Core.Path.{_≡_, refl, sym, ap, ap₂, _∙_}
+use mathlib.Core.Bool.{Bool, true, false, true≢false}
+use mathlib.Core.List.{List, [], _∷_, _++_, map, append-assoc, append-nil}
+use Prim.Native.Nat.{ℕ, suc, _+_, _-_, _≤_, _<_}
+use native.Mathlib.Omega.{arith}
+use lib.ListN.{length, take, set, replicate, length-append, length-replicate}
+use lib.Seq.{take-append-seam, set-at}
+use Rattle.basics.specs.If.{if_then_else_}
+use Rattle.basics.proofs.Ifs.{if-yes, if-no, if-all}
+use Rattle.language.specs.Kinds.{isShared, isModule}
+use Rattle.language.specs.Types.{cellType}
+use Rattle.language.specs.declared.kind.Kind.{Kind}
+use Rattle.language.specs.declared.kind.DeclarationKind.{DeclarationKind}
+use Rattle.language.specs.declared.kind.DeclarationKind.the-variants.{Shared}
+use Rattle.language.specs.declared.kind.Kind.the-variants.{Header, Declared, Module, Statement, Expression, Unknown}
+use Rattle.language.specs.declared.frame.Frame.{Frame}
+use Rattle.program.specs.Programs.{typeOfShared, sharedOf, cellsOf}
+use Rattle.program.proofs.OneMore.{shared-no, shared-yes}
+use Rattle.fields.specs.declared.field.Tally.{Tally}
+use Rattle.fields.specs.Fields.{countOf}
+use Rattle.fields.specs.inner.Scans.{tallyOf}
+
+-- ---- shared cells
+-- there is one kind of declaration, so its match asks nothing
+pub a-shared : (k : Kind) (d : DeclarationKind) → k ≡ Declared d → k ≡ Declared Shared
+a-shared k Shared e = e
+
+pub is-shared : (k : Kind) → isShared k ≡ true → k ≡ Declared Shared
+is-shared (Declared Shared) h = refl
+is-shared Header h = absurd (true≢false (sym h))
+is-shared Module h = absurd (true≢false (sym h))
+is-shared (Statement k) h = absurd (true≢false (sym h))
+is-shared (Expression k) h = absurd (true≢false (sym h))
+is-shared Unknown h = absurd (true≢false (sym h))
+
+-- a frame adds its type to those of the cells behind it, if it is one
+cells-first : (f : Frame) (gs : List Frame) → cellsOf (f ∷ gs) ≡ (if isShared (f .kind) then cellType (f .s) (f .a) ∷ cellsOf gs else cellsOf gs)
+cells-first f gs =
+    if-all (λ (ts : List ℕ). cellsOf (f ∷ gs) ≡ ts) (isShared (f .kind)) _ _
+    (λ e. ap (map typeOfShared) (shared-yes f gs e))
+    (λ e. ap (map typeOfShared) (shared-no f gs e))
+
+pub count-cells : (gs : List Frame) → countOf isShared gs ≡ length (cellsOf gs)
+unfolding countOf sharedOf if_then_else_
+count-cells [] = refl
+count-cells (f ∷ gs) = go (isShared (f .kind)) (count-cells gs) ∙ sym (ap length (cells-first f gs))
+  where
+    go : (b : Bool) → countOf isShared gs ≡ length (cellsOf gs) → (if b then 1 else 0) + countOf isShared gs ≡ length (if b then cellType (f .s) (f .a) ∷ cellsOf gs else cellsOf gs)
+    go true h = omega arith
+    go false h = omega arith
+
+-- ---- what a tally says
+abbrev pub tally : ℕ → ℕ → List ℕ → Tally
+tally n m ts = record { cells = n; modules = m; types = ts }
+
+module _ (gs : List Frame) (t : Tally) (h : t ≡ tallyOf gs) where
+  pub tally-cells : t .cells ≡ countOf isShared gs
+  unfolding tallyOf
+  tally-cells = ap (λ (x : Tally). x .cells) h
+
+  pub tally-modules : t .modules ≡ countOf isModule gs
+  unfolding tallyOf
+  tally-modules = ap (λ (x : Tally). x .modules) h
+
+  tally-types : t .types ≡ cellsOf gs ++ replicate (16 - length (cellsOf gs)) 0
+  unfolding tallyOf
+  tally-types = ap (λ (x : Tally). x .types) h
+
+  pub types-taken : take (t .cells) (t .types) ≡ cellsOf gs
+  types-taken = ap₂ take (tally-cells ∙ count-cells gs) tally-types ∙ take-append-seam (cellsOf gs) (replicate (16 - length (cellsOf gs)) 0)
+
+  pub types-length : t .cells ≤ 16 → length (t .types) ≡ 16
+  types-length l =
+      let n : t .cells ≡ length (cellsOf gs) = tally-cells ∙ count-cells gs in
+      ap length tally-types ∙ length-append (cellsOf gs) (replicate (16 - length (cellsOf gs)) 0) ∙ ap (λ (k : ℕ). length (cellsOf gs) + k) (length-replicate {A = ℕ} (16 - length (cellsOf gs)) 0) ∙ omega arith
+
+-- ---- one frame more
+count-more : (test : Kind → Bool) (gs : List Frame) (f : Frame) → countOf test (gs ++ (f ∷ [])) ≡ countOf test gs + (if test (f .kind) then 1 else 0)
+unfolding countOf
+count-more test [] f = omega arith
+count-more test (g ∷ gs) f = let h = count-more test gs f in omega arith
+
+cells-more : (gs : List Frame) (f : Frame) → cellsOf (gs ++ (f ∷ [])) ≡ cellsOf gs ++ cellsOf (f ∷ [])
+unfolding sharedOf if_then_else_
+cells-more [] f = refl
+cells-more (g ∷ gs) f = cells-first g (gs ++ (f ∷ [])) ∙ go (isShared (g .kind)) (cells-more gs f) ∙ sym (ap (λ (ts : List ℕ). ts ++ cellsOf (f ∷ [])) (cells-first g gs))
+  where
+    go : (b : Bool) → cellsOf (gs ++ (f ∷ [])) ≡ cellsOf gs ++ cellsOf (f ∷ []) → (if b then cellType (g .s) (g .a) ∷ cellsOf (gs ++ (f ∷ [])) else cellsOf (gs ++ (f ∷ []))) ≡ (if b then cellType (g .s) (g .a) ∷ cellsOf gs else cellsOf gs) ++ cellsOf (f ∷ [])
+    go true h = ap (λ (ts : List ℕ). cellType (g .s) (g .a) ∷ ts) h
+    go false h = h
+
+cells-one : (gs : List Frame) (f : Frame) → isShared (f .kind) ≡ true → cellsOf (gs ++ (f ∷ [])) ≡ cellsOf gs ++ (cellType (f .s) (f .a) ∷ [])
+unfolding sharedOf
+cells-one gs f s = cells-more gs f ∙ ap (λ (ts : List ℕ). cellsOf gs ++ ts) (cells-first f [] ∙ if-yes _ _ s)
+
+cells-same : (gs : List Frame) (f : Frame) → isShared (f .kind) ≡ false → cellsOf (gs ++ (f ∷ [])) ≡ cellsOf gs
+unfolding sharedOf
+cells-same gs f s = cells-more gs f ∙ ap (λ (ts : List ℕ). cellsOf gs ++ ts) (cells-first f [] ∙ if-no _ _ s) ∙ append-nil (cellsOf gs)
+
+pub counted-one : (test : Kind → Bool) (gs : List Frame) (f : Frame) → test (f .kind) ≡ true → countOf test (gs ++ (f ∷ [])) ≡ countOf test gs + 1
+counted-one test gs f h = count-more test gs f ∙ ap (λ (n : ℕ). countOf test gs + n) (if-yes 1 0 h)
+
+pub counted-none : (test : Kind → Bool) (gs : List Frame) (f : Frame) → test (f .kind) ≡ false → countOf test (gs ++ (f ∷ [])) ≡ countOf test gs
+counted-none test gs f h = let a : countOf test gs + 0 ≡ countOf test gs = omega arith in count-more test gs f ∙ ap (λ (n : ℕ). countOf test gs + n) (if-no 1 0 h) ∙ a
+
+tally-same : {n n' m m' : ℕ} {ts ts' : List ℕ} → n ≡ n' → m ≡ m' → ts ≡ ts' → tally n m ts ≡ tally n' m' ts'
+tally-same {n} {n'} {m} {m'} {ts} {ts'} e f g = ap₂ (λ (x y : ℕ). tally x y ts) e f ∙ ap (tally n' m') g
+
+-- a cell more takes the first 0 of the array
+padded-more : (ts : List ℕ) (w : ℕ) → length ts < 16 → set (ts ++ replicate (16 - length ts) 0) (length ts) w ≡ (ts ++ (w ∷ [])) ++ replicate (16 - length (ts ++ (w ∷ []))) 0
+padded-more ts w l =
+    let e : 16 - length ts ≡ suc (16 - suc (length ts)) = omega arith in
+    let m : length (ts ++ (w ∷ [])) ≡ suc (length ts) = length-append ts (w ∷ []) ∙ omega arith in
+    ap (λ (n : ℕ). set (ts ++ replicate n 0) (length ts) w) e
+    ∙ set-at ts 0 (replicate (16 - suc (length ts)) 0) w (length ts) refl
+    ∙ sym (append-assoc ts (w ∷ []) (replicate (16 - suc (length ts)) 0))
+    ∙ ap (λ (n : ℕ). (ts ++ (w ∷ [])) ++ replicate (16 - n) 0) (sym m)
+
+module _ (gs : List Frame) (f : Frame) (t : Tally) (h : t ≡ tallyOf gs) where
+  pub tally-other : isShared (f .kind) ≡ false → isModule (f .kind) ≡ false → t ≡ tallyOf (gs ++ (f ∷ []))
+  unfolding tallyOf
+  tally-other s m = h ∙ tally-same (sym (counted-none isShared gs f s)) (sym (counted-none isModule gs f m)) (ap (λ (ts : List ℕ). ts ++ replicate (16 - length ts) 0) (sym (cells-same gs f s)))
+
+  pub tally-module : isShared (f .kind) ≡ false → isModule (f .kind) ≡ true → tally (t .cells) (t .modules + 1) (t .types) ≡ tallyOf (gs ++ (f ∷ []))
+  unfolding tallyOf
+  tally-module s m = tally-same (tally-cells gs t h ∙ sym (counted-none isShared gs f s)) (ap (λ (n : ℕ). n + 1) (tally-modules gs t h) ∙ sym (counted-one isModule gs f m)) (tally-types gs t h ∙ ap (λ (ts : List ℕ). ts ++ replicate (16 - length ts) 0) (sym (cells-same gs f s)))
+
+  pub tally-cell : isShared (f .kind) ≡ true → isModule (f .kind) ≡ false → t .cells < 16 → tally (t .cells + 1) (t .modules) (set (t .types) (t .cells) (cellType (f .s) (f .a))) ≡ tallyOf (gs ++ (f ∷ []))
+  unfolding tallyOf
+  tally-cell s m l = tally-same (ap (λ (n : ℕ). n + 1) (tally-cells gs t h) ∙ sym (counted-one isShared gs f s)) (tally-modules gs t h ∙ sym (counted-none isModule gs f m))
+      (ap₂ (λ (ts : List ℕ) (n : ℕ). set ts n (cellType (f .s) (f .a))) (tally-types gs t h) n-is ∙ padded-more (cellsOf gs) (cellType (f .s) (f .a)) (let z = n-is in omega arith) ∙ ap (λ (ts : List ℕ). ts ++ replicate (16 - length ts) 0) (sym (cells-one gs f s)))
+    where
+      n-is : t .cells ≡ length (cellsOf gs)
+      n-is = tally-cells gs t h ∙ count-cells gs

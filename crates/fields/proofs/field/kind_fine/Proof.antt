@@ -1,0 +1,63 @@
+-- `kind_fine` meets its contract. Assumes nothing.
+use borrow.Author.Needs.{needs}
+use Rattle.fields.proofs.Tallies.{a-shared}
+use Rattle.fields.proofs.FramePass.{kind-laws}
+use Rattle.fields.proofs.field.kind_fine.Statement.{statement}
+use Rattle.fields.proofs.field.kind_fine.Tie as tie
+
+frame-at-requires : tie.Need-frame-at-requires
+frame-at-requires c κs = search needs
+
+enum-told : tie.Need-enum-told
+enum-told c = search needs
+
+enum-known-kind : tie.Need-enum-known-kind
+enum-known-kind c = search needs
+
+enum-told-2 : tie.Need-enum-told-2
+enum-told-2 c = search needs
+
+enum-known-kind-2 : tie.Need-enum-known-kind-2
+enum-known-kind-2 c = search needs
+
+enum-known-kind-3 : tie.Need-enum-known-kind-3
+enum-known-kind-3 c = search needs
+
+enum-told-3 : tie.Need-enum-told-3
+enum-told-3 c = search needs
+
+returns : tie.Need-returns
+returns c = search kind-laws
+
+returns-2 : tie.Need-returns-2
+returns-2 c = search (kind-laws, a-shared)
+
+returns-3 : tie.Need-returns-3
+returns-3 c = search kind-laws
+
+returns-4 : tie.Need-returns-4
+returns-4 c = search kind-laws
+
+returns-5 : tie.Need-returns-5
+returns-5 c = search kind-laws
+
+returns-6 : tie.Need-returns-6
+returns-6 c = search kind-laws
+
+pub kind-fine-spec : {M : Type 1} → statement M
+kind-fine-spec =
+    tie.close
+    (tie.spec
+    frame-at-requires
+    enum-told
+    enum-known-kind
+    enum-told-2
+    enum-known-kind-2
+    enum-known-kind-3
+    enum-told-3
+    returns
+    returns-2
+    returns-3
+    returns-4
+    returns-5
+    returns-6)

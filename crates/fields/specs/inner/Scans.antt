@@ -1,0 +1,37 @@
+-- The lowest frame with the fault 4 or 5, as functions that compute, and what the code's pass holds. No reader has to believe it: layout/proofs/Layouts and proofs/FramePass tie it to the definitions. Assumes nothing: definitions.
+use mathlib.Core.Bool.{not}
+use mathlib.Core.List.{List, _++_}
+use mathlib.Core.Option.{Option, none, some}
+use Prim.Native.Nat.{ℕ, _-_}
+use lib.ListN.{length, replicate}
+use Rattle.basics.specs.If.{if_then_else_}
+use Rattle.basics.specs.Searches.{lowest}
+use Rattle.language.specs.Kinds.{isShared, isModule}
+use Rattle.language.specs.Limits.{mostShared}
+use Rattle.language.specs.declared.frame.Frame.{Frame}
+use Rattle.program.specs.Trees.{frameAt}
+use Rattle.program.specs.Programs.{cellsOf}
+use Rattle.fields.specs.Fields.{headerFine, countOf, frameFine}
+use Rattle.fields.specs.declared.found.Found.{Found}
+use Rattle.fields.specs.declared.found.Found.the-variants.{At, Nowhere}
+use Rattle.fields.specs.declared.field.Tally.{Tally}
+
+-- ---- the lowest frame with the fault 4, and with 5
+unfoldable pub headerFault : List Frame → Option ℕ
+headerFault fs = if headerFine (frameAt fs 0) then none else some 0
+
+unfoldable pub fieldFault : List Frame → Option ℕ
+fieldFault fs = lowest (λ (i : ℕ) (f : Frame). not (frameFine fs i f)) 0 fs
+
+-- the code's answers
+abbrev pub found : Option ℕ → Found
+found none = Nowhere
+found (some j) = At j
+
+abbrev pub optionOf : Found → Option ℕ
+optionOf Nowhere = none
+optionOf (At j) = some j
+
+-- ---- 5: of the frames passed, how many are shared cells and modules, and the types of the cells in an array of 16
+unfoldable pub tallyOf : List Frame → Tally
+tallyOf fs = record { cells = countOf isShared fs; modules = countOf isModule fs; types = cellsOf fs ++ replicate (mostShared - length (cellsOf fs)) 0 }

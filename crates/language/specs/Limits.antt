@@ -1,0 +1,54 @@
+-- How much a text, a file, a state and a run hold at most: each of 01's figures is named here once. Assumes nothing: definitions.
+use Prim.Native.Nat.{ℕ}
+
+-- a line is '16 digits .., then a line feed'; 'at most 1,024 lines', so 'over 17,408 bytes' is too long
+abbrev pub lineLength : ℕ
+lineLength = 17
+
+abbrev pub mostLines : ℕ
+mostLines = 1024
+
+abbrev pub mostBytes : ℕ
+mostBytes = 17408
+
+-- a file: 'shared cells (at most 16)', 'modules (at most 16)', 'parameters over 2', 'at most 24 deep, so at most 25 variables are in scope'
+abbrev pub mostSchedulers : ℕ
+mostSchedulers = 8
+
+abbrev pub mostShared : ℕ
+mostShared = 16
+
+abbrev pub mostModules : ℕ
+mostModules = 16
+
+abbrev pub mostParameters : ℕ
+mostParameters = 2
+
+abbrev pub mostDepth : ℕ
+mostDepth = 24
+
+abbrev pub mostVariables : ℕ
+mostVariables = 25
+
+-- a state: 'a 65th thread', 'a 257th cell'; a continuation has as much space as the variables, and a list holds every thread
+abbrev pub mostThreads : ℕ
+mostThreads = 64
+
+abbrev pub mostCells : ℕ
+mostCells = 256
+
+abbrev pub mostItems : ℕ
+mostItems = 25
+
+-- a run: the choices of the 49,152 bytes; the listing's lines of 14 bytes, its first and its last; 'A (0 means 4,096)'
+abbrev pub mostChoices : ℕ
+mostChoices = 16384
+
+abbrev pub mostChoiceBytes : ℕ
+mostChoiceBytes = 49152
+
+abbrev pub mostListingBytes : ℕ
+mostListingBytes = 229389
+
+abbrev pub defaultAllowance : ℕ
+defaultAllowance = 4096

@@ -1,0 +1,22 @@
+-- Refusals 1 to 7 by functions that compute. No reader has to believe it: proofs/Accepted shows that `layoutVerdict` gives the one v that `HasLayout` allows. Assumes nothing: definitions.
+use mathlib.Core.List.{List}
+use Prim.Native.Nat.{ℕ}
+use Rattle.language.specs.declared.verdict.Verdict.{Verdict}
+use Rattle.language.specs.declared.verdict.Verdict.the-variants.{Rejected}
+use Rattle.text.specs.Reading.{Reading, frames, refused}
+use Rattle.text.specs.inner.Reading.{reading, linesRead, textWords}
+use Rattle.layout.specs.declared.LaidOut.{LaidOut}
+use Rattle.layout.specs.inner.Scans.{layoutOf}
+
+-- 1 to 3, then 4 to 7
+abbrev pub layoutRead : Reading → Verdict
+layoutRead (frames fs) = layoutOf fs
+layoutRead (refused n j) = Rejected n j
+
+-- what the check of the layout answers; `Accepted` where the text passes 1 to 7
+unfoldable pub layoutVerdict : List ℕ → Verdict
+layoutVerdict bs = layoutRead (reading bs)
+
+-- with the lines that were read, and how many they are
+unfoldable pub laidOut : List ℕ → LaidOut
+laidOut bs = record { verdict = layoutVerdict bs; count = linesRead (reading bs); words = textWords bs .words }

@@ -1,0 +1,222 @@
+-- The ready test and the end of an instant on the words are those of the state. Assumes nothing.
+use Prim.Native.Nat.{ℕ, zero, suc, _+_, _*_, _-_, _/_, _%_, _<_, _≤_}
+use mathlib.Core.Path.{_≡_, refl, sym, ap, ap₂, _∙_}
+use mathlib.Core.List.{List, [], _∷_, map}
+use mathlib.Core.Bool.{Bool, true, false, not, _||_}
+use native.Mathlib.Omega.{arith}
+use native.Mathlib.Nat.{add-zero}
+use lib.ListN.{getD, length, length-map}
+use lib.Seq.{ext-getD, set-getD}
+use lib.Dec.{eqb}
+use borrow.Author.Tests.{lt-ltb, le-ltb}
+use Rattle.basics.specs.Members.{All, none, more}
+use Rattle.basics.proofs.Ifs.{if-yes, if-no, and-true}
+use Rattle.machine.specs.State.{State, Thread, Scheduler, Entry, plain, waiting, noThread, noScheduler, withScheduler, schedulerAt}
+use Rattle.machine.specs.Waits.{endedFrom, isReady, threadOf, keepIf, readyThreads, stillWaiting}
+use Rattle.machine.specs.Words.{entryWord, listWord, wordsAt, pack}
+use Rattle.machine.specs.inner.Blocks.{pasted, padded}
+use Rattle.machine.specs.inner.Ranges.{allBelow}
+use Rattle.machine.proofs.Tests.{and-both}
+use Rattle.machine.proofs.WordLaws.{Says, is-pack, tab-length, tab-from, pasted-length, pasted-in, pasted-out}
+use Rattle.machine.proofs.Padded.{padded-length, padded-at}
+use Rattle.machine.proofs.Round.{thread-1, thread-2, ended-bit}
+use Rattle.machine.proofs.Ranges.{below-each, all-below}
+use Rattle.machine.specs.Shapes.{EntryFits, plain-fits, waiting-fits}
+use Rattle.lists.specs.inner.Lists.{isQuiet, isReadyWord, readyWords, waitingWords, sortedOf, withInstantEnded}
+use Rattle.machine.proofs.AllBelow.{same-test}
+use Rattle.lists.proofs.SchedulerSays.{by-lists, scheduler-put, next-word, room-says}
+
+-- ---- the ready test
+-- thread t, which is x, has ended, or is neither thread u nor started by it: `isQuiet` on the state
+quiet : ℕ → ℕ → Thread → Bool
+quiet u t x = x .ended || not (eqb t u || eqb (x .starter) u)
+
+ended-each : (u t : ℕ) (xs : List Thread) → endedFrom u t xs ≡ true → (k : ℕ) → k < length xs → quiet u (t + k) (getD xs k noThread) ≡ true
+unfolding endedFrom quiet
+ended-each u t [] e k g = absurd (omega arith)
+ended-each u t (x ∷ xs) e zero g = ap (λ (n : ℕ). quiet u n x) (add-zero t) ∙ and-true (quiet u t x) (endedFrom u (suc t) xs) e .0
+ended-each u t (x ∷ xs) e (suc k) g =
+    let z : t + suc k ≡ suc t + k = omega arith in
+    ap (λ (n : ℕ). quiet u n (getD xs k noThread)) z ∙ ended-each u (suc t) xs (and-true (quiet u t x) (endedFrom u (suc t) xs) e .1) k (omega arith)
+
+each-ended : (u t : ℕ) (xs : List Thread) → ((k : ℕ) → k < length xs → quiet u (t + k) (getD xs k noThread) ≡ true) → endedFrom u t xs ≡ true
+unfolding endedFrom quiet
+each-ended u t [] h = refl
+each-ended u t (x ∷ xs) h =
+    and-both (quiet u t x) (endedFrom u (suc t) xs) (ap (λ (n : ℕ). quiet u n x) (sym (add-zero t)) ∙ h 0 (omega arith))
+    (each-ended u (suc t) xs (λ k g. let z : suc t + k ≡ t + suc k = omega arith in ap (λ (n : ℕ). quiet u n (getD xs k noThread)) z ∙ h (suc k) (omega arith)))
+
+module _ (w : List ℕ) (s : State) (h : Says w s) (few : length (s .threads) ≤ 64) where
+  quiet-says : (u k : ℕ) → k < length (s .threads) → isQuiet w u k ≡ quiet u (1 + k) (getD (s .threads) k noThread)
+  unfolding isQuiet quiet
+  quiet-says u k g =
+      let z : suc k ≡ 1 + k = omega arith in
+      ap₂ (λ (a b : ℕ). eqb a 0 || not (eqb (suc k) u || eqb b u)) (h .thread k 2 (omega arith) (omega arith) ∙ thread-2 x) (h .thread k 1 (omega arith) (omega arith) ∙ thread-1 x)
+      ∙ ap₂ (λ (b : Bool) (n : ℕ). b || not (eqb n u || eqb (x .starter) u)) (ended-bit (x .ended)) z
+    where
+      x : Thread
+      x = getD (s .threads) k noThread
+
+  all-quiet-says : (u : ℕ) → allBelow (getD w 0 0) (isQuiet w u) ≡ endedFrom u 1 (s .threads)
+  all-quiet-says u =
+      ap (λ (n : ℕ). allBelow n (isQuiet w u)) (h .threads)
+      ∙ same-test _ _
+      (λ e. each-ended u 1 (s .threads) (λ k g. sym (quiet-says u k g) ∙ below-each (length (s .threads)) (isQuiet w u) e k g))
+      (λ e. all-below (length (s .threads)) (isQuiet w u) (λ k g. quiet-says u k g ∙ ended-each u 1 (s .threads) e k g))
+
+  pub ready-says : (e : Entry) → EntryFits e → isReadyWord w (entryWord e) ≡ isReady (s .threads) e
+  unfolding isReadyWord isReady entryWord
+  ready-says (plain t) (plain-fits f) = let l = f .1 in if-yes _ _ (lt-ltb t 128 (omega arith))
+  ready-says (waiting t u) (waiting-fits f g) =
+      let l = f .1 in
+      let m = g .0 in
+      let z : (128 * u + t) / 128 ≡ u = omega arith in
+      if-no _ _ (le-ltb (128 * u + t) 128 (omega arith)) ∙ ap (λ (v : ℕ). allBelow (getD w 0 0) (isQuiet w v)) z ∙ all-quiet-says u
+
+  thread-of : (e : Entry) → EntryFits e → entryWord e % 128 ≡ threadOf e
+  unfolding entryWord
+  thread-of (plain t) (plain-fits f) = let l = f .1 in omega arith
+  thread-of (waiting t u) (waiting-fits f g) = let l = f .1 in omega arith
+
+  pub ready-words : (es : List Entry) → All EntryFits es → readyWords w (map entryWord es) ≡ readyThreads (s .threads) es
+  unfolding readyWords readyThreads
+  ready-words [] none = refl
+  ready-words (e ∷ es) (more f fs) =
+      ap₂ (λ (b : Bool) (t : ℕ). keepIf b t (readyWords w (map entryWord es))) (ready-says e f) (thread-of e f)
+      ∙ ap (keepIf (isReady (s .threads) e) (threadOf e)) (ready-words es fs)
+
+  pub waiting-words : (es : List Entry) → All EntryFits es → waitingWords w (map entryWord es) ≡ map entryWord (stillWaiting (s .threads) es)
+  unfolding waitingWords stillWaiting
+  waiting-words [] none = refl
+  waiting-words (e ∷ es) (more f fs) =
+      ap₂ (λ (b : Bool) (ws : List ℕ). keepIf (not b) (entryWord e) ws) (ready-says e f) (waiting-words es fs) ∙ kept (not (isReady (s .threads) e))
+    where
+      kept : (b : Bool) → keepIf b (entryWord e) (map entryWord (stillWaiting (s .threads) es)) ≡ map entryWord (keepIf b e (stillWaiting (s .threads) es))
+      kept true = refl
+      kept false = refl
+
+-- ---- the end of an instant
+-- a list's words: its length, then its members in their space
+list-in : (rs : List ℕ) (j : ℕ) → j < 65 → getD (length rs ∷ padded 64 rs) j 0 ≡ listWord rs j
+list-in rs zero g = refl
+list-in rs (suc j) g = padded-at 64 rs j (omega arith)
+
+module _ (w : List ℕ) (s : State) (h : Says w s) (few : length (s .threads) ≤ 64) (q : ℕ) (a : q - 2 < 8) (b : q - 2 < length (s .schedulers))
+    (room : length (schedulerAt s q .next) ≤ 64) (fit : All EntryFits (schedulerAt s q .next)) where
+  -- where the scheduler's words begin and where its next list does; the entries there, and the words of the ready ones and of those that wait
+  abbrev blockAt : ℕ
+  blockAt = 2 + 130 * (q - 2)
+
+  abbrev nextAt : ℕ
+  nextAt = 67 + 130 * (q - 2)
+
+  abbrev es : List Entry
+  es = getD (s .schedulers) (q - 2) noScheduler .next
+
+  abbrev rs : List ℕ
+  rs = readyWords w (wordsAt w nextAt)
+
+  abbrev ws : List ℕ
+  ws = waitingWords w (wordsAt w nextAt)
+
+  entries-read : wordsAt w nextAt ≡ map entryWord es
+  entries-read = ext-getD 0 (wordsAt w nextAt) (map entryWord es) (tab-length (getD w nextAt 0) (λ i. getD w i 0) (suc nextAt) ∙ size) each
+    where
+      size : getD w nextAt 0 ≡ length (map entryWord es)
+      size = room-says w s h q a b ∙ sym (length-map es entryWord)
+
+      each : (j : ℕ) → j < length (wordsAt w nextAt) → getD (wordsAt w nextAt) j 0 ≡ getD (map entryWord es) j 0
+      each j g =
+          let m : j < getD w nextAt 0 = rw (tab-length (getD w nextAt 0) (λ i. getD w i 0) (suc nextAt)) at g in
+          let n : getD w nextAt 0 ≡ length es = room-says w s h q a b in
+          let r : length es ≤ 64 = room in
+          let z : suc nextAt + j ≡ blockAt + (65 + suc j) = omega arith in
+          tab-from (getD w nextAt 0) (λ i. getD w i 0) (suc nextAt) j 0 m ∙ ap (λ (i : ℕ). getD w i 0) z ∙ next-word w s h q a b (suc j) (omega arith)
+
+  readies : rs ≡ readyThreads (s .threads) es
+  readies = ap (readyWords w) entries-read ∙ ready-words w s h few es fit
+
+  waits : ws ≡ map entryWord (stillWaiting (s .threads) es)
+  waits = ap (waitingWords w) entries-read ∙ waiting-words w s h few es fit
+
+  -- the count that `end_instant` gives
+  pub instant-readies : length (readyWords w (wordsAt w (67 + 130 * (q - 2)))) ≡ length (readyThreads (s .threads) (schedulerAt s q .next))
+  instant-readies = ap length readies
+
+  abbrev after : Scheduler
+  after = record { active = readyThreads (s .threads) (schedulerAt s q .next); next = stillWaiting (s .threads) (schedulerAt s q .next) }
+
+  -- `end_instant`
+  pub instant-says : Says (withInstantEnded w (q - 2)) (withScheduler q (record { active = readyThreads (s .threads) (schedulerAt s q .next); next = stillWaiting (s .threads) (schedulerAt s q .next) }) s)
+  unfolding withInstantEnded sortedOf
+  instant-says = scheduler-put w s h q a b v after long (by-lists after (λ j. getD v (blockAt + j) 0) active next)
+      (λ i f. pasted-out u nextAt nexts 65 hd' hs' i (λ p r. f (omega arith) (omega arith)) ∙ pasted-out w blockAt actives 65 hd hs i (λ p r. f (omega arith) (omega arith)))
+    where
+      actives : List ℕ
+      actives = length rs ∷ padded 64 rs
+
+      nexts : List ℕ
+      nexts = length ws ∷ padded 64 ws
+
+      u : List ℕ
+      u = pasted w blockAt actives 65
+
+      v : List ℕ
+      v = pasted u nextAt nexts 65
+
+      hd : blockAt + 65 ≤ length w
+      hd = rw (h .all) (omega arith)
+
+      hs : 65 ≤ length actives
+      hs = let p : length (padded 64 rs) ≡ 64 = padded-length 64 rs in omega arith
+
+      ul : length u ≡ 4818
+      ul = pasted-length w blockAt actives 65 hd hs ∙ h .all
+
+      hd' : nextAt + 65 ≤ length u
+      hd' = rw ul (omega arith)
+
+      hs' : 65 ≤ length nexts
+      hs' = let p : length (padded 64 ws) ≡ 64 = padded-length 64 ws in omega arith
+
+      long : length v ≡ 4818
+      long = pasted-length u nextAt nexts 65 hd' hs' ∙ ul
+
+      active : (j : ℕ) → j < 65 → getD v (blockAt + j) 0 ≡ listWord (readyThreads (s .threads) (schedulerAt s q .next)) j
+      active j g =
+          pasted-out u nextAt nexts 65 hd' hs' (blockAt + j) (λ p r. omega arith) ∙ pasted-in w blockAt actives 65 hd hs j g
+          ∙ list-in rs j g ∙ ap (λ (l : List ℕ). listWord l j) readies
+
+      next : (j : ℕ) → j < 65 → getD v (blockAt + (65 + j)) 0 ≡ listWord (map entryWord (stillWaiting (s .threads) (schedulerAt s q .next))) j
+      next j g =
+          let z : blockAt + (65 + j) ≡ nextAt + j = omega arith in
+          ap (λ (i : ℕ). getD v i 0) z ∙ pasted-in u nextAt nexts 65 hd' hs' j g ∙ list-in ws j g ∙ ap (λ (l : List ℕ). listWord l j) waits
+
+-- where none is ready all stay, so that the state is the same, and with it the words: 'nothing' (16) changes no buffer
+pub none-ready : (ts : List Thread) (es : List Entry) → readyThreads ts es ≡ [] → stillWaiting ts es ≡ es
+unfolding readyThreads stillWaiting
+none-ready ts [] e = refl
+none-ready ts (x ∷ xs) e = by (isReady ts x) refl (none-ready ts xs)
+  where
+    by : (b : Bool) → isReady ts x ≡ b → (readyThreads ts xs ≡ [] → stillWaiting ts xs ≡ xs) → stillWaiting ts (x ∷ xs) ≡ x ∷ xs
+    by true q r = absurd (some (sym (ap (λ (b : Bool). keepIf b (threadOf x) (readyThreads ts xs)) q) ∙ e))
+      where
+        some : {t : ℕ} {l : List ℕ} → t ∷ l ≡ [] → ⊥
+        some z = let n : _≡_ {A = ℕ} 0 1 = cc in omega arith
+    by false q r = ap (λ (b : Bool). keepIf (not b) x (stillWaiting ts xs)) q ∙ ap (λ (l : List Entry). x ∷ l) (r (sym (ap (λ (b : Bool). keepIf b (threadOf x) (readyThreads ts xs)) q) ∙ e))
+
+pub instant-none : (w : List ℕ) (s : State) → Says w s → length (s .threads) ≤ 64 → (q : ℕ) → q - 2 < 8 → q - 2 < length (s .schedulers)
+    → length (schedulerAt s q .next) ≤ 64 → All EntryFits (schedulerAt s q .next) → schedulerAt s q .active ≡ [] → readyThreads (s .threads) (schedulerAt s q .next) ≡ []
+    → withInstantEnded w (q - 2) ≡ w
+instant-none w s h few q a b room fit idle none-is = is-pack _ _ (instant-says w s h few q a b room fit) ∙ ap pack same ∙ sym (is-pack w s h)
+  where
+    x : Scheduler
+    x = getD (s .schedulers) (q - 2) noScheduler
+
+    back : (y z : Scheduler) → y .active ≡ z .active → y .next ≡ z .next → y ≡ z
+    back y z e f = λ i. record { active = e i; next = f i }
+
+    same : withScheduler q (record { active = readyThreads (s .threads) (schedulerAt s q .next); next = stillWaiting (s .threads) (schedulerAt s q .next) }) s ≡ s
+    same =
+        ap (λ (y : Scheduler). withScheduler q y s) (back _ (schedulerAt s q) (none-is ∙ sym idle) (none-ready (s .threads) (x .next) none-is))
+        ∙ ap (λ (xs : List Scheduler). record { threads = s .threads; schedulers = xs; cells = s .cells }) (set-getD (s .schedulers) (q - 2) noScheduler)

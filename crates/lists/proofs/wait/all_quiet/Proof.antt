@@ -1,0 +1,56 @@
+-- `all_quiet` meets its contract. Assumes nothing.
+use borrow.Author.Needs.{needs}
+use Prim.Native.Nat.{_≤_, _-_}
+use mathlib.Core.Path.{_≡_, refl}
+use mathlib.Core.Bool.{true}
+use lib.ListN.{getD}
+use Rattle.machine.proofs.AllBelow.{all-none, all-end, answer-wrong, answer-more}
+use Rattle.machine.specs.inner.Ranges.{allBelow}
+use Rattle.lists.specs.inner.Lists.{isQuiet}
+use Rattle.lists.proofs.wait.all_quiet.Statement.{statement}
+use Rattle.lists.proofs.wait.all_quiet.Tie as tie
+
+abbrev Inv-loop : tie.InvT-loop
+Inv-loop state u n k₀ k = (k ≤ n) × (n ≡ getD state 0 0) × (allBelow k (isQuiet state u) ≡ true)
+
+abbrev μ-loop : tie.MeasureT-loop
+μ-loop state u n k₀ k = n - k
+
+shared-slice-read-n : tie.Need-shared-slice-read-n Inv-loop μ-loop
+shared-slice-read-n c = search needs
+
+loop-holds : tie.Need-loop-holds Inv-loop μ-loop
+loop-holds c = (search needs, refl, all-none _)
+
+is-quiet-requires : tie.Need-is-quiet-requires Inv-loop μ-loop
+is-quiet-requires c κs = search needs
+
+returns : tie.Need-returns Inv-loop μ-loop
+returns c = search answer-wrong
+
+add-k : tie.Need-add-k Inv-loop μ-loop
+add-k c = search needs
+
+loop-less : tie.Need-loop-less Inv-loop μ-loop
+loop-less c = search needs
+
+loop-again : tie.Need-loop-again Inv-loop μ-loop
+loop-again c = (search needs, search needs, search answer-more)
+
+returns-2 : tie.Need-returns-2 Inv-loop μ-loop
+returns-2 c = search all-end
+
+pub all-quiet-spec : {M : Type 1} → statement M
+all-quiet-spec =
+    tie.close
+    (tie.spec
+    Inv-loop
+    μ-loop
+    shared-slice-read-n
+    loop-holds
+    is-quiet-requires
+    returns
+    add-k
+    loop-less
+    loop-again
+    returns-2)

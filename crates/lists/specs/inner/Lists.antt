@@ -1,0 +1,83 @@
+-- What the code does to the lists of schedulers, and its ready test, in the words. No reader has to
+-- believe it: on words that say a state each is what the rules do to the state
+-- (proofs/SchedulerSays, proofs/Instants). Scheduler k counts from 0. Assumes nothing:
+-- definitions.
+use mathlib.Core.List.{List, [], _∷_, _++_}
+use mathlib.Core.Bool.{Bool, true, not, _||_}
+use Prim.Native.Nat.{ℕ, suc, _+_, _-_, _*_, _/_, _%_}
+use lib.Dec.{ltb, eqb}
+use lib.ListN.{length, getD, set, drop}
+use Rattle.basics.specs.If.{if_then_else_}
+use Rattle.language.specs.Limits.{mostThreads}
+use Rattle.machine.specs.Offsets.{threadCountAt, schedulersAt, schedulerLength, listLength}
+use Rattle.machine.specs.Offsets.{nextListAt, threadsAt, threadLength, starterField, livesField}
+use Rattle.machine.specs.Offsets.{waitingFactor}
+use Rattle.machine.specs.Waits.{keepIf}
+use Rattle.machine.specs.Words.{wordsAt}
+use Rattle.machine.specs.inner.Blocks.{part, pasted, padded}
+use Rattle.machine.specs.inner.Ranges.{allBelow}
+use Rattle.lists.specs.declared.list.Sorted.{Sorted}
+
+-- the words without the first, and 0 behind
+unfoldable pub shifted : List ℕ → List ℕ
+shifted ws = drop 1 ws ++ (0 ∷ [])
+
+-- the first active thread of scheduler k has left
+unfoldable pub withoutFirst : List ℕ → ℕ → List ℕ
+withoutFirst w k =
+    let at = schedulersAt + schedulerLength * k in
+    if eqb (getD w at 0) 0 then w else
+    set (pasted w (at + 1) (shifted (part w (at + 1) mostThreads)) mostThreads) at (getD w at 0 - 1)
+
+-- entry e stands at position p of the list at that place, of n members; those from there on stand
+-- behind it
+unfoldable pub insertedIn : List ℕ → ℕ → ℕ → ℕ → ℕ → List ℕ
+insertedIn w at n p e =
+    set (pasted w (at + 1 + p) (e ∷ part w (at + 1 + p) (n - p)) (n - p + 1)) at (n + 1)
+
+-- entry e stands at the end of the next list of scheduler k; 64 are its space
+unfoldable pub withLast : List ℕ → ℕ → ℕ → List ℕ
+withLast w k e =
+    let at = nextListAt + schedulerLength * k in
+    if ltb (getD w at 0) mostThreads
+    then set (set w (at + 1 + getD w at 0) e) at (getD w at 0 + 1)
+    else w
+
+-- ---- the end of an instant
+
+-- thread k, from 0, has ended, or is neither thread u nor started by it
+unfoldable pub isQuiet : List ℕ → ℕ → ℕ → Bool
+isQuiet w u k =
+    eqb (getD w (threadsAt + threadLength * k + livesField) 0) 0
+    || not (eqb (suc k) u || eqb (getD w (threadsAt + threadLength * k + starterField) 0) u)
+
+-- the entry e is ready
+unfoldable pub isReadyWord : List ℕ → ℕ → Bool
+isReadyWord w e =
+    if ltb e waitingFactor then true else
+    allBelow (getD w threadCountAt 0) (isQuiet w (e / waitingFactor))
+
+-- of the entries, the threads of the ready ones, and those that wait
+unfoldable pub readyWords : List ℕ → List ℕ → List ℕ
+readyWords w [] = []
+readyWords w (e ∷ es) = keepIf (isReadyWord w e) (e % waitingFactor) (readyWords w es)
+
+unfoldable pub waitingWords : List ℕ → List ℕ → List ℕ
+waitingWords w [] = []
+waitingWords w (e ∷ es) = keepIf (not (isReadyWord w e)) e (waitingWords w es)
+
+unfoldable pub sortedOf : List ℕ → List ℕ → Sorted
+sortedOf w es =
+    record {
+      readies = length (readyWords w es);
+      ready = padded mostThreads (readyWords w es);
+      waits = length (waitingWords w es);
+      waiting = padded mostThreads (waitingWords w es);
+    }
+
+-- scheduler k's ready entries have become active, the others stay
+unfoldable pub withInstantEnded : List ℕ → ℕ → List ℕ
+withInstantEnded w k =
+    let x = sortedOf w (wordsAt w (nextListAt + schedulerLength * k)) in
+    pasted (pasted w (schedulersAt + schedulerLength * k) (x .readies ∷ x .ready) listLength)
+    (nextListAt + schedulerLength * k) (x .waits ∷ x .waiting) listLength

@@ -1,0 +1,210 @@
+// A scheduler's active list and next list in the lent words.
+use crate::wait::is_ready;
+use language::Place;
+use language::limit::MOST_THREADS;
+use machine::offset::LIST_LENGTH;
+use machine::offset::SCHEDULER_LENGTH;
+use machine::offset::SCHEDULERS_AT;
+use machine::offset::WAITING_FACTOR;
+ghost use mathlib.Core.Path.{_≡_};
+ghost use mathlib.Core.Bool.{true};
+ghost use mathlib.Core.List.{_∷_};
+ghost use Prim.Native.Nat.{_+_, _-_, _*_, _<_, _≤_};
+ghost use lib.Dec.{leb};
+ghost use lib.ListN.{length, getD};
+ghost use Rattle.language.specs.Places.{home, isScheduler};
+ghost use Rattle.language.specs.Limits.{mostThreads};
+ghost use Rattle.machine.specs.Offsets.{stateLength, threadCountAt, schedulersAt, schedulerLength};
+ghost use Rattle.machine.specs.Offsets.{listLength, nextListAt, threadsAt};
+ghost use Rattle.machine.specs.inner.Blocks.{part, pasted};
+ghost use Rattle.machine.specs.Words.{wordsAt};
+ghost use Rattle.lists.specs.inner.Lists.{shifted, withoutFirst, insertedIn, withLast};
+ghost use Rattle.lists.specs.inner.Lists.{sortedOf, withInstantEnded, readyWords};
+
+// The last index of a list's space.
+const LAST: usize = MOST_THREADS - 1;
+
+// A next list's entries: the threads of the ready ones, and those that wait, each with its count
+// and 0 behind.
+struct Sorted {
+    readies: u64,
+    ready: [u64; MOST_THREADS],
+    waits: u64,
+    waiting: [u64; MOST_THREADS],
+}
+
+// Where the scheduler's active list begins: its count, then the space of 64 threads.
+fn active_list(q: Place) -> usize
+    requires { ⌜ isScheduler (q .number) ≡ true ⌝ }
+    ensures place { λ r. ⌜ r ≡ schedulersAt + schedulerLength * (q .number - home) ⌝ }
+    ensures space { λ r. ⌜ r + schedulerLength ≤ threadsAt ⌝ }
+{
+    SCHEDULERS_AT + SCHEDULER_LENGTH * q.index()
+}
+
+// Where its next list begins, right behind: its count, then the space of 64 entries.
+fn next_list(q: Place) -> usize
+    requires { ⌜ isScheduler (q .number) ≡ true ⌝ }
+    ensures place { λ r. ⌜ r ≡ nextListAt + schedulerLength * (q .number - home) ⌝ }
+    ensures space { λ r. ⌜ r + listLength ≤ threadsAt ⌝ }
+{
+    active_list(q) + LIST_LENGTH
+}
+
+// The first active thread; 0 where there is none.
+pub fn first_active(state: &[u64], q: Place) -> u64
+    requires { ⌜ (length (now state) ≡ stateLength) × (isScheduler (q .number) ≡ true) ⌝ }
+    ensures { λ r. ⌜ r ≡ getD (now (state .entry))
+        (schedulersAt + 1 + schedulerLength * (q .number - home)) 0 ⌝ }
+{
+    state[active_list(q) + 1]
+}
+
+// So many more entries have room in the next list.
+pub fn has_room(state: &[u64], q: Place, more: u8) -> bool
+    requires { ⌜ (length (now state) ≡ stateLength) × (isScheduler (q .number) ≡ true) ⌝ }
+    ensures { λ r. ⌜ r
+        ≡ leb
+        (getD (now (state .entry)) (nextListAt + schedulerLength * (q .number - home)) 0 + more)
+        mostThreads ⌝ }
+{
+    let n = state[next_list(q)];
+    if (MOST_THREADS as u64) < n {
+        return false;
+    }
+    n + more as u64 <= MOST_THREADS as u64
+}
+
+// Each of the 64 words at that place moves to the index below it.
+fn shift(state: &mut [u64], at: usize)
+    requires { ⌜ at + mostThreads ≤ length (now state) ⌝ }
+    ensures { λ _. ⌜ now (state .exit) ≡ pasted (now (state .entry)) at
+        (shifted (part (now (state .entry)) at mostThreads)) mostThreads ⌝ }
+{
+    let mut j: usize = 0;
+    while j < LAST {
+        state[at + j] = state[at + j + 1];
+        j += 1;
+    }
+    state[at + LAST] = 0;
+}
+
+// The first active thread leaves the list, each other to the index below it; an empty list stays.
+pub fn drop_first(state: &mut [u64], q: Place)
+    requires { ⌜ (length (now state) ≡ stateLength) × (isScheduler (q .number) ≡ true) ⌝ }
+    ensures { λ _. ⌜ now (state .exit) ≡ withoutFirst (now (state .entry)) (q .number - home) ⌝ }
+{
+    let at = active_list(q);
+    let n = state[at];
+    if n == 0 {
+        return;
+    }
+    shift(state, at + 1);
+    state[at] = n - 1;
+}
+
+// The entry stands at that position of the list at that place, which has n members; each from there
+// on moves to the index above it.
+fn insert(state: &mut [u64], at: usize, n: usize, position: usize, entry: u64)
+    requires { ⌜ (at + listLength ≤ length (now state)) × (n < mostThreads) × (position ≤ n) ⌝ }
+    ensures { λ _. ⌜ now (state .exit) ≡ insertedIn (now (state .entry)) at n position entry ⌝ }
+{
+    let first = at + 1 + position;
+    let more = n - position;
+    let mut e = entry;
+    let mut j: usize = 0;
+    while j < more {
+        let moved = state[first + j];
+        state[first + j] = e;
+        e = moved;
+        j += 1;
+    }
+    state[first + more] = e;
+    state[at] = (n + 1) as u64;
+}
+
+// The entry goes to the end of the next list; a full list stays as it is.
+pub fn append(state: &mut [u64], q: Place, entry: u64)
+    requires { ⌜ (length (now state) ≡ stateLength) × (isScheduler (q .number) ≡ true) ⌝ }
+    ensures { λ _. ⌜ now (state .exit) ≡ withLast (now (state .entry)) (q .number - home) entry ⌝ }
+{
+    let at = next_list(q);
+    let n = state[at] as usize;
+    if MOST_THREADS <= n {
+        return;
+    }
+    insert(state, at, n, n, entry);
+}
+
+// Validation has found at most 64 threads, and a list within its space.
+fn sort_entries(state: &[u64], at: usize) -> Sorted
+    requires { ⌜ (length (now state) ≡ stateLength) × (at + mostThreads < stateLength)
+        × (getD (now state) threadCountAt 0 ≤ mostThreads)
+        × (getD (now state) at 0 ≤ mostThreads) ⌝ }
+    ensures { λ r. ⌜ r ≡ sortedOf (now (state .entry)) (wordsAt (now (state .entry)) at) ⌝ }
+{
+    let n = state[at] as usize;
+    let mut ready = [0u64; MOST_THREADS];
+    let mut waiting = [0u64; MOST_THREADS];
+    let mut r: usize = 0;
+    let mut j: usize = 0;
+    while j < n {
+        let e = state[at + 1 + j];
+        if is_ready(state, e) {
+            ready[r] = e % WAITING_FACTOR;
+            r += 1;
+            j += 1;
+            continue;
+        }
+        waiting[j - r] = e;
+        j += 1;
+    }
+    Sorted {
+        readies: r as u64,
+        ready,
+        waits: (n - r) as u64,
+        waiting,
+    }
+}
+
+fn store_members(state: &mut [u64], at: usize, members: [u64; MOST_THREADS])
+    requires { ⌜ at + mostThreads ≤ length (now state) ⌝ }
+    ensures { λ _. ⌜ now (state .exit) ≡ pasted (now (state .entry)) at members mostThreads ⌝ }
+{
+    let mut j: usize = 0;
+    while j < MOST_THREADS {
+        state[at + j] = members[j];
+        j += 1;
+    }
+}
+
+fn store_list(state: &mut [u64], at: usize, count: u64, members: [u64; MOST_THREADS])
+    requires { ⌜ at + listLength ≤ length (now state) ⌝ }
+    ensures { λ _. ⌜ now (state .exit)
+        ≡ pasted (now (state .entry)) at (count ∷ members) listLength ⌝ }
+{
+    state[at] = count;
+    store_members(state, at + 1, members);
+}
+
+// The instant of a scheduler with no active thread ends: how many entries were ready. Where none
+// was, nothing changes.
+pub fn end_instant(state: &mut [u64], q: Place) -> u64
+    requires { ⌜ (length (now state) ≡ stateLength) × (isScheduler (q .number) ≡ true)
+        × (getD (now state) threadCountAt 0 ≤ mostThreads)
+        × (getD (now state) (nextListAt + schedulerLength * (q .number - home)) 0 ≤ mostThreads) ⌝ }
+    ensures count { λ r. ⌜ r ≡ length (readyWords (now (state .entry))
+        (wordsAt (now (state .entry)) (nextListAt + schedulerLength * (q .number - home)))) ⌝ }
+    ensures words { λ r. ⌜ now (state .exit)
+        ≡ withInstantEnded (now (state .entry)) (q .number - home) ⌝ }
+{
+    let next = next_list(q);
+    let s = sort_entries(state, next);
+    let r = s.readies;
+    let ready = s.ready;
+    store_list(state, active_list(q), r, ready);
+    let w = s.waits;
+    let waiting = s.waiting;
+    store_list(state, next, w, waiting);
+    r
+}

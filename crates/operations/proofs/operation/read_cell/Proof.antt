@@ -1,0 +1,50 @@
+-- `read_cell` meets its contract. Assumes nothing.
+use borrow.Author.Needs.{needs}
+use Rattle.operations.proofs.Operations.{read-laws}
+use Rattle.operations.proofs.operation.read_cell.Statement.{statement}
+use Rattle.operations.proofs.operation.read_cell.Tie as tie
+
+enum-known-v : tie.Need-enum-known-v
+enum-known-v c = search needs
+
+index8-requires : tie.Need-index8-requires
+index8-requires c κs = search needs
+
+word-at-requires : tie.Need-word-at-requires
+word-at-requires c κs = search needs
+
+content-of-requires : tie.Need-content-of-requires
+content-of-requires c κs = search needs
+
+access-requires : tie.Need-access-requires
+access-requires c κs = search needs
+
+enum-known-v-2 : tie.Need-enum-known-v-2
+enum-known-v-2 c = search needs
+
+enum-known-v-3 : tie.Need-enum-known-v-3
+enum-known-v-3 c = search needs
+
+returns : tie.Need-returns
+returns c = search read-laws
+
+returns-2 : tie.Need-returns-2
+returns-2 c = search read-laws
+
+returns-3 : tie.Need-returns-3
+returns-3 c = search read-laws
+
+pub read-cell-spec : {M : Type 1} → statement M
+read-cell-spec =
+    tie.close
+    (tie.spec
+    enum-known-v
+    index8-requires
+    word-at-requires
+    content-of-requires
+    access-requires
+    enum-known-v-2
+    enum-known-v-3
+    returns
+    returns-2
+    returns-3)

@@ -1,0 +1,210 @@
+// Numbers and truths that are wanted of an evaluation, and what becomes of them: 26 to 28.
+use crate::Answered;
+use machine::value::Outcome;
+use machine::value::Value;
+use program::node::Operator;
+ghost use mathlib.Core.Path.{_≡_};
+ghost use Rattle.operations.specs.inner.Results.{only};
+ghost use Rattle.operations.specs.inner.ByWords.{operation, firstBy, bothBy, operatedBy};
+ghost use Rattle.operations.specs.inner.ByWords.{numberOr, operandOf, asNumber};
+ghost use Rattle.operations.specs.inner.ByWords.{outcomeOf, asAnswer, chosen, chosenBy};
+ghost use Rattle.operations.specs.inner.ByWords.{operandStops, outcomeStops, aTruth};
+
+// What a frame comes to where a number is wanted of it. `Other` is a value of another kind: 20, but
+// behind all expressions of the frame that wants the number.
+pub enum Operand {
+    Number(u32),
+    Other,
+    Foreign,
+    Spent,
+    Stuck,
+}
+
+pub struct Wanted {
+    pub operand: Operand,
+    pub used: usize,
+}
+
+// 26 or 27 of two numbers
+fn operate(op: Operator, m: u32, n: u32) -> Value
+    ensures { λ r. ⌜ r ≡ operation op m n ⌝ }
+{
+    match op {
+        Operator::Sum => Value::Number(std::num::wrapping_add_u32(m, n)),
+        Operator::Less => Value::Truth(m < n),
+    }
+}
+
+// The same where the first is what a number was wanted of.
+fn operate_first(op: Operator, p: Operand, n: u32) -> Outcome
+    ensures { λ r. ⌜ r ≡ firstBy op p n ⌝ }
+{
+    match p {
+        Operand::Number(m) => Outcome::Is(operate(op, m, n)),
+        Operand::Other => Outcome::Stuck,
+        Operand::Foreign => Outcome::Foreign,
+        Operand::Spent => Outcome::Spent,
+        Operand::Stuck => Outcome::Stuck,
+    }
+}
+
+// The same where both are: the second's refusal comes before 20 for a wrong kind of the first.
+fn operate_both(op: Operator, p: Operand, q: Operand) -> Outcome
+    ensures { λ r. ⌜ r ≡ bothBy op p q ⌝ }
+{
+    match q {
+        Operand::Number(n) => operate_first(op, p, n),
+        Operand::Other => Outcome::Stuck,
+        Operand::Foreign => Outcome::Foreign,
+        Operand::Spent => Outcome::Spent,
+        Operand::Stuck => Outcome::Stuck,
+    }
+}
+
+pub fn operated(op: Operator, x: Wanted, y: Wanted) -> Answered
+    ensures { λ r. ⌜ r ≡ operatedBy op x y ⌝ }
+{
+    let p = x.operand;
+    let q = y.operand;
+    Answered {
+        outcome: operate_both(op, p, q),
+        used: y.used,
+    }
+}
+
+// A value where a number is wanted.
+fn number_in(v: Value) -> Operand
+    ensures { λ r. ⌜ r ≡ numberOr v ⌝ }
+{
+    match v {
+        Value::Number(n) => Operand::Number(n),
+        Value::Truth(t) => Operand::Other,
+        Value::Cell(c) => Operand::Other,
+    }
+}
+
+fn operand_of(o: Outcome) -> Operand
+    ensures { λ r. ⌜ r ≡ operandOf o ⌝ }
+{
+    match o {
+        Outcome::Is(v) => number_in(v),
+        Outcome::Foreign => Operand::Foreign,
+        Outcome::Spent => Operand::Spent,
+        Outcome::Stuck => Operand::Stuck,
+    }
+}
+
+pub fn as_number(x: Answered) -> Wanted
+    ensures { λ r. ⌜ r ≡ asNumber x ⌝ }
+{
+    let o = x.outcome;
+    Wanted {
+        operand: operand_of(o),
+        used: x.used,
+    }
+}
+
+// The other way, for who wants nothing else any more: a wrong kind is 20.
+fn outcome_of(p: Operand) -> Outcome
+    ensures { λ r. ⌜ r ≡ outcomeOf p ⌝ }
+{
+    match p {
+        Operand::Number(n) => Outcome::Is(Value::Number(n)),
+        Operand::Other => Outcome::Stuck,
+        Operand::Foreign => Outcome::Foreign,
+        Operand::Spent => Outcome::Spent,
+        Operand::Stuck => Outcome::Stuck,
+    }
+}
+
+pub fn as_answer(x: Wanted) -> Answered
+    ensures { λ r. ⌜ r ≡ asAnswer x ⌝ }
+{
+    let p = x.operand;
+    Answered {
+        outcome: outcome_of(p),
+        used: x.used,
+    }
+}
+
+// Whether it is a refusal, behind which nothing more is evaluated.
+pub fn number_stops(x: Wanted) -> bool
+    ensures { λ r. ⌜ r ≡ operandStops (x .operand) ⌝ }
+{
+    let p = x.operand;
+    match p {
+        Operand::Number(n) => false,
+        Operand::Other => false,
+        Operand::Foreign => true,
+        Operand::Spent => true,
+        Operand::Stuck => true,
+    }
+}
+
+pub fn stops(x: Answered) -> bool
+    ensures { λ r. ⌜ r ≡ outcomeStops (x .outcome) ⌝ }
+{
+    let o = x.outcome;
+    match o {
+        Outcome::Is(v) => false,
+        Outcome::Foreign => true,
+        Outcome::Spent => true,
+        Outcome::Stuck => true,
+    }
+}
+
+// Only a truth goes on: 28's condition.
+fn a_truth(v: Value) -> Outcome
+    ensures { λ r. ⌜ r ≡ aTruth v ⌝ }
+{
+    match v {
+        Value::Truth(t) => Outcome::Is(Value::Truth(t)),
+        Value::Number(n) => Outcome::Stuck,
+        Value::Cell(c) => Outcome::Stuck,
+    }
+}
+
+// The same of an evaluation, whose refusal stands.
+pub fn then_truth(x: Answered) -> Answered
+    ensures { λ r. ⌜ r ≡ only x aTruth ⌝ }
+{
+    let o = x.outcome;
+    match o {
+        Outcome::Is(v) => Answered {
+            outcome: a_truth(v),
+            used: x.used,
+        },
+        Outcome::Foreign => x,
+        Outcome::Spent => x,
+        Outcome::Stuck => x,
+    }
+}
+
+// Which of two frames a truth chooses.
+fn branch_of(v: Value, b: u16, c: u16) -> u16
+    ensures { λ r. ⌜ r ≡ chosen v b c ⌝ }
+{
+    match v {
+        Value::Truth(t) => {
+            if t {
+                return b;
+            }
+            c
+        },
+        Value::Number(n) => c,
+        Value::Cell(j) => c,
+    }
+}
+
+// The same by an outcome; a refusal chooses what is then not evaluated.
+pub fn branch(x: Answered, b: u16, c: u16) -> u16
+    ensures { λ r. ⌜ r ≡ chosenBy (x .outcome) b c ⌝ }
+{
+    let o = x.outcome;
+    match o {
+        Outcome::Is(v) => branch_of(v, b, c),
+        Outcome::Foreign => c,
+        Outcome::Spent => c,
+        Outcome::Stuck => c,
+    }
+}

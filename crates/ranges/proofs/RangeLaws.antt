@@ -1,0 +1,133 @@
+-- Laws of the range tests of words, one for each return of the code; for lists and blocks of words see BlockLaws. Assumes nothing.
+use Prim.Native.Nat.{ℕ, _+_, _-_, _/_, _%_, _<_, _≤_}
+use mathlib.Core.Path.{_≡_, refl, sym, ap, ap₂, _∙_}
+use mathlib.Core.List.{List}
+use mathlib.Core.Bool.{Bool, true, false, not, _&&_}
+use native.Mathlib.Omega.{arith}
+use lib.ListN.{getD, length, List·getD-eq-default}
+use lib.Dec.{leb, eqb}
+use borrow.Author.Tests.{lt-ltb, le-ltb, le-leb, lt-leb, eq-eqb, ne-eqb, not-true, not-false}
+use Rattle.basics.proofs.Ifs.{yes, no, leb-same}
+use Rattle.language.specs.Places.{hasPlace, hasScheduler}
+use Rattle.language.specs.declared.kind.Kind.{Kind}
+use Rattle.language.specs.declared.frame.Frame.{Frame}
+use Rattle.text.specs.Frames.{frameOfWord, framesOf}
+use Rattle.text.proofs.FrameWords.{frames-length, frame-at}
+use Rattle.program.specs.Trees.{frameAt, noFrame}
+use Rattle.machine.specs.inner.Ranges.{threadInRange, valueInRange, itemInRange, entryInRange, cellInRange, allBelow}
+use Rattle.machine.specs.Shapes.{isStatement, ownerInRange}
+use Rattle.ranges.specs.inner.Passes.{isZero, memberInRange, wordPasses}
+use Rattle.ranges.specs.declared.range.Member.{Member}
+use Rattle.machine.proofs.AllBelow.{all-more, all-wrong, answer-more, answer-wrong}
+
+-- ---- numbers of threads, values
+pub thread-number-low : (t : ℕ) → t < 1 → false ≡ threadInRange t
+unfolding threadInRange
+thread-number-low t h = rw (lt-leb 1 t h)
+
+pub thread-number-rest : (t : ℕ) → 1 ≤ t → leb t 64 ≡ threadInRange t
+unfolding threadInRange
+thread-number-rest t h = rw (le-leb 1 t h)
+
+pub ruleset thread-number-laws = (thread-number-low, thread-number-rest)
+
+pub value-number : (w : ℕ) → w < 0x0001_0000_0000 → true ≡ valueInRange w
+unfolding valueInRange
+value-number w h = yes _ (lt-ltb _ _ h) refl
+
+pub value-truth : (w : ℕ) → 0x0001_0000_0000 ≤ w → w < 0x0002_0000_0000 → leb w 0x0001_0000_0001 ≡ valueInRange w
+unfolding valueInRange
+value-truth w a h = no _ (le-ltb _ _ a) (yes _ (lt-ltb _ _ h) refl)
+
+pub value-cell : (w : ℕ) → 0x0001_0000_0000 ≤ w → 0x0002_0000_0000 ≤ w → leb w 0x0002_0000_00FF ≡ valueInRange w
+unfolding valueInRange
+value-cell w a h = no _ (le-ltb _ _ a) (no _ (le-ltb _ _ h) refl)
+
+pub ruleset value-laws = (value-number, value-truth, value-cell)
+
+-- ---- items
+pub no-statement : (words : List ℕ) (i : ℕ) → length words ≤ i → false ≡ isStatement (frameAt (framesOf words) i .kind)
+no-statement words i h = ap (λ (f : Frame). isStatement (f .kind)) (sym (List·getD-eq-default (framesOf words) noFrame {n = i} (rw (frames-length words) h)))
+
+pub some-statement : (words : List ℕ) (i : ℕ) (f : Frame) (k : Kind) (r : Bool) → i < length words → f ≡ frameOfWord (getD words i 0) → k ≡ f .kind → r ≡ isStatement k → r ≡ isStatement (frameAt (framesOf words) i .kind)
+some-statement words i f k r h e q s = s ∙ ap isStatement (q ∙ ap (λ (g : Frame). g .kind) (e ∙ sym (frame-at words i noFrame h)))
+
+pub item-statement : (fs : List Frame) (n w : ℕ) (r : Bool) → w < 1024 → r ≡ isStatement (frameAt fs w .kind) → r ≡ itemInRange fs n w
+unfolding itemInRange
+item-statement fs n w r h e = yes _ (lt-ltb _ _ h) e
+
+pub item-back : (fs : List Frame) (n w : ℕ) (r : Bool) → 1024 ≤ w → w < 2048 → r ≡ hasPlace n (w - 1024) → r ≡ itemInRange fs n w
+unfolding itemInRange
+item-back fs n w r a h e = no _ (le-ltb _ _ a) (yes _ (lt-ltb _ _ h) e)
+
+pub item-drop : (fs : List Frame) (n w : ℕ) → 1024 ≤ w → 2048 ≤ w → eqb w 2048 ≡ itemInRange fs n w
+unfolding itemInRange
+item-drop fs n w a h = no _ (le-ltb _ _ a) (no _ (le-ltb _ _ h) refl)
+
+pub ruleset item-laws = (item-statement, item-back, item-drop)
+
+-- ---- entries, owners, cells
+pub entry-plain : (w : ℕ) (r : Bool) → w < 128 → r ≡ threadInRange w → r ≡ entryInRange w
+unfolding entryInRange
+entry-plain w r h e = yes _ (lt-ltb _ _ h) e
+
+pub entry-wrong : (w : ℕ) (t : Bool) → 128 ≤ w → t ≡ threadInRange (w % 128) → not t ≡ true → false ≡ entryInRange w
+unfolding entryInRange
+entry-wrong w t h e f = no _ (le-ltb _ _ h) (rw (sym e ∙ not-true t f))
+
+pub entry-waiting : (w : ℕ) (t r : Bool) → 128 ≤ w → t ≡ threadInRange (w % 128) → not t ≡ false → r ≡ threadInRange (w / 128) → r ≡ entryInRange w
+unfolding entryInRange
+entry-waiting w t r h e f g = no _ (le-ltb _ _ h) (rw (sym e ∙ not-false t f) g)
+
+pub ruleset entry-laws = (entry-plain, entry-wrong, entry-waiting)
+
+pub owner-scheduler : (n o : ℕ) (t : Bool) → t ≡ hasScheduler n o → t ≡ true → true ≡ ownerInRange n o
+unfolding ownerInRange
+owner-scheduler n o t e h = rw (sym e ∙ h)
+
+pub owner-low : (n o : ℕ) (t : Bool) → t ≡ hasScheduler n o → t ≡ false → o < 16
+    → false ≡ ownerInRange n o
+unfolding ownerInRange
+owner-low n o t e h l = rw (sym e ∙ h, lt-leb 17 o (omega arith))
+
+pub owner-thread : (n o : ℕ) (t r : Bool) → t ≡ hasScheduler n o → t ≡ false → 16 ≤ o
+    → r ≡ threadInRange (o - 16) → r ≡ ownerInRange n o
+unfolding ownerInRange threadInRange
+owner-thread n o t r e h l q =
+    rw (sym e ∙ h) (q ∙ ap₂ (λ (x y : Bool). x && y)
+    (leb-same 1 (o - 16) 17 o (λ z. omega arith) (λ z. omega arith))
+    (leb-same (o - 16) 64 o 80 (λ z. omega arith) (λ z. omega arith)))
+
+pub ruleset owner-laws = (owner-scheduler, owner-low, owner-thread)
+
+pub cell-unowned : (n w : ℕ) (t : Bool) → t ≡ ownerInRange n (w / 0x0004_0000_0000) → not t ≡ true → false ≡ cellInRange n w
+unfolding cellInRange
+cell-unowned n w t e h = rw (sym e ∙ not-true t h)
+
+pub cell-rest : (n w : ℕ) (t r : Bool) → t ≡ ownerInRange n (w / 0x0004_0000_0000) → not t ≡ false → r ≡ valueInRange (w % 0x0004_0000_0000) → r ≡ cellInRange n w
+unfolding cellInRange
+cell-rest n w t r e h g = rw (sym e ∙ not-false t h) g
+
+pub ruleset cell-laws = (cell-unowned, cell-rest)
+
+-- ---- a loop over words
+module _ (w : List ℕ) (at count j : ℕ) where
+  pub zero-wrong : j < count → (getD w (at + j) 0 ≡ 0 → ⊥) → false ≡ allBelow count (wordPasses isZero w at)
+  unfolding wordPasses isZero
+  zero-wrong h e = all-wrong (wordPasses isZero w at) j count (ne-eqb _ 0 e) h
+
+  pub zero-more : allBelow j (wordPasses isZero w at) ≡ true → getD w (at + j) 0 ≡ 0 → allBelow (j + 1) (wordPasses isZero w at) ≡ true
+  unfolding wordPasses isZero
+  zero-more h e = all-more (wordPasses isZero w at) j h (eq-eqb _ 0 e)
+
+  pub member-wrong : (test : ℕ → Bool) (t : Bool) → t ≡ test (getD w (at + j) 0) → not t ≡ true → j < count → false ≡ allBelow count (wordPasses test w at)
+  unfolding wordPasses
+  member-wrong test t e f h = answer-wrong (wordPasses test w at) j count t e f h
+
+  pub member-more : (test : ℕ → Bool) (t : Bool) → allBelow j (wordPasses test w at) ≡ true → t ≡ test (getD w (at + j) 0) → not t ≡ false → allBelow (j + 1) (wordPasses test w at) ≡ true
+  unfolding wordPasses
+  member-more test t h e f = answer-more (wordPasses test w at) j t h e f
+
+-- a match on the kind of member
+pub member-row : (fs : List Frame) (n w : ℕ) (k v : Member) (r : Bool) → k ≡ v → r ≡ memberInRange fs n v w → r ≡ memberInRange fs n k w
+member-row fs n w k v r e h = h ∙ ap (λ (x : Member). memberInRange fs n x w) (sym e)
