@@ -1,8 +1,8 @@
 /* Purkvaldi: the check and the stepper, for a loader in C. Link target/staticlib/libc_face.a, which `rt staticlib c_face` writes.
  *
  * Every function takes any bytes and any words and has a defined answer. The one thing asked is C's own rule: `length` bytes can be
- * read at `text`, `words` words of 64 bits can be read and written at `state`, and no two buffers overlap. A pointer whose length is
- * 0 is not looked at and may be null.
+ * read at `text`, `words` words of 64 bits can be read and written at `state`, other buffers likewise by their lengths, and no two
+ * buffers overlap. A pointer whose length is 0 is not looked at and may be null.
  */
 #ifndef PURKVALDI_H
 #define PURKVALDI_H
@@ -29,6 +29,13 @@ uint32_t purkvaldi_fresh(const uint8_t *text, size_t length, uint64_t *state, si
  * words are no state of this file), 15 no such party, 16 nothing to do, 17 or 18 spent, 19 foreign, 20 stuck. A refusal writes
  * nothing. Of a text that the check accepts, 19 and 20 never come from a state that began fresh. */
 uint32_t purkvaldi_step(const uint8_t *text, size_t length, uint64_t *state, size_t words, uint64_t choice);
+
+/* Many choices, a byte each, in one call: the text is read and the state validated once. 0 where all are stepped, one after the other:
+ * then answers[i] is the code that purkvaldi_step would have given for choices[i], and a choice that is refused leaves the state as it
+ * was, and the next one follows. Else the code of the text's refusal 1 to 7, or of 14 (the words are no state of this file, or there are
+ * not as many answers as choices), and nothing is written. */
+uint32_t purkvaldi_steps(const uint8_t *text, size_t length, uint64_t *state, size_t words, const uint8_t *choices,
+                         size_t choices_length, uint32_t *answers, size_t answers_length);
 
 /* How many bytes a listing's buffer has: 229,389, the longest listing. */
 size_t purkvaldi_listing_length(void);

@@ -63,8 +63,27 @@ static void printed(const char *what, const uint8_t *text, size_t length, const 
     }
 }
 
+/* Choices that cannot be stepped leave the state and the answers. */
+static void unstepped(const char *what, const uint8_t *text, size_t length, size_t words, size_t count, uint32_t wanted)
+{
+    static const uint8_t choices[3] = {2, 2, 2};
+    uint32_t answers[4] = {7, 7, 7, 7};
+    int i;
+    memcpy(before, state, sizeof state);
+    expect(what, purkvaldi_steps(text, length, state, words, choices, sizeof choices, answers, count), wanted);
+    for (i = 0; i < 4; i++)
+        expect(what, answers[i], 7);
+    if (memcmp(before, state, sizeof state) != 0) {
+        printf("%s: refused choices wrote\n", what);
+        failures++;
+    }
+}
+
 int main(void)
 {
+    static const uint8_t many[6] = {2, 3, 2, 255, 2, 0};
+    static const uint32_t codes[6] = {0x000001, 0x0F0000, 0x000001, 0x0F0000, 0x100000, 0x0F0000};
+    uint32_t answers[7];
     const uint8_t *text = (const uint8_t *)three;
     size_t length = sizeof three - 1;
     size_t i;
@@ -104,6 +123,22 @@ int main(void)
         refused("one word changed", WORDS, 2, 0x0E0000);
         state[i] = kept;
     }
+
+    /* many choices in one call: what a call for each gives, whether it is done or refused */
+    unstepped("choices with too few answers", text, length, WORDS, 2, 0x0E0000);
+    unstepped("choices with too many answers", text, length, WORDS, 4, 0x0E0000);
+    unstepped("choices on a shorter state", text, length, WORDS - 1, 3, 0x0E0000);
+    unstepped("choices of no text with too few answers", NULL, 0, WORDS, 2, 0x010000);
+    expect("no choices", purkvaldi_steps(text, length, state, WORDS, NULL, 0, NULL, 0), 0);
+    answers[6] = 7;
+    expect("choices", purkvaldi_steps(text, length, state, WORDS, many, 6, answers, 6), 0);
+    for (i = 0; i < 6; i++)
+        expect("a choice among many", answers[i], codes[i]);
+    expect("behind the answers", answers[6], 7);
+    refused("behind the choices", WORDS, 2, 0x100000);
+    state[0] = UINT64_MAX;
+    unstepped("choices on a changed state", text, length, WORDS, 3, 0x0E0000);
+    expect("no choices on a changed state", purkvaldi_steps(text, length, state, WORDS, NULL, 0, NULL, 0), 0x0E0000);
 
     /* the listing of a run: the code is the text's refusal 1 to 7, else 14, else 0; the line of a refused text is in a buffer
      * of the right length */

@@ -1,16 +1,22 @@
 -- What the functions of the face compute. Assumes nothing.
-use mathlib.Core.Path.{_≡_, sym, ap, ap₂, _∙_}
+use mathlib.Core.Path.{_≡_, refl, sym, ap, ap₂, _∙_}
 use Prim.Native.Nat.{ℕ, _+_, _*_}
+use native.Mathlib.Omega.{arith}
+use lib.Dec.{eqb}
+use borrow.Author.Tests.{eqb-true}
+use mathlib.Core.List.{List}
+use Rattle.basics.proofs.Ifs.{if-all}
 use Rattle.language.specs.declared.verdict.Verdict.{Verdict}
 use Rattle.language.specs.declared.verdict.Verdict.the-variants.{Accepted, Rejected}
 use Rattle.checker.specs.Verdict.{verdict, Checked}
-use mathlib.Core.List.{List}
+use Rattle.machine.specs.Calls.{Called}
 use Rattle.stepper.specs.declared.answer.Answer.{Answer}
 use Rattle.stepper.specs.declared.answer.Answer.the-variants as A
-use Rattle.stepper.specs.Answers.{Answered, answered}
+use Rattle.stepper.specs.Answers.{answerTo, Answered, answered, calledAs}
+use Rattle.stepper.specs.Batches.{answerWord, Batch, batch}
 use Rattle.runs.specs.Printed.{ListedOn, listedOn}
 use Rattle.runs.specs.declared.printing.Listed.{Listed}
-use Rattle.c_face.specs.Codes.{codeOf, CheckedCode, answerCode, coded, codedOf, listedCode, printed, printedOf}
+use Rattle.c_face.specs.Codes.{codeOf, CheckedCode, answerCode, coded, codedOf, codedBatch, codedBatchOf, listedCode, printed, printedOf}
 
 pub code-accepted : (v : Verdict) → v ≡ Accepted → 0 ≡ codeOf v
 code-accepted v h = ap codeOf (sym h)
@@ -41,6 +47,17 @@ pub ruleset answer-laws = (answer-rejected, answer-refused, answer-done)
 
 pub answer-coded : (w : List ℕ) (x : Answered) (v : Answer) (r : ℕ) → answered v w ≡ x → r ≡ answerCode v → coded r w ≡ codedOf x
 answer-coded w x v r e h = ap (λ (n : ℕ). coded n w) h ∙ ap codedOf e
+
+-- ---- many choices
+pub batch-coded : (w out : List ℕ) (x : Batch) (v : Answer) (r : ℕ) → batch v w out ≡ x → r ≡ answerCode v → codedBatch r w out ≡ codedBatchOf x
+batch-coded w out x v r e h = ap (λ (n : ℕ). codedBatch n w out) h ∙ ap codedBatchOf e
+
+-- the answer to each is the number that a call with this choice alone gives
+pub answer-word-code : (r : Called) → answerWord r ≡ codedOf (calledAs r) .code
+unfolding answerTo
+answer-word-code r =
+    if-all (λ (a : Answer). answerWord r ≡ answerCode a) (eqb (r .answer) 0) (A.Done (r .thread)) (A.Refused (r .answer) (r .thread))
+    (λ e. let z = eqb-true (r .answer) 0 e in omega arith) (λ _. refl)
 
 -- ---- a listing's answer and length
 pub listing-printed : (w out : List ℕ) (x : ListedOn) (l : Listed) (v : Answer) (n : ℕ) → listedOn l w out ≡ x → v ≡ l .answer → n ≡ listedCode v (l .length) → printed n w out ≡ printedOf x

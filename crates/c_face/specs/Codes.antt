@@ -8,6 +8,7 @@ use Rattle.checker.specs.Verdict.{Checked}
 use Rattle.stepper.specs.declared.answer.Answer.{Answer}
 use Rattle.stepper.specs.declared.answer.Answer.the-variants.{Rejected, Refused, Done}
 use Rattle.stepper.specs.Answers.{Answered}
+use Rattle.stepper.specs.Batches.{Batch}
 use Rattle.runs.specs.Printed.{ListedOn}
 
 -- the number of the refusal above 16 bits, and the frame
@@ -37,6 +38,19 @@ coded n w = record { code = n; words = w }
 
 abbrev pub codedOf : Answered → Coded
 codedOf r = coded (answerCode (r .answer)) (r .words)
+
+-- the number of a call with many choices, and both lent buffers behind it; each answer is the number
+-- that a call with its choice alone gives (`answer-word-code`)
+pub record CodedBatch : Type 0 where
+  pub code : ℕ
+  pub words : List ℕ
+  pub answers : List ℕ
+
+abbrev pub codedBatch : ℕ → List ℕ → List ℕ → CodedBatch
+codedBatch n w out = record { code = n; words = w; answers = out }
+
+abbrev pub codedBatchOf : Batch → CodedBatch
+codedBatchOf r = codedBatch (answerCode (r .answer)) (r .words) (r .answers)
 
 -- a listing's answer above 32 bits, and the listing's length
 abbrev pub listedCode : Answer → ℕ → ℕ

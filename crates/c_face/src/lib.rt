@@ -4,16 +4,18 @@ use language::limit::MOST_LISTING_BYTES;
 use language::verdict::Verdict;
 use runs::printing::run_listing;
 use stepper::answer::Answer;
+use stepper::batch::steps;
 use stepper::step::fresh;
 use stepper::step::state_length;
 use stepper::step::step;
 ghost use mathlib.Core.Path.{_≡_};
 ghost use Rattle.language.specs.Limits.{mostListingBytes};
-ghost use Rattle.machine.specs.Offsets.{stateLength};
 ghost use Rattle.checker.specs.Verdict.{verdict};
+ghost use Rattle.machine.specs.Offsets.{stateLength};
 ghost use Rattle.stepper.specs.Answers.{freshText, stepText};
+ghost use Rattle.stepper.specs.Batches.{stepsText};
 ghost use Rattle.runs.specs.Printed.{listText};
-ghost use Rattle.c_face.specs.Codes.{codeOf, CheckedCode, answerCode, coded, codedOf, listedCode, printed, printedOf};
+ghost use Rattle.c_face.specs.Codes.{codeOf, CheckedCode, answerCode, coded, codedOf, codedBatch, codedBatchOf, listedCode, printed, printedOf};
 
 fn wide8(n: u8) -> u32
     ensures { λ r. ⌜ r ≡ n ⌝ }
@@ -87,6 +89,20 @@ pub extern "C" fn purkvaldi_step(text: &[u8], state: &mut [u64], choice: u64) ->
     ensures { λ r. ⌜ coded r (now (state .exit)) ≡ codedOf (stepText (now (text .entry)) (now (state .entry)) choice) ⌝ }
 {
     answer_code(step(text, state, choice))
+}
+
+// Many choices, a byte each: 0 where all are stepped, and the code of each, as `purkvaldi_step` gives it, is in its place in `answers`;
+// else the code of the text's refusal 1 to 7, or of 14, and nothing is written.
+#[no_mangle]
+pub extern "C" fn purkvaldi_steps(
+    text: &[u8],
+    state: &mut [u64],
+    choices: &[u8],
+    answers: &mut [u32],
+) -> u32
+    ensures { λ r. ⌜ codedBatch r (now (state .exit)) (now (answers .exit)) ≡ codedBatchOf (stepsText (now (text .entry)) (now (state .entry)) (now (choices .entry)) (now (answers .entry))) ⌝ }
+{
+    answer_code(steps(text, state, choices, answers))
 }
 
 // How many bytes a listing's buffer has: the longest listing.

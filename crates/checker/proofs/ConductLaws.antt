@@ -6,7 +6,7 @@ use Prim.Native.Nat.{ℕ, zero, suc, _+_, _<_}
 use native.Mathlib.Numerals.{add-one}
 use native.Mathlib.Omega.{arith}
 use lib.ListN.{length, take, set}
-use lib.Seq.{take-suc-set}
+use lib.Seq.{take-suc-set, take-set-le, take-take}
 use lib.Dec.{eqb}
 use Rattle.basics.proofs.Ifs.{if-all}
 use Rattle.language.specs.Places.{Standing, linked, unlinked, standingAt}
@@ -21,7 +21,6 @@ use Rattle.language.specs.declared.frame.Frame.{Frame}
 use Rattle.text.specs.Frames.{framesOf}
 use Rattle.program.specs.Trees.{frameAt, expressionAt, arguments, statementOf, statementAt}
 use Rattle.program.proofs.Decoding.{statement-at}
-use Rattle.layout.specs.inner.Scope.{Room}
 use Rattle.rules.specs.Rules.{Setting, Signature}
 use Rattle.rules.specs.inner.Checking.{Argued, argue, typesIn, isLinked, startRule, cooperateRule, seqRule, doRule, joinRule, letRule, storeRule, ifElseRule, whileRule, runIn}
 use Rattle.rules.specs.inner.Standings.{standing}
@@ -38,7 +37,7 @@ use Rattle.rules.specs.declared.finding.Conduct.{Conduct}
 use Rattle.rules.specs.declared.finding.Conduct.the-variants.{Does, Fails}
 use Rattle.checker.proofs.NodeLaws.{ordered, AtStatement, statement-here}
 use Rattle.checker.proofs.TypingLaws.{TypeAt}
-use Rattle.checker.proofs.DescentLaws.{lower-in, let-fits}
+use Rattle.checker.proofs.DescentLaws.{lower-in}
 
 -- ---- where a statement stands
 pub linked-at : (s : ℕ) (x : Bool) → x ≡ eqb s 1 → not x ≡ isLinked (standingAt s)
@@ -137,23 +136,38 @@ module _ (env : Setting) (below : List Signature) (ws Γ : List ℕ) (at : Stand
       ∙ by-kind (frameAt (framesOf ws) i) (frameAt (framesOf ws) i .kind)
       ∙ ap By (statement-here ws i f n v h k e g)
 
--- ---- the code's returns: l says whether the thread is linked, the first m of `scope` are the variables
-module _ (env : Setting) (sigs ws scope : List ℕ) (m i : ℕ) (l : Bool) (f : Frame) (n : StatementNode) where
+-- ---- the words of the variables, of which the first m are in use: a let writes behind them
+pub let-scope : (scope : List ℕ) (m t : ℕ) → length scope ≡ 25 → m < 25
+    → take (m + 1) (set scope m t) ≡ take m scope ++ (t ∷ [])
+let-scope scope m t w h =
+    ap (λ (j : ℕ). take j (set scope m t)) (add-one m) ∙ take-suc-set scope m t (omega arith)
+
+-- its body leaves one more as it was, so both leave the first m
+pub let-leaves : (scope out : List ℕ) (m t : ℕ)
+    → take (m + 1) out ≡ take (m + 1) (set scope m t) → take m out ≡ take m scope
+let-leaves scope out m t h =
+    sym (take-take m (m + 1) out (omega arith))
+    ∙ ap (take m) h
+    ∙ take-take m (m + 1) (set scope m t) (omega arith)
+    ∙ take-set-le m scope m t (omega arith)
+
+-- ---- the code's returns: l says whether the thread is linked, Γ are the variables
+module _ (env : Setting) (sigs ws Γ : List ℕ) (i : ℕ) (l : Bool) (f : Frame) (n : StatementNode) where
   abbrev Where : StatementNode → Type 0 → Type 0
   Where v C = AtStatement ws i f n v C
 
   -- what is found of the statement at frame a, and x is that; x is what is found of the expression there
   abbrev found : ℕ → Conduct
-  found a = RunAt env (map signatureOf sigs) ws a (take m scope) (standing l)
+  found a = RunAt env (map signatureOf sigs) ws a Γ (standing l)
 
   abbrev R : ℕ → Conduct → Type 0
   R a x = x ≡ found a
 
   abbrev T : ℕ → Typing → Type 0
-  T a x = x ≡ TypeAt (env .cells) (take m scope) ws a
+  T a x = x ≡ TypeAt (env .cells) Γ ws a
 
-  by-node : (v : StatementNode) (r : Conduct) → Where v (r ≡ By env (map signatureOf sigs) ws (take m scope) (standing l) i v → R i r)
-  by-node v r h k e g q = q ∙ sym (run-by env (map signatureOf sigs) ws (take m scope) (standing l) i f n v h k e g)
+  by-node : (v : StatementNode) (r : Conduct) → Where v (r ≡ By env (map signatureOf sigs) ws Γ (standing l) i v → R i r)
+  by-node v r h k e g q = q ∙ sym (run-by env (map signatureOf sigs) ws Γ (standing l) i f n v h k e g)
 
   pub run-nothing : (e : Effect) → Where Y.Nothing (e ≡ noEffect → R i (Does e true))
   run-nothing e h k q g z = by-node Y.Nothing (Does e true) h k q g (ap (λ (o : Effect). Does o true) z)
@@ -161,50 +175,68 @@ module _ (env : Setting) (sigs ws scope : List ℕ) (m i : ℕ) (l : Bool) (f : 
   pub run-cooperate : (r : Conduct) → Where Y.Cooperate (r ≡ cooperateRule (standing l) i → R i r)
   run-cooperate r h k q g z = by-node Y.Cooperate r h k q g z
 
-  pub run-seq : (a b : ℕ) (x y r : Conduct) → Where (Y.Seq a b) (R a x → R b y → r ≡ seqRule x y → R i r)
-  run-seq a b x y r h k q g u v z = by-node (Y.Seq a b) r h k q g (z ∙ ap (λ (c : Conduct). seqRule c y) u ∙ ap (seqRule (found a)) v)
+  -- what is found in variables Δ that are those of Γ
+  same-found : (a : ℕ) (x : Conduct) (Δ : List ℕ) → Δ ≡ Γ
+      → x ≡ RunAt env (map signatureOf sigs) ws a Δ (standing l) → R a x
+  same-found a x Δ d v =
+      v ∙ ap (λ (Θ : List ℕ). RunAt env (map signatureOf sigs) ws a Θ (standing l)) d
+
+  pub run-seq : (a b : ℕ) (x y r : Conduct) (Δ : List ℕ) → r ≡ seqRule x y
+      → Where (Y.Seq a b) (R a x → Δ ≡ Γ
+      → y ≡ RunAt env (map signatureOf sigs) ws b Δ (standing l) → R i r)
+  run-seq a b x y r Δ z h k q g u d v =
+      by-node (Y.Seq a b) r h k q g
+      (z ∙ ap (λ (c : Conduct). seqRule c y) u ∙ ap (seqRule (found a)) (same-found b y Δ d v))
 
   pub run-do : (s : Place) (a : ℕ) (o : Bool) (x r : Conduct)
       → Where (Y.DoAt s a) (o ≡ isLinked (standingAt (s .number))
-      → x ≡ RunAt env (map signatureOf sigs) ws a (take m scope) (standing o)
+      → x ≡ RunAt env (map signatureOf sigs) ws a Γ (standing o)
       → r ≡ doRule (standing l) (s .number) i x → R i r)
   run-do s a o x r h k q g d u z =
       let e = ap standing d ∙ standing-is (standingAt (s .number)) in
       by-node (Y.DoAt s a) r h k q g
       (z ∙ ap (doRule (standing l) (s .number) i)
-      (u ∙ ap (RunAt env (map signatureOf sigs) ws a (take m scope)) e))
+      (u ∙ ap (RunAt env (map signatureOf sigs) ws a Γ) e))
 
-  pub run-start : (s a b : ℕ) (x : Arguments) (r : Conduct) → Where (Y.Start s a b) (arguedOf x ≡ ArgueAt (env .cells) (take m scope) ws a b → r ≡ startRule true (map signatureOf sigs) (standing l) s i (arguedOf x) → R i r)
+  pub run-start : (s a b : ℕ) (x : Arguments) (r : Conduct) → Where (Y.Start s a b) (arguedOf x ≡ ArgueAt (env .cells) Γ ws a b → r ≡ startRule true (map signatureOf sigs) (standing l) s i (arguedOf x) → R i r)
   run-start s a b x r h k q g d z = by-node (Y.Start s a b) r h k q g (z ∙ ap (startRule true (map signatureOf sigs) (standing l) s i) d)
 
-  pub run-wait : (s a b : ℕ) (x : Arguments) (r : Conduct) → Where (Y.StartWait s a b) (arguedOf x ≡ ArgueAt (env .cells) (take m scope) ws a b → r ≡ startRule false (map signatureOf sigs) (standing l) s i (arguedOf x) → R i r)
+  pub run-wait : (s a b : ℕ) (x : Arguments) (r : Conduct) → Where (Y.StartWait s a b) (arguedOf x ≡ ArgueAt (env .cells) Γ ws a b → r ≡ startRule false (map signatureOf sigs) (standing l) s i (arguedOf x) → R i r)
   run-wait s a b x r h k q g d z = by-node (Y.StartWait s a b) r h k q g (z ∙ ap (startRule false (map signatureOf sigs) (standing l) s i) d)
 
   pub run-store : (a b : ℕ) (x y : Typing) (r : Conduct) → Where (Y.Store a b) (T a x → T b y → r ≡ storeRule i x y → R i r)
-  run-store a b x y r h k q g u v z = by-node (Y.Store a b) r h k q g (z ∙ ap (λ (c : Typing). storeRule i c y) u ∙ ap (storeRule i (TypeAt (env .cells) (take m scope) ws a)) v)
+  run-store a b x y r h k q g u v z = by-node (Y.Store a b) r h k q g (z ∙ ap (λ (c : Typing). storeRule i c y) u ∙ ap (storeRule i (TypeAt (env .cells) Γ ws a)) v)
 
-  pub run-if : (a b c : ℕ) (x : Typing) (y w r : Conduct) → r ≡ ifElseRule i x y w → Where (Y.IfElse a b c) (T a x → R b y → R c w → R i r)
-  run-if a b c x y w r z h k q g u v t =
+  pub run-if : (a b c : ℕ) (x : Typing) (y w r : Conduct) (Δ : List ℕ) → r ≡ ifElseRule i x y w
+      → Where (Y.IfElse a b c) (T a x → R b y → Δ ≡ Γ
+      → w ≡ RunAt env (map signatureOf sigs) ws c Δ (standing l) → R i r)
+  run-if a b c x y w r Δ z h k q g u v e t =
+      let o = TypeAt (env .cells) Γ ws a in
       by-node (Y.IfElse a b c) r h k q g
-      (z ∙ ap (λ (d : Typing). ifElseRule i d y w) u ∙ ap (λ (d : Conduct). ifElseRule i (TypeAt (env .cells) (take m scope) ws a) d w) v ∙ ap (ifElseRule i (TypeAt (env .cells) (take m scope) ws a) (found b)) t)
+      (z ∙ ap (λ (d : Typing). ifElseRule i d y w) u
+      ∙ ap (λ (d : Conduct). ifElseRule i o d w) v
+      ∙ ap (ifElseRule i o (found b)) (same-found c w Δ e t))
 
   pub run-while : (a b : ℕ) (x : Typing) (y r : Conduct) → Where (Y.While a b) (T a x → R b y → r ≡ whileRule i x y → R i r)
-  run-while a b x y r h k q g u v z = by-node (Y.While a b) r h k q g (z ∙ ap (λ (d : Typing). whileRule i d y) u ∙ ap (whileRule i (TypeAt (env .cells) (take m scope) ws a)) v)
+  run-while a b x y r h k q g u v z = by-node (Y.While a b) r h k q g (z ∙ ap (λ (d : Typing). whileRule i d y) u ∙ ap (whileRule i (TypeAt (env .cells) Γ ws a)) v)
 
   -- a let, whose body is found at b in the variables Δ
   abbrev letAt : ℕ → Typing → Conduct
-  letAt b x = letRule (λ Δ. RunAt env (map signatureOf sigs) ws b Δ (standing l)) (take m scope) x
+  letAt b x = letRule (λ Δ. RunAt env (map signatureOf sigs) ws b Δ (standing l)) Γ x
 
-  let-by : (a b : ℕ) (x v : Typing) → x ≡ v → T a x → letAt b v ≡ letAt b (TypeAt (env .cells) (take m scope) ws a)
+  let-by : (a b : ℕ) (x v : Typing) → x ≡ v → T a x → letAt b v ≡ letAt b (TypeAt (env .cells) Γ ws a)
   let-by a b x v h u = ap (letAt b) (sym h ∙ u)
 
   pub run-let-fault : (a b : ℕ) (x : Typing) (p j : ℕ) → Where (Y.LetIn a b) (T a x → x ≡ Untyped p j → R i (Fails p j))
   run-let-fault a b x p j h k q g u z = by-node (Y.LetIn a b) (Fails p j) h k q g (let-by a b x (Untyped p j) z u)
 
-  pub run-let : (a b : ℕ) (x : Typing) (t : ℕ) (e : Effect) (inner : List ℕ) (y r : Conduct) → r ≡ joinRule e y
-      → Where (Y.LetIn a b) (Room (framesOf ws) i m → T a x → x ≡ Typed t e → inner ≡ set scope m t → length scope ≡ 25 → y ≡ RunAt env (map signatureOf sigs) ws b (take (m + 1) inner) (standing l) → R i r)
-  run-let a b x t e inner y r o h k q g p u z w d v =
-      let s = let-fits ws i f n m a b h k q g p in
-      let c : take (m + 1) inner ≡ take m scope ++ (t ∷ []) = ap (take (m + 1)) w ∙ ap (λ (j : ℕ). take j (set scope m t)) (add-one m) ∙ take-suc-set scope m t (omega arith) in
+  pub run-let : (a b : ℕ) (x : Typing) (t : ℕ) (e : Effect) (y r : Conduct) (Δ : List ℕ)
+      → r ≡ joinRule e y
+      → Where (Y.LetIn a b) (T a x → x ≡ Typed t e → Δ ≡ Γ ++ (t ∷ [])
+      → y ≡ RunAt env (map signatureOf sigs) ws b Δ (standing l) → R i r)
+  run-let a b x t e y r Δ o h k q g u z d v =
       by-node (Y.LetIn a b) r h k q g
-      (o ∙ ap (joinRule e) (v ∙ ap (λ (Δ : List ℕ). RunAt env (map signatureOf sigs) ws b Δ (standing l)) c) ∙ let-by a b x (Typed t e) z u)
+      (o
+      ∙ ap (joinRule e)
+      (v ∙ ap (λ (Θ : List ℕ). RunAt env (map signatureOf sigs) ws b Θ (standing l)) d)
+      ∙ let-by a b x (Typed t e) z u)

@@ -1,10 +1,10 @@
 -- What the recursions ask of each child that they go down to: its number falls, it is a frame of the file, and there is room for its variables. Assumes nothing.
 use mathlib.Core.Path.{_≡_, refl, sym, subst}
 use mathlib.Core.List.{List, [], _++_}
-use Prim.Native.Nat.{ℕ, zero, suc, _+_, _^_, _≤_, _<_}
+use Prim.Native.Nat.{ℕ, zero, suc, _+_, _*_, _^_, _≤_, _<_}
 use native.Mathlib.Numerals.{add-one}
 use native.Mathlib.Omega.{arith}
-use lib.ListN.{length-map}
+use lib.ListN.{length, length-map}
 use Rattle.basics.specs.Members.{In, first, later}
 use Rattle.language.specs.Kinds.{Child, child, children, childIn}
 use Rattle.language.specs.declared.Place.{Place}
@@ -53,6 +53,11 @@ module _ {ws : List ℕ} {i : ℕ} (g : FrameIn ws i) {k : Class} {a : ℕ} (c :
 
 pub room-fits : (ws : List ℕ) (i n : ℕ) → FrameIn ws i → Room (framesOf ws) i n → n ≤ 25
 room-fits ws i n g r = room-most (framesOf ws) (g .laid-out) r
+
+-- words enough for the variables hold those in use
+pub room-holds : (scope ws : List ℕ) (i n : ℕ) → FrameIn ws i → Room (framesOf ws) i n
+    → length scope ≡ 25 → n ≤ length scope
+room-holds scope ws i n g r h = let s = room-fits ws i n g r in omega arith
 
 -- ---- the numbers in a statement's node are its frame's children
 
@@ -201,6 +206,9 @@ module _ (ws : List ℕ) (i : ℕ) (f : Frame) (n : StatementNode) where
   -- the variable of a let finds room
   pub let-fits : (m a b : ℕ) → WhereS (Y.LetIn a b) (Room (framesOf ws) i m → m < 25)
   let-fits m a b h k e g r = let s = room-fits ws b (suc m) (let-b-in a b h k e g) (room-more r (its-kidsS h k e g .1)) in omega arith
+
+  pub let-scales : (m a b : ℕ) → WhereS (Y.LetIn a b) (Room (framesOf ws) i m → m * 2 < 2 ^ 64)
+  let-scales m a b h k e g r = let s = let-fits m a b h k e g r in omega arith
 
   pub let-adds : (m a b : ℕ) → WhereS (Y.LetIn a b) (Room (framesOf ws) i m → m + 1 < 2 ^ 64)
   let-adds m a b h k e g r = let s = let-fits m a b h k e g r in omega arith

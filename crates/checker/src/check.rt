@@ -1,8 +1,9 @@
 // The check of a text: refusals 1 to 13.
 use crate::module::modules_rule;
 use crate::module::tally;
+use language::limit::MOST_LINES;
 use language::verdict::Verdict;
-use layout::lay_out;
+use layout::lay_into;
 ghost use mathlib.Core.Path.{_≡_};
 ghost use Rattle.text.specs.Frames.{framesOf};
 ghost use Rattle.program.specs.Programs.{programOf};
@@ -26,12 +27,12 @@ pub fn check(text: &[u8]) -> Verdict
     ensures computed { λ r. ⌜ r ≡ verdict (now (text .entry)) ⌝ }
     ensures promised { λ r. ⌜ Checked (now (text .entry)) r ⌝ }
 {
-    let l = lay_out(text);
+    let mut words = [0u64; MOST_LINES];
+    let l = lay_into(text, &mut words);
     let v = l.verdict;
     match v {
         Verdict::Rejected(n, j) => Verdict::Rejected(n, j),
         Verdict::Accepted => {
-            let words = l.words;
             let n = l.count;
             rules_of(&words[..n])
         }

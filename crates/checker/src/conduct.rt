@@ -22,7 +22,7 @@ use text::line::frame_of_word;
 ghost use mathlib.Core.Path.{_≡_};
 ghost use mathlib.Core.List.{map};
 ghost use Prim.Native.Nat.{_<_, _≤_};
-ghost use lib.ListN.{take, set};
+ghost use lib.ListN.{length, take};
 ghost use Rattle.language.specs.Limits.{mostVariables};
 ghost use Rattle.language.specs.Places.{standingAt};
 ghost use Rattle.text.specs.Frames.{framesOf};
@@ -34,24 +34,16 @@ ghost use Rattle.rules.specs.inner.Signatures.{arguedOf, signatureOf};
 ghost use Rattle.checker.specs.inner.Settings.{settingIn};
 ghost use Rattle.checker.specs.inner.Frames.{FrameIn};
 
-// The variables in scope are the first n of an array, which is room enough for a laid-out file.
-fn type_in(frames: &[u64], cells: &[u16], scope: [u16; MOST_VARIABLES], n: usize, i: u16) -> Typing
-    requires { ⌜ FrameIn (now frames) i × (n ≤ mostVariables) ⌝ }
+// The variables in scope are the first n of an array, which is room enough for a laid-out file. It
+// is lent as an array: a slice would be a pair of words on the stack at each level.
+fn type_in(frames: &[u64], cells: &[u16], scope: &[u16; MOST_VARIABLES], n: usize, i: u16) -> Typing
+    requires { ⌜ FrameIn (now frames) i × (n ≤ length (now scope)) ⌝ }
     ensures { λ r. ⌜ r
-        ≡ typeIn (now (cells .entry)) (take n scope)
+        ≡ typeIn (now (cells .entry)) (take n (now (scope .entry)))
         (expressionAt (framesOf (now (frames .entry))) i) ⌝ }
 {
-    type_of(frames, cells, &scope[..n], i)
-}
-
-// With one variable more.
-fn extended(scope: [u16; MOST_VARIABLES], n: usize, t: u16) -> [u16; MOST_VARIABLES]
-    requires { ⌜ n < mostVariables ⌝ }
-    ensures { λ r. ⌜ r ≡ set scope n t ⌝ }
-{
-    let mut inner = scope;
-    inner[n] = t;
-    inner
+    let words = &scope[..];
+    type_of(frames, cells, &words[..n], i)
 }
 
 // Whether a thread at that place is linked to a scheduler.
@@ -65,16 +57,16 @@ fn is_linked(s: Place) -> bool
 fn arguments_of(
     frames: &[u64],
     cells: &[u16],
-    scope: [u16; MOST_VARIABLES],
+    scope: &[u16; MOST_VARIABLES],
     n: usize,
     i: u16,
     a: u16,
     b: u16,
 ) -> Arguments
-    requires { ⌜ FrameIn (now frames) i × (n ≤ mostVariables)
+    requires { ⌜ FrameIn (now frames) i × (n ≤ length (now scope))
         × ((a ≡ 0 → ⊥) → a < i) × ((a ≡ 0 → ⊥) → (b ≡ 0 → ⊥) → b < i) ⌝ }
     ensures { λ r. ⌜ arguedOf r
-        ≡ typesIn (now (cells .entry)) (take n scope)
+        ≡ typesIn (now (cells .entry)) (take n (now (scope .entry)))
         (arguments (expressionAt (framesOf (now (frames .entry)))) a b) ⌝ }
 {
     if a == 0 {
@@ -92,21 +84,25 @@ fn arguments_of(
 // What the statement at frame i is found to be: with the types `cells` of the shared cells, the
 // signatures `below` of the modules before its own, the first n of `scope` as the types of the
 // variables, and `linked` where it stands at a scheduler. The frames are laid out, so that a
-// child's number is below its parent's and there is room for every variable.
+// child's number is below its parent's and there is room for every variable: a let lays its type
+// behind those in use, which stay as they are for what comes after the let.
 pub(crate) fn conduct_of(
     frames: &[u64],
     cells: &[u16],
     below: &[u64],
-    scope: [u16; MOST_VARIABLES],
+    scope: &mut [u16; MOST_VARIABLES],
     n: usize,
     linked: bool,
     i: u16,
 ) -> Conduct
-    requires { ⌜ FrameIn (now frames) i × Room (framesOf (now frames)) i n ⌝ }
-    ensures { λ r. ⌜ r
+    requires { ⌜ FrameIn (now frames) i × Room (framesOf (now frames)) i n
+        × (length (now scope) ≡ mostVariables) ⌝ }
+    ensures found { λ r. ⌜ r
         ≡ runIn (settingIn (now (cells .entry))) (map signatureOf (now (below .entry)))
-        (take n scope) (standing linked)
+        (take n (now (scope .entry))) (standing linked)
         (statementAt (framesOf (now (frames .entry))) i) ⌝ }
+    ensures wide { λ _. ⌜ length (now (scope .exit)) ≡ mostVariables ⌝ }
+    ensures leaves { λ _. ⌜ take n (now (scope .exit)) ≡ take n (now (scope .entry)) ⌝ }
 {
     match statement_node(frame_of_word(frames[i as usize])) {
         StatementNode::Nothing => Conduct::Does(Effect::none(), true),
@@ -130,8 +126,8 @@ pub(crate) fn conduct_of(
         StatementNode::LetIn(a, b) => match type_in(frames, cells, scope, n, a) {
             Typing::Untyped(m, j) => Conduct::Fails(m, j),
             Typing::Typed(t, e) => {
-                let inner = extended(scope, n, t);
-                join_rule(e, conduct_of(frames, cells, below, inner, n + 1, linked, b))
+                scope[n] = t;
+                join_rule(e, conduct_of(frames, cells, below, scope, n + 1, linked, b))
             }
         },
         StatementNode::Store(a, b) => {

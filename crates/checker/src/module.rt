@@ -85,7 +85,7 @@ pub(crate) fn module_conduct(
     scope[0] = f.b;
     scope[1] = f.c;
     let n = f.s as usize;
-    conduct_of(frames, cells, &below[..m], scope, n, true, f.a)
+    conduct_of(frames, cells, &below[..m], &mut scope, n, true, f.a)
 }
 
 // 'main has an effect within {2}'.

@@ -1,21 +1,20 @@
 -- The code's pass of refusal 5 over the kinds and fields of the frames, with a running tally. Assumes nothing.
 use mathlib.Core.Path.{_≡_, refl, sym, ap, _∙_}
-use mathlib.Core.Bool.{Bool, true, false, not, _&&_}
+use mathlib.Core.Bool.{Bool, true, false, true≢false, not, _&&_, _||_}
 use mathlib.Core.List.{List, [], _∷_, _++_}
 use Prim.Native.Nat.{ℕ, _+_, _≤_, _<_}
 use native.Mathlib.Omega.{arith}
 use lib.Dec.{ltb, leb}
 use lib.ListN.{length, take, set, replicate}
-use borrow.Author.Tests.{ltb-true, ltb-false, leb-true, not-true, not-false}
+use borrow.Author.Tests.{ltb-true, ltb-false, leb-true, not-false}
 use Rattle.basics.proofs.Ifs.{and-true}
 use Rattle.language.specs.Places.{isPlace, hasScheduler}
 use Rattle.language.specs.Types.{cellDepth, cellType, public, typeWord, contentWord, roomAround}
 use Rattle.language.specs.Kinds.{isShared, isModule, uses}
 use Rattle.language.specs.declared.kind.Kind.{Kind}
+use Rattle.language.specs.declared.kind.DeclarationKind.{DeclarationKind}
 use Rattle.language.specs.declared.kind.DeclarationKind.the-variants.{Shared}
 use Rattle.language.specs.declared.kind.Kind.the-variants.{Declared, Module}
-use Rattle.language.specs.declared.kind.Use.{Use}
-use Rattle.language.specs.declared.kind.Uses.{Uses}
 use Rattle.language.specs.declared.frame.Frame.{Frame}
 use Rattle.language.proofs.Words.{depth-3}
 use Rattle.language.proofs.PlaceLaws.{scheduler-place, has-scheduler}
@@ -25,64 +24,10 @@ use Rattle.program.specs.Programs.{sharedOf}
 use Rattle.program.proofs.FrameLaws.{frames-more}
 use Rattle.fields.specs.declared.found.Found.the-variants.{At, Nowhere}
 use Rattle.fields.specs.declared.field.Tally.{Tally}
-use Rattle.fields.specs.Fields.{schedulersOf, firstContentFine, fieldFine, countOf, kindFine, frameFine}
+use Rattle.fields.specs.Fields.{schedulersOf, fieldFine, countOf, kindFine, frameFine}
 use Rattle.fields.specs.inner.Scans.{fieldFault, found, tallyOf}
 use Rattle.fields.proofs.Seeking.{Seeking, seek-here, seek-next, seek-end}
-use Rattle.fields.proofs.Tallies.{tally, is-shared, tally-cells, tally-modules, types-taken, counted-one, counted-none, tally-other, tally-module, tally-cell}
-
--- ---- a field, by its use
-module _ (fs : List Frame) (i : ℕ) (f : Frame) (u : Use) (v : ℕ) (r : Bool) where
-  pub use-row : (k : Use) → u ≡ k → r ≡ fieldFine fs i f k v → r ≡ fieldFine fs i f u v
-  use-row k e h = h ∙ ap (λ (w : Use). fieldFine fs i f w v) (sym e)
-
-  pub use-type : (b : ℕ) → u ≡ Use.ContentType → b ≡ schedulersOf fs → r ≡ contentWord b v → r ≡ fieldFine fs i f u v
-  use-type b e q h = use-row Use.ContentType e (h ∙ ap (λ (k : ℕ). contentWord k v) q)
-
-  pub use-content : (t : Tally) → u ≡ Use.FirstContent → t ≡ tallyOf (take i fs) → r ≡ firstContentFine (take (t .cells) (t .types)) (f .a) v → r ≡ fieldFine fs i f u v
-  use-content t e q h = use-row Use.FirstContent e (h ∙ ap (λ (ts : List ℕ). firstContentFine ts (f .a) v) (types-taken (take i fs) t q))
-
-pub ruleset use-laws = (use-row, use-type, use-content)
-
--- ---- a kind
-module _ (fs : List Frame) (i : ℕ) (f : Frame) (e : f ≡ frameAt fs i) where
-  pub kind-row : (k : Kind) (r : Bool) → f .kind ≡ k → r ≡ kindFine fs i k → r ≡ kindFine fs i (frameAt fs i .kind)
-  kind-row k r q h = h ∙ ap (kindFine fs i) (sym q ∙ ap (λ (g : Frame). g .kind) e)
-
-  pub kind-shared : (t : Tally) → f .kind ≡ Declared Shared → t ≡ tallyOf (take i fs) → ltb (t .cells) 16 ≡ kindFine fs i (frameAt fs i .kind)
-  kind-shared t q h = kind-row (Declared Shared) _ q (ap (λ (n : ℕ). ltb n 16) (tally-cells (take i fs) t h))
-
-  pub kind-module : (t : Tally) → f .kind ≡ Module → t ≡ tallyOf (take i fs) → ltb (t .modules) 16 ≡ kindFine fs i (frameAt fs i .kind)
-  kind-module t q h = kind-row Module _ q (ap (λ (n : ℕ). ltb n 16) (tally-modules (take i fs) t h))
-
-pub ruleset kind-laws = (kind-row, kind-shared, kind-module)
-
--- ---- a frame: the code tests the kind, then S, A, B and C, and stops at the first that is wrong
-module _ (fs : List Frame) (i : ℕ) (f : Frame) (us : Uses) (e : f ≡ frameAt fs i) (u : us ≡ uses (f .kind)) (k : Bool) (hk : k ≡ kindFine fs i (frameAt fs i .kind)) (nk : not k ≡ false) (s : Bool) (hs : s ≡ fieldFine fs i f (us .s) (f .s)) where
-  frame-is : (kindFine fs i (frameAt fs i .kind) && fieldFine fs i f (us .s) (f .s) && fieldFine fs i f (us .a) (f .a) && fieldFine fs i f (us .b) (f .b) && fieldFine fs i f (us .c) (f .c)) ≡ frameFine fs i (frameAt fs i)
-  unfolding frameFine
-  frame-is =
-      ap (λ (w : Uses). kindFine fs i (frameAt fs i .kind) && fieldFine fs i f (w .s) (f .s) && fieldFine fs i f (w .a) (f .a) && fieldFine fs i f (w .b) (f .b) && fieldFine fs i f (w .c) (f .c)) u
-      ∙ ap (λ (g : Frame). kindFine fs i (frameAt fs i .kind) && fieldFine fs i g (uses (g .kind) .s) (g .s) && fieldFine fs i g (uses (g .kind) .a) (g .a) && fieldFine fs i g (uses (g .kind) .b) (g .b) && fieldFine fs i g (uses (g .kind) .c) (g .c)) e
-
-  pub frame-s : not s ≡ true → false ≡ frameFine fs i (frameAt fs i)
-  frame-s ns = sym (sym frame-is ∙ rw (sym hk ∙ not-false k nk, sym hs ∙ not-true s ns))
-
-  module _ (ns : not s ≡ false) (a : Bool) (ha : a ≡ fieldFine fs i f (us .a) (f .a)) where
-    pub frame-a : not a ≡ true → false ≡ frameFine fs i (frameAt fs i)
-    frame-a na = sym (sym frame-is ∙ rw (sym hk ∙ not-false k nk, sym hs ∙ not-false s ns, sym ha ∙ not-true a na))
-
-    module _ (na : not a ≡ false) (b : Bool) (hb : b ≡ fieldFine fs i f (us .b) (f .b)) where
-      pub frame-b : not b ≡ true → false ≡ frameFine fs i (frameAt fs i)
-      frame-b nb = sym (sym frame-is ∙ rw (sym hk ∙ not-false k nk, sym hs ∙ not-false s ns, sym ha ∙ not-false a na, sym hb ∙ not-true b nb))
-
-      pub frame-c : not b ≡ false → (c : Bool) → c ≡ fieldFine fs i f (us .c) (f .c) → c ≡ frameFine fs i (frameAt fs i)
-      frame-c nb c hc = hc ∙ sym (sym frame-is ∙ rw (sym hk ∙ not-false k nk, sym hs ∙ not-false s ns, sym ha ∙ not-false a na, sym hb ∙ not-false b nb))
-
-pub frame-kind : (fs : List Frame) (i : ℕ) (k : Bool) → k ≡ kindFine fs i (frameAt fs i .kind) → not k ≡ true → false ≡ frameFine fs i (frameAt fs i)
-unfolding frameFine
-frame-kind fs i k hk nk = rw (sym hk ∙ not-true k nk)
-
-pub ruleset frame-laws = (frame-kind, frame-s, frame-a, frame-b, frame-c)
+use Rattle.fields.proofs.Tallies.{tally, is-shared, tally-cells, tally-modules, counted-one, counted-none, tally-other, tally-module, tally-cell}
 
 -- ---- the tally with one frame more
 -- a content type has at most two cells, so there is room for one around it
@@ -135,6 +80,24 @@ module _ (ws : List ℕ) (i : ℕ) (f : Frame) (t : Tally) (e : f ≡ frameAt (f
   with-shared r w q v g l = g ∙ ap (λ (x : ℕ). tally (t .cells + 1) (t .modules) (set (t .types) (t .cells) x)) v ∙ tally-cell (take i (framesOf ws)) f t h (ap isShared q) (ap isModule q) (cell-room q) ∙ ap tallyOf (frames-more ws i f e l)
 
 pub ruleset counted-laws = (with-module, with-shared, with-other)
+
+-- each arm of the match on a kind, of the kinds that a tally counts
+pub counted-row : (k v : Kind) (r : Bool) → k ≡ v → r ≡ (isShared v || isModule v) → r ≡ (isShared k || isModule k)
+counted-row k v r e h = h ∙ ap (λ (w : Kind). isShared w || isModule w) (sym e)
+
+-- there is one kind of declaration, so its match asks nothing
+pub counted-declared : (k : Kind) (d : DeclarationKind) → k ≡ Declared d → true ≡ (isShared k || isModule k)
+counted-declared k Shared e = counted-row k (Declared Shared) true e refl
+
+-- a frame of another kind leaves the tally as it is
+pub tally-kept : (ws : List ℕ) (i : ℕ) (f : Frame) (t : Tally) (x : Bool) → f ≡ frameAt (framesOf ws) i → x ≡ (isShared (f .kind) || isModule (f .kind)) → x ≡ false → t ≡ tallyOf (take i (framesOf ws)) → i < length ws → t ≡ tallyOf (take (i + 1) (framesOf ws))
+tally-kept ws i f t x e p n h l =
+    let z = or-false (isShared (f .kind)) (isModule (f .kind)) (sym p ∙ n) in
+    tally-other (take i (framesOf ws)) f t h (z .0) (z .1) ∙ ap tallyOf (frames-more ws i f e l)
+  where
+    or-false : (a b : Bool) → (a || b) ≡ false → (a ≡ false) × (b ≡ false)
+    or-false true b q = absurd (true≢false q)
+    or-false false b q = (refl, q)
 
 -- ---- the loop
 abbrev fieldTest : List Frame → ℕ → Frame → Bool

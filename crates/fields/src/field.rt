@@ -3,10 +3,10 @@ use crate::found::Found;
 use language::Place;
 use language::frame::Frame;
 use language::kind::DeclarationKind;
+use language::kind::ExpressionKind;
 use language::kind::Kind;
-use language::kind::Use;
+use language::kind::StatementKind;
 use language::kind::is_header;
-use language::kind::uses_of;
 use language::limit::MOST_MODULES;
 use language::limit::MOST_PARAMETERS;
 use language::limit::MOST_SCHEDULERS;
@@ -20,19 +20,23 @@ use language::type_word::is_type_word;
 use program::frames::frame_at;
 ghost use mathlib.Core.Path.{_≡_};
 ghost use mathlib.Core.Bool.{true, not, _||_};
+ghost use mathlib.Core.List.{[]};
 ghost use Prim.Native.Nat.{_+_, _<_, _≤_};
-ghost use lib.Dec.{leb, eqb};
+ghost use lib.Dec.{ltb, leb, eqb};
 ghost use lib.ListN.{length, take, set};
 ghost use Rattle.basics.specs.If.{if_then_else_};
+ghost use Rattle.language.specs.declared.kind.DeclarationKind.the-variants.{Shared};
+ghost use Rattle.language.specs.declared.kind.StatementKind.{StatementKind};
+ghost use Rattle.language.specs.declared.kind.ExpressionKind.{ExpressionKind};
+ghost use Rattle.language.specs.declared.kind.Kind.the-variants.{Declared, Module};
+ghost use Rattle.language.specs.Kinds.{statementUses, expressionUses, isShared, isModule};
 ghost use Rattle.language.specs.Places.{isPlace, hasPlace, hasScheduler};
 ghost use Rattle.language.specs.Types.{typeWord, cellType, roomAround};
 ghost use Rattle.language.specs.Limits.{mostLines, mostSchedulers, mostShared, mostModules};
 ghost use Rattle.text.specs.Frames.{framesOf};
 ghost use Rattle.program.specs.Trees.{frameAt};
-ghost use Rattle.fields.specs.Fields.{headerFine, schedulersOf, firstContentFine, fieldFine, kindFine, frameFine};
-ghost use Rattle.fields.specs.inner.Scans.{headerFault, fieldFault, found, tallyOf};
-
-const PARAMETERS: u16 = MOST_PARAMETERS as u16;
+ghost use Rattle.fields.specs.Fields.{headerFine, schedulersOf, firstContentFine, frameFine};
+ghost use Rattle.fields.specs.inner.Scans.{headerFault, fieldFault, found, fieldsFine, tallyOf};
 
 // Of the frames passed: how many are shared cells, how many are modules, and the types of these cells.
 pub struct Tally {
@@ -80,14 +84,14 @@ fn schedulers_in(words: &[u64]) -> u8
     (f.b % 256) as u8
 }
 
-fn place_fine(words: &[u64], v: u16) -> bool
+fn place_fine(words: &[u64], v: u8) -> bool
     requires { ⌜ (0 < length (now words)) × (schedulersOf (framesOf (now words)) ≤ mostSchedulers) ⌝ }
     ensures { λ r. ⌜ r ≡ hasPlace (schedulersOf (framesOf (now (words .entry)))) v ⌝ }
 {
     Place::is_in_file(v as u64, schedulers_in(words))
 }
 
-fn scheduler_fine(words: &[u64], v: u16) -> bool
+fn scheduler_fine(words: &[u64], v: u8) -> bool
     requires { ⌜ (0 < length (now words)) × (schedulersOf (framesOf (now words)) ≤ mostSchedulers) ⌝ }
     ensures { λ r. ⌜ r ≡ hasScheduler (schedulersOf (framesOf (now (words .entry)))) v ⌝ }
 {
@@ -133,73 +137,194 @@ fn first_content_fine(t: Tally, k: u16, v: u16) -> bool
     v <= 1
 }
 
-// Whether v is right in a field of that use of the frame f, which has the number i.
-fn field_fine(words: &[u64], i: usize, f: Frame, t: Tally, u: Use, v: u16) -> bool
-    requires { ⌜ (0 < length (now words)) × (schedulersOf (framesOf (now words)) ≤ mostSchedulers) × (t ≡ tallyOf (take i (framesOf (now words)))) × (t .cells ≤ mostShared) ⌝ }
-    ensures { λ r. ⌜ r ≡ fieldFine (framesOf (now (words .entry))) i f u v ⌝ }
+// Which fields of a statement or of an expression are in use: the others are 0. Each contract names
+// one of the kinds that use them so.
+fn none_used(f: Frame) -> bool
+    ensures { λ r. ⌜ r ≡ fieldsFine [] 0 f (statementUses StatementKind.Nothing) ⌝ }
 {
-    match u {
-        Use::Unused => v == 0,
-        Use::Free => true,
-        Use::Truth => v <= 1,
-        Use::Place => place_fine(words, v),
-        Use::Scheduler => scheduler_fine(words, v),
-        Use::Statement => true,
-        Use::Expression => true,
-        Use::Argument => true,
-        Use::Further => further_fine(f.a, v),
-        Use::ContentType => is_content_word(schedulers_in(words), v),
-        Use::FirstContent => first_content_fine(t, f.a, v),
-        Use::Parameters => v <= PARAMETERS,
-        Use::FirstType => type_fine(words, 1, f.s, v),
-        Use::SecondType => type_fine(words, 2, f.s, v),
+    if f.s != 0 {
+        return false;
+    }
+    if f.a != 0 {
+        return false;
+    }
+    if f.b != 0 {
+        return false;
+    }
+    f.c == 0
+}
+
+fn s_used(f: Frame) -> bool
+    ensures { λ r. ⌜ r ≡ fieldsFine [] 0 f (expressionUses ExpressionKind.Variable) ⌝ }
+{
+    if f.a != 0 {
+        return false;
+    }
+    if f.b != 0 {
+        return false;
+    }
+    f.c == 0
+}
+
+fn a_used(f: Frame) -> bool
+    ensures { λ r. ⌜ r ≡ fieldsFine [] 0 f (expressionUses ExpressionKind.Number) ⌝ }
+{
+    if f.s != 0 {
+        return false;
+    }
+    if f.b != 0 {
+        return false;
+    }
+    f.c == 0
+}
+
+fn a_b_used(f: Frame) -> bool
+    ensures { λ r. ⌜ r ≡ fieldsFine [] 0 f (statementUses StatementKind.Then) ⌝ }
+{
+    if f.s != 0 {
+        return false;
+    }
+    f.c == 0
+}
+
+fn a_b_c_used(f: Frame) -> bool
+    ensures { λ r. ⌜ r ≡ fieldsFine [] 0 f (statementUses StatementKind.If) ⌝ }
+{
+    f.s == 0
+}
+
+// A truth.
+fn truth_fine(f: Frame) -> bool
+    ensures { λ r. ⌜ r ≡ fieldsFine [] 0 f (expressionUses ExpressionKind.Truth) ⌝ }
+{
+    if 1 < f.s {
+        return false;
+    }
+    s_used(f)
+}
+
+// The arguments of a start.
+fn arguments_fine(f: Frame) -> bool
+    ensures { λ r. ⌜ r ≡ fieldsFine [] 0 f (statementUses StatementKind.Start) ⌝ }
+{
+    if !further_fine(f.a, f.b) {
+        return false;
+    }
+    f.c == 0
+}
+
+// A place in S, a child in A.
+fn placed_fine(words: &[u64], f: Frame) -> bool
+    requires { ⌜ (0 < length (now words)) × (schedulersOf (framesOf (now words)) ≤ mostSchedulers) ⌝ }
+    ensures { λ r. ⌜ r ≡ fieldsFine (framesOf (now (words .entry))) 0 f (statementUses StatementKind.DoAt) ⌝ }
+{
+    if !place_fine(words, f.s) {
+        return false;
+    }
+    if f.b != 0 {
+        return false;
+    }
+    f.c == 0
+}
+
+// No field of a statement or of an expression asks for the frame's number: it is 0 here.
+fn statement_fine(words: &[u64], f: Frame, k: StatementKind) -> bool
+    requires { ⌜ (0 < length (now words)) × (schedulersOf (framesOf (now words)) ≤ mostSchedulers) ⌝ }
+    ensures { λ r. ⌜ r ≡ fieldsFine (framesOf (now (words .entry))) 0 f (statementUses k) ⌝ }
+{
+    match k {
+        StatementKind::Nothing => none_used(f),
+        StatementKind::Then => a_b_used(f),
+        StatementKind::DoAt => placed_fine(words, f),
+        StatementKind::Start => arguments_fine(f),
+        StatementKind::StartWait => arguments_fine(f),
+        StatementKind::Cooperate => none_used(f),
+        StatementKind::Let => a_b_used(f),
+        StatementKind::Store => a_b_used(f),
+        StatementKind::If => a_b_c_used(f),
+        StatementKind::While => a_b_used(f),
     }
 }
 
-// Whether frame i may be of its kind: no later header, no 17th shared cell or module.
-fn kind_fine(words: &[u64], i: usize, t: Tally) -> bool
-    requires { ⌜ (i < length (now words)) × (t ≡ tallyOf (take i (framesOf (now words)))) ⌝ }
-    ensures { λ r. ⌜ r ≡ kindFine (framesOf (now (words .entry))) i (frameAt (framesOf (now (words .entry))) i .kind) ⌝ }
+fn expression_fine(words: &[u64], f: Frame, k: ExpressionKind) -> bool
+    requires { ⌜ (0 < length (now words)) × (schedulersOf (framesOf (now words)) ≤ mostSchedulers) ⌝ }
+    ensures { λ r. ⌜ r ≡ fieldsFine (framesOf (now (words .entry))) 0 f (expressionUses k) ⌝ }
+{
+    match k {
+        ExpressionKind::Number => a_used(f),
+        ExpressionKind::Truth => truth_fine(f),
+        ExpressionKind::Variable => s_used(f),
+        ExpressionKind::SharedCell => s_used(f),
+        ExpressionKind::NewCell => placed_fine(words, f),
+        ExpressionKind::Content => a_used(f),
+        ExpressionKind::Sum => a_b_used(f),
+        ExpressionKind::Less => a_b_used(f),
+        ExpressionKind::Choose => a_b_c_used(f),
+    }
+}
+
+// Whether one shared cell more is no 17th.
+fn room_for_cell(cells: usize) -> bool
+    ensures { λ r. ⌜ r ≡ ltb cells mostShared ⌝ }
+{
+    cells < MOST_SHARED
+}
+
+// The shared cell f, which has the number i.
+fn shared_fine(words: &[u64], i: usize, f: Frame, t: Tally) -> bool
+    requires { ⌜ (0 < length (now words)) × (schedulersOf (framesOf (now words)) ≤ mostSchedulers) × (t ≡ tallyOf (take i (framesOf (now words)))) × (t .cells ≤ mostShared) × (f .kind ≡ Declared Shared) ⌝ }
+    ensures { λ r. ⌜ r ≡ frameFine (framesOf (now (words .entry))) i f ⌝ }
+{
+    if !room_for_cell(t.cells) {
+        return false;
+    }
+    if !scheduler_fine(words, f.s) {
+        return false;
+    }
+    if !is_content_word(schedulers_in(words), f.a) {
+        return false;
+    }
+    if !first_content_fine(t, f.a, f.b) {
+        return false;
+    }
+    f.c == 0
+}
+
+// The module f, which has the number i.
+fn module_fine(words: &[u64], i: usize, f: Frame, t: Tally) -> bool
+    requires { ⌜ (0 < length (now words)) × (schedulersOf (framesOf (now words)) ≤ mostSchedulers) × (t ≡ tallyOf (take i (framesOf (now words)))) × (f .kind ≡ Module) ⌝ }
+    ensures { λ r. ⌜ r ≡ frameFine (framesOf (now (words .entry))) i f ⌝ }
+{
+    if MOST_MODULES <= t.modules {
+        return false;
+    }
+    if MOST_PARAMETERS < f.s {
+        return false;
+    }
+    if !type_fine(words, 1, f.s, f.b) {
+        return false;
+    }
+    type_fine(words, 2, f.s, f.c)
+}
+
+// Whether 5 does not name frame i: no later header, no 17th shared cell or module, and the fields
+// that its kind has. By kind, without the table of uses: this is asked of each line.
+fn frame_fine(words: &[u64], i: usize, t: Tally) -> bool
+    requires { ⌜ (i < length (now words)) × (schedulersOf (framesOf (now words)) ≤ mostSchedulers) × (t ≡ tallyOf (take i (framesOf (now words)))) × (t .cells ≤ mostShared) ⌝ }
+    ensures { λ r. ⌜ r ≡ frameFine (framesOf (now (words .entry))) i (frameAt (framesOf (now (words .entry))) i) ⌝ }
 {
     let f = frame_at(words, i);
     let kind = f.kind;
     match kind {
         Kind::Header => i == 0,
         Kind::Declared(d) => match d {
-            DeclarationKind::Shared => t.cells < MOST_SHARED,
+            DeclarationKind::Shared => shared_fine(words, i, f, t),
         },
-        Kind::Module => t.modules < MOST_MODULES,
-        Kind::Statement(s) => true,
-        Kind::Expression(e) => true,
+        Kind::Module => module_fine(words, i, f, t),
+        Kind::Statement(k) => statement_fine(words, f, k),
+        Kind::Expression(k) => expression_fine(words, f, k),
         Kind::Unknown => false,
     }
-}
-
-// Whether 5 does not name frame i.
-fn frame_fine(words: &[u64], i: usize, t: Tally) -> bool
-    requires { ⌜ (i < length (now words)) × (schedulersOf (framesOf (now words)) ≤ mostSchedulers) × (t ≡ tallyOf (take i (framesOf (now words)))) × (t .cells ≤ mostShared) ⌝ }
-    ensures { λ r. ⌜ r ≡ frameFine (framesOf (now (words .entry))) i (frameAt (framesOf (now (words .entry))) i) ⌝ }
-{
-    if !kind_fine(words, i, t) {
-        return false;
-    }
-    let f = frame_at(words, i);
-    let kind = f.kind;
-    let uses = uses_of(kind);
-    let us = uses.s;
-    let ua = uses.a;
-    let ub = uses.b;
-    let uc = uses.c;
-    if !field_fine(words, i, f, t, us, f.s as u16) {
-        return false;
-    }
-    if !field_fine(words, i, f, t, ua, f.a) {
-        return false;
-    }
-    if !field_fine(words, i, f, t, ub, f.b) {
-        return false;
-    }
-    field_fine(words, i, f, t, uc, f.c)
 }
 
 // The type of a shared cell whose owner and content type are right.
@@ -258,6 +383,22 @@ pub fn counted(words: &[u64], i: usize, t: Tally) -> Tally
     }
 }
 
+// Whether a frame of that kind changes the tally: for all others it is not even copied.
+fn is_counted(k: Kind) -> bool
+    ensures { λ r. ⌜ r ≡ (isShared k || isModule k) ⌝ }
+{
+    match k {
+        Kind::Header => false,
+        Kind::Declared(d) => match d {
+            DeclarationKind::Shared => true,
+        },
+        Kind::Module => true,
+        Kind::Statement(s) => false,
+        Kind::Expression(e) => false,
+        Kind::Unknown => false,
+    }
+}
+
 // The lowest frame with the fault 5. It stops there, so that no 17th cell is counted. With a right header there are at most 8 schedulers, and a place is one of the nine.
 pub fn fields(words: &[u64]) -> Found
     requires { ⌜ (0 < length (now words)) × (length (now words) ≤ mostLines) × (schedulersOf (framesOf (now words)) ≤ mostSchedulers) ⌝ }
@@ -273,8 +414,13 @@ pub fn fields(words: &[u64]) -> Found
         if !frame_fine(words, i, t) {
             return Found::At(i as u16);
         }
-        t = counted(words, i, t);
+        let f = frame_at(words, i);
+        let kind = f.kind;
+        let here = i;
         i += 1;
+        if is_counted(kind) {
+            t = counted(words, here, t);
+        }
     }
     Found::Nowhere
 }

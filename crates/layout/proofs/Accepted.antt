@@ -1,4 +1,4 @@
--- What the answer of `lay_out` means: where it is `Accepted`, the lines kept are frames without fault; its verdict is the one that `HasLayout` allows. Assumes nothing.
+-- What the answer of `lay_into` means: where it is `Accepted`, the lines kept are frames without fault; its verdict is the one that `HasLayout` allows. Assumes nothing.
 use mathlib.Core.Path.{_≡_, refl, sym, ap, subst, _∙_}
 use mathlib.Core.List.{List}
 use Prim.Native.Nat.{ℕ, _≤_, _<_}
@@ -8,16 +8,16 @@ use Rattle.language.specs.declared.verdict.Verdict.{Verdict}
 use Rattle.language.specs.declared.verdict.Verdict.the-variants.{Accepted, Rejected}
 use Rattle.text.specs.Frames.{framesOf, textFrames}
 use Rattle.text.specs.Reading.{Reading, frames, refused, Reads}
-use Rattle.text.specs.inner.Reading.{reading, textRead, linesRead, textWords}
+use Rattle.text.specs.inner.Reading.{reading, textRead, linesRead, readAs, textWords}
+use Rattle.text.specs.declared.reading.TextRead.{TextRead}
 use Rattle.text.specs.declared.reading.TextRead.the-variants.{Frames, Refused}
-use Rattle.text.specs.declared.reading.TextWords.{TextWords}
 use Rattle.text.proofs.Readings.{reads, reads-one, some-frame}
 use Rattle.text.proofs.ReadLaws.{read-field}
-use Rattle.layout.specs.declared.LaidOut.{LaidOut}
+use Rattle.layout.specs.declared.Laid.{Laid}
 use Rattle.layout.specs.Faults.{NoFault}
 use Rattle.layout.specs.inner.Scans.{layoutOf}
 use Rattle.layout.specs.LaidOut.{HasLayout, Judged}
-use Rattle.layout.specs.inner.Layouts.{layoutRead, layoutVerdict, laidOut}
+use Rattle.layout.specs.inner.Layouts.{layoutRead, layoutVerdict, LaidOut, laidAs, laidOut}
 use Rattle.layout.proofs.Layouts.{layout-says, layout-one}
 use Rattle.layout.proofs.Answers.{Whole, whole, frames-are, verdict-is, laid-refused, laid-whole}
 use Rattle.layout.proofs.Scopes.{accepted-no-fault}
@@ -52,7 +52,7 @@ laid-passed bs l e v =
     let r : textWords bs .read ≡ Frames (linesRead (reading bs)) = read-field bs (textWords bs) refl ∙ ap textRead (w .is) ∙ ap Frames (w .count) in
     record {
       reads = w .is;
-      lines = ap (λ (x : LaidOut). framesOf (take (x .count) (x .words))) e ∙ frames-are bs (textWords bs) refl (linesRead (reading bs)) r;
+      lines = ap (λ (x : LaidOut). framesOf (take (x .count) (x .words))) e ∙ frames-are bs (textWords bs .read) (textWords bs .words) refl (linesRead (reading bs)) r;
       count = w .count ∙ sym c;
       some = (let s = w .some in omega arith);
       few = (let f = w .fits in omega arith);
@@ -81,12 +81,17 @@ judged bs l e =
       only = λ other h. layout-only h ∙ sym v;
     }
 
--- of each answer of `lay_out`
-module _ (bs : List ℕ) (t : TextWords) (h : t ≡ textWords bs) where
-  pub judged-refused : (n j : ℕ) → t .read ≡ Refused n j → Judged bs (Rejected n j)
-  judged-refused n j e = judged bs _ (laid-refused bs t h n j e)
+-- of each answer of `lay_into`
+module _ (bs : List ℕ) (t : TextRead) (ws : List ℕ) (h : readAs t ws ≡ textWords bs) where
+  pub judged-refused : (n j : ℕ) → t ≡ Refused n j → Judged bs (Rejected n j)
+  judged-refused n j e = judged bs _ (laid-refused bs t ws h n j e)
 
-  pub judged-whole : (n : ℕ) → t .read ≡ Frames n → (v : Verdict) → v ≡ layoutOf (framesOf (take n (t .words))) → Judged bs v
-  judged-whole n e v q = judged bs _ (laid-whole bs t h n e v q)
+  pub judged-whole : (n : ℕ) → t ≡ Frames n → (v : Verdict) → v ≡ layoutOf (framesOf (take n ws)) → Judged bs v
+  judged-whole n e v q = judged bs _ (laid-whole bs t ws h n e v q)
 
 pub ruleset judged-laws = (judged-refused, judged-whole)
+
+-- the verdict alone
+module _ (bs : List ℕ) (l : Laid) (ws : List ℕ) (e : laidAs l ws ≡ laidOut bs) where
+  pub verdict-alone : l .verdict ≡ layoutVerdict bs
+  verdict-alone = verdict-is bs (laidAs l ws) e

@@ -1,4 +1,4 @@
--- What a text comes to 'after 1 to 7', from the answer of `lay_out` or from the rules. Assumes nothing.
+-- What a text comes to 'after 1 to 7', from the answer of `lay_into` or from the rules. Assumes nothing.
 use mathlib.Core.Path.{_≡_, refl, sym, ap, _∙_}
 use mathlib.Core.List.{List}
 use Prim.Native.Nat.{ℕ}
@@ -10,10 +10,9 @@ use Rattle.text.specs.Frames.{framesOf, textFrames}
 use Rattle.text.specs.Reading.{Reading, frames, refused, Reads}
 use Rattle.text.specs.inner.Reading.{reading}
 use Rattle.text.proofs.Readings.{reads, reads-one, some-frame}
-use Rattle.layout.specs.declared.LaidOut.{LaidOut}
 use Rattle.layout.specs.Faults.{NoFault}
 use Rattle.layout.specs.inner.Scans.{layoutOf}
-use Rattle.layout.specs.inner.Layouts.{layoutRead, layoutVerdict, laidOut}
+use Rattle.layout.specs.inner.Layouts.{layoutRead, layoutVerdict, LaidOut, laidOut}
 use Rattle.layout.specs.LaidOut.{afterLayout, afterReading}
 use Rattle.layout.proofs.Answers.{verdict-is}
 use Rattle.layout.proofs.Scopes.{no-fault-accepted}

@@ -10,18 +10,17 @@ use Rattle.language.specs.declared.verdict.Verdict.{Verdict}
 use Rattle.language.specs.declared.verdict.Verdict.the-variants.{Accepted, Rejected}
 use Rattle.text.specs.Frames.{wordsOf, framesOf, textFrames}
 use Rattle.text.specs.Reading.{Reading, frames, refused, Reads}
-use Rattle.text.specs.inner.Reading.{reading, textRead, linesRead, wordArray, textWords}
+use Rattle.text.specs.inner.Reading.{reading, textRead, linesRead, wordArray, TextWords, readAs, textWords}
+use Rattle.text.specs.declared.reading.TextRead.{TextRead}
 use Rattle.text.specs.declared.reading.TextRead.the-variants.{Frames, Refused}
-use Rattle.text.specs.declared.reading.TextWords.{TextWords}
 use Rattle.text.proofs.Readings.{reads, some-frame}
 use Rattle.text.proofs.ReadLaws.{length-frames, array-length, read-field, length-words}
 use Rattle.fields.specs.declared.found.Found.{Found}
 use Rattle.fields.specs.declared.found.Found.the-variants.{At, Nowhere}
 use Rattle.fields.specs.inner.Scans.{headerFault, fieldFault, found}
 use Rattle.fields.proofs.Finds.{found-none, found-some}
-use Rattle.layout.specs.declared.LaidOut.{LaidOut}
 use Rattle.layout.specs.inner.Scans.{orderFault, depthFault, layoutOf}
-use Rattle.layout.specs.inner.Layouts.{layoutRead, layoutVerdict, laidOut}
+use Rattle.layout.specs.inner.Layouts.{layoutRead, layoutVerdict, LaidOut, laidOut}
 
 -- ---- 4 to 7: the code stops at the first pass that finds a frame
 module _ (fs : List Frame) (a : Found) (ha : a ≡ found (headerFault fs)) where
@@ -80,56 +79,56 @@ array-take : (n : ℕ) (bs : List ℕ) → take n (wordArray n bs) ≡ wordsOf n
 unfolding wordArray
 array-take n bs = take-at (wordsOf n bs) (replicate (1024 - n) 0) n (length-words n bs)
 
--- ---- 1 to 7, with the lines read
+-- ---- 1 to 7, with the lines read: t is what the reader answered, ws what the lent words hold
 abbrev answer : Verdict → ℕ → List ℕ → LaidOut
 answer v n ws = record { verdict = v; count = n; words = ws }
 
-module _ (bs : List ℕ) (t : TextWords) (h : t ≡ textWords bs) where
-  words-are : t .words ≡ wordArray (linesRead (reading bs)) bs
+module _ (bs : List ℕ) (t : TextRead) (ws : List ℕ) (h : readAs t ws ≡ textWords bs) where
+  words-are : ws ≡ wordArray (linesRead (reading bs)) bs
   unfolding textWords
   words-are = ap (λ (x : TextWords). x .words) h
 
-  by-reading : (r : Reading) → reading bs ≡ r → answer (layoutRead r) (linesRead r) (t .words) ≡ laidOut bs
+  by-reading : (r : Reading) → reading bs ≡ r → answer (layoutRead r) (linesRead r) ws ≡ laidOut bs
   unfolding laidOut layoutVerdict
-  by-reading r e = ap (λ (s : Reading). answer (layoutRead s) (linesRead s) (t .words)) (sym e) ∙ ap (λ (x : TextWords). answer (layoutRead (reading bs)) (linesRead (reading bs)) (x .words)) h
+  by-reading r e = ap (λ (s : Reading). answer (layoutRead s) (linesRead s) ws) (sym e) ∙ ap (λ (x : TextWords). answer (layoutRead (reading bs)) (linesRead (reading bs)) (x .words)) h
 
-  pub laid-refused : (n j : ℕ) → t .read ≡ Refused n j → answer (Rejected n j) j (t .words) ≡ laidOut bs
-  laid-refused n j e = by-reading (refused n j) (go (reading bs) (sym (read-field bs t h) ∙ e))
+  pub laid-refused : (n j : ℕ) → t ≡ Refused n j → answer (Rejected n j) j ws ≡ laidOut bs
+  laid-refused n j e = by-reading (refused n j) (go (reading bs) (sym (read-field bs (readAs t ws) h) ∙ e))
     where
       go : (r : Reading) → textRead r ≡ Refused n j → r ≡ refused n j
       go (frames fs) q = absurd (let z : _≡_ {A = ℕ} 0 1 = cc in omega arith)
       go (refused m k) q = (let a : m ≡ n = cc in let b : k ≡ j = cc in ap₂ refused a b)
 
-  module _ (n : ℕ) (e : t .read ≡ Frames n) where
+  module _ (n : ℕ) (e : t ≡ Frames n) where
     w : Whole bs n
-    w = whole bs n (sym (read-field bs t h) ∙ e)
+    w = whole bs n (sym (read-field bs (readAs t ws) h) ∙ e)
 
-    array : t .words ≡ wordArray n bs
+    array : ws ≡ wordArray n bs
     array = words-are ∙ ap (λ (r : Reading). wordArray (linesRead r) bs) (w .is) ∙ ap (λ (k : ℕ). wordArray k bs) (w .count)
 
-    pub lines-fit : n ≤ length (t .words)
-    lines-fit = let a : length (t .words) ≡ 1024 = ap length array ∙ array-length n bs (w .fits) in let b = w .fits in omega arith
+    pub lines-fit : n ≤ length ws
+    lines-fit = let a : length ws ≡ 1024 = ap length array ∙ array-length n bs (w .fits) in let b = w .fits in omega arith
 
-    taken : take n (t .words) ≡ wordsOf n bs
+    taken : take n ws ≡ wordsOf n bs
     taken = ap (take n) array ∙ array-take n bs
 
-    pub lines-count : length (take n (t .words)) ≡ n
+    pub lines-count : length (take n ws) ≡ n
     lines-count = ap length taken ∙ length-words n bs
 
-    pub lines-some : 0 < length (take n (t .words))
+    pub lines-some : 0 < length (take n ws)
     lines-some = let a = lines-count in let b = w .some in omega arith
 
-    pub lines-few : length (take n (t .words)) ≤ 1024
+    pub lines-few : length (take n ws) ≤ 1024
     lines-few = let a = lines-count in let b = w .fits in omega arith
 
-    pub frames-are : framesOf (take n (t .words)) ≡ textFrames bs
+    pub frames-are : framesOf (take n ws) ≡ textFrames bs
     unfolding textFrames
     frames-are = ap framesOf (taken ∙ ap (λ (k : ℕ). wordsOf k bs) (sym (w .count) ∙ length-frames bs))
 
-    pub laid-whole : (v : Verdict) → v ≡ layoutOf (framesOf (take n (t .words))) → answer v n (t .words) ≡ laidOut bs
+    pub laid-whole : (v : Verdict) → v ≡ layoutOf (framesOf (take n ws)) → answer v n ws ≡ laidOut bs
     laid-whole v q =
-        ap (λ (x : Verdict). answer x n (t .words)) (q ∙ ap layoutOf frames-are)
-        ∙ ap (λ (k : ℕ). answer (layoutOf (textFrames bs)) k (t .words)) (sym (w .count))
+        ap (λ (x : Verdict). answer x n ws) (q ∙ ap layoutOf frames-are)
+        ∙ ap (λ (k : ℕ). answer (layoutOf (textFrames bs)) k ws) (sym (w .count))
         ∙ by-reading (frames (textFrames bs)) (w .is)
 
 pub ruleset laid-laws = (laid-refused, laid-whole)

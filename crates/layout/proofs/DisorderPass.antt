@@ -10,18 +10,16 @@ use lib.ListN.{length, getD, set, drop}
 use lib.Seq.{getD-set-same, getD-set-other}
 use borrow.Author.Tests.{eq-eqb, ne-eqb, eqb-true, eqb-false, not-true, not-false}
 use Rattle.basics.proofs.Ifs.{and-true}
-use Rattle.language.specs.Kinds.{classOf, uses, Child, child, childIn, children}
+use Rattle.language.specs.Kinds.{classOf, Child, child, children}
 use Rattle.language.specs.declared.kind.Class.{Class}
-use Rattle.language.specs.declared.kind.Use.{Use}
-use Rattle.language.specs.declared.kind.Uses.{Uses}
 use Rattle.language.specs.declared.frame.Frame.{Frame}
 use Rattle.text.specs.Frames.{framesOf}
 use Rattle.text.proofs.FrameWords.{frames-end}
 use Rattle.program.specs.Trees.{frameAt}
-use Rattle.program.specs.declared.frames.ChildRead.{ChildRead}
-use Rattle.program.specs.declared.frames.ChildRead.the-variants.{ChildAt, NoChild}
-use Rattle.program.specs.inner.Children.{sameClass, childRead}
-use Rattle.program.proofs.FrameLaws.{frames-next, few, reversed, no-child-is, child-is}
+use Rattle.program.specs.declared.frames.Children.{Children}
+use Rattle.program.specs.declared.frames.Children.the-variants.{Nothing, One, Two, Three}
+use Rattle.program.specs.inner.Children.{sameClass, listOf, childrenOf}
+use Rattle.program.proofs.FrameLaws.{frames-next, children-are}
 use Rattle.fields.specs.declared.found.Found.{Found}
 use Rattle.fields.specs.declared.found.Found.the-variants.{At, Nowhere}
 use Rattle.fields.specs.inner.Scans.{found}
@@ -88,19 +86,6 @@ module _ (fs : List Frame) (first : List ℕ) (i stop v : ℕ) (k : Class) where
 
 pub ruleset child-laws = (child-past, child-apart, child-class, child-there)
 
--- ---- one field
-module _ (ps : List Passed) (i stop : ℕ) (u : Use) (v : ℕ) (x : ChildRead) where
-  pub field-none : x ≡ childRead (childIn u v) → x ≡ NoChild → At stop ≡ found (rowFirst ps i stop (childIn u v))
-  field-none h e = ap found (end ∙ ap (rowFirst ps i stop) (sym (no-child-is u v x h e)))
-    where
-      end : some stop ≡ rowFirst ps i stop []
-      end = unfold rowFirst in refl
-
-  pub field-some : (r : Found) (k : Class) (n : ℕ) → x ≡ childRead (childIn u v) → x ≡ ChildAt k n → r ≡ found (rowFirst ps i stop (child k n ∷ [])) → r ≡ found (rowFirst ps i stop (childIn u v))
-  field-some r k n h e g = g ∙ ap (λ (cs : List Child). found (rowFirst ps i stop cs)) (sym (child-is u v x h k n e))
-
-pub ruleset field-laws = (field-none, field-some)
-
 -- ---- the row
 -- a row goes on where the row behind it begins
 abbrev andThen : Option ℕ → (ℕ → Option ℕ) → Option ℕ
@@ -117,36 +102,42 @@ row-append ps i (c ∷ xs) ys stop = go (eqb (suc (c .at)) stop && sameClass (ge
     go true h = h
     go false h = refl
 
-and-same : (o : Option ℕ) (f g : ℕ → Option ℕ) → ((s : ℕ) → f s ≡ g s) → andThen o f ≡ andThen o g
-and-same none f g h = refl
-and-same (some s) f g h = h s
+-- two children, the later one first
+module _ (ps : List Passed) (i stop : ℕ) (k l : Class) (a b : ℕ) (x : Found) where
+  pub pair-none : x ≡ Nowhere → x ≡ found (rowFirst ps i stop (child l b ∷ [])) → Nowhere ≡ found (rowFirst ps i stop (child l b ∷ child k a ∷ []))
+  pair-none e p = let z = found-none (rowFirst ps i stop (child l b ∷ [])) e p in ap found (sym (row-append ps i (child l b ∷ []) (child k a ∷ []) stop ∙ ap (λ (o : Option ℕ). andThen o (λ s. rowFirst ps i s (child k a ∷ []))) z))
 
-row-fields : (ps : List Passed) (i : ℕ) (f : Frame) (us : Uses) → us ≡ uses (f .kind) → rowFirst ps i i (reverse (children f)) ≡ andThen (rowFirst ps i i (childIn (us .c) (f .c))) (λ t. andThen (rowFirst ps i t (childIn (us .b) (f .b))) (λ s. rowFirst ps i s (childIn (us .a) (f .a))))
-unfolding children
-row-fields ps i f us e =
-    ap (λ (w : Uses). rowFirst ps i i (reverse (childIn (w .a) (f .a) ++ childIn (w .b) (f .b) ++ childIn (w .c) (f .c)))) (sym e)
-    ∙ ap (rowFirst ps i i) (reversed (few (us .a) (f .a)) (few (us .b) (f .b)) (few (us .c) (f .c)))
-    ∙ row-append ps i (childIn (us .c) (f .c)) (childIn (us .b) (f .b) ++ childIn (us .a) (f .a)) i
-    ∙ and-same (rowFirst ps i i (childIn (us .c) (f .c))) _ _ (λ t. row-append ps i (childIn (us .b) (f .b)) (childIn (us .a) (f .a)) t)
+  pub pair-some : (r : Found) (t : ℕ) → x ≡ At t → x ≡ found (rowFirst ps i stop (child l b ∷ [])) → r ≡ found (rowFirst ps i t (child k a ∷ [])) → r ≡ found (rowFirst ps i stop (child l b ∷ child k a ∷ []))
+  pair-some r t e p q = let z = found-some (rowFirst ps i stop (child l b ∷ [])) e p in q ∙ ap found (sym (row-append ps i (child l b ∷ []) (child k a ∷ []) stop ∙ ap (λ (o : Option ℕ). andThen o (λ s. rowFirst ps i s (child k a ∷ []))) z))
 
--- the code asks for C, then B, then A
-module _ (ps : List Passed) (i : ℕ) (f : Frame) (us : Uses) (h : us ≡ uses (f .kind)) where
-  pub row-last : (x : Found) → x ≡ Nowhere → x ≡ found (rowFirst ps i i (childIn (us .c) (f .c))) → Nowhere ≡ found (rowFirst ps i i (reverse (children f)))
-  row-last x e p = let z = found-none (rowFirst ps i i (childIn (us .c) (f .c))) e p in rw (row-fields ps i f us h, z)
+-- each arm of the match on the children of a frame
+module _ (ps : List Passed) (i : ℕ) (f : Frame) (x : Children) (h : x ≡ childrenOf f) where
+  row-of : (v : Children) → x ≡ v → found (rowFirst ps i i (reverse (listOf v))) ≡ found (rowFirst ps i i (reverse (children f)))
+  row-of v e = ap (λ (cs : List Child). found (rowFirst ps i i (reverse cs))) (children-are f x v h e)
 
-  pub row-middle : (x y : Found) (t : ℕ) → x ≡ At t → x ≡ found (rowFirst ps i i (childIn (us .c) (f .c))) → y ≡ Nowhere → y ≡ found (rowFirst ps i t (childIn (us .b) (f .b))) → Nowhere ≡ found (rowFirst ps i i (reverse (children f)))
-  row-middle x y t e p g q =
-      let z = found-some (rowFirst ps i i (childIn (us .c) (f .c))) e p in
-      let w = found-none (rowFirst ps i t (childIn (us .b) (f .b))) g q in
-      rw (row-fields ps i f us h, z, w)
+  pub row-none : x ≡ Nothing → At i ≡ found (rowFirst ps i i (reverse (children f)))
+  row-none e = ap found end ∙ row-of Nothing e
+    where
+      end : some i ≡ rowFirst ps i i []
+      end = unfold rowFirst in refl
 
-  pub row-whole : (x y r : Found) (t s : ℕ) → x ≡ At t → x ≡ found (rowFirst ps i i (childIn (us .c) (f .c))) → y ≡ At s → y ≡ found (rowFirst ps i t (childIn (us .b) (f .b))) → r ≡ found (rowFirst ps i s (childIn (us .a) (f .a))) → r ≡ found (rowFirst ps i i (reverse (children f)))
-  row-whole x y r t s e p g q k =
-      let z = found-some (rowFirst ps i i (childIn (us .c) (f .c))) e p in
-      let w = found-some (rowFirst ps i t (childIn (us .b) (f .b))) g q in
-      rw (row-fields ps i f us h, z, w) k
+  module _ (k : Class) (a : ℕ) (r : Found) where
+    pub row-one : x ≡ One k a → r ≡ found (rowFirst ps i i (child k a ∷ [])) → r ≡ found (rowFirst ps i i (reverse (children f)))
+    row-one e p = p ∙ row-of (One k a) e
 
-pub ruleset row-laws = (row-last, row-middle, row-whole)
+    module _ (l : Class) (b : ℕ) where
+      pub row-two : x ≡ Two k a l b → r ≡ found (rowFirst ps i i (child l b ∷ child k a ∷ [])) → r ≡ found (rowFirst ps i i (reverse (children f)))
+      row-two e p = p ∙ row-of (Two k a l b) e
+
+      module _ (m : Class) (c : ℕ) (y : Found) (e : x ≡ Three k a l b m c) (q : y ≡ found (rowFirst ps i i (child m c ∷ []))) where
+        rest : (o : Option ℕ) → rowFirst ps i i (child m c ∷ []) ≡ o → found (andThen o (λ s. rowFirst ps i s (child l b ∷ child k a ∷ []))) ≡ found (rowFirst ps i i (reverse (children f)))
+        rest o z = ap (λ (o : Option ℕ). found (andThen o (λ s. rowFirst ps i s (child l b ∷ child k a ∷ [])))) (sym z) ∙ ap found (sym (row-append ps i (child m c ∷ []) (child l b ∷ child k a ∷ []) i)) ∙ row-of (Three k a l b m c) e
+
+        pub row-last : y ≡ Nowhere → Nowhere ≡ found (rowFirst ps i i (reverse (children f)))
+        row-last n = rest none (found-none (rowFirst ps i i (child m c ∷ [])) n q)
+
+        pub row-three : (t : ℕ) → y ≡ At t → r ≡ found (rowFirst ps i t (child l b ∷ child k a ∷ [])) → r ≡ found (rowFirst ps i i (reverse (children f)))
+        row-three t n p = p ∙ rest (some t) (found-some (rowFirst ps i i (child m c ∷ [])) n q)
 
 -- ---- a row begins at its end or before, so that the next row ends within the frames passed
 first-le : (fs : List Frame) (first : List ℕ) (i : ℕ) → Backward first i → (cs : List Child) (stop lo : ℕ) → stop ≤ i → rowFirst (told fs first i) i stop cs ≡ some lo → lo ≤ stop
@@ -169,9 +160,6 @@ first-le fs first i h (c ∷ cs) stop lo l e = go (eqb (suc (c .at)) stop && sam
 module _ (fs : List Frame) (first : List ℕ) (i : ℕ) (h : Backward first i) where
   pub row-within : (cs : List Child) (x : Found) (stop t : ℕ) → x ≡ At t → x ≡ found (rowFirst (told fs first i) i stop cs) → stop ≤ i → t ≤ i
   row-within cs x stop t e p l = let a = first-le fs first i h cs stop t l (found-some (rowFirst (told fs first i) i stop cs) e p) in omega arith
-
-  pub rows-within : (cs ds : List Child) (x y : Found) (t s : ℕ) → x ≡ At t → x ≡ found (rowFirst (told fs first i) i i cs) → y ≡ At s → y ≡ found (rowFirst (told fs first i) i t ds) → s ≤ i
-  rows-within cs ds x y t s e p f q = row-within ds y t s f q (row-within cs x i t e p (omega arith))
 
 -- ---- the loop: the pass from here on is the pass from the start
 abbrev pub SeekingDisorder : List Frame → List ℕ → ℕ → Type 0

@@ -1,7 +1,7 @@
 -- The code's pass for a leftover frame, over an array with a mark at each frame that some frame has as a child. Assumes nothing.
 use mathlib.Core.Path.{_≡_, refl, sym, ap, ap₂, _∙_}
 use mathlib.Core.Bool.{Bool, true, false, not, _&&_}
-use mathlib.Core.List.{List, [], _∷_, _++_}
+use mathlib.Core.List.{List, [], _∷_}
 use Prim.Native.Nat.{ℕ, suc, _+_, _≤_, _<_}
 use native.Mathlib.Omega.{arith}
 use lib.Dec.{ltb, eqb}
@@ -10,18 +10,16 @@ use lib.ListN.{getD, length, set, drop, replicate, getD-replicate, length-replic
 use lib.Seq.{getD-set-same, getD-set-other}
 use Rattle.basics.specs.Searches.{any}
 use Rattle.basics.proofs.Ifs.{yes, no, if-all}
-use Rattle.language.specs.Kinds.{uses, classOf, Child, childIn, children}
+use Rattle.language.specs.Kinds.{classOf, Child, children}
 use Rattle.language.specs.declared.kind.Class.{Class}
-use Rattle.language.specs.declared.kind.Use.{Use}
-use Rattle.language.specs.declared.kind.Uses.{Uses}
 use Rattle.language.specs.declared.frame.Frame.{Frame}
 use Rattle.text.specs.Frames.{framesOf}
 use Rattle.text.proofs.FrameWords.{frames-end}
 use Rattle.program.specs.Trees.{frameAt}
-use Rattle.program.specs.declared.frames.ChildRead.{ChildRead}
-use Rattle.program.specs.declared.frames.ChildRead.the-variants.{ChildAt, NoChild}
-use Rattle.program.specs.inner.Children.{childRead}
-use Rattle.program.proofs.FrameLaws.{frames-next, no-child-is, child-is, by-fields}
+use Rattle.program.specs.declared.frames.Children.{Children}
+use Rattle.program.specs.declared.frames.Children.the-variants.{Nothing, One, Two, Three}
+use Rattle.program.specs.inner.Children.{listOf, childrenOf}
+use Rattle.program.proofs.FrameLaws.{frames-next, children-are}
 use Rattle.fields.specs.declared.found.Found.the-variants.{At, Nowhere}
 use Rattle.fields.specs.inner.Scans.{found}
 use Rattle.fields.proofs.Seeking.{Seeking, seek-here, seek-next, seek-end}
@@ -41,28 +39,33 @@ mark-set u v l = yes u (lt-ltb v 1024 l) refl
 
 pub ruleset mark-laws = (mark-past, mark-set)
 
-module _ (t : List ℕ) (u : Use) (v : ℕ) (x : ChildRead) where
-  pub field-unmarked : x ≡ childRead (childIn u v) → x ≡ NoChild → t ≡ marks t (childIn u v)
-  field-unmarked h e = end ∙ ap (marks t) (sym (no-child-is u v x h e))
+-- each arm of the match on the children of a frame
+module _ (u : List ℕ) (f : Frame) (x : Children) (h : x ≡ childrenOf f) where
+  pub none-marked : x ≡ Nothing → u ≡ marks u (children f)
+  none-marked e = end ∙ ap (marks u) (children-are f x Nothing h e)
     where
-      end : t ≡ marks t []
+      end : u ≡ marks u []
       end = unfold marks in refl
 
-  pub field-marked : (s : List ℕ) (k : Class) (n : ℕ) → x ≡ childRead (childIn u v) → x ≡ ChildAt k n → s ≡ marked t n → s ≡ marks t (childIn u v)
-  field-marked s k n h e g = g ∙ end ∙ ap (marks t) (sym (child-is u v x h k n e))
-    where
-      end : marked t n ≡ marks t (record { class = k; at = n } ∷ [])
-      end = unfold marks in refl
+  module _ (k : Class) (a : ℕ) (t : List ℕ) where
+    pub one-marked : x ≡ One k a → t ≡ marked u a → t ≡ marks u (children f)
+    one-marked e p = p ∙ end ∙ ap (marks u) (children-are f x (One k a) h e)
+      where
+        end : marked u a ≡ marks u (listOf (One k a))
+        end = unfold marks in refl
 
-pub ruleset field-laws = (field-unmarked, field-marked)
+    module _ (l : Class) (b : ℕ) (r : List ℕ) where
+      pub two-marked : x ≡ Two k a l b → t ≡ marked u a → r ≡ marked t b → r ≡ marks u (children f)
+      two-marked e p q = q ∙ ap (λ (s : List ℕ). marked s b) p ∙ end ∙ ap (marks u) (children-are f x (Two k a l b) h e)
+        where
+          end : marked (marked u a) b ≡ marks u (listOf (Two k a l b))
+          end = unfold marks in refl
 
-marks-append : (xs ys : List Child) (u : List ℕ) → marks u (xs ++ ys) ≡ marks (marks u xs) ys
-unfolding marks
-marks-append [] ys u = refl
-marks-append (x ∷ xs) ys u = marks-append xs ys (marked u (x .at))
-
-pub frame-marked : (u t r s : List ℕ) (us : Uses) (f : Frame) → us ≡ uses (f .kind) → t ≡ marks u (childIn (us .a) (f .a)) → r ≡ marks t (childIn (us .b) (f .b)) → s ≡ marks r (childIn (us .c) (f .c)) → s ≡ marks u (children f)
-frame-marked = by-fields marks marks-append
+      pub three-marked : (m : Class) (c : ℕ) (s : List ℕ) → x ≡ Three k a l b m c → t ≡ marked u a → r ≡ marked t b → s ≡ marked r c → s ≡ marks u (children f)
+      three-marked m c s e p q w = w ∙ ap (λ (y : List ℕ). marked y c) (q ∙ ap (λ (y : List ℕ). marked y b) p) ∙ end ∙ ap (marks u) (children-are f x (Three k a l b m c) h e)
+        where
+          end : marked (marked (marked u a) b) c ≡ marks u (listOf (Three k a l b m c))
+          end = unfold marks in refl
 
 -- ---- the loop that marks: from here on it is as from the start
 abbrev pub Marking : List Frame → List ℕ → List ℕ → ℕ → Type 0

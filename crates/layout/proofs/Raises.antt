@@ -1,22 +1,20 @@
 -- The code's steps of the depth pass: how it raises depths in its array, from the last frame down (`depthsDown`). Assumes nothing.
 use mathlib.Core.Path.{_≡_, refl, sym, ap, _∙_}
 use mathlib.Core.Bool.{Bool, true, false}
-use mathlib.Core.List.{List, [], _∷_, _++_}
+use mathlib.Core.List.{List, []}
 use Prim.Native.Nat.{ℕ, suc, _+_, _-_, _≤_, _<_}
 use native.Mathlib.Omega.{arith}
 use borrow.Author.Tests.{lt-ltb, le-ltb, eq-eqb, ne-eqb}
 use lib.ListN.{getD, set}
 use Rattle.basics.proofs.Ifs.{yes, no}
-use Rattle.language.specs.Kinds.{isModule, uses, Child, childIn, children}
+use Rattle.language.specs.Kinds.{isModule, children}
 use Rattle.language.specs.declared.kind.Class.{Class}
-use Rattle.language.specs.declared.kind.Use.{Use}
-use Rattle.language.specs.declared.kind.Uses.{Uses}
 use Rattle.language.specs.declared.frame.Frame.{Frame}
 use Rattle.program.specs.Trees.{frameAt}
-use Rattle.program.specs.declared.frames.ChildRead.{ChildRead}
-use Rattle.program.specs.declared.frames.ChildRead.the-variants.{ChildAt, NoChild}
-use Rattle.program.specs.inner.Children.{childRead}
-use Rattle.program.proofs.FrameLaws.{no-child-is, child-is, by-fields}
+use Rattle.program.specs.declared.frames.Children.{Children}
+use Rattle.program.specs.declared.frames.Children.the-variants.{Nothing, One, Two, Three}
+use Rattle.program.specs.inner.Children.{listOf, childrenOf}
+use Rattle.program.proofs.FrameLaws.{children-are}
 use Rattle.layout.specs.inner.Passes.{given, raised, raisedAll, depthsDown}
 
 -- ---- one depth
@@ -34,29 +32,33 @@ raise-set u d v h l = yes u (lt-ltb v 1024 l) (yes u (lt-ltb (getD u v 0) d h) r
 
 pub ruleset raise-laws = (raise-past, raise-not, raise-set)
 
--- ---- the children of a field, of a frame
-module _ (t : List ℕ) (d : ℕ) (u : Use) (v : ℕ) (x : ChildRead) where
-  pub field-unraised : x ≡ childRead (childIn u v) → x ≡ NoChild → t ≡ raisedAll t d (childIn u v)
-  field-unraised h e = end ∙ ap (raisedAll t d) (sym (no-child-is u v x h e))
+-- ---- the children of a frame: each arm of the match on them
+module _ (u : List ℕ) (d : ℕ) (f : Frame) (x : Children) (h : x ≡ childrenOf f) where
+  pub none-raised : x ≡ Nothing → u ≡ raisedAll u d (children f)
+  none-raised e = end ∙ ap (raisedAll u d) (children-are f x Nothing h e)
     where
-      end : t ≡ raisedAll t d []
+      end : u ≡ raisedAll u d []
       end = unfold raisedAll in refl
 
-  pub field-raised : (s : List ℕ) (k : Class) (n : ℕ) → x ≡ childRead (childIn u v) → x ≡ ChildAt k n → s ≡ raised t d n → s ≡ raisedAll t d (childIn u v)
-  field-raised s k n h e g = g ∙ end ∙ ap (raisedAll t d) (sym (child-is u v x h k n e))
-    where
-      end : raised t d n ≡ raisedAll t d (record { class = k; at = n } ∷ [])
-      end = unfold raisedAll in refl
+  module _ (k : Class) (a : ℕ) (t : List ℕ) where
+    pub one-raised : x ≡ One k a → t ≡ raised u d a → t ≡ raisedAll u d (children f)
+    one-raised e p = p ∙ end ∙ ap (raisedAll u d) (children-are f x (One k a) h e)
+      where
+        end : raised u d a ≡ raisedAll u d (listOf (One k a))
+        end = unfold raisedAll in refl
 
-pub ruleset field-laws = (field-unraised, field-raised)
+    module _ (l : Class) (b : ℕ) (r : List ℕ) where
+      pub two-raised : x ≡ Two k a l b → t ≡ raised u d a → r ≡ raised t d b → r ≡ raisedAll u d (children f)
+      two-raised e p q = q ∙ ap (λ (s : List ℕ). raised s d b) p ∙ end ∙ ap (raisedAll u d) (children-are f x (Two k a l b) h e)
+        where
+          end : raised (raised u d a) d b ≡ raisedAll u d (listOf (Two k a l b))
+          end = unfold raisedAll in refl
 
-all-append : (xs ys : List Child) (u : List ℕ) (d : ℕ) → raisedAll u d (xs ++ ys) ≡ raisedAll (raisedAll u d xs) d ys
-unfolding raisedAll
-all-append [] ys u d = refl
-all-append (x ∷ xs) ys u d = all-append xs ys (raised u d (x .at)) d
-
-pub frame-raised : (u t r s : List ℕ) (d : ℕ) (us : Uses) (f : Frame) → us ≡ uses (f .kind) → t ≡ raisedAll u d (childIn (us .a) (f .a)) → r ≡ raisedAll t d (childIn (us .b) (f .b)) → s ≡ raisedAll r d (childIn (us .c) (f .c)) → s ≡ raisedAll u d (children f)
-frame-raised u t r s d us f = by-fields (λ x cs. raisedAll x d cs) (λ xs ys x. all-append xs ys x d) u t r s us f
+      pub three-raised : (m : Class) (c : ℕ) (s : List ℕ) → x ≡ Three k a l b m c → t ≡ raised u d a → r ≡ raised t d b → s ≡ raised r d c → s ≡ raisedAll u d (children f)
+      three-raised m c s e p q w = w ∙ ap (λ (y : List ℕ). raised y d c) (q ∙ ap (λ (y : List ℕ). raised y d b) p) ∙ end ∙ ap (raisedAll u d) (children-are f x (Three k a l b m c) h e)
+        where
+          end : raised (raised (raised u d a) d b) d c ≡ raisedAll u d (listOf (Three k a l b m c))
+          end = unfold raisedAll in refl
 
 -- ---- the depth that a frame gives to its children
 module _ (f : Frame) (d : ℕ) where

@@ -1,19 +1,17 @@
 // Refusal 7: the depth of frames, from the last frame to the first, since parents stand behind their children.
 use fields::found::Found;
 use language::frame::Frame;
-use language::kind::Use;
 use language::kind::is_module;
-use language::kind::uses_of;
 use language::limit::MOST_DEPTH;
 use language::limit::MOST_LINES;
-use program::frames::ChildRead;
-use program::frames::child_in;
+use program::frames::Children;
+use program::frames::children_of;
 use program::frames::frame_at;
 ghost use mathlib.Core.Path.{_≡_};
 ghost use mathlib.Core.Option.{none};
 ghost use Prim.Native.Nat.{_<_, _≤_};
 ghost use lib.ListN.{length};
-ghost use Rattle.language.specs.Kinds.{childIn, children};
+ghost use Rattle.language.specs.Kinds.{children};
 ghost use Rattle.language.specs.Limits.{mostLines};
 ghost use Rattle.text.specs.Frames.{framesOf};
 ghost use Rattle.fields.specs.inner.Scans.{found};
@@ -34,31 +32,29 @@ fn raise(u: &mut [u8; MOST_LINES], d: u8, v: u16)
     u[j] = d;
 }
 
-fn raise_field(u: &mut [u8; MOST_LINES], d: u8, k: Use, v: u16)
-    ensures { λ r. ⌜ now (u .exit) ≡ raisedAll (now (u .entry)) d (childIn k v) ⌝ }
-{
-    match child_in(k, v) {
-        ChildRead::NoChild => {
-            return;
-        }
-        ChildRead::ChildAt(class, n) => {
-            raise(u, d, n);
-            return;
-        }
-    }
-}
-
 fn raise_frame(u: &mut [u8; MOST_LINES], d: u8, f: Frame)
     ensures { λ r. ⌜ now (u .exit) ≡ raisedAll (now (u .entry)) d (children f) ⌝ }
 {
-    let kind = f.kind;
-    let uses = uses_of(kind);
-    let ua = uses.a;
-    let ub = uses.b;
-    let uc = uses.c;
-    raise_field(u, d, ua, f.a);
-    raise_field(u, d, ub, f.b);
-    raise_field(u, d, uc, f.c);
+    match children_of(f) {
+        Children::Nothing => {
+            return;
+        }
+        Children::One(k, a) => {
+            raise(u, d, a);
+            return;
+        }
+        Children::Two(k, a, l, b) => {
+            raise(u, d, a);
+            raise(u, d, b);
+            return;
+        }
+        Children::Three(k, a, l, b, m, c) => {
+            raise(u, d, a);
+            raise(u, d, b);
+            raise(u, d, c);
+            return;
+        }
+    }
 }
 
 // Stands for every depth that is too deep.

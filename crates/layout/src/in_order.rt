@@ -4,15 +4,13 @@ use fields::found::lower;
 use language::frame::Frame;
 use language::kind::Class;
 use language::kind::Kind;
-use language::kind::Use;
 use language::kind::class_of;
 use language::kind::is_header;
 use language::kind::is_module;
 use language::kind::is_shared;
-use language::kind::uses_of;
 use language::limit::MOST_LINES;
-use program::frames::ChildRead;
-use program::frames::child_in;
+use program::frames::Children;
+use program::frames::children_of;
 use program::frames::frame_at;
 use program::frames::same_class;
 ghost use mathlib.Core.Path.{_≡_};
@@ -22,7 +20,7 @@ ghost use Prim.Native.Nat.{ℕ, _<_, _≤_};
 ghost use lib.Dec.{eqb};
 ghost use lib.ListN.{length};
 ghost use Rattle.basics.specs.Searches.{lowest};
-ghost use Rattle.language.specs.Kinds.{isHeader, isShared, child, childIn, children};
+ghost use Rattle.language.specs.Kinds.{isHeader, isShared, child, children};
 ghost use Rattle.language.specs.declared.frame.Frame.{Frame};
 ghost use Rattle.language.specs.Limits.{mostLines};
 ghost use Rattle.text.specs.Frames.{framesOf};
@@ -58,21 +56,23 @@ fn child_first(
     Found::At(first[j])
 }
 
-// The same for the child that a field names, if it names one.
-fn field_first(
+// The same for the two children a and b, side by side, of the classes k and l.
+fn pair_first(
     words: &[u64],
     first: &[u16; MOST_LINES],
     i: usize,
-    u: Use,
-    v: u16,
+    k: Class,
+    a: u16,
+    l: Class,
+    b: u16,
     stop: u16,
 ) -> Found
-    requires { ⌜ (i ≤ length (now words)) × (length (now words) ≤ mostLines) × (stop ≤ i) ⌝ }
-    ensures { λ r. ⌜ r ≡ found (rowFirst (told (framesOf (now (words .entry))) (now (first .entry)) i) i stop (childIn u v)) ⌝ }
+    requires { ⌜ (i ≤ length (now words)) × (length (now words) ≤ mostLines) × (stop ≤ i) × Backward (now first) i ⌝ }
+    ensures { λ r. ⌜ r ≡ found (rowFirst (told (framesOf (now (words .entry))) (now (first .entry)) i) i stop (child l b ∷ child k a ∷ [])) ⌝ }
 {
-    match child_in(u, v) {
-        ChildRead::NoChild => Found::At(stop),
-        ChildRead::ChildAt(class, n) => child_first(words, first, i, class, n, stop),
+    match child_first(words, first, i, l, b, stop) {
+        Found::Nowhere => Found::Nowhere,
+        Found::At(t) => child_first(words, first, i, k, a, t),
     }
 }
 
@@ -81,16 +81,14 @@ fn row_first(words: &[u64], first: &[u16; MOST_LINES], i: usize, f: Frame) -> Fo
     requires { ⌜ (i ≤ length (now words)) × (length (now words) ≤ mostLines) × Backward (now first) i ⌝ }
     ensures { λ r. ⌜ r ≡ found (rowFirst (told (framesOf (now (words .entry))) (now (first .entry)) i) i i (reverse (children f))) ⌝ }
 {
-    let kind = f.kind;
-    let uses = uses_of(kind);
-    let ua = uses.a;
-    let ub = uses.b;
-    let uc = uses.c;
-    match field_first(words, first, i, uc, f.c, i as u16) {
-        Found::Nowhere => Found::Nowhere,
-        Found::At(t) => match field_first(words, first, i, ub, f.b, t) {
+    let stop = i as u16;
+    match children_of(f) {
+        Children::Nothing => Found::At(stop),
+        Children::One(k, a) => child_first(words, first, i, k, a, stop),
+        Children::Two(k, a, l, b) => pair_first(words, first, i, k, a, l, b, stop),
+        Children::Three(k, a, l, b, m, c) => match child_first(words, first, i, m, c, stop) {
             Found::Nowhere => Found::Nowhere,
-            Found::At(s) => field_first(words, first, i, ua, f.a, s),
+            Found::At(t) => pair_first(words, first, i, k, a, l, b, t),
         },
     }
 }
@@ -176,31 +174,29 @@ fn mark(used: &mut [u8; MOST_LINES], v: u16)
     used[j] = 1;
 }
 
-fn mark_field(used: &mut [u8; MOST_LINES], u: Use, v: u16)
-    ensures { λ r. ⌜ now (used .exit) ≡ marks (now (used .entry)) (childIn u v) ⌝ }
-{
-    match child_in(u, v) {
-        ChildRead::NoChild => {
-            return;
-        }
-        ChildRead::ChildAt(class, n) => {
-            mark(used, n);
-            return;
-        }
-    }
-}
-
 fn mark_frame(used: &mut [u8; MOST_LINES], f: Frame)
     ensures { λ r. ⌜ now (used .exit) ≡ marks (now (used .entry)) (children f) ⌝ }
 {
-    let kind = f.kind;
-    let uses = uses_of(kind);
-    let ua = uses.a;
-    let ub = uses.b;
-    let uc = uses.c;
-    mark_field(used, ua, f.a);
-    mark_field(used, ub, f.b);
-    mark_field(used, uc, f.c);
+    match children_of(f) {
+        Children::Nothing => {
+            return;
+        }
+        Children::One(k, a) => {
+            mark(used, a);
+            return;
+        }
+        Children::Two(k, a, l, b) => {
+            mark(used, a);
+            mark(used, b);
+            return;
+        }
+        Children::Three(k, a, l, b, m, c) => {
+            mark(used, a);
+            mark(used, b);
+            mark(used, c);
+            return;
+        }
+    }
 }
 
 fn mark_all(words: &[u64], used: &mut [u8; MOST_LINES])

@@ -1,14 +1,14 @@
 -- The ready test and the end of an instant on the words are those of the state. Assumes nothing.
 use Prim.Native.Nat.{ℕ, zero, suc, _+_, _*_, _-_, _/_, _%_, _<_, _≤_}
-use mathlib.Core.Path.{_≡_, refl, sym, ap, ap₂, _∙_}
+use mathlib.Core.Path.{_≡_, refl, sym, ap, ap₂, _∙_, subst}
 use mathlib.Core.List.{List, [], _∷_, map}
 use mathlib.Core.Bool.{Bool, true, false, not, _||_}
 use native.Mathlib.Omega.{arith}
 use native.Mathlib.Nat.{add-zero}
-use lib.ListN.{getD, length, length-map}
-use lib.Seq.{ext-getD, set-getD}
-use lib.Dec.{eqb}
-use borrow.Author.Tests.{lt-ltb, le-ltb}
+use lib.ListN.{getD, length, set, length-set, length-map, List·getD-eq-default}
+use lib.Seq.{ext-getD, set-getD, getD-set-same, getD-set-other}
+use lib.Dec.{eqb, ltb}
+use borrow.Author.Tests.{lt-ltb, le-ltb, ltb-true, ltb-false}
 use Rattle.basics.specs.Members.{All, none, more}
 use Rattle.basics.proofs.Ifs.{if-yes, if-no, and-true}
 use Rattle.machine.specs.State.{State, Thread, Scheduler, Entry, plain, waiting, noThread, noScheduler, withScheduler, schedulerAt}
@@ -22,9 +22,10 @@ use Rattle.machine.proofs.Padded.{padded-length, padded-at}
 use Rattle.machine.proofs.Round.{thread-1, thread-2, ended-bit}
 use Rattle.machine.proofs.Ranges.{below-each, all-below}
 use Rattle.machine.specs.Shapes.{EntryFits, plain-fits, waiting-fits}
-use Rattle.lists.specs.inner.Lists.{isQuiet, isReadyWord, readyWords, waitingWords, sortedOf, withInstantEnded}
+use Rattle.lists.specs.inner.Lists.{isQuiet, isReadyWord, readyWords, waitingWords, sortedIn, withInstantEnded}
 use Rattle.machine.proofs.AllBelow.{same-test}
-use Rattle.lists.proofs.SchedulerSays.{by-lists, scheduler-put, next-word, room-says}
+use Rattle.lists.proofs.SortLaws.{all-sorted}
+use Rattle.lists.proofs.SchedulerSays.{by-lists, scheduler-put, active-word, next-word, room-says}
 
 -- ---- the ready test
 -- thread t, which is x, has ended, or is neither thread u nor started by it: `isQuiet` on the state
@@ -96,11 +97,6 @@ module _ (w : List ℕ) (s : State) (h : Says w s) (few : length (s .threads) �
       kept false = refl
 
 -- ---- the end of an instant
--- a list's words: its length, then its members in their space
-list-in : (rs : List ℕ) (j : ℕ) → j < 65 → getD (length rs ∷ padded 64 rs) j 0 ≡ listWord rs j
-list-in rs zero g = refl
-list-in rs (suc j) g = padded-at 64 rs j (omega arith)
-
 module _ (w : List ℕ) (s : State) (h : Says w s) (few : length (s .threads) ≤ 64) (q : ℕ) (a : q - 2 < 8) (b : q - 2 < length (s .schedulers))
     (room : length (schedulerAt s q .next) ≤ 64) (fit : All EntryFits (schedulerAt s q .next)) where
   -- where the scheduler's words begin and where its next list does; the entries there, and the words of the ready ones and of those that wait
@@ -146,51 +142,116 @@ module _ (w : List ℕ) (s : State) (h : Says w s) (few : length (s .threads) �
   abbrev after : Scheduler
   after = record { active = readyThreads (s .threads) (schedulerAt s q .next); next = stillWaiting (s .threads) (schedulerAt s q .next) }
 
-  -- `end_instant`
-  pub instant-says : Says (withInstantEnded w (q - 2)) (withScheduler q (record { active = readyThreads (s .threads) (schedulerAt s q .next); next = stillWaiting (s .threads) (schedulerAt s q .next) }) s)
-  unfolding withInstantEnded sortedOf
-  instant-says = scheduler-put w s h q a b v after long (by-lists after (λ j. getD v (blockAt + j) 0) active next)
-      (λ i f. pasted-out u nextAt nexts 65 hd' hs' i (λ p r. f (omega arith) (omega arith)) ∙ pasted-out w blockAt actives 65 hd hs i (λ p r. f (omega arith) (omega arith)))
-    where
-      actives : List ℕ
-      actives = length rs ∷ padded 64 rs
+  -- what the words have behind the lists: the active list was empty
+  module _ (idle : schedulerAt s q .active ≡ []) where
+    -- the entries sorted, and both counts set
+    abbrev m : ℕ
+    m = getD w nextAt 0
 
-      nexts : List ℕ
-      nexts = length ws ∷ padded 64 ws
+    abbrev d : List ℕ
+    d = pasted w (blockAt + 1) rs (length rs)
 
-      u : List ℕ
-      u = pasted w blockAt actives 65
+    abbrev u : List ℕ
+    u = pasted d (nextAt + 1) (padded m ws) m
 
-      v : List ℕ
-      v = pasted u nextAt nexts 65
+    abbrev v : List ℕ
+    v = set (set u blockAt (length rs)) nextAt (length ws)
 
-      hd : blockAt + 65 ≤ length w
-      hd = rw (h .all) (omega arith)
+    size : length rs + length ws ≡ m
+    size = all-sorted w (wordsAt w nextAt) ∙ tab-length m (λ i. getD w i 0) (suc nextAt)
 
-      hs : 65 ≤ length actives
-      hs = let p : length (padded 64 rs) ≡ 64 = padded-length 64 rs in omega arith
+    count : m ≡ length es
+    count = room-says w s h q a b
 
-      ul : length u ≡ 4818
-      ul = pasted-length w blockAt actives 65 hd hs ∙ h .all
+    small : m ≤ 64
+    small = let r : length es ≤ 64 = room in let c = count in omega arith
 
-      hd' : nextAt + 65 ≤ length u
-      hd' = rw ul (omega arith)
+    hd : blockAt + 1 + length rs ≤ length w
+    hd = rw (h .all) (let x = size in let y = small in omega arith)
 
-      hs' : 65 ≤ length nexts
-      hs' = let p : length (padded 64 ws) ≡ 64 = padded-length 64 ws in omega arith
+    dl : length d ≡ 4818
+    dl = pasted-length w (blockAt + 1) rs (length rs) hd (omega arith) ∙ h .all
 
-      long : length v ≡ 4818
-      long = pasted-length u nextAt nexts 65 hd' hs' ∙ ul
+    hu : nextAt + 1 + m ≤ length d
+    hu = rw dl (let y = small in omega arith)
 
-      active : (j : ℕ) → j < 65 → getD v (blockAt + j) 0 ≡ listWord (readyThreads (s .threads) (schedulerAt s q .next)) j
-      active j g =
-          pasted-out u nextAt nexts 65 hd' hs' (blockAt + j) (λ p r. omega arith) ∙ pasted-in w blockAt actives 65 hd hs j g
-          ∙ list-in rs j g ∙ ap (λ (l : List ℕ). listWord l j) readies
+    hs : m ≤ length (padded m ws)
+    hs = rw (padded-length m ws) (omega arith)
 
-      next : (j : ℕ) → j < 65 → getD v (blockAt + (65 + j)) 0 ≡ listWord (map entryWord (stillWaiting (s .threads) (schedulerAt s q .next))) j
-      next j g =
-          let z : blockAt + (65 + j) ≡ nextAt + j = omega arith in
-          ap (λ (i : ℕ). getD v i 0) z ∙ pasted-in u nextAt nexts 65 hd' hs' j g ∙ list-in ws j g ∙ ap (λ (l : List ℕ). listWord l j) waits
+    ul : length u ≡ 4818
+    ul = pasted-length d (nextAt + 1) (padded m ws) m hu hs ∙ dl
+
+    long : length v ≡ 4818
+    long = length-set (set u blockAt (length rs)) nextAt (length ws) ∙ length-set u blockAt (length rs) ∙ ul
+
+    -- a word that is no count is as it was sorted; one that is of no list is as it was
+    plain-word : (i : ℕ) → (i ≡ blockAt → ⊥) → (i ≡ nextAt → ⊥) → getD v i 0 ≡ getD u i 0
+    plain-word i f g = getD-set-other (set u blockAt (length rs)) nextAt i (length ws) 0 g ∙ getD-set-other u blockAt i (length rs) 0 f
+
+    kept : (i : ℕ) → (nextAt + 1 ≤ i → i < nextAt + 1 + m → ⊥) → (blockAt + 1 ≤ i → i < blockAt + 1 + length rs → ⊥) → getD u i 0 ≡ getD w i 0
+    kept i f g = pasted-out d (nextAt + 1) (padded m ws) m hu hs i f ∙ pasted-out w (blockAt + 1) rs (length rs) hd (omega arith) i g
+
+    active-here : (i : ℕ) → i < 64 → (c : Bool) → ltb i (length rs) ≡ c → getD u (blockAt + 1 + i) 0 ≡ getD rs i 0
+    active-here i g true c =
+        let l : i < length rs = ltb-true i (length rs) c in
+        pasted-out d (nextAt + 1) (padded m ws) m hu hs (blockAt + 1 + i) (λ p r. omega arith)
+        ∙ pasted-in w (blockAt + 1) rs (length rs) hd (omega arith) i l
+    active-here i g false c =
+        let l : length rs ≤ i = ltb-false i (length rs) c in
+        let z : blockAt + 1 + i ≡ blockAt + suc i = omega arith in
+        kept (blockAt + 1 + i) (λ p r. omega arith) (λ p r. omega arith) ∙ ap (λ (k : ℕ). getD w k 0) z
+        ∙ active-word w s h q a b (suc i) (omega arith) ∙ ap (λ (ts : List ℕ). getD ts i 0) idle
+        ∙ sym (List·getD-eq-default rs 0 {n = i} l)
+
+    next-here : (i : ℕ) → i < 64 → (c : Bool) → ltb i m ≡ c → getD u (nextAt + 1 + i) 0 ≡ getD ws i 0
+    next-here i g true c =
+        let l : i < m = ltb-true i m c in
+        pasted-in d (nextAt + 1) (padded m ws) m hu hs i l ∙ padded-at m ws i l
+    next-here i g false c =
+        let l : m ≤ i = ltb-false i m c in
+        let x = size in
+        let z : nextAt + 1 + i ≡ blockAt + (65 + suc i) = omega arith in
+        let n : length (map entryWord es) ≤ i = rw (length-map es entryWord) (let y = count in omega arith) in
+        kept (nextAt + 1 + i) (λ p r. omega arith) (λ p r. let y = small in omega arith) ∙ ap (λ (k : ℕ). getD w k 0) z
+        ∙ next-word w s h q a b (suc i) (omega arith) ∙ List·getD-eq-default (map entryWord es) 0 {n = i} n
+        ∙ sym (List·getD-eq-default ws 0 {n = i} (omega arith))
+
+    active-words : (j : ℕ) → j < 65 → getD v (blockAt + j) 0 ≡ listWord rs j
+    active-words zero g =
+        let z : blockAt + 0 ≡ blockAt = omega arith in
+        ap (λ (k : ℕ). getD v k 0) z
+        ∙ getD-set-other (set u blockAt (length rs)) nextAt blockAt (length ws) 0 (λ p. omega arith)
+        ∙ getD-set-same u blockAt (length rs) 0 (rw ul (omega arith))
+    active-words (suc i) g =
+        let z : blockAt + suc i ≡ blockAt + 1 + i = omega arith in
+        plain-word (blockAt + suc i) (λ p. omega arith) (λ p. omega arith) ∙ ap (λ (k : ℕ). getD u k 0) z
+        ∙ active-here i (omega arith) (ltb i (length rs)) refl
+
+    next-words : (j : ℕ) → j < 65 → getD v (blockAt + (65 + j)) 0 ≡ listWord ws j
+    next-words zero g =
+        let z : blockAt + (65 + 0) ≡ nextAt = omega arith in
+        ap (λ (k : ℕ). getD v k 0) z
+        ∙ getD-set-same (set u blockAt (length rs)) nextAt (length ws) 0 (rw (length-set u blockAt (length rs) ∙ ul) (omega arith))
+    next-words (suc i) g =
+        let z : blockAt + (65 + suc i) ≡ nextAt + 1 + i = omega arith in
+        plain-word (blockAt + (65 + suc i)) (λ p. omega arith) (λ p. omega arith) ∙ ap (λ (k : ℕ). getD u k 0) z
+        ∙ next-here i (omega arith) (ltb i m) refl
+
+    -- `end_instant`
+    pub instant-says : Says (withInstantEnded w (q - 2)) (withScheduler q (record { active = readyThreads (s .threads) (schedulerAt s q .next); next = stillWaiting (s .threads) (schedulerAt s q .next) }) s)
+    unfolding withInstantEnded sortedIn
+    instant-says = subst (λ (l : List ℕ). Says l (withScheduler q after s)) same-place
+        (scheduler-put w s h q a b v after long
+        (by-lists after (λ j. getD v (blockAt + j) 0)
+        (λ j g. active-words j g ∙ ap (λ (l : List ℕ). listWord l j) readies) (λ j g. next-words j g ∙ ap (λ (l : List ℕ). listWord l j) waits))
+        (λ i f. plain-word i (λ p. f (omega arith) (omega arith)) (λ p. f (omega arith) (omega arith))
+        ∙ kept i (λ p r. f (omega arith) (let y = small in omega arith)) (λ p r. f (omega arith) (let x = size in let y = small in omega arith))))
+      where
+        -- where the next list begins, from the active list on
+        same-place : set (set (pasted d (nextAt + 1) (padded m ws) m) blockAt (length rs)) nextAt (length ws) ≡ withInstantEnded w (q - 2)
+        same-place = let z : nextAt ≡ blockAt + 65 = omega arith in
+            ap (λ (i : ℕ). set (set (pasted (pasted w (blockAt + 1) (readyWords w (wordsAt w i)) (length (readyWords w (wordsAt w i))))
+            (i + 1) (padded (getD w i 0) (waitingWords w (wordsAt w i))) (getD w i 0)) blockAt (length rs)) nextAt (length ws)) z
 
 -- where none is ready all stay, so that the state is the same, and with it the words: 'nothing' (16) changes no buffer
 pub none-ready : (ts : List Thread) (es : List Entry) → readyThreads ts es ≡ [] → stillWaiting ts es ≡ es
@@ -208,7 +269,7 @@ none-ready ts (x ∷ xs) e = by (isReady ts x) refl (none-ready ts xs)
 pub instant-none : (w : List ℕ) (s : State) → Says w s → length (s .threads) ≤ 64 → (q : ℕ) → q - 2 < 8 → q - 2 < length (s .schedulers)
     → length (schedulerAt s q .next) ≤ 64 → All EntryFits (schedulerAt s q .next) → schedulerAt s q .active ≡ [] → readyThreads (s .threads) (schedulerAt s q .next) ≡ []
     → withInstantEnded w (q - 2) ≡ w
-instant-none w s h few q a b room fit idle none-is = is-pack _ _ (instant-says w s h few q a b room fit) ∙ ap pack same ∙ sym (is-pack w s h)
+instant-none w s h few q a b room fit idle none-is = is-pack _ _ (instant-says w s h few q a b room fit idle) ∙ ap pack same ∙ sym (is-pack w s h)
   where
     x : Scheduler
     x = getD (s .schedulers) (q - 2) noScheduler

@@ -1,4 +1,4 @@
--- A scheduler's lists in the words: an entry put in, the first that leaves, a list stored; one law for each turn of a loop and each return of the code. Assumes nothing.
+-- A scheduler's lists in the words: an entry put in, the first that leaves; one law for each turn of a loop and each return of the code. Assumes nothing.
 use Prim.Native.Nat.{ℕ, suc, _+_, _*_, _-_, _<_, _≤_}
 use mathlib.Core.Path.{_≡_, refl, sym, ap, _∙_}
 use mathlib.Core.List.{List, [], _∷_}
@@ -14,9 +14,9 @@ use Rattle.basics.proofs.Ifs.{yes, no}
 use Rattle.language.specs.Places.{isScheduler}
 use Rattle.language.proofs.PlaceLaws.{test-bounds}
 use Rattle.machine.specs.inner.Blocks.{part, pasted}
-use Rattle.machine.proofs.WordLaws.{pasted-more, pasted-length, pasted-out, part-at, part-length}
+use Rattle.machine.proofs.WordLaws.{pasted-more, pasted-out, part-at, part-length}
 use Rattle.lists.specs.inner.Lists.{shifted, withoutFirst, insertedIn, withLast}
-use Rattle.machine.proofs.PastedLaws.{first-word, next-run}
+use Rattle.machine.proofs.PastedLaws.{first-word}
 
 -- ---- an entry put into a list: j words are written, and e is the next
 module _ (w v : List ℕ) (first more entry j e : ℕ) (written : v ≡ pasted w first (entry ∷ part w first more) j) (next : e ≡ getD (entry ∷ part w first more) j 0) (room : first + more < length w) where
@@ -87,74 +87,86 @@ module _ (w : List ℕ) (at k e : ℕ) (z : at ≡ 67 + 130 * k) where
 pub ruleset last-laws = (last-full, last-more)
 
 -- ---- the first leaves
-module _ (ws : List ℕ) (h : length ws ≡ 64) where
-  tail-length : length (drop 1 ws) ≡ 63
-  tail-length = length-drop 1 ws ∙ ap (λ (n : ℕ). n - 1) h
+module _ (ws : List ℕ) (n : ℕ) (some : 1 ≤ n) (h : length ws ≡ n) where
+  tail-length : length (drop 1 ws) ≡ n - 1
+  tail-length = length-drop 1 ws ∙ ap (λ (m : ℕ). m - 1) h
 
-  pub shifted-length : length (shifted ws) ≡ 64
+  pub shifted-length : length (shifted ws) ≡ n
   unfolding shifted
-  shifted-length = length-append (drop 1 ws) (0 ∷ []) ∙ ap (λ (n : ℕ). n + 1) tail-length
+  shifted-length =
+      let z : n - 1 + 1 ≡ n = omega arith in
+      length-append (drop 1 ws) (0 ∷ []) ∙ ap (λ (m : ℕ). m + 1) tail-length ∙ z
 
-  pub shifted-at : (j : ℕ) → j < 63 → getD (shifted ws) j 0 ≡ getD ws (1 + j) 0
+  pub shifted-at : (j : ℕ) → j < n - 1 → getD (shifted ws) j 0 ≡ getD ws (1 + j) 0
   unfolding shifted
-  shifted-at j g = List·getD-append (drop 1 ws) (0 ∷ []) 0 j (rw tail-length g) ∙ getD-drop 1 ws j 0
+  shifted-at j g =
+      List·getD-append (drop 1 ws) (0 ∷ []) 0 j (rw tail-length g) ∙ getD-drop 1 ws j 0
 
-  pub shifted-last : getD (shifted ws) 63 0 ≡ 0
+  pub shifted-last : getD (shifted ws) (n - 1) 0 ≡ 0
   unfolding shifted
-  shifted-last = getD-at (drop 1 ws) 0 [] 0 63 tail-length
+  shifted-last = getD-at (drop 1 ws) 0 [] 0 (n - 1) tail-length
 
-module _ (w v : List ℕ) (at j : ℕ) (e : v ≡ pasted w at (shifted (part w at 64)) j) (h : at + 64 ≤ length w) where
-  block : length (part w at 64) ≡ 64
-  block = part-length w at 64 h
+module _ (w v : List ℕ) (at n j : ℕ) (e : v ≡ pasted w at (shifted (part w at n)) j)
+    (some : 1 ≤ n) (h : at + n ≤ length w) where
+  abbrev B : List ℕ
+  B = shifted (part w at n)
 
-  long : length (shifted (part w at 64)) ≡ 64
-  long = shifted-length (part w at 64) block
+  block : length (part w at n) ≡ n
+  block = part-length w at n h
 
-  pub shift-more : j < 63 → set v (at + j) (getD v (at + j + 1) 0) ≡ pasted w at (shifted (part w at 64)) (j + 1)
-  shift-more g = pasted-more w (shifted (part w at 64)) v at j (getD v (at + j + 1) 0) e read (omega arith) (let l = long in omega arith)
+  long : length (shifted (part w at n)) ≡ n
+  long = shifted-length (part w at n) n some block
+
+  pub shift-more : j < n - 1
+      → set v (at + j) (getD v (at + j + 1) 0) ≡ pasted w at (shifted (part w at n)) (j + 1)
+  shift-more g =
+      pasted-more w B v at j (getD v (at + j + 1) 0) e read (omega arith)
+      (let l = long in omega arith)
     where
       z : at + j + 1 ≡ at + (1 + j)
       z = omega arith
 
-      read : getD v (at + j + 1) 0 ≡ getD (shifted (part w at 64)) j 0
+      read : getD v (at + j + 1) 0 ≡ getD (shifted (part w at n)) j 0
       read =
           ap (λ (l : List ℕ). getD l (at + j + 1) 0) e
-          ∙ pasted-out w at (shifted (part w at 64)) j (omega arith) (let l = long in omega arith) (at + j + 1) (λ p q. omega arith)
-          ∙ ap (λ (i : ℕ). getD w i 0) z ∙ sym (part-at w at 64 (1 + j) (omega arith)) ∙ sym (shifted-at (part w at 64) block j g)
+          ∙ pasted-out w at B j (omega arith) (let l = long in omega arith) (at + j + 1)
+          (λ p q. omega arith)
+          ∙ ap (λ (i : ℕ). getD w i 0) z ∙ sym (part-at w at n (1 + j) (omega arith))
+          ∙ sym (shifted-at (part w at n) n some block j g)
 
-  pub shift-end : j ≤ 63 → 63 ≤ j → set v (at + 63) 0 ≡ pasted w at (shifted (part w at 64)) 64
+  pub shift-end : j ≤ n - 1 → n - 1 ≤ j
+      → set v (at + (n - 1)) 0 ≡ pasted w at (shifted (part w at n)) n
   shift-end a b =
-      let z : j ≡ 63 = omega arith in
-      pasted-more w (shifted (part w at 64)) v at 63 0 (e ∙ ap (pasted w at (shifted (part w at 64))) z) (sym (shifted-last (part w at 64) block)) (omega arith) (let l = long in omega arith)
+      let z : j ≡ n - 1 = omega arith in
+      let y : n - 1 + 1 ≡ n = omega arith in
+      pasted-more w B v at (n - 1) 0 (e ∙ ap (pasted w at B) z)
+      (sym (shifted-last (part w at n) n some block)) (omega arith) (let l = long in omega arith)
+      ∙ ap (pasted w at B) y
 
 -- `drop_first`
 module _ (w : List ℕ) (at k : ℕ) (z : at ≡ 2 + 130 * k) where
   abbrev rest-at : ℕ → List ℕ
   rest-at i =
       if eqb (getD w i 0) 0 then w else
-      set (pasted w (i + 1) (shifted (part w (i + 1) 64)) 64) i (getD w i 0 - 1)
+      if ltb 64 (getD w i 0) then w else
+      set (pasted w (i + 1) (shifted (part w (i + 1) (getD w i 0))) (getD w i 0)) i (getD w i 0 - 1)
 
   pub first-none : getD w at 0 ≡ 0 → w ≡ withoutFirst w k
   unfolding withoutFirst
   first-none h = yes _ (eq-eqb (getD w at 0) 0 h) refl ∙ ap rest-at z
 
-  pub first-gone : (v : List ℕ) → (getD w at 0 ≡ 0 → ⊥)
-      → v ≡ pasted w (at + 1) (shifted (part w (at + 1) 64)) 64
+  pub first-over : (getD w at 0 ≡ 0 → ⊥) → 64 < getD w at 0 → w ≡ withoutFirst w k
+  unfolding withoutFirst
+  first-over h g =
+      no _ (ne-eqb (getD w at 0) 0 h) (yes _ (lt-ltb 64 (getD w at 0) g) refl) ∙ ap rest-at z
+
+  pub first-gone : (v : List ℕ) → (getD w at 0 ≡ 0 → ⊥) → getD w at 0 ≤ 64
+      → v ≡ pasted w (at + 1) (shifted (part w (at + 1) (getD w at 0))) (getD w at 0)
       → set v at (getD w at 0 - 1) ≡ withoutFirst w k
   unfolding withoutFirst
-  first-gone v h e =
-      no _ (ne-eqb (getD w at 0) 0 h) (ap (λ (l : List ℕ). set l at (getD w at 0 - 1)) e)
+  first-gone v h g e =
+      no _ (ne-eqb (getD w at 0) 0 h) (no _ (le-ltb 64 (getD w at 0) g)
+      (ap (λ (l : List ℕ). set l at (getD w at 0 - 1)) e))
       ∙ ap rest-at z
 
-pub ruleset first-laws = (first-none, first-gone)
-
--- ---- a list stored
-pub list-stored : (w v : List ℕ) (at n : ℕ) (ms : List ℕ) → v ≡ pasted (set w at n) (at + 1) ms 64 → length ms ≡ 64 → at + 65 ≤ length w → v ≡ pasted w at (n ∷ ms) 65
-list-stored w v at n ms e l h =
-    e ∙ next-run w at (n ∷ ms) (set w at n) ms 1 64 (first-word w at (n ∷ ms) n refl (omega arith) (omega arith)) (λ i g. ap (λ (k : ℕ). getD (n ∷ ms) k 0) (next i)) (omega arith) (omega arith) (omega arith)
-  where
-    next : (i : ℕ) → suc i ≡ 1 + i
-    next i = omega arith
-
-pub list-stored-length : (w v : List ℕ) (at n : ℕ) (ms : List ℕ) → v ≡ pasted (set w at n) (at + 1) ms 64 → length ms ≡ 64 → at + 65 ≤ length w → length v ≡ length w
-list-stored-length w v at n ms e l h = ap length (list-stored w v at n ms e l h) ∙ pasted-length w at (n ∷ ms) 65 h (omega arith)
+pub ruleset first-laws = (first-none, first-over, first-gone)

@@ -7,7 +7,7 @@ use native.Mathlib.Omega.{arith}
 use lib.ListN.{getD, length, set, length-set, length-append, length-map, List·getD-append, List·getD-eq-default}
 use lib.Seq.{getD-at, getD-set-same, getD-set-other}
 use lib.Dec.{ltb, eqb}
-use borrow.Author.Tests.{ltb-true, ltb-false, lt-ltb, eq-eqb, ne-eqb, eqb-true, eqb-false}
+use borrow.Author.Tests.{ltb-true, ltb-false, lt-ltb, le-ltb, eq-eqb, ne-eqb, eqb-true, eqb-false}
 use Rattle.basics.proofs.Ifs.{if-yes, if-no}
 use Rattle.machine.specs.State.{State, Scheduler, Entry, noScheduler, withScheduler, schedulerAt, enlist}
 use Rattle.machine.specs.Turns.{behindFirst}
@@ -47,7 +47,7 @@ module _ (w : List ℕ) (s : State) (h : Says w s) (q : ℕ) (a : q - 2 < 8) (b 
       same = same-pasted w v blockAt (schedulerWords y) 130 (rw (h .all) (omega arith)) (rw scheduler-length (omega arith)) (l ∙ sym (h .all)) (λ j r. f j r ∙ sym (scheduler-at y j r)) g
 
   -- ---- what is read
-  active-word : (j : ℕ) → j < 65 → getD w (blockAt + j) 0 ≡ listWord (here .active) j
+  pub active-word : (j : ℕ) → j < 65 → getD w (blockAt + j) 0 ≡ listWord (here .active) j
   active-word j g = h .scheduler (q - 2) j a (omega arith) ∙ scheduler-active here j g
 
   pub next-word : (j : ℕ) → j < 65 → getD w (blockAt + (65 + j)) 0 ≡ listWord (map entryWord (here .next)) j
@@ -78,70 +78,92 @@ module _ (w : List ℕ) (s : State) (h : Says w s) (q : ℕ) (a : q - 2 < 8) (b 
           (scheduler-put w (record { active = []; next = schedulerAt s q .next }) (h .all)
           (by-lists (record { active = []; next = schedulerAt s q .next }) (λ j. getD w (blockAt + j) 0) (λ j g. active-word j g ∙ ap (λ (l : List ℕ). listWord l j) e) (λ j g. next-word j g)) (λ i _. refl)))
       by (t ∷ ts) e = subst Goal (sym e) (subst (λ (v : List ℕ). Says v (withScheduler q (record { active = ts; next = schedulerAt s q .next }) s))
-          (sym (if-no _ _ (ne-eqb (getD w blockAt 0) 0 (λ z. some (sym z ∙ first ∙ ap length e)))))
+          (sym (if-no _ _ (ne-eqb m 0 (λ z. absurd (let y = count in omega arith)))
+          ∙ if-no _ _ (le-ltb 64 m (let y = count in let x = short in omega arith))))
           (scheduler-put v (record { active = ts; next = schedulerAt s q .next }) long
           (by-lists (record { active = ts; next = schedulerAt s q .next }) (λ j. getD v (blockAt + j) 0) active-words
-          (λ j g. out (blockAt + (65 + j)) (λ z. omega arith) (λ p r. omega arith) ∙ next-word j g))
-          (λ i f. out i (λ z. f (omega arith) (omega arith)) (λ p r. f (omega arith) (omega arith)))))
+          (λ j g. out (blockAt + (65 + j)) (λ z. omega arith) (λ p r. let y = count in let x = short in omega arith) ∙ next-word j g))
+          (λ i f. out i (λ z. f (omega arith) (omega arith)) (λ p r. f (omega arith) (let y = count in let x = short in omega arith)))))
         where
-          one-less : (n : ℕ) → suc n - 1 ≡ n
-          one-less n = omega arith
+          m : ℕ
+          m = getD w blockAt 0
 
-          some : {n : ℕ} → 0 ≡ suc n → ⊥
-          some z = omega arith
+          count : getD w blockAt 0 ≡ suc (length ts)
+          count = first ∙ ap length e
 
-          hd : blockAt + 1 + 64 ≤ length w
-          hd = rw (h .all) (omega arith)
+          short : length ts ≤ 63
+          short = let z : length (t ∷ ts) ≤ 64 = subst (λ (l : List ℕ). length l ≤ 64) e room in omega arith
 
-          block : length (part w (blockAt + 1) 64) ≡ 64
-          block = part-length w (blockAt + 1) 64 hd
+          some : 1 ≤ getD w blockAt 0
+          some = let y = count in omega arith
+
+          hd : blockAt + 1 + getD w blockAt 0 ≤ length w
+          hd = rw (h .all) (let y = count in let x = short in omega arith)
+
+          block : length (part w (blockAt + 1) (getD w blockAt 0)) ≡ getD w blockAt 0
+          block = part-length w (blockAt + 1) m hd
 
           B : List ℕ
-          B = shifted (part w (blockAt + 1) 64)
+          B = shifted (part w (blockAt + 1) (getD w blockAt 0))
 
-          hs : 64 ≤ length (shifted (part w (blockAt + 1) 64))
-          hs = rw (shifted-length (part w (blockAt + 1) 64) block) (omega arith)
+          hs : getD w blockAt 0 ≤ length (shifted (part w (blockAt + 1) (getD w blockAt 0)))
+          hs = rw (shifted-length (part w (blockAt + 1) m) m some block) (omega arith)
 
           u : List ℕ
-          u = pasted w (blockAt + 1) (shifted (part w (blockAt + 1) 64)) 64
+          u = pasted w (blockAt + 1) (shifted (part w (blockAt + 1) (getD w blockAt 0))) (getD w blockAt 0)
 
           v : List ℕ
           v = set u blockAt (getD w blockAt 0 - 1)
 
           ul : length u ≡ 4818
-          ul = pasted-length w (blockAt + 1) B 64 hd hs ∙ h .all
+          ul = pasted-length w (blockAt + 1) B m hd hs ∙ h .all
 
           long : length v ≡ 4818
           long = length-set u blockAt (getD w blockAt 0 - 1) ∙ ul
 
-          out : (i : ℕ) → (i ≡ blockAt → ⊥) → (blockAt + 1 ≤ i → i < blockAt + 1 + 64 → ⊥) → getD v i 0 ≡ getD w i 0
-          out i n f = getD-set-other u blockAt i (getD w blockAt 0 - 1) 0 n ∙ pasted-out w (blockAt + 1) B 64 hd hs i f
+          out : (i : ℕ) → (i ≡ blockAt → ⊥) → (blockAt + 1 ≤ i → i < blockAt + 1 + getD w blockAt 0 → ⊥) → getD v i 0 ≡ getD w i 0
+          out i n f = getD-set-other u blockAt i (getD w blockAt 0 - 1) 0 n ∙ pasted-out w (blockAt + 1) B m hd hs i f
 
-          short : length ts ≤ 63
-          short = let z : length (t ∷ ts) ≤ 64 = subst (λ (l : List ℕ). length l ≤ 64) e room in omega arith
-
-          inside : (i : ℕ) → i < 64 → getD v (blockAt + suc i) 0 ≡ getD (shifted (part w (blockAt + 1) 64)) i 0
+          inside : (i : ℕ) → i < getD w blockAt 0 → getD v (blockAt + suc i) 0 ≡ getD (shifted (part w (blockAt + 1) (getD w blockAt 0))) i 0
           inside i g =
               let z : blockAt + suc i ≡ blockAt + 1 + i = omega arith in
               getD-set-other u blockAt (blockAt + suc i) (getD w blockAt 0 - 1) 0 (λ z. omega arith)
-              ∙ ap (λ (k : ℕ). getD u k 0) z ∙ pasted-in w (blockAt + 1) B 64 hd hs i g
+              ∙ ap (λ (k : ℕ). getD u k 0) z ∙ pasted-in w (blockAt + 1) B m hd hs i g
 
-          early : (i : ℕ) → i < 64 → (c : Bool) → ltb i 63 ≡ c → getD (shifted (part w (blockAt + 1) 64)) i 0 ≡ getD ts i 0
-          early i g true c =
-              let m : i < 63 = ltb-true i 63 c in
+          -- a member that moved, the last, which is 0 now, and what lies behind
+          word : (i : ℕ) → i < 64 → (c : Bool) → ltb i (length ts) ≡ c → (d : Bool) → eqb i (length ts) ≡ d → getD v (blockAt + suc i) 0 ≡ getD ts i 0
+          word i g true c d _ =
+              let y = count in
+              let l : i < length ts = ltb-true i (length ts) c in
               let z : blockAt + 1 + (1 + i) ≡ blockAt + suc (suc i) = omega arith in
-              shifted-at (part w (blockAt + 1) 64) block i m ∙ part-at w (blockAt + 1) 64 (1 + i) (omega arith) ∙ ap (λ (k : ℕ). getD w k 0) z
-              ∙ active-word (suc (suc i)) (omega arith) ∙ ap (λ (l : List ℕ). getD l (suc i) 0) e
-          early i g false c =
-              let m : 63 ≤ i = ltb-false i 63 c in
-              let z : i ≡ 63 = omega arith in
-              ap (λ (k : ℕ). getD B k 0) z ∙ shifted-last (part w (blockAt + 1) 64) block ∙ sym (List·getD-eq-default ts 0 {n = i} (let y = short in omega arith))
+              inside i (omega arith) ∙ shifted-at (part w (blockAt + 1) m) m some block i (omega arith)
+              ∙ part-at w (blockAt + 1) m (1 + i) (omega arith) ∙ ap (λ (k : ℕ). getD w k 0) z
+              ∙ active-word (suc (suc i)) (let x = short in omega arith) ∙ ap (λ (l : List ℕ). getD l (suc i) 0) e
+          word i g false c true d =
+              let y = count in
+              let l : i ≡ length ts = eqb-true i (length ts) d in
+              let z : i ≡ m - 1 = omega arith in
+              inside i (omega arith) ∙ ap (λ (k : ℕ). getD B k 0) z ∙ shifted-last (part w (blockAt + 1) m) m some block
+              ∙ sym (List·getD-eq-default ts 0 {n = i} (omega arith))
+          word i g false c false d =
+              let y = count in
+              let l : length ts ≤ i = ltb-false i (length ts) c in
+              let n : (i ≡ length ts → ⊥) = eqb-false i (length ts) d in
+              out (blockAt + suc i) (λ z. omega arith) (λ p r. n (omega arith)) ∙ active-word (suc i) (omega arith)
+              ∙ ap (λ (l : List ℕ). getD l i 0) e ∙ List·getD-eq-default (t ∷ ts) 0 {n = i} (past n l)
+              ∙ sym (List·getD-eq-default ts 0 {n = i} l)
+            where
+              past : (i ≡ length ts → ⊥) → length ts ≤ i → suc (length ts) ≤ i
+              past n l = omega arith
+
+          one-less : (n : ℕ) → suc n - 1 ≡ n
+          one-less n = omega arith
 
           active-words : (j : ℕ) → j < 65 → getD v (blockAt + j) 0 ≡ listWord ts j
           active-words zero g =
               let z : blockAt + 0 ≡ blockAt = omega arith in
-              ap (λ (k : ℕ). getD v k 0) z ∙ getD-set-same u blockAt (getD w blockAt 0 - 1) 0 (rw ul (omega arith)) ∙ ap (λ (n : ℕ). n - 1) (first ∙ ap length e) ∙ one-less (length ts)
-          active-words (suc i) g = inside i (omega arith) ∙ early i (omega arith) (ltb i 63) refl
+              ap (λ (k : ℕ). getD v k 0) z ∙ getD-set-same u blockAt (getD w blockAt 0 - 1) 0 (rw ul (omega arith)) ∙ ap (λ (n : ℕ). n - 1) count ∙ one-less (length ts)
+          active-words (suc i) g = word i (omega arith) (ltb i (length ts)) refl (eqb i (length ts)) refl
 
   -- `append`
   pub last-says : (e : Entry) → length (schedulerAt s q .next) < 64 → Says (withLast w (q - 2) (entryWord e)) (enlist q e s)

@@ -8,7 +8,6 @@ use machine::offset::SCHEDULERS_AT;
 use machine::offset::WAITING_FACTOR;
 ghost use mathlib.Core.Path.{_≡_};
 ghost use mathlib.Core.Bool.{true};
-ghost use mathlib.Core.List.{_∷_};
 ghost use Prim.Native.Nat.{_+_, _-_, _*_, _<_, _≤_};
 ghost use lib.Dec.{leb};
 ghost use lib.ListN.{length, getD};
@@ -19,19 +18,7 @@ ghost use Rattle.machine.specs.Offsets.{listLength, nextListAt, threadsAt};
 ghost use Rattle.machine.specs.inner.Blocks.{part, pasted};
 ghost use Rattle.machine.specs.Words.{wordsAt};
 ghost use Rattle.lists.specs.inner.Lists.{shifted, withoutFirst, insertedIn, withLast};
-ghost use Rattle.lists.specs.inner.Lists.{sortedOf, withInstantEnded, readyWords};
-
-// The last index of a list's space.
-const LAST: usize = MOST_THREADS - 1;
-
-// A next list's entries: the threads of the ready ones, and those that wait, each with its count
-// and 0 behind.
-struct Sorted {
-    readies: u64,
-    ready: [u64; MOST_THREADS],
-    waits: u64,
-    waiting: [u64; MOST_THREADS],
-}
+ghost use Rattle.lists.specs.inner.Lists.{sortedIn, withInstantEnded, readyWords};
 
 // Where the scheduler's active list begins: its count, then the space of 64 threads.
 fn active_list(q: Place) -> usize
@@ -75,21 +62,23 @@ pub fn has_room(state: &[u64], q: Place, more: u8) -> bool
     n + more as u64 <= MOST_THREADS as u64
 }
 
-// Each of the 64 words at that place moves to the index below it.
-fn shift(state: &mut [u64], at: usize)
-    requires { ⌜ at + mostThreads ≤ length (now state) ⌝ }
+// Each of the n words at that place moves to the index below it; the last is 0.
+fn shift(state: &mut [u64], at: usize, n: usize)
+    requires { ⌜ (1 ≤ n) × (at + n ≤ length (now state)) ⌝ }
     ensures { λ _. ⌜ now (state .exit) ≡ pasted (now (state .entry)) at
-        (shifted (part (now (state .entry)) at mostThreads)) mostThreads ⌝ }
+        (shifted (part (now (state .entry)) at n)) n ⌝ }
 {
+    let last = n - 1;
     let mut j: usize = 0;
-    while j < LAST {
+    while j < last {
         state[at + j] = state[at + j + 1];
         j += 1;
     }
-    state[at + LAST] = 0;
+    state[at + last] = 0;
 }
 
-// The first active thread leaves the list, each other to the index below it; an empty list stays.
+// The first active thread leaves the list, each other to the index below it; an empty list stays,
+// and so does a count that is none of a list.
 pub fn drop_first(state: &mut [u64], q: Place)
     requires { ⌜ (length (now state) ≡ stateLength) × (isScheduler (q .number) ≡ true) ⌝ }
     ensures { λ _. ⌜ now (state .exit) ≡ withoutFirst (now (state .entry)) (q .number - home) ⌝ }
@@ -99,7 +88,10 @@ pub fn drop_first(state: &mut [u64], q: Place)
     if n == 0 {
         return;
     }
-    shift(state, at + 1);
+    if (MOST_THREADS as u64) < n {
+        return;
+    }
+    shift(state, at + 1, n as usize);
     state[at] = n - 1;
 }
 
@@ -136,55 +128,36 @@ pub fn append(state: &mut [u64], q: Place, entry: u64)
     insert(state, at, n, n, entry);
 }
 
-// Validation has found at most 64 threads, and a list within its space.
-fn sort_entries(state: &[u64], at: usize) -> Sorted
-    requires { ⌜ (length (now state) ≡ stateLength) × (at + mostThreads < stateLength)
+// The entries of the next list behind that active list, sorted where they lie: the threads of the
+// ready ones go to the active list, those that wait move up, and 0 stands where they leave. How
+// many are ready. Validation has found at most 64 threads, and a list within its space.
+fn sort_entries(state: &mut [u64], active: usize) -> u64
+    requires { ⌜ (length (now state) ≡ stateLength)
+        × (schedulersAt ≤ active) × (active + schedulerLength ≤ threadsAt)
         × (getD (now state) threadCountAt 0 ≤ mostThreads)
-        × (getD (now state) at 0 ≤ mostThreads) ⌝ }
-    ensures { λ r. ⌜ r ≡ sortedOf (now (state .entry)) (wordsAt (now (state .entry)) at) ⌝ }
+        × (getD (now state) (active + listLength) 0 ≤ mostThreads) ⌝ }
+    ensures count { λ r. ⌜ r ≡ length (readyWords (now (state .entry))
+        (wordsAt (now (state .entry)) (active + listLength))) ⌝ }
+    ensures words { λ r. ⌜ now (state .exit) ≡ sortedIn (now (state .entry)) active ⌝ }
 {
-    let n = state[at] as usize;
-    let mut ready = [0u64; MOST_THREADS];
-    let mut waiting = [0u64; MOST_THREADS];
+    let next = active + LIST_LENGTH;
+    let n = state[next] as usize;
     let mut r: usize = 0;
     let mut j: usize = 0;
     while j < n {
-        let e = state[at + 1 + j];
-        if is_ready(state, e) {
-            ready[r] = e % WAITING_FACTOR;
+        let e = state[next + 1 + j];
+        let ready = is_ready(state, e);
+        state[next + 1 + j] = 0;
+        if ready {
+            state[active + 1 + r] = e % WAITING_FACTOR;
             r += 1;
             j += 1;
             continue;
         }
-        waiting[j - r] = e;
+        state[next + 1 + (j - r)] = e;
         j += 1;
     }
-    Sorted {
-        readies: r as u64,
-        ready,
-        waits: (n - r) as u64,
-        waiting,
-    }
-}
-
-fn store_members(state: &mut [u64], at: usize, members: [u64; MOST_THREADS])
-    requires { ⌜ at + mostThreads ≤ length (now state) ⌝ }
-    ensures { λ _. ⌜ now (state .exit) ≡ pasted (now (state .entry)) at members mostThreads ⌝ }
-{
-    let mut j: usize = 0;
-    while j < MOST_THREADS {
-        state[at + j] = members[j];
-        j += 1;
-    }
-}
-
-fn store_list(state: &mut [u64], at: usize, count: u64, members: [u64; MOST_THREADS])
-    requires { ⌜ at + listLength ≤ length (now state) ⌝ }
-    ensures { λ _. ⌜ now (state .exit)
-        ≡ pasted (now (state .entry)) at (count ∷ members) listLength ⌝ }
-{
-    state[at] = count;
-    store_members(state, at + 1, members);
+    r as u64
 }
 
 // The instant of a scheduler with no active thread ends: how many entries were ready. Where none
@@ -198,13 +171,11 @@ pub fn end_instant(state: &mut [u64], q: Place) -> u64
     ensures words { λ r. ⌜ now (state .exit)
         ≡ withInstantEnded (now (state .entry)) (q .number - home) ⌝ }
 {
-    let next = next_list(q);
-    let s = sort_entries(state, next);
-    let r = s.readies;
-    let ready = s.ready;
-    store_list(state, active_list(q), r, ready);
-    let w = s.waits;
-    let waiting = s.waiting;
-    store_list(state, next, w, waiting);
+    let active = active_list(q);
+    let next = active + LIST_LENGTH;
+    let n = state[next];
+    let r = sort_entries(state, active);
+    state[active] = r;
+    state[next] = n - r;
     r
 }

@@ -1,21 +1,26 @@
--- How the code reads frames and the children that their fields name. Assumes nothing.
+-- How the code reads frames and their children. Assumes nothing.
 use mathlib.Core.Path.{_≡_, refl, sym, ap, ap₂, _∙_}
-use mathlib.Core.List.{List, [], _∷_, _++_, reverse}
+use mathlib.Core.List.{List, [], _∷_, _++_}
 use Prim.Native.Nat.{ℕ, zero, suc, _+_, _<_}
 use native.Mathlib.Omega.{arith}
 use lib.ListN.{length, getD, take, drop}
 use lib.Seq.{take-suc, drop-cons}
-use Rattle.language.specs.Kinds.{uses, Child, child, childIn, children}
+use Rattle.language.specs.Kinds.{statementUses, expressionUses, uses, Child, childIn, children}
+use Rattle.language.specs.declared.kind.DeclarationKind.{DeclarationKind}
+use Rattle.language.specs.declared.kind.DeclarationKind.the-variants.{Shared}
+use Rattle.language.specs.declared.kind.StatementKind.{StatementKind}
+use Rattle.language.specs.declared.kind.ExpressionKind.{ExpressionKind}
+use Rattle.language.specs.declared.kind.Kind.{Kind}
+use Rattle.language.specs.declared.kind.Kind.the-variants.{Declared}
 use Rattle.language.specs.declared.kind.Class.{Class}
 use Rattle.language.specs.declared.kind.Use.{Use}
-use Rattle.language.specs.declared.kind.Uses.{Uses}
 use Rattle.language.specs.declared.frame.Frame.{Frame}
 use Rattle.text.specs.Frames.{frameOfWord, framesOf}
 use Rattle.text.proofs.FrameWords.{frames-length, frame-at}
 use Rattle.program.specs.Trees.{noFrame, frameAt}
-use Rattle.program.specs.declared.frames.ChildRead.{ChildRead}
-use Rattle.program.specs.declared.frames.ChildRead.the-variants.{ChildAt, NoChild}
-use Rattle.program.specs.inner.Children.{childRead}
+use Rattle.program.specs.declared.frames.Children.{Children}
+use Rattle.program.specs.declared.frames.Children.the-variants.{Nothing, One, Two}
+use Rattle.program.specs.inner.Children.{childrenIn, listOf, childrenBy, childrenOf}
 
 -- ---- frames
 pub frame-read : (ws : List ℕ) (i : ℕ) (f : Frame) → f ≡ frameOfWord (getD ws i 0) → i < length ws → f ≡ frameAt (framesOf ws) i
@@ -30,28 +35,60 @@ frames-more ws i f e l =
     let s : i + 1 ≡ suc i = omega arith in
     ap (λ (g : Frame). take i (framesOf ws) ++ (g ∷ [])) e ∙ sym (take-suc (framesOf ws) i noFrame (let z = frames-length ws in omega arith)) ∙ ap (λ (n : ℕ). take n (framesOf ws)) (sym s)
 
--- ---- the child that a field names
-pub argument-some : (v : ℕ) → (v ≡ 0 → ⊥) → ChildAt Class.Expression v ≡ childRead (childIn Use.Argument v)
-argument-some zero n = absurd (n refl)
-argument-some (suc v) n = refl
+-- ---- the children of a frame, as the code gives them
+abbrev arguments : ℕ → ℕ → Children
+arguments a b = childrenIn (childIn Use.Argument a ++ childIn Use.Further b ++ [])
 
--- each arm of the match on a use
-pub child-row : (u k : Use) (v : ℕ) (r : ChildRead) → u ≡ k → r ≡ childRead (childIn k v) → r ≡ childRead (childIn u v)
-child-row u k v r e h = h ∙ ap (λ (w : Use). childRead (childIn w v)) (sym e)
+-- the arguments of a start
+module _ (f : Frame) where
+  pub no-argument : f .a ≡ 0 → f .b ≡ 0 → Nothing ≡ childrenBy (statementUses StatementKind.Start) f
+  no-argument e g = ap₂ arguments (sym e) (sym g)
 
-further-is : (v : ℕ) → childRead (childIn Use.Argument v) ≡ childRead (childIn Use.Further v)
-further-is zero = refl
-further-is (suc v) = refl
+  pub second-argument : f .a ≡ 0 → (f .b ≡ 0 → ⊥) → One Class.Expression (f .b) ≡ childrenBy (statementUses StatementKind.Start) f
+  second-argument e n = go (f .b) n ∙ ap (λ (a : ℕ). arguments a (f .b)) (sym e)
+    where
+      go : (b : ℕ) → (b ≡ 0 → ⊥) → One Class.Expression b ≡ arguments 0 b
+      go zero n = absurd (n refl)
+      go (suc b) n = refl
 
-pub further-row : (u : Use) (v : ℕ) (r : ChildRead) → u ≡ Use.Further → r ≡ childRead (childIn Use.Argument v) → r ≡ childRead (childIn u v)
-further-row u v r e h = child-row u Use.Further v r e (h ∙ further-is v)
+  pub first-argument : (f .a ≡ 0 → ⊥) → f .b ≡ 0 → One Class.Expression (f .a) ≡ childrenBy (statementUses StatementKind.Start) f
+  first-argument n g = go (f .a) n ∙ ap (arguments (f .a)) (sym g)
+    where
+      go : (a : ℕ) → (a ≡ 0 → ⊥) → One Class.Expression a ≡ arguments a 0
+      go zero n = absurd (n refl)
+      go (suc a) n = refl
 
--- a field names at most one child
-pub data Few : List Child → Type 0 where
+  pub two-arguments : (f .a ≡ 0 → ⊥) → (f .b ≡ 0 → ⊥) → Two Class.Expression (f .a) Class.Expression (f .b) ≡ childrenBy (statementUses StatementKind.Start) f
+  two-arguments n m = go (f .a) (f .b) n m
+    where
+      go : (a b : ℕ) → (a ≡ 0 → ⊥) → (b ≡ 0 → ⊥) → Two Class.Expression a Class.Expression b ≡ arguments a b
+      go zero b n m = absurd (n refl)
+      go (suc a) zero n m = absurd (m refl)
+      go (suc a) (suc b) n m = refl
+
+pub ruleset argument-laws = (no-argument, second-argument, first-argument, two-arguments)
+
+-- each arm of the matches on kinds
+module _ (f : Frame) (r : Children) where
+  pub statement-children : (k v : StatementKind) → k ≡ v → r ≡ childrenBy (statementUses v) f → r ≡ childrenBy (statementUses k) f
+  statement-children k v e h = h ∙ ap (λ (w : StatementKind). childrenBy (statementUses w) f) (sym e)
+
+  pub expression-children : (k v : ExpressionKind) → k ≡ v → r ≡ childrenBy (expressionUses v) f → r ≡ childrenBy (expressionUses k) f
+  expression-children k v e h = h ∙ ap (λ (w : ExpressionKind). childrenBy (expressionUses w) f) (sym e)
+
+  pub kind-children : (k : Kind) → f .kind ≡ k → r ≡ childrenBy (uses k) f → r ≡ childrenOf f
+  kind-children k e h = h ∙ ap (λ (w : Kind). childrenBy (uses w) f) (sym e)
+
+  -- there is one kind of declaration, so its match asks nothing
+  pub shared-children : (d : DeclarationKind) → f .kind ≡ Declared d → r ≡ Nothing → r ≡ childrenOf f
+  shared-children Shared e h = kind-children (Declared Shared) e h
+
+-- a field names at most one child, so a frame has at most three
+data Few : List Child → Type 0 where
   no-child : Few []
   one-child : {c : Child} → Few (c ∷ [])
 
-pub few : (u : Use) (v : ℕ) → Few (childIn u v)
+few : (u : Use) (v : ℕ) → Few (childIn u v)
 few Use.Statement v = Few.one-child
 few Use.Expression v = Few.one-child
 few Use.Argument zero = Few.no-child
@@ -69,42 +106,19 @@ few Use.Parameters v = Few.no-child
 few Use.FirstType v = Few.no-child
 few Use.SecondType v = Few.no-child
 
-apart : {k : Class} {n : ℕ} → ChildAt k n ≡ NoChild → ⊥
-apart p = let z : _≡_ {A = ℕ} 0 1 = cc in omega arith
+listed : {xs ys zs : List Child} → Few xs → Few ys → Few zs → listOf (childrenIn (xs ++ ys ++ zs)) ≡ xs ++ ys ++ zs
+listed Few.no-child Few.no-child Few.no-child = refl
+listed Few.no-child Few.no-child Few.one-child = refl
+listed Few.no-child Few.one-child Few.no-child = refl
+listed Few.no-child Few.one-child Few.one-child = refl
+listed Few.one-child Few.no-child Few.no-child = refl
+listed Few.one-child Few.no-child Few.one-child = refl
+listed Few.one-child Few.one-child Few.no-child = refl
+listed Few.one-child Few.one-child Few.one-child = refl
 
-by-none : {cs : List Child} → Few cs → childRead cs ≡ NoChild → cs ≡ []
-by-none Few.no-child e = refl
-by-none Few.one-child e = absurd (apart e)
-
-by-one : {cs : List Child} (k : Class) (n : ℕ) → Few cs → childRead cs ≡ ChildAt k n → cs ≡ child k n ∷ []
-by-one k n Few.no-child e = absurd (apart (sym e))
-by-one k n (Few.one-child {c}) e = let a : c .class ≡ k = cc in let b : c .at ≡ n = cc in ap₂ (λ (x : Class) (y : ℕ). child x y ∷ []) a b
-
-module _ (u : Use) (v : ℕ) (x : ChildRead) (h : x ≡ childRead (childIn u v)) where
-  pub no-child-is : x ≡ NoChild → childIn u v ≡ []
-  no-child-is e = by-none (few u v) (sym h ∙ e)
-
-  pub child-is : (k : Class) (n : ℕ) → x ≡ ChildAt k n → childIn u v ≡ child k n ∷ []
-  child-is k n e = by-one k n (few u v) (sym h ∙ e)
-
--- ---- the children of a frame, field by field
--- from the last to the first they are those that C, B and A name, since no field names two
-pub reversed : {xs ys zs : List Child} → Few xs → Few ys → Few zs → reverse (xs ++ ys ++ zs) ≡ zs ++ (ys ++ xs)
-reversed Few.no-child Few.no-child Few.no-child = refl
-reversed Few.no-child Few.no-child Few.one-child = refl
-reversed Few.no-child Few.one-child Few.no-child = refl
-reversed Few.no-child Few.one-child Few.one-child = refl
-reversed Few.one-child Few.no-child Few.no-child = refl
-reversed Few.one-child Few.no-child Few.one-child = refl
-reversed Few.one-child Few.one-child Few.no-child = refl
-reversed Few.one-child Few.one-child Few.one-child = refl
-
--- a walk through the children of a frame goes through those that A, B and C name, one field after another
-module _ {S : Type 0} (walk : S → List Child → S) (append : (xs ys : List Child) (u : S) → walk u (xs ++ ys) ≡ walk (walk u xs) ys) where
-  pub by-fields : (u t r s : S) (us : Uses) (f : Frame) → us ≡ uses (f .kind) → t ≡ walk u (childIn (us .a) (f .a)) → r ≡ walk t (childIn (us .b) (f .b)) → s ≡ walk r (childIn (us .c) (f .c)) → s ≡ walk u (children f)
-  unfolding children
-  by-fields u t r s us f e a b c =
-      c ∙ ap (λ (x : S). walk x (childIn (us .c) (f .c))) (b ∙ ap (λ (x : S). walk x (childIn (us .b) (f .b))) a)
-      ∙ sym (ap (λ (x : S). walk x (childIn (us .c) (f .c))) (append (childIn (us .a) (f .a)) (childIn (us .b) (f .b)) u))
-      ∙ sym (append (childIn (us .a) (f .a) ++ childIn (us .b) (f .b)) (childIn (us .c) (f .c)) u)
-      ∙ ap (λ (w : Uses). walk u (childIn (w .a) (f .a) ++ childIn (w .b) (f .b) ++ childIn (w .c) (f .c))) e
+-- what the code gives is the list of children
+pub children-are : (f : Frame) (x v : Children) → x ≡ childrenOf f → x ≡ v → listOf v ≡ children f
+unfolding children
+children-are f x v h e =
+    ap listOf (sym e ∙ h)
+    ∙ listed (few (uses (f .kind) .a) (f .a)) (few (uses (f .kind) .b) (f .b)) (few (uses (f .kind) .c) (f .c))

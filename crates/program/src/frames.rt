@@ -1,20 +1,27 @@
-// Frames of a text's lines, and the child that a field names.
+// Frames of a text's lines, and the children of a frame.
 use language::frame::Frame;
 use language::kind::Class;
-use language::kind::Use;
+use language::kind::DeclarationKind;
+use language::kind::ExpressionKind;
+use language::kind::Kind;
+use language::kind::StatementKind;
 use text::line::frame_of_word;
 ghost use mathlib.Core.Path.{_≡_};
 ghost use Prim.Native.Nat.{_<_};
 ghost use lib.ListN.{length};
-ghost use Rattle.language.specs.Kinds.{childIn};
+ghost use Rattle.language.specs.Kinds.{statementUses, expressionUses};
+ghost use Rattle.language.specs.declared.kind.StatementKind.{StatementKind};
 ghost use Rattle.text.specs.Frames.{framesOf};
 ghost use Rattle.program.specs.Trees.{frameAt};
-ghost use Rattle.program.specs.inner.Children.{sameClass, childRead};
+ghost use Rattle.program.specs.inner.Children.{sameClass, childrenBy, childrenOf};
 
-// A field's child: the class that it is to be of, and its frame's number.
-pub enum ChildRead {
-    ChildAt(Class, u16),
-    NoChild,
+// A frame's children, from the first to the last: of each, the class that it is to be of and its
+// frame's number.
+pub enum Children {
+    Nothing,
+    One(Class, u16),
+    Two(Class, u16, Class, u16),
+    Three(Class, u16, Class, u16, Class, u16),
 }
 
 pub fn frame_at(words: &[u64], i: usize) -> Frame
@@ -46,34 +53,82 @@ pub fn same_class(a: Class, b: Class) -> bool
     }
 }
 
-// The child that an argument is: 0 is none.
-fn argument_in(v: u16) -> ChildRead
-    ensures { λ r. ⌜ r ≡ childRead (childIn Use.Argument v) ⌝ }
+// The arguments of a start: 0 is none.
+fn argument_children(f: Frame) -> Children
+    ensures { λ r. ⌜ r ≡ childrenBy (statementUses StatementKind.Start) f ⌝ }
 {
-    if v == 0 {
-        return ChildRead::NoChild;
+    if f.a == 0 {
+        if f.b == 0 {
+            return Children::Nothing;
+        }
+        return Children::One(Class::Expression, f.b);
     }
-    ChildRead::ChildAt(Class::Expression, v)
+    if f.b == 0 {
+        return Children::One(Class::Expression, f.a);
+    }
+    Children::Two(Class::Expression, f.a, Class::Expression, f.b)
 }
 
-// The child that a field of that use names by v.
-pub fn child_in(u: Use, v: u16) -> ChildRead
-    ensures { λ r. ⌜ r ≡ childRead (childIn u v) ⌝ }
+fn statement_children(k: StatementKind, f: Frame) -> Children
+    ensures { λ r. ⌜ r ≡ childrenBy (statementUses k) f ⌝ }
 {
-    match u {
-        Use::Unused => ChildRead::NoChild,
-        Use::Free => ChildRead::NoChild,
-        Use::Truth => ChildRead::NoChild,
-        Use::Place => ChildRead::NoChild,
-        Use::Scheduler => ChildRead::NoChild,
-        Use::Statement => ChildRead::ChildAt(Class::Statement, v),
-        Use::Expression => ChildRead::ChildAt(Class::Expression, v),
-        Use::Argument => argument_in(v),
-        Use::Further => argument_in(v),
-        Use::ContentType => ChildRead::NoChild,
-        Use::FirstContent => ChildRead::NoChild,
-        Use::Parameters => ChildRead::NoChild,
-        Use::FirstType => ChildRead::NoChild,
-        Use::SecondType => ChildRead::NoChild,
+    match k {
+        StatementKind::Nothing => Children::Nothing,
+        StatementKind::Then => Children::Two(Class::Statement, f.a, Class::Statement, f.b),
+        StatementKind::DoAt => Children::One(Class::Statement, f.a),
+        StatementKind::Start => argument_children(f),
+        StatementKind::StartWait => argument_children(f),
+        StatementKind::Cooperate => Children::Nothing,
+        StatementKind::Let => Children::Two(Class::Expression, f.a, Class::Statement, f.b),
+        StatementKind::Store => Children::Two(Class::Expression, f.a, Class::Expression, f.b),
+        StatementKind::If => Children::Three(
+            Class::Expression,
+            f.a,
+            Class::Statement,
+            f.b,
+            Class::Statement,
+            f.c,
+        ),
+        StatementKind::While => Children::Two(Class::Expression, f.a, Class::Statement, f.b),
+    }
+}
+
+fn expression_children(k: ExpressionKind, f: Frame) -> Children
+    ensures { λ r. ⌜ r ≡ childrenBy (expressionUses k) f ⌝ }
+{
+    match k {
+        ExpressionKind::Number => Children::Nothing,
+        ExpressionKind::Truth => Children::Nothing,
+        ExpressionKind::Variable => Children::Nothing,
+        ExpressionKind::SharedCell => Children::Nothing,
+        ExpressionKind::NewCell => Children::One(Class::Expression, f.a),
+        ExpressionKind::Content => Children::One(Class::Expression, f.a),
+        ExpressionKind::Sum => Children::Two(Class::Expression, f.a, Class::Expression, f.b),
+        ExpressionKind::Less => Children::Two(Class::Expression, f.a, Class::Expression, f.b),
+        ExpressionKind::Choose => Children::Three(
+            Class::Expression,
+            f.a,
+            Class::Expression,
+            f.b,
+            Class::Expression,
+            f.c,
+        ),
+    }
+}
+
+// By kind, without the table of uses: the passes of refusals 6 and 7 ask each line for them.
+pub fn children_of(f: Frame) -> Children
+    ensures { λ r. ⌜ r ≡ childrenOf f ⌝ }
+{
+    let kind = f.kind;
+    match kind {
+        Kind::Header => Children::Nothing,
+        Kind::Declared(d) => match d {
+            DeclarationKind::Shared => Children::Nothing,
+        },
+        Kind::Module => Children::One(Class::Statement, f.a),
+        Kind::Statement(k) => statement_children(k, f),
+        Kind::Expression(k) => expression_children(k, f),
+        Kind::Unknown => Children::Nothing,
     }
 }

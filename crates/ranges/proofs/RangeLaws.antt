@@ -4,10 +4,12 @@ use mathlib.Core.Path.{_≡_, refl, sym, ap, ap₂, _∙_}
 use mathlib.Core.List.{List}
 use mathlib.Core.Bool.{Bool, true, false, not, _&&_}
 use native.Mathlib.Omega.{arith}
+use native.Mathlib.Numerals.{add-one}
+use lib.Bits.{bitAnd, bitOr, or-add-and, and-le-l, and-le-r}
 use lib.ListN.{getD, length, List·getD-eq-default}
 use lib.Dec.{leb, eqb}
-use borrow.Author.Tests.{lt-ltb, le-ltb, le-leb, lt-leb, eq-eqb, ne-eqb, not-true, not-false}
-use Rattle.basics.proofs.Ifs.{yes, no, leb-same}
+use borrow.Author.Tests.{lt-ltb, le-ltb, le-leb, lt-leb, eq-eqb, eqb-true, not-true, not-false}
+use Rattle.basics.proofs.Ifs.{yes, no, leb-same, and-true}
 use Rattle.language.specs.Places.{hasPlace, hasScheduler}
 use Rattle.language.specs.declared.kind.Kind.{Kind}
 use Rattle.language.specs.declared.frame.Frame.{Frame}
@@ -18,7 +20,8 @@ use Rattle.machine.specs.inner.Ranges.{threadInRange, valueInRange, itemInRange
 use Rattle.machine.specs.Shapes.{isStatement, ownerInRange}
 use Rattle.ranges.specs.inner.Passes.{isZero, memberInRange, wordPasses}
 use Rattle.ranges.specs.declared.range.Member.{Member}
-use Rattle.machine.proofs.AllBelow.{all-more, all-wrong, answer-more, answer-wrong}
+use Rattle.machine.proofs.Tests.{and-both}
+use Rattle.machine.proofs.AllBelow.{same-test, answer-more, answer-wrong}
 
 -- ---- numbers of threads, values
 pub thread-number-low : (t : ℕ) → t < 1 → false ≡ threadInRange t
@@ -111,14 +114,39 @@ cell-rest n w t r e h g = rw (sym e ∙ not-false t h) g
 pub ruleset cell-laws = (cell-unowned, cell-rest)
 
 -- ---- a loop over words
-module _ (w : List ℕ) (at count j : ℕ) where
-  pub zero-wrong : j < count → (getD w (at + j) 0 ≡ 0 → ⊥) → false ≡ allBelow count (wordPasses isZero w at)
-  unfolding wordPasses isZero
-  zero-wrong h e = all-wrong (wordPasses isZero w at) j count (ne-eqb _ 0 e) h
+-- a | b is 0 exactly where both are
+or-none : (a b : ℕ) → eqb (bitOr a b) 0 ≡ eqb b 0 && eqb a 0
+or-none a b = same-test _ _
+    (λ e. let z = eqb-true (bitOr a b) 0 e in
+    and-both (eqb b 0) (eqb a 0)
+    (eq-eqb b 0 (right (bitOr a b) (bitAnd a b) (or-add-and a b) (and-le-l a b) z))
+    (eq-eqb a 0 (left (bitOr a b) (bitAnd a b) (or-add-and a b) (and-le-r a b) z)))
+    (λ e. eq-eqb (bitOr a b) 0 (both (bitOr a b) (bitAnd a b) (or-add-and a b)
+    (eqb-true a 0 (and-true (eqb b 0) (eqb a 0) e .1))
+    (eqb-true b 0 (and-true (eqb b 0) (eqb a 0) e .0))))
+  where
+    left : (o n : ℕ) → o + n ≡ a + b → n ≤ b → o ≡ 0 → a ≡ 0
+    left o n s l z = omega arith
 
-  pub zero-more : allBelow j (wordPasses isZero w at) ≡ true → getD w (at + j) 0 ≡ 0 → allBelow (j + 1) (wordPasses isZero w at) ≡ true
-  unfolding wordPasses isZero
-  zero-more h e = all-more (wordPasses isZero w at) j h (eq-eqb _ 0 e)
+    right : (o n : ℕ) → o + n ≡ a + b → n ≤ a → o ≡ 0 → b ≡ 0
+    right o n s l z = omega arith
+
+    both : (o n : ℕ) → o + n ≡ a + b → a ≡ 0 → b ≡ 0 → o ≡ 0
+    both o n s x y = omega arith
+
+module _ (w : List ℕ) (at count j : ℕ) where
+  -- the bits of j words are put together: none is set exactly where all these words are 0
+  pub zero-more : (bits : ℕ) → eqb bits 0 ≡ allBelow j (wordPasses isZero w at)
+      → eqb (bitOr bits (getD w (at + j) 0)) 0 ≡ allBelow (j + 1) (wordPasses isZero w at)
+  unfolding wordPasses isZero allBelow
+  zero-more bits h =
+      or-none bits (getD w (at + j) 0)
+      ∙ ap (λ (b : Bool). eqb (getD w (at + j) 0) 0 && b) h
+      ∙ ap (λ (n : ℕ). allBelow n (wordPasses isZero w at)) (sym (add-one j))
+
+  pub zero-end : (bits : ℕ) → eqb bits 0 ≡ allBelow j (wordPasses isZero w at) → j ≤ count
+      → count ≤ j → eqb bits 0 ≡ allBelow count (wordPasses isZero w at)
+  zero-end bits h a b = h ∙ ap (λ (n : ℕ). allBelow n (wordPasses isZero w at)) (omega arith)
 
   pub member-wrong : (test : ℕ → Bool) (t : Bool) → t ≡ test (getD w (at + j) 0) → not t ≡ true → j < count → false ≡ allBelow count (wordPasses test w at)
   unfolding wordPasses

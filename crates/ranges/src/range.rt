@@ -186,19 +186,19 @@ fn members_in_range(
     true
 }
 
-// Count words from that place on are 0.
+// Count words from that place on are 0. All are looked at, whatever the first is: a loop without an
+// exit takes several words at once.
 fn zeros(state: &[u64], at: usize, count: usize) -> bool
     requires { ⌜ at + count ≤ length (now state) ⌝ }
     ensures { λ r. ⌜ r ≡ allBelow count (wordPasses isZero (now (state .entry)) at) ⌝ }
 {
+    let mut bits: u64 = 0;
     let mut j: usize = 0;
     while j < count {
-        if state[at + j] != 0 {
-            return false;
-        }
+        bits |= state[at + j];
         j += 1;
     }
-    true
+    bits == 0
 }
 
 // A list at that place: its length, its members, and 0 in the rest of its space.

@@ -7,7 +7,7 @@ use language::limit::MOST_BYTES;
 use language::limit::MOST_CHOICE_BYTES;
 use language::limit::MOST_LISTING_BYTES;
 use language::verdict::Verdict;
-use layout::lay_out;
+use layout::layout_verdict;
 use machine::offset::STATE_LENGTH;
 use runs::printing::run_listing;
 ghost use Rattle.io.specs.Counts.{Counts};
@@ -16,9 +16,7 @@ ghost use Rattle.io.specs.Counts.{Counts};
 fn choices_for(text: &[u8], choices: &mut [u8]) -> FileRead
     ensures { λ r. ⌜ Counts (r .count) (now (choices .exit)) ⌝ }
 {
-    let l = lay_out(text);
-    let v = l.verdict;
-    match v {
+    match layout_verdict(text) {
         Verdict::Rejected(n, j) => FileRead {
             readable: true,
             count: 0,

@@ -15,8 +15,8 @@ use Rattle.language.specs.declared.verdict.Verdict.{Verdict}
 use Rattle.language.specs.declared.verdict.Verdict.the-variants.{Accepted, Rejected}
 use Rattle.text.specs.Frames.{framesOf, textFrames}
 use Rattle.program.specs.Programs.{programOf}
-use Rattle.layout.specs.inner.Layouts.{layoutVerdict, laidOut}
-use Rattle.layout.specs.declared.LaidOut.{LaidOut}
+use Rattle.layout.specs.inner.Layouts.{layoutVerdict, laidAs, laidOut}
+use Rattle.layout.specs.declared.Laid.{Laid}
 use Rattle.layout.proofs.Answers.{verdict-is}
 use Rattle.layout.proofs.Accepted.{laid-passed}
 use Rattle.rules.specs.inner.Checking.{rulesOf}
@@ -98,7 +98,7 @@ module _ (n j : ℕ) (out : List ℕ) where
     unfolding listedRejected
     with-state x new k = ap withState k ∙ either (eqb (length out) 229389) _ _
 
-module _ (bs bytes w out : List ℕ) (l : LaidOut) (e : l ≡ laidOut bs) (v : Verdict) (h : v ≡ l .verdict) where
+module _ (bs bytes w out : List ℕ) (l : Laid) (ws : List ℕ) (e : laidAs l ws ≡ laidOut bs) (v : Verdict) (h : v ≡ l .verdict) where
   -- what the definition gives with that answer where no buffer hinders it
   abbrev whole : Answer → ListedOn
   whole a = listedWhole a (verdict bs) (textFrames bs) bytes w out
@@ -109,7 +109,7 @@ module _ (bs bytes w out : List ℕ) (l : LaidOut) (e : l ≡ laidOut bs) (v : V
       if buffersFit x w out then whole (answerFor x true) else unlisted (answerFor x false) w out
 
   layout-is : layoutVerdict bs ≡ v
-  layout-is = sym (verdict-is bs l e) ∙ sym h
+  layout-is = sym (verdict-is bs (laidAs l ws) e) ∙ sym h
 
   by-layout : (x : Verdict) → v ≡ x → byVerdict x ≡ listText bs bytes w out
   unfolding listText
@@ -124,7 +124,7 @@ module _ (bs bytes w out : List ℕ) (l : LaidOut) (e : l ≡ laidOut bs) (v : V
         let s = ends (Rejected n j) (textFrames bs) w bytes (layout-stops bs n j (layout-is ∙ z)) in
         ap₂ (λ (y : Behind) (t : List ℕ). listedFrom refusal y t out) (sym (s .0)) (sym (s .1))
         ∙ ap (λ (x : Verdict). listedWhole refusal x (textFrames bs) bytes w out)
-        (check-rejected bs l e v n j h z)
+        (check-rejected bs l ws e v n j h z)
 
     rejected-is : listedRejected n j w out ≡ listText bs bytes w out
     unfolding listedRejected
@@ -144,12 +144,12 @@ module _ (bs bytes w out : List ℕ) (l : LaidOut) (e : l ≡ laidOut bs) (v : V
 
     pub list-accepted : length w ≡ 4818 → length out ≡ 229389 → (n : ℕ) → n ≡ l .count → (u new : List ℕ) (x : Listed)
         → listedOn x u new
-        ≡ listedWhole (A.Done 0) (rulesOf (programOf (framesOf (take n (l .words)))))
-        (framesOf (take n (l .words))) bytes w out
+        ≡ listedWhole (A.Done 0) (rulesOf (programOf (framesOf (take n ws))))
+        (framesOf (take n ws)) bytes w out
         → listedOn x u new ≡ listText bs bytes w out
     list-accepted size room n q u new x k =
-        let f : framesOf (take n (l .words)) ≡ textFrames bs = ap (λ (i : ℕ). framesOf (take i (l .words))) q ∙ laid-passed bs l e (sym h ∙ a) .lines in
-        let r : rulesOf (programOf (framesOf (take n (l .words)))) ≡ verdict bs = check-rules bs l e v h a n _ q refl in
+        let f : framesOf (take n ws) ≡ textFrames bs = ap (λ (i : ℕ). framesOf (take i ws)) q ∙ laid-passed bs (laidAs l ws) e (sym h ∙ a) .lines in
+        let r : rulesOf (programOf (framesOf (take n ws))) ≡ verdict bs = check-rules bs l ws e v h a n _ q refl in
         k ∙ ap₂ (λ (y : Verdict) (fs : List Frame). listedWhole (A.Done 0) y fs bytes w out) r f
         ∙ sym (if-yes _ _ (ap₂ (λ (b c : Bool). b && c) (eq-eqb (length w) 4818 size) (eq-eqb (length out) 229389 room)))
         ∙ by-layout Accepted a

@@ -4,12 +4,13 @@ use checker::check::rules_of;
 use language::limit::CHECK_LINE;
 use language::limit::CHOICE_LINE;
 use language::limit::LAST_LINE;
+use language::limit::MOST_LINES;
 use language::limit::MOST_LISTING_BYTES;
 use language::refusal::LONG_TEXT;
 use language::refusal::MALFORMED_TEXT;
 use language::refusal::WRONG_STATE;
 use language::verdict::Verdict;
-use layout::lay_out;
+use layout::lay_into;
 use listing::buffer::put;
 use listing::check_line;
 use listing::choices::ChoicesRead;
@@ -140,7 +141,8 @@ fn list_rejected(n: u8, j: u16, out: &mut [u8]) -> Listed
 pub fn run_listing(text: &[u8], choices: &[u8], state: &mut [u64], out: &mut [u8]) -> Listed
     ensures { λ r. ⌜ listedOn r (now (state .exit)) (now (out .exit)) ≡ listText (now (text .entry)) (now (choices .entry)) (now (state .entry)) (now (out .entry)) ⌝ }
 {
-    let l = lay_out(text);
+    let mut words = [0u64; MOST_LINES];
+    let l = lay_into(text, &mut words);
     let v = l.verdict;
     match v {
         Verdict::Rejected(n, j) => list_rejected(n, j, out),
@@ -159,7 +161,6 @@ pub fn run_listing(text: &[u8], choices: &[u8], state: &mut [u64], out: &mut [u8
                     used: 0,
                 };
             }
-            let words = l.words;
             let n = l.count;
             list_frames(&words[..n], choices, state, out)
         }

@@ -13,8 +13,8 @@ use Rattle.language.specs.declared.verdict.Verdict.{Verdict}
 use Rattle.language.specs.declared.verdict.Verdict.the-variants.{Accepted, Rejected}
 use Rattle.text.specs.Frames.{framesOf}
 use Rattle.program.specs.Programs.{programOf}
-use Rattle.layout.specs.inner.Layouts.{laidOut}
-use Rattle.layout.specs.declared.LaidOut.{LaidOut}
+use Rattle.layout.specs.inner.Layouts.{laidAs, laidOut}
+use Rattle.layout.specs.declared.Laid.{Laid}
 use Rattle.layout.proofs.AfterLayout.{text-refused, text-passed}
 use Rattle.checker.proofs.CheckLaws.{check-file}
 use Rattle.machine.specs.Fresh.{fresh}
@@ -74,33 +74,33 @@ pub step-in : (s : Stepped) (r : Answer) (v : List ℕ) (k : Called) → stepped
 step-in s r v k e h = ap (λ (a : Answer). answered a v) h ∙ ap calledAs e
 
 -- ---- a text: a rejected one gives that refusal whatever the call (`by-reading`), an accepted one what the call gives (`by-call`)
-module _ (bs : List ℕ) (l : LaidOut) (e : l ≡ laidOut bs) where
+module _ (bs : List ℕ) (l : Laid) (ws : List ℕ) (e : laidAs l ws ≡ laidOut bs) where
   module _ (v : Verdict) (n j : ℕ) (h : v ≡ l .verdict) (z : v ≡ Rejected n j) where
     pub fresh-rejected : (w : List ℕ) → answered (A.Rejected n j) w ≡ freshText bs w
     unfolding freshText
-    fresh-rejected w = text-refused _ _ bs l e n j (sym h ∙ z)
+    fresh-rejected w = text-refused _ _ bs (laidAs l ws) e n j (sym h ∙ z)
 
     pub step-rejected : (w : List ℕ) (c : ℕ) → answered (A.Rejected n j) w ≡ stepText bs w c
     unfolding stepText
-    step-rejected w c = text-refused _ _ bs l e n j (sym h ∙ z)
+    step-rejected w c = text-refused _ _ bs (laidAs l ws) e n j (sym h ∙ z)
 
   module _ (v : Verdict) (h : v ≡ l .verdict) (a : v ≡ Accepted) where
-    pub text-file : (n : ℕ) → n ≡ l .count → FileWords (take n (l .words))
-    text-file n q = let g = check-file bs l e v h a n q in record { laid-out = g .laid-out; few = g .few }
+    pub text-file : (n : ℕ) → n ≡ l .count → FileWords (take n ws)
+    text-file n q = let g = check-file bs l ws e v h a n q in record { laid-out = g .laid-out; few = g .few }
 
-    pub by-call : (call : List Frame → Called) (w : List ℕ) (n : ℕ) → n ≡ l .count → calledAs (call (framesOf (take n (l .words)))) ≡ onText bs w call
-    by-call call w n q = text-passed (λ n j. answered (A.Rejected n j) w) (λ fs. calledAs (call fs)) bs l e (sym h ∙ a) n q
+    pub by-call : (call : List Frame → Called) (w : List ℕ) (n : ℕ) → n ≡ l .count → calledAs (call (framesOf (take n ws))) ≡ onText bs w call
+    by-call call w n q = text-passed (λ n j. answered (A.Rejected n j) w) (λ fs. calledAs (call fs)) bs (laidAs l ws) e (sym h ∙ a) n q
 
     pub fresh-wrong : (w : List ℕ) → (length w ≡ 4818 → ⊥) → answered (A.Refused 14 0) w ≡ freshText bs w
     unfolding freshText
     fresh-wrong w f =
-        ap (λ (x : Answer). answered x w) refused-14 ∙ ap calledAs (call-wrong (take (l .count) (l .words)) w f) ∙ by-call (λ fs. freshCall fs w) w (l .count) refl
+        ap (λ (x : Answer). answered x w) refused-14 ∙ ap calledAs (call-wrong (take (l .count) ws) w f) ∙ by-call (λ fs. freshCall fs w) w (l .count) refl
 
-    pub fresh-done : (w u : List ℕ) (n : ℕ) → n ≡ l .count → u ≡ pack (fresh (programOf (framesOf (take n (l .words))))) → length w ≡ 4818 → answered (A.Done 0) u ≡ freshText bs w
+    pub fresh-done : (w u : List ℕ) (n : ℕ) → n ≡ l .count → u ≡ pack (fresh (programOf (framesOf (take n ws)))) → length w ≡ 4818 → answered (A.Done 0) u ≡ freshText bs w
     unfolding freshText
     fresh-done w u n q z k =
-        ap (λ (x : Answer). answered x u) done-0 ∙ ap calledAs (call-fresh (take n (l .words)) w u k z) ∙ by-call (λ fs. freshCall fs w) w n q
+        ap (λ (x : Answer). answered x u) done-0 ∙ ap calledAs (call-fresh (take n ws) w u k z) ∙ by-call (λ fs. freshCall fs w) w n q
 
-    pub step-done : (w u : List ℕ) (c n : ℕ) (r : Answer) → n ≡ l .count → answered r u ≡ calledAs (stepCall (framesOf (take n (l .words))) w c) → answered r u ≡ stepText bs w c
+    pub step-done : (w u : List ℕ) (c n : ℕ) (r : Answer) → n ≡ l .count → answered r u ≡ calledAs (stepCall (framesOf (take n ws)) w c) → answered r u ≡ stepText bs w c
     unfolding stepText
     step-done w u c n r q z = z ∙ by-call (λ fs. stepCall fs w c) w n q

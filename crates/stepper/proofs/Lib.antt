@@ -15,6 +15,7 @@ pub mod GoodWords
 pub mod ActLaws
 pub mod TurnLaws
 pub mod PartyLaws
--- The public calls: the file, the answer.
+-- The public calls: the file, the answer, many choices in one call.
 pub mod FileLaws
 pub mod AnswerLaws
+pub mod BatchLaws

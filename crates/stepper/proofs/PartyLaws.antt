@@ -1,16 +1,17 @@
--- The party that a choice names, on words in range: a scheduler with an active thread or without, an unlinked thread, or none; what each call asks and what the choice gives. Assumes nothing.
+-- The party that a choice names, on words in range: a scheduler with an active thread or without, an unlinked thread, or none; then by the thread that acts: what each call asks and what the choice gives. Assumes nothing.
 use Prim.Native.Nat.{ℕ, _+_, _-_, _*_, _<_, _≤_}
 use mathlib.Core.Path.{_≡_, refl, sym, ap, ap₂, _∙_, subst}
 use mathlib.Core.List.{List, [], _∷_}
-use mathlib.Core.Bool.{Bool, true, false, _&&_}
+use mathlib.Core.Bool.{Bool, true, false, not, _&&_, true≢false}
 use native.Mathlib.Omega.{arith}
 use lib.ListN.{length, getD}
-use borrow.Author.Tests.{le-leb, lt-leb}
+use lib.Dec.{leb}
+use borrow.Author.Tests.{le-leb, lt-leb, leb-true, leb-false, not-true, not-false}
 use Rattle.basics.specs.Members.{All, more}
 use Rattle.basics.proofs.Ifs.{if-yes, if-no}
 use Rattle.language.specs.Places.{isPlace, hasScheduler, isScheduler}
 use Rattle.language.specs.declared.Place.{Place}
-use Rattle.language.proofs.PlaceLaws.{test-bounds, scheduler-place}
+use Rattle.language.proofs.PlaceLaws.{test-bounds, scheduler-place, has-scheduler}
 use Rattle.text.specs.Frames.{framesOf}
 use Rattle.program.specs.Programs.{Program, programOf}
 use Rattle.machine.specs.State.{State, schedulerAt, withScheduler}
@@ -28,10 +29,10 @@ use Rattle.lists.specs.inner.Lists.{readyWords, withInstantEnded}
 use Rattle.lists.proofs.SchedulerSays.{first-says, room-says}
 use Rattle.lists.proofs.Instants.{instant-readies, instant-says, instant-none}
 use Rattle.states.specs.inner.Parties.{isUnlinkedWord}
-use Rattle.states.proofs.PartyLaws.{unlinked-says}
+use Rattle.states.proofs.PartyLaws.{unlinked-low, unlinked-says}
 use Rattle.commits.specs.inner.Commits.{called}
 use Rattle.stepper.specs.declared.file.File.{File}
-use Rattle.stepper.specs.inner.Files.{StepWords, stateIn, TurnChoice, fileOf}
+use Rattle.stepper.specs.inner.Files.{StepWords, stateIn, TurnChoice, fileOf, actingIn}
 use Rattle.stepper.proofs.Fates.{scheduler-there}
 use Rattle.stepper.proofs.GoodWords.{fits-in, shaped, says, step-long, threads-few}
 
@@ -68,9 +69,6 @@ module _ (frames : List ℕ) (shared : ℕ) (w : List ℕ) (h : StepWords frames
       pub list-asks : (length w ≡ 4818) × (isScheduler (p .number) ≡ true)
       list-asks = (step-long frames shared w h, ap (λ (q : Place). isScheduler (q .number)) at ∙ there .1)
 
-      pub first-at : (t : ℕ) → t ≡ getD w (3 + 130 * (p .number - 2)) 0 → t ≡ getD w (3 + 130 * (c - 2)) 0
-      first-at t e = e ∙ ap (λ (q : Place). getD w (3 + 130 * (q .number - 2)) 0) at
-
       pub instant-asks : (length w ≡ 4818) × (isScheduler (p .number) ≡ true) × (getD w 0 0 ≤ 64) × (getD w (67 + 130 * (p .number - 2)) 0 ≤ 64)
       instant-asks = (
         list-asks .0,
@@ -98,9 +96,6 @@ module _ (frames : List ℕ) (shared : ℕ) (w : List ℕ) (h : StepWords frames
       pub turn-asks : (1 ≤ t) × (t ≤ 64)
       turn-asks = is-thread
 
-      pub turn-byte : t < 256
-      turn-byte = let z = is-thread in omega arith
-
       pub turn-done : (v : List ℕ) (r : ℕ) → called r t v ≡ calledOf w (stepThread P s c t)
           → called r t v ≡ calledOf w (stepScheduler P s c (schedulerAt s c .active))
       turn-done v r k = by (schedulerAt s c .active) (first t q)
@@ -126,7 +121,7 @@ module _ (frames : List ℕ) (shared : ℕ) (w : List ℕ) (h : StepWords frames
         readies = count ∙ instant-readies w s (says frames shared w h) few c in-lists (there .0) (fit .next-room) (fit .entries)
 
         ended : called 0 0 v ≡ called 0 0 (pack (withScheduler c (record { active = readyThreads (s .threads) (schedulerAt s c .next); next = stillWaiting (s .threads) (schedulerAt s c .next) }) s))
-        ended = ap (called 0 0) (out ∙ is-pack _ _ (instant-says w s (says frames shared w h) few c in-lists (there .0) (fit .next-room) (fit .entries)))
+        ended = ap (called 0 0) (out ∙ is-pack _ _ (instant-says w s (says frames shared w h) few c in-lists (there .0) (fit .next-room) (fit .entries) idle))
 
         pub instant-nothing : k ≡ 0 → called 16 0 v ≡ calledOf w (stepScheduler P s c (schedulerAt s c .active))
         unfolding endInstant
@@ -182,17 +177,11 @@ module _ (frames : List ℕ) (shared : ℕ) (w : List ℕ) (h : StepWords frames
           thread : IsThread (c - 16)
           thread = unlinked-is (framesOf frames) P _ (fits-in frames shared w h) s c (shaped frames shared w h) (sym unlinked ∙ yes)
 
-          pub thread-low : 16 ≤ c
-          thread-low = let z = thread in omega arith
-
           pub thread-asks : (1 ≤ c - 16) × (c - 16 ≤ 64) × TurnChoice frames c
           thread-asks = (thread .0, thread .1, not-scheduler ∙ sym over)
             where
               over : isScheduler c ≡ false
               over = let z = thread in ap₂ _&&_ (le-leb 2 c (omega arith)) (lt-leb c 9 (omega arith))
-
-          pub thread-byte : c - 16 < 256
-          thread-byte = let z = thread in omega arith
 
           pub thread-steps : (r : Called) → r ≡ calledOf w (stepThread P s c (c - 16)) → r ≡ stepCall (framesOf frames) w c
           unfolding stepWithin
@@ -201,3 +190,106 @@ module _ (frames : List ℕ) (shared : ℕ) (w : List ℕ) (h : StepWords frames
         pub no-party : d ≡ false → called 15 0 w ≡ stepCall (framesOf frames) w c
         unfolding stepWithin
         no-party e = ap (calledOf w) (sym (if-no _ _ not-scheduler ∙ if-no _ _ (sym unlinked ∙ e))) ∙ sym whole
+
+  -- ---- by the thread that acts
+  module _ (file : File) (f : file ≡ fileOf P) (t : ℕ) (a : t ≡ actingIn (file .schedulers) w c) where
+    abbrev has : Bool
+    has = hasScheduler (file .schedulers) c
+
+    abbrev loose : Bool
+    loose = isUnlinkedWord w c
+
+    acting-cases : {Q : Type 0} → (has ≡ true → t ≡ getD w (3 + 130 * (c - 2)) 0 → Q) → (has ≡ false → loose ≡ true → t ≡ c - 16 → Q)
+        → (has ≡ false → loose ≡ false → t ≡ 0 → Q) → Q
+    unfolding actingIn
+    acting-cases {Q} first-active named nobody = by has refl loose refl
+      where
+        by : (b : Bool) → has ≡ b → (d : Bool) → loose ≡ d → Q
+        by true e d u = first-active e (a ∙ if-yes _ _ e)
+        by false e true u = named e u (a ∙ if-no _ _ e ∙ if-yes _ _ u)
+        by false e false u = nobody e u (a ∙ if-no _ _ e ∙ if-no _ _ u)
+
+    -- its turn
+    module _ (some : t ≡ 0 → ⊥) where
+      pub acting-asks : (1 ≤ t) × (t ≤ 64) × TurnChoice frames c
+      acting-asks =
+          acting-cases
+          (λ e z. let i = is-scheduler has file f refl e in let k = turn-asks i t z some in (k .0, k .1, turn-choice i))
+          (λ e u z. subst (λ (i : ℕ). (1 ≤ i) × (i ≤ 64) × TurnChoice frames c) (sym z) (thread-asks has file f refl e loose refl u))
+          (λ e u z. absurd (some z))
+
+      pub acting-byte : t < 256
+      acting-byte = let k = acting-asks .1 in omega arith
+
+      pub acting-steps : (v : List ℕ) (r : ℕ) → called r t v ≡ calledOf w (stepThread P s c t) → called r t v ≡ stepCall (framesOf frames) w c
+      acting-steps v r k =
+          acting-cases
+          (λ e z. scheduler-steps has file f refl e _ (turn-done (is-scheduler has file f refl e) t z some v r k))
+          (λ e u z. thread-steps has file f refl e loose refl u _ (k ∙ ap (λ (i : ℕ). calledOf w (stepThread P s c i)) z))
+          (λ e u z. absurd (some z))
+
+    -- where none acts
+    module _ (none : t ≡ 0) (b : Bool) (q : b ≡ hasScheduler (file .schedulers) c) where
+      pub nobody-steps : not b ≡ true → called 15 0 w ≡ stepCall (framesOf frames) w c
+      nobody-steps m =
+          acting-cases
+          (λ e z. absurd (true≢false (sym e ∙ sym q ∙ not-true b m)))
+          (λ e u z. absurd (let k = thread-asks has file f refl e loose refl u .0 in omega arith))
+          (λ e u z. no-party has file f refl e loose refl u)
+
+      module _ (yes : not b ≡ false) where
+        has-is : has ≡ true
+        has-is = sym q ∙ not-false b yes
+
+        is : isSchedulerOf P c ≡ true
+        is = is-scheduler has file f refl has-is
+
+        pub idle-place : isPlace c ≡ true
+        idle-place = party-place is
+
+        first-none : t ≡ getD w (3 + 130 * (c - 2)) 0
+        first-none =
+            acting-cases (λ e z. z) (λ e u z. absurd (true≢false (sym has-is ∙ e))) (λ e u z. absurd (true≢false (sym has-is ∙ e)))
+
+        module _ (p : Place) (at : p ≡ record { number = c }) where
+          pub idle-asks : (length w ≡ 4818) × (isScheduler (p .number) ≡ true) × (getD w 0 0 ≤ 64) × (getD w (67 + 130 * (p .number - 2)) 0 ≤ 64)
+          idle-asks = instant-asks is p at
+
+          module _ (v : List ℕ) (k : ℕ) (count : k ≡ length (readyWords w (wordsAt w (67 + 130 * (p .number - 2))))) (out : v ≡ withInstantEnded w (p .number - 2)) where
+            pub idle-nothing : k ≡ 0 → called 16 0 v ≡ stepCall (framesOf frames) w c
+            idle-nothing z =
+                scheduler-steps has file f refl has-is _
+                (instant-nothing is t first-none none v k (count-at is p at k count) (ended-at is p at v out) z)
+
+            pub idle-done : (k ≡ 0 → ⊥) → called 0 0 v ≡ stepCall (framesOf frames) w c
+            idle-done z =
+                scheduler-steps has file f refl has-is _
+                (instant-done is t first-none none v k (count-at is p at k count) (ended-at is p at v out) z)
+
+-- ---- the acting thread, as the code finds it
+module _ (n : ℕ) (w : List ℕ) (c : ℕ) (b : Bool) (q : b ≡ hasScheduler n c) where
+  pub acting-place : b ≡ true → isPlace c ≡ true
+  acting-place e = scheduler-place c (has-scheduler n c (sym q ∙ e) .0)
+
+  pub acting-list : b ≡ true → (p : Place) → p ≡ record { number = c } → isScheduler (p .number) ≡ true
+  acting-list e p at = ap (λ (x : Place). isScheduler (x .number)) at ∙ has-scheduler n c (sym q ∙ e) .0
+
+  pub acting-first : b ≡ true → (p : Place) → p ≡ record { number = c } → (r : ℕ) → r ≡ getD w (3 + 130 * (p .number - 2)) 0 → r ≡ actingIn n w c
+  unfolding actingIn
+  acting-first e p at r k = k ∙ ap (λ (x : Place). getD w (3 + 130 * (x .number - 2)) 0) at ∙ sym (if-yes _ _ (sym q ∙ e))
+
+  module _ (no : b ≡ false) (d : Bool) (u : d ≡ isUnlinkedWord w c) where
+    pub acting-named : d ≡ true → c - 16 ≡ actingIn n w c
+    unfolding actingIn
+    acting-named e = sym (if-no _ _ (sym q ∙ no) ∙ if-yes _ _ (sym u ∙ e))
+
+    pub acting-nobody : d ≡ false → 0 ≡ actingIn n w c
+    unfolding actingIn
+    acting-nobody e = sym (if-no _ _ (sym q ∙ no) ∙ if-no _ _ (sym u ∙ e))
+
+pub named-low : (w : List ℕ) (c : ℕ) (d : Bool) → d ≡ isUnlinkedWord w c → d ≡ true → 16 ≤ c
+named-low w c d u e = by (leb c 16) refl
+  where
+    by : (b : Bool) → leb c 16 ≡ b → 16 ≤ c
+    by true k = absurd (true≢false (sym e ∙ u ∙ sym (unlinked-low w c (leb-true c 16 k))))
+    by false k = let l = leb-false c 16 k in omega arith

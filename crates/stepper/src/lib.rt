@@ -1,5 +1,6 @@
-// The stepper: on any text and any lent words, the fresh state and one step.
+// The stepper: on any text and any lent words, the fresh state, one step, many steps.
 pub mod answer;
+pub mod batch;
 pub mod file;
 mod party;
 pub mod step;

@@ -3,9 +3,10 @@ use crate::answer::Answer;
 use crate::answer::answer_of;
 use crate::file::file_of;
 use crate::valid::step_valid;
+use language::limit::MOST_LINES;
 use language::refusal::WRONG_STATE;
 use language::verdict::Verdict;
-use layout::lay_out;
+use layout::lay_into;
 use machine::offset::STATE_LENGTH;
 use ranges::range::in_range;
 use states::fresh::write_fresh;
@@ -27,7 +28,8 @@ pub fn state_length() -> usize
 pub fn fresh(text: &[u8], state: &mut [u64]) -> Answer
     ensures { λ r. ⌜ answered r (now (state .exit)) ≡ freshText (now (text .entry)) (now (state .entry)) ⌝ }
 {
-    let l = lay_out(text);
+    let mut words = [0u64; MOST_LINES];
+    let l = lay_into(text, &mut words);
     let v = l.verdict;
     match v {
         Verdict::Rejected(n, j) => Answer::Rejected(n, j),
@@ -35,7 +37,6 @@ pub fn fresh(text: &[u8], state: &mut [u64]) -> Answer
             if state.len() != STATE_LENGTH {
                 return Answer::Refused(WRONG_STATE, 0);
             }
-            let words = l.words;
             let n = l.count;
             write_fresh(&words[..n], state);
             Answer::Done(0)
@@ -60,12 +61,12 @@ fn step_frames(frames: &[u64], state: &mut [u64], choice: u64) -> Answer
 pub fn step(text: &[u8], state: &mut [u64], choice: u64) -> Answer
     ensures { λ r. ⌜ answered r (now (state .exit)) ≡ stepText (now (text .entry)) (now (state .entry)) choice ⌝ }
 {
-    let l = lay_out(text);
+    let mut words = [0u64; MOST_LINES];
+    let l = lay_into(text, &mut words);
     let v = l.verdict;
     match v {
         Verdict::Rejected(n, j) => Answer::Rejected(n, j),
         Verdict::Accepted => {
-            let words = l.words;
             let n = l.count;
             step_frames(&words[..n], state, choice)
         }

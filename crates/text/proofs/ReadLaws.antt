@@ -1,4 +1,4 @@
--- Laws of the loop of `read_words`, which reads a text's lines one after the other: where the scan for the first wrong byte is, what the array holds, and what each return of the function gives. Assumes nothing.
+-- Laws of the loop of `read_into`, which reads a text's lines one after the other: where the scan for the first wrong byte is, what the lent words hold, and what each return of the function gives. Assumes nothing.
 use mathlib.Core.Path.{_≡_, refl, sym, ap, _∙_}
 use mathlib.Core.Bool.{Bool, true, false}
 use mathlib.Core.List.{List, [], _∷_, _++_, append-assoc}
@@ -10,13 +10,12 @@ use lib.ListN.{length, take, drop, set, replicate, length-map, length-append, le
 use lib.Seq.{drop-drop, take-all, set-at}
 use borrow.Author.Tests.{lt-ltb, le-ltb}
 use Rattle.text.specs.Frames.{lineWord, frameOfWord, wordsOf, textFrames}
-use Rattle.text.specs.inner.Reading.{firstWrong, readLines, reading, linesRead, wordArray, textRead, textWords}
+use Rattle.text.specs.inner.Reading.{firstWrong, readLines, reading, linesRead, wordArray, textRead, TextWords, readAs, textWords}
 use Rattle.text.specs.Reading.{Reading, frames, refused}
 use Rattle.text.specs.inner.Lines.{lineRead}
 use Rattle.text.specs.declared.line.Line.{Line}
 use Rattle.text.specs.declared.line.Line.the-variants.{Word, WrongAt}
 use Rattle.text.specs.declared.reading.TextRead.{TextRead}
-use Rattle.text.specs.declared.reading.TextWords.{TextWords}
 use Rattle.text.specs.declared.reading.TextRead.the-variants.{Frames, Refused}
 use Rattle.text.proofs.LineScan.{scan-whole, line-wrong, line-word}
 
@@ -114,6 +113,9 @@ unfolding wordsOf
 words-more zero bs = refl
 words-more (suc i) bs = ap (λ (ws : List ℕ). lineWord bs ∷ ws) (words-more i (drop 17 bs) ∙ ap (λ (cs : List ℕ). wordsOf i (drop 17 bs) ++ (lineWord cs ∷ [])) (line-behind i bs))
 
+pub zeros-length : (words : List ℕ) → words ≡ replicate 1024 0 → length words ≡ 1024
+zeros-length words e = ap length e ∙ length-replicate {A = ℕ} 1024 0
+
 array-start : (bs : List ℕ) → replicate 1024 0 ≡ wordArray 0 bs
 unfolding wordArray wordsOf
 array-start bs = refl
@@ -131,7 +133,7 @@ array-more i bs h =
     ∙ sym (append-assoc (wordsOf i bs) (lineWord (drop (i * 17) bs) ∷ []) (replicate (1024 - suc i) 0))
     ∙ ap (λ (ws : List ℕ). ws ++ replicate (1024 - suc i) 0) (sym (words-more i bs))
 
--- ---- the reader's loop: where the scan is, and what the array holds; and its answer
+-- ---- the reader's loop: where the scan is, and what the lent words hold; and its answer
 pub record Reader (bs words : List ℕ) (i at : ℕ) : Type 0 where
   pub scan : Scanning bs i at
   pub kept : words ≡ wordArray i bs
@@ -139,18 +141,15 @@ pub record Reader (bs words : List ℕ) (i at : ℕ) : Type 0 where
 pub reader-start : (bs words : List ℕ) → words ≡ replicate 1024 0 → Reader bs words 0 0
 reader-start bs words e = record { scan = scanning-start bs; kept = e ∙ array-start bs }
 
-abbrev answer : TextRead → List ℕ → TextWords
-answer r ws = record { read = r; words = ws }
-
 -- what the reading is gives the answer
-by-reading : (bs words : List ℕ) (r : Reading) → reading bs ≡ r → words ≡ wordArray (linesRead r) bs → answer (textRead r) words ≡ textWords bs
+by-reading : (bs words : List ℕ) (r : Reading) → reading bs ≡ r → words ≡ wordArray (linesRead r) bs → readAs (textRead r) words ≡ textWords bs
 unfolding textWords
-by-reading bs words r e k = ap (answer (textRead r)) k ∙ ap (λ (s : Reading). answer (textRead s) (wordArray (linesRead s) bs)) (sym e)
+by-reading bs words r e k = ap (readAs (textRead r)) k ∙ ap (λ (s : Reading). readAs (textRead s) (wordArray (linesRead s) bs)) (sym e)
 
-pub words-empty : (bs words : List ℕ) → words ≡ replicate 1024 0 → length bs ≡ 0 → answer (Refused 1 0) words ≡ textWords bs
+pub words-empty : (bs words : List ℕ) → words ≡ replicate 1024 0 → length bs ≡ 0 → readAs (Refused 1 0) words ≡ textWords bs
 words-empty bs words k h = by-reading bs words (refused 1 0) (read-empty bs h) (k ∙ array-start bs)
 
-pub words-over : (bs words : List ℕ) → words ≡ replicate 1024 0 → 17408 < length bs → answer (Refused 2 0) words ≡ textWords bs
+pub words-over : (bs words : List ℕ) → words ≡ replicate 1024 0 → 17408 < length bs → readAs (Refused 2 0) words ≡ textWords bs
 words-over bs words k h = by-reading bs words (refused 2 0) (read-over bs h) (k ∙ array-start bs)
 
 -- in the loop, line i has its place in the array; a line more; and the answers
@@ -171,15 +170,15 @@ module _ (bs words : List ℕ) (i at : ℕ) (d : Reader bs words i at) where
         kept = ap (λ (ws : List ℕ). set ws i w) (d .kept) ∙ ap (set (wordArray i bs) i) (here-word bs i at s h w q ∙ ap (λ (n : ℕ). lineWord (drop n bs)) (s .lines)) ∙ array-more i bs k;
       })
 
-  pub words-wrong : (l : Line) (j : ℕ) → LineAt bs at l → l ≡ WrongAt j → at < length bs → length bs ≤ 17408 → answer (Refused 3 i) words ≡ textWords bs
+  pub words-wrong : (l : Line) (j : ℕ) → LineAt bs at l → l ≡ WrongAt j → at < length bs → length bs ≤ 17408 → readAs (Refused 3 i) words ≡ textWords bs
   words-wrong l j e f h m = by-reading bs words (refused 3 i) (read-wrong bs i at (d .scan) h j (sym f ∙ line-at bs at l e) m) (d .kept)
 
-  pub words-whole : length bs ≤ at → (length bs ≡ 0 → ⊥) → length bs ≤ 17408 → answer (Frames i) words ≡ textWords bs
+  pub words-whole : length bs ≤ at → (length bs ≡ 0 → ⊥) → length bs ≤ 17408 → readAs (Frames i) words ≡ textWords bs
   words-whole h n m =
       let q = d .scan .lines in
       let z = d .scan .fits in
       let e : length (textFrames bs) ≡ i = length-frames bs ∙ omega arith in
-      ap (λ (k : ℕ). answer (Frames k) words) (sym e) ∙ by-reading bs words (frames (textFrames bs)) (read-whole bs i at (d .scan) h n m) (d .kept ∙ ap (λ (k : ℕ). wordArray k bs) (sym e))
+      ap (λ (k : ℕ). readAs (Frames k) words) (sym e) ∙ by-reading bs words (frames (textFrames bs)) (read-whole bs i at (d .scan) h n m) (d .kept ∙ ap (λ (k : ℕ). wordArray k bs) (sym e))
 
 pub ruleset words-laws = (words-empty, words-over, words-wrong, words-whole)
 

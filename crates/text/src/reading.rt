@@ -3,12 +3,13 @@ use crate::line::Line;
 use crate::line::read_line;
 use language::limit::LINE_LENGTH;
 use language::limit::MOST_BYTES;
-use language::limit::MOST_LINES;
 use language::refusal::EMPTY_TEXT;
 use language::refusal::LONG_TEXT;
 use language::refusal::MALFORMED_TEXT;
 ghost use mathlib.Core.Path.{_≡_};
-ghost use Rattle.text.specs.inner.Reading.{textWords};
+ghost use lib.ListN.{replicate};
+ghost use Rattle.language.specs.Limits.{mostLines};
+ghost use Rattle.text.specs.inner.Reading.{readAs, textWords};
 
 // How many frames a text has, or the number of its refusal and the frame that it names.
 pub enum TextRead {
@@ -16,25 +17,18 @@ pub enum TextRead {
     Refused(u8, u16),
 }
 
-// The same with the lines that were read, each as one number of 16 digits; 0 behind them.
-pub struct TextWords {
-    pub read: TextRead,
-    pub words: [u64; MOST_LINES],
-}
-
-// What any bytes read as, with their lines.
-pub fn read_words(text: &[u8]) -> TextWords
-    ensures { λ r. ⌜ r ≡ textWords (now (text .entry)) ⌝ }
+// What any bytes read as. Their lines go to the first of the lent words, each as one number of 16
+// digits; the words are all 0 before, so that 0 stands behind the lines.
+pub fn read_into(text: &[u8], words: &mut [u64]) -> TextRead
+    requires { ⌜ now words ≡ replicate mostLines 0 ⌝ }
+    ensures { λ r. ⌜ readAs r (now (words .exit)) ≡ textWords (now (text .entry)) ⌝ }
 {
     let n = text.len();
-    let mut words = [0u64; MOST_LINES];
     if n == 0 {
-        let read = TextRead::Refused(EMPTY_TEXT, 0);
-        return TextWords { read, words };
+        return TextRead::Refused(EMPTY_TEXT, 0);
     }
     if MOST_BYTES < n {
-        let read = TextRead::Refused(LONG_TEXT, 0);
-        return TextWords { read, words };
+        return TextRead::Refused(LONG_TEXT, 0);
     }
     let mut i: usize = 0;
     let mut at: usize = 0;
@@ -46,11 +40,9 @@ pub fn read_words(text: &[u8]) -> TextWords
                 i += 1;
             }
             Line::WrongAt(k) => {
-                let read = TextRead::Refused(MALFORMED_TEXT, i as u16);
-                return TextWords { read, words };
+                return TextRead::Refused(MALFORMED_TEXT, i as u16);
             }
         }
     }
-    let read = TextRead::Frames(i as u16);
-    TextWords { read, words }
+    TextRead::Frames(i as u16)
 }

@@ -11,6 +11,16 @@ extern "C" {
         words: usize,
         choice: u64,
     ) -> u32;
+    fn purkvaldi_steps(
+        text: *const u8,
+        length: usize,
+        state: *mut u64,
+        words: usize,
+        choices: *const u8,
+        choices_length: usize,
+        answers: *mut u32,
+        answers_length: usize,
+    ) -> u32;
     fn purkvaldi_listing_length() -> usize;
     fn purkvaldi_run(
         text: *const u8,
@@ -38,12 +48,7 @@ pub struct Listing<'o> {
 }
 
 /// The listing of a run of the bytes of a choices.txt, in the first bytes of `out`.
-pub fn run<'o>(
-    text: &[u8],
-    choices: &[u8],
-    state: &mut [u64],
-    out: &'o mut [u8],
-) -> Listing<'o> {
+pub fn run<'o>(text: &[u8], choices: &[u8], state: &mut [u64], out: &'o mut [u8]) -> Listing<'o> {
     let result = unsafe {
         purkvaldi_run(
             text.as_ptr(),
@@ -71,7 +76,8 @@ pub struct Answer {
 }
 
 impl Answer {
-    fn of_code(code: u32) -> Answer {
+    /// The answer of a code, as `steps` writes it.
+    pub fn of_code(code: u32) -> Answer {
         Answer {
             number: (code >> 16) as u8,
             detail: code as u16,
@@ -101,6 +107,22 @@ pub fn step(text: &[u8], state: &mut [u64], choice: u64) -> Answer {
             state.as_mut_ptr(),
             state.len(),
             choice,
+        )
+    })
+}
+
+/// Many choices on a state of any words, in one call; `answers` takes a code for each, which `Answer::of_code` reads.
+pub fn steps(text: &[u8], state: &mut [u64], choices: &[u8], answers: &mut [u32]) -> Answer {
+    Answer::of_code(unsafe {
+        purkvaldi_steps(
+            text.as_ptr(),
+            text.len(),
+            state.as_mut_ptr(),
+            state.len(),
+            choices.as_ptr(),
+            choices.len(),
+            answers.as_mut_ptr(),
+            answers.len(),
         )
     })
 }

@@ -60,6 +60,83 @@ fn garbage_states_are_14_and_stay() {
     }
 }
 
+/// The answers of these choices in one call, from this state on.
+fn in_one_call(text: &[u8], state: &mut [u64], choices: &[u8]) -> Vec<Answer> {
+    let mut codes = vec![u32::MAX; choices.len()];
+    assert_eq!(face::steps(text, state, choices, &mut codes), answer(0, 0));
+    codes.into_iter().map(Answer::of_code).collect()
+}
+
+#[test]
+fn choices_that_cannot_be_stepped_write_nothing() {
+    for (text, words, count, wanted) in [
+        (THREE, 4818, 2, answer(14, 0)),
+        (THREE, 4818, 4, answer(14, 0)),
+        (THREE, 4818, 0, answer(14, 0)),
+        (THREE, 4817, 3, answer(14, 0)),
+        (THREE, 0, 3, answer(14, 0)),
+        (&THREE[..40], 4818, 2, answer(3, 2)),
+        (&[], 0, 0, answer(1, 0)),
+    ] {
+        let mut state = fresh();
+        state.resize(words, 0);
+        let kept = state.clone();
+        let mut codes = vec![7; count];
+        assert_eq!(face::steps(text, &mut state, &[2; 3], &mut codes), wanted);
+        assert_eq!(state, kept);
+        assert_eq!(codes, vec![7; count]);
+    }
+}
+
+#[test]
+fn garbage_states_are_14_for_many_choices_too() {
+    let state = fresh();
+    for at in 0..4818 {
+        let mut changed = state.clone();
+        changed[at] = u64::MAX;
+        let kept = changed.clone();
+        for choices in [&[][..], &[2, 2]] {
+            let mut codes = vec![7; choices.len()];
+            let refused = face::steps(THREE, &mut changed, choices, &mut codes);
+            assert_eq!(refused, answer(14, 0), "word {at}");
+            assert_eq!(codes, vec![7; choices.len()]);
+        }
+        assert_eq!(changed, kept);
+    }
+}
+
+/// Many choices in one call are a call of `step` for each: every answer and every word, from the fresh state on and from where the
+/// last call stopped.
+#[test]
+fn many_choices_are_the_steps_one_by_one() {
+    let choices: Vec<u8> = any_choices()
+        .map(|c| if c < 128 { 2 + c % 3 } else { c })
+        .collect();
+    let mut texts = 0;
+    for vector in 0..1000 {
+        let text = read(&format!("tests/vectors/{vector:03}/prog.txt"));
+        let mut one_by_one = vec![0; face::state_length()];
+        if face::fresh(&text, &mut one_by_one) != answer(0, 0) {
+            continue;
+        }
+        texts += 1;
+        let mut at_once = one_by_one.clone();
+        for some in choices.chunks(170) {
+            let wanted: Vec<Answer> = some
+                .iter()
+                .map(|&choice| face::step(&text, &mut one_by_one, u64::from(choice)))
+                .collect();
+            assert_eq!(
+                in_one_call(&text, &mut at_once, some),
+                wanted,
+                "vector {vector}"
+            );
+            assert_eq!(at_once, one_by_one, "vector {vector}");
+        }
+    }
+    assert!(texts > 100, "only {texts} vectors can be stepped");
+}
+
 #[test]
 fn a_listing_is_that_of_the_second_program() {
     let mut state = vec![0; face::state_length()];

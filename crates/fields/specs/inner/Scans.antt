@@ -1,5 +1,5 @@
 -- The lowest frame with the fault 4 or 5, as functions that compute, and what the code's pass holds. No reader has to believe it: layout/proofs/Layouts and proofs/FramePass tie it to the definitions. Assumes nothing: definitions.
-use mathlib.Core.Bool.{not}
+use mathlib.Core.Bool.{Bool, not, _&&_}
 use mathlib.Core.List.{List, _++_}
 use mathlib.Core.Option.{Option, none, some}
 use Prim.Native.Nat.{ℕ, _-_}
@@ -8,10 +8,11 @@ use Rattle.basics.specs.If.{if_then_else_}
 use Rattle.basics.specs.Searches.{lowest}
 use Rattle.language.specs.Kinds.{isShared, isModule}
 use Rattle.language.specs.Limits.{mostShared}
+use Rattle.language.specs.declared.kind.Uses.{Uses}
 use Rattle.language.specs.declared.frame.Frame.{Frame}
 use Rattle.program.specs.Trees.{frameAt}
 use Rattle.program.specs.Programs.{cellsOf}
-use Rattle.fields.specs.Fields.{headerFine, countOf, frameFine}
+use Rattle.fields.specs.Fields.{headerFine, countOf, fieldFine, frameFine}
 use Rattle.fields.specs.declared.found.Found.{Found}
 use Rattle.fields.specs.declared.found.Found.the-variants.{At, Nowhere}
 use Rattle.fields.specs.declared.field.Tally.{Tally}
@@ -31,6 +32,10 @@ found (some j) = At j
 abbrev pub optionOf : Found → Option ℕ
 optionOf Nowhere = none
 optionOf (At j) = some j
+
+-- ---- 5: the fields of frame i, which is f, are right for these uses
+abbrev pub fieldsFine : List Frame → ℕ → Frame → Uses → Bool
+fieldsFine fs i f us = fieldFine fs i f (us .s) (f .s) && fieldFine fs i f (us .a) (f .a) && fieldFine fs i f (us .b) (f .b) && fieldFine fs i f (us .c) (f .c)
 
 -- ---- 5: of the frames passed, how many are shared cells and modules, and the types of the cells in an array of 16
 unfoldable pub tallyOf : List Frame → Tally

@@ -5,7 +5,7 @@ use Rattle.language.specs.declared.verdict.Verdict.{Verdict}
 use Rattle.language.specs.declared.verdict.Verdict.the-variants.{Rejected}
 use Rattle.text.specs.Reading.{Reading, frames, refused}
 use Rattle.text.specs.inner.Reading.{reading, linesRead, textWords}
-use Rattle.layout.specs.declared.LaidOut.{LaidOut}
+use Rattle.layout.specs.declared.Laid.{Laid}
 use Rattle.layout.specs.inner.Scans.{layoutOf}
 
 -- 1 to 3, then 4 to 7
@@ -17,6 +17,14 @@ layoutRead (refused n j) = Rejected n j
 unfoldable pub layoutVerdict : List ℕ → Verdict
 layoutVerdict bs = layoutRead (reading bs)
 
--- with the lines that were read, and how many they are
+-- with the lines that were read, and how many they are: the answer of the code, and its lent words
+pub record LaidOut : Type 0 where
+  pub verdict : Verdict
+  pub count : ℕ
+  pub words : List ℕ
+
+abbrev pub laidAs : Laid → List ℕ → LaidOut
+laidAs l ws = record { verdict = l .verdict; count = l .count; words = ws }
+
 unfoldable pub laidOut : List ℕ → LaidOut
 laidOut bs = record { verdict = layoutVerdict bs; count = linesRead (reading bs); words = textWords bs .words }

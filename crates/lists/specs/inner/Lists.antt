@@ -16,18 +16,19 @@ use Rattle.machine.specs.Waits.{keepIf}
 use Rattle.machine.specs.Words.{wordsAt}
 use Rattle.machine.specs.inner.Blocks.{part, pasted, padded}
 use Rattle.machine.specs.inner.Ranges.{allBelow}
-use Rattle.lists.specs.declared.list.Sorted.{Sorted}
 
 -- the words without the first, and 0 behind
 unfoldable pub shifted : List ℕ → List ℕ
 shifted ws = drop 1 ws ++ (0 ∷ [])
 
--- the first active thread of scheduler k has left
+-- the first active thread of scheduler k has left; 64 are its space
 unfoldable pub withoutFirst : List ℕ → ℕ → List ℕ
 withoutFirst w k =
     let at = schedulersAt + schedulerLength * k in
-    if eqb (getD w at 0) 0 then w else
-    set (pasted w (at + 1) (shifted (part w (at + 1) mostThreads)) mostThreads) at (getD w at 0 - 1)
+    let n = getD w at 0 in
+    if eqb n 0 then w else
+    if ltb mostThreads n then w else
+    set (pasted w (at + 1) (shifted (part w (at + 1) n)) n) at (n - 1)
 
 -- entry e stands at position p of the list at that place, of n members; those from there on stand
 -- behind it
@@ -66,18 +67,19 @@ unfoldable pub waitingWords : List ℕ → List ℕ → List ℕ
 waitingWords w [] = []
 waitingWords w (e ∷ es) = keepIf (not (isReadyWord w e)) e (waitingWords w es)
 
-unfoldable pub sortedOf : List ℕ → List ℕ → Sorted
-sortedOf w es =
-    record {
-      readies = length (readyWords w es);
-      ready = padded mostThreads (readyWords w es);
-      waits = length (waitingWords w es);
-      waiting = padded mostThreads (waitingWords w es);
-    }
+-- the next list behind the active list at that place, sorted: the threads of the ready entries in
+-- the active list's space, and in their own those that wait, with 0 behind
+unfoldable pub sortedIn : List ℕ → ℕ → List ℕ
+sortedIn w at =
+    let es = wordsAt w (at + listLength) in
+    let n = getD w (at + listLength) 0 in
+    pasted (pasted w (at + 1) (readyWords w es) (length (readyWords w es)))
+    (at + listLength + 1) (padded n (waitingWords w es)) n
 
--- scheduler k's ready entries have become active, the others stay
+-- scheduler k's ready entries have become active, the others stay; it had no active thread
 unfoldable pub withInstantEnded : List ℕ → ℕ → List ℕ
 withInstantEnded w k =
-    let x = sortedOf w (wordsAt w (nextListAt + schedulerLength * k)) in
-    pasted (pasted w (schedulersAt + schedulerLength * k) (x .readies ∷ x .ready) listLength)
-    (nextListAt + schedulerLength * k) (x .waits ∷ x .waiting) listLength
+    let at = schedulersAt + schedulerLength * k in
+    let es = wordsAt w (nextListAt + schedulerLength * k) in
+    set (set (sortedIn w at) at (length (readyWords w es)))
+    (nextListAt + schedulerLength * k) (length (waitingWords w es))

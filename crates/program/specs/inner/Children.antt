@@ -1,15 +1,32 @@
--- How the code reads the child that a field names. No reader has to believe it: proofs/FrameLaws ties it to the children of a frame. Assumes nothing: definitions.
+-- How the code reads the children of a frame. No reader has to believe it: proofs/FrameLaws ties it to the list of them. Assumes nothing: definitions.
 use mathlib.Core.Bool.{Bool, true, false}
-use mathlib.Core.List.{List, [], _∷_}
-use Rattle.language.specs.Kinds.{Child}
+use mathlib.Core.List.{List, [], _∷_, _++_}
+use Rattle.language.specs.Kinds.{uses, Child, child, childIn}
 use Rattle.language.specs.declared.kind.Class.{Class}
-use Rattle.program.specs.declared.frames.ChildRead.{ChildRead}
-use Rattle.program.specs.declared.frames.ChildRead.the-variants.{ChildAt, NoChild}
+use Rattle.language.specs.declared.kind.Uses.{Uses}
+use Rattle.language.specs.declared.frame.Frame.{Frame}
+use Rattle.program.specs.declared.frames.Children.{Children}
+use Rattle.program.specs.declared.frames.Children.the-variants.{Nothing, One, Two, Three}
 
--- a field names at most one child
-abbrev pub childRead : List Child → ChildRead
-childRead [] = NoChild
-childRead (c ∷ cs) = ChildAt (c .class) (c .at)
+-- a list of at most three children, and back
+abbrev pub childrenIn : List Child → Children
+childrenIn [] = Nothing
+childrenIn (c ∷ []) = One (c .class) (c .at)
+childrenIn (c ∷ d ∷ []) = Two (c .class) (c .at) (d .class) (d .at)
+childrenIn (c ∷ d ∷ e ∷ cs) = Three (c .class) (c .at) (d .class) (d .at) (e .class) (e .at)
+
+abbrev pub listOf : Children → List Child
+listOf Nothing = []
+listOf (One k a) = child k a ∷ []
+listOf (Two k a l b) = child k a ∷ child l b ∷ []
+listOf (Three k a l b m c) = child k a ∷ child l b ∷ child m c ∷ []
+
+-- the children of a frame whose fields have these uses
+abbrev pub childrenBy : Uses → Frame → Children
+childrenBy us f = childrenIn (childIn (us .a) (f .a) ++ childIn (us .b) (f .b) ++ childIn (us .c) (f .c))
+
+abbrev pub childrenOf : Frame → Children
+childrenOf f = childrenBy (uses (f .kind)) f
 
 -- the class that a child is of is the class that it is to be of
 abbrev pub sameClass : Class → Class → Bool

@@ -2,14 +2,15 @@
 use mathlib.Core.Path.{_≡_}
 use mathlib.Core.List.{List}
 use mathlib.Core.Bool.{true}
-use Prim.Native.Nat.{ℕ, _-_, _≤_}
-use lib.ListN.{length}
-use Rattle.language.specs.Places.{isScheduler}
+use Prim.Native.Nat.{ℕ, _+_, _-_, _*_, _≤_}
+use lib.ListN.{length, getD}
+use Rattle.basics.specs.If.{if_then_else_}
+use Rattle.language.specs.Places.{home, isScheduler, hasScheduler}
 use Rattle.language.specs.Limits.{mostLines, mostCells}
 use Rattle.text.specs.Frames.{framesOf}
 use Rattle.program.specs.Programs.{Program, programOf}
 use Rattle.layout.specs.Faults.{NoFault}
-use Rattle.machine.specs.Offsets.{cellsAt}
+use Rattle.machine.specs.Offsets.{schedulersAt, schedulerLength, cellsAt, threadOwnerFrom}
 use Rattle.machine.specs.State.{State, threadAt, usedCells}
 use Rattle.machine.specs.Turns.{isSchedulerOf}
 use Rattle.machine.specs.Words.{unpack}
@@ -18,6 +19,7 @@ use Rattle.machine.specs.inner.Blocks.{pasted, cellWords}
 use Rattle.machine.specs.Calls.{Called}
 use Rattle.operations.specs.declared.Who.{Who}
 use Rattle.states.specs.inner.Threads.{wordsOf}
+use Rattle.states.specs.inner.Parties.{isUnlinkedWord}
 use Rattle.acts.specs.declared.act.Acted.{Acted}
 use Rattle.acts.specs.inner.Fates.{popped, turned, Room}
 use Rattle.turns.specs.inner.Acts.{ActedOn, turnIn}
@@ -49,6 +51,13 @@ pub record StepWords (frames : List ℕ) (shared : ℕ) (w : List ℕ) : Type 0 
 -- the choice of a turn: a scheduler of the file, or none at all
 abbrev pub TurnChoice : List ℕ → ℕ → Type 0
 TurnChoice frames c = isSchedulerOf (programOf (framesOf frames)) c ≡ isScheduler c
+
+-- the thread that acts at a choice, by the words: the first active one of a scheduler of a file with n, or the unlinked one that the
+-- choice names; 0 where none acts
+unfoldable pub actingIn : ℕ → List ℕ → ℕ → ℕ
+actingIn n w c =
+    if hasScheduler n c then getD w (schedulersAt + 1 + schedulerLength * (c - home)) 0 else
+    if isUnlinkedWord w c then c - threadOwnerFrom else 0
 
 -- who acts in the turn of thread t
 abbrev pub whoIn : List ℕ → ℕ → List ℕ → ℕ → Who

@@ -9,7 +9,6 @@ use Rattle.basics.specs.If.{if_then_else_}
 use Rattle.language.specs.Limits.{lineLength, mostLines, mostBytes}
 use Rattle.language.specs.Refusals.{emptyText, longText, malformedText}
 use Rattle.text.specs.Frames.{wordsOf, textFrames}
-use Rattle.text.specs.declared.reading.TextWords.{TextWords}
 use Rattle.text.specs.declared.reading.TextRead.{TextRead}
 use Rattle.text.specs.declared.reading.TextRead.the-variants.{Frames, Refused}
 use Rattle.text.specs.Reading.{rightAt, Reading, frames, refused}
@@ -41,6 +40,13 @@ linesRead (refused n j) = j
 unfoldable pub wordArray : ℕ → List ℕ → List ℕ
 wordArray n bs = wordsOf n bs ++ replicate (mostLines - n) 0
 
--- the reader's whole answer
+-- the reader's whole answer, and what its lent words hold behind it
+pub record TextWords : Type 0 where
+  pub read : TextRead
+  pub words : List ℕ
+
+abbrev pub readAs : TextRead → List ℕ → TextWords
+readAs r ws = record { read = r; words = ws }
+
 unfoldable pub textWords : List ℕ → TextWords
-textWords bs = record { read = textRead (reading bs); words = wordArray (linesRead (reading bs)) bs }
+textWords bs = readAs (textRead (reading bs)) (wordArray (linesRead (reading bs)) bs)

@@ -44,6 +44,25 @@ fn run(case: &Case, state: &mut [u64], answers: &mut [u64; 21]) -> Option<()> {
     Some(())
 }
 
+/// All choices of a case in one call, beside a call for each: the same answers, the same words.
+fn at_once(case: &Case, state: &mut [u64]) -> bool {
+    let text = &case.program;
+    let mut choices = choices_of(case);
+    choices.truncate(200);
+    let refused = face::fresh(text, state);
+    let mut words = state.to_vec();
+    let mut codes = vec![u32::MAX; choices.len()];
+    let answer = face::steps(text, &mut words, &choices, &mut codes);
+    if refused.number != 0 {
+        return answer == refused && words == state && codes.iter().all(|&code| code == u32::MAX);
+    }
+    let same = choices
+        .iter()
+        .zip(codes)
+        .all(|(&choice, code)| face::step(text, state, u64::from(choice)) == Answer::of_code(code));
+    answer.number == 0 && same && words == state
+}
+
 /// Words that no caller should lend: an answer, and nothing written where it is a refusal.
 fn garbage(text: &[u8], state: &mut [u64], seed: u64) -> bool {
     let mut random = seed.wrapping_mul(0x9E37_79B9_7F4A_7C15) | 1;
@@ -114,6 +133,10 @@ fn main() {
                 if run(&case, &mut state, &mut answers).is_none() {
                     differences += 1;
                     println!("seed {seed} case {cases}: a step differs");
+                }
+                if !at_once(&case, &mut state) {
+                    differences += 1;
+                    println!("seed {seed} case {cases}: many choices differ from one by one");
                 }
                 if !garbage(&case.program, &mut state, cases) {
                     differences += 1;

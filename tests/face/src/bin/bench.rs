@@ -1,5 +1,5 @@
-//! bench: the time of a check of accepted files of several lengths and of a step, proved and second side by side, and the stack
-//! below the proved check and the proved step.
+//! bench: times of the check and of a step, proved and second side by side, how the check grows, and the stack below each call, as
+//! one table whose rows keep their names, so that two runs can be compared line by line.
 use std::time::Instant;
 
 /// An accepted file of n lines: modules whose bodies nest, each with lets, stores, loops and starts.
@@ -80,38 +80,29 @@ fn looping() -> Vec<u8> {
     text
 }
 
-/// Nanoseconds of a step of scheduler 2: in a run's listing, by the public call, which reads and validates anew, and by the
-/// second program in a run's listing.
-fn step_times(text: &[u8]) -> (u128, u128, u128) {
-    const STEPS: u128 = 16_384;
-    let choices = b"02\n".repeat(STEPS as usize);
-    let mut state = vec![0; face::state_length()];
-    let mut out = vec![0; face::listing_length()];
-    let best = |run: &mut dyn FnMut()| {
-        (0..20)
-            .map(|_| {
-                let start = Instant::now();
-                run();
-                start.elapsed().as_nanos() / STEPS
-            })
-            .min()
-            .unwrap()
-    };
-    let inside = best(&mut || {
-        let listing = face::run(text, &choices, &mut state, &mut out);
-        assert_eq!(listing.answer.number, 0);
-    });
-    let theirs = best(&mut || {
-        std::hint::black_box(second::listing::run(text, &choices));
-    });
-    assert_eq!(face::fresh(text, &mut state).number, 0);
-    let public = best(&mut || {
-        for _ in 0..STEPS {
-            assert_eq!(face::step(text, &mut state, 2).number, 0);
-        }
-    });
-    (inside, public, theirs)
+const STEPS: usize = 16_384;
+
+/// The best of twenty rounds, for each step.
+fn best_step(mut round: impl FnMut()) -> f64 {
+    (0..20)
+        .map(|_| {
+            let start = Instant::now();
+            round();
+            start.elapsed().as_nanos() as f64 / STEPS as f64
+        })
+        .fold(f64::INFINITY, f64::min)
 }
+
+/// A row of the table: ours, the second program's where it does the same, and the ratio.
+fn row(name: &str, ours: f64, theirs: Option<f64>) {
+    match theirs {
+        Some(t) => println!("{name:<44} {ours:>10.0} ns {t:>10.0} ns {:>6.2}", ours / t),
+        None => println!("{name:<44} {ours:>10.0} ns"),
+    }
+}
+
+/// The file whose recursion goes deepest: 24 deep, lets all the way.
+const DEEPEST: &[u8] = include_bytes!("../../deep.txt");
 
 /// How many bytes of a painted stack a call changes.
 fn stack_used(call: impl FnOnce() + Send + 'static) -> usize {
@@ -141,41 +132,123 @@ fn stack_used(call: impl FnOnce() + Send + 'static) -> usize {
         .unwrap()
 }
 
-fn main() {
-    println!("lines  proved ns  second ns  ratio");
+/// Checks of accepted files, and how their time grows with the lines: 8 is linear from 128 to 1,024.
+fn checks() {
+    let mut ours_at = Vec::new();
     for lines in [9, 100, 128, 256, 512, 1024] {
         let text = accepted(lines);
         let (ours, theirs) = (
-            nanoseconds(face::check, &text),
-            nanoseconds(face::second_check, &text),
+            nanoseconds(face::check, &text) as f64,
+            nanoseconds(face::second_check, &text) as f64,
         );
-        println!(
-            "{:5}  {:9}  {:9}  {:.2}",
-            text.len() / 17,
-            ours,
-            theirs,
-            ours as f64 / theirs as f64
-        );
+        ours_at.push((lines, ours));
+        row(&format!("check, {} lines", text.len() / 17), ours, Some(theirs));
     }
+    let at = |lines| ours_at.iter().find(|x| x.0 == lines).unwrap().1;
+    println!(
+        "{:<44} {:>10.2} times",
+        "check, 1,024 lines to 128",
+        at(1024) / at(128)
+    );
+}
+
+/// Steps of scheduler 2: in a run's listing; by one public call each, which reads and validates anew; as one of many choices
+/// in one public call.
+fn steps() {
     let text = looping();
     assert_eq!(face::check(&text), (0, 0));
-    let (inside, public, theirs) = step_times(&text);
-    println!(
-        "a step in a run with its listing: {inside} ns, the second program {theirs} ns, ratio {:.2}; by the public call {public} ns",
-        inside as f64 / theirs as f64
-    );
-    let text = accepted(1024);
-    let stack = stack_used(move || {
-        std::hint::black_box(face::check(&text));
-    });
-    println!("stack below the proved check of 1,024 lines: about {stack} bytes");
-    let text = accepted(1024);
+    let choices = b"02\n".repeat(STEPS);
     let mut state = vec![0; face::state_length()];
-    face::fresh(&text, &mut state);
-    let stack = stack_used(move || {
-        for _ in 0..40 {
-            std::hint::black_box(face::step(&text, &mut state, 2));
+    let mut out = vec![0; face::listing_length()];
+    let inside = best_step(|| {
+        assert_eq!(
+            face::run(&text, &choices, &mut state, &mut out).answer.number,
+            0
+        );
+    });
+    let theirs = best_step(|| {
+        std::hint::black_box(second::listing::run(&text, &choices));
+    });
+    row("a step in a run, with its line", inside, Some(theirs));
+    assert_eq!(face::fresh(&text, &mut state).number, 0);
+    let public = best_step(|| {
+        for _ in 0..STEPS {
+            assert_eq!(face::step(&text, &mut state, 2).number, 0);
         }
     });
-    println!("stack below the proved step of 1,024 lines: about {stack} bytes");
+    row("a step by the public call, 15 lines", public, None);
+    let many = vec![2; STEPS];
+    let mut answers = vec![0; STEPS];
+    let batch = best_step(|| {
+        assert_eq!(face::steps(&text, &mut state, &many, &mut answers).number, 0);
+    });
+    assert!(answers.iter().all(|code| code >> 16 == 0));
+    row("a step as one of many in a public call", batch, None);
+}
+
+/// The deepest stack of each call, on the file whose recursion goes deepest and on one of 1,024 lines.
+fn stacks() {
+    for (name, text) in [
+        ("24 deep", DEEPEST.to_vec()),
+        ("1,024 lines", accepted(1024)),
+    ] {
+        let fresh_state = || {
+            let mut state = vec![0; face::state_length()];
+            assert_eq!(face::fresh(&text, &mut state).number, 0);
+            state
+        };
+        let bytes = |what: &str, used: usize| {
+            println!("{:<44} {used:>10} bytes", format!("stack, {what}, {name}"));
+        };
+        let t = text.clone();
+        bytes(
+            "check",
+            stack_used(move || {
+                std::hint::black_box(face::check(&t));
+            }),
+        );
+        let (t, mut state) = (text.clone(), fresh_state());
+        bytes(
+            "fresh",
+            stack_used(move || {
+                std::hint::black_box(face::fresh(&t, &mut state));
+            }),
+        );
+        let (t, mut state) = (text.clone(), fresh_state());
+        bytes(
+            "step",
+            stack_used(move || {
+                for _ in 0..200 {
+                    std::hint::black_box(face::step(&t, &mut state, 2));
+                }
+            }),
+        );
+        let (t, mut state) = (text.clone(), fresh_state());
+        bytes(
+            "steps",
+            stack_used(move || {
+                let mut answers = vec![0; 200];
+                std::hint::black_box(face::steps(&t, &mut state, &[2; 200], &mut answers));
+            }),
+        );
+        let (t, mut state) = (text.clone(), fresh_state());
+        let mut out = vec![0; face::listing_length()];
+        bytes(
+            "run",
+            stack_used(move || {
+                let choices = b"02\n".repeat(200);
+                std::hint::black_box(face::run(&t, &choices, &mut state, &mut out).answer);
+            }),
+        );
+    }
+}
+
+/// With the argument `times`, the times alone.
+fn main() {
+    println!("{:<44} {:>13} {:>13} {:>6}", "", "proved", "second", "ratio");
+    checks();
+    steps();
+    if std::env::args().nth(1).as_deref() != Some("times") {
+        stacks();
+    }
 }

@@ -4,8 +4,11 @@ use Rattle.checker.proofs.CheckLaws.{check-room, check-length, check-fi
 use Rattle.checker.proofs.check.check.Statement.{statement}
 use Rattle.checker.proofs.check.check.Tie as tie
 
-lay-out-requires : tie.Need-lay-out-requires
-lay-out-requires c κs = search needs
+slice-aggregate-lay-into : tie.Need-slice-aggregate-lay-into
+slice-aggregate-lay-into c = search needs
+
+lay-into-requires : tie.Need-lay-into-requires
+lay-into-requires c κs = search needs
 
 enum-known-v : tie.Need-enum-known-v
 enum-known-v c = search needs
@@ -32,7 +35,8 @@ pub check-spec : {M : Type 1} → statement M
 check-spec =
     tie.close
     (tie.spec
-    lay-out-requires
+    slice-aggregate-lay-into
+    lay-into-requires
     enum-known-v
     enum-told
     array-share-prefix-words

@@ -1,19 +1,11 @@
 -- `type_in` meets its contract. Assumes nothing.
-use mathlib.Core.Path.{_≡_}
-use lib.ListN.{length}
 use borrow.Author.Needs.{needs}
-use Rattle.rules.proofs.Lists.{prefix-length}
+use lib.Seq.{length-take-le}
 use Rattle.checker.proofs.conduct.type_in.Statement.{statement}
 use Rattle.checker.proofs.conduct.type_in.Tie as tie
 
-array-share-prefix-scope : tie.Need-array-share-prefix-scope
-array-share-prefix-scope c = search needs
-
 slice-aggregate-type-of : tie.Need-slice-aggregate-type-of
-slice-aggregate-type-of c =
-    let at = c .before .before .before in
-    let wide : length (at .args .t3) ≡ 25 = search needs in
-    prefix-length (at .args .t3) (at .args .n) wide (at .pre .1)
+slice-aggregate-type-of c = search (length-take-le, needs)
 
 type-of-requires : tie.Need-type-of-requires
 type-of-requires c κs = search needs
@@ -22,5 +14,4 @@ returns : tie.Need-returns
 returns c = search needs
 
 pub type-in-spec : {M : Type 1} → statement M
-type-in-spec =
-    tie.close (tie.spec array-share-prefix-scope slice-aggregate-type-of type-of-requires returns)
+type-in-spec = tie.close (tie.spec slice-aggregate-type-of type-of-requires returns)

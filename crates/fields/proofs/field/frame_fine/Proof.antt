@@ -1,62 +1,79 @@
 -- `frame_fine` meets its contract. Assumes nothing.
 use borrow.Author.Needs.{needs}
-use Rattle.fields.proofs.FramePass.{frame-laws}
+use Rattle.fields.proofs.Tallies.{a-shared}
+use Rattle.fields.proofs.FieldsByKind.{frame-here, frame-header, frame-unknown, frame-statement, frame-expression}
 use Rattle.fields.proofs.field.frame_fine.Statement.{statement}
 use Rattle.fields.proofs.field.frame_fine.Tie as tie
-
-kind-fine-requires : tie.Need-kind-fine-requires
-kind-fine-requires c κs = search needs
-
-returns : tie.Need-returns
-returns c = search frame-laws
 
 frame-at-requires : tie.Need-frame-at-requires
 frame-at-requires c κs = search needs
 
-uses-of-requires : tie.Need-uses-of-requires
-uses-of-requires c κs = search needs
+enum-told : tie.Need-enum-told
+enum-told c = search needs
 
-cast-field-fine : tie.Need-cast-field-fine
-cast-field-fine c = search needs
+enum-known-kind : tie.Need-enum-known-kind
+enum-known-kind c = search needs
 
-field-fine-requires : tie.Need-field-fine-requires
-field-fine-requires c κs = search needs
+shared-fine-requires : tie.Need-shared-fine-requires
+shared-fine-requires c κs = (search needs, search needs, search needs, search needs, search a-shared)
+
+enum-told-2 : tie.Need-enum-told-2
+enum-told-2 c = search needs
+
+module-fine-requires : tie.Need-module-fine-requires
+module-fine-requires c κs = search needs
+
+enum-known-kind-2 : tie.Need-enum-known-kind-2
+enum-known-kind-2 c = search needs
+
+statement-fine-requires : tie.Need-statement-fine-requires
+statement-fine-requires c κs = search needs
+
+enum-known-kind-3 : tie.Need-enum-known-kind-3
+enum-known-kind-3 c = search needs
+
+expression-fine-requires : tie.Need-expression-fine-requires
+expression-fine-requires c κs = search needs
+
+enum-told-3 : tie.Need-enum-told-3
+enum-told-3 c = search needs
+
+returns : tie.Need-returns
+returns c = search frame-header
 
 returns-2 : tie.Need-returns-2
-returns-2 c = search frame-laws
-
-field-fine-requires-2 : tie.Need-field-fine-requires-2
-field-fine-requires-2 c κs = search needs
+returns-2 c = search frame-here
 
 returns-3 : tie.Need-returns-3
-returns-3 c = search frame-laws
-
-field-fine-requires-3 : tie.Need-field-fine-requires-3
-field-fine-requires-3 c κs = search needs
+returns-3 c = search frame-here
 
 returns-4 : tie.Need-returns-4
-returns-4 c = search frame-laws
-
-field-fine-requires-4 : tie.Need-field-fine-requires-4
-field-fine-requires-4 c κs = search needs
+returns-4 c = search frame-statement
 
 returns-5 : tie.Need-returns-5
-returns-5 c = search frame-laws
+returns-5 c = search frame-expression
+
+returns-6 : tie.Need-returns-6
+returns-6 c = search frame-unknown
 
 pub frame-fine-spec : {M : Type 1} → statement M
 frame-fine-spec =
     tie.close
     (tie.spec
-    kind-fine-requires
-    returns
     frame-at-requires
-    uses-of-requires
-    cast-field-fine
-    field-fine-requires
+    enum-told
+    enum-known-kind
+    shared-fine-requires
+    enum-told-2
+    module-fine-requires
+    enum-known-kind-2
+    statement-fine-requires
+    enum-known-kind-3
+    expression-fine-requires
+    enum-told-3
+    returns
     returns-2
-    field-fine-requires-2
     returns-3
-    field-fine-requires-3
     returns-4
-    field-fine-requires-4
-    returns-5)
+    returns-5
+    returns-6)

@@ -1,62 +1,78 @@
 -- `row_first` meets its contract. Assumes nothing.
 use borrow.Author.Needs.{needs}
-use Rattle.layout.proofs.DisorderPass.{row-within, rows-within, row-laws}
+use Rattle.layout.proofs.DisorderPass.{row-within, row-none, row-one, row-two, row-last, row-three}
 use Rattle.layout.proofs.in_order.row_first.Statement.{statement}
 use Rattle.layout.proofs.in_order.row_first.Tie as tie
 
-uses-of-requires : tie.Need-uses-of-requires
-uses-of-requires c κs = search needs
+cast-stop : tie.Need-cast-stop
+cast-stop c = search needs
 
-cast-field-first : tie.Need-cast-field-first
-cast-field-first c = search needs
-
-field-first-requires : tie.Need-field-first-requires
-field-first-requires c κs = search needs
+children-of-requires : tie.Need-children-of-requires
+children-of-requires c κs = search needs
 
 enum-told : tie.Need-enum-told
 enum-told c = search needs
 
-enum-known-t : tie.Need-enum-known-t
-enum-known-t c = search needs
+enum-known-k : tie.Need-enum-known-k
+enum-known-k c = search needs
 
-field-first-requires-2 : tie.Need-field-first-requires-2
-field-first-requires-2 c κs = (search needs, search needs, search (row-within, needs))
+child-first-requires : tie.Need-child-first-requires
+child-first-requires c κs = search needs
+
+enum-known-k-2 : tie.Need-enum-known-k-2
+enum-known-k-2 c = search needs
+
+pair-first-requires : tie.Need-pair-first-requires
+pair-first-requires c κs = search needs
+
+enum-known-k-3 : tie.Need-enum-known-k-3
+enum-known-k-3 c = search needs
+
+child-first-requires-2 : tie.Need-child-first-requires-2
+child-first-requires-2 c κs = search needs
 
 enum-told-2 : tie.Need-enum-told-2
 enum-told-2 c = search needs
 
-enum-known-s : tie.Need-enum-known-s
-enum-known-s c = search needs
+enum-known-t : tie.Need-enum-known-t
+enum-known-t c = search needs
 
--- written out: `search` takes too many steps to tell the facts of the two calls apart
-field-first-requires-3 : tie.Need-field-first-requires-3
-field-first-requires-3 c κs =
-    let for-b = c .before .before .before in
-    let for-c = for-b .before .before .before .before in
-    (search needs, search needs, rows-within _ _ _ (search needs) _ _ _ _ _ _ (for-b .before .before .t .given .1) (for-c .field-first .ensures) (c .before .s .given .1) (for-b .field-first2 .ensures))
+pair-first-requires-2 : tie.Need-pair-first-requires-2
+pair-first-requires-2 c κs = (search needs, search needs, search (row-within, needs), search needs)
 
 returns : tie.Need-returns
-returns c = search row-laws
+returns c = search row-none
 
 returns-2 : tie.Need-returns-2
-returns-2 c = search row-laws
+returns-2 c = search row-one
 
 returns-3 : tie.Need-returns-3
-returns-3 c = search row-laws
+returns-3 c = search row-two
+
+returns-4 : tie.Need-returns-4
+returns-4 c = search row-last
+
+returns-5 : tie.Need-returns-5
+returns-5 c = search row-three
 
 pub row-first-spec : {M : Type 1} → statement M
 row-first-spec =
     tie.close
     (tie.spec
-    uses-of-requires
-    cast-field-first
-    field-first-requires
+    cast-stop
+    children-of-requires
     enum-told
-    enum-known-t
-    field-first-requires-2
+    enum-known-k
+    child-first-requires
+    enum-known-k-2
+    pair-first-requires
+    enum-known-k-3
+    child-first-requires-2
     enum-told-2
-    enum-known-s
-    field-first-requires-3
+    enum-known-t
+    pair-first-requires-2
     returns
     returns-2
-    returns-3)
+    returns-3
+    returns-4
+    returns-5)

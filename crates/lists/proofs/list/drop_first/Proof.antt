@@ -16,6 +16,9 @@ slice-read-n c = search needs
 returns : tie.Need-returns
 returns c = search first-laws
 
+returns-2 : tie.Need-returns-2
+returns-2 c = search first-laws
+
 add-shift : tie.Need-add-shift
 add-shift c = search needs
 
@@ -34,8 +37,8 @@ slice-write-state c = search needs
 same-length : tie.Need-same-length
 same-length c = search needs
 
-returns-2 : tie.Need-returns-2
-returns-2 c = search first-laws
+returns-3 : tie.Need-returns-3
+returns-3 c = search first-laws
 
 pub drop-first-spec : {M : Type 1} → statement M
 drop-first-spec =
@@ -45,10 +48,11 @@ drop-first-spec =
     mul-n
     slice-read-n
     returns
+    returns-2
     add-shift
     shift-requires
     sub-state
     mul-state
     slice-write-state
     same-length
-    returns-2)
+    returns-3)

@@ -1,23 +1,40 @@
 -- `end_instant` meets its contract. Assumes nothing.
 use borrow.Author.Needs.{needs}
-use Rattle.lists.proofs.SortLaws.{next-short, instant-count, instant-words}
+use lib.ListN.{length-set}
+use native.Mathlib.Omega.{arith}
+use Rattle.lists.proofs.SortLaws.{next-short, ready-few, instant-count, instant-words}
 use Rattle.lists.proofs.list.end_instant.Statement.{statement}
 use Rattle.lists.proofs.list.end_instant.Tie as tie
-
-next-list-requires : tie.Need-next-list-requires
-next-list-requires c κs = search needs
-
-sort-entries-requires : tie.Need-sort-entries-requires
-sort-entries-requires c κs = (search needs, search needs, search needs, search next-short)
 
 active-list-requires : tie.Need-active-list-requires
 active-list-requires c κs = search needs
 
-store-list-requires : tie.Need-store-list-requires
-store-list-requires c κs = search needs
+add-next : tie.Need-add-next
+add-next c = search needs
 
-store-list-requires-2 : tie.Need-store-list-requires-2
-store-list-requires-2 c κs = search needs
+mul-n : tie.Need-mul-n
+mul-n c = search needs
+
+slice-read-n : tie.Need-slice-read-n
+slice-read-n c = search needs
+
+sort-entries-requires : tie.Need-sort-entries-requires
+sort-entries-requires c κs = (search needs, search needs, search needs, search needs, search next-short)
+
+mul-state : tie.Need-mul-state
+mul-state c = search needs
+
+slice-write-state : tie.Need-slice-write-state
+slice-write-state c = search needs
+
+sub-state : tie.Need-sub-state
+sub-state c = search ready-few
+
+mul-state-2 : tie.Need-mul-state-2
+mul-state-2 c = search needs
+
+slice-write-state-2 : tie.Need-slice-write-state-2
+slice-write-state-2 c = simp length-set (omega arith)
 
 same-length : tie.Need-same-length
 same-length c = search needs
@@ -29,10 +46,15 @@ pub end-instant-spec : {M : Type 1} → statement M
 end-instant-spec =
     tie.close
     (tie.spec
-    next-list-requires
-    sort-entries-requires
     active-list-requires
-    store-list-requires
-    store-list-requires-2
+    add-next
+    mul-n
+    slice-read-n
+    sort-entries-requires
+    mul-state
+    slice-write-state
+    sub-state
+    mul-state-2
+    slice-write-state-2
     same-length
     returns)

@@ -12,10 +12,15 @@ use Rattle.lists.proofs.list.shift.Statement.{statement}
 use Rattle.lists.proofs.list.shift.Tie as tie
 
 abbrev Inv-loop : tie.InvT-loop
-Inv-loop state₀ at j₀ state j = (j ≤ 63) × (length state ≡ length state₀) × (state ≡ pasted state₀ at (shifted (part state₀ at 64)) j)
+Inv-loop state₀ at n last j₀ state j =
+    (j ≤ last) × (length state ≡ length state₀)
+    × (state ≡ pasted state₀ at (shifted (part state₀ at n)) j)
 
 abbrev μ-loop : tie.MeasureT-loop
-μ-loop state₀ at j₀ state j = 63 - j
+μ-loop state₀ at n last j₀ state j = last - j
+
+sub-last : tie.Need-sub-last Inv-loop μ-loop
+sub-last c = search needs
 
 loop-holds : tie.Need-loop-holds Inv-loop μ-loop
 loop-holds c = (search needs, refl, pasted-zero _ _ _)
@@ -71,6 +76,7 @@ shift-spec =
     (tie.spec
     Inv-loop
     μ-loop
+    sub-last
     loop-holds
     add-state
     add-state-2

@@ -1,35 +1,33 @@
 -- `zeros` meets its contract. Assumes nothing.
 use borrow.Author.Needs.{needs}
 use Prim.Native.Nat.{_≤_, _-_}
-use mathlib.Core.Path.{_≡_}
-use mathlib.Core.Bool.{true}
-use Rattle.machine.proofs.AllBelow.{all-none, all-end}
-use Rattle.ranges.proofs.RangeLaws.{zero-wrong, zero-more}
-use Rattle.ranges.specs.inner.Passes.{isZero, wordPasses}
+use mathlib.Core.Path.{_≡_, sym}
+use lib.Dec.{eqb}
+use Rattle.machine.proofs.AllBelow.{all-none}
 use Rattle.machine.specs.inner.Ranges.{allBelow}
+use Rattle.ranges.specs.inner.Passes.{isZero, wordPasses}
+use Rattle.ranges.proofs.RangeLaws.{zero-more, zero-end}
 use Rattle.ranges.proofs.range.zeros.Statement.{statement}
 use Rattle.ranges.proofs.range.zeros.Tie as tie
 
 abbrev Inv-loop : tie.InvT-loop
-Inv-loop state at count j₀ j = (j ≤ count) × (allBelow j (wordPasses isZero state at) ≡ true)
+Inv-loop state at count bits₀ j₀ bits j =
+    (j ≤ count) × (eqb bits 0 ≡ allBelow j (wordPasses isZero state at))
 
 abbrev μ-loop : tie.MeasureT-loop
-μ-loop state at count j₀ j = count - j
+μ-loop state at count bits₀ j₀ bits j = count - j
 
 loop-holds : tie.Need-loop-holds Inv-loop μ-loop
-loop-holds c = (search needs, all-none _)
+loop-holds c = (search needs, sym (all-none _))
 
-add-if1 : tie.Need-add-if1 Inv-loop μ-loop
-add-if1 c = search needs
+add-bits : tie.Need-add-bits Inv-loop μ-loop
+add-bits c = search needs
 
-mul-if1 : tie.Need-mul-if1 Inv-loop μ-loop
-mul-if1 c = search needs
+mul-bits : tie.Need-mul-bits Inv-loop μ-loop
+mul-bits c = search needs
 
-shared-slice-read-if1 : tie.Need-shared-slice-read-if1 Inv-loop μ-loop
-shared-slice-read-if1 c = search needs
-
-returns : tie.Need-returns Inv-loop μ-loop
-returns c = search zero-wrong
+shared-slice-read-bits : tie.Need-shared-slice-read-bits Inv-loop μ-loop
+shared-slice-read-bits c = search needs
 
 add-j : tie.Need-add-j Inv-loop μ-loop
 add-j c = search needs
@@ -40,8 +38,8 @@ loop-less c = search needs
 loop-again : tie.Need-loop-again Inv-loop μ-loop
 loop-again c = (search needs, search zero-more)
 
-returns-2 : tie.Need-returns-2 Inv-loop μ-loop
-returns-2 c = search all-end
+returns : tie.Need-returns Inv-loop μ-loop
+returns c = search zero-end
 
 pub zeros-spec : {M : Type 1} → statement M
 zeros-spec =
@@ -50,11 +48,10 @@ zeros-spec =
     Inv-loop
     μ-loop
     loop-holds
-    add-if1
-    mul-if1
-    shared-slice-read-if1
-    returns
+    add-bits
+    mul-bits
+    shared-slice-read-bits
     add-j
     loop-less
     loop-again
-    returns-2)
+    returns)

@@ -6,8 +6,11 @@ use Rattle.runs.proofs.TextListings.{list-rejected, list-short-state, l
 use Rattle.runs.proofs.printing.run_listing.Statement.{statement}
 use Rattle.runs.proofs.printing.run_listing.Tie as tie
 
-lay-out-requires : tie.Need-lay-out-requires
-lay-out-requires c κs = search needs
+slice-aggregate-lay-into : tie.Need-slice-aggregate-lay-into
+slice-aggregate-lay-into c = search needs
+
+lay-into-requires : tie.Need-lay-into-requires
+lay-into-requires c κs = search needs
 
 enum-known-v : tie.Need-enum-known-v
 enum-known-v c = search needs
@@ -52,7 +55,8 @@ pub run-listing-spec : {M : Type 1} → statement M
 run-listing-spec =
     tie.close
     (tie.spec
-    lay-out-requires
+    slice-aggregate-lay-into
+    lay-into-requires
     enum-known-v
     list-rejected-requires
     enum-told

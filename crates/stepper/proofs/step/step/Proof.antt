@@ -5,8 +5,11 @@ use Rattle.stepper.proofs.AnswerLaws.{text-file, step-rejected, step-do
 use Rattle.stepper.proofs.step.step.Statement.{statement}
 use Rattle.stepper.proofs.step.step.Tie as tie
 
-lay-out-requires : tie.Need-lay-out-requires
-lay-out-requires c κs = search needs
+slice-aggregate-lay-into : tie.Need-slice-aggregate-lay-into
+slice-aggregate-lay-into c = search needs
+
+lay-into-requires : tie.Need-lay-into-requires
+lay-into-requires c κs = search needs
 
 enum-known-v : tie.Need-enum-known-v
 enum-known-v c = search needs
@@ -36,7 +39,8 @@ pub step-spec : {M : Type 1} → statement M
 step-spec =
     tie.close
     (tie.spec
-    lay-out-requires
+    slice-aggregate-lay-into
+    lay-into-requires
     enum-known-v
     enum-told
     array-share-prefix-words

@@ -1,0 +1,75 @@
+// Many choices in one call: the text is read and the state validated once.
+use crate::answer::Answer;
+use crate::file::File;
+use crate::file::file_of;
+use crate::party::Stepped;
+use crate::valid::step_valid;
+use language::limit::MOST_LINES;
+use language::refusal::WRONG_STATE;
+use language::verdict::Verdict;
+use layout::lay_into;
+use ranges::range::in_range;
+ghost use mathlib.Core.Path.{_≡_};
+ghost use mathlib.Core.List.{map};
+ghost use Prim.Native.Nat.{_+_, _*_, _^_};
+ghost use lib.ListN.{length};
+ghost use Rattle.text.specs.Frames.{framesOf};
+ghost use Rattle.program.specs.Programs.{programOf};
+ghost use Rattle.machine.specs.Calls.{callsFrom, wordsFrom};
+ghost use Rattle.stepper.specs.inner.Files.{FileWords, StepWords, fileOf};
+ghost use Rattle.stepper.specs.Batches.{answerWord, batch, stepsCall, stepsText};
+
+// The answer to one choice as a number: 01's above 16 bits, the acting thread in them.
+fn answer_word(s: Stepped) -> u32
+    ensures { λ r. ⌜ r ≡ s .answer * 2 ^ 16 + s .thread ⌝ }
+{
+    s.answer as u32 * 0x0001_0000 + s.thread as u32
+}
+
+// Every choice, one after the other, on a file and a state that are known to be good.
+fn step_all(frames: &[u64], file: File, state: &mut [u64], choices: &[u8], answers: &mut [u32])
+    requires { ⌜ StepWords (now frames) (file .shared) (now state) × (file ≡ fileOf (programOf (framesOf (now frames)))) × (length (now answers) ≡ length (now choices)) ⌝ }
+    ensures words { λ _. ⌜ now (state .exit) ≡ wordsFrom (framesOf (now (frames .entry))) (now (state .entry)) (now (choices .entry)) ⌝ }
+    ensures answers { λ _. ⌜ now (answers .exit) ≡ map answerWord (callsFrom (framesOf (now (frames .entry))) (now (state .entry)) (now (choices .entry))) ⌝ }
+{
+    let mut k: usize = 0;
+    while k < choices.len() {
+        let s = step_valid(frames, file, state, choices[k] as u64);
+        answers[k] = answer_word(s);
+        k += 1;
+    }
+}
+
+// The choices on a file that passes refusals 1 to 7, on words that may be anything.
+fn steps_frames(frames: &[u64], state: &mut [u64], choices: &[u8], answers: &mut [u32]) -> Answer
+    requires { ⌜ FileWords (now frames) ⌝ }
+    ensures { λ r. ⌜ batch r (now (state .exit)) (now (answers .exit)) ≡ stepsCall (framesOf (now (frames .entry))) (now (state .entry)) (now (choices .entry)) (now (answers .entry)) ⌝ }
+{
+    if answers.len() != choices.len() {
+        return Answer::Refused(WRONG_STATE, 0);
+    }
+    let file = file_of(frames);
+    if !in_range(frames, file.schedulers, state) {
+        return Answer::Refused(WRONG_STATE, 0);
+    }
+    step_all(frames, file, state, choices, answers);
+    Answer::Done(0)
+}
+
+// Many choices on any text, any words: 1 to 7, then 14 where the words are no state of the file or the answers are not as many as the
+// choices; nothing is written then. Else each choice is stepped as `step` does, and its answer stands in its place: refused ones leave
+// the words as they were, and the next choice follows. A choice is a byte: no party has a number above 80.
+pub fn steps(text: &[u8], state: &mut [u64], choices: &[u8], answers: &mut [u32]) -> Answer
+    ensures { λ r. ⌜ batch r (now (state .exit)) (now (answers .exit)) ≡ stepsText (now (text .entry)) (now (state .entry)) (now (choices .entry)) (now (answers .entry)) ⌝ }
+{
+    let mut words = [0u64; MOST_LINES];
+    let l = lay_into(text, &mut words);
+    let v = l.verdict;
+    match v {
+        Verdict::Rejected(n, j) => Answer::Rejected(n, j),
+        Verdict::Accepted => {
+            let n = l.count;
+            steps_frames(&words[..n], state, choices, answers)
+        }
+    }
+}

@@ -1,0 +1,57 @@
+/* A loader that steps all choices in one call: reads prog.txt and steps it through the choices on the command line, in hexadecimal, at
+ * most 64 at a time. Prints the check's number and frame, then for each choice the choice, the answer and the acting thread, as `load`.
+ *
+ *   steps FOLDER 02 03 03
+ */
+#include "purkvaldi.h"
+#include <stdio.h>
+#include <stdlib.h>
+
+enum { WORDS = 4818, MANY = 64 };
+
+static uint8_t text[17409];
+static uint64_t state[WORDS];
+
+/* At most one byte more than the longest text, so that a longer one is seen to be longer. An absent file reads as empty. */
+static size_t load(const char *folder)
+{
+    char path[4096];
+    FILE *file;
+    size_t length;
+    snprintf(path, sizeof path, "%s/prog.txt", folder);
+    file = fopen(path, "rb");
+    if (file == NULL)
+        return 0;
+    length = fread(text, 1, sizeof text, file);
+    fclose(file);
+    return length;
+}
+
+int main(int count, char **words)
+{
+    uint8_t choices[MANY];
+    uint32_t answers[MANY];
+    size_t length;
+    uint32_t code;
+    int at = 2;
+    if (count < 2) {
+        fprintf(stderr, "usage: steps FOLDER CHOICE..\n");
+        return 2;
+    }
+    length = load(words[1]);
+    code = purkvaldi_check(text, length);
+    printf("%02X %04X\n", (unsigned)PURKVALDI_NUMBER(code), (unsigned)PURKVALDI_DETAIL(code));
+    if (PURKVALDI_NUMBER(purkvaldi_fresh(text, length, state, WORDS)) != 0)
+        return 0;
+    while (at < count) {
+        int n = 0, i;
+        for (; n < MANY && at < count; n++, at++)
+            choices[n] = (uint8_t)strtoul(words[at], NULL, 16);
+        /* The state is this program's own, so 14 would be its fault. */
+        if (purkvaldi_steps(text, length, state, WORDS, choices, (size_t)n, answers, (size_t)n) != 0)
+            return 1;
+        for (i = 0; i < n; i++)
+            printf("%02X %02X %02X\n", choices[i], (unsigned)PURKVALDI_NUMBER(answers[i]), (unsigned)PURKVALDI_DETAIL(answers[i]));
+    }
+    return 0;
+}
