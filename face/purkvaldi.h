@@ -3,6 +3,8 @@
  * Every function takes any bytes and any words and has a defined answer. The one thing asked is C's own rule: `length` bytes can be
  * read at `text`, `words` words of 64 bits can be read and written at `state`, other buffers likewise by their lengths, and no two
  * buffers overlap. A pointer whose length is 0 is not looked at and may be null.
+ *
+ * Stack, measured and not proved: at most 15,292 bytes below a call (purkvaldi_run on a file 24 deep); 16 KB are enough.
  */
 #ifndef PURKVALDI_H
 #define PURKVALDI_H

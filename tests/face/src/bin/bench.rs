@@ -101,7 +101,7 @@ fn row(name: &str, ours: f64, theirs: Option<f64>) {
     }
 }
 
-/// The file whose recursion goes deepest: 24 deep, lets all the way.
+/// A file whose recursion goes deepest: 24 frames, one in the other.
 const DEEPEST: &[u8] = include_bytes!("../../deep.txt");
 
 /// How many bytes of a painted stack a call changes.
