@@ -3,29 +3,15 @@
  *
  *   steps FOLDER 02 03 03
  */
+#include "prog.h"
 #include "purkvaldi.h"
 #include <stdio.h>
 #include <stdlib.h>
 
 enum { WORDS = 4818, MANY = 64 };
 
-static uint8_t text[17409];
+static uint8_t text[PROG_ROOM];
 static uint64_t state[WORDS];
-
-/* At most one byte more than the longest text, so that a longer one is seen to be longer. An absent file reads as empty. */
-static size_t load(const char *folder)
-{
-    char path[4096];
-    FILE *file;
-    size_t length;
-    snprintf(path, sizeof path, "%s/prog.txt", folder);
-    file = fopen(path, "rb");
-    if (file == NULL)
-        return 0;
-    length = fread(text, 1, sizeof text, file);
-    fclose(file);
-    return length;
-}
 
 int main(int count, char **words)
 {
@@ -38,7 +24,7 @@ int main(int count, char **words)
         fprintf(stderr, "usage: steps FOLDER CHOICE..\n");
         return 2;
     }
-    length = load(words[1]);
+    length = read_prog(words[1], text);
     code = purkvaldi_check(text, length);
     printf("%02X %04X\n", (unsigned)PURKVALDI_NUMBER(code), (unsigned)PURKVALDI_DETAIL(code));
     if (PURKVALDI_NUMBER(purkvaldi_fresh(text, length, state, WORDS)) != 0)

@@ -1,3 +1,3 @@
 pub mod If
 pub mod Members
-pub mod Searches
+pub mod inner

@@ -1,4 +1,5 @@
 -- Members of lists. Assumes nothing: definitions.
+use mathlib.Core.Bool.{Bool, true, false}
 use mathlib.Core.List.{List, [], _∷_}
 
 -- x is a member of the list
@@ -10,3 +11,8 @@ pub data In {A : Type 0} (x : A) : List A → Type 0 where
 pub data All {A : Type 0} (P : A → Type 0) : List A → Type 0 where
   none : All P []
   more : {x : A} {xs : List A} → P x → All P xs → All P (x ∷ xs)
+
+-- some member passes the test
+unfoldable pub any : {A : Type 0} → (A → Bool) → List A → Bool
+any test [] = false
+any test (x ∷ xs) = elim (test x) [ true ↦ true | false ↦ any test xs ]

@@ -1,13 +1,12 @@
--- What refusals 4 and 5 leave of a laid-out file: at most 8 schedulers, few modules with few parameters, and places where frames name some. Assumes nothing.
-use mathlib.Core.Path.{_≡_, refl, sym, ap, subst, _∙_}
-use mathlib.Core.Bool.{Bool, true, false, _&&_}
+-- What refusal 5 leaves of a laid-out file: few modules with few parameters, and places where frames
+-- name some. Assumes nothing.
+use mathlib.Core.Path.{_≡_, sym, ap, subst, _∙_}
+use mathlib.Core.Bool.{true}
 use mathlib.Core.List.{List}
 use Prim.Native.Nat.{ℕ, _≤_, _<_}
-use lib.Dec.{leb, eqb}
 use lib.ListN.{length, take, getD, length-map}
 use borrow.Author.Tests.{ltb-true, leb-true}
-use Rattle.basics.proofs.Ifs.{and-true}
-use Rattle.language.specs.Kinds.{isHeader, isModule, uses}
+use Rattle.language.specs.Kinds.{isModule, uses}
 use Rattle.language.specs.inner.Reads.{NamesPlace}
 use Rattle.language.specs.declared.kind.Kind.{Kind}
 use Rattle.language.specs.declared.kind.Kind.the-variants.{Module}
@@ -19,30 +18,15 @@ use Rattle.program.specs.declared.node.CellUse.{CellUse}
 use Rattle.program.specs.declared.node.ExpressionNode.{ExpressionNode}
 use Rattle.program.specs.declared.node.ExpressionNode.the-variants.{OfValue}
 use Rattle.program.proofs.NodeTrees.{Owned, owner-placed}
-use Rattle.fields.specs.Fields.{countOf, headerFine, schedulersOf, kindFine, fieldFine}
+use Rattle.fields.specs.Fields.{countOf, kindFine, fieldFine}
 use Rattle.fields.proofs.FramePass.{fine-parts}
-use Rattle.layout.specs.Faults.{Fault, NoFault}
+use Rattle.layout.specs.Faults.{NoFault}
 use Rattle.layout.proofs.Scopes.{frame-right, placed}
 use Rattle.rules.specs.inner.NodeRules.{OwnerPlaced}
 use Rattle.checker.specs.inner.Frames.{FrameIn}
 use Rattle.checker.proofs.NodeLaws.{AtExpression}
 
 module _ (fs : List Frame) (clean : NoFault fs) where
-  -- ---- the header
-  header-fine : headerFine (frameAt fs 0) ≡ true
-  header-fine = go (headerFine (frameAt fs 0)) refl
-    where
-      go : (b : Bool) → headerFine (frameAt fs 0) ≡ b → headerFine (frameAt fs 0) ≡ true
-      go true e = e
-      go false e = absurd (clean 4 0 (Fault.header e))
-
-  pub few-schedulers : schedulersOf fs ≤ 8
-  unfolding headerFine
-  few-schedulers =
-      let f = frameAt fs 0 in
-      let a = isHeader (f .kind) && eqb (f .s) 1 && leb 1 (f .b) in
-      leb-true (f .b) 8 (and-true a (leb (f .b) 8) (and-true (a && leb (f .b) 8) (eqb (f .c) 0) header-fine .0) .1)
-
   -- ---- modules
   module _ (i : ℕ) (h : i < length fs) (e : frameAt fs i .kind ≡ Module) where
     pub few-modules : countOf isModule (take i fs) < 16

@@ -7,5 +7,4 @@ pub mod TypingLaws
 pub mod DescentLaws
 pub mod ConductLaws
 pub mod ModuleLaws
-pub mod TallyLaws
 pub mod CheckLaws

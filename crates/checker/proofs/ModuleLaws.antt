@@ -1,4 +1,5 @@
--- The functions over the modules of a laid-out file: main's effect, the tally, the next module, a module's body, the loop over all. Assumes nothing.
+-- The functions over the modules of a laid-out file: main's effect, the next module, a module's
+-- body, the loop over all. Assumes nothing.
 use mathlib.Core.Path.{_≡_, refl, sym, ap, ap₂, subst, _∙_}
 use mathlib.Core.Bool.{Bool, true, false, true≢false}
 use mathlib.Core.List.{List, [], _∷_, _++_, map, map-append}
@@ -6,7 +7,7 @@ use Prim.Native.Nat.{ℕ, zero, suc, _+_, _-_, _^_, _≤_, _<_}
 use native.Mathlib.Numerals.{add-one}
 use native.Mathlib.Omega.{arith}
 use lib.ListN.{length, take, drop, set, replicate, length-map, length-set, drop-of-length-le}
-use lib.Seq.{drop-cons, take-all, take-suc, take-suc-set}
+use lib.Seq.{drop-cons, take-suc, take-suc-set}
 use Rattle.basics.specs.If.{if_then_else_}
 use Rattle.basics.specs.Members.{In}
 use Rattle.basics.proofs.Ifs.{if-yes, if-no, yes, no}
@@ -23,13 +24,11 @@ use Rattle.language.specs.declared.frame.Frame.{Frame}
 use Rattle.language.specs.Refusals.{wrongEffect}
 use Rattle.text.specs.Frames.{frameOfWord, framesOf}
 use Rattle.program.specs.Trees.{noFrame, frameAt, statementAt}
-use Rattle.program.specs.Programs.{Part, partOf, withPart, modulesFrom, sharedOf}
-use Rattle.fields.specs.Fields.{countOf, schedulersOf, frameFine}
+use Rattle.program.specs.Programs.{Part, partOf, withPart, modulesFrom}
+use Rattle.fields.specs.Fields.{countOf}
 use Rattle.layout.specs.inner.Scope.{Room}
 use Rattle.layout.specs.Faults.{NoFault}
-use Rattle.fields.specs.inner.Scans.{tallyOf}
-use Rattle.fields.specs.declared.field.Tally.{Tally}
-use Rattle.layout.proofs.Scopes.{in-a, room-body, child-below, main-last, frame-right}
+use Rattle.layout.proofs.Scopes.{in-a, room-body, child-below, main-last}
 use Rattle.fields.proofs.Tallies.{counted-one, counted-none}
 use Rattle.layout.proofs.Trees.{is-module}
 use Rattle.rules.specs.Rules.{Setting, Signature, signature}
@@ -39,7 +38,7 @@ use Rattle.checker.specs.inner.Frames.{FrameIn, FileIn}
 use Rattle.checker.specs.inner.Modules.{nextModule}
 use Rattle.rules.specs.declared.finding.Conduct.{Conduct}
 use Rattle.rules.specs.declared.finding.Conduct.the-variants.{Does, Fails}
-use Rattle.checker.proofs.FineFrames.{few-schedulers, few-modules, few-parameters}
+use Rattle.checker.proofs.FineFrames.{few-modules, few-parameters}
 
 -- ---- 'main has an effect within {2}'
 pub main-within : (i : ℕ) (e : Effect) (x : Bool) → x ≡ within 2 e → x ≡ true → Accepted ≡ mainRule i e
@@ -49,23 +48,6 @@ pub main-outside : (i : ℕ) (e : Effect) (x : Bool) → x ≡ within 2 e → x 
 main-outside i e x h k = no Accepted (sym h ∙ k) refl
 
 pub ruleset main-laws = (main-within, main-outside)
-
--- ---- the tally
-abbrev pub Tallied : List ℕ → Tally → ℕ → Type 0
-Tallied ws t i = (i ≤ length ws) × (t ≡ tallyOf (take i (framesOf ws)))
-
-pub tally-start : (ws : List ℕ) → record { cells = 0; modules = 0; types = replicate 16 0 } ≡ tallyOf (take 0 (framesOf ws))
-unfolding tallyOf countOf sharedOf
-tally-start ws = refl
-
-pub file-schedulers : (ws : List ℕ) → FileIn ws → schedulersOf (framesOf ws) ≤ 8
-file-schedulers ws g = few-schedulers (framesOf ws) (g .laid-out)
-
-pub file-fine : (ws : List ℕ) (i : ℕ) → FileIn ws → i < length ws → frameFine (framesOf ws) i (frameAt (framesOf ws) i) ≡ true
-file-fine ws i g h = frame-right (framesOf ws) (g .laid-out) i (rw length-map h)
-
-pub tally-end : (ws : List ℕ) (t : Tally) (i : ℕ) → Tallied ws t i → length ws ≤ i → t ≡ tallyOf (framesOf ws)
-tally-end ws t i g h = g .1 ∙ ap tallyOf (take-all i (framesOf ws) (rw length-map h))
 
 -- ---- the next module
 

@@ -22,20 +22,15 @@ pub data HasVerdict : List ℕ → Verdict → Type 0 where
   text : {bs : List ℕ} {n j : ℕ} → Reads bs (refused n j) → HasVerdict bs (Rejected n j)
   -- 4 to 7
   layout : {bs : List ℕ} {fs : List Frame} {n j : ℕ}
-      → Reads bs (frames fs)
-      → FirstFault fs n j
+      → Reads bs (frames fs) → FirstFault fs n j
       → HasVerdict bs (Rejected n j)
   -- 8 to 13
   rules : {bs : List ℕ} {fs : List Frame} {n j : ℕ}
-      → Reads bs (frames fs)
-      → NoFault fs
-      → FirstBroken (programOf fs) n j
+      → Reads bs (frames fs) → NoFault fs → FirstBroken (programOf fs) n j
       → HasVerdict bs (Rejected n j)
   -- 'Accepted: the check refuses nothing.'
   accepted : {bs : List ℕ} {fs : List Frame}
-      → Reads bs (frames fs)
-      → NoFault fs
-      → Keeps (programOf fs)
+      → Reads bs (frames fs) → NoFault fs → Keeps (programOf fs)
       → HasVerdict bs Accepted
 
 -- ---- as a function: 1 to 3, then 4 to 7, then 8 to 13

@@ -1,9 +1,9 @@
 // The check of a text: refusals 1 to 13.
 use crate::module::modules_rule;
-use crate::module::tally;
 use language::limit::MOST_LINES;
 use language::verdict::Verdict;
 use layout::lay_into;
+use program::shared::shared_types;
 ghost use mathlib.Core.Path.{_≡_};
 ghost use Rattle.text.specs.Frames.{framesOf};
 ghost use Rattle.program.specs.Programs.{programOf};
@@ -16,8 +16,8 @@ pub fn rules_of(frames: &[u64]) -> Verdict
     requires { ⌜ FileIn (now frames) ⌝ }
     ensures { λ r. ⌜ r ≡ rulesOf (programOf (framesOf (now (frames .entry)))) ⌝ }
 {
-    let t = tally(frames);
-    let n = t.cells;
+    let t = shared_types(frames);
+    let n = t.count;
     let types = t.types;
     modules_rule(frames, &types[..n])
 }

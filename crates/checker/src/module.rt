@@ -1,13 +1,10 @@
 // The modules of a laid-out file in order, each with what is known of those before it.
 use crate::conduct::conduct_of;
-use fields::field::Tally;
-use fields::field::counted;
 use language::Place;
 use language::effect::Effect;
 use language::frame::Frame;
 use language::kind::is_module;
 use language::limit::MOST_MODULES;
-use language::limit::MOST_SHARED;
 use language::limit::MOST_VARIABLES;
 use language::refusal::WRONG_EFFECT;
 use language::verdict::Verdict;
@@ -24,30 +21,11 @@ ghost use Rattle.text.specs.Frames.{framesOf};
 ghost use Rattle.program.specs.Trees.{statementAt};
 ghost use Rattle.program.specs.Programs.{modulesFrom};
 ghost use Rattle.layout.specs.inner.Scope.{Room};
-ghost use Rattle.fields.specs.inner.Scans.{tallyOf};
 ghost use Rattle.rules.specs.inner.Checking.{runIn, mainRule, modulesIn};
 ghost use Rattle.rules.specs.inner.Signatures.{signatureOf, signatureWith, signatureWord};
 ghost use Rattle.checker.specs.inner.Settings.{settingIn};
 ghost use Rattle.checker.specs.inner.Frames.{FrameIn, FileIn};
 ghost use Rattle.checker.specs.inner.Modules.{nextModule};
-
-// How many shared cells and modules a laid-out file has, and the types of its cells.
-pub(crate) fn tally(frames: &[u64]) -> Tally
-    requires { ⌜ FileIn (now frames) ⌝ }
-    ensures { λ r. ⌜ r ≡ tallyOf (framesOf (now (frames .entry))) ⌝ }
-{
-    let mut t = Tally {
-        cells: 0,
-        modules: 0,
-        types: [0u16; MOST_SHARED],
-    };
-    let mut i = 0;
-    while i < frames.len() {
-        t = counted(frames, i, t);
-        i += 1;
-    }
-    t
-}
 
 // The first module at frame i or behind it: the last frame is one.
 pub(crate) fn next_module(frames: &[u64], i: usize) -> usize

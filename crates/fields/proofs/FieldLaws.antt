@@ -1,4 +1,5 @@
--- How the code tests the header and the values of fields: places, types, first contents; and how it gives a shared cell's type. Assumes nothing.
+-- How the code tests the header and the values of fields: places, types, first contents. Assumes
+-- nothing.
 use mathlib.Core.Path.{_≡_, refl, sym, ap, _∙_}
 use mathlib.Core.Bool.{Bool, true, false, not, _&&_, _||_}
 use mathlib.Core.List.{List}
@@ -10,14 +11,10 @@ use lib.ListN.{length, getD, take, length-take}
 use lib.Seq.{getD-take}
 use borrow.Author.Tests.{lt-ltb, le-ltb, le-leb, lt-leb, leb-true, eq-eqb, ne-eqb, not-true, not-false}
 use Rattle.basics.specs.If.{if_then_else_}
-use Rattle.basics.proofs.Ifs.{yes, no, if-yes, if-all, and-true}
+use Rattle.basics.proofs.Ifs.{yes, no, if-all, and-true}
 use Rattle.language.specs.Kinds.{isHeader}
-use Rattle.language.specs.Places.{isPlace, hasPlace, hasScheduler}
-use Rattle.language.specs.Types.{cellType, isCell, typeWord, roomAround}
-use Rattle.language.specs.inner.Reads.{cellRead}
-use Rattle.language.specs.declared.Place.{Place}
-use Rattle.language.specs.declared.type_word.CellRead.{CellRead}
-use Rattle.language.specs.declared.type_word.CellRead.the-variants.{Word, TooDeep}
+use Rattle.language.specs.Places.{hasPlace, hasScheduler}
+use Rattle.language.specs.Types.{isCell, typeWord}
 use Rattle.language.specs.declared.frame.Frame.{Frame}
 use Rattle.text.specs.Frames.{framesOf}
 use Rattle.program.specs.Trees.{frameAt}
@@ -118,19 +115,3 @@ module _ (t : Tally) (k v : ℕ) (x : Bool) (h : x ≡ isCell k) where
   content-truth c n = no _ (sym h ∙ c) (rw (eq-eqb k 2 n))
 
 pub ruleset content-laws = (content-past, content-cell, content-number, content-truth)
-
--- ---- the type of a shared cell: its owner is a place and there is room around its content, so the arm that answers 0 is never met
-module _ (f : Frame) (q : Place) (y : CellRead) (h : isPlace (f .s) ≡ true) (m : roomAround (f .a) ≡ true) where
-  cell-word : q ≡ record { number = f .s } → y ≡ cellRead (q .number) (f .a) → y ≡ Word (cellType (f .s) (f .a))
-  unfolding cellRead
-  cell-word e g =
-      let t : (isPlace (f .s) && roomAround (f .a)) ≡ true = (rw (h, m)) in
-      g ∙ ap (λ (p : Place). cellRead (p .number) (f .a)) e ∙ if-yes _ _ t
-
-  pub type-deep : q ≡ record { number = f .s } → y ≡ cellRead (q .number) (f .a) → y ≡ TooDeep → 0 ≡ cellType (f .s) (f .a)
-  type-deep e g d = absurd (let w = cell-word e g in let z : _≡_ {A = ℕ} 0 1 = cc in omega arith)
-
-  pub type-word : (w : ℕ) → q ≡ record { number = f .s } → y ≡ cellRead (q .number) (f .a) → y ≡ Word w → w ≡ cellType (f .s) (f .a)
-  type-word w e g d = let v = cell-word e g in cc
-
-pub ruleset shared-laws = (type-deep, type-word)

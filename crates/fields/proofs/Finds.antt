@@ -4,7 +4,7 @@ use mathlib.Core.Option.{Option, none, some}
 use Prim.Native.Nat.{ℕ, _≤_, _<_}
 use native.Mathlib.Omega.{arith}
 use borrow.Author.Tests.{le-leb, lt-leb}
-use Rattle.basics.specs.Searches.{earlier}
+use Rattle.basics.specs.inner.Searches.{earlier}
 use Rattle.basics.proofs.Ifs.{yes, no}
 use Rattle.fields.specs.declared.found.Found.{Found}
 use Rattle.fields.specs.declared.found.Found.the-variants.{At, Nowhere}

@@ -8,6 +8,7 @@ use lib.Dec.{ltb, leb}
 use lib.ListN.{length, take, set, replicate}
 use borrow.Author.Tests.{ltb-true, ltb-false, leb-true, not-false}
 use Rattle.basics.proofs.Ifs.{and-true}
+use Rattle.language.specs.Limits.{mostShared}
 use Rattle.language.specs.Places.{isPlace, hasScheduler}
 use Rattle.language.specs.Types.{cellDepth, cellType, public, typeWord, contentWord, roomAround}
 use Rattle.language.specs.Kinds.{isShared, isModule, uses}
@@ -52,23 +53,43 @@ fine-parts fs i f h =
     let s = and-true _ _ (a .0) in
     (s .0, s .1, a .1)
 
+-- and where it is a shared cell, there are fewer than 16 before it, its owner is a place, and there
+-- is room around its content
+module _ (fs : List Frame) (i : ℕ) (f : Frame) (fine : frameFine fs i f ≡ true)
+    (k : f .kind ≡ Declared Shared) where
+  pub shared-few : countOf isShared (take i fs) < mostShared
+  shared-few = ltb-true _ _ (sym (ap (kindFine fs i) k) ∙ fine-parts fs i f fine .0)
+
+  pub owner-place : isPlace (f .s) ≡ true
+  owner-place =
+      let asked : Kind → Bool = λ (q : Kind). fieldFine fs i f (uses q .s) (f .s) in
+      let a : hasScheduler (schedulersOf fs) (f .s) ≡ true =
+      sym (ap asked k) ∙ fine-parts fs i f fine .1 in
+      scheduler-place (f .s) (has-scheduler (schedulersOf fs) (f .s) a .0)
+
+  pub content-room : roomAround (f .a) ≡ true
+  content-room =
+      let asked : Kind → Bool = λ (q : Kind). fieldFine fs i f (uses q .a) (f .a) in
+      word-room (schedulersOf fs) (f .a) (sym (ap asked k) ∙ fine-parts fs i f fine .2)
+
 module _ (ws : List ℕ) (i : ℕ) (f : Frame) (t : Tally) (e : f ≡ frameAt (framesOf ws) i) (h : t ≡ tallyOf (take i (framesOf ws))) (fine : frameFine (framesOf ws) i (frameAt (framesOf ws) i) ≡ true) where
   fine-f : frameFine (framesOf ws) i f ≡ true
   fine-f = ap (frameFine (framesOf ws) i) e ∙ fine
 
   pub cell-room : f .kind ≡ Declared Shared → t .cells < 16
-  cell-room k = let a : ltb (countOf isShared (take i (framesOf ws))) 16 ≡ true = sym (ap (kindFine (framesOf ws) i) k) ∙ fine-parts (framesOf ws) i f fine-f .0 in let b : countOf isShared (take i (framesOf ws)) < 16 = ltb-true _ 16 a in let c = tally-cells (take i (framesOf ws)) t h in omega arith
+  cell-room k =
+      let b = shared-few (framesOf ws) i f fine-f k in
+      let c = tally-cells (take i (framesOf ws)) t h in
+      omega arith
 
   pub module-room : f .kind ≡ Module → t .modules < 16
   module-room k = let a : ltb (countOf isModule (take i (framesOf ws))) 16 ≡ true = sym (ap (kindFine (framesOf ws) i) k) ∙ fine-parts (framesOf ws) i f fine-f .0 in let b : countOf isModule (take i (framesOf ws)) < 16 = ltb-true _ 16 a in let c = tally-modules (take i (framesOf ws)) t h in omega arith
 
   pub shared-owner : f .kind ≡ Declared Shared → isPlace (f .s) ≡ true
-  shared-owner k =
-      let a : hasScheduler (schedulersOf (framesOf ws)) (f .s) ≡ true = sym (ap (λ (q : Kind). fieldFine (framesOf ws) i f (uses q .s) (f .s)) k) ∙ fine-parts (framesOf ws) i f fine-f .1 in
-      scheduler-place (f .s) (has-scheduler (schedulersOf (framesOf ws)) (f .s) a .0)
+  shared-owner k = owner-place (framesOf ws) i f fine-f k
 
   pub shared-room : f .kind ≡ Declared Shared → roomAround (f .a) ≡ true
-  shared-room k = word-room (schedulersOf (framesOf ws)) (f .a) (sym (ap (λ (q : Kind). fieldFine (framesOf ws) i f (uses q .a) (f .a)) k) ∙ fine-parts (framesOf ws) i f fine-f .2)
+  shared-room k = content-room (framesOf ws) i f fine-f k
 
   pub with-other : (k : Kind) → f .kind ≡ k → isShared k ≡ false → isModule k ≡ false → i < length ws → t ≡ tallyOf (take (i + 1) (framesOf ws))
   with-other k q s m l = tally-other (take i (framesOf ws)) f t h (ap isShared q ∙ s) (ap isModule q ∙ m) ∙ ap tallyOf (frames-more ws i f e l)

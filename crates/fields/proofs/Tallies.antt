@@ -1,11 +1,10 @@
 -- The tally of the frames passed: how many shared cells and modules there are, the types of these cells, and what one frame more adds. Assumes nothing.
 use mathlib.Core.Path.{_≡_, refl, sym, ap, ap₂, _∙_}
 use mathlib.Core.Bool.{Bool, true, false, true≢false}
-use mathlib.Core.List.{List, [], _∷_, _++_, map, append-assoc, append-nil}
-use Prim.Native.Nat.{ℕ, suc, _+_, _-_, _≤_, _<_}
+use mathlib.Core.List.{List, [], _∷_, _++_, map, append-nil}
+use Prim.Native.Nat.{ℕ, _+_, _<_}
 use native.Mathlib.Omega.{arith}
-use lib.ListN.{length, take, set, replicate, length-append, length-replicate}
-use lib.Seq.{take-append-seam, set-at}
+use lib.ListN.{length, take, set}
 use Rattle.basics.specs.If.{if_then_else_}
 use Rattle.basics.proofs.Ifs.{if-yes, if-no, if-all}
 use Rattle.language.specs.Kinds.{isShared, isModule}
@@ -16,7 +15,9 @@ use Rattle.language.specs.declared.kind.DeclarationKind.the-variants.{Shared}
 use Rattle.language.specs.declared.kind.Kind.the-variants.{Header, Declared, Module, Statement, Expression, Unknown}
 use Rattle.language.specs.declared.frame.Frame.{Frame}
 use Rattle.program.specs.Programs.{typeOfShared, sharedOf, cellsOf}
+use Rattle.program.specs.inner.Shared.{padded}
 use Rattle.program.proofs.OneMore.{shared-no, shared-yes}
+use Rattle.program.proofs.SharedTypeLaws.{padded-more, padded-taken}
 use Rattle.fields.specs.declared.field.Tally.{Tally}
 use Rattle.fields.specs.Fields.{countOf}
 use Rattle.fields.specs.inner.Scans.{tallyOf}
@@ -63,17 +64,12 @@ module _ (gs : List Frame) (t : Tally) (h : t ≡ tallyOf gs) where
   unfolding tallyOf
   tally-modules = ap (λ (x : Tally). x .modules) h
 
-  tally-types : t .types ≡ cellsOf gs ++ replicate (16 - length (cellsOf gs)) 0
+  tally-types : t .types ≡ padded (cellsOf gs)
   unfolding tallyOf
   tally-types = ap (λ (x : Tally). x .types) h
 
   pub types-taken : take (t .cells) (t .types) ≡ cellsOf gs
-  types-taken = ap₂ take (tally-cells ∙ count-cells gs) tally-types ∙ take-append-seam (cellsOf gs) (replicate (16 - length (cellsOf gs)) 0)
-
-  pub types-length : t .cells ≤ 16 → length (t .types) ≡ 16
-  types-length l =
-      let n : t .cells ≡ length (cellsOf gs) = tally-cells ∙ count-cells gs in
-      ap length tally-types ∙ length-append (cellsOf gs) (replicate (16 - length (cellsOf gs)) 0) ∙ ap (λ (k : ℕ). length (cellsOf gs) + k) (length-replicate {A = ℕ} (16 - length (cellsOf gs)) 0) ∙ omega arith
+  types-taken = ap₂ take (tally-cells ∙ count-cells gs) tally-types ∙ padded-taken (cellsOf gs)
 
 -- ---- one frame more
 count-more : (test : Kind → Bool) (gs : List Frame) (f : Frame) → countOf test (gs ++ (f ∷ [])) ≡ countOf test gs + (if test (f .kind) then 1 else 0)
@@ -107,29 +103,28 @@ counted-none test gs f h = let a : countOf test gs + 0 ≡ countOf test gs = ome
 tally-same : {n n' m m' : ℕ} {ts ts' : List ℕ} → n ≡ n' → m ≡ m' → ts ≡ ts' → tally n m ts ≡ tally n' m' ts'
 tally-same {n} {n'} {m} {m'} {ts} {ts'} e f g = ap₂ (λ (x y : ℕ). tally x y ts) e f ∙ ap (tally n' m') g
 
--- a cell more takes the first 0 of the array
-padded-more : (ts : List ℕ) (w : ℕ) → length ts < 16 → set (ts ++ replicate (16 - length ts) 0) (length ts) w ≡ (ts ++ (w ∷ [])) ++ replicate (16 - length (ts ++ (w ∷ []))) 0
-padded-more ts w l =
-    let e : 16 - length ts ≡ suc (16 - suc (length ts)) = omega arith in
-    let m : length (ts ++ (w ∷ [])) ≡ suc (length ts) = length-append ts (w ∷ []) ∙ omega arith in
-    ap (λ (n : ℕ). set (ts ++ replicate n 0) (length ts) w) e
-    ∙ set-at ts 0 (replicate (16 - suc (length ts)) 0) w (length ts) refl
-    ∙ sym (append-assoc ts (w ∷ []) (replicate (16 - suc (length ts)) 0))
-    ∙ ap (λ (n : ℕ). (ts ++ (w ∷ [])) ++ replicate (16 - n) 0) (sym m)
-
 module _ (gs : List Frame) (f : Frame) (t : Tally) (h : t ≡ tallyOf gs) where
   pub tally-other : isShared (f .kind) ≡ false → isModule (f .kind) ≡ false → t ≡ tallyOf (gs ++ (f ∷ []))
   unfolding tallyOf
-  tally-other s m = h ∙ tally-same (sym (counted-none isShared gs f s)) (sym (counted-none isModule gs f m)) (ap (λ (ts : List ℕ). ts ++ replicate (16 - length ts) 0) (sym (cells-same gs f s)))
+  tally-other s m =
+      h ∙ tally-same (sym (counted-none isShared gs f s)) (sym (counted-none isModule gs f m))
+      (ap padded (sym (cells-same gs f s)))
 
   pub tally-module : isShared (f .kind) ≡ false → isModule (f .kind) ≡ true → tally (t .cells) (t .modules + 1) (t .types) ≡ tallyOf (gs ++ (f ∷ []))
   unfolding tallyOf
-  tally-module s m = tally-same (tally-cells gs t h ∙ sym (counted-none isShared gs f s)) (ap (λ (n : ℕ). n + 1) (tally-modules gs t h) ∙ sym (counted-one isModule gs f m)) (tally-types gs t h ∙ ap (λ (ts : List ℕ). ts ++ replicate (16 - length ts) 0) (sym (cells-same gs f s)))
+  tally-module s m =
+      tally-same (tally-cells gs t h ∙ sym (counted-none isShared gs f s))
+      (ap (λ (n : ℕ). n + 1) (tally-modules gs t h) ∙ sym (counted-one isModule gs f m))
+      (tally-types gs t h ∙ ap padded (sym (cells-same gs f s)))
 
   pub tally-cell : isShared (f .kind) ≡ true → isModule (f .kind) ≡ false → t .cells < 16 → tally (t .cells + 1) (t .modules) (set (t .types) (t .cells) (cellType (f .s) (f .a))) ≡ tallyOf (gs ++ (f ∷ []))
   unfolding tallyOf
-  tally-cell s m l = tally-same (ap (λ (n : ℕ). n + 1) (tally-cells gs t h) ∙ sym (counted-one isShared gs f s)) (tally-modules gs t h ∙ sym (counted-none isModule gs f m))
-      (ap₂ (λ (ts : List ℕ) (n : ℕ). set ts n (cellType (f .s) (f .a))) (tally-types gs t h) n-is ∙ padded-more (cellsOf gs) (cellType (f .s) (f .a)) (let z = n-is in omega arith) ∙ ap (λ (ts : List ℕ). ts ++ replicate (16 - length ts) 0) (sym (cells-one gs f s)))
+  tally-cell s m l =
+      tally-same (ap (λ (n : ℕ). n + 1) (tally-cells gs t h) ∙ sym (counted-one isShared gs f s))
+      (tally-modules gs t h ∙ sym (counted-none isModule gs f m))
+      (ap₂ (λ (ts : List ℕ) (n : ℕ). set ts n (cellType (f .s) (f .a))) (tally-types gs t h) n-is
+      ∙ padded-more (cellsOf gs) (cellType (f .s) (f .a)) (let z = n-is in omega arith)
+      ∙ ap padded (sym (cells-one gs f s)))
     where
       n-is : t .cells ≡ length (cellsOf gs)
       n-is = tally-cells gs t h ∙ count-cells gs

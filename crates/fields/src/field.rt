@@ -11,13 +11,12 @@ use language::limit::MOST_MODULES;
 use language::limit::MOST_PARAMETERS;
 use language::limit::MOST_SCHEDULERS;
 use language::limit::MOST_SHARED;
-use language::type_word::CellRead;
 use language::type_word::TRUTH;
-use language::type_word::cell_type;
 use language::type_word::is_cell;
 use language::type_word::is_content_word;
 use language::type_word::is_type_word;
 use program::frames::frame_at;
+use program::shared::shared_type;
 ghost use mathlib.Core.Path.{_≡_};
 ghost use mathlib.Core.Bool.{true, not, _||_};
 ghost use mathlib.Core.List.{[]};
@@ -30,8 +29,8 @@ ghost use Rattle.language.specs.declared.kind.StatementKind.{StatementKind};
 ghost use Rattle.language.specs.declared.kind.ExpressionKind.{ExpressionKind};
 ghost use Rattle.language.specs.declared.kind.Kind.the-variants.{Declared, Module};
 ghost use Rattle.language.specs.Kinds.{statementUses, expressionUses, isShared, isModule};
-ghost use Rattle.language.specs.Places.{isPlace, hasPlace, hasScheduler};
-ghost use Rattle.language.specs.Types.{typeWord, cellType, roomAround};
+ghost use Rattle.language.specs.Places.{hasPlace, hasScheduler};
+ghost use Rattle.language.specs.Types.{typeWord};
 ghost use Rattle.language.specs.Limits.{mostLines, mostSchedulers, mostShared, mostModules};
 ghost use Rattle.text.specs.Frames.{framesOf};
 ghost use Rattle.program.specs.Trees.{frameAt};
@@ -39,10 +38,10 @@ ghost use Rattle.fields.specs.Fields.{headerFine, schedulersOf, firstCon
 ghost use Rattle.fields.specs.inner.Scans.{headerFault, fieldFault, found, fieldsFine, tallyOf};
 
 // Of the frames passed: how many are shared cells, how many are modules, and the types of these cells.
-pub struct Tally {
-    pub cells: usize,
-    pub modules: usize,
-    pub types: [u16; MOST_SHARED],
+struct Tally {
+    cells: usize,
+    modules: usize,
+    types: [u16; MOST_SHARED],
 }
 
 fn header_fine(f: Frame) -> bool
@@ -327,17 +326,6 @@ fn frame_fine(words: &[u64], i: usize, t: Tally) -> bool
     }
 }
 
-// The type of a shared cell whose owner and content type are right.
-fn shared_type(f: Frame) -> u16
-    requires { ⌜ (isPlace (f .s) ≡ true) × (roomAround (f .a) ≡ true) ⌝ }
-    ensures { λ r. ⌜ r ≡ cellType (f .s) (f .a) ⌝ }
-{
-    match cell_type(Place::known(f.s as u64), f.a) {
-        CellRead::TooDeep => 0,
-        CellRead::Word(w) => w,
-    }
-}
-
 fn with_cell(t: Tally, w: u16) -> Tally
     requires { ⌜ t .cells < mostShared ⌝ }
     ensures { λ r. ⌜ r ≡ record { cells = t .cells + 1; modules = t .modules; types = set (t .types) (t .cells) w } ⌝ }
@@ -365,7 +353,7 @@ fn with_module(t: Tally) -> Tally
 }
 
 // With frame i, which has no fault 5.
-pub fn counted(words: &[u64], i: usize, t: Tally) -> Tally
+fn counted(words: &[u64], i: usize, t: Tally) -> Tally
     requires { ⌜ (i < length (now words)) × (schedulersOf (framesOf (now words)) ≤ mostSchedulers) × (t ≡ tallyOf (take i (framesOf (now words)))) × (frameFine (framesOf (now words)) i (frameAt (framesOf (now words)) i) ≡ true) ⌝ }
     ensures { λ r. ⌜ r ≡ tallyOf (take (i + 1) (framesOf (now (words .entry)))) ⌝ }
 {

@@ -1,6 +1,6 @@
 // What a pass finds.
 ghost use mathlib.Core.Path.{_≡_};
-ghost use Rattle.basics.specs.Searches.{earlier};
+ghost use Rattle.basics.specs.inner.Searches.{earlier};
 ghost use Rattle.fields.specs.inner.Scans.{found, optionOf};
 
 // The lowest frame that has a fault, if one has it.

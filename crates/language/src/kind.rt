@@ -1,6 +1,6 @@
 // Kinds of frames, and what each field of a kind holds.
 ghost use mathlib.Core.Path.{_≡_};
-ghost use Rattle.language.specs.Kinds.{kindOf, declarationUses, statementUses, expressionUses, uses, classOf, isHeader, isShared, isModule};
+ghost use Rattle.language.specs.Kinds.{kindOf, classOf, isHeader, isShared, isModule};
 
 // Declarations that stand before the modules: a shared cell, K 01.
 pub enum DeclarationKind {
@@ -81,12 +81,6 @@ pub struct Uses {
     pub a: Use,
     pub b: Use,
     pub c: Use,
-}
-
-fn uses_are(s: Use, a: Use, b: Use, c: Use) -> Uses
-    ensures { λ r. ⌜ r ≡ record { s = s; a = a; b = b; c = c } ⌝ }
-{
-    Uses { s, a, b, c }
 }
 
 // The kind that a number names.
@@ -171,88 +165,5 @@ pub fn class_of(k: Kind) -> Class
         Kind::Statement(_) => Class::Statement,
         Kind::Expression(_) => Class::Expression,
         Kind::Unknown => Class::Neither,
-    }
-}
-
-// The fields of a declaration.
-fn declaration_uses(k: DeclarationKind) -> Uses
-    ensures { λ r. ⌜ r ≡ declarationUses k ⌝ }
-{
-    match k {
-        DeclarationKind::Shared => uses_are(
-            Use::Scheduler,
-            Use::ContentType,
-            Use::FirstContent,
-            Use::Unused,
-        ),
-    }
-}
-
-// The fields of a statement.
-fn statement_uses(k: StatementKind) -> Uses
-    ensures { λ r. ⌜ r ≡ statementUses k ⌝ }
-{
-    match k {
-        StatementKind::Nothing => uses_are(Use::Unused, Use::Unused, Use::Unused, Use::Unused),
-        StatementKind::Then => uses_are(Use::Unused, Use::Statement, Use::Statement, Use::Unused),
-        StatementKind::DoAt => uses_are(Use::Place, Use::Statement, Use::Unused, Use::Unused),
-        StatementKind::Start => uses_are(Use::Free, Use::Argument, Use::Further, Use::Unused),
-        StatementKind::StartWait => uses_are(Use::Free, Use::Argument, Use::Further, Use::Unused),
-        StatementKind::Cooperate => uses_are(Use::Unused, Use::Unused, Use::Unused, Use::Unused),
-        StatementKind::Let => uses_are(Use::Unused, Use::Expression, Use::Statement, Use::Unused),
-        StatementKind::Store => uses_are(
-            Use::Unused,
-            Use::Expression,
-            Use::Expression,
-            Use::Unused,
-        ),
-        StatementKind::If => uses_are(Use::Unused, Use::Expression, Use::Statement, Use::Statement),
-        StatementKind::While => uses_are(Use::Unused, Use::Expression, Use::Statement, Use::Unused),
-    }
-}
-
-// The fields of an expression.
-fn expression_uses(k: ExpressionKind) -> Uses
-    ensures { λ r. ⌜ r ≡ expressionUses k ⌝ }
-{
-    match k {
-        ExpressionKind::Number => uses_are(Use::Unused, Use::Free, Use::Unused, Use::Unused),
-        ExpressionKind::Truth => uses_are(Use::Truth, Use::Unused, Use::Unused, Use::Unused),
-        ExpressionKind::Variable => uses_are(Use::Free, Use::Unused, Use::Unused, Use::Unused),
-        ExpressionKind::SharedCell => uses_are(Use::Free, Use::Unused, Use::Unused, Use::Unused),
-        ExpressionKind::NewCell => uses_are(Use::Place, Use::Expression, Use::Unused, Use::Unused),
-        ExpressionKind::Content => uses_are(Use::Unused, Use::Expression, Use::Unused, Use::Unused),
-        ExpressionKind::Sum => uses_are(Use::Unused, Use::Expression, Use::Expression, Use::Unused),
-        ExpressionKind::Less => uses_are(
-            Use::Unused,
-            Use::Expression,
-            Use::Expression,
-            Use::Unused,
-        ),
-        ExpressionKind::Choose => uses_are(
-            Use::Unused,
-            Use::Expression,
-            Use::Expression,
-            Use::Expression,
-        ),
-    }
-}
-
-// The fields of a frame.
-pub fn uses_of(k: Kind) -> Uses
-    ensures { λ r. ⌜ r ≡ uses k ⌝ }
-{
-    match k {
-        Kind::Header => uses_are(Use::Free, Use::Free, Use::Free, Use::Free),
-        Kind::Declared(d) => declaration_uses(d),
-        Kind::Module => uses_are(
-            Use::Parameters,
-            Use::Statement,
-            Use::FirstType,
-            Use::SecondType,
-        ),
-        Kind::Statement(s) => statement_uses(s),
-        Kind::Expression(e) => expression_uses(e),
-        Kind::Unknown => uses_are(Use::Free, Use::Free, Use::Free, Use::Free),
     }
 }

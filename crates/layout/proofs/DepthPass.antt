@@ -9,7 +9,7 @@ use lib.Dec.{ltb}
 use borrow.Author.Tests.{ltb-true, lt-ltb, le-ltb}
 use lib.ListN.{getD, length, replicate, length-replicate}
 use Rattle.basics.specs.Members.{In}
-use Rattle.basics.specs.Searches.{lowest}
+use Rattle.basics.specs.inner.Searches.{lowest}
 use Rattle.language.specs.Kinds.{Child, children}
 use Rattle.language.specs.declared.frame.Frame.{Frame}
 use Rattle.text.specs.Frames.{framesOf}

@@ -8,7 +8,7 @@ use lib.Dec.{ltb, eqb}
 use borrow.Author.Tests.{lt-ltb, le-ltb, ne-eqb, eqb-true, eqb-false, ltb-false}
 use lib.ListN.{getD, length, set, drop, replicate, getD-replicate, length-replicate, length-set}
 use lib.Seq.{getD-set-same, getD-set-other}
-use Rattle.basics.specs.Searches.{any}
+use Rattle.basics.specs.Members.{any}
 use Rattle.basics.proofs.Ifs.{yes, no, if-all}
 use Rattle.language.specs.Kinds.{classOf, Child, children}
 use Rattle.language.specs.declared.kind.Class.{Class}

@@ -9,8 +9,8 @@ use native.Mathlib.Omega.{arith}
 use lib.ListN.{length, take, length-take}
 use lib.Seq.{getD-take}
 use borrow.Author.Tests.{not-true}
-use Rattle.basics.specs.Members.{All}
-use Rattle.basics.specs.Searches.{any, lowest}
+use Rattle.basics.specs.Members.{All, any}
+use Rattle.basics.specs.inner.Searches.{lowest}
 use Rattle.basics.proofs.Ifs.{and-true, if-all}
 use Rattle.language.specs.Kinds.{isHeader, isShared, classOf, Child, children}
 use Rattle.language.specs.declared.frame.Frame.{Frame}

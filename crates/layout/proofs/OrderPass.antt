@@ -7,7 +7,8 @@ use Prim.Native.Nat.{ℕ, _+_, _-_, _≤_, _<_}
 use lib.Dec.{eqb}
 use borrow.Author.Tests.{not-true, not-false}
 use lib.ListN.{length, take}
-use Rattle.basics.specs.Searches.{any, lowest, earlier}
+use Rattle.basics.specs.Members.{any}
+use Rattle.basics.specs.inner.Searches.{lowest, earlier}
 use Rattle.basics.proofs.Ifs.{yes, no}
 use Rattle.language.specs.Kinds.{isHeader, isShared, isModule}
 use Rattle.language.specs.declared.frame.Frame.{Frame}

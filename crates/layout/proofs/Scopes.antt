@@ -1,30 +1,28 @@
--- What a file without fault has: the verdict `Accepted`, depths of at most 24, room for its variables, children before their parents, places where frames name some, at most 16 shared cells, `main` last. Assumes nothing.
+-- What a file without fault has: the verdict `Accepted`, depths of at most 24, room for its
+-- variables, children before their parents, places where frames name some, `main` last. Assumes
+-- nothing.
 use mathlib.Core.Path.{_≡_, refl, sym, ap, _∙_}
 use mathlib.Core.Bool.{Bool, true, false}
 use mathlib.Core.List.{List, [], _∷_, _++_}
-use Prim.Native.Nat.{ℕ, zero, suc, _-_, _≤_, _<_}
+use Prim.Native.Nat.{ℕ, suc, _-_, _≤_, _<_}
 use native.Mathlib.Omega.{arith}
 use lib.Dec.{ltb}
-use lib.ListN.{length, take, length-map}
-use lib.Seq.{take-suc, take-length}
+use lib.ListN.{length}
 use borrow.Author.Tests.{ltb-true, ltb-false, eqb-true}
 use Rattle.basics.specs.Members.{In}
 use Rattle.basics.proofs.Ifs.{and-true}
-use Rattle.language.specs.Kinds.{isShared, uses, Child, childIn, children}
+use Rattle.language.specs.Kinds.{uses, Child, childIn, children}
 use Rattle.language.specs.declared.kind.StatementKind.the-variants.{Let}
 use Rattle.language.specs.declared.kind.Kind.{Kind}
-use Rattle.language.specs.declared.kind.DeclarationKind.the-variants.{Shared}
-use Rattle.language.specs.declared.kind.Kind.the-variants.{Declared, Module, Statement}
+use Rattle.language.specs.declared.kind.Kind.the-variants.{Module, Statement}
 use Rattle.language.specs.declared.kind.Use.{Use}
 use Rattle.language.specs.declared.frame.Frame.{Frame}
 use Rattle.language.specs.declared.verdict.Verdict.the-variants.{Accepted}
 use Rattle.language.proofs.PlaceLaws.{has-place}
-use Rattle.program.specs.Trees.{noFrame, frameAt}
+use Rattle.program.specs.Trees.{frameAt}
 use Rattle.program.specs.inner.Ordered.{Placed}
-use Rattle.program.specs.Programs.{sharedOf, programOf, typeOfShared}
 use Rattle.program.proofs.NodeLaws.{childrenAs, children-as}
-use Rattle.fields.specs.Fields.{schedulersOf, fieldFine, countOf, kindFine, frameFine}
-use Rattle.fields.proofs.Tallies.{is-shared, count-cells, counted-one, counted-none}
+use Rattle.fields.specs.Fields.{schedulersOf, fieldFine, frameFine}
 use Rattle.fields.proofs.FramePass.{fine-parts}
 use Rattle.layout.specs.Order.{isMain}
 use Rattle.layout.specs.Depths.{Depth}
@@ -123,26 +121,3 @@ module _ (fs : List Frame) (fine : NoFault fs) where
       let h = fine-parts fs i f (frame-right i l) .1 in
       let p = sym (ap (λ (v : Use). fieldFine fs i f v (f .s)) u) ∙ h in
       has-place (schedulersOf fs) (f .s) p .0
-
-  -- ---- at most 16 of a kind of which each frame has fewer before it
-  counts : (test : Kind → Bool) → ((i : ℕ) → i < length fs → test (frameAt fs i .kind) ≡ true → countOf test (take i fs) < 16) → (n : ℕ) → n ≤ length fs → countOf test (take n fs) ≤ 16
-  counts test h zero l = unfold countOf in omega arith
-  counts test h (suc n) l = go (test (frameAt fs n .kind)) refl (counts test h n (omega arith))
-    where
-      more : take (suc n) fs ≡ take n fs ++ (frameAt fs n ∷ [])
-      more = take-suc fs n noFrame l
-
-      go : (b : Bool) → test (frameAt fs n .kind) ≡ b → countOf test (take n fs) ≤ 16 → countOf test (take (suc n) fs) ≤ 16
-      go true e m = (let a = ap (countOf test) more ∙ counted-one test (take n fs) (frameAt fs n) e in let b = h n l e in omega arith)
-      go false e m = (let a = ap (countOf test) more ∙ counted-none test (take n fs) (frameAt fs n) e in omega arith)
-
-  counts-all : (test : Kind → Bool) → ((i : ℕ) → i < length fs → test (frameAt fs i .kind) ≡ true → countOf test (take i fs) < 16) → countOf test fs ≤ 16
-  counts-all test h = let a = counts test h (length fs) (omega arith) in let e = ap (countOf test) (take-length fs) in omega arith
-
-  shared-few : (i : ℕ) → i < length fs → isShared (frameAt fs i .kind) ≡ true → countOf isShared (take i fs) < 16
-  shared-few i l e = let k : frameAt fs i .kind ≡ Declared Shared = is-shared _ e in ltb-true _ 16 (ap (kindFine fs i) (sym k) ∙ fine-parts fs i (frameAt fs i) (frame-right i l) .0)
-
-  -- 'shared cells (at most 16)'
-  pub cells-most : length (programOf fs .shared) ≤ 16
-  unfolding programOf
-  cells-most = let a = counts-all isShared shared-few in let b = count-cells fs in let c = length-map (sharedOf fs) typeOfShared in omega arith

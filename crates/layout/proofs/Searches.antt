@@ -10,7 +10,8 @@ use lib.Dec.{leb}
 use borrow.Author.Tests.{leb-true, leb-false}
 use lib.ListN.{getD, length}
 use Rattle.basics.specs.If.{if_then_else_}
-use Rattle.basics.specs.Searches.{earlier, any, lowest}
+use Rattle.basics.specs.Members.{any}
+use Rattle.basics.specs.inner.Searches.{earlier, lowest}
 
 -- ---- the lowest number that has the property P, where there is one
 pub data Lowest (P : ℕ → Type 0) : Option ℕ → Type 0 where

@@ -7,8 +7,7 @@ use native.Mathlib.Omega.{arith}
 use lib.Dec.{ltb, leb, eqb}
 use lib.ListN.{length}
 use borrow.Author.Tests.{ltb-true, ltb-false, leb-true, leb-false, eqb-true, eqb-false}
-use Rattle.basics.specs.Members.{In}
-use Rattle.basics.specs.Searches.{any}
+use Rattle.basics.specs.Members.{In, any}
 use Rattle.language.specs.Kinds.{classOf, Child, children}
 use Rattle.language.specs.declared.kind.DeclarationKind.the-variants.{Shared}
 use Rattle.language.specs.declared.kind.Kind.{Kind}

@@ -25,15 +25,12 @@ pub data Fault (fs : List Frame) : ℕ → ℕ → Type 0 where
   order : {j : ℕ} → j < length fs → ((lo : ℕ) → Tree fs lo j → ⊥) → Fault fs wrongOrder j
   -- 'Frames stand as header, shared cells .., then the rest': the shared cell j is behind another kind
   behind : {i j : ℕ}
-      → i < j
-      → j < length fs
-      → isShared (frameAt fs j .kind) ≡ true
+      → i < j → j < length fs → isShared (frameAt fs j .kind) ≡ true
       → (isHeader (frameAt fs i .kind) || isShared (frameAt fs i .kind)) ≡ false
       → Fault fs wrongOrder j
   -- 'a leftover frame (a statement or expression that no frame has as a child)'
   leftover : {j : ℕ}
-      → j < length fs
-      → hasClass (classOf (frameAt fs j .kind)) ≡ true
+      → j < length fs → hasClass (classOf (frameAt fs j .kind)) ≡ true
       → ((i : ℕ) → i < length fs → hasChild j (frameAt fs i) ≡ false)
       → Fault fs wrongOrder j
   -- 'no main last (frame: that last frame)'

@@ -4,7 +4,7 @@ use mathlib.Core.Bool.{Bool, true, false, _&&_}
 use mathlib.Core.List.{List, [], _∷_}
 use Prim.Native.Nat.{ℕ, suc}
 use lib.Dec.{eqb}
-use Rattle.basics.specs.Searches.{any}
+use Rattle.basics.specs.Members.{any}
 use Rattle.language.specs.Kinds.{isModule, classOf, Child, children}
 use Rattle.language.specs.declared.kind.Class.{Class}
 use Rattle.language.specs.declared.frame.Frame.{Frame}
@@ -20,8 +20,7 @@ mutual
   pub data Row (fs : List Frame) : ℕ → ℕ → List Child → Type 0 where
     none : {stop : ℕ} → Row fs stop stop []
     more : {lo stop : ℕ} {c : Child} {cs : List Child}
-        → Tree fs lo (c .at)
-        → classOf (frameAt fs (c .at) .kind) ≡ c .class
+        → Tree fs lo (c .at) → classOf (frameAt fs (c .at) .kind) ≡ c .class
         → Row fs (suc (c .at)) stop cs
         → Row fs lo stop (c ∷ cs)
 

@@ -19,7 +19,7 @@ ghost use mathlib.Core.List.{[], _∷_, reverse};
 ghost use Prim.Native.Nat.{ℕ, _<_, _≤_};
 ghost use lib.Dec.{eqb};
 ghost use lib.ListN.{length};
-ghost use Rattle.basics.specs.Searches.{lowest};
+ghost use Rattle.basics.specs.inner.Searches.{lowest};
 ghost use Rattle.language.specs.Kinds.{isHeader, isShared, child, children};
 ghost use Rattle.language.specs.declared.frame.Frame.{Frame};
 ghost use Rattle.language.specs.Limits.{mostLines};

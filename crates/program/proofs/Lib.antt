@@ -7,7 +7,8 @@ pub mod OneMore
 pub mod FrameLaws
 pub mod NodeLaws
 pub mod NodeTrees
--- Modules by number, main's body, the shared cells counted.
+-- Modules by number, main's body, the shared cells counted, their types.
 pub mod MainLaws
 pub mod ModuleLaws
 pub mod SharedLaws
+pub mod SharedTypeLaws

@@ -7,7 +7,7 @@ use native.Mathlib.Omega.{arith}
 use lib.Dec.{leb, eqb}
 use lib.ListN.{length, getD, take, length-map, List·getD-map}
 use borrow.Author.Tests.{le-leb, lt-leb, eq-eqb, ne-eqb, not-true, not-false}
-use Rattle.basics.specs.Searches.{every, sameNumbers}
+use Rattle.basics.specs.inner.Searches.{every, sameNumbers}
 use Rattle.basics.proofs.Ifs.{yes, no}
 use Rattle.language.specs.Types.{public}
 use Rattle.language.specs.Effects.{noEffect, _∪_}

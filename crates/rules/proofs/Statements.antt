@@ -7,7 +7,7 @@ use lib.Dec.{leb, eqb}
 use borrow.Author.Tests.{leb-true, leb-false, eqb-true, eqb-false, not-true, not-false, lt-leb, eq-eqb, ne-eqb}
 use lib.ListN.{length}
 use Rattle.basics.specs.If.{if_then_else_}
-use Rattle.basics.specs.Searches.{every, sameNumbers}
+use Rattle.basics.specs.inner.Searches.{every, sameNumbers}
 use Rattle.basics.specs.Members.{In}
 use Rattle.basics.proofs.Ifs.{if-all, and-true, and-false, if-yes, if-no, and-off}
 use Rattle.language.specs.Places.{private, Standing, linked, unlinked, standingAt}

@@ -69,12 +69,10 @@ pub data BrokenS (env : Setting) (below : List Signature)
       → BreaksS env below Γ at p n
       → BrokenS env below Γ at p n (rootS p)
   operand : {Γ : List ℕ} {at : Standing} {p : Stmt} {x : Expr} {n j : ℕ}
-      → Operand p x
-      → BrokenE (env .cells) Γ x n j
+      → Operand p x → BrokenE (env .cells) Γ x n j
       → BrokenS env below Γ at p n j
   under : {Γ Δ : List ℕ} {at by : Standing} {p q : Stmt} {n j : ℕ}
-      → ChildS env Γ at p Δ by q
-      → BrokenS env below Δ by q n j
+      → ChildS env Γ at p Δ by q → BrokenS env below Δ by q n j
       → BrokenS env below Γ at p n j
 
 -- `BrokenM env below ms n j`: in the modules ms, which stand behind modules with the signatures
@@ -89,8 +87,7 @@ pub data BrokenM (env : Setting) : List Signature → List Part → ℕ → ℕ 
       → BrokenM env below (m ∷ ms) n j
   -- 11 'effect, .. at main': main is the last
   main : {below : List Signature} {m : Part} {e : Effect} {b : Bool}
-      → Runs env below (m .types) linked (m .body) e b
-      → within home e ≡ false
+      → Runs env below (m .types) linked (m .body) e b → within home e ≡ false
       → BrokenM env below (m ∷ []) wrongEffect (m .frame)
 
 -- in the program, frame j breaks rule n

@@ -55,34 +55,26 @@ pub data HasType (cells Γ : List ℕ) : Expr → ℕ → Effect → Type 0 wher
   -- 24 new cell: '24 adds a cell around its content; at most three', '24 adds S if S is a
   -- scheduler'; a public one has public content
   new-private : {i t : ℕ} {x : Expr} {e : Effect}
-      → HasType cells Γ x t e
-      → roomAround t ≡ true
+      → HasType cells Γ x t e → roomAround t ≡ true
       → HasType cells Γ (Expr.new i private x) (cellType private t) e
   new-public : {i s t : ℕ} {x : Expr} {e : Effect}
-      → (s ≡ private → ⊥)
-      → HasType cells Γ x t e
-      → roomAround t ≡ true
-      → public t ≡ true
+      → (s ≡ private → ⊥) → HasType cells Γ x t e → roomAround t ≡ true → public t ≡ true
       → HasType cells Γ (Expr.new i s x) (cellType s t) (withOwner s e)
   -- 25 content of cell A: '25 and 17 add the cell's owner if it is a scheduler'
   content : {i t : ℕ} {x : Expr} {e : Effect}
-      → HasType cells Γ x t e
-      → isCell t ≡ true
+      → HasType cells Γ x t e → isCell t ≡ true
       → HasType cells Γ (Expr.content i x) (contentOf t) (withOwner (ownerOf t) e)
   -- 26 sum of numbers A, B
   sum : {i : ℕ} {x y : Expr} {e f : Effect}
-      → HasType cells Γ x numberType e
-      → HasType cells Γ y numberType f
+      → HasType cells Γ x numberType e → HasType cells Γ y numberType f
       → HasType cells Γ (Expr.sum i x y) numberType (e ∪ f)
   -- 27 number A is less than number B, a truth
   less : {i : ℕ} {x y : Expr} {e f : Effect}
-      → HasType cells Γ x numberType e
-      → HasType cells Γ y numberType f
+      → HasType cells Γ x numberType e → HasType cells Γ y numberType f
       → HasType cells Γ (Expr.less i x y) truthType (e ∪ f)
   -- 28 if truth A, number B, else number C
   choose : {i : ℕ} {x y z : Expr} {e f g : Effect}
-      → HasType cells Γ x truthType e
-      → HasType cells Γ y numberType f
+      → HasType cells Γ x truthType e → HasType cells Γ y numberType f
       → HasType cells Γ z numberType g
       → HasType cells Γ (Expr.choose i x y z) numberType (e ∪ f ∪ g)
 
@@ -91,8 +83,7 @@ pub data HasType (cells Γ : List ℕ) : Expr → ℕ → Effect → Type 0 wher
 pub data HaveTypes (cells Γ : List ℕ) : List Expr → List ℕ → Effect → Type 0 where
   none : HaveTypes cells Γ [] [] noEffect
   more : {x : Expr} {t : ℕ} {e : Effect} {xs : List Expr} {ts : List ℕ} {f : Effect}
-      → HasType cells Γ x t e
-      → HaveTypes cells Γ xs ts f
+      → HasType cells Γ x t e → HaveTypes cells Γ xs ts f
       → HaveTypes cells Γ (x ∷ xs) (t ∷ ts) (e ∪ f)
 
 -- each of the types is public
@@ -111,65 +102,52 @@ pub data Runs (env : Setting) (below : List Signature)
       → Runs env below Γ at (Stmt.nothing i) noEffect true
   -- 11 A, then B
   seq : {Γ : List ℕ} {at : Standing} {i : ℕ} {p q : Stmt} {e f : Effect} {a b : Bool}
-      → Runs env below Γ at p e a
-      → Runs env below Γ at q f b
+      → Runs env below Γ at p e a → Runs env below Γ at q f b
       → Runs env below Γ at (Stmt.seq i p q) (e ∪ f) (a && b)
   -- 12 do A at place S: '12 needs the effect of A within {S}, or empty when S is 1, and itself has
   -- none'; with S 1 never while unlinked
   do-unlinked : {Γ : List ℕ} {i : ℕ} {p : Stmt} {e : Effect} {a : Bool}
-      → Runs env below Γ unlinked p e a
-      → within private e ≡ true
+      → Runs env below Γ unlinked p e a → within private e ≡ true
       → Runs env below Γ linked (Stmt.doAt i private p) noEffect a
   do-linked : {Γ : List ℕ} {at : Standing} {i s : ℕ} {p : Stmt} {e : Effect} {a : Bool}
-      → (s ≡ private → ⊥)
-      → Runs env below Γ linked p e a
-      → within s e ≡ true
+      → (s ≡ private → ⊥) → Runs env below Γ linked p e a → within s e ≡ true
       → Runs env below Γ at (Stmt.doAt i s p) noEffect a
   -- 13 start module S: 'Arguments agree with parameters in count and type, and are public', '13 and
   -- 14 add the started module's effect'; never while unlinked
   start : {Γ : List ℕ} {i s : ℕ} {xs : List Expr} {e : Effect}
-      → s < length below
-      → HaveTypes (env .cells) Γ xs (signatureAt below s .types) e
+      → s < length below → HaveTypes (env .cells) Γ xs (signatureAt below s .types) e
       → AllPublic (signatureAt below s .types)
       → Runs env below Γ linked (Stmt.start i s xs) (e ∪ signatureAt below s .effect) true
   -- 14 the same, then wait
   start-wait : {Γ : List ℕ} {i s : ℕ} {xs : List Expr} {e : Effect}
-      → s < length below
-      → HaveTypes (env .cells) Γ xs (signatureAt below s .types) e
+      → s < length below → HaveTypes (env .cells) Γ xs (signatureAt below s .types) e
       → AllPublic (signatureAt below s .types)
       → Runs env below Γ linked (Stmt.startWait i s xs) (e ∪ signatureAt below s .effect) false
   -- 15 cooperate; never while unlinked
   cooperate : {Γ : List ℕ} {i : ℕ} → Runs env below Γ linked (Stmt.cooperate i) noEffect false
   -- 16 let the next variable be A, in B
   letIn : {Γ : List ℕ} {at : Standing} {i t : ℕ} {x : Expr} {p : Stmt} {e f : Effect} {b : Bool}
-      → HasType (env .cells) Γ x t e
-      → Runs env below (Γ ++ (t ∷ [])) at p f b
+      → HasType (env .cells) Γ x t e → Runs env below (Γ ++ (t ∷ [])) at p f b
       → Runs env below Γ at (Stmt.letIn i x p) (e ∪ f) b
   -- 17 store B in cell A: '17 needs equal content types'
   store : {Γ : List ℕ} {at : Standing} {i t : ℕ} {x y : Expr} {e f : Effect}
-      → HasType (env .cells) Γ x t e
-      → isCell t ≡ true
-      → HasType (env .cells) Γ y (contentOf t) f
+      → HasType (env .cells) Γ x t e → isCell t ≡ true → HasType (env .cells) Γ y (contentOf t) f
       → Runs env below Γ at (Stmt.store i x y) (withOwner (ownerOf t) (e ∪ f)) true
   -- 18 if A then B else C
   ifElse : {Γ : List ℕ} {at : Standing} {i : ℕ} {x : Expr} {p q : Stmt} {e f g : Effect}
       {a b : Bool}
-      → HasType (env .cells) Γ x truthType e
-      → Runs env below Γ at p f a
-      → Runs env below Γ at q g b
+      → HasType (env .cells) Γ x truthType e → Runs env below Γ at p f a → Runs env below Γ at q g b
       → Runs env below Γ at (Stmt.ifElse i x p q) (e ∪ f ∪ g) (a || b)
   -- 19 while A do B: 'The body of 19 must not' end at once
   while : {Γ : List ℕ} {at : Standing} {i : ℕ} {x : Expr} {p : Stmt} {e f : Effect}
-      → HasType (env .cells) Γ x truthType e
-      → Runs env below Γ at p f false
+      → HasType (env .cells) Γ x truthType e → Runs env below Γ at p f false
       → Runs env below Γ at (Stmt.while i x p) (e ∪ f) true
 
 -- `Modules env below ms`: in a file of that setting, behind modules with the signatures `below`,
 -- the modules ms keep the rules; the last of them is main, and 'main has an effect within {2}'
 pub data Modules (env : Setting) : List Signature → List Part → Type 0 where
   main : {below : List Signature} {m : Part} {e : Effect} {b : Bool}
-      → Runs env below (m .types) linked (m .body) e b
-      → within home e ≡ true
+      → Runs env below (m .types) linked (m .body) e b → within home e ≡ true
       → Modules env below (m ∷ [])
   more : {below : List Signature} {m n : Part} {ms : List Part} {e : Effect} {b : Bool}
       → Runs env below (m .types) linked (m .body) e b

@@ -11,7 +11,7 @@ ghost use mathlib.Core.Path.{_≡_};
 ghost use mathlib.Core.List.{[], _∷_, map};
 ghost use Prim.Native.Nat.{_≤_};
 ghost use lib.ListN.{take};
-ghost use Rattle.basics.specs.Searches.{every, sameNumbers};
+ghost use Rattle.basics.specs.inner.Searches.{every, sameNumbers};
 ghost use Rattle.language.specs.Types.{public};
 ghost use Rattle.rules.specs.inner.Checking.{Argued, argue, startRule};
 ghost use Rattle.rules.specs.inner.Standings.{standing};

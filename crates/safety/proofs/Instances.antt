@@ -5,7 +5,8 @@ use Prim.Native.Nat.{ℕ}
 use Prim.Native.Char.{code}
 use Prim.Native.String.{String}
 use Rattle.basics.specs.If.{if_then_else_}
-use Rattle.basics.specs.Searches.{any, every, sameNumbers, lowest, earlier}
+use Rattle.basics.specs.Members.{any}
+use Rattle.basics.specs.inner.Searches.{every, sameNumbers, lowest, earlier}
 use Rattle.language.specs.Types.{typeWord, ownerDigit, cellDepth, cellType, ownerOf, contentOf, public, contentWord}
 use Rattle.language.specs.Kinds.{kindOf, children}
 use Rattle.language.specs.Effects.{within, withOwner}

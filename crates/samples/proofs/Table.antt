@@ -3,8 +3,8 @@ use mathlib.Core.Path.{_≡_, refl, ap, subst}
 use mathlib.Core.List.{List, [], _∷_, map}
 use Prim.Native.Nat.{ℕ}
 use Rattle.basics.specs.If.{if_then_else_}
-use Rattle.basics.specs.Members.{All}
-use Rattle.basics.specs.Searches.{any, every, sameNumbers, lowest, earlier}
+use Rattle.basics.specs.Members.{All, any}
+use Rattle.basics.specs.inner.Searches.{every, sameNumbers, lowest, earlier}
 use Rattle.language.specs.Types.{typeWord, ownerDigit, cellDepth, cellType, ownerOf, contentOf, public, contentWord}
 use Rattle.language.specs.Kinds.{kindOf, children}
 use Rattle.language.specs.Effects.{within, withOwner}
@@ -31,8 +31,8 @@ use Rattle.machine.specs.Turns.{isSchedulerOf, leave, fits, stay}
 use Rattle.machine.specs.Statements.{ends, stepNothing}
 use Rattle.machine.specs.Steps.{stepThreadWithin, endInstant, isUnlinked, stepWithin}
 use Rattle.machine.specs.Runs.{stepsFrom, answers}
-use Rattle.samples.specs.Bytes.{bytes}
-use Rattle.samples.specs.Samples.{Sample, samples}
+use Rattle.samples.specs.inner.Bytes.{bytes}
+use Rattle.samples.specs.inner.Samples.{Sample, samples}
 
 -- what is computed of a sample, and what it says
 record Row : Type 0 where

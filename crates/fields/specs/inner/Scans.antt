@@ -1,17 +1,16 @@
 -- The lowest frame with the fault 4 or 5, as functions that compute, and what the code's pass holds. No reader has to believe it: layout/proofs/Layouts and proofs/FramePass tie it to the definitions. Assumes nothing: definitions.
 use mathlib.Core.Bool.{Bool, not, _&&_}
-use mathlib.Core.List.{List, _++_}
+use mathlib.Core.List.{List}
 use mathlib.Core.Option.{Option, none, some}
-use Prim.Native.Nat.{ℕ, _-_}
-use lib.ListN.{length, replicate}
+use Prim.Native.Nat.{ℕ}
 use Rattle.basics.specs.If.{if_then_else_}
-use Rattle.basics.specs.Searches.{lowest}
+use Rattle.basics.specs.inner.Searches.{lowest}
 use Rattle.language.specs.Kinds.{isShared, isModule}
-use Rattle.language.specs.Limits.{mostShared}
 use Rattle.language.specs.declared.kind.Uses.{Uses}
 use Rattle.language.specs.declared.frame.Frame.{Frame}
 use Rattle.program.specs.Trees.{frameAt}
 use Rattle.program.specs.Programs.{cellsOf}
+use Rattle.program.specs.inner.Shared.{padded}
 use Rattle.fields.specs.Fields.{headerFine, countOf, fieldFine, frameFine}
 use Rattle.fields.specs.declared.found.Found.{Found}
 use Rattle.fields.specs.declared.found.Found.the-variants.{At, Nowhere}
@@ -39,4 +38,9 @@ fieldsFine fs i f us = fieldFine fs i f (us .s) (f .s) && fieldFine fs i f (us .
 
 -- ---- 5: of the frames passed, how many are shared cells and modules, and the types of the cells in an array of 16
 unfoldable pub tallyOf : List Frame → Tally
-tallyOf fs = record { cells = countOf isShared fs; modules = countOf isModule fs; types = cellsOf fs ++ replicate (mostShared - length (cellsOf fs)) 0 }
+tallyOf fs =
+    record {
+      cells = countOf isShared fs;
+      modules = countOf isModule fs;
+      types = padded (cellsOf fs);
+    }

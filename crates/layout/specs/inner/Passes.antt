@@ -5,7 +5,7 @@ use Prim.Native.Nat.{ℕ, zero, suc, _<_, _≤_}
 use lib.Dec.{ltb, eqb}
 use lib.ListN.{length, getD, set, replicate}
 use Rattle.basics.specs.If.{if_then_else_}
-use Rattle.basics.specs.Searches.{lowest}
+use Rattle.basics.specs.inner.Searches.{lowest}
 use Rattle.language.specs.Kinds.{isModule, classOf, Child, children}
 use Rattle.language.specs.declared.frame.Frame.{Frame}
 use Rattle.language.specs.Limits.{mostLines, mostDepth}

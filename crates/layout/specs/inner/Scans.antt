@@ -6,7 +6,8 @@ use Prim.Native.Nat.{ℕ, zero, suc, _-_}
 use lib.Dec.{ltb, eqb}
 use lib.ListN.{length, getD, take}
 use Rattle.basics.specs.If.{if_then_else_}
-use Rattle.basics.specs.Searches.{any, lowest, earlier}
+use Rattle.basics.specs.Members.{any}
+use Rattle.basics.specs.inner.Searches.{lowest, earlier}
 use Rattle.language.specs.Kinds.{isHeader, isShared, isModule, classOf, Child, children}
 use Rattle.language.specs.declared.kind.Class.{Class}
 use Rattle.language.specs.declared.frame.Frame.{Frame}

@@ -1,17 +1,17 @@
 -- `rules_of` meets its contract. Assumes nothing.
 use borrow.Author.Needs.{needs}
-use Rattle.checker.proofs.TallyLaws.{tally-room, tally-length, rules-are}
+use Rattle.checker.proofs.CheckLaws.{file-shared, rules-room, rules-length, rules-are}
 use Rattle.checker.proofs.check.rules_of.Statement.{statement}
 use Rattle.checker.proofs.check.rules_of.Tie as tie
 
-tally-requires : tie.Need-tally-requires
-tally-requires c κs = search needs
+shared-types-requires : tie.Need-shared-types-requires
+shared-types-requires c κs = search file-shared
 
 array-share-prefix-types : tie.Need-array-share-prefix-types
-array-share-prefix-types c = search tally-room
+array-share-prefix-types c = search rules-room
 
 slice-aggregate-modules-rule : tie.Need-slice-aggregate-modules-rule
-slice-aggregate-modules-rule c = search tally-length
+slice-aggregate-modules-rule c = search rules-length
 
 modules-rule-requires : tie.Need-modules-rule-requires
 modules-rule-requires c κs = search needs
@@ -23,7 +23,7 @@ pub rules-of-spec : {M : Type 1} → statement M
 rules-of-spec =
     tie.close
     (tie.spec
-    tally-requires
+    shared-types-requires
     array-share-prefix-types
     slice-aggregate-modules-rule
     modules-rule-requires

@@ -6,11 +6,6 @@ use Prim.Native.Nat.{ℕ, suc}
 use lib.Dec.{leb, eqb}
 use Rattle.basics.specs.If.{if_then_else_}
 
--- some member passes the test
-unfoldable pub any : {A : Type 0} → (A → Bool) → List A → Bool
-any test [] = false
-any test (x ∷ xs) = elim (test x) [ true ↦ true | false ↦ any test xs ]
-
 -- every member passes the test
 unfoldable pub every : {A : Type 0} → (A → Bool) → List A → Bool
 every test [] = true

@@ -1,8 +1,8 @@
 -- `shared_type` meets its contract. Assumes nothing.
 use borrow.Author.Needs.{needs}
-use Rattle.fields.proofs.FieldLaws.{shared-laws}
-use Rattle.fields.proofs.field.shared_type.Statement.{statement}
-use Rattle.fields.proofs.field.shared_type.Tie as tie
+use Rattle.program.proofs.SharedTypeLaws.{type-laws}
+use Rattle.program.proofs.shared.shared_type.Statement.{statement}
+use Rattle.program.proofs.shared.shared_type.Tie as tie
 
 cast-known : tie.Need-cast-known
 cast-known c = search needs
@@ -20,10 +20,10 @@ enum-known-w : tie.Need-enum-known-w
 enum-known-w c = search needs
 
 returns : tie.Need-returns
-returns c = search shared-laws
+returns c = search type-laws
 
 returns-2 : tie.Need-returns-2
-returns-2 c = search shared-laws
+returns-2 c = search type-laws
 
 pub shared-type-spec : {M : Type 1} → statement M
 shared-type-spec =

@@ -1,0 +1,2 @@
+-- What ties the code to the definitions: no reader has to believe it.
+pub mod Searches

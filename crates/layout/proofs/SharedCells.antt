@@ -1,0 +1,104 @@
+-- What a file without fault has of shared cells: at most 16, right behind the header, each with an
+-- owner that is a place and with room around its content. Assumes nothing.
+use mathlib.Core.Path.{_≡_, refl, sym, ap, _∙_}
+use mathlib.Core.Bool.{Bool, true, false, true≢false}
+use mathlib.Core.List.{List, [], _∷_, _++_}
+use Prim.Native.Nat.{ℕ, zero, suc, _≤_, _<_}
+use native.Mathlib.Omega.{arith}
+use lib.ListN.{length, take, length-map}
+use lib.Seq.{take-suc, take-length}
+use borrow.Author.Tests.{eqb-true}
+use Rattle.basics.proofs.Ifs.{and-true}
+use Rattle.language.specs.Kinds.{isHeader, isShared}
+use Rattle.language.specs.Limits.{mostShared}
+use Rattle.language.specs.Refusals.{wrongHeader, wrongOrder}
+use Rattle.language.specs.declared.kind.Kind.{Kind}
+use Rattle.language.specs.declared.kind.Kind.the-variants.{Header, Declared, Module}
+use Rattle.language.specs.declared.kind.Kind.the-variants.{Statement, Expression, Unknown}
+use Rattle.language.specs.declared.frame.Frame.{Frame}
+use Rattle.program.specs.Trees.{noFrame, frameAt}
+use Rattle.program.specs.Programs.{sharedOf, typeOfShared}
+use Rattle.program.specs.inner.Shared.{SharedFirst}
+use Rattle.fields.specs.Fields.{headerFine, countOf, kindFine}
+use Rattle.fields.proofs.Tallies.{is-shared, count-cells, counted-one, counted-none}
+use Rattle.fields.proofs.FramePass.{fine-parts, shared-few, owner-place, content-room}
+use Rattle.layout.specs.Faults.{Fault, NoFault}
+use Rattle.layout.proofs.Scopes.{frame-right}
+
+is-header : (k : Kind) → isHeader k ≡ true → k ≡ Header
+is-header Header e = refl
+is-header (Declared d) e = absurd (true≢false (sym e))
+is-header Module e = absurd (true≢false (sym e))
+is-header (Statement k) e = absurd (true≢false (sym e))
+is-header (Expression k) e = absurd (true≢false (sym e))
+is-header Unknown e = absurd (true≢false (sym e))
+
+module _ (fs : List Frame) (fine : NoFault fs) where
+  -- ---- how many: each has fewer than 16 before it
+  counts : (n : ℕ) → n ≤ length fs → countOf isShared (take n fs) ≤ mostShared
+  counts zero l = unfold countOf in omega arith
+  counts (suc n) l = go (isShared (frameAt fs n .kind)) refl (counts n (omega arith))
+    where
+      more : take (suc n) fs ≡ take n fs ++ (frameAt fs n ∷ [])
+      more = take-suc fs n noFrame l
+
+      go : (b : Bool) → isShared (frameAt fs n .kind) ≡ b
+          → countOf isShared (take n fs) ≤ mostShared
+          → countOf isShared (take (suc n) fs) ≤ mostShared
+      go true e m =
+          let f = frameAt fs n in
+          let a = ap (countOf isShared) more ∙ counted-one isShared (take n fs) f e in
+          let b = shared-few fs n f (frame-right fs fine n l) (is-shared _ e) in
+          omega arith
+      go false e m =
+          let a = ap (countOf isShared) more ∙ counted-none isShared (take n fs) (frameAt fs n) e in
+          omega arith
+
+  cells-most : length (sharedOf fs) ≤ mostShared
+  cells-most =
+      let a = counts (length fs) (omega arith) in
+      let e = ap (countOf isShared) (take-length fs) in
+      let b = count-cells fs in
+      let c = length-map (sharedOf fs) typeOfShared in
+      omega arith
+
+  -- ---- where: 'Frames stand as header, shared cells .., then the rest'
+  header-there : headerFine (frameAt fs 0) ≡ true
+  header-there = go (headerFine (frameAt fs 0)) refl
+    where
+      go : (b : Bool) → headerFine (frameAt fs 0) ≡ b → b ≡ true
+      go true e = refl
+      go false e = absurd (fine wrongHeader 0 (Fault.header e))
+
+  header-first : frameAt fs 0 .kind ≡ Header
+  unfolding headerFine
+  header-first =
+      let a = and-true _ _ header-there .0 in
+      let b = and-true _ _ a .0 in
+      let c = and-true _ _ b .0 in
+      is-header _ (and-true _ _ c .0)
+
+  -- before a cell, and behind frame 0, stand cells: 5 refuses another header, 6 all other kinds
+  no-gap : (i j : ℕ) → 0 < i → i < j → j < length fs → isShared (frameAt fs j .kind) ≡ true
+      → isShared (frameAt fs i .kind) ≡ true
+  no-gap i j p l m s =
+      go (isHeader (frameAt fs i .kind)) (isShared (frameAt fs i .kind)) refl refl
+    where
+      go : (a b : Bool) → isHeader (frameAt fs i .kind) ≡ a
+          → isShared (frameAt fs i .kind) ≡ b → b ≡ true
+      go a true e f = refl
+      go false false e f = absurd (fine wrongOrder j (Fault.behind l m s (rw (e, f))))
+      go true false e f =
+          let k = is-header (frameAt fs i .kind) e in
+          let g = fine-parts fs i (frameAt fs i) (frame-right fs fine i (omega arith)) .0 in
+          absurd (let z = eqb-true i 0 (sym (ap (kindFine fs i) k) ∙ g) in omega arith)
+
+  pub shared-first : SharedFirst fs
+  shared-first =
+      record {
+        header = ap isShared header-first;
+        together = no-gap;
+        few = cells-most;
+        owner = λ i l s. owner-place fs i _ (frame-right fs fine i l) (is-shared _ s);
+        content = λ i l s. content-room fs i _ (frame-right fs fine i l) (is-shared _ s);
+      }
