@@ -1,5 +1,5 @@
--- What refusal 5 leaves of a laid-out file: few modules with few parameters, and places where frames
--- name some. Assumes nothing.
+-- What refusal 5 leaves of a laid-out file: few modules with few parameters, and places where
+-- frames name some. Assumes nothing.
 use mathlib.Core.Path.{_≡_, sym, ap, subst, _∙_}
 use mathlib.Core.Bool.{true}
 use mathlib.Core.List.{List}

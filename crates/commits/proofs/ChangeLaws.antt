@@ -70,11 +70,9 @@ changed-place (Enter q body) x p e = refl
 changed-place End x p e = e
 
 -- where the thread stands behind its turn
-pub place-is : (x : ThreadWords) (c : Change) (p q : Place) → q ≡ placeAfter c p
-    → p ≡ record { number = x .place } → q .number ≡ changed c (popped x) .place
-place-is x c p q e f =
-    ap (λ (y : Place). y .number) e
-    ∙ changed-place c (popped x) p (ap (λ (y : Place). y .number) f ∙ sym (popped-place x))
+pub place-is : (x : ThreadWords) (c : Change)
+    → placeAfter c (record { number = x .place }) .number ≡ changed c (popped x) .place
+place-is x c = changed-place c (popped x) (record { number = x .place }) (sym (popped-place x))
 
 -- a place's number as a word of the continuation
 pub back-fits : (n : ℕ) → isPlace n ≡ true → 1024 + n < 2 ^ 64

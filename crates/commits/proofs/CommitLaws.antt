@@ -1,47 +1,192 @@
--- The commit of each fate: the words and the answer that the code's calls give are those of the definition. Assumes nothing.
-use Prim.Native.Nat.{ℕ}
-use mathlib.Core.Path.{_≡_, sym, ap, _∙_}
+-- A commit: what was decided, settled and followed is the answer and the words of the definition.
+-- Assumes nothing.
+use Prim.Native.Nat.{ℕ, _+_, _*_, _-_}
+use mathlib.Core.Path.{_≡_, refl, sym, ap, ap₂, _∙_, subst}
 use mathlib.Core.List.{List}
-use mathlib.Core.Bool.{Bool, true, false, not}
-use borrow.Author.Tests.{not-true, not-false}
-use Rattle.basics.proofs.Ifs.{yes, no}
+use mathlib.Core.Bool.{Bool, true, false, _&&_, not}
+use native.Mathlib.Omega.{arith}
+use lib.ListN.{getD, length, set, length-set}
+use lib.Seq.{getD-set-other}
+use lib.Dec.{eqb}
+use borrow.Author.Tests.{eqb-true, not-false}
+use Rattle.basics.specs.If.{if_then_else_}
+use Rattle.basics.proofs.Ifs.{yes, no, if-no, if-all}
 use Rattle.language.specs.declared.Place.{Place}
 use Rattle.program.specs.Programs.{Program}
+use Rattle.program.specs.inner.Modules.{foundIn}
+use Rattle.program.specs.declared.module.ModuleFound.{ModuleFound}
+use Rattle.machine.specs.Calls.{Called}
+use Rattle.states.specs.inner.Threads.{threadIn, putThread, blockOf, withOneMore}
+use Rattle.states.proofs.ThreadLaws.{in-wide, put-length}
 use Rattle.acts.specs.declared.act.Fate.{Fate}
 use Rattle.acts.specs.declared.act.Fate.the-variants.{Refused, Stays, Leaves, Joins, Starts}
 use Rattle.acts.specs.declared.act.Acted.{Acted}
-use Rattle.commits.specs.inner.Commits.{called, after, clearedIn, staysIn, leftIn, roomIn, joinedIn, leavesIn, joinsIn, startsIn, committedIn}
+use Rattle.acts.specs.inner.Fates.{Turned, popped}
+use Rattle.commits.specs.declared.decision.Passed.{Passed}
+use Rattle.commits.specs.declared.decision.Passed.the-variants.{Keep, Join, Start}
+use Rattle.commits.specs.declared.decision.Decision.{Decision}
+use Rattle.commits.specs.declared.decision.Decision.the-variants.{Refuse, Settle}
+use Rattle.commits.specs.inner.Commits.{called, after, clearedIn, settledIn, staysIn, leftIn}
+use Rattle.commits.specs.inner.Commits.{roomIn, joinedIn, joinsIn, newThread, obstacleIn}
+use Rattle.commits.specs.inner.Commits.{refusesIn, startsIn, committedIn, placeAfter}
+use Rattle.commits.specs.inner.Commits.{startTested, startDecided, decidedIn, followedIn}
+use Rattle.commits.specs.inner.Commits.{CommitWords, StartWords, Follows}
+use Rattle.commits.proofs.ChangeLaws.{popped-wide, changed-wide, place-is}
+use Rattle.commits.proofs.WritingLaws.{first-word, room-scheduler}
+use Rattle.commits.proofs.DecisionLaws.{free-count, free-scheduler}
+use Rattle.commits.proofs.FollowLaws.{keeps-is, leave-is, join-is, start-is, wait-is}
 
-pub leaves : (w v₁ v : List ℕ) (c t : ℕ) (a : Acted) → v ≡ leftIn v₁ c → v₁ ≡ staysIn w t (after w t a) → v ≡ leavesIn w c t (after w t a)
-leaves w v₁ v c t a e f = e ∙ ap (λ (l : List ℕ). leftIn l c) f
+-- ---- the turn of thread t, on words w
+module _ (p : Program) (w : List ℕ) (before c t : ℕ) (a : Acted) (h : CommitWords w t a) where
+  abbrev turn : Turned
+  turn = after w t a
 
-module _ (w v : List ℕ) (before c t : ℕ) (a : Acted) (q : ℕ) (r : Bool) (e : r ≡ roomIn w q 1) where
-  pub joins-full : not r ≡ true → v ≡ clearedIn w before (a .used) → called 20 t v ≡ joinsIn w before c t (after w t a) q
+  -- the settled words
+  abbrev words : List ℕ
+  words = staysIn w t turn
+
+  counted : length (set w 1 (a .used)) ≡ 4818
+  counted = length-set w 1 (a .used) ∙ h .settle .all
+
+  -- settling writes the cells' count and a thread's block, not how many threads there are
+  count-kept : getD words 0 0 ≡ getD w 0 0
+  unfolding settledIn putThread
+  count-kept =
+      let l = counted in
+      first-word (set w 1 (a .used)) (1042 + 55 * (t - 1)) (blockOf (turn .thread)) 55
+      (omega arith) (omega arith)
+      ∙ getD-set-other w 1 0 (a .used) 0 (λ e. omega arith)
+
+  long : length words ≡ 4818
+  unfolding settledIn
+  long =
+      put-length (set w 1 (a .used)) (t - 1) counted (h .settle .thread) (turn .thread)
+      (changed-wide (a .change) (popped (threadIn w (t - 1)))
+      (popped-wide (threadIn w (t - 1)) (in-wide w (t - 1) (h .settle .all) (h .settle .thread))))
+
+  -- where the starter stands
+  abbrev place : Place
+  place = placeAfter (a .change) (record { number = threadIn w (t - 1) .place })
+
+  place-there : place .number ≡ turn .thread .place
+  place-there = place-is (threadIn w (t - 1)) (a .change)
+
+  -- what a decision comes to
+  abbrev result : Decision → Called
+  result (Refuse n) = refusesIn w before t turn n
+  result (Settle x) = called 0 t (followedIn words c t a x)
+
+  joins-is : (q : Place) → result (decidedIn p w t a (Joins q))
+      ≡ joinsIn w before c t turn (q .number)
   unfolding joinsIn
-  joins-full h f = no _ (sym e ∙ not-true r h) (ap (called 20 t) f)
+  joins-is q =
+      if-all (λ (d : Decision). result d ≡ joinsIn w before c t turn (q .number))
+      (roomIn w (q .number) 1) (Settle (Join q)) (Refuse 20)
+      (λ e. yes _ e (ap (called 0 t) (join-is words c t a q))) (λ e. no _ e refl)
 
-  pub joins : not r ≡ false → (v₁ : List ℕ) → v ≡ joinedIn v₁ q t → v₁ ≡ leavesIn w c t (after w t a) → called 0 t v ≡ joinsIn w before c t (after w t a) q
-  unfolding joinsIn
-  joins h v₁ f g = yes _ (sym e ∙ not-false r h) (ap (called 0 t) (f ∙ ap (λ (l : List ℕ). joinedIn l q t) g))
+  -- `startsIn` of any module found, any place and any count of threads: where nothing stands in the
+  -- way, and whole
+  abbrev goes : Bool → ModuleFound → ℕ → ℕ → Called
+  goes waits x i n =
+      let new = newThread i (a .given) (a .first) (a .second) t (x .body) in
+      let entry = 128 * (n + 1) + t in
+      if not waits then called 0 t (joinedIn (withOneMore words new) i (n + 1)) else
+      if not (roomIn w i 2) then refusesIn w before t turn 20 else
+      called 0 t (joinedIn (joinedIn (withOneMore (leftIn words c) new) i (n + 1)) i entry)
 
-pub ruleset joins-laws = (joins-full, joins)
+  abbrev starts : Bool → ModuleFound → ℕ → ℕ → Called
+  starts waits x i n =
+      let no = obstacleIn w x i (a .given) in
+      if not (eqb no 0) then refusesIn w before t turn no else goes waits x i n
 
-module _ (p : Program) (w v : List ℕ) (before c t : ℕ) (a : Acted) (x : Fate) where
-  pub commit-refused : (n : ℕ) → x ≡ Refused n → v ≡ clearedIn w before (a .used) → called n t v ≡ committedIn p w before c t (after w t a) x
-  commit-refused n e f = ap (called n t) f ∙ ap (committedIn p w before c t (after w t a)) (sym e)
+  module _ (x : ModuleFound) (q : Place) where
+    abbrev gone : Bool → Decision
+    gone waits =
+        if waits && not (roomIn w (q .number) 2) then Refuse 20 else
+        Settle (Start waits q (x .body))
 
-  pub commit-stays : x ≡ Stays → v ≡ staysIn w t (after w t a) → called 0 t v ≡ committedIn p w before c t (after w t a) x
-  commit-stays e f = ap (called 0 t) f ∙ ap (committedIn p w before c t (after w t a)) (sym e)
+    goes-is : (waits : Bool) → result (gone waits) ≡ goes waits x (q .number) (getD words 0 0)
+    goes-is false =
+        ap result (if-no _ _ refl) ∙ yes _ refl (ap (called 0 t) (start-is words c t a q (x .body)))
+    goes-is true =
+        if-all (λ (d : Decision). result d ≡ goes true x (q .number) (getD words 0 0))
+        (not (roomIn w (q .number) 2)) _ _ (λ f. no _ refl (yes _ f refl))
+        (λ f. no _ refl (no _ f (ap (called 0 t) (wait-is words c t a q (x .body) long))))
 
-  pub commit-leaves : x ≡ Leaves → v ≡ leavesIn w c t (after w t a) → called 0 t v ≡ committedIn p w before c t (after w t a) x
-  commit-leaves e f = ap (called 0 t) f ∙ ap (committedIn p w before c t (after w t a)) (sym e)
+    tested-is : (waits : Bool) → result (startTested w a waits x q)
+        ≡ starts waits x (q .number) (getD words 0 0)
+    unfolding startTested
+    tested-is waits =
+        if-all (λ (d : Decision). result d ≡ starts waits x (q .number) (getD words 0 0))
+        (not (eqb (obstacleIn w x (q .number) (a .given)) 0)) _ (gone waits) (λ e. yes _ e refl)
+        (λ e. no _ e (goes-is waits))
 
-  pub commit-joins : (q : Place) (n : ℕ) → x ≡ Joins q
-      → called n t v ≡ joinsIn w before c t (after w t a) (q .number)
-      → called n t v ≡ committedIn p w before c t (after w t a) x
-  commit-joins q n e f = f ∙ ap (committedIn p w before c t (after w t a)) (sym e)
+  starts-is : (waits : Bool) (m : ℕ) → result (startDecided p w t a waits m)
+      ≡ startsIn p w before c t turn waits m
+  unfolding startsIn
+  starts-is waits m =
+      tested-is (foundIn p m) place waits
+      ∙ ap₂ (starts waits (foundIn p m)) place-there count-kept
 
-  pub commit-starts : (b : Bool) (m n : ℕ) → x ≡ Starts b m → called n t v ≡ startsIn p w before c t (after w t a) b m → called n t v ≡ committedIn p w before c t (after w t a) x
-  commit-starts b m n e f = f ∙ ap (committedIn p w before c t (after w t a)) (sym e)
+  decided-is : (f : Fate) → result (decidedIn p w t a f) ≡ committedIn p w before c t turn f
+  decided-is (Refused n) = refl
+  decided-is Stays = ap (called 0 t) (keeps-is words c Keep refl)
+  decided-is Leaves = ap (called 0 t) (leave-is words c t a)
+  decided-is (Joins q) = joins-is q
+  decided-is (Starts waits m) = starts-is waits m
 
-pub ruleset commit-laws = (commit-refused, commit-stays, commit-leaves, commit-joins, commit-starts)
+  -- what is let through has what its calls need
+  abbrev Sound : Decision → Type 0
+  Sound (Refuse n) = Unit {0}
+  Sound (Settle x) = Follows words x
+
+  free-words : (x : ModuleFound) (q : Place)
+      → not (eqb (obstacleIn w x (q .number) (a .given)) 0) ≡ false → StartWords words q
+  free-words x q e =
+      let o = obstacleIn w x (q .number) (a .given) in
+      let z : obstacleIn w x (q .number) (a .given) ≡ 0 = eqb-true o 0 (not-false (eqb o 0) e) in
+      record {
+        scheduler = free-scheduler w x (q .number) (a .given) z;
+        count = rw count-kept (free-count w x (q .number) (a .given) z);
+      }
+
+  start-sound : (waits : Bool) (x : ModuleFound) (q : Place) → Sound (startTested w a waits x q)
+  unfolding startTested
+  start-sound waits x q =
+      if-all Sound (not (eqb (obstacleIn w x (q .number) (a .given)) 0)) _ _ (λ _. tt)
+      (λ e. if-all Sound (waits && not (roomIn w (q .number) 2)) _ _ (λ _. tt)
+      (λ _. free-words x q e))
+
+  join-sound : (q : Place) → Sound (decidedIn p w t a (Joins q))
+  join-sound q =
+      if-all Sound (roomIn w (q .number) 1) (Settle (Join q)) (Refuse 20)
+      (λ e. room-scheduler w (q .number) 1 (roomIn w (q .number) 1) refl (ap not e)) (λ _. tt)
+
+  decided-sound : (f : Fate) → Sound (decidedIn p w t a f)
+  decided-sound (Refused n) = tt
+  decided-sound Stays = tt
+  decided-sound Leaves = tt
+  decided-sound (Joins q) = join-sound q
+  decided-sound (Starts waits m) = start-sound waits (foundIn p m) place
+
+  -- ---- the arms of `commit`, which has decided d
+  module _ (d : Decision) (e : d ≡ decidedIn p w t a (a .fate)) where
+    decided : (y : Decision) → d ≡ y → result y ≡ committedIn p w before c t turn (a .fate)
+    decided y g = ap result (sym g ∙ e) ∙ decided-is (a .fate)
+
+    pub commit-refused : (n : ℕ) (v : List ℕ) → d ≡ Refuse n → v ≡ clearedIn w before (a .used)
+        → called n t v ≡ committedIn p w before c t turn (a .fate)
+    commit-refused n v g f = ap (called n t) f ∙ decided (Refuse n) g
+
+    module _ (x : Passed) (g : d ≡ Settle x) (v : List ℕ) (s : v ≡ staysIn w t turn) where
+      pub commit-follows : Follows v x
+      commit-follows =
+          subst (λ (l : List ℕ). Follows l x) (sym s)
+          (subst Sound (sym e ∙ g) (decided-sound (a .fate)))
+
+      pub commit-settled : (u : List ℕ) → u ≡ followedIn v c t a x
+          → called 0 t u ≡ committedIn p w before c t turn (a .fate)
+      commit-settled u f =
+          ap (called 0 t) (f ∙ ap (λ (l : List ℕ). followedIn l c t a x) s) ∙ decided (Settle x) g
+
+pub ruleset commit-laws = (commit-refused, commit-settled)

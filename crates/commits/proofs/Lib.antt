@@ -1,4 +1,6 @@
 pub mod ChangeLaws
 pub mod WritingLaws
+pub mod DecisionLaws
 pub mod StartLaws
+pub mod FollowLaws
 pub mod CommitLaws

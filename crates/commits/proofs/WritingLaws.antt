@@ -1,23 +1,23 @@
 -- The single writes that a commit is made of: cells cleared, a thread settled, a scheduler's list left or joined, and the test of room before it. Assumes nothing.
-use Prim.Native.Nat.{ℕ, _+_, _*_, _-_, _<_, _≤_}
+use Prim.Native.Nat.{ℕ, zero, suc, _+_, _*_, _-_, _<_, _≤_}
 use mathlib.Core.Path.{_≡_, refl, sym, ap, _∙_}
-use mathlib.Core.List.{List}
+use mathlib.Core.List.{List, [], _∷_}
 use mathlib.Core.Bool.{Bool, true, false, not}
 use native.Mathlib.Omega.{arith}
 use lib.ListN.{getD, length, set, length-set, replicate, length-replicate, getD-replicate}
 use lib.Seq.{getD-set-other}
-use lib.Dec.{leb}
+use lib.Dec.{leb, ltb, eqb}
 use borrow.Author.Tests.{not-true, not-false}
-use Rattle.basics.proofs.Ifs.{yes, no, and-true}
+use Rattle.basics.proofs.Ifs.{yes, no, if-all, and-true}
 use Rattle.language.specs.Places.{home, isPlace, isScheduler}
 use Rattle.language.specs.inner.Reads.{placeRead}
 use Rattle.language.specs.declared.Place.{Place}
 use Rattle.language.specs.declared.PlaceRead.{PlaceRead}
 use Rattle.language.specs.declared.PlaceRead.the-variants.{At, NoPlace}
 use Rattle.language.proofs.PlaceLaws.{read-at, read-none, test-bounds}
-use Rattle.machine.specs.inner.Blocks.{pasted}
+use Rattle.machine.specs.inner.Blocks.{part, pasted}
 use Rattle.machine.proofs.WordLaws.{pasted-zero, pasted-more}
-use Rattle.lists.specs.inner.Lists.{withoutFirst, withLast}
+use Rattle.lists.specs.inner.Lists.{shifted, withoutFirst, withLast}
 use Rattle.states.specs.declared.thread.ThreadWords.{ThreadWords}
 use Rattle.states.specs.inner.Threads.{threadIn, putThread}
 use Rattle.states.proofs.ThreadLaws.{Wide, in-wide, put-read, put-then, put-length}
@@ -106,6 +106,37 @@ module _ (w : List ℕ) (c : ℕ) (x : PlaceRead) (e : x ≡ placeRead (isSchedu
 
 pub ruleset left-laws = (left-none, left-list)
 
+-- a block written behind the first word leaves the first word
+pub first-word : (w : List ℕ) (at : ℕ) (s : List ℕ) (n : ℕ) → 1 ≤ length w → 1 ≤ at
+    → getD (pasted w at s n) 0 0 ≡ getD w 0 0
+unfolding pasted
+first-word [] at s n h g = absurd (omega arith)
+first-word (x ∷ w) zero s n h g = absurd (omega arith)
+first-word (x ∷ w) (suc at) s n h g = refl
+
+-- how many threads there are stays
+pub left-count : (w : List ℕ) (c : ℕ) → length w ≡ 4818 → getD (leftIn w c) 0 0 ≡ getD w 0 0
+unfolding leftIn withoutFirst
+left-count w c h =
+    if-all Kept (isScheduler c) _ w
+    (λ _. if-all Kept (eqb n 0) w _ (λ _. refl)
+    (λ _. if-all Kept (ltb 64 n) w _ (λ _. refl)
+    (λ _. getD-set-other (pasted w (at + 1) rest n) at 0 (n - 1) 0 (λ e. omega arith)
+    ∙ first-word w (at + 1) rest n (omega arith) (omega arith))))
+    (λ _. refl)
+  where
+    Kept : List ℕ → Type 0
+    Kept v = getD v 0 0 ≡ getD w 0 0
+
+    at : ℕ
+    at = 2 + 130 * (c - 2)
+
+    n : ℕ
+    n = getD w at 0
+
+    rest : List ℕ
+    rest = shifted (part w (at + 1) n)
+
 module _ (w : List ℕ) (q n : ℕ) where
   pub joined : (v : List ℕ) → isScheduler q ≡ true → v ≡ withLast w (q - home) n
       → v ≡ joinedIn w q n
@@ -133,6 +164,3 @@ module _ (w : List ℕ) (q n : ℕ) where
       and-true (isScheduler q) fits (sym e ∙ not-false r h) .0
 
 pub ruleset room-laws = (room-none, room-list)
-
-pub joined-both : (w v u : List ℕ) (q a b : ℕ) → v ≡ joinedIn w q a → u ≡ joinedIn v q b → u ≡ joinedIn (joinedIn w q a) q b
-joined-both w v u q a b e f = f ∙ ap (λ (l : List ℕ). joinedIn l q b) e

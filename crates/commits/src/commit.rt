@@ -1,42 +1,68 @@
-// What becomes of the thread, committed.
+// A turn committed: decided first, then settled once, and the lists follow.
+use crate::decision::Decision;
+use crate::decision::Passed;
+use crate::decision::decide;
 use crate::leave::leave;
-use crate::start::commit_start;
+use crate::start::start;
 use crate::writing::clear_cells;
 use crate::writing::join;
-use crate::writing::room_at;
 use crate::writing::settle;
 use acts::act::Acted;
-use acts::act::Fate;
-use language::Place;
-use language::refusal::STUCK;
 ghost use mathlib.Core.Path.{_≡_};
+ghost use Prim.Native.Nat.{_≤_};
+ghost use lib.ListN.{length};
+ghost use Rattle.language.specs.Limits.{mostThreads};
 ghost use Rattle.text.specs.Frames.{framesOf};
 ghost use Rattle.program.specs.Programs.{programOf};
-ghost use Rattle.commits.specs.inner.Commits.{CommitWords, after, leavesIn, joinsIn};
-ghost use Rattle.commits.specs.inner.Commits.{committedIn, called};
+ghost use Rattle.machine.specs.Offsets.{stateLength};
+ghost use Rattle.commits.specs.inner.Commits.{CommitWords, after, committedIn, called};
+ghost use Rattle.commits.specs.inner.Commits.{leavesList, unlistedIn, enlistedIn};
+ghost use Rattle.commits.specs.inner.Commits.{followedIn, Follows};
 
-fn commit_leaves(state: &mut [u64], choice: u64, t: u64, a: Acted)
-    requires { ⌜ CommitWords (now state) t a ⌝ }
-    ensures { λ _. ⌜ now (state .exit)
-        ≡ leavesIn (now (state .entry)) choice t (after (now (state .entry)) t a) ⌝ }
+// Whether the thread leaves its list; a starter does where it waits.
+fn leaves(passed: Passed) -> bool
+    ensures { λ r. ⌜ r ≡ leavesList passed ⌝ }
 {
-    let change = a.change;
-    settle(state, (t - 1) as usize, change, a.used);
-    leave(state, choice);
+    match passed {
+        Passed::Keep => false,
+        Passed::Leave => true,
+        Passed::Join(q) => true,
+        Passed::Start(waits, place, body) => waits,
+    }
 }
 
-fn commit_joins(state: &mut [u64], before: usize, choice: u64, t: u64, a: Acted, q: Place) -> u8
-    requires { ⌜ CommitWords (now state) t a ⌝ }
-    ensures { λ r. ⌜ called r t (now (state .exit)) ≡ joinsIn (now (state .entry)) before choice t
-        (after (now (state .entry)) t a) (q .number) ⌝ }
+// The active list, where the thread leaves it.
+fn unlist(state: &mut [u64], choice: u64, passed: Passed)
+    requires { ⌜ length (now state) ≡ stateLength ⌝ }
+    ensures { λ _. ⌜ now (state .exit) ≡ unlistedIn (now (state .entry)) choice passed ⌝ }
 {
-    if !room_at(state, q, 1) {
-        clear_cells(state, before, a.used);
-        return STUCK;
+    if leaves(passed) {
+        leave(state, choice);
     }
-    commit_leaves(state, choice, t, a);
-    join(state, q, t);
-    0
+}
+
+// The next lists, where something joins one.
+fn enlist(state: &mut [u64], t: u64, a: Acted, passed: Passed)
+    requires { ⌜ (length (now state) ≡ stateLength) × (t ≤ mostThreads)
+        × Follows (now state) passed ⌝ }
+    ensures { λ _. ⌜ now (state .exit) ≡ enlistedIn (now (state .entry)) t a passed ⌝ }
+{
+    match passed {
+        Passed::Keep => {}
+        Passed::Leave => {}
+        Passed::Join(q) => join(state, q, t),
+        Passed::Start(waits, place, body) => start(state, t, a, place, body, waits),
+    }
+}
+
+// The lists behind a turn that is settled.
+fn follow(state: &mut [u64], choice: u64, t: u64, a: Acted, passed: Passed)
+    requires { ⌜ (length (now state) ≡ stateLength) × (t ≤ mostThreads)
+        × Follows (now state) passed ⌝ }
+    ensures { λ _. ⌜ now (state .exit) ≡ followedIn (now (state .entry)) choice t a passed ⌝ }
+{
+    unlist(state, choice, passed);
+    enlist(state, t, a, passed);
 }
 
 // The answer. The turn of thread t has changed the cells' words, of which `before` were in use; a
@@ -47,22 +73,16 @@ pub fn commit(frames: &[u64], state: &mut [u64], before: usize, choice: u64, t: 
         ≡ committedIn (programOf (framesOf (now (frames .entry)))) (now (state .entry)) before
         choice t (after (now (state .entry)) t a) (a .fate) ⌝ }
 {
-    let fate = a.fate;
-    match fate {
-        Fate::Refused(n) => {
+    match decide(frames, state, t, a) {
+        Decision::Refuse(n) => {
             clear_cells(state, before, a.used);
             n
         },
-        Fate::Stays => {
+        Decision::Settle(passed) => {
             let change = a.change;
             settle(state, (t - 1) as usize, change, a.used);
+            follow(state, choice, t, a, passed);
             0
         },
-        Fate::Leaves => {
-            commit_leaves(state, choice, t, a);
-            0
-        },
-        Fate::Joins(q) => commit_joins(state, before, choice, t, a, q),
-        Fate::Starts(waits, m) => commit_start(frames, state, before, choice, t, a, waits, m),
     }
 }

@@ -2,6 +2,7 @@
 // as they were.
 mod change;
 pub mod commit;
+mod decision;
 pub mod leave;
 mod start;
 mod writing;

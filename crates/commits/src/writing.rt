@@ -61,13 +61,3 @@ pub(crate) fn join(state: &mut [u64], q: Place, entry: u64)
 {
     append(state, q, entry);
 }
-
-// Two entries, the one behind the other.
-pub(crate) fn join_both(state: &mut [u64], q: Place, first: u64, second: u64)
-    requires { ⌜ (length (now state) ≡ stateLength) × (isScheduler (q .number) ≡ true) ⌝ }
-    ensures { λ _. ⌜ now (state .exit)
-        ≡ joinedIn (joinedIn (now (state .entry)) (q .number) first) (q .number) second ⌝ }
-{
-    join(state, q, first);
-    join(state, q, second);
-}

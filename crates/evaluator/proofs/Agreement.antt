@@ -235,10 +235,13 @@ equation l r a =
     ap (λ (o : Outcome). result o (l .used) (l .words)) (a .outcome) ∙ ap (λ (n : ℕ). result (r .outcome) n (l .words)) (a .cells .count)
     ∙ ap (λ (ws : List ℕ). result (r .outcome) (usedCells (r .cells)) ws) (a .cells .words)
 
-pub eval-on : (fw vs : List ℕ) (who : Who) (i n : ℕ) (ws : List ℕ) → ValueWords vs → CellWords n ws
-    → evalIn who vs (expressionAt (framesOf fw) i) n ws ≡ onWords (eval (hereOf who vs) (expressionAt (framesOf fw) i)) n ws
+pub eval-on : (fw vs : List ℕ) (who : Who) (i n : ℕ) (ws : List ℕ) (r : Result)
+    → ValueWords vs → CellWords n ws → r ≡ evalIn who vs (expressionAt (framesOf fw) i) n ws
+    → r ≡ onWords (eval (hereOf who vs) (expressionAt (framesOf fw) i)) n ws
 unfolding onWords
-eval-on fw vs who i n ws w g = equation _ _ (agree who vs w (expressionAt (framesOf fw) i) n ws (cellsFrom n ws) (small-at fw i) (holds-from n ws g))
+eval-on fw vs who i n ws r w g e =
+    let x = expressionAt (framesOf fw) i in
+    e ∙ equation _ _ (agree who vs w x n ws (cellsFrom n ws) (small-at fw i) (holds-from n ws g))
 
 storing-on : (fw vs : List ℕ) (who : Who) (a b n : ℕ) (ws : List ℕ) → ValueWords vs → CellWords n ws
     → storingIn who vs (expressionAt (framesOf fw) a) (expressionAt (framesOf fw) b) n ws

@@ -1,10 +1,8 @@
--- The returns of `value_at`, `number_at` and `truth_at`, a law for each, and what their calls require: each goes to an operand, so the frame number itself falls. Assumes nothing.
+-- The returns of `value_at`, `number_at` and `truth_at`, a law for each. Assumes nothing.
 use mathlib.Core.Path.{_≡_, refl, sym, ap, _∙_}
 use mathlib.Core.List.{List}
 use mathlib.Core.Bool.{true, false}
-use Prim.Native.Nat.{ℕ, _<_}
-use native.Mathlib.Omega.{arith}
-use native.Mathlib.Nat.{lt-trans}
+use Prim.Native.Nat.{ℕ}
 use Rattle.text.specs.Frames.{framesOf}
 use Rattle.program.specs.Trees.{Expr, expressionAt}
 use Rattle.program.specs.declared.node.Leaf.{Leaf}
@@ -27,15 +25,6 @@ use Rattle.evaluator.specs.inner.ByWords.{numbersOf, aNumber, wanted, Wa
 use Rattle.evaluator.proofs.Chains.{keeping-is, number-stopped, stopped-number, stops-answer, stopped, numbers-ran, choice-ran}
 use Rattle.evaluator.proofs.Nodes.{NodeAt}
 
--- ---- what a call requires: a smaller frame number, and a frame of the file
-pub falls-to : (ws : List ℕ) (i a t : ℕ) → (i ≡ t) × FrameWords ws i → a < i → (a < t) × FrameWords ws a
-falls-to ws i a t p l =
-    let e = p .0 in
-    let h = p .1 in
-    let there = lt-trans l (h .there) in
-    (omega arith, record { ordered = h .ordered; placed = h .placed; there = there })
-
--- ---- the returns
 module _ (fw vs : List ℕ) (who : Who) where
   -- what the recursion gives at frame i: as a value, as a number, as a truth
   abbrev Ran : ℕ → ℕ → List ℕ → Result → Type 0

@@ -1,7 +1,9 @@
--- The code, by words: one evaluation behind another, the node at a frame, the recursion.
+-- The code, by words: one evaluation behind another, the node at a frame, the recursion, the lent
+-- state.
 pub mod Chains
 pub mod Nodes
 pub mod Cases
+pub mod InPlace
 -- From words to the rules: words that hold cells, numbers that fit, and that the recursion gives what `eval` gives.
 pub mod Holding
 pub mod SmallNumbers

@@ -1,4 +1,8 @@
 // Evaluation: numbers and truths call each other, and the frame number falls at each call.
+use machine::offset::CELLS_AT;
+use machine::offset::THREAD_LENGTH;
+use machine::offset::THREADS_AT;
+use machine::offset::VARIABLES_FIELD;
 use machine::value::Outcome;
 use operations::Answered;
 use operations::Who;
@@ -15,6 +19,7 @@ use operations::operation::leaf;
 use operations::operation::then_store;
 use operations::operation::then_use;
 use program::node::ExpressionNode;
+use program::node::Leaf;
 use program::node::expression_node;
 use text::line::frame_of_word;
 ghost use mathlib.Core.Path.{_≡_};
@@ -23,8 +28,10 @@ ghost use Rattle.program.specs.Trees.{frameAt, expressionAt};
 ghost use Rattle.program.specs.inner.Nodes.{expressionNode};
 ghost use Rattle.machine.specs.Evaluation.{eval, storing};
 ghost use Rattle.operations.specs.inner.Results.{after};
+ghost use Rattle.operations.specs.inner.ByWords.{leafIn};
 ghost use Rattle.evaluator.specs.inner.Results.{hereOf, onWords};
 ghost use Rattle.evaluator.specs.inner.Results.{CellWords, ValueWords, FrameWords};
+ghost use Rattle.evaluator.specs.inner.Lent.{Lent, variablesOf, cellsOf, restOf};
 ghost use Rattle.evaluator.specs.inner.ByWords.{evalIn, wanted, numberIn, truthIn};
 
 // The node that frame i is. There is such a frame: the recursion goes from frames of the file to
@@ -36,40 +43,44 @@ fn node_at(frames: &[u64], i: u16) -> ExpressionNode
     expression_node(frame_of_word(frames[i as usize]))
 }
 
+// A leaf, with the acting thread's variables where they lie.
+fn leaf_at(who: Who, state: &[u64], l: Leaf) -> Outcome
+    requires { ⌜ Lent who (now state) ⌝ }
+    ensures { λ r. ⌜ r ≡ leafIn who (variablesOf who (now (state .entry))) l ⌝ }
+{
+    let at = THREADS_AT + THREAD_LENGTH * (who.thread as usize - 1) + VARIABLES_FIELD;
+    let count = state[at] as usize;
+    leaf(who, &state[at + 1..at + 1 + count], l)
+}
+
 // The value of frame i, of any kind.
-fn value_at(
-    frames: &[u64],
-    who: Who,
-    variables: &[u64],
-    cells: &mut [u64],
-    used: usize,
-    i: u16,
-) -> Answered
-    requires { ⌜ FrameWords (now frames) i ⌝ }
-    ensures { λ r. ⌜ after r (now (cells .exit))
-        ≡ evalIn who (now (variables .entry))
-        (expressionAt (framesOf (now (frames .entry))) i) used (now (cells .entry)) ⌝ }
+fn value_at(frames: &[u64], who: Who, state: &mut [u64], used: usize, i: u16) -> Answered
+    requires { ⌜ FrameWords (now frames) i × Lent who (now state) ⌝ }
+    ensures found { λ r. ⌜ after r (cellsOf (now (state .exit)))
+        ≡ evalIn who (variablesOf who (now (state .entry)))
+        (expressionAt (framesOf (now (frames .entry))) i) used (cellsOf (now (state .entry))) ⌝ }
+    ensures rest { λ _. ⌜ restOf (now (state .exit)) ≡ restOf (now (state .entry)) ⌝ }
 {
     match node_at(frames, i) {
-        ExpressionNode::Plain(l) => answer_of(leaf(who, variables, l), used),
+        ExpressionNode::Plain(l) => answer_of(leaf_at(who, state, l), used),
         ExpressionNode::OfValue(u, a) => {
-            let x = value_at(frames, who, variables, cells, used, a);
-            then_use(u, who, x, cells)
+            let x = value_at(frames, who, state, used, a);
+            then_use(u, who, x, &mut state[CELLS_AT..])
         },
         ExpressionNode::OfNumbers(op, a, b) => {
-            let x = number_at(frames, who, variables, cells, used, a);
+            let x = number_at(frames, who, state, used, a);
             if number_stops(x) {
                 return as_answer(x);
             }
-            let y = number_at(frames, who, variables, cells, x.used, b);
+            let y = number_at(frames, who, state, x.used, b);
             operated(op, x, y)
         },
         ExpressionNode::Choose(a, b, c) => {
-            let x = truth_at(frames, who, variables, cells, used, a);
+            let x = truth_at(frames, who, state, used, a);
             if stops(x) {
                 return x;
             }
-            let y = number_at(frames, who, variables, cells, x.used, branch(x, b, c));
+            let y = number_at(frames, who, state, x.used, branch(x, b, c));
             as_answer(y)
         },
     }
@@ -77,127 +88,104 @@ fn value_at(
 
 // The number of frame i. A wrong kind is not refused here: it waits until the frame that wants the
 // number has evaluated all that it evaluates.
-fn number_at(
-    frames: &[u64],
-    who: Who,
-    variables: &[u64],
-    cells: &mut [u64],
-    used: usize,
-    i: u16,
-) -> Wanted
-    requires { ⌜ FrameWords (now frames) i ⌝ }
-    ensures { λ r. ⌜ wanted r (now (cells .exit))
-        ≡ numberIn who (now (variables .entry))
-        (expressionAt (framesOf (now (frames .entry))) i) used (now (cells .entry)) ⌝ }
+fn number_at(frames: &[u64], who: Who, state: &mut [u64], used: usize, i: u16) -> Wanted
+    requires { ⌜ FrameWords (now frames) i × Lent who (now state) ⌝ }
+    ensures found { λ r. ⌜ wanted r (cellsOf (now (state .exit)))
+        ≡ numberIn who (variablesOf who (now (state .entry)))
+        (expressionAt (framesOf (now (frames .entry))) i) used (cellsOf (now (state .entry))) ⌝ }
+    ensures rest { λ _. ⌜ restOf (now (state .exit)) ≡ restOf (now (state .entry)) ⌝ }
 {
     match node_at(frames, i) {
-        ExpressionNode::Plain(l) => as_number(answer_of(leaf(who, variables, l), used)),
+        ExpressionNode::Plain(l) => as_number(answer_of(leaf_at(who, state, l), used)),
         ExpressionNode::OfValue(u, a) => {
-            let x = value_at(frames, who, variables, cells, used, a);
-            as_number(then_use(u, who, x, cells))
+            let x = value_at(frames, who, state, used, a);
+            as_number(then_use(u, who, x, &mut state[CELLS_AT..]))
         },
         ExpressionNode::OfNumbers(op, a, b) => {
-            let x = number_at(frames, who, variables, cells, used, a);
+            let x = number_at(frames, who, state, used, a);
             if number_stops(x) {
                 return x;
             }
-            let y = number_at(frames, who, variables, cells, x.used, b);
+            let y = number_at(frames, who, state, x.used, b);
             as_number(operated(op, x, y))
         },
         ExpressionNode::Choose(a, b, c) => {
-            let x = truth_at(frames, who, variables, cells, used, a);
+            let x = truth_at(frames, who, state, used, a);
             if stops(x) {
                 return as_number(x);
             }
-            let y = number_at(frames, who, variables, cells, x.used, branch(x, b, c));
+            let y = number_at(frames, who, state, x.used, branch(x, b, c));
             as_number(as_answer(y))
         },
     }
 }
 
 // The truth of frame i. A wrong kind is refused here: 28's condition is tested before its branch.
-fn truth_at(
-    frames: &[u64],
-    who: Who,
-    variables: &[u64],
-    cells: &mut [u64],
-    used: usize,
-    i: u16,
-) -> Answered
-    requires { ⌜ FrameWords (now frames) i ⌝ }
-    ensures { λ r. ⌜ after r (now (cells .exit))
-        ≡ truthIn who (now (variables .entry))
-        (expressionAt (framesOf (now (frames .entry))) i) used (now (cells .entry)) ⌝ }
+fn truth_at(frames: &[u64], who: Who, state: &mut [u64], used: usize, i: u16) -> Answered
+    requires { ⌜ FrameWords (now frames) i × Lent who (now state) ⌝ }
+    ensures found { λ r. ⌜ after r (cellsOf (now (state .exit)))
+        ≡ truthIn who (variablesOf who (now (state .entry)))
+        (expressionAt (framesOf (now (frames .entry))) i) used (cellsOf (now (state .entry))) ⌝ }
+    ensures rest { λ _. ⌜ restOf (now (state .exit)) ≡ restOf (now (state .entry)) ⌝ }
 {
     match node_at(frames, i) {
-        ExpressionNode::Plain(l) => then_truth(answer_of(leaf(who, variables, l), used)),
+        ExpressionNode::Plain(l) => then_truth(answer_of(leaf_at(who, state, l), used)),
         ExpressionNode::OfValue(u, a) => {
-            let x = value_at(frames, who, variables, cells, used, a);
-            then_truth(then_use(u, who, x, cells))
+            let x = value_at(frames, who, state, used, a);
+            then_truth(then_use(u, who, x, &mut state[CELLS_AT..]))
         },
         ExpressionNode::OfNumbers(op, a, b) => {
-            let x = number_at(frames, who, variables, cells, used, a);
+            let x = number_at(frames, who, state, used, a);
             if number_stops(x) {
                 return as_answer(x);
             }
-            let y = number_at(frames, who, variables, cells, x.used, b);
+            let y = number_at(frames, who, state, x.used, b);
             then_truth(operated(op, x, y))
         },
         ExpressionNode::Choose(a, b, c) => {
-            let x = truth_at(frames, who, variables, cells, used, a);
+            let x = truth_at(frames, who, state, used, a);
             if stops(x) {
                 return x;
             }
-            let y = number_at(frames, who, variables, cells, x.used, branch(x, b, c));
+            let y = number_at(frames, who, state, x.used, branch(x, b, c));
             then_truth(as_answer(y))
         },
     }
 }
 
-// The value of frame i of a file, on the cells that the words are. Each `requires` is what refusals
-// 3, 6 and 14 leave: the words of cells and of values are in range, children stand before their
-// parents, and frame i is there.
-pub fn evaluate(
-    frames: &[u64],
-    who: Who,
-    variables: &[u64],
-    cells: &mut [u64],
-    used: usize,
-    i: u16,
-) -> Answered
-    requires { ⌜ FrameWords (now frames) i × ValueWords (now variables)
-        × CellWords used (now cells) ⌝ }
-    ensures { λ r. ⌜ after r (now (cells .exit))
-        ≡ onWords (eval (hereOf who (now (variables .entry)))
-        (expressionAt (framesOf (now (frames .entry))) i)) used (now (cells .entry)) ⌝ }
+// The value of frame i of a file, on the state that the words are: the acting thread's variables
+// are read where they lie, and nothing but the cells is written. Each `requires` is what refusals
+// 3, 6 and 14 leave: the words of cells and of values are in range, the thread's variables fit
+// their space, children stand before their parents, and frame i is there.
+pub fn evaluate(frames: &[u64], who: Who, state: &mut [u64], used: usize, i: u16) -> Answered
+    requires { ⌜ FrameWords (now frames) i × Lent who (now state)
+        × ValueWords (variablesOf who (now state)) × CellWords used (cellsOf (now state)) ⌝ }
+    ensures found { λ r. ⌜ after r (cellsOf (now (state .exit)))
+        ≡ onWords (eval (hereOf who (variablesOf who (now (state .entry))))
+        (expressionAt (framesOf (now (frames .entry))) i)) used (cellsOf (now (state .entry))) ⌝ }
+    ensures rest { λ _. ⌜ restOf (now (state .exit)) ≡ restOf (now (state .entry)) ⌝ }
 {
-    value_at(frames, who, variables, cells, used, i)
+    value_at(frames, who, state, used, i)
 }
 
 // 17: the value of frame b stored in the cell that frame a gives. It asks the same of its words,
 // and that both frames are there.
-pub fn store(
-    frames: &[u64],
-    who: Who,
-    variables: &[u64],
-    cells: &mut [u64],
-    used: usize,
-    a: u16,
-    b: u16,
-) -> Answered
+pub fn store(frames: &[u64], who: Who, state: &mut [u64], used: usize, a: u16, b: u16) -> Answered
     requires { ⌜ FrameWords (now frames) a × FrameWords (now frames) b
-        × ValueWords (now variables) × CellWords used (now cells) ⌝ }
-    ensures { λ r. ⌜ after r (now (cells .exit))
-        ≡ onWords (storing (hereOf who (now (variables .entry)))
+        × Lent who (now state) × ValueWords (variablesOf who (now state))
+        × CellWords used (cellsOf (now state)) ⌝ }
+    ensures found { λ r. ⌜ after r (cellsOf (now (state .exit)))
+        ≡ onWords (storing (hereOf who (variablesOf who (now (state .entry))))
         (expressionAt (framesOf (now (frames .entry))) a)
-        (expressionAt (framesOf (now (frames .entry))) b)) used (now (cells .entry)) ⌝ }
+        (expressionAt (framesOf (now (frames .entry))) b)) used (cellsOf (now (state .entry))) ⌝ }
+    ensures rest { λ _. ⌜ restOf (now (state .exit)) ≡ restOf (now (state .entry)) ⌝ }
 {
-    let x = value_at(frames, who, variables, cells, used, a);
+    let x = value_at(frames, who, state, used, a);
     let o = x.outcome;
     match o {
         Outcome::Is(v) => {
-            let y = value_at(frames, who, variables, cells, x.used, b);
-            then_store(who, v, y, cells)
+            let y = value_at(frames, who, state, x.used, b);
+            then_store(who, v, y, &mut state[CELLS_AT..])
         },
         Outcome::Foreign => x,
         Outcome::Spent => x,

@@ -3,6 +3,7 @@ use language::limit::MOST_CHOICE_BYTES;
 use text::digit::digit;
 use text::digit::digit_table;
 ghost use mathlib.Core.Path.{_≡_};
+ghost use Rattle.text.specs.Digits.{digitTable};
 ghost use Rattle.listing.specs.inner.Choices.{judged, choiceAt};
 
 // How many choices the bytes are, or why they are none.
@@ -43,14 +44,16 @@ pub fn judge(bytes: &[u8]) -> ChoicesRead
     ChoicesRead::Choices(k as usize)
 }
 
-// The choice of line k, of bytes that were judged to be choices; 0 behind them.
-pub fn choice_at(bytes: &[u8], k: usize) -> u8
+// The choice of line k, of bytes that were judged to be choices; 0 behind them. The table of digits
+// is lent, since it would be written out anew for each choice.
+pub fn choice_at(digits: &[u8; 256], bytes: &[u8], k: usize) -> u8
+    requires { ⌜ now digits ≡ digitTable ⌝ }
     ensures { λ r. ⌜ r ≡ choiceAt (now (bytes .entry)) k ⌝ }
 {
     if bytes.len() / 3 <= k {
         return 0;
     }
-    let a = digit(bytes[3 * k]);
-    let b = digit(bytes[3 * k + 1]);
+    let a = digit(digits, bytes[3 * k]);
+    let b = digit(digits, bytes[3 * k + 1]);
     ((16 * (a as u16) + b as u16) % 256) as u8
 }

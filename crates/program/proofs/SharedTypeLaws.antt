@@ -105,7 +105,8 @@ behind-first : (fs : List Frame) → isShared (frameAt fs 0 .kind) ≡ false
 behind-first [] e = refl
 behind-first (f ∷ fs) e = ap (map typeOfShared) (shared-no f fs e)
 
-pub collect-start : (ws : List ℕ) → SharedFirst (framesOf ws) → Collecting ws (replicate mostShared 0) 0
+pub collect-start : (ws : List ℕ) → SharedFirst (framesOf ws)
+    → Collecting ws (replicate mostShared 0) 0
 collect-start ws g =
     record {
       passed = [];
@@ -211,7 +212,8 @@ module _ (ws types : List ℕ) (n : ℕ) (s : Collecting ws types n) where
           let m = s .count in
           omega arith
 
-      pub collect-more : (w : ℕ) → w ≡ cellType (f .s) (f .a) → Collecting ws (set types n w) (n + 1)
+      pub collect-more : (w : ℕ) → w ≡ cellType (f .s) (f .a)
+          → Collecting ws (set types n w) (n + 1)
       collect-more w v =
           record {
             passed = s .passed ++ (w ∷ []);
@@ -219,6 +221,7 @@ module _ (ws types : List ℕ) (n : ℕ) (s : Collecting ws types n) where
             few = let k = collect-few in omega arith;
             written =
                 ap₂ (λ (ts : List ℕ) (k : ℕ). set ts k w) (s .written) (sym (s .count))
-                ∙ padded-more (s .passed) w (let m = s .count in let k = collect-few in omega arith);
+                ∙ padded-more (s .passed) w
+                (let m = s .count in let k = collect-few in omega arith);
             all = next ∙ ap (λ (k : ℕ). (s .passed ++ (k ∷ [])) ++ later) (sym v);
           }

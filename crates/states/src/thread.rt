@@ -1,5 +1,4 @@
-// Threads of the lent words: a thread's variables loaded, and one more thread, whose words are a
-// struct by value.
+// Threads of the lent words: one more thread, whose words are a struct by value.
 use language::limit::MOST_ITEMS;
 use language::limit::MOST_THREADS;
 use language::limit::MOST_VARIABLES;
@@ -13,10 +12,10 @@ use machine::offset::VARIABLES_FIELD;
 ghost use mathlib.Core.Path.{_≡_};
 ghost use Prim.Native.Nat.{_+_, _*_, _<_, _≤_};
 ghost use lib.ListN.{length, getD};
-ghost use Rattle.language.specs.Limits.{mostVariables, mostThreads, mostItems};
+ghost use Rattle.language.specs.Limits.{mostThreads, mostItems};
 ghost use Rattle.machine.specs.Offsets.{stateLength, threadCountAt, threadsAt, threadLength};
-ghost use Rattle.machine.specs.inner.Blocks.{part, pasted};
-ghost use Rattle.states.specs.inner.Threads.{blockOf, threadIn, withOneMore};
+ghost use Rattle.machine.specs.inner.Blocks.{pasted};
+ghost use Rattle.states.specs.inner.Threads.{blockOf, withOneMore};
 
 // Where the words of a continuation and of the variables begin, behind their lengths.
 pub(crate) const FIRST_ITEM: usize = ITEMS_FIELD + 1;
@@ -35,21 +34,8 @@ pub struct ThreadWords {
     pub variables: [u64; MOST_VARIABLES],
 }
 
-// The places are within the lent words, whose length is tested before any step.
-fn load_run(w: &[u64], at: usize) -> [u64; MOST_VARIABLES]
-    requires { ⌜ at + mostVariables ≤ length (now w) ⌝ }
-    ensures { λ r. ⌜ r ≡ part (now (w .entry)) at mostVariables ⌝ }
-{
-    let mut a = [0u64; MOST_VARIABLES];
-    let mut j = 0;
-    while j < MOST_VARIABLES {
-        a[j] = w[at + j];
-        j += 1;
-    }
-    a
-}
-
-// Of the items or of the variables: they have the same space.
+// Of the items or of the variables: they have the same space. The places are within the lent
+// words, whose length is tested before any step.
 fn store_run(w: &mut [u64], at: usize, a: [u64; MOST_ITEMS])
     requires { ⌜ at + mostItems ≤ length (now w) ⌝ }
     ensures { λ _. ⌜ now (w .exit) ≡ pasted (now (w .entry)) at a mostItems ⌝ }
@@ -59,14 +45,6 @@ fn store_run(w: &mut [u64], at: usize, a: [u64; MOST_ITEMS])
         w[at + j] = a[j];
         j += 1;
     }
-}
-
-// The variables of thread k, counted from 0: thread k + 1 of the state.
-pub fn load_variables(state: &[u64], k: usize) -> [u64; MOST_VARIABLES]
-    requires { ⌜ (length (now state) ≡ stateLength) × (k < mostThreads) ⌝ }
-    ensures { λ r. ⌜ r ≡ threadIn (now (state .entry)) k .variables ⌝ }
-{
-    load_run(state, THREADS_AT + THREAD_LENGTH * k + FIRST_VARIABLE)
 }
 
 fn store_thread(state: &mut [u64], k: usize, th: ThreadWords)

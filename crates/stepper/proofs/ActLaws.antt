@@ -1,12 +1,12 @@
 -- What `act_in` reads of a thread that is there, that this is what `act` asks, and what it gives. Assumes nothing.
 use Prim.Native.Nat.{ℕ, zero, suc, _+_, _-_, _*_, _<_, _≤_}
 use mathlib.Core.Path.{_≡_, refl, sym, ap, ap₂, _∙_, subst}
-use mathlib.Core.List.{List, [], _∷_, _++_, map, reverse, append-assoc}
+use mathlib.Core.List.{List, [], _∷_, _++_, map, reverse, append-nil}
 use mathlib.Core.Bool.{true, false≢true}
 use native.Mathlib.Omega.{arith}
 use lib.ListN as list
-use lib.ListN.{length, getD, take, length-map, length-drop}
-use lib.Seq.{ext-getD, length-take-le, getD-take, getD-drop, take-all, drop-drop}
+use lib.ListN.{length, getD, take, length-map, length-drop, take-append-drop, drop-of-length-le}
+use lib.Seq.{ext-getD, length-take-le, getD-drop, take-all, take-take}
 use Rattle.basics.specs.Members.{All, more}
 use Rattle.language.specs.Places.{isPlace}
 use Rattle.language.specs.declared.Place.{Place}
@@ -20,7 +20,7 @@ use Rattle.layout.proofs.Scopes.{placed}
 use Rattle.machine.specs.State.{State, Thread, Item, run, back, drop, threadAt, usedCells}
 use Rattle.machine.specs.Words.{itemWord, valueWord}
 use Rattle.machine.specs.Shapes.{isStatement, ThreadFits, ValueFits, ItemFits, run-fits, back-fits}
-use Rattle.machine.specs.inner.Blocks.{pasted, padded, cellWords}
+use Rattle.machine.specs.inner.Blocks.{part, pasted, padded, cellWords}
 use Rattle.machine.specs.declared.value.Value.{Value}
 use Rattle.machine.proofs.WordLaws.{part-length}
 use Rattle.machine.proofs.Blocks.{cells-length, cells-at}
@@ -28,6 +28,7 @@ use Rattle.machine.proofs.InShape.{value-in}
 use Rattle.machine.proofs.Padded.{padded-at}
 use Rattle.operations.specs.declared.Who.{Who}
 use Rattle.evaluator.specs.inner.Results.{CellWords, ValueWords}
+use Rattle.evaluator.specs.inner.Lent.{Lent, variableCount, variablesOf, cellsOf, restOf}
 use Rattle.evaluator.proofs.Holding.{holds-words}
 use Rattle.states.specs.declared.thread.ThreadWords.{ThreadWords}
 use Rattle.states.specs.inner.Threads.{wordsOf, threadIn}
@@ -83,19 +84,32 @@ module _ (frames : List ℕ) (shared : ℕ) (w : List ℕ) (h : StepWords frames
   values-read : getD w (1042 + 55 * (t - 1) + 29) 0 ≤ 25
   values-read = subst (λ (y : ThreadWords). y .values ≤ 25) (sym read) (fits .variables-room)
 
-  -- ---- the variables, of the 25 words that are copied
+  -- ---- the variables, where they lie
+  module _ (who : Who) (e : who .thread ≡ t) where
+    lent : Lent who w
+    unfolding variableCount
+    lent =
+        let m = threads-few frames shared w h in
+        let b = values-read in
+        let r : 1042 + 55 * (who .thread - 1) + 29 ≡ 1042 + 55 * (t - 1) + 29 = omega arith in
+        record { all = long; first = omega arith; last = omega arith; few = rw r b }
+
+    variables-are : variablesOf who w ≡ variablesIn th
+    unfolding variablesOf variableCount part
+    variables-are =
+        ap (λ (i : ℕ). take (getD w (1042 + 55 * (i - 1) + 29) 0)
+        (list.drop (1042 + 55 * (i - 1) + 29 + 1) w)) e
+        ∙ ap (λ (i : ℕ). take (th .values) (list.drop i w)) lies
+        ∙ sym (take-take (th .values) 25 (list.drop (1042 + 55 * (t - 1) + 30) w) values-read)
+      where
+        lies : 1042 + 55 * (t - 1) + 29 + 1 ≡ 1042 + 55 * (t - 1) + 30
+        lies = omega arith
+
   wide : length (th .variables) ≡ 25
-  wide = let l = long in let m = threads-few frames shared w h in part-length w (1042 + 55 * (t - 1) + 30) 25 (omega arith)
-
-  module _ (a : List ℕ) (e : a ≡ th .variables) where
-    pub variables-room : th .values ≤ length a
-    variables-room = let z : length a ≡ 25 = ap length e ∙ wide in let b = values-read in omega arith
-
-    pub variables-are : take (th .values) a ≡ variablesIn th
-    variables-are = ap (take (th .values)) e
-
-    pub variables-count : th .values ≡ length (take (th .values) a)
-    variables-count = sym (length-take-le (th .values) a variables-room)
+  wide =
+      let l = long in
+      let m = threads-few frames shared w h in
+      part-length w (1042 + 55 * (t - 1) + 30) 25 (omega arith)
 
   values-in : (vs : List Value) → All ValueFits vs → ValueWords (map valueWord vs)
   values-in [] f k g = absurd (omega arith)
@@ -155,83 +169,111 @@ module _ (frames : List ℕ) (shared : ℕ) (w : List ℕ) (h : StepWords frames
       go (i ∷ is) e (more p f) l = subst Goal (sym e) (λ a b. let q = top-item-is (withContinuation is x) i (omega arith) in rw q (item-place i p (rw q at a) (rw q at b)))
 
   -- ---- the cells: the words from 4562 on
-  cells-part : take (length w - 4562) (list.drop 4562 w) ≡ cellWords (s .cells)
-  cells-part =
-      ext-getD 0 (take (length w - 4562) (list.drop 4562 w)) (cellWords (s .cells)) (size ∙ sym (cells-length (s .cells)))
-      (λ j g. let l : j < 256 = rw size at g in
-      getD-take (length w - 4562) (list.drop 4562 w) j 0 (let z = long in omega arith) ∙ getD-drop 4562 w j 0 ∙ says frames shared w h .cell j l ∙ sym (cells-at (s .cells) j l))
-    where
-      size : length (take (length w - 4562) (list.drop 4562 w)) ≡ 256
-      size =
-          let z = long in
-          let d = length-drop 4562 w in
-          length-take-le (length w - 4562) (list.drop 4562 w) (omega arith) ∙ (let r : length w - 4562 ≡ 256 = omega arith in r)
+  size : (v : List ℕ) → length v ≡ length w → length (cellsOf v) ≡ 256
+  unfolding cellsOf
+  size v l =
+      let z = long in
+      let r : length v - 4562 ≡ 256 = omega arith in
+      length-drop 4562 v ∙ r
+
+  cells-are : cellsOf w ≡ cellWords (s .cells)
+  unfolding cellsOf
+  cells-are =
+      ext-getD 0 (cellsOf w) (cellWords (s .cells)) (size w refl ∙ sym (cells-length (s .cells)))
+      (λ j g.
+      let l : j < 256 = rw (size w refl) at g in
+      getD-drop 4562 w j 0 ∙ says frames shared w h .cell j l ∙ sym (cells-at (s .cells) j l))
 
   cells-in : CellWords (usedCells (s .cells)) (cellWords (s .cells))
   cells-in = holds-words (usedCells (s .cells)) (cellWords (s .cells)) (s .cells)
       (record { count = refl; words = refl; room = shaped frames shared w h .cells-room; each = λ k g. shaped frames shared w h .cells k g .value })
 
+  -- words that are as before but for the cells
+  whole : (v : List ℕ) → restOf v ≡ restOf w → length v ≡ length w
+      → v ≡ pasted w 4562 (cellsOf v) 256
+  unfolding cellsOf restOf pasted
+  whole v e l =
+      let z = long in
+      let a : length (list.drop 4562 v) ≤ 256 = rw (size v l) (omega arith) in
+      sym (take-append-drop 4562 v)
+      ∙ ap₂ _++_ e (sym (take-all 256 (list.drop 4562 v) a))
+      ∙ sym (append-nil (take 4562 w ++ take 256 (list.drop 4562 v)))
+      ∙ ap (λ (y : List ℕ). (take 4562 w ++ take 256 (list.drop 4562 v)) ++ y)
+      (sym (drop-of-length-le w {i = 4562 + 256} (omega arith)))
+
   -- ---- `act`, on what is seen of the thread, its top item, its variables and the cells
-  module _ (v : View) (item : ℕ) (vs : List ℕ) (used : ℕ) (cs : List ℕ) (seen : Views v th) (top : item ≡ topIn th) (variables : vs ≡ variablesIn th)
-      (u : used ≡ getD w 1 0) (cells : cs ≡ take (length w - 4562) (list.drop 4562 w)) where
+  module _
+      (v : View) (item : ℕ) (who : Who) (used : ℕ) (seen : Views v th) (top : item ≡ topIn th)
+      (is : who ≡ record { thread = t; place = v .place; shared = shared })
+      (u : used ≡ getD w 1 0) where
     sees : Views v (wordsOf x)
     sees = subst (Views v) read seen
 
     used-is : used ≡ usedCells (s .cells)
     used-is = u ∙ says frames shared w h .cells
 
-    cells-are : cs ≡ cellWords (s .cells)
-    cells-are = cells ∙ cells-part
+    acting : who .thread ≡ t
+    acting = ap (λ (y : Who). y .thread) is
 
-    pub act-asks : TurnWords frames v vs used cs × (item < 1024 → item < length frames)
+    variables : variablesOf who w ≡ variablesIn th
+    variables = variables-are who acting
+
+    pub act-asks : TurnWords frames v (variablesOf who w) used (cellsOf w) × Lent who w
+        × (item < 1024 → item < length frames)
         × (1024 ≤ item → item < 2048 → isPlace (item - 1024) ≡ true)
     act-asks = (
       record {
         ordered = order (h .file .laid-out);
         placed = placed (framesOf frames) (h .file .laid-out);
-        place = subst (λ (i : ℕ). i ≤ 9) (sees .place) (test-bounds 1 (x .place) (place-in frames shared w h t low high) .1);
+        place = subst (λ (i : ℕ). i ≤ 9) (sees .place)
+            (test-bounds 1 (x .place) (place-in frames shared w h t low high) .1);
         items = subst (λ (i : ℕ). i ≤ 25) (sees .items) (fits .items-room);
-        count = ap length variables ∙ length-take-le (th .values) (th .variables) (let a = values-read in let b = wide in omega arith) ∙ seen .values;
+        count = ap length variables
+            ∙ length-take-le (th .values) (th .variables)
+            (let a = values-read in let b = wide in omega arith)
+            ∙ seen .values;
         variables = subst ValueWords (sym (variables ∙ ap variablesIn read)) variables-in;
         cells = rw (used-is, cells-are) cells-in;
       },
+      lent who acting,
       subst (λ (i : ℕ). i < 1024 → i < length frames) (sym (top ∙ ap topIn read)) top-there,
-      subst (λ (i : ℕ). 1024 ≤ i → i < 2048 → isPlace (i - 1024) ≡ true) (sym (top ∙ ap topIn read)) top-place,
+      subst (λ (i : ℕ). 1024 ≤ i → i < 2048 → isPlace (i - 1024) ≡ true)
+          (sym (top ∙ ap topIn read)) top-place,
     )
 
     -- the words behind it are those before with its cells pasted in
-    pub act-gives : (who : Who) (a : Acted) (ds v' : List ℕ) → who ≡ record { thread = t; place = v .place; shared = shared }
-        → actOn a ds ≡ turnAct (framesOf frames) who v item vs used cs
-        → length ds ≡ length cs → v' ≡ take 4562 w ++ (ds ++ list.drop (length w - 4562) (list.drop 4562 w)) → turnOn a v' frames shared w t
-    unfolding pasted
-    act-gives who a ds v' o e l z = record {
+    pub act-gives : (a : Acted) (v' : List ℕ)
+        → actOn a (cellsOf v')
+        ≡ turnAct (framesOf frames) who v item (variablesOf who w) used (cellsOf w)
+        → restOf v' ≡ restOf w → length v' ≡ length w → turnOn a v' frames shared w t
+    act-gives a v' e k l = record {
       acted = ap (λ (y : ActedOn). y .acted) same;
-      words = z ∙ whole;
-      whole = ap length (sym ds-is) ∙ size;
-      room = subst (λ (i : ℕ). Room (a .change) (i - 1) (wordsOf x .values)) (sym (sees .items)) (subst (λ (i : ℕ). Room (a .change) (v .items - 1) i) (sym (sees .values)) (r .room));
+      words = whole v' k l ∙ ap (λ (y : List ℕ). pasted w 4562 y 256) cells-left;
+      whole = ap length (sym cells-left) ∙ size v' l;
+      room = subst (λ (i : ℕ). Room (a .change) (i - 1) (wordsOf x .values)) (sym (sees .items))
+          (subst (Room (a .change) (v .items - 1)) (sym (sees .values)) (r .room));
     }
       where
-        r : WholeTurn a ds v item vs (λ y. turnIn (framesOf frames) who y used cs)
-        r = act-turns (framesOf frames) who v item vs used cs a ds e
+        r : WholeTurn a (cellsOf v') v item (variablesOf who w)
+            (λ y. turnIn (framesOf frames) who y used (cellsOf w))
+        r = act-turns (framesOf frames) who v item (variablesOf who w) used (cellsOf w)
+            a (cellsOf v') e
+
+        at-place : ℕ → Who
+        at-place i = record { thread = t; place = record { number = i }; shared = shared }
 
         who-is : who ≡ whoIn frames shared w t
-        who-is = o ∙ ap (λ (i : ℕ). record { thread = t; place = record { number = i }; shared = shared }) (sym (sees .place))
+        who-is = is ∙ ap at-place (sym (sees .place))
 
-        same : actedOn (turned a (popped (wordsOf x))) ds ≡ turnOf frames shared w t
-        same = r .thread (wordsOf x) sees (sym (variables ∙ ap variablesIn read)) (sym (top ∙ ap topIn read))
-            ∙ ap₂ (λ (i : ℕ) (l : List ℕ). turnIn (framesOf frames) who (wordsOf x) i l) used-is cells-are
-            ∙ ap (λ (y : Who). turnIn (framesOf frames) y (wordsOf x) (usedCells (s .cells)) (cellWords (s .cells))) who-is
+        turn-by : Who → ℕ → List ℕ → ActedOn
+        turn-by y i ws = turnIn (framesOf frames) y (wordsOf x) i ws
 
-        size : length ds ≡ 256
-        size = l ∙ ap length cells-are ∙ cells-length (s .cells)
+        same : actedOn (turned a (popped (wordsOf x))) (cellsOf v') ≡ turnOf frames shared w t
+        same =
+            r .thread (wordsOf x) sees (sym (variables ∙ ap variablesIn read))
+            (sym (top ∙ ap topIn read))
+            ∙ ap₂ (turn-by who) used-is cells-are
+            ∙ ap (λ (y : Who). turn-by y (usedCells (s .cells)) (cellWords (s .cells))) who-is
 
-        ds-is : ds ≡ turnOf frames shared w t .cells
-        ds-is = ap (λ (y : ActedOn). y .cells) same
-
-        whole : take 4562 w ++ (ds ++ list.drop (length w - 4562) (list.drop 4562 w)) ≡ pasted w 4562 (turnOf frames shared w t .cells) 256
-        whole =
-            let a : length ds ≤ 256 = rw size (omega arith) in
-            let b : length w - 4562 ≡ 256 = (let z = long in omega arith) in
-            ap (λ (y : List ℕ). take 4562 w ++ (ds ++ y)) (ap (λ (i : ℕ). list.drop i (list.drop 4562 w)) b ∙ drop-drop 256 4562 w)
-            ∙ ap (λ (y : List ℕ). take 4562 w ++ (y ++ list.drop (4562 + 256) w)) (sym (take-all 256 ds a))
-            ∙ sym (append-assoc (take 4562 w) (take 256 ds) (list.drop (4562 + 256) w)) ∙ ap (λ (y : List ℕ). pasted w 4562 y 256) ds-is
+        cells-left : cellsOf v' ≡ turnOf frames shared w t .cells
+        cells-left = ap (λ (y : ActedOn). y .cells) same

@@ -4,14 +4,12 @@ use commits::commit::commit;
 use commits::leave::leave;
 use language::Place;
 use machine::offset::CELL_COUNT_AT;
-use machine::offset::CELLS_AT;
 use machine::offset::ITEMS_FIELD;
 use machine::offset::THREAD_LENGTH;
 use machine::offset::THREADS_AT;
 use machine::offset::VARIABLES_FIELD;
 use operations::Who;
 use states::stack::top_item;
-use states::thread::load_variables;
 use states::thread::thread_count;
 use turns::item::act;
 use turns::view::View;
@@ -47,17 +45,7 @@ fn act_in(frames: &[u64], shared: usize, state: &mut [u64], t: u64) -> Acted
         shared,
     };
     let item = top_item(state, k);
-    let variables = load_variables(state, k);
-    let n = v.values as usize;
-    act(
-        frames,
-        who,
-        v,
-        item,
-        &variables[..n],
-        &mut state[CELLS_AT..],
-        used,
-    )
+    act(frames, who, v, item, state, used)
 }
 
 // Thread t takes its turn at that choice. One that a list names and that is not there ends: it leaves the list.

@@ -4,17 +4,18 @@ use mathlib.Core.List.{List}
 use mathlib.Core.Option.{none}
 use Prim.Native.Nat.{ℕ, zero, suc, _+_, _*_, _/_, _<_, _≤_}
 use native.Mathlib.Omega.{arith}
-use lib.ListN.{length, getD, drop, List·getD-map, drop-of-length-le}
+use lib.ListN.{length, getD, drop, List·getD-map, length-drop}
 use borrow.Author.Tests.{lt-ltb, le-ltb}
 use Rattle.basics.proofs.Ifs.{if-yes, yes, no}
 use Rattle.language.specs.declared.frame.Frame.{Frame}
 use Rattle.text.specs.Frames.{lineWord, frameOfWord, wordsOf, textFrames}
 use Rattle.text.specs.inner.Reading.{firstWrong}
-use Rattle.text.specs.inner.Lines.{lineFrom, lineRead, frameOfLine, frameRead}
+use Rattle.text.specs.inner.Lines.{lineRead, frameOfLine, frameRead}
 use Rattle.text.specs.declared.line.Line.{Line}
-use Rattle.text.specs.declared.line.Line.the-variants.{Word, WrongAt}
+use Rattle.text.specs.declared.line.Line.the-variants.{Word, Malformed}
 use Rattle.text.specs.declared.line.FrameRead.{FrameRead}
 use Rattle.text.specs.declared.line.FrameRead.the-variants.{Read, NoFrame}
+use Rattle.text.proofs.LineLaws.{line-short}
 use Rattle.text.proofs.ReadLaws.{length-frames, LineAt, line-at, Scanning, scanning-start, here-wrong, here-word, scanning-more, line-behind}
 
 -- ---- the frame of an index, return by return
@@ -27,8 +28,10 @@ module _ (bs : List ℕ) (i : ℕ) where
   frame-over h = no _ (le-ltb _ _ h) refl
 
   pub frame-past : i < 1024 → length bs < i * 17 → NoFrame ≡ frameRead bs i
-  unfolding frameRead lineFrom
-  frame-past l h = yes _ (lt-ltb _ _ l) (ap (λ (cs : List ℕ). frameOfLine (lineRead cs)) (sym (drop-of-length-le bs {i = i * 17} (omega arith))))
+  unfolding frameRead
+  frame-past l h =
+      let m : length (drop (i * 17) bs) < 17 = rw length-drop (omega arith) in
+      yes _ (lt-ltb _ _ l) (ap frameOfLine (line-short (drop (i * 17) bs) m))
 
   pub frame-there : (l : Line) (r : FrameRead) → i < 1024 → LineAt bs (i * 17) l → r ≡ frameOfLine l → r ≡ frameRead bs i
   unfolding frameRead
@@ -49,7 +52,10 @@ module _ (bs : List ℕ) (good : firstWrong 0 bs ≡ none) where
   line-good i at s h = go (lineRead (drop at bs)) refl
     where
       go : (l : Line) → lineRead (drop at bs) ≡ l → (lineRead (drop at bs) ≡ Word (lineWord (drop at bs))) × Scanning bs (suc i) (at + 17)
-      go (WrongAt j) e = let r = here-wrong bs i at s h j (sym e) .0 in let z : _≡_ {A = ℕ} 0 1 = cc in absurd (omega arith)
+      go Malformed e =
+          let r = here-wrong bs i at s h (sym e) .2 in
+          let z : _≡_ {A = ℕ} 0 1 = cc in
+          absurd (omega arith)
       go (Word w) e = (e ∙ ap Word (here-word bs i at s h w (sym e)), scanning-more bs i at s h w (sym e))
 
   scanned : (i : ℕ) → i ≤ length bs / 17 → Scanning bs i (i * 17)

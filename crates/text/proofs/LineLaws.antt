@@ -1,97 +1,151 @@
--- Laws of the loop of `read_line`, which takes a line a byte at a time: what it keeps, and what each return of the function gives. Assumes nothing.
-use mathlib.Core.Path.{_≡_, refl, sym, ap, _∙_}
-use mathlib.Core.List.{List, [], _∷_}
-use Prim.Native.Nat.{ℕ, suc, _+_, _*_, _^_, _<_, _≤_}
+-- Laws of the loop of `read_line`, which takes all digits of a line without an exit: what it keeps,
+-- and what each return of the function gives. Assumes nothing.
+use mathlib.Core.Path.{_≡_, refl, sym, ap, ap₂, _∙_}
+use mathlib.Core.Bool.{Bool, true, false, _&&_}
+use mathlib.Core.List.{List, [], _∷_, _++_}
+use Prim.Native.Nat.{ℕ, suc, _+_, _*_, _%_, _^_, _<_, _≤_}
 use native.Mathlib.Nat.{pow-suc, pow-le-pow-right}
 use native.Mathlib.Numerals.{add-one}
 use native.Mathlib.Omega.{arith}
-use lib.ListN.{length, getD, drop, drop-of-length-le}
-use lib.Seq.{drop-cons}
-use borrow.Author.Tests.{eq-eqb, ne-eqb, lt-ltb, le-ltb}
-use Rattle.basics.proofs.Ifs.{if-yes, if-no}
-use Rattle.text.specs.Digits.{digit, digitTable}
-use Rattle.text.specs.inner.Lines.{lineFrom, lineRead}
-use Rattle.text.proofs.Table.{table-at}
-use Rattle.text.specs.declared.line.Line.{Line}
-use Rattle.text.specs.declared.line.Line.the-variants.{Word, WrongAt}
+use lib.Bits.{bitOr, or-lt, or-add-and, and-le-l, and-le-r}
+use lib.Dec.{leb, ltb, eqb}
+use lib.ListN.{length, getD, take}
+use lib.Seq.{take-suc}
+use borrow.Author.Tests.{eq-eqb, ne-eqb, lt-ltb, le-ltb, le-leb, lt-leb, ltb-true, ltb-false}
+use Rattle.basics.proofs.Ifs.{yes, no, and-off}
+use Rattle.text.specs.Digits.{digit}
+use Rattle.text.specs.Frames.{hexadecimal, lineWord}
+use Rattle.text.specs.inner.Lines.{allDigits, startsLine, lineRead}
+use Rattle.text.specs.declared.line.Line.the-variants.{Word, Malformed}
 
--- ---- one byte
-module _ (k w b : ℕ) (bs : List ℕ) where
-  digit-more : (k ≡ 16 → ⊥) → digit b < 16 → lineFrom k w (b ∷ bs) ≡ lineFrom (suc k) (w * 16 + digit b) bs
-  unfolding lineFrom
-  digit-more n h = if-no _ _ (ne-eqb k 16 n) ∙ if-yes _ _ (lt-ltb (digit b) 16 h)
+-- ---- bits of values put together: none is lost, and 16 is reached only where one value reaches it
+or-left : (a b : ℕ) → a ≤ bitOr a b
+or-left a b = let s = or-add-and a b in let l = and-le-r a b in omega arith
 
-  digit-wrong : (k ≡ 16 → ⊥) → 16 ≤ digit b → lineFrom k w (b ∷ bs) ≡ WrongAt k
-  unfolding lineFrom
-  digit-wrong n h = if-no _ _ (ne-eqb k 16 n) ∙ if-no _ _ (le-ltb (digit b) 16 h)
+or-right : (a b : ℕ) → b ≤ bitOr a b
+or-right a b = let s = or-add-and a b in let l = and-le-l a b in omega arith
 
-  feed-right : k ≡ 16 → b ≡ 10 → lineFrom k w (b ∷ bs) ≡ Word w
-  unfolding lineFrom
-  feed-right n h = if-yes _ _ (eq-eqb k 16 n) ∙ if-yes _ _ (eq-eqb b 10 h)
+or-below : (a b : ℕ) → ltb (bitOr a b) 16 ≡ ltb a 16 && ltb b 16
+or-below a b = by (ltb a 16) (ltb b 16) refl refl
+  where
+    by : (s t : Bool) → ltb a 16 ≡ s → ltb b 16 ≡ t → ltb (bitOr a b) 16 ≡ s && t
+    by true true p q = lt-ltb _ _ (or-lt 4 a b (ltb-true a 16 p) (ltb-true b 16 q))
+    by true false p q =
+        let l = ltb-false b 16 q in
+        let o = or-right a b in
+        le-ltb (bitOr a b) 16 (omega arith)
+    by false t p q =
+        let l = ltb-false a 16 p in
+        let o = or-left a b in
+        le-ltb (bitOr a b) 16 (omega arith)
 
-  feed-wrong : k ≡ 16 → (b ≡ 10 → ⊥) → lineFrom k w (b ∷ bs) ≡ WrongAt k
-  unfolding lineFrom
-  feed-wrong n h = if-yes _ _ (eq-eqb k 16 n) ∙ if-no _ _ (ne-eqb b 10 h)
+-- ---- one byte behind others
+all-more : (bs : List ℕ) (b : ℕ) → allDigits (bs ++ (b ∷ [])) ≡ allDigits bs && ltb (digit b) 16
+unfolding allDigits
+all-more [] b = go (ltb (digit b) 16)
+  where
+    go : (t : Bool) → (t && true) ≡ t
+    go true = refl
+    go false = refl
+all-more (c ∷ bs) b = go (ltb (digit c) 16) (all-more bs b)
+  where
+    go : (t : Bool) → allDigits (bs ++ (b ∷ [])) ≡ allDigits bs && ltb (digit b) 16
+        → (t && allDigits (bs ++ (b ∷ []))) ≡ (t && allDigits bs) && ltb (digit b) 16
+    go true e = e
+    go false e = refl
 
-missing : (k w : ℕ) → lineFrom k w [] ≡ WrongAt k
-unfolding lineFrom
-missing k w = refl
+hexadecimal-more : (bs : List ℕ) (b w : ℕ)
+    → hexadecimal w (bs ++ (b ∷ [])) ≡ hexadecimal w bs * 16 + digit b
+unfolding hexadecimal
+hexadecimal-more [] b w = refl
+hexadecimal-more (c ∷ bs) b w = hexadecimal-more bs b (w * 16 + digit c)
 
--- ---- the loop, behind k digits whose number is w: from here on it is as from the start, and the number fits
-pub record Taking (bytes : List ℕ) (w k : ℕ) : Type 0 where
-  pub rest : lineFrom k w (drop k bytes) ≡ lineRead bytes
+-- ---- the loop, behind k bytes: whether all are digits, and then their number; and it fits
+pub record Taking (bytes : List ℕ) (w bits k : ℕ) : Type 0 where
+  pub tested : ltb bits 16 ≡ allDigits (take k bytes)
+  pub word : bits < 16 → w ≡ hexadecimal 0 (take k bytes)
   pub fits : w < 16 ^ k
 
-pub taking-start : (bytes : List ℕ) → Taking bytes 0 0
-taking-start bytes = record { rest = refl; fits = omega arith }
+pub taking-start : (bytes : List ℕ) → Taking bytes 0 0 0
+unfolding allDigits hexadecimal
+taking-start bytes = record { tested = refl; word = λ h. refl; fits = omega arith }
 
-module _ (bytes : List ℕ) (w k : ℕ) (t : Taking bytes w k) where
-  -- with the byte k in front
-  here : k < length bytes → lineFrom k w (getD bytes k 0 ∷ drop (suc k) bytes) ≡ lineRead bytes
-  here h = ap (lineFrom k w) (sym (drop-cons bytes k 0 h)) ∙ t .rest
-
-  pub line-short : length bytes ≤ k → WrongAt k ≡ lineRead bytes
-  line-short h = sym (missing k w) ∙ ap (lineFrom k w) (sym (drop-of-length-le bytes h)) ∙ t .rest
-
+module _ (bytes : List ℕ) (w bits k : ℕ) (t : Taking bytes w bits k) where
   -- there is room for one digit more
   power : k < 16 → 16 ^ k * 16 ≤ 2 ^ 64
-  power l = let p = pow-suc 16 k in let m = pow-le-pow-right {n = 16} (omega arith) {i = suc k} {j = 16} (omega arith) in omega arith
+  power l =
+      let p = pow-suc 16 k in
+      let m = pow-le-pow-right {n = 16} (omega arith) {i = suc k} {j = 16} (omega arith) in
+      omega arith
 
   pub times-fits : k < 16 → w * 16 < 2 ^ 64
   times-fits l = let f = t .fits in let p = power l in omega arith
 
-  -- d is the digit, and v the same as the code widens it
-  pub word-fits : (d v : ℕ) → k < 16 → d < 16 → v ≡ d → w * 16 + v < 2 ^ 64
-  word-fits d v l n z = let f = t .fits in let p = power l in omega arith
+  -- d is the value, and v what the code adds of it
+  pub word-fits : (d v : ℕ) → k < 16 → v ≡ d % 16 → w * 16 + v < 2 ^ 64
+  word-fits d v l z = let f = t .fits in let p = power l in omega arith
+
+  pub taking-more : (d v : ℕ) → d ≡ digit (getD bytes k 0) → v ≡ d % 16 → k < 16
+      → 17 ≤ length bytes → Taking bytes (w * 16 + v) (bitOr bits d) (k + 1)
+  taking-more d v e z h m =
+      let b = getD bytes k 0 in
+      let s = sym (take-suc bytes k 0 (omega arith)) in
+      rw add-one (record {
+        tested =
+            or-below bits d
+            ∙ ap₂ (λ (x y : Bool). x && y) (t .tested) (ap (λ (n : ℕ). ltb n 16) e)
+            ∙ sym (all-more (take k bytes) b) ∙ ap allDigits s;
+        word = λ l.
+            let o = or-left bits d in
+            let q = or-right bits d in
+            let i : w ≡ hexadecimal 0 (take k bytes) = t .word (omega arith) in
+            let j : v ≡ digit b = omega arith in
+            ap₂ (λ (x y : ℕ). x * 16 + y) i j ∙ sym (hexadecimal-more (take k bytes) b 0)
+            ∙ ap (hexadecimal 0) s;
+        fits = let p = pow-suc 16 k in let f = t .fits in omega arith;
+      })
+
+-- ---- the returns
+module _ (bytes : List ℕ) where
+  malformed : startsLine bytes ≡ false → Malformed ≡ lineRead bytes
+  unfolding lineRead
+  malformed e = no _ e refl
+
+  pub line-short : length bytes < 17 → Malformed ≡ lineRead bytes
+  unfolding startsLine
+  line-short h = malformed (rw (lt-leb 17 (length bytes) h) refl)
+
+  pub line-feed-wrong : (getD bytes 16 0 ≡ 10 → ⊥) → Malformed ≡ lineRead bytes
+  unfolding startsLine
+  line-feed-wrong n =
+      malformed
+      (ap (λ (t : Bool). leb 17 (length bytes) && allDigits (take 16 bytes) && t)
+      (ne-eqb (getD bytes 16 0) 10 n)
+      ∙ and-off (leb 17 (length bytes) && allDigits (take 16 bytes)))
 
   -- behind the loop, k is 16
-  pub line-feed-missing : 16 ≤ k → k ≤ 16 → length bytes ≤ 16 → WrongAt 16 ≡ lineRead bytes
-  line-feed-missing a b h = ap WrongAt (omega arith) ∙ line-short (omega arith)
+  module _ (w bits k : ℕ) (t : Taking bytes w bits k) (low : 16 ≤ k) (high : k ≤ 16) where
+    behind : Taking bytes w bits 16
+    behind = let e : k ≡ 16 = omega arith in rw e at t
 
-  at-end : (r : Line) → k ≤ 16 → lineFrom k w (getD bytes k 0 ∷ drop (suc k) bytes) ≡ r → 16 < length bytes → r ≡ lineRead bytes
-  at-end r b e h = sym e ∙ here (omega arith)
+    pub line-digit-wrong : 16 ≤ bits → Malformed ≡ lineRead bytes
+    unfolding startsLine
+    line-digit-wrong h =
+        malformed
+        (ap (λ (t : Bool). leb 17 (length bytes) && t && eqb (getD bytes 16 0) 10)
+        (sym (behind .tested) ∙ le-ltb bits 16 h)
+        ∙ ap (λ (t : Bool). t && eqb (getD bytes 16 0) 10) (and-off (leb 17 (length bytes))))
 
-  pub line-feed-wrong : 16 ≤ k → k ≤ 16 → 16 < length bytes → (getD bytes 16 0 ≡ 10 → ⊥) → WrongAt 16 ≡ lineRead bytes
-  line-feed-wrong a b h n =
-      let e : k ≡ 16 = omega arith in
-      at-end (WrongAt 16) b (feed-wrong k w (getD bytes k 0) (drop (suc k) bytes) e (rw e n) ∙ ap WrongAt e) h
+    pub line-done : 17 ≤ length bytes → bits < 16 → getD bytes 16 0 ≡ 10
+        → Word w ≡ lineRead bytes
+    unfolding lineRead startsLine lineWord
+    line-done m h n =
+        yes _
+        (rw (
+          le-leb 17 (length bytes) m,
+          sym (behind .tested) ∙ lt-ltb bits 16 h,
+          eq-eqb (getD bytes 16 0) 10 n,
+        ) refl)
+        (ap Word (behind .word h))
 
-  pub line-done : 16 ≤ k → k ≤ 16 → 16 < length bytes → getD bytes 16 0 ≡ 10 → Word w ≡ lineRead bytes
-  line-done a b h n =
-      let e : k ≡ 16 = omega arith in
-      at-end (Word w) b (feed-right k w (getD bytes k 0) (drop (suc k) bytes) e (rw e n)) h
-
--- one digit: it is read from the table, and v is the same as the code widens it
-module _ (bytes digits : List ℕ) (w k : ℕ) (t : Taking bytes w k) (e : digits ≡ digitTable) (b : getD bytes k 0 < 256) where
-  pub table-wrong : k < 16 → k < length bytes → 16 ≤ getD digits (getD bytes k 0) 0 → WrongAt k ≡ lineRead bytes
-  table-wrong l h n = let d = table-at digits (getD bytes k 0) e b in sym (digit-wrong k w (getD bytes k 0) (drop (suc k) bytes) (λ z. omega arith) (omega arith)) ∙ here bytes w k t h
-
-  pub table-more : (v : ℕ) → k < 16 → k < length bytes → getD digits (getD bytes k 0) 0 < 16 → v ≡ getD digits (getD bytes k 0) 0 → Taking bytes (w * 16 + v) (k + 1)
-  table-more v l h n z =
-      let d = table-at digits (getD bytes k 0) e b in
-      record {
-        rest = rw (add-one, z, d) (sym (digit-more k w (getD bytes k 0) (drop (suc k) bytes) (λ z. omega arith) (omega arith)) ∙ here bytes w k t h);
-        fits = rw add-one (let p = pow-suc 16 k in let f = t .fits in omega arith);
-      }
-
-pub ruleset line-laws = (line-short, line-feed-missing, line-feed-wrong, line-done)
+pub ruleset line-laws = (line-short, line-digit-wrong, line-feed-wrong, line-done)

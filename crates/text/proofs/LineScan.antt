@@ -1,23 +1,25 @@
--- A line that is read is a step of the scan for the first wrong byte: the scan stops where the line is wrong, and goes on 17 bytes later where it is right. Assumes nothing.
-use mathlib.Core.Path.{_≡_, sym, ap, subst, _∙_}
-use mathlib.Core.Bool.{Bool, true, false}
+-- A line that is read is a step of the scan for the first wrong byte: the scan stops in a malformed
+-- line, and goes on 17 bytes later behind a right one. Assumes nothing.
+use mathlib.Core.Path.{_≡_, refl, sym, ap, subst, _∙_}
+use mathlib.Core.Bool.{Bool, true, false, _&&_, true≢false}
 use mathlib.Core.List.{List, [], _∷_}
 use mathlib.Core.Option.{none, some}
-use Prim.Native.Nat.{ℕ, suc, _+_, _-_, _*_, _%_, _<_, _≤_}
+use Prim.Native.Nat.{ℕ, zero, suc, _+_, _%_, _<_, _≤_}
 use native.Mathlib.Nat.{add-suc}
 use native.Mathlib.Omega.{arith}
-use lib.Dec.{ltb, eqb}
-use lib.ListN.{length, take, drop}
-use borrow.Author.Tests.{eq-eqb, ne-eqb, lt-ltb, eqb-true, eqb-false, ltb-true}
+use lib.Dec.{leb, ltb, eqb}
+use lib.ListN.{length, getD, take, drop}
+use lib.Seq.{drop-cons}
+use borrow.Author.Tests.{eq-eqb, ne-eqb, lt-ltb, ltb-true, leb-true, leb-false}
 use Rattle.basics.specs.If.{if_then_else_}
-use Rattle.basics.proofs.Ifs.{if-all, if-yes, if-no}
+use Rattle.basics.proofs.Ifs.{if-yes, if-no, and-true}
 use Rattle.text.specs.Digits.{digit}
-use Rattle.text.specs.Frames.{hexadecimal, lineWord}
+use Rattle.text.specs.Frames.{lineWord}
 use Rattle.text.specs.Reading.{rightAt}
 use Rattle.text.specs.inner.Reading.{firstWrong}
-use Rattle.text.specs.inner.Lines.{lineFrom, lineRead}
+use Rattle.text.specs.inner.Lines.{allDigits, startsLine, lineRead}
 use Rattle.text.specs.declared.line.Line.{Line}
-use Rattle.text.specs.declared.line.Line.the-variants.{Word, WrongAt}
+use Rattle.text.specs.declared.line.Line.the-variants.{Word, Malformed}
 
 -- ---- the scan, a byte at a time
 module _ (p b : ℕ) (bs : List ℕ) where
@@ -45,69 +47,122 @@ right-digit : (p b : ℕ) → (p % 17 ≡ 16 → ⊥) → rightAt p b ≡ ltb (d
 unfolding rightAt
 right-digit p b h = if-no _ _ (ne-eqb _ _ h)
 
--- ---- a line from its byte k on, where the line begins at p and its first k digits are the number w: what its reading says of the scan
-data Taken (p k w : ℕ) (bs : List ℕ) : Line → Type 0 where
-  stop : {j : ℕ} → j ≤ 16 → firstWrong (p + k) bs ≡ some (p + j) → Taken p k w bs (WrongAt j)
-  done : {v : ℕ} → 17 ≤ k + length bs → firstWrong (p + k) bs ≡ firstWrong (p + 17) (drop (17 - k) bs) → v ≡ hexadecimal w (take (16 - k) bs) → Taken p k w bs (Word v)
+-- ---- bytes from place k of a line on, where the line begins at p
 
-module _ (p k w b : ℕ) (bs : List ℕ) (z : p % 17 ≡ 0) where
-  -- byte k is a right digit
-  scan-digit : k < 16 → digit b < 16 → firstWrong (p + k) (b ∷ bs) ≡ firstWrong (p + suc k) bs
-  scan-digit h d = scan-right (p + k) b bs (right-digit (p + k) b (λ q. omega arith) ∙ lt-ltb _ _ d) ∙ ap (λ (n : ℕ). firstWrong n bs) (sym (add-suc p k))
+-- the scan stops in this line
+abbrev Stops : ℕ → ℕ → List ℕ → Type 0
+Stops p k bs = (j : ℕ) × (j ≤ 16) × (firstWrong (p + k) bs ≡ some (p + j))
 
-  taken-more : k < 16 → digit b < 16 → {l : Line} → Taken p (suc k) (w * 16 + digit b) bs l → Taken p k w (b ∷ bs) l
-  unfolding hexadecimal
-  taken-more h d (stop l e) = stop l (scan-digit h d ∙ e)
-  taken-more h d (done l e v) =
-      let m : suc (17 - suc k) ≡ 17 - k = omega arith in
-      let n : suc (16 - suc k) ≡ 16 - k = omega arith in
-      done (omega arith) (scan-digit h d ∙ e ∙ ap (λ (i : ℕ). firstWrong (p + 17) (drop i (b ∷ bs))) m) (v ∙ ap (λ (i : ℕ). hexadecimal w (take i (b ∷ bs))) n)
+module _ (p : ℕ) (z : p % 17 ≡ 0) where
+  module _ (k b : ℕ) (bs : List ℕ) (h : k < 16) where
+    digit-right : digit b < 16 → firstWrong (p + k) (b ∷ bs) ≡ firstWrong (p + suc k) bs
+    digit-right d =
+        scan-right (p + k) b bs (right-digit (p + k) b (λ q. omega arith) ∙ lt-ltb _ _ d)
+        ∙ ap (λ (n : ℕ). firstWrong n bs) (sym (add-suc p k))
 
-  -- byte k stands where a digit does, or where the line feed does
-  taken-digit : (k ≡ 16 → ⊥) → k ≤ 16 → Taken p (suc k) (w * 16 + digit b) bs (lineFrom (suc k) (w * 16 + digit b) bs) → Taken p k w (b ∷ bs) (if ltb (digit b) 16 then lineFrom (suc k) (w * 16 + digit b) bs else WrongAt k)
-  taken-digit n l t =
-      if-all (Taken p k w (b ∷ bs)) (ltb (digit b) 16) _ (WrongAt k)
-      (λ h. taken-more (omega (arith, n)) (ltb-true _ _ h) t)
-      (λ h. stop l (scan-wrong (p + k) b bs (right-digit (p + k) b (λ q. n (omega arith)) ∙ h)))
+    -- where a digit is due, the scan stops at once or goes on
+    digit-due : (digit b < 16 → Stops p (suc k) bs) → Stops p k (b ∷ bs)
+    digit-due f = by (ltb (digit b) 16) refl
+      where
+        by : (t : Bool) → ltb (digit b) 16 ≡ t → Stops p k (b ∷ bs)
+        by true e =
+            let d = ltb-true (digit b) 16 e in
+            let r = f d in
+            (r .0, r .1, digit-right d ∙ r .2)
+        by false e = (
+          k,
+          omega arith,
+          scan-wrong (p + k) b bs (right-digit (p + k) b (λ q. omega arith) ∙ e),
+        )
 
-  taken-feed : k ≡ 16 → Taken p k w (b ∷ bs) (if eqb b 10 then Word w else WrongAt k)
-  unfolding hexadecimal
-  taken-feed e =
-      let f = right-feed (p + k) b (omega arith) in
-      let m : 1 ≡ 17 - k = omega arith in
-      let n : 0 ≡ 16 - k = omega arith in
-      if-all (Taken p k w (b ∷ bs)) (eqb b 10) (Word w) (WrongAt k)
-      (λ h. done (omega arith)
-      (scan-right (p + k) b bs (f ∙ h) ∙ ap (λ (i : ℕ). firstWrong i bs) (omega arith) ∙ ap (λ (i : ℕ). firstWrong (p + 17) (drop i (b ∷ bs))) m)
-      (ap (λ (i : ℕ). hexadecimal w (take i (b ∷ bs))) n))
-      (λ h. stop (omega arith) (scan-wrong (p + k) b bs (f ∙ h)))
+  -- the text ends inside the line, of which at least one byte is there
+  line-ends : (bs : List ℕ) (k : ℕ) → 0 < k + length bs → k + length bs ≤ 16 → Stops p k bs
+  line-ends [] k a h = (k, omega arith, scan-short (p + k) (λ q. omega arith))
+  line-ends (b ∷ bs) k a h =
+      digit-due k b bs (omega arith) (λ d. line-ends bs (suc k) (omega arith) (omega arith))
 
-taken : (bs : List ℕ) (p k w : ℕ) → p % 17 ≡ 0 → k ≤ 16 → 0 < k + length bs → Taken p k w bs (lineFrom k w bs)
-unfolding lineFrom
-taken [] p k w z l h = stop l (scan-short (p + k) (λ q. omega arith))
-taken (b ∷ bs) p k w z l h =
-    go (taken bs p (suc k) (w * 16 + digit b) z)
-  where
-    go : (suc k ≤ 16 → 0 < suc k + length bs → Taken p (suc k) (w * 16 + digit b) bs (lineFrom (suc k) (w * 16 + digit b) bs)) → Taken p k w (b ∷ bs) (lineFrom k w (b ∷ bs))
-    go r =
-        if-all (Taken p k w (b ∷ bs)) (eqb k 16) _ _
-        (λ e. taken-feed p k w b bs z (eqb-true _ _ e))
-        (λ e. let n = eqb-false k 16 e in taken-digit p k w b bs z n l (r (omega (arith, n)) (omega arith)))
+  -- n bytes where digits are due: one is none, or all are digits
+  digits-wrong : (n : ℕ) (bs : List ℕ) (k : ℕ) → k + n ≤ 16 → allDigits (take n bs) ≡ false
+      → Stops p k bs
+  unfolding allDigits
+  digits-wrong zero bs k h e = absurd (true≢false e)
+  digits-wrong (suc n) [] k h e = absurd (true≢false e)
+  digits-wrong (suc n) (b ∷ bs) k h e =
+      digit-due k b bs (omega arith)
+      (λ d. digits-wrong n bs (suc k) (omega arith) (rw (lt-ltb (digit b) 16 d) at e))
+
+  digits-right : (n : ℕ) (bs : List ℕ) (k : ℕ) → k + n ≤ 16 → n ≤ length bs
+      → allDigits (take n bs) ≡ true → firstWrong (p + k) bs ≡ firstWrong (p + (k + n)) (drop n bs)
+  unfolding allDigits
+  digits-right zero bs k h l e = ap (λ (n : ℕ). firstWrong n bs) (omega arith)
+  digits-right (suc n) [] k h l e = absurd (omega arith)
+  digits-right (suc n) (b ∷ bs) k h l e =
+      let t = and-true (ltb (digit b) 16) (allDigits (take n bs)) e in
+      digit-right k b bs (omega arith) (ltb-true (digit b) 16 (t .0))
+      ∙ digits-right n bs (suc k) (omega arith) (omega arith) (t .1)
+      ∙ ap (λ (m : ℕ). firstWrong (p + m) (drop n bs)) (omega arith)
 
 -- ---- a whole line, of a text that stands from p on: the scan stops in it, or goes on behind it
 module _ (bs : List ℕ) (p : ℕ) (z : p % 17 ≡ 0) (some-left : 0 < length bs) where
-  whole : (l : Line) → l ≡ lineRead bs → Taken p 0 0 bs l
-  whole l e = subst (Taken p 0 0 bs) (sym e) (taken bs p 0 0 z (omega arith) (omega arith))
+  -- the first 16 bytes are digits, and there is one more
+  feed-due : 17 ≤ length bs → allDigits (take 16 bs) ≡ true
+      → firstWrong p bs ≡ firstWrong (p + 16) (getD bs 16 0 ∷ drop 17 bs)
+  feed-due h e =
+      ap (λ (n : ℕ). firstWrong n bs) (omega arith)
+      ∙ digits-right p z 16 bs 0 (omega arith) (omega arith) e
+      ∙ ap (firstWrong (p + 16)) (drop-cons bs 16 0 (omega arith))
 
-  pub line-wrong : (j : ℕ) → WrongAt j ≡ lineRead bs → (firstWrong p bs ≡ some (p + j)) × (j ≤ 16)
-  line-wrong j e = go (whole (WrongAt j) e)
-    where
-      go : Taken p 0 0 bs (WrongAt j) → (firstWrong p bs ≡ some (p + j)) × (j ≤ 16)
-      go (stop l f) = (ap (λ (n : ℕ). firstWrong n bs) (omega arith) ∙ f, l)
+  feed-right : 17 ≤ length bs → allDigits (take 16 bs) ≡ true → eqb (getD bs 16 0) 10 ≡ true
+      → firstWrong p bs ≡ firstWrong (p + 17) (drop 17 bs)
+  feed-right h e f =
+      feed-due h e
+      ∙ scan-right (p + 16) (getD bs 16 0) (drop 17 bs) (right-feed (p + 16) _ (omega arith) ∙ f)
+      ∙ ap (λ (n : ℕ). firstWrong n (drop 17 bs)) (omega arith)
 
-  pub line-word : (w : ℕ) → Word w ≡ lineRead bs → (17 ≤ length bs) × (firstWrong p bs ≡ firstWrong (p + 17) (drop 17 bs)) × (w ≡ lineWord bs)
-  unfolding lineWord
-  line-word w e = go (whole (Word w) e)
+  feed-wrong : 17 ≤ length bs → allDigits (take 16 bs) ≡ true → eqb (getD bs 16 0) 10 ≡ false
+      → firstWrong p bs ≡ some (p + 16)
+  feed-wrong h e f =
+      feed-due h e
+      ∙ scan-wrong (p + 16) (getD bs 16 0) (drop 17 bs) (right-feed (p + 16) _ (omega arith) ∙ f)
+
+  -- what the scan does, by the line that is read
+  data Scanned : Line → Type 0 where
+    stop : {j : ℕ} → j ≤ 16 → firstWrong p bs ≡ some (p + j) → Scanned Malformed
+    pass : {w : ℕ} → 17 ≤ length bs → firstWrong p bs ≡ firstWrong (p + 17) (drop 17 bs)
+        → w ≡ lineWord bs → Scanned (Word w)
+
+  stops : Stops p 0 bs → Scanned Malformed
+  stops r = stop (r .1) (ap (λ (n : ℕ). firstWrong n bs) (omega arith) ∙ r .2)
+
+  scanned : Scanned (lineRead bs)
+  unfolding lineRead startsLine if_then_else_
+  scanned = by (leb 17 (length bs)) (allDigits (take 16 bs)) (eqb (getD bs 16 0) 10) refl refl refl
     where
-      go : Taken p 0 0 bs (Word w) → (17 ≤ length bs) × (firstWrong p bs ≡ firstWrong (p + 17) (drop 17 bs)) × (w ≡ lineWord bs)
-      go (done l f v) = (omega arith, ap (λ (n : ℕ). firstWrong n bs) (omega arith) ∙ f, v)
+      by : (s t u : Bool) → leb 17 (length bs) ≡ s → allDigits (take 16 bs) ≡ t
+          → eqb (getD bs 16 0) 10 ≡ u
+          → Scanned (if s && t && u then Word (lineWord bs) else Malformed)
+      by false t u a b c =
+          let l = leb-false 17 (length bs) a in
+          stops (line-ends p z bs 0 (omega arith) (omega arith))
+      by true false u a b c = stops (digits-wrong p z 16 bs 0 (omega arith) b)
+      by true true false a b c =
+          let l = leb-true 17 (length bs) a in
+          stop {j = 16} (omega arith) (feed-wrong l b c)
+      by true true true a b c =
+          let l = leb-true 17 (length bs) a in
+          pass l (feed-right l b c) refl
+
+  pub line-wrong : Malformed ≡ lineRead bs
+      → (j : ℕ) × (j ≤ 16) × (firstWrong p bs ≡ some (p + j))
+  line-wrong e = go (subst Scanned (sym e) scanned)
+    where
+      go : Scanned Malformed → (j : ℕ) × (j ≤ 16) × (firstWrong p bs ≡ some (p + j))
+      go (stop {j = j} l f) = (j, l, f)
+
+  pub line-word : (w : ℕ) → Word w ≡ lineRead bs
+      → (17 ≤ length bs) × (firstWrong p bs ≡ firstWrong (p + 17) (drop 17 bs)) × (w ≡ lineWord bs)
+  line-word w e = go (subst Scanned (sym e) scanned)
+    where
+      go : Scanned (Word w) → (17 ≤ length bs)
+          × (firstWrong p bs ≡ firstWrong (p + 17) (drop 17 bs)) × (w ≡ lineWord bs)
+      go (pass l f v) = (l, f, v)

@@ -14,8 +14,7 @@ use Rattle.text.specs.inner.Reading.{firstWrong, readLines, reading, lin
 use Rattle.text.specs.Reading.{Reading, frames, refused}
 use Rattle.text.specs.inner.Lines.{lineRead}
 use Rattle.text.specs.declared.line.Line.{Line}
-use Rattle.text.specs.declared.line.Line.the-variants.{Word, WrongAt}
-use Rattle.text.specs.declared.reading.TextRead.{TextRead}
+use Rattle.text.specs.declared.line.Line.the-variants.{Word, Malformed}
 use Rattle.text.specs.declared.reading.TextRead.the-variants.{Frames, Refused}
 use Rattle.text.proofs.LineScan.{scan-whole, line-wrong, line-word}
 
@@ -74,8 +73,11 @@ module _ (bs : List ℕ) (i at : ℕ) (s : Scanning bs i at) where
     some-left : 0 < length (drop at bs)
     some-left = rw length-drop (omega arith)
 
-    pub here-wrong : (j : ℕ) → WrongAt j ≡ lineRead (drop at bs) → (firstWrong 0 bs ≡ some (at + j)) × (j ≤ 16)
-    here-wrong j e = let r = line-wrong (drop at bs) at whole-lines some-left j e in (sym (s .rest) ∙ r .0, r .1)
+    pub here-wrong : Malformed ≡ lineRead (drop at bs)
+        → (j : ℕ) × (j ≤ 16) × (firstWrong 0 bs ≡ some (at + j))
+    here-wrong e =
+        let r = line-wrong (drop at bs) at whole-lines some-left e in
+        (r .0, r .1, sym (s .rest) ∙ r .2)
 
     pub here-word : (w : ℕ) → Word w ≡ lineRead (drop at bs) → w ≡ lineWord (drop at bs)
     here-word w e = line-word (drop at bs) at whole-lines some-left w e .2
@@ -90,12 +92,12 @@ module _ (bs : List ℕ) (i at : ℕ) (s : Scanning bs i at) where
           rest = ap (firstWrong (at + 17)) (sym (drop-drop 17 at bs)) ∙ sym (r .1) ∙ s .rest;
         }
 
-    read-wrong : (j : ℕ) → WrongAt j ≡ lineRead (drop at bs) → length bs ≤ 17408 → reading bs ≡ refused 3 i
-    read-wrong j e m =
-        let r = here-wrong j e in
+    read-wrong : Malformed ≡ lineRead (drop at bs) → length bs ≤ 17408 → reading bs ≡ refused 3 i
+    read-wrong e m =
+        let r = here-wrong e in
         let q = s .lines in
-        let k : (at + j) / 17 ≡ i = omega (arith, r .1) in
-        reading-lines bs (omega arith) m ∙ ap (readLines bs) (r .0) ∙ ap (refused 3) k
+        let k : (at + r .0) / 17 ≡ i = omega (arith, r .1) in
+        reading-lines bs (omega arith) m ∙ ap (readLines bs) (r .2) ∙ ap (refused 3) k
 
   read-whole : length bs ≤ at → (length bs ≡ 0 → ⊥) → length bs ≤ 17408 → reading bs ≡ frames (textFrames bs)
   read-whole h n m =
@@ -170,8 +172,11 @@ module _ (bs words : List ℕ) (i at : ℕ) (d : Reader bs words i at) where
         kept = ap (λ (ws : List ℕ). set ws i w) (d .kept) ∙ ap (set (wordArray i bs) i) (here-word bs i at s h w q ∙ ap (λ (n : ℕ). lineWord (drop n bs)) (s .lines)) ∙ array-more i bs k;
       })
 
-  pub words-wrong : (l : Line) (j : ℕ) → LineAt bs at l → l ≡ WrongAt j → at < length bs → length bs ≤ 17408 → readAs (Refused 3 i) words ≡ textWords bs
-  words-wrong l j e f h m = by-reading bs words (refused 3 i) (read-wrong bs i at (d .scan) h j (sym f ∙ line-at bs at l e) m) (d .kept)
+  pub words-wrong : (l : Line) → LineAt bs at l → l ≡ Malformed → at < length bs
+      → length bs ≤ 17408 → readAs (Refused 3 i) words ≡ textWords bs
+  words-wrong l e f h m =
+      let r = read-wrong bs i at (d .scan) h (sym f ∙ line-at bs at l e) m in
+      by-reading bs words (refused 3 i) r (d .kept)
 
   pub words-whole : length bs ≤ at → (length bs ≡ 0 → ⊥) → length bs ≤ 17408 → readAs (Frames i) words ≡ textWords bs
   words-whole h n m =

@@ -269,10 +269,10 @@ pub fn digit_table() -> [u8; 256]
     DIGITS
 }
 
-// The digit of one byte.
-pub fn digit(b: u8) -> u8
+// The digit of one byte, by the table that the caller has.
+pub fn digit(digits: &[u8; 256], b: u8) -> u8
+    requires { ⌜ now digits ≡ digitTable ⌝ }
     ensures { λ r. ⌜ r ≡ digit b ⌝ }
 {
-    let digits = digit_table();
     digits[b as usize]
 }

@@ -1,17 +1,24 @@
 // Lines, and the frames that they are.
+use crate::digit::digit;
 use crate::digit::digit_table;
 use language::frame::Frame;
 use language::kind::kind_of;
 use language::limit::LINE_LENGTH;
 use language::limit::MOST_LINES;
 ghost use mathlib.Core.Path.{_≡_};
+ghost use Rattle.text.specs.Digits.{digitTable};
 ghost use Rattle.text.specs.Frames.{frameOfWord};
 ghost use Rattle.text.specs.inner.Lines.{lineRead, frameOfLine, frameRead};
 
-// What stands at the start of some bytes: a line, as one number of 16 digits, or the place of its first wrong or missing byte.
+// A line is so many digits, and then this byte.
+const LINE_DIGITS: usize = LINE_LENGTH - 1;
+
+const LINE_FEED: u8 = b'\n';
+
+// What stands at the start of some bytes: a line, as one number of 16 digits, or no line.
 pub(crate) enum Line {
     Word(u64),
-    WrongAt(usize),
+    Malformed,
 }
 
 // What stands at an index of a text.
@@ -26,29 +33,30 @@ fn wide(d: u8) -> u64
     d as u64
 }
 
-// The line with which the bytes begin.
-pub(crate) fn read_line(bytes: &[u8]) -> Line
+// The line with which the bytes begin, by the table of digits that the caller has: who reads many
+// lines makes it once. The loop has no exit, so that it is unrolled: `bits` puts all values
+// together, and is 16 or more exactly where one of them is no digit.
+pub(crate) fn read_line(digits: &[u8; 256], bytes: &[u8]) -> Line
+    requires { ⌜ now digits ≡ digitTable ⌝ }
     ensures { λ r. ⌜ r ≡ lineRead (now (bytes .entry)) ⌝ }
 {
-    let digits = digit_table();
+    if bytes.len() < LINE_LENGTH {
+        return Line::Malformed;
+    }
     let mut w: u64 = 0;
+    let mut bits: u8 = 0;
     let mut k: usize = 0;
-    while k < 16 {
-        if bytes.len() <= k {
-            return Line::WrongAt(k);
-        }
-        let d = digits[bytes[k] as usize];
-        if 16 <= d {
-            return Line::WrongAt(k);
-        }
-        w = w * 16 + wide(d);
+    while k < LINE_DIGITS {
+        let d = digit(digits, bytes[k]);
+        bits |= d;
+        w = w * 16 + wide(d % 16);
         k += 1;
     }
-    if bytes.len() <= 16 {
-        return Line::WrongAt(16);
+    if 16 <= bits {
+        return Line::Malformed;
     }
-    if bytes[16] != 10 {
-        return Line::WrongAt(16);
+    if bytes[LINE_DIGITS] != LINE_FEED {
+        return Line::Malformed;
     }
     Line::Word(w)
 }
@@ -72,7 +80,7 @@ fn frame_of_line(line: Line) -> FrameRead
 {
     match line {
         Line::Word(w) => FrameRead::Read(frame_of_word(w)),
-        Line::WrongAt(k) => FrameRead::NoFrame,
+        Line::Malformed => FrameRead::NoFrame,
     }
 }
 
@@ -87,5 +95,6 @@ pub fn frame_at(text: &[u8], i: usize) -> FrameRead
     if text.len() < at {
         return FrameRead::NoFrame;
     }
-    frame_of_line(read_line(&text[at..]))
+    let digits = digit_table();
+    frame_of_line(read_line(&digits, &text[at..]))
 }

@@ -1,6 +1,6 @@
 -- The returns of `starts` (13 and 14): no argument, one, or two of which the second is evaluated
 -- on the cells that the first left. Assumes nothing.
-use mathlib.Core.Path.{_≡_, refl, sym, ap, _∙_}
+use mathlib.Core.Path.{_≡_, refl, sym, ap, _∙_, subst}
 use mathlib.Core.List.{List, [], _∷_}
 use Prim.Native.Nat.{ℕ, zero, suc}
 use native.Mathlib.Omega.{arith}
@@ -16,7 +16,9 @@ use Rattle.operations.specs.declared.Who.{Who}
 use Rattle.operations.specs.declared.Answered.{Answered}
 use Rattle.operations.specs.inner.Results.{Result, after}
 use Rattle.evaluator.specs.inner.Results.{hereOf, onWords, CellWords, ValueWords}
+use Rattle.evaluator.specs.inner.Lent.{Lent, variablesOf, restOf}
 use Rattle.evaluator.proofs.Agreement.{eval-leaves}
+use Rattle.evaluator.proofs.InPlace.{variables-kept}
 use Rattle.acts.specs.declared.act.Acted.{Acted}
 use Rattle.acts.specs.inner.Fates.{refusedWith}
 use Rattle.turns.specs.declared.start.Request.{Request}
@@ -28,6 +30,18 @@ pub cells-behind : (fw vs : List ℕ) (who : Who) (i n : ℕ) (ws : List ℕ) (x
     → after x us ≡ onWords (eval (hereOf who vs) (expressionAt (framesOf fw) i)) n ws
     → ValueWords vs → CellWords n ws → CellWords (x .used) us
 cells-behind fw vs who i n ws x us e h g = eval-leaves fw vs who i n ws (after x us) h g e
+
+-- behind an evaluation the thread's variables are as before
+module _
+    (who : Who) (w v : List ℕ) (l : Lent who w) (e : restOf v ≡ restOf w) where
+  pub values-again : ValueWords (variablesOf who w) → ValueWords (variablesOf who v)
+  values-again h = subst ValueWords (sym (variables-kept who w v e l)) h
+
+  pub variables-again : (x : Expr) (n : ℕ) (ws : List ℕ) (y : Result)
+      → y ≡ evaluatedBy who (variablesOf who v) x n ws
+      → y ≡ evaluatedBy who (variablesOf who w) x n ws
+  variables-again x n ws y h =
+      h ∙ ap (λ (vs : List ℕ). evaluatedBy who vs x n ws) (variables-kept who w v e l)
 
 -- ---- the frames a and b as arguments, where 0 is none
 module _ (expr : ℕ → Expr) where

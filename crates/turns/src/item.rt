@@ -18,28 +18,23 @@ ghost use lib.ListN.{length};
 ghost use Rattle.language.specs.Places.{isPlace};
 ghost use Rattle.machine.specs.Offsets.{backFrom, dropWord};
 ghost use Rattle.text.specs.Frames.{framesOf};
+ghost use Rattle.evaluator.specs.inner.Lent.{Lent, variablesOf, cellsOf, restOf};
 ghost use Rattle.turns.specs.inner.Acts.{TurnWords};
 ghost use Rattle.turns.specs.inner.Actions.{itemAct, turnAct, actOn};
 
 // The item that is off its continuation: v sees those below it.
-fn act_item(
-    frames: &[u64],
-    who: Who,
-    v: View,
-    variables: &[u64],
-    cells: &mut [u64],
-    used: usize,
-    item: u64,
-) -> Acted
-    requires { ⌜ TurnWords (now frames) v (now variables) used (now cells)
+fn act_item(frames: &[u64], who: Who, v: View, state: &mut [u64], used: usize, item: u64) -> Acted
+    requires { ⌜ TurnWords (now frames) v (variablesOf who (now state)) used (cellsOf (now state))
+        × Lent who (now state)
         × (item < backFrom → item < length (now frames))
         × (backFrom ≤ item → item < dropWord → isPlace (item - backFrom) ≡ true) ⌝ }
-    ensures { λ r. ⌜ actOn r (now (cells .exit))
-        ≡ itemAct (framesOf (now (frames .entry))) who v item (now (variables .entry)) used
-        (now (cells .entry)) ⌝ }
+    ensures found { λ r. ⌜ actOn r (cellsOf (now (state .exit)))
+        ≡ itemAct (framesOf (now (frames .entry))) who v item
+        (variablesOf who (now (state .entry))) used (cellsOf (now (state .entry))) ⌝ }
+    ensures rest { λ _. ⌜ restOf (now (state .exit)) ≡ restOf (now (state .entry)) ⌝ }
 {
     if item < BACK_FROM {
-        return act_statement(frames, who, v, variables, cells, used, item as usize);
+        return act_statement(frames, who, v, state, used, item as usize);
     }
     if item < DROP_WORD {
         return goes_back(v, used, Place::known(item - BACK_FROM));
@@ -47,22 +42,17 @@ fn act_item(
     drops(v, used)
 }
 
-// The turn of a thread with that item on top. One without an item ends.
-pub fn act(
-    frames: &[u64],
-    who: Who,
-    v: View,
-    item: u64,
-    variables: &[u64],
-    cells: &mut [u64],
-    used: usize,
-) -> Acted
-    requires { ⌜ TurnWords (now frames) v (now variables) used (now cells)
+// The turn of a thread with that item on top. One without an item ends. The whole state is lent,
+// since the variables are read where they lie beside the cells, which alone are written.
+pub fn act(frames: &[u64], who: Who, v: View, item: u64, state: &mut [u64], used: usize) -> Acted
+    requires { ⌜ TurnWords (now frames) v (variablesOf who (now state)) used (cellsOf (now state))
+        × Lent who (now state)
         × (item < backFrom → item < length (now frames))
         × (backFrom ≤ item → item < dropWord → isPlace (item - backFrom) ≡ true) ⌝ }
-    ensures { λ r. ⌜ actOn r (now (cells .exit))
-        ≡ turnAct (framesOf (now (frames .entry))) who v item (now (variables .entry)) used
-        (now (cells .entry)) ⌝ }
+    ensures found { λ r. ⌜ actOn r (cellsOf (now (state .exit)))
+        ≡ turnAct (framesOf (now (frames .entry))) who v item
+        (variablesOf who (now (state .entry))) used (cellsOf (now (state .entry))) ⌝ }
+    ensures rest { λ _. ⌜ restOf (now (state .exit)) ≡ restOf (now (state .entry)) ⌝ }
 {
     if v.items == 0 {
         return comes_to(Fate::Leaves, Change::End, used);
@@ -73,5 +63,5 @@ pub fn act(
         items: v.items - 1,
         values: v.values,
     };
-    act_item(frames, who, below, variables, cells, used, item)
+    act_item(frames, who, below, state, used, item)
 }

@@ -12,6 +12,7 @@ ghost use mathlib.Core.Path.{_≡_};
 ghost use Rattle.text.specs.Frames.{framesOf};
 ghost use Rattle.program.specs.Trees.{arguments, expressionAt};
 ghost use Rattle.evaluator.specs.inner.Results.{CellWords, ValueWords, FrameWords};
+ghost use Rattle.evaluator.specs.inner.Lent.{Lent, variablesOf, cellsOf, restOf};
 ghost use Rattle.turns.specs.inner.Actions.{startWith, startOne, startTwo, startAct};
 ghost use Rattle.turns.specs.inner.Actions.{afterValue, actOn};
 
@@ -59,22 +60,22 @@ pub(crate) fn starts(
     frames: &[u64],
     who: Who,
     q: Request,
-    variables: &[u64],
-    cells: &mut [u64],
+    state: &mut [u64],
     used: usize,
     a: u16,
     b: u16,
 ) -> Acted
-    requires { ⌜ FrameWords (now frames) a × FrameWords (now frames) b
-        × ValueWords (now variables) × CellWords used (now cells) ⌝ }
-    ensures { λ r. ⌜ actOn r (now (cells .exit))
-        ≡ startAct who q (now (variables .entry)) used (now (cells .entry))
+    requires { ⌜ FrameWords (now frames) a × FrameWords (now frames) b × Lent who (now state)
+        × ValueWords (variablesOf who (now state)) × CellWords used (cellsOf (now state)) ⌝ }
+    ensures found { λ r. ⌜ actOn r (cellsOf (now (state .exit)))
+        ≡ startAct who q (variablesOf who (now (state .entry))) used (cellsOf (now (state .entry)))
         (arguments (expressionAt (framesOf (now (frames .entry)))) a b) ⌝ }
+    ensures rest { λ _. ⌜ restOf (now (state .exit)) ≡ restOf (now (state .entry)) ⌝ }
 {
     if a == 0 {
         return starts_with(q, used, 0, 0, 0);
     }
-    let x = evaluate(frames, who, variables, cells, used, a);
+    let x = evaluate(frames, who, state, used, a);
     if b == 0 {
         return starts_one(q, x);
     }
@@ -82,6 +83,6 @@ pub(crate) fn starts(
     let Outcome::Is(w) = o else {
         return refused_by(o, x.used);
     };
-    let y = evaluate(frames, who, variables, cells, x.used, b);
+    let y = evaluate(frames, who, state, x.used, b);
     starts_two(q, value_word(w), y)
 }

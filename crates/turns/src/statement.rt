@@ -24,6 +24,7 @@ ghost use Prim.Native.Nat.{_<_};
 ghost use lib.ListN.{length};
 ghost use Rattle.text.specs.Frames.{framesOf};
 ghost use Rattle.program.specs.Trees.{statementAt};
+ghost use Rattle.evaluator.specs.inner.Lent.{Lent, variablesOf, cellsOf, restOf};
 ghost use Rattle.turns.specs.inner.Acts.{TurnWords};
 ghost use Rattle.turns.specs.inner.Actions.{statementAct, actOn};
 
@@ -32,16 +33,16 @@ pub(crate) fn act_statement(
     frames: &[u64],
     who: Who,
     v: View,
-    variables: &[u64],
-    cells: &mut [u64],
+    state: &mut [u64],
     used: usize,
     i: usize,
 ) -> Acted
-    requires { ⌜ TurnWords (now frames) v (now variables) used (now cells)
-        × (i < length (now frames)) ⌝ }
-    ensures { λ r. ⌜ actOn r (now (cells .exit))
-        ≡ statementAct who v (now (variables .entry)) used (now (cells .entry))
-        (statementAt (framesOf (now (frames .entry))) i) ⌝ }
+    requires { ⌜ TurnWords (now frames) v (variablesOf who (now state)) used (cellsOf (now state))
+        × Lent who (now state) × (i < length (now frames)) ⌝ }
+    ensures found { λ r. ⌜ actOn r (cellsOf (now (state .exit)))
+        ≡ statementAct who v (variablesOf who (now (state .entry))) used
+        (cellsOf (now (state .entry))) (statementAt (framesOf (now (frames .entry))) i) ⌝ }
+    ensures rest { λ _. ⌜ restOf (now (state .exit)) ≡ restOf (now (state .entry)) ⌝ }
 {
     match statement_node(frame_of_word(frames[i])) {
         StatementNode::Nothing => comes_to(Fate::Stays, Change::Same, used),
@@ -52,30 +53,30 @@ pub(crate) fn act_statement(
                 waits: false,
                 target: m,
             };
-            starts(frames, who, q, variables, cells, used, a, b)
+            starts(frames, who, q, state, used, a, b)
         },
         StatementNode::StartWait(m, a, b) => {
             let q = Request {
                 waits: true,
                 target: m,
             };
-            starts(frames, who, q, variables, cells, used, a, b)
+            starts(frames, who, q, state, used, a, b)
         },
         StatementNode::Cooperate => cooperates(v, used),
         StatementNode::LetIn(a, b) => {
-            let x = evaluate(frames, who, variables, cells, used, a);
+            let x = evaluate(frames, who, state, used, a);
             lets_after(x, v, b as u64)
         },
         StatementNode::Store(a, b) => {
-            let x = store(frames, who, variables, cells, used, a, b);
+            let x = store(frames, who, state, used, a, b);
             stores_after(x)
         },
         StatementNode::IfElse(a, b, c) => {
-            let x = evaluate(frames, who, variables, cells, used, a);
+            let x = evaluate(frames, who, state, used, a);
             chooses_after(x, v, b as u64, c as u64)
         },
         StatementNode::While(a, b) => {
-            let x = evaluate(frames, who, variables, cells, used, a);
+            let x = evaluate(frames, who, state, used, a);
             loops_after(x, v, b as u64, i as u64)
         },
     }

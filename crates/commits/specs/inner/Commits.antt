@@ -2,7 +2,7 @@
 -- of the rules. Assumes nothing: definitions.
 use mathlib.Core.Path.{_≡_}
 use mathlib.Core.List.{List, [], _∷_}
-use mathlib.Core.Bool.{Bool, true, _&&_, not}
+use mathlib.Core.Bool.{Bool, true, false, _&&_, not}
 use Prim.Native.Nat.{ℕ, _+_, _-_, _*_, _<_, _≤_}
 use lib.Dec.{leb, eqb}
 use lib.ListN.{length, getD, set, replicate}
@@ -26,6 +26,10 @@ use Rattle.acts.specs.declared.act.Acted.{Acted}
 use Rattle.acts.specs.inner.Fates.{Turned, popped, turned, Room}
 use Rattle.program.specs.declared.module.ModuleFound.{ModuleFound}
 use Rattle.program.specs.inner.Modules.{foundIn}
+use Rattle.commits.specs.declared.decision.Passed.{Passed}
+use Rattle.commits.specs.declared.decision.Passed.the-variants.{Keep, Leave, Join, Start}
+use Rattle.commits.specs.declared.decision.Decision.{Decision}
+use Rattle.commits.specs.declared.decision.Decision.the-variants.{Refuse, Settle}
 use Rattle.machine.specs.Offsets.{stateLength, threadCountAt, cellCountAt, schedulerLength}
 use Rattle.machine.specs.Offsets.{nextListAt, cellsAt, waitingFactor}
 
@@ -86,20 +90,6 @@ abbrev pub newIn : Turned → ℕ → ℕ → ThreadWords
 newIn a t body = newThread (a .thread .place) (a .given) (a .first) (a .second) t body
 
 -- a start that does not fit is 20, a 65th thread 18; 0 is neither
-unfoldable pub misfitIn : List ℕ → ModuleFound → ℕ → ℕ → ℕ
-misfitIn w found place given =
-    if eqb place private then stuck else
-    if not (found .there) then stuck else
-    if not (eqb (found .parameters) given) then stuck else
-    if not (roomIn w place 1) then stuck else
-    0
-
-unfoldable pub spentIn : List ℕ → ℕ
-spentIn w = if leb mostThreads (getD w threadCountAt 0) then threadsSpent else 0
-
-unfoldable pub firstAnswer : ℕ → ℕ → ℕ
-firstAnswer a b = if eqb a 0 then b else a
-
 unfoldable pub obstacleIn : List ℕ → ModuleFound → ℕ → ℕ → ℕ
 obstacleIn w found place given =
     if eqb place private then stuck else
@@ -153,6 +143,61 @@ placeAfter End p = p
 abbrev pub after : List ℕ → ℕ → Acted → Turned
 after w t a = turned a (popped (threadIn w (t - 1)))
 
+-- ---- the commit as the code makes it: decided on the words before it, then on the settled words
+-- the lists follow. It is `committedIn` (proofs/CommitLaws, `decided-is`).
+
+-- a start of the module so found, by a starter that stands at q behind its turn
+unfoldable pub startTested : List ℕ → Acted → Bool → ModuleFound → Place → Decision
+startTested w a waits found q =
+    let no = obstacleIn w found (q .number) (a .given) in
+    if not (eqb no 0) then Refuse no else
+    if waits && not (roomIn w (q .number) 2) then Refuse stuck else
+    Settle (Start waits q (found .body))
+
+abbrev pub startDecided : Program → List ℕ → ℕ → Acted → Bool → ℕ → Decision
+startDecided p w t a waits m =
+    startTested w a waits (foundIn p m)
+    (placeAfter (a .change) (record { number = threadIn w (t - 1) .place }))
+
+abbrev pub decidedIn : Program → List ℕ → ℕ → Acted → Fate → Decision
+decidedIn p w t a (Refused n) = Refuse n
+decidedIn p w t a Stays = Settle Keep
+decidedIn p w t a Leaves = Settle Leave
+decidedIn p w t a (Joins q) = if roomIn w (q .number) 1 then Settle (Join q) else Refuse stuck
+decidedIn p w t a (Starts waits m) = startDecided p w t a waits m
+
+-- the new thread of a starter that stands at q
+abbrev pub newAt : Acted → Place → ℕ → ℕ → ThreadWords
+newAt a q t body = newThread (q .number) (a .given) (a .first) (a .second) t body
+
+-- a start by t, who stands at q: the new thread is the last, and the last in the next list of q; a
+-- starter that waits stands behind it
+unfoldable pub startedOn : List ℕ → ℕ → Acted → Place → ℕ → Bool → List ℕ
+startedOn w t a q body waits =
+    let new = getD w threadCountAt 0 + 1 in
+    let v = joinedIn (withOneMore w (newAt a q t body)) (q .number) new in
+    if waits then joinedIn v (q .number) (waitingFactor * new + t) else v
+
+-- whether the thread leaves its list; a starter does where it waits
+abbrev pub leavesList : Passed → Bool
+leavesList Keep = false
+leavesList Leave = true
+leavesList (Join q) = true
+leavesList (Start waits q body) = waits
+
+unfoldable pub unlistedIn : List ℕ → ℕ → Passed → List ℕ
+unlistedIn w c x = if leavesList x then leftIn w c else w
+
+-- then what joins a next list
+abbrev pub enlistedIn : List ℕ → ℕ → Acted → Passed → List ℕ
+enlistedIn w t a Keep = w
+enlistedIn w t a Leave = w
+enlistedIn w t a (Join q) = joinedIn w (q .number) t
+enlistedIn w t a (Start waits q body) = startedOn w t a q body waits
+
+abbrev pub followedIn : List ℕ → ℕ → ℕ → Acted → Passed → List ℕ
+followedIn w c t a x = enlistedIn (unlistedIn w c x) t a x
+
 -- ---- what a caller has to show
 
 -- thread k is within its space, and behind its top item there is room for the change
@@ -163,6 +208,18 @@ pub record SettleWords (w : List ℕ) (k : ℕ) (c : Change) : Type 0 where
   pub items : threadIn w k .items ≤ mostItems
   pub values : threadIn w k .values ≤ mostVariables
   pub room : Room c (threadIn w k .items - 1) (threadIn w k .values)
+
+-- q has lists, and there is a number left for one more thread
+pub record StartWords (w : List ℕ) (q : Place) : Type 0 where
+  pub scheduler : isScheduler (q .number) ≡ true
+  pub count : getD w threadCountAt 0 < mostThreads
+
+-- what the lists need to follow
+abbrev pub Follows : List ℕ → Passed → Type 0
+Follows w Keep = Unit {0}
+Follows w Leave = Unit {0}
+Follows w (Join q) = isScheduler (q .number) ≡ true
+Follows w (Start waits q body) = StartWords w q
 
 pub record CommitWords (w : List ℕ) (t : ℕ) (a : Acted) : Type 0 where
   pub first : 1 ≤ t

@@ -1,17 +1,20 @@
 -- `commit` meets its contract. Assumes nothing.
-use Rattle.commits.proofs.CommitLaws.{commit-laws}
+use Rattle.commits.proofs.CommitLaws.{commit-laws, commit-follows}
 use borrow.Author.Needs.{needs}
 use Rattle.commits.proofs.commit.commit.Statement.{statement}
 use Rattle.commits.proofs.commit.commit.Tie as tie
 
-enum-known-fate : tie.Need-enum-known-fate
-enum-known-fate c = search needs
+decide-requires : tie.Need-decide-requires
+decide-requires c κs = search needs
+
+enum-known-n : tie.Need-enum-known-n
+enum-known-n c = search needs
 
 clear-cells-requires : tie.Need-clear-cells-requires
 clear-cells-requires c κs = search needs
 
-enum-told : tie.Need-enum-told
-enum-told c = search needs
+enum-known-passed : tie.Need-enum-known-passed
+enum-known-passed c = search needs
 
 sub-settle : tie.Need-sub-settle
 sub-settle c = search needs
@@ -19,23 +22,8 @@ sub-settle c = search needs
 settle-requires : tie.Need-settle-requires
 settle-requires c κs = search needs
 
-enum-told-2 : tie.Need-enum-told-2
-enum-told-2 c = search needs
-
-commit-leaves-requires : tie.Need-commit-leaves-requires
-commit-leaves-requires c κs = search needs
-
-enum-known-fate-2 : tie.Need-enum-known-fate-2
-enum-known-fate-2 c = search needs
-
-commit-joins-requires : tie.Need-commit-joins-requires
-commit-joins-requires c κs = search needs
-
-enum-known-fate-3 : tie.Need-enum-known-fate-3
-enum-known-fate-3 c = search needs
-
-commit-start-requires : tie.Need-commit-start-requires
-commit-start-requires c κs = search needs
+follow-requires : tie.Need-follow-requires
+follow-requires c κs = (search needs, search needs, search commit-follows)
 
 same-length : tie.Need-same-length
 same-length c = search needs
@@ -49,46 +37,18 @@ same-length-2 c = search needs
 returns-2 : tie.Need-returns-2
 returns-2 c = search commit-laws
 
-same-length-3 : tie.Need-same-length-3
-same-length-3 c = search needs
-
-returns-3 : tie.Need-returns-3
-returns-3 c = search commit-laws
-
-same-length-4 : tie.Need-same-length-4
-same-length-4 c = search needs
-
-returns-4 : tie.Need-returns-4
-returns-4 c = search commit-laws
-
-same-length-5 : tie.Need-same-length-5
-same-length-5 c = search needs
-
-returns-5 : tie.Need-returns-5
-returns-5 c = search commit-laws
-
 pub commit-spec : {M : Type 1} → statement M
 commit-spec =
     tie.close
     (tie.spec
-    enum-known-fate
+    decide-requires
+    enum-known-n
     clear-cells-requires
-    enum-told
+    enum-known-passed
     sub-settle
     settle-requires
-    enum-told-2
-    commit-leaves-requires
-    enum-known-fate-2
-    commit-joins-requires
-    enum-known-fate-3
-    commit-start-requires
+    follow-requires
     same-length
     returns
     same-length-2
-    returns-2
-    same-length-3
-    returns-3
-    same-length-4
-    returns-4
-    same-length-5
-    returns-5)
+    returns-2)

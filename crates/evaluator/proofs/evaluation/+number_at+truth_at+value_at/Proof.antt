@@ -1,467 +1,1056 @@
--- `value_at`, `number_at` and `truth_at` meet their contracts: one proof for the cycle. In a need, `at` is the function's entry, and `node` is where the frame's node has been read. Assumes nothing.
-use mathlib.Core.Path.{sym, _∙_}
+-- `value_at`, `number_at` and `truth_at` meet their contracts: one proof for the cycle. In a need,
+-- `at` is the function's entry, with the frames fs and the words w; `node` is where the frame's
+-- node has been read, `arm` where its operands have been, `one` and `two` where an operand has been
+-- evaluated. Assumes nothing.
+use mathlib.Core.Path.{refl, sym, _∙_}
 use borrow.Author.Needs.{needs}
 use denote.Ref.{now}
 use Rattle.evaluator.proofs.Nodes.{operands-below, branch-below}
-use Rattle.evaluator.proofs.Cases.{falls-to, case-plain, case-cells, case-first, first-as-number, first-as-truth, case-both, case-condition, case-choice, to-number, to-truth, stopped-truth}
+use Rattle.evaluator.proofs.Cases.{case-plain, case-cells, case-first, first-as-number}
+use Rattle.evaluator.proofs.Cases.{first-as-truth, case-both, case-condition, case-choice}
+use Rattle.evaluator.proofs.Cases.{to-number, to-truth, stopped-truth}
+use Rattle.evaluator.proofs.InPlace.{falls-in, again-number, use-in}
 use Prim.Native.Nat.{ℕ, _<_}
 use borrow.Fn.Kinds.{In}
 use borrow.Fn.PlainCycle.{Measures, is, falls, and}
 use Rattle.evaluator.proofs.evaluation.number_at.Reads as number-at
 use Rattle.evaluator.proofs.evaluation.number_at.Kinds as number-at-kinds
-use Rattle.evaluator.proofs.evaluation.+number_at+truth_at+value_at.Lts-number_at as number-at-lts
+use Rattle.evaluator.proofs.evaluation.+number_at+truth_at+value_at.Lts-number_at
+    as number-at-lts
 use Rattle.evaluator.proofs.evaluation.truth_at.Reads as truth-at
 use Rattle.evaluator.proofs.evaluation.truth_at.Kinds as truth-at-kinds
-use Rattle.evaluator.proofs.evaluation.+number_at+truth_at+value_at.Lts-truth_at as truth-at-lts
+use Rattle.evaluator.proofs.evaluation.+number_at+truth_at+value_at.Lts-truth_at
+    as truth-at-lts
 use Rattle.evaluator.proofs.evaluation.value_at.Reads as value-at
 use Rattle.evaluator.proofs.evaluation.value_at.Kinds as value-at-kinds
-use Rattle.evaluator.proofs.evaluation.+number_at+truth_at+value_at.Lts-value_at as value-at-lts
+use Rattle.evaluator.proofs.evaluation.+number_at+truth_at+value_at.Lts-value_at
+    as value-at-lts
+use Rattle.evaluator.proofs.evaluation.leaf_at.Reads as leaf-at-reads
 use Rattle.evaluator.proofs.evaluation.node_at.Reads as node-at-reads
-use Rattle.operations.proofs.operation.answer_of.Reads as answer-of-reads
 use Rattle.operations.proofs.operand.as_answer.Reads as as-answer-reads
 use Rattle.operations.proofs.operand.as_number.Reads as as-number-reads
 use Rattle.operations.proofs.operand.branch.Reads as branch-reads
-use Rattle.operations.proofs.operation.leaf.Reads as leaf-reads
 use Rattle.operations.proofs.operand.number_stops.Reads as number-stops-reads
 use Rattle.operations.proofs.operand.operated.Reads as operated-reads
 use Rattle.operations.proofs.operand.stops.Reads as stops-reads
 use Rattle.operations.proofs.operand.then_truth.Reads as then-truth-reads
+use Rattle.operations.proofs.operation.answer_of.Reads as answer-of-reads
 use Rattle.operations.proofs.operation.then_use.Reads as then-use-reads
 use Rattle.evaluator.proofs.evaluation.+number_at+truth_at+value_at.{statement}
 use Rattle.evaluator.proofs.evaluation.+number_at+truth_at+value_at.Tie.{close}
 
--- the measure of all three: the sixth argument, the frame i
-abbrev μ-number-at : Measures 3 number-at-kinds.ps ℕ
-μ-number-at κs a = a .1 .1 .1 .1 .1 .0
+-- the measure of all three: the fifth argument, the frame i
+abbrev μ-number-at : Measures 2 number-at-kinds.ps ℕ
+μ-number-at κs a = a .1 .1 .1 .1 .0
 
-abbrev μ-truth-at : Measures 3 truth-at-kinds.ps ℕ
-μ-truth-at κs a = a .1 .1 .1 .1 .1 .0
+abbrev μ-truth-at : Measures 2 truth-at-kinds.ps ℕ
+μ-truth-at κs a = a .1 .1 .1 .1 .0
 
-abbrev μ-value-at : Measures 3 value-at-kinds.ps ℕ
-μ-value-at κs a = a .1 .1 .1 .1 .1 .0
+abbrev μ-value-at : Measures 2 value-at-kinds.ps ℕ
+μ-value-at κs a = a .1 .1 .1 .1 .0
 
-abbrev number-at-at : ℕ → In 3 number-at-kinds.ps
-number-at-at t = and 3 number-at-kinds.ps (is 3 number-at-kinds.ps μ-number-at t) number-at.Pre
+abbrev number-at-at : ℕ → In 2 number-at-kinds.ps
+number-at-at t = and 2 number-at-kinds.ps (is 2 number-at-kinds.ps μ-number-at t) number-at.Pre
 
-abbrev number-at-below : ℕ → In 3 number-at-kinds.ps
+abbrev number-at-below : ℕ → In 2 number-at-kinds.ps
 number-at-below t =
-    and 3 number-at-kinds.ps (falls 3 number-at-kinds.ps _<_ μ-number-at t) number-at.Pre
+    and 2 number-at-kinds.ps (falls 2 number-at-kinds.ps _<_ μ-number-at t) number-at.Pre
 
-abbrev truth-at-at : ℕ → In 3 truth-at-kinds.ps
-truth-at-at t = and 3 truth-at-kinds.ps (is 3 truth-at-kinds.ps μ-truth-at t) truth-at.Pre
+abbrev truth-at-at : ℕ → In 2 truth-at-kinds.ps
+truth-at-at t = and 2 truth-at-kinds.ps (is 2 truth-at-kinds.ps μ-truth-at t) truth-at.Pre
 
-abbrev truth-at-below : ℕ → In 3 truth-at-kinds.ps
+abbrev truth-at-below : ℕ → In 2 truth-at-kinds.ps
 truth-at-below t =
-    and 3 truth-at-kinds.ps (falls 3 truth-at-kinds.ps _<_ μ-truth-at t) truth-at.Pre
+    and 2 truth-at-kinds.ps (falls 2 truth-at-kinds.ps _<_ μ-truth-at t) truth-at.Pre
 
-abbrev value-at-at : ℕ → In 3 value-at-kinds.ps
-value-at-at t = and 3 value-at-kinds.ps (is 3 value-at-kinds.ps μ-value-at t) value-at.Pre
+abbrev value-at-at : ℕ → In 2 value-at-kinds.ps
+value-at-at t = and 2 value-at-kinds.ps (is 2 value-at-kinds.ps μ-value-at t) value-at.Pre
 
-abbrev value-at-below : ℕ → In 3 value-at-kinds.ps
+abbrev value-at-below : ℕ → In 2 value-at-kinds.ps
 value-at-below t =
-    and 3 value-at-kinds.ps (falls 3 value-at-kinds.ps _<_ μ-value-at t) value-at.Pre
+    and 2 value-at-kinds.ps (falls 2 value-at-kinds.ps _<_ μ-value-at t) value-at.Pre
 
 abbrev number-at-calls : ℕ → number-at-lts.Claims
-number-at-calls t = (node-at-reads.Asked, node-at-reads.Learnt, leaf-reads.Asked, leaf-reads.Learnt, answer-of-reads.Asked, answer-of-reads.Learnt, as-number-reads.Asked, as-number-reads.Learnt, value-at-below t, value-at.Post, then-use-reads.Asked, then-use-reads.Learnt, number-at-below t, number-at.Post, number-stops-reads.Asked, number-stops-reads.Learnt, operated-reads.Asked, operated-reads.Learnt, truth-at-below t, truth-at.Post, stops-reads.Asked, stops-reads.Learnt, branch-reads.Asked, branch-reads.Learnt, as-answer-reads.Asked, as-answer-reads.Learnt)
+number-at-calls t = (
+  node-at-reads.Asked,
+  node-at-reads.Learnt,
+  leaf-at-reads.Asked,
+  leaf-at-reads.Learnt,
+  answer-of-reads.Asked,
+  answer-of-reads.Learnt,
+  as-number-reads.Asked,
+  as-number-reads.Learnt,
+  value-at-below t,
+  value-at.Post,
+  then-use-reads.Asked,
+  then-use-reads.Learnt,
+  number-at-below t,
+  number-at.Post,
+  number-stops-reads.Asked,
+  number-stops-reads.Learnt,
+  operated-reads.Asked,
+  operated-reads.Learnt,
+  truth-at-below t,
+  truth-at.Post,
+  stops-reads.Asked,
+  stops-reads.Learnt,
+  branch-reads.Asked,
+  branch-reads.Learnt,
+  as-answer-reads.Asked,
+  as-answer-reads.Learnt,
+)
 
-number-at-node-at-requires : (t : ℕ) → number-at-lts.Need-node-at-requires (number-at-calls t) (number-at-at t) number-at.Post
-number-at-node-at-requires t c = λ κs. c .before .before .before .pre .1
+number-at-node-at-requires : (t : ℕ)
+    → number-at-lts.Need-node-at-requires (number-at-calls t) (number-at-at t) number-at.Post
+number-at-node-at-requires t c = λ κs. c .before .before .pre .1 .0
 
-number-at-enum-known-l : (t : ℕ) → number-at-lts.Need-enum-known-l (number-at-calls t) (number-at-at t) number-at.Post
+number-at-enum-known-l : (t : ℕ)
+    → number-at-lts.Need-enum-known-l (number-at-calls t) (number-at-at t) number-at.Post
 number-at-enum-known-l t c = search needs
 
-number-at-leaf-requires : (t : ℕ) → number-at-lts.Need-leaf-requires (number-at-calls t) (number-at-at t) number-at.Post
-number-at-leaf-requires t c = λ κs. search needs
+number-at-leaf-at-requires : (t : ℕ)
+    → number-at-lts.Need-leaf-at-requires (number-at-calls t) (number-at-at t) number-at.Post
+number-at-leaf-at-requires t c = λ κs.
+    let at = c .before .before .before .before .before .before .before in
+    at .pre .1 .1
 
-number-at-answer-of-requires : (t : ℕ) → number-at-lts.Need-answer-of-requires (number-at-calls t) (number-at-at t) number-at.Post
+number-at-answer-of-requires : (t : ℕ)
+    → number-at-lts.Need-answer-of-requires (number-at-calls t) (number-at-at t) number-at.Post
 number-at-answer-of-requires t c = λ κs. search needs
 
-number-at-as-number-requires : (t : ℕ) → number-at-lts.Need-as-number-requires (number-at-calls t) (number-at-at t) number-at.Post
+number-at-as-number-requires : (t : ℕ)
+    → number-at-lts.Need-as-number-requires (number-at-calls t) (number-at-at t) number-at.Post
 number-at-as-number-requires t c = λ κs. search needs
 
-number-at-enum-known-u : (t : ℕ) → number-at-lts.Need-enum-known-u (number-at-calls t) (number-at-at t) number-at.Post
+number-at-enum-known-u : (t : ℕ)
+    → number-at-lts.Need-enum-known-u (number-at-calls t) (number-at-at t) number-at.Post
 number-at-enum-known-u t c = search needs
 
-number-at-value-at-requires : (t : ℕ) → number-at-lts.Need-value-at-requires (number-at-calls t) (number-at-at t) number-at.Post
+number-at-value-at-requires : (t : ℕ)
+    → number-at-lts.Need-value-at-requires (number-at-calls t) (number-at-at t) number-at.Post
 number-at-value-at-requires t c = λ κs.
-    let node = c .before .before .before .before in
-    let at = node .before .before .before .before in
-    falls-to (now (at .args .frames)) _ _ _ (at .pre) (operands-below (now (at .args .frames)) _ _ (at .pre .1) (sym (c .before .before .u .given .1) ∙ node .node-at .ensures))
+    let arm = c .before .before in
+    let node = arm .before .before in
+    let at = node .before .before .before in
+    let fs = now (at .args .frames) in
+    let w = now (at .args .state) in
+    let is = sym (arm .u .given .1) ∙ node .node-at .ensures in
+    let below = operands-below fs _ _ (at .pre .1 .0) is in
+    falls-in fs _ _ _ _ w _
+    (at .pre) below refl refl
 
-number-at-then-use-requires : (t : ℕ) → number-at-lts.Need-then-use-requires (number-at-calls t) (number-at-at t) number-at.Post
+number-at-sub-then-use : (t : ℕ)
+    → number-at-lts.Need-sub-then-use (number-at-calls t) (number-at-at t) number-at.Post
+number-at-sub-then-use t c = search needs
+
+number-at-part-then-use-start : (t : ℕ)
+    → number-at-lts.Need-part-then-use-start (number-at-calls t) (number-at-at t) number-at.Post
+number-at-part-then-use-start t c = search needs
+
+number-at-part-then-use-end : (t : ℕ)
+    → number-at-lts.Need-part-then-use-end (number-at-calls t) (number-at-at t) number-at.Post
+number-at-part-then-use-end t c = search needs
+
+number-at-then-use-requires : (t : ℕ)
+    → number-at-lts.Need-then-use-requires (number-at-calls t) (number-at-at t) number-at.Post
 number-at-then-use-requires t c = λ κs. search needs
 
-number-at-as-number-requires-2 : (t : ℕ) → number-at-lts.Need-as-number-requires-2 (number-at-calls t) (number-at-at t) number-at.Post
+number-at-as-number-requires-2 : (t : ℕ)
+    → number-at-lts.Need-as-number-requires-2 (number-at-calls t) (number-at-at t) number-at.Post
 number-at-as-number-requires-2 t c = λ κs. search needs
 
-number-at-enum-known-op : (t : ℕ) → number-at-lts.Need-enum-known-op (number-at-calls t) (number-at-at t) number-at.Post
+number-at-enum-known-op : (t : ℕ)
+    → number-at-lts.Need-enum-known-op (number-at-calls t) (number-at-at t) number-at.Post
 number-at-enum-known-op t c = search needs
 
-number-at-number-at-requires : (t : ℕ) → number-at-lts.Need-number-at-requires (number-at-calls t) (number-at-at t) number-at.Post
+number-at-number-at-requires : (t : ℕ)
+    → number-at-lts.Need-number-at-requires (number-at-calls t) (number-at-at t) number-at.Post
 number-at-number-at-requires t c = λ κs.
-    let node = c .before .before .before .before in
-    let at = node .before .before .before .before in
-    falls-to (now (at .args .frames)) _ _ _ (at .pre) ((operands-below (now (at .args .frames)) _ _ (at .pre .1) (sym (c .before .before .op .given .1) ∙ node .node-at .ensures)) .0)
+    let arm = c .before .before in
+    let node = arm .before .before in
+    let at = node .before .before .before in
+    let fs = now (at .args .frames) in
+    let w = now (at .args .state) in
+    let is = sym (arm .op .given .1) ∙ node .node-at .ensures in
+    let below = (operands-below fs _ _ (at .pre .1 .0) is) .0 in
+    falls-in fs _ _ _ _ w _
+    (at .pre) below refl refl
 
-number-at-number-stops-requires : (t : ℕ) → number-at-lts.Need-number-stops-requires (number-at-calls t) (number-at-at t) number-at.Post
+number-at-number-stops-requires : (t : ℕ)
+    → number-at-lts.Need-number-stops-requires (number-at-calls t) (number-at-at t) number-at.Post
 number-at-number-stops-requires t c = λ κs. search needs
 
-number-at-same-length : (t : ℕ) → number-at-lts.Need-same-length (number-at-calls t) (number-at-at t) number-at.Post
+number-at-same-length : (t : ℕ)
+    → number-at-lts.Need-same-length (number-at-calls t) (number-at-at t) number-at.Post
 number-at-same-length t c = search needs
 
-number-at-returns : (t : ℕ) → number-at-lts.Need-returns (number-at-calls t) (number-at-at t) number-at.Post
+number-at-returns : (t : ℕ)
+    → number-at-lts.Need-returns (number-at-calls t) (number-at-at t) number-at.Post
 number-at-returns t c =
-    let node = c .before .before .before .before .before .before .before .before .before in
-    let at = node .before .before .before .before in
-    first-as-number (now (at .args .frames)) (now (at .args .variables)) _ _ _ _ (at .pre .1) _ _ _ (c .before .before .before .before .number-at .result) _ (sym (c .before .before .before .before .before .before .before .op .given .1) ∙ node .node-at .ensures) (c .before .before .before .before .number-at .ensures) (sym (c .before .number-stops .ensures) ∙ c .if1 .taken)
+    let stop = c .before in
+    let one = stop .before .before .before in
+    let arm = one .before .before .before in
+    let node = arm .before .before in
+    let at = node .before .before .before in
+    let fs = now (at .args .frames) in
+    let is = sym (arm .op .given .1) ∙ node .node-at .ensures in
+    let stops = sym (stop .number-stops .ensures) ∙ c .if1 .taken in (
+      first-as-number fs _ _ _ _ _ (at .pre .1 .0) _ _ _ (one .number-at .result) _ is
+          (one .number-at .ensures .0) stops,
+      one .number-at .ensures .1,
+    )
 
-number-at-number-at-requires-2 : (t : ℕ) → number-at-lts.Need-number-at-requires-2 (number-at-calls t) (number-at-at t) number-at.Post
+number-at-number-at-requires-2 : (t : ℕ)
+    → number-at-lts.Need-number-at-requires-2 (number-at-calls t) (number-at-at t) number-at.Post
 number-at-number-at-requires-2 t c = λ κs.
-    let node = c .before .before .before .before .before .before .before .before .before .before in
-    let at = node .before .before .before .before in
-    falls-to (now (at .args .frames)) _ _ _ (at .pre) ((operands-below (now (at .args .frames)) _ _ (at .pre .1) (sym (c .before .before .before .before .before .before .before .before .op .given .1) ∙ node .node-at .ensures)) .1)
+    let one = c .before .before .before .before .before in
+    let arm = one .before .before .before in
+    let node = arm .before .before in
+    let at = node .before .before .before in
+    let fs = now (at .args .frames) in
+    let w = now (at .args .state) in
+    let is = sym (arm .op .given .1) ∙ node .node-at .ensures in
+    let below = (operands-below fs _ _ (at .pre .1 .0) is) .1 in
+    falls-in fs _ _ _ _ w _
+    (at .pre) below (one .number-at .ensures .1) (one .number-at .kept .1 .1 .0)
 
-number-at-operated-requires : (t : ℕ) → number-at-lts.Need-operated-requires (number-at-calls t) (number-at-at t) number-at.Post
+number-at-operated-requires : (t : ℕ)
+    → number-at-lts.Need-operated-requires (number-at-calls t) (number-at-at t) number-at.Post
 number-at-operated-requires t c = λ κs. search needs
 
-number-at-as-number-requires-3 : (t : ℕ) → number-at-lts.Need-as-number-requires-3 (number-at-calls t) (number-at-at t) number-at.Post
+number-at-as-number-requires-3 : (t : ℕ)
+    → number-at-lts.Need-as-number-requires-3 (number-at-calls t) (number-at-at t) number-at.Post
 number-at-as-number-requires-3 t c = λ κs. search needs
 
-number-at-enum-known-a : (t : ℕ) → number-at-lts.Need-enum-known-a (number-at-calls t) (number-at-at t) number-at.Post
+number-at-enum-known-a : (t : ℕ)
+    → number-at-lts.Need-enum-known-a (number-at-calls t) (number-at-at t) number-at.Post
 number-at-enum-known-a t c = search needs
 
-number-at-truth-at-requires : (t : ℕ) → number-at-lts.Need-truth-at-requires (number-at-calls t) (number-at-at t) number-at.Post
+number-at-truth-at-requires : (t : ℕ)
+    → number-at-lts.Need-truth-at-requires (number-at-calls t) (number-at-at t) number-at.Post
 number-at-truth-at-requires t c = λ κs.
-    let node = c .before .before .before .before in
-    let at = node .before .before .before .before in
-    falls-to (now (at .args .frames)) _ _ _ (at .pre) ((operands-below (now (at .args .frames)) _ _ (at .pre .1) (sym (c .before .before .a .given .1) ∙ node .node-at .ensures)) .0)
+    let arm = c .before .before in
+    let node = arm .before .before in
+    let at = node .before .before .before in
+    let fs = now (at .args .frames) in
+    let w = now (at .args .state) in
+    let is = sym (arm .a .given .1) ∙ node .node-at .ensures in
+    let below = (operands-below fs _ _ (at .pre .1 .0) is) .0 in
+    falls-in fs _ _ _ _ w _
+    (at .pre) below refl refl
 
-number-at-stops-requires : (t : ℕ) → number-at-lts.Need-stops-requires (number-at-calls t) (number-at-at t) number-at.Post
+number-at-stops-requires : (t : ℕ)
+    → number-at-lts.Need-stops-requires (number-at-calls t) (number-at-at t) number-at.Post
 number-at-stops-requires t c = λ κs. search needs
 
-number-at-as-number-requires-4 : (t : ℕ) → number-at-lts.Need-as-number-requires-4 (number-at-calls t) (number-at-at t) number-at.Post
+number-at-as-number-requires-4 : (t : ℕ)
+    → number-at-lts.Need-as-number-requires-4 (number-at-calls t) (number-at-at t) number-at.Post
 number-at-as-number-requires-4 t c = λ κs. search needs
 
-number-at-same-length-2 : (t : ℕ) → number-at-lts.Need-same-length-2 (number-at-calls t) (number-at-at t) number-at.Post
+number-at-same-length-2 : (t : ℕ)
+    → number-at-lts.Need-same-length-2 (number-at-calls t) (number-at-at t) number-at.Post
 number-at-same-length-2 t c = search needs
 
-number-at-returns-2 : (t : ℕ) → number-at-lts.Need-returns-2 (number-at-calls t) (number-at-at t) number-at.Post
+number-at-returns-2 : (t : ℕ)
+    → number-at-lts.Need-returns-2 (number-at-calls t) (number-at-at t) number-at.Post
 number-at-returns-2 t c =
-    let node = c .before .before .before .before .before .before .before .before .before .before in
-    let at = node .before .before .before .before in
-    to-number (now (at .args .frames)) (now (at .args .variables)) _ _ _ _ _ (c .before .before .before .before .before .truth-at .result) _ (case-condition (now (at .args .frames)) (now (at .args .variables)) _ _ _ _ (at .pre .1) _ _ _ (c .before .before .before .before .before .truth-at .result) _ (sym (c .before .before .before .before .before .before .before .before .a .given .1) ∙ node .node-at .ensures) (c .before .before .before .before .before .truth-at .ensures) (sym (c .before .before .stops .ensures) ∙ c .before .if2 .taken)) (c .as-number4 .ensures)
+    let test = c .before in
+    let stop = test .before in
+    let one = stop .before .before .before in
+    let arm = one .before .before .before in
+    let node = arm .before .before in
+    let at = node .before .before .before in
+    let fs = now (at .args .frames) in
+    let is = sym (arm .a .given .1) ∙ node .node-at .ensures in
+    let stops = sym (stop .stops .ensures) ∙ test .if2 .taken in (
+      to-number fs _ _ _ _ _ _ (one .truth-at .result) _
+          (case-condition fs _ _ _ _ _ (at .pre .1 .0) _ _ _ (one .truth-at .result) _ is
+          (one .truth-at .ensures .0) stops)
+          (c .as-number4 .ensures),
+      one .truth-at .ensures .1,
+    )
 
-number-at-branch-requires : (t : ℕ) → number-at-lts.Need-branch-requires (number-at-calls t) (number-at-at t) number-at.Post
+number-at-branch-requires : (t : ℕ)
+    → number-at-lts.Need-branch-requires (number-at-calls t) (number-at-at t) number-at.Post
 number-at-branch-requires t c = λ κs. search needs
 
-number-at-number-at-requires-3 : (t : ℕ) → number-at-lts.Need-number-at-requires-3 (number-at-calls t) (number-at-at t) number-at.Post
+number-at-number-at-requires-3 : (t : ℕ)
+    → number-at-lts.Need-number-at-requires-3 (number-at-calls t) (number-at-at t) number-at.Post
 number-at-number-at-requires-3 t c = λ κs.
-    let node = c .before .before .before .before .before .before .before .before .before .before .before in
-    let at = node .before .before .before .before in
-    falls-to (now (at .args .frames)) _ _ _ (at .pre) (branch-below (now (at .args .frames)) _ _ _ _ _ ((c .before .before .before .before .before .before .truth-at .result) .outcome) (at .pre .1) (sym (c .before .before .before .before .before .before .before .before .before .a .given .1) ∙ node .node-at .ensures) (c .branch .ensures))
+    let one = c .before .before .before .before .before .before in
+    let arm = one .before .before .before in
+    let node = arm .before .before in
+    let at = node .before .before .before in
+    let fs = now (at .args .frames) in
+    let w = now (at .args .state) in
+    let is = sym (arm .a .given .1) ∙ node .node-at .ensures in
+    let below =
+    branch-below fs _ _ _ _ _
+    (one .truth-at .result .outcome) (at .pre .1 .0) is (c .branch .ensures) in
+    falls-in fs _ _ _ _ w _
+    (at .pre) below (one .truth-at .ensures .1) (one .truth-at .kept .1 .1 .0)
 
-number-at-as-answer-requires : (t : ℕ) → number-at-lts.Need-as-answer-requires (number-at-calls t) (number-at-at t) number-at.Post
+number-at-as-answer-requires : (t : ℕ)
+    → number-at-lts.Need-as-answer-requires (number-at-calls t) (number-at-at t) number-at.Post
 number-at-as-answer-requires t c = λ κs. search needs
 
-number-at-as-number-requires-5 : (t : ℕ) → number-at-lts.Need-as-number-requires-5 (number-at-calls t) (number-at-at t) number-at.Post
+number-at-as-number-requires-5 : (t : ℕ)
+    → number-at-lts.Need-as-number-requires-5 (number-at-calls t) (number-at-at t) number-at.Post
 number-at-as-number-requires-5 t c = λ κs. search needs
 
-number-at-returns-3 : (t : ℕ) → number-at-lts.Need-returns-3 (number-at-calls t) (number-at-at t) number-at.Post
-number-at-returns-3 t c =
-    let node = c .before .before .before .before .before .before in
-    let at = node .before .before .before .before in
-    to-number (now (at .args .frames)) (now (at .args .variables)) _ _ _ _ _ (c .before .answer-of .result) _ (case-plain (now (at .args .frames)) (now (at .args .variables)) _ _ _ _ (at .pre .1) _ _ _ (sym (c .before .before .before .before .l .given .1) ∙ node .node-at .ensures) (c .before .before .leaf .ensures) (c .before .answer-of .ensures)) (c .as-number .ensures)
-
-number-at-same-length-3 : (t : ℕ) → number-at-lts.Need-same-length-3 (number-at-calls t) (number-at-at t) number-at.Post
+number-at-same-length-3 : (t : ℕ)
+    → number-at-lts.Need-same-length-3 (number-at-calls t) (number-at-at t) number-at.Post
 number-at-same-length-3 t c = search needs
 
-number-at-returns-4 : (t : ℕ) → number-at-lts.Need-returns-4 (number-at-calls t) (number-at-at t) number-at.Post
-number-at-returns-4 t c =
-    let node = c .before .before .before .before .before .before .before .before .before .before .before .before in
-    let at = node .before .before .before .before in
-    to-number (now (at .args .frames)) (now (at .args .variables)) _ _ _ _ _ (c .before .before .before .then-use .result) _ (case-cells (now (at .args .frames)) (now (at .args .variables)) _ _ _ _ (at .pre .1) _ _ _ _ (sym (c .before .before .before .before .before .before .before .before .before .before .u .given .1) ∙ node .node-at .ensures) (c .before .before .before .before .before .before .before .value-at .ensures) (c .before .before .before .then-use .ensures)) (c .as-number2 .ensures)
+number-at-returns-3 : (t : ℕ)
+    → number-at-lts.Need-returns-3 (number-at-calls t) (number-at-at t) number-at.Post
+number-at-returns-3 t c =
+    let answer = c .before in
+    let leaf = answer .before in
+    let arm = leaf .before .before .before in
+    let node = arm .before .before in
+    let at = node .before .before .before in
+    let fs = now (at .args .frames) in
+    let is = sym (arm .l .given .1) ∙ node .node-at .ensures in (
+      to-number fs _ _ _ _ _ _ (answer .answer-of .result) _
+          (case-plain fs _ _ _ _ _ (at .pre .1 .0) _ _ _
+          is (leaf .leaf-at .ensures) (answer .answer-of .ensures))
+          (c .as-number .ensures),
+      refl,
+    )
 
-number-at-same-length-4 : (t : ℕ) → number-at-lts.Need-same-length-4 (number-at-calls t) (number-at-at t) number-at.Post
+number-at-same-length-4 : (t : ℕ)
+    → number-at-lts.Need-same-length-4 (number-at-calls t) (number-at-at t) number-at.Post
 number-at-same-length-4 t c = search needs
 
-number-at-returns-5 : (t : ℕ) → number-at-lts.Need-returns-5 (number-at-calls t) (number-at-at t) number-at.Post
-number-at-returns-5 t c =
-    let node = c .before .before .before .before .before .before .before .before .before .before .before .before .before .before .before in
-    let at = node .before .before .before .before in
-    to-number (now (at .args .frames)) (now (at .args .variables)) _ _ _ _ _ (c .before .operated .result) _ (case-both (now (at .args .frames)) (now (at .args .variables)) _ _ _ _ (at .pre .1) _ _ _ (c .before .before .before .before .before .before .before .before .before .before .number-at .result) (c .before .before .before .before .number-at2 .result) _ _ _ (sym (c .before .before .before .before .before .before .before .before .before .before .before .before .before .op .given .1) ∙ node .node-at .ensures) (c .before .before .before .before .before .before .before .before .before .before .number-at .ensures) (sym (c .before .before .before .before .before .before .before .number-stops .ensures) ∙ c .before .before .before .before .before .before .if1 .left) (c .before .before .before .before .number-at2 .ensures) (c .before .operated .ensures)) (c .as-number3 .ensures)
+number-at-returns-4 : (t : ℕ)
+    → number-at-lts.Need-returns-4 (number-at-calls t) (number-at-at t) number-at.Post
+number-at-returns-4 t c =
+    let answer = c .before .before .before in
+    let one = answer .before .before .before .before in
+    let arm = one .before .before .before in
+    let node = arm .before .before in
+    let at = node .before .before .before in
+    let fs = now (at .args .frames) in
+    let w = now (at .args .state) in
+    let is = sym (arm .u .given .1) ∙ node .node-at .ensures in
+    let behind =
+    use-in _ (one .value-at .result) (answer .then-use .result) _ w _ _ _
+    (at .pre .1 .1) (one .value-at .ensures .1)
+    (one .value-at .kept .1 .1 .0) (answer .then-use .ensures) refl in (
+      to-number fs _ _ _ _ _ _ (answer .then-use .result) _
+          (case-cells fs _ _ _ _ _ (at .pre .1 .0) _ _ _ _
+          is (one .value-at .ensures .0) (behind .0))
+          (c .as-number2 .ensures),
+      behind .1,
+    )
 
-number-at-same-length-5 : (t : ℕ) → number-at-lts.Need-same-length-5 (number-at-calls t) (number-at-at t) number-at.Post
+number-at-same-length-5 : (t : ℕ)
+    → number-at-lts.Need-same-length-5 (number-at-calls t) (number-at-at t) number-at.Post
 number-at-same-length-5 t c = search needs
 
-number-at-returns-6 : (t : ℕ) → number-at-lts.Need-returns-6 (number-at-calls t) (number-at-at t) number-at.Post
+number-at-returns-5 : (t : ℕ)
+    → number-at-lts.Need-returns-5 (number-at-calls t) (number-at-at t) number-at.Post
+number-at-returns-5 t c =
+    let answer = c .before in
+    let two = answer .before .before .before in
+    let test = two .before .before in
+    let stop = test .before in
+    let one = stop .before .before .before in
+    let arm = one .before .before .before in
+    let node = arm .before .before in
+    let at = node .before .before .before in
+    let fs = now (at .args .frames) in
+    let w = now (at .args .state) in
+    let is = sym (arm .op .given .1) ∙ node .node-at .ensures in
+    let stops = sym (stop .number-stops .ensures) ∙ test .if1 .left in
+    let second =
+    again-number fs _ _ _ w _ _
+    (at .pre .1 .1) (one .number-at .ensures .1) (two .number-at2 .ensures .0) in (
+      to-number fs _ _ _ _ _ _ (answer .operated .result) _
+          (case-both fs _ _ _ _ _ (at .pre .1 .0) _ _ _
+          (one .number-at .result) (two .number-at2 .result) _ _ _
+          is (one .number-at .ensures .0) stops second (answer .operated .ensures))
+          (c .as-number3 .ensures),
+      two .number-at2 .ensures .1 ∙ one .number-at .ensures .1,
+    )
+
+number-at-same-length-6 : (t : ℕ)
+    → number-at-lts.Need-same-length-6 (number-at-calls t) (number-at-at t) number-at.Post
+number-at-same-length-6 t c = search needs
+
+number-at-returns-6 : (t : ℕ)
+    → number-at-lts.Need-returns-6 (number-at-calls t) (number-at-at t) number-at.Post
 number-at-returns-6 t c =
-    let node = c .before .before .before .before .before .before .before .before .before .before .before .before .before .before .before .before in
-    let at = node .before .before .before .before in
-    to-number (now (at .args .frames)) (now (at .args .variables)) _ _ _ _ _ (c .before .as-answer .result) _ (case-choice (now (at .args .frames)) (now (at .args .variables)) _ _ _ _ (at .pre .1) _ _ _ _ (c .before .before .before .before .before .before .before .before .before .before .before .truth-at .result) (c .before .before .before .before .number-at3 .result) _ _ _ (sym (c .before .before .before .before .before .before .before .before .before .before .before .before .before .before .a .given .1) ∙ node .node-at .ensures) (c .before .before .before .before .before .before .before .before .before .before .before .truth-at .ensures) (sym (c .before .before .before .before .before .before .before .before .stops .ensures) ∙ c .before .before .before .before .before .before .before .if2 .left) (c .before .before .before .before .before .branch .ensures) (c .before .before .before .before .number-at3 .ensures) (c .before .as-answer .ensures)) (c .as-number5 .ensures)
+    let answer = c .before in
+    let two = answer .before .before .before in
+    let way = two .before in
+    let test = way .before .before in
+    let stop = test .before in
+    let one = stop .before .before .before in
+    let arm = one .before .before .before in
+    let node = arm .before .before in
+    let at = node .before .before .before in
+    let fs = now (at .args .frames) in
+    let w = now (at .args .state) in
+    let is = sym (arm .a .given .1) ∙ node .node-at .ensures in
+    let stops = sym (stop .stops .ensures) ∙ test .if2 .left in
+    let second =
+    again-number fs _ _ _ w _ _
+    (at .pre .1 .1) (one .truth-at .ensures .1) (two .number-at3 .ensures .0) in (
+      to-number fs _ _ _ _ _ _ (answer .as-answer .result) _
+          (case-choice fs _ _ _ _ _ (at .pre .1 .0) _ _ _ _
+          (one .truth-at .result) (two .number-at3 .result) _ _ _
+          is (one .truth-at .ensures .0) stops
+          (way .branch .ensures) second (answer .as-answer .ensures))
+          (c .as-number5 .ensures),
+      two .number-at3 .ensures .1 ∙ one .truth-at .ensures .1,
+    )
 
 abbrev truth-at-calls : ℕ → truth-at-lts.Claims
-truth-at-calls t = (node-at-reads.Asked, node-at-reads.Learnt, leaf-reads.Asked, leaf-reads.Learnt, answer-of-reads.Asked, answer-of-reads.Learnt, then-truth-reads.Asked, then-truth-reads.Learnt, value-at-below t, value-at.Post, then-use-reads.Asked, then-use-reads.Learnt, number-at-below t, number-at.Post, number-stops-reads.Asked, number-stops-reads.Learnt, as-answer-reads.Asked, as-answer-reads.Learnt, operated-reads.Asked, operated-reads.Learnt, truth-at-below t, truth-at.Post, stops-reads.Asked, stops-reads.Learnt, branch-reads.Asked, branch-reads.Learnt)
+truth-at-calls t = (
+  node-at-reads.Asked,
+  node-at-reads.Learnt,
+  leaf-at-reads.Asked,
+  leaf-at-reads.Learnt,
+  answer-of-reads.Asked,
+  answer-of-reads.Learnt,
+  then-truth-reads.Asked,
+  then-truth-reads.Learnt,
+  value-at-below t,
+  value-at.Post,
+  then-use-reads.Asked,
+  then-use-reads.Learnt,
+  number-at-below t,
+  number-at.Post,
+  number-stops-reads.Asked,
+  number-stops-reads.Learnt,
+  as-answer-reads.Asked,
+  as-answer-reads.Learnt,
+  operated-reads.Asked,
+  operated-reads.Learnt,
+  truth-at-below t,
+  truth-at.Post,
+  stops-reads.Asked,
+  stops-reads.Learnt,
+  branch-reads.Asked,
+  branch-reads.Learnt,
+)
 
-truth-at-node-at-requires : (t : ℕ) → truth-at-lts.Need-node-at-requires (truth-at-calls t) (truth-at-at t) truth-at.Post
-truth-at-node-at-requires t c = λ κs. c .before .before .before .pre .1
+truth-at-node-at-requires : (t : ℕ)
+    → truth-at-lts.Need-node-at-requires (truth-at-calls t) (truth-at-at t) truth-at.Post
+truth-at-node-at-requires t c = λ κs. c .before .before .pre .1 .0
 
-truth-at-enum-known-l : (t : ℕ) → truth-at-lts.Need-enum-known-l (truth-at-calls t) (truth-at-at t) truth-at.Post
+truth-at-enum-known-l : (t : ℕ)
+    → truth-at-lts.Need-enum-known-l (truth-at-calls t) (truth-at-at t) truth-at.Post
 truth-at-enum-known-l t c = search needs
 
-truth-at-leaf-requires : (t : ℕ) → truth-at-lts.Need-leaf-requires (truth-at-calls t) (truth-at-at t) truth-at.Post
-truth-at-leaf-requires t c = λ κs. search needs
+truth-at-leaf-at-requires : (t : ℕ)
+    → truth-at-lts.Need-leaf-at-requires (truth-at-calls t) (truth-at-at t) truth-at.Post
+truth-at-leaf-at-requires t c = λ κs.
+    let at = c .before .before .before .before .before .before .before in
+    at .pre .1 .1
 
-truth-at-answer-of-requires : (t : ℕ) → truth-at-lts.Need-answer-of-requires (truth-at-calls t) (truth-at-at t) truth-at.Post
+truth-at-answer-of-requires : (t : ℕ)
+    → truth-at-lts.Need-answer-of-requires (truth-at-calls t) (truth-at-at t) truth-at.Post
 truth-at-answer-of-requires t c = λ κs. search needs
 
-truth-at-then-truth-requires : (t : ℕ) → truth-at-lts.Need-then-truth-requires (truth-at-calls t) (truth-at-at t) truth-at.Post
+truth-at-then-truth-requires : (t : ℕ)
+    → truth-at-lts.Need-then-truth-requires (truth-at-calls t) (truth-at-at t) truth-at.Post
 truth-at-then-truth-requires t c = λ κs. search needs
 
-truth-at-enum-known-u : (t : ℕ) → truth-at-lts.Need-enum-known-u (truth-at-calls t) (truth-at-at t) truth-at.Post
+truth-at-enum-known-u : (t : ℕ)
+    → truth-at-lts.Need-enum-known-u (truth-at-calls t) (truth-at-at t) truth-at.Post
 truth-at-enum-known-u t c = search needs
 
-truth-at-value-at-requires : (t : ℕ) → truth-at-lts.Need-value-at-requires (truth-at-calls t) (truth-at-at t) truth-at.Post
+truth-at-value-at-requires : (t : ℕ)
+    → truth-at-lts.Need-value-at-requires (truth-at-calls t) (truth-at-at t) truth-at.Post
 truth-at-value-at-requires t c = λ κs.
-    let node = c .before .before .before .before in
-    let at = node .before .before .before .before in
-    falls-to (now (at .args .frames)) _ _ _ (at .pre) (operands-below (now (at .args .frames)) _ _ (at .pre .1) (sym (c .before .before .u .given .1) ∙ node .node-at .ensures))
+    let arm = c .before .before in
+    let node = arm .before .before in
+    let at = node .before .before .before in
+    let fs = now (at .args .frames) in
+    let w = now (at .args .state) in
+    let is = sym (arm .u .given .1) ∙ node .node-at .ensures in
+    let below = operands-below fs _ _ (at .pre .1 .0) is in
+    falls-in fs _ _ _ _ w _
+    (at .pre) below refl refl
 
-truth-at-then-use-requires : (t : ℕ) → truth-at-lts.Need-then-use-requires (truth-at-calls t) (truth-at-at t) truth-at.Post
+truth-at-sub-then-use : (t : ℕ)
+    → truth-at-lts.Need-sub-then-use (truth-at-calls t) (truth-at-at t) truth-at.Post
+truth-at-sub-then-use t c = search needs
+
+truth-at-part-then-use-start : (t : ℕ)
+    → truth-at-lts.Need-part-then-use-start (truth-at-calls t) (truth-at-at t) truth-at.Post
+truth-at-part-then-use-start t c = search needs
+
+truth-at-part-then-use-end : (t : ℕ)
+    → truth-at-lts.Need-part-then-use-end (truth-at-calls t) (truth-at-at t) truth-at.Post
+truth-at-part-then-use-end t c = search needs
+
+truth-at-then-use-requires : (t : ℕ)
+    → truth-at-lts.Need-then-use-requires (truth-at-calls t) (truth-at-at t) truth-at.Post
 truth-at-then-use-requires t c = λ κs. search needs
 
-truth-at-then-truth-requires-2 : (t : ℕ) → truth-at-lts.Need-then-truth-requires-2 (truth-at-calls t) (truth-at-at t) truth-at.Post
+truth-at-then-truth-requires-2 : (t : ℕ)
+    → truth-at-lts.Need-then-truth-requires-2 (truth-at-calls t) (truth-at-at t) truth-at.Post
 truth-at-then-truth-requires-2 t c = λ κs. search needs
 
-truth-at-enum-known-op : (t : ℕ) → truth-at-lts.Need-enum-known-op (truth-at-calls t) (truth-at-at t) truth-at.Post
+truth-at-enum-known-op : (t : ℕ)
+    → truth-at-lts.Need-enum-known-op (truth-at-calls t) (truth-at-at t) truth-at.Post
 truth-at-enum-known-op t c = search needs
 
-truth-at-number-at-requires : (t : ℕ) → truth-at-lts.Need-number-at-requires (truth-at-calls t) (truth-at-at t) truth-at.Post
+truth-at-number-at-requires : (t : ℕ)
+    → truth-at-lts.Need-number-at-requires (truth-at-calls t) (truth-at-at t) truth-at.Post
 truth-at-number-at-requires t c = λ κs.
-    let node = c .before .before .before .before in
-    let at = node .before .before .before .before in
-    falls-to (now (at .args .frames)) _ _ _ (at .pre) ((operands-below (now (at .args .frames)) _ _ (at .pre .1) (sym (c .before .before .op .given .1) ∙ node .node-at .ensures)) .0)
+    let arm = c .before .before in
+    let node = arm .before .before in
+    let at = node .before .before .before in
+    let fs = now (at .args .frames) in
+    let w = now (at .args .state) in
+    let is = sym (arm .op .given .1) ∙ node .node-at .ensures in
+    let below = (operands-below fs _ _ (at .pre .1 .0) is) .0 in
+    falls-in fs _ _ _ _ w _
+    (at .pre) below refl refl
 
-truth-at-number-stops-requires : (t : ℕ) → truth-at-lts.Need-number-stops-requires (truth-at-calls t) (truth-at-at t) truth-at.Post
+truth-at-number-stops-requires : (t : ℕ)
+    → truth-at-lts.Need-number-stops-requires (truth-at-calls t) (truth-at-at t) truth-at.Post
 truth-at-number-stops-requires t c = λ κs. search needs
 
-truth-at-as-answer-requires : (t : ℕ) → truth-at-lts.Need-as-answer-requires (truth-at-calls t) (truth-at-at t) truth-at.Post
+truth-at-as-answer-requires : (t : ℕ)
+    → truth-at-lts.Need-as-answer-requires (truth-at-calls t) (truth-at-at t) truth-at.Post
 truth-at-as-answer-requires t c = λ κs. search needs
 
-truth-at-same-length : (t : ℕ) → truth-at-lts.Need-same-length (truth-at-calls t) (truth-at-at t) truth-at.Post
+truth-at-same-length : (t : ℕ)
+    → truth-at-lts.Need-same-length (truth-at-calls t) (truth-at-at t) truth-at.Post
 truth-at-same-length t c = search needs
 
-truth-at-returns : (t : ℕ) → truth-at-lts.Need-returns (truth-at-calls t) (truth-at-at t) truth-at.Post
+truth-at-returns : (t : ℕ)
+    → truth-at-lts.Need-returns (truth-at-calls t) (truth-at-at t) truth-at.Post
 truth-at-returns t c =
-    let node = c .before .before .before .before .before .before .before .before .before .before in
-    let at = node .before .before .before .before in
-    first-as-truth (now (at .args .frames)) (now (at .args .variables)) _ _ _ _ (at .pre .1) _ _ _ (c .before .before .before .before .before .number-at .result) _ _ (sym (c .before .before .before .before .before .before .before .before .op .given .1) ∙ node .node-at .ensures) (c .before .before .before .before .before .number-at .ensures) (sym (c .before .before .number-stops .ensures) ∙ c .before .if1 .taken) (c .as-answer .ensures)
+    let test = c .before in
+    let stop = test .before in
+    let one = stop .before .before .before in
+    let arm = one .before .before .before in
+    let node = arm .before .before in
+    let at = node .before .before .before in
+    let fs = now (at .args .frames) in
+    let is = sym (arm .op .given .1) ∙ node .node-at .ensures in
+    let stops = sym (stop .number-stops .ensures) ∙ test .if1 .taken in (
+      first-as-truth fs _ _ _ _ _ (at .pre .1 .0) _ _ _
+          (one .number-at .result) _ _ is
+          (one .number-at .ensures .0) stops (c .as-answer .ensures),
+      one .number-at .ensures .1,
+    )
 
-truth-at-number-at-requires-2 : (t : ℕ) → truth-at-lts.Need-number-at-requires-2 (truth-at-calls t) (truth-at-at t) truth-at.Post
+truth-at-number-at-requires-2 : (t : ℕ)
+    → truth-at-lts.Need-number-at-requires-2 (truth-at-calls t) (truth-at-at t) truth-at.Post
 truth-at-number-at-requires-2 t c = λ κs.
-    let node = c .before .before .before .before .before .before .before .before .before .before in
-    let at = node .before .before .before .before in
-    falls-to (now (at .args .frames)) _ _ _ (at .pre) ((operands-below (now (at .args .frames)) _ _ (at .pre .1) (sym (c .before .before .before .before .before .before .before .before .op .given .1) ∙ node .node-at .ensures)) .1)
+    let one = c .before .before .before .before .before in
+    let arm = one .before .before .before in
+    let node = arm .before .before in
+    let at = node .before .before .before in
+    let fs = now (at .args .frames) in
+    let w = now (at .args .state) in
+    let is = sym (arm .op .given .1) ∙ node .node-at .ensures in
+    let below = (operands-below fs _ _ (at .pre .1 .0) is) .1 in
+    falls-in fs _ _ _ _ w _
+    (at .pre) below (one .number-at .ensures .1) (one .number-at .kept .1 .1 .0)
 
-truth-at-operated-requires : (t : ℕ) → truth-at-lts.Need-operated-requires (truth-at-calls t) (truth-at-at t) truth-at.Post
+truth-at-operated-requires : (t : ℕ)
+    → truth-at-lts.Need-operated-requires (truth-at-calls t) (truth-at-at t) truth-at.Post
 truth-at-operated-requires t c = λ κs. search needs
 
-truth-at-then-truth-requires-3 : (t : ℕ) → truth-at-lts.Need-then-truth-requires-3 (truth-at-calls t) (truth-at-at t) truth-at.Post
+truth-at-then-truth-requires-3 : (t : ℕ)
+    → truth-at-lts.Need-then-truth-requires-3 (truth-at-calls t) (truth-at-at t) truth-at.Post
 truth-at-then-truth-requires-3 t c = λ κs. search needs
 
-truth-at-enum-known-a : (t : ℕ) → truth-at-lts.Need-enum-known-a (truth-at-calls t) (truth-at-at t) truth-at.Post
+truth-at-enum-known-a : (t : ℕ)
+    → truth-at-lts.Need-enum-known-a (truth-at-calls t) (truth-at-at t) truth-at.Post
 truth-at-enum-known-a t c = search needs
 
-truth-at-truth-at-requires : (t : ℕ) → truth-at-lts.Need-truth-at-requires (truth-at-calls t) (truth-at-at t) truth-at.Post
+truth-at-truth-at-requires : (t : ℕ)
+    → truth-at-lts.Need-truth-at-requires (truth-at-calls t) (truth-at-at t) truth-at.Post
 truth-at-truth-at-requires t c = λ κs.
-    let node = c .before .before .before .before in
-    let at = node .before .before .before .before in
-    falls-to (now (at .args .frames)) _ _ _ (at .pre) ((operands-below (now (at .args .frames)) _ _ (at .pre .1) (sym (c .before .before .a .given .1) ∙ node .node-at .ensures)) .0)
+    let arm = c .before .before in
+    let node = arm .before .before in
+    let at = node .before .before .before in
+    let fs = now (at .args .frames) in
+    let w = now (at .args .state) in
+    let is = sym (arm .a .given .1) ∙ node .node-at .ensures in
+    let below = (operands-below fs _ _ (at .pre .1 .0) is) .0 in
+    falls-in fs _ _ _ _ w _
+    (at .pre) below refl refl
 
-truth-at-stops-requires : (t : ℕ) → truth-at-lts.Need-stops-requires (truth-at-calls t) (truth-at-at t) truth-at.Post
+truth-at-stops-requires : (t : ℕ)
+    → truth-at-lts.Need-stops-requires (truth-at-calls t) (truth-at-at t) truth-at.Post
 truth-at-stops-requires t c = λ κs. search needs
 
-truth-at-same-length-2 : (t : ℕ) → truth-at-lts.Need-same-length-2 (truth-at-calls t) (truth-at-at t) truth-at.Post
+truth-at-same-length-2 : (t : ℕ)
+    → truth-at-lts.Need-same-length-2 (truth-at-calls t) (truth-at-at t) truth-at.Post
 truth-at-same-length-2 t c = search needs
 
-truth-at-returns-2 : (t : ℕ) → truth-at-lts.Need-returns-2 (truth-at-calls t) (truth-at-at t) truth-at.Post
+truth-at-returns-2 : (t : ℕ)
+    → truth-at-lts.Need-returns-2 (truth-at-calls t) (truth-at-at t) truth-at.Post
 truth-at-returns-2 t c =
-    let node = c .before .before .before .before .before .before .before .before .before in
-    let at = node .before .before .before .before in
-    stopped-truth (now (at .args .frames)) (now (at .args .variables)) _ _ _ _ _ (c .before .before .before .before .truth-at .result) (case-condition (now (at .args .frames)) (now (at .args .variables)) _ _ _ _ (at .pre .1) _ _ _ (c .before .before .before .before .truth-at .result) _ (sym (c .before .before .before .before .before .before .before .a .given .1) ∙ node .node-at .ensures) (c .before .before .before .before .truth-at .ensures) (sym (c .before .stops .ensures) ∙ c .if2 .taken)) (sym (c .before .stops .ensures) ∙ c .if2 .taken)
+    let stop = c .before in
+    let one = stop .before .before .before in
+    let arm = one .before .before .before in
+    let node = arm .before .before in
+    let at = node .before .before .before in
+    let fs = now (at .args .frames) in
+    let is = sym (arm .a .given .1) ∙ node .node-at .ensures in
+    let stops = sym (stop .stops .ensures) ∙ c .if2 .taken in (
+      stopped-truth fs _ _ _ _ _ _ (one .truth-at .result)
+          (case-condition fs _ _ _ _ _ (at .pre .1 .0) _ _ _ (one .truth-at .result) _ is
+          (one .truth-at .ensures .0) stops)
+          stops,
+      one .truth-at .ensures .1,
+    )
 
-truth-at-branch-requires : (t : ℕ) → truth-at-lts.Need-branch-requires (truth-at-calls t) (truth-at-at t) truth-at.Post
+truth-at-branch-requires : (t : ℕ)
+    → truth-at-lts.Need-branch-requires (truth-at-calls t) (truth-at-at t) truth-at.Post
 truth-at-branch-requires t c = λ κs. search needs
 
-truth-at-number-at-requires-3 : (t : ℕ) → truth-at-lts.Need-number-at-requires-3 (truth-at-calls t) (truth-at-at t) truth-at.Post
+truth-at-number-at-requires-3 : (t : ℕ)
+    → truth-at-lts.Need-number-at-requires-3 (truth-at-calls t) (truth-at-at t) truth-at.Post
 truth-at-number-at-requires-3 t c = λ κs.
-    let node = c .before .before .before .before .before .before .before .before .before .before .before in
-    let at = node .before .before .before .before in
-    falls-to (now (at .args .frames)) _ _ _ (at .pre) (branch-below (now (at .args .frames)) _ _ _ _ _ ((c .before .before .before .before .before .before .truth-at .result) .outcome) (at .pre .1) (sym (c .before .before .before .before .before .before .before .before .before .a .given .1) ∙ node .node-at .ensures) (c .branch .ensures))
+    let one = c .before .before .before .before .before .before in
+    let arm = one .before .before .before in
+    let node = arm .before .before in
+    let at = node .before .before .before in
+    let fs = now (at .args .frames) in
+    let w = now (at .args .state) in
+    let is = sym (arm .a .given .1) ∙ node .node-at .ensures in
+    let below =
+    branch-below fs _ _ _ _ _
+    (one .truth-at .result .outcome) (at .pre .1 .0) is (c .branch .ensures) in
+    falls-in fs _ _ _ _ w _
+    (at .pre) below (one .truth-at .ensures .1) (one .truth-at .kept .1 .1 .0)
 
-truth-at-as-answer-requires-2 : (t : ℕ) → truth-at-lts.Need-as-answer-requires-2 (truth-at-calls t) (truth-at-at t) truth-at.Post
+truth-at-as-answer-requires-2 : (t : ℕ)
+    → truth-at-lts.Need-as-answer-requires-2 (truth-at-calls t) (truth-at-at t) truth-at.Post
 truth-at-as-answer-requires-2 t c = λ κs. search needs
 
-truth-at-then-truth-requires-4 : (t : ℕ) → truth-at-lts.Need-then-truth-requires-4 (truth-at-calls t) (truth-at-at t) truth-at.Post
+truth-at-then-truth-requires-4 : (t : ℕ)
+    → truth-at-lts.Need-then-truth-requires-4 (truth-at-calls t) (truth-at-at t) truth-at.Post
 truth-at-then-truth-requires-4 t c = λ κs. search needs
 
-truth-at-returns-3 : (t : ℕ) → truth-at-lts.Need-returns-3 (truth-at-calls t) (truth-at-at t) truth-at.Post
-truth-at-returns-3 t c =
-    let node = c .before .before .before .before .before .before in
-    let at = node .before .before .before .before in
-    to-truth (now (at .args .frames)) (now (at .args .variables)) _ _ _ _ _ (c .before .answer-of .result) _ (case-plain (now (at .args .frames)) (now (at .args .variables)) _ _ _ _ (at .pre .1) _ _ _ (sym (c .before .before .before .before .l .given .1) ∙ node .node-at .ensures) (c .before .before .leaf .ensures) (c .before .answer-of .ensures)) (c .then-truth .ensures)
-
-truth-at-same-length-3 : (t : ℕ) → truth-at-lts.Need-same-length-3 (truth-at-calls t) (truth-at-at t) truth-at.Post
+truth-at-same-length-3 : (t : ℕ)
+    → truth-at-lts.Need-same-length-3 (truth-at-calls t) (truth-at-at t) truth-at.Post
 truth-at-same-length-3 t c = search needs
 
-truth-at-returns-4 : (t : ℕ) → truth-at-lts.Need-returns-4 (truth-at-calls t) (truth-at-at t) truth-at.Post
-truth-at-returns-4 t c =
-    let node = c .before .before .before .before .before .before .before .before .before .before .before .before in
-    let at = node .before .before .before .before in
-    to-truth (now (at .args .frames)) (now (at .args .variables)) _ _ _ _ _ (c .before .before .before .then-use .result) _ (case-cells (now (at .args .frames)) (now (at .args .variables)) _ _ _ _ (at .pre .1) _ _ _ _ (sym (c .before .before .before .before .before .before .before .before .before .before .u .given .1) ∙ node .node-at .ensures) (c .before .before .before .before .before .before .before .value-at .ensures) (c .before .before .before .then-use .ensures)) (c .then-truth2 .ensures)
+truth-at-returns-3 : (t : ℕ)
+    → truth-at-lts.Need-returns-3 (truth-at-calls t) (truth-at-at t) truth-at.Post
+truth-at-returns-3 t c =
+    let answer = c .before in
+    let leaf = answer .before in
+    let arm = leaf .before .before .before in
+    let node = arm .before .before in
+    let at = node .before .before .before in
+    let fs = now (at .args .frames) in
+    let is = sym (arm .l .given .1) ∙ node .node-at .ensures in (
+      to-truth fs _ _ _ _ _ _ (answer .answer-of .result) _
+          (case-plain fs _ _ _ _ _ (at .pre .1 .0) _ _ _
+          is (leaf .leaf-at .ensures) (answer .answer-of .ensures))
+          (c .then-truth .ensures),
+      refl,
+    )
 
-truth-at-same-length-4 : (t : ℕ) → truth-at-lts.Need-same-length-4 (truth-at-calls t) (truth-at-at t) truth-at.Post
+truth-at-same-length-4 : (t : ℕ)
+    → truth-at-lts.Need-same-length-4 (truth-at-calls t) (truth-at-at t) truth-at.Post
 truth-at-same-length-4 t c = search needs
 
-truth-at-returns-5 : (t : ℕ) → truth-at-lts.Need-returns-5 (truth-at-calls t) (truth-at-at t) truth-at.Post
-truth-at-returns-5 t c =
-    let node = c .before .before .before .before .before .before .before .before .before .before .before .before .before .before .before in
-    let at = node .before .before .before .before in
-    to-truth (now (at .args .frames)) (now (at .args .variables)) _ _ _ _ _ (c .before .operated .result) _ (case-both (now (at .args .frames)) (now (at .args .variables)) _ _ _ _ (at .pre .1) _ _ _ (c .before .before .before .before .before .before .before .before .before .before .number-at .result) (c .before .before .before .before .number-at2 .result) _ _ _ (sym (c .before .before .before .before .before .before .before .before .before .before .before .before .before .op .given .1) ∙ node .node-at .ensures) (c .before .before .before .before .before .before .before .before .before .before .number-at .ensures) (sym (c .before .before .before .before .before .before .before .number-stops .ensures) ∙ c .before .before .before .before .before .before .if1 .left) (c .before .before .before .before .number-at2 .ensures) (c .before .operated .ensures)) (c .then-truth3 .ensures)
+truth-at-returns-4 : (t : ℕ)
+    → truth-at-lts.Need-returns-4 (truth-at-calls t) (truth-at-at t) truth-at.Post
+truth-at-returns-4 t c =
+    let answer = c .before .before .before in
+    let one = answer .before .before .before .before in
+    let arm = one .before .before .before in
+    let node = arm .before .before in
+    let at = node .before .before .before in
+    let fs = now (at .args .frames) in
+    let w = now (at .args .state) in
+    let is = sym (arm .u .given .1) ∙ node .node-at .ensures in
+    let behind =
+    use-in _ (one .value-at .result) (answer .then-use .result) _ w _ _ _
+    (at .pre .1 .1) (one .value-at .ensures .1)
+    (one .value-at .kept .1 .1 .0) (answer .then-use .ensures) refl in (
+      to-truth fs _ _ _ _ _ _ (answer .then-use .result) _
+          (case-cells fs _ _ _ _ _ (at .pre .1 .0) _ _ _ _
+          is (one .value-at .ensures .0) (behind .0))
+          (c .then-truth2 .ensures),
+      behind .1,
+    )
 
-truth-at-same-length-5 : (t : ℕ) → truth-at-lts.Need-same-length-5 (truth-at-calls t) (truth-at-at t) truth-at.Post
+truth-at-same-length-5 : (t : ℕ)
+    → truth-at-lts.Need-same-length-5 (truth-at-calls t) (truth-at-at t) truth-at.Post
 truth-at-same-length-5 t c = search needs
 
-truth-at-returns-6 : (t : ℕ) → truth-at-lts.Need-returns-6 (truth-at-calls t) (truth-at-at t) truth-at.Post
+truth-at-returns-5 : (t : ℕ)
+    → truth-at-lts.Need-returns-5 (truth-at-calls t) (truth-at-at t) truth-at.Post
+truth-at-returns-5 t c =
+    let answer = c .before in
+    let two = answer .before .before .before in
+    let test = two .before .before in
+    let stop = test .before in
+    let one = stop .before .before .before in
+    let arm = one .before .before .before in
+    let node = arm .before .before in
+    let at = node .before .before .before in
+    let fs = now (at .args .frames) in
+    let w = now (at .args .state) in
+    let is = sym (arm .op .given .1) ∙ node .node-at .ensures in
+    let stops = sym (stop .number-stops .ensures) ∙ test .if1 .left in
+    let second =
+    again-number fs _ _ _ w _ _
+    (at .pre .1 .1) (one .number-at .ensures .1) (two .number-at2 .ensures .0) in (
+      to-truth fs _ _ _ _ _ _ (answer .operated .result) _
+          (case-both fs _ _ _ _ _ (at .pre .1 .0) _ _ _
+          (one .number-at .result) (two .number-at2 .result) _ _ _
+          is (one .number-at .ensures .0) stops second (answer .operated .ensures))
+          (c .then-truth3 .ensures),
+      two .number-at2 .ensures .1 ∙ one .number-at .ensures .1,
+    )
+
+truth-at-same-length-6 : (t : ℕ)
+    → truth-at-lts.Need-same-length-6 (truth-at-calls t) (truth-at-at t) truth-at.Post
+truth-at-same-length-6 t c = search needs
+
+truth-at-returns-6 : (t : ℕ)
+    → truth-at-lts.Need-returns-6 (truth-at-calls t) (truth-at-at t) truth-at.Post
 truth-at-returns-6 t c =
-    let node = c .before .before .before .before .before .before .before .before .before .before .before .before .before .before .before .before in
-    let at = node .before .before .before .before in
-    to-truth (now (at .args .frames)) (now (at .args .variables)) _ _ _ _ _ (c .before .as-answer2 .result) _ (case-choice (now (at .args .frames)) (now (at .args .variables)) _ _ _ _ (at .pre .1) _ _ _ _ (c .before .before .before .before .before .before .before .before .before .before .before .truth-at .result) (c .before .before .before .before .number-at3 .result) _ _ _ (sym (c .before .before .before .before .before .before .before .before .before .before .before .before .before .before .a .given .1) ∙ node .node-at .ensures) (c .before .before .before .before .before .before .before .before .before .before .before .truth-at .ensures) (sym (c .before .before .before .before .before .before .before .before .stops .ensures) ∙ c .before .before .before .before .before .before .before .if2 .left) (c .before .before .before .before .before .branch .ensures) (c .before .before .before .before .number-at3 .ensures) (c .before .as-answer2 .ensures)) (c .then-truth4 .ensures)
+    let answer = c .before in
+    let two = answer .before .before .before in
+    let way = two .before in
+    let test = way .before .before in
+    let stop = test .before in
+    let one = stop .before .before .before in
+    let arm = one .before .before .before in
+    let node = arm .before .before in
+    let at = node .before .before .before in
+    let fs = now (at .args .frames) in
+    let w = now (at .args .state) in
+    let is = sym (arm .a .given .1) ∙ node .node-at .ensures in
+    let stops = sym (stop .stops .ensures) ∙ test .if2 .left in
+    let second =
+    again-number fs _ _ _ w _ _
+    (at .pre .1 .1) (one .truth-at .ensures .1) (two .number-at3 .ensures .0) in (
+      to-truth fs _ _ _ _ _ _ (answer .as-answer2 .result) _
+          (case-choice fs _ _ _ _ _ (at .pre .1 .0) _ _ _ _
+          (one .truth-at .result) (two .number-at3 .result) _ _ _
+          is (one .truth-at .ensures .0) stops
+          (way .branch .ensures) second (answer .as-answer2 .ensures))
+          (c .then-truth4 .ensures),
+      two .number-at3 .ensures .1 ∙ one .truth-at .ensures .1,
+    )
 
 abbrev value-at-calls : ℕ → value-at-lts.Claims
-value-at-calls t = (node-at-reads.Asked, node-at-reads.Learnt, leaf-reads.Asked, leaf-reads.Learnt, answer-of-reads.Asked, answer-of-reads.Learnt, value-at-below t, value-at.Post, then-use-reads.Asked, then-use-reads.Learnt, number-at-below t, number-at.Post, number-stops-reads.Asked, number-stops-reads.Learnt, as-answer-reads.Asked, as-answer-reads.Learnt, operated-reads.Asked, operated-reads.Learnt, truth-at-below t, truth-at.Post, stops-reads.Asked, stops-reads.Learnt, branch-reads.Asked, branch-reads.Learnt)
+value-at-calls t = (
+  node-at-reads.Asked,
+  node-at-reads.Learnt,
+  leaf-at-reads.Asked,
+  leaf-at-reads.Learnt,
+  answer-of-reads.Asked,
+  answer-of-reads.Learnt,
+  value-at-below t,
+  value-at.Post,
+  then-use-reads.Asked,
+  then-use-reads.Learnt,
+  number-at-below t,
+  number-at.Post,
+  number-stops-reads.Asked,
+  number-stops-reads.Learnt,
+  as-answer-reads.Asked,
+  as-answer-reads.Learnt,
+  operated-reads.Asked,
+  operated-reads.Learnt,
+  truth-at-below t,
+  truth-at.Post,
+  stops-reads.Asked,
+  stops-reads.Learnt,
+  branch-reads.Asked,
+  branch-reads.Learnt,
+)
 
-value-at-node-at-requires : (t : ℕ) → value-at-lts.Need-node-at-requires (value-at-calls t) (value-at-at t) value-at.Post
-value-at-node-at-requires t c = λ κs. c .before .before .before .pre .1
+value-at-node-at-requires : (t : ℕ)
+    → value-at-lts.Need-node-at-requires (value-at-calls t) (value-at-at t) value-at.Post
+value-at-node-at-requires t c = λ κs. c .before .before .pre .1 .0
 
-value-at-enum-known-l : (t : ℕ) → value-at-lts.Need-enum-known-l (value-at-calls t) (value-at-at t) value-at.Post
+value-at-enum-known-l : (t : ℕ)
+    → value-at-lts.Need-enum-known-l (value-at-calls t) (value-at-at t) value-at.Post
 value-at-enum-known-l t c = search needs
 
-value-at-leaf-requires : (t : ℕ) → value-at-lts.Need-leaf-requires (value-at-calls t) (value-at-at t) value-at.Post
-value-at-leaf-requires t c = λ κs. search needs
+value-at-leaf-at-requires : (t : ℕ)
+    → value-at-lts.Need-leaf-at-requires (value-at-calls t) (value-at-at t) value-at.Post
+value-at-leaf-at-requires t c = λ κs.
+    let at = c .before .before .before .before .before .before .before in
+    at .pre .1 .1
 
-value-at-answer-of-requires : (t : ℕ) → value-at-lts.Need-answer-of-requires (value-at-calls t) (value-at-at t) value-at.Post
+value-at-answer-of-requires : (t : ℕ)
+    → value-at-lts.Need-answer-of-requires (value-at-calls t) (value-at-at t) value-at.Post
 value-at-answer-of-requires t c = λ κs. search needs
 
-value-at-enum-known-u : (t : ℕ) → value-at-lts.Need-enum-known-u (value-at-calls t) (value-at-at t) value-at.Post
+value-at-enum-known-u : (t : ℕ)
+    → value-at-lts.Need-enum-known-u (value-at-calls t) (value-at-at t) value-at.Post
 value-at-enum-known-u t c = search needs
 
-value-at-value-at-requires : (t : ℕ) → value-at-lts.Need-value-at-requires (value-at-calls t) (value-at-at t) value-at.Post
+value-at-value-at-requires : (t : ℕ)
+    → value-at-lts.Need-value-at-requires (value-at-calls t) (value-at-at t) value-at.Post
 value-at-value-at-requires t c = λ κs.
-    let node = c .before .before .before .before in
-    let at = node .before .before .before .before in
-    falls-to (now (at .args .frames)) _ _ _ (at .pre) (operands-below (now (at .args .frames)) _ _ (at .pre .1) (sym (c .before .before .u .given .1) ∙ node .node-at .ensures))
+    let arm = c .before .before in
+    let node = arm .before .before in
+    let at = node .before .before .before in
+    let fs = now (at .args .frames) in
+    let w = now (at .args .state) in
+    let is = sym (arm .u .given .1) ∙ node .node-at .ensures in
+    let below = operands-below fs _ _ (at .pre .1 .0) is in
+    falls-in fs _ _ _ _ w _
+    (at .pre) below refl refl
 
-value-at-then-use-requires : (t : ℕ) → value-at-lts.Need-then-use-requires (value-at-calls t) (value-at-at t) value-at.Post
+value-at-sub-then-use : (t : ℕ)
+    → value-at-lts.Need-sub-then-use (value-at-calls t) (value-at-at t) value-at.Post
+value-at-sub-then-use t c = search needs
+
+value-at-part-then-use-start : (t : ℕ)
+    → value-at-lts.Need-part-then-use-start (value-at-calls t) (value-at-at t) value-at.Post
+value-at-part-then-use-start t c = search needs
+
+value-at-part-then-use-end : (t : ℕ)
+    → value-at-lts.Need-part-then-use-end (value-at-calls t) (value-at-at t) value-at.Post
+value-at-part-then-use-end t c = search needs
+
+value-at-then-use-requires : (t : ℕ)
+    → value-at-lts.Need-then-use-requires (value-at-calls t) (value-at-at t) value-at.Post
 value-at-then-use-requires t c = λ κs. search needs
 
-value-at-enum-known-op : (t : ℕ) → value-at-lts.Need-enum-known-op (value-at-calls t) (value-at-at t) value-at.Post
+value-at-enum-known-op : (t : ℕ)
+    → value-at-lts.Need-enum-known-op (value-at-calls t) (value-at-at t) value-at.Post
 value-at-enum-known-op t c = search needs
 
-value-at-number-at-requires : (t : ℕ) → value-at-lts.Need-number-at-requires (value-at-calls t) (value-at-at t) value-at.Post
+value-at-number-at-requires : (t : ℕ)
+    → value-at-lts.Need-number-at-requires (value-at-calls t) (value-at-at t) value-at.Post
 value-at-number-at-requires t c = λ κs.
-    let node = c .before .before .before .before in
-    let at = node .before .before .before .before in
-    falls-to (now (at .args .frames)) _ _ _ (at .pre) ((operands-below (now (at .args .frames)) _ _ (at .pre .1) (sym (c .before .before .op .given .1) ∙ node .node-at .ensures)) .0)
+    let arm = c .before .before in
+    let node = arm .before .before in
+    let at = node .before .before .before in
+    let fs = now (at .args .frames) in
+    let w = now (at .args .state) in
+    let is = sym (arm .op .given .1) ∙ node .node-at .ensures in
+    let below = (operands-below fs _ _ (at .pre .1 .0) is) .0 in
+    falls-in fs _ _ _ _ w _
+    (at .pre) below refl refl
 
-value-at-number-stops-requires : (t : ℕ) → value-at-lts.Need-number-stops-requires (value-at-calls t) (value-at-at t) value-at.Post
+value-at-number-stops-requires : (t : ℕ)
+    → value-at-lts.Need-number-stops-requires (value-at-calls t) (value-at-at t) value-at.Post
 value-at-number-stops-requires t c = λ κs. search needs
 
-value-at-as-answer-requires : (t : ℕ) → value-at-lts.Need-as-answer-requires (value-at-calls t) (value-at-at t) value-at.Post
+value-at-as-answer-requires : (t : ℕ)
+    → value-at-lts.Need-as-answer-requires (value-at-calls t) (value-at-at t) value-at.Post
 value-at-as-answer-requires t c = λ κs. search needs
 
-value-at-same-length : (t : ℕ) → value-at-lts.Need-same-length (value-at-calls t) (value-at-at t) value-at.Post
+value-at-same-length : (t : ℕ)
+    → value-at-lts.Need-same-length (value-at-calls t) (value-at-at t) value-at.Post
 value-at-same-length t c = search needs
 
-value-at-returns : (t : ℕ) → value-at-lts.Need-returns (value-at-calls t) (value-at-at t) value-at.Post
+value-at-returns : (t : ℕ)
+    → value-at-lts.Need-returns (value-at-calls t) (value-at-at t) value-at.Post
 value-at-returns t c =
-    let node = c .before .before .before .before .before .before .before .before .before .before in
-    let at = node .before .before .before .before in
-    case-first (now (at .args .frames)) (now (at .args .variables)) _ _ _ _ (at .pre .1) _ _ _ (c .before .before .before .before .before .number-at .result) _ _ (sym (c .before .before .before .before .before .before .before .before .op .given .1) ∙ node .node-at .ensures) (c .before .before .before .before .before .number-at .ensures) (sym (c .before .before .number-stops .ensures) ∙ c .before .if1 .taken) (c .as-answer .ensures)
+    let test = c .before in
+    let stop = test .before in
+    let one = stop .before .before .before in
+    let arm = one .before .before .before in
+    let node = arm .before .before in
+    let at = node .before .before .before in
+    let fs = now (at .args .frames) in
+    let is = sym (arm .op .given .1) ∙ node .node-at .ensures in
+    let stops = sym (stop .number-stops .ensures) ∙ test .if1 .taken in (
+      case-first fs _ _ _ _ _ (at .pre .1 .0) _ _ _
+          (one .number-at .result) _ _ is
+          (one .number-at .ensures .0) stops (c .as-answer .ensures),
+      one .number-at .ensures .1,
+    )
 
-value-at-number-at-requires-2 : (t : ℕ) → value-at-lts.Need-number-at-requires-2 (value-at-calls t) (value-at-at t) value-at.Post
+value-at-number-at-requires-2 : (t : ℕ)
+    → value-at-lts.Need-number-at-requires-2 (value-at-calls t) (value-at-at t) value-at.Post
 value-at-number-at-requires-2 t c = λ κs.
-    let node = c .before .before .before .before .before .before .before .before .before .before in
-    let at = node .before .before .before .before in
-    falls-to (now (at .args .frames)) _ _ _ (at .pre) ((operands-below (now (at .args .frames)) _ _ (at .pre .1) (sym (c .before .before .before .before .before .before .before .before .op .given .1) ∙ node .node-at .ensures)) .1)
+    let one = c .before .before .before .before .before in
+    let arm = one .before .before .before in
+    let node = arm .before .before in
+    let at = node .before .before .before in
+    let fs = now (at .args .frames) in
+    let w = now (at .args .state) in
+    let is = sym (arm .op .given .1) ∙ node .node-at .ensures in
+    let below = (operands-below fs _ _ (at .pre .1 .0) is) .1 in
+    falls-in fs _ _ _ _ w _
+    (at .pre) below (one .number-at .ensures .1) (one .number-at .kept .1 .1 .0)
 
-value-at-operated-requires : (t : ℕ) → value-at-lts.Need-operated-requires (value-at-calls t) (value-at-at t) value-at.Post
+value-at-operated-requires : (t : ℕ)
+    → value-at-lts.Need-operated-requires (value-at-calls t) (value-at-at t) value-at.Post
 value-at-operated-requires t c = λ κs. search needs
 
-value-at-enum-known-a : (t : ℕ) → value-at-lts.Need-enum-known-a (value-at-calls t) (value-at-at t) value-at.Post
+value-at-enum-known-a : (t : ℕ)
+    → value-at-lts.Need-enum-known-a (value-at-calls t) (value-at-at t) value-at.Post
 value-at-enum-known-a t c = search needs
 
-value-at-truth-at-requires : (t : ℕ) → value-at-lts.Need-truth-at-requires (value-at-calls t) (value-at-at t) value-at.Post
+value-at-truth-at-requires : (t : ℕ)
+    → value-at-lts.Need-truth-at-requires (value-at-calls t) (value-at-at t) value-at.Post
 value-at-truth-at-requires t c = λ κs.
-    let node = c .before .before .before .before in
-    let at = node .before .before .before .before in
-    falls-to (now (at .args .frames)) _ _ _ (at .pre) ((operands-below (now (at .args .frames)) _ _ (at .pre .1) (sym (c .before .before .a .given .1) ∙ node .node-at .ensures)) .0)
+    let arm = c .before .before in
+    let node = arm .before .before in
+    let at = node .before .before .before in
+    let fs = now (at .args .frames) in
+    let w = now (at .args .state) in
+    let is = sym (arm .a .given .1) ∙ node .node-at .ensures in
+    let below = (operands-below fs _ _ (at .pre .1 .0) is) .0 in
+    falls-in fs _ _ _ _ w _
+    (at .pre) below refl refl
 
-value-at-stops-requires : (t : ℕ) → value-at-lts.Need-stops-requires (value-at-calls t) (value-at-at t) value-at.Post
+value-at-stops-requires : (t : ℕ)
+    → value-at-lts.Need-stops-requires (value-at-calls t) (value-at-at t) value-at.Post
 value-at-stops-requires t c = λ κs. search needs
 
-value-at-same-length-2 : (t : ℕ) → value-at-lts.Need-same-length-2 (value-at-calls t) (value-at-at t) value-at.Post
+value-at-same-length-2 : (t : ℕ)
+    → value-at-lts.Need-same-length-2 (value-at-calls t) (value-at-at t) value-at.Post
 value-at-same-length-2 t c = search needs
 
-value-at-returns-2 : (t : ℕ) → value-at-lts.Need-returns-2 (value-at-calls t) (value-at-at t) value-at.Post
+value-at-returns-2 : (t : ℕ)
+    → value-at-lts.Need-returns-2 (value-at-calls t) (value-at-at t) value-at.Post
 value-at-returns-2 t c =
-    let node = c .before .before .before .before .before .before .before .before .before in
-    let at = node .before .before .before .before in
-    case-condition (now (at .args .frames)) (now (at .args .variables)) _ _ _ _ (at .pre .1) _ _ _ (c .before .before .before .before .truth-at .result) _ (sym (c .before .before .before .before .before .before .before .a .given .1) ∙ node .node-at .ensures) (c .before .before .before .before .truth-at .ensures) (sym (c .before .stops .ensures) ∙ c .if2 .taken)
+    let stop = c .before in
+    let one = stop .before .before .before in
+    let arm = one .before .before .before in
+    let node = arm .before .before in
+    let at = node .before .before .before in
+    let fs = now (at .args .frames) in
+    let is = sym (arm .a .given .1) ∙ node .node-at .ensures in
+    let stops = sym (stop .stops .ensures) ∙ c .if2 .taken in (
+      case-condition fs _ _ _ _ _ (at .pre .1 .0) _ _ _ (one .truth-at .result) _ is
+          (one .truth-at .ensures .0) stops,
+      one .truth-at .ensures .1,
+    )
 
-value-at-branch-requires : (t : ℕ) → value-at-lts.Need-branch-requires (value-at-calls t) (value-at-at t) value-at.Post
+value-at-branch-requires : (t : ℕ)
+    → value-at-lts.Need-branch-requires (value-at-calls t) (value-at-at t) value-at.Post
 value-at-branch-requires t c = λ κs. search needs
 
-value-at-number-at-requires-3 : (t : ℕ) → value-at-lts.Need-number-at-requires-3 (value-at-calls t) (value-at-at t) value-at.Post
+value-at-number-at-requires-3 : (t : ℕ)
+    → value-at-lts.Need-number-at-requires-3 (value-at-calls t) (value-at-at t) value-at.Post
 value-at-number-at-requires-3 t c = λ κs.
-    let node = c .before .before .before .before .before .before .before .before .before .before .before in
-    let at = node .before .before .before .before in
-    falls-to (now (at .args .frames)) _ _ _ (at .pre) (branch-below (now (at .args .frames)) _ _ _ _ _ ((c .before .before .before .before .before .before .truth-at .result) .outcome) (at .pre .1) (sym (c .before .before .before .before .before .before .before .before .before .a .given .1) ∙ node .node-at .ensures) (c .branch .ensures))
+    let one = c .before .before .before .before .before .before in
+    let arm = one .before .before .before in
+    let node = arm .before .before in
+    let at = node .before .before .before in
+    let fs = now (at .args .frames) in
+    let w = now (at .args .state) in
+    let is = sym (arm .a .given .1) ∙ node .node-at .ensures in
+    let below =
+    branch-below fs _ _ _ _ _
+    (one .truth-at .result .outcome) (at .pre .1 .0) is (c .branch .ensures) in
+    falls-in fs _ _ _ _ w _
+    (at .pre) below (one .truth-at .ensures .1) (one .truth-at .kept .1 .1 .0)
 
-value-at-as-answer-requires-2 : (t : ℕ) → value-at-lts.Need-as-answer-requires-2 (value-at-calls t) (value-at-at t) value-at.Post
+value-at-as-answer-requires-2 : (t : ℕ)
+    → value-at-lts.Need-as-answer-requires-2 (value-at-calls t) (value-at-at t) value-at.Post
 value-at-as-answer-requires-2 t c = λ κs. search needs
 
-value-at-returns-3 : (t : ℕ) → value-at-lts.Need-returns-3 (value-at-calls t) (value-at-at t) value-at.Post
-value-at-returns-3 t c =
-    let node = c .before .before .before .before .before in
-    let at = node .before .before .before .before in
-    case-plain (now (at .args .frames)) (now (at .args .variables)) _ _ _ _ (at .pre .1) _ _ _ (sym (c .before .before .before .l .given .1) ∙ node .node-at .ensures) (c .before .leaf .ensures) (c .answer-of .ensures)
-
-value-at-same-length-3 : (t : ℕ) → value-at-lts.Need-same-length-3 (value-at-calls t) (value-at-at t) value-at.Post
+value-at-same-length-3 : (t : ℕ)
+    → value-at-lts.Need-same-length-3 (value-at-calls t) (value-at-at t) value-at.Post
 value-at-same-length-3 t c = search needs
 
-value-at-returns-4 : (t : ℕ) → value-at-lts.Need-returns-4 (value-at-calls t) (value-at-at t) value-at.Post
-value-at-returns-4 t c =
-    let node = c .before .before .before .before .before .before .before .before .before .before .before in
-    let at = node .before .before .before .before in
-    case-cells (now (at .args .frames)) (now (at .args .variables)) _ _ _ _ (at .pre .1) _ _ _ _ (sym (c .before .before .before .before .before .before .before .before .before .u .given .1) ∙ node .node-at .ensures) (c .before .before .before .before .before .before .value-at .ensures) (c .before .before .then-use .ensures)
+value-at-returns-3 : (t : ℕ)
+    → value-at-lts.Need-returns-3 (value-at-calls t) (value-at-at t) value-at.Post
+value-at-returns-3 t c =
+    let leaf = c .before in
+    let arm = leaf .before .before .before in
+    let node = arm .before .before in
+    let at = node .before .before .before in
+    let fs = now (at .args .frames) in
+    let is = sym (arm .l .given .1) ∙ node .node-at .ensures in (
+      case-plain fs _ _ _ _ _ (at .pre .1 .0) _ _ _
+          is (leaf .leaf-at .ensures) (c .answer-of .ensures),
+      refl,
+    )
 
-value-at-same-length-4 : (t : ℕ) → value-at-lts.Need-same-length-4 (value-at-calls t) (value-at-at t) value-at.Post
+value-at-same-length-4 : (t : ℕ)
+    → value-at-lts.Need-same-length-4 (value-at-calls t) (value-at-at t) value-at.Post
 value-at-same-length-4 t c = search needs
 
-value-at-returns-5 : (t : ℕ) → value-at-lts.Need-returns-5 (value-at-calls t) (value-at-at t) value-at.Post
-value-at-returns-5 t c =
-    let node = c .before .before .before .before .before .before .before .before .before .before .before .before .before .before in
-    let at = node .before .before .before .before in
-    case-both (now (at .args .frames)) (now (at .args .variables)) _ _ _ _ (at .pre .1) _ _ _ (c .before .before .before .before .before .before .before .before .before .number-at .result) (c .before .before .before .number-at2 .result) _ _ _ (sym (c .before .before .before .before .before .before .before .before .before .before .before .before .op .given .1) ∙ node .node-at .ensures) (c .before .before .before .before .before .before .before .before .before .number-at .ensures) (sym (c .before .before .before .before .before .before .number-stops .ensures) ∙ c .before .before .before .before .before .if1 .left) (c .before .before .before .number-at2 .ensures) (c .operated .ensures)
+value-at-returns-4 : (t : ℕ)
+    → value-at-lts.Need-returns-4 (value-at-calls t) (value-at-at t) value-at.Post
+value-at-returns-4 t c =
+    let answer = c .before .before in
+    let one = answer .before .before .before .before in
+    let arm = one .before .before .before in
+    let node = arm .before .before in
+    let at = node .before .before .before in
+    let fs = now (at .args .frames) in
+    let w = now (at .args .state) in
+    let is = sym (arm .u .given .1) ∙ node .node-at .ensures in
+    let behind =
+    use-in _ (one .value-at .result) (answer .then-use .result) _ w _ _ _
+    (at .pre .1 .1) (one .value-at .ensures .1)
+    (one .value-at .kept .1 .1 .0) (answer .then-use .ensures) refl in (
+      case-cells fs _ _ _ _ _ (at .pre .1 .0) _ _ _ _
+          is (one .value-at .ensures .0) (behind .0),
+      behind .1,
+    )
 
-value-at-same-length-5 : (t : ℕ) → value-at-lts.Need-same-length-5 (value-at-calls t) (value-at-at t) value-at.Post
+value-at-same-length-5 : (t : ℕ)
+    → value-at-lts.Need-same-length-5 (value-at-calls t) (value-at-at t) value-at.Post
 value-at-same-length-5 t c = search needs
 
-value-at-returns-6 : (t : ℕ) → value-at-lts.Need-returns-6 (value-at-calls t) (value-at-at t) value-at.Post
+value-at-returns-5 : (t : ℕ)
+    → value-at-lts.Need-returns-5 (value-at-calls t) (value-at-at t) value-at.Post
+value-at-returns-5 t c =
+    let two = c .before .before .before in
+    let test = two .before .before in
+    let stop = test .before in
+    let one = stop .before .before .before in
+    let arm = one .before .before .before in
+    let node = arm .before .before in
+    let at = node .before .before .before in
+    let fs = now (at .args .frames) in
+    let w = now (at .args .state) in
+    let is = sym (arm .op .given .1) ∙ node .node-at .ensures in
+    let stops = sym (stop .number-stops .ensures) ∙ test .if1 .left in
+    let second =
+    again-number fs _ _ _ w _ _
+    (at .pre .1 .1) (one .number-at .ensures .1) (two .number-at2 .ensures .0) in (
+      case-both fs _ _ _ _ _ (at .pre .1 .0) _ _ _
+          (one .number-at .result) (two .number-at2 .result) _ _ _
+          is (one .number-at .ensures .0) stops second (c .operated .ensures),
+      two .number-at2 .ensures .1 ∙ one .number-at .ensures .1,
+    )
+
+value-at-same-length-6 : (t : ℕ)
+    → value-at-lts.Need-same-length-6 (value-at-calls t) (value-at-at t) value-at.Post
+value-at-same-length-6 t c = search needs
+
+value-at-returns-6 : (t : ℕ)
+    → value-at-lts.Need-returns-6 (value-at-calls t) (value-at-at t) value-at.Post
 value-at-returns-6 t c =
-    let node = c .before .before .before .before .before .before .before .before .before .before .before .before .before .before .before in
-    let at = node .before .before .before .before in
-    case-choice (now (at .args .frames)) (now (at .args .variables)) _ _ _ _ (at .pre .1) _ _ _ _ (c .before .before .before .before .before .before .before .before .before .before .truth-at .result) (c .before .before .before .number-at3 .result) _ _ _ (sym (c .before .before .before .before .before .before .before .before .before .before .before .before .before .a .given .1) ∙ node .node-at .ensures) (c .before .before .before .before .before .before .before .before .before .before .truth-at .ensures) (sym (c .before .before .before .before .before .before .before .stops .ensures) ∙ c .before .before .before .before .before .before .if2 .left) (c .before .before .before .before .branch .ensures) (c .before .before .before .number-at3 .ensures) (c .as-answer2 .ensures)
+    let two = c .before .before .before in
+    let way = two .before in
+    let test = way .before .before in
+    let stop = test .before in
+    let one = stop .before .before .before in
+    let arm = one .before .before .before in
+    let node = arm .before .before in
+    let at = node .before .before .before in
+    let fs = now (at .args .frames) in
+    let w = now (at .args .state) in
+    let is = sym (arm .a .given .1) ∙ node .node-at .ensures in
+    let stops = sym (stop .stops .ensures) ∙ test .if2 .left in
+    let second =
+    again-number fs _ _ _ w _ _
+    (at .pre .1 .1) (one .truth-at .ensures .1) (two .number-at3 .ensures .0) in (
+      case-choice fs _ _ _ _ _ (at .pre .1 .0) _ _ _ _
+          (one .truth-at .result) (two .number-at3 .result) _ _ _
+          is (one .truth-at .ensures .0) stops
+          (way .branch .ensures) second (c .as-answer2 .ensures),
+      two .number-at3 .ensures .1 ∙ one .truth-at .ensures .1,
+    )
 
 pub +number-at+truth-at+value-at-spec : {M : Type 1} → statement M
 +number-at+truth-at+value-at-spec =
@@ -470,11 +1059,14 @@ pub +number-at+truth-at+value-at-spec : {M : Type 1} → statement M
     number-at.Post
     (number-at-node-at-requires t)
     (number-at-enum-known-l t)
-    (number-at-leaf-requires t)
+    (number-at-leaf-at-requires t)
     (number-at-answer-of-requires t)
     (number-at-as-number-requires t)
     (number-at-enum-known-u t)
     (number-at-value-at-requires t)
+    (number-at-sub-then-use t)
+    (number-at-part-then-use-start t)
+    (number-at-part-then-use-end t)
     (number-at-then-use-requires t)
     (number-at-as-number-requires-2 t)
     (number-at-enum-known-op t)
@@ -495,23 +1087,27 @@ pub +number-at+truth-at+value-at-spec : {M : Type 1} → statement M
     (number-at-number-at-requires-3 t)
     (number-at-as-answer-requires t)
     (number-at-as-number-requires-5 t)
-    (number-at-returns-3 t)
     (number-at-same-length-3 t)
-    (number-at-returns-4 t)
+    (number-at-returns-3 t)
     (number-at-same-length-4 t)
-    (number-at-returns-5 t)
+    (number-at-returns-4 t)
     (number-at-same-length-5 t)
+    (number-at-returns-5 t)
+    (number-at-same-length-6 t)
     (number-at-returns-6 t))
     (λ t. truth-at-lts.spec (truth-at-calls t)
     (truth-at-at t)
     truth-at.Post
     (truth-at-node-at-requires t)
     (truth-at-enum-known-l t)
-    (truth-at-leaf-requires t)
+    (truth-at-leaf-at-requires t)
     (truth-at-answer-of-requires t)
     (truth-at-then-truth-requires t)
     (truth-at-enum-known-u t)
     (truth-at-value-at-requires t)
+    (truth-at-sub-then-use t)
+    (truth-at-part-then-use-start t)
+    (truth-at-part-then-use-end t)
     (truth-at-then-use-requires t)
     (truth-at-then-truth-requires-2 t)
     (truth-at-enum-known-op t)
@@ -532,22 +1128,26 @@ pub +number-at+truth-at+value-at-spec : {M : Type 1} → statement M
     (truth-at-number-at-requires-3 t)
     (truth-at-as-answer-requires-2 t)
     (truth-at-then-truth-requires-4 t)
-    (truth-at-returns-3 t)
     (truth-at-same-length-3 t)
-    (truth-at-returns-4 t)
+    (truth-at-returns-3 t)
     (truth-at-same-length-4 t)
-    (truth-at-returns-5 t)
+    (truth-at-returns-4 t)
     (truth-at-same-length-5 t)
+    (truth-at-returns-5 t)
+    (truth-at-same-length-6 t)
     (truth-at-returns-6 t))
     λ t. value-at-lts.spec (value-at-calls t)
     (value-at-at t)
     value-at.Post
     (value-at-node-at-requires t)
     (value-at-enum-known-l t)
-    (value-at-leaf-requires t)
+    (value-at-leaf-at-requires t)
     (value-at-answer-of-requires t)
     (value-at-enum-known-u t)
     (value-at-value-at-requires t)
+    (value-at-sub-then-use t)
+    (value-at-part-then-use-start t)
+    (value-at-part-then-use-end t)
     (value-at-then-use-requires t)
     (value-at-enum-known-op t)
     (value-at-number-at-requires t)
@@ -565,10 +1165,11 @@ pub +number-at+truth-at+value-at-spec : {M : Type 1} → statement M
     (value-at-branch-requires t)
     (value-at-number-at-requires-3 t)
     (value-at-as-answer-requires-2 t)
-    (value-at-returns-3 t)
     (value-at-same-length-3 t)
-    (value-at-returns-4 t)
+    (value-at-returns-3 t)
     (value-at-same-length-4 t)
-    (value-at-returns-5 t)
+    (value-at-returns-4 t)
     (value-at-same-length-5 t)
+    (value-at-returns-5 t)
+    (value-at-same-length-6 t)
     (value-at-returns-6 t)

@@ -1,5 +1,5 @@
--- `evaluate` meets its contract: on words of cells the recursion gives what `eval` gives. Assumes nothing.
-use mathlib.Core.Path.{_∙_}
+-- `evaluate` meets its contract: on words of cells the recursion gives what `eval` gives. Assumes
+-- nothing.
 use denote.Ref.{now}
 use Rattle.evaluator.proofs.Agreement.{eval-on}
 use borrow.Author.Needs.{needs}
@@ -13,7 +13,13 @@ same-length : tie.Need-same-length
 same-length c = search needs
 
 returns : tie.Need-returns
-returns c = c .before .before .value-at .ensures ∙ eval-on (now (c .before .before .before .before .before .before .before .args .frames)) (now (c .before .before .before .before .before .before .before .args .variables)) _ _ _ _ (c .before .before .before .before .before .before .before .pre .1) (c .before .before .before .before .before .before .before .pre .2)
+returns c =
+    let one = c .before .before in
+    let at = one .before .before .before .before in (
+      eval-on (now (at .args .frames)) _ _ _ _ _ _ (at .pre .2) (at .pre .3)
+          (one .value-at .ensures .0),
+      one .value-at .ensures .1,
+    )
 
 pub evaluate-spec : {M : Type 1} → statement M
 evaluate-spec = tie.close (tie.spec value-at-requires same-length returns)

@@ -1,7 +1,10 @@
--- `store` meets its contract. Assumes nothing.
+-- `store` meets its contract. In a need, `at` is the function's entry, `one` and `two` are where an
+-- operand has been evaluated. Assumes nothing.
+use mathlib.Core.Path.{refl, _∙_}
 use denote.Ref.{now}
 use Rattle.operations.specs.inner.Results.{after}
 use Rattle.evaluator.proofs.Agreement.{store-runs, store-keeps}
+use Rattle.evaluator.proofs.InPlace.{lent-again, again-value, use-in}
 use borrow.Author.Needs.{needs}
 use Rattle.evaluator.proofs.evaluation.store.Statement.{statement}
 use Rattle.evaluator.proofs.evaluation.store.Tie as tie
@@ -13,7 +16,22 @@ enum-known-o : tie.Need-enum-known-o
 enum-known-o c = search needs
 
 value-at-requires-2 : tie.Need-value-at-requires-2
-value-at-requires-2 c κs = search needs
+value-at-requires-2 c κs =
+    let one = c .before .before .before .before .before .before in
+    let at = one .before .before .before .before in
+    let w = now (at .args .state) in (
+      at .pre .1,
+      lent-again _ w _ (at .pre .2) (one .value-at .ensures .1) (one .value-at .kept .1 .1 .0),
+    )
+
+sub-then-store : tie.Need-sub-then-store
+sub-then-store c = search needs
+
+part-then-store-start : tie.Need-part-then-store-start
+part-then-store-start c = search needs
+
+part-then-store-end : tie.Need-part-then-store-end
+part-then-store-end c = search needs
 
 then-store-requires : tie.Need-then-store-requires
 then-store-requires c κs = search needs
@@ -32,32 +50,61 @@ same-length c = search needs
 
 returns : tie.Need-returns
 returns c =
-    let at = c .before .before .before .before .before .before .before .before .before .before .before .before .before .before .before .before .before .before in
-    store-runs (now (at .args .frames)) (now (at .args .variables)) _ _ _ _ _ (at .pre .2) (at .pre .3) _ _ _ _ (c .before .before .before .before .before .before .before .before .before .before .before .before .before .value-at .ensures) (c .before .before .before .before .before .before .before .before .before .o .given .1) (c .before .before .before .before .before .before .value-at2 .ensures) (c .before .before .then-store .ensures)
+    let stored = c .before .before in
+    let two = stored .before .before .before .before in
+    let arm = two .before .before .before in
+    let one = arm .before .before .before .before in
+    let at = one .before .before .before .before in
+    let fs = now (at .args .frames) in
+    let w = now (at .args .state) in
+    let second =
+    again-value fs _ _ _ w _ _
+    (at .pre .2) (one .value-at .ensures .1) (two .value-at2 .ensures .0) in
+    let behind =
+    use-in _ (two .value-at2 .result) (stored .then-store .result) _ w _ _ _
+    (at .pre .2) (two .value-at2 .ensures .1 ∙ one .value-at .ensures .1)
+    (two .value-at2 .kept .1 .1 .0 ∙ one .value-at .kept .1 .1 .0)
+    (stored .then-store .ensures) refl in (
+      store-runs fs _ _ _ _ _ _ (at .pre .3) (at .pre .4) _ _ _ _
+          (one .value-at .ensures .0) (arm .o .given .1) second (behind .0),
+      behind .1,
+    )
 
 same-length-2 : tie.Need-same-length-2
 same-length-2 c = search needs
 
 returns-2 : tie.Need-returns-2
 returns-2 c =
-    let at = c .before .before .before .before .before .before .before .before .before in
-    store-keeps (now (at .args .frames)) (now (at .args .variables)) _ _ _ _ _ (at .pre .2) (at .pre .3) (after _ _) _ (c .before .before .before .before .value-at .ensures) (c .enum-told .given .1) tt
+    let one = c .before .before .before .before in
+    let at = one .before .before .before .before in (
+      store-keeps (now (at .args .frames)) _ _ _ _ _ _ (at .pre .3) (at .pre .4) (after _ _) _
+          (one .value-at .ensures .0) (c .enum-told .given .1) tt,
+      one .value-at .ensures .1,
+    )
 
 same-length-3 : tie.Need-same-length-3
 same-length-3 c = search needs
 
 returns-3 : tie.Need-returns-3
 returns-3 c =
-    let at = c .before .before .before .before .before .before .before .before .before in
-    store-keeps (now (at .args .frames)) (now (at .args .variables)) _ _ _ _ _ (at .pre .2) (at .pre .3) (after _ _) _ (c .before .before .before .before .value-at .ensures) (c .enum-told2 .given .1) tt
+    let one = c .before .before .before .before in
+    let at = one .before .before .before .before in (
+      store-keeps (now (at .args .frames)) _ _ _ _ _ _ (at .pre .3) (at .pre .4) (after _ _) _
+          (one .value-at .ensures .0) (c .enum-told2 .given .1) tt,
+      one .value-at .ensures .1,
+    )
 
 same-length-4 : tie.Need-same-length-4
 same-length-4 c = search needs
 
 returns-4 : tie.Need-returns-4
 returns-4 c =
-    let at = c .before .before .before .before .before .before .before .before .before in
-    store-keeps (now (at .args .frames)) (now (at .args .variables)) _ _ _ _ _ (at .pre .2) (at .pre .3) (after _ _) _ (c .before .before .before .before .value-at .ensures) (c .enum-told3 .given .1) tt
+    let one = c .before .before .before .before in
+    let at = one .before .before .before .before in (
+      store-keeps (now (at .args .frames)) _ _ _ _ _ _ (at .pre .3) (at .pre .4) (after _ _) _
+          (one .value-at .ensures .0) (c .enum-told3 .given .1) tt,
+      one .value-at .ensures .1,
+    )
 
 pub store-spec : {M : Type 1} → statement M
 store-spec =
@@ -66,6 +113,9 @@ store-spec =
     value-at-requires
     enum-known-o
     value-at-requires-2
+    sub-then-store
+    part-then-store-start
+    part-then-store-end
     then-store-requires
     enum-told
     enum-told-2

@@ -5,9 +5,9 @@ use mathlib.Core.Path.{_≡_}
 use lib.ListN.{length, length-set}
 use native.Mathlib.Omega.{arith}
 use Rattle.language.specs.Limits.{mostShared}
-use Rattle.program.proofs.SharedTypeLaws.{Collecting, collect-start, collect-end, collect-stop}
-use Rattle.program.proofs.SharedTypeLaws.{collect-owner, collect-content, collect-few}
-use Rattle.program.proofs.SharedTypeLaws.{collect-more}
+use Rattle.program.proofs.SharedTypeLaws.{Collecting, collect-start, collect-end}
+use Rattle.program.proofs.SharedTypeLaws.{collect-stop, collect-owner, collect-content}
+use Rattle.program.proofs.SharedTypeLaws.{collect-few, collect-more}
 use Rattle.program.proofs.shared.shared_types.Statement.{statement}
 use Rattle.program.proofs.shared.shared_types.Tie as tie
 

@@ -7,13 +7,16 @@ use Rattle.runs.proofs.lines.step_lines.Statement.{statement}
 use Rattle.runs.proofs.lines.step_lines.Tie as tie
 
 abbrev Inv-loop : tie.InvT-loop
-Inv-loop frames file bytes n state₀ out₀ k₀ state out k = Lining frames bytes n state₀ state out₀ out k
+Inv-loop frames file bytes n state₀ out₀ digits k₀ state out k = Lining frames bytes n state₀ state out₀ out k
 
 abbrev μ-loop : tie.MeasureT-loop
-μ-loop frames file bytes n state₀ out₀ k₀ state out k = n - k
+μ-loop frames file bytes n state₀ out₀ digits k₀ state out k = n - k
+
+digit-table-requires : tie.Need-digit-table-requires Inv-loop μ-loop
+digit-table-requires c κs = search needs
 
 loop-holds : tie.Need-loop-holds Inv-loop μ-loop
-loop-holds c = lining-start _ _ _ _ _ (c .before .before .before .before .pre .4)
+loop-holds c = lining-start _ _ _ _ _ (c .before .before .before .before .before .pre .4)
 
 choice-at-requires : tie.Need-choice-at-requires Inv-loop μ-loop
 choice-at-requires c κs = search needs
@@ -23,19 +26,19 @@ cast-step-valid c = search needs
 
 step-valid-requires : tie.Need-step-valid-requires Inv-loop μ-loop
 step-valid-requires c κs =
-    let p = c .before .before .before .before .before .before .before .before .pre in
-    (lining-asks _ _ _ _ _ _ _ _ _ (p .0) (p .1) (c .before .before .before .loop .inv), p .1)
+    let p = c .before .before .before .before .before .before .before .before .before .before .pre in
+    (lining-asks _ _ _ _ _ _ _ _ _ (p .0) (p .1) (c .before .before .before .before .loop .inv), p .1)
 
 slice-read-choice-line : tie.Need-slice-read-choice-line Inv-loop μ-loop
 slice-read-choice-line c =
-    let p = c .before .before .before .before .before .before .before .before .before .before .before .before .pre in
-    let l = lining-long _ _ _ _ _ _ _ _ _ (p .0) (p .1) (c .before .before .before .before .before .before .before .loop .inv) _ (c .before .before .before .before .before .choice-at .ensures) (p .2) (c .before .before .before .before .before .before .loop-test .taken) _ _ (c .before .before .before .step-valid .ensures) in
+    let p = c .before .before .before .before .before .before .before .before .before .before .before .before .before .before .pre in
+    let l = lining-long _ _ _ _ _ _ _ _ _ (p .0) (p .1) (c .before .before .before .before .before .before .before .before .loop .inv) _ (c .before .before .before .before .before .choice-at .ensures) (p .2) (c .before .before .before .before .before .before .before .loop-test .taken) _ _ (c .before .before .before .step-valid .ensures) in
     omega arith
 
 cast-choice-line : tie.Need-cast-choice-line Inv-loop μ-loop
 cast-choice-line c =
-    let p = c .before .before .before .before .before .before .before .before .before .before .before .before .pre in
-    let l = lining-cells _ _ _ _ _ _ _ _ _ (p .0) (p .1) (c .before .before .before .before .before .before .before .loop .inv) _ (c .before .before .before .before .before .choice-at .ensures) (p .2) (c .before .before .before .before .before .before .loop-test .taken) _ _ (c .before .before .before .step-valid .ensures) in
+    let p = c .before .before .before .before .before .before .before .before .before .before .before .before .before .before .pre in
+    let l = lining-cells _ _ _ _ _ _ _ _ _ (p .0) (p .1) (c .before .before .before .before .before .before .before .before .loop .inv) _ (c .before .before .before .before .before .choice-at .ensures) (p .2) (c .before .before .before .before .before .before .before .loop-test .taken) _ _ (c .before .before .before .step-valid .ensures) in
     record { fits = l }
 
 choice-line-requires : tie.Need-choice-line-requires Inv-loop μ-loop
@@ -61,8 +64,8 @@ loop-less c = search needs
 
 loop-again : tie.Need-loop-again Inv-loop μ-loop
 loop-again c =
-    let p = c .before .before .before .before .before .before .before .before .before .before .before .before .before .before .before .before .before .before .pre in
-    lining-more _ _ _ _ _ _ _ _ _ (p .0) (p .1) (c .before .before .before .before .before .before .before .before .before .before .before .before .before .loop .inv) _ (c .before .before .before .before .before .before .before .before .before .before .before .choice-at .ensures) (p .2) (c .before .before .before .before .before .before .before .before .before .before .before .before .loop-test .taken) _ _ (c .before .before .before .before .before .before .before .before .before .step-valid .ensures) _ _ (c .before .before .before .before .before .choice-line .ensures) (c .before .before .put .ensures) (search needs) (search needs) (p .3)
+    let p = c .before .before .before .before .before .before .before .before .before .before .before .before .before .before .before .before .before .before .before .before .pre in
+    lining-more _ _ _ _ _ _ _ _ _ (p .0) (p .1) (c .before .before .before .before .before .before .before .before .before .before .before .before .before .before .loop .inv) _ (c .before .before .before .before .before .before .before .before .before .before .before .choice-at .ensures) (p .2) (c .before .before .before .before .before .before .before .before .before .before .before .before .before .loop-test .taken) _ _ (c .before .before .before .before .before .before .before .before .before .step-valid .ensures) _ _ (c .before .before .before .before .before .choice-line .ensures) (c .before .before .put .ensures) (search needs) (search needs) (p .3)
 
 same-length : tie.Need-same-length Inv-loop μ-loop
 same-length c = search needs
@@ -79,6 +82,7 @@ step-lines-spec =
     (tie.spec
     Inv-loop
     μ-loop
+    digit-table-requires
     loop-holds
     choice-at-requires
     cast-step-valid

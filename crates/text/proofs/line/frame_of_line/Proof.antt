@@ -10,8 +10,8 @@ enum-known-line c = search needs
 frame-of-word-requires : tie.Need-frame-of-word-requires
 frame-of-word-requires c κs = search needs
 
-enum-known-line-2 : tie.Need-enum-known-line-2
-enum-known-line-2 c = search needs
+enum-told : tie.Need-enum-told
+enum-told c = search needs
 
 returns : tie.Need-returns
 returns c = search frame-row
@@ -21,4 +21,4 @@ returns-2 c = search needs
 
 pub frame-of-line-spec : {M : Type 1} → statement M
 frame-of-line-spec =
-    tie.close (tie.spec enum-known-line frame-of-word-requires enum-known-line-2 returns returns-2)
+    tie.close (tie.spec enum-known-line frame-of-word-requires enum-told returns returns-2)

@@ -8,22 +8,22 @@ comes-to-requires : tie.Need-comes-to-requires
 comes-to-requires c κs = search needs
 
 returns : tie.Need-returns
-returns c = search turn-ends
+returns c = (search turn-ends, search needs)
 
-sub-t13 : tie.Need-sub-t13
-sub-t13 c = search needs
+sub-t12 : tie.Need-sub-t12
+sub-t12 c = search needs
 
 act-item-requires : tie.Need-act-item-requires
 act-item-requires c κs =
-    let at = c .before .before .before .before .before .before .before .before in
-    (below-words _ _ _ _ _ (at .pre .0), at .pre .1, at .pre .2)
+    let at = c .before .before .before .before .before .before .before in
+    (below-words _ _ _ _ _ (at .pre .0), at .pre .1, at .pre .2, at .pre .3)
 
 same-length : tie.Need-same-length
 same-length c = search needs
 
 returns-2 : tie.Need-returns-2
-returns-2 c = search turn-item
+returns-2 c = (search turn-item, search needs)
 
 pub act-spec : {M : Type 1} → statement M
 act-spec =
-    tie.close (tie.spec comes-to-requires returns sub-t13 act-item-requires same-length returns-2)
+    tie.close (tie.spec comes-to-requires returns sub-t12 act-item-requires same-length returns-2)

@@ -6,30 +6,30 @@ use Rattle.turns.proofs.item.act_item.Tie as tie
 
 act-statement-requires : tie.Need-act-statement-requires
 act-statement-requires c κs =
-    let at = c .before .before .before .before .before in
-    (at .pre .0, at .pre .1 (c .before .if1 .taken))
+    let at = c .before .before .before .before in
+    (at .pre .0, at .pre .1, at .pre .2 (c .before .if1 .taken))
 
 same-length : tie.Need-same-length
 same-length c = search needs
 
 returns : tie.Need-returns
-returns c = search item-statement
+returns c = (search item-statement, search needs)
 
 known-requires : tie.Need-known-requires
 known-requires c κs =
-    c .before .before .before .before .before .pre .2 (c .before .if1 .left) (c .if2 .taken)
+    c .before .before .before .before .pre .3 (c .before .if1 .left) (c .if2 .taken)
 
 goes-back-requires : tie.Need-goes-back-requires
 goes-back-requires c κs = search needs
 
 returns-2 : tie.Need-returns-2
-returns-2 c = search item-back
+returns-2 c = (search item-back, search needs)
 
 drops-requires : tie.Need-drops-requires
 drops-requires c κs = search needs
 
 returns-3 : tie.Need-returns-3
-returns-3 c = search item-drop
+returns-3 c = (search item-drop, search needs)
 
 pub act-item-spec : {M : Type 1} → statement M
 act-item-spec =

@@ -1,6 +1,9 @@
 -- `starts` meets its contract. Assumes nothing.
+use mathlib.Core.Path.{_∙_}
 use borrow.Author.Needs.{needs}
-use Rattle.turns.proofs.StartRows.{cells-behind, starts-none, starts-one, starts-refused, starts-two}
+use Rattle.evaluator.proofs.InPlace.{lent-again}
+use Rattle.turns.proofs.StartRows.{cells-behind, values-again, variables-again}
+use Rattle.turns.proofs.StartRows.{starts-none, starts-one, starts-refused, starts-two}
 use Rattle.turns.proofs.start.starts.Statement.{statement}
 use Rattle.turns.proofs.start.starts.Tie as tie
 
@@ -8,7 +11,7 @@ starts-with-requires : tie.Need-starts-with-requires
 starts-with-requires c κs = search needs
 
 returns : tie.Need-returns
-returns c = search starts-none
+returns c = (search starts-none, search needs)
 
 evaluate-requires : tie.Need-evaluate-requires
 evaluate-requires c κs = search needs
@@ -20,7 +23,7 @@ same-length : tie.Need-same-length
 same-length c = search needs
 
 returns-2 : tie.Need-returns-2
-returns-2 c = search starts-one
+returns-2 c = (search starts-one, search needs)
 
 enum-known-o : tie.Need-enum-known-o
 enum-known-o c = search needs
@@ -32,13 +35,20 @@ same-length-2 : tie.Need-same-length-2
 same-length-2 c = search needs
 
 returns-3 : tie.Need-returns-3
-returns-3 c = search starts-refused
+returns-3 c = (search starts-refused, search needs)
 
 evaluate-requires-2 : tie.Need-evaluate-requires-2
 evaluate-requires-2 c κs =
-    let at = c .before .before .before .before .before .before .before .before .before .before
-    .before .before .before in
-    (at .pre .1, at .pre .2, search cells-behind)
+    let first = c .before .before .before .before .before .before .before .evaluate in
+    let at = c .before .before .before .before .before .before .before
+    .before .before .before .before .before in
+    let lent = at .pre .2 in
+    let kept = first .ensures .1 in (
+      at .pre .1,
+      lent-again _ _ _ lent kept (first .kept .1 .1 .0),
+      values-again _ _ _ lent kept (at .pre .3),
+      search cells-behind,
+    )
 
 value-word-requires : tie.Need-value-word-requires
 value-word-requires c κs = search needs
@@ -50,7 +60,21 @@ same-length-3 : tie.Need-same-length-3
 same-length-3 c = search needs
 
 returns-4 : tie.Need-returns-4
-returns-4 c = search starts-two
+returns-4 c =
+    let second = c .before .before .before .before in
+    let match = second .before .before .before in
+    let both = match .before .before in
+    let first = both .before .before .before in
+    let some = first .before .before in
+    let at = some .before .before .before in
+    let kept = first .evaluate .ensures .1 in
+    let found = second .evaluate2 .ensures .0 in (
+      starts-two _ _ _ _ _ _ _ _ _ (first .evaluate .result) _ (some .if1 .left)
+          (first .evaluate .ensures .0) _ _ (second .evaluate2 .result) _ (both .if2 .left)
+          (match .o .given .1) (variables-again _ _ _ (at .pre .2) kept _ _ _ _ found)
+          (c .before .value-word .ensures .0) (c .starts-two .ensures),
+      second .evaluate2 .ensures .1 ∙ kept,
+    )
 
 pub starts-spec : {M : Type 1} → statement M
 starts-spec =

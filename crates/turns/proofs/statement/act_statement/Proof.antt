@@ -16,8 +16,8 @@ frame-of-word-requires c κs = search needs
 
 statement-node-requires : tie.Need-statement-node-requires
 statement-node-requires c κs =
-    let at = c .before .before .before .before .before in
-    statement-named _ _ _ _ _ _ _ (c .frame-of-word .ensures) (at .pre .0) (at .pre .1)
+    let at = c .before .before .before .before in
+    statement-named _ _ _ _ _ _ _ (c .frame-of-word .ensures) (at .pre .0) (at .pre .2)
 
 enum-told : tie.Need-enum-told
 enum-told c = search needs
@@ -51,18 +51,18 @@ enum-known-m c = search needs
 
 starts-requires : tie.Need-starts-requires
 starts-requires c κs =
-    let at = c .before .before .before .before .before .before .before .before .before .before in
+    let at = c .before .before .before .before .before .before .before .before .before in
     let words = at .pre .0 in
-    (search under-laws, search under-laws, words .variables, words .cells)
+    (search under-laws, search under-laws, at .pre .1, words .variables, words .cells)
 
 enum-known-m-2 : tie.Need-enum-known-m-2
 enum-known-m-2 c = search needs
 
 starts-requires-2 : tie.Need-starts-requires-2
 starts-requires-2 c κs =
-    let at = c .before .before .before .before .before .before .before .before .before .before in
+    let at = c .before .before .before .before .before .before .before .before .before in
     let words = at .pre .0 in
-    (search under-laws, search under-laws, words .variables, words .cells)
+    (search under-laws, search under-laws, at .pre .1, words .variables, words .cells)
 
 enum-told-2 : tie.Need-enum-told-2
 enum-told-2 c = search needs
@@ -75,9 +75,9 @@ enum-known-a-2 c = search needs
 
 evaluate-requires : tie.Need-evaluate-requires
 evaluate-requires c κs =
-    let at = c .before .before .before .before .before .before .before .before .before .before in
+    let at = c .before .before .before .before .before .before .before .before .before in
     let words = at .pre .0 in
-    (search under-laws, words .variables, words .cells)
+    (search under-laws, at .pre .1, words .variables, words .cells)
 
 cast-lets-after : tie.Need-cast-lets-after
 cast-lets-after c = search needs
@@ -90,9 +90,9 @@ enum-known-a-3 c = search needs
 
 store-requires : tie.Need-store-requires
 store-requires c κs =
-    let at = c .before .before .before .before .before .before .before .before .before .before in
+    let at = c .before .before .before .before .before .before .before .before .before in
     let words = at .pre .0 in
-    (search under-laws, search under-laws, words .variables, words .cells)
+    (search under-laws, search under-laws, at .pre .1, words .variables, words .cells)
 
 stores-after-requires : tie.Need-stores-after-requires
 stores-after-requires c κs = search needs
@@ -102,9 +102,9 @@ enum-known-a-4 c = search needs
 
 evaluate-requires-2 : tie.Need-evaluate-requires-2
 evaluate-requires-2 c κs =
-    let at = c .before .before .before .before .before .before .before .before .before .before in
+    let at = c .before .before .before .before .before .before .before .before .before in
     let words = at .pre .0 in
-    (search under-laws, words .variables, words .cells)
+    (search under-laws, at .pre .1, words .variables, words .cells)
 
 cast-chooses-after : tie.Need-cast-chooses-after
 cast-chooses-after c = search needs
@@ -120,9 +120,9 @@ enum-known-a-5 c = search needs
 
 evaluate-requires-3 : tie.Need-evaluate-requires-3
 evaluate-requires-3 c κs =
-    let at = c .before .before .before .before .before .before .before .before .before .before in
+    let at = c .before .before .before .before .before .before .before .before .before in
     let words = at .pre .0 in
-    (search under-laws, words .variables, words .cells)
+    (search under-laws, at .pre .1, words .variables, words .cells)
 
 cast-loops-after : tie.Need-cast-loops-after
 cast-loops-after c = search needs
@@ -131,52 +131,52 @@ loops-after-requires : tie.Need-loops-after-requires
 loops-after-requires c κs = search needs
 
 returns : tie.Need-returns
-returns c = search acts-nothing
+returns c = (search acts-nothing, search needs)
 
 returns-2 : tie.Need-returns-2
-returns-2 c = search acts-seq
+returns-2 c = (search acts-seq, search needs)
 
 returns-3 : tie.Need-returns-3
-returns-3 c = search acts-do
+returns-3 c = (search acts-do, search needs)
 
 same-length : tie.Need-same-length
 same-length c = search needs
 
 returns-4 : tie.Need-returns-4
-returns-4 c = search acts-start
+returns-4 c = (search acts-start, search needs)
 
 same-length-2 : tie.Need-same-length-2
 same-length-2 c = search needs
 
 returns-5 : tie.Need-returns-5
-returns-5 c = search acts-wait
+returns-5 c = (search acts-wait, search needs)
 
 returns-6 : tie.Need-returns-6
-returns-6 c = search acts-cooperate
+returns-6 c = (search acts-cooperate, search needs)
 
 same-length-3 : tie.Need-same-length-3
 same-length-3 c = search needs
 
 returns-7 : tie.Need-returns-7
-returns-7 c = search acts-let
+returns-7 c = (search acts-let, search needs)
 
 same-length-4 : tie.Need-same-length-4
 same-length-4 c = search needs
 
 returns-8 : tie.Need-returns-8
-returns-8 c = search acts-store
+returns-8 c = (search acts-store, search needs)
 
 same-length-5 : tie.Need-same-length-5
 same-length-5 c = search needs
 
 returns-9 : tie.Need-returns-9
-returns-9 c = search acts-if
+returns-9 c = (search acts-if, search needs)
 
 same-length-6 : tie.Need-same-length-6
 same-length-6 c = search needs
 
 returns-10 : tie.Need-returns-10
-returns-10 c = search acts-while
+returns-10 c = (search acts-while, search needs)
 
 pub act-statement-spec : {M : Type 1} → statement M
 act-statement-spec =

@@ -1,0 +1,119 @@
+-- The lists behind a turn that is settled: what leaves its list, then what joins a next list.
+-- Assumes nothing.
+use Prim.Native.Nat.{ℕ, _+_, _*_}
+use mathlib.Core.Path.{_≡_, refl, sym, ap, _∙_, subst}
+use mathlib.Core.List.{List}
+use mathlib.Core.Bool.{Bool, true, false}
+use lib.ListN.{length, getD}
+use Rattle.basics.proofs.Ifs.{if-yes, if-no, if-all}
+use Rattle.language.specs.Places.{isScheduler}
+use Rattle.language.specs.declared.Place.{Place}
+use Rattle.states.specs.inner.Threads.{withOneMore}
+use Rattle.acts.specs.declared.act.Acted.{Acted}
+use Rattle.commits.specs.declared.decision.Passed.{Passed}
+use Rattle.commits.specs.declared.decision.Passed.the-variants.{Keep, Leave, Join, Start}
+use Rattle.commits.specs.inner.Commits.{leftIn, joinedIn, newAt, startedOn, leavesList}
+use Rattle.commits.specs.inner.Commits.{unlistedIn, enlistedIn, followedIn, StartWords}
+use Rattle.commits.specs.inner.Commits.{Follows}
+use Rattle.commits.proofs.WritingLaws.{left-count}
+
+-- ---- `unlist`
+module _ (w : List ℕ) (c : ℕ) (x : Passed) where
+  leaves-is : leavesList x ≡ true → unlistedIn w c x ≡ leftIn w c
+  unfolding unlistedIn
+  leaves-is e = if-yes _ _ e
+
+  pub keeps-is : leavesList x ≡ false → unlistedIn w c x ≡ w
+  unfolding unlistedIn
+  keeps-is e = if-no _ _ e
+
+  module _ (b : Bool) (e : b ≡ leavesList x) where
+    pub unlist-leaves : (v : List ℕ) → b ≡ true → v ≡ leftIn w c → v ≡ unlistedIn w c x
+    unlist-leaves v h f = f ∙ sym (leaves-is (sym e ∙ h))
+
+    pub unlist-keeps : b ≡ false → w ≡ unlistedIn w c x
+    unlist-keeps h = sym (keeps-is (sym e ∙ h))
+
+pub ruleset unlist-laws = (unlist-leaves, unlist-keeps)
+
+-- ---- `enlist`: what the match has found is what was asked for
+module _ (w : List ℕ) (t : ℕ) (a : Acted) (x : Passed) where
+  row : (v : List ℕ) (y : Passed) → x ≡ y → v ≡ enlistedIn w t a y → v ≡ enlistedIn w t a x
+  row v y e h = h ∙ ap (enlistedIn w t a) (sym e)
+
+  pub enlist-keep : x ≡ Keep → w ≡ enlistedIn w t a x
+  enlist-keep e = row w Keep e refl
+
+  pub enlist-leave : x ≡ Leave → w ≡ enlistedIn w t a x
+  enlist-leave e = row w Leave e refl
+
+  pub enlist-join : (v : List ℕ) (q : Place) → x ≡ Join q → v ≡ joinedIn w (q .number) t
+      → v ≡ enlistedIn w t a x
+  enlist-join v q e h = row v (Join q) e h
+
+  pub enlist-start : (v : List ℕ) (waits : Bool) (q : Place) (body : ℕ) → x ≡ Start waits q body
+      → v ≡ startedOn w t a q body waits → v ≡ enlistedIn w t a x
+  enlist-start v waits q body e h = row v (Start waits q body) e h
+
+pub ruleset enlist-laws = (enlist-keep, enlist-leave, enlist-join, enlist-start)
+
+-- what an arm's call needs
+module _ (w : List ℕ) (x : Passed) where
+  pub join-needs : (q : Place) → x ≡ Join q → Follows w x → isScheduler (q .number) ≡ true
+  join-needs q e h = subst (Follows w) e h
+
+  pub start-needs : (waits : Bool) (q : Place) (body : ℕ) → x ≡ Start waits q body → Follows w x
+      → StartWords w q
+  start-needs waits q body e h = subst (Follows w) e h
+
+-- ---- `follow`
+module _ (w u : List ℕ) (c : ℕ) (x : Passed) (e : u ≡ unlistedIn w c x) where
+  count-kept : length w ≡ 4818 → getD u 0 0 ≡ getD w 0 0
+  unfolding unlistedIn
+  count-kept h =
+      ap (λ (l : List ℕ). getD l 0 0) e
+      ∙ if-all (λ (l : List ℕ). getD l 0 0 ≡ getD w 0 0) (leavesList x) (leftIn w c) w
+      (λ _. left-count w c h) (λ _. refl)
+
+  follows : (y : Passed) → getD u 0 0 ≡ getD w 0 0 → Follows w y → Follows u y
+  follows Keep k h = tt
+  follows Leave k h = tt
+  follows (Join q) k h = h
+  follows (Start waits q body) k h =
+      record { scheduler = h .scheduler; count = rw k (h .count) }
+
+  pub still-follows : length w ≡ 4818 → Follows w x → Follows u x
+  still-follows h g = follows x (count-kept h) g
+
+  pub followed : (t : ℕ) (a : Acted) (v : List ℕ) → v ≡ enlistedIn u t a x
+      → v ≡ followedIn w c t a x
+  followed t a v f = f ∙ ap (λ (l : List ℕ). enlistedIn l t a x) e
+
+-- ---- the words behind each
+module _ (w : List ℕ) (c t : ℕ) (a : Acted) where
+  pub leave-is : followedIn w c t a Leave ≡ leftIn w c
+  leave-is = leaves-is w c Leave refl
+
+  pub join-is : (q : Place) → followedIn w c t a (Join q) ≡ joinedIn (leftIn w c) (q .number) t
+  join-is q = ap (λ (l : List ℕ). joinedIn l (q .number) t) (leaves-is w c (Join q) refl)
+
+  module _ (q : Place) (body : ℕ) where
+    pub start-is : followedIn w c t a (Start false q body)
+        ≡ joinedIn (withOneMore w (newAt a q t body)) (q .number) (getD w 0 0 + 1)
+    unfolding startedOn
+    start-is =
+        ap (λ (l : List ℕ). startedOn l t a q body false) (keeps-is w c (Start false q body) refl)
+        ∙ if-no _ _ refl
+
+    -- the new thread's number is the one before the starter left
+    abbrev waiting : ℕ → List ℕ
+    waiting n =
+        joinedIn (joinedIn (withOneMore (leftIn w c) (newAt a q t body)) (q .number) (n + 1))
+        (q .number) (128 * (n + 1) + t)
+
+    pub wait-is : length w ≡ 4818
+        → followedIn w c t a (Start true q body) ≡ waiting (getD w 0 0)
+    unfolding startedOn
+    wait-is h =
+        ap (λ (l : List ℕ). startedOn l t a q body true) (leaves-is w c (Start true q body) refl)
+        ∙ if-yes _ _ refl ∙ ap waiting (left-count w c h)

@@ -1,0 +1,62 @@
+-- `decide` meets its contract. Assumes nothing.
+use Rattle.commits.proofs.DecisionLaws.{decide-laws}
+use borrow.Author.Needs.{needs}
+use Rattle.commits.proofs.decision.decide.Statement.{statement}
+use Rattle.commits.proofs.decision.decide.Tie as tie
+
+enum-known-fate : tie.Need-enum-known-fate
+enum-known-fate c = search needs
+
+enum-told : tie.Need-enum-told
+enum-told c = search needs
+
+enum-told-2 : tie.Need-enum-told-2
+enum-told-2 c = search needs
+
+enum-known-fate-2 : tie.Need-enum-known-fate-2
+enum-known-fate-2 c = search needs
+
+room-at-requires : tie.Need-room-at-requires
+room-at-requires c κs = search needs
+
+returns : tie.Need-returns
+returns c = search decide-laws
+
+enum-known-fate-3 : tie.Need-enum-known-fate-3
+enum-known-fate-3 c = search needs
+
+decide-start-requires : tie.Need-decide-start-requires
+decide-start-requires c κs = search needs
+
+returns-2 : tie.Need-returns-2
+returns-2 c = search decide-laws
+
+returns-3 : tie.Need-returns-3
+returns-3 c = search decide-laws
+
+returns-4 : tie.Need-returns-4
+returns-4 c = search decide-laws
+
+returns-5 : tie.Need-returns-5
+returns-5 c = search decide-laws
+
+returns-6 : tie.Need-returns-6
+returns-6 c = search decide-laws
+
+pub decide-spec : {M : Type 1} → statement M
+decide-spec =
+    tie.close
+    (tie.spec
+    enum-known-fate
+    enum-told
+    enum-told-2
+    enum-known-fate-2
+    room-at-requires
+    returns
+    enum-known-fate-3
+    decide-start-requires
+    returns-2
+    returns-3
+    returns-4
+    returns-5
+    returns-6)

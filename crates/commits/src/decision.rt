@@ -1,0 +1,106 @@
+// What the fate of a turn comes to on the lent words: refused with a number, or passed. Nothing is
+// written before that is known.
+use crate::change::place_after;
+use crate::writing::room_at;
+use acts::act::Acted;
+use acts::act::Fate;
+use language::Place;
+use language::limit::MOST_THREADS;
+use language::refusal::STUCK;
+use language::refusal::THREADS_SPENT;
+use machine::offset::THREAD_LENGTH;
+use machine::offset::THREADS_AT;
+use program::module::ModuleFound;
+use program::module::module_at;
+use states::thread::thread_count;
+ghost use mathlib.Core.Path.{_≡_};
+ghost use lib.ListN.{length};
+ghost use Rattle.text.specs.Frames.{framesOf};
+ghost use Rattle.program.specs.Programs.{programOf};
+ghost use Rattle.machine.specs.Offsets.{stateLength};
+ghost use Rattle.commits.specs.inner.Commits.{CommitWords, obstacleIn, startDecided};
+ghost use Rattle.commits.specs.inner.Commits.{decidedIn};
+
+// What the lists do behind a turn that nothing refuses. The thread keeps its entry; it leaves its
+// list; it leaves it and joins the next list of that scheduler. Or a thread of that body starts at
+// that scheduler, and the starter waits for it or not.
+pub(crate) enum Passed {
+    Keep,
+    Leave,
+    Join(Place),
+    Start(bool, Place, u64),
+}
+
+pub(crate) enum Decision {
+    Refuse(u8),
+    Settle(Passed),
+}
+
+// What stands in the way of a start, stuck before spent; 0 where nothing does.
+fn obstacle(state: &[u64], found: ModuleFound, place: Place, given: u64) -> u8
+    requires { ⌜ length (now state) ≡ stateLength ⌝ }
+    ensures { λ r. ⌜ r ≡ obstacleIn (now (state .entry)) found (place .number) given ⌝ }
+{
+    let room = room_at(state, place, 1);
+    let threads = thread_count(state);
+    if place.is_private() {
+        return STUCK;
+    }
+    if !found.there {
+        return STUCK;
+    }
+    if found.parameters != given {
+        return STUCK;
+    }
+    if !room {
+        return STUCK;
+    }
+    if MOST_THREADS as u64 <= threads {
+        return THREADS_SPENT;
+    }
+    0
+}
+
+// The room for a starter that waits is tested last.
+fn decide_start(frames: &[u64], state: &[u64], t: u64, a: Acted, waits: bool, m: u8) -> Decision
+    requires { ⌜ CommitWords (now state) t a ⌝ }
+    ensures { λ r. ⌜ r ≡ startDecided (programOf (framesOf (now (frames .entry))))
+        (now (state .entry)) t a waits m ⌝ }
+{
+    let found = module_at(frames, m);
+    let change = a.change;
+    let place = place_after(
+        change,
+        Place::known(state[THREADS_AT + THREAD_LENGTH * (t - 1) as usize]),
+    );
+    let no = obstacle(state, found, place, a.given);
+    if no != 0 {
+        return Decision::Refuse(no);
+    }
+    if waits {
+        if !room_at(state, place, 2) {
+            return Decision::Refuse(STUCK);
+        }
+    }
+    Decision::Settle(Passed::Start(waits, place, found.body))
+}
+
+pub(crate) fn decide(frames: &[u64], state: &[u64], t: u64, a: Acted) -> Decision
+    requires { ⌜ CommitWords (now state) t a ⌝ }
+    ensures { λ r. ⌜ r ≡ decidedIn (programOf (framesOf (now (frames .entry))))
+        (now (state .entry)) t a (a .fate) ⌝ }
+{
+    let fate = a.fate;
+    match fate {
+        Fate::Refused(n) => Decision::Refuse(n),
+        Fate::Stays => Decision::Settle(Passed::Keep),
+        Fate::Leaves => Decision::Settle(Passed::Leave),
+        Fate::Joins(q) => {
+            if room_at(state, q, 1) {
+                return Decision::Settle(Passed::Join(q));
+            }
+            Decision::Refuse(STUCK)
+        },
+        Fate::Starts(waits, m) => decide_start(frames, state, t, a, waits, m),
+    }
+}

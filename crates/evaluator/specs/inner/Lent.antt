@@ -1,0 +1,38 @@
+-- The parts of the one buffer that is lent to an evaluation, the words of a whole state: the acting
+-- thread's variables are read where they lie, and the cells are written. Assumes nothing:
+-- definitions.
+use mathlib.Core.Path.{_≡_}
+use mathlib.Core.List.{List}
+use Prim.Native.Nat.{ℕ, _+_, _*_, _-_, _≤_}
+use lib.ListN.{length, getD, take, drop}
+use Rattle.language.specs.Limits.{mostThreads, mostVariables}
+use Rattle.machine.specs.Offsets.{stateLength, threadsAt, threadLength, variablesField, cellsAt}
+use Rattle.operations.specs.declared.Who.{Who}
+
+-- where the words of the acting thread begin
+abbrev pub threadFrom : Who → ℕ
+threadFrom who = threadsAt + threadLength * (who .thread - 1)
+
+-- how many variables it has
+unfoldable pub variableCount : Who → List ℕ → ℕ
+variableCount who w = getD w (threadFrom who + variablesField) 0
+
+-- its variables
+unfoldable pub variablesOf : Who → List ℕ → List ℕ
+variablesOf who w = take (variableCount who w) (drop (threadFrom who + variablesField + 1) w)
+
+-- the words of the cells
+unfoldable pub cellsOf : List ℕ → List ℕ
+cellsOf w = drop cellsAt w
+
+-- all that an evaluation does not write
+unfoldable pub restOf : List ℕ → List ℕ
+restOf w = take cellsAt w
+
+-- what a caller has to show: a state's words, a thread that there can be, and no more variables
+-- than its space has
+pub record Lent (who : Who) (w : List ℕ) : Type 0 where
+  pub all : length w ≡ stateLength
+  pub first : 1 ≤ who .thread
+  pub last : who .thread ≤ mostThreads
+  pub few : variableCount who w ≤ mostVariables
