@@ -3,15 +3,22 @@ use language::Place;
 ghost use mathlib.Core.Path.{_≡_};
 ghost use Rattle.acts.specs.inner.Fates.{actedWith, refusedWith};
 
+// The arguments of a start: how many, and their words, 0 for one that is not there.
+pub struct Arguments {
+    pub count: u64,
+    pub first: u64,
+    pub second: u64,
+}
+
 // What becomes of the thread: refused with that number; it stays first in its list; it leaves it
 // for none, since it has ended or is unlinked; it joins the next list of that scheduler; it starts
-// that module, and waits for it or not.
+// that module with those arguments, and waits for it or not.
 pub enum Fate {
     Refused(u8),
     Stays,
     Leaves,
     Joins(Place),
-    Starts(bool, u8),
+    Starts(bool, u8, Arguments),
 }
 
 // What else changes in the thread, once its top item is off its continuation: nothing; one item
@@ -29,32 +36,19 @@ pub enum Change {
     End,
 }
 
-// With how many cells are in use behind the turn, and the arguments of a start: how many, and their
-// words.
 pub struct Acted {
     pub fate: Fate,
     pub change: Change,
-    pub used: usize,
-    pub given: u64,
-    pub first: u64,
-    pub second: u64,
 }
 
-pub fn comes_to(fate: Fate, change: Change, used: usize) -> Acted
-    ensures { λ r. ⌜ r ≡ actedWith fate change used ⌝ }
+pub fn comes_to(fate: Fate, change: Change) -> Acted
+    ensures { λ r. ⌜ r ≡ actedWith fate change ⌝ }
 {
-    Acted {
-        fate,
-        change,
-        used,
-        given: 0,
-        first: 0,
-        second: 0,
-    }
+    Acted { fate, change }
 }
 
-pub fn refused(answer: u8, used: usize) -> Acted
-    ensures { λ r. ⌜ r ≡ refusedWith answer used ⌝ }
+pub fn refused(answer: u8) -> Acted
+    ensures { λ r. ⌜ r ≡ refusedWith answer ⌝ }
 {
-    comes_to(Fate::Refused(answer), Change::Same, used)
+    comes_to(Fate::Refused(answer), Change::Same)
 }

@@ -5,8 +5,7 @@ use mathlib.Core.Path.{_≡_, refl, sym, ap, ap₂, _∙_, subst}
 use mathlib.Core.List.{List}
 use mathlib.Core.Bool.{Bool, true, false, _&&_, not}
 use native.Mathlib.Omega.{arith}
-use lib.ListN.{getD, length, set, length-set}
-use lib.Seq.{getD-set-other}
+use lib.ListN.{getD, length}
 use lib.Dec.{eqb}
 use borrow.Author.Tests.{eqb-true, not-false}
 use Rattle.basics.specs.If.{if_then_else_}
@@ -18,6 +17,7 @@ use Rattle.program.specs.declared.module.ModuleFound.{ModuleFound}
 use Rattle.machine.specs.Calls.{Called}
 use Rattle.states.specs.inner.Threads.{threadIn, putThread, blockOf, withOneMore}
 use Rattle.states.proofs.ThreadLaws.{in-wide, put-length}
+use Rattle.acts.specs.declared.act.Arguments.{Arguments}
 use Rattle.acts.specs.declared.act.Fate.{Fate}
 use Rattle.acts.specs.declared.act.Fate.the-variants.{Refused, Stays, Leaves, Joins, Starts}
 use Rattle.acts.specs.declared.act.Acted.{Acted}
@@ -45,22 +45,17 @@ module _ (p : Program) (w : List ℕ) (before c t : ℕ) (a : Acted) (h : Commit
   abbrev words : List ℕ
   words = staysIn w t turn
 
-  counted : length (set w 1 (a .used)) ≡ 4818
-  counted = length-set w 1 (a .used) ∙ h .settle .all
-
-  -- settling writes the cells' count and a thread's block, not how many threads there are
+  -- settling writes a thread's block, not how many threads there are
   count-kept : getD words 0 0 ≡ getD w 0 0
   unfolding settledIn putThread
   count-kept =
-      let l = counted in
-      first-word (set w 1 (a .used)) (1042 + 55 * (t - 1)) (blockOf (turn .thread)) 55
-      (omega arith) (omega arith)
-      ∙ getD-set-other w 1 0 (a .used) 0 (λ e. omega arith)
+      let l = h .settle .all in
+      first-word w (1042 + 55 * (t - 1)) (blockOf (turn .thread)) 55 (omega arith) (omega arith)
 
   long : length words ≡ 4818
   unfolding settledIn
   long =
-      put-length (set w 1 (a .used)) (t - 1) counted (h .settle .thread) (turn .thread)
+      put-length w (t - 1) (h .settle .all) (h .settle .thread) (turn .thread)
       (changed-wide (a .change) (popped (threadIn w (t - 1)))
       (popped-wide (threadIn w (t - 1)) (in-wide w (t - 1) (h .settle .all) (h .settle .thread))))
 
@@ -73,8 +68,8 @@ module _ (p : Program) (w : List ℕ) (before c t : ℕ) (a : Acted) (h : Commit
 
   -- what a decision comes to
   abbrev result : Decision → Called
-  result (Refuse n) = refusesIn w before t turn n
-  result (Settle x) = called 0 t (followedIn words c t a x)
+  result (Refuse n) = refusesIn w before t n
+  result (Settle x) = called 0 t (followedIn words c t x)
 
   joins-is : (q : Place) → result (decidedIn p w t a (Joins q))
       ≡ joinsIn w before c t turn (q .number)
@@ -82,80 +77,82 @@ module _ (p : Program) (w : List ℕ) (before c t : ℕ) (a : Acted) (h : Commit
   joins-is q =
       if-all (λ (d : Decision). result d ≡ joinsIn w before c t turn (q .number))
       (roomIn w (q .number) 1) (Settle (Join q)) (Refuse 20)
-      (λ e. yes _ e (ap (called 0 t) (join-is words c t a q))) (λ e. no _ e refl)
+      (λ e. yes _ e (ap (called 0 t) (join-is words c t q))) (λ e. no _ e refl)
 
   -- `startsIn` of any module found, any place and any count of threads: where nothing stands in the
   -- way, and whole
-  abbrev goes : Bool → ModuleFound → ℕ → ℕ → Called
-  goes waits x i n =
-      let new = newThread i (a .given) (a .first) (a .second) t (x .body) in
+  abbrev goes : Arguments → Bool → ModuleFound → ℕ → ℕ → Called
+  goes args waits x i n =
+      let new = newThread i (args .count) (args .first) (args .second) t (x .body) in
       let entry = 128 * (n + 1) + t in
       if not waits then called 0 t (joinedIn (withOneMore words new) i (n + 1)) else
-      if not (roomIn w i 2) then refusesIn w before t turn 20 else
+      if not (roomIn w i 2) then refusesIn w before t 20 else
       called 0 t (joinedIn (joinedIn (withOneMore (leftIn words c) new) i (n + 1)) i entry)
 
-  abbrev starts : Bool → ModuleFound → ℕ → ℕ → Called
-  starts waits x i n =
-      let no = obstacleIn w x i (a .given) in
-      if not (eqb no 0) then refusesIn w before t turn no else goes waits x i n
+  abbrev starts : Arguments → Bool → ModuleFound → ℕ → ℕ → Called
+  starts args waits x i n =
+      let no = obstacleIn w x i (args .count) in
+      if not (eqb no 0) then refusesIn w before t no else goes args waits x i n
 
-  module _ (x : ModuleFound) (q : Place) where
+  module _ (args : Arguments) (x : ModuleFound) (q : Place) where
     abbrev gone : Bool → Decision
     gone waits =
         if waits && not (roomIn w (q .number) 2) then Refuse 20 else
-        Settle (Start waits q (x .body))
+        Settle (Start waits q (x .body) args)
 
-    goes-is : (waits : Bool) → result (gone waits) ≡ goes waits x (q .number) (getD words 0 0)
+    goes-is : (waits : Bool) → result (gone waits) ≡ goes args waits x (q .number) (getD words 0 0)
     goes-is false =
-        ap result (if-no _ _ refl) ∙ yes _ refl (ap (called 0 t) (start-is words c t a q (x .body)))
+        ap result (if-no _ _ refl)
+        ∙ yes _ refl (ap (called 0 t) (start-is words c t q (x .body) args))
     goes-is true =
-        if-all (λ (d : Decision). result d ≡ goes true x (q .number) (getD words 0 0))
+        if-all (λ (d : Decision). result d ≡ goes args true x (q .number) (getD words 0 0))
         (not (roomIn w (q .number) 2)) _ _ (λ f. no _ refl (yes _ f refl))
-        (λ f. no _ refl (no _ f (ap (called 0 t) (wait-is words c t a q (x .body) long))))
+        (λ f. no _ refl (no _ f (ap (called 0 t) (wait-is words c t q (x .body) args long))))
 
-    tested-is : (waits : Bool) → result (startTested w a waits x q)
-        ≡ starts waits x (q .number) (getD words 0 0)
+    tested-is : (waits : Bool) → result (startTested w args waits x q)
+        ≡ starts args waits x (q .number) (getD words 0 0)
     unfolding startTested
     tested-is waits =
-        if-all (λ (d : Decision). result d ≡ starts waits x (q .number) (getD words 0 0))
-        (not (eqb (obstacleIn w x (q .number) (a .given)) 0)) _ (gone waits) (λ e. yes _ e refl)
+        if-all (λ (d : Decision). result d ≡ starts args waits x (q .number) (getD words 0 0))
+        (not (eqb (obstacleIn w x (q .number) (args .count)) 0)) _ (gone waits) (λ e. yes _ e refl)
         (λ e. no _ e (goes-is waits))
 
-  starts-is : (waits : Bool) (m : ℕ) → result (startDecided p w t a waits m)
-      ≡ startsIn p w before c t turn waits m
+  starts-is : (waits : Bool) (m : ℕ) (args : Arguments)
+      → result (startDecided p w t a waits m args) ≡ startsIn p w before c t turn waits m args
   unfolding startsIn
-  starts-is waits m =
-      tested-is (foundIn p m) place waits
-      ∙ ap₂ (starts waits (foundIn p m)) place-there count-kept
+  starts-is waits m args =
+      tested-is args (foundIn p m) place waits
+      ∙ ap₂ (starts args waits (foundIn p m)) place-there count-kept
 
   decided-is : (f : Fate) → result (decidedIn p w t a f) ≡ committedIn p w before c t turn f
   decided-is (Refused n) = refl
   decided-is Stays = ap (called 0 t) (keeps-is words c Keep refl)
-  decided-is Leaves = ap (called 0 t) (leave-is words c t a)
+  decided-is Leaves = ap (called 0 t) (leave-is words c t)
   decided-is (Joins q) = joins-is q
-  decided-is (Starts waits m) = starts-is waits m
+  decided-is (Starts waits m args) = starts-is waits m args
 
   -- what is let through has what its calls need
   abbrev Sound : Decision → Type 0
   Sound (Refuse n) = Unit {0}
   Sound (Settle x) = Follows words x
 
-  free-words : (x : ModuleFound) (q : Place)
-      → not (eqb (obstacleIn w x (q .number) (a .given)) 0) ≡ false → StartWords words q
-  free-words x q e =
-      let o = obstacleIn w x (q .number) (a .given) in
-      let z : obstacleIn w x (q .number) (a .given) ≡ 0 = eqb-true o 0 (not-false (eqb o 0) e) in
+  free-words : (args : Arguments) (x : ModuleFound) (q : Place)
+      → not (eqb (obstacleIn w x (q .number) (args .count)) 0) ≡ false → StartWords words q
+  free-words args x q e =
+      let o = obstacleIn w x (q .number) (args .count) in
+      let z : obstacleIn w x (q .number) (args .count) ≡ 0 = eqb-true o 0 (not-false (eqb o 0) e) in
       record {
-        scheduler = free-scheduler w x (q .number) (a .given) z;
-        count = rw count-kept (free-count w x (q .number) (a .given) z);
+        scheduler = free-scheduler w x (q .number) (args .count) z;
+        count = rw count-kept (free-count w x (q .number) (args .count) z);
       }
 
-  start-sound : (waits : Bool) (x : ModuleFound) (q : Place) → Sound (startTested w a waits x q)
+  start-sound : (args : Arguments) (waits : Bool) (x : ModuleFound) (q : Place)
+      → Sound (startTested w args waits x q)
   unfolding startTested
-  start-sound waits x q =
-      if-all Sound (not (eqb (obstacleIn w x (q .number) (a .given)) 0)) _ _ (λ _. tt)
+  start-sound args waits x q =
+      if-all Sound (not (eqb (obstacleIn w x (q .number) (args .count)) 0)) _ _ (λ _. tt)
       (λ e. if-all Sound (waits && not (roomIn w (q .number) 2)) _ _ (λ _. tt)
-      (λ _. free-words x q e))
+      (λ _. free-words args x q e))
 
   join-sound : (q : Place) → Sound (decidedIn p w t a (Joins q))
   join-sound q =
@@ -167,14 +164,14 @@ module _ (p : Program) (w : List ℕ) (before c t : ℕ) (a : Acted) (h : Commit
   decided-sound Stays = tt
   decided-sound Leaves = tt
   decided-sound (Joins q) = join-sound q
-  decided-sound (Starts waits m) = start-sound waits (foundIn p m) place
+  decided-sound (Starts waits m args) = start-sound args waits (foundIn p m) place
 
   -- ---- the arms of `commit`, which has decided d
   module _ (d : Decision) (e : d ≡ decidedIn p w t a (a .fate)) where
     decided : (y : Decision) → d ≡ y → result y ≡ committedIn p w before c t turn (a .fate)
     decided y g = ap result (sym g ∙ e) ∙ decided-is (a .fate)
 
-    pub commit-refused : (n : ℕ) (v : List ℕ) → d ≡ Refuse n → v ≡ clearedIn w before (a .used)
+    pub commit-refused : (n : ℕ) (v : List ℕ) → d ≡ Refuse n → v ≡ clearedIn w before
         → called n t v ≡ committedIn p w before c t turn (a .fate)
     commit-refused n v g f = ap (called n t) f ∙ decided (Refuse n) g
 
@@ -184,9 +181,9 @@ module _ (p : Program) (w : List ℕ) (before c t : ℕ) (a : Acted) (h : Commit
           subst (λ (l : List ℕ). Follows l x) (sym s)
           (subst Sound (sym e ∙ g) (decided-sound (a .fate)))
 
-      pub commit-settled : (u : List ℕ) → u ≡ followedIn v c t a x
+      pub commit-settled : (u : List ℕ) → u ≡ followedIn v c t x
           → called 0 t u ≡ committedIn p w before c t turn (a .fate)
       commit-settled u f =
-          ap (called 0 t) (f ∙ ap (λ (l : List ℕ). followedIn l c t a x) s) ∙ decided (Settle x) g
+          ap (called 0 t) (f ∙ ap (λ (l : List ℕ). followedIn l c t x) s) ∙ decided (Settle x) g
 
 pub ruleset commit-laws = (commit-refused, commit-settled)

@@ -14,6 +14,7 @@ use Rattle.language.specs.declared.Place.{Place}
 use Rattle.program.specs.Programs.{Program}
 use Rattle.program.specs.inner.Modules.{foundIn}
 use Rattle.program.specs.declared.module.ModuleFound.{ModuleFound}
+use Rattle.acts.specs.declared.act.Arguments.{Arguments}
 use Rattle.acts.specs.declared.act.Acted.{Acted}
 use Rattle.acts.specs.declared.act.Fate.{Fate}
 use Rattle.acts.specs.declared.act.Fate.the-variants.{Refused, Stays, Leaves, Joins, Starts}
@@ -93,22 +94,23 @@ module _ (w : List ℕ) (x : ModuleFound) (p g : ℕ) (h : obstacleIn w x p g �
   free-scheduler = room-scheduler w p 1 (roomIn w p 1) refl (free h .0)
 
 -- ---- a start: the module was found to be x, and the starter, who stood at o, stands at q
-module _ (p : Program) (w : List ℕ) (t : ℕ) (a : Acted) (waits : Bool) (m : ℕ) (x : ModuleFound)
-    (n : ℕ) (o q : Place) (e : x ≡ foundIn p m) (z : q ≡ placeAfter (a .change) o)
+module _ (p : Program) (w : List ℕ) (t : ℕ) (a : Acted) (waits : Bool) (m : ℕ) (args : Arguments)
+    (x : ModuleFound) (n : ℕ) (o q : Place) (e : x ≡ foundIn p m) (z : q ≡ placeAfter (a .change) o)
     (y : o ≡ record { number = getD w (1042 + 55 * (t - 1)) 0 })
-    (f : n ≡ obstacleIn w x (q .number) (a .given)) where
-  decided : (d : Decision) → d ≡ startTested w a waits x q → d ≡ startDecided p w t a waits m
-  decided d h = h ∙ ap₂ (startTested w a waits) e (z ∙ ap (placeAfter (a .change)) y)
+    (f : n ≡ obstacleIn w x (q .number) (args .count)) where
+  decided : (d : Decision) → d ≡ startTested w args waits x q
+      → d ≡ startDecided p w t a waits m args
+  decided d h = h ∙ ap₂ (startTested w args waits) e (z ∙ ap (placeAfter (a .change)) y)
 
-  tested : (b : Bool) → eqb n 0 ≡ b → not (eqb (obstacleIn w x (q .number) (a .given)) 0) ≡ not b
+  tested : (b : Bool) → eqb n 0 ≡ b → not (eqb (obstacleIn w x (q .number) (args .count)) 0) ≡ not b
   tested b h = ap (λ (i : ℕ). not (eqb i 0)) (sym f) ∙ ap not h
 
-  pub start-refused : (n ≡ 0 → ⊥) → Refuse n ≡ startDecided p w t a waits m
+  pub start-refused : (n ≡ 0 → ⊥) → Refuse n ≡ startDecided p w t a waits m args
   unfolding startTested
   start-refused h = decided (Refuse n) (yes _ (tested false (ne-eqb n 0 h)) (ap Refuse f))
 
   module _ (h : n ≡ 0) where
-    free-way : not (eqb (obstacleIn w x (q .number) (a .given)) 0) ≡ false
+    free-way : not (eqb (obstacleIn w x (q .number) (args .count)) 0) ≡ false
     free-way = tested true (eq-eqb n 0 h)
 
     -- whether there is room for a starter that waits
@@ -116,18 +118,19 @@ module _ (p : Program) (w : List ℕ) (t : ℕ) (a : Acted) (waits : Bool) (m : 
         → (waits && not (roomIn w (q .number) 2)) ≡ (b && not r)
     more b r g k = ap₂ (λ (i j : Bool). i && not j) g k
 
-    pub start-only : waits ≡ false → Settle (Start waits q (x .body)) ≡ startDecided p w t a waits m
+    pub start-only : waits ≡ false
+        → Settle (Start waits q (x .body) args) ≡ startDecided p w t a waits m args
     unfolding startTested
     start-only b = decided _ (no _ free-way (no _ (more false _ b refl) refl))
 
     module _ (b : waits ≡ true) (r : Bool) (g : r ≡ roomIn w (q .number) 2) where
-      pub start-full : not r ≡ true → Refuse 20 ≡ startDecided p w t a waits m
+      pub start-full : not r ≡ true → Refuse 20 ≡ startDecided p w t a waits m args
       unfolding startTested
       start-full d =
           decided _ (no _ free-way (yes _ (more true false b (sym g ∙ not-true r d)) refl))
 
       pub start-waits : not r ≡ false
-          → Settle (Start waits q (x .body)) ≡ startDecided p w t a waits m
+          → Settle (Start waits q (x .body) args) ≡ startDecided p w t a waits m args
       unfolding startTested
       start-waits d =
           decided _ (no _ free-way (no _ (more true true b (sym g ∙ not-false r d)) refl))
@@ -155,9 +158,9 @@ module _ (p : Program) (w : List ℕ) (t : ℕ) (a : Acted) (x : Fate) where
     pub decide-full : r ≡ false → Refuse 20 ≡ decidedIn p w t a x
     decide-full h = row (Joins q) _ e (no _ (sym f ∙ h) refl)
 
-  pub decide-starts : (b : Bool) (m : ℕ) (d : Decision) → x ≡ Starts b m
-      → d ≡ startDecided p w t a b m → d ≡ decidedIn p w t a x
-  decide-starts b m d e h = row (Starts b m) d e h
+  pub decide-starts : (b : Bool) (m : ℕ) (args : Arguments) (d : Decision) → x ≡ Starts b m args
+      → d ≡ startDecided p w t a b m args → d ≡ decidedIn p w t a x
+  decide-starts b m args d e h = row (Starts b m args) d e h
 
 pub ruleset decide-laws = (
   decide-refused,

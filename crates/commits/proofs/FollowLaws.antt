@@ -9,13 +9,18 @@ use Rattle.basics.proofs.Ifs.{if-yes, if-no, if-all}
 use Rattle.language.specs.Places.{isScheduler}
 use Rattle.language.specs.declared.Place.{Place}
 use Rattle.states.specs.inner.Threads.{withOneMore}
-use Rattle.acts.specs.declared.act.Acted.{Acted}
+use Rattle.acts.specs.declared.act.Arguments.{Arguments}
 use Rattle.commits.specs.declared.decision.Passed.{Passed}
 use Rattle.commits.specs.declared.decision.Passed.the-variants.{Keep, Leave, Join, Start}
 use Rattle.commits.specs.inner.Commits.{leftIn, joinedIn, newAt, startedOn, leavesList}
 use Rattle.commits.specs.inner.Commits.{unlistedIn, enlistedIn, followedIn, StartWords}
 use Rattle.commits.specs.inner.Commits.{Follows}
 use Rattle.commits.proofs.WritingLaws.{left-count}
+
+-- ---- `leaves`: a starter leaves its list where it waits
+pub leaves-start : (x : Passed) (waits : Bool) (q : Place) (body : ℕ) (args : Arguments)
+    → x ≡ Start waits q body args → waits ≡ leavesList x
+leaves-start x waits q body args e = ap leavesList (sym e)
 
 -- ---- `unlist`
 module _ (w : List ℕ) (c : ℕ) (x : Passed) where
@@ -37,23 +42,23 @@ module _ (w : List ℕ) (c : ℕ) (x : Passed) where
 pub ruleset unlist-laws = (unlist-leaves, unlist-keeps)
 
 -- ---- `enlist`: what the match has found is what was asked for
-module _ (w : List ℕ) (t : ℕ) (a : Acted) (x : Passed) where
-  row : (v : List ℕ) (y : Passed) → x ≡ y → v ≡ enlistedIn w t a y → v ≡ enlistedIn w t a x
-  row v y e h = h ∙ ap (enlistedIn w t a) (sym e)
+module _ (w : List ℕ) (t : ℕ) (x : Passed) where
+  row : (v : List ℕ) (y : Passed) → x ≡ y → v ≡ enlistedIn w t y → v ≡ enlistedIn w t x
+  row v y e h = h ∙ ap (enlistedIn w t) (sym e)
 
-  pub enlist-keep : x ≡ Keep → w ≡ enlistedIn w t a x
+  pub enlist-keep : x ≡ Keep → w ≡ enlistedIn w t x
   enlist-keep e = row w Keep e refl
 
-  pub enlist-leave : x ≡ Leave → w ≡ enlistedIn w t a x
+  pub enlist-leave : x ≡ Leave → w ≡ enlistedIn w t x
   enlist-leave e = row w Leave e refl
 
   pub enlist-join : (v : List ℕ) (q : Place) → x ≡ Join q → v ≡ joinedIn w (q .number) t
-      → v ≡ enlistedIn w t a x
+      → v ≡ enlistedIn w t x
   enlist-join v q e h = row v (Join q) e h
 
-  pub enlist-start : (v : List ℕ) (waits : Bool) (q : Place) (body : ℕ) → x ≡ Start waits q body
-      → v ≡ startedOn w t a q body waits → v ≡ enlistedIn w t a x
-  enlist-start v waits q body e h = row v (Start waits q body) e h
+  pub enlist-start : (v : List ℕ) (waits : Bool) (q : Place) (body : ℕ) (args : Arguments)
+      → x ≡ Start waits q body args → v ≡ startedOn w t q body waits args → v ≡ enlistedIn w t x
+  enlist-start v waits q body args e h = row v (Start waits q body args) e h
 
 pub ruleset enlist-laws = (enlist-keep, enlist-leave, enlist-join, enlist-start)
 
@@ -62,9 +67,9 @@ module _ (w : List ℕ) (x : Passed) where
   pub join-needs : (q : Place) → x ≡ Join q → Follows w x → isScheduler (q .number) ≡ true
   join-needs q e h = subst (Follows w) e h
 
-  pub start-needs : (waits : Bool) (q : Place) (body : ℕ) → x ≡ Start waits q body → Follows w x
-      → StartWords w q
-  start-needs waits q body e h = subst (Follows w) e h
+  pub start-needs : (waits : Bool) (q : Place) (body : ℕ) (args : Arguments)
+      → x ≡ Start waits q body args → Follows w x → StartWords w q
+  start-needs waits q body args e h = subst (Follows w) e h
 
 -- ---- `follow`
 module _ (w u : List ℕ) (c : ℕ) (x : Passed) (e : u ≡ unlistedIn w c x) where
@@ -79,41 +84,42 @@ module _ (w u : List ℕ) (c : ℕ) (x : Passed) (e : u ≡ unlistedIn w c x) wh
   follows Keep k h = tt
   follows Leave k h = tt
   follows (Join q) k h = h
-  follows (Start waits q body) k h =
+  follows (Start waits q body args) k h =
       record { scheduler = h .scheduler; count = rw k (h .count) }
 
   pub still-follows : length w ≡ 4818 → Follows w x → Follows u x
   still-follows h g = follows x (count-kept h) g
 
-  pub followed : (t : ℕ) (a : Acted) (v : List ℕ) → v ≡ enlistedIn u t a x
-      → v ≡ followedIn w c t a x
-  followed t a v f = f ∙ ap (λ (l : List ℕ). enlistedIn l t a x) e
+  pub followed : (t : ℕ) (v : List ℕ) → v ≡ enlistedIn u t x → v ≡ followedIn w c t x
+  followed t v f = f ∙ ap (λ (l : List ℕ). enlistedIn l t x) e
 
 -- ---- the words behind each
-module _ (w : List ℕ) (c t : ℕ) (a : Acted) where
-  pub leave-is : followedIn w c t a Leave ≡ leftIn w c
+module _ (w : List ℕ) (c t : ℕ) where
+  pub leave-is : followedIn w c t Leave ≡ leftIn w c
   leave-is = leaves-is w c Leave refl
 
-  pub join-is : (q : Place) → followedIn w c t a (Join q) ≡ joinedIn (leftIn w c) (q .number) t
+  pub join-is : (q : Place) → followedIn w c t (Join q) ≡ joinedIn (leftIn w c) (q .number) t
   join-is q = ap (λ (l : List ℕ). joinedIn l (q .number) t) (leaves-is w c (Join q) refl)
 
-  module _ (q : Place) (body : ℕ) where
-    pub start-is : followedIn w c t a (Start false q body)
-        ≡ joinedIn (withOneMore w (newAt a q t body)) (q .number) (getD w 0 0 + 1)
+  module _ (q : Place) (body : ℕ) (args : Arguments) where
+    pub start-is : followedIn w c t (Start false q body args)
+        ≡ joinedIn (withOneMore w (newAt args q t body)) (q .number) (getD w 0 0 + 1)
     unfolding startedOn
     start-is =
-        ap (λ (l : List ℕ). startedOn l t a q body false) (keeps-is w c (Start false q body) refl)
+        ap (λ (l : List ℕ). startedOn l t q body false args)
+        (keeps-is w c (Start false q body args) refl)
         ∙ if-no _ _ refl
 
     -- the new thread's number is the one before the starter left
     abbrev waiting : ℕ → List ℕ
     waiting n =
-        joinedIn (joinedIn (withOneMore (leftIn w c) (newAt a q t body)) (q .number) (n + 1))
+        joinedIn (joinedIn (withOneMore (leftIn w c) (newAt args q t body)) (q .number) (n + 1))
         (q .number) (128 * (n + 1) + t)
 
     pub wait-is : length w ≡ 4818
-        → followedIn w c t a (Start true q body) ≡ waiting (getD w 0 0)
+        → followedIn w c t (Start true q body args) ≡ waiting (getD w 0 0)
     unfolding startedOn
     wait-is h =
-        ap (λ (l : List ℕ). startedOn l t a q body true) (leaves-is w c (Start true q body) refl)
+        ap (λ (l : List ℕ). startedOn l t q body true args)
+        (leaves-is w c (Start true q body args) refl)
         ∙ if-yes _ _ refl ∙ ap waiting (left-count w c h)

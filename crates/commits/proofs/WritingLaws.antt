@@ -1,10 +1,11 @@
--- The single writes that a commit is made of: cells cleared, a thread settled, a scheduler's list left or joined, and the test of room before it. Assumes nothing.
+-- The single writes that a commit is made of: cells cleared, a thread settled, a scheduler's list
+-- left or joined, and the test of room before it. Assumes nothing.
 use Prim.Native.Nat.{ℕ, zero, suc, _+_, _*_, _-_, _<_, _≤_}
 use mathlib.Core.Path.{_≡_, refl, sym, ap, _∙_}
 use mathlib.Core.List.{List, [], _∷_}
 use mathlib.Core.Bool.{Bool, true, false, not}
 use native.Mathlib.Omega.{arith}
-use lib.ListN.{getD, length, set, length-set, replicate, length-replicate, getD-replicate}
+use lib.ListN.{getD, length, set, replicate, length-replicate, getD-replicate}
 use lib.Seq.{getD-set-other}
 use lib.Dec.{leb, ltb, eqb}
 use borrow.Author.Tests.{not-true, not-false}
@@ -20,69 +21,79 @@ use Rattle.machine.proofs.WordLaws.{pasted-zero, pasted-more}
 use Rattle.lists.specs.inner.Lists.{shifted, withoutFirst, withLast}
 use Rattle.states.specs.declared.thread.ThreadWords.{ThreadWords}
 use Rattle.states.specs.inner.Threads.{threadIn, putThread}
-use Rattle.states.proofs.ThreadLaws.{Wide, in-wide, put-read, put-then, put-length}
+use Rattle.states.proofs.ThreadLaws.{Wide, in-wide, put-read, put-then}
 use Rattle.acts.specs.declared.act.Change.{Change}
 use Rattle.acts.specs.inner.Fates.{changed, popped, Room}
-use Rattle.commits.specs.inner.Commits.{clearedIn, settledIn, leftIn, roomIn, joinedIn, SettleWords}
-use Rattle.commits.proofs.ChangeLaws.{popped-wide, changed-wide, popped-items, popped-values, popped-place, same-thread}
+use Rattle.commits.specs.inner.Commits.{clearedIn, settledIn, leftIn, roomIn, joinedIn}
+use Rattle.commits.specs.inner.Commits.{SettleWords}
+use Rattle.commits.proofs.ChangeLaws.{popped-wide, changed-wide, popped-items}
+use Rattle.commits.proofs.ChangeLaws.{popped-values, popped-place}
 
--- ---- cells cleared: before the loop, a turn of it, behind it
-pub cells-start : (w : List ℕ) (from upto : ℕ) → w ≡ pasted w (4562 + from) (replicate (upto - from) 0) (from - from)
+-- ---- cells cleared: before the loop, a turn of it, and the count written behind it
+
+-- the words of the cells from `from` on, of which so many are 0 already
+abbrev zeroed : List ℕ → ℕ → ℕ → ℕ → List ℕ
+zeroed w from upto n = pasted w (4562 + from) (replicate (upto - from) 0) n
+
+pub cells-start : (w : List ℕ) (from upto : ℕ) → w ≡ zeroed w from upto (from - from)
 cells-start w from upto =
     let z : 0 ≡ from - from = omega arith in
-    pasted-zero w (4562 + from) (replicate (upto - from) 0) ∙ ap (pasted w (4562 + from) (replicate (upto - from) 0)) z
+    pasted-zero w (4562 + from) (replicate (upto - from) 0) ∙ ap (zeroed w from upto) z
 
-module _ (w v : List ℕ) (from upto j : ℕ) (e : v ≡ pasted w (4562 + from) (replicate (upto - from) 0) (j - from)) where
-  pub cells-more : length w ≡ 4818 → upto ≤ 256 → from ≤ j → j < upto → set v (4562 + j) 0 ≡ pasted w (4562 + from) (replicate (upto - from) 0) (j + 1 - from)
+module _ (w v : List ℕ) (from upto j : ℕ) (e : v ≡ zeroed w from upto (j - from)) where
+  pub cells-more : length w ≡ 4818 → upto ≤ 256 → from ≤ j → j < upto
+      → set v (4562 + j) 0 ≡ zeroed w from upto (j + 1 - from)
   cells-more l u f g =
       let m : j - from < upto - from = omega arith in
       let y : 4562 + j ≡ 4562 + from + (j - from) = omega arith in
       let z : j - from + 1 ≡ j + 1 - from = omega arith in
       ap (λ (k : ℕ). set v k 0) y
-      ∙ pasted-more w (replicate (upto - from) 0) v (4562 + from) (j - from) 0 e (sym (getD-replicate (upto - from) (j - from) 0 0 m)) (omega arith) (rw (length-replicate {A = ℕ} (upto - from) 0) m)
-      ∙ ap (pasted w (4562 + from) (replicate (upto - from) 0)) z
+      ∙ pasted-more w (replicate (upto - from) 0) v (4562 + from) (j - from) 0 e
+      (sym (getD-replicate (upto - from) (j - from) 0 0 m)) (omega arith)
+      (rw (length-replicate {A = ℕ} (upto - from) 0) m)
+      ∙ ap (zeroed w from upto) z
 
-  pub cells-end : j - from ≤ upto - from → upto ≤ j → v ≡ clearedIn w from upto
+  pub cells-end : upto ≡ getD w 1 0 → j - from ≤ upto - from → upto ≤ j
+      → set v 1 from ≡ clearedIn w from
   unfolding clearedIn
-  cells-end a b = let z : j - from ≡ upto - from = omega arith in e ∙ ap (pasted w (4562 + from) (replicate (upto - from) 0)) z
+  cells-end n a b =
+      let z : j - from ≡ upto - from = omega arith in
+      ap (λ (l : List ℕ). set l 1 from) (e ∙ ap (zeroed w from upto) z)
+      ∙ ap (λ (k : ℕ). set (zeroed w from k (k - from)) 1 from) n
 
--- ---- a thread settled: the count of cells is written, its top item taken off, then the change made
-module _ (w : List ℕ) (k n : ℕ) (c : Change) (h : SettleWords w k c) where
-  counted : length (set w 1 n) ≡ 4818
-  counted = length-set w 1 n ∙ h .all
+-- ---- a thread settled: its top item is taken off, then the change made
+module _ (w : List ℕ) (k : ℕ) (c : Change) (h : SettleWords w k c) (v : List ℕ)
+    (e : v ≡ putThread w k (popped (threadIn w k))) where
+  wide : Wide (popped (threadIn w k))
+  wide = popped-wide (threadIn w k) (in-wide w k (h .all) (h .thread))
 
-  -- the count is no word of a thread
-  thread-kept : threadIn (set w 1 n) k ≡ threadIn w k
-  thread-kept = same-thread w (set w 1 n) k (h .thread) (h .all) counted (λ i l m. getD-set-other w 1 i n 0 (λ e. omega arith))
+  here : threadIn v k ≡ popped (threadIn w k)
+  here =
+      ap (λ (l : List ℕ). threadIn l k) e
+      ∙ put-read w k (h .all) (h .thread) (popped (threadIn w k)) wide
 
-  pub settle-items : threadIn (set w 1 n) k .items ≤ 25
-  settle-items = rw (ap (λ (x : ThreadWords). x .items) thread-kept) (h .items)
+  items-here : threadIn v k .items ≡ threadIn w k .items - 1
+  items-here = ap (λ (x : ThreadWords). x .items) here ∙ popped-items (threadIn w k)
 
-  module _ (v : List ℕ) (e : v ≡ putThread (set w 1 n) k (popped (threadIn (set w 1 n) k))) where
-    wide : Wide (popped (threadIn w k))
-    wide = popped-wide (threadIn w k) (in-wide w k (h .all) (h .thread))
+  values-here : threadIn v k .values ≡ threadIn w k .values
+  values-here = ap (λ (x : ThreadWords). x .values) here ∙ popped-values (threadIn w k)
 
-    popped-in : v ≡ putThread (set w 1 n) k (popped (threadIn w k))
-    popped-in = e ∙ ap (λ (x : ThreadWords). putThread (set w 1 n) k (popped x)) thread-kept
+  pub settle-values : threadIn v k .values ≤ 25
+  settle-values = rw values-here (h .values)
 
-    here : threadIn v k ≡ popped (threadIn w k)
-    here = ap (λ (l : List ℕ). threadIn l k) popped-in ∙ put-read (set w 1 n) k counted (h .thread) (popped (threadIn w k)) wide
+  pub settle-place : isPlace (threadIn v k .place) ≡ true
+  settle-place =
+      rw (ap (λ (x : ThreadWords). x .place) here ∙ popped-place (threadIn w k)) (h .place)
 
-    pub settle-length : length v ≡ 4818
-    settle-length = ap length popped-in ∙ put-length (set w 1 n) k counted (h .thread) (popped (threadIn w k)) wide
+  pub settle-room : Room c (threadIn v k .items) (threadIn v k .values)
+  settle-room = rw (items-here, values-here) (h .room)
 
-    pub settle-values : threadIn v k .values ≤ 25
-    settle-values = rw (ap (λ (x : ThreadWords). x .values) here ∙ popped-values (threadIn w k)) (h .values)
-
-    pub settle-place : isPlace (threadIn v k .place) ≡ true
-    settle-place = rw (ap (λ (x : ThreadWords). x .place) here ∙ popped-place (threadIn w k)) (h .place)
-
-    pub settle-room : Room c (threadIn v k .items) (threadIn v k .values)
-    settle-room = rw (ap (λ (x : ThreadWords). x .items) here ∙ popped-items (threadIn w k), ap (λ (x : ThreadWords). x .values) here ∙ popped-values (threadIn w k)) (h .room)
-
-    pub settled : (u : List ℕ) → u ≡ putThread v k (changed c (threadIn v k)) → u ≡ settledIn w k (changed c (popped (threadIn w k))) n
-    unfolding settledIn
-    settled u q = put-then (set w 1 n) k counted (h .thread) v u (popped (threadIn w k)) (changed c) wide (changed-wide c (popped (threadIn w k)) wide) popped-in q
+  pub settled : (u : List ℕ) → u ≡ putThread v k (changed c (threadIn v k))
+      → u ≡ settledIn w k (changed c (popped (threadIn w k)))
+  unfolding settledIn
+  settled u q =
+      put-then w k (h .all) (h .thread) v u (popped (threadIn w k)) (changed c) wide
+      (changed-wide c (popped (threadIn w k)) wide) e q
 
 -- ---- a scheduler's lists: the block of them is one of 8
 pub list-block : (q : ℕ) → isScheduler q ≡ true → (2 ≤ q) × (q - 2 < 8)

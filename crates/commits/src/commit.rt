@@ -27,7 +27,7 @@ fn leaves(passed: Passed) -> bool
         Passed::Keep => false,
         Passed::Leave => true,
         Passed::Join(q) => true,
-        Passed::Start(waits, place, body) => waits,
+        Passed::Start(waits, place, body, args) => waits,
     }
 }
 
@@ -42,31 +42,31 @@ fn unlist(state: &mut [u64], choice: u64, passed: Passed)
 }
 
 // The next lists, where something joins one.
-fn enlist(state: &mut [u64], t: u64, a: Acted, passed: Passed)
+fn enlist(state: &mut [u64], t: u64, passed: Passed)
     requires { ⌜ (length (now state) ≡ stateLength) × (t ≤ mostThreads)
         × Follows (now state) passed ⌝ }
-    ensures { λ _. ⌜ now (state .exit) ≡ enlistedIn (now (state .entry)) t a passed ⌝ }
+    ensures { λ _. ⌜ now (state .exit) ≡ enlistedIn (now (state .entry)) t passed ⌝ }
 {
     match passed {
         Passed::Keep => {}
         Passed::Leave => {}
         Passed::Join(q) => join(state, q, t),
-        Passed::Start(waits, place, body) => start(state, t, a, place, body, waits),
+        Passed::Start(waits, place, body, args) => start(state, t, place, body, waits, args),
     }
 }
 
 // The lists behind a turn that is settled.
-fn follow(state: &mut [u64], choice: u64, t: u64, a: Acted, passed: Passed)
+fn follow(state: &mut [u64], choice: u64, t: u64, passed: Passed)
     requires { ⌜ (length (now state) ≡ stateLength) × (t ≤ mostThreads)
         × Follows (now state) passed ⌝ }
-    ensures { λ _. ⌜ now (state .exit) ≡ followedIn (now (state .entry)) choice t a passed ⌝ }
+    ensures { λ _. ⌜ now (state .exit) ≡ followedIn (now (state .entry)) choice t passed ⌝ }
 {
     unlist(state, choice, passed);
-    enlist(state, t, a, passed);
+    enlist(state, t, passed);
 }
 
-// The answer. The turn of thread t has changed the cells' words, of which `before` were in use; a
-// refusal takes back the cells made.
+// The answer. The turn of thread t has changed the cells and their count; `before` cells were in
+// use. A refusal takes back the cells made.
 pub fn commit(frames: &[u64], state: &mut [u64], before: usize, choice: u64, t: u64, a: Acted) -> u8
     requires { ⌜ CommitWords (now state) t a ⌝ }
     ensures { λ r. ⌜ called r t (now (state .exit))
@@ -75,13 +75,13 @@ pub fn commit(frames: &[u64], state: &mut [u64], before: usize, choice: u64, t: 
 {
     match decide(frames, state, t, a) {
         Decision::Refuse(n) => {
-            clear_cells(state, before, a.used);
+            clear_cells(state, before);
             n
         },
         Decision::Settle(passed) => {
             let change = a.change;
-            settle(state, (t - 1) as usize, change, a.used);
-            follow(state, choice, t, a, passed);
+            settle(state, (t - 1) as usize, change);
+            follow(state, choice, t, passed);
             0
         },
     }

@@ -3,6 +3,7 @@
 use crate::change::place_after;
 use crate::writing::room_at;
 use acts::act::Acted;
+use acts::act::Arguments;
 use acts::act::Fate;
 use language::Place;
 use language::limit::MOST_THREADS;
@@ -23,12 +24,12 @@ ghost use Rattle.commits.specs.inner.Commits.{decidedIn};
 
 // What the lists do behind a turn that nothing refuses. The thread keeps its entry; it leaves its
 // list; it leaves it and joins the next list of that scheduler. Or a thread of that body starts at
-// that scheduler, and the starter waits for it or not.
+// that scheduler with those arguments, and the starter waits for it or not.
 pub(crate) enum Passed {
     Keep,
     Leave,
     Join(Place),
-    Start(bool, Place, u64),
+    Start(bool, Place, u64, Arguments),
 }
 
 pub(crate) enum Decision {
@@ -62,10 +63,18 @@ fn obstacle(state: &[u64], found: ModuleFound, place: Place, given: u64) -> u8
 }
 
 // The room for a starter that waits is tested last.
-fn decide_start(frames: &[u64], state: &[u64], t: u64, a: Acted, waits: bool, m: u8) -> Decision
+fn decide_start(
+    frames: &[u64],
+    state: &[u64],
+    t: u64,
+    a: Acted,
+    waits: bool,
+    m: u8,
+    args: Arguments,
+) -> Decision
     requires { ⌜ CommitWords (now state) t a ⌝ }
     ensures { λ r. ⌜ r ≡ startDecided (programOf (framesOf (now (frames .entry))))
-        (now (state .entry)) t a waits m ⌝ }
+        (now (state .entry)) t a waits m args ⌝ }
 {
     let found = module_at(frames, m);
     let change = a.change;
@@ -73,7 +82,7 @@ fn decide_start(frames: &[u64], state: &[u64], t: u64, a: Acted, waits: bool, m:
         change,
         Place::known(state[THREADS_AT + THREAD_LENGTH * (t - 1) as usize]),
     );
-    let no = obstacle(state, found, place, a.given);
+    let no = obstacle(state, found, place, args.count);
     if no != 0 {
         return Decision::Refuse(no);
     }
@@ -82,7 +91,7 @@ fn decide_start(frames: &[u64], state: &[u64], t: u64, a: Acted, waits: bool, m:
             return Decision::Refuse(STUCK);
         }
     }
-    Decision::Settle(Passed::Start(waits, place, found.body))
+    Decision::Settle(Passed::Start(waits, place, found.body, args))
 }
 
 pub(crate) fn decide(frames: &[u64], state: &[u64], t: u64, a: Acted) -> Decision
@@ -101,6 +110,6 @@ pub(crate) fn decide(frames: &[u64], state: &[u64], t: u64, a: Acted) -> Decisio
             }
             Decision::Refuse(STUCK)
         },
-        Fate::Starts(waits, m) => decide_start(frames, state, t, a, waits, m),
+        Fate::Starts(waits, m, args) => decide_start(frames, state, t, a, waits, m, args),
     }
 }

@@ -1,7 +1,7 @@
 // A start that nothing refuses: the new thread is the last, and the last in the starter's next
 // list; a starter that waits stands behind it.
 use crate::writing::join;
-use acts::act::Acted;
+use acts::act::Arguments;
 use language::Place;
 use language::limit::MOST_ITEMS;
 use language::limit::MOST_VARIABLES;
@@ -18,33 +18,41 @@ ghost use Rattle.commits.specs.inner.Commits.{newAt, startedOn, StartWor
 
 // The new thread: at the starter's place, its continuation the module's body, its variables the
 // arguments.
-fn new_thread(a: Acted, place: Place, t: u64, body: u64) -> ThreadWords
-    ensures { λ r. ⌜ r ≡ newAt a place t body ⌝ }
+fn new_thread(args: Arguments, place: Place, t: u64, body: u64) -> ThreadWords
+    ensures { λ r. ⌜ r ≡ newAt args place t body ⌝ }
 {
     let mut items = [0u64; MOST_ITEMS];
     items[0] = body;
     let mut values = [0u64; MOST_VARIABLES];
-    values[0] = a.first;
-    values[1] = a.second;
+    values[0] = args.first;
+    values[1] = args.second;
     ThreadWords {
         place: place.word(),
         starter: t,
         alive: 1,
         items: 1,
         continuation: items,
-        values: a.given,
+        values: args.count,
         variables: values,
     }
 }
 
 // 13, and 14, where the starter waits. It stands at that place, a scheduler.
-pub(crate) fn start(state: &mut [u64], t: u64, a: Acted, place: Place, body: u64, waits: bool)
+pub(crate) fn start(
+    state: &mut [u64],
+    t: u64,
+    place: Place,
+    body: u64,
+    waits: bool,
+    args: Arguments,
+)
     requires { ⌜ (length (now state) ≡ stateLength) × (t ≤ mostThreads)
         × StartWords (now state) place ⌝ }
-    ensures { λ _. ⌜ now (state .exit) ≡ startedOn (now (state .entry)) t a place body waits ⌝ }
+    ensures { λ _. ⌜ now (state .exit)
+        ≡ startedOn (now (state .entry)) t place body waits args ⌝ }
 {
     let new = thread_count(state) + 1;
-    add_thread(state, new_thread(a, place, t, body));
+    add_thread(state, new_thread(args, place, t, body));
     join(state, place, new);
     if waits {
         join(state, place, WAITING_FACTOR * new + t);

@@ -16,29 +16,30 @@ ghost use Rattle.language.specs.Limits.{mostCells};
 ghost use Rattle.machine.specs.Offsets.{stateLength};
 ghost use Rattle.states.specs.inner.Threads.{threadIn};
 ghost use Rattle.acts.specs.inner.Fates.{changed, popped};
-ghost use Rattle.commits.specs.inner.Commits.{clearedIn, settledIn, roomIn, joinedIn};
-ghost use Rattle.commits.specs.inner.Commits.{SettleWords};
+ghost use Rattle.commits.specs.inner.Commits.{countIn, clearedIn, settledIn, roomIn};
+ghost use Rattle.commits.specs.inner.Commits.{joinedIn, SettleWords};
 
-// The cells from that one to below that other are no longer there.
-pub(crate) fn clear_cells(state: &mut [u64], from: usize, upto: usize)
-    requires { ⌜ (length (now state) ≡ stateLength) × (upto ≤ mostCells) ⌝ }
-    ensures { λ _. ⌜ now (state .exit) ≡ clearedIn (now (state .entry)) from upto ⌝ }
+// The cells in use from that one on are no longer there.
+pub(crate) fn clear_cells(state: &mut [u64], from: usize)
+    requires { ⌜ (length (now state) ≡ stateLength) × (countIn (now state) ≤ mostCells) ⌝ }
+    ensures { λ _. ⌜ now (state .exit) ≡ clearedIn (now (state .entry)) from ⌝ }
 {
+    let upto = state[CELL_COUNT_AT] as usize;
     let mut j = from;
     while j < upto {
         state[CELLS_AT + j] = 0;
         j += 1;
     }
+    state[CELL_COUNT_AT] = from as u64;
 }
 
-// Thread k, from 0, with the change made once its top item is off, and how many cells are in use;
-// the cells' words are the turn's already.
-pub(crate) fn settle(state: &mut [u64], k: usize, change: Change, used: usize)
+// Thread k, from 0, with the change made once its top item is off; the cells and their count are
+// the turn's already.
+pub(crate) fn settle(state: &mut [u64], k: usize, change: Change)
     requires { ⌜ SettleWords (now state) k change ⌝ }
     ensures { λ _. ⌜ now (state .exit) ≡ settledIn (now (state .entry)) k
-        (changed change (popped (threadIn (now (state .entry)) k))) used ⌝ }
+        (changed change (popped (threadIn (now (state .entry)) k))) ⌝ }
 {
-    state[CELL_COUNT_AT] = used as u64;
     take_item(state, k);
     change_thread(state, k, change);
 }

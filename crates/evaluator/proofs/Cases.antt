@@ -1,4 +1,5 @@
--- The returns of `value_at`, `number_at` and `truth_at`, a law for each. Assumes nothing.
+-- The returns of `value_at`, `number_at` and `truth_at`, a law for each: w are the state's words at
+-- entry, t and u behind an operand. Assumes nothing.
 use mathlib.Core.Path.{_≡_, refl, sym, ap, _∙_}
 use mathlib.Core.List.{List}
 use mathlib.Core.Bool.{true, false}
@@ -16,107 +17,153 @@ use Rattle.program.proofs.NodeTrees.{treeOf, tree-at}
 use Rattle.machine.specs.declared.value.Value.{Value}
 use Rattle.machine.specs.declared.value.Outcome.{Outcome}
 use Rattle.operations.specs.declared.Who.{Who}
-use Rattle.operations.specs.declared.Answered.{Answered}
-use Rattle.operations.specs.declared.operand.Wanted.{Wanted}
-use Rattle.operations.specs.inner.Results.{Result, after, result, andThen, only, keeping}
+use Rattle.operations.specs.declared.operand.Operand.{Operand}
+use Rattle.operations.specs.inner.Lent.{countOf, cellsOf}
+use Rattle.operations.specs.inner.Results.{Result, result, resultIn, andThen, onlyBy, keeping}
+use Rattle.operations.specs.inner.ByWords.{leafIn, usingIn, operation, aTruth, chosen, bothBy}
+use Rattle.operations.specs.inner.ByWords.{operandOf, outcomeOf, operandStops, outcomeStops}
+use Rattle.operations.specs.inner.ByWords.{chosenBy}
 use Rattle.evaluator.specs.inner.Results.{FrameWords}
-use Rattle.operations.specs.inner.ByWords.{leafIn, usingIn, operation, aTruth, chosen, operandStops, outcomeStops, operatedBy, asNumber, asAnswer, chosenBy}
-use Rattle.evaluator.specs.inner.ByWords.{numbersOf, aNumber, wanted, WantedResult, numberOf, evalIn, numberIn, truthIn}
-use Rattle.evaluator.proofs.Chains.{keeping-is, number-stopped, stopped-number, stops-answer, stopped, numbers-ran, choice-ran}
+use Rattle.evaluator.specs.inner.ByWords.{numbersOf, aNumber, wantedIn, WantedResult}
+use Rattle.evaluator.specs.inner.ByWords.{numberOf, evalIn, numberIn, truthIn}
+use Rattle.evaluator.proofs.Chains.{only-keeping, number-stopped, stopped-number}
+use Rattle.evaluator.proofs.Chains.{stops-answer, stopped, numbers-ran, choice-ran}
 use Rattle.evaluator.proofs.Nodes.{NodeAt}
 
 module _ (fw vs : List ℕ) (who : Who) where
+  -- the expression of a frame, and its evaluation on a state's words
+  abbrev at : ℕ → Expr
+  at = expressionAt (framesOf fw)
+
+  abbrev run : Expr → List ℕ → Result
+  run x w = evalIn who vs x (countOf w) (cellsOf w)
+
   -- what the recursion gives at frame i: as a value, as a number, as a truth
-  abbrev Ran : ℕ → ℕ → List ℕ → Result → Type 0
-  Ran i n ws x = x ≡ evalIn who vs (expressionAt (framesOf fw) i) n ws
+  abbrev Ran : ℕ → List ℕ → Result → Type 0
+  Ran i w x = x ≡ run (at i) w
 
-  abbrev RanNumber : ℕ → ℕ → List ℕ → WantedResult → Type 0
-  RanNumber i n ws x = x ≡ numberIn who vs (expressionAt (framesOf fw) i) n ws
+  abbrev RanNumber : ℕ → List ℕ → WantedResult → Type 0
+  RanNumber i w x = x ≡ numberIn who vs (at i) (countOf w) (cellsOf w)
 
-  abbrev RanTruth : ℕ → ℕ → List ℕ → Result → Type 0
-  RanTruth i n ws x = x ≡ truthIn who vs (expressionAt (framesOf fw) i) n ws
+  abbrev RanTruth : ℕ → List ℕ → Result → Type 0
+  RanTruth i w x = x ≡ truthIn who vs (at i) (countOf w) (cellsOf w)
 
   -- what follows the first operand of 26 or 27, and the condition of 28
   abbrev second : Operator → ℕ → Value → ℕ → List ℕ → Result
-  second op b v m us = andThen (evalIn who vs (expressionAt (framesOf fw) b) m us) (keeping (numbersOf (operation op) v))
+  second op b v m us = andThen (evalIn who vs (at b) m us) (keeping (numbersOf (operation op) v))
 
   abbrev branch : ℕ → ℕ → Value → ℕ → List ℕ → Result
-  branch b c v m us = andThen (chosen v (evalIn who vs (expressionAt (framesOf fw) b) m us) (evalIn who vs (expressionAt (framesOf fw) c) m us)) (keeping aNumber)
+  branch b c v m us =
+      andThen (chosen v (evalIn who vs (at b) m us) (evalIn who vs (at c) m us)) (keeping aNumber)
 
   -- a value as a number, and as a truth
-  pub to-number : (i n : ℕ) (ws us : List ℕ) (y : Answered) (r : Wanted) → Ran i n ws (after y us) → r ≡ asNumber y → RanNumber i n ws (wanted r us)
-  to-number i n ws us y r k z = ap (λ (x : Wanted). wanted x us) z ∙ ap numberOf k
+  pub to-number : (i : ℕ) (w u : List ℕ) (o : Outcome) (p : Operand)
+      → Ran i w (resultIn o u) → p ≡ operandOf o → RanNumber i w (wantedIn p u)
+  to-number i w u o p k z = ap (λ (q : Operand). wantedIn q u) z ∙ ap numberOf k
 
-  pub to-truth : (i n : ℕ) (ws us : List ℕ) (y r : Answered) → Ran i n ws (after y us) → r ≡ only y aTruth → RanTruth i n ws (after r us)
-  to-truth i n ws us y r k z = keeping-is y r aTruth us z ∙ ap (λ (u : Result). andThen u (keeping aTruth)) k
+  pub to-truth : (i : ℕ) (w u : List ℕ) (o r : Outcome)
+      → Ran i w (resultIn o u) → r ≡ onlyBy o aTruth → RanTruth i w (resultIn r u)
+  to-truth i w u o r k z =
+      ap (λ (p : Outcome). resultIn p u) z
+      ∙ only-keeping o aTruth (countOf u) (cellsOf u)
+      ∙ ap (λ (x : Result). andThen x (keeping aTruth)) k
 
   -- a refusal as a truth: itself
-  pub stopped-truth : (i n : ℕ) (ws us : List ℕ) (y : Answered) → Ran i n ws (after y us) → outcomeStops (y .outcome) ≡ true → RanTruth i n ws (after y us)
-  stopped-truth i n ws us y k h = stopped (after y us) (keeping aTruth) h ∙ ap (λ (u : Result). andThen u (keeping aTruth)) k
+  pub stopped-truth : (i : ℕ) (w u : List ℕ) (o : Outcome)
+      → Ran i w (resultIn o u) → outcomeStops o ≡ true → RanTruth i w (resultIn o u)
+  stopped-truth i w u o k h =
+      stopped (resultIn o u) (keeping aTruth) h ∙ ap (λ (x : Result). andThen x (keeping aTruth)) k
 
-  module _ (i n : ℕ) (ws : List ℕ) (h : FrameWords fw i) where
+  module _ (i : ℕ) (w : List ℕ) (h : FrameWords fw i) where
     -- it is enough to meet the tree that the node makes
-    at-node : (d : ExpressionNode) (r : Result) → NodeAt fw i d → r ≡ evalIn who vs (treeOf (expressionAt (framesOf fw)) i d) n ws → Ran i n ws r
-    at-node d r e k = k ∙ ap (λ (x : Expr). evalIn who vs x n ws) (sym (tree-at (framesOf fw) i d (h .ordered) e))
+    at-node : (d : ExpressionNode) (r : Result)
+        → NodeAt fw i d → r ≡ run (treeOf at i d) w → Ran i w r
+    at-node d r e k =
+        k ∙ ap (λ (x : Expr). run x w) (sym (tree-at (framesOf fw) i d (h .ordered) e))
 
     -- no operand
-    leaf-tree : (l : Leaf) → result (leafIn who vs l) n ws ≡ evalIn who vs (treeOf (expressionAt (framesOf fw)) i (Plain l)) n ws
+    leaf-tree : (l : Leaf)
+        → result (leafIn who vs l) (countOf w) (cellsOf w) ≡ run (treeOf at i (Plain l)) w
     unfolding evalIn leafIn
     leaf-tree (Leaf.Number m) = refl
     leaf-tree (Leaf.Truth s) = refl
     leaf-tree (Leaf.Variable s) = refl
     leaf-tree (Leaf.SharedCell s) = refl
 
-    pub case-plain : (l : Leaf) (o : Outcome) (r : Answered) → NodeAt fw i (Plain l) → o ≡ leafIn who vs l → r ≡ record { outcome = o; used = n } → Ran i n ws (after r ws)
-    case-plain l o r e q z = at-node (Plain l) _ e (ap (λ (x : Answered). after x ws) z ∙ ap (λ (x : Outcome). result x n ws) q ∙ leaf-tree l)
+    pub case-plain : (l : Leaf) (o : Outcome)
+        → NodeAt fw i (Plain l) → o ≡ leafIn who vs l → Ran i w (resultIn o w)
+    case-plain l o e q =
+        at-node (Plain l) _ e (ap (λ (x : Outcome). resultIn x w) q ∙ leaf-tree l)
 
     -- one operand
-    using-tree : (u : CellUse) (a : ℕ) → andThen (evalIn who vs (expressionAt (framesOf fw) a) n ws) (usingIn who u) ≡ evalIn who vs (treeOf (expressionAt (framesOf fw)) i (OfValue u a)) n ws
+    using-tree : (u : CellUse) (a : ℕ)
+        → andThen (run (at a) w) (usingIn who u) ≡ run (treeOf at i (OfValue u a)) w
     unfolding evalIn
     using-tree (Make s) a = refl
     using-tree Read a = refl
 
-    pub case-cells : (u : CellUse) (a : ℕ) (x r : Result) → NodeAt fw i (OfValue u a) → Ran a n ws x → r ≡ andThen x (usingIn who u) → Ran i n ws r
-    case-cells u a x r e q k = at-node (OfValue u a) r e (k ∙ ap (λ (y : Result). andThen y (usingIn who u)) q ∙ using-tree u a)
+    pub case-cells : (u : CellUse) (a : ℕ) (x r : Result)
+        → NodeAt fw i (OfValue u a) → Ran a w x → r ≡ andThen x (usingIn who u) → Ran i w r
+    case-cells u a x r e q k =
+        at-node (OfValue u a) r e
+        (k ∙ ap (λ (y : Result). andThen y (usingIn who u)) q ∙ using-tree u a)
 
-    -- two numbers: the first is refused, or the second is evaluated on the cells that the first left
-    pub case-first : (op : Operator) (a b : ℕ) (x : Wanted) (r : Answered) (ts : List ℕ) → NodeAt fw i (OfNumbers op a b)
-        → RanNumber a n ws (wanted x ts) → operandStops (x .operand) ≡ true → r ≡ asAnswer x → Ran i n ws (after r ts)
+    -- two numbers: the first is refused, or the second is evaluated on what the first left
+    pub case-first : (op : Operator) (a b : ℕ) (p : Operand) (r : Outcome) (t : List ℕ)
+        → NodeAt fw i (OfNumbers op a b) → RanNumber a w (wantedIn p t)
+        → operandStops p ≡ true → r ≡ outcomeOf p → Ran i w (resultIn r t)
     unfolding evalIn
-    case-first op a b x r ts e q t z = at-node (OfNumbers op a b) (after r ts) e (ap (λ (y : Answered). after y ts) z ∙ go op)
+    case-first op a b p r t e q s z =
+        at-node (OfNumbers op a b) (resultIn r t) e
+        (ap (λ (o : Outcome). resultIn o t) z ∙ go op)
       where
-        go : (op : Operator) → after (asAnswer x) ts ≡ evalIn who vs (treeOf (expressionAt (framesOf fw)) i (OfNumbers op a b)) n ws
-        go Sum = number-stopped x (evalIn who vs (expressionAt (framesOf fw) a) n ws) ts (second Sum b) q t
-        go Less = number-stopped x (evalIn who vs (expressionAt (framesOf fw) a) n ws) ts (second Less b) q t
+        go : (op : Operator) → resultIn (outcomeOf p) t ≡ run (treeOf at i (OfNumbers op a b)) w
+        go Sum = number-stopped p (run (at a) w) t (second Sum b) q s
+        go Less = number-stopped p (run (at a) w) t (second Less b) q s
 
     -- the same refusal where a number or a truth is wanted
-    pub first-as-number : (op : Operator) (a b : ℕ) (x : Wanted) (ts : List ℕ) → NodeAt fw i (OfNumbers op a b)
-        → RanNumber a n ws (wanted x ts) → operandStops (x .operand) ≡ true → RanNumber i n ws (wanted x ts)
-    first-as-number op a b x ts e q t = stopped-number x ts t ∙ ap numberOf (case-first op a b x (asAnswer x) ts e q t refl)
+    pub first-as-number : (op : Operator) (a b : ℕ) (p : Operand) (t : List ℕ)
+        → NodeAt fw i (OfNumbers op a b) → RanNumber a w (wantedIn p t)
+        → operandStops p ≡ true → RanNumber i w (wantedIn p t)
+    first-as-number op a b p t e q s =
+        stopped-number p t s ∙ ap numberOf (case-first op a b p (outcomeOf p) t e q s refl)
 
-    pub first-as-truth : (op : Operator) (a b : ℕ) (x : Wanted) (r : Answered) (ts : List ℕ) → NodeAt fw i (OfNumbers op a b)
-        → RanNumber a n ws (wanted x ts) → operandStops (x .operand) ≡ true → r ≡ asAnswer x → RanTruth i n ws (after r ts)
-    first-as-truth op a b x r ts e q t z = stopped-truth i n ws ts r (case-first op a b x r ts e q t z) (ap (λ (y : Answered). outcomeStops (y .outcome)) z ∙ stops-answer (x .operand) t)
+    pub first-as-truth : (op : Operator) (a b : ℕ) (p : Operand) (r : Outcome) (t : List ℕ)
+        → NodeAt fw i (OfNumbers op a b) → RanNumber a w (wantedIn p t)
+        → operandStops p ≡ true → r ≡ outcomeOf p → RanTruth i w (resultIn r t)
+    first-as-truth op a b p r t e q s z =
+        stopped-truth i w t r (case-first op a b p r t e q s z)
+        (ap outcomeStops z ∙ stops-answer p s)
 
-    pub case-both : (op : Operator) (a b : ℕ) (x y : Wanted) (r : Answered) (ts us : List ℕ) → NodeAt fw i (OfNumbers op a b)
-        → RanNumber a n ws (wanted x ts) → operandStops (x .operand) ≡ false → RanNumber b (x .used) ts (wanted y us) → r ≡ operatedBy op x y → Ran i n ws (after r us)
+    pub case-both : (op : Operator) (a b : ℕ) (p q : Operand) (r : Outcome) (t u : List ℕ)
+        → NodeAt fw i (OfNumbers op a b) → RanNumber a w (wantedIn p t)
+        → operandStops p ≡ false → RanNumber b t (wantedIn q u)
+        → r ≡ bothBy op p q → Ran i w (resultIn r u)
     unfolding evalIn
-    case-both op a b x y r ts us e q t k z = at-node (OfNumbers op a b) (after r us) e (ap (λ (y : Answered). after y us) z ∙ go op)
+    case-both op a b p q r t u e x s y z =
+        at-node (OfNumbers op a b) (resultIn r u) e
+        (ap (λ (o : Outcome). resultIn o u) z ∙ go op)
       where
-        go : (op : Operator) → after (operatedBy op x y) us ≡ evalIn who vs (treeOf (expressionAt (framesOf fw)) i (OfNumbers op a b)) n ws
-        go Sum = numbers-ran Sum (evalIn who vs (expressionAt (framesOf fw) b)) (evalIn who vs (expressionAt (framesOf fw) a) n ws) x y ts us q t k
-        go Less = numbers-ran Less (evalIn who vs (expressionAt (framesOf fw) b)) (evalIn who vs (expressionAt (framesOf fw) a) n ws) x y ts us q t k
+        go : (op : Operator) → resultIn (bothBy op p q) u ≡ run (treeOf at i (OfNumbers op a b)) w
+        go Sum = numbers-ran Sum (evalIn who vs (at b)) (run (at a) w) p q t u x s y
+        go Less = numbers-ran Less (evalIn who vs (at b)) (run (at a) w) p q t u x s y
 
     -- a truth, and behind it one of two numbers
-    pub case-condition : (a b c : ℕ) (x : Answered) (ts : List ℕ) → NodeAt fw i (Choose a b c) → RanTruth a n ws (after x ts) → outcomeStops (x .outcome) ≡ true → Ran i n ws (after x ts)
+    pub case-condition : (a b c : ℕ) (o : Outcome) (t : List ℕ)
+        → NodeAt fw i (Choose a b c) → RanTruth a w (resultIn o t)
+        → outcomeStops o ≡ true → Ran i w (resultIn o t)
     unfolding evalIn
-    case-condition a b c x ts e q t = at-node (Choose a b c) (after x ts) e (stopped (after x ts) (branch b c) t ∙ ap (λ (u : Result). andThen u (branch b c)) q)
+    case-condition a b c o t e q s =
+        at-node (Choose a b c) (resultIn o t) e
+        (stopped (resultIn o t) (branch b c) s ∙ ap (λ (x : Result). andThen x (branch b c)) q)
 
-    pub case-choice : (a b c j : ℕ) (x : Answered) (y : Wanted) (r : Answered) (ts us : List ℕ) → NodeAt fw i (Choose a b c)
-        → RanTruth a n ws (after x ts) → outcomeStops (x .outcome) ≡ false → j ≡ chosenBy (x .outcome) b c → RanNumber j (x .used) ts (wanted y us) → r ≡ asAnswer y → Ran i n ws (after r us)
+    pub case-choice : (a b c j : ℕ) (o : Outcome) (p : Operand) (r : Outcome) (t u : List ℕ)
+        → NodeAt fw i (Choose a b c) → RanTruth a w (resultIn o t)
+        → outcomeStops o ≡ false → j ≡ chosenBy o b c → RanNumber j t (wantedIn p u)
+        → r ≡ outcomeOf p → Ran i w (resultIn r u)
     unfolding evalIn
-    case-choice a b c j x y r ts us e q t w k z =
-        at-node (Choose a b c) (after r us) e
-        (ap (λ (y : Answered). after y us) z
-        ∙ choice-ran (λ d m ts. evalIn who vs (expressionAt (framesOf fw) d) m ts) b c j x y ts us t w k
-        ∙ ap (λ (u : Result). andThen u (branch b c)) q)
+    case-choice a b c j o p r t u e q s d k z =
+        at-node (Choose a b c) (resultIn r u) e
+        (ap (λ (x : Outcome). resultIn x u) z
+        ∙ choice-ran (λ f m us. evalIn who vs (at f) m us) b c j o p t u s d k
+        ∙ ap (λ (x : Result). andThen x (branch b c)) q)

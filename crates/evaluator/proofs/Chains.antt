@@ -9,22 +9,22 @@ use Rattle.machine.specs.declared.value.Value.{Value}
 use Rattle.machine.specs.declared.value.Value.the-variants.{Number, Truth, Cell}
 use Rattle.machine.specs.declared.value.Outcome.{Outcome}
 use Rattle.machine.specs.declared.value.Outcome.the-variants.{Is, Foreign, Spent, Stuck}
-use Rattle.operations.specs.declared.Answered.{Answered}
 use Rattle.operations.specs.declared.operand.Operand.{Operand}
-use Rattle.operations.specs.declared.operand.Wanted.{Wanted}
-use Rattle.operations.specs.inner.Results.{Result, after, result, thenBy, andThen, onlyBy, only, keeping}
-use Rattle.operations.specs.inner.ByWords.{operation, numberOr, operandOf, outcomeOf, operandStops, outcomeStops, bothBy, operatedBy, asNumber, asAnswer, chosen, chosenBy}
-use Rattle.evaluator.specs.inner.ByWords.{numbersOf, WantedResult, wanted, numberOf, aNumber}
+use Rattle.operations.specs.inner.Lent.{countOf, cellsOf}
+use Rattle.operations.specs.inner.Results.{Result, result, resultIn, thenBy, andThen, onlyBy}
+use Rattle.operations.specs.inner.Results.{keeping}
+use Rattle.operations.specs.inner.ByWords.{operation, numberOr, operandOf, outcomeOf}
+use Rattle.operations.specs.inner.ByWords.{operandStops, outcomeStops, bothBy, chosen, chosenBy}
+use Rattle.evaluator.specs.inner.ByWords.{numbersOf, WantedResult, wantedIn, numberOf}
+use Rattle.evaluator.specs.inner.ByWords.{aNumber}
 
--- ---- what changes no cell: `only`, and `keeping` beside any cells
-only-keeping : (o : Outcome) (k : Value → Outcome) (n : ℕ) (ws : List ℕ) → result (onlyBy o k) n ws ≡ thenBy o n ws (keeping k)
+-- ---- what changes no cell: `onlyBy`, and `keeping` beside any cells
+pub only-keeping : (o : Outcome) (k : Value → Outcome) (n : ℕ) (ws : List ℕ)
+    → result (onlyBy o k) n ws ≡ thenBy o n ws (keeping k)
 only-keeping (Is v) k n ws = refl
 only-keeping Foreign k n ws = refl
 only-keeping Spent k n ws = refl
 only-keeping Stuck k n ws = refl
-
-pub keeping-is : (x r : Answered) (k : Value → Outcome) (ws : List ℕ) → r ≡ only x k → after r ws ≡ andThen (after x ws) (keeping k)
-keeping-is x r k ws e = ap (λ (d : Answered). after d ws) e ∙ only-keeping (x .outcome) k (x .used) ws
 
 -- ---- chains of two
 -- a chain on the left is regrouped
@@ -47,10 +47,13 @@ stopped-then Foreign n ws k h = refl
 stopped-then Spent n ws k h = refl
 stopped-then Stuck n ws k h = refl
 
-pub number-stopped : (x : Wanted) (l : Result) (ws : List ℕ) (k : Value → ℕ → List ℕ → Result) → wanted x ws ≡ numberOf l → operandStops (x .operand) ≡ true → after (asAnswer x) ws ≡ andThen l k
-number-stopped x l ws k e h =
+-- w: the state's words behind it
+pub number-stopped : (p : Operand) (l : Result) (w : List ℕ) (k : Value → ℕ → List ℕ → Result)
+    → wantedIn p w ≡ numberOf l → operandStops p ≡ true → resultIn (outcomeOf p) w ≡ andThen l k
+number-stopped p l w k e h =
     ap (λ (r : WantedResult). result (outcomeOf (r .operand)) (r .used) (r .words)) e
-    ∙ stopped-then (l .outcome) (l .used) (l .words) k (sym (ap (λ (r : WantedResult). operandStops (r .operand)) e) ∙ h)
+    ∙ stopped-then (l .outcome) (l .used) (l .words) k
+    (sym (ap (λ (r : WantedResult). operandStops (r .operand)) e) ∙ h)
 
 -- a refusal is the same, wanted as a number or not
 stops-same : (p : Operand) → operandStops p ≡ true → p ≡ operandOf (outcomeOf p)
@@ -60,8 +63,9 @@ stops-same Operand.Foreign h = refl
 stops-same Operand.Spent h = refl
 stops-same Operand.Stuck h = refl
 
-pub stopped-number : (x : Wanted) (ws : List ℕ) → operandStops (x .operand) ≡ true → wanted x ws ≡ wanted (asNumber (asAnswer x)) ws
-stopped-number x ws h = ap (λ (p : Operand). wanted (record { operand = p; used = x .used }) ws) (stops-same (x .operand) h)
+pub stopped-number : (p : Operand) (w : List ℕ) → operandStops p ≡ true
+    → wantedIn p w ≡ wantedIn (operandOf (outcomeOf p)) w
+stopped-number p w h = ap (λ (q : Operand). wantedIn q w) (stops-same p h)
 
 pub stops-answer : (p : Operand) → operandStops p ≡ true → outcomeStops (outcomeOf p) ≡ true
 stops-answer (Operand.Number m) h = absurd (false≢true h)
@@ -103,12 +107,19 @@ second-ran op e Foreign n ws h = absurd (true≢false h)
 second-ran op e Spent n ws h = absurd (true≢false h)
 second-ran op e Stuck n ws h = absurd (true≢false h)
 
-pub numbers-ran : (op : Operator) (e : ℕ → List ℕ → Result) (l : Result) (x y : Wanted) (ts us : List ℕ) → wanted x ts ≡ numberOf l → operandStops (x .operand) ≡ false → wanted y us ≡ numberOf (e (x .used) ts)
-    → after (operatedBy op x y) us ≡ andThen l (λ v m us. andThen (e m us) (keeping (numbersOf (operation op) v)))
-numbers-ran op e l x y ts us q h k =
-    ap (λ (r : WantedResult). result (bothBy op (x .operand) (r .operand)) (r .used) (r .words)) k
-    ∙ ap (λ (r : WantedResult). result (bothBy op (r .operand) (operandOf (e (r .used) (r .words) .outcome))) (e (r .used) (r .words) .used) (e (r .used) (r .words) .words)) q
-    ∙ second-ran op e (l .outcome) (l .used) (l .words) (sym (ap (λ (r : WantedResult). operandStops (r .operand)) q) ∙ h)
+-- t: the state's words behind the first operand, u: behind the second
+pub numbers-ran : (op : Operator) (e : ℕ → List ℕ → Result) (l : Result) (p q : Operand)
+    (t u : List ℕ) → wantedIn p t ≡ numberOf l → operandStops p ≡ false
+    → wantedIn q u ≡ numberOf (e (countOf t) (cellsOf t))
+    → resultIn (bothBy op p q) u
+    ≡ andThen l (λ v m us. andThen (e m us) (keeping (numbersOf (operation op) v)))
+numbers-ran op e l p q t u f h k =
+    ap (λ (r : WantedResult). result (bothBy op p (r .operand)) (r .used) (r .words)) k
+    ∙ ap (λ (r : WantedResult).
+    let x = e (r .used) (r .words) in
+    result (bothBy op (r .operand) (operandOf (x .outcome))) (x .used) (x .words)) f
+    ∙ second-ran op e (l .outcome) (l .used) (l .words)
+    (sym (ap (λ (r : WantedResult). operandStops (r .operand)) f) ∙ h)
 
 -- 28's chosen value: a number, or 20
 number-kept : (o : Outcome) (n : ℕ) (ws : List ℕ) → result (outcomeOf (operandOf o)) n ws ≡ thenBy o n ws (keeping aNumber)
@@ -133,10 +144,13 @@ then-chosen e b c Foreign n ws h = absurd (true≢false h)
 then-chosen e b c Spent n ws h = absurd (true≢false h)
 then-chosen e b c Stuck n ws h = absurd (true≢false h)
 
-pub choice-ran : (e : ℕ → ℕ → List ℕ → Result) (b c j : ℕ) (x : Answered) (y : Wanted) (ts us : List ℕ) → outcomeStops (x .outcome) ≡ false → j ≡ chosenBy (x .outcome) b c → wanted y us ≡ numberOf (e j (x .used) ts)
-    → after (asAnswer y) us ≡ andThen (after x ts) (λ v m us. andThen (chosen v (e b m us) (e c m us)) (keeping aNumber))
-choice-ran e b c j x y ts us h w k =
+pub choice-ran : (e : ℕ → ℕ → List ℕ → Result) (b c j : ℕ) (o : Outcome) (q : Operand)
+    (t u : List ℕ) → outcomeStops o ≡ false → j ≡ chosenBy o b c
+    → wantedIn q u ≡ numberOf (e j (countOf t) (cellsOf t))
+    → resultIn (outcomeOf q) u
+    ≡ andThen (resultIn o t) (λ v m us. andThen (chosen v (e b m us) (e c m us)) (keeping aNumber))
+choice-ran e b c j o q t u h w k =
     ap (λ (r : WantedResult). result (outcomeOf (r .operand)) (r .used) (r .words)) k
-    ∙ (let r = e j (x .used) ts in number-kept (r .outcome) (r .used) (r .words))
-    ∙ ap (λ (d : ℕ). andThen (e d (x .used) ts) (keeping aNumber)) w
-    ∙ then-chosen e b c (x .outcome) (x .used) ts h
+    ∙ (let r = e j (countOf t) (cellsOf t) in number-kept (r .outcome) (r .used) (r .words))
+    ∙ ap (λ (d : ℕ). andThen (e d (countOf t) (cellsOf t)) (keeping aNumber)) w
+    ∙ then-chosen e b c o (countOf t) (cellsOf t) h

@@ -1,59 +1,71 @@
--- One lent buffer, a state's words, with the acting thread's variables and the cells in it: what a
--- call leaves of it, and that the variables stay as they are. Assumes nothing.
+-- One lent buffer, a state's words, with the acting thread's variables and the cells in it: a call
+-- leaves the variables as they are. Assumes nothing.
 use mathlib.Core.Path.{_≡_, refl, sym, ap, _∙_, subst}
-use mathlib.Core.List.{List, [], _∷_, _++_, append-nil}
+use mathlib.Core.List.{List, [], _∷_}
 use Prim.Native.Nat.{ℕ, zero, suc, _+_, _-_, _<_, _≤_}
 use native.Mathlib.Omega.{arith}
 use native.Mathlib.Nat.{lt-trans}
-use lib.ListN.{length, getD, take, drop, length-drop, drop-of-length-le}
-use lib.Seq.{take-take, take-all, length-take-le, take-at, drop-at, getD-take}
+use lib.ListN.{length, getD, take, drop}
+use lib.Seq.{take-take, getD-take, getD-set-other, drop-set-lt}
 use Rattle.language.specs.Limits.{mostVariables}
 use Rattle.text.specs.Frames.{framesOf}
 use Rattle.program.specs.Trees.{expressionAt}
 use Rattle.program.specs.declared.node.Leaf.{Leaf}
-use Rattle.machine.specs.Offsets.{cellsAt, variablesField}
-use Rattle.machine.specs.declared.value.Value.{Value}
+use Rattle.machine.specs.Offsets.{cellCountAt, cellsAt, variablesField}
 use Rattle.machine.specs.declared.value.Outcome.{Outcome}
 use Rattle.operations.specs.declared.Who.{Who}
-use Rattle.operations.specs.declared.Answered.{Answered}
-use Rattle.operations.specs.inner.Results.{Result, after, andThen}
+use Rattle.operations.specs.inner.Lent.{Lent, threadFrom, variableCount, variablesOf}
+use Rattle.operations.specs.inner.Lent.{countOf, cellsOf, restOf}
+use Rattle.operations.specs.inner.Results.{Result}
 use Rattle.operations.specs.inner.ByWords.{leafIn}
 use Rattle.evaluator.specs.inner.Results.{FrameWords}
 use Rattle.evaluator.specs.inner.ByWords.{WantedResult, evalIn, numberIn}
-use Rattle.evaluator.specs.inner.Lent.{Lent, threadFrom, variableCount}
-use Rattle.evaluator.specs.inner.Lent.{variablesOf, cellsOf, restOf}
 
--- ---- what stays: all before the cells, and so the variables
+-- ---- what stays: all before the cells but their count, and so the variables
 part-kept : (p n q : ℕ) (l : List ℕ) → p + n ≤ q → take n (drop p (take q l)) ≡ take n (drop p l)
 part-kept zero n q l h = take-take n q l (omega arith)
 part-kept (suc p) n zero l h = absurd (omega arith)
 part-kept (suc p) n (suc q) [] h = refl
 part-kept (suc p) n (suc q) (x ∷ l) h = part-kept p n q l (omega arith)
 
+rest-at : (w : List ℕ) (j : ℕ) → cellCountAt < j → j < cellsAt → getD (restOf w) j 0 ≡ getD w j 0
+unfolding restOf
+rest-at w j h g =
+    getD-set-other (take cellsAt w) cellCountAt j 0 0 (λ e. omega arith)
+    ∙ getD-take cellsAt w j 0 g
+
+rest-part : (w : List ℕ) (p n : ℕ) → cellCountAt < p → p + n ≤ cellsAt
+    → take n (drop p (restOf w)) ≡ take n (drop p w)
+unfolding restOf
+rest-part w p n h g =
+    ap (take n) (drop-set-lt p (take cellsAt w) cellCountAt 0 h) ∙ part-kept p n cellsAt w g
+
 module _ (who : Who) (w v : List ℕ) where
   count-kept : restOf v ≡ restOf w → Lent who w → variableCount who v ≡ variableCount who w
-  unfolding restOf variableCount
+  unfolding variableCount
   count-kept e l =
       let low = l .first in
       let high = l .last in
+      let behind : cellCountAt < threadFrom who + variablesField = omega arith in
       let before : threadFrom who + variablesField < cellsAt = omega arith in
-      sym (getD-take cellsAt v _ 0 before)
+      sym (rest-at v _ behind before)
       ∙ ap (λ (y : List ℕ). getD y (threadFrom who + variablesField) 0) e
-      ∙ getD-take cellsAt w _ 0 before
+      ∙ rest-at w _ behind before
 
   pub variables-kept : restOf v ≡ restOf w → Lent who w → variablesOf who v ≡ variablesOf who w
-  unfolding restOf variablesOf
+  unfolding variablesOf
   variables-kept e l =
       let low = l .first in
       let high = l .last in
       let few = l .few in
       let from : ℕ = threadFrom who + variablesField + 1 in
       let n : ℕ = variableCount who w in
+      let behind : cellCountAt < from = omega arith in
       let before : from + n ≤ cellsAt = omega arith in
       ap (λ (m : ℕ). take m (drop from v)) (count-kept e l)
-      ∙ sym (part-kept from n cellsAt v before)
+      ∙ sym (rest-part v from n behind before)
       ∙ ap (λ (y : List ℕ). take n (drop from y)) e
-      ∙ part-kept from n cellsAt w before
+      ∙ rest-part w from n behind before
 
   -- the words behind a call may be lent again
   pub lent-again : Lent who w → restOf v ≡ restOf w → length v ≡ length w → Lent who v
@@ -97,42 +109,20 @@ module _ (who : Who) (w : List ℕ) (l : Lent who w) where
       ∙ ap (λ (m : ℕ). leafIn who (take n (drop m w)) leaf) start
 
 -- a second operand sees the same variables
-module _ (fw : List ℕ) (who : Who) (b n : ℕ) (w v : List ℕ) where
+module _ (fw : List ℕ) (who : Who) (b : ℕ) (w v : List ℕ) where
   pub again-number : (y : WantedResult) → Lent who w → restOf v ≡ restOf w
-      → y ≡ numberIn who (variablesOf who v) (expressionAt (framesOf fw) b) n (cellsOf v)
-      → y ≡ numberIn who (variablesOf who w) (expressionAt (framesOf fw) b) n (cellsOf v)
+      → y ≡ numberIn who (variablesOf who v) (expressionAt (framesOf fw) b) (countOf v) (cellsOf v)
+      → y ≡ numberIn who (variablesOf who w) (expressionAt (framesOf fw) b) (countOf v) (cellsOf v)
   again-number y l e h =
       h
-      ∙ ap (λ (vs : List ℕ). numberIn who vs (expressionAt (framesOf fw) b) n (cellsOf v))
+      ∙ ap (λ (vs : List ℕ).
+      numberIn who vs (expressionAt (framesOf fw) b) (countOf v) (cellsOf v))
       (variables-kept who w v e l)
 
   pub again-value : (y : Result) → Lent who w → restOf v ≡ restOf w
-      → y ≡ evalIn who (variablesOf who v) (expressionAt (framesOf fw) b) n (cellsOf v)
-      → y ≡ evalIn who (variablesOf who w) (expressionAt (framesOf fw) b) n (cellsOf v)
+      → y ≡ evalIn who (variablesOf who v) (expressionAt (framesOf fw) b) (countOf v) (cellsOf v)
+      → y ≡ evalIn who (variablesOf who w) (expressionAt (framesOf fw) b) (countOf v) (cellsOf v)
   again-value y l e h =
       h
-      ∙ ap (λ (vs : List ℕ). evalIn who vs (expressionAt (framesOf fw) b) n (cellsOf v))
+      ∙ ap (λ (vs : List ℕ). evalIn who vs (expressionAt (framesOf fw) b) (countOf v) (cellsOf v))
       (variables-kept who w v e l)
-
--- ---- the cells where they lie: lent on as a part, ds behind the call
-pub use-in : (f : Value → ℕ → List ℕ → Result) (x r : Answered) (who : Who) (w v ds u : List ℕ)
-    → Lent who w → restOf v ≡ restOf w → length v ≡ length w
-    → after r ds ≡ andThen (after x (take (length v - cellsAt) (drop cellsAt v))) f
-    → u ≡ take cellsAt v ++ (ds ++ drop (length v - cellsAt) (drop cellsAt v))
-    → (after r (cellsOf u) ≡ andThen (after x (cellsOf v)) f) × (restOf u ≡ restOf w)
-unfolding cellsOf restOf
-use-in f x r who w v ds u l e s h z =
-    let all = l .all in
-    let there : cellsAt ≤ length v = omega arith in
-    let front = length-take-le cellsAt v there in
-    let t : length (drop cellsAt v) ≤ length v - cellsAt = rw length-drop (omega arith) in (
-      ap (after r)
-          (ap (drop cellsAt) z
-          ∙ drop-at (take cellsAt v) _ cellsAt front
-          ∙ ap (λ (y : List ℕ). ds ++ y) (drop-of-length-le (drop cellsAt v) t)
-          ∙ append-nil ds)
-          ∙ h
-          ∙ ap (λ (y : List ℕ). andThen (after x y) f)
-          (take-all (length v - cellsAt) (drop cellsAt v) t),
-      ap (take cellsAt) z ∙ take-at (take cellsAt v) _ cellsAt front ∙ e,
-    )

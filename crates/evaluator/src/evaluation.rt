@@ -1,12 +1,10 @@
 // Evaluation: numbers and truths call each other, and the frame number falls at each call.
-use machine::offset::CELLS_AT;
 use machine::offset::THREAD_LENGTH;
 use machine::offset::THREADS_AT;
 use machine::offset::VARIABLES_FIELD;
 use machine::value::Outcome;
-use operations::Answered;
 use operations::Who;
-use operations::operand::Wanted;
+use operations::operand::Operand;
 use operations::operand::as_answer;
 use operations::operand::as_number;
 use operations::operand::branch;
@@ -14,7 +12,6 @@ use operations::operand::number_stops;
 use operations::operand::operated;
 use operations::operand::stops;
 use operations::operand::then_truth;
-use operations::operation::answer_of;
 use operations::operation::leaf;
 use operations::operation::then_store;
 use operations::operation::then_use;
@@ -27,12 +24,12 @@ ghost use Rattle.text.specs.Frames.{framesOf};
 ghost use Rattle.program.specs.Trees.{frameAt, expressionAt};
 ghost use Rattle.program.specs.inner.Nodes.{expressionNode};
 ghost use Rattle.machine.specs.Evaluation.{eval, storing};
-ghost use Rattle.operations.specs.inner.Results.{after};
+ghost use Rattle.operations.specs.inner.Lent.{Lent, variablesOf, countOf, cellsOf, restOf};
+ghost use Rattle.operations.specs.inner.Results.{resultIn};
 ghost use Rattle.operations.specs.inner.ByWords.{leafIn};
 ghost use Rattle.evaluator.specs.inner.Results.{hereOf, onWords};
 ghost use Rattle.evaluator.specs.inner.Results.{CellWords, ValueWords, FrameWords};
-ghost use Rattle.evaluator.specs.inner.Lent.{Lent, variablesOf, cellsOf, restOf};
-ghost use Rattle.evaluator.specs.inner.ByWords.{evalIn, wanted, numberIn, truthIn};
+ghost use Rattle.evaluator.specs.inner.ByWords.{evalIn, wantedIn, numberIn, truthIn};
 
 // The node that frame i is. There is such a frame: the recursion goes from frames of the file to
 // their children.
@@ -54,138 +51,143 @@ fn leaf_at(who: Who, state: &[u64], l: Leaf) -> Outcome
 }
 
 // The value of frame i, of any kind.
-fn value_at(frames: &[u64], who: Who, state: &mut [u64], used: usize, i: u16) -> Answered
+fn value_at(frames: &[u64], who: Who, state: &mut [u64], i: u16) -> Outcome
     requires { ⌜ FrameWords (now frames) i × Lent who (now state) ⌝ }
-    ensures found { λ r. ⌜ after r (cellsOf (now (state .exit)))
+    ensures found { λ r. ⌜ resultIn r (now (state .exit))
         ≡ evalIn who (variablesOf who (now (state .entry)))
-        (expressionAt (framesOf (now (frames .entry))) i) used (cellsOf (now (state .entry))) ⌝ }
+        (expressionAt (framesOf (now (frames .entry))) i)
+        (countOf (now (state .entry))) (cellsOf (now (state .entry))) ⌝ }
     ensures rest { λ _. ⌜ restOf (now (state .exit)) ≡ restOf (now (state .entry)) ⌝ }
 {
     match node_at(frames, i) {
-        ExpressionNode::Plain(l) => answer_of(leaf_at(who, state, l), used),
+        ExpressionNode::Plain(l) => leaf_at(who, state, l),
         ExpressionNode::OfValue(u, a) => {
-            let x = value_at(frames, who, state, used, a);
-            then_use(u, who, x, &mut state[CELLS_AT..])
+            let x = value_at(frames, who, state, a);
+            then_use(u, who, x, state)
         },
         ExpressionNode::OfNumbers(op, a, b) => {
-            let x = number_at(frames, who, state, used, a);
-            if number_stops(x) {
-                return as_answer(x);
+            let p = number_at(frames, who, state, a);
+            if number_stops(p) {
+                return as_answer(p);
             }
-            let y = number_at(frames, who, state, x.used, b);
-            operated(op, x, y)
+            let q = number_at(frames, who, state, b);
+            operated(op, p, q)
         },
         ExpressionNode::Choose(a, b, c) => {
-            let x = truth_at(frames, who, state, used, a);
+            let x = truth_at(frames, who, state, a);
             if stops(x) {
                 return x;
             }
-            let y = number_at(frames, who, state, x.used, branch(x, b, c));
-            as_answer(y)
+            let p = number_at(frames, who, state, branch(x, b, c));
+            as_answer(p)
         },
     }
 }
 
 // The number of frame i. A wrong kind is not refused here: it waits until the frame that wants the
 // number has evaluated all that it evaluates.
-fn number_at(frames: &[u64], who: Who, state: &mut [u64], used: usize, i: u16) -> Wanted
+fn number_at(frames: &[u64], who: Who, state: &mut [u64], i: u16) -> Operand
     requires { ⌜ FrameWords (now frames) i × Lent who (now state) ⌝ }
-    ensures found { λ r. ⌜ wanted r (cellsOf (now (state .exit)))
+    ensures found { λ r. ⌜ wantedIn r (now (state .exit))
         ≡ numberIn who (variablesOf who (now (state .entry)))
-        (expressionAt (framesOf (now (frames .entry))) i) used (cellsOf (now (state .entry))) ⌝ }
+        (expressionAt (framesOf (now (frames .entry))) i)
+        (countOf (now (state .entry))) (cellsOf (now (state .entry))) ⌝ }
     ensures rest { λ _. ⌜ restOf (now (state .exit)) ≡ restOf (now (state .entry)) ⌝ }
 {
     match node_at(frames, i) {
-        ExpressionNode::Plain(l) => as_number(answer_of(leaf_at(who, state, l), used)),
+        ExpressionNode::Plain(l) => as_number(leaf_at(who, state, l)),
         ExpressionNode::OfValue(u, a) => {
-            let x = value_at(frames, who, state, used, a);
-            as_number(then_use(u, who, x, &mut state[CELLS_AT..]))
+            let x = value_at(frames, who, state, a);
+            as_number(then_use(u, who, x, state))
         },
         ExpressionNode::OfNumbers(op, a, b) => {
-            let x = number_at(frames, who, state, used, a);
-            if number_stops(x) {
-                return x;
+            let p = number_at(frames, who, state, a);
+            if number_stops(p) {
+                return p;
             }
-            let y = number_at(frames, who, state, x.used, b);
-            as_number(operated(op, x, y))
+            let q = number_at(frames, who, state, b);
+            as_number(operated(op, p, q))
         },
         ExpressionNode::Choose(a, b, c) => {
-            let x = truth_at(frames, who, state, used, a);
+            let x = truth_at(frames, who, state, a);
             if stops(x) {
                 return as_number(x);
             }
-            let y = number_at(frames, who, state, x.used, branch(x, b, c));
-            as_number(as_answer(y))
+            let p = number_at(frames, who, state, branch(x, b, c));
+            as_number(as_answer(p))
         },
     }
 }
 
 // The truth of frame i. A wrong kind is refused here: 28's condition is tested before its branch.
-fn truth_at(frames: &[u64], who: Who, state: &mut [u64], used: usize, i: u16) -> Answered
+fn truth_at(frames: &[u64], who: Who, state: &mut [u64], i: u16) -> Outcome
     requires { ⌜ FrameWords (now frames) i × Lent who (now state) ⌝ }
-    ensures found { λ r. ⌜ after r (cellsOf (now (state .exit)))
+    ensures found { λ r. ⌜ resultIn r (now (state .exit))
         ≡ truthIn who (variablesOf who (now (state .entry)))
-        (expressionAt (framesOf (now (frames .entry))) i) used (cellsOf (now (state .entry))) ⌝ }
+        (expressionAt (framesOf (now (frames .entry))) i)
+        (countOf (now (state .entry))) (cellsOf (now (state .entry))) ⌝ }
     ensures rest { λ _. ⌜ restOf (now (state .exit)) ≡ restOf (now (state .entry)) ⌝ }
 {
     match node_at(frames, i) {
-        ExpressionNode::Plain(l) => then_truth(answer_of(leaf_at(who, state, l), used)),
+        ExpressionNode::Plain(l) => then_truth(leaf_at(who, state, l)),
         ExpressionNode::OfValue(u, a) => {
-            let x = value_at(frames, who, state, used, a);
-            then_truth(then_use(u, who, x, &mut state[CELLS_AT..]))
+            let x = value_at(frames, who, state, a);
+            then_truth(then_use(u, who, x, state))
         },
         ExpressionNode::OfNumbers(op, a, b) => {
-            let x = number_at(frames, who, state, used, a);
-            if number_stops(x) {
-                return as_answer(x);
+            let p = number_at(frames, who, state, a);
+            if number_stops(p) {
+                return as_answer(p);
             }
-            let y = number_at(frames, who, state, x.used, b);
-            then_truth(operated(op, x, y))
+            let q = number_at(frames, who, state, b);
+            then_truth(operated(op, p, q))
         },
         ExpressionNode::Choose(a, b, c) => {
-            let x = truth_at(frames, who, state, used, a);
+            let x = truth_at(frames, who, state, a);
             if stops(x) {
                 return x;
             }
-            let y = number_at(frames, who, state, x.used, branch(x, b, c));
-            then_truth(as_answer(y))
+            let p = number_at(frames, who, state, branch(x, b, c));
+            then_truth(as_answer(p))
         },
     }
 }
 
 // The value of frame i of a file, on the state that the words are: the acting thread's variables
-// are read where they lie, and nothing but the cells is written. Each `requires` is what refusals
-// 3, 6 and 14 leave: the words of cells and of values are in range, the thread's variables fit
-// their space, children stand before their parents, and frame i is there.
-pub fn evaluate(frames: &[u64], who: Who, state: &mut [u64], used: usize, i: u16) -> Answered
+// are read where they lie, and nothing but the cells and their count is written. Each `requires`
+// is what refusals 3, 6 and 14 leave: the words of cells and of values are in range, the thread's
+// variables fit their space, children stand before their parents, and frame i is there.
+pub fn evaluate(frames: &[u64], who: Who, state: &mut [u64], i: u16) -> Outcome
     requires { ⌜ FrameWords (now frames) i × Lent who (now state)
-        × ValueWords (variablesOf who (now state)) × CellWords used (cellsOf (now state)) ⌝ }
-    ensures found { λ r. ⌜ after r (cellsOf (now (state .exit)))
+        × ValueWords (variablesOf who (now state))
+        × CellWords (countOf (now state)) (cellsOf (now state)) ⌝ }
+    ensures found { λ r. ⌜ resultIn r (now (state .exit))
         ≡ onWords (eval (hereOf who (variablesOf who (now (state .entry))))
-        (expressionAt (framesOf (now (frames .entry))) i)) used (cellsOf (now (state .entry))) ⌝ }
+        (expressionAt (framesOf (now (frames .entry))) i))
+        (countOf (now (state .entry))) (cellsOf (now (state .entry))) ⌝ }
     ensures rest { λ _. ⌜ restOf (now (state .exit)) ≡ restOf (now (state .entry)) ⌝ }
 {
-    value_at(frames, who, state, used, i)
+    value_at(frames, who, state, i)
 }
 
 // 17: the value of frame b stored in the cell that frame a gives. It asks the same of its words,
 // and that both frames are there.
-pub fn store(frames: &[u64], who: Who, state: &mut [u64], used: usize, a: u16, b: u16) -> Answered
+pub fn store(frames: &[u64], who: Who, state: &mut [u64], a: u16, b: u16) -> Outcome
     requires { ⌜ FrameWords (now frames) a × FrameWords (now frames) b
         × Lent who (now state) × ValueWords (variablesOf who (now state))
-        × CellWords used (cellsOf (now state)) ⌝ }
-    ensures found { λ r. ⌜ after r (cellsOf (now (state .exit)))
+        × CellWords (countOf (now state)) (cellsOf (now state)) ⌝ }
+    ensures found { λ r. ⌜ resultIn r (now (state .exit))
         ≡ onWords (storing (hereOf who (variablesOf who (now (state .entry))))
         (expressionAt (framesOf (now (frames .entry))) a)
-        (expressionAt (framesOf (now (frames .entry))) b)) used (cellsOf (now (state .entry))) ⌝ }
+        (expressionAt (framesOf (now (frames .entry))) b))
+        (countOf (now (state .entry))) (cellsOf (now (state .entry))) ⌝ }
     ensures rest { λ _. ⌜ restOf (now (state .exit)) ≡ restOf (now (state .entry)) ⌝ }
 {
-    let x = value_at(frames, who, state, used, a);
-    let o = x.outcome;
-    match o {
+    let x = value_at(frames, who, state, a);
+    match x {
         Outcome::Is(v) => {
-            let y = value_at(frames, who, state, x.used, b);
-            then_store(who, v, y, &mut state[CELLS_AT..])
+            let y = value_at(frames, who, state, b);
+            then_store(who, v, y, state)
         },
         Outcome::Foreign => x,
         Outcome::Spent => x,

@@ -7,8 +7,7 @@ use Rattle.machine.specs.declared.value.Value.{Value}
 use Rattle.machine.specs.declared.value.Outcome.{Outcome}
 use Rattle.machine.specs.declared.value.Outcome.the-variants.{Is, Foreign, Spent, Stuck}
 use Rattle.operations.specs.declared.Who.{Who}
-use Rattle.operations.specs.declared.Answered.{Answered}
-use Rattle.operations.specs.inner.Results.{Result, result, thenBy, andThen, onlyBy, only}
+use Rattle.operations.specs.inner.Results.{Result, result, thenBy, andThen}
 use Rattle.operations.specs.inner.ByWords.{usingIn}
 
 -- an outcome that is no value
@@ -18,7 +17,6 @@ Refused Foreign = Unit {0}
 Refused Spent = Unit {0}
 Refused Stuck = Unit {0}
 
--- ---- what may change cells: `andThen`
 pub then-is : (x : Result) (v : Value) (k : Value → ℕ → List ℕ → Result) (r : Result) → x .outcome ≡ Is v → r ≡ k v (x .used) (x .words) → r ≡ andThen x k
 then-is x v k r e h = h ∙ sym (ap (λ (o : Outcome). thenBy o (x .used) (x .words) k) e)
 
@@ -33,16 +31,3 @@ then-keeps x k o e n = refused-then (x .outcome) (x .used) (x .words) k (subst R
 
 pub using-row : (who : Who) (u v : CellUse) (x r : Result) → u ≡ v → r ≡ andThen x (usingIn who v) → r ≡ andThen x (usingIn who u)
 using-row who u v x r e h = h ∙ sym (ap (λ (y : CellUse). andThen x (usingIn who y)) e)
-
--- ---- what changes no cell: `only`
-pub only-is : (x : Answered) (v : Value) (k : Value → Outcome) (r : Outcome) → x .outcome ≡ Is v → r ≡ k v → record { outcome = r; used = x .used } ≡ only x k
-only-is x v k r e h = ap (λ (o : Outcome). record { outcome = o; used = x .used }) (h ∙ sym (ap (λ (o : Outcome). onlyBy o k) e))
-
-refused-only : (o : Outcome) (k : Value → Outcome) → Refused o → o ≡ onlyBy o k
-refused-only (Is v) k h = absurd h
-refused-only Foreign k h = refl
-refused-only Spent k h = refl
-refused-only Stuck k h = refl
-
-pub only-keeps : (x : Answered) (k : Value → Outcome) (o : Outcome) → x .outcome ≡ o → Refused o → x ≡ only x k
-only-keeps x k o e n = ap (λ (p : Outcome). record { outcome = p; used = x .used }) (refused-only (x .outcome) k (subst Refused (sym e) n))

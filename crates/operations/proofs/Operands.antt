@@ -10,10 +10,9 @@ use Rattle.machine.specs.declared.value.Value.{Value}
 use Rattle.machine.specs.declared.value.Value.the-variants.{Number, Truth}
 use Rattle.machine.specs.declared.value.Outcome.{Outcome}
 use Rattle.machine.specs.declared.value.Outcome.the-variants.{Is}
-use Rattle.operations.specs.declared.Answered.{Answered}
 use Rattle.operations.specs.declared.operand.Operand.{Operand}
-use Rattle.operations.specs.declared.operand.Wanted.{Wanted}
-use Rattle.operations.specs.inner.ByWords.{operation, firstBy, bothBy, operatedBy, numberOr, operandOf, asNumber, outcomeOf, asAnswer, aTruth, chosen, chosenBy}
+use Rattle.operations.specs.inner.ByWords.{operation, firstBy, bothBy, numberOr, outcomeOf}
+use Rattle.operations.specs.inner.ByWords.{aTruth, chosen, chosenBy}
 
 -- ---- numbers and truths
 pub is-truth : (v : Value) (b : Bool) → v ≡ Truth b → Is (Truth b) ≡ aTruth v
@@ -31,20 +30,11 @@ first-number op p m n v e h = ap Is h ∙ sym (ap (λ (x : Operand). firstBy op 
 pub both-row : (op : Operator) (p q w : Operand) (r : Outcome) → q ≡ w → r ≡ bothBy op p w → r ≡ bothBy op p q
 both-row op p q w r e h = h ∙ sym (ap (bothBy op p) e)
 
-pub operated-is : (op : Operator) (x y : Wanted) (r : Outcome) → r ≡ bothBy op (x .operand) (y .operand) → record { outcome = r; used = y .used } ≡ operatedBy op x y
-operated-is op x y r e = ap (λ (o : Outcome). record { outcome = o; used = y .used }) e
-
 pub number-row : (v w : Value) (r : Operand) → v ≡ w → r ≡ numberOr w → r ≡ numberOr v
 number-row v w r e h = h ∙ sym (ap numberOr e)
 
-pub as-number-is : (x : Answered) (r : Operand) → r ≡ operandOf (x .outcome) → record { operand = r; used = x .used } ≡ asNumber x
-as-number-is x r e = ap (λ (o : Operand). record { operand = o; used = x .used }) e
-
 pub outcome-row : (p q : Operand) (r : Outcome) → p ≡ q → r ≡ outcomeOf q → r ≡ outcomeOf p
 outcome-row p q r e h = h ∙ sym (ap outcomeOf e)
-
-pub as-answer-is : (x : Wanted) (r : Outcome) → r ≡ outcomeOf (x .operand) → record { outcome = r; used = x .used } ≡ asAnswer x
-as-answer-is x r e = ap (λ (o : Outcome). record { outcome = o; used = x .used }) e
 
 -- ---- which of two frames a truth chooses
 pub chosen-first : (v : Value) (t : Bool) (b c : ℕ) → v ≡ Truth t → t ≡ true → b ≡ chosen v b c

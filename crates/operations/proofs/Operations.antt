@@ -13,13 +13,16 @@ use Rattle.basics.proofs.Ifs.{if-all, if-yes, if-no, yes, no}
 use Rattle.language.specs.Places.{private}
 use Rattle.language.specs.Limits.{mostCells}
 use Rattle.program.specs.declared.node.Leaf.{Leaf}
+use Rattle.machine.specs.Offsets.{stateLength, cellCountAt, cellsAt}
 use Rattle.machine.specs.declared.value.Value.{Value}
 use Rattle.machine.specs.declared.value.Value.the-variants.{Number, Truth, Cell}
 use Rattle.machine.specs.declared.value.Outcome.{Outcome}
 use Rattle.machine.specs.declared.value.Outcome.the-variants.{Is, Foreign, Spent, Stuck}
 use Rattle.operations.specs.declared.Who.{Who}
-use Rattle.operations.specs.inner.Results.{result}
+use Rattle.operations.specs.inner.Lent.{countOf, cellsOf}
+use Rattle.operations.specs.inner.Results.{result, resultIn}
 use Rattle.operations.specs.inner.ByWords.{valueIn, ownerIn, contentIn, cellOf, ownIn, newOwnerIn, variableIn, sharedIn, leafIn, makeIn, refusalOr, accessIn, readIn, reading, wordAfter, storeIn}
+use Rattle.operations.proofs.InState.{cell-at, put-in, new-in}
 
 -- ---- owners: the thread's own cells, then its scheduler's; an unlinked thread has none of those
 pub own-thread : (who : Who) (o r : ℕ) → r ≡ who .thread → o ≡ 16 + r → true ≡ ownIn who o
@@ -94,30 +97,36 @@ pub leaf-shared : (who : Who) (vs : List ℕ) (l : Leaf) (s : ℕ) (o : Outcome)
 unfolding leafIn
 leaf-shared who vs l s o e h = h ∙ sym (ap (leafIn who vs) e)
 
--- ---- a new cell: o is its owner, q the same as a word, b whether it is one's own
-module _ (who : Who) (s o n : ℕ) (v : Value) (ws : List ℕ) (b : Bool) (q : ℕ) (eo : o ≡ newOwnerIn who s) (eq : q ≡ o) (eb : b ≡ ownIn who q) where
+-- ---- a new cell in the state's words w: o is its owner, q the same as a word, b whether it is
+-- one's own
+module _ (who : Who) (s o : ℕ) (v : Value) (w : List ℕ) (b : Bool) (q : ℕ)
+    (eo : o ≡ newOwnerIn who s) (eq : q ≡ o) (eb : b ≡ ownIn who q) where
   own-new : {t : Bool} → b ≡ t → ownIn who (newOwnerIn who s) ≡ t
   own-new e = sym (eb ∙ ap (ownIn who) (eq ∙ eo)) ∙ e
 
-  -- m is the bound that the code tests, w the cell's word, us the words with it
-  pub make-is : (m w : ℕ) (us : List ℕ) → b ≡ true → n < m → m ≤ mostCells → w ≡ cellOf o v
-      → us ≡ set ws n w → result (Is (Cell n)) (n + 1) us ≡ makeIn who s v n ws
-  unfolding makeIn
-  make-is m w us t l k e u =
-      yes _ (own-new t)
+  -- m is the bound that the code tests, x the cell's word
+  pub make-is : (m x : ℕ) → let n = getD w cellCountAt 0 in
+      b ≡ true → n < m → m ≤ mostCells → x ≡ cellOf o v → length w ≡ stateLength
+      → resultIn (Is (Cell n)) (set (set w (cellsAt + n) x) cellCountAt (n + 1))
+      ≡ makeIn who s v (countOf w) (cellsOf w)
+  unfolding makeIn countOf
+  make-is m x t l k e h =
+      let n : ℕ = getD w cellCountAt 0 in
+      new-in w n x (n + 1) (Is (Cell n)) h
+      ∙ yes _ (own-new t)
       (yes _ (lt-ltb n mostCells (omega arith))
-      (ap (result (Is (Cell n)) (n + 1)) (u ∙ ap (set ws n) (e ∙ ap (λ (y : ℕ). cellOf y v) eo))))
+      (ap (λ (y : ℕ). result (Is (Cell n)) (n + 1) (set (cellsOf w) n y))
+      (e ∙ ap (λ (y : ℕ). cellOf y v) eo)))
 
-  pub make-spent : (m : ℕ) → b ≡ true → m ≤ n → mostCells ≤ m
-      → result Spent n ws ≡ makeIn who s v n ws
-  unfolding makeIn
-  make-spent m t l k = yes _ (own-new t) (no _ (le-ltb n mostCells (omega arith)) refl)
+  pub make-spent : (m : ℕ) → b ≡ true → m ≤ getD w cellCountAt 0 → mostCells ≤ m
+      → resultIn Spent w ≡ makeIn who s v (countOf w) (cellsOf w)
+  unfolding makeIn countOf
+  make-spent m t l k =
+      yes _ (own-new t) (no _ (le-ltb (getD w cellCountAt 0) mostCells (omega arith)) refl)
 
-  pub make-foreign : b ≡ false → result Foreign n ws ≡ makeIn who s v n ws
+  pub make-foreign : b ≡ false → resultIn Foreign w ≡ makeIn who s v (countOf w) (cellsOf w)
   unfolding makeIn
   make-foreign t = no _ (own-new t) refl
-
-pub ruleset make-laws = (make-is, make-spent, make-foreign)
 
 -- ---- the first refusal of two that is met
 module _ (a b : Bool) (first second : Outcome) (v : Value) where
@@ -149,27 +158,38 @@ access-is who c n w o own v r e f h = h ∙ ap (λ (t : Bool). if leb n c then S
     by true q b = if-no _ _ (lt-leb n c (ltb-true c n q)) ∙ not-own v b ∙ sym (if-yes _ _ q)
     by false q b = if-yes _ _ (le-leb n c (ltb-false c n q)) ∙ sym (if-no _ _ q)
 
--- ---- a cell read: i is its index, w its word
-pub read-is : (who : Who) (v u : Value) (c i n w : ℕ) (ws : List ℕ) (r : Outcome) → v ≡ Cell c → i ≡ c → w ≡ getD ws i 0 → u ≡ contentIn w → r ≡ accessIn who i n w u → r ≡ readIn who v n ws
-unfolding readIn
-read-is who v u c i n w ws r ev ei ew eu h =
-    h ∙ ap (accessIn who i n w) eu ∙ ap (λ (x : ℕ). accessIn who i n x (contentIn x)) ew ∙ ap (λ (x : ℕ). accessIn who x n (getD ws x 0) (contentIn (getD ws x 0))) ei
+-- ---- a cell read in the state's words w: i is its index
+pub read-is : (who : Who) (v u : Value) (c i : ℕ) (w : List ℕ) (r : Outcome) → v ≡ Cell c → i ≡ c
+    → u ≡ contentIn (getD w (cellsAt + i) 0)
+    → r ≡ accessIn who i (getD w cellCountAt 0) (getD w (cellsAt + i) 0) u
+    → r ≡ readIn who v (countOf w) (cellsOf w)
+unfolding readIn countOf
+read-is who v u c i w r ev ei eu h =
+    let n : ℕ = getD w cellCountAt 0 in
+    let ws : List ℕ = cellsOf w in
+    h
+    ∙ ap (accessIn who i n (getD w (cellsAt + i) 0)) eu
+    ∙ ap (λ (x : ℕ). accessIn who i n x (contentIn x)) (cell-at w i)
+    ∙ ap (λ (x : ℕ). accessIn who x n (getD ws x 0) (contentIn (getD ws x 0))) ei
     ∙ ap (λ (x : Value). readIn who x n ws) (sym ev)
 
-pub read-number : (who : Who) (v : Value) (m n : ℕ) (ws : List ℕ) → v ≡ Number m → Stuck ≡ readIn who v n ws
+pub read-number : (who : Who) (v : Value) (m n : ℕ) (ws : List ℕ)
+    → v ≡ Number m → Stuck ≡ readIn who v n ws
 unfolding readIn
 read-number who v m n ws e = ap (λ (x : Value). readIn who x n ws) (sym e)
 
-pub read-truth : (who : Who) (v : Value) (t : Bool) (n : ℕ) (ws : List ℕ) → v ≡ Truth t → Stuck ≡ readIn who v n ws
+pub read-truth : (who : Who) (v : Value) (t : Bool) (n : ℕ) (ws : List ℕ)
+    → v ≡ Truth t → Stuck ≡ readIn who v n ws
 unfolding readIn
 read-truth who v t n ws e = ap (λ (x : Value). readIn who x n ws) (sym e)
 
-pub reading-is : (who : Who) (v : Value) (n : ℕ) (ws : List ℕ) (o : Outcome) → o ≡ readIn who v n ws → result o n ws ≡ reading who v n ws
+pub reading-is : (who : Who) (v : Value) (n : ℕ) (ws : List ℕ) (o : Outcome)
+    → o ≡ readIn who v n ws → result o n ws ≡ reading who v n ws
 reading-is who v n ws o e = ap (λ (p : Outcome). result p n ws) e
 
 pub ruleset read-laws = (read-is, read-number, read-truth)
 
--- ---- a cell stored in: i is its index, w its word, x its word behind the store
+-- ---- a cell stored in: i is its index, x its word behind the store
 pub word-after-row : (o p : Outcome) (w r : ℕ) (u : Value) → o ≡ p → r ≡ wordAfter p w u → r ≡ wordAfter o w u
 word-after-row o p w r u e h = h ∙ sym (ap (λ (q : Outcome). wordAfter q w u) e)
 
@@ -190,12 +210,21 @@ store-at who u c n ws =
     kept : (o : Outcome) → result o n (set ws c w) ≡ result o n ws
     kept o = ap (result o n) (set-getD ws c 0)
 
-pub store-is : (who : Who) (v u : Value) (c i n w x : ℕ) (ws us : List ℕ) (o : Outcome) → v ≡ Cell c → i ≡ c → w ≡ getD ws i 0 → o ≡ accessIn who i n w u → x ≡ wordAfter o w u → us ≡ set ws i x
-    → result o n us ≡ storeIn who v u n ws
-store-is who v u c i n w x ws us o ev ei ew eo ex eu =
-    ap (result o n) (eu ∙ ap (set ws i) ex)
-    ∙ ap (λ (p : Outcome). result p n (set ws i (wordAfter p w u))) eo
-    ∙ ap (λ (y : ℕ). result (accessIn who i n y u) n (set ws i (wordAfter (accessIn who i n y u) y u))) ew
+pub store-is : (who : Who) (v u : Value) (c i x : ℕ) (w : List ℕ) (o : Outcome)
+    → v ≡ Cell c → i ≡ c
+    → o ≡ accessIn who i (getD w cellCountAt 0) (getD w (cellsAt + i) 0) u
+    → x ≡ wordAfter o (getD w (cellsAt + i) 0) u
+    → resultIn o (set w (cellsAt + i) x) ≡ storeIn who v u (countOf w) (cellsOf w)
+unfolding countOf
+store-is who v u c i x w o ev ei eo ex =
+    let n : ℕ = getD w cellCountAt 0 in
+    let ws : List ℕ = cellsOf w in
+    let z : ℕ = getD w (cellsAt + i) 0 in
+    put-in w o i x
+    ∙ ap (λ (y : ℕ). result o n (set ws i y)) ex
+    ∙ ap (λ (p : Outcome). result p n (set ws i (wordAfter p z u))) eo
+    ∙ ap (λ (y : ℕ). result (accessIn who i n y u) n
+    (set ws i (wordAfter (accessIn who i n y u) y u))) (cell-at w i)
     ∙ store-at who u i n ws
     ∙ ap (λ (y : ℕ). storeIn who (Cell y) u n ws) ei
     ∙ ap (λ (y : Value). storeIn who y u n ws) (sym ev)

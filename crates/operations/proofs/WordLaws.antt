@@ -1,12 +1,10 @@
--- Single words: a law for each return of the functions of word.rt and cell.rt and for words behind the end, and that the word of a value or of a cell reads back as it was. Assumes nothing.
+-- Single words: a law for each return of the functions of word.rt and cell.rt, and that the word of a
+-- value or of a cell reads back as it was. Assumes nothing.
 use mathlib.Core.Path.{_≡_, refl, sym, ap, _∙_, subst}
-use mathlib.Core.List.{List}
 use mathlib.Core.Bool.{Bool, true, false}
 use Prim.Native.Nat.{ℕ, _+_, _*_, _-_, _/_, _%_, _^_, _<_, _≤_}
 use native.Mathlib.Omega.{arith}
 use lib.Dec.{ltb, eqb}
-use lib.ListN.{length, getD, set, List·getD-eq-default}
-use lib.Seq.{set-out}
 use borrow.Author.Tests.{ltb-true, ltb-false, lt-ltb, le-ltb, leb-true}
 use Rattle.basics.proofs.Ifs.{if-yes, if-no, yes, no}
 use Rattle.machine.specs.State.{Stored}
@@ -58,13 +56,6 @@ pub ruleset value-laws = (value-number, value-truth, value-cell)
 pub cell-of : (o r q : ℕ) (v : Value) → q ≡ o → r ≡ valueWord v → q * 0x0004_0000_0000 + r ≡ cellOf o v
 unfolding cellWord
 cell-of o r q v h e = ap (λ (x : ℕ). q * 0x0004_0000_0000 + x) e ∙ ap (λ (x : ℕ). x * 0x0004_0000_0000 + valueWord v) h
-
--- ---- words behind the end
-pub past-word : (ws : List ℕ) (i : ℕ) → length ws ≤ i → 0 ≡ getD ws i 0
-past-word ws i h = sym (List·getD-eq-default ws 0 {n = i} h)
-
-pub past-set : (ws : List ℕ) (i w : ℕ) → length ws ≤ i → ws ≡ set ws i w
-past-set ws i w h = sym (set-out ws i w h)
 
 -- ---- words read back
 -- `valueIn` reads any word; on a word in range it is `wordValue`, which the definitions use

@@ -1,7 +1,6 @@
-// What one operation does on lent cells, a word each: a leaf, a cell made, read or stored in, a
-// sum, a comparison, a choice.
+// What one operation does on the lent words of a state, a word for each cell: a leaf, a cell made,
+// read or stored in, a sum, a comparison, a choice.
 use language::Place;
-use machine::value::Outcome;
 
 mod cell;
 pub mod operand;
@@ -14,10 +13,4 @@ pub struct Who {
     pub thread: u8,
     pub place: Place,
     pub shared: usize,
-}
-
-// What an evaluation answers, and how many cells are in use behind it.
-pub struct Answered {
-    pub outcome: Outcome,
-    pub used: usize,
 }

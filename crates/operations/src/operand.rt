@@ -1,13 +1,12 @@
 // Numbers and truths that are wanted of an evaluation, and what becomes of them: 26 to 28.
-use crate::Answered;
 use machine::value::Outcome;
 use machine::value::Value;
 use program::node::Operator;
 ghost use mathlib.Core.Path.{_≡_};
-ghost use Rattle.operations.specs.inner.Results.{only};
-ghost use Rattle.operations.specs.inner.ByWords.{operation, firstBy, bothBy, operatedBy};
-ghost use Rattle.operations.specs.inner.ByWords.{numberOr, operandOf, asNumber};
-ghost use Rattle.operations.specs.inner.ByWords.{outcomeOf, asAnswer, chosen, chosenBy};
+ghost use Rattle.operations.specs.inner.Results.{onlyBy};
+ghost use Rattle.operations.specs.inner.ByWords.{operation, firstBy, bothBy};
+ghost use Rattle.operations.specs.inner.ByWords.{numberOr, operandOf};
+ghost use Rattle.operations.specs.inner.ByWords.{outcomeOf, chosen, chosenBy};
 ghost use Rattle.operations.specs.inner.ByWords.{operandStops, outcomeStops, aTruth};
 
 // What a frame comes to where a number is wanted of it. `Other` is a value of another kind: 20, but
@@ -18,11 +17,6 @@ pub enum Operand {
     Foreign,
     Spent,
     Stuck,
-}
-
-pub struct Wanted {
-    pub operand: Operand,
-    pub used: usize,
 }
 
 // 26 or 27 of two numbers
@@ -49,7 +43,7 @@ fn operate_first(op: Operator, p: Operand, n: u32) -> Outcome
 }
 
 // The same where both are: the second's refusal comes before 20 for a wrong kind of the first.
-fn operate_both(op: Operator, p: Operand, q: Operand) -> Outcome
+pub fn operated(op: Operator, p: Operand, q: Operand) -> Outcome
     ensures { λ r. ⌜ r ≡ bothBy op p q ⌝ }
 {
     match q {
@@ -58,17 +52,6 @@ fn operate_both(op: Operator, p: Operand, q: Operand) -> Outcome
         Operand::Foreign => Outcome::Foreign,
         Operand::Spent => Outcome::Spent,
         Operand::Stuck => Outcome::Stuck,
-    }
-}
-
-pub fn operated(op: Operator, x: Wanted, y: Wanted) -> Answered
-    ensures { λ r. ⌜ r ≡ operatedBy op x y ⌝ }
-{
-    let p = x.operand;
-    let q = y.operand;
-    Answered {
-        outcome: operate_both(op, p, q),
-        used: y.used,
     }
 }
 
@@ -83,7 +66,7 @@ fn number_in(v: Value) -> Operand
     }
 }
 
-fn operand_of(o: Outcome) -> Operand
+pub fn as_number(o: Outcome) -> Operand
     ensures { λ r. ⌜ r ≡ operandOf o ⌝ }
 {
     match o {
@@ -94,18 +77,8 @@ fn operand_of(o: Outcome) -> Operand
     }
 }
 
-pub fn as_number(x: Answered) -> Wanted
-    ensures { λ r. ⌜ r ≡ asNumber x ⌝ }
-{
-    let o = x.outcome;
-    Wanted {
-        operand: operand_of(o),
-        used: x.used,
-    }
-}
-
 // The other way, for who wants nothing else any more: a wrong kind is 20.
-fn outcome_of(p: Operand) -> Outcome
+pub fn as_answer(p: Operand) -> Outcome
     ensures { λ r. ⌜ r ≡ outcomeOf p ⌝ }
 {
     match p {
@@ -117,21 +90,10 @@ fn outcome_of(p: Operand) -> Outcome
     }
 }
 
-pub fn as_answer(x: Wanted) -> Answered
-    ensures { λ r. ⌜ r ≡ asAnswer x ⌝ }
-{
-    let p = x.operand;
-    Answered {
-        outcome: outcome_of(p),
-        used: x.used,
-    }
-}
-
 // Whether it is a refusal, behind which nothing more is evaluated.
-pub fn number_stops(x: Wanted) -> bool
-    ensures { λ r. ⌜ r ≡ operandStops (x .operand) ⌝ }
+pub fn number_stops(p: Operand) -> bool
+    ensures { λ r. ⌜ r ≡ operandStops p ⌝ }
 {
-    let p = x.operand;
     match p {
         Operand::Number(n) => false,
         Operand::Other => false,
@@ -141,10 +103,9 @@ pub fn number_stops(x: Wanted) -> bool
     }
 }
 
-pub fn stops(x: Answered) -> bool
-    ensures { λ r. ⌜ r ≡ outcomeStops (x .outcome) ⌝ }
+pub fn stops(o: Outcome) -> bool
+    ensures { λ r. ⌜ r ≡ outcomeStops o ⌝ }
 {
-    let o = x.outcome;
     match o {
         Outcome::Is(v) => false,
         Outcome::Foreign => true,
@@ -165,18 +126,14 @@ fn a_truth(v: Value) -> Outcome
 }
 
 // The same of an evaluation, whose refusal stands.
-pub fn then_truth(x: Answered) -> Answered
-    ensures { λ r. ⌜ r ≡ only x aTruth ⌝ }
+pub fn then_truth(o: Outcome) -> Outcome
+    ensures { λ r. ⌜ r ≡ onlyBy o aTruth ⌝ }
 {
-    let o = x.outcome;
     match o {
-        Outcome::Is(v) => Answered {
-            outcome: a_truth(v),
-            used: x.used,
-        },
-        Outcome::Foreign => x,
-        Outcome::Spent => x,
-        Outcome::Stuck => x,
+        Outcome::Is(v) => a_truth(v),
+        Outcome::Foreign => Outcome::Foreign,
+        Outcome::Spent => Outcome::Spent,
+        Outcome::Stuck => Outcome::Stuck,
     }
 }
 
@@ -197,10 +154,9 @@ fn branch_of(v: Value, b: u16, c: u16) -> u16
 }
 
 // The same by an outcome; a refusal chooses what is then not evaluated.
-pub fn branch(x: Answered, b: u16, c: u16) -> u16
-    ensures { λ r. ⌜ r ≡ chosenBy (x .outcome) b c ⌝ }
+pub fn branch(o: Outcome, b: u16, c: u16) -> u16
+    ensures { λ r. ⌜ r ≡ chosenBy o b c ⌝ }
 {
-    let o = x.outcome;
     match o {
         Outcome::Is(v) => branch_of(v, b, c),
         Outcome::Foreign => c,

@@ -1,5 +1,4 @@
 // Leaves and cells: what an expression without operands gives, and a cell made, read or stored in.
-use crate::Answered;
 use crate::Who;
 use crate::cell::cell_word;
 use crate::cell::content_of;
@@ -13,14 +12,18 @@ use crate::width::wide8;
 use crate::width::wide16;
 use language::Place;
 use language::limit::MOST_CELLS;
+use machine::offset::CELL_COUNT_AT;
+use machine::offset::CELLS_AT;
 use machine::offset::THREAD_OWNER_FROM;
 use machine::value::Outcome;
 use machine::value::Value;
 use program::node::CellUse;
 use program::node::Leaf;
 ghost use mathlib.Core.Path.{_≡_};
-ghost use lib.ListN.{getD, set};
-ghost use Rattle.operations.specs.inner.Results.{after, andThen};
+ghost use lib.ListN.{length};
+ghost use Rattle.machine.specs.Offsets.{stateLength};
+ghost use Rattle.operations.specs.inner.Lent.{countOf, cellsOf, restOf};
+ghost use Rattle.operations.specs.inner.Results.{resultIn, andThen};
 ghost use Rattle.operations.specs.inner.ByWords.{ownIn, newOwnerIn, variableIn};
 ghost use Rattle.operations.specs.inner.ByWords.{sharedIn, leafIn, refusalOr, accessIn};
 ghost use Rattle.operations.specs.inner.ByWords.{readIn, reading, makeIn, usingIn};
@@ -28,31 +31,6 @@ ghost use Rattle.operations.specs.inner.ByWords.{wordAfter, storeIn};
 
 // The same number at the width of a new cell's owner.
 const NEW_THREAD_OWNER: u16 = THREAD_OWNER_FROM as u16;
-
-pub fn answer_of(outcome: Outcome, used: usize) -> Answered
-    ensures { λ r. ⌜ r ≡ record { outcome = outcome; used = used } ⌝ }
-{
-    Answered { outcome, used }
-}
-
-// The word at i, 0 behind the end.
-fn word_at(words: &[u64], i: usize) -> u64
-    ensures { λ r. ⌜ r ≡ getD (now (words .entry)) i 0 ⌝ }
-{
-    if i < words.len() {
-        return words[i];
-    }
-    0
-}
-
-// Sets the word at i; behind the end nothing is set.
-fn put_word(words: &mut [u64], i: usize, w: u64)
-    ensures { λ _. ⌜ now (words .exit) ≡ set (now (words .entry)) i w ⌝ }
-{
-    if i < words.len() {
-        words[i] = w;
-    }
-}
 
 // Whether an access to a cell of that owner is not foreign: the thread's own, or its scheduler's.
 fn is_own(who: Who, owner: u64) -> bool
@@ -112,28 +90,23 @@ pub fn leaf(who: Who, variables: &[u64], l: Leaf) -> Outcome
 }
 
 // 24: 19 is tested before 17.
-fn make_cell(who: Who, s: Place, v: Value, cells: &mut [u64], used: usize) -> Answered
-    ensures { λ r. ⌜ after r (now (cells .exit))
-        ≡ makeIn who (s .number) v used (now (cells .entry)) ⌝ }
+fn make_cell(who: Who, s: Place, v: Value, state: &mut [u64]) -> Outcome
+    requires { ⌜ length (now state) ≡ stateLength ⌝ }
+    ensures found { λ r. ⌜ resultIn r (now (state .exit))
+        ≡ makeIn who (s .number) v (countOf (now (state .entry))) (cellsOf (now (state .entry))) ⌝ }
+    ensures rest { λ _. ⌜ restOf (now (state .exit)) ≡ restOf (now (state .entry)) ⌝ }
 {
     let owner = new_owner(who, s);
     if is_own(who, wide16(owner)) {
+        let used = state[CELL_COUNT_AT] as usize;
         if used < MOST_CELLS {
-            put_word(cells, used, cell_word(owner, v));
-            return Answered {
-                outcome: Outcome::Is(Value::Cell(used as u8)),
-                used: used + 1,
-            };
+            state[CELLS_AT + used] = cell_word(owner, v);
+            state[CELL_COUNT_AT] = (used + 1) as u64;
+            return Outcome::Is(Value::Cell(used as u8));
         }
-        return Answered {
-            outcome: Outcome::Spent,
-            used: used,
-        };
+        return Outcome::Spent;
     }
-    Answered {
-        outcome: Outcome::Foreign,
-        used: used,
-    }
+    Outcome::Foreign
 }
 
 // The first refusal of two that is met, or x.
@@ -159,13 +132,16 @@ fn access(who: Who, j: usize, used: usize, w: u64, x: Value) -> Outcome
 }
 
 // 25
-fn read_cell(who: Who, v: Value, cells: &[u64], used: usize) -> Outcome
-    ensures { λ r. ⌜ r ≡ readIn who v used (now (cells .entry)) ⌝ }
+fn read_cell(who: Who, v: Value, state: &[u64]) -> Outcome
+    requires { ⌜ length (now state) ≡ stateLength ⌝ }
+    ensures { λ r. ⌜ r
+        ≡ readIn who v (countOf (now (state .entry))) (cellsOf (now (state .entry))) ⌝ }
 {
     match v {
         Value::Cell(c) => {
             let j = index8(c);
-            let w = word_at(cells, j);
+            let used = state[CELL_COUNT_AT] as usize;
+            let w = state[CELLS_AT + j];
             access(who, j, used, w, content_of(w))
         },
         Value::Number(n) => Outcome::Stuck,
@@ -187,82 +163,78 @@ fn word_after(o: Outcome, w: u64, u: Value) -> u64
 }
 
 // 17: the cell takes any value and keeps its owner.
-fn store_cell(who: Who, v: Value, u: Value, cells: &mut [u64], used: usize) -> Answered
-    ensures { λ r. ⌜ after r (now (cells .exit)) ≡ storeIn who v u used (now (cells .entry)) ⌝ }
+fn store_cell(who: Who, v: Value, u: Value, state: &mut [u64]) -> Outcome
+    requires { ⌜ length (now state) ≡ stateLength ⌝ }
+    ensures found { λ r. ⌜ resultIn r (now (state .exit))
+        ≡ storeIn who v u (countOf (now (state .entry))) (cellsOf (now (state .entry))) ⌝ }
+    ensures rest { λ _. ⌜ restOf (now (state .exit)) ≡ restOf (now (state .entry)) ⌝ }
 {
     match v {
         Value::Cell(c) => {
             let i = index8(c);
-            let w = word_at(cells, i);
+            let used = state[CELL_COUNT_AT] as usize;
+            let w = state[CELLS_AT + i];
             let o = access(who, i, used, w, u);
-            put_word(cells, i, word_after(o, w, u));
-            Answered {
-                outcome: o,
-                used: used,
-            }
+            state[CELLS_AT + i] = word_after(o, w, u);
+            o
         },
-        Value::Number(n) => Answered {
-            outcome: Outcome::Stuck,
-            used: used,
-        },
-        Value::Truth(t) => Answered {
-            outcome: Outcome::Stuck,
-            used: used,
-        },
+        Value::Number(n) => Outcome::Stuck,
+        Value::Truth(t) => Outcome::Stuck,
     }
 }
 
 // ---- each of them behind the evaluation of its last operand, whose refusal stands
 
-fn then_make(who: Who, s: Place, x: Answered, cells: &mut [u64]) -> Answered
-    ensures { λ r. ⌜ after r (now (cells .exit))
-        ≡ andThen (after x (now (cells .entry))) (makeIn who (s .number)) ⌝ }
+fn then_make(who: Who, s: Place, o: Outcome, state: &mut [u64]) -> Outcome
+    requires { ⌜ length (now state) ≡ stateLength ⌝ }
+    ensures found { λ r. ⌜ resultIn r (now (state .exit))
+        ≡ andThen (resultIn o (now (state .entry))) (makeIn who (s .number)) ⌝ }
+    ensures rest { λ _. ⌜ restOf (now (state .exit)) ≡ restOf (now (state .entry)) ⌝ }
 {
-    let o = x.outcome;
     match o {
-        Outcome::Is(v) => make_cell(who, s, v, cells, x.used),
-        Outcome::Foreign => x,
-        Outcome::Spent => x,
-        Outcome::Stuck => x,
+        Outcome::Is(v) => make_cell(who, s, v, state),
+        Outcome::Foreign => o,
+        Outcome::Spent => o,
+        Outcome::Stuck => o,
     }
 }
 
-fn then_read(who: Who, x: Answered, cells: &[u64]) -> Answered
-    ensures { λ r. ⌜ after r (now (cells .entry))
-        ≡ andThen (after x (now (cells .entry))) (reading who) ⌝ }
+fn then_read(who: Who, o: Outcome, state: &[u64]) -> Outcome
+    requires { ⌜ length (now state) ≡ stateLength ⌝ }
+    ensures { λ r. ⌜ resultIn r (now (state .entry))
+        ≡ andThen (resultIn o (now (state .entry))) (reading who) ⌝ }
 {
-    let o = x.outcome;
     match o {
-        Outcome::Is(v) => Answered {
-            outcome: read_cell(who, v, cells, x.used),
-            used: x.used,
-        },
-        Outcome::Foreign => x,
-        Outcome::Spent => x,
-        Outcome::Stuck => x,
+        Outcome::Is(v) => read_cell(who, v, state),
+        Outcome::Foreign => o,
+        Outcome::Spent => o,
+        Outcome::Stuck => o,
     }
 }
 
 // 24 or 25
-pub fn then_use(u: CellUse, who: Who, x: Answered, cells: &mut [u64]) -> Answered
-    ensures { λ r. ⌜ after r (now (cells .exit))
-        ≡ andThen (after x (now (cells .entry))) (usingIn who u) ⌝ }
+pub fn then_use(u: CellUse, who: Who, o: Outcome, state: &mut [u64]) -> Outcome
+    requires { ⌜ length (now state) ≡ stateLength ⌝ }
+    ensures found { λ r. ⌜ resultIn r (now (state .exit))
+        ≡ andThen (resultIn o (now (state .entry))) (usingIn who u) ⌝ }
+    ensures rest { λ _. ⌜ restOf (now (state .exit)) ≡ restOf (now (state .entry)) ⌝ }
 {
     match u {
-        CellUse::Make(s) => then_make(who, s, x, cells),
-        CellUse::Read => then_read(who, x, cells),
+        CellUse::Make(s) => then_make(who, s, o, state),
+        CellUse::Read => then_read(who, o, state),
     }
 }
 
-pub fn then_store(who: Who, v: Value, x: Answered, cells: &mut [u64]) -> Answered
-    ensures { λ r. ⌜ after r (now (cells .exit))
-        ≡ andThen (after x (now (cells .entry))) (storeIn who v) ⌝ }
+pub fn then_store(who: Who, v: Value, o: Outcome, state: &mut [u64]) -> Outcome
+    requires { ⌜ length (now state) ≡ stateLength ⌝ }
+    ensures found { λ r. ⌜ resultIn r (now (state .exit))
+        ≡ andThen (resultIn o (now (state .entry))) (storeIn who v) ⌝ }
+    ensures rest { λ _. ⌜ restOf (now (state .exit)) ≡ restOf (now (state .entry)) ⌝ }
 {
-    let o = x.outcome;
     match o {
-        Outcome::Is(u) => store_cell(who, v, u, cells, x.used),
-        Outcome::Foreign => x,
-        Outcome::Spent => x,
-        Outcome::Stuck => x,
+        Outcome::Is(u) => store_cell(who, v, u, state),
+        Outcome::Foreign => o,
+        Outcome::Spent => o,
+        Outcome::Stuck => o,
     }
 }

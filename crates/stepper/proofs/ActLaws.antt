@@ -1,12 +1,15 @@
 -- What `act_in` reads of a thread that is there, that this is what `act` asks, and what it gives. Assumes nothing.
 use Prim.Native.Nat.{ℕ, zero, suc, _+_, _-_, _*_, _<_, _≤_}
 use mathlib.Core.Path.{_≡_, refl, sym, ap, ap₂, _∙_, subst}
-use mathlib.Core.List.{List, [], _∷_, _++_, map, reverse, append-nil}
-use mathlib.Core.Bool.{true, false≢true}
+use mathlib.Core.List.{List, [], _∷_, map, reverse}
+use mathlib.Core.Bool.{Bool, true, false, false≢true}
 use native.Mathlib.Omega.{arith}
 use lib.ListN as list
-use lib.ListN.{length, getD, take, length-map, length-drop, take-append-drop, drop-of-length-le}
-use lib.Seq.{ext-getD, length-take-le, getD-drop, take-all, take-take}
+use lib.Dec.{ltb, eqb}
+use lib.ListN.{length, getD, set, take, length-set, length-map, length-drop}
+use lib.Seq.{ext-getD, length-take-le, getD-take, getD-drop, take-take}
+use lib.Seq.{getD-set-same, getD-set-other}
+use borrow.Author.Tests.{ltb-true, ltb-false, eqb-true, eqb-false}
 use Rattle.basics.specs.Members.{All, more}
 use Rattle.language.specs.Places.{isPlace}
 use Rattle.language.specs.declared.Place.{Place}
@@ -22,13 +25,14 @@ use Rattle.machine.specs.Words.{itemWord, valueWord}
 use Rattle.machine.specs.Shapes.{isStatement, ThreadFits, ValueFits, ItemFits, run-fits, back-fits}
 use Rattle.machine.specs.inner.Blocks.{part, pasted, padded, cellWords}
 use Rattle.machine.specs.declared.value.Value.{Value}
-use Rattle.machine.proofs.WordLaws.{part-length}
+use Rattle.machine.proofs.WordLaws.{part-length, pasted-length, pasted-in, pasted-out}
 use Rattle.machine.proofs.Blocks.{cells-length, cells-at}
 use Rattle.machine.proofs.InShape.{value-in}
 use Rattle.machine.proofs.Padded.{padded-at}
 use Rattle.operations.specs.declared.Who.{Who}
+use Rattle.operations.specs.inner.Lent.{Lent, variableCount, variablesOf, countOf, cellsOf}
+use Rattle.operations.specs.inner.Lent.{restOf}
 use Rattle.evaluator.specs.inner.Results.{CellWords, ValueWords}
-use Rattle.evaluator.specs.inner.Lent.{Lent, variableCount, variablesOf, cellsOf, restOf}
 use Rattle.evaluator.proofs.Holding.{holds-words}
 use Rattle.states.specs.declared.thread.ThreadWords.{ThreadWords}
 use Rattle.states.specs.inner.Threads.{wordsOf, threadIn}
@@ -36,7 +40,7 @@ use Rattle.states.proofs.StackLaws.{withContinuation, top-item-is}
 use Rattle.acts.specs.declared.act.Acted.{Acted}
 use Rattle.acts.specs.inner.Fates.{popped, turned, Room}
 use Rattle.turns.specs.declared.view.View.{View}
-use Rattle.turns.specs.inner.Actions.{actOn, turnAct}
+use Rattle.turns.specs.inner.Actions.{actIn, turnAct}
 use Rattle.turns.specs.inner.Acts.{ActedOn, actedOn, turnIn, topIn, variablesIn, Views, WholeTurn, TurnWords}
 use Rattle.turns.proofs.TurnLaws.{act-turns}
 use Rattle.reach.proofs.Passed.{order, inside, some-frame}
@@ -188,29 +192,70 @@ module _ (frames : List ℕ) (shared : ℕ) (w : List ℕ) (h : StepWords frames
   cells-in = holds-words (usedCells (s .cells)) (cellWords (s .cells)) (s .cells)
       (record { count = refl; words = refl; room = shaped frames shared w h .cells-room; each = λ k g. shaped frames shared w h .cells k g .value })
 
-  -- words that are as before but for the cells
-  whole : (v : List ℕ) → restOf v ≡ restOf w → length v ≡ length w
-      → v ≡ pasted w 4562 (cellsOf v) 256
-  unfolding cellsOf restOf pasted
-  whole v e l =
-      let z = long in
-      let a : length (list.drop 4562 v) ≤ 256 = rw (size v l) (omega arith) in
-      sym (take-append-drop 4562 v)
-      ∙ ap₂ _++_ e (sym (take-all 256 (list.drop 4562 v) a))
-      ∙ sym (append-nil (take 4562 w ++ take 256 (list.drop 4562 v)))
-      ∙ ap (λ (y : List ℕ). (take 4562 w ++ take 256 (list.drop 4562 v)) ++ y)
-      (sym (drop-of-length-le w {i = 4562 + 256} (omega arith)))
+  -- how many are in use
+  count-is : countOf w ≡ usedCells (s .cells)
+  unfolding countOf
+  count-is = says frames shared w h .cells
+
+  -- words that are as before but for the cells and their count
+  module _ (v : List ℕ) (e : restOf v ≡ restOf w) (l : length v ≡ length w) where
+    rest-at : (u : List ℕ) (j : ℕ) → (j ≡ 1 → ⊥) → j < 4562 → getD (restOf u) j 0 ≡ getD u j 0
+    unfolding restOf
+    rest-at u j d m = getD-set-other (take 4562 u) 1 j 0 0 d ∙ getD-take 4562 u j 0 m
+
+    abbrev put : List ℕ
+    put = pasted w 4562 (cellsOf v) 256
+
+    words-room : 4562 + 256 ≤ length w
+    words-room = let z = long in omega arith
+
+    cells-room : 256 ≤ length (cellsOf v)
+    cells-room = rw (size v l) (omega arith)
+
+    put-length : length put ≡ length w
+    put-length = pasted-length w 4562 (cellsOf v) 256 words-room cells-room
+
+    word : (j : ℕ) → j < 4818 → (a b : Bool) → eqb j 1 ≡ a → ltb j 4562 ≡ b
+        → getD v j 0 ≡ getD (set put 1 (countOf v)) j 0
+    unfolding countOf cellsOf
+    word j m true b p q =
+        let i : j ≡ 1 = eqb-true j 1 p in
+        let z = long in
+        let y = put-length in
+        ap (λ (k : ℕ). getD v k 0) i
+        ∙ sym (getD-set-same put 1 (countOf v) 0 (omega arith))
+        ∙ ap (λ (k : ℕ). getD (set put 1 (countOf v)) k 0) (sym i)
+    word j m false true p q =
+        let d = eqb-false j 1 p in
+        let i : j < 4562 = ltb-true j 4562 q in
+        sym (rest-at v j d i)
+        ∙ ap (λ (u : List ℕ). getD u j 0) e
+        ∙ rest-at w j d i
+        ∙ sym (pasted-out w 4562 (cellsOf v) 256 words-room cells-room j (λ a b. omega arith))
+        ∙ sym (getD-set-other put 1 j (countOf v) 0 d)
+    word j m false false p q =
+        let d = eqb-false j 1 p in
+        let i : 4562 ≤ j = ltb-false j 4562 q in
+        let y : 4562 + (j - 4562) ≡ j = omega arith in
+        ap (λ (k : ℕ). getD v k 0) (sym y)
+        ∙ sym (getD-drop 4562 v (j - 4562) 0)
+        ∙ sym (pasted-in w 4562 (cellsOf v) 256 words-room cells-room (j - 4562) (omega arith))
+        ∙ ap (λ (k : ℕ). getD put k 0) y
+        ∙ sym (getD-set-other put 1 j (countOf v) 0 d)
+
+    whole : v ≡ set (pasted w 4562 (cellsOf v) 256) 1 (countOf v)
+    whole =
+        ext-getD 0 v (set put 1 (countOf v)) (l ∙ sym (length-set put 1 (countOf v) ∙ put-length))
+        (λ j g.
+        let z = long in
+        word j (omega arith) (eqb j 1) (ltb j 4562) refl refl)
 
   -- ---- `act`, on what is seen of the thread, its top item, its variables and the cells
   module _
-      (v : View) (item : ℕ) (who : Who) (used : ℕ) (seen : Views v th) (top : item ≡ topIn th)
-      (is : who ≡ record { thread = t; place = v .place; shared = shared })
-      (u : used ≡ getD w 1 0) where
+      (v : View) (item : ℕ) (who : Who) (seen : Views v th) (top : item ≡ topIn th)
+      (is : who ≡ record { thread = t; place = v .place; shared = shared }) where
     sees : Views v (wordsOf x)
     sees = subst (Views v) read seen
-
-    used-is : used ≡ usedCells (s .cells)
-    used-is = u ∙ says frames shared w h .cells
 
     acting : who .thread ≡ t
     acting = ap (λ (y : Who). y .thread) is
@@ -218,7 +263,7 @@ module _ (frames : List ℕ) (shared : ℕ) (w : List ℕ) (h : StepWords frames
     variables : variablesOf who w ≡ variablesIn th
     variables = variables-are who acting
 
-    pub act-asks : TurnWords frames v (variablesOf who w) used (cellsOf w) × Lent who w
+    pub act-asks : TurnWords frames v (variablesOf who w) (countOf w) (cellsOf w) × Lent who w
         × (item < 1024 → item < length frames)
         × (1024 ≤ item → item < 2048 → isPlace (item - 1024) ≡ true)
     act-asks = (
@@ -233,7 +278,7 @@ module _ (frames : List ℕ) (shared : ℕ) (w : List ℕ) (h : StepWords frames
             (let a = values-read in let b = wide in omega arith)
             ∙ seen .values;
         variables = subst ValueWords (sym (variables ∙ ap variablesIn read)) variables-in;
-        cells = rw (used-is, cells-are) cells-in;
+        cells = rw (count-is, cells-are) cells-in;
       },
       lent who acting,
       subst (λ (i : ℕ). i < 1024 → i < length frames) (sym (top ∙ ap topIn read)) top-there,
@@ -241,23 +286,25 @@ module _ (frames : List ℕ) (shared : ℕ) (w : List ℕ) (h : StepWords frames
           (sym (top ∙ ap topIn read)) top-place,
     )
 
-    -- the words behind it are those before with its cells pasted in
+    -- the words behind it are those before with its cells and their count
     pub act-gives : (a : Acted) (v' : List ℕ)
-        → actOn a (cellsOf v')
-        ≡ turnAct (framesOf frames) who v item (variablesOf who w) used (cellsOf w)
+        → actIn a v'
+        ≡ turnAct (framesOf frames) who v item (variablesOf who w) (countOf w) (cellsOf w)
         → restOf v' ≡ restOf w → length v' ≡ length w → turnOn a v' frames shared w t
+    unfolding countOf
     act-gives a v' e k l = record {
       acted = ap (λ (y : ActedOn). y .acted) same;
-      words = whole v' k l ∙ ap (λ (y : List ℕ). pasted w 4562 y 256) cells-left;
+      words = whole v' k l
+          ∙ ap (λ (y : ActedOn). set (pasted w 4562 (y .cells) 256) 1 (y .acted .used)) same;
       whole = ap length (sym cells-left) ∙ size v' l;
       room = subst (λ (i : ℕ). Room (a .change) (i - 1) (wordsOf x .values)) (sym (sees .items))
           (subst (Room (a .change) (v .items - 1)) (sym (sees .values)) (r .room));
     }
       where
-        r : WholeTurn a (cellsOf v') v item (variablesOf who w)
-            (λ y. turnIn (framesOf frames) who y used (cellsOf w))
-        r = act-turns (framesOf frames) who v item (variablesOf who w) used (cellsOf w)
-            a (cellsOf v') e
+        r : WholeTurn a (countOf v') (cellsOf v') v item (variablesOf who w)
+            (λ y. turnIn (framesOf frames) who y (countOf w) (cellsOf w))
+        r = act-turns (framesOf frames) who v item (variablesOf who w) (countOf w) (cellsOf w)
+            a (countOf v') (cellsOf v') e
 
         at-place : ℕ → Who
         at-place i = record { thread = t; place = record { number = i }; shared = shared }
@@ -268,11 +315,12 @@ module _ (frames : List ℕ) (shared : ℕ) (w : List ℕ) (h : StepWords frames
         turn-by : Who → ℕ → List ℕ → ActedOn
         turn-by y i ws = turnIn (framesOf frames) y (wordsOf x) i ws
 
-        same : actedOn (turned a (popped (wordsOf x))) (cellsOf v') ≡ turnOf frames shared w t
+        same : actedOn (turned a (countOf v') (popped (wordsOf x))) (cellsOf v')
+            ≡ turnOf frames shared w t
         same =
             r .thread (wordsOf x) sees (sym (variables ∙ ap variablesIn read))
             (sym (top ∙ ap topIn read))
-            ∙ ap₂ (turn-by who) used-is cells-are
+            ∙ ap₂ (turn-by who) count-is cells-are
             ∙ ap (λ (y : Who). turn-by y (usedCells (s .cells)) (cellWords (s .cells))) who-is
 
         cells-left : cellsOf v' ≡ turnOf frames shared w t .cells

@@ -5,7 +5,9 @@ use mathlib.Core.List.{List, _++_}
 use mathlib.Core.Bool.{Bool, true, false, _&&_}
 use native.Mathlib.Omega.{arith}
 use lib.Dec.{ltb, leb}
-use lib.ListN.{length, getD, replicate, length-append, length-replicate, getD-replicate, List·getD-append, List·getD-eq-default}
+use lib.ListN.{length, getD, set, replicate, length-set, length-append, length-replicate}
+use lib.ListN.{getD-replicate, List·getD-append, List·getD-eq-default}
+use lib.Seq.{getD-set-same, getD-set-other}
 use borrow.Author.Tests.{ltb-true, ltb-false}
 use Rattle.basics.proofs.Ifs.{if-all, if-yes, if-no}
 use Rattle.language.specs.Places.{isScheduler}
@@ -41,9 +43,9 @@ module _ (v : List ℕ) (s : State) (h : Says v s) where
   unfolding joinedIn
   joined-says q e l there room = subst (λ (x : List ℕ). Says x (enlist q e s)) (sym (if-yes _ _ l)) (last-says v s h q (list-block q l .1) there e room)
 
--- ---- words whose cells a turn has changed already
+-- ---- words whose cells, with their count, a turn has changed already
 abbrev pub withCellWords : List ℕ → List Stored → List ℕ
-withCellWords w cs = pasted w 4562 (cellWords cs) 256
+withCellWords w cs = set (pasted w 4562 (cellWords cs) 256) 1 (usedCells cs)
 
 module _ (w : List ℕ) (s : State) (h : Says w s) where
   module _ (cs : List Stored) where
@@ -53,16 +55,38 @@ module _ (w : List ℕ) (s : State) (h : Says w s) where
     cells-room : 256 ≤ length (cellWords cs)
     cells-room = rw cells-length (omega arith)
 
+    pasted-all : length (pasted w 4562 (cellWords cs) 256) ≡ 4818
+    pasted-all = pasted-length w 4562 (cellWords cs) 256 words-room cells-room ∙ h .all
+
     cells-all : length (withCellWords w cs) ≡ 4818
-    cells-all = pasted-length w 4562 (cellWords cs) 256 words-room cells-room ∙ h .all
+    cells-all = length-set (pasted w 4562 (cellWords cs) 256) 1 (usedCells cs) ∙ pasted-all
 
-    pub cells-out : (i : ℕ) → i < 4562 → getD (withCellWords w cs) i 0 ≡ getD w i 0
-    cells-out i l = pasted-out w 4562 (cellWords cs) 256 words-room cells-room i (λ p q. omega arith)
+    counted : getD (withCellWords w cs) 1 0 ≡ usedCells cs
+    counted =
+        let l = pasted-all in
+        getD-set-same (pasted w 4562 (cellWords cs) 256) 1 (usedCells cs) 0 (omega arith)
 
-    cells-in : (j : ℕ) → j < 256 → getD (withCellWords w cs) (4562 + j) 0 ≡ cellWord (getD cs j noCell)
-    cells-in j l = pasted-in w 4562 (cellWords cs) 256 words-room cells-room j l ∙ cells-at cs j l
+    -- all but the count
+    not-counted : (i : ℕ) → (i ≡ 1 → ⊥)
+        → getD (withCellWords w cs) i 0 ≡ getD (pasted w 4562 (cellWords cs) 256) i 0
+    not-counted i d = getD-set-other (pasted w 4562 (cellWords cs) 256) 1 i (usedCells cs) 0 d
 
-    pub settled-says : (k : ℕ) (x : Thread) → k < 64 → k < length (s .threads) → Says (settledIn (withCellWords w cs) k (wordsOf x) (usedCells cs)) (withThread (suc k) x (withCells cs s))
+    pub cells-out : (i : ℕ) → (i ≡ 1 → ⊥) → i < 4562
+        → getD (withCellWords w cs) i 0 ≡ getD w i 0
+    cells-out i d l =
+        not-counted i d
+        ∙ pasted-out w 4562 (cellWords cs) 256 words-room cells-room i (λ p q. omega arith)
+
+    cells-in : (j : ℕ) → j < 256
+        → getD (withCellWords w cs) (4562 + j) 0 ≡ cellWord (getD cs j noCell)
+    cells-in j l =
+        not-counted (4562 + j) (λ e. omega arith)
+        ∙ pasted-in w 4562 (cellWords cs) 256 words-room cells-room j l
+        ∙ cells-at cs j l
+
+    pub settled-says : (k : ℕ) (x : Thread) → k < 64 → k < length (s .threads)
+        → Says (settledIn (withCellWords w cs) k (wordsOf x))
+        (withThread (suc k) x (withCells cs s))
     unfolding settledIn putThread
     settled-says k x a b = store-says _ (withCells cs s) (put-cells w s h cs) k x a b
 
@@ -70,7 +94,9 @@ module _ (w : List ℕ) (s : State) (h : Says w s) where
     unfolding roomIn
     room-is q m l there =
         let b = list-block q l in
-        let e = cells-out (67 + 130 * (q - 2)) (omega arith) ∙ room-says w s h q (b .1) there in
+        let e =
+        cells-out (67 + 130 * (q - 2)) (λ z. omega arith) (omega arith)
+        ∙ room-says w s h q (b .1) there in
         ap (λ (x : Bool). x && leb (getD (withCellWords w cs) (67 + 130 * (q - 2)) 0 + m) 64) l ∙ ap (λ (x : ℕ). leb (x + m) 64) e
 
   -- where the turn has made the cells ds behind the old ones, clearing those gives the words of s again
@@ -87,8 +113,12 @@ module _ (w : List ℕ) (s : State) (h : Says w s) where
     abbrev zeros : List ℕ
     zeros = replicate (all - old) 0
 
+    -- the new cells' words are 0; then as many are in use as before
+    abbrev blank : List ℕ
+    blank = pasted made (4562 + old) zeros (all - old)
+
     abbrev cleared : List ℕ
-    cleared = pasted made (4562 + old) zeros (all - old)
+    cleared = set blank 1 old
 
     count : all ≡ old + length ds
     count = length-append (s .cells) ds
@@ -102,11 +132,22 @@ module _ (w : List ℕ) (s : State) (h : Says w s) where
     size : all - old ≤ length zeros
     size = rw (length-replicate {A = ℕ} (all - old) 0) (omega arith)
 
-    out : (i : ℕ) → i < 4562 → getD cleared i 0 ≡ getD w i 0
-    out i l = pasted-out made (4562 + old) zeros (all - old) room size i (λ p q. omega arith) ∙ cells-out (s .cells ++ ds) i l
+    blank-all : length blank ≡ 4818
+    blank-all = pasted-length made (4562 + old) zeros (all - old) room size ∙ long
+
+    -- all but the count
+    uncounted : (i : ℕ) → (i ≡ 1 → ⊥) → getD cleared i 0 ≡ getD blank i 0
+    uncounted i d = getD-set-other blank 1 i old 0 d
+
+    out : (i : ℕ) → (i ≡ 1 → ⊥) → i < 4562 → getD cleared i 0 ≡ getD w i 0
+    out i d l =
+        uncounted i d
+        ∙ pasted-out made (4562 + old) zeros (all - old) room size i (λ p q. omega arith)
+        ∙ cells-out (s .cells ++ ds) i d l
 
     -- an old cell, one that the turn has made, an unused one
-    cell : (j : ℕ) → j < 256 → (a b : Bool) → ltb j old ≡ a → ltb j all ≡ b → getD cleared (4562 + j) 0 ≡ cellWord (getD (s .cells) j noCell)
+    cell : (j : ℕ) → j < 256 → (a b : Bool) → ltb j old ≡ a → ltb j all ≡ b
+        → getD blank (4562 + j) 0 ≡ cellWord (getD (s .cells) j noCell)
     cell j l true b e f =
         let m : j < old = ltb-true j old e in
         pasted-out made (4562 + old) zeros (all - old) room size (4562 + j) (λ p q. omega arith) ∙ cells-in (s .cells ++ ds) j l
@@ -115,7 +156,9 @@ module _ (w : List ℕ) (s : State) (h : Says w s) where
         let m : old ≤ j = ltb-false j old e in
         let k : j < all = ltb-true j all f in
         let y : 4562 + j ≡ 4562 + old + (j - old) = omega arith in
-        ap (λ (i : ℕ). getD cleared i 0) y ∙ pasted-in made (4562 + old) zeros (all - old) room size (j - old) (omega arith) ∙ getD-replicate (all - old) (j - old) 0 0 (omega arith)
+        ap (λ (i : ℕ). getD blank i 0) y
+        ∙ pasted-in made (4562 + old) zeros (all - old) room size (j - old) (omega arith)
+        ∙ getD-replicate (all - old) (j - old) 0 0 (omega arith)
         ∙ no-cell-word ∙ ap cellWord (sym (List·getD-eq-default (s .cells) noCell {n = j} m))
     cell j l false false e f =
         let m : old ≤ j = ltb-false j old e in
@@ -126,19 +169,31 @@ module _ (w : List ℕ) (s : State) (h : Says w s) where
 
     cleared-says : Says cleared s
     cleared-says = record {
-      all = pasted-length made (4562 + old) zeros (all - old) room size ∙ long;
-      threads = out 0 (omega arith) ∙ h .threads;
-      cells = out 1 (omega arith) ∙ h .cells;
-      scheduler = λ k j a b. out (2 + 130 * k + j) (omega arith) ∙ h .scheduler k j a b;
-      thread = λ k j a b. out (1042 + 55 * k + j) (omega arith) ∙ h .thread k j a b;
-      cell = λ j l. cell j l (ltb j old) (ltb j all) refl refl;
+      all = length-set blank 1 old ∙ blank-all;
+      threads = out 0 (λ e. omega arith) (omega arith) ∙ h .threads;
+      cells = let l = blank-all in getD-set-same blank 1 old 0 (omega arith);
+      scheduler =
+          λ k j a b. out (2 + 130 * k + j) (λ e. omega arith) (omega arith) ∙ h .scheduler k j a b;
+      thread =
+          λ k j a b. out (1042 + 55 * k + j) (λ e. omega arith) (omega arith) ∙ h .thread k j a b;
+      cell =
+          λ j l.
+          uncounted (4562 + j) (λ e. omega arith)
+          ∙ cell j l (ltb j old) (ltb j all) refl refl;
     }
 
-    cleared-back : clearedIn made old all ≡ w
+    cleared-back : clearedIn made old ≡ w
     unfolding clearedIn
-    cleared-back = is-pack cleared s cleared-says ∙ sym (is-pack w s h)
+    cleared-back =
+        ap (λ (n : ℕ). set (pasted made (4562 + old) (replicate (n - old) 0) (n - old)) 1 old)
+        (counted (s .cells ++ ds))
+        ∙ is-pack cleared s cleared-says
+        ∙ sym (is-pack w s h)
 
   -- a refused turn leaves the words as they were
-  pub cleared-is : (cs : List Stored) → Grown (s .cells) cs → usedCells cs ≤ 256 → clearedIn (withCellWords w cs) (usedCells (s .cells)) (usedCells cs) ≡ w
+  pub cleared-is : (cs : List Stored) → Grown (s .cells) cs → usedCells cs ≤ 256
+      → clearedIn (withCellWords w cs) (usedCells (s .cells)) ≡ w
   cleared-is cs g few =
-      subst (λ (l : List Stored). length l ≤ 256 → clearedIn (withCellWords w l) (usedCells (s .cells)) (length l) ≡ w) (sym (g .is)) (λ k. cleared-back (g .more) k) few
+      subst (λ (l : List Stored).
+      length l ≤ 256 → clearedIn (withCellWords w l) (usedCells (s .cells)) ≡ w)
+      (sym (g .is)) (λ k. cleared-back (g .more) k) few

@@ -1,14 +1,14 @@
 -- Each fate of a turn, committed on the words, is what the rules make of the state. Assumes nothing.
 use Prim.Native.Nat.{ℕ, suc, _+_, _-_, _<_, _≤_}
-use mathlib.Core.Path.{_≡_, refl, sym, ap, ap₂, _∙_, subst}
+use mathlib.Core.Path.{_≡_, refl, sym, ap, _∙_, subst}
 use mathlib.Core.List.{List}
-use mathlib.Core.Bool.{Bool, true, false, _&&_}
+use mathlib.Core.Bool.{Bool, true, false}
 use native.Mathlib.Omega.{arith}
 use lib.Dec.{leb, eqb}
-use lib.ListN.{length, length-set}
-use borrow.Author.Tests.{leb-true, le-leb, eqb-false}
+use lib.ListN.{length, set, length-set}
+use borrow.Author.Tests.{leb-true, eqb-false}
 use Rattle.basics.specs.If.{if_then_else_}
-use Rattle.basics.proofs.Ifs.{if-all, if-yes, if-no, and-true}
+use Rattle.basics.proofs.Ifs.{if-all, if-yes, if-no}
 use Rattle.language.specs.Places.{private, hasPlace, hasScheduler, isScheduler}
 use Rattle.language.specs.declared.frame.Frame.{Frame}
 use Rattle.language.proofs.PlaceLaws.{from-home, has-scheduler, place-scheduler as file-scheduler}
@@ -17,7 +17,7 @@ use Rattle.machine.specs.Accesses.{Access}
 use Rattle.machine.specs.State.{State, Stored, Thread, Entry, plain, schedulerAt, enlist, usedCells}
 use Rattle.machine.specs.Turns.{stateSpaces, Stepped, Turn, refuse, accept, settled, isSchedulerOf, leave, room}
 use Rattle.machine.specs.Words.{pack, entryWord}
-use Rattle.machine.specs.inner.Blocks.{pasted}
+use Rattle.machine.specs.inner.Blocks.{pasted, cellWords}
 use Rattle.machine.specs.Calls.{Called, calledOf}
 use Rattle.machine.proofs.WordLaws.{Says, is-pack}
 use Rattle.machine.specs.Shapes.{Shaped}
@@ -26,7 +26,7 @@ use Rattle.states.specs.declared.thread.ThreadWords.{ThreadWords}
 use Rattle.states.specs.inner.Threads.{wordsOf}
 use Rattle.acts.specs.declared.act.Fate.the-variants.{Stays, Leaves, Joins}
 use Rattle.acts.specs.inner.Fates.{Turned, actedIn, refusedIn}
-use Rattle.turns.specs.inner.Acts.{ActedOn}
+use Rattle.turns.specs.inner.Acts.{ActedOn, actedOn}
 use Rattle.commits.specs.inner.Commits.{called, settledIn, leftIn, roomIn, joinsIn, committedIn}
 use Rattle.stepper.proofs.Grows.{Grown}
 use Rattle.stepper.proofs.Commits.{withCellWords, left-says, joined-says, settled-says, room-is, cleared-is}
@@ -71,12 +71,15 @@ module _ {fs : List Frame} {P : Program} {n : ℕ} {w : List ℕ} {s : State} {c
   abbrev pub turnAt : Thread → List Stored → List Access → Turn
   turnAt x cs acc = record { program = P; state = s; choice = c; thread = suc k; self = x; cells = cs; accesses = acc; spaces = stateSpaces }
 
-  -- what the turn has come to, committed: on the words with those cells, and where the cells are given as words
-  abbrev pub commit : Turned → List Stored → Called
-  commit a cs = committedIn P (withCellWords w cs) (usedCells (s .cells)) c (suc k) a (a .fate)
-
+  -- what the turn has come to, committed on the words with its cells and their count; and where the
+  -- cells are those
   abbrev pub commitOn : ActedOn → Called
-  commitOn r = committedIn P (pasted w 4562 (r .cells) 256) (usedCells (s .cells)) c (suc k) (r .acted) (r .acted .fate)
+  commitOn r =
+      committedIn P (set (pasted w 4562 (r .cells) 256) 1 (r .acted .used)) (usedCells (s .cells)) c
+      (suc k) (r .acted) (r .acted .fate)
+
+  abbrev pub commit : Turned → List Stored → Called
+  commit a cs = commitOn (actedOn a (cellWords cs))
 
   -- ---- what holds of lists
   few : k < 64
@@ -106,12 +109,14 @@ module _ {fs : List Frame} {P : Program} {n : ℕ} {w : List ℕ} {s : State} {c
       abbrev after : State
       after = settled u y
 
-      pub settled-is : Says (settledIn (withCellWords w cs) (suc k - 1) (wordsOf y) (usedCells cs)) after
+      pub settled-is : Says (settledIn (withCellWords w cs) (suc k - 1) (wordsOf y)) after
       settled-is =
-          subst (λ (i : ℕ). Says (settledIn (withCellWords w cs) i (wordsOf y) (usedCells cs)) after) (sym (less-one k))
+          subst (λ (i : ℕ). Says (settledIn (withCellWords w cs) i (wordsOf y)) after)
+          (sym (less-one k))
           (settled-says w s (A .says) cs k y few (A .there))
 
-      pub left-is : Says (leftIn (settledIn (withCellWords w cs) (suc k - 1) (wordsOf y) (usedCells cs)) c) (leave u after)
+      pub left-is :
+          Says (leftIn (settledIn (withCellWords w cs) (suc k - 1) (wordsOf y)) c) (leave u after)
       left-is = left-says _ after settled-is u (A .list) chosen-there (active-few c)
 
       pub stays-is : commit (actedIn Stays (wordsOf y) (usedCells cs)) cs ≡ calledOf w (accept u after)

@@ -30,7 +30,8 @@ use Rattle.machine.proofs.KeptShape.{leave-next, enlist-next, has-room, settled
 use Rattle.states.specs.declared.thread.ThreadWords.{ThreadWords}
 use Rattle.states.specs.inner.Threads.{wordsOf, withOneMore}
 use Rattle.states.proofs.ThreadSays.{add-says}
-use Rattle.acts.specs.inner.Fates.{Turned}
+use Rattle.acts.specs.declared.act.Arguments.{Arguments}
+use Rattle.acts.specs.inner.Fates.{Turned, argumentsOf}
 use Rattle.turns.specs.inner.Acts.{startsWith, request}
 use Rattle.program.specs.inner.Modules.{foundIn}
 use Rattle.commits.specs.inner.Commits.{called, settledIn, leftIn, roomIn, joinedIn, newIn, obstacleIn, refusesIn, startsIn, startedIn, waitingIn}
@@ -55,6 +56,11 @@ two-words (a ∷ b ∷ []) h zero = refl
 two-words (a ∷ b ∷ []) h (suc zero) = refl
 two-words (a ∷ b ∷ []) h (suc (suc j)) = refl
 two-words (a ∷ b ∷ d ∷ vs) h j = absurd (omega arith)
+
+-- the words of those values, as a start takes them
+abbrev argumentWords : List Value → Arguments
+argumentWords vs =
+    argumentsOf (length vs) (getD (map valueWord vs) 0 0) (getD (map valueWord vs) 1 0)
 
 -- the definition's tests and those of the rules
 not-less : (a b : ℕ) → not (ltb a b) ≡ leb b a
@@ -82,10 +88,11 @@ module _ {fs : List Frame} {P : Program} {n : ℕ} {w : List ℕ} {s : State} {c
   -- the turn's words, with those arguments
   abbrev pub argued : Bool → ℕ → List Value → Turned
   argued waits m vs =
-      startsWith (request waits m) (wordsOf x) (usedCells cs) (length vs) (getD (map valueWord vs) 0 0) (getD (map valueWord vs) 1 0)
+      startsWith (request waits m) (wordsOf x) (usedCells cs) (argumentWords vs)
 
   new-is : (waits : Bool) (m : ℕ) (vs : List Value) → length (map valueWord vs) ≤ 2
-      → newIn (argued waits m vs) (suc k) (rootS (moduleAt P m .body)) ≡ wordsOf (started u (moduleAt P m) vs)
+      → newIn (argued waits m vs) (argumentWords vs) (suc k) (rootS (moduleAt P m .body))
+      ≡ wordsOf (started u (moduleAt P m) vs)
   unfolding itemWord
   new-is waits m vs h = λ i. record {
     place = x .place;
@@ -105,7 +112,7 @@ module _ {fs : List Frame} {P : Program} {n : ℕ} {w : List ℕ} {s : State} {c
   room-same m e = let z = list-there A (x .place) (linked-place e) in room-is w s (A .says) cs (x .place) m (z .1) (z .0)
 
   count : getD v 0 0 ≡ length (s .threads)
-  count = cells-out w s (A .says) cs 0 (omega arith) ∙ A .says .threads
+  count = cells-out w s (A .says) cs 0 (λ e. omega arith) (omega arith) ∙ A .says .threads
 
   -- ---- what stands in the way: the words' obstacle for each test of the rules, in their order
   module _ (m : ℕ) (vs : List Value) where
@@ -145,7 +152,8 @@ module _ {fs : List Frame} {P : Program} {n : ℕ} {w : List ℕ} {s : State} {c
       unfolding startsIn
       refused i h e =
           if-yes _ _ (ap (λ (j : ℕ). not (eqb j 0)) h ∙ ap not e)
-          ∙ ap (λ (j : ℕ). refusesIn v (usedCells (s .cells)) (suc k) (argued waits m vs) j) h ∙ refuse-is A x cs acc i (wordsOf x) g l e
+          ∙ ap (λ (j : ℕ). refusesIn v (usedCells (s .cells)) (suc k) j) h
+          ∙ refuse-is A x cs acc i (wordsOf x) g l e
 
       pub start-commits : (r : Stepped)
           → (obstacle ≡ 0 → unlinkedHere u ≡ false → room u 1 (x .place) ≡ true → length (s .threads) < 64
@@ -171,12 +179,16 @@ module _ {fs : List Frame} {P : Program} {n : ℕ} {w : List ℕ} {s : State} {c
     next-new : getD v 0 0 + 1 ≡ suc (length (s .threads))
     next-new = ap (λ (i : ℕ). i + 1) count ∙ add-one (length (s .threads))
 
-    plain-commit : commit A (argued false m vs) cs ≡ called 0 (suc k) (startedIn v (suc k) (argued false m vs) (rootS (moduleAt P m .body)))
+    plain-commit : commit A (argued false m vs) cs
+        ≡ called 0 (suc k)
+        (startedIn v (suc k) (argued false m vs) (argumentWords vs) (rootS (moduleAt P m .body)))
     unfolding startsIn foundIn
     plain-commit = if-no _ _ (ap (λ (j : ℕ). not (eqb j 0)) ob) ∙ if-yes _ _ refl
 
     waiting-commit : commit A (argued true m vs) cs
-        ≡ (if not (roomIn v (x .place) 2) then refusesIn v (usedCells (s .cells)) (suc k) (argued true m vs) 20 else called 0 (suc k) (waitingIn v c (suc k) (argued true m vs) (rootS (moduleAt P m .body))))
+        ≡ (if not (roomIn v (x .place) 2) then refusesIn v (usedCells (s .cells)) (suc k) 20 else
+        called 0 (suc k)
+        (waitingIn v c (suc k) (argued true m vs) (argumentWords vs) (rootS (moduleAt P m .body))))
     unfolding startsIn foundIn
     waiting-commit = if-no _ _ (ap (λ (j : ℕ). not (eqb j 0)) ob) ∙ if-no _ _ refl
 
@@ -186,7 +198,11 @@ module _ {fs : List Frame} {P : Program} {n : ℕ} {w : List ℕ} {s : State} {c
     unfolding entryWord
     started-is r =
         plain-commit
-        ∙ ap (called 0 (suc k)) (ap₂ (λ (th : ThreadWords) (e : ℕ). joinedIn (withOneMore (settledIn v (suc k - 1) (wordsOf x) (usedCells cs)) th) (x .place) e) (new-is false m vs few) next-new ∙ is-pack _ _ says)
+        ∙ ap (called 0 (suc k))
+        (ap₂ (λ (th : ThreadWords) (e : ℕ).
+        joinedIn (withOneMore (settledIn v (suc k - 1) (wordsOf x)) th) (x .place) e)
+        (new-is false m vs few) next-new
+        ∙ is-pack _ _ says)
       where
         new : Thread
         new = started u (moduleAt P m) vs
@@ -194,7 +210,10 @@ module _ {fs : List Frame} {P : Program} {n : ℕ} {w : List ℕ} {s : State} {c
         after : State
         after = withNew (started u (moduleAt P m) vs) (settled u x)
 
-        says : Says (joinedIn (withOneMore (settledIn v (suc k - 1) (wordsOf x) (usedCells cs)) (wordsOf (started u (moduleAt P m) vs))) (x .place) (entryWord (plain (suc (length (s .threads))))))
+        says : Says
+            (joinedIn (withOneMore (settledIn v (suc k - 1) (wordsOf x))
+            (wordsOf (started u (moduleAt P m) vs)))
+            (x .place) (entryWord (plain (suc (length (s .threads))))))
             (enlist (x .place) (plain (suc (length (s .threads)))) (withNew (started u (moduleAt P m) vs) (settled u x)))
         says =
             joined-says _ after (add-says _ (settled u x) (settled-is A x cs acc x) new (rw (settled-length fs P n (A .file) u x) less)) (x .place) (plain (suc (length (s .threads)))) (list-here .1) (list-here .0)
@@ -205,14 +224,18 @@ module _ {fs : List Frame} {P : Program} {n : ℕ} {w : List ℕ} {s : State} {c
     unfolding startedWait entryWord
     waits-is =
         waiting-commit
-        ∙ if-all (λ (y : Stepped). (if not (roomIn v (x .place) 2) then refusesIn v (usedCells (s .cells)) (suc k) (argued true m vs) 20 else called 0 (suc k) (waitingIn v c (suc k) (argued true m vs) (rootS (moduleAt P m .body)))) ≡ calledOf w y)
+        ∙ if-all (λ (y : Stepped).
+        (if not (roomIn v (x .place) 2) then refusesIn v (usedCells (s .cells)) (suc k) 20 else
+        called 0 (suc k)
+        (waitingIn v c (suc k) (argued true m vs) (argumentWords vs) (rootS (moduleAt P m .body))))
+        ≡ calledOf w y)
         (room u 2 (x .place)) (accept u (enlist (x .place) (waiting (suc k) t) first)) (refuse u 20)
         (λ e. if-no _ _ (ap not (room-same 2 linked ∙ e))
         ∙ ap (called 0 (suc k)) (ap₂ (λ (th : ThreadWords) (i : ℕ). joinedIn (joinedIn (withOneMore left th) (x .place) i) (x .place) (128 * i + suc k)) (new-is true m vs few) next-new ∙ is-pack _ _ (says e)))
         (λ e. if-yes _ _ (ap not (room-same 2 linked ∙ e)) ∙ refuse-is A x cs acc 20 (wordsOf x) g l refl)
       where
         left : List ℕ
-        left = leftIn (settledIn v (suc k - 1) (wordsOf x) (usedCells cs)) c
+        left = leftIn (settledIn v (suc k - 1) (wordsOf x)) c
 
         new : Thread
         new = started u (moduleAt P m) vs

@@ -4,8 +4,8 @@ use mathlib.Core.Path.{_≡_, sym, ap, _∙_, subst}
 use mathlib.Core.List.{List, []}
 use mathlib.Core.Bool.{true}
 use native.Mathlib.Omega.{arith}
-use lib.ListN.{length, getD, List·getD-eq-default}
-use lib.Seq.{set-out}
+use lib.ListN.{length, getD, set, length-set, List·getD-eq-default}
+use lib.Seq.{getD-set-other, set-out}
 use Rattle.language.specs.Places.{isPlace}
 use Rattle.text.specs.Frames.{framesOf}
 use Rattle.program.specs.Programs.{Program, programOf}
@@ -56,14 +56,22 @@ module _ (frames : List ℕ) (shared : ℕ) (w : List ℕ) (h : StepWords frames
     abbrev turnFor : ℕ → ActedOn
     turnFor i = turnIn (framesOf frames) (whoIn frames shared w t) (wordsOf (threadAt s i)) (usedCells (s .cells)) (cellWords (s .cells))
 
-    -- the turn has changed the cells alone: the thread's words are as before
-    kept : (a : Acted) (v : List ℕ) → turnOn a v frames shared w t → threadIn v (t - 1) ≡ wordsOf (threadAt s t)
+    -- the turn has changed the cells and their count alone: the thread's words are as before
+    kept : (a : Acted) (v : List ℕ) → turnOn a v frames shared w t
+        → threadIn v (t - 1) ≡ wordsOf (threadAt s t)
     kept a v o =
         let z = says frames shared w h .all in
         let m = threads-few frames shared w h in
         let l = o .whole in
-        same-thread w v (t - 1) (omega arith) z (ap length (o .words) ∙ pasted-length w 4562 (turnOf frames shared w t .cells) 256 (omega arith) (omega arith) ∙ z)
-        (λ i d g. ap (λ (u : List ℕ). getD u i 0) (o .words) ∙ pasted-out w 4562 (turnOf frames shared w t .cells) 256 (omega arith) (omega arith) i (λ a b. omega arith))
+        let y = turnOf frames shared w t in
+        let p = pasted w 4562 (y .cells) 256 in
+        same-thread w v (t - 1) (omega arith) z
+        (ap length (o .words) ∙ length-set p 1 (y .acted .used)
+        ∙ pasted-length w 4562 (y .cells) 256 (omega arith) (omega arith) ∙ z)
+        (λ i d g.
+        ap (λ (u : List ℕ). getD u i 0) (o .words)
+        ∙ getD-set-other p 1 i (y .acted .used) 0 (λ e. omega arith)
+        ∙ pasted-out w 4562 (y .cells) 256 (omega arith) (omega arith) i (λ a b. omega arith))
         ∙ thread-read frames shared w h t low high
 
     -- what the commit asks
@@ -90,14 +98,27 @@ module _ (frames : List ℕ) (shared : ℕ) (w : List ℕ) (h : StepWords frames
     pub commit-gives : (a : Acted) (v v' : List ℕ) (used r : ℕ) → turnOn a v frames shared w t → used ≡ getD w 1 0
         → called r t v' ≡ committedIn P v used c t (after v t a) (a .fate) → called r t v' ≡ calledOf w (stepThread P s c t)
     commit-gives a v v' used r o u e =
-        e ∙ ap (λ (x : ThreadWords). committedIn P v used c t (turned a (popped x)) (a .fate)) (kept a v o)
+        e
+        ∙ ap (λ (x : ThreadWords).
+        committedIn P v used c t (turned a (getD v 1 0) (popped x)) (a .fate)) (kept a v o)
         ∙ ap (λ (x : Turned). committedIn P v used c t x (x .fate)) (o .acted)
-        ∙ ap (λ (x : List ℕ). committedIn P x used c t (turnOf frames shared w t .acted) (turnOf frames shared w t .acted .fate)) (o .words)
-        ∙ ap (λ (i : ℕ). committedIn P (pasted w 4562 (turnOf frames shared w t .cells) 256) i c t (turnOf frames shared w t .acted) (turnOf frames shared w t .acted .fate)) (u ∙ says frames shared w h .cells)
+        ∙ ap (λ (x : List ℕ). committedIn P x used c t (y .acted) (y .acted .fate)) (o .words)
+        ∙ ap (λ (i : ℕ). committedIn P (on y) i c t (y .acted) (y .acted .fate))
+        (u ∙ says frames shared w h .cells)
         ∙ subst Goal number-same (turn-is acts (whoIn frames shared w t) who-is)
       where
+        y : ActedOn
+        y = turnOf frames shared w t
+
+        -- the words with the cells of that turn and their count
+        on : ActedOn → List ℕ
+        on r = set (pasted w 4562 (r .cells) 256) 1 (r .acted .used)
+
         Goal : ℕ → Type 0
-        Goal i = committedIn P (pasted w 4562 (turnFor i .cells) 256) (usedCells (s .cells)) c i (turnFor i .acted) (turnFor i .acted .fate) ≡ calledOf w (stepThread P s c i)
+        Goal i =
+            committedIn P (on (turnFor i)) (usedCells (s .cells)) c i
+            (turnFor i .acted) (turnFor i .acted .fate)
+            ≡ calledOf w (stepThread P s c i)
 
   -- ---- a thread that is not there has nothing to run: it ends, and no thread changes
   module _ (high : getD w 0 0 < t) where

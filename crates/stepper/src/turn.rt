@@ -25,12 +25,12 @@ ghost use Rattle.machine.specs.Calls.{calledOf};
 ghost use Rattle.commits.specs.inner.Commits.{called};
 ghost use Rattle.stepper.specs.inner.Files.{StepWords, stateIn, turnOn, TurnChoice};
 
-// What the turn of a thread that is there comes to. Of the words, only those of the cells are written.
+// What the turn of a thread that is there comes to. Of the words, only those of the cells and of
+// their count are written.
 fn act_in(frames: &[u64], shared: usize, state: &mut [u64], t: u64) -> Acted
     requires { ⌜ StepWords (now frames) shared (now state) × (1 ≤ t) × (t ≤ getD (now state) threadCountAt 0) ⌝ }
     ensures { λ r. ⌜ turnOn r (now (state .exit)) (now (frames .entry)) shared (now (state .entry)) t ⌝ }
 {
-    let used = state[CELL_COUNT_AT] as usize;
     let k = (t - 1) as usize;
     let at = THREADS_AT + THREAD_LENGTH * k;
     let place = Place::known(state[at]);
@@ -45,7 +45,7 @@ fn act_in(frames: &[u64], shared: usize, state: &mut [u64], t: u64) -> Acted
         shared,
     };
     let item = top_item(state, k);
-    act(frames, who, v, item, state, used)
+    act(frames, who, v, item, state)
 }
 
 // Thread t takes its turn at that choice. One that a list names and that is not there ends: it leaves the list.
@@ -57,7 +57,7 @@ pub(crate) fn turn(frames: &[u64], shared: usize, state: &mut [u64], choice: u64
         leave(state, choice);
         return 0;
     }
-    let used = state[CELL_COUNT_AT] as usize;
+    let before = state[CELL_COUNT_AT] as usize;
     let a = act_in(frames, shared, state, t);
-    commit(frames, state, used, choice, t, a)
+    commit(frames, state, before, choice, t, a)
 }

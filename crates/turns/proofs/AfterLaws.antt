@@ -15,8 +15,8 @@ use Rattle.turns.proofs.ViewLaws.{Turns, refused-so}
 
 pub after-turns : (o : Outcome) (n : ℕ) (v : View) (k : Value → Acted)
     (f : ThreadWords → Value → Turned)
-    → ((x : Value) → Turns (k x) v (λ th. f th x))
-    → Turns (afterValue o n k) v (λ th. thenActs o th n (f th))
+    → ((x : Value) → Turns (k x) n v (λ th. f th x))
+    → Turns (afterValue o k) n v (λ th. thenActs o th n (f th))
 unfolding afterValue
 after-turns (Is x) n v k f h = h x
 after-turns Foreign n v k f h = refused-so v 19 n
@@ -24,8 +24,8 @@ after-turns Spent n v k f h = refused-so v 17 n
 after-turns Stuck n v k f h = refused-so v 20 n
 
 pub truth-turns : (x : Value) (n : ℕ) (v : View) (a b : Acted) (f g : ThreadWords → Turned)
-    → Turns a v f → Turns b v g
-    → Turns (byTruth x n a b) v (λ th. byTruthIn x th n (f th) (g th))
+    → Turns a n v f → Turns b n v g
+    → Turns (byTruth x a b) n v (λ th. byTruthIn x th n (f th) (g th))
 truth-turns (Truth true) n v a b f g h k = h
 truth-turns (Truth false) n v a b f g h k = k
 truth-turns (Number m) n v a b f g h k = refused-so v 20 n

@@ -16,7 +16,7 @@ use Rattle.machine.specs.declared.value.Outcome.{Outcome}
 use Rattle.machine.specs.declared.value.Outcome.the-variants.{Is, Foreign, Spent, Stuck}
 use Rattle.machine.proofs.value.Outcome as outcome
 use Rattle.acts.specs.declared.act.Acted.{Acted}
-use Rattle.acts.specs.inner.Fates.{refusedWith}
+use Rattle.acts.specs.inner.Fates.{argumentsOf, refusedWith}
 use Rattle.turns.specs.declared.view.View.{View}
 use Rattle.turns.specs.declared.start.Request.{Request}
 use Rattle.turns.specs.inner.Actions.{letMore, afterValue, byTruth, letAfter, startWith, startOne, startTwo}
@@ -30,58 +30,60 @@ no-refusal v (inl e) = omega arith
 no-refusal v (inr (inl e)) = omega arith
 no-refusal v (inr (inr e)) = omega arith
 
-pub refused-as : (o : Outcome) (n m : ℕ) (r : Acted) → m ≡ answerOf o → r ≡ refusedWith m n
-    → r ≡ refusedWith (answerOf o) n
-refused-as o n m r e h = h ∙ ap (λ (x : ℕ). refusedWith x n) e
+pub refused-as : (o : Outcome) (m : ℕ) (r : Acted) → m ≡ answerOf o → r ≡ refusedWith m
+    → r ≡ refusedWith (answerOf o)
+refused-as o m r e h = h ∙ ap refusedWith e
 
 -- ---- by the outcome
-module _ (o : Outcome) (n : ℕ) (k : Value → Acted) (r : Acted) where
-  pub after-refused : IsRefusal o → r ≡ refusedWith (answerOf o) n → r ≡ afterValue o n k
+module _ (o : Outcome) (k : Value → Acted) (r : Acted) where
+  pub after-refused : IsRefusal o → r ≡ refusedWith (answerOf o) → r ≡ afterValue o k
   unfolding afterValue
   after-refused h e = e ∙ by o h
     where
-      by : (p : Outcome) → IsRefusal p → refusedWith (answerOf p) n ≡ afterValue p n k
+      by : (p : Outcome) → IsRefusal p → refusedWith (answerOf p) ≡ afterValue p k
       by (Is v) l = absurd (no-refusal v l)
       by Foreign l = refl
       by Spent l = refl
       by Stuck l = refl
 
-  pub after-is : (x : Value) → o ≡ Is x → r ≡ k x → r ≡ afterValue o n k
+  pub after-is : (x : Value) → o ≡ Is x → r ≡ k x → r ≡ afterValue o k
   unfolding afterValue
-  after-is x e h = h ∙ ap (λ (p : Outcome). afterValue p n k) (sym e)
+  after-is x e h = h ∙ ap (λ (p : Outcome). afterValue p k) (sym e)
 
 -- a value that goes on as its word
 module _
-    (o : Outcome) (n : ℕ) (r : Acted) (x : Value) (m : ℕ) (e : o ≡ Is x) (h : m ≡ valueWord x) where
-  pub after-lets : (v : View) (body : ℕ) → r ≡ letMore v n m body
-      → r ≡ afterValue o n (letAfter v body n)
+    (o : Outcome) (r : Acted) (x : Value) (m : ℕ) (e : o ≡ Is x) (h : m ≡ valueWord x) where
+  pub after-lets : (v : View) (body : ℕ) → r ≡ letMore v m body
+      → r ≡ afterValue o (letAfter v body)
   after-lets v body q =
-      after-is o n (letAfter v body n) r x e (q ∙ ap (λ (w : ℕ). letMore v n w body) h)
+      after-is o (letAfter v body) r x e (q ∙ ap (λ (w : ℕ). letMore v w body) h)
 
-  pub after-starts-one : (s : Request) → r ≡ startWith s n 1 m 0 → r ≡ afterValue o n (startOne s n)
+  pub after-starts-one : (s : Request) → r ≡ startWith s (argumentsOf 1 m 0)
+      → r ≡ afterValue o (startOne s)
   after-starts-one s q =
-      after-is o n (startOne s n) r x e (q ∙ ap (λ (w : ℕ). startWith s n 1 w 0) h)
+      after-is o (startOne s) r x e (q ∙ ap (λ (w : ℕ). startWith s (argumentsOf 1 w 0)) h)
 
-  pub after-starts-two : (s : Request) (first : ℕ) → r ≡ startWith s n 2 first m
-      → r ≡ afterValue o n (startTwo s first n)
+  pub after-starts-two : (s : Request) (first : ℕ) → r ≡ startWith s (argumentsOf 2 first m)
+      → r ≡ afterValue o (startTwo s first)
   after-starts-two s first q =
-      after-is o n (startTwo s first n) r x e (q ∙ ap (λ (w : ℕ). startWith s n 2 first w) h)
+      after-is o (startTwo s first) r x e
+      (q ∙ ap (λ (w : ℕ). startWith s (argumentsOf 2 first w)) h)
 
 -- ---- by the condition: a truth chooses, any other value is 20
-module _ (x : Value) (n : ℕ) (a b r : Acted) where
-  at-value : (u : Value) → x ≡ u → r ≡ byTruth u n a b → r ≡ byTruth x n a b
-  at-value u e h = h ∙ ap (λ (w : Value). byTruth w n a b) (sym e)
+module _ (x : Value) (a b r : Acted) where
+  at-value : (u : Value) → x ≡ u → r ≡ byTruth u a b → r ≡ byTruth x a b
+  at-value u e h = h ∙ ap (λ (w : Value). byTruth w a b) (sym e)
 
-  pub truth-yes : (t : Bool) → x ≡ Truth t → t ≡ true → r ≡ a → r ≡ byTruth x n a b
+  pub truth-yes : (t : Bool) → x ≡ Truth t → t ≡ true → r ≡ a → r ≡ byTruth x a b
   truth-yes t e h q = at-value (Truth true) (e ∙ ap Truth h) q
 
-  pub truth-no : (t : Bool) → x ≡ Truth t → t ≡ false → r ≡ b → r ≡ byTruth x n a b
+  pub truth-no : (t : Bool) → x ≡ Truth t → t ≡ false → r ≡ b → r ≡ byTruth x a b
   truth-no t e h q = at-value (Truth false) (e ∙ ap Truth h) q
 
-  pub truth-number : (m : ℕ) → x ≡ Number m → r ≡ refusedWith 20 n → r ≡ byTruth x n a b
+  pub truth-number : (m : ℕ) → x ≡ Number m → r ≡ refusedWith 20 → r ≡ byTruth x a b
   truth-number m e q = at-value (Number m) e q
 
-  pub truth-cell : (c : ℕ) → x ≡ Cell c → r ≡ refusedWith 20 n → r ≡ byTruth x n a b
+  pub truth-cell : (c : ℕ) → x ≡ Cell c → r ≡ refusedWith 20 → r ≡ byTruth x a b
   truth-cell c e q = at-value (Cell c) e q
 
 pub ruleset truth-rows = (truth-yes, truth-no, truth-number, truth-cell)

@@ -36,34 +36,34 @@ module _
     (fs : List Frame) (who : Who) (v : View) (item : ℕ) (vs : List ℕ) (n : ℕ) (ws : List ℕ)
     (r : Acted) where
   -- ---- by the item: a statement, a way back to a place, a drop
-  pub item-statement : (us : List ℕ) → item < 1024
-      → actOn r us ≡ statementAct who v vs n ws (statementAt fs item)
-      → actOn r us ≡ itemAct fs who v item vs n ws
+  pub item-statement : (m : ℕ) (us : List ℕ) → item < 1024
+      → actOn r m us ≡ statementAct who v vs n ws (statementAt fs item)
+      → actOn r m us ≡ itemAct fs who v item vs n ws
   unfolding itemAct
-  item-statement us h z = yes _ (lt-ltb item 1024 h) z
+  item-statement m us h z = yes _ (lt-ltb item 1024 h) z
 
   pub item-back : (q : Place) → 1024 ≤ item → item < 2048 → q ≡ placeAt (item - 1024)
-      → r ≡ goBack v n q → actOn r ws ≡ itemAct fs who v item vs n ws
+      → r ≡ goBack v q → actOn r n ws ≡ itemAct fs who v item vs n ws
   unfolding itemAct
   item-back q h k e z =
       no _ (le-ltb item 1024 h)
       (yes _ (lt-ltb item 2048 k)
-      (ap (λ (x : Acted). actOn x ws) z ∙ ap (λ (p : Place). actOn (goBack v n p) ws) e))
+      (ap (λ (x : Acted). actOn x n ws) z ∙ ap (λ (p : Place). actOn (goBack v p) n ws) e))
 
-  pub item-drop : 1024 ≤ item → 2048 ≤ item → r ≡ dropOne v n
-      → actOn r ws ≡ itemAct fs who v item vs n ws
+  pub item-drop : 1024 ≤ item → 2048 ≤ item → r ≡ dropOne v
+      → actOn r n ws ≡ itemAct fs who v item vs n ws
   unfolding itemAct
   item-drop h k z =
-      no _ (le-ltb item 1024 h) (no _ (le-ltb item 2048 k) (ap (λ (x : Acted). actOn x ws) z))
+      no _ (le-ltb item 1024 h) (no _ (le-ltb item 2048 k) (ap (λ (x : Acted). actOn x n ws) z))
 
   -- ---- the turn
-  pub turn-ends : v .items ≡ 0 → r ≡ actedWith Leaves End n
-      → actOn r ws ≡ turnAct fs who v item vs n ws
+  pub turn-ends : v .items ≡ 0 → r ≡ actedWith Leaves End
+      → actOn r n ws ≡ turnAct fs who v item vs n ws
   unfolding turnAct
-  turn-ends h e = yes _ (eq-eqb (v .items) 0 h) (ap (λ (x : Acted). actOn x ws) e)
+  turn-ends h e = yes _ (eq-eqb (v .items) 0 h) (ap (λ (x : Acted). actOn x n ws) e)
 
-  pub turn-item : (us : List ℕ) → (v .items ≡ 0 → ⊥)
-      → actOn r us ≡ itemAct fs who (below v) item vs n ws
-      → actOn r us ≡ turnAct fs who v item vs n ws
+  pub turn-item : (m : ℕ) (us : List ℕ) → (v .items ≡ 0 → ⊥)
+      → actOn r m us ≡ itemAct fs who (below v) item vs n ws
+      → actOn r m us ≡ turnAct fs who v item vs n ws
   unfolding turnAct
-  turn-item us h z = no _ (ne-eqb (v .items) 0 h) z
+  turn-item m us h z = no _ (ne-eqb (v .items) 0 h) z

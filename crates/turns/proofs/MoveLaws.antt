@@ -21,20 +21,21 @@ use Rattle.turns.specs.inner.Actions.{goTo, goBack, unlinkedAgain, doThe
 use Rattle.turns.proofs.ViewLaws.{Turns}
 
 -- ---- the act made in a thread: with either change it is the thread that goes, and there is room for both
-module _ (from q : Place) (n : ℕ) (same moved : Change) where
+module _ (from q : Place) (same moved : Change) where
   abbrev act : Bool → Bool → Acted
   act b c =
-      if b then actedWith Stays same n else
-      if c then actedWith Leaves moved n else
-      actedWith (Joins q) moved n
+      if b then actedWith Stays same else
+      if c then actedWith Leaves moved else
+      actedWith (Joins q) moved
 
-  goes-made : (th p : ThreadWords) → changed same th ≡ p → changed moved th ≡ moveTo (q .number) p
-      → turned (goTo from n q same moved) th ≡ goesIn (from .number) p n (q .number)
+  goes-made : (n : ℕ) (th p : ThreadWords) → changed same th ≡ p
+      → changed moved th ≡ moveTo (q .number) p
+      → turned (goTo from q same moved) n th ≡ goesIn (from .number) p n (q .number)
   unfolding goTo goesIn if_then_else_
-  goes-made th p h k = by (eqb (q .number) (from .number)) (eqb (q .number) private)
+  goes-made n th p h k = by (eqb (q .number) (from .number)) (eqb (q .number) private)
     where
       by : (b c : Bool)
-          → turned (act b c) th
+          → turned (act b c) n th
           ≡ (if b then actedIn Stays p n else
           if c then actedIn Leaves (moveTo (q .number) p) n else
           actedIn (Joins q) (moveTo (q .number) p) n)
@@ -43,7 +44,7 @@ module _ (from q : Place) (n : ℕ) (same moved : Change) where
       by false false = ap (λ (x : ThreadWords). actedIn (Joins q) x n) k
 
   goes-room : (items values : ℕ) → Room same items values → Room moved items values
-      → Room (goTo from n q same moved .change) items values
+      → Room (goTo from q same moved .change) items values
   unfolding goTo if_then_else_
   goes-room items values h k = by (eqb (q .number) (from .number)) (eqb (q .number) private)
     where
@@ -53,14 +54,14 @@ module _ (from q : Place) (n : ℕ) (same moved : Change) where
       by false false = k
 
 module _ (v : View) (n : ℕ) where
-  pub back-turns : (q : Place) → Turns (goBack v n q) v (λ th. goesIn (th .place) th n (q .number))
+  pub back-turns : (q : Place) → Turns (goBack v q) n v (λ th. goesIn (th .place) th n (q .number))
   back-turns q =
       record {
         thread =
             λ th w.
-            goes-made (v .place) q n Same (Move q) th th refl refl
+            goes-made (v .place) q Same (Move q) n th th refl refl
             ∙ ap (λ (x : ℕ). goesIn x th n (q .number)) (sym (w .place));
-        room = goes-room (v .place) q n Same (Move q) (v .items) (v .values) tt tt;
+        room = goes-room (v .place) q Same (Move q) (v .items) (v .values) tt tt;
       }
 
   again-at : {th : ThreadWords} {t : Bool} (q : Place) → Views v th → unlinkedAgain (v .place) q ≡ t
@@ -68,14 +69,15 @@ module _ (v : View) (n : ℕ) where
   again-at q w e = ap (λ (x : ℕ). eqb x private && eqb (q .number) private) (w .place) ∙ e
 
   pub does-turns : (q : Place) (body : ℕ)
-      → Turns (doThere v n q body) v (λ th. doesIn th n (q .number) body)
+      → Turns (doThere v q body) n v (λ th. doesIn th n (q .number) body)
   unfolding doThere doesIn
   does-turns q body =
-      if-all (λ (a : Acted). Turns a v (λ th. doesIn th n (q .number) body))
+      if-all (λ (a : Acted). Turns a n v (λ th. doesIn th n (q .number) body))
       (unlinkedAgain (v .place) q) _ _
       (λ e. record { thread = λ th w. yes _ (again-at q w e) refl; room = tt })
       (λ e.
-      if-all (λ (a : Acted). Turns a v (λ th. doesIn th n (q .number) body)) (leb 24 (v .items)) _ _
+      if-all (λ (a : Acted). Turns a n v (λ th. doesIn th n (q .number) body))
+      (leb 24 (v .items)) _ _
       (λ k.
       record {
         thread = λ th w. no _ (again-at q w e) (yes _ (ap (leb 24) (w .items) ∙ k) refl);
@@ -88,20 +90,20 @@ module _ (v : View) (n : ℕ) where
             no _ (again-at q w e)
             (no _ (ap (leb 24) (w .items) ∙ k)
             (let p = pushItem body (pushItem (1024 + th .place) th) in
-            goes-made (v .place) q n (Items body (1024 + v .place .number)) (Enter q body) th p
+            goes-made (v .place) q (Items body (1024 + v .place .number)) (Enter q body) n th p
             (ap (λ (x : ℕ). pushItem body (pushItem (1024 + x) th)) (sym (w .place)))
             refl
             ∙ ap (λ (x : ℕ). goesIn x p n (q .number)) (sym (w .place))));
         room =
             let h = leb-false 24 (v .items) k in
-            goes-room (v .place) q n (Items body (1024 + v .place .number)) (Enter q body)
+            goes-room (v .place) q (Items body (1024 + v .place .number)) (Enter q body)
             (v .items) (v .values) h h;
       }))
 
-  pub cooperates-turns : Turns (cooperation v n) v (λ th. cooperatesIn th n)
+  pub cooperates-turns : Turns (cooperation v) n v (λ th. cooperatesIn th n)
   unfolding cooperation cooperatesIn
   cooperates-turns =
-      if-all (λ (a : Acted). Turns a v (λ th. cooperatesIn th n))
+      if-all (λ (a : Acted). Turns a n v (λ th. cooperatesIn th n))
       (eqb (v .place .number) private) _ _
       (λ e.
       record {

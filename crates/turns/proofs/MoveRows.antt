@@ -17,18 +17,18 @@ use Rattle.turns.specs.inner.Actions.{goTo, unlinkedAgain, doThere, coop
 
 -- ---- to place q: s is whether it is the same place, b whether it is private
 module _
-    (from : Place) (n : ℕ) (q : Place) (same moved : Change) (r : Acted)
+    (from q : Place) (same moved : Change) (r : Acted)
     (s : Bool) (z : s ≡ eqb (q .number) (from .number)) where
-  pub goes-nowhere : s ≡ true → r ≡ actedWith Stays same n → r ≡ goTo from n q same moved
+  pub goes-nowhere : s ≡ true → r ≡ actedWith Stays same → r ≡ goTo from q same moved
   unfolding goTo
   goes-nowhere h e = yes _ (sym z ∙ h) e
 
   module _ (b : Bool) (y : b ≡ eqb (q .number) private) (h : s ≡ false) where
-    pub goes-unlinked : b ≡ true → r ≡ actedWith Leaves moved n → r ≡ goTo from n q same moved
+    pub goes-unlinked : b ≡ true → r ≡ actedWith Leaves moved → r ≡ goTo from q same moved
     unfolding goTo
     goes-unlinked k e = no _ (sym z ∙ h) (yes _ (sym y ∙ k) e)
 
-    pub goes-joins : b ≡ false → r ≡ actedWith (Joins q) moved n → r ≡ goTo from n q same moved
+    pub goes-joins : b ≡ false → r ≡ actedWith (Joins q) moved → r ≡ goTo from q same moved
     unfolding goTo
     goes-joins k e = no _ (sym z ∙ h) (no _ (sym y ∙ k) e)
 
@@ -49,33 +49,33 @@ pub ruleset again-rows = (again-linked, again-unlinked)
 
 -- ---- 12: b is whether the thread is unlinked already
 module _
-    (v : View) (n : ℕ) (q : Place) (body : ℕ) (r : Acted)
+    (v : View) (q : Place) (body : ℕ) (r : Acted)
     (b : Bool) (z : b ≡ unlinkedAgain (v .place) q) where
-  pub does-again : b ≡ true → r ≡ refusedWith 20 n → r ≡ doThere v n q body
+  pub does-again : b ≡ true → r ≡ refusedWith 20 → r ≡ doThere v q body
   unfolding doThere
   does-again h e = yes _ (sym z ∙ h) e
 
-  pub does-full : b ≡ false → 24 ≤ v .items → r ≡ refusedWith 20 n → r ≡ doThere v n q body
+  pub does-full : b ≡ false → 24 ≤ v .items → r ≡ refusedWith 20 → r ≡ doThere v q body
   unfolding doThere
   does-full h l e = no _ (sym z ∙ h) (yes _ (le-leb 24 (v .items) l) e)
 
   pub does-there : (w : ℕ) → w ≡ v .place .number → b ≡ false → v .items < 24
-      → r ≡ goTo (v .place) n q (Items body (1024 + w)) (Enter q body) → r ≡ doThere v n q body
+      → r ≡ goTo (v .place) q (Items body (1024 + w)) (Enter q body) → r ≡ doThere v q body
   unfolding doThere
   does-there w f h l e =
       no _ (sym z ∙ h)
       (no _ (lt-leb 24 (v .items) l)
-      (e ∙ ap (λ (x : ℕ). goTo (v .place) n q (Items body (1024 + x)) (Enter q body)) f))
+      (e ∙ ap (λ (x : ℕ). goTo (v .place) q (Items body (1024 + x)) (Enter q body)) f))
 
 pub ruleset does-rows = (does-again, does-full, does-there)
 
 -- ---- 15
-module _ (v : View) (n : ℕ) (r : Acted) (b : Bool) (z : b ≡ eqb (v .place .number) private) where
-  pub cooperates-unlinked : b ≡ true → r ≡ refusedWith 20 n → r ≡ cooperation v n
+module _ (v : View) (r : Acted) (b : Bool) (z : b ≡ eqb (v .place .number) private) where
+  pub cooperates-unlinked : b ≡ true → r ≡ refusedWith 20 → r ≡ cooperation v
   unfolding cooperation
   cooperates-unlinked h e = yes _ (sym z ∙ h) e
 
-  pub cooperates-next : b ≡ false → r ≡ actedWith (Joins (v .place)) Same n → r ≡ cooperation v n
+  pub cooperates-next : b ≡ false → r ≡ actedWith (Joins (v .place)) Same → r ≡ cooperation v
   unfolding cooperation
   cooperates-next h e = no _ (sym z ∙ h) e
 

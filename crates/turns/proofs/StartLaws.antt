@@ -10,6 +10,8 @@ use Rattle.machine.specs.declared.value.Outcome.the-variants.{Is, Foreign, Spen
 use Rattle.operations.specs.declared.Who.{Who}
 use Rattle.operations.specs.inner.Results.{Result}
 use Rattle.states.specs.declared.thread.ThreadWords.{ThreadWords}
+use Rattle.acts.specs.declared.act.Arguments.{Arguments}
+use Rattle.acts.specs.inner.Fates.{argumentsOf}
 use Rattle.turns.specs.declared.view.View.{View}
 use Rattle.turns.specs.declared.start.Request.{Request}
 use Rattle.turns.specs.inner.Acts.{ActedOn, thenOn, startsWith, oneArgument, lastArgument, twoArguments, startsIn}
@@ -28,26 +30,26 @@ first-turns Spent n us v vs k f h = act-on (refused-so v 17 n) (λ th e. refl)
 first-turns Stuck n us v vs k f h = act-on (refused-so v 20 n) (λ th e. refl)
 
 module _ (who : Who) (q : Request) (v : View) (vs : List ℕ) where
-  with-words : (n given first second : ℕ)
-      → Turns (startWith q n given first second) v (λ th. startsWith q th n given first second)
-  with-words n given first second = record { thread = λ th w. refl; room = tt }
+  with-arguments : (n : ℕ) (args : Arguments)
+      → Turns (startWith q args) n v (λ th. startsWith q th n args)
+  with-arguments n args = record { thread = λ th w. refl; room = tt }
 
   one-turns : (r : Result)
       → Turning (behind r (startOne q)) v vs (λ th. oneArgument q th r)
   one-turns r =
       act-on
-      (after-turns (r .outcome) (r .used) v (startOne q (r .used))
-      (λ th x. startsWith q th (r .used) 1 (valueWord x) 0)
-      (λ x. with-words (r .used) 1 (valueWord x) 0))
+      (after-turns (r .outcome) (r .used) v (startOne q)
+      (λ th x. startsWith q th (r .used) (argumentsOf 1 (valueWord x) 0))
+      (λ x. with-arguments (r .used) (argumentsOf 1 (valueWord x) 0)))
       (λ th e. refl)
 
   last-turns : (first : ℕ) (r : Result)
       → Turning (behind r (startTwo q first)) v vs (λ th. lastArgument q th first r)
   last-turns first r =
       act-on
-      (after-turns (r .outcome) (r .used) v (startTwo q first (r .used))
-      (λ th x. startsWith q th (r .used) 2 first (valueWord x))
-      (λ x. with-words (r .used) 2 first (valueWord x)))
+      (after-turns (r .outcome) (r .used) v (startTwo q first)
+      (λ th x. startsWith q th (r .used) (argumentsOf 2 first (valueWord x)))
+      (λ x. with-arguments (r .used) (argumentsOf 2 first (valueWord x))))
       (λ th e. refl)
 
   both-turns : (y : Expr) (r : Result)
@@ -60,7 +62,7 @@ module _ (who : Who) (q : Request) (v : View) (vs : List ℕ) where
 
   pub starts-turns : (n : ℕ) (ws : List ℕ) (xs : List Expr)
       → Turning (startAct who q vs n ws xs) v vs (λ th. startsIn who q th n ws xs)
-  starts-turns n ws [] = act-on (with-words n 0 0 0) (λ th e. refl)
+  starts-turns n ws [] = act-on (with-arguments n (argumentsOf 0 0 0)) (λ th e. refl)
   starts-turns n ws (x ∷ []) =
       act-on-as (one-turns (evaluatedBy who vs x n ws))
       (λ th e. ap (oneArgument q th) (in-thread who th vs e n ws x))

@@ -13,23 +13,23 @@ use Rattle.machine.specs.declared.value.Value.{Value}
 use Rattle.machine.specs.declared.value.Outcome.{Outcome}
 use Rattle.machine.specs.declared.value.Outcome.the-variants.{Is, Foreign, Spent, Stuck}
 use Rattle.operations.specs.declared.Who.{Who}
-use Rattle.operations.specs.declared.Answered.{Answered}
-use Rattle.operations.specs.inner.Results.{Result, after}
+use Rattle.operations.specs.inner.Lent.{Lent, variablesOf, restOf}
+use Rattle.operations.specs.inner.Results.{Result, result}
 use Rattle.evaluator.specs.inner.Results.{hereOf, onWords, CellWords, ValueWords}
-use Rattle.evaluator.specs.inner.Lent.{Lent, variablesOf, restOf}
 use Rattle.evaluator.proofs.Agreement.{eval-leaves}
 use Rattle.evaluator.proofs.InPlace.{variables-kept}
 use Rattle.acts.specs.declared.act.Acted.{Acted}
-use Rattle.acts.specs.inner.Fates.{refusedWith}
+use Rattle.acts.specs.inner.Fates.{argumentsOf, refusedWith}
 use Rattle.turns.specs.declared.start.Request.{Request}
 use Rattle.turns.specs.inner.Actions.{ActOn, actOn, afterValue, startWith, startOne, startTwo, behind, evaluatedBy, firstThen, bothArguments, startAct}
 use Rattle.turns.proofs.AfterRows.{IsRefusal, no-refusal}
 
 -- behind an evaluation the cells may be lent again
-pub cells-behind : (fw vs : List ℕ) (who : Who) (i n : ℕ) (ws : List ℕ) (x : Answered) (us : List ℕ)
-    → after x us ≡ onWords (eval (hereOf who vs) (expressionAt (framesOf fw) i)) n ws
-    → ValueWords vs → CellWords n ws → CellWords (x .used) us
-cells-behind fw vs who i n ws x us e h g = eval-leaves fw vs who i n ws (after x us) h g e
+pub cells-behind : (fw vs : List ℕ) (who : Who) (i n : ℕ) (ws : List ℕ)
+    (x : Outcome) (m : ℕ) (us : List ℕ)
+    → result x m us ≡ onWords (eval (hereOf who vs) (expressionAt (framesOf fw) i)) n ws
+    → ValueWords vs → CellWords n ws → CellWords m us
+cells-behind fw vs who i n ws x m us e h g = eval-leaves fw vs who i n ws (result x m us) h g e
 
 -- behind an evaluation the thread's variables are as before
 module _
@@ -56,57 +56,56 @@ module _ (expr : ℕ → Expr) where
   arguments-two (suc a) zero h k = absurd (k refl)
   arguments-two (suc a) (suc b) h k = refl
 
--- ---- the returns; x is the first argument's answer, us the cells behind it
+-- ---- the returns; x is the first argument's outcome, with m cells in use behind it, whose words
+-- are us
 module _
     (expr : ℕ → Expr) (who : Who) (q : Request) (vs : List ℕ) (n : ℕ) (ws : List ℕ) (a b : ℕ)
     (r : Acted) where
-  abbrev Starts : List ℕ → Type 0
-  Starts us = actOn r us ≡ startAct who q vs n ws (arguments expr a b)
+  abbrev Starts : ℕ → List ℕ → Type 0
+  Starts m us = actOn r m us ≡ startAct who q vs n ws (arguments expr a b)
 
-  pub starts-none : a ≡ 0 → r ≡ startWith q n 0 0 0 → Starts ws
+  pub starts-none : a ≡ 0 → r ≡ startWith q (argumentsOf 0 0 0) → Starts n ws
   starts-none h e =
-      ap (λ (z : Acted). actOn z ws) e
+      ap (λ (z : Acted). actOn z n ws) e
       ∙ ap (λ (m : ℕ). startAct who q vs n ws (arguments expr m b)) (sym h)
 
   module _
-      (x : Answered) (us : List ℕ) (h : a ≡ 0 → ⊥)
-      (e : after x us ≡ evaluatedBy who vs (expr a) n ws) where
-    pub starts-one : b ≡ 0 → r ≡ afterValue (x .outcome) (x .used) (startOne q (x .used))
-        → Starts us
+      (x : Outcome) (m : ℕ) (us : List ℕ) (h : a ≡ 0 → ⊥)
+      (e : result x m us ≡ evaluatedBy who vs (expr a) n ws) where
+    pub starts-one : b ≡ 0 → r ≡ afterValue x (startOne q) → Starts m us
     starts-one k z =
-        ap (λ (y : Acted). actOn y us) z ∙ ap (λ (y : Result). behind y (startOne q)) e
+        ap (λ (y : Acted). actOn y m us) z ∙ ap (λ (y : Result). behind y (startOne q)) e
         ∙ ap (startAct who q vs n ws) (sym (arguments-one expr a b h k))
 
     both : (b ≡ 0 → ⊥)
-        → bothArguments who q vs (expr b) (after x us) ≡ startAct who q vs n ws (arguments expr a b)
+        → bothArguments who q vs (expr b) (result x m us)
+        ≡ startAct who q vs n ws (arguments expr a b)
     both k =
         ap (bothArguments who q vs (expr b)) e
         ∙ ap (startAct who q vs n ws) (sym (arguments-two expr a b h k))
 
-    pub starts-refused : (b ≡ 0 → ⊥) → IsRefusal (x .outcome)
-        → r ≡ refusedWith (answerOf (x .outcome)) (x .used) → Starts us
-    starts-refused k l z = ap (λ (y : Acted). actOn y us) z ∙ by (x .outcome) l ∙ both k
+    pub starts-refused : (b ≡ 0 → ⊥) → IsRefusal x → r ≡ refusedWith (answerOf x) → Starts m us
+    starts-refused k l z = ap (λ (y : Acted). actOn y m us) z ∙ by x l ∙ both k
       where
         rest : Value → ActOn
-        rest w = behind (evaluatedBy who vs (expr b) (x .used) us) (startTwo q (valueWord w))
+        rest w = behind (evaluatedBy who vs (expr b) m us) (startTwo q (valueWord w))
 
         by : (o : Outcome) → IsRefusal o
-            → actOn (refusedWith (answerOf o) (x .used)) us ≡ firstThen o (x .used) us rest
+            → actOn (refusedWith (answerOf o)) m us ≡ firstThen o m us rest
         by (Is w) l = absurd (no-refusal w l)
         by Foreign l = refl
         by Spent l = refl
         by Stuck l = refl
 
-    pub starts-two : (w : Value) (m : ℕ) (y : Answered) (ys : List ℕ)
-        → (b ≡ 0 → ⊥) → x .outcome ≡ Is w → after y ys ≡ evaluatedBy who vs (expr b) (x .used) us
-        → m ≡ valueWord w
-        → r ≡ afterValue (y .outcome) (y .used) (startTwo q m (y .used)) → Starts ys
-    starts-two w m y ys k o g l z =
-        ap (λ (p : Acted). actOn p ys) z
-        ∙ ap (λ (p : ℕ). behind (after y ys) (startTwo q p)) l
-        ∙ ap (λ (p : Result). behind p (startTwo q (valueWord w))) g
-        ∙ ap (λ (p : Outcome). firstThen p (x .used) us rest) (sym o)
+    pub starts-two : (w : Value) (first : ℕ) (y : Outcome) (p : ℕ) (ys : List ℕ)
+        → (b ≡ 0 → ⊥) → x ≡ Is w → result y p ys ≡ evaluatedBy who vs (expr b) m us
+        → first ≡ valueWord w → r ≡ afterValue y (startTwo q first) → Starts p ys
+    starts-two w first y p ys k o g l z =
+        ap (λ (c : Acted). actOn c p ys) z
+        ∙ ap (λ (c : ℕ). behind (result y p ys) (startTwo q c)) l
+        ∙ ap (λ (c : Result). behind c (startTwo q (valueWord w))) g
+        ∙ ap (λ (c : Outcome). firstThen c m us rest) (sym o)
         ∙ both k
       where
         rest : Value → ActOn
-        rest u = behind (evaluatedBy who vs (expr b) (x .used) us) (startTwo q (valueWord u))
+        rest u = behind (evaluatedBy who vs (expr b) m us) (startTwo q (valueWord u))

@@ -19,9 +19,9 @@ use Rattle.program.specs.declared.node.StatementNode.{StatementNode}
 use Rattle.program.specs.declared.node.StatementNode.the-variants as Y
 use Rattle.program.proofs.Decoding.{statement-at}
 use Rattle.program.proofs.Roots.{statement-root}
+use Rattle.machine.specs.declared.value.Outcome.{Outcome}
 use Rattle.operations.specs.declared.Who.{Who}
-use Rattle.operations.specs.declared.Answered.{Answered}
-use Rattle.operations.specs.inner.Results.{Result, after}
+use Rattle.operations.specs.inner.Results.{Result, result}
 use Rattle.acts.specs.declared.act.Fate.the-variants.{Stays}
 use Rattle.acts.specs.declared.act.Change.the-variants.{Same}
 use Rattle.acts.specs.declared.act.Acted.{Acted}
@@ -42,10 +42,10 @@ module _ (fw : List ℕ) (who : Who) (v : View) (vs : List ℕ) (n : ℕ) (ws : 
   value a = evaluatedBy who vs (expr a) n ws
 
   abbrev actBy : StatementNode → ActOn
-  actBy Y.Nothing = actOn (actedWith Stays Same n) ws
-  actBy Y.Cooperate = actOn (cooperation v n) ws
-  actBy (Y.Seq a b) = actOn (twoMore v n a b) ws
-  actBy (Y.DoAt q a) = actOn (doThere v n q a) ws
+  actBy Y.Nothing = actOn (actedWith Stays Same) n ws
+  actBy Y.Cooperate = actOn (cooperation v) n ws
+  actBy (Y.Seq a b) = actOn (twoMore v a b) n ws
+  actBy (Y.DoAt q a) = actOn (doThere v q a) n ws
   actBy (Y.Start m a b) = startAct who (request false m) vs n ws (arguments expr a b)
   actBy (Y.StartWait m a b) = startAct who (request true m) vs n ws (arguments expr a b)
   actBy (Y.LetIn a b) = behind (value a) (letAfter v b)
@@ -61,8 +61,8 @@ module _ (fw : List ℕ) (who : Who) (v : View) (vs : List ℕ) (n : ℕ) (ws : 
       ≡ actBy (statementNodeOf k (f .s) (f .a) (f .b) (f .c))
   by-statement f S.Nothing = refl
   by-statement f S.Then =
-      ap₂ (λ (x y : ℕ). actOn (twoMore v n x y) ws) (root (f .a)) (root (f .b))
-  by-statement f S.DoAt = ap (λ (x : ℕ). actOn (doThere v n (placeAt (f .s)) x) ws) (root (f .a))
+      ap₂ (λ (x y : ℕ). actOn (twoMore v x y) n ws) (root (f .a)) (root (f .b))
+  by-statement f S.DoAt = ap (λ (x : ℕ). actOn (doThere v (placeAt (f .s)) x) n ws) (root (f .a))
   by-statement f S.Start = refl
   by-statement f S.StartWait = refl
   by-statement f S.Cooperate = refl
@@ -81,65 +81,67 @@ module _ (fw : List ℕ) (who : Who) (v : View) (vs : List ℕ) (n : ℕ) (ws : 
   by-kind f (Expression k) = refl
   by-kind f Unknown = refl
 
-  -- ---- d is the node that the code has read at frame i, r the act, us the cells behind it
+  -- ---- d is the node that the code has read at frame i, r the act, with m cells in use behind it,
+  -- whose words are us
   module _
       (f : Frame) (d : StatementNode) (k : d ≡ statementNode f)
       (e : f ≡ frameOfWord (getD fw i 0)) (g : TurnWords fw v vs n ws) (l : i < length fw)
       (r : Acted) where
-    abbrev Acts : List ℕ → Type 0
-    Acts us = actOn r us ≡ statementAct who v vs n ws (statementAt (framesOf fw) i)
+    abbrev Acts : ℕ → List ℕ → Type 0
+    Acts m us = actOn r m us ≡ statementAct who v vs n ws (statementAt (framesOf fw) i)
 
-    at : (y : StatementNode) (us : List ℕ) → d ≡ y → actOn r us ≡ actBy y → Acts us
-    at y us h z =
+    at : (y : StatementNode) (m : ℕ) (us : List ℕ) → d ≡ y → actOn r m us ≡ actBy y → Acts m us
+    at y m us h z =
         z
         ∙ sym (ap (statementAct who v vs n ws) (statement-at (framesOf fw) (g .ordered) i)
         ∙ by-kind (frameAt (framesOf fw) i) (frameAt (framesOf fw) i .kind)
         ∙ ap (λ (x : Frame). actBy (statementNode x)) (frame-at fw i noFrame l ∙ sym e)
         ∙ ap actBy (sym k ∙ h))
 
-    act-is : {a : Acted} (us : List ℕ) → r ≡ a → actOn r us ≡ actOn a us
-    act-is us z = ap (λ (x : Acted). actOn x us) z
+    act-is : {a : Acted} (m : ℕ) (us : List ℕ) → r ≡ a → actOn r m us ≡ actOn a m us
+    act-is m us z = ap (λ (x : Acted). actOn x m us) z
 
-    pub acts-nothing : d ≡ Y.Nothing → r ≡ actedWith Stays Same n → Acts ws
-    acts-nothing h z = at Y.Nothing ws h (act-is ws z)
+    pub acts-nothing : d ≡ Y.Nothing → r ≡ actedWith Stays Same → Acts n ws
+    acts-nothing h z = at Y.Nothing n ws h (act-is n ws z)
 
-    pub acts-cooperate : d ≡ Y.Cooperate → r ≡ cooperation v n → Acts ws
-    acts-cooperate h z = at Y.Cooperate ws h (act-is ws z)
+    pub acts-cooperate : d ≡ Y.Cooperate → r ≡ cooperation v → Acts n ws
+    acts-cooperate h z = at Y.Cooperate n ws h (act-is n ws z)
 
-    pub acts-seq : (a b : ℕ) → d ≡ Y.Seq a b → r ≡ twoMore v n a b → Acts ws
-    acts-seq a b h z = at (Y.Seq a b) ws h (act-is ws z)
+    pub acts-seq : (a b : ℕ) → d ≡ Y.Seq a b → r ≡ twoMore v a b → Acts n ws
+    acts-seq a b h z = at (Y.Seq a b) n ws h (act-is n ws z)
 
-    pub acts-do : (q : Place) (a : ℕ) → d ≡ Y.DoAt q a → r ≡ doThere v n q a → Acts ws
-    acts-do q a h z = at (Y.DoAt q a) ws h (act-is ws z)
+    pub acts-do : (q : Place) (a : ℕ) → d ≡ Y.DoAt q a → r ≡ doThere v q a → Acts n ws
+    acts-do q a h z = at (Y.DoAt q a) n ws h (act-is n ws z)
 
-    pub acts-start : (m a b : ℕ) (us : List ℕ) → d ≡ Y.Start m a b
-        → actOn r us ≡ startAct who (request false m) vs n ws (arguments expr a b) → Acts us
-    acts-start m a b us h z = at (Y.Start m a b) us h z
+    pub acts-start : (s a b m : ℕ) (us : List ℕ) → d ≡ Y.Start s a b
+        → actOn r m us ≡ startAct who (request false s) vs n ws (arguments expr a b) → Acts m us
+    acts-start s a b m us h z = at (Y.Start s a b) m us h z
 
-    pub acts-wait : (m a b : ℕ) (us : List ℕ) → d ≡ Y.StartWait m a b
-        → actOn r us ≡ startAct who (request true m) vs n ws (arguments expr a b) → Acts us
-    acts-wait m a b us h z = at (Y.StartWait m a b) us h z
+    pub acts-wait : (s a b m : ℕ) (us : List ℕ) → d ≡ Y.StartWait s a b
+        → actOn r m us ≡ startAct who (request true s) vs n ws (arguments expr a b) → Acts m us
+    acts-wait s a b m us h z = at (Y.StartWait s a b) m us h z
 
-    -- behind an evaluation, whose answer is x and which leaves the cells us
-    module _ (x : Answered) (us : List ℕ) where
-      pub acts-let : (a b : ℕ) → d ≡ Y.LetIn a b → after x us ≡ value a
-          → r ≡ afterValue (x .outcome) (x .used) (letAfter v b (x .used)) → Acts us
+    -- behind an evaluation, whose outcome is x and which leaves so many cells and these words
+    module _ (x : Outcome) (m : ℕ) (us : List ℕ) where
+      pub acts-let : (a b : ℕ) → d ≡ Y.LetIn a b → result x m us ≡ value a
+          → r ≡ afterValue x (letAfter v b) → Acts m us
       acts-let a b h q z =
-          at (Y.LetIn a b) us h (act-is us z ∙ ap (λ (y : Result). behind y (letAfter v b)) q)
+          at (Y.LetIn a b) m us h (act-is m us z ∙ ap (λ (y : Result). behind y (letAfter v b)) q)
 
       pub acts-store : (a b : ℕ) → d ≡ Y.Store a b
-          → after x us ≡ storedBy who vs (expr a) (expr b) n ws
-          → r ≡ afterValue (x .outcome) (x .used) (storeAfter (x .used)) → Acts us
+          → result x m us ≡ storedBy who vs (expr a) (expr b) n ws
+          → r ≡ afterValue x storeAfter → Acts m us
       acts-store a b h q z =
-          at (Y.Store a b) us h (act-is us z ∙ ap (λ (y : Result). behind y storeAfter) q)
+          at (Y.Store a b) m us h (act-is m us z ∙ ap (λ (y : Result). behind y storeAfter) q)
 
-      pub acts-if : (a b c : ℕ) → d ≡ Y.IfElse a b c → after x us ≡ value a
-          → r ≡ afterValue (x .outcome) (x .used) (chooseAfter v b c (x .used)) → Acts us
+      pub acts-if : (a b c : ℕ) → d ≡ Y.IfElse a b c → result x m us ≡ value a
+          → r ≡ afterValue x (chooseAfter v b c) → Acts m us
       acts-if a b c h q z =
-          at (Y.IfElse a b c) us h
-          (act-is us z ∙ ap (λ (y : Result). behind y (chooseAfter v b c)) q)
+          at (Y.IfElse a b c) m us h
+          (act-is m us z ∙ ap (λ (y : Result). behind y (chooseAfter v b c)) q)
 
-      pub acts-while : (a b : ℕ) → d ≡ Y.While a b → after x us ≡ value a
-          → r ≡ afterValue (x .outcome) (x .used) (loopAfter v b i (x .used)) → Acts us
+      pub acts-while : (a b : ℕ) → d ≡ Y.While a b → result x m us ≡ value a
+          → r ≡ afterValue x (loopAfter v b i) → Acts m us
       acts-while a b h q z =
-          at (Y.While a b) us h (act-is us z ∙ ap (λ (y : Result). behind y (loopAfter v b i)) q)
+          at (Y.While a b) m us h
+          (act-is m us z ∙ ap (λ (y : Result). behind y (loopAfter v b i)) q)

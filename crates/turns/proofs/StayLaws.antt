@@ -12,10 +12,10 @@ use Rattle.turns.specs.inner.Actions.{oneMore, twoMore, letMore, dropOne
 use Rattle.turns.proofs.ViewLaws.{Turns}
 
 module _ (v : View) (n : ℕ) where
-  pub one-turns : (a : ℕ) → Turns (oneMore v n a) v (λ th. oneIn th n a)
+  pub one-turns : (a : ℕ) → Turns (oneMore v a) n v (λ th. oneIn th n a)
   unfolding oneMore oneIn
   one-turns a =
-      if-all (λ (x : Acted). Turns x v (λ th. oneIn th n a)) (leb 25 (v .items)) _ _
+      if-all (λ (x : Acted). Turns x n v (λ th. oneIn th n a)) (leb 25 (v .items)) _ _
       (λ e. record { thread = λ th w. yes _ (ap (leb 25) (w .items) ∙ e) refl; room = tt })
       (λ e.
       record {
@@ -23,10 +23,10 @@ module _ (v : View) (n : ℕ) where
         room = leb-false 25 (v .items) e;
       })
 
-  pub two-turns : (a b : ℕ) → Turns (twoMore v n a b) v (λ th. twoIn th n a b)
+  pub two-turns : (a b : ℕ) → Turns (twoMore v a b) n v (λ th. twoIn th n a b)
   unfolding twoMore twoIn
   two-turns a b =
-      if-all (λ (x : Acted). Turns x v (λ th. twoIn th n a b)) (leb 24 (v .items)) _ _
+      if-all (λ (x : Acted). Turns x n v (λ th. twoIn th n a b)) (leb 24 (v .items)) _ _
       (λ e. record { thread = λ th w. yes _ (ap (leb 24) (w .items) ∙ e) refl; room = tt })
       (λ e.
       record {
@@ -34,13 +34,13 @@ module _ (v : View) (n : ℕ) where
         room = leb-false 24 (v .items) e;
       })
 
-  pub lets-turns : (x body : ℕ) → Turns (letMore v n x body) v (λ th. letsIn th n x body)
+  pub lets-turns : (x body : ℕ) → Turns (letMore v x body) n v (λ th. letsIn th n x body)
   unfolding letMore letsIn
   lets-turns x body =
-      if-all (λ (a : Acted). Turns a v (λ th. letsIn th n x body)) (leb 25 (v .values)) _ _
+      if-all (λ (a : Acted). Turns a n v (λ th. letsIn th n x body)) (leb 25 (v .values)) _ _
       (λ e. record { thread = λ th w. yes _ (ap (leb 25) (w .values) ∙ e) refl; room = tt })
       (λ e.
-      if-all (λ (a : Acted). Turns a v (λ th. letsIn th n x body)) (leb 24 (v .items)) _ _
+      if-all (λ (a : Acted). Turns a n v (λ th. letsIn th n x body)) (leb 24 (v .items)) _ _
       (λ k.
       record {
         thread =
@@ -56,10 +56,10 @@ module _ (v : View) (n : ℕ) where
         room = (leb-false 24 (v .items) k, leb-false 25 (v .values) e);
       }))
 
-  pub drops-turns : Turns (dropOne v n) v (λ th. dropsIn th n)
+  pub drops-turns : Turns (dropOne v) n v (λ th. dropsIn th n)
   unfolding dropOne dropsIn
   drops-turns =
-      if-all (λ (x : Acted). Turns x v (λ th. dropsIn th n)) (eqb (v .values) 0) _ _
+      if-all (λ (x : Acted). Turns x n v (λ th. dropsIn th n)) (eqb (v .values) 0) _ _
       (λ e.
       record { thread = λ th w. yes _ (ap (λ (m : ℕ). eqb m 0) (w .values) ∙ e) refl; room = tt })
       (λ e.

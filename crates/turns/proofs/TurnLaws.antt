@@ -30,13 +30,13 @@ use Rattle.turns.proofs.StartLaws.{starts-turns}
 -- ---- statements
 module _ (v : View) (vs : List ℕ) where
   -- behind an evaluation
-  behind-turns : (r : Result) (k : ℕ → Value → Acted) (f : ThreadWords → ℕ → Value → Turned)
-      → ((n : ℕ) (x : Value) → Turns (k n x) v (λ th. f th n x))
+  behind-turns : (r : Result) (k : Value → Acted) (f : ThreadWords → ℕ → Value → Turned)
+      → ((n : ℕ) (x : Value) → Turns (k x) n v (λ th. f th n x))
       → Turning (behind r k) v vs
       (λ th. actedOn (thenActs (r .outcome) th (r .used) (f th (r .used))) (r .words))
   behind-turns r k f h =
       act-on
-      (after-turns (r .outcome) (r .used) v (k (r .used)) (λ th. f th (r .used)) (h (r .used)))
+      (after-turns (r .outcome) (r .used) v k (λ th. f th (r .used)) (h (r .used)))
       (λ th e. refl)
 
   let-turns : (body : ℕ) (r : Result)
@@ -127,7 +127,7 @@ same-variables th vs e = e
 module _
     (fs : List Frame) (who : Who) (v : View) (item : ℕ) (vs : List ℕ) (n : ℕ) (ws : List ℕ) where
   abbrev Whole : ActOn → Type 0
-  Whole a = WholeTurn (a .acted) (a .cells) v item vs (λ th. turnIn fs who th n ws)
+  Whole a = WholeTurn (a .acted) (a .used) (a .cells) v item vs (λ th. turnIn fs who th n ws)
 
   pub turn-turns : Whole (turnAct fs who v item vs n ws)
   unfolding turnAct turnIn
@@ -137,7 +137,7 @@ module _
       record {
         thread =
             λ th w i t.
-            ap (λ (x : ThreadWords). actedOn (turned (actedWith Leaves End n) x) ws)
+            ap (λ (x : ThreadWords). actedOn (turned (actedWith Leaves End) n x) ws)
             (popped-none v th w h)
             ∙ yes _ (no-items v th w h) refl;
         room = tt;
@@ -148,14 +148,16 @@ module _
       record {
         thread =
             λ th w i t.
-            ap (λ (x : ThreadWords). actedOn (turned (a .acted) x) (a .cells)) (popped-one v th w h)
+            ap (λ (x : ThreadWords). actedOn (turned (a .acted) (a .used) x) (a .cells))
+            (popped-one v th w h)
             ∙ no _ (no-items v th w h)
             (z .thread (popItem th) (below-views v th w) (same-variables th vs i)
             ∙ ap (itemIn fs who (popItem th) n ws) (sym t));
         room = z .room;
       })
 
-  -- of what `act` promises: r is its act, us the cells that it leaves
-  pub act-turns : (r : Acted) (us : List ℕ) → actOn r us ≡ turnAct fs who v item vs n ws
-      → WholeTurn r us v item vs (λ th. turnIn fs who th n ws)
-  act-turns r us e = subst Whole (sym e) turn-turns
+  -- of what `act` promises: r is its act, behind it m cells are in use, and us are the
+  -- words of the cells
+  pub act-turns : (r : Acted) (m : ℕ) (us : List ℕ) → actOn r m us ≡ turnAct fs who v item vs n ws
+      → WholeTurn r m us v item vs (λ th. turnIn fs who th n ws)
+  act-turns r m us e = subst Whole (sym e) turn-turns

@@ -16,35 +16,35 @@ use Rattle.turns.specs.declared.view.View.{View}
 use Rattle.turns.specs.inner.Acts.{ActedOn, actedOn, variablesIn, evaluatedIn, storedIn, Views}
 use Rattle.turns.specs.inner.Actions.{ActOn, evaluatedBy, storedBy}
 
--- the act, its change made in such a thread without its top item, is that turn; and there is room
--- for the change
-pub record Turns (a : Acted) (v : View) (f : ThreadWords → Turned) : Type 0 where
-  pub thread : (th : ThreadWords) → Views v th → turned a th ≡ f th
+-- the act, its change made in such a thread without its top item, is with n cells in use that turn;
+-- and there is room for the change
+pub record Turns (a : Acted) (n : ℕ) (v : View) (f : ThreadWords → Turned) : Type 0 where
+  pub thread : (th : ThreadWords) → Views v th → turned a n th ≡ f th
   pub room : Room (a .change) (v .items) (v .values)
 
 -- the same with the words of the cells, for a thread of those variables
-pub record TurnsOn (a : Acted) (us : List ℕ) (v : View) (vs : List ℕ)
+pub record TurnsOn (a : Acted) (n : ℕ) (us : List ℕ) (v : View) (vs : List ℕ)
     (f : ThreadWords → ActedOn) : Type 0 where
   pub thread : (th : ThreadWords) → Views v th → variablesIn th ≡ vs
-      → actedOn (turned a th) us ≡ f th
+      → actedOn (turned a n th) us ≡ f th
   pub room : Room (a .change) (v .items) (v .values)
 
 -- ---- the thread as it is
-pub stays-so : (v : View) (n : ℕ) → Turns (actedWith Stays Same n) v (λ th. actedIn Stays th n)
+pub stays-so : (v : View) (n : ℕ) → Turns (actedWith Stays Same) n v (λ th. actedIn Stays th n)
 stays-so v n = record { thread = λ th w. refl; room = tt }
 
 pub refused-so : (v : View) (answer n : ℕ)
-    → Turns (refusedWith answer n) v (λ th. refusedIn answer th n)
+    → Turns (refusedWith answer) n v (λ th. refusedIn answer th n)
 refused-so v answer n = record { thread = λ th w. refl; room = tt }
 
 -- ---- with the words of the cells
 abbrev pub Turning : ActOn → View → List ℕ → (ThreadWords → ActedOn) → Type 0
-Turning a v vs f = TurnsOn (a .acted) (a .cells) v vs f
+Turning a v vs f = TurnsOn (a .acted) (a .used) (a .cells) v vs f
 
-pub act-on : {a : Acted} {us : List ℕ} {v : View} {vs : List ℕ}
+pub act-on : {a : Acted} {n : ℕ} {us : List ℕ} {v : View} {vs : List ℕ}
     {f : ThreadWords → Turned} {g : ThreadWords → ActedOn}
-    → Turns a v f → ((th : ThreadWords) → variablesIn th ≡ vs → actedOn (f th) us ≡ g th)
-    → TurnsOn a us v vs g
+    → Turns a n v f → ((th : ThreadWords) → variablesIn th ≡ vs → actedOn (f th) us ≡ g th)
+    → TurnsOn a n us v vs g
 act-on {us = us} h k =
     record {
       thread = λ th w e. ap (λ (x : Turned). actedOn x us) (h .thread th w) ∙ k th e;
@@ -52,9 +52,10 @@ act-on {us = us} h k =
     }
 
 -- the same turn under another name
-pub act-on-as : {a : Acted} {us : List ℕ} {v : View} {vs : List ℕ} {f g : ThreadWords → ActedOn}
-    → TurnsOn a us v vs f → ((th : ThreadWords) → variablesIn th ≡ vs → f th ≡ g th)
-    → TurnsOn a us v vs g
+pub act-on-as : {a : Acted} {n : ℕ} {us : List ℕ} {v : View} {vs : List ℕ}
+    {f g : ThreadWords → ActedOn}
+    → TurnsOn a n us v vs f → ((th : ThreadWords) → variablesIn th ≡ vs → f th ≡ g th)
+    → TurnsOn a n us v vs g
 act-on-as h k = record { thread = λ th w e. h .thread th w e ∙ k th e; room = h .room }
 
 -- what is evaluated with the thread's variables is evaluated in the thread

@@ -13,7 +13,6 @@ use language::refusal::FOREIGN;
 use language::refusal::STUCK;
 use machine::value::Outcome;
 use machine::value::Value;
-use operations::Answered;
 use operations::word::value_word;
 ghost use mathlib.Core.Path.{_≡_};
 ghost use Rattle.machine.specs.Values.{answerOf};
@@ -34,82 +33,78 @@ fn answer_of(o: Outcome) -> u8
 }
 
 // A refused evaluation refuses the turn.
-pub(crate) fn refused_by(o: Outcome, used: usize) -> Acted
-    ensures { λ r. ⌜ r ≡ refusedWith (answerOf o) used ⌝ }
+pub(crate) fn refused_by(o: Outcome) -> Acted
+    ensures { λ r. ⌜ r ≡ refusedWith (answerOf o) ⌝ }
 {
-    refused(answer_of(o), used)
+    refused(answer_of(o))
 }
 
 // 16.
-pub(crate) fn lets_after(x: Answered, v: View, body: u64) -> Acted
-    ensures { λ r. ⌜ r ≡ afterValue (x .outcome) (x .used) (letAfter v body (x .used)) ⌝ }
+pub(crate) fn lets_after(x: Outcome, v: View, body: u64) -> Acted
+    ensures { λ r. ⌜ r ≡ afterValue x (letAfter v body) ⌝ }
 {
-    let o = x.outcome;
-    let Outcome::Is(w) = o else {
-        return refused_by(o, x.used);
+    let Outcome::Is(w) = x else {
+        return refused_by(x);
     };
-    lets(v, x.used, value_word(w), body)
+    lets(v, value_word(w), body)
 }
 
 // 17.
-pub(crate) fn stores_after(x: Answered) -> Acted
-    ensures { λ r. ⌜ r ≡ afterValue (x .outcome) (x .used) (storeAfter (x .used)) ⌝ }
+pub(crate) fn stores_after(x: Outcome) -> Acted
+    ensures { λ r. ⌜ r ≡ afterValue x storeAfter ⌝ }
 {
-    let o = x.outcome;
-    let Outcome::Is(w) = o else {
-        return refused_by(o, x.used);
+    let Outcome::Is(w) = x else {
+        return refused_by(x);
     };
-    comes_to(Fate::Stays, Change::Same, x.used)
+    comes_to(Fate::Stays, Change::Same)
 }
 
-fn one_of(w: Value, v: View, used: usize, a: u64, b: u64) -> Acted
-    ensures { λ r. ⌜ r ≡ chooseAfter v a b used w ⌝ }
+fn one_of(w: Value, v: View, a: u64, b: u64) -> Acted
+    ensures { λ r. ⌜ r ≡ chooseAfter v a b w ⌝ }
 {
     match w {
         Value::Truth(t) => {
             if t {
-                return stays_with(v, used, a);
+                return stays_with(v, a);
             }
-            stays_with(v, used, b)
+            stays_with(v, b)
         },
-        Value::Number(n) => refused(STUCK, used),
-        Value::Cell(c) => refused(STUCK, used),
+        Value::Number(n) => refused(STUCK),
+        Value::Cell(c) => refused(STUCK),
     }
 }
 
 // 18: one branch.
-pub(crate) fn chooses_after(x: Answered, v: View, a: u64, b: u64) -> Acted
-    ensures { λ r. ⌜ r ≡ afterValue (x .outcome) (x .used) (chooseAfter v a b (x .used)) ⌝ }
+pub(crate) fn chooses_after(x: Outcome, v: View, a: u64, b: u64) -> Acted
+    ensures { λ r. ⌜ r ≡ afterValue x (chooseAfter v a b) ⌝ }
 {
-    let o = x.outcome;
-    let Outcome::Is(w) = o else {
-        return refused_by(o, x.used);
+    let Outcome::Is(w) = x else {
+        return refused_by(x);
     };
-    one_of(w, v, x.used, a, b)
+    one_of(w, v, a, b)
 }
 
-fn again_or_not(w: Value, v: View, used: usize, body: u64, again: u64) -> Acted
-    ensures { λ r. ⌜ r ≡ loopAfter v body again used w ⌝ }
+fn again_or_not(w: Value, v: View, body: u64, again: u64) -> Acted
+    ensures { λ r. ⌜ r ≡ loopAfter v body again w ⌝ }
 {
     match w {
         Value::Truth(t) => {
             if t {
-                return stays_with_two(v, used, body, again);
+                return stays_with_two(v, body, again);
             }
-            comes_to(Fate::Stays, Change::Same, used)
+            comes_to(Fate::Stays, Change::Same)
         },
-        Value::Number(n) => refused(STUCK, used),
-        Value::Cell(c) => refused(STUCK, used),
+        Value::Number(n) => refused(STUCK),
+        Value::Cell(c) => refused(STUCK),
     }
 }
 
 // 19: if true, the body above the same loop.
-pub(crate) fn loops_after(x: Answered, v: View, body: u64, again: u64) -> Acted
-    ensures { λ r. ⌜ r ≡ afterValue (x .outcome) (x .used) (loopAfter v body again (x .used)) ⌝ }
+pub(crate) fn loops_after(x: Outcome, v: View, body: u64, again: u64) -> Acted
+    ensures { λ r. ⌜ r ≡ afterValue x (loopAfter v body again) ⌝ }
 {
-    let o = x.outcome;
-    let Outcome::Is(w) = o else {
-        return refused_by(o, x.used);
+    let Outcome::Is(w) = x else {
+        return refused_by(x);
     };
-    again_or_not(w, v, x.used, body, again)
+    again_or_not(w, v, body, again)
 }

@@ -17,23 +17,23 @@ ghost use Rattle.turns.specs.inner.Actions.{cooperation};
 
 // To place q, from that place: a move to one's own place is none. The change is the one or the
 // other.
-fn goes(from: Place, used: usize, q: Place, same: Change, moved: Change) -> Acted
-    ensures { λ r. ⌜ r ≡ goTo from used q same moved ⌝ }
+fn goes(from: Place, q: Place, same: Change, moved: Change) -> Acted
+    ensures { λ r. ⌜ r ≡ goTo from q same moved ⌝ }
 {
     if q.is_same(from) {
-        return comes_to(Fate::Stays, same, used);
+        return comes_to(Fate::Stays, same);
     }
     if q.is_private() {
-        return comes_to(Fate::Leaves, moved, used);
+        return comes_to(Fate::Leaves, moved);
     }
-    comes_to(Fate::Joins(q), moved, used)
+    comes_to(Fate::Joins(q), moved)
 }
 
 // 'Back to q'.
-pub(crate) fn goes_back(v: View, used: usize, q: Place) -> Acted
-    ensures { λ r. ⌜ r ≡ goBack v used q ⌝ }
+pub(crate) fn goes_back(v: View, q: Place) -> Acted
+    ensures { λ r. ⌜ r ≡ goBack v q ⌝ }
 {
-    goes(v.place, used, q, Change::Same, Change::Move(q))
+    goes(v.place, q, Change::Same, Change::Move(q))
 }
 
 // Refusal 12's condition met when running: unlinked already.
@@ -47,20 +47,19 @@ fn unlinked_again(from: Place, q: Place) -> bool
 }
 
 // 12: the body above 'back to here'.
-pub(crate) fn does_at(v: View, used: usize, q: Place, body: u64) -> Acted
+pub(crate) fn does_at(v: View, q: Place, body: u64) -> Acted
     requires { ⌜ v .place .number ≤ lastScheduler ⌝ }
-    ensures { λ r. ⌜ r ≡ doThere v used q body ⌝ }
+    ensures { λ r. ⌜ r ≡ doThere v q body ⌝ }
 {
     let from = v.place;
     if unlinked_again(from, q) {
-        return refused(STUCK, used);
+        return refused(STUCK);
     }
     if ONE_ITEM_LEFT <= v.items {
-        return refused(STUCK, used);
+        return refused(STUCK);
     }
     goes(
         from,
-        used,
         q,
         Change::Items(body, BACK_FROM + from.word()),
         Change::Enter(q, body),
@@ -68,12 +67,12 @@ pub(crate) fn does_at(v: View, used: usize, q: Place, body: u64) -> Acted
 }
 
 // 15: to the end of the next list.
-pub(crate) fn cooperates(v: View, used: usize) -> Acted
-    ensures { λ r. ⌜ r ≡ cooperation v used ⌝ }
+pub(crate) fn cooperates(v: View) -> Acted
+    ensures { λ r. ⌜ r ≡ cooperation v ⌝ }
 {
     let p = v.place;
     if p.is_private() {
-        return refused(STUCK, used);
+        return refused(STUCK);
     }
-    comes_to(Fate::Joins(p), Change::Same, used)
+    comes_to(Fate::Joins(p), Change::Same)
 }

@@ -1,20 +1,21 @@
 // 13 and 14: a start with its arguments.
 use crate::evaluated::refused_by;
 use acts::act::Acted;
+use acts::act::Arguments;
 use acts::act::Change;
 use acts::act::Fate;
+use acts::act::comes_to;
 use evaluator::evaluation::evaluate;
 use machine::value::Outcome;
-use operations::Answered;
 use operations::Who;
 use operations::word::value_word;
 ghost use mathlib.Core.Path.{_≡_};
 ghost use Rattle.text.specs.Frames.{framesOf};
 ghost use Rattle.program.specs.Trees.{arguments, expressionAt};
 ghost use Rattle.evaluator.specs.inner.Results.{CellWords, ValueWords, FrameWords};
-ghost use Rattle.evaluator.specs.inner.Lent.{Lent, variablesOf, cellsOf, restOf};
+ghost use Rattle.operations.specs.inner.Lent.{Lent, variablesOf, countOf, cellsOf, restOf};
 ghost use Rattle.turns.specs.inner.Actions.{startWith, startOne, startTwo, startAct};
-ghost use Rattle.turns.specs.inner.Actions.{afterValue, actOn};
+ghost use Rattle.turns.specs.inner.Actions.{afterValue, actIn};
 
 // Which module is started, and whether the starter waits.
 pub(crate) struct Request {
@@ -22,37 +23,44 @@ pub(crate) struct Request {
     pub target: u8,
 }
 
-fn starts_with(q: Request, used: usize, given: u64, first: u64, second: u64) -> Acted
-    ensures { λ r. ⌜ r ≡ startWith q used given first second ⌝ }
+fn starts_with(q: Request, args: Arguments) -> Acted
+    ensures { λ r. ⌜ r ≡ startWith q args ⌝ }
 {
-    Acted {
-        fate: Fate::Starts(q.waits, q.target),
-        change: Change::Same,
-        used,
-        given,
-        first,
-        second,
-    }
+    comes_to(Fate::Starts(q.waits, q.target, args), Change::Same)
 }
 
-fn starts_one(q: Request, x: Answered) -> Acted
-    ensures { λ r. ⌜ r ≡ afterValue (x .outcome) (x .used) (startOne q (x .used)) ⌝ }
+fn starts_one(q: Request, x: Outcome) -> Acted
+    ensures { λ r. ⌜ r ≡ afterValue x (startOne q) ⌝ }
 {
-    let o = x.outcome;
-    let Outcome::Is(w) = o else {
-        return refused_by(o, x.used);
+    let Outcome::Is(w) = x else {
+        return refused_by(x);
     };
-    starts_with(q, x.used, 1, value_word(w), 0)
+    let first = value_word(w);
+    starts_with(
+        q,
+        Arguments {
+            count: 1,
+            first,
+            second: 0,
+        },
+    )
 }
 
-fn starts_two(q: Request, first: u64, y: Answered) -> Acted
-    ensures { λ r. ⌜ r ≡ afterValue (y .outcome) (y .used) (startTwo q first (y .used)) ⌝ }
+fn starts_two(q: Request, first: u64, y: Outcome) -> Acted
+    ensures { λ r. ⌜ r ≡ afterValue y (startTwo q first) ⌝ }
 {
-    let o = y.outcome;
-    let Outcome::Is(w) = o else {
-        return refused_by(o, y.used);
+    let Outcome::Is(w) = y else {
+        return refused_by(y);
     };
-    starts_with(q, y.used, 2, first, value_word(w))
+    let second = value_word(w);
+    starts_with(
+        q,
+        Arguments {
+            count: 2,
+            first,
+            second,
+        },
+    )
 }
 
 // The arguments are frames a and b, where 0 is none: A, then B.
@@ -61,28 +69,35 @@ pub(crate) fn starts(
     who: Who,
     q: Request,
     state: &mut [u64],
-    used: usize,
     a: u16,
     b: u16,
 ) -> Acted
     requires { ⌜ FrameWords (now frames) a × FrameWords (now frames) b × Lent who (now state)
-        × ValueWords (variablesOf who (now state)) × CellWords used (cellsOf (now state)) ⌝ }
-    ensures found { λ r. ⌜ actOn r (cellsOf (now (state .exit)))
-        ≡ startAct who q (variablesOf who (now (state .entry))) used (cellsOf (now (state .entry)))
+        × ValueWords (variablesOf who (now state))
+        × CellWords (countOf (now state)) (cellsOf (now state)) ⌝ }
+    ensures found { λ r. ⌜ actIn r (now (state .exit))
+        ≡ startAct who q (variablesOf who (now (state .entry)))
+        (countOf (now (state .entry))) (cellsOf (now (state .entry)))
         (arguments (expressionAt (framesOf (now (frames .entry)))) a b) ⌝ }
     ensures rest { λ _. ⌜ restOf (now (state .exit)) ≡ restOf (now (state .entry)) ⌝ }
 {
     if a == 0 {
-        return starts_with(q, used, 0, 0, 0);
+        return starts_with(
+            q,
+            Arguments {
+                count: 0,
+                first: 0,
+                second: 0,
+            },
+        );
     }
-    let x = evaluate(frames, who, state, used, a);
+    let x = evaluate(frames, who, state, a);
     if b == 0 {
         return starts_one(q, x);
     }
-    let o = x.outcome;
-    let Outcome::Is(w) = o else {
-        return refused_by(o, x.used);
+    let Outcome::Is(w) = x else {
+        return refused_by(x);
     };
-    let y = evaluate(frames, who, state, x.used, b);
+    let y = evaluate(frames, who, state, b);
     starts_two(q, value_word(w), y)
 }

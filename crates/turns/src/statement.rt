@@ -24,59 +24,54 @@ ghost use Prim.Native.Nat.{_<_};
 ghost use lib.ListN.{length};
 ghost use Rattle.text.specs.Frames.{framesOf};
 ghost use Rattle.program.specs.Trees.{statementAt};
-ghost use Rattle.evaluator.specs.inner.Lent.{Lent, variablesOf, cellsOf, restOf};
+ghost use Rattle.operations.specs.inner.Lent.{Lent, variablesOf, countOf, cellsOf, restOf};
 ghost use Rattle.turns.specs.inner.Acts.{TurnWords};
-ghost use Rattle.turns.specs.inner.Actions.{statementAct, actOn};
+ghost use Rattle.turns.specs.inner.Actions.{statementAct, actIn};
 
 // Statement i, on top of a continuation that no longer has it.
-pub(crate) fn act_statement(
-    frames: &[u64],
-    who: Who,
-    v: View,
-    state: &mut [u64],
-    used: usize,
-    i: usize,
-) -> Acted
-    requires { ⌜ TurnWords (now frames) v (variablesOf who (now state)) used (cellsOf (now state))
+pub(crate) fn act_statement(frames: &[u64], who: Who, v: View, state: &mut [u64], i: usize) -> Acted
+    requires { ⌜ TurnWords (now frames) v (variablesOf who (now state))
+        (countOf (now state)) (cellsOf (now state))
         × Lent who (now state) × (i < length (now frames)) ⌝ }
-    ensures found { λ r. ⌜ actOn r (cellsOf (now (state .exit)))
-        ≡ statementAct who v (variablesOf who (now (state .entry))) used
-        (cellsOf (now (state .entry))) (statementAt (framesOf (now (frames .entry))) i) ⌝ }
+    ensures found { λ r. ⌜ actIn r (now (state .exit))
+        ≡ statementAct who v (variablesOf who (now (state .entry)))
+        (countOf (now (state .entry))) (cellsOf (now (state .entry)))
+        (statementAt (framesOf (now (frames .entry))) i) ⌝ }
     ensures rest { λ _. ⌜ restOf (now (state .exit)) ≡ restOf (now (state .entry)) ⌝ }
 {
     match statement_node(frame_of_word(frames[i])) {
-        StatementNode::Nothing => comes_to(Fate::Stays, Change::Same, used),
-        StatementNode::Seq(a, b) => stays_with_two(v, used, a as u64, b as u64),
-        StatementNode::DoAt(q, a) => does_at(v, used, q, a as u64),
+        StatementNode::Nothing => comes_to(Fate::Stays, Change::Same),
+        StatementNode::Seq(a, b) => stays_with_two(v, a as u64, b as u64),
+        StatementNode::DoAt(q, a) => does_at(v, q, a as u64),
         StatementNode::Start(m, a, b) => {
             let q = Request {
                 waits: false,
                 target: m,
             };
-            starts(frames, who, q, state, used, a, b)
+            starts(frames, who, q, state, a, b)
         },
         StatementNode::StartWait(m, a, b) => {
             let q = Request {
                 waits: true,
                 target: m,
             };
-            starts(frames, who, q, state, used, a, b)
+            starts(frames, who, q, state, a, b)
         },
-        StatementNode::Cooperate => cooperates(v, used),
+        StatementNode::Cooperate => cooperates(v),
         StatementNode::LetIn(a, b) => {
-            let x = evaluate(frames, who, state, used, a);
+            let x = evaluate(frames, who, state, a);
             lets_after(x, v, b as u64)
         },
         StatementNode::Store(a, b) => {
-            let x = store(frames, who, state, used, a, b);
+            let x = store(frames, who, state, a, b);
             stores_after(x)
         },
         StatementNode::IfElse(a, b, c) => {
-            let x = evaluate(frames, who, state, used, a);
+            let x = evaluate(frames, who, state, a);
             chooses_after(x, v, b as u64, c as u64)
         },
         StatementNode::While(a, b) => {
-            let x = evaluate(frames, who, state, used, a);
+            let x = evaluate(frames, who, state, a);
             loops_after(x, v, b as u64, i as u64)
         },
     }

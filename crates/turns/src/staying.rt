@@ -13,43 +13,43 @@ use language::refusal::STUCK;
 ghost use mathlib.Core.Path.{_≡_};
 ghost use Rattle.turns.specs.inner.Actions.{oneMore, twoMore, letMore, dropOne};
 
-pub(crate) fn stays_with(v: View, used: usize, item: u64) -> Acted
-    ensures { λ r. ⌜ r ≡ oneMore v used item ⌝ }
+pub(crate) fn stays_with(v: View, item: u64) -> Acted
+    ensures { λ r. ⌜ r ≡ oneMore v item ⌝ }
 {
     if ITEM_SPACE <= v.items {
-        return refused(STUCK, used);
+        return refused(STUCK);
     }
-    comes_to(Fate::Stays, Change::Item(item), used)
+    comes_to(Fate::Stays, Change::Item(item))
 }
 
-pub(crate) fn stays_with_two(v: View, used: usize, top: u64, below: u64) -> Acted
-    ensures { λ r. ⌜ r ≡ twoMore v used top below ⌝ }
+pub(crate) fn stays_with_two(v: View, top: u64, below: u64) -> Acted
+    ensures { λ r. ⌜ r ≡ twoMore v top below ⌝ }
 {
     if ONE_ITEM_LEFT <= v.items {
-        return refused(STUCK, used);
+        return refused(STUCK);
     }
-    comes_to(Fate::Stays, Change::Items(top, below), used)
+    comes_to(Fate::Stays, Change::Items(top, below))
 }
 
 // 16: one variable more, and the body above a drop of it.
-pub(crate) fn lets(v: View, used: usize, value: u64, body: u64) -> Acted
-    ensures { λ r. ⌜ r ≡ letMore v used value body ⌝ }
+pub(crate) fn lets(v: View, value: u64, body: u64) -> Acted
+    ensures { λ r. ⌜ r ≡ letMore v value body ⌝ }
 {
     if VARIABLE_SPACE <= v.values {
-        return refused(STUCK, used);
+        return refused(STUCK);
     }
     if ONE_ITEM_LEFT <= v.items {
-        return refused(STUCK, used);
+        return refused(STUCK);
     }
-    comes_to(Fate::Stays, Change::Let(value, body), used)
+    comes_to(Fate::Stays, Change::Let(value, body))
 }
 
 // A drop of the last variable.
-pub(crate) fn drops(v: View, used: usize) -> Acted
-    ensures { λ r. ⌜ r ≡ dropOne v used ⌝ }
+pub(crate) fn drops(v: View) -> Acted
+    ensures { λ r. ⌜ r ≡ dropOne v ⌝ }
 {
     if v.values == 0 {
-        return refused(STUCK, used);
+        return refused(STUCK);
     }
-    comes_to(Fate::Stays, Change::Drop, used)
+    comes_to(Fate::Stays, Change::Drop)
 }

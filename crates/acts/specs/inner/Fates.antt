@@ -8,30 +8,32 @@ use Rattle.language.specs.Limits.{mostVariables, mostItems}
 use Rattle.machine.specs.Offsets.{backFrom, dropWord}
 use Rattle.states.specs.declared.thread.ThreadWords.{ThreadWords}
 use Rattle.states.specs.inner.Stacks.{pushItem, popItem, pushValue, popValue, moveTo, ended}
+use Rattle.acts.specs.declared.act.Arguments.{Arguments}
 use Rattle.acts.specs.declared.act.Fate.{Fate}
 use Rattle.acts.specs.declared.act.Fate.the-variants.{Refused}
 use Rattle.acts.specs.declared.act.Change.{Change}
 use Rattle.acts.specs.declared.act.Change.the-variants.{Same, Item, Items, Let, Drop, Move, Enter, End}
 use Rattle.acts.specs.declared.act.Acted.{Acted}
 
-abbrev pub actedWith : Fate → Change → ℕ → Acted
-actedWith f c n = record { fate = f; change = c; used = n; given = 0; first = 0; second = 0 }
+abbrev pub argumentsOf : ℕ → ℕ → ℕ → Arguments
+argumentsOf n first second = record { count = n; first = first; second = second }
 
-abbrev pub refusedWith : ℕ → ℕ → Acted
-refusedWith answer n = actedWith (Refused answer) Same n
+abbrev pub actedWith : Fate → Change → Acted
+actedWith f c = record { fate = f; change = c }
 
--- ---- the same with the thread behind the turn in place of the change
+abbrev pub refusedWith : ℕ → Acted
+refusedWith answer = actedWith (Refused answer) Same
+
+-- ---- the same with the thread behind the turn in place of the change, and how many cells are in use
+-- behind it
 
 pub record Turned : Type 0 where
   pub fate : Fate
   pub thread : ThreadWords
   pub used : ℕ
-  pub given : ℕ
-  pub first : ℕ
-  pub second : ℕ
 
 abbrev pub actedIn : Fate → ThreadWords → ℕ → Turned
-actedIn f th n = record { fate = f; thread = th; used = n; given = 0; first = 0; second = 0 }
+actedIn f th n = record { fate = f; thread = th; used = n }
 
 abbrev pub refusedIn : ℕ → ThreadWords → ℕ → Turned
 refusedIn answer th n = actedIn (Refused answer) th n
@@ -51,16 +53,8 @@ changed (Move q) th = moveTo (q .number) th
 changed (Enter q body) th = moveTo (q .number) (pushItem body (pushItem (backFrom + th .place) th))
 changed End th = ended th
 
-abbrev pub turned : Acted → ThreadWords → Turned
-turned a th =
-    record {
-      fate = a .fate;
-      thread = changed (a .change) th;
-      used = a .used;
-      given = a .given;
-      first = a .first;
-      second = a .second;
-    }
+abbrev pub turned : Acted → ℕ → ThreadWords → Turned
+turned a n th = record { fate = a .fate; thread = changed (a .change) th; used = n }
 
 -- so many items and variables leave room for the change, or there is a variable to drop
 abbrev pub Room : Change → ℕ → ℕ → Type 0

@@ -17,6 +17,7 @@ use Rattle.machine.specs.Calls.{Called}
 use Rattle.states.specs.declared.thread.ThreadWords.{ThreadWords}
 use Rattle.states.specs.inner.Threads.{threadIn, putThread, withOneMore}
 use Rattle.lists.specs.inner.Lists.{withoutFirst, withLast}
+use Rattle.acts.specs.declared.act.Arguments.{Arguments}
 use Rattle.acts.specs.declared.act.Fate.{Fate}
 use Rattle.acts.specs.declared.act.Fate.the-variants.{Refused, Stays, Leaves, Joins, Starts}
 use Rattle.acts.specs.declared.act.Change.{Change}
@@ -36,14 +37,20 @@ use Rattle.machine.specs.Offsets.{nextListAt, cellsAt, waitingFactor}
 abbrev pub called : ℕ → ℕ → List ℕ → Called
 called n t w = record { answer = n; thread = t; words = w }
 
+-- how many cells are in use
+abbrev pub countIn : List ℕ → ℕ
+countIn w = getD w cellCountAt 0
+
 -- ---- the single changes
 
--- the cells from that one to below that other are 0
-unfoldable pub clearedIn : List ℕ → ℕ → ℕ → List ℕ
-clearedIn w from upto = pasted w (cellsAt + from) (replicate (upto - from) 0) (upto - from)
+-- a refusal takes back the cells made: their words are 0, and as many are in use as before
+unfoldable pub clearedIn : List ℕ → ℕ → List ℕ
+clearedIn w before =
+    set (pasted w (cellsAt + before) (replicate (countIn w - before) 0) (countIn w - before))
+    cellCountAt before
 
-unfoldable pub settledIn : List ℕ → ℕ → ThreadWords → ℕ → List ℕ
-settledIn w k th n = putThread (set w cellCountAt n) k th
+unfoldable pub settledIn : List ℕ → ℕ → ThreadWords → List ℕ
+settledIn w k th = putThread w k th
 
 unfoldable pub leftIn : List ℕ → ℕ → List ℕ
 leftIn w c = if isScheduler c then withoutFirst w (c - home) else w
@@ -58,11 +65,11 @@ joinedIn w q e = if isScheduler q then withLast w (q - home) e else w
 
 -- ---- each fate, of thread t at choice c, where `before` cells were in use
 
-abbrev pub refusesIn : List ℕ → ℕ → ℕ → Turned → ℕ → Called
-refusesIn w before t a n = called n t (clearedIn w before (a .used))
+abbrev pub refusesIn : List ℕ → ℕ → ℕ → ℕ → Called
+refusesIn w before t n = called n t (clearedIn w before)
 
 abbrev pub staysIn : List ℕ → ℕ → Turned → List ℕ
-staysIn w t a = settledIn w (t - 1) (a .thread) (a .used)
+staysIn w t a = settledIn w (t - 1) (a .thread)
 
 abbrev pub leavesIn : List ℕ → ℕ → ℕ → Turned → List ℕ
 leavesIn w c t a = leftIn (staysIn w t a) c
@@ -71,7 +78,7 @@ unfoldable pub joinsIn : List ℕ → ℕ → ℕ → ℕ → Turned → ℕ →
 joinsIn w before c t a q =
     if roomIn w q 1
     then called 0 t (joinedIn (leavesIn w c t a) q t)
-    else refusesIn w before t a stuck
+    else refusesIn w before t stuck
 
 -- the new thread, at that place, with so many arguments
 abbrev pub newThread : ℕ → ℕ → ℕ → ℕ → ℕ → ℕ → ThreadWords
@@ -86,8 +93,9 @@ newThread place given first second t body =
       variables = padded mostVariables (first ∷ second ∷ []);
     }
 
-abbrev pub newIn : Turned → ℕ → ℕ → ThreadWords
-newIn a t body = newThread (a .thread .place) (a .given) (a .first) (a .second) t body
+abbrev pub newIn : Turned → Arguments → ℕ → ℕ → ThreadWords
+newIn a args t body =
+    newThread (a .thread .place) (args .count) (args .first) (args .second) t body
 
 -- a start that does not fit is 20, a 65th thread 18; 0 is neither
 unfoldable pub obstacleIn : List ℕ → ModuleFound → ℕ → ℕ → ℕ
@@ -99,32 +107,32 @@ obstacleIn w found place given =
     if leb mostThreads (getD w threadCountAt 0) then threadsSpent else
     0
 
-abbrev pub startedIn : List ℕ → ℕ → Turned → ℕ → List ℕ
-startedIn w t a body =
-    joinedIn (withOneMore (staysIn w t a) (newIn a t body)) (a .thread .place)
+abbrev pub startedIn : List ℕ → ℕ → Turned → Arguments → ℕ → List ℕ
+startedIn w t a args body =
+    joinedIn (withOneMore (staysIn w t a) (newIn a args t body)) (a .thread .place)
     (getD w threadCountAt 0 + 1)
 
-abbrev pub waitingIn : List ℕ → ℕ → ℕ → Turned → ℕ → List ℕ
-waitingIn w c t a body =
-    joinedIn (joinedIn (withOneMore (leavesIn w c t a) (newIn a t body)) (a .thread .place)
+abbrev pub waitingIn : List ℕ → ℕ → ℕ → Turned → Arguments → ℕ → List ℕ
+waitingIn w c t a args body =
+    joinedIn (joinedIn (withOneMore (leavesIn w c t a) (newIn a args t body)) (a .thread .place)
     (getD w threadCountAt 0 + 1)) (a .thread .place)
     (waitingFactor * (getD w threadCountAt 0 + 1) + t)
 
-unfoldable pub startsIn : Program → List ℕ → ℕ → ℕ → ℕ → Turned → Bool → ℕ → Called
-startsIn p w before c t a waits m =
+unfoldable pub startsIn : Program → List ℕ → ℕ → ℕ → ℕ → Turned → Bool → ℕ → Arguments → Called
+startsIn p w before c t a waits m args =
     let found = foundIn p m in
-    let no = obstacleIn w found (a .thread .place) (a .given) in
-    if not (eqb no 0) then refusesIn w before t a no else
-    if not waits then called 0 t (startedIn w t a (found .body)) else
-    if not (roomIn w (a .thread .place) 2) then refusesIn w before t a stuck else
-    called 0 t (waitingIn w c t a (found .body))
+    let no = obstacleIn w found (a .thread .place) (args .count) in
+    if not (eqb no 0) then refusesIn w before t no else
+    if not waits then called 0 t (startedIn w t a args (found .body)) else
+    if not (roomIn w (a .thread .place) 2) then refusesIn w before t stuck else
+    called 0 t (waitingIn w c t a args (found .body))
 
 abbrev pub committedIn : Program → List ℕ → ℕ → ℕ → ℕ → Turned → Fate → Called
-committedIn p w before c t a (Refused n) = refusesIn w before t a n
+committedIn p w before c t a (Refused n) = refusesIn w before t n
 committedIn p w before c t a Stays = called 0 t (staysIn w t a)
 committedIn p w before c t a Leaves = called 0 t (leavesIn w c t a)
 committedIn p w before c t a (Joins q) = joinsIn w before c t a (q .number)
-committedIn p w before c t a (Starts waits m) = startsIn p w before c t a waits m
+committedIn p w before c t a (Starts waits m args) = startsIn p w before c t a waits m args
 
 -- ---- the act as it is committed
 
@@ -141,22 +149,22 @@ placeAfter End p = p
 
 -- what thread t's act comes to on those words
 abbrev pub after : List ℕ → ℕ → Acted → Turned
-after w t a = turned a (popped (threadIn w (t - 1)))
+after w t a = turned a (countIn w) (popped (threadIn w (t - 1)))
 
 -- ---- the commit as the code makes it: decided on the words before it, then on the settled words
 -- the lists follow. It is `committedIn` (proofs/CommitLaws, `decided-is`).
 
 -- a start of the module so found, by a starter that stands at q behind its turn
-unfoldable pub startTested : List ℕ → Acted → Bool → ModuleFound → Place → Decision
-startTested w a waits found q =
-    let no = obstacleIn w found (q .number) (a .given) in
+unfoldable pub startTested : List ℕ → Arguments → Bool → ModuleFound → Place → Decision
+startTested w args waits found q =
+    let no = obstacleIn w found (q .number) (args .count) in
     if not (eqb no 0) then Refuse no else
     if waits && not (roomIn w (q .number) 2) then Refuse stuck else
-    Settle (Start waits q (found .body))
+    Settle (Start waits q (found .body) args)
 
-abbrev pub startDecided : Program → List ℕ → ℕ → Acted → Bool → ℕ → Decision
-startDecided p w t a waits m =
-    startTested w a waits (foundIn p m)
+abbrev pub startDecided : Program → List ℕ → ℕ → Acted → Bool → ℕ → Arguments → Decision
+startDecided p w t a waits m args =
+    startTested w args waits (foundIn p m)
     (placeAfter (a .change) (record { number = threadIn w (t - 1) .place }))
 
 abbrev pub decidedIn : Program → List ℕ → ℕ → Acted → Fate → Decision
@@ -164,18 +172,19 @@ decidedIn p w t a (Refused n) = Refuse n
 decidedIn p w t a Stays = Settle Keep
 decidedIn p w t a Leaves = Settle Leave
 decidedIn p w t a (Joins q) = if roomIn w (q .number) 1 then Settle (Join q) else Refuse stuck
-decidedIn p w t a (Starts waits m) = startDecided p w t a waits m
+decidedIn p w t a (Starts waits m args) = startDecided p w t a waits m args
 
 -- the new thread of a starter that stands at q
-abbrev pub newAt : Acted → Place → ℕ → ℕ → ThreadWords
-newAt a q t body = newThread (q .number) (a .given) (a .first) (a .second) t body
+abbrev pub newAt : Arguments → Place → ℕ → ℕ → ThreadWords
+newAt args q t body =
+    newThread (q .number) (args .count) (args .first) (args .second) t body
 
 -- a start by t, who stands at q: the new thread is the last, and the last in the next list of q; a
 -- starter that waits stands behind it
-unfoldable pub startedOn : List ℕ → ℕ → Acted → Place → ℕ → Bool → List ℕ
-startedOn w t a q body waits =
+unfoldable pub startedOn : List ℕ → ℕ → Place → ℕ → Bool → Arguments → List ℕ
+startedOn w t q body waits args =
     let new = getD w threadCountAt 0 + 1 in
-    let v = joinedIn (withOneMore w (newAt a q t body)) (q .number) new in
+    let v = joinedIn (withOneMore w (newAt args q t body)) (q .number) new in
     if waits then joinedIn v (q .number) (waitingFactor * new + t) else v
 
 -- whether the thread leaves its list; a starter does where it waits
@@ -183,20 +192,20 @@ abbrev pub leavesList : Passed → Bool
 leavesList Keep = false
 leavesList Leave = true
 leavesList (Join q) = true
-leavesList (Start waits q body) = waits
+leavesList (Start waits q body args) = waits
 
 unfoldable pub unlistedIn : List ℕ → ℕ → Passed → List ℕ
 unlistedIn w c x = if leavesList x then leftIn w c else w
 
 -- then what joins a next list
-abbrev pub enlistedIn : List ℕ → ℕ → Acted → Passed → List ℕ
-enlistedIn w t a Keep = w
-enlistedIn w t a Leave = w
-enlistedIn w t a (Join q) = joinedIn w (q .number) t
-enlistedIn w t a (Start waits q body) = startedOn w t a q body waits
+abbrev pub enlistedIn : List ℕ → ℕ → Passed → List ℕ
+enlistedIn w t Keep = w
+enlistedIn w t Leave = w
+enlistedIn w t (Join q) = joinedIn w (q .number) t
+enlistedIn w t (Start waits q body args) = startedOn w t q body waits args
 
-abbrev pub followedIn : List ℕ → ℕ → ℕ → Acted → Passed → List ℕ
-followedIn w c t a x = enlistedIn (unlistedIn w c x) t a x
+abbrev pub followedIn : List ℕ → ℕ → ℕ → Passed → List ℕ
+followedIn w c t x = enlistedIn (unlistedIn w c x) t x
 
 -- ---- what a caller has to show
 
@@ -219,10 +228,10 @@ abbrev pub Follows : List ℕ → Passed → Type 0
 Follows w Keep = Unit {0}
 Follows w Leave = Unit {0}
 Follows w (Join q) = isScheduler (q .number) ≡ true
-Follows w (Start waits q body) = StartWords w q
+Follows w (Start waits q body args) = StartWords w q
 
 pub record CommitWords (w : List ℕ) (t : ℕ) (a : Acted) : Type 0 where
   pub first : 1 ≤ t
   pub last : t ≤ mostThreads
-  pub cells : a .used ≤ mostCells
+  pub cells : countIn w ≤ mostCells
   pub settle : SettleWords w (t - 1) (a .change)

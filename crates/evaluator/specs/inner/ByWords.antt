@@ -11,7 +11,7 @@ use Rattle.machine.specs.declared.value.Outcome.{Outcome}
 use Rattle.machine.specs.declared.value.Outcome.the-variants.{Is, Stuck}
 use Rattle.operations.specs.declared.Who.{Who}
 use Rattle.operations.specs.declared.operand.Operand.{Operand}
-use Rattle.operations.specs.declared.operand.Wanted.{Wanted}
+use Rattle.operations.specs.inner.Lent.{countOf, cellsOf}
 use Rattle.operations.specs.inner.Results.{Result, result, andThen, keeping}
 use Rattle.operations.specs.inner.ByWords.{variableIn, sharedIn, makeIn, reading, storeIn}
 use Rattle.operations.specs.inner.ByWords.{operandOf, aTruth, chosen}
@@ -53,8 +53,9 @@ pub record WantedResult : Type 0 where
   pub used : ℕ
   pub words : List ℕ
 
-abbrev pub wanted : Wanted → List ℕ → WantedResult
-wanted r ws = record { operand = r .operand; used = r .used; words = ws }
+-- an operand beside the words of a state
+abbrev pub wantedIn : Operand → List ℕ → WantedResult
+wantedIn p w = record { operand = p; used = countOf w; words = cellsOf w }
 
 abbrev pub numberOf : Result → WantedResult
 numberOf r = record { operand = operandOf (r .outcome); used = r .used; words = r .words }

@@ -23,9 +23,7 @@ use Rattle.machine.specs.declared.value.Value.the-variants.{Number, Truth, Cell
 use Rattle.machine.specs.declared.value.Outcome.{Outcome}
 use Rattle.machine.specs.declared.value.Outcome.the-variants.{Is, Foreign, Spent, Stuck}
 use Rattle.operations.specs.declared.Who.{Who}
-use Rattle.operations.specs.declared.Answered.{Answered}
 use Rattle.operations.specs.declared.operand.Operand.{Operand}
-use Rattle.operations.specs.declared.operand.Wanted.{Wanted}
 use Rattle.operations.specs.inner.Results.{Result, result}
 
 -- ---- words
@@ -129,18 +127,12 @@ operandOf Foreign = Operand.Foreign
 operandOf Spent = Operand.Spent
 operandOf Stuck = Operand.Stuck
 
-abbrev pub asNumber : Answered → Wanted
-asNumber x = record { operand = operandOf (x .outcome); used = x .used }
-
 abbrev pub outcomeOf : Operand → Outcome
 outcomeOf (Operand.Number n) = Is (Number n)
 outcomeOf Operand.Other = Stuck
 outcomeOf Operand.Foreign = Foreign
 outcomeOf Operand.Spent = Spent
 outcomeOf Operand.Stuck = Stuck
-
-abbrev pub asAnswer : Wanted → Answered
-asAnswer x = record { outcome = outcomeOf (x .operand); used = x .used }
 
 abbrev pub operandStops : Operand → Bool
 operandStops (Operand.Number n) = false
@@ -169,9 +161,6 @@ bothBy op p Operand.Other = Stuck
 bothBy op p Operand.Foreign = Foreign
 bothBy op p Operand.Spent = Spent
 bothBy op p Operand.Stuck = Stuck
-
-abbrev pub operatedBy : Operator → Wanted → Wanted → Answered
-operatedBy op x y = record { outcome = bothBy op (x .operand) (y .operand); used = y .used }
 
 -- 28's condition
 abbrev pub aTruth : Value → Outcome

@@ -5,19 +5,20 @@ use Prim.Native.Nat.{ℕ}
 use Rattle.machine.specs.declared.value.Value.{Value}
 use Rattle.machine.specs.declared.value.Outcome.{Outcome}
 use Rattle.machine.specs.declared.value.Outcome.the-variants.{Is, Foreign, Spent, Stuck}
-use Rattle.operations.specs.declared.Answered.{Answered}
+use Rattle.operations.specs.inner.Lent.{countOf, cellsOf}
 
--- the outcome, how many cells are in use, and all lent words
+-- the outcome, how many cells are in use, and the words of the cells
 pub record Result : Type 0 where
   pub outcome : Outcome
   pub used : ℕ
   pub words : List ℕ
 
-abbrev pub after : Answered → List ℕ → Result
-after r ws = record { outcome = r .outcome; used = r .used; words = ws }
-
 abbrev pub result : Outcome → ℕ → List ℕ → Result
 result o n ws = record { outcome = o; used = n; words = ws }
+
+-- an outcome beside the words of a state: how many cells are in use, and the cells' words
+abbrev pub resultIn : Outcome → List ℕ → Result
+resultIn o w = result o (countOf w) (cellsOf w)
 
 -- go on with the value, or keep the refusal
 abbrev pub thenBy : Outcome → ℕ → List ℕ → (Value → ℕ → List ℕ → Result) → Result
@@ -35,9 +36,6 @@ onlyBy (Is v) k = k v
 onlyBy Foreign k = Foreign
 onlyBy Spent k = Spent
 onlyBy Stuck k = Stuck
-
-abbrev pub only : Answered → (Value → Outcome) → Answered
-only r k = record { outcome = onlyBy (r .outcome) k; used = r .used }
 
 abbrev pub keeping : (Value → Outcome) → Value → ℕ → List ℕ → Result
 keeping k v n ws = result (k v) n ws

@@ -3,14 +3,15 @@ use mathlib.Core.Path.{_≡_}
 use mathlib.Core.List.{List}
 use mathlib.Core.Bool.{true}
 use Prim.Native.Nat.{ℕ, _+_, _-_, _*_, _≤_}
-use lib.ListN.{length, getD}
+use lib.ListN.{length, getD, set}
 use Rattle.basics.specs.If.{if_then_else_}
 use Rattle.language.specs.Places.{home, isScheduler, hasScheduler}
 use Rattle.language.specs.Limits.{mostLines, mostCells}
 use Rattle.text.specs.Frames.{framesOf}
 use Rattle.program.specs.Programs.{Program, programOf}
 use Rattle.layout.specs.Faults.{NoFault}
-use Rattle.machine.specs.Offsets.{schedulersAt, schedulerLength, cellsAt, threadOwnerFrom}
+use Rattle.machine.specs.Offsets.{cellCountAt, schedulersAt, schedulerLength, cellsAt}
+use Rattle.machine.specs.Offsets.{threadOwnerFrom}
 use Rattle.machine.specs.State.{State, threadAt, usedCells}
 use Rattle.machine.specs.Turns.{isSchedulerOf}
 use Rattle.machine.specs.Words.{unpack}
@@ -69,9 +70,13 @@ turnOf frames shared w t =
     let s = stateIn frames w in
     turnIn (framesOf frames) (whoIn frames shared w t) (wordsOf (threadAt s t)) (usedCells (s .cells)) (cellWords (s .cells))
 
--- what the turn comes to, the words with its cells, and that the thread's space has room for the change
+-- what the turn comes to, the words with its cells and their count, and that the thread's space has
+-- room for the change
 pub record turnOn (a : Acted) (v : List ℕ) (frames : List ℕ) (shared : ℕ) (w : List ℕ) (t : ℕ) : Type 0 where
-  pub acted : turned a (popped (wordsOf (threadAt (stateIn frames w) t))) ≡ turnOf frames shared w t .acted
-  pub words : v ≡ pasted w cellsAt (turnOf frames shared w t .cells) mostCells
+  pub acted : turned a (getD v cellCountAt 0) (popped (wordsOf (threadAt (stateIn frames w) t)))
+      ≡ turnOf frames shared w t .acted
+  pub words : v
+      ≡ set (pasted w cellsAt (turnOf frames shared w t .cells) mostCells) cellCountAt
+      (turnOf frames shared w t .acted .used)
   pub whole : length (turnOf frames shared w t .cells) ≡ mostCells
   pub room : Room (a .change) (wordsOf (threadAt (stateIn frames w) t) .items - 1) (wordsOf (threadAt (stateIn frames w) t) .values)

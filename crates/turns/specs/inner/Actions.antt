@@ -21,13 +21,15 @@ use Rattle.machine.specs.declared.value.Value.the-variants.{Number, Truth, Cell
 use Rattle.machine.specs.declared.value.Outcome.{Outcome}
 use Rattle.machine.specs.declared.value.Outcome.the-variants.{Is, Foreign, Spent, Stuck}
 use Rattle.operations.specs.declared.Who.{Who}
+use Rattle.operations.specs.inner.Lent.{countOf, cellsOf}
 use Rattle.operations.specs.inner.Results.{Result}
 use Rattle.evaluator.specs.inner.Results.{hereOf, onWords}
+use Rattle.acts.specs.declared.act.Arguments.{Arguments}
 use Rattle.acts.specs.declared.act.Fate.the-variants.{Stays, Leaves, Joins, Starts}
 use Rattle.acts.specs.declared.act.Change.{Change}
 use Rattle.acts.specs.declared.act.Change.the-variants.{Same, Item, Items, Let, Drop, Move, Enter, End}
 use Rattle.acts.specs.declared.act.Acted.{Acted}
-use Rattle.acts.specs.inner.Fates.{actedWith, refusedWith}
+use Rattle.acts.specs.inner.Fates.{argumentsOf, actedWith, refusedWith}
 use Rattle.turns.specs.declared.view.View.{View}
 use Rattle.turns.specs.declared.start.Request.{Request}
 use Rattle.turns.specs.inner.Acts.{request}
@@ -37,114 +39,111 @@ placeAt q = record { number = q }
 
 -- ---- the thread stays: one item more, two, a variable with its body, a variable less. Full is 20
 
-unfoldable pub oneMore : View → ℕ → ℕ → Acted
-oneMore v n item =
-    if leb mostItems (v .items) then refusedWith stuck n else
-    actedWith Stays (Item item) n
+unfoldable pub oneMore : View → ℕ → Acted
+oneMore v item =
+    if leb mostItems (v .items) then refusedWith stuck else
+    actedWith Stays (Item item)
 
-unfoldable pub twoMore : View → ℕ → ℕ → ℕ → Acted
-twoMore v n top below =
-    if leb (mostItems - 1) (v .items) then refusedWith stuck n else
-    actedWith Stays (Items top below) n
+unfoldable pub twoMore : View → ℕ → ℕ → Acted
+twoMore v top below =
+    if leb (mostItems - 1) (v .items) then refusedWith stuck else
+    actedWith Stays (Items top below)
 
-unfoldable pub letMore : View → ℕ → ℕ → ℕ → Acted
-letMore v n x body =
-    if leb mostVariables (v .values) then refusedWith stuck n else
-    if leb (mostItems - 1) (v .items) then refusedWith stuck n else
-    actedWith Stays (Let x body) n
+unfoldable pub letMore : View → ℕ → ℕ → Acted
+letMore v x body =
+    if leb mostVariables (v .values) then refusedWith stuck else
+    if leb (mostItems - 1) (v .items) then refusedWith stuck else
+    actedWith Stays (Let x body)
 
-unfoldable pub dropOne : View → ℕ → Acted
-dropOne v n =
-    if eqb (v .values) 0 then refusedWith stuck n else
-    actedWith Stays Drop n
+unfoldable pub dropOne : View → Acted
+dropOne v =
+    if eqb (v .values) 0 then refusedWith stuck else
+    actedWith Stays Drop
 
 -- ---- the thread goes to place q: a move to one's own place is none
 
 -- from that place, with the one change or the other
-unfoldable pub goTo : Place → ℕ → Place → Change → Change → Acted
-goTo from n q same moved =
-    if eqb (q .number) (from .number) then actedWith Stays same n else
-    if eqb (q .number) private then actedWith Leaves moved n else
-    actedWith (Joins q) moved n
+unfoldable pub goTo : Place → Place → Change → Change → Acted
+goTo from q same moved =
+    if eqb (q .number) (from .number) then actedWith Stays same else
+    if eqb (q .number) private then actedWith Leaves moved else
+    actedWith (Joins q) moved
 
-abbrev pub goBack : View → ℕ → Place → Acted
-goBack v n q = goTo (v .place) n q Same (Move q)
+abbrev pub goBack : View → Place → Acted
+goBack v q = goTo (v .place) q Same (Move q)
 
 -- unlinked already
 abbrev pub unlinkedAgain : Place → Place → Bool
 unlinkedAgain from q = eqb (from .number) private && eqb (q .number) private
 
 -- the body above 'back to here'
-unfoldable pub doThere : View → ℕ → Place → ℕ → Acted
-doThere v n q body =
-    if unlinkedAgain (v .place) q then refusedWith stuck n else
-    if leb (mostItems - 1) (v .items) then refusedWith stuck n else
-    goTo (v .place) n q (Items body (backFrom + v .place .number)) (Enter q body)
+unfoldable pub doThere : View → Place → ℕ → Acted
+doThere v q body =
+    if unlinkedAgain (v .place) q then refusedWith stuck else
+    if leb (mostItems - 1) (v .items) then refusedWith stuck else
+    goTo (v .place) q (Items body (backFrom + v .place .number)) (Enter q body)
 
 -- to the end of the next list
-unfoldable pub cooperation : View → ℕ → Acted
-cooperation v n =
-    if eqb (v .place .number) private then refusedWith stuck n else
-    actedWith (Joins (v .place)) Same n
+unfoldable pub cooperation : View → Acted
+cooperation v =
+    if eqb (v .place .number) private then refusedWith stuck else
+    actedWith (Joins (v .place)) Same
 
--- ---- behind an evaluation, with n cells in use: its refusal stands, or its value decides
+-- ---- behind an evaluation: its refusal stands, or its value decides
 
-unfoldable pub afterValue : Outcome → ℕ → (Value → Acted) → Acted
-afterValue (Is x) n k = k x
-afterValue Foreign n k = refusedWith (answerOf Foreign) n
-afterValue Spent n k = refusedWith (answerOf Spent) n
-afterValue Stuck n k = refusedWith (answerOf Stuck) n
+unfoldable pub afterValue : Outcome → (Value → Acted) → Acted
+afterValue (Is x) k = k x
+afterValue Foreign k = refusedWith (answerOf Foreign)
+afterValue Spent k = refusedWith (answerOf Spent)
+afterValue Stuck k = refusedWith (answerOf Stuck)
 
 -- a condition that is no truth is 20
-abbrev pub byTruth : Value → ℕ → Acted → Acted → Acted
-byTruth (Truth true) n a b = a
-byTruth (Truth false) n a b = b
-byTruth (Number m) n a b = refusedWith stuck n
-byTruth (Cell c) n a b = refusedWith stuck n
+abbrev pub byTruth : Value → Acted → Acted → Acted
+byTruth (Truth true) a b = a
+byTruth (Truth false) a b = b
+byTruth (Number m) a b = refusedWith stuck
+byTruth (Cell c) a b = refusedWith stuck
 
 -- 16, 17, 18 and 19
-abbrev pub letAfter : View → ℕ → ℕ → Value → Acted
-letAfter v body n x = letMore v n (valueWord x) body
+abbrev pub letAfter : View → ℕ → Value → Acted
+letAfter v body x = letMore v (valueWord x) body
 
-abbrev pub storeAfter : ℕ → Value → Acted
-storeAfter n x = actedWith Stays Same n
+abbrev pub storeAfter : Value → Acted
+storeAfter x = actedWith Stays Same
 
-abbrev pub chooseAfter : View → ℕ → ℕ → ℕ → Value → Acted
-chooseAfter v a b n x = byTruth x n (oneMore v n a) (oneMore v n b)
+abbrev pub chooseAfter : View → ℕ → ℕ → Value → Acted
+chooseAfter v a b x = byTruth x (oneMore v a) (oneMore v b)
 
-abbrev pub loopAfter : View → ℕ → ℕ → ℕ → Value → Acted
-loopAfter v body again n x = byTruth x n (twoMore v n body again) (actedWith Stays Same n)
+abbrev pub loopAfter : View → ℕ → ℕ → Value → Acted
+loopAfter v body again x = byTruth x (twoMore v body again) (actedWith Stays Same)
 
--- a start, with how many arguments and their words
-abbrev pub startWith : Request → ℕ → ℕ → ℕ → ℕ → Acted
-startWith q n given first second =
-    record {
-      fate = Starts (q .waits) (q .target);
-      change = Same;
-      used = n;
-      given = given;
-      first = first;
-      second = second;
-    }
+-- a start with its arguments
+abbrev pub startWith : Request → Arguments → Acted
+startWith q args = actedWith (Starts (q .waits) (q .target) args) Same
 
-abbrev pub startOne : Request → ℕ → Value → Acted
-startOne q n x = startWith q n 1 (valueWord x) 0
+abbrev pub startOne : Request → Value → Acted
+startOne q x = startWith q (argumentsOf 1 (valueWord x) 0)
 
-abbrev pub startTwo : Request → ℕ → ℕ → Value → Acted
-startTwo q first n y = startWith q n 2 first (valueWord y)
+abbrev pub startTwo : Request → ℕ → Value → Acted
+startTwo q first y = startWith q (argumentsOf 2 first (valueWord y))
 
--- ---- with the words of the cells
+-- ---- with how many cells are in use behind it, and the words of the cells
 
 pub record ActOn : Type 0 where
   pub acted : Acted
+  pub used : ℕ
   pub cells : List ℕ
 
-abbrev pub actOn : Acted → List ℕ → ActOn
-actOn a ws = record { acted = a; cells = ws }
+abbrev pub actOn : Acted → ℕ → List ℕ → ActOn
+actOn a n ws = record { acted = a; used = n; cells = ws }
+
+-- an act beside the words of a state
+abbrev pub actIn : Acted → List ℕ → ActOn
+actIn a w = actOn a (countOf w) (cellsOf w)
 
 -- the act behind an evaluation, on the cells that it leaves
-abbrev pub behind : Result → (ℕ → Value → Acted) → ActOn
-behind r k = actOn (afterValue (r .outcome) (r .used) (k (r .used))) (r .words)
+abbrev pub behind : Result → (Value → Acted) → ActOn
+behind r k = actOn (afterValue (r .outcome) k) (r .used) (r .words)
 
 abbrev pub evaluatedBy : Who → List ℕ → Expr → ℕ → List ℕ → Result
 evaluatedBy who vs x n ws = onWords (eval (hereOf who vs) x) n ws
@@ -155,9 +154,9 @@ storedBy who vs x y n ws = onWords (storing (hereOf who vs) x y) n ws
 -- behind the first of two arguments
 abbrev pub firstThen : Outcome → ℕ → List ℕ → (Value → ActOn) → ActOn
 firstThen (Is x) n ws k = k x
-firstThen Foreign n ws k = actOn (refusedWith (answerOf Foreign) n) ws
-firstThen Spent n ws k = actOn (refusedWith (answerOf Spent) n) ws
-firstThen Stuck n ws k = actOn (refusedWith (answerOf Stuck) n) ws
+firstThen Foreign n ws k = actOn (refusedWith (answerOf Foreign)) n ws
+firstThen Spent n ws k = actOn (refusedWith (answerOf Spent)) n ws
+firstThen Stuck n ws k = actOn (refusedWith (answerOf Stuck)) n ws
 
 abbrev pub bothArguments : Who → Request → List ℕ → Expr → Result → ActOn
 bothArguments who q vs y r =
@@ -165,19 +164,19 @@ bothArguments who q vs y r =
     (λ x. behind (evaluatedBy who vs y (r .used) (r .words)) (startTwo q (valueWord x)))
 
 abbrev pub startAct : Who → Request → List ℕ → ℕ → List ℕ → List Expr → ActOn
-startAct who q vs n ws [] = actOn (startWith q n 0 0 0) ws
+startAct who q vs n ws [] = actOn (startWith q (argumentsOf 0 0 0)) n ws
 startAct who q vs n ws (x ∷ []) = behind (evaluatedBy who vs x n ws) (startOne q)
 startAct who q vs n ws (x ∷ y ∷ ys) = bothArguments who q vs y (evaluatedBy who vs x n ws)
 
 -- ---- the whole turn, from the top item on
 
 abbrev pub statementAct : Who → View → List ℕ → ℕ → List ℕ → Stmt → ActOn
-statementAct who v vs n ws (nothing i) = actOn (actedWith Stays Same n) ws
-statementAct who v vs n ws (seq i a b) = actOn (twoMore v n (rootS a) (rootS b)) ws
-statementAct who v vs n ws (doAt i q a) = actOn (doThere v n (placeAt q) (rootS a)) ws
+statementAct who v vs n ws (nothing i) = actOn (actedWith Stays Same) n ws
+statementAct who v vs n ws (seq i a b) = actOn (twoMore v (rootS a) (rootS b)) n ws
+statementAct who v vs n ws (doAt i q a) = actOn (doThere v (placeAt q) (rootS a)) n ws
 statementAct who v vs n ws (start i m xs) = startAct who (request false m) vs n ws xs
 statementAct who v vs n ws (startWait i m xs) = startAct who (request true m) vs n ws xs
-statementAct who v vs n ws (cooperate i) = actOn (cooperation v n) ws
+statementAct who v vs n ws (cooperate i) = actOn (cooperation v) n ws
 statementAct who v vs n ws (letIn i x a) = behind (evaluatedBy who vs x n ws) (letAfter v (rootS a))
 statementAct who v vs n ws (store i x y) = behind (storedBy who vs x y n ws) storeAfter
 statementAct who v vs n ws (ifElse i x a b) =
@@ -189,8 +188,8 @@ statementAct who v vs n ws (while i x a) =
 unfoldable pub itemAct : List Frame → Who → View → ℕ → List ℕ → ℕ → List ℕ → ActOn
 itemAct fs who v item vs n ws =
     if ltb item backFrom then statementAct who v vs n ws (statementAt fs item) else
-    if ltb item dropWord then actOn (goBack v n (placeAt (item - backFrom))) ws else
-    actOn (dropOne v n) ws
+    if ltb item dropWord then actOn (goBack v (placeAt (item - backFrom))) n ws else
+    actOn (dropOne v) n ws
 
 -- without the top item
 abbrev pub below : View → View
@@ -199,5 +198,5 @@ below v = record { place = v .place; items = v .items - 1; values = v .values }
 -- a thread without an item ends
 unfoldable pub turnAct : List Frame → Who → View → ℕ → List ℕ → ℕ → List ℕ → ActOn
 turnAct fs who v item vs n ws =
-    if eqb (v .items) 0 then actOn (actedWith Leaves End n) ws else
+    if eqb (v .items) 0 then actOn (actedWith Leaves End) n ws else
     itemAct fs who (below v) item vs n ws

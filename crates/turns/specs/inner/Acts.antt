@@ -26,9 +26,10 @@ use Rattle.operations.specs.inner.Results.{Result}
 use Rattle.evaluator.specs.inner.Results.{hereOf, onWords, CellWords, ValueWords}
 use Rattle.states.specs.declared.thread.ThreadWords.{ThreadWords}
 use Rattle.states.specs.inner.Stacks.{pushItem, popItem, pushValue, popValue, moveTo, ended}
+use Rattle.acts.specs.declared.act.Arguments.{Arguments}
 use Rattle.acts.specs.declared.act.Fate.the-variants.{Stays, Leaves, Joins, Starts}
 use Rattle.acts.specs.declared.act.Acted.{Acted}
-use Rattle.acts.specs.inner.Fates.{Turned, actedIn, refusedIn, popped, turned, Room}
+use Rattle.acts.specs.inner.Fates.{argumentsOf, Turned, actedIn, refusedIn, popped, turned, Room}
 use Rattle.turns.specs.declared.view.View.{View}
 use Rattle.turns.specs.declared.start.Request.{Request}
 
@@ -129,29 +130,23 @@ loopsOn th body loop r =
     (λ v. byTruthIn v th (r .used) (twoIn th (r .used) body loop) (actedIn Stays th (r .used))))
     (r .words)
 
--- ---- a start, with the words of its arguments
+-- ---- a start with its arguments
 
-abbrev pub startsWith : Request → ThreadWords → ℕ → ℕ → ℕ → ℕ → Turned
-startsWith q th n given first second =
-    record {
-      fate = Starts (q .waits) (q .target);
-      thread = th;
-      used = n;
-      given = given;
-      first = first;
-      second = second;
-    }
+abbrev pub startsWith : Request → ThreadWords → ℕ → Arguments → Turned
+startsWith q th n args = actedIn (Starts (q .waits) (q .target) args) th n
 
 abbrev pub oneArgument : Request → ThreadWords → Result → ActedOn
 oneArgument q th r =
     actedOn
-    (thenActs (r .outcome) th (r .used) (λ v. startsWith q th (r .used) 1 (valueWord v) 0))
+    (thenActs (r .outcome) th (r .used)
+    (λ v. startsWith q th (r .used) (argumentsOf 1 (valueWord v) 0)))
     (r .words)
 
 abbrev pub lastArgument : Request → ThreadWords → ℕ → Result → ActedOn
 lastArgument q th first r =
     actedOn
-    (thenActs (r .outcome) th (r .used) (λ v. startsWith q th (r .used) 2 first (valueWord v)))
+    (thenActs (r .outcome) th (r .used)
+    (λ v. startsWith q th (r .used) (argumentsOf 2 first (valueWord v))))
     (r .words)
 
 -- behind the first of two arguments
@@ -167,7 +162,7 @@ twoArguments who q th y r =
     (λ v. lastArgument q th (valueWord v) (evaluatedIn who th y (r .used) (r .words)))
 
 abbrev pub startsIn : Who → Request → ThreadWords → ℕ → List ℕ → List Expr → ActedOn
-startsIn who q th n ws [] = actedOn (startsWith q th n 0 0 0) ws
+startsIn who q th n ws [] = actedOn (startsWith q th n (argumentsOf 0 0 0)) ws
 startsIn who q th n ws (x ∷ []) = oneArgument q th (evaluatedIn who th x n ws)
 startsIn who q th n ws (x ∷ y ∷ ys) = twoArguments who q th y (evaluatedIn who th x n ws)
 
@@ -213,11 +208,12 @@ pub record Views (v : View) (th : ThreadWords) : Type 0 where
   pub values : th .values ≡ v .values
 
 -- the act a, its change made in such a thread of those variables, without the word on top of its
--- continuation, is with the cells us that turn; and there is room for the change
-pub record WholeTurn (a : Acted) (us : List ℕ) (v : View) (item : ℕ) (vs : List ℕ)
+-- continuation, is with m cells in use and their words us that turn; and there is room for the
+-- change
+pub record WholeTurn (a : Acted) (m : ℕ) (us : List ℕ) (v : View) (item : ℕ) (vs : List ℕ)
     (f : ThreadWords → ActedOn) : Type 0 where
   pub thread : (th : ThreadWords) → Views v th → variablesIn th ≡ vs → topIn th ≡ item
-      → actedOn (turned a (popped th)) us ≡ f th
+      → actedOn (turned a m (popped th)) us ≡ f th
   pub room : Room (a .change) (v .items - 1) (v .values)
 
 -- ---- what a caller has to show: words of a state that is not refused with 14, and frames that

@@ -24,8 +24,8 @@ returns : tie.Need-returns
 unfolding padded tabulate
 returns c =
     let at = c .before .args in
-    let a = at .a in
-    ap (λ (p : ℕ). newThread p (a .given) (a .first) (a .second) (at .t) (at .body))
+    let args = at .args in
+    ap (λ (p : ℕ). newThread p (args .count) (args .first) (args .second) (at .t) (at .body))
     (c .word .ensures)
 
 pub new-thread-spec : {M : Type 1} → statement M

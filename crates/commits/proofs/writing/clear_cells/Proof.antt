@@ -2,7 +2,7 @@
 use Rattle.machine.specs.inner.Blocks.{pasted}
 use mathlib.Core.Path.{_≡_}
 use Prim.Native.Nat.{_≤_, _+_, _-_}
-use lib.ListN.{length, replicate, length-set}
+use lib.ListN.{length, getD, replicate, length-set}
 use Rattle.commits.proofs.WritingLaws.{cells-start, cells-more, cells-end}
 use native.Mathlib.Omega.{arith}
 use borrow.Author.Needs.{needs}
@@ -10,13 +10,27 @@ use Rattle.commits.proofs.writing.clear_cells.Statement.{statement}
 use Rattle.commits.proofs.writing.clear_cells.Tie as tie
 
 abbrev Inv-loop : tie.InvT-loop
-Inv-loop state₀ from upto j₀ state j = (from ≤ j) × (j - from ≤ upto - from) × (upto ≤ 256) × (length state₀ ≡ 4818) × (length state ≡ 4818) × (state ≡ pasted state₀ (4562 + from) (replicate (upto - from) 0) (j - from))
+Inv-loop state₀ from upto j₀ state j =
+    (from ≤ j) × (j - from ≤ upto - from) × (upto ≤ 256) × (upto ≡ getD state₀ 1 0)
+    × (length state₀ ≡ 4818) × (length state ≡ 4818)
+    × (state ≡ pasted state₀ (4562 + from) (replicate (upto - from) 0) (j - from))
 
 abbrev μ-loop : tie.MeasureT-loop
 μ-loop state₀ from upto j₀ state j = upto - j
 
+slice-read-upto : tie.Need-slice-read-upto Inv-loop μ-loop
+slice-read-upto c = search needs
+
 loop-holds : tie.Need-loop-holds Inv-loop μ-loop
-loop-holds c = (search needs, search needs, search needs, search needs, search needs, cells-start _ _ _)
+loop-holds c = (
+  search needs,
+  search needs,
+  search needs,
+  search needs,
+  search needs,
+  search needs,
+  cells-start _ _ _,
+)
 
 add-state : tie.Need-add-state Inv-loop μ-loop
 add-state c = search needs
@@ -34,10 +48,21 @@ loop-less : tie.Need-loop-less Inv-loop μ-loop
 loop-less c = search needs
 
 loop-again : tie.Need-loop-again Inv-loop μ-loop
-loop-again c = (search needs, search needs, search needs, search needs, simp length-set (omega arith), search cells-more)
+loop-again c = (
+  search needs,
+  search needs,
+  search needs,
+  search needs,
+  search needs,
+  simp length-set (omega arith),
+  search cells-more,
+)
+
+slice-write-state-2 : tie.Need-slice-write-state-2 Inv-loop μ-loop
+slice-write-state-2 c = search needs
 
 same-length : tie.Need-same-length Inv-loop μ-loop
-same-length c = search needs
+same-length c = simp length-set (search needs)
 
 returns : tie.Need-returns Inv-loop μ-loop
 returns c = search cells-end
@@ -48,6 +73,7 @@ clear-cells-spec =
     (tie.spec
     Inv-loop
     μ-loop
+    slice-read-upto
     loop-holds
     add-state
     mul-state
@@ -55,5 +81,6 @@ clear-cells-spec =
     add-j
     loop-less
     loop-again
+    slice-write-state-2
     same-length
     returns)

@@ -9,7 +9,7 @@ use Rattle.evaluator.proofs.Nodes.{operands-below, branch-below}
 use Rattle.evaluator.proofs.Cases.{case-plain, case-cells, case-first, first-as-number}
 use Rattle.evaluator.proofs.Cases.{first-as-truth, case-both, case-condition, case-choice}
 use Rattle.evaluator.proofs.Cases.{to-number, to-truth, stopped-truth}
-use Rattle.evaluator.proofs.InPlace.{falls-in, again-number, use-in}
+use Rattle.evaluator.proofs.InPlace.{falls-in, again-number}
 use Prim.Native.Nat.{ℕ, _<_}
 use borrow.Fn.Kinds.{In}
 use borrow.Fn.PlainCycle.{Measures, is, falls, and}
@@ -34,20 +34,19 @@ use Rattle.operations.proofs.operand.number_stops.Reads as number-stops-reads
 use Rattle.operations.proofs.operand.operated.Reads as operated-reads
 use Rattle.operations.proofs.operand.stops.Reads as stops-reads
 use Rattle.operations.proofs.operand.then_truth.Reads as then-truth-reads
-use Rattle.operations.proofs.operation.answer_of.Reads as answer-of-reads
 use Rattle.operations.proofs.operation.then_use.Reads as then-use-reads
 use Rattle.evaluator.proofs.evaluation.+number_at+truth_at+value_at.{statement}
 use Rattle.evaluator.proofs.evaluation.+number_at+truth_at+value_at.Tie.{close}
 
--- the measure of all three: the fifth argument, the frame i
+-- the measure of all three: the fourth argument, the frame i
 abbrev μ-number-at : Measures 2 number-at-kinds.ps ℕ
-μ-number-at κs a = a .1 .1 .1 .1 .0
+μ-number-at κs a = a .1 .1 .1 .0
 
 abbrev μ-truth-at : Measures 2 truth-at-kinds.ps ℕ
-μ-truth-at κs a = a .1 .1 .1 .1 .0
+μ-truth-at κs a = a .1 .1 .1 .0
 
 abbrev μ-value-at : Measures 2 value-at-kinds.ps ℕ
-μ-value-at κs a = a .1 .1 .1 .1 .0
+μ-value-at κs a = a .1 .1 .1 .0
 
 abbrev number-at-at : ℕ → In 2 number-at-kinds.ps
 number-at-at t = and 2 number-at-kinds.ps (is 2 number-at-kinds.ps μ-number-at t) number-at.Pre
@@ -76,8 +75,6 @@ number-at-calls t = (
   node-at-reads.Learnt,
   leaf-at-reads.Asked,
   leaf-at-reads.Learnt,
-  answer-of-reads.Asked,
-  answer-of-reads.Learnt,
   as-number-reads.Asked,
   as-number-reads.Learnt,
   value-at-below t,
@@ -114,10 +111,6 @@ number-at-leaf-at-requires t c = λ κs.
     let at = c .before .before .before .before .before .before .before in
     at .pre .1 .1
 
-number-at-answer-of-requires : (t : ℕ)
-    → number-at-lts.Need-answer-of-requires (number-at-calls t) (number-at-at t) number-at.Post
-number-at-answer-of-requires t c = λ κs. search needs
-
 number-at-as-number-requires : (t : ℕ)
     → number-at-lts.Need-as-number-requires (number-at-calls t) (number-at-at t) number-at.Post
 number-at-as-number-requires t c = λ κs. search needs
@@ -139,21 +132,12 @@ number-at-value-at-requires t c = λ κs.
     falls-in fs _ _ _ _ w _
     (at .pre) below refl refl
 
-number-at-sub-then-use : (t : ℕ)
-    → number-at-lts.Need-sub-then-use (number-at-calls t) (number-at-at t) number-at.Post
-number-at-sub-then-use t c = search needs
-
-number-at-part-then-use-start : (t : ℕ)
-    → number-at-lts.Need-part-then-use-start (number-at-calls t) (number-at-at t) number-at.Post
-number-at-part-then-use-start t c = search needs
-
-number-at-part-then-use-end : (t : ℕ)
-    → number-at-lts.Need-part-then-use-end (number-at-calls t) (number-at-at t) number-at.Post
-number-at-part-then-use-end t c = search needs
-
 number-at-then-use-requires : (t : ℕ)
     → number-at-lts.Need-then-use-requires (number-at-calls t) (number-at-at t) number-at.Post
-number-at-then-use-requires t c = λ κs. search needs
+number-at-then-use-requires t c = λ κs.
+    let one = c .before .before .before in
+    let at = one .before .before .before .before .before .before .before .before in
+    one .value-at .kept .1 .1 .0 ∙ at .pre .1 .1 .all
 
 number-at-as-number-requires-2 : (t : ℕ)
     → number-at-lts.Need-as-number-requires-2 (number-at-calls t) (number-at-at t) number-at.Post
@@ -195,7 +179,8 @@ number-at-returns t c =
     let fs = now (at .args .frames) in
     let is = sym (arm .op .given .1) ∙ node .node-at .ensures in
     let stops = sym (stop .number-stops .ensures) ∙ c .if1 .taken in (
-      first-as-number fs _ _ _ _ _ (at .pre .1 .0) _ _ _ (one .number-at .result) _ is
+      first-as-number fs _ _ _ _ (at .pre .1 .0) _ _ _
+          (one .number-at .result) _ is
           (one .number-at .ensures .0) stops,
       one .number-at .ensures .1,
     )
@@ -263,8 +248,9 @@ number-at-returns-2 t c =
     let fs = now (at .args .frames) in
     let is = sym (arm .a .given .1) ∙ node .node-at .ensures in
     let stops = sym (stop .stops .ensures) ∙ test .if2 .taken in (
-      to-number fs _ _ _ _ _ _ (one .truth-at .result) _
-          (case-condition fs _ _ _ _ _ (at .pre .1 .0) _ _ _ (one .truth-at .result) _ is
+      to-number fs _ _ _ _ _ (one .truth-at .result) _
+          (case-condition fs _ _ _ _ (at .pre .1 .0) _ _ _
+          (one .truth-at .result) _ is
           (one .truth-at .ensures .0) stops)
           (c .as-number4 .ensures),
       one .truth-at .ensures .1,
@@ -285,8 +271,7 @@ number-at-number-at-requires-3 t c = λ κs.
     let w = now (at .args .state) in
     let is = sym (arm .a .given .1) ∙ node .node-at .ensures in
     let below =
-    branch-below fs _ _ _ _ _
-    (one .truth-at .result .outcome) (at .pre .1 .0) is (c .branch .ensures) in
+    branch-below fs _ _ _ _ _ (one .truth-at .result) (at .pre .1 .0) is (c .branch .ensures) in
     falls-in fs _ _ _ _ w _
     (at .pre) below (one .truth-at .ensures .1) (one .truth-at .kept .1 .1 .0)
 
@@ -305,16 +290,14 @@ number-at-same-length-3 t c = search needs
 number-at-returns-3 : (t : ℕ)
     → number-at-lts.Need-returns-3 (number-at-calls t) (number-at-at t) number-at.Post
 number-at-returns-3 t c =
-    let answer = c .before in
-    let leaf = answer .before in
+    let leaf = c .before in
     let arm = leaf .before .before .before in
     let node = arm .before .before in
     let at = node .before .before .before in
     let fs = now (at .args .frames) in
     let is = sym (arm .l .given .1) ∙ node .node-at .ensures in (
-      to-number fs _ _ _ _ _ _ (answer .answer-of .result) _
-          (case-plain fs _ _ _ _ _ (at .pre .1 .0) _ _ _
-          is (leaf .leaf-at .ensures) (answer .answer-of .ensures))
+      to-number fs _ _ _ _ _ (leaf .leaf-at .result) _
+          (case-plain fs _ _ _ _ (at .pre .1 .0) _ _ is (leaf .leaf-at .ensures))
           (c .as-number .ensures),
       refl,
     )
@@ -332,17 +315,12 @@ number-at-returns-4 t c =
     let node = arm .before .before in
     let at = node .before .before .before in
     let fs = now (at .args .frames) in
-    let w = now (at .args .state) in
-    let is = sym (arm .u .given .1) ∙ node .node-at .ensures in
-    let behind =
-    use-in _ (one .value-at .result) (answer .then-use .result) _ w _ _ _
-    (at .pre .1 .1) (one .value-at .ensures .1)
-    (one .value-at .kept .1 .1 .0) (answer .then-use .ensures) refl in (
-      to-number fs _ _ _ _ _ _ (answer .then-use .result) _
-          (case-cells fs _ _ _ _ _ (at .pre .1 .0) _ _ _ _
-          is (one .value-at .ensures .0) (behind .0))
+    let is = sym (arm .u .given .1) ∙ node .node-at .ensures in (
+      to-number fs _ _ _ _ _ (answer .then-use .result) _
+          (case-cells fs _ _ _ _ (at .pre .1 .0) _ _ _ _ is
+          (one .value-at .ensures .0) (answer .then-use .ensures .0))
           (c .as-number2 .ensures),
-      behind .1,
+      answer .then-use .ensures .1 ∙ one .value-at .ensures .1,
     )
 
 number-at-same-length-5 : (t : ℕ)
@@ -365,12 +343,12 @@ number-at-returns-5 t c =
     let is = sym (arm .op .given .1) ∙ node .node-at .ensures in
     let stops = sym (stop .number-stops .ensures) ∙ test .if1 .left in
     let second =
-    again-number fs _ _ _ w _ _
+    again-number fs _ _ w _ _
     (at .pre .1 .1) (one .number-at .ensures .1) (two .number-at2 .ensures .0) in (
-      to-number fs _ _ _ _ _ _ (answer .operated .result) _
-          (case-both fs _ _ _ _ _ (at .pre .1 .0) _ _ _
-          (one .number-at .result) (two .number-at2 .result) _ _ _
-          is (one .number-at .ensures .0) stops second (answer .operated .ensures))
+      to-number fs _ _ _ _ _ (answer .operated .result) _
+          (case-both fs _ _ _ _ (at .pre .1 .0) _ _ _
+          (one .number-at .result) (two .number-at2 .result) _ _ _ is
+          (one .number-at .ensures .0) stops second (answer .operated .ensures))
           (c .as-number3 .ensures),
       two .number-at2 .ensures .1 ∙ one .number-at .ensures .1,
     )
@@ -396,13 +374,13 @@ number-at-returns-6 t c =
     let is = sym (arm .a .given .1) ∙ node .node-at .ensures in
     let stops = sym (stop .stops .ensures) ∙ test .if2 .left in
     let second =
-    again-number fs _ _ _ w _ _
+    again-number fs _ _ w _ _
     (at .pre .1 .1) (one .truth-at .ensures .1) (two .number-at3 .ensures .0) in (
-      to-number fs _ _ _ _ _ _ (answer .as-answer .result) _
-          (case-choice fs _ _ _ _ _ (at .pre .1 .0) _ _ _ _
-          (one .truth-at .result) (two .number-at3 .result) _ _ _
-          is (one .truth-at .ensures .0) stops
-          (way .branch .ensures) second (answer .as-answer .ensures))
+      to-number fs _ _ _ _ _ (answer .as-answer .result) _
+          (case-choice fs _ _ _ _ (at .pre .1 .0) _ _ _ _
+          (one .truth-at .result) (two .number-at3 .result) _ _ _ is
+          (one .truth-at .ensures .0) stops (way .branch .ensures) second
+          (answer .as-answer .ensures))
           (c .as-number5 .ensures),
       two .number-at3 .ensures .1 ∙ one .truth-at .ensures .1,
     )
@@ -413,8 +391,6 @@ truth-at-calls t = (
   node-at-reads.Learnt,
   leaf-at-reads.Asked,
   leaf-at-reads.Learnt,
-  answer-of-reads.Asked,
-  answer-of-reads.Learnt,
   then-truth-reads.Asked,
   then-truth-reads.Learnt,
   value-at-below t,
@@ -451,10 +427,6 @@ truth-at-leaf-at-requires t c = λ κs.
     let at = c .before .before .before .before .before .before .before in
     at .pre .1 .1
 
-truth-at-answer-of-requires : (t : ℕ)
-    → truth-at-lts.Need-answer-of-requires (truth-at-calls t) (truth-at-at t) truth-at.Post
-truth-at-answer-of-requires t c = λ κs. search needs
-
 truth-at-then-truth-requires : (t : ℕ)
     → truth-at-lts.Need-then-truth-requires (truth-at-calls t) (truth-at-at t) truth-at.Post
 truth-at-then-truth-requires t c = λ κs. search needs
@@ -476,21 +448,12 @@ truth-at-value-at-requires t c = λ κs.
     falls-in fs _ _ _ _ w _
     (at .pre) below refl refl
 
-truth-at-sub-then-use : (t : ℕ)
-    → truth-at-lts.Need-sub-then-use (truth-at-calls t) (truth-at-at t) truth-at.Post
-truth-at-sub-then-use t c = search needs
-
-truth-at-part-then-use-start : (t : ℕ)
-    → truth-at-lts.Need-part-then-use-start (truth-at-calls t) (truth-at-at t) truth-at.Post
-truth-at-part-then-use-start t c = search needs
-
-truth-at-part-then-use-end : (t : ℕ)
-    → truth-at-lts.Need-part-then-use-end (truth-at-calls t) (truth-at-at t) truth-at.Post
-truth-at-part-then-use-end t c = search needs
-
 truth-at-then-use-requires : (t : ℕ)
     → truth-at-lts.Need-then-use-requires (truth-at-calls t) (truth-at-at t) truth-at.Post
-truth-at-then-use-requires t c = λ κs. search needs
+truth-at-then-use-requires t c = λ κs.
+    let one = c .before .before .before in
+    let at = one .before .before .before .before .before .before .before .before in
+    one .value-at .kept .1 .1 .0 ∙ at .pre .1 .1 .all
 
 truth-at-then-truth-requires-2 : (t : ℕ)
     → truth-at-lts.Need-then-truth-requires-2 (truth-at-calls t) (truth-at-at t) truth-at.Post
@@ -537,7 +500,7 @@ truth-at-returns t c =
     let fs = now (at .args .frames) in
     let is = sym (arm .op .given .1) ∙ node .node-at .ensures in
     let stops = sym (stop .number-stops .ensures) ∙ test .if1 .taken in (
-      first-as-truth fs _ _ _ _ _ (at .pre .1 .0) _ _ _
+      first-as-truth fs _ _ _ _ (at .pre .1 .0) _ _ _
           (one .number-at .result) _ _ is
           (one .number-at .ensures .0) stops (c .as-answer .ensures),
       one .number-at .ensures .1,
@@ -601,8 +564,9 @@ truth-at-returns-2 t c =
     let fs = now (at .args .frames) in
     let is = sym (arm .a .given .1) ∙ node .node-at .ensures in
     let stops = sym (stop .stops .ensures) ∙ c .if2 .taken in (
-      stopped-truth fs _ _ _ _ _ _ (one .truth-at .result)
-          (case-condition fs _ _ _ _ _ (at .pre .1 .0) _ _ _ (one .truth-at .result) _ is
+      stopped-truth fs _ _ _ _ _ (one .truth-at .result)
+          (case-condition fs _ _ _ _ (at .pre .1 .0) _ _ _
+          (one .truth-at .result) _ is
           (one .truth-at .ensures .0) stops)
           stops,
       one .truth-at .ensures .1,
@@ -623,8 +587,7 @@ truth-at-number-at-requires-3 t c = λ κs.
     let w = now (at .args .state) in
     let is = sym (arm .a .given .1) ∙ node .node-at .ensures in
     let below =
-    branch-below fs _ _ _ _ _
-    (one .truth-at .result .outcome) (at .pre .1 .0) is (c .branch .ensures) in
+    branch-below fs _ _ _ _ _ (one .truth-at .result) (at .pre .1 .0) is (c .branch .ensures) in
     falls-in fs _ _ _ _ w _
     (at .pre) below (one .truth-at .ensures .1) (one .truth-at .kept .1 .1 .0)
 
@@ -643,16 +606,14 @@ truth-at-same-length-3 t c = search needs
 truth-at-returns-3 : (t : ℕ)
     → truth-at-lts.Need-returns-3 (truth-at-calls t) (truth-at-at t) truth-at.Post
 truth-at-returns-3 t c =
-    let answer = c .before in
-    let leaf = answer .before in
+    let leaf = c .before in
     let arm = leaf .before .before .before in
     let node = arm .before .before in
     let at = node .before .before .before in
     let fs = now (at .args .frames) in
     let is = sym (arm .l .given .1) ∙ node .node-at .ensures in (
-      to-truth fs _ _ _ _ _ _ (answer .answer-of .result) _
-          (case-plain fs _ _ _ _ _ (at .pre .1 .0) _ _ _
-          is (leaf .leaf-at .ensures) (answer .answer-of .ensures))
+      to-truth fs _ _ _ _ _ (leaf .leaf-at .result) _
+          (case-plain fs _ _ _ _ (at .pre .1 .0) _ _ is (leaf .leaf-at .ensures))
           (c .then-truth .ensures),
       refl,
     )
@@ -670,17 +631,12 @@ truth-at-returns-4 t c =
     let node = arm .before .before in
     let at = node .before .before .before in
     let fs = now (at .args .frames) in
-    let w = now (at .args .state) in
-    let is = sym (arm .u .given .1) ∙ node .node-at .ensures in
-    let behind =
-    use-in _ (one .value-at .result) (answer .then-use .result) _ w _ _ _
-    (at .pre .1 .1) (one .value-at .ensures .1)
-    (one .value-at .kept .1 .1 .0) (answer .then-use .ensures) refl in (
-      to-truth fs _ _ _ _ _ _ (answer .then-use .result) _
-          (case-cells fs _ _ _ _ _ (at .pre .1 .0) _ _ _ _
-          is (one .value-at .ensures .0) (behind .0))
+    let is = sym (arm .u .given .1) ∙ node .node-at .ensures in (
+      to-truth fs _ _ _ _ _ (answer .then-use .result) _
+          (case-cells fs _ _ _ _ (at .pre .1 .0) _ _ _ _ is
+          (one .value-at .ensures .0) (answer .then-use .ensures .0))
           (c .then-truth2 .ensures),
-      behind .1,
+      answer .then-use .ensures .1 ∙ one .value-at .ensures .1,
     )
 
 truth-at-same-length-5 : (t : ℕ)
@@ -703,12 +659,12 @@ truth-at-returns-5 t c =
     let is = sym (arm .op .given .1) ∙ node .node-at .ensures in
     let stops = sym (stop .number-stops .ensures) ∙ test .if1 .left in
     let second =
-    again-number fs _ _ _ w _ _
+    again-number fs _ _ w _ _
     (at .pre .1 .1) (one .number-at .ensures .1) (two .number-at2 .ensures .0) in (
-      to-truth fs _ _ _ _ _ _ (answer .operated .result) _
-          (case-both fs _ _ _ _ _ (at .pre .1 .0) _ _ _
-          (one .number-at .result) (two .number-at2 .result) _ _ _
-          is (one .number-at .ensures .0) stops second (answer .operated .ensures))
+      to-truth fs _ _ _ _ _ (answer .operated .result) _
+          (case-both fs _ _ _ _ (at .pre .1 .0) _ _ _
+          (one .number-at .result) (two .number-at2 .result) _ _ _ is
+          (one .number-at .ensures .0) stops second (answer .operated .ensures))
           (c .then-truth3 .ensures),
       two .number-at2 .ensures .1 ∙ one .number-at .ensures .1,
     )
@@ -734,13 +690,13 @@ truth-at-returns-6 t c =
     let is = sym (arm .a .given .1) ∙ node .node-at .ensures in
     let stops = sym (stop .stops .ensures) ∙ test .if2 .left in
     let second =
-    again-number fs _ _ _ w _ _
+    again-number fs _ _ w _ _
     (at .pre .1 .1) (one .truth-at .ensures .1) (two .number-at3 .ensures .0) in (
-      to-truth fs _ _ _ _ _ _ (answer .as-answer2 .result) _
-          (case-choice fs _ _ _ _ _ (at .pre .1 .0) _ _ _ _
-          (one .truth-at .result) (two .number-at3 .result) _ _ _
-          is (one .truth-at .ensures .0) stops
-          (way .branch .ensures) second (answer .as-answer2 .ensures))
+      to-truth fs _ _ _ _ _ (answer .as-answer2 .result) _
+          (case-choice fs _ _ _ _ (at .pre .1 .0) _ _ _ _
+          (one .truth-at .result) (two .number-at3 .result) _ _ _ is
+          (one .truth-at .ensures .0) stops (way .branch .ensures) second
+          (answer .as-answer2 .ensures))
           (c .then-truth4 .ensures),
       two .number-at3 .ensures .1 ∙ one .truth-at .ensures .1,
     )
@@ -751,8 +707,6 @@ value-at-calls t = (
   node-at-reads.Learnt,
   leaf-at-reads.Asked,
   leaf-at-reads.Learnt,
-  answer-of-reads.Asked,
-  answer-of-reads.Learnt,
   value-at-below t,
   value-at.Post,
   then-use-reads.Asked,
@@ -787,10 +741,6 @@ value-at-leaf-at-requires t c = λ κs.
     let at = c .before .before .before .before .before .before .before in
     at .pre .1 .1
 
-value-at-answer-of-requires : (t : ℕ)
-    → value-at-lts.Need-answer-of-requires (value-at-calls t) (value-at-at t) value-at.Post
-value-at-answer-of-requires t c = λ κs. search needs
-
 value-at-enum-known-u : (t : ℕ)
     → value-at-lts.Need-enum-known-u (value-at-calls t) (value-at-at t) value-at.Post
 value-at-enum-known-u t c = search needs
@@ -808,21 +758,12 @@ value-at-value-at-requires t c = λ κs.
     falls-in fs _ _ _ _ w _
     (at .pre) below refl refl
 
-value-at-sub-then-use : (t : ℕ)
-    → value-at-lts.Need-sub-then-use (value-at-calls t) (value-at-at t) value-at.Post
-value-at-sub-then-use t c = search needs
-
-value-at-part-then-use-start : (t : ℕ)
-    → value-at-lts.Need-part-then-use-start (value-at-calls t) (value-at-at t) value-at.Post
-value-at-part-then-use-start t c = search needs
-
-value-at-part-then-use-end : (t : ℕ)
-    → value-at-lts.Need-part-then-use-end (value-at-calls t) (value-at-at t) value-at.Post
-value-at-part-then-use-end t c = search needs
-
 value-at-then-use-requires : (t : ℕ)
     → value-at-lts.Need-then-use-requires (value-at-calls t) (value-at-at t) value-at.Post
-value-at-then-use-requires t c = λ κs. search needs
+value-at-then-use-requires t c = λ κs.
+    let one = c .before .before .before in
+    let at = one .before .before .before .before .before .before .before .before in
+    one .value-at .kept .1 .1 .0 ∙ at .pre .1 .1 .all
 
 value-at-enum-known-op : (t : ℕ)
     → value-at-lts.Need-enum-known-op (value-at-calls t) (value-at-at t) value-at.Post
@@ -865,7 +806,7 @@ value-at-returns t c =
     let fs = now (at .args .frames) in
     let is = sym (arm .op .given .1) ∙ node .node-at .ensures in
     let stops = sym (stop .number-stops .ensures) ∙ test .if1 .taken in (
-      case-first fs _ _ _ _ _ (at .pre .1 .0) _ _ _
+      case-first fs _ _ _ _ (at .pre .1 .0) _ _ _
           (one .number-at .result) _ _ is
           (one .number-at .ensures .0) stops (c .as-answer .ensures),
       one .number-at .ensures .1,
@@ -925,7 +866,8 @@ value-at-returns-2 t c =
     let fs = now (at .args .frames) in
     let is = sym (arm .a .given .1) ∙ node .node-at .ensures in
     let stops = sym (stop .stops .ensures) ∙ c .if2 .taken in (
-      case-condition fs _ _ _ _ _ (at .pre .1 .0) _ _ _ (one .truth-at .result) _ is
+      case-condition fs _ _ _ _ (at .pre .1 .0) _ _ _
+          (one .truth-at .result) _ is
           (one .truth-at .ensures .0) stops,
       one .truth-at .ensures .1,
     )
@@ -945,8 +887,7 @@ value-at-number-at-requires-3 t c = λ κs.
     let w = now (at .args .state) in
     let is = sym (arm .a .given .1) ∙ node .node-at .ensures in
     let below =
-    branch-below fs _ _ _ _ _
-    (one .truth-at .result .outcome) (at .pre .1 .0) is (c .branch .ensures) in
+    branch-below fs _ _ _ _ _ (one .truth-at .result) (at .pre .1 .0) is (c .branch .ensures) in
     falls-in fs _ _ _ _ w _
     (at .pre) below (one .truth-at .ensures .1) (one .truth-at .kept .1 .1 .0)
 
@@ -961,14 +902,12 @@ value-at-same-length-3 t c = search needs
 value-at-returns-3 : (t : ℕ)
     → value-at-lts.Need-returns-3 (value-at-calls t) (value-at-at t) value-at.Post
 value-at-returns-3 t c =
-    let leaf = c .before in
-    let arm = leaf .before .before .before in
+    let arm = c .before .before .before in
     let node = arm .before .before in
     let at = node .before .before .before in
     let fs = now (at .args .frames) in
     let is = sym (arm .l .given .1) ∙ node .node-at .ensures in (
-      case-plain fs _ _ _ _ _ (at .pre .1 .0) _ _ _
-          is (leaf .leaf-at .ensures) (c .answer-of .ensures),
+      case-plain fs _ _ _ _ (at .pre .1 .0) _ _ is (c .leaf-at .ensures),
       refl,
     )
 
@@ -985,15 +924,10 @@ value-at-returns-4 t c =
     let node = arm .before .before in
     let at = node .before .before .before in
     let fs = now (at .args .frames) in
-    let w = now (at .args .state) in
-    let is = sym (arm .u .given .1) ∙ node .node-at .ensures in
-    let behind =
-    use-in _ (one .value-at .result) (answer .then-use .result) _ w _ _ _
-    (at .pre .1 .1) (one .value-at .ensures .1)
-    (one .value-at .kept .1 .1 .0) (answer .then-use .ensures) refl in (
-      case-cells fs _ _ _ _ _ (at .pre .1 .0) _ _ _ _
-          is (one .value-at .ensures .0) (behind .0),
-      behind .1,
+    let is = sym (arm .u .given .1) ∙ node .node-at .ensures in (
+      case-cells fs _ _ _ _ (at .pre .1 .0) _ _ _ _ is
+          (one .value-at .ensures .0) (answer .then-use .ensures .0),
+      answer .then-use .ensures .1 ∙ one .value-at .ensures .1,
     )
 
 value-at-same-length-5 : (t : ℕ)
@@ -1015,11 +949,11 @@ value-at-returns-5 t c =
     let is = sym (arm .op .given .1) ∙ node .node-at .ensures in
     let stops = sym (stop .number-stops .ensures) ∙ test .if1 .left in
     let second =
-    again-number fs _ _ _ w _ _
+    again-number fs _ _ w _ _
     (at .pre .1 .1) (one .number-at .ensures .1) (two .number-at2 .ensures .0) in (
-      case-both fs _ _ _ _ _ (at .pre .1 .0) _ _ _
-          (one .number-at .result) (two .number-at2 .result) _ _ _
-          is (one .number-at .ensures .0) stops second (c .operated .ensures),
+      case-both fs _ _ _ _ (at .pre .1 .0) _ _ _
+          (one .number-at .result) (two .number-at2 .result) _ _ _ is
+          (one .number-at .ensures .0) stops second (c .operated .ensures),
       two .number-at2 .ensures .1 ∙ one .number-at .ensures .1,
     )
 
@@ -1043,12 +977,12 @@ value-at-returns-6 t c =
     let is = sym (arm .a .given .1) ∙ node .node-at .ensures in
     let stops = sym (stop .stops .ensures) ∙ test .if2 .left in
     let second =
-    again-number fs _ _ _ w _ _
+    again-number fs _ _ w _ _
     (at .pre .1 .1) (one .truth-at .ensures .1) (two .number-at3 .ensures .0) in (
-      case-choice fs _ _ _ _ _ (at .pre .1 .0) _ _ _ _
-          (one .truth-at .result) (two .number-at3 .result) _ _ _
-          is (one .truth-at .ensures .0) stops
-          (way .branch .ensures) second (c .as-answer2 .ensures),
+      case-choice fs _ _ _ _ (at .pre .1 .0) _ _ _ _
+          (one .truth-at .result) (two .number-at3 .result) _ _ _ is
+          (one .truth-at .ensures .0) stops (way .branch .ensures) second
+          (c .as-answer2 .ensures),
       two .number-at3 .ensures .1 ∙ one .truth-at .ensures .1,
     )
 
@@ -1060,13 +994,9 @@ pub +number-at+truth-at+value-at-spec : {M : Type 1} → statement M
     (number-at-node-at-requires t)
     (number-at-enum-known-l t)
     (number-at-leaf-at-requires t)
-    (number-at-answer-of-requires t)
     (number-at-as-number-requires t)
     (number-at-enum-known-u t)
     (number-at-value-at-requires t)
-    (number-at-sub-then-use t)
-    (number-at-part-then-use-start t)
-    (number-at-part-then-use-end t)
     (number-at-then-use-requires t)
     (number-at-as-number-requires-2 t)
     (number-at-enum-known-op t)
@@ -1101,13 +1031,9 @@ pub +number-at+truth-at+value-at-spec : {M : Type 1} → statement M
     (truth-at-node-at-requires t)
     (truth-at-enum-known-l t)
     (truth-at-leaf-at-requires t)
-    (truth-at-answer-of-requires t)
     (truth-at-then-truth-requires t)
     (truth-at-enum-known-u t)
     (truth-at-value-at-requires t)
-    (truth-at-sub-then-use t)
-    (truth-at-part-then-use-start t)
-    (truth-at-part-then-use-end t)
     (truth-at-then-use-requires t)
     (truth-at-then-truth-requires-2 t)
     (truth-at-enum-known-op t)
@@ -1142,12 +1068,8 @@ pub +number-at+truth-at+value-at-spec : {M : Type 1} → statement M
     (value-at-node-at-requires t)
     (value-at-enum-known-l t)
     (value-at-leaf-at-requires t)
-    (value-at-answer-of-requires t)
     (value-at-enum-known-u t)
     (value-at-value-at-requires t)
-    (value-at-sub-then-use t)
-    (value-at-part-then-use-start t)
-    (value-at-part-then-use-end t)
     (value-at-then-use-requires t)
     (value-at-enum-known-op t)
     (value-at-number-at-requires t)

@@ -1,10 +1,10 @@
 -- `store` meets its contract. In a need, `at` is the function's entry, `one` and `two` are where an
 -- operand has been evaluated. Assumes nothing.
-use mathlib.Core.Path.{refl, _∙_}
+use mathlib.Core.Path.{_∙_}
 use denote.Ref.{now}
-use Rattle.operations.specs.inner.Results.{after}
+use Rattle.operations.specs.inner.Results.{resultIn}
 use Rattle.evaluator.proofs.Agreement.{store-runs, store-keeps}
-use Rattle.evaluator.proofs.InPlace.{lent-again, again-value, use-in}
+use Rattle.evaluator.proofs.InPlace.{lent-again, again-value}
 use borrow.Author.Needs.{needs}
 use Rattle.evaluator.proofs.evaluation.store.Statement.{statement}
 use Rattle.evaluator.proofs.evaluation.store.Tie as tie
@@ -12,8 +12,8 @@ use Rattle.evaluator.proofs.evaluation.store.Tie as tie
 value-at-requires : tie.Need-value-at-requires
 value-at-requires c κs = search needs
 
-enum-known-o : tie.Need-enum-known-o
-enum-known-o c = search needs
+enum-known-x : tie.Need-enum-known-x
+enum-known-x c = search needs
 
 value-at-requires-2 : tie.Need-value-at-requires-2
 value-at-requires-2 c κs =
@@ -23,15 +23,6 @@ value-at-requires-2 c κs =
       at .pre .1,
       lent-again _ w _ (at .pre .2) (one .value-at .ensures .1) (one .value-at .kept .1 .1 .0),
     )
-
-sub-then-store : tie.Need-sub-then-store
-sub-then-store c = search needs
-
-part-then-store-start : tie.Need-part-then-store-start
-part-then-store-start c = search needs
-
-part-then-store-end : tie.Need-part-then-store-end
-part-then-store-end c = search needs
 
 then-store-requires : tie.Need-then-store-requires
 then-store-requires c κs = search needs
@@ -58,16 +49,11 @@ returns c =
     let fs = now (at .args .frames) in
     let w = now (at .args .state) in
     let second =
-    again-value fs _ _ _ w _ _
-    (at .pre .2) (one .value-at .ensures .1) (two .value-at2 .ensures .0) in
-    let behind =
-    use-in _ (two .value-at2 .result) (stored .then-store .result) _ w _ _ _
-    (at .pre .2) (two .value-at2 .ensures .1 ∙ one .value-at .ensures .1)
-    (two .value-at2 .kept .1 .1 .0 ∙ one .value-at .kept .1 .1 .0)
-    (stored .then-store .ensures) refl in (
+    again-value fs _ _ w _ _
+    (at .pre .2) (one .value-at .ensures .1) (two .value-at2 .ensures .0) in (
       store-runs fs _ _ _ _ _ _ (at .pre .3) (at .pre .4) _ _ _ _
-          (one .value-at .ensures .0) (arm .o .given .1) second (behind .0),
-      behind .1,
+          (one .value-at .ensures .0) (arm .x .given .1) second (stored .then-store .ensures .0),
+      stored .then-store .ensures .1 ∙ two .value-at2 .ensures .1 ∙ one .value-at .ensures .1,
     )
 
 same-length-2 : tie.Need-same-length-2
@@ -77,7 +63,7 @@ returns-2 : tie.Need-returns-2
 returns-2 c =
     let one = c .before .before .before .before in
     let at = one .before .before .before .before in (
-      store-keeps (now (at .args .frames)) _ _ _ _ _ _ (at .pre .3) (at .pre .4) (after _ _) _
+      store-keeps (now (at .args .frames)) _ _ _ _ _ _ (at .pre .3) (at .pre .4) (resultIn _ _) _
           (one .value-at .ensures .0) (c .enum-told .given .1) tt,
       one .value-at .ensures .1,
     )
@@ -89,7 +75,7 @@ returns-3 : tie.Need-returns-3
 returns-3 c =
     let one = c .before .before .before .before in
     let at = one .before .before .before .before in (
-      store-keeps (now (at .args .frames)) _ _ _ _ _ _ (at .pre .3) (at .pre .4) (after _ _) _
+      store-keeps (now (at .args .frames)) _ _ _ _ _ _ (at .pre .3) (at .pre .4) (resultIn _ _) _
           (one .value-at .ensures .0) (c .enum-told2 .given .1) tt,
       one .value-at .ensures .1,
     )
@@ -101,7 +87,7 @@ returns-4 : tie.Need-returns-4
 returns-4 c =
     let one = c .before .before .before .before in
     let at = one .before .before .before .before in (
-      store-keeps (now (at .args .frames)) _ _ _ _ _ _ (at .pre .3) (at .pre .4) (after _ _) _
+      store-keeps (now (at .args .frames)) _ _ _ _ _ _ (at .pre .3) (at .pre .4) (resultIn _ _) _
           (one .value-at .ensures .0) (c .enum-told3 .given .1) tt,
       one .value-at .ensures .1,
     )
@@ -111,11 +97,8 @@ store-spec =
     tie.close
     (tie.spec
     value-at-requires
-    enum-known-o
+    enum-known-x
     value-at-requires-2
-    sub-then-store
-    part-then-store-start
-    part-then-store-end
     then-store-requires
     enum-told
     enum-told-2

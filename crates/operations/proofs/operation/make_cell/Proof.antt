@@ -1,6 +1,8 @@
 -- `make_cell` meets its contract. Assumes nothing.
+use mathlib.Core.Path.{refl}
 use borrow.Author.Needs.{needs}
-use Rattle.operations.proofs.Operations.{make-laws}
+use Rattle.operations.proofs.Operations.{make-is, make-spent, make-foreign}
+use Rattle.operations.proofs.InState.{rest-new}
 use Rattle.operations.proofs.operation.make_cell.Statement.{statement}
 use Rattle.operations.proofs.operation.make_cell.Tie as tie
 
@@ -13,29 +15,41 @@ wide16-requires c κs = search needs
 is-own-requires : tie.Need-is-own-requires
 is-own-requires c κs = search needs
 
+slice-read-used : tie.Need-slice-read-used
+slice-read-used c = search needs
+
 cell-word-requires : tie.Need-cell-word-requires
 cell-word-requires c κs = search needs
 
-put-word-requires : tie.Need-put-word-requires
-put-word-requires c κs = search needs
+add-state : tie.Need-add-state
+add-state c = search needs
 
-cast-t14 : tie.Need-cast-t14
-cast-t14 c = search needs
+mul-state : tie.Need-mul-state
+mul-state c = search needs
 
-add-t17 : tie.Need-add-t17
-add-t17 c = search needs
+slice-write-state : tie.Need-slice-write-state
+slice-write-state c = search needs
+
+add-state-2 : tie.Need-add-state-2
+add-state-2 c = search needs
+
+slice-write-state-2 : tie.Need-slice-write-state-2
+slice-write-state-2 c = search needs
+
+cast-t17 : tie.Need-cast-t17
+cast-t17 c = search needs
 
 same-length : tie.Need-same-length
 same-length c = search needs
 
 returns : tie.Need-returns
-returns c = search (make-laws, needs)
+returns c = (search (make-is, needs), search (rest-new, needs))
 
 returns-2 : tie.Need-returns-2
-returns-2 c = search (make-laws, needs)
+returns-2 c = (search (make-spent, needs), refl)
 
 returns-3 : tie.Need-returns-3
-returns-3 c = search (make-laws, needs)
+returns-3 c = (search (make-foreign, needs), refl)
 
 pub make-cell-spec : {M : Type 1} → statement M
 make-cell-spec =
@@ -44,10 +58,14 @@ make-cell-spec =
     new-owner-requires
     wide16-requires
     is-own-requires
+    slice-read-used
     cell-word-requires
-    put-word-requires
-    cast-t14
-    add-t17
+    add-state
+    mul-state
+    slice-write-state
+    add-state-2
+    slice-write-state-2
+    cast-t17
     same-length
     returns
     returns-2

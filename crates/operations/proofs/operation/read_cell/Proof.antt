@@ -10,8 +10,17 @@ enum-known-v c = search needs
 index8-requires : tie.Need-index8-requires
 index8-requires c κs = search needs
 
-word-at-requires : tie.Need-word-at-requires
-word-at-requires c κs = search needs
+shared-slice-read-used : tie.Need-shared-slice-read-used
+shared-slice-read-used c = search needs
+
+add-w : tie.Need-add-w
+add-w c = search needs
+
+mul-w : tie.Need-mul-w
+mul-w c = search needs
+
+shared-slice-read-w : tie.Need-shared-slice-read-w
+shared-slice-read-w c = search needs
 
 content-of-requires : tie.Need-content-of-requires
 content-of-requires c κs = search needs
@@ -40,7 +49,10 @@ read-cell-spec =
     (tie.spec
     enum-known-v
     index8-requires
-    word-at-requires
+    shared-slice-read-used
+    add-w
+    mul-w
+    shared-slice-read-w
     content-of-requires
     access-requires
     enum-known-v-2

@@ -1,6 +1,8 @@
 -- `store_cell` meets its contract. Assumes nothing.
+use mathlib.Core.Path.{refl}
 use borrow.Author.Needs.{needs}
 use Rattle.operations.proofs.Operations.{store-is, store-number, store-truth}
+use Rattle.operations.proofs.InState.{rest-put}
 use Rattle.operations.proofs.operation.store_cell.Statement.{statement}
 use Rattle.operations.proofs.operation.store_cell.Tie as tie
 
@@ -10,8 +12,17 @@ enum-known-v c = search needs
 index8-requires : tie.Need-index8-requires
 index8-requires c κs = search needs
 
-word-at-requires : tie.Need-word-at-requires
-word-at-requires c κs = search needs
+slice-read-used : tie.Need-slice-read-used
+slice-read-used c = search needs
+
+add-w : tie.Need-add-w
+add-w c = search needs
+
+mul-w : tie.Need-mul-w
+mul-w c = search needs
+
+slice-read-w : tie.Need-slice-read-w
+slice-read-w c = search needs
 
 access-requires : tie.Need-access-requires
 access-requires c κs = search needs
@@ -19,8 +30,14 @@ access-requires c κs = search needs
 word-after-requires : tie.Need-word-after-requires
 word-after-requires c κs = search needs
 
-put-word-requires : tie.Need-put-word-requires
-put-word-requires c κs = search needs
+add-state : tie.Need-add-state
+add-state c = search needs
+
+mul-state : tie.Need-mul-state
+mul-state c = search needs
+
+slice-write-state : tie.Need-slice-write-state
+slice-write-state c = search needs
 
 enum-known-v-2 : tie.Need-enum-known-v-2
 enum-known-v-2 c = search needs
@@ -31,17 +48,14 @@ enum-known-v-3 c = search needs
 same-length : tie.Need-same-length
 same-length c = search needs
 
--- written out: `search` breaks off behind so many calls on the same words
 returns : tie.Need-returns
-returns c =
-    let at = c .before .before .before .before .before in
-    store-is _ _ _ _ _ _ _ _ _ _ _ (at .before .before .before .before .before .v .given .1) (at .before .before .before .index8 .ensures) (at .before .word-at .ensures) (at .access .ensures) (c .before .before .before .word-after .ensures) (c .before .before .put-word .ensures)
+returns c = (search store-is, search rest-put)
 
 returns-2 : tie.Need-returns-2
-returns-2 c = search store-number
+returns-2 c = (search store-number, refl)
 
 returns-3 : tie.Need-returns-3
-returns-3 c = search store-truth
+returns-3 c = (search store-truth, refl)
 
 pub store-cell-spec : {M : Type 1} → statement M
 store-cell-spec =
@@ -49,10 +63,15 @@ store-cell-spec =
     (tie.spec
     enum-known-v
     index8-requires
-    word-at-requires
+    slice-read-used
+    add-w
+    mul-w
+    slice-read-w
     access-requires
     word-after-requires
-    put-word-requires
+    add-state
+    mul-state
+    slice-write-state
     enum-known-v-2
     enum-known-v-3
     same-length

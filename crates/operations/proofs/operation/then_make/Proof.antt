@@ -1,4 +1,5 @@
 -- `then_make` meets its contract. Assumes nothing.
+use mathlib.Core.Path.{refl}
 use borrow.Author.Needs.{needs}
 use Rattle.operations.proofs.Chains.{then-is, then-keeps}
 use Rattle.operations.proofs.operation.then_make.Statement.{statement}
@@ -23,16 +24,16 @@ same-length : tie.Need-same-length
 same-length c = search needs
 
 returns : tie.Need-returns
-returns c = search then-is
+returns c = (search then-is, search needs)
 
 returns-2 : tie.Need-returns-2
-returns-2 c = search then-keeps
+returns-2 c = (search then-keeps, refl)
 
 returns-3 : tie.Need-returns-3
-returns-3 c = search then-keeps
+returns-3 c = (search then-keeps, refl)
 
 returns-4 : tie.Need-returns-4
-returns-4 c = search then-keeps
+returns-4 c = (search then-keeps, refl)
 
 pub then-make-spec : {M : Type 1} → statement M
 then-make-spec =

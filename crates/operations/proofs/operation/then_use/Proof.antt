@@ -1,4 +1,5 @@
 -- `then_use` meets its contract. Assumes nothing.
+use mathlib.Core.Path.{refl}
 use borrow.Author.Needs.{needs}
 use Rattle.operations.proofs.Chains.{using-row}
 use Rattle.operations.proofs.operation.then_use.Statement.{statement}
@@ -20,13 +21,13 @@ same-length : tie.Need-same-length
 same-length c = search needs
 
 returns : tie.Need-returns
-returns c = search using-row
+returns c = (search using-row, search needs)
 
 same-length-2 : tie.Need-same-length-2
 same-length-2 c = search needs
 
 returns-2 : tie.Need-returns-2
-returns-2 c = search using-row
+returns-2 c = (search using-row, refl)
 
 pub then-use-spec : {M : Type 1} → statement M
 then-use-spec =

@@ -21,8 +21,10 @@ returns c =
     let p = c .before .before .before .before .before .before .before .before .before .pre in
     gone-is _ _ _ (p .0) _ (p .1) _ (p .3) (let e = c .before .before .before .before .before .thread-count .ensures in let q = c .before .before .before .before .if1 .taken in omega arith) _ (c .before .before .leave .ensures)
 
-slice-read-used : tie.Need-slice-read-used
-slice-read-used c = let l = step-long _ _ _ (c .before .before .before .before .before .before .pre .0) in omega arith
+slice-read-before : tie.Need-slice-read-before
+slice-read-before c =
+    let at = c .before .before .before .before .before .before in
+    let l = step-long _ _ _ (at .pre .0) in omega arith
 
 act-in-requires : tie.Need-act-in-requires
 act-in-requires c κs = search needs
@@ -49,7 +51,7 @@ turn-spec =
     leave-requires
     same-length
     returns
-    slice-read-used
+    slice-read-before
     act-in-requires
     commit-requires
     same-length-2

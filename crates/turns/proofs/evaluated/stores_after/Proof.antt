@@ -4,8 +4,8 @@ use Rattle.turns.proofs.AfterRows.{after-refused, after-is}
 use Rattle.turns.proofs.evaluated.stores_after.Statement.{statement}
 use Rattle.turns.proofs.evaluated.stores_after.Tie as tie
 
-enum-known-o : tie.Need-enum-known-o
-enum-known-o c = search needs
+enum-known-x : tie.Need-enum-known-x
+enum-known-x c = search needs
 
 refused-by-requires : tie.Need-refused-by-requires
 refused-by-requires c κs = search needs
@@ -21,4 +21,4 @@ returns-2 c = search after-is
 
 pub stores-after-spec : {M : Type 1} → statement M
 stores-after-spec =
-    tie.close (tie.spec enum-known-o refused-by-requires returns comes-to-requires returns-2)
+    tie.close (tie.spec enum-known-x refused-by-requires returns comes-to-requires returns-2)

@@ -10,8 +10,8 @@ comes-to-requires c κs = search needs
 returns : tie.Need-returns
 returns c = (search turn-ends, search needs)
 
-sub-t12 : tie.Need-sub-t12
-sub-t12 c = search needs
+sub-t11 : tie.Need-sub-t11
+sub-t11 c = search needs
 
 act-item-requires : tie.Need-act-item-requires
 act-item-requires c κs =
@@ -26,4 +26,4 @@ returns-2 c = (search turn-item, search needs)
 
 pub act-spec : {M : Type 1} → statement M
 act-spec =
-    tie.close (tie.spec comes-to-requires returns sub-t12 act-item-requires same-length returns-2)
+    tie.close (tie.spec comes-to-requires returns sub-t11 act-item-requires same-length returns-2)

@@ -22,8 +22,8 @@ returns-2 c = search does-rows
 word-requires : tie.Need-word-requires
 word-requires c κs = search needs
 
-add-t9 : tie.Need-add-t9
-add-t9 c = search needs
+add-t8 : tie.Need-add-t8
+add-t8 c = search needs
 
 goes-requires : tie.Need-goes-requires
 goes-requires c κs = search needs
@@ -41,6 +41,6 @@ does-at-spec =
     refused-requires-2
     returns-2
     word-requires
-    add-t9
+    add-t8
     goes-requires
     returns-3)

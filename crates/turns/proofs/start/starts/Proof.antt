@@ -25,8 +25,8 @@ same-length c = search needs
 returns-2 : tie.Need-returns-2
 returns-2 c = (search starts-one, search needs)
 
-enum-known-o : tie.Need-enum-known-o
-enum-known-o c = search needs
+enum-known-x : tie.Need-enum-known-x
+enum-known-x c = search needs
 
 refused-by-requires : tie.Need-refused-by-requires
 refused-by-requires c κs = search needs
@@ -69,9 +69,9 @@ returns-4 c =
     let at = some .before .before .before in
     let kept = first .evaluate .ensures .1 in
     let found = second .evaluate2 .ensures .0 in (
-      starts-two _ _ _ _ _ _ _ _ _ (first .evaluate .result) _ (some .if1 .left)
-          (first .evaluate .ensures .0) _ _ (second .evaluate2 .result) _ (both .if2 .left)
-          (match .o .given .1) (variables-again _ _ _ (at .pre .2) kept _ _ _ _ found)
+      starts-two _ _ _ _ _ _ _ _ _ (first .evaluate .result) _ _ (some .if1 .left)
+          (first .evaluate .ensures .0) _ _ (second .evaluate2 .result) _ _ (both .if2 .left)
+          (match .x .given .1) (variables-again _ _ _ (at .pre .2) kept _ _ _ _ found)
           (c .before .value-word .ensures .0) (c .starts-two .ensures),
       second .evaluate2 .ensures .1 ∙ kept,
     )
@@ -86,7 +86,7 @@ starts-spec =
     starts-one-requires
     same-length
     returns-2
-    enum-known-o
+    enum-known-x
     refused-by-requires
     same-length-2
     returns-3

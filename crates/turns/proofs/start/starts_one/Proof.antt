@@ -4,8 +4,8 @@ use Rattle.turns.proofs.AfterRows.{after-refused, after-starts-one}
 use Rattle.turns.proofs.start.starts_one.Statement.{statement}
 use Rattle.turns.proofs.start.starts_one.Tie as tie
 
-enum-known-o : tie.Need-enum-known-o
-enum-known-o c = search needs
+enum-known-x : tie.Need-enum-known-x
+enum-known-x c = search needs
 
 refused-by-requires : tie.Need-refused-by-requires
 refused-by-requires c κs = search needs
@@ -26,7 +26,7 @@ pub starts-one-spec : {M : Type 1} → statement M
 starts-one-spec =
     tie.close
     (tie.spec
-    enum-known-o
+    enum-known-x
     refused-by-requires
     returns
     value-word-requires

@@ -4,8 +4,8 @@ use Rattle.turns.proofs.AfterRows.{after-refused, after-starts-two}
 use Rattle.turns.proofs.start.starts_two.Statement.{statement}
 use Rattle.turns.proofs.start.starts_two.Tie as tie
 
-enum-known-o : tie.Need-enum-known-o
-enum-known-o c = search needs
+enum-known-y : tie.Need-enum-known-y
+enum-known-y c = search needs
 
 refused-by-requires : tie.Need-refused-by-requires
 refused-by-requires c κs = search needs
@@ -26,7 +26,7 @@ pub starts-two-spec : {M : Type 1} → statement M
 starts-two-spec =
     tie.close
     (tie.spec
-    enum-known-o
+    enum-known-y
     refused-by-requires
     returns
     value-word-requires

@@ -1,13 +1,14 @@
 -- The parts of the one buffer that is lent to an evaluation, the words of a whole state: the acting
--- thread's variables are read where they lie, and the cells are written. Assumes nothing:
--- definitions.
+-- thread's variables are read where they lie, the cells and their count are written. Assumes
+-- nothing: definitions.
 use mathlib.Core.Path.{_≡_}
 use mathlib.Core.List.{List}
 use Prim.Native.Nat.{ℕ, _+_, _*_, _-_, _≤_}
-use lib.ListN.{length, getD, take, drop}
+use lib.ListN.{length, getD, set, take, drop}
 use Rattle.language.specs.Limits.{mostThreads, mostVariables}
-use Rattle.machine.specs.Offsets.{stateLength, threadsAt, threadLength, variablesField, cellsAt}
+use Rattle.machine.specs.Offsets.{stateLength, cellCountAt, threadsAt, threadLength}
+use Rattle.machine.specs.Offsets.{variablesField, cellsAt}
 use Rattle.operations.specs.declared.Who.{Who}
 
 -- where the words of the acting thread begin
 abbrev pub threadFrom : Who → ℕ
@@ -21,13 +22,17 @@ variableCount who w = getD w (threadFrom who + variablesField) 0
 unfoldable pub variablesOf : Who → List ℕ → List ℕ
 variablesOf who w = take (variableCount who w) (drop (threadFrom who + variablesField + 1) w)
 
+-- how many cells are in use
+unfoldable pub countOf : List ℕ → ℕ
+countOf w = getD w cellCountAt 0
+
 -- the words of the cells
 unfoldable pub cellsOf : List ℕ → List ℕ
 cellsOf w = drop cellsAt w
 
 -- all that an evaluation does not write
 unfoldable pub restOf : List ℕ → List ℕ
-restOf w = take cellsAt w
+restOf w = set (take cellsAt w) cellCountAt 0
 
 -- what a caller has to show: a state's words, a thread that there can be, and no more variables
 -- than its space has
