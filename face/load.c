@@ -9,7 +9,7 @@
 #include <stdlib.h>
 
 static uint8_t text[PROG_ROOM];
-static uint64_t state[4818];
+static uint64_t state[PURKVALDI_STATE_WORDS];
 
 int main(int count, char **words)
 {
@@ -23,14 +23,14 @@ int main(int count, char **words)
     length = read_prog(words[1], text);
     code = purkvaldi_check(text, length);
     printf("%02X %04X\n", (unsigned)PURKVALDI_NUMBER(code), (unsigned)PURKVALDI_DETAIL(code));
-    if (purkvaldi_state_length() != sizeof state / sizeof state[0])
+    if (purkvaldi_state_length() != PURKVALDI_STATE_WORDS)
         return 1;
-    code = purkvaldi_fresh(text, length, state, sizeof state / sizeof state[0]);
+    code = purkvaldi_fresh(text, length, state, PURKVALDI_STATE_WORDS);
     if (PURKVALDI_NUMBER(code) != 0)
         return 0;
     for (i = 2; i < count; i++) {
         uint64_t choice = strtoull(words[i], NULL, 16);
-        code = purkvaldi_step(text, length, state, sizeof state / sizeof state[0], choice);
+        code = purkvaldi_step(text, length, state, PURKVALDI_STATE_WORDS, choice);
         printf("%02X %02X %02X\n", (unsigned)choice, (unsigned)PURKVALDI_NUMBER(code), (unsigned)PURKVALDI_DETAIL(code));
     }
     return 0;

@@ -1,8 +1,13 @@
 /* Purkvaldi: the check and the stepper, for a loader in C. Link target/staticlib/libc_face.a, which `rt staticlib c_face` writes.
  *
- * Every function takes any bytes and any words and has a defined answer. The one thing asked is C's own rule: `length` bytes can be
- * read at `text`, `words` words of 64 bits can be read and written at `state`, other buffers likewise by their lengths, and no two
- * buffers overlap. A pointer whose length is 0 is not looked at and may be null.
+ * Every function takes any bytes and any words and has a defined answer. The one thing asked is C's own rule for each pointer, which
+ * comes with its length:
+ *
+ *   text     `length` bytes are read                    choices  `choices_length` bytes are read
+ *   state    `words` words are read and written         answers  `answers_length` words are written
+ *   out      `out_length` bytes are written
+ *
+ * No two buffers overlap. A pointer whose length is 0 is not looked at and may be null. No pointer is kept after the call.
  *
  * Stack, measured and not proved: at most 15,292 bytes below a call (purkvaldi_run on a file 24 deep); 16 KB are enough.
  */
@@ -12,6 +17,15 @@
 #include <stddef.h>
 #include <stdint.h>
 
+#ifdef __cplusplus
+extern "C" {
+#endif
+
+/* The words of a state, and the bytes of the longest listing, for buffers of fixed size; purkvaldi_state_length() and
+ * purkvaldi_listing_length() give the same numbers. */
+#define PURKVALDI_STATE_WORDS 4818
+#define PURKVALDI_LISTING_BYTES 229389
+
 /* A code: the number of document 01 above 16 bits, 0 where nothing is refused; below them the frame that a refusal of the text
  * (1 to 13) names, or, of a step, the acting thread (0: none). */
 #define PURKVALDI_NUMBER(code) ((code) >> 16)
@@ -20,7 +34,7 @@
 /* The check of a text: 0 where it is accepted, else the code of its refusal, 1 to 13. */
 uint32_t purkvaldi_check(const uint8_t *text, size_t length);
 
-/* How many words a state is: 4,818. */
+/* How many words a state is: PURKVALDI_STATE_WORDS. */
 size_t purkvaldi_state_length(void);
 
 /* Makes `state` the fresh state of a text that passes refusals 1 to 7, accepted or not: 0, or the code of a refusal 1 to 7, or of 14
@@ -39,7 +53,7 @@ uint32_t purkvaldi_step(const uint8_t *text, size_t length, uint64_t *state, siz
 uint32_t purkvaldi_steps(const uint8_t *text, size_t length, uint64_t *state, size_t words, const uint8_t *choices,
                          size_t choices_length, uint32_t *answers, size_t answers_length);
 
-/* How many bytes a listing's buffer has: 229,389, the longest listing. */
+/* How many bytes a listing's buffer has: PURKVALDI_LISTING_BYTES. */
 size_t purkvaldi_listing_length(void);
 
 /* What `purkvaldi_run` gives: a code, and how many bytes of `out` were written, which hold the listing. */
@@ -53,5 +67,9 @@ size_t purkvaldi_listing_length(void);
  * Where choices were stepped, `state` is the fresh state stepped through those used, else it is as it was. */
 uint64_t purkvaldi_run(const uint8_t *text, size_t length, const uint8_t *choices, size_t choices_length, uint64_t *state,
                        size_t words, uint8_t *out, size_t out_length);
+
+#ifdef __cplusplus
+}
+#endif
 
 #endif

@@ -8,10 +8,10 @@
 #include <stdio.h>
 #include <stdlib.h>
 
-enum { WORDS = 4818, MANY = 64 };
+enum { MANY = 64 };
 
 static uint8_t text[PROG_ROOM];
-static uint64_t state[WORDS];
+static uint64_t state[PURKVALDI_STATE_WORDS];
 
 int main(int count, char **words)
 {
@@ -27,14 +27,14 @@ int main(int count, char **words)
     length = read_prog(words[1], text);
     code = purkvaldi_check(text, length);
     printf("%02X %04X\n", (unsigned)PURKVALDI_NUMBER(code), (unsigned)PURKVALDI_DETAIL(code));
-    if (PURKVALDI_NUMBER(purkvaldi_fresh(text, length, state, WORDS)) != 0)
+    if (PURKVALDI_NUMBER(purkvaldi_fresh(text, length, state, PURKVALDI_STATE_WORDS)) != 0)
         return 0;
     while (at < count) {
         int n = 0, i;
         for (; n < MANY && at < count; n++, at++)
             choices[n] = (uint8_t)strtoul(words[at], NULL, 16);
         /* The state is this program's own, so 14 would be its fault. */
-        if (purkvaldi_steps(text, length, state, WORDS, choices, (size_t)n, answers, (size_t)n) != 0)
+        if (purkvaldi_steps(text, length, state, PURKVALDI_STATE_WORDS, choices, (size_t)n, answers, (size_t)n) != 0)
             return 1;
         for (i = 0; i < n; i++)
             printf("%02X %02X %02X\n", choices[i], (unsigned)PURKVALDI_NUMBER(answers[i]), (unsigned)PURKVALDI_DETAIL(answers[i]));

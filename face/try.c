@@ -3,7 +3,7 @@
 #include <stdio.h>
 #include <string.h>
 
-enum { WORDS = 4818, OUT = 229389 };
+enum { WORDS = PURKVALDI_STATE_WORDS, OUT = PURKVALDI_LISTING_BYTES };
 
 /* 01's three-line file: one module, which does nothing. */
 static const char three[] = "0001000000010000\n1000000000000000\n0200000100000000\n";

@@ -1,4 +1,5 @@
--- Demand 3 of the very calls: on an accepted text `fresh` and `step` give what the calls on its frames give. Assumes nothing.
+-- Demand 3 of the very calls: on an accepted text `fresh` and `step` give what the calls on its
+-- frames give. Assumes nothing.
 use Prim.Native.Nat.{ℕ}
 use native.Mathlib.Omega.{arith}
 use mathlib.Core.Logic.{_≢_}
@@ -26,10 +27,13 @@ use Rattle.safety.specs.Safety.{Sound, NoPrivateInPublic, Apart}
 use Rattle.safety.specs.Accepted.{stateOf, accessesUnder, accessesFrom, SafeCalls}
 use Rattle.safety.proofs.Accepted.{accepted-safe, accepted-calls-safe}
 use Rattle.stepper.specs.declared.answer.Answer.the-variants as A
-use Rattle.stepper.specs.Answers.{numberOf, answerTo, Answered, answered, calledAs, freshText, stepText}
+use Rattle.stepper.specs.Answers.{numberOf, answerTo, Answered, answered, calledAs, freshText}
+use Rattle.stepper.specs.Answers.{stepText}
 use Rattle.stepper.proofs.AnswerLaws.{number-back, done-0}
-use Rattle.assured.specs.TextCalls.{Plain, textCallsFrom, textWordsFrom, textAccessesFrom, SafeTexts, AcceptedTextsSafe, TextsNever14}
-use Rattle.machine.proofs.Numbers.{StepNumber, is-0, is-15, is-16, is-17, is-18, is-19, is-20, Numbered, all-numbered}
+use Rattle.assured.specs.TextCalls.{Plain, textCallsFrom, textWordsFrom, textAccessesFrom}
+use Rattle.assured.specs.TextCalls.{SafeTexts, AcceptedTextsSafe, TextsNever14}
+use Rattle.machine.proofs.Numbers.{StepNumber, is-0, is-15, is-16, is-17, is-18, is-19, is-20}
+use Rattle.machine.proofs.Numbers.{Numbered, all-numbered}
 
 -- ---- answers: a step's, which is neither foreign nor stuck
 
@@ -42,14 +46,17 @@ plain is-18 s = Plain.threads-spent
 plain is-19 s = absurd (s .0 refl)
 plain is-20 s = absurd (s .1 refl)
 
-pub plain-steps : (rs : List Stepped) → All Numbered rs → All Sound (map (λ (r : Stepped). r .answer) rs) → All (λ (r : Stepped). Plain (r .answer)) rs
+pub plain-steps : (rs : List Stepped) → All Numbered rs
+    → All Sound (map (λ (r : Stepped). r .answer) rs) → All (λ (r : Stepped). Plain (r .answer)) rs
 plain-steps [] All.none All.none = All.none
 plain-steps (r ∷ rs) (All.more h hs) (All.more k ks) = All.more (plain h k) (plain-steps rs hs ks)
 
 -- P of each call's number, from P of each step's answer
-by-number : (P : ℕ → Type 0) (rs : List Stepped) → All (λ (r : Stepped). P (r .answer)) rs → All (λ (r : Answered). P (numberOf (r .answer))) (map calledAs (map asCalled rs))
+by-number : (P : ℕ → Type 0) (rs : List Stepped) → All (λ (r : Stepped). P (r .answer)) rs
+    → All (λ (r : Answered). P (numberOf (r .answer))) (map calledAs (map asCalled rs))
 by-number P [] All.none = All.none
-by-number P (r ∷ rs) (All.more h hs) = All.more (subst P (sym (number-back (r .answer) (r .thread))) h) (by-number P rs hs)
+by-number P (r ∷ rs) (All.more h hs) =
+    All.more (subst P (sym (number-back (r .answer) (r .thread))) h) (by-number P rs hs)
 
 not-14 : {n : ℕ} → StepNumber n → n ≢ 14
 not-14 is-0 e = omega arith
@@ -83,7 +90,9 @@ module _ (bs : List ℕ) (read : Reads bs (frames (textFrames bs))) (fine : NoFa
   pub words-are : (w cs : List ℕ) → textWordsFrom bs w cs ≡ wordsFrom fs w cs
   unfolding textWordsFrom wordsFrom
   words-are w [] = refl
-  words-are w (c ∷ cs) = ap (λ (x : Answered). textWordsFrom bs (x .words) cs) (step-is w c) ∙ words-are (stepCall fs w c .words) cs
+  words-are w (c ∷ cs) =
+      ap (λ (x : Answered). textWordsFrom bs (x .words) cs) (step-is w c)
+      ∙ words-are (stepCall fs w c .words) cs
 
   accesses-are : (w cs : List ℕ) → textAccessesFrom bs w cs ≡ accessesFrom fs w cs
   unfolding textAccessesFrom accessesFrom
@@ -101,20 +110,26 @@ module _ (bs : List ℕ) (read : Reads bs (frames (textFrames bs))) (fine : NoFa
     left = ap (λ (v : List ℕ). textWordsFrom bs v cs) first ∙ words-are (freshCall fs w .words) cs
 
     -- the words left are those of the state that the choices reach
-    pub left-packed : textWordsFrom bs (freshText bs w .words) cs ≡ pack (stateAfter (programOf fs) cs)
+    pub left-packed : textWordsFrom bs (freshText bs w .words) cs
+        ≡ pack (stateAfter (programOf fs) cs)
     left-packed = left ∙ called-words fs (fits (record { text = read; layout = fine })) w cs long
 
-    given : textCallsFrom bs (freshText bs w .words) cs ≡ map calledAs (map asCalled (steps (programOf fs) cs))
+    given : textCallsFrom bs (freshText bs w .words) cs
+        ≡ map calledAs (map asCalled (steps (programOf fs) cs))
     given =
         ap (λ (v : List ℕ). textCallsFrom bs v cs) first ∙ texts-are (freshCall fs w .words) cs
         ∙ ap (map calledAs) (calls-are fs (fits (record { text = read; layout = fine })) w cs long)
 
-    pub numbers : (P : ℕ → Type 0) → All (λ (r : Stepped). P (r .answer)) (steps (programOf fs) cs) → All (λ (r : Answered). P (numberOf (r .answer))) (textCallsFrom bs (freshText bs w .words) cs)
+    pub numbers : (P : ℕ → Type 0) → All (λ (r : Stepped). P (r .answer)) (steps (programOf fs) cs)
+        → All (λ (r : Answered). P (numberOf (r .answer))) (textCallsFrom bs (freshText bs w .words) cs)
     numbers P h = subst (All (λ (r : Answered). P (numberOf (r .answer)))) (sym given) (by-number P (steps (programOf fs) cs) h)
 
     pub texts-safe : SafeCalls fs w cs → All Sound (answers (programOf fs) cs) → SafeTexts bs w cs
     texts-safe safe sound = record {
-      fresh = ap (λ (x : Answered). x .answer) (fresh-is w) ∙ ap (λ (r : Called). answerTo (r .answer) (r .thread)) (fresh-called fs w long) ∙ sym done-0;
+      fresh =
+          ap (λ (x : Answered). x .answer) (fresh-is w)
+          ∙ ap (λ (r : Called). answerTo (r .answer) (r .thread)) (fresh-called fs w long)
+          ∙ sym done-0;
       accessed = subst (All Own) (sym (ap (λ (v : List ℕ). textAccessesFrom bs v cs) first ∙ accesses-are (freshCall fs w .words) cs)) (safe .accessed);
       answered = numbers Plain (plain-steps (steps (programOf fs) cs) (all-numbered (programOf fs) (fresh (programOf fs)) cs) sound);
       words = subst (λ (v : List ℕ). v ≡ pack (stateOf fs v)) (sym left) (safe .words);
@@ -127,7 +142,8 @@ accepted-texts-safe bs (HasVerdict.accepted (Reads.whole a b c) h k) w cs e =
     let v = HasVerdict.accepted (Reads.whole a b c) h k in
     texts-safe bs (Reads.whole a b c) h w cs e (accepted-calls-safe bs v w cs e) (accepted-safe bs v cs .answered)
 
-never-14 : {bs : List ℕ} {fs : List Frame} → Reads bs (frames fs) → NoFault fs → (w cs : List ℕ) → length w ≡ 4818
+never-14 : {bs : List ℕ} {fs : List Frame} → Reads bs (frames fs) → NoFault fs → (w cs : List ℕ)
+    → length w ≡ 4818
     → All (λ (r : Answered). numberOf (r .answer) ≢ 14) (textCallsFrom bs (freshText bs w .words) cs)
 never-14 {bs} (Reads.whole a b c) h w cs e =
     let p = programOf (textFrames bs) in

@@ -1,4 +1,5 @@
--- A run leaves what the calls leave; of an accepted text it is safe, and prints a plain line for each choice used. Assumes nothing.
+-- A run leaves what the calls leave; of an accepted text it is safe, and prints a plain line for
+-- each choice used. Assumes nothing.
 use Prim.Native.Nat.{ℕ, _≤_}
 use mathlib.Core.Path.{_≡_, refl, sym, ap, ap₂, _∙_}
 use mathlib.Core.Logic.{_≢_}
@@ -34,9 +35,12 @@ use Rattle.machine.proofs.Tests.{and-both}
 use Rattle.machine.proofs.Numbers.{all-numbered}
 use Rattle.stepper.specs.declared.answer.Answer.the-variants as A
 use Rattle.safety.proofs.Accepted.{accepted-safe}
-use Rattle.listing.specs.Listing.{digitByte, twoDigits, refusalLine, checkLine, choices, choicesFrom, stops, choiceLine, choiceLines, usedOf, lastLine, runLines, linesOf, choicesListing}
+use Rattle.listing.specs.Listing.{digitByte, twoDigits, refusalLine, checkLine, choices}
+use Rattle.listing.specs.Listing.{choicesFrom, stops, choiceLine, choiceLines, usedOf, lastLine}
+use Rattle.listing.specs.Listing.{runLines, linesOf, choicesListing}
 use Rattle.runs.specs.Runs.{Behind, stepped}
-use Rattle.runs.specs.Printed.{unstepped, steppedOf, choicesStepped, ListedOn, listedFrom, listedWhole, unlisted, answerFor, buffersFit, listText}
+use Rattle.runs.specs.Printed.{unstepped, steppedOf, choicesStepped, ListedOn, listedFrom}
+use Rattle.runs.specs.Printed.{listedWhole, unlisted, answerFor, buffersFit, listText}
 use Rattle.runs.proofs.Stops.{rules-run}
 use Rattle.runs.proofs.TextListings.{goes-on}
 use Rattle.assured.specs.TextCalls.{Plain, wordsLeft}
@@ -45,10 +49,13 @@ use Rattle.assured.proofs.CalledTexts.{plain-steps, left-packed, accept
 
 -- ---- the lines
 
-plain-lines : (p : Program) (s : State) (cs : List ℕ) → All (λ (r : Stepped). Plain (r .answer)) (stepsFrom p s cs) → PlainLines cs (choiceLines cs (stepsFrom p s cs))
+plain-lines : (p : Program) (s : State) (cs : List ℕ)
+    → All (λ (r : Stepped). Plain (r .answer)) (stepsFrom p s cs)
+    → PlainLines cs (choiceLines cs (stepsFrom p s cs))
 unfolding stepsFrom choiceLines choiceLine
 plain-lines p s [] h = PlainLines.none
-plain-lines p s (c ∷ cs) (All.more h hs) = PlainLines.more _ _ _ _ h (plain-lines p (step p s c .state) cs hs)
+plain-lines p s (c ∷ cs) (All.more h hs) =
+    PlainLines.more _ _ _ _ h (plain-lines p (step p s c .state) cs hs)
 
 -- ---- the listing
 
@@ -117,12 +124,16 @@ by-reading : {bs : List ℕ} {fs : List Frame} → Reads bs (frames fs) → NoFa
     → (w out : List ℕ) → length w ≡ 4818 → length out ≡ 229389
     → let used = usedOf (programOf fs) cs in
     (listText bs bytes w out .used ≡ used) × (listText bs bytes w out .words ≡ wordsLeft bs w (take used cs))
-by-reading {bs} (Reads.whole a b c) h bytes cs few is w out e f = listed-calls bs (Reads.whole a b c) h bytes w out e f cs few is
+by-reading {bs} (Reads.whole a b c) h bytes cs few is w out e f =
+    listed-calls bs (Reads.whole a b c) h bytes w out e f cs few is
 
 pub listing-calls : ListingCalls
-listing-calls bs fs h bytes cs few is w out e f = by-reading (h .text) (h .layout) bytes cs few is w out e f
+listing-calls bs fs h bytes cs few is w out e f =
+    by-reading (h .text) (h .layout) bytes cs few is w out e f
 
-run-split : (p : Program) (cs : List ℕ) → runLines p cs ≡ choiceLines (take (usedOf p cs) cs) (steps p (take (usedOf p cs) cs)) ++ lastLine (usedOf p cs)
+run-split : (p : Program) (cs : List ℕ)
+    → runLines p cs
+    ≡ choiceLines (take (usedOf p cs) cs) (steps p (take (usedOf p cs) cs)) ++ lastLine (usedOf p cs)
 unfolding runLines
 run-split p cs = refl
 

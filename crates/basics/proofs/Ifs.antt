@@ -1,4 +1,5 @@
--- Laws of the conditional, of the connectives and of equal tests, so that no proof unfolds them. Assumes nothing.
+-- Laws of the conditional, of the connectives and of equal tests, so that no proof unfolds them.
+-- Assumes nothing.
 use mathlib.Core.Path.{_≡_, refl, sym, _∙_}
 use mathlib.Core.Bool.{Bool, true, false, _&&_, _||_, true≢false}
 use Prim.Native.Nat.{ℕ, _≤_}

@@ -1,4 +1,5 @@
-// The face for C and Rust: functions on numbers and on pointers with lengths. None has a `requires`.
+// The face for C and Rust: functions on numbers and on pointers with lengths. None has a
+// `requires`.
 use checker::check::check;
 use language::limit::MOST_LISTING_BYTES;
 use language::verdict::Verdict;
@@ -15,7 +16,9 @@ ghost use Rattle.machine.specs.Offsets.{stateLength};
 ghost use Rattle.stepper.specs.Answers.{freshText, stepText};
 ghost use Rattle.stepper.specs.Batches.{stepsText};
 ghost use Rattle.runs.specs.Printed.{listText};
-ghost use Rattle.c_face.specs.Codes.{codeOf, CheckedCode, answerCode, coded, codedOf, codedBatch, codedBatchOf, listedCode, printed, printedOf};
+ghost use Rattle.c_face.specs.Codes.{codeOf, CheckedCode, answerCode, coded, codedOf};
+ghost use Rattle.c_face.specs.Codes.{codedBatch, codedBatchOf, listedCode, printed};
+ghost use Rattle.c_face.specs.Codes.{printedOf};
 
 fn wide8(n: u8) -> u32
     ensures { λ r. ⌜ r ≡ n ⌝ }
@@ -45,8 +48,8 @@ fn code_of(v: Verdict) -> u32
     }
 }
 
-// What the check answers on `length` bytes: the number of the refusal above 16 bits, the frame in them; 0 where it accepts. It is the
-// code of the one verdict that the rules give.
+// What the check answers on `length` bytes: the number of the refusal above 16 bits, the frame in
+// them; 0 where it accepts. It is the code of the one verdict that the rules give.
 #[no_mangle]
 pub extern "C" fn purkvaldi_check(text: &[u8]) -> u32
     ensures computed { λ r. ⌜ r ≡ codeOf (verdict (now (text .entry))) ⌝ }
@@ -74,25 +77,30 @@ pub extern "C" fn purkvaldi_state_length() -> usize
     state_length()
 }
 
-// The fresh state of a text: 0, or the number of the refusal above 16 bits, the frame of a refusal 1 to 7 in them. A refusal writes nothing.
+// The fresh state of a text: 0, or the number of the refusal above 16 bits, the frame of a refusal
+// 1 to 7 in them. A refusal writes nothing.
 #[no_mangle]
 pub extern "C" fn purkvaldi_fresh(text: &[u8], state: &mut [u64]) -> u32
-    ensures { λ r. ⌜ coded r (now (state .exit)) ≡ codedOf (freshText (now (text .entry)) (now (state .entry))) ⌝ }
+    ensures { λ r. ⌜ coded r (now (state .exit))
+        ≡ codedOf (freshText (now (text .entry)) (now (state .entry))) ⌝ }
 {
     answer_code(fresh(text, state))
 }
 
-// One choice: the acting thread where it is done, 0 where none acts; else the number of the refusal above 16 bits, and in them the frame
-// of a refusal 1 to 7 or the acting thread of one above. A refusal writes nothing.
+// One choice: the acting thread where it is done, 0 where none acts; else the number of the refusal
+// above 16 bits, and in them the frame of a refusal 1 to 7 or the acting thread of one above. A
+// refusal writes nothing.
 #[no_mangle]
 pub extern "C" fn purkvaldi_step(text: &[u8], state: &mut [u64], choice: u64) -> u32
-    ensures { λ r. ⌜ coded r (now (state .exit)) ≡ codedOf (stepText (now (text .entry)) (now (state .entry)) choice) ⌝ }
+    ensures { λ r. ⌜ coded r (now (state .exit))
+        ≡ codedOf (stepText (now (text .entry)) (now (state .entry)) choice) ⌝ }
 {
     answer_code(step(text, state, choice))
 }
 
-// Many choices, a byte each: 0 where all are stepped, and the code of each, as `purkvaldi_step` gives it, is in its place in `answers`;
-// else the code of the text's refusal 1 to 7, or of 14, and nothing is written.
+// Many choices, a byte each: 0 where all are stepped, and the code of each, as `purkvaldi_step`
+// gives it, is in its place in `answers`; else the code of the text's refusal 1 to 7, or of 14, and
+// nothing is written.
 #[no_mangle]
 pub extern "C" fn purkvaldi_steps(
     text: &[u8],
@@ -100,7 +108,10 @@ pub extern "C" fn purkvaldi_steps(
     choices: &[u8],
     answers: &mut [u32],
 ) -> u32
-    ensures { λ r. ⌜ codedBatch r (now (state .exit)) (now (answers .exit)) ≡ codedBatchOf (stepsText (now (text .entry)) (now (state .entry)) (now (choices .entry)) (now (answers .entry))) ⌝ }
+    ensures { λ r. ⌜ codedBatch r (now (state .exit)) (now (answers .exit))
+        ≡ codedBatchOf
+        (stepsText (now (text .entry)) (now (state .entry)) (now (choices .entry)) (now
+        (answers .entry))) ⌝ }
 {
     answer_code(steps(text, state, choices, answers))
 }
@@ -120,9 +131,11 @@ fn listed_code(a: Answer, length: u32) -> u64
     wide32(answer_code(a)) * 0x0000_0001_0000_0000 + wide32(length)
 }
 
-// The listing of a run, in the first bytes of `out`: in the low 32 bits how many they are, 0 where nothing is written; above them the code of the text's
-// refusal 1 to 7, whatever the lengths, else of 14 where a buffer has another length than the listing needs, else 0. The line of a refusal 1 to 7 is in
-// `out` where `out` has its length. `choices` are the bytes of choices.txt; the state behind the run is in `state` where choices were stepped.
+// The listing of a run, in the first bytes of `out`: in the low 32 bits how many they are, 0 where
+// nothing is written; above them the code of the text's refusal 1 to 7, whatever the lengths, else
+// of 14 where a buffer has another length than the listing needs, else 0. The line of a refusal 1
+// to 7 is in `out` where `out` has its length. `choices` are the bytes of choices.txt; the state
+// behind the run is in `state` where choices were stepped.
 #[no_mangle]
 pub extern "C" fn purkvaldi_run(
     text: &[u8],
@@ -130,7 +143,10 @@ pub extern "C" fn purkvaldi_run(
     state: &mut [u64],
     out: &mut [u8],
 ) -> u64
-    ensures { λ r. ⌜ printed r (now (state .exit)) (now (out .exit)) ≡ printedOf (listText (now (text .entry)) (now (choices .entry)) (now (state .entry)) (now (out .entry))) ⌝ }
+    ensures { λ r. ⌜ printed r (now (state .exit)) (now (out .exit))
+        ≡ printedOf
+        (listText (now (text .entry)) (now (choices .entry)) (now (state .entry)) (now
+        (out .entry))) ⌝ }
 {
     let l = run_listing(text, choices, state, out);
     let a = l.answer;

@@ -1,5 +1,6 @@
-// Reads prog.txt in the folder it runs in, an absent file as empty, and prints what the check answers: the number of the
-// refusal and the frame, 00 0000 where the file is accepted. Of a file that cannot be read, nothing.
+// Reads prog.txt in the folder it runs in, an absent file as empty, and prints what the check
+// answers: the number of the refusal and the frame, 00 0000 where the file is accepted. Of a file
+// that cannot be read, nothing.
 use files::print;
 use files::read_file;
 use language::limit::MOST_BYTES;

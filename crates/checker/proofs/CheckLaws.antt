@@ -51,7 +51,8 @@ promise bs r e = subst (Checked bs) (sym e) (verdict-computes bs)
 
 -- l is what `lay_into` answered, ws what the lent words hold
 module _ (bs : List ℕ) (l : Laid) (ws : List ℕ) (e : laidAs l ws ≡ laidOut bs) where
-  pub check-rejected : (v : Verdict) (n j : ℕ) → v ≡ l .verdict → v ≡ Rejected n j → Rejected n j ≡ verdict bs
+  pub check-rejected : (v : Verdict) (n j : ℕ) → v ≡ l .verdict → v ≡ Rejected n j
+      → Rejected n j ≡ verdict bs
   unfolding verdict
   check-rejected v n j h z = text-refused (λ n j. Rejected n j) (λ fs. rulesOf (programOf fs)) bs (laidAs l ws) e n j (sym h ∙ z)
 
@@ -60,7 +61,8 @@ module _ (bs : List ℕ) (l : Laid) (ws : List ℕ) (e : laidAs l ws ≡ laidOut
     right = laid-passed bs (laidAs l ws) e (sym h ∙ a)
 
     same-length : length (take (l .count) ws) ≡ l .count
-    same-length = sym (length-map (take (l .count) ws) frameOfWord) ∙ ap length (right .lines) ∙ right .count
+    same-length =
+        sym (length-map (take (l .count) ws) frameOfWord) ∙ ap length (right .lines) ∙ right .count
 
     pub check-file : (n : ℕ) → n ≡ l .count → FileIn (take n ws)
     check-file n q =
@@ -75,12 +77,19 @@ module _ (bs : List ℕ) (l : Laid) (ws : List ℕ) (e : laidAs l ws ≡ laidOut
     pub check-length : (n : ℕ) → n ≡ l .count → n ≡ length (take n ws)
     check-length n q = q ∙ sym same-length ∙ ap (λ (k : ℕ). length (take k ws)) (sym q)
 
-    pub check-rules : (n : ℕ) (r : Verdict) → n ≡ l .count → r ≡ rulesOf (programOf (framesOf (take n ws))) → r ≡ verdict bs
+    pub check-rules : (n : ℕ) (r : Verdict) → n ≡ l .count
+        → r ≡ rulesOf (programOf (framesOf (take n ws))) → r ≡ verdict bs
     unfolding verdict
-    check-rules n r q z = z ∙ text-passed (λ n j. Rejected n j) (λ fs. rulesOf (programOf fs)) bs (laidAs l ws) e (sym h ∙ a) n q
+    check-rules n r q z =
+        z
+        ∙ text-passed (λ n j. Rejected n j) (λ fs. rulesOf (programOf fs)) bs (laidAs l ws) e (sym h ∙ a) n q
 
-pub promised-rejected : (bs : List ℕ) (l : Laid) (ws : List ℕ) → laidAs l ws ≡ laidOut bs → (v : Verdict) (n j : ℕ) → v ≡ l .verdict → v ≡ Rejected n j → Checked bs (Rejected n j)
-promised-rejected bs l ws e v n j h z = promise bs (Rejected n j) (check-rejected bs l ws e v n j h z)
+pub promised-rejected : (bs : List ℕ) (l : Laid) (ws : List ℕ) → laidAs l ws ≡ laidOut bs
+    → (v : Verdict) (n j : ℕ) → v ≡ l .verdict → v ≡ Rejected n j → Checked bs (Rejected n j)
+promised-rejected bs l ws e v n j h z =
+    promise bs (Rejected n j) (check-rejected bs l ws e v n j h z)
 
-pub promised-rules : (bs : List ℕ) (l : Laid) (ws : List ℕ) → laidAs l ws ≡ laidOut bs → (v : Verdict) → v ≡ l .verdict → v ≡ Accepted → (n : ℕ) (r : Verdict) → n ≡ l .count → r ≡ rulesOf (programOf (framesOf (take n ws))) → Checked bs r
+pub promised-rules : (bs : List ℕ) (l : Laid) (ws : List ℕ) → laidAs l ws ≡ laidOut bs
+    → (v : Verdict) → v ≡ l .verdict → v ≡ Accepted → (n : ℕ) (r : Verdict) → n ≡ l .count
+    → r ≡ rulesOf (programOf (framesOf (take n ws))) → Checked bs r
 promised-rules bs l ws e v h a n r q z = promise bs r (check-rules bs l ws e v h a n r q z)

@@ -1,4 +1,5 @@
--- What the rules find of a statement, from the node at its root and what they find of its children: one law for each arm of `conduct_of`, and those of its helpers. Assumes nothing.
+-- What the rules find of a statement, from the node at its root and what they find of its children:
+-- one law for each arm of `conduct_of`, and those of its helpers. Assumes nothing.
 use mathlib.Core.Path.{_≡_, refl, sym, ap, _∙_}
 use mathlib.Core.Bool.{Bool, true, false, not}
 use mathlib.Core.List.{List, [], _∷_, _++_, map}
@@ -16,13 +17,16 @@ use Rattle.language.specs.declared.effect.Effect.{Effect}
 use Rattle.language.specs.declared.kind.StatementKind.{StatementKind}
 use Rattle.language.specs.declared.kind.StatementKind.the-variants as S
 use Rattle.language.specs.declared.kind.Kind.{Kind}
-use Rattle.language.specs.declared.kind.Kind.the-variants.{Header, Declared, Module, Statement, Expression, Unknown}
+use Rattle.language.specs.declared.kind.Kind.the-variants.{Header, Declared, Module, Statement}
+use Rattle.language.specs.declared.kind.Kind.the-variants.{Expression, Unknown}
 use Rattle.language.specs.declared.frame.Frame.{Frame}
 use Rattle.text.specs.Frames.{framesOf}
 use Rattle.program.specs.Trees.{frameAt, expressionAt, arguments, statementOf, statementAt}
 use Rattle.program.proofs.Decoding.{statement-at}
 use Rattle.rules.specs.Rules.{Setting, Signature}
-use Rattle.rules.specs.inner.Checking.{Argued, argue, typesIn, isLinked, startRule, cooperateRule, seqRule, doRule, joinRule, letRule, storeRule, ifElseRule, whileRule, runIn}
+use Rattle.rules.specs.inner.Checking.{Argued, argue, typesIn, isLinked, startRule, cooperateRule}
+use Rattle.rules.specs.inner.Checking.{seqRule, doRule, joinRule, letRule, storeRule, ifElseRule}
+use Rattle.rules.specs.inner.Checking.{whileRule, runIn}
 use Rattle.rules.specs.inner.Standings.{standing}
 use Rattle.rules.specs.inner.Signatures.{noArguments, arguedOf, signatureOf}
 use Rattle.program.specs.inner.Nodes.{statementNodeOf, statementNodeIn}
@@ -63,14 +67,17 @@ module _ (cells Γ ws : List ℕ) (a b : ℕ) where
   unfolding typesIn
   arguments-none h = ap (λ (m : ℕ). ArgueAt cells Γ ws m b) (sym h)
 
-  pub arguments-one : (x : Typing) (r : Arguments) → (a ≡ 0 → ⊥) → b ≡ 0 → x ≡ TypeAt cells Γ ws a → arguedOf r ≡ argue x noArguments → arguedOf r ≡ ArgueAt cells Γ ws a b
+  pub arguments-one : (x : Typing) (r : Arguments) → (a ≡ 0 → ⊥) → b ≡ 0 → x ≡ TypeAt cells Γ ws a
+      → arguedOf r ≡ argue x noArguments → arguedOf r ≡ ArgueAt cells Γ ws a b
   unfolding typesIn
   arguments-one x r n z h k =
       let m = one-more a n in
       k ∙ ap (λ (t : Typing). argue t noArguments) (h ∙ ap (TypeAt cells Γ ws) (m .1))
       ∙ sym (ap (λ (p : ℕ). ArgueAt cells Γ ws p b) (m .1) ∙ ap (ArgueAt cells Γ ws (suc (m .0))) z)
 
-  pub arguments-two : (x y : Typing) (r : Arguments) → (a ≡ 0 → ⊥) → (b ≡ 0 → ⊥) → x ≡ TypeAt cells Γ ws a → y ≡ TypeAt cells Γ ws b → arguedOf r ≡ argue x (argue y noArguments) → arguedOf r ≡ ArgueAt cells Γ ws a b
+  pub arguments-two : (x y : Typing) (r : Arguments) → (a ≡ 0 → ⊥) → (b ≡ 0 → ⊥)
+      → x ≡ TypeAt cells Γ ws a → y ≡ TypeAt cells Γ ws b
+      → arguedOf r ≡ argue x (argue y noArguments) → arguedOf r ≡ ArgueAt cells Γ ws a b
   unfolding typesIn
   arguments-two x y r n o h l k =
       let m = one-more a n in
@@ -80,14 +87,19 @@ module _ (cells Γ ws : List ℕ) (a b : ℕ) where
 
 pub ruleset arguments-laws = (arguments-none, arguments-one, arguments-two)
 
-pub argument-in : (ws : List ℕ) (i a : ℕ) → FrameIn ws i → ((a ≡ 0 → ⊥) → a < i) → (a ≡ 0 → ⊥) → FrameIn ws a
+pub argument-in : (ws : List ℕ) (i a : ℕ) → FrameIn ws i → ((a ≡ 0 → ⊥) → a < i) → (a ≡ 0 → ⊥)
+    → FrameIn ws a
 argument-in ws i a g h n = lower-in ws i a g (h n)
 
-pub further-in : (ws : List ℕ) (i a b : ℕ) → FrameIn ws i → ((a ≡ 0 → ⊥) → (b ≡ 0 → ⊥) → b < i) → (a ≡ 0 → ⊥) → (b ≡ 0 → ⊥) → FrameIn ws b
+pub further-in : (ws : List ℕ) (i a b : ℕ) → FrameIn ws i → ((a ≡ 0 → ⊥) → (b ≡ 0 → ⊥) → b < i)
+    → (a ≡ 0 → ⊥) → (b ≡ 0 → ⊥) → FrameIn ws b
 further-in ws i a b g h n o = lower-in ws i b g (h n o)
 
--- ---- the definition by nodes: what is found at frame i, where T, R and As say what is found of the expressions, the statements and the arguments at its children. The body of a let is asked with a variable more, so `let-in` is a parameter of its own
-abbrev conductBy : (ℕ → Typing) → (ℕ → List ℕ → Standing → Conduct) → (ℕ → ℕ → Argued) → List Signature → List ℕ → Standing → ℕ → StatementNode → (ℕ → Typing → Conduct) → Conduct
+-- ---- the definition by nodes: what is found at frame i, where T, R and As say what is found of
+-- the expressions, the statements and the arguments at its children. The body of a let is asked
+-- with a variable more, so `let-in` is a parameter of its own
+abbrev conductBy : (ℕ → Typing) → (ℕ → List ℕ → Standing → Conduct) → (ℕ → ℕ → Argued)
+    → List Signature → List ℕ → Standing → ℕ → StatementNode → (ℕ → Typing → Conduct) → Conduct
 conductBy T R As below Γ at i Y.Nothing let-in = Does noEffect true
 conductBy T R As below Γ at i Y.Cooperate let-in = cooperateRule at i
 conductBy T R As below Γ at i (Y.Seq a b) let-in = seqRule (R a Γ at) (R b Γ at)
@@ -108,7 +120,9 @@ module _ (env : Setting) (below : List Signature) (ws Γ : List ℕ) (at : Stand
   abbrev By : StatementNode → Conduct
   By n = conductBy (TypeAt (env .cells) Γ ws) (RunAt env below ws) (ArgueAt (env .cells) Γ ws) below Γ at i n (λ b x. letRule (λ Δ. RunAt env below ws b Δ at) Γ x)
 
-  by-statement : (f : Frame) (k : StatementKind) → runIn env below Γ at (statementOf (λ j. expressionAt (framesOf ws) j) (λ j. statementAt (framesOf ws) j) i f (Statement k)) ≡ By (statementNodeOf k (f .s) (f .a) (f .b) (f .c))
+  by-statement : (f : Frame) (k : StatementKind)
+      → runIn env below Γ at (statementOf (λ j. expressionAt (framesOf ws) j) (λ j. statementAt (framesOf ws) j) i f (Statement k))
+      ≡ By (statementNodeOf k (f .s) (f .a) (f .b) (f .c))
   unfolding runIn
   by-statement f S.Nothing = refl
   by-statement f S.Then = refl
@@ -121,7 +135,9 @@ module _ (env : Setting) (below : List Signature) (ws Γ : List ℕ) (at : Stand
   by-statement f S.If = refl
   by-statement f S.While = refl
 
-  by-kind : (f : Frame) (k : Kind) → runIn env below Γ at (statementOf (λ j. expressionAt (framesOf ws) j) (λ j. statementAt (framesOf ws) j) i f k) ≡ By (statementNodeIn k f)
+  by-kind : (f : Frame) (k : Kind)
+      → runIn env below Γ at (statementOf (λ j. expressionAt (framesOf ws) j) (λ j. statementAt (framesOf ws) j) i f k)
+      ≡ By (statementNodeIn k f)
   unfolding runIn
   by-kind f Header = refl
   by-kind f (Declared d) = refl
@@ -130,7 +146,8 @@ module _ (env : Setting) (below : List Signature) (ws Γ : List ℕ) (at : Stand
   by-kind f (Expression k) = refl
   by-kind f Unknown = refl
 
-  run-by : (f : Frame) (n v : StatementNode) → AtStatement ws i f n v (RunAt env below ws i Γ at ≡ By v)
+  run-by : (f : Frame) (n v : StatementNode)
+      → AtStatement ws i f n v (RunAt env below ws i Γ at ≡ By v)
   run-by f n v h k e g =
       ap (runIn env below Γ at) (statement-at (framesOf ws) (ordered ws i g) i)
       ∙ by-kind (frameAt (framesOf ws) i) (frameAt (framesOf ws) i .kind)
@@ -156,7 +173,8 @@ module _ (env : Setting) (sigs ws Γ : List ℕ) (i : ℕ) (l : Bool) (f : Frame
   abbrev Where : StatementNode → Type 0 → Type 0
   Where v C = AtStatement ws i f n v C
 
-  -- what is found of the statement at frame a, and x is that; x is what is found of the expression there
+  -- what is found of the statement at frame a, and x is that; x is what is found of the expression
+  -- there
   abbrev found : ℕ → Conduct
   found a = RunAt env (map signatureOf sigs) ws a Γ (standing l)
 
@@ -166,11 +184,14 @@ module _ (env : Setting) (sigs ws Γ : List ℕ) (i : ℕ) (l : Bool) (f : Frame
   abbrev T : ℕ → Typing → Type 0
   T a x = x ≡ TypeAt (env .cells) Γ ws a
 
-  by-node : (v : StatementNode) (r : Conduct) → Where v (r ≡ By env (map signatureOf sigs) ws Γ (standing l) i v → R i r)
-  by-node v r h k e g q = q ∙ sym (run-by env (map signatureOf sigs) ws Γ (standing l) i f n v h k e g)
+  by-node : (v : StatementNode) (r : Conduct)
+      → Where v (r ≡ By env (map signatureOf sigs) ws Γ (standing l) i v → R i r)
+  by-node v r h k e g q =
+      q ∙ sym (run-by env (map signatureOf sigs) ws Γ (standing l) i f n v h k e g)
 
   pub run-nothing : (e : Effect) → Where Y.Nothing (e ≡ noEffect → R i (Does e true))
-  run-nothing e h k q g z = by-node Y.Nothing (Does e true) h k q g (ap (λ (o : Effect). Does o true) z)
+  run-nothing e h k q g z =
+      by-node Y.Nothing (Does e true) h k q g (ap (λ (o : Effect). Does o true) z)
 
   pub run-cooperate : (r : Conduct) → Where Y.Cooperate (r ≡ cooperateRule (standing l) i → R i r)
   run-cooperate r h k q g z = by-node Y.Cooperate r h k q g z
@@ -198,13 +219,16 @@ module _ (env : Setting) (sigs ws Γ : List ℕ) (i : ℕ) (l : Bool) (f : Frame
       (z ∙ ap (doRule (standing l) (s .number) i)
       (u ∙ ap (RunAt env (map signatureOf sigs) ws a Γ) e))
 
-  pub run-start : (s a b : ℕ) (x : Arguments) (r : Conduct) → Where (Y.Start s a b) (arguedOf x ≡ ArgueAt (env .cells) Γ ws a b → r ≡ startRule true (map signatureOf sigs) (standing l) s i (arguedOf x) → R i r)
+  pub run-start : (s a b : ℕ) (x : Arguments) (r : Conduct)
+      → Where (Y.Start s a b) (arguedOf x ≡ ArgueAt (env .cells) Γ ws a b → r ≡ startRule true (map signatureOf sigs) (standing l) s i (arguedOf x) → R i r)
   run-start s a b x r h k q g d z = by-node (Y.Start s a b) r h k q g (z ∙ ap (startRule true (map signatureOf sigs) (standing l) s i) d)
 
-  pub run-wait : (s a b : ℕ) (x : Arguments) (r : Conduct) → Where (Y.StartWait s a b) (arguedOf x ≡ ArgueAt (env .cells) Γ ws a b → r ≡ startRule false (map signatureOf sigs) (standing l) s i (arguedOf x) → R i r)
+  pub run-wait : (s a b : ℕ) (x : Arguments) (r : Conduct)
+      → Where (Y.StartWait s a b) (arguedOf x ≡ ArgueAt (env .cells) Γ ws a b → r ≡ startRule false (map signatureOf sigs) (standing l) s i (arguedOf x) → R i r)
   run-wait s a b x r h k q g d z = by-node (Y.StartWait s a b) r h k q g (z ∙ ap (startRule false (map signatureOf sigs) (standing l) s i) d)
 
-  pub run-store : (a b : ℕ) (x y : Typing) (r : Conduct) → Where (Y.Store a b) (T a x → T b y → r ≡ storeRule i x y → R i r)
+  pub run-store : (a b : ℕ) (x y : Typing) (r : Conduct)
+      → Where (Y.Store a b) (T a x → T b y → r ≡ storeRule i x y → R i r)
   run-store a b x y r h k q g u v z = by-node (Y.Store a b) r h k q g (z ∙ ap (λ (c : Typing). storeRule i c y) u ∙ ap (storeRule i (TypeAt (env .cells) Γ ws a)) v)
 
   pub run-if : (a b c : ℕ) (x : Typing) (y w r : Conduct) (Δ : List ℕ) → r ≡ ifElseRule i x y w
@@ -217,18 +241,22 @@ module _ (env : Setting) (sigs ws Γ : List ℕ) (i : ℕ) (l : Bool) (f : Frame
       ∙ ap (λ (d : Conduct). ifElseRule i o d w) v
       ∙ ap (ifElseRule i o (found b)) (same-found c w Δ e t))
 
-  pub run-while : (a b : ℕ) (x : Typing) (y r : Conduct) → Where (Y.While a b) (T a x → R b y → r ≡ whileRule i x y → R i r)
+  pub run-while : (a b : ℕ) (x : Typing) (y r : Conduct)
+      → Where (Y.While a b) (T a x → R b y → r ≡ whileRule i x y → R i r)
   run-while a b x y r h k q g u v z = by-node (Y.While a b) r h k q g (z ∙ ap (λ (d : Typing). whileRule i d y) u ∙ ap (whileRule i (TypeAt (env .cells) Γ ws a)) v)
 
   -- a let, whose body is found at b in the variables Δ
   abbrev letAt : ℕ → Typing → Conduct
   letAt b x = letRule (λ Δ. RunAt env (map signatureOf sigs) ws b Δ (standing l)) Γ x
 
-  let-by : (a b : ℕ) (x v : Typing) → x ≡ v → T a x → letAt b v ≡ letAt b (TypeAt (env .cells) Γ ws a)
+  let-by : (a b : ℕ) (x v : Typing) → x ≡ v → T a x
+      → letAt b v ≡ letAt b (TypeAt (env .cells) Γ ws a)
   let-by a b x v h u = ap (letAt b) (sym h ∙ u)
 
-  pub run-let-fault : (a b : ℕ) (x : Typing) (p j : ℕ) → Where (Y.LetIn a b) (T a x → x ≡ Untyped p j → R i (Fails p j))
-  run-let-fault a b x p j h k q g u z = by-node (Y.LetIn a b) (Fails p j) h k q g (let-by a b x (Untyped p j) z u)
+  pub run-let-fault : (a b : ℕ) (x : Typing) (p j : ℕ)
+      → Where (Y.LetIn a b) (T a x → x ≡ Untyped p j → R i (Fails p j))
+  run-let-fault a b x p j h k q g u z =
+      by-node (Y.LetIn a b) (Fails p j) h k q g (let-by a b x (Untyped p j) z u)
 
   pub run-let : (a b : ℕ) (x : Typing) (t : ℕ) (e : Effect) (y r : Conduct) (Δ : List ℕ)
       → r ≡ joinRule e y

@@ -1,4 +1,5 @@
--- What the recursions ask of each child that they go down to: its number falls, it is a frame of the file, and there is room for its variables. Assumes nothing.
+-- What the recursions ask of each child that they go down to: its number falls, it is a frame of
+-- the file, and there is room for its variables. Assumes nothing.
 use mathlib.Core.Path.{_≡_, refl, sym, subst}
 use mathlib.Core.List.{List, [], _++_}
 use Prim.Native.Nat.{ℕ, zero, suc, _+_, _*_, _^_, _≤_, _<_}
@@ -11,7 +12,8 @@ use Rattle.language.specs.declared.Place.{Place}
 use Rattle.language.specs.declared.kind.StatementKind.{StatementKind}
 use Rattle.language.specs.declared.kind.StatementKind.the-variants as S
 use Rattle.language.specs.declared.kind.Kind.{Kind}
-use Rattle.language.specs.declared.kind.Kind.the-variants.{Header, Declared, Module, Statement, Expression, Unknown}
+use Rattle.language.specs.declared.kind.Kind.the-variants.{Header, Declared, Module, Statement}
+use Rattle.language.specs.declared.kind.Kind.the-variants.{Expression, Unknown}
 use Rattle.language.specs.declared.kind.Class.{Class}
 use Rattle.language.specs.declared.kind.Use.{Use}
 use Rattle.language.specs.declared.frame.Frame.{Frame}
@@ -29,13 +31,15 @@ use Rattle.program.specs.declared.node.ExpressionNode.{ExpressionNode}
 use Rattle.program.specs.declared.node.ExpressionNode.the-variants.{OfValue, OfNumbers, Choose}
 use Rattle.program.specs.declared.node.StatementNode.{StatementNode}
 use Rattle.program.specs.declared.node.StatementNode.the-variants as Y
-use Rattle.checker.proofs.NodeLaws.{ordered, AtExpression, expression-here, AtStatement, statement-here}
+use Rattle.checker.proofs.NodeLaws.{ordered, AtExpression, expression-here, AtStatement}
+use Rattle.checker.proofs.NodeLaws.{statement-here}
 
 -- ---- a child of frame i
 
 -- what stands before a frame of the file is one too
 pub lower-in : (ws : List ℕ) (i a : ℕ) → FrameIn ws i → a < i → FrameIn ws a
-lower-in ws i a g h = record { laid-out = g .laid-out; there = let t = g .there in omega arith; few = g .few }
+lower-in ws i a g h =
+    record { laid-out = g .laid-out; there = let t = g .there in omega arith; few = g .few }
 
 -- t is the measure of the call: the number of its own frame
 lower-falls : {i a : ℕ} → a < i → (t : ℕ) → i ≡ t → a < t
@@ -74,16 +78,19 @@ KidsS cs (Y.Store a b) = In (child Class.Expression a) cs × In (child Class.Exp
 KidsS cs (Y.IfElse a b c) = In (child Class.Expression a) cs × In (child Class.Statement b) cs × In (child Class.Statement c) cs
 KidsS cs (Y.While a b) = In (child Class.Expression a) cs × In (child Class.Statement b) cs
 
-first-argument : (a b : ℕ) → (a ≡ 0 → ⊥) → In (child Class.Expression a) (childIn Use.Argument a ++ childIn Use.Further b ++ [])
+first-argument : (a b : ℕ) → (a ≡ 0 → ⊥)
+    → In (child Class.Expression a) (childIn Use.Argument a ++ childIn Use.Further b ++ [])
 first-argument zero b n = absurd (n refl)
 first-argument (suc a) b n = first
 
-second-argument : (a b : ℕ) → (a ≡ 0 → ⊥) → (b ≡ 0 → ⊥) → In (child Class.Expression b) (childIn Use.Argument a ++ childIn Use.Further b ++ [])
+second-argument : (a b : ℕ) → (a ≡ 0 → ⊥) → (b ≡ 0 → ⊥)
+    → In (child Class.Expression b) (childIn Use.Argument a ++ childIn Use.Further b ++ [])
 second-argument zero b n o = absurd (n refl)
 second-argument (suc a) zero n o = absurd (o refl)
 second-argument (suc a) (suc b) n o = later first
 
-kids-statement : (f : Frame) (k : StatementKind) → KidsS (childrenAs (Statement k) f) (statementNodeOf k (f .s) (f .a) (f .b) (f .c))
+kids-statement : (f : Frame) (k : StatementKind)
+    → KidsS (childrenAs (Statement k) f) (statementNodeOf k (f .s) (f .a) (f .b) (f .c))
 kids-statement f S.Nothing = tt
 kids-statement f S.Then = (first, later first)
 kids-statement f S.DoAt = first
@@ -169,7 +176,8 @@ module _ (ws : List ℕ) (i : ℕ) (f : Frame) (n : StatementNode) where
   pub seq-a-in : (a b : ℕ) → WhereS (Y.Seq a b) (FrameIn ws a)
   seq-a-in a b h k e g = child-in g (its-kidsS h k e g .0)
 
-  pub seq-a-room : (m a b : ℕ) → WhereS (Y.Seq a b) (Room (framesOf ws) i m → Room (framesOf ws) a m)
+  pub seq-a-room : (m a b : ℕ)
+      → WhereS (Y.Seq a b) (Room (framesOf ws) i m → Room (framesOf ws) a m)
   seq-a-room m a b h k e g r = room-child r (its-kidsS h k e g .0)
 
   pub seq-b-falls : (t a b : ℕ) → WhereS (Y.Seq a b) (i ≡ t → b < t)
@@ -178,7 +186,8 @@ module _ (ws : List ℕ) (i : ℕ) (f : Frame) (n : StatementNode) where
   pub seq-b-in : (a b : ℕ) → WhereS (Y.Seq a b) (FrameIn ws b)
   seq-b-in a b h k e g = child-in g (its-kidsS h k e g .1)
 
-  pub seq-b-room : (m a b : ℕ) → WhereS (Y.Seq a b) (Room (framesOf ws) i m → Room (framesOf ws) b m)
+  pub seq-b-room : (m a b : ℕ)
+      → WhereS (Y.Seq a b) (Room (framesOf ws) i m → Room (framesOf ws) b m)
   seq-b-room m a b h k e g r = room-child r (its-kidsS h k e g .1)
 
   pub do-a-falls : (t : ℕ) (s : Place) (a : ℕ) → WhereS (Y.DoAt s a) (i ≡ t → a < t)
@@ -200,7 +209,8 @@ module _ (ws : List ℕ) (i : ℕ) (f : Frame) (n : StatementNode) where
   pub let-b-in : (a b : ℕ) → WhereS (Y.LetIn a b) (FrameIn ws b)
   let-b-in a b h k e g = child-in g (its-kidsS h k e g .1)
 
-  pub let-b-room : (m a b : ℕ) → WhereS (Y.LetIn a b) (Room (framesOf ws) i m → Room (framesOf ws) b (m + 1))
+  pub let-b-room : (m a b : ℕ)
+      → WhereS (Y.LetIn a b) (Room (framesOf ws) i m → Room (framesOf ws) b (m + 1))
   let-b-room m a b h k e g r = rw add-one (room-more r (its-kidsS h k e g .1))
 
   -- the variable of a let finds room
@@ -228,7 +238,8 @@ module _ (ws : List ℕ) (i : ℕ) (f : Frame) (n : StatementNode) where
   pub if-b-in : (a b c : ℕ) → WhereS (Y.IfElse a b c) (FrameIn ws b)
   if-b-in a b c h k e g = child-in g (its-kidsS h k e g .1)
 
-  pub if-b-room : (m a b c : ℕ) → WhereS (Y.IfElse a b c) (Room (framesOf ws) i m → Room (framesOf ws) b m)
+  pub if-b-room : (m a b c : ℕ)
+      → WhereS (Y.IfElse a b c) (Room (framesOf ws) i m → Room (framesOf ws) b m)
   if-b-room m a b c h k e g r = room-child r (its-kidsS h k e g .1)
 
   pub if-c-falls : (t a b c : ℕ) → WhereS (Y.IfElse a b c) (i ≡ t → c < t)
@@ -237,7 +248,8 @@ module _ (ws : List ℕ) (i : ℕ) (f : Frame) (n : StatementNode) where
   pub if-c-in : (a b c : ℕ) → WhereS (Y.IfElse a b c) (FrameIn ws c)
   if-c-in a b c h k e g = child-in g (its-kidsS h k e g .2)
 
-  pub if-c-room : (m a b c : ℕ) → WhereS (Y.IfElse a b c) (Room (framesOf ws) i m → Room (framesOf ws) c m)
+  pub if-c-room : (m a b c : ℕ)
+      → WhereS (Y.IfElse a b c) (Room (framesOf ws) i m → Room (framesOf ws) c m)
   if-c-room m a b c h k e g r = room-child r (its-kidsS h k e g .2)
 
   pub while-a-in : (a b : ℕ) → WhereS (Y.While a b) (FrameIn ws a)
@@ -249,7 +261,8 @@ module _ (ws : List ℕ) (i : ℕ) (f : Frame) (n : StatementNode) where
   pub while-b-in : (a b : ℕ) → WhereS (Y.While a b) (FrameIn ws b)
   while-b-in a b h k e g = child-in g (its-kidsS h k e g .1)
 
-  pub while-b-room : (m a b : ℕ) → WhereS (Y.While a b) (Room (framesOf ws) i m → Room (framesOf ws) b m)
+  pub while-b-room : (m a b : ℕ)
+      → WhereS (Y.While a b) (Room (framesOf ws) i m → Room (framesOf ws) b m)
   while-b-room m a b h k e g r = room-child r (its-kidsS h k e g .1)
 
   pub start-first : (s a b : ℕ) → WhereS (Y.Start s a b) ((a ≡ 0 → ⊥) → a < i)

@@ -19,7 +19,8 @@ use Rattle.language.specs.declared.verdict.Verdict.{Verdict}
 use Rattle.language.specs.declared.verdict.Verdict.the-variants.{Accepted, Rejected}
 use Rattle.language.specs.declared.kind.Class.{Class}
 use Rattle.language.specs.declared.kind.Kind.{Kind}
-use Rattle.language.specs.declared.kind.Kind.the-variants.{Header, Declared, Module, Statement, Expression, Unknown}
+use Rattle.language.specs.declared.kind.Kind.the-variants.{Header, Declared, Module, Statement}
+use Rattle.language.specs.declared.kind.Kind.the-variants.{Expression, Unknown}
 use Rattle.language.specs.declared.frame.Frame.{Frame}
 use Rattle.language.specs.Refusals.{wrongEffect}
 use Rattle.text.specs.Frames.{frameOfWord, framesOf}
@@ -41,10 +42,12 @@ use Rattle.rules.specs.declared.finding.Conduct.the-variants.{Does, Fails}
 use Rattle.checker.proofs.FineFrames.{few-modules, few-parameters}
 
 -- ---- 'main has an effect within {2}'
-pub main-within : (i : ℕ) (e : Effect) (x : Bool) → x ≡ within 2 e → x ≡ true → Accepted ≡ mainRule i e
+pub main-within : (i : ℕ) (e : Effect) (x : Bool) → x ≡ within 2 e → x ≡ true
+    → Accepted ≡ mainRule i e
 main-within i e x h k = yes (Rejected wrongEffect i) (sym h ∙ k) refl
 
-pub main-outside : (i : ℕ) (e : Effect) (x : Bool) → x ≡ within 2 e → x ≡ false → Rejected wrongEffect i ≡ mainRule i e
+pub main-outside : (i : ℕ) (e : Effect) (x : Bool) → x ≡ within 2 e → x ≡ false
+    → Rejected wrongEffect i ≡ mainRule i e
 main-outside i e x h k = no Accepted (sym h ∙ k) refl
 
 pub ruleset main-laws = (main-within, main-outside)
@@ -56,11 +59,13 @@ abbrev partsFrom : List Frame → ℕ → List Part
 partsFrom fs k = modulesFrom fs k (drop k fs)
 
 module _ (fs : List Frame) where
-  from : (k : ℕ) → k < length fs → partsFrom fs k ≡ withPart fs k (frameAt fs k) (frameAt fs k .kind) (partsFrom fs (suc k))
+  from : (k : ℕ) → k < length fs
+      → partsFrom fs k ≡ withPart fs k (frameAt fs k) (frameAt fs k .kind) (partsFrom fs (suc k))
   unfolding modulesFrom
   from k h = ap (modulesFrom fs k) (drop-cons fs k noFrame h)
 
-  no-part : (k : ℕ) (f : Frame) (q : Kind) (ps : List Part) → isModule q ≡ false → withPart fs k f q ps ≡ ps
+  no-part : (k : ℕ) (f : Frame) (q : Kind) (ps : List Part) → isModule q ≡ false
+      → withPart fs k f q ps ≡ ps
   no-part k f Header ps h = refl
   no-part k f (Declared d) ps h = refl
   no-part k f Module ps h = absurd (true≢false h)
@@ -68,10 +73,13 @@ module _ (fs : List Frame) where
   no-part k f (Expression s) ps h = refl
   no-part k f Unknown ps h = refl
 
-  part-at : (k : ℕ) → k < length fs → frameAt fs k .kind ≡ Module → partsFrom fs k ≡ partOf fs k (frameAt fs k) ∷ partsFrom fs (suc k)
-  part-at k h e = from k h ∙ ap (λ (q : Kind). withPart fs k (frameAt fs k) q (partsFrom fs (suc k))) e
+  part-at : (k : ℕ) → k < length fs → frameAt fs k .kind ≡ Module
+      → partsFrom fs k ≡ partOf fs k (frameAt fs k) ∷ partsFrom fs (suc k)
+  part-at k h e =
+      from k h ∙ ap (λ (q : Kind). withPart fs k (frameAt fs k) q (partsFrom fs (suc k))) e
 
-  skip : (k : ℕ) → k < length fs → isModule (frameAt fs k .kind) ≡ false → partsFrom fs k ≡ partsFrom fs (suc k)
+  skip : (k : ℕ) → k < length fs → isModule (frameAt fs k .kind) ≡ false
+      → partsFrom fs k ≡ partsFrom fs (suc k)
   skip k h e = from k h ∙ no-part k (frameAt fs k) (frameAt fs k .kind) (partsFrom fs (suc k)) e
 
 -- the next module at frame k or behind it
@@ -189,9 +197,13 @@ take-two (suc (suc zero)) b c l h = refl
 take-two (suc (suc (suc s))) b c l h = absurd (omega arith)
 
 pub conduct-is : (env : Setting) (below ws : List ℕ) (f : Frame) (m : ℕ) (r : Conduct) → f .s ≤ 2
-    → r ≡ runIn env (map signatureOf (take m below)) (take (f .s) (set (set (replicate 25 0) 0 (f .b)) 1 (f .c))) linked (statementAt (framesOf ws) (f .a))
-    → r ≡ runIn env (map signatureOf (take m below)) (take (f .s) (f .b ∷ f .c ∷ [])) linked (statementAt (framesOf ws) (f .a))
-conduct-is env below ws f m r h e = e ∙ ap (λ (Γ : List ℕ). runIn env (map signatureOf (take m below)) Γ linked (statementAt (framesOf ws) (f .a))) (take-two (f .s) (f .b) (f .c) (replicate 23 0) h)
+    → r
+    ≡ runIn env (map signatureOf (take m below)) (take (f .s) (set (set (replicate 25 0) 0 (f .b)) 1 (f .c))) linked (statementAt (framesOf ws) (f .a))
+    → r
+    ≡ runIn env (map signatureOf (take m below)) (take (f .s) (f .b ∷ f .c ∷ [])) linked (statementAt (framesOf ws) (f .a))
+conduct-is env below ws f m r h e =
+    e
+    ∙ ap (λ (Γ : List ℕ). runIn env (map signatureOf (take m below)) Γ linked (statementAt (framesOf ws) (f .a))) (take-two (f .s) (f .b) (f .c) (replicate 23 0) h)
 
 -- ---- the loop over modules
 
@@ -201,10 +213,12 @@ module _ (rest : List Signature → Verdict) (below : List Signature) (p : Part)
   after-fails [] n j = refl
   after-fails (q ∷ qs) n j = refl
 
-  after-last : {ms : List Part} (e : Effect) (b : Bool) → ms ≡ [] → afterModule rest below p ms (Does e b) ≡ mainRule (p .frame) e
+  after-last : {ms : List Part} (e : Effect) (b : Bool) → ms ≡ []
+      → afterModule rest below p ms (Does e b) ≡ mainRule (p .frame) e
   after-last e b h = ap (λ (ns : List Part). afterModule rest below p ns (Does e b)) h
 
-  after-earlier : {q : Part} {ms qs : List Part} (e : Effect) (b : Bool) → ms ≡ q ∷ qs → afterModule rest below p ms (Does e b) ≡ rest (below ++ (signature p e ∷ []))
+  after-earlier : {q : Part} {ms qs : List Part} (e : Effect) (b : Bool) → ms ≡ q ∷ qs
+      → afterModule rest below p ms (Does e b) ≡ rest (below ++ (signature p e ∷ []))
   after-earlier e b h = ap (λ (ns : List Part). afterModule rest below p ns (Does e b)) h
 
 -- what the rules say of all modules of the file
@@ -218,7 +232,8 @@ pub record Judging (env : Setting) (ws below : List ℕ) (m i : ℕ) : Type 0 wh
   pub module-at : frameAt (framesOf ws) i .kind ≡ Module
   pub count : m ≡ countOf isModule (take i (framesOf ws))
   pub wide : length below ≡ 16
-  pub rest : modulesIn env (map signatureOf (take m below)) (partsFrom (framesOf ws) i) ≡ allModules env ws
+  pub rest : modulesIn env (map signatureOf (take m below)) (partsFrom (framesOf ws) i)
+      ≡ allModules env ws
 
 pub file-first : (ws : List ℕ) → FileIn ws → FrameIn ws 0
 file-first ws g = record { laid-out = g .laid-out; there = g .some; few = g .few }
@@ -251,7 +266,10 @@ module _ (env : Setting) (ws below : List ℕ) (m i : ℕ) (j : Judging env ws b
   judge-next h = record { laid-out = j .file .laid-out; there = h; few = j .file .few }
 
   pub judge-few : m < 16
-  judge-few = let c = j .count in let k = few-modules (framesOf ws) (j .file .laid-out) i inside-fs (j .module-at) in omega arith
+  judge-few =
+      let c = j .count in
+      let k = few-modules (framesOf ws) (j .file .laid-out) i inside-fs (j .module-at) in
+      omega arith
 
   pub judge-most : m ≤ 16
   judge-most = let h = judge-few in omega arith
@@ -280,7 +298,9 @@ module _ (env : Setting) (ws below : List ℕ) (m i : ℕ) (j : Judging env ws b
   later = partsFrom (framesOf ws) (suc i)
 
   module _ (f : Frame) (c : Conduct) (q : f ≡ frameAt (framesOf ws) i) (k : c ≡ runIn env (map signatureOf (take m below)) (take (f .s) (f .b ∷ f .c ∷ [])) linked (statementAt (framesOf ws) (f .a))) where
-    by-body : (v : Conduct) → c ≡ v → afterModule (λ sigs. modulesIn env sigs later) known (partOf (framesOf ws) i f) later v ≡ allModules env ws
+    by-body : (v : Conduct) → c ≡ v
+        → afterModule (λ sigs. modulesIn env sigs later) known (partOf (framesOf ws) i f) later v
+        ≡ allModules env ws
     unfolding modulesIn
     by-body v h =
         ap (afterModule (λ sigs. modulesIn env sigs later) known (partOf (framesOf ws) i f) later) (sym h ∙ k)
@@ -289,9 +309,12 @@ module _ (env : Setting) (ws below : List ℕ) (m i : ℕ) (j : Judging env ws b
         ∙ j .rest
 
     pub judge-fails : (n o : ℕ) → c ≡ Fails n o → Rejected n o ≡ allModules env ws
-    judge-fails n o h = sym (after-fails (λ sigs. modulesIn env sigs later) known (partOf (framesOf ws) i f) later n o) ∙ by-body (Fails n o) h
+    judge-fails n o h =
+        sym (after-fails (λ sigs. modulesIn env sigs later) known (partOf (framesOf ws) i f) later n o)
+        ∙ by-body (Fails n o) h
 
-    pub judge-main : (e : Effect) (b : Bool) (r : Verdict) → c ≡ Does e b → length ws ≤ i + 1 → r ≡ mainRule i e → r ≡ allModules env ws
+    pub judge-main : (e : Effect) (b : Bool) (r : Verdict) → c ≡ Does e b → length ws ≤ i + 1
+        → r ≡ mainRule i e → r ≡ allModules env ws
     unfolding modulesFrom
     judge-main e b r h l d =
         let z : later ≡ [] = ap (modulesFrom (framesOf ws) (suc i)) (drop-of-length-le (framesOf ws) {i = suc i} (rw length-map (omega arith))) in
@@ -312,9 +335,17 @@ module _ (env : Setting) (ws below : List ℕ) (m i : ℕ) (j : Judging env ws b
           file = j .file;
           there = n .there;
           module-at = n .is;
-          count = ap (λ (x : ℕ). x + 1) (j .count) ∙ sym (counted-one isModule (take i (framesOf ws)) (frameAt (framesOf ws) i) (ap isModule (j .module-at))) ∙ ap (countOf isModule) (sym (take-suc (framesOf ws) i noFrame inside-fs)) ∙ ap (λ (x : ℕ). countOf isModule (take x (framesOf ws))) (sym (add-one i)) ∙ n .count;
+          count =
+              ap (λ (x : ℕ). x + 1) (j .count)
+              ∙ sym (counted-one isModule (take i (framesOf ws)) (frameAt (framesOf ws) i) (ap isModule (j .module-at)))
+              ∙ ap (countOf isModule) (sym (take-suc (framesOf ws) i noFrame inside-fs))
+              ∙ ap (λ (x : ℕ). countOf isModule (take x (framesOf ws))) (sym (add-one i))
+              ∙ n .count;
           wide = length-set below m w ∙ j .wide;
-          rest = ap₂ (modulesIn env) sigs (sym next) ∙ sym (after-earlier (λ sigs. modulesIn env sigs later) known (partOf (framesOf ws) i f) e b head) ∙ by-body (Does e b) h;
+          rest =
+              ap₂ (modulesIn env) sigs (sym next)
+              ∙ sym (after-earlier (λ sigs. modulesIn env sigs later) known (partOf (framesOf ws) i f) e b head)
+              ∙ by-body (Does e b) h;
         }
 
   pub judge-falls : (r : ℕ) → r ≡ nextFrom ws (i + 1) → i + 1 < length ws

@@ -1,4 +1,5 @@
--- What the rules find of an expression, from the node at its root and what they find of its operands: one law for each arm of `type_of`. Assumes nothing.
+-- What the rules find of an expression, from the node at its root and what they find of its
+-- operands: one law for each arm of `type_of`. Assumes nothing.
 use mathlib.Core.Path.{_≡_, refl, sym, ap, _∙_}
 use mathlib.Core.List.{List}
 use Prim.Native.Nat.{ℕ}
@@ -9,7 +10,8 @@ use Rattle.program.specs.declared.node.Leaf.{Leaf}
 use Rattle.program.specs.declared.node.CellUse.{CellUse}
 use Rattle.program.specs.declared.node.Operator.{Operator}
 use Rattle.program.specs.declared.node.ExpressionNode.{ExpressionNode}
-use Rattle.program.specs.declared.node.ExpressionNode.the-variants.{Plain, OfValue, OfNumbers, Choose}
+use Rattle.program.specs.declared.node.ExpressionNode.the-variants.{Plain, OfValue, OfNumbers}
+use Rattle.program.specs.declared.node.ExpressionNode.the-variants.{Choose}
 use Rattle.program.proofs.NodeTrees.{treeOf, tree-at}
 use Rattle.rules.specs.inner.Checking.{numbersRule, chooseRule, typeIn}
 use Rattle.rules.specs.inner.NodeRules.{leafRule, cellRule, madeBy}
@@ -49,7 +51,8 @@ module _ (cells Γ ws : List ℕ) (i : ℕ) (f : Frame) (n : ExpressionNode) whe
   abbrev T : ℕ → Typing → Type 0
   T a x = x ≡ TypeAt cells Γ ws a
 
-  by-node : (v : ExpressionNode) (r : Typing) → Where v (r ≡ typeBy (TypeAt cells Γ ws) cells Γ i v → T i r)
+  by-node : (v : ExpressionNode) (r : Typing)
+      → Where v (r ≡ typeBy (TypeAt cells Γ ws) cells Γ i v → T i r)
   by-node v r h k e g z =
       let here = sym (expression-here ws i f n v h k e g) in
       z

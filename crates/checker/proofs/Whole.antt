@@ -1,4 +1,5 @@
--- The theorem: the computed verdict is the one that the rules give, and the only one. Assumes nothing.
+-- The theorem: the computed verdict is the one that the rules give, and the only one. Assumes
+-- nothing.
 use mathlib.Core.Path.{_≡_, refl, sym, ap, _∙_}
 use mathlib.Core.List.{List}
 use Prim.Native.Nat.{ℕ, _<_}
@@ -40,11 +41,13 @@ verdictOf fs r = afterLayout (λ n j. Rejected n j) (rulesOf (programOf fs)) r
 abbrev verdictRead : Reading → Verdict
 verdictRead r = afterReading (λ n j. Rejected n j) (λ fs. rulesOf (programOf fs)) r
 
-says-rules : {bs : List ℕ} (fs : List Frame) → Reads bs (frames fs) → NoFault fs → (r : Verdict) → RulesSay (programOf fs) r → HasVerdict bs r
+says-rules : {bs : List ℕ} (fs : List Frame) → Reads bs (frames fs) → NoFault fs → (r : Verdict)
+    → RulesSay (programOf fs) r → HasVerdict bs r
 says-rules fs h n Accepted k = HasVerdict.accepted h n k
 says-rules fs h n (Rejected m j) k = HasVerdict.rules h n k
 
-says-layout : {bs : List ℕ} (fs : List Frame) → Reads bs (frames fs) → (r : Verdict) → LayoutSays fs r → HasVerdict bs (verdictOf fs r)
+says-layout : {bs : List ℕ} (fs : List Frame) → Reads bs (frames fs) → (r : Verdict)
+    → LayoutSays fs r → HasVerdict bs (verdictOf fs r)
 says-layout fs h Accepted n = says-rules fs h n _ (rules-hold fs (some-frame h refl) n)
 says-layout fs h (Rejected n j) f = HasVerdict.layout h f
 
@@ -53,18 +56,24 @@ says-reading (frames fs) h = says-layout fs h (layoutOf fs) (layout-says fs (som
 says-reading (refused n j) h = HasVerdict.text h
 
 -- ---- and any verdict is the computed one
-layout-is : {bs : List ℕ} (fs : List Frame) → Reads bs (frames fs) → (r : Verdict) → LayoutSays fs r → layoutOf fs ≡ r
+layout-is : {bs : List ℕ} (fs : List Frame) → Reads bs (frames fs) → (r : Verdict) → LayoutSays fs r
+    → layoutOf fs ≡ r
 layout-is fs g r h = layout-one fs (layoutOf fs) r (layout-says fs (some-frame g refl)) h
 
 -- where the text reads as fs and the layout says v
-by-layout : {bs : List ℕ} {fs : List Frame} (r : Reading) → Reads bs r → Reads bs (frames fs) → (v : Verdict) → LayoutSays fs v → verdictOf fs v ≡ verdictRead r
-by-layout {fs = fs} r h g v l = sym (ap (verdictOf fs) (layout-is fs g v l)) ∙ ap verdictRead (reads-one g h)
+by-layout : {bs : List ℕ} {fs : List Frame} (r : Reading) → Reads bs r → Reads bs (frames fs)
+    → (v : Verdict) → LayoutSays fs v → verdictOf fs v ≡ verdictRead r
+by-layout {fs =
+    fs} r h g v l = sym (ap (verdictOf fs) (layout-is fs g v l)) ∙ ap verdictRead (reads-one g h)
 
-only-reading : {bs : List ℕ} (r : Reading) → Reads bs r → (other : Verdict) → HasVerdict bs other → other ≡ verdictRead r
+only-reading : {bs : List ℕ} (r : Reading) → Reads bs r → (other : Verdict) → HasVerdict bs other
+    → other ≡ verdictRead r
 only-reading r h _ (HasVerdict.text g) = ap verdictRead (reads-one g h)
 only-reading r h (Rejected n j) (HasVerdict.layout g f) = by-layout r h g (Rejected n j) f
-only-reading r h (Rejected n j) (HasVerdict.rules {fs = fs} g m f) = rules-alone fs (some-frame g refl) m (Rejected n j) f ∙ by-layout r h g Accepted m
-only-reading r h Accepted (HasVerdict.accepted {fs = fs} g m f) = rules-alone fs (some-frame g refl) m Accepted f ∙ by-layout r h g Accepted m
+only-reading r h (Rejected n j) (HasVerdict.rules {fs =
+    fs} g m f) = rules-alone fs (some-frame g refl) m (Rejected n j) f ∙ by-layout r h g Accepted m
+only-reading r h Accepted (HasVerdict.accepted {fs =
+    fs} g m f) = rules-alone fs (some-frame g refl) m Accepted f ∙ by-layout r h g Accepted m
 
 pub verdict-computes : VerdictComputes
 unfolding verdict

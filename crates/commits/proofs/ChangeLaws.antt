@@ -1,4 +1,5 @@
--- A thread's change made where its words lie: what each write of crate commits' `change` leaves is the changed thread, put back in its words. Assumes nothing.
+-- A thread's change made where its words lie: what each write of crate commits' `change` leaves is
+-- the changed thread, put back in its words. Assumes nothing.
 use Prim.Native.Nat.{ℕ, _+_, _*_, _-_, _^_, _<_, _≤_}
 use mathlib.Core.Path.{_≡_, refl, sym, ap, _∙_, subst}
 use mathlib.Core.List.{List}
@@ -19,13 +20,16 @@ use Rattle.states.specs.inner.Threads.{threadIn, putThread}
 use Rattle.states.specs.inner.Stacks.{pushItem, popItem, pushValue, popValue, moveTo, ended}
 use Rattle.states.proofs.ThreadSays.{fields-path}
 use Rattle.states.proofs.ThreadLaws.{Wide, in-wide, put-read, put-same, put-then}
-use Rattle.states.proofs.StackWords.{push-item-wide, pop-item-wide, push-value-wide, pop-value-wide, move-wide, ended-wide}
+use Rattle.states.proofs.StackWords.{push-item-wide, pop-item-wide, push-value-wide, pop-value-wide}
+use Rattle.states.proofs.StackWords.{move-wide, ended-wide}
 use Rattle.acts.specs.declared.act.Change.{Change}
-use Rattle.acts.specs.declared.act.Change.the-variants.{Same, Item, Items, Let, Drop, Move, Enter, End}
+use Rattle.acts.specs.declared.act.Change.the-variants.{Same, Item, Items, Let, Drop, Move, Enter}
+use Rattle.acts.specs.declared.act.Change.the-variants.{End}
 use Rattle.acts.specs.inner.Fates.{changed, popped, Room}
 use Rattle.commits.specs.inner.Commits.{placeAfter}
 
--- ---- the thread without its top item, and the changed one: their spaces stay full, the counts and the place
+-- ---- the thread without its top item, and the changed one: their spaces stay full, the counts and
+-- the place
 pub popped-wide : (x : ThreadWords) → Wide x → Wide (popped x)
 unfolding popped
 popped-wide x h = if-all Wide (eqb (x .items) 0) x (popItem x) (λ _. h) (λ _. pop-item-wide x h)
@@ -33,7 +37,8 @@ popped-wide x h = if-all Wide (eqb (x .items) 0) x (popItem x) (λ _. h) (λ _. 
 pub changed-wide : (c : Change) (x : ThreadWords) → Wide x → Wide (changed c x)
 changed-wide Same x h = h
 changed-wide (Item a) x h = push-item-wide a x h
-changed-wide (Items top below) x h = push-item-wide top (pushItem below x) (push-item-wide below x h)
+changed-wide (Items top below) x h =
+    push-item-wide top (pushItem below x) (push-item-wide below x h)
 changed-wide (Let value body) x h = push-item-wide body (pushItem 2048 (pushValue value x)) (push-item-wide 2048 (pushValue value x) (push-value-wide value x h))
 changed-wide Drop x h = pop-value-wide x h
 changed-wide (Move q) x h = move-wide (q .number) x h
@@ -82,9 +87,12 @@ back-fits n h = let z = fits-byte n h in omega arith
 module _ (w : List ℕ) (k : ℕ) (all : length w ≡ 4818) (room : k < 64) where
   pub taken-none : getD w (1042 + 55 * k + 3) 0 ≡ 0 → w ≡ putThread w k (popped (threadIn w k))
   unfolding popped
-  taken-none e = sym (put-same w k all room) ∙ ap (putThread w k) (yes _ (eq-eqb (getD w (1042 + 55 * k + 3) 0) 0 e) refl)
+  taken-none e =
+      sym (put-same w k all room)
+      ∙ ap (putThread w k) (yes _ (eq-eqb (getD w (1042 + 55 * k + 3) 0) 0 e) refl)
 
-  pub taken : (v : List ℕ) → v ≡ putThread w k (popItem (threadIn w k)) → (getD w (1042 + 55 * k + 3) 0 ≡ 0 → ⊥) → v ≡ putThread w k (popped (threadIn w k))
+  pub taken : (v : List ℕ) → v ≡ putThread w k (popItem (threadIn w k))
+      → (getD w (1042 + 55 * k + 3) 0 ≡ 0 → ⊥) → v ≡ putThread w k (popped (threadIn w k))
   unfolding popped
   taken v q e = q ∙ ap (putThread w k) (no _ (ne-eqb (getD w (1042 + 55 * k + 3) 0) 0 e) refl)
 
@@ -98,9 +106,12 @@ module _ (w : List ℕ) (k : ℕ) (all : length w ≡ 4818) (room : k < 64) wher
   module _ (v : List ℕ) (below : ℕ) (e : v ≡ putThread w k (pushItem below (threadIn w k))) where
     pub pushed-two-room : threadIn w k .items < 24 → threadIn v k .items < 25
     unfolding pushItem
-    pushed-two-room h = let z : threadIn v k .items ≡ threadIn w k .items + 1 = ap (λ (y : ThreadWords). y .items) (put-back v (pushItem below (threadIn w k)) (pushed-wide below) e) in omega arith
+    pushed-two-room h =
+        let z : threadIn v k .items ≡ threadIn w k .items + 1 = ap (λ (y : ThreadWords). y .items) (put-back v (pushItem below (threadIn w k)) (pushed-wide below) e) in
+        omega arith
 
-    pub pushed-two : (u : List ℕ) (top : ℕ) → u ≡ putThread v k (pushItem top (threadIn v k)) → u ≡ putThread w k (pushItem top (pushItem below (threadIn w k)))
+    pub pushed-two : (u : List ℕ) (top : ℕ) → u ≡ putThread v k (pushItem top (threadIn v k))
+        → u ≡ putThread w k (pushItem top (pushItem below (threadIn w k)))
     pushed-two u top q = put-then w k all room v u (pushItem below (threadIn w k)) (pushItem top) (pushed-wide below) (push-item-wide top (pushItem below (threadIn w k)) (pushed-wide below)) e q
 
   module _ (v : List ℕ) (value : ℕ) (e : v ≡ putThread w k (pushValue value (threadIn w k))) where
@@ -109,9 +120,13 @@ module _ (w : List ℕ) (k : ℕ) (all : length w ≡ 4818) (room : k < 64) wher
 
     pub pushed-let-room : threadIn w k .items < 24 → threadIn v k .items < 24
     unfolding pushValue
-    pushed-let-room h = let z : threadIn v k .items ≡ threadIn w k .items = ap (λ (y : ThreadWords). y .items) (put-back v (pushValue value (threadIn w k)) value-wide e) in omega arith
+    pushed-let-room h =
+        let z : threadIn v k .items ≡ threadIn w k .items = ap (λ (y : ThreadWords). y .items) (put-back v (pushValue value (threadIn w k)) value-wide e) in
+        omega arith
 
-    pub pushed-let : (u : List ℕ) (body : ℕ) → u ≡ putThread v k (pushItem body (pushItem 2048 (threadIn v k))) → u ≡ putThread w k (changed (Let value body) (threadIn w k))
+    pub pushed-let : (u : List ℕ) (body : ℕ)
+        → u ≡ putThread v k (pushItem body (pushItem 2048 (threadIn v k)))
+        → u ≡ putThread w k (changed (Let value body) (threadIn w k))
     pushed-let u body q = put-then w k all room v u (pushValue value (threadIn w k)) (λ (y : ThreadWords). pushItem body (pushItem 2048 y)) value-wide
         (changed-wide (Let value body) (threadIn w k) (in-wide w k all room)) e q
 
@@ -128,10 +143,14 @@ module _ (w : List ℕ) (k : ℕ) (all : length w ≡ 4818) (room : k < 64) wher
 
 -- ---- each arm of `change_thread`: the change that the match has found is the one asked for
 module _ (w : List ℕ) (k : ℕ) (c : Change) where
-  pub change-same : c ≡ Same → length w ≡ 4818 → k < 64 → w ≡ putThread w k (changed c (threadIn w k))
-  change-same e all room = sym (put-same w k all room) ∙ ap (λ (d : Change). putThread w k (changed d (threadIn w k))) (sym e)
+  pub change-same : c ≡ Same → length w ≡ 4818 → k < 64
+      → w ≡ putThread w k (changed c (threadIn w k))
+  change-same e all room =
+      sym (put-same w k all room)
+      ∙ ap (λ (d : Change). putThread w k (changed d (threadIn w k))) (sym e)
 
-  pub change-made : (v : List ℕ) (d : Change) → c ≡ d → v ≡ putThread w k (changed d (threadIn w k)) → v ≡ putThread w k (changed c (threadIn w k))
+  pub change-made : (v : List ℕ) (d : Change) → c ≡ d → v ≡ putThread w k (changed d (threadIn w k))
+      → v ≡ putThread w k (changed c (threadIn w k))
   change-made v d e f = f ∙ ap (λ (b : Change). putThread w k (changed b (threadIn w k))) (sym e)
 
 pub ruleset change-laws = (change-same, change-made)
@@ -162,7 +181,8 @@ module _ (c : Change) (i n : ℕ) where
 pub ruleset change-room = (room-item, room-items, room-let, room-value, room-drop, room-enter)
 
 -- ---- words that agree from the first thread's to the last one's have the same threads
-pub same-thread : (w v : List ℕ) (k : ℕ) → k < 64 → length w ≡ 4818 → length v ≡ 4818 → ((i : ℕ) → 1042 ≤ i → i < 4562 → getD v i 0 ≡ getD w i 0) → threadIn v k ≡ threadIn w k
+pub same-thread : (w v : List ℕ) (k : ℕ) → k < 64 → length w ≡ 4818 → length v ≡ 4818
+    → ((i : ℕ) → 1042 ≤ i → i < 4562 → getD v i 0 ≡ getD w i 0) → threadIn v k ≡ threadIn w k
 same-thread w v k l a b f = fields-path (threadIn v k) (threadIn w k)
     (f (1042 + 55 * k) (omega arith) (omega arith))
     (f (1042 + 55 * k + 1) (omega arith) (omega arith))

@@ -1,4 +1,5 @@
--- On words that hold cells, the evaluator's recursion gives what `eval` gives on the cells (`agree`), and so do the contracts of `evaluate` and `store`. Assumes nothing.
+-- On words that hold cells, the evaluator's recursion gives what `eval` gives on the cells
+-- (`agree`), and so do the contracts of `evaluate` and `store`. Assumes nothing.
 use mathlib.Core.Path.{_≡_, refl, sym, ap, _∙_, subst}
 use mathlib.Core.List.{List, [], _∷_, map}
 use mathlib.Core.Bool.{Bool, true, false}
@@ -9,10 +10,14 @@ use lib.ListN.{length, getD, set, length-map, List·getD-map}
 use borrow.Author.Tests.{ltb-true, lt-ltb}
 use Rattle.basics.proofs.Ifs.{if-all, if-yes, if-no}
 use Rattle.text.specs.Frames.{framesOf}
-use Rattle.program.specs.Trees.{Expr, number, truth, variable, shared, new, content, sum, less, choose, expressionAt}
+use Rattle.program.specs.Trees.{Expr, number, truth, variable, shared, new, content, sum, less}
+use Rattle.program.specs.Trees.{choose, expressionAt}
 use Rattle.machine.specs.State.{Stored, cellAt, isUsed, freeNumber, usedCells}
 use Rattle.machine.specs.Evaluation as def
-use Rattle.machine.specs.Evaluation.{Here, Evaluated, Evaluation, gives, accessOf, accessing, atCell, isOwn, newOwner, readVariable, sharedCell, addCell, makeCell, readCell, storeCell, ofNumbers, plus, lessThan, byTruth, eval, storing, _>>=_}
+use Rattle.machine.specs.Evaluation.{Here, Evaluated, Evaluation, gives, accessOf, accessing}
+use Rattle.machine.specs.Evaluation.{atCell, isOwn, newOwner, readVariable, sharedCell, addCell}
+use Rattle.machine.specs.Evaluation.{makeCell, readCell, storeCell, ofNumbers, plus, lessThan}
+use Rattle.machine.specs.Evaluation.{byTruth, eval, storing, _>>=_}
 use Rattle.machine.specs.Words.{wordValue}
 use Rattle.machine.specs.declared.value.Value.{Value}
 use Rattle.machine.specs.declared.value.Value.the-variants.{Number, Truth, Cell}
@@ -23,14 +28,18 @@ use Rattle.machine.specs.Shapes.{ValueFits}
 use Rattle.machine.proofs.KeptCells.{OutcomeFits, is-value, is-foreign, is-spent, is-stuck}
 use Rattle.operations.specs.declared.Who.{Who}
 use Rattle.operations.specs.inner.Results.{Result, result, thenBy, andThen, keeping}
-use Rattle.evaluator.specs.inner.Results.{hereOf, resultOf, onWords, cellsFrom, CellWords, ValueWords}
-use Rattle.operations.specs.inner.ByWords.{valueIn, ownerIn, contentIn, cellOf, ownIn, newOwnerIn, variableIn, sharedIn, makeIn, accessIn, readIn, reading, storeIn, aTruth, chosen}
+use Rattle.evaluator.specs.inner.Results.{hereOf, resultOf, onWords, cellsFrom, CellWords}
+use Rattle.evaluator.specs.inner.Results.{ValueWords}
+use Rattle.operations.specs.inner.ByWords.{valueIn, ownerIn, contentIn, cellOf, ownIn, newOwnerIn}
+use Rattle.operations.specs.inner.ByWords.{variableIn, sharedIn, makeIn, accessIn, readIn, reading}
+use Rattle.operations.specs.inner.ByWords.{storeIn, aTruth, chosen}
 use Rattle.evaluator.specs.inner.ByWords.{numbersOf, aNumber, evalIn, storingIn}
 use Rattle.operations.proofs.Chains.{Refused, then-is, then-keeps}
 use Rattle.evaluator.proofs.Chains.{regroup}
 use Rattle.operations.proofs.WordLaws.{value-same, value-fits, owner-back, content-back}
 use Rattle.evaluator.proofs.SmallNumbers.{Small, small-at}
-use Rattle.evaluator.proofs.Holding.{Holds, holds-at, holds-from, holds-words, holds-push, holds-put}
+use Rattle.evaluator.proofs.Holding.{Holds, holds-at, holds-from, holds-words, holds-push}
+use Rattle.evaluator.proofs.Holding.{holds-put}
 
 -- what the recursion gives on words, and what the definition gives on cells
 record Agrees (l : Result) (r : Evaluated) : Type 0 where
@@ -42,15 +51,24 @@ record Agrees (l : Result) (r : Evaluated) : Type 0 where
 agree-left : {l k : Result} {r : Evaluated} → l ≡ k → Agrees k r → Agrees l r
 agree-left {r = r} e a = subst (λ (x : Result). Agrees x r) (sym e) a
 
-agree-at : (f : Value → ℕ → List ℕ → Result) (k : Value → Evaluation) (n : ℕ) (ws : List ℕ) (r : Evaluated) (o : Outcome) → r .outcome ≡ o → OutcomeFits o → Holds n ws (r .cells)
-    → ((v : Value) (m : ℕ) (us : List ℕ) (ds : List Stored) → ValueFits v → Holds m us ds → Agrees (f v m us) (k v ds)) → Agrees (thenBy o n ws f) (def.andThen k r o)
-agree-at f k n ws r (Is v) e (is-value w) h g = let a = g v n ws (r .cells) w h in record { outcome = a .outcome; cells = a .cells; fits = a .fits }
-agree-at f k n ws r Foreign e x h g = record { outcome = sym e; cells = h; fits = subst OutcomeFits (sym e) x }
-agree-at f k n ws r Spent e x h g = record { outcome = sym e; cells = h; fits = subst OutcomeFits (sym e) x }
-agree-at f k n ws r Stuck e x h g = record { outcome = sym e; cells = h; fits = subst OutcomeFits (sym e) x }
+agree-at : (f : Value → ℕ → List ℕ → Result) (k : Value → Evaluation) (n : ℕ) (ws : List ℕ) (r : Evaluated) (o : Outcome)
+    → r .outcome ≡ o → OutcomeFits o → Holds n ws (r .cells)
+    → ((v : Value) (m : ℕ) (us : List ℕ) (ds : List Stored) → ValueFits v → Holds m us ds → Agrees (f v m us) (k v ds))
+    → Agrees (thenBy o n ws f) (def.andThen k r o)
+agree-at f k n ws r (Is v) e (is-value w) h g =
+    let a = g v n ws (r .cells) w h in
+    record { outcome = a .outcome; cells = a .cells; fits = a .fits }
+agree-at f k n ws r Foreign e x h g =
+    record { outcome = sym e; cells = h; fits = subst OutcomeFits (sym e) x }
+agree-at f k n ws r Spent e x h g =
+    record { outcome = sym e; cells = h; fits = subst OutcomeFits (sym e) x }
+agree-at f k n ws r Stuck e x h g =
+    record { outcome = sym e; cells = h; fits = subst OutcomeFits (sym e) x }
 
-agree-then : (l : Result) (m : Evaluation) (f : Value → ℕ → List ℕ → Result) (k : Value → Evaluation) (cs : List Stored) → Agrees l (m cs)
-    → ((v : Value) (n : ℕ) (us : List ℕ) (ds : List Stored) → ValueFits v → Holds n us ds → Agrees (f v n us) (k v ds)) → Agrees (andThen l f) ((m >>= k) cs)
+agree-then : (l : Result) (m : Evaluation) (f : Value → ℕ → List ℕ → Result) (k : Value → Evaluation) (cs : List Stored)
+    → Agrees l (m cs)
+    → ((v : Value) (n : ℕ) (us : List ℕ) (ds : List Stored) → ValueFits v → Holds n us ds → Agrees (f v n us) (k v ds))
+    → Agrees (andThen l f) ((m >>= k) cs)
 agree-then l m f k cs a g =
     subst (λ (o : Outcome). Agrees (thenBy o (l .used) (l .words) f) (def.andThen k (m cs) (m cs .outcome))) (sym (a .outcome))
     (agree-at f k (l .used) (l .words) (m cs) (m cs .outcome) refl (a .fits) (a .cells) g)
@@ -72,7 +90,8 @@ module _ (who : Who) (vs : List ℕ) where
   -- the default of the one, the number 0, is the value of the default of the other, the word 0
   variable-at : (s : ℕ) → getD (map wordValue vs) s (Number 0) ≡ wordValue (getD vs s 0)
   unfolding wordValue
-  variable-at s = ap (getD (map wordValue vs) s) (sym (if-yes _ _ refl)) ∙ List·getD-map wordValue vs s 0
+  variable-at s =
+      ap (getD (map wordValue vs) s) (sym (if-yes _ _ refl)) ∙ List·getD-map wordValue vs s 0
 
   module _ (n : ℕ) (ws : List ℕ) (cs : List Stored) (holds : Holds n ws cs) where
     -- an outcome that changes no cell
@@ -87,7 +106,8 @@ module _ (who : Who) (vs : List ℕ) where
     in-use c b e = ap (ltb c) (holds .count) ∙ e
 
     -- ---- each kind of expression, behind its operands
-    agree-variable : (s : ℕ) → ValueWords vs → Agrees (result (variableIn vs s) n ws) (readVariable here s cs)
+    agree-variable : (s : ℕ) → ValueWords vs
+        → Agrees (result (variableIn vs s) n ws) (readVariable here s cs)
     unfolding readVariable variableIn
     agree-variable s w =
         if-all (λ (m : Evaluation). Agrees (result (variableIn vs s) n ws) (m cs)) (ltb s (length (map wordValue vs))) _ _
@@ -104,7 +124,8 @@ module _ (who : Who) (vs : List ℕ) where
         (λ e. agree-left (ap (λ (o : Outcome). result o n ws) (if-yes _ _ e)) (unchanged _ (is-value (shape.cell l))))
         (λ e. agree-left (ap (λ (o : Outcome). result o n ws) (if-no _ _ e)) stuck)
 
-    agree-make : (s : ℕ) (v : Value) → ValueFits v → Agrees (makeIn who s v n ws) (makeCell here s v cs)
+    agree-make : (s : ℕ) (v : Value) → ValueFits v
+        → Agrees (makeIn who s v n ws) (makeCell here s v cs)
     unfolding makeIn makeCell accessing addCell newOwnerIn newOwner
     agree-make s v f =
         if-all (λ (r : Evaluated). Agrees (makeIn who s v n ws) (def.after (accessOf here (freeNumber cs) o ∷ []) r)) (isOwn here o) _ _
@@ -125,12 +146,15 @@ module _ (who : Who) (vs : List ℕ) where
     -- at a cell that is there: the word's owner and content are the cell's
     module _ (c : ℕ) (l : c < length cs) where
       owner-at : ownerIn (getD ws c 0) ≡ cellAt cs c .owner
-      owner-at = ap ownerIn (holds-at n ws cs c holds l) ∙ owner-back (cellAt cs c) (holds .each c l)
+      owner-at =
+          ap ownerIn (holds-at n ws cs c holds l) ∙ owner-back (cellAt cs c) (holds .each c l)
 
       content-at : contentIn (getD ws c 0) ≡ cellAt cs c .content
-      content-at = ap contentIn (holds-at n ws cs c holds l) ∙ content-back (cellAt cs c) (holds .each c l)
+      content-at =
+          ap contentIn (holds-at n ws cs c holds l) ∙ content-back (cellAt cs c) (holds .each c l)
 
-      own-at : (b : Bool) → isOwn here (cellAt cs c .owner) ≡ b → ownIn who (ownerIn (getD ws c 0)) ≡ b
+      own-at : (b : Bool) → isOwn here (cellAt cs c .owner) ≡ b
+          → ownIn who (ownerIn (getD ws c 0)) ≡ b
       own-at b e = ap (ownIn who) owner-at ∙ own-same (cellAt cs c .owner) b e
 
     agree-read : (v : Value) → Agrees (reading who v n ws) (readCell here v cs)
@@ -146,7 +170,8 @@ module _ (who : Who) (vs : List ℕ) where
     agree-read (Number m) = stuck
     agree-read (Truth b) = stuck
 
-    agree-store : (v u : Value) → ValueFits u → Agrees (storeIn who v u n ws) (storeCell here v u cs)
+    agree-store : (v u : Value) → ValueFits u
+        → Agrees (storeIn who v u n ws) (storeCell here v u cs)
     unfolding storeIn storeCell atCell accessing
     agree-store (Cell c) u f =
         if-all (Agrees (storeIn who (Cell c) u n ws)) (isUsed cs c) _ _
@@ -159,7 +184,8 @@ module _ (who : Who) (vs : List ℕ) where
     agree-store (Number m) u f = stuck
     agree-store (Truth b) u f = stuck
 
-    agree-numbers : (g : ℕ → ℕ → Value) → ((a b : ℕ) → ValueFits (g a b)) → (v u : Value) → Agrees (keeping (numbersOf g v) u n ws) (ofNumbers g v u cs)
+    agree-numbers : (g : ℕ → ℕ → Value) → ((a b : ℕ) → ValueFits (g a b)) → (v u : Value)
+        → Agrees (keeping (numbersOf g v) u n ws) (ofNumbers g v u cs)
     unfolding ofNumbers
     agree-numbers g f (Number a) (Number b) = unchanged _ (is-value (f a b))
     agree-numbers g f (Number a) (Truth b) = stuck
@@ -174,22 +200,26 @@ module _ (who : Who) (vs : List ℕ) where
     agree-number (Cell c) f = stuck
 
   -- ---- 28
-  agree-choice : (t : Bool) (l k : Result) (m e : Evaluation) (cs : List Stored) → Agrees l (m cs) → Agrees k (e cs) → Agrees (chosen (Truth t) l k) (byTruth (Truth t) m e cs)
+  agree-choice : (t : Bool) (l k : Result) (m e : Evaluation) (cs : List Stored) → Agrees l (m cs)
+      → Agrees k (e cs) → Agrees (chosen (Truth t) l k) (byTruth (Truth t) m e cs)
   unfolding byTruth
   agree-choice true l k m e cs a b = agree-left (if-yes l k refl) a
   agree-choice false l k m e cs a b = agree-left (if-no l k refl) b
 
   -- a condition that is no truth is stuck: apart from `branches`, where `byTruth` stays folded
-  stuck-number : (k : ℕ) (y z : Evaluation) (m : ℕ) (us : List ℕ) (ds : List Stored) → Holds m us ds → Agrees (result Stuck m us) ((byTruth (Number k) y z >>= def.aNumber) ds)
+  stuck-number : (k : ℕ) (y z : Evaluation) (m : ℕ) (us : List ℕ) (ds : List Stored) → Holds m us ds
+      → Agrees (result Stuck m us) ((byTruth (Number k) y z >>= def.aNumber) ds)
   unfolding byTruth
   stuck-number k y z m us ds q = record { outcome = refl; cells = q; fits = is-stuck }
 
-  stuck-cell : (k : ℕ) (y z : Evaluation) (m : ℕ) (us : List ℕ) (ds : List Stored) → Holds m us ds → Agrees (result Stuck m us) ((byTruth (Cell k) y z >>= def.aNumber) ds)
+  stuck-cell : (k : ℕ) (y z : Evaluation) (m : ℕ) (us : List ℕ) (ds : List Stored) → Holds m us ds
+      → Agrees (result Stuck m us) ((byTruth (Cell k) y z >>= def.aNumber) ds)
   unfolding byTruth
   stuck-cell k y z m us ds q = record { outcome = refl; cells = q; fits = is-stuck }
 
   branches : (y z : Expr) (v : Value) (m : ℕ) (us : List ℕ) (ds : List Stored)
-      → Agrees (evalIn who vs y m us) (eval here y ds) → Agrees (evalIn who vs z m us) (eval here z ds) → Holds m us ds
+      → Agrees (evalIn who vs y m us) (eval here y ds)
+      → Agrees (evalIn who vs z m us) (eval here z ds) → Holds m us ds
       → Agrees (andThen (keeping aTruth v m us) (λ v m us. andThen (chosen v (evalIn who vs y m us) (evalIn who vs z m us)) (keeping aNumber)))
       ((byTruth v (eval here y) (eval here z) >>= def.aNumber) ds)
   branches y z (Truth t) m us ds a b q =
@@ -201,7 +231,8 @@ module _ (who : Who) (vs : List ℕ) where
 
   -- ---- the agreement
   module _ (w : ValueWords vs) where
-    agree : (x : Expr) (n : ℕ) (ws : List ℕ) (cs : List Stored) → Small x → Holds n ws cs → Agrees (evalIn who vs x n ws) (eval here x cs)
+    agree : (x : Expr) (n : ℕ) (ws : List ℕ) (cs : List Stored) → Small x → Holds n ws cs
+        → Agrees (evalIn who vs x n ws) (eval here x cs)
     unfolding evalIn eval
     agree (number i m) n ws cs s g = unchanged n ws cs g (Is (Number m)) (is-value (shape.number s))
     agree (truth i m) n ws cs s g = unchanged n ws cs g _ (is-value shape.truth)
@@ -223,7 +254,8 @@ module _ (who : Who) (vs : List ℕ) where
         agree-left (regroup (evalIn who vs x n ws) (keeping aTruth) (λ v m us. andThen (chosen v (evalIn who vs y m us) (evalIn who vs z m us)) (keeping aNumber)))
         (agree-then (evalIn who vs x n ws) (eval here x) _ _ cs (agree x n ws cs (s .0) g) (λ v m us ds f q. branches y z v m us ds (agree y m us ds (s .1) q) (agree z m us ds (s .2) q) q))
 
-    agree-storing : (x y : Expr) (n : ℕ) (ws : List ℕ) (cs : List Stored) → Small x → Small y → Holds n ws cs → Agrees (storingIn who vs x y n ws) (storing here x y cs)
+    agree-storing : (x y : Expr) (n : ℕ) (ws : List ℕ) (cs : List Stored) → Small x → Small y
+        → Holds n ws cs → Agrees (storingIn who vs x y n ws) (storing here x y cs)
     agree-storing x y n ws cs s t g =
         agree-then (evalIn who vs x n ws) (eval here x) _ _ cs (agree x n ws cs s g)
         (λ v m us ds f q. agree-then (evalIn who vs y m us) (eval here y) (storeIn who v) _ ds (agree y m us ds t q)
@@ -251,8 +283,10 @@ storing-on fw vs who a b n ws w g =
     equation _ _ (agree-storing who vs w (expressionAt (framesOf fw) a) (expressionAt (framesOf fw) b) n ws (cellsFrom n ws) (small-at fw a) (small-at fw b) (holds-from n ws g))
 
 -- ---- for a caller that goes on: what `evaluate` leaves may be lent again
-pub eval-leaves : (fw vs : List ℕ) (who : Who) (i n : ℕ) (ws : List ℕ) (x : Result) → ValueWords vs → CellWords n ws
-    → x ≡ onWords (eval (hereOf who vs) (expressionAt (framesOf fw) i)) n ws → CellWords (x .used) (x .words)
+pub eval-leaves : (fw vs : List ℕ) (who : Who) (i n : ℕ) (ws : List ℕ) (x : Result) → ValueWords vs
+    → CellWords n ws
+    → x ≡ onWords (eval (hereOf who vs) (expressionAt (framesOf fw) i)) n ws
+    → CellWords (x .used) (x .words)
 unfolding onWords
 eval-leaves fw vs who i n ws x w g e =
     let a = agree who vs w (expressionAt (framesOf fw) i) n ws (cellsFrom n ws) (small-at fw i) (holds-from n ws g) in
@@ -263,14 +297,21 @@ module _ (fw vs : List ℕ) (who : Who) (a b n : ℕ) (ws : List ℕ) (w : Value
   second : Value → ℕ → List ℕ → Result
   second v m us = andThen (evalIn who vs (expressionAt (framesOf fw) b) m us) (storeIn who v)
 
-  pub store-runs : (x y r : Result) (v : Value) → x ≡ evalIn who vs (expressionAt (framesOf fw) a) n ws → x .outcome ≡ Is v
-      → y ≡ evalIn who vs (expressionAt (framesOf fw) b) (x .used) (x .words) → r ≡ andThen y (storeIn who v)
-      → r ≡ onWords (storing (hereOf who vs) (expressionAt (framesOf fw) a) (expressionAt (framesOf fw) b)) n ws
+  pub store-runs : (x y r : Result) (v : Value)
+      → x ≡ evalIn who vs (expressionAt (framesOf fw) a) n ws → x .outcome ≡ Is v
+      → y ≡ evalIn who vs (expressionAt (framesOf fw) b) (x .used) (x .words)
+      → r ≡ andThen y (storeIn who v)
+      → r
+      ≡ onWords (storing (hereOf who vs) (expressionAt (framesOf fw) a) (expressionAt (framesOf fw) b)) n ws
   unfolding second
   store-runs x y r v e o k z =
       then-is x v second r o (z ∙ ap (λ (u : Result). andThen u (storeIn who v)) k) ∙ ap (λ (u : Result). andThen u second) e ∙ storing-on fw vs who a b n ws w g
 
-  pub store-keeps : (x : Result) (o : Outcome) → x ≡ evalIn who vs (expressionAt (framesOf fw) a) n ws → x .outcome ≡ o → Refused o
-      → x ≡ onWords (storing (hereOf who vs) (expressionAt (framesOf fw) a) (expressionAt (framesOf fw) b)) n ws
+  pub store-keeps : (x : Result) (o : Outcome)
+      → x ≡ evalIn who vs (expressionAt (framesOf fw) a) n ws → x .outcome ≡ o → Refused o
+      → x
+      ≡ onWords (storing (hereOf who vs) (expressionAt (framesOf fw) a) (expressionAt (framesOf fw) b)) n ws
   unfolding second
-  store-keeps x o e q t = then-keeps x second o q t ∙ ap (λ (u : Result). andThen u second) e ∙ storing-on fw vs who a b n ws w g
+  store-keeps x o e q t =
+      then-keeps x second o q t ∙ ap (λ (u : Result). andThen u second) e
+      ∙ storing-on fw vs who a b n ws w g

@@ -12,7 +12,8 @@ use Rattle.program.specs.declared.node.CellUse.the-variants.{Make, Read}
 use Rattle.program.specs.declared.node.Operator.{Operator}
 use Rattle.program.specs.declared.node.Operator.the-variants.{Sum, Less}
 use Rattle.program.specs.declared.node.ExpressionNode.{ExpressionNode}
-use Rattle.program.specs.declared.node.ExpressionNode.the-variants.{Plain, OfValue, OfNumbers, Choose}
+use Rattle.program.specs.declared.node.ExpressionNode.the-variants.{Plain, OfValue, OfNumbers}
+use Rattle.program.specs.declared.node.ExpressionNode.the-variants.{Choose}
 use Rattle.program.proofs.NodeTrees.{treeOf, tree-at}
 use Rattle.machine.specs.declared.value.Value.{Value}
 use Rattle.machine.specs.declared.value.Outcome.{Outcome}

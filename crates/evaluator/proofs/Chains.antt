@@ -1,4 +1,5 @@
--- One evaluation behind another, where a number or a truth is wanted: a value goes on, a refusal stands. Assumes nothing.
+-- One evaluation behind another, where a number or a truth is wanted: a value goes on, a refusal
+-- stands. Assumes nothing.
 use mathlib.Core.Path.{_≡_, refl, sym, ap, _∙_}
 use mathlib.Core.List.{List}
 use mathlib.Core.Bool.{true, false, true≢false, false≢true}
@@ -28,18 +29,23 @@ only-keeping Stuck k n ws = refl
 
 -- ---- chains of two
 -- a chain on the left is regrouped
-pub regroup : (l : Result) (f g : Value → ℕ → List ℕ → Result) → andThen (andThen l f) g ≡ andThen l (λ v n ws. andThen (f v n ws) g)
+pub regroup : (l : Result) (f g : Value → ℕ → List ℕ → Result)
+    → andThen (andThen l f) g ≡ andThen l (λ v n ws. andThen (f v n ws) g)
 regroup l f g = go (l .outcome)
   where
-    go : (o : Outcome) → andThen (thenBy o (l .used) (l .words) f) g ≡ thenBy o (l .used) (l .words) (λ v n ws. andThen (f v n ws) g)
+    go : (o : Outcome)
+        → andThen (thenBy o (l .used) (l .words) f) g
+        ≡ thenBy o (l .used) (l .words) (λ v n ws. andThen (f v n ws) g)
     go (Is v) = refl
     go Foreign = refl
     go Spent = refl
     go Stuck = refl
 
 -- ---- numbers that are wanted
--- what a number was wanted of has stopped exactly where its evaluation has, and its refusal is then the same
-stopped-then : (o : Outcome) (n : ℕ) (ws : List ℕ) (k : Value → ℕ → List ℕ → Result) → operandStops (operandOf o) ≡ true → result (outcomeOf (operandOf o)) n ws ≡ thenBy o n ws k
+-- what a number was wanted of has stopped exactly where its evaluation has, and its refusal is then
+-- the same
+stopped-then : (o : Outcome) (n : ℕ) (ws : List ℕ) (k : Value → ℕ → List ℕ → Result)
+    → operandStops (operandOf o) ≡ true → result (outcomeOf (operandOf o)) n ws ≡ thenBy o n ws k
 stopped-then (Is (Number m)) n ws k h = absurd (false≢true h)
 stopped-then (Is (Truth b)) n ws k h = absurd (false≢true h)
 stopped-then (Is (Cell c)) n ws k h = absurd (false≢true h)
@@ -75,17 +81,21 @@ stops-answer Operand.Spent h = refl
 stops-answer Operand.Stuck h = refl
 
 -- a truth that was wanted
-stopped-outcome : (o : Outcome) (n : ℕ) (ws : List ℕ) (k : Value → ℕ → List ℕ → Result) → outcomeStops o ≡ true → result o n ws ≡ thenBy o n ws k
+stopped-outcome : (o : Outcome) (n : ℕ) (ws : List ℕ) (k : Value → ℕ → List ℕ → Result)
+    → outcomeStops o ≡ true → result o n ws ≡ thenBy o n ws k
 stopped-outcome (Is v) n ws k h = absurd (false≢true h)
 stopped-outcome Foreign n ws k h = refl
 stopped-outcome Spent n ws k h = refl
 stopped-outcome Stuck n ws k h = refl
 
-pub stopped : (x : Result) (k : Value → ℕ → List ℕ → Result) → outcomeStops (x .outcome) ≡ true → x ≡ andThen x k
+pub stopped : (x : Result) (k : Value → ℕ → List ℕ → Result) → outcomeStops (x .outcome) ≡ true
+    → x ≡ andThen x k
 stopped x k h = stopped-outcome (x .outcome) (x .used) (x .words) k h
 
 -- 26 and 27: both operands have run, and only then their kinds are looked at
-both-ran : (op : Operator) (v : Value) (o : Outcome) (n : ℕ) (ws : List ℕ) → result (bothBy op (numberOr v) (operandOf o)) n ws ≡ thenBy o n ws (keeping (numbersOf (operation op) v))
+both-ran : (op : Operator) (v : Value) (o : Outcome) (n : ℕ) (ws : List ℕ)
+    → result (bothBy op (numberOr v) (operandOf o)) n ws
+    ≡ thenBy o n ws (keeping (numbersOf (operation op) v))
 both-ran op (Number m) (Is (Number n)) k ws = refl
 both-ran op (Number m) (Is (Truth t)) k ws = refl
 both-ran op (Number m) (Is (Cell c)) k ws = refl
@@ -100,8 +110,10 @@ both-ran op v Spent k ws = refl
 both-ran op v Stuck k ws = refl
 
 -- e evaluates the second operand on what the first left
-second-ran : (op : Operator) (e : ℕ → List ℕ → Result) (o : Outcome) (n : ℕ) (ws : List ℕ) → operandStops (operandOf o) ≡ false
-    → result (bothBy op (operandOf o) (operandOf (e n ws .outcome))) (e n ws .used) (e n ws .words) ≡ thenBy o n ws (λ v m us. andThen (e m us) (keeping (numbersOf (operation op) v)))
+second-ran : (op : Operator) (e : ℕ → List ℕ → Result) (o : Outcome) (n : ℕ) (ws : List ℕ)
+    → operandStops (operandOf o) ≡ false
+    → result (bothBy op (operandOf o) (operandOf (e n ws .outcome))) (e n ws .used) (e n ws .words)
+    ≡ thenBy o n ws (λ v m us. andThen (e m us) (keeping (numbersOf (operation op) v)))
 second-ran op e (Is v) n ws h = both-ran op v (e n ws .outcome) (e n ws .used) (e n ws .words)
 second-ran op e Foreign n ws h = absurd (true≢false h)
 second-ran op e Spent n ws h = absurd (true≢false h)
@@ -122,7 +134,8 @@ numbers-ran op e l p q t u f h k =
     (sym (ap (λ (r : WantedResult). operandStops (r .operand)) f) ∙ h)
 
 -- 28's chosen value: a number, or 20
-number-kept : (o : Outcome) (n : ℕ) (ws : List ℕ) → result (outcomeOf (operandOf o)) n ws ≡ thenBy o n ws (keeping aNumber)
+number-kept : (o : Outcome) (n : ℕ) (ws : List ℕ)
+    → result (outcomeOf (operandOf o)) n ws ≡ thenBy o n ws (keeping aNumber)
 number-kept (Is (Number m)) n ws = refl
 number-kept (Is (Truth b)) n ws = refl
 number-kept (Is (Cell c)) n ws = refl
@@ -137,9 +150,12 @@ chosen-maps (Number m) b c g = refl
 chosen-maps (Cell d) b c g = refl
 
 -- 28: the code chooses a frame, the definition one of two evaluations; e evaluates a frame
-then-chosen : (e : ℕ → ℕ → List ℕ → Result) (b c : ℕ) (o : Outcome) (n : ℕ) (ws : List ℕ) → outcomeStops o ≡ false
-    → andThen (e (chosenBy o b c) n ws) (keeping aNumber) ≡ thenBy o n ws (λ v m us. andThen (chosen v (e b m us) (e c m us)) (keeping aNumber))
-then-chosen e b c (Is v) n ws h = ap (λ (r : Result). andThen r (keeping aNumber)) (chosen-maps v b c (λ d. e d n ws))
+then-chosen : (e : ℕ → ℕ → List ℕ → Result) (b c : ℕ) (o : Outcome) (n : ℕ) (ws : List ℕ)
+    → outcomeStops o ≡ false
+    → andThen (e (chosenBy o b c) n ws) (keeping aNumber)
+    ≡ thenBy o n ws (λ v m us. andThen (chosen v (e b m us) (e c m us)) (keeping aNumber))
+then-chosen e b c (Is v) n ws h =
+    ap (λ (r : Result). andThen r (keeping aNumber)) (chosen-maps v b c (λ d. e d n ws))
 then-chosen e b c Foreign n ws h = absurd (true≢false h)
 then-chosen e b c Spent n ws h = absurd (true≢false h)
 then-chosen e b c Stuck n ws h = absurd (true≢false h)

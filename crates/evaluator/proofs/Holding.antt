@@ -1,4 +1,5 @@
--- Words that hold cells: `Holds` from the words that a caller lends and back to them, with one more cell, with another content. Assumes nothing.
+-- Words that hold cells: `Holds` from the words that a caller lends and back to them, with one more
+-- cell, with another content. Assumes nothing.
 use mathlib.Core.Path.{_≡_, refl, sym, ap, _∙_, subst}
 use mathlib.Core.List.{List, [], _∷_}
 use mathlib.Core.Bool.{Bool, true, false}
@@ -30,11 +31,14 @@ pub record Holds (n : ℕ) (ws : List ℕ) (cs : List Stored) : Type 0 where
   pub each : (k : ℕ) → k < length cs → ValueFits (getD cs k noCell .content)
 
 -- each word is a cell's, or 0 behind them
-words-are : (ws : List ℕ) (cs : List Stored) → length ws ≡ 256 → ((j : ℕ) → j < 256 → getD ws j 0 ≡ cellWord (getD cs j noCell)) → ws ≡ cellWords cs
+words-are : (ws : List ℕ) (cs : List Stored) → length ws ≡ 256
+    → ((j : ℕ) → j < 256 → getD ws j 0 ≡ cellWord (getD cs j noCell)) → ws ≡ cellWords cs
 words-are ws cs l h = ext-getD 0 ws (cellWords cs) (l ∙ sym (cells-length cs)) (λ j g. let m : j < 256 = rw l at g in h j m ∙ sym (cells-at cs j m))
 
-pub holds-at : (n : ℕ) (ws : List ℕ) (cs : List Stored) (k : ℕ) → Holds n ws cs → k < length cs → getD ws k 0 ≡ cellWord (getD cs k noCell)
-holds-at n ws cs k h l = let m = h .room in ap (λ (x : List ℕ). getD x k 0) (h .words) ∙ cells-at cs k (omega arith)
+pub holds-at : (n : ℕ) (ws : List ℕ) (cs : List Stored) (k : ℕ) → Holds n ws cs → k < length cs
+    → getD ws k 0 ≡ cellWord (getD cs k noCell)
+holds-at n ws cs k h l =
+    let m = h .room in ap (λ (x : List ℕ). getD x k 0) (h .words) ∙ cells-at cs k (omega arith)
 
 pub holds-length : {n : ℕ} {ws : List ℕ} {cs : List Stored} → Holds n ws cs → length ws ≡ 256
 holds-length {cs = cs} h = ap length (h .words) ∙ cells-length cs
@@ -63,7 +67,8 @@ holds-from n ws h = record {
     l : length (cellsFrom n ws) ≡ n
     l = from-length n ws
 
-    at : (j : ℕ) → j < 256 → (b : Bool) → ltb j n ≡ b → getD ws j 0 ≡ cellWord (getD (cellsFrom n ws) j noCell)
+    at : (j : ℕ) → j < 256 → (b : Bool) → ltb j n ≡ b
+        → getD ws j 0 ≡ cellWord (getD (cellsFrom n ws) j noCell)
     at j g true e = let m : j < n = ltb-true j n e in
         sym (cell-there (getD ws j 0) (h .each j m)) ∙ ap cellWord (sym (from-at n ws j m))
     at j g false e = let m : n ≤ j = ltb-false j n e in
@@ -86,10 +91,12 @@ holds-cells n ws cs h = ext-getD noCell (cellsFrom n ws) cs (from-length n ws �
     from-at n ws k m ∙ ap wordCell (holds-at n ws cs k h q) ∙ cell-back (getD cs k noCell) (h .each k q))
 
 -- ---- one more cell
-pub holds-push : (n : ℕ) (ws : List ℕ) (cs : List Stored) (x : Stored) → Holds n ws cs → usedCells cs < 256 → ValueFits (x .content)
+pub holds-push : (n : ℕ) (ws : List ℕ) (cs : List Stored) (x : Stored) → Holds n ws cs
+    → usedCells cs < 256 → ValueFits (x .content)
     → Holds (n + 1) (set ws n (cellWord x)) (withNewCell cs x)
 holds-push n ws cs x h l f = record {
-  count = let e = h .count in let z : length (withNewCell cs x) ≡ length cs + 1 = longer in omega arith;
+  count =
+      let e = h .count in let z : length (withNewCell cs x) ≡ length cs + 1 = longer in omega arith;
   words = words-are (set ws n (cellWord x)) (withNewCell cs x) (length-set ws n (cellWord x) ∙ holds-length h) (λ j g. at j g (ℕ-discrete j n));
   room = let z : length (withNewCell cs x) ≡ length cs + 1 = longer in omega arith;
   each = each-snoc (λ (y : Stored). ValueFits (y .content)) cs x noCell (h .each) f;
@@ -98,10 +105,12 @@ holds-push n ws cs x h l f = record {
     longer : length (withNewCell cs x) ≡ length cs + 1
     longer = length-append cs (x ∷ [])
 
-    beyond : (j : ℕ) → (j ≡ n → ⊥) → n ≡ length cs → length cs ≤ j → length (withNewCell cs x) ≡ length cs + 1 → length (withNewCell cs x) ≤ j
+    beyond : (j : ℕ) → (j ≡ n → ⊥) → n ≡ length cs → length cs ≤ j
+        → length (withNewCell cs x) ≡ length cs + 1 → length (withNewCell cs x) ≤ j
     beyond j e c g z = omega arith
 
-    same : (j : ℕ) → (j ≡ n → ⊥) → (b : Bool) → ltb j (length cs) ≡ b → getD cs j noCell ≡ getD (withNewCell cs x) j noCell
+    same : (j : ℕ) → (j ≡ n → ⊥) → (b : Bool) → ltb j (length cs) ≡ b
+        → getD cs j noCell ≡ getD (withNewCell cs x) j noCell
     same j e true q = sym (List·getD-append cs (x ∷ []) noCell j (ltb-true j (length cs) q))
     same j e false q = let g : length cs ≤ j = ltb-false j (length cs) q in
         List·getD-eq-default cs noCell {n = j} g ∙ sym (List·getD-eq-default (withNewCell cs x) noCell {n = j} (beyond j e (h .count) g longer))
@@ -109,7 +118,8 @@ holds-push n ws cs x h l f = record {
     inside : n ≡ length cs → length ws ≡ 256 → n < length ws
     inside c s = omega arith
 
-    at : (j : ℕ) → j < 256 → Dec (j ≡ n) → getD (set ws n (cellWord x)) j 0 ≡ cellWord (getD (withNewCell cs x) j noCell)
+    at : (j : ℕ) → j < 256 → Dec (j ≡ n)
+        → getD (set ws n (cellWord x)) j 0 ≡ cellWord (getD (withNewCell cs x) j noCell)
     at j g (yes e) =
         ap (λ (k : ℕ). getD (set ws n (cellWord x)) k 0) e ∙ getD-set-same ws n (cellWord x) 0 (inside (h .count) (holds-length h))
         ∙ ap cellWord (sym (getD-at cs x [] noCell j (sym (h .count) ∙ sym e)))
@@ -118,7 +128,8 @@ holds-push n ws cs x h l f = record {
         ∙ ap cellWord (same j e (ltb j (length cs)) refl)
 
 -- ---- another content
-pub holds-put : (n : ℕ) (ws : List ℕ) (cs : List Stored) (c : ℕ) (x : Stored) → Holds n ws cs → c < length cs → ValueFits (x .content)
+pub holds-put : (n : ℕ) (ws : List ℕ) (cs : List Stored) (c : ℕ) (x : Stored) → Holds n ws cs
+    → c < length cs → ValueFits (x .content)
     → Holds n (set ws c (cellWord x)) (set cs c x)
 holds-put n ws cs c x h l f = record {
   count = h .count ∙ sym (length-set cs c x);
@@ -130,7 +141,8 @@ holds-put n ws cs c x h l f = record {
     inside : length cs ≤ 256 → length ws ≡ 256 → c < length ws
     inside r s = omega arith
 
-    at : (j : ℕ) → j < 256 → Dec (j ≡ c) → getD (set ws c (cellWord x)) j 0 ≡ cellWord (getD (set cs c x) j noCell)
+    at : (j : ℕ) → j < 256 → Dec (j ≡ c)
+        → getD (set ws c (cellWord x)) j 0 ≡ cellWord (getD (set cs c x) j noCell)
     at j g (yes e) =
         ap (λ (k : ℕ). getD (set ws c (cellWord x)) k 0) e ∙ getD-set-same ws c (cellWord x) 0 (inside (h .room) (holds-length h))
         ∙ ap cellWord (sym (ap (λ (k : ℕ). getD (set cs c x) k noCell) e ∙ getD-set-same cs c x noCell l))

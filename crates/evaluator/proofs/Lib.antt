@@ -4,7 +4,8 @@ pub mod Chains
 pub mod Nodes
 pub mod Cases
 pub mod InPlace
--- From words to the rules: words that hold cells, numbers that fit, and that the recursion gives what `eval` gives.
+-- From words to the rules: words that hold cells, numbers that fit, and that the recursion gives
+-- what `eval` gives.
 pub mod Holding
 pub mod SmallNumbers
 pub mod Agreement

@@ -1,4 +1,5 @@
--- The node at a frame, as the code reads it from the frame's word, and that its operands stand before it. Assumes nothing.
+-- The node at a frame, as the code reads it from the frame's word, and that its operands stand
+-- before it. Assumes nothing.
 use mathlib.Core.Path.{_≡_, sym, ap, _∙_, subst}
 use mathlib.Core.List.{List}
 use Prim.Native.Nat.{ℕ, _<_}
@@ -37,8 +38,10 @@ frame-named ws i f h e =
     (h .placed i (rw length-map (h .there)))
 
 -- the frame number falls in the recursion
-pub operands-below : (ws : List ℕ) (i : ℕ) (d : ExpressionNode) → FrameWords ws i → NodeAt ws i d → Below i d
-operands-below ws i d h e = trees.operands-below (framesOf ws) i d (h .ordered) (rw length-map (h .there)) e
+pub operands-below : (ws : List ℕ) (i : ℕ) (d : ExpressionNode) → FrameWords ws i → NodeAt ws i d
+    → Below i d
+operands-below ws i d h e =
+    trees.operands-below (framesOf ws) i d (h .ordered) (rw length-map (h .there)) e
 
 -- 28's two branches: the one that is chosen, whatever became of the condition
 chosen-below : (v : Value) (b c i : ℕ) → b < i → c < i → chosen v b c < i

@@ -9,7 +9,8 @@ use native.Mathlib.Omega.{arith}
 use lib.Dec.{leb, eqb}
 use lib.ListN.{length, getD, take, length-take}
 use lib.Seq.{getD-take}
-use borrow.Author.Tests.{lt-ltb, le-ltb, le-leb, lt-leb, leb-true, eq-eqb, ne-eqb, not-true, not-false}
+use borrow.Author.Tests.{lt-ltb, le-ltb, le-leb, lt-leb, leb-true, eq-eqb, ne-eqb, not-true}
+use borrow.Author.Tests.{not-false}
 use Rattle.basics.specs.If.{if_then_else_}
 use Rattle.basics.proofs.Ifs.{yes, no, if-all, and-true}
 use Rattle.language.specs.Kinds.{isHeader}
@@ -40,11 +41,13 @@ module _ (f : Frame) (x : Bool) (h : x ≡ isHeader (f .kind)) where
 
   pub header-many : not x ≡ false → f .s ≡ 1 → 1 ≤ f .b → 8 < f .b → false ≡ headerFine f
   unfolding headerFine
-  header-many n s l m = rw (sym h ∙ not-false x n, eq-eqb (f .s) 1 s, le-leb 1 (f .b) l, lt-leb (f .b) 8 m)
+  header-many n s l m =
+      rw (sym h ∙ not-false x n, eq-eqb (f .s) 1 s, le-leb 1 (f .b) l, lt-leb (f .b) 8 m)
 
   pub header-right : not x ≡ false → f .s ≡ 1 → 1 ≤ f .b → f .b ≤ 8 → eqb (f .c) 0 ≡ headerFine f
   unfolding headerFine
-  header-right n s l m = rw (sym h ∙ not-false x n, eq-eqb (f .s) 1 s, le-leb 1 (f .b) l, le-leb (f .b) 8 m)
+  header-right n s l m =
+      rw (sym h ∙ not-false x n, eq-eqb (f .s) 1 s, le-leb 1 (f .b) l, le-leb (f .b) 8 m)
 
 pub ruleset header-laws = (header-kind, header-version, header-few, header-many, header-right)
 
@@ -64,12 +67,15 @@ fine-few : (f : Frame) → headerFine f ≡ true → f .b ≤ 8
 unfolding headerFine
 fine-few f t = leb-true (f .b) 8 (and-true (isHeader (f .kind) && eqb (f .s) 1 && leb 1 (f .b)) (leb (f .b) 8) (and-true (isHeader (f .kind) && eqb (f .s) 1 && leb 1 (f .b) && leb (f .b) 8) (eqb (f .c) 0) t .0) .1)
 
-pub few-schedulers : (fs : List Frame) (x : Found) → x ≡ Nowhere → x ≡ found (headerFault fs) → schedulersOf fs ≤ 8
+pub few-schedulers : (fs : List Frame) (x : Found) → x ≡ Nowhere → x ≡ found (headerFault fs)
+    → schedulersOf fs ≤ 8
 unfolding headerFault
 few-schedulers fs x e h = if-all (λ (o : Option ℕ). found o ≡ Nowhere → schedulersOf fs ≤ 8) (headerFine (frameAt fs 0)) none (some 0) (λ t q. fine-few (frameAt fs 0) t) (λ t q. absurd (let z : _≡_ {A = ℕ} 0 1 = cc in omega arith)) (sym h ∙ e)
 
-pub schedulers-are : (ws : List ℕ) (f : Frame) → f ≡ frameAt (framesOf ws) 0 → schedulersOf (framesOf ws) ≤ 8 → f .b % 256 ≡ schedulersOf (framesOf ws)
-schedulers-are ws f e l = let q : f .b ≡ schedulersOf (framesOf ws) = ap (λ (g : Frame). g .b) e in omega arith
+pub schedulers-are : (ws : List ℕ) (f : Frame) → f ≡ frameAt (framesOf ws) 0
+    → schedulersOf (framesOf ws) ≤ 8 → f .b % 256 ≡ schedulersOf (framesOf ws)
+schedulers-are ws f e l =
+    let q : f .b ≡ schedulersOf (framesOf ws) = ap (λ (g : Frame). g .b) e in omega arith
 
 -- ---- places and schedulers, of as many schedulers as the code reads
 module _ (fs : List Frame) (v b : ℕ) (r : Bool) (e : b ≡ schedulersOf fs) where
@@ -92,25 +98,30 @@ module _ (b n s v : ℕ) where
   pub type-unused : s < n → eqb v 0 ≡ (if leb n s then typeWord b v else eqb v 0)
   type-unused l = no _ (lt-leb n s l) refl
 
-  pub type-used : (c : ℕ) (r : Bool) → n ≤ s → c ≡ b → r ≡ typeWord c v → r ≡ (if leb n s then typeWord b v else eqb v 0)
+  pub type-used : (c : ℕ) (r : Bool) → n ≤ s → c ≡ b → r ≡ typeWord c v
+      → r ≡ (if leb n s then typeWord b v else eqb v 0)
   type-used c r l e h = yes _ (le-leb n s l) (h ∙ ap (λ (k : ℕ). typeWord k v) e)
 
 pub ruleset type-laws = (type-unused, type-used)
 
 module _ (t : Tally) (k v : ℕ) (x : Bool) (h : x ≡ isCell k) where
-  pub content-past : x ≡ true → t .cells ≤ v → false ≡ firstContentFine (take (t .cells) (t .types)) k v
+  pub content-past : x ≡ true → t .cells ≤ v
+      → false ≡ firstContentFine (take (t .cells) (t .types)) k v
   unfolding firstContentFine
   content-past c l = yes _ (sym h ∙ c) (rw (le-ltb v (length (take (t .cells) (t .types))) (let m = length-take (t .cells) (t .types) in omega arith)))
 
-  pub content-cell : x ≡ true → v < t .cells → t .cells ≤ 16 → length (t .types) ≡ 16 → eqb (getD (t .types) v 0) k ≡ firstContentFine (take (t .cells) (t .types)) k v
+  pub content-cell : x ≡ true → v < t .cells → t .cells ≤ 16 → length (t .types) ≡ 16
+      → eqb (getD (t .types) v 0) k ≡ firstContentFine (take (t .cells) (t .types)) k v
   unfolding firstContentFine
   content-cell c l m o = yes _ (sym h ∙ c) (rw (lt-ltb v (length (take (t .cells) (t .types))) (let q = length-take (t .cells) (t .types) in omega arith), getD-take (t .cells) (t .types) v 0 l))
 
-  pub content-number : x ≡ false → (k ≡ 2 → ⊥) → true ≡ firstContentFine (take (t .cells) (t .types)) k v
+  pub content-number : x ≡ false → (k ≡ 2 → ⊥)
+      → true ≡ firstContentFine (take (t .cells) (t .types)) k v
   unfolding firstContentFine
   content-number c n = no _ (sym h ∙ c) (rw (ne-eqb k 2 n))
 
-  pub content-truth : x ≡ false → k ≡ 2 → leb v 1 ≡ firstContentFine (take (t .cells) (t .types)) k v
+  pub content-truth : x ≡ false → k ≡ 2
+      → leb v 1 ≡ firstContentFine (take (t .cells) (t .types)) k v
   unfolding firstContentFine
   content-truth c n = no _ (sym h ∙ c) (rw (eq-eqb k 2 n))
 

@@ -14,12 +14,14 @@ use Rattle.language.specs.declared.kind.DeclarationKind.the-variants.{Shared}
 use Rattle.language.specs.declared.kind.StatementKind.{StatementKind}
 use Rattle.language.specs.declared.kind.ExpressionKind.{ExpressionKind}
 use Rattle.language.specs.declared.kind.Kind.{Kind}
-use Rattle.language.specs.declared.kind.Kind.the-variants.{Header, Declared, Module, Statement, Expression, Unknown}
+use Rattle.language.specs.declared.kind.Kind.the-variants.{Header, Declared, Module, Statement}
+use Rattle.language.specs.declared.kind.Kind.the-variants.{Expression, Unknown}
 use Rattle.language.specs.declared.frame.Frame.{Frame}
 use Rattle.program.specs.Trees.{frameAt}
 use Rattle.program.specs.Programs.{cellsOf}
 use Rattle.fields.specs.declared.field.Tally.{Tally}
-use Rattle.fields.specs.Fields.{schedulersOf, firstContentFine, fieldFine, countOf, kindFine, frameFine}
+use Rattle.fields.specs.Fields.{schedulersOf, firstContentFine, fieldFine, countOf, kindFine}
+use Rattle.fields.specs.Fields.{frameFine}
 use Rattle.fields.specs.inner.Scans.{fieldsFine, tallyOf}
 use Rattle.fields.proofs.Tallies.{tally-cells, tally-modules, types-taken}
 
@@ -28,31 +30,38 @@ module _ (f : Frame) where
   pub none-s : (f .s ≡ 0 → ⊥) → false ≡ fieldsFine [] 0 f (statementUses StatementKind.Nothing)
   none-s n = rw (ne-eqb (f .s) 0 n)
 
-  pub none-a : f .s ≡ 0 → (f .a ≡ 0 → ⊥) → false ≡ fieldsFine [] 0 f (statementUses StatementKind.Nothing)
+  pub none-a : f .s ≡ 0 → (f .a ≡ 0 → ⊥)
+      → false ≡ fieldsFine [] 0 f (statementUses StatementKind.Nothing)
   none-a s n = rw (eq-eqb (f .s) 0 s, ne-eqb (f .a) 0 n)
 
-  pub none-b : f .s ≡ 0 → f .a ≡ 0 → (f .b ≡ 0 → ⊥) → false ≡ fieldsFine [] 0 f (statementUses StatementKind.Nothing)
+  pub none-b : f .s ≡ 0 → f .a ≡ 0 → (f .b ≡ 0 → ⊥)
+      → false ≡ fieldsFine [] 0 f (statementUses StatementKind.Nothing)
   none-b s a n = rw (eq-eqb (f .s) 0 s, eq-eqb (f .a) 0 a, ne-eqb (f .b) 0 n)
 
-  pub none-c : f .s ≡ 0 → f .a ≡ 0 → f .b ≡ 0 → eqb (f .c) 0 ≡ fieldsFine [] 0 f (statementUses StatementKind.Nothing)
+  pub none-c : f .s ≡ 0 → f .a ≡ 0 → f .b ≡ 0
+      → eqb (f .c) 0 ≡ fieldsFine [] 0 f (statementUses StatementKind.Nothing)
   none-c s a b = rw (eq-eqb (f .s) 0 s, eq-eqb (f .a) 0 a, eq-eqb (f .b) 0 b)
 
   pub s-a : (f .a ≡ 0 → ⊥) → false ≡ fieldsFine [] 0 f (expressionUses ExpressionKind.Variable)
   s-a n = rw (ne-eqb (f .a) 0 n)
 
-  pub s-b : f .a ≡ 0 → (f .b ≡ 0 → ⊥) → false ≡ fieldsFine [] 0 f (expressionUses ExpressionKind.Variable)
+  pub s-b : f .a ≡ 0 → (f .b ≡ 0 → ⊥)
+      → false ≡ fieldsFine [] 0 f (expressionUses ExpressionKind.Variable)
   s-b a n = rw (eq-eqb (f .a) 0 a, ne-eqb (f .b) 0 n)
 
-  pub s-c : f .a ≡ 0 → f .b ≡ 0 → eqb (f .c) 0 ≡ fieldsFine [] 0 f (expressionUses ExpressionKind.Variable)
+  pub s-c : f .a ≡ 0 → f .b ≡ 0
+      → eqb (f .c) 0 ≡ fieldsFine [] 0 f (expressionUses ExpressionKind.Variable)
   s-c a b = rw (eq-eqb (f .a) 0 a, eq-eqb (f .b) 0 b)
 
   pub a-s : (f .s ≡ 0 → ⊥) → false ≡ fieldsFine [] 0 f (expressionUses ExpressionKind.Number)
   a-s n = rw (ne-eqb (f .s) 0 n)
 
-  pub a-b : f .s ≡ 0 → (f .b ≡ 0 → ⊥) → false ≡ fieldsFine [] 0 f (expressionUses ExpressionKind.Number)
+  pub a-b : f .s ≡ 0 → (f .b ≡ 0 → ⊥)
+      → false ≡ fieldsFine [] 0 f (expressionUses ExpressionKind.Number)
   a-b s n = rw (eq-eqb (f .s) 0 s, ne-eqb (f .b) 0 n)
 
-  pub a-c : f .s ≡ 0 → f .b ≡ 0 → eqb (f .c) 0 ≡ fieldsFine [] 0 f (expressionUses ExpressionKind.Number)
+  pub a-c : f .s ≡ 0 → f .b ≡ 0
+      → eqb (f .c) 0 ≡ fieldsFine [] 0 f (expressionUses ExpressionKind.Number)
   a-c s b = rw (eq-eqb (f .s) 0 s, eq-eqb (f .b) 0 b)
 
   pub a-b-s : (f .s ≡ 0 → ⊥) → false ≡ fieldsFine [] 0 f (statementUses StatementKind.Then)
@@ -71,24 +80,30 @@ module _ (f : Frame) where
   pub truth-over : 1 < f .s → false ≡ fieldsFine [] 0 f (expressionUses ExpressionKind.Truth)
   truth-over l = rw (lt-leb (f .s) 1 l)
 
-  pub truth-right : (r : Bool) → f .s ≤ 1 → r ≡ fieldsFine [] 0 f (expressionUses ExpressionKind.Variable) → r ≡ fieldsFine [] 0 f (expressionUses ExpressionKind.Truth)
+  pub truth-right : (r : Bool) → f .s ≤ 1
+      → r ≡ fieldsFine [] 0 f (expressionUses ExpressionKind.Variable)
+      → r ≡ fieldsFine [] 0 f (expressionUses ExpressionKind.Truth)
   truth-right r l h = h ∙ rw (le-leb (f .s) 1 l)
 
   module _ (x : Bool) (h : x ≡ (eqb (f .b) 0 || not (eqb (f .a) 0))) where
-    pub arguments-wrong : not x ≡ true → false ≡ fieldsFine [] 0 f (statementUses StatementKind.Start)
+    pub arguments-wrong : not x ≡ true
+        → false ≡ fieldsFine [] 0 f (statementUses StatementKind.Start)
     arguments-wrong n = rw (sym h ∙ not-true x n)
 
-    pub arguments-right : not x ≡ false → eqb (f .c) 0 ≡ fieldsFine [] 0 f (statementUses StatementKind.Start)
+    pub arguments-right : not x ≡ false
+        → eqb (f .c) 0 ≡ fieldsFine [] 0 f (statementUses StatementKind.Start)
     arguments-right n = rw (sym h ∙ not-false x n)
 
   module _ (fs : List Frame) (x : Bool) (h : x ≡ hasPlace (schedulersOf fs) (f .s)) where
     pub placed-s : not x ≡ true → false ≡ fieldsFine fs 0 f (statementUses StatementKind.DoAt)
     placed-s n = rw (sym h ∙ not-true x n)
 
-    pub placed-b : not x ≡ false → (f .b ≡ 0 → ⊥) → false ≡ fieldsFine fs 0 f (statementUses StatementKind.DoAt)
+    pub placed-b : not x ≡ false → (f .b ≡ 0 → ⊥)
+        → false ≡ fieldsFine fs 0 f (statementUses StatementKind.DoAt)
     placed-b n m = rw (sym h ∙ not-false x n, ne-eqb (f .b) 0 m)
 
-    pub placed-c : not x ≡ false → f .b ≡ 0 → eqb (f .c) 0 ≡ fieldsFine fs 0 f (statementUses StatementKind.DoAt)
+    pub placed-c : not x ≡ false → f .b ≡ 0
+        → eqb (f .c) 0 ≡ fieldsFine fs 0 f (statementUses StatementKind.DoAt)
     placed-c n b = rw (sym h ∙ not-false x n, eq-eqb (f .b) 0 b)
 
 pub ruleset none-laws = (none-s, none-a, none-b, none-c)
@@ -107,17 +122,22 @@ pub ruleset placed-laws = (placed-s, placed-b, placed-c)
 
 -- ---- each arm of the matches on kinds
 module _ (fs : List Frame) (f : Frame) (r : Bool) where
-  pub statement-row : (k v : StatementKind) → k ≡ v → r ≡ fieldsFine fs 0 f (statementUses v) → r ≡ fieldsFine fs 0 f (statementUses k)
-  statement-row k v e h = h ∙ ap (λ (w : StatementKind). fieldsFine fs 0 f (statementUses w)) (sym e)
+  pub statement-row : (k v : StatementKind) → k ≡ v → r ≡ fieldsFine fs 0 f (statementUses v)
+      → r ≡ fieldsFine fs 0 f (statementUses k)
+  statement-row k v e h =
+      h ∙ ap (λ (w : StatementKind). fieldsFine fs 0 f (statementUses w)) (sym e)
 
-  pub expression-row : (k v : ExpressionKind) → k ≡ v → r ≡ fieldsFine fs 0 f (expressionUses v) → r ≡ fieldsFine fs 0 f (expressionUses k)
-  expression-row k v e h = h ∙ ap (λ (w : ExpressionKind). fieldsFine fs 0 f (expressionUses w)) (sym e)
+  pub expression-row : (k v : ExpressionKind) → k ≡ v → r ≡ fieldsFine fs 0 f (expressionUses v)
+      → r ≡ fieldsFine fs 0 f (expressionUses k)
+  expression-row k v e h =
+      h ∙ ap (λ (w : ExpressionKind). fieldsFine fs 0 f (expressionUses w)) (sym e)
 
 -- ---- a shared cell, a module
 abbrev fineAs : List Frame → ℕ → Frame → Kind → Bool
 fineAs fs i f k = kindFine fs i k && fieldFine fs i f (uses k .s) (f .s) && fieldFine fs i f (uses k .a) (f .a) && fieldFine fs i f (uses k .b) (f .b) && fieldFine fs i f (uses k .c) (f .c)
 
-fine-as : (fs : List Frame) (i : ℕ) (f : Frame) (k : Kind) → f .kind ≡ k → fineAs fs i f k ≡ frameFine fs i f
+fine-as : (fs : List Frame) (i : ℕ) (f : Frame) (k : Kind) → f .kind ≡ k
+    → fineAs fs i f k ≡ frameFine fs i f
 unfolding frameFine
 fine-as fs i f k e = ap (fineAs fs i f) (sym e)
 
@@ -143,7 +163,9 @@ module _ (fs : List Frame) (i : ℕ) (f : Frame) (t : Tally) (q : t ≡ tallyOf 
 
         module _ (na : not a ≡ false) (b : Bool) (hb : b ≡ firstContentFine (take (t .cells) (t .types)) (f .a) (f .b)) where
           content : b ≡ firstContentFine (cellsOf (take i fs)) (f .a) (f .b)
-          content = hb ∙ ap (λ (ts : List ℕ). firstContentFine ts (f .a) (f .b)) (types-taken (take i fs) t q)
+          content =
+              hb
+              ∙ ap (λ (ts : List ℕ). firstContentFine ts (f .a) (f .b)) (types-taken (take i fs) t q)
 
           pub cell-content : not b ≡ true → false ≡ frameFine fs i f
           cell-content nb = sym (sym (fine-as fs i f (Declared Shared) e) ∙ rw (sym room ∙ not-false k nk, sym hs ∙ not-false s ns, sym word ∙ not-false a na, sym content ∙ not-true b nb))
@@ -156,7 +178,8 @@ module _ (fs : List Frame) (i : ℕ) (f : Frame) (t : Tally) (q : t ≡ tallyOf 
     typed n v = if leb n (f .s) then typeWord (schedulersOf fs) v else eqb v 0
 
     fewer : t .modules < 16 → ltb (countOf isModule (take i fs)) 16 ≡ true
-    fewer l = ap (λ (n : ℕ). ltb n 16) (sym (tally-modules (take i fs) t q)) ∙ lt-ltb (t .modules) 16 l
+    fewer l =
+        ap (λ (n : ℕ). ltb n 16) (sym (tally-modules (take i fs) t q)) ∙ lt-ltb (t .modules) 16 l
 
     pub module-many : 16 ≤ t .modules → false ≡ frameFine fs i f
     module-many l = sym (sym (fine-as fs i f Module e) ∙ rw (ap (λ (n : ℕ). ltb n 16) (sym (tally-modules (take i fs) t q)) ∙ le-ltb (t .modules) 16 l))
@@ -170,7 +193,9 @@ module _ (fs : List Frame) (i : ℕ) (f : Frame) (t : Tally) (q : t ≡ tallyOf 
         module-first nb = sym (sym (fine-as fs i f Module e) ∙ rw (fewer l, le-leb (f .s) 2 m, sym hb ∙ not-true b nb))
 
         pub module-right : (c : Bool) → not b ≡ false → c ≡ typed 2 (f .c) → c ≡ frameFine fs i f
-        module-right c nb hc = hc ∙ sym (sym (fine-as fs i f Module e) ∙ rw (fewer l, le-leb (f .s) 2 m, sym hb ∙ not-false b nb))
+        module-right c nb hc =
+            hc
+            ∙ sym (sym (fine-as fs i f Module e) ∙ rw (fewer l, le-leb (f .s) 2 m, sym hb ∙ not-false b nb))
 
 pub ruleset cell-laws = (cell-many, cell-owner, cell-type, cell-content, cell-right)
 
@@ -192,7 +217,8 @@ module _ (fs : List Frame) (i : ℕ) (f : Frame) (r : Bool) (e : f ≡ frameAt f
   frame-unknown k h = frame-here (h ∙ fine-as fs i f Unknown k)
 
   -- none of their fields asks for the frame's number
-  pub frame-statement : (k : StatementKind) → f .kind ≡ Statement k → r ≡ fieldsFine fs 0 f (statementUses k) → r ≡ frameFine fs i (frameAt fs i)
+  pub frame-statement : (k : StatementKind) → f .kind ≡ Statement k
+      → r ≡ fieldsFine fs 0 f (statementUses k) → r ≡ frameFine fs i (frameAt fs i)
   frame-statement k q h = frame-here (h ∙ go k ∙ fine-as fs i f (Statement k) q)
     where
       go : (k : StatementKind) → fieldsFine fs 0 f (statementUses k) ≡ fineAs fs i f (Statement k)
@@ -207,10 +233,12 @@ module _ (fs : List Frame) (i : ℕ) (f : Frame) (r : Bool) (e : f ≡ frameAt f
       go StatementKind.If = refl
       go StatementKind.While = refl
 
-  pub frame-expression : (k : ExpressionKind) → f .kind ≡ Expression k → r ≡ fieldsFine fs 0 f (expressionUses k) → r ≡ frameFine fs i (frameAt fs i)
+  pub frame-expression : (k : ExpressionKind) → f .kind ≡ Expression k
+      → r ≡ fieldsFine fs 0 f (expressionUses k) → r ≡ frameFine fs i (frameAt fs i)
   frame-expression k q h = frame-here (h ∙ go k ∙ fine-as fs i f (Expression k) q)
     where
-      go : (k : ExpressionKind) → fieldsFine fs 0 f (expressionUses k) ≡ fineAs fs i f (Expression k)
+      go : (k : ExpressionKind)
+          → fieldsFine fs 0 f (expressionUses k) ≡ fineAs fs i f (Expression k)
       go ExpressionKind.Number = refl
       go ExpressionKind.Truth = refl
       go ExpressionKind.Variable = refl

@@ -1,4 +1,5 @@
--- What a pass of the code finds (`Found`) is what a search gives (an option), and `lower` is `earlier`. Assumes nothing.
+-- What a pass of the code finds (`Found`) is what a search gives (an option), and `lower` is
+-- `earlier`. Assumes nothing.
 use mathlib.Core.Path.{_≡_, refl, sym, ap, ap₂, _∙_}
 use mathlib.Core.Option.{Option, none, some}
 use Prim.Native.Nat.{ℕ, _≤_, _<_}
@@ -37,18 +38,27 @@ found-some o {x} {s} e h = go o (sym h ∙ e)
 module _ (a b : Found) where
   pub lower-none : a ≡ Nowhere → b ≡ found (earlier (optionOf a) (optionOf b))
   unfolding earlier
-  lower-none e = found-back b ∙ ap (λ (x : Found). found (earlier (optionOf x) (optionOf b))) (sym e)
+  lower-none e =
+      found-back b ∙ ap (λ (x : Found). found (earlier (optionOf x) (optionOf b))) (sym e)
 
-  pub lower-only : (i : ℕ) → a ≡ At i → b ≡ Nowhere → At i ≡ found (earlier (optionOf a) (optionOf b))
+  pub lower-only : (i : ℕ) → a ≡ At i → b ≡ Nowhere
+      → At i ≡ found (earlier (optionOf a) (optionOf b))
   unfolding earlier
-  lower-only i e f = ap₂ (λ (x y : Found). found (earlier (optionOf x) (optionOf y))) (sym e) (sym f)
+  lower-only i e f =
+      ap₂ (λ (x y : Found). found (earlier (optionOf x) (optionOf y))) (sym e) (sym f)
 
-  pub lower-first : (i j : ℕ) → a ≡ At i → b ≡ At j → i ≤ j → At i ≡ found (earlier (optionOf a) (optionOf b))
+  pub lower-first : (i j : ℕ) → a ≡ At i → b ≡ At j → i ≤ j
+      → At i ≡ found (earlier (optionOf a) (optionOf b))
   unfolding earlier
-  lower-first i j e f l = ap At (yes j (le-leb i j l) refl) ∙ ap₂ (λ (x y : Found). found (earlier (optionOf x) (optionOf y))) (sym e) (sym f)
+  lower-first i j e f l =
+      ap At (yes j (le-leb i j l) refl)
+      ∙ ap₂ (λ (x y : Found). found (earlier (optionOf x) (optionOf y))) (sym e) (sym f)
 
-  pub lower-second : (i j : ℕ) → a ≡ At i → b ≡ At j → j < i → At j ≡ found (earlier (optionOf a) (optionOf b))
+  pub lower-second : (i j : ℕ) → a ≡ At i → b ≡ At j → j < i
+      → At j ≡ found (earlier (optionOf a) (optionOf b))
   unfolding earlier
-  lower-second i j e f l = ap At (no i (lt-leb i j l) refl) ∙ ap₂ (λ (x y : Found). found (earlier (optionOf x) (optionOf y))) (sym e) (sym f)
+  lower-second i j e f l =
+      ap At (no i (lt-leb i j l) refl)
+      ∙ ap₂ (λ (x y : Found). found (earlier (optionOf x) (optionOf y))) (sym e) (sym f)
 
 pub ruleset lower-laws = (lower-none, lower-only, lower-first, lower-second)

@@ -1,4 +1,5 @@
--- The code's pass of refusal 5 over the kinds and fields of the frames, with a running tally. Assumes nothing.
+-- The code's pass of refusal 5 over the kinds and fields of the frames, with a running tally.
+-- Assumes nothing.
 use mathlib.Core.Path.{_≡_, refl, sym, ap, _∙_}
 use mathlib.Core.Bool.{Bool, true, false, true≢false, not, _&&_, _||_}
 use mathlib.Core.List.{List, [], _∷_, _++_}
@@ -28,13 +29,15 @@ use Rattle.fields.specs.declared.field.Tally.{Tally}
 use Rattle.fields.specs.Fields.{schedulersOf, fieldFine, countOf, kindFine, frameFine}
 use Rattle.fields.specs.inner.Scans.{fieldFault, found, tallyOf}
 use Rattle.fields.proofs.Seeking.{Seeking, seek-here, seek-next, seek-end}
-use Rattle.fields.proofs.Tallies.{tally, is-shared, tally-cells, tally-modules, counted-one, counted-none, tally-other, tally-module, tally-cell}
+use Rattle.fields.proofs.Tallies.{tally, is-shared, tally-cells, tally-modules, counted-one}
+use Rattle.fields.proofs.Tallies.{counted-none, tally-other, tally-module, tally-cell}
 
 -- ---- the tally with one frame more
 -- a content type has at most two cells, so there is room for one around it
 word-depth : (b a : ℕ) → contentWord b a ≡ true → cellDepth a ≤ 2
 unfolding contentWord
-word-depth b a h = leb-true (cellDepth a) 2 (and-true (typeWord b a && public a) (leb (cellDepth a) 2) h .1)
+word-depth b a h =
+    leb-true (cellDepth a) 2 (and-true (typeWord b a && public a) (leb (cellDepth a) 2) h .1)
 
 word-room : (b a : ℕ) → contentWord b a ≡ true → roomAround a ≡ true
 word-room b a h = go (ltb a 0x1000) refl
@@ -44,7 +47,8 @@ word-room b a h = go (ltb a 0x1000) refl
     go false e = absurd (let l : 0x1000 ≤ a = ltb-false a 0x1000 e in let z = depth-3 a (omega arith) (omega arith) l in let d = word-depth b a h in omega arith)
 
 -- a frame without fault 5 is right in its kind, its S and its A
-pub fine-parts : (fs : List Frame) (i : ℕ) (f : Frame) → frameFine fs i f ≡ true → (kindFine fs i (f .kind) ≡ true) × (fieldFine fs i f (uses (f .kind) .s) (f .s) ≡ true) × (fieldFine fs i f (uses (f .kind) .a) (f .a) ≡ true)
+pub fine-parts : (fs : List Frame) (i : ℕ) (f : Frame) → frameFine fs i f ≡ true
+    → (kindFine fs i (f .kind) ≡ true) × (fieldFine fs i f (uses (f .kind) .s) (f .s) ≡ true) × (fieldFine fs i f (uses (f .kind) .a) (f .a) ≡ true)
 unfolding frameFine
 fine-parts fs i f h =
     let c = and-true _ _ h in
@@ -83,7 +87,11 @@ module _ (ws : List ℕ) (i : ℕ) (f : Frame) (t : Tally) (e : f ≡ frameAt (f
       omega arith
 
   pub module-room : f .kind ≡ Module → t .modules < 16
-  module-room k = let a : ltb (countOf isModule (take i (framesOf ws))) 16 ≡ true = sym (ap (kindFine (framesOf ws) i) k) ∙ fine-parts (framesOf ws) i f fine-f .0 in let b : countOf isModule (take i (framesOf ws)) < 16 = ltb-true _ 16 a in let c = tally-modules (take i (framesOf ws)) t h in omega arith
+  module-room k =
+      let a : ltb (countOf isModule (take i (framesOf ws))) 16 ≡ true = sym (ap (kindFine (framesOf ws) i) k) ∙ fine-parts (framesOf ws) i f fine-f .0 in
+      let b : countOf isModule (take i (framesOf ws)) < 16 = ltb-true _ 16 a in
+      let c = tally-modules (take i (framesOf ws)) t h in
+      omega arith
 
   pub shared-owner : f .kind ≡ Declared Shared → isPlace (f .s) ≡ true
   shared-owner k = owner-place (framesOf ws) i f fine-f k
@@ -91,27 +99,43 @@ module _ (ws : List ℕ) (i : ℕ) (f : Frame) (t : Tally) (e : f ≡ frameAt (f
   pub shared-room : f .kind ≡ Declared Shared → roomAround (f .a) ≡ true
   shared-room k = content-room (framesOf ws) i f fine-f k
 
-  pub with-other : (k : Kind) → f .kind ≡ k → isShared k ≡ false → isModule k ≡ false → i < length ws → t ≡ tallyOf (take (i + 1) (framesOf ws))
-  with-other k q s m l = tally-other (take i (framesOf ws)) f t h (ap isShared q ∙ s) (ap isModule q ∙ m) ∙ ap tallyOf (frames-more ws i f e l)
+  pub with-other : (k : Kind) → f .kind ≡ k → isShared k ≡ false → isModule k ≡ false
+      → i < length ws → t ≡ tallyOf (take (i + 1) (framesOf ws))
+  with-other k q s m l =
+      tally-other (take i (framesOf ws)) f t h (ap isShared q ∙ s) (ap isModule q ∙ m)
+      ∙ ap tallyOf (frames-more ws i f e l)
 
-  pub with-module : (r : Tally) → f .kind ≡ Module → r ≡ tally (t .cells) (t .modules + 1) (t .types) → i < length ws → r ≡ tallyOf (take (i + 1) (framesOf ws))
-  with-module r q g l = g ∙ tally-module (take i (framesOf ws)) f t h (ap isShared q) (ap isModule q) ∙ ap tallyOf (frames-more ws i f e l)
+  pub with-module : (r : Tally) → f .kind ≡ Module
+      → r ≡ tally (t .cells) (t .modules + 1) (t .types) → i < length ws
+      → r ≡ tallyOf (take (i + 1) (framesOf ws))
+  with-module r q g l =
+      g ∙ tally-module (take i (framesOf ws)) f t h (ap isShared q) (ap isModule q)
+      ∙ ap tallyOf (frames-more ws i f e l)
 
-  pub with-shared : (r : Tally) (w : ℕ) → f .kind ≡ Declared Shared → w ≡ cellType (f .s) (f .a) → r ≡ tally (t .cells + 1) (t .modules) (set (t .types) (t .cells) w) → i < length ws → r ≡ tallyOf (take (i + 1) (framesOf ws))
-  with-shared r w q v g l = g ∙ ap (λ (x : ℕ). tally (t .cells + 1) (t .modules) (set (t .types) (t .cells) x)) v ∙ tally-cell (take i (framesOf ws)) f t h (ap isShared q) (ap isModule q) (cell-room q) ∙ ap tallyOf (frames-more ws i f e l)
+  pub with-shared : (r : Tally) (w : ℕ) → f .kind ≡ Declared Shared → w ≡ cellType (f .s) (f .a)
+      → r ≡ tally (t .cells + 1) (t .modules) (set (t .types) (t .cells) w) → i < length ws
+      → r ≡ tallyOf (take (i + 1) (framesOf ws))
+  with-shared r w q v g l =
+      g ∙ ap (λ (x : ℕ). tally (t .cells + 1) (t .modules) (set (t .types) (t .cells) x)) v
+      ∙ tally-cell (take i (framesOf ws)) f t h (ap isShared q) (ap isModule q) (cell-room q)
+      ∙ ap tallyOf (frames-more ws i f e l)
 
 pub ruleset counted-laws = (with-module, with-shared, with-other)
 
 -- each arm of the match on a kind, of the kinds that a tally counts
-pub counted-row : (k v : Kind) (r : Bool) → k ≡ v → r ≡ (isShared v || isModule v) → r ≡ (isShared k || isModule k)
+pub counted-row : (k v : Kind) (r : Bool) → k ≡ v → r ≡ (isShared v || isModule v)
+    → r ≡ (isShared k || isModule k)
 counted-row k v r e h = h ∙ ap (λ (w : Kind). isShared w || isModule w) (sym e)
 
 -- there is one kind of declaration, so its match asks nothing
-pub counted-declared : (k : Kind) (d : DeclarationKind) → k ≡ Declared d → true ≡ (isShared k || isModule k)
+pub counted-declared : (k : Kind) (d : DeclarationKind) → k ≡ Declared d
+    → true ≡ (isShared k || isModule k)
 counted-declared k Shared e = counted-row k (Declared Shared) true e refl
 
 -- a frame of another kind leaves the tally as it is
-pub tally-kept : (ws : List ℕ) (i : ℕ) (f : Frame) (t : Tally) (x : Bool) → f ≡ frameAt (framesOf ws) i → x ≡ (isShared (f .kind) || isModule (f .kind)) → x ≡ false → t ≡ tallyOf (take i (framesOf ws)) → i < length ws → t ≡ tallyOf (take (i + 1) (framesOf ws))
+pub tally-kept : (ws : List ℕ) (i : ℕ) (f : Frame) (t : Tally) (x : Bool)
+    → f ≡ frameAt (framesOf ws) i → x ≡ (isShared (f .kind) || isModule (f .kind)) → x ≡ false
+    → t ≡ tallyOf (take i (framesOf ws)) → i < length ws → t ≡ tallyOf (take (i + 1) (framesOf ws))
 tally-kept ws i f t x e p n h l =
     let z = or-false (isShared (f .kind)) (isModule (f .kind)) (sym p ∙ n) in
     tally-other (take i (framesOf ws)) f t h (z .0) (z .1) ∙ ap tallyOf (frames-more ws i f e l)
@@ -135,19 +159,25 @@ module _ (ws : List ℕ) (i : ℕ) (x : Bool) (e : x ≡ frameFine (framesOf ws)
   pub is-fine : not x ≡ false → frameFine (framesOf ws) i (frameAt (framesOf ws) i) ≡ true
   is-fine n = sym e ∙ not-false x n
 
-  pub fields-here : not x ≡ true → SeekingField (framesOf ws) i → i < length ws → At i ≡ found (fieldFault (framesOf ws))
+  pub fields-here : not x ≡ true → SeekingField (framesOf ws) i → i < length ws
+      → At i ≡ found (fieldFault (framesOf ws))
   unfolding fieldFault
   fields-here n g l = seek-here (fieldTest (framesOf ws)) ws i g l (ap not (sym e) ∙ n)
 
-  pub fields-next : not x ≡ false → SeekingField (framesOf ws) i → i < length ws → SeekingField (framesOf ws) (i + 1)
+  pub fields-next : not x ≡ false → SeekingField (framesOf ws) i → i < length ws
+      → SeekingField (framesOf ws) (i + 1)
   fields-next n g l = seek-next (fieldTest (framesOf ws)) ws i g l (ap not (sym e) ∙ n)
 
   -- no 17th shared cell is counted
-  pub room-next : (t r : Tally) → not x ≡ false → t ≡ tallyOf (take i (framesOf ws)) → r ≡ tallyOf (take (i + 1) (framesOf ws)) → t .cells ≤ 16 → i < length ws → r .cells ≤ 16
+  pub room-next : (t r : Tally) → not x ≡ false → t ≡ tallyOf (take i (framesOf ws))
+      → r ≡ tallyOf (take (i + 1) (framesOf ws)) → t .cells ≤ 16 → i < length ws → r .cells ≤ 16
   room-next t r n h k m l = go (isShared (frameAt (framesOf ws) i .kind)) refl
     where
-      cells-are : r .cells ≡ countOf isShared (take i (framesOf ws) ++ (frameAt (framesOf ws) i ∷ []))
-      cells-are = tally-cells (take (i + 1) (framesOf ws)) r k ∙ ap (countOf isShared) (sym (frames-more ws i (frameAt (framesOf ws) i) refl l))
+      cells-are : r .cells
+          ≡ countOf isShared (take i (framesOf ws) ++ (frameAt (framesOf ws) i ∷ []))
+      cells-are =
+          tally-cells (take (i + 1) (framesOf ws)) r k
+          ∙ ap (countOf isShared) (sym (frames-more ws i (frameAt (framesOf ws) i) refl l))
 
       go : (b : Bool) → isShared (frameAt (framesOf ws) i .kind) ≡ b → r .cells ≤ 16
       go true s =
@@ -160,6 +190,7 @@ module _ (ws : List ℕ) (i : ℕ) (x : Bool) (e : x ≡ frameFine (framesOf ws)
           let d = tally-cells (take i (framesOf ws)) t h in
           omega arith
 
-pub fields-end : (ws : List ℕ) (i : ℕ) → SeekingField (framesOf ws) i → length ws ≤ i → Nowhere ≡ found (fieldFault (framesOf ws))
+pub fields-end : (ws : List ℕ) (i : ℕ) → SeekingField (framesOf ws) i → length ws ≤ i
+    → Nowhere ≡ found (fieldFault (framesOf ws))
 unfolding fieldFault
 fields-end ws i g l = seek-end (fieldTest (framesOf ws)) ws i g l

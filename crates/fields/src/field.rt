@@ -35,9 +35,11 @@ ghost use Rattle.language.specs.Limits.{mostLines, mostSchedulers, mostShared, 
 ghost use Rattle.text.specs.Frames.{framesOf};
 ghost use Rattle.program.specs.Trees.{frameAt};
 ghost use Rattle.fields.specs.Fields.{headerFine, schedulersOf, firstContentFine, frameFine};
-ghost use Rattle.fields.specs.inner.Scans.{headerFault, fieldFault, found, fieldsFine, tallyOf};
+ghost use Rattle.fields.specs.inner.Scans.{headerFault, fieldFault, found, fieldsFine};
+ghost use Rattle.fields.specs.inner.Scans.{tallyOf};
 
-// Of the frames passed: how many are shared cells, how many are modules, and the types of these cells.
+// Of the frames passed: how many are shared cells, how many are modules, and the types of these
+// cells.
 struct Tally {
     cells: usize,
     modules: usize,
@@ -76,7 +78,8 @@ pub fn header(words: &[u64]) -> Found
 
 // How many schedulers the file has.
 fn schedulers_in(words: &[u64]) -> u8
-    requires { ⌜ (0 < length (now words)) × (schedulersOf (framesOf (now words)) ≤ mostSchedulers) ⌝ }
+    requires { ⌜ (0 < length (now words)) × (schedulersOf (framesOf
+        (now words)) ≤ mostSchedulers) ⌝ }
     ensures { λ r. ⌜ r ≡ schedulersOf (framesOf (now (words .entry))) ⌝ }
 {
     let f = frame_at(words, 0);
@@ -84,14 +87,16 @@ fn schedulers_in(words: &[u64]) -> u8
 }
 
 fn place_fine(words: &[u64], v: u8) -> bool
-    requires { ⌜ (0 < length (now words)) × (schedulersOf (framesOf (now words)) ≤ mostSchedulers) ⌝ }
+    requires { ⌜ (0 < length (now words)) × (schedulersOf (framesOf
+        (now words)) ≤ mostSchedulers) ⌝ }
     ensures { λ r. ⌜ r ≡ hasPlace (schedulersOf (framesOf (now (words .entry)))) v ⌝ }
 {
     Place::is_in_file(v as u64, schedulers_in(words))
 }
 
 fn scheduler_fine(words: &[u64], v: u8) -> bool
-    requires { ⌜ (0 < length (now words)) × (schedulersOf (framesOf (now words)) ≤ mostSchedulers) ⌝ }
+    requires { ⌜ (0 < length (now words)) × (schedulersOf (framesOf
+        (now words)) ≤ mostSchedulers) ⌝ }
     ensures { λ r. ⌜ r ≡ hasScheduler (schedulersOf (framesOf (now (words .entry)))) v ⌝ }
 {
     Place::is_scheduler_in_file(v as u64, schedulers_in(words))
@@ -109,8 +114,10 @@ fn further_fine(a: u16, v: u16) -> bool
 
 // The type of the parameter `n`, of s parameters.
 fn type_fine(words: &[u64], n: u8, s: u8, v: u16) -> bool
-    requires { ⌜ (0 < length (now words)) × (schedulersOf (framesOf (now words)) ≤ mostSchedulers) ⌝ }
-    ensures { λ r. ⌜ r ≡ (if leb n s then typeWord (schedulersOf (framesOf (now (words .entry)))) v else eqb v 0) ⌝ }
+    requires { ⌜ (0 < length (now words)) × (schedulersOf (framesOf
+        (now words)) ≤ mostSchedulers) ⌝ }
+    ensures { λ r. ⌜ r
+        ≡ (if leb n s then typeWord (schedulersOf (framesOf (now (words .entry)))) v else eqb v 0) ⌝ }
 {
     if s < n {
         return v == 0;
@@ -214,8 +221,10 @@ fn arguments_fine(f: Frame) -> bool
 
 // A place in S, a child in A.
 fn placed_fine(words: &[u64], f: Frame) -> bool
-    requires { ⌜ (0 < length (now words)) × (schedulersOf (framesOf (now words)) ≤ mostSchedulers) ⌝ }
-    ensures { λ r. ⌜ r ≡ fieldsFine (framesOf (now (words .entry))) 0 f (statementUses StatementKind.DoAt) ⌝ }
+    requires { ⌜ (0 < length (now words)) × (schedulersOf (framesOf
+        (now words)) ≤ mostSchedulers) ⌝ }
+    ensures { λ r. ⌜ r
+        ≡ fieldsFine (framesOf (now (words .entry))) 0 f (statementUses StatementKind.DoAt) ⌝ }
 {
     if !place_fine(words, f.s) {
         return false;
@@ -228,7 +237,8 @@ fn placed_fine(words: &[u64], f: Frame) -> bool
 
 // No field of a statement or of an expression asks for the frame's number: it is 0 here.
 fn statement_fine(words: &[u64], f: Frame, k: StatementKind) -> bool
-    requires { ⌜ (0 < length (now words)) × (schedulersOf (framesOf (now words)) ≤ mostSchedulers) ⌝ }
+    requires { ⌜ (0 < length (now words)) × (schedulersOf (framesOf
+        (now words)) ≤ mostSchedulers) ⌝ }
     ensures { λ r. ⌜ r ≡ fieldsFine (framesOf (now (words .entry))) 0 f (statementUses k) ⌝ }
 {
     match k {
@@ -246,7 +256,8 @@ fn statement_fine(words: &[u64], f: Frame, k: StatementKind) -> bool
 }
 
 fn expression_fine(words: &[u64], f: Frame, k: ExpressionKind) -> bool
-    requires { ⌜ (0 < length (now words)) × (schedulersOf (framesOf (now words)) ≤ mostSchedulers) ⌝ }
+    requires { ⌜ (0 < length (now words)) × (schedulersOf (framesOf
+        (now words)) ≤ mostSchedulers) ⌝ }
     ensures { λ r. ⌜ r ≡ fieldsFine (framesOf (now (words .entry))) 0 f (expressionUses k) ⌝ }
 {
     match k {
@@ -271,7 +282,9 @@ fn room_for_cell(cells: usize) -> bool
 
 // The shared cell f, which has the number i.
 fn shared_fine(words: &[u64], i: usize, f: Frame, t: Tally) -> bool
-    requires { ⌜ (0 < length (now words)) × (schedulersOf (framesOf (now words)) ≤ mostSchedulers) × (t ≡ tallyOf (take i (framesOf (now words)))) × (t .cells ≤ mostShared) × (f .kind ≡ Declared Shared) ⌝ }
+    requires { ⌜ (0 < length (now words)) × (schedulersOf (framesOf (now words)) ≤ mostSchedulers)
+        × (t ≡ tallyOf (take i (framesOf (now words)))) × (t .cells ≤ mostShared)
+        × (f .kind ≡ Declared Shared) ⌝ }
     ensures { λ r. ⌜ r ≡ frameFine (framesOf (now (words .entry))) i f ⌝ }
 {
     if !room_for_cell(t.cells) {
@@ -291,7 +304,8 @@ fn shared_fine(words: &[u64], i: usize, f: Frame, t: Tally) -> bool
 
 // The module f, which has the number i.
 fn module_fine(words: &[u64], i: usize, f: Frame, t: Tally) -> bool
-    requires { ⌜ (0 < length (now words)) × (schedulersOf (framesOf (now words)) ≤ mostSchedulers) × (t ≡ tallyOf (take i (framesOf (now words)))) × (f .kind ≡ Module) ⌝ }
+    requires { ⌜ (0 < length (now words)) × (schedulersOf (framesOf (now words)) ≤ mostSchedulers)
+        × (t ≡ tallyOf (take i (framesOf (now words)))) × (f .kind ≡ Module) ⌝ }
     ensures { λ r. ⌜ r ≡ frameFine (framesOf (now (words .entry))) i f ⌝ }
 {
     if MOST_MODULES <= t.modules {
@@ -309,8 +323,10 @@ fn module_fine(words: &[u64], i: usize, f: Frame, t: Tally) -> bool
 // Whether 5 does not name frame i: no later header, no 17th shared cell or module, and the fields
 // that its kind has. By kind, without the table of uses: this is asked of each line.
 fn frame_fine(words: &[u64], i: usize, t: Tally) -> bool
-    requires { ⌜ (i < length (now words)) × (schedulersOf (framesOf (now words)) ≤ mostSchedulers) × (t ≡ tallyOf (take i (framesOf (now words)))) × (t .cells ≤ mostShared) ⌝ }
-    ensures { λ r. ⌜ r ≡ frameFine (framesOf (now (words .entry))) i (frameAt (framesOf (now (words .entry))) i) ⌝ }
+    requires { ⌜ (i < length (now words)) × (schedulersOf (framesOf (now words)) ≤ mostSchedulers)
+        × (t ≡ tallyOf (take i (framesOf (now words)))) × (t .cells ≤ mostShared) ⌝ }
+    ensures { λ r. ⌜ r
+        ≡ frameFine (framesOf (now (words .entry))) i (frameAt (framesOf (now (words .entry))) i) ⌝ }
 {
     let f = frame_at(words, i);
     let kind = f.kind;
@@ -328,7 +344,9 @@ fn frame_fine(words: &[u64], i: usize, t: Tally) -> bool
 
 fn with_cell(t: Tally, w: u16) -> Tally
     requires { ⌜ t .cells < mostShared ⌝ }
-    ensures { λ r. ⌜ r ≡ record { cells = t .cells + 1; modules = t .modules; types = set (t .types) (t .cells) w } ⌝ }
+    ensures { λ r. ⌜ r
+        ≡ record { cells = t .cells + 1; modules = t .modules; types = set (t .types) (t .cells) w }
+        ⌝ }
 {
     let n = t.cells;
     let mut types = t.types;
@@ -354,7 +372,9 @@ fn with_module(t: Tally) -> Tally
 
 // With frame i, which has no fault 5.
 fn counted(words: &[u64], i: usize, t: Tally) -> Tally
-    requires { ⌜ (i < length (now words)) × (schedulersOf (framesOf (now words)) ≤ mostSchedulers) × (t ≡ tallyOf (take i (framesOf (now words)))) × (frameFine (framesOf (now words)) i (frameAt (framesOf (now words)) i) ≡ true) ⌝ }
+    requires { ⌜ (i < length (now words)) × (schedulersOf (framesOf (now words)) ≤ mostSchedulers)
+        × (t ≡ tallyOf (take i (framesOf (now words))))
+        × (frameFine (framesOf (now words)) i (frameAt (framesOf (now words)) i) ≡ true) ⌝ }
     ensures { λ r. ⌜ r ≡ tallyOf (take (i + 1) (framesOf (now (words .entry)))) ⌝ }
 {
     let f = frame_at(words, i);
@@ -387,9 +407,11 @@ fn is_counted(k: Kind) -> bool
     }
 }
 
-// The lowest frame with the fault 5. It stops there, so that no 17th cell is counted. With a right header there are at most 8 schedulers, and a place is one of the nine.
+// The lowest frame with the fault 5. It stops there, so that no 17th cell is counted. With a right
+// header there are at most 8 schedulers, and a place is one of the nine.
 pub fn fields(words: &[u64]) -> Found
-    requires { ⌜ (0 < length (now words)) × (length (now words) ≤ mostLines) × (schedulersOf (framesOf (now words)) ≤ mostSchedulers) ⌝ }
+    requires { ⌜ (0 < length (now words)) × (length (now words) ≤ mostLines)
+        × (schedulersOf (framesOf (now words)) ≤ mostSchedulers) ⌝ }
     ensures { λ r. ⌜ r ≡ found (fieldFault (framesOf (now (words .entry)))) ⌝ }
 {
     let mut t = Tally {

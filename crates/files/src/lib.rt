@@ -1,5 +1,6 @@
-// Files for the programs: a whole file into a buffer, and the first bytes of a buffer printed. What the system refuses is said on
-// standard error, in a line that names the file and the reason; that such a line is not written can be told to nobody.
+// Files for the programs: a whole file into a buffer, and the first bytes of a buffer printed. What
+// the system refuses is said on standard error, in a line that names the file and the reason; that
+// such a line is not written can be told to nobody.
 use libc::STDOUT_FILENO;
 ghost use mathlib.Core.Path.{_≡_};
 ghost use mathlib.Core.Bool.{false};
@@ -24,15 +25,16 @@ fn unread(path: &[u8]) -> FileRead
     }
 }
 
-// Whether the input ends behind what was read of it. `io::read_full` stops both there and at a read that fails; the next
-// read tells the two apart, since one that failed has not moved on.
+// Whether the input ends behind what was read of it. `io::read_full` stops both there and at a read
+// that fails; the next read tells the two apart, since one that failed has not moved on.
 fn at_end(fd: i32) -> bool {
     let mut next = [0u8; 1];
     libc::read(fd, &mut next) == 0
 }
 
-// As much of a file as the buffer takes; an absent file reads as empty. Any other that cannot be opened or read to its end, as a
-// directory or one without permission, is not readable: that is said, and none of its bytes count.
+// As much of a file as the buffer takes; an absent file reads as empty. Any other that cannot be
+// opened or read to its end, as a directory or one without permission, is not readable: that is
+// said, and none of its bytes count.
 pub fn read_file(path: &[u8], buffer: &mut [u8]) -> FileRead
     ensures counts { λ r. ⌜ Counts (r .count) (now (buffer .exit)) ⌝ }
     ensures refused { λ r. ⌜ (r .readable ≡ false → r .count ≡ 0) ⌝ }
@@ -71,7 +73,8 @@ pub enum Printed {
     TooFew,
 }
 
-// Prints the first n bytes. Where the system does not take them all, that is said. What it does with them is outside the logic.
+// Prints the first n bytes. Where the system does not take them all, that is said. What it does
+// with them is outside the logic.
 pub fn print(bytes: &[u8], n: u32) -> Printed
     ensures { λ r. ⌜ tooFew r ≡ ltb (length (now (bytes .entry))) n ⌝ }
 {

@@ -1,4 +1,5 @@
--- What a cell's type means: of a cell around a type, the content is that type, the owner that owner, and it is one cell deeper. Assumes nothing.
+-- What a cell's type means: of a cell around a type, the content is that type, the owner that
+-- owner, and it is one cell deeper. Assumes nothing.
 use mathlib.Core.Path.{_≡_, sym, ap, subst, _∙_}
 use Prim.Native.Nat.{ℕ, suc, _+_, _*_, _/_, _%_, _^_, _<_, _≤_}
 use native.Mathlib.Omega.{arith}
@@ -15,15 +16,22 @@ pub record Around (o t : ℕ) : Type 0 where
   pub content : contentOf (cellType o t) ≡ t
 
 -- from the depths of both
-by-depth : (o t d : ℕ) → 0x0010 ≤ o * 16 ^ suc d + t → d ≡ cellDepth t → suc d ≡ cellDepth (o * 16 ^ suc d + t) → (o * 16 ^ suc d + t) / 16 ^ suc d ≡ o → (o * 16 ^ suc d + t) % 16 ^ suc d ≡ t → Around o t
+by-depth : (o t d : ℕ) → 0x0010 ≤ o * 16 ^ suc d + t → d ≡ cellDepth t
+    → suc d ≡ cellDepth (o * 16 ^ suc d + t) → (o * 16 ^ suc d + t) / 16 ^ suc d ≡ o
+    → (o * 16 ^ suc d + t) % 16 ^ suc d ≡ t → Around o t
 unfolding cellType ownerOf contentOf
 by-depth o t d c e f g h =
     let w : o * 16 ^ suc d + t ≡ o * 16 ^ suc (cellDepth t) + t = ap (λ (n : ℕ). o * 16 ^ suc n + t) e in
     let k : suc d ≡ cellDepth (o * 16 ^ suc (cellDepth t) + t) = f ∙ ap cellDepth w in
     record {
       deeper = sym k ∙ ap suc e;
-      owner = if-yes _ _ (le-leb 0x0010 _ (subst (λ (n : ℕ). 0x0010 ≤ n) w c)) ∙ ap (λ (n : ℕ). (o * 16 ^ suc (cellDepth t) + t) / 16 ^ n) (sym k) ∙ ap (λ (n : ℕ). n / 16 ^ suc d) (sym w) ∙ g;
-      content = ap (λ (n : ℕ). (o * 16 ^ suc (cellDepth t) + t) % 16 ^ n) (sym k) ∙ ap (λ (n : ℕ). n % 16 ^ suc d) (sym w) ∙ h;
+      owner =
+          if-yes _ _ (le-leb 0x0010 _ (subst (λ (n : ℕ). 0x0010 ≤ n) w c))
+          ∙ ap (λ (n : ℕ). (o * 16 ^ suc (cellDepth t) + t) / 16 ^ n) (sym k)
+          ∙ ap (λ (n : ℕ). n / 16 ^ suc d) (sym w) ∙ g;
+      content =
+          ap (λ (n : ℕ). (o * 16 ^ suc (cellDepth t) + t) % 16 ^ n) (sym k)
+          ∙ ap (λ (n : ℕ). n % 16 ^ suc d) (sym w) ∙ h;
     }
 
 -- an owner's digit in front of a type with room

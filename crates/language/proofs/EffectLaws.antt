@@ -1,4 +1,5 @@
--- What `Effect::with_owner` and `Effect::within` compute, return by return, with the tests that lead there as premises; what that means for the set is in Members. Assumes nothing.
+-- What `Effect::with_owner` and `Effect::within` compute, return by return, with the tests that
+-- lead there as premises; what that means for the set is in Members. Assumes nothing.
 use mathlib.Core.Path.{_≡_, refl, sym, ap, _∙_}
 use mathlib.Core.Bool.{Bool, true, false, not}
 use Prim.Native.Nat.{ℕ, _-_, _*_, _%_, _^_, _<_}
@@ -35,7 +36,8 @@ module _ (o : ℕ) (e : Effect) (b : Bool) (t : b ≡ isScheduler o) where
   unfolding withOwner
   owner-other h = no _ (sym t ∙ not-true b h) refl
 
-  pub owner-added : (n : ℕ) → not b ≡ false → n ≡ only o .bits → set (bitOr (e .bits) n) ≡ withOwner o e
+  pub owner-added : (n : ℕ) → not b ≡ false → n ≡ only o .bits
+      → set (bitOr (e .bits) n) ≡ withOwner o e
   unfolding withOwner
   owner-added n h k = yes _ (sym t ∙ not-false b h) (ap (λ (m : ℕ). set (bitOr (e .bits) m)) k)
 

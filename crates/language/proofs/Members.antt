@@ -1,4 +1,5 @@
--- What effects mean as sets of schedulers: membership in the empty set, in a join, with one owner added, and what it is to lie within a place. Assumes nothing.
+-- What effects mean as sets of schedulers: membership in the empty set, in a join, with one owner
+-- added, and what it is to lie within a place. Assumes nothing.
 use mathlib.Core.Path.{_≡_, refl, sym, ap, _∙_}
 use mathlib.Core.Bool.{Bool, true, false, _&&_, _||_}
 use Prim.Native.Nat.{ℕ, zero, suc, _+_, _-_, _/_, _%_, _^_, _<_, _≤_, max}
@@ -39,7 +40,8 @@ other-bit : (p o : ℕ) → (p ≡ o → ⊥) → bit p (2 ^ o) ≡ 0
 other-bit zero zero n = absurd (n refl)
 other-bit zero (suc o) n = bit-zero (2 ^ suc o) ∙ even-power o
 other-bit (suc p) zero n = bit-suc p 1 ∙ ap (λ (m : ℕ). m % 2) (zero-div (2 ^ p))
-other-bit (suc p) (suc o) n = bit-suc p (2 ^ suc o) ∙ ap (bit p) (half-power o) ∙ other-bit p o (λ e. n (ap suc e))
+other-bit (suc p) (suc o) n =
+    bit-suc p (2 ^ suc o) ∙ ap (bit p) (half-power o) ∙ other-bit p o (λ e. n (ap suc e))
 
 -- a bit of the half is one of the whole
 bit-of-half : (n : ℕ) → (q : ℕ) × (bit q (n / 2) ≡ 1) → (q : ℕ) × (bit q n ≡ 1)
@@ -54,7 +56,8 @@ some-bit : (k n : ℕ) → n < 2 ^ k → (n ≡ 0 → ⊥) → (q : ℕ) × (bit
 some-bit zero n h m = absurd (m (omega arith))
 some-bit (suc k) n h m = go (some-bit k (n / 2)) (ℕ-discrete (n % 2) 1)
   where
-    go : (n / 2 < 2 ^ k → (n / 2 ≡ 0 → ⊥) → (q : ℕ) × (bit q (n / 2) ≡ 1)) → Dec (n % 2 ≡ 1) → (q : ℕ) × (bit q n ≡ 1)
+    go : (n / 2 < 2 ^ k → (n / 2 ≡ 0 → ⊥) → (q : ℕ) × (bit q (n / 2) ≡ 1)) → Dec (n % 2 ≡ 1)
+        → (q : ℕ) × (bit q n ≡ 1)
     go f (yes e) = (0, bit-zero n ∙ e)
     go f (no d) =
         let e = pow-suc 2 k in
@@ -72,7 +75,8 @@ only-bit zero n m f = go (ℕ-discrete (n / 2) 0)
         absurd (omega arith)
 only-bit (suc p) n m f = go (only-bit p (n / 2)) (ℕ-discrete (n % 2) 1)
   where
-    go : ((n / 2 ≡ 0 → ⊥) → ((q : ℕ) → bit q (n / 2) ≡ 1 → q ≡ p) → n / 2 ≡ 2 ^ p) → Dec (n % 2 ≡ 1) → n ≡ 2 ^ suc p
+    go : ((n / 2 ≡ 0 → ⊥) → ((q : ℕ) → bit q (n / 2) ≡ 1 → q ≡ p) → n / 2 ≡ 2 ^ p) → Dec (n % 2 ≡ 1)
+        → n ≡ 2 ^ suc p
     go g (yes e) = let z = f 0 (bit-zero n ∙ e) in absurd (omega arith)
     go g (no d) =
         let r = g (λ z. m (omega (arith, d, z))) (λ q h. let z = f (suc q) (bit-suc q n ∙ h) in omega arith) in
@@ -89,7 +93,9 @@ member-none p =
     ∙ and-off (leb 2 p)
 
 bit-join : (q : ℕ) (e f : Effect) → bit q ((e ∪ f) .bits) ≡ max (bit q (e .bits)) (bit q (f .bits))
-bit-join q e f = ap (λ (n : ℕ). n % 2) (or-shr (e .bits) (f .bits) q ∙ or-step (e .bits / 2 ^ q) (f .bits / 2 ^ q)) ∙ omega arith
+bit-join q e f =
+    ap (λ (n : ℕ). n % 2) (or-shr (e .bits) (f .bits) q ∙ or-step (e .bits / 2 ^ q) (f .bits / 2 ^ q))
+    ∙ omega arith
 
 either : (x y z : ℕ) → x < 2 → y < 2 → z ≡ max x y → eqb z 1 ≡ (eqb x 1 || eqb y 1)
 either x y z a b e = go (eqb x 1) refl (eqb y 1) refl
@@ -97,7 +103,8 @@ either x y z a b e = go (eqb x 1) refl (eqb y 1) refl
     go : (s : Bool) → eqb x 1 ≡ s → (t : Bool) → eqb y 1 ≡ t → eqb z 1 ≡ (s || t)
     go true f t g = let h = eqb-true x 1 f in eq-eqb z 1 (omega arith)
     go false f true g = let h = eqb-true y 1 g in eq-eqb z 1 (omega arith)
-    go false f false g = ne-eqb z 1 (λ i. let h = eqb-false x 1 f in let k = eqb-false y 1 g in omega (arith, h, k))
+    go false f false g =
+        ne-eqb z 1 (λ i. let h = eqb-false x 1 f in let k = eqb-false y 1 g in omega (arith, h, k))
 
 and-or : (a x y : Bool) → (a && (x || y)) ≡ (a && x || a && y)
 and-or true x y = refl
@@ -129,7 +136,8 @@ member-only p o l = go (ℕ-discrete p o)
     go (no d) = none d (leb 2 p) refl ∙ sym (ne-eqb p o d)
 
 -- '.. add the cell's owner if it is a scheduler'
-pub member-owner : (p o : ℕ) (e : Effect) → member p (withOwner o e) ≡ (member p e || isScheduler o && eqb p o)
+pub member-owner : (p o : ℕ) (e : Effect)
+    → member p (withOwner o e) ≡ (member p e || isScheduler o && eqb p o)
 unfolding withOwner
 member-owner p o e =
     if-all (λ (f : Effect). member p f ≡ (member p e || isScheduler o && eqb p o)) (isScheduler o) (e ∪ only o) e
@@ -148,7 +156,9 @@ within-members p e h q m = go (eqb (e .bits) 0) refl h
     has : bit (q - 2) (e .bits) ≡ 1
     has = eqb-true _ _ (and-true (leb 2 q) _ m .1)
 
-    go : (t : Bool) → eqb (e .bits) 0 ≡ t → (t || isScheduler p && eqb (e .bits) (only p .bits)) ≡ true → (q ≡ p) × (isScheduler p ≡ true)
+    go : (t : Bool) → eqb (e .bits) 0 ≡ t
+        → (t || isScheduler p && eqb (e .bits) (only p .bits)) ≡ true
+        → (q ≡ p) × (isScheduler p ≡ true)
     go true z k =
         let n : bit (q - 2) (e .bits) ≡ 0 = ap (λ (b : ℕ). bit (q - 2) b) (eqb-true _ _ z) ∙ ap (λ (a : ℕ). a % 2) (zero-div (2 ^ (q - 2))) in
         let o = has in
@@ -170,7 +180,8 @@ members-within p e h = go (ℕ-discrete (e .bits) 0)
     below : (q : ℕ) → bit q (e .bits) ≡ 1 → q ≡ p - 2
     below q k = let z = h (2 + q) (bit-member q e k) .0 in omega arith
 
-    go : Dec (e .bits ≡ 0) → (eqb (e .bits) 0 || isScheduler p && eqb (e .bits) (only p .bits)) ≡ true
+    go : Dec (e .bits ≡ 0)
+        → (eqb (e .bits) 0 || isScheduler p && eqb (e .bits) (only p .bits)) ≡ true
     go (yes z) = rw (eq-eqb _ _ z)
     go (no d) =
         let b = some-bit (e .bits) (e .bits) (below-power (e .bits)) d in

@@ -1,4 +1,5 @@
--- What the constructors and the tests of `Place` compute, return by return, with the tests that lead there as premises. Assumes nothing.
+-- What the constructors and the tests of `Place` compute, return by return, with the tests that
+-- lead there as premises. Assumes nothing.
 use mathlib.Core.Path.{_≡_, refl, sym, _∙_}
 use mathlib.Core.Bool.{Bool, true, false, _&&_}
 use Prim.Native.Nat.{ℕ, _+_, _-_, _≤_, _<_}
@@ -44,7 +45,8 @@ scheduler-low = by-low 2
 pub scheduler-high : (n : ℕ) → 2 ≤ n → 9 < n → NoPlace ≡ placeRead (isScheduler n) n
 scheduler-high = by-high 2
 
-pub scheduler-right : (n : ℕ) → 2 ≤ n → n ≤ 9 → At (record { number = n }) ≡ placeRead (isScheduler n) n
+pub scheduler-right : (n : ℕ) → 2 ≤ n → n ≤ 9
+    → At (record { number = n }) ≡ placeRead (isScheduler n) n
 scheduler-right = by-right 2
 
 pub ruleset scheduler-laws = (scheduler-low, scheduler-high, scheduler-right)
@@ -62,7 +64,8 @@ read-none false n e = refl
 
 -- a number of which it is known that it is one of `low` to 9
 pub test-bounds : (low n : ℕ) → (leb low n && leb n 9) ≡ true → (low ≤ n) × (n ≤ 9)
-test-bounds low n h = let z = and-true (leb low n) (leb n 9) h in (leb-true low n (z .0), leb-true n 9 (z .1))
+test-bounds low n h =
+    let z = and-true (leb low n) (leb n 9) h in (leb-true low n (z .0), leb-true n 9 (z .1))
 
 pub from-home : (n : ℕ) → isScheduler n ≡ true → 2 ≤ n
 from-home n h = test-bounds 2 n h .0
@@ -72,7 +75,8 @@ fits-byte n h = let (a, b) = test-bounds 1 n h in omega arith
 
 -- a scheduler's number is a place's
 pub scheduler-place : (n : ℕ) → isScheduler n ≡ true → isPlace n ≡ true
-scheduler-place n h = let z = test-bounds 2 n h in rw (le-leb 1 n (let (a, b) = z in omega arith), le-leb n 9 (z .1))
+scheduler-place n h =
+    let z = test-bounds 2 n h in rw (le-leb 1 n (let (a, b) = z in omega arith), le-leb n 9 (z .1))
 
 -- ---- whether a place is a scheduler
 module _ (n : ℕ) where
@@ -94,7 +98,8 @@ module _ (low b n : ℕ) (x : PlaceRead) (e : x ≡ placeRead (leb low n && leb 
     there = read-at (leb low n && leb n 9) n p (sym e ∙ h)
 
     pub file-some : 1 ≤ p .number
-    file-some = let a = test-bounds low n (there .0) in let q = there .1 in let (c, d) = a in omega arith
+    file-some =
+        let a = test-bounds low n (there .0) in let q = there .1 in let (c, d) = a in omega arith
 
     pub file-has : leb (p .number - 1) b ≡ (leb low n && leb n 9 && leb n (1 + b))
     file-has =
@@ -105,10 +110,12 @@ module _ (low b n : ℕ) (x : PlaceRead) (e : x ≡ placeRead (leb low n && leb 
 
 -- ---- what is known of a place and of a scheduler of a file
 pub has-place : (b n : ℕ) → hasPlace b n ≡ true → (isPlace n ≡ true) × (n ≤ 1 + b)
-has-place b n h = let z = and-true (isPlace n) (leb n (1 + b)) h in (z .0, leb-true n (1 + b) (z .1))
+has-place b n h =
+    let z = and-true (isPlace n) (leb n (1 + b)) h in (z .0, leb-true n (1 + b) (z .1))
 
 pub has-scheduler : (b n : ℕ) → hasScheduler b n ≡ true → (isScheduler n ≡ true) × (n ≤ 1 + b)
-has-scheduler b n h = let z = and-true (isScheduler n) (leb n (1 + b)) h in (z .0, leb-true n (1 + b) (z .1))
+has-scheduler b n h =
+    let z = and-true (isScheduler n) (leb n (1 + b)) h in (z .0, leb-true n (1 + b) (z .1))
 
 -- one that is not private is a scheduler
 pub place-scheduler : (b n : ℕ) → hasPlace b n ≡ true → (n ≡ 1 → ⊥) → hasScheduler b n ≡ true

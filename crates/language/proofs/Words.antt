@@ -1,14 +1,17 @@
--- What the functions on type words compute, return by return, with the tests that lead there as premises: a ruleset for each function. Assumes nothing.
+-- What the functions on type words compute, return by return, with the tests that lead there as
+-- premises: a ruleset for each function. Assumes nothing.
 use mathlib.Core.Bool.{Bool, true, false, not, _&&_, _||_, true≢false}
 use mathlib.Core.Path.{_≡_, refl, sym, ap, _∙_}
 use Prim.Native.Nat.{ℕ, suc, _+_, _*_, _/_, _%_, _^_, _<_, _≤_}
 use native.Mathlib.Omega.{arith}
 use lib.Dec.{leb, eqb}
-use borrow.Author.Tests.{lt-ltb, le-ltb, le-leb, lt-leb, eq-eqb, ne-eqb, eqb-false, not-true, not-false}
+use borrow.Author.Tests.{lt-ltb, le-ltb, le-leb, lt-leb, eq-eqb, ne-eqb, eqb-false, not-true}
+use borrow.Author.Tests.{not-false}
 use Rattle.basics.proofs.Ifs.{yes, no, and-off}
 use Rattle.language.specs.Places.{isPlace, hasPlace}
 use Rattle.language.specs.inner.Reads.{placeRead, cellRead}
-use Rattle.language.specs.Types.{cellDepth, cellType, ownerOf, contentOf, public, ownerDigit, typeWord, contentWord, digitOf}
+use Rattle.language.specs.Types.{cellDepth, cellType, ownerOf, contentOf, public, ownerDigit}
+use Rattle.language.specs.Types.{typeWord, contentWord, digitOf}
 use Rattle.language.specs.declared.Place.{Place}
 use Rattle.language.specs.declared.PlaceRead.{PlaceRead}
 use Rattle.language.specs.declared.PlaceRead.the-variants.{At, NoPlace}
@@ -72,8 +75,10 @@ content-3 t a b h = by-content t 3 _ (depth-3 t a b h) refl
 
 pub ruleset content-laws = (content-0, content-1, content-2, content-3)
 
--- ---- the type of a cell of owner o around t: o is no place, t has room for one cell more, or it has none
-by-cell : (o t d : ℕ) → 1 ≤ o → o ≤ 9 → t < 0x1000 → d ≡ cellDepth t → Word (o * 16 ^ suc d + t) ≡ cellRead o t
+-- ---- the type of a cell of owner o around t: o is no place, t has room for one cell more, or it
+-- has none
+by-cell : (o t d : ℕ) → 1 ≤ o → o ≤ 9 → t < 0x1000 → d ≡ cellDepth t
+    → Word (o * 16 ^ suc d + t) ≡ cellRead o t
 unfolding cellRead cellType
 by-cell o t d a b h e = yes _ (simp (le-leb _ _ a, le-leb _ _ b, lt-ltb _ _ h)) (ap (λ (n : ℕ). Word (o * 16 ^ suc n + t)) e)
 
@@ -88,20 +93,24 @@ cell-owner-high o t h = no _ (simp (le-leb 1 o (omega arith), lt-leb _ _ h)) ref
 pub cell-around-0 : (o t : ℕ) → 1 ≤ o → o ≤ 9 → t < 0x0010 → Word (o * 0x0010 + t) ≡ cellRead o t
 cell-around-0 o t a b h = by-cell o t 0 a b (omega arith) (depth-0 t h)
 
-pub cell-around-1 : (o t : ℕ) → 1 ≤ o → o ≤ 9 → 0x0010 ≤ t → t < 0x0100 → Word (o * 0x0100 + t) ≡ cellRead o t
+pub cell-around-1 : (o t : ℕ) → 1 ≤ o → o ≤ 9 → 0x0010 ≤ t → t < 0x0100
+    → Word (o * 0x0100 + t) ≡ cellRead o t
 cell-around-1 o t a b x h = by-cell o t 1 a b (omega arith) (depth-1 t x h)
 
-pub cell-around-2 : (o t : ℕ) → 1 ≤ o → o ≤ 9 → 0x0010 ≤ t → 0x0100 ≤ t → t < 0x1000 → Word (o * 0x1000 + t) ≡ cellRead o t
+pub cell-around-2 : (o t : ℕ) → 1 ≤ o → o ≤ 9 → 0x0010 ≤ t → 0x0100 ≤ t → t < 0x1000
+    → Word (o * 0x1000 + t) ≡ cellRead o t
 cell-around-2 o t a b x y h = by-cell o t 2 a b h (depth-2 t x y h)
 
 pub cell-too-deep : (o t : ℕ) → 0x1000 ≤ t → TooDeep ≡ cellRead o t
 unfolding cellRead
 cell-too-deep o t h = no _ (rw (le-ltb t 0x1000 h, and-off)) refl
 
-pub ruleset cell-type-laws = (cell-owner-low, cell-owner-high, cell-around-0, cell-around-1, cell-around-2, cell-too-deep)
+pub ruleset cell-type-laws =
+    (cell-owner-low, cell-owner-high, cell-around-0, cell-around-1, cell-around-2, cell-too-deep)
 
 -- ---- the owner read as a place
-pub owner-read : (t o : ℕ) (x : PlaceRead) → o ≡ ownerOf t → x ≡ placeRead (isPlace o) o → x ≡ placeRead (isPlace (ownerOf t)) (ownerOf t)
+pub owner-read : (t o : ℕ) (x : PlaceRead) → o ≡ ownerOf t → x ≡ placeRead (isPlace o) o
+    → x ≡ placeRead (isPlace (ownerOf t)) (ownerOf t)
 owner-read t o x e h = h ∙ ap (λ (n : ℕ). placeRead (isPlace n) n) e
 
 -- ---- public types: a place that is not 1, or no place at all
@@ -124,7 +133,8 @@ module _ (b left o : ℕ) where
   unfolding ownerDigit
   digit-0 e = yes _ (eq-eqb _ _ e) refl
 
-  by-digit : (r : Bool) → (o ≡ 0 → ⊥) → r ≡ (hasPlace b o && (not (eqb o 1) || leb left 1)) → r ≡ ownerDigit b left o
+  by-digit : (r : Bool) → (o ≡ 0 → ⊥) → r ≡ (hasPlace b o && (not (eqb o 1) || leb left 1))
+      → r ≡ ownerDigit b left o
   unfolding ownerDigit
   by-digit r n h = no _ (ne-eqb _ _ n) h
 
@@ -144,13 +154,18 @@ pub ruleset digit-laws = (digit-0, digit-none, digit-private, digit-scheduler)
 module _ (b t : ℕ) where
   pub word-low : t % 16 < 1 → false ≡ typeWord b t
   unfolding typeWord
-  word-low h = rw (ne-eqb (digitOf 0 t) 1 (λ e. omega arith), ne-eqb (digitOf 0 t) 2 (λ e. omega arith))
+  word-low h =
+      rw (ne-eqb (digitOf 0 t) 1 (λ e. omega arith), ne-eqb (digitOf 0 t) 2 (λ e. omega arith))
 
   pub word-high : 2 < t % 16 → false ≡ typeWord b t
   unfolding typeWord
-  word-high h = rw (ne-eqb (digitOf 0 t) 1 (λ e. omega arith), ne-eqb (digitOf 0 t) 2 (λ e. omega arith))
+  word-high h =
+      rw (ne-eqb (digitOf 0 t) 1 (λ e. omega arith), ne-eqb (digitOf 0 t) 2 (λ e. omega arith))
 
-  by-word : (r : Bool) → 1 ≤ t % 16 → t % 16 ≤ 2 → r ≡ (ownerDigit b (digitOf 2 t) (digitOf 1 t) && ownerDigit b (digitOf 3 t) (digitOf 2 t) && ownerDigit b 0 (digitOf 3 t)) → r ≡ typeWord b t
+  by-word : (r : Bool) → 1 ≤ t % 16 → t % 16 ≤ 2
+      → r
+      ≡ (ownerDigit b (digitOf 2 t) (digitOf 1 t) && ownerDigit b (digitOf 3 t) (digitOf 2 t) && ownerDigit b 0 (digitOf 3 t))
+      → r ≡ typeWord b t
   unfolding typeWord
   by-word r l h e = e ∙ sym (rw (kind (eqb (digitOf 0 t) 1) refl))
     where
@@ -161,13 +176,19 @@ module _ (b t : ℕ) where
       kind true n = refl
       kind false n = eq-eqb (digitOf 0 t) 2 (at-2 (eqb-false (digitOf 0 t) 1 n))
 
-  pub word-1 : (x : Bool) → 1 ≤ t % 16 → t % 16 ≤ 2 → x ≡ ownerDigit b (t / 0x0100 % 16) (t / 0x0010 % 16) → not x ≡ true → false ≡ typeWord b t
+  pub word-1 : (x : Bool) → 1 ≤ t % 16 → t % 16 ≤ 2
+      → x ≡ ownerDigit b (t / 0x0100 % 16) (t / 0x0010 % 16) → not x ≡ true → false ≡ typeWord b t
   word-1 x l h e n = by-word false l h (rw (sym e ∙ not-true x n))
 
-  pub word-2 : (x y : Bool) → 1 ≤ t % 16 → t % 16 ≤ 2 → x ≡ ownerDigit b (t / 0x0100 % 16) (t / 0x0010 % 16) → not x ≡ false → y ≡ ownerDigit b (t / 0x1000 % 16) (t / 0x0100 % 16) → not y ≡ true → false ≡ typeWord b t
+  pub word-2 : (x y : Bool) → 1 ≤ t % 16 → t % 16 ≤ 2
+      → x ≡ ownerDigit b (t / 0x0100 % 16) (t / 0x0010 % 16) → not x ≡ false
+      → y ≡ ownerDigit b (t / 0x1000 % 16) (t / 0x0100 % 16) → not y ≡ true → false ≡ typeWord b t
   word-2 x y l h e n f m = by-word false l h (rw (sym e ∙ not-false x n, sym f ∙ not-true y m))
 
-  pub word-3 : (x y z : Bool) → 1 ≤ t % 16 → t % 16 ≤ 2 → x ≡ ownerDigit b (t / 0x0100 % 16) (t / 0x0010 % 16) → not x ≡ false → y ≡ ownerDigit b (t / 0x1000 % 16) (t / 0x0100 % 16) → not y ≡ false → z ≡ ownerDigit b 0 (t / 0x1000 % 16) → z ≡ typeWord b t
+  pub word-3 : (x y z : Bool) → 1 ≤ t % 16 → t % 16 ≤ 2
+      → x ≡ ownerDigit b (t / 0x0100 % 16) (t / 0x0010 % 16) → not x ≡ false
+      → y ≡ ownerDigit b (t / 0x1000 % 16) (t / 0x0100 % 16) → not y ≡ false
+      → z ≡ ownerDigit b 0 (t / 0x1000 % 16) → z ≡ typeWord b t
   word-3 x y z l h e n f m g = by-word z l h (g ∙ rw (sym e ∙ not-false x n, sym f ∙ not-false y m))
 
 pub ruleset word-laws = (word-low, word-high, word-1, word-2, word-3)
@@ -178,11 +199,13 @@ module _ (b t : ℕ) where
   unfolding contentWord
   content-word-bad x e n = rw (sym e ∙ not-true x n)
 
-  pub content-word-private : (x y : Bool) → x ≡ typeWord b t → not x ≡ false → y ≡ public t → not y ≡ true → false ≡ contentWord b t
+  pub content-word-private : (x y : Bool) → x ≡ typeWord b t → not x ≡ false → y ≡ public t
+      → not y ≡ true → false ≡ contentWord b t
   unfolding contentWord
   content-word-private x y e n f m = rw (sym e ∙ not-false x n, sym f ∙ not-true y m)
 
-  pub content-word-good : (x y : Bool) (d : ℕ) → x ≡ typeWord b t → not x ≡ false → y ≡ public t → not y ≡ false → d ≡ cellDepth t → leb d 2 ≡ contentWord b t
+  pub content-word-good : (x y : Bool) (d : ℕ) → x ≡ typeWord b t → not x ≡ false → y ≡ public t
+      → not y ≡ false → d ≡ cellDepth t → leb d 2 ≡ contentWord b t
   unfolding contentWord
   content-word-good x y d e n f m g = rw (sym e ∙ not-false x n, sym f ∙ not-false y m, g)
 

@@ -5,7 +5,8 @@ ghost use mathlib.Core.Bool.{true};
 ghost use Rattle.language.specs.Places.{isScheduler};
 ghost use Rattle.language.specs.Effects.{noEffect, only, _∪_, withOwner, within};
 
-// A set of schedulers, 2 to 9, a bit for each: scheduler p is a member where bit p - 2 is set. So each number is a set of schedulers.
+// A set of schedulers, 2 to 9, a bit for each: scheduler p is a member where bit p - 2 is set. So
+// each number is a set of schedulers.
 pub struct Effect {
     bits: u8,
 }
@@ -60,7 +61,8 @@ impl Effect {
         }
     }
 
-    // Whether nothing but the scheduler `place` is a member: of a private place, whether nothing is.
+    // Whether nothing but the scheduler `place` is a member: of a private place, whether nothing
+    // is.
     pub fn within(self, place: Place) -> bool
         ensures { λ r. ⌜ r ≡ within (place .number) self ⌝ }
     {

@@ -1,9 +1,11 @@
-// The words of the language: places here, and type words, effects, kinds of frames, frames and verdicts in modules.
+// The words of the language: places here, and type words, effects, kinds of frames, frames and
+// verdicts in modules.
 ghost use mathlib.Core.Path.{_≡_};
 ghost use mathlib.Core.Bool.{true};
 ghost use Prim.Native.Nat.{_-_};
 ghost use lib.Dec.{eqb};
-ghost use Rattle.language.specs.Places.{private, home, isPlace, isScheduler, hasPlace, hasScheduler};
+ghost use Rattle.language.specs.Places.{private, home, isPlace, isScheduler, hasPlace};
+ghost use Rattle.language.specs.Places.{hasScheduler};
 ghost use Rattle.language.specs.inner.Reads.{placeRead};
 
 pub mod effect;
@@ -14,7 +16,8 @@ pub mod refusal;
 pub mod type_word;
 pub mod verdict;
 
-// A place: where a thread stands, and who owns a cell. Private (1), or one of the schedulers, 2 to 9: only the constructors make one.
+// A place: where a thread stands, and who owns a cell. Private (1), or one of the schedulers, 2 to
+// 9: only the constructors make one.
 pub struct Place {
     number: u8,
 }
@@ -58,8 +61,8 @@ impl Place {
         PlaceRead::At(Place { number: n as u8 })
     }
 
-    // The place of a number that has been found to be one: S of a frame that passes refusal 5, a word of a state in range. So no answer
-    // is needed for the others: the contract refuses them.
+    // The place of a number that has been found to be one: S of a frame that passes refusal 5, a
+    // word of a state in range. So no answer is needed for the others: the contract refuses them.
     pub fn known(n: u64) -> Self
         requires { ⌜ isPlace n ≡ true ⌝ }
         ensures { λ r. ⌜ r ≡ record { number = n } ⌝ }

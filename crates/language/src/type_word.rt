@@ -1,16 +1,19 @@
-// Type words: four hexadecimal digits, the owners of nested cells from the outside in, then 1 (number) or 2 (truth).
+// Type words: four hexadecimal digits, the owners of nested cells from the outside in, then 1
+// (number) or 2 (truth).
 use crate::Place;
 use crate::PlaceRead;
 ghost use mathlib.Core.Path.{_≡_};
 ghost use Rattle.language.specs.Places.{isPlace};
 ghost use Rattle.language.specs.inner.Reads.{placeRead, cellRead};
-ghost use Rattle.language.specs.Types.{cellDepth, isCell, ownerOf, contentOf, public, ownerDigit, typeWord, contentWord};
+ghost use Rattle.language.specs.Types.{cellDepth, isCell, ownerOf, contentOf, public};
+ghost use Rattle.language.specs.Types.{ownerDigit, typeWord, contentWord};
 
 pub const NUMBER: u16 = 0x0001;
 
 pub const TRUTH: u16 = 0x0002;
 
-// A cell's type around another: its word, or that there is none, since there are three cells already or the owner is no place.
+// A cell's type around another: its word, or that there is none, since there are three cells
+// already or the owner is no place.
 pub enum CellRead {
     Word(u16),
     TooDeep,

@@ -1,4 +1,5 @@
--- What the answer of `lay_into` means: where it is `Accepted`, the lines kept are frames without fault; its verdict is the one that `HasLayout` allows. Assumes nothing.
+-- What the answer of `lay_into` means: where it is `Accepted`, the lines kept are frames without
+-- fault; its verdict is the one that `HasLayout` allows. Assumes nothing.
 use mathlib.Core.Path.{_≡_, refl, sym, ap, subst, _∙_}
 use mathlib.Core.List.{List}
 use Prim.Native.Nat.{ℕ, _≤_, _<_}
@@ -19,7 +20,8 @@ use Rattle.layout.specs.inner.Scans.{layoutOf}
 use Rattle.layout.specs.LaidOut.{HasLayout, Judged}
 use Rattle.layout.specs.inner.Layouts.{layoutRead, layoutVerdict, LaidOut, laidAs, laidOut}
 use Rattle.layout.proofs.Layouts.{layout-says, layout-one}
-use Rattle.layout.proofs.Answers.{Whole, whole, frames-are, verdict-is, laid-refused, laid-whole}
+use Rattle.layout.proofs.Answers.{Whole, whole, frames-are, verdict-is, laid-refused}
+use Rattle.layout.proofs.Answers.{laid-whole}
 use Rattle.layout.proofs.Scopes.{accepted-no-fault}
 
 -- the text passes 1 to 7: its frames are those of the lines kept, at most 1,024, and have no fault
@@ -35,11 +37,13 @@ laid-reads : (bs : List ℕ) → layoutVerdict bs ≡ Accepted → Whole bs (lin
 unfolding layoutVerdict
 laid-reads bs e = go (reading bs) refl e
   where
-    go : (r : Reading) → reading bs ≡ r → layoutRead r ≡ Accepted → Whole bs (linesRead (reading bs))
+    go : (r : Reading) → reading bs ≡ r → layoutRead r ≡ Accepted
+        → Whole bs (linesRead (reading bs))
     go (refused n j) q h = absurd (let z : _≡_ {A = ℕ} 0 1 = cc in omega arith)
     go (frames fs) q h = whole bs (linesRead (reading bs)) (ap textRead q ∙ ap (λ (r : Reading). Frames (linesRead r)) (sym q))
 
-laid-accepts : (bs : List ℕ) (n : ℕ) → Whole bs n → layoutVerdict bs ≡ Accepted → layoutOf (textFrames bs) ≡ Accepted
+laid-accepts : (bs : List ℕ) (n : ℕ) → Whole bs n → layoutVerdict bs ≡ Accepted
+    → layoutOf (textFrames bs) ≡ Accepted
 unfolding layoutVerdict
 laid-accepts bs n w e = ap layoutRead (sym (w .is)) ∙ e
 
@@ -52,7 +56,9 @@ laid-passed bs l e v =
     let r : textWords bs .read ≡ Frames (linesRead (reading bs)) = read-field bs (textWords bs) refl ∙ ap textRead (w .is) ∙ ap Frames (w .count) in
     record {
       reads = w .is;
-      lines = ap (λ (x : LaidOut). framesOf (take (x .count) (x .words))) e ∙ frames-are bs (textWords bs .read) (textWords bs .words) refl (linesRead (reading bs)) r;
+      lines =
+          ap (λ (x : LaidOut). framesOf (take (x .count) (x .words))) e
+          ∙ frames-are bs (textWords bs .read) (textWords bs .words) refl (linesRead (reading bs)) r;
       count = w .count ∙ sym c;
       some = (let s = w .some in omega arith);
       few = (let f = w .fits in omega arith);
@@ -86,7 +92,8 @@ module _ (bs : List ℕ) (t : TextRead) (ws : List ℕ) (h : readAs t ws ≡ tex
   pub judged-refused : (n j : ℕ) → t ≡ Refused n j → Judged bs (Rejected n j)
   judged-refused n j e = judged bs _ (laid-refused bs t ws h n j e)
 
-  pub judged-whole : (n : ℕ) → t ≡ Frames n → (v : Verdict) → v ≡ layoutOf (framesOf (take n ws)) → Judged bs v
+  pub judged-whole : (n : ℕ) → t ≡ Frames n → (v : Verdict) → v ≡ layoutOf (framesOf (take n ws))
+      → Judged bs v
   judged-whole n e v q = judged bs _ (laid-whole bs t ws h n e v q)
 
 pub ruleset judged-laws = (judged-refused, judged-whole)

@@ -1,4 +1,5 @@
--- What a text comes to 'after 1 to 7', from the answer of `lay_into` or from the rules. Assumes nothing.
+-- What a text comes to 'after 1 to 7', from the answer of `lay_into` or from the rules. Assumes
+-- nothing.
 use mathlib.Core.Path.{_≡_, refl, sym, ap, _∙_}
 use mathlib.Core.List.{List}
 use Prim.Native.Nat.{ℕ}
@@ -20,14 +21,16 @@ use Rattle.layout.proofs.Accepted.{laid-passed}
 
 module _ {A : Type 0} (refusal : ℕ → ℕ → A) (passed : List Frame → A) (bs : List ℕ) where
   -- by the rules: the text reads as these frames, and they have no fault
-  pub text-fine : (fs : List Frame) → Reads bs (frames fs) → NoFault fs → passed fs ≡ afterReading refusal passed (reading bs)
+  pub text-fine : (fs : List Frame) → Reads bs (frames fs) → NoFault fs
+      → passed fs ≡ afterReading refusal passed (reading bs)
   text-fine fs h f =
       sym
       (ap (afterReading refusal passed) (reads-one (reads bs) h)
       ∙ ap (afterLayout refusal (passed fs)) (no-fault-accepted fs (some-frame h refl) f))
 
   module _ (l : LaidOut) (e : l ≡ laidOut bs) where
-    by-reading : (r : Reading) → reading bs ≡ r → (n j : ℕ) → l .verdict ≡ Rejected n j → refusal n j ≡ afterReading refusal passed r
+    by-reading : (r : Reading) → reading bs ≡ r → (n j : ℕ) → l .verdict ≡ Rejected n j
+        → refusal n j ≡ afterReading refusal passed r
     unfolding layoutVerdict
     by-reading (refused m k) q n j z =
         let y : Rejected m k ≡ Rejected n j = sym (ap layoutRead q) ∙ sym (verdict-is bs l e) ∙ z in
@@ -36,10 +39,12 @@ module _ {A : Type 0} (refusal : ℕ → ℕ → A) (passed : List Frame → A) 
         let y : layoutOf fs ≡ Rejected n j = sym (ap layoutRead q) ∙ sym (verdict-is bs l e) ∙ z in
         sym (ap (afterLayout refusal (passed fs)) y)
 
-    pub text-refused : (n j : ℕ) → l .verdict ≡ Rejected n j → refusal n j ≡ afterReading refusal passed (reading bs)
+    pub text-refused : (n j : ℕ) → l .verdict ≡ Rejected n j
+        → refusal n j ≡ afterReading refusal passed (reading bs)
     text-refused n j z = by-reading (reading bs) refl n j z
 
-    pub text-passed : l .verdict ≡ Accepted → (n : ℕ) → n ≡ l .count → passed (framesOf (take n (l .words))) ≡ afterReading refusal passed (reading bs)
+    pub text-passed : l .verdict ≡ Accepted → (n : ℕ) → n ≡ l .count
+        → passed (framesOf (take n (l .words))) ≡ afterReading refusal passed (reading bs)
     text-passed a n q =
         let r = laid-passed bs l e a in
         ap (λ (k : ℕ). passed (framesOf (take k (l .words)))) q ∙ ap passed (r .lines)

@@ -10,7 +10,8 @@ use Rattle.language.specs.declared.verdict.Verdict.{Verdict}
 use Rattle.language.specs.declared.verdict.Verdict.the-variants.{Accepted, Rejected}
 use Rattle.text.specs.Frames.{wordsOf, framesOf, textFrames}
 use Rattle.text.specs.Reading.{Reading, frames, refused, Reads}
-use Rattle.text.specs.inner.Reading.{reading, textRead, linesRead, wordArray, TextWords, readAs, textWords}
+use Rattle.text.specs.inner.Reading.{reading, textRead, linesRead, wordArray, TextWords, readAs}
+use Rattle.text.specs.inner.Reading.{textWords}
 use Rattle.text.specs.declared.reading.TextRead.{TextRead}
 use Rattle.text.specs.declared.reading.TextRead.the-variants.{Frames, Refused}
 use Rattle.text.proofs.Readings.{reads, some-frame}
@@ -56,7 +57,8 @@ pub record Whole (bs : List ℕ) (n : ℕ) : Type 0 where
   pub fits : n ≤ 1024
   pub some : 0 < n
 
-frames-of : {bs : List ℕ} {r : Reading} (fs : List Frame) → Reads bs r → r ≡ frames fs → (fs ≡ textFrames bs) × (length bs ≤ 17408)
+frames-of : {bs : List ℕ} {r : Reading} (fs : List Frame) → Reads bs r → r ≡ frames fs
+    → (fs ≡ textFrames bs) × (length bs ≤ 17408)
 frames-of fs Reads.empty q = absurd (let z : _≡_ {A = ℕ} 0 1 = cc in omega arith)
 frames-of fs (Reads.over l) q = absurd (let z : _≡_ {A = ℕ} 0 1 = cc in omega arith)
 frames-of fs (Reads.wrong k l w m) q = absurd (let z : _≡_ {A = ℕ} 0 1 = cc in omega arith)
@@ -90,10 +92,13 @@ module _ (bs : List ℕ) (t : TextRead) (ws : List ℕ) (h : readAs t ws ≡ tex
 
   by-reading : (r : Reading) → reading bs ≡ r → answer (layoutRead r) (linesRead r) ws ≡ laidOut bs
   unfolding laidOut layoutVerdict
-  by-reading r e = ap (λ (s : Reading). answer (layoutRead s) (linesRead s) ws) (sym e) ∙ ap (λ (x : TextWords). answer (layoutRead (reading bs)) (linesRead (reading bs)) (x .words)) h
+  by-reading r e =
+      ap (λ (s : Reading). answer (layoutRead s) (linesRead s) ws) (sym e)
+      ∙ ap (λ (x : TextWords). answer (layoutRead (reading bs)) (linesRead (reading bs)) (x .words)) h
 
   pub laid-refused : (n j : ℕ) → t ≡ Refused n j → answer (Rejected n j) j ws ≡ laidOut bs
-  laid-refused n j e = by-reading (refused n j) (go (reading bs) (sym (read-field bs (readAs t ws) h) ∙ e))
+  laid-refused n j e =
+      by-reading (refused n j) (go (reading bs) (sym (read-field bs (readAs t ws) h) ∙ e))
     where
       go : (r : Reading) → textRead r ≡ Refused n j → r ≡ refused n j
       go (frames fs) q = absurd (let z : _≡_ {A = ℕ} 0 1 = cc in omega arith)
@@ -104,10 +109,15 @@ module _ (bs : List ℕ) (t : TextRead) (ws : List ℕ) (h : readAs t ws ≡ tex
     w = whole bs n (sym (read-field bs (readAs t ws) h) ∙ e)
 
     array : ws ≡ wordArray n bs
-    array = words-are ∙ ap (λ (r : Reading). wordArray (linesRead r) bs) (w .is) ∙ ap (λ (k : ℕ). wordArray k bs) (w .count)
+    array =
+        words-are ∙ ap (λ (r : Reading). wordArray (linesRead r) bs) (w .is)
+        ∙ ap (λ (k : ℕ). wordArray k bs) (w .count)
 
     pub lines-fit : n ≤ length ws
-    lines-fit = let a : length ws ≡ 1024 = ap length array ∙ array-length n bs (w .fits) in let b = w .fits in omega arith
+    lines-fit =
+        let a : length ws ≡ 1024 = ap length array ∙ array-length n bs (w .fits) in
+        let b = w .fits in
+        omega arith
 
     taken : take n ws ≡ wordsOf n bs
     taken = ap (take n) array ∙ array-take n bs
@@ -123,9 +133,11 @@ module _ (bs : List ℕ) (t : TextRead) (ws : List ℕ) (h : readAs t ws ≡ tex
 
     pub frames-are : framesOf (take n ws) ≡ textFrames bs
     unfolding textFrames
-    frames-are = ap framesOf (taken ∙ ap (λ (k : ℕ). wordsOf k bs) (sym (w .count) ∙ length-frames bs))
+    frames-are =
+        ap framesOf (taken ∙ ap (λ (k : ℕ). wordsOf k bs) (sym (w .count) ∙ length-frames bs))
 
-    pub laid-whole : (v : Verdict) → v ≡ layoutOf (framesOf (take n ws)) → answer v n ws ≡ laidOut bs
+    pub laid-whole : (v : Verdict) → v ≡ layoutOf (framesOf (take n ws))
+        → answer v n ws ≡ laidOut bs
     laid-whole v q =
         ap (λ (x : Verdict). answer x n ws) (q ∙ ap layoutOf frames-are)
         ∙ ap (λ (k : ℕ). answer (layoutOf (textFrames bs)) k ws) (sym (w .count))

@@ -1,4 +1,5 @@
--- The array of depths: where each child stands before its parent, after one pass from the last frame down 25 stands exactly at the frames that are too deep. Assumes nothing.
+-- The array of depths: where each child stands before its parent, after one pass from the last
+-- frame down 25 stands exactly at the frames that are too deep. Assumes nothing.
 use mathlib.Core.Path.{_≡_, refl, sym, ap, _∙_}
 use mathlib.Core.Bool.{Bool, true, false, true≢false}
 use mathlib.Core.List.{List, [], _∷_}
@@ -36,7 +37,8 @@ set-after u v d j l = go (eqb v j) refl
     go true e = (let q : v ≡ j = eqb-true v j e in After.lifted q (ap (λ (k : ℕ). getD (set u v d) k 0) (sym q) ∙ getD-set-same u v d 0 l))
     go false e = After.kept (getD-set-other u v j d 0 (λ q. eqb-false v j e (sym q)))
 
-raised-after : (u : List ℕ) (v d j : ℕ) → v < length u → After u d j (v ≡ j) (getD (raised u d v) j 0)
+raised-after : (u : List ℕ) (v d j : ℕ) → v < length u
+    → After u d j (v ≡ j) (getD (raised u d v) j 0)
 unfolding raised
 raised-after u v d j l = if-all (λ (x : List ℕ). After u d j (v ≡ j) (getD x j 0)) (ltb v 1024) _ _ (λ o. if-all (λ (x : List ℕ). After u d j (v ≡ j) (getD x j 0)) (ltb (getD u v 0) d) _ _ (λ h. set-after u v d j l) (λ h. After.kept refl)) (λ o. After.kept refl)
 
@@ -46,7 +48,8 @@ raised-up u v d j l = if-all (λ (x : List ℕ). getD u j 0 ≤ getD x j 0) (ltb
   where
     go : getD u v 0 < d → (x : ℕ) → After u d j (v ≡ j) x → getD u j 0 ≤ x
     go k x (After.kept e) = omega arith
-    go k x (After.lifted q e) = (let y : getD u v 0 ≡ getD u j 0 = ap (λ (n : ℕ). getD u n 0) q in omega arith)
+    go k x (After.lifted q e) =
+        (let y : getD u v 0 ≡ getD u j 0 = ap (λ (n : ℕ). getD u n 0) q in omega arith)
 
 raised-there : (u : List ℕ) (v d : ℕ) → v < 1024 → v < length u → d ≤ getD (raised u d v) v 0
 unfolding raised
@@ -56,25 +59,40 @@ raised-there u v d k l = if-all (λ (x : List ℕ). d ≤ getD x v 0) (ltb v 102
 abbrev Fit : List ℕ → List Child → Type 0
 Fit u cs = (c : Child) → In c cs → (c .at < 1024) × (c .at < length u)
 
-fit-next : (u : List ℕ) (d : ℕ) (c : Child) (cs : List Child) → Fit u (c ∷ cs) → Fit (raised u d (c .at)) cs
-fit-next u d c cs h x m = let a = h x (In.later m) in let b = raised-length u (c .at) d in let y = a .1 in (a .0, omega arith)
+fit-next : (u : List ℕ) (d : ℕ) (c : Child) (cs : List Child) → Fit u (c ∷ cs)
+    → Fit (raised u d (c .at)) cs
+fit-next u d c cs h x m =
+    let a = h x (In.later m) in
+    let b = raised-length u (c .at) d in
+    let y = a .1 in
+    (a .0, omega arith)
 
 all-length : (cs : List Child) (u : List ℕ) (d : ℕ) → length (raisedAll u d cs) ≡ length u
 unfolding raisedAll
 all-length [] u d = refl
 all-length (c ∷ cs) u d = all-length cs (raised u d (c .at)) d ∙ raised-length u (c .at) d
 
-all-up : (cs : List Child) (u : List ℕ) (d j : ℕ) → Fit u cs → getD u j 0 ≤ getD (raisedAll u d cs) j 0
+all-up : (cs : List Child) (u : List ℕ) (d j : ℕ) → Fit u cs
+    → getD u j 0 ≤ getD (raisedAll u d cs) j 0
 unfolding raisedAll
 all-up [] u d j h = omega arith
-all-up (c ∷ cs) u d j h = let a = raised-up u (c .at) d j (h c In.first .1) in let b = all-up cs (raised u d (c .at)) d j (fit-next u d c cs h) in omega arith
+all-up (c ∷ cs) u d j h =
+    let a = raised-up u (c .at) d j (h c In.first .1) in
+    let b = all-up cs (raised u d (c .at)) d j (fit-next u d c cs h) in
+    omega arith
 
-all-there : (cs : List Child) (u : List ℕ) (d : ℕ) (c : Child) → Fit u cs → In c cs → d ≤ getD (raisedAll u d cs) (c .at) 0
+all-there : (cs : List Child) (u : List ℕ) (d : ℕ) (c : Child) → Fit u cs → In c cs
+    → d ≤ getD (raisedAll u d cs) (c .at) 0
 unfolding raisedAll
-all-there (c ∷ cs) u d x h In.first = let a = raised-there u (c .at) d (h c In.first .0) (h c In.first .1) in let b = all-up cs (raised u d (c .at)) d (c .at) (fit-next u d c cs h) in omega arith
-all-there (c ∷ cs) u d x h (In.later m) = all-there cs (raised u d (c .at)) d x (fit-next u d c cs h) m
+all-there (c ∷ cs) u d x h In.first =
+    let a = raised-there u (c .at) d (h c In.first .0) (h c In.first .1) in
+    let b = all-up cs (raised u d (c .at)) d (c .at) (fit-next u d c cs h) in
+    omega arith
+all-there (c ∷ cs) u d x h (In.later m) =
+    all-there cs (raised u d (c .at)) d x (fit-next u d c cs h) m
 
-all-after : (cs : List Child) (u : List ℕ) (d j : ℕ) → Fit u cs → After u d j (Among cs j) (getD (raisedAll u d cs) j 0)
+all-after : (cs : List Child) (u : List ℕ) (d j : ℕ) → Fit u cs
+    → After u d j (Among cs j) (getD (raisedAll u d cs) j 0)
 unfolding raisedAll
 all-after [] u d j h = After.kept refl
 all-after (c ∷ cs) u d j h = go _ (all-after cs (raised u d (c .at)) d j (fit-next u d c cs h))
@@ -85,7 +103,8 @@ all-after (c ∷ cs) u d j h = go _ (all-after cs (raised u d (c .at)) d j (fit-
 
     go : (x : ℕ) → After (raised u d (c .at)) d j (Among cs j) x → After u d j (Among (c ∷ cs) j) x
     go x (After.kept e) = rw e (two _ (raised-after u (c .at) d j (h c In.first .1)))
-    go x (After.lifted a e) = After.lifted (record { child = a .child; among = In.later (a .among); at-it = a .at-it }) e
+    go x (After.lifted a e) =
+        After.lifted (record { child = a .child; among = In.later (a .among); at-it = a .at-it }) e
 
 -- ---- what a frame gives: enough, up to 25
 given-up : (f : Frame) (x e : ℕ) → 0 < x → e ≤ suc x → e ≤ 25 → e ≤ given f x
@@ -110,8 +129,10 @@ given-why f x = if-all (Why f x) (eqb x 0) _ _ (λ h. if-all (Why f x) (isModule
 -- ---- depths
 -- a depth that comes from a frame not below n
 data Via (fs : List Frame) (n : ℕ) : ℕ → ℕ → Type 0 where
-  body : {i : ℕ} → n ≤ i → i < length fs → frameAt fs i .kind ≡ Module → Via fs n (frameAt fs i .a) 1
-  child : {i d : ℕ} {c : Child} → n ≤ i → i < length fs → Depth fs i d → In c (children (frameAt fs i)) → Via fs n (c .at) (suc d)
+  body : {i : ℕ} → n ≤ i → i < length fs → frameAt fs i .kind ≡ Module
+      → Via fs n (frameAt fs i .a) 1
+  child : {i d : ℕ} {c : Child} → n ≤ i → i < length fs → Depth fs i d
+      → In c (children (frameAt fs i)) → Via fs n (c .at) (suc d)
 
 positive : {fs : List Frame} {j d : ℕ} → Depth fs j d → 0 < d
 positive (Depth.body l k) = omega arith
@@ -120,14 +141,16 @@ positive (Depth.child h m) = omega arith
 module _ (fs : List Frame) (below : (i : ℕ) (c : Child) → i < length fs → In c (children (frameAt fs i)) → c .at < i) where
   pub inside : {j d : ℕ} → Depth fs j d → j < length fs
   inside (Depth.body {i = i} l k) = let a = below i _ l (in-body (frameAt fs i) k) in omega arith
-  inside (Depth.child {i = i} {c = c} h m) = let a = inside h in let b = below i c a m in omega arith
+  inside (Depth.child {i =
+      i} {c = c} h m) = let a = inside h in let b = below i c a m in omega arith
 
   via : {j d : ℕ} → Depth fs j d → Via fs (suc j) j d
   via (Depth.body {i = i} l k) = Via.body (below i _ l (in-body (frameAt fs i) k)) l k
   via (Depth.child {i = i} {c = c} h m) = Via.child (below i c (inside h) m) (inside h) h m
 
   -- ---- the pass
-  -- the array after the frames from n on: what stands in it is a depth, and each depth that these frames give stands in it, up to 25
+  -- the array after the frames from n on: what stands in it is a depth, and each depth that these
+  -- frames give stands in it, up to 25
   record Settled (n : ℕ) (u : List ℕ) : Type 0 where
     size : length fs ≤ length u
     room : length fs ≤ 1024
@@ -139,19 +162,30 @@ module _ (fs : List Frame) (below : (i : ℕ) (c : Child) → i < length fs → 
     next = raisedAll u (given (frameAt fs n) (getD u n 0)) (children (frameAt fs n))
 
     fits : Fit u (children (frameAt fs n))
-    fits c m = let a = below n c l m in let b = t .size in let k = t .room in (omega arith, omega arith)
+    fits c m =
+        let a = below n c l m in let b = t .size in let k = t .room in (omega arith, omega arith)
 
-    lifted-sound : (j y : ℕ) → Among (children (frameAt fs n)) j → 0 < y → Why (frameAt fs n) (getD u n 0) y → AtLeast fs j y
+    lifted-sound : (j y : ℕ) → Among (children (frameAt fs n)) j → 0 < y
+        → Why (frameAt fs n) (getD u n 0) y → AtLeast fs j y
     lifted-sound j y a p (Why.nothing e) = absurd (omega arith)
-    lifted-sound j y a p (Why.module-body k e) = record { depth = 1; is = body-depth l (is-module _ k) a; least = omega arith }
-    lifted-sound j y a p (Why.child-of k e) = let s = t .sound n k in record { depth = suc (s .depth); is = child-depth (s .is) a; least = (let w = s .least in omega arith) }
+    lifted-sound j y a p (Why.module-body k e) =
+        record { depth = 1; is = body-depth l (is-module _ k) a; least = omega arith }
+    lifted-sound j y a p (Why.child-of k e) =
+        let s = t .sound n k in
+        record { depth = suc (s .depth); is = child-depth (s .is) a; least = (let w = s .least in omega arith) }
 
-    next-sound : (j x : ℕ) → After u (given (frameAt fs n) (getD u n 0)) j (Among (children (frameAt fs n)) j) x → 0 < x → AtLeast fs j x
+    next-sound : (j x : ℕ)
+        → After u (given (frameAt fs n) (getD u n 0)) j (Among (children (frameAt fs n)) j) x
+        → 0 < x → AtLeast fs j x
     next-sound j x (After.kept e) p = rw e (t .sound j (omega arith))
-    next-sound j x (After.lifted a e) p = rw e (lifted-sound j _ a (omega arith) (given-why (frameAt fs n) (getD u n 0)))
+    next-sound j x (After.lifted a e) p =
+        rw e (lifted-sound j _ a (omega arith) (given-why (frameAt fs n) (getD u n 0)))
 
     kept-complete : (j d e : ℕ) → Via fs (suc n) j d → e ≤ d → e ≤ 25 → e ≤ getD next j 0
-    kept-complete j d e v p q = let a = t .complete j d e v p q in let b = all-up (children (frameAt fs n)) u (given (frameAt fs n) (getD u n 0)) j fits in omega arith
+    kept-complete j d e v p q =
+        let a = t .complete j d e v p q in
+        let b = all-up (children (frameAt fs n)) u (given (frameAt fs n) (getD u n 0)) j fits in
+        omega arith
 
     next-complete : (j d e : ℕ) → Via fs n j d → e ≤ d → e ≤ 25 → e ≤ getD next j 0
     next-complete j d e (Via.body {i = i} m k z) p q = go (eqb i n) refl
@@ -187,7 +221,8 @@ module _ (fs : List Frame) (below : (i : ℕ) (c : Child) → i < length fs → 
   settled-all zero u l t = t
   settled-all (suc n) u l t = settled-all n _ (omega arith) (settled-next n u (omega arith) t)
 
-  settled-start : (u : List ℕ) → length fs ≤ 1024 → length fs ≤ length u → ((j : ℕ) → getD u j 0 ≡ 0) → Settled (length fs) u
+  settled-start : (u : List ℕ) → length fs ≤ 1024 → length fs ≤ length u
+      → ((j : ℕ) → getD u j 0 ≡ 0) → Settled (length fs) u
   settled-start u r s z = record { size = s; room = r; sound = λ j p. absurd (let e = z j in omega arith); complete = λ j d e v p q. absurd (past v) }
     where
       past : {j d : ℕ} → Via fs (length fs) j d → ⊥
@@ -195,11 +230,20 @@ module _ (fs : List Frame) (below : (i : ℕ) (c : Child) → i < length fs → 
       past (Via.child m k h x) = omega arith
 
   -- 25 stands exactly at the frames that are too deep
-  pub over-sound : (u : List ℕ) → length fs ≤ 1024 → length fs ≤ length u → ((j : ℕ) → getD u j 0 ≡ 0) → (j : ℕ) → 24 < getD (depthsDown (length fs) fs u) j 0 → AtLeast fs j 25
-  over-sound u r s z j l = let t = settled-all (length fs) u (omega arith) (settled-start u r s z) in let a = t .sound j (omega arith) in record { depth = a .depth; is = a .is; least = (let w = a .least in omega arith) }
+  pub over-sound : (u : List ℕ) → length fs ≤ 1024 → length fs ≤ length u
+      → ((j : ℕ) → getD u j 0 ≡ 0) → (j : ℕ) → 24 < getD (depthsDown (length fs) fs u) j 0
+      → AtLeast fs j 25
+  over-sound u r s z j l =
+      let t = settled-all (length fs) u (omega arith) (settled-start u r s z) in
+      let a = t .sound j (omega arith) in
+      record { depth = a .depth; is = a .is; least = (let w = a .least in omega arith) }
 
-  pub over-complete : (u : List ℕ) → length fs ≤ 1024 → length fs ≤ length u → ((j : ℕ) → getD u j 0 ≡ 0) → (j d : ℕ) → Depth fs j d → 24 < d → 24 < getD (depthsDown (length fs) fs u) j 0
-  over-complete u r s z j d h l = let t = settled-all (length fs) u (omega arith) (settled-start u r s z) in t .complete j d 25 (low (via h)) (omega arith) (omega arith)
+  pub over-complete : (u : List ℕ) → length fs ≤ 1024 → length fs ≤ length u
+      → ((j : ℕ) → getD u j 0 ≡ 0) → (j d : ℕ) → Depth fs j d → 24 < d
+      → 24 < getD (depthsDown (length fs) fs u) j 0
+  over-complete u r s z j d h l =
+      let t = settled-all (length fs) u (omega arith) (settled-start u r s z) in
+      t .complete j d 25 (low (via h)) (omega arith) (omega arith)
     where
       low : {m j d : ℕ} → Via fs m j d → Via fs 0 j d
       low (Via.body {i = i} m k x) = Via.body {i = i} (omega arith) k x

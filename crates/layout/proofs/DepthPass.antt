@@ -36,9 +36,11 @@ zeros zero j = refl
 zeros (suc n) zero = refl
 zeros (suc n) (suc j) = zeros n j
 
-over-is : (fs : List Frame) → length fs ≤ 1024 → ((j : ℕ) → j < length fs → HasTree fs j) → firstOver fs ≡ depthFault fs
+over-is : (fs : List Frame) → length fs ≤ 1024 → ((j : ℕ) → j < length fs → HasTree fs j)
+    → firstOver fs ≡ depthFault fs
 unfolding firstOver
-over-is fs r trees = lowest-one (same-low to back (lowest-all noFrame (overTest fs) fs)) (depth-low fs trees)
+over-is fs r trees =
+    lowest-one (same-low to back (lowest-all noFrame (overTest fs) fs)) (depth-low fs trees)
   where
     below : (i : ℕ) (c : Child) → i < length fs → In c (children (frameAt fs i)) → c .at < i
     below i c l m = tree-in (trees i l .tree) m
@@ -53,11 +55,13 @@ over-is fs r trees = lowest-one (same-low to back (lowest-all noFrame (overTest 
     back j f = (let a = seven f refl in (inside fs below (a .is), lt-ltb _ _ (over-complete fs below (replicate 1024 0) r long (zeros 1024) j (a .depth) (a .is) (a .least))))
 
 -- where the search for a fault 6 finds nothing, there is none
-no-six : (fs : List Frame) (o : Option ℕ) → Lowest (Fault fs 6) o → o ≡ none → (k : ℕ) → Fault fs 6 k → ⊥
+no-six : (fs : List Frame) (o : Option ℕ) → Lowest (Fault fs 6) o → o ≡ none → (k : ℕ)
+    → Fault fs 6 k → ⊥
 no-six fs none (Lowest.nowhere h) e k f = h k f
 no-six fs o (Lowest.lowest-at p l) e k f = let z : _≡_ {A = ℕ} 0 1 = cc in omega arith
 
-over-depth : (ws : List ℕ) → 0 < length ws → length ws ≤ 1024 → orderFault (framesOf ws) ≡ none → firstOver (framesOf ws) ≡ depthFault (framesOf ws)
+over-depth : (ws : List ℕ) → 0 < length ws → length ws ≤ 1024 → orderFault (framesOf ws) ≡ none
+    → firstOver (framesOf ws) ≡ depthFault (framesOf ws)
 over-depth ws l m e =
     let z = frames-length ws in
     over-is (framesOf ws) (omega arith) (all-trees (framesOf ws) (no-six (framesOf ws) (orderFault (framesOf ws)) (order-low (framesOf ws) (omega arith)) e))
@@ -66,19 +70,33 @@ over-depth ws l m e =
 abbrev pub SeekingOver : List Frame → ℕ → Type 0
 SeekingOver fs i = Seeking (overTest fs) fs i
 
-over-first : (ws : List ℕ) → lowest (overTest (framesOf ws)) 0 (framesOf ws) ≡ firstOver (framesOf ws)
+over-first : (ws : List ℕ)
+    → lowest (overTest (framesOf ws)) 0 (framesOf ws) ≡ firstOver (framesOf ws)
 unfolding firstOver
 over-first ws = refl
 
-test-is : (ws u : List ℕ) (i : ℕ) (b : Bool) → u ≡ depthsDown (length ws) (framesOf ws) (replicate 1024 0) → ltb 24 (getD u i 0) ≡ b → overTest (framesOf ws) i (frameAt (framesOf ws) i) ≡ b
-test-is ws u i b e h = ap (λ (n : ℕ). ltb 24 (getD (depthsDown n (framesOf ws) (replicate 1024 0)) i 0)) (frames-length ws) ∙ ap (λ (x : List ℕ). ltb 24 (getD x i 0)) (sym e) ∙ h
+test-is : (ws u : List ℕ) (i : ℕ) (b : Bool)
+    → u ≡ depthsDown (length ws) (framesOf ws) (replicate 1024 0) → ltb 24 (getD u i 0) ≡ b
+    → overTest (framesOf ws) i (frameAt (framesOf ws) i) ≡ b
+test-is ws u i b e h =
+    ap (λ (n : ℕ). ltb 24 (getD (depthsDown n (framesOf ws) (replicate 1024 0)) i 0)) (frames-length ws)
+    ∙ ap (λ (x : List ℕ). ltb 24 (getD x i 0)) (sym e) ∙ h
 
 module _ (ws u : List ℕ) (i : ℕ) where
-  pub over-here : u ≡ depthsDown (length ws) (framesOf ws) (replicate 1024 0) → orderFault (framesOf ws) ≡ none → SeekingOver (framesOf ws) i → 24 < getD u i 0 → i < length ws → 0 < length ws → length ws ≤ 1024 → At i ≡ found (depthFault (framesOf ws))
-  over-here e o g h l p m = seek-here (overTest (framesOf ws)) ws i g l (test-is ws u i true e (lt-ltb _ _ h)) ∙ ap found (over-first ws ∙ over-depth ws p m o)
+  pub over-here : u ≡ depthsDown (length ws) (framesOf ws) (replicate 1024 0)
+      → orderFault (framesOf ws) ≡ none → SeekingOver (framesOf ws) i → 24 < getD u i 0
+      → i < length ws → 0 < length ws → length ws ≤ 1024 → At i ≡ found (depthFault (framesOf ws))
+  over-here e o g h l p m =
+      seek-here (overTest (framesOf ws)) ws i g l (test-is ws u i true e (lt-ltb _ _ h))
+      ∙ ap found (over-first ws ∙ over-depth ws p m o)
 
-  pub over-next : u ≡ depthsDown (length ws) (framesOf ws) (replicate 1024 0) → SeekingOver (framesOf ws) i → getD u i 0 ≤ 24 → i < length ws → SeekingOver (framesOf ws) (i + 1)
-  over-next e g h l = seek-next (overTest (framesOf ws)) ws i g l (test-is ws u i false e (le-ltb _ _ h))
+  pub over-next : u ≡ depthsDown (length ws) (framesOf ws) (replicate 1024 0)
+      → SeekingOver (framesOf ws) i → getD u i 0 ≤ 24 → i < length ws
+      → SeekingOver (framesOf ws) (i + 1)
+  over-next e g h l =
+      seek-next (overTest (framesOf ws)) ws i g l (test-is ws u i false e (le-ltb _ _ h))
 
-pub over-end : (ws : List ℕ) (i : ℕ) → orderFault (framesOf ws) ≡ none → SeekingOver (framesOf ws) i → length ws ≤ i → 0 < length ws → length ws ≤ 1024 → Nowhere ≡ found (depthFault (framesOf ws))
-over-end ws i o g l p m = seek-end (overTest (framesOf ws)) ws i g l ∙ ap found (over-first ws ∙ over-depth ws p m o)
+pub over-end : (ws : List ℕ) (i : ℕ) → orderFault (framesOf ws) ≡ none → SeekingOver (framesOf ws) i
+    → length ws ≤ i → 0 < length ws → length ws ≤ 1024 → Nowhere ≡ found (depthFault (framesOf ws))
+over-end ws i o g l p m =
+    seek-end (overTest (framesOf ws)) ws i g l ∙ ap found (over-first ws ∙ over-depth ws p m o)

@@ -22,7 +22,8 @@ use Rattle.layout.specs.Depths.{Depth}
 use Rattle.layout.specs.Faults.{Fault}
 use Rattle.layout.specs.inner.Scans.{lowestChild, deepTo, deepIn, firstDeep, depthFault}
 use Rattle.layout.proofs.Searches.{Lowest, either, same-low}
-use Rattle.layout.proofs.Trees.{is-module, tree-in, HasTree, From, from-next, from-start, Among, none-in, in-body, only-body}
+use Rattle.layout.proofs.Trees.{is-module, tree-in, HasTree, From, from-next, from-start}
+use Rattle.layout.proofs.Trees.{Among, none-in, in-body, only-body}
 
 -- frame j stands at a depth of at least x
 pub record AtLeast (fs : List Frame) (j x : ℕ) : Type 0 where
@@ -31,13 +32,15 @@ pub record AtLeast (fs : List Frame) (j x : ℕ) : Type 0 where
   pub least : x ≤ depth
 
 -- frame j is the body of the module n, or a child of frame n
-pub body-depth : {fs : List Frame} {n j : ℕ} → n < length fs → frameAt fs n .kind ≡ Module → Among (children (frameAt fs n)) j → Depth fs j 1
+pub body-depth : {fs : List Frame} {n j : ℕ} → n < length fs → frameAt fs n .kind ≡ Module
+    → Among (children (frameAt fs n)) j → Depth fs j 1
 body-depth {fs} {n} {j} l k a =
     let q : frameAt fs n .a ≡ j = sym (only-body (frameAt fs n) (a .child) k (a .among)) ∙ a .at-it in
     let b : Depth fs (frameAt fs n .a) 1 = Depth.body l k in
     rw q at b
 
-pub child-depth : {fs : List Frame} {n j d : ℕ} → Depth fs n d → Among (children (frameAt fs n)) j → Depth fs j (suc d)
+pub child-depth : {fs : List Frame} {n j d : ℕ} → Depth fs n d → Among (children (frameAt fs n)) j
+    → Depth fs j (suc d)
 child-depth {fs} {n} {j} {d} h a =
     let q : a .child .at ≡ j = a .at-it in
     let b : Depth fs (a .child .at) (suc d) = Depth.child h (a .among) in
@@ -57,9 +60,11 @@ seven (Fault.depth {d = d} h l) e = record { depth = d; is = h; least = l }
 -- from frame i at the depth d one comes down to frame j at the depth e
 data Reach (fs : List Frame) : ℕ → ℕ → ℕ → ℕ → Type 0 where
   here : {i d : ℕ} → Reach fs i d i d
-  down : {i d j e : ℕ} {c : Child} → In c (children (frameAt fs i)) → Reach fs (c .at) (suc d) j e → Reach fs i d j e
+  down : {i d j e : ℕ} {c : Child} → In c (children (frameAt fs i)) → Reach fs (c .at) (suc d) j e
+      → Reach fs i d j e
 
-reach-on : {fs : List Frame} {i d j e : ℕ} {c : Child} → Reach fs i d j e → In c (children (frameAt fs j)) → Reach fs i d (c .at) (suc e)
+reach-on : {fs : List Frame} {i d j e : ℕ} {c : Child} → Reach fs i d j e
+    → In c (children (frameAt fs j)) → Reach fs i d (c .at) (suc e)
 reach-on Reach.here m = Reach.down m Reach.here
 reach-on (Reach.down n r) m = Reach.down n (reach-on r m)
 
@@ -79,7 +84,9 @@ record Some (P : ℕ → ℕ → Type 0) (cs : List Child) (j : ℕ) : Type 0 wh
   among : In child cs
   holds : P (child .at) j
 
-child-low : (P : ℕ → ℕ → Type 0) (find : ℕ → Option ℕ) (cs : List Child) → ((c : Child) → In c cs → Lowest (P (c .at)) (find (c .at))) → Lowest (Some P cs) (lowestChild find cs)
+child-low : (P : ℕ → ℕ → Type 0) (find : ℕ → Option ℕ) (cs : List Child)
+    → ((c : Child) → In c cs → Lowest (P (c .at)) (find (c .at)))
+    → Lowest (Some P cs) (lowestChild find cs)
 unfolding lowestChild
 child-low P find [] h = Lowest.nowhere (λ j s. none-in (s .among))
 child-low P find (c ∷ cs) h = same-low (λ j. ⊎-elim (λ p. record { child = c; among = In.first; holds = p }) (λ s. record { child = s .child; among = In.later (s .among); holds = s .holds })) (λ j s. split j (s .child) (s .among) (s .holds)) (either (h c In.first) (child-low P find cs (λ x m. h x (In.later m))))
@@ -88,7 +95,8 @@ child-low P find (c ∷ cs) h = same-low (λ j. ⊎-elim (λ p. record { child =
     split j x In.first p = inl p
     split j x (In.later m) p = inr (record { child = x; among = m; holds = p })
 
-self-low : (i d : ℕ) → Lowest (λ j. (j ≡ i) × (mostDepth < d)) (if ltb mostDepth d then some i else none)
+self-low : (i d : ℕ)
+    → Lowest (λ j. (j ≡ i) × (mostDepth < d)) (if ltb mostDepth d then some i else none)
 self-low i d = if-all (Lowest (λ j. (j ≡ i) × (mostDepth < d))) (ltb mostDepth d) _ _ (λ h. Lowest.lowest-at (refl, ltb-true _ _ h) (λ k p. (let e = p .0 in omega arith))) (λ h. Lowest.nowhere (λ j p. (let a = ltb-false mostDepth d h in let b = p .1 in omega arith)))
 
 module _ (fs : List Frame) (trees : (j : ℕ) → j < length fs → HasTree fs j) where
@@ -98,13 +106,15 @@ module _ (fs : List Frame) (trees : (j : ℕ) → j < length fs → HasTree fs j
   deep-low (suc n) i d l k = same-low (λ j. ⊎-elim (λ s. under (s .child) (s .among) (s .holds)) (λ p. self j (p .0) (p .1))) (λ j s. split j (s .depth) (s .reach) (s .over))
       (either (child-low (λ c j. Deep fs c (suc d) j) (λ c. deepTo n fs (suc d) c) (children (frameAt fs i)) (λ c m. (let t = tree-in (trees i k .tree) m in deep-low n (c .at) (suc d) (omega arith) (omega arith)))) (self-low i d))
     where
-      under : {j : ℕ} (c : Child) → In c (children (frameAt fs i)) → Deep fs (c .at) (suc d) j → Deep fs i d j
+      under : {j : ℕ} (c : Child) → In c (children (frameAt fs i)) → Deep fs (c .at) (suc d) j
+          → Deep fs i d j
       under c m p = record { depth = p .depth; reach = Reach.down m (p .reach); over = p .over }
 
       self : (j : ℕ) → j ≡ i → mostDepth < d → Deep fs i d j
       self j e h = rw e (record { depth = d; reach = Reach.here; over = h })
 
-      split : (j e : ℕ) → Reach fs i d j e → mostDepth < e → Some (λ c k. Deep fs c (suc d) k) (children (frameAt fs i)) j ⊎ ((j ≡ i) × (mostDepth < d))
+      split : (j e : ℕ) → Reach fs i d j e → mostDepth < e
+          → Some (λ c k. Deep fs c (suc d) k) (children (frameAt fs i)) j ⊎ ((j ≡ i) × (mostDepth < d))
       split j e Reach.here h = inr (refl, h)
       split j e (Reach.down {c = c} m r) h = inl (record { child = c; among = m; holds = record { depth = e; reach = r; over = h } })
 
@@ -120,8 +130,11 @@ module _ (fs : List Frame) (trees : (j : ℕ) → j < length fs → HasTree fs j
   body-low : (f : Frame) → (f .kind ≡ Module → f .a < length fs) → Lowest (DeepIn f) (deepIn fs f)
   body-low f h = go (isModule (f .kind)) refl
     where
-      go : (b : Bool) → isModule (f .kind) ≡ b → Lowest (DeepIn f) (elim b [ true ↦ deepTo (suc (f .a)) fs 1 (f .a) | false ↦ none ])
-      go true t = let e = is-module (f .kind) t in same-low (λ j p. record { module-frame = e; deep = p }) (λ j p. p .deep) (deep-low (suc (f .a)) (f .a) 1 (omega arith) (h e))
+      go : (b : Bool) → isModule (f .kind) ≡ b
+          → Lowest (DeepIn f) (elim b [ true ↦ deepTo (suc (f .a)) fs 1 (f .a) | false ↦ none ])
+      go true t =
+          let e = is-module (f .kind) t in
+          same-low (λ j p. record { module-frame = e; deep = p }) (λ j p. p .deep) (deep-low (suc (f .a)) (f .a) 1 (omega arith) (h e))
       go false t = Lowest.nowhere (λ j p. not-module (f .kind) t (p .module-frame))
 
   -- too deep below the body of a module among the frames of the list
@@ -133,7 +146,8 @@ module _ (fs : List Frame) (trees : (j : ℕ) → j < length fs → HasTree fs j
   body-inside : (i : ℕ) → i < length fs → frameAt fs i .kind ≡ Module → frameAt fs i .a < length fs
   body-inside i l e = let t = tree-in (trees i l .tree) (in-body (frameAt fs i) e) in omega arith
 
-  bodies-low : (tail : List Frame) (i : ℕ) → From fs i tail → Lowest (DeepAmong tail) (firstDeep fs tail)
+  bodies-low : (tail : List Frame) (i : ℕ) → From fs i tail
+      → Lowest (DeepAmong tail) (firstDeep fs tail)
   unfolding firstDeep
   bodies-low [] i w = Lowest.nowhere (λ j p. (let l = p .inside in omega arith))
   bodies-low (f ∷ tail) i w = same-low (λ j. ⊎-elim (λ p. record { at = 0; inside = omega arith; deep = p }) (λ p. record { at = suc (p .at); inside = (let l = p .inside in omega arith); deep = p .deep })) (λ j p. split j (p .at) (p .inside) (p .deep))
@@ -149,7 +163,8 @@ module _ (fs : List Frame) (trees : (j : ℕ) → j < length fs → HasTree fs j
           let c = body-inside i l a in
           omega arith
 
-      split : (j q : ℕ) → q < suc (length tail) → DeepIn (frameAt (f ∷ tail) q) j → DeepIn f j ⊎ DeepAmong tail j
+      split : (j q : ℕ) → q < suc (length tail) → DeepIn (frameAt (f ∷ tail) q) j
+          → DeepIn f j ⊎ DeepAmong tail j
       split j zero l p = inl p
       split j (suc q) l p = inr (record { at = q; inside = omega arith; deep = p })
 
@@ -162,10 +177,14 @@ module _ (fs : List Frame) (trees : (j : ℕ) → j < length fs → HasTree fs j
 
   under : {j e : ℕ} → Depth fs j e → Under j e
   under (Depth.body {i = i} l k) = record { at = i; inside = l; kind = k; reach = Reach.here }
-  under (Depth.child d m) = let u = under d in record { at = u .at; inside = u .inside; kind = u .kind; reach = reach-on (u .reach) m }
+  under (Depth.child d m) =
+      let u = under d in
+      record { at = u .at; inside = u .inside; kind = u .kind; reach = reach-on (u .reach) m }
 
   to-deep : {j : ℕ} → AtLeast fs j 25 → DeepAmong fs j
-  to-deep a = let u = under (a .is) in record { at = u .at; inside = u .inside; deep = record { module-frame = u .kind; deep = record { depth = a .depth; reach = u .reach; over = a .least } } }
+  to-deep a =
+      let u = under (a .is) in
+      record { at = u .at; inside = u .inside; deep = record { module-frame = u .kind; deep = record { depth = a .depth; reach = u .reach; over = a .least } } }
 
   pub depth-low : Lowest (Fault fs 7) (depthFault fs)
   unfolding depthFault

@@ -1,4 +1,5 @@
--- The code's pass for a frame that is no tree's root is `firstDisorder`: its array of where the trees begin tells of the frames passed. Assumes nothing.
+-- The code's pass for a frame that is no tree's root is `firstDisorder`: its array of where the
+-- trees begin tells of the frames passed. Assumes nothing.
 use mathlib.Core.Path.{_≡_, refl, sym, ap, _∙_}
 use mathlib.Core.Bool.{Bool, true, false, not, _&&_}
 use mathlib.Core.List.{List, [], _∷_, _++_, reverse}
@@ -29,12 +30,15 @@ use Rattle.layout.specs.inner.Passes.{told, Backward}
 use Rattle.layout.proofs.Disorder.{nobody, at-passed}
 
 -- ---- what the array tells
-told-get : (fs : List Frame) (first : List ℕ) (i c : ℕ) → c < i → getD (told fs first i) (i - suc c) nobody ≡ passed (classOf (frameAt fs c .kind)) (getD first c 0)
+told-get : (fs : List Frame) (first : List ℕ) (i c : ℕ) → c < i
+    → getD (told fs first i) (i - suc c) nobody
+    ≡ passed (classOf (frameAt fs c .kind)) (getD first c 0)
 unfolding told
 told-get fs first zero c l = absurd (omega arith)
 told-get fs first (suc i) c l = at-passed (λ (k : ℕ) (p : Passed). p ≡ passed (classOf (frameAt fs k .kind)) (getD first k 0)) i c _ (told fs first i) refl (λ k. told-get fs first i c k) l
 
-told-kept : (fs : List Frame) (first : List ℕ) (n i x : ℕ) → n ≤ i → told fs (set first i x) n ≡ told fs first n
+told-kept : (fs : List Frame) (first : List ℕ) (n i x : ℕ) → n ≤ i
+    → told fs (set first i x) n ≡ told fs first n
 unfolding told
 told-kept fs first zero i x l = refl
 told-kept fs first (suc n) i x l =
@@ -42,7 +46,8 @@ told-kept fs first (suc n) i x l =
     let t = told-kept fs first n i x (omega arith) in
     rw (a, t)
 
-told-next : (fs : List Frame) (first : List ℕ) (i x : ℕ) → i < length first → told fs (set first i x) (suc i) ≡ passed (classOf (frameAt fs i .kind)) x ∷ told fs first i
+told-next : (fs : List Frame) (first : List ℕ) (i x : ℕ) → i < length first
+    → told fs (set first i x) (suc i) ≡ passed (classOf (frameAt fs i .kind)) x ∷ told fs first i
 unfolding told
 told-next fs first i x l =
     let a : getD (set first i x) i 0 ≡ x = getD-set-same first i x 0 l in
@@ -57,31 +62,43 @@ module _ (fs : List Frame) (first : List ℕ) (i stop v : ℕ) (k : Class) where
   abbrev at-v : Passed
   at-v = getD (told fs first i) (i - suc v) nobody
 
-  one-child : rowFirst (told fs first i) i stop (child k v ∷ []) ≡ chosen (at-v .first) (eqb (suc v) stop && sameClass (at-v .class) k)
+  one-child : rowFirst (told fs first i) i stop (child k v ∷ [])
+      ≡ chosen (at-v .first) (eqb (suc v) stop && sameClass (at-v .class) k)
   unfolding rowFirst
   one-child = refl
 
-  -- a number from i on; one not just before `stop`; a frame of another class; and the child as it should be
-  pub child-past : stop ≤ i → i ≤ v → Nowhere ≡ found (rowFirst (told fs first i) i stop (child k v ∷ []))
+  -- a number from i on; one not just before `stop`; a frame of another class; and the child as it
+  -- should be
+  pub child-past : stop ≤ i → i ≤ v
+      → Nowhere ≡ found (rowFirst (told fs first i) i stop (child k v ∷ []))
   child-past m l = ap found (sym (one-child ∙ ap (λ (b : Bool). chosen (at-v .first) (b && sameClass (at-v .class) k)) (ne-eqb (suc v) stop (λ e. omega arith))))
 
-  pub child-apart : (v + 1 ≡ stop → ⊥) → Nowhere ≡ found (rowFirst (told fs first i) i stop (child k v ∷ []))
+  pub child-apart : (v + 1 ≡ stop → ⊥)
+      → Nowhere ≡ found (rowFirst (told fs first i) i stop (child k v ∷ []))
   child-apart n = ap found (sym (one-child ∙ ap (λ (b : Bool). chosen (at-v .first) (b && sameClass (at-v .class) k)) (ne-eqb (suc v) stop (λ e. n (omega arith)))))
 
-  known : v < i → v + 1 ≡ stop → rowFirst (told fs first i) i stop (child k v ∷ []) ≡ chosen (getD first v 0) (sameClass (classOf (frameAt fs v .kind)) k)
+  known : v < i → v + 1 ≡ stop
+      → rowFirst (told fs first i) i stop (child k v ∷ [])
+      ≡ chosen (getD first v 0) (sameClass (classOf (frameAt fs v .kind)) k)
   known l e =
       let s : suc v ≡ stop = omega arith in
       one-child
       ∙ ap (λ (b : Bool). chosen (at-v .first) (b && sameClass (at-v .class) k)) (eq-eqb (suc v) stop s)
       ∙ ap (λ (p : Passed). chosen (p .first) (sameClass (p .class) k)) (told-get fs first i v l)
 
-  class-is : (x : Bool) (f : Frame) (c : Class) → f ≡ frameAt fs v → c ≡ classOf (f .kind) → x ≡ sameClass c k → sameClass (classOf (frameAt fs v .kind)) k ≡ x
-  class-is x f c e g h = sym (h ∙ ap (λ (d : Class). sameClass d k) (g ∙ ap (λ (q : Frame). classOf (q .kind)) e))
+  class-is : (x : Bool) (f : Frame) (c : Class) → f ≡ frameAt fs v → c ≡ classOf (f .kind)
+      → x ≡ sameClass c k → sameClass (classOf (frameAt fs v .kind)) k ≡ x
+  class-is x f c e g h =
+      sym (h ∙ ap (λ (d : Class). sameClass d k) (g ∙ ap (λ (q : Frame). classOf (q .kind)) e))
 
-  pub child-class : (x : Bool) (f : Frame) (c : Class) → f ≡ frameAt fs v → c ≡ classOf (f .kind) → x ≡ sameClass c k → not x ≡ true → v < i → v + 1 ≡ stop → Nowhere ≡ found (rowFirst (told fs first i) i stop (child k v ∷ []))
+  pub child-class : (x : Bool) (f : Frame) (c : Class) → f ≡ frameAt fs v → c ≡ classOf (f .kind)
+      → x ≡ sameClass c k → not x ≡ true → v < i → v + 1 ≡ stop
+      → Nowhere ≡ found (rowFirst (told fs first i) i stop (child k v ∷ []))
   child-class x f c e g h n l s = ap found (sym (known l s ∙ ap (chosen (getD first v 0)) (class-is x f c e g h ∙ not-true x n)))
 
-  pub child-there : (x : Bool) (f : Frame) (c : Class) → f ≡ frameAt fs v → c ≡ classOf (f .kind) → x ≡ sameClass c k → not x ≡ false → v < i → v + 1 ≡ stop → At (getD first v 0) ≡ found (rowFirst (told fs first i) i stop (child k v ∷ []))
+  pub child-there : (x : Bool) (f : Frame) (c : Class) → f ≡ frameAt fs v → c ≡ classOf (f .kind)
+      → x ≡ sameClass c k → not x ≡ false → v < i → v + 1 ≡ stop
+      → At (getD first v 0) ≡ found (rowFirst (told fs first i) i stop (child k v ∷ []))
   child-there x f c e g h n l s = ap found (sym (known l s ∙ ap (chosen (getD first v 0)) (class-is x f c e g h ∙ not-false x n)))
 
 pub ruleset child-laws = (child-past, child-apart, child-class, child-there)
@@ -92,28 +109,41 @@ abbrev andThen : Option ℕ → (ℕ → Option ℕ) → Option ℕ
 andThen none f = none
 andThen (some s) f = f s
 
-row-append : (ps : List Passed) (i : ℕ) (xs ys : List Child) (stop : ℕ) → rowFirst ps i stop (xs ++ ys) ≡ andThen (rowFirst ps i stop xs) (λ s. rowFirst ps i s ys)
+row-append : (ps : List Passed) (i : ℕ) (xs ys : List Child) (stop : ℕ)
+    → rowFirst ps i stop (xs ++ ys) ≡ andThen (rowFirst ps i stop xs) (λ s. rowFirst ps i s ys)
 unfolding rowFirst
 row-append ps i [] ys stop = refl
 row-append ps i (c ∷ xs) ys stop = go (eqb (suc (c .at)) stop && sameClass (getD ps (i - suc (c .at)) nobody .class) (c .class)) (row-append ps i xs ys (getD ps (i - suc (c .at)) nobody .first))
   where
-    go : (b : Bool) → rowFirst ps i (getD ps (i - suc (c .at)) nobody .first) (xs ++ ys) ≡ andThen (rowFirst ps i (getD ps (i - suc (c .at)) nobody .first) xs) (λ s. rowFirst ps i s ys)
+    go : (b : Bool)
+        → rowFirst ps i (getD ps (i - suc (c .at)) nobody .first) (xs ++ ys)
+        ≡ andThen (rowFirst ps i (getD ps (i - suc (c .at)) nobody .first) xs) (λ s. rowFirst ps i s ys)
         → _≡_ {A = Option ℕ} (elim b [ true ↦ rowFirst ps i (getD ps (i - suc (c .at)) nobody .first) (xs ++ ys) | false ↦ none ]) (andThen (elim b [ true ↦ rowFirst ps i (getD ps (i - suc (c .at)) nobody .first) xs | false ↦ none ]) (λ s. rowFirst ps i s ys))
     go true h = h
     go false h = refl
 
 -- two children, the later one first
 module _ (ps : List Passed) (i stop : ℕ) (k l : Class) (a b : ℕ) (x : Found) where
-  pub pair-none : x ≡ Nowhere → x ≡ found (rowFirst ps i stop (child l b ∷ [])) → Nowhere ≡ found (rowFirst ps i stop (child l b ∷ child k a ∷ []))
-  pair-none e p = let z = found-none (rowFirst ps i stop (child l b ∷ [])) e p in ap found (sym (row-append ps i (child l b ∷ []) (child k a ∷ []) stop ∙ ap (λ (o : Option ℕ). andThen o (λ s. rowFirst ps i s (child k a ∷ []))) z))
+  pub pair-none : x ≡ Nowhere → x ≡ found (rowFirst ps i stop (child l b ∷ []))
+      → Nowhere ≡ found (rowFirst ps i stop (child l b ∷ child k a ∷ []))
+  pair-none e p =
+      let z = found-none (rowFirst ps i stop (child l b ∷ [])) e p in
+      ap found (sym (row-append ps i (child l b ∷ []) (child k a ∷ []) stop ∙ ap (λ (o : Option ℕ). andThen o (λ s. rowFirst ps i s (child k a ∷ []))) z))
 
-  pub pair-some : (r : Found) (t : ℕ) → x ≡ At t → x ≡ found (rowFirst ps i stop (child l b ∷ [])) → r ≡ found (rowFirst ps i t (child k a ∷ [])) → r ≡ found (rowFirst ps i stop (child l b ∷ child k a ∷ []))
-  pair-some r t e p q = let z = found-some (rowFirst ps i stop (child l b ∷ [])) e p in q ∙ ap found (sym (row-append ps i (child l b ∷ []) (child k a ∷ []) stop ∙ ap (λ (o : Option ℕ). andThen o (λ s. rowFirst ps i s (child k a ∷ []))) z))
+  pub pair-some : (r : Found) (t : ℕ) → x ≡ At t → x ≡ found (rowFirst ps i stop (child l b ∷ []))
+      → r ≡ found (rowFirst ps i t (child k a ∷ []))
+      → r ≡ found (rowFirst ps i stop (child l b ∷ child k a ∷ []))
+  pair-some r t e p q =
+      let z = found-some (rowFirst ps i stop (child l b ∷ [])) e p in
+      q ∙ ap found (sym (row-append ps i (child l b ∷ []) (child k a ∷ []) stop ∙ ap (λ (o : Option ℕ). andThen o (λ s. rowFirst ps i s (child k a ∷ []))) z))
 
 -- each arm of the match on the children of a frame
 module _ (ps : List Passed) (i : ℕ) (f : Frame) (x : Children) (h : x ≡ childrenOf f) where
-  row-of : (v : Children) → x ≡ v → found (rowFirst ps i i (reverse (listOf v))) ≡ found (rowFirst ps i i (reverse (children f)))
-  row-of v e = ap (λ (cs : List Child). found (rowFirst ps i i (reverse cs))) (children-are f x v h e)
+  row-of : (v : Children) → x ≡ v
+      → found (rowFirst ps i i (reverse (listOf v)))
+      ≡ found (rowFirst ps i i (reverse (children f)))
+  row-of v e =
+      ap (λ (cs : List Child). found (rowFirst ps i i (reverse cs))) (children-are f x v h e)
 
   pub row-none : x ≡ Nothing → At i ≡ found (rowFirst ps i i (reverse (children f)))
   row-none e = ap found end ∙ row-of Nothing e
@@ -122,31 +152,45 @@ module _ (ps : List Passed) (i : ℕ) (f : Frame) (x : Children) (h : x ≡ chil
       end = unfold rowFirst in refl
 
   module _ (k : Class) (a : ℕ) (r : Found) where
-    pub row-one : x ≡ One k a → r ≡ found (rowFirst ps i i (child k a ∷ [])) → r ≡ found (rowFirst ps i i (reverse (children f)))
+    pub row-one : x ≡ One k a → r ≡ found (rowFirst ps i i (child k a ∷ []))
+        → r ≡ found (rowFirst ps i i (reverse (children f)))
     row-one e p = p ∙ row-of (One k a) e
 
     module _ (l : Class) (b : ℕ) where
-      pub row-two : x ≡ Two k a l b → r ≡ found (rowFirst ps i i (child l b ∷ child k a ∷ [])) → r ≡ found (rowFirst ps i i (reverse (children f)))
+      pub row-two : x ≡ Two k a l b → r ≡ found (rowFirst ps i i (child l b ∷ child k a ∷ []))
+          → r ≡ found (rowFirst ps i i (reverse (children f)))
       row-two e p = p ∙ row-of (Two k a l b) e
 
       module _ (m : Class) (c : ℕ) (y : Found) (e : x ≡ Three k a l b m c) (q : y ≡ found (rowFirst ps i i (child m c ∷ []))) where
-        rest : (o : Option ℕ) → rowFirst ps i i (child m c ∷ []) ≡ o → found (andThen o (λ s. rowFirst ps i s (child l b ∷ child k a ∷ []))) ≡ found (rowFirst ps i i (reverse (children f)))
-        rest o z = ap (λ (o : Option ℕ). found (andThen o (λ s. rowFirst ps i s (child l b ∷ child k a ∷ [])))) (sym z) ∙ ap found (sym (row-append ps i (child m c ∷ []) (child l b ∷ child k a ∷ []) i)) ∙ row-of (Three k a l b m c) e
+        rest : (o : Option ℕ) → rowFirst ps i i (child m c ∷ []) ≡ o
+            → found (andThen o (λ s. rowFirst ps i s (child l b ∷ child k a ∷ [])))
+            ≡ found (rowFirst ps i i (reverse (children f)))
+        rest o z =
+            ap (λ (o : Option ℕ). found (andThen o (λ s. rowFirst ps i s (child l b ∷ child k a ∷ [])))) (sym z)
+            ∙ ap found (sym (row-append ps i (child m c ∷ []) (child l b ∷ child k a ∷ []) i))
+            ∙ row-of (Three k a l b m c) e
 
         pub row-last : y ≡ Nowhere → Nowhere ≡ found (rowFirst ps i i (reverse (children f)))
         row-last n = rest none (found-none (rowFirst ps i i (child m c ∷ [])) n q)
 
-        pub row-three : (t : ℕ) → y ≡ At t → r ≡ found (rowFirst ps i t (child l b ∷ child k a ∷ [])) → r ≡ found (rowFirst ps i i (reverse (children f)))
+        pub row-three : (t : ℕ) → y ≡ At t
+            → r ≡ found (rowFirst ps i t (child l b ∷ child k a ∷ []))
+            → r ≡ found (rowFirst ps i i (reverse (children f)))
         row-three t n p = p ∙ rest (some t) (found-some (rowFirst ps i i (child m c ∷ [])) n q)
 
 -- ---- a row begins at its end or before, so that the next row ends within the frames passed
-first-le : (fs : List Frame) (first : List ℕ) (i : ℕ) → Backward first i → (cs : List Child) (stop lo : ℕ) → stop ≤ i → rowFirst (told fs first i) i stop cs ≡ some lo → lo ≤ stop
+first-le : (fs : List Frame) (first : List ℕ) (i : ℕ) → Backward first i
+    → (cs : List Child) (stop lo : ℕ) → stop ≤ i → rowFirst (told fs first i) i stop cs ≡ some lo
+    → lo ≤ stop
 unfolding rowFirst
 first-le fs first i h [] stop lo l e = let z : stop ≡ lo = cc in omega arith
 first-le fs first i h (c ∷ cs) stop lo l e = go (eqb (suc (c .at)) stop && sameClass (getD (told fs first i) (i - suc (c .at)) nobody .class) (c .class)) refl e (λ m k g. first-le fs first i h cs m lo k g)
   where
-    go : (b : Bool) → (eqb (suc (c .at)) stop && sameClass (getD (told fs first i) (i - suc (c .at)) nobody .class) (c .class)) ≡ b
-        → elim b [ true ↦ rowFirst (told fs first i) i (getD (told fs first i) (i - suc (c .at)) nobody .first) cs | false ↦ none ] ≡ some lo
+    go : (b : Bool)
+        → (eqb (suc (c .at)) stop && sameClass (getD (told fs first i) (i - suc (c .at)) nobody .class) (c .class))
+        ≡ b
+        → elim b [ true ↦ rowFirst (told fs first i) i (getD (told fs first i) (i - suc (c .at)) nobody .first) cs | false ↦ none ]
+        ≡ some lo
         → ((m : ℕ) → m ≤ i → rowFirst (told fs first i) i m cs ≡ some lo → lo ≤ m) → lo ≤ stop
     go false q g r = absurd (let z : _≡_ {A = ℕ} 0 1 = cc in omega arith)
     go true q g r =
@@ -158,8 +202,11 @@ first-le fs first i h (c ∷ cs) stop lo l e = go (eqb (suc (c .at)) stop && sam
         omega arith
 
 module _ (fs : List Frame) (first : List ℕ) (i : ℕ) (h : Backward first i) where
-  pub row-within : (cs : List Child) (x : Found) (stop t : ℕ) → x ≡ At t → x ≡ found (rowFirst (told fs first i) i stop cs) → stop ≤ i → t ≤ i
-  row-within cs x stop t e p l = let a = first-le fs first i h cs stop t l (found-some (rowFirst (told fs first i) i stop cs) e p) in omega arith
+  pub row-within : (cs : List Child) (x : Found) (stop t : ℕ) → x ≡ At t
+      → x ≡ found (rowFirst (told fs first i) i stop cs) → stop ≤ i → t ≤ i
+  row-within cs x stop t e p l =
+      let a = first-le fs first i h cs stop t l (found-some (rowFirst (told fs first i) i stop cs) e p) in
+      omega arith
 
 -- ---- the loop: the pass from here on is the pass from the start
 abbrev pub SeekingDisorder : List Frame → List ℕ → ℕ → Type 0
@@ -173,22 +220,31 @@ module _ (ws first : List ℕ) (i : ℕ) where
   abbrev next : Option ℕ → Option ℕ
   next o = elim o [ none ↦ some i | some lo ↦ firstDisorder (passed (classOf (frameAt (framesOf ws) i .kind)) lo ∷ told (framesOf ws) first i) (suc i) (drop (suc i) (framesOf ws)) ]
 
-  look : i < length ws → firstDisorder (told (framesOf ws) first i) i (drop i (framesOf ws)) ≡ next (rowFirst (told (framesOf ws) first i) i i (reverse (children (frameAt (framesOf ws) i))))
+  look : i < length ws
+      → firstDisorder (told (framesOf ws) first i) i (drop i (framesOf ws))
+      ≡ next (rowFirst (told (framesOf ws) first i) i i (reverse (children (frameAt (framesOf ws) i))))
   look l = ap (firstDisorder (told (framesOf ws) first i) i) (frames-next ws i l) ∙ step
     where
-      step : firstDisorder (told (framesOf ws) first i) i (frameAt (framesOf ws) i ∷ drop (suc i) (framesOf ws)) ≡ next (rowFirst (told (framesOf ws) first i) i i (reverse (children (frameAt (framesOf ws) i))))
+      step : firstDisorder (told (framesOf ws) first i) i (frameAt (framesOf ws) i ∷ drop (suc i) (framesOf ws))
+          ≡ next (rowFirst (told (framesOf ws) first i) i i (reverse (children (frameAt (framesOf ws) i))))
       step = unfold firstDisorder in refl
 
 module _ (ws first : List ℕ) (i : ℕ) (f : Frame) (x : Found) (e : f ≡ frameAt (framesOf ws) i) (q : x ≡ found (rowFirst (told (framesOf ws) first i) i i (reverse (children f)))) where
-  row-here : x ≡ found (rowFirst (told (framesOf ws) first i) i i (reverse (children (frameAt (framesOf ws) i))))
-  row-here = q ∙ ap (λ (g : Frame). found (rowFirst (told (framesOf ws) first i) i i (reverse (children g)))) e
+  row-here : x
+      ≡ found (rowFirst (told (framesOf ws) first i) i i (reverse (children (frameAt (framesOf ws) i))))
+  row-here =
+      q
+      ∙ ap (λ (g : Frame). found (rowFirst (told (framesOf ws) first i) i i (reverse (children g)))) e
 
-  pub disorder-here : x ≡ Nowhere → SeekingDisorder (framesOf ws) first i → i < length ws → At i ≡ found (firstDisorder [] 0 (framesOf ws))
+  pub disorder-here : x ≡ Nowhere → SeekingDisorder (framesOf ws) first i → i < length ws
+      → At i ≡ found (firstDisorder [] 0 (framesOf ws))
   disorder-here n g l =
       let z = found-none (rowFirst (told (framesOf ws) first i) i i (reverse (children (frameAt (framesOf ws) i)))) n row-here in
       ap found (sym (ap (next ws first i) z) ∙ sym (look ws first i l) ∙ g)
 
-  pub disorder-next : (lo : ℕ) → x ≡ At lo → SeekingDisorder (framesOf ws) first i → length first ≡ 1024 → i < length ws → length ws ≤ 1024 → SeekingDisorder (framesOf ws) (set first i lo) (i + 1)
+  pub disorder-next : (lo : ℕ) → x ≡ At lo → SeekingDisorder (framesOf ws) first i
+      → length first ≡ 1024 → i < length ws → length ws ≤ 1024
+      → SeekingDisorder (framesOf ws) (set first i lo) (i + 1)
   disorder-next lo n g a l m =
       let z = found-some (rowFirst (told (framesOf ws) first i) i i (reverse (children (frameAt (framesOf ws) i)))) n row-here in
       let t = told-next (framesOf ws) first i lo (omega arith) in
@@ -197,7 +253,8 @@ module _ (ws first : List ℕ) (i : ℕ) (f : Frame) (x : Found) (e : f ≡ fram
       ∙ sym (ap (next ws first i) z)
       ∙ sym (look ws first i l) ∙ g)
 
-  pub backward-next : (lo : ℕ) → x ≡ At lo → Backward first i → length first ≡ 1024 → i < length ws → length ws ≤ 1024 → Backward (set first i lo) (i + 1)
+  pub backward-next : (lo : ℕ) → x ≡ At lo → Backward first i → length first ≡ 1024 → i < length ws
+      → length ws ≤ 1024 → Backward (set first i lo) (i + 1)
   backward-next lo n h a l m j k = go (eqb j i) refl
     where
       go : (b : Bool) → eqb j i ≡ b → getD (set first i lo) j 0 ≤ j
@@ -215,8 +272,10 @@ module _ (ws first : List ℕ) (i : ℕ) (f : Frame) (x : Found) (e : f ≡ fram
 pub backward-start : (first : List ℕ) → Backward first 0
 backward-start first j l = absurd (omega arith)
 
-pub disorder-end : (ws first : List ℕ) (i : ℕ) → SeekingDisorder (framesOf ws) first i → length ws ≤ i → Nowhere ≡ found (firstDisorder [] 0 (framesOf ws))
-disorder-end ws first i g l = ap found (end ∙ ap (firstDisorder (told (framesOf ws) first i) i) (sym (frames-end ws i l)) ∙ g)
+pub disorder-end : (ws first : List ℕ) (i : ℕ) → SeekingDisorder (framesOf ws) first i
+    → length ws ≤ i → Nowhere ≡ found (firstDisorder [] 0 (framesOf ws))
+disorder-end ws first i g l =
+    ap found (end ∙ ap (firstDisorder (told (framesOf ws) first i) i) (sym (frames-end ws i l)) ∙ g)
   where
     end : none ≡ firstDisorder (told (framesOf ws) first i) i []
     end = unfold firstDisorder in refl

@@ -23,7 +23,8 @@ use Rattle.layout.proofs.Order.{order-low, all-trees}
 use Rattle.layout.proofs.Depths.{depth-low}
 
 -- what a fault 4 is, and a fault 5
-four : {fs : List Frame} {n j : ℕ} → Fault fs n j → n ≡ 4 → (j ≡ 0) × (headerFine (frameAt fs 0) ≡ false)
+four : {fs : List Frame} {n j : ℕ} → Fault fs n j → n ≡ 4
+    → (j ≡ 0) × (headerFine (frameAt fs 0) ≡ false)
 four (Fault.header h) e = (refl, h)
 four (Fault.field l h) e = absurd (omega arith)
 four (Fault.order l h) e = absurd (omega arith)
@@ -32,7 +33,8 @@ four (Fault.leftover a b c) e = absurd (omega arith)
 four (Fault.main a b) e = absurd (omega arith)
 four (Fault.depth d h) e = absurd (omega arith)
 
-five : {fs : List Frame} {n j : ℕ} → Fault fs n j → n ≡ 5 → (j < length fs) × (frameFine fs j (frameAt fs j) ≡ false)
+five : {fs : List Frame} {n j : ℕ} → Fault fs n j → n ≡ 5
+    → (j < length fs) × (frameFine fs j (frameAt fs j) ≡ false)
 five (Fault.header h) e = absurd (omega arith)
 five (Fault.field l h) e = (l, h)
 five (Fault.order l h) e = absurd (omega arith)
@@ -68,17 +70,21 @@ renumber : {fs : List Frame} {n m k : ℕ} → m ≡ n → Fault fs m k → Faul
 renumber e f = rw e at f
 
 -- the lowest fault n, if there is one, is the first; else no fault has a number up to n
-reject-step : {fs : List Frame} (n : ℕ) (o : Option ℕ) (next : Unit {0} → Verdict) → NoneBelow fs n → Lowest (Fault fs n) o → (NoneBelow fs (suc n) → LayoutSays fs (next tt)) → LayoutSays fs (rejectAt n o next)
+reject-step : {fs : List Frame} (n : ℕ) (o : Option ℕ) (next : Unit {0} → Verdict) → NoneBelow fs n
+    → Lowest (Fault fs n) o → (NoneBelow fs (suc n) → LayoutSays fs (next tt))
+    → LayoutSays fs (rejectAt n o next)
 reject-step {fs} n none next low (Lowest.nowhere h) g = g (λ m k f. go m k f (eqb m n) refl)
   where
     go : (m k : ℕ) → Fault fs m k → (b : Bool) → eqb m n ≡ b → suc n ≤ m
     go m k f true e = absurd (h k (renumber (eqb-true m n e) f))
     go m k f false e = (let z : m ≡ n → ⊥ = eqb-false m n e in let l = low m k f in omega arith)
-reject-step {fs} n (some j) next low (Lowest.lowest-at f l) g = record { fault = f; least = λ m k x. go m k x (eqb m n) refl }
+reject-step {fs} n (some j) next low (Lowest.lowest-at f l) g =
+    record { fault = f; least = λ m k x. go m k x (eqb m n) refl }
   where
     go : (m k : ℕ) → Fault fs m k → (b : Bool) → eqb m n ≡ b → (n < m) ⊎ ((n ≡ m) × (j ≤ k))
     go m k x true e = (let z : m ≡ n = eqb-true m n e in inr (sym z, l k (renumber z x)))
-    go m k x false e = (let z : m ≡ n → ⊥ = eqb-false m n e in let y = low m k x in inl (omega arith))
+    go m k x false e =
+        (let z : m ≡ n → ⊥ = eqb-false m n e in let y = low m k x in inl (omega arith))
 
 -- ---- the first fault
 pub layout-says : (fs : List Frame) → 0 < length fs → LayoutSays fs (layoutOf fs)
@@ -95,10 +101,12 @@ pub layout-one : (fs : List Frame) (r s : Verdict) → LayoutSays fs r → Layou
 layout-one fs Accepted Accepted h g = refl
 layout-one fs Accepted (Rejected n j) h g = absurd (h n j (g .fault))
 layout-one fs (Rejected n j) Accepted h g = absurd (g n j (h .fault))
-layout-one fs (Rejected n j) (Rejected m k) h g = go (h .least m k (g .fault)) (g .least n j (h .fault))
+layout-one fs (Rejected n j) (Rejected m k) h g =
+    go (h .least m k (g .fault)) (g .least n j (h .fault))
   where
     go : (n < m) ⊎ ((n ≡ m) × (j ≤ k)) → (m < n) ⊎ ((m ≡ n) × (k ≤ j)) → Rejected n j ≡ Rejected m k
     go (inl a) (inl b) = absurd (omega arith)
     go (inl a) (inr b) = absurd (let z = b .0 in omega arith)
     go (inr a) (inl b) = absurd (let z = a .0 in omega arith)
-    go (inr a) (inr b) = (let y : n ≡ m = a .0 in let p = a .1 in let q = b .1 in let z : j ≡ k = omega arith in cc)
+    go (inr a) (inr b) =
+        (let y : n ≡ m = a .0 in let p = a .1 in let q = b .1 in let z : j ≡ k = omega arith in cc)

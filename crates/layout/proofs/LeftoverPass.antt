@@ -1,4 +1,5 @@
--- The code's pass for a leftover frame, over an array with a mark at each frame that some frame has as a child. Assumes nothing.
+-- The code's pass for a leftover frame, over an array with a mark at each frame that some frame has
+-- as a child. Assumes nothing.
 use mathlib.Core.Path.{_≡_, refl, sym, ap, ap₂, _∙_}
 use mathlib.Core.Bool.{Bool, true, false, not, _&&_}
 use mathlib.Core.List.{List, [], _∷_}
@@ -56,13 +57,18 @@ module _ (u : List ℕ) (f : Frame) (x : Children) (h : x ≡ childrenOf f) wher
 
     module _ (l : Class) (b : ℕ) (r : List ℕ) where
       pub two-marked : x ≡ Two k a l b → t ≡ marked u a → r ≡ marked t b → r ≡ marks u (children f)
-      two-marked e p q = q ∙ ap (λ (s : List ℕ). marked s b) p ∙ end ∙ ap (marks u) (children-are f x (Two k a l b) h e)
+      two-marked e p q =
+          q ∙ ap (λ (s : List ℕ). marked s b) p ∙ end
+          ∙ ap (marks u) (children-are f x (Two k a l b) h e)
         where
           end : marked (marked u a) b ≡ marks u (listOf (Two k a l b))
           end = unfold marks in refl
 
-      pub three-marked : (m : Class) (c : ℕ) (s : List ℕ) → x ≡ Three k a l b m c → t ≡ marked u a → r ≡ marked t b → s ≡ marked r c → s ≡ marks u (children f)
-      three-marked m c s e p q w = w ∙ ap (λ (y : List ℕ). marked y c) (q ∙ ap (λ (y : List ℕ). marked y b) p) ∙ end ∙ ap (marks u) (children-are f x (Three k a l b m c) h e)
+      pub three-marked : (m : Class) (c : ℕ) (s : List ℕ) → x ≡ Three k a l b m c → t ≡ marked u a
+          → r ≡ marked t b → s ≡ marked r c → s ≡ marks u (children f)
+      three-marked m c s e p q w =
+          w ∙ ap (λ (y : List ℕ). marked y c) (q ∙ ap (λ (y : List ℕ). marked y b) p) ∙ end
+          ∙ ap (marks u) (children-are f x (Three k a l b m c) h e)
         where
           end : marked (marked (marked u a) b) c ≡ marks u (listOf (Three k a l b m c))
           end = unfold marks in refl
@@ -71,15 +77,19 @@ module _ (u : List ℕ) (f : Frame) (x : Children) (h : x ≡ childrenOf f) wher
 abbrev pub Marking : List Frame → List ℕ → List ℕ → ℕ → Type 0
 Marking fs start u i = markAll u (drop i fs) ≡ markAll start fs
 
-pub marking-next : (ws start u t : List ℕ) (i : ℕ) (f : Frame) → f ≡ frameAt (framesOf ws) i → t ≡ marks u (children f) → Marking (framesOf ws) start u i → i < length ws → Marking (framesOf ws) start t (i + 1)
+pub marking-next : (ws start u t : List ℕ) (i : ℕ) (f : Frame) → f ≡ frameAt (framesOf ws) i
+    → t ≡ marks u (children f) → Marking (framesOf ws) start u i → i < length ws
+    → Marking (framesOf ws) start t (i + 1)
 marking-next ws start u t i f e q g l =
     let s : i + 1 ≡ suc i = omega arith in
     rw s (ap (λ (x : List ℕ). markAll x (drop (suc i) (framesOf ws))) (q ∙ ap (λ (g : Frame). marks u (children g)) e) ∙ sym step ∙ sym (ap (markAll u) (frames-next ws i l)) ∙ g)
   where
-    step : markAll u (frameAt (framesOf ws) i ∷ drop (suc i) (framesOf ws)) ≡ markAll (marks u (children (frameAt (framesOf ws) i))) (drop (suc i) (framesOf ws))
+    step : markAll u (frameAt (framesOf ws) i ∷ drop (suc i) (framesOf ws))
+        ≡ markAll (marks u (children (frameAt (framesOf ws) i))) (drop (suc i) (framesOf ws))
     step = unfold markAll in refl
 
-pub marking-end : (ws start u : List ℕ) (i : ℕ) → Marking (framesOf ws) start u i → length ws ≤ i → u ≡ markAll start (framesOf ws)
+pub marking-end : (ws start u : List ℕ) (i : ℕ) → Marking (framesOf ws) start u i → length ws ≤ i
+    → u ≡ markAll start (framesOf ws)
 marking-end ws start u i g l = end ∙ ap (markAll u) (sym (frames-end ws i l)) ∙ g
   where
     end : u ≡ markAll u []
@@ -89,7 +99,8 @@ marking-end ws start u i g l = end ∙ ap (markAll u) (sym (frames-end ws i l)) 
 abbrev isAt : ℕ → Child → Bool
 isAt j c = eqb (c .at) j
 
-set-says : (u : List ℕ) (v j : ℕ) → j < length u → eqb (getD (set u v 1) j 0) 0 ≡ (not (eqb v j) && eqb (getD u j 0) 0)
+set-says : (u : List ℕ) (v j : ℕ) → j < length u
+    → eqb (getD (set u v 1) j 0) 0 ≡ (not (eqb v j) && eqb (getD u j 0) 0)
 set-says u v j l = go (eqb v j) refl
   where
     go : (b : Bool) → eqb v j ≡ b → eqb (getD (set u v 1) j 0) 0 ≡ (not b && eqb (getD u j 0) 0)
@@ -105,7 +116,8 @@ marked-length : (u : List ℕ) (v : ℕ) → length (marked u v) ≡ length u
 unfolding marked
 marked-length u v = if-all (λ (x : List ℕ). length x ≡ length u) (ltb v 1024) _ _ (λ h. length-set u v 1) (λ h. refl)
 
-marked-says : (u : List ℕ) (v j : ℕ) → j < 1024 → j < length u → eqb (getD (marked u v) j 0) 0 ≡ (not (eqb v j) && eqb (getD u j 0) 0)
+marked-says : (u : List ℕ) (v j : ℕ) → j < 1024 → j < length u
+    → eqb (getD (marked u v) j 0) 0 ≡ (not (eqb v j) && eqb (getD u j 0) 0)
 unfolding marked
 marked-says u v j o l = if-all (λ (x : List ℕ). eqb (getD x j 0) 0 ≡ (not (eqb v j) && eqb (getD u j 0) 0)) (ltb v 1024) (set u v 1) u (λ h. set-says u v j l) (λ h. away (ltb-false v 1024 h))
   where
@@ -118,7 +130,8 @@ neither true true x = refl
 neither true false x = refl
 neither false b x = refl
 
-marks-say : (cs : List Child) (u : List ℕ) (j : ℕ) → j < 1024 → j < length u → eqb (getD (marks u cs) j 0) 0 ≡ (not (any (isAt j) cs) && eqb (getD u j 0) 0)
+marks-say : (cs : List Child) (u : List ℕ) (j : ℕ) → j < 1024 → j < length u
+    → eqb (getD (marks u cs) j 0) 0 ≡ (not (any (isAt j) cs) && eqb (getD u j 0) 0)
 unfolding any marks
 marks-say [] u j o l = refl
 marks-say (c ∷ cs) u j o l =
@@ -131,7 +144,8 @@ marks-length [] u = refl
 marks-length (c ∷ cs) u = marks-length cs (marked u (c .at)) ∙ marked-length u (c .at)
 
 -- after all frames, a 0 stands where nothing was marked and no frame has it as a child
-all-say : (fs : List Frame) (u : List ℕ) (j : ℕ) → j < 1024 → j < length u → eqb (getD (markAll u fs) j 0) 0 ≡ (not (any (hasChild j) fs) && eqb (getD u j 0) 0)
+all-say : (fs : List Frame) (u : List ℕ) (j : ℕ) → j < 1024 → j < length u
+    → eqb (getD (markAll u fs) j 0) 0 ≡ (not (any (hasChild j) fs) && eqb (getD u j 0) 0)
 unfolding markAll any hasChild
 all-say [] u j o l = refl
 all-say (f ∷ fs) u j o l =
@@ -142,14 +156,18 @@ all-say (f ∷ fs) u j o l =
 
 -- ---- the loop that looks for a leftover
 -- each arm of the match on a class
-pub left-row : (k c : Class) (m : ℕ) (r : Bool) → k ≡ c → r ≡ (hasClass c && eqb m 0) → r ≡ (hasClass k && eqb m 0)
+pub left-row : (k c : Class) (m : ℕ) (r : Bool) → k ≡ c → r ≡ (hasClass c && eqb m 0)
+    → r ≡ (hasClass k && eqb m 0)
 left-row k c m r e h = h ∙ ap (λ (q : Class). hasClass q && eqb m 0) (sym e)
 
 abbrev pub SeekingLeftover : List Frame → ℕ → Type 0
 SeekingLeftover fs i = Seeking (leftoverTest fs) fs i
 
 -- the code's test is the definition's
-leftover-is : (ws zeros used : List ℕ) (i : ℕ) (k : Class) (f : Frame) → f ≡ frameAt (framesOf ws) i → k ≡ classOf (f .kind) → used ≡ markAll zeros (framesOf ws) → zeros ≡ replicate 1024 0 → i < 1024 → (hasClass k && eqb (getD used i 0) 0) ≡ leftoverTest (framesOf ws) i (frameAt (framesOf ws) i)
+leftover-is : (ws zeros used : List ℕ) (i : ℕ) (k : Class) (f : Frame) → f ≡ frameAt (framesOf ws) i
+    → k ≡ classOf (f .kind) → used ≡ markAll zeros (framesOf ws) → zeros ≡ replicate 1024 0
+    → i < 1024
+    → (hasClass k && eqb (getD used i 0) 0) ≡ leftoverTest (framesOf ws) i (frameAt (framesOf ws) i)
 leftover-is ws zeros used i k f e h u z l =
     let a : hasClass k ≡ hasClass (classOf (frameAt (framesOf ws) i .kind)) = ap hasClass (h ∙ ap (λ (g : Frame). classOf (g .kind)) e) in
     let m : i < length zeros = (let y : length zeros ≡ 1024 = ap length z ∙ length-replicate {A = ℕ} 1024 0 in omega arith) in
@@ -163,14 +181,22 @@ leftover-is ws zeros used i k f e h u z l =
     and-yes false = refl
 
 module _ (ws zeros used : List ℕ) (i : ℕ) (k : Class) (f : Frame) (b : Bool) (e : f ≡ frameAt (framesOf ws) i) (h : k ≡ classOf (f .kind)) (u : used ≡ markAll zeros (framesOf ws)) (z : zeros ≡ replicate 1024 0) (q : b ≡ (hasClass k && eqb (getD used i 0) 0)) where
-  test-is : i < length ws → length ws ≤ 1024 → leftoverTest (framesOf ws) i (frameAt (framesOf ws) i) ≡ b
+  test-is : i < length ws → length ws ≤ 1024
+      → leftoverTest (framesOf ws) i (frameAt (framesOf ws) i) ≡ b
   test-is l m = sym (q ∙ leftover-is ws zeros used i k f e h u z (omega arith))
 
-  pub leftover-here : b ≡ true → SeekingLeftover (framesOf ws) i → i < length ws → length ws ≤ 1024 → At i ≡ found (firstLeftover (framesOf ws) 0 (framesOf ws))
-  leftover-here t g l m = seek-here (leftoverTest (framesOf ws)) ws i g l (test-is l m ∙ t) ∙ ap found (sym (leftover-lowest (framesOf ws) (framesOf ws) 0 (λ t e. e)))
+  pub leftover-here : b ≡ true → SeekingLeftover (framesOf ws) i → i < length ws → length ws ≤ 1024
+      → At i ≡ found (firstLeftover (framesOf ws) 0 (framesOf ws))
+  leftover-here t g l m =
+      seek-here (leftoverTest (framesOf ws)) ws i g l (test-is l m ∙ t)
+      ∙ ap found (sym (leftover-lowest (framesOf ws) (framesOf ws) 0 (λ t e. e)))
 
-  pub leftover-next : b ≡ false → SeekingLeftover (framesOf ws) i → i < length ws → length ws ≤ 1024 → SeekingLeftover (framesOf ws) (i + 1)
+  pub leftover-next : b ≡ false → SeekingLeftover (framesOf ws) i → i < length ws → length ws ≤ 1024
+      → SeekingLeftover (framesOf ws) (i + 1)
   leftover-next t g l m = seek-next (leftoverTest (framesOf ws)) ws i g l (test-is l m ∙ t)
 
-pub leftover-end : (ws : List ℕ) (i : ℕ) → SeekingLeftover (framesOf ws) i → length ws ≤ i → Nowhere ≡ found (firstLeftover (framesOf ws) 0 (framesOf ws))
-leftover-end ws i g l = seek-end (leftoverTest (framesOf ws)) ws i g l ∙ ap found (sym (leftover-lowest (framesOf ws) (framesOf ws) 0 (λ t e. e)))
+pub leftover-end : (ws : List ℕ) (i : ℕ) → SeekingLeftover (framesOf ws) i → length ws ≤ i
+    → Nowhere ≡ found (firstLeftover (framesOf ws) 0 (framesOf ws))
+leftover-end ws i g l =
+    seek-end (leftoverTest (framesOf ws)) ws i g l
+    ∙ ap found (sym (leftover-lowest (framesOf ws) (framesOf ws) 0 (λ t e. e)))

@@ -16,7 +16,8 @@ use Rattle.language.specs.Kinds.{isHeader, isShared, classOf, Child, children}
 use Rattle.language.specs.declared.frame.Frame.{Frame}
 use Rattle.program.specs.Trees.{noFrame, frameAt}
 use Rattle.program.specs.inner.Ordered.{Ordered}
-use Rattle.layout.proofs.Searches.{Lowest, either, same-low, lowest-all, any-more, any-none, any-false, any-true, any-some}
+use Rattle.layout.proofs.Searches.{Lowest, either, same-low, lowest-all, any-more, any-none}
+use Rattle.layout.proofs.Searches.{any-false, any-true, any-some}
 use Rattle.layout.specs.Faults.{Fault}
 use Rattle.layout.specs.Order.{hasChild, hasClass, isMain, Tree, Row}
 use Rattle.layout.specs.inner.Scans.{isBehind, isLeftover, firstLeftover, noMain, orderFault}
@@ -35,11 +36,13 @@ record Behind (fs : List Frame) (j : ℕ) : Type 0 where
 abbrev pub isOther : Frame → Bool
 isOther g = not (isHeader (g .kind) || isShared (g .kind))
 
-behind-low : (fs : List Frame) → Lowest (Behind fs) (lowest (λ (i : ℕ) (f : Frame). isBehind fs i f) 0 fs)
+behind-low : (fs : List Frame)
+    → Lowest (Behind fs) (lowest (λ (i : ℕ) (f : Frame). isBehind fs i f) 0 fs)
 unfolding isBehind
 behind-low fs = same-low (λ j h. to j (isShared (frameAt fs j .kind)) refl (h .0) (h .1)) (λ j h. (h .inside, back j h)) (lowest-all noFrame (λ (i : ℕ) (f : Frame). isBehind fs i f) fs)
   where
-    to : (j : ℕ) (b : Bool) → isShared (frameAt fs j .kind) ≡ b → j < length fs → elim b [ true ↦ any isOther (take j fs) | false ↦ false ] ≡ true → Behind fs j
+    to : (j : ℕ) (b : Bool) → isShared (frameAt fs j .kind) ≡ b → j < length fs
+        → elim b [ true ↦ any isOther (take j fs) | false ↦ false ] ≡ true → Behind fs j
     to j false e l h = absurd (true≢false (sym h))
     to j true e l h =
         let p = any-true noFrame isOther (take j fs) h in
@@ -55,21 +58,28 @@ behind-low fs = same-low (λ j h. to j (isShared (frameAt fs j .kind)) refl (h .
 abbrev pub leftoverTest : List Frame → ℕ → Frame → Bool
 leftoverTest fs i f = hasClass (classOf (f .kind)) && not (any (hasChild i) fs)
 
-leftover-test : (fs : List Frame) (i : ℕ) (f : Frame) (tail : List Frame) → (any (hasChild i) tail ≡ true → any (hasChild i) fs ≡ true) → isLeftover fs i f tail ≡ leftoverTest fs i f
+leftover-test : (fs : List Frame) (i : ℕ) (f : Frame) (tail : List Frame)
+    → (any (hasChild i) tail ≡ true → any (hasChild i) fs ≡ true)
+    → isLeftover fs i f tail ≡ leftoverTest fs i f
 unfolding isLeftover
 leftover-test fs i f tail h = go (hasClass (classOf (f .kind))) (any (hasChild i) tail) h
   where
-    go : (a b : Bool) → (b ≡ true → any (hasChild i) fs ≡ true) → elim a [ true ↦ elim b [ true ↦ false | false ↦ not (any (hasChild i) fs) ] | false ↦ false ] ≡ (a && not (any (hasChild i) fs))
+    go : (a b : Bool) → (b ≡ true → any (hasChild i) fs ≡ true)
+        → elim a [ true ↦ elim b [ true ↦ false | false ↦ not (any (hasChild i) fs) ] | false ↦ false ]
+        ≡ (a && not (any (hasChild i) fs))
     go true true k = sym (ap not (k refl))
     go true false k = refl
     go false b k = refl
 
-pub leftover-lowest : (fs tail : List Frame) (i : ℕ) → ((t : Frame → Bool) → any t tail ≡ true → any t fs ≡ true) → firstLeftover fs i tail ≡ lowest (leftoverTest fs) i tail
+pub leftover-lowest : (fs tail : List Frame) (i : ℕ)
+    → ((t : Frame → Bool) → any t tail ≡ true → any t fs ≡ true)
+    → firstLeftover fs i tail ≡ lowest (leftoverTest fs) i tail
 unfolding firstLeftover lowest
 leftover-lowest fs [] i h = refl
 leftover-lowest fs (f ∷ tail) i h = rw (leftover-test fs i f tail (λ e. h (hasChild i) (any-more (hasChild i) f tail e)), firstLeftover) (go (leftoverTest fs i f) (leftover-lowest fs tail (suc i) (λ t e. h t (any-more t f tail e))))
   where
-    go : (b : Bool) → firstLeftover fs (suc i) tail ≡ lowest (leftoverTest fs) (suc i) tail → _≡_ {A = Option ℕ} (elim b [ true ↦ some i | false ↦ firstLeftover fs (suc i) tail ]) (elim b [ true ↦ some i | false ↦ lowest (leftoverTest fs) (suc i) tail ])
+    go : (b : Bool) → firstLeftover fs (suc i) tail ≡ lowest (leftoverTest fs) (suc i) tail
+        → _≡_ {A = Option ℕ} (elim b [ true ↦ some i | false ↦ firstLeftover fs (suc i) tail ]) (elim b [ true ↦ some i | false ↦ lowest (leftoverTest fs) (suc i) tail ])
     go true e = refl
     go false e = e
 
@@ -102,7 +112,8 @@ to-six : {fs : List Frame} {n j : ℕ} → Fault fs n j → n ≡ 6 → Six fs j
 to-six (Fault.header h) e = absurd (omega arith)
 to-six (Fault.field l h) e = absurd (omega arith)
 to-six (Fault.order l h) e = inl (l, h)
-to-six (Fault.behind {i = i} a b c d) e = inr (inl (record { other = i; before = a; inside = b; shared = c; kind = d }))
+to-six (Fault.behind {i =
+    i} a b c d) e = inr (inl (record { other = i; before = a; inside = b; shared = c; kind = d }))
 to-six (Fault.leftover a b c) e = inr (inr (inl (record { inside = a; class = b; unused = c })))
 to-six (Fault.main a b) e = inr (inr (inr (a, b)))
 to-six (Fault.depth d h) e = absurd (omega arith)
@@ -118,15 +129,18 @@ unfolding orderFault
 order-low fs l = same-low (λ j h. from-six h) (λ j h. to-six h refl) (either (disorder-low fs) (either (behind-low fs) (either (leftover-low fs) (main-low fs l))))
 
 -- ---- where no frame has a fault 6, every frame is the root of a tree
-pub all-trees : (fs : List Frame) → ((k : ℕ) → Fault fs 6 k → ⊥) → (j : ℕ) → j < length fs → HasTree fs j
+pub all-trees : (fs : List Frame) → ((k : ℕ) → Fault fs 6 k → ⊥) → (j : ℕ) → j < length fs
+    → HasTree fs j
 all-trees fs h = no-disorder fs (λ j n. h j (Fault.order (n .0) (n .1)))
 
 -- and each child stands before its parent
-row-below : {fs : List Frame} {lo stop : ℕ} {cs : List Child} → Row fs lo stop cs → All (λ (c : Child). c .at < stop) cs
+row-below : {fs : List Frame} {lo stop : ℕ} {cs : List Child} → Row fs lo stop cs
+    → All (λ (c : Child). c .at < stop) cs
 row-below Row.none = All.none
 row-below (Row.more t e r) = All.more (row-le r) (row-below r)
 
-tree-below : {fs : List Frame} {lo i : ℕ} → Tree fs lo i → All (λ (c : Child). c .at < i) (children (frameAt fs i))
+tree-below : {fs : List Frame} {lo i : ℕ} → Tree fs lo i
+    → All (λ (c : Child). c .at < i) (children (frameAt fs i))
 tree-below (Tree.root r) = row-below r
 
 pub is-ordered : (fs : List Frame) → ((k : ℕ) → Fault fs 6 k → ⊥) → Ordered fs

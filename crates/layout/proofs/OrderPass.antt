@@ -1,4 +1,5 @@
--- The code's other passes of refusal 6: shared cells behind another kind, `main`, and the lowest frame of all four passes. Assumes nothing.
+-- The code's other passes of refusal 6: shared cells behind another kind, `main`, and the lowest
+-- frame of all four passes. Assumes nothing.
 use mathlib.Core.Path.{_≡_, refl, sym, ap, ap₂, _∙_}
 use mathlib.Core.Bool.{Bool, true, false, not, _&&_, _||_}
 use mathlib.Core.List.{List, []}
@@ -22,7 +23,8 @@ use Rattle.fields.specs.inner.Scans.{found, optionOf}
 use Rattle.fields.proofs.Finds.{option-found}
 use Rattle.fields.proofs.Seeking.{Seeking, seek-here, seek-next, seek-end}
 use Rattle.layout.specs.Order.{isMain}
-use Rattle.layout.specs.inner.Scans.{firstDisorder, isBehind, firstLeftover, noMain, orderFault}
+use Rattle.layout.specs.inner.Scans.{firstDisorder, isBehind, firstLeftover, noMain}
+use Rattle.layout.specs.inner.Scans.{orderFault}
 use Rattle.layout.proofs.Searches.{any-append}
 use Rattle.layout.proofs.Order.{isOther}
 
@@ -41,39 +43,55 @@ pub others-start : (fs : List Frame) → Others fs false 0
 unfolding any
 others-start fs = refl
 
-pub others-next : (ws : List ℕ) (i : ℕ) (other : Bool) (f : Frame) (x y : Bool) → f ≡ frameAt (framesOf ws) i → x ≡ not (isHeader (f .kind) || isShared (f .kind)) → y ≡ (other || x) → Others (framesOf ws) other i → i < length ws → Others (framesOf ws) y (i + 1)
-others-next ws i other f x y e h j g l = j ∙ ap₂ (λ (p r : Bool). p || r) g h ∙ sym (any-append isOther (take i (framesOf ws)) f) ∙ ap (any isOther) (frames-more ws i f e l)
+pub others-next : (ws : List ℕ) (i : ℕ) (other : Bool) (f : Frame) (x y : Bool)
+    → f ≡ frameAt (framesOf ws) i → x ≡ not (isHeader (f .kind) || isShared (f .kind))
+    → y ≡ (other || x) → Others (framesOf ws) other i → i < length ws
+    → Others (framesOf ws) y (i + 1)
+others-next ws i other f x y e h j g l =
+    j ∙ ap₂ (λ (p r : Bool). p || r) g h ∙ sym (any-append isOther (take i (framesOf ws)) f)
+    ∙ ap (any isOther) (frames-more ws i f e l)
 
 module _ (ws : List ℕ) (i : ℕ) (other : Bool) (f : Frame) (b : Bool) (e : f ≡ frameAt (framesOf ws) i) (q : b ≡ (isShared (f .kind) && other)) where
   behind-is : Others (framesOf ws) other i → isBehind (framesOf ws) i (frameAt (framesOf ws) i) ≡ b
   unfolding isBehind
-  behind-is o = go (isShared (frameAt (framesOf ws) i .kind)) ∙ sym (q ∙ ap₂ (λ (g : Frame) (x : Bool). isShared (g .kind) && x) e o)
+  behind-is o =
+      go (isShared (frameAt (framesOf ws) i .kind))
+      ∙ sym (q ∙ ap₂ (λ (g : Frame) (x : Bool). isShared (g .kind) && x) e o)
     where
-      go : (s : Bool) → elim s [ true ↦ any isOther (take i (framesOf ws)) | false ↦ false ] ≡ (s && any isOther (take i (framesOf ws)))
+      go : (s : Bool)
+          → elim s [ true ↦ any isOther (take i (framesOf ws)) | false ↦ false ]
+          ≡ (s && any isOther (take i (framesOf ws)))
       go true = refl
       go false = refl
 
-  pub behind-here : b ≡ true → Others (framesOf ws) other i → SeekingBehind (framesOf ws) i → i < length ws → At i ≡ found (lowest (λ (j : ℕ) (g : Frame). isBehind (framesOf ws) j g) 0 (framesOf ws))
+  pub behind-here : b ≡ true → Others (framesOf ws) other i → SeekingBehind (framesOf ws) i
+      → i < length ws
+      → At i ≡ found (lowest (λ (j : ℕ) (g : Frame). isBehind (framesOf ws) j g) 0 (framesOf ws))
   behind-here t o g l = seek-here (behindTest (framesOf ws)) ws i g l (behind-is o ∙ t)
 
-  pub behind-next : b ≡ false → Others (framesOf ws) other i → SeekingBehind (framesOf ws) i → i < length ws → SeekingBehind (framesOf ws) (i + 1)
+  pub behind-next : b ≡ false → Others (framesOf ws) other i → SeekingBehind (framesOf ws) i
+      → i < length ws → SeekingBehind (framesOf ws) (i + 1)
   behind-next t o g l = seek-next (behindTest (framesOf ws)) ws i g l (behind-is o ∙ t)
 
-pub behind-end : (ws : List ℕ) (i : ℕ) → SeekingBehind (framesOf ws) i → length ws ≤ i → Nowhere ≡ found (lowest (λ (j : ℕ) (g : Frame). isBehind (framesOf ws) j g) 0 (framesOf ws))
+pub behind-end : (ws : List ℕ) (i : ℕ) → SeekingBehind (framesOf ws) i → length ws ≤ i
+    → Nowhere ≡ found (lowest (λ (j : ℕ) (g : Frame). isBehind (framesOf ws) j g) 0 (framesOf ws))
 behind-end ws i g l = seek-end (behindTest (framesOf ws)) ws i g l
 
 -- ---- main
 pub main-not : (f : Frame) (x : Bool) → x ≡ isModule (f .kind) → not x ≡ true → false ≡ isMain f
 main-not f x e n = rw (sym e ∙ not-true x n)
 
-pub main-by : (f : Frame) (x : Bool) → x ≡ isModule (f .kind) → not x ≡ false → eqb (f .s) 0 ≡ isMain f
+pub main-by : (f : Frame) (x : Bool) → x ≡ isModule (f .kind) → not x ≡ false
+    → eqb (f .s) 0 ≡ isMain f
 main-by f x e n = rw (sym e ∙ not-false x n)
 
 pub ruleset main-laws = (main-not, main-by)
 
 module _ (ws : List ℕ) (f : Frame) (b : Bool) (e : f ≡ frameAt (framesOf ws) (length ws - 1)) (h : b ≡ isMain f) where
   main-is : isMain (frameAt (framesOf ws) (length (framesOf ws) - 1)) ≡ b
-  main-is = ap (λ (n : ℕ). isMain (frameAt (framesOf ws) (n - 1))) (frames-length ws) ∙ sym (h ∙ ap isMain e)
+  main-is =
+      ap (λ (n : ℕ). isMain (frameAt (framesOf ws) (n - 1))) (frames-length ws)
+      ∙ sym (h ∙ ap isMain e)
 
   pub main-there : b ≡ true → Nowhere ≡ found (noMain (framesOf ws))
   unfolding noMain
@@ -81,13 +99,19 @@ module _ (ws : List ℕ) (f : Frame) (b : Bool) (e : f ≡ frameAt (framesOf ws)
 
   pub main-missing : b ≡ false → At (length ws - 1) ≡ found (noMain (framesOf ws))
   unfolding noMain
-  main-missing t = ap found (no none (main-is ∙ t) (ap (λ (n : ℕ). some (n - 1)) (sym (frames-length ws))))
+  main-missing t =
+      ap found (no none (main-is ∙ t) (ap (λ (n : ℕ). some (n - 1)) (sym (frames-length ws))))
 
 pub ruleset no-main-laws = (main-there, main-missing)
 
 -- ---- the lowest of the four
 module _ (fs : List Frame) (d b l m x y r : Found) where
-  pub order-is : d ≡ found (firstDisorder [] 0 fs) → b ≡ found (lowest (λ (i : ℕ) (f : Frame). isBehind fs i f) 0 fs) → l ≡ found (firstLeftover fs 0 fs) → m ≡ found (noMain fs) → x ≡ found (earlier (optionOf l) (optionOf m)) → y ≡ found (earlier (optionOf b) (optionOf x)) → r ≡ found (earlier (optionOf d) (optionOf y)) → r ≡ found (orderFault fs)
+  pub order-is : d ≡ found (firstDisorder [] 0 fs)
+      → b ≡ found (lowest (λ (i : ℕ) (f : Frame). isBehind fs i f) 0 fs)
+      → l ≡ found (firstLeftover fs 0 fs) → m ≡ found (noMain fs)
+      → x ≡ found (earlier (optionOf l) (optionOf m))
+      → y ≡ found (earlier (optionOf b) (optionOf x))
+      → r ≡ found (earlier (optionOf d) (optionOf y)) → r ≡ found (orderFault fs)
   unfolding orderFault
   order-is hd hb hl hm hx hy hr =
       let a : optionOf x ≡ earlier (firstLeftover fs 0 fs) (noMain fs) = ap optionOf hx ∙ option-found _ ∙ ap₂ earlier (ap optionOf hl ∙ option-found _) (ap optionOf hm ∙ option-found _) in

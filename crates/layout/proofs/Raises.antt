@@ -1,4 +1,5 @@
--- The code's steps of the depth pass: how it raises depths in its array, from the last frame down (`depthsDown`). Assumes nothing.
+-- The code's steps of the depth pass: how it raises depths in its array, from the last frame down
+-- (`depthsDown`). Assumes nothing.
 use mathlib.Core.Path.{_≡_, refl, sym, ap, _∙_}
 use mathlib.Core.Bool.{Bool, true, false}
 use mathlib.Core.List.{List, []}
@@ -48,14 +49,20 @@ module _ (u : List ℕ) (d : ℕ) (f : Frame) (x : Children) (h : x ≡ children
         end = unfold raisedAll in refl
 
     module _ (l : Class) (b : ℕ) (r : List ℕ) where
-      pub two-raised : x ≡ Two k a l b → t ≡ raised u d a → r ≡ raised t d b → r ≡ raisedAll u d (children f)
-      two-raised e p q = q ∙ ap (λ (s : List ℕ). raised s d b) p ∙ end ∙ ap (raisedAll u d) (children-are f x (Two k a l b) h e)
+      pub two-raised : x ≡ Two k a l b → t ≡ raised u d a → r ≡ raised t d b
+          → r ≡ raisedAll u d (children f)
+      two-raised e p q =
+          q ∙ ap (λ (s : List ℕ). raised s d b) p ∙ end
+          ∙ ap (raisedAll u d) (children-are f x (Two k a l b) h e)
         where
           end : raised (raised u d a) d b ≡ raisedAll u d (listOf (Two k a l b))
           end = unfold raisedAll in refl
 
-      pub three-raised : (m : Class) (c : ℕ) (s : List ℕ) → x ≡ Three k a l b m c → t ≡ raised u d a → r ≡ raised t d b → s ≡ raised r d c → s ≡ raisedAll u d (children f)
-      three-raised m c s e p q w = w ∙ ap (λ (y : List ℕ). raised y d c) (q ∙ ap (λ (y : List ℕ). raised y d b) p) ∙ end ∙ ap (raisedAll u d) (children-are f x (Three k a l b m c) h e)
+      pub three-raised : (m : Class) (c : ℕ) (s : List ℕ) → x ≡ Three k a l b m c → t ≡ raised u d a
+          → r ≡ raised t d b → s ≡ raised r d c → s ≡ raisedAll u d (children f)
+      three-raised m c s e p q w =
+          w ∙ ap (λ (y : List ℕ). raised y d c) (q ∙ ap (λ (y : List ℕ). raised y d b) p) ∙ end
+          ∙ ap (raisedAll u d) (children-are f x (Three k a l b m c) h e)
         where
           end : raised (raised (raised u d a) d b) d c ≡ raisedAll u d (listOf (Three k a l b m c))
           end = unfold raisedAll in refl
@@ -72,7 +79,8 @@ module _ (f : Frame) (d : ℕ) where
 
   pub given-deeper : (d ≡ 0 → ⊥) → d < 25 → d + 1 ≡ given f d
   unfolding given
-  given-deeper n l = let s : d + 1 ≡ suc d = omega arith in no _ (ne-eqb _ _ n) (yes _ (lt-ltb _ _ l) s)
+  given-deeper n l =
+      let s : d + 1 ≡ suc d = omega arith in no _ (ne-eqb _ _ n) (yes _ (lt-ltb _ _ l) s)
 
   pub given-over : (d ≡ 0 → ⊥) → 25 ≤ d → 25 ≡ given f d
   unfolding given
@@ -84,19 +92,25 @@ pub ruleset given-laws = (given-body, given-none, given-deeper, given-over)
 abbrev pub Sinking : List Frame → ℕ → List ℕ → List ℕ → ℕ → Type 0
 Sinking fs size start u n = depthsDown n fs u ≡ depthsDown size fs start
 
-pub sinking-next : (fs : List Frame) (size : ℕ) (start u t : List ℕ) (n d : ℕ) (f : Frame) → f ≡ frameAt fs (n - 1) → d ≡ given f (getD u (n - 1) 0) → t ≡ raisedAll u d (children f) → Sinking fs size start u n → 0 < n → Sinking fs size start t (n - 1)
+pub sinking-next : (fs : List Frame) (size : ℕ) (start u t : List ℕ) (n d : ℕ) (f : Frame)
+    → f ≡ frameAt fs (n - 1) → d ≡ given f (getD u (n - 1) 0) → t ≡ raisedAll u d (children f)
+    → Sinking fs size start u n → 0 < n → Sinking fs size start t (n - 1)
 sinking-next fs size start u t n d f e q r g l = go (n - 1) (omega arith) e q
   where
-    go : (m : ℕ) → n ≡ suc m → f ≡ frameAt fs m → d ≡ given f (getD u m 0) → depthsDown m fs t ≡ depthsDown size fs start
+    go : (m : ℕ) → n ≡ suc m → f ≡ frameAt fs m → d ≡ given f (getD u m 0)
+        → depthsDown m fs t ≡ depthsDown size fs start
     go m s e q =
         let b : t ≡ raisedAll u (given (frameAt fs m) (getD u m 0)) (children (frameAt fs m)) = r ∙ ap (λ (x : ℕ). raisedAll u x (children f)) q ∙ ap (λ (h : Frame). raisedAll u (given h (getD u m 0)) (children h)) e in
         ap (depthsDown m fs) b ∙ step ∙ sym (ap (λ (k : ℕ). depthsDown k fs u) s) ∙ g
       where
-        step : depthsDown m fs (raisedAll u (given (frameAt fs m) (getD u m 0)) (children (frameAt fs m))) ≡ depthsDown (suc m) fs u
+        step : depthsDown m fs (raisedAll u (given (frameAt fs m) (getD u m 0)) (children (frameAt fs m)))
+            ≡ depthsDown (suc m) fs u
         step = unfold depthsDown in refl
 
-pub sinking-end : (fs : List Frame) (size : ℕ) (start u : List ℕ) (n : ℕ) → Sinking fs size start u n → n ≤ 0 → u ≡ depthsDown size fs start
-sinking-end fs size start u n g l = let e : n ≡ 0 = omega arith in end ∙ ap (λ (k : ℕ). depthsDown k fs u) (sym e) ∙ g
+pub sinking-end : (fs : List Frame) (size : ℕ) (start u : List ℕ) (n : ℕ)
+    → Sinking fs size start u n → n ≤ 0 → u ≡ depthsDown size fs start
+sinking-end fs size start u n g l =
+    let e : n ≡ 0 = omega arith in end ∙ ap (λ (k : ℕ). depthsDown k fs u) (sym e) ∙ g
   where
     end : u ≡ depthsDown 0 fs u
     end = unfold depthsDown in refl

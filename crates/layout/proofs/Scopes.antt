@@ -65,17 +65,22 @@ module _ (f : Frame) (k : Kind) (e : f .kind ≡ k) where
 
 module _ {fs : List Frame} where
   -- a module's body has room for its parameters
-  pub room-body : (i n : ℕ) → i < length fs → frameAt fs i .kind ≡ Module → n ≤ 2 → Room fs (frameAt fs i .a) n
+  pub room-body : (i n : ℕ) → i < length fs → frameAt fs i .kind ≡ Module → n ≤ 2
+      → Room fs (frameAt fs i .a) n
   room-body i n l e m = record { depth = 1; stands = Depth.body l e; enough = m }
 
-  -- a child has room for one variable more than its parent, which the body of a let needs, and so for as many
-  pub room-more : {i n : ℕ} {c : Child} → Room fs i n → In c (children (frameAt fs i)) → Room fs (c .at) (suc n)
+  -- a child has room for one variable more than its parent, which the body of a let needs, and so
+  -- for as many
+  pub room-more : {i n : ℕ} {c : Child} → Room fs i n → In c (children (frameAt fs i))
+      → Room fs (c .at) (suc n)
   room-more r m = record { depth = suc (r .depth); stands = Depth.child (r .stands) m; enough = (let l = r .enough in omega arith) }
 
-  pub room-child : {i n : ℕ} {c : Child} → Room fs i n → In c (children (frameAt fs i)) → Room fs (c .at) n
+  pub room-child : {i n : ℕ} {c : Child} → Room fs i n → In c (children (frameAt fs i))
+      → Room fs (c .at) n
   room-child r m = record { depth = suc (r .depth); stands = Depth.child (r .stands) m; enough = (let l = r .enough in omega arith) }
 
-  pub room-let : {i n : ℕ} → Room fs i n → frameAt fs i .kind ≡ Statement Let → Room fs (frameAt fs i .b) (suc n)
+  pub room-let : {i n : ℕ} → Room fs i n → frameAt fs i .kind ≡ Statement Let
+      → Room fs (frameAt fs i .b) (suc n)
   room-let {i} r e = room-more r (in-b (frameAt fs i) (Statement Let) e In.first)
 
 -- ---- a file without fault
@@ -99,10 +104,12 @@ module _ (fs : List Frame) (fine : NoFault fs) where
   child-below {i} l m = tree-in (all-trees fs (λ k f. fine 6 k f) i l .tree) m
 
   -- 'The last frame is main, a module with S 0.'
-  pub main-last : 0 < length fs → (frameAt fs (length fs - 1) .kind ≡ Module) × (frameAt fs (length fs - 1) .s ≡ 0)
+  pub main-last : 0 < length fs
+      → (frameAt fs (length fs - 1) .kind ≡ Module) × (frameAt fs (length fs - 1) .s ≡ 0)
   main-last l = go (isMain (frameAt fs (length fs - 1))) refl
     where
-      go : (b : Bool) → isMain (frameAt fs (length fs - 1)) ≡ b → (frameAt fs (length fs - 1) .kind ≡ Module) × (frameAt fs (length fs - 1) .s ≡ 0)
+      go : (b : Bool) → isMain (frameAt fs (length fs - 1)) ≡ b
+          → (frameAt fs (length fs - 1) .kind ≡ Module) × (frameAt fs (length fs - 1) .s ≡ 0)
       go true e = (let p = and-true _ _ e in (is-module _ (p .0), eqb-true _ 0 (p .1)))
       go false e = absurd (fine 6 (length fs - 1) (Fault.main (omega arith) e))
 

@@ -1,4 +1,5 @@
--- What searches find: `lowest` the lowest index, `earlier` the lower of two, `any` some member. Assumes nothing.
+-- What searches find: `lowest` the lowest index, `earlier` the lower of two, `any` some member.
+-- Assumes nothing.
 use mathlib.Core.Path.{_≡_, refl, sym, ap, _∙_}
 use mathlib.Core.Logic.{_⊎_, inl, inr, ⊎-elim}
 use mathlib.Core.Bool.{Bool, true, false, _||_, true≢false}
@@ -19,11 +20,14 @@ pub data Lowest (P : ℕ → Type 0) : Option ℕ → Type 0 where
   lowest-at : {j : ℕ} → P j → ((k : ℕ) → P k → j ≤ k) → Lowest P (some j)
 
 -- the lowest that has one property or the other
-pub either : {P Q : ℕ → Type 0} {o q : Option ℕ} → Lowest P o → Lowest Q q → Lowest (λ j. P j ⊎ Q j) (earlier o q)
+pub either : {P Q : ℕ → Type 0} {o q : Option ℕ} → Lowest P o → Lowest Q q
+    → Lowest (λ j. P j ⊎ Q j) (earlier o q)
 unfolding earlier
 either (Lowest.nowhere h) (Lowest.nowhere g) = Lowest.nowhere (λ j. ⊎-elim (h j) (g j))
-either (Lowest.nowhere h) (Lowest.lowest-at p l) = Lowest.lowest-at (inr p) (λ k. ⊎-elim (λ x. absurd (h k x)) (l k))
-either (Lowest.lowest-at p l) (Lowest.nowhere g) = Lowest.lowest-at (inl p) (λ k. ⊎-elim (l k) (λ x. absurd (g k x)))
+either (Lowest.nowhere h) (Lowest.lowest-at p l) =
+    Lowest.lowest-at (inr p) (λ k. ⊎-elim (λ x. absurd (h k x)) (l k))
+either (Lowest.lowest-at p l) (Lowest.nowhere g) =
+    Lowest.lowest-at (inl p) (λ k. ⊎-elim (l k) (λ x. absurd (g k x)))
 either {P} {Q} (Lowest.lowest-at {j = i} p l) (Lowest.lowest-at {j = j} q m) = go (leb i j) refl
   where
     go : (b : Bool) → leb i j ≡ b → Lowest (λ k. P k ⊎ Q k) (some (if b then i else j))
@@ -31,7 +35,8 @@ either {P} {Q} (Lowest.lowest-at {j = i} p l) (Lowest.lowest-at {j = j} q m) = g
     go false e = unfold if_then_else_ in (Lowest.lowest-at (inr q) (λ k. ⊎-elim (λ x. let a = l k x in let c = leb-false i j e in omega arith) (m k)))
 
 -- of two properties that are the same
-pub same-low : {P Q : ℕ → Type 0} {o : Option ℕ} → ((j : ℕ) → P j → Q j) → ((j : ℕ) → Q j → P j) → Lowest P o → Lowest Q o
+pub same-low : {P Q : ℕ → Type 0} {o : Option ℕ} → ((j : ℕ) → P j → Q j) → ((j : ℕ) → Q j → P j)
+    → Lowest P o → Lowest Q o
 same-low f g (Lowest.nowhere h) = Lowest.nowhere (λ j q. h j (g j q))
 same-low f g (Lowest.lowest-at {j = j} p l) = Lowest.lowest-at (f j p) (λ k q. l k (g k q))
 
@@ -49,10 +54,12 @@ module _ {A : Type 0} (d : A) (wrong : ℕ → A → Bool) where
   Hit i xs j = (i ≤ j) × (j < i + length xs) × (wrong j (getD xs (j - i) d) ≡ true)
 
   step-down : (i j : ℕ) (x : A) (xs : List A) → suc i ≤ j → Hit i (x ∷ xs) j → Hit (suc i) xs j
-  step-down i j x xs l h = (l, omega arith, (let e : j - i ≡ suc (j - suc i) = omega arith in rw e at h .2))
+  step-down i j x xs l h =
+      (l, omega arith, (let e : j - i ≡ suc (j - suc i) = omega arith in rw e at h .2))
 
   step-up : (i j : ℕ) (x : A) (xs : List A) → Hit (suc i) xs j → Hit i (x ∷ xs) j
-  step-up i j x xs h = (omega arith, omega arith, (let e : j - i ≡ suc (j - suc i) = omega arith in rw e (h .2)))
+  step-up i j x xs h =
+      (omega arith, omega arith, (let e : j - i ≡ suc (j - suc i) = omega arith in rw e (h .2)))
 
   not-here : (i j : ℕ) (x : A) (xs : List A) → wrong i x ≡ false → Hit i (x ∷ xs) j → suc i ≤ j
   not-here i j x xs e h = go (leb (suc i) j) refl
@@ -70,12 +77,14 @@ module _ {A : Type 0} (d : A) (wrong : ℕ → A → Bool) where
   lowest-hit [] i = Lowest.nowhere (λ j h. omega arith)
   lowest-hit (x ∷ xs) i = go (wrong i x) refl (lowest-hit xs (suc i))
     where
-      go : (b : Bool) → wrong i x ≡ b → Lowest (Hit (suc i) xs) (lowest wrong (suc i) xs) → Lowest (Hit i (x ∷ xs)) (elim b [ true ↦ some i | false ↦ lowest wrong (suc i) xs ])
+      go : (b : Bool) → wrong i x ≡ b → Lowest (Hit (suc i) xs) (lowest wrong (suc i) xs)
+          → Lowest (Hit i (x ∷ xs)) (elim b [ true ↦ some i | false ↦ lowest wrong (suc i) xs ])
       go true e r = Lowest.lowest-at {j = i} (omega arith, omega arith, (let z : i - i ≡ 0 = omega arith in rw z e)) (λ k h. h .0)
       go false e r = same-low (λ j h. step-up i j x xs h) (λ j h. step-down i j x xs (not-here i j x xs e h) h) r
 
   -- from 0 on
-  pub lowest-all : (xs : List A) → Lowest (λ j. (j < length xs) × (wrong j (getD xs j d) ≡ true)) (lowest wrong 0 xs)
+  pub lowest-all : (xs : List A)
+      → Lowest (λ j. (j < length xs) × (wrong j (getD xs j d) ≡ true)) (lowest wrong 0 xs)
   lowest-all xs = same-low (λ j h. (omega arith, (let e : j - 0 ≡ j = omega arith in rw e at h .2))) (λ j h. (omega arith, omega arith, (let e : j - 0 ≡ j = omega arith in rw e (h .1)))) (lowest-hit xs 0)
 
 -- ---- `any`: some member passes the test
@@ -97,23 +106,30 @@ module _ {A : Type 0} (test : A → Bool) where
       go false = refl
   any-append (y ∷ xs) x = go (test y) (any-append xs x)
     where
-      go : (b : Bool) → any test (xs ++ (x ∷ [])) ≡ (any test xs || test x) → elim b [ true ↦ true | false ↦ any test (xs ++ (x ∷ [])) ] ≡ (elim b [ true ↦ true | false ↦ any test xs ] || test x)
+      go : (b : Bool) → any test (xs ++ (x ∷ [])) ≡ (any test xs || test x)
+          → elim b [ true ↦ true | false ↦ any test (xs ++ (x ∷ [])) ]
+          ≡ (elim b [ true ↦ true | false ↦ any test xs ] || test x)
       go true h = refl
       go false h = h
 
 -- at an index
 module _ {A : Type 0} (d : A) (test : A → Bool) where
-  pub any-none : (xs : List A) → ((q : ℕ) → q < length xs → test (getD xs q d) ≡ false) → any test xs ≡ false
+  pub any-none : (xs : List A) → ((q : ℕ) → q < length xs → test (getD xs q d) ≡ false)
+      → any test xs ≡ false
   unfolding any
   any-none [] h = refl
   any-none (x ∷ xs) h = rw (h 0 (omega arith), any) (any-none xs (λ q l. h (suc q) (omega arith)))
 
-  pub any-false : (xs : List A) → any test xs ≡ false → (q : ℕ) → q < length xs → test (getD xs q d) ≡ false
+  pub any-false : (xs : List A) → any test xs ≡ false → (q : ℕ) → q < length xs
+      → test (getD xs q d) ≡ false
   unfolding any
   any-false [] h q l = absurd (omega arith)
   any-false (x ∷ xs) h q l = go (test x) refl h q l (λ g r k. any-false xs g r k)
     where
-      go : (b : Bool) → test x ≡ b → elim b [ true ↦ true | false ↦ any test xs ] ≡ false → (q : ℕ) → q < suc (length xs) → (any test xs ≡ false → (r : ℕ) → r < length xs → test (getD xs r d) ≡ false) → test (getD (x ∷ xs) q d) ≡ false
+      go : (b : Bool) → test x ≡ b → elim b [ true ↦ true | false ↦ any test xs ] ≡ false → (q : ℕ)
+          → q < suc (length xs)
+          → (any test xs ≡ false → (r : ℕ) → r < length xs → test (getD xs r d) ≡ false)
+          → test (getD (x ∷ xs) q d) ≡ false
       go true e g q l r = absurd (true≢false g)
       go false e g zero l r = e
       go false e g (suc q) l r = r g q (omega arith)
@@ -128,11 +144,15 @@ module _ {A : Type 0} (d : A) (test : A → Bool) where
   any-true [] h = absurd (true≢false (sym h))
   any-true (x ∷ xs) h = go (test x) refl h (λ g. any-true xs g)
     where
-      go : (b : Bool) → test x ≡ b → elim b [ true ↦ true | false ↦ any test xs ] ≡ true → (any test xs ≡ true → Passes xs) → Passes (x ∷ xs)
+      go : (b : Bool) → test x ≡ b → elim b [ true ↦ true | false ↦ any test xs ] ≡ true
+          → (any test xs ≡ true → Passes xs) → Passes (x ∷ xs)
       go true e g r = record { at = 0; inside = omega arith; passes = e }
-      go false e g r = let p = r g in record { at = suc (p .at); inside = (let l = p .inside in omega arith); passes = p .passes }
+      go false e g r =
+          let p = r g in
+          record { at = suc (p .at); inside = (let l = p .inside in omega arith); passes = p .passes }
 
-  pub any-some : (xs : List A) (q : ℕ) → q < length xs → test (getD xs q d) ≡ true → any test xs ≡ true
+  pub any-some : (xs : List A) (q : ℕ) → q < length xs → test (getD xs q d) ≡ true
+      → any test xs ≡ true
   any-some xs q l t = go (any test xs) refl
     where
       go : (b : Bool) → any test xs ≡ b → b ≡ true

@@ -1,4 +1,5 @@
--- Laws of trees and rows of frames: where they begin, which children they have, what is a child of a known kind of frame. Assumes nothing.
+-- Laws of trees and rows of frames: where they begin, which children they have, what is a child of
+-- a known kind of frame. Assumes nothing.
 use mathlib.Core.Bool.{true, true≢false}
 use mathlib.Core.List.{List, [], _∷_}
 use mathlib.Core.Path.{_≡_, refl, sym}
@@ -8,7 +9,8 @@ use lib.ListN.{length}
 use Rattle.basics.specs.Members.{In}
 use Rattle.language.specs.Kinds.{isModule, Child, children}
 use Rattle.language.specs.declared.kind.Class.{Class}
-use Rattle.language.specs.declared.kind.Kind.the-variants.{Header, Declared, Module, Statement, Expression, Unknown}
+use Rattle.language.specs.declared.kind.Kind.the-variants.{Header, Declared, Module, Statement}
+use Rattle.language.specs.declared.kind.Kind.the-variants.{Expression, Unknown}
 use Rattle.language.specs.declared.kind.Kind.{Kind}
 use Rattle.language.specs.declared.frame.Frame.{Frame}
 use Rattle.program.specs.Trees.{frameAt}
@@ -38,16 +40,19 @@ module _ {fs : List Frame} where
     pub tree-one : {lo hi i : ℕ} → Tree fs lo i → Tree fs hi i → lo ≡ hi
     tree-one (Tree.root r) (Tree.root s) = row-one r s
 
-    pub row-one : {lo hi stop : ℕ} {cs : List Child} → Row fs lo stop cs → Row fs hi stop cs → lo ≡ hi
+    pub row-one : {lo hi stop : ℕ} {cs : List Child} → Row fs lo stop cs → Row fs hi stop cs
+        → lo ≡ hi
     row-one Row.none Row.none = refl
     row-one (Row.more t e r) (Row.more u f s) = tree-one t u
 
 -- the children of a tree's root stand before it
-row-in : {fs : List Frame} {lo stop : ℕ} {cs : List Child} {c : Child} → Row fs lo stop cs → In c cs → c .at < stop
+row-in : {fs : List Frame} {lo stop : ℕ} {cs : List Child} {c : Child} → Row fs lo stop cs → In c cs
+    → c .at < stop
 row-in (Row.more t e r) In.first = row-le r
 row-in (Row.more t e r) (In.later m) = row-in r m
 
-pub tree-in : {fs : List Frame} {lo i : ℕ} {c : Child} → Tree fs lo i → In c (children (frameAt fs i)) → c .at < i
+pub tree-in : {fs : List Frame} {lo i : ℕ} {c : Child} → Tree fs lo i
+    → In c (children (frameAt fs i)) → c .at < i
 tree-in (Tree.root r) m = row-in r m
 
 -- frame j is the root of a tree
@@ -60,11 +65,13 @@ pub record From (fs : List Frame) (i : ℕ) (tail : List Frame) : Type 0 where
   pub same : (q : ℕ) → frameAt tail q ≡ frameAt fs (i + q)
   pub size : length fs ≡ i + length tail
 
-pub from-next : {fs : List Frame} {i : ℕ} {f : Frame} {tail : List Frame} → From fs i (f ∷ tail) → From fs (suc i) tail
+pub from-next : {fs : List Frame} {i : ℕ} {f : Frame} {tail : List Frame} → From fs i (f ∷ tail)
+    → From fs (suc i) tail
 from-next {fs} {i} {f} {tail} h = record { same = λ q. (let e : suc i + q ≡ i + suc q = omega arith in rw e (h .same (suc q))); size = (let s = h .size in omega arith) }
 
 pub from-start : (fs : List Frame) → From fs 0 fs
-from-start fs = record { same = λ q. (let e : 0 + q ≡ q = omega arith in rw e refl); size = omega arith }
+from-start fs =
+    record { same = λ q. (let e : 0 + q ≡ q = omega arith in rw e refl); size = omega arith }
 
 -- ---- rows of one, two and three children
 pub record One (fs : List Frame) (lo i a : ℕ) : Type 0 where
@@ -88,17 +95,22 @@ row-end Row.none = refl
 pub one-of : {fs : List Frame} {lo i : ℕ} {x : Child} → Row fs lo i (x ∷ []) → One fs lo i (x .at)
 one-of (Row.more t e r) = record { tree = t; last = row-end r }
 
-pub two-of : {fs : List Frame} {lo i : ℕ} {x y : Child} → Row fs lo i (x ∷ y ∷ []) → Two fs lo i (x .at) (y .at)
+pub two-of : {fs : List Frame} {lo i : ℕ} {x y : Child} → Row fs lo i (x ∷ y ∷ [])
+    → Two fs lo i (x .at) (y .at)
 two-of (Row.more t e (Row.more u f r)) = record { tree = t; next = u; last = row-end r }
 
-pub three-of : {fs : List Frame} {lo i : ℕ} {x y z : Child} → Row fs lo i (x ∷ y ∷ z ∷ []) → Three fs lo i (x .at) (y .at) (z .at)
-three-of (Row.more t e (Row.more u f (Row.more v g r))) = record { tree = t; next = u; third = v; last = row-end r }
+pub three-of : {fs : List Frame} {lo i : ℕ} {x y z : Child} → Row fs lo i (x ∷ y ∷ z ∷ [])
+    → Three fs lo i (x .at) (y .at) (z .at)
+three-of (Row.more t e (Row.more u f (Row.more v g r))) =
+    record { tree = t; next = u; third = v; last = row-end r }
 
 -- ---- the children of a frame of a known kind: their row
-pub row-of : {fs : List Frame} (k : Kind) (i lo : ℕ) → frameAt fs i .kind ≡ k → Tree fs lo i → Row fs lo i (childrenAs k (frameAt fs i))
+pub row-of : {fs : List Frame} (k : Kind) (i lo : ℕ) → frameAt fs i .kind ≡ k → Tree fs lo i
+    → Row fs lo i (childrenAs k (frameAt fs i))
 row-of {fs} k i lo e (Tree.root r) = rw (children-as (frameAt fs i) k e) at r
 
-pub row-as : {fs : List Frame} {lo i : ℕ} → Tree fs lo i → Row fs lo i (childrenAs (frameAt fs i .kind) (frameAt fs i))
+pub row-as : {fs : List Frame} {lo i : ℕ} → Tree fs lo i
+    → Row fs lo i (childrenAs (frameAt fs i .kind) (frameAt fs i))
 row-as {fs} {lo} {i} t = row-of (frameAt fs i .kind) i lo refl t
 
 -- ---- members of the children
@@ -116,7 +128,8 @@ only-one In.first = refl
 only-one (In.later m) = absurd (none-in m)
 
 -- a module has its body as a child, and no other
-pub in-body : (f : Frame) → f .kind ≡ Module → In (record { class = Class.Statement; at = f .a }) (children f)
+pub in-body : (f : Frame) → f .kind ≡ Module
+    → In (record { class = Class.Statement; at = f .a }) (children f)
 in-body f e = rw (children-as f Module e) In.first
 
 pub only-body : (f : Frame) (c : Child) → f .kind ≡ Module → In c (children f) → c .at ≡ f .a

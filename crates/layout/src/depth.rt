@@ -1,4 +1,5 @@
-// Refusal 7: the depth of frames, from the last frame to the first, since parents stand behind their children.
+// Refusal 7: the depth of frames, from the last frame to the first, since parents stand behind
+// their children.
 use fields::found::Found;
 use language::frame::Frame;
 use language::kind::is_module;
@@ -79,7 +80,9 @@ fn given_by(f: Frame, d: u8) -> u8
 
 fn depths_down(words: &[u64], u: &mut [u8; MOST_LINES])
     requires { ⌜ length (now words) ≤ mostLines ⌝ }
-    ensures { λ r. ⌜ now (u .exit) ≡ depthsDown (length (now (words .entry))) (framesOf (now (words .entry))) (now (u .entry)) ⌝ }
+    ensures { λ r. ⌜ now (u .exit)
+        ≡ depthsDown (length (now (words .entry))) (framesOf (now (words .entry))) (now (u .entry))
+        ⌝ }
 {
     let mut n = words.len();
     while n > 0 {
@@ -90,9 +93,11 @@ fn depths_down(words: &[u64], u: &mut [u8; MOST_LINES])
     }
 }
 
-// The lowest frame deeper than 24. Without a fault 6 the children of each frame stand before it; only then does one pass see every parent before its children.
+// The lowest frame deeper than 24. Without a fault 6 the children of each frame stand before it;
+// only then does one pass see every parent before its children.
 pub(crate) fn depth(words: &[u64]) -> Found
-    requires { ⌜ (0 < length (now words)) × (length (now words) ≤ mostLines) × (orderFault (framesOf (now words)) ≡ none) ⌝ }
+    requires { ⌜ (0 < length (now words)) × (length (now words) ≤ mostLines)
+        × (orderFault (framesOf (now words)) ≡ none) ⌝ }
     ensures { λ r. ⌜ r ≡ found (depthFault (framesOf (now (words .entry)))) ⌝ }
 {
     let mut u = [0u8; MOST_LINES];

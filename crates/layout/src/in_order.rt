@@ -26,10 +26,13 @@ ghost use Rattle.language.specs.Limits.{mostLines};
 ghost use Rattle.text.specs.Frames.{framesOf};
 ghost use Rattle.fields.specs.inner.Scans.{found};
 ghost use Rattle.layout.specs.Order.{hasClass, isMain};
-ghost use Rattle.layout.specs.inner.Scans.{rowFirst, firstDisorder, isBehind, firstLeftover, noMain, orderFault};
+ghost use Rattle.layout.specs.inner.Scans.{rowFirst, firstDisorder, isBehind, firstLeftover};
+ghost use Rattle.layout.specs.inner.Scans.{noMain, orderFault};
 ghost use Rattle.layout.specs.inner.Passes.{told, Backward, marked, marks, markAll};
 
-// Where the tree of the child v begins, which is to be of that class and to end just before `stop`; `first` says where the tree of each frame before i begins. A row ends at i or before, so that a number from i on is out of order.
+// Where the tree of the child v begins, which is to be of that class and to end just before `stop`;
+// `first` says where the tree of each frame before i begins. A row ends at i or before, so that a
+// number from i on is out of order.
 fn child_first(
     words: &[u64],
     first: &[u16; MOST_LINES],
@@ -39,7 +42,9 @@ fn child_first(
     stop: u16,
 ) -> Found
     requires { ⌜ (i ≤ length (now words)) × (length (now words) ≤ mostLines) × (stop ≤ i) ⌝ }
-    ensures { λ r. ⌜ r ≡ found (rowFirst (told (framesOf (now (words .entry))) (now (first .entry)) i) i stop (child class v ∷ [])) ⌝ }
+    ensures { λ r. ⌜ r
+        ≡ found (rowFirst (told (framesOf (now (words .entry))) (now (first .entry)) i) i stop
+        (child class v ∷ [])) ⌝ }
 {
     let j = v as usize;
     if i <= j {
@@ -67,8 +72,11 @@ fn pair_first(
     b: u16,
     stop: u16,
 ) -> Found
-    requires { ⌜ (i ≤ length (now words)) × (length (now words) ≤ mostLines) × (stop ≤ i) × Backward (now first) i ⌝ }
-    ensures { λ r. ⌜ r ≡ found (rowFirst (told (framesOf (now (words .entry))) (now (first .entry)) i) i stop (child l b ∷ child k a ∷ [])) ⌝ }
+    requires { ⌜ (i ≤ length (now words)) × (length (now words) ≤ mostLines) × (stop ≤ i)
+        × Backward (now first) i ⌝ }
+    ensures { λ r. ⌜ r
+        ≡ found (rowFirst (told (framesOf (now (words .entry))) (now (first .entry)) i) i stop
+        (child l b ∷ child k a ∷ [])) ⌝ }
 {
     match child_first(words, first, i, l, b, stop) {
         Found::Nowhere => Found::Nowhere,
@@ -76,10 +84,14 @@ fn pair_first(
     }
 }
 
-// Where the tree of frame i begins, from its last child to its first. `Backward` keeps each row's end from moving past i.
+// Where the tree of frame i begins, from its last child to its first. `Backward` keeps each row's
+// end from moving past i.
 fn row_first(words: &[u64], first: &[u16; MOST_LINES], i: usize, f: Frame) -> Found
-    requires { ⌜ (i ≤ length (now words)) × (length (now words) ≤ mostLines) × Backward (now first) i ⌝ }
-    ensures { λ r. ⌜ r ≡ found (rowFirst (told (framesOf (now (words .entry))) (now (first .entry)) i) i i (reverse (children f))) ⌝ }
+    requires { ⌜ (i ≤ length (now words)) × (length (now words) ≤ mostLines)
+        × Backward (now first) i ⌝ }
+    ensures { λ r. ⌜ r
+        ≡ found (rowFirst (told (framesOf (now (words .entry))) (now (first .entry)) i) i i (reverse
+        (children f))) ⌝ }
 {
     let stop = i as u16;
     match children_of(f) {
@@ -137,7 +149,9 @@ fn is_other(k: Kind) -> bool
 // The lowest shared cell behind another kind.
 fn behind(words: &[u64]) -> Found
     requires { ⌜ length (now words) ≤ mostLines ⌝ }
-    ensures { λ r. ⌜ r ≡ found (lowest (λ (i : ℕ) (f : Frame). isBehind (framesOf (now (words .entry))) i f) 0 (framesOf (now (words .entry)))) ⌝ }
+    ensures { λ r. ⌜ r
+        ≡ found (lowest (λ (i : ℕ) (f : Frame). isBehind (framesOf (now (words .entry))) i f) 0
+        (framesOf (now (words .entry)))) ⌝ }
 {
     let mut other = false;
     let mut i = 0;
@@ -163,7 +177,8 @@ fn is_late(k: Kind, other: bool) -> bool
     false
 }
 
-// Each array of marks has a 1 at the frames that some frame has as a child. A number behind the last frame marks nothing.
+// Each array of marks has a 1 at the frames that some frame has as a child. A number behind the
+// last frame marks nothing.
 fn mark(used: &mut [u8; MOST_LINES], v: u16)
     ensures { λ r. ⌜ now (used .exit) ≡ marked (now (used .entry)) v ⌝ }
 {
@@ -200,7 +215,8 @@ fn mark_frame(used: &mut [u8; MOST_LINES], f: Frame)
 }
 
 fn mark_all(words: &[u64], used: &mut [u8; MOST_LINES])
-    ensures { λ r. ⌜ now (used .exit) ≡ markAll (now (used .entry)) (framesOf (now (words .entry))) ⌝ }
+    ensures { λ r. ⌜ now (used .exit) ≡ markAll (now (used .entry)) (framesOf (now
+        (words .entry))) ⌝ }
 {
     let mut i = 0;
     while i < words.len() {
@@ -224,7 +240,8 @@ fn is_left(k: Class, mark: u8) -> bool
 // The lowest statement or expression that no frame has as a child.
 fn leftover(words: &[u64]) -> Found
     requires { ⌜ length (now words) ≤ mostLines ⌝ }
-    ensures { λ r. ⌜ r ≡ found (firstLeftover (framesOf (now (words .entry))) 0 (framesOf (now (words .entry)))) ⌝ }
+    ensures { λ r. ⌜ r
+        ≡ found (firstLeftover (framesOf (now (words .entry))) 0 (framesOf (now (words .entry)))) ⌝ }
 {
     let mut used = [0u8; MOST_LINES];
     mark_all(words, &mut used);

@@ -31,7 +31,8 @@ pub struct Laid {
     pub count: usize,
 }
 
-// Refusals 4 to 7. A pass may rely on those before it: the fields on the header, the depths on the order.
+// Refusals 4 to 7. A pass may rely on those before it: the fields on the header, the depths on the
+// order.
 fn layout_of(words: &[u64]) -> Verdict
     requires { ⌜ (0 < length (now words)) × (length (now words) ≤ mostLines) ⌝ }
     ensures { λ r. ⌜ r ≡ layoutOf (framesOf (now (words .entry))) ⌝ }

@@ -1,5 +1,6 @@
-// Reads prog.txt in the folder it runs in, an absent file as empty, and prints in four digits how many lines from the start on
-// are frames, up to the first that is none. Of a file that cannot be read, nothing.
+// Reads prog.txt in the folder it runs in, an absent file as empty, and prints in four digits how
+// many lines from the start on are frames, up to the first that is none. Of a file that cannot be
+// read, nothing.
 use files::print;
 use files::read_file;
 use language::limit::MOST_BYTES;

@@ -1,4 +1,5 @@
--- The count of frames: it is what its words say, each line that it counts is a frame and the line behind them is none; and laws of the loop of `frames_from`, which counts them. Assumes nothing.
+-- The count of frames: it is what its words say, each line that it counts is a frame and the line
+-- behind them is none; and laws of the loop of `frames_from`, which counts them. Assumes nothing.
 use mathlib.Core.Path.{_≡_, refl, sym, ap, _∙_}
 use mathlib.Core.Bool.{Bool, true, false, not}
 use mathlib.Core.List.{List}
@@ -35,7 +36,9 @@ next-counted : (k : ℕ) (bs : List ℕ) (n i : ℕ) → i < framesOfNext k bs n
 next-counted zero bs n i h = absurd (omega (arith, none-next bs n))
 next-counted (suc k) bs n i h = by (isFrame bs n) refl (next-counted k bs (suc n))
   where
-    by : (t : Bool) → isFrame bs n ≡ t → ((j : ℕ) → j < framesOfNext k bs (suc n) → isFrame bs (suc n + j) ≡ true) → isFrame bs (n + i) ≡ true
+    by : (t : Bool) → isFrame bs n ≡ t
+        → ((j : ℕ) → j < framesOfNext k bs (suc n) → isFrame bs (suc n + j) ≡ true)
+        → isFrame bs (n + i) ≡ true
     by false e r = absurd (omega (arith, next-none k bs n e))
     by true e r = at i h
       where
@@ -43,13 +46,15 @@ next-counted (suc k) bs n i h = by (isFrame bs n) refl (next-counted k bs (suc n
         at zero l = ap (isFrame bs) (omega arith) ∙ e
         at (suc j) l = ap (isFrame bs) (omega arith) ∙ r j (omega (arith, next-frame k bs n e))
 
-next-behind : (k : ℕ) (bs : List ℕ) (n : ℕ) → 1024 ≤ n + k → isFrame bs (n + framesOfNext k bs n) ≡ false
+next-behind : (k : ℕ) (bs : List ℕ) (n : ℕ) → 1024 ≤ n + k
+    → isFrame bs (n + framesOfNext k bs n) ≡ false
 next-behind zero bs n h =
     let z = none-next bs n in
     ap isRead (sym (frame-over bs (n + framesOfNext 0 bs n) (omega arith)))
 next-behind (suc k) bs n h = by (isFrame bs n) refl (next-behind k bs (suc n) (omega arith))
   where
-    by : (t : Bool) → isFrame bs n ≡ t → isFrame bs (suc n + framesOfNext k bs (suc n)) ≡ false → isFrame bs (n + framesOfNext (suc k) bs n) ≡ false
+    by : (t : Bool) → isFrame bs n ≡ t → isFrame bs (suc n + framesOfNext k bs (suc n)) ≡ false
+        → isFrame bs (n + framesOfNext (suc k) bs n) ≡ false
     by false e r = let z = next-none k bs n e in ap (isFrame bs) (omega arith) ∙ e
     by true e r = let z = next-frame k bs n e in ap (isFrame bs) (omega arith) ∙ r
 
@@ -72,15 +77,19 @@ module _ (bs : List ℕ) (at : ℕ) where
 
   from-frame : at < 1024 → isFrame bs at ≡ true → framesFrom bs at ≡ suc (framesFrom bs (suc at))
   unfolding framesFrom
-  from-frame h e = ap (λ (k : ℕ). framesOfNext k bs at) (one-more h) ∙ next-frame (1024 - suc at) bs at e
+  from-frame h e =
+      ap (λ (k : ℕ). framesOfNext k bs at) (one-more h) ∙ next-frame (1024 - suc at) bs at e
 
   from-none : at < 1024 → isFrame bs at ≡ false → framesFrom bs at ≡ 0
   unfolding framesFrom
-  from-none h e = ap (λ (k : ℕ). framesOfNext k bs at) (one-more h) ∙ next-none (1024 - suc at) bs at e
+  from-none h e =
+      ap (λ (k : ℕ). framesOfNext k bs at) (one-more h) ∙ next-none (1024 - suc at) bs at e
 
   from-end : 1024 ≤ at → framesFrom bs at ≡ 0
   unfolding framesFrom
-  from-end h = let z : 1024 - at ≡ 0 = omega arith in ap (λ (k : ℕ). framesOfNext k bs at) z ∙ none-next bs at
+  from-end h =
+      let z : 1024 - at ≡ 0 = omega arith in
+      ap (λ (k : ℕ). framesOfNext k bs at) z ∙ none-next bs at
 
 -- the lines from n up to `at` are frames, and the count goes on from there
 pub record Counting (bs : List ℕ) (n at : ℕ) : Type 0 where

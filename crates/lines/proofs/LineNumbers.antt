@@ -1,4 +1,5 @@
--- What `line_after` and `lines_from` compute, return by return, with the tests that lead there as premises. Assumes nothing.
+-- What `line_after` and `lines_from` compute, return by return, with the tests that lead there as
+-- premises. Assumes nothing.
 use mathlib.Core.Path.{_≡_, refl}
 use mathlib.Core.List.{List}
 use Prim.Native.Nat.{ℕ, _+_, _-_, _/_, _<_, _≤_}

@@ -1,4 +1,5 @@
--- What a reader owns gives what a function on its text and its line's number is passed, and is kept, since the struct is Copy. For the walks of functions that take a reader. Assumes nothing.
+-- What a reader owns gives what a function on its text and its line's number is passed, and is
+-- kept, since the struct is Copy. For the walks of functions that take a reader. Assumes nothing.
 use mathlib.Core.Path.{_≡_, refl}
 use Prim.Native.Nat.{_<_, _^_}
 use mathlib.Core.List.{List, [], _∷_}
@@ -10,7 +11,8 @@ use base.Logic.{ent, sep}
 use base.Fml.{Fml}
 use prog.Wp.{Heap}
 use ghost.Atoms.{Atoms, sem}
-use types.Kit.{Given, ‵, _⊛_, given, _$_, _∵_, !, qed, move, drop, use1, split, learn, fjoin, frame, done}
+use types.Kit.{Given, ‵, _⊛_, given, _$_, _∵_, !, qed, move, drop, use1, split, learn, fjoin, frame}
+use types.Kit.{done}
 use denote.RattleType.{owns}
 use denote.Laws.{Is}
 use denote.Plain.{uint-makes}
@@ -49,7 +51,8 @@ module _ {M : Type 1} (𝓤 : URA M) (H : Heap 𝓤) (A : Atoms 𝓤) (W : Given
   abbrev vs : Values (D .parts)
   vs = (r .text, (r .next, tt))
 
-  pub fields : r .next < 2 ^ 64 → ent 𝓤 (sem 𝓤 H A (Own α r)) (sep 𝓤 (sem 𝓤 H A (Owns α r)) (sem 𝓤 H A (Own α r)))
+  pub fields : r .next < 2 ^ 64
+      → ent 𝓤 (sem 𝓤 H A (Own α r)) (sep 𝓤 (sem 𝓤 H A (Owns α r)) (sem 𝓤 H A (Own α r)))
   fields fits =
       qed W (‵ (Own α r) ∷ []) ∵ use1 W (‵ (Own α r) ⊛ ‵ (Own α r)) (LL.copy D (T′.the-copy α) 𝓤 H A W .twice r (T′.lowered r ∷ [])) $ split ! $
       use1 W (given (T′.lowered r ∷ [] ≡ T′.lowered r ∷ []) (‵ (all-own (D .parts) L vs))) (own-open 𝓤 H A W D L vs (T′.lowered r)) $ learn ! (λ _. use1 W (‵ (ownAt (D .parts) L 0 (r .text)) ⊛ ‵ (rest (D .parts) L 0 vs)) (own-out 𝓤 H A W (D .parts) L 0 vs) $ split ! $

@@ -1,19 +1,22 @@
-// A reader of a text's lines: it holds the caller's text and the number of the next line. What has a reader in it is proved by
-// a walk by hand, so each such function is thin, and the work is in covered functions on the text and the number.
+// A reader of a text's lines: it holds the caller's text and the number of the next line. What has
+// a reader in it is proved by a walk by hand, so each such function is thin, and the work is in
+// covered functions on the text and the number.
 use language::limit::LINE_LENGTH;
 use language::limit::MOST_LINES;
 use text::line::FrameRead;
 use text::line::frame_at;
 ghost use mathlib.Core.Path.{_≡_};
 ghost use Rattle.text.specs.inner.Lines.{frameRead};
-ghost use Rattle.lines.specs.Readers.{lineAfter, linesFrom, isRead, framesFrom, opened, frameHere, moved, linesLeft, framesAhead};
+ghost use Rattle.lines.specs.Readers.{lineAfter, linesFrom, isRead, framesFrom, opened};
+ghost use Rattle.lines.specs.Readers.{frameHere, moved, linesLeft, framesAhead};
 
 pub struct LineReader<'a> {
     pub text: &'a [u8],
     pub next: usize,
 }
 
-// The number of the line behind line n. Behind the last whole line there is none, and the number stays.
+// The number of the line behind line n. Behind the last whole line there is none, and the number
+// stays.
 fn line_after(text: &[u8], n: usize) -> usize
     ensures { λ r. ⌜ r ≡ lineAfter (now (text .entry)) n ⌝ }
 {
@@ -88,7 +91,8 @@ pub fn frames_ahead<'a>(r: LineReader<'a>) -> usize
     frames_from(r.text, r.next)
 }
 
-// How many lines of a text are frames, up to the first that is none. Its parameter is plain, so no caller needs a walk.
+// How many lines of a text are frames, up to the first that is none. Its parameter is plain, so no
+// caller needs a walk.
 pub fn leading_frames(text: &[u8]) -> usize
     ensures { λ n. ⌜ n ≡ framesFrom (now (text .entry)) 0 ⌝ }
 {

@@ -15,10 +15,12 @@ pub record Putting (old : List ℕ) (at : ℕ) (line new : List ℕ) (k : ℕ) :
   pub written : new ≡ pasted old at line k
 
 pub putting-start : (old : List ℕ) (at : ℕ) (line : List ℕ) → Putting old at line old 0
-putting-start old at line = record { fits = omega arith; long = omega arith; written = pasted-zero old at line }
+putting-start old at line =
+    record { fits = omega arith; long = omega arith; written = pasted-zero old at line }
 
 module _ (old : List ℕ) (at : ℕ) (line new : List ℕ) (k : ℕ) (p : Putting old at line new k) where
-  pub putting-more : at + length line ≤ length old → k < length line → Putting old at line (set new (at + k) (getD line k 0)) (k + 1)
+  pub putting-more : at + length line ≤ length old → k < length line
+      → Putting old at line (set new (at + k) (getD line k 0)) (k + 1)
   putting-more room h =
       record {
         fits = omega arith;
@@ -28,4 +30,7 @@ module _ (old : List ℕ) (at : ℕ) (line new : List ℕ) (k : ℕ) (p : Puttin
 
   pub putting-end : length line ≤ k → new ≡ paste old at line (length line)
   unfolding pasted
-  putting-end h = let f = p .fits in let e : k ≡ length line = omega arith in p .written ∙ ap (pasted old at line) e
+  putting-end h =
+      let f = p .fits in
+      let e : k ≡ length line = omega arith in
+      p .written ∙ ap (pasted old at line) e

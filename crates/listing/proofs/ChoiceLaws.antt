@@ -11,7 +11,8 @@ use borrow.Author.Tests.{lt-ltb, le-ltb, eq-eqb, ne-eqb}
 use Rattle.basics.proofs.Ifs.{yes, no}
 use Rattle.text.specs.Digits.{digit, digitTable}
 use Rattle.text.proofs.Table.{table-at}
-use Rattle.listing.specs.Listing.{Choices, choices, malformed, alsoChoice, isChoice, choicesFrom}
+use Rattle.listing.specs.Listing.{Choices, choices, malformed, alsoChoice, isChoice}
+use Rattle.listing.specs.Listing.{choicesFrom}
 use Rattle.listing.specs.inner.Choices.{countRead, judged, choiceAt}
 use Rattle.listing.specs.declared.choices.ChoicesRead.{ChoicesRead}
 use Rattle.listing.specs.declared.choices.ChoicesRead.the-variants as read
@@ -35,7 +36,9 @@ module _ (a b c : ℕ) where
   wrong-feed p q r = rw (lt-ltb (digit a) 16 p, lt-ltb (digit b) 16 q, ne-eqb c 10 r)
 
   module _ (k : ℕ) (rest : List ℕ) where
-    line-right : isChoice a b c ≡ true → choicesFrom k (a ∷ b ∷ c ∷ rest) ≡ alsoChoice (16 * digit a + digit b) (choicesFrom (suc k) rest)
+    line-right : isChoice a b c ≡ true
+        → choicesFrom k (a ∷ b ∷ c ∷ rest)
+        ≡ alsoChoice (16 * digit a + digit b) (choicesFrom (suc k) rest)
     unfolding choicesFrom
     line-right h = ap (λ (t : Bool). elim t [ true ↦ alsoChoice (16 * digit a + digit b) (choicesFrom (suc k) rest) | false ↦ malformed k ]) h
 
@@ -80,7 +83,8 @@ pub judged-over : (bytes : List ℕ) → 49152 < length bytes → read.TooLong �
 unfolding judged
 judged-over bytes h = yes _ (lt-ltb 49152 (length bytes) h) refl
 
-pub judging-start : (bytes digits : List ℕ) → length bytes ≤ 49152 → digits ≡ digitTable → Judging bytes digits 0 0
+pub judging-start : (bytes digits : List ℕ) → length bytes ≤ 49152 → digits ≡ digitTable
+    → Judging bytes digits 0 0
 unfolding judged
 judging-start bytes digits h e =
     record { short = h; three = refl; fits = omega arith; table = e; rest = no _ (le-ltb 49152 (length bytes) h) (count-start (choicesFrom 0 bytes)) }
@@ -93,10 +97,14 @@ module _ (bytes digits : List ℕ) (k at : ℕ) (j : Judging bytes digits k at) 
   judged-short p q = stop (line-short k (drop at bytes) (rw length-drop (omega arith)) (rw length-drop (omega arith)))
 
   pub judged-all : length bytes ≤ at → read.Choices k ≡ judged bytes
-  judged-all h = ap read.Choices (omega arith) ∙ ap (countBehind k) (sym (no-line k) ∙ ap (choicesFrom k) (sym (drop-of-length-le bytes h))) ∙ j .rest
+  judged-all h =
+      ap read.Choices (omega arith)
+      ∙ ap (countBehind k) (sym (no-line k) ∙ ap (choicesFrom k) (sym (drop-of-length-le bytes h)))
+      ∙ j .rest
 
   module _ (whole : at + 3 ≤ length bytes) where
-    here : drop at bytes ≡ getD bytes at 0 ∷ getD bytes (at + 1) 0 ∷ getD bytes (at + 2) 0 ∷ drop (at + 3) bytes
+    here : drop at bytes
+        ≡ getD bytes at 0 ∷ getD bytes (at + 1) 0 ∷ getD bytes (at + 2) 0 ∷ drop (at + 3) bytes
     here =
         let one : at + 1 ≡ suc at = omega arith in
         let two : at + 2 ≡ suc (suc at) = omega arith in
@@ -109,12 +117,14 @@ module _ (bytes digits : List ℕ) (k at : ℕ) (j : Judging bytes digits k at) 
     value : (b : ℕ) → b < 256 → getD digits b 0 ≡ digit b
     value b h = table-at digits b (j .table) h
 
-    pub judged-first : getD bytes at 0 < 256 → 16 ≤ getD digits (getD bytes at 0) 0 → read.Malformed k ≡ judged bytes
+    pub judged-first : getD bytes at 0 < 256 → 16 ≤ getD digits (getD bytes at 0) 0
+        → read.Malformed k ≡ judged bytes
     judged-first p h =
         stop (ap (choicesFrom k) here ∙ line-wrong _ _ _ k _ (wrong-first _ _ _ (omega (arith, value _ p))))
 
     module _ (a : getD bytes at 0 < 256) (first : getD digits (getD bytes at 0) 0 < 16) (b : getD bytes (at + 1) 0 < 256) where
-      pub judged-second : 16 ≤ getD digits (getD bytes (at + 1) 0) 0 → read.Malformed k ≡ judged bytes
+      pub judged-second : 16 ≤ getD digits (getD bytes (at + 1) 0) 0
+          → read.Malformed k ≡ judged bytes
       judged-second h =
           stop (ap (choicesFrom k) here ∙ line-wrong _ _ _ k _ (wrong-second _ _ _ (omega (arith, value _ a)) (omega (arith, value _ b))))
 
@@ -142,7 +152,8 @@ pub no-choice : (bytes : List ℕ) (k : ℕ) → length bytes / 3 ≤ k → 0 �
 unfolding choiceAt
 no-choice bytes k h = no _ (le-ltb k (length bytes / 3) h) refl
 
-pub some-choice : (bytes : List ℕ) (k a b : ℕ) → a ≡ digit (getD bytes (3 * k) 0) → b ≡ digit (getD bytes (3 * k + 1) 0) → k < length bytes / 3
+pub some-choice : (bytes : List ℕ) (k a b : ℕ) → a ≡ digit (getD bytes (3 * k) 0)
+    → b ≡ digit (getD bytes (3 * k + 1) 0) → k < length bytes / 3
     → (16 * a + b) % 256 ≡ choiceAt bytes k
 unfolding choiceAt
 some-choice bytes k a b p q h = yes 0 (lt-ltb k (length bytes / 3) h) (rw (p, q))

@@ -6,7 +6,8 @@ use lib.ListN.{getD}
 use borrow.Author.Tests.{lt-ltb, le-ltb}
 use Rattle.basics.proofs.Ifs.{yes, no}
 use Rattle.language.specs.declared.verdict.Verdict.{Verdict}
-use Rattle.listing.specs.Listing.{digitByte, twoDigits, fourDigits, refusalLine, checkLine, choiceLineOf, lastLine}
+use Rattle.listing.specs.Listing.{digitByte, twoDigits, fourDigits, refusalLine, checkLine}
+use Rattle.listing.specs.Listing.{choiceLineOf, lastLine}
 
 pub low-digit : (n : ℕ) → n < 10 → 48 + n ≡ digitByte n
 unfolding digitByte
@@ -23,13 +24,16 @@ line-row v w r e h = h ∙ ap checkLine (sym e)
 
 -- ---- lines, from the arrays of their numbers
 pub refusal-line : (n i : ℕ) (a b : List ℕ) → a ≡ twoDigits n → b ≡ fourDigits i
-    → getD a 0 0 ∷ getD a 1 0 ∷ 32 ∷ getD b 0 0 ∷ getD b 1 0 ∷ getD b 2 0 ∷ getD b 3 0 ∷ 10 ∷ [] ≡ refusalLine n i
+    → getD a 0 0 ∷ getD a 1 0 ∷ 32 ∷ getD b 0 0 ∷ getD b 1 0 ∷ getD b 2 0 ∷ getD b 3 0 ∷ 10 ∷ []
+    ≡ refusalLine n i
 refusal-line n i a b p q = rw (p, q)
 
-pub choice-line : (choice answer thread cells : ℕ) (c a t n : List ℕ) → c ≡ twoDigits choice → a ≡ twoDigits answer → t ≡ twoDigits thread → n ≡ fourDigits cells
+pub choice-line : (choice answer thread cells : ℕ) (c a t n : List ℕ) → c ≡ twoDigits choice
+    → a ≡ twoDigits answer → t ≡ twoDigits thread → n ≡ fourDigits cells
     → getD c 0 0 ∷ getD c 1 0 ∷ 32 ∷ getD a 0 0 ∷ getD a 1 0 ∷ 32 ∷ getD t 0 0 ∷ getD t 1 0 ∷ 32 ∷ getD n 0 0 ∷ getD n 1 0 ∷ getD n 2 0 ∷ getD n 3 0 ∷ 10 ∷ []
     ≡ choiceLineOf choice answer thread cells
 choice-line choice answer thread cells c a t n p q r s = rw (p, q, r, s)
 
-pub last-line : (used : ℕ) (n : List ℕ) → n ≡ fourDigits used → getD n 0 0 ∷ getD n 1 0 ∷ getD n 2 0 ∷ getD n 3 0 ∷ 10 ∷ [] ≡ lastLine used
+pub last-line : (used : ℕ) (n : List ℕ) → n ≡ fourDigits used
+    → getD n 0 0 ∷ getD n 1 0 ∷ getD n 2 0 ∷ getD n 3 0 ∷ 10 ∷ [] ≡ lastLine used
 last-line used n p = rw p

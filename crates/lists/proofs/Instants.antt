@@ -11,36 +11,44 @@ use lib.Dec.{eqb, ltb}
 use borrow.Author.Tests.{lt-ltb, le-ltb, ltb-true, ltb-false}
 use Rattle.basics.specs.Members.{All, none, more}
 use Rattle.basics.proofs.Ifs.{if-yes, if-no, and-true}
-use Rattle.machine.specs.State.{State, Thread, Scheduler, Entry, plain, waiting, noThread, noScheduler, withScheduler, schedulerAt}
+use Rattle.machine.specs.State.{State, Thread, Scheduler, Entry, plain, waiting, noThread}
+use Rattle.machine.specs.State.{noScheduler, withScheduler, schedulerAt}
 use Rattle.machine.specs.Waits.{endedFrom, isReady, threadOf, keepIf, readyThreads, stillWaiting}
 use Rattle.machine.specs.Words.{entryWord, listWord, wordsAt, pack}
 use Rattle.machine.specs.inner.Blocks.{pasted, padded}
 use Rattle.machine.specs.inner.Ranges.{allBelow}
 use Rattle.machine.proofs.Tests.{and-both}
-use Rattle.machine.proofs.WordLaws.{Says, is-pack, tab-length, tab-from, pasted-length, pasted-in, pasted-out}
+use Rattle.machine.proofs.WordLaws.{Says, is-pack, tab-length, tab-from, pasted-length, pasted-in}
+use Rattle.machine.proofs.WordLaws.{pasted-out}
 use Rattle.machine.proofs.Padded.{padded-length, padded-at}
 use Rattle.machine.proofs.Round.{thread-1, thread-2, ended-bit}
 use Rattle.machine.proofs.Ranges.{below-each, all-below}
 use Rattle.machine.specs.Shapes.{EntryFits, plain-fits, waiting-fits}
-use Rattle.lists.specs.inner.Lists.{isQuiet, isReadyWord, readyWords, waitingWords, sortedIn, withInstantEnded}
+use Rattle.lists.specs.inner.Lists.{isQuiet, isReadyWord, readyWords, waitingWords, sortedIn}
+use Rattle.lists.specs.inner.Lists.{withInstantEnded}
 use Rattle.machine.proofs.AllBelow.{same-test}
 use Rattle.lists.proofs.SortLaws.{all-sorted}
-use Rattle.lists.proofs.SchedulerSays.{by-lists, scheduler-put, active-word, next-word, room-says}
+use Rattle.lists.proofs.SchedulerSays.{by-lists, scheduler-put, active-word, next-word}
+use Rattle.lists.proofs.SchedulerSays.{room-says}
 
 -- ---- the ready test
 -- thread t, which is x, has ended, or is neither thread u nor started by it: `isQuiet` on the state
 quiet : ℕ → ℕ → Thread → Bool
 quiet u t x = x .ended || not (eqb t u || eqb (x .starter) u)
 
-ended-each : (u t : ℕ) (xs : List Thread) → endedFrom u t xs ≡ true → (k : ℕ) → k < length xs → quiet u (t + k) (getD xs k noThread) ≡ true
+ended-each : (u t : ℕ) (xs : List Thread) → endedFrom u t xs ≡ true → (k : ℕ) → k < length xs
+    → quiet u (t + k) (getD xs k noThread) ≡ true
 unfolding endedFrom quiet
 ended-each u t [] e k g = absurd (omega arith)
-ended-each u t (x ∷ xs) e zero g = ap (λ (n : ℕ). quiet u n x) (add-zero t) ∙ and-true (quiet u t x) (endedFrom u (suc t) xs) e .0
+ended-each u t (x ∷ xs) e zero g =
+    ap (λ (n : ℕ). quiet u n x) (add-zero t) ∙ and-true (quiet u t x) (endedFrom u (suc t) xs) e .0
 ended-each u t (x ∷ xs) e (suc k) g =
     let z : t + suc k ≡ suc t + k = omega arith in
     ap (λ (n : ℕ). quiet u n (getD xs k noThread)) z ∙ ended-each u (suc t) xs (and-true (quiet u t x) (endedFrom u (suc t) xs) e .1) k (omega arith)
 
-each-ended : (u t : ℕ) (xs : List Thread) → ((k : ℕ) → k < length xs → quiet u (t + k) (getD xs k noThread) ≡ true) → endedFrom u t xs ≡ true
+each-ended : (u t : ℕ) (xs : List Thread)
+    → ((k : ℕ) → k < length xs → quiet u (t + k) (getD xs k noThread) ≡ true)
+    → endedFrom u t xs ≡ true
 unfolding endedFrom quiet
 each-ended u t [] h = refl
 each-ended u t (x ∷ xs) h =
@@ -48,7 +56,8 @@ each-ended u t (x ∷ xs) h =
     (each-ended u (suc t) xs (λ k g. let z : suc t + k ≡ t + suc k = omega arith in ap (λ (n : ℕ). quiet u n (getD xs k noThread)) z ∙ h (suc k) (omega arith)))
 
 module _ (w : List ℕ) (s : State) (h : Says w s) (few : length (s .threads) ≤ 64) where
-  quiet-says : (u k : ℕ) → k < length (s .threads) → isQuiet w u k ≡ quiet u (1 + k) (getD (s .threads) k noThread)
+  quiet-says : (u k : ℕ) → k < length (s .threads)
+      → isQuiet w u k ≡ quiet u (1 + k) (getD (s .threads) k noThread)
   unfolding isQuiet quiet
   quiet-says u k g =
       let z : suc k ≡ 1 + k = omega arith in
@@ -79,27 +88,32 @@ module _ (w : List ℕ) (s : State) (h : Says w s) (few : length (s .threads) �
   thread-of (plain t) (plain-fits f) = let l = f .1 in omega arith
   thread-of (waiting t u) (waiting-fits f g) = let l = f .1 in omega arith
 
-  pub ready-words : (es : List Entry) → All EntryFits es → readyWords w (map entryWord es) ≡ readyThreads (s .threads) es
+  pub ready-words : (es : List Entry) → All EntryFits es
+      → readyWords w (map entryWord es) ≡ readyThreads (s .threads) es
   unfolding readyWords readyThreads
   ready-words [] none = refl
   ready-words (e ∷ es) (more f fs) =
       ap₂ (λ (b : Bool) (t : ℕ). keepIf b t (readyWords w (map entryWord es))) (ready-says e f) (thread-of e f)
       ∙ ap (keepIf (isReady (s .threads) e) (threadOf e)) (ready-words es fs)
 
-  pub waiting-words : (es : List Entry) → All EntryFits es → waitingWords w (map entryWord es) ≡ map entryWord (stillWaiting (s .threads) es)
+  pub waiting-words : (es : List Entry) → All EntryFits es
+      → waitingWords w (map entryWord es) ≡ map entryWord (stillWaiting (s .threads) es)
   unfolding waitingWords stillWaiting
   waiting-words [] none = refl
   waiting-words (e ∷ es) (more f fs) =
       ap₂ (λ (b : Bool) (ws : List ℕ). keepIf (not b) (entryWord e) ws) (ready-says e f) (waiting-words es fs) ∙ kept (not (isReady (s .threads) e))
     where
-      kept : (b : Bool) → keepIf b (entryWord e) (map entryWord (stillWaiting (s .threads) es)) ≡ map entryWord (keepIf b e (stillWaiting (s .threads) es))
+      kept : (b : Bool)
+          → keepIf b (entryWord e) (map entryWord (stillWaiting (s .threads) es))
+          ≡ map entryWord (keepIf b e (stillWaiting (s .threads) es))
       kept true = refl
       kept false = refl
 
 -- ---- the end of an instant
 module _ (w : List ℕ) (s : State) (h : Says w s) (few : length (s .threads) ≤ 64) (q : ℕ) (a : q - 2 < 8) (b : q - 2 < length (s .schedulers))
     (room : length (schedulerAt s q .next) ≤ 64) (fit : All EntryFits (schedulerAt s q .next)) where
-  -- where the scheduler's words begin and where its next list does; the entries there, and the words of the ready ones and of those that wait
+  -- where the scheduler's words begin and where its next list does; the entries there, and the
+  -- words of the ready ones and of those that wait
   abbrev blockAt : ℕ
   blockAt = 2 + 130 * (q - 2)
 
@@ -121,7 +135,8 @@ module _ (w : List ℕ) (s : State) (h : Says w s) (few : length (s .threads) �
       size : getD w nextAt 0 ≡ length (map entryWord es)
       size = room-says w s h q a b ∙ sym (length-map es entryWord)
 
-      each : (j : ℕ) → j < length (wordsAt w nextAt) → getD (wordsAt w nextAt) j 0 ≡ getD (map entryWord es) j 0
+      each : (j : ℕ) → j < length (wordsAt w nextAt)
+          → getD (wordsAt w nextAt) j 0 ≡ getD (map entryWord es) j 0
       each j g =
           let m : j < getD w nextAt 0 = rw (tab-length (getD w nextAt 0) (λ i. getD w i 0) (suc nextAt)) at g in
           let n : getD w nextAt 0 ≡ length es = room-says w s h q a b in
@@ -136,7 +151,8 @@ module _ (w : List ℕ) (s : State) (h : Says w s) (few : length (s .threads) �
   waits = ap (waitingWords w) entries-read ∙ waiting-words w s h few es fit
 
   -- the count that `end_instant` gives
-  pub instant-readies : length (readyWords w (wordsAt w (67 + 130 * (q - 2)))) ≡ length (readyThreads (s .threads) (schedulerAt s q .next))
+  pub instant-readies : length (readyWords w (wordsAt w (67 + 130 * (q - 2))))
+      ≡ length (readyThreads (s .threads) (schedulerAt s q .next))
   instant-readies = ap length readies
 
   abbrev after : Scheduler
@@ -182,16 +198,24 @@ module _ (w : List ℕ) (s : State) (h : Says w s) (few : length (s .threads) �
     ul = pasted-length d (nextAt + 1) (padded m ws) m hu hs ∙ dl
 
     long : length v ≡ 4818
-    long = length-set (set u blockAt (length rs)) nextAt (length ws) ∙ length-set u blockAt (length rs) ∙ ul
+    long =
+        length-set (set u blockAt (length rs)) nextAt (length ws) ∙ length-set u blockAt (length rs)
+        ∙ ul
 
     -- a word that is no count is as it was sorted; one that is of no list is as it was
     plain-word : (i : ℕ) → (i ≡ blockAt → ⊥) → (i ≡ nextAt → ⊥) → getD v i 0 ≡ getD u i 0
-    plain-word i f g = getD-set-other (set u blockAt (length rs)) nextAt i (length ws) 0 g ∙ getD-set-other u blockAt i (length rs) 0 f
+    plain-word i f g =
+        getD-set-other (set u blockAt (length rs)) nextAt i (length ws) 0 g
+        ∙ getD-set-other u blockAt i (length rs) 0 f
 
-    kept : (i : ℕ) → (nextAt + 1 ≤ i → i < nextAt + 1 + m → ⊥) → (blockAt + 1 ≤ i → i < blockAt + 1 + length rs → ⊥) → getD u i 0 ≡ getD w i 0
-    kept i f g = pasted-out d (nextAt + 1) (padded m ws) m hu hs i f ∙ pasted-out w (blockAt + 1) rs (length rs) hd (omega arith) i g
+    kept : (i : ℕ) → (nextAt + 1 ≤ i → i < nextAt + 1 + m → ⊥)
+        → (blockAt + 1 ≤ i → i < blockAt + 1 + length rs → ⊥) → getD u i 0 ≡ getD w i 0
+    kept i f g =
+        pasted-out d (nextAt + 1) (padded m ws) m hu hs i f
+        ∙ pasted-out w (blockAt + 1) rs (length rs) hd (omega arith) i g
 
-    active-here : (i : ℕ) → i < 64 → (c : Bool) → ltb i (length rs) ≡ c → getD u (blockAt + 1 + i) 0 ≡ getD rs i 0
+    active-here : (i : ℕ) → i < 64 → (c : Bool) → ltb i (length rs) ≡ c
+        → getD u (blockAt + 1 + i) 0 ≡ getD rs i 0
     active-here i g true c =
         let l : i < length rs = ltb-true i (length rs) c in
         pasted-out d (nextAt + 1) (padded m ws) m hu hs (blockAt + 1 + i) (λ p r. omega arith)
@@ -203,7 +227,8 @@ module _ (w : List ℕ) (s : State) (h : Says w s) (few : length (s .threads) �
         ∙ active-word w s h q a b (suc i) (omega arith) ∙ ap (λ (ts : List ℕ). getD ts i 0) idle
         ∙ sym (List·getD-eq-default rs 0 {n = i} l)
 
-    next-here : (i : ℕ) → i < 64 → (c : Bool) → ltb i m ≡ c → getD u (nextAt + 1 + i) 0 ≡ getD ws i 0
+    next-here : (i : ℕ) → i < 64 → (c : Bool) → ltb i m ≡ c
+        → getD u (nextAt + 1 + i) 0 ≡ getD ws i 0
     next-here i g true c =
         let l : i < m = ltb-true i m c in
         pasted-in d (nextAt + 1) (padded m ws) m hu hs i l ∙ padded-at m ws i l
@@ -213,7 +238,8 @@ module _ (w : List ℕ) (s : State) (h : Says w s) (few : length (s .threads) �
         let z : nextAt + 1 + i ≡ blockAt + (65 + suc i) = omega arith in
         let n : length (map entryWord es) ≤ i = rw (length-map es entryWord) (let y = count in omega arith) in
         kept (nextAt + 1 + i) (λ p r. omega arith) (λ p r. let y = small in omega arith) ∙ ap (λ (k : ℕ). getD w k 0) z
-        ∙ next-word w s h q a b (suc i) (omega arith) ∙ List·getD-eq-default (map entryWord es) 0 {n = i} n
+        ∙ next-word w s h q a b (suc i) (omega arith)
+        ∙ List·getD-eq-default (map entryWord es) 0 {n = i} n
         ∙ sym (List·getD-eq-default ws 0 {n = i} (omega arith))
 
     active-words : (j : ℕ) → j < 65 → getD v (blockAt + j) 0 ≡ listWord rs j
@@ -248,28 +274,38 @@ module _ (w : List ℕ) (s : State) (h : Says w s) (few : length (s .threads) �
         ∙ kept i (λ p r. f (omega arith) (let y = small in omega arith)) (λ p r. f (omega arith) (let x = size in let y = small in omega arith))))
       where
         -- where the next list begins, from the active list on
-        same-place : set (set (pasted d (nextAt + 1) (padded m ws) m) blockAt (length rs)) nextAt (length ws) ≡ withInstantEnded w (q - 2)
+        same-place : set (set (pasted d (nextAt + 1) (padded m ws) m) blockAt (length rs)) nextAt (length ws)
+            ≡ withInstantEnded w (q - 2)
         same-place = let z : nextAt ≡ blockAt + 65 = omega arith in
             ap (λ (i : ℕ). set (set (pasted (pasted w (blockAt + 1) (readyWords w (wordsAt w i)) (length (readyWords w (wordsAt w i))))
             (i + 1) (padded (getD w i 0) (waitingWords w (wordsAt w i))) (getD w i 0)) blockAt (length rs)) nextAt (length ws)) z
 
--- where none is ready all stay, so that the state is the same, and with it the words: 'nothing' (16) changes no buffer
-pub none-ready : (ts : List Thread) (es : List Entry) → readyThreads ts es ≡ [] → stillWaiting ts es ≡ es
+-- where none is ready all stay, so that the state is the same, and with it the words: 'nothing'
+-- (16) changes no buffer
+pub none-ready : (ts : List Thread) (es : List Entry) → readyThreads ts es ≡ []
+    → stillWaiting ts es ≡ es
 unfolding readyThreads stillWaiting
 none-ready ts [] e = refl
 none-ready ts (x ∷ xs) e = by (isReady ts x) refl (none-ready ts xs)
   where
-    by : (b : Bool) → isReady ts x ≡ b → (readyThreads ts xs ≡ [] → stillWaiting ts xs ≡ xs) → stillWaiting ts (x ∷ xs) ≡ x ∷ xs
-    by true q r = absurd (some (sym (ap (λ (b : Bool). keepIf b (threadOf x) (readyThreads ts xs)) q) ∙ e))
+    by : (b : Bool) → isReady ts x ≡ b → (readyThreads ts xs ≡ [] → stillWaiting ts xs ≡ xs)
+        → stillWaiting ts (x ∷ xs) ≡ x ∷ xs
+    by true q r =
+        absurd (some (sym (ap (λ (b : Bool). keepIf b (threadOf x) (readyThreads ts xs)) q) ∙ e))
       where
         some : {t : ℕ} {l : List ℕ} → t ∷ l ≡ [] → ⊥
         some z = let n : _≡_ {A = ℕ} 0 1 = cc in omega arith
-    by false q r = ap (λ (b : Bool). keepIf (not b) x (stillWaiting ts xs)) q ∙ ap (λ (l : List Entry). x ∷ l) (r (sym (ap (λ (b : Bool). keepIf b (threadOf x) (readyThreads ts xs)) q) ∙ e))
+    by false q r =
+        ap (λ (b : Bool). keepIf (not b) x (stillWaiting ts xs)) q
+        ∙ ap (λ (l : List Entry). x ∷ l) (r (sym (ap (λ (b : Bool). keepIf b (threadOf x) (readyThreads ts xs)) q) ∙ e))
 
-pub instant-none : (w : List ℕ) (s : State) → Says w s → length (s .threads) ≤ 64 → (q : ℕ) → q - 2 < 8 → q - 2 < length (s .schedulers)
-    → length (schedulerAt s q .next) ≤ 64 → All EntryFits (schedulerAt s q .next) → schedulerAt s q .active ≡ [] → readyThreads (s .threads) (schedulerAt s q .next) ≡ []
+pub instant-none : (w : List ℕ) (s : State) → Says w s → length (s .threads) ≤ 64 → (q : ℕ)
+    → q - 2 < 8 → q - 2 < length (s .schedulers)
+    → length (schedulerAt s q .next) ≤ 64 → All EntryFits (schedulerAt s q .next)
+    → schedulerAt s q .active ≡ [] → readyThreads (s .threads) (schedulerAt s q .next) ≡ []
     → withInstantEnded w (q - 2) ≡ w
-instant-none w s h few q a b room fit idle none-is = is-pack _ _ (instant-says w s h few q a b room fit idle) ∙ ap pack same ∙ sym (is-pack w s h)
+instant-none w s h few q a b room fit idle none-is =
+    is-pack _ _ (instant-says w s h few q a b room fit idle) ∙ ap pack same ∙ sym (is-pack w s h)
   where
     x : Scheduler
     x = getD (s .schedulers) (q - 2) noScheduler
@@ -277,7 +313,8 @@ instant-none w s h few q a b room fit idle none-is = is-pack _ _ (instant-says w
     back : (y z : Scheduler) → y .active ≡ z .active → y .next ≡ z .next → y ≡ z
     back y z e f = λ i. record { active = e i; next = f i }
 
-    same : withScheduler q (record { active = readyThreads (s .threads) (schedulerAt s q .next); next = stillWaiting (s .threads) (schedulerAt s q .next) }) s ≡ s
+    same : withScheduler q (record { active = readyThreads (s .threads) (schedulerAt s q .next); next = stillWaiting (s .threads) (schedulerAt s q .next) }) s
+        ≡ s
     same =
         ap (λ (y : Scheduler). withScheduler q y s) (back _ (schedulerAt s q) (none-is ∙ sym idle) (none-ready (s .threads) (x .next) none-is))
         ∙ ap (λ (xs : List Scheduler). record { threads = s .threads; schedulers = xs; cells = s .cells }) (set-getD (s .schedulers) (q - 2) noScheduler)

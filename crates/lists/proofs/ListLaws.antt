@@ -1,4 +1,5 @@
--- A scheduler's lists in the words: an entry put in, the first that leaves; one law for each turn of a loop and each return of the code. Assumes nothing.
+-- A scheduler's lists in the words: an entry put in, the first that leaves; one law for each turn
+-- of a loop and each return of the code. Assumes nothing.
 use Prim.Native.Nat.{ℕ, suc, _+_, _*_, _-_, _<_, _≤_}
 use mathlib.Core.Path.{_≡_, refl, sym, ap, _∙_}
 use mathlib.Core.List.{List, [], _∷_}
@@ -23,19 +24,28 @@ module _ (w v : List ℕ) (first more entry j e : ℕ) (written : v ≡ pasted w
   list-long : length (entry ∷ part w first more) ≡ suc more
   list-long = ap suc (part-length w first more (omega arith))
 
-  pub insert-more : j ≤ more → set v (first + j) e ≡ pasted w first (entry ∷ part w first more) (j + 1)
-  insert-more g = let l = list-long in pasted-more w (entry ∷ part w first more) v first j e written next (omega arith) (omega arith)
+  pub insert-more : j ≤ more
+      → set v (first + j) e ≡ pasted w first (entry ∷ part w first more) (j + 1)
+  insert-more g =
+      let l = list-long in
+      pasted-more w (entry ∷ part w first more) v first j e written next (omega arith) (omega arith)
 
   pub insert-next : j < more → getD v (first + j) 0 ≡ getD (entry ∷ part w first more) (j + 1) 0
   insert-next g =
       ap (λ (x : List ℕ). getD x (first + j) 0) written
       ∙ pasted-out w first (entry ∷ part w first more) j (omega arith) (let l = list-long in omega arith) (first + j) (λ p q. omega arith)
-      ∙ sym (part-at w first more j g) ∙ ap (λ (i : ℕ). getD (entry ∷ part w first more) i 0) (sym (add-one j))
+      ∙ sym (part-at w first more j g)
+      ∙ ap (λ (i : ℕ). getD (entry ∷ part w first more) i 0) (sym (add-one j))
 
-  pub insert-last : j ≤ more → more ≤ j → set v (first + more) e ≡ pasted w first (entry ∷ part w first more) (more + 1)
-  insert-last a b = let z : j ≡ more = omega arith in ap (λ (i : ℕ). set v (first + i) e) (sym z) ∙ insert-more a ∙ ap (λ (i : ℕ). pasted w first (entry ∷ part w first more) (i + 1)) z
+  pub insert-last : j ≤ more → more ≤ j
+      → set v (first + more) e ≡ pasted w first (entry ∷ part w first more) (more + 1)
+  insert-last a b =
+      let z : j ≡ more = omega arith in
+      ap (λ (i : ℕ). set v (first + i) e) (sym z) ∙ insert-more a ∙ ap (λ (i : ℕ). pasted w first (entry ∷ part w first more) (i + 1)) z
 
-pub inserted : (w v : List ℕ) (at n p e : ℕ) → v ≡ pasted w (at + 1 + p) (e ∷ part w (at + 1 + p) (n - p)) (n - p + 1) → set v at (n + 1) ≡ insertedIn w at n p e
+pub inserted : (w v : List ℕ) (at n p e : ℕ)
+    → v ≡ pasted w (at + 1 + p) (e ∷ part w (at + 1 + p) (n - p)) (n - p + 1)
+    → set v at (n + 1) ≡ insertedIn w at n p e
 unfolding insertedIn
 inserted w v at n p e h = ap (λ (x : List ℕ). set x at (n + 1)) h
 

@@ -9,7 +9,8 @@ use native.Mathlib.Numerals.{add-one}
 use native.Mathlib.Decide.{ℕ-discrete}
 use borrow.Author.Tests.{ltb-true, ltb-false}
 use lib.Dec.{eqb, ltb}
-use lib.ListN.{getD, length, set, take, length-set, length-append, List·getD-append, List·getD-eq-default}
+use lib.ListN.{getD, length, set, take, length-set, length-append, List·getD-append}
+use lib.ListN.{List·getD-eq-default}
 use lib.Seq.{take-suc, take-all, length-take-le, getD-at, getD-set-same, getD-set-other}
 use Rattle.basics.specs.If.{if_then_else_}
 use Rattle.machine.specs.Waits.{keepIf}
@@ -29,7 +30,8 @@ keep-true {A} x xs e = ap (λ (t : Bool). keepIf {A = A} t x xs) e
 keep-false : {A : Type 0} {b : Bool} (x : A) (xs : List A) → b ≡ false → keepIf b x xs ≡ xs
 keep-false {A} x xs e = ap (λ (t : Bool). keepIf {A = A} t x xs) e
 
-keep-append : {A : Type 0} (b : Bool) (x : A) (xs ys : List A) → keepIf b x (xs ++ ys) ≡ keepIf b x xs ++ ys
+keep-append : {A : Type 0} (b : Bool) (x : A) (xs ys : List A)
+    → keepIf b x (xs ++ ys) ≡ keepIf b x xs ++ ys
 keep-append true x xs ys = refl
 keep-append false x xs ys = refl
 
@@ -48,15 +50,21 @@ not-last l e i f = by (ltb i (length l)) refl
         ∙ sym (List·getD-eq-default l 0 {n = i} h)
 
 module _ (w : List ℕ) where
-  ready-append : (xs : List ℕ) (e : ℕ) → readyWords w (xs ++ (e ∷ [])) ≡ readyWords w xs ++ keepIf (isReadyWord w e) (e % 128) []
+  ready-append : (xs : List ℕ) (e : ℕ)
+      → readyWords w (xs ++ (e ∷ [])) ≡ readyWords w xs ++ keepIf (isReadyWord w e) (e % 128) []
   unfolding readyWords
   ready-append [] e = refl
-  ready-append (x ∷ xs) e = ap (keepIf (isReadyWord w x) (x % 128)) (ready-append xs e) ∙ keep-append (isReadyWord w x) (x % 128) (readyWords w xs) (keepIf (isReadyWord w e) (e % 128) [])
+  ready-append (x ∷ xs) e =
+      ap (keepIf (isReadyWord w x) (x % 128)) (ready-append xs e)
+      ∙ keep-append (isReadyWord w x) (x % 128) (readyWords w xs) (keepIf (isReadyWord w e) (e % 128) [])
 
-  waiting-append : (xs : List ℕ) (e : ℕ) → waitingWords w (xs ++ (e ∷ [])) ≡ waitingWords w xs ++ keepIf (not (isReadyWord w e)) e []
+  waiting-append : (xs : List ℕ) (e : ℕ)
+      → waitingWords w (xs ++ (e ∷ [])) ≡ waitingWords w xs ++ keepIf (not (isReadyWord w e)) e []
   unfolding waitingWords
   waiting-append [] e = refl
-  waiting-append (x ∷ xs) e = ap (keepIf (not (isReadyWord w x)) x) (waiting-append xs e) ∙ keep-append (not (isReadyWord w x)) x (waitingWords w xs) (keepIf (not (isReadyWord w e)) e [])
+  waiting-append (x ∷ xs) e =
+      ap (keepIf (not (isReadyWord w x)) x) (waiting-append xs e)
+      ∙ keep-append (not (isReadyWord w x)) x (waitingWords w xs) (keepIf (not (isReadyWord w e)) e [])
 
   -- each entry is ready or waits
   pub all-sorted : (es : List ℕ)
@@ -318,7 +326,8 @@ module _ (w : List ℕ) where
         → Sorting at (set (set v (at + 65 + 1 + j) 0) (at + 65 + 1 + (j - r)) e) r (j + 1)
     sort-waiting t f h =
         record {
-          long = length-set u (at + 65 + 1 + (j - r)) e ∙ length-set v (at + 65 + 1 + j) 0 ∙ s .long;
+          long =
+              length-set u (at + 65 + 1 + (j - r)) e ∙ length-set v (at + 65 + 1 + j) 0 ∙ s .long;
           readies = s .readies ∙ ap length (sym stay);
           active = λ i g. getD-set-other u (at + 65 + 1 + (j - r)) (at + 1 + i) e 0 (λ z. apart i (j - r) g z)
               ∙ getD-set-other v (at + 65 + 1 + j) (at + 1 + i) 0 0 (λ z. apart i j g z)

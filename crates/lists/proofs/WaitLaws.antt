@@ -20,7 +20,8 @@ module _ (w : List ℕ) (u k : ℕ) where
   unfolding isQuiet
   quiet-self h e = rw (ne-eqb _ 0 h, eq-eqb (suc k) u (sym (add-one k) ∙ e))
 
-  pub quiet-rest : (getD w (1042 + 55 * k + 2) 0 ≡ 0 → ⊥) → (k + 1 ≡ u → ⊥) → not (eqb (getD w (1042 + 55 * k + 1) 0) u) ≡ isQuiet w u k
+  pub quiet-rest : (getD w (1042 + 55 * k + 2) 0 ≡ 0 → ⊥) → (k + 1 ≡ u → ⊥)
+      → not (eqb (getD w (1042 + 55 * k + 1) 0) u) ≡ isQuiet w u k
   unfolding isQuiet
   quiet-rest h e = rw (ne-eqb _ 0 h, ne-eqb (suc k) u (λ q. e (add-one k ∙ q)))
 
@@ -30,7 +31,8 @@ pub ready-plain : (w : List ℕ) (e : ℕ) → e < 128 → true ≡ isReadyWord 
 unfolding isReadyWord
 ready-plain w e h = yes _ (lt-ltb e 128 h) refl
 
-pub ready-waiting : (w : List ℕ) (e : ℕ) (r : Bool) → 128 ≤ e → r ≡ allBelow (getD w 0 0) (isQuiet w (e / 128)) → r ≡ isReadyWord w e
+pub ready-waiting : (w : List ℕ) (e : ℕ) (r : Bool) → 128 ≤ e
+    → r ≡ allBelow (getD w 0 0) (isQuiet w (e / 128)) → r ≡ isReadyWord w e
 unfolding isReadyWord
 ready-waiting w e r h q = no _ (le-ltb e 128 h) q
 

@@ -1,4 +1,5 @@
--- Calls on words are the steps of the states: from the fresh words on, each call answers as its step does and leaves the words of its state. Assumes nothing.
+-- Calls on words are the steps of the states: from the fresh words on, each call answers as its
+-- step does and leaves the words of its state. Assumes nothing.
 use mathlib.Core.Path.{_≡_, refl, ap, ap₂, _∙_}
 use mathlib.Core.List.{List, [], _∷_, map}
 use mathlib.Core.Bool.{Bool, true, false}
@@ -25,13 +26,15 @@ use Rattle.machine.proofs.KeptShape.{FileFits, keeps-step, fresh-shaped
 abbrev pub asCalled : Stepped → Called
 asCalled r = record { answer = r .answer; thread = r .thread; words = pack (r .state) }
 
-pub fresh-called : (fs : List Frame) (w : List ℕ) → length w ≡ 4818 → freshCall fs w ≡ record { answer = 0; thread = 0; words = pack (fresh (programOf fs)) }
+pub fresh-called : (fs : List Frame) (w : List ℕ) → length w ≡ 4818
+    → freshCall fs w ≡ record { answer = 0; thread = 0; words = pack (fresh (programOf fs)) }
 unfolding freshCall
 fresh-called fs w e =
     ap (λ (b : Bool). elim b [ true ↦ record { answer = 0; thread = 0; words = pack (fresh (programOf fs)) } | false ↦ unchanged 14 0 w ]) (eq-eqb (length w) 4818 e)
 
 module _ (fs : List Frame) (F : FileFits fs (programOf fs) (programSchedulers fs)) where
-  pub call-is : (s : State) (c : ℕ) → Shaped fs (programSchedulers fs) s → stepCall fs (pack s) c ≡ asCalled (step (programOf fs) s c)
+  pub call-is : (s : State) (c : ℕ) → Shaped fs (programSchedulers fs) s
+      → stepCall fs (pack s) c ≡ asCalled (step (programOf fs) s c)
   call-is s c z =
       path (ap (λ (x : Called). x .answer) (called-in fs (pack s) c e) ∙ ap (λ (x : State). step (programOf fs) x c .answer) u)
       (ap (λ (x : Called). x .thread) (called-in fs (pack s) c e) ∙ ap (λ (x : State). step (programOf fs) x c .thread) u)
@@ -43,10 +46,12 @@ module _ (fs : List Frame) (F : FileFits fs (programOf fs) (programSchedulers fs
       u : unpack fs (programSchedulers fs) (pack s) ≡ s
       u = unpack-pack fs (programSchedulers fs) s z
 
-      path : {a b : Called} → a .answer ≡ b .answer → a .thread ≡ b .thread → a .words ≡ b .words → a ≡ b
+      path : {a b : Called} → a .answer ≡ b .answer → a .thread ≡ b .thread → a .words ≡ b .words
+          → a ≡ b
       path p q r = λ i. record { answer = p i; thread = q i; words = r i }
 
-  calls-from : (s : State) (cs : List ℕ) → Shaped fs (programSchedulers fs) s → callsFrom fs (pack s) cs ≡ map asCalled (stepsFrom (programOf fs) s cs)
+  calls-from : (s : State) (cs : List ℕ) → Shaped fs (programSchedulers fs) s
+      → callsFrom fs (pack s) cs ≡ map asCalled (stepsFrom (programOf fs) s cs)
   unfolding callsFrom stepsFrom
   calls-from s [] z = refl
   calls-from s (c ∷ cs) z =
@@ -54,19 +59,22 @@ module _ (fs : List Frame) (F : FileFits fs (programOf fs) (programSchedulers fs
       (ap (λ (x : Called). callsFrom fs (x .words) cs) (call-is s c z) ∙ calls-from (step (programOf fs) s c .state) cs (keeps-step fs (programOf fs) (programSchedulers fs) F s c z))
 
   -- 'States and answers are those that the calls give.'
-  pub calls-are : (w cs : List ℕ) → length w ≡ 4818 → callsFrom fs (freshCall fs w .words) cs ≡ map asCalled (steps (programOf fs) cs)
+  pub calls-are : (w cs : List ℕ) → length w ≡ 4818
+      → callsFrom fs (freshCall fs w .words) cs ≡ map asCalled (steps (programOf fs) cs)
   calls-are w cs e =
       ap (λ (x : Called). callsFrom fs (x .words) cs) (fresh-called fs w e)
       ∙ calls-from (fresh (programOf fs)) cs (fresh-shaped fs (programOf fs) (programSchedulers fs) F)
 
-  words-from : (s : State) (cs : List ℕ) → Shaped fs (programSchedulers fs) s → wordsFrom fs (pack s) cs ≡ pack (stateFrom (programOf fs) s cs)
+  words-from : (s : State) (cs : List ℕ) → Shaped fs (programSchedulers fs) s
+      → wordsFrom fs (pack s) cs ≡ pack (stateFrom (programOf fs) s cs)
   unfolding wordsFrom stateFrom
   words-from s [] z = refl
   words-from s (c ∷ cs) z =
       ap (λ (x : Called). wordsFrom fs (x .words) cs) (call-is s c z)
       ∙ words-from (step (programOf fs) s c .state) cs (keeps-step fs (programOf fs) (programSchedulers fs) F s c z)
 
-  pub words-are : (w cs : List ℕ) → length w ≡ 4818 → wordsFrom fs (freshCall fs w .words) cs ≡ pack (stateAfter (programOf fs) cs)
+  pub words-are : (w cs : List ℕ) → length w ≡ 4818
+      → wordsFrom fs (freshCall fs w .words) cs ≡ pack (stateAfter (programOf fs) cs)
   words-are w cs e =
       ap (λ (x : Called). wordsFrom fs (x .words) cs) (fresh-called fs w e)
       ∙ words-from (fresh (programOf fs)) cs (fresh-shaped fs (programOf fs) (programSchedulers fs) F)

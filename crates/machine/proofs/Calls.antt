@@ -1,4 +1,5 @@
--- The calls on words: the answer is the step's or 14, a refusal leaves the words, and words in range become those of the step's state. Assumes nothing.
+-- The calls on words: the answer is the step's or 14, a refusal leaves the words, and words in
+-- range become those of the step's state. Assumes nothing.
 use mathlib.Core.Path.{_≡_, refl, sym, ap, _∙_}
 use mathlib.Core.Logic.{_≢_}
 use mathlib.Core.List.{List}
@@ -24,19 +25,25 @@ abbrev pub stepOf : List Frame → List ℕ → ℕ → Stepped
 stepOf fs w c = step (programOf fs) (unpack fs (programSchedulers fs) w) c
 
 module _ (fs : List Frame) (w : List ℕ) (c : ℕ) where
-  pub called-in : inRange fs (programSchedulers fs) w ≡ true → stepCall fs w c ≡ calledOf w (stepOf fs w c)
+  pub called-in : inRange fs (programSchedulers fs) w ≡ true
+      → stepCall fs w c ≡ calledOf w (stepOf fs w c)
   unfolding stepCall
-  called-in e = ap (λ (b : Bool). elim b [ true ↦ calledOf w (stepOf fs w c) | false ↦ unchanged 14 0 w ]) e
+  called-in e =
+      ap (λ (b : Bool). elim b [ true ↦ calledOf w (stepOf fs w c) | false ↦ unchanged 14 0 w ]) e
 
   pub called-out : inRange fs (programSchedulers fs) w ≡ false → stepCall fs w c ≡ unchanged 14 0 w
   unfolding stepCall
-  called-out e = ap (λ (b : Bool). elim b [ true ↦ calledOf w (stepOf fs w c) | false ↦ unchanged 14 0 w ]) e
+  called-out e =
+      ap (λ (b : Bool). elim b [ true ↦ calledOf w (stepOf fs w c) | false ↦ unchanged 14 0 w ]) e
 
   -- words in range become the words of the step's state, refused or not
-  pub step-packs : inRange fs (programSchedulers fs) w ≡ true → stepCall fs w c .words ≡ pack (stepOf fs w c .state)
-  step-packs e = ap (λ (x : Called). x .words) (called-in e) ∙ go (eqb (stepOf fs w c .answer) 0) refl
+  pub step-packs : inRange fs (programSchedulers fs) w ≡ true
+      → stepCall fs w c .words ≡ pack (stepOf fs w c .state)
+  step-packs e =
+      ap (λ (x : Called). x .words) (called-in e) ∙ go (eqb (stepOf fs w c .answer) 0) refl
     where
-      go : (b : Bool) → eqb (stepOf fs w c .answer) 0 ≡ b → elim b [ true ↦ pack (stepOf fs w c .state) | false ↦ w ] ≡ pack (stepOf fs w c .state)
+      go : (b : Bool) → eqb (stepOf fs w c .answer) 0 ≡ b
+          → elim b [ true ↦ pack (stepOf fs w c .state) | false ↦ w ] ≡ pack (stepOf fs w c .state)
       go true q = refl
       go false q =
           packed fs (programSchedulers fs) w e
@@ -46,10 +53,13 @@ module _ (fs : List Frame) (w : List ℕ) (c : ℕ) where
   pub refused-words : stepCall fs w c .answer ≢ 0 → stepCall fs w c .words ≡ w
   refused-words h = first (inRange fs (programSchedulers fs) w) refl
     where
-      second : (b : Bool) → eqb (stepOf fs w c .answer) 0 ≡ b → stepOf fs w c .answer ≢ 0 → elim b [ true ↦ pack (stepOf fs w c .state) | false ↦ w ] ≡ w
+      second : (b : Bool) → eqb (stepOf fs w c .answer) 0 ≡ b → stepOf fs w c .answer ≢ 0
+          → elim b [ true ↦ pack (stepOf fs w c .state) | false ↦ w ] ≡ w
       second true q n = absurd (n (eqb-true (stepOf fs w c .answer) 0 q))
       second false q n = refl
 
       first : (b : Bool) → inRange fs (programSchedulers fs) w ≡ b → stepCall fs w c .words ≡ w
-      first true e = ap (λ (x : Called). x .words) (called-in e) ∙ second (eqb (stepOf fs w c .answer) 0) refl (λ q. h (ap (λ (x : Called). x .answer) (called-in e) ∙ q))
+      first true e =
+          ap (λ (x : Called). x .words) (called-in e)
+          ∙ second (eqb (stepOf fs w c .answer) 0) refl (λ q. h (ap (λ (x : Called). x .answer) (called-in e) ∙ q))
       first false e = ap (λ (x : Called). x .words) (called-out e)

@@ -1,5 +1,6 @@
--- Why no continuation and no variable space is ever full (20) from a fresh state on: a continuation with all the room that it will take, `Roomy`, fits its space,
--- its drops find their variables, and each item taken from it leaves such a continuation. Assumes nothing.
+-- Why no continuation and no variable space is ever full (20) from a fresh state on: a continuation
+-- with all the room that it will take, `Roomy`, fits its space, its drops find their variables, and
+-- each item taken from it leaves such a continuation. Assumes nothing.
 use mathlib.Core.Path.{_≡_, ap, _∙_}
 use mathlib.Core.List.{List, [], _∷_}
 use mathlib.Core.Bool.{true}
@@ -8,7 +9,8 @@ use native.Mathlib.Omega.{arith}
 use lib.Dec.{leb}
 use lib.ListN.{length}
 use borrow.Author.Tests.{le-leb}
-use Rattle.program.specs.Trees.{Expr, Stmt, nothing, seq, doAt, start, startWait, cooperate, letIn, store, ifElse, while}
+use Rattle.program.specs.Trees.{Expr, Stmt, nothing, seq, doAt, start, startWait, cooperate, letIn}
+use Rattle.program.specs.Trees.{store, ifElse, while}
 use Rattle.machine.proofs.Tests.{and-both}
 use Rattle.machine.specs.State.{Item, run, back, drop}
 use Rattle.machine.specs.Turns.{holds, Spaces, stateSpaces, fits}
@@ -55,12 +57,15 @@ height-pos (store i x y) = omega arith
 height-pos (ifElse i x a b) = let g = height-pos a in omega arith
 height-pos (while i x a) = omega arith
 
--- ---- a continuation over n variables with all the room that it will take: for each statement in it, above what lies below
+-- ---- a continuation over n variables with all the room that it will take: for each statement in
+-- it, above what lies below
 pub data Roomy : ℕ → List Item → Type 0 where
   no-items : {n : ℕ} → n ≤ 25 → Roomy n []
-  run-item : {n : ℕ} {x : Stmt} {l : List Item} → length l + height x ≤ 25 → n + lets x ≤ 25 → Roomy n l → Roomy n (run x ∷ l)
+  run-item : {n : ℕ} {x : Stmt} {l : List Item} → length l + height x ≤ 25 → n + lets x ≤ 25
+      → Roomy n l → Roomy n (run x ∷ l)
   back-item : {n q : ℕ} {l : List Item} → length l < 25 → Roomy n l → Roomy n (back q ∷ l)
-  drop-item : {n : ℕ} {l : List Item} → length l < 25 → n < 25 → Roomy n l → Roomy (suc n) (drop ∷ l)
+  drop-item : {n : ℕ} {l : List Item} → length l < 25 → n < 25 → Roomy n l
+      → Roomy (suc n) (drop ∷ l)
 
 pub roomy-fits : {n : ℕ} {l : List Item} → Roomy n l → (length l ≤ 25) × (n ≤ 25)
 roomy-fits (no-items h) = (omega arith, h)
@@ -68,7 +73,8 @@ roomy-fits (run-item {x = x} h g r) = let p = height-pos x in (omega arith, omeg
 roomy-fits (back-item h r) = (omega arith, roomy-fits r .1)
 roomy-fits (drop-item h g r) = (omega arith, omega arith)
 
-pub fits-true : (z : Spaces) → z ≡ stateSpaces → (l : List Item) (vs : List Value) → Roomy (length vs) l → fits z l vs ≡ true
+pub fits-true : (z : Spaces) → z ≡ stateSpaces → (l : List Item) (vs : List Value)
+    → Roomy (length vs) l → fits z l vs ≡ true
 unfolding fits
 fits-true z e l vs r =
     let (a, b) = roomy-fits r in
@@ -79,30 +85,37 @@ fits-true z e l vs r =
 -- ---- it stays so when a statement is taken apart
 
 -- run-item with its data given, from which omega knows what to show
-run-above : (n : ℕ) (x : Stmt) (l : List Item) → length l + height x ≤ 25 → n + lets x ≤ 25 → Roomy n l → Roomy n (run x ∷ l)
+run-above : (n : ℕ) (x : Stmt) (l : List Item) → length l + height x ≤ 25 → n + lets x ≤ 25
+    → Roomy n l → Roomy n (run x ∷ l)
 run-above n x l h g r = run-item h g r
 
-pub roomy-seq : {n i : ℕ} {a b : Stmt} {l : List Item} → Roomy n (run (seq i a b) ∷ l) → Roomy n (run a ∷ run b ∷ l)
+pub roomy-seq : {n i : ℕ} {a b : Stmt} {l : List Item} → Roomy n (run (seq i a b) ∷ l)
+    → Roomy n (run a ∷ run b ∷ l)
 unfolding height lets
 roomy-seq {n} {a = a} {b = b} {l = l} (run-item h g r) = run-above n a (run b ∷ l) (omega arith) (omega arith) (run-above n b l (omega arith) (omega arith) r)
 
-pub roomy-do : {n i q : ℕ} {a : Stmt} {l : List Item} (p : ℕ) → Roomy n (run (doAt i q a) ∷ l) → Roomy n (run a ∷ back p ∷ l)
+pub roomy-do : {n i q : ℕ} {a : Stmt} {l : List Item} (p : ℕ) → Roomy n (run (doAt i q a) ∷ l)
+    → Roomy n (run a ∷ back p ∷ l)
 unfolding height lets
 roomy-do {n} {a = a} {l = l} p (run-item h g r) = let k = height-pos a in run-above n a (back p ∷ l) (omega arith) (omega arith) (back-item (omega arith) r)
 
-pub roomy-let : {n i : ℕ} {x : Expr} {a : Stmt} {l : List Item} → Roomy n (run (letIn i x a) ∷ l) → Roomy (suc n) (run a ∷ drop ∷ l)
+pub roomy-let : {n i : ℕ} {x : Expr} {a : Stmt} {l : List Item} → Roomy n (run (letIn i x a) ∷ l)
+    → Roomy (suc n) (run a ∷ drop ∷ l)
 unfolding height lets
 roomy-let {n} {a = a} {l = l} (run-item h g r) = let k = height-pos a in run-above (suc n) a (drop ∷ l) (omega arith) (omega arith) (drop-item (omega arith) (omega arith) r)
 
-pub roomy-while : {n i : ℕ} {x : Expr} {a : Stmt} {l : List Item} → Roomy n (run (while i x a) ∷ l) → Roomy n (run a ∷ run (while i x a) ∷ l)
+pub roomy-while : {n i : ℕ} {x : Expr} {a : Stmt} {l : List Item} → Roomy n (run (while i x a) ∷ l)
+    → Roomy n (run a ∷ run (while i x a) ∷ l)
 unfolding height lets
 roomy-while {n} {i} {x} {a} {l} (run-item h g r) = run-above n a (run (while i x a) ∷ l) (omega arith) (omega arith) (run-above n (while i x a) l h g r)
 
-pub roomy-then : {n i : ℕ} {x : Expr} {a b : Stmt} {l : List Item} → Roomy n (run (ifElse i x a b) ∷ l) → Roomy n (run a ∷ l)
+pub roomy-then : {n i : ℕ} {x : Expr} {a b : Stmt} {l : List Item}
+    → Roomy n (run (ifElse i x a b) ∷ l) → Roomy n (run a ∷ l)
 unfolding height lets
 roomy-then {n} {a = a} {l = l} (run-item h g r) = run-above n a l (omega arith) (omega arith) r
 
-pub roomy-else : {n i : ℕ} {x : Expr} {a b : Stmt} {l : List Item} → Roomy n (run (ifElse i x a b) ∷ l) → Roomy n (run b ∷ l)
+pub roomy-else : {n i : ℕ} {x : Expr} {a b : Stmt} {l : List Item}
+    → Roomy n (run (ifElse i x a b) ∷ l) → Roomy n (run b ∷ l)
 unfolding height lets
 roomy-else {n} {b = b} {l = l} (run-item h g r) = run-above n b l (omega arith) (omega arith) r
 

@@ -1,8 +1,10 @@
--- A body at most 24 deep has room: it takes at most 24 items of a continuation and 23 variables, and of each there are 25. Assumes nothing.
+-- A body at most 24 deep has room: it takes at most 24 items of a continuation and 23 variables,
+-- and of each there are 25. Assumes nothing.
 use Prim.Native.Nat.{ℕ, _+_, _≤_, _<_, max}
 use native.Mathlib.Omega.{arith}
 use lib.ListN.{length}
-use Rattle.program.specs.Trees.{Stmt, nothing, seq, doAt, start, startWait, cooperate, letIn, store, ifElse, while}
+use Rattle.program.specs.Trees.{Stmt, nothing, seq, doAt, start, startWait, cooperate, letIn, store}
+use Rattle.program.specs.Trees.{ifElse, while}
 use Rattle.program.specs.Programs.{Program, moduleAt}
 use Rattle.machine.proofs.Continuations.{height, lets}
 
@@ -19,7 +21,8 @@ deep (store i x y) = 1
 deep (ifElse i x a b) = 1 + max (deep a) (deep b)
 deep (while i x a) = 1 + deep a
 
--- each statement takes at most one item of the continuation, and at most one variable, for each level of depth
+-- each statement takes at most one item of the continuation, and at most one variable, for each
+-- level of depth
 pub height-deep : (x : Stmt) → height x ≤ deep x
 unfolding height deep
 height-deep (nothing i) = omega arith

@@ -1,5 +1,6 @@
--- Of every choice on every state: a refused one leaves the state, and one that is not foreign accesses only cells of its thread or its place.
--- So of demand 3 `accessed` follows from `answered`. Assumes nothing.
+-- Of every choice on every state: a refused one leaves the state, and one that is not foreign
+-- accesses only cells of its thread or its place. So of demand 3 `accessed` follows from
+-- `answered`. Assumes nothing.
 use mathlib.Core.Path.{_≡_, refl}
 use mathlib.Core.Logic.{_≢_}
 use mathlib.Core.List.{List, [], _∷_}
@@ -8,16 +9,23 @@ use Prim.Native.Nat.{ℕ}
 use Rattle.basics.specs.If.{if_then_else_}
 use Rattle.basics.specs.Members.{All, none}
 use Rattle.basics.proofs.Ifs.{if-all}
-use Rattle.program.specs.Trees.{Expr, Stmt, nothing, seq, doAt, start, startWait, cooperate, letIn, store, ifElse, while}
+use Rattle.program.specs.Trees.{Expr, Stmt, nothing, seq, doAt, start, startWait, cooperate, letIn}
+use Rattle.program.specs.Trees.{store, ifElse, while}
 use Rattle.program.specs.Programs.{Program}
 use Rattle.machine.specs.Accesses.{Own}
-use Rattle.machine.specs.State.{State, Stored, Item, run, back, drop, Entry, schedulerAt, threadAt}
+use Rattle.machine.specs.State.{State, Stored, Item, run, back, drop, Entry, schedulerAt}
+use Rattle.machine.specs.State.{threadAt}
 use Rattle.machine.specs.Waits.{readyThreads, stillWaiting}
 use Rattle.machine.specs.Evaluation.{Here, Evaluated, Evaluation, eval, storing}
-use Rattle.machine.specs.Turns.{Stepped, Turn, refuse, accept, behind, evaluator, goOn, withValue, withValues, byCondition, stay, move, goTo}
+use Rattle.machine.specs.Turns.{Stepped, Turn, refuse, accept, behind, evaluator, goOn}
+use Rattle.machine.specs.Turns.{withValue, withValues, byCondition, stay, move, goTo}
 use Rattle.machine.specs.inner.Parts.{stepItems, stepThread, turn, stepScheduler}
-use Rattle.machine.specs.Steps.{stepThreadWithin, nobody, turnInstant, endInstant, step, stepWithin}
-use Rattle.machine.specs.Statements.{ends, drops, goesBack, stepNothing, stepSeq, stepDo, starting, stepStart, startedWait, stepStartWait, stepCooperate, stepLet, stepStore, stepIf, stepWhile, stepStatement}
+use Rattle.machine.specs.Steps.{stepThreadWithin, nobody, turnInstant, endInstant, step}
+use Rattle.machine.specs.Steps.{stepWithin}
+use Rattle.machine.specs.Statements.{ends, drops, goesBack, stepNothing, stepSeq, stepDo}
+use Rattle.machine.specs.Statements.{starting, stepStart, startedWait, stepStartWait}
+use Rattle.machine.specs.Statements.{stepCooperate, stepLet, stepStore, stepIf, stepWhile}
+use Rattle.machine.specs.Statements.{stepStatement}
 use Rattle.machine.specs.declared.value.Value.{Value}
 use Rattle.machine.specs.declared.value.Value.the-variants.{Number, Truth, Cell}
 use Rattle.machine.specs.declared.value.Outcome.{Outcome}
@@ -25,7 +33,8 @@ use Rattle.machine.specs.declared.value.Outcome.the-variants.{Is, Foreig
 use Rattle.machine.proofs.Lists.{all-append}
 use Rattle.machine.proofs.Owns.{IsForeign, Owns, owns-eval, owns-storing}
 
--- what r says of a choice put to the state s: refused, it kept the state; not foreign, it accessed only cells of its own
+-- what r says of a choice put to the state s: refused, it kept the state; not foreign, it accessed
+-- only cells of its own
 pub record Fair (s : State) (r : Stepped) : Type 0 where
   pub kept : r .answer ≢ 0 → r .state ≡ s
   pub own : r .answer ≢ 19 → All Own (r .accesses)
@@ -45,31 +54,37 @@ fair-accept u s h = record { kept = λ n. absurd (n refl); own = λ _. h }
 fair-if : (s : State) (b : Bool) (x y : Stepped) → Fair s x → Fair s y → Fair s (if b then x else y)
 fair-if s b x y f g = if-all (Fair s) b x y (λ _. f) (λ _. g)
 
-fair-goOn : (u : Turn) (o : Outcome) (k : Value → Turn → Stepped) → ((IsForeign o → ⊥) → Owning u) → ((v : Value) → Owning u → Fair (u .state) (k v u)) → Fair (u .state) (goOn u o k)
+fair-goOn : (u : Turn) (o : Outcome) (k : Value → Turn → Stepped) → ((IsForeign o → ⊥) → Owning u)
+    → ((v : Value) → Owning u → Fair (u .state) (k v u)) → Fair (u .state) (goOn u o k)
 fair-goOn u (Is v) k h g = g v (h (λ z. z))
 fair-goOn u Foreign k h g = record { kept = λ _. refl; own = λ n. absurd (n refl) }
 fair-goOn u Spent k h g = fair-refuse u 17 (h (λ z. z))
 fair-goOn u Stuck k h g = fair-refuse u 20 (h (λ z. z))
 
-fair-value : (u : Turn) (m : Here → Evaluation) (k : Value → Turn → Stepped) → ((h : Here) (cs : List Stored) → Owns (m h cs)) → Owning u
-    → ((v : Value) (w : Turn) → Owning w → Fair (w .state) (k v w)) → Fair (u .state) (withValue u m k)
+fair-value : (u : Turn) (m : Here → Evaluation) (k : Value → Turn → Stepped)
+    → ((h : Here) (cs : List Stored) → Owns (m h cs)) → Owning u
+    → ((v : Value) (w : Turn) → Owning w → Fair (w .state) (k v w))
+    → Fair (u .state) (withValue u m k)
 fair-value u m k o h g =
     let r : Evaluated = m (evaluator u) (u .cells) in
     fair-goOn (behind u r) (r .outcome) k (λ n. all-append h (o (evaluator u) (u .cells) n)) (λ v. g v (behind u r))
 
 fair-values : (u : Turn) (xs : List Expr) (k : List Value → Turn → Stepped) → Owning u
-    → ((vs : List Value) (w : Turn) → Owning w → Fair (w .state) (k vs w)) → Fair (u .state) (withValues u xs k)
+    → ((vs : List Value) (w : Turn) → Owning w → Fair (w .state) (k vs w))
+    → Fair (u .state) (withValues u xs k)
 unfolding withValues
 fair-values u [] k h g = g [] u h
 fair-values u (x ∷ xs) k h g = fair-value u (λ e. eval e x) _ (λ e. owns-eval e x) h (λ v w j. fair-values w xs _ j (λ vs. g (v ∷ vs)))
 
-fair-by : (u : Turn) (v : Value) (a b : Stepped) → Owning u → Fair (u .state) a → Fair (u .state) b → Fair (u .state) (byCondition u v a b)
+fair-by : (u : Turn) (v : Value) (a b : Stepped) → Owning u → Fair (u .state) a → Fair (u .state) b
+    → Fair (u .state) (byCondition u v a b)
 fair-by u (Truth true) a b h f g = f
 fair-by u (Truth false) a b h f g = g
 fair-by u (Number n) a b h f g = fair-refuse u 20 h
 fair-by u (Cell c) a b h f g = fair-refuse u 20 h
 
-fair-stay : (u : Turn) (items : List Item) (vars : List Value) → Owning u → Fair (u .state) (stay u items vars)
+fair-stay : (u : Turn) (items : List Item) (vars : List Value) → Owning u
+    → Fair (u .state) (stay u items vars)
 unfolding stay
 fair-stay u items vars h = fair-if _ _ _ _ (fair-accept u _ h) (fair-refuse u 20 h)
 
@@ -82,7 +97,8 @@ fair-goTo : (u : Turn) (q : ℕ) (items : List Item) → Owning u → Fair (u .s
 unfolding goTo
 fair-goTo u q items h = fair-if _ _ _ _ (fair-stay u items _ h) (fair-move u q items h)
 
-fair-starting : (u : Turn) (m : ℕ) (vs : List Value) (r : Stepped) → Owning u → Fair (u .state) r → Fair (u .state) (starting u m vs r)
+fair-starting : (u : Turn) (m : ℕ) (vs : List Value) (r : Stepped) → Owning u → Fair (u .state) r
+    → Fair (u .state) (starting u m vs r)
 unfolding starting
 fair-starting u m vs r h g =
     let f = fair-refuse u 20 h in
@@ -95,15 +111,20 @@ unfolding stepNothing stepSeq stepDo stepStart startedWait stepStartWait stepCoo
 fair-statement u (nothing i) h = fair-stay u _ _ h
 fair-statement u (seq i a b) h = fair-stay u _ _ h
 fair-statement u (doAt i q a) h = fair-if _ _ _ _ (fair-refuse u 20 h) (fair-goTo u q _ h)
-fair-statement u (start i m xs) h = fair-values u xs _ h (λ vs w j. fair-starting w m vs _ j (fair-accept w _ j))
+fair-statement u (start i m xs) h =
+    fair-values u xs _ h (λ vs w j. fair-starting w m vs _ j (fair-accept w _ j))
 fair-statement u (startWait i m xs) h = fair-values u xs _ h (λ vs w j. fair-starting w m vs _ j (fair-if _ _ _ _ (fair-accept w _ j) (fair-refuse w 20 j)))
-fair-statement u (cooperate i) h = fair-if _ _ _ _ (fair-refuse u 20 h) (fair-if _ _ _ _ (fair-accept u _ h) (fair-refuse u 20 h))
-fair-statement u (letIn i x a) h = fair-value u (λ e. eval e x) _ (λ e. owns-eval e x) h (λ v w j. fair-stay w _ _ j)
-fair-statement u (store i x y) h = fair-value u (λ e. storing e x y) _ (λ e. owns-storing e x y) h (λ v w j. fair-stay w _ _ j)
+fair-statement u (cooperate i) h =
+    fair-if _ _ _ _ (fair-refuse u 20 h) (fair-if _ _ _ _ (fair-accept u _ h) (fair-refuse u 20 h))
+fair-statement u (letIn i x a) h =
+    fair-value u (λ e. eval e x) _ (λ e. owns-eval e x) h (λ v w j. fair-stay w _ _ j)
+fair-statement u (store i x y) h =
+    fair-value u (λ e. storing e x y) _ (λ e. owns-storing e x y) h (λ v w j. fair-stay w _ _ j)
 fair-statement u (ifElse i x a b) h = fair-value u (λ e. eval e x) _ (λ e. owns-eval e x) h (λ v w j. fair-by w v _ _ j (fair-stay w _ _ j) (fair-stay w _ _ j))
 fair-statement u (while i x a) h = fair-value u (λ e. eval e x) _ (λ e. owns-eval e x) h (λ v w j. fair-by w v _ _ j (fair-stay w _ _ j) (fair-stay w _ _ j))
 
-fair-items : (p : Program) (s : State) (c t : ℕ) (items : List Item) → Fair s (stepItems p s c t items)
+fair-items : (p : Program) (s : State) (c t : ℕ) (items : List Item)
+    → Fair s (stepItems p s c t items)
 unfolding ends drops goesBack
 fair-items p s c t [] = fair-accept (turn p s c t []) _ none
 fair-items p s c t (run x ∷ items) = fair-statement (turn p s c t items) x none
@@ -123,7 +144,9 @@ fair-instant s c (t ∷ ts) es = record { kept = λ n. absurd (n refl); own = λ
 
 fair-scheduler : (p : Program) (s : State) (c : ℕ) (ts : List ℕ) → Fair s (stepScheduler p s c ts)
 unfolding endInstant
-fair-scheduler p s c [] = let es = schedulerAt s c .next in fair-instant s c (readyThreads (s .threads) es) (stillWaiting (s .threads) es)
+fair-scheduler p s c [] =
+    let es = schedulerAt s c .next in
+    fair-instant s c (readyThreads (s .threads) es) (stillWaiting (s .threads) es)
 fair-scheduler p s c (t ∷ ts) = fair-thread p s c t
 
 pub fair : (p : Program) (s : State) (c : ℕ) → Fair s (step p s c)

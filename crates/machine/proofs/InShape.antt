@@ -1,4 +1,5 @@
--- The words of a state in shape are in range, and words in range say a state in shape. Assumes nothing.
+-- The words of a state in shape are in range, and words in range say a state in shape. Assumes
+-- nothing.
 use Prim.Native.Nat.{ℕ, suc, _+_, _*_, _-_, _/_, _%_, _^_, _<_, _≤_}
 use mathlib.Core.Path.{_≡_, refl, sym, ap, _∙_, subst}
 use mathlib.Core.List.{List, map, reverse}
@@ -14,21 +15,35 @@ use Rattle.language.specs.Places.{hasPlace}
 use Rattle.language.specs.declared.frame.Frame.{Frame}
 use Rattle.program.specs.Trees.{frameAt, statementAt, rootS}
 use Rattle.program.proofs.Roots.{statement-root}
-use Rattle.machine.specs.State.{State, Stored, Item, run, back, drop, Thread, Entry, plain, waiting, Scheduler, noThread, noScheduler, noCell}
+use Rattle.machine.specs.State.{State, Stored, Item, run, back, drop, Thread, Entry, plain}
+use Rattle.machine.specs.State.{waiting, Scheduler, noThread, noScheduler, noCell}
 use Rattle.machine.specs.declared.value.Value.{Value}
 use Rattle.machine.specs.declared.value.Value.the-variants.{Number, Truth, Cell}
-use Rattle.machine.specs.Words.{bit, valueWord, wordValue, itemWord, wordItem, entryWord, wordEntry, cellWord, wordCell, listWord, threadWord, schedulerWord, wordsAt, threadFrom, schedulerFrom, unpack, pack}
-use Rattle.machine.specs.inner.Ranges.{itemInRange, valueInRange, entryInRange, threadInRange, cellInRange, threadWordInRange, schedulerInRange, inRange}
-use Rattle.machine.specs.Shapes.{isStatement, ownerInRange, ValueFits, number, truth, cell, ItemFits, run-fits, back-fits, drop-fits, EntryFits, plain-fits, waiting-fits, IsThread, ThreadFits, SchedulerFits, CellFits, Shaped}
+use Rattle.machine.specs.Words.{bit, valueWord, wordValue, itemWord, wordItem, entryWord}
+use Rattle.machine.specs.Words.{wordEntry, cellWord, wordCell, listWord, threadWord}
+use Rattle.machine.specs.Words.{schedulerWord, wordsAt, threadFrom, schedulerFrom, unpack}
+use Rattle.machine.specs.Words.{pack}
+use Rattle.machine.specs.inner.Ranges.{itemInRange, valueInRange, entryInRange, threadInRange}
+use Rattle.machine.specs.inner.Ranges.{cellInRange, threadWordInRange, schedulerInRange}
+use Rattle.machine.specs.inner.Ranges.{inRange}
+use Rattle.machine.specs.Shapes.{isStatement, ownerInRange, ValueFits, number, truth, cell}
+use Rattle.machine.specs.Shapes.{ItemFits, run-fits, back-fits, drop-fits, EntryFits}
+use Rattle.machine.specs.Shapes.{plain-fits, waiting-fits, IsThread, ThreadFits}
+use Rattle.machine.specs.Shapes.{SchedulerFits, CellFits, Shaped}
 use Rattle.machine.proofs.Tests.{and-both}
 use Rattle.machine.proofs.Lists.{all-getD, all-imply, all-map, all-reverse}
 use Rattle.machine.proofs.Regions.{by-thread-word, by-scheduler-word}
 use Rattle.machine.proofs.WordLaws.{tab-length, tab-at, Says, thread-says, scheduler-says}
 use Rattle.machine.proofs.Blocks.{says-pack}
-use Rattle.machine.proofs.Round.{thread-0, thread-1, thread-2, thread-continuation, thread-variables, scheduler-active, scheduler-next, value-below}
-use Rattle.machine.proofs.Ranges.{InRange, Space, of-space, range-place, range-starter, range-lives, range-items, range-variables, range-active, range-next, in-range, range-in}
+use Rattle.machine.proofs.Round.{thread-0, thread-1, thread-2, thread-continuation}
+use Rattle.machine.proofs.Round.{thread-variables, scheduler-active, scheduler-next}
+use Rattle.machine.proofs.Round.{value-below}
+use Rattle.machine.proofs.Ranges.{InRange, Space, of-space, range-place, range-starter}
+use Rattle.machine.proofs.Ranges.{range-lives, range-items, range-variables, range-active}
+use Rattle.machine.proofs.Ranges.{range-next, in-range, range-in}
 use Rattle.machine.specs.Validity.{InRangeComputes}
-use Rattle.machine.proofs.Valid.{packed, list-all, items-space, values-space, active-space, next-space, no-thread-word, no-scheduler-word, no-cell-word}
+use Rattle.machine.proofs.Valid.{packed, list-all, items-space, values-space, active-space}
+use Rattle.machine.proofs.Valid.{next-space, no-thread-word, no-scheduler-word, no-cell-word}
 
 -- ---- single words of a state in shape are in range
 
@@ -49,7 +64,8 @@ value-in (Cell c) (cell h) =
     if-no _ _ (le-ltb (2 * 2 ^ 32 + c) (2 ^ 32) (omega arith)) ∙ if-no _ _ (le-ltb (2 * 2 ^ 32 + c) (2 * 2 ^ 32) (omega arith))
     ∙ le-leb (2 * 2 ^ 32 + c) (2 * 2 ^ 32 + 255) (omega arith)
 
-item-in : (fs : List Frame) (n : ℕ) (x : Item) → ItemFits fs n x → itemInRange fs n (itemWord x) ≡ true
+item-in : (fs : List Frame) (n : ℕ) (x : Item) → ItemFits fs n x
+    → itemInRange fs n (itemWord x) ≡ true
 unfolding itemInRange itemWord
 item-in fs n (run x) (run-fits h k e) = if-yes _ _ (lt-ltb (rootS x) 1024 h) ∙ k
 item-in fs n (back q) (back-fits h k) =
@@ -59,7 +75,8 @@ item-in fs n drop drop-fits = if-no _ _ refl ∙ if-no _ _ refl
 
 entry-in : (e : Entry) → EntryFits e → entryInRange (entryWord e) ≡ true
 unfolding entryInRange entryWord
-entry-in (plain t) (plain-fits h) = let l = h .1 in if-yes _ _ (lt-ltb t 128 (omega arith)) ∙ thread-in t h
+entry-in (plain t) (plain-fits h) =
+    let l = h .1 in if-yes _ _ (lt-ltb t 128 (omega arith)) ∙ thread-in t h
 entry-in (waiting t u) (waiting-fits h g) =
     let l = h .1 in
     let m = g .0 in
@@ -122,7 +139,8 @@ unfolding entryInRange wordEntry
 in-entry v h = first (ltb v 128) refl
   where
     first : (b : Bool) → ltb v 128 ≡ b → EntryFits (wordEntry v)
-    first true e = subst EntryFits (sym (if-yes _ _ e)) (plain-fits (in-thread v (sym (if-yes _ _ e) ∙ h)))
+    first true e =
+        subst EntryFits (sym (if-yes _ _ e)) (plain-fits (in-thread v (sym (if-yes _ _ e) ∙ h)))
     first false e =
         let p = and-true (threadInRange (v % 128)) (threadInRange (v / 128)) (sym (if-no _ _ e) ∙ h) in
         subst EntryFits (sym (if-no _ _ e)) (waiting-fits (in-thread (v % 128) (p .0)) (in-thread (v / 128) (p .1)))
@@ -135,13 +153,15 @@ in-cell n v h =
 
 -- ---- a list in its space
 
-list-space : (test : ℕ → Bool) (w : List ℕ) (i m : ℕ) (ws : List ℕ) → ((j : ℕ) → j < suc m → getD w (i + j) 0 ≡ listWord ws j)
+list-space : (test : ℕ → Bool) (w : List ℕ) (i m : ℕ) (ws : List ℕ)
+    → ((j : ℕ) → j < suc m → getD w (i + j) 0 ≡ listWord ws j)
     → length ws ≤ m → All (λ (v : ℕ). test v ≡ true) ws → Space test w i m
 list-space test w i m ws says fits all =
     record {
       room = rw long fits;
       used = λ j g. let l : j < length ws = rw (← long) g in ap test (says (suc j) (omega arith)) ∙ all-getD (λ (v : ℕ). test v ≡ true) ws 0 j all l;
-      unused = λ j l g. says (suc j) (omega arith) ∙ List·getD-eq-default ws 0 {n = j} (rw (← long) l);
+      unused =
+          λ j l g. says (suc j) (omega arith) ∙ List·getD-eq-default ws 0 {n = j} (rw (← long) l);
     }
   where
     long : getD w i 0 ≡ length ws
@@ -149,7 +169,8 @@ list-space test w i m ws says fits all =
 
 -- ---- the words of a state in shape
 module _ (fs : List Frame) (n : ℕ) (w : List ℕ) (s : State) (h : Says w s) (z : Shaped fs n s) where
-  thread-range : (k j : ℕ) → k < 64 → j < 55 → ThreadFits fs n (getD (s .threads) k noThread) → threadWordInRange fs n w (1042 + 55 * k) j ≡ true
+  thread-range : (k j : ℕ) → k < 64 → j < 55 → ThreadFits fs n (getD (s .threads) k noThread)
+      → threadWordInRange fs n w (1042 + 55 * k) j ≡ true
   thread-range k j a b f =
       by-thread-word (λ (i : ℕ). threadWordInRange fs n w (1042 + 55 * k) i ≡ true)
       (range-place fs n w (1042 + 55 * k) ∙ ap (hasPlace n) (thread-says h k 0 (1042 + 55 * k) a (omega arith) (omega arith) ∙ thread-0 x) ∙ f .place)
@@ -184,9 +205,11 @@ module _ (fs : List Frame) (n : ℕ) (w : List ℕ) (s : State) (h : Says w s) (
       lives = rw (thread-says h k 2 (1042 + 55 * k + 2) a (omega arith) refl ∙ thread-2 x) (bit-le (not (x .ended)))
 
       starts : getD w (1042 + 55 * k + 1) 0 ≤ 64
-      starts = rw (thread-says h k 1 (1042 + 55 * k + 1) a (omega arith) refl ∙ thread-1 x) (f .starter)
+      starts =
+          rw (thread-says h k 1 (1042 + 55 * k + 1) a (omega arith) refl ∙ thread-1 x) (f .starter)
 
-  scheduler-range : (k j : ℕ) → k < 8 → j < 130 → SchedulerFits (getD (s .schedulers) k noScheduler) → schedulerInRange w (2 + 130 * k) j ≡ true
+  scheduler-range : (k j : ℕ) → k < 8 → j < 130 → SchedulerFits (getD (s .schedulers) k noScheduler)
+      → schedulerInRange w (2 + 130 * k) j ≡ true
   scheduler-range k j a b f =
       by-scheduler-word (λ (i : ℕ). schedulerInRange w (2 + 130 * k) i ≡ true)
       (λ i g. range-active w (2 + 130 * k) i g ∙ of-space threadInRange w (2 + 130 * k) 64 active i g)
@@ -230,7 +253,8 @@ module _ (fs : List Frame) (n : ℕ) (w : List ℕ) (s : State) (h : Says w s) (
       }
 
 -- so a state in shape is never 14
-pub shaped-in-range : (fs : List Frame) (n : ℕ) (s : State) → Shaped fs n s → inRange fs n (pack s) ≡ true
+pub shaped-in-range : (fs : List Frame) (n : ℕ) (s : State) → Shaped fs n s
+    → inRange fs n (pack s) ≡ true
 shaped-in-range fs n s z = range-in fs n (pack s) (says-range fs n (pack s) s (says-pack s) z)
 
 -- ---- the state of words in range
@@ -276,7 +300,8 @@ module _ (fs : List Frame) (n : ℕ) (w : List ℕ) (h : InRange fs n w) where
       record {
         threads-room = rw (tab-length (getD w 0 0) (threadFrom fs w) 0) (h .threads-room);
         schedulers-room = rw (tab-length n (schedulerFrom w) 0) m;
-        cells-room = rw (tab-length (getD w 1 0) (λ c. wordCell (getD w (4562 + c) 0)) 0) (h .cells-room);
+        cells-room =
+            rw (tab-length (getD w 1 0) (λ c. wordCell (getD w (4562 + c) 0)) 0) (h .cells-room);
         count = tab-length n (schedulerFrom w) 0;
         threads = λ k g.
             let l : k < getD w 0 0 = rw (tab-length (getD w 0 0) (threadFrom fs w) 0) at g in
@@ -290,7 +315,8 @@ module _ (fs : List Frame) (n : ℕ) (w : List ℕ) (h : InRange fs n w) where
       }
 
 -- words in range say a state in shape
-pub in-range-shaped : (fs : List Frame) (n : ℕ) (w : List ℕ) → n ≤ 8 → inRange fs n w ≡ true → Shaped fs n (unpack fs n w)
+pub in-range-shaped : (fs : List Frame) (n : ℕ) (w : List ℕ) → n ≤ 8 → inRange fs n w ≡ true
+    → Shaped fs n (unpack fs n w)
 in-range-shaped fs n w m e = range-shaped fs n w (in-range fs n w e) m
 
 -- ---- 14: words are in range exactly where they are those of a state in shape

@@ -1,10 +1,12 @@
--- Each choice keeps the state in shape, so a state reached from a fresh one is never 14: in a file as refusals 1 to 7 leave it, `FileFits`, which crate reach proves of them. Assumes nothing.
+-- Each choice keeps the state in shape, so a state reached from a fresh one is never 14: in a file
+-- as refusals 1 to 7 leave it, `FileFits`, which crate reach proves of them. Assumes nothing.
 use Prim.Native.Nat.{ℕ, suc, zero, _+_, _-_, _<_, _≤_}
 use mathlib.Core.Path.{_≡_, refl, sym, ap, _∙_, subst}
 use mathlib.Core.List.{List, [], _∷_, map}
 use mathlib.Core.Bool.{Bool, true, false, not, _&&_}
 use native.Mathlib.Omega.{arith}
-use lib.ListN.{getD, length, set, replicate, length-set, length-append, length-map, length-replicate, List·getD-eq-default}
+use lib.ListN.{getD, length, set, replicate, length-set, length-append, length-map}
+use lib.ListN.{length-replicate, List·getD-eq-default}
 use lib.Dec.{ltb, leb, eqb}
 use borrow.Author.Tests.{ltb-true, ltb-false, eqb-true, leb-true, leb-false, le-leb, not-false}
 use Rattle.basics.specs.Members.{All, none, more}
@@ -12,20 +14,32 @@ use Rattle.basics.proofs.Ifs.{if-all, and-true}
 use Rattle.language.specs.Places.{hasPlace}
 use Rattle.language.specs.declared.frame.Frame.{Frame}
 use Rattle.language.proofs.PlaceLaws.{has-place}
-use Rattle.program.specs.Trees.{Expr, Stmt, nothing, seq, doAt, start, startWait, cooperate, letIn, store, ifElse, while, frameAt, statementAt, rootS}
+use Rattle.program.specs.Trees.{Expr, Stmt, nothing, seq, doAt, start, startWait, cooperate, letIn}
+use Rattle.program.specs.Trees.{store, ifElse, while, frameAt, statementAt, rootS}
 use Rattle.program.specs.Programs.{Program, SharedCell, moduleAt, mainOf}
-use Rattle.machine.specs.State.{State, Item, run, back, drop, Thread, Entry, plain, waiting, Scheduler, noThread, noScheduler, noCell, threadAt, setNth, schedulerAt, withScheduler, withNew, enlist}
+use Rattle.machine.specs.State.{State, Item, run, back, drop, Thread, Entry, plain, waiting}
+use Rattle.machine.specs.State.{Scheduler, noThread, noScheduler, noCell, threadAt, setNth}
+use Rattle.machine.specs.State.{schedulerAt, withScheduler, withNew, enlist}
 use Rattle.machine.specs.Fresh.{fresh, firstCell, mainThread, homeScheduler}
 use Rattle.machine.specs.Waits.{isReady, threadOf, keepIf, readyThreads, stillWaiting}
 use Rattle.machine.specs.Evaluation.{Here, Evaluated, Evaluation, eval, storing}
-use Rattle.machine.specs.Turns.{Spaces, holds, stateSpaces, Stepped, Turn, here, continuation, variables, unlinkedHere, evaluator, behind, goOn, withValue, withValues, byCondition, selfAt, settled, isSchedulerOf, behindFirst, leave, room, fits, stay, move, goTo}
-use Rattle.machine.specs.Statements.{ends, drops, goesBack, stepNothing, stepSeq, stepDo, started, newThread, withStarted, starting, stepStart, startedWait, stepStartWait, stepCooperate, stepLet, stepStore, stepIf, stepWhile, stepStatement}
+use Rattle.machine.specs.Turns.{Spaces, holds, stateSpaces, Stepped, Turn, here, continuation}
+use Rattle.machine.specs.Turns.{variables, unlinkedHere, evaluator, behind, goOn, withValue}
+use Rattle.machine.specs.Turns.{withValues, byCondition, selfAt, settled, isSchedulerOf}
+use Rattle.machine.specs.Turns.{behindFirst, leave, room, fits, stay, move, goTo}
+use Rattle.machine.specs.Statements.{ends, drops, goesBack, stepNothing, stepSeq, stepDo}
+use Rattle.machine.specs.Statements.{started, newThread, withStarted, starting, stepStart}
+use Rattle.machine.specs.Statements.{startedWait, stepStartWait, stepCooperate, stepLet}
+use Rattle.machine.specs.Statements.{stepStore, stepIf, stepWhile, stepStatement}
 use Rattle.machine.specs.inner.Parts.{turn, stepItems, stepThread, stepScheduler}
-use Rattle.machine.specs.Steps.{stepThreadWithin, turnInstant, endInstant, isUnlinked, step, stepWithin}
+use Rattle.machine.specs.Steps.{stepThreadWithin, turnInstant, endInstant, isUnlinked, step}
+use Rattle.machine.specs.Steps.{stepWithin}
 use Rattle.machine.specs.Runs.{stateFrom, stateAfter}
 use Rattle.machine.specs.Words.{pack}
 use Rattle.machine.specs.inner.Ranges.{inRange}
-use Rattle.machine.specs.Shapes.{isStatement, ValueFits, ItemFits, run-fits, back-fits, drop-fits, IsThread, EntryFits, plain-fits, waiting-fits, ThreadFits, SchedulerFits, CellFits, Shaped}
+use Rattle.machine.specs.Shapes.{isStatement, ValueFits, ItemFits, run-fits, back-fits}
+use Rattle.machine.specs.Shapes.{drop-fits, IsThread, EntryFits, plain-fits, waiting-fits}
+use Rattle.machine.specs.Shapes.{ThreadFits, SchedulerFits, CellFits, Shaped}
 use Rattle.machine.specs.declared.value.Value.{Value}
 use Rattle.machine.specs.declared.value.Value.the-variants.{Number, Truth, Cell}
 use Rattle.machine.specs.declared.value.Outcome.{Outcome}
@@ -33,7 +47,8 @@ use Rattle.machine.specs.declared.value.Outcome.the-variants.{Is, Foreig
 use Rattle.machine.proofs.Lists.{all-getD, all-map, all-append, all-take}
 use Rattle.machine.proofs.Space.{leave-threads, nth-length, parted}
 use Rattle.machine.proofs.InShape.{shaped-in-range}
-use Rattle.machine.proofs.KeptCells.{each-set, each-snoc, CellsFit, HereFits, ExprFits, OutcomeFits, is-value, EvalFits, fit-eval, fit-storing}
+use Rattle.machine.proofs.KeptCells.{each-set, each-snoc, CellsFit, HereFits, ExprFits}
+use Rattle.machine.proofs.KeptCells.{OutcomeFits, is-value, EvalFits, fit-eval, fit-storing}
 
 -- ---- a file as refusals 1 to 7 leave it
 
@@ -41,16 +56,22 @@ use Rattle.machine.proofs.KeptCells.{each-set, each-snoc, CellsFit, Her
 pub data Parts (fs : List Frame) (n : ℕ) : Stmt → Type 0 where
   of-nothing : {i : ℕ} → Parts fs n (Stmt.nothing i)
   of-cooperate : {i : ℕ} → Parts fs n (Stmt.cooperate i)
-  of-seq : {i : ℕ} {a b : Stmt} → ItemFits fs n (run a) → ItemFits fs n (run b) → Parts fs n (Stmt.seq i a b)
-  of-do : {i q : ℕ} {a : Stmt} → hasPlace n q ≡ true → ItemFits fs n (run a) → Parts fs n (Stmt.doAt i q a)
+  of-seq : {i : ℕ} {a b : Stmt} → ItemFits fs n (run a) → ItemFits fs n (run b)
+      → Parts fs n (Stmt.seq i a b)
+  of-do : {i q : ℕ} {a : Stmt} → hasPlace n q ≡ true → ItemFits fs n (run a)
+      → Parts fs n (Stmt.doAt i q a)
   of-start : {i m : ℕ} {xs : List Expr} → All (ExprFits n) xs → Parts fs n (Stmt.start i m xs)
   of-wait : {i m : ℕ} {xs : List Expr} → All (ExprFits n) xs → Parts fs n (Stmt.startWait i m xs)
-  of-let : {i : ℕ} {x : Expr} {a : Stmt} → ExprFits n x → ItemFits fs n (run a) → Parts fs n (Stmt.letIn i x a)
+  of-let : {i : ℕ} {x : Expr} {a : Stmt} → ExprFits n x → ItemFits fs n (run a)
+      → Parts fs n (Stmt.letIn i x a)
   of-store : {i : ℕ} {x y : Expr} → ExprFits n x → ExprFits n y → Parts fs n (Stmt.store i x y)
-  of-if : {i : ℕ} {x : Expr} {a b : Stmt} → ExprFits n x → ItemFits fs n (run a) → ItemFits fs n (run b) → Parts fs n (Stmt.ifElse i x a b)
-  of-while : {i : ℕ} {x : Expr} {a : Stmt} → ExprFits n x → ItemFits fs n (run a) → Parts fs n (Stmt.while i x a)
+  of-if : {i : ℕ} {x : Expr} {a b : Stmt} → ExprFits n x → ItemFits fs n (run a)
+      → ItemFits fs n (run b) → Parts fs n (Stmt.ifElse i x a b)
+  of-while : {i : ℕ} {x : Expr} {a : Stmt} → ExprFits n x → ItemFits fs n (run a)
+      → Parts fs n (Stmt.while i x a)
 
--- what the spaces need of a file of n schedulers: no number of it is out of range, and each statement that a continuation can hold is one of its frames
+-- what the spaces need of a file of n schedulers: no number of it is out of range, and each
+-- statement that a continuation can hold is one of its frames
 pub record FileFits (fs : List Frame) (P : Program) (n : ℕ) : Type 0 where
   pub schedulers : P .schedulers ≡ n
   pub some-scheduler : 1 ≤ n
@@ -58,12 +79,15 @@ pub record FileFits (fs : List Frame) (P : Program) (n : ℕ) : Type 0 where
   pub shared-room : length (P .shared) ≤ 256
   pub shared : All (λ (x : SharedCell). CellFits n (firstCell x)) (P .shared)
   pub some-module : 1 ≤ length (P .modules)
-  pub bodies : (m : ℕ) → m < length (P .modules) → ItemFits fs n (run (moduleAt P m .body)) × (length (moduleAt P m .types) ≤ 25)
-  pub statements : (i : ℕ) → i < 1024 → isStatement (frameAt fs i .kind) ≡ true → Parts fs n (statementAt fs i)
+  pub bodies : (m : ℕ) → m < length (P .modules)
+      → ItemFits fs n (run (moduleAt P m .body)) × (length (moduleAt P m .types) ≤ 25)
+  pub statements : (i : ℕ) → i < 1024 → isStatement (frameAt fs i .kind) ≡ true
+      → Parts fs n (statementAt fs i)
 
 -- ---- how many entries next lists have, when a scheduler is replaced
 
-next-same : (xs : List Scheduler) (i j : ℕ) (y : Scheduler) → length (y .next) ≡ length (getD xs i noScheduler .next)
+next-same : (xs : List Scheduler) (i j : ℕ) (y : Scheduler)
+    → length (y .next) ≡ length (getD xs i noScheduler .next)
     → length (getD (set xs i y) j noScheduler .next) ≡ length (getD xs j noScheduler .next)
 next-same [] i j y e = refl
 next-same (x ∷ xs) zero zero y e = e
@@ -71,7 +95,8 @@ next-same (x ∷ xs) zero (suc j) y e = refl
 next-same (x ∷ xs) (suc i) zero y e = refl
 next-same (x ∷ xs) (suc i) (suc j) y e = next-same xs i j y e
 
-next-more : (xs : List Scheduler) (i : ℕ) (y : Scheduler) → length (y .next) ≡ length (getD xs i noScheduler .next) + 1
+next-more : (xs : List Scheduler) (i : ℕ) (y : Scheduler)
+    → length (y .next) ≡ length (getD xs i noScheduler .next) + 1
     → length (getD (set xs i y) i noScheduler .next) ≤ length (getD xs i noScheduler .next) + 1
 next-more [] i y e = omega arith
 next-more (x ∷ xs) zero y e = omega arith
@@ -88,7 +113,8 @@ module _ (fs : List Frame) (P : Program) (n : ℕ) (F : FileFits fs P n) where
   -- ---- the parts of a state in shape, and the changes of them that a step makes
 
   none-fits : SchedulerFits noScheduler
-  none-fits = record { active-room = omega arith; next-room = omega arith; threads = none; entries = none }
+  none-fits =
+      record { active-room = omega arith; next-room = omega arith; threads = none; entries = none }
 
   pub scheduler-fits : (s : State) → Shaped fs n s → (q : ℕ) → SchedulerFits (schedulerAt s q)
   scheduler-fits s z q = go (ltb (q - 2) (length (s .schedulers))) refl
@@ -97,7 +123,8 @@ module _ (fs : List Frame) (P : Program) (n : ℕ) (F : FileFits fs P n) where
       go true e = z .schedulers (q - 2) (ltb-true (q - 2) (length (s .schedulers)) e)
       go false e = subst SchedulerFits (sym (List·getD-eq-default (s .schedulers) noScheduler {n = q - 2} (ltb-false (q - 2) (length (s .schedulers)) e))) none-fits
 
-  with-scheduler : (s : State) (q : ℕ) (y : Scheduler) → Shaped fs n s → SchedulerFits y → Shaped fs n (withScheduler q y s)
+  with-scheduler : (s : State) (q : ℕ) (y : Scheduler) → Shaped fs n s → SchedulerFits y
+      → Shaped fs n (withScheduler q y s)
   with-scheduler s q y z f =
       let l = length-set (s .schedulers) (q - 2) y in
       record {
@@ -106,11 +133,13 @@ module _ (fs : List Frame) (P : Program) (n : ℕ) (F : FileFits fs P n) where
         cells-room = z .cells-room;
         count = l ∙ z .count;
         threads = z .threads;
-        schedulers = each-set SchedulerFits (s .schedulers) (q - 2) y noScheduler (z .schedulers) (λ _. f);
+        schedulers =
+            each-set SchedulerFits (s .schedulers) (q - 2) y noScheduler (z .schedulers) (λ _. f);
         cells = z .cells;
       }
 
-  enlist-fits : (s : State) (q : ℕ) (e : Entry) → Shaped fs n s → EntryFits e → length (schedulerAt s q .next) + 1 ≤ 64 → Shaped fs n (enlist q e s)
+  enlist-fits : (s : State) (q : ℕ) (e : Entry) → Shaped fs n s → EntryFits e
+      → length (schedulerAt s q .next) + 1 ≤ 64 → Shaped fs n (enlist q e s)
   unfolding enlist
   enlist-fits s q e z f r =
       let x = scheduler-fits s z q in
@@ -118,7 +147,8 @@ module _ (fs : List Frame) (P : Program) (n : ℕ) (F : FileFits fs P n) where
       with-scheduler s q _ z
       (record { active-room = x .active-room; next-room = omega arith; threads = x .threads; entries = all-append (x .entries) (more f none) })
 
-  with-new : (s : State) (x : Thread) → Shaped fs n s → ThreadFits fs n x → length (s .threads) < 64 → Shaped fs n (withNew x s)
+  with-new : (s : State) (x : Thread) → Shaped fs n s → ThreadFits fs n x → length (s .threads) < 64
+      → Shaped fs n (withNew x s)
   with-new s x z f r =
       let l = length-append (s .threads) (x ∷ []) in
       record {
@@ -145,7 +175,9 @@ module _ (fs : List Frame) (P : Program) (n : ℕ) (F : FileFits fs P n) where
   Keeps r = Shaped fs n (r .state)
 
   -- the acting thread replaced, where it is there
-  settled-fits : (u : Turn) (x : Thread) → Shaped fs n (u .state) → CellsFit n (u .cells) → ((i : ℕ) → u .thread ≡ suc i → i < length (u .state .threads) → ThreadFits fs n x) → Shaped fs n (settled u x)
+  settled-fits : (u : Turn) (x : Thread) → Shaped fs n (u .state) → CellsFit n (u .cells)
+      → ((i : ℕ) → u .thread ≡ suc i → i < length (u .state .threads) → ThreadFits fs n x)
+      → Shaped fs n (settled u x)
   settled-fits u x z c f = record {
     threads-room = at (u .thread) (λ (l : List Thread). length l ≤ 64) (z .threads-room) (λ i q. rw (length-set (u .state .threads) i x) (z .threads-room));
     schedulers-room = z .schedulers-room;
@@ -157,11 +189,14 @@ module _ (fs : List Frame) (P : Program) (n : ℕ) (F : FileFits fs P n) where
     cells = c .each;
   }
     where
-      at : (t : ℕ) (Q : List Thread → Type 0) → Q (u .state .threads) → ((i : ℕ) → t ≡ suc i → Q (set (u .state .threads) i x)) → Q (setNth (u .state .threads) t x)
+      at : (t : ℕ) (Q : List Thread → Type 0) → Q (u .state .threads)
+          → ((i : ℕ) → t ≡ suc i → Q (set (u .state .threads) i x))
+          → Q (setNth (u .state .threads) t x)
       at zero Q a b = a
       at (suc i) Q a b = b i refl
 
-  keeps-settled : (u : Turn) (x : Thread) → TurnFits u → ThreadFits fs n x → Shaped fs n (settled u x)
+  keeps-settled : (u : Turn) (x : Thread) → TurnFits u → ThreadFits fs n x
+      → Shaped fs n (settled u x)
   keeps-settled u x k f = settled-fits u x (k .before) (k .cells) (λ _ _ _. f)
 
   leave-fits : (u : Turn) (s : State) → Shaped fs n s → Shaped fs n (leave u s)
@@ -181,17 +216,21 @@ module _ (fs : List Frame) (P : Program) (n : ℕ) (F : FileFits fs P n) where
       rest [] h = none
       rest (t ∷ l) (more p ps) = ps
 
-  pub leave-next : (u : Turn) (s : State) (q : ℕ) → length (schedulerAt (leave u s) q .next) ≡ length (schedulerAt s q .next)
+  pub leave-next : (u : Turn) (s : State) (q : ℕ)
+      → length (schedulerAt (leave u s) q .next) ≡ length (schedulerAt s q .next)
   unfolding leave
   leave-next u s q =
       if-all (λ (r : State). length (schedulerAt r q .next) ≡ length (schedulerAt s q .next)) (isSchedulerOf (u .program) (u .choice)) _ s
       (λ _. next-same (s .schedulers) (u .choice - 2) (q - 2) _ refl) (λ _. refl)
 
-  pub enlist-next : (s : State) (q : ℕ) (e : Entry) → length (schedulerAt (enlist q e s) q .next) ≤ length (schedulerAt s q .next) + 1
+  pub enlist-next : (s : State) (q : ℕ) (e : Entry)
+      → length (schedulerAt (enlist q e s) q .next) ≤ length (schedulerAt s q .next) + 1
   unfolding enlist
-  enlist-next s q e = next-more (s .schedulers) (q - 2) _ (length-append (schedulerAt s q .next) (e ∷ []))
+  enlist-next s q e =
+      next-more (s .schedulers) (q - 2) _ (length-append (schedulerAt s q .next) (e ∷ []))
 
-  pub has-room : (u : Turn) (m q : ℕ) → u .spaces ≡ stateSpaces → room u m q ≡ true → length (schedulerAt (u .state) q .next) + m ≤ 64
+  pub has-room : (u : Turn) (m q : ℕ) → u .spaces ≡ stateSpaces → room u m q ≡ true
+      → length (schedulerAt (u .state) q .next) + m ≤ 64
   unfolding room
   has-room u m q s e =
       let l = length (schedulerAt (u .state) q .next) + m in
@@ -200,7 +239,9 @@ module _ (fs : List Frame) (P : Program) (n : ℕ) (F : FileFits fs P n) where
 
   -- ---- where a thread goes
 
-  pub self-fits : (u : Turn) (q : ℕ) (items : List Item) (vars : List Value) → TurnFits u → hasPlace n q ≡ true → All (ItemFits fs n) items → All ValueFits vars → fits (u .spaces) items vars ≡ true
+  pub self-fits : (u : Turn) (q : ℕ) (items : List Item) (vars : List Value) → TurnFits u
+      → hasPlace n q ≡ true → All (ItemFits fs n) items → All ValueFits vars
+      → fits (u .spaces) items vars ≡ true
       → ThreadFits fs n (selfAt u q items vars)
   unfolding fits
   self-fits u q items vars k p i v e =
@@ -211,12 +252,14 @@ module _ (fs : List Frame) (P : Program) (n : ℕ) (F : FileFits fs P n) where
       let b = leb-true (length vars) _ (l .1) in
       record { place = p; starter = k .self .starter; items-room = omega arith; variables-room = omega arith; items = i; values = v }
 
-  keeps-stay : (u : Turn) (items : List Item) (vars : List Value) → TurnFits u → All (ItemFits fs n) items → All ValueFits vars → Keeps (stay u items vars)
+  keeps-stay : (u : Turn) (items : List Item) (vars : List Value) → TurnFits u
+      → All (ItemFits fs n) items → All ValueFits vars → Keeps (stay u items vars)
   unfolding stay
   keeps-stay u items vars k i v =
       if-all Keeps (fits (u .spaces) items vars) _ _ (λ e. keeps-settled u _ k (self-fits u (here u) items vars k (k .self .place) i v e)) (λ _. k .before)
 
-  keeps-move : (u : Turn) (q : ℕ) (items : List Item) → TurnFits u → hasPlace n q ≡ true → All (ItemFits fs n) items → Keeps (move u q items)
+  keeps-move : (u : Turn) (q : ℕ) (items : List Item) → TurnFits u → hasPlace n q ≡ true
+      → All (ItemFits fs n) items → Keeps (move u q items)
   unfolding move
   keeps-move u q items k p i =
       if-all Keeps (not (fits (u .spaces) items (variables u))) _ _ (λ _. k .before)
@@ -227,7 +270,8 @@ module _ (fs : List Frame) (P : Program) (n : ℕ) (F : FileFits fs P n) where
       enlist-fits (leave u (settled u (selfAt u q items (variables u)))) q (plain (u .thread)) z (plain-fits (k .thread)) (omega arith))
       (λ _. k .before)))
 
-  keeps-goTo : (u : Turn) (q : ℕ) (items : List Item) → TurnFits u → hasPlace n q ≡ true → All (ItemFits fs n) items → Keeps (goTo u q items)
+  keeps-goTo : (u : Turn) (q : ℕ) (items : List Item) → TurnFits u → hasPlace n q ≡ true
+      → All (ItemFits fs n) items → Keeps (goTo u q items)
   unfolding goTo
   keeps-goTo u q items k p i = if-all Keeps (eqb q (here u)) _ _ (λ _. keeps-stay u items (variables u) k i (k .self .values)) (λ _. keeps-move u q items k p i)
 
@@ -236,28 +280,34 @@ module _ (fs : List Frame) (P : Program) (n : ℕ) (F : FileFits fs P n) where
   pub here-fits : (u : Turn) → TurnFits u → HereFits (evaluator u)
   here-fits u k = record { thread = k .thread; values = k .self .values; shared = subst (λ (p : Program). length (p .shared) ≤ 256) (sym (k .program)) (F .shared-room) }
 
-  keeps-goOn : (u : Turn) (o : Outcome) (f : Value → Turn → Stepped) → TurnFits u → OutcomeFits o → ((v : Value) → ValueFits v → Keeps (f v u)) → Keeps (goOn u o f)
+  keeps-goOn : (u : Turn) (o : Outcome) (f : Value → Turn → Stepped) → TurnFits u → OutcomeFits o
+      → ((v : Value) → ValueFits v → Keeps (f v u)) → Keeps (goOn u o f)
   keeps-goOn u (Is v) f k (is-value w) h = h v w
   keeps-goOn u Foreign f k o h = k .before
   keeps-goOn u Spent f k o h = k .before
   keeps-goOn u Stuck f k o h = k .before
 
-  keeps-value : (u : Turn) (m : Here → Evaluation) (f : Value → Turn → Stepped) → TurnFits u → EvalFits n (m (evaluator u) (u .cells))
-      → ((v : Value) (w : Turn) → TurnFits w → ValueFits v → Keeps (f v w)) → Keeps (withValue u m f)
+  keeps-value : (u : Turn) (m : Here → Evaluation) (f : Value → Turn → Stepped) → TurnFits u
+      → EvalFits n (m (evaluator u) (u .cells))
+      → ((v : Value) (w : Turn) → TurnFits w → ValueFits v → Keeps (f v w))
+      → Keeps (withValue u m f)
   keeps-value u m f k e h =
       let r : Evaluated = m (evaluator u) (u .cells) in
       let b : TurnFits (behind u r) = record { before = k .before; cells = e .cells; thread = k .thread; self = k .self; program = k .program; spaces = k .spaces } in
       keeps-goOn (behind u r) (r .outcome) f b (e .outcome) (λ v. h v (behind u r) b)
 
-  keeps-values : (u : Turn) (xs : List Expr) (f : List Value → Turn → Stepped) → TurnFits u → All (ExprFits n) xs
-      → ((vs : List Value) (w : Turn) → TurnFits w → All ValueFits vs → Keeps (f vs w)) → Keeps (withValues u xs f)
+  keeps-values : (u : Turn) (xs : List Expr) (f : List Value → Turn → Stepped) → TurnFits u
+      → All (ExprFits n) xs
+      → ((vs : List Value) (w : Turn) → TurnFits w → All ValueFits vs → Keeps (f vs w))
+      → Keeps (withValues u xs f)
   unfolding withValues
   keeps-values u [] f k none h = h [] u k none
   keeps-values u (x ∷ xs) f k (more e es) h =
       keeps-value u (λ i. eval i x) _ k (fit-eval (evaluator u) (u .cells) (here-fits u k) (k .cells) e)
       (λ v w j p. keeps-values w xs _ j es (λ vs y b q. h (v ∷ vs) y b (more p q)))
 
-  keeps-by : (u : Turn) (v : Value) (a b : Stepped) → TurnFits u → Keeps a → Keeps b → Keeps (byCondition u v a b)
+  keeps-by : (u : Turn) (v : Value) (a b : Stepped) → TurnFits u → Keeps a → Keeps b
+      → Keeps (byCondition u v a b)
   keeps-by u (Truth true) a b k f g = f
   keeps-by u (Truth false) a b k f g = g
   keeps-by u (Number m) a b k f g = k .before
@@ -279,7 +329,9 @@ module _ (fs : List Frame) (P : Program) (n : ℕ) (F : FileFits fs P n) where
       (λ d. f (leb-false (length (u .program .modules)) m a) (eqb-true (length vs) (length (moduleAt (u .program) m .types)) (not-false _ b)) (not-false (room u 1 (here u)) c)
       (leb-false 64 (length (u .state .threads)) d))))))
 
-  pub started-fits : (u : Turn) (m : ℕ) (vs : List Value) → TurnFits u → m < length (u .program .modules) → length vs ≡ length (moduleAt (u .program) m .types) → All ValueFits vs
+  pub started-fits : (u : Turn) (m : ℕ) (vs : List Value) → TurnFits u
+      → m < length (u .program .modules) → length vs ≡ length (moduleAt (u .program) m .types)
+      → All ValueFits vs
       → ThreadFits fs n (started u (moduleAt (u .program) m) vs)
   started-fits u m vs k l e v =
       record {
@@ -298,11 +350,14 @@ module _ (fs : List Frame) (P : Program) (n : ℕ) (F : FileFits fs P n) where
   new-is : (u : Turn) → length (u .state .threads) < 64 → IsThread (newThread u)
   new-is u l = (omega arith, omega arith)
 
-  pub settled-length : (u : Turn) (x : Thread) → length (settled u x .threads) ≡ length (u .state .threads)
+  pub settled-length : (u : Turn) (x : Thread)
+      → length (settled u x .threads) ≡ length (u .state .threads)
   settled-length u x = nth-length (u .state .threads) (u .thread) x
 
-  keeps-start : (u : Turn) (m : ℕ) (vs : List Value) → TurnFits u → m < length (u .program .modules) → length vs ≡ length (moduleAt (u .program) m .types) → All ValueFits vs
-      → room u 1 (here u) ≡ true → length (u .state .threads) < 64 → Shaped fs n (withStarted u m vs (settled u (u .self)))
+  keeps-start : (u : Turn) (m : ℕ) (vs : List Value) → TurnFits u → m < length (u .program .modules)
+      → length vs ≡ length (moduleAt (u .program) m .types) → All ValueFits vs
+      → room u 1 (here u) ≡ true → length (u .state .threads) < 64
+      → Shaped fs n (withStarted u m vs (settled u (u .self)))
   keeps-start u m vs k a b v r l =
       let e = settled-length u (u .self) in
       let g = has-room u 1 (here u) (k .spaces) r in
@@ -310,7 +365,8 @@ module _ (fs : List Frame) (P : Program) (n : ℕ) (F : FileFits fs P n) where
       (with-new (settled u (u .self)) _ (keeps-settled u (u .self) k (k .self)) (started-fits u m vs k a b v) (omega arith))
       (plain-fits (new-is u l)) g
 
-  keeps-wait : (u : Turn) (m : ℕ) (vs : List Value) → TurnFits u → m < length (u .program .modules) → length vs ≡ length (moduleAt (u .program) m .types) → All ValueFits vs
+  keeps-wait : (u : Turn) (m : ℕ) (vs : List Value) → TurnFits u → m < length (u .program .modules)
+      → length vs ≡ length (moduleAt (u .program) m .types) → All ValueFits vs
       → length (u .state .threads) < 64 → Keeps (startedWait u m vs)
   unfolding startedWait
   keeps-wait u m vs k a b v l =
@@ -330,7 +386,8 @@ module _ (fs : List Frame) (P : Program) (n : ℕ) (F : FileFits fs P n) where
           let f = ap (length {A = Thread}) (leave-threads u (settled u (u .self))) in
           with-new (leave u (settled u (u .self))) _ (leave-fits u (settled u (u .self)) (keeps-settled u (u .self) k (k .self))) (started-fits u m vs k a b v) (omega arith)
 
-      one : length (schedulerAt (u .state) (here u) .next) + 2 ≤ 64 → length (schedulerAt (withNew (started u (moduleAt (u .program) m) vs) (leave u (settled u (u .self)))) (here u) .next) + 1 ≤ 64
+      one : length (schedulerAt (u .state) (here u) .next) + 2 ≤ 64
+          → length (schedulerAt (withNew (started u (moduleAt (u .program) m) vs) (leave u (settled u (u .self)))) (here u) .next) + 1 ≤ 64
       one g = let e = leave-next u (settled u (u .self)) (here u) in omega arith
 
       two : length (schedulerAt (u .state) (here u) .next) + 2 ≤ 64
@@ -342,10 +399,12 @@ module _ (fs : List Frame) (P : Program) (n : ℕ) (F : FileFits fs P n) where
 
   -- ---- each statement, each item, each thread
 
-  keeps-statement : (u : Turn) (x : Stmt) → TurnFits u → ItemFits fs n (run x) → Parts fs n x → Keeps (stepStatement u x)
+  keeps-statement : (u : Turn) (x : Stmt) → TurnFits u → ItemFits fs n (run x) → Parts fs n x
+      → Keeps (stepStatement u x)
   unfolding stepNothing stepSeq stepDo stepStart stepStartWait stepCooperate stepLet stepStore stepIf stepWhile
   keeps-statement u x k i of-nothing = keeps-stay u _ _ k (k .self .items) (k .self .values)
-  keeps-statement u x k i (of-seq a b) = keeps-stay u _ _ k (more a (more b (k .self .items))) (k .self .values)
+  keeps-statement u x k i (of-seq a b) =
+      keeps-stay u _ _ k (more a (more b (k .self .items))) (k .self .values)
   keeps-statement u x k i (of-do {q = q} p a) =
       if-all Keeps (unlinkedHere u && eqb q 1) _ _ (λ _. k .before)
       (λ _. keeps-goTo u q _ k p (more a (more (back-fits (place-small (here u) (k .self .place)) (k .self .place)) (k .self .items))))
@@ -381,7 +440,9 @@ module _ (fs : List Frame) (P : Program) (n : ℕ) (F : FileFits fs P n) where
       (λ i e l. let f : ThreadFits fs n (threadAt s t) = subst (λ (j : ℕ). ThreadFits fs n (threadAt s j)) (sym e) (z .threads i l) in
       record { place = f .place; starter = f .starter; items-room = omega arith; variables-room = f .variables-room; items = none; values = f .values }))
 
-  turn-fits : (s : State) (c t : ℕ) (items : List Item) → Shaped fs n s → IsThread t → ThreadFits fs n (threadAt s t) → All (ItemFits fs n) items → length items ≤ 25 → TurnFits (turn P s c t items)
+  turn-fits : (s : State) (c t : ℕ) (items : List Item) → Shaped fs n s → IsThread t
+      → ThreadFits fs n (threadAt s t) → All (ItemFits fs n) items → length items ≤ 25
+      → TurnFits (turn P s c t items)
   turn-fits s c t items z h f is l =
       record {
         before = z;
@@ -393,12 +454,14 @@ module _ (fs : List Frame) (P : Program) (n : ℕ) (F : FileFits fs P n) where
       }
 
   -- the acting thread is there, and this is its continuation
-  keeps-items : (s : State) (c t : ℕ) (items : List Item) → Shaped fs n s → IsThread t → ThreadFits fs n (threadAt s t) → All (ItemFits fs n) items → length items ≤ 25
+  keeps-items : (s : State) (c t : ℕ) (items : List Item) → Shaped fs n s → IsThread t
+      → ThreadFits fs n (threadAt s t) → All (ItemFits fs n) items → length items ≤ 25
       → Keeps (stepItems P s c t items)
   unfolding drops goesBack
   keeps-items s c t [] z h f none l = keeps-ends s c t z
   keeps-items s c t (run x ∷ items) z h f (more i is) l = keeps-statement (turn P s c t items) x (turn-fits s c t items z h f is (omega arith)) i (parts-of i)
-  keeps-items s c t (back q ∷ items) z h f (more (back-fits a p) is) l = keeps-goTo (turn P s c t items) q _ (turn-fits s c t items z h f is (omega arith)) p is
+  keeps-items s c t (back q ∷ items) z h f (more (back-fits a p) is) l =
+      keeps-goTo (turn P s c t items) q _ (turn-fits s c t items z h f is (omega arith)) p is
   keeps-items s c t (drop ∷ items) z h f (more i is) l =
       if-all Keeps (eqb (length (threadAt s t .variables)) 0) _ _ (λ _. z)
       (λ _. keeps-stay (turn P s c t items) _ _ (turn-fits s c t items z h f is (omega arith)) is (all-take (length (threadAt s t .variables) - 1) (threadAt s t .variables) (f .values)))
@@ -408,7 +471,8 @@ module _ (fs : List Frame) (P : Program) (n : ℕ) (F : FileFits fs P n) where
   keeps-thread s c zero z h = keeps-ends s c 0 z
   keeps-thread s c (suc i) z h = go (ltb i (length (s .threads))) refl
     where
-      go : (b : Bool) → ltb i (length (s .threads)) ≡ b → Keeps (stepItems P s c (suc i) (threadAt s (suc i) .continuation))
+      go : (b : Bool) → ltb i (length (s .threads)) ≡ b
+          → Keeps (stepItems P s c (suc i) (threadAt s (suc i) .continuation))
       go true e =
           let f = z .threads i (ltb-true i (length (s .threads)) e) in
           keeps-items s c (suc i) (threadAt s (suc i) .continuation) z h f (f .items) (f .items-room)
@@ -418,7 +482,8 @@ module _ (fs : List Frame) (P : Program) (n : ℕ) (F : FileFits fs P n) where
 
   -- ---- the end of an instant
 
-  ready-fits : (ts : List Thread) (es : List Entry) → All EntryFits es → All IsThread (readyThreads ts es)
+  ready-fits : (ts : List Thread) (es : List Entry) → All EntryFits es
+      → All IsThread (readyThreads ts es)
   unfolding readyThreads
   ready-fits ts [] none = none
   ready-fits ts (e ∷ es) (more f fs) = go (isReady ts e) (of e f) (ready-fits ts es fs)
@@ -427,24 +492,30 @@ module _ (fs : List Frame) (P : Program) (n : ℕ) (F : FileFits fs P n) where
       of (plain t) (plain-fits h) = h
       of (waiting t u) (waiting-fits h g) = h
 
-      go : {t : ℕ} {l : List ℕ} (b : Bool) → IsThread t → All IsThread l → All IsThread (keepIf b t l)
+      go : {t : ℕ} {l : List ℕ} (b : Bool) → IsThread t → All IsThread l
+          → All IsThread (keepIf b t l)
       go true p ps = more p ps
       go false p ps = ps
 
-  waiting-still : (ts : List Thread) (es : List Entry) → All EntryFits es → All EntryFits (stillWaiting ts es)
+  waiting-still : (ts : List Thread) (es : List Entry) → All EntryFits es
+      → All EntryFits (stillWaiting ts es)
   unfolding stillWaiting
   waiting-still ts [] none = none
   waiting-still ts (e ∷ es) (more f fs) = go (not (isReady ts e)) f (waiting-still ts es fs)
     where
-      go : {e : Entry} {l : List Entry} (b : Bool) → EntryFits e → All EntryFits l → All EntryFits (keepIf b e l)
+      go : {e : Entry} {l : List Entry} (b : Bool) → EntryFits e → All EntryFits l
+          → All EntryFits (keepIf b e l)
       go true p ps = more p ps
       go false p ps = ps
 
-  keeps-instant : (s : State) (c : ℕ) (ts : List ℕ) (es : List Entry) → Shaped fs n s → All IsThread ts → All EntryFits es → length ts + length es ≤ 64 → Keeps (turnInstant s c ts es)
+  keeps-instant : (s : State) (c : ℕ) (ts : List ℕ) (es : List Entry) → Shaped fs n s
+      → All IsThread ts → All EntryFits es → length ts + length es ≤ 64
+      → Keeps (turnInstant s c ts es)
   keeps-instant s c [] es z a b l = z
   keeps-instant s c (t ∷ ts) es z a b l = with-scheduler s c _ z (record { active-room = omega arith; next-room = omega arith; threads = a; entries = b })
 
-  keeps-scheduler : (s : State) (c : ℕ) (ts : List ℕ) → Shaped fs n s → All IsThread ts → Keeps (stepScheduler P s c ts)
+  keeps-scheduler : (s : State) (c : ℕ) (ts : List ℕ) → Shaped fs n s → All IsThread ts
+      → Keeps (stepScheduler P s c ts)
   unfolding endInstant
   keeps-scheduler s c [] z a =
       let es = schedulerAt s c .next in
@@ -500,7 +571,8 @@ module _ (fs : List Frame) (P : Program) (n : ℕ) (F : FileFits fs P n) where
       home-fits : hasPlace n 2 ≡ true
       home-fits = let o = F .some-scheduler in le-leb 2 (1 + n) (omega arith)
 
-      main : (k : ℕ) → k < 1 → ItemFits fs n (run (mainOf P .body)) → ThreadFits fs n (getD (mainThread P ∷ []) k noThread)
+      main : (k : ℕ) → k < 1 → ItemFits fs n (run (mainOf P .body))
+          → ThreadFits fs n (getD (mainThread P ∷ []) k noThread)
       main zero g i = record { place = home-fits; starter = omega arith; items-room = omega arith; variables-room = omega arith; items = more i none; values = none }
       main (suc k) g i = absurd (omega arith)
 
@@ -509,7 +581,8 @@ module _ (fs : List Frame) (P : Program) (n : ℕ) (F : FileFits fs P n) where
       idle zero (suc k) = none-fits
       idle (suc j) (suc k) = idle j k
 
-      lists : (j k : ℕ) → SchedulerFits (getD (homeScheduler ∷ replicate k noScheduler) j noScheduler)
+      lists : (j k : ℕ)
+          → SchedulerFits (getD (homeScheduler ∷ replicate k noScheduler) j noScheduler)
       lists zero k = record { active-room = omega arith; next-room = omega arith; threads = more {x = 1} (omega arith, omega arith) none; entries = none }
       lists (suc j) k = idle j k
 

@@ -4,13 +4,15 @@ pub mod Lists
 -- The cells in use; what each operation on a cell gives, changes and logs.
 pub mod UsedCells
 pub mod Primitives
--- Whose cells are accessed: by an evaluation, by a choice; and that a refused choice leaves the state. What a choice can answer.
+-- Whose cells are accessed: by an evaluation, by a choice; and that a refused choice leaves the
+-- state. What a choice can answer.
 pub mod Owns
 pub mod Fair
 pub mod Numbers
 -- What a choice does to the threads: the acting one, by its top item, and one that it starts.
 pub mod Taken
--- Why nothing is ever full (20) from a fresh state on: lists; continuations and variables; the depth of bodies; so each choice is as in spaces without end.
+-- Why nothing is ever full (20) from a fresh state on: lists; continuations and variables; the
+-- depth of bodies; so each choice is as in spaces without end.
 pub mod Space
 pub mod Continuations
 pub mod Depth
@@ -21,7 +23,8 @@ pub mod WordLaws
 pub mod Blocks
 pub mod Padded
 pub mod PastedLaws
--- States in shape and words in range: from a state to its words and back, from words to their state and back, and the one from the other.
+-- States in shape and words in range: from a state to its words and back, from words to their state
+-- and back, and the one from the other.
 pub mod Round
 pub mod Ranges
 pub mod AllBelow

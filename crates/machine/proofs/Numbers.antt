@@ -5,15 +5,20 @@ use Prim.Native.Nat.{ℕ}
 use Rattle.basics.specs.If.{if_then_else_}
 use Rattle.basics.specs.Members.{All}
 use Rattle.basics.proofs.Ifs.{if-all}
-use Rattle.program.specs.Trees.{Expr, Stmt, nothing, seq, doAt, start, startWait, cooperate, letIn, store, ifElse, while}
+use Rattle.program.specs.Trees.{Expr, Stmt, nothing, seq, doAt, start, startWait, cooperate, letIn}
+use Rattle.program.specs.Trees.{store, ifElse, while}
 use Rattle.program.specs.Programs.{Program}
 use Rattle.machine.specs.State.{State, Item, run, back, drop, Entry, schedulerAt, threadAt}
 use Rattle.machine.specs.Waits.{readyThreads, stillWaiting}
 use Rattle.machine.specs.Evaluation.{Here, Evaluated, Evaluation, eval, storing}
-use Rattle.machine.specs.Turns.{Stepped, Turn, behind, evaluator, goOn, withValue, withValues, byCondition, stay, move, goTo}
+use Rattle.machine.specs.Turns.{Stepped, Turn, behind, evaluator, goOn, withValue, withValues}
+use Rattle.machine.specs.Turns.{byCondition, stay, move, goTo}
 use Rattle.machine.specs.inner.Parts.{stepItems, stepThread, turn, stepScheduler}
 use Rattle.machine.specs.Steps.{stepThreadWithin, turnInstant, endInstant, step, stepWithin}
-use Rattle.machine.specs.Statements.{ends, drops, goesBack, stepNothing, stepSeq, stepDo, starting, stepStart, startedWait, stepStartWait, stepCooperate, stepLet, stepStore, stepIf, stepWhile, stepStatement}
+use Rattle.machine.specs.Statements.{ends, drops, goesBack, stepNothing, stepSeq, stepDo}
+use Rattle.machine.specs.Statements.{starting, stepStart, startedWait, stepStartWait}
+use Rattle.machine.specs.Statements.{stepCooperate, stepLet, stepStore, stepIf, stepWhile}
+use Rattle.machine.specs.Statements.{stepStatement}
 use Rattle.machine.specs.Runs.{stepsFrom}
 use Rattle.machine.specs.declared.value.Value.{Value}
 use Rattle.machine.specs.declared.value.Value.the-variants.{Number, Truth, Cell}
@@ -38,21 +43,28 @@ Numbered r = StepNumber (r .answer)
 number-if : (b : Bool) (x y : Stepped) → Numbered x → Numbered y → Numbered (if b then x else y)
 number-if b x y f g = if-all Numbered b x y (λ _. f) (λ _. g)
 
-number-goOn : (u : Turn) (o : Outcome) (k : Value → Turn → Stepped) → ((v : Value) → Numbered (k v u)) → Numbered (goOn u o k)
+number-goOn : (u : Turn) (o : Outcome) (k : Value → Turn → Stepped)
+    → ((v : Value) → Numbered (k v u)) → Numbered (goOn u o k)
 number-goOn u (Is v) k g = g v
 number-goOn u Foreign k g = is-19
 number-goOn u Spent k g = is-17
 number-goOn u Stuck k g = is-20
 
-number-value : (u : Turn) (m : Here → Evaluation) (k : Value → Turn → Stepped) → ((v : Value) (w : Turn) → Numbered (k v w)) → Numbered (withValue u m k)
-number-value u m k g = let r : Evaluated = m (evaluator u) (u .cells) in number-goOn (behind u r) (r .outcome) k (λ v. g v (behind u r))
+number-value : (u : Turn) (m : Here → Evaluation) (k : Value → Turn → Stepped)
+    → ((v : Value) (w : Turn) → Numbered (k v w)) → Numbered (withValue u m k)
+number-value u m k g =
+    let r : Evaluated = m (evaluator u) (u .cells) in
+    number-goOn (behind u r) (r .outcome) k (λ v. g v (behind u r))
 
-number-values : (u : Turn) (xs : List Expr) (k : List Value → Turn → Stepped) → ((vs : List Value) (w : Turn) → Numbered (k vs w)) → Numbered (withValues u xs k)
+number-values : (u : Turn) (xs : List Expr) (k : List Value → Turn → Stepped)
+    → ((vs : List Value) (w : Turn) → Numbered (k vs w)) → Numbered (withValues u xs k)
 unfolding withValues
 number-values u [] k g = g [] u
-number-values u (x ∷ xs) k g = number-value u (λ h. eval h x) _ (λ v w. number-values w xs _ (λ vs. g (v ∷ vs)))
+number-values u (x ∷ xs) k g =
+    number-value u (λ h. eval h x) _ (λ v w. number-values w xs _ (λ vs. g (v ∷ vs)))
 
-number-by : (u : Turn) (v : Value) (a b : Stepped) → Numbered a → Numbered b → Numbered (byCondition u v a b)
+number-by : (u : Turn) (v : Value) (a b : Stepped) → Numbered a → Numbered b
+    → Numbered (byCondition u v a b)
 number-by u (Truth true) a b f g = f
 number-by u (Truth false) a b f g = g
 number-by u (Number n) a b f g = is-20
@@ -70,7 +82,8 @@ number-goTo : (u : Turn) (q : ℕ) (items : List Item) → Numbered (goTo u q it
 unfolding goTo
 number-goTo u q items = number-if _ _ _ (number-stay u items _) (number-move u q items)
 
-number-starting : (u : Turn) (m : ℕ) (vs : List Value) (r : Stepped) → Numbered r → Numbered (starting u m vs r)
+number-starting : (u : Turn) (m : ℕ) (vs : List Value) (r : Stepped) → Numbered r
+    → Numbered (starting u m vs r)
 unfolding starting
 number-starting u m vs r g = number-if _ _ _ is-20 (number-if _ _ _ is-20 (number-if _ _ _ is-20 (number-if _ _ _ is-20 (number-if _ _ _ is-18 g))))
 
@@ -82,14 +95,16 @@ number-statement u (nothing i) = number-stay u _ _
 number-statement u (seq i a b) = number-stay u _ _
 number-statement u (doAt i q a) = number-if _ _ _ is-20 (number-goTo u q _)
 number-statement u (start i m xs) = number-values u xs _ (λ vs w. number-starting w m vs _ is-0)
-number-statement u (startWait i m xs) = number-values u xs _ (λ vs w. number-starting w m vs _ (number-if _ _ _ is-0 is-20))
+number-statement u (startWait i m xs) =
+    number-values u xs _ (λ vs w. number-starting w m vs _ (number-if _ _ _ is-0 is-20))
 number-statement u (cooperate i) = number-if _ _ _ is-20 (number-if _ _ _ is-0 is-20)
 number-statement u (letIn i x a) = number-value u (λ e. eval e x) _ (λ v w. number-stay w _ _)
 number-statement u (store i x y) = number-value u (λ e. storing e x y) _ (λ v w. number-stay w _ _)
 number-statement u (ifElse i x a b) = number-value u (λ e. eval e x) _ (λ v w. number-by w v _ _ (number-stay w _ _) (number-stay w _ _))
 number-statement u (while i x a) = number-value u (λ e. eval e x) _ (λ v w. number-by w v _ _ (number-stay w _ _) (number-stay w _ _))
 
-number-items : (p : Program) (s : State) (c t : ℕ) (items : List Item) → Numbered (stepItems p s c t items)
+number-items : (p : Program) (s : State) (c t : ℕ) (items : List Item)
+    → Numbered (stepItems p s c t items)
 unfolding ends drops goesBack
 number-items p s c t [] = is-0
 number-items p s c t (run x ∷ items) = number-statement (turn p s c t items) x
@@ -100,13 +115,17 @@ number-thread : (p : Program) (s : State) (c t : ℕ) → Numbered (stepThread p
 unfolding stepThreadWithin
 number-thread p s c t = number-items p s c t (threadAt s t .continuation)
 
-number-instant : (s : State) (c : ℕ) (ts : List ℕ) (es : List Entry) → Numbered (turnInstant s c ts es)
+number-instant : (s : State) (c : ℕ) (ts : List ℕ) (es : List Entry)
+    → Numbered (turnInstant s c ts es)
 number-instant s c [] es = is-16
 number-instant s c (t ∷ ts) es = is-0
 
-number-scheduler : (p : Program) (s : State) (c : ℕ) (ts : List ℕ) → Numbered (stepScheduler p s c ts)
+number-scheduler : (p : Program) (s : State) (c : ℕ) (ts : List ℕ)
+    → Numbered (stepScheduler p s c ts)
 unfolding endInstant
-number-scheduler p s c [] = let es = schedulerAt s c .next in number-instant s c (readyThreads (s .threads) es) (stillWaiting (s .threads) es)
+number-scheduler p s c [] =
+    let es = schedulerAt s c .next in
+    number-instant s c (readyThreads (s .threads) es) (stillWaiting (s .threads) es)
 number-scheduler p s c (t ∷ ts) = number-thread p s c t
 
 pub numbered : (p : Program) (s : State) (c : ℕ) → Numbered (step p s c)

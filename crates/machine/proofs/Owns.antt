@@ -1,4 +1,5 @@
--- Whatever the expression and the cells: unless it is foreign, an evaluation accessed only cells of its thread or its place. Assumes nothing.
+-- Whatever the expression and the cells: unless it is foreign, an evaluation accessed only cells of
+-- its thread or its place. Assumes nothing.
 use mathlib.Core.Path.{_≡_, refl, sym, subst}
 use mathlib.Core.Logic.{inl, inr, ⊎-elim}
 use mathlib.Core.List.{List, [], _∷_}
@@ -8,10 +9,15 @@ use lib.Dec.{leb, eqb}
 use borrow.Author.Tests.{leb-true, eqb-true}
 use Rattle.basics.specs.Members.{All, none, more}
 use Rattle.basics.proofs.Ifs.{if-all, and-true}
-use Rattle.program.specs.Trees.{Expr, number, truth, variable, shared, new, content, sum, less, choose}
+use Rattle.program.specs.Trees.{Expr, number, truth, variable, shared, new, content, sum, less}
+use Rattle.program.specs.Trees.{choose}
 use Rattle.machine.specs.Accesses.{Access, Own}
 use Rattle.machine.specs.State.{Stored, threadOwner}
-use Rattle.machine.specs.Evaluation.{Here, Evaluated, Evaluation, gives, after, andThen, _>>=_, isOwn, accessOf, accessing, readVariable, sharedCell, addCell, newOwner, makeCell, atCell, readCell, storeCell, ofNumbers, byTruth, aNumber, plus, lessThan, eval, storing}
+use Rattle.machine.specs.Evaluation.{Here, Evaluated, Evaluation, gives, after, andThen}
+use Rattle.machine.specs.Evaluation.{_>>=_, isOwn, accessOf, accessing, readVariable}
+use Rattle.machine.specs.Evaluation.{sharedCell, addCell, newOwner, makeCell, atCell}
+use Rattle.machine.specs.Evaluation.{readCell, storeCell, ofNumbers, byTruth, aNumber, plus}
+use Rattle.machine.specs.Evaluation.{lessThan, eval, storing}
 use Rattle.machine.specs.declared.value.Value.{Value}
 use Rattle.machine.specs.declared.value.Value.the-variants.{Number, Truth, Cell}
 use Rattle.machine.specs.declared.value.Outcome.{Outcome}
@@ -34,13 +40,15 @@ Owns r = (IsForeign (r .outcome) → ⊥) → All Own (r .accesses)
 owns-after : {ts : List Access} (r : Evaluated) → All Own ts → Owns r → Owns (after ts r)
 owns-after r h g = λ n. all-append h (g n)
 
-owns-andThen : (k : Value → Evaluation) (r : Evaluated) (o : Outcome) → r .outcome ≡ o → Owns r → ((v : Value) (cs : List Stored) → Owns (k v cs)) → Owns (andThen k r o)
+owns-andThen : (k : Value → Evaluation) (r : Evaluated) (o : Outcome) → r .outcome ≡ o → Owns r
+    → ((v : Value) (cs : List Stored) → Owns (k v cs)) → Owns (andThen k r o)
 owns-andThen k r (Is v) e h g = owns-after (k v (r .cells)) (h (subst (λ (x : Outcome). IsForeign x → ⊥) (sym e) (λ z. z))) (g v (r .cells))
 owns-andThen k r Foreign e h g = h
 owns-andThen k r Spent e h g = h
 owns-andThen k r Stuck e h g = h
 
-pub owns-then : (m : Evaluation) (k : Value → Evaluation) → ((cs : List Stored) → Owns (m cs)) → ((v : Value) (cs : List Stored) → Owns (k v cs)) → (cs : List Stored) → Owns ((m >>= k) cs)
+pub owns-then : (m : Evaluation) (k : Value → Evaluation) → ((cs : List Stored) → Owns (m cs))
+    → ((v : Value) (cs : List Stored) → Owns (k v cs)) → (cs : List Stored) → Owns ((m >>= k) cs)
 owns-then m k h g cs = owns-andThen k (m cs) (m cs .outcome) refl (h cs) g
 
 -- ---- an access: the test on the owner makes it one to a cell of one's own, or foreign
@@ -52,7 +60,8 @@ is-own h c o e =
     (λ a. let b = and-true (leb 2 (h .place)) (eqb o (h .place)) a in inr (leb-true 2 (h .place) (b .0), eqb-true o (h .place) (b .1)))
     (or-true (eqb o (threadOwner (h .thread))) _ e)
 
-owns-accessing : (h : Here) (c o : ℕ) (r : Evaluation) (cs : List Stored) → Owns (r cs) → Owns (accessing h c o r cs)
+owns-accessing : (h : Here) (c o : ℕ) (r : Evaluation) (cs : List Stored) → Owns (r cs)
+    → Owns (accessing h c o r cs)
 unfolding accessing
 owns-accessing h c o r cs g =
     if-all (λ x. Owns (after (accessOf h c o ∷ []) x)) (isOwn h o) (r cs) (gives Foreign cs)
@@ -77,7 +86,8 @@ owns-make : (h : Here) (s : ℕ) (v : Value) (cs : List Stored) → Owns (makeCe
 unfolding makeCell
 owns-make h s v cs = owns-accessing h _ _ (addCell (newOwner h s) v) cs (owns-add _ v cs)
 
-owns-at : (h : Here) (c : ℕ) (r : Evaluation) → ((cs : List Stored) → Owns (r cs)) → (cs : List Stored) → Owns (atCell h c r cs)
+owns-at : (h : Here) (c : ℕ) (r : Evaluation) → ((cs : List Stored) → Owns (r cs))
+    → (cs : List Stored) → Owns (atCell h c r cs)
 unfolding atCell
 owns-at h c r g cs = if-all Owns _ _ _ (λ _. owns-accessing h c _ r cs (g cs)) (λ _ _. none)
 
@@ -101,7 +111,8 @@ owns-numbers f (Number m) (Cell c) cs = λ _. none
 owns-numbers f (Truth b) w cs = λ _. none
 owns-numbers f (Cell c) w cs = λ _. none
 
-owns-by : (v : Value) (a b : Evaluation) → ((cs : List Stored) → Owns (a cs)) → ((cs : List Stored) → Owns (b cs)) → (cs : List Stored) → Owns (byTruth v a b cs)
+owns-by : (v : Value) (a b : Evaluation) → ((cs : List Stored) → Owns (a cs))
+    → ((cs : List Stored) → Owns (b cs)) → (cs : List Stored) → Owns (byTruth v a b cs)
 unfolding byTruth
 owns-by (Truth true) a b f g cs = f cs
 owns-by (Truth false) a b f g cs = g cs

@@ -1,4 +1,5 @@
--- What the test `inRange` says of the words, region by region (`InRange`), and that this is enough for it to pass. Assumes nothing.
+-- What the test `inRange` says of the words, region by region (`InRange`), and that this is enough
+-- for it to pass. Assumes nothing.
 use Prim.Native.Nat.{ℕ, suc, zero, _+_, _*_, _-_, _/_, _%_, _<_, _≤_}
 use mathlib.Core.Path.{_≡_, refl, sym, ap, ap₂, _∙_}
 use mathlib.Core.List.{List}
@@ -7,27 +8,33 @@ use native.Mathlib.Omega.{arith}
 use native.Mathlib.Decide.{decLt, ℕ-discrete}
 use lib.ListN.{getD, length}
 use lib.Dec.{ltb, leb, eqb}
-use borrow.Author.Tests.{ltb-true, ltb-false, lt-ltb, le-ltb, eq-eqb, ne-eqb, eqb-true, leb-true, le-leb}
+use borrow.Author.Tests.{ltb-true, ltb-false, lt-ltb, le-ltb, eq-eqb, ne-eqb, eqb-true, leb-true}
+use borrow.Author.Tests.{le-leb}
 use Rattle.basics.specs.If.{if_then_else_}
 use Rattle.basics.proofs.Ifs.{if-all, if-yes, if-no, and-true}
 use Rattle.language.specs.Places.{hasPlace}
 use Rattle.language.specs.declared.frame.Frame.{Frame}
-use Rattle.machine.specs.inner.Ranges.{threadInRange, valueInRange, itemInRange, entryInRange, cellInRange, listInRange, schedulerInRange, threadWordInRange, wordInRange, allBelow, inRange}
+use Rattle.machine.specs.inner.Ranges.{threadInRange, valueInRange, itemInRange, entryInRange}
+use Rattle.machine.specs.inner.Ranges.{cellInRange, listInRange, schedulerInRange}
+use Rattle.machine.specs.inner.Ranges.{threadWordInRange, wordInRange, allBelow, inRange}
 use Rattle.machine.proofs.Tests.{and-both}
 use Rattle.machine.proofs.Regions.{by-region}
 
 -- ---- a test at every number below n: what it says of each of them, and from each of them
 
-pub below-each : (n : ℕ) (test : ℕ → Bool) → allBelow n test ≡ true → (i : ℕ) → i < n → test i ≡ true
+pub below-each : (n : ℕ) (test : ℕ → Bool) → allBelow n test ≡ true → (i : ℕ) → i < n
+    → test i ≡ true
 unfolding allBelow
 below-each zero test e i h = absurd (omega arith)
-below-each (suc n) test e i h = go (ℕ-discrete i n) (λ k g. below-each n test (and-true (test n) (allBelow n test) e .1) k g)
+below-each (suc n) test e i h =
+    go (ℕ-discrete i n) (λ k g. below-each n test (and-true (test n) (allBelow n test) e .1) k g)
   where
     go : Dec (i ≡ n) → ((k : ℕ) → k < n → test k ≡ true) → test i ≡ true
     go (yes q) f = ap test q ∙ and-true (test n) (allBelow n test) e .0
     go (no q) f = f i (omega arith)
 
-pub all-below : (n : ℕ) (test : ℕ → Bool) → ((i : ℕ) → i < n → test i ≡ true) → allBelow n test ≡ true
+pub all-below : (n : ℕ) (test : ℕ → Bool) → ((i : ℕ) → i < n → test i ≡ true)
+    → allBelow n test ≡ true
 unfolding allBelow
 all-below zero test h = refl
 all-below (suc n) test h = and-both (test n) (allBelow n test) (h n (omega arith)) (all-below n test (λ i g. h i (omega arith)))
@@ -42,25 +49,30 @@ module _ (fs : List Frame) (n : ℕ) (w : List ℕ) where
   unfolding wordInRange
   range-1 = if-no _ _ (ne-eqb 1 0 (λ e. omega arith)) ∙ if-yes _ _ (eq-eqb 1 1 refl)
 
-  range-scheduler : (k j : ℕ) → k < 8 → j < 130 → k < n → wordInRange fs n w (2 + 130 * k + j) ≡ schedulerInRange w (2 + 130 * k) j
+  range-scheduler : (k j : ℕ) → k < 8 → j < 130 → k < n
+      → wordInRange fs n w (2 + 130 * k + j) ≡ schedulerInRange w (2 + 130 * k) j
   unfolding wordInRange
   range-scheduler k j h g l =
       let i : ℕ = 2 + 130 * k + j in
       let a : (i - 2) / 130 ≡ k = omega arith in
       let b : (i - 2) % 130 ≡ j = omega arith in
       if-no _ _ (ne-eqb i 0 (λ e. omega arith)) ∙ if-no _ _ (ne-eqb i 1 (λ e. omega arith))
-      ∙ if-yes _ _ (lt-ltb i 1042 (omega arith)) ∙ if-yes _ _ (lt-ltb ((i - 2) / 130) n (omega arith))
+      ∙ if-yes _ _ (lt-ltb i 1042 (omega arith))
+      ∙ if-yes _ _ (lt-ltb ((i - 2) / 130) n (omega arith))
       ∙ ap₂ (λ (x y : ℕ). schedulerInRange w (2 + 130 * x) y) a b
 
-  range-no-scheduler : (k j : ℕ) → k < 8 → j < 130 → n ≤ k → wordInRange fs n w (2 + 130 * k + j) ≡ eqb (getD w (2 + 130 * k + j) 0) 0
+  range-no-scheduler : (k j : ℕ) → k < 8 → j < 130 → n ≤ k
+      → wordInRange fs n w (2 + 130 * k + j) ≡ eqb (getD w (2 + 130 * k + j) 0) 0
   unfolding wordInRange
   range-no-scheduler k j h g l =
       let i : ℕ = 2 + 130 * k + j in
       let a : (i - 2) / 130 ≡ k = omega arith in
       if-no _ _ (ne-eqb i 0 (λ e. omega arith)) ∙ if-no _ _ (ne-eqb i 1 (λ e. omega arith))
-      ∙ if-yes _ _ (lt-ltb i 1042 (omega arith)) ∙ if-no _ _ (le-ltb ((i - 2) / 130) n (omega arith))
+      ∙ if-yes _ _ (lt-ltb i 1042 (omega arith))
+      ∙ if-no _ _ (le-ltb ((i - 2) / 130) n (omega arith))
 
-  range-thread : (k j : ℕ) → k < 64 → j < 55 → k < getD w 0 0 → wordInRange fs n w (1042 + 55 * k + j) ≡ threadWordInRange fs n w (1042 + 55 * k) j
+  range-thread : (k j : ℕ) → k < 64 → j < 55 → k < getD w 0 0
+      → wordInRange fs n w (1042 + 55 * k + j) ≡ threadWordInRange fs n w (1042 + 55 * k) j
   unfolding wordInRange
   range-thread k j h g l =
       let i : ℕ = 1042 + 55 * k + j in
@@ -71,7 +83,8 @@ module _ (fs : List Frame) (n : ℕ) (w : List ℕ) where
       ∙ if-yes _ _ (lt-ltb ((i - 1042) / 55) (getD w 0 0) (omega arith))
       ∙ ap₂ (λ (x y : ℕ). threadWordInRange fs n w (1042 + 55 * x) y) a b
 
-  range-no-thread : (k j : ℕ) → k < 64 → j < 55 → getD w 0 0 ≤ k → wordInRange fs n w (1042 + 55 * k + j) ≡ eqb (getD w (1042 + 55 * k + j) 0) 0
+  range-no-thread : (k j : ℕ) → k < 64 → j < 55 → getD w 0 0 ≤ k
+      → wordInRange fs n w (1042 + 55 * k + j) ≡ eqb (getD w (1042 + 55 * k + j) 0) 0
   unfolding wordInRange
   range-no-thread k j h g l =
       let i : ℕ = 1042 + 55 * k + j in
@@ -80,7 +93,9 @@ module _ (fs : List Frame) (n : ℕ) (w : List ℕ) where
       ∙ if-no _ _ (le-ltb i 1042 (omega arith)) ∙ if-yes _ _ (lt-ltb i 4562 (omega arith))
       ∙ if-no _ _ (le-ltb ((i - 1042) / 55) (getD w 0 0) (omega arith))
 
-  range-cells : (c : ℕ) → c < 256 → wordInRange fs n w (4562 + c) ≡ (if ltb c (getD w 1 0) then cellInRange n (getD w (4562 + c) 0) else eqb (getD w (4562 + c) 0) 0)
+  range-cells : (c : ℕ) → c < 256
+      → wordInRange fs n w (4562 + c)
+      ≡ (if ltb c (getD w 1 0) then cellInRange n (getD w (4562 + c) 0) else eqb (getD w (4562 + c) 0) 0)
   unfolding wordInRange
   range-cells c g =
       let i : ℕ = 4562 + c in
@@ -89,14 +104,16 @@ module _ (fs : List Frame) (n : ℕ) (w : List ℕ) where
       ∙ if-no _ _ (le-ltb i 1042 (omega arith)) ∙ if-no _ _ (le-ltb i 4562 (omega arith))
       ∙ ap (λ (x : ℕ). if ltb x (getD w 1 0) then cellInRange n (getD w (4562 + c) 0) else eqb (getD w (4562 + c) 0) 0) a
 
--- the words are as many as they have to be; each scheduler, thread and cell that there is has its words in range; the rest is 0
+-- the words are as many as they have to be; each scheduler, thread and cell that there is has its
+-- words in range; the rest is 0
 pub record InRange (fs : List Frame) (n : ℕ) (w : List ℕ) : Type 0 where
   pub all : length w ≡ 4818
   pub threads-room : getD w 0 0 ≤ 64
   pub cells-room : getD w 1 0 ≤ 256
   pub scheduler : (k j : ℕ) → k < 8 → j < 130 → k < n → schedulerInRange w (2 + 130 * k) j ≡ true
   pub no-scheduler : (k j : ℕ) → k < 8 → j < 130 → n ≤ k → getD w (2 + 130 * k + j) 0 ≡ 0
-  pub thread : (k j : ℕ) → j < 55 → k < getD w 0 0 → threadWordInRange fs n w (1042 + 55 * k) j ≡ true
+  pub thread : (k j : ℕ) → j < 55 → k < getD w 0 0
+      → threadWordInRange fs n w (1042 + 55 * k) j ≡ true
   pub no-thread : (k j : ℕ) → k < 64 → j < 55 → getD w 0 0 ≤ k → getD w (1042 + 55 * k + j) 0 ≡ 0
   pub cell : (c : ℕ) → c < getD w 1 0 → cellInRange n (getD w (4562 + c) 0) ≡ true
   pub no-cell : (c : ℕ) → c < 256 → getD w 1 0 ≤ c → getD w (4562 + c) 0 ≡ 0
@@ -137,51 +154,67 @@ module _ (fs : List Frame) (n : ℕ) (w : List ℕ) where
       (by-region (λ (i : ℕ). wordInRange fs n w i ≡ true) (range-0 fs n w ∙ le-leb (getD w 0 0) 64 (h .threads-room)) (range-1 fs n w ∙ le-leb (getD w 1 0) 256 (h .cells-room))
       (λ k j a b. scheduler k j a b (decLt k n)) (λ k j a b. thread k j a b (decLt k (getD w 0 0))) (λ c a. range-cells fs n w c a ∙ cell c a)))
     where
-      scheduler : (k j : ℕ) → k < 8 → j < 130 → Dec (k < n) → wordInRange fs n w (2 + 130 * k + j) ≡ true
+      scheduler : (k j : ℕ) → k < 8 → j < 130 → Dec (k < n)
+          → wordInRange fs n w (2 + 130 * k + j) ≡ true
       scheduler k j a b (yes l) = range-scheduler fs n w k j a b l ∙ h .scheduler k j a b l
-      scheduler k j a b (no m) = let l : n ≤ k = omega (arith, m) in range-no-scheduler fs n w k j a b l ∙ eq-eqb _ 0 (h .no-scheduler k j a b l)
+      scheduler k j a b (no m) =
+          let l : n ≤ k = omega (arith, m) in
+          range-no-scheduler fs n w k j a b l ∙ eq-eqb _ 0 (h .no-scheduler k j a b l)
 
-      thread : (k j : ℕ) → k < 64 → j < 55 → Dec (k < getD w 0 0) → wordInRange fs n w (1042 + 55 * k + j) ≡ true
+      thread : (k j : ℕ) → k < 64 → j < 55 → Dec (k < getD w 0 0)
+          → wordInRange fs n w (1042 + 55 * k + j) ≡ true
       thread k j a b (yes l) = range-thread fs n w k j a b l ∙ h .thread k j b l
-      thread k j a b (no m) = let l : getD w 0 0 ≤ k = omega (arith, m) in range-no-thread fs n w k j a b l ∙ eq-eqb _ 0 (h .no-thread k j a b l)
+      thread k j a b (no m) =
+          let l : getD w 0 0 ≤ k = omega (arith, m) in
+          range-no-thread fs n w k j a b l ∙ eq-eqb _ 0 (h .no-thread k j a b l)
 
-      cell : (c : ℕ) → c < 256 → (if ltb c (getD w 1 0) then cellInRange n (getD w (4562 + c) 0) else eqb (getD w (4562 + c) 0) 0) ≡ true
+      cell : (c : ℕ) → c < 256
+          → (if ltb c (getD w 1 0) then cellInRange n (getD w (4562 + c) 0) else eqb (getD w (4562 + c) 0) 0)
+          ≡ true
       cell c a =
           if-all (λ (b : Bool). b ≡ true) (ltb c (getD w 1 0)) _ _ (λ e. h .cell c (ltb-true c (getD w 1 0) e))
           (λ e. eq-eqb _ 0 (h .no-cell c a (ltb-false c (getD w 1 0) e)))
 
 -- ---- the words of a thread, of a scheduler
-pub range-place : (fs : List Frame) (n : ℕ) (w : List ℕ) (i : ℕ) → threadWordInRange fs n w i 0 ≡ hasPlace n (getD w i 0)
+pub range-place : (fs : List Frame) (n : ℕ) (w : List ℕ) (i : ℕ)
+    → threadWordInRange fs n w i 0 ≡ hasPlace n (getD w i 0)
 unfolding threadWordInRange
 range-place fs n w i = if-yes _ _ refl
 
-pub range-starter : (fs : List Frame) (n : ℕ) (w : List ℕ) (i : ℕ) → threadWordInRange fs n w i 1 ≡ leb (getD w (i + 1) 0) 64
+pub range-starter : (fs : List Frame) (n : ℕ) (w : List ℕ) (i : ℕ)
+    → threadWordInRange fs n w i 1 ≡ leb (getD w (i + 1) 0) 64
 unfolding threadWordInRange
 range-starter fs n w i = if-no _ _ refl ∙ if-yes _ _ refl
 
-pub range-lives : (fs : List Frame) (n : ℕ) (w : List ℕ) (i : ℕ) → threadWordInRange fs n w i 2 ≡ leb (getD w (i + 2) 0) 1
+pub range-lives : (fs : List Frame) (n : ℕ) (w : List ℕ) (i : ℕ)
+    → threadWordInRange fs n w i 2 ≡ leb (getD w (i + 2) 0) 1
 unfolding threadWordInRange
 range-lives fs n w i = if-no _ _ refl ∙ if-no _ _ refl ∙ if-yes _ _ refl
 
-pub range-items : (fs : List Frame) (n : ℕ) (w : List ℕ) (i j : ℕ) → j < 26 → threadWordInRange fs n w i (3 + j) ≡ listInRange (itemInRange fs n) 25 w (i + 3) j
+pub range-items : (fs : List Frame) (n : ℕ) (w : List ℕ) (i j : ℕ) → j < 26
+    → threadWordInRange fs n w i (3 + j) ≡ listInRange (itemInRange fs n) 25 w (i + 3) j
 unfolding threadWordInRange
 range-items fs n w i j h =
     let a : 3 + j - 3 ≡ j = omega arith in
     if-no _ _ (ne-eqb (3 + j) 0 (λ e. omega arith)) ∙ if-no _ _ (ne-eqb (3 + j) 1 (λ e. omega arith)) ∙ if-no _ _ (ne-eqb (3 + j) 2 (λ e. omega arith))
-    ∙ if-yes _ _ (lt-ltb (3 + j) 29 (omega arith)) ∙ ap (listInRange (itemInRange fs n) 25 w (i + 3)) a
+    ∙ if-yes _ _ (lt-ltb (3 + j) 29 (omega arith))
+    ∙ ap (listInRange (itemInRange fs n) 25 w (i + 3)) a
 
-pub range-variables : (fs : List Frame) (n : ℕ) (w : List ℕ) (i j : ℕ) → j < 26 → threadWordInRange fs n w i (29 + j) ≡ listInRange valueInRange 25 w (i + 29) j
+pub range-variables : (fs : List Frame) (n : ℕ) (w : List ℕ) (i j : ℕ) → j < 26
+    → threadWordInRange fs n w i (29 + j) ≡ listInRange valueInRange 25 w (i + 29) j
 unfolding threadWordInRange
 range-variables fs n w i j h =
     let a : 29 + j - 29 ≡ j = omega arith in
     if-no _ _ (ne-eqb (29 + j) 0 (λ e. omega arith)) ∙ if-no _ _ (ne-eqb (29 + j) 1 (λ e. omega arith)) ∙ if-no _ _ (ne-eqb (29 + j) 2 (λ e. omega arith))
     ∙ if-no _ _ (le-ltb (29 + j) 29 (omega arith)) ∙ ap (listInRange valueInRange 25 w (i + 29)) a
 
-pub range-active : (w : List ℕ) (i j : ℕ) → j < 65 → schedulerInRange w i j ≡ listInRange threadInRange 64 w i j
+pub range-active : (w : List ℕ) (i j : ℕ) → j < 65
+    → schedulerInRange w i j ≡ listInRange threadInRange 64 w i j
 unfolding schedulerInRange
 range-active w i j h = if-yes _ _ (lt-ltb j 65 h)
 
-pub range-next : (w : List ℕ) (i j : ℕ) → j < 65 → schedulerInRange w i (65 + j) ≡ listInRange entryInRange 64 w (i + 65) j
+pub range-next : (w : List ℕ) (i j : ℕ) → j < 65
+    → schedulerInRange w i (65 + j) ≡ listInRange entryInRange 64 w (i + 65) j
 unfolding schedulerInRange
 range-next w i j h =
     let a : 65 + j - 65 ≡ j = omega arith in
@@ -193,7 +226,8 @@ pub record Space (test : ℕ → Bool) (w : List ℕ) (i most : ℕ) : Type 0 wh
   pub used : (j : ℕ) → j < getD w i 0 → test (getD w (i + suc j) 0) ≡ true
   pub unused : (j : ℕ) → getD w i 0 ≤ j → j < most → getD w (i + suc j) 0 ≡ 0
 
-pub space-of : (test : ℕ → Bool) (w : List ℕ) (i most : ℕ) → ((j : ℕ) → j < suc most → listInRange test most w i j ≡ true) → Space test w i most
+pub space-of : (test : ℕ → Bool) (w : List ℕ) (i most : ℕ)
+    → ((j : ℕ) → j < suc most → listInRange test most w i j ≡ true) → Space test w i most
 unfolding listInRange
 space-of test w i most h =
     record {
@@ -205,11 +239,16 @@ space-of test w i most h =
     fits : getD w i 0 ≤ most
     fits = leb-true (getD w i 0) most (h 0 (omega arith))
 
-pub of-space : (test : ℕ → Bool) (w : List ℕ) (i most : ℕ) → Space test w i most → (j : ℕ) → j < suc most → listInRange test most w i j ≡ true
+pub of-space : (test : ℕ → Bool) (w : List ℕ) (i most : ℕ) → Space test w i most → (j : ℕ)
+    → j < suc most → listInRange test most w i j ≡ true
 unfolding listInRange
 of-space test w i most s zero g = le-leb (getD w i 0) most (s .room)
 of-space test w i most s (suc j) g = go (ltb j (getD w i 0)) refl
   where
-    go : (b : Bool) → ltb j (getD w i 0) ≡ b → (if ltb j (getD w i 0) then test (getD w (i + suc j) 0) else eqb (getD w (i + suc j) 0) 0) ≡ true
+    go : (b : Bool) → ltb j (getD w i 0) ≡ b
+        → (if ltb j (getD w i 0) then test (getD w (i + suc j) 0) else eqb (getD w (i + suc j) 0) 0)
+        ≡ true
     go true e = if-yes _ _ e ∙ s .used j (ltb-true j (getD w i 0) e)
-    go false e = if-no _ _ e ∙ eq-eqb (getD w (i + suc j) 0) 0 (s .unused j (ltb-false j (getD w i 0) e) (omega arith))
+    go false e =
+        if-no _ _ e
+        ∙ eq-eqb (getD w (i + suc j) 0) 0 (s .unused j (ltb-false j (getD w i 0) e) (omega arith))

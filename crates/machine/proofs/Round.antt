@@ -12,12 +12,18 @@ use Rattle.basics.specs.Members.{All, none, more}
 use Rattle.basics.proofs.Ifs.{if-yes, if-no}
 use Rattle.language.specs.declared.frame.Frame.{Frame}
 use Rattle.program.specs.Trees.{rootS}
-use Rattle.machine.specs.State.{State, Stored, Item, run, back, drop, Thread, Entry, plain, waiting, Scheduler, noThread, noScheduler, noCell}
+use Rattle.machine.specs.State.{State, Stored, Item, run, back, drop, Thread, Entry, plain}
+use Rattle.machine.specs.State.{waiting, Scheduler, noThread, noScheduler, noCell}
 use Rattle.machine.specs.declared.value.Value.{Value}
 use Rattle.machine.specs.declared.value.Value.the-variants.{Number, Truth, Cell}
-use Rattle.machine.specs.Words.{bit, valueWord, wordValue, itemWord, wordItem, entryWord, wordEntry, cellWord, wordCell, listWord, threadWord, schedulerWord, tabulate, wordsAt, threadFrom, schedulerFrom, unpack, pack}
+use Rattle.machine.specs.Words.{bit, valueWord, wordValue, itemWord, wordItem, entryWord}
+use Rattle.machine.specs.Words.{wordEntry, cellWord, wordCell, listWord, threadWord}
+use Rattle.machine.specs.Words.{schedulerWord, tabulate, wordsAt, threadFrom, schedulerFrom}
+use Rattle.machine.specs.Words.{unpack, pack}
 use Rattle.machine.proofs.WordLaws.{tab-length, tab-at, Says, thread-says, scheduler-says}
-use Rattle.machine.specs.Shapes.{ValueFits, number, truth, cell, ItemFits, run-fits, back-fits, drop-fits, EntryFits, plain-fits, waiting-fits, ThreadFits, SchedulerFits, Shaped}
+use Rattle.machine.specs.Shapes.{ValueFits, number, truth, cell, ItemFits, run-fits}
+use Rattle.machine.specs.Shapes.{back-fits, drop-fits, EntryFits, plain-fits, waiting-fits}
+use Rattle.machine.specs.Shapes.{ThreadFits, SchedulerFits, Shaped}
 use Rattle.machine.proofs.Blocks.{says-pack}
 
 -- ---- single words: `x-back` says that the word of x says x
@@ -31,7 +37,8 @@ value-back (Cell c) (cell h) =
     let a : 2 * 2 ^ 32 + c - 2 * 2 ^ 32 ≡ c = omega arith in
     if-no _ _ (le-ltb (2 * 2 ^ 32 + c) (2 ^ 32) (omega arith)) ∙ if-no _ _ (le-ltb (2 * 2 ^ 32 + c) (2 * 2 ^ 32) (omega arith)) ∙ ap Cell a
 
-pub item-back : (fs : List Frame) (n : ℕ) (x : Item) → ItemFits fs n x → wordItem fs (itemWord x) ≡ x
+pub item-back : (fs : List Frame) (n : ℕ) (x : Item) → ItemFits fs n x
+    → wordItem fs (itemWord x) ≡ x
 unfolding itemWord wordItem
 item-back fs n (run x) (run-fits h k e) = if-yes _ _ (lt-ltb (rootS x) 1024 h) ∙ ap run e
 item-back fs n (back q) (back-fits h k) =
@@ -67,12 +74,15 @@ cell-back x h =
 
 -- ---- lists
 
-pub map-back : {A B : Type 0} (P : A → Type 0) (f : A → B) (g : B → A) → ((x : A) → P x → g (f x) ≡ x) → (xs : List A) → All P xs → map g (map f xs) ≡ xs
+pub map-back : {A B : Type 0} (P : A → Type 0) (f : A → B) (g : B → A)
+    → ((x : A) → P x → g (f x) ≡ x) → (xs : List A) → All P xs → map g (map f xs) ≡ xs
 map-back P f g e [] none = refl
-map-back {A} P f g e (x ∷ xs) (more h hs) = ap₂ (λ (y : A) (ys : List A). y ∷ ys) (e x h) (map-back P f g e xs hs)
+map-back {A} P f g e (x ∷ xs) (more h hs) =
+    ap₂ (λ (y : A) (ys : List A). y ∷ ys) (e x h) (map-back P f g e xs hs)
 
 -- a list's words behind its length
-tab-list : (n : ℕ) (ws : List ℕ) (f : ℕ → ℕ) (i : ℕ) → n ≡ length ws → ((j : ℕ) → j < length ws → f (i + j) ≡ getD ws j 0) → tabulate n f i ≡ ws
+tab-list : (n : ℕ) (ws : List ℕ) (f : ℕ → ℕ) (i : ℕ) → n ≡ length ws
+    → ((j : ℕ) → j < length ws → f (i + j) ≡ getD ws j 0) → tabulate n f i ≡ ws
 unfolding tabulate
 tab-list zero [] f i e h = refl
 tab-list zero (x ∷ ws) f i e h = absurd (omega arith)
@@ -82,7 +92,8 @@ tab-list (suc n) (x ∷ ws) f i e h =
     ap₂ (λ (y : ℕ) (ys : List ℕ). y ∷ ys) (ap f z ∙ h 0 (omega arith))
     (tab-list n ws f (suc i) (omega arith) (λ j g. let a : suc i + j ≡ i + suc j = omega arith in ap f a ∙ h (suc j) (omega arith)))
 
-words-back : (w ws : List ℕ) (i : ℕ) → getD w i 0 ≡ listWord ws 0 → ((j : ℕ) → j < length ws → getD w (i + suc j) 0 ≡ listWord ws (suc j)) → wordsAt w i ≡ ws
+words-back : (w ws : List ℕ) (i : ℕ) → getD w i 0 ≡ listWord ws 0
+    → ((j : ℕ) → j < length ws → getD w (i + suc j) 0 ≡ listWord ws (suc j)) → wordsAt w i ≡ ws
 words-back w ws i e h = tab-list (getD w i 0) ws (λ j. getD w j 0) (suc i) e (λ j g. let a : suc i + j ≡ i + suc j = omega arith in ap (λ (m : ℕ). getD w m 0) a ∙ h j g)
 
 -- ---- what each word of a thread, of a scheduler is
@@ -99,14 +110,17 @@ pub thread-2 : (x : Thread) → threadWord x 2 ≡ bit (not (x .ended))
 unfolding threadWord
 thread-2 x = if-no _ _ refl ∙ if-no _ _ refl ∙ if-yes _ _ refl
 
-pub thread-continuation : (x : Thread) (j : ℕ) → j < 26 → threadWord x (3 + j) ≡ listWord (reverse (map itemWord (x .continuation))) j
+pub thread-continuation : (x : Thread) (j : ℕ) → j < 26
+    → threadWord x (3 + j) ≡ listWord (reverse (map itemWord (x .continuation))) j
 unfolding threadWord
 thread-continuation x j h =
     let a : 3 + j - 3 ≡ j = omega arith in
     if-no _ _ (ne-eqb (3 + j) 0 (λ e. omega arith)) ∙ if-no _ _ (ne-eqb (3 + j) 1 (λ e. omega arith)) ∙ if-no _ _ (ne-eqb (3 + j) 2 (λ e. omega arith))
-    ∙ if-yes _ _ (lt-ltb (3 + j) 29 (omega arith)) ∙ ap (listWord (reverse (map itemWord (x .continuation)))) a
+    ∙ if-yes _ _ (lt-ltb (3 + j) 29 (omega arith))
+    ∙ ap (listWord (reverse (map itemWord (x .continuation)))) a
 
-pub thread-variables : (x : Thread) (j : ℕ) → j < 26 → threadWord x (29 + j) ≡ listWord (map valueWord (x .variables)) j
+pub thread-variables : (x : Thread) (j : ℕ) → j < 26
+    → threadWord x (29 + j) ≡ listWord (map valueWord (x .variables)) j
 unfolding threadWord
 thread-variables x j h =
     let a : 29 + j - 29 ≡ j = omega arith in
@@ -117,14 +131,17 @@ pub scheduler-active : (x : Scheduler) (j : ℕ) → j < 65 → schedulerWord x 
 unfolding schedulerWord
 scheduler-active x j h = if-yes _ _ (lt-ltb j 65 h)
 
-pub scheduler-next : (x : Scheduler) (j : ℕ) → j < 65 → schedulerWord x (65 + j) ≡ listWord (map entryWord (x .next)) j
+pub scheduler-next : (x : Scheduler) (j : ℕ) → j < 65
+    → schedulerWord x (65 + j) ≡ listWord (map entryWord (x .next)) j
 unfolding schedulerWord
 scheduler-next x j h =
     let a : 65 + j - 65 ≡ j = omega arith in
     if-no _ _ (le-ltb (65 + j) 65 (omega arith)) ∙ ap (listWord (map entryWord (x .next))) a
 
-thread-path : (a b : Thread) → a .place ≡ b .place → a .continuation ≡ b .continuation → a .variables ≡ b .variables → a .starter ≡ b .starter → a .ended ≡ b .ended → a ≡ b
-thread-path a b p q r s t = λ i. record { place = p i; continuation = q i; variables = r i; starter = s i; ended = t i }
+thread-path : (a b : Thread) → a .place ≡ b .place → a .continuation ≡ b .continuation
+    → a .variables ≡ b .variables → a .starter ≡ b .starter → a .ended ≡ b .ended → a ≡ b
+thread-path a b p q r s t =
+    λ i. record { place = p i; continuation = q i; variables = r i; starter = s i; ended = t i }
 
 -- a thread that has ended has 0 for its word `alive`
 pub ended-bit : (b : Bool) → eqb (bit (not b)) 0 ≡ b
@@ -133,7 +150,8 @@ ended-bit false = refl
 
 -- ---- the state that the words say
 module _ (fs : List Frame) (n : ℕ) (w : List ℕ) (s : State) (h : Says w s) where
-  pub thread-back : (k : ℕ) → k < 64 → ThreadFits fs n (getD (s .threads) k noThread) → threadFrom fs w k ≡ getD (s .threads) k noThread
+  pub thread-back : (k : ℕ) → k < 64 → ThreadFits fs n (getD (s .threads) k noThread)
+      → threadFrom fs w k ≡ getD (s .threads) k noThread
   unfolding threadFrom
   thread-back k a f =
       thread-path _ x
@@ -164,7 +182,8 @@ module _ (fs : List Frame) (n : ℕ) (w : List ℕ) (s : State) (h : Says w s) w
           (λ j g. let r : length (x .variables) ≤ 25 = f .variables-room in let m : j < length (x .variables) = rw (length-map (x .variables) valueWord) at g in
           thread-says h k (29 + suc j) (1042 + 55 * k + 29 + suc j) a (omega arith) (omega arith) ∙ thread-variables x (suc j) (omega arith))
 
-  pub scheduler-back : (k : ℕ) → k < 8 → SchedulerFits (getD (s .schedulers) k noScheduler) → schedulerFrom w k ≡ getD (s .schedulers) k noScheduler
+  pub scheduler-back : (k : ℕ) → k < 8 → SchedulerFits (getD (s .schedulers) k noScheduler)
+      → schedulerFrom w k ≡ getD (s .schedulers) k noScheduler
   unfolding schedulerFrom
   scheduler-back k a f =
       ap₂ (λ (p : List ℕ) (q : List Entry). record { active = p; next = q }) active
@@ -185,10 +204,12 @@ module _ (fs : List Frame) (n : ℕ) (w : List ℕ) (s : State) (h : Says w s) w
           (λ j g. let r : length (x .next) ≤ 64 = f .next-room in let m : j < length (x .next) = rw (length-map (x .next) entryWord) at g in
           scheduler-says h k (65 + suc j) (67 + 130 * k + suc j) a (omega arith) (omega arith) ∙ scheduler-next x (suc j) (omega arith))
 
-  state-path : (a b : State) → a .threads ≡ b .threads → a .schedulers ≡ b .schedulers → a .cells ≡ b .cells → a ≡ b
+  state-path : (a b : State) → a .threads ≡ b .threads → a .schedulers ≡ b .schedulers
+      → a .cells ≡ b .cells → a ≡ b
   state-path a b p q r = λ i. record { threads = p i; schedulers = q i; cells = r i }
 
-  table-back : {A : Type 0} (m : ℕ) (f : ℕ → A) (l : List A) (d : A) → m ≡ length l → ((k : ℕ) → k < length l → f k ≡ getD l k d) → tabulate m f 0 ≡ l
+  table-back : {A : Type 0} (m : ℕ) (f : ℕ → A) (l : List A) (d : A) → m ≡ length l
+      → ((k : ℕ) → k < length l → f k ≡ getD l k d) → tabulate m f 0 ≡ l
   table-back m f l d e g =
       ext-getD d (tabulate m f 0) l (tab-length m f 0 ∙ e)
       (λ k q. let b : k < m = rw (tab-length m f 0) at q in tab-at m f k d b ∙ g k (omega arith))

@@ -1,4 +1,6 @@
--- Why no list is ever full (20) from a fresh state on: the entries of all lists and the unlinked threads are no more than the threads, of which there are 64 at most, and each choice keeps it so. Assumes nothing.
+-- Why no list is ever full (20) from a fresh state on: the entries of all lists and the unlinked
+-- threads are no more than the threads, of which there are 64 at most, and each choice keeps it so.
+-- Assumes nothing.
 use mathlib.Core.Path.{_≡_, refl, sym, ap, _∙_}
 use mathlib.Core.Logic.{_⊎_, inl, inr, ⊎-elim}
 use mathlib.Core.List.{List, [], _∷_, _++_}
@@ -10,17 +12,27 @@ use lib.ListN.{length, getD, set, length-set, length-append, replicate}
 use borrow.Author.Tests.{leb-false, le-leb}
 use Rattle.basics.specs.If.{if_then_else_}
 use Rattle.basics.proofs.Ifs.{if-all, and-true}
-use Rattle.program.specs.Trees.{Expr, Stmt, nothing, seq, doAt, start, startWait, cooperate, letIn, store, ifElse, while}
+use Rattle.program.specs.Trees.{Expr, Stmt, nothing, seq, doAt, start, startWait, cooperate, letIn}
+use Rattle.program.specs.Trees.{store, ifElse, while}
 use Rattle.program.specs.Programs.{Program, moduleAt}
-use Rattle.machine.specs.State.{State, Item, run, back, drop, Thread, Scheduler, Entry, plain, noThread, noScheduler, nth, setNth, schedulerAt, threadAt, withNew, enlist}
+use Rattle.machine.specs.State.{State, Item, run, back, drop, Thread, Scheduler, Entry, plain}
+use Rattle.machine.specs.State.{noThread, noScheduler, nth, setNth, schedulerAt, threadAt}
+use Rattle.machine.specs.State.{withNew, enlist}
 use Rattle.machine.specs.Words.{bit}
 use Rattle.machine.specs.Waits.{isReady, threadOf, keepIf, readyThreads, stillWaiting}
 use Rattle.machine.specs.Fresh.{fresh}
 use Rattle.machine.specs.Evaluation.{Here, Evaluated, Evaluation, eval, storing}
-use Rattle.machine.specs.Turns.{Spaces, holds, stateSpaces, Stepped, Turn, here, variables, behind, evaluator, goOn, withValue, withValues, byCondition, selfAt, settled, behindFirst, isSchedulerOf, leave, room, unlinkedHere, stay, move, goTo}
-use Rattle.machine.specs.Steps.{isUnlinked, stepThreadWithin, turnInstant, endInstant, step, stepWithin}
+use Rattle.machine.specs.Turns.{Spaces, holds, stateSpaces, Stepped, Turn, here, variables}
+use Rattle.machine.specs.Turns.{behind, evaluator, goOn, withValue, withValues, byCondition}
+use Rattle.machine.specs.Turns.{selfAt, settled, behindFirst, isSchedulerOf, leave, room}
+use Rattle.machine.specs.Turns.{unlinkedHere, stay, move, goTo}
+use Rattle.machine.specs.Steps.{isUnlinked, stepThreadWithin, turnInstant, endInstant, step}
+use Rattle.machine.specs.Steps.{stepWithin}
 use Rattle.machine.specs.inner.Parts.{stepItems, stepThread, turn, stepScheduler}
-use Rattle.machine.specs.Statements.{ends, drops, goesBack, stepNothing, stepSeq, stepDo, started, starting, stepStart, startedWait, stepStartWait, stepCooperate, stepLet, stepStore, stepIf, stepWhile, stepStatement}
+use Rattle.machine.specs.Statements.{ends, drops, goesBack, stepNothing, stepSeq, stepDo}
+use Rattle.machine.specs.Statements.{started, starting, stepStart, startedWait, stepStartWait}
+use Rattle.machine.specs.Statements.{stepCooperate, stepLet, stepStore, stepIf, stepWhile}
+use Rattle.machine.specs.Statements.{stepStatement}
 use Rattle.machine.specs.declared.value.Value.{Value}
 use Rattle.machine.specs.declared.value.Value.the-variants.{Number, Truth, Cell}
 use Rattle.machine.specs.declared.value.Outcome.{Outcome}
@@ -49,13 +61,15 @@ unlinkedCount (x ∷ xs) = free x + unlinkedCount xs
 
 -- ---- these sums when one scheduler or one thread is replaced
 
-total-set-le : (xs : List Scheduler) (i k : ℕ) (x : Scheduler) → weight x ≤ weight (getD xs i noScheduler) + k → total (set xs i x) ≤ total xs + k
+total-set-le : (xs : List Scheduler) (i k : ℕ) (x : Scheduler)
+    → weight x ≤ weight (getD xs i noScheduler) + k → total (set xs i x) ≤ total xs + k
 unfolding total
 total-set-le [] i k x h = omega arith
 total-set-le (y ∷ xs) zero k x h = omega arith
 total-set-le (y ∷ xs) (suc i) k x h = let g = total-set-le xs i k x h in omega arith
 
-total-set-less : (xs : List Scheduler) (i : ℕ) (x : Scheduler) → suc (weight x) ≡ weight (getD xs i noScheduler) → suc (total (set xs i x)) ≡ total xs
+total-set-less : (xs : List Scheduler) (i : ℕ) (x : Scheduler)
+    → suc (weight x) ≡ weight (getD xs i noScheduler) → suc (total (set xs i x)) ≡ total xs
 unfolding total weight
 total-set-less [] i x h = absurd (omega arith)
 total-set-less (y ∷ xs) zero x h = omega arith
@@ -73,7 +87,8 @@ active-le [] i = omega arith
 active-le (y ∷ xs) zero = omega arith
 active-le (y ∷ xs) (suc i) = let g = active-le xs i in omega arith
 
-both-le : (xs : List Scheduler) (i j : ℕ) → length (getD xs i noScheduler .active) + length (getD xs j noScheduler .next) ≤ total xs
+both-le : (xs : List Scheduler) (i j : ℕ)
+    → length (getD xs i noScheduler .active) + length (getD xs j noScheduler .next) ≤ total xs
 unfolding total weight
 both-le [] i j = omega arith
 both-le (y ∷ xs) zero zero = omega arith
@@ -81,13 +96,15 @@ both-le (y ∷ xs) zero (suc j) = let g = next-le xs j in omega arith
 both-le (y ∷ xs) (suc i) zero = let g = active-le xs i in omega arith
 both-le (y ∷ xs) (suc i) (suc j) = let g = both-le xs i j in omega arith
 
-unlinked-set-le : (xs : List Thread) (i k : ℕ) (x : Thread) → free x ≤ free (getD xs i noThread) + k → unlinkedCount (set xs i x) ≤ unlinkedCount xs + k
+unlinked-set-le : (xs : List Thread) (i k : ℕ) (x : Thread) → free x ≤ free (getD xs i noThread) + k
+    → unlinkedCount (set xs i x) ≤ unlinkedCount xs + k
 unfolding unlinkedCount
 unlinked-set-le [] i k x h = omega arith
 unlinked-set-le (y ∷ xs) zero k x h = omega arith
 unlinked-set-le (y ∷ xs) (suc i) k x h = let g = unlinked-set-le xs i k x h in omega arith
 
-unlinked-set-less : (xs : List Thread) (i : ℕ) (x : Thread) → free (getD xs i noThread) ≡ 1 → suc (unlinkedCount (set xs i x)) ≡ unlinkedCount xs + free x
+unlinked-set-less : (xs : List Thread) (i : ℕ) (x : Thread) → free (getD xs i noThread) ≡ 1
+    → suc (unlinkedCount (set xs i x)) ≡ unlinkedCount xs + free x
 unfolding unlinkedCount free isFree
 unlinked-set-less [] i x h = absurd (omega arith)
 unlinked-set-less (y ∷ xs) zero x h = omega arith
@@ -104,11 +121,13 @@ pub nth-length : (xs : List Thread) (t : ℕ) (x : Thread) → length (setNth xs
 nth-length xs zero x = refl
 nth-length xs (suc i) x = length-set xs i x
 
-nth-le : (xs : List Thread) (t k : ℕ) (x : Thread) → free x ≤ free (nth xs t) + k → unlinkedCount (setNth xs t x) ≤ unlinkedCount xs + k
+nth-le : (xs : List Thread) (t k : ℕ) (x : Thread) → free x ≤ free (nth xs t) + k
+    → unlinkedCount (setNth xs t x) ≤ unlinkedCount xs + k
 nth-le xs zero k x h = omega arith
 nth-le xs (suc i) k x h = unlinked-set-le xs i k x h
 
-nth-less : (xs : List Thread) (t : ℕ) (x : Thread) → free (nth xs t) ≡ 1 → suc (unlinkedCount (setNth xs t x)) ≡ unlinkedCount xs + free x
+nth-less : (xs : List Thread) (t : ℕ) (x : Thread) → free (nth xs t) ≡ 1
+    → suc (unlinkedCount (setNth xs t x)) ≡ unlinkedCount xs + free x
 unfolding free isFree
 nth-less xs zero x h = absurd (omega arith)
 nth-less xs (suc i) x h = unlinked-set-less xs i x h
@@ -118,16 +137,19 @@ unfolding free isFree
 nth-pos xs zero h = absurd (omega arith)
 nth-pos xs (suc i) h = unlinked-pos xs i h
 
-unlinked-snoc : (xs : List Thread) (x : Thread) → unlinkedCount (xs ++ (x ∷ [])) ≡ unlinkedCount xs + free x
+unlinked-snoc : (xs : List Thread) (x : Thread)
+    → unlinkedCount (xs ++ (x ∷ [])) ≡ unlinkedCount xs + free x
 unfolding unlinkedCount
 unlinked-snoc [] x = omega arith
 unlinked-snoc (y ∷ xs) x = let g = unlinked-snoc xs x in omega arith
 
-enlist-total : (q : ℕ) (e : Entry) (s : State) → total (enlist q e s .schedulers) ≤ total (s .schedulers) + 1
+enlist-total : (q : ℕ) (e : Entry) (s : State)
+    → total (enlist q e s .schedulers) ≤ total (s .schedulers) + 1
 unfolding enlist weight
 enlist-total q e s = total-set-le (s .schedulers) (q - 2) 1 _ (let g = length-append (schedulerAt s q .next) (e ∷ []) in omega arith)
 
--- ---- the invariant: entries and unlinked threads together are no more than threads, so a list of 64 has room for each
+-- ---- the invariant: entries and unlinked threads together are no more than threads, so a list of
+-- 64 has room for each
 
 pub record Counted (s : State) : Type 0 where
   pub most : length (s .threads) ≤ 64
@@ -139,7 +161,8 @@ Stands u =
     ((isSchedulerOf (u .program) (u .choice) ≡ true) × (1 ≤ length (schedulerAt (u .state) (u .choice) .active)))
     ⊎ ((isSchedulerOf (u .program) (u .choice) ≡ false) × (free (threadAt (u .state) (u .thread)) ≡ 1))
 
--- a turn of such a thread, in a state that keeps the invariant; `same`: what is left of it stands as it stood
+-- a turn of such a thread, in a state that keeps the invariant; `same`: what is left of it stands
+-- as it stood
 pub record Acting (u : Turn) : Type 0 where
   pub counted : Counted (u .state)
   pub stands : Stands u
@@ -148,7 +171,8 @@ pub record Acting (u : Turn) : Type 0 where
 
 -- ---- so one more entry has room, and two where there is room for one more thread
 
-next-room : (u : Turn) → Acting u → (q : ℕ) → suc (length (schedulerAt (u .state) q .next)) ≤ length (u .state .threads)
+next-room : (u : Turn) → Acting u → (q : ℕ)
+    → suc (length (schedulerAt (u .state) q .next)) ≤ length (u .state .threads)
 next-room u a q =
     let c = a .counted .count in
     ⊎-elim
@@ -162,31 +186,40 @@ in-entries u a n h = ap (λ (z : Spaces). holds (z .entries) n) (a .spaces) ∙ 
 
 pub room-one : (u : Turn) → Acting u → (q : ℕ) → room u 1 q ≡ true
 unfolding room
-room-one u a q = let g = next-room u a q in let m = a .counted .most in in-entries u a (length (schedulerAt (u .state) q .next) + 1) (omega arith)
+room-one u a q =
+    let g = next-room u a q in
+    let m = a .counted .most in
+    in-entries u a (length (schedulerAt (u .state) q .next) + 1) (omega arith)
 
 pub room-two : (u : Turn) → Acting u → (q : ℕ) → length (u .state .threads) < 64 → room u 2 q ≡ true
 unfolding room
-room-two u a q l = let g = next-room u a q in in-entries u a (length (schedulerAt (u .state) q .next) + 2) (omega arith)
+room-two u a q l =
+    let g = next-room u a q in
+    in-entries u a (length (schedulerAt (u .state) q .next) + 2) (omega arith)
 
 -- ---- the changes of the state that a turn makes keep it
 
 -- the acting thread replaced, where it stays
-stay-counted : (u : Turn) → Acting u → (x : Thread) → free x ≡ free (u .self) → Counted (settled u x)
+stay-counted : (u : Turn) → Acting u → (x : Thread) → free x ≡ free (u .self)
+    → Counted (settled u x)
 stay-counted u a x e =
     let c = a .counted .count in let m = a .counted .most in let f = a .same in
     let n = nth-length (u .state .threads) (u .thread) x in
     let l = nth-le (u .state .threads) (u .thread) 0 x (omega arith) in
     record { most = omega arith; count = omega arith }
 
-first-less : (x : Scheduler) → 1 ≤ length (x .active) → suc (weight (record { active = behindFirst (x .active); next = x .next })) ≡ weight x
+first-less : (x : Scheduler) → 1 ≤ length (x .active)
+    → suc (weight (record { active = behindFirst (x .active); next = x .next })) ≡ weight x
 unfolding weight
 first-less x h = go (x .active) h
   where
-    go : (l : List ℕ) → 1 ≤ length l → suc (length (behindFirst l) + length (x .next)) ≡ length l + length (x .next)
+    go : (l : List ℕ) → 1 ≤ length l
+        → suc (length (behindFirst l) + length (x .next)) ≡ length l + length (x .next)
     go [] h = absurd (omega arith)
     go (t ∷ l) h = omega arith
 
-leave-total : (u : Turn) (s : State) → isSchedulerOf (u .program) (u .choice) ≡ true → 1 ≤ length (schedulerAt s (u .choice) .active)
+leave-total : (u : Turn) (s : State) → isSchedulerOf (u .program) (u .choice) ≡ true
+    → 1 ≤ length (schedulerAt s (u .choice) .active)
     → suc (total (leave u s .schedulers)) ≡ total (s .schedulers)
 unfolding leave
 leave-total u s e h =
@@ -194,7 +227,8 @@ leave-total u s e h =
     (λ _. total-set-less (s .schedulers) (u .choice - 2) _ (first-less (schedulerAt s (u .choice)) h))
     (λ f. absurd (true≢false (sym e ∙ f)))
 
-leave-total-same : (u : Turn) (s : State) → isSchedulerOf (u .program) (u .choice) ≡ false → total (leave u s .schedulers) ≡ total (s .schedulers)
+leave-total-same : (u : Turn) (s : State) → isSchedulerOf (u .program) (u .choice) ≡ false
+    → total (leave u s .schedulers) ≡ total (s .schedulers)
 unfolding leave
 leave-total-same u s e =
     if-all (λ (r : State). total (r .schedulers) ≡ total (s .schedulers)) (isSchedulerOf (u .program) (u .choice)) _ s
@@ -204,7 +238,8 @@ pub leave-threads : (u : Turn) (s : State) → leave u s .threads ≡ s .threads
 unfolding leave
 leave-threads u s = if-all (λ (r : State). r .threads ≡ s .threads) (isSchedulerOf (u .program) (u .choice)) _ s (λ _. refl) (λ _. refl)
 
--- the acting thread replaced by x, and gone from its list: there is one to spare, but for x itself if it is unlinked
+-- the acting thread replaced by x, and gone from its list: there is one to spare, but for x itself
+-- if it is unlinked
 pub left-count : (u : Turn) → Acting u → (x : Thread)
     → suc (total (leave u (settled u x) .schedulers) + unlinkedCount (leave u (settled u x) .threads)) ≤ length (u .state .threads) + free x
 left-count u a x =
@@ -219,8 +254,11 @@ left-count u a x =
     let l = nth-less (u .state .threads) (u .thread) x (h .1) in omega arith)
     (a .stands)
 
-left-length : (u : Turn) (x : Thread) → length (leave u (settled u x) .threads) ≡ length (u .state .threads)
-left-length u x = ap (length {A = Thread}) (leave-threads u (settled u x)) ∙ nth-length (u .state .threads) (u .thread) x
+left-length : (u : Turn) (x : Thread)
+    → length (leave u (settled u x) .threads) ≡ length (u .state .threads)
+left-length u x =
+    ap (length {A = Thread}) (leave-threads u (settled u x))
+    ∙ nth-length (u .state .threads) (u .thread) x
 
 free-le : (x : Thread) → free x ≤ 1
 unfolding free
@@ -239,7 +277,8 @@ pub enlist-threads : (q : ℕ) (e : Entry) (s : State) → enlist q e s .threads
 unfolding enlist
 enlist-threads q e s = refl
 
-enlisted-counted : (u : Turn) → Acting u → (x : Thread) (q : ℕ) (e : Entry) → free x ≡ 0 → Counted (enlist q e (leave u (settled u x)))
+enlisted-counted : (u : Turn) → Acting u → (x : Thread) (q : ℕ) (e : Entry) → free x ≡ 0
+    → Counted (enlist q e (leave u (settled u x)))
 enlisted-counted u a x q e z =
     let c = left-count u a x in let m = a .counted .most in let n = left-length u x in
     let g = enlist-total q e (leave u (settled u x)) in
@@ -252,13 +291,15 @@ not-free : (x : Thread) → eqb (x .place) 1 ≡ false → free x ≡ 0
 unfolding free isFree
 not-free x e = ap (λ (b : Bool). bit (b && not (x .ended))) e
 
-new-unlinked : (s : State) (x : Thread) → unlinkedCount (withNew x s .threads) ≡ unlinkedCount (s .threads) + free x
+new-unlinked : (s : State) (x : Thread)
+    → unlinkedCount (withNew x s .threads) ≡ unlinkedCount (s .threads) + free x
 new-unlinked s x = unlinked-snoc (s .threads) x
 
 new-length : (s : State) (x : Thread) → length (withNew x s .threads) ≡ length (s .threads) + 1
 new-length s x = length-append (s .threads) (x ∷ [])
 
-start-counted : (u : Turn) → Acting u → (x : Thread) (q : ℕ) (e : Entry) → free x ≡ 0 → length (u .state .threads) < 64
+start-counted : (u : Turn) → Acting u → (x : Thread) (q : ℕ) (e : Entry) → free x ≡ 0
+    → length (u .state .threads) < 64
     → Counted (enlist q e (withNew x (settled u (u .self))))
 start-counted u a x q e z r =
     let b = settled u (u .self) in
@@ -270,7 +311,8 @@ start-counted u a x q e z r =
     let nl = new-unlinked b x in let nn = new-length b x in
     record { most = omega arith; count = omega arith }
 
-wait-counted : (u : Turn) → Acting u → (x : Thread) (q : ℕ) (e f : Entry) → free x ≡ 0 → free (u .self) ≡ 0 → length (u .state .threads) < 64
+wait-counted : (u : Turn) → Acting u → (x : Thread) (q : ℕ) (e f : Entry) → free x ≡ 0
+    → free (u .self) ≡ 0 → length (u .state .threads) < 64
     → Counted (enlist q f (enlist q e (withNew x (leave u (settled u (u .self))))))
 wait-counted u a x q e f z y r =
     let b = leave u (settled u (u .self)) in
@@ -285,38 +327,46 @@ wait-counted u a x q e f z y r =
     let nl = new-unlinked b x in let nn = new-length b x in
     record { most = omega arith; count = omega arith }
 
--- ---- each step keeps it: one law for each way in which a turn goes on, then each statement, item and choice
+-- ---- each step keeps it: one law for each way in which a turn goes on, then each statement, item
+-- and choice
 
 abbrev Kept : Stepped → Type 0
 Kept r = Counted (r .state)
 
-kept-if : (b : Bool) (x y : Stepped) → (b ≡ true → Kept x) → (b ≡ false → Kept y) → Kept (if b then x else y)
+kept-if : (b : Bool) (x y : Stepped) → (b ≡ true → Kept x) → (b ≡ false → Kept y)
+    → Kept (if b then x else y)
 kept-if b x y f g = if-all Kept b x y f g
 
-kept-goOn : (u : Turn) (o : Outcome) (k : Value → Turn → Stepped) → Acting u → ((v : Value) → Kept (k v u)) → Kept (goOn u o k)
+kept-goOn : (u : Turn) (o : Outcome) (k : Value → Turn → Stepped) → Acting u
+    → ((v : Value) → Kept (k v u)) → Kept (goOn u o k)
 kept-goOn u (Is v) k a g = g v
 kept-goOn u Foreign k a g = a .counted
 kept-goOn u Spent k a g = a .counted
 kept-goOn u Stuck k a g = a .counted
 
-kept-value : (u : Turn) (m : Here → Evaluation) (k : Value → Turn → Stepped) → Acting u → ((v : Value) (w : Turn) → Acting w → Kept (k v w)) → Kept (withValue u m k)
+kept-value : (u : Turn) (m : Here → Evaluation) (k : Value → Turn → Stepped) → Acting u
+    → ((v : Value) (w : Turn) → Acting w → Kept (k v w)) → Kept (withValue u m k)
 kept-value u m k a g =
     let r : Evaluated = m (evaluator u) (u .cells) in
     let b : Acting (behind u r) = record { counted = a .counted; stands = a .stands; same = a .same; spaces = a .spaces } in
     kept-goOn (behind u r) (r .outcome) k b (λ v. g v (behind u r) b)
 
-kept-values : (u : Turn) (xs : List Expr) (k : List Value → Turn → Stepped) → Acting u → ((vs : List Value) (w : Turn) → Acting w → Kept (k vs w)) → Kept (withValues u xs k)
+kept-values : (u : Turn) (xs : List Expr) (k : List Value → Turn → Stepped) → Acting u
+    → ((vs : List Value) (w : Turn) → Acting w → Kept (k vs w)) → Kept (withValues u xs k)
 unfolding withValues
 kept-values u [] k a g = g [] u a
-kept-values u (x ∷ xs) k a g = kept-value u (λ h. eval h x) _ a (λ v w j. kept-values w xs _ j (λ vs. g (v ∷ vs)))
+kept-values u (x ∷ xs) k a g =
+    kept-value u (λ h. eval h x) _ a (λ v w j. kept-values w xs _ j (λ vs. g (v ∷ vs)))
 
-kept-by : (u : Turn) (v : Value) (a b : Stepped) → Acting u → Kept a → Kept b → Kept (byCondition u v a b)
+kept-by : (u : Turn) (v : Value) (a b : Stepped) → Acting u → Kept a → Kept b
+    → Kept (byCondition u v a b)
 kept-by u (Truth true) a b h f g = f
 kept-by u (Truth false) a b h f g = g
 kept-by u (Number n) a b h f g = h .counted
 kept-by u (Cell c) a b h f g = h .counted
 
-free-self : (u : Turn) (items : List Item) (vars : List Value) → free (selfAt u (here u) items vars) ≡ free (u .self)
+free-self : (u : Turn) (items : List Item) (vars : List Value)
+    → free (selfAt u (here u) items vars) ≡ free (u .self)
 unfolding free isFree
 free-self u items vars = refl
 
@@ -336,7 +386,8 @@ kept-goTo : (u : Turn) (q : ℕ) (items : List Item) → Acting u → Kept (goTo
 unfolding goTo
 kept-goTo u q items a = kept-if _ _ _ (λ _. kept-stay u items _ a) (λ _. kept-move u q items a)
 
-kept-starting : (u : Turn) (m : ℕ) (vs : List Value) (r : Stepped) → Acting u → (unlinkedHere u ≡ false → length (u .state .threads) < 64 → Kept r) → Kept (starting u m vs r)
+kept-starting : (u : Turn) (m : ℕ) (vs : List Value) (r : Stepped) → Acting u
+    → (unlinkedHere u ≡ false → length (u .state .threads) < 64 → Kept r) → Kept (starting u m vs r)
 unfolding starting
 kept-starting u m vs r a g =
     let f = a .counted in
@@ -356,53 +407,66 @@ kept-statement u (startWait i m xs) h =
 kept-statement u (cooperate i) h =
     kept-if _ _ _ (λ _. h .counted) (λ l. kept-if _ _ _ (λ _. enlisted-counted u h (u .self) _ _ (not-free (u .self) l)) (λ _. h .counted))
 kept-statement u (letIn i x a) h = kept-value u (λ e. eval e x) _ h (λ v w j. kept-stay w _ _ j)
-kept-statement u (store i x y) h = kept-value u (λ e. storing e x y) _ h (λ v w j. kept-stay w _ _ j)
+kept-statement u (store i x y) h =
+    kept-value u (λ e. storing e x y) _ h (λ v w j. kept-stay w _ _ j)
 kept-statement u (ifElse i x a b) h = kept-value u (λ e. eval e x) _ h (λ v w j. kept-by w v _ _ j (kept-stay w _ _ j) (kept-stay w _ _ j))
 kept-statement u (while i x a) h = kept-value u (λ e. eval e x) _ h (λ v w j. kept-by w v _ _ j (kept-stay w _ _ j) (kept-stay w _ _ j))
 
-pub free-same : (p : Program) (s : State) (c t : ℕ) → free (turn p s c t [] .self) ≡ free (threadAt s t)
+pub free-same : (p : Program) (s : State) (c t : ℕ)
+    → free (turn p s c t [] .self) ≡ free (threadAt s t)
 unfolding free isFree
 free-same p s c t = refl
 
-pub acting-with : (p : Program) (s : State) (c t : ℕ) (items : List Item) → Acting (turn p s c t []) → Acting (turn p s c t items)
+pub acting-with : (p : Program) (s : State) (c t : ℕ) (items : List Item) → Acting (turn p s c t [])
+    → Acting (turn p s c t items)
 unfolding free isFree
-acting-with p s c t items a = record { counted = a .counted; stands = a .stands; same = refl; spaces = refl }
+acting-with p s c t items a =
+    record { counted = a .counted; stands = a .stands; same = refl; spaces = refl }
 
-kept-items : (p : Program) (s : State) (c t : ℕ) (items : List Item) → Acting (turn p s c t []) → Kept (stepItems p s c t items)
+kept-items : (p : Program) (s : State) (c t : ℕ) (items : List Item) → Acting (turn p s c t [])
+    → Kept (stepItems p s c t items)
 unfolding ends drops goesBack
 kept-items p s c t [] a = left-counted (turn p s c t []) a _
-kept-items p s c t (run x ∷ items) a = kept-statement (turn p s c t items) x (acting-with p s c t items a)
-kept-items p s c t (back q ∷ items) a = kept-goTo (turn p s c t items) q _ (acting-with p s c t items a)
+kept-items p s c t (run x ∷ items) a =
+    kept-statement (turn p s c t items) x (acting-with p s c t items a)
+kept-items p s c t (back q ∷ items) a =
+    kept-goTo (turn p s c t items) q _ (acting-with p s c t items a)
 kept-items p s c t (drop ∷ items) a = kept-if _ _ _ (λ _. a .counted) (λ _. kept-stay (turn p s c t items) _ _ (acting-with p s c t items a))
 
-kept-thread : (p : Program) (s : State) (c t : ℕ) → Acting (turn p s c t []) → Kept (stepThread p s c t)
+kept-thread : (p : Program) (s : State) (c t : ℕ) → Acting (turn p s c t [])
+    → Kept (stepThread p s c t)
 unfolding stepThreadWithin
 kept-thread p s c t a = kept-items p s c t (threadAt s t .continuation) a
 
 -- ready entries become active, waiting ones stay: none is lost, none is doubled
-pub parted : (ts : List Thread) (es : List Entry) → length (readyThreads ts es) + length (stillWaiting ts es) ≡ length es
+pub parted : (ts : List Thread) (es : List Entry)
+    → length (readyThreads ts es) + length (stillWaiting ts es) ≡ length es
 unfolding readyThreads stillWaiting
 parted ts [] = omega arith
 parted ts (e ∷ es) = go (isReady ts e) (parted ts es)
   where
     go : (b : Bool) → length (readyThreads ts es) + length (stillWaiting ts es) ≡ length es
-        → length (keepIf b (threadOf e) (readyThreads ts es)) + length (keepIf (not b) e (stillWaiting ts es)) ≡ suc (length es)
+        → length (keepIf b (threadOf e) (readyThreads ts es)) + length (keepIf (not b) e (stillWaiting ts es))
+        ≡ suc (length es)
     go true h = omega arith
     go false h = omega arith
 
-weighs : (s : State) (c : ℕ) (ts : List ℕ) (es : List Entry) → length ts + length es ≤ weight (schedulerAt s c)
+weighs : (s : State) (c : ℕ) (ts : List ℕ) (es : List Entry)
+    → length ts + length es ≤ weight (schedulerAt s c)
     → weight (record { active = ts; next = es }) ≤ weight (schedulerAt s c) + 0
 unfolding weight
 weighs s c ts es h = omega arith
 
-kept-instant : (s : State) (c : ℕ) (ts : List ℕ) (es : List Entry) → Counted s → length ts + length es ≤ weight (schedulerAt s c) → Kept (turnInstant s c ts es)
+kept-instant : (s : State) (c : ℕ) (ts : List ℕ) (es : List Entry) → Counted s
+    → length ts + length es ≤ weight (schedulerAt s c) → Kept (turnInstant s c ts es)
 kept-instant s c [] es h l = h
 kept-instant s c (t ∷ ts) es h l =
     let g = total-set-le (s .schedulers) (c - 2) 0 (record { active = t ∷ ts; next = es }) (weighs s c (t ∷ ts) es l) in
     let n = h .count in
     record { most = h .most; count = omega arith }
 
-kept-scheduler : (p : Program) (s : State) (c : ℕ) (ts : List ℕ) → Counted s → isSchedulerOf p c ≡ true → ts ≡ schedulerAt s c .active → Kept (stepScheduler p s c ts)
+kept-scheduler : (p : Program) (s : State) (c : ℕ) (ts : List ℕ) → Counted s
+    → isSchedulerOf p c ≡ true → ts ≡ schedulerAt s c .active → Kept (stepScheduler p s c ts)
 unfolding endInstant weight
 kept-scheduler p s c [] h i e =
     let es = schedulerAt s c .next in
@@ -436,4 +500,5 @@ empty-total (suc n) = let g = empty-total n in omega arith
 
 pub fresh-counted : (p : Program) → Counted (fresh p)
 unfolding fresh total weight unlinkedCount free isFree
-fresh-counted p = let g = empty-total (p .schedulers - 1) in record { most = omega arith; count = omega arith }
+fresh-counted p =
+    let g = empty-total (p .schedulers - 1) in record { most = omega arith; count = omega arith }

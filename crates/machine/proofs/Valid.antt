@@ -14,18 +14,25 @@ use Rattle.basics.proofs.Ifs.{if-yes, if-no, and-true}
 use Rattle.language.specs.declared.frame.Frame.{Frame}
 use Rattle.program.proofs.Roots.{statement-root}
 use Rattle.machine.specs.State.{Stored, Thread, Scheduler, noThread, noScheduler, noCell}
-use Rattle.machine.specs.Words.{bit, valueWord, wordValue, itemWord, wordItem, entryWord, wordEntry, cellWord, wordCell, listWord, threadWord, schedulerWord, tabulate, wordsAt, threadFrom, schedulerFrom, unpack, pack}
-use Rattle.machine.specs.inner.Ranges.{itemInRange, valueInRange, entryInRange, threadInRange, cellInRange, inRange}
+use Rattle.machine.specs.Words.{bit, valueWord, wordValue, itemWord, wordItem, entryWord}
+use Rattle.machine.specs.Words.{wordEntry, cellWord, wordCell, listWord, threadWord}
+use Rattle.machine.specs.Words.{schedulerWord, tabulate, wordsAt, threadFrom, schedulerFrom}
+use Rattle.machine.specs.Words.{unpack, pack}
+use Rattle.machine.specs.inner.Ranges.{itemInRange, valueInRange, entryInRange, threadInRange}
+use Rattle.machine.specs.inner.Ranges.{cellInRange, inRange}
 use Rattle.machine.specs.Shapes.{ownerInRange}
 use Rattle.machine.proofs.Lists.{all-reverse}
 use Rattle.machine.proofs.Regions.{by-thread-word, by-scheduler-word}
 use Rattle.machine.proofs.WordLaws.{tab-length, tab-at, tab-from, Says, is-pack}
-use Rattle.machine.proofs.Round.{map-back, thread-0, thread-1, thread-2, thread-continuation, thread-variables, scheduler-active, scheduler-next}
-use Rattle.machine.proofs.Ranges.{InRange, Space, space-of, range-items, range-variables, range-active, range-next, range-lives, in-range}
+use Rattle.machine.proofs.Round.{map-back, thread-0, thread-1, thread-2, thread-continuation}
+use Rattle.machine.proofs.Round.{thread-variables, scheduler-active, scheduler-next}
+use Rattle.machine.proofs.Ranges.{InRange, Space, space-of, range-items, range-variables}
+use Rattle.machine.proofs.Ranges.{range-active, range-next, range-lives, in-range}
 
 -- ---- single words: `x-there` says that the word of what a word says is that word
 
-pub item-there : (fs : List Frame) (n v : ℕ) → itemInRange fs n v ≡ true → itemWord (wordItem fs v) ≡ v
+pub item-there : (fs : List Frame) (n v : ℕ) → itemInRange fs n v ≡ true
+    → itemWord (wordItem fs v) ≡ v
 unfolding itemWord wordItem itemInRange
 item-there fs n v h = first (ltb v 1024) refl
   where
@@ -46,7 +53,8 @@ pub value-there : (v : ℕ) → valueInRange v ≡ true → valueWord (wordValue
 unfolding valueWord wordValue valueInRange
 value-there v h = first (ltb v (2 ^ 32)) refl
   where
-    truth : 2 ^ 32 ≤ v → v ≤ 2 ^ 32 + 1 → Dec (v ≡ 2 ^ 32 + 1) → 2 ^ 32 + bit (eqb v (2 ^ 32 + 1)) ≡ v
+    truth : 2 ^ 32 ≤ v → v ≤ 2 ^ 32 + 1 → Dec (v ≡ 2 ^ 32 + 1)
+        → 2 ^ 32 + bit (eqb v (2 ^ 32 + 1)) ≡ v
     truth a b (yes e) = ap (λ c. 2 ^ 32 + bit c) (eq-eqb v (2 ^ 32 + 1) e) ∙ sym e
     truth a b (no e) = ap (λ c. 2 ^ 32 + bit c) (ne-eqb v (2 ^ 32 + 1) e) ∙ low a b e
       where
@@ -54,8 +62,12 @@ value-there v h = first (ltb v (2 ^ 32)) refl
         low a b e = omega arith
 
     second : 2 ^ 32 ≤ v → (b : Bool) → ltb v (2 * 2 ^ 32) ≡ b → valueWord (wordValue v) ≡ v
-    second l true e = ap valueWord (if-no _ _ (le-ltb v (2 ^ 32) l) ∙ if-yes _ _ e) ∙ truth l (leb-true v (2 ^ 32 + 1) (sym (if-no _ _ (le-ltb v (2 ^ 32) l) ∙ if-yes _ _ e) ∙ h)) (ℕ-discrete v (2 ^ 32 + 1))
-    second l false e = ap valueWord (if-no _ _ (le-ltb v (2 ^ 32) l) ∙ if-no _ _ e) ∙ up (ltb-false v (2 * 2 ^ 32) e)
+    second l true e =
+        ap valueWord (if-no _ _ (le-ltb v (2 ^ 32) l) ∙ if-yes _ _ e)
+        ∙ truth l (leb-true v (2 ^ 32 + 1) (sym (if-no _ _ (le-ltb v (2 ^ 32) l) ∙ if-yes _ _ e) ∙ h)) (ℕ-discrete v (2 ^ 32 + 1))
+    second l false e =
+        ap valueWord (if-no _ _ (le-ltb v (2 ^ 32) l) ∙ if-no _ _ e)
+        ∙ up (ltb-false v (2 * 2 ^ 32) e)
       where
         up : 2 * 2 ^ 32 ≤ v → 2 * 2 ^ 32 + (v - 2 * 2 ^ 32) ≡ v
         up a = omega arith
@@ -85,7 +97,8 @@ cell-there n v h =
 
 -- ---- lists
 
-tab-all : (P : ℕ → Type 0) (n : ℕ) (f : ℕ → ℕ) (i : ℕ) → ((j : ℕ) → j < n → P (f (i + j))) → All P (tabulate n f i)
+tab-all : (P : ℕ → Type 0) (n : ℕ) (f : ℕ → ℕ) (i : ℕ) → ((j : ℕ) → j < n → P (f (i + j)))
+    → All P (tabulate n f i)
 unfolding tabulate
 tab-all P zero f i h = none
 tab-all P (suc n) f i h =
@@ -97,7 +110,9 @@ module _ (test : ℕ → Bool) (w : List ℕ) (i most : ℕ) (s : Space test w i
   list-all = tab-all (λ (v : ℕ). test v ≡ true) (getD w i 0) (λ j. getD w j 0) (suc i) (λ j g. let a : i + suc j ≡ suc i + j = omega arith in subst (λ (k : ℕ). test (getD w k 0) ≡ true) a (s .used j g))
 
   list-says : (j : ℕ) → j < suc most → getD w (i + j) 0 ≡ listWord (wordsAt w i) j
-  list-says zero g = ap (λ (k : ℕ). getD w k 0) (add-zero i) ∙ sym (tab-length (getD w i 0) (λ j. getD w j 0) (suc i))
+  list-says zero g =
+      ap (λ (k : ℕ). getD w k 0) (add-zero i)
+      ∙ sym (tab-length (getD w i 0) (λ j. getD w j 0) (suc i))
   list-says (suc j) g = go (ltb j (getD w i 0)) refl
     where
       go : (b : Bool) → ltb j (getD w i 0) ≡ b → getD w (i + suc j) 0 ≡ getD (wordsAt w i) j 0
@@ -108,14 +123,17 @@ module _ (test : ℕ → Bool) (w : List ℕ) (i most : ℕ) (s : Space test w i
 
 -- ---- a block is a thread's or a scheduler's where each of its spots is
 
-thread-cases : (x : Thread) (v : ℕ → ℕ) → v 0 ≡ x .place → v 1 ≡ x .starter → v 2 ≡ bit (not (x .ended))
-    → ((j : ℕ) → j < 26 → v (3 + j) ≡ listWord (reverse (map itemWord (x .continuation))) j) → ((j : ℕ) → j < 26 → v (29 + j) ≡ listWord (map valueWord (x .variables)) j)
+thread-cases : (x : Thread) (v : ℕ → ℕ) → v 0 ≡ x .place → v 1 ≡ x .starter
+    → v 2 ≡ bit (not (x .ended))
+    → ((j : ℕ) → j < 26 → v (3 + j) ≡ listWord (reverse (map itemWord (x .continuation))) j)
+    → ((j : ℕ) → j < 26 → v (29 + j) ≡ listWord (map valueWord (x .variables)) j)
     → (j : ℕ) → j < 55 → v j ≡ threadWord x j
 thread-cases x v a b c d e =
     by-thread-word (λ (j : ℕ). v j ≡ threadWord x j) (a ∙ sym (thread-0 x)) (b ∙ sym (thread-1 x)) (c ∙ sym (thread-2 x))
     (λ j g. d j g ∙ sym (thread-continuation x j g)) (λ j g. e j g ∙ sym (thread-variables x j g))
 
-scheduler-cases : (x : Scheduler) (v : ℕ → ℕ) → ((j : ℕ) → j < 65 → v j ≡ listWord (x .active) j) → ((j : ℕ) → j < 65 → v (65 + j) ≡ listWord (map entryWord (x .next)) j)
+scheduler-cases : (x : Scheduler) (v : ℕ → ℕ) → ((j : ℕ) → j < 65 → v j ≡ listWord (x .active) j)
+    → ((j : ℕ) → j < 65 → v (65 + j) ≡ listWord (map entryWord (x .next)) j)
     → (j : ℕ) → j < 130 → v j ≡ schedulerWord x j
 scheduler-cases x v a b =
     by-scheduler-word (λ (j : ℕ). v j ≡ schedulerWord x j) (λ j g. a j g ∙ sym (scheduler-active x j g)) (λ j g. b j g ∙ sym (scheduler-next x j g))
@@ -132,17 +150,20 @@ bit-there (suc (suc v)) h = absurd (omega arith)
 -- ---- the words of what is not there are 0
 
 pub no-thread-word : (j : ℕ) → j < 55 → 0 ≡ threadWord noThread j
-no-thread-word j g = thread-cases noThread (λ i. 0) refl refl refl (λ i q. nil-word i) (λ i q. nil-word i) j g
+no-thread-word j g =
+    thread-cases noThread (λ i. 0) refl refl refl (λ i q. nil-word i) (λ i q. nil-word i) j g
 
 pub no-scheduler-word : (j : ℕ) → j < 130 → 0 ≡ schedulerWord noScheduler j
-no-scheduler-word j g = scheduler-cases noScheduler (λ i. 0) (λ i q. nil-word i) (λ i q. nil-word i) j g
+no-scheduler-word j g =
+    scheduler-cases noScheduler (λ i. 0) (λ i q. nil-word i) (λ i q. nil-word i) j g
 
 pub no-cell-word : 0 ≡ cellWord noCell
 unfolding cellWord valueWord
 no-cell-word = refl
 
 -- an entry of a table, or its default
-pub table-there : {A : Type 0} (m k : ℕ) (f : ℕ → A) (d : A) (P : A → Type 0) → (k < m → P (f k)) → (m ≤ k → P d) → P (getD (tabulate m f 0) k d)
+pub table-there : {A : Type 0} (m k : ℕ) (f : ℕ → A) (d : A) (P : A → Type 0) → (k < m → P (f k))
+    → (m ≤ k → P d) → P (getD (tabulate m f 0) k d)
 table-there m k f d P a b = go (ltb k m) refl
   where
     go : (c : Bool) → ltb k m ≡ c → P (getD (tabulate m f 0) k d)
@@ -169,7 +190,8 @@ module _ (fs : List Frame) (n : ℕ) (w : List ℕ) (h : InRange fs n w) where
   pub lives-word : (k : ℕ) → k < getD w 0 0 → getD w (1042 + 55 * k + 2) 0 ≤ 1
   lives-word k a = leb-true (getD w (1042 + 55 * k + 2) 0) 1 (sym (range-lives fs n w (1042 + 55 * k)) ∙ h .thread k 2 (omega arith) a)
 
-  thread-there : (k j : ℕ) → k < getD w 0 0 → j < 55 → getD w (1042 + 55 * k + j) 0 ≡ threadWord (threadFrom fs w k) j
+  thread-there : (k j : ℕ) → k < getD w 0 0 → j < 55
+      → getD w (1042 + 55 * k + j) 0 ≡ threadWord (threadFrom fs w k) j
   unfolding threadFrom
   thread-there k j a g = thread-cases (threadFrom fs w k) (λ i. getD w (1042 + 55 * k + i) 0)
       (ap (λ (m : ℕ). getD w m 0) (add-zero (1042 + 55 * k))) refl (bit-there (getD w (1042 + 55 * k + 2) 0) (lives-word k a))
@@ -182,13 +204,18 @@ module _ (fs : List Frame) (n : ℕ) (w : List ℕ) (h : InRange fs n w) where
       ps : List ℕ
       ps = wordsAt w (1042 + 55 * k + 3)
 
-      continuation : reverse (map itemWord (map (wordItem fs) (reverse (wordsAt w (1042 + 55 * k + 3))))) ≡ wordsAt w (1042 + 55 * k + 3)
-      continuation = ap reverse (map-back (λ (v : ℕ). itemInRange fs n v ≡ true) (wordItem fs) itemWord (item-there fs n) (reverse ps) (all-reverse (λ (v : ℕ). itemInRange fs n v ≡ true) ps (list-all (itemInRange fs n) w (1042 + 55 * k + 3) 25 (items-space k a)))) ∙ reverse-reverse ps
+      continuation : reverse (map itemWord (map (wordItem fs) (reverse (wordsAt w (1042 + 55 * k + 3)))))
+          ≡ wordsAt w (1042 + 55 * k + 3)
+      continuation =
+          ap reverse (map-back (λ (v : ℕ). itemInRange fs n v ≡ true) (wordItem fs) itemWord (item-there fs n) (reverse ps) (all-reverse (λ (v : ℕ). itemInRange fs n v ≡ true) ps (list-all (itemInRange fs n) w (1042 + 55 * k + 3) 25 (items-space k a))))
+          ∙ reverse-reverse ps
 
-      values : map valueWord (map wordValue (wordsAt w (1042 + 55 * k + 29))) ≡ wordsAt w (1042 + 55 * k + 29)
+      values : map valueWord (map wordValue (wordsAt w (1042 + 55 * k + 29)))
+          ≡ wordsAt w (1042 + 55 * k + 29)
       values = map-back (λ (v : ℕ). valueInRange v ≡ true) wordValue valueWord value-there (wordsAt w (1042 + 55 * k + 29)) (list-all valueInRange w (1042 + 55 * k + 29) 25 (values-space k a))
 
-  scheduler-there : (k j : ℕ) → k < 8 → k < n → j < 130 → getD w (2 + 130 * k + j) 0 ≡ schedulerWord (schedulerFrom w k) j
+  scheduler-there : (k j : ℕ) → k < 8 → k < n → j < 130
+      → getD w (2 + 130 * k + j) 0 ≡ schedulerWord (schedulerFrom w k) j
   unfolding schedulerFrom
   scheduler-there k j l a g = scheduler-cases (schedulerFrom w k) (λ i. getD w (2 + 130 * k + i) 0)
       (λ i q. list-says threadInRange w (2 + 130 * k) 64 (active-space k l a) i (omega arith))
@@ -214,5 +241,6 @@ module _ (fs : List Frame) (n : ℕ) (w : List ℕ) (h : InRange fs n w) where
   }
 
 -- words in range are those of the state that they say
-pub packed : (fs : List Frame) (n : ℕ) (w : List ℕ) → inRange fs n w ≡ true → w ≡ pack (unpack fs n w)
+pub packed : (fs : List Frame) (n : ℕ) (w : List ℕ) → inRange fs n w ≡ true
+    → w ≡ pack (unpack fs n w)
 packed fs n w e = is-pack w (unpack fs n w) (says-unpack fs n w (in-range fs n w e))

@@ -1,4 +1,5 @@
--- The words of a packed state, spot by spot; and before them what they are made of: tables, parts of lists, a block of a list replaced. Assumes nothing.
+-- The words of a packed state, spot by spot; and before them what they are made of: tables, parts
+-- of lists, a block of a list replaced. Assumes nothing.
 use Prim.Native.Nat.{ℕ, suc, zero, _+_, _*_, _-_, _/_, _%_, _<_, _≤_}
 use mathlib.Core.Path.{_≡_, refl, sym, ap, ap₂, _∙_}
 use mathlib.Core.List.{List, _++_}
@@ -7,7 +8,8 @@ use native.Mathlib.Omega.{arith}
 use native.Mathlib.Nat.{zero-add}
 use native.Mathlib.Numerals.{add-one}
 use lib.ListN.{getD, length, set, take, drop, length-drop, List·getD-append}
-use lib.Seq.{ext-getD, getD-take, getD-drop, length-take-le, length-paste, length-paste-head, getD-append-add, paste-zero, paste-suc}
+use lib.Seq.{ext-getD, getD-take, getD-drop, length-take-le, length-paste, length-paste-head}
+use lib.Seq.{getD-append-add, paste-zero, paste-suc}
 use lib.Dec.{ltb}
 use borrow.Author.Tests.{ltb-true, ltb-false, lt-ltb, le-ltb, eq-eqb, ne-eqb}
 use Rattle.basics.proofs.Ifs.{if-yes, if-no}
@@ -22,13 +24,15 @@ unfolding tabulate
 tab-length zero f i = refl
 tab-length (suc n) f i = ap suc (tab-length n f (suc i))
 
-pub tab-from : {A : Type 0} (n : ℕ) (f : ℕ → A) (i j : ℕ) (d : A) → j < n → getD (tabulate n f i) j d ≡ f (i + j)
+pub tab-from : {A : Type 0} (n : ℕ) (f : ℕ → A) (i j : ℕ) (d : A) → j < n
+    → getD (tabulate n f i) j d ≡ f (i + j)
 unfolding tabulate
 tab-from zero f i j d h = absurd (omega arith)
 tab-from (suc n) f i zero d h = ap f (omega arith)
 tab-from (suc n) f i (suc j) d h = tab-from n f (suc i) j d (omega arith) ∙ ap f (omega arith)
 
-pub tab-at : {A : Type 0} (n : ℕ) (f : ℕ → A) (j : ℕ) (d : A) → j < n → getD (tabulate n f 0) j d ≡ f j
+pub tab-at : {A : Type 0} (n : ℕ) (f : ℕ → A) (j : ℕ) (d : A) → j < n
+    → getD (tabulate n f 0) j d ≡ f j
 tab-at n f j d h = tab-from n f 0 j d h ∙ ap f (zero-add j)
 
 -- ---- parts
@@ -45,7 +49,8 @@ pub pasted-zero : (d : List ℕ) (at : ℕ) (s : List ℕ) → d ≡ pasted d at
 unfolding pasted
 pasted-zero d at s = paste-zero d at s
 
-pub pasted-more : (d s a : List ℕ) (at j v : ℕ) → a ≡ pasted d at s j → v ≡ getD s j 0 → at + j < length d → j < length s → set a (at + j) v ≡ pasted d at s (j + 1)
+pub pasted-more : (d s a : List ℕ) (at j v : ℕ) → a ≡ pasted d at s j → v ≡ getD s j 0
+    → at + j < length d → j < length s → set a (at + j) v ≡ pasted d at s (j + 1)
 unfolding pasted
 pasted-more d s a at j v e q hd hs =
     ap (λ (r : List ℕ). set r (at + j) v) e ∙ ap (λ (x : ℕ). set (pasted d at s j) (at + j) x) q
@@ -109,9 +114,12 @@ word-0 s = pack-at s 0 (omega arith) ∙ if-yes _ _ (eq-eqb 0 0 refl)
 
 pub word-1 : (s : State) → getD (pack s) 1 0 ≡ usedCells (s .cells)
 unfolding wordOf
-word-1 s = pack-at s 1 (omega arith) ∙ if-no _ _ (ne-eqb 1 0 (λ e. omega arith)) ∙ if-yes _ _ (eq-eqb 1 1 refl)
+word-1 s =
+    pack-at s 1 (omega arith) ∙ if-no _ _ (ne-eqb 1 0 (λ e. omega arith))
+    ∙ if-yes _ _ (eq-eqb 1 1 refl)
 
-pub word-scheduler : (s : State) (k j : ℕ) → k < 8 → j < 130 → getD (pack s) (2 + 130 * k + j) 0 ≡ schedulerWord (getD (s .schedulers) k noScheduler) j
+pub word-scheduler : (s : State) (k j : ℕ) → k < 8 → j < 130
+    → getD (pack s) (2 + 130 * k + j) 0 ≡ schedulerWord (getD (s .schedulers) k noScheduler) j
 unfolding wordOf
 word-scheduler s k j h g =
     let i : ℕ = 2 + 130 * k + j in
@@ -121,7 +129,8 @@ word-scheduler s k j h g =
     ∙ if-yes _ _ (lt-ltb i 1042 (omega arith))
     ∙ ap₂ (λ (x y : ℕ). schedulerWord (getD (s .schedulers) x noScheduler) y) a b
 
-pub word-thread : (s : State) (k j : ℕ) → k < 64 → j < 55 → getD (pack s) (1042 + 55 * k + j) 0 ≡ threadWord (getD (s .threads) k noThread) j
+pub word-thread : (s : State) (k j : ℕ) → k < 64 → j < 55
+    → getD (pack s) (1042 + 55 * k + j) 0 ≡ threadWord (getD (s .threads) k noThread) j
 unfolding wordOf
 word-thread s k j h g =
     let i : ℕ = 1042 + 55 * k + j in
@@ -131,7 +140,8 @@ word-thread s k j h g =
     ∙ if-no _ _ (le-ltb i 1042 (omega arith)) ∙ if-yes _ _ (lt-ltb i 4562 (omega arith))
     ∙ ap₂ (λ (x y : ℕ). threadWord (getD (s .threads) x noThread) y) a b
 
-pub word-cell : (s : State) (j : ℕ) → j < 256 → getD (pack s) (4562 + j) 0 ≡ cellWord (getD (s .cells) j noCell)
+pub word-cell : (s : State) (j : ℕ) → j < 256
+    → getD (pack s) (4562 + j) 0 ≡ cellWord (getD (s .cells) j noCell)
 unfolding wordOf
 word-cell s j g =
     let i : ℕ = 4562 + j in
@@ -140,21 +150,26 @@ word-cell s j g =
     ∙ if-no _ _ (le-ltb i 1042 (omega arith)) ∙ if-no _ _ (le-ltb i 4562 (omega arith))
     ∙ ap (λ (x : ℕ). cellWord (getD (s .cells) x noCell)) a
 
--- each spot of w says what it says of the state s: the laws about changed words are stated of this, and come to `pack` only at the end, by `is-pack`
+-- each spot of w says what it says of the state s: the laws about changed words are stated of this,
+-- and come to `pack` only at the end, by `is-pack`
 pub record Says (w : List ℕ) (s : State) : Type 0 where
   pub all : length w ≡ 4818
   pub threads : getD w 0 0 ≡ length (s .threads)
   pub cells : getD w 1 0 ≡ usedCells (s .cells)
-  pub scheduler : (k j : ℕ) → k < 8 → j < 130 → getD w (2 + 130 * k + j) 0 ≡ schedulerWord (getD (s .schedulers) k noScheduler) j
-  pub thread : (k j : ℕ) → k < 64 → j < 55 → getD w (1042 + 55 * k + j) 0 ≡ threadWord (getD (s .threads) k noThread) j
+  pub scheduler : (k j : ℕ) → k < 8 → j < 130
+      → getD w (2 + 130 * k + j) 0 ≡ schedulerWord (getD (s .schedulers) k noScheduler) j
+  pub thread : (k j : ℕ) → k < 64 → j < 55
+      → getD w (1042 + 55 * k + j) 0 ≡ threadWord (getD (s .threads) k noThread) j
   pub cell : (j : ℕ) → j < 256 → getD w (4562 + j) 0 ≡ cellWord (getD (s .cells) j noCell)
 
 -- the same at an index i that is not written as a block's first and an offset
 module _ {w : List ℕ} {s : State} (h : Says w s) where
-  pub thread-says : (k j i : ℕ) → k < 64 → j < 55 → i ≡ 1042 + 55 * k + j → getD w i 0 ≡ threadWord (getD (s .threads) k noThread) j
+  pub thread-says : (k j i : ℕ) → k < 64 → j < 55 → i ≡ 1042 + 55 * k + j
+      → getD w i 0 ≡ threadWord (getD (s .threads) k noThread) j
   thread-says k j i a b e = ap (λ (m : ℕ). getD w m 0) e ∙ h .thread k j a b
 
-  pub scheduler-says : (k j i : ℕ) → k < 8 → j < 130 → i ≡ 2 + 130 * k + j → getD w i 0 ≡ schedulerWord (getD (s .schedulers) k noScheduler) j
+  pub scheduler-says : (k j i : ℕ) → k < 8 → j < 130 → i ≡ 2 + 130 * k + j
+      → getD w i 0 ≡ schedulerWord (getD (s .schedulers) k noScheduler) j
   scheduler-says k j i a b e = ap (λ (m : ℕ). getD w m 0) e ∙ h .scheduler k j a b
 
 -- words that say a state are its words

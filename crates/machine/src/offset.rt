@@ -1,5 +1,5 @@
-// Where each part of a state lies in the lent words, and how parts are told apart in a word. specs/Offsets
-// has the same numbers for the definitions.
+// Where each part of a state lies in the lent words, and how parts are told apart in a word.
+// specs/Offsets has the same numbers for the definitions.
 use language::limit::MOST_CELLS;
 use language::limit::MOST_ITEMS;
 use language::limit::MOST_SCHEDULERS;
@@ -19,7 +19,8 @@ pub const SCHEDULER_LENGTH: usize = 2 * LIST_LENGTH;
 pub const NEXT_LIST_AT: usize = SCHEDULERS_AT + LIST_LENGTH;
 
 pub const THREADS_AT: usize = SCHEDULERS_AT + MOST_SCHEDULERS as usize * SCHEDULER_LENGTH;
-// A thread: its place, its starter, 1 while it lives, its continuation from the bottom, its variables.
+// A thread: its place, its starter, 1 while it lives, its continuation from the bottom, its
+// variables.
 pub const PLACE_FIELD: usize = 0;
 
 pub const STARTER_FIELD: usize = 1;
@@ -46,8 +47,8 @@ pub const WAITING_FACTOR: u64 = 128;
 pub const TRUTH_FROM: u64 = 0x0001_0000_0000;
 
 pub const CELL_FROM: u64 = 0x0002_0000_0000;
-// A cell: this many times the owner, and the content. A private cell's owner is THREAD_OWNER_FROM and its
-// thread, which is also how a choice names a thread.
+// A cell: this many times the owner, and the content. A private cell's owner is THREAD_OWNER_FROM
+// and its thread, which is also how a choice names a thread.
 pub const OWNER_FACTOR: u64 = 0x0004_0000_0000;
 
 pub const THREAD_OWNER_FROM: u64 = 16;

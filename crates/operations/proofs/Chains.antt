@@ -17,17 +17,21 @@ Refused Foreign = Unit {0}
 Refused Spent = Unit {0}
 Refused Stuck = Unit {0}
 
-pub then-is : (x : Result) (v : Value) (k : Value → ℕ → List ℕ → Result) (r : Result) → x .outcome ≡ Is v → r ≡ k v (x .used) (x .words) → r ≡ andThen x k
+pub then-is : (x : Result) (v : Value) (k : Value → ℕ → List ℕ → Result) (r : Result)
+    → x .outcome ≡ Is v → r ≡ k v (x .used) (x .words) → r ≡ andThen x k
 then-is x v k r e h = h ∙ sym (ap (λ (o : Outcome). thenBy o (x .used) (x .words) k) e)
 
-refused-then : (o : Outcome) (n : ℕ) (ws : List ℕ) (k : Value → ℕ → List ℕ → Result) → Refused o → result o n ws ≡ thenBy o n ws k
+refused-then : (o : Outcome) (n : ℕ) (ws : List ℕ) (k : Value → ℕ → List ℕ → Result) → Refused o
+    → result o n ws ≡ thenBy o n ws k
 refused-then (Is v) n ws k h = absurd h
 refused-then Foreign n ws k h = refl
 refused-then Spent n ws k h = refl
 refused-then Stuck n ws k h = refl
 
-pub then-keeps : (x : Result) (k : Value → ℕ → List ℕ → Result) (o : Outcome) → x .outcome ≡ o → Refused o → x ≡ andThen x k
+pub then-keeps : (x : Result) (k : Value → ℕ → List ℕ → Result) (o : Outcome) → x .outcome ≡ o
+    → Refused o → x ≡ andThen x k
 then-keeps x k o e n = refused-then (x .outcome) (x .used) (x .words) k (subst Refused (sym e) n)
 
-pub using-row : (who : Who) (u v : CellUse) (x r : Result) → u ≡ v → r ≡ andThen x (usingIn who v) → r ≡ andThen x (usingIn who u)
+pub using-row : (who : Who) (u v : CellUse) (x r : Result) → u ≡ v → r ≡ andThen x (usingIn who v)
+    → r ≡ andThen x (usingIn who u)
 using-row who u v x r e h = h ∙ sym (ap (λ (y : CellUse). andThen x (usingIn who y)) e)

@@ -1,4 +1,5 @@
--- The operations of operation.rt: a law for each return of each function. Two numbers with an equation between them are one number at two widths, before and behind a cast. Assumes nothing.
+-- The operations of operation.rt: a law for each return of each function. Two numbers with an
+-- equation between them are one number at two widths, before and behind a cast. Assumes nothing.
 use mathlib.Core.Path.{_≡_, refl, sym, ap, _∙_}
 use mathlib.Core.List.{List}
 use mathlib.Core.Bool.{Bool, true, false, not, _||_, _&&_}
@@ -21,7 +22,10 @@ use Rattle.machine.specs.declared.value.Outcome.the-variants.{Is, Foreign, Spen
 use Rattle.operations.specs.declared.Who.{Who}
 use Rattle.operations.specs.inner.Lent.{countOf, cellsOf}
 use Rattle.operations.specs.inner.Results.{result, resultIn}
-use Rattle.operations.specs.inner.ByWords.{valueIn, ownerIn, contentIn, cellOf, ownIn, newOwnerIn, variableIn, sharedIn, leafIn, makeIn, refusalOr, accessIn, readIn, reading, wordAfter, storeIn}
+use Rattle.operations.specs.inner.ByWords.{valueIn, ownerIn, contentIn, cellOf, ownIn}
+use Rattle.operations.specs.inner.ByWords.{newOwnerIn, variableIn, sharedIn, leafIn, makeIn}
+use Rattle.operations.specs.inner.ByWords.{refusalOr, accessIn, readIn, reading, wordAfter}
+use Rattle.operations.specs.inner.ByWords.{storeIn}
 use Rattle.operations.proofs.InState.{cell-at, put-in, new-in}
 
 -- ---- owners: the thread's own cells, then its scheduler's; an unlinked thread has none of those
@@ -29,12 +33,16 @@ pub own-thread : (who : Who) (o r : ℕ) → r ≡ who .thread → o ≡ 16 + r 
 unfolding ownIn
 own-thread who o r h e = ap (λ (b : Bool). b || leb 2 (who .place .number) && eqb o (who .place .number)) (sym (eq-eqb o (16 + who .thread) (omega arith)))
 
-other-thread : (who : Who) (o r : ℕ) (b : Bool) → r ≡ who .thread → (o ≡ 16 + r → ⊥) → b ≡ (leb 2 (who .place .number) && eqb o (who .place .number)) → b ≡ ownIn who o
+other-thread : (who : Who) (o r : ℕ) (b : Bool) → r ≡ who .thread → (o ≡ 16 + r → ⊥)
+    → b ≡ (leb 2 (who .place .number) && eqb o (who .place .number)) → b ≡ ownIn who o
 unfolding ownIn
-other-thread who o r b h e q = q ∙ ap (λ (x : Bool). x || leb 2 (who .place .number) && eqb o (who .place .number)) (sym (ne-eqb o (16 + who .thread) (λ z. e (omega arith))))
+other-thread who o r b h e q =
+    q
+    ∙ ap (λ (x : Bool). x || leb 2 (who .place .number) && eqb o (who .place .number)) (sym (ne-eqb o (16 + who .thread) (λ z. e (omega arith))))
 
 -- k is the number of home
-pub own-unlinked : (who : Who) (o r p k : ℕ) → r ≡ who .thread → (o ≡ 16 + r → ⊥) → p ≡ who .place .number → k ≡ 2 → p < k → false ≡ ownIn who o
+pub own-unlinked : (who : Who) (o r p k : ℕ) → r ≡ who .thread → (o ≡ 16 + r → ⊥)
+    → p ≡ who .place .number → k ≡ 2 → p < k → false ≡ ownIn who o
 own-unlinked who o r p k h e z y l = other-thread who o r false h e (ap (λ (x : Bool). x && eqb o (who .place .number)) (sym (lt-leb 2 (who .place .number) (omega arith))))
 
 pub own-place : (who : Who) (o r p k : ℕ) → r ≡ who .thread → (o ≡ 16 + r → ⊥)
@@ -60,9 +68,11 @@ owner-given who s r m b e t h k = no _ (sym e ∙ t) (k ∙ h)
 pub ruleset owner-laws = (owner-private, owner-given)
 
 -- ---- variables, shared cells
-pub variable-is : (vs : List ℕ) (s r : ℕ) (v : Value) → r ≡ s → r < length vs → v ≡ valueIn (getD vs r 0) → Is v ≡ variableIn vs s
+pub variable-is : (vs : List ℕ) (s r : ℕ) (v : Value) → r ≡ s → r < length vs
+    → v ≡ valueIn (getD vs r 0) → Is v ≡ variableIn vs s
 unfolding variableIn
-variable-is vs s r v e l h = yes _ (lt-ltb s (length vs) (omega arith)) (ap Is (h ∙ ap (λ (x : ℕ). valueIn (getD vs x 0)) e))
+variable-is vs s r v e l h =
+    yes _ (lt-ltb s (length vs) (omega arith)) (ap Is (h ∙ ap (λ (x : ℕ). valueIn (getD vs x 0)) e))
 
 pub variable-none : (vs : List ℕ) (s r : ℕ) → r ≡ s → length vs ≤ r → Stuck ≡ variableIn vs s
 unfolding variableIn
@@ -81,19 +91,23 @@ pub ruleset variable-laws = (variable-is, variable-none)
 pub ruleset shared-laws = (shared-is, shared-none)
 
 -- ---- 20 to 23
-pub leaf-number : (who : Who) (vs : List ℕ) (l : Leaf) (m k : ℕ) → l ≡ Leaf.Number m → k ≡ m → Is (Number k) ≡ leafIn who vs l
+pub leaf-number : (who : Who) (vs : List ℕ) (l : Leaf) (m k : ℕ) → l ≡ Leaf.Number m → k ≡ m
+    → Is (Number k) ≡ leafIn who vs l
 unfolding leafIn
 leaf-number who vs l m k e h = ap (λ (x : ℕ). Is (Number x)) h ∙ sym (ap (leafIn who vs) e)
 
-pub leaf-truth : (who : Who) (vs : List ℕ) (l : Leaf) (s : ℕ) → l ≡ Leaf.Truth s → Is (Truth (eqb s 1)) ≡ leafIn who vs l
+pub leaf-truth : (who : Who) (vs : List ℕ) (l : Leaf) (s : ℕ) → l ≡ Leaf.Truth s
+    → Is (Truth (eqb s 1)) ≡ leafIn who vs l
 unfolding leafIn
 leaf-truth who vs l s e = sym (ap (leafIn who vs) e)
 
-pub leaf-variable : (who : Who) (vs : List ℕ) (l : Leaf) (s : ℕ) (o : Outcome) → l ≡ Leaf.Variable s → o ≡ variableIn vs s → o ≡ leafIn who vs l
+pub leaf-variable : (who : Who) (vs : List ℕ) (l : Leaf) (s : ℕ) (o : Outcome) → l ≡ Leaf.Variable s
+    → o ≡ variableIn vs s → o ≡ leafIn who vs l
 unfolding leafIn
 leaf-variable who vs l s o e h = h ∙ sym (ap (leafIn who vs) e)
 
-pub leaf-shared : (who : Who) (vs : List ℕ) (l : Leaf) (s : ℕ) (o : Outcome) → l ≡ Leaf.SharedCell s → o ≡ sharedIn who s → o ≡ leafIn who vs l
+pub leaf-shared : (who : Who) (vs : List ℕ) (l : Leaf) (s : ℕ) (o : Outcome) → l ≡ Leaf.SharedCell s
+    → o ≡ sharedIn who s → o ≡ leafIn who vs l
 unfolding leafIn
 leaf-shared who vs l s o e h = h ∙ sym (ap (leafIn who vs) e)
 
@@ -150,11 +164,18 @@ unfolding if_then_else_
 not-own v true = refl
 not-own v false = refl
 
-pub access-is : (who : Who) (c n w o : ℕ) (own : Bool) (v : Value) (r : Outcome) → o ≡ ownerIn w → own ≡ ownIn who o → r ≡ refusalOr (leb n c) Stuck (not own) Foreign v → r ≡ accessIn who c n w v
+pub access-is : (who : Who) (c n w o : ℕ) (own : Bool) (v : Value) (r : Outcome) → o ≡ ownerIn w
+    → own ≡ ownIn who o → r ≡ refusalOr (leb n c) Stuck (not own) Foreign v
+    → r ≡ accessIn who c n w v
 unfolding refusalOr accessIn
-access-is who c n w o own v r e f h = h ∙ ap (λ (t : Bool). if leb n c then Stuck else if not t then Foreign else Is v) (f ∙ ap (ownIn who) e) ∙ by (ltb c n) refl (ownIn who (ownerIn w))
+access-is who c n w o own v r e f h =
+    h
+    ∙ ap (λ (t : Bool). if leb n c then Stuck else if not t then Foreign else Is v) (f ∙ ap (ownIn who) e)
+    ∙ by (ltb c n) refl (ownIn who (ownerIn w))
   where
-    by : (t : Bool) → ltb c n ≡ t → (b : Bool) → (if leb n c then Stuck else if not b then Foreign else Is v) ≡ (if ltb c n then (if b then Is v else Foreign) else Stuck)
+    by : (t : Bool) → ltb c n ≡ t → (b : Bool)
+        → (if leb n c then Stuck else if not b then Foreign else Is v)
+        ≡ (if ltb c n then (if b then Is v else Foreign) else Stuck)
     by true q b = if-no _ _ (lt-leb n c (ltb-true c n q)) ∙ not-own v b ∙ sym (if-yes _ _ q)
     by false q b = if-yes _ _ (le-leb n c (ltb-false c n q)) ∙ sym (if-no _ _ q)
 
@@ -190,11 +211,13 @@ reading-is who v n ws o e = ap (λ (p : Outcome). result p n ws) e
 pub ruleset read-laws = (read-is, read-number, read-truth)
 
 -- ---- a cell stored in: i is its index, x its word behind the store
-pub word-after-row : (o p : Outcome) (w r : ℕ) (u : Value) → o ≡ p → r ≡ wordAfter p w u → r ≡ wordAfter o w u
+pub word-after-row : (o p : Outcome) (w r : ℕ) (u : Value) → o ≡ p → r ≡ wordAfter p w u
+    → r ≡ wordAfter o w u
 word-after-row o p w r u e h = h ∙ sym (ap (λ (q : Outcome). wordAfter q w u) e)
 
 -- the code always writes: a refused store puts the word that is there
-store-at : (who : Who) (u : Value) (c n : ℕ) (ws : List ℕ) → let o = accessIn who c n (getD ws c 0) u in result o n (set ws c (wordAfter o (getD ws c 0) u)) ≡ storeIn who (Cell c) u n ws
+store-at : (who : Who) (u : Value) (c n : ℕ) (ws : List ℕ) → let o = accessIn who c n (getD ws c 0) u in result o n (set ws c (wordAfter o (getD ws c 0) u))
+    ≡ storeIn who (Cell c) u n ws
 unfolding accessIn storeIn
 store-at who u c n ws =
     if-all Stores (ltb c n) _ _
@@ -229,10 +252,12 @@ store-is who v u c i x w o ev ei eo ex =
     ∙ ap (λ (y : ℕ). storeIn who (Cell y) u n ws) ei
     ∙ ap (λ (y : Value). storeIn who y u n ws) (sym ev)
 
-pub store-number : (who : Who) (v u : Value) (m n : ℕ) (ws : List ℕ) → v ≡ Number m → result Stuck n ws ≡ storeIn who v u n ws
+pub store-number : (who : Who) (v u : Value) (m n : ℕ) (ws : List ℕ) → v ≡ Number m
+    → result Stuck n ws ≡ storeIn who v u n ws
 unfolding storeIn
 store-number who v u m n ws e = ap (λ (x : Value). storeIn who x u n ws) (sym e)
 
-pub store-truth : (who : Who) (v u : Value) (t : Bool) (n : ℕ) (ws : List ℕ) → v ≡ Truth t → result Stuck n ws ≡ storeIn who v u n ws
+pub store-truth : (who : Who) (v u : Value) (t : Bool) (n : ℕ) (ws : List ℕ) → v ≡ Truth t
+    → result Stuck n ws ≡ storeIn who v u n ws
 unfolding storeIn
 store-truth who v u t n ws e = ap (λ (x : Value). storeIn who x u n ws) (sym e)

@@ -1,5 +1,5 @@
--- Single words: a law for each return of the functions of word.rt and cell.rt, and that the word of a
--- value or of a cell reads back as it was. Assumes nothing.
+-- Single words: a law for each return of the functions of word.rt and cell.rt, and that the word of
+-- a value or of a cell reads back as it was. Assumes nothing.
 use mathlib.Core.Path.{_≡_, refl, sym, ap, _∙_, subst}
 use mathlib.Core.Bool.{Bool, true, false}
 use Prim.Native.Nat.{ℕ, _+_, _*_, _-_, _/_, _%_, _^_, _<_, _≤_}
@@ -53,9 +53,12 @@ value-cell w g h = no _ (le-ltb _ _ g) (no _ (le-ltb _ _ h) refl)
 pub ruleset value-laws = (value-number, value-truth, value-cell)
 
 -- ---- the word of a cell: q is the owner o as a word, and r the word of the content
-pub cell-of : (o r q : ℕ) (v : Value) → q ≡ o → r ≡ valueWord v → q * 0x0004_0000_0000 + r ≡ cellOf o v
+pub cell-of : (o r q : ℕ) (v : Value) → q ≡ o → r ≡ valueWord v
+    → q * 0x0004_0000_0000 + r ≡ cellOf o v
 unfolding cellWord
-cell-of o r q v h e = ap (λ (x : ℕ). q * 0x0004_0000_0000 + x) e ∙ ap (λ (x : ℕ). x * 0x0004_0000_0000 + valueWord v) h
+cell-of o r q v h e =
+    ap (λ (x : ℕ). q * 0x0004_0000_0000 + x) e
+    ∙ ap (λ (x : ℕ). x * 0x0004_0000_0000 + valueWord v) h
 
 -- ---- words read back
 -- `valueIn` reads any word; on a word in range it is `wordValue`, which the definitions use
@@ -95,7 +98,8 @@ owner-back x h = let l : valueWord (x .content) < 2 ^ 34 = value-below (x .conte
 
 content-word : (x : Stored) → ValueFits (x .content) → cellWord x % 2 ^ 34 ≡ valueWord (x .content)
 unfolding cellWord
-content-word x h = let l : valueWord (x .content) < 2 ^ 34 = value-below (x .content) h in omega arith
+content-word x h =
+    let l : valueWord (x .content) < 2 ^ 34 = value-below (x .content) h in omega arith
 
 pub content-back : (x : Stored) → ValueFits (x .content) → contentIn (cellWord x) ≡ x .content
 content-back x h = ap valueIn (content-word x h) ∙ value-in-back (x .content) h
@@ -106,7 +110,8 @@ content-in x h = ap valueInRange (content-word x h) ∙ value-in (x .content) h
 -- the other way: a word whose content is in range is that of the cell that it reads as
 pub cell-there : (w : ℕ) → valueInRange (w % 2 ^ 34) ≡ true → cellWord (wordCell w) ≡ w
 unfolding cellWord wordCell
-cell-there w h = let e : valueWord (wordValue (w % 2 ^ 34)) ≡ w % 2 ^ 34 = value-there (w % 2 ^ 34) h in
+cell-there w h =
+    let e : valueWord (wordValue (w % 2 ^ 34)) ≡ w % 2 ^ 34 = value-there (w % 2 ^ 34) h in
     ap (λ (x : ℕ). w / 2 ^ 34 * 2 ^ 34 + x) e ∙ whole w
   where
     whole : (w : ℕ) → w / 2 ^ 34 * 2 ^ 34 + w % 2 ^ 34 ≡ w

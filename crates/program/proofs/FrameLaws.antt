@@ -23,14 +23,17 @@ use Rattle.program.specs.declared.frames.Children.the-variants.{Nothing,
 use Rattle.program.specs.inner.Children.{childrenIn, listOf, childrenBy, childrenOf}
 
 -- ---- frames
-pub frame-read : (ws : List ℕ) (i : ℕ) (f : Frame) → f ≡ frameOfWord (getD ws i 0) → i < length ws → f ≡ frameAt (framesOf ws) i
+pub frame-read : (ws : List ℕ) (i : ℕ) (f : Frame) → f ≡ frameOfWord (getD ws i 0) → i < length ws
+    → f ≡ frameAt (framesOf ws) i
 frame-read ws i f e l = e ∙ sym (frame-at ws i noFrame l)
 
 -- the frames from i on, and up to i
-pub frames-next : (ws : List ℕ) (i : ℕ) → i < length ws → drop i (framesOf ws) ≡ frameAt (framesOf ws) i ∷ drop (suc i) (framesOf ws)
+pub frames-next : (ws : List ℕ) (i : ℕ) → i < length ws
+    → drop i (framesOf ws) ≡ frameAt (framesOf ws) i ∷ drop (suc i) (framesOf ws)
 frames-next ws i l = drop-cons (framesOf ws) i noFrame (let z = frames-length ws in omega arith)
 
-pub frames-more : (ws : List ℕ) (i : ℕ) (f : Frame) → f ≡ frameAt (framesOf ws) i → i < length ws → take i (framesOf ws) ++ (f ∷ []) ≡ take (i + 1) (framesOf ws)
+pub frames-more : (ws : List ℕ) (i : ℕ) (f : Frame) → f ≡ frameAt (framesOf ws) i → i < length ws
+    → take i (framesOf ws) ++ (f ∷ []) ≡ take (i + 1) (framesOf ws)
 frames-more ws i f e l =
     let s : i + 1 ≡ suc i = omega arith in
     ap (λ (g : Frame). take i (framesOf ws) ++ (g ∷ [])) e ∙ sym (take-suc (framesOf ws) i noFrame (let z = frames-length ws in omega arith)) ∙ ap (λ (n : ℕ). take n (framesOf ws)) (sym s)
@@ -44,24 +47,29 @@ module _ (f : Frame) where
   pub no-argument : f .a ≡ 0 → f .b ≡ 0 → Nothing ≡ childrenBy (statementUses StatementKind.Start) f
   no-argument e g = ap₂ arguments (sym e) (sym g)
 
-  pub second-argument : f .a ≡ 0 → (f .b ≡ 0 → ⊥) → One Class.Expression (f .b) ≡ childrenBy (statementUses StatementKind.Start) f
+  pub second-argument : f .a ≡ 0 → (f .b ≡ 0 → ⊥)
+      → One Class.Expression (f .b) ≡ childrenBy (statementUses StatementKind.Start) f
   second-argument e n = go (f .b) n ∙ ap (λ (a : ℕ). arguments a (f .b)) (sym e)
     where
       go : (b : ℕ) → (b ≡ 0 → ⊥) → One Class.Expression b ≡ arguments 0 b
       go zero n = absurd (n refl)
       go (suc b) n = refl
 
-  pub first-argument : (f .a ≡ 0 → ⊥) → f .b ≡ 0 → One Class.Expression (f .a) ≡ childrenBy (statementUses StatementKind.Start) f
+  pub first-argument : (f .a ≡ 0 → ⊥) → f .b ≡ 0
+      → One Class.Expression (f .a) ≡ childrenBy (statementUses StatementKind.Start) f
   first-argument n g = go (f .a) n ∙ ap (arguments (f .a)) (sym g)
     where
       go : (a : ℕ) → (a ≡ 0 → ⊥) → One Class.Expression a ≡ arguments a 0
       go zero n = absurd (n refl)
       go (suc a) n = refl
 
-  pub two-arguments : (f .a ≡ 0 → ⊥) → (f .b ≡ 0 → ⊥) → Two Class.Expression (f .a) Class.Expression (f .b) ≡ childrenBy (statementUses StatementKind.Start) f
+  pub two-arguments : (f .a ≡ 0 → ⊥) → (f .b ≡ 0 → ⊥)
+      → Two Class.Expression (f .a) Class.Expression (f .b)
+      ≡ childrenBy (statementUses StatementKind.Start) f
   two-arguments n m = go (f .a) (f .b) n m
     where
-      go : (a b : ℕ) → (a ≡ 0 → ⊥) → (b ≡ 0 → ⊥) → Two Class.Expression a Class.Expression b ≡ arguments a b
+      go : (a b : ℕ) → (a ≡ 0 → ⊥) → (b ≡ 0 → ⊥)
+          → Two Class.Expression a Class.Expression b ≡ arguments a b
       go zero b n m = absurd (n refl)
       go (suc a) zero n m = absurd (m refl)
       go (suc a) (suc b) n m = refl
@@ -70,17 +78,22 @@ pub ruleset argument-laws = (no-argument, second-argument, first-argument, two-a
 
 -- each arm of the matches on kinds
 module _ (f : Frame) (r : Children) where
-  pub statement-children : (k v : StatementKind) → k ≡ v → r ≡ childrenBy (statementUses v) f → r ≡ childrenBy (statementUses k) f
-  statement-children k v e h = h ∙ ap (λ (w : StatementKind). childrenBy (statementUses w) f) (sym e)
+  pub statement-children : (k v : StatementKind) → k ≡ v → r ≡ childrenBy (statementUses v) f
+      → r ≡ childrenBy (statementUses k) f
+  statement-children k v e h =
+      h ∙ ap (λ (w : StatementKind). childrenBy (statementUses w) f) (sym e)
 
-  pub expression-children : (k v : ExpressionKind) → k ≡ v → r ≡ childrenBy (expressionUses v) f → r ≡ childrenBy (expressionUses k) f
-  expression-children k v e h = h ∙ ap (λ (w : ExpressionKind). childrenBy (expressionUses w) f) (sym e)
+  pub expression-children : (k v : ExpressionKind) → k ≡ v → r ≡ childrenBy (expressionUses v) f
+      → r ≡ childrenBy (expressionUses k) f
+  expression-children k v e h =
+      h ∙ ap (λ (w : ExpressionKind). childrenBy (expressionUses w) f) (sym e)
 
   pub kind-children : (k : Kind) → f .kind ≡ k → r ≡ childrenBy (uses k) f → r ≡ childrenOf f
   kind-children k e h = h ∙ ap (λ (w : Kind). childrenBy (uses w) f) (sym e)
 
   -- there is one kind of declaration, so its match asks nothing
-  pub shared-children : (d : DeclarationKind) → f .kind ≡ Declared d → r ≡ Nothing → r ≡ childrenOf f
+  pub shared-children : (d : DeclarationKind) → f .kind ≡ Declared d → r ≡ Nothing
+      → r ≡ childrenOf f
   shared-children Shared e h = kind-children (Declared Shared) e h
 
 -- a field names at most one child, so a frame has at most three
@@ -106,7 +119,8 @@ few Use.Parameters v = Few.no-child
 few Use.FirstType v = Few.no-child
 few Use.SecondType v = Few.no-child
 
-listed : {xs ys zs : List Child} → Few xs → Few ys → Few zs → listOf (childrenIn (xs ++ ys ++ zs)) ≡ xs ++ ys ++ zs
+listed : {xs ys zs : List Child} → Few xs → Few ys → Few zs
+    → listOf (childrenIn (xs ++ ys ++ zs)) ≡ xs ++ ys ++ zs
 listed Few.no-child Few.no-child Few.no-child = refl
 listed Few.no-child Few.no-child Few.one-child = refl
 listed Few.no-child Few.one-child Few.no-child = refl

@@ -1,4 +1,5 @@
--- A module found by its number, frame by frame: the loop of `module_at`, a law for each turn and each return. Assumes nothing.
+-- A module found by its number, frame by frame: the loop of `module_at`, a law for each turn and
+-- each return. Assumes nothing.
 use Prim.Native.Nat.{ℕ, zero, suc, _+_, _-_, _<_, _≤_}
 use mathlib.Core.Path.{_≡_, refl, sym, ap, _∙_}
 use mathlib.Core.List.{List, [], _∷_}
@@ -49,36 +50,50 @@ pub record Finding (words : List ℕ) (m i n : ℕ) : Type 0 where
 pub finding-start : (words : List ℕ) (m : ℕ) → Finding words m 0 m
 finding-start words m = record { same = refl; there = refl }
 
-found-path : (x y : ModuleFound) → x .there ≡ y .there → x .parameters ≡ y .parameters → x .body ≡ y .body → x ≡ y
+found-path : (x y : ModuleFound) → x .there ≡ y .there → x .parameters ≡ y .parameters
+    → x .body ≡ y .body → x ≡ y
 found-path x y p q r = λ i. record { there = p i; parameters = q i; body = r i }
 
 module _ (words : List ℕ) (m i n : ℕ) (f : Frame) (t : Bool) (s : Finding words m i n) (l : i < length words) (e : f ≡ frameOfWord (getD words i 0)) (q : t ≡ isModule (f .kind)) where
   from-here : partsFrom words i ≡ withPart (framesOf words) i f (f .kind) (partsFrom words (i + 1))
   unfolding modulesFrom
-  from-here = ap (modulesFrom (framesOf words) i) (next-frame words i f l e) ∙ ap (λ (k : ℕ). withPart (framesOf words) i f (f .kind) (modulesFrom (framesOf words) k (drop (i + 1) (framesOf words)))) (sym (add-one i))
+  from-here =
+      ap (modulesFrom (framesOf words) i) (next-frame words i f l e)
+      ∙ ap (λ (k : ℕ). withPart (framesOf words) i f (f .kind) (modulesFrom (framesOf words) k (drop (i + 1) (framesOf words)))) (sym (add-one i))
 
   pub finding-other : not t ≡ true → Finding words m (i + 1) n
   finding-other h =
       let z : partsFrom words (i + 1) ≡ partsFrom words i = sym (from-here ∙ part-no (framesOf words) i f (f .kind) (partsFrom words (i + 1)) (sym q ∙ not-true t h)) in
       record { same = ap (λ (ps : List Part). getD ps n noModule) z ∙ s .same; there = ap (λ (ps : List Part). ltb n (length ps)) z ∙ s .there }
 
-  module-first : not t ≡ false → partsFrom words i ≡ partOf (framesOf words) i f ∷ partsFrom words (i + 1)
-  module-first h = from-here ∙ part-yes (framesOf words) i f (f .kind) (partsFrom words (i + 1)) (sym q ∙ not-false t h)
+  module-first : not t ≡ false
+      → partsFrom words i ≡ partOf (framesOf words) i f ∷ partsFrom words (i + 1)
+  module-first h =
+      from-here
+      ∙ part-yes (framesOf words) i f (f .kind) (partsFrom words (i + 1)) (sym q ∙ not-false t h)
 
   pub finding-one : not t ≡ false → (n ≡ 0 → ⊥) → Finding words m (i + 1) (n - 1)
   finding-one h z =
       record {
-        same = behind n z (partsFrom words (i + 1)) ∙ ap (λ (ps : List Part). getD ps n noModule) (sym (module-first h)) ∙ s .same;
-        there = fewer n z (length (partsFrom words (i + 1))) ∙ ap (λ (ps : List Part). ltb n (length ps)) (sym (module-first h)) ∙ s .there;
+        same =
+            behind n z (partsFrom words (i + 1))
+            ∙ ap (λ (ps : List Part). getD ps n noModule) (sym (module-first h)) ∙ s .same;
+        there =
+            fewer n z (length (partsFrom words (i + 1)))
+            ∙ ap (λ (ps : List Part). ltb n (length ps)) (sym (module-first h)) ∙ s .there;
       }
     where
-      behind : (n : ℕ) → (n ≡ 0 → ⊥) → (ps : List Part) → getD ps (n - 1) noModule ≡ getD (partOf (framesOf words) i f ∷ ps) n noModule
+      behind : (n : ℕ) → (n ≡ 0 → ⊥) → (ps : List Part)
+          → getD ps (n - 1) noModule ≡ getD (partOf (framesOf words) i f ∷ ps) n noModule
       behind zero z ps = absurd (z refl)
-      behind (suc n) z ps = let y : suc n - 1 ≡ n = omega arith in ap (λ (k : ℕ). getD ps k noModule) y
+      behind (suc n) z ps =
+          let y : suc n - 1 ≡ n = omega arith in ap (λ (k : ℕ). getD ps k noModule) y
 
       fewer : (n : ℕ) → (n ≡ 0 → ⊥) → (k : ℕ) → ltb (n - 1) k ≡ ltb n (suc k)
       fewer zero z k = absurd (z refl)
-      fewer (suc n) z k = let y : suc n - 1 ≡ n = omega arith in ap (λ (j : ℕ). ltb j k) y ∙ sym (leb·suc-suc (suc n) k)
+      fewer (suc n) z k =
+          let y : suc n - 1 ≡ n = omega arith in
+          ap (λ (j : ℕ). ltb j k) y ∙ sym (leb·suc-suc (suc n) k)
 
   pub found-here : (r : ℕ) → r ≡ parametersIn (f .s) → not t ≡ false → n ≡ 0
       → _≡_ {A = ModuleFound} (record { there = true; parameters = r; body = f .a }) (foundIn (programOf (framesOf words)) m)
@@ -88,7 +103,9 @@ module _ (words : List ℕ) (m i n : ℕ) (f : Frame) (t : Bool) (s : Finding wo
       (u ∙ types-length (f .s) (f .b) (f .c) ∙ ap (λ (p : Part). length (p .types)) here) (sym (statement-root (framesOf words) (f .a)) ∙ ap (λ (p : Part). rootS (p .body)) here)
     where
       here : partOf (framesOf words) i f ≡ getD (partsFrom words 0) m noModule
-      here = ap (λ (k : ℕ). getD (partOf (framesOf words) i f ∷ partsFrom words (i + 1)) k noModule) (sym z) ∙ ap (λ (ps : List Part). getD ps n noModule) (sym (module-first h)) ∙ s .same
+      here =
+          ap (λ (k : ℕ). getD (partOf (framesOf words) i f ∷ partsFrom words (i + 1)) k noModule) (sym z)
+          ∙ ap (λ (ps : List Part). getD ps n noModule) (sym (module-first h)) ∙ s .same
 
 pub found-none : (words : List ℕ) (m i n : ℕ) → Finding words m i n → length words ≤ i
     → _≡_ {A = ModuleFound} (record { there = false; parameters = 0; body = 0 }) (foundIn (programOf (framesOf words)) m)

@@ -1,4 +1,5 @@
--- The node at a frame: the tree that it and its operands' trees make, that its operands stand before it, and that a new cell's owner is a place. Assumes nothing.
+-- The node at a frame: the tree that it and its operands' trees make, that its operands stand
+-- before it, and that a new cell's owner is a place. Assumes nothing.
 use mathlib.Core.Path.{_≡_, refl, sym, ap, _∙_, subst}
 use mathlib.Core.Bool.{true}
 use mathlib.Core.List.{List}
@@ -11,17 +12,20 @@ use Rattle.language.specs.inner.Reads.{NamesPlace}
 use Rattle.language.specs.declared.kind.ExpressionKind.{ExpressionKind}
 use Rattle.language.specs.declared.kind.ExpressionKind.the-variants as E
 use Rattle.language.specs.declared.kind.Kind.{Kind}
-use Rattle.language.specs.declared.kind.Kind.the-variants.{Header, Declared, Module, Statement, Expression, Unknown}
+use Rattle.language.specs.declared.kind.Kind.the-variants.{Header, Declared, Module, Statement}
+use Rattle.language.specs.declared.kind.Kind.the-variants.{Expression, Unknown}
 use Rattle.language.specs.declared.kind.Use.{Use}
 use Rattle.language.specs.declared.frame.Frame.{Frame}
-use Rattle.program.specs.Trees.{Expr, number, truth, variable, shared, new, content, sum, less, choose, frameAt, expressionOf, expressionAt}
+use Rattle.program.specs.Trees.{Expr, number, truth, variable, shared, new, content, sum}
+use Rattle.program.specs.Trees.{less, choose, frameAt, expressionOf, expressionAt}
 use Rattle.program.specs.inner.Ordered.{Ordered}
 use Rattle.program.specs.inner.Nodes.{expressionNodeIn, expressionNode}
 use Rattle.program.specs.declared.node.Leaf.{Leaf}
 use Rattle.program.specs.declared.node.CellUse.the-variants.{Make, Read}
 use Rattle.program.specs.declared.node.Operator.{Operator}
 use Rattle.program.specs.declared.node.ExpressionNode.{ExpressionNode}
-use Rattle.program.specs.declared.node.ExpressionNode.the-variants.{Plain, OfValue, OfNumbers, Choose}
+use Rattle.program.specs.declared.node.ExpressionNode.the-variants.{Plain, OfValue, OfNumbers}
+use Rattle.program.specs.declared.node.ExpressionNode.the-variants.{Choose}
 use Rattle.program.proofs.Decoding.{expression-at}
 use Rattle.program.proofs.NodeLaws.{childrenAs}
 
@@ -49,7 +53,8 @@ with-tree rec i f E.Sum = refl
 with-tree rec i f E.Less = refl
 with-tree rec i f E.Choose = refl
 
-of-tree : (rec : ℕ → Expr) (i : ℕ) (f : Frame) (k : Kind) → expressionOf rec i f k ≡ treeOf rec i (expressionNodeIn k f)
+of-tree : (rec : ℕ → Expr) (i : ℕ) (f : Frame) (k : Kind)
+    → expressionOf rec i f k ≡ treeOf rec i (expressionNodeIn k f)
 of-tree rec i f (Expression k) = with-tree rec i f k
 of-tree rec i f (Statement k) = refl
 of-tree rec i f Header = refl
@@ -74,7 +79,8 @@ Below i (Choose a b c) = (a < i) × (b < i) × (c < i)
 abbrev Before : ℕ → List Child → Type 0
 Before n cs = All (λ (c : Child). c .at < n) cs
 
-with-below : (n : ℕ) (f : Frame) (k : ExpressionKind) → Before n (childrenAs (Expression k) f) → Below n (expressionNodeIn (Expression k) f)
+with-below : (n : ℕ) (f : Frame) (k : ExpressionKind) → Before n (childrenAs (Expression k) f)
+    → Below n (expressionNodeIn (Expression k) f)
 with-below n f E.Number x = tt
 with-below n f E.Truth x = tt
 with-below n f E.Variable x = tt
@@ -85,7 +91,8 @@ with-below n f E.Sum (All.more x (All.more y _)) = (x, y)
 with-below n f E.Less (All.more x (All.more y _)) = (x, y)
 with-below n f E.Choose (All.more x (All.more y (All.more z _))) = (x, y, z)
 
-of-below : (n : ℕ) (f : Frame) (k : Kind) → Before n (childrenAs k f) → Below n (expressionNodeIn k f)
+of-below : (n : ℕ) (f : Frame) (k : Kind) → Before n (childrenAs k f)
+    → Below n (expressionNodeIn k f)
 of-below n f (Expression k) x = with-below n f k x
 of-below n f (Statement k) x = tt
 of-below n f Header x = tt
@@ -96,7 +103,8 @@ of-below n f Unknown x = tt
 pub operands-below : (fs : List Frame) (i : ℕ) (d : ExpressionNode) → Ordered fs → i < length fs
     → d ≡ expressionNode (frameAt fs i) → Below i d
 unfolding children
-operands-below fs i d o h e = subst (Below i) (sym e) (of-below i (frameAt fs i) (frameAt fs i .kind) (o i h))
+operands-below fs i d o h e =
+    subst (Below i) (sym e) (of-below i (frameAt fs i) (frameAt fs i .kind) (o i h))
 
 -- ---- the owner of a new cell is a place
 abbrev pub Owned : ExpressionNode → Type 0
@@ -110,7 +118,8 @@ module _ (f : Frame) where
   abbrev Names : Kind → Type 0
   Names k = uses k .s ≡ Use.Place → isPlace (f .s) ≡ true
 
-  with-owner : (k : ExpressionKind) → Names (Expression k) → Owned (expressionNodeIn (Expression k) f)
+  with-owner : (k : ExpressionKind) → Names (Expression k)
+      → Owned (expressionNodeIn (Expression k) f)
   with-owner E.Number h = tt
   with-owner E.Truth h = tt
   with-owner E.Variable h = tt

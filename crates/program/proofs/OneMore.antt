@@ -6,7 +6,8 @@ use Prim.Native.Nat.{ℕ}
 use Rattle.language.specs.Kinds.{isShared, isModule}
 use Rattle.language.specs.declared.kind.Kind.{Kind}
 use Rattle.language.specs.declared.kind.DeclarationKind.the-variants.{Shared}
-use Rattle.language.specs.declared.kind.Kind.the-variants.{Header, Declared, Module, Statement, Expression, Unknown}
+use Rattle.language.specs.declared.kind.Kind.the-variants.{Header, Declared, Module, Statement}
+use Rattle.language.specs.declared.kind.Kind.the-variants.{Expression, Unknown}
 use Rattle.language.specs.declared.frame.Frame.{Frame}
 use Rattle.program.specs.Programs.{SharedCell, cellOf, sharedOf, Part, partOf, withPart}
 
@@ -21,11 +22,14 @@ cellIn f (Statement k) = []
 cellIn f (Expression k) = []
 cellIn f Unknown = []
 
-pub shared-more : (f : Frame) (fs : List Frame) → sharedOf (f ∷ fs) ≡ cellIn f (f .kind) ++ sharedOf fs
+pub shared-more : (f : Frame) (fs : List Frame)
+    → sharedOf (f ∷ fs) ≡ cellIn f (f .kind) ++ sharedOf fs
 unfolding sharedOf
 shared-more f fs = go (f .kind)
   where
-    go : (k : Kind) → sharedOf (record { kind = k; s = f .s; a = f .a; b = f .b; c = f .c } ∷ fs) ≡ cellIn f k ++ sharedOf fs
+    go : (k : Kind)
+        → sharedOf (record { kind = k; s = f .s; a = f .a; b = f .b; c = f .c } ∷ fs)
+        ≡ cellIn f k ++ sharedOf fs
     go (Declared Shared) = refl
     go Header = refl
     go Module = refl
@@ -49,14 +53,19 @@ cell-one f (Statement k) e = absurd (true≢false (sym e))
 cell-one f (Expression k) e = absurd (true≢false (sym e))
 cell-one f Unknown e = absurd (true≢false (sym e))
 
-pub shared-no : (f : Frame) (fs : List Frame) → isShared (f .kind) ≡ false → sharedOf (f ∷ fs) ≡ sharedOf fs
-shared-no f fs e = shared-more f fs ∙ ap (λ (cs : List SharedCell). cs ++ sharedOf fs) (cell-none f (f .kind) e)
+pub shared-no : (f : Frame) (fs : List Frame) → isShared (f .kind) ≡ false
+    → sharedOf (f ∷ fs) ≡ sharedOf fs
+shared-no f fs e =
+    shared-more f fs ∙ ap (λ (cs : List SharedCell). cs ++ sharedOf fs) (cell-none f (f .kind) e)
 
-pub shared-yes : (f : Frame) (fs : List Frame) → isShared (f .kind) ≡ true → sharedOf (f ∷ fs) ≡ cellOf f ∷ sharedOf fs
-shared-yes f fs e = shared-more f fs ∙ ap (λ (cs : List SharedCell). cs ++ sharedOf fs) (cell-one f (f .kind) e)
+pub shared-yes : (f : Frame) (fs : List Frame) → isShared (f .kind) ≡ true
+    → sharedOf (f ∷ fs) ≡ cellOf f ∷ sharedOf fs
+shared-yes f fs e =
+    shared-more f fs ∙ ap (λ (cs : List SharedCell). cs ++ sharedOf fs) (cell-one f (f .kind) e)
 
 -- ---- modules
-pub part-no : (fs : List Frame) (i : ℕ) (f : Frame) (k : Kind) (ps : List Part) → isModule k ≡ false → withPart fs i f k ps ≡ ps
+pub part-no : (fs : List Frame) (i : ℕ) (f : Frame) (k : Kind) (ps : List Part) → isModule k ≡ false
+    → withPart fs i f k ps ≡ ps
 part-no fs i f Module ps e = absurd (true≢false e)
 part-no fs i f Header ps e = refl
 part-no fs i f (Declared d) ps e = refl
@@ -64,7 +73,8 @@ part-no fs i f (Statement k) ps e = refl
 part-no fs i f (Expression k) ps e = refl
 part-no fs i f Unknown ps e = refl
 
-pub part-yes : (fs : List Frame) (i : ℕ) (f : Frame) (k : Kind) (ps : List Part) → isModule k ≡ true → withPart fs i f k ps ≡ partOf fs i f ∷ ps
+pub part-yes : (fs : List Frame) (i : ℕ) (f : Frame) (k : Kind) (ps : List Part) → isModule k ≡ true
+    → withPart fs i f k ps ≡ partOf fs i f ∷ ps
 part-yes fs i f Module ps e = refl
 part-yes fs i f Header ps e = absurd (true≢false (sym e))
 part-yes fs i f (Declared d) ps e = absurd (true≢false (sym e))

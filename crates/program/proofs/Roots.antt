@@ -2,15 +2,22 @@
 use mathlib.Core.Path.{_≡_, refl}
 use mathlib.Core.List.{List}
 use Prim.Native.Nat.{ℕ, zero, suc}
-use Rattle.language.specs.declared.kind.StatementKind.the-variants.{Nothing, Then, DoAt, Start, StartWait, Cooperate, Let, Store, If, While}
-use Rattle.language.specs.declared.kind.ExpressionKind.the-variants.{Number, Truth, Variable, SharedCell, NewCell, Content, Sum, Less, Choose}
+use Rattle.language.specs.declared.kind.StatementKind.the-variants.{Nothing, Then, DoAt, Start}
+use Rattle.language.specs.declared.kind.StatementKind.the-variants.{StartWait, Cooperate, Let}
+use Rattle.language.specs.declared.kind.StatementKind.the-variants.{Store, If, While}
+use Rattle.language.specs.declared.kind.ExpressionKind.the-variants.{Number, Truth, Variable}
+use Rattle.language.specs.declared.kind.ExpressionKind.the-variants.{SharedCell, NewCell, Content}
+use Rattle.language.specs.declared.kind.ExpressionKind.the-variants.{Sum, Less, Choose}
 use Rattle.language.specs.declared.kind.Kind.{Kind}
-use Rattle.language.specs.declared.kind.Kind.the-variants.{Header, Declared, Module, Statement, Expression, Unknown}
+use Rattle.language.specs.declared.kind.Kind.the-variants.{Header, Declared, Module, Statement}
+use Rattle.language.specs.declared.kind.Kind.the-variants.{Expression, Unknown}
 use Rattle.language.specs.declared.frame.Frame.{Frame}
-use Rattle.program.specs.Trees.{Expr, Stmt, rootE, rootS, frameAt, expressionOf, expressionTo, expressionAt, statementOf, statementTo, statementAt}
+use Rattle.program.specs.Trees.{Expr, Stmt, rootE, rootS, frameAt, expressionOf, expressionTo}
+use Rattle.program.specs.Trees.{expressionAt, statementOf, statementTo, statementAt}
 
 -- ---- expressions
-expression-root-of : (rec : ℕ → Expr) (i : ℕ) (f : Frame) (k : Kind) → rootE (expressionOf rec i f k) ≡ i
+expression-root-of : (rec : ℕ → Expr) (i : ℕ) (f : Frame) (k : Kind)
+    → rootE (expressionOf rec i f k) ≡ i
 expression-root-of rec i f Header = refl
 expression-root-of rec i f (Declared d) = refl
 expression-root-of rec i f Module = refl
@@ -29,14 +36,16 @@ expression-root-of rec i f (Expression Choose) = refl
 pub expression-root-to : (n : ℕ) (fs : List Frame) (i : ℕ) → rootE (expressionTo n fs i) ≡ i
 unfolding expressionTo
 expression-root-to zero fs i = refl
-expression-root-to (suc n) fs i = expression-root-of (λ j. expressionTo n fs j) i (frameAt fs i) (frameAt fs i .kind)
+expression-root-to (suc n) fs i =
+    expression-root-of (λ j. expressionTo n fs j) i (frameAt fs i) (frameAt fs i .kind)
 
 pub expression-root : (fs : List Frame) (i : ℕ) → rootE (expressionAt fs i) ≡ i
 unfolding expressionAt
 expression-root fs i = expression-root-to (suc i) fs i
 
 -- ---- statements
-statement-root-of : (expr : ℕ → Expr) (rec : ℕ → Stmt) (i : ℕ) (f : Frame) (k : Kind) → rootS (statementOf expr rec i f k) ≡ i
+statement-root-of : (expr : ℕ → Expr) (rec : ℕ → Stmt) (i : ℕ) (f : Frame) (k : Kind)
+    → rootS (statementOf expr rec i f k) ≡ i
 statement-root-of expr rec i f Header = refl
 statement-root-of expr rec i f (Declared d) = refl
 statement-root-of expr rec i f Module = refl

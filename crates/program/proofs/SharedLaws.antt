@@ -80,7 +80,8 @@ module _ (ws : List ℕ) (k : ℕ) (l : k < length ws) where
   next-at : isShared (lineAt ws k .kind) ≡ true → Next ws k (nextFrom ws k)
   next-at e = subst (Next ws k) (sym (next-here ws k l e)) (record { same = refl; onward = omega arith; is = λ _. e })
 
-  next-before : isShared (lineAt ws k .kind) ≡ false → Next ws (suc k) (nextFrom ws (suc k)) → Next ws k (nextFrom ws k)
+  next-before : isShared (lineAt ws k .kind) ≡ false → Next ws (suc k) (nextFrom ws (suc k))
+      → Next ws k (nextFrom ws k)
   next-before e m =
       let p = m .onward in
       subst (Next ws k) (sym (next-on ws k l e))
@@ -92,29 +93,35 @@ module _ (ws : List ℕ) (k : ℕ) (l : k < length ws) where
         is = m .is;
       })
 
-  next-by : (b : Bool) → isShared (lineAt ws k .kind) ≡ b → Next ws (suc k) (nextFrom ws (suc k)) → Next ws k (nextFrom ws k)
+  next-by : (b : Bool) → isShared (lineAt ws k .kind) ≡ b → Next ws (suc k) (nextFrom ws (suc k))
+      → Next ws k (nextFrom ws k)
   next-by true e m = next-at e
   next-by false e m = next-before e m
 
-next-either : (ws : List ℕ) (k : ℕ) (b : Bool) → ltb k (length ws) ≡ b → Next ws (suc k) (nextFrom ws (suc k)) → Next ws k (nextFrom ws k)
-next-either ws k true e m = next-by ws k (ltb-true k (length ws) e) (isShared (lineAt ws k .kind)) refl m
+next-either : (ws : List ℕ) (k : ℕ) (b : Bool) → ltb k (length ws) ≡ b
+    → Next ws (suc k) (nextFrom ws (suc k)) → Next ws k (nextFrom ws k)
+next-either ws k true e m =
+    next-by ws k (ltb-true k (length ws) e) (isShared (lineAt ws k .kind)) refl m
 next-either ws k false e m = next-past ws k (ltb-false k (length ws) e)
 
 next-is : (ws : List ℕ) (n k : ℕ) → length ws ≤ n + k → Next ws k (nextFrom ws k)
 next-is ws zero k h = next-past ws k (omega arith)
-next-is ws (suc n) k h = next-either ws k (ltb k (length ws)) refl (next-is ws n (suc k) (omega arith))
+next-is ws (suc n) k h =
+    next-either ws k (ltb k (length ws)) refl (next-is ws n (suc k) (omega arith))
 
 pub found-next : (ws : List ℕ) (i r : ℕ) → r ≡ nextFrom ws i → Next ws i r
 found-next ws i r e = subst (Next ws i) (sym e) (next-is ws (length ws) i (omega arith))
 
 -- the frame that was found declares the next shared cell
 pub next-cell : (ws : List ℕ) (i r : ℕ) → Next ws i r → r < length ws
-    → sharedOf (drop i (framesOf ws)) ≡ cellOf (frameOfWord (getD ws r 0)) ∷ sharedOf (drop (r + 1) (framesOf ws))
+    → sharedOf (drop i (framesOf ws))
+    ≡ cellOf (frameOfWord (getD ws r 0)) ∷ sharedOf (drop (r + 1) (framesOf ws))
 next-cell ws i r s l =
     s .same ∙ ap sharedOf (next-frame ws r (frameOfWord (getD ws r 0)) l refl)
     ∙ shared-yes (frameOfWord (getD ws r 0)) _ (s .is l)
 
-pub next-end : (ws : List ℕ) (i r : ℕ) → Next ws i r → length ws ≤ r → sharedOf (drop i (framesOf ws)) ≡ []
+pub next-end : (ws : List ℕ) (i r : ℕ) → Next ws i r → length ws ≤ r
+    → sharedOf (drop i (framesOf ws)) ≡ []
 unfolding sharedOf
 next-end ws i r s l = s .same ∙ ap sharedOf (frames-end ws r l)
 
@@ -126,7 +133,8 @@ pub record Counting (ws : List ℕ) (i n : ℕ) : Type 0 where
   pub few : n ≤ from
 
 pub count-start : (ws : List ℕ) (i : ℕ) → i ≡ nextFrom ws 0 → Counting ws i 0
-count-start ws i e = record { from = 0; next = found-next ws 0 i e; sum = omega arith; few = omega arith }
+count-start ws i e =
+    record { from = 0; next = found-next ws 0 i e; sum = omega arith; few = omega arith }
 
 module _ (ws : List ℕ) (i n : ℕ) (s : Counting ws i n) where
   pub count-one : (r : ℕ) → i < length ws → r ≡ nextFrom ws (i + 1) → Counting ws r (n + 1)
@@ -145,7 +153,8 @@ module _ (ws : List ℕ) (i n : ℕ) (s : Counting ws i n) where
   count-few = let a = s .few in let b = s .next .onward in omega arith
 
   -- the search goes on after i
-  pub count-falls : (r : ℕ) → r ≡ nextFrom ws (i + 1) → i < length ws → length ws - r < length ws - i
+  pub count-falls : (r : ℕ) → r ≡ nextFrom ws (i + 1) → i < length ws
+      → length ws - r < length ws - i
   count-falls r e l = let a = found-next ws (i + 1) r e .onward in omega arith
 
   pub count-end : length ws ≤ i → n ≡ length (sharedOf (framesOf ws))

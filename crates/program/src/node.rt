@@ -1,4 +1,5 @@
-// A frame as a node of a tree: its kind with the numbers that the kind uses, children by their frames.
+// A frame as a node of a tree: its kind with the numbers that the kind uses, children by their
+// frames.
 use language::Place;
 use language::frame::Frame;
 use language::kind::ExpressionKind;
@@ -10,10 +11,11 @@ ghost use Rattle.language.specs.Places.{isPlace};
 ghost use Rattle.language.specs.Kinds.{statementUses, expressionUses};
 ghost use Rattle.language.specs.inner.Reads.{NamesPlace};
 ghost use Rattle.language.specs.declared.kind.Use.{Use};
-ghost use Rattle.program.specs.inner.Nodes.{expressionNode, expressionNodeOf, statementNode, statementNodeOf};
+ghost use Rattle.program.specs.inner.Nodes.{expressionNode, expressionNodeOf, statementNode};
+ghost use Rattle.program.specs.inner.Nodes.{statementNodeOf};
 
-// An expression without operands, K 20 to 23: the number, the truth, the index of a variable or of a
-// shared cell.
+// An expression without operands, K 20 to 23: the number, the truth, the index of a variable or of
+// a shared cell.
 pub enum Leaf {
     Number(u16),
     Truth(u8),

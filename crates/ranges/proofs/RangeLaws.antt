@@ -1,4 +1,5 @@
--- Laws of the range tests of words, one for each return of the code; for lists and blocks of words see BlockLaws. Assumes nothing.
+-- Laws of the range tests of words, one for each return of the code; for lists and blocks of words
+-- see BlockLaws. Assumes nothing.
 use Prim.Native.Nat.{ℕ, _+_, _-_, _/_, _%_, _<_, _≤_}
 use mathlib.Core.Path.{_≡_, refl, sym, ap, ap₂, _∙_}
 use mathlib.Core.List.{List}
@@ -16,7 +17,8 @@ use Rattle.language.specs.declared.frame.Frame.{Frame}
 use Rattle.text.specs.Frames.{frameOfWord, framesOf}
 use Rattle.text.proofs.FrameWords.{frames-length, frame-at}
 use Rattle.program.specs.Trees.{frameAt, noFrame}
-use Rattle.machine.specs.inner.Ranges.{threadInRange, valueInRange, itemInRange, entryInRange, cellInRange, allBelow}
+use Rattle.machine.specs.inner.Ranges.{threadInRange, valueInRange, itemInRange, entryInRange}
+use Rattle.machine.specs.inner.Ranges.{cellInRange, allBelow}
 use Rattle.machine.specs.Shapes.{isStatement, ownerInRange}
 use Rattle.ranges.specs.inner.Passes.{isZero, memberInRange, wordPasses}
 use Rattle.ranges.specs.declared.range.Member.{Member}
@@ -38,28 +40,36 @@ pub value-number : (w : ℕ) → w < 0x0001_0000_0000 → true ≡ valueInRange 
 unfolding valueInRange
 value-number w h = yes _ (lt-ltb _ _ h) refl
 
-pub value-truth : (w : ℕ) → 0x0001_0000_0000 ≤ w → w < 0x0002_0000_0000 → leb w 0x0001_0000_0001 ≡ valueInRange w
+pub value-truth : (w : ℕ) → 0x0001_0000_0000 ≤ w → w < 0x0002_0000_0000
+    → leb w 0x0001_0000_0001 ≡ valueInRange w
 unfolding valueInRange
 value-truth w a h = no _ (le-ltb _ _ a) (yes _ (lt-ltb _ _ h) refl)
 
-pub value-cell : (w : ℕ) → 0x0001_0000_0000 ≤ w → 0x0002_0000_0000 ≤ w → leb w 0x0002_0000_00FF ≡ valueInRange w
+pub value-cell : (w : ℕ) → 0x0001_0000_0000 ≤ w → 0x0002_0000_0000 ≤ w
+    → leb w 0x0002_0000_00FF ≡ valueInRange w
 unfolding valueInRange
 value-cell w a h = no _ (le-ltb _ _ a) (no _ (le-ltb _ _ h) refl)
 
 pub ruleset value-laws = (value-number, value-truth, value-cell)
 
 -- ---- items
-pub no-statement : (words : List ℕ) (i : ℕ) → length words ≤ i → false ≡ isStatement (frameAt (framesOf words) i .kind)
+pub no-statement : (words : List ℕ) (i : ℕ) → length words ≤ i
+    → false ≡ isStatement (frameAt (framesOf words) i .kind)
 no-statement words i h = ap (λ (f : Frame). isStatement (f .kind)) (sym (List·getD-eq-default (framesOf words) noFrame {n = i} (rw (frames-length words) h)))
 
-pub some-statement : (words : List ℕ) (i : ℕ) (f : Frame) (k : Kind) (r : Bool) → i < length words → f ≡ frameOfWord (getD words i 0) → k ≡ f .kind → r ≡ isStatement k → r ≡ isStatement (frameAt (framesOf words) i .kind)
-some-statement words i f k r h e q s = s ∙ ap isStatement (q ∙ ap (λ (g : Frame). g .kind) (e ∙ sym (frame-at words i noFrame h)))
+pub some-statement : (words : List ℕ) (i : ℕ) (f : Frame) (k : Kind) (r : Bool) → i < length words
+    → f ≡ frameOfWord (getD words i 0) → k ≡ f .kind → r ≡ isStatement k
+    → r ≡ isStatement (frameAt (framesOf words) i .kind)
+some-statement words i f k r h e q s =
+    s ∙ ap isStatement (q ∙ ap (λ (g : Frame). g .kind) (e ∙ sym (frame-at words i noFrame h)))
 
-pub item-statement : (fs : List Frame) (n w : ℕ) (r : Bool) → w < 1024 → r ≡ isStatement (frameAt fs w .kind) → r ≡ itemInRange fs n w
+pub item-statement : (fs : List Frame) (n w : ℕ) (r : Bool) → w < 1024
+    → r ≡ isStatement (frameAt fs w .kind) → r ≡ itemInRange fs n w
 unfolding itemInRange
 item-statement fs n w r h e = yes _ (lt-ltb _ _ h) e
 
-pub item-back : (fs : List Frame) (n w : ℕ) (r : Bool) → 1024 ≤ w → w < 2048 → r ≡ hasPlace n (w - 1024) → r ≡ itemInRange fs n w
+pub item-back : (fs : List Frame) (n w : ℕ) (r : Bool) → 1024 ≤ w → w < 2048
+    → r ≡ hasPlace n (w - 1024) → r ≡ itemInRange fs n w
 unfolding itemInRange
 item-back fs n w r a h e = no _ (le-ltb _ _ a) (yes _ (lt-ltb _ _ h) e)
 
@@ -74,17 +84,20 @@ pub entry-plain : (w : ℕ) (r : Bool) → w < 128 → r ≡ threadInRange w →
 unfolding entryInRange
 entry-plain w r h e = yes _ (lt-ltb _ _ h) e
 
-pub entry-wrong : (w : ℕ) (t : Bool) → 128 ≤ w → t ≡ threadInRange (w % 128) → not t ≡ true → false ≡ entryInRange w
+pub entry-wrong : (w : ℕ) (t : Bool) → 128 ≤ w → t ≡ threadInRange (w % 128) → not t ≡ true
+    → false ≡ entryInRange w
 unfolding entryInRange
 entry-wrong w t h e f = no _ (le-ltb _ _ h) (rw (sym e ∙ not-true t f))
 
-pub entry-waiting : (w : ℕ) (t r : Bool) → 128 ≤ w → t ≡ threadInRange (w % 128) → not t ≡ false → r ≡ threadInRange (w / 128) → r ≡ entryInRange w
+pub entry-waiting : (w : ℕ) (t r : Bool) → 128 ≤ w → t ≡ threadInRange (w % 128) → not t ≡ false
+    → r ≡ threadInRange (w / 128) → r ≡ entryInRange w
 unfolding entryInRange
 entry-waiting w t r h e f g = no _ (le-ltb _ _ h) (rw (sym e ∙ not-false t f) g)
 
 pub ruleset entry-laws = (entry-plain, entry-wrong, entry-waiting)
 
-pub owner-scheduler : (n o : ℕ) (t : Bool) → t ≡ hasScheduler n o → t ≡ true → true ≡ ownerInRange n o
+pub owner-scheduler : (n o : ℕ) (t : Bool) → t ≡ hasScheduler n o → t ≡ true
+    → true ≡ ownerInRange n o
 unfolding ownerInRange
 owner-scheduler n o t e h = rw (sym e ∙ h)
 
@@ -103,11 +116,13 @@ owner-thread n o t r e h l q =
 
 pub ruleset owner-laws = (owner-scheduler, owner-low, owner-thread)
 
-pub cell-unowned : (n w : ℕ) (t : Bool) → t ≡ ownerInRange n (w / 0x0004_0000_0000) → not t ≡ true → false ≡ cellInRange n w
+pub cell-unowned : (n w : ℕ) (t : Bool) → t ≡ ownerInRange n (w / 0x0004_0000_0000) → not t ≡ true
+    → false ≡ cellInRange n w
 unfolding cellInRange
 cell-unowned n w t e h = rw (sym e ∙ not-true t h)
 
-pub cell-rest : (n w : ℕ) (t r : Bool) → t ≡ ownerInRange n (w / 0x0004_0000_0000) → not t ≡ false → r ≡ valueInRange (w % 0x0004_0000_0000) → r ≡ cellInRange n w
+pub cell-rest : (n w : ℕ) (t r : Bool) → t ≡ ownerInRange n (w / 0x0004_0000_0000) → not t ≡ false
+    → r ≡ valueInRange (w % 0x0004_0000_0000) → r ≡ cellInRange n w
 unfolding cellInRange
 cell-rest n w t r e h g = rw (sym e ∙ not-false t h) g
 
@@ -148,14 +163,18 @@ module _ (w : List ℕ) (at count j : ℕ) where
       → count ≤ j → eqb bits 0 ≡ allBelow count (wordPasses isZero w at)
   zero-end bits h a b = h ∙ ap (λ (n : ℕ). allBelow n (wordPasses isZero w at)) (omega arith)
 
-  pub member-wrong : (test : ℕ → Bool) (t : Bool) → t ≡ test (getD w (at + j) 0) → not t ≡ true → j < count → false ≡ allBelow count (wordPasses test w at)
+  pub member-wrong : (test : ℕ → Bool) (t : Bool) → t ≡ test (getD w (at + j) 0) → not t ≡ true
+      → j < count → false ≡ allBelow count (wordPasses test w at)
   unfolding wordPasses
   member-wrong test t e f h = answer-wrong (wordPasses test w at) j count t e f h
 
-  pub member-more : (test : ℕ → Bool) (t : Bool) → allBelow j (wordPasses test w at) ≡ true → t ≡ test (getD w (at + j) 0) → not t ≡ false → allBelow (j + 1) (wordPasses test w at) ≡ true
+  pub member-more : (test : ℕ → Bool) (t : Bool) → allBelow j (wordPasses test w at) ≡ true
+      → t ≡ test (getD w (at + j) 0) → not t ≡ false
+      → allBelow (j + 1) (wordPasses test w at) ≡ true
   unfolding wordPasses
   member-more test t h e f = answer-more (wordPasses test w at) j t h e f
 
 -- a match on the kind of member
-pub member-row : (fs : List Frame) (n w : ℕ) (k v : Member) (r : Bool) → k ≡ v → r ≡ memberInRange fs n v w → r ≡ memberInRange fs n k w
+pub member-row : (fs : List Frame) (n w : ℕ) (k v : Member) (r : Bool) → k ≡ v
+    → r ≡ memberInRange fs n v w → r ≡ memberInRange fs n k w
 member-row fs n w k v r e h = h ∙ ap (λ (x : Member). memberInRange fs n x w) (sym e)

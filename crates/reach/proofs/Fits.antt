@@ -1,4 +1,5 @@
--- A file that passes refusals 1 to 7, accepted or not, fits the state's spaces; so a state reached from its fresh one is never 14, and its calls are its steps. Assumes nothing.
+-- A file that passes refusals 1 to 7, accepted or not, fits the state's spaces; so a state reached
+-- from its fresh one is never 14, and its calls are its steps. Assumes nothing.
 use mathlib.Core.Path.{_≡_, refl, sym, ap, subst, _∙_}
 use mathlib.Core.Bool.{true, _&&_, true≢false}
 use mathlib.Core.List.{List, map}
@@ -12,9 +13,12 @@ use Rattle.basics.proofs.Ifs.{if-all, if-yes, and-true}
 use Rattle.language.specs.Types.{numberType, isCell}
 use Rattle.language.specs.Kinds.{classOf, Child}
 use Rattle.language.specs.declared.kind.Class.{Class}
-use Rattle.language.specs.declared.kind.StatementKind.the-variants.{Nothing, Then, DoAt, Start, StartWait, Cooperate, Let, Store, If, While}
+use Rattle.language.specs.declared.kind.StatementKind.the-variants.{Nothing, Then, DoAt, Start}
+use Rattle.language.specs.declared.kind.StatementKind.the-variants.{StartWait, Cooperate, Let}
+use Rattle.language.specs.declared.kind.StatementKind.the-variants.{Store, If, While}
 use Rattle.language.specs.declared.kind.Kind.{Kind}
-use Rattle.language.specs.declared.kind.Kind.the-variants.{Header, Declared, Module, Statement, Expression, Unknown}
+use Rattle.language.specs.declared.kind.Kind.the-variants.{Header, Declared, Module, Statement}
+use Rattle.language.specs.declared.kind.Kind.the-variants.{Expression, Unknown}
 use Rattle.language.specs.declared.frame.Frame.{Frame}
 use Rattle.program.specs.Trees.{Expr, frameAt, expressionAt, arguments, statementOf, statementAt}
 use Rattle.program.specs.Programs.{Part, SharedCell, typeOfShared, noModule, modulesFrom, programOf}
@@ -29,8 +33,11 @@ use Rattle.machine.specs.Fresh.{firstCell}
 use Rattle.machine.specs.Values.{firstContent}
 use Rattle.machine.specs.Shapes.{isStatement, ownerInRange, ValueFits, CellFits, ItemFits, run-fits}
 use Rattle.machine.proofs.Lists.{all-getD, all-imply}
-use Rattle.machine.proofs.KeptCells.{ExprFits, a-number, a-truth, a-variable, a-shared, a-new, a-content, a-sum, a-less, a-choice}
-use Rattle.machine.proofs.KeptShape.{Parts, of-nothing, of-cooperate, of-seq, of-do, of-start, of-wait, of-let, of-store, of-if, of-while, FileFits, reached-in-range}
+use Rattle.machine.proofs.KeptCells.{ExprFits, a-number, a-truth, a-variable, a-shared, a-new}
+use Rattle.machine.proofs.KeptCells.{a-content, a-sum, a-less, a-choice}
+use Rattle.machine.proofs.KeptShape.{Parts, of-nothing, of-cooperate, of-seq, of-do, of-start}
+use Rattle.machine.proofs.KeptShape.{of-wait, of-let, of-store, of-if, of-while, FileFits}
+use Rattle.machine.proofs.KeptShape.{reached-in-range}
 use Rattle.machine.proofs.CallRuns.{calls-are}
 use Rattle.reach.specs.Reached.{Passes, ReachedInRange, CallsAreSteps}
 use Rattle.reach.proofs.Passed.{schedulers-range, fields, row-at, order, inside}
@@ -58,7 +65,8 @@ expr-fits (LaidE.choose x y z) = a-choice (expr-fits x) (expr-fits y) (expr-fits
 
 -- ---- shared cells
 
-first-fits : {n : ℕ} {before : List SharedCell} {x : SharedCell} → CellFine Small n before x → ValueFits (firstCell x .content)
+first-fits : {n : ℕ} {before : List SharedCell} {x : SharedCell} → CellFine Small n before x
+    → ValueFits (firstCell x .content)
 unfolding firstContent firstContentFine
 first-fits {before = before} {x = x} f =
     if-all ValueFits (isCell (x .content)) _ _ (λ e. ValueFits.cell (below e))
@@ -72,7 +80,8 @@ first-fits {before = before} {x = x} f =
         let k = f .few in
         omega arith
 
-cells-fit : {n : ℕ} {before xs : List SharedCell} → CellsFine Small n before xs → All (λ (x : SharedCell). CellFits n (firstCell x)) xs
+cells-fit : {n : ℕ} {before xs : List SharedCell} → CellsFine Small n before xs
+    → All (λ (x : SharedCell). CellFits n (firstCell x)) xs
 unfolding ownerInRange
 cells-fit CellsFine.none = All.none
 cells-fit {n} (CellsFine.more {x = x} f r) = All.more {x = x} (record { owner = rw (f .owner); value = first-fits f }) (cells-fit r)
@@ -91,7 +100,8 @@ module _ {fs : List Frame} (size : Sized fs) (fine : NoFault fs) where
   abbrev n : ℕ
   n = schedulersOf fs
 
-  item-fits : (i : ℕ) → i < length fs → classOf (frameAt fs i .kind) ≡ Class.Statement → ItemFits fs n (run (statementAt fs i))
+  item-fits : (i : ℕ) → i < length fs → classOf (frameAt fs i .kind) ≡ Class.Statement
+      → ItemFits fs n (run (statementAt fs i))
   item-fits i l c =
       let r = statement-root fs i in
       let k = size .few in
@@ -101,15 +111,18 @@ module _ {fs : List Frame} (size : Sized fs) (fine : NoFault fs) where
   e-fits j = expr-fits (laid-expr Small fine (omega arith) (size .a) j)
 
   es-fit : (a b : ℕ) → All (ExprFits n) (arguments (λ j. expressionAt fs j) a b)
-  es-fit a b = all-imply (λ _ x. expr-fits x) (laid-arguments Small fine (omega arith) (size .a) a b)
+  es-fit a b =
+      all-imply (λ _ x. expr-fits x) (laid-arguments Small fine (omega arith) (size .a) a b)
 
   module _ (j : ℕ) (l : j < length fs) where
     -- a child that is a statement, and then each kind of statement by its children
-    child-fits : {lo : ℕ} {c : Child} {cs : List Child} → Row fs lo j cs → In c cs → c .class ≡ Class.Statement → ItemFits fs n (run (statementAt fs (c .at)))
+    child-fits : {lo : ℕ} {c : Child} {cs : List Child} → Row fs lo j cs → In c cs
+        → c .class ≡ Class.Statement → ItemFits fs n (run (statementAt fs (c .at)))
     child-fits (Row.more t e r) In.first q = let k = row-le r in item-fits _ (omega arith) (e ∙ q)
     child-fits (Row.more t e r) (In.later m) q = child-fits r m q
 
-    of-kind : (k : Kind) → isStatement k ≡ true → frameAt fs j .kind ≡ k → Parts fs n (statementOf (λ i. expressionAt fs i) (λ i. statementAt fs i) j (frameAt fs j) k)
+    of-kind : (k : Kind) → isStatement k ≡ true → frameAt fs j .kind ≡ k
+        → Parts fs n (statementOf (λ i. expressionAt fs i) (λ i. statementAt fs i) j (frameAt fs j) k)
     of-kind (Expression k) s q = absurd (true≢false (sym s))
     of-kind Header s q = absurd (true≢false (sym s))
     of-kind (Declared d) s q = absurd (true≢false (sym s))
@@ -117,14 +130,21 @@ module _ {fs : List Frame} (size : Sized fs) (fine : NoFault fs) where
     of-kind Unknown s q = absurd (true≢false (sym s))
     of-kind (Statement Nothing) s q = of-nothing
     of-kind (Statement Cooperate) s q = of-cooperate
-    of-kind (Statement Then) s q = let r = row-at fine j l _ q in of-seq (child-fits r In.first refl) (child-fits r (In.later In.first) refl)
-    of-kind (Statement DoAt) s q = of-do (fields fine j l _ q .s) (child-fits (row-at fine j l _ q) In.first refl)
+    of-kind (Statement Then) s q =
+        let r = row-at fine j l _ q in
+        of-seq (child-fits r In.first refl) (child-fits r (In.later In.first) refl)
+    of-kind (Statement DoAt) s q =
+        of-do (fields fine j l _ q .s) (child-fits (row-at fine j l _ q) In.first refl)
     of-kind (Statement Start) s q = of-start (es-fit (frameAt fs j .a) (frameAt fs j .b))
     of-kind (Statement StartWait) s q = of-wait (es-fit (frameAt fs j .a) (frameAt fs j .b))
-    of-kind (Statement Let) s q = of-let (e-fits _) (child-fits (row-at fine j l _ q) (In.later In.first) refl)
+    of-kind (Statement Let) s q =
+        of-let (e-fits _) (child-fits (row-at fine j l _ q) (In.later In.first) refl)
     of-kind (Statement Store) s q = of-store (e-fits _) (e-fits _)
-    of-kind (Statement If) s q = let r = row-at fine j l _ q in of-if (e-fits _) (child-fits r (In.later In.first) refl) (child-fits r (In.later (In.later In.first)) refl)
-    of-kind (Statement While) s q = of-while (e-fits _) (child-fits (row-at fine j l _ q) (In.later In.first) refl)
+    of-kind (Statement If) s q =
+        let r = row-at fine j l _ q in
+        of-if (e-fits _) (child-fits r (In.later In.first) refl) (child-fits r (In.later (In.later In.first)) refl)
+    of-kind (Statement While) s q =
+        of-while (e-fits _) (child-fits (row-at fine j l _ q) (In.later In.first) refl)
 
   has-class : (k : Kind) → isStatement k ≡ true → hasClass (classOf k) ≡ true
   has-class (Statement k) s = refl
@@ -166,11 +186,13 @@ module _ {fs : List Frame} (size : Sized fs) (fine : NoFault fs) where
 
 -- ---- of every text
 
-pub fits : {bs : List ℕ} {fs : List Frame} → Passes bs fs → FileFits fs (programOf fs) (programOf fs .schedulers)
+pub fits : {bs : List ℕ} {fs : List Frame} → Passes bs fs
+    → FileFits fs (programOf fs) (programOf fs .schedulers)
 fits p = file-fits (sized (p .text)) (p .layout)
 
 pub reached-never-14 : ReachedInRange
-reached-never-14 bs fs p cs = reached-in-range fs (programOf fs) (programOf fs .schedulers) (fits p) cs
+reached-never-14 bs fs p cs =
+    reached-in-range fs (programOf fs) (programOf fs .schedulers) (fits p) cs
 
 pub calls-are-steps : CallsAreSteps
 calls-are-steps bs fs p w cs e = calls-are fs (fits p) w cs e

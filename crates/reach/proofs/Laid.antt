@@ -1,4 +1,5 @@
--- The trees of a file that passes refusals 4 to 7: their owners and places are the file's, and they are at most 24 deep. Assumes nothing.
+-- The trees of a file that passes refusals 4 to 7: their owners and places are the file's, and they
+-- are at most 24 deep. Assumes nothing.
 use mathlib.Core.Path.{_≡_, refl, sym, subst}
 use mathlib.Core.Bool.{true}
 use mathlib.Core.List.{List}
@@ -6,12 +7,18 @@ use Prim.Native.Nat.{ℕ, zero, suc, _+_, _≤_, _<_}
 use native.Mathlib.Omega.{arith}
 use Rattle.basics.specs.Members.{In, All}
 use Rattle.language.specs.Places.{hasPlace}
-use Rattle.language.specs.declared.kind.StatementKind.the-variants.{Nothing, Then, DoAt, Start, StartWait, Cooperate, Let, Store, If, While}
-use Rattle.language.specs.declared.kind.ExpressionKind.the-variants.{Number, Truth, Variable, SharedCell, NewCell, Content, Sum, Less, Choose}
+use Rattle.language.specs.declared.kind.StatementKind.the-variants.{Nothing, Then, DoAt, Start}
+use Rattle.language.specs.declared.kind.StatementKind.the-variants.{StartWait, Cooperate, Let}
+use Rattle.language.specs.declared.kind.StatementKind.the-variants.{Store, If, While}
+use Rattle.language.specs.declared.kind.ExpressionKind.the-variants.{Number, Truth, Variable}
+use Rattle.language.specs.declared.kind.ExpressionKind.the-variants.{SharedCell, NewCell, Content}
+use Rattle.language.specs.declared.kind.ExpressionKind.the-variants.{Sum, Less, Choose}
 use Rattle.language.specs.declared.kind.Kind.{Kind}
-use Rattle.language.specs.declared.kind.Kind.the-variants.{Header, Declared, Module, Statement, Expression, Unknown}
+use Rattle.language.specs.declared.kind.Kind.the-variants.{Header, Declared, Module, Statement}
+use Rattle.language.specs.declared.kind.Kind.the-variants.{Expression, Unknown}
 use Rattle.language.specs.declared.frame.Frame.{Frame}
-use Rattle.program.specs.Trees.{Expr, Stmt, frameAt, expressionOf, expressionAt, arguments, statementOf, statementAt}
+use Rattle.program.specs.Trees.{Expr, Stmt, frameAt, expressionOf, expressionAt, arguments}
+use Rattle.program.specs.Trees.{statementOf, statementAt}
 use Rattle.program.proofs.Decoding.{expression-at, statement-at}
 use Rattle.fields.specs.Fields.{schedulersOf}
 use Rattle.layout.specs.Depths.{Depth}
@@ -20,7 +27,9 @@ use Rattle.layout.proofs.Trees.{tree-le, One, Two, Three, one-of, two-of, three
 use Rattle.machine.proofs.Depth.{deep}
 use Rattle.reach.proofs.Passed.{child-depth, fields, row-at, order, inside, not-deeper}
 
--- an expression whose owners are places of a file of n schedulers, and whose numbers have Q. What refusals 1 to 3 say of numbers is a premise apart, `each`: Q is below 2^32 for the state's spaces, and nothing for demand 3
+-- an expression whose owners are places of a file of n schedulers, and whose numbers have Q. What
+-- refusals 1 to 3 say of numbers is a premise apart, `each`: Q is below 2^32 for the state's
+-- spaces, and nothing for demand 3
 pub data LaidE (Q : ℕ → Type 0) (n : ℕ) : Expr → Type 0 where
   number : {i v : ℕ} → Q v → LaidE Q n (Expr.number i v)
   truth : {i v : ℕ} → LaidE Q n (Expr.truth i v)
@@ -30,20 +39,26 @@ pub data LaidE (Q : ℕ → Type 0) (n : ℕ) : Expr → Type 0 where
   content : {i : ℕ} {x : Expr} → LaidE Q n x → LaidE Q n (Expr.content i x)
   sum : {i : ℕ} {x y : Expr} → LaidE Q n x → LaidE Q n y → LaidE Q n (Expr.sum i x y)
   less : {i : ℕ} {x y : Expr} → LaidE Q n x → LaidE Q n y → LaidE Q n (Expr.less i x y)
-  choose : {i : ℕ} {x y z : Expr} → LaidE Q n x → LaidE Q n y → LaidE Q n z → LaidE Q n (Expr.choose i x y z)
+  choose : {i : ℕ} {x y z : Expr} → LaidE Q n x → LaidE Q n y → LaidE Q n z
+      → LaidE Q n (Expr.choose i x y z)
 
 -- a statement of such expressions, whose places are the file's, at most d deep
 pub data LaidS (Q : ℕ → Type 0) (n : ℕ) : ℕ → Stmt → Type 0 where
   nothing : {d i : ℕ} → LaidS Q n (suc d) (Stmt.nothing i)
   cooperate : {d i : ℕ} → LaidS Q n (suc d) (Stmt.cooperate i)
   seq : {d i : ℕ} {a b : Stmt} → LaidS Q n d a → LaidS Q n d b → LaidS Q n (suc d) (Stmt.seq i a b)
-  do-at : {d i q : ℕ} {a : Stmt} → hasPlace n q ≡ true → LaidS Q n d a → LaidS Q n (suc d) (Stmt.doAt i q a)
+  do-at : {d i q : ℕ} {a : Stmt} → hasPlace n q ≡ true → LaidS Q n d a
+      → LaidS Q n (suc d) (Stmt.doAt i q a)
   start : {d i m : ℕ} {xs : List Expr} → All (LaidE Q n) xs → LaidS Q n (suc d) (Stmt.start i m xs)
-  start-wait : {d i m : ℕ} {xs : List Expr} → All (LaidE Q n) xs → LaidS Q n (suc d) (Stmt.startWait i m xs)
-  letIn : {d i : ℕ} {x : Expr} {a : Stmt} → LaidE Q n x → LaidS Q n d a → LaidS Q n (suc d) (Stmt.letIn i x a)
+  start-wait : {d i m : ℕ} {xs : List Expr} → All (LaidE Q n) xs
+      → LaidS Q n (suc d) (Stmt.startWait i m xs)
+  letIn : {d i : ℕ} {x : Expr} {a : Stmt} → LaidE Q n x → LaidS Q n d a
+      → LaidS Q n (suc d) (Stmt.letIn i x a)
   store : {d i : ℕ} {x y : Expr} → LaidE Q n x → LaidE Q n y → LaidS Q n (suc d) (Stmt.store i x y)
-  ifElse : {d i : ℕ} {x : Expr} {a b : Stmt} → LaidE Q n x → LaidS Q n d a → LaidS Q n d b → LaidS Q n (suc d) (Stmt.ifElse i x a b)
-  while : {d i : ℕ} {x : Expr} {a : Stmt} → LaidE Q n x → LaidS Q n d a → LaidS Q n (suc d) (Stmt.while i x a)
+  ifElse : {d i : ℕ} {x : Expr} {a b : Stmt} → LaidE Q n x → LaidS Q n d a → LaidS Q n d b
+      → LaidS Q n (suc d) (Stmt.ifElse i x a b)
+  while : {d i : ℕ} {x : Expr} {a : Stmt} → LaidE Q n x → LaidS Q n d a
+      → LaidS Q n (suc d) (Stmt.while i x a)
 
 -- 24 at most, by `laid-stmt`
 pub laid-deep : {Q : ℕ → Type 0} {n d : ℕ} {x : Stmt} → LaidS Q n d x → deep x ≤ d
@@ -71,10 +86,12 @@ module _ (Q : ℕ → Type 0) {fs : List Frame} (fine : NoFault fs) (none : Q 0)
     from-one : {x : Expr} {lo a : ℕ} → (Fine (At a) → Fine x) → One fs lo j a → Fine x
     from-one {a = a} make r = let l = r .last in make (rec a (omega arith))
 
-    from-two : {x : Expr} {lo a b : ℕ} → (Fine (At a) → Fine (At b) → Fine x) → Two fs lo j a b → Fine x
+    from-two : {x : Expr} {lo a b : ℕ} → (Fine (At a) → Fine (At b) → Fine x) → Two fs lo j a b
+        → Fine x
     from-two {a = a} {b = b} make r = let l = r .last in let k = tree-le (r .next) in make (rec a (omega arith)) (rec b (omega arith))
 
-    from-three : {x : Expr} {lo a b c : ℕ} → (Fine (At a) → Fine (At b) → Fine (At c) → Fine x) → Three fs lo j a b c → Fine x
+    from-three : {x : Expr} {lo a b c : ℕ} → (Fine (At a) → Fine (At b) → Fine (At c) → Fine x)
+        → Three fs lo j a b c → Fine x
     from-three {a = a} {b = b} {c = c} make r =
         let l = r .last in
         let k = tree-le (r .next) in
@@ -91,11 +108,17 @@ module _ (Q : ℕ → Type 0) {fs : List Frame} (fine : NoFault fs) (none : Q 0)
     e-kind (Expression Truth) e = LaidE.truth
     e-kind (Expression Variable) e = LaidE.variable
     e-kind (Expression SharedCell) e = LaidE.shared
-    e-kind (Expression NewCell) e = let l = inside fine j _ e refl in from-one (LaidE.new (fields fine j l _ e .s)) (one-of (row-at fine j l _ e))
-    e-kind (Expression Content) e = from-one LaidE.content (one-of (row-at fine j (inside fine j _ e refl) _ e))
-    e-kind (Expression Sum) e = from-two LaidE.sum (two-of (row-at fine j (inside fine j _ e refl) _ e))
-    e-kind (Expression Less) e = from-two LaidE.less (two-of (row-at fine j (inside fine j _ e refl) _ e))
-    e-kind (Expression Choose) e = from-three LaidE.choose (three-of (row-at fine j (inside fine j _ e refl) _ e))
+    e-kind (Expression NewCell) e =
+        let l = inside fine j _ e refl in
+        from-one (LaidE.new (fields fine j l _ e .s)) (one-of (row-at fine j l _ e))
+    e-kind (Expression Content) e =
+        from-one LaidE.content (one-of (row-at fine j (inside fine j _ e refl) _ e))
+    e-kind (Expression Sum) e =
+        from-two LaidE.sum (two-of (row-at fine j (inside fine j _ e refl) _ e))
+    e-kind (Expression Less) e =
+        from-two LaidE.less (two-of (row-at fine j (inside fine j _ e refl) _ e))
+    e-kind (Expression Choose) e =
+        from-three LaidE.choose (three-of (row-at fine j (inside fine j _ e refl) _ e))
 
   laid-to : (m j : ℕ) → j < m → Fine (At j)
   laid-to zero j l = absurd (omega arith)
@@ -104,14 +127,17 @@ module _ (Q : ℕ → Type 0) {fs : List Frame} (fine : NoFault fs) (none : Q 0)
   pub laid-expr : (j : ℕ) → Fine (expressionAt fs j)
   laid-expr j = laid-to (suc j) j (omega arith)
 
-  pub laid-arguments : (a b : ℕ) → All (LaidE Q (schedulersOf fs)) (arguments (λ j. expressionAt fs j) a b)
+  pub laid-arguments : (a b : ℕ)
+      → All (LaidE Q (schedulersOf fs)) (arguments (λ j. expressionAt fs j) a b)
   laid-arguments zero b = All.none
   laid-arguments (suc a) zero = All.more (laid-expr (suc a)) All.none
-  laid-arguments (suc a) (suc b) = All.more (laid-expr (suc a)) (All.more (laid-expr (suc b)) All.none)
+  laid-arguments (suc a) (suc b) =
+      All.more (laid-expr (suc a)) (All.more (laid-expr (suc b)) All.none)
 
   -- ---- statements; `rec` says it of the frames one deeper
   module _ (d j e : ℕ) (at : Depth fs j e) (rec : (i : ℕ) → Depth fs i (suc e) → LaidS Q (schedulersOf fs) d (statementAt fs i)) where
-    s-kind : (k : Kind) → frameAt fs j .kind ≡ k → LaidS Q (schedulersOf fs) (suc d) (statementOf (λ i. expressionAt fs i) (λ i. statementAt fs i) j (frameAt fs j) k)
+    s-kind : (k : Kind) → frameAt fs j .kind ≡ k
+        → LaidS Q (schedulersOf fs) (suc d) (statementOf (λ i. expressionAt fs i) (λ i. statementAt fs i) j (frameAt fs j) k)
     s-kind Header q = LaidS.nothing
     s-kind (Declared d) q = LaidS.nothing
     s-kind Module q = LaidS.nothing
@@ -121,14 +147,18 @@ module _ (Q : ℕ → Type 0) {fs : List Frame} (fine : NoFault fs) (none : Q 0)
     s-kind (Statement Then) q = LaidS.seq (rec _ (child-depth (Statement Then) q at In.first)) (rec _ (child-depth (Statement Then) q at (In.later In.first)))
     s-kind (Statement DoAt) q = LaidS.do-at (fields fine j (inside fine j _ q refl) _ q .s) (rec _ (child-depth (Statement DoAt) q at In.first))
     s-kind (Statement Start) q = LaidS.start (laid-arguments (frameAt fs j .a) (frameAt fs j .b))
-    s-kind (Statement StartWait) q = LaidS.start-wait (laid-arguments (frameAt fs j .a) (frameAt fs j .b))
+    s-kind (Statement StartWait) q =
+        LaidS.start-wait (laid-arguments (frameAt fs j .a) (frameAt fs j .b))
     s-kind (Statement Cooperate) q = LaidS.cooperate
-    s-kind (Statement Let) q = LaidS.letIn (laid-expr _) (rec _ (child-depth (Statement Let) q at (In.later In.first)))
+    s-kind (Statement Let) q =
+        LaidS.letIn (laid-expr _) (rec _ (child-depth (Statement Let) q at (In.later In.first)))
     s-kind (Statement Store) q = LaidS.store (laid-expr _) (laid-expr _)
     s-kind (Statement If) q = LaidS.ifElse (laid-expr _) (rec _ (child-depth (Statement If) q at (In.later In.first))) (rec _ (child-depth (Statement If) q at (In.later (In.later In.first))))
-    s-kind (Statement While) q = LaidS.while (laid-expr _) (rec _ (child-depth (Statement While) q at (In.later In.first)))
+    s-kind (Statement While) q =
+        LaidS.while (laid-expr _) (rec _ (child-depth (Statement While) q at (In.later In.first)))
 
-  pub laid-stmt : (d j e : ℕ) → e + d ≡ 25 → Depth fs j e → LaidS Q (schedulersOf fs) d (statementAt fs j)
+  pub laid-stmt : (d j e : ℕ) → e + d ≡ 25 → Depth fs j e
+      → LaidS Q (schedulersOf fs) d (statementAt fs j)
   laid-stmt zero j e s h = absurd (not-deeper fine h (omega arith))
   laid-stmt (suc d) j e s h =
       subst (LaidS Q (schedulersOf fs) (suc d)) (sym (statement-at fs (order fine) j))

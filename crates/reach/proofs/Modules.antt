@@ -1,4 +1,5 @@
--- The modules of a file that passes refusals 4 to 7: which frames they are, that their bodies are laid out as they have to be, and that main, the last, has no parameters. Assumes nothing.
+-- The modules of a file that passes refusals 4 to 7: which frames they are, that their bodies are
+-- laid out as they have to be, and that main, the last, has no parameters. Assumes nothing.
 use mathlib.Core.Path.{_≡_, refl, sym, ap, subst, _∙_}
 use mathlib.Core.List.{List, [], _∷_}
 use Prim.Native.Nat.{ℕ, zero, suc, _+_, _-_, _≤_, _<_}
@@ -6,7 +7,8 @@ use native.Mathlib.Omega.{arith}
 use lib.ListN.{length, take, length-take}
 use Rattle.basics.specs.Members.{All}
 use Rattle.language.specs.declared.kind.Kind.{Kind}
-use Rattle.language.specs.declared.kind.Kind.the-variants.{Header, Declared, Module, Statement, Expression, Unknown}
+use Rattle.language.specs.declared.kind.Kind.the-variants.{Header, Declared, Module, Statement}
+use Rattle.language.specs.declared.kind.Kind.the-variants.{Expression, Unknown}
 use Rattle.language.specs.declared.frame.Frame.{Frame}
 use Rattle.program.specs.Trees.{frameAt}
 use Rattle.program.specs.Programs.{Part, partOf, withPart, modulesFrom}
@@ -25,7 +27,8 @@ pub record IsPart (fs : List Frame) (m : Part) : Type 0 where
   pub kind : frameAt fs at .kind ≡ Module
   pub same : m ≡ partOf fs at (frameAt fs at)
 
-with-part : {fs : List Frame} (i : ℕ) (f : Frame) (k : Kind) (ps : List Part) → i < length fs → f ≡ frameAt fs i → f .kind ≡ k → All (IsPart fs) ps → All (IsPart fs) (withPart fs i f k ps)
+with-part : {fs : List Frame} (i : ℕ) (f : Frame) (k : Kind) (ps : List Part) → i < length fs
+    → f ≡ frameAt fs i → f .kind ≡ k → All (IsPart fs) ps → All (IsPart fs) (withPart fs i f k ps)
 with-part {fs} i f Module ps l e k h = All.more (record { at = i; inside = l; kind = ap (λ (g : Frame). g .kind) (sym e) ∙ k; same = ap (partOf fs i) e }) h
 with-part i f Header ps l e k h = h
 with-part i f (Declared d) ps l e k h = h
@@ -33,7 +36,8 @@ with-part i f (Statement q) ps l e k h = h
 with-part i f (Expression q) ps l e k h = h
 with-part i f Unknown ps l e k h = h
 
-parts-from : {fs : List Frame} (tail : List Frame) (i : ℕ) → From fs i tail → All (IsPart fs) (modulesFrom fs i tail)
+parts-from : {fs : List Frame} (tail : List Frame) (i : ℕ) → From fs i tail
+    → All (IsPart fs) (modulesFrom fs i tail)
 unfolding modulesFrom
 parts-from [] i w = All.none
 parts-from {fs} (f ∷ tail) i w =
@@ -48,7 +52,8 @@ pub data LastPlain : List Part → Type 0 where
   last : {m : Part} → m .types ≡ [] → LastPlain (m ∷ [])
   later : {m : Part} {ms : List Part} → LastPlain ms → LastPlain (m ∷ ms)
 
-with-later : (fs : List Frame) (i : ℕ) (f : Frame) (k : Kind) {ps : List Part} → LastPlain ps → LastPlain (withPart fs i f k ps)
+with-later : (fs : List Frame) (i : ℕ) (f : Frame) (k : Kind) {ps : List Part} → LastPlain ps
+    → LastPlain (withPart fs i f k ps)
 with-later fs i f Module h = LastPlain.later h
 with-later fs i f Header h = h
 with-later fs i f (Declared d) h = h
@@ -56,13 +61,16 @@ with-later fs i f (Statement q) h = h
 with-later fs i f (Expression q) h = h
 with-later fs i f Unknown h = h
 
-plain-last : (fs tail : List Frame) (i q : ℕ) → length tail ≡ suc q → frameAt tail q .kind ≡ Module → frameAt tail q .s ≡ 0 → LastPlain (modulesFrom fs i tail)
+plain-last : (fs tail : List Frame) (i q : ℕ) → length tail ≡ suc q → frameAt tail q .kind ≡ Module
+    → frameAt tail q .s ≡ 0 → LastPlain (modulesFrom fs i tail)
 unfolding modulesFrom
 plain-last fs [] i q l k s = absurd (omega arith)
-plain-last fs (f ∷ []) i zero l k s = rw k (LastPlain.last (ap (λ (n : ℕ). take n (f .b ∷ f .c ∷ [])) s))
+plain-last fs (f ∷ []) i zero l k s =
+    rw k (LastPlain.last (ap (λ (n : ℕ). take n (f .b ∷ f .c ∷ [])) s))
 plain-last fs (f ∷ []) i (suc q) l k s = absurd (omega arith)
 plain-last fs (f ∷ g ∷ tail) i zero l k s = absurd (omega arith)
-plain-last fs (f ∷ g ∷ tail) i (suc q) l k s = with-later fs i f (f .kind) (plain-last fs (g ∷ tail) (suc i) q (omega arith) k s)
+plain-last fs (f ∷ g ∷ tail) i (suc q) l k s =
+    with-later fs i f (f .kind) (plain-last fs (g ∷ tail) (suc i) q (omega arith) k s)
 
 module _ {fs : List Frame} (fine : NoFault fs) where
   pub main-plain : LastPlain (modulesFrom fs 0 fs)
@@ -86,7 +94,8 @@ module _ {fs : List Frame} (fine : NoFault fs) where
       omega arith
 
   -- 'A body stands at depth 1', 'the whole tree is at most 24 deep'
-  pub part-laid : (Q : ℕ → Type 0) → Q 0 → ((j : ℕ) → Q (frameAt fs j .a)) → (m : Part) → IsPart fs m → LaidS Q (schedulersOf fs) 24 (m .body)
+  pub part-laid : (Q : ℕ → Type 0) → Q 0 → ((j : ℕ) → Q (frameAt fs j .a)) → (m : Part)
+      → IsPart fs m → LaidS Q (schedulersOf fs) 24 (m .body)
   part-laid Q none each m h =
       subst (λ (p : Part). LaidS Q (schedulersOf fs) 24 (p .body)) (sym (h .same))
       (laid-stmt Q fine none each 24 (frameAt fs (h .at) .a) 1 refl (Depth.body (h .inside) (h .kind)))

@@ -1,4 +1,5 @@
--- In a file that passes refusals 1 to 7, accepted or not, each body has room, so no list, continuation or variable space is ever full from its fresh state on. Assumes nothing.
+-- In a file that passes refusals 1 to 7, accepted or not, each body has room, so no list,
+-- continuation or variable space is ever full from its fresh state on. Assumes nothing.
 use mathlib.Core.List.{List}
 use Prim.Native.Nat.{ℕ, _≤_}
 use lib.ListN.{length}
@@ -32,4 +33,5 @@ module _ {fs : List Frame} (fine : NoFault fs) where
   has-module = some-module fine
 
 pub never-full : NeverFull
-never-full bs fs p cs c = Machine.never-full (programOf fs) (bodies (p .layout)) (has-module (p .layout)) cs c
+never-full bs fs p cs c =
+    Machine.never-full (programOf fs) (bodies (p .layout)) (has-module (p .layout)) cs c

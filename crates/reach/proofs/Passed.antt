@@ -37,9 +37,11 @@ pub record FieldsFine (fs : List Frame) (j : ℕ) (k : Kind) : Type 0 where
   pub c : fieldFine fs j (frameAt fs j) (uses k .c) (frameAt fs j .c) ≡ true
 
 -- a child of a frame of the kind k, one deeper
-pub child-depth : {fs : List Frame} {j d : ℕ} {c : Child} (k : Kind) → frameAt fs j .kind ≡ k → Depth fs j d → In c (childrenAs k (frameAt fs j)) → Depth fs (c .at) (suc d)
+pub child-depth : {fs : List Frame} {j d : ℕ} {c : Child} (k : Kind) → frameAt fs j .kind ≡ k
+    → Depth fs j d → In c (childrenAs k (frameAt fs j)) → Depth fs (c .at) (suc d)
 unfolding children
-child-depth {fs} {j} {c = c} k e h m = Depth.child h (subst (λ (q : Kind). In c (childrenAs q (frameAt fs j))) (sym e) m)
+child-depth {fs} {j} {c =
+    c} k e h m = Depth.child h (subst (λ (q : Kind). In c (childrenAs q (frameAt fs j))) (sym e) m)
 
 module _ {fs : List Frame} (fine : NoFault fs) where
   header-fine : headerFine (frameAt fs 0) ≡ true
@@ -79,14 +81,16 @@ module _ {fs : List Frame} (fine : NoFault fs) where
   trees = all-trees fs (fine 6)
 
   -- the row of its children, where it is of the kind k
-  pub row-at : (j : ℕ) (l : j < length fs) (k : Kind) → frameAt fs j .kind ≡ k → Row fs (trees j l .from) j (childrenAs k (frameAt fs j))
+  pub row-at : (j : ℕ) (l : j < length fs) (k : Kind) → frameAt fs j .kind ≡ k
+      → Row fs (trees j l .from) j (childrenAs k (frameAt fs j))
   row-at j l k e = row-of k j _ e (trees j l .tree)
 
   pub order : Ordered fs
   order = is-ordered fs (fine 6)
 
   -- a statement or an expression stands in the file
-  pub inside : (j : ℕ) (k : Kind) → frameAt fs j .kind ≡ k → hasClass (classOf k) ≡ true → j < length fs
+  pub inside : (j : ℕ) (k : Kind) → frameAt fs j .kind ≡ k → hasClass (classOf k) ≡ true
+      → j < length fs
   inside j k e c = go (decLt j (length fs))
     where
       go : Dec (j < length fs) → j < length fs

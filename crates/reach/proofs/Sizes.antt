@@ -1,4 +1,5 @@
--- What refusals 1 to 3 leave of a file: at most 1,024 frames, whose fields A and B, being of four digits, are numbers that a value can hold. Assumes nothing.
+-- What refusals 1 to 3 leave of a file: at most 1,024 frames, whose fields A and B, being of four
+-- digits, are numbers that a value can hold. Assumes nothing.
 use mathlib.Core.List.{List, [], _∷_, map}
 use Prim.Native.Nat.{ℕ, zero, suc, _/_, _^_, _≤_, _<_}
 use native.Mathlib.Omega.{arith}
@@ -14,7 +15,8 @@ pub record Sized (fs : List Frame) : Type 0 where
   pub a : (j : ℕ) → frameAt fs j .a < 2 ^ 32
   pub b : (j : ℕ) → frameAt fs j .b < 2 ^ 32
 
-pub fields-small : (ws : List ℕ) (j : ℕ) → (getD (map frameOfWord ws) j noFrame .a < 2 ^ 32) × (getD (map frameOfWord ws) j noFrame .b < 2 ^ 32)
+pub fields-small : (ws : List ℕ) (j : ℕ)
+    → (getD (map frameOfWord ws) j noFrame .a < 2 ^ 32) × (getD (map frameOfWord ws) j noFrame .b < 2 ^ 32)
 unfolding frameOfWord
 fields-small [] j = (omega arith, omega arith)
 fields-small (w ∷ ws) zero = (omega arith, omega arith)

@@ -19,7 +19,8 @@ use Rattle.rules.specs.declared.finding.Typing.{Typing}
 use Rattle.rules.specs.declared.finding.Typing.the-variants.{Typed, Untyped}
 use Rattle.rules.specs.Breaks.{BreaksE}
 use Rattle.rules.specs.Broken.{ChildE, BrokenE}
-use Rattle.rules.specs.inner.Checking.{namedRule, newRule, contentRule, numbersRule, chooseRule, typeIn}
+use Rattle.rules.specs.inner.Checking.{namedRule, newRule, contentRule, numbersRule}
+use Rattle.rules.specs.inner.Checking.{chooseRule, typeIn}
 use Rattle.rules.proofs.Sooner.{Sooner, exactly, smaller}
 use Rattle.rules.proofs.Expressions.{complete, FoundE, soundE}
 use Rattle.rules.proofs.Ranges.{root-aboveE, rangeE}
@@ -30,14 +31,16 @@ pub data BeforeE (j : ℕ) : Typing → Type 0 where
   before : {m k : ℕ} → k < j → BeforeE j (Untyped m k)
 
 -- an expression that ends before frame j has a type or a fault before j
-pub beforeE : (cells Γ : List ℕ) {lo j : ℕ} {x : Expr} → PlacedE lo x → rootE x < j → BeforeE j (typeIn cells Γ x)
+pub beforeE : (cells Γ : List ℕ) {lo j : ℕ} {x : Expr} → PlacedE lo x → rootE x < j
+    → BeforeE j (typeIn cells Γ x)
 beforeE cells Γ {j = j} {x = x} p l = go (typeIn cells Γ x) (soundE cells Γ x)
   where
     go : (r : Typing) → FoundE cells Γ x r → BeforeE j r
     go (Typed t e) h = BeforeE.typed
     go (Untyped m k) b = let r = rangeE b p in BeforeE.before {k = k} (omega arith)
 
--- ---- a child's fault that comes no later than rule n at frame j is the whole's: the first child's at once, a later one's where each child before it has no fault, or one before j.
+-- ---- a child's fault that comes no later than rule n at frame j is the whole's: the first child's
+-- at once, a later one's where each child before it has no fault, or one before j.
 module _ {n j : ℕ} where
   under-new : (s i : ℕ) {r : Typing} → Sooner Untyped n j r → Sooner Untyped n j (newRule s i r)
   unfolding newRule
@@ -47,25 +50,30 @@ module _ {n j : ℕ} where
   unfolding contentRule
   under-content i (Sooner.sooner h) = Sooner.sooner h
 
-  under-numbers-a : (w i : ℕ) {r : Typing} (s : Typing) → Sooner Untyped n j r → Sooner Untyped n j (numbersRule w i r s)
+  under-numbers-a : (w i : ℕ) {r : Typing} (s : Typing) → Sooner Untyped n j r
+      → Sooner Untyped n j (numbersRule w i r s)
   unfolding numbersRule
   under-numbers-a w i s (Sooner.sooner h) = Sooner.sooner h
 
-  under-numbers-b : (w i : ℕ) {r s : Typing} → BeforeE j r → Sooner Untyped n j s → Sooner Untyped n j (numbersRule w i r s)
+  under-numbers-b : (w i : ℕ) {r s : Typing} → BeforeE j r → Sooner Untyped n j s
+      → Sooner Untyped n j (numbersRule w i r s)
   unfolding numbersRule
   under-numbers-b w i BeforeE.typed (Sooner.sooner h) = Sooner.sooner h
   under-numbers-b w i (BeforeE.before l) (Sooner.sooner h) = Sooner.sooner (inl l)
 
-  under-choose-a : (i : ℕ) {r : Typing} (s t : Typing) → Sooner Untyped n j r → Sooner Untyped n j (chooseRule i r s t)
+  under-choose-a : (i : ℕ) {r : Typing} (s t : Typing) → Sooner Untyped n j r
+      → Sooner Untyped n j (chooseRule i r s t)
   unfolding chooseRule
   under-choose-a i s t (Sooner.sooner h) = Sooner.sooner h
 
-  under-choose-b : (i : ℕ) {r s : Typing} (t : Typing) → BeforeE j r → Sooner Untyped n j s → Sooner Untyped n j (chooseRule i r s t)
+  under-choose-b : (i : ℕ) {r s : Typing} (t : Typing) → BeforeE j r → Sooner Untyped n j s
+      → Sooner Untyped n j (chooseRule i r s t)
   unfolding chooseRule
   under-choose-b i t BeforeE.typed (Sooner.sooner h) = Sooner.sooner h
   under-choose-b i t (BeforeE.before l) (Sooner.sooner h) = Sooner.sooner (inl l)
 
-  under-choose-c : (i : ℕ) {r s t : Typing} → BeforeE j r → BeforeE j s → Sooner Untyped n j t → Sooner Untyped n j (chooseRule i r s t)
+  under-choose-c : (i : ℕ) {r s t : Typing} → BeforeE j r → BeforeE j s → Sooner Untyped n j t
+      → Sooner Untyped n j (chooseRule i r s t)
   unfolding chooseRule
   under-choose-c i BeforeE.typed BeforeE.typed (Sooner.sooner h) = Sooner.sooner h
   under-choose-c i BeforeE.typed (BeforeE.before l) (Sooner.sooner h) = Sooner.sooner (inl l)
@@ -76,11 +84,13 @@ own-named : (ts : List ℕ) (s i : ℕ) → length ts ≤ s → Sooner Untyped u
 unfolding namedRule
 own-named ts s i h = if-all (Sooner Untyped unbound i) (ltb s (length ts)) _ _ (λ l. absurd (let a : s < length ts = ltb-true _ _ l in omega arith)) (λ l. exactly)
 
-own-numbers : (w i t u : ℕ) (e f : Effect) → ((t ≡ numberType) × (u ≡ numberType) → ⊥) → Sooner Untyped illTyped i (numbersRule w i (Typed t e) (Typed u f))
+own-numbers : (w i t u : ℕ) (e f : Effect) → ((t ≡ numberType) × (u ≡ numberType) → ⊥)
+    → Sooner Untyped illTyped i (numbersRule w i (Typed t e) (Typed u f))
 unfolding numbersRule
 own-numbers w i t u e f z = if-all (Sooner Untyped illTyped i) (eqb t numberType && eqb u numberType) _ _ (λ p. let q = and-true _ _ p in absurd (z (eqb-true _ _ (q .0), eqb-true _ _ (q .1)))) (λ p. exactly)
 
-ownE : {cells Γ : List ℕ} {x : Expr} {n : ℕ} → BreaksE cells Γ x n → Sooner Untyped n (rootE x) (typeIn cells Γ x)
+ownE : {cells Γ : List ℕ} {x : Expr} {n : ℕ} → BreaksE cells Γ x n
+    → Sooner Untyped n (rootE x) (typeIn cells Γ x)
 unfolding typeIn newRule contentRule chooseRule
 ownE (BreaksE.variable h) = own-named _ _ _ h
 ownE (BreaksE.shared h) = own-named _ _ _ h
@@ -98,17 +108,22 @@ ownE (BreaksE.choose {t = t} {u = u} {v = v} x y z w) =
     (λ p. let q = and-true (eqb t truthType && eqb u numberType) _ p in let r = and-true _ _ (q .0) in absurd (w (eqb-true _ _ (r .0), eqb-true _ _ (r .1), eqb-true _ _ (q .1)))) (λ p. exactly))
 
 -- ---- whatever is broken, at the root or below it
-pub leastE : {cells Γ : List ℕ} {lo n j : ℕ} {x : Expr} → BrokenE cells Γ x n j → PlacedE lo x → Sooner Untyped n j (typeIn cells Γ x)
+pub leastE : {cells Γ : List ℕ} {lo n j : ℕ} {x : Expr} → BrokenE cells Γ x n j → PlacedE lo x
+    → Sooner Untyped n j (typeIn cells Γ x)
 unfolding typeIn
 leastE (BrokenE.here b) p = ownE b
 leastE (BrokenE.under ChildE.new b) (PlacedE.new p e) = under-new _ _ (leastE b p)
 leastE (BrokenE.under ChildE.content b) (PlacedE.content p e) = under-content _ (leastE b p)
 leastE (BrokenE.under ChildE.sum-a b) (PlacedE.sum p q e) = under-numbers-a _ _ _ (leastE b p)
-leastE (BrokenE.under ChildE.sum-b b) (PlacedE.sum p q e) = let r = rangeE b q in under-numbers-b _ _ (beforeE _ _ p (omega arith)) (leastE b q)
+leastE (BrokenE.under ChildE.sum-b b) (PlacedE.sum p q e) =
+    let r = rangeE b q in under-numbers-b _ _ (beforeE _ _ p (omega arith)) (leastE b q)
 leastE (BrokenE.under ChildE.less-a b) (PlacedE.less p q e) = under-numbers-a _ _ _ (leastE b p)
-leastE (BrokenE.under ChildE.less-b b) (PlacedE.less p q e) = let r = rangeE b q in under-numbers-b _ _ (beforeE _ _ p (omega arith)) (leastE b q)
-leastE (BrokenE.under ChildE.choose-a b) (PlacedE.choose p q r e) = under-choose-a _ _ _ (leastE b p)
-leastE (BrokenE.under ChildE.choose-b b) (PlacedE.choose p q r e) = let a = rangeE b q in under-choose-b _ _ (beforeE _ _ p (omega arith)) (leastE b q)
+leastE (BrokenE.under ChildE.less-b b) (PlacedE.less p q e) =
+    let r = rangeE b q in under-numbers-b _ _ (beforeE _ _ p (omega arith)) (leastE b q)
+leastE (BrokenE.under ChildE.choose-a b) (PlacedE.choose p q r e) =
+    under-choose-a _ _ _ (leastE b p)
+leastE (BrokenE.under ChildE.choose-b b) (PlacedE.choose p q r e) =
+    let a = rangeE b q in under-choose-b _ _ (beforeE _ _ p (omega arith)) (leastE b q)
 leastE (BrokenE.under ChildE.choose-c b) (PlacedE.choose p q r e) =
     let a = rangeE b r in
     let l = root-aboveE q in

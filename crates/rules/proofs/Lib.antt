@@ -1,4 +1,5 @@
--- The definitions: what Checking computes is what the rules give, and of what is broken the first. Expressions, statements, modules.
+-- The definitions: what Checking computes is what the rules give, and of what is broken the first.
+-- Expressions, statements, modules.
 pub mod Lists
 pub mod Expressions
 pub mod Statements

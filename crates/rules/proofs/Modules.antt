@@ -1,4 +1,5 @@
--- Modules and whole programs: the computed answer is the one that the rules give, and the only one. Assumes nothing.
+-- Modules and whole programs: the computed answer is the one that the rules give, and the only one.
+-- Assumes nothing.
 use mathlib.Core.Path.{_≡_, refl, sym, _∙_}
 use mathlib.Core.Logic.{inl, inr}
 use mathlib.Core.Bool.{false, true≢false}
@@ -26,7 +27,8 @@ use Rattle.rules.proofs.Statements.{completeS, FoundS, soundS}
 use Rattle.rules.proofs.FirstStatements.{leastS}
 
 -- ---- what keeps the rules is accepted
-pub completeM : {env : Setting} {below : List Signature} {ms : List Part} → Modules env below ms → modulesIn env below ms ≡ Accepted
+pub completeM : {env : Setting} {below : List Signature} {ms : List Part} → Modules env below ms
+    → modulesIn env below ms ≡ Accepted
 unfolding modulesIn if_then_else_
 completeM (Modules.main r h) = rw (completeS r) (rw h)
 completeM (Modules.more r ms) = rw (completeS r) (completeM ms)
@@ -37,37 +39,51 @@ FoundM env below ms Accepted = Modules env below ms
 FoundM env below ms (Rejected n j) = BrokenM env below ms n j
 
 module _ (env : Setting) (below : List Signature) (m : Part) where
-  found-main : (rest : List Signature → Verdict) (r : Conduct) → FoundS env below (m .types) linked (m .body) r → FoundM env below (m ∷ []) (afterModule rest below m [] r)
+  found-main : (rest : List Signature → Verdict) (r : Conduct)
+      → FoundS env below (m .types) linked (m .body) r
+      → FoundM env below (m ∷ []) (afterModule rest below m [] r)
   found-main rest (Does e b) h = if-all (FoundM env below (m ∷ [])) (within home e) _ _ (λ l. Modules.main h l) (λ l. BrokenM.main h l)
   found-main rest (Fails n j) h = BrokenM.body h
 
-  found-more : (n : Part) (ms : List Part) (rest : List Signature → Verdict) → ((sigs : List Signature) → FoundM env sigs (n ∷ ms) (rest sigs)) → (r : Conduct) → FoundS env below (m .types) linked (m .body) r → FoundM env below (m ∷ n ∷ ms) (afterModule rest below m (n ∷ ms) r)
-  found-more n ms rest g (Does e b) h = go (rest (below ++ (signature m e ∷ []))) (g (below ++ (signature m e ∷ [])))
+  found-more : (n : Part) (ms : List Part) (rest : List Signature → Verdict)
+      → ((sigs : List Signature) → FoundM env sigs (n ∷ ms) (rest sigs)) → (r : Conduct)
+      → FoundS env below (m .types) linked (m .body) r
+      → FoundM env below (m ∷ n ∷ ms) (afterModule rest below m (n ∷ ms) r)
+  found-more n ms rest g (Does e b) h =
+      go (rest (below ++ (signature m e ∷ []))) (g (below ++ (signature m e ∷ [])))
     where
-      go : (a : Verdict) → FoundM env (below ++ (signature m e ∷ [])) (n ∷ ms) a → FoundM env below (m ∷ n ∷ ms) a
+      go : (a : Verdict) → FoundM env (below ++ (signature m e ∷ [])) (n ∷ ms) a
+          → FoundM env below (m ∷ n ∷ ms) a
       go Accepted k = Modules.more h k
       go (Rejected i j) k = BrokenM.later h k
   found-more n ms rest g (Fails i j) h = BrokenM.body h
 
-pub soundM : (env : Setting) (ms : List Part) (below : List Signature) (m : Part) → FoundM env below (m ∷ ms) (modulesIn env below (m ∷ ms))
+pub soundM : (env : Setting) (ms : List Part) (below : List Signature) (m : Part)
+    → FoundM env below (m ∷ ms) (modulesIn env below (m ∷ ms))
 unfolding modulesIn
 soundM env [] below m = found-main env below m (λ sigs. modulesIn env sigs []) (runIn env below (m .types) linked (m .body)) (soundS env below (m .types) linked (m .body))
 soundM env (n ∷ ms) below m = found-more env below m n ms (λ sigs. modulesIn env sigs (n ∷ ms)) (λ sigs. soundM env ms sigs n) (runIn env below (m .types) linked (m .body)) (soundS env below (m .types) linked (m .body))
 
 -- ---- whatever is broken, the finding is a fault no later
-under-body : {n j : ℕ} (rest : List Signature → Verdict) (below : List Signature) (m : Part) (ms : List Part) {r : Conduct} → Sooner Fails n j r → Sooner Rejected n j (afterModule rest below m ms r)
+under-body : {n j : ℕ} (rest : List Signature → Verdict) (below : List Signature) (m : Part) (ms : List Part) {r : Conduct}
+    → Sooner Fails n j r → Sooner Rejected n j (afterModule rest below m ms r)
 under-body rest below m ms (Sooner.sooner h) = Sooner.sooner h
 
-own-main : (i : ℕ) (e : Effect) → within home e ≡ false → Sooner Rejected wrongEffect i (mainRule i e)
+own-main : (i : ℕ) (e : Effect) → within home e ≡ false
+    → Sooner Rejected wrongEffect i (mainRule i e)
 own-main i e h = if-all (Sooner Rejected wrongEffect i) (within home e) _ _ (λ l. absurd (true≢false (sym l ∙ h))) (λ l. exactly)
 
 -- the case within `later` shows that a module follows, so that this one is not main
-pub leastM : {env : Setting} {below : List Signature} {ms : List Part} {n j : ℕ} → BrokenM env below ms n j → PlacedM ms → Sooner Rejected n j (modulesIn env below ms)
+pub leastM : {env : Setting} {below : List Signature} {ms : List Part} {n j : ℕ}
+    → BrokenM env below ms n j → PlacedM ms → Sooner Rejected n j (modulesIn env below ms)
 unfolding modulesIn
 leastM (BrokenM.body b) (PlacedM.more p q) = under-body _ _ _ _ (leastS b p)
-leastM (BrokenM.later r (BrokenM.body b)) (PlacedM.more p q) = rw (completeS r) (leastM (BrokenM.body b) q)
-leastM (BrokenM.later r (BrokenM.later s b)) (PlacedM.more p q) = rw (completeS r) (leastM (BrokenM.later s b) q)
-leastM (BrokenM.later r (BrokenM.main s h)) (PlacedM.more p q) = rw (completeS r) (leastM (BrokenM.main s h) q)
+leastM (BrokenM.later r (BrokenM.body b)) (PlacedM.more p q) =
+    rw (completeS r) (leastM (BrokenM.body b) q)
+leastM (BrokenM.later r (BrokenM.later s b)) (PlacedM.more p q) =
+    rw (completeS r) (leastM (BrokenM.later s b) q)
+leastM (BrokenM.later r (BrokenM.main s h)) (PlacedM.more p q) =
+    rw (completeS r) (leastM (BrokenM.main s h) q)
 leastM (BrokenM.main r h) (PlacedM.more p q) = rw (completeS r) (own-main _ _ h)
 
 -- ---- a whole program
@@ -99,7 +115,8 @@ module _ (file : Program) (some : NonEmpty (file .modules)) (placed : PlacedM (f
   unfolding rulesOf
   rules-say = go found refl found-sound
     where
-      go : (r : Verdict) → found ≡ r → FoundM (settingOf file) [] (file .modules) r → RulesSay file r
+      go : (r : Verdict) → found ≡ r → FoundM (settingOf file) [] (file .modules) r
+          → RulesSay file r
       go Accepted q h = h
       go (Rejected n j) q b = record { broken = b; least = λ i k c. later-than (found-sooner q c) }
 
@@ -109,7 +126,8 @@ module _ (file : Program) (some : NonEmpty (file .modules)) (placed : PlacedM (f
   rules-only Accepted h = sym (completeM h)
   rules-only (Rejected n j) f = go found refl found-sound
     where
-      go : (r : Verdict) → found ≡ r → FoundM (settingOf file) [] (file .modules) r → Rejected n j ≡ found
+      go : (r : Verdict) → found ≡ r → FoundM (settingOf file) [] (file .modules) r
+          → Rejected n j ≡ found
       go Accepted q h = absurd (not-accepted (found-sooner q (f .broken)))
       go (Rejected i k) q b =
           let s = same-place n j i k (f .least i k b) (later-than (found-sooner q (f .broken))) in

@@ -10,7 +10,8 @@ use borrow.Author.Tests.{lt-ltb, le-ltb, eq-eqb, ne-eqb, not-true, not-false}
 use Rattle.basics.proofs.Ifs.{if-all, yes, no, and-true}
 use Rattle.language.specs.Places.{isPlace, isScheduler}
 use Rattle.language.specs.inner.Reads.{placeRead, cellRead}
-use Rattle.language.specs.Types.{numberType, truthType, isCell, cellType, ownerOf, contentOf, roomAround, public}
+use Rattle.language.specs.Types.{numberType, truthType, isCell, cellType, ownerOf, contentOf}
+use Rattle.language.specs.Types.{roomAround, public}
 use Rattle.language.specs.Effects.{noEffect, _∪_, withOwner, within}
 use Rattle.language.specs.declared.Place.{Place}
 use Rattle.language.specs.declared.PlaceRead.{PlaceRead}
@@ -18,12 +19,15 @@ use Rattle.language.specs.declared.PlaceRead.the-variants.{At, NoPlace}
 use Rattle.language.specs.declared.type_word.CellRead.{CellRead}
 use Rattle.language.specs.declared.type_word.CellRead.the-variants.{Word, TooDeep}
 use Rattle.language.specs.declared.effect.Effect.{Effect}
-use Rattle.language.specs.Refusals.{unbound, illTyped, escaping, wrongEffect, whileUnlinked, instantLoop}
+use Rattle.language.specs.Refusals.{unbound, illTyped, escaping, wrongEffect, whileUnlinked}
+use Rattle.language.specs.Refusals.{instantLoop}
 use Rattle.language.proofs.PlaceLaws.{read-at, read-none, scheduler-place}
 use Rattle.program.specs.declared.node.Leaf.{Leaf}
 use Rattle.program.specs.declared.node.CellUse.{CellUse}
 use Rattle.program.specs.declared.node.Operator.{Operator}
-use Rattle.rules.specs.inner.Checking.{namedRule, newRule, contentRule, numbersRule, chooseRule, cooperateRule, seqRule, doRule, joinRule, storeRule, ifElseRule, whileRule}
+use Rattle.rules.specs.inner.Checking.{namedRule, newRule, contentRule, numbersRule}
+use Rattle.rules.specs.inner.Checking.{chooseRule, cooperateRule, seqRule, doRule, joinRule}
+use Rattle.rules.specs.inner.Checking.{storeRule, ifElseRule, whileRule}
 use Rattle.rules.specs.inner.NodeRules.{leafRule, OwnerPlaced, cellRule, madeBy}
 use Rattle.rules.specs.inner.Standings.{standing}
 use Rattle.rules.specs.declared.finding.Typing.{Typing}
@@ -31,7 +35,9 @@ use Rattle.rules.specs.declared.finding.Typing.the-variants.{Typed, Unty
 use Rattle.rules.specs.declared.finding.Conduct.{Conduct}
 use Rattle.rules.specs.declared.finding.Conduct.the-variants.{Does, Fails}
 
--- In the names: X-fault is what is found where the first child has a fault, X-fault-2 where the second has the first fault; X-row hands on the answer of the function that takes the children's types and effects; X-by is the rule on equal findings.
+-- In the names: X-fault is what is found where the first child has a fault, X-fault-2 where the
+-- second has the first fault; X-row hands on the answer of the function that takes the children's
+-- types and effects; X-by is the rule on equal findings.
 
 -- ---- what the constructor of a cell's type answered
 read-word : (o t w : ℕ) → cellRead o t ≡ Word w → (roomAround t ≡ true) × (w ≡ cellType o t)
@@ -50,7 +56,8 @@ read-deep o t p =
 
 -- ---- 22 and 23, a variable or a shared cell
 module _ (ts : List ℕ) (s i : ℕ) where
-  pub named-there : (e : Effect) → s < length ts → e ≡ noEffect → Typed (getD ts s 0) e ≡ namedRule ts s i
+  pub named-there : (e : Effect) → s < length ts → e ≡ noEffect
+      → Typed (getD ts s 0) e ≡ namedRule ts s i
   unfolding namedRule
   named-there e h q = yes _ (lt-ltb _ _ h) (ap (Typed (getD ts s 0)) q)
 
@@ -137,7 +144,8 @@ pub new-fault : (s i n j : ℕ) (x : Typing) → x ≡ Untyped n j → Untyped n
 unfolding newRule
 new-fault s i n j x h = ap (newRule s i) (sym h)
 
-pub new-row : (s i t : ℕ) (e : Effect) (x r : Typing) → x ≡ Typed t e → r ≡ newRule s i (Typed t e) → r ≡ newRule s i x
+pub new-row : (s i t : ℕ) (e : Effect) (x r : Typing) → x ≡ Typed t e → r ≡ newRule s i (Typed t e)
+    → r ≡ newRule s i x
 new-row s i t e x r h k = k ∙ ap (newRule s i) (sym h)
 
 pub ruleset new-laws = (new-fault, new-row)
@@ -182,7 +190,9 @@ module _ (i : ℕ) (x : Typing) where
 
     pub content-none : y ≡ false → Untyped illTyped i ≡ contentRule i x
     unfolding contentRule
-    content-none m = no (Typed (contentOf t) (withOwner (ownerOf t) e)) (sym k ∙ m) refl ∙ ap (contentRule i) (sym h)
+    content-none m =
+        no (Typed (contentOf t) (withOwner (ownerOf t) e)) (sym k ∙ m) refl
+        ∙ ap (contentRule i) (sym h)
 
 pub ruleset content-laws = (content-fault, content-read, content-none)
 
@@ -192,11 +202,13 @@ module _ (w i t : ℕ) (e : Effect) (u : ℕ) (f : Effect) where
   unfolding numbersRule
   numbers-no-first n = no _ (rw (ne-eqb t 1 n)) refl
 
-  pub numbers-no-second : t ≡ 1 → (u ≡ 1 → ⊥) → Untyped illTyped i ≡ numbersRule w i (Typed t e) (Typed u f)
+  pub numbers-no-second : t ≡ 1 → (u ≡ 1 → ⊥)
+      → Untyped illTyped i ≡ numbersRule w i (Typed t e) (Typed u f)
   unfolding numbersRule
   numbers-no-second m n = no _ (rw (eq-eqb t 1 m, ne-eqb u 1 n)) refl
 
-  pub numbers-both : (g : Effect) → t ≡ 1 → u ≡ 1 → g ≡ e ∪ f → Typed w g ≡ numbersRule w i (Typed t e) (Typed u f)
+  pub numbers-both : (g : Effect) → t ≡ 1 → u ≡ 1 → g ≡ e ∪ f
+      → Typed w g ≡ numbersRule w i (Typed t e) (Typed u f)
   unfolding numbersRule
   numbers-both g m n h = yes _ (rw (eq-eqb t 1 m, eq-eqb u 1 n)) (ap (Typed w) h)
 
@@ -207,30 +219,39 @@ module _ (w i : ℕ) (x y : Typing) where
   unfolding numbersRule
   numbers-fault n j h = ap (λ (z : Typing). numbersRule w i z y) (sym h)
 
-  pub numbers-fault-2 : (t : ℕ) (e : Effect) (n j : ℕ) → x ≡ Typed t e → y ≡ Untyped n j → Untyped n j ≡ numbersRule w i x y
+  pub numbers-fault-2 : (t : ℕ) (e : Effect) (n j : ℕ) → x ≡ Typed t e → y ≡ Untyped n j
+      → Untyped n j ≡ numbersRule w i x y
   unfolding numbersRule
-  numbers-fault-2 t e n j h k = ap (numbersRule w i (Typed t e)) (sym k) ∙ ap (λ (z : Typing). numbersRule w i z y) (sym h)
+  numbers-fault-2 t e n j h k =
+      ap (numbersRule w i (Typed t e)) (sym k) ∙ ap (λ (z : Typing). numbersRule w i z y) (sym h)
 
-  pub numbers-row : (t : ℕ) (e : Effect) (u : ℕ) (f : Effect) (r : Typing) → x ≡ Typed t e → y ≡ Typed u f → r ≡ numbersRule w i (Typed t e) (Typed u f) → r ≡ numbersRule w i x y
-  numbers-row t e u f r h k q = q ∙ ap (numbersRule w i (Typed t e)) (sym k) ∙ ap (λ (z : Typing). numbersRule w i z y) (sym h)
+  pub numbers-row : (t : ℕ) (e : Effect) (u : ℕ) (f : Effect) (r : Typing) → x ≡ Typed t e
+      → y ≡ Typed u f → r ≡ numbersRule w i (Typed t e) (Typed u f) → r ≡ numbersRule w i x y
+  numbers-row t e u f r h k q =
+      q ∙ ap (numbersRule w i (Typed t e)) (sym k)
+      ∙ ap (λ (z : Typing). numbersRule w i z y) (sym h)
 
 pub ruleset numbers-laws = (numbers-fault, numbers-fault-2, numbers-row)
 
 -- ---- 28, a number by a truth
 module _ (i t : ℕ) (e : Effect) (u : ℕ) (f : Effect) (v : ℕ) (g : Effect) where
-  pub choose-no-truth : (t ≡ 2 → ⊥) → Untyped illTyped i ≡ chooseRule i (Typed t e) (Typed u f) (Typed v g)
+  pub choose-no-truth : (t ≡ 2 → ⊥)
+      → Untyped illTyped i ≡ chooseRule i (Typed t e) (Typed u f) (Typed v g)
   unfolding chooseRule
   choose-no-truth n = no _ (rw (ne-eqb t 2 n)) refl
 
-  pub choose-no-first : t ≡ 2 → (u ≡ 1 → ⊥) → Untyped illTyped i ≡ chooseRule i (Typed t e) (Typed u f) (Typed v g)
+  pub choose-no-first : t ≡ 2 → (u ≡ 1 → ⊥)
+      → Untyped illTyped i ≡ chooseRule i (Typed t e) (Typed u f) (Typed v g)
   unfolding chooseRule
   choose-no-first m n = no _ (rw (eq-eqb t 2 m, ne-eqb u 1 n)) refl
 
-  pub choose-no-second : t ≡ 2 → u ≡ 1 → (v ≡ 1 → ⊥) → Untyped illTyped i ≡ chooseRule i (Typed t e) (Typed u f) (Typed v g)
+  pub choose-no-second : t ≡ 2 → u ≡ 1 → (v ≡ 1 → ⊥)
+      → Untyped illTyped i ≡ chooseRule i (Typed t e) (Typed u f) (Typed v g)
   unfolding chooseRule
   choose-no-second m n o = no _ (rw (eq-eqb t 2 m, eq-eqb u 1 n, ne-eqb v 1 o)) refl
 
-  pub choose-both : (h k : Effect) → t ≡ 2 → u ≡ 1 → v ≡ 1 → h ≡ e ∪ f → k ≡ h ∪ g → Typed 1 k ≡ chooseRule i (Typed t e) (Typed u f) (Typed v g)
+  pub choose-both : (h k : Effect) → t ≡ 2 → u ≡ 1 → v ≡ 1 → h ≡ e ∪ f → k ≡ h ∪ g
+      → Typed 1 k ≡ chooseRule i (Typed t e) (Typed u f) (Typed v g)
   unfolding chooseRule
   choose-both h k m n o p q = yes _ (rw (eq-eqb t 2 m, eq-eqb u 1 n, eq-eqb v 1 o)) (ap (Typed 1) (q ∙ ap (λ (z : Effect). z ∪ g) p))
 
@@ -244,25 +265,32 @@ module _ (i : ℕ) (x y z : Typing) where
   unfolding chooseRule
   choose-fault n j h = choose-by (Untyped n j) y z h refl refl
 
-  pub choose-fault-2 : (t : ℕ) (e : Effect) (n j : ℕ) → x ≡ Typed t e → y ≡ Untyped n j → Untyped n j ≡ chooseRule i x y z
+  pub choose-fault-2 : (t : ℕ) (e : Effect) (n j : ℕ) → x ≡ Typed t e → y ≡ Untyped n j
+      → Untyped n j ≡ chooseRule i x y z
   unfolding chooseRule
   choose-fault-2 t e n j h k = choose-by (Typed t e) (Untyped n j) z h k refl
 
-  pub choose-fault-3 : (t : ℕ) (e : Effect) (u : ℕ) (f : Effect) (n j : ℕ) → x ≡ Typed t e → y ≡ Typed u f → z ≡ Untyped n j → Untyped n j ≡ chooseRule i x y z
+  pub choose-fault-3 : (t : ℕ) (e : Effect) (u : ℕ) (f : Effect) (n j : ℕ) → x ≡ Typed t e
+      → y ≡ Typed u f → z ≡ Untyped n j → Untyped n j ≡ chooseRule i x y z
   unfolding chooseRule
   choose-fault-3 t e u f n j h k l = choose-by (Typed t e) (Typed u f) (Untyped n j) h k l
 
-  pub choose-row : (t : ℕ) (e : Effect) (u : ℕ) (f : Effect) (v : ℕ) (g : Effect) (r : Typing) → x ≡ Typed t e → y ≡ Typed u f → z ≡ Typed v g → r ≡ chooseRule i (Typed t e) (Typed u f) (Typed v g) → r ≡ chooseRule i x y z
+  pub choose-row : (t : ℕ) (e : Effect) (u : ℕ) (f : Effect) (v : ℕ) (g : Effect) (r : Typing)
+      → x ≡ Typed t e → y ≡ Typed u f → z ≡ Typed v g
+      → r ≡ chooseRule i (Typed t e) (Typed u f) (Typed v g) → r ≡ chooseRule i x y z
   choose-row t e u f v g r h k l q = q ∙ choose-by (Typed t e) (Typed u f) (Typed v g) h k l
 
 pub ruleset choose-laws = (choose-fault, choose-fault-2, choose-fault-3, choose-row)
 
 -- ---- 15, cooperate
-pub cooperate-linked : (l : Bool) (i : ℕ) (e : Effect) → l ≡ true → e ≡ noEffect → Does e false ≡ cooperateRule (standing l) i
+pub cooperate-linked : (l : Bool) (i : ℕ) (e : Effect) → l ≡ true → e ≡ noEffect
+    → Does e false ≡ cooperateRule (standing l) i
 unfolding cooperateRule
-cooperate-linked l i e h k = ap (λ (f : Effect). Does f false) k ∙ ap (λ (b : Bool). cooperateRule (standing b) i) (sym h)
+cooperate-linked l i e h k =
+    ap (λ (f : Effect). Does f false) k ∙ ap (λ (b : Bool). cooperateRule (standing b) i) (sym h)
 
-pub cooperate-unlinked : (l : Bool) (i : ℕ) → l ≡ false → Fails whileUnlinked i ≡ cooperateRule (standing l) i
+pub cooperate-unlinked : (l : Bool) (i : ℕ) → l ≡ false
+    → Fails whileUnlinked i ≡ cooperateRule (standing l) i
 unfolding cooperateRule
 cooperate-unlinked l i h = ap (λ (b : Bool). cooperateRule (standing b) i) (sym h)
 
@@ -277,24 +305,32 @@ module _ (x y : Conduct) where
   unfolding seqRule
   seq-fault n j h = seq-by (Fails n j) y h refl
 
-  pub seq-fault-2 : (e : Effect) (a : Bool) (n j : ℕ) → x ≡ Does e a → y ≡ Fails n j → Fails n j ≡ seqRule x y
+  pub seq-fault-2 : (e : Effect) (a : Bool) (n j : ℕ) → x ≡ Does e a → y ≡ Fails n j
+      → Fails n j ≡ seqRule x y
   unfolding seqRule
   seq-fault-2 e a n j h k = seq-by (Does e a) (Fails n j) h k
 
   -- `a && b` is a branch of the code on a
-  pub seq-first : (e f g : Effect) (a b : Bool) → x ≡ Does e a → y ≡ Does f b → g ≡ e ∪ f → a ≡ true → Does g b ≡ seqRule x y
+  pub seq-first : (e f g : Effect) (a b : Bool) → x ≡ Does e a → y ≡ Does f b → g ≡ e ∪ f → a ≡ true
+      → Does g b ≡ seqRule x y
   unfolding seqRule
-  seq-first e f g a b h k q z = ap (λ (o : Effect). Does o b) q ∙ ap (λ (c : Bool). Does (e ∪ f) (c && b)) (sym z) ∙ seq-by (Does e a) (Does f b) h k
+  seq-first e f g a b h k q z =
+      ap (λ (o : Effect). Does o b) q ∙ ap (λ (c : Bool). Does (e ∪ f) (c && b)) (sym z)
+      ∙ seq-by (Does e a) (Does f b) h k
 
-  pub seq-never : (e f g : Effect) (a b : Bool) → x ≡ Does e a → y ≡ Does f b → g ≡ e ∪ f → a ≡ false → Does g false ≡ seqRule x y
+  pub seq-never : (e f g : Effect) (a b : Bool) → x ≡ Does e a → y ≡ Does f b → g ≡ e ∪ f
+      → a ≡ false → Does g false ≡ seqRule x y
   unfolding seqRule
-  seq-never e f g a b h k q z = ap (λ (o : Effect). Does o false) q ∙ ap (λ (c : Bool). Does (e ∪ f) (c && b)) (sym z) ∙ seq-by (Does e a) (Does f b) h k
+  seq-never e f g a b h k q z =
+      ap (λ (o : Effect). Does o false) q ∙ ap (λ (c : Bool). Does (e ∪ f) (c && b)) (sym z)
+      ∙ seq-by (Does e a) (Does f b) h k
 
 pub ruleset seq-laws = (seq-fault, seq-fault-2, seq-first, seq-never)
 
 -- ---- 12, at a place
 module _ (l : Bool) (s i : ℕ) (x : Conduct) where
-  do-by : (c : Conduct) (m : Bool) → x ≡ c → l ≡ m → doRule (standing m) s i c ≡ doRule (standing l) s i x
+  do-by : (c : Conduct) (m : Bool) → x ≡ c → l ≡ m
+      → doRule (standing m) s i c ≡ doRule (standing l) s i x
   do-by c m h k = sym (ap (λ (w : Conduct). doRule (standing l) s i w) h ∙ ap (λ (b : Bool). doRule (standing b) s i c) k)
 
   pub do-fault : (n j : ℕ) → x ≡ Fails n j → Fails n j ≡ doRule (standing l) s i x
@@ -312,7 +348,9 @@ module _ (l : Bool) (s i : ℕ) (x : Conduct) where
 
       pub do-linked : l ≡ true → Does f a ≡ doRule (standing l) s i x
       unfolding doRule
-      do-linked k = no (Fails wrongEffect i) inside (no (Fails whileUnlinked i) refl (ap (λ (o : Effect). Does o a) z)) ∙ do-by (Does e a) true h k
+      do-linked k =
+          no (Fails wrongEffect i) inside (no (Fails whileUnlinked i) refl (ap (λ (o : Effect). Does o a) z))
+          ∙ do-by (Does e a) true h k
 
       pub do-elsewhere : l ≡ false → (y : Bool) → y ≡ eqb s 1 → y ≡ false
           → Does f a ≡ doRule (standing l) s i x
@@ -335,7 +373,8 @@ pub join-fault : (e : Effect) (x : Conduct) (n j : ℕ) → x ≡ Fails n j → 
 unfolding joinRule
 join-fault e x n j h = ap (joinRule e) (sym h)
 
-pub join-row : (e f g : Effect) (b : Bool) (x : Conduct) → x ≡ Does f b → g ≡ e ∪ f → Does g b ≡ joinRule e x
+pub join-row : (e f g : Effect) (b : Bool) (x : Conduct) → x ≡ Does f b → g ≡ e ∪ f
+    → Does g b ≡ joinRule e x
 unfolding joinRule
 join-row e f g b x h q = ap (λ (o : Effect). Does o b) q ∙ ap (joinRule e) (sym h)
 
@@ -347,9 +386,11 @@ module _ (i t : ℕ) (e : Effect) (u : ℕ) (f : Effect) (x : Bool) (h : x ≡ i
   unfolding storeRule
   store-no-cell n = no _ (rw (sym h ∙ not-true x n)) refl
 
-  pub store-apart : (c : ℕ) → not x ≡ false → c ≡ contentOf t → (u ≡ c → ⊥) → Fails illTyped i ≡ storeRule i (Typed t e) (Typed u f)
+  pub store-apart : (c : ℕ) → not x ≡ false → c ≡ contentOf t → (u ≡ c → ⊥)
+      → Fails illTyped i ≡ storeRule i (Typed t e) (Typed u f)
   unfolding storeRule
-  store-apart c n k d = no _ (rw (sym h ∙ not-false x n, ne-eqb u (contentOf t) (λ v. d (v ∙ sym k)))) refl
+  store-apart c n k d =
+      no _ (rw (sym h ∙ not-false x n, ne-eqb u (contentOf t) (λ v. d (v ∙ sym k)))) refl
 
   pub store-equal : (c : ℕ) (g w : Effect) → not x ≡ false → c ≡ contentOf t → u ≡ c
       → g ≡ e ∪ f → w ≡ withOwner (ownerOf t) g
@@ -369,11 +410,13 @@ module _ (i : ℕ) (x y : Typing) where
   unfolding storeRule
   store-fault n j h = store-by (Untyped n j) y h refl
 
-  pub store-fault-2 : (t : ℕ) (e : Effect) (n j : ℕ) → x ≡ Typed t e → y ≡ Untyped n j → Fails n j ≡ storeRule i x y
+  pub store-fault-2 : (t : ℕ) (e : Effect) (n j : ℕ) → x ≡ Typed t e → y ≡ Untyped n j
+      → Fails n j ≡ storeRule i x y
   unfolding storeRule
   store-fault-2 t e n j h k = store-by (Typed t e) (Untyped n j) h k
 
-  pub store-row : (t : ℕ) (e : Effect) (u : ℕ) (f : Effect) (r : Conduct) → x ≡ Typed t e → y ≡ Typed u f → r ≡ storeRule i (Typed t e) (Typed u f) → r ≡ storeRule i x y
+  pub store-row : (t : ℕ) (e : Effect) (u : ℕ) (f : Effect) (r : Conduct) → x ≡ Typed t e
+      → y ≡ Typed u f → r ≡ storeRule i (Typed t e) (Typed u f) → r ≡ storeRule i x y
   store-row t e u f r h k q = q ∙ store-by (Typed t e) (Typed u f) h k
 
 pub ruleset store-laws = (store-fault, store-fault-2, store-row)
@@ -384,33 +427,40 @@ module _ (i t : ℕ) (e f : Effect) (a : Bool) (g : Effect) (b : Bool) where
   unfolding ifElseRule
   if-no-truth n = no _ (ne-eqb t 2 n) refl
 
-  pub if-first : (h k : Effect) → t ≡ 2 → h ≡ e ∪ f → k ≡ h ∪ g → a ≡ true → Does k true ≡ ifElseRule i (Typed t e) (Does f a) (Does g b)
+  pub if-first : (h k : Effect) → t ≡ 2 → h ≡ e ∪ f → k ≡ h ∪ g → a ≡ true
+      → Does k true ≡ ifElseRule i (Typed t e) (Does f a) (Does g b)
   unfolding ifElseRule
   if-first h k n p q z = yes (Fails illTyped i) (eq-eqb t 2 n) (ap (λ (o : Effect). Does o true) (q ∙ ap (λ (o : Effect). o ∪ g) p) ∙ ap (λ (c : Bool). Does (e ∪ f ∪ g) (c || b)) (sym z))
 
-  pub if-second : (h k : Effect) → t ≡ 2 → h ≡ e ∪ f → k ≡ h ∪ g → a ≡ false → Does k b ≡ ifElseRule i (Typed t e) (Does f a) (Does g b)
+  pub if-second : (h k : Effect) → t ≡ 2 → h ≡ e ∪ f → k ≡ h ∪ g → a ≡ false
+      → Does k b ≡ ifElseRule i (Typed t e) (Does f a) (Does g b)
   unfolding ifElseRule
   if-second h k n p q z = yes (Fails illTyped i) (eq-eqb t 2 n) (ap (λ (o : Effect). Does o b) (q ∙ ap (λ (o : Effect). o ∪ g) p) ∙ ap (λ (c : Bool). Does (e ∪ f ∪ g) (c || b)) (sym z))
 
 pub ruleset if-typed-laws = (if-no-truth, if-first, if-second)
 
 module _ (i : ℕ) (x : Typing) (y z : Conduct) where
-  if-by : (a : Typing) (b c : Conduct) → x ≡ a → y ≡ b → z ≡ c → ifElseRule i a b c ≡ ifElseRule i x y z
+  if-by : (a : Typing) (b c : Conduct) → x ≡ a → y ≡ b → z ≡ c
+      → ifElseRule i a b c ≡ ifElseRule i x y z
   if-by a b c h k l = sym (ap (λ (w : Typing). ifElseRule i w y z) h ∙ ap (λ (w : Conduct). ifElseRule i a w z) k ∙ ap (ifElseRule i a b) l)
 
   pub if-fault : (n j : ℕ) → x ≡ Untyped n j → Fails n j ≡ ifElseRule i x y z
   unfolding ifElseRule
   if-fault n j h = if-by (Untyped n j) y z h refl refl
 
-  pub if-fault-2 : (t : ℕ) (e : Effect) (n j : ℕ) → x ≡ Typed t e → y ≡ Fails n j → Fails n j ≡ ifElseRule i x y z
+  pub if-fault-2 : (t : ℕ) (e : Effect) (n j : ℕ) → x ≡ Typed t e → y ≡ Fails n j
+      → Fails n j ≡ ifElseRule i x y z
   unfolding ifElseRule
   if-fault-2 t e n j h k = if-by (Typed t e) (Fails n j) z h k refl
 
-  pub if-fault-3 : (t : ℕ) (e f : Effect) (a : Bool) (n j : ℕ) → x ≡ Typed t e → y ≡ Does f a → z ≡ Fails n j → Fails n j ≡ ifElseRule i x y z
+  pub if-fault-3 : (t : ℕ) (e f : Effect) (a : Bool) (n j : ℕ) → x ≡ Typed t e → y ≡ Does f a
+      → z ≡ Fails n j → Fails n j ≡ ifElseRule i x y z
   unfolding ifElseRule
   if-fault-3 t e f a n j h k l = if-by (Typed t e) (Does f a) (Fails n j) h k l
 
-  pub if-row : (t : ℕ) (e f : Effect) (a : Bool) (g : Effect) (b : Bool) (r : Conduct) → x ≡ Typed t e → y ≡ Does f a → z ≡ Does g b → r ≡ ifElseRule i (Typed t e) (Does f a) (Does g b) → r ≡ ifElseRule i x y z
+  pub if-row : (t : ℕ) (e f : Effect) (a : Bool) (g : Effect) (b : Bool) (r : Conduct)
+      → x ≡ Typed t e → y ≡ Does f a → z ≡ Does g b
+      → r ≡ ifElseRule i (Typed t e) (Does f a) (Does g b) → r ≡ ifElseRule i x y z
   if-row t e f a g b r h k l q = q ∙ if-by (Typed t e) (Does f a) (Does g b) h k l
 
 pub ruleset if-laws = (if-fault, if-fault-2, if-fault-3, if-row)
@@ -425,7 +475,8 @@ module _ (i t : ℕ) (e f : Effect) (b : Bool) where
   unfolding whileRule
   while-instant n k = no _ (ap not (eq-eqb t 2 n)) (yes _ k refl)
 
-  pub while-well : (g : Effect) → t ≡ 2 → b ≡ false → g ≡ e ∪ f → Does g true ≡ whileRule i (Typed t e) (Does f b)
+  pub while-well : (g : Effect) → t ≡ 2 → b ≡ false → g ≡ e ∪ f
+      → Does g true ≡ whileRule i (Typed t e) (Does f b)
   unfolding whileRule
   while-well g n k h = no _ (ap not (eq-eqb t 2 n)) (no _ k (ap (λ (o : Effect). Does o true) h))
 
@@ -439,11 +490,13 @@ module _ (i : ℕ) (x : Typing) (y : Conduct) where
   unfolding whileRule
   while-fault n j h = while-by (Untyped n j) y h refl
 
-  pub while-fault-2 : (t : ℕ) (e : Effect) (n j : ℕ) → x ≡ Typed t e → y ≡ Fails n j → Fails n j ≡ whileRule i x y
+  pub while-fault-2 : (t : ℕ) (e : Effect) (n j : ℕ) → x ≡ Typed t e → y ≡ Fails n j
+      → Fails n j ≡ whileRule i x y
   unfolding whileRule
   while-fault-2 t e n j h k = while-by (Typed t e) (Fails n j) h k
 
-  pub while-row : (t : ℕ) (e f : Effect) (b : Bool) (r : Conduct) → x ≡ Typed t e → y ≡ Does f b → r ≡ whileRule i (Typed t e) (Does f b) → r ≡ whileRule i x y
+  pub while-row : (t : ℕ) (e f : Effect) (b : Bool) (r : Conduct) → x ≡ Typed t e → y ≡ Does f b
+      → r ≡ whileRule i (Typed t e) (Does f b) → r ≡ whileRule i x y
   while-row t e f b r h k q = q ∙ while-by (Typed t e) (Does f b) h k
 
 pub ruleset while-laws = (while-fault, while-fault-2, while-row)

@@ -5,7 +5,8 @@ use Prim.Native.Nat.{ℕ, _≤_}
 use native.Mathlib.Omega.{arith}
 use Rattle.rules.specs.Broken.{NoLater}
 
--- `Sooner fault n j r`: the finding r, of an expression, a statement, arguments or modules, is a fault that comes no later than rule n at frame j
+-- `Sooner fault n j r`: the finding r, of an expression, a statement, arguments or modules, is a
+-- fault that comes no later than rule n at frame j
 pub data Sooner {R : Type 0} (fault : ℕ → ℕ → R) (n j : ℕ) : R → Type 0 where
   sooner : {m k : ℕ} → NoLater m k n j → Sooner fault n j (fault m k)
 

@@ -16,7 +16,8 @@ use Rattle.language.specs.Refusals.{unbound, illTyped, escaping, whileUnlinked}
 use Rattle.rules.specs.Rules.{Signature, signatureAt}
 use Rattle.rules.specs.inner.Checking.{Argued, argue, isLinked, startRule}
 use Rattle.rules.specs.inner.Standings.{standing}
-use Rattle.rules.specs.inner.Signatures.{noArguments, arguedOf, signatureWith, signatureWord, signatureOf}
+use Rattle.rules.specs.inner.Signatures.{noArguments, arguedOf, signatureWith, signatureWord}
+use Rattle.rules.specs.inner.Signatures.{signatureOf}
 use Rattle.rules.specs.declared.start.Arguments.{Arguments}
 use Rattle.rules.specs.declared.start.Arguments.the-variants.{Nothing, One, Two, Fault}
 use Rattle.rules.specs.declared.finding.Typing.{Typing}
@@ -47,33 +48,44 @@ module _ (x : Typing) where
   unfolding argue
   one-fault n j h = ap (λ (w : Typing). argue w noArguments) (sym h)
 
-  pub one-typed : (t : ℕ) (e f g : Effect) → x ≡ Typed t e → f ≡ noEffect → g ≡ e ∪ f → arguedOf (One t g) ≡ argue x noArguments
+  pub one-typed : (t : ℕ) (e f g : Effect) → x ≡ Typed t e → f ≡ noEffect → g ≡ e ∪ f
+      → arguedOf (One t g) ≡ argue x noArguments
   unfolding argue
-  one-typed t e f g h k q = ap (Argued.have (t ∷ [])) (q ∙ ap (λ (o : Effect). e ∪ o) k) ∙ ap (λ (w : Typing). argue w noArguments) (sym h)
+  one-typed t e f g h k q =
+      ap (Argued.have (t ∷ [])) (q ∙ ap (λ (o : Effect). e ∪ o) k)
+      ∙ ap (λ (w : Typing). argue w noArguments) (sym h)
 
 pub ruleset one-laws = (one-fault, one-typed)
 
 module _ (x y : Typing) where
-  by-both : (a b : Typing) → x ≡ a → y ≡ b → argue a (argue b noArguments) ≡ argue x (argue y noArguments)
+  by-both : (a b : Typing) → x ≡ a → y ≡ b
+      → argue a (argue b noArguments) ≡ argue x (argue y noArguments)
   by-both a b h k = sym (ap (λ (w : Typing). argue w (argue y noArguments)) h ∙ ap (λ (w : Typing). argue a (argue w noArguments)) k)
 
   pub two-fault : (n j : ℕ) → x ≡ Untyped n j → arguedOf (Fault n j) ≡ argue x (argue y noArguments)
   unfolding argue
   two-fault n j h = by-both (Untyped n j) y h refl
 
-  pub two-fault-2 : (t : ℕ) (e : Effect) (n j : ℕ) → x ≡ Typed t e → y ≡ Untyped n j → arguedOf (Fault n j) ≡ argue x (argue y noArguments)
+  pub two-fault-2 : (t : ℕ) (e : Effect) (n j : ℕ) → x ≡ Typed t e → y ≡ Untyped n j
+      → arguedOf (Fault n j) ≡ argue x (argue y noArguments)
   unfolding argue
   two-fault-2 t e n j h k = by-both (Typed t e) (Untyped n j) h k
 
-  pub two-typed : (t : ℕ) (e : Effect) (u : ℕ) (f z g w : Effect) → x ≡ Typed t e → y ≡ Typed u f → z ≡ noEffect → g ≡ f ∪ z → w ≡ e ∪ g → arguedOf (Two t u w) ≡ argue x (argue y noArguments)
+  pub two-typed : (t : ℕ) (e : Effect) (u : ℕ) (f z g w : Effect) → x ≡ Typed t e → y ≡ Typed u f
+      → z ≡ noEffect → g ≡ f ∪ z → w ≡ e ∪ g → arguedOf (Two t u w) ≡ argue x (argue y noArguments)
   unfolding argue
-  two-typed t e u f z g w h k a b c = ap (Argued.have (t ∷ u ∷ [])) (c ∙ ap (λ (o : Effect). e ∪ o) (b ∙ ap (λ (o : Effect). f ∪ o) a)) ∙ by-both (Typed t e) (Typed u f) h k
+  two-typed t e u f z g w h k a b c =
+      ap (Argued.have (t ∷ u ∷ [])) (c ∙ ap (λ (o : Effect). e ∪ o) (b ∙ ap (λ (o : Effect). f ∪ o) a))
+      ∙ by-both (Typed t e) (Typed u f) h k
 
 pub ruleset two-laws = (two-fault, two-fault-2, two-typed)
 
 -- ---- a signature's word
-record-is : (m n : ℕ) (a b c d : ℕ) (e : Effect) (f : ℕ) → m ≡ n → a ≡ c → b ≡ d → f ≡ e .bits → signatureWith m a b (record { bits = f }) ≡ signatureWith n c d e
-record-is m n a b c d e f h k l q = ap₂ (λ (o : ℕ) (p : ℕ). signatureWith o p b (record { bits = f })) h k ∙ ap₂ (λ (o : ℕ) (p : ℕ). signatureWith n c o (record { bits = p })) l q
+record-is : (m n : ℕ) (a b c d : ℕ) (e : Effect) (f : ℕ) → m ≡ n → a ≡ c → b ≡ d → f ≡ e .bits
+    → signatureWith m a b (record { bits = f }) ≡ signatureWith n c d e
+record-is m n a b c d e f h k l q =
+    ap₂ (λ (o : ℕ) (p : ℕ). signatureWith o p b (record { bits = f })) h k
+    ∙ ap₂ (λ (o : ℕ) (p : ℕ). signatureWith n c o (record { bits = p })) l q
 
 -- the code's sum
 pub word-of : (count first second f : ℕ) (e : Effect) → f ≡ e .bits
@@ -106,11 +118,14 @@ up-to-two (suc (suc zero)) h = UpToTwo.two
 up-to-two (suc (suc (suc n))) h = absurd (omega arith)
 
 -- one member of each, by the test
-numbers-step : (x y : ℕ) (xs ys : List ℕ) (b : Bool) → eqb x y ≡ b → sameNumbers (x ∷ xs) (y ∷ ys) ≡ elim b [ true ↦ sameNumbers xs ys | false ↦ false ]
+numbers-step : (x y : ℕ) (xs ys : List ℕ) (b : Bool) → eqb x y ≡ b
+    → sameNumbers (x ∷ xs) (y ∷ ys) ≡ elim b [ true ↦ sameNumbers xs ys | false ↦ false ]
 unfolding sameNumbers
-numbers-step x y xs ys b h = ap (λ (c : Bool). elim c [ true ↦ sameNumbers xs ys | false ↦ false ]) h
+numbers-step x y xs ys b h =
+    ap (λ (c : Bool). elim c [ true ↦ sameNumbers xs ys | false ↦ false ]) h
 
-every-step : (x : ℕ) (xs : List ℕ) (b : Bool) → public x ≡ b → every public (x ∷ xs) ≡ elim b [ true ↦ every public xs | false ↦ false ]
+every-step : (x : ℕ) (xs : List ℕ) (b : Bool) → public x ≡ b
+    → every public (x ∷ xs) ≡ elim b [ true ↦ every public xs | false ↦ false ]
 unfolding every
 every-step x xs b h = ap (λ (c : Bool). elim c [ true ↦ every public xs | false ↦ false ]) h
 
@@ -176,12 +191,14 @@ module _ (n t u w : ℕ) (l : n ≤ 2) where
   types-none e z = by-same true e (ap (λ (m : ℕ). SameHere m m) (sym z))
 
   pub types-first : n ≡ w / 2 ^ 48 % 3 → (n ≡ 0 → ⊥) → (t ≡ w % 2 ^ 16 → ⊥) → Fits false
-  types-first e z d = by-same false e (first-apart t u (w % 2 ^ 16) (w / 2 ^ 16 % 2 ^ 16) (up-to-two n l) z d)
+  types-first e z d =
+      by-same false e (first-apart t u (w % 2 ^ 16) (w / 2 ^ 16 % 2 ^ 16) (up-to-two n l) z d)
 
   pub types-one : n ≡ w / 2 ^ 48 % 3 → n ≡ 1 → t ≡ w % 2 ^ 16 → Fits true
   types-one e z d = by-same true e (same-one t u (w % 2 ^ 16) (w / 2 ^ 16 % 2 ^ 16) d ∙ ap (λ (m : ℕ). SameHere m m) (sym z))
 
-  pub types-two : n ≡ w / 2 ^ 48 % 3 → (n ≡ 0 → ⊥) → (n ≡ 1 → ⊥) → t ≡ w % 2 ^ 16 → Fits (eqb u (w / 2 ^ 16 % 2 ^ 16))
+  pub types-two : n ≡ w / 2 ^ 48 % 3 → (n ≡ 0 → ⊥) → (n ≡ 1 → ⊥) → t ≡ w % 2 ^ 16
+      → Fits (eqb u (w / 2 ^ 16 % 2 ^ 16))
   types-two e z o d =
       let k : 2 ≡ n = omega (arith, z, o, l) in
       by-same _ e (same-both t u (w % 2 ^ 16) (w / 2 ^ 16 % 2 ^ 16) d ∙ ap (λ (m : ℕ). SameHere m m) k)
@@ -196,7 +213,8 @@ module _ (n t u : ℕ) (l : n ≤ 2) where
   unfolding every
   public-none z = ap (λ (m : ℕ). every public (take m (t ∷ u ∷ []))) (sym z)
 
-  not-first : {m : ℕ} → UpToTwo m → (m ≡ 0 → ⊥) → public t ≡ false → false ≡ every public (take m (t ∷ u ∷ []))
+  not-first : {m : ℕ} → UpToTwo m → (m ≡ 0 → ⊥) → public t ≡ false
+      → false ≡ every public (take m (t ∷ u ∷ []))
   unfolding every
   not-first UpToTwo.none z h = absurd (z refl)
   not-first UpToTwo.one z h = sym (every-step t [] false h)
@@ -209,7 +227,8 @@ module _ (n t u : ℕ) (l : n ≤ 2) where
   unfolding every
   public-one x z h k = sym (ap (λ (m : ℕ). every public (take m (t ∷ u ∷ []))) z ∙ every-step t [] true (sym h ∙ not-false x k))
 
-  pub public-two : (x y : Bool) → (n ≡ 0 → ⊥) → (n ≡ 1 → ⊥) → x ≡ public t → not x ≡ false → y ≡ public u → Public y
+  pub public-two : (x y : Bool) → (n ≡ 0 → ⊥) → (n ≡ 1 → ⊥) → x ≡ public t → not x ≡ false
+      → y ≡ public u → Public y
   unfolding every
   public-two x y z o h k q =
       let e : n ≡ 2 = omega (arith, z, o, l) in
@@ -227,7 +246,8 @@ at-word : (ws : List ℕ) (s : ℕ) → signatureAt (map signatureOf ws) s ≡ s
 unfolding signatureOf
 at-word ws s = List·getD-map signatureOf ws s 0
 
--- with arguments of the types ts; the modules of tests stand inside each other as the returns of the code do
+-- with arguments of the types ts; the modules of tests stand inside each other as the returns of
+-- the code do
 module _ (once : Bool) (ws : List ℕ) (linked : Bool) (s i : ℕ) (ts : List ℕ) (e : Effect) where
   abbrev Start : Conduct → Type 0
   Start r = r ≡ startRule once (map signatureOf ws) (standing linked) s i (Argued.have ts e)
@@ -251,7 +271,8 @@ module _ (once : Bool) (ws : List ℕ) (linked : Bool) (s i : ℕ) (ts : List �
       module _ (n : not x ≡ false) (y : Bool) (q : y ≡ every public ts) where
         pub start-escapes : not y ≡ true → Start (Fails escaping i)
         unfolding startRule
-        start-escapes m = no _ there (no _ (ap not (sym same) ∙ n) (yes _ (ap not (sym q) ∙ m) refl))
+        start-escapes m =
+            no _ there (no _ (ap not (sym same) ∙ n) (yes _ (ap not (sym q) ∙ m) refl))
 
         pub start-unlinked : not y ≡ false → linked ≡ false → Start (Fails whileUnlinked i)
         unfolding startRule
@@ -261,7 +282,8 @@ module _ (once : Bool) (ws : List ℕ) (linked : Bool) (s i : ℕ) (ts : List �
             unlinked true f = absurd (true≢false f)
             unlinked false f = refl
 
-        pub start-does : (f g : Effect) → not y ≡ false → linked ≡ true → f ≡ signatureOf (getD ws s 0) .effect → g ≡ e ∪ f → Start (Does g once)
+        pub start-does : (f g : Effect) → not y ≡ false → linked ≡ true
+            → f ≡ signatureOf (getD ws s 0) .effect → g ≡ e ∪ f → Start (Does g once)
         unfolding startRule
         start-does f g m z a b =
             no _ there (no _ (ap not (sym same) ∙ n) (no _ (ap not (sym q) ∙ m) (no _ (linked-so linked z)
@@ -278,20 +300,32 @@ module _ (once : Bool) (ws : List ℕ) (linked : Bool) (s i : ℕ) (args : Argum
   abbrev StartWith : Conduct → Type 0
   StartWith r = r ≡ startRule once (map signatureOf ws) (standing linked) s i (arguedOf args)
 
-  by-arguments : (v : Arguments) (r : Conduct) → args ≡ v → r ≡ startRule once (map signatureOf ws) (standing linked) s i (arguedOf v) → StartWith r
-  by-arguments v r h k = k ∙ ap (λ (w : Arguments). startRule once (map signatureOf ws) (standing linked) s i (arguedOf w)) (sym h)
+  by-arguments : (v : Arguments) (r : Conduct) → args ≡ v
+      → r ≡ startRule once (map signatureOf ws) (standing linked) s i (arguedOf v) → StartWith r
+  by-arguments v r h k =
+      k
+      ∙ ap (λ (w : Arguments). startRule once (map signatureOf ws) (standing linked) s i (arguedOf w)) (sym h)
 
   pub start-fault : (n j : ℕ) → args ≡ Fault n j → StartWith (Fails n j)
   unfolding startRule
   start-fault n j h = by-arguments (Fault n j) (Fails n j) h refl
 
-  pub start-nothing : (e : Effect) (r : Conduct) → args ≡ Nothing → e ≡ noEffect → r ≡ startRule once (map signatureOf ws) (standing linked) s i (Argued.have (take 0 (0 ∷ 0 ∷ [])) e) → StartWith r
+  pub start-nothing : (e : Effect) (r : Conduct) → args ≡ Nothing → e ≡ noEffect
+      → r
+      ≡ startRule once (map signatureOf ws) (standing linked) s i (Argued.have (take 0 (0 ∷ 0 ∷ [])) e)
+      → StartWith r
   start-nothing e r h q k = by-arguments Nothing r h (k ∙ ap (λ (o : Effect). startRule once (map signatureOf ws) (standing linked) s i (Argued.have [] o)) q)
 
-  pub start-one : (t : ℕ) (e : Effect) (r : Conduct) → args ≡ One t e → r ≡ startRule once (map signatureOf ws) (standing linked) s i (Argued.have (take 1 (t ∷ 0 ∷ [])) e) → StartWith r
+  pub start-one : (t : ℕ) (e : Effect) (r : Conduct) → args ≡ One t e
+      → r
+      ≡ startRule once (map signatureOf ws) (standing linked) s i (Argued.have (take 1 (t ∷ 0 ∷ [])) e)
+      → StartWith r
   start-one t e r h k = by-arguments (One t e) r h k
 
-  pub start-two : (t u : ℕ) (e : Effect) (r : Conduct) → args ≡ Two t u e → r ≡ startRule once (map signatureOf ws) (standing linked) s i (Argued.have (take 2 (t ∷ u ∷ [])) e) → StartWith r
+  pub start-two : (t u : ℕ) (e : Effect) (r : Conduct) → args ≡ Two t u e
+      → r
+      ≡ startRule once (map signatureOf ws) (standing linked) s i (Argued.have (take 2 (t ∷ u ∷ [])) e)
+      → StartWith r
   start-two t u e r h k = by-arguments (Two t u e) r h k
 
 pub ruleset start-laws = (start-fault, start-nothing, start-one, start-two)

@@ -1,5 +1,6 @@
-// Reads prog.txt and choices.txt in the folder it runs in, an absent file as empty, and prints the listing of the run: the check's line, a
-// line for each choice used, and how many were used. Where one of the two cannot be read, nothing.
+// Reads prog.txt and choices.txt in the folder it runs in, an absent file as empty, and prints the
+// listing of the run: the check's line, a line for each choice used, and how many were used. Where
+// one of the two cannot be read, nothing.
 use files::FileRead;
 use files::print;
 use files::read_file;
@@ -12,7 +13,8 @@ use machine::offset::STATE_LENGTH;
 use runs::printing::run_listing;
 ghost use Rattle.io.specs.Counts.{Counts};
 
-// The bytes of choices.txt. A text that refusals 1 to 7 stop needs none, so there the file is not read.
+// The bytes of choices.txt. A text that refusals 1 to 7 stop needs none, so there the file is not
+// read.
 fn choices_for(text: &[u8], choices: &mut [u8]) -> FileRead
     ensures { λ r. ⌜ Counts (r .count) (now (choices .exit)) ⌝ }
 {
@@ -25,7 +27,8 @@ fn choices_for(text: &[u8], choices: &mut [u8]) -> FileRead
     }
 }
 
-// Each file's buffer has one byte more than the longest that is read, so that a longer file is seen to be longer.
+// Each file's buffer has one byte more than the longest that is read, so that a longer file is seen
+// to be longer.
 fn main() {
     let mut text = [0u8; MOST_BYTES + 1];
     let program = read_file(b"prog.txt", &mut text);

@@ -1,5 +1,6 @@
-// Runs of many files: the bench samples of document 01 that concern running, and the vectors. For each sample i it reads the text in data/iiip
-// and the choices in data/iiic, and prints the sample's name and the listing; the report is compared with the stored one.
+// Runs of many files: the bench samples of document 01 that concern running, and the vectors. For
+// each sample i it reads the text in data/iiip and the choices in data/iiic, and prints the
+// sample's name and the listing; the report is compared with the stored one.
 use files::print;
 use files::read_file;
 use language::limit::MOST_BYTES;

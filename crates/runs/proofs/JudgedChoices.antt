@@ -1,4 +1,5 @@
--- choices.txt judged whole before any step, and the listing by what the judge says. Assumes nothing.
+-- choices.txt judged whole before any step, and the listing by what the judge says. Assumes
+-- nothing.
 use Prim.Native.Nat.{ℕ, _≤_}
 use mathlib.Core.Path.{_≡_, refl, sym, ap, ap₂, _∙_}
 use mathlib.Core.List.{List, []}
@@ -11,31 +12,38 @@ use borrow.Author.Tests.{ltb-false}
 use Rattle.basics.proofs.Ifs.{if-all}
 use Rattle.program.specs.Programs.{Program}
 use Rattle.stepper.specs.declared.answer.Answer.the-variants as A
-use Rattle.listing.specs.Listing.{refusalLine, Choices, choices, malformed, choicesFrom, runLines, linesOf, choicesListing}
+use Rattle.listing.specs.Listing.{refusalLine, Choices, choices, malformed, choicesFrom, runLines}
+use Rattle.listing.specs.Listing.{linesOf, choicesListing}
 use Rattle.listing.specs.inner.Choices.{countRead, judged}
 use Rattle.listing.specs.declared.choices.ChoicesRead.{ChoicesRead}
 use Rattle.listing.specs.declared.choices.ChoicesRead.the-variants as read
 use Rattle.listing.proofs.ChoicesAt.{choices-count}
 use Rattle.runs.specs.Runs.{Behind, stepped}
-use Rattle.runs.specs.Printed.{unstepped, steppedOf, choicesStepped, ListedOn, listedAs, listedOn, written}
+use Rattle.runs.specs.Printed.{unstepped, steppedOf, choicesStepped, ListedOn, listedAs}
+use Rattle.runs.specs.Printed.{listedOn, written}
 use Rattle.runs.specs.inner.Parts.{listOf, choicesOf, listedBehind}
 use Rattle.runs.specs.declared.printing.Listed.{Listed}
 use Rattle.runs.proofs.ListingLoop.{written-put}
 use Rattle.runs.proofs.ListedRun.{listed-path}
 
-pub listed-refusal : (n i : ℕ) (w out line new : List ℕ) → line ≡ refusalLine n i → new ≡ paste out 8 line (length line) → listedAs (A.Done 0) 16 0 w new ≡ listedBehind (unstepped w) (refusalLine n i) out
-listed-refusal n i w out line new a b = listed-path refl refl refl (written-put out 8 line new b ∙ ap (written out 8) a)
+pub listed-refusal : (n i : ℕ) (w out line new : List ℕ) → line ≡ refusalLine n i
+    → new ≡ paste out 8 line (length line)
+    → listedAs (A.Done 0) 16 0 w new ≡ listedBehind (unstepped w) (refusalLine n i) out
+listed-refusal n i w out line new a b =
+    listed-path refl refl refl (written-put out 8 line new b ∙ ap (written out 8) a)
 
 -- ---- choices.txt
 module _ (p : Program) (w bytes : List ℕ) where
-  listing-long : ltb 49152 (length bytes) ≡ true → (choicesStepped p w bytes ≡ unstepped w) × (choicesListing p bytes ≡ refusalLine 2 0)
+  listing-long : ltb 49152 (length bytes) ≡ true
+      → (choicesStepped p w bytes ≡ unstepped w) × (choicesListing p bytes ≡ refusalLine 2 0)
   unfolding choicesStepped choicesListing
   listing-long h = (
     ap (λ (b : Bool). elim b [ true ↦ unstepped w | false ↦ steppedOf p w (choicesFrom 0 bytes) ]) h,
     ap (λ (b : Bool). elim b [ true ↦ refusalLine 2 0 | false ↦ linesOf p (choicesFrom 0 bytes) ]) h,
   )
 
-  listing-of : (r : Choices) → ltb 49152 (length bytes) ≡ false → choicesFrom 0 bytes ≡ r → (choicesStepped p w bytes ≡ steppedOf p w r) × (choicesListing p bytes ≡ linesOf p r)
+  listing-of : (r : Choices) → ltb 49152 (length bytes) ≡ false → choicesFrom 0 bytes ≡ r
+      → (choicesStepped p w bytes ≡ steppedOf p w r) × (choicesListing p bytes ≡ linesOf p r)
   unfolding choicesStepped choicesListing
   listing-of r h q = (
     ap (λ (b : Bool). elim b [ true ↦ unstepped w | false ↦ steppedOf p w (choicesFrom 0 bytes) ]) h ∙ ap (steppedOf p w) q,
@@ -45,14 +53,17 @@ module _ (p : Program) (w bytes : List ℕ) where
 -- what the judge's answer says
 data Judged (bytes : List ℕ) : ChoicesRead → Type 0 where
   over : ltb 49152 (length bytes) ≡ true → Judged bytes read.TooLong
-  wrong : {k : ℕ} → ltb 49152 (length bytes) ≡ false → choicesFrom 0 bytes ≡ malformed k → Judged bytes (read.Malformed k)
-  right : {cs : List ℕ} → ltb 49152 (length bytes) ≡ false → choicesFrom 0 bytes ≡ choices cs → Judged bytes (read.Choices (length cs))
+  wrong : {k : ℕ} → ltb 49152 (length bytes) ≡ false → choicesFrom 0 bytes ≡ malformed k
+      → Judged bytes (read.Malformed k)
+  right : {cs : List ℕ} → ltb 49152 (length bytes) ≡ false → choicesFrom 0 bytes ≡ choices cs
+      → Judged bytes (read.Choices (length cs))
 
 judged-says : (bytes : List ℕ) → Judged bytes (judged bytes)
 unfolding judged
 judged-says bytes = if-all (Judged bytes) (ltb 49152 (length bytes)) read.TooLong (countRead (choicesFrom 0 bytes)) (λ h. Judged.over h) (λ h. go h (choicesFrom 0 bytes) refl)
   where
-    go : ltb 49152 (length bytes) ≡ false → (r : Choices) → choicesFrom 0 bytes ≡ r → Judged bytes (countRead r)
+    go : ltb 49152 (length bytes) ≡ false → (r : Choices) → choicesFrom 0 bytes ≡ r
+        → Judged bytes (countRead r)
     go h (choices cs) q = Judged.right h q
     go h (malformed k) q = Judged.wrong h q
 
@@ -68,19 +79,23 @@ module _ (bytes : List ℕ) (r : ChoicesRead) (e : r ≡ judged bytes) where
       go _ (Judged.wrong h q) z = absurd (let y : _≡_ {A = ℕ} 0 1 = cc in omega arith)
       go _ (Judged.right h q) z = absurd (let y : _≡_ {A = ℕ} 0 1 = cc in omega arith)
 
-  is-malformed : (k : ℕ) → r ≡ read.Malformed k → (ltb 49152 (length bytes) ≡ false) × (choicesFrom 0 bytes ≡ malformed k)
+  is-malformed : (k : ℕ) → r ≡ read.Malformed k
+      → (ltb 49152 (length bytes) ≡ false) × (choicesFrom 0 bytes ≡ malformed k)
   is-malformed k z = go r says z
     where
-      go : (x : ChoicesRead) → Judged bytes x → x ≡ read.Malformed k → (ltb 49152 (length bytes) ≡ false) × (choicesFrom 0 bytes ≡ malformed k)
+      go : (x : ChoicesRead) → Judged bytes x → x ≡ read.Malformed k
+          → (ltb 49152 (length bytes) ≡ false) × (choicesFrom 0 bytes ≡ malformed k)
       go _ (Judged.over h) z = absurd (let y : _≡_ {A = ℕ} 0 1 = cc in omega arith)
       go _ (Judged.wrong {k = j} h q) z = (h, (let y : j ≡ k = cc in q ∙ ap malformed y))
       go _ (Judged.right h q) z = absurd (let y : _≡_ {A = ℕ} 0 1 = cc in omega arith)
 
-  is-choices : (n : ℕ) → r ≡ read.Choices n → (ltb 49152 (length bytes) ≡ false) × (choicesFrom 0 bytes ≡ choices (choicesOf bytes)) × (n ≡ length (choicesOf bytes))
+  is-choices : (n : ℕ) → r ≡ read.Choices n
+      → (ltb 49152 (length bytes) ≡ false) × (choicesFrom 0 bytes ≡ choices (choicesOf bytes)) × (n ≡ length (choicesOf bytes))
   unfolding choicesOf
   is-choices n z = go r says z
     where
-      go : (x : ChoicesRead) → Judged bytes x → x ≡ read.Choices n → (ltb 49152 (length bytes) ≡ false) × (choicesFrom 0 bytes ≡ choices (listOf (choicesFrom 0 bytes))) × (n ≡ length (listOf (choicesFrom 0 bytes)))
+      go : (x : ChoicesRead) → Judged bytes x → x ≡ read.Choices n
+          → (ltb 49152 (length bytes) ≡ false) × (choicesFrom 0 bytes ≡ choices (listOf (choicesFrom 0 bytes))) × (n ≡ length (listOf (choicesFrom 0 bytes)))
       go _ (Judged.over h) z = absurd (let y : _≡_ {A = ℕ} 0 1 = cc in omega arith)
       go _ (Judged.wrong h q) z = absurd (let y : _≡_ {A = ℕ} 0 1 = cc in omega arith)
       go _ (Judged.right {cs = cs} h q) z =
@@ -99,24 +114,33 @@ module _ (bytes : List ℕ) (r : ChoicesRead) (e : r ≡ judged bytes) where
       omega arith
 
   module _ (p : Program) (w v out new : List ℕ) (x : Listed) where
-    by-listing : (b c : Behind) (l m : List ℕ) → c ≡ b → m ≡ l → listedBehind b l out ≡ listedBehind c m out
+    by-listing : (b c : Behind) (l m : List ℕ) → c ≡ b → m ≡ l
+        → listedBehind b l out ≡ listedBehind c m out
     by-listing b c l m f g = ap₂ (λ (y : Behind) (z : List ℕ). listedBehind y z out) (sym f) (sym g)
 
-    with-words : (l : List ℕ) → listedOn x [] new ≡ listedBehind (unstepped []) l out → listedOn x w new ≡ listedBehind (unstepped w) l out
+    with-words : (l : List ℕ) → listedOn x [] new ≡ listedBehind (unstepped []) l out
+        → listedOn x w new ≡ listedBehind (unstepped w) l out
     with-words l h = ap (λ (y : ListedOn). listedAs (y .answer) (y .size) (y .used) w (y .out)) h
 
-    pub choices-long : r ≡ read.TooLong → listedOn x [] new ≡ listedBehind (unstepped []) (refusalLine 2 0) out → listedOn x w new ≡ listedBehind (choicesStepped p w bytes) (choicesListing p bytes) out
+    pub choices-long : r ≡ read.TooLong
+        → listedOn x [] new ≡ listedBehind (unstepped []) (refusalLine 2 0) out
+        → listedOn x w new ≡ listedBehind (choicesStepped p w bytes) (choicesListing p bytes) out
     choices-long z h =
         let s = listing-long p w bytes (is-long z) in
         with-words (refusalLine 2 0) h ∙ by-listing _ _ _ _ (s .0) (s .1)
 
-    pub choices-wrong : (k : ℕ) → r ≡ read.Malformed k → listedOn x [] new ≡ listedBehind (unstepped []) (refusalLine 3 k) out → listedOn x w new ≡ listedBehind (choicesStepped p w bytes) (choicesListing p bytes) out
+    pub choices-wrong : (k : ℕ) → r ≡ read.Malformed k
+        → listedOn x [] new ≡ listedBehind (unstepped []) (refusalLine 3 k) out
+        → listedOn x w new ≡ listedBehind (choicesStepped p w bytes) (choicesListing p bytes) out
     choices-wrong k z h =
         let a = is-malformed k z in
         let s = listing-of p w bytes (malformed k) (a .0) (a .1) in
         with-words (refusalLine 3 k) h ∙ by-listing _ _ _ _ (s .0) (s .1)
 
-    pub choices-run : (n : ℕ) → r ≡ read.Choices n → listedOn x v new ≡ listedBehind (stepped p (choicesOf bytes)) (runLines p (choicesOf bytes)) out → listedOn x v new ≡ listedBehind (choicesStepped p w bytes) (choicesListing p bytes) out
+    pub choices-run : (n : ℕ) → r ≡ read.Choices n
+        → listedOn x v new
+        ≡ listedBehind (stepped p (choicesOf bytes)) (runLines p (choicesOf bytes)) out
+        → listedOn x v new ≡ listedBehind (choicesStepped p w bytes) (choicesListing p bytes) out
     choices-run n z h =
         let a = is-choices n z in
         let s = listing-of p w bytes (choices (choicesOf bytes)) (a .0) (a .1) in

@@ -1,4 +1,5 @@
--- A run's listing: one choice more, the loop, all its lines, choices.txt, where it stops, the listing of a text.
+-- A run's listing: one choice more, the loop, all its lines, choices.txt, where it stops, the
+-- listing of a text.
 pub mod RunLoop
 pub mod ListingLoop
 pub mod ListedRun

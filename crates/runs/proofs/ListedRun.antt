@@ -1,4 +1,5 @@
--- The lines of a run in the buffer: the choices' behind the check's line, then the last. Assumes nothing.
+-- The lines of a run in the buffer: the choices' behind the check's line, then the last. Assumes
+-- nothing.
 use Prim.Native.Nat.{ℕ, _+_, _*_, min}
 use mathlib.Core.Path.{_≡_, ap, ap₂, _∙_}
 use mathlib.Core.List.{List, _++_}
@@ -25,7 +26,8 @@ pub listed-path : {x : Answer} {s t k j : ℕ} {w v o u : List ℕ} → s ≡ t 
 listed-path {x} a b c d = λ i. listedAs x (a i) (b i) (c i) (d i)
 
 -- ---- how many choices are used
-used-is : (p : Program) (file : File) → file ≡ fileOf p → (n k : ℕ) → k ≡ min n (file .allowance) → k ≡ min n (p .allowance)
+used-is : (p : Program) (file : File) → file ≡ fileOf p → (n k : ℕ) → k ≡ min n (file .allowance)
+    → k ≡ min n (p .allowance)
 used-is p file e n k q = q ∙ ap (λ (f : File). min n (f .allowance)) e
 
 -- ---- all choices, and the last line
@@ -46,8 +48,10 @@ module _ (p : Program) (cs : List ℕ) (file : File) (n k : ℕ) (e : file ≡ f
       let l = ap length lines-are in
       omega arith
 
-  pub listed-run : (v out o line new : List ℕ) → v ≡ pack (stateAfter p (take k cs)) → o ≡ written out 8 (stepLines p (take k cs)) → line ≡ lastLine k
-      → new ≡ paste o (8 + 14 * k) line (length line) → length out ≡ 229389 → listedAs (A.Done 0) (13 + 14 * k) k v new ≡ listedBehind (stepped p cs) (runLines p cs) out
+  pub listed-run : (v out o line new : List ℕ) → v ≡ pack (stateAfter p (take k cs))
+      → o ≡ written out 8 (stepLines p (take k cs)) → line ≡ lastLine k
+      → new ≡ paste o (8 + 14 * k) line (length line) → length out ≡ 229389
+      → listedAs (A.Done 0) (13 + 14 * k) k v new ≡ listedBehind (stepped p cs) (runLines p cs) out
   unfolding stepped
   listed-run v out o line new a b d f room =
       listed-path size-is used (a ∙ ap (λ (i : ℕ). pack (stateAfter p (take i cs))) used)

@@ -1,4 +1,5 @@
--- The loop of a listing: a line for each choice, one behind the other in the buffer. Assumes nothing.
+-- The loop of a listing: a line for each choice, one behind the other in the buffer. Assumes
+-- nothing.
 use Prim.Native.Nat.{ℕ, _+_, _*_, _^_, _<_, _≤_}
 use mathlib.Core.Path.{_≡_, refl, sym, ap, ap₂, _∙_}
 use mathlib.Core.List.{List, [], _∷_, _++_, append-assoc, append-nil}
@@ -21,7 +22,8 @@ use Rattle.stepper.specs.declared.file.File.{File}
 use Rattle.stepper.specs.declared.party.Stepped.{Stepped as Answered}
 use Rattle.stepper.specs.inner.Files.{FileWords, StepWords, fileOf, steppedOn}
 use Rattle.stepper.proofs.GoodWords.{fits-words}
-use Rattle.listing.specs.Listing.{Choices, choices, malformed, choicesFrom, choiceLineOf, choiceLine, choiceLines}
+use Rattle.listing.specs.Listing.{Choices, choices, malformed, choicesFrom, choiceLineOf}
+use Rattle.listing.specs.Listing.{choiceLine, choiceLines}
 use Rattle.listing.specs.inner.Choices.{choiceAt}
 use Rattle.listing.proofs.ChoicesAt.{choices-at}
 use Rattle.runs.specs.Printed.{written}
@@ -34,11 +36,13 @@ module _ (out : List ℕ) (at : ℕ) where
   unfolding written
   written-none = paste-zero out at []
 
-  pub written-put : (line new : List ℕ) → new ≡ paste out at line (length line) → new ≡ written out at line
+  pub written-put : (line new : List ℕ) → new ≡ paste out at line (length line)
+      → new ≡ written out at line
   unfolding written
   written-put line new e = e
 
-  pub written-more : (xs ys : List ℕ) → at ≤ length out → written (written out at xs) (at + length xs) ys ≡ written out at (xs ++ ys)
+  pub written-more : (xs ys : List ℕ) → at ≤ length out
+      → written (written out at xs) (at + length xs) ys ≡ written out at (xs ++ ys)
   unfolding written
   written-more xs ys h =
       ap₂ (λ (a b : List ℕ). a ++ take (length ys) ys ++ b) (take-paste out at xs (length xs) h (omega arith)) rest
@@ -46,7 +50,8 @@ module _ (out : List ℕ) (at : ℕ) where
       ∙ ap (λ (a : List ℕ). a ++ drop (at + length xs + length ys) out) (append-assoc (take at out) xs ys)
       ∙ ap₂ (λ (a : List ℕ) (i : ℕ). take at out ++ a ++ drop i out) (sym (take-length (xs ++ ys))) size
     where
-      rest : drop (at + length xs + length ys) (paste out at xs (length xs)) ≡ drop (at + length xs + length ys) out
+      rest : drop (at + length xs + length ys) (paste out at xs (length xs))
+          ≡ drop (at + length xs + length ys) out
       rest =
           sym (drop-drop (length ys) (at + length xs) (paste out at xs (length xs)))
           ∙ ap (drop (length ys)) (drop-paste out at xs (length xs) h (omega arith))
@@ -57,12 +62,15 @@ module _ (out : List ℕ) (at : ℕ) where
 
 -- ---- the lines
 module _ (p : Program) where
-  lines-size : (s : State) (cs : List ℕ) → length (choiceLines cs (stepsFrom p s cs)) ≡ 14 * length cs
+  lines-size : (s : State) (cs : List ℕ)
+      → length (choiceLines cs (stepsFrom p s cs)) ≡ 14 * length cs
   unfolding choiceLines choiceLine stepsFrom
   lines-size s [] = refl
   lines-size s (c ∷ cs) = let l = lines-size (step p s c .state) cs in omega arith
 
-  lines-snoc : (s : State) (xs : List ℕ) (c : ℕ) → choiceLines (xs ++ (c ∷ [])) (stepsFrom p s (xs ++ (c ∷ []))) ≡ choiceLines xs (stepsFrom p s xs) ++ choiceLine c (step p (stateFrom p s xs) c)
+  lines-snoc : (s : State) (xs : List ℕ) (c : ℕ)
+      → choiceLines (xs ++ (c ∷ [])) (stepsFrom p s (xs ++ (c ∷ [])))
+      ≡ choiceLines xs (stepsFrom p s xs) ++ choiceLine c (step p (stateFrom p s xs) c)
   unfolding choiceLines stepsFrom stateFrom
   lines-snoc s [] c = append-nil (choiceLine c (step p s c))
   lines-snoc s (x ∷ xs) c =
@@ -77,16 +85,22 @@ module _ (p : Program) where
   unfolding stepLines
   step-lines-size cs = lines-size (fresh p) cs
 
-  step-lines-next : (cs : List ℕ) (k : ℕ) → k < length cs → stepLines p (take (k + 1) cs) ≡ stepLines p (take k cs) ++ choiceLine (getD cs k 0) (step p (stateAfter p (take k cs)) (getD cs k 0))
+  step-lines-next : (cs : List ℕ) (k : ℕ) → k < length cs
+      → stepLines p (take (k + 1) cs)
+      ≡ stepLines p (take k cs) ++ choiceLine (getD cs k 0) (step p (stateAfter p (take k cs)) (getD cs k 0))
   unfolding stepLines
-  step-lines-next cs k h = ap (λ (xs : List ℕ). choiceLines xs (steps p xs)) (next-choice cs k h) ∙ lines-snoc (fresh p) (take k cs) (getD cs k 0)
+  step-lines-next cs k h =
+      ap (λ (xs : List ℕ). choiceLines xs (steps p xs)) (next-choice cs k h)
+      ∙ lines-snoc (fresh p) (take k cs) (getD cs k 0)
 
 -- ---- choices.txt
-pub choice-at-is : (bytes : List ℕ) (k : ℕ) → k < length (choicesOf bytes) → getD (choicesOf bytes) k 0 ≡ choiceAt bytes k
+pub choice-at-is : (bytes : List ℕ) (k : ℕ) → k < length (choicesOf bytes)
+    → getD (choicesOf bytes) k 0 ≡ choiceAt bytes k
 unfolding choicesOf
 choice-at-is bytes k h = by (choicesFrom 0 bytes) refl h
   where
-    by : (r : Choices) → choicesFrom 0 bytes ≡ r → k < length (listOf r) → getD (listOf r) k 0 ≡ choiceAt bytes k
+    by : (r : Choices) → choicesFrom 0 bytes ≡ r → k < length (listOf r)
+        → getD (listOf r) k 0 ≡ choiceAt bytes k
     by (choices cs) q l = choices-at bytes cs q k l
     by (malformed j) q l = absurd (omega arith)
 
@@ -96,9 +110,11 @@ pub record Lining (frames bytes : List ℕ) (n : ℕ) (old w before out : List �
   pub long : length w ≡ length old
   pub wide : length out ≡ length before
   pub words : w ≡ pack (stateAfter (programOf (framesOf frames)) (take k (choicesOf bytes)))
-  pub lines : out ≡ written before 8 (stepLines (programOf (framesOf frames)) (take k (choicesOf bytes)))
+  pub lines : out
+      ≡ written before 8 (stepLines (programOf (framesOf frames)) (take k (choicesOf bytes)))
 
-pub lining-start : (frames bytes : List ℕ) (n : ℕ) (w out : List ℕ) → w ≡ pack (fresh (programOf (framesOf frames))) → Lining frames bytes n w w out out 0
+pub lining-start : (frames bytes : List ℕ) (n : ℕ) (w out : List ℕ)
+    → w ≡ pack (fresh (programOf (framesOf frames))) → Lining frames bytes n w w out out 0
 unfolding stateFrom
 lining-start frames bytes n w out q =
     record {
@@ -106,7 +122,9 @@ lining-start frames bytes n w out q =
       long = refl;
       wide = refl;
       words = q;
-      lines = written-none out 8 ∙ ap (written out 8) (sym (step-lines-none (programOf (framesOf frames))));
+      lines =
+          written-none out 8
+          ∙ ap (written out 8) (sym (step-lines-none (programOf (framesOf frames))));
     }
 
 module _ (frames : List ℕ) (file : File) (bytes : List ℕ) (n : ℕ) (old w before out : List ℕ) (k : ℕ) (g : FileWords frames) (e : file ≡ fileOf (programOf (framesOf frames))) (r : Lining frames bytes n old w before out k) where
@@ -154,7 +172,8 @@ module _ (frames : List ℕ) (file : File) (bytes : List ℕ) (n : ℕ) (old w b
           ∙ ap (λ (x : Called). choiceLineOf (getD cs k 0) (x .answer) (x .thread) (getD v 1 0)) called
           ∙ ap (choiceLineOf (getD cs k 0) (next .answer) (next .thread)) cells-in
 
-      pub lining-more : length v ≡ length w → length new ≡ length out → 8 + 14 * n ≤ length before → Lining frames bytes n old v before new (k + 1)
+      pub lining-more : length v ≡ length w → length new ≡ length out → 8 + 14 * n ≤ length before
+          → Lining frames bytes n old v before new (k + 1)
       lining-more l d room =
           let t : length (take k cs) ≡ k = length-take-le k cs (omega arith) in
           let u = step-lines-size P (take k cs) in
@@ -177,7 +196,12 @@ module _ (frames bytes : List ℕ) (n : ℕ) (old w before out : List ℕ) (k : 
   all-done = let f = r .few in omega arith
 
   pub lining-words : w ≡ pack (stateAfter (programOf (framesOf frames)) (take n (choicesOf bytes)))
-  lining-words = r .words ∙ ap (λ (i : ℕ). pack (stateAfter (programOf (framesOf frames)) (take i (choicesOf bytes)))) all-done
+  lining-words =
+      r .words
+      ∙ ap (λ (i : ℕ). pack (stateAfter (programOf (framesOf frames)) (take i (choicesOf bytes)))) all-done
 
-  pub lining-lines : out ≡ written before 8 (stepLines (programOf (framesOf frames)) (take n (choicesOf bytes)))
-  lining-lines = r .lines ∙ ap (λ (i : ℕ). written before 8 (stepLines (programOf (framesOf frames)) (take i (choicesOf bytes)))) all-done
+  pub lining-lines : out
+      ≡ written before 8 (stepLines (programOf (framesOf frames)) (take n (choicesOf bytes)))
+  lining-lines =
+      r .lines
+      ∙ ap (λ (i : ℕ). written before 8 (stepLines (programOf (framesOf frames)) (take i (choicesOf bytes)))) all-done

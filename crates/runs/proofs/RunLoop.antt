@@ -21,16 +21,21 @@ use Rattle.stepper.specs.inner.Files.{FileWords, StepWords, fileOf, steppedOn}
 use Rattle.stepper.proofs.GoodWords.{fits-words}
 
 -- ---- one choice more
-state-snoc : (p : Program) (s : State) (xs : List ℕ) (c : ℕ) → stateFrom p s (xs ++ (c ∷ [])) ≡ step p (stateFrom p s xs) c .state
+state-snoc : (p : Program) (s : State) (xs : List ℕ) (c : ℕ)
+    → stateFrom p s (xs ++ (c ∷ [])) ≡ step p (stateFrom p s xs) c .state
 unfolding stateFrom
 state-snoc p s [] c = refl
 state-snoc p s (x ∷ xs) c = state-snoc p (step p s x .state) xs c
 
-pub next-choice : (cs : List ℕ) (k : ℕ) → k < length cs → take (k + 1) cs ≡ take k cs ++ (getD cs k 0 ∷ [])
-next-choice cs k h = let z : k + 1 ≡ suc k = omega arith in ap (λ (i : ℕ). take i cs) z ∙ take-suc cs k 0 h
+pub next-choice : (cs : List ℕ) (k : ℕ) → k < length cs
+    → take (k + 1) cs ≡ take k cs ++ (getD cs k 0 ∷ [])
+next-choice cs k h =
+    let z : k + 1 ≡ suc k = omega arith in ap (λ (i : ℕ). take i cs) z ∙ take-suc cs k 0 h
 
-pub state-next : (p : Program) (cs : List ℕ) (k : ℕ) → k < length cs → stateAfter p (take (k + 1) cs) ≡ step p (stateAfter p (take k cs)) (getD cs k 0) .state
-state-next p cs k h = ap (stateAfter p) (next-choice cs k h) ∙ state-snoc p (fresh p) (take k cs) (getD cs k 0)
+pub state-next : (p : Program) (cs : List ℕ) (k : ℕ) → k < length cs
+    → stateAfter p (take (k + 1) cs) ≡ step p (stateAfter p (take k cs)) (getD cs k 0) .state
+state-next p cs k h =
+    ap (stateAfter p) (next-choice cs k h) ∙ state-snoc p (fresh p) (take k cs) (getD cs k 0)
 
 -- ---- a state that was reached, on its words
 module _ (frames : List ℕ) (file : File) (cs w : List ℕ) (g : FileWords frames) (e : file ≡ fileOf (programOf (framesOf frames))) (q : w ≡ pack (stateAfter (programOf (framesOf frames)) cs)) where
@@ -49,7 +54,10 @@ module _ (frames : List ℕ) (file : File) (cs w : List ℕ) (g : FileWords fram
       }
 
   -- the call is the step of that state
-  pub reached-call : (s : Stepped) (v : List ℕ) (c : ℕ) → steppedOn s v ≡ stepCall (framesOf frames) w c → steppedOn s v ≡ asCalled (step (programOf (framesOf frames)) (stateAfter (programOf (framesOf frames)) cs) c)
+  pub reached-call : (s : Stepped) (v : List ℕ) (c : ℕ)
+      → steppedOn s v ≡ stepCall (framesOf frames) w c
+      → steppedOn s v
+      ≡ asCalled (step (programOf (framesOf frames)) (stateAfter (programOf (framesOf frames)) cs) c)
   reached-call s v c z =
       z ∙ ap (λ (x : List ℕ). stepCall (framesOf frames) x c) q
       ∙ call-is (framesOf frames) fits (stateAfter P cs) c (reached-shaped (framesOf frames) P (P .schedulers) fits cs)

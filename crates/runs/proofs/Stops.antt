@@ -1,4 +1,5 @@
--- The listing stops behind the check's line after 1 to 7, which are the layout's, and goes on after 8 to 13, which are the rules'. Assumes nothing.
+-- The listing stops behind the check's line after 1 to 7, which are the layout's, and goes on after
+-- 8 to 13, which are the rules'. Assumes nothing.
 use Prim.Native.Nat.{ℕ, _<_, _≤_}
 use mathlib.Core.Path.{_≡_, refl, _∙_, subst}
 use mathlib.Core.List.{List}
@@ -42,13 +43,16 @@ fault-number (Fault.leftover a b c) = omega arith
 fault-number (Fault.main a b) = omega arith
 fault-number (Fault.depth d h) = omega arith
 
-pub layout-stops : (bs : List ℕ) (n j : ℕ) → layoutVerdict bs ≡ Rejected n j → stops (Rejected n j) ≡ true
+pub layout-stops : (bs : List ℕ) (n j : ℕ) → layoutVerdict bs ≡ Rejected n j
+    → stops (Rejected n j) ≡ true
 unfolding layoutVerdict
 layout-stops bs n j e = le-leb n 7 (go (reading bs) refl e)
   where
     go : (r : Reading) → reading bs ≡ r → layoutRead r ≡ Rejected n j → n ≤ 7
-    go (refused m k) q z = text-number (reads bs) n j (let a : m ≡ n = cc in let b : k ≡ j = cc in q ∙ cc)
-    go (frames fs) q z = fault-number (subst (LayoutSays fs) z (layout-says fs (some-frame (reads bs) q)) .fault)
+    go (refused m k) q z =
+        text-number (reads bs) n j (let a : m ≡ n = cc in let b : k ≡ j = cc in q ∙ cc)
+    go (frames fs) q z =
+        fault-number (subst (LayoutSays fs) z (layout-says fs (some-frame (reads bs) q)) .fault)
 
 -- ---- 8 to 13
 at-expression : {cells Γ : List ℕ} {x : Expr} {n : ℕ} → BreaksE cells Γ x n → 7 < n
@@ -61,7 +65,8 @@ at-expression (BreaksE.less a b c) = omega arith
 at-expression (BreaksE.choose a b c d) = omega arith
 at-expression (BreaksE.new-escapes a b c) = omega arith
 
-at-statement : {env : Setting} {below : List Signature} {Γ : List ℕ} {at : Standing} {p : Stmt} {n : ℕ} → BreaksS env below Γ at p n → 7 < n
+at-statement : {env : Setting} {below : List Signature} {Γ : List ℕ} {at : Standing} {p : Stmt} {n : ℕ}
+    → BreaksS env below Γ at p n → 7 < n
 at-statement (BreaksS.start-module a b) = omega arith
 at-statement (BreaksS.start-types a b c d) = omega arith
 at-statement (BreaksS.store a b c) = omega arith
@@ -78,12 +83,14 @@ in-expression : {cells Γ : List ℕ} {x : Expr} {n j : ℕ} → BrokenE cells �
 in-expression (BrokenE.here h) = at-expression h
 in-expression (BrokenE.under c h) = in-expression h
 
-in-statement : {env : Setting} {below : List Signature} {Γ : List ℕ} {at : Standing} {p : Stmt} {n j : ℕ} → BrokenS env below Γ at p n j → 7 < n
+in-statement : {env : Setting} {below : List Signature} {Γ : List ℕ} {at : Standing} {p : Stmt} {n j : ℕ}
+    → BrokenS env below Γ at p n j → 7 < n
 in-statement (BrokenS.here h) = at-statement h
 in-statement (BrokenS.operand o h) = in-expression h
 in-statement (BrokenS.under c h) = in-statement h
 
-in-modules : {env : Setting} {below : List Signature} {ms : List Part} {n j : ℕ} → BrokenM env below ms n j → 7 < n
+in-modules : {env : Setting} {below : List Signature} {ms : List Part} {n j : ℕ}
+    → BrokenM env below ms n j → 7 < n
 in-modules (BrokenM.body h) = in-statement h
 in-modules (BrokenM.later r h) = in-modules h
 in-modules (BrokenM.main r e) = omega arith

@@ -1,4 +1,5 @@
--- From what 1 to 7 say of a text and the listing of its frames to the listing of the text. Assumes nothing.
+-- From what 1 to 7 say of a text and the listing of its frames to the listing of the text. Assumes
+-- nothing.
 use Prim.Native.Nat.{ℕ}
 use mathlib.Core.Path.{_≡_, refl, sym, ap, ap₂, _∙_}
 use mathlib.Core.List.{List, [], _++_}
@@ -29,7 +30,9 @@ use Rattle.stepper.specs.declared.answer.Answer.the-variants as A
 use Rattle.stepper.specs.inner.Files.{FileWords}
 use Rattle.listing.specs.Listing.{refusalLine, checkLine, stops, choicesListing, runListing}
 use Rattle.runs.specs.Runs.{Behind}
-use Rattle.runs.specs.Printed.{unstepped, choicesStepped, runStepped, ListedOn, listedAs, listedOn, written, listedFrom, listedWhole, unlisted, answerFor, buffersFit, listText}
+use Rattle.runs.specs.Printed.{unstepped, choicesStepped, runStepped, ListedOn, listedAs}
+use Rattle.runs.specs.Printed.{listedOn, written, listedFrom, listedWhole, unlisted}
+use Rattle.runs.specs.Printed.{answerFor, buffersFit, listText}
 use Rattle.runs.specs.inner.Parts.{listedBehind, listedRejected}
 use Rattle.runs.specs.declared.printing.Listed.{Listed}
 use Rattle.runs.proofs.ListingLoop.{written-put, written-more}
@@ -38,14 +41,16 @@ use Rattle.runs.proofs.Stops.{layout-stops, rules-run}
 
 -- ---- the check's line
 module _ (v : Verdict) (fs : List Frame) (w bytes : List ℕ) where
-  pub goes-on : stops v ≡ false → (runStepped v fs w bytes ≡ choicesStepped (programOf fs) w bytes) × (runListing v fs bytes ≡ checkLine v ++ choicesListing (programOf fs) bytes)
+  pub goes-on : stops v ≡ false
+      → (runStepped v fs w bytes ≡ choicesStepped (programOf fs) w bytes) × (runListing v fs bytes ≡ checkLine v ++ choicesListing (programOf fs) bytes)
   unfolding runStepped runListing
   goes-on h = (
     ap (λ (b : Bool). elim b [ true ↦ unstepped w | false ↦ choicesStepped (programOf fs) w bytes ]) h,
     ap (λ (b : Bool). checkLine v ++ elim b [ true ↦ [] | false ↦ choicesListing (programOf fs) bytes ]) h,
   )
 
-  ends : stops v ≡ true → (runStepped v fs w bytes ≡ unstepped w) × (runListing v fs bytes ≡ checkLine v)
+  ends : stops v ≡ true
+      → (runStepped v fs w bytes ≡ unstepped w) × (runListing v fs bytes ≡ checkLine v)
   unfolding runStepped runListing
   ends h = (
     ap (λ (b : Bool). elim b [ true ↦ unstepped w | false ↦ choicesStepped (programOf fs) w bytes ]) h,
@@ -59,8 +64,11 @@ module _ (frames : List ℕ) (g : FileWords frames) (v : Verdict) (e : v ≡ rul
   abbrev fs : List Frame
   fs = framesOf frames
 
-  pub listed-frames : (w bytes u new : List ℕ) (x : Listed) → listedOn x u new ≡ listedBehind (choicesStepped (programOf (framesOf frames)) w bytes) (choicesListing (programOf (framesOf frames)) bytes) o
-      → listedOn x u new ≡ listedWhole (A.Done 0) (rulesOf (programOf (framesOf frames))) (framesOf frames) bytes w out
+  pub listed-frames : (w bytes u new : List ℕ) (x : Listed)
+      → listedOn x u new
+      ≡ listedBehind (choicesStepped (programOf (framesOf frames)) w bytes) (choicesListing (programOf (framesOf frames)) bytes) o
+      → listedOn x u new
+      ≡ listedWhole (A.Done 0) (rulesOf (programOf (framesOf frames))) (framesOf frames) bytes w out
   listed-frames w bytes u new x h =
       let s = goes-on (rulesOf (programOf fs)) fs w bytes (rules-run fs (some-frame (g .laid-out)) (g .laid-out)) in
       h ∙ ap (listedBehind (choicesStepped (programOf fs) w bytes) (choicesListing (programOf fs) bytes)) start
@@ -72,7 +80,8 @@ module _ (frames : List ℕ) (g : FileWords frames) (v : Verdict) (e : v ≡ rul
 
 -- ---- the whole: by what 1 to 7 say of the text
 module _ (n j : ℕ) (out : List ℕ) where
-  pub rejected-unlisted : (length out ≡ 229389 → ⊥) → unlisted (A.Rejected n j) [] out ≡ listedRejected n j [] out
+  pub rejected-unlisted : (length out ≡ 229389 → ⊥)
+      → unlisted (A.Rejected n j) [] out ≡ listedRejected n j [] out
   unfolding listedRejected
   rejected-unlisted f = sym (if-no _ _ (ne-eqb (length out) 229389 f))
 
@@ -89,12 +98,14 @@ module _ (n j : ℕ) (out : List ℕ) where
     abbrev withState : ListedOn → ListedOn
     withState y = listedAs (y .answer) (y .size) (y .used) w (y .out)
 
-    either : (b : Bool) (x y : ListedOn) → withState (if b then x else y) ≡ (if b then withState x else withState y)
+    either : (b : Bool) (x y : ListedOn)
+        → withState (if b then x else y) ≡ (if b then withState x else withState y)
     unfolding if_then_else_
     either true x y = refl
     either false x y = refl
 
-    with-state : (x : Listed) (new : List ℕ) → listedOn x [] new ≡ listedRejected n j [] out → listedOn x w new ≡ listedRejected n j w out
+    with-state : (x : Listed) (new : List ℕ) → listedOn x [] new ≡ listedRejected n j [] out
+        → listedOn x w new ≡ listedRejected n j w out
     unfolding listedRejected
     with-state x new k = ap withState k ∙ either (eqb (length out) 229389) _ _
 
@@ -132,17 +143,25 @@ module _ (bs bytes w out : List ℕ) (l : Laid) (ws : List ℕ) (e : laidAs l ws
         ap (λ (x : ListedOn). if eqb (length out) 229389 then x else unlisted (A.Rejected n j) w out) whole-rejected
         ∙ by-layout (Rejected n j) z
 
-    pub list-rejected : (x : Listed) (new : List ℕ) → listedOn x [] new ≡ listedRejected n j [] out → listedOn x w new ≡ listText bs bytes w out
+    pub list-rejected : (x : Listed) (new : List ℕ) → listedOn x [] new ≡ listedRejected n j [] out
+        → listedOn x w new ≡ listText bs bytes w out
     list-rejected x new k = with-state n j out w x new k ∙ rejected-is
 
   module _ (a : v ≡ Accepted) where
-    pub list-short-state : (length w ≡ 4818 → ⊥) → unlisted (A.Refused 14 0) w out ≡ listText bs bytes w out
-    list-short-state f = sym (if-no _ _ (ap (λ (b : Bool). b && eqb (length out) 229389) (ne-eqb (length w) 4818 f))) ∙ by-layout Accepted a
+    pub list-short-state : (length w ≡ 4818 → ⊥)
+        → unlisted (A.Refused 14 0) w out ≡ listText bs bytes w out
+    list-short-state f =
+        sym (if-no _ _ (ap (λ (b : Bool). b && eqb (length out) 229389) (ne-eqb (length w) 4818 f)))
+        ∙ by-layout Accepted a
 
-    pub list-short-out : (length out ≡ 229389 → ⊥) → unlisted (A.Refused 14 0) w out ≡ listText bs bytes w out
-    list-short-out f = sym (if-no _ _ (ap (λ (b : Bool). eqb (length w) 4818 && b) (ne-eqb (length out) 229389 f) ∙ and-off (eqb (length w) 4818))) ∙ by-layout Accepted a
+    pub list-short-out : (length out ≡ 229389 → ⊥)
+        → unlisted (A.Refused 14 0) w out ≡ listText bs bytes w out
+    list-short-out f =
+        sym (if-no _ _ (ap (λ (b : Bool). eqb (length w) 4818 && b) (ne-eqb (length out) 229389 f) ∙ and-off (eqb (length w) 4818)))
+        ∙ by-layout Accepted a
 
-    pub list-accepted : length w ≡ 4818 → length out ≡ 229389 → (n : ℕ) → n ≡ l .count → (u new : List ℕ) (x : Listed)
+    pub list-accepted : length w ≡ 4818 → length out ≡ 229389 → (n : ℕ) → n ≡ l .count
+        → (u new : List ℕ) (x : Listed)
         → listedOn x u new
         ≡ listedWhole (A.Done 0) (rulesOf (programOf (framesOf (take n ws))))
         (framesOf (take n ws)) bytes w out

@@ -20,7 +20,8 @@ ghost use Rattle.stepper.specs.inner.Files.{FileWords, fileOf};
 ghost use Rattle.runs.specs.Printed.{written};
 ghost use Rattle.runs.specs.inner.Parts.{choicesOf, stepLines, checkLength, choiceLength};
 
-// The first n choices of choices.txt, from the fresh state on, and a line for each; its cells in use are those behind the step.
+// The first n choices of choices.txt, from the fresh state on, and a line for each; its cells in
+// use are those behind the step.
 pub(crate) fn step_lines(
     frames: &[u64],
     file: File,
@@ -29,9 +30,16 @@ pub(crate) fn step_lines(
     state: &mut [u64],
     out: &mut [u8],
 )
-    requires { ⌜ FileWords (now frames) × (file ≡ fileOf (programOf (framesOf (now frames)))) × (n ≤ length (choicesOf (now bytes))) × (checkLength + choiceLength * n ≤ length (now out)) × (now state ≡ pack (fresh (programOf (framesOf (now frames))))) ⌝ }
-    ensures words { λ _. ⌜ now (state .exit) ≡ pack (stateAfter (programOf (framesOf (now (frames .entry)))) (take n (choicesOf (now (bytes .entry))))) ⌝ }
-    ensures lines { λ _. ⌜ now (out .exit) ≡ written (now (out .entry)) checkLength (stepLines (programOf (framesOf (now (frames .entry)))) (take n (choicesOf (now (bytes .entry))))) ⌝ }
+    requires { ⌜ FileWords (now frames) × (file ≡ fileOf (programOf (framesOf (now frames))))
+        × (n ≤ length (choicesOf (now bytes))) × (checkLength + choiceLength * n ≤ length (now out))
+        × (now state ≡ pack (fresh (programOf (framesOf (now frames))))) ⌝ }
+    ensures words { λ _. ⌜ now (state .exit)
+        ≡ pack (stateAfter (programOf (framesOf (now (frames .entry)))) (take n (choicesOf (now
+        (bytes .entry))))) ⌝ }
+    ensures lines { λ _. ⌜ now (out .exit)
+        ≡ written (now (out .entry)) checkLength
+        (stepLines (programOf (framesOf (now (frames .entry)))) (take n (choicesOf (now
+        (bytes .entry))))) ⌝ }
 {
     let digits = digit_table();
     let mut k: usize = 0;

@@ -34,10 +34,12 @@ ghost use Rattle.stepper.specs.inner.Files.{FileWords};
 ghost use Rattle.stepper.specs.declared.answer.Answer.the-variants.{Done};
 ghost use Rattle.listing.specs.Listing.{refusalLine, runLines, choicesListing};
 ghost use Rattle.runs.specs.Runs.{stepped};
-ghost use Rattle.runs.specs.Printed.{unstepped, choicesStepped, listedOn, listedWhole, listText};
+ghost use Rattle.runs.specs.Printed.{unstepped, choicesStepped, listedOn, listedWhole};
+ghost use Rattle.runs.specs.Printed.{listText};
 ghost use Rattle.runs.specs.inner.Parts.{choicesOf, listedBehind, listedRejected};
 
-// The answer: the text's refusal 1 to 7, else 14, else 0; how many bytes of the buffer hold the listing; how many choices were used.
+// The answer: the text's refusal 1 to 7, else 14, else 0; how many bytes of the buffer hold the
+// listing; how many choices were used.
 pub struct Listed {
     pub answer: Answer,
     pub length: u32,
@@ -63,8 +65,13 @@ fn used_of(n: usize, allowance: u16) -> usize
 
 // The n choices of choices.txt, as far as the allowance goes: a line for each, and the last.
 fn list_run(frames: &[u64], bytes: &[u8], n: usize, state: &mut [u64], out: &mut [u8]) -> Listed
-    requires { ⌜ FileWords (now frames) × (n ≡ length (choicesOf (now bytes))) × (n ≤ mostChoices) × (length (now state) ≡ stateLength) × (length (now out) ≡ mostListingBytes) ⌝ }
-    ensures { λ r. ⌜ listedOn r (now (state .exit)) (now (out .exit)) ≡ listedBehind (stepped (programOf (framesOf (now (frames .entry)))) (choicesOf (now (bytes .entry)))) (runLines (programOf (framesOf (now (frames .entry)))) (choicesOf (now (bytes .entry)))) (now (out .entry)) ⌝ }
+    requires { ⌜ FileWords (now frames) × (n ≡ length (choicesOf (now bytes))) × (n ≤ mostChoices)
+        × (length (now state) ≡ stateLength) × (length (now out) ≡ mostListingBytes) ⌝ }
+    ensures { λ r. ⌜ listedOn r (now (state .exit)) (now (out .exit))
+        ≡ listedBehind
+        (stepped (programOf (framesOf (now (frames .entry)))) (choicesOf (now (bytes .entry))))
+        (runLines (programOf (framesOf (now (frames .entry)))) (choicesOf (now (bytes .entry))))
+        (now (out .entry)) ⌝ }
 {
     let file = file_of(frames);
     let used = used_of(n, file.allowance);
@@ -82,7 +89,8 @@ fn list_run(frames: &[u64], bytes: &[u8], n: usize, state: &mut [u64], out: &mut
 // Why no choice is stepped: the line of a number and of a line of choices.txt.
 fn list_refusal(number: u8, line: u16, out: &mut [u8]) -> Listed
     requires { ⌜ length (now out) ≡ mostListingBytes ⌝ }
-    ensures { λ r. ⌜ listedOn r [] (now (out .exit)) ≡ listedBehind (unstepped []) (refusalLine number line) (now (out .entry)) ⌝ }
+    ensures { λ r. ⌜ listedOn r [] (now (out .exit))
+        ≡ listedBehind (unstepped []) (refusalLine number line) (now (out .entry)) ⌝ }
 {
     let bytes = refusal_line(number, line);
     put(out, CHECK_LINE, &bytes);
@@ -95,8 +103,13 @@ fn list_refusal(number: u8, line: u16, out: &mut [u8]) -> Listed
 
 // Behind the check's line: choices.txt is judged whole before any step.
 fn list_choices(frames: &[u64], bytes: &[u8], state: &mut [u64], out: &mut [u8]) -> Listed
-    requires { ⌜ FileWords (now frames) × (length (now state) ≡ stateLength) × (length (now out) ≡ mostListingBytes) ⌝ }
-    ensures { λ r. ⌜ listedOn r (now (state .exit)) (now (out .exit)) ≡ listedBehind (choicesStepped (programOf (framesOf (now (frames .entry)))) (now (state .entry)) (now (bytes .entry))) (choicesListing (programOf (framesOf (now (frames .entry)))) (now (bytes .entry))) (now (out .entry)) ⌝ }
+    requires { ⌜ FileWords (now frames) × (length (now state) ≡ stateLength)
+        × (length (now out) ≡ mostListingBytes) ⌝ }
+    ensures { λ r. ⌜ listedOn r (now (state .exit)) (now (out .exit))
+        ≡ listedBehind
+        (choicesStepped (programOf (framesOf (now (frames .entry)))) (now (state .entry)) (now
+        (bytes .entry))) (choicesListing (programOf (framesOf (now (frames .entry)))) (now
+        (bytes .entry))) (now (out .entry)) ⌝ }
 {
     let c = judge(bytes);
     match c {
@@ -108,15 +121,20 @@ fn list_choices(frames: &[u64], bytes: &[u8], state: &mut [u64], out: &mut [u8])
 
 // A file that passes refusals 1 to 7 runs, whatever its rules say.
 fn list_frames(frames: &[u64], bytes: &[u8], state: &mut [u64], out: &mut [u8]) -> Listed
-    requires { ⌜ FileWords (now frames) × (length (now state) ≡ stateLength) × (length (now out) ≡ mostListingBytes) ⌝ }
-    ensures { λ r. ⌜ listedOn r (now (state .exit)) (now (out .exit)) ≡ listedWhole (Done 0) (rulesOf (programOf (framesOf (now (frames .entry))))) (framesOf (now (frames .entry))) (now (bytes .entry)) (now (state .entry)) (now (out .entry)) ⌝ }
+    requires { ⌜ FileWords (now frames) × (length (now state) ≡ stateLength)
+        × (length (now out) ≡ mostListingBytes) ⌝ }
+    ensures { λ r. ⌜ listedOn r (now (state .exit)) (now (out .exit))
+        ≡ listedWhole (Done 0) (rulesOf (programOf (framesOf (now (frames .entry)))))
+        (framesOf (now (frames .entry))) (now (bytes .entry)) (now (state .entry))
+        (now (out .entry)) ⌝ }
 {
     let line = check_line(rules_of(frames));
     put(out, 0, &line);
     list_choices(frames, bytes, state, out)
 }
 
-// A text that refusal n at frame j stops: the refusal is the answer, and its line is the listing. Bytes of another length cannot take the line.
+// A text that refusal n at frame j stops: the refusal is the answer, and its line is the listing.
+// Bytes of another length cannot take the line.
 fn list_rejected(n: u8, j: u16, out: &mut [u8]) -> Listed
     ensures { λ r. ⌜ listedOn r [] (now (out .exit)) ≡ listedRejected n j [] (now (out .entry)) ⌝ }
 {
@@ -136,10 +154,14 @@ fn list_rejected(n: u8, j: u16, out: &mut [u8]) -> Listed
     }
 }
 
-// The listing of any text and of the bytes of choices.txt, and the state behind it. The answer is the text's refusal 1 to 7 whatever the lengths, else 14 where a
-// buffer has another length than the listing needs, else 0. Where one has, nothing is written. The longest listing has 8 + 14 * 16,384 + 5 bytes.
+// The listing of any text and of the bytes of choices.txt, and the state behind it. The answer is
+// the text's refusal 1 to 7 whatever the lengths, else 14 where a buffer has another length than
+// the listing needs, else 0. Where one has, nothing is written. The longest listing has 8 + 14 *
+// 16,384 + 5 bytes.
 pub fn run_listing(text: &[u8], choices: &[u8], state: &mut [u64], out: &mut [u8]) -> Listed
-    ensures { λ r. ⌜ listedOn r (now (state .exit)) (now (out .exit)) ≡ listText (now (text .entry)) (now (choices .entry)) (now (state .entry)) (now (out .entry)) ⌝ }
+    ensures { λ r. ⌜ listedOn r (now (state .exit)) (now (out .exit))
+        ≡ listText (now (text .entry)) (now (choices .entry)) (now (state .entry))
+        (now (out .entry)) ⌝ }
 {
     let mut words = [0u64; MOST_LINES];
     let l = lay_into(text, &mut words);

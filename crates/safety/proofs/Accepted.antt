@@ -1,4 +1,5 @@
--- Demand 3: every accepted text is safe under every list of choices, as a list of steps (`accepted-safe`) and as a list of calls (`accepted-calls-safe`). Assumes nothing.
+-- Demand 3: every accepted text is safe under every list of choices, as a list of steps
+-- (`accepted-safe`) and as a list of calls (`accepted-calls-safe`). Assumes nothing.
 use mathlib.Core.Path.{_≡_, refl, sym, ap, ap₂, subst, _∙_}
 use mathlib.Core.Bool.{Bool, true, false}
 use mathlib.Core.List.{List, [], _∷_, _++_, map}
@@ -27,7 +28,8 @@ use Rattle.machine.proofs.CallRuns.{asCalled, fresh-called, call-is, calls-are,
 use Rattle.reach.proofs.Sizes.{sized}
 use Rattle.reach.proofs.Fits.{file-fits}
 use Rattle.safety.specs.Safety.{Sound, Safe, Safety, NoPrivateInPublic, Apart}
-use Rattle.safety.specs.Accepted.{AcceptedSafe, stateOf, accessesUnder, accessesFrom, SafeCalls, AcceptedCallsSafe}
+use Rattle.safety.specs.Accepted.{AcceptedSafe, stateOf, accessesUnder, accessesFrom}
+use Rattle.safety.specs.Accepted.{SafeCalls, AcceptedCallsSafe}
 use Rattle.safety.proofs.Demand3.{demand-3}
 use Rattle.safety.proofs.TypedFiles.{typed}
 
@@ -43,7 +45,8 @@ accepted-frames-safe = demand-3 AcceptedFrames (λ fs h. typed (h .0) (h .1))
 pub accepted-safe : AcceptedSafe
 accepted-safe bs (HasVerdict.accepted (Reads.whole a b c) h k) cs = accepted-frames-safe _ (h, k) cs
 
--- ---- demand 3 of the calls: from the fresh words on, they give the steps' answers, accesses and states
+-- ---- demand 3 of the calls: from the fresh words on, they give the steps' answers, accesses and
+-- states
 module _ (fs : List Frame) (F : FileFits fs (programOf fs) (programOf fs .schedulers)) where
   abbrev P : Program
   P = programOf fs
@@ -51,20 +54,23 @@ module _ (fs : List Frame) (F : FileFits fs (programOf fs) (programOf fs .schedu
   abbrev n : ℕ
   n = programOf fs .schedulers
 
-  under-is : (s : State) (c : ℕ) → Shaped fs n s → accessesUnder fs (pack s) c ≡ step P s c .accesses
+  under-is : (s : State) (c : ℕ) → Shaped fs n s
+      → accessesUnder fs (pack s) c ≡ step P s c .accesses
   unfolding accessesUnder
   under-is s c z =
       ap (λ (b : Bool). elim b [ true ↦ step P (unpack fs n (pack s)) c .accesses | false ↦ [] ]) (shaped-in-range fs n s z)
       ∙ ap (λ (x : State). step P x c .accesses) (unpack-pack fs n s z)
 
-  accesses-are : (s : State) (cs : List ℕ) → Shaped fs n s → accessesFrom fs (pack s) cs ≡ allAccesses (stepsFrom P s cs)
+  accesses-are : (s : State) (cs : List ℕ) → Shaped fs n s
+      → accessesFrom fs (pack s) cs ≡ allAccesses (stepsFrom P s cs)
   unfolding accessesFrom stepsFrom allAccesses
   accesses-are s [] z = refl
   accesses-are s (c ∷ cs) z =
       ap₂ (λ (x : List Access) (y : List Access). x ++ y) (under-is s c z)
       (ap (λ (x : Called). accessesFrom fs (x .words) cs) (call-is fs F s c z) ∙ accesses-are (step P s c .state) cs (keeps-step fs P n F s c z))
 
-  sound-calls : (rs : List Stepped) → All Sound (map (λ (r : Stepped). r .answer) rs) → All (λ (r : Called). Sound (r .answer)) (map asCalled rs)
+  sound-calls : (rs : List Stepped) → All Sound (map (λ (r : Stepped). r .answer) rs)
+      → All (λ (r : Called). Sound (r .answer)) (map asCalled rs)
   sound-calls [] All.none = All.none
   sound-calls (r ∷ rs) (All.more h hs) = All.more h (sound-calls rs hs)
 

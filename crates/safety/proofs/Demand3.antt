@@ -1,4 +1,5 @@
--- Demand 3 of every typed program: its fresh state is good, each choice keeps it so, and a good state has what demand 3 says. Assumes nothing.
+-- Demand 3 of every typed program: its fresh state is good, each choice keeps it so, and a good
+-- state has what demand 3 says. Assumes nothing.
 use mathlib.Core.Path.{_≡_, subst}
 use mathlib.Core.Logic.{⊎-elim}
 use mathlib.Core.List.{List, [], _∷_, map}
@@ -18,16 +19,19 @@ use Rattle.machine.proofs.UsedCells.{owner-used}
 use Rattle.machine.proofs.Space.{Counted, counted-step, fresh-counted}
 use Rattle.machine.proofs.Continuations.{no-items, run-item}
 use Rattle.machine.proofs.Depth.{BodiesFit}
-use Rattle.safety.specs.Safety.{Reaches, BelongsToThread, BelongsToScheduler, Sound, Safe, Safety}
+use Rattle.safety.specs.Safety.{Reaches, BelongsToThread, BelongsToScheduler, Sound, Safe}
+use Rattle.safety.specs.Safety.{Safety}
 use Rattle.safety.proofs.Typing.{Ty, Pub, CellTyping, Store, TypedS}
 use Rattle.language.specs.declared.frame.Frame.{Frame}
 use Rattle.safety.proofs.Accesses.{accessed}
-use Rattle.safety.proofs.Heap.{Val, is-cell, Held, by-thread, by-place, GoodCells, Vals, none, more, SharedOk, storeOf, held-val}
+use Rattle.safety.proofs.Heap.{Val, is-cell, Held, by-thread, by-place, GoodCells, Vals}
+use Rattle.safety.proofs.Heap.{none, more, SharedOk, storeOf, held-val}
 use Rattle.safety.proofs.Threads.{nil, cons, each-nth}
 use Rattle.safety.proofs.Invariant.{p-empty, p-run, Good, no-thread}
 use Rattle.safety.proofs.Preservation.{ok-step}
 
--- a typed program, which is what acceptance must give: types for the shared cells, which their first contents have; `main` keeps the rules at home; and every body has room
+-- a typed program, which is what acceptance must give: types for the shared cells, which their
+-- first contents have; `main` keeps the rules at home; and every body has room
 pub record Typed (P : Program) : Type 0 where
   pub sh : List CellTyping
   pub count : length sh ≡ length (P .shared)
@@ -41,11 +45,13 @@ pub record Typed (P : Program) : Type 0 where
 
 module _ {Σ : Store} {cs : List Stored} (g : GoodCells Σ cs) where
   -- whoever sees a value sees whatever it reaches
-  sees : {v : Value} {τ : Ty} {c : ℕ} (t o : ℕ) → Reaches cs v c → Val Σ t v τ → BelongsToThread cs c o → o ≡ t
+  sees : {v : Value} {τ : Ty} {c : ℕ} (t o : ℕ) → Reaches cs v c → Val Σ t v τ
+      → BelongsToThread cs c o → o ≡ t
   sees t o Reaches.itself (is-cell {c = c} {k = k} a s) e =
       let q = g .each c k a .0 in
       ⊎-elim (λ h. omega (arith, h .1, q, e)) (λ h. absurd (omega (arith, h .1, h .2, q, e))) s
-  sees t o (Reaches.through l) (is-cell {c = b} {o = p} {k = k} a s) e = sees t o l (held-val t p s (g .each b k a .1)) e
+  sees t o (Reaches.through l) (is-cell {c =
+      b} {o = p} {k = k} a s) e = sees t o l (held-val t p s (g .each b k a .1)) e
 
   -- no value of a public type is a thread's cell
   not-private : {τ : Ty} (u c t : ℕ) → Pub τ → Val Σ u (Cell c) τ → BelongsToThread cs c t → ⊥
@@ -53,19 +59,23 @@ module _ {Σ : Store} {cs : List Stored} (g : GoodCells Σ cs) where
       let q = g .each c k a .0 in
       ⊎-elim (λ h. omega (arith, p, h .0)) (λ h. omega (arith, h .1, h .2, q, f)) s
 
-  held-public : {k : CellTyping} {v : Value} (c t : ℕ) → k .own ≤ 9 → Held Σ k v → v ≡ Cell c → BelongsToThread cs c t → ⊥
+  held-public : {k : CellTyping} {v : Value} (c t : ℕ) → k .own ≤ 9 → Held Σ k v → v ≡ Cell c
+      → BelongsToThread cs c t → ⊥
   held-public c t l (by-thread u e w) z f = omega (arith, e, l)
-  held-public {k} c t l (by-place x y p w) z f = not-private 0 c t p (subst (λ (v : Value). Val Σ 0 v (k .ty)) z (w 0)) f
+  held-public {k} c t l (by-place x y p w) z f =
+      not-private 0 c t p (subst (λ (v : Value). Val Σ 0 v (k .ty)) z (w 0)) f
 
   -- a scheduler's cell holds no thread's cell
-  public : (b c t : ℕ) → BelongsToScheduler cs b → cellAt cs b .content ≡ Cell c → BelongsToThread cs c t → ⊥
+  public : (b c t : ℕ) → BelongsToScheduler cs b → cellAt cs b .content ≡ Cell c
+      → BelongsToThread cs c t → ⊥
   public b c t h e f =
       let r = g .all b (owner-used cs b (λ z. omega (arith, h .0, z))) in
       let q = g .each b (r .0) (r .1) in
       held-public c t (omega (arith, h .1, q .0)) (q .1) e f
 
   -- no variable of t reaches another thread's cell
-  apart : {vs : List Value} {Γ : List Ty} (t : ℕ) → Vals Σ t vs Γ → All (λ (v : Value). (c o : ℕ) → Reaches cs v c → BelongsToThread cs c o → o ≡ t) vs
+  apart : {vs : List Value} {Γ : List Ty} (t : ℕ) → Vals Σ t vs Γ
+      → All (λ (v : Value). (c o : ℕ) → Reaches cs v c → BelongsToThread cs c o → o ≡ t) vs
   apart t none = All.none
   apart t (more w ws) = All.more (λ c o l e. sees t o l w e) (apart t ws)
 
@@ -92,7 +102,8 @@ module _ (P : Program) (T : Typed P) where
       )
 
   -- `answered`: no choice is foreign or stuck
-  sound-from : (s : State) (cs : List ℕ) → GoodS s → Counted s → All Sound (map (λ (r : Stepped). r .answer) (stepsFrom P s cs))
+  sound-from : (s : State) (cs : List ℕ) → GoodS s → Counted s
+      → All Sound (map (λ (r : Stepped). r .answer) (stepsFrom P s cs))
   unfolding stepsFrom
   sound-from s [] g h = All.none
   sound-from s (c ∷ cs) g h =
@@ -117,5 +128,6 @@ module _ (P : Program) (T : Typed P) where
       }
 
 -- demand 3 of any acceptance that gives types; TypedFiles shows that the rules do
-pub demand-3 : (Accepted : List Frame → Type 0) → ((fs : List Frame) → Accepted fs → Typed (programOf fs)) → Safety Accepted
+pub demand-3 : (Accepted : List Frame → Type 0)
+    → ((fs : List Frame) → Accepted fs → Typed (programOf fs)) → Safety Accepted
 demand-3 Accepted typed fs h cs = safe (programOf fs) (typed fs h) cs

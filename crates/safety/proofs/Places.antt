@@ -1,4 +1,5 @@
--- From the rules to typing at a place: a statement whose effect is within q runs on q. Assumes nothing.
+-- From the rules to typing at a place: a statement whose effect is within q runs on q. Assumes
+-- nothing.
 use mathlib.Core.Path.{_≡_, refl, sym, ap, subst, _∙_}
 use mathlib.Core.Logic.{inl, inr}
 use mathlib.Core.Bool.{Bool, true, _||_, _&&_}
@@ -20,12 +21,18 @@ use Rattle.language.specs.declared.effect.Effect.{Effect}
 use Rattle.language.proofs.Members.{member-join, member-owner, Within, within-members}
 use Rattle.program.specs.Trees.{Expr, Stmt}
 use Rattle.program.specs.Programs.{Part, Program, noModule, moduleAt, mainOf}
-use Rattle.rules.specs.Rules.{Setting, Signature, noSignature, signatureAt, signature, HasType, HaveTypes, AllPublic, Runs, Modules}
+use Rattle.rules.specs.Rules.{Setting, Signature, noSignature, signatureAt, signature, HasType}
+use Rattle.rules.specs.Rules.{HaveTypes, AllPublic, Runs, Modules}
 use Rattle.machine.proofs.Lists.{all-getD, all-append}
 use Rattle.reach.proofs.Laid.{LaidE, LaidS}
 use Rattle.reach.proofs.Modules.{LastPlain}
-use Rattle.safety.proofs.Typing.{Ty, num, tru, cell, Pub, CellTyping, At, here, there, Allowed, TypedE, t-number, t-truth, t-variable, t-shared, t-new, t-content, t-sum, t-less, t-choose, Args, TypedS, s-nothing, s-seq, s-do, s-start, s-start-wait, s-cooperate, s-let, s-store, s-if, s-while}
-use Rattle.safety.proofs.TypeWords.{tyOf, ty-number, ty-truth, ty-cell, Formed, formed-cell, formed-public}
+use Rattle.safety.proofs.Typing.{Ty, num, tru, cell, Pub, CellTyping, At, here, there}
+use Rattle.safety.proofs.Typing.{Allowed, TypedE, t-number, t-truth, t-variable, t-shared}
+use Rattle.safety.proofs.Typing.{t-new, t-content, t-sum, t-less, t-choose, Args, TypedS}
+use Rattle.safety.proofs.Typing.{s-nothing, s-seq, s-do, s-start, s-start-wait, s-cooperate}
+use Rattle.safety.proofs.Typing.{s-let, s-store, s-if, s-while}
+use Rattle.safety.proofs.TypeWords.{tyOf, ty-number, ty-truth, ty-cell, Formed, formed-cell}
+use Rattle.safety.proofs.TypeWords.{formed-public}
 
 -- ---- effects within a place: each part of one is within it too
 module _ (p : ℕ) (e f : Effect) (h : Within p (e ∪ f)) where
@@ -66,14 +73,16 @@ at-map [] s h = absurd (omega arith)
 at-map (x ∷ Γ) zero h = here
 at-map (x ∷ Γ) (suc s) h = there (at-map Γ s (omega arith))
 
--- shared cell s: the rules' type word for it and the store typing say the same, and the word is well formed
+-- shared cell s: the rules' type word for it and the store typing say the same, and the word is
+-- well formed
 pub record SharedIs (sh : List CellTyping) (cells : List ℕ) (s : ℕ) : Type 0 where
   pub typing : CellTyping
   pub at : At sh s typing
   pub same : tyOf (getD cells s 0) ≡ cell (typing .own) (typing .ty)
   pub formed : Formed (getD cells s 0)
 
--- P is laid out as reach/proofs/Laid says (Q, n); its shared cells are, to the rules, of the type words in `env`, and sh types them
+-- P is laid out as reach/proofs/Laid says (Q, n); its shared cells are, to the rules, of the type
+-- words in `env`, and sh types them
 module _ (P : Program) (sh : List CellTyping) (env : Setting) (Q : ℕ → Type 0) (n : ℕ) (shared : (s : ℕ) → s < length (env .cells) → SharedIs sh (env .cells) s) where
   place-range : (o : ℕ) → hasPlace n o ≡ true → (1 ≤ o) × (o ≤ 9)
   place-range o h = test-bounds 1 o (has-place n o h .0)
@@ -85,27 +94,34 @@ module _ (P : Program) (sh : List CellTyping) (env : Setting) (Q : ℕ → Type 
     typed : TypedE sh (map tyOf Γ) p x (tyOf t)
     formed : Formed t
 
-  a-number : {Γ : List ℕ} {p : ℕ} {x : Expr} → HasEx Γ p x numberType → TypedE sh (map tyOf Γ) p x num
+  a-number : {Γ : List ℕ} {p : ℕ} {x : Expr} → HasEx Γ p x numberType
+      → TypedE sh (map tyOf Γ) p x num
   a-number h = rw ty-number at (h .typed)
 
   a-truth : {Γ : List ℕ} {p : ℕ} {x : Expr} → HasEx Γ p x truthType → TypedE sh (map tyOf Γ) p x tru
   a-truth h = rw ty-truth at (h .typed)
 
-  has-number : {Γ : List ℕ} {p : ℕ} {x : Expr} → TypedE sh (map tyOf Γ) p x num → HasEx Γ p x numberType
+  has-number : {Γ : List ℕ} {p : ℕ} {x : Expr} → TypedE sh (map tyOf Γ) p x num
+      → HasEx Γ p x numberType
   has-number h = record { typed = rw ty-number h; formed = Formed.number }
 
-  has-truth : {Γ : List ℕ} {p : ℕ} {x : Expr} → TypedE sh (map tyOf Γ) p x tru → HasEx Γ p x truthType
+  has-truth : {Γ : List ℕ} {p : ℕ} {x : Expr} → TypedE sh (map tyOf Γ) p x tru
+      → HasEx Γ p x truthType
   has-truth h = record { typed = rw ty-truth h; formed = Formed.truth }
 
-  has-new : {Γ : List ℕ} {p i o t : ℕ} {x : Expr} → p ≤ 9 → hasPlace n o ≡ true → t < 0x1000 → Allowed p o → (2 ≤ o → Pub (tyOf t)) → HasEx Γ p x t → HasEx Γ p (Expr.new i o x) (cellType o t)
+  has-new : {Γ : List ℕ} {p i o t : ℕ} {x : Expr} → p ≤ 9 → hasPlace n o ≡ true → t < 0x1000
+      → Allowed p o → (2 ≤ o → Pub (tyOf t)) → HasEx Γ p x t
+      → HasEx Γ p (Expr.new i o x) (cellType o t)
   has-new {o = o} {t = t} l h r k q x =
       let b = place-range o h in
       record { typed = rw (ty-cell o t (b .0) (b .1) r) (t-new k l q (x .typed)); formed = Formed.around-of (b .0) (b .1) r q (x .formed) }
 
-  ex-typed : {Γ : List ℕ} {x : Expr} {t : ℕ} {e : Effect} (p : ℕ) → p ≤ 9 → All Formed Γ → LaidE Q n x → Within p e → HasType (env .cells) Γ x t e → HasEx Γ p x t
+  ex-typed : {Γ : List ℕ} {x : Expr} {t : ℕ} {e : Effect} (p : ℕ) → p ≤ 9 → All Formed Γ
+      → LaidE Q n x → Within p e → HasType (env .cells) Γ x t e → HasEx Γ p x t
   ex-typed p l g a w HasType.number = has-number t-number
   ex-typed p l g a w HasType.truth = has-truth t-truth
-  ex-typed {Γ} p l g a w (HasType.variable {s = s} h) = record { typed = t-variable (at-map Γ s h); formed = all-getD Formed Γ 0 s g h }
+  ex-typed {Γ} p l g a w (HasType.variable {s =
+      s} h) = record { typed = t-variable (at-map Γ s h); formed = all-getD Formed Γ 0 s g h }
   ex-typed p l g a w (HasType.shared {s = s} h) = let r = shared s h in record { typed = rw (r .same) (t-shared (r .at)); formed = r .formed }
   ex-typed p l g (LaidE.new h a) w (HasType.new-private {t = t} d r) = has-new l h (ltb-true t 0x1000 r) (inl refl) (λ two. absurd (omega arith)) (ex-typed p l g a w d)
   ex-typed p l g (LaidE.new {o = o} h a) w (HasType.new-public {t = t} {e = e} m d r k) =
@@ -130,7 +146,9 @@ module _ (P : Program) (sh : List CellTyping) (env : Setting) (Q : ℕ → Type 
     typed : Args sh (map tyOf Γ) p xs (map tyOf ts)
     formed : All Formed ts
 
-  args-typed : {Γ : List ℕ} {xs : List Expr} {ts : List ℕ} {e : Effect} (p : ℕ) → p ≤ 9 → All Formed Γ → All (LaidE Q n) xs → Within p e → AllPublic ts → HaveTypes (env .cells) Γ xs ts e → HasArgs Γ p xs ts
+  args-typed : {Γ : List ℕ} {xs : List Expr} {ts : List ℕ} {e : Effect} (p : ℕ) → p ≤ 9
+      → All Formed Γ → All (LaidE Q n) xs → Within p e → AllPublic ts
+      → HaveTypes (env .cells) Γ xs ts e → HasArgs Γ p xs ts
   args-typed p l g a w k HaveTypes.none = record { typed = Args.none; formed = All.none }
   args-typed p l g (All.more a rest) w (All.more k ks) (HaveTypes.more {e = e} {f = f} d ds) =
       let x = ex-typed p l g a (in-left p e f w) d in
@@ -139,11 +157,13 @@ module _ (P : Program) (sh : List CellTyping) (env : Setting) (Q : ℕ → Type 
 
   -- ---- starts
 
-  -- what is known of module s, whose signature is g: its body runs on each place that its effect is within, where its parameters are well formed
+  -- what is known of module s, whose signature is g: its body runs on each place that its effect is
+  -- within, where its parameters are well formed
   pub record Known (g : Signature) (s : ℕ) : Type 0 where
     pub inside : s < length (P .modules)
     pub types : length (g .types) ≡ length (moduleAt P s .types)
-    pub typed : All Formed (g .types) → (q : ℕ) → 2 ≤ q → q ≤ 9 → Within q (g .effect) → TypedS P sh (map tyOf (g .types)) q (moduleAt P s .body)
+    pub typed : All Formed (g .types) → (q : ℕ) → 2 ≤ q → q ≤ 9 → Within q (g .effect)
+        → TypedS P sh (map tyOf (g .types)) q (moduleAt P s .body)
 
   abbrev pub KnownBelow : List Signature → Type 0
   KnownBelow below = (s : ℕ) → s < length below → Known (signatureAt below s) s
@@ -156,7 +176,8 @@ module _ (P : Program) (sh : List CellTyping) (env : Setting) (Q : ℕ → Type 
     count : length types ≡ length (moduleAt P s .types)
     body : TypedS P sh types p (moduleAt P s .body)
 
-  started : {Γ : List ℕ} {xs : List Expr} (p s : ℕ) (e : Effect) (f : Signature) → Known f s → 2 ≤ p → p ≤ 9 → All Formed Γ → All (LaidE Q n) xs → Within p (e ∪ f .effect)
+  started : {Γ : List ℕ} {xs : List Expr} (p s : ℕ) (e : Effect) (f : Signature) → Known f s → 2 ≤ p
+      → p ≤ 9 → All Formed Γ → All (LaidE Q n) xs → Within p (e ∪ f .effect)
       → HaveTypes (env .cells) Γ xs (f .types) e → AllPublic (f .types) → Startable Γ p s xs
   started p s e f y l m g a w ds ps =
       let r = args-typed p m g a (in-left p e (f .effect) w) ps ds in
@@ -171,7 +192,8 @@ module _ (P : Program) (sh : List CellTyping) (env : Setting) (Q : ℕ → Type 
   -- ---- statements
 
   st-typed : {below : List Signature} {Γ : List ℕ} {at : Standing} {x : Stmt} {e : Effect} {b : Bool} {d : ℕ} (p : ℕ)
-      → KnownBelow below → Stands at p → All Formed Γ → LaidS Q n d x → Within p e → Runs env below Γ at x e b → TypedS P sh (map tyOf Γ) p x
+      → KnownBelow below → Stands at p → All Formed Γ → LaidS Q n d x → Within p e
+      → Runs env below Γ at x e b → TypedS P sh (map tyOf Γ) p x
   st-typed p k s g a w Runs.nothing = s-nothing
   st-typed p k s g (LaidS.seq a b) w (Runs.seq {e = e} {f = f} c d) = s-seq (st-typed p k s g a (in-left p e f w) c) (st-typed p k s g b (in-right p e f w) d)
   st-typed p k (on l m) g (LaidS.do-at h a) w (Runs.do-unlinked {e = e} r v) = s-do {p = p} {q = 1} (λ z _. omega (arith, l, z)) (st-typed 1 k off g a (within-members 1 e v) r)
@@ -200,7 +222,8 @@ module _ (P : Program) (sh : List CellTyping) (env : Setting) (Q : ℕ → Type 
 
   -- ---- modules: those below are typed first
 
-  known-snoc : (below : List Signature) (g : Signature) → KnownBelow below → Known g (length below) → KnownBelow (below ++ (g ∷ []))
+  known-snoc : (below : List Signature) (g : Signature) → KnownBelow below → Known g (length below)
+      → KnownBelow (below ++ (g ∷ []))
   known-snoc below g k y s h = go (decLt s (length below))
     where
       go : Dec (s < length below) → Known (signatureAt (below ++ (g ∷ [])) s) s
@@ -210,13 +233,16 @@ module _ (P : Program) (sh : List CellTyping) (env : Setting) (Q : ℕ → Type 
           let e : length below ≡ s = omega (arith, m) in
           subst (λ (x : Signature). Known x s) (sym (getD-at below g [] noSignature s e)) (subst (Known g) e y)
 
-  module-here : (before : List Part) (m : Part) (ms : List Part) (s : ℕ) → P .modules ≡ before ++ (m ∷ ms) → length before ≡ s → (s < length (P .modules)) × (moduleAt P s ≡ m)
+  module-here : (before : List Part) (m : Part) (ms : List Part) (s : ℕ)
+      → P .modules ≡ before ++ (m ∷ ms) → length before ≡ s
+      → (s < length (P .modules)) × (moduleAt P s ≡ m)
   module-here before m ms s e l =
       let a = ap length e in
       let b = length-append before (m ∷ ms) in
       (omega arith, ap (λ (ps : List Part). getD ps s noModule) e ∙ getD-at before m ms noModule s l)
 
-  known-module : {below : List Signature} {m : Part} {e : Effect} {b : Bool} (s : ℕ) → s < length (P .modules) → moduleAt P s ≡ m → KnownBelow below → LaidS Q n 24 (m .body)
+  known-module : {below : List Signature} {m : Part} {e : Effect} {b : Bool} (s : ℕ)
+      → s < length (P .modules) → moduleAt P s ≡ m → KnownBelow below → LaidS Q n 24 (m .body)
       → Runs env below (m .types) linked (m .body) e b → Known (signature m e) s
   known-module {m = m} s l q k a r = record {
     inside = l;
@@ -225,7 +251,9 @@ module _ (P : Program) (sh : List CellTyping) (env : Setting) (Q : ℕ → Type 
   }
 
   -- `main`, the last, runs at home
-  pub main-typed : {below : List Signature} (before ms : List Part) → P .modules ≡ before ++ ms → length before ≡ length below → KnownBelow below → All (λ (m : Part). LaidS Q n 24 (m .body)) ms → LastPlain ms
+  pub main-typed : {below : List Signature} (before ms : List Part) → P .modules ≡ before ++ ms
+      → length before ≡ length below → KnownBelow below
+      → All (λ (m : Part). LaidS Q n 24 (m .body)) ms → LastPlain ms
       → Modules env below ms → TypedS P sh [] 2 (mainOf P .body)
   main-typed {below} before (m ∷ []) e l k (All.more a rest) (LastPlain.last t) (Modules.main {e = f} r w) =
       let h = module-here before m [] (length (P .modules) - 1) e (let x = ap length e in let y = length-append before (m ∷ []) in omega arith) in

@@ -1,4 +1,5 @@
--- Each choice on a good state is neither foreign nor stuck, and leaves a good state: one case for each statement. Assumes nothing.
+-- Each choice on a good state is neither foreign nor stuck, and leaves a good state: one case for
+-- each statement. Assumes nothing.
 use mathlib.Core.Path.{_≡_, refl, sym, ap, subst, _∙_}
 use mathlib.Core.Logic.{inl, inr, _≢_}
 use mathlib.Core.List.{List, [], _∷_, _++_}
@@ -16,23 +17,39 @@ use Rattle.program.specs.Programs.{Program, moduleAt}
 use Rattle.machine.specs.State.{State, Item, run, back, drop, Thread, Entry, threadAt, schedulerAt}
 use Rattle.machine.specs.Waits.{readyThreads, stillWaiting}
 use Rattle.machine.specs.Evaluation.{Here, Evaluated, Evaluation, eval, storing}
-use Rattle.machine.specs.Turns.{Stepped, Turn, here, continuation, variables, refuse, accept, behind, evaluator, goOn, withValue, withValues, byCondition, selfAt, settled, isSchedulerOf, leave, room, fits, unlinkedHere, stay, move, goTo}
-use Rattle.machine.specs.Steps.{isUnlinked, stepThreadWithin, nobody, turnInstant, endInstant, step, stepWithin}
+use Rattle.machine.specs.Turns.{Stepped, Turn, here, continuation, variables, refuse, accept}
+use Rattle.machine.specs.Turns.{behind, evaluator, goOn, withValue, withValues, byCondition, selfAt}
+use Rattle.machine.specs.Turns.{settled, isSchedulerOf, leave, room, fits, unlinkedHere, stay, move}
+use Rattle.machine.specs.Turns.{goTo}
+use Rattle.machine.specs.Steps.{isUnlinked, stepThreadWithin, nobody, turnInstant, endInstant, step}
+use Rattle.machine.specs.Steps.{stepWithin}
 use Rattle.machine.specs.inner.Parts.{stepItems, stepThread, turn, stepScheduler}
-use Rattle.machine.specs.Statements.{ends, drops, goesBack, stepNothing, stepSeq, stepDo, started, newThread, starting, stepStart, startedWait, stepStartWait, stepCooperate, stepLet, stepStore, stepIf, stepWhile, stepStatement}
+use Rattle.machine.specs.Statements.{ends, drops, goesBack, stepNothing, stepSeq, stepDo, started}
+use Rattle.machine.specs.Statements.{newThread, starting, stepStart, startedWait, stepStartWait}
+use Rattle.machine.specs.Statements.{stepCooperate, stepLet, stepStore, stepIf, stepWhile}
+use Rattle.machine.specs.Statements.{stepStatement}
 use Rattle.machine.specs.declared.value.Value.{Value}
 use Rattle.machine.specs.declared.value.Outcome.{Outcome}
 use Rattle.machine.specs.declared.value.Outcome.the-variants.{Is, Spent}
 use Rattle.machine.proofs.Tests.{not-both, taken, passed}
-use Rattle.machine.proofs.Space.{Counted, acting-with, free-same, unlinked-free, Acting, room-one, room-two, leave-threads, nth-length}
-use Rattle.machine.proofs.Continuations.{Roomy, no-items, run-item, fits-true, roomy-seq, roomy-do, roomy-let, roomy-while, roomy-then, roomy-else, below-run, below-back, below-drop, drop-finds}
+use Rattle.machine.proofs.Space.{Counted, acting-with, free-same, unlinked-free, Acting, room-one}
+use Rattle.machine.proofs.Space.{room-two, leave-threads, nth-length}
+use Rattle.machine.proofs.Continuations.{Roomy, no-items, run-item, fits-true, roomy-seq, roomy-do}
+use Rattle.machine.proofs.Continuations.{roomy-let, roomy-while, roomy-then, roomy-else, below-run}
+use Rattle.machine.proofs.Continuations.{below-back, below-drop, drop-finds}
 use Rattle.machine.proofs.Depth.{BodiesFit}
 use Rattle.safety.specs.Safety.{Sound}
-use Rattle.safety.proofs.Typing.{Ty, tru, Pub, CellTyping, Store, TypedE, Args, TypedS, s-nothing, s-seq, s-do, s-start, s-start-wait, s-cooperate, s-let, s-store, s-if, s-while}
-use Rattle.safety.proofs.Heap.{Val, is-tru, GoodCells, More, Vals, none, more, val-more, vals-more, shared-more, vals-public, vals-length, vals-snoc, vals-take}
+use Rattle.safety.proofs.Typing.{Ty, tru, Pub, CellTyping, Store, TypedE, Args, TypedS}
+use Rattle.safety.proofs.Typing.{s-nothing, s-seq, s-do, s-start, s-start-wait, s-cooperate}
+use Rattle.safety.proofs.Typing.{s-let, s-store, s-if, s-while}
+use Rattle.safety.proofs.Heap.{Val, is-tru, GoodCells, More, Vals, none, more, val-more}
+use Rattle.safety.proofs.Heap.{vals-more, shared-more, vals-public, vals-length, vals-snoc}
+use Rattle.safety.proofs.Heap.{vals-take}
 use Rattle.safety.proofs.Evaluates.{FineO, well, spent, Fine, fine-eval, fine-storing}
 use Rattle.safety.proofs.Threads.{each-nth, each-map}
-use Rattle.safety.proofs.Invariant.{TypedItems, p-empty, p-run, p-back, p-drop, GoodThread, GoodIn, Good, no-thread, thread-more, settled-good, left-good, enlisted-good, started-good}
+use Rattle.safety.proofs.Invariant.{TypedItems, p-empty, p-run, p-back, p-drop, GoodThread}
+use Rattle.safety.proofs.Invariant.{GoodIn, Good, no-thread, thread-more, settled-good}
+use Rattle.safety.proofs.Invariant.{left-good, enlisted-good, started-good}
 
 module _ (P : Program) (sh : List CellTyping) where
   -- what a choice gives on a good state
@@ -40,7 +57,9 @@ module _ (P : Program) (sh : List CellTyping) where
     pub good : Good P sh (r .state)
     pub sound : Sound (r .answer)
 
-  -- a turn in which the evaluations so far went well: the state it was given is good (a refusal goes back to it), and so are its threads with the cells made so far, under a larger store typing. Γ types the acting thread's variables
+  -- a turn in which the evaluations so far went well: the state it was given is good (a refusal
+  -- goes back to it), and so are its threads with the cells made so far, under a larger store
+  -- typing. Γ types the acting thread's variables
   pub record Ready (Γ : List Ty) (u : Turn) : Type 0 where
     pub before : Good P sh (u .state)
     pub acting : Acting u
@@ -58,13 +77,15 @@ module _ (P : Program) (sh : List CellTyping) where
   ok-accept u s g = record { good = g; sound = (λ e. omega (arith, e), λ e. omega (arith, e)) }
 
   ok-stay : {Γ : List Ty} (u : Turn) (items : List Item) (vs : List Value) (Δ : List Ty) (r : Ready Γ u)
-      → Vals (r .typing) (u .thread) vs Δ → TypedItems P sh Δ (here u) items → Roomy (length vs) items → Okay (stay u items vs)
+      → Vals (r .typing) (u .thread) vs Δ → TypedItems P sh Δ (here u) items
+      → Roomy (length vs) items → Okay (stay u items vs)
   unfolding stay
   ok-stay u items vs Δ r v p o =
       taken Okay (fits (u .spaces) items vs) _ _ (fits-true (u .spaces) (r .acting .spaces) items vs o)
       (ok-accept u _ (r .typing, settled-good P sh u (selfAt u (here u) items vs) (r .now) (record { types = Δ; vars = v; typed = p; roomy = o })))
 
-  ok-move : {Γ : List Ty} (u : Turn) (q : ℕ) (items : List Item) (r : Ready Γ u) → TypedItems P sh Γ q items → Roomy (length (variables u)) items → Okay (move u q items)
+  ok-move : {Γ : List Ty} (u : Turn) (q : ℕ) (items : List Item) (r : Ready Γ u)
+      → TypedItems P sh Γ q items → Roomy (length (variables u)) items → Okay (move u q items)
   unfolding move
   ok-move {Γ} u q items r p o =
       let g = left-good P sh u (selfAt u q items (variables u)) (r .now) (record { types = Γ; vars = r .vars; typed = p; roomy = o }) in
@@ -72,7 +93,8 @@ module _ (P : Program) (sh : List CellTyping) where
       (if-all Okay (eqb q 1) _ _ (λ _. ok-accept u _ (r .typing, g))
       (λ _. taken Okay (room u 1 q) _ _ (room-one u (r .acting) q) (ok-accept u _ (enlisted-good P sh q _ _ (r .typing, g)))))
 
-  ok-goTo : {Γ : List Ty} (u : Turn) (q : ℕ) (items : List Item) (r : Ready Γ u) → TypedItems P sh Γ q items → Roomy (length (variables u)) items → Okay (goTo u q items)
+  ok-goTo : {Γ : List Ty} (u : Turn) (q : ℕ) (items : List Item) (r : Ready Γ u)
+      → TypedItems P sh Γ q items → Roomy (length (variables u)) items → Okay (goTo u q items)
   unfolding goTo
   ok-goTo {Γ} u q items r p o =
       if-all Okay (eqb q (here u)) _ _
@@ -81,7 +103,8 @@ module _ (P : Program) (sh : List CellTyping) where
 
   -- ---- evaluations in a turn: any refusal of them is 17
 
-  behind-ready : {Γ : List Ty} (u : Turn) (e : Evaluated) (r : Ready Γ u) (Σ : Store) → More (r .typing) Σ → GoodCells Σ (e .cells) → Ready Γ (behind u e)
+  behind-ready : {Γ : List Ty} (u : Turn) (e : Evaluated) (r : Ready Γ u) (Σ : Store)
+      → More (r .typing) Σ → GoodCells Σ (e .cells) → Ready Γ (behind u e)
   behind-ready u e r Σ m g =
       record {
         before = r .before;
@@ -92,17 +115,24 @@ module _ (P : Program) (sh : List CellTyping) where
         program = r .program;
       }
 
-  ok-goOn : {Γ : List Ty} {τ : Ty} (u : Turn) (e : Evaluated) (o : Outcome) (k : Value → Turn → Stepped) (r : Ready Γ u) → FineO (r .typing) (u .thread) τ (e .cells) o
-      → ((v : Value) (q : Ready Γ (behind u e)) → More (r .typing) (q .typing) → Val (q .typing) (u .thread) v τ → Okay (k v (behind u e))) → Okay (goOn (behind u e) o k)
+  ok-goOn : {Γ : List Ty} {τ : Ty} (u : Turn) (e : Evaluated) (o : Outcome) (k : Value → Turn → Stepped) (r : Ready Γ u)
+      → FineO (r .typing) (u .thread) τ (e .cells) o
+      → ((v : Value) (q : Ready Γ (behind u e)) → More (r .typing) (q .typing) → Val (q .typing) (u .thread) v τ → Okay (k v (behind u e)))
+      → Okay (goOn (behind u e) o k)
   unfolding behind-ready
   ok-goOn u e (Is v) k r (well Σ m g w) h = h v (behind-ready u e r Σ m g) m w
-  ok-goOn u e Spent k r spent h = record { good = r .before; sound = (λ x. omega (arith, x), λ x. omega (arith, x)) }
+  ok-goOn u e Spent k r spent h =
+      record { good = r .before; sound = (λ x. omega (arith, x), λ x. omega (arith, x)) }
 
-  ok-value : {Γ : List Ty} {τ : Ty} (u : Turn) (m : Here → Evaluation) (k : Value → Turn → Stepped) (r : Ready Γ u) → Fine (r .typing) (u .thread) τ (m (evaluator u) (u .cells))
-      → ((e : Evaluated) (v : Value) (q : Ready Γ (behind u e)) → More (r .typing) (q .typing) → Val (q .typing) (u .thread) v τ → Okay (k v (behind u e))) → Okay (withValue u m k)
-  ok-value u m k r f h = let e : Evaluated = m (evaluator u) (u .cells) in ok-goOn u e (e .outcome) k r f (h e)
+  ok-value : {Γ : List Ty} {τ : Ty} (u : Turn) (m : Here → Evaluation) (k : Value → Turn → Stepped) (r : Ready Γ u)
+      → Fine (r .typing) (u .thread) τ (m (evaluator u) (u .cells))
+      → ((e : Evaluated) (v : Value) (q : Ready Γ (behind u e)) → More (r .typing) (q .typing) → Val (q .typing) (u .thread) v τ → Okay (k v (behind u e)))
+      → Okay (withValue u m k)
+  ok-value u m k r f h =
+      let e : Evaluated = m (evaluator u) (u .cells) in ok-goOn u e (e .outcome) k r f (h e)
 
-  ok-by : {Σ : Store} {t : ℕ} {v : Value} (u : Turn) (a b : Stepped) → Val Σ t v tru → Okay a → Okay b → Okay (byCondition u v a b)
+  ok-by : {Σ : Store} {t : ℕ} {v : Value} (u : Turn) (a b : Stepped) → Val Σ t v tru → Okay a
+      → Okay b → Okay (byCondition u v a b)
   ok-by u a b (is-tru {b = true}) f g = f
   ok-by u a b (is-tru {b = false}) f g = g
 
@@ -115,11 +145,14 @@ module _ (P : Program) (sh : List CellTyping) where
     shared-here : {Γ : List Ty} (u : Turn) → Ready Γ u → length sh ≡ length (u .program .shared)
     shared-here u r = count ∙ ap (λ (p : Program). length (p .shared)) (sym (r .program))
 
-    fine-in : {Γ : List Ty} {x : Expr} {τ : Ty} (u : Turn) (r : Ready Γ u) → TypedE sh Γ (here u) x τ → Fine (r .typing) (u .thread) τ (eval (evaluator u) x (u .cells))
+    fine-in : {Γ : List Ty} {x : Expr} {τ : Ty} (u : Turn) (r : Ready Γ u)
+        → TypedE sh Γ (here u) x τ
+        → Fine (r .typing) (u .thread) τ (eval (evaluator u) x (u .cells))
     fine-in u r d = fine-eval (evaluator u) (u .cells) (shared-here u r) (r .now .shared) (r .vars) (r .now .cells) d
 
     -- arguments: any number of evaluations, after which the thread itself is as it was
-    ok-values : {Γ Δ : List Ty} (u w : Turn) (xs : List Expr) (k : List Value → Turn → Stepped) (r : Ready Γ w) → w .self ≡ u .self → w .thread ≡ u .thread → Args sh Γ (here u) xs Δ
+    ok-values : {Γ Δ : List Ty} (u w : Turn) (xs : List Expr) (k : List Value → Turn → Stepped) (r : Ready Γ w)
+        → w .self ≡ u .self → w .thread ≡ u .thread → Args sh Γ (here u) xs Δ
         → ((vs : List Value) (y : Turn) (q : Ready Γ y) → y .self ≡ u .self → y .thread ≡ u .thread → More (r .typing) (q .typing) → Vals (q .typing) (y .thread) vs Δ → Okay (k vs y))
         → Okay (withValues w xs k)
     unfolding withValues
@@ -131,8 +164,10 @@ module _ (P : Program) (sh : List CellTyping) where
         (more (val-more m′ (subst (λ (j : ℕ). Val (q .typing) j v τ) (f ∙ sym f′) z)) zs)))
 
     -- nothing stands in the way of a start but that there are 64 threads: 18
-    ok-starting : {Γ : List Ty} (u : Turn) (m : ℕ) (vs : List Value) (s : Stepped) (r : Ready Γ u) → 2 ≤ here u → m < length (P .modules)
-        → length vs ≡ length (moduleAt P m .types) → (length (u .state .threads) < 64 → Okay s) → Okay (starting u m vs s)
+    ok-starting : {Γ : List Ty} (u : Turn) (m : ℕ) (vs : List Value) (s : Stepped) (r : Ready Γ u)
+        → 2 ≤ here u → m < length (P .modules)
+        → length vs ≡ length (moduleAt P m .types) → (length (u .state .threads) < 64 → Okay s)
+        → Okay (starting u m vs s)
     unfolding starting
     ok-starting u m vs s r l b c h =
         passed Okay (unlinkedHere u) _ _ (ne-eqb (here u) 1 (λ e. omega (arith, e)))
@@ -145,9 +180,12 @@ module _ (P : Program) (sh : List CellTyping) where
         (λ _. ok-refuse u 18 r (λ e. omega (arith, e)) (λ e. omega (arith, e)))
         (λ e. h (leb-false 64 (length (u .state .threads)) e))))))
 
-    -- the started thread: its variables are the arguments, which are public, so they have their types in its eyes too
-    new-good-thread : {Γ Δ : List Ty} (u : Turn) (m : ℕ) (vs : List Value) (r : Ready Γ u) → m < length (P .modules) → length vs ≡ length (moduleAt P m .types)
-        → Vals (r .typing) (u .thread) vs Δ → All Pub Δ → TypedS P sh Δ (here u) (moduleAt P m .body)
+    -- the started thread: its variables are the arguments, which are public, so they have their
+    -- types in its eyes too
+    new-good-thread : {Γ Δ : List Ty} (u : Turn) (m : ℕ) (vs : List Value) (r : Ready Γ u)
+        → m < length (P .modules) → length vs ≡ length (moduleAt P m .types)
+        → Vals (r .typing) (u .thread) vs Δ → All Pub Δ
+        → TypedS P sh Δ (here u) (moduleAt P m .body)
         → GoodThread P sh (r .typing) (newThread u) (started u (moduleAt (u .program) m) vs)
     new-good-thread {Δ = Δ} u m vs r b c v k d =
         subst (λ (p : Program). GoodThread P sh (r .typing) (newThread u) (started u (moduleAt p m) vs)) (sym (r .program))
@@ -155,14 +193,19 @@ module _ (P : Program) (sh : List CellTyping) where
           types = Δ;
           vars = vals-public (newThread u) k v;
           typed = p-run d (p-empty k);
-          roomy = let g = bodies m b in run-item {n = length vs} {x = moduleAt P m .body} {l = []} (omega (arith, g .0)) (omega (arith, g .1, c)) (no-items {n = length vs} (omega (arith, g .1, c)));
+          roomy =
+              let g = bodies m b in
+              run-item {n = length vs} {x = moduleAt P m .body} {l = []} (omega (arith, g .0)) (omega (arith, g .1, c)) (no-items {n = length vs} (omega (arith, g .1, c)));
         })
 
     one-more : (vs : List Value) (v : Value) → suc (length vs) ≡ length (vs ++ (v ∷ []))
     one-more vs v = let a = length-append vs (v ∷ []) in omega arith
 
     -- the acting thread as it is, its top item taken
-    self-good : {Γ : List Ty} (u y : Turn) (q : Ready Γ y) → y .self ≡ u .self → TypedItems P sh Γ (here u) (continuation u) → Roomy (length (variables u)) (continuation u) → GoodThread P sh (q .typing) (y .thread) (y .self)
+    self-good : {Γ : List Ty} (u y : Turn) (q : Ready Γ y) → y .self ≡ u .self
+        → TypedItems P sh Γ (here u) (continuation u)
+        → Roomy (length (variables u)) (continuation u)
+        → GoodThread P sh (q .typing) (y .thread) (y .self)
     self-good {Γ} u y q e p o =
         record {
           types = Γ;
@@ -173,15 +216,20 @@ module _ (P : Program) (sh : List CellTyping) where
 
     -- ---- each statement
 
-    ok-statement : {Γ : List Ty} (u : Turn) (x : Stmt) (r : Ready Γ u) → TypedS P sh Γ (here u) x → TypedItems P sh Γ (here u) (continuation u) → Roomy (length (variables u)) (run x ∷ continuation u) → Okay (stepStatement u x)
+    ok-statement : {Γ : List Ty} (u : Turn) (x : Stmt) (r : Ready Γ u) → TypedS P sh Γ (here u) x
+        → TypedItems P sh Γ (here u) (continuation u)
+        → Roomy (length (variables u)) (run x ∷ continuation u) → Okay (stepStatement u x)
     unfolding stepNothing stepSeq stepDo stepStart startedWait stepStartWait stepCooperate stepLet stepStore stepIf stepWhile
-    ok-statement {Γ} u x r s-nothing p o = ok-stay u (continuation u) (variables u) Γ r (r .vars) p (below-run o)
-    ok-statement {Γ} u x r (s-seq a b) p o = ok-stay u _ (variables u) Γ r (r .vars) (p-run a (p-run b p)) (roomy-seq o)
+    ok-statement {Γ} u x r s-nothing p o =
+        ok-stay u (continuation u) (variables u) Γ r (r .vars) p (below-run o)
+    ok-statement {Γ} u x r (s-seq a b) p o =
+        ok-stay u _ (variables u) Γ r (r .vars) (p-run a (p-run b p)) (roomy-seq o)
     -- 12: its rule types A at q, and the rest waits below a 'back' to this place
     ok-statement {Γ} u x r (s-do {q = q} {a = a} f d) p o =
         passed Okay (unlinkedHere u && eqb q 1) _ _ (not-both (unlinkedHere u) (eqb q 1) (λ g h. f (eqb-true (here u) 1 g) (eqb-true q 1 h)))
         (ok-goTo u q _ r (p-run d (p-back p)) (roomy-do (here u) o))
-    -- 13: the module is there, with as many parameters, and its body is typed at this place, since its effect is part of the starter's
+    -- 13: the module is there, with as many parameters, and its body is typed at this place, since
+    -- its effect is part of the starter's
     ok-statement {Γ} u x r (s-start {Δ = Δ} {m = m} {xs = xs} l b ga c d) p o =
         ok-values u u xs _ r refl refl ga
         (λ vs y q e f mo zs. ok-starting y m vs _ q (subst (λ (t : Thread). 2 ≤ t .place) (sym e) l) b (vals-length zs ∙ c)
@@ -229,14 +277,18 @@ module _ (P : Program) (sh : List CellTyping) where
         (ok-stay (behind u e) _ (variables u) Γ q (q .vars) (p-run b (p-run (s-while d b) p)) (roomy-while o))
         (ok-stay (behind u e) _ (variables u) Γ q (q .vars) p (below-run o)))
 
-    -- ---- each item: the acting thread, whose variables are of types Γ, takes the top of that continuation
+    -- ---- each item: the acting thread, whose variables are of types Γ, takes the top of that
+    -- continuation
 
-    turn-ready : (s : State) (c t : ℕ) (Σ : Store) (Γ : List Ty) (items : List Item) → GoodIn P sh Σ (s .threads) (s .cells) → Acting (turn P s c t [])
+    turn-ready : (s : State) (c t : ℕ) (Σ : Store) (Γ : List Ty) (items : List Item)
+        → GoodIn P sh Σ (s .threads) (s .cells) → Acting (turn P s c t [])
         → Vals Σ t (threadAt s t .variables) Γ → Ready Γ (turn P s c t items)
     turn-ready s c t Σ Γ items g a v = record { before = (Σ, g); acting = acting-with P s c t items a; typing = Σ; now = g; vars = v; program = refl }
 
-    ok-items : (s : State) (c t : ℕ) (Σ : Store) (Γ : List Ty) (items : List Item) → GoodIn P sh Σ (s .threads) (s .cells) → Acting (turn P s c t [])
-        → Vals Σ t (threadAt s t .variables) Γ → TypedItems P sh Γ (threadAt s t .place) items → Roomy (length (threadAt s t .variables)) items → Okay (stepItems P s c t items)
+    ok-items : (s : State) (c t : ℕ) (Σ : Store) (Γ : List Ty) (items : List Item)
+        → GoodIn P sh Σ (s .threads) (s .cells) → Acting (turn P s c t [])
+        → Vals Σ t (threadAt s t .variables) Γ → TypedItems P sh Γ (threadAt s t .place) items
+        → Roomy (length (threadAt s t .variables)) items → Okay (stepItems P s c t items)
     unfolding ends drops goesBack turn-ready
     ok-items s c t Σ Γ [] g a v (p-empty k) o =
         ok-accept (turn P s c t []) _ (Σ, left-good P sh (turn P s c t []) _ g (record { types = Γ; vars = v; typed = p-empty k; roomy = o }))
@@ -259,7 +311,8 @@ module _ (P : Program) (sh : List CellTyping) where
 
     -- ---- each choice
 
-    ok-thread : (s : State) (c t : ℕ) → Good P sh s → Acting (turn P s c t []) → Okay (stepThread P s c t)
+    ok-thread : (s : State) (c t : ℕ) → Good P sh s → Acting (turn P s c t [])
+        → Okay (stepThread P s c t)
     unfolding stepThreadWithin
     ok-thread s c t g a =
         let x = each-nth t (g .1 .threads) (no-thread P sh (g .0) t) in
@@ -269,13 +322,17 @@ module _ (P : Program) (sh : List CellTyping) where
     ok-nobody k s g h = record { good = g; sound = h }
 
     -- the end of an instant: only lists change
-    ok-instant : (s : State) (c : ℕ) (ts : List ℕ) (es : List Entry) → Good P sh s → Okay (turnInstant s c ts es)
+    ok-instant : (s : State) (c : ℕ) (ts : List ℕ) (es : List Entry) → Good P sh s
+        → Okay (turnInstant s c ts es)
     ok-instant s c [] es g = ok-nobody 16 s g (λ e. omega (arith, e), λ e. omega (arith, e))
     ok-instant s c (t ∷ ts) es g = ok-nobody 0 _ g (λ e. omega (arith, e), λ e. omega (arith, e))
 
-    ok-scheduler : (s : State) (c : ℕ) (ts : List ℕ) → Good P sh s → Counted s → isSchedulerOf P c ≡ true → ts ≡ schedulerAt s c .active → Okay (stepScheduler P s c ts)
+    ok-scheduler : (s : State) (c : ℕ) (ts : List ℕ) → Good P sh s → Counted s
+        → isSchedulerOf P c ≡ true → ts ≡ schedulerAt s c .active → Okay (stepScheduler P s c ts)
     unfolding endInstant
-    ok-scheduler s c [] g h i e = let es = schedulerAt s c .next in ok-instant s c (readyThreads (s .threads) es) (stillWaiting (s .threads) es) g
+    ok-scheduler s c [] g h i e =
+        let es = schedulerAt s c .next in
+        ok-instant s c (readyThreads (s .threads) es) (stillWaiting (s .threads) es) g
     ok-scheduler s c (t ∷ ts) g h i e =
         let k = ap (length {A = ℕ}) e in
         ok-thread s c t g (record { counted = h; stands = inl (i, omega arith); same = free-same P s c t; spaces = refl })

@@ -1,4 +1,5 @@
--- The shared cells of a file that passes refusal 5 have well-formed types, and their first contents have these types. Assumes nothing.
+-- The shared cells of a file that passes refusal 5 have well-formed types, and their first contents
+-- have these types. Assumes nothing.
 use mathlib.Core.Path.{_≡_, refl, sym, ap, subst, _∙_}
 use mathlib.Core.Logic.{inr, ⊎-elim}
 use mathlib.Core.Bool.{true}
@@ -21,8 +22,10 @@ use Rattle.machine.specs.declared.value.Value.{Value}
 use Rattle.machine.specs.declared.value.Value.the-variants.{Number, Cell}
 use Rattle.reach.proofs.Cells.{CellFine, CellsFine}
 use Rattle.safety.proofs.Typing.{CellTyping, Store, At, here, there}
-use Rattle.safety.proofs.Heap.{Val, is-num, is-tru, is-cell, Held, by-place, GoodCells, SharedOk, storeOf, store-at, at-store, typing-at}
-use Rattle.safety.proofs.TypeWords.{tyOf, ty-number, ty-truth, ty-cell, Formed, formed-plain, ContentWord, content-word}
+use Rattle.safety.proofs.Heap.{Val, is-num, is-tru, is-cell, Held, by-place, GoodCells}
+use Rattle.safety.proofs.Heap.{SharedOk, storeOf, store-at, at-store, typing-at}
+use Rattle.safety.proofs.TypeWords.{tyOf, ty-number, ty-truth, ty-cell, Formed, formed-plain}
+use Rattle.safety.proofs.TypeWords.{ContentWord, content-word}
 use Rattle.safety.proofs.Places.{SharedIs}
 
 -- the store typing has this of a shared cell
@@ -47,7 +50,8 @@ module _ {Q : ℕ → Type 0} {n : ℕ} where
 
 -- ---- their types
 
-pub shared-is : (xs : List SharedCell) → All Well xs → (s : ℕ) → s < length (map typeOfShared xs) → SharedIs (map typingOf xs) (map typeOfShared xs) s
+pub shared-is : (xs : List SharedCell) → All Well xs → (s : ℕ) → s < length (map typeOfShared xs)
+    → SharedIs (map typingOf xs) (map typeOfShared xs) s
 shared-is [] g s l = absurd (omega arith)
 shared-is (x ∷ xs) (All.more h g) zero l =
     let a = h .low in
@@ -58,13 +62,17 @@ shared-is (x ∷ xs) (All.more h g) zero l =
       same = ty-cell (x .owner) (x .content) (omega arith) (h .high) (w .room);
       formed = Formed.around-of {o = x .owner} (omega arith) (h .high) (w .room) (λ _. w .public) (w .formed);
     }
-shared-is (x ∷ xs) (All.more h g) (suc s) l = let r = shared-is xs g s (omega arith) in record { typing = r .typing; at = there (r .at); same = r .same; formed = r .formed }
+shared-is (x ∷ xs) (All.more h g) (suc s) l =
+    let r = shared-is xs g s (omega arith) in
+    record { typing = r .typing; at = there (r .at); same = r .same; formed = r .formed }
 
-owner-of : {s : ℕ} {k : CellTyping} (xs : List SharedCell) → All Well xs → At (map typingOf xs) s k → (2 ≤ k .own) × (k .own ≤ 9)
+owner-of : {s : ℕ} {k : CellTyping} (xs : List SharedCell) → All Well xs → At (map typingOf xs) s k
+    → (2 ≤ k .own) × (k .own ≤ 9)
 owner-of (x ∷ xs) (All.more h g) here = (h .low, h .high)
 owner-of (x ∷ xs) (All.more h g) (there a) = owner-of xs g a
 
-pub shared-owners : (xs : List SharedCell) → All Well xs → SharedOk (storeOf (map typingOf xs)) (map typingOf xs)
+pub shared-owners : (xs : List SharedCell) → All Well xs
+    → SharedOk (storeOf (map typingOf xs)) (map typingOf xs)
 shared-owners xs g s k a = let r = owner-of xs g a in (store-at a, r .0, r .1)
 
 -- ---- their first contents, in anybody's eyes
@@ -73,7 +81,9 @@ module _ (all : List SharedCell) (wells : All Well all) where
   Σ = storeOf (map typingOf all)
 
   -- a cell type: an earlier shared cell of that type
-  earlier : {Q : ℕ → Type 0} {n : ℕ} (before rest : List SharedCell) (x : SharedCell) → all ≡ before ++ rest → CellFine Q n before x → isCell (x .content) ≡ true → (t : ℕ) → Val Σ t (Cell (x .first)) (tyOf (x .content))
+  earlier : {Q : ℕ → Type 0} {n : ℕ} (before rest : List SharedCell) (x : SharedCell)
+      → all ≡ before ++ rest → CellFine Q n before x → isCell (x .content) ≡ true → (t : ℕ)
+      → Val Σ t (Cell (x .first)) (tyOf (x .content))
   unfolding firstContentFine
   earlier before rest x e f c t =
       let w = and-true (ltb (x .first) (length (map typeOfShared before))) (eqb (getD (map typeOfShared before) (x .first) 0) (x .content)) (sym (if-yes _ _ c) ∙ f .first) in
@@ -87,7 +97,9 @@ module _ (all : List SharedCell) (wells : All Well all) where
       ap (λ (ts : List ℕ). getD ts (x .first) 0) a ∙ List·getD-append (map typeOfShared before) (map typeOfShared rest) 0 (x .first) l ∙ eqb-true _ _ (w .1) in
       subst (Val Σ t (Cell (x .first))) (sym (r .same) ∙ ap tyOf q) (is-cell (store-at (r .at)) (inr (o .0, o .1, refl)))
 
-  first-typed : {Q : ℕ → Type 0} {n : ℕ} (before rest : List SharedCell) (x : SharedCell) → all ≡ before ++ rest → CellFine Q n before x → Formed (x .content) → (t : ℕ) → Val Σ t (firstContent (x .content) (x .first)) (tyOf (x .content))
+  first-typed : {Q : ℕ → Type 0} {n : ℕ} (before rest : List SharedCell) (x : SharedCell)
+      → all ≡ before ++ rest → CellFine Q n before x → Formed (x .content) → (t : ℕ)
+      → Val Σ t (firstContent (x .content) (x .first)) (tyOf (x .content))
   unfolding firstContent
   first-typed before rest x e f g t =
       if-all (λ (v : Value). Val Σ t v (tyOf (x .content))) (isCell (x .content)) _ _ (λ c. earlier before rest x e f c t)
@@ -96,12 +108,15 @@ module _ (all : List SharedCell) (wells : All Well all) where
       (λ q. ⊎-elim (λ z. absurd (eqb-false _ _ q z)) (λ z. subst (Val Σ t (truthOf (x .first))) (sym (ap tyOf z ∙ ty-truth)) is-tru) (formed-plain g c)))
 
   -- each shared cell has its owner and holds what it may hold
-  held : {Q : ℕ → Type 0} {n : ℕ} (before xs : List SharedCell) → all ≡ before ++ xs → CellsFine Q n before xs → All Well xs → (c : ℕ) (k : CellTyping) → At (map typingOf xs) c k
+  held : {Q : ℕ → Type 0} {n : ℕ} (before xs : List SharedCell) → all ≡ before ++ xs
+      → CellsFine Q n before xs → All Well xs → (c : ℕ) (k : CellTyping) → At (map typingOf xs) c k
       → (cellAt (map firstCell xs) c .owner ≡ k .own) × Held Σ k (cellAt (map firstCell xs) c .content)
   held before (x ∷ xs) e (CellsFine.more f r) (All.more w ws) zero k here = (refl, by-place (w .low) (w .high) (w .word .public) (first-typed before (x ∷ xs) x e f (w .word .formed)))
-  held before (x ∷ xs) e (CellsFine.more f r) (All.more w ws) (suc c) k (there a) = held (before ++ (x ∷ [])) xs (e ∙ sym (append-assoc before (x ∷ []) xs)) r ws c k a
+  held before (x ∷ xs) e (CellsFine.more f r) (All.more w ws) (suc c) k (there a) =
+      held (before ++ (x ∷ [])) xs (e ∙ sym (append-assoc before (x ∷ []) xs)) r ws c k a
 
-pub first-good : {Q : ℕ → Type 0} {n : ℕ} (xs : List SharedCell) → CellsFine Q n [] xs → GoodCells (storeOf (map typingOf xs)) (map firstCell xs)
+pub first-good : {Q : ℕ → Type 0} {n : ℕ} (xs : List SharedCell) → CellsFine Q n [] xs
+    → GoodCells (storeOf (map typingOf xs)) (map firstCell xs)
 first-good xs f =
     record {
       each = λ c k e. held xs (all-well f) [] xs refl f (all-well f) c k (at-store (map typingOf xs) c e);

@@ -1,4 +1,5 @@
--- Type words as types, and which are well formed: what a scheduler's cell holds is public, all the way in. Assumes nothing.
+-- Type words as types, and which are well formed: what a scheduler's cell holds is public, all the
+-- way in. Assumes nothing.
 use mathlib.Core.Path.{_≡_, refl, sym, ap, subst, _∙_}
 use mathlib.Core.Logic.{_⊎_, inl, inr}
 use mathlib.Core.Bool.{Bool, true, false, not, _&&_, _||_, true≢false}
@@ -11,7 +12,8 @@ use borrow.Author.Tests.{leb-true, le-leb, eqb-true, eq-eqb, ne-eqb}
 use Rattle.basics.specs.If.{if_then_else_}
 use Rattle.basics.proofs.Ifs.{if-yes, if-no, and-true}
 use Rattle.language.specs.Places.{private, hasPlace}
-use Rattle.language.specs.Types.{numberType, truthType, cellDepth, isCell, cellType, ownerOf, contentOf, public, digitOf, ownerDigit, typeWord, contentWord}
+use Rattle.language.specs.Types.{numberType, truthType, cellDepth, isCell, cellType, ownerOf}
+use Rattle.language.specs.Types.{contentOf, public, digitOf, ownerDigit, typeWord, contentWord}
 use Rattle.language.proofs.PlaceLaws.{test-bounds, has-place}
 use Rattle.language.proofs.Words.{depth-0, depth-1, depth-3}
 use Rattle.language.proofs.Cells.{Around, around}
@@ -48,14 +50,17 @@ module _ (o t : ℕ) (low : 1 ≤ o) (high : o ≤ 9) (room : t < 0x1000) where
   is-cell = go (decLt (cellType o t) 0x0010)
     where
       go : Dec (cellType o t < 0x0010) → isCell (cellType o t) ≡ true
-      go (yes l) = let a = depth-0 (cellType o t) l in let b = of-cell .deeper in absurd (omega arith)
+      go (yes l) =
+          let a = depth-0 (cellType o t) l in let b = of-cell .deeper in absurd (omega arith)
       go (no n) = le-leb 0x0010 (cellType o t) (omega (arith, n))
 
--- a number, a truth, or a cell of a place around a well-formed word, which is public where the place is a scheduler
+-- a number, a truth, or a cell of a place around a well-formed word, which is public where the
+-- place is a scheduler
 pub data Formed : ℕ → Type 0 where
   number : Formed numberType
   truth : Formed truthType
-  around-of : {o t : ℕ} → 1 ≤ o → o ≤ 9 → t < 0x1000 → (2 ≤ o → Pub (tyOf t)) → Formed t → Formed (cellType o t)
+  around-of : {o t : ℕ} → 1 ≤ o → o ≤ 9 → t < 0x1000 → (2 ≤ o → Pub (tyOf t)) → Formed t
+      → Formed (cellType o t)
 
 -- what a well-formed cell's type is made of
 pub record CellWord (t : ℕ) : Type 0 where
@@ -73,21 +78,25 @@ formed-cell (Formed.around-of {o = o} {t = t} l h r p f) e =
     record {
       low = omega arith;
       high = omega arith;
-      same = ty-cell o t l h r ∙ ap (λ (q : ℕ). cell q (tyOf t)) (sym w) ∙ ap (λ (u : ℕ). cell (ownerOf (cellType o t)) (tyOf u)) (sym (a .content));
+      same =
+          ty-cell o t l h r ∙ ap (λ (q : ℕ). cell q (tyOf t)) (sym w)
+          ∙ ap (λ (u : ℕ). cell (ownerOf (cellType o t)) (tyOf u)) (sym (a .content));
       inner = subst Formed (sym (a .content)) f;
     }
 
 pub formed-plain : {t : ℕ} → Formed t → isCell t ≡ false → (t ≡ numberType) ⊎ (t ≡ truthType)
 formed-plain Formed.number e = inl refl
 formed-plain Formed.truth e = inr refl
-formed-plain (Formed.around-of {o = o} {t = t} l h r p f) e = absurd (true≢false (sym (is-cell o t l h r) ∙ e))
+formed-plain (Formed.around-of {o =
+    o} {t = t} l h r p f) e = absurd (true≢false (sym (is-cell o t l h r) ∙ e))
 
 -- a public well-formed word is a public type
 pub formed-public : {t : ℕ} → Formed t → public t ≡ true → Pub (tyOf t)
 unfolding public
 formed-public Formed.number e = subst Pub (sym ty-number) tt
 formed-public Formed.truth e = subst Pub (sym ty-truth) tt
-formed-public (Formed.around-of {o = o} {t = t} l h r p f) e = subst Pub (sym (ty-cell o t l h r)) (two (ℕ-discrete o 1))
+formed-public (Formed.around-of {o =
+    o} {t = t} l h r p f) e = subst Pub (sym (ty-cell o t l h r)) (two (ℕ-discrete o 1))
   where
     two : Dec (o ≡ 1) → 2 ≤ o
     two (no n) = omega (arith, n)
@@ -123,7 +132,8 @@ no-digit : (b left o : ℕ) → ownerDigit b left o ≡ true → o ≡ 0 → lef
 unfolding ownerDigit
 no-digit b left o h e = eqb-true left 0 (sym (if-yes (eqb left 0) _ (eq-eqb o 0 e)) ∙ h)
 
-three-digits : (t y : ℕ) → y ≡ t / 0x0010 → t / 0x0100 ≡ y / 0x0010 → t < 0x1000 → t / 0x0100 % 16 * 0x0100 + (y % 16 * 0x0010 + t % 16) ≡ t
+three-digits : (t y : ℕ) → y ≡ t / 0x0010 → t / 0x0100 ≡ y / 0x0010 → t < 0x1000
+    → t / 0x0100 % 16 * 0x0100 + (y % 16 * 0x0010 + t % 16) ≡ t
 three-digits t y e f h = omega arith
 
 module _ (b t : ℕ) (room : t < 0x1000) (word : typeWord b t ≡ true) where
@@ -141,7 +151,8 @@ module _ (b t : ℕ) (room : t < 0x1000) (word : typeWord b t ≡ true) where
       let y = and-true (eqb (digitOf 0 t) numberType || eqb (digitOf 0 t) truthType) (ownerDigit b (digitOf 2 t) (digitOf 1 t)) (x .0) in
       record { last = kind (eqb (digitOf 0 t) 1) refl (y .0); first = y .1; second = x .1 }
     where
-      kind : (k : Bool) → eqb (digitOf 0 t) 1 ≡ k → (k || eqb (digitOf 0 t) truthType) ≡ true → (digitOf 0 t ≡ 1) ⊎ (digitOf 0 t ≡ 2)
+      kind : (k : Bool) → eqb (digitOf 0 t) 1 ≡ k → (k || eqb (digitOf 0 t) truthType) ≡ true
+          → (digitOf 0 t ≡ 1) ⊎ (digitOf 0 t ≡ 2)
       kind true e h = inl (eqb-true _ 1 e)
       kind false e h = inr (eqb-true _ 2 h)
 
@@ -160,14 +171,16 @@ module _ (b t : ℕ) (room : t < 0x1000) (word : typeWord b t ≡ true) where
   around-1 o x a h = ap (λ (d : ℕ). o * 16 ^ suc d + x) (sym (depth-1 x a h))
 
   -- t is of one cell, of two, around its last digit x
-  one-cell : (x : ℕ) → digitOf 0 t ≡ x → Formed x → x < 0x0010 → Pub (tyOf x) → t < 0x0100 → Digit (digitOf 2 t) (digitOf 1 t) → Formed t
+  one-cell : (x : ℕ) → digitOf 0 t ≡ x → Formed x → x < 0x0010 → Pub (tyOf x) → t < 0x0100
+      → Digit (digitOf 2 t) (digitOf 1 t) → Formed t
   one-cell x q f l p h d =
       let e = around-0 (digitOf 1 t) x l in
       let g = d .low in
       let k : cellType (digitOf 1 t) x ≡ t = e ∙ omega arith in
       subst Formed k (Formed.around-of (d .low) (d .high) (omega arith) (λ _. p) f)
 
-  two-cells : (x : ℕ) → digitOf 0 t ≡ x → Formed x → x < 0x0010 → Pub (tyOf x) → Digit (digitOf 2 t) (digitOf 1 t) → Digit (digitOf 3 t) (digitOf 2 t) → Formed t
+  two-cells : (x : ℕ) → digitOf 0 t ≡ x → Formed x → x < 0x0010 → Pub (tyOf x)
+      → Digit (digitOf 2 t) (digitOf 1 t) → Digit (digitOf 3 t) (digitOf 2 t) → Formed t
   two-cells x q f l p d g =
       let e = around-0 (digitOf 1 t) x l in
       let a = d .low in
@@ -184,7 +197,9 @@ module _ (b t : ℕ) (room : t < 0x1000) (word : typeWord b t ≡ true) where
       let z = base (digitOf 0 t) (r .last) in
       go (decLt t 0x0010) (decLt t 0x0100) (z .0) (z .1) (z .2) (r .first) (r .second)
     where
-      go : Dec (t < 0x0010) → Dec (t < 0x0100) → Formed (digitOf 0 t) → digitOf 0 t < 0x0010 → Pub (tyOf (digitOf 0 t)) → ownerDigit b (digitOf 2 t) (digitOf 1 t) ≡ true → ownerDigit b (digitOf 3 t) (digitOf 2 t) ≡ true → Formed t
+      go : Dec (t < 0x0010) → Dec (t < 0x0100) → Formed (digitOf 0 t) → digitOf 0 t < 0x0010
+          → Pub (tyOf (digitOf 0 t)) → ownerDigit b (digitOf 2 t) (digitOf 1 t) ≡ true
+          → ownerDigit b (digitOf 3 t) (digitOf 2 t) ≡ true → Formed t
       go (yes l) _ f k p x y = let e : digitOf 0 t ≡ t = omega arith in subst Formed e f
       go (no m) (yes l) f k p x y = one-cell (digitOf 0 t) refl f k p l (owner-digit b (digitOf 2 t) (digitOf 1 t) x (λ z. omega (arith, m, z)))
       go (no m) (no l) f k p x y =
@@ -210,4 +225,6 @@ content-word b t h =
   where
     fits : Dec (t < 0x1000) → cellDepth t ≤ 2 → t < 0x1000
     fits (yes l) d = l
-    fits (no n) d = let e = depth-3 t (omega (arith, n)) (omega (arith, n)) (omega (arith, n)) in absurd (omega arith)
+    fits (no n) d =
+        let e = depth-3 t (omega (arith, n)) (omega (arith, n)) (omega (arith, n)) in
+        absurd (omega arith)

@@ -1,4 +1,5 @@
--- Every file that passes refusals 4 to 7 and keeps the rules is typed, as demand 3's proof needs it. Assumes nothing.
+-- Every file that passes refusals 4 to 7 and keeps the rules is typed, as demand 3's proof needs
+-- it. Assumes nothing.
 use mathlib.Core.Path.{refl}
 use mathlib.Core.List.{List, [], map}
 use native.Mathlib.Omega.{arith}
@@ -14,7 +15,8 @@ use Rattle.reach.proofs.Cells.{CellsFine, shared-fine}
 use Rattle.reach.proofs.Modules.{parts, main-plain, some-module}
 use Rattle.reach.proofs.NeverFull.{Any, laid, bodies}
 use Rattle.safety.proofs.Places.{main-typed}
-use Rattle.safety.proofs.SharedCells.{typingOf, all-well, shared-is, shared-owners, first-good}
+use Rattle.safety.proofs.SharedCells.{typingOf, all-well, shared-is, shared-owners}
+use Rattle.safety.proofs.SharedCells.{first-good}
 use Rattle.safety.proofs.Demand3.{Typed}
 
 module _ {fs : List Frame} (fine : NoFault fs) where

@@ -1,11 +1,13 @@
--- The table of samples holds: one computation over all rows, then each row of the verdict by the rules and of the answers by the stepping rules. Assumes nothing.
+-- The table of samples holds: one computation over all rows, then each row of the verdict by the
+-- rules and of the answers by the stepping rules. Assumes nothing.
 use mathlib.Core.Path.{_≡_, refl, ap, subst}
 use mathlib.Core.List.{List, [], _∷_, map}
 use Prim.Native.Nat.{ℕ}
 use Rattle.basics.specs.If.{if_then_else_}
 use Rattle.basics.specs.Members.{All, any}
 use Rattle.basics.specs.inner.Searches.{every, sameNumbers, lowest, earlier}
-use Rattle.language.specs.Types.{typeWord, ownerDigit, cellDepth, cellType, ownerOf, contentOf, public, contentWord}
+use Rattle.language.specs.Types.{typeWord, ownerDigit, cellDepth, cellType, ownerOf, contentOf}
+use Rattle.language.specs.Types.{public, contentWord}
 use Rattle.language.specs.Kinds.{kindOf, children}
 use Rattle.language.specs.Effects.{within, withOwner}
 use Rattle.language.specs.Places.{standingAt}
@@ -19,8 +21,13 @@ use Rattle.program.specs.Programs.{sharedOf, modulesFrom, allowanceOf, programO
 use Rattle.fields.specs.Fields.{headerFine, firstContentFine, countOf, frameFine}
 use Rattle.fields.specs.inner.Scans.{headerFault, fieldFault}
 use Rattle.layout.specs.Order.{hasChild}
-use Rattle.layout.specs.inner.Scans.{rowFirst, firstDisorder, isBehind, isLeftover, firstLeftover, noMain, orderFault, lowestChild, deepTo, firstDeep, depthFault, layoutOf}
-use Rattle.rules.specs.inner.Checking.{namedRule, newRule, contentRule, numbersRule, chooseRule, typeIn, argue, typesIn, startRule, cooperateRule, seqRule, doRule, joinRule, storeRule, ifElseRule, whileRule, runIn, modulesIn, rulesOf}
+use Rattle.layout.specs.inner.Scans.{rowFirst, firstDisorder, isBehind, isLeftover, firstLeftover}
+use Rattle.layout.specs.inner.Scans.{noMain, orderFault, lowestChild, deepTo, firstDeep, depthFault}
+use Rattle.layout.specs.inner.Scans.{layoutOf}
+use Rattle.rules.specs.inner.Checking.{namedRule, newRule, contentRule, numbersRule, chooseRule}
+use Rattle.rules.specs.inner.Checking.{typeIn, argue, typesIn, startRule, cooperateRule, seqRule}
+use Rattle.rules.specs.inner.Checking.{doRule, joinRule, storeRule, ifElseRule, whileRule, runIn}
+use Rattle.rules.specs.inner.Checking.{modulesIn, rulesOf}
 use Rattle.checker.specs.Verdict.{HasVerdict, verdict}
 use Rattle.checker.proofs.Whole.{verdict-computes}
 use Rattle.machine.specs.Values.{firstContent}

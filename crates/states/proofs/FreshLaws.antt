@@ -1,4 +1,5 @@
--- The fresh state's words one at a time: the word of a shared cell, and the zeros that are written before it. Assumes nothing.
+-- The fresh state's words one at a time: the word of a shared cell, and the zeros that are written
+-- before it. Assumes nothing.
 use Prim.Native.Nat.{ℕ, _+_, _*_, _^_, _<_, _≤_}
 use mathlib.Core.Path.{_≡_, refl, sym, ap, _∙_, subst}
 use mathlib.Core.List.{List}
@@ -19,7 +20,8 @@ use Rattle.machine.specs.Words.{valueWord, cellWord}
 use Rattle.machine.specs.inner.Blocks.{pasted}
 use Rattle.machine.proofs.PastedLaws.{fill-more, fill-all}
 
--- ---- the word of a first content, and of its cell; x is what the code's test for a cell's type gave
+-- ---- the word of a first content, and of its cell; x is what the code's test for a cell's type
+-- gave
 module _ (t n : ℕ) (x : Bool) (d : x ≡ isCell t) where
   pub content-cell : x ≡ true → cellFrom + n ≡ valueWord (firstContent t n)
   unfolding valueWord firstContent
@@ -27,7 +29,8 @@ module _ (t n : ℕ) (x : Bool) (d : x ≡ isCell t) where
 
   pub content-number : x ≡ false → t ≡ numberType → n ≡ valueWord (firstContent t n)
   unfolding valueWord firstContent
-  content-number h e = ap valueWord (sym (if-no _ _ (sym d ∙ h) ∙ if-yes _ _ (eq-eqb t numberType e)))
+  content-number h e =
+      ap valueWord (sym (if-no _ _ (sym d ∙ h) ∙ if-yes _ _ (eq-eqb t numberType e)))
 
   truth-word : x ≡ false → (t ≡ numberType → ⊥) → (b : Bool) → eqb n 1 ≡ b
       → valueWord (firstContent t n) ≡ valueWord (Value.Truth b)
@@ -47,7 +50,8 @@ module _ (t n : ℕ) (x : Bool) (d : x ≡ isCell t) where
 
 pub ruleset content-laws = (content-cell, content-number, content-true, content-false)
 
-pub cell-is : (f : Frame) (v : ℕ) → v ≡ valueWord (firstContent (f .a) (f .b)) → f .s * 0x0004_0000_0000 + v ≡ cellWord (firstCell (cellOf f))
+pub cell-is : (f : Frame) (v : ℕ) → v ≡ valueWord (firstContent (f .a) (f .b))
+    → f .s * 0x0004_0000_0000 + v ≡ cellWord (firstCell (cellOf f))
 unfolding cellWord
 cell-is f v e = ap (λ (n : ℕ). f .s * 2 ^ 34 + n) e
 
@@ -61,12 +65,18 @@ content-small t n h =
     by true = omega arith
     by false = omega arith
 
-pub cell-fits : (s t n v : ℕ) → v ≡ valueWord (firstContent t n) → n < 2 ^ 16 → s < 2 ^ 8 → s * 0x0004_0000_0000 + v < 2 ^ 64
-cell-fits s t n v e h g = let l : v < 2 ^ 34 = subst (λ (x : ℕ). x < 2 ^ 34) (sym e) (content-small t n h) in omega arith
+pub cell-fits : (s t n v : ℕ) → v ≡ valueWord (firstContent t n) → n < 2 ^ 16 → s < 2 ^ 8
+    → s * 0x0004_0000_0000 + v < 2 ^ 64
+cell-fits s t n v e h g =
+    let l : v < 2 ^ 34 = subst (λ (x : ℕ). x < 2 ^ 34) (sym e) (content-small t n h) in omega arith
 
 -- ---- zeros
-pub clear-more : (w v : List ℕ) (i : ℕ) → v ≡ pasted w 0 (replicate (length w) 0) i → length v ≡ length w → i < length v → set v i 0 ≡ pasted w 0 (replicate (length w) 0) (i + 1)
-clear-more w v i e k g = let h : i < length w = omega arith in fill-more w (replicate (length w) 0) v i 0 e (sym (getD-replicate (length w) i 0 0 h)) h (rw (length-replicate {A = ℕ} (length w) 0) h)
+pub clear-more : (w v : List ℕ) (i : ℕ) → v ≡ pasted w 0 (replicate (length w) 0) i
+    → length v ≡ length w → i < length v → set v i 0 ≡ pasted w 0 (replicate (length w) 0) (i + 1)
+clear-more w v i e k g =
+    let h : i < length w = omega arith in
+    fill-more w (replicate (length w) 0) v i 0 e (sym (getD-replicate (length w) i 0 0 h)) h (rw (length-replicate {A = ℕ} (length w) 0) h)
 
-pub clear-end : (w v : List ℕ) (i : ℕ) → v ≡ pasted w 0 (replicate (length w) 0) i → i ≤ length w → length v ≡ length w → length v ≤ i → v ≡ replicate (length w) 0
+pub clear-end : (w v : List ℕ) (i : ℕ) → v ≡ pasted w 0 (replicate (length w) 0) i → i ≤ length w
+    → length v ≡ length w → length v ≤ i → v ≡ replicate (length w) 0
 clear-end w v i e a k b = fill-all w (replicate (length w) 0) v i (length w) e a (omega arith) refl (length-replicate (length w) 0)

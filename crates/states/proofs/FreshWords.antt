@@ -4,7 +4,8 @@ use mathlib.Core.Path.{_≡_, refl, sym, ap, ap₂, _∙_, subst}
 use mathlib.Core.List.{List, [], _∷_, map}
 use mathlib.Core.Bool.{Bool, true, false}
 use native.Mathlib.Omega.{arith}
-use lib.ListN.{getD, length, set, replicate, length-set, length-map, length-replicate, getD-replicate, List·getD-eq-default}
+use lib.ListN.{getD, length, set, replicate, length-set, length-map, length-replicate}
+use lib.ListN.{getD-replicate, List·getD-eq-default}
 use lib.Seq.{getD-set-same, getD-set-other}
 use lib.Dec.{ltb, leb}
 use borrow.Author.Tests.{ltb-true, ltb-false, leb-true, ne-eqb}
@@ -12,7 +13,8 @@ use Rattle.basics.proofs.Ifs.{if-yes, if-no}
 use Rattle.text.specs.Frames.{framesOf}
 use Rattle.program.specs.Trees.{rootS}
 use Rattle.program.specs.Programs.{SharedCell, Program, sharedOf, programOf, mainOf}
-use Rattle.machine.specs.State.{State, Stored, Scheduler, noScheduler, noCell, withCells, withNew, withScheduler}
+use Rattle.machine.specs.State.{State, Stored, Scheduler, noScheduler, noCell, withCells, withNew}
+use Rattle.machine.specs.State.{withScheduler}
 use Rattle.machine.specs.Fresh.{firstCell, mainThread, homeScheduler, fresh}
 use Rattle.machine.specs.Words.{itemWord, listWord, schedulerWord, cellWord, pack}
 use Rattle.machine.specs.inner.Blocks.{pasted, cellWords}
@@ -64,7 +66,8 @@ zeros-say w m e =
     at i = zero-word w i e
 
 -- ---- the shared cells: behind them the words are 0, as they were
-all-cells : (w : List ℕ) (xs : List SharedCell) → w ≡ replicate 4818 0 → withShared w xs ≡ pasted w 4562 (cellWords (map firstCell xs)) 256
+all-cells : (w : List ℕ) (xs : List SharedCell) → w ≡ replicate 4818 0
+    → withShared w xs ≡ pasted w 4562 (cellWords (map firstCell xs)) 256
 unfolding withShared
 all-cells w xs e = by (leb (length xs) 256) refl
   where
@@ -77,7 +80,8 @@ all-cells w xs e = by (leb (length xs) 256) refl
     long : length w ≡ 4818
     long = ap length e ∙ length-replicate {A = ℕ} 4818 0
 
-    by : (b : Bool) → leb (length xs) 256 ≡ b → withShared w xs ≡ pasted w 4562 (cellWords (map firstCell xs)) 256
+    by : (b : Bool) → leb (length xs) 256 ≡ b
+        → withShared w xs ≡ pasted w 4562 (cellWords (map firstCell xs)) 256
     by false q = ap (pasted w 4562 B) (if-no _ _ q)
     by true q =
         ap (pasted w 4562 B) (if-yes _ _ q)
@@ -93,12 +97,15 @@ all-cells w xs e = by (leb (length xs) 256) refl
         hs : length xs ≤ length (cellWords (map firstCell xs))
         hs = rw (cells-length cs) l
 
-        inside : (j : ℕ) → j < 256 → (b : Bool) → ltb j (length xs) ≡ b → getD (pasted w 4562 (cellWords (map firstCell xs)) (length xs)) (4562 + j) 0 ≡ getD (cellWords (map firstCell xs)) j 0
+        inside : (j : ℕ) → j < 256 → (b : Bool) → ltb j (length xs) ≡ b
+            → getD (pasted w 4562 (cellWords (map firstCell xs)) (length xs)) (4562 + j) 0
+            ≡ getD (cellWords (map firstCell xs)) j 0
         inside j g true c = pasted-in w 4562 B (length xs) hd hs j (ltb-true j (length xs) c)
         inside j g false c =
             let m : length xs ≤ j = ltb-false j (length xs) c in
             pasted-out w 4562 B (length xs) hd hs (4562 + j) (λ p r. omega arith) ∙ zero-word w (4562 + j) e ∙ no-cell-word
-            ∙ ap cellWord (sym (List·getD-eq-default (map firstCell xs) noCell {n = j} (rw (length-map xs firstCell) m))) ∙ sym (cells-at cs j g)
+            ∙ ap cellWord (sym (List·getD-eq-default (map firstCell xs) noCell {n = j} (rw (length-map xs firstCell) m)))
+            ∙ sym (cells-at cs j g)
 
 -- ---- main
 main-is : (p : Program) → wordsOf (mainThread p) ≡ mainWords (rootS (mainOf p .body))
@@ -106,7 +113,9 @@ unfolding itemWord
 main-is p = refl
 
 -- main, alone in the active list at home
-home-says : (w : List ℕ) (s : State) → Says w s → 0 < length (s .schedulers) → getD (s .schedulers) 0 noScheduler ≡ noScheduler → Says (set (set w 2 1) 3 1) (withScheduler 2 homeScheduler s)
+home-says : (w : List ℕ) (s : State) → Says w s → 0 < length (s .schedulers)
+    → getD (s .schedulers) 0 noScheduler ≡ noScheduler
+    → Says (set (set w 2 1) 3 1) (withScheduler 2 homeScheduler s)
 home-says w s h l e = scheduler-put w s h 2 (omega arith) l v homeScheduler (length-set (set w 2 1) 3 1 ∙ length-set w 2 1 ∙ h .all)
     (by-lists homeScheduler (λ j. getD v (2 + j) 0) active (λ j g. out (2 + (65 + j)) (λ z. omega arith) (λ z. omega arith) ∙ empty (65 + j) (omega arith) ∙ nothing j))
     (λ i f. out i (λ z. f (omega arith) (omega arith)) (λ z. f (omega arith) (omega arith)))
@@ -118,19 +127,27 @@ home-says w s h l e = scheduler-put w s h 2 (omega arith) l v homeScheduler (len
     out i a b = getD-set-other (set w 2 1) 3 i 1 0 b ∙ getD-set-other w 2 i 1 0 a
 
     empty : (j : ℕ) → j < 130 → getD w (2 + j) 0 ≡ 0
-    empty j g = h .scheduler 0 j (omega arith) g ∙ ap (λ (x : Scheduler). schedulerWord x j) e ∙ sym (no-scheduler-word j g)
+    empty j g =
+        h .scheduler 0 j (omega arith) g ∙ ap (λ (x : Scheduler). schedulerWord x j) e
+        ∙ sym (no-scheduler-word j g)
 
     nothing : (j : ℕ) → 0 ≡ listWord [] j
     nothing zero = refl
     nothing (suc j) = refl
 
     active : (j : ℕ) → j < 65 → getD (set (set w 2 1) 3 1) (2 + j) 0 ≡ listWord (1 ∷ []) j
-    active zero g = getD-set-other (set w 2 1) 3 2 1 0 (λ z. omega arith) ∙ getD-set-same w 2 1 0 (rw (h .all) (omega arith))
-    active (suc zero) g = getD-set-same (set w 2 1) 3 1 0 (simp length-set (rw (h .all) (omega arith)))
-    active (suc (suc j)) g = out (2 + suc (suc j)) (λ z. omega arith) (λ z. omega arith) ∙ empty (suc (suc j)) (omega arith)
+    active zero g =
+        getD-set-other (set w 2 1) 3 2 1 0 (λ z. omega arith)
+        ∙ getD-set-same w 2 1 0 (rw (h .all) (omega arith))
+    active (suc zero) g =
+        getD-set-same (set w 2 1) 3 1 0 (simp length-set (rw (h .all) (omega arith)))
+    active (suc (suc j)) g =
+        out (2 + suc (suc j)) (λ z. omega arith) (λ z. omega arith)
+        ∙ empty (suc (suc j)) (omega arith)
 
 -- ---- the whole
-pub cells-written : (v w : List ℕ) (xs : List SharedCell) (n : ℕ) → n ≡ length xs → v ≡ withShared w xs → set v 1 n ≡ set (withShared w xs) 1 (length xs)
+pub cells-written : (v w : List ℕ) (xs : List SharedCell) (n : ℕ) → n ≡ length xs
+    → v ≡ withShared w xs → set v 1 n ≡ set (withShared w xs) 1 (length xs)
 cells-written v w xs n e f = ap₂ (λ (u : List ℕ) (k : ℕ). set u 1 k) f e
 
 -- the program of a text's lines, and its state with nothing in it
@@ -141,16 +158,23 @@ abbrev bareIn : List ℕ → State
 bareIn words = bare (programOf (framesOf words) .schedulers - 1)
 
 -- w₀ the lent words, w₁ cleared, w₂ with the shared cells, w₃ with main's thread
-pub fresh-words : (words w₀ w₁ w₂ w₃ : List ℕ) (b : ℕ) (th : ThreadWords) → w₁ ≡ replicate (length w₀) 0 → w₂ ≡ set (withShared w₁ (sharedOf (framesOf words))) 1 (length (sharedOf (framesOf words)))
-    → b ≡ rootS (mainOf (programOf (framesOf words)) .body) → th ≡ mainWords b → w₃ ≡ withOneMore w₂ th → length w₀ ≡ 4818 → set (set w₃ 2 1) 3 1 ≡ pack (fresh (programOf (framesOf words)))
+pub fresh-words : (words w₀ w₁ w₂ w₃ : List ℕ) (b : ℕ) (th : ThreadWords)
+    → w₁ ≡ replicate (length w₀) 0
+    → w₂ ≡ set (withShared w₁ (sharedOf (framesOf words))) 1 (length (sharedOf (framesOf words)))
+    → b ≡ rootS (mainOf (programOf (framesOf words)) .body) → th ≡ mainWords b
+    → w₃ ≡ withOneMore w₂ th → length w₀ ≡ 4818
+    → set (set w₃ 2 1) 3 1 ≡ pack (fresh (programOf (framesOf words)))
 unfolding fresh programOf
-fresh-words words w₀ w₁ w₂ w₃ b th e₁ e₂ eb et e₃ l = is-pack (set (set w₃ 2 1) 3 1) (fresh (programIn words)) with-home
+fresh-words words w₀ w₁ w₂ w₃ b th e₁ e₂ eb et e₃ l =
+    is-pack (set (set w₃ 2 1) 3 1) (fresh (programIn words)) with-home
   where
     zeros : w₁ ≡ replicate 4818 0
     zeros = e₁ ∙ ap (λ (k : ℕ). replicate k 0) l
 
     cells : w₂ ≡ set (pasted w₁ 4562 (cellWords (cellsIn words)) 256) 1 (length (cellsIn words))
-    cells = e₂ ∙ ap₂ (λ (u : List ℕ) (k : ℕ). set u 1 k) (all-cells w₁ (sharedIn words) zeros) (sym (length-map (sharedIn words) firstCell))
+    cells =
+        e₂
+        ∙ ap₂ (λ (u : List ℕ) (k : ℕ). set u 1 k) (all-cells w₁ (sharedIn words) zeros) (sym (length-map (sharedIn words) firstCell))
 
     with-cells : Says w₂ (withCells (cellsIn words) (bareIn words))
     with-cells = subst (λ (u : List ℕ). Says u (withCells (cellsIn words) (bareIn words))) (sym cells) (put-cells w₁ (bareIn words) (zeros-say w₁ (programIn words .schedulers - 1) zeros) (cellsIn words))
@@ -163,9 +187,11 @@ fresh-words words w₀ w₁ w₂ w₃ b th e₁ e₂ eb et e₃ l = is-pack (set
     with-home = home-says w₃ (withNew (mainThread (programIn words)) (withCells (cellsIn words) (bareIn words))) with-main (omega arith) refl
 
 -- ---- as a call
-pub call-wrong : (words w : List ℕ) → (length w ≡ 4818 → ⊥) → called 14 0 w ≡ freshCall (framesOf words) w
+pub call-wrong : (words w : List ℕ) → (length w ≡ 4818 → ⊥)
+    → called 14 0 w ≡ freshCall (framesOf words) w
 unfolding freshCall
 call-wrong words w h = sym (ap (λ (b : Bool). elim b [ true ↦ called 0 0 (pack (fresh (programOf (framesOf words)))) | false ↦ unchanged 14 0 w ]) (ne-eqb (length w) 4818 h))
 
-pub call-fresh : (words w v : List ℕ) → length w ≡ 4818 → v ≡ pack (fresh (programOf (framesOf words))) → called 0 0 v ≡ freshCall (framesOf words) w
+pub call-fresh : (words w v : List ℕ) → length w ≡ 4818
+    → v ≡ pack (fresh (programOf (framesOf words))) → called 0 0 v ≡ freshCall (framesOf words) w
 call-fresh words w v l e = ap (called 0 0) e ∙ sym (fresh-called (framesOf words) w l)

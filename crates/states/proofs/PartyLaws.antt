@@ -1,4 +1,5 @@
--- Whether a choice names an unlinked thread: one law for each return of the code, and the test on words is `isUnlinked` of the state that they say. Assumes nothing.
+-- Whether a choice names an unlinked thread: one law for each return of the code, and the test on
+-- words is `isUnlinked` of the state that they say. Assumes nothing.
 use Prim.Native.Nat.{ℕ, suc, _+_, _-_, _*_, _<_, _≤_}
 use mathlib.Core.Path.{_≡_, refl, sym, ap, ap₂, _∙_}
 use mathlib.Core.List.{List}
@@ -48,14 +49,17 @@ module _ (w : List ℕ) (c : ℕ) where
 
 pub ruleset unlinked-laws = (unlinked-low, unlinked-over, unlinked-elsewhere, unlinked-rest)
 
-pub unlinked-says : (w : List ℕ) (s : State) → Says w s → length (s .threads) ≤ 64 → (c : ℕ) → isUnlinkedWord w c ≡ isUnlinked s c
+pub unlinked-says : (w : List ℕ) (s : State) → Says w s → length (s .threads) ≤ 64 → (c : ℕ)
+    → isUnlinkedWord w c ≡ isUnlinked s c
 unfolding isUnlinkedWord isUnlinked
 unlinked-says w s h few c = low (leb 17 c) refl
   where
     x : Thread
     x = getD (s .threads) (c - 17) noThread
 
-    there : 17 ≤ c → c - 16 ≤ length (s .threads) → (eqb (getD w (1042 + 55 * (c - 17)) 0) private && not (eqb (getD w (1042 + 55 * (c - 17) + 2) 0) 0)) ≡ (eqb (nth (s .threads) (c - 16) .place) private && not (nth (s .threads) (c - 16) .ended))
+    there : 17 ≤ c → c - 16 ≤ length (s .threads)
+        → (eqb (getD w (1042 + 55 * (c - 17)) 0) private && not (eqb (getD w (1042 + 55 * (c - 17) + 2) 0) 0))
+        ≡ (eqb (nth (s .threads) (c - 16) .place) private && not (nth (s .threads) (c - 16) .ended))
     there a b =
         let z : 1042 + 55 * (c - 17) ≡ 1042 + 55 * (c - 17) + 0 = omega arith in
         let y : suc (c - 17) ≡ c - 16 = omega arith in

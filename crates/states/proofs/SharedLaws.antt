@@ -1,4 +1,5 @@
--- The shared cells' first contents as the code writes them, frame by frame; the cells behind the 256th are counted and have no word. Assumes nothing.
+-- The shared cells' first contents as the code writes them, frame by frame; the cells behind the
+-- 256th are counted and have no word. Assumes nothing.
 use Prim.Native.Nat.{ℕ, zero, suc, _+_, _-_, _<_, _≤_}
 use mathlib.Core.Path.{_≡_, refl, sym, ap, _∙_}
 use mathlib.Core.List.{List, [], _∷_, map}
@@ -36,7 +37,8 @@ cellsIn words = map firstCell (sharedIn words)
 unfoldable pub upTo : ℕ → ℕ
 upTo c = if leb c mostCells then c else mostCells
 
--- from the words w: c shared cells were found before frame `from`, frame i declares the next, and v is written
+-- from the words w: c shared cells were found before frame `from`, frame i declares the next, and v
+-- is written
 pub record Sharing (words w v : List ℕ) (i c : ℕ) : Type 0 where
   pub from : ℕ
   pub next : Next words from i
@@ -96,7 +98,8 @@ module _ (words w v : List ℕ) (i c : ℕ) (s : Sharing words w v i c) where
     one-cell-few : c + 1 ≤ i + 1
     one-cell-few = let a = sharing-few in omega arith
 
-    pub sharing-over : (r : ℕ) → mostCells ≤ c → r ≡ nextFrom words (i + 1) → Sharing words w v r (c + 1)
+    pub sharing-over : (r : ℕ) → mostCells ≤ c → r ≡ nextFrom words (i + 1)
+        → Sharing words w v r (c + 1)
     unfolding upTo
     sharing-over r g e =
         record {
@@ -111,11 +114,13 @@ module _ (words w v : List ℕ) (i c : ℕ) (s : Sharing words w v i c) where
               (same (leb c mostCells) refl ∙ sym (if-no _ _ (lt-leb (c + 1) mostCells (omega arith))));
         }
       where
-        same : (b : Bool) → leb c mostCells ≡ b → (if leb c mostCells then c else mostCells) ≡ mostCells
+        same : (b : Bool) → leb c mostCells ≡ b
+            → (if leb c mostCells then c else mostCells) ≡ mostCells
         same true z = let m = leb-true c mostCells z in if-yes _ _ z ∙ (omega arith)
         same false z = if-no _ _ z
 
-    pub sharing-one : (g : Frame) (x r : ℕ) → g ≡ frameOfWord (getD words i 0) → length w ≡ stateLength
+    pub sharing-one : (g : Frame) (x r : ℕ) → g ≡ frameOfWord (getD words i 0)
+        → length w ≡ stateLength
         → c < mostCells → x ≡ cellWord (firstCell (cellOf g)) → r ≡ nextFrom words (i + 1)
         → Sharing words w (set v (cellsAt + c) x) r (c + 1)
     unfolding upTo

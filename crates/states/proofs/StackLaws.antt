@@ -1,4 +1,5 @@
--- What an item or a variable more or less is to the thread: the struct's laws, from `wordsOf` to `wordsOf`. Assumes nothing.
+-- What an item or a variable more or less is to the thread: the struct's laws, from `wordsOf` to
+-- `wordsOf`. Assumes nothing.
 use Prim.Native.Nat.{ℕ, suc, _+_, _-_, _<_}
 use mathlib.Core.Path.{_≡_, sym, ap, ap₂, _∙_}
 use mathlib.Core.List.{List, [], _∷_, _++_, map, reverse, reverse-cons, map-append}
@@ -26,12 +27,15 @@ module _ (i : Item) (is : List Item) (room : length is < 25) where
   top-first : reverse (map itemWord (i ∷ is)) ≡ reverse (map itemWord is) ++ (itemWord i ∷ [])
   top-first = reverse-cons (itemWord i) (map itemWord is)
 
-  pushed : set (padded 25 (reverse (map itemWord is))) (length is) (itemWord i) ≡ padded 25 (reverse (map itemWord (i ∷ is)))
+  pushed : set (padded 25 (reverse (map itemWord is))) (length is) (itemWord i)
+      ≡ padded 25 (reverse (map itemWord (i ∷ is)))
   pushed =
       ap (λ (n : ℕ). set (padded 25 (reverse (map itemWord is))) n (itemWord i)) (sym (items-length is))
-      ∙ padded-push 25 (reverse (map itemWord is)) (itemWord i) (rw (items-length is) room) ∙ ap (padded 25) (sym top-first)
+      ∙ padded-push 25 (reverse (map itemWord is)) (itemWord i) (rw (items-length is) room)
+      ∙ ap (padded 25) (sym top-first)
 
-  popped : set (padded 25 (reverse (map itemWord (i ∷ is)))) (length is) 0 ≡ padded 25 (reverse (map itemWord is))
+  popped : set (padded 25 (reverse (map itemWord (i ∷ is)))) (length is) 0
+      ≡ padded 25 (reverse (map itemWord is))
   popped =
       ap₂ (λ (ws : List ℕ) (n : ℕ). set (padded 25 ws) n 0) top-first (sym (items-length is)) ∙ padded-pop 25 (reverse (map itemWord is)) (itemWord i) (rw (items-length is) room)
 
@@ -45,7 +49,8 @@ less-one n = omega arith
 
 -- ---- the struct
 module _ (x : Thread) where
-  pub push-item-is : (i : Item) → length (x .continuation) < 25 → pushItem (itemWord i) (wordsOf x) ≡ wordsOf (withContinuation (i ∷ x .continuation) x)
+  pub push-item-is : (i : Item) → length (x .continuation) < 25
+      → pushItem (itemWord i) (wordsOf x) ≡ wordsOf (withContinuation (i ∷ x .continuation) x)
   unfolding pushItem
   push-item-is i room = λ k. record {
     place = x .place;
@@ -58,7 +63,8 @@ module _ (x : Thread) where
   }
 
   -- of a thread whose top item is i
-  pub pop-item-is : (i : Item) → length (x .continuation) < 25 → popItem (wordsOf (withContinuation (i ∷ x .continuation) x)) ≡ wordsOf x
+  pub pop-item-is : (i : Item) → length (x .continuation) < 25
+      → popItem (wordsOf (withContinuation (i ∷ x .continuation) x)) ≡ wordsOf x
   unfolding popItem
   pop-item-is i room = λ k. record {
     place = x .place;
@@ -70,10 +76,15 @@ module _ (x : Thread) where
     variables = wordsOf x .variables;
   }
 
-  pub top-item-is : (i : Item) → length (x .continuation) < 25 → getD (wordsOf (withContinuation (i ∷ x .continuation) x) .continuation) (wordsOf (withContinuation (i ∷ x .continuation) x) .items - 1) 0 ≡ itemWord i
-  top-item-is i room = ap (λ (n : ℕ). getD (padded 25 (reverse (map itemWord (i ∷ x .continuation)))) n 0) (less-one (length (x .continuation))) ∙ topmost i (x .continuation) room
+  pub top-item-is : (i : Item) → length (x .continuation) < 25
+      → getD (wordsOf (withContinuation (i ∷ x .continuation) x) .continuation) (wordsOf (withContinuation (i ∷ x .continuation) x) .items - 1) 0
+      ≡ itemWord i
+  top-item-is i room =
+      ap (λ (n : ℕ). getD (padded 25 (reverse (map itemWord (i ∷ x .continuation)))) n 0) (less-one (length (x .continuation)))
+      ∙ topmost i (x .continuation) room
 
-  pub push-value-is : (v : Value) → length (x .variables) < 25 → pushValue (valueWord v) (wordsOf x) ≡ wordsOf (withVariables (x .variables ++ (v ∷ [])) x)
+  pub push-value-is : (v : Value) → length (x .variables) < 25
+      → pushValue (valueWord v) (wordsOf x) ≡ wordsOf (withVariables (x .variables ++ (v ∷ [])) x)
   unfolding pushValue
   push-value-is v room = λ k. record {
     place = x .place;
@@ -84,11 +95,13 @@ module _ (x : Thread) where
     values = (sym (length-append (x .variables) (v ∷ []))) k;
     variables =
         (ap (λ (n : ℕ). set (padded 25 (map valueWord (x .variables))) n (valueWord v)) (sym (length-map (x .variables) valueWord))
-        ∙ padded-push 25 (map valueWord (x .variables)) (valueWord v) (rw (length-map (x .variables) valueWord) room) ∙ ap (padded 25) (sym (map-append valueWord (x .variables) (v ∷ [])))) k;
+        ∙ padded-push 25 (map valueWord (x .variables)) (valueWord v) (rw (length-map (x .variables) valueWord) room)
+        ∙ ap (padded 25) (sym (map-append valueWord (x .variables) (v ∷ [])))) k;
   }
 
   -- of a thread whose last variable is v
-  pub pop-value-is : (v : Value) → length (x .variables) < 25 → popValue (wordsOf (withVariables (x .variables ++ (v ∷ [])) x)) ≡ wordsOf x
+  pub pop-value-is : (v : Value) → length (x .variables) < 25
+      → popValue (wordsOf (withVariables (x .variables ++ (v ∷ [])) x)) ≡ wordsOf x
   unfolding popValue
   pop-value-is v room = λ k. record {
     place = x .place;
@@ -103,7 +116,9 @@ module _ (x : Thread) where
   }
     where
       fewer : length (x .variables ++ (v ∷ [])) - 1 ≡ length (x .variables)
-      fewer = ap (λ (n : ℕ). n - 1) (length-append (x .variables) (v ∷ [])) ∙ back (length (x .variables))
+      fewer =
+          ap (λ (n : ℕ). n - 1) (length-append (x .variables) (v ∷ []))
+          ∙ back (length (x .variables))
         where
           back : (n : ℕ) → n + 1 - 1 ≡ n
           back n = omega arith

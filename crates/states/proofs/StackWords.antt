@@ -1,4 +1,5 @@
--- An item or a variable more or less, another place, the end: what is written where the thread's words lie. Assumes nothing.
+-- An item or a variable more or less, another place, the end: what is written where the thread's
+-- words lie. Assumes nothing.
 use Prim.Native.Nat.{ℕ, suc, _+_, _*_, _-_, _<_, _≤_}
 use mathlib.Core.Path.{_≡_, refl, sym, ap, _∙_}
 use mathlib.Core.List.{List, [], _∷_, _++_}
@@ -37,7 +38,8 @@ pub ended-wide : (x : ThreadWords) → Wide x → Wide (ended x)
 unfolding ended
 ended-wide x h = record { continuation = h .continuation; variables = h .variables }
 
--- ---- one word of the block: the code writes an item or a variable and then the count, so that in between a list and its count disagree
+-- ---- one word of the block: the code writes an item or a variable and then the count, so that in
+-- between a list and its count disagree
 abbrev itemsIn : ThreadWords → ℕ → List ℕ → ThreadWords
 itemsIn x n ws = record { place = x .place; starter = x .starter; alive = x .alive; items = n; continuation = ws; values = x .values; variables = x .variables }
 
@@ -62,7 +64,8 @@ module _ (x : ThreadWords) (h : Wide x) where
   unfolding blockOf
   set-items m = refl
 
-  set-item : (n v : ℕ) → n < 25 → set (blockOf x) (4 + n) v ≡ blockOf (itemsIn x (x .items) (set (x .continuation) n v))
+  set-item : (n v : ℕ) → n < 25
+      → set (blockOf x) (4 + n) v ≡ blockOf (itemsIn x (x .items) (set (x .continuation) n v))
   unfolding blockOf
   set-item n v l = let z : 4 + n ≡ suc (suc (suc (suc n))) = omega arith in
       let c : length (x .continuation) ≡ 25 = h .continuation in
@@ -73,7 +76,8 @@ module _ (x : ThreadWords) (h : Wide x) where
   unfolding blockOf
   set-values m = ap (λ (ws : List ℕ). x .place ∷ x .starter ∷ x .alive ∷ x .items ∷ ws) (set-at (x .continuation) (x .values) (x .variables) m 25 (h .continuation))
 
-  set-value : (n v : ℕ) → n < 25 → set (blockOf x) (30 + n) v ≡ blockOf (valuesIn x (x .values) (set (x .variables) n v))
+  set-value : (n v : ℕ) → n < 25
+      → set (blockOf x) (30 + n) v ≡ blockOf (valuesIn x (x .values) (set (x .variables) n v))
   unfolding blockOf
   set-value n v l =
       let c : length (x .continuation) ≡ 25 = h .continuation in
@@ -83,7 +87,8 @@ module _ (x : ThreadWords) (h : Wide x) where
 
 -- ---- what each function of `stack` writes
 module _ (w : List ℕ) (k : ℕ) (all : length w ≡ 4818) (room : k < 64) where
-  one-word : (y : ThreadWords) (i j v : ℕ) → i ≡ 1042 + 55 * k + j → j < 55 → set (blockOf (threadIn w k)) j v ≡ blockOf y → set w i v ≡ putThread w k y
+  one-word : (y : ThreadWords) (i j v : ℕ) → i ≡ 1042 + 55 * k + j → j < 55
+      → set (blockOf (threadIn w k)) j v ≡ blockOf y → set w i v ≡ putThread w k y
   one-word y i j v z l e =
       ap (λ (u : List ℕ). set u i v) (sym (put-same w k all room)) ∙ ap (λ (n : ℕ). set (putThread w k (threadIn w k)) n v) z
       ∙ put-set w k all room (threadIn w k) (in-wide w k all room) y j v l e
@@ -97,7 +102,9 @@ module _ (w : List ℕ) (k : ℕ) (all : length w ≡ 4818) (room : k < 64) wher
   pub ends : set w (1042 + 55 * k + 2) 0 ≡ putThread w k (ended (threadIn w k))
   ends = one-word (ended (threadIn w k)) (1042 + 55 * k + 2) 2 0 refl (omega arith) (set-ended (threadIn w k) (in-wide w k all room))
 
-  item-written : (n v m : ℕ) → n < 25 → set (set w (1042 + 55 * k + 4 + n) v) (1042 + 55 * k + 3) m ≡ putThread w k (itemsIn (threadIn w k) m (set (threadIn w k .continuation) n v))
+  item-written : (n v m : ℕ) → n < 25
+      → set (set w (1042 + 55 * k + 4 + n) v) (1042 + 55 * k + 3) m
+      ≡ putThread w k (itemsIn (threadIn w k) m (set (threadIn w k .continuation) n v))
   item-written n v m l =
       let x : ThreadWords = threadIn w k in
       let h : Wide x = in-wide w k all room in
@@ -106,7 +113,9 @@ module _ (w : List ℕ) (k : ℕ) (all : length w ≡ 4818) (room : k < 64) wher
       ap (λ (u : List ℕ). set u (1042 + 55 * k + 3) m) (one-word y (1042 + 55 * k + 4 + n) (4 + n) v (omega arith) (omega arith) (set-item x h n v l))
       ∙ put-set w k all room y g (itemsIn y m (y .continuation)) 3 m (omega arith) (set-items y g m)
 
-  value-written : (n v m : ℕ) → n < 25 → set (set w (1042 + 55 * k + 30 + n) v) (1042 + 55 * k + 29) m ≡ putThread w k (valuesIn (threadIn w k) m (set (threadIn w k .variables) n v))
+  value-written : (n v m : ℕ) → n < 25
+      → set (set w (1042 + 55 * k + 30 + n) v) (1042 + 55 * k + 29) m
+      ≡ putThread w k (valuesIn (threadIn w k) m (set (threadIn w k .variables) n v))
   value-written n v m l =
       let x : ThreadWords = threadIn w k in
       let h : Wide x = in-wide w k all room in
@@ -116,22 +125,28 @@ module _ (w : List ℕ) (k : ℕ) (all : length w ≡ 4818) (room : k < 64) wher
       ∙ put-set w k all room y g (valuesIn y m (y .variables)) 29 m (omega arith) (set-values y g m)
 
   pub item-pushed : (v : ℕ) → threadIn w k .items < 25
-      → set (set w (1042 + 55 * k + 4 + getD w (1042 + 55 * k + 3) 0) v) (1042 + 55 * k + 3) (getD w (1042 + 55 * k + 3) 0 + 1) ≡ putThread w k (pushItem v (threadIn w k))
+      → set (set w (1042 + 55 * k + 4 + getD w (1042 + 55 * k + 3) 0) v) (1042 + 55 * k + 3) (getD w (1042 + 55 * k + 3) 0 + 1)
+      ≡ putThread w k (pushItem v (threadIn w k))
   unfolding pushItem
-  item-pushed v l = item-written (getD w (1042 + 55 * k + 3) 0) v (getD w (1042 + 55 * k + 3) 0 + 1) l
+  item-pushed v l =
+      item-written (getD w (1042 + 55 * k + 3) 0) v (getD w (1042 + 55 * k + 3) 0 + 1) l
 
   pub item-popped : 0 < threadIn w k .items → threadIn w k .items ≤ 25
-      → set (set w (1042 + 55 * k + 4 + (getD w (1042 + 55 * k + 3) 0 - 1)) 0) (1042 + 55 * k + 3) (getD w (1042 + 55 * k + 3) 0 - 1) ≡ putThread w k (popItem (threadIn w k))
+      → set (set w (1042 + 55 * k + 4 + (getD w (1042 + 55 * k + 3) 0 - 1)) 0) (1042 + 55 * k + 3) (getD w (1042 + 55 * k + 3) 0 - 1)
+      ≡ putThread w k (popItem (threadIn w k))
   unfolding popItem
   item-popped g l = item-written (getD w (1042 + 55 * k + 3) 0 - 1) 0 (getD w (1042 + 55 * k + 3) 0 - 1) (omega arith)
 
   pub value-pushed : (v : ℕ) → threadIn w k .values < 25
-      → set (set w (1042 + 55 * k + 30 + getD w (1042 + 55 * k + 29) 0) v) (1042 + 55 * k + 29) (getD w (1042 + 55 * k + 29) 0 + 1) ≡ putThread w k (pushValue v (threadIn w k))
+      → set (set w (1042 + 55 * k + 30 + getD w (1042 + 55 * k + 29) 0) v) (1042 + 55 * k + 29) (getD w (1042 + 55 * k + 29) 0 + 1)
+      ≡ putThread w k (pushValue v (threadIn w k))
   unfolding pushValue
-  value-pushed v l = value-written (getD w (1042 + 55 * k + 29) 0) v (getD w (1042 + 55 * k + 29) 0 + 1) l
+  value-pushed v l =
+      value-written (getD w (1042 + 55 * k + 29) 0) v (getD w (1042 + 55 * k + 29) 0 + 1) l
 
   pub value-popped : 0 < threadIn w k .values → threadIn w k .values ≤ 25
-      → set (set w (1042 + 55 * k + 30 + (getD w (1042 + 55 * k + 29) 0 - 1)) 0) (1042 + 55 * k + 29) (getD w (1042 + 55 * k + 29) 0 - 1) ≡ putThread w k (popValue (threadIn w k))
+      → set (set w (1042 + 55 * k + 30 + (getD w (1042 + 55 * k + 29) 0 - 1)) 0) (1042 + 55 * k + 29) (getD w (1042 + 55 * k + 29) 0 - 1)
+      ≡ putThread w k (popValue (threadIn w k))
   unfolding popValue
   value-popped g l = value-written (getD w (1042 + 55 * k + 29) 0 - 1) 0 (getD w (1042 + 55 * k + 29) 0 - 1) (omega arith)
 
@@ -139,14 +154,17 @@ pub ruleset stack-laws = (moved, ends, item-pushed, item-popped, value-pushed, v
 
 -- ---- the top item read
 module _ (w : List ℕ) (k : ℕ) where
-  read : (i n : ℕ) → i ≡ 1042 + 55 * k + 4 + n → n < 25 → getD w i 0 ≡ getD (threadIn w k .continuation) n 0
+  read : (i n : ℕ) → i ≡ 1042 + 55 * k + 4 + n → n < 25
+      → getD w i 0 ≡ getD (threadIn w k .continuation) n 0
   read i n z l = ap (λ (j : ℕ). getD w j 0) z ∙ sym (part-at w (1042 + 55 * k + 4) 25 n l)
 
-  pub top-none : getD w (1042 + 55 * k + 3) 0 ≡ 0 → getD w (1042 + 55 * k + 4) 0 ≡ getD (threadIn w k .continuation) (threadIn w k .items - 1) 0
+  pub top-none : getD w (1042 + 55 * k + 3) 0 ≡ 0
+      → getD w (1042 + 55 * k + 4) 0 ≡ getD (threadIn w k .continuation) (threadIn w k .items - 1) 0
   top-none e = read (1042 + 55 * k + 4) (threadIn w k .items - 1) (omega arith) (omega arith)
 
   pub top-there : (getD w (1042 + 55 * k + 3) 0 ≡ 0 → ⊥) → threadIn w k .items ≤ 25
-      → getD w (1042 + 55 * k + 3 + getD w (1042 + 55 * k + 3) 0) 0 ≡ getD (threadIn w k .continuation) (threadIn w k .items - 1) 0
+      → getD w (1042 + 55 * k + 3 + getD w (1042 + 55 * k + 3) 0) 0
+      ≡ getD (threadIn w k .continuation) (threadIn w k .items - 1) 0
   top-there e l = read (1042 + 55 * k + 3 + getD w (1042 + 55 * k + 3) 0) (threadIn w k .items - 1) (omega arith) (omega arith)
 
 pub ruleset top-laws = (top-none, top-there)

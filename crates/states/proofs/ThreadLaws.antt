@@ -11,7 +11,9 @@ use Rattle.machine.proofs.WordLaws.{part-at, part-length, pasted-length, pasted
 use Rattle.states.specs.inner.Threads.{threadIn, putThread, blockOf}
 use Rattle.states.specs.declared.thread.ThreadWords.{ThreadWords}
 use Rattle.machine.proofs.PastedLaws.{pasted-self, pasted-set, pasted-pasted}
-use Rattle.states.proofs.Store.{stored, block-place, block-starter, block-alive, block-items, block-length, block-continuation, block-values, block-variables}
+use Rattle.states.proofs.Store.{stored, block-place, block-starter, block-alive, block-items}
+use Rattle.states.proofs.Store.{block-length, block-continuation, block-values}
+use Rattle.states.proofs.Store.{block-variables}
 use Rattle.states.proofs.ThreadSays.{fields-path}
 
 -- a thread whose two lists have their space: each law below needs that its block is 55 words
@@ -40,11 +42,14 @@ module _ (w : List ℕ) (k : ℕ) (all : length w ≡ 4818) (room : k < 64) wher
     unfolding putThread
     put-length = pasted-length w (1042 + 55 * k) (blockOf x) 55 end long ∙ all
 
-    with-word : (j : ℕ) → j < 55 → getD (putThread w k x) (1042 + 55 * k + j) 0 ≡ getD (blockOf x) j 0
+    with-word : (j : ℕ) → j < 55
+        → getD (putThread w k x) (1042 + 55 * k + j) 0 ≡ getD (blockOf x) j 0
     unfolding putThread
     with-word j g = pasted-in w (1042 + 55 * k) (blockOf x) 55 end long j g
 
-    with-run : (o : ℕ) (ws : List ℕ) → o + 25 ≤ 55 → length ws ≡ 25 → ((j : ℕ) → j < 25 → getD (blockOf x) (o + j) 0 ≡ getD ws j 0) → part (putThread w k x) (1042 + 55 * k + o) 25 ≡ ws
+    with-run : (o : ℕ) (ws : List ℕ) → o + 25 ≤ 55 → length ws ≡ 25
+        → ((j : ℕ) → j < 25 → getD (blockOf x) (o + j) 0 ≡ getD ws j 0)
+        → part (putThread w k x) (1042 + 55 * k + o) 25 ≡ ws
     with-run o ws g l f = ext-getD 0 (part (putThread w k x) (1042 + 55 * k + o) 25) ws (pl ∙ sym l)
         (λ j q. let m : j < 25 = rw pl at q in let z : 1042 + 55 * k + o + j ≡ 1042 + 55 * k + (o + j) = omega arith in
         part-at (putThread w k x) (1042 + 55 * k + o) 25 j m ∙ ap (λ (i : ℕ). getD (putThread w k x) i 0) z ∙ with-word (o + j) (omega arith) ∙ f j m)
@@ -69,9 +74,12 @@ module _ (w : List ℕ) (k : ℕ) (all : length w ≡ 4818) (room : k < 64) wher
     put-put y g = pasted-pasted w (1042 + 55 * k) (blockOf x) 55 end long (blockOf y) (let l : length (blockOf y) ≡ 55 = wide-length y g in omega arith)
 
     -- one word of it written
-    pub put-set : (y : ThreadWords) (j v : ℕ) → j < 55 → set (blockOf x) j v ≡ blockOf y → set (putThread w k x) (1042 + 55 * k + j) v ≡ putThread w k y
+    pub put-set : (y : ThreadWords) (j v : ℕ) → j < 55 → set (blockOf x) j v ≡ blockOf y
+        → set (putThread w k x) (1042 + 55 * k + j) v ≡ putThread w k y
     unfolding putThread
-    put-set y j v g e = pasted-set w (1042 + 55 * k) (blockOf x) 55 end long j v g ∙ ap (λ (b : List ℕ). pasted w (1042 + 55 * k) b 55) e
+    put-set y j v g e =
+        pasted-set w (1042 + 55 * k) (blockOf x) 55 end long j v g
+        ∙ ap (λ (b : List ℕ). pasted w (1042 + 55 * k) b 55) e
 
   -- its own block written back
   pub put-same : putThread w k (threadIn w k) ≡ w
@@ -89,6 +97,8 @@ module _ (w : List ℕ) (k : ℕ) (all : length w ≡ 4818) (room : k < 64) wher
       ) refl
 
   -- a change of the thread that another change has left there
-  pub put-then : (v u : List ℕ) (x : ThreadWords) (f : ThreadWords → ThreadWords) → Wide x → Wide (f x) → v ≡ putThread w k x → u ≡ putThread v k (f (threadIn v k)) → u ≡ putThread w k (f x)
+  pub put-then : (v u : List ℕ) (x : ThreadWords) (f : ThreadWords → ThreadWords) → Wide x
+      → Wide (f x) → v ≡ putThread w k x → u ≡ putThread v k (f (threadIn v k))
+      → u ≡ putThread w k (f x)
   put-then v u x f hx hf e q =
       q ∙ ap (λ (l : List ℕ). putThread l k (f (threadIn l k))) e ∙ ap (λ (y : ThreadWords). putThread (putThread w k x) k (f y)) (put-read x hx) ∙ put-put x hx (f x) hf

@@ -1,4 +1,5 @@
--- The code's struct of a thread and the state's thread: what is read is the thread's, and a thread stored or added to the words is stored or added in the state. Assumes nothing.
+-- The code's struct of a thread and the state's thread: what is read is the thread's, and a thread
+-- stored or added to the words is stored or added in the state. Assumes nothing.
 use Prim.Native.Nat.{ℕ, suc, zero, _+_, _*_, _<_, _≤_}
 use mathlib.Core.Path.{_≡_, refl, sym, ap, ap₂, _∙_, subst}
 use mathlib.Core.List.{List, map, reverse}
@@ -12,24 +13,31 @@ use Rattle.states.specs.inner.Threads.{wordsOf, fieldsAt, blockOf, withO
 use Rattle.states.specs.declared.thread.ThreadWords.{ThreadWords}
 use Rattle.machine.proofs.WordLaws.{part-at, part-length, Says}
 use Rattle.machine.proofs.Blocks.{put-thread, put-new, thread-length, thread-at}
-use Rattle.machine.proofs.Round.{thread-0, thread-1, thread-2, thread-continuation, thread-variables}
+use Rattle.machine.proofs.Round.{thread-0, thread-1, thread-2, thread-continuation}
+use Rattle.machine.proofs.Round.{thread-variables}
 use Rattle.machine.proofs.Padded.{padded-length, padded-at}
 use Rattle.machine.proofs.BlockParts.{thread-parts}
-use Rattle.states.proofs.Store.{block-place, block-starter, block-alive, block-items, block-length, block-continuation, block-values, block-variables, one-more}
+use Rattle.states.proofs.Store.{block-place, block-starter, block-alive, block-items}
+use Rattle.states.proofs.Store.{block-length, block-continuation, block-values}
+use Rattle.states.proofs.Store.{block-variables, one-more}
 
 pub items-length : (is : List Item) → length (reverse (map itemWord is)) ≡ length is
 items-length is = length-reverse (map itemWord is) ∙ length-map is itemWord
 
 -- structs with the same fields
-pub fields-path : (a b : ThreadWords) → a .place ≡ b .place → a .starter ≡ b .starter → a .alive ≡ b .alive → a .items ≡ b .items → a .continuation ≡ b .continuation → a .values ≡ b .values → a .variables ≡ b .variables → a ≡ b
+pub fields-path : (a b : ThreadWords) → a .place ≡ b .place → a .starter ≡ b .starter
+    → a .alive ≡ b .alive → a .items ≡ b .items → a .continuation ≡ b .continuation
+    → a .values ≡ b .values → a .variables ≡ b .variables → a ≡ b
 fields-path a b p q r s t u v = λ i. record { place = p i; starter = q i; alive = r i; items = s i; continuation = t i; values = u i; variables = v i }
 
 -- ---- a thread read
 module _ (w : List ℕ) (s : State) (h : Says w s) (k : ℕ) (l : k < 64) where
-  word : (j i : ℕ) → j < 55 → i ≡ 1042 + 55 * k + j → getD w i 0 ≡ threadWord (getD (s .threads) k noThread) j
+  word : (j i : ℕ) → j < 55 → i ≡ 1042 + 55 * k + j
+      → getD w i 0 ≡ threadWord (getD (s .threads) k noThread) j
   word j i b e = ap (λ (m : ℕ). getD w m 0) e ∙ h .thread k j l b
 
-  run-is : (i : ℕ) (ws : List ℕ) → i + 25 ≤ 4818 → ((j : ℕ) → j < 25 → getD w (i + j) 0 ≡ getD ws j 0) → part w i 25 ≡ padded 25 ws
+  run-is : (i : ℕ) (ws : List ℕ) → i + 25 ≤ 4818
+      → ((j : ℕ) → j < 25 → getD w (i + j) 0 ≡ getD ws j 0) → part w i 25 ≡ padded 25 ws
   run-is i ws g f = ext-getD 0 (part w i 25) (padded 25 ws) (pl ∙ sym (padded-length 25 ws))
       (λ j q. let m : j < 25 = rw pl at q in part-at w i 25 j m ∙ f j m ∙ sym (padded-at 25 ws j m))
     where
@@ -68,25 +76,34 @@ block-of x = ext-getD 0 (blockOf (wordsOf x)) (threadWords x) (bl ∙ sym (threa
     Same j = getD (blockOf (wordsOf x)) j 0 ≡ threadWord x j
 
     items : (j : ℕ) → j < 26 → Same (3 + j)
-    items zero g = block-items (wordsOf x) ∙ sym (items-length (x .continuation)) ∙ sym (thread-continuation x 0 g)
+    items zero g =
+        block-items (wordsOf x) ∙ sym (items-length (x .continuation))
+        ∙ sym (thread-continuation x 0 g)
     items (suc j) g =
         let z : 3 + suc j ≡ 4 + j = omega arith in
         ap (λ (k : ℕ). getD (blockOf (wordsOf x)) k 0) z ∙ block-continuation (wordsOf x) hp hv j (omega arith) ∙ padded-at 25 (reverse (map itemWord (x .continuation))) j (omega arith) ∙ sym (thread-continuation x (suc j) g)
 
     variables : (j : ℕ) → j < 26 → Same (29 + j)
-    variables zero g = block-values (wordsOf x) hp hv ∙ sym (length-map (x .variables) valueWord) ∙ sym (thread-variables x 0 g)
+    variables zero g =
+        block-values (wordsOf x) hp hv ∙ sym (length-map (x .variables) valueWord)
+        ∙ sym (thread-variables x 0 g)
     variables (suc j) g =
         let z : 29 + suc j ≡ 30 + j = omega arith in
         ap (λ (k : ℕ). getD (blockOf (wordsOf x)) k 0) z ∙ block-variables (wordsOf x) hp hv j (omega arith) ∙ padded-at 25 (map valueWord (x .variables)) j (omega arith) ∙ sym (thread-variables x (suc j) g)
 
 -- what a caller composes
 module _ (w : List ℕ) (s : State) (h : Says w s) where
-  pub store-says : (k : ℕ) (x : Thread) → k < 64 → k < length (s .threads) → Says (pasted w (1042 + 55 * k) (blockOf (wordsOf x)) 55) (withThread (suc k) x s)
+  pub store-says : (k : ℕ) (x : Thread) → k < 64 → k < length (s .threads)
+      → Says (pasted w (1042 + 55 * k) (blockOf (wordsOf x)) 55) (withThread (suc k) x s)
   store-says k x a b = subst (λ (l : List ℕ). Says (pasted w (1042 + 55 * k) l 55) (withThread (suc k) x s)) (sym (block-of x)) (put-thread w s h k x a b)
 
-  pub add-says : (x : Thread) → length (s .threads) < 64 → Says (withOneMore w (wordsOf x)) (withNew x s)
+  pub add-says : (x : Thread) → length (s .threads) < 64
+      → Says (withOneMore w (wordsOf x)) (withNew x s)
   unfolding withOneMore
   add-says x l = subst (λ (v : List ℕ). Says v (withNew x s)) same (put-new w s h x l)
     where
-      same : set (pasted w (1042 + 55 * length (s .threads)) (threadWords x) 55) 0 (length (s .threads) + 1) ≡ withOneMore w (wordsOf x)
-      same = ap₂ (λ (n : ℕ) (b : List ℕ). set (pasted w (1042 + 55 * n) b 55) 0 (n + 1)) (sym (h .threads)) (sym (block-of x)) ∙ one-more w _ (wordsOf x) (rw (h .threads) l) refl
+      same : set (pasted w (1042 + 55 * length (s .threads)) (threadWords x) 55) 0 (length (s .threads) + 1)
+          ≡ withOneMore w (wordsOf x)
+      same =
+          ap₂ (λ (n : ℕ) (b : List ℕ). set (pasted w (1042 + 55 * n) b 55) 0 (n + 1)) (sym (h .threads)) (sym (block-of x))
+          ∙ one-more w _ (wordsOf x) (rw (h .threads) l) refl

@@ -1,4 +1,5 @@
--- What `act_in` reads of a thread that is there, that this is what `act` asks, and what it gives. Assumes nothing.
+-- What `act_in` reads of a thread that is there, that this is what `act` asks, and what it gives.
+-- Assumes nothing.
 use Prim.Native.Nat.{ℕ, zero, suc, _+_, _-_, _*_, _<_, _≤_}
 use mathlib.Core.Path.{_≡_, refl, sym, ap, ap₂, _∙_, subst}
 use mathlib.Core.List.{List, [], _∷_, map, reverse}
@@ -14,7 +15,8 @@ use Rattle.basics.specs.Members.{All, more}
 use Rattle.language.specs.Places.{isPlace}
 use Rattle.language.specs.declared.Place.{Place}
 use Rattle.language.specs.declared.kind.Kind.{Kind}
-use Rattle.language.specs.declared.kind.Kind.the-variants.{Header, Declared, Module, Statement, Expression, Unknown}
+use Rattle.language.specs.declared.kind.Kind.the-variants.{Header, Declared, Module, Statement}
+use Rattle.language.specs.declared.kind.Kind.the-variants.{Expression, Unknown}
 use Rattle.language.proofs.PlaceLaws.{test-bounds, has-place}
 use Rattle.text.specs.Frames.{framesOf}
 use Rattle.program.specs.Trees.{rootS, frameAt}
@@ -41,20 +43,28 @@ use Rattle.acts.specs.declared.act.Acted.{Acted}
 use Rattle.acts.specs.inner.Fates.{popped, turned, Room}
 use Rattle.turns.specs.declared.view.View.{View}
 use Rattle.turns.specs.inner.Actions.{actIn, turnAct}
-use Rattle.turns.specs.inner.Acts.{ActedOn, actedOn, turnIn, topIn, variablesIn, Views, WholeTurn, TurnWords}
+use Rattle.turns.specs.inner.Acts.{ActedOn, actedOn, turnIn, topIn, variablesIn, Views, WholeTurn}
+use Rattle.turns.specs.inner.Acts.{TurnWords}
 use Rattle.turns.proofs.TurnLaws.{act-turns}
 use Rattle.reach.proofs.Passed.{order, inside, some-frame}
 use Rattle.stepper.specs.inner.Files.{StepWords, stateIn, whoIn, turnOf, turnOn}
 use Rattle.stepper.proofs.Variables.{variables-words}
-use Rattle.stepper.proofs.GoodWords.{shaped, says, step-long, threads-few, thread-read, fit, place-in}
+use Rattle.stepper.proofs.GoodWords.{shaped, says, step-long, threads-few, thread-read, fit}
+use Rattle.stepper.proofs.GoodWords.{place-in}
 
 -- ---- the place on which a thread stands
 pub number-is : (p : Place) (i : ℕ) → p ≡ record { number = i } → p .number ≡ i
 number-is p i e = ap (λ (q : Place). q .number) e
 
 -- ---- where the words lie that are read
-pub act-bounds : {frames : List ℕ} {shared : ℕ} {w : List ℕ} {t : ℕ} → StepWords frames shared w × (1 ≤ t) × (t ≤ getD w 0 0) → (length w ≡ 4818) × (1 ≤ t) × (t ≤ 64)
-act-bounds {frames} {shared} {w} p = let m = threads-few frames shared w (p .0) in let a = p .1 in let b = p .2 in (step-long frames shared w (p .0), a, omega arith)
+pub act-bounds : {frames : List ℕ} {shared : ℕ} {w : List ℕ} {t : ℕ}
+    → StepWords frames shared w × (1 ≤ t) × (t ≤ getD w 0 0)
+    → (length w ≡ 4818) × (1 ≤ t) × (t ≤ 64)
+act-bounds {frames} {shared} {w} p =
+    let m = threads-few frames shared w (p .0) in
+    let a = p .1 in
+    let b = p .2 in
+    (step-long frames shared w (p .0), a, omega arith)
 
 module _ (frames : List ℕ) (shared : ℕ) (w : List ℕ) (h : StepWords frames shared w) (t : ℕ) (low : 1 ≤ t) (high : t ≤ getD w 0 0) where
   abbrev s : State
@@ -124,10 +134,12 @@ module _ (frames : List ℕ) (shared : ℕ) (w : List ℕ) (h : StepWords frames
   variables-in = subst ValueWords (sym (variables-words x (fits .variables-room))) (values-in (x .variables) (fits .values))
 
   -- ---- the top item: one that is a statement's is a frame of the file
-  statement-there : (i : ℕ) → isStatement (frameAt (framesOf frames) i .kind) ≡ true → i < length frames
+  statement-there : (i : ℕ) → isStatement (frameAt (framesOf frames) i .kind) ≡ true
+      → i < length frames
   statement-there i e = rw length-map at (by (frameAt (framesOf frames) i .kind) refl e)
     where
-      by : (k : Kind) → frameAt (framesOf frames) i .kind ≡ k → isStatement k ≡ true → i < length (framesOf frames)
+      by : (k : Kind) → frameAt (framesOf frames) i .kind ≡ k → isStatement k ≡ true
+          → i < length (framesOf frames)
       by (Statement k) q e = inside (h .file .laid-out) i (Statement k) q refl
       by (Expression k) q e = absurd (false≢true e)
       by Header q e = absurd (false≢true e)
@@ -135,7 +147,8 @@ module _ (frames : List ℕ) (shared : ℕ) (w : List ℕ) (h : StepWords frames
       by Module q e = absurd (false≢true e)
       by Unknown q e = absurd (false≢true e)
 
-  item-there : (i : Item) → ItemFits (framesOf frames) n i → itemWord i < 1024 → itemWord i < length frames
+  item-there : (i : Item) → ItemFits (framesOf frames) n i → itemWord i < 1024
+      → itemWord i < length frames
   unfolding itemWord
   item-there (run st) (run-fits l k e) g = statement-there (rootS st) k
   item-there (back q) f g = absurd (omega arith)
@@ -148,27 +161,33 @@ module _ (frames : List ℕ) (shared : ℕ) (w : List ℕ) (h : StepWords frames
       Goal : List Item → Type 0
       Goal is = topIn (wordsOf (withContinuation is x)) < 1024 → topIn (wordsOf (withContinuation is x)) < length frames
 
-      go : (is : List Item) → x .continuation ≡ is → All (ItemFits (framesOf frames) n) is → length is ≤ 25 → Goal (x .continuation)
+      go : (is : List Item) → x .continuation ≡ is → All (ItemFits (framesOf frames) n) is
+          → length is ≤ 25 → Goal (x .continuation)
       go [] e f l = subst Goal (sym e) (λ g. let z : 0 < length (framesOf frames) = some-frame (h .file .laid-out) in
           let y : getD (padded 25 (reverse (map itemWord []))) (0 - 1) 0 ≡ 0 = padded-at 25 [] 0 (omega arith) in
           rw y (rw length-map at z))
       go (i ∷ is) e (more p f) l = subst Goal (sym e) (λ g. let q = top-item-is (withContinuation is x) i (omega arith) in rw q (item-there i p (rw q at g)))
 
   -- one that is 'back to q' has a place of the file
-  item-place : (i : Item) → ItemFits (framesOf frames) n i → 1024 ≤ itemWord i → itemWord i < 2048 → isPlace (itemWord i - 1024) ≡ true
+  item-place : (i : Item) → ItemFits (framesOf frames) n i → 1024 ≤ itemWord i → itemWord i < 2048
+      → isPlace (itemWord i - 1024) ≡ true
   unfolding itemWord
-  item-place (run st) (run-fits l k e) a b = absurd (let z = statement-there (rootS st) k in let y = h .file .few in omega arith)
-  item-place (back q) (back-fits l p) a b = let z : 1024 + q - 1024 ≡ q = omega arith in rw z (has-place n q p .0)
+  item-place (run st) (run-fits l k e) a b =
+      absurd (let z = statement-there (rootS st) k in let y = h .file .few in omega arith)
+  item-place (back q) (back-fits l p) a b =
+      let z : 1024 + q - 1024 ≡ q = omega arith in rw z (has-place n q p .0)
   item-place drop f a b = absurd (omega arith)
 
-  top-place : 1024 ≤ topIn (wordsOf x) → topIn (wordsOf x) < 2048 → isPlace (topIn (wordsOf x) - 1024) ≡ true
+  top-place : 1024 ≤ topIn (wordsOf x) → topIn (wordsOf x) < 2048
+      → isPlace (topIn (wordsOf x) - 1024) ≡ true
   top-place = go (x .continuation) refl (fits .items) (fits .items-room)
     where
       Goal : List Item → Type 0
       Goal is = 1024 ≤ topIn (wordsOf (withContinuation is x)) → topIn (wordsOf (withContinuation is x)) < 2048
           → isPlace (topIn (wordsOf (withContinuation is x)) - 1024) ≡ true
 
-      go : (is : List Item) → x .continuation ≡ is → All (ItemFits (framesOf frames) n) is → length is ≤ 25 → Goal (x .continuation)
+      go : (is : List Item) → x .continuation ≡ is → All (ItemFits (framesOf frames) n) is
+          → length is ≤ 25 → Goal (x .continuation)
       go [] e f l = subst Goal (sym e) (λ a b. absurd (let y : getD (padded 25 (reverse (map itemWord []))) (0 - 1) 0 ≡ 0 = padded-at 25 [] 0 (omega arith) in omega arith))
       go (i ∷ is) e (more p f) l = subst Goal (sym e) (λ a b. let q = top-item-is (withContinuation is x) i (omega arith) in rw q (item-place i p (rw q at a) (rw q at b)))
 

@@ -1,4 +1,5 @@
--- The answers of the public calls: the layout's refusal of the text, else what the call on the text's frames gives. Assumes nothing.
+-- The answers of the public calls: the layout's refusal of the text, else what the call on the
+-- text's frames gives. Assumes nothing.
 use Prim.Native.Nat.{ℕ}
 use mathlib.Core.Path.{_≡_, refl, sym, ap, _∙_}
 use mathlib.Core.List.{List}
@@ -27,7 +28,8 @@ use Rattle.stepper.specs.declared.answer.Answer.{Answer}
 use Rattle.stepper.specs.declared.answer.Answer.the-variants as A
 use Rattle.stepper.specs.declared.file.File.{File}
 use Rattle.stepper.specs.declared.party.Stepped.{Stepped}
-use Rattle.stepper.specs.Answers.{numberOf, threadOf, answerTo, answered, calledAs, onText, freshText, stepText}
+use Rattle.stepper.specs.Answers.{numberOf, threadOf, answerTo, answered, calledAs, onText}
+use Rattle.stepper.specs.Answers.{freshText, stepText}
 use Rattle.stepper.specs.inner.Files.{FileWords, StepWords, fileOf, steppedOn}
 
 -- ---- one answer
@@ -43,7 +45,8 @@ module _ (n t : ℕ) where
   -- the enum says 01's number, and the acting thread
   pub number-back : numberOf (answerTo n t) ≡ n
   unfolding answerTo
-  number-back = if-all (λ (a : Answer). numberOf a ≡ n) (eqb n 0) _ _ (λ e. sym (eqb-true n 0 e)) (λ _. refl)
+  number-back =
+      if-all (λ (a : Answer). numberOf a ≡ n) (eqb n 0) _ _ (λ e. sym (eqb-true n 0 e)) (λ _. refl)
 
   pub thread-back : threadOf (answerTo n t) ≡ t
   unfolding answerTo
@@ -59,21 +62,26 @@ done-0 = answer-done 0 0 refl
 
 -- ---- a step on frames: 14, or the step on words in range
 module _ (frames w : List ℕ) (file : File) (e : file ≡ fileOf (programOf (framesOf frames))) where
-  range-of : (x : Bool) → x ≡ inRange (framesOf frames) (file .schedulers) w → x ≡ inRange (framesOf frames) (programOf (framesOf frames) .schedulers) w
+  range-of : (x : Bool) → x ≡ inRange (framesOf frames) (file .schedulers) w
+      → x ≡ inRange (framesOf frames) (programOf (framesOf frames) .schedulers) w
   range-of x q = q ∙ ap (λ (f : File). inRange (framesOf frames) (f .schedulers) w) e
 
-  pub step-out : (x : Bool) (c : ℕ) → x ≡ inRange (framesOf frames) (file .schedulers) w → not x ≡ true → answered (A.Refused 14 0) w ≡ calledAs (stepCall (framesOf frames) w c)
+  pub step-out : (x : Bool) (c : ℕ) → x ≡ inRange (framesOf frames) (file .schedulers) w
+      → not x ≡ true → answered (A.Refused 14 0) w ≡ calledAs (stepCall (framesOf frames) w c)
   step-out x c q h =
       ap (λ (a : Answer). answered a w) refused-14
       ∙ sym (ap calledAs (called-out (framesOf frames) w c (sym (range-of x q) ∙ not-true x h)))
 
-  pub step-words : (x : Bool) → x ≡ inRange (framesOf frames) (file .schedulers) w → not x ≡ false → FileWords frames → StepWords frames (file .shared) w
+  pub step-words : (x : Bool) → x ≡ inRange (framesOf frames) (file .schedulers) w → not x ≡ false
+      → FileWords frames → StepWords frames (file .shared) w
   step-words x q h g = record { file = g; count = ap (λ (f : File). f .shared) e; range = sym (range-of x q) ∙ not-false x h }
 
-pub step-in : (s : Stepped) (r : Answer) (v : List ℕ) (k : Called) → steppedOn s v ≡ k → r ≡ answerTo (s .answer) (s .thread) → answered r v ≡ calledAs k
+pub step-in : (s : Stepped) (r : Answer) (v : List ℕ) (k : Called) → steppedOn s v ≡ k
+    → r ≡ answerTo (s .answer) (s .thread) → answered r v ≡ calledAs k
 step-in s r v k e h = ap (λ (a : Answer). answered a v) h ∙ ap calledAs e
 
--- ---- a text: a rejected one gives that refusal whatever the call (`by-reading`), an accepted one what the call gives (`by-call`)
+-- ---- a text: a rejected one gives that refusal whatever the call (`by-reading`), an accepted one
+-- what the call gives (`by-call`)
 module _ (bs : List ℕ) (l : Laid) (ws : List ℕ) (e : laidAs l ws ≡ laidOut bs) where
   module _ (v : Verdict) (n j : ℕ) (h : v ≡ l .verdict) (z : v ≡ Rejected n j) where
     pub fresh-rejected : (w : List ℕ) → answered (A.Rejected n j) w ≡ freshText bs w
@@ -86,21 +94,28 @@ module _ (bs : List ℕ) (l : Laid) (ws : List ℕ) (e : laidAs l ws ≡ laidOut
 
   module _ (v : Verdict) (h : v ≡ l .verdict) (a : v ≡ Accepted) where
     pub text-file : (n : ℕ) → n ≡ l .count → FileWords (take n ws)
-    text-file n q = let g = check-file bs l ws e v h a n q in record { laid-out = g .laid-out; few = g .few }
+    text-file n q =
+        let g = check-file bs l ws e v h a n q in record { laid-out = g .laid-out; few = g .few }
 
-    pub by-call : (call : List Frame → Called) (w : List ℕ) (n : ℕ) → n ≡ l .count → calledAs (call (framesOf (take n ws))) ≡ onText bs w call
+    pub by-call : (call : List Frame → Called) (w : List ℕ) (n : ℕ) → n ≡ l .count
+        → calledAs (call (framesOf (take n ws))) ≡ onText bs w call
     by-call call w n q = text-passed (λ n j. answered (A.Rejected n j) w) (λ fs. calledAs (call fs)) bs (laidAs l ws) e (sym h ∙ a) n q
 
-    pub fresh-wrong : (w : List ℕ) → (length w ≡ 4818 → ⊥) → answered (A.Refused 14 0) w ≡ freshText bs w
+    pub fresh-wrong : (w : List ℕ) → (length w ≡ 4818 → ⊥)
+        → answered (A.Refused 14 0) w ≡ freshText bs w
     unfolding freshText
     fresh-wrong w f =
         ap (λ (x : Answer). answered x w) refused-14 ∙ ap calledAs (call-wrong (take (l .count) ws) w f) ∙ by-call (λ fs. freshCall fs w) w (l .count) refl
 
-    pub fresh-done : (w u : List ℕ) (n : ℕ) → n ≡ l .count → u ≡ pack (fresh (programOf (framesOf (take n ws)))) → length w ≡ 4818 → answered (A.Done 0) u ≡ freshText bs w
+    pub fresh-done : (w u : List ℕ) (n : ℕ) → n ≡ l .count
+        → u ≡ pack (fresh (programOf (framesOf (take n ws)))) → length w ≡ 4818
+        → answered (A.Done 0) u ≡ freshText bs w
     unfolding freshText
     fresh-done w u n q z k =
         ap (λ (x : Answer). answered x u) done-0 ∙ ap calledAs (call-fresh (take n ws) w u k z) ∙ by-call (λ fs. freshCall fs w) w n q
 
-    pub step-done : (w u : List ℕ) (c n : ℕ) (r : Answer) → n ≡ l .count → answered r u ≡ calledAs (stepCall (framesOf (take n ws)) w c) → answered r u ≡ stepText bs w c
+    pub step-done : (w u : List ℕ) (c n : ℕ) (r : Answer) → n ≡ l .count
+        → answered r u ≡ calledAs (stepCall (framesOf (take n ws)) w c)
+        → answered r u ≡ stepText bs w c
     unfolding stepText
     step-done w u c n r q z = z ∙ by-call (λ fs. stepCall fs w c) w n q

@@ -6,9 +6,12 @@ use lib.ListN.{length}
 use Rattle.language.specs.declared.kind.StatementKind.{StatementKind}
 use Rattle.language.specs.declared.kind.StatementKind.the-variants as K
 use Rattle.language.specs.declared.kind.Kind.{Kind}
-use Rattle.language.specs.declared.kind.Kind.the-variants.{Header, Declared, Module, Statement, Expression, Unknown}
+use Rattle.language.specs.declared.kind.Kind.the-variants.{Header, Declared, Module, Statement}
+use Rattle.language.specs.declared.kind.Kind.the-variants.{Expression, Unknown}
 use Rattle.language.specs.declared.frame.Frame.{Frame}
-use Rattle.program.specs.Trees.{Expr, Stmt, nothing, seq, doAt, start, startWait, cooperate, letIn, store, ifElse, while, frameAt, arguments, statementWith, statementOf, statementTo, statementAt, expressionAt}
+use Rattle.program.specs.Trees.{Expr, Stmt, nothing, seq, doAt, start, startWait, cooperate, letIn}
+use Rattle.program.specs.Trees.{store, ifElse, while, frameAt, arguments, statementWith}
+use Rattle.program.specs.Trees.{statementOf, statementTo, statementAt, expressionAt}
 
 abbrev pub FewArguments : Stmt → Type 0
 FewArguments (start i m xs) = length xs ≤ 2
@@ -31,7 +34,8 @@ pub few-arguments-at : (fs : List Frame) (i : ℕ) → FewArguments (statementAt
 unfolding statementAt statementTo
 few-arguments-at fs i = of (frameAt fs i .kind)
   where
-    by : (k : StatementKind) → FewArguments (statementWith (λ j. expressionAt fs j) (λ j. statementTo i fs j) i (frameAt fs i) k)
+    by : (k : StatementKind)
+        → FewArguments (statementWith (λ j. expressionAt fs j) (λ j. statementTo i fs j) i (frameAt fs i) k)
     by K.Nothing = tt
     by K.Then = tt
     by K.DoAt = tt
@@ -43,7 +47,8 @@ few-arguments-at fs i = of (frameAt fs i .kind)
     by K.If = tt
     by K.While = tt
 
-    of : (k : Kind) → FewArguments (statementOf (λ j. expressionAt fs j) (λ j. statementTo i fs j) i (frameAt fs i) k)
+    of : (k : Kind)
+        → FewArguments (statementOf (λ j. expressionAt fs j) (λ j. statementTo i fs j) i (frameAt fs i) k)
     of (Statement k) = by k
     of (Expression k) = tt
     of Header = tt

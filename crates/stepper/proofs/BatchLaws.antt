@@ -30,7 +30,8 @@ use Rattle.stepper.specs.inner.Files.{StepWords, stateIn, fileOf, steppe
 use Rattle.stepper.proofs.GoodWords.{fits-in, shaped}
 
 -- a step leaves words that are good for the next
-step-good : (frames : List ℕ) (shared : ℕ) (w : List ℕ) (c : ℕ) → StepWords frames shared w → StepWords frames shared (stepCall (framesOf frames) w c .words)
+step-good : (frames : List ℕ) (shared : ℕ) (w : List ℕ) (c : ℕ) → StepWords frames shared w
+    → StepWords frames shared (stepCall (framesOf frames) w c .words)
 step-good frames shared w c h =
     record {
       file = h .file;
@@ -40,17 +41,21 @@ step-good frames shared w c h =
           ∙ shaped-in-range (framesOf frames) _ _ (keeps-step (framesOf frames) (programOf (framesOf frames)) _ (fits-in frames shared w h) (stateIn frames w) c (shaped frames shared w h));
     }
 
--- ---- the loop: k choices are stepped and answered; those from here on give what all give from the start
+-- ---- the loop: k choices are stepped and answered; those from here on give what all give from the
+-- start
 pub record Stepping (frames : List ℕ) (shared : ℕ) (cs old w before out : List ℕ) (k : ℕ) : Type 0 where
   pub few : k ≤ length cs
   pub long : length w ≡ length old
   pub wide : length out ≡ length before
   pub good : StepWords frames shared w
   pub words : wordsFrom (framesOf frames) w (drop k cs) ≡ wordsFrom (framesOf frames) old cs
-  pub answers : take k out ++ map answerWord (callsFrom (framesOf frames) w (drop k cs)) ≡ map answerWord (callsFrom (framesOf frames) old cs)
+  pub answers : take k out ++ map answerWord (callsFrom (framesOf frames) w (drop k cs))
+      ≡ map answerWord (callsFrom (framesOf frames) old cs)
 
-pub stepping-start : (frames : List ℕ) (shared : ℕ) (cs w out : List ℕ) → StepWords frames shared w → Stepping frames shared cs w w out out 0
-stepping-start frames shared cs w out h = record { few = omega arith; long = refl; wide = refl; good = h; words = refl; answers = refl }
+pub stepping-start : (frames : List ℕ) (shared : ℕ) (cs w out : List ℕ) → StepWords frames shared w
+    → Stepping frames shared cs w w out out 0
+stepping-start frames shared cs w out h =
+    record { few = omega arith; long = refl; wide = refl; good = h; words = refl; answers = refl }
 
 module _ (frames : List ℕ) (shared : ℕ) (cs old w before out : List ℕ) (k : ℕ) (r : Stepping frames shared cs old w before out k) where
   module _ (room : length before ≡ length cs) (h : k < length cs) (s : Stepped) (v : List ℕ) (a : ℕ) (z : steppedOn s v ≡ stepCall (framesOf frames) w (getD cs k 0)) (e : a ≡ s .answer * 65536 + s .thread) where
@@ -71,17 +76,22 @@ module _ (frames : List ℕ) (shared : ℕ) (cs old w before out : List ℕ) (k 
         ap (λ (i : ℕ). take i (set out k a)) one-more
         ∙ take-suc-set out k a (let l = r .wide in omega arith)
 
-    words-from : wordsFrom (framesOf frames) v (drop (k + 1) cs) ≡ wordsFrom (framesOf frames) w (drop k cs)
+    words-from : wordsFrom (framesOf frames) v (drop (k + 1) cs)
+        ≡ wordsFrom (framesOf frames) w (drop k cs)
     unfolding wordsFrom
-    words-from = ap (λ (x : List ℕ). wordsFrom (framesOf frames) x (drop (k + 1) cs)) words-next ∙ ap (wordsFrom (framesOf frames) w) (sym rest)
+    words-from =
+        ap (λ (x : List ℕ). wordsFrom (framesOf frames) x (drop (k + 1) cs)) words-next
+        ∙ ap (wordsFrom (framesOf frames) w) (sym rest)
 
-    calls-from : a ∷ map answerWord (callsFrom (framesOf frames) v (drop (k + 1) cs)) ≡ map answerWord (callsFrom (framesOf frames) w (drop k cs))
+    calls-from : a ∷ map answerWord (callsFrom (framesOf frames) v (drop (k + 1) cs))
+        ≡ map answerWord (callsFrom (framesOf frames) w (drop k cs))
     unfolding callsFrom
     calls-from =
         ap₂ (λ (i : ℕ) (x : List ℕ). i ∷ map answerWord (callsFrom (framesOf frames) x (drop (k + 1) cs))) (e ∙ ap answerWord z) words-next
         ∙ ap (λ (x : List ℕ). map answerWord (callsFrom (framesOf frames) w x)) (sym rest)
 
-    pub stepping-more : length v ≡ length w → Stepping frames shared cs old v before (set out k a) (k + 1)
+    pub stepping-more : length v ≡ length w
+        → Stepping frames shared cs old v before (set out k a) (k + 1)
     stepping-more l =
         record {
           few = omega arith;
@@ -98,13 +108,16 @@ module _ (frames : List ℕ) (shared : ℕ) (cs old w before out : List ℕ) (k 
 
   module _ (h : length cs ≤ k) where
     none-left : drop k cs ≡ []
-    none-left = let all : k ≡ length cs = (let f = r .few in omega arith) in ap (λ (i : ℕ). drop i cs) all ∙ drop-length cs
+    none-left =
+        let all : k ≡ length cs = (let f = r .few in omega arith) in
+        ap (λ (i : ℕ). drop i cs) all ∙ drop-length cs
 
     pub stepping-words : w ≡ wordsFrom (framesOf frames) old cs
     unfolding wordsFrom
     stepping-words = ap (wordsFrom (framesOf frames) w) (sym none-left) ∙ r .words
 
-    pub stepping-answers : length before ≡ length cs → out ≡ map answerWord (callsFrom (framesOf frames) old cs)
+    pub stepping-answers : length before ≡ length cs
+        → out ≡ map answerWord (callsFrom (framesOf frames) old cs)
     unfolding callsFrom
     stepping-answers room =
         sym (take-all k out (let l = r .wide in omega arith))
@@ -121,7 +134,8 @@ module _ (frames w cs out : List ℕ) where
   and-off true = refl
   and-off false = refl
 
-  pub steps-wrong : (length out ≡ length cs → ⊥) → batch (A.Refused 14 0) w out ≡ stepsCall (framesOf frames) w cs out
+  pub steps-wrong : (length out ≡ length cs → ⊥)
+      → batch (A.Refused 14 0) w out ≡ stepsCall (framesOf frames) w cs out
   unfolding stepsCall
   steps-wrong f = sym (if-no _ _ (ap (λ (b : Bool). b && F) (ne-eqb (length out) (length cs) f)))
 
@@ -129,11 +143,13 @@ module _ (frames w cs out : List ℕ) where
     range-of : x ≡ F
     range-of = q ∙ ap (λ (f : File). inRange (framesOf frames) (f .schedulers) w) e
 
-    pub steps-out : not x ≡ true → batch (A.Refused 14 0) w out ≡ stepsCall (framesOf frames) w cs out
+    pub steps-out : not x ≡ true
+        → batch (A.Refused 14 0) w out ≡ stepsCall (framesOf frames) w cs out
     unfolding stepsCall
     steps-out h = sym (if-no _ _ (ap (λ (b : Bool). eqb (length out) (length cs) && b) (sym range-of ∙ not-true x h) ∙ and-off (eqb (length out) (length cs))))
 
-  pub steps-in : (shared : ℕ) (v u : List ℕ) → StepWords frames shared w → length out ≡ length cs → v ≡ wordsFrom (framesOf frames) w cs → u ≡ map answerWord (callsFrom (framesOf frames) w cs)
+  pub steps-in : (shared : ℕ) (v u : List ℕ) → StepWords frames shared w → length out ≡ length cs
+      → v ≡ wordsFrom (framesOf frames) w cs → u ≡ map answerWord (callsFrom (framesOf frames) w cs)
       → batch (A.Done 0) v u ≡ stepsCall (framesOf frames) w cs out
   unfolding stepsCall
   steps-in shared v u g l a b =
@@ -143,11 +159,15 @@ module _ (frames w cs out : List ℕ) where
 -- ---- on a text
 module _ (bs : List ℕ) (l : Laid) (ws : List ℕ) (e : laidAs l ws ≡ laidOut bs)
     (v : Verdict) (h : v ≡ l .verdict) (w cs out : List ℕ) where
-  pub steps-rejected : (n j : ℕ) → v ≡ Rejected n j → batch (A.Rejected n j) w out ≡ stepsText bs w cs out
+  pub steps-rejected : (n j : ℕ) → v ≡ Rejected n j
+      → batch (A.Rejected n j) w out ≡ stepsText bs w cs out
   unfolding stepsText
   steps-rejected n j z = text-refused _ _ bs (laidAs l ws) e n j (sym h ∙ z)
 
   pub steps-done : v ≡ Accepted → (n : ℕ) → n ≡ l .count → (r : Answer) (u o : List ℕ)
-      → batch r u o ≡ stepsCall (framesOf (take n ws)) w cs out → batch r u o ≡ stepsText bs w cs out
+      → batch r u o ≡ stepsCall (framesOf (take n ws)) w cs out
+      → batch r u o ≡ stepsText bs w cs out
   unfolding stepsText
-  steps-done a n q r u o z = z ∙ text-passed (λ n j. batch (A.Rejected n j) w out) (λ fs. stepsCall fs w cs out) bs (laidAs l ws) e (sym h ∙ a) n q
+  steps-done a n q r u o z =
+      z
+      ∙ text-passed (λ n j. batch (A.Rejected n j) w out) (λ fs. stepsCall fs w cs out) bs (laidAs l ws) e (sym h ∙ a) n q

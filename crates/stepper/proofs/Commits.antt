@@ -1,4 +1,5 @@
--- What a commit does to the words it does to the state: each change, from `Says` to `Says`. Assumes nothing.
+-- What a commit does to the words it does to the state: each change, from `Says` to `Says`. Assumes
+-- nothing.
 use Prim.Native.Nat.{ℕ, suc, _+_, _-_, _*_, _<_, _≤_}
 use mathlib.Core.Path.{_≡_, refl, sym, ap, _∙_, subst}
 use mathlib.Core.List.{List, _++_}
@@ -11,7 +12,8 @@ use lib.Seq.{getD-set-same, getD-set-other}
 use borrow.Author.Tests.{ltb-true, ltb-false}
 use Rattle.basics.proofs.Ifs.{if-all, if-yes, if-no}
 use Rattle.language.specs.Places.{isScheduler}
-use Rattle.machine.specs.State.{State, Stored, Thread, Entry, noCell, schedulerAt, withThread, withCells, withScheduler, enlist, usedCells}
+use Rattle.machine.specs.State.{State, Stored, Thread, Entry, noCell, schedulerAt, withThread}
+use Rattle.machine.specs.State.{withCells, withScheduler, enlist, usedCells}
 use Rattle.machine.specs.Turns.{Turn, isSchedulerOf, behindFirst, leave}
 use Rattle.machine.specs.Words.{entryWord, cellWord}
 use Rattle.machine.specs.inner.Blocks.{pasted, cellWords}
@@ -27,7 +29,8 @@ use Rattle.stepper.proofs.Grows.{Grown}
 
 -- ---- a scheduler's list left, and joined
 module _ (v : List ℕ) (s : State) (h : Says v s) where
-  pub left-says : (u : Turn) → isSchedulerOf (u .program) (u .choice) ≡ isScheduler (u .choice) → (isSchedulerOf (u .program) (u .choice) ≡ true → u .choice - 2 < length (s .schedulers))
+  pub left-says : (u : Turn) → isSchedulerOf (u .program) (u .choice) ≡ isScheduler (u .choice)
+      → (isSchedulerOf (u .program) (u .choice) ≡ true → u .choice - 2 < length (s .schedulers))
       → length (schedulerAt s (u .choice) .active) ≤ 64 → Says (leftIn v (u .choice)) (leave u s)
   unfolding leftIn leave
   left-says u e there short =
@@ -39,7 +42,8 @@ module _ (v : List ℕ) (s : State) (h : Says v s) where
       c : ℕ
       c = u .choice
 
-  pub joined-says : (q : ℕ) (e : Entry) → isScheduler q ≡ true → q - 2 < length (s .schedulers) → length (schedulerAt s q .next) < 64 → Says (joinedIn v q (entryWord e)) (enlist q e s)
+  pub joined-says : (q : ℕ) (e : Entry) → isScheduler q ≡ true → q - 2 < length (s .schedulers)
+      → length (schedulerAt s q .next) < 64 → Says (joinedIn v q (entryWord e)) (enlist q e s)
   unfolding joinedIn
   joined-says q e l there room = subst (λ (x : List ℕ). Says x (enlist q e s)) (sym (if-yes _ _ l)) (last-says v s h q (list-block q l .1) there e room)
 
@@ -90,7 +94,8 @@ module _ (w : List ℕ) (s : State) (h : Says w s) where
     unfolding settledIn putThread
     settled-says k x a b = store-says _ (withCells cs s) (put-cells w s h cs) k x a b
 
-    pub room-is : (q m : ℕ) → isScheduler q ≡ true → q - 2 < length (s .schedulers) → roomIn (withCellWords w cs) q m ≡ leb (length (schedulerAt s q .next) + m) 64
+    pub room-is : (q m : ℕ) → isScheduler q ≡ true → q - 2 < length (s .schedulers)
+        → roomIn (withCellWords w cs) q m ≡ leb (length (schedulerAt s q .next) + m) 64
     unfolding roomIn
     room-is q m l there =
         let b = list-block q l in
@@ -99,7 +104,8 @@ module _ (w : List ℕ) (s : State) (h : Says w s) where
         ∙ room-says w s h q (b .1) there in
         ap (λ (x : Bool). x && leb (getD (withCellWords w cs) (67 + 130 * (q - 2)) 0 + m) 64) l ∙ ap (λ (x : ℕ). leb (x + m) 64) e
 
-  -- where the turn has made the cells ds behind the old ones, clearing those gives the words of s again
+  -- where the turn has made the cells ds behind the old ones, clearing those gives the words of s
+  -- again
   module _ (ds : List Stored) (few : length (s .cells ++ ds) ≤ 256) where
     abbrev old : ℕ
     old = usedCells (s .cells)

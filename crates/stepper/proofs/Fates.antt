@@ -1,4 +1,5 @@
--- Each fate of a turn, committed on the words, is what the rules make of the state. Assumes nothing.
+-- Each fate of a turn, committed on the words, is what the rules make of the state. Assumes
+-- nothing.
 use Prim.Native.Nat.{ℕ, suc, _+_, _-_, _<_, _≤_}
 use mathlib.Core.Path.{_≡_, refl, sym, ap, _∙_, subst}
 use mathlib.Core.List.{List}
@@ -15,7 +16,8 @@ use Rattle.language.proofs.PlaceLaws.{from-home, has-scheduler, place-scheduler
 use Rattle.program.specs.Programs.{Program}
 use Rattle.machine.specs.Accesses.{Access}
 use Rattle.machine.specs.State.{State, Stored, Thread, Entry, plain, schedulerAt, enlist, usedCells}
-use Rattle.machine.specs.Turns.{stateSpaces, Stepped, Turn, refuse, accept, settled, isSchedulerOf, leave, room}
+use Rattle.machine.specs.Turns.{stateSpaces, Stepped, Turn, refuse, accept, settled, isSchedulerOf}
+use Rattle.machine.specs.Turns.{leave, room}
 use Rattle.machine.specs.Words.{pack, entryWord}
 use Rattle.machine.specs.inner.Blocks.{pasted, cellWords}
 use Rattle.machine.specs.Calls.{Called, calledOf}
@@ -29,7 +31,8 @@ use Rattle.acts.specs.inner.Fates.{Turned, actedIn, refusedIn}
 use Rattle.turns.specs.inner.Acts.{ActedOn, actedOn}
 use Rattle.commits.specs.inner.Commits.{called, settledIn, leftIn, roomIn, joinsIn, committedIn}
 use Rattle.stepper.proofs.Grows.{Grown}
-use Rattle.stepper.proofs.Commits.{withCellWords, left-says, joined-says, settled-says, room-is, cleared-is}
+use Rattle.stepper.proofs.Commits.{withCellWords, left-says, joined-says, settled-says}
+use Rattle.stepper.proofs.Commits.{room-is, cleared-is}
 
 -- ---- schedulers: how many there are, and which
 pub leave-count : (u : Turn) (s : State) → length (leave u s .schedulers) ≡ length (s .schedulers)
@@ -38,17 +41,21 @@ leave-count u s =
     if-all (λ (r : State). length (r .schedulers) ≡ length (s .schedulers)) (isSchedulerOf (u .program) (u .choice)) _ s
     (λ _. length-set (s .schedulers) (u .choice - 2) _) (λ _. refl)
 
-pub enlist-count : (q : ℕ) (e : Entry) (s : State) → length (enlist q e s .schedulers) ≡ length (s .schedulers)
+pub enlist-count : (q : ℕ) (e : Entry) (s : State)
+    → length (enlist q e s .schedulers) ≡ length (s .schedulers)
 unfolding enlist
 enlist-count q e s = length-set (s .schedulers) (q - 2) _
 
 -- a place of the file that is not private is a scheduler
-pub place-scheduler : (n q : ℕ) → hasPlace n q ≡ true → eqb q private ≡ false → hasScheduler n q ≡ true
+pub place-scheduler : (n q : ℕ) → hasPlace n q ≡ true → eqb q private ≡ false
+    → hasScheduler n q ≡ true
 place-scheduler n q p e =
     file-scheduler n q p (eqb-false q 1 e)
 
 -- a scheduler of the file has its lists in the state and in the words
-pub scheduler-there : {fs : List Frame} {P : Program} {n : ℕ} {s : State} → FileFits fs P n → Shaped fs n s → (q : ℕ) → hasScheduler n q ≡ true → (q - 2 < length (s .schedulers)) × (isScheduler q ≡ true)
+pub scheduler-there : {fs : List Frame} {P : Program} {n : ℕ} {s : State} → FileFits fs P n
+    → Shaped fs n s → (q : ℕ) → hasScheduler n q ≡ true
+    → (q - 2 < length (s .schedulers)) × (isScheduler q ≡ true)
 scheduler-there {n = n} F S q e =
     let (b, m) = has-scheduler n q e in
     let l = from-home q b in
@@ -85,12 +92,14 @@ module _ {fs : List Frame} {P : Program} {n : ℕ} {w : List ℕ} {s : State} {c
   few : k < 64
   few = let a = A .shape .threads-room in let b = A .there in omega arith
 
-  pub list-there : (q : ℕ) → hasScheduler n q ≡ true → (q - 2 < length (s .schedulers)) × (isScheduler q ≡ true)
+  pub list-there : (q : ℕ) → hasScheduler n q ≡ true
+      → (q - 2 < length (s .schedulers)) × (isScheduler q ≡ true)
   list-there q e = scheduler-there (A .file) (A .shape) q e
 
   chosen-there : isSchedulerOf P c ≡ true → c - 2 < length (s .schedulers)
   unfolding isSchedulerOf
-  chosen-there e = list-there c (subst (λ (m : ℕ). hasScheduler m c ≡ true) (A .file .schedulers) e) .0
+  chosen-there e =
+      list-there c (subst (λ (m : ℕ). hasScheduler m c ≡ true) (A .file .schedulers) e) .0
 
   active-few : (q : ℕ) → length (schedulerAt s q .active) ≤ 64
   active-few q = scheduler-fits fs P n (A .file) s (A .shape) q .active-room
@@ -100,7 +109,8 @@ module _ {fs : List Frame} {P : Program} {n : ℕ} {w : List ℕ} {s : State} {c
     u = turnAt x cs acc
 
     -- ---- refused
-    pub refuse-is : (m : ℕ) (th : ThreadWords) → Grown (s .cells) cs → usedCells cs ≤ 256 → eqb m 0 ≡ false → commit (refusedIn m th (usedCells cs)) cs ≡ calledOf w (refuse u m)
+    pub refuse-is : (m : ℕ) (th : ThreadWords) → Grown (s .cells) cs → usedCells cs ≤ 256
+        → eqb m 0 ≡ false → commit (refusedIn m th (usedCells cs)) cs ≡ calledOf w (refuse u m)
     refuse-is m th g l e =
         ap (called m (suc k)) (cleared-is w s (A .says) cs g l) ∙ ap (λ (b : Bool). called m (suc k) (elim b [ true ↦ pack s | false ↦ w ])) (sym e)
 
@@ -119,10 +129,12 @@ module _ {fs : List Frame} {P : Program} {n : ℕ} {w : List ℕ} {s : State} {c
           Says (leftIn (settledIn (withCellWords w cs) (suc k - 1) (wordsOf y)) c) (leave u after)
       left-is = left-says _ after settled-is u (A .list) chosen-there (active-few c)
 
-      pub stays-is : commit (actedIn Stays (wordsOf y) (usedCells cs)) cs ≡ calledOf w (accept u after)
+      pub stays-is : commit (actedIn Stays (wordsOf y) (usedCells cs)) cs
+          ≡ calledOf w (accept u after)
       stays-is = ap (called 0 (suc k)) (is-pack _ after settled-is)
 
-      pub leaves-is : commit (actedIn Leaves (wordsOf y) (usedCells cs)) cs ≡ calledOf w (accept u (leave u after))
+      pub leaves-is : commit (actedIn Leaves (wordsOf y) (usedCells cs)) cs
+          ≡ calledOf w (accept u (leave u after))
       leaves-is = ap (called 0 (suc k)) (is-pack _ (leave u after) left-is)
 
       pub joins-is : (q : ℕ) → hasScheduler n q ≡ true → Grown (s .cells) cs → usedCells cs ≤ 256
@@ -143,5 +155,6 @@ module _ {fs : List Frame} {P : Program} {n : ℕ} {w : List ℕ} {s : State} {c
           same : roomIn (withCellWords w cs) q 1 ≡ leb (length (schedulerAt s q .next) + 1) 64
           same = room-is w s (A .says) cs q 1 (z .1) (z .0)
 
-          short : length (schedulerAt s q .next) + 1 ≤ 64 → length (schedulerAt (leave u after) q .next) < 64
+          short : length (schedulerAt s q .next) + 1 ≤ 64
+              → length (schedulerAt (leave u after) q .next) < 64
           short h = let e = leave-next fs P n (A .file) u after q in omega arith

@@ -35,13 +35,15 @@ module _ (words : List ℕ) (g : FileWords words) where
   file-header : (f : Frame) → f ≡ frameOfWord (getD words 0 0) → f ≡ getD (framesOf words) 0 noFrame
   file-header f e = e ∙ sym (frame-at words 0 noFrame file-some)
 
-pub file-fits : (words : List ℕ) (f : Frame) → f ≡ frameOfWord (getD words 0 0) → FileWords words → f .b < 2 ^ 8
+pub file-fits : (words : List ℕ) (f : Frame) → f ≡ frameOfWord (getD words 0 0) → FileWords words
+    → f .b < 2 ^ 8
 file-fits words f e g =
     let r = schedulers-range (g .laid-out) .1 in
     let z = ap (λ (x : Frame). x .b) (file-header words g f e) in
     omega arith
 
-pub file-is : (words : List ℕ) (f : Frame) (n a : ℕ) → f ≡ frameOfWord (getD words 0 0) → n ≡ length (sharedOf (framesOf words)) → a ≡ allowanceOf (f .a) → FileWords words
+pub file-is : (words : List ℕ) (f : Frame) (n a : ℕ) → f ≡ frameOfWord (getD words 0 0)
+    → n ≡ length (sharedOf (framesOf words)) → a ≡ allowanceOf (f .a) → FileWords words
     → _≡_ {A = File} (record { schedulers = f .b; shared = n; allowance = a }) (fileOf (programOf (framesOf words)))
 unfolding programOf
 file-is words f n a e h k g = let z = file-header words g f e in

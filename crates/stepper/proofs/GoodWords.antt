@@ -1,4 +1,5 @@
--- What a file that passes refusals 1 to 7 and words in range give: a file that fits, the state that the words are, its shape, and each thread that is there. Assumes nothing.
+-- What a file that passes refusals 1 to 7 and words in range give: a file that fits, the state that
+-- the words are, its shape, and each thread that is there. Assumes nothing.
 use Prim.Native.Nat.{ℕ, suc, _+_, _-_, _<_, _≤_}
 use mathlib.Core.Path.{_≡_, sym, ap, _∙_, subst}
 use mathlib.Core.List.{List}
@@ -69,7 +70,9 @@ module _ (frames : List ℕ) (shared : ℕ) (w : List ℕ) (h : StepWords frames
     in-list = let z = says .threads in omega arith
 
     pub thread-read : threadIn w (t - 1) ≡ wordsOf (threadAt s t)
-    thread-read = let a = threads-few in load-is w s says (t - 1) (omega arith) ∙ ap (λ (i : ℕ). wordsOf (nth (s .threads) i)) index
+    thread-read =
+        let a = threads-few in
+        load-is w s says (t - 1) (omega arith) ∙ ap (λ (i : ℕ). wordsOf (nth (s .threads) i)) index
 
     pub fit : ThreadFits fs n (threadAt s t)
     fit = subst (λ (i : ℕ). ThreadFits fs n (nth (s .threads) i)) index (shaped .threads (t - 1) in-list)

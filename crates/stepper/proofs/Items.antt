@@ -12,8 +12,11 @@ use Rattle.program.specs.Programs.{Program}
 use Rattle.machine.specs.Accesses.{Access}
 use Rattle.machine.specs.State.{State, Stored, Thread, run, drop, usedCells}
 use Rattle.machine.specs.Evaluation.{Here, Evaluated, Evaluation, eval, storing}
-use Rattle.machine.specs.Turns.{Stepped, Turn, continuation, variables, accept, evaluator, behind, goOn, withValue, withValues, byCondition, stay, settled}
-use Rattle.machine.specs.Statements.{stepNothing, stepSeq, stepStart, stepStartWait, stepLet, stepStore, stepIf, stepWhile, starting, startedWait, withStarted, stepStatement}
+use Rattle.machine.specs.Turns.{Stepped, Turn, continuation, variables, accept, evaluator, behind}
+use Rattle.machine.specs.Turns.{goOn, withValue, withValues, byCondition, stay, settled}
+use Rattle.machine.specs.Statements.{stepNothing, stepSeq, stepStart, stepStartWait, stepLet}
+use Rattle.machine.specs.Statements.{stepStore, stepIf, stepWhile, starting, startedWait}
+use Rattle.machine.specs.Statements.{withStarted, stepStatement}
 use Rattle.machine.specs.Words.{itemWord, valueWord, wordValue}
 use Rattle.machine.specs.inner.Blocks.{cellWords}
 use Rattle.machine.specs.Calls.{calledOf}
@@ -23,21 +26,27 @@ use Rattle.machine.specs.declared.value.Outcome.{Outcome}
 use Rattle.machine.specs.declared.value.Outcome.the-variants.{Is, Foreign, Spent, Stuck}
 use Rattle.machine.proofs.Round.{value-back, map-back}
 use Rattle.machine.specs.Shapes.{ValueFits, ThreadFits}
-use Rattle.machine.proofs.KeptCells.{CellsFit, HereFits, ExprFits, OutcomeFits, EvalFits, fit-eval, fit-storing}
-use Rattle.machine.proofs.KeptShape.{Parts, of-nothing, of-cooperate, of-seq, of-do, of-start, of-wait, of-let, of-store, of-if, of-while}
+use Rattle.machine.proofs.KeptCells.{CellsFit, HereFits, ExprFits, OutcomeFits, EvalFits, fit-eval}
+use Rattle.machine.proofs.KeptCells.{fit-storing}
+use Rattle.machine.proofs.KeptShape.{Parts, of-nothing, of-cooperate, of-seq, of-do, of-start}
+use Rattle.machine.proofs.KeptShape.{of-wait, of-let, of-store, of-if, of-while}
 use Rattle.operations.specs.declared.Who.{Who}
 use Rattle.operations.specs.inner.Results.{Result}
 use Rattle.evaluator.specs.inner.Results.{hereOf, resultOf, onWords}
 use Rattle.evaluator.proofs.Holding.{Holds, holds-cells}
 use Rattle.states.specs.inner.Threads.{wordsOf}
 use Rattle.acts.specs.inner.Fates.{Turned}
-use Rattle.turns.specs.inner.Acts.{ActedOn, actedOn, thenActs, thenOn, byTruthIn, letsOn, storesOn, choosesOn, loopsOn, variablesIn, evaluatedIn, storedIn, request, startsIn, oneArgument, lastArgument, twoArguments, statementIn}
-use Rattle.stepper.proofs.Grows.{Grown, grown-on, grows-eval, UnlessValue, unless-on, unless-grown, grows-storing}
+use Rattle.turns.specs.inner.Acts.{ActedOn, actedOn, thenActs, thenOn, byTruthIn, letsOn, storesOn}
+use Rattle.turns.specs.inner.Acts.{choosesOn, loopsOn, variablesIn, evaluatedIn, storedIn, request}
+use Rattle.turns.specs.inner.Acts.{startsIn, oneArgument, lastArgument, twoArguments, statementIn}
+use Rattle.stepper.proofs.Grows.{Grown, grown-on, grows-eval, UnlessValue, unless-on}
+use Rattle.stepper.proofs.Grows.{unless-grown, grows-storing}
 use Rattle.stepper.proofs.Fates.{Acts, turnAt, commit, commitOn, refuse-is}
 use Rattle.stepper.proofs.Arguments.{FewArguments}
 use Rattle.stepper.proofs.Variables.{variables-words}
 use Rattle.stepper.proofs.StartFates.{argued, start-commits, started-is, waits-is}
-use Rattle.stepper.proofs.Moves.{stay-none, stay-one, stay-two, stay-let, does-is, cooperates-is}
+use Rattle.stepper.proofs.Moves.{stay-none, stay-one, stay-two, stay-let, does-is}
+use Rattle.stepper.proofs.Moves.{cooperates-is}
 
 -- who evaluates is thread k + 1, which is x
 pub record IsWho (P : Program) (k : ℕ) (x : Thread) (who : Who) : Type 0 where
@@ -66,26 +75,34 @@ module _ {fs : List Frame} {P : Program} {n : ℕ} {w : List ℕ} {s : State} {c
       held : Holds (usedCells cs) (cellWords cs) cs
       held = record { count = refl; words = refl; room = C .room; each = λ j g. C .each j g .value }
 
-      pub evaluation-is : (m : Here → Evaluation) → onWords (m (hereOf who (variablesIn (wordsOf x)))) (usedCells cs) (cellWords cs) ≡ resultOf (m (evaluator (turnAt A x cs acc)) cs)
+      pub evaluation-is : (m : Here → Evaluation)
+          → onWords (m (hereOf who (variablesIn (wordsOf x)))) (usedCells cs) (cellWords cs)
+          ≡ resultOf (m (evaluator (turnAt A x cs acc)) cs)
       unfolding onWords
       evaluation-is m =
           ap (λ (ds : List Stored). resultOf (m (hereOf who (variablesIn (wordsOf x))) ds)) (holds-cells (usedCells cs) (cellWords cs) cs held)
           ∙ ap (λ (h : Here). resultOf (m h cs)) here-same
 
-      pub eval-fits : (e : Expr) → ExprFits n e → EvalFits n (eval (evaluator (turnAt A x cs acc)) e cs)
+      pub eval-fits : (e : Expr) → ExprFits n e
+          → EvalFits n (eval (evaluator (turnAt A x cs acc)) e cs)
       eval-fits e E = fit-eval (evaluator (turnAt A x cs acc)) cs here-fits C E
 
   -- ---- behind an evaluation
   module _ (cs : List Stored) (acc : List Access) (l : usedCells cs ≤ 256) where
-    then-is : (o : Outcome) (K : Value → Turned) (F : Value → Turn → Stepped) → UnlessValue o (Grown (s .cells) cs) → ((v : Value) → o ≡ Is v → commit A (K v) cs ≡ calledOf w (F v (turnAt A x cs acc)))
-        → commit A (thenActs o (wordsOf x) (usedCells cs) K) cs ≡ calledOf w (goOn (turnAt A x cs acc) o F)
+    then-is : (o : Outcome) (K : Value → Turned) (F : Value → Turn → Stepped)
+        → UnlessValue o (Grown (s .cells) cs)
+        → ((v : Value) → o ≡ Is v → commit A (K v) cs ≡ calledOf w (F v (turnAt A x cs acc)))
+        → commit A (thenActs o (wordsOf x) (usedCells cs) K) cs
+        ≡ calledOf w (goOn (turnAt A x cs acc) o F)
     then-is (Is v) K F g f = f v refl
     then-is Foreign K F g f = refuse-is A x cs acc 19 (wordsOf x) g l refl
     then-is Spent K F g f = refuse-is A x cs acc 17 (wordsOf x) g l refl
     then-is Stuck K F g f = refuse-is A x cs acc 20 (wordsOf x) g l refl
 
-    by-truth : (v : Value) (a b : Turned) (y z : Stepped) → Grown (s .cells) cs → commit A a cs ≡ calledOf w y → commit A b cs ≡ calledOf w z
-        → commit A (byTruthIn v (wordsOf x) (usedCells cs) a b) cs ≡ calledOf w (byCondition (turnAt A x cs acc) v y z)
+    by-truth : (v : Value) (a b : Turned) (y z : Stepped) → Grown (s .cells) cs
+        → commit A a cs ≡ calledOf w y → commit A b cs ≡ calledOf w z
+        → commit A (byTruthIn v (wordsOf x) (usedCells cs) a b) cs
+        ≡ calledOf w (byCondition (turnAt A x cs acc) v y z)
     by-truth (Truth true) a b y z g f h = f
     by-truth (Truth false) a b y z g f h = h
     by-truth (Number m) a b y z g f h = refuse-is A x cs acc 20 (wordsOf x) g l refl
@@ -107,21 +124,27 @@ module _ {fs : List Frame} {P : Program} {n : ℕ} {w : List ℕ} {s : State} {c
       grown = grown-on g (grows-eval (evaluator u) e cs)
 
       value-is : (On : Result → ActedOn) (K : Value → Turned) (F : Value → Turn → Stepped)
-          → On (resultOf r) ≡ actedOn (thenActs (r .outcome) (wordsOf x) (usedCells (r .cells)) K) (cellWords (r .cells))
+          → On (resultOf r)
+          ≡ actedOn (thenActs (r .outcome) (wordsOf x) (usedCells (r .cells)) K) (cellWords (r .cells))
           → ((v : Value) → OutcomeFits (Is v) → commit A (K v) (r .cells) ≡ calledOf w (F v (behind u r)))
-          → commitOn A (On (evaluatedIn who (wordsOf x) e (usedCells cs) (cellWords cs))) ≡ calledOf w (withValue u (λ h. eval h e) F)
+          → commitOn A (On (evaluatedIn who (wordsOf x) e (usedCells cs) (cellWords cs)))
+          ≡ calledOf w (withValue u (λ h. eval h e) F)
       value-is On K F z f =
           ap (λ (q : Result). commitOn A (On q)) (evaluation-is cs acc C (λ h. eval h e)) ∙ ap (commitOn A) z
           ∙ then-is (r .cells) (acc ++ r .accesses) (fits .cells .room) (r .outcome) K F (unless-grown (r .outcome) grown) (λ v q. f v (subst OutcomeFits q (fits .outcome)))
 
     -- ---- each kind of statement with expressions
-    let-is : (e : Expr) (a : Stmt) → ExprFits n e → commitOn A (letsOn (wordsOf x) (rootS a) (evaluatedIn who (wordsOf x) e (usedCells cs) (cellWords cs))) ≡ calledOf w (stepLet u e a)
+    let-is : (e : Expr) (a : Stmt) → ExprFits n e
+        → commitOn A (letsOn (wordsOf x) (rootS a) (evaluatedIn who (wordsOf x) e (usedCells cs) (cellWords cs)))
+        ≡ calledOf w (stepLet u e a)
     unfolding stepLet
     let-is e a E =
         value-is e E (letsOn (wordsOf x) (rootS a)) _ (λ v y. stay y (run a ∷ drop ∷ continuation y) (variables y ++ (v ∷ []))) refl
         (λ v _. stay-let A x X (r e E .cells) (acc ++ r e E .accesses) (grown e E) (fits e E .cells .room) v a)
 
-    if-is : (e : Expr) (a b : Stmt) → ExprFits n e → commitOn A (choosesOn (wordsOf x) (rootS a) (rootS b) (evaluatedIn who (wordsOf x) e (usedCells cs) (cellWords cs))) ≡ calledOf w (stepIf u e a b)
+    if-is : (e : Expr) (a b : Stmt) → ExprFits n e
+        → commitOn A (choosesOn (wordsOf x) (rootS a) (rootS b) (evaluatedIn who (wordsOf x) e (usedCells cs) (cellWords cs)))
+        ≡ calledOf w (stepIf u e a b)
     unfolding stepIf itemWord
     if-is e a b E =
         value-is e E (choosesOn (wordsOf x) (rootS a) (rootS b)) _ (λ v y. byCondition y v (stay y (run a ∷ continuation y) (variables y)) (stay y (run b ∷ continuation y) (variables y))) refl
@@ -129,7 +152,9 @@ module _ {fs : List Frame} {P : Program} {n : ℕ} {w : List ℕ} {s : State} {c
         (stay-one A x X (r e E .cells) (acc ++ r e E .accesses) (grown e E) (fits e E .cells .room) (run a))
         (stay-one A x X (r e E .cells) (acc ++ r e E .accesses) (grown e E) (fits e E .cells .room) (run b)))
 
-    while-is : (i : ℕ) (e : Expr) (a : Stmt) → ExprFits n e → commitOn A (loopsOn (wordsOf x) (rootS a) i (evaluatedIn who (wordsOf x) e (usedCells cs) (cellWords cs))) ≡ calledOf w (stepWhile u e a (while i e a))
+    while-is : (i : ℕ) (e : Expr) (a : Stmt) → ExprFits n e
+        → commitOn A (loopsOn (wordsOf x) (rootS a) i (evaluatedIn who (wordsOf x) e (usedCells cs) (cellWords cs)))
+        ≡ calledOf w (stepWhile u e a (while i e a))
     unfolding stepWhile itemWord
     while-is i e a E =
         value-is e E (loopsOn (wordsOf x) (rootS a) i) _ (λ v y. byCondition y v (stay y (run a ∷ run (while i e a) ∷ continuation y) (variables y)) (stay y (continuation y) (variables y))) refl
@@ -137,7 +162,9 @@ module _ {fs : List Frame} {P : Program} {n : ℕ} {w : List ℕ} {s : State} {c
         (stay-two A x X (r e E .cells) (acc ++ r e E .accesses) (grown e E) (fits e E .cells .room) (run a) (run (while i e a)))
         (stay-none A x X (r e E .cells) (acc ++ r e E .accesses)))
 
-    store-is : (d e : Expr) → ExprFits n d → ExprFits n e → commitOn A (storesOn (wordsOf x) (storedIn who (wordsOf x) d e (usedCells cs) (cellWords cs))) ≡ calledOf w (stepStore u d e)
+    store-is : (d e : Expr) → ExprFits n d → ExprFits n e
+        → commitOn A (storesOn (wordsOf x) (storedIn who (wordsOf x) d e (usedCells cs) (cellWords cs)))
+        ≡ calledOf w (stepStore u d e)
     unfolding stepStore
     store-is d e D E =
         ap (λ (q : Result). commitOn A (storesOn (wordsOf x) q)) (evaluation-is cs acc C (λ h. storing h d e))
@@ -156,8 +183,10 @@ module _ {fs : List Frame} {P : Program} {n : ℕ} {w : List ℕ} {s : State} {c
     next true args y = startedWait y m args
     next false args y = accept y (withStarted y m args (settled y (y .self)))
 
-    start-is : (waits : Bool) (args : List Value) → length args ≤ 2 → (cs : List Stored) (acc : List Access) (g : Grown (s .cells) cs) (l : usedCells cs ≤ 256)
-        → commit A (argued A x (X .place) cs acc g l waits m args) cs ≡ calledOf w (starting (turnAt A x cs acc) m args (next waits args (turnAt A x cs acc)))
+    start-is : (waits : Bool) (args : List Value) → length args ≤ 2
+        → (cs : List Stored) (acc : List Access) (g : Grown (s .cells) cs) (l : usedCells cs ≤ 256)
+        → commit A (argued A x (X .place) cs acc g l waits m args) cs
+        ≡ calledOf w (starting (turnAt A x cs acc) m args (next waits args (turnAt A x cs acc)))
     start-is true args h cs acc g l =
         start-commits A x (X .place) cs acc g l m args true (startedWait (turnAt A x cs acc) m args)
         (λ ob e r less. waits-is A x (X .place) cs acc g l m args (rw (length-map args valueWord) h) ob e less)
@@ -166,8 +195,10 @@ module _ {fs : List Frame} {P : Program} {n : ℕ} {w : List ℕ} {s : State} {c
         (λ ob e r less. started-is A x (X .place) cs acc g l m args (rw (length-map args valueWord) h) ob e less r)
 
     module _ (waits : Bool) (cs : List Stored) (acc : List Access) (C : CellsFit n cs) (g : Grown (s .cells) cs) where
-      then-on : (o : Outcome) (K : Value → ActedOn) (F : Value → Turn → Stepped) → ((v : Value) → o ≡ Is v → commitOn A (K v) ≡ calledOf w (F v (turnAt A x cs acc)))
-          → commitOn A (thenOn o (wordsOf x) (usedCells cs) (cellWords cs) K) ≡ calledOf w (goOn (turnAt A x cs acc) o F)
+      then-on : (o : Outcome) (K : Value → ActedOn) (F : Value → Turn → Stepped)
+          → ((v : Value) → o ≡ Is v → commitOn A (K v) ≡ calledOf w (F v (turnAt A x cs acc)))
+          → commitOn A (thenOn o (wordsOf x) (usedCells cs) (cellWords cs) K)
+          ≡ calledOf w (goOn (turnAt A x cs acc) o F)
       then-on (Is v) K F f = f v refl
       then-on Foreign K F f = refuse-is A x cs acc 19 (wordsOf x) g (C .room) refl
       then-on Spent K F f = refuse-is A x cs acc 17 (wordsOf x) g (C .room) refl
@@ -181,8 +212,10 @@ module _ {fs : List Frame} {P : Program} {n : ℕ} {w : List ℕ} {s : State} {c
           value-is cs acc C g e E (lastArgument (request waits m) (wordsOf x) (valueWord v)) _ (λ d z. starting z m (v ∷ d ∷ []) (next waits (v ∷ d ∷ []) z)) refl
           (λ d _. start-is waits (v ∷ d ∷ []) (omega arith) (r cs acc C g e E .cells) (acc ++ r cs acc C g e E .accesses) (grown cs acc C g e E) (fits cs acc C g e E .cells .room))
 
-    starts-is : (waits : Bool) (cs : List Stored) (acc : List Access) (C : CellsFit n cs) (g : Grown (s .cells) cs) (xs : List Expr) → length xs ≤ 2 → All (ExprFits n) xs
-        → commitOn A (startsIn who (request waits m) (wordsOf x) (usedCells cs) (cellWords cs) xs) ≡ calledOf w (withValues (turnAt A x cs acc) xs (λ args z. starting z m args (next waits args z)))
+    starts-is : (waits : Bool) (cs : List Stored) (acc : List Access) (C : CellsFit n cs) (g : Grown (s .cells) cs) (xs : List Expr)
+        → length xs ≤ 2 → All (ExprFits n) xs
+        → commitOn A (startsIn who (request waits m) (wordsOf x) (usedCells cs) (cellWords cs) xs)
+        ≡ calledOf w (withValues (turnAt A x cs acc) xs (λ args z. starting z m args (next waits args z)))
     unfolding withValues
     starts-is waits cs acc C g [] h none = start-is waits [] (omega arith) cs acc g (C .room)
     starts-is waits cs acc C g (e ∷ []) h (more E none) =
@@ -195,14 +228,18 @@ module _ {fs : List Frame} {P : Program} {n : ℕ} {w : List ℕ} {s : State} {c
     starts-is waits cs acc C g (e ∷ d ∷ f ∷ xs) h all = absurd (omega arith)
 
   -- ---- every statement
-  pub statement-is : (cs : List Stored) (acc : List Access) → CellsFit n cs → Grown (s .cells) cs → (st : Stmt) → Parts fs n st → FewArguments st
-      → commitOn A (statementIn who (wordsOf x) (usedCells cs) (cellWords cs) st) ≡ calledOf w (stepStatement (turnAt A x cs acc) st)
+  pub statement-is : (cs : List Stored) (acc : List Access) → CellsFit n cs → Grown (s .cells) cs
+      → (st : Stmt) → Parts fs n st → FewArguments st
+      → commitOn A (statementIn who (wordsOf x) (usedCells cs) (cellWords cs) st)
+      ≡ calledOf w (stepStatement (turnAt A x cs acc) st)
   unfolding stepNothing stepSeq stepStart stepStartWait itemWord
   statement-is cs acc C g st of-nothing h = stay-none A x X cs acc
   statement-is cs acc C g st of-cooperate h = cooperates-is A x X cs acc g (C .room)
-  statement-is cs acc C g st (of-seq {a = a} {b = b} i j) h = stay-two A x X cs acc g (C .room) (run a) (run b)
+  statement-is cs acc C g st (of-seq {a =
+      a} {b = b} i j) h = stay-two A x X cs acc g (C .room) (run a) (run b)
   statement-is cs acc C g st (of-do {q = q} {a = a} p i) h = does-is A x X cs acc g (C .room) q a p
-  statement-is cs acc C g st (of-start {m = m} {xs = xs} es) h = starts-is m false cs acc C g xs h es
+  statement-is cs acc C g st (of-start {m =
+      m} {xs = xs} es) h = starts-is m false cs acc C g xs h es
   statement-is cs acc C g st (of-wait {m = m} {xs = xs} es) h = starts-is m true cs acc C g xs h es
   statement-is cs acc C g st (of-let {x = e} {a = a} E i) h = let-is cs acc C g e a E
   statement-is cs acc C g st (of-store {x = d} {y = e} D E) h = store-is cs acc C g d e D E

@@ -1,4 +1,5 @@
--- A turn without an evaluation, on words, comes to what the rules say: items and variables more or less, moves. Assumes nothing.
+-- A turn without an evaluation, on words, comes to what the rules say: items and variables more or
+-- less, moves. Assumes nothing.
 use Prim.Native.Nat.{ℕ, suc, _+_, _-_, _<_, _≤_}
 use mathlib.Core.Path.{_≡_, refl, sym, ap, ap₂, _∙_}
 use mathlib.Core.List.{List, [], _∷_, _++_}
@@ -15,8 +16,10 @@ use Rattle.language.specs.declared.frame.Frame.{Frame}
 use Rattle.program.specs.Trees.{Stmt, rootS}
 use Rattle.program.specs.Programs.{Program}
 use Rattle.machine.specs.Accesses.{Access}
-use Rattle.machine.specs.State.{State, Stored, Thread, Item, run, back, drop, plain, enlist, usedCells}
-use Rattle.machine.specs.Turns.{stateSpaces, Stepped, Turn, here, continuation, variables, refuse, accept, selfAt, settled, leave, room, fits, stay, move, goTo}
+use Rattle.machine.specs.State.{State, Stored, Thread, Item, run, back, drop, plain, enlist}
+use Rattle.machine.specs.State.{usedCells}
+use Rattle.machine.specs.Turns.{stateSpaces, Stepped, Turn, here, continuation, variables, refuse}
+use Rattle.machine.specs.Turns.{accept, selfAt, settled, leave, room, fits, stay, move, goTo}
 use Rattle.machine.specs.Statements.{drops, stepDo, stepCooperate}
 use Rattle.machine.specs.Words.{itemWord, valueWord}
 use Rattle.machine.specs.Calls.{calledOf}
@@ -31,31 +34,40 @@ use Rattle.acts.specs.declared.act.Fate.the-variants.{Stays, Leaves, Joins}
 use Rattle.acts.specs.inner.Fates.{Turned, actedIn, refusedIn}
 use Rattle.turns.specs.inner.Acts.{oneIn, twoIn, letsIn, dropsIn, goesIn, doesIn, cooperatesIn}
 use Rattle.stepper.proofs.Grows.{Grown}
-use Rattle.stepper.proofs.Fates.{Acts, turnAt, commit, place-scheduler, refuse-is, stays-is, leaves-is, joins-is}
+use Rattle.stepper.proofs.Fates.{Acts, turnAt, commit, place-scheduler, refuse-is, stays-is}
+use Rattle.stepper.proofs.Fates.{leaves-is, joins-is}
 
 -- ---- a thread's space, by its two counts
-fits-yes : (items : List Item) (vars : List Value) → length items ≤ 25 → length vars ≤ 25 → fits stateSpaces items vars ≡ true
+fits-yes : (items : List Item) (vars : List Value) → length items ≤ 25 → length vars ≤ 25
+    → fits stateSpaces items vars ≡ true
 unfolding fits
 fits-yes items vars a b = ap₂ _&&_ (le-leb (length items) 25 a) (le-leb (length vars) 25 b)
 
-fits-items : (items : List Item) (vars : List Value) → 25 < length items → fits stateSpaces items vars ≡ false
+fits-items : (items : List Item) (vars : List Value) → 25 < length items
+    → fits stateSpaces items vars ≡ false
 unfolding fits
 fits-items items vars a = ap (λ (x : Bool). x && leb (length vars) 25) (lt-leb (length items) 25 a)
 
-fits-vars : (items : List Item) (vars : List Value) → 25 < length vars → fits stateSpaces items vars ≡ false
+fits-vars : (items : List Item) (vars : List Value) → 25 < length vars
+    → fits stateSpaces items vars ≡ false
 unfolding fits
-fits-vars items vars a = ap (λ (x : Bool). leb (length items) 25 && x) (lt-leb (length vars) 25 a) ∙ and-off (leb (length items) 25)
+fits-vars items vars a =
+    ap (λ (x : Bool). leb (length items) 25 && x) (lt-leb (length vars) 25 a)
+    ∙ and-off (leb (length items) 25)
 
-stay-yes : (u : Turn) (items : List Item) (vars : List Value) → fits (u .spaces) items vars ≡ true → stay u items vars ≡ accept u (settled u (selfAt u (here u) items vars))
+stay-yes : (u : Turn) (items : List Item) (vars : List Value) → fits (u .spaces) items vars ≡ true
+    → stay u items vars ≡ accept u (settled u (selfAt u (here u) items vars))
 unfolding stay
 stay-yes u items vars e = if-yes _ _ e
 
-stay-no : (u : Turn) (items : List Item) (vars : List Value) → fits (u .spaces) items vars ≡ false → stay u items vars ≡ refuse u 20
+stay-no : (u : Turn) (items : List Item) (vars : List Value) → fits (u .spaces) items vars ≡ false
+    → stay u items vars ≡ refuse u 20
 unfolding stay
 stay-no u items vars e = if-no _ _ e
 
 -- the last variable, and those before it
-with-last : (vs : List Value) → 0 < length vs → vs ≡ take (length vs - 1) vs ++ (getD vs (length vs - 1) (Number 0) ∷ [])
+with-last : (vs : List Value) → 0 < length vs
+    → vs ≡ take (length vs - 1) vs ++ (getD vs (length vs - 1) (Number 0) ∷ [])
 with-last vs h =
     let z : suc (length vs - 1) ≡ length vs = omega arith in
     sym (take-length vs) ∙ ap (λ (i : ℕ). take i vs) (sym z) ∙ take-suc vs (length vs - 1) (Number 0) (omega arith)
@@ -74,23 +86,32 @@ module _ {fs : List Frame} {P : Program} {n : ℕ} {w : List ℕ} {s : State} {c
   abbrev self : ℕ → List Item → List Value → Thread
   self q is vs = selfAt u q is vs
 
-  -- ---- the thread stays: with the items and variables that it has, with one item more, with two, with a variable more or less
-  pub stay-none : commit A (actedIn Stays (wordsOf x) (usedCells cs)) cs ≡ calledOf w (stay u items vars)
-  stay-none = stays-is A x cs acc x ∙ ap (calledOf w) (sym (stay-yes u items vars (fits-yes items vars (X .items-room) (X .variables-room))))
+  -- ---- the thread stays: with the items and variables that it has, with one item more, with two,
+  -- with a variable more or less
+  pub stay-none : commit A (actedIn Stays (wordsOf x) (usedCells cs)) cs
+      ≡ calledOf w (stay u items vars)
+  stay-none =
+      stays-is A x cs acc x
+      ∙ ap (calledOf w) (sym (stay-yes u items vars (fits-yes items vars (X .items-room) (X .variables-room))))
 
   module _ (g : Grown (s .cells) cs) (l : usedCells cs ≤ 256) where
-    refused-20 : (th : ThreadWords) → commit A (refusedIn 20 th (usedCells cs)) cs ≡ calledOf w (refuse u 20)
+    refused-20 : (th : ThreadWords)
+        → commit A (refusedIn 20 th (usedCells cs)) cs ≡ calledOf w (refuse u 20)
     refused-20 th = refuse-is A x cs acc 20 th g l refl
 
-    no-stay : (th : ThreadWords) (is : List Item) (vs : List Value) → fits stateSpaces is vs ≡ false → commit A (refusedIn 20 th (usedCells cs)) cs ≡ calledOf w (stay u is vs)
+    no-stay : (th : ThreadWords) (is : List Item) (vs : List Value) → fits stateSpaces is vs ≡ false
+        → commit A (refusedIn 20 th (usedCells cs)) cs ≡ calledOf w (stay u is vs)
     no-stay th is vs e = refused-20 th ∙ ap (calledOf w) (sym (stay-no u is vs e))
 
-    yes-stay : (th : ThreadWords) (is : List Item) (vs : List Value) → fits stateSpaces is vs ≡ true → th ≡ wordsOf (self (x .place) is vs)
+    yes-stay : (th : ThreadWords) (is : List Item) (vs : List Value) → fits stateSpaces is vs ≡ true
+        → th ≡ wordsOf (self (x .place) is vs)
         → commit A (actedIn Stays th (usedCells cs)) cs ≡ calledOf w (stay u is vs)
     yes-stay th is vs e q =
         ap (λ (y : ThreadWords). commit A (actedIn Stays y (usedCells cs)) cs) q ∙ stays-is A x cs acc (self (x .place) is vs) ∙ ap (calledOf w) (sym (stay-yes u is vs e))
 
-    pub stay-one : (i : Item) → commit A (oneIn (wordsOf x) (usedCells cs) (itemWord i)) cs ≡ calledOf w (stay u (i ∷ items) vars)
+    pub stay-one : (i : Item)
+        → commit A (oneIn (wordsOf x) (usedCells cs) (itemWord i)) cs
+        ≡ calledOf w (stay u (i ∷ items) vars)
     unfolding oneIn
     stay-one i =
         if-all (λ (a : Turned). commit A a cs ≡ calledOf w (stay u (i ∷ items) vars)) (leb 25 (length items)) _ _
@@ -98,7 +119,9 @@ module _ {fs : List Frame} {P : Program} {n : ℕ} {w : List ℕ} {s : State} {c
         (λ e. let h = leb-false 25 (length items) e in
         yes-stay (pushItem (itemWord i) (wordsOf x)) (i ∷ items) vars (fits-yes (i ∷ items) vars (omega arith) (X .variables-room)) (push-item-is x i h))
 
-    pub stay-two : (i j : Item) → commit A (twoIn (wordsOf x) (usedCells cs) (itemWord i) (itemWord j)) cs ≡ calledOf w (stay u (i ∷ j ∷ items) vars)
+    pub stay-two : (i j : Item)
+        → commit A (twoIn (wordsOf x) (usedCells cs) (itemWord i) (itemWord j)) cs
+        ≡ calledOf w (stay u (i ∷ j ∷ items) vars)
     unfolding twoIn
     stay-two i j =
         if-all (λ (a : Turned). commit A a cs ≡ calledOf w (stay u (i ∷ j ∷ items) vars)) (leb 24 (length items)) _ _
@@ -109,7 +132,8 @@ module _ {fs : List Frame} {P : Program} {n : ℕ} {w : List ℕ} {s : State} {c
 
     -- 16
     pub stay-let : (v : Value) (a : Stmt)
-        → commit A (letsIn (wordsOf x) (usedCells cs) (valueWord v) (rootS a)) cs ≡ calledOf w (stay u (run a ∷ drop ∷ items) (vars ++ (v ∷ [])))
+        → commit A (letsIn (wordsOf x) (usedCells cs) (valueWord v) (rootS a)) cs
+        ≡ calledOf w (stay u (run a ∷ drop ∷ items) (vars ++ (v ∷ [])))
     unfolding letsIn itemWord
     stay-let v a =
         if-all (λ (y : Turned). commit A y cs ≡ calledOf w (stay u (run a ∷ drop ∷ items) (vars ++ (v ∷ [])))) (leb 25 (length vars)) _ _
@@ -137,7 +161,8 @@ module _ {fs : List Frame} {P : Program} {n : ℕ} {w : List ℕ} {s : State} {c
         fewer : length (take (length vars - 1) vars) ≡ length vars - 1
         fewer = length-take-le (length vars - 1) vars (omega arith)
 
-        popped : 0 < length vars → popValue (wordsOf x) ≡ wordsOf (self (x .place) items (take (length vars - 1) vars))
+        popped : 0 < length vars
+            → popValue (wordsOf x) ≡ wordsOf (self (x .place) items (take (length vars - 1) vars))
         popped h =
             let r = X .variables-room in let z = fewer in
             ap (λ (vs : List Value). popValue (wordsOf (self (x .place) items vs))) (with-last vars h)
@@ -146,7 +171,9 @@ module _ {fs : List Frame} {P : Program} {n : ℕ} {w : List ℕ} {s : State} {c
         go : (b : Bool) → eqb (length vars) 0 ≡ b
             → commit A (if eqb (length vars) 0 then refusedIn 20 (wordsOf x) (usedCells cs) else actedIn Stays (popValue (wordsOf x)) (usedCells cs)) cs
             ≡ calledOf w (if eqb (length vars) 0 then refuse u 20 else stay u items (take (length vars - 1) vars))
-        go true e = ap (λ (a : Turned). commit A a cs) (if-yes _ _ e) ∙ refused-20 (wordsOf x) ∙ ap (calledOf w) (sym (if-yes _ _ e))
+        go true e =
+            ap (λ (a : Turned). commit A a cs) (if-yes _ _ e) ∙ refused-20 (wordsOf x)
+            ∙ ap (calledOf w) (sym (if-yes _ _ e))
         go false e =
             let h = eqb-false (length vars) 0 e in let r = X .variables-room in let z = fewer in
             ap (λ (a : Turned). commit A a cs) (if-no _ _ e)
@@ -161,16 +188,19 @@ module _ {fs : List Frame} {P : Program} {n : ℕ} {w : List ℕ} {s : State} {c
     unfolding move
     move-fits q is e = if-no _ _ (ap not e)
 
-    move-full : (q : ℕ) (is : List Item) → fits stateSpaces is vars ≡ false → move u q is ≡ refuse u 20
+    move-full : (q : ℕ) (is : List Item) → fits stateSpaces is vars ≡ false
+        → move u q is ≡ refuse u 20
     unfolding move
     move-full q is e = if-yes _ _ (ap not e)
 
-    go-full : (q : ℕ) (is : List Item) → fits stateSpaces is vars ≡ false → goTo u q is ≡ refuse u 20
+    go-full : (q : ℕ) (is : List Item) → fits stateSpaces is vars ≡ false
+        → goTo u q is ≡ refuse u 20
     unfolding goTo
     go-full q is e = if-all (λ (r : Stepped). r ≡ refuse u 20) (eqb q (x .place)) _ _ (λ _. stay-no u is vars e) (λ _. move-full q is e)
 
     pub goes-is : (q : ℕ) (is : List Item) → hasPlace n q ≡ true → length is ≤ 25
-        → commit A (goesIn (x .place) (wordsOf (self (x .place) is vars)) (usedCells cs) q) cs ≡ calledOf w (goTo u q is)
+        → commit A (goesIn (x .place) (wordsOf (self (x .place) is vars)) (usedCells cs) q) cs
+        ≡ calledOf w (goTo u q is)
     unfolding goesIn goTo moveTo
     goes-is q is p h = go (eqb q (x .place)) (eqb q private) refl refl
       where
@@ -183,7 +213,9 @@ module _ {fs : List Frame} {P : Program} {n : ℕ} {w : List ℕ} {s : State} {c
         go : (b d : Bool) → eqb q (x .place) ≡ b → eqb q private ≡ d
             → commit A (if eqb q (x .place) then actedIn Stays th (usedCells cs) else if eqb q 1 then actedIn Leaves (moveTo q th) (usedCells cs) else actedIn (Joins (record { number = q })) (moveTo q th) (usedCells cs)) cs
             ≡ calledOf w (if eqb q (x .place) then stay u is vars else move u q is)
-        go true d e z = ap (λ (a : Turned). commit A a cs) (if-yes _ _ e) ∙ yes-stay th is vars f refl ∙ ap (calledOf w) (sym (if-yes _ _ e))
+        go true d e z =
+            ap (λ (a : Turned). commit A a cs) (if-yes _ _ e) ∙ yes-stay th is vars f refl
+            ∙ ap (calledOf w) (sym (if-yes _ _ e))
         go false true e z =
             ap (λ (a : Turned). commit A a cs) (if-no _ _ e ∙ if-yes _ _ z) ∙ leaves-is A x cs acc (self q is vars)
             ∙ ap (calledOf w) (sym (if-no _ _ e ∙ move-fits q is f ∙ if-yes _ _ z))
@@ -192,7 +224,8 @@ module _ {fs : List Frame} {P : Program} {n : ℕ} {w : List ℕ} {s : State} {c
             ∙ ap (calledOf w) (sym (if-no _ _ e ∙ move-fits q is f ∙ if-no _ _ z))
 
     -- 12
-    pub does-is : (q : ℕ) (a : Stmt) → hasPlace n q ≡ true → commit A (doesIn (wordsOf x) (usedCells cs) q (rootS a)) cs ≡ calledOf w (stepDo u q a)
+    pub does-is : (q : ℕ) (a : Stmt) → hasPlace n q ≡ true
+        → commit A (doesIn (wordsOf x) (usedCells cs) q (rootS a)) cs ≡ calledOf w (stepDo u q a)
     unfolding doesIn stepDo itemWord
     does-is q a p = go (eqb (x .place) 1 && eqb q 1) (leb 24 (length items)) refl refl
       where
@@ -205,7 +238,9 @@ module _ {fs : List Frame} {P : Program} {n : ℕ} {w : List ℕ} {s : State} {c
         go : (b d : Bool) → (eqb (x .place) 1 && eqb q 1) ≡ b → leb 24 (length items) ≡ d
             → commit A (if eqb (x .place) 1 && eqb q 1 then refusedIn 20 (wordsOf x) (usedCells cs) else if leb 24 (length items) then refusedIn 20 (wordsOf x) (usedCells cs) else goesIn (x .place) th (usedCells cs) q) cs
             ≡ calledOf w (if eqb (x .place) 1 && eqb q 1 then refuse u 20 else goTo u q is)
-        go true d e z = ap (λ (y : Turned). commit A y cs) (if-yes _ _ e) ∙ refused-20 (wordsOf x) ∙ ap (calledOf w) (sym (if-yes _ _ e))
+        go true d e z =
+            ap (λ (y : Turned). commit A y cs) (if-yes _ _ e) ∙ refused-20 (wordsOf x)
+            ∙ ap (calledOf w) (sym (if-yes _ _ e))
         go false true e z =
             let h = leb-true 24 (length items) z in
             ap (λ (y : Turned). commit A y cs) (if-no _ _ e ∙ if-yes _ _ z) ∙ refused-20 (wordsOf x) ∙ ap (calledOf w) (sym (if-no _ _ e ∙ go-full q is (fits-items is vars (omega arith))))
@@ -217,7 +252,8 @@ module _ {fs : List Frame} {P : Program} {n : ℕ} {w : List ℕ} {s : State} {c
             ∙ goes-is q is p (omega arith) ∙ ap (calledOf w) (sym (if-no _ _ e))
 
     -- 15
-    pub cooperates-is : commit A (cooperatesIn (wordsOf x) (usedCells cs)) cs ≡ calledOf w (stepCooperate u)
+    pub cooperates-is : commit A (cooperatesIn (wordsOf x) (usedCells cs)) cs
+        ≡ calledOf w (stepCooperate u)
     unfolding cooperatesIn stepCooperate
     cooperates-is = go (eqb (x .place) private) refl
       where
@@ -225,7 +261,10 @@ module _ {fs : List Frame} {P : Program} {n : ℕ} {w : List ℕ} {s : State} {c
         next = if room u 1 (x .place) then accept u (enlist (x .place) (plain (suc k)) (leave u (settled u x))) else refuse u 20
 
         go : (b : Bool) → eqb (x .place) private ≡ b
-            → commit A (if eqb (x .place) 1 then refusedIn 20 (wordsOf x) (usedCells cs) else actedIn (Joins (record { number = x .place })) (wordsOf x) (usedCells cs)) cs ≡ calledOf w (if eqb (x .place) private then refuse u 20 else next)
-        go true e = ap (λ (y : Turned). commit A y cs) (if-yes _ _ e) ∙ refused-20 (wordsOf x) ∙ ap (calledOf w) (sym (if-yes _ _ e))
+            → commit A (if eqb (x .place) 1 then refusedIn 20 (wordsOf x) (usedCells cs) else actedIn (Joins (record { number = x .place })) (wordsOf x) (usedCells cs)) cs
+            ≡ calledOf w (if eqb (x .place) private then refuse u 20 else next)
+        go true e =
+            ap (λ (y : Turned). commit A y cs) (if-yes _ _ e) ∙ refused-20 (wordsOf x)
+            ∙ ap (calledOf w) (sym (if-yes _ _ e))
         go false e =
             ap (λ (y : Turned). commit A y cs) (if-no _ _ e) ∙ joins-is A x cs acc x (x .place) (place-scheduler n (x .place) (X .place) e) g l ∙ ap (calledOf w) (sym (if-no _ _ e))

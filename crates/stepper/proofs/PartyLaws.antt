@@ -1,4 +1,6 @@
--- The party that a choice names, on words in range: a scheduler with an active thread or without, an unlinked thread, or none; then by the thread that acts: what each call asks and what the choice gives. Assumes nothing.
+-- The party that a choice names, on words in range: a scheduler with an active thread or without,
+-- an unlinked thread, or none; then by the thread that acts: what each call asks and what the
+-- choice gives. Assumes nothing.
 use Prim.Native.Nat.{ℕ, _+_, _-_, _*_, _<_, _≤_}
 use mathlib.Core.Path.{_≡_, refl, sym, ap, ap₂, _∙_, subst}
 use mathlib.Core.List.{List, [], _∷_}
@@ -67,7 +69,8 @@ module _ (frames : List ℕ) (shared : ℕ) (w : List ℕ) (h : StepWords frames
     -- ---- the scheduler as a place
     module _ (p : Place) (at : p ≡ record { number = c }) where
       pub list-asks : (length w ≡ 4818) × (isScheduler (p .number) ≡ true)
-      list-asks = (step-long frames shared w h, ap (λ (q : Place). isScheduler (q .number)) at ∙ there .1)
+      list-asks =
+          (step-long frames shared w h, ap (λ (q : Place). isScheduler (q .number)) at ∙ there .1)
 
       pub instant-asks : (length w ≡ 4818) × (isScheduler (p .number) ≡ true) × (getD w 0 0 ≤ 64) × (getD w (67 + 130 * (p .number - 2)) 0 ≤ 64)
       instant-asks = (
@@ -78,10 +81,13 @@ module _ (frames : List ℕ) (shared : ℕ) (w : List ℕ) (h : StepWords frames
             (rw (room-says w s (says frames shared w h) c in-lists (there .0)) (fit .next-room)),
       )
 
-      pub count-at : (k : ℕ) → k ≡ length (readyWords w (wordsAt w (67 + 130 * (p .number - 2)))) → k ≡ length (readyWords w (wordsAt w (67 + 130 * (c - 2))))
-      count-at k e = e ∙ ap (λ (q : Place). length (readyWords w (wordsAt w (67 + 130 * (q .number - 2))))) at
+      pub count-at : (k : ℕ) → k ≡ length (readyWords w (wordsAt w (67 + 130 * (p .number - 2))))
+          → k ≡ length (readyWords w (wordsAt w (67 + 130 * (c - 2))))
+      count-at k e =
+          e ∙ ap (λ (q : Place). length (readyWords w (wordsAt w (67 + 130 * (q .number - 2))))) at
 
-      pub ended-at : (v : List ℕ) → v ≡ withInstantEnded w (p .number - 2) → v ≡ withInstantEnded w (c - 2)
+      pub ended-at : (v : List ℕ) → v ≡ withInstantEnded w (p .number - 2)
+          → v ≡ withInstantEnded w (c - 2)
       ended-at v e = e ∙ ap (λ (q : Place). withInstantEnded w (q .number - 2)) at
 
     -- ---- with a first active thread
@@ -118,12 +124,16 @@ module _ (frames : List ℕ) (shared : ℕ) (w : List ℕ) (h : StepWords frames
         few = shaped frames shared w h .threads-room
 
         readies : k ≡ length (readyThreads (s .threads) (schedulerAt s c .next))
-        readies = count ∙ instant-readies w s (says frames shared w h) few c in-lists (there .0) (fit .next-room) (fit .entries)
+        readies =
+            count
+            ∙ instant-readies w s (says frames shared w h) few c in-lists (there .0) (fit .next-room) (fit .entries)
 
-        ended : called 0 0 v ≡ called 0 0 (pack (withScheduler c (record { active = readyThreads (s .threads) (schedulerAt s c .next); next = stillWaiting (s .threads) (schedulerAt s c .next) }) s))
+        ended : called 0 0 v
+            ≡ called 0 0 (pack (withScheduler c (record { active = readyThreads (s .threads) (schedulerAt s c .next); next = stillWaiting (s .threads) (schedulerAt s c .next) }) s))
         ended = ap (called 0 0) (out ∙ is-pack _ _ (instant-says w s (says frames shared w h) few c in-lists (there .0) (fit .next-room) (fit .entries) idle))
 
-        pub instant-nothing : k ≡ 0 → called 16 0 v ≡ calledOf w (stepScheduler P s c (schedulerAt s c .active))
+        pub instant-nothing : k ≡ 0
+            → called 16 0 v ≡ calledOf w (stepScheduler P s c (schedulerAt s c .active))
         unfolding endInstant
         instant-nothing z =
             ap (called 16 0) (out ∙ instant-none w s (says frames shared w h) few c in-lists (there .0) (fit .next-room) (fit .entries) idle none-ready)
@@ -137,7 +147,8 @@ module _ (frames : List ℕ) (shared : ℕ) (w : List ℕ) (h : StepWords frames
                 by [] y = refl
                 by (a ∷ ts) y = absurd (omega arith)
 
-        pub instant-done : (k ≡ 0 → ⊥) → called 0 0 v ≡ calledOf w (stepScheduler P s c (schedulerAt s c .active))
+        pub instant-done : (k ≡ 0 → ⊥)
+            → called 0 0 v ≡ calledOf w (stepScheduler P s c (schedulerAt s c .active))
         unfolding endInstant
         instant-done z =
             ended ∙ by (readyThreads (s .threads) (schedulerAt s c .next)) readies
@@ -161,7 +172,9 @@ module _ (frames : List ℕ) (shared : ℕ) (w : List ℕ) (h : StepWords frames
     whole : stepCall (framesOf frames) w c ≡ calledOf w (step P s c)
     whole = called-in (framesOf frames) w c (h .range)
 
-    pub scheduler-steps : b ≡ true → (r : Called) → r ≡ calledOf w (stepScheduler P s c (schedulerAt s c .active)) → r ≡ stepCall (framesOf frames) w c
+    pub scheduler-steps : b ≡ true → (r : Called)
+        → r ≡ calledOf w (stepScheduler P s c (schedulerAt s c .active))
+        → r ≡ stepCall (framesOf frames) w c
     unfolding stepWithin
     scheduler-steps e r k = k ∙ ap (calledOf w) (sym (if-yes _ _ (is-scheduler e))) ∙ sym whole
 
@@ -171,7 +184,9 @@ module _ (frames : List ℕ) (shared : ℕ) (w : List ℕ) (h : StepWords frames
 
       module _ (d : Bool) (u : d ≡ isUnlinkedWord w c) where
         unlinked : d ≡ isUnlinked s c
-        unlinked = u ∙ unlinked-says w s (says frames shared w h) (shaped frames shared w h .threads-room) c
+        unlinked =
+            u
+            ∙ unlinked-says w s (says frames shared w h) (shaped frames shared w h .threads-room) c
 
         module _ (yes : d ≡ true) where
           thread : IsThread (c - 16)
@@ -181,15 +196,21 @@ module _ (frames : List ℕ) (shared : ℕ) (w : List ℕ) (h : StepWords frames
           thread-asks = (thread .0, thread .1, not-scheduler ∙ sym over)
             where
               over : isScheduler c ≡ false
-              over = let z = thread in ap₂ _&&_ (le-leb 2 c (omega arith)) (lt-leb c 9 (omega arith))
+              over =
+                  let z = thread in ap₂ _&&_ (le-leb 2 c (omega arith)) (lt-leb c 9 (omega arith))
 
-          pub thread-steps : (r : Called) → r ≡ calledOf w (stepThread P s c (c - 16)) → r ≡ stepCall (framesOf frames) w c
+          pub thread-steps : (r : Called) → r ≡ calledOf w (stepThread P s c (c - 16))
+              → r ≡ stepCall (framesOf frames) w c
           unfolding stepWithin
-          thread-steps r k = k ∙ ap (calledOf w) (sym (if-no _ _ not-scheduler ∙ if-yes _ _ (sym unlinked ∙ yes))) ∙ sym whole
+          thread-steps r k =
+              k ∙ ap (calledOf w) (sym (if-no _ _ not-scheduler ∙ if-yes _ _ (sym unlinked ∙ yes)))
+              ∙ sym whole
 
         pub no-party : d ≡ false → called 15 0 w ≡ stepCall (framesOf frames) w c
         unfolding stepWithin
-        no-party e = ap (calledOf w) (sym (if-no _ _ not-scheduler ∙ if-no _ _ (sym unlinked ∙ e))) ∙ sym whole
+        no-party e =
+            ap (calledOf w) (sym (if-no _ _ not-scheduler ∙ if-no _ _ (sym unlinked ∙ e)))
+            ∙ sym whole
 
   -- ---- by the thread that acts
   module _ (file : File) (f : file ≡ fileOf P) (t : ℕ) (a : t ≡ actingIn (file .schedulers) w c) where
@@ -199,7 +220,8 @@ module _ (frames : List ℕ) (shared : ℕ) (w : List ℕ) (h : StepWords frames
     abbrev loose : Bool
     loose = isUnlinkedWord w c
 
-    acting-cases : {Q : Type 0} → (has ≡ true → t ≡ getD w (3 + 130 * (c - 2)) 0 → Q) → (has ≡ false → loose ≡ true → t ≡ c - 16 → Q)
+    acting-cases : {Q : Type 0} → (has ≡ true → t ≡ getD w (3 + 130 * (c - 2)) 0 → Q)
+        → (has ≡ false → loose ≡ true → t ≡ c - 16 → Q)
         → (has ≡ false → loose ≡ false → t ≡ 0 → Q) → Q
     unfolding actingIn
     acting-cases {Q} first-active named nobody = by has refl loose refl
@@ -221,7 +243,8 @@ module _ (frames : List ℕ) (shared : ℕ) (w : List ℕ) (h : StepWords frames
       pub acting-byte : t < 256
       acting-byte = let k = acting-asks .1 in omega arith
 
-      pub acting-steps : (v : List ℕ) (r : ℕ) → called r t v ≡ calledOf w (stepThread P s c t) → called r t v ≡ stepCall (framesOf frames) w c
+      pub acting-steps : (v : List ℕ) (r : ℕ) → called r t v ≡ calledOf w (stepThread P s c t)
+          → called r t v ≡ stepCall (framesOf frames) w c
       acting-steps v r k =
           acting-cases
           (λ e z. scheduler-steps has file f refl e _ (turn-done (is-scheduler has file f refl e) t z some v r k))
@@ -271,12 +294,16 @@ module _ (n : ℕ) (w : List ℕ) (c : ℕ) (b : Bool) (q : b ≡ hasScheduler n
   pub acting-place : b ≡ true → isPlace c ≡ true
   acting-place e = scheduler-place c (has-scheduler n c (sym q ∙ e) .0)
 
-  pub acting-list : b ≡ true → (p : Place) → p ≡ record { number = c } → isScheduler (p .number) ≡ true
-  acting-list e p at = ap (λ (x : Place). isScheduler (x .number)) at ∙ has-scheduler n c (sym q ∙ e) .0
+  pub acting-list : b ≡ true → (p : Place) → p ≡ record { number = c }
+      → isScheduler (p .number) ≡ true
+  acting-list e p at =
+      ap (λ (x : Place). isScheduler (x .number)) at ∙ has-scheduler n c (sym q ∙ e) .0
 
-  pub acting-first : b ≡ true → (p : Place) → p ≡ record { number = c } → (r : ℕ) → r ≡ getD w (3 + 130 * (p .number - 2)) 0 → r ≡ actingIn n w c
+  pub acting-first : b ≡ true → (p : Place) → p ≡ record { number = c } → (r : ℕ)
+      → r ≡ getD w (3 + 130 * (p .number - 2)) 0 → r ≡ actingIn n w c
   unfolding actingIn
-  acting-first e p at r k = k ∙ ap (λ (x : Place). getD w (3 + 130 * (x .number - 2)) 0) at ∙ sym (if-yes _ _ (sym q ∙ e))
+  acting-first e p at r k =
+      k ∙ ap (λ (x : Place). getD w (3 + 130 * (x .number - 2)) 0) at ∙ sym (if-yes _ _ (sym q ∙ e))
 
   module _ (no : b ≡ false) (d : Bool) (u : d ≡ isUnlinkedWord w c) where
     pub acting-named : d ≡ true → c - 16 ≡ actingIn n w c

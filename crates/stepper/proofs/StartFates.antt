@@ -8,7 +8,8 @@ use native.Mathlib.Numerals.{add-one}
 use lib.Dec.{ltb, leb, eqb}
 use lib.ListN.{length, getD}
 use lib.Seq.{ext-getD}
-use borrow.Author.Tests.{leb-true, leb-false, le-ltb, lt-ltb, eqb-true, eqb-false, eq-eqb, ne-eqb, not-false}
+use borrow.Author.Tests.{leb-true, leb-false, le-ltb, lt-ltb, eqb-true, eqb-false, eq-eqb, ne-eqb}
+use borrow.Author.Tests.{not-false}
 use Rattle.basics.specs.If.{if_then_else_}
 use Rattle.basics.proofs.Ifs.{if-all, if-yes, if-no}
 use Rattle.language.specs.Places.{hasPlace, hasScheduler, isScheduler}
@@ -34,10 +35,12 @@ use Rattle.acts.specs.declared.act.Arguments.{Arguments}
 use Rattle.acts.specs.inner.Fates.{Turned, argumentsOf}
 use Rattle.turns.specs.inner.Acts.{startsWith, request}
 use Rattle.program.specs.inner.Modules.{foundIn}
-use Rattle.commits.specs.inner.Commits.{called, settledIn, leftIn, roomIn, joinedIn, newIn, obstacleIn, refusesIn, startsIn, startedIn, waitingIn}
+use Rattle.commits.specs.inner.Commits.{called, settledIn, leftIn, roomIn, joinedIn, newIn}
+use Rattle.commits.specs.inner.Commits.{obstacleIn, refusesIn, startsIn, startedIn, waitingIn}
 use Rattle.stepper.proofs.Grows.{Grown}
 use Rattle.stepper.proofs.Commits.{withCellWords, cells-out, joined-says, room-is}
-use Rattle.stepper.proofs.Fates.{Acts, turnAt, commit, place-scheduler, list-there, leave-count, enlist-count, refuse-is, settled-is, left-is}
+use Rattle.stepper.proofs.Fates.{Acts, turnAt, commit, place-scheduler, list-there}
+use Rattle.stepper.proofs.Fates.{leave-count, enlist-count, refuse-is, settled-is, left-is}
 
 padded-same : (n : ℕ) (a b : List ℕ) → ((j : ℕ) → getD a j 0 ≡ getD b j 0) → padded n a ≡ padded n b
 padded-same n a b f =
@@ -45,7 +48,8 @@ padded-same n a b f =
     (λ j g. let l : j < n = rw (padded-length n a) at g in padded-at n a j l ∙ f j ∙ sym (padded-at n b j l))
 
 -- at most two arguments are the words of two
-two-words : (vs : List ℕ) → length vs ≤ 2 → (j : ℕ) → getD (getD vs 0 0 ∷ getD vs 1 0 ∷ []) j 0 ≡ getD vs j 0
+two-words : (vs : List ℕ) → length vs ≤ 2 → (j : ℕ)
+    → getD (getD vs 0 0 ∷ getD vs 1 0 ∷ []) j 0 ≡ getD vs j 0
 two-words [] h zero = refl
 two-words [] h (suc zero) = refl
 two-words [] h (suc (suc j)) = refl
@@ -109,7 +113,9 @@ module _ {fs : List Frame} {P : Program} {n : ℕ} {w : List ℕ} {s : State} {c
 
   room-same : (m : ℕ) → unlinkedHere u ≡ false → roomIn v (x .place) m ≡ room u m (x .place)
   unfolding room
-  room-same m e = let z = list-there A (x .place) (linked-place e) in room-is w s (A .says) cs (x .place) m (z .1) (z .0)
+  room-same m e =
+      let z = list-there A (x .place) (linked-place e) in
+      room-is w s (A .says) cs (x .place) m (z .1) (z .0)
 
   count : getD v 0 0 ≡ length (s .threads)
   count = cells-out w s (A .says) cs 0 (λ e. omega arith) (omega arith) ∙ A .says .threads
@@ -122,22 +128,33 @@ module _ {fs : List Frame} {P : Program} {n : ℕ} {w : List ℕ} {s : State} {c
     module _ (linked : unlinkedHere u ≡ false) where
       module _ (known : leb (length (P .modules)) m ≡ false) where
         module _ (agrees : not (eqb (length vs) (length (moduleAt P m .types))) ≡ false) where
-          before : obstacle ≡ (if not (roomIn v (x .place) 1) then 20 else if leb 64 (getD v 0 0) then 18 else 0)
+          before : obstacle
+              ≡ (if not (roomIn v (x .place) 1) then 20 else if leb 64 (getD v 0 0) then 18 else 0)
           unfolding obstacleIn foundIn
-          before = if-no _ _ linked ∙ if-no _ _ (not-less m (length (P .modules)) ∙ known) ∙ if-no _ _ (ap not (eqb-sym (length (moduleAt P m .types)) (length vs)) ∙ agrees)
+          before =
+              if-no _ _ linked ∙ if-no _ _ (not-less m (length (P .modules)) ∙ known)
+              ∙ if-no _ _ (ap not (eqb-sym (length (moduleAt P m .types)) (length vs)) ∙ agrees)
 
           full-list : not (room u 1 (x .place)) ≡ true → obstacle ≡ 20
           full-list e = before ∙ if-yes _ _ (ap not (room-same 1 linked) ∙ e)
 
-          full-threads : not (room u 1 (x .place)) ≡ false → leb 64 (length (s .threads)) ≡ true → obstacle ≡ 18
-          full-threads e f = before ∙ if-no _ _ (ap not (room-same 1 linked) ∙ e) ∙ if-yes _ _ (ap (leb 64) count ∙ f)
+          full-threads : not (room u 1 (x .place)) ≡ false → leb 64 (length (s .threads)) ≡ true
+              → obstacle ≡ 18
+          full-threads e f =
+              before ∙ if-no _ _ (ap not (room-same 1 linked) ∙ e)
+              ∙ if-yes _ _ (ap (leb 64) count ∙ f)
 
-          none : not (room u 1 (x .place)) ≡ false → leb 64 (length (s .threads)) ≡ false → obstacle ≡ 0
-          none e f = before ∙ if-no _ _ (ap not (room-same 1 linked) ∙ e) ∙ if-no _ _ (ap (leb 64) count ∙ f)
+          none : not (room u 1 (x .place)) ≡ false → leb 64 (length (s .threads)) ≡ false
+              → obstacle ≡ 0
+          none e f =
+              before ∙ if-no _ _ (ap not (room-same 1 linked) ∙ e)
+              ∙ if-no _ _ (ap (leb 64) count ∙ f)
 
         other-count : not (eqb (length vs) (length (moduleAt P m .types))) ≡ true → obstacle ≡ 20
         unfolding obstacleIn foundIn
-        other-count e = if-no _ _ linked ∙ if-no _ _ (not-less m (length (P .modules)) ∙ known) ∙ if-yes _ _ (ap not (eqb-sym (length (moduleAt P m .types)) (length vs)) ∙ e)
+        other-count e =
+            if-no _ _ linked ∙ if-no _ _ (not-less m (length (P .modules)) ∙ known)
+            ∙ if-yes _ _ (ap not (eqb-sym (length (moduleAt P m .types)) (length vs)) ∙ e)
 
       no-module : leb (length (P .modules)) m ≡ true → obstacle ≡ 20
       unfolding obstacleIn foundIn
@@ -148,7 +165,8 @@ module _ {fs : List Frame} {P : Program} {n : ℕ} {w : List ℕ} {s : State} {c
     no-list e = if-yes _ _ e
 
     module _ (waits : Bool) where
-      refused : (i : ℕ) → obstacle ≡ i → eqb i 0 ≡ false → commit A (argued waits m vs) cs ≡ calledOf w (refuse u i)
+      refused : (i : ℕ) → obstacle ≡ i → eqb i 0 ≡ false
+          → commit A (argued waits m vs) cs ≡ calledOf w (refuse u i)
       unfolding startsIn
       refused i h e =
           if-yes _ _ (ap (λ (j : ℕ). not (eqb j 0)) h ∙ ap not e)
@@ -250,12 +268,16 @@ module _ {fs : List Frame} {P : Program} {n : ℕ} {w : List ℕ} {s : State} {c
         first = enlist (x .place) (plain (suc (length (s .threads)))) (withNew (started u (moduleAt P m) vs) (leave u (settled u x)))
 
         fewer : length (leave u (settled u x) .threads) < 64
-        fewer = let a = ap (length {A = Thread}) (leave-threads u (settled u x)) in let b = settled-length fs P n (A .file) u x in omega arith
+        fewer =
+            let a = ap (length {A = Thread}) (leave-threads u (settled u x)) in
+            let b = settled-length fs P n (A .file) u x in
+            omega arith
 
         there : x .place - 2 < length (leave u (settled u x) .schedulers)
         there = rw (leave-count u (settled u x)) (list-here .0)
 
-        one : room u 2 (x .place) ≡ true → Says (joinedIn (withOneMore left (wordsOf new)) (x .place) (entryWord (plain t))) first
+        one : room u 2 (x .place) ≡ true
+            → Says (joinedIn (withOneMore left (wordsOf new)) (x .place) (entryWord (plain t))) first
         one e =
             joined-says _ (withNew new gone) (add-says _ gone (left-is A x cs acc x) new fewer) (x .place) (plain t) (list-here .1) there
             (let h = has-room fs P n (A .file) u 2 (x .place) refl e in let b = leave-next fs P n (A .file) u (settled u x) (x .place) in omega arith)

@@ -1,4 +1,5 @@
--- A whole turn of a thread that is there: its words committed are the step of the rules. Assumes nothing.
+-- A whole turn of a thread that is there: its words committed are the step of the rules. Assumes
+-- nothing.
 use Prim.Native.Nat.{ℕ, suc, _+_, _-_, _<_, _≤_}
 use mathlib.Core.Path.{_≡_, refl, sym, ap, ap₂, _∙_, subst}
 use mathlib.Core.List.{List, [], _∷_}
@@ -45,7 +46,8 @@ module _ {fs : List Frame} {P : Program} {n : ℕ} {w : List ℕ} {s : State} {c
   abbrev rest : List Item → Thread
   rest is = withContinuation is x
 
-  rest-fits : (is : List Item) → All (ItemFits fs n) is → length is ≤ 25 → ThreadFits fs n (withContinuation is (threadAt s (suc k)))
+  rest-fits : (is : List Item) → All (ItemFits fs n) is → length is ≤ 25
+      → ThreadFits fs n (withContinuation is (threadAt s (suc k)))
   rest-fits is f l =
       record { place = X .place; starter = X .starter; items-room = l; variables-room = X .variables-room; items = f; values = X .values }
 
@@ -62,11 +64,15 @@ module _ {fs : List Frame} {P : Program} {n : ℕ} {w : List ℕ} {s : State} {c
   used = usedCells (s .cells)
 
   -- ---- what the words come to, by the item that is on top
-  in-run : (st : Stmt) (is : List Item) → rootS st < 1024 → statementAt fs (rootS st) ≡ st → itemIn fs who (wordsOf (rest is)) used ws (rootS st) ≡ statementIn who (wordsOf (rest is)) used ws st
+  in-run : (st : Stmt) (is : List Item) → rootS st < 1024 → statementAt fs (rootS st) ≡ st
+      → itemIn fs who (wordsOf (rest is)) used ws (rootS st)
+      ≡ statementIn who (wordsOf (rest is)) used ws st
   unfolding itemIn
   in-run st is l e = if-yes _ _ (lt-ltb (rootS st) 1024 l) ∙ ap (statementIn who (wordsOf (rest is)) used ws) e
 
-  in-back : (q : ℕ) (is : List Item) → q < 1024 → itemIn fs who (wordsOf (rest is)) used ws (1024 + q) ≡ actedOn (goesIn (x .place) (wordsOf (rest is)) used q) ws
+  in-back : (q : ℕ) (is : List Item) → q < 1024
+      → itemIn fs who (wordsOf (rest is)) used ws (1024 + q)
+      ≡ actedOn (goesIn (x .place) (wordsOf (rest is)) used q) ws
   unfolding itemIn
   in-back q is l =
       let a : 1024 ≤ 1024 + q = omega arith in
@@ -74,11 +80,15 @@ module _ {fs : List Frame} {P : Program} {n : ℕ} {w : List ℕ} {s : State} {c
       let d : 1024 + q - 1024 ≡ q = omega arith in
       if-no _ _ (le-ltb (1024 + q) 1024 a) ∙ if-yes _ _ (lt-ltb (1024 + q) 2048 b) ∙ ap (λ (j : ℕ). actedOn (goesIn (x .place) (wordsOf (rest is)) used j) ws) d
 
-  in-drop : (is : List Item) → itemIn fs who (wordsOf (rest is)) used ws 2048 ≡ actedOn (dropsIn (wordsOf (rest is)) used) ws
+  in-drop : (is : List Item)
+      → itemIn fs who (wordsOf (rest is)) used ws 2048
+      ≡ actedOn (dropsIn (wordsOf (rest is)) used) ws
   unfolding itemIn
   in-drop is = if-no _ _ (le-ltb 2048 1024 (omega arith)) ∙ if-no _ _ (le-ltb 2048 2048 (omega arith))
 
-  in-items : (i : Item) (is : List Item) → length is < 25 → turnIn fs who (wordsOf (rest (i ∷ is))) used ws ≡ itemIn fs who (wordsOf (rest is)) used ws (itemWord i)
+  in-items : (i : Item) (is : List Item) → length is < 25
+      → turnIn fs who (wordsOf (rest (i ∷ is))) used ws
+      ≡ itemIn fs who (wordsOf (rest is)) used ws (itemWord i)
   unfolding turnIn
   in-items i is h =
       if-no _ _ (ne-eqb (suc (length is)) 0 (λ z. omega arith))
@@ -86,7 +96,8 @@ module _ {fs : List Frame} {P : Program} {n : ℕ} {w : List ℕ} {s : State} {c
 
   -- ---- committed, it is the step
   item-is : (i : Item) (is : List Item) → ItemFits fs n i → All (ItemFits fs n) is → length is < 25
-      → commitOn A (itemIn fs who (wordsOf (rest is)) used ws (itemWord i)) ≡ calledOf w (stepItems P s c (suc k) (i ∷ is))
+      → commitOn A (itemIn fs who (wordsOf (rest is)) used ws (itemWord i))
+      ≡ calledOf w (stepItems P s c (suc k) (i ∷ is))
   unfolding itemWord goesBack
   item-is (run st) is (run-fits l q e) f h =
       ap (commitOn A) (in-run st is l e)
@@ -99,12 +110,18 @@ module _ {fs : List Frame} {P : Program} {n : ℕ} {w : List ℕ} {s : State} {c
       ap (commitOn A) (in-drop is) ∙ drops-is A (rest is) (rest-fits is f (omega arith)) (s .cells) [] (grown-same (s .cells)) (A .shape .cells-room)
 
   -- by the continuation: a thread without an item ends
-  turn-from : (is : List Item) → All (ItemFits fs n) is → length is ≤ 25 → commitOn A (turnIn fs who (wordsOf (rest is)) used ws) ≡ calledOf w (stepItems P s c (suc k) is)
+  turn-from : (is : List Item) → All (ItemFits fs n) is → length is ≤ 25
+      → commitOn A (turnIn fs who (wordsOf (rest is)) used ws)
+      ≡ calledOf w (stepItems P s c (suc k) is)
   unfolding turnIn ends ended
-  turn-from [] f h = ap (commitOn A) (if-yes _ _ refl) ∙ leaves-is A (rest []) (s .cells) [] (record { place = x .place; continuation = []; variables = x .variables; starter = x .starter; ended = true })
-  turn-from (i ∷ is) (more p f) h = ap (commitOn A) (in-items i is (omega arith)) ∙ item-is i is p f (omega arith)
+  turn-from [] f h =
+      ap (commitOn A) (if-yes _ _ refl)
+      ∙ leaves-is A (rest []) (s .cells) [] (record { place = x .place; continuation = []; variables = x .variables; starter = x .starter; ended = true })
+  turn-from (i ∷ is) (more p f) h =
+      ap (commitOn A) (in-items i is (omega arith)) ∙ item-is i is p f (omega arith)
 
-  pub turn-is : commitOn A (turnIn fs who (wordsOf x) used ws) ≡ calledOf w (stepThread P s c (suc k))
+  pub turn-is : commitOn A (turnIn fs who (wordsOf x) used ws)
+      ≡ calledOf w (stepThread P s c (suc k))
   unfolding stepThreadWithin
   turn-is = turn-from (x .continuation) (X .items) (X .items-room)
 
@@ -112,18 +129,22 @@ module _ {fs : List Frame} {P : Program} {n : ℕ} {w : List ℕ} {s : State} {c
   abbrev Few : ActedOn → Type 0
   Few r = r .acted .used ≤ 256
 
-  item-few : (i : Item) (is : List Item) → ItemFits fs n i → All (ItemFits fs n) is → length is < 25 → Few (itemIn fs who (wordsOf (rest is)) used ws (itemWord i))
+  item-few : (i : Item) (is : List Item) → ItemFits fs n i → All (ItemFits fs n) is → length is < 25
+      → Few (itemIn fs who (wordsOf (rest is)) used ws (itemWord i))
   unfolding itemWord
   item-few (run st) is (run-fits l q e) f h =
       subst Few (sym (in-run st is l e))
       (statement-few A (rest is) (rest-fits is f (omega arith)) who (who-rest is) (s .cells) cells st (parts-of fs P n (A .file) (run-fits l q e)))
   item-few (back q) is (back-fits l p) f h = subst Few (sym (in-back q is l)) (goes-few used (A .shape .cells-room) (wordsOf (rest is)) (x .place) q)
-  item-few drop is drop-fits f h = subst Few (sym (in-drop is)) (drops-few used (A .shape .cells-room) (wordsOf (rest is)))
+  item-few drop is drop-fits f h =
+      subst Few (sym (in-drop is)) (drops-few used (A .shape .cells-room) (wordsOf (rest is)))
 
-  few-from : (is : List Item) → All (ItemFits fs n) is → length is ≤ 25 → Few (turnIn fs who (wordsOf (rest is)) used ws)
+  few-from : (is : List Item) → All (ItemFits fs n) is → length is ≤ 25
+      → Few (turnIn fs who (wordsOf (rest is)) used ws)
   unfolding turnIn
   few-from [] f h = subst Few (sym (if-yes _ _ refl)) (A .shape .cells-room)
-  few-from (i ∷ is) (more p f) h = subst Few (sym (in-items i is (omega arith))) (item-few i is p f (omega arith))
+  few-from (i ∷ is) (more p f) h =
+      subst Few (sym (in-items i is (omega arith))) (item-few i is p f (omega arith))
 
   pub turn-few : turnIn fs who (wordsOf x) used ws .acted .used ≤ 256
   turn-few = few-from (x .continuation) (X .items) (X .items-room)

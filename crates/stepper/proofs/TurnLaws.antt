@@ -1,4 +1,5 @@
--- The turn of thread t on words in range: what its commit asks and gives, and the turn of a thread that is not there. Assumes nothing.
+-- The turn of thread t on words in range: what its commit asks and gives, and the turn of a thread
+-- that is not there. Assumes nothing.
 use Prim.Native.Nat.{ℕ, zero, suc, _-_, _<_, _≤_}
 use mathlib.Core.Path.{_≡_, sym, ap, _∙_, subst}
 use mathlib.Core.List.{List, []}
@@ -31,7 +32,8 @@ use Rattle.stepper.proofs.Commits.{left-says}
 use Rattle.stepper.proofs.Fates.{scheduler-there, Acts}
 use Rattle.stepper.proofs.Items.{IsWho}
 use Rattle.stepper.proofs.Threads.{turn-is, turn-few}
-use Rattle.stepper.proofs.GoodWords.{fits-in, shaped, says, threads-few, index, in-list, fit, place-in, thread-read}
+use Rattle.stepper.proofs.GoodWords.{fits-in, shaped, says, threads-few, index, in-list, fit}
+use Rattle.stepper.proofs.GoodWords.{place-in, thread-read}
 
 module _ (frames : List ℕ) (shared : ℕ) (w : List ℕ) (h : StepWords frames shared w) (t : ℕ) (low : 1 ≤ t) (c : ℕ) (choice : TurnChoice frames c) where
   abbrev P : Program
@@ -75,7 +77,8 @@ module _ (frames : List ℕ) (shared : ℕ) (w : List ℕ) (h : StepWords frames
         ∙ thread-read frames shared w h t low high
 
     -- what the commit asks
-    pub commit-asks : (a : Acted) (v : List ℕ) → turnOn a v frames shared w t → length v ≡ length w → CommitWords v t a
+    pub commit-asks : (a : Acted) (v : List ℕ) → turnOn a v frames shared w t → length v ≡ length w
+        → CommitWords v t a
     commit-asks a v o l =
         let m = threads-few frames shared w h in
         record {
@@ -95,8 +98,10 @@ module _ (frames : List ℕ) (shared : ℕ) (w : List ℕ) (h : StepWords frames
         }
 
     -- and gives
-    pub commit-gives : (a : Acted) (v v' : List ℕ) (used r : ℕ) → turnOn a v frames shared w t → used ≡ getD w 1 0
-        → called r t v' ≡ committedIn P v used c t (after v t a) (a .fate) → called r t v' ≡ calledOf w (stepThread P s c t)
+    pub commit-gives : (a : Acted) (v v' : List ℕ) (used r : ℕ) → turnOn a v frames shared w t
+        → used ≡ getD w 1 0
+        → called r t v' ≡ committedIn P v used c t (after v t a) (a .fate)
+        → called r t v' ≡ calledOf w (stepThread P s c t)
     commit-gives a v v' used r o u e =
         e
         ∙ ap (λ (x : ThreadWords).

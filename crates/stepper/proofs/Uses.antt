@@ -21,14 +21,18 @@ use Rattle.machine.specs.declared.value.Outcome.{Outcome}
 use Rattle.machine.specs.declared.value.Outcome.the-variants.{Is, Foreign, Spent, Stuck}
 use Rattle.machine.specs.Shapes.{ThreadFits}
 use Rattle.machine.proofs.KeptCells.{CellsFit, ExprFits, EvalFits, fit-storing}
-use Rattle.machine.proofs.KeptShape.{Parts, of-nothing, of-cooperate, of-seq, of-do, of-start, of-wait, of-let, of-store, of-if, of-while}
+use Rattle.machine.proofs.KeptShape.{Parts, of-nothing, of-cooperate, of-seq, of-do, of-start}
+use Rattle.machine.proofs.KeptShape.{of-wait, of-let, of-store, of-if, of-while}
 use Rattle.operations.specs.declared.Who.{Who}
 use Rattle.operations.specs.inner.Results.{Result}
 use Rattle.evaluator.specs.inner.Results.{resultOf}
 use Rattle.states.specs.declared.thread.ThreadWords.{ThreadWords}
 use Rattle.states.specs.inner.Threads.{wordsOf}
 use Rattle.acts.specs.inner.Fates.{Turned}
-use Rattle.turns.specs.inner.Acts.{ActedOn, oneIn, twoIn, letsIn, dropsIn, goesIn, doesIn, cooperatesIn, thenActs, thenOn, byTruthIn, letsOn, storesOn, choosesOn, loopsOn, evaluatedIn, request, startsIn, oneArgument, lastArgument, twoArguments, statementIn}
+use Rattle.turns.specs.inner.Acts.{ActedOn, oneIn, twoIn, letsIn, dropsIn, goesIn, doesIn}
+use Rattle.turns.specs.inner.Acts.{cooperatesIn, thenActs, thenOn, byTruthIn, letsOn, storesOn}
+use Rattle.turns.specs.inner.Acts.{choosesOn, loopsOn, evaluatedIn, request, startsIn, oneArgument}
+use Rattle.turns.specs.inner.Acts.{lastArgument, twoArguments, statementIn}
 use Rattle.stepper.proofs.Fates.{Acts, turnAt}
 use Rattle.stepper.proofs.Items.{IsWho, here-fits, evaluation-is, eval-fits}
 
@@ -51,19 +55,22 @@ module _ (n : ℕ) (h : n ≤ 256) (th : ThreadWords) where
 
   pub goes-few : (from q : ℕ) → goesIn from th n q .used ≤ 256
   unfolding goesIn
-  goes-few from q = if-all Few (eqb q from) _ _ (λ _. h) (λ _. if-all Few (eqb q 1) _ _ (λ _. h) (λ _. h))
+  goes-few from q =
+      if-all Few (eqb q from) _ _ (λ _. h) (λ _. if-all Few (eqb q 1) _ _ (λ _. h) (λ _. h))
 
   cooperates-few : cooperatesIn th n .used ≤ 256
   unfolding cooperatesIn
   cooperates-few = if-all Few (eqb (th .place) 1) _ _ (λ _. h) (λ _. h)
 
-  then-few : (o : Outcome) (K : Value → Turned) → ((v : Value) → K v .used ≤ 256) → thenActs o th n K .used ≤ 256
+  then-few : (o : Outcome) (K : Value → Turned) → ((v : Value) → K v .used ≤ 256)
+      → thenActs o th n K .used ≤ 256
   then-few (Is v) K f = f v
   then-few Foreign K f = h
   then-few Spent K f = h
   then-few Stuck K f = h
 
-  truth-few : (v : Value) (a b : Turned) → a .used ≤ 256 → b .used ≤ 256 → byTruthIn v th n a b .used ≤ 256
+  truth-few : (v : Value) (a b : Turned) → a .used ≤ 256 → b .used ≤ 256
+      → byTruthIn v th n a b .used ≤ 256
   truth-few (Truth true) a b f g = f
   truth-few (Truth false) a b f g = g
   truth-few (Number m) a b f g = h
@@ -85,18 +92,23 @@ module _ {fs : List Frame} {P : Program} {n : ℕ} {w : List ℕ} {s : State} {c
 
   -- the value of an expression
   module _ (cs : List Stored) (C : CellsFit n cs) (e : Expr) (E : ExprFits n e) where
-    value-few : (On : Result → ActedOn) → ((r : Evaluated) → usedCells (r .cells) ≤ 256 → On (resultOf r) .acted .used ≤ 256) → On (evaluatedIn who (wordsOf x) e (usedCells cs) (cellWords cs)) .acted .used ≤ 256
+    value-few : (On : Result → ActedOn)
+        → ((r : Evaluated) → usedCells (r .cells) ≤ 256 → On (resultOf r) .acted .used ≤ 256)
+        → On (evaluatedIn who (wordsOf x) e (usedCells cs) (cellWords cs)) .acted .used ≤ 256
     value-few On f =
         subst (λ (r : Result). On r .acted .used ≤ 256) (sym (evaluation-is A x X who W cs [] C (λ h. eval h e)))
         (f (eval (evaluator (turnAt A x cs [])) e cs) (eval-fits A x X who W cs [] C e E .cells .room))
 
-  on-few : (o : Outcome) (m : ℕ) (ws : List ℕ) (K : Value → ActedOn) → m ≤ 256 → ((v : Value) → K v .acted .used ≤ 256) → thenOn o (wordsOf x) m ws K .acted .used ≤ 256
+  on-few : (o : Outcome) (m : ℕ) (ws : List ℕ) (K : Value → ActedOn) → m ≤ 256
+      → ((v : Value) → K v .acted .used ≤ 256) → thenOn o (wordsOf x) m ws K .acted .used ≤ 256
   on-few (Is v) m ws K h f = f v
   on-few Foreign m ws K h f = h
   on-few Spent m ws K h f = h
   on-few Stuck m ws K h f = h
 
-  starts-few : (waits : Bool) (m : ℕ) (cs : List Stored) → CellsFit n cs → (xs : List Expr) → All (ExprFits n) xs → startsIn who (request waits m) (wordsOf x) (usedCells cs) (cellWords cs) xs .acted .used ≤ 256
+  starts-few : (waits : Bool) (m : ℕ) (cs : List Stored) → CellsFit n cs → (xs : List Expr)
+      → All (ExprFits n) xs
+      → startsIn who (request waits m) (wordsOf x) (usedCells cs) (cellWords cs) xs .acted .used ≤ 256
   starts-few waits m cs C [] f = C .room
   starts-few waits m cs C (e ∷ []) (more E f) =
       value-few cs C e E (oneArgument (request waits m) th) (λ r h. then-few (usedCells (r .cells)) h th (r .outcome) _ (λ _. h))
@@ -112,11 +124,14 @@ module _ {fs : List Frame} {P : Program} {n : ℕ} {w : List ℕ} {s : State} {c
       F : EvalFits n (eval (evaluator (turnAt A x cs [])) e cs)
       F = eval-fits A x X who W cs [] C e E
 
-  pub statement-few : (cs : List Stored) → CellsFit n cs → (st : Stmt) → Parts fs n st → statementIn who (wordsOf x) (usedCells cs) (cellWords cs) st .acted .used ≤ 256
+  pub statement-few : (cs : List Stored) → CellsFit n cs → (st : Stmt) → Parts fs n st
+      → statementIn who (wordsOf x) (usedCells cs) (cellWords cs) st .acted .used ≤ 256
   statement-few cs C st of-nothing = C .room
   statement-few cs C st of-cooperate = cooperates-few (usedCells cs) (C .room) th
-  statement-few cs C st (of-seq {a = a} {b = b} i j) = two-few (usedCells cs) (C .room) th (rootS a) (rootS b)
-  statement-few cs C st (of-do {q = q} {a = a} p i) = does-few (usedCells cs) (C .room) th q (rootS a)
+  statement-few cs C st (of-seq {a =
+      a} {b = b} i j) = two-few (usedCells cs) (C .room) th (rootS a) (rootS b)
+  statement-few cs C st (of-do {q =
+      q} {a = a} p i) = does-few (usedCells cs) (C .room) th q (rootS a)
   statement-few cs C st (of-start {m = m} {xs = xs} es) = starts-few false m cs C xs es
   statement-few cs C st (of-wait {m = m} {xs = xs} es) = starts-few true m cs C xs es
   statement-few cs C st (of-let {x = e} {a = a} E i) =

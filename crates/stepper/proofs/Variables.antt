@@ -1,4 +1,5 @@
--- A thread's variables, read in the words of its space, are the words of their values. Assumes nothing.
+-- A thread's variables, read in the words of its space, are the words of their values. Assumes
+-- nothing.
 use Prim.Native.Nat.{ℕ, _<_, _≤_}
 use mathlib.Core.Path.{_≡_, sym, ap, _∙_}
 use mathlib.Core.List.{List, map}
@@ -20,7 +21,8 @@ take-padded n ws h =
     long : length (take (length ws) (padded n ws)) ≡ length ws
     long = length-take-le (length ws) (padded n ws) (rw (padded-length n ws) h)
 
-pub variables-words : (x : Thread) → length (x .variables) ≤ 25 → variablesIn (wordsOf x) ≡ map valueWord (x .variables)
+pub variables-words : (x : Thread) → length (x .variables) ≤ 25
+    → variablesIn (wordsOf x) ≡ map valueWord (x .variables)
 variables-words x h =
     ap (λ (j : ℕ). take j (padded 25 (map valueWord (x .variables)))) (sym (length-map (x .variables) valueWord))
     ∙ take-padded 25 (map valueWord (x .variables)) (rw (length-map (x .variables) valueWord) h)

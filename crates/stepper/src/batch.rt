@@ -28,9 +28,14 @@ fn answer_word(s: Stepped) -> u32
 
 // Every choice, one after the other, on a file and a state that are known to be good.
 fn step_all(frames: &[u64], file: File, state: &mut [u64], choices: &[u8], answers: &mut [u32])
-    requires { ⌜ StepWords (now frames) (file .shared) (now state) × (file ≡ fileOf (programOf (framesOf (now frames)))) × (length (now answers) ≡ length (now choices)) ⌝ }
-    ensures words { λ _. ⌜ now (state .exit) ≡ wordsFrom (framesOf (now (frames .entry))) (now (state .entry)) (now (choices .entry)) ⌝ }
-    ensures answers { λ _. ⌜ now (answers .exit) ≡ map answerWord (callsFrom (framesOf (now (frames .entry))) (now (state .entry)) (now (choices .entry))) ⌝ }
+    requires { ⌜ StepWords (now frames) (file .shared) (now state)
+        × (file ≡ fileOf (programOf (framesOf (now frames))))
+        × (length (now answers) ≡ length (now choices)) ⌝ }
+    ensures words { λ _. ⌜ now (state .exit)
+        ≡ wordsFrom (framesOf (now (frames .entry))) (now (state .entry)) (now (choices .entry)) ⌝ }
+    ensures answers { λ _. ⌜ now (answers .exit)
+        ≡ map answerWord
+        (callsFrom (framesOf (now (frames .entry))) (now (state .entry)) (now (choices .entry))) ⌝ }
 {
     let mut k: usize = 0;
     while k < choices.len() {
@@ -43,7 +48,9 @@ fn step_all(frames: &[u64], file: File, state: &mut [u64], choices: &[u8], answe
 // The choices on a file that passes refusals 1 to 7, on words that may be anything.
 fn steps_frames(frames: &[u64], state: &mut [u64], choices: &[u8], answers: &mut [u32]) -> Answer
     requires { ⌜ FileWords (now frames) ⌝ }
-    ensures { λ r. ⌜ batch r (now (state .exit)) (now (answers .exit)) ≡ stepsCall (framesOf (now (frames .entry))) (now (state .entry)) (now (choices .entry)) (now (answers .entry)) ⌝ }
+    ensures { λ r. ⌜ batch r (now (state .exit)) (now (answers .exit))
+        ≡ stepsCall (framesOf (now (frames .entry))) (now (state .entry)) (now (choices .entry))
+        (now (answers .entry)) ⌝ }
 {
     if answers.len() != choices.len() {
         return Answer::Refused(WRONG_STATE, 0);
@@ -56,11 +63,14 @@ fn steps_frames(frames: &[u64], state: &mut [u64], choices: &[u8], answers: &mut
     Answer::Done(0)
 }
 
-// Many choices on any text, any words: 1 to 7, then 14 where the words are no state of the file or the answers are not as many as the
-// choices; nothing is written then. Else each choice is stepped as `step` does, and its answer stands in its place: refused ones leave
-// the words as they were, and the next choice follows. A choice is a byte: no party has a number above 80.
+// Many choices on any text, any words: 1 to 7, then 14 where the words are no state of the file or
+// the answers are not as many as the choices; nothing is written then. Else each choice is stepped
+// as `step` does, and its answer stands in its place: refused ones leave the words as they were,
+// and the next choice follows. A choice is a byte: no party has a number above 80.
 pub fn steps(text: &[u8], state: &mut [u64], choices: &[u8], answers: &mut [u32]) -> Answer
-    ensures { λ r. ⌜ batch r (now (state .exit)) (now (answers .exit)) ≡ stepsText (now (text .entry)) (now (state .entry)) (now (choices .entry)) (now (answers .entry)) ⌝ }
+    ensures { λ r. ⌜ batch r (now (state .exit)) (now (answers .exit))
+        ≡ stepsText (now (text .entry)) (now (state .entry)) (now (choices .entry))
+        (now (answers .entry)) ⌝ }
 {
     let mut words = [0u64; MOST_LINES];
     let l = lay_into(text, &mut words);

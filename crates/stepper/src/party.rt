@@ -16,9 +16,11 @@ pub struct Stepped {
     pub thread: u8,
 }
 
-// The thread that acts at a choice: a scheduler's first active one, or the unlinked one that the choice names; 0 where none acts.
+// The thread that acts at a choice: a scheduler's first active one, or the unlinked one that the
+// choice names; 0 where none acts.
 pub(crate) fn acting_thread(schedulers: u8, state: &[u64], choice: u64) -> u64
-    requires { ⌜ (length (now state) ≡ stateLength) × (getD (now state) threadCountAt 0 ≤ mostThreads) ⌝ }
+    requires { ⌜ (length (now state) ≡ stateLength)
+        × (getD (now state) threadCountAt 0 ≤ mostThreads) ⌝ }
     ensures { λ r. ⌜ r ≡ actingIn schedulers (now (state .entry)) choice ⌝ }
 {
     if Place::is_scheduler_in_file(choice, schedulers) {

@@ -26,7 +26,8 @@ pub fn state_length() -> usize
 
 // The fresh state of a text that passes refusals 1 to 7; a buffer of another length is 14.
 pub fn fresh(text: &[u8], state: &mut [u64]) -> Answer
-    ensures { λ r. ⌜ answered r (now (state .exit)) ≡ freshText (now (text .entry)) (now (state .entry)) ⌝ }
+    ensures { λ r. ⌜ answered r (now (state .exit))
+        ≡ freshText (now (text .entry)) (now (state .entry)) ⌝ }
 {
     let mut words = [0u64; MOST_LINES];
     let l = lay_into(text, &mut words);
@@ -47,7 +48,8 @@ pub fn fresh(text: &[u8], state: &mut [u64]) -> Answer
 // A step of a file that passes refusals 1 to 7, on words that may be anything.
 fn step_frames(frames: &[u64], state: &mut [u64], choice: u64) -> Answer
     requires { ⌜ FileWords (now frames) ⌝ }
-    ensures { λ r. ⌜ answered r (now (state .exit)) ≡ calledAs (stepCall (framesOf (now (frames .entry))) (now (state .entry)) choice) ⌝ }
+    ensures { λ r. ⌜ answered r (now (state .exit))
+        ≡ calledAs (stepCall (framesOf (now (frames .entry))) (now (state .entry)) choice) ⌝ }
 {
     let file = file_of(frames);
     if !in_range(frames, file.schedulers, state) {
@@ -57,9 +59,11 @@ fn step_frames(frames: &[u64], state: &mut [u64], choice: u64) -> Answer
     answer_of(s.answer, s.thread)
 }
 
-// One choice on any text, any words: 1 to 7, then 14, then 15 to 20, or the step. A refusal leaves the words as they were.
+// One choice on any text, any words: 1 to 7, then 14, then 15 to 20, or the step. A refusal leaves
+// the words as they were.
 pub fn step(text: &[u8], state: &mut [u64], choice: u64) -> Answer
-    ensures { λ r. ⌜ answered r (now (state .exit)) ≡ stepText (now (text .entry)) (now (state .entry)) choice ⌝ }
+    ensures { λ r. ⌜ answered r (now (state .exit))
+        ≡ stepText (now (text .entry)) (now (state .entry)) choice ⌝ }
 {
     let mut words = [0u64; MOST_LINES];
     let l = lay_into(text, &mut words);

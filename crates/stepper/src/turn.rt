@@ -28,7 +28,8 @@ ghost use Rattle.stepper.specs.inner.Files.{StepWords, stateIn, turnOn, 
 // What the turn of a thread that is there comes to. Of the words, only those of the cells and of
 // their count are written.
 fn act_in(frames: &[u64], shared: usize, state: &mut [u64], t: u64) -> Acted
-    requires { ⌜ StepWords (now frames) shared (now state) × (1 ≤ t) × (t ≤ getD (now state) threadCountAt 0) ⌝ }
+    requires { ⌜ StepWords (now frames) shared (now state) × (1 ≤ t)
+        × (t ≤ getD (now state) threadCountAt 0) ⌝ }
     ensures { λ r. ⌜ turnOn r (now (state .exit)) (now (frames .entry)) shared (now (state .entry)) t ⌝ }
 {
     let k = (t - 1) as usize;
@@ -48,10 +49,15 @@ fn act_in(frames: &[u64], shared: usize, state: &mut [u64], t: u64) -> Acted
     act(frames, who, v, item, state)
 }
 
-// Thread t takes its turn at that choice. One that a list names and that is not there ends: it leaves the list.
+// Thread t takes its turn at that choice. One that a list names and that is not there ends: it
+// leaves the list.
 pub(crate) fn turn(frames: &[u64], shared: usize, state: &mut [u64], choice: u64, t: u64) -> u8
-    requires { ⌜ StepWords (now frames) shared (now state) × (1 ≤ t) × (t ≤ mostThreads) × TurnChoice (now frames) choice ⌝ }
-    ensures { λ r. ⌜ called r t (now (state .exit)) ≡ calledOf (now (state .entry)) (stepThread (programOf (framesOf (now (frames .entry)))) (stateIn (now (frames .entry)) (now (state .entry))) choice t) ⌝ }
+    requires { ⌜ StepWords (now frames) shared (now state) × (1 ≤ t) × (t ≤ mostThreads)
+        × TurnChoice (now frames) choice ⌝ }
+    ensures { λ r. ⌜ called r t (now (state .exit))
+        ≡ calledOf (now (state .entry))
+        (stepThread (programOf (framesOf (now (frames .entry)))) (stateIn (now (frames .entry)) (now
+        (state .entry))) choice t) ⌝ }
 {
     if thread_count(state) < t {
         leave(state, choice);

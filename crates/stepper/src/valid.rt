@@ -13,12 +13,15 @@ ghost use Rattle.program.specs.Programs.{programOf};
 ghost use Rattle.machine.specs.Calls.{stepCall};
 ghost use Rattle.stepper.specs.inner.Files.{StepWords, fileOf, steppedOn};
 
-// One choice: the acting thread takes its turn; where none acts, a scheduler's instant ends, and any other choice names no party. (One
-// call of `turn`, so that it is compiled into this function once.) A run calls this after the text has passed refusals 1 to 7, on a state
-// that it has made itself.
+// One choice: the acting thread takes its turn; where none acts, a scheduler's instant ends, and
+// any other choice names no party. (One call of `turn`, so that it is compiled into this function
+// once.) A run calls this after the text has passed refusals 1 to 7, on a state that it has made
+// itself.
 pub fn step_valid(frames: &[u64], file: File, state: &mut [u64], choice: u64) -> Stepped
-    requires { ⌜ StepWords (now frames) (file .shared) (now state) × (file ≡ fileOf (programOf (framesOf (now frames)))) ⌝ }
-    ensures { λ r. ⌜ steppedOn r (now (state .exit)) ≡ stepCall (framesOf (now (frames .entry))) (now (state .entry)) choice ⌝ }
+    requires { ⌜ StepWords (now frames) (file .shared) (now state)
+        × (file ≡ fileOf (programOf (framesOf (now frames)))) ⌝ }
+    ensures { λ r. ⌜ steppedOn r (now (state .exit))
+        ≡ stepCall (framesOf (now (frames .entry))) (now (state .entry)) choice ⌝ }
 {
     let t = acting_thread(file.schedulers, state, choice);
     if t != 0 {

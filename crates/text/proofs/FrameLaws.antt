@@ -1,4 +1,5 @@
--- The frame of an index, as `frame_at` reads it; and in a text that reads as frames these are the text's frames. Assumes nothing.
+-- The frame of an index, as `frame_at` reads it; and in a text that reads as frames these are the
+-- text's frames. Assumes nothing.
 use mathlib.Core.Path.{_≡_, refl, sym, ap, _∙_}
 use mathlib.Core.List.{List}
 use mathlib.Core.Option.{none}
@@ -16,10 +17,12 @@ use Rattle.text.specs.declared.line.Line.the-variants.{Word, Malformed}
 use Rattle.text.specs.declared.line.FrameRead.{FrameRead}
 use Rattle.text.specs.declared.line.FrameRead.the-variants.{Read, NoFrame}
 use Rattle.text.proofs.LineLaws.{line-short}
-use Rattle.text.proofs.ReadLaws.{length-frames, LineAt, line-at, Scanning, scanning-start, here-wrong, here-word, scanning-more, line-behind}
+use Rattle.text.proofs.ReadLaws.{length-frames, LineAt, line-at, Scanning, scanning-start}
+use Rattle.text.proofs.ReadLaws.{here-wrong, here-word, scanning-more, line-behind}
 
 -- ---- the frame of an index, return by return
-pub frame-row : (l : Line) (w : ℕ) (f : Frame) → l ≡ Word w → f ≡ frameOfWord w → Read f ≡ frameOfLine l
+pub frame-row : (l : Line) (w : ℕ) (f : Frame) → l ≡ Word w → f ≡ frameOfWord w
+    → Read f ≡ frameOfLine l
 frame-row l w f e h = ap Read h ∙ ap frameOfLine (sym e)
 
 module _ (bs : List ℕ) (i : ℕ) where
@@ -33,7 +36,8 @@ module _ (bs : List ℕ) (i : ℕ) where
       let m : length (drop (i * 17) bs) < 17 = rw length-drop (omega arith) in
       yes _ (lt-ltb _ _ l) (ap frameOfLine (line-short (drop (i * 17) bs) m))
 
-  pub frame-there : (l : Line) (r : FrameRead) → i < 1024 → LineAt bs (i * 17) l → r ≡ frameOfLine l → r ≡ frameRead bs i
+  pub frame-there : (l : Line) (r : FrameRead) → i < 1024 → LineAt bs (i * 17) l → r ≡ frameOfLine l
+      → r ≡ frameRead bs i
   unfolding frameRead
   frame-there l r h e f = yes _ (lt-ltb _ _ h) (f ∙ ap frameOfLine (line-at bs (i * 17) l e))
 
@@ -44,19 +48,23 @@ word-at : (n i : ℕ) (cs : List ℕ) → i < n → getD (wordsOf n cs) i 0 ≡ 
 unfolding wordsOf
 word-at zero i cs h = absurd (omega arith)
 word-at (suc n) zero cs h = refl
-word-at (suc n) (suc i) cs h = word-at n i (drop 17 cs) (omega arith) ∙ ap lineWord (line-behind i cs)
+word-at (suc n) (suc i) cs h =
+    word-at n i (drop 17 cs) (omega arith) ∙ ap lineWord (line-behind i cs)
 
 module _ (bs : List ℕ) (good : firstWrong 0 bs ≡ none) where
   -- the next line is right, and its number is read
-  line-good : (i at : ℕ) → Scanning bs i at → at < length bs → (lineRead (drop at bs) ≡ Word (lineWord (drop at bs))) × Scanning bs (suc i) (at + 17)
+  line-good : (i at : ℕ) → Scanning bs i at → at < length bs
+      → (lineRead (drop at bs) ≡ Word (lineWord (drop at bs))) × Scanning bs (suc i) (at + 17)
   line-good i at s h = go (lineRead (drop at bs)) refl
     where
-      go : (l : Line) → lineRead (drop at bs) ≡ l → (lineRead (drop at bs) ≡ Word (lineWord (drop at bs))) × Scanning bs (suc i) (at + 17)
+      go : (l : Line) → lineRead (drop at bs) ≡ l
+          → (lineRead (drop at bs) ≡ Word (lineWord (drop at bs))) × Scanning bs (suc i) (at + 17)
       go Malformed e =
           let r = here-wrong bs i at s h (sym e) .2 in
           let z : _≡_ {A = ℕ} 0 1 = cc in
           absurd (omega arith)
-      go (Word w) e = (e ∙ ap Word (here-word bs i at s h w (sym e)), scanning-more bs i at s h w (sym e))
+      go (Word w) e =
+          (e ∙ ap Word (here-word bs i at s h w (sym e)), scanning-more bs i at s h w (sym e))
 
   scanned : (i : ℕ) → i ≤ length bs / 17 → Scanning bs i (i * 17)
   scanned zero h = scanning-start bs
@@ -64,7 +72,8 @@ module _ (bs : List ℕ) (good : firstWrong 0 bs ≡ none) where
       let r = line-good i (i * 17) (scanned i (omega arith)) (omega arith) .1 in
       record { lines = refl; fits = omega arith; rest = ap (λ (n : ℕ). firstWrong n (drop n bs)) (omega arith) ∙ r .rest }
 
-  pub frames-read : (i : ℕ) → i < length (textFrames bs) → length bs ≤ 17408 → frameRead bs i ≡ Read (getD (textFrames bs) i (frameOfWord 0))
+  pub frames-read : (i : ℕ) → i < length (textFrames bs) → length bs ≤ 17408
+      → frameRead bs i ≡ Read (getD (textFrames bs) i (frameOfWord 0))
   unfolding frameRead textFrames
   frames-read i h m =
       let k : i < length bs / 17 = omega (arith, length-frames bs) in

@@ -1,4 +1,6 @@
--- Laws of the loop of `read_into`, which reads a text's lines one after the other: where the scan for the first wrong byte is, what the lent words hold, and what each return of the function gives. Assumes nothing.
+-- Laws of the loop of `read_into`, which reads a text's lines one after the other: where the scan
+-- for the first wrong byte is, what the lent words hold, and what each return of the function
+-- gives. Assumes nothing.
 use mathlib.Core.Path.{_≡_, refl, sym, ap, _∙_}
 use mathlib.Core.Bool.{Bool, true, false}
 use mathlib.Core.List.{List, [], _∷_, _++_, append-assoc}
@@ -6,11 +8,13 @@ use mathlib.Core.Option.{none, some}
 use Prim.Native.Nat.{ℕ, zero, suc, _+_, _-_, _*_, _/_, _%_, _<_, _≤_}
 use native.Mathlib.Numerals.{add-one}
 use native.Mathlib.Omega.{arith}
-use lib.ListN.{length, take, drop, set, replicate, length-map, length-append, length-replicate, length-drop, drop-of-length-le}
+use lib.ListN.{length, take, drop, set, replicate, length-map, length-append, length-replicate}
+use lib.ListN.{length-drop, drop-of-length-le}
 use lib.Seq.{drop-drop, take-all, set-at}
 use borrow.Author.Tests.{lt-ltb, le-ltb}
 use Rattle.text.specs.Frames.{lineWord, frameOfWord, wordsOf, textFrames}
-use Rattle.text.specs.inner.Reading.{firstWrong, readLines, reading, linesRead, wordArray, textRead, TextWords, readAs, textWords}
+use Rattle.text.specs.inner.Reading.{firstWrong, readLines, reading, linesRead, wordArray}
+use Rattle.text.specs.inner.Reading.{textRead, TextWords, readAs, textWords}
 use Rattle.text.specs.Reading.{Reading, frames, refused}
 use Rattle.text.specs.inner.Lines.{lineRead}
 use Rattle.text.specs.declared.line.Line.{Line}
@@ -19,7 +23,8 @@ use Rattle.text.specs.declared.reading.TextRead.the-variants.{Frames, Re
 use Rattle.text.proofs.LineScan.{scan-whole, line-wrong, line-word}
 
 -- ---- the reading, by the text's length and by the scan
-reading-lines : (bs : List ℕ) → 0 < length bs → length bs ≤ 17408 → reading bs ≡ readLines bs (firstWrong 0 bs)
+reading-lines : (bs : List ℕ) → 0 < length bs → length bs ≤ 17408
+    → reading bs ≡ readLines bs (firstWrong 0 bs)
 unfolding reading
 reading-lines [] a h = absurd (omega arith)
 reading-lines (b ∷ bs) a h = ap (λ (t : Bool). elim t [ true ↦ refused 2 0 | false ↦ readLines (b ∷ bs) (firstWrong 0 (b ∷ bs)) ]) (le-ltb 17408 (length (b ∷ bs)) h)
@@ -42,7 +47,8 @@ length-words (suc n) bs = ap suc (length-words n (drop 17 bs))
 
 pub length-frames : (bs : List ℕ) → length (textFrames bs) ≡ length bs / 17
 unfolding textFrames
-length-frames bs = length-map (wordsOf (length bs / 17) bs) frameOfWord ∙ length-words (length bs / 17) bs
+length-frames bs =
+    length-map (wordsOf (length bs / 17) bs) frameOfWord ∙ length-words (length bs / 17) bs
 
 -- ---- a part of a slice that goes to its end, as the code has it
 part-all : (bs : List ℕ) (at : ℕ) → take (length bs - at) (drop at bs) ≡ drop at bs
@@ -55,7 +61,8 @@ LineAt bs at l = l ≡ lineRead (take (length bs - at) (drop at bs))
 pub line-at : (bs : List ℕ) (at : ℕ) (l : Line) → LineAt bs at l → l ≡ lineRead (drop at bs)
 line-at bs at l e = e ∙ ap lineRead (part-all bs at)
 
--- ---- the loop over lines: i of them are read, as far as `at`, and from there the scan goes on as from the start
+-- ---- the loop over lines: i of them are read, as far as `at`, and from there the scan goes on as
+-- from the start
 pub record Scanning (bs : List ℕ) (i at : ℕ) : Type 0 where
   pub lines : at ≡ i * 17
   pub fits : at ≤ length bs
@@ -99,7 +106,8 @@ module _ (bs : List ℕ) (i at : ℕ) (s : Scanning bs i at) where
         let k : (at + r .0) / 17 ≡ i = omega (arith, r .1) in
         reading-lines bs (omega arith) m ∙ ap (readLines bs) (r .2) ∙ ap (refused 3) k
 
-  read-whole : length bs ≤ at → (length bs ≡ 0 → ⊥) → length bs ≤ 17408 → reading bs ≡ frames (textFrames bs)
+  read-whole : length bs ≤ at → (length bs ≡ 0 → ⊥) → length bs ≤ 17408
+      → reading bs ≡ frames (textFrames bs)
   read-whole h n m =
       let k : firstWrong 0 bs ≡ none = sym (s .rest) ∙ ap (firstWrong at) (drop-of-length-le bs h) ∙ scan-whole at whole-lines in
       reading-lines bs (omega (arith, n)) m ∙ ap (readLines bs) k
@@ -108,9 +116,12 @@ module _ (bs : List ℕ) (i at : ℕ) (s : Scanning bs i at) where
 
 -- line i behind the first is line i + 1
 pub line-behind : (i : ℕ) (bs : List ℕ) → drop (i * 17) (drop 17 bs) ≡ drop (suc i * 17) bs
-line-behind i bs = let e : 17 + i * 17 ≡ suc i * 17 = omega arith in drop-drop (i * 17) 17 bs ∙ ap (λ (k : ℕ). drop k bs) e
+line-behind i bs =
+    let e : 17 + i * 17 ≡ suc i * 17 = omega arith in
+    drop-drop (i * 17) 17 bs ∙ ap (λ (k : ℕ). drop k bs) e
 
-words-more : (i : ℕ) (bs : List ℕ) → wordsOf (suc i) bs ≡ wordsOf i bs ++ (lineWord (drop (i * 17) bs) ∷ [])
+words-more : (i : ℕ) (bs : List ℕ)
+    → wordsOf (suc i) bs ≡ wordsOf i bs ++ (lineWord (drop (i * 17) bs) ∷ [])
 unfolding wordsOf
 words-more zero bs = refl
 words-more (suc i) bs = ap (λ (ws : List ℕ). lineWord bs ∷ ws) (words-more i (drop 17 bs) ∙ ap (λ (cs : List ℕ). wordsOf i (drop 17 bs) ++ (lineWord cs ∷ [])) (line-behind i bs))
@@ -126,7 +137,8 @@ pub array-length : (i : ℕ) (bs : List ℕ) → i ≤ 1024 → length (wordArra
 unfolding wordArray
 array-length i bs h = simp (length-append, length-words, length-replicate) (omega arith)
 
-array-more : (i : ℕ) (bs : List ℕ) → i < 1024 → set (wordArray i bs) i (lineWord (drop (i * 17) bs)) ≡ wordArray (suc i) bs
+array-more : (i : ℕ) (bs : List ℕ) → i < 1024
+    → set (wordArray i bs) i (lineWord (drop (i * 17) bs)) ≡ wordArray (suc i) bs
 unfolding wordArray
 array-more i bs h =
     let e : 1024 - i ≡ suc (1024 - suc i) = omega arith in
@@ -144,14 +156,19 @@ pub reader-start : (bs words : List ℕ) → words ≡ replicate 1024 0 → Read
 reader-start bs words e = record { scan = scanning-start bs; kept = e ∙ array-start bs }
 
 -- what the reading is gives the answer
-by-reading : (bs words : List ℕ) (r : Reading) → reading bs ≡ r → words ≡ wordArray (linesRead r) bs → readAs (textRead r) words ≡ textWords bs
+by-reading : (bs words : List ℕ) (r : Reading) → reading bs ≡ r → words ≡ wordArray (linesRead r) bs
+    → readAs (textRead r) words ≡ textWords bs
 unfolding textWords
-by-reading bs words r e k = ap (readAs (textRead r)) k ∙ ap (λ (s : Reading). readAs (textRead s) (wordArray (linesRead s) bs)) (sym e)
+by-reading bs words r e k =
+    ap (readAs (textRead r)) k
+    ∙ ap (λ (s : Reading). readAs (textRead s) (wordArray (linesRead s) bs)) (sym e)
 
-pub words-empty : (bs words : List ℕ) → words ≡ replicate 1024 0 → length bs ≡ 0 → readAs (Refused 1 0) words ≡ textWords bs
+pub words-empty : (bs words : List ℕ) → words ≡ replicate 1024 0 → length bs ≡ 0
+    → readAs (Refused 1 0) words ≡ textWords bs
 words-empty bs words k h = by-reading bs words (refused 1 0) (read-empty bs h) (k ∙ array-start bs)
 
-pub words-over : (bs words : List ℕ) → words ≡ replicate 1024 0 → 17408 < length bs → readAs (Refused 2 0) words ≡ textWords bs
+pub words-over : (bs words : List ℕ) → words ≡ replicate 1024 0 → 17408 < length bs
+    → readAs (Refused 2 0) words ≡ textWords bs
 words-over bs words k h = by-reading bs words (refused 2 0) (read-over bs h) (k ∙ array-start bs)
 
 -- in the loop, line i has its place in the array; a line more; and the answers
@@ -160,16 +177,21 @@ module _ (bs words : List ℕ) (i at : ℕ) (d : Reader bs words i at) where
   reader-index m h = let q = d .scan .lines in omega arith
 
   pub reader-length : length bs ≤ 17408 → at < length bs → length words ≡ 1024
-  reader-length m h = ap length (d .kept) ∙ array-length i bs (let k = reader-index m h in omega arith)
+  reader-length m h =
+      ap length (d .kept) ∙ array-length i bs (let k = reader-index m h in omega arith)
 
-  pub reader-more : (l : Line) (w : ℕ) → LineAt bs at l → l ≡ Word w → at < length bs → length bs ≤ 17408 → Reader bs (set words i w) (i + 1) (at + 17)
+  pub reader-more : (l : Line) (w : ℕ) → LineAt bs at l → l ≡ Word w → at < length bs
+      → length bs ≤ 17408 → Reader bs (set words i w) (i + 1) (at + 17)
   reader-more l w e f h m =
       let s = d .scan in
       let k = reader-index m h in
       let q : Word w ≡ lineRead (drop at bs) = sym f ∙ line-at bs at l e in
       rw add-one (record {
         scan = scanning-more bs i at s h w q;
-        kept = ap (λ (ws : List ℕ). set ws i w) (d .kept) ∙ ap (set (wordArray i bs) i) (here-word bs i at s h w q ∙ ap (λ (n : ℕ). lineWord (drop n bs)) (s .lines)) ∙ array-more i bs k;
+        kept =
+            ap (λ (ws : List ℕ). set ws i w) (d .kept)
+            ∙ ap (set (wordArray i bs) i) (here-word bs i at s h w q ∙ ap (λ (n : ℕ). lineWord (drop n bs)) (s .lines))
+            ∙ array-more i bs k;
       })
 
   pub words-wrong : (l : Line) → LineAt bs at l → l ≡ Malformed → at < length bs
@@ -178,7 +200,8 @@ module _ (bs words : List ℕ) (i at : ℕ) (d : Reader bs words i at) where
       let r = read-wrong bs i at (d .scan) h (sym f ∙ line-at bs at l e) m in
       by-reading bs words (refused 3 i) r (d .kept)
 
-  pub words-whole : length bs ≤ at → (length bs ≡ 0 → ⊥) → length bs ≤ 17408 → readAs (Frames i) words ≡ textWords bs
+  pub words-whole : length bs ≤ at → (length bs ≡ 0 → ⊥) → length bs ≤ 17408
+      → readAs (Frames i) words ≡ textWords bs
   words-whole h n m =
       let q = d .scan .lines in
       let z = d .scan .fits in

@@ -1,4 +1,5 @@
--- The computed reading is the one that the definition gives, and the only one; and a text that reads as frames has at least one. Assumes nothing.
+-- The computed reading is the one that the definition gives, and the only one; and a text that
+-- reads as frames has at least one. Assumes nothing.
 use mathlib.Core.Path.{_≡_, refl, sym, ap, _∙_}
 use mathlib.Core.Logic.{_⊎_, inl, inr}
 use mathlib.Core.Bool.{Bool, true, false, true≢false}
@@ -27,7 +28,8 @@ WrongFrom p bs q = ((q < length bs) × (rightAt (p + q) (getD bs q 0) ≡ false)
 -- the scan from p on found nothing wrong, or x, the first position that is
 data Scan (p : ℕ) (bs : List ℕ) : Option ℕ → Type 0 where
   fine : ((q : ℕ) → WrongFrom p bs q → ⊥) → Scan p bs none
-  stop : {x q : ℕ} → x ≡ p + q → WrongFrom p bs q → ((r : ℕ) → WrongFrom p bs r → q ≤ r) → Scan p bs (some x)
+  stop : {x q : ℕ} → x ≡ p + q → WrongFrom p bs q → ((r : ℕ) → WrongFrom p bs r → q ≤ r)
+      → Scan p bs (some x)
 
 at-zero : (p : ℕ) → p + 0 ≡ p
 at-zero p = omega arith
@@ -48,13 +50,15 @@ first-right : (p b : ℕ) (bs : List ℕ) → rightAt p b ≡ true → WrongFrom
 first-right p b bs t (inl h) = true≢false (sym t ∙ (rw (at-zero p) at h .1))
 first-right p b bs t (inr h) = omega arith
 
-scan-more : (p b : ℕ) (bs : List ℕ) (o : Option ℕ) → rightAt p b ≡ true → Scan (suc p) bs o → Scan p (b ∷ bs) o
+scan-more : (p b : ℕ) (bs : List ℕ) (o : Option ℕ) → rightAt p b ≡ true → Scan (suc p) bs o
+    → Scan p (b ∷ bs) o
 scan-more p b bs none t (Scan.fine h) = Scan.fine go
   where
     go : (q : ℕ) → WrongFrom p (b ∷ bs) q → ⊥
     go zero w = first-right p b bs t w
     go (suc q) w = h q (wrong-tail p q b bs w)
-scan-more p b bs (some x) t (Scan.stop {q = q} e w l) = Scan.stop {x = x} {q = suc q} (omega arith) (wrong-cons p q b bs w) go
+scan-more p b bs (some x) t (Scan.stop {q =
+    q} e w l) = Scan.stop {x = x} {q = suc q} (omega arith) (wrong-cons p q b bs w) go
   where
     go : (r : ℕ) → WrongFrom p (b ∷ bs) r → suc q ≤ r
     go zero v = absurd (first-right p b bs t v)
@@ -72,7 +76,8 @@ unfolding firstWrong
 scan [] p = scan-end p
 scan (b ∷ bs) p = go (rightAt p b) refl (scan bs (suc p))
   where
-    go : (t : Bool) → rightAt p b ≡ t → Scan (suc p) bs (firstWrong (suc p) bs) → Scan p (b ∷ bs) (elim t [ true ↦ firstWrong (suc p) bs | false ↦ some p ])
+    go : (t : Bool) → rightAt p b ≡ t → Scan (suc p) bs (firstWrong (suc p) bs)
+        → Scan p (b ∷ bs) (elim t [ true ↦ firstWrong (suc p) bs | false ↦ some p ])
     go true e s = scan-more p b bs _ e s
     go false e s = Scan.stop {q = 0} (sym (at-zero p)) (inl (omega arith, rw (at-zero p) e)) (λ r w. omega arith)
 
@@ -86,7 +91,8 @@ wrong-from bs q (inl h) = inl (h .0, rw (zero-add q) (h .1))
 wrong-from bs q (inr h) = inr (h .0, rw (zero-add q) (h .1))
 
 -- ---- the reading
-reads-lines : (bs : List ℕ) → 0 < length bs → length bs ≤ 17408 → (o : Option ℕ) → Scan 0 bs o → Reads bs (readLines bs o)
+reads-lines : (bs : List ℕ) → 0 < length bs → length bs ≤ 17408 → (o : Option ℕ) → Scan 0 bs o
+    → Reads bs (readLines bs o)
 reads-lines bs a b none (Scan.fine h) = Reads.whole a b (λ q w. h q (wrong-from bs q w))
 reads-lines bs a b (some x) (Scan.stop {q = q} e w l) =
     let f : x ≡ q = omega arith in
@@ -98,7 +104,8 @@ unfolding reading
 reads [] = Reads.empty
 reads (b ∷ bs) = go (ltb 17408 (length (b ∷ bs))) refl
   where
-    go : (t : Bool) → ltb 17408 (length (b ∷ bs)) ≡ t → Reads (b ∷ bs) (elim t [ true ↦ refused 2 0 | false ↦ readLines (b ∷ bs) (firstWrong 0 (b ∷ bs)) ])
+    go : (t : Bool) → ltb 17408 (length (b ∷ bs)) ≡ t
+        → Reads (b ∷ bs) (elim t [ true ↦ refused 2 0 | false ↦ readLines (b ∷ bs) (firstWrong 0 (b ∷ bs)) ])
     go true e = Reads.over (ltb-true _ _ e)
     go false e = reads-lines (b ∷ bs) (omega arith) (ltb-false _ _ e) _ (scan (b ∷ bs) 0)
 
@@ -122,7 +129,8 @@ reads-one (Reads.whole a b h) (Reads.wrong c d w l) = absurd (h _ w)
 reads-one (Reads.whole a b h) (Reads.whole c d g) = refl
 
 -- a text that reads as frames has at least one
-pub some-frame : {bs : List ℕ} {r : Reading} {fs : List Frame} → Reads bs r → r ≡ frames fs → 0 < length fs
+pub some-frame : {bs : List ℕ} {r : Reading} {fs : List Frame} → Reads bs r → r ≡ frames fs
+    → 0 < length fs
 some-frame Reads.empty e = absurd (let z : _≡_ {A = ℕ} 0 1 = cc in omega arith)
 some-frame (Reads.over h) e = absurd (let z : _≡_ {A = ℕ} 0 1 = cc in omega arith)
 some-frame (Reads.wrong a b w l) e = absurd (let z : _≡_ {A = ℕ} 0 1 = cc in omega arith)

@@ -1,5 +1,5 @@
--- The digit rule over the whole table, by induction: entry b is the digit of byte b. That the code's 256 numbers are this table is
--- the contract of `digit_table`. Assumes nothing.
+-- The digit rule over the whole table, by induction: entry b is the digit of byte b. That the
+-- code's 256 numbers are this table is the contract of `digit_table`. Assumes nothing.
 use mathlib.Core.Path.{_≡_, ap, _∙_}
 use mathlib.Core.List.{List}
 use Prim.Native.Nat.{ℕ, zero, suc, _+_, _<_}

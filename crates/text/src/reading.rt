@@ -1,4 +1,5 @@
-// Whether a text is such lines: refusals 1 to 3; and its lines as numbers, which the passes over a file work on.
+// Whether a text is such lines: refusals 1 to 3; and its lines as numbers, which the passes over a
+// file work on.
 use crate::digit::digit_table;
 use crate::line::Line;
 use crate::line::read_line;

@@ -19,7 +19,8 @@ use Rattle.acts.specs.declared.act.Acted.{Acted}
 use Rattle.acts.specs.inner.Fates.{argumentsOf, refusedWith}
 use Rattle.turns.specs.declared.view.View.{View}
 use Rattle.turns.specs.declared.start.Request.{Request}
-use Rattle.turns.specs.inner.Actions.{letMore, afterValue, byTruth, letAfter, startWith, startOne, startTwo}
+use Rattle.turns.specs.inner.Actions.{letMore, afterValue, byTruth, letAfter, startWith}
+use Rattle.turns.specs.inner.Actions.{startOne, startTwo}
 
 -- ---- what is told where an outcome is no value: it is the second, third or fourth variant
 abbrev pub IsRefusal : Outcome → Type 0

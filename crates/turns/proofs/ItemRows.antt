@@ -16,7 +16,8 @@ use Rattle.acts.specs.declared.act.Acted.{Acted}
 use Rattle.acts.specs.inner.Fates.{actedWith}
 use Rattle.turns.specs.declared.view.View.{View}
 use Rattle.turns.specs.inner.Acts.{TurnWords}
-use Rattle.turns.specs.inner.Actions.{actOn, placeAt, goBack, dropOne, statementAct, itemAct, below, turnAct}
+use Rattle.turns.specs.inner.Actions.{actOn, placeAt, goBack, dropOne, statementAct, itemAct}
+use Rattle.turns.specs.inner.Actions.{below, turnAct}
 
 -- what a caller has shown holds without the top item
 pub below-words : (fw : List ℕ) (v : View) (vs : List ℕ) (n : ℕ) (ws : List ℕ)

@@ -20,7 +20,8 @@ use Rattle.turns.specs.inner.Acts.{goesIn, doesIn, cooperatesIn, Views}
 use Rattle.turns.specs.inner.Actions.{goTo, goBack, unlinkedAgain, doThere, cooperation}
 use Rattle.turns.proofs.ViewLaws.{Turns}
 
--- ---- the act made in a thread: with either change it is the thread that goes, and there is room for both
+-- ---- the act made in a thread: with either change it is the thread that goes, and there is room
+-- for both
 module _ (from q : Place) (same moved : Change) where
   abbrev act : Bool → Bool → Acted
   act b c =

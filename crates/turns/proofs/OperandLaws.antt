@@ -11,7 +11,8 @@ use Rattle.language.specs.Kinds.{Child, children, childIn}
 use Rattle.language.specs.declared.kind.StatementKind.{StatementKind}
 use Rattle.language.specs.declared.kind.StatementKind.the-variants as S
 use Rattle.language.specs.declared.kind.Kind.{Kind}
-use Rattle.language.specs.declared.kind.Kind.the-variants.{Header, Declared, Module, Statement, Expression, Unknown}
+use Rattle.language.specs.declared.kind.Kind.the-variants.{Header, Declared, Module, Statement}
+use Rattle.language.specs.declared.kind.Kind.the-variants.{Expression, Unknown}
 use Rattle.language.specs.declared.kind.Use.{Use}
 use Rattle.language.specs.declared.frame.Frame.{Frame}
 use Rattle.text.specs.Frames.{frameOfWord, framesOf}
@@ -41,7 +42,9 @@ Under m (Y.While a b) = a < m
 
 -- ---- children stand before frame i
 module _ (m i : ℕ) (l : i < m) where
-  under-arguments : (a b : ℕ) → All (λ (c : Child). c .at < i) (childIn Use.Argument a ++ childIn Use.Further b ++ []) → (a < m) × (b < m)
+  under-arguments : (a b : ℕ)
+      → All (λ (c : Child). c .at < i) (childIn Use.Argument a ++ childIn Use.Further b ++ [])
+      → (a < m) × (b < m)
   under-arguments zero zero h = (omega arith, omega arith)
   under-arguments zero (suc b) (All.more x h) = (omega arith, omega arith)
   under-arguments (suc a) zero (All.more x h) = (omega arith, omega arith)
@@ -61,7 +64,8 @@ module _ (m i : ℕ) (l : i < m) where
   under-statement f S.If (All.more x h) = omega arith
   under-statement f S.While (All.more x h) = omega arith
 
-  under-kind : (f : Frame) (k : Kind) → All (λ (c : Child). c .at < i) (childrenAs k f) → Under m (statementNodeIn k f)
+  under-kind : (f : Frame) (k : Kind) → All (λ (c : Child). c .at < i) (childrenAs k f)
+      → Under m (statementNodeIn k f)
   under-kind f Header h = tt
   under-kind f (Declared d) h = tt
   under-kind f Module h = tt
@@ -69,7 +73,8 @@ module _ (m i : ℕ) (l : i < m) where
   under-kind f (Expression k) h = tt
   under-kind f Unknown h = tt
 
-  under-frame : (f : Frame) → All (λ (c : Child). c .at < i) (children f) → Under m (statementNode f)
+  under-frame : (f : Frame) → All (λ (c : Child). c .at < i) (children f)
+      → Under m (statementNode f)
   unfolding children
   under-frame f h = under-kind f (f .kind) h
 

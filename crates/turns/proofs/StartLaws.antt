@@ -14,8 +14,10 @@ use Rattle.acts.specs.declared.act.Arguments.{Arguments}
 use Rattle.acts.specs.inner.Fates.{argumentsOf}
 use Rattle.turns.specs.declared.view.View.{View}
 use Rattle.turns.specs.declared.start.Request.{Request}
-use Rattle.turns.specs.inner.Acts.{ActedOn, thenOn, startsWith, oneArgument, lastArgument, twoArguments, startsIn}
-use Rattle.turns.specs.inner.Actions.{ActOn, startWith, startOne, startTwo, behind, evaluatedBy, firstThen, bothArguments, startAct}
+use Rattle.turns.specs.inner.Acts.{ActedOn, thenOn, startsWith, oneArgument, lastArgument}
+use Rattle.turns.specs.inner.Acts.{twoArguments, startsIn}
+use Rattle.turns.specs.inner.Actions.{ActOn, startWith, startOne, startTwo, behind}
+use Rattle.turns.specs.inner.Actions.{evaluatedBy, firstThen, bothArguments, startAct}
 use Rattle.turns.proofs.ViewLaws.{Turns, Turning, refused-so, act-on, act-on-as, in-thread}
 use Rattle.turns.proofs.AfterLaws.{after-turns}
 

@@ -21,7 +21,8 @@ use Rattle.evaluator.proofs.InPlace.{variables-kept}
 use Rattle.acts.specs.declared.act.Acted.{Acted}
 use Rattle.acts.specs.inner.Fates.{argumentsOf, refusedWith}
 use Rattle.turns.specs.declared.start.Request.{Request}
-use Rattle.turns.specs.inner.Actions.{ActOn, actOn, afterValue, startWith, startOne, startTwo, behind, evaluatedBy, firstThen, bothArguments, startAct}
+use Rattle.turns.specs.inner.Actions.{ActOn, actOn, afterValue, startWith, startOne, startTwo}
+use Rattle.turns.specs.inner.Actions.{behind, evaluatedBy, firstThen, bothArguments, startAct}
 use Rattle.turns.proofs.AfterRows.{IsRefusal, no-refusal}
 
 -- behind an evaluation the cells may be lent again

@@ -9,11 +9,13 @@ use Rattle.language.specs.declared.Place.{Place}
 use Rattle.language.specs.declared.kind.StatementKind.{StatementKind}
 use Rattle.language.specs.declared.kind.StatementKind.the-variants as S
 use Rattle.language.specs.declared.kind.Kind.{Kind}
-use Rattle.language.specs.declared.kind.Kind.the-variants.{Header, Declared, Module, Statement, Expression, Unknown}
+use Rattle.language.specs.declared.kind.Kind.the-variants.{Header, Declared, Module, Statement}
+use Rattle.language.specs.declared.kind.Kind.the-variants.{Expression, Unknown}
 use Rattle.language.specs.declared.frame.Frame.{Frame}
 use Rattle.text.specs.Frames.{frameOfWord, framesOf}
 use Rattle.text.proofs.FrameWords.{frame-at}
-use Rattle.program.specs.Trees.{Expr, Stmt, frameAt, arguments, expressionAt, rootS, statementOf, statementAt, noFrame}
+use Rattle.program.specs.Trees.{Expr, Stmt, frameAt, arguments, expressionAt, rootS, statementOf}
+use Rattle.program.specs.Trees.{statementAt, noFrame}
 use Rattle.program.specs.inner.Nodes.{statementNodeOf, statementNodeIn, statementNode}
 use Rattle.program.specs.declared.node.StatementNode.{StatementNode}
 use Rattle.program.specs.declared.node.StatementNode.the-variants as Y
@@ -28,7 +30,10 @@ use Rattle.acts.specs.declared.act.Acted.{Acted}
 use Rattle.acts.specs.inner.Fates.{actedWith}
 use Rattle.turns.specs.declared.view.View.{View}
 use Rattle.turns.specs.inner.Acts.{request, TurnWords}
-use Rattle.turns.specs.inner.Actions.{ActOn, actOn, placeAt, twoMore, doThere, cooperation, afterValue, letAfter, storeAfter, chooseAfter, loopAfter, behind, evaluatedBy, storedBy, startAct, statementAct}
+use Rattle.turns.specs.inner.Actions.{ActOn, actOn, placeAt, twoMore, doThere, cooperation}
+use Rattle.turns.specs.inner.Actions.{afterValue, letAfter, storeAfter, chooseAfter}
+use Rattle.turns.specs.inner.Actions.{loopAfter, behind, evaluatedBy, storedBy, startAct}
+use Rattle.turns.specs.inner.Actions.{statementAct}
 
 -- ---- the act that a node says
 module _ (fw : List ℕ) (who : Who) (v : View) (vs : List ℕ) (n : ℕ) (ws : List ℕ) (i : ℕ) where

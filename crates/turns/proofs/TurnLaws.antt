@@ -7,7 +7,8 @@ use Prim.Native.Nat.{ℕ, _-_}
 use lib.Dec.{ltb, eqb}
 use Rattle.basics.proofs.Ifs.{if-all, if-yes, if-no, yes, no}
 use Rattle.language.specs.declared.frame.Frame.{Frame}
-use Rattle.program.specs.Trees.{Stmt, nothing, seq, doAt, start, startWait, cooperate, letIn, store, ifElse, while, rootS, statementAt}
+use Rattle.program.specs.Trees.{Stmt, nothing, seq, doAt, start, startWait, cooperate, letIn, store}
+use Rattle.program.specs.Trees.{ifElse, while, rootS, statementAt}
 use Rattle.machine.specs.Words.{valueWord}
 use Rattle.machine.specs.declared.value.Value.{Value}
 use Rattle.operations.specs.declared.Who.{Who}
@@ -19,9 +20,14 @@ use Rattle.acts.specs.declared.act.Change.the-variants.{End}
 use Rattle.acts.specs.declared.act.Acted.{Acted}
 use Rattle.acts.specs.inner.Fates.{Turned, actedIn, actedWith, popped, turned}
 use Rattle.turns.specs.declared.view.View.{View}
-use Rattle.turns.specs.inner.Acts.{actedOn, oneIn, twoIn, letsIn, thenActs, byTruthIn, variablesIn, letsOn, storesOn, choosesOn, loopsOn, request, statementIn, itemIn, turnIn, Views, WholeTurn}
-use Rattle.turns.specs.inner.Actions.{ActOn, actOn, placeAt, letAfter, storeAfter, chooseAfter, loopAfter, behind, evaluatedBy, storedBy, statementAct, itemAct, below, turnAct}
-use Rattle.turns.proofs.ViewLaws.{Turns, Turning, stays-so, act-on, act-on-as, in-thread, stored-in}
+use Rattle.turns.specs.inner.Acts.{actedOn, oneIn, twoIn, letsIn, thenActs, byTruthIn}
+use Rattle.turns.specs.inner.Acts.{variablesIn, letsOn, storesOn, choosesOn, loopsOn, request}
+use Rattle.turns.specs.inner.Acts.{statementIn, itemIn, turnIn, Views, WholeTurn}
+use Rattle.turns.specs.inner.Actions.{ActOn, actOn, placeAt, letAfter, storeAfter}
+use Rattle.turns.specs.inner.Actions.{chooseAfter, loopAfter, behind, evaluatedBy, storedBy}
+use Rattle.turns.specs.inner.Actions.{statementAct, itemAct, below, turnAct}
+use Rattle.turns.proofs.ViewLaws.{Turns, Turning, stays-so, act-on, act-on-as, in-thread}
+use Rattle.turns.proofs.ViewLaws.{stored-in}
 use Rattle.turns.proofs.StayLaws.{one-turns, two-turns, lets-turns, drops-turns}
 use Rattle.turns.proofs.MoveLaws.{back-turns, does-turns, cooperates-turns}
 use Rattle.turns.proofs.AfterLaws.{after-turns, truth-turns}

@@ -13,7 +13,8 @@ use Rattle.acts.specs.declared.act.Change.the-variants.{Same}
 use Rattle.acts.specs.declared.act.Acted.{Acted}
 use Rattle.acts.specs.inner.Fates.{Turned, actedIn, actedWith, refusedIn, refusedWith, turned, Room}
 use Rattle.turns.specs.declared.view.View.{View}
-use Rattle.turns.specs.inner.Acts.{ActedOn, actedOn, variablesIn, evaluatedIn, storedIn, Views}
+use Rattle.turns.specs.inner.Acts.{ActedOn, actedOn, variablesIn, evaluatedIn, storedIn}
+use Rattle.turns.specs.inner.Acts.{Views}
 use Rattle.turns.specs.inner.Actions.{ActOn, evaluatedBy, storedBy}
 
 -- the act, its change made in such a thread without its top item, is with n cells in use that turn;

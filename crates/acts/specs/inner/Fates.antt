@@ -12,7 +12,8 @@ use Rattle.acts.specs.declared.act.Arguments.{Arguments}
 use Rattle.acts.specs.declared.act.Fate.{Fate}
 use Rattle.acts.specs.declared.act.Fate.the-variants.{Refused}
 use Rattle.acts.specs.declared.act.Change.{Change}
-use Rattle.acts.specs.declared.act.Change.the-variants.{Same, Item, Items, Let, Drop, Move, Enter, End}
+use Rattle.acts.specs.declared.act.Change.the-variants.{Same, Item, Items, Let, Drop, Move}
+use Rattle.acts.specs.declared.act.Change.the-variants.{Enter, End}
 use Rattle.acts.specs.declared.act.Acted.{Acted}
 
 abbrev pub argumentsOf : ℕ → ℕ → ℕ → Arguments
@@ -24,7 +25,8 @@ actedWith f c = record { fate = f; change = c }
 abbrev pub refusedWith : ℕ → Acted
 refusedWith answer = actedWith (Refused answer) Same
 
--- ---- the same with the thread behind the turn in place of the change, and how many cells are in use
+-- ---- the same with the thread behind the turn in place of the change, and how many cells are in
+-- use
 -- behind it
 
 pub record Turned : Type 0 where

@@ -1,4 +1,5 @@
--- Searches in lists. Each search stops where it finds, so that whole files compute. Assumes nothing: definitions.
+-- Searches in lists. Each search stops where it finds, so that whole files compute. Assumes
+-- nothing: definitions.
 use mathlib.Core.Bool.{Bool, true, false}
 use mathlib.Core.List.{List, [], _∷_}
 use mathlib.Core.Option.{Option, none, some}

@@ -2,7 +2,8 @@
 -- what `eval` gives (proofs/Agreement). Assumes nothing: definitions.
 use mathlib.Core.List.{List}
 use Prim.Native.Nat.{ℕ}
-use Rattle.program.specs.Trees.{Expr, number, truth, variable, shared, new, content, sum, less, choose}
+use Rattle.program.specs.Trees.{Expr, number, truth, variable, shared, new, content, sum, less}
+use Rattle.program.specs.Trees.{choose}
 use Rattle.machine.specs.Values.{truthOf}
 use Rattle.machine.specs.Evaluation.{plus, lessThan}
 use Rattle.machine.specs.declared.value.Value.{Value}

@@ -1,4 +1,6 @@
--- The lowest frame with the fault 4 or 5, as functions that compute, and what the code's pass holds. No reader has to believe it: layout/proofs/Layouts and proofs/FramePass tie it to the definitions. Assumes nothing: definitions.
+-- The lowest frame with the fault 4 or 5, as functions that compute, and what the code's pass
+-- holds. No reader has to believe it: layout/proofs/Layouts and proofs/FramePass tie it to the
+-- definitions. Assumes nothing: definitions.
 use mathlib.Core.Bool.{Bool, not, _&&_}
 use mathlib.Core.List.{List}
 use mathlib.Core.Option.{Option, none, some}
@@ -36,7 +38,8 @@ optionOf (At j) = some j
 abbrev pub fieldsFine : List Frame → ℕ → Frame → Uses → Bool
 fieldsFine fs i f us = fieldFine fs i f (us .s) (f .s) && fieldFine fs i f (us .a) (f .a) && fieldFine fs i f (us .b) (f .b) && fieldFine fs i f (us .c) (f .c)
 
--- ---- 5: of the frames passed, how many are shared cells and modules, and the types of the cells in an array of 16
+-- ---- 5: of the frames passed, how many are shared cells and modules, and the types of the cells
+-- in an array of 16
 unfoldable pub tallyOf : List Frame → Tally
 tallyOf fs =
     record {

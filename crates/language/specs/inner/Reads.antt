@@ -1,4 +1,5 @@
--- What constructors answer, and what a frame is asked for whose S is read as a place. Assumes nothing: definitions.
+-- What constructors answer, and what a frame is asked for whose S is read as a place. Assumes
+-- nothing: definitions.
 use mathlib.Core.Bool.{Bool, _&&_, true}
 use Prim.Native.Nat.{ℕ}
 use mathlib.Core.Path.{_≡_}

@@ -1,4 +1,5 @@
--- Refusals 1 to 7 by functions that compute. No reader has to believe it: proofs/Accepted shows that `layoutVerdict` gives the one v that `HasLayout` allows. Assumes nothing: definitions.
+-- Refusals 1 to 7 by functions that compute. No reader has to believe it: proofs/Accepted shows
+-- that `layoutVerdict` gives the one v that `HasLayout` allows. Assumes nothing: definitions.
 use mathlib.Core.List.{List}
 use Prim.Native.Nat.{ℕ}
 use Rattle.language.specs.declared.verdict.Verdict.{Verdict}

@@ -1,4 +1,5 @@
--- What the passes of the code hold in their arrays. A reader of the rules can skip this file: proofs/ ties each pass to the definitions of Scans. Assumes nothing: definitions.
+-- What the passes of the code hold in their arrays. A reader of the rules can skip this file:
+-- proofs/ ties each pass to the definitions of Scans. Assumes nothing: definitions.
 use mathlib.Core.List.{List, [], _∷_}
 use mathlib.Core.Option.{Option}
 use Prim.Native.Nat.{ℕ, zero, suc, _<_, _≤_}
@@ -12,7 +13,8 @@ use Rattle.language.specs.Limits.{mostLines, mostDepth}
 use Rattle.program.specs.Trees.{frameAt}
 use Rattle.layout.specs.inner.Scans.{Passed, passed}
 
--- ---- 6: what an array that says where the tree of each of the i frames passed begins tells of them, from the last to the first
+-- ---- 6: what an array that says where the tree of each of the i frames passed begins tells of
+-- them, from the last to the first
 unfoldable pub told : List Frame → List ℕ → ℕ → List Passed
 told fs first zero = []
 told fs first (suc i) = passed (classOf (frameAt fs i .kind)) (getD first i 0) ∷ told fs first i
@@ -48,7 +50,8 @@ raisedAll u d (c ∷ cs) = raisedAll (raised u d (c .at)) d cs
 -- by the frames below n, from the last to the first
 unfoldable pub depthsDown : ℕ → List Frame → List ℕ → List ℕ
 depthsDown zero fs u = u
-depthsDown (suc n) fs u = depthsDown n fs (raisedAll u (given (frameAt fs n) (getD u n 0)) (children (frameAt fs n)))
+depthsDown (suc n) fs u =
+    depthsDown n fs (raisedAll u (given (frameAt fs n) (getD u n 0)) (children (frameAt fs n)))
 
 -- the lowest frame over whose depth 24 is
 unfoldable pub firstOver : List Frame → Option ℕ

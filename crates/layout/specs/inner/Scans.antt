@@ -1,4 +1,5 @@
--- The first fault of the layout, as functions that compute; proofs/Layouts shows that they find it. Assumes nothing: definitions.
+-- The first fault of the layout, as functions that compute; proofs/Layouts shows that they find it.
+-- Assumes nothing: definitions.
 use mathlib.Core.Bool.{Bool, true, false, not, _&&_, _||_}
 use mathlib.Core.List.{List, [], _∷_, reverse}
 use mathlib.Core.Option.{Option, none, some}
@@ -20,7 +21,8 @@ use Rattle.program.specs.inner.Children.{sameClass}
 use Rattle.fields.specs.inner.Scans.{headerFault, fieldFault}
 use Rattle.layout.specs.Order.{hasChild, hasClass, isMain}
 
--- ---- 6, 'order, a child of the wrong class': one pass, which stops at the first frame without a tree
+-- ---- 6, 'order, a child of the wrong class': one pass, which stops at the first frame without a
+-- tree
 
 -- what is known of a frame that was passed: its class, and the first frame of its tree
 pub record Passed : Type 0 where
@@ -30,7 +32,8 @@ pub record Passed : Type 0 where
 abbrev pub passed : Class → ℕ → Passed
 passed k n = record { class = k; first = n }
 
--- where the row of children begins that ends just before `stop`, the children from the last to the first; ps are the i frames passed, from the last to the first
+-- where the row of children begins that ends just before `stop`, the children from the last to the
+-- first; ps are the i frames passed, from the last to the first
 unfoldable pub rowFirst : List Passed → ℕ → ℕ → List Child → Option ℕ
 rowFirst ps i stop [] = some stop
 rowFirst ps i stop (c ∷ cs) =
@@ -54,7 +57,8 @@ isBehind fs i f =
       | false ↦ false
     ]
 
--- a leftover frame: the later frames, `rest`, are asked first, since in a good file one of them has it as a child
+-- a leftover frame: the later frames, `rest`, are asked first, since in a good file one of them has
+-- it as a child
 unfoldable pub isLeftover : List Frame → ℕ → Frame → List Frame → Bool
 isLeftover fs i f rest =
     elim (hasClass (classOf (f .kind))) [
@@ -65,7 +69,8 @@ isLeftover fs i f rest =
 -- the lowest leftover frame; the list stands from i on
 unfoldable pub firstLeftover : List Frame → ℕ → List Frame → Option ℕ
 firstLeftover fs i [] = none
-firstLeftover fs i (f ∷ rest) = elim (isLeftover fs i f rest) [ true ↦ some i | false ↦ firstLeftover fs (suc i) rest ]
+firstLeftover fs i (f ∷ rest) =
+    elim (isLeftover fs i f rest) [ true ↦ some i | false ↦ firstLeftover fs (suc i) rest ]
 
 -- the last frame, if it is not main
 unfoldable pub noMain : List Frame → Option ℕ
@@ -84,14 +89,16 @@ unfoldable pub lowestChild : (ℕ → Option ℕ) → List Child → Option ℕ
 lowestChild find [] = none
 lowestChild find (c ∷ cs) = earlier (find (c .at)) (lowestChild find cs)
 
--- the lowest frame too deep in the tree whose root is frame i, at the depth d; n bounds how far it goes down
+-- the lowest frame too deep in the tree whose root is frame i, at the depth d; n bounds how far it
+-- goes down
 unfoldable pub deepTo : ℕ → List Frame → ℕ → ℕ → Option ℕ
 deepTo zero fs d i = none
 deepTo (suc n) fs d i =
     earlier (lowestChild (λ c. deepTo n fs (suc d) c) (children (frameAt fs i)))
     (if ltb mostDepth d then some i else none)
 
--- in the body of f, if f is a module: a child's number is below its parent's, so that bound is enough
+-- in the body of f, if f is a module: a child's number is below its parent's, so that bound is
+-- enough
 abbrev pub deepIn : List Frame → Frame → Option ℕ
 deepIn fs f = elim (isModule (f .kind)) [ true ↦ deepTo (suc (f .a)) fs 1 (f .a) | false ↦ none ]
 

@@ -1,5 +1,9 @@
--- `next_frame` meets its contract: a walk of its MIR, by hand. The borrow is opened, the slice and the number are read, `line_after` is called on them and its answer stored in the number's place, the borrow is closed at the reader with that number, and `frame_at` is called on the same slice and number. All that the proof knows of the two is that each meets its contract.
--- The struct is Copy: what it owns is had once more for each call, and is kept for the borrow (`fields`). Assumes nothing.
+-- `next_frame` meets its contract: a walk of its MIR, by hand. The borrow is opened, the slice and
+-- the number are read, `line_after` is called on them and its answer stored in the number's place,
+-- the borrow is closed at the reader with that number, and `frame_at` is called on the same slice
+-- and number. All that the proof knows of the two is that each meets its contract. The struct is
+-- Copy: what it owns is had once more for each call, and is kept for the borrow (`fields`). Assumes
+-- nothing.
 use mathlib.Core.Path.{_≡_, refl, ap}
 use Prim.Native.Nat.{ℕ, _<_, _^_}
 use mathlib.Core.List.{List, [], _∷_}
@@ -16,9 +20,12 @@ use ghost.Atoms.{Atoms, sem}
 use contract.Lifetimes.{AllOutlive}
 use contract.Monad.{Fun, fact}
 use contract.Running.{givenOf, tables, tablesOf}
-use types.Kit.{Given, ‵, raw, _⊛_, ⋆, some, later, _$_, _∵_, !, qed, by, move, keep, drop, use1, use2, split, join, pick, rewrite, fsplit, fsplit3, fjoin, fjoin3, feqI, suffices, frame, await, done}
+use types.Kit.{Given, ‵, raw, _⊛_, ⋆, some, later, _$_, _∵_, !, qed, by, move, keep, drop, use1}
+use types.Kit.{use2, split, join, pick, rewrite, fsplit, fsplit3, fjoin, fjoin3, feqI, suffices}
+use types.Kit.{frame, await, done}
 use types.Part.{whole, sub, look-in, store-in}
-use types.Run.{look, init, forget, stop, hop, fld, from, load, of-opd, and-then, no-more, assigns, land, returns, enter, alloc1, alloc0, params1, pass1, pass0, free1, free0}
+use types.Run.{look, init, forget, stop, hop, fld, from, load, of-opd, and-then, no-more, assigns}
+use types.Run.{land, returns, enter, alloc1, alloc0, params1, pass1, pass0, free1, free0}
 use types.SemTy.{Body}
 use sound.WpLaws.{FmC, fmOf, WpFn-mono}
 use denote.RattleType.{RattleType, owns}
@@ -41,7 +48,8 @@ use denote.Triple.Clauses.{ensured, lasts}
 use denote.Triple.Entry.{onEntry}
 use denote.Triple.Spec.{Meets, tripleOf}
 use denote.Triple.Table.{entered, cited}
-use denote.Triple.Walked.{says, Stays, stay-ref, walkOf, goes-ref, Walks, ends-at, walked, walk-meets}
+use denote.Triple.Walked.{says, Stays, stay-ref, walkOf, goes-ref, Walks, ends-at, walked}
+use denote.Triple.Walked.{walk-meets}
 use Rattle.text.specs.inner.Lines.{frameRead}
 use Rattle.text.specs.declared.line.FrameRead.{FrameRead}
 use Rattle.text.proofs.line.FrameRead as S
@@ -121,23 +129,29 @@ module _ {M : Type 1} (𝓤 : URA M) (H : Heap 𝓤) (A : Atoms 𝓤) (W : Given
   to-frame-at = (((κ′, tt), (q′, tt), tt, (h .text, (h .next, tt)), passed (α κ′) h), tt)
 
   asked-after : ent 𝓤 (⋆ 𝓤 H A ((‵ (flft κ′ q′) ⊛ ‵ ftrue) ∷ ‵ (Owns (α κ′) h) ∷ [])) (After 𝓤 H A at-mem run .pre to-after)
-  asked-after = qed W ((‵ (flft κ′ q′) ⊛ ‵ ftrue) ∷ ‵ (Owns (α κ′) h) ∷ []) ∵ join ! $ frame ! $ done !
+  asked-after =
+      qed W ((‵ (flft κ′ q′) ⊛ ‵ ftrue) ∷ ‵ (Owns (α κ′) h) ∷ []) ∵ join ! $ frame ! $ done !
 
   asked-frame-at : ent 𝓤 (⋆ 𝓤 H A ((‵ (flft κ′ q′) ⊛ ‵ ftrue) ∷ ‵ (Owns (α κ′) h) ∷ [])) (FrameAt 𝓤 H A at-mem run .pre to-frame-at)
-  asked-frame-at = qed W ((‵ (flft κ′ q′) ⊛ ‵ ftrue) ∷ ‵ (Owns (α κ′) h) ∷ []) ∵ join ! $ frame ! $ done !
+  asked-frame-at =
+      qed W ((‵ (flft κ′ q′) ⊛ ‵ ftrue) ∷ ‵ (Owns (α κ′) h) ∷ []) ∵ join ! $ frame ! $ done !
 
   -- of each callee's `ensured`, the clause alone: neither has a `&mut`
-  after-said : (m : ℕ) → ent 𝓤 (ensured 𝓤 H A after.ended (after.clauses 𝓤 H A at-mem run) (κ′, tt) (h .text, (h .next, tt)) tt m) (fact 𝓤 (m ≡ lineAfter (now (h .text)) (h .next)))
+  after-said : (m : ℕ)
+      → ent 𝓤 (ensured 𝓤 H A after.ended (after.clauses 𝓤 H A at-mem run) (κ′, tt) (h .text, (h .next, tt)) tt m) (fact 𝓤 (m ≡ lineAfter (now (h .text)) (h .next)))
   after-said m = exE 𝓤 _ (λ ws. snd∗ 𝓤 (sem 𝓤 H A (lasts after.ended (κ′, tt) (h .text, (h .next, tt)) ws)) (fact 𝓤 (m ≡ lineAfter (now (h .text)) (h .next))))
 
-  frame-at-said : (f : FrameRead) → ent 𝓤 (ensured 𝓤 H A frame-at.ended (frame-at.clauses 𝓤 H A at-mem run) (κ′, tt) (h .text, (h .next, tt)) tt f) (fact 𝓤 (f ≡ frameRead (now (h .text)) (h .next)))
+  frame-at-said : (f : FrameRead)
+      → ent 𝓤 (ensured 𝓤 H A frame-at.ended (frame-at.clauses 𝓤 H A at-mem run) (κ′, tt) (h .text, (h .next, tt)) tt f) (fact 𝓤 (f ≡ frameRead (now (h .text)) (h .next)))
   frame-at-said f = exE 𝓤 _ (λ ws. snd∗ 𝓤 (sem 𝓤 H A (lasts frame-at.ended (κ′, tt) (h .text, (h .next, tt)) ws)) (fact 𝓤 (f ≡ frameRead (now (h .text)) (h .next))))
 
   -- what the slice owns is kept, and the number's facts are made anew
-  again : (m : ℕ) → m < 2 ^ 64 → ent 𝓤 (sem 𝓤 H A (Own (α κ′) h)) (sem 𝓤 H A (B κ′ .own (to-line m) (T′.lowered (to-line m) ∷ [])))
+  again : (m : ℕ) → m < 2 ^ 64
+      → ent 𝓤 (sem 𝓤 H A (Own (α κ′) h)) (sem 𝓤 H A (B κ′ .own (to-line m) (T′.lowered (to-line m) ∷ [])))
   again m fits = qed W (‵ (Own (α κ′) h) ∷ []) ∵ owned ! usize (Is usize) (uint-makes 𝓤 H A W w64) m _ (refl, fits) $ move ! (1 ∷ 0 ∷ []) $ by ! (own-put 𝓤 H A W D L 1 vh m mach)
 
-  exits : (m : ℕ) (f : FrameRead) (u : Val) → m ≡ lineAfter (now (h .text)) (h .next) → f ≡ frameRead (now (h .text)) (h .next)
+  exits : (m : ℕ) (f : FrameRead) (u : Val) → m ≡ lineAfter (now (h .text)) (h .next)
+      → f ≡ frameRead (now (h .text)) (h .next)
       → ent 𝓤 (⋆ 𝓤 H A (‵ (fobs γ (B κ′ .coded .code (to-line m))) ∷ ‵ (fbor κ (Body (mem (B κ′)) b o γ)) ∷ ‵ (flft κ q) ∷ (‵ (flft κ′ q′) ⊛ ‵ ftrue) ∷ ‵ (S.the-row .own f (u ∷ [])) ∷ [])) (Post u)
   exits m f u e e′ =
       qed W (‵ (fobs γ (B κ′ .coded .code (to-line m))) ∷ ‵ (fbor κ (Body (mem (B κ′)) b o γ)) ∷ ‵ (flft κ q) ∷ (‵ (flft κ′ q′) ⊛ ‵ ftrue) ∷ ‵ (S.the-row .own f (u ∷ [])) ∷ []) ∵
@@ -158,30 +172,35 @@ module _ {M : Type 1} (𝓤 : URA M) (H : Heap 𝓤) (A : Atoms 𝓤) (W : Given
         opens ! tt (B κ′) {h = h} b o (λ vs. spelt ! (B κ′) (Is (B κ′)) (shows 𝓤 H A (B κ′)) (LL.vals D L) (LL.tells D L) fullShare h vs b o $
         use1 W (‵ (fat fullShare (T′.mir erased) b o mach)) (W .laws .raw-at fullShare (T′.mir erased) b o mach) $
         move ! (1 ∷ []) $ peeks ! (B κ′) (Is (B κ′)) (shows 𝓤 H A (B κ′)) h (mach ∷ []) (λ was. move ! (1 ∷ 0 ∷ []) $
-        -- [the struct's cell; what a LineReader owns; the open borrow; obs; auth; 'a's token; …; _4; …; _3; …; _2; …; _1; …; room for _0; …]
+        -- [the struct's cell; what a LineReader owns; the open borrow; obs; auth; 'a's token; …;
+        -- _4; …; _3; …; _2; …; _1; …; room for _0; …]
         assigns ! (of-opd ! (load ! (from ! (hop ! (look ! 13 refl) (fld ! refl (stop !)))) (look-in ! 0 (sub ! 0 refl (whole !))))) (from ! (stop !)) (init ! 11 refl (tt, typed was .0)) $
         assigns ! (of-opd ! (load ! (from ! (hop ! (look ! 13 refl) (fld ! refl (stop !)))) (look-in ! 0 (sub ! 1 refl (whole !))))) (from ! (stop !)) (init ! 9 refl (tt, typed was .1 .0)) $
         move ! (1 ∷ []) $ use1 W (‵ (Owns (α κ′) h) ⊛ ‵ (Own (α κ′) h)) (fields 𝓤 H A W (α κ′) h (typed was .1 .0 .fits)) $ split ! $
         move ! (6 ∷ 0 ∷ []) $ use2 W (raw (After 𝓤 H A at-mem run .pre to-after)) asked-after $
-        -- [what `line_after` asks; what a LineReader owns; the struct's cell; the open borrow; obs; auth; …; _4; …; _3; …; _2; …; _1; …; room for _0; …]
+        -- [what `line_after` asks; what a LineReader owns; the struct's cell; the open borrow; obs;
+        -- auth; …; _4; …; _3; …; _2; …; _1; …; room for _0; …]
         calls-at ! fm (After 𝓤 H A at-mem run) known-after to-after (and-then ! (load ! (from ! (stop !)) (look ! 11 refl)) (and-then ! (load ! (from ! (stop !)) (look ! 9 refl)) (no-more !))) (λ w.
         use1 W (later (some (λ (m : ℕ). ((‵ (flft κ′ q′) ⊛ ‵ ftrue) ⊛ ‵ (usize .own m (w ∷ []))) ⊛ raw (ensured 𝓤 H A after.ended (after.clauses 𝓤 H A at-mem run) (κ′, tt) (h .text, (h .next, tt)) tt m)))) (id⊢ 𝓤 _) $ await ! tt $ pick ! (λ m.
         split ! $ move ! (1 ∷ []) $ use1 W (raw (fact 𝓤 (m ≡ lineAfter (now (h .text)) (h .next)))) (after-said m) $ heard ! (m ≡ lineAfter (now (h .text)) (h .next)) (λ e. split ! $ move ! (1 ∷ []) $
         peeks ! usize (Is usize) (shows 𝓤 H A usize) m (w ∷ []) (λ is.
         land ! (from ! (stop !)) (init ! 8 refl (uint-lawful 𝓤 H A W w64 .typed m _ is .0)) $ rewrite ! 8 (λ (u : Val). ‵ (fat fullShare (tyInt w64) l₄ 0 u)) (ap only (is .0)) refl $ drop ! $
-        -- [the token; what a LineReader owns; the struct's cell; the open borrow; obs; auth; …; _4; …; _3; …; _2; …; _1; …; room for _0; …]
+        -- [the token; what a LineReader owns; the struct's cell; the open borrow; obs; auth; …; _4;
+        -- …; _3; …; _2; …; _1; …; room for _0; …]
         assigns ! (of-opd ! (load ! (from ! (stop !)) (look ! 7 refl))) (from ! (hop ! (look ! 13 refl) (fld ! refl (stop !)))) (store-in ! 2 (sub ! 1 refl (whole !)) (tt, record { fits = is .1 })) $
         -- the borrow is closed, at the reader with the new number
         move ! (1 ∷ []) $ use1 W (‵ (Owns (α κ′) h) ⊛ ‵ (Own (α κ′) h)) (fields 𝓤 H A W (α κ′) h (typed was .1 .0 .fits)) $ split ! $
         move ! (1 ∷ []) $ use1 W (‵ (B κ′ .own (to-line m) (T′.lowered (to-line m) ∷ []))) (again m (is .1)) $
         move ! (3 ∷ []) $ use1 W (‵ (cellAt fullShare (B κ′ .mir) (T′.lowered (to-line m) ∷ []) b o)) (W .laws .at-raw fullShare (T′.mir erased) b o (T′.lowered (to-line m))) $
         move ! (0 ∷ 1 ∷ 4 ∷ 5 ∷ 6 ∷ []) $ closes ! tt (B κ′) (to-line m) (T′.lowered (to-line m) ∷ []) b o $
-        -- [obs; the borrow; its token; what the callee is passed; 'a's token; …; _4; …; _3; …; _2; …; _1; …; room for _0; …]
+        -- [obs; the borrow; its token; what the callee is passed; 'a's token; …; _4; …; _3; …; _2;
+        -- …; _1; …; room for _0; …]
         move ! (4 ∷ 3 ∷ []) $ use2 W (raw (FrameAt 𝓤 H A at-mem run .pre to-frame-at)) asked-frame-at $
         calls-at ! fm (FrameAt 𝓤 H A at-mem run) known-frame-at to-frame-at (and-then ! (load ! (from ! (stop !)) (look ! 9 refl)) (and-then ! (load ! (from ! (stop !)) (look ! 7 refl)) (no-more !))) (λ w′.
         use1 W (later (some (λ (f : FrameRead). ((‵ (flft κ′ q′) ⊛ ‵ ftrue) ⊛ ‵ (S.the-row .own f (w′ ∷ []))) ⊛ raw (ensured 𝓤 H A frame-at.ended (frame-at.clauses 𝓤 H A at-mem run) (κ′, tt) (h .text, (h .next, tt)) tt f)))) (id⊢ 𝓤 _) $ await ! tt $ pick ! (λ f.
         split ! $ move ! (1 ∷ []) $ use1 W (raw (fact 𝓤 (f ≡ frameRead (now (h .text)) (h .next)))) (frame-at-said f) $ heard ! (f ≡ frameRead (now (h .text)) (h .next)) (λ e′. split ! $ move ! (1 ∷ []) $
-        -- [the result; 'a's token; obs; the borrow; its token; …; _4; …; _3; …; _2; …; _1; …; room for _0; …]
+        -- [the result; 'a's token; obs; the borrow; its token; …; _4; …; _3; …; _2; …; _1; …; room
+        -- for _0; …]
         peeks ! S.the-row (Is S.the-row) (shows 𝓤 H A S.the-row) f (w′ ∷ []) (λ is′.
         land ! (from ! (stop !)) (init ! 14 refl (EL.lawful S.the-type S′.the-laws 𝓤 H A W tt .typed f _ is′ .0)) $
         returns ! (look ! 14 refl) $ forget ! 6 refl $ forget ! 8 refl $ forget ! 10 refl $ forget ! 12 refl $ forget ! 14 refl $
@@ -189,13 +208,16 @@ module _ {M : Type 1} (𝓤 : URA M) (H : Heap 𝓤) (A : Atoms 𝓤) (W : Given
         keep ! (2 ∷ 3 ∷ 4 ∷ 1 ∷ 0 ∷ []) $ by ! (exits m f w′ e e′))))))))))))))))
 
 module _ {M : Type 1} (𝓤 : URA M) (H : Heap 𝓤) (A : Atoms 𝓤) (W : Given 𝓤 H A) (mem : Memory → SProp 𝓤) (run : Routine → Fun 𝓤) where
-  next-frame-walks : (C : Calls 𝓤 H) (Λ : Loops 𝓤 H) → FmC 𝓤 H (W .laws) C → Triple 𝓤 (C #lines·line-after) (After 𝓤 H A mem run) → Triple 𝓤 (C #text·line·frame-at) (FrameAt 𝓤 H A mem run)
+  next-frame-walks : (C : Calls 𝓤 H) (Λ : Loops 𝓤 H) → FmC 𝓤 H (W .laws) C
+      → Triple 𝓤 (C #lines·line-after) (After 𝓤 H A mem run)
+      → Triple 𝓤 (C #text·line·frame-at) (FrameAt 𝓤 H A mem run)
       → Walks 𝓤 H A this.ended stayed (WpFn 𝓤 H C Λ code.function) (this.clauses 𝓤 H A mem run)
   next-frame-walks C Λ fm known-after known-frame-at = walked 𝓤 H A this.ended stayed (this.clauses 𝓤 H A mem run) (WpFn 𝓤 H C Λ code.function) (λ κs. (ptr-vals, tt)) (λ κs. (mut-tells (named 0) (κs .0) (B (κs .1 .0)), tt))
       (λ κs qs bounds a g are. via 𝓤 _ (fst∗ 𝓤 _ (emp 𝓤)) (walk 𝓤 H A W mem run (κs .0) (κs .1 .0) (qs .0) (qs .1 .0) bounds (a .0 .ptr .0) (a .0 .ptr .1) (a .0 .name) (a .0 .now) C Λ fm known-after known-frame-at))
 
 next-frame-meets : {M : Type 1} (𝓤 : URA M) (H : Heap 𝓤) (A : Atoms 𝓤) (W : Given 𝓤 H A) (mem : Memory → SProp 𝓤) (run : Routine → Fun 𝓤) (𝓣 : Tables 𝓤 H)
-    → Triple 𝓤 (𝓣 .C #lines·line-after) (After 𝓤 H A mem run) → Triple 𝓤 (𝓣 .C #text·line·frame-at) (FrameAt 𝓤 H A mem run)
+    → Triple 𝓤 (𝓣 .C #lines·line-after) (After 𝓤 H A mem run)
+    → Triple 𝓤 (𝓣 .C #text·line·frame-at) (FrameAt 𝓤 H A mem run)
     → Meets 𝓤 H A this.signature (WpFn 𝓤 H (𝓣 .C) (𝓣 .Λ) code.function) (this.spec 𝓤 H A mem run)
 next-frame-meets 𝓤 H A W mem run 𝓣 known-after known-frame-at = walk-meets 𝓤 H A this.ended stayed W (goes-ref 𝓤 H A W 2 0 tt behind, tt) (this.clauses 𝓤 H A mem run) (WpFn 𝓤 H (𝓣 .C) (𝓣 .Λ) code.function) (WpFn-mono 𝓤 H (W .laws) 𝓣 code.function)
     (next-frame-walks 𝓤 H A W mem run (𝓣 .C) (𝓣 .Λ) (fmOf 𝓤 H (W .laws) 𝓣) known-after known-frame-at)

@@ -1,4 +1,5 @@
--- The blocks of the words, and a block replaced: what the code copies. Assumes nothing: definitions.
+-- The blocks of the words, and a block replaced: what the code copies. Assumes nothing:
+-- definitions.
 use mathlib.Core.List.{List}
 use Prim.Native.Nat.{ℕ}
 use lib.ListN.{take, drop, getD}

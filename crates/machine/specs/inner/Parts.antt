@@ -1,10 +1,12 @@
--- The parts of a step in the spaces that a state has, for the laws that speak of one. Assumes nothing: definitions.
+-- The parts of a step in the spaces that a state has, for the laws that speak of one. Assumes
+-- nothing: definitions.
 use mathlib.Core.List.{List}
 use Prim.Native.Nat.{ℕ}
 use Rattle.program.specs.Programs.{Program}
 use Rattle.machine.specs.State.{State, Item}
 use Rattle.machine.specs.Turns.{Stepped, stateSpaces, Turn}
-use Rattle.machine.specs.Steps.{turnWithin, stepItemsWithin, stepThreadWithin, stepSchedulerWithin}
+use Rattle.machine.specs.Steps.{turnWithin, stepItemsWithin, stepThreadWithin}
+use Rattle.machine.specs.Steps.{stepSchedulerWithin}
 
 abbrev pub turn : Program → State → ℕ → ℕ → List Item → Turn
 turn p s c t items = turnWithin stateSpaces p s c t items

@@ -1,5 +1,7 @@
--- The range of each lent word, as a test: it computes what Validity says of a state in shape. Assumes nothing: definitions.
--- '14 a lent buffer of the wrong length, or a state with a word out of range (a place, frame or party that the file lacks, a pile frame that is no statement, a thread over 64, a cell over 255, a list or pile longer than its space ..)'
+-- The range of each lent word, as a test: it computes what Validity says of a state in shape.
+-- Assumes nothing: definitions. '14 a lent buffer of the wrong length, or a state with a word out
+-- of range (a place, frame or party that the file lacks, a pile frame that is no statement, a
+-- thread over 64, a cell over 255, a list or pile longer than its space ..)'
 use mathlib.Core.List.{List}
 use mathlib.Core.Bool.{Bool, true, _&&_}
 use Prim.Native.Nat.{ℕ, zero, suc, _+_, _-_, _*_, _/_, _%_}
@@ -10,7 +12,11 @@ use Rattle.language.specs.Places.{hasPlace}
 use Rattle.language.specs.declared.frame.Frame.{Frame}
 use Rattle.language.specs.Limits.{mostVariables, mostThreads, mostCells, mostItems}
 use Rattle.program.specs.Trees.{frameAt}
-use Rattle.machine.specs.Offsets.{stateLength, threadCountAt, cellCountAt, schedulersAt, schedulerLength, listLength, threadsAt, threadLength, placeField, starterField, livesField, itemsField, variablesField, cellsAt, backFrom, dropWord, waitingFactor, truthFrom, cellFrom, ownerFactor}
+use Rattle.machine.specs.Offsets.{stateLength, threadCountAt, cellCountAt, schedulersAt}
+use Rattle.machine.specs.Offsets.{schedulerLength, listLength, threadsAt, threadLength}
+use Rattle.machine.specs.Offsets.{placeField, starterField, livesField, itemsField}
+use Rattle.machine.specs.Offsets.{variablesField, cellsAt, backFrom, dropWord, waitingFactor}
+use Rattle.machine.specs.Offsets.{truthFrom, cellFrom, ownerFactor}
 use Rattle.machine.specs.Shapes.{isStatement, ownerInRange}
 
 -- ---- single words, in a file of those frames and n schedulers
@@ -39,7 +45,8 @@ cellInRange n w = ownerInRange n (w / ownerFactor) && valueInRange (w % ownerFac
 
 -- ---- the words of a list, a scheduler, a thread
 
--- word j of the space of a list at i, which holds at most `most` members that pass the test: 'a list or pile longer than its space'; behind its members, 0
+-- word j of the space of a list at i, which holds at most `most` members that pass the test: 'a
+-- list or pile longer than its space'; behind its members, 0
 unfoldable pub listInRange : (ℕ → Bool) → ℕ → List ℕ → ℕ → ℕ → Bool
 listInRange test most w i zero = leb (getD w i 0) most
 listInRange test most w i (suc j) =
@@ -51,7 +58,8 @@ schedulerInRange w i j =
     if ltb j listLength then listInRange threadInRange mostThreads w i j else
     listInRange entryInRange mostThreads w (i + listLength) (j - listLength)
 
--- word j of the thread whose words begin at i: its place, its starter (0: none), whether it lives, its continuation, its variables
+-- word j of the thread whose words begin at i: its place, its starter (0: none), whether it lives,
+-- its continuation, its variables
 unfoldable pub threadWordInRange : List Frame → ℕ → List ℕ → ℕ → ℕ → Bool
 threadWordInRange fs n w i j =
     if eqb j placeField then hasPlace n (getD w i 0) else

@@ -1,4 +1,5 @@
--- How the code reads the children of a frame. No reader has to believe it: proofs/FrameLaws ties it to the list of them. Assumes nothing: definitions.
+-- How the code reads the children of a frame. No reader has to believe it: proofs/FrameLaws ties it
+-- to the list of them. Assumes nothing: definitions.
 use mathlib.Core.Bool.{Bool, true, false}
 use mathlib.Core.List.{List, [], _∷_, _++_}
 use Rattle.language.specs.Kinds.{uses, Child, child, childIn}
@@ -23,7 +24,8 @@ listOf (Three k a l b m c) = child k a ∷ child l b ∷ child m c ∷ []
 
 -- the children of a frame whose fields have these uses
 abbrev pub childrenBy : Uses → Frame → Children
-childrenBy us f = childrenIn (childIn (us .a) (f .a) ++ childIn (us .b) (f .b) ++ childIn (us .c) (f .c))
+childrenBy us f =
+    childrenIn (childIn (us .a) (f .a) ++ childIn (us .b) (f .b) ++ childIn (us .c) (f .c))
 
 abbrev pub childrenOf : Frame → Children
 childrenOf f = childrenBy (uses (f .kind)) f

@@ -1,4 +1,5 @@
--- A module as the code finds it. No reader has to believe it: crate stepper shows that a turn committed is the step of the rules. Assumes nothing: definitions.
+-- A module as the code finds it. No reader has to believe it: crate stepper shows that a turn
+-- committed is the step of the rules. Assumes nothing: definitions.
 use Prim.Native.Nat.{ℕ}
 use lib.Dec.{ltb}
 use lib.ListN.{length}

@@ -1,17 +1,20 @@
--- How the code takes a frame apart: a node with the numbers that its kind uses. Whoever reads the rules can skip this; proofs/NodeTrees ties it to the trees. Assumes nothing: definitions.
+-- How the code takes a frame apart: a node with the numbers that its kind uses. Whoever reads the
+-- rules can skip this; proofs/NodeTrees ties it to the trees. Assumes nothing: definitions.
 use Prim.Native.Nat.{ℕ}
 use Rattle.language.specs.declared.kind.StatementKind.{StatementKind}
 use Rattle.language.specs.declared.kind.StatementKind.the-variants as S
 use Rattle.language.specs.declared.kind.ExpressionKind.{ExpressionKind}
 use Rattle.language.specs.declared.kind.ExpressionKind.the-variants as E
 use Rattle.language.specs.declared.kind.Kind.{Kind}
-use Rattle.language.specs.declared.kind.Kind.the-variants.{Header, Declared, Module, Statement, Expression, Unknown}
+use Rattle.language.specs.declared.kind.Kind.the-variants.{Header, Declared, Module, Statement}
+use Rattle.language.specs.declared.kind.Kind.the-variants.{Expression, Unknown}
 use Rattle.language.specs.declared.frame.Frame.{Frame}
 use Rattle.program.specs.declared.node.Leaf.{Leaf}
 use Rattle.program.specs.declared.node.CellUse.the-variants.{Make, Read}
 use Rattle.program.specs.declared.node.Operator.{Operator}
 use Rattle.program.specs.declared.node.ExpressionNode.{ExpressionNode}
-use Rattle.program.specs.declared.node.ExpressionNode.the-variants.{Plain, OfValue, OfNumbers, Choose}
+use Rattle.program.specs.declared.node.ExpressionNode.the-variants.{Plain, OfValue, OfNumbers}
+use Rattle.program.specs.declared.node.ExpressionNode.the-variants.{Choose}
 use Rattle.program.specs.declared.node.StatementNode.{StatementNode}
 
 abbrev pub expressionNodeOf : ExpressionKind → ℕ → ℕ → ℕ → ℕ → ExpressionNode

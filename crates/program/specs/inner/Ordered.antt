@@ -1,4 +1,5 @@
--- What the recursions over frames need of a file, and every file has that passes refusals 5 and 6. Assumes nothing: definitions.
+-- What the recursions over frames need of a file, and every file has that passes refusals 5 and 6.
+-- Assumes nothing: definitions.
 use mathlib.Core.List.{List}
 use Prim.Native.Nat.{ℕ, _<_}
 use lib.ListN.{length}

@@ -8,7 +8,8 @@ use Rattle.language.specs.Limits.{mostListingBytes}
 use Rattle.program.specs.Programs.{Program}
 use Rattle.machine.specs.Runs.{steps}
 use Rattle.stepper.specs.declared.answer.Answer.the-variants as A
-use Rattle.listing.specs.Listing.{refusalLine, Choices, choices, malformed, choicesFrom, choiceLines}
+use Rattle.listing.specs.Listing.{refusalLine, Choices, choices, malformed, choicesFrom}
+use Rattle.listing.specs.Listing.{choiceLines}
 use Rattle.runs.specs.Runs.{Behind}
 use Rattle.runs.specs.Printed.{unstepped, ListedOn, listedAs, written, listedFrom, unlisted}
 

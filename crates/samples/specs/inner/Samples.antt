@@ -1,4 +1,5 @@
--- The samples that document 01 marks to be proved together ('Bench samples', *). Assumes nothing: definitions.
+-- The samples that document 01 marks to be proved together ('Bench samples', *). Assumes nothing:
+-- definitions.
 use mathlib.Core.List.{List, [], _∷_}
 use Prim.Native.Nat.{ℕ}
 use Prim.Native.String.{String}
@@ -18,7 +19,8 @@ checked file v = record { file = file; verdict = v; choices = []; answers = [] }
 
 abbrev pub samples : List Sample
 samples =
-    -- 'Type words of a parameter, two schedulers: 0001, 0021, 0121, 0321 fine; 0211, 0201, 0020, 0003, 0041 refused with 5': the parameter of the module at frame 2
+    -- 'Type words of a parameter, two schedulers: 0001, 0021, 0121, 0321 fine; 0211, 0201, 0020,
+    -- 0003, 0041 refused with 5': the parameter of the module at frame 2
     checked "0001000000020000\n1000000000000000\n0201000100010000\n1000000000000000\n0200000300000000\n" Accepted ∷
     checked "0001000000020000\n1000000000000000\n0201000100210000\n1000000000000000\n0200000300000000\n" Accepted ∷
     checked "0001000000020000\n1000000000000000\n0201000101210000\n1000000000000000\n0200000300000000\n" Accepted ∷

@@ -1,4 +1,5 @@
--- What the inner functions of the stepper ask of a file and a state, and give. Whoever reads the promises can skip this. Assumes nothing: definitions.
+-- What the inner functions of the stepper ask of a file and a state, and give. Whoever reads the
+-- promises can skip this. Assumes nothing: definitions.
 use mathlib.Core.Path.{_≡_}
 use mathlib.Core.List.{List}
 use mathlib.Core.Bool.{true}
@@ -29,7 +30,8 @@ use Rattle.stepper.specs.declared.file.File.{File}
 use Rattle.stepper.specs.declared.party.Stepped.{Stepped}
 
 abbrev pub fileOf : Program → File
-fileOf p = record { schedulers = p .schedulers; shared = length (p .shared); allowance = p .allowance }
+fileOf p =
+    record { schedulers = p .schedulers; shared = length (p .shared); allowance = p .allowance }
 
 abbrev pub steppedOn : Stepped → List ℕ → Called
 steppedOn r w = called (r .answer) (r .thread) w
@@ -53,8 +55,8 @@ pub record StepWords (frames : List ℕ) (shared : ℕ) (w : List ℕ) : Type 0 
 abbrev pub TurnChoice : List ℕ → ℕ → Type 0
 TurnChoice frames c = isSchedulerOf (programOf (framesOf frames)) c ≡ isScheduler c
 
--- the thread that acts at a choice, by the words: the first active one of a scheduler of a file with n, or the unlinked one that the
--- choice names; 0 where none acts
+-- the thread that acts at a choice, by the words: the first active one of a scheduler of a file
+-- with n, or the unlinked one that the choice names; 0 where none acts
 unfoldable pub actingIn : ℕ → List ℕ → ℕ → ℕ
 actingIn n w c =
     if hasScheduler n c then getD w (schedulersAt + 1 + schedulerLength * (c - home)) 0 else

@@ -1,4 +1,6 @@
--- What a text reads as, by functions that compute, and the reader's whole answer. No reader has to believe it: proofs/Readings shows that `reading` gives what `Reads` allows. Assumes nothing: definitions.
+-- What a text reads as, by functions that compute, and the reader's whole answer. No reader has to
+-- believe it: proofs/Readings shows that `reading` gives what `Reads` allows. Assumes nothing:
+-- definitions.
 use mathlib.Core.Bool.{true, false}
 use mathlib.Core.List.{List, [], _∷_, _++_}
 use mathlib.Core.Option.{Option, none, some}

@@ -11,7 +11,8 @@ use Rattle.language.specs.declared.Place.{Place}
 use Rattle.language.specs.declared.frame.Frame.{Frame}
 use Rattle.language.specs.Limits.{mostVariables, mostItems}
 use Rattle.language.specs.Refusals.{stuck}
-use Rattle.program.specs.Trees.{Expr, Stmt, nothing, seq, doAt, start, startWait, cooperate, letIn, store, ifElse, while, rootS, statementAt}
+use Rattle.program.specs.Trees.{Expr, Stmt, nothing, seq, doAt, start, startWait, cooperate, letIn}
+use Rattle.program.specs.Trees.{store, ifElse, while, rootS, statementAt}
 use Rattle.machine.specs.Offsets.{backFrom, dropWord}
 use Rattle.machine.specs.Evaluation.{eval, storing}
 use Rattle.machine.specs.Values.{answerOf}
@@ -27,7 +28,8 @@ use Rattle.evaluator.specs.inner.Results.{hereOf, onWords}
 use Rattle.acts.specs.declared.act.Arguments.{Arguments}
 use Rattle.acts.specs.declared.act.Fate.the-variants.{Stays, Leaves, Joins, Starts}
 use Rattle.acts.specs.declared.act.Change.{Change}
-use Rattle.acts.specs.declared.act.Change.the-variants.{Same, Item, Items, Let, Drop, Move, Enter, End}
+use Rattle.acts.specs.declared.act.Change.the-variants.{Same, Item, Items, Let, Drop, Move, Enter}
+use Rattle.acts.specs.declared.act.Change.the-variants.{End}
 use Rattle.acts.specs.declared.act.Acted.{Acted}
 use Rattle.acts.specs.inner.Fates.{argumentsOf, actedWith, refusedWith}
 use Rattle.turns.specs.declared.view.View.{View}

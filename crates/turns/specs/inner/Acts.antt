@@ -12,7 +12,8 @@ use Rattle.language.specs.declared.frame.Frame.{Frame}
 use Rattle.language.specs.Limits.{mostVariables, mostItems}
 use Rattle.language.specs.Refusals.{cellsSpent, foreign, stuck}
 use Rattle.text.specs.Frames.{framesOf}
-use Rattle.program.specs.Trees.{Expr, Stmt, nothing, seq, doAt, start, startWait, cooperate, letIn, store, ifElse, while, rootS, statementAt}
+use Rattle.program.specs.Trees.{Expr, Stmt, nothing, seq, doAt, start, startWait, cooperate, letIn}
+use Rattle.program.specs.Trees.{store, ifElse, while, rootS, statementAt}
 use Rattle.program.specs.inner.Ordered.{Ordered, Placed}
 use Rattle.machine.specs.Offsets.{backFrom, dropWord}
 use Rattle.machine.specs.Evaluation.{eval, storing}

@@ -1,6 +1,7 @@
 -- `check` meets its contract. Assumes nothing.
 use borrow.Author.Needs.{needs}
-use Rattle.checker.proofs.CheckLaws.{check-room, check-length, check-file, check-rejected, check-rules, promised-rejected, promised-rules}
+use Rattle.checker.proofs.CheckLaws.{check-room, check-length, check-file, check-rejected}
+use Rattle.checker.proofs.CheckLaws.{check-rules, promised-rejected, promised-rules}
 use Rattle.checker.proofs.check.check.Statement.{statement}
 use Rattle.checker.proofs.check.check.Tie as tie
 

@@ -1,10 +1,20 @@
--- `conduct_of`, the recursion, meets its contract: one law for each arm, and a child's number falls. Assumes nothing.
+-- `conduct_of`, the recursion, meets its contract: one law for each arm, and a child's number
+-- falls. Assumes nothing.
 use mathlib.Core.Path.{_∙_}
 use denote.Ref.{now}
 use borrow.Author.Needs.{needs}
 use Rattle.checker.proofs.FineFrames.{names-place}
-use Rattle.checker.proofs.DescentLaws.{seq-a-falls, seq-a-in, seq-a-room, seq-b-falls, seq-b-in, seq-b-room, do-a-falls, do-a-in, do-a-room, let-a-in, let-b-falls, let-b-in, let-b-room, let-fits, let-scales, let-adds, store-a-in, store-b-in, if-a-in, if-b-falls, if-b-in, if-b-room, if-c-falls, if-c-in, if-c-room, while-a-in, while-b-falls, while-b-in, while-b-room, start-first, start-second, wait-first, wait-second, room-holds}
-use Rattle.checker.proofs.ConductLaws.{run-nothing, run-cooperate, run-seq, run-do, run-start, run-wait, run-let-fault, run-let, run-store, run-if, run-while, let-scope, let-leaves}
+use Rattle.checker.proofs.DescentLaws.{seq-a-falls, seq-a-in, seq-a-room, seq-b-falls}
+use Rattle.checker.proofs.DescentLaws.{seq-b-in, seq-b-room, do-a-falls, do-a-in, do-a-room}
+use Rattle.checker.proofs.DescentLaws.{let-a-in, let-b-falls, let-b-in, let-b-room, let-fits}
+use Rattle.checker.proofs.DescentLaws.{let-scales, let-adds, store-a-in, store-b-in, if-a-in}
+use Rattle.checker.proofs.DescentLaws.{if-b-falls, if-b-in, if-b-room, if-c-falls, if-c-in}
+use Rattle.checker.proofs.DescentLaws.{if-c-room, while-a-in, while-b-falls, while-b-in}
+use Rattle.checker.proofs.DescentLaws.{while-b-room, start-first, start-second, wait-first}
+use Rattle.checker.proofs.DescentLaws.{wait-second, room-holds}
+use Rattle.checker.proofs.ConductLaws.{run-nothing, run-cooperate, run-seq, run-do}
+use Rattle.checker.proofs.ConductLaws.{run-start, run-wait, run-let-fault, run-let}
+use Rattle.checker.proofs.ConductLaws.{run-store, run-if, run-while, let-scope, let-leaves}
 use Prim.Native.Nat.{ℕ, _<_}
 use borrow.Fn.Kinds.{In}
 use borrow.Fn.PlainCycle.{Measures, is, falls, and}
@@ -42,145 +52,201 @@ conduct-of-below t =
 abbrev conduct-of-calls : ℕ → conduct-of-lts.Claims
 conduct-of-calls t = (frame-of-word-reads.Asked, frame-of-word-reads.Learnt, statement-node-reads.Asked, statement-node-reads.Learnt, none-reads.Asked, none-reads.Learnt, cooperate-rule-reads.Asked, cooperate-rule-reads.Learnt, conduct-of-below t, conduct-of.Post, seq-rule-reads.Asked, seq-rule-reads.Learnt, is-linked-reads.Asked, is-linked-reads.Learnt, do-rule-reads.Asked, do-rule-reads.Learnt, arguments-of-reads.Asked, arguments-of-reads.Learnt, start-rule-reads.Asked, start-rule-reads.Learnt, type-in-reads.Asked, type-in-reads.Learnt, join-rule-reads.Asked, join-rule-reads.Learnt, store-rule-reads.Asked, store-rule-reads.Learnt, if-else-rule-reads.Asked, if-else-rule-reads.Learnt, while-rule-reads.Asked, while-rule-reads.Learnt)
 
-conduct-of-mul-frame-of-word : (t : ℕ) → conduct-of-lts.Need-mul-frame-of-word (conduct-of-calls t) (conduct-of-at t) conduct-of.Post
+conduct-of-mul-frame-of-word : (t : ℕ)
+    → conduct-of-lts.Need-mul-frame-of-word (conduct-of-calls t) (conduct-of-at t) conduct-of.Post
 conduct-of-mul-frame-of-word t c = search needs
 
-conduct-of-shared-slice-read-frame-of-word : (t : ℕ) → conduct-of-lts.Need-shared-slice-read-frame-of-word (conduct-of-calls t) (conduct-of-at t) conduct-of.Post
+conduct-of-shared-slice-read-frame-of-word : (t : ℕ)
+    → conduct-of-lts.Need-shared-slice-read-frame-of-word (conduct-of-calls t) (conduct-of-at t) conduct-of.Post
 conduct-of-shared-slice-read-frame-of-word t c = search needs
 
-conduct-of-frame-of-word-requires : (t : ℕ) → conduct-of-lts.Need-frame-of-word-requires (conduct-of-calls t) (conduct-of-at t) conduct-of.Post
+conduct-of-frame-of-word-requires : (t : ℕ)
+    → conduct-of-lts.Need-frame-of-word-requires (conduct-of-calls t) (conduct-of-at t) conduct-of.Post
 conduct-of-frame-of-word-requires t c = λ κs. search needs
 
-conduct-of-statement-node-requires : (t : ℕ) → conduct-of-lts.Need-statement-node-requires (conduct-of-calls t) (conduct-of-at t) conduct-of.Post
+conduct-of-statement-node-requires : (t : ℕ)
+    → conduct-of-lts.Need-statement-node-requires (conduct-of-calls t) (conduct-of-at t) conduct-of.Post
 conduct-of-statement-node-requires t c = λ κs. search names-place
 
-conduct-of-enum-told : (t : ℕ) → conduct-of-lts.Need-enum-told (conduct-of-calls t) (conduct-of-at t) conduct-of.Post
+conduct-of-enum-told : (t : ℕ)
+    → conduct-of-lts.Need-enum-told (conduct-of-calls t) (conduct-of-at t) conduct-of.Post
 conduct-of-enum-told t c = search needs
 
-conduct-of-none-requires : (t : ℕ) → conduct-of-lts.Need-none-requires (conduct-of-calls t) (conduct-of-at t) conduct-of.Post
+conduct-of-none-requires : (t : ℕ)
+    → conduct-of-lts.Need-none-requires (conduct-of-calls t) (conduct-of-at t) conduct-of.Post
 conduct-of-none-requires t c = λ κs. search needs
 
-conduct-of-enum-told-2 : (t : ℕ) → conduct-of-lts.Need-enum-told-2 (conduct-of-calls t) (conduct-of-at t) conduct-of.Post
+conduct-of-enum-told-2 : (t : ℕ)
+    → conduct-of-lts.Need-enum-told-2 (conduct-of-calls t) (conduct-of-at t) conduct-of.Post
 conduct-of-enum-told-2 t c = search needs
 
-conduct-of-cooperate-rule-requires : (t : ℕ) → conduct-of-lts.Need-cooperate-rule-requires (conduct-of-calls t) (conduct-of-at t) conduct-of.Post
+conduct-of-cooperate-rule-requires : (t : ℕ)
+    → conduct-of-lts.Need-cooperate-rule-requires (conduct-of-calls t) (conduct-of-at t) conduct-of.Post
 conduct-of-cooperate-rule-requires t c = λ κs. search needs
 
-conduct-of-enum-known-a : (t : ℕ) → conduct-of-lts.Need-enum-known-a (conduct-of-calls t) (conduct-of-at t) conduct-of.Post
+conduct-of-enum-known-a : (t : ℕ)
+    → conduct-of-lts.Need-enum-known-a (conduct-of-calls t) (conduct-of-at t) conduct-of.Post
 conduct-of-enum-known-a t c = search needs
 
-conduct-of-conduct-of-requires : (t : ℕ) → conduct-of-lts.Need-conduct-of-requires (conduct-of-calls t) (conduct-of-at t) conduct-of.Post
-conduct-of-conduct-of-requires t c = λ κs. (search seq-a-falls, (search seq-a-in, search seq-a-room, search needs))
+conduct-of-conduct-of-requires : (t : ℕ)
+    → conduct-of-lts.Need-conduct-of-requires (conduct-of-calls t) (conduct-of-at t) conduct-of.Post
+conduct-of-conduct-of-requires t c =
+    λ κs. (search seq-a-falls, (search seq-a-in, search seq-a-room, search needs))
 
-conduct-of-conduct-of-requires-2 : (t : ℕ) → conduct-of-lts.Need-conduct-of-requires-2 (conduct-of-calls t) (conduct-of-at t) conduct-of.Post
-conduct-of-conduct-of-requires-2 t c = λ κs. (search seq-b-falls, (search seq-b-in, search seq-b-room, search needs))
+conduct-of-conduct-of-requires-2 : (t : ℕ)
+    → conduct-of-lts.Need-conduct-of-requires-2 (conduct-of-calls t) (conduct-of-at t) conduct-of.Post
+conduct-of-conduct-of-requires-2 t c =
+    λ κs. (search seq-b-falls, (search seq-b-in, search seq-b-room, search needs))
 
-conduct-of-seq-rule-requires : (t : ℕ) → conduct-of-lts.Need-seq-rule-requires (conduct-of-calls t) (conduct-of-at t) conduct-of.Post
+conduct-of-seq-rule-requires : (t : ℕ)
+    → conduct-of-lts.Need-seq-rule-requires (conduct-of-calls t) (conduct-of-at t) conduct-of.Post
 conduct-of-seq-rule-requires t c = λ κs. search needs
 
-conduct-of-enum-known-s : (t : ℕ) → conduct-of-lts.Need-enum-known-s (conduct-of-calls t) (conduct-of-at t) conduct-of.Post
+conduct-of-enum-known-s : (t : ℕ)
+    → conduct-of-lts.Need-enum-known-s (conduct-of-calls t) (conduct-of-at t) conduct-of.Post
 conduct-of-enum-known-s t c = search needs
 
-conduct-of-is-linked-requires : (t : ℕ) → conduct-of-lts.Need-is-linked-requires (conduct-of-calls t) (conduct-of-at t) conduct-of.Post
+conduct-of-is-linked-requires : (t : ℕ)
+    → conduct-of-lts.Need-is-linked-requires (conduct-of-calls t) (conduct-of-at t) conduct-of.Post
 conduct-of-is-linked-requires t c = λ κs. search needs
 
-conduct-of-conduct-of-requires-3 : (t : ℕ) → conduct-of-lts.Need-conduct-of-requires-3 (conduct-of-calls t) (conduct-of-at t) conduct-of.Post
-conduct-of-conduct-of-requires-3 t c = λ κs. (search do-a-falls, (search do-a-in, search do-a-room, search needs))
+conduct-of-conduct-of-requires-3 : (t : ℕ)
+    → conduct-of-lts.Need-conduct-of-requires-3 (conduct-of-calls t) (conduct-of-at t) conduct-of.Post
+conduct-of-conduct-of-requires-3 t c =
+    λ κs. (search do-a-falls, (search do-a-in, search do-a-room, search needs))
 
-conduct-of-do-rule-requires : (t : ℕ) → conduct-of-lts.Need-do-rule-requires (conduct-of-calls t) (conduct-of-at t) conduct-of.Post
+conduct-of-do-rule-requires : (t : ℕ)
+    → conduct-of-lts.Need-do-rule-requires (conduct-of-calls t) (conduct-of-at t) conduct-of.Post
 conduct-of-do-rule-requires t c = λ κs. search needs
 
-conduct-of-enum-known-s-2 : (t : ℕ) → conduct-of-lts.Need-enum-known-s-2 (conduct-of-calls t) (conduct-of-at t) conduct-of.Post
+conduct-of-enum-known-s-2 : (t : ℕ)
+    → conduct-of-lts.Need-enum-known-s-2 (conduct-of-calls t) (conduct-of-at t) conduct-of.Post
 conduct-of-enum-known-s-2 t c = search needs
 
-conduct-of-arguments-of-requires : (t : ℕ) → conduct-of-lts.Need-arguments-of-requires (conduct-of-calls t) (conduct-of-at t) conduct-of.Post
-conduct-of-arguments-of-requires t c = λ κs. (search needs, search room-holds, search start-first, search start-second)
+conduct-of-arguments-of-requires : (t : ℕ)
+    → conduct-of-lts.Need-arguments-of-requires (conduct-of-calls t) (conduct-of-at t) conduct-of.Post
+conduct-of-arguments-of-requires t c =
+    λ κs. (search needs, search room-holds, search start-first, search start-second)
 
-conduct-of-start-rule-requires : (t : ℕ) → conduct-of-lts.Need-start-rule-requires (conduct-of-calls t) (conduct-of-at t) conduct-of.Post
+conduct-of-start-rule-requires : (t : ℕ)
+    → conduct-of-lts.Need-start-rule-requires (conduct-of-calls t) (conduct-of-at t) conduct-of.Post
 conduct-of-start-rule-requires t c = λ κs. search needs
 
-conduct-of-enum-known-s-3 : (t : ℕ) → conduct-of-lts.Need-enum-known-s-3 (conduct-of-calls t) (conduct-of-at t) conduct-of.Post
+conduct-of-enum-known-s-3 : (t : ℕ)
+    → conduct-of-lts.Need-enum-known-s-3 (conduct-of-calls t) (conduct-of-at t) conduct-of.Post
 conduct-of-enum-known-s-3 t c = search needs
 
-conduct-of-arguments-of-requires-2 : (t : ℕ) → conduct-of-lts.Need-arguments-of-requires-2 (conduct-of-calls t) (conduct-of-at t) conduct-of.Post
-conduct-of-arguments-of-requires-2 t c = λ κs. (search needs, search room-holds, search wait-first, search wait-second)
+conduct-of-arguments-of-requires-2 : (t : ℕ)
+    → conduct-of-lts.Need-arguments-of-requires-2 (conduct-of-calls t) (conduct-of-at t) conduct-of.Post
+conduct-of-arguments-of-requires-2 t c =
+    λ κs. (search needs, search room-holds, search wait-first, search wait-second)
 
-conduct-of-start-rule-requires-2 : (t : ℕ) → conduct-of-lts.Need-start-rule-requires-2 (conduct-of-calls t) (conduct-of-at t) conduct-of.Post
+conduct-of-start-rule-requires-2 : (t : ℕ)
+    → conduct-of-lts.Need-start-rule-requires-2 (conduct-of-calls t) (conduct-of-at t) conduct-of.Post
 conduct-of-start-rule-requires-2 t c = λ κs. search needs
 
-conduct-of-enum-known-a-2 : (t : ℕ) → conduct-of-lts.Need-enum-known-a-2 (conduct-of-calls t) (conduct-of-at t) conduct-of.Post
+conduct-of-enum-known-a-2 : (t : ℕ)
+    → conduct-of-lts.Need-enum-known-a-2 (conduct-of-calls t) (conduct-of-at t) conduct-of.Post
 conduct-of-enum-known-a-2 t c = search needs
 
-conduct-of-type-in-requires : (t : ℕ) → conduct-of-lts.Need-type-in-requires (conduct-of-calls t) (conduct-of-at t) conduct-of.Post
+conduct-of-type-in-requires : (t : ℕ)
+    → conduct-of-lts.Need-type-in-requires (conduct-of-calls t) (conduct-of-at t) conduct-of.Post
 conduct-of-type-in-requires t c = λ κs. (search let-a-in, search room-holds)
 
-conduct-of-enum-known-m : (t : ℕ) → conduct-of-lts.Need-enum-known-m (conduct-of-calls t) (conduct-of-at t) conduct-of.Post
+conduct-of-enum-known-m : (t : ℕ)
+    → conduct-of-lts.Need-enum-known-m (conduct-of-calls t) (conduct-of-at t) conduct-of.Post
 conduct-of-enum-known-m t c = search needs
 
-conduct-of-enum-known-t : (t : ℕ) → conduct-of-lts.Need-enum-known-t (conduct-of-calls t) (conduct-of-at t) conduct-of.Post
+conduct-of-enum-known-t : (t : ℕ)
+    → conduct-of-lts.Need-enum-known-t (conduct-of-calls t) (conduct-of-at t) conduct-of.Post
 conduct-of-enum-known-t t c = search needs
 
-conduct-of-mul-scope : (t : ℕ) → conduct-of-lts.Need-mul-scope (conduct-of-calls t) (conduct-of-at t) conduct-of.Post
+conduct-of-mul-scope : (t : ℕ)
+    → conduct-of-lts.Need-mul-scope (conduct-of-calls t) (conduct-of-at t) conduct-of.Post
 conduct-of-mul-scope t c = record { fits = search let-scales }
 
-conduct-of-element-write-scope : (t : ℕ) → conduct-of-lts.Need-element-write-scope (conduct-of-calls t) (conduct-of-at t) conduct-of.Post
+conduct-of-element-write-scope : (t : ℕ)
+    → conduct-of-lts.Need-element-write-scope (conduct-of-calls t) (conduct-of-at t) conduct-of.Post
 conduct-of-element-write-scope t c = search let-fits
 
-conduct-of-add-conduct-of : (t : ℕ) → conduct-of-lts.Need-add-conduct-of (conduct-of-calls t) (conduct-of-at t) conduct-of.Post
+conduct-of-add-conduct-of : (t : ℕ)
+    → conduct-of-lts.Need-add-conduct-of (conduct-of-calls t) (conduct-of-at t) conduct-of.Post
 conduct-of-add-conduct-of t c = record { fits = search let-adds }
 
-conduct-of-conduct-of-requires-4 : (t : ℕ) → conduct-of-lts.Need-conduct-of-requires-4 (conduct-of-calls t) (conduct-of-at t) conduct-of.Post
-conduct-of-conduct-of-requires-4 t c = λ κs. (search let-b-falls, (search let-b-in, search let-b-room, search needs))
+conduct-of-conduct-of-requires-4 : (t : ℕ)
+    → conduct-of-lts.Need-conduct-of-requires-4 (conduct-of-calls t) (conduct-of-at t) conduct-of.Post
+conduct-of-conduct-of-requires-4 t c =
+    λ κs. (search let-b-falls, (search let-b-in, search let-b-room, search needs))
 
-conduct-of-join-rule-requires : (t : ℕ) → conduct-of-lts.Need-join-rule-requires (conduct-of-calls t) (conduct-of-at t) conduct-of.Post
+conduct-of-join-rule-requires : (t : ℕ)
+    → conduct-of-lts.Need-join-rule-requires (conduct-of-calls t) (conduct-of-at t) conduct-of.Post
 conduct-of-join-rule-requires t c = λ κs. search needs
 
-conduct-of-enum-known-a-3 : (t : ℕ) → conduct-of-lts.Need-enum-known-a-3 (conduct-of-calls t) (conduct-of-at t) conduct-of.Post
+conduct-of-enum-known-a-3 : (t : ℕ)
+    → conduct-of-lts.Need-enum-known-a-3 (conduct-of-calls t) (conduct-of-at t) conduct-of.Post
 conduct-of-enum-known-a-3 t c = search needs
 
-conduct-of-type-in-requires-2 : (t : ℕ) → conduct-of-lts.Need-type-in-requires-2 (conduct-of-calls t) (conduct-of-at t) conduct-of.Post
+conduct-of-type-in-requires-2 : (t : ℕ)
+    → conduct-of-lts.Need-type-in-requires-2 (conduct-of-calls t) (conduct-of-at t) conduct-of.Post
 conduct-of-type-in-requires-2 t c = λ κs. (search store-a-in, search room-holds)
 
-conduct-of-type-in-requires-3 : (t : ℕ) → conduct-of-lts.Need-type-in-requires-3 (conduct-of-calls t) (conduct-of-at t) conduct-of.Post
+conduct-of-type-in-requires-3 : (t : ℕ)
+    → conduct-of-lts.Need-type-in-requires-3 (conduct-of-calls t) (conduct-of-at t) conduct-of.Post
 conduct-of-type-in-requires-3 t c = λ κs. (search store-b-in, search room-holds)
 
-conduct-of-store-rule-requires : (t : ℕ) → conduct-of-lts.Need-store-rule-requires (conduct-of-calls t) (conduct-of-at t) conduct-of.Post
+conduct-of-store-rule-requires : (t : ℕ)
+    → conduct-of-lts.Need-store-rule-requires (conduct-of-calls t) (conduct-of-at t) conduct-of.Post
 conduct-of-store-rule-requires t c = λ κs. search needs
 
-conduct-of-enum-known-a-4 : (t : ℕ) → conduct-of-lts.Need-enum-known-a-4 (conduct-of-calls t) (conduct-of-at t) conduct-of.Post
+conduct-of-enum-known-a-4 : (t : ℕ)
+    → conduct-of-lts.Need-enum-known-a-4 (conduct-of-calls t) (conduct-of-at t) conduct-of.Post
 conduct-of-enum-known-a-4 t c = search needs
 
-conduct-of-type-in-requires-4 : (t : ℕ) → conduct-of-lts.Need-type-in-requires-4 (conduct-of-calls t) (conduct-of-at t) conduct-of.Post
+conduct-of-type-in-requires-4 : (t : ℕ)
+    → conduct-of-lts.Need-type-in-requires-4 (conduct-of-calls t) (conduct-of-at t) conduct-of.Post
 conduct-of-type-in-requires-4 t c = λ κs. (search if-a-in, search room-holds)
 
-conduct-of-conduct-of-requires-5 : (t : ℕ) → conduct-of-lts.Need-conduct-of-requires-5 (conduct-of-calls t) (conduct-of-at t) conduct-of.Post
-conduct-of-conduct-of-requires-5 t c = λ κs. (search if-b-falls, (search if-b-in, search if-b-room, search needs))
+conduct-of-conduct-of-requires-5 : (t : ℕ)
+    → conduct-of-lts.Need-conduct-of-requires-5 (conduct-of-calls t) (conduct-of-at t) conduct-of.Post
+conduct-of-conduct-of-requires-5 t c =
+    λ κs. (search if-b-falls, (search if-b-in, search if-b-room, search needs))
 
-conduct-of-conduct-of-requires-6 : (t : ℕ) → conduct-of-lts.Need-conduct-of-requires-6 (conduct-of-calls t) (conduct-of-at t) conduct-of.Post
-conduct-of-conduct-of-requires-6 t c = λ κs. (search if-c-falls, (search if-c-in, search if-c-room, search needs))
+conduct-of-conduct-of-requires-6 : (t : ℕ)
+    → conduct-of-lts.Need-conduct-of-requires-6 (conduct-of-calls t) (conduct-of-at t) conduct-of.Post
+conduct-of-conduct-of-requires-6 t c =
+    λ κs. (search if-c-falls, (search if-c-in, search if-c-room, search needs))
 
-conduct-of-if-else-rule-requires : (t : ℕ) → conduct-of-lts.Need-if-else-rule-requires (conduct-of-calls t) (conduct-of-at t) conduct-of.Post
+conduct-of-if-else-rule-requires : (t : ℕ)
+    → conduct-of-lts.Need-if-else-rule-requires (conduct-of-calls t) (conduct-of-at t) conduct-of.Post
 conduct-of-if-else-rule-requires t c = λ κs. search needs
 
-conduct-of-enum-known-a-5 : (t : ℕ) → conduct-of-lts.Need-enum-known-a-5 (conduct-of-calls t) (conduct-of-at t) conduct-of.Post
+conduct-of-enum-known-a-5 : (t : ℕ)
+    → conduct-of-lts.Need-enum-known-a-5 (conduct-of-calls t) (conduct-of-at t) conduct-of.Post
 conduct-of-enum-known-a-5 t c = search needs
 
-conduct-of-type-in-requires-5 : (t : ℕ) → conduct-of-lts.Need-type-in-requires-5 (conduct-of-calls t) (conduct-of-at t) conduct-of.Post
+conduct-of-type-in-requires-5 : (t : ℕ)
+    → conduct-of-lts.Need-type-in-requires-5 (conduct-of-calls t) (conduct-of-at t) conduct-of.Post
 conduct-of-type-in-requires-5 t c = λ κs. (search while-a-in, search room-holds)
 
-conduct-of-conduct-of-requires-7 : (t : ℕ) → conduct-of-lts.Need-conduct-of-requires-7 (conduct-of-calls t) (conduct-of-at t) conduct-of.Post
-conduct-of-conduct-of-requires-7 t c = λ κs. (search while-b-falls, (search while-b-in, search while-b-room, search needs))
+conduct-of-conduct-of-requires-7 : (t : ℕ)
+    → conduct-of-lts.Need-conduct-of-requires-7 (conduct-of-calls t) (conduct-of-at t) conduct-of.Post
+conduct-of-conduct-of-requires-7 t c =
+    λ κs. (search while-b-falls, (search while-b-in, search while-b-room, search needs))
 
-conduct-of-while-rule-requires : (t : ℕ) → conduct-of-lts.Need-while-rule-requires (conduct-of-calls t) (conduct-of-at t) conduct-of.Post
+conduct-of-while-rule-requires : (t : ℕ)
+    → conduct-of-lts.Need-while-rule-requires (conduct-of-calls t) (conduct-of-at t) conduct-of.Post
 conduct-of-while-rule-requires t c = λ κs. search needs
 
-conduct-of-returns : (t : ℕ) → conduct-of-lts.Need-returns (conduct-of-calls t) (conduct-of-at t) conduct-of.Post
+conduct-of-returns : (t : ℕ)
+    → conduct-of-lts.Need-returns (conduct-of-calls t) (conduct-of-at t) conduct-of.Post
 conduct-of-returns t c = (search run-nothing, (search needs, search needs))
 
-conduct-of-returns-2 : (t : ℕ) → conduct-of-lts.Need-returns-2 (conduct-of-calls t) (conduct-of-at t) conduct-of.Post
+conduct-of-returns-2 : (t : ℕ)
+    → conduct-of-lts.Need-returns-2 (conduct-of-calls t) (conduct-of-at t) conduct-of.Post
 conduct-of-returns-2 t c = (search run-cooperate, (search needs, search needs))
 
-conduct-of-returns-3 : (t : ℕ) → conduct-of-lts.Need-returns-3 (conduct-of-calls t) (conduct-of-at t) conduct-of.Post
+conduct-of-returns-3 : (t : ℕ)
+    → conduct-of-lts.Need-returns-3 (conduct-of-calls t) (conduct-of-at t) conduct-of.Post
 conduct-of-returns-3 t c =
     let node = c .before .before .before .before .before .before .before .before in
     let at = node .before .before .before .before .before .before in
@@ -194,19 +260,24 @@ conduct-of-returns-3 t c =
       (two .ensures .1 .0, two .ensures .1 .1 ∙ one .ensures .1 .1),
     )
 
-conduct-of-returns-4 : (t : ℕ) → conduct-of-lts.Need-returns-4 (conduct-of-calls t) (conduct-of-at t) conduct-of.Post
+conduct-of-returns-4 : (t : ℕ)
+    → conduct-of-lts.Need-returns-4 (conduct-of-calls t) (conduct-of-at t) conduct-of.Post
 conduct-of-returns-4 t c = (search run-do, (search needs, search needs))
 
-conduct-of-returns-5 : (t : ℕ) → conduct-of-lts.Need-returns-5 (conduct-of-calls t) (conduct-of-at t) conduct-of.Post
+conduct-of-returns-5 : (t : ℕ)
+    → conduct-of-lts.Need-returns-5 (conduct-of-calls t) (conduct-of-at t) conduct-of.Post
 conduct-of-returns-5 t c = (search run-start, (search needs, search needs))
 
-conduct-of-returns-6 : (t : ℕ) → conduct-of-lts.Need-returns-6 (conduct-of-calls t) (conduct-of-at t) conduct-of.Post
+conduct-of-returns-6 : (t : ℕ)
+    → conduct-of-lts.Need-returns-6 (conduct-of-calls t) (conduct-of-at t) conduct-of.Post
 conduct-of-returns-6 t c = (search run-wait, (search needs, search needs))
 
-conduct-of-returns-7 : (t : ℕ) → conduct-of-lts.Need-returns-7 (conduct-of-calls t) (conduct-of-at t) conduct-of.Post
+conduct-of-returns-7 : (t : ℕ)
+    → conduct-of-lts.Need-returns-7 (conduct-of-calls t) (conduct-of-at t) conduct-of.Post
 conduct-of-returns-7 t c = (search run-let-fault, (search needs, search needs))
 
-conduct-of-returns-8 : (t : ℕ) → conduct-of-lts.Need-returns-8 (conduct-of-calls t) (conduct-of-at t) conduct-of.Post
+conduct-of-returns-8 : (t : ℕ)
+    → conduct-of-lts.Need-returns-8 (conduct-of-calls t) (conduct-of-at t) conduct-of.Post
 conduct-of-returns-8 t c =
     let node = c .before .before .before .before .before .before .before .before .before .before .before in
     let at = node .before .before .before .before .before .before in
@@ -223,10 +294,12 @@ conduct-of-returns-8 t c =
       (body .ensures .1 .0, search let-leaves),
     )
 
-conduct-of-returns-9 : (t : ℕ) → conduct-of-lts.Need-returns-9 (conduct-of-calls t) (conduct-of-at t) conduct-of.Post
+conduct-of-returns-9 : (t : ℕ)
+    → conduct-of-lts.Need-returns-9 (conduct-of-calls t) (conduct-of-at t) conduct-of.Post
 conduct-of-returns-9 t c = (search run-store, (search needs, search needs))
 
-conduct-of-returns-10 : (t : ℕ) → conduct-of-lts.Need-returns-10 (conduct-of-calls t) (conduct-of-at t) conduct-of.Post
+conduct-of-returns-10 : (t : ℕ)
+    → conduct-of-lts.Need-returns-10 (conduct-of-calls t) (conduct-of-at t) conduct-of.Post
 conduct-of-returns-10 t c =
     let node = c .before .before .before .before .before .before .before .before .before .before in
     let at = node .before .before .before .before .before .before in
@@ -240,7 +313,8 @@ conduct-of-returns-10 t c =
       (two .ensures .1 .0, two .ensures .1 .1 ∙ one .ensures .1 .1),
     )
 
-conduct-of-returns-11 : (t : ℕ) → conduct-of-lts.Need-returns-11 (conduct-of-calls t) (conduct-of-at t) conduct-of.Post
+conduct-of-returns-11 : (t : ℕ)
+    → conduct-of-lts.Need-returns-11 (conduct-of-calls t) (conduct-of-at t) conduct-of.Post
 conduct-of-returns-11 t c = (search run-while, (search needs, search needs))
 
 pub +conduct-of-spec : {M : Type 1} → statement M

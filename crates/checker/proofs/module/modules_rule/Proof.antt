@@ -3,7 +3,10 @@ use Prim.Native.Nat.{_-_}
 use lib.ListN.{length}
 use borrow.Author.Needs.{needs}
 use Rattle.checker.specs.inner.Settings.{settingIn}
-use Rattle.checker.proofs.ModuleLaws.{Judging, judge-start, judge-index, judge-few, judge-most, judge-fits, judge-parameters, judge-body, judge-room, judge-next, judge-fails, judge-main, judge-more, judge-falls, judge-add, file-first}
+use Rattle.checker.proofs.ModuleLaws.{Judging, judge-start, judge-index, judge-few}
+use Rattle.checker.proofs.ModuleLaws.{judge-most, judge-fits, judge-parameters, judge-body}
+use Rattle.checker.proofs.ModuleLaws.{judge-room, judge-next, judge-fails, judge-main}
+use Rattle.checker.proofs.ModuleLaws.{judge-more, judge-falls, judge-add, file-first}
 use Rattle.checker.proofs.module.modules_rule.Statement.{statement}
 use Rattle.checker.proofs.module.modules_rule.Tie as tie
 
@@ -26,7 +29,8 @@ frame-at-requires : tie.Need-frame-at-requires Inv-loop μ-loop
 frame-at-requires c κs = search judge-index
 
 module-conduct-requires : tie.Need-module-conduct-requires Inv-loop μ-loop
-module-conduct-requires c κs = (search judge-body, search judge-room, search judge-parameters, search judge-most)
+module-conduct-requires c κs =
+    (search judge-body, search judge-room, search judge-parameters, search judge-most)
 
 enum-known-k : tie.Need-enum-known-k Inv-loop μ-loop
 enum-known-k c = search (judge-few, judge-index, needs)
@@ -65,7 +69,8 @@ frame-at-requires-2 : tie.Need-frame-at-requires-2 Inv-loop μ-loop
 frame-at-requires-2 c κs = search judge-index
 
 module-conduct-requires-2 : tie.Need-module-conduct-requires-2 Inv-loop μ-loop
-module-conduct-requires-2 c κs = (search judge-body, search judge-room, search judge-parameters, search judge-most)
+module-conduct-requires-2 c κs =
+    (search judge-body, search judge-room, search judge-parameters, search judge-most)
 
 enum-known-k-2 : tie.Need-enum-known-k-2 Inv-loop μ-loop
 enum-known-k-2 c = search (judge-few, judge-index, needs)

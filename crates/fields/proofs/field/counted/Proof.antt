@@ -1,7 +1,8 @@
 -- `counted` meets its contract. Assumes nothing.
 use borrow.Author.Needs.{needs}
 use Rattle.fields.proofs.Tallies.{a-shared}
-use Rattle.fields.proofs.FramePass.{shared-owner, shared-room, cell-room, module-room, counted-laws}
+use Rattle.fields.proofs.FramePass.{shared-owner, shared-room, cell-room, module-room}
+use Rattle.fields.proofs.FramePass.{counted-laws}
 use Rattle.fields.proofs.field.counted.Statement.{statement}
 use Rattle.fields.proofs.field.counted.Tie as tie
 

@@ -5,7 +5,8 @@ use lib.ListN.{length, take}
 use borrow.Author.Needs.{needs}
 use Rattle.text.specs.Frames.{framesOf}
 use Rattle.fields.specs.inner.Scans.{tallyOf}
-use Rattle.fields.proofs.FramePass.{SeekingField, tally-start, tally-kept, is-fine, fields-here, fields-next, room-next, fields-end}
+use Rattle.fields.proofs.FramePass.{SeekingField, tally-start, tally-kept, is-fine}
+use Rattle.fields.proofs.FramePass.{fields-here, fields-next, room-next, fields-end}
 use Rattle.fields.proofs.field.fields.Statement.{statement}
 use Rattle.fields.proofs.field.fields.Tie as tie
 

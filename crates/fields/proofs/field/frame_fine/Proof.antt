@@ -1,7 +1,8 @@
 -- `frame_fine` meets its contract. Assumes nothing.
 use borrow.Author.Needs.{needs}
 use Rattle.fields.proofs.Tallies.{a-shared}
-use Rattle.fields.proofs.FieldsByKind.{frame-here, frame-header, frame-unknown, frame-statement, frame-expression}
+use Rattle.fields.proofs.FieldsByKind.{frame-here, frame-header, frame-unknown}
+use Rattle.fields.proofs.FieldsByKind.{frame-statement, frame-expression}
 use Rattle.fields.proofs.field.frame_fine.Statement.{statement}
 use Rattle.fields.proofs.field.frame_fine.Tie as tie
 
@@ -15,7 +16,8 @@ enum-known-kind : tie.Need-enum-known-kind
 enum-known-kind c = search needs
 
 shared-fine-requires : tie.Need-shared-fine-requires
-shared-fine-requires c κs = (search needs, search needs, search needs, search needs, search a-shared)
+shared-fine-requires c κs =
+    (search needs, search needs, search needs, search needs, search a-shared)
 
 enum-told-2 : tie.Need-enum-told-2
 enum-told-2 c = search needs

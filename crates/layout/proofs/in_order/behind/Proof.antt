@@ -4,12 +4,14 @@ use Prim.Native.Nat.{_≤_, _-_}
 use lib.ListN.{length}
 use borrow.Author.Needs.{needs}
 use Rattle.text.specs.Frames.{framesOf}
-use Rattle.layout.proofs.OrderPass.{Others, SeekingBehind, others-start, others-next, behind-here, behind-next, behind-end}
+use Rattle.layout.proofs.OrderPass.{Others, SeekingBehind, others-start, others-next}
+use Rattle.layout.proofs.OrderPass.{behind-here, behind-next, behind-end}
 use Rattle.layout.proofs.in_order.behind.Statement.{statement}
 use Rattle.layout.proofs.in_order.behind.Tie as tie
 
 abbrev Inv-loop : tie.InvT-loop
-Inv-loop words other₀ i₀ other i = (i ≤ length words) × Others (framesOf words) other i × SeekingBehind (framesOf words) i
+Inv-loop words other₀ i₀ other i =
+    (i ≤ length words) × Others (framesOf words) other i × SeekingBehind (framesOf words) i
 
 abbrev μ-loop : tie.MeasureT-loop
 μ-loop words other₀ i₀ other i = length words - i

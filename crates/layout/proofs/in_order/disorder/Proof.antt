@@ -5,7 +5,9 @@ use borrow.Author.Needs.{needs}
 use lib.ListN.{length}
 use Rattle.text.specs.Frames.{framesOf}
 use Rattle.layout.specs.inner.Passes.{Backward}
-use Rattle.layout.proofs.DisorderPass.{SeekingDisorder, disorder-start, backward-start, backward-next, disorder-here, disorder-next, disorder-end}
+use Rattle.layout.proofs.DisorderPass.{SeekingDisorder, disorder-start, backward-start}
+use Rattle.layout.proofs.DisorderPass.{backward-next, disorder-here, disorder-next}
+use Rattle.layout.proofs.DisorderPass.{disorder-end}
 use Rattle.layout.proofs.in_order.disorder.Statement.{statement}
 use Rattle.layout.proofs.in_order.disorder.Tie as tie
 

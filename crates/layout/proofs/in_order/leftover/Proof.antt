@@ -4,7 +4,8 @@ use mathlib.Core.Path.{refl}
 use lib.ListN.{length}
 use borrow.Author.Needs.{needs}
 use Rattle.text.specs.Frames.{framesOf}
-use Rattle.layout.proofs.LeftoverPass.{SeekingLeftover, leftover-here, leftover-next, leftover-end}
+use Rattle.layout.proofs.LeftoverPass.{SeekingLeftover, leftover-here, leftover-next}
+use Rattle.layout.proofs.LeftoverPass.{leftover-end}
 use Rattle.layout.proofs.in_order.leftover.Statement.{statement}
 use Rattle.layout.proofs.in_order.leftover.Tie as tie
 

@@ -1,6 +1,7 @@
 -- `row_first` meets its contract. Assumes nothing.
 use borrow.Author.Needs.{needs}
-use Rattle.layout.proofs.DisorderPass.{row-within, row-none, row-one, row-two, row-last, row-three}
+use Rattle.layout.proofs.DisorderPass.{row-within, row-none, row-one, row-two, row-last}
+use Rattle.layout.proofs.DisorderPass.{row-three}
 use Rattle.layout.proofs.in_order.row_first.Statement.{statement}
 use Rattle.layout.proofs.in_order.row_first.Tie as tie
 

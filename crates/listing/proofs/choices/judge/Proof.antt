@@ -3,7 +3,9 @@ use borrow.Author.Needs.{needs}
 use Prim.Native.Nat.{_+_, _-_}
 use lib.ListN.{length}
 use native.Mathlib.Omega.{arith}
-use Rattle.listing.proofs.ChoiceLaws.{Judging, judging-start, judging-more, judged-over, judged-short, judged-first, judged-second, judged-feed, judged-all}
+use Rattle.listing.proofs.ChoiceLaws.{Judging, judging-start, judging-more, judged-over}
+use Rattle.listing.proofs.ChoiceLaws.{judged-short, judged-first, judged-second, judged-feed}
+use Rattle.listing.proofs.ChoiceLaws.{judged-all}
 use Rattle.listing.proofs.choices.judge.Statement.{statement}
 use Rattle.listing.proofs.choices.judge.Tie as tie
 
@@ -35,7 +37,8 @@ cast-if3 : tie.Need-cast-if3 Inv-loop μ-loop
 cast-if3 c = omega (arith, c .shared-slice-known2 .given (c .before .before .before .loop .at))
 
 array-read-if3 : tie.Need-array-read-if3 Inv-loop μ-loop
-array-read-if3 c = omega (arith, c .shared-slice-known2 .given (c .before .before .before .loop .at))
+array-read-if3 c =
+    omega (arith, c .shared-slice-known2 .given (c .before .before .before .loop .at))
 
 returns-3 : tie.Need-returns-3 Inv-loop μ-loop
 returns-3 c = search (judged-first, c .before .shared-slice-known2 .given (c .before .before .before .before .loop .at) .fits)

@@ -19,7 +19,8 @@ slice-read-n : tie.Need-slice-read-n
 slice-read-n c = search needs
 
 sort-entries-requires : tie.Need-sort-entries-requires
-sort-entries-requires c κs = (search needs, search needs, search needs, search needs, search next-short)
+sort-entries-requires c κs =
+    (search needs, search needs, search needs, search needs, search next-short)
 
 mul-state : tie.Need-mul-state
 mul-state c = search needs

@@ -1,7 +1,8 @@
 -- `module_at` meets its contract. Assumes nothing.
 use Prim.Native.Nat.{_≤_, _-_}
 use lib.ListN.{length}
-use Rattle.program.proofs.ModuleLaws.{Finding, finding-start, finding-other, finding-one, found-here, found-none}
+use Rattle.program.proofs.ModuleLaws.{Finding, finding-start, finding-other, finding-one}
+use Rattle.program.proofs.ModuleLaws.{found-here, found-none}
 use borrow.Author.Needs.{needs}
 use Rattle.program.proofs.module.module_at.Statement.{statement}
 use Rattle.program.proofs.module.module_at.Tie as tie

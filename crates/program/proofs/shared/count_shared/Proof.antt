@@ -2,7 +2,8 @@
 use borrow.Author.Needs.{needs}
 use Prim.Native.Nat.{_-_}
 use lib.ListN.{length}
-use Rattle.program.proofs.SharedLaws.{Counting, count-start, count-one, count-few, count-falls, count-end}
+use Rattle.program.proofs.SharedLaws.{Counting, count-start, count-one, count-few}
+use Rattle.program.proofs.SharedLaws.{count-falls, count-end}
 use Rattle.program.proofs.shared.count_shared.Statement.{statement}
 use Rattle.program.proofs.shared.count_shared.Tie as tie
 

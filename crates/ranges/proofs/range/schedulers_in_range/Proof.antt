@@ -10,7 +10,8 @@ use Rattle.ranges.proofs.range.schedulers_in_range.Statement.{statement
 use Rattle.ranges.proofs.range.schedulers_in_range.Tie as tie
 
 abbrev Inv-loop : tie.InvT-loop
-Inv-loop frames schedulers state k₀ k = (k ≤ 8) × (allBelow k (schedulerBlock schedulers state) ≡ true)
+Inv-loop frames schedulers state k₀ k =
+    (k ≤ 8) × (allBelow k (schedulerBlock schedulers state) ≡ true)
 
 abbrev μ-loop : tie.MeasureT-loop
 μ-loop frames schedulers state k₀ k = 8 - k

@@ -11,7 +11,8 @@ use Rattle.ranges.proofs.range.threads_in_range.Statement.{statement}
 use Rattle.ranges.proofs.range.threads_in_range.Tie as tie
 
 abbrev Inv-loop : tie.InvT-loop
-Inv-loop frames schedulers state k₀ k = (k ≤ 64) × (allBelow k (threadBlock (framesOf frames) schedulers state) ≡ true)
+Inv-loop frames schedulers state k₀ k =
+    (k ≤ 64) × (allBelow k (threadBlock (framesOf frames) schedulers state) ≡ true)
 
 abbrev μ-loop : tie.MeasureT-loop
 μ-loop frames schedulers state k₀ k = 64 - k

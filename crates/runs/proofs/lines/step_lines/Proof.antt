@@ -2,12 +2,14 @@
 use borrow.Author.Needs.{needs}
 use native.Mathlib.Omega.{arith}
 use Prim.Native.Nat.{_-_}
-use Rattle.runs.proofs.ListingLoop.{Lining, lining-start, lining-asks, lining-long, lining-cells, lining-more, lining-words, lining-lines}
+use Rattle.runs.proofs.ListingLoop.{Lining, lining-start, lining-asks, lining-long}
+use Rattle.runs.proofs.ListingLoop.{lining-cells, lining-more, lining-words, lining-lines}
 use Rattle.runs.proofs.lines.step_lines.Statement.{statement}
 use Rattle.runs.proofs.lines.step_lines.Tie as tie
 
 abbrev Inv-loop : tie.InvT-loop
-Inv-loop frames file bytes n state₀ out₀ digits k₀ state out k = Lining frames bytes n state₀ state out₀ out k
+Inv-loop frames file bytes n state₀ out₀ digits k₀ state out k =
+    Lining frames bytes n state₀ state out₀ out k
 
 abbrev μ-loop : tie.MeasureT-loop
 μ-loop frames file bytes n state₀ out₀ digits k₀ state out k = n - k

@@ -1,6 +1,7 @@
 -- `list_choices` meets its contract. Assumes nothing.
 use borrow.Author.Needs.{needs}
-use Rattle.runs.proofs.JudgedChoices.{choices-all, choices-few, choices-long, choices-wrong, choices-run}
+use Rattle.runs.proofs.JudgedChoices.{choices-all, choices-few, choices-long, choices-wrong}
+use Rattle.runs.proofs.JudgedChoices.{choices-run}
 use Rattle.runs.proofs.printing.list_choices.Statement.{statement}
 use Rattle.runs.proofs.printing.list_choices.Tie as tie
 

@@ -2,7 +2,8 @@
 use borrow.Author.Needs.{needs}
 use Rattle.checker.proofs.CheckLaws.{check-room, check-length}
 use Rattle.stepper.proofs.AnswerLaws.{text-file}
-use Rattle.runs.proofs.TextListings.{list-rejected, list-short-state, list-short-out, list-accepted}
+use Rattle.runs.proofs.TextListings.{list-rejected, list-short-state, list-short-out}
+use Rattle.runs.proofs.TextListings.{list-accepted}
 use Rattle.runs.proofs.printing.run_listing.Statement.{statement}
 use Rattle.runs.proofs.printing.run_listing.Tie as tie
 

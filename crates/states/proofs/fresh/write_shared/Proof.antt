@@ -5,7 +5,8 @@ use mathlib.Core.Path.{_≡_}
 use lib.ListN.{length, length-set}
 use native.Mathlib.Omega.{arith}
 use Rattle.machine.specs.Offsets.{stateLength}
-use Rattle.states.proofs.SharedLaws.{Sharing, sharing-start, sharing-few, sharing-falls, sharing-over, sharing-one, sharing-count, sharing-words}
+use Rattle.states.proofs.SharedLaws.{Sharing, sharing-start, sharing-few, sharing-falls}
+use Rattle.states.proofs.SharedLaws.{sharing-over, sharing-one, sharing-count, sharing-words}
 use Rattle.states.proofs.fresh.write_shared.Statement.{statement}
 use Rattle.states.proofs.fresh.write_shared.Tie as tie
 

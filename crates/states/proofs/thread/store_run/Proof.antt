@@ -11,7 +11,8 @@ use Rattle.states.proofs.thread.store_run.Statement.{statement}
 use Rattle.states.proofs.thread.store_run.Tie as tie
 
 abbrev Inv-loop : tie.InvT-loop
-Inv-loop w₀ at a j₀ w j = (j ≤ 25) × (length w ≡ length w₀) × (length a ≡ 25) × (w ≡ pasted w₀ at a j)
+Inv-loop w₀ at a j₀ w j =
+    (j ≤ 25) × (length w ≡ length w₀) × (length a ≡ 25) × (w ≡ pasted w₀ at a j)
 
 abbrev μ-loop : tie.MeasureT-loop
 μ-loop w₀ at a j₀ w j = 25 - j

@@ -58,7 +58,8 @@ add-state-4 c = search needs
 mul-state-5 : tie.Need-mul-state-5
 mul-state-5 c = search needs
 
--- from here on two calls have changed the words, and `search` does not find the laws' arguments: they are written out
+-- from here on two calls have changed the words, and `search` does not find the laws' arguments:
+-- they are written out
 slice-write-state-5 : tie.Need-slice-write-state-5
 slice-write-state-5 c =
     let start = c .before .before .before .before .before .before in

@@ -3,12 +3,14 @@ use borrow.Author.Needs.{needs}
 use Prim.Native.Nat.{_-_}
 use lib.ListN.{length}
 use native.Mathlib.Omega.{arith}
-use Rattle.stepper.proofs.BatchLaws.{Stepping, stepping-start, stepping-more, stepping-words, stepping-answers}
+use Rattle.stepper.proofs.BatchLaws.{Stepping, stepping-start, stepping-more, stepping-words}
+use Rattle.stepper.proofs.BatchLaws.{stepping-answers}
 use Rattle.stepper.proofs.batch.step_all.Statement.{statement}
 use Rattle.stepper.proofs.batch.step_all.Tie as tie
 
 abbrev Inv-loop : tie.InvT-loop
-Inv-loop frames file state₀ choices answers₀ k₀ state answers k = Stepping frames (file .shared) choices state₀ state answers₀ answers k
+Inv-loop frames file state₀ choices answers₀ k₀ state answers k =
+    Stepping frames (file .shared) choices state₀ state answers₀ answers k
 
 abbrev μ-loop : tie.MeasureT-loop
 μ-loop frames file state₀ choices answers₀ k₀ state answers k = length choices - k
@@ -41,7 +43,9 @@ loop-less : tie.Need-loop-less Inv-loop μ-loop
 loop-less c = search needs
 
 loop-again : tie.Need-loop-again Inv-loop μ-loop
-loop-again c = let p = c .before .before .before .before .before .before .before .before .before .before .before .before .pre in stepping-more _ _ _ _ _ _ _ _ (c .before .before .before .before .before .before .before .loop .inv) (p .2) (c .before .before .before .before .before .before .loop-test .taken) _ _ _ (c .before .before .before .step-valid .ensures) (c .answer-word .ensures) (search needs)
+loop-again c =
+    let p = c .before .before .before .before .before .before .before .before .before .before .before .before .pre in
+    stepping-more _ _ _ _ _ _ _ _ (c .before .before .before .before .before .before .before .loop .inv) (p .2) (c .before .before .before .before .before .before .loop-test .taken) _ _ _ (c .before .before .before .step-valid .ensures) (c .answer-word .ensures) (search needs)
 
 same-length : tie.Need-same-length Inv-loop μ-loop
 same-length c = search needs

@@ -1,7 +1,8 @@
 -- `acting_thread` meets its contract. Assumes nothing.
 use borrow.Author.Needs.{needs}
 use native.Mathlib.Omega.{arith}
-use Rattle.stepper.proofs.PartyLaws.{acting-place, acting-list, acting-first, acting-named, acting-nobody, named-low}
+use Rattle.stepper.proofs.PartyLaws.{acting-place, acting-list, acting-first, acting-named}
+use Rattle.stepper.proofs.PartyLaws.{acting-nobody, named-low}
 use Rattle.stepper.proofs.party.acting_thread.Statement.{statement}
 use Rattle.stepper.proofs.party.acting_thread.Tie as tie
 
@@ -21,7 +22,8 @@ is-unlinked-requires : tie.Need-is-unlinked-requires
 is-unlinked-requires c κs = search needs
 
 sub-result : tie.Need-sub-result
-sub-result c = let l = named-low _ _ _ (c .before .is-unlinked .ensures) (c .if2 .taken) in omega arith
+sub-result c =
+    let l = named-low _ _ _ (c .before .is-unlinked .ensures) (c .if2 .taken) in omega arith
 
 returns-2 : tie.Need-returns-2
 returns-2 c = search acting-named

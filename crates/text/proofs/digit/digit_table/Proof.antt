@@ -1,4 +1,5 @@
--- `digit_table` meets its contract: the code's 256 numbers are those that the rule gives, by computing. Assumes nothing.
+-- `digit_table` meets its contract: the code's 256 numbers are those that the rule gives, by
+-- computing. Assumes nothing.
 use mathlib.Core.Path.{refl}
 use Rattle.basics.specs.If.{if_then_else_}
 use Rattle.text.specs.Digits.{digit, digitTable}

@@ -3,7 +3,8 @@ use Prim.Native.Nat.{_-_}
 use mathlib.Core.Path.{_≡_}
 use lib.ListN.{length}
 use borrow.Author.Needs.{needs}
-use Rattle.text.proofs.ReadLaws.{Reader, reader-start, reader-index, reader-length, reader-more, zeros-length, words-laws}
+use Rattle.text.proofs.ReadLaws.{Reader, reader-start, reader-index, reader-length}
+use Rattle.text.proofs.ReadLaws.{reader-more, zeros-length, words-laws}
 use Rattle.text.proofs.reading.read_into.Statement.{statement}
 use Rattle.text.proofs.reading.read_into.Tie as tie
 

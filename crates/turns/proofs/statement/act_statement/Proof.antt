@@ -1,7 +1,9 @@
 -- `act_statement` meets its contract. In a need, `at` is the function's entry. Assumes nothing.
 use borrow.Author.Needs.{needs}
 use Rattle.turns.proofs.OperandLaws.{statement-named, under-laws}
-use Rattle.turns.proofs.StatementRows.{acts-nothing, acts-cooperate, acts-seq, acts-do, acts-start, acts-wait, acts-let, acts-store, acts-if, acts-while}
+use Rattle.turns.proofs.StatementRows.{acts-nothing, acts-cooperate, acts-seq, acts-do}
+use Rattle.turns.proofs.StatementRows.{acts-start, acts-wait, acts-let, acts-store, acts-if}
+use Rattle.turns.proofs.StatementRows.{acts-while}
 use Rattle.turns.proofs.statement.act_statement.Statement.{statement}
 use Rattle.turns.proofs.statement.act_statement.Tie as tie
 
