@@ -1,7 +1,7 @@
 // What a turn comes to.
 use language::Place;
 ghost use mathlib.Core.Path.{_≡_};
-ghost use Rattle.acts.specs.inner.Fates.{actedWith, refusedWith};
+ghost use Rattle.acts.specs.inner.Transitions.{action, refusedWith};
 
 // The arguments of a start: how many, and their words, 0 for one that is not there.
 pub struct Arguments {
@@ -13,7 +13,7 @@ pub struct Arguments {
 // What becomes of the thread: refused with that number; it stays first in its list; it leaves it
 // for none, since it has ended or is unlinked; it joins the next list of that scheduler; it starts
 // that module with those arguments, and waits for it or not.
-pub enum Fate {
+pub enum Transition {
     Refused(u8),
     Stays,
     Leaves,
@@ -36,19 +36,19 @@ pub enum Change {
     End,
 }
 
-pub struct Acted {
-    pub fate: Fate,
+pub struct Action {
+    pub transition: Transition,
     pub change: Change,
 }
 
-pub fn comes_to(fate: Fate, change: Change) -> Acted
-    ensures { λ r. ⌜ r ≡ actedWith fate change ⌝ }
+pub fn comes_to(transition: Transition, change: Change) -> Action
+    ensures { λ r. ⌜ r ≡ action transition change ⌝ }
 {
-    Acted { fate, change }
+    Action { transition, change }
 }
 
-pub fn refused(answer: u8) -> Acted
+pub fn refused(answer: u8) -> Action
     ensures { λ r. ⌜ r ≡ refusedWith answer ⌝ }
 {
-    comes_to(Fate::Refused(answer), Change::Same)
+    comes_to(Transition::Refused(answer), Change::Same)
 }

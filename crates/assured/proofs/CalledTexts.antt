@@ -15,19 +15,20 @@ use Rattle.layout.specs.Faults.{NoFault}
 use Rattle.layout.proofs.AfterLayout.{text-fine}
 use Rattle.checker.specs.Verdict.{HasVerdict}
 use Rattle.machine.specs.Accesses.{Access, Own}
-use Rattle.machine.specs.Turns.{Stepped}
+use Rattle.machine.specs.Turns.{StepResult}
 use Rattle.machine.specs.Runs.{steps, stateAfter, answers}
 use Rattle.machine.specs.Fresh.{fresh}
 use Rattle.machine.specs.Words.{pack}
-use Rattle.machine.specs.Calls.{Called, freshCall, stepCall, callsFrom, wordsFrom}
+use Rattle.machine.specs.Calls.{CallResult, freshCall, stepCall, callsFrom, wordsFrom}
 use Rattle.machine.proofs.CallRuns.{asCalled, calls-are, fresh-called, words-are as called-words}
 use Rattle.machine.proofs.Lists.{all-imply}
 use Rattle.reach.proofs.Fits.{fits}
 use Rattle.safety.specs.Safety.{Sound, NoPrivateInPublic, Apart}
-use Rattle.safety.specs.Accepted.{stateOf, accessesUnder, accessesFrom, SafeCalls}
+use Rattle.safety.specs.Accepted.{stateOf, accessesUnder}
+use Rattle.safety.specs.inner.Calls.{accessesFrom, SafeCalls}
 use Rattle.safety.proofs.Accepted.{accepted-safe, accepted-calls-safe}
 use Rattle.stepper.specs.declared.answer.Answer.the-variants as A
-use Rattle.stepper.specs.Answers.{numberOf, answerTo, Answered, answered, calledAs, freshText}
+use Rattle.stepper.specs.Answers.{answerNumber, answerTo, TextResult, textResult, asTextResult, freshText}
 use Rattle.stepper.specs.Answers.{stepText}
 use Rattle.stepper.proofs.AnswerLaws.{number-back, done-0}
 use Rattle.assured.specs.TextCalls.{Plain, textCallsFrom, textWordsFrom, textAccessesFrom}
@@ -46,14 +47,15 @@ plain is-18 s = Plain.threads-spent
 plain is-19 s = absurd (s .0 refl)
 plain is-20 s = absurd (s .1 refl)
 
-pub plain-steps : (rs : List Stepped) → All Numbered rs
-    → All Sound (map (λ (r : Stepped). r .answer) rs) → All (λ (r : Stepped). Plain (r .answer)) rs
+pub plain-steps : (rs : List StepResult) → All Numbered rs
+    → All Sound (map (λ (r : StepResult). r .answer) rs)
+    → All (λ (r : StepResult). Plain (r .answer)) rs
 plain-steps [] All.none All.none = All.none
 plain-steps (r ∷ rs) (All.more h hs) (All.more k ks) = All.more (plain h k) (plain-steps rs hs ks)
 
 -- P of each call's number, from P of each step's answer
-by-number : (P : ℕ → Type 0) (rs : List Stepped) → All (λ (r : Stepped). P (r .answer)) rs
-    → All (λ (r : Answered). P (numberOf (r .answer))) (map calledAs (map asCalled rs))
+by-number : (P : ℕ → Type 0) (rs : List StepResult) → All (λ (r : StepResult). P (r .answer)) rs
+    → All (λ (r : TextResult). P (answerNumber (r .answer))) (map asTextResult (map asCalled rs))
 by-number P [] All.none = All.none
 by-number P (r ∷ rs) (All.more h hs) =
     All.more (subst P (sym (number-back (r .answer) (r .thread))) h) (by-number P rs hs)
@@ -72,26 +74,26 @@ module _ (bs : List ℕ) (read : Reads bs (frames (textFrames bs))) (fine : NoFa
   abbrev fs : List Frame
   fs = textFrames bs
 
-  pub fresh-is : (w : List ℕ) → freshText bs w ≡ calledAs (freshCall fs w)
+  pub fresh-is : (w : List ℕ) → freshText bs w ≡ asTextResult (freshCall fs w)
   unfolding freshText
-  fresh-is w = sym (text-fine (λ n j. answered (A.Rejected n j) w) (λ gs. calledAs (freshCall gs w)) bs fs read fine)
+  fresh-is w = sym (text-fine (λ n j. textResult (A.Rejected n j) w) (λ gs. asTextResult (freshCall gs w)) bs fs read fine)
 
-  pub step-is : (w : List ℕ) (c : ℕ) → stepText bs w c ≡ calledAs (stepCall fs w c)
+  pub step-is : (w : List ℕ) (c : ℕ) → stepText bs w c ≡ asTextResult (stepCall fs w c)
   unfolding stepText
-  step-is w c = sym (text-fine (λ n j. answered (A.Rejected n j) w) (λ gs. calledAs (stepCall gs w c)) bs fs read fine)
+  step-is w c = sym (text-fine (λ n j. textResult (A.Rejected n j) w) (λ gs. asTextResult (stepCall gs w c)) bs fs read fine)
 
-  pub texts-are : (w cs : List ℕ) → textCallsFrom bs w cs ≡ map calledAs (callsFrom fs w cs)
+  pub texts-are : (w cs : List ℕ) → textCallsFrom bs w cs ≡ map asTextResult (callsFrom fs w cs)
   unfolding textCallsFrom callsFrom
   texts-are w [] = refl
   texts-are w (c ∷ cs) =
-      ap₂ (λ (x : Answered) (l : List Answered). x ∷ l) (step-is w c)
-      (ap (λ (x : Answered). textCallsFrom bs (x .words) cs) (step-is w c) ∙ texts-are (stepCall fs w c .words) cs)
+      ap₂ (λ (x : TextResult) (l : List TextResult). x ∷ l) (step-is w c)
+      (ap (λ (x : TextResult). textCallsFrom bs (x .words) cs) (step-is w c) ∙ texts-are (stepCall fs w c .words) cs)
 
   pub words-are : (w cs : List ℕ) → textWordsFrom bs w cs ≡ wordsFrom fs w cs
   unfolding textWordsFrom wordsFrom
   words-are w [] = refl
   words-are w (c ∷ cs) =
-      ap (λ (x : Answered). textWordsFrom bs (x .words) cs) (step-is w c)
+      ap (λ (x : TextResult). textWordsFrom bs (x .words) cs) (step-is w c)
       ∙ words-are (stepCall fs w c .words) cs
 
   accesses-are : (w cs : List ℕ) → textAccessesFrom bs w cs ≡ accessesFrom fs w cs
@@ -99,12 +101,12 @@ module _ (bs : List ℕ) (read : Reads bs (frames (textFrames bs))) (fine : NoFa
   accesses-are w [] = refl
   accesses-are w (c ∷ cs) =
       ap (λ (x : List Access). accessesUnder fs w c ++ x)
-      (ap (λ (x : Answered). textAccessesFrom bs (x .words) cs) (step-is w c) ∙ accesses-are (stepCall fs w c .words) cs)
+      (ap (λ (x : TextResult). textAccessesFrom bs (x .words) cs) (step-is w c) ∙ accesses-are (stepCall fs w c .words) cs)
 
   -- from the fresh call on
   module _ (w cs : List ℕ) (long : length w ≡ 4818) where
     first : freshText bs w .words ≡ freshCall fs w .words
-    first = ap (λ (x : Answered). x .words) (fresh-is w)
+    first = ap (λ (x : TextResult). x .words) (fresh-is w)
 
     left : textWordsFrom bs (freshText bs w .words) cs ≡ wordsFrom fs (freshCall fs w .words) cs
     left = ap (λ (v : List ℕ). textWordsFrom bs v cs) first ∙ words-are (freshCall fs w .words) cs
@@ -115,20 +117,22 @@ module _ (bs : List ℕ) (read : Reads bs (frames (textFrames bs))) (fine : NoFa
     left-packed = left ∙ called-words fs (fits (record { text = read; layout = fine })) w cs long
 
     given : textCallsFrom bs (freshText bs w .words) cs
-        ≡ map calledAs (map asCalled (steps (programOf fs) cs))
+        ≡ map asTextResult (map asCalled (steps (programOf fs) cs))
     given =
         ap (λ (v : List ℕ). textCallsFrom bs v cs) first ∙ texts-are (freshCall fs w .words) cs
-        ∙ ap (map calledAs) (calls-are fs (fits (record { text = read; layout = fine })) w cs long)
+        ∙ ap (map asTextResult)
+        (calls-are fs (fits (record { text = read; layout = fine })) w cs long)
 
-    pub numbers : (P : ℕ → Type 0) → All (λ (r : Stepped). P (r .answer)) (steps (programOf fs) cs)
-        → All (λ (r : Answered). P (numberOf (r .answer))) (textCallsFrom bs (freshText bs w .words) cs)
-    numbers P h = subst (All (λ (r : Answered). P (numberOf (r .answer)))) (sym given) (by-number P (steps (programOf fs) cs) h)
+    pub numbers : (P : ℕ → Type 0) → All (λ (r : StepResult). P (r .answer)) (steps (programOf fs) cs)
+        → All (λ (r : TextResult). P (answerNumber (r .answer)))
+        (textCallsFrom bs (freshText bs w .words) cs)
+    numbers P h = subst (All (λ (r : TextResult). P (answerNumber (r .answer)))) (sym given) (by-number P (steps (programOf fs) cs) h)
 
     pub texts-safe : SafeCalls fs w cs → All Sound (answers (programOf fs) cs) → SafeTexts bs w cs
     texts-safe safe sound = record {
       fresh =
-          ap (λ (x : Answered). x .answer) (fresh-is w)
-          ∙ ap (λ (r : Called). answerTo (r .answer) (r .thread)) (fresh-called fs w long)
+          ap (λ (x : TextResult). x .answer) (fresh-is w)
+          ∙ ap (λ (r : CallResult). answerTo (r .answer) (r .thread)) (fresh-called fs w long)
           ∙ sym done-0;
       accessed = subst (All Own) (sym (ap (λ (v : List ℕ). textAccessesFrom bs v cs) first ∙ accesses-are (freshCall fs w .words) cs)) (safe .accessed);
       answered = numbers Plain (plain-steps (steps (programOf fs) cs) (all-numbered (programOf fs) (fresh (programOf fs)) cs) sound);
@@ -140,14 +144,17 @@ module _ (bs : List ℕ) (read : Reads bs (frames (textFrames bs))) (fine : NoFa
 pub accepted-texts-safe : AcceptedTextsSafe
 accepted-texts-safe bs (HasVerdict.accepted (Reads.whole a b c) h k) w cs e =
     let v = HasVerdict.accepted (Reads.whole a b c) h k in
-    texts-safe bs (Reads.whole a b c) h w cs e (accepted-calls-safe bs v w cs e) (accepted-safe bs v cs .answered)
+    texts-safe bs (Reads.whole a b c) h w cs e (accepted-calls-safe bs v w cs e)
+    (accepted-safe bs v cs .answered)
 
 never-14 : {bs : List ℕ} {fs : List Frame} → Reads bs (frames fs) → NoFault fs → (w cs : List ℕ)
     → length w ≡ 4818
-    → All (λ (r : Answered). numberOf (r .answer) ≢ 14) (textCallsFrom bs (freshText bs w .words) cs)
+    → All (λ (r : TextResult). answerNumber (r .answer) ≢ 14)
+    (textCallsFrom bs (freshText bs w .words) cs)
 never-14 {bs} (Reads.whole a b c) h w cs e =
     let p = programOf (textFrames bs) in
-    numbers bs (Reads.whole a b c) h w cs e (λ n. n ≢ 14) (all-imply (λ _ k. not-14 k) (all-numbered p (fresh p) cs))
+    numbers bs (Reads.whole a b c) h w cs e (λ n. n ≢ 14)
+    (all-imply (λ _ k. not-14 k) (all-numbered p (fresh p) cs))
 
 pub texts-never-14 : TextsNever14
 texts-never-14 bs fs h w cs e = never-14 (h .text) (h .layout) w cs e

@@ -19,15 +19,16 @@ use Rattle.text.specs.Frames.{textFrames}
 use Rattle.text.specs.Reading.{Reads, frames}
 use Rattle.text.proofs.Readings.{some-frame}
 use Rattle.program.specs.Programs.{Program, programOf}
+use Rattle.layout.specs.declared.LayoutVerdict.{LayoutVerdict}
 use Rattle.layout.specs.LaidOut.{HasLayout}
 use Rattle.layout.specs.Faults.{NoFault}
-use Rattle.layout.proofs.Accepted.{layout-only}
+use Rattle.layout.proofs.Judged.{layout-only}
 use Rattle.layout.proofs.AfterLayout.{text-fine}
 use Rattle.rules.specs.inner.Checking.{rulesOf}
 use Rattle.checker.specs.Verdict.{HasVerdict, verdict}
 use Rattle.checker.proofs.Whole.{verdict-computes}
 use Rattle.machine.specs.State.{State}
-use Rattle.machine.specs.Turns.{Stepped}
+use Rattle.machine.specs.Turns.{StepResult}
 use Rattle.machine.specs.Steps.{step}
 use Rattle.machine.specs.Fresh.{fresh}
 use Rattle.machine.specs.Runs.{stepsFrom, steps}
@@ -38,9 +39,9 @@ use Rattle.safety.proofs.Accepted.{accepted-safe}
 use Rattle.listing.specs.Listing.{digitByte, twoDigits, refusalLine, checkLine, choices}
 use Rattle.listing.specs.Listing.{choicesFrom, stops, choiceLine, choiceLines, usedOf, lastLine}
 use Rattle.listing.specs.Listing.{runLines, linesOf, choicesListing}
-use Rattle.runs.specs.Runs.{Behind, stepped}
-use Rattle.runs.specs.Printed.{unstepped, steppedOf, choicesStepped, ListedOn, listedFrom}
-use Rattle.runs.specs.Printed.{listedWhole, unlisted, answerFor, buffersFit, listText}
+use Rattle.runs.specs.Listings.{FinalState, finalState}
+use Rattle.runs.specs.Listings.{notRun, runOf, choicesRun, ListingResult, listingOf}
+use Rattle.runs.specs.Listings.{wholeListing, noListing, answerFor, buffersFit, listText}
 use Rattle.runs.proofs.Stops.{rules-run}
 use Rattle.runs.proofs.TextListings.{goes-on}
 use Rattle.assured.specs.TextCalls.{Plain, wordsLeft}
@@ -50,7 +51,7 @@ use Rattle.assured.proofs.CalledTexts.{plain-steps, left-packed, accept
 -- ---- the lines
 
 plain-lines : (p : Program) (s : State) (cs : List ℕ)
-    → All (λ (r : Stepped). Plain (r .answer)) (stepsFrom p s cs)
+    → All (λ (r : StepResult). Plain (r .answer)) (stepsFrom p s cs)
     → PlainLines cs (choiceLines cs (stepsFrom p s cs))
 unfolding stepsFrom choiceLines choiceLine
 plain-lines p s [] h = PlainLines.none
@@ -63,11 +64,11 @@ module _ (p : Program) (bytes cs : List ℕ) (few : length bytes ≤ 49152) (rea
   short : ltb 49152 (length bytes) ≡ false
   short = le-ltb 49152 (length bytes) few
 
-  behind-is : (w : List ℕ) → choicesStepped p w bytes ≡ stepped p cs
-  unfolding choicesStepped
-  behind-is w =
-      ap (λ (b : Bool). elim b [ true ↦ unstepped w | false ↦ steppedOf p w (choicesFrom 0 bytes) ]) short
-      ∙ ap (steppedOf p w) read
+  after-is : (w : List ℕ) → choicesRun p w bytes ≡ finalState p cs
+  unfolding choicesRun
+  after-is w =
+      ap (λ (b : Bool). elim b [ true ↦ notRun w | false ↦ runOf p w (choicesFrom 0 bytes) ]) short
+      ∙ ap (runOf p w) read
 
   lines-are : choicesListing p bytes ≡ runLines p cs
   unfolding choicesListing
@@ -76,11 +77,11 @@ module _ (p : Program) (bytes cs : List ℕ) (few : length bytes ≤ 49152) (rea
       ∙ ap (linesOf p) read
 
 -- the definition, by what 1 to 7 say
-abbrev byLayout : List ℕ → List ℕ → List ℕ → List ℕ → Verdict → ListedOn
+abbrev byLayout : List ℕ → List ℕ → List ℕ → List ℕ → LayoutVerdict → ListingResult
 byLayout bs bytes w out x =
     if buffersFit x w out
-    then listedWhole (answerFor x true) (verdict bs) (textFrames bs) bytes w out
-    else unlisted (answerFor x false) w out
+    then wholeListing (answerFor x true) (verdict bs) (textFrames bs) bytes w out
+    else noListing (answerFor x false) w out
 
 -- of a text that passes 1 to 7: what 8 to 13 say of it stops no listing
 module _ (bs : List ℕ) (read : Reads bs (frames (textFrames bs))) (fine : NoFault (textFrames bs)) where
@@ -90,40 +91,45 @@ module _ (bs : List ℕ) (read : Reads bs (frames (textFrames bs))) (fine : NoFa
   runs : stops (verdict bs) ≡ false
   unfolding verdict
   runs =
-      ap stops (sym (text-fine (λ n j. Rejected n j) (λ gs. rulesOf (programOf gs)) bs fs read fine))
+      ap stops
+      (sym (text-fine (λ n j. Rejected n j) (λ gs. rulesOf (programOf gs)) bs fs read fine))
       ∙ rules-run fs (some-frame read refl) fine
 
   module _ (bytes w out : List ℕ) (e : length w ≡ 4818) (f : length out ≡ 229389) where
-    whole : listText bs bytes w out ≡ listedWhole (A.Done 0) (verdict bs) fs bytes w out
+    whole : listText bs bytes w out ≡ wholeListing (A.Done 0) (verdict bs) fs bytes w out
     unfolding listText
     whole =
-        ap (byLayout bs bytes w out) (sym (layout-only {v = Accepted} (HasLayout.layout {v = Accepted} read fine)))
+        ap (byLayout bs bytes w out) (sym (layout-only {v = LayoutVerdict.LaidOut} (HasLayout.layout {v = LayoutVerdict.LaidOut} read fine)))
         ∙ if-yes _ _ (and-both (eqb (length w) 4818) (eqb (length out) 229389)
         (eq-eqb (length w) 4818 e) (eq-eqb (length out) 229389 f))
 
     module _ (cs : List ℕ) (few : length bytes ≤ 49152) (is : choicesFrom 0 bytes ≡ choices cs) where
       pub listed-is : listText bs bytes w out
-          ≡ listedFrom (A.Done 0) (stepped (programOf fs) cs) (checkLine (verdict bs) ++ runLines (programOf fs) cs) out
+          ≡ listingOf (A.Done 0) (finalState (programOf fs) cs)
+          (checkLine (verdict bs) ++ runLines (programOf fs) cs) out
       listed-is =
           whole
-          ∙ ap₂ (λ (x : Behind) (l : List ℕ). listedFrom (A.Done 0) x l out)
-          (goes-on (verdict bs) fs w bytes runs .0 ∙ behind-is (programOf fs) bytes cs few is w)
+          ∙ ap₂ (λ (x : FinalState) (l : List ℕ). listingOf (A.Done 0) x l out)
+          (goes-on (verdict bs) fs w bytes runs .0 ∙ after-is (programOf fs) bytes cs few is w)
           (goes-on (verdict bs) fs w bytes runs .1
           ∙ ap (λ (l : List ℕ). checkLine (verdict bs) ++ l) (lines-are (programOf fs) bytes cs few is))
 
       pub listed-calls : let used = usedOf (programOf fs) cs in
-          (listText bs bytes w out .used ≡ used) × (listText bs bytes w out .words ≡ wordsLeft bs w (take used cs))
-      unfolding stepped
+          (listText bs bytes w out .used ≡ used)
+          × (listText bs bytes w out .words ≡ wordsLeft bs w (take used cs))
+      unfolding finalState
       listed-calls = (
-        ap (λ (r : ListedOn). r .used) listed-is,
-        ap (λ (r : ListedOn). r .words) listed-is ∙ sym (left-packed bs read fine w (take (usedOf (programOf fs) cs) cs) e),
+        ap (λ (r : ListingResult). r .used) listed-is,
+        ap (λ (r : ListingResult). r .words) listed-is
+            ∙ sym (left-packed bs read fine w (take (usedOf (programOf fs) cs) cs) e),
       )
 
 by-reading : {bs : List ℕ} {fs : List Frame} → Reads bs (frames fs) → NoFault fs
     → (bytes cs : List ℕ) → length bytes ≤ 49152 → choicesFrom 0 bytes ≡ choices cs
     → (w out : List ℕ) → length w ≡ 4818 → length out ≡ 229389
     → let used = usedOf (programOf fs) cs in
-    (listText bs bytes w out .used ≡ used) × (listText bs bytes w out .words ≡ wordsLeft bs w (take used cs))
+    (listText bs bytes w out .used ≡ used)
+    × (listText bs bytes w out .words ≡ wordsLeft bs w (take used cs))
 by-reading {bs} (Reads.whole a b c) h bytes cs few is w out e f =
     listed-calls bs (Reads.whole a b c) h bytes w out e f cs few is
 
@@ -133,7 +139,8 @@ listing-calls bs fs h bytes cs few is w out e f =
 
 run-split : (p : Program) (cs : List ℕ)
     → runLines p cs
-    ≡ choiceLines (take (usedOf p cs) cs) (steps p (take (usedOf p cs) cs)) ++ lastLine (usedOf p cs)
+    ≡ choiceLines (take (usedOf p cs) cs) (steps p (take (usedOf p cs) cs)) ++ lastLine
+    (usedOf p cs)
 unfolding runLines
 run-split p cs = refl
 
@@ -148,7 +155,7 @@ accepted-listing-safe bs (HasVerdict.accepted (Reads.whole a b c) h k) bytes cs 
       plain = plain-lines p (fresh p) used (plain-steps (steps p used) (all-numbered p (fresh p) used) (accepted-safe bs y used .answered));
       listed =
           listed-is bs (Reads.whole a b c) h bytes w out e f cs few is
-          ∙ ap₂ (λ (v : Verdict) (l : List ℕ). listedFrom (A.Done 0) (stepped p cs) (checkLine v ++ l) out)
+          ∙ ap₂ (λ (v : Verdict) (l : List ℕ). listingOf (A.Done 0) (finalState p cs) (checkLine v ++ l) out)
           (sym (verdict-computes bs .only Accepted y)) (run-split p cs);
     }
 

@@ -1,26 +1,20 @@
--- Demand 3 of the very calls: of what the public functions `fresh` and `step` promise on a text, `freshText` and `stepText`, one call after the other. Assumes nothing: definitions; the theorems are in proofs/CalledTexts.
-use mathlib.Core.Path.{_≡_}
-use mathlib.Core.Logic.{_≢_}
-use mathlib.Core.List.{List, [], _∷_, _++_}
-use Prim.Native.Nat.{ℕ}
-use lib.ListN.{length}
-use Rattle.basics.specs.Members.{All}
+-- Demand 3 of the very calls: of what the public functions `fresh` and `step` promise on a text,
+-- `freshText` and `stepText`, one call after the other. The theorems are in proofs/CalledTexts.
+use Rattle.basics.specs.Prelude.{List, [], _∷_, _++_, ℕ, length, _≡_, _≢_, All}
 use Rattle.language.specs.declared.frame.Frame.{Frame}
 use Rattle.language.specs.declared.verdict.Verdict.the-variants.{Accepted}
 use Rattle.language.specs.Refusals.{wrongState, noParty, nothingReady, cellsSpent, threadsSpent}
 use Rattle.text.specs.Frames.{textFrames}
 use Rattle.checker.specs.Verdict.{HasVerdict}
-use Rattle.machine.specs.Offsets.{stateLength}
-use Rattle.machine.specs.Accesses.{Access, Own}
-use Rattle.machine.specs.State.{State}
-use Rattle.machine.specs.Words.{pack}
+use Rattle.machine.specs.{Offsets.stateLength, Accesses.Access, Accesses.Own, State.State}
+use Rattle.machine.specs.{Words.pack}
 use Rattle.reach.specs.Reached.{Passes}
 use Rattle.stepper.specs.declared.answer.Answer.the-variants.{Done}
-use Rattle.stepper.specs.Answers.{numberOf, Answered, freshText, stepText}
+use Rattle.stepper.specs.Answers.{answerNumber, TextResult, freshText, stepText}
 use Rattle.safety.specs.Safety.{NoPrivateInPublic, Apart}
 use Rattle.safety.specs.Accepted.{stateOf, accessesUnder}
 
--- an answer that is neither a refusal of the text (1 to 13), nor 14, nor foreign (19), nor stuck (20)
+-- an answer that is no refusal of the text (1 to 13), not 14, foreign (19) or stuck (20)
 pub data Plain : ℕ → Type 0 where
   done : Plain 0
   no-party : Plain noParty
@@ -29,7 +23,7 @@ pub data Plain : ℕ → Type 0 where
   threads-spent : Plain threadsSpent
 
 -- one call of `step` after the other, each on the words that the one before left
-unfoldable pub textCallsFrom : List ℕ → List ℕ → List ℕ → List Answered
+unfoldable pub textCallsFrom : List ℕ → List ℕ → List ℕ → List TextResult
 textCallsFrom bs w [] = []
 textCallsFrom bs w (c ∷ cs) = let r = stepText bs w c in r ∷ textCallsFrom bs (r .words) cs
 
@@ -38,36 +32,44 @@ unfoldable pub textWordsFrom : List ℕ → List ℕ → List ℕ → List ℕ
 textWordsFrom bs w [] = w
 textWordsFrom bs w (c ∷ cs) = textWordsFrom bs (stepText bs w c .words) cs
 
--- the accesses under these calls: 'those that the stepping rules make on the state it was given, those before a refusal too'
+-- 'those that the stepping rules make on the state it was given, those before a refusal too'
 unfoldable pub textAccessesFrom : List ℕ → List ℕ → List ℕ → List Access
 textAccessesFrom bs w [] = []
-textAccessesFrom bs w (c ∷ cs) = accessesUnder (textFrames bs) w c ++ textAccessesFrom bs (stepText bs w c .words) cs
+textAccessesFrom bs w (c ∷ cs) =
+    accessesUnder (textFrames bs) w c ++ textAccessesFrom bs (stepText bs w c .words) cs
 
--- the words behind a call of `fresh` on the buffer w and those calls, and the state that they are
+-- the words after a call of `fresh` on the buffer w and those calls, and the state that they are
 abbrev pub wordsLeft : List ℕ → List ℕ → List ℕ → List ℕ
 wordsLeft bs w cs = textWordsFrom bs (freshText bs w .words) cs
 
 abbrev pub stateLeft : List ℕ → List ℕ → List ℕ → State
 stateLeft bs w cs = stateOf (textFrames bs) (wordsLeft bs w cs)
 
--- of a text, a lent buffer and a list of choices: the call of `fresh` writes the buffer, then each choice is a call of `step`
+-- of a text, a lent buffer, a list of choices: a call of `fresh`, then one of `step` for each
+-- choice
 pub record SafeTexts (bs w cs : List ℕ) : Type 0 where
   pub fresh : freshText bs w .answer ≡ Done 0
-  -- every access under every call was to a cell of the acting thread or of the scheduler on which it stood
+  -- every access was to a cell of the acting thread or of the scheduler on which it stood
   pub accessed : All Own (textAccessesFrom bs (freshText bs w .words) cs)
   -- no call was 14, foreign or stuck, nor was the text refused
-  pub answered : All (λ (r : Answered). Plain (numberOf (r .answer))) (textCallsFrom bs (freshText bs w .words) cs)
-  -- the words behind the list are those of a state, in which no scheduler's cell holds a thread's, and no thread's variables reach another thread's cell
+  pub answered : All (λ (r : TextResult). Plain (answerNumber (r .answer)))
+      (textCallsFrom bs (freshText bs w .words) cs)
+  -- the words after the list are those of a state, in which no scheduler's cell holds a thread's,
+  -- and no thread's variables reach another thread's cell
   pub words : wordsLeft bs w cs ≡ pack (stateLeft bs w cs)
   pub public : NoPrivateInPublic (stateLeft bs w cs)
   pub apart : Apart (stateLeft bs w cs)
 
--- for every text that the check accepts, every lent buffer of the right length, and every list of choices
+-- for every text that the check accepts, lent buffer of the right length, and list of choices
 abbrev pub AcceptedTextsSafe : Type 0
-AcceptedTextsSafe = (bs : List ℕ) → HasVerdict bs Accepted → (w cs : List ℕ) → length w ≡ stateLength → SafeTexts bs w cs
+AcceptedTextsSafe =
+    (bs : List ℕ) → HasVerdict bs Accepted → (w cs : List ℕ) → length w ≡ stateLength
+    → SafeTexts bs w cs
 
--- for every text that passes refusals 1 to 7, accepted or not: 'a state reached from a fresh one is never 14', of the very calls
+-- for every text that passes refusals 1 to 7, accepted or not: 'a state reached from a fresh one is
+-- never 14', of the very calls
 abbrev pub TextsNever14 : Type 0
 TextsNever14 =
     (bs : List ℕ) (fs : List Frame) → Passes bs fs → (w cs : List ℕ) → length w ≡ stateLength
-    → All (λ (r : Answered). numberOf (r .answer) ≢ wrongState) (textCallsFrom bs (freshText bs w .words) cs)
+    → All (λ (r : TextResult). answerNumber (r .answer) ≢ wrongState)
+    (textCallsFrom bs (freshText bs w .words) cs)

@@ -1,4 +1,4 @@
--- The conditional. Assumes nothing: a definition.
+-- The conditional.
 use mathlib.Core.Bool.{Bool, true, false}
 
 infixr 1 if_then_else_

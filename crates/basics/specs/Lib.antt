@@ -1,3 +1,4 @@
+pub mod Prelude
 pub mod If
 pub mod Members
 pub mod inner

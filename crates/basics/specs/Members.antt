@@ -1,4 +1,4 @@
--- Members of lists. Assumes nothing: definitions.
+-- Members of lists.
 use mathlib.Core.Bool.{Bool, true, false}
 use mathlib.Core.List.{List, [], _∷_}
 

@@ -6,16 +6,17 @@ use Prim.Native.Nat.{ℕ, _≤_}
 use native.Mathlib.Omega.{arith}
 use lib.ListN.{length, take, length-map, length-take}
 use Rattle.language.specs.declared.verdict.Verdict.{Verdict}
-use Rattle.language.specs.declared.verdict.Verdict.the-variants.{Accepted, Rejected}
+use Rattle.language.specs.declared.verdict.Verdict.the-variants.{Rejected}
 use Rattle.text.specs.Frames.{frameOfWord, framesOf}
 use Rattle.program.specs.Programs.{programOf, modulesFrom}
 use Rattle.program.specs.inner.Shared.{SharedFirst, sharedTypes}
 use Rattle.program.specs.declared.shared.SharedTypes.{SharedTypes}
 use Rattle.program.proofs.SharedTypeLaws.{types-room, types-taken}
+use Rattle.layout.specs.declared.LayoutVerdict.{LayoutVerdict}
 use Rattle.layout.specs.Faults.{NoFault}
-use Rattle.layout.specs.inner.Layouts.{laidAs, laidOut}
+use Rattle.layout.specs.inner.Layouts.{laidAs, laidWords}
 use Rattle.layout.specs.declared.Laid.{Laid}
-use Rattle.layout.proofs.Accepted.{Passed, laid-passed}
+use Rattle.layout.proofs.Judged.{Passed, laid-passed}
 use Rattle.layout.proofs.AfterLayout.{text-refused, text-passed}
 use Rattle.layout.proofs.SharedCells.{shared-first}
 use Rattle.rules.specs.inner.Checking.{modulesIn, rulesOf}
@@ -50,13 +51,13 @@ promise : (bs : List ℕ) (r : Verdict) → r ≡ verdict bs → Checked bs r
 promise bs r e = subst (Checked bs) (sym e) (verdict-computes bs)
 
 -- l is what `lay_into` answered, ws what the lent words hold
-module _ (bs : List ℕ) (l : Laid) (ws : List ℕ) (e : laidAs l ws ≡ laidOut bs) where
-  pub check-rejected : (v : Verdict) (n j : ℕ) → v ≡ l .verdict → v ≡ Rejected n j
-      → Rejected n j ≡ verdict bs
+module _ (bs : List ℕ) (l : Laid) (ws : List ℕ) (e : laidAs l ws ≡ laidWords bs) where
+  pub check-rejected : (v : LayoutVerdict) (n j : ℕ) → v ≡ l .verdict
+      → v ≡ LayoutVerdict.Rejected n j → Rejected n j ≡ verdict bs
   unfolding verdict
   check-rejected v n j h z = text-refused (λ n j. Rejected n j) (λ fs. rulesOf (programOf fs)) bs (laidAs l ws) e n j (sym h ∙ z)
 
-  module _ (v : Verdict) (h : v ≡ l .verdict) (a : v ≡ Accepted) where
+  module _ (v : LayoutVerdict) (h : v ≡ l .verdict) (a : v ≡ LayoutVerdict.LaidOut) where
     right : Passed bs (laidAs l ws)
     right = laid-passed bs (laidAs l ws) e (sym h ∙ a)
 
@@ -82,14 +83,16 @@ module _ (bs : List ℕ) (l : Laid) (ws : List ℕ) (e : laidAs l ws ≡ laidOut
     unfolding verdict
     check-rules n r q z =
         z
-        ∙ text-passed (λ n j. Rejected n j) (λ fs. rulesOf (programOf fs)) bs (laidAs l ws) e (sym h ∙ a) n q
+        ∙ text-passed (λ n j. Rejected n j) (λ fs. rulesOf (programOf fs)) bs (laidAs l ws) e
+        (sym h ∙ a) n q
 
-pub promised-rejected : (bs : List ℕ) (l : Laid) (ws : List ℕ) → laidAs l ws ≡ laidOut bs
-    → (v : Verdict) (n j : ℕ) → v ≡ l .verdict → v ≡ Rejected n j → Checked bs (Rejected n j)
+pub promised-rejected : (bs : List ℕ) (l : Laid) (ws : List ℕ) → laidAs l ws ≡ laidWords bs
+    → (v : LayoutVerdict) (n j : ℕ) → v ≡ l .verdict → v ≡ LayoutVerdict.Rejected n j
+    → Checked bs (Rejected n j)
 promised-rejected bs l ws e v n j h z =
     promise bs (Rejected n j) (check-rejected bs l ws e v n j h z)
 
-pub promised-rules : (bs : List ℕ) (l : Laid) (ws : List ℕ) → laidAs l ws ≡ laidOut bs
-    → (v : Verdict) → v ≡ l .verdict → v ≡ Accepted → (n : ℕ) (r : Verdict) → n ≡ l .count
-    → r ≡ rulesOf (programOf (framesOf (take n ws))) → Checked bs r
+pub promised-rules : (bs : List ℕ) (l : Laid) (ws : List ℕ) → laidAs l ws ≡ laidWords bs
+    → (v : LayoutVerdict) → v ≡ l .verdict → v ≡ LayoutVerdict.LaidOut → (n : ℕ) (r : Verdict)
+    → n ≡ l .count → r ≡ rulesOf (programOf (framesOf (take n ws))) → Checked bs r
 promised-rules bs l ws e v h a n r q z = promise bs r (check-rules bs l ws e v h a n r q z)

@@ -6,6 +6,6 @@ pub mod NodeLaws
 pub mod FineFrames
 pub mod TypingLaws
 pub mod DescentLaws
-pub mod ConductLaws
+pub mod EffectLaws
 pub mod ModuleLaws
 pub mod CheckLaws

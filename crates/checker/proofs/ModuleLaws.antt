@@ -33,12 +33,12 @@ use Rattle.layout.proofs.Scopes.{in-a, room-body, child-below, main-last}
 use Rattle.fields.proofs.Tallies.{counted-one, counted-none}
 use Rattle.layout.proofs.Trees.{is-module}
 use Rattle.rules.specs.Rules.{Setting, Signature, signature}
-use Rattle.rules.specs.inner.Checking.{runIn, mainRule, afterModule, modulesIn}
+use Rattle.rules.specs.inner.Checking.{effectIn, mainRule, afterModule, modulesIn}
 use Rattle.rules.specs.inner.Signatures.{signatureOf, signatureWith}
 use Rattle.checker.specs.inner.Frames.{FrameIn, FileIn}
 use Rattle.checker.specs.inner.Modules.{nextModule}
-use Rattle.rules.specs.declared.finding.Conduct.{Conduct}
-use Rattle.rules.specs.declared.finding.Conduct.the-variants.{Does, Fails}
+use Rattle.rules.specs.declared.finding.StatementEffect.{StatementEffect}
+use Rattle.rules.specs.declared.finding.StatementEffect.the-variants.{Proper, Faulty}
 use Rattle.checker.proofs.FineFrames.{few-modules, few-parameters}
 
 -- ---- 'main has an effect within {2}'
@@ -82,7 +82,7 @@ module _ (fs : List Frame) where
       → partsFrom fs k ≡ partsFrom fs (suc k)
   skip k h e = from k h ∙ no-part k (frameAt fs k) (frameAt fs k .kind) (partsFrom fs (suc k)) e
 
--- the next module at frame k or behind it
+-- the next module at frame k or after it
 abbrev nextFrom : List ℕ → ℕ → ℕ
 nextFrom ws k = nextModule k (drop k (framesOf ws))
 
@@ -136,7 +136,7 @@ module _ (ws : List ℕ) (i k : ℕ) (s : Seeking ws i k) where
       let e = last-module ws k (s .there) (g .laid-out) l in
       sym (s .same ∙ next-here ws k (s .there) (ap isModule e))
 
--- r is the first module at frame i or behind it: the modules from i on are those from r on
+-- r is the first module at frame i or after it: the modules from i on are those from r on
 record NextModule (ws : List ℕ) (i r : ℕ) : Type 0 where
   onward : i ≤ r
   there : r < length ws
@@ -166,7 +166,7 @@ module _ (ws : List ℕ) (clean : NoFault (framesOf ws)) where
         count = sym (one ∙ none) ∙ n .count;
       }
 
-  -- by the number of frames behind k
+  -- by the number of frames after k
   next-from : (n k : ℕ) → length ws ≡ suc (n + k) → NextModule ws k (nextFrom ws k)
   next-from zero k e =
       let l : k < length ws = omega arith in
@@ -196,30 +196,31 @@ take-two (suc zero) b c l h = refl
 take-two (suc (suc zero)) b c l h = refl
 take-two (suc (suc (suc s))) b c l h = absurd (omega arith)
 
-pub conduct-is : (env : Setting) (below ws : List ℕ) (f : Frame) (m : ℕ) (r : Conduct) → f .s ≤ 2
+pub effect-is : (env : Setting) (below ws : List ℕ) (f : Frame) (m : ℕ) (r : StatementEffect) → f .s ≤ 2
     → r
-    ≡ runIn env (map signatureOf (take m below)) (take (f .s) (set (set (replicate 25 0) 0 (f .b)) 1 (f .c))) linked (statementAt (framesOf ws) (f .a))
+    ≡ effectIn env (map signatureOf (take m below)) (take (f .s) (set (set (replicate 25 0) 0 (f .b)) 1 (f .c))) linked (statementAt (framesOf ws) (f .a))
     → r
-    ≡ runIn env (map signatureOf (take m below)) (take (f .s) (f .b ∷ f .c ∷ [])) linked (statementAt (framesOf ws) (f .a))
-conduct-is env below ws f m r h e =
+    ≡ effectIn env (map signatureOf (take m below)) (take (f .s) (f .b ∷ f .c ∷ [])) linked
+    (statementAt (framesOf ws) (f .a))
+effect-is env below ws f m r h e =
     e
-    ∙ ap (λ (Γ : List ℕ). runIn env (map signatureOf (take m below)) Γ linked (statementAt (framesOf ws) (f .a))) (take-two (f .s) (f .b) (f .c) (replicate 23 0) h)
+    ∙ ap (λ (Γ : List ℕ). effectIn env (map signatureOf (take m below)) Γ linked (statementAt (framesOf ws) (f .a))) (take-two (f .s) (f .b) (f .c) (replicate 23 0) h)
 
 -- ---- the loop over modules
 
 -- what a module leaves to be said, by what its body was found to be
 module _ (rest : List Signature → Verdict) (below : List Signature) (p : Part) where
-  after-fails : (ms : List Part) (n j : ℕ) → afterModule rest below p ms (Fails n j) ≡ Rejected n j
+  after-fails : (ms : List Part) (n j : ℕ) → afterModule rest below p ms (Faulty n j) ≡ Rejected n j
   after-fails [] n j = refl
   after-fails (q ∷ qs) n j = refl
 
   after-last : {ms : List Part} (e : Effect) (b : Bool) → ms ≡ []
-      → afterModule rest below p ms (Does e b) ≡ mainRule (p .frame) e
-  after-last e b h = ap (λ (ns : List Part). afterModule rest below p ns (Does e b)) h
+      → afterModule rest below p ms (Proper e b) ≡ mainRule (p .frame) e
+  after-last e b h = ap (λ (ns : List Part). afterModule rest below p ns (Proper e b)) h
 
   after-earlier : {q : Part} {ms qs : List Part} (e : Effect) (b : Bool) → ms ≡ q ∷ qs
-      → afterModule rest below p ms (Does e b) ≡ rest (below ++ (signature p e ∷ []))
-  after-earlier e b h = ap (λ (ns : List Part). afterModule rest below p ns (Does e b)) h
+      → afterModule rest below p ms (Proper e b) ≡ rest (below ++ (signature p e ∷ []))
+  after-earlier e b h = ap (λ (ns : List Part). afterModule rest below p ns (Proper e b)) h
 
 -- what the rules say of all modules of the file
 abbrev allModules : Setting → List ℕ → Verdict
@@ -285,7 +286,8 @@ module _ (env : Setting) (ws below : List ℕ) (m i : ℕ) (j : Judging env ws b
       let g = frameAt (framesOf ws) i in
       let b : g .a < i = child-below (framesOf ws) (j .file .laid-out) {c = child Class.Statement (g .a)} inside-fs (in-a g Module (j .module-at) In.first) in
       let t = j .there in
-      subst (λ (h : Frame). FrameIn ws (h .a)) (sym e) (record { laid-out = j .file .laid-out; there = omega arith; few = j .file .few })
+      subst (λ (h : Frame). FrameIn ws (h .a)) (sym e)
+      (record { laid-out = j .file .laid-out; there = omega arith; few = j .file .few })
 
   pub judge-room : (f : Frame) → f ≡ frameAt (framesOf ws) i → Room (framesOf ws) (f .a) (f .s)
   judge-room f e = subst (λ (g : Frame). Room (framesOf ws) (g .a) (g .s)) (sym e) (room-body i (frameAt (framesOf ws) i .s) inside-fs (j .module-at) (few-parameters (framesOf ws) (j .file .laid-out) i inside-fs (j .module-at)))
@@ -297,30 +299,31 @@ module _ (env : Setting) (ws below : List ℕ) (m i : ℕ) (j : Judging env ws b
   abbrev later : List Part
   later = partsFrom (framesOf ws) (suc i)
 
-  module _ (f : Frame) (c : Conduct) (q : f ≡ frameAt (framesOf ws) i) (k : c ≡ runIn env (map signatureOf (take m below)) (take (f .s) (f .b ∷ f .c ∷ [])) linked (statementAt (framesOf ws) (f .a))) where
-    by-body : (v : Conduct) → c ≡ v
+  module _ (f : Frame) (c : StatementEffect) (q : f ≡ frameAt (framesOf ws) i) (k : c ≡ effectIn env (map signatureOf (take m below)) (take (f .s) (f .b ∷ f .c ∷ [])) linked (statementAt (framesOf ws) (f .a))) where
+    by-body : (v : StatementEffect) → c ≡ v
         → afterModule (λ sigs. modulesIn env sigs later) known (partOf (framesOf ws) i f) later v
         ≡ allModules env ws
     unfolding modulesIn
     by-body v h =
-        ap (afterModule (λ sigs. modulesIn env sigs later) known (partOf (framesOf ws) i f) later) (sym h ∙ k)
+        ap (afterModule (λ sigs. modulesIn env sigs later) known (partOf (framesOf ws) i f) later)
+        (sym h ∙ k)
         ∙ ap (λ (g : Frame). modulesIn env known (partOf (framesOf ws) i g ∷ later)) q
         ∙ ap (modulesIn env known) (sym (part-at (framesOf ws) i inside-fs (j .module-at)))
         ∙ j .rest
 
-    pub judge-fails : (n o : ℕ) → c ≡ Fails n o → Rejected n o ≡ allModules env ws
+    pub judge-fails : (n o : ℕ) → c ≡ Faulty n o → Rejected n o ≡ allModules env ws
     judge-fails n o h =
         sym (after-fails (λ sigs. modulesIn env sigs later) known (partOf (framesOf ws) i f) later n o)
-        ∙ by-body (Fails n o) h
+        ∙ by-body (Faulty n o) h
 
-    pub judge-main : (e : Effect) (b : Bool) (r : Verdict) → c ≡ Does e b → length ws ≤ i + 1
+    pub judge-main : (e : Effect) (b : Bool) (r : Verdict) → c ≡ Proper e b → length ws ≤ i + 1
         → r ≡ mainRule i e → r ≡ allModules env ws
     unfolding modulesFrom
     judge-main e b r h l d =
         let z : later ≡ [] = ap (modulesFrom (framesOf ws) (suc i)) (drop-of-length-le (framesOf ws) {i = suc i} (rw length-map (omega arith))) in
-        d ∙ sym (after-last (λ sigs. modulesIn env sigs later) known (partOf (framesOf ws) i f) e b z) ∙ by-body (Does e b) h
+        d ∙ sym (after-last (λ sigs. modulesIn env sigs later) known (partOf (framesOf ws) i f) e b z) ∙ by-body (Proper e b) h
 
-    pub judge-more : (e : Effect) (b : Bool) (w r : ℕ) → c ≡ Does e b
+    pub judge-more : (e : Effect) (b : Bool) (w r : ℕ) → c ≡ Proper e b
         → signatureOf w ≡ signatureWith (f .s) (f .b) (f .c) e
         → r ≡ nextFrom ws (i + 1) → i + 1 < length ws → Judging env ws (set below m w) (m + 1) r
     judge-more e b w r h d x y =
@@ -345,7 +348,7 @@ module _ (env : Setting) (ws below : List ℕ) (m i : ℕ) (j : Judging env ws b
           rest =
               ap₂ (modulesIn env) sigs (sym next)
               ∙ sym (after-earlier (λ sigs. modulesIn env sigs later) known (partOf (framesOf ws) i f) e b head)
-              ∙ by-body (Does e b) h;
+              ∙ by-body (Proper e b) h;
         }
 
   pub judge-falls : (r : ℕ) → r ≡ nextFrom ws (i + 1) → i + 1 < length ws

@@ -1,19 +1,13 @@
--- The check's promise: what the verdict on a text is, by the rules and as a function, and that the
--- two are one. Assumes nothing: definitions.
-use mathlib.Core.Path.{_≡_}
-use mathlib.Core.List.{List}
-use Prim.Native.Nat.{ℕ}
+-- The check's promise: the verdict on a text, by the rules and as a function, and that both are
+-- one.
+use Rattle.basics.specs.Prelude.{List, ℕ, _≡_}
 use Rattle.language.specs.declared.frame.Frame.{Frame}
 use Rattle.language.specs.declared.verdict.Verdict.{Verdict}
 use Rattle.language.specs.declared.verdict.Verdict.the-variants.{Accepted, Rejected}
-use Rattle.text.specs.Reading.{frames, refused, Reads}
-use Rattle.text.specs.inner.Reading.{reading}
+use Rattle.text.specs.{Reading.frames, Reading.refused, Reading.Reads, inner.Reading.reading}
 use Rattle.program.specs.Programs.{programOf}
-use Rattle.layout.specs.Faults.{NoFault, FirstFault}
-use Rattle.layout.specs.LaidOut.{afterReading}
-use Rattle.rules.specs.Rules.{Keeps}
-use Rattle.rules.specs.Broken.{FirstBroken}
-use Rattle.rules.specs.inner.Checking.{rulesOf}
+use Rattle.layout.specs.{Faults.NoFault, Faults.FirstFault, LaidOut.afterReading}
+use Rattle.rules.specs.{Rules.Keeps, Broken.FirstBroken, inner.Checking.rulesOf}
 
 -- `HasVerdict bs v`: what document 01 says of the text bs. No checker is named here: 'The check's
 -- promise is the rules themselves, written without the checker.'

@@ -2,6 +2,7 @@
 use crate::module::modules_rule;
 use language::limit::MOST_LINES;
 use language::verdict::Verdict;
+use layout::LayoutVerdict;
 use layout::lay_into;
 use program::shared::shared_types;
 ghost use mathlib.Core.Path.{_≡_};
@@ -31,8 +32,8 @@ pub fn check(text: &[u8]) -> Verdict
     let l = lay_into(text, &mut words);
     let v = l.verdict;
     match v {
-        Verdict::Rejected(n, j) => Verdict::Rejected(n, j),
-        Verdict::Accepted => {
+        LayoutVerdict::Rejected(n, j) => Verdict::Rejected(n, j),
+        LayoutVerdict::LaidOut => {
             let n = l.count;
             rules_of(&words[..n])
         }

@@ -1,5 +1,5 @@
 // The modules of a laid-out file in order, each with what is known of those before it.
-use crate::conduct::conduct_of;
+use crate::effect::effect_of;
 use language::Place;
 use language::effect::Effect;
 use language::frame::Frame;
@@ -9,7 +9,7 @@ use language::limit::MOST_VARIABLES;
 use language::refusal::WRONG_EFFECT;
 use language::verdict::Verdict;
 use program::frames::frame_at;
-use rules::finding::Conduct;
+use rules::finding::StatementEffect;
 use rules::start::signature_word;
 ghost use mathlib.Core.Path.{_≡_};
 ghost use mathlib.Core.List.{[], _∷_, map};
@@ -21,13 +21,13 @@ ghost use Rattle.text.specs.Frames.{framesOf};
 ghost use Rattle.program.specs.Trees.{statementAt};
 ghost use Rattle.program.specs.Programs.{modulesFrom};
 ghost use Rattle.layout.specs.inner.Scope.{Room};
-ghost use Rattle.rules.specs.inner.Checking.{runIn, mainRule, modulesIn};
+ghost use Rattle.rules.specs.inner.Checking.{effectIn, mainRule, modulesIn};
 ghost use Rattle.rules.specs.inner.Signatures.{signatureOf, signatureWith, signatureWord};
 ghost use Rattle.checker.specs.inner.Settings.{settingIn};
 ghost use Rattle.checker.specs.inner.Frames.{FrameIn, FileIn};
 ghost use Rattle.checker.specs.inner.Modules.{nextModule};
 
-// The first module at frame i or behind it: the last frame is one.
+// The first module at frame i or after it: the last frame is one.
 pub(crate) fn next_module(frames: &[u64], i: usize) -> usize
     requires { ⌜ FrameIn (now frames) i ⌝ }
     ensures { λ r. ⌜ r ≡ nextModule i (drop i (framesOf (now (frames .entry)))) ⌝ }
@@ -44,18 +44,18 @@ pub(crate) fn next_module(frames: &[u64], i: usize) -> usize
     k
 }
 
-// What the body of a module is found to be, behind the first m modules.
-pub(crate) fn module_conduct(
+// What the body of a module is found to be, after the first m modules.
+pub(crate) fn module_effect(
     frames: &[u64],
     cells: &[u16],
     below: [u64; MOST_MODULES],
     m: usize,
     f: Frame,
-) -> Conduct
+) -> StatementEffect
     requires { ⌜ FrameIn (now frames) (f .a) × Room (framesOf (now frames)) (f .a) (f .s)
         × (f .s ≤ mostParameters) × (m ≤ mostModules) ⌝ }
     ensures { λ r. ⌜ r
-        ≡ runIn (settingIn (now (cells .entry))) (map signatureOf (take m below))
+        ≡ effectIn (settingIn (now (cells .entry))) (map signatureOf (take m below))
         (take (f .s) (f .b ∷ f .c ∷ [])) linked
         (statementAt (framesOf (now (frames .entry))) (f .a)) ⌝ }
 {
@@ -63,7 +63,7 @@ pub(crate) fn module_conduct(
     scope[0] = f.b;
     scope[1] = f.c;
     let n = f.s as usize;
-    conduct_of(frames, cells, &below[..m], &mut scope, n, true, f.a)
+    effect_of(frames, cells, &below[..m], &mut scope, n, true, f.a)
 }
 
 // 'main has an effect within {2}'.
@@ -97,11 +97,11 @@ pub(crate) fn modules_rule(frames: &[u64], cells: &[u16]) -> Verdict
     let mut i = next_module(frames, 0);
     while i + 1 < frames.len() {
         let f = frame_at(frames, i);
-        match module_conduct(frames, cells, below, m, f) {
-            Conduct::Fails(k, j) => {
+        match module_effect(frames, cells, below, m, f) {
+            StatementEffect::Faulty(k, j) => {
                 return Verdict::Rejected(k, j);
             }
-            Conduct::Does(e, b) => {
+            StatementEffect::Proper(e, b) => {
                 below[m] = module_signature(f, e);
                 m += 1;
                 i = next_module(frames, i + 1);
@@ -109,8 +109,8 @@ pub(crate) fn modules_rule(frames: &[u64], cells: &[u16]) -> Verdict
         }
     }
     let f = frame_at(frames, i);
-    match module_conduct(frames, cells, below, m, f) {
-        Conduct::Fails(k, j) => Verdict::Rejected(k, j),
-        Conduct::Does(e, b) => main_rule(i as u16, e),
+    match module_effect(frames, cells, below, m, f) {
+        StatementEffect::Faulty(k, j) => Verdict::Rejected(k, j),
+        StatementEffect::Proper(e, b) => main_rule(i as u16, e),
     }
 }

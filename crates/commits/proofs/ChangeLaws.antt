@@ -25,7 +25,7 @@ use Rattle.states.proofs.StackWords.{move-wide, ended-wide}
 use Rattle.acts.specs.declared.act.Change.{Change}
 use Rattle.acts.specs.declared.act.Change.the-variants.{Same, Item, Items, Let, Drop, Move, Enter}
 use Rattle.acts.specs.declared.act.Change.the-variants.{End}
-use Rattle.acts.specs.inner.Fates.{changed, popped, Room}
+use Rattle.acts.specs.inner.Transitions.{changed, popped, HasRoom}
 use Rattle.commits.specs.inner.Commits.{placeAfter}
 
 -- ---- the thread without its top item, and the changed one: their spaces stay full, the counts and
@@ -61,7 +61,7 @@ module _ (x : ThreadWords) where
   unfolding popped popItem
   popped-place = if-all (λ (y : ThreadWords). y .place ≡ x .place) (eqb (x .items) 0) x (popItem x) (λ _. refl) (λ _. refl)
 
--- a thread that stands at p before the change stands at `placeAfter c p` behind it
+-- a thread that stands at p before the change stands at `placeAfter c p` after it
 changed-place : (c : Change) (x : ThreadWords) (p : Place) → p .number ≡ x .place
     → placeAfter c p .number ≡ changed c x .place
 unfolding pushItem popItem pushValue popValue moveTo ended
@@ -74,7 +74,7 @@ changed-place (Move q) x p e = refl
 changed-place (Enter q body) x p e = refl
 changed-place End x p e = e
 
--- where the thread stands behind its turn
+-- where the thread stands after its turn
 pub place-is : (x : ThreadWords) (c : Change)
     → placeAfter c (record { number = x .place }) .number ≡ changed c (popped x) .place
 place-is x c = changed-place c (popped x) (record { number = x .place }) (sym (popped-place x))
@@ -157,25 +157,25 @@ pub ruleset change-laws = (change-same, change-made)
 
 -- what the room for a change is, for the arm's call
 module _ (c : Change) (i n : ℕ) where
-  room : (d : Change) → c ≡ d → Room c i n → Room d i n
-  room d e h = subst (λ (b : Change). Room b i n) e h
+  room : (d : Change) → c ≡ d → HasRoom c i n → HasRoom d i n
+  room d e h = subst (λ (b : Change). HasRoom b i n) e h
 
-  pub room-item : (a : ℕ) → c ≡ Item a → Room c i n → i < 25
+  pub room-item : (a : ℕ) → c ≡ Item a → HasRoom c i n → i < 25
   room-item a e h = room (Item a) e h
 
-  pub room-items : (a b : ℕ) → c ≡ Items a b → Room c i n → i < 24
+  pub room-items : (a b : ℕ) → c ≡ Items a b → HasRoom c i n → i < 24
   room-items a b e h = room (Items a b) e h
 
-  pub room-let : (a b : ℕ) → c ≡ Let a b → Room c i n → i < 24
+  pub room-let : (a b : ℕ) → c ≡ Let a b → HasRoom c i n → i < 24
   room-let a b e h = room (Let a b) e h .0
 
-  pub room-value : (a b : ℕ) → c ≡ Let a b → Room c i n → n < 25
+  pub room-value : (a b : ℕ) → c ≡ Let a b → HasRoom c i n → n < 25
   room-value a b e h = room (Let a b) e h .1
 
-  pub room-drop : c ≡ Drop → Room c i n → 0 < n
+  pub room-drop : c ≡ Drop → HasRoom c i n → 0 < n
   room-drop e h = room Drop e h
 
-  pub room-enter : (a : Place) (b : ℕ) → c ≡ Enter a b → Room c i n → i < 24
+  pub room-enter : (a : Place) (b : ℕ) → c ≡ Enter a b → HasRoom c i n → i < 24
   room-enter a b e h = room (Enter a b) e h
 
 pub ruleset change-room = (room-item, room-items, room-let, room-value, room-drop, room-enter)

@@ -14,20 +14,20 @@ use Rattle.language.specs.declared.Place.{Place}
 use Rattle.program.specs.Programs.{Program}
 use Rattle.program.specs.inner.Modules.{foundIn}
 use Rattle.program.specs.declared.module.ModuleFound.{ModuleFound}
-use Rattle.machine.specs.Calls.{Called}
+use Rattle.machine.specs.Calls.{CallResult, callResult}
 use Rattle.states.specs.inner.Threads.{threadIn, putThread, blockOf, withOneMore}
 use Rattle.states.proofs.ThreadLaws.{in-wide, put-length}
 use Rattle.acts.specs.declared.act.Arguments.{Arguments}
-use Rattle.acts.specs.declared.act.Fate.{Fate}
-use Rattle.acts.specs.declared.act.Fate.the-variants.{Refused, Stays, Leaves, Joins, Starts}
-use Rattle.acts.specs.declared.act.Acted.{Acted}
-use Rattle.acts.specs.inner.Fates.{Turned, popped}
+use Rattle.acts.specs.declared.act.Transition.{Transition}
+use Rattle.acts.specs.declared.act.Transition.the-variants.{Refused, Stays, Leaves, Joins, Starts}
+use Rattle.acts.specs.declared.act.Action.{Action}
+use Rattle.acts.specs.inner.Transitions.{TurnResult, popped}
 use Rattle.commits.specs.declared.decision.Passed.{Passed}
 use Rattle.commits.specs.declared.decision.Passed.the-variants.{Keep, Join, Start}
 use Rattle.commits.specs.declared.decision.Decision.{Decision}
 use Rattle.commits.specs.declared.decision.Decision.the-variants.{Refuse, Settle}
-use Rattle.commits.specs.inner.Commits.{called, after, clearedIn, settledIn, staysIn, leftIn}
-use Rattle.commits.specs.inner.Commits.{roomIn, joinedIn, joinsIn, newThread, obstacleIn}
+use Rattle.commits.specs.inner.Commits.{turnResultIn, clearedIn, settledIn, staysIn, leftIn}
+use Rattle.commits.specs.inner.Commits.{roomIn, joinedIn, joinsIn, newThreadWords, obstacleIn}
 use Rattle.commits.specs.inner.Commits.{refusesIn, startsIn, committedIn, placeAfter}
 use Rattle.commits.specs.inner.Commits.{startTested, startDecided, decidedIn, followedIn}
 use Rattle.commits.specs.inner.Commits.{CommitWords, StartWords, Follows}
@@ -37,9 +37,9 @@ use Rattle.commits.proofs.DecisionLaws.{free-count, free-scheduler}
 use Rattle.commits.proofs.FollowLaws.{keeps-is, leave-is, join-is, start-is, wait-is}
 
 -- ---- the turn of thread t, on words w
-module _ (p : Program) (w : List ℕ) (before c t : ℕ) (a : Acted) (h : CommitWords w t a) where
-  abbrev turn : Turned
-  turn = after w t a
+module _ (p : Program) (w : List ℕ) (before c t : ℕ) (a : Action) (h : CommitWords w t a) where
+  abbrev turn : TurnResult
+  turn = turnResultIn w t a
 
   -- the settled words
   abbrev words : List ℕ
@@ -67,9 +67,9 @@ module _ (p : Program) (w : List ℕ) (before c t : ℕ) (a : Acted) (h : Commit
   place-there = place-is (threadIn w (t - 1)) (a .change)
 
   -- what a decision comes to
-  abbrev result : Decision → Called
+  abbrev result : Decision → CallResult
   result (Refuse n) = refusesIn w before t n
-  result (Settle x) = called 0 t (followedIn words c t x)
+  result (Settle x) = callResult 0 t (followedIn words c t x)
 
   joins-is : (q : Place) → result (decidedIn p w t a (Joins q))
       ≡ joinsIn w before c t turn (q .number)
@@ -77,19 +77,19 @@ module _ (p : Program) (w : List ℕ) (before c t : ℕ) (a : Acted) (h : Commit
   joins-is q =
       if-all (λ (d : Decision). result d ≡ joinsIn w before c t turn (q .number))
       (roomIn w (q .number) 1) (Settle (Join q)) (Refuse 20)
-      (λ e. yes _ e (ap (called 0 t) (join-is words c t q))) (λ e. no _ e refl)
+      (λ e. yes _ e (ap (callResult 0 t) (join-is words c t q))) (λ e. no _ e refl)
 
   -- `startsIn` of any module found, any place and any count of threads: where nothing stands in the
   -- way, and whole
-  abbrev goes : Arguments → Bool → ModuleFound → ℕ → ℕ → Called
+  abbrev goes : Arguments → Bool → ModuleFound → ℕ → ℕ → CallResult
   goes args waits x i n =
-      let new = newThread i (args .count) (args .first) (args .second) t (x .body) in
+      let new = newThreadWords i (args .count) (args .first) (args .second) t (x .body) in
       let entry = 128 * (n + 1) + t in
-      if not waits then called 0 t (joinedIn (withOneMore words new) i (n + 1)) else
+      if not waits then callResult 0 t (joinedIn (withOneMore words new) i (n + 1)) else
       if not (roomIn w i 2) then refusesIn w before t 20 else
-      called 0 t (joinedIn (joinedIn (withOneMore (leftIn words c) new) i (n + 1)) i entry)
+      callResult 0 t (joinedIn (joinedIn (withOneMore (leftIn words c) new) i (n + 1)) i entry)
 
-  abbrev starts : Arguments → Bool → ModuleFound → ℕ → ℕ → Called
+  abbrev starts : Arguments → Bool → ModuleFound → ℕ → ℕ → CallResult
   starts args waits x i n =
       let no = obstacleIn w x i (args .count) in
       if not (eqb no 0) then refusesIn w before t no else goes args waits x i n
@@ -103,11 +103,11 @@ module _ (p : Program) (w : List ℕ) (before c t : ℕ) (a : Acted) (h : Commit
     goes-is : (waits : Bool) → result (gone waits) ≡ goes args waits x (q .number) (getD words 0 0)
     goes-is false =
         ap result (if-no _ _ refl)
-        ∙ yes _ refl (ap (called 0 t) (start-is words c t q (x .body) args))
+        ∙ yes _ refl (ap (callResult 0 t) (start-is words c t q (x .body) args))
     goes-is true =
         if-all (λ (d : Decision). result d ≡ goes args true x (q .number) (getD words 0 0))
         (not (roomIn w (q .number) 2)) _ _ (λ f. no _ refl (yes _ f refl))
-        (λ f. no _ refl (no _ f (ap (called 0 t) (wait-is words c t q (x .body) args long))))
+        (λ f. no _ refl (no _ f (ap (callResult 0 t) (wait-is words c t q (x .body) args long))))
 
     tested-is : (waits : Bool) → result (startTested w args waits x q)
         ≡ starts args waits x (q .number) (getD words 0 0)
@@ -124,10 +124,10 @@ module _ (p : Program) (w : List ℕ) (before c t : ℕ) (a : Acted) (h : Commit
       tested-is args (foundIn p m) place waits
       ∙ ap₂ (starts args waits (foundIn p m)) place-there count-kept
 
-  decided-is : (f : Fate) → result (decidedIn p w t a f) ≡ committedIn p w before c t turn f
+  decided-is : (f : Transition) → result (decidedIn p w t a f) ≡ committedIn p w before c t turn f
   decided-is (Refused n) = refl
-  decided-is Stays = ap (called 0 t) (keeps-is words c Keep refl)
-  decided-is Leaves = ap (called 0 t) (leave-is words c t)
+  decided-is Stays = ap (callResult 0 t) (keeps-is words c Keep refl)
+  decided-is Leaves = ap (callResult 0 t) (leave-is words c t)
   decided-is (Joins q) = joins-is q
   decided-is (Starts waits m args) = starts-is waits m args
 
@@ -159,7 +159,7 @@ module _ (p : Program) (w : List ℕ) (before c t : ℕ) (a : Acted) (h : Commit
       if-all Sound (roomIn w (q .number) 1) (Settle (Join q)) (Refuse 20)
       (λ e. room-scheduler w (q .number) 1 (roomIn w (q .number) 1) refl (ap not e)) (λ _. tt)
 
-  decided-sound : (f : Fate) → Sound (decidedIn p w t a f)
+  decided-sound : (f : Transition) → Sound (decidedIn p w t a f)
   decided-sound (Refused n) = tt
   decided-sound Stays = tt
   decided-sound Leaves = tt
@@ -167,23 +167,23 @@ module _ (p : Program) (w : List ℕ) (before c t : ℕ) (a : Acted) (h : Commit
   decided-sound (Starts waits m args) = start-sound args waits (foundIn p m) place
 
   -- ---- the arms of `commit`, which has decided d
-  module _ (d : Decision) (e : d ≡ decidedIn p w t a (a .fate)) where
-    decided : (y : Decision) → d ≡ y → result y ≡ committedIn p w before c t turn (a .fate)
-    decided y g = ap result (sym g ∙ e) ∙ decided-is (a .fate)
+  module _ (d : Decision) (e : d ≡ decidedIn p w t a (a .transition)) where
+    decided : (y : Decision) → d ≡ y → result y ≡ committedIn p w before c t turn (a .transition)
+    decided y g = ap result (sym g ∙ e) ∙ decided-is (a .transition)
 
     pub commit-refused : (n : ℕ) (v : List ℕ) → d ≡ Refuse n → v ≡ clearedIn w before
-        → called n t v ≡ committedIn p w before c t turn (a .fate)
-    commit-refused n v g f = ap (called n t) f ∙ decided (Refuse n) g
+        → callResult n t v ≡ committedIn p w before c t turn (a .transition)
+    commit-refused n v g f = ap (callResult n t) f ∙ decided (Refuse n) g
 
     module _ (x : Passed) (g : d ≡ Settle x) (v : List ℕ) (s : v ≡ staysIn w t turn) where
       pub commit-follows : Follows v x
       commit-follows =
           subst (λ (l : List ℕ). Follows l x) (sym s)
-          (subst Sound (sym e ∙ g) (decided-sound (a .fate)))
+          (subst Sound (sym e ∙ g) (decided-sound (a .transition)))
 
       pub commit-settled : (u : List ℕ) → u ≡ followedIn v c t x
-          → called 0 t u ≡ committedIn p w before c t turn (a .fate)
+          → callResult 0 t u ≡ committedIn p w before c t turn (a .transition)
       commit-settled u f =
-          ap (called 0 t) (f ∙ ap (λ (l : List ℕ). followedIn l c t x) s) ∙ decided (Settle x) g
+          ap (callResult 0 t) (f ∙ ap (λ (l : List ℕ). followedIn l c t x) s) ∙ decided (Settle x) g
 
 pub ruleset commit-laws = (commit-refused, commit-settled)

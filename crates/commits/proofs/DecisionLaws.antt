@@ -1,5 +1,5 @@
--- What a turn's fate comes to, decided on the words before it: what stands in the way of a start,
--- and the row of each fate. Assumes nothing.
+-- What a turn's transition comes to, decided on the words before it: what stands in the way of a
+-- start, and the row of each transition. Assumes nothing.
 use Prim.Native.Nat.{ℕ, _+_, _*_, _-_, _<_, _≤_}
 use mathlib.Core.Path.{_≡_, refl, sym, ap, ap₂, _∙_}
 use mathlib.Core.List.{List}
@@ -15,9 +15,9 @@ use Rattle.program.specs.Programs.{Program}
 use Rattle.program.specs.inner.Modules.{foundIn}
 use Rattle.program.specs.declared.module.ModuleFound.{ModuleFound}
 use Rattle.acts.specs.declared.act.Arguments.{Arguments}
-use Rattle.acts.specs.declared.act.Acted.{Acted}
-use Rattle.acts.specs.declared.act.Fate.{Fate}
-use Rattle.acts.specs.declared.act.Fate.the-variants.{Refused, Stays, Leaves, Joins, Starts}
+use Rattle.acts.specs.declared.act.Action.{Action}
+use Rattle.acts.specs.declared.act.Transition.{Transition}
+use Rattle.acts.specs.declared.act.Transition.the-variants.{Refused, Stays, Leaves, Joins, Starts}
 use Rattle.commits.specs.declared.decision.Passed.the-variants.{Keep, Leave, Join, Start}
 use Rattle.commits.specs.declared.decision.Decision.{Decision}
 use Rattle.commits.specs.declared.decision.Decision.the-variants.{Refuse, Settle}
@@ -94,7 +94,7 @@ module _ (w : List ℕ) (x : ModuleFound) (p g : ℕ) (h : obstacleIn w x p g �
   free-scheduler = room-scheduler w p 1 (roomIn w p 1) refl (free h .0)
 
 -- ---- a start: the module was found to be x, and the starter, who stood at o, stands at q
-module _ (p : Program) (w : List ℕ) (t : ℕ) (a : Acted) (waits : Bool) (m : ℕ) (args : Arguments)
+module _ (p : Program) (w : List ℕ) (t : ℕ) (a : Action) (waits : Bool) (m : ℕ) (args : Arguments)
     (x : ModuleFound) (n : ℕ) (o q : Place) (e : x ≡ foundIn p m) (z : q ≡ placeAfter (a .change) o)
     (y : o ≡ record { number = getD w (1042 + 55 * (t - 1)) 0 })
     (f : n ≡ obstacleIn w x (q .number) (args .count)) where
@@ -137,9 +137,9 @@ module _ (p : Program) (w : List ℕ) (t : ℕ) (a : Acted) (waits : Bool) (m : 
 
 pub ruleset start-laws = (start-refused, start-only, start-full, start-waits)
 
--- ---- the row of each fate
-module _ (p : Program) (w : List ℕ) (t : ℕ) (a : Acted) (x : Fate) where
-  row : (f : Fate) (d : Decision) → x ≡ f → d ≡ decidedIn p w t a f → d ≡ decidedIn p w t a x
+-- ---- the row of each transition
+module _ (p : Program) (w : List ℕ) (t : ℕ) (a : Action) (x : Transition) where
+  row : (f : Transition) (d : Decision) → x ≡ f → d ≡ decidedIn p w t a f → d ≡ decidedIn p w t a x
   row f d e h = h ∙ ap (decidedIn p w t a) (sym e)
 
   pub decide-refused : (n : ℕ) → x ≡ Refused n → Refuse n ≡ decidedIn p w t a x

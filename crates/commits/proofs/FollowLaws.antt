@@ -1,4 +1,4 @@
--- The lists behind a turn that is settled: what leaves its list, then what joins a next list.
+-- The lists after a turn that is settled: what leaves its list, then what joins a next list.
 -- Assumes nothing.
 use Prim.Native.Nat.{ℕ, _+_, _*_}
 use mathlib.Core.Path.{_≡_, refl, sym, ap, _∙_, subst}
@@ -93,7 +93,7 @@ module _ (w u : List ℕ) (c : ℕ) (x : Passed) (e : u ≡ unlistedIn w c x) wh
   pub followed : (t : ℕ) (v : List ℕ) → v ≡ enlistedIn u t x → v ≡ followedIn w c t x
   followed t v f = f ∙ ap (λ (l : List ℕ). enlistedIn l t x) e
 
--- ---- the words behind each
+-- ---- the words after each
 module _ (w : List ℕ) (c t : ℕ) where
   pub leave-is : followedIn w c t Leave ≡ leftIn w c
   leave-is = leaves-is w c Leave refl

@@ -1,5 +1,5 @@
--- The words behind a start, call by call: the new thread added, then its entry in the next list of
--- place q, and behind it that of a starter that waits. Assumes nothing.
+-- The words after a start, call by call: the new thread added, then its entry in the next list of
+-- place q, and after it that of a starter that waits. Assumes nothing.
 use Prim.Native.Nat.{ℕ, _+_, _*_}
 use mathlib.Core.Path.{_≡_, ap, ap₂, _∙_}
 use mathlib.Core.List.{List}
@@ -15,7 +15,7 @@ use Rattle.commits.specs.inner.Commits.{joinedIn, newAt, startedOn}
 module _ (w v₁ v₂ : List ℕ) (t body n : ℕ) (args : Arguments) (q : Place) (x : ThreadWords)
     (waits : Bool) (k : n ≡ getD w 0 0) (g : x ≡ newAt args q t body) (f : v₁ ≡ withOneMore w x)
     (e : v₂ ≡ joinedIn v₁ (q .number) (n + 1)) where
-  -- behind the new thread's entry
+  -- after the new thread's entry
   joined : v₂ ≡ joinedIn (withOneMore w (newAt args q t body)) (q .number) (getD w 0 0 + 1)
   joined =
       e ∙ ap₂ (λ (l : List ℕ) (i : ℕ). joinedIn l (q .number) (i + 1)) (f ∙ ap (withOneMore w) g) k

@@ -23,13 +23,13 @@ use Rattle.states.specs.declared.thread.ThreadWords.{ThreadWords}
 use Rattle.states.specs.inner.Threads.{threadIn, putThread}
 use Rattle.states.proofs.ThreadLaws.{Wide, in-wide, put-read, put-then}
 use Rattle.acts.specs.declared.act.Change.{Change}
-use Rattle.acts.specs.inner.Fates.{changed, popped, Room}
+use Rattle.acts.specs.inner.Transitions.{changed, popped, HasRoom}
 use Rattle.commits.specs.inner.Commits.{clearedIn, settledIn, leftIn, roomIn, joinedIn}
 use Rattle.commits.specs.inner.Commits.{SettleWords}
 use Rattle.commits.proofs.ChangeLaws.{popped-wide, changed-wide, popped-items}
 use Rattle.commits.proofs.ChangeLaws.{popped-values, popped-place}
 
--- ---- cells cleared: before the loop, a turn of it, and the count written behind it
+-- ---- cells cleared: before the loop, a turn of it, and the count written after it
 
 -- the words of the cells from `from` on, of which so many are 0 already
 abbrev zeroed : List ℕ → ℕ → ℕ → ℕ → List ℕ
@@ -85,7 +85,7 @@ module _ (w : List ℕ) (k : ℕ) (c : Change) (h : SettleWords w k c) (v : List
   settle-place =
       rw (ap (λ (x : ThreadWords). x .place) here ∙ popped-place (threadIn w k)) (h .place)
 
-  pub settle-room : Room c (threadIn v k .items) (threadIn v k .values)
+  pub settle-room : HasRoom c (threadIn v k .items) (threadIn v k .values)
   settle-room = rw (items-here, values-here) (h .room)
 
   pub settled : (u : List ℕ) → u ≡ putThread v k (changed c (threadIn v k))
@@ -117,7 +117,7 @@ module _ (w : List ℕ) (c : ℕ) (x : PlaceRead) (e : x ≡ placeRead (isSchedu
 
 pub ruleset left-laws = (left-none, left-list)
 
--- a block written behind the first word leaves the first word
+-- a block written after the first word leaves the first word
 pub first-word : (w : List ℕ) (at : ℕ) (s : List ℕ) (n : ℕ) → 1 ≤ length w → 1 ≤ at
     → getD (pasted w at s n) 0 0 ≡ getD w 0 0
 unfolding pasted

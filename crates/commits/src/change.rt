@@ -22,7 +22,7 @@ ghost use Rattle.machine.specs.Offsets.{stateLength};
 ghost use Rattle.states.specs.inner.Threads.{threadIn, putThread};
 ghost use Rattle.states.specs.inner.Stacks.{pushItem};
 ghost use Rattle.acts.specs.declared.act.Change.the-variants.{Let, Enter};
-ghost use Rattle.acts.specs.inner.Fates.{changed, popped, Room};
+ghost use Rattle.acts.specs.inner.Transitions.{changed, popped, HasRoom};
 ghost use Rattle.commits.specs.inner.Commits.{placeAfter};
 
 // The top item off the continuation; where there is none, nothing changes.
@@ -77,7 +77,7 @@ pub(crate) fn change_thread(state: &mut [u64], k: usize, change: Change)
     requires { ⌜ (length (now state) ≡ stateLength) × (k < mostThreads)
         × (threadIn (now state) k .values ≤ mostVariables)
         × (isPlace (threadIn (now state) k .place) ≡ true)
-        × Room change (threadIn (now state) k .items) (threadIn (now state) k .values) ⌝ }
+        × HasRoom change (threadIn (now state) k .items) (threadIn (now state) k .values) ⌝ }
     ensures { λ _. ⌜ now (state .exit) ≡ putThread (now (state .entry)) k
         (changed change (threadIn (now (state .entry)) k)) ⌝ }
 {
@@ -93,7 +93,7 @@ pub(crate) fn change_thread(state: &mut [u64], k: usize, change: Change)
     }
 }
 
-// Where a thread that stands at that place stands behind the change.
+// Where a thread that stands at that place stands after the change.
 pub(crate) fn place_after(change: Change, place: Place) -> Place
     ensures { λ r. ⌜ r ≡ placeAfter change place ⌝ }
 {

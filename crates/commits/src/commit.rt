@@ -7,7 +7,7 @@ use crate::start::start;
 use crate::writing::clear_cells;
 use crate::writing::join;
 use crate::writing::settle;
-use acts::act::Acted;
+use acts::act::Action;
 ghost use mathlib.Core.Path.{_≡_};
 ghost use Prim.Native.Nat.{_≤_};
 ghost use lib.ListN.{length};
@@ -15,9 +15,10 @@ ghost use Rattle.language.specs.Limits.{mostThreads};
 ghost use Rattle.text.specs.Frames.{framesOf};
 ghost use Rattle.program.specs.Programs.{programOf};
 ghost use Rattle.machine.specs.Offsets.{stateLength};
-ghost use Rattle.commits.specs.inner.Commits.{CommitWords, after, committedIn, called};
+ghost use Rattle.commits.specs.inner.Commits.{CommitWords, turnResultIn, committedIn};
 ghost use Rattle.commits.specs.inner.Commits.{leavesList, unlistedIn, enlistedIn};
 ghost use Rattle.commits.specs.inner.Commits.{followedIn, Follows};
+ghost use Rattle.machine.specs.Calls.{callResult};
 
 // Whether the thread leaves its list; a starter does where it waits.
 fn leaves(passed: Passed) -> bool
@@ -55,7 +56,7 @@ fn enlist(state: &mut [u64], t: u64, passed: Passed)
     }
 }
 
-// The lists behind a turn that is settled.
+// The lists after a turn that is settled.
 fn follow(state: &mut [u64], choice: u64, t: u64, passed: Passed)
     requires { ⌜ (length (now state) ≡ stateLength) × (t ≤ mostThreads)
         × Follows (now state) passed ⌝ }
@@ -67,11 +68,18 @@ fn follow(state: &mut [u64], choice: u64, t: u64, passed: Passed)
 
 // The answer. The turn of thread t has changed the cells and their count; `before` cells were in
 // use. A refusal takes back the cells made.
-pub fn commit(frames: &[u64], state: &mut [u64], before: usize, choice: u64, t: u64, a: Acted) -> u8
+pub fn commit(
+    frames: &[u64],
+    state: &mut [u64],
+    before: usize,
+    choice: u64,
+    t: u64,
+    a: Action,
+) -> u8
     requires { ⌜ CommitWords (now state) t a ⌝ }
-    ensures { λ r. ⌜ called r t (now (state .exit))
+    ensures { λ r. ⌜ callResult r t (now (state .exit))
         ≡ committedIn (programOf (framesOf (now (frames .entry)))) (now (state .entry)) before
-        choice t (after (now (state .entry)) t a) (a .fate) ⌝ }
+        choice t (turnResultIn (now (state .entry)) t a) (a .transition) ⌝ }
 {
     match decide(frames, state, t, a) {
         Decision::Refuse(n) => {

@@ -1,10 +1,10 @@
-// What the fate of a turn comes to on the lent words: refused with a number, or passed. Nothing is
-// written before that is known.
+// What the transition of a turn comes to on the lent words: refused with a number, or passed.
+// Nothing is written before that is known.
 use crate::change::place_after;
 use crate::writing::room_at;
-use acts::act::Acted;
+use acts::act::Action;
 use acts::act::Arguments;
-use acts::act::Fate;
+use acts::act::Transition;
 use language::Place;
 use language::limit::MOST_THREADS;
 use language::refusal::STUCK;
@@ -22,7 +22,7 @@ ghost use Rattle.machine.specs.Offsets.{stateLength};
 ghost use Rattle.commits.specs.inner.Commits.{CommitWords, obstacleIn, startDecided};
 ghost use Rattle.commits.specs.inner.Commits.{decidedIn};
 
-// What the lists do behind a turn that nothing refuses. The thread keeps its entry; it leaves its
+// What the lists do after a turn that nothing refuses. The thread keeps its entry; it leaves its
 // list; it leaves it and joins the next list of that scheduler. Or a thread of that body starts at
 // that scheduler with those arguments, and the starter waits for it or not.
 pub(crate) enum Passed {
@@ -42,8 +42,6 @@ fn obstacle(state: &[u64], found: ModuleFound, place: Place, given: u64) -> u8
     requires { ⌜ length (now state) ≡ stateLength ⌝ }
     ensures { λ r. ⌜ r ≡ obstacleIn (now (state .entry)) found (place .number) given ⌝ }
 {
-    let room = room_at(state, place, 1);
-    let threads = thread_count(state);
     if place.is_private() {
         return STUCK;
     }
@@ -53,10 +51,10 @@ fn obstacle(state: &[u64], found: ModuleFound, place: Place, given: u64) -> u8
     if found.parameters != given {
         return STUCK;
     }
-    if !room {
+    if !room_at(state, place, 1) {
         return STUCK;
     }
-    if MOST_THREADS as u64 <= threads {
+    if MOST_THREADS as u64 <= thread_count(state) {
         return THREADS_SPENT;
     }
     0
@@ -67,7 +65,7 @@ fn decide_start(
     frames: &[u64],
     state: &[u64],
     t: u64,
-    a: Acted,
+    a: Action,
     waits: bool,
     m: u8,
     args: Arguments,
@@ -94,22 +92,22 @@ fn decide_start(
     Decision::Settle(Passed::Start(waits, place, found.body, args))
 }
 
-pub(crate) fn decide(frames: &[u64], state: &[u64], t: u64, a: Acted) -> Decision
+pub(crate) fn decide(frames: &[u64], state: &[u64], t: u64, a: Action) -> Decision
     requires { ⌜ CommitWords (now state) t a ⌝ }
     ensures { λ r. ⌜ r ≡ decidedIn (programOf (framesOf (now (frames .entry))))
-        (now (state .entry)) t a (a .fate) ⌝ }
+        (now (state .entry)) t a (a .transition) ⌝ }
 {
-    let fate = a.fate;
-    match fate {
-        Fate::Refused(n) => Decision::Refuse(n),
-        Fate::Stays => Decision::Settle(Passed::Keep),
-        Fate::Leaves => Decision::Settle(Passed::Leave),
-        Fate::Joins(q) => {
+    let transition = a.transition;
+    match transition {
+        Transition::Refused(n) => Decision::Refuse(n),
+        Transition::Stays => Decision::Settle(Passed::Keep),
+        Transition::Leaves => Decision::Settle(Passed::Leave),
+        Transition::Joins(q) => {
             if room_at(state, q, 1) {
                 return Decision::Settle(Passed::Join(q));
             }
             Decision::Refuse(STUCK)
         },
-        Fate::Starts(waits, m, args) => decide_start(frames, state, t, a, waits, m, args),
+        Transition::Starts(waits, m, args) => decide_start(frames, state, t, a, waits, m, args),
     }
 }

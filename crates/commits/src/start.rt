@@ -1,5 +1,5 @@
 // A start that nothing refuses: the new thread is the last, and the last in the starter's next
-// list; a starter that waits stands behind it.
+// list; a starter that waits stands after it.
 use crate::writing::join;
 use acts::act::Arguments;
 use language::Place;

@@ -15,7 +15,7 @@ ghost use Rattle.language.specs.Places.{isScheduler};
 ghost use Rattle.language.specs.Limits.{mostCells};
 ghost use Rattle.machine.specs.Offsets.{stateLength};
 ghost use Rattle.states.specs.inner.Threads.{threadIn};
-ghost use Rattle.acts.specs.inner.Fates.{changed, popped};
+ghost use Rattle.acts.specs.inner.Transitions.{changed, popped};
 ghost use Rattle.commits.specs.inner.Commits.{countIn, clearedIn, settledIn, roomIn};
 ghost use Rattle.commits.specs.inner.Commits.{joinedIn, SettleWords};
 

@@ -2,19 +2,20 @@
 -- (`agree`), and so do the contracts of `evaluate` and `store`. Assumes nothing.
 use mathlib.Core.Path.{_≡_, refl, sym, ap, _∙_, subst}
 use mathlib.Core.List.{List, [], _∷_, map}
-use mathlib.Core.Bool.{Bool, true, false}
+use mathlib.Core.Bool.{Bool, true, false, not}
 use Prim.Native.Nat.{ℕ, _+_, _%_, _^_, _<_}
 use native.Mathlib.Omega.{arith}
-use lib.Dec.{ltb}
+use lib.Dec.{ltb, leb}
 use lib.ListN.{length, getD, set, length-map, List·getD-map}
-use borrow.Author.Tests.{ltb-true, lt-ltb}
+use borrow.Author.Tests.{ltb-true, ltb-false, lt-ltb, lt-leb, le-leb}
+use Rattle.basics.specs.If.{if_then_else_}
 use Rattle.basics.proofs.Ifs.{if-all, if-yes, if-no}
 use Rattle.text.specs.Frames.{framesOf}
 use Rattle.program.specs.Trees.{Expr, number, truth, variable, shared, new, content, sum, less}
 use Rattle.program.specs.Trees.{choose, expressionAt}
 use Rattle.machine.specs.State.{Stored, cellAt, isUsed, freeNumber, usedCells}
 use Rattle.machine.specs.Evaluation as def
-use Rattle.machine.specs.Evaluation.{Here, Evaluated, Evaluation, gives, accessOf, accessing}
+use Rattle.machine.specs.Evaluation.{Here, EvalResult, Evaluation, gives, accessOf, accessing}
 use Rattle.machine.specs.Evaluation.{atCell, isOwn, newOwner, readVariable, sharedCell, addCell}
 use Rattle.machine.specs.Evaluation.{makeCell, readCell, storeCell, ofNumbers, plus, lessThan}
 use Rattle.machine.specs.Evaluation.{byTruth, eval, storing, _>>=_}
@@ -27,13 +28,13 @@ use Rattle.machine.specs.Shapes as shape
 use Rattle.machine.specs.Shapes.{ValueFits}
 use Rattle.machine.proofs.KeptCells.{OutcomeFits, is-value, is-foreign, is-spent, is-stuck}
 use Rattle.operations.specs.declared.Who.{Who}
-use Rattle.operations.specs.inner.Results.{Result, result, thenBy, andThen, keeping}
+use Rattle.operations.specs.inner.Results.{Result, result, thenBy, andThenIn, keeping}
 use Rattle.evaluator.specs.inner.Results.{hereOf, resultOf, onWords, cellsFrom, CellWords}
 use Rattle.evaluator.specs.inner.Results.{ValueWords}
-use Rattle.operations.specs.inner.ByWords.{valueIn, ownerIn, contentIn, cellOf, ownIn, newOwnerIn}
-use Rattle.operations.specs.inner.ByWords.{variableIn, sharedIn, makeIn, accessIn, readIn, reading}
-use Rattle.operations.specs.inner.ByWords.{storeIn, aTruth, chosen}
-use Rattle.evaluator.specs.inner.ByWords.{numbersOf, aNumber, evalIn, storingIn}
+use Rattle.operations.specs.inner.ByWords.{valueIn, ownerIn, contentIn, cellWordOf, ownIn, newOwnerIn}
+use Rattle.operations.specs.inner.ByWords.{variableIn, sharedIn, makeIn, accessIn, readIn, readingIn}
+use Rattle.operations.specs.inner.ByWords.{putIn, storeIn, aTruth, chosen}
+use Rattle.evaluator.specs.inner.ByWords.{numbersOf, aNumberIn, evalIn, storingIn}
 use Rattle.operations.proofs.Chains.{Refused, then-is, then-keeps}
 use Rattle.evaluator.proofs.Chains.{regroup}
 use Rattle.operations.proofs.WordLaws.{value-same, value-fits, owner-back, content-back}
@@ -42,16 +43,16 @@ use Rattle.evaluator.proofs.Holding.{Holds, holds-at, holds-from, holds
 use Rattle.evaluator.proofs.Holding.{holds-put}
 
 -- what the recursion gives on words, and what the definition gives on cells
-record Agrees (l : Result) (r : Evaluated) : Type 0 where
+record Agrees (l : Result) (r : EvalResult) : Type 0 where
   pub outcome : l .outcome ≡ r .outcome
   pub cells : Holds (l .used) (l .words) (r .cells)
   pub fits : OutcomeFits (r .outcome)
 
--- ---- one after the other: what agrees behind what agrees
-agree-left : {l k : Result} {r : Evaluated} → l ≡ k → Agrees k r → Agrees l r
+-- ---- one after the other: what agrees after what agrees
+agree-left : {l k : Result} {r : EvalResult} → l ≡ k → Agrees k r → Agrees l r
 agree-left {r = r} e a = subst (λ (x : Result). Agrees x r) (sym e) a
 
-agree-at : (f : Value → ℕ → List ℕ → Result) (k : Value → Evaluation) (n : ℕ) (ws : List ℕ) (r : Evaluated) (o : Outcome)
+agree-at : (f : Value → ℕ → List ℕ → Result) (k : Value → Evaluation) (n : ℕ) (ws : List ℕ) (r : EvalResult) (o : Outcome)
     → r .outcome ≡ o → OutcomeFits o → Holds n ws (r .cells)
     → ((v : Value) (m : ℕ) (us : List ℕ) (ds : List Stored) → ValueFits v → Holds m us ds → Agrees (f v m us) (k v ds))
     → Agrees (thenBy o n ws f) (def.andThen k r o)
@@ -68,7 +69,7 @@ agree-at f k n ws r Stuck e x h g =
 agree-then : (l : Result) (m : Evaluation) (f : Value → ℕ → List ℕ → Result) (k : Value → Evaluation) (cs : List Stored)
     → Agrees l (m cs)
     → ((v : Value) (n : ℕ) (us : List ℕ) (ds : List Stored) → ValueFits v → Holds n us ds → Agrees (f v n us) (k v ds))
-    → Agrees (andThen l f) ((m >>= k) cs)
+    → Agrees (andThenIn l f) ((m >>= k) cs)
 agree-then l m f k cs a g =
     subst (λ (o : Outcome). Agrees (thenBy o (l .used) (l .words) f) (def.andThen k (m cs) (m cs .outcome))) (sym (a .outcome))
     (agree-at f k (l .used) (l .words) (m cs) (m cs .outcome) refl (a .fits) (a .cells) g)
@@ -105,12 +106,19 @@ module _ (who : Who) (vs : List ℕ) where
     in-use : (c : ℕ) (b : Bool) → isUsed cs c ≡ b → ltb c n ≡ b
     in-use c b e = ap (ltb c) (holds .count) ∙ e
 
-    -- ---- each kind of expression, behind its operands
+    there : (c : ℕ) → isUsed cs c ≡ true → leb n c ≡ false
+    there c e = lt-leb n c (ltb-true c n (in-use c true e))
+
+    missing : (c : ℕ) → isUsed cs c ≡ false → leb n c ≡ true
+    missing c e = le-leb n c (ltb-false c n (in-use c false e))
+
+    -- ---- each kind of expression, after its operands
     agree-variable : (s : ℕ) → ValueWords vs
         → Agrees (result (variableIn vs s) n ws) (readVariable here s cs)
     unfolding readVariable variableIn
     agree-variable s w =
-        if-all (λ (m : Evaluation). Agrees (result (variableIn vs s) n ws) (m cs)) (ltb s (length (map wordValue vs))) _ _
+        if-all (λ (m : Evaluation). Agrees (result (variableIn vs s) n ws) (m cs))
+        (ltb s (length (map wordValue vs))) _ _
         (λ e. let l : s < length vs = rw length-map at (ltb-true s (length (map wordValue vs)) e) in
         let q : valueIn (getD vs s 0) ≡ wordValue (getD vs s 0) = value-same (getD vs s 0) (w s l) in
         agree-left (ap (λ (o : Outcome). result o n ws) (if-yes _ _ (lt-ltb s (length vs) l) ∙ ap Is (q ∙ sym (variable-at s))))
@@ -120,7 +128,8 @@ module _ (who : Who) (vs : List ℕ) where
     agree-shared : (s : ℕ) → s < 256 → Agrees (result (sharedIn who s) n ws) (sharedCell here s cs)
     unfolding sharedCell sharedIn
     agree-shared s l =
-        if-all (λ (m : Evaluation). Agrees (result (sharedIn who s) n ws) (m cs)) (ltb s (who .shared)) _ _
+        if-all (λ (m : Evaluation). Agrees (result (sharedIn who s) n ws) (m cs))
+        (ltb s (who .shared)) _ _
         (λ e. agree-left (ap (λ (o : Outcome). result o n ws) (if-yes _ _ e)) (unchanged _ (is-value (shape.cell l))))
         (λ e. agree-left (ap (λ (o : Outcome). result o n ws) (if-no _ _ e)) stuck)
 
@@ -128,8 +137,8 @@ module _ (who : Who) (vs : List ℕ) where
         → Agrees (makeIn who s v n ws) (makeCell here s v cs)
     unfolding makeIn makeCell accessing addCell newOwnerIn newOwner
     agree-make s v f =
-        if-all (λ (r : Evaluated). Agrees (makeIn who s v n ws) (def.after (accessOf here (freeNumber cs) o ∷ []) r)) (isOwn here o) _ _
-        (λ e. if-all (λ (r : Evaluated). Agrees (makeIn who s v n ws) (def.after (accessOf here (freeNumber cs) o ∷ []) r)) (ltb (usedCells cs) 256) _ _
+        if-all (λ (r : EvalResult). Agrees (makeIn who s v n ws) (def.withAccesses (accessOf here (freeNumber cs) o ∷ []) r)) (isOwn here o) _ _
+        (λ e. if-all (λ (r : EvalResult). Agrees (makeIn who s v n ws) (def.withAccesses (accessOf here (freeNumber cs) o ∷ []) r)) (ltb (usedCells cs) 256) _ _
         (λ q. let m : usedCells cs < 256 = ltb-true (usedCells cs) 256 q in
         agree-left
         (if-yes _ _ (own-same o true e) ∙ if-yes _ _ (lt-ltb n 256 (inside m (holds .count))))
@@ -157,16 +166,41 @@ module _ (who : Who) (vs : List ℕ) where
           → ownIn who (ownerIn (getD ws c 0)) ≡ b
       own-at b e = ap (ownIn who) owner-at ∙ own-same (cellAt cs c .owner) b e
 
-    agree-read : (v : Value) → Agrees (reading who v n ws) (readCell here v cs)
-    unfolding accessIn readIn readCell atCell accessing
+    -- an access: not there, foreign, or allowed
+    access-missing : (c : ℕ) (v : Value) → isUsed cs c ≡ false
+        → accessIn who c n (getD ws c 0) v ≡ Stuck
+    unfolding accessIn
+    access-missing c v e = if-yes _ _ (missing c e)
+
+    access-by : (c : ℕ) (v : Value) (b : Bool) → isUsed cs c ≡ true
+        → isOwn here (cellAt cs c .owner) ≡ b
+        → accessIn who c n (getD ws c 0) v ≡ (if not b then Foreign else Is v)
+    unfolding accessIn
+    access-by c v b e q =
+        if-no _ _ (there c e)
+        ∙ ap (λ (t : Bool). if not t then Foreign else Is v)
+        (own-at c (ltb-true c (length cs) e) b q)
+
+    access-foreign : (c : ℕ) (v : Value) → isUsed cs c ≡ true
+        → isOwn here (cellAt cs c .owner) ≡ false → accessIn who c n (getD ws c 0) v ≡ Foreign
+    access-foreign c v e q = access-by c v false e q ∙ if-yes _ _ refl
+
+    access-is : (c : ℕ) (v : Value) → isUsed cs c ≡ true → isOwn here (cellAt cs c .owner) ≡ true
+        → accessIn who c n (getD ws c 0) v ≡ Is v
+    access-is c v e q = access-by c v true e q ∙ if-no _ _ refl
+
+    agree-read : (v : Value) → Agrees (readingIn who v n ws) (readCell here v cs)
+    unfolding readIn readCell atCell accessing
     agree-read (Cell c) =
-        if-all (Agrees (reading who (Cell c) n ws)) (isUsed cs c) _ _
+        if-all (Agrees (readingIn who (Cell c) n ws)) (isUsed cs c) _ _
         (λ e. let l : c < length cs = ltb-true c (length cs) e in
-        if-all (λ (r : Evaluated). Agrees (reading who (Cell c) n ws) (def.after (accessOf here c (cellAt cs c .owner) ∷ []) r)) (isOwn here (cellAt cs c .owner)) _ _
-        (λ q. agree-left (ap (λ (o : Outcome). result o n ws) (if-yes _ _ (in-use c true e) ∙ if-yes _ _ (own-at c l true q) ∙ ap Is (content-at c l)))
+        if-all (λ (r : EvalResult). Agrees (readingIn who (Cell c) n ws) (def.withAccesses (accessOf here c (cellAt cs c .owner) ∷ []) r)) (isOwn here (cellAt cs c .owner)) _ _
+        (λ q. agree-left
+        (ap (λ (o : Outcome). result o n ws) (access-is c _ e q ∙ ap Is (content-at c l)))
         (record { outcome = refl; cells = holds; fits = is-value (holds .each c l) }))
-        (λ q. agree-left (ap (λ (o : Outcome). result o n ws) (if-yes _ _ (in-use c true e) ∙ if-no _ _ (own-at c l false q))) (record { outcome = refl; cells = holds; fits = is-foreign })))
-        (λ e. agree-left (ap (λ (o : Outcome). result o n ws) (if-no _ _ (in-use c false e))) stuck)
+        (λ q. agree-left (ap (λ (o : Outcome). result o n ws) (access-foreign c _ e q))
+        (record { outcome = refl; cells = holds; fits = is-foreign })))
+        (λ e. agree-left (ap (λ (o : Outcome). result o n ws) (access-missing c _ e)) stuck)
     agree-read (Number m) = stuck
     agree-read (Truth b) = stuck
 
@@ -176,11 +210,18 @@ module _ (who : Who) (vs : List ℕ) where
     agree-store (Cell c) u f =
         if-all (Agrees (storeIn who (Cell c) u n ws)) (isUsed cs c) _ _
         (λ e. let l : c < length cs = ltb-true c (length cs) e in
-        if-all (λ (r : Evaluated). Agrees (storeIn who (Cell c) u n ws) (def.after (accessOf here c (cellAt cs c .owner) ∷ []) r)) (isOwn here (cellAt cs c .owner)) _ _
-        (λ q. agree-left (if-yes _ _ (in-use c true e) ∙ if-yes _ _ (own-at c l true q) ∙ ap (λ (o : ℕ). result (Is u) n (set ws c (cellOf o u))) (owner-at c l))
+        if-all (λ (r : EvalResult). Agrees (storeIn who (Cell c) u n ws) (def.withAccesses (accessOf here c (cellAt cs c .owner) ∷ []) r)) (isOwn here (cellAt cs c .owner)) _ _
+        (λ q. agree-left
+        (by-access (access-is c u e q)
+        ∙ ap (λ (o : ℕ). result (Is u) n (set ws c (cellWordOf o u))) (owner-at c l))
         (record { outcome = refl; cells = holds-put n ws cs c (record { owner = cellAt cs c .owner; content = u }) holds l f; fits = is-value f }))
-        (λ q. agree-left (if-yes _ _ (in-use c true e) ∙ if-no _ _ (own-at c l false q)) (record { outcome = refl; cells = holds; fits = is-foreign })))
-        (λ e. agree-left (if-no _ _ (in-use c false e)) stuck)
+        (λ q. agree-left (by-access (access-foreign c u e q))
+        (record { outcome = refl; cells = holds; fits = is-foreign })))
+        (λ e. agree-left (by-access (access-missing c u e)) stuck)
+      where
+        by-access : {o : Outcome} → accessIn who c n (getD ws c 0) u ≡ o
+            → thenBy (accessIn who c n (getD ws c 0) u) n ws (putIn c) ≡ thenBy o n ws (putIn c)
+        by-access e = ap (λ (o : Outcome). thenBy o n ws (putIn c)) e
     agree-store (Number m) u f = stuck
     agree-store (Truth b) u f = stuck
 
@@ -193,7 +234,7 @@ module _ (who : Who) (vs : List ℕ) where
     agree-numbers g f (Truth b) u = stuck
     agree-numbers g f (Cell c) u = stuck
 
-    agree-number : (v : Value) → ValueFits v → Agrees (keeping aNumber v n ws) (def.aNumber v cs)
+    agree-number : (v : Value) → ValueFits v → Agrees (keeping aNumberIn v n ws) (def.aNumber v cs)
     unfolding def.aNumber
     agree-number (Number m) f = unchanged _ (is-value f)
     agree-number (Truth b) f = stuck
@@ -220,10 +261,11 @@ module _ (who : Who) (vs : List ℕ) where
   branches : (y z : Expr) (v : Value) (m : ℕ) (us : List ℕ) (ds : List Stored)
       → Agrees (evalIn who vs y m us) (eval here y ds)
       → Agrees (evalIn who vs z m us) (eval here z ds) → Holds m us ds
-      → Agrees (andThen (keeping aTruth v m us) (λ v m us. andThen (chosen v (evalIn who vs y m us) (evalIn who vs z m us)) (keeping aNumber)))
+      → Agrees (andThenIn (keeping aTruth v m us) (λ v m us. andThenIn (chosen v (evalIn who vs y m us) (evalIn who vs z m us)) (keeping aNumberIn)))
       ((byTruth v (eval here y) (eval here z) >>= def.aNumber) ds)
   branches y z (Truth t) m us ds a b q =
-      agree-then (chosen (Truth t) (evalIn who vs y m us) (evalIn who vs z m us)) (byTruth (Truth t) (eval here y) (eval here z)) (keeping aNumber) def.aNumber ds
+      agree-then (chosen (Truth t) (evalIn who vs y m us) (evalIn who vs z m us))
+      (byTruth (Truth t) (eval here y) (eval here z)) (keeping aNumberIn) def.aNumber ds
       (agree-choice t (evalIn who vs y m us) (evalIn who vs z m us) (eval here y) (eval here z) ds a b)
       (λ u k ts es f r. agree-number k ts es r u f)
   branches y z (Number k) m us ds a b q = stuck-number k (eval here y) (eval here z) m us ds q
@@ -239,9 +281,11 @@ module _ (who : Who) (vs : List ℕ) where
     agree (variable i k) n ws cs s g = agree-variable n ws cs g k w
     agree (shared i k) n ws cs s g = agree-shared n ws cs g k s
     agree (new i k x) n ws cs s g =
-        agree-then (evalIn who vs x n ws) (eval here x) (makeIn who k) _ cs (agree x n ws cs s g) (λ v m us ds f q. agree-make m us ds q k v f)
+        agree-then (evalIn who vs x n ws) (eval here x) (makeIn who k) _ cs (agree x n ws cs s g)
+        (λ v m us ds f q. agree-make m us ds q k v f)
     agree (content i x) n ws cs s g =
-        agree-then (evalIn who vs x n ws) (eval here x) (reading who) _ cs (agree x n ws cs s g) (λ v m us ds f q. agree-read m us ds q v)
+        agree-then (evalIn who vs x n ws) (eval here x) (readingIn who) _ cs (agree x n ws cs s g)
+        (λ v m us ds f q. agree-read m us ds q v)
     agree (sum i x y) n ws cs s g =
         agree-then (evalIn who vs x n ws) (eval here x) _ _ cs (agree x n ws cs (s .0) g)
         (λ v m us ds f q. agree-then (evalIn who vs y m us) (eval here y) (keeping (numbersOf plus v)) _ ds (agree y m us ds (s .1) q)
@@ -251,7 +295,7 @@ module _ (who : Who) (vs : List ℕ) where
         (λ v m us ds f q. agree-then (evalIn who vs y m us) (eval here y) (keeping (numbersOf lessThan v)) _ ds (agree y m us ds (s .1) q)
         (λ u k ts es z r. agree-numbers k ts es r lessThan (λ _ _. shape.truth) v u))
     agree (choose i x y z) n ws cs s g =
-        agree-left (regroup (evalIn who vs x n ws) (keeping aTruth) (λ v m us. andThen (chosen v (evalIn who vs y m us) (evalIn who vs z m us)) (keeping aNumber)))
+        agree-left (regroup (evalIn who vs x n ws) (keeping aTruth) (λ v m us. andThenIn (chosen v (evalIn who vs y m us) (evalIn who vs z m us)) (keeping aNumberIn)))
         (agree-then (evalIn who vs x n ws) (eval here x) _ _ cs (agree x n ws cs (s .0) g) (λ v m us ds f q. branches y z v m us ds (agree y m us ds (s .1) q) (agree z m us ds (s .2) q) q))
 
     agree-storing : (x y : Expr) (n : ℕ) (ws : List ℕ) (cs : List Stored) → Small x → Small y
@@ -262,9 +306,10 @@ module _ (who : Who) (vs : List ℕ) where
         (λ u k ts es z r. agree-store k ts es r v u z))
 
 -- ---- as equations, for the contracts
-equation : (l : Result) (r : Evaluated) → Agrees l r → l ≡ resultOf r
+equation : (l : Result) (r : EvalResult) → Agrees l r → l ≡ resultOf r
 equation l r a =
-    ap (λ (o : Outcome). result o (l .used) (l .words)) (a .outcome) ∙ ap (λ (n : ℕ). result (r .outcome) n (l .words)) (a .cells .count)
+    ap (λ (o : Outcome). result o (l .used) (l .words)) (a .outcome)
+    ∙ ap (λ (n : ℕ). result (r .outcome) n (l .words)) (a .cells .count)
     ∙ ap (λ (ws : List ℕ). result (r .outcome) (usedCells (r .cells)) ws) (a .cells .words)
 
 pub eval-on : (fw vs : List ℕ) (who : Who) (i n : ℕ) (ws : List ℕ) (r : Result)
@@ -277,7 +322,8 @@ eval-on fw vs who i n ws r w g e =
 
 storing-on : (fw vs : List ℕ) (who : Who) (a b n : ℕ) (ws : List ℕ) → ValueWords vs → CellWords n ws
     → storingIn who vs (expressionAt (framesOf fw) a) (expressionAt (framesOf fw) b) n ws
-    ≡ onWords (storing (hereOf who vs) (expressionAt (framesOf fw) a) (expressionAt (framesOf fw) b)) n ws
+    ≡ onWords
+    (storing (hereOf who vs) (expressionAt (framesOf fw) a) (expressionAt (framesOf fw) b)) n ws
 unfolding onWords
 storing-on fw vs who a b n ws w g =
     equation _ _ (agree-storing who vs w (expressionAt (framesOf fw) a) (expressionAt (framesOf fw) b) n ws (cellsFrom n ws) (small-at fw a) (small-at fw b) (holds-from n ws g))
@@ -290,28 +336,32 @@ pub eval-leaves : (fw vs : List ℕ) (who : Who) (i n : ℕ) (ws : List ℕ) (x 
 unfolding onWords
 eval-leaves fw vs who i n ws x w g e =
     let a = agree who vs w (expressionAt (framesOf fw) i) n ws (cellsFrom n ws) (small-at fw i) (holds-from n ws g) in
-    subst (λ (y : Result). CellWords (y .used) (y .words)) (equation _ _ a ∙ sym e) (holds-words _ _ _ (a .cells))
+    subst (λ (y : Result). CellWords (y .used) (y .words)) (equation _ _ a ∙ sym e)
+    (holds-words _ _ _ (a .cells))
 
 -- ---- the returns of `store`
 module _ (fw vs : List ℕ) (who : Who) (a b n : ℕ) (ws : List ℕ) (w : ValueWords vs) (g : CellWords n ws) where
   second : Value → ℕ → List ℕ → Result
-  second v m us = andThen (evalIn who vs (expressionAt (framesOf fw) b) m us) (storeIn who v)
+  second v m us = andThenIn (evalIn who vs (expressionAt (framesOf fw) b) m us) (storeIn who v)
 
   pub store-runs : (x y r : Result) (v : Value)
       → x ≡ evalIn who vs (expressionAt (framesOf fw) a) n ws → x .outcome ≡ Is v
       → y ≡ evalIn who vs (expressionAt (framesOf fw) b) (x .used) (x .words)
-      → r ≡ andThen y (storeIn who v)
+      → r ≡ andThenIn y (storeIn who v)
       → r
-      ≡ onWords (storing (hereOf who vs) (expressionAt (framesOf fw) a) (expressionAt (framesOf fw) b)) n ws
+      ≡ onWords
+      (storing (hereOf who vs) (expressionAt (framesOf fw) a) (expressionAt (framesOf fw) b)) n ws
   unfolding second
   store-runs x y r v e o k z =
-      then-is x v second r o (z ∙ ap (λ (u : Result). andThen u (storeIn who v)) k) ∙ ap (λ (u : Result). andThen u second) e ∙ storing-on fw vs who a b n ws w g
+      then-is x v second r o (z ∙ ap (λ (u : Result). andThenIn u (storeIn who v)) k)
+      ∙ ap (λ (u : Result). andThenIn u second) e ∙ storing-on fw vs who a b n ws w g
 
   pub store-keeps : (x : Result) (o : Outcome)
       → x ≡ evalIn who vs (expressionAt (framesOf fw) a) n ws → x .outcome ≡ o → Refused o
       → x
-      ≡ onWords (storing (hereOf who vs) (expressionAt (framesOf fw) a) (expressionAt (framesOf fw) b)) n ws
+      ≡ onWords
+      (storing (hereOf who vs) (expressionAt (framesOf fw) a) (expressionAt (framesOf fw) b)) n ws
   unfolding second
   store-keeps x o e q t =
-      then-keeps x second o q t ∙ ap (λ (u : Result). andThen u second) e
+      then-keeps x second o q t ∙ ap (λ (u : Result). andThenIn u second) e
       ∙ storing-on fw vs who a b n ws w g

@@ -1,5 +1,5 @@
 -- The returns of `value_at`, `number_at` and `truth_at`, a law for each: w are the state's words at
--- entry, t and u behind an operand. Assumes nothing.
+-- entry, t and u after an operand. Assumes nothing.
 use mathlib.Core.Path.{_≡_, refl, sym, ap, _∙_}
 use mathlib.Core.List.{List}
 use mathlib.Core.Bool.{true, false}
@@ -19,14 +19,14 @@ use Rattle.machine.specs.declared.value.Value.{Value}
 use Rattle.machine.specs.declared.value.Outcome.{Outcome}
 use Rattle.operations.specs.declared.Who.{Who}
 use Rattle.operations.specs.declared.operand.Operand.{Operand}
-use Rattle.operations.specs.inner.Lent.{countOf, cellsOf}
-use Rattle.operations.specs.inner.Results.{Result, result, resultIn, andThen, onlyBy, keeping}
+use Rattle.operations.specs.inner.Lent.{lentCount, lentCells}
+use Rattle.operations.specs.inner.Results.{Result, result, resultIn, andThenIn, onlyBy, keeping}
 use Rattle.operations.specs.inner.ByWords.{leafIn, usingIn, operation, aTruth, chosen, bothBy}
 use Rattle.operations.specs.inner.ByWords.{operandOf, outcomeOf, operandStops, outcomeStops}
 use Rattle.operations.specs.inner.ByWords.{chosenBy}
 use Rattle.evaluator.specs.inner.Results.{FrameWords}
-use Rattle.evaluator.specs.inner.ByWords.{numbersOf, aNumber, wantedIn, WantedResult}
-use Rattle.evaluator.specs.inner.ByWords.{numberOf, evalIn, numberIn, truthIn}
+use Rattle.evaluator.specs.inner.ByWords.{numbersOf, aNumberIn, wantedIn, WantedResult}
+use Rattle.evaluator.specs.inner.ByWords.{wantedNumber, evalIn, numberIn, truthIn}
 use Rattle.evaluator.proofs.Chains.{only-keeping, number-stopped, stopped-number}
 use Rattle.evaluator.proofs.Chains.{stops-answer, stopped, numbers-ran, choice-ran}
 use Rattle.evaluator.proofs.Nodes.{NodeAt}
@@ -37,43 +37,45 @@ module _ (fw vs : List ℕ) (who : Who) where
   at = expressionAt (framesOf fw)
 
   abbrev run : Expr → List ℕ → Result
-  run x w = evalIn who vs x (countOf w) (cellsOf w)
+  run x w = evalIn who vs x (lentCount w) (lentCells w)
 
   -- what the recursion gives at frame i: as a value, as a number, as a truth
   abbrev Ran : ℕ → List ℕ → Result → Type 0
   Ran i w x = x ≡ run (at i) w
 
   abbrev RanNumber : ℕ → List ℕ → WantedResult → Type 0
-  RanNumber i w x = x ≡ numberIn who vs (at i) (countOf w) (cellsOf w)
+  RanNumber i w x = x ≡ numberIn who vs (at i) (lentCount w) (lentCells w)
 
   abbrev RanTruth : ℕ → List ℕ → Result → Type 0
-  RanTruth i w x = x ≡ truthIn who vs (at i) (countOf w) (cellsOf w)
+  RanTruth i w x = x ≡ truthIn who vs (at i) (lentCount w) (lentCells w)
 
   -- what follows the first operand of 26 or 27, and the condition of 28
   abbrev second : Operator → ℕ → Value → ℕ → List ℕ → Result
-  second op b v m us = andThen (evalIn who vs (at b) m us) (keeping (numbersOf (operation op) v))
+  second op b v m us = andThenIn (evalIn who vs (at b) m us) (keeping (numbersOf (operation op) v))
 
   abbrev branch : ℕ → ℕ → Value → ℕ → List ℕ → Result
   branch b c v m us =
-      andThen (chosen v (evalIn who vs (at b) m us) (evalIn who vs (at c) m us)) (keeping aNumber)
+      andThenIn (chosen v (evalIn who vs (at b) m us) (evalIn who vs (at c) m us))
+      (keeping aNumberIn)
 
   -- a value as a number, and as a truth
   pub to-number : (i : ℕ) (w u : List ℕ) (o : Outcome) (p : Operand)
       → Ran i w (resultIn o u) → p ≡ operandOf o → RanNumber i w (wantedIn p u)
-  to-number i w u o p k z = ap (λ (q : Operand). wantedIn q u) z ∙ ap numberOf k
+  to-number i w u o p k z = ap (λ (q : Operand). wantedIn q u) z ∙ ap wantedNumber k
 
   pub to-truth : (i : ℕ) (w u : List ℕ) (o r : Outcome)
       → Ran i w (resultIn o u) → r ≡ onlyBy o aTruth → RanTruth i w (resultIn r u)
   to-truth i w u o r k z =
       ap (λ (p : Outcome). resultIn p u) z
-      ∙ only-keeping o aTruth (countOf u) (cellsOf u)
-      ∙ ap (λ (x : Result). andThen x (keeping aTruth)) k
+      ∙ only-keeping o aTruth (lentCount u) (lentCells u)
+      ∙ ap (λ (x : Result). andThenIn x (keeping aTruth)) k
 
   -- a refusal as a truth: itself
   pub stopped-truth : (i : ℕ) (w u : List ℕ) (o : Outcome)
       → Ran i w (resultIn o u) → outcomeStops o ≡ true → RanTruth i w (resultIn o u)
   stopped-truth i w u o k h =
-      stopped (resultIn o u) (keeping aTruth) h ∙ ap (λ (x : Result). andThen x (keeping aTruth)) k
+      stopped (resultIn o u) (keeping aTruth) h
+      ∙ ap (λ (x : Result). andThenIn x (keeping aTruth)) k
 
   module _ (i : ℕ) (w : List ℕ) (h : FrameWords fw i) where
     -- it is enough to meet the tree that the node makes
@@ -84,7 +86,7 @@ module _ (fw vs : List ℕ) (who : Who) where
 
     -- no operand
     leaf-tree : (l : Leaf)
-        → result (leafIn who vs l) (countOf w) (cellsOf w) ≡ run (treeOf at i (Plain l)) w
+        → result (leafIn who vs l) (lentCount w) (lentCells w) ≡ run (treeOf at i (Plain l)) w
     unfolding evalIn leafIn
     leaf-tree (Leaf.Number m) = refl
     leaf-tree (Leaf.Truth s) = refl
@@ -98,16 +100,16 @@ module _ (fw vs : List ℕ) (who : Who) where
 
     -- one operand
     using-tree : (u : CellUse) (a : ℕ)
-        → andThen (run (at a) w) (usingIn who u) ≡ run (treeOf at i (OfValue u a)) w
+        → andThenIn (run (at a) w) (usingIn who u) ≡ run (treeOf at i (OfValue u a)) w
     unfolding evalIn
     using-tree (Make s) a = refl
     using-tree Read a = refl
 
     pub case-cells : (u : CellUse) (a : ℕ) (x r : Result)
-        → NodeAt fw i (OfValue u a) → Ran a w x → r ≡ andThen x (usingIn who u) → Ran i w r
+        → NodeAt fw i (OfValue u a) → Ran a w x → r ≡ andThenIn x (usingIn who u) → Ran i w r
     case-cells u a x r e q k =
         at-node (OfValue u a) r e
-        (k ∙ ap (λ (y : Result). andThen y (usingIn who u)) q ∙ using-tree u a)
+        (k ∙ ap (λ (y : Result). andThenIn y (usingIn who u)) q ∙ using-tree u a)
 
     -- two numbers: the first is refused, or the second is evaluated on what the first left
     pub case-first : (op : Operator) (a b : ℕ) (p : Operand) (r : Outcome) (t : List ℕ)
@@ -127,7 +129,7 @@ module _ (fw vs : List ℕ) (who : Who) where
         → NodeAt fw i (OfNumbers op a b) → RanNumber a w (wantedIn p t)
         → operandStops p ≡ true → RanNumber i w (wantedIn p t)
     first-as-number op a b p t e q s =
-        stopped-number p t s ∙ ap numberOf (case-first op a b p (outcomeOf p) t e q s refl)
+        stopped-number p t s ∙ ap wantedNumber (case-first op a b p (outcomeOf p) t e q s refl)
 
     pub first-as-truth : (op : Operator) (a b : ℕ) (p : Operand) (r : Outcome) (t : List ℕ)
         → NodeAt fw i (OfNumbers op a b) → RanNumber a w (wantedIn p t)
@@ -149,14 +151,14 @@ module _ (fw vs : List ℕ) (who : Who) where
         go Sum = numbers-ran Sum (evalIn who vs (at b)) (run (at a) w) p q t u x s y
         go Less = numbers-ran Less (evalIn who vs (at b)) (run (at a) w) p q t u x s y
 
-    -- a truth, and behind it one of two numbers
+    -- a truth, and after it one of two numbers
     pub case-condition : (a b c : ℕ) (o : Outcome) (t : List ℕ)
         → NodeAt fw i (Choose a b c) → RanTruth a w (resultIn o t)
         → outcomeStops o ≡ true → Ran i w (resultIn o t)
     unfolding evalIn
     case-condition a b c o t e q s =
         at-node (Choose a b c) (resultIn o t) e
-        (stopped (resultIn o t) (branch b c) s ∙ ap (λ (x : Result). andThen x (branch b c)) q)
+        (stopped (resultIn o t) (branch b c) s ∙ ap (λ (x : Result). andThenIn x (branch b c)) q)
 
     pub case-choice : (a b c j : ℕ) (o : Outcome) (p : Operand) (r : Outcome) (t u : List ℕ)
         → NodeAt fw i (Choose a b c) → RanTruth a w (resultIn o t)
@@ -167,4 +169,4 @@ module _ (fw vs : List ℕ) (who : Who) where
         at-node (Choose a b c) (resultIn r u) e
         (ap (λ (x : Outcome). resultIn x u) z
         ∙ choice-ran (λ f m us. evalIn who vs (at f) m us) b c j o p t u s d k
-        ∙ ap (λ (x : Result). andThen x (branch b c)) q)
+        ∙ ap (λ (x : Result). andThenIn x (branch b c)) q)

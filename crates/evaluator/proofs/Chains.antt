@@ -1,4 +1,4 @@
--- One evaluation behind another, where a number or a truth is wanted: a value goes on, a refusal
+-- One evaluation after another, where a number or a truth is wanted: a value goes on, a refusal
 -- stands. Assumes nothing.
 use mathlib.Core.Path.{_≡_, refl, sym, ap, _∙_}
 use mathlib.Core.List.{List}
@@ -11,13 +11,13 @@ use Rattle.machine.specs.declared.value.Value.the-variants.{Number, Truth, Cell
 use Rattle.machine.specs.declared.value.Outcome.{Outcome}
 use Rattle.machine.specs.declared.value.Outcome.the-variants.{Is, Foreign, Spent, Stuck}
 use Rattle.operations.specs.declared.operand.Operand.{Operand}
-use Rattle.operations.specs.inner.Lent.{countOf, cellsOf}
-use Rattle.operations.specs.inner.Results.{Result, result, resultIn, thenBy, andThen, onlyBy}
+use Rattle.operations.specs.inner.Lent.{lentCount, lentCells}
+use Rattle.operations.specs.inner.Results.{Result, result, resultIn, thenBy, andThenIn, onlyBy}
 use Rattle.operations.specs.inner.Results.{keeping}
 use Rattle.operations.specs.inner.ByWords.{operation, numberOr, operandOf, outcomeOf}
 use Rattle.operations.specs.inner.ByWords.{operandStops, outcomeStops, bothBy, chosen, chosenBy}
-use Rattle.evaluator.specs.inner.ByWords.{numbersOf, WantedResult, wantedIn, numberOf}
-use Rattle.evaluator.specs.inner.ByWords.{aNumber}
+use Rattle.evaluator.specs.inner.ByWords.{numbersOf, WantedResult, wantedIn, wantedNumber}
+use Rattle.evaluator.specs.inner.ByWords.{aNumberIn}
 
 -- ---- what changes no cell: `onlyBy`, and `keeping` beside any cells
 pub only-keeping : (o : Outcome) (k : Value → Outcome) (n : ℕ) (ws : List ℕ)
@@ -30,12 +30,12 @@ only-keeping Stuck k n ws = refl
 -- ---- chains of two
 -- a chain on the left is regrouped
 pub regroup : (l : Result) (f g : Value → ℕ → List ℕ → Result)
-    → andThen (andThen l f) g ≡ andThen l (λ v n ws. andThen (f v n ws) g)
+    → andThenIn (andThenIn l f) g ≡ andThenIn l (λ v n ws. andThenIn (f v n ws) g)
 regroup l f g = go (l .outcome)
   where
     go : (o : Outcome)
-        → andThen (thenBy o (l .used) (l .words) f) g
-        ≡ thenBy o (l .used) (l .words) (λ v n ws. andThen (f v n ws) g)
+        → andThenIn (thenBy o (l .used) (l .words) f) g
+        ≡ thenBy o (l .used) (l .words) (λ v n ws. andThenIn (f v n ws) g)
     go (Is v) = refl
     go Foreign = refl
     go Spent = refl
@@ -53,9 +53,10 @@ stopped-then Foreign n ws k h = refl
 stopped-then Spent n ws k h = refl
 stopped-then Stuck n ws k h = refl
 
--- w: the state's words behind it
+-- w: the state's words after it
 pub number-stopped : (p : Operand) (l : Result) (w : List ℕ) (k : Value → ℕ → List ℕ → Result)
-    → wantedIn p w ≡ numberOf l → operandStops p ≡ true → resultIn (outcomeOf p) w ≡ andThen l k
+    → wantedIn p w ≡ wantedNumber l → operandStops p ≡ true → resultIn (outcomeOf p) w
+    ≡ andThenIn l k
 number-stopped p l w k e h =
     ap (λ (r : WantedResult). result (outcomeOf (r .operand)) (r .used) (r .words)) e
     ∙ stopped-then (l .outcome) (l .used) (l .words) k
@@ -89,7 +90,7 @@ stopped-outcome Spent n ws k h = refl
 stopped-outcome Stuck n ws k h = refl
 
 pub stopped : (x : Result) (k : Value → ℕ → List ℕ → Result) → outcomeStops (x .outcome) ≡ true
-    → x ≡ andThen x k
+    → x ≡ andThenIn x k
 stopped x k h = stopped-outcome (x .outcome) (x .used) (x .words) k h
 
 -- 26 and 27: both operands have run, and only then their kinds are looked at
@@ -113,18 +114,18 @@ both-ran op v Stuck k ws = refl
 second-ran : (op : Operator) (e : ℕ → List ℕ → Result) (o : Outcome) (n : ℕ) (ws : List ℕ)
     → operandStops (operandOf o) ≡ false
     → result (bothBy op (operandOf o) (operandOf (e n ws .outcome))) (e n ws .used) (e n ws .words)
-    ≡ thenBy o n ws (λ v m us. andThen (e m us) (keeping (numbersOf (operation op) v)))
+    ≡ thenBy o n ws (λ v m us. andThenIn (e m us) (keeping (numbersOf (operation op) v)))
 second-ran op e (Is v) n ws h = both-ran op v (e n ws .outcome) (e n ws .used) (e n ws .words)
 second-ran op e Foreign n ws h = absurd (true≢false h)
 second-ran op e Spent n ws h = absurd (true≢false h)
 second-ran op e Stuck n ws h = absurd (true≢false h)
 
--- t: the state's words behind the first operand, u: behind the second
+-- t: the state's words after the first operand, u: after the second
 pub numbers-ran : (op : Operator) (e : ℕ → List ℕ → Result) (l : Result) (p q : Operand)
-    (t u : List ℕ) → wantedIn p t ≡ numberOf l → operandStops p ≡ false
-    → wantedIn q u ≡ numberOf (e (countOf t) (cellsOf t))
+    (t u : List ℕ) → wantedIn p t ≡ wantedNumber l → operandStops p ≡ false
+    → wantedIn q u ≡ wantedNumber (e (lentCount t) (lentCells t))
     → resultIn (bothBy op p q) u
-    ≡ andThen l (λ v m us. andThen (e m us) (keeping (numbersOf (operation op) v)))
+    ≡ andThenIn l (λ v m us. andThenIn (e m us) (keeping (numbersOf (operation op) v)))
 numbers-ran op e l p q t u f h k =
     ap (λ (r : WantedResult). result (bothBy op p (r .operand)) (r .used) (r .words)) k
     ∙ ap (λ (r : WantedResult).
@@ -135,7 +136,7 @@ numbers-ran op e l p q t u f h k =
 
 -- 28's chosen value: a number, or 20
 number-kept : (o : Outcome) (n : ℕ) (ws : List ℕ)
-    → result (outcomeOf (operandOf o)) n ws ≡ thenBy o n ws (keeping aNumber)
+    → result (outcomeOf (operandOf o)) n ws ≡ thenBy o n ws (keeping aNumberIn)
 number-kept (Is (Number m)) n ws = refl
 number-kept (Is (Truth b)) n ws = refl
 number-kept (Is (Cell c)) n ws = refl
@@ -152,21 +153,22 @@ chosen-maps (Cell d) b c g = refl
 -- 28: the code chooses a frame, the definition one of two evaluations; e evaluates a frame
 then-chosen : (e : ℕ → ℕ → List ℕ → Result) (b c : ℕ) (o : Outcome) (n : ℕ) (ws : List ℕ)
     → outcomeStops o ≡ false
-    → andThen (e (chosenBy o b c) n ws) (keeping aNumber)
-    ≡ thenBy o n ws (λ v m us. andThen (chosen v (e b m us) (e c m us)) (keeping aNumber))
+    → andThenIn (e (chosenBy o b c) n ws) (keeping aNumberIn)
+    ≡ thenBy o n ws (λ v m us. andThenIn (chosen v (e b m us) (e c m us)) (keeping aNumberIn))
 then-chosen e b c (Is v) n ws h =
-    ap (λ (r : Result). andThen r (keeping aNumber)) (chosen-maps v b c (λ d. e d n ws))
+    ap (λ (r : Result). andThenIn r (keeping aNumberIn)) (chosen-maps v b c (λ d. e d n ws))
 then-chosen e b c Foreign n ws h = absurd (true≢false h)
 then-chosen e b c Spent n ws h = absurd (true≢false h)
 then-chosen e b c Stuck n ws h = absurd (true≢false h)
 
 pub choice-ran : (e : ℕ → ℕ → List ℕ → Result) (b c j : ℕ) (o : Outcome) (q : Operand)
     (t u : List ℕ) → outcomeStops o ≡ false → j ≡ chosenBy o b c
-    → wantedIn q u ≡ numberOf (e j (countOf t) (cellsOf t))
+    → wantedIn q u ≡ wantedNumber (e j (lentCount t) (lentCells t))
     → resultIn (outcomeOf q) u
-    ≡ andThen (resultIn o t) (λ v m us. andThen (chosen v (e b m us) (e c m us)) (keeping aNumber))
+    ≡ andThenIn (resultIn o t)
+    (λ v m us. andThenIn (chosen v (e b m us) (e c m us)) (keeping aNumberIn))
 choice-ran e b c j o q t u h w k =
     ap (λ (r : WantedResult). result (outcomeOf (r .operand)) (r .used) (r .words)) k
-    ∙ (let r = e j (countOf t) (cellsOf t) in number-kept (r .outcome) (r .used) (r .words))
-    ∙ ap (λ (d : ℕ). andThen (e d (countOf t) (cellsOf t)) (keeping aNumber)) w
-    ∙ then-chosen e b c o (countOf t) (cellsOf t) h
+    ∙ (let r = e j (lentCount t) (lentCells t) in number-kept (r .outcome) (r .used) (r .words))
+    ∙ ap (λ (d : ℕ). andThenIn (e d (lentCount t) (lentCells t)) (keeping aNumberIn)) w
+    ∙ then-chosen e b c o (lentCount t) (lentCells t) h

@@ -30,7 +30,7 @@ pub record Holds (n : ℕ) (ws : List ℕ) (cs : List Stored) : Type 0 where
   pub room : length cs ≤ 256
   pub each : (k : ℕ) → k < length cs → ValueFits (getD cs k noCell .content)
 
--- each word is a cell's, or 0 behind them
+-- each word is a cell's, or 0 after them
 words-are : (ws : List ℕ) (cs : List Stored) → length ws ≡ 256
     → ((j : ℕ) → j < 256 → getD ws j 0 ≡ cellWord (getD cs j noCell)) → ws ≡ cellWords cs
 words-are ws cs l h = ext-getD 0 ws (cellWords cs) (l ∙ sym (cells-length cs)) (λ j g. let m : j < 256 = rw l at g in h j m ∙ sym (cells-at cs j m))
@@ -72,7 +72,8 @@ holds-from n ws h = record {
     at j g true e = let m : j < n = ltb-true j n e in
         sym (cell-there (getD ws j 0) (h .each j m)) ∙ ap cellWord (sym (from-at n ws j m))
     at j g false e = let m : n ≤ j = ltb-false j n e in
-        h .unused j m g ∙ no-cell-word ∙ ap cellWord (sym (List·getD-eq-default (cellsFrom n ws) noCell {n = j} (rw l m)))
+        h .unused j m g ∙ no-cell-word
+        ∙ ap cellWord (sym (List·getD-eq-default (cellsFrom n ws) noCell {n = j} (rw l m)))
 
 -- and words that hold cells may be lent again: they say those cells
 pub holds-words : (n : ℕ) (ws : List ℕ) (cs : List Stored) → Holds n ws cs → CellWords n ws
@@ -113,7 +114,8 @@ holds-push n ws cs x h l f = record {
         → getD cs j noCell ≡ getD (withNewCell cs x) j noCell
     same j e true q = sym (List·getD-append cs (x ∷ []) noCell j (ltb-true j (length cs) q))
     same j e false q = let g : length cs ≤ j = ltb-false j (length cs) q in
-        List·getD-eq-default cs noCell {n = j} g ∙ sym (List·getD-eq-default (withNewCell cs x) noCell {n = j} (beyond j e (h .count) g longer))
+        List·getD-eq-default cs noCell {n = j} g ∙ sym
+        (List·getD-eq-default (withNewCell cs x) noCell {n = j} (beyond j e (h .count) g longer))
 
     inside : n ≡ length cs → length ws ≡ 256 → n < length ws
     inside c s = omega arith
@@ -121,10 +123,12 @@ holds-push n ws cs x h l f = record {
     at : (j : ℕ) → j < 256 → Dec (j ≡ n)
         → getD (set ws n (cellWord x)) j 0 ≡ cellWord (getD (withNewCell cs x) j noCell)
     at j g (yes e) =
-        ap (λ (k : ℕ). getD (set ws n (cellWord x)) k 0) e ∙ getD-set-same ws n (cellWord x) 0 (inside (h .count) (holds-length h))
+        ap (λ (k : ℕ). getD (set ws n (cellWord x)) k 0) e
+        ∙ getD-set-same ws n (cellWord x) 0 (inside (h .count) (holds-length h))
         ∙ ap cellWord (sym (getD-at cs x [] noCell j (sym (h .count) ∙ sym e)))
     at j g (no e) =
-        getD-set-other ws n j (cellWord x) 0 e ∙ ap (λ (y : List ℕ). getD y j 0) (h .words) ∙ cells-at cs j g
+        getD-set-other ws n j (cellWord x) 0 e ∙ ap (λ (y : List ℕ). getD y j 0) (h .words)
+        ∙ cells-at cs j g
         ∙ ap cellWord (same j e (ltb j (length cs)) refl)
 
 -- ---- another content
@@ -144,8 +148,11 @@ holds-put n ws cs c x h l f = record {
     at : (j : ℕ) → j < 256 → Dec (j ≡ c)
         → getD (set ws c (cellWord x)) j 0 ≡ cellWord (getD (set cs c x) j noCell)
     at j g (yes e) =
-        ap (λ (k : ℕ). getD (set ws c (cellWord x)) k 0) e ∙ getD-set-same ws c (cellWord x) 0 (inside (h .room) (holds-length h))
-        ∙ ap cellWord (sym (ap (λ (k : ℕ). getD (set cs c x) k noCell) e ∙ getD-set-same cs c x noCell l))
+        ap (λ (k : ℕ). getD (set ws c (cellWord x)) k 0) e
+        ∙ getD-set-same ws c (cellWord x) 0 (inside (h .room) (holds-length h))
+        ∙ ap cellWord
+        (sym (ap (λ (k : ℕ). getD (set cs c x) k noCell) e ∙ getD-set-same cs c x noCell l))
     at j g (no e) =
-        getD-set-other ws c j (cellWord x) 0 e ∙ ap (λ (y : List ℕ). getD y j 0) (h .words) ∙ cells-at cs j g
+        getD-set-other ws c j (cellWord x) 0 e ∙ ap (λ (y : List ℕ). getD y j 0) (h .words)
+        ∙ cells-at cs j g
         ∙ ap cellWord (sym (getD-set-other cs c j x noCell e))

@@ -1,4 +1,4 @@
--- The code, by words: one evaluation behind another, the node at a frame, the recursion, the lent
+-- The code, by words: one evaluation after another, the node at a frame, the recursion, the lent
 -- state.
 pub mod Chains
 pub mod Nodes

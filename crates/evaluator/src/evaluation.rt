@@ -24,7 +24,7 @@ ghost use Rattle.text.specs.Frames.{framesOf};
 ghost use Rattle.program.specs.Trees.{frameAt, expressionAt};
 ghost use Rattle.program.specs.inner.Nodes.{expressionNode};
 ghost use Rattle.machine.specs.Evaluation.{eval, storing};
-ghost use Rattle.operations.specs.inner.Lent.{Lent, variablesOf, countOf, cellsOf, restOf};
+ghost use Rattle.operations.specs.inner.Lent.{Lent, lentVariables, lentCount, lentCells, lentRest};
 ghost use Rattle.operations.specs.inner.Results.{resultIn};
 ghost use Rattle.operations.specs.inner.ByWords.{leafIn};
 ghost use Rattle.evaluator.specs.inner.Results.{hereOf, onWords};
@@ -43,7 +43,7 @@ fn node_at(frames: &[u64], i: u16) -> ExpressionNode
 // A leaf, with the acting thread's variables where they lie.
 fn leaf_at(who: Who, state: &[u64], l: Leaf) -> Outcome
     requires { ⌜ Lent who (now state) ⌝ }
-    ensures { λ r. ⌜ r ≡ leafIn who (variablesOf who (now (state .entry))) l ⌝ }
+    ensures { λ r. ⌜ r ≡ leafIn who (lentVariables who (now (state .entry))) l ⌝ }
 {
     let at = THREADS_AT + THREAD_LENGTH * (who.thread as usize - 1) + VARIABLES_FIELD;
     let count = state[at] as usize;
@@ -54,10 +54,10 @@ fn leaf_at(who: Who, state: &[u64], l: Leaf) -> Outcome
 fn value_at(frames: &[u64], who: Who, state: &mut [u64], i: u16) -> Outcome
     requires { ⌜ FrameWords (now frames) i × Lent who (now state) ⌝ }
     ensures found { λ r. ⌜ resultIn r (now (state .exit))
-        ≡ evalIn who (variablesOf who (now (state .entry)))
+        ≡ evalIn who (lentVariables who (now (state .entry)))
         (expressionAt (framesOf (now (frames .entry))) i)
-        (countOf (now (state .entry))) (cellsOf (now (state .entry))) ⌝ }
-    ensures rest { λ _. ⌜ restOf (now (state .exit)) ≡ restOf (now (state .entry)) ⌝ }
+        (lentCount (now (state .entry))) (lentCells (now (state .entry))) ⌝ }
+    ensures rest { λ _. ⌜ lentRest (now (state .exit)) ≡ lentRest (now (state .entry)) ⌝ }
 {
     match node_at(frames, i) {
         ExpressionNode::Plain(l) => leaf_at(who, state, l),
@@ -89,10 +89,10 @@ fn value_at(frames: &[u64], who: Who, state: &mut [u64], i: u16) -> Outcome
 fn number_at(frames: &[u64], who: Who, state: &mut [u64], i: u16) -> Operand
     requires { ⌜ FrameWords (now frames) i × Lent who (now state) ⌝ }
     ensures found { λ r. ⌜ wantedIn r (now (state .exit))
-        ≡ numberIn who (variablesOf who (now (state .entry)))
+        ≡ numberIn who (lentVariables who (now (state .entry)))
         (expressionAt (framesOf (now (frames .entry))) i)
-        (countOf (now (state .entry))) (cellsOf (now (state .entry))) ⌝ }
-    ensures rest { λ _. ⌜ restOf (now (state .exit)) ≡ restOf (now (state .entry)) ⌝ }
+        (lentCount (now (state .entry))) (lentCells (now (state .entry))) ⌝ }
+    ensures rest { λ _. ⌜ lentRest (now (state .exit)) ≡ lentRest (now (state .entry)) ⌝ }
 {
     match node_at(frames, i) {
         ExpressionNode::Plain(l) => as_number(leaf_at(who, state, l)),
@@ -123,10 +123,10 @@ fn number_at(frames: &[u64], who: Who, state: &mut [u64], i: u16) -> Operand
 fn truth_at(frames: &[u64], who: Who, state: &mut [u64], i: u16) -> Outcome
     requires { ⌜ FrameWords (now frames) i × Lent who (now state) ⌝ }
     ensures found { λ r. ⌜ resultIn r (now (state .exit))
-        ≡ truthIn who (variablesOf who (now (state .entry)))
+        ≡ truthIn who (lentVariables who (now (state .entry)))
         (expressionAt (framesOf (now (frames .entry))) i)
-        (countOf (now (state .entry))) (cellsOf (now (state .entry))) ⌝ }
-    ensures rest { λ _. ⌜ restOf (now (state .exit)) ≡ restOf (now (state .entry)) ⌝ }
+        (lentCount (now (state .entry))) (lentCells (now (state .entry))) ⌝ }
+    ensures rest { λ _. ⌜ lentRest (now (state .exit)) ≡ lentRest (now (state .entry)) ⌝ }
 {
     match node_at(frames, i) {
         ExpressionNode::Plain(l) => then_truth(leaf_at(who, state, l)),
@@ -159,13 +159,13 @@ fn truth_at(frames: &[u64], who: Who, state: &mut [u64], i: u16) -> Outcome
 // variables fit their space, children stand before their parents, and frame i is there.
 pub fn evaluate(frames: &[u64], who: Who, state: &mut [u64], i: u16) -> Outcome
     requires { ⌜ FrameWords (now frames) i × Lent who (now state)
-        × ValueWords (variablesOf who (now state))
-        × CellWords (countOf (now state)) (cellsOf (now state)) ⌝ }
+        × ValueWords (lentVariables who (now state))
+        × CellWords (lentCount (now state)) (lentCells (now state)) ⌝ }
     ensures found { λ r. ⌜ resultIn r (now (state .exit))
-        ≡ onWords (eval (hereOf who (variablesOf who (now (state .entry))))
+        ≡ onWords (eval (hereOf who (lentVariables who (now (state .entry))))
         (expressionAt (framesOf (now (frames .entry))) i))
-        (countOf (now (state .entry))) (cellsOf (now (state .entry))) ⌝ }
-    ensures rest { λ _. ⌜ restOf (now (state .exit)) ≡ restOf (now (state .entry)) ⌝ }
+        (lentCount (now (state .entry))) (lentCells (now (state .entry))) ⌝ }
+    ensures rest { λ _. ⌜ lentRest (now (state .exit)) ≡ lentRest (now (state .entry)) ⌝ }
 {
     value_at(frames, who, state, i)
 }
@@ -174,14 +174,14 @@ pub fn evaluate(frames: &[u64], who: Who, state: &mut [u64], i: u16) -> Outcome
 // and that both frames are there.
 pub fn store(frames: &[u64], who: Who, state: &mut [u64], a: u16, b: u16) -> Outcome
     requires { ⌜ FrameWords (now frames) a × FrameWords (now frames) b
-        × Lent who (now state) × ValueWords (variablesOf who (now state))
-        × CellWords (countOf (now state)) (cellsOf (now state)) ⌝ }
+        × Lent who (now state) × ValueWords (lentVariables who (now state))
+        × CellWords (lentCount (now state)) (lentCells (now state)) ⌝ }
     ensures found { λ r. ⌜ resultIn r (now (state .exit))
-        ≡ onWords (storing (hereOf who (variablesOf who (now (state .entry))))
+        ≡ onWords (storing (hereOf who (lentVariables who (now (state .entry))))
         (expressionAt (framesOf (now (frames .entry))) a)
         (expressionAt (framesOf (now (frames .entry))) b))
-        (countOf (now (state .entry))) (cellsOf (now (state .entry))) ⌝ }
-    ensures rest { λ _. ⌜ restOf (now (state .exit)) ≡ restOf (now (state .entry)) ⌝ }
+        (lentCount (now (state .entry))) (lentCells (now (state .entry))) ⌝ }
+    ensures rest { λ _. ⌜ lentRest (now (state .exit)) ≡ lentRest (now (state .entry)) ⌝ }
 {
     let x = value_at(frames, who, state, a);
     match x {

@@ -19,8 +19,8 @@ use Rattle.language.specs.Types.{isCell, typeWord}
 use Rattle.language.specs.declared.frame.Frame.{Frame}
 use Rattle.text.specs.Frames.{framesOf}
 use Rattle.program.specs.Trees.{frameAt}
-use Rattle.fields.specs.declared.found.Found.{Found}
-use Rattle.fields.specs.declared.found.Found.the-variants.{At, Nowhere}
+use Rattle.fields.specs.declared.fault_search.FaultSearch.{FaultSearch}
+use Rattle.fields.specs.declared.fault_search.FaultSearch.the-variants.{At, Nowhere}
 use Rattle.fields.specs.declared.field.Tally.{Tally}
 use Rattle.fields.specs.Fields.{headerFine, schedulersOf, firstContentFine}
 use Rattle.fields.specs.inner.Scans.{headerFault, found}
@@ -67,7 +67,7 @@ fine-few : (f : Frame) → headerFine f ≡ true → f .b ≤ 8
 unfolding headerFine
 fine-few f t = leb-true (f .b) 8 (and-true (isHeader (f .kind) && eqb (f .s) 1 && leb 1 (f .b)) (leb (f .b) 8) (and-true (isHeader (f .kind) && eqb (f .s) 1 && leb 1 (f .b) && leb (f .b) 8) (eqb (f .c) 0) t .0) .1)
 
-pub few-schedulers : (fs : List Frame) (x : Found) → x ≡ Nowhere → x ≡ found (headerFault fs)
+pub few-schedulers : (fs : List Frame) (x : FaultSearch) → x ≡ Nowhere → x ≡ found (headerFault fs)
     → schedulersOf fs ≤ 8
 unfolding headerFault
 few-schedulers fs x e h = if-all (λ (o : Option ℕ). found o ≡ Nowhere → schedulersOf fs ≤ 8) (headerFine (frameAt fs 0)) none (some 0) (λ t q. fine-few (frameAt fs 0) t) (λ t q. absurd (let z : _≡_ {A = ℕ} 0 1 = cc in omega arith)) (sym h ∙ e)

@@ -165,7 +165,8 @@ module _ (fs : List Frame) (i : ℕ) (f : Frame) (t : Tally) (q : t ≡ tallyOf 
           content : b ≡ firstContentFine (cellsOf (take i fs)) (f .a) (f .b)
           content =
               hb
-              ∙ ap (λ (ts : List ℕ). firstContentFine ts (f .a) (f .b)) (types-taken (take i fs) t q)
+              ∙ ap (λ (ts : List ℕ). firstContentFine ts (f .a) (f .b))
+              (types-taken (take i fs) t q)
 
           pub cell-content : not b ≡ true → false ≡ frameFine fs i f
           cell-content nb = sym (sym (fine-as fs i f (Declared Shared) e) ∙ rw (sym room ∙ not-false k nk, sym hs ∙ not-false s ns, sym word ∙ not-false a na, sym content ∙ not-true b nb))

@@ -24,7 +24,7 @@ use Rattle.text.specs.Frames.{framesOf}
 use Rattle.program.specs.Trees.{frameAt}
 use Rattle.program.specs.Programs.{sharedOf}
 use Rattle.program.proofs.FrameLaws.{frames-more}
-use Rattle.fields.specs.declared.found.Found.the-variants.{At, Nowhere}
+use Rattle.fields.specs.declared.fault_search.FaultSearch.the-variants.{At, Nowhere}
 use Rattle.fields.specs.declared.field.Tally.{Tally}
 use Rattle.fields.specs.Fields.{schedulersOf, fieldFine, countOf, kindFine, frameFine}
 use Rattle.fields.specs.inner.Scans.{fieldFault, found, tallyOf}
@@ -48,7 +48,8 @@ word-room b a h = go (ltb a 0x1000) refl
 
 -- a frame without fault 5 is right in its kind, its S and its A
 pub fine-parts : (fs : List Frame) (i : ℕ) (f : Frame) → frameFine fs i f ≡ true
-    → (kindFine fs i (f .kind) ≡ true) × (fieldFine fs i f (uses (f .kind) .s) (f .s) ≡ true) × (fieldFine fs i f (uses (f .kind) .a) (f .a) ≡ true)
+    → (kindFine fs i (f .kind) ≡ true) × (fieldFine fs i f (uses (f .kind) .s) (f .s) ≡ true)
+    × (fieldFine fs i f (uses (f .kind) .a) (f .a) ≡ true)
 unfolding frameFine
 fine-parts fs i f h =
     let c = and-true _ _ h in

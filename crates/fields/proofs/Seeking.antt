@@ -13,7 +13,7 @@ use Rattle.text.specs.Frames.{framesOf}
 use Rattle.text.proofs.FrameWords.{frames-end}
 use Rattle.program.specs.Trees.{frameAt}
 use Rattle.program.proofs.FrameLaws.{frames-next}
-use Rattle.fields.specs.declared.found.Found.the-variants.{At, Nowhere}
+use Rattle.fields.specs.declared.fault_search.FaultSearch.the-variants.{At, Nowhere}
 use Rattle.fields.specs.inner.Scans.{found}
 
 -- the invariant of such a loop; at i = 0 it holds by `refl`

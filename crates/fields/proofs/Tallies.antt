@@ -17,7 +17,7 @@ use Rattle.language.specs.declared.kind.Kind.the-variants.{Header, Declared, Mo
 use Rattle.language.specs.declared.kind.Kind.the-variants.{Expression, Unknown}
 use Rattle.language.specs.declared.frame.Frame.{Frame}
 use Rattle.program.specs.Programs.{typeOfShared, sharedOf, cellsOf}
-use Rattle.program.specs.inner.Shared.{padded}
+use Rattle.program.specs.inner.Shared.{paddedTypes}
 use Rattle.program.proofs.OneMore.{shared-no, shared-yes}
 use Rattle.program.proofs.SharedTypeLaws.{padded-more, padded-taken}
 use Rattle.fields.specs.declared.field.Tally.{Tally}
@@ -37,7 +37,7 @@ is-shared (Statement k) h = absurd (true≢false (sym h))
 is-shared (Expression k) h = absurd (true≢false (sym h))
 is-shared Unknown h = absurd (true≢false (sym h))
 
--- a frame adds its type to those of the cells behind it, if it is one
+-- a frame adds its type to those of the cells after it, if it is one
 cells-first : (f : Frame) (gs : List Frame)
     → cellsOf (f ∷ gs)
     ≡ (if isShared (f .kind) then cellType (f .s) (f .a) ∷ cellsOf gs else cellsOf gs)
@@ -70,7 +70,7 @@ module _ (gs : List Frame) (t : Tally) (h : t ≡ tallyOf gs) where
   unfolding tallyOf
   tally-modules = ap (λ (x : Tally). x .modules) h
 
-  tally-types : t .types ≡ padded (cellsOf gs)
+  tally-types : t .types ≡ paddedTypes (cellsOf gs)
   unfolding tallyOf
   tally-types = ap (λ (x : Tally). x .types) h
 
@@ -132,7 +132,7 @@ module _ (gs : List Frame) (f : Frame) (t : Tally) (h : t ≡ tallyOf gs) where
   unfolding tallyOf
   tally-other s m =
       h ∙ tally-same (sym (counted-none isShared gs f s)) (sym (counted-none isModule gs f m))
-      (ap padded (sym (cells-same gs f s)))
+      (ap paddedTypes (sym (cells-same gs f s)))
 
   pub tally-module : isShared (f .kind) ≡ false → isModule (f .kind) ≡ true
       → tally (t .cells) (t .modules + 1) (t .types) ≡ tallyOf (gs ++ (f ∷ []))
@@ -140,7 +140,7 @@ module _ (gs : List Frame) (f : Frame) (t : Tally) (h : t ≡ tallyOf gs) where
   tally-module s m =
       tally-same (tally-cells gs t h ∙ sym (counted-none isShared gs f s))
       (ap (λ (n : ℕ). n + 1) (tally-modules gs t h) ∙ sym (counted-one isModule gs f m))
-      (tally-types gs t h ∙ ap padded (sym (cells-same gs f s)))
+      (tally-types gs t h ∙ ap paddedTypes (sym (cells-same gs f s)))
 
   pub tally-cell : isShared (f .kind) ≡ true → isModule (f .kind) ≡ false → t .cells < 16
       → tally (t .cells + 1) (t .modules) (set (t .types) (t .cells) (cellType (f .s) (f .a)))
@@ -151,7 +151,7 @@ module _ (gs : List Frame) (f : Frame) (t : Tally) (h : t ≡ tallyOf gs) where
       (tally-modules gs t h ∙ sym (counted-none isModule gs f m))
       (ap₂ (λ (ts : List ℕ) (n : ℕ). set ts n (cellType (f .s) (f .a))) (tally-types gs t h) n-is
       ∙ padded-more (cellsOf gs) (cellType (f .s) (f .a)) (let z = n-is in omega arith)
-      ∙ ap padded (sym (cells-one gs f s)))
+      ∙ ap paddedTypes (sym (cells-one gs f s)))
     where
       n-is : t .cells ≡ length (cellsOf gs)
       n-is = tally-cells gs t h ∙ count-cells gs

@@ -1,37 +1,37 @@
--- Refusals 4 and 5: the header, and the kind and the fields of each frame. Assumes nothing: definitions.
-use mathlib.Core.Bool.{Bool, true, false, not, _&&_, _||_}
-use mathlib.Core.List.{List, [], _∷_}
-use Prim.Native.Nat.{ℕ, _+_}
-use lib.Dec.{ltb, leb, eqb}
-use lib.ListN.{length, getD, take}
-use Rattle.basics.specs.If.{if_then_else_}
+-- Refusals 4 and 5: the header, and the kind and the fields of each frame.
+use Rattle.basics.specs.Prelude.{List, [], _∷_, Bool, true, false, not, _&&_, _||_, ℕ, _+_, ltb}
+use Rattle.basics.specs.Prelude.{leb, eqb, length, getD, take, if_then_else_}
 use Rattle.language.specs.Places.{hasPlace, hasScheduler}
 use Rattle.language.specs.Types.{truthType, isCell, typeWord, contentWord}
 use Rattle.language.specs.Kinds.{isHeader, isShared, isModule, uses}
-use Rattle.language.specs.declared.kind.Kind.{Kind}
-use Rattle.language.specs.declared.kind.DeclarationKind.the-variants.{Shared}
-use Rattle.language.specs.declared.kind.Kind.the-variants.{Header, Declared, Module, Statement, Expression, Unknown}
-use Rattle.language.specs.declared.kind.Use.{Use}
 use Rattle.language.specs.declared.frame.Frame.{Frame}
 use Rattle.language.specs.Limits.{mostSchedulers, mostShared, mostModules, mostParameters}
-use Rattle.program.specs.Trees.{frameAt}
-use Rattle.program.specs.Programs.{cellsOf}
+use kind.{Kind.Kind, DeclarationKind.the-variants.Shared, Use.Use}
+use kind.Kind.the-variants.{Header, Declared, Module, Statement, Expression, Unknown}
+use Rattle.program.specs.{Trees.frameAt, Programs.cellsOf}
+use Rattle.language.specs.declared.kind as kind
 
--- 4: 'header (frame 0 not K 00, or its S, B or C not as said)': 'S version 01, A step allowance (0 means 4,096), B schedulers, 1 to 8'
+-- 4: 'header (frame 0 not K 00, or its S, B or C not as said)': 'S version 01, A step allowance (0
+-- means 4,096), B schedulers, 1 to 8'
 unfoldable pub headerFine : Frame → Bool
-headerFine f = isHeader (f .kind) && eqb (f .s) 1 && leb 1 (f .b) && leb (f .b) mostSchedulers && eqb (f .c) 0
+headerFine f =
+    isHeader (f .kind) && eqb (f .s) 1 && leb 1 (f .b) && leb (f .b) mostSchedulers && eqb (f .c) 0
 
 -- how many schedulers the file has: the header's B
 abbrev pub schedulersOf : List Frame → ℕ
 schedulersOf fs = frameAt fs 0 .b
 
--- 'Its first content is a number, a truth (0, 1), or, for a cell type, the number of an earlier shared cell of that type.' Of the content type t, v is one; `earlier` are the types of the earlier shared cells
+-- 'Its first content is a number, a truth (0, 1), or, for a cell type, the number of an earlier
+-- shared cell of that type.' Of the content type t, v is one; `earlier` are the types of the
+-- earlier shared cells
 unfoldable pub firstContentFine : List ℕ → ℕ → ℕ → Bool
 firstContentFine earlier t v =
     if isCell t then ltb v (length earlier) && eqb (getD earlier v 0) t else
     not (eqb t truthType) || leb v 1
 
--- 5, 'field (an unused one that isn't 0, parameters over 2, a truth over 1, a B without A, a first content not as said above), type word, owner, .. or a place that the file lacks': v is right in a field of the frame f, which has the number i
+-- 5, 'field (an unused one that isn't 0, parameters over 2, a truth over 1, a B without A, a first
+-- content not as said above), type word, owner, .. or a place that the file lacks': v is right in a
+-- field of the frame f, which has the number i
 abbrev pub fieldFine : List Frame → ℕ → Frame → Use → ℕ → Bool
 fieldFine fs i f Use.Unused v = eqb v 0
 fieldFine fs i f Use.Free v = true
@@ -53,7 +53,8 @@ unfoldable pub countOf : (Kind → Bool) → List Frame → ℕ
 countOf test [] = 0
 countOf test (f ∷ fs) = (if test (f .kind) then 1 else 0) + countOf test fs
 
--- 5, 'kind (a later 00 too)', 'a 17th shared cell or module': fewer than 16 of its kind stand before it, misplaced ones too, since 5 comes before 6
+-- 5, 'kind (a later 00 too)', 'a 17th shared cell or module': fewer than 16 of its kind stand
+-- before it, misplaced ones too, since 5 comes before 6
 abbrev pub kindFine : List Frame → ℕ → Kind → Bool
 kindFine fs i Header = eqb i 0
 kindFine fs i (Declared Shared) = ltb (countOf isShared (take i fs)) mostShared

@@ -1,5 +1,5 @@
 // Refusals 4 and 5: the header, and the kind and the fields of each frame.
-use crate::found::Found;
+use crate::fault_search::FaultSearch;
 use language::Place;
 use language::frame::Frame;
 use language::kind::DeclarationKind;
@@ -66,14 +66,14 @@ fn header_fine(f: Frame) -> bool
 }
 
 // The frame with the fault 4, if there is one.
-pub fn header(words: &[u64]) -> Found
+pub fn header(words: &[u64]) -> FaultSearch
     requires { ⌜ 0 < length (now words) ⌝ }
     ensures { λ r. ⌜ r ≡ found (headerFault (framesOf (now (words .entry)))) ⌝ }
 {
     if header_fine(frame_at(words, 0)) {
-        return Found::Nowhere;
+        return FaultSearch::Nowhere;
     }
-    Found::At(0)
+    FaultSearch::At(0)
 }
 
 // How many schedulers the file has.
@@ -409,7 +409,7 @@ fn is_counted(k: Kind) -> bool
 
 // The lowest frame with the fault 5. It stops there, so that no 17th cell is counted. With a right
 // header there are at most 8 schedulers, and a place is one of the nine.
-pub fn fields(words: &[u64]) -> Found
+pub fn fields(words: &[u64]) -> FaultSearch
     requires { ⌜ (0 < length (now words)) × (length (now words) ≤ mostLines)
         × (schedulersOf (framesOf (now words)) ≤ mostSchedulers) ⌝ }
     ensures { λ r. ⌜ r ≡ found (fieldFault (framesOf (now (words .entry)))) ⌝ }
@@ -422,7 +422,7 @@ pub fn fields(words: &[u64]) -> Found
     let mut i = 0;
     while i < words.len() {
         if !frame_fine(words, i, t) {
-            return Found::At(i as u16);
+            return FaultSearch::At(i as u16);
         }
         let f = frame_at(words, i);
         let kind = f.kind;
@@ -432,5 +432,5 @@ pub fn fields(words: &[u64]) -> Found
             t = counted(words, here, t);
         }
     }
-    Found::Nowhere
+    FaultSearch::Nowhere
 }

@@ -1,4 +1,4 @@
--- What `print` answers. Assumes nothing: a definition.
+-- What `print` answers.
 use mathlib.Core.Bool.{Bool, true, false}
 use Rattle.files.specs.declared.Printed.{Printed}
 use Rattle.files.specs.declared.Printed.the-variants.{Whole, Failed, TooFew}

@@ -25,7 +25,7 @@ fn unread(path: &[u8]) -> FileRead
     }
 }
 
-// Whether the input ends behind what was read of it. `io::read_full` stops both there and at a read
+// Whether the input ends after what was read of it. `io::read_full` stops both there and at a read
 // that fails; the next read tells the two apart, since one that failed has not moved on.
 fn at_end(fd: i32) -> bool {
     let mut next = [0u8; 1];

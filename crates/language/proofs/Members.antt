@@ -94,7 +94,8 @@ member-none p =
 
 bit-join : (q : ℕ) (e f : Effect) → bit q ((e ∪ f) .bits) ≡ max (bit q (e .bits)) (bit q (f .bits))
 bit-join q e f =
-    ap (λ (n : ℕ). n % 2) (or-shr (e .bits) (f .bits) q ∙ or-step (e .bits / 2 ^ q) (f .bits / 2 ^ q))
+    ap (λ (n : ℕ). n % 2)
+    (or-shr (e .bits) (f .bits) q ∙ or-step (e .bits / 2 ^ q) (f .bits / 2 ^ q))
     ∙ omega arith
 
 either : (x y z : ℕ) → x < 2 → y < 2 → z ≡ max x y → eqb z 1 ≡ (eqb x 1 || eqb y 1)
@@ -140,7 +141,8 @@ pub member-owner : (p o : ℕ) (e : Effect)
     → member p (withOwner o e) ≡ (member p e || isScheduler o && eqb p o)
 unfolding withOwner
 member-owner p o e =
-    if-all (λ (f : Effect). member p f ≡ (member p e || isScheduler o && eqb p o)) (isScheduler o) (e ∪ only o) e
+    if-all (λ (f : Effect). member p f ≡ (member p e || isScheduler o && eqb p o)) (isScheduler o)
+    (e ∪ only o) e
     (λ h. rw h (member-join p e (only o) ∙ ap (λ (b : Bool). member p e || b) (member-only p o (from-home o h))))
     (λ h. rw h (or-off (member p e)))
 

@@ -1,13 +1,14 @@
 -- What the functions on type words compute, return by return, with the tests that lead there as
 -- premises: a ruleset for each function. Assumes nothing.
 use mathlib.Core.Bool.{Bool, true, false, not, _&&_, _||_, true≢false}
-use mathlib.Core.Path.{_≡_, refl, sym, ap, _∙_}
-use Prim.Native.Nat.{ℕ, suc, _+_, _*_, _/_, _%_, _^_, _<_, _≤_}
+use mathlib.Core.Path.{_≡_, refl, sym, ap, subst, _∙_}
+use Prim.Native.Nat.{ℕ, _+_, _*_, _/_, _%_, _^_, _<_, _≤_}
 use native.Mathlib.Omega.{arith}
-use lib.Dec.{leb, eqb}
+use native.Mathlib.Nat.{pow-succ'}
+use lib.Dec.{leb, ltb, eqb}
 use borrow.Author.Tests.{lt-ltb, le-ltb, le-leb, lt-leb, eq-eqb, ne-eqb, eqb-false, not-true}
-use borrow.Author.Tests.{not-false}
-use Rattle.basics.proofs.Ifs.{yes, no, and-off}
+use borrow.Author.Tests.{not-false, ltb-true, ltb-false}
+use Rattle.basics.proofs.Ifs.{yes, no, if-all, and-off}
 use Rattle.language.specs.Places.{isPlace, hasPlace}
 use Rattle.language.specs.inner.Reads.{placeRead, cellRead}
 use Rattle.language.specs.Types.{cellDepth, cellType, ownerOf, contentOf, public, ownerDigit}
@@ -35,53 +36,85 @@ pub depth-3 : (t : ℕ) → 0x0010 ≤ t → 0x0100 ≤ t → 0x1000 ≤ t → 3
 unfolding cellDepth
 depth-3 t a b h = no _ (le-ltb _ _ a) (no _ (le-ltb _ _ b) (no _ (le-ltb _ _ h) refl))
 
-pub ruleset depth-laws = (depth-0, depth-1, depth-2, depth-3)
+-- P of a type's depth, by all four; by three where there is room for one cell more
+depth-all : (P : ℕ → Type 0) (t : ℕ) → P 0 → P 1 → P 2 → P 3 → P (cellDepth t)
+unfolding cellDepth
+depth-all P t x y z w =
+    if-all P _ _ _ (λ _. x) (λ _. if-all P _ _ _ (λ _. y) (λ _. if-all P _ _ _ (λ _. z) (λ _. w)))
 
--- ---- the parts of a word, from its depth
-by-owner : (t d r : ℕ) → 0x0010 ≤ t → d ≡ cellDepth t → r ≡ t / 16 ^ d → r ≡ ownerOf t
+depth-low : (P : ℕ → Type 0) (t : ℕ) → t < 0x1000 → P 0 → P 1 → P 2 → P (cellDepth t)
+unfolding cellDepth
+depth-low P t h x y z =
+    if-all P _ _ _ (λ _. x)
+    (λ _. if-all P _ _ _ (λ _. y) (λ _. subst P (yes _ (lt-ltb _ _ h) refl) z))
+
+-- there is room exactly where it is at most two cells deep
+depth-room : (t : ℕ) → ltb t 0x1000 ≡ leb (cellDepth t) 2
+depth-room t = by (ltb t 0x1000) refl
+  where
+    by : (r : Bool) → ltb t 0x1000 ≡ r → ltb t 0x1000 ≡ leb (cellDepth t) 2
+    by true e = e ∙ depth-low (λ d. true ≡ leb d 2) t (ltb-true t _ e) refl refl refl
+    by false e =
+        let h = ltb-false t 0x1000 e in
+        e ∙ ap (λ (d : ℕ). leb d 2) (depth-3 t (omega arith) (omega arith) h)
+
+-- ---- the unit of the leftmost digit
+pub unit-0 : (t : ℕ) → t < 0x0010 → 0x0001 ≡ 16 ^ cellDepth t
+unit-0 t h = ap (λ (n : ℕ). 16 ^ n) (depth-0 t h)
+
+pub unit-1 : (t : ℕ) → 0x0010 ≤ t → t < 0x0100 → 0x0010 ≡ 16 ^ cellDepth t
+unit-1 t a h = ap (λ (n : ℕ). 16 ^ n) (depth-1 t a h)
+
+pub unit-2 : (t : ℕ) → 0x0010 ≤ t → 0x0100 ≤ t → t < 0x1000 → 0x0100 ≡ 16 ^ cellDepth t
+unit-2 t a b h = ap (λ (n : ℕ). 16 ^ n) (depth-2 t a b h)
+
+pub unit-3 : (t : ℕ) → 0x0010 ≤ t → 0x0100 ≤ t → 0x1000 ≤ t → 0x1000 ≡ 16 ^ cellDepth t
+unit-3 t a b h = ap (λ (n : ℕ). 16 ^ n) (depth-3 t a b h)
+
+pub ruleset unit-laws = (unit-0, unit-1, unit-2, unit-3)
+
+module _ (t u : ℕ) (e : u ≡ 16 ^ cellDepth t) where
+  -- it is not 0, so that it divides
+  pub unit-some : 0 < u
+  unit-some =
+      subst (λ (n : ℕ). 0 < n) (sym e)
+      (depth-all (λ d. 0 < 16 ^ d) t (omega arith) (omega arith) (omega arith) (omega arith))
+
+  -- where there is room for one cell more, that cell's word fits, and so do its parts
+  pub unit-fits : t < 0x1000 → 16 * u < 2 ^ 16
+  unit-fits h =
+      subst (λ (n : ℕ). 16 * n < 2 ^ 16) (sym e)
+      (depth-low (λ d. 16 * 16 ^ d < 2 ^ 16) t h (omega arith) (omega arith) (omega arith))
+
+  module _ (o : ℕ) (h : t < 0x1000) (l : o ≤ 9) where
+    pub cell-fits : o * (16 * u) + t < 2 ^ 16
+    cell-fits =
+        subst (λ (n : ℕ). o * (16 * n) + t < 2 ^ 16) (sym e)
+        (depth-low (λ d. o * (16 * 16 ^ d) + t < 2 ^ 16) t h (omega arith) (omega arith)
+        (omega arith))
+
+    pub owner-fits : o * (16 * u) < 2 ^ 16
+    owner-fits = let f = cell-fits in omega arith
+
+pub ruleset fit-laws = (unit-fits, owner-fits, cell-fits)
+
+-- ---- the parts of a word, from that unit
+pub owner-none : (t : ℕ) → t < 0x0010 → 0 ≡ ownerOf t
 unfolding ownerOf
-by-owner t d r c e h = yes _ (le-leb 0x0010 t c) (h ∙ ap (λ (n : ℕ). t / 16 ^ n) e)
+owner-none t h = no _ (lt-leb 0x0010 t h) refl
 
-pub owner-0 : (t : ℕ) → t < 0x0010 → 0 ≡ ownerOf t
+pub owner-first : (t u : ℕ) → 0x0010 ≤ t → u ≡ 16 ^ cellDepth t → t / u ≡ ownerOf t
 unfolding ownerOf
-owner-0 t h = no _ (lt-leb 0x0010 t h) refl
+owner-first t u c e = yes _ (le-leb 0x0010 t c) (ap (λ (n : ℕ). t / n) e)
 
-pub owner-1 : (t : ℕ) → 0x0010 ≤ t → t < 0x0100 → t / 0x0010 ≡ ownerOf t
-owner-1 t a h = by-owner t 1 _ a (depth-1 t a h) refl
+pub ruleset owner-laws = (owner-none, owner-first)
 
-pub owner-2 : (t : ℕ) → 0x0010 ≤ t → 0x0100 ≤ t → t < 0x1000 → t / 0x0100 ≡ ownerOf t
-owner-2 t a b h = by-owner t 2 _ a (depth-2 t a b h) refl
-
-pub owner-3 : (t : ℕ) → 0x0010 ≤ t → 0x0100 ≤ t → 0x1000 ≤ t → t / 0x1000 ≡ ownerOf t
-owner-3 t a b h = by-owner t 3 _ a (depth-3 t a b h) refl
-
-pub ruleset owner-laws = (owner-0, owner-1, owner-2, owner-3)
-
-by-content : (t d r : ℕ) → d ≡ cellDepth t → r ≡ t % 16 ^ d → r ≡ contentOf t
+pub content-rest : (t u : ℕ) → u ≡ 16 ^ cellDepth t → t % u ≡ contentOf t
 unfolding contentOf
-by-content t d r e h = h ∙ ap (λ (n : ℕ). t % 16 ^ n) e
+content-rest t u e = ap (λ (n : ℕ). t % n) e
 
-pub content-0 : (t : ℕ) → t < 0x0010 → 0 ≡ contentOf t
-content-0 t h = by-content t 0 _ (depth-0 t h) (omega arith)
-
-pub content-1 : (t : ℕ) → 0x0010 ≤ t → t < 0x0100 → t % 0x0010 ≡ contentOf t
-content-1 t a h = by-content t 1 _ (depth-1 t a h) refl
-
-pub content-2 : (t : ℕ) → 0x0010 ≤ t → 0x0100 ≤ t → t < 0x1000 → t % 0x0100 ≡ contentOf t
-content-2 t a b h = by-content t 2 _ (depth-2 t a b h) refl
-
-pub content-3 : (t : ℕ) → 0x0010 ≤ t → 0x0100 ≤ t → 0x1000 ≤ t → t % 0x1000 ≡ contentOf t
-content-3 t a b h = by-content t 3 _ (depth-3 t a b h) refl
-
-pub ruleset content-laws = (content-0, content-1, content-2, content-3)
-
--- ---- the type of a cell of owner o around t: o is no place, t has room for one cell more, or it
--- has none
-by-cell : (o t d : ℕ) → 1 ≤ o → o ≤ 9 → t < 0x1000 → d ≡ cellDepth t
-    → Word (o * 16 ^ suc d + t) ≡ cellRead o t
-unfolding cellRead cellType
-by-cell o t d a b h e = yes _ (simp (le-leb _ _ a, le-leb _ _ b, lt-ltb _ _ h)) (ap (λ (n : ℕ). Word (o * 16 ^ suc n + t)) e)
-
+-- ---- the type of a cell of owner o around t: o is no place, t has no room for one cell more, or
+-- it has
 pub cell-owner-low : (o t : ℕ) → o < 1 → TooDeep ≡ cellRead o t
 unfolding cellRead
 cell-owner-low o t h = no _ (simp (lt-leb _ _ h)) refl
@@ -90,23 +123,18 @@ pub cell-owner-high : (o t : ℕ) → 9 < o → TooDeep ≡ cellRead o t
 unfolding cellRead
 cell-owner-high o t h = no _ (simp (le-leb 1 o (omega arith), lt-leb _ _ h)) refl
 
-pub cell-around-0 : (o t : ℕ) → 1 ≤ o → o ≤ 9 → t < 0x0010 → Word (o * 0x0010 + t) ≡ cellRead o t
-cell-around-0 o t a b h = by-cell o t 0 a b (omega arith) (depth-0 t h)
-
-pub cell-around-1 : (o t : ℕ) → 1 ≤ o → o ≤ 9 → 0x0010 ≤ t → t < 0x0100
-    → Word (o * 0x0100 + t) ≡ cellRead o t
-cell-around-1 o t a b x h = by-cell o t 1 a b (omega arith) (depth-1 t x h)
-
-pub cell-around-2 : (o t : ℕ) → 1 ≤ o → o ≤ 9 → 0x0010 ≤ t → 0x0100 ≤ t → t < 0x1000
-    → Word (o * 0x1000 + t) ≡ cellRead o t
-cell-around-2 o t a b x y h = by-cell o t 2 a b h (depth-2 t x y h)
-
 pub cell-too-deep : (o t : ℕ) → 0x1000 ≤ t → TooDeep ≡ cellRead o t
 unfolding cellRead
 cell-too-deep o t h = no _ (rw (le-ltb t 0x1000 h, and-off)) refl
 
-pub ruleset cell-type-laws =
-    (cell-owner-low, cell-owner-high, cell-around-0, cell-around-1, cell-around-2, cell-too-deep)
+pub cell-around : (o t u : ℕ) → 1 ≤ o → o ≤ 9 → t < 0x1000 → u ≡ 16 ^ cellDepth t
+    → Word (o * (16 * u) + t) ≡ cellRead o t
+unfolding cellRead cellType
+cell-around o t u a b h e =
+    yes _ (simp (le-leb _ _ a, le-leb _ _ b, lt-ltb _ _ h))
+    (ap (λ (n : ℕ). Word (o * n + t)) (ap (λ (n : ℕ). 16 * n) e ∙ sym (pow-succ' 16 (cellDepth t))))
+
+pub ruleset cell-type-laws = (cell-owner-low, cell-owner-high, cell-too-deep, cell-around)
 
 -- ---- the owner read as a place
 pub owner-read : (t o : ℕ) (x : PlaceRead) → o ≡ ownerOf t → x ≡ placeRead (isPlace o) o
@@ -204,9 +232,10 @@ module _ (b t : ℕ) where
   unfolding contentWord
   content-word-private x y e n f m = rw (sym e ∙ not-false x n, sym f ∙ not-true y m)
 
-  pub content-word-good : (x y : Bool) (d : ℕ) → x ≡ typeWord b t → not x ≡ false → y ≡ public t
-      → not y ≡ false → d ≡ cellDepth t → leb d 2 ≡ contentWord b t
+  pub content-word-good : (x y : Bool) → x ≡ typeWord b t → not x ≡ false → y ≡ public t
+      → not y ≡ false → ltb t 0x1000 ≡ contentWord b t
   unfolding contentWord
-  content-word-good x y d e n f m g = rw (sym e ∙ not-false x n, sym f ∙ not-false y m, g)
+  content-word-good x y e n f m =
+      rw (sym e ∙ not-false x n, sym f ∙ not-false y m) (depth-room t)
 
-pub ruleset content-word-laws = (content-word-bad, content-word-private, content-word-good)
+pub ruleset content-word-laws = (content-word-bad, content-word-private)

@@ -1,11 +1,8 @@
--- 'An effect is a set of schedulers.' The set is a number below 256: the scheduler p is a member where bit p - 2 is set. Assumes nothing: definitions; what they mean as sets is proved in proofs/Members.
-use mathlib.Core.Bool.{Bool, _||_, _&&_}
-use Prim.Native.Nat.{ℕ, _-_, _/_, _%_, _^_}
-use lib.Dec.{leb, eqb}
-use lib.Bits.{bitOr}
-use Rattle.basics.specs.If.{if_then_else_}
-use Rattle.language.specs.Places.{home, isScheduler}
-use Rattle.language.specs.declared.effect.Effect.{Effect}
+-- 'An effect is a set of schedulers.' The set is a number below 256: the scheduler p is a member
+-- where bit p - 2 is set. What they mean as sets is proved in proofs/Members.
+use Rattle.basics.specs.Prelude.{Bool, _&&_, _||_, ℕ, _-_, _/_, _%_, _^_, leb, eqb, bitOr}
+use Rattle.basics.specs.Prelude.{if_then_else_}
+use Rattle.language.specs.{Places.home, Places.isScheduler, declared.effect.Effect.Effect}
 
 -- the scheduler p is a member of e
 abbrev pub member : ℕ → Effect → Bool

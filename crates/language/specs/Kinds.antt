@@ -1,20 +1,16 @@
--- The table of kinds: each kind's number, and what each of its fields holds. Assumes nothing: definitions.
-use mathlib.Core.Bool.{Bool, true, false}
-use mathlib.Core.List.{List, [], _∷_, _++_}
-use Prim.Native.Nat.{ℕ, zero, suc}
-use lib.Dec.{eqb}
-use Rattle.basics.specs.If.{if_then_else_}
-use Rattle.language.specs.declared.kind.DeclarationKind.{DeclarationKind}
-use Rattle.language.specs.declared.kind.DeclarationKind.the-variants.{Shared}
-use Rattle.language.specs.declared.kind.StatementKind.{StatementKind}
-use Rattle.language.specs.declared.kind.StatementKind.the-variants.{Nothing, Then, DoAt, Start, StartWait, Cooperate, Let, Store, If, While}
-use Rattle.language.specs.declared.kind.ExpressionKind.{ExpressionKind}
-use Rattle.language.specs.declared.kind.ExpressionKind.the-variants.{Number, Truth, Variable, SharedCell, NewCell, Content, Sum, Less, Choose}
-use Rattle.language.specs.declared.kind.Kind.{Kind}
-use Rattle.language.specs.declared.kind.Kind.the-variants.{Header, Declared, Module, Statement, Expression, Unknown}
-use Rattle.language.specs.declared.kind.Class.{Class}
-use Rattle.language.specs.declared.kind.Use.{Use}
-use Rattle.language.specs.declared.kind.Uses.{Uses}
+-- The table of kinds: each kind's number, and what each of its fields holds.
+use Rattle.basics.specs.Prelude.{List, [], _∷_, _++_, Bool, true, false, ℕ, zero, suc, eqb}
+use Rattle.basics.specs.Prelude.{if_then_else_}
+use Rattle.language.specs.declared.kind as kind
+use kind.{DeclarationKind.DeclarationKind, DeclarationKind.the-variants.Shared}
+use kind.StatementKind.{StatementKind}
+use kind.StatementKind.the-variants.{Nothing, Then, DoAt, Start, StartWait, Cooperate, Let}
+use kind.StatementKind.the-variants.{Store, If, While}
+use kind.ExpressionKind.{ExpressionKind}
+use kind.ExpressionKind.the-variants.{Number, Truth, Variable, SharedCell, NewCell, Content}
+use kind.ExpressionKind.the-variants.{Sum, Less, Choose}
+use kind.Kind.the-variants.{Header, Declared, Module, Statement, Expression, Unknown}
+use kind.{Kind.Kind, Class.Class, Use.Use, Uses.Uses}
 use Rattle.language.specs.declared.frame.Frame.{Frame}
 
 -- the kind that a number names: 01's table, 'K and S above are hexadecimal'
@@ -73,50 +69,37 @@ isModule Unknown = false
 abbrev sabc : Use → Use → Use → Use → Uses
 sabc s a b c = record { s = s; a = a; b = b; c = c }
 
-abbrev pub declarationUses : DeclarationKind → Uses
 -- 01 shared cell: S owner (a scheduler), A content type, B first content
+abbrev pub declarationUses : DeclarationKind → Uses
 declarationUses Shared = sabc Use.Scheduler Use.ContentType Use.FirstContent Use.Unused
 
+-- 10 nothing; 11 A, then B; 12 do A at place S; 13 start module S with arguments A, B; 14 the same,
+-- then wait; 15 cooperate; 16 let the next variable be A, in B; 17 store B in cell A; 18 if A then
+-- B else C; 19 while A do B
 abbrev pub statementUses : StatementKind → Uses
--- 10 nothing
 statementUses Nothing = sabc Use.Unused Use.Unused Use.Unused Use.Unused
--- 11 A, then B
 statementUses Then = sabc Use.Unused Use.Statement Use.Statement Use.Unused
--- 12 do A at place S
 statementUses DoAt = sabc Use.Place Use.Statement Use.Unused Use.Unused
--- 13 start module S with arguments A, B
 statementUses Start = sabc Use.Free Use.Argument Use.Further Use.Unused
--- 14 the same, then wait
 statementUses StartWait = sabc Use.Free Use.Argument Use.Further Use.Unused
--- 15 cooperate
 statementUses Cooperate = sabc Use.Unused Use.Unused Use.Unused Use.Unused
--- 16 let the next variable be A, in B
 statementUses Let = sabc Use.Unused Use.Expression Use.Statement Use.Unused
--- 17 store B in cell A
 statementUses Store = sabc Use.Unused Use.Expression Use.Expression Use.Unused
--- 18 if A then B else C
 statementUses If = sabc Use.Unused Use.Expression Use.Statement Use.Statement
--- 19 while A do B
 statementUses While = sabc Use.Unused Use.Expression Use.Statement Use.Unused
 
+-- 20 number A; 21 truth S (0 or 1); 22 variable S; 23 shared cell S; 24 new cell, owner S, content
+-- A; 25 content of cell A; 26 sum of numbers A, B; 27 number A is less than number B; 28 if truth
+-- A, number B, else number C
 abbrev pub expressionUses : ExpressionKind → Uses
--- 20 number A
 expressionUses Number = sabc Use.Unused Use.Free Use.Unused Use.Unused
--- 21 truth S (0 or 1)
 expressionUses Truth = sabc Use.Truth Use.Unused Use.Unused Use.Unused
--- 22 variable S
 expressionUses Variable = sabc Use.Free Use.Unused Use.Unused Use.Unused
--- 23 shared cell S
 expressionUses SharedCell = sabc Use.Free Use.Unused Use.Unused Use.Unused
--- 24 new cell, owner S, content A
 expressionUses NewCell = sabc Use.Place Use.Expression Use.Unused Use.Unused
--- 25 content of cell A
 expressionUses Content = sabc Use.Unused Use.Expression Use.Unused Use.Unused
--- 26 sum of numbers A, B
 expressionUses Sum = sabc Use.Unused Use.Expression Use.Expression Use.Unused
--- 27 number A is less than number B
 expressionUses Less = sabc Use.Unused Use.Expression Use.Expression Use.Unused
--- 28 if truth A, number B, else number C
 expressionUses Choose = sabc Use.Unused Use.Expression Use.Expression Use.Expression
 
 abbrev pub uses : Kind → Uses
@@ -169,4 +152,6 @@ childIn Use.SecondType n = []
 
 -- a frame's children, in order
 unfoldable pub children : Frame → List Child
-children f = childIn (uses (f .kind) .a) (f .a) ++ childIn (uses (f .kind) .b) (f .b) ++ childIn (uses (f .kind) .c) (f .c)
+children f =
+    let u = uses (f .kind) in
+    childIn (u .a) (f .a) ++ childIn (u .b) (f .b) ++ childIn (u .c) (f .c)

@@ -1,7 +1,7 @@
--- How much a text, a file, a state and a run hold at most: each of 01's figures is named here once. Assumes nothing: definitions.
-use Prim.Native.Nat.{ℕ}
+-- How much a text, a file, a state and a run hold at most: each of 01's figures is named here once.
+use Rattle.basics.specs.Prelude.{ℕ}
 
--- a line is '16 digits .., then a line feed'; 'at most 1,024 lines', so 'over 17,408 bytes' is too long
+-- a line is '16 digits .., then a line feed'; 'at most 1,024 lines', hence 'over 17,408 bytes'
 abbrev pub lineLength : ℕ
 lineLength = 17
 
@@ -11,7 +11,8 @@ mostLines = 1024
 abbrev pub mostBytes : ℕ
 mostBytes = 17408
 
--- a file: 'shared cells (at most 16)', 'modules (at most 16)', 'parameters over 2', 'at most 24 deep, so at most 25 variables are in scope'
+-- a file: 'shared cells (at most 16)', 'modules (at most 16)', 'parameters over 2', 'at most 24
+-- deep, so at most 25 variables are in scope'
 abbrev pub mostSchedulers : ℕ
 mostSchedulers = 8
 
@@ -30,7 +31,7 @@ mostDepth = 24
 abbrev pub mostVariables : ℕ
 mostVariables = 25
 
--- a state: 'a 65th thread', 'a 257th cell'; a continuation has as much space as the variables, and a list holds every thread
+-- a state: 'a 65th thread', 'a 257th cell'; a continuation has as much space as the variables
 abbrev pub mostThreads : ℕ
 mostThreads = 64
 
@@ -40,7 +41,8 @@ mostCells = 256
 abbrev pub mostItems : ℕ
 mostItems = 25
 
--- a run: the choices of the 49,152 bytes; the listing's lines of 14 bytes, its first and its last; 'A (0 means 4,096)'
+-- a run: the choices of the 49,152 bytes; the listing's lines of 14 bytes, its first and its last;
+-- 'A (0 means 4,096)'
 abbrev pub mostChoices : ℕ
 mostChoices = 16384
 

@@ -1,8 +1,5 @@
--- Places. 'Private is 1, home is 2, and the last scheduler is 9; a file has 2 to 1+B. A thread at place 1 is loose.' Assumes nothing: definitions.
-use mathlib.Core.Bool.{Bool, _&&_}
-use Prim.Native.Nat.{ℕ, _+_}
-use lib.Dec.{leb, eqb}
-use Rattle.basics.specs.If.{if_then_else_}
+-- 'Private is 1, home is 2, and the last scheduler is 9; a file has 2 to 1+B.'
+use Rattle.basics.specs.Prelude.{Bool, _&&_, ℕ, _+_, leb, eqb, if_then_else_}
 
 abbrev pub private : ℕ
 private = 1

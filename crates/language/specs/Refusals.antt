@@ -1,5 +1,5 @@
--- The numbers of the refusals, in the order of 01's 'Who can cause which refusal'. Assumes nothing: definitions.
-use Prim.Native.Nat.{ℕ}
+-- The numbers of the refusals, in the order of 01's 'Who can cause which refusal'.
+use Rattle.basics.specs.Prelude.{ℕ}
 
 -- 'Whoever moves files': 'empty text; over 17,408 bytes; not such lines'
 abbrev pub emptyText : ℕ
@@ -24,7 +24,8 @@ wrongOrder = 6
 abbrev pub tooDeep : ℕ
 tooDeep = 7
 
--- 'its rules': 'no such variable or shared cell, or a module ..; types ..; a private cell in a public new cell or as argument; effect; while loose ..; a loop body that can end at once'
+-- 'its rules': 'no such variable or shared cell, or a module ..; types ..; a private cell in a
+-- public new cell or as argument; effect; while loose ..; a loop body that can end at once'
 abbrev pub unbound : ℕ
 unbound = 8
 
@@ -43,7 +44,8 @@ whileUnlinked = 12
 abbrev pub instantLoop : ℕ
 instantLoop = 13
 
--- 'Whoever calls the stepper': 'a lent buffer of the wrong length, or a state with a word out of range; no such party; nothing'
+-- 'Whoever calls the stepper': 'a lent buffer of the wrong length, or a state with a word out of
+-- range; no such party; nothing'
 abbrev pub wrongState : ℕ
 wrongState = 14
 

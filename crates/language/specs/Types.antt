@@ -1,8 +1,7 @@
--- Type words. 'The last of four digits is 1 (number) or 2 (truth). Each digit to its left is the owner of a cell around what stands to its right; 0 only fills on the left.' Assumes nothing: definitions.
-use mathlib.Core.Bool.{Bool, not, _&&_, _||_}
-use Prim.Native.Nat.{ℕ, suc, _+_, _*_, _/_, _%_, _^_}
-use lib.Dec.{ltb, leb, eqb}
-use Rattle.basics.specs.If.{if_then_else_}
+-- Type words. 'The last of four digits is 1 (number) or 2 (truth). Each digit to its left is the
+-- owner of a cell around what stands to its right; 0 only fills on the left.'
+use Rattle.basics.specs.Prelude.{Bool, not, _&&_, _||_, ℕ, suc, _+_, _*_, _/_, _%_, _^_, ltb, leb}
+use Rattle.basics.specs.Prelude.{eqb, if_then_else_}
 use Rattle.language.specs.Places.{private, hasPlace}
 
 abbrev pub numberType : ℕ
@@ -23,7 +22,7 @@ isCell t = leb 0x0010 t
 unfoldable pub cellType : ℕ → ℕ → ℕ
 cellType o t = o * 16 ^ suc (cellDepth t) + t
 
--- of a cell's type: the outermost owner, 0 where the type is no cell's; and the type of what the cell holds
+-- of a cell's type: the outermost owner (0 where it is no cell's), and the type of its content
 unfoldable pub ownerOf : ℕ → ℕ
 ownerOf t = if isCell t then t / 16 ^ cellDepth t else 0
 
@@ -42,9 +41,11 @@ public t = not (eqb (ownerOf t) private)
 abbrev pub digitOf : ℕ → ℕ → ℕ
 digitOf k t = t / 16 ^ k % 16
 
--- o may be an owner's digit, with `left` to its left, in a file of b schedulers: '0 only fills on the left', 'A digit 1 (as owner) has only 1 or 0 to its left.'
+-- o may be an owner's digit, with `left` to its left, in a file of b schedulers: '0 only fills on
+-- the left', 'A digit 1 (as owner) has only 1 or 0 to its left.'
 unfoldable pub ownerDigit : ℕ → ℕ → ℕ → Bool
-ownerDigit b left o = if eqb o 0 then eqb left 0 else hasPlace b o && (not (eqb o private) || leb left private)
+ownerDigit b left o =
+    if eqb o 0 then eqb left 0 else hasPlace b o && (not (eqb o private) || leb left private)
 
 -- t is a type word in a file of b schedulers
 unfoldable pub typeWord : ℕ → ℕ → Bool

@@ -3,6 +3,7 @@
 use crate::Place;
 use crate::PlaceRead;
 ghost use mathlib.Core.Path.{_≡_};
+ghost use Prim.Native.Nat.{_^_};
 ghost use Rattle.language.specs.Places.{isPlace};
 ghost use Rattle.language.specs.inner.Reads.{placeRead, cellRead};
 ghost use Rattle.language.specs.Types.{cellDepth, isCell, ownerOf, contentOf, public};
@@ -12,6 +13,15 @@ pub const NUMBER: u16 = 0x0001;
 
 pub const TRUTH: u16 = 0x0002;
 
+// What a word's digits count: the last, then the owners from the inside out.
+const UNIT_0: u16 = 0x0001;
+
+const UNIT_1: u16 = 0x0010;
+
+const UNIT_2: u16 = 0x0100;
+
+const UNIT_3: u16 = 0x1000;
+
 // A cell's type around another: its word, or that there is none, since there are three cells
 // already or the owner is no place.
 pub enum CellRead {
@@ -19,41 +29,36 @@ pub enum CellRead {
     TooDeep,
 }
 
-fn cell_depth(t: u16) -> u8
-    ensures { λ r. ⌜ r ≡ cellDepth t ⌝ }
+// The unit of a word's leftmost digit.
+fn leftmost_unit(t: u16) -> u16
+    ensures { λ r. ⌜ r ≡ 16 ^ cellDepth t ⌝ }
 {
-    if t < 0x0010 {
-        return 0;
+    if t < UNIT_1 {
+        return UNIT_0;
     }
-    if t < 0x0100 {
-        return 1;
+    if t < UNIT_2 {
+        return UNIT_1;
     }
-    if t < 0x1000 {
-        return 2;
+    if t < UNIT_3 {
+        return UNIT_2;
     }
-    3
+    UNIT_3
 }
 
 pub fn is_cell(t: u16) -> bool
     ensures { λ r. ⌜ r ≡ isCell t ⌝ }
 {
-    0x0010 <= t
+    UNIT_1 <= t
 }
 
 // The leftmost digit of a cell's type, its outermost owner; 0 where it is no cell's.
 fn owner_digit(t: u16) -> u16
     ensures { λ r. ⌜ r ≡ ownerOf t ⌝ }
 {
-    if t < 0x0010 {
+    if t < UNIT_1 {
         return 0;
     }
-    if t < 0x0100 {
-        return t / 0x0010;
-    }
-    if t < 0x1000 {
-        return t / 0x0100;
-    }
-    t / 0x1000
+    t / leftmost_unit(t)
 }
 
 // The outermost owner of a cell's type; a number and a truth have none.
@@ -67,16 +72,7 @@ pub fn owner_of(t: u16) -> PlaceRead
 pub fn content_of(t: u16) -> u16
     ensures { λ r. ⌜ r ≡ contentOf t ⌝ }
 {
-    if t < 0x0010 {
-        return 0;
-    }
-    if t < 0x0100 {
-        return t % 0x0010;
-    }
-    if t < 0x1000 {
-        return t % 0x0100;
-    }
-    t % 0x1000
+    t % leftmost_unit(t)
 }
 
 pub fn is_public(t: u16) -> bool
@@ -99,16 +95,10 @@ pub fn cell_type(owner: Place, t: u16) -> CellRead
     if Place::LAST_SCHEDULER.number < o {
         return CellRead::TooDeep;
     }
-    if t < 0x0010 {
-        return CellRead::Word((o as u16) * 0x0010 + t);
+    if UNIT_3 <= t {
+        return CellRead::TooDeep;
     }
-    if t < 0x0100 {
-        return CellRead::Word((o as u16) * 0x0100 + t);
-    }
-    if t < 0x1000 {
-        return CellRead::Word((o as u16) * 0x1000 + t);
-    }
-    CellRead::TooDeep
+    CellRead::Word((o as u16) * (16 * leftmost_unit(t)) + t)
 }
 
 // Whether `o` may be an owner's digit with `left` to its left.
@@ -138,13 +128,13 @@ pub fn is_type_word(schedulers: u8, t: u16) -> bool
     if TRUTH < last {
         return false;
     }
-    if !is_owner_digit(schedulers, t / 0x0100 % 16, t / 0x0010 % 16) {
+    if !is_owner_digit(schedulers, t / UNIT_2 % 16, t / UNIT_1 % 16) {
         return false;
     }
-    if !is_owner_digit(schedulers, t / 0x1000 % 16, t / 0x0100 % 16) {
+    if !is_owner_digit(schedulers, t / UNIT_3 % 16, t / UNIT_2 % 16) {
         return false;
     }
-    is_owner_digit(schedulers, 0, t / 0x1000 % 16)
+    is_owner_digit(schedulers, 0, t / UNIT_3 % 16)
 }
 
 // Whether t may be the type of a shared cell's content.
@@ -157,5 +147,5 @@ pub fn is_content_word(schedulers: u8, t: u16) -> bool
     if !is_public(t) {
         return false;
     }
-    cell_depth(t) <= 2
+    t < UNIT_3
 }

@@ -6,18 +6,18 @@ use Prim.Native.Nat.{ℕ}
 use native.Mathlib.Omega.{arith}
 use lib.ListN.{take}
 use Rattle.language.specs.declared.frame.Frame.{Frame}
-use Rattle.language.specs.declared.verdict.Verdict.the-variants.{Accepted, Rejected}
 use Rattle.text.specs.Frames.{framesOf, textFrames}
 use Rattle.text.specs.Reading.{Reading, frames, refused, Reads}
 use Rattle.text.specs.inner.Reading.{reading}
 use Rattle.text.proofs.Readings.{reads, reads-one, some-frame}
+use Rattle.layout.specs.declared.LayoutVerdict.the-variants.{LaidOut, Rejected}
 use Rattle.layout.specs.Faults.{NoFault}
 use Rattle.layout.specs.inner.Scans.{layoutOf}
-use Rattle.layout.specs.inner.Layouts.{layoutRead, layoutVerdict, LaidOut, laidOut}
+use Rattle.layout.specs.inner.Layouts.{layoutRead, layoutVerdict, LaidWords, laidWords}
 use Rattle.layout.specs.LaidOut.{afterLayout, afterReading}
 use Rattle.layout.proofs.Answers.{verdict-is}
-use Rattle.layout.proofs.Scopes.{no-fault-accepted}
-use Rattle.layout.proofs.Accepted.{laid-passed}
+use Rattle.layout.proofs.Scopes.{no-fault-laid-out}
+use Rattle.layout.proofs.Judged.{laid-passed}
 
 module _ {A : Type 0} (refusal : ℕ → ℕ → A) (passed : List Frame → A) (bs : List ℕ) where
   -- by the rules: the text reads as these frames, and they have no fault
@@ -26,9 +26,9 @@ module _ {A : Type 0} (refusal : ℕ → ℕ → A) (passed : List Frame → A) 
   text-fine fs h f =
       sym
       (ap (afterReading refusal passed) (reads-one (reads bs) h)
-      ∙ ap (afterLayout refusal (passed fs)) (no-fault-accepted fs (some-frame h refl) f))
+      ∙ ap (afterLayout refusal (passed fs)) (no-fault-laid-out fs (some-frame h refl) f))
 
-  module _ (l : LaidOut) (e : l ≡ laidOut bs) where
+  module _ (l : LaidWords) (e : l ≡ laidWords bs) where
     by-reading : (r : Reading) → reading bs ≡ r → (n j : ℕ) → l .verdict ≡ Rejected n j
         → refusal n j ≡ afterReading refusal passed r
     unfolding layoutVerdict
@@ -43,11 +43,11 @@ module _ {A : Type 0} (refusal : ℕ → ℕ → A) (passed : List Frame → A) 
         → refusal n j ≡ afterReading refusal passed (reading bs)
     text-refused n j z = by-reading (reading bs) refl n j z
 
-    pub text-passed : l .verdict ≡ Accepted → (n : ℕ) → n ≡ l .count
+    pub text-passed : l .verdict ≡ LaidOut → (n : ℕ) → n ≡ l .count
         → passed (framesOf (take n (l .words))) ≡ afterReading refusal passed (reading bs)
     text-passed a n q =
         let r = laid-passed bs l e a in
         ap (λ (k : ℕ). passed (framesOf (take k (l .words)))) q ∙ ap passed (r .lines)
         ∙ sym
         (ap (afterReading refusal passed) (r .reads)
-        ∙ ap (afterLayout refusal (passed (textFrames bs))) (no-fault-accepted (textFrames bs) (let c = r .count in let s = r .some in omega arith) (r .no-fault)))
+        ∙ ap (afterLayout refusal (passed (textFrames bs))) (no-fault-laid-out (textFrames bs) (let c = r .count in let s = r .some in omega arith) (r .no-fault)))

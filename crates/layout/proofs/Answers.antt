@@ -6,8 +6,6 @@ use native.Mathlib.Omega.{arith}
 use lib.ListN.{length, take, replicate}
 use lib.Seq.{take-at}
 use Rattle.language.specs.declared.frame.Frame.{Frame}
-use Rattle.language.specs.declared.verdict.Verdict.{Verdict}
-use Rattle.language.specs.declared.verdict.Verdict.the-variants.{Accepted, Rejected}
 use Rattle.text.specs.Frames.{wordsOf, framesOf, textFrames}
 use Rattle.text.specs.Reading.{Reading, frames, refused, Reads}
 use Rattle.text.specs.inner.Reading.{reading, textRead, linesRead, wordArray, TextWords, readAs}
@@ -16,39 +14,41 @@ use Rattle.text.specs.declared.reading.TextRead.{TextRead}
 use Rattle.text.specs.declared.reading.TextRead.the-variants.{Frames, Refused}
 use Rattle.text.proofs.Readings.{reads, some-frame}
 use Rattle.text.proofs.ReadLaws.{length-frames, array-length, read-field, length-words}
-use Rattle.fields.specs.declared.found.Found.{Found}
-use Rattle.fields.specs.declared.found.Found.the-variants.{At, Nowhere}
+use Rattle.fields.specs.declared.fault_search.FaultSearch.{FaultSearch}
+use Rattle.fields.specs.declared.fault_search.FaultSearch.the-variants.{At, Nowhere}
 use Rattle.fields.specs.inner.Scans.{headerFault, fieldFault, found}
 use Rattle.fields.proofs.Finds.{found-none, found-some}
+use Rattle.layout.specs.declared.LayoutVerdict.{LayoutVerdict}
+use Rattle.layout.specs.declared.LayoutVerdict.the-variants.{LaidOut, Rejected}
 use Rattle.layout.specs.inner.Scans.{orderFault, depthFault, layoutOf}
-use Rattle.layout.specs.inner.Layouts.{layoutRead, layoutVerdict, LaidOut, laidOut}
+use Rattle.layout.specs.inner.Layouts.{layoutRead, layoutVerdict, LaidWords, laidWords}
 
 -- ---- 4 to 7: the code stops at the first pass that finds a frame
-module _ (fs : List Frame) (a : Found) (ha : a ≡ found (headerFault fs)) where
+module _ (fs : List Frame) (a : FaultSearch) (ha : a ≡ found (headerFault fs)) where
   pub laid-4 : (j : ℕ) → a ≡ At j → Rejected 4 j ≡ layoutOf fs
   unfolding layoutOf
   laid-4 j e = rw (found-some (headerFault fs) e ha)
 
-  module _ (na : a ≡ Nowhere) (b : Found) (hb : b ≡ found (fieldFault fs)) where
+  module _ (na : a ≡ Nowhere) (b : FaultSearch) (hb : b ≡ found (fieldFault fs)) where
     pub laid-5 : (j : ℕ) → b ≡ At j → Rejected 5 j ≡ layoutOf fs
     unfolding layoutOf
     laid-5 j e = rw (found-none (headerFault fs) na ha, found-some (fieldFault fs) e hb)
 
-    module _ (nb : b ≡ Nowhere) (c : Found) (hc : c ≡ found (orderFault fs)) where
+    module _ (nb : b ≡ Nowhere) (c : FaultSearch) (hc : c ≡ found (orderFault fs)) where
       pub laid-6 : (j : ℕ) → c ≡ At j → Rejected 6 j ≡ layoutOf fs
       unfolding layoutOf
       laid-6 j e = rw (found-none (headerFault fs) na ha, found-none (fieldFault fs) nb hb, found-some (orderFault fs) e hc)
 
-      module _ (nc : c ≡ Nowhere) (d : Found) (hd : d ≡ found (depthFault fs)) where
+      module _ (nc : c ≡ Nowhere) (d : FaultSearch) (hd : d ≡ found (depthFault fs)) where
         pub laid-7 : (j : ℕ) → d ≡ At j → Rejected 7 j ≡ layoutOf fs
         unfolding layoutOf
         laid-7 j e = rw (found-none (headerFault fs) na ha, found-none (fieldFault fs) nb hb, found-none (orderFault fs) nc hc, found-some (depthFault fs) e hd)
 
-        pub laid-accepted : d ≡ Nowhere → Accepted ≡ layoutOf fs
+        pub laid-out : d ≡ Nowhere → LaidOut ≡ layoutOf fs
         unfolding layoutOf
-        laid-accepted e = rw (found-none (headerFault fs) na ha, found-none (fieldFault fs) nb hb, found-none (orderFault fs) nc hc, found-none (depthFault fs) e hd)
+        laid-out e = rw (found-none (headerFault fs) na ha, found-none (fieldFault fs) nb hb, found-none (orderFault fs) nc hc, found-none (depthFault fs) e hd)
 
-pub ruleset layout-laws = (laid-4, laid-5, laid-6, laid-7, laid-accepted)
+pub ruleset layout-laws = (laid-4, laid-5, laid-6, laid-7, laid-out)
 
 -- ---- a text that reads as n frames
 pub record Whole (bs : List ℕ) (n : ℕ) : Type 0 where
@@ -82,7 +82,7 @@ unfolding wordArray
 array-take n bs = take-at (wordsOf n bs) (replicate (1024 - n) 0) n (length-words n bs)
 
 -- ---- 1 to 7, with the lines read: t is what the reader answered, ws what the lent words hold
-abbrev answer : Verdict → ℕ → List ℕ → LaidOut
+abbrev answer : LayoutVerdict → ℕ → List ℕ → LaidWords
 answer v n ws = record { verdict = v; count = n; words = ws }
 
 module _ (bs : List ℕ) (t : TextRead) (ws : List ℕ) (h : readAs t ws ≡ textWords bs) where
@@ -90,13 +90,15 @@ module _ (bs : List ℕ) (t : TextRead) (ws : List ℕ) (h : readAs t ws ≡ tex
   unfolding textWords
   words-are = ap (λ (x : TextWords). x .words) h
 
-  by-reading : (r : Reading) → reading bs ≡ r → answer (layoutRead r) (linesRead r) ws ≡ laidOut bs
-  unfolding laidOut layoutVerdict
+  by-reading : (r : Reading) → reading bs ≡ r
+      → answer (layoutRead r) (linesRead r) ws ≡ laidWords bs
+  unfolding laidWords layoutVerdict
   by-reading r e =
       ap (λ (s : Reading). answer (layoutRead s) (linesRead s) ws) (sym e)
-      ∙ ap (λ (x : TextWords). answer (layoutRead (reading bs)) (linesRead (reading bs)) (x .words)) h
+      ∙ ap
+      (λ (x : TextWords). answer (layoutRead (reading bs)) (linesRead (reading bs)) (x .words)) h
 
-  pub laid-refused : (n j : ℕ) → t ≡ Refused n j → answer (Rejected n j) j ws ≡ laidOut bs
+  pub laid-refused : (n j : ℕ) → t ≡ Refused n j → answer (Rejected n j) j ws ≡ laidWords bs
   laid-refused n j e =
       by-reading (refused n j) (go (reading bs) (sym (read-field bs (readAs t ws) h) ∙ e))
     where
@@ -136,15 +138,15 @@ module _ (bs : List ℕ) (t : TextRead) (ws : List ℕ) (h : readAs t ws ≡ tex
     frames-are =
         ap framesOf (taken ∙ ap (λ (k : ℕ). wordsOf k bs) (sym (w .count) ∙ length-frames bs))
 
-    pub laid-whole : (v : Verdict) → v ≡ layoutOf (framesOf (take n ws))
-        → answer v n ws ≡ laidOut bs
+    pub laid-whole : (v : LayoutVerdict) → v ≡ layoutOf (framesOf (take n ws))
+        → answer v n ws ≡ laidWords bs
     laid-whole v q =
-        ap (λ (x : Verdict). answer x n ws) (q ∙ ap layoutOf frames-are)
+        ap (λ (x : LayoutVerdict). answer x n ws) (q ∙ ap layoutOf frames-are)
         ∙ ap (λ (k : ℕ). answer (layoutOf (textFrames bs)) k ws) (sym (w .count))
         ∙ by-reading (frames (textFrames bs)) (w .is)
 
 pub ruleset laid-laws = (laid-refused, laid-whole)
 
-pub verdict-is : (bs : List ℕ) (l : LaidOut) → l ≡ laidOut bs → l .verdict ≡ layoutVerdict bs
-unfolding laidOut
-verdict-is bs l e = ap (λ (x : LaidOut). x .verdict) e
+pub verdict-is : (bs : List ℕ) (l : LaidWords) → l ≡ laidWords bs → l .verdict ≡ layoutVerdict bs
+unfolding laidWords
+verdict-is bs l e = ap (λ (x : LaidWords). x .verdict) e

@@ -58,7 +58,8 @@ module _ {fs : List Frame} (rec : ℕ → Expr) (roots : (j : ℕ) → rootE (re
       let l = r .last in
       let k = tree-le (r .next) in
       let m = tree-le (r .third) in
-      make (placed a lo (omega arith) (r .tree)) (after a b (omega arith) (r .next)) (after b c (omega arith) (r .third)) (below c l)
+      make (placed a lo (omega arith) (r .tree)) (after a b (omega arith) (r .next))
+      (after b c (omega arith) (r .third)) (below c l)
 
   placed-e-of : (k : Kind) → Row fs lo i (childrenAs k f) → PlacedE lo (expressionOf rec i f k)
   placed-e-of Header r = PlacedE.number (row-le r)
@@ -95,7 +96,7 @@ module _ (fs : List Frame) (rec : ℕ → Stmt) (roots : (j : ℕ) → rootS (re
   abbrev expr : ℕ → Expr
   expr j = expressionAt fs j
 
-  -- a later child, behind a statement or behind an expression
+  -- a later child, after a statement or after an expression
   s-after-s : (a b : ℕ) → b < i → Tree fs (suc a) b → PlacedS (suc (rootS (rec a))) (rec b)
   s-after-s a b l t = from-s (ap suc (sym (roots a))) (placed b (suc a) l t)
 
@@ -123,7 +124,8 @@ module _ (fs : List Frame) (rec : ℕ → Stmt) (roots : (j : ℕ) → rootS (re
   s-two a b make r =
       let l = r .last in
       let k = tree-le (r .next) in
-      make (placed a lo (omega arith) (r .tree)) (s-after-s a b (omega arith) (r .next)) (below-s b l)
+      make (placed a lo (omega arith) (r .tree)) (s-after-s a b (omega arith) (r .next))
+      (below-s b l)
 
   s-with : {q : Stmt} (a b : ℕ)
       → (PlacedE lo (expr a) → PlacedS (suc (rootE (expr a))) (rec b) → rootS (rec b) < i → PlacedS lo q)
@@ -140,14 +142,16 @@ module _ (fs : List Frame) (rec : ℕ → Stmt) (roots : (j : ℕ) → rootS (re
   s-ifElse a b c r =
       let l = r .last in
       let k = tree-le (r .third) in
-      PlacedS.ifElse (placed-expr fs a lo (r .tree)) (s-after-e a b (omega arith) (r .next)) (s-after-s b c (omega arith) (r .third)) (below-s c l)
+      PlacedS.ifElse (placed-expr fs a lo (r .tree)) (s-after-e a b (omega arith) (r .next))
+      (s-after-s b c (omega arith) (r .third)) (below-s c l)
 
   s-arguments : (a b : ℕ) → Row fs lo i (childIn Use.Argument a ++ childIn Use.Further b ++ [])
       → PlacedEs lo (arguments (λ j. expressionAt fs j) a b) i
   s-arguments zero b r = PlacedEs.none (row-le r)
   s-arguments (suc a) zero r =
       let o = one-of r in
-      PlacedEs.more (placed-expr fs (suc a) lo (o .tree)) (PlacedEs.none (below-e (suc a) (o .last)))
+      PlacedEs.more (placed-expr fs (suc a) lo (o .tree))
+      (PlacedEs.none (below-e (suc a) (o .last)))
   s-arguments (suc a) (suc b) r =
       let o = two-of r in
       PlacedEs.more (placed-expr fs (suc a) lo (o .tree)) (PlacedEs.more (e-after-e (suc a) (suc b) (o .next)) (PlacedEs.none (below-e (suc b) (o .last))))

@@ -15,7 +15,7 @@ use Rattle.language.specs.declared.frame.Frame.{Frame}
 use Rattle.text.specs.Frames.{framesOf}
 use Rattle.text.proofs.FrameWords.{frames-length}
 use Rattle.program.specs.Trees.{noFrame, frameAt}
-use Rattle.fields.specs.declared.found.Found.the-variants.{At, Nowhere}
+use Rattle.fields.specs.declared.fault_search.FaultSearch.the-variants.{At, Nowhere}
 use Rattle.fields.specs.inner.Scans.{found}
 use Rattle.fields.proofs.Seeking.{Seeking, seek-here, seek-next, seek-end}
 use Rattle.layout.specs.Faults.{Fault}
@@ -79,7 +79,8 @@ test-is : (ws u : List ℕ) (i : ℕ) (b : Bool)
     → u ≡ depthsDown (length ws) (framesOf ws) (replicate 1024 0) → ltb 24 (getD u i 0) ≡ b
     → overTest (framesOf ws) i (frameAt (framesOf ws) i) ≡ b
 test-is ws u i b e h =
-    ap (λ (n : ℕ). ltb 24 (getD (depthsDown n (framesOf ws) (replicate 1024 0)) i 0)) (frames-length ws)
+    ap (λ (n : ℕ). ltb 24 (getD (depthsDown n (framesOf ws) (replicate 1024 0)) i 0))
+    (frames-length ws)
     ∙ ap (λ (x : List ℕ). ltb 24 (getD x i 0)) (sym e) ∙ h
 
 module _ (ws u : List ℕ) (i : ℕ) where

@@ -51,7 +51,7 @@ pub seven : {fs : List Frame} {n j : ℕ} → Fault fs n j → n ≡ 7 → AtLea
 seven (Fault.header h) e = absurd (omega arith)
 seven (Fault.field l h) e = absurd (omega arith)
 seven (Fault.order l h) e = absurd (omega arith)
-seven (Fault.behind a b c d) e = absurd (omega arith)
+seven (Fault.misplaced a b c d) e = absurd (omega arith)
 seven (Fault.leftover a b c) e = absurd (omega arith)
 seven (Fault.main a b) e = absurd (omega arith)
 seven (Fault.depth {d = d} h l) e = record { depth = d; is = h; least = l }
@@ -114,7 +114,8 @@ module _ (fs : List Frame) (trees : (j : ℕ) → j < length fs → HasTree fs j
       self j e h = rw e (record { depth = d; reach = Reach.here; over = h })
 
       split : (j e : ℕ) → Reach fs i d j e → mostDepth < e
-          → Some (λ c k. Deep fs c (suc d) k) (children (frameAt fs i)) j ⊎ ((j ≡ i) × (mostDepth < d))
+          → Some (λ c k. Deep fs c (suc d) k) (children (frameAt fs i)) j ⊎
+          ((j ≡ i) × (mostDepth < d))
       split j e Reach.here h = inr (refl, h)
       split j e (Reach.down {c = c} m r) h = inl (record { child = c; among = m; holds = record { depth = e; reach = r; over = h } })
 
@@ -134,7 +135,8 @@ module _ (fs : List Frame) (trees : (j : ℕ) → j < length fs → HasTree fs j
           → Lowest (DeepIn f) (elim b [ true ↦ deepTo (suc (f .a)) fs 1 (f .a) | false ↦ none ])
       go true t =
           let e = is-module (f .kind) t in
-          same-low (λ j p. record { module-frame = e; deep = p }) (λ j p. p .deep) (deep-low (suc (f .a)) (f .a) 1 (omega arith) (h e))
+          same-low (λ j p. record { module-frame = e; deep = p }) (λ j p. p .deep)
+          (deep-low (suc (f .a)) (f .a) 1 (omega arith) (h e))
       go false t = Lowest.nowhere (λ j p. not-module (f .kind) t (p .module-frame))
 
   -- too deep below the body of a module among the frames of the list

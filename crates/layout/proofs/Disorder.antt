@@ -145,7 +145,7 @@ data Disorder (fs : List Frame) (i : ℕ) : Option ℕ → Type 0 where
   stop : {j : ℕ} → i ≤ j → j < length fs → (HasTree fs j → ⊥)
       → ((k : ℕ) → i ≤ k → k < j → HasTree fs k) → Disorder fs i (some j)
 
--- where frame i has a tree, a frame from i on has one if those behind i have
+-- where frame i has a tree, a frame from i on has one if those after i have
 tree-from : {fs : List Frame} {i : ℕ} → HasTree fs i → (k : ℕ) → i ≤ k → (suc i ≤ k → HasTree fs k)
     → HasTree fs k
 tree-from {fs} {i} t k l g = go (eqb k i) refl

@@ -21,13 +21,28 @@ use Rattle.program.specs.declared.frames.Children.{Children}
 use Rattle.program.specs.declared.frames.Children.the-variants.{Nothing, One, Two, Three}
 use Rattle.program.specs.inner.Children.{sameClass, listOf, childrenOf}
 use Rattle.program.proofs.FrameLaws.{frames-next, children-are}
-use Rattle.fields.specs.declared.found.Found.{Found}
-use Rattle.fields.specs.declared.found.Found.the-variants.{At, Nowhere}
+use Rattle.fields.specs.declared.fault_search.FaultSearch.the-variants.{At, Nowhere}
 use Rattle.fields.specs.inner.Scans.{found}
-use Rattle.fields.proofs.Finds.{found-none, found-some}
+use Rattle.layout.specs.declared.in_order.Subtree.{Subtree}
+use Rattle.layout.specs.declared.in_order.Subtree.the-variants.{From, OutOfOrder}
 use Rattle.layout.specs.inner.Scans.{Passed, passed, rowFirst, firstDisorder}
-use Rattle.layout.specs.inner.Passes.{told, Backward}
+use Rattle.layout.specs.inner.Passes.{subtreeOf, told, Backward}
 use Rattle.layout.proofs.Disorder.{nobody, at-passed}
+
+-- ---- where a row begins, from the code's answer
+subtree-none : (o : Option ℕ) {x : Subtree} → x ≡ OutOfOrder → x ≡ subtreeOf o → o ≡ none
+subtree-none o e h = go o (sym h ∙ e)
+  where
+    go : (q : Option ℕ) → subtreeOf q ≡ OutOfOrder → q ≡ none
+    go none p = refl
+    go (some n) p = absurd (let z : _≡_ {A = ℕ} 0 1 = cc in omega arith)
+
+subtree-some : (o : Option ℕ) {x : Subtree} {s : ℕ} → x ≡ From s → x ≡ subtreeOf o → o ≡ some s
+subtree-some o {x} {s} e h = go o (sym h ∙ e)
+  where
+    go : (q : Option ℕ) → subtreeOf q ≡ From s → q ≡ some s
+    go none p = absurd (let z : _≡_ {A = ℕ} 0 1 = cc in omega arith)
+    go (some n) p = let z : n ≡ s = cc in ap some z
 
 -- ---- what the array tells
 told-get : (fs : List Frame) (first : List ℕ) (i c : ℕ) → c < i
@@ -70,12 +85,12 @@ module _ (fs : List Frame) (first : List ℕ) (i stop v : ℕ) (k : Class) where
   -- a number from i on; one not just before `stop`; a frame of another class; and the child as it
   -- should be
   pub child-past : stop ≤ i → i ≤ v
-      → Nowhere ≡ found (rowFirst (told fs first i) i stop (child k v ∷ []))
-  child-past m l = ap found (sym (one-child ∙ ap (λ (b : Bool). chosen (at-v .first) (b && sameClass (at-v .class) k)) (ne-eqb (suc v) stop (λ e. omega arith))))
+      → OutOfOrder ≡ subtreeOf (rowFirst (told fs first i) i stop (child k v ∷ []))
+  child-past m l = ap subtreeOf (sym (one-child ∙ ap (λ (b : Bool). chosen (at-v .first) (b && sameClass (at-v .class) k)) (ne-eqb (suc v) stop (λ e. omega arith))))
 
   pub child-apart : (v + 1 ≡ stop → ⊥)
-      → Nowhere ≡ found (rowFirst (told fs first i) i stop (child k v ∷ []))
-  child-apart n = ap found (sym (one-child ∙ ap (λ (b : Bool). chosen (at-v .first) (b && sameClass (at-v .class) k)) (ne-eqb (suc v) stop (λ e. n (omega arith)))))
+      → OutOfOrder ≡ subtreeOf (rowFirst (told fs first i) i stop (child k v ∷ []))
+  child-apart n = ap subtreeOf (sym (one-child ∙ ap (λ (b : Bool). chosen (at-v .first) (b && sameClass (at-v .class) k)) (ne-eqb (suc v) stop (λ e. n (omega arith)))))
 
   known : v < i → v + 1 ≡ stop
       → rowFirst (told fs first i) i stop (child k v ∷ [])
@@ -83,7 +98,8 @@ module _ (fs : List Frame) (first : List ℕ) (i stop v : ℕ) (k : Class) where
   known l e =
       let s : suc v ≡ stop = omega arith in
       one-child
-      ∙ ap (λ (b : Bool). chosen (at-v .first) (b && sameClass (at-v .class) k)) (eq-eqb (suc v) stop s)
+      ∙ ap (λ (b : Bool). chosen (at-v .first) (b && sameClass (at-v .class) k))
+      (eq-eqb (suc v) stop s)
       ∙ ap (λ (p : Passed). chosen (p .first) (sameClass (p .class) k)) (told-get fs first i v l)
 
   class-is : (x : Bool) (f : Frame) (c : Class) → f ≡ frameAt fs v → c ≡ classOf (f .kind)
@@ -93,18 +109,18 @@ module _ (fs : List Frame) (first : List ℕ) (i stop v : ℕ) (k : Class) where
 
   pub child-class : (x : Bool) (f : Frame) (c : Class) → f ≡ frameAt fs v → c ≡ classOf (f .kind)
       → x ≡ sameClass c k → not x ≡ true → v < i → v + 1 ≡ stop
-      → Nowhere ≡ found (rowFirst (told fs first i) i stop (child k v ∷ []))
-  child-class x f c e g h n l s = ap found (sym (known l s ∙ ap (chosen (getD first v 0)) (class-is x f c e g h ∙ not-true x n)))
+      → OutOfOrder ≡ subtreeOf (rowFirst (told fs first i) i stop (child k v ∷ []))
+  child-class x f c e g h n l s = ap subtreeOf (sym (known l s ∙ ap (chosen (getD first v 0)) (class-is x f c e g h ∙ not-true x n)))
 
   pub child-there : (x : Bool) (f : Frame) (c : Class) → f ≡ frameAt fs v → c ≡ classOf (f .kind)
       → x ≡ sameClass c k → not x ≡ false → v < i → v + 1 ≡ stop
-      → At (getD first v 0) ≡ found (rowFirst (told fs first i) i stop (child k v ∷ []))
-  child-there x f c e g h n l s = ap found (sym (known l s ∙ ap (chosen (getD first v 0)) (class-is x f c e g h ∙ not-false x n)))
+      → From (getD first v 0) ≡ subtreeOf (rowFirst (told fs first i) i stop (child k v ∷ []))
+  child-there x f c e g h n l s = ap subtreeOf (sym (known l s ∙ ap (chosen (getD first v 0)) (class-is x f c e g h ∙ not-false x n)))
 
 pub ruleset child-laws = (child-past, child-apart, child-class, child-there)
 
 -- ---- the row
--- a row goes on where the row behind it begins
+-- a row goes on where the row after it begins
 abbrev andThen : Option ℕ → (ℕ → Option ℕ) → Option ℕ
 andThen none f = none
 andThen (some s) f = f s
@@ -117,66 +133,69 @@ row-append ps i (c ∷ xs) ys stop = go (eqb (suc (c .at)) stop && sameClass (ge
   where
     go : (b : Bool)
         → rowFirst ps i (getD ps (i - suc (c .at)) nobody .first) (xs ++ ys)
-        ≡ andThen (rowFirst ps i (getD ps (i - suc (c .at)) nobody .first) xs) (λ s. rowFirst ps i s ys)
+        ≡ andThen (rowFirst ps i (getD ps (i - suc (c .at)) nobody .first) xs)
+        (λ s. rowFirst ps i s ys)
         → _≡_ {A = Option ℕ} (elim b [ true ↦ rowFirst ps i (getD ps (i - suc (c .at)) nobody .first) (xs ++ ys) | false ↦ none ]) (andThen (elim b [ true ↦ rowFirst ps i (getD ps (i - suc (c .at)) nobody .first) xs | false ↦ none ]) (λ s. rowFirst ps i s ys))
     go true h = h
     go false h = refl
 
 -- two children, the later one first
-module _ (ps : List Passed) (i stop : ℕ) (k l : Class) (a b : ℕ) (x : Found) where
-  pub pair-none : x ≡ Nowhere → x ≡ found (rowFirst ps i stop (child l b ∷ []))
-      → Nowhere ≡ found (rowFirst ps i stop (child l b ∷ child k a ∷ []))
+module _ (ps : List Passed) (i stop : ℕ) (k l : Class) (a b : ℕ) (x : Subtree) where
+  pub pair-none : x ≡ OutOfOrder → x ≡ subtreeOf (rowFirst ps i stop (child l b ∷ []))
+      → OutOfOrder ≡ subtreeOf (rowFirst ps i stop (child l b ∷ child k a ∷ []))
   pair-none e p =
-      let z = found-none (rowFirst ps i stop (child l b ∷ [])) e p in
-      ap found (sym (row-append ps i (child l b ∷ []) (child k a ∷ []) stop ∙ ap (λ (o : Option ℕ). andThen o (λ s. rowFirst ps i s (child k a ∷ []))) z))
+      let z = subtree-none (rowFirst ps i stop (child l b ∷ [])) e p in
+      ap subtreeOf (sym (row-append ps i (child l b ∷ []) (child k a ∷ []) stop ∙ ap (λ (o : Option ℕ). andThen o (λ s. rowFirst ps i s (child k a ∷ []))) z))
 
-  pub pair-some : (r : Found) (t : ℕ) → x ≡ At t → x ≡ found (rowFirst ps i stop (child l b ∷ []))
-      → r ≡ found (rowFirst ps i t (child k a ∷ []))
-      → r ≡ found (rowFirst ps i stop (child l b ∷ child k a ∷ []))
+  pub pair-some : (r : Subtree) (t : ℕ) → x ≡ From t
+      → x ≡ subtreeOf (rowFirst ps i stop (child l b ∷ []))
+      → r ≡ subtreeOf (rowFirst ps i t (child k a ∷ []))
+      → r ≡ subtreeOf (rowFirst ps i stop (child l b ∷ child k a ∷ []))
   pair-some r t e p q =
-      let z = found-some (rowFirst ps i stop (child l b ∷ [])) e p in
-      q ∙ ap found (sym (row-append ps i (child l b ∷ []) (child k a ∷ []) stop ∙ ap (λ (o : Option ℕ). andThen o (λ s. rowFirst ps i s (child k a ∷ []))) z))
+      let z = subtree-some (rowFirst ps i stop (child l b ∷ [])) e p in
+      q ∙ ap subtreeOf (sym (row-append ps i (child l b ∷ []) (child k a ∷ []) stop ∙ ap (λ (o : Option ℕ). andThen o (λ s. rowFirst ps i s (child k a ∷ []))) z))
 
 -- each arm of the match on the children of a frame
 module _ (ps : List Passed) (i : ℕ) (f : Frame) (x : Children) (h : x ≡ childrenOf f) where
   row-of : (v : Children) → x ≡ v
-      → found (rowFirst ps i i (reverse (listOf v)))
-      ≡ found (rowFirst ps i i (reverse (children f)))
+      → subtreeOf (rowFirst ps i i (reverse (listOf v)))
+      ≡ subtreeOf (rowFirst ps i i (reverse (children f)))
   row-of v e =
-      ap (λ (cs : List Child). found (rowFirst ps i i (reverse cs))) (children-are f x v h e)
+      ap (λ (cs : List Child). subtreeOf (rowFirst ps i i (reverse cs))) (children-are f x v h e)
 
-  pub row-none : x ≡ Nothing → At i ≡ found (rowFirst ps i i (reverse (children f)))
-  row-none e = ap found end ∙ row-of Nothing e
+  pub row-none : x ≡ Nothing → From i ≡ subtreeOf (rowFirst ps i i (reverse (children f)))
+  row-none e = ap subtreeOf end ∙ row-of Nothing e
     where
       end : some i ≡ rowFirst ps i i []
       end = unfold rowFirst in refl
 
-  module _ (k : Class) (a : ℕ) (r : Found) where
-    pub row-one : x ≡ One k a → r ≡ found (rowFirst ps i i (child k a ∷ []))
-        → r ≡ found (rowFirst ps i i (reverse (children f)))
+  module _ (k : Class) (a : ℕ) (r : Subtree) where
+    pub row-one : x ≡ One k a → r ≡ subtreeOf (rowFirst ps i i (child k a ∷ []))
+        → r ≡ subtreeOf (rowFirst ps i i (reverse (children f)))
     row-one e p = p ∙ row-of (One k a) e
 
     module _ (l : Class) (b : ℕ) where
-      pub row-two : x ≡ Two k a l b → r ≡ found (rowFirst ps i i (child l b ∷ child k a ∷ []))
-          → r ≡ found (rowFirst ps i i (reverse (children f)))
+      pub row-two : x ≡ Two k a l b → r ≡ subtreeOf (rowFirst ps i i (child l b ∷ child k a ∷ []))
+          → r ≡ subtreeOf (rowFirst ps i i (reverse (children f)))
       row-two e p = p ∙ row-of (Two k a l b) e
 
-      module _ (m : Class) (c : ℕ) (y : Found) (e : x ≡ Three k a l b m c) (q : y ≡ found (rowFirst ps i i (child m c ∷ []))) where
+      module _ (m : Class) (c : ℕ) (y : Subtree) (e : x ≡ Three k a l b m c) (q : y ≡ subtreeOf (rowFirst ps i i (child m c ∷ []))) where
         rest : (o : Option ℕ) → rowFirst ps i i (child m c ∷ []) ≡ o
-            → found (andThen o (λ s. rowFirst ps i s (child l b ∷ child k a ∷ [])))
-            ≡ found (rowFirst ps i i (reverse (children f)))
+            → subtreeOf (andThen o (λ s. rowFirst ps i s (child l b ∷ child k a ∷ [])))
+            ≡ subtreeOf (rowFirst ps i i (reverse (children f)))
         rest o z =
-            ap (λ (o : Option ℕ). found (andThen o (λ s. rowFirst ps i s (child l b ∷ child k a ∷ [])))) (sym z)
-            ∙ ap found (sym (row-append ps i (child m c ∷ []) (child l b ∷ child k a ∷ []) i))
+            ap (λ (o : Option ℕ). subtreeOf (andThen o (λ s. rowFirst ps i s (child l b ∷ child k a ∷ [])))) (sym z)
+            ∙ ap subtreeOf (sym (row-append ps i (child m c ∷ []) (child l b ∷ child k a ∷ []) i))
             ∙ row-of (Three k a l b m c) e
 
-        pub row-last : y ≡ Nowhere → Nowhere ≡ found (rowFirst ps i i (reverse (children f)))
-        row-last n = rest none (found-none (rowFirst ps i i (child m c ∷ [])) n q)
+        pub row-last : y ≡ OutOfOrder
+            → OutOfOrder ≡ subtreeOf (rowFirst ps i i (reverse (children f)))
+        row-last n = rest none (subtree-none (rowFirst ps i i (child m c ∷ [])) n q)
 
-        pub row-three : (t : ℕ) → y ≡ At t
-            → r ≡ found (rowFirst ps i t (child l b ∷ child k a ∷ []))
-            → r ≡ found (rowFirst ps i i (reverse (children f)))
-        row-three t n p = p ∙ rest (some t) (found-some (rowFirst ps i i (child m c ∷ [])) n q)
+        pub row-three : (t : ℕ) → y ≡ From t
+            → r ≡ subtreeOf (rowFirst ps i t (child l b ∷ child k a ∷ []))
+            → r ≡ subtreeOf (rowFirst ps i i (reverse (children f)))
+        row-three t n p = p ∙ rest (some t) (subtree-some (rowFirst ps i i (child m c ∷ [])) n q)
 
 -- ---- a row begins at its end or before, so that the next row ends within the frames passed
 first-le : (fs : List Frame) (first : List ℕ) (i : ℕ) → Backward first i
@@ -202,10 +221,10 @@ first-le fs first i h (c ∷ cs) stop lo l e = go (eqb (suc (c .at)) stop && sam
         omega arith
 
 module _ (fs : List Frame) (first : List ℕ) (i : ℕ) (h : Backward first i) where
-  pub row-within : (cs : List Child) (x : Found) (stop t : ℕ) → x ≡ At t
-      → x ≡ found (rowFirst (told fs first i) i stop cs) → stop ≤ i → t ≤ i
+  pub row-within : (cs : List Child) (x : Subtree) (stop t : ℕ) → x ≡ From t
+      → x ≡ subtreeOf (rowFirst (told fs first i) i stop cs) → stop ≤ i → t ≤ i
   row-within cs x stop t e p l =
-      let a = first-le fs first i h cs stop t l (found-some (rowFirst (told fs first i) i stop cs) e p) in
+      let a = first-le fs first i h cs stop t l (subtree-some (rowFirst (told fs first i) i stop cs) e p) in
       omega arith
 
 -- ---- the loop: the pass from here on is the pass from the start
@@ -222,39 +241,41 @@ module _ (ws first : List ℕ) (i : ℕ) where
 
   look : i < length ws
       → firstDisorder (told (framesOf ws) first i) i (drop i (framesOf ws))
-      ≡ next (rowFirst (told (framesOf ws) first i) i i (reverse (children (frameAt (framesOf ws) i))))
+      ≡ next
+      (rowFirst (told (framesOf ws) first i) i i (reverse (children (frameAt (framesOf ws) i))))
   look l = ap (firstDisorder (told (framesOf ws) first i) i) (frames-next ws i l) ∙ step
     where
       step : firstDisorder (told (framesOf ws) first i) i (frameAt (framesOf ws) i ∷ drop (suc i) (framesOf ws))
           ≡ next (rowFirst (told (framesOf ws) first i) i i (reverse (children (frameAt (framesOf ws) i))))
       step = unfold firstDisorder in refl
 
-module _ (ws first : List ℕ) (i : ℕ) (f : Frame) (x : Found) (e : f ≡ frameAt (framesOf ws) i) (q : x ≡ found (rowFirst (told (framesOf ws) first i) i i (reverse (children f)))) where
+module _ (ws first : List ℕ) (i : ℕ) (f : Frame) (x : Subtree) (e : f ≡ frameAt (framesOf ws) i) (q : x ≡ subtreeOf (rowFirst (told (framesOf ws) first i) i i (reverse (children f)))) where
   row-here : x
-      ≡ found (rowFirst (told (framesOf ws) first i) i i (reverse (children (frameAt (framesOf ws) i))))
+      ≡ subtreeOf
+      (rowFirst (told (framesOf ws) first i) i i (reverse (children (frameAt (framesOf ws) i))))
   row-here =
       q
-      ∙ ap (λ (g : Frame). found (rowFirst (told (framesOf ws) first i) i i (reverse (children g)))) e
+      ∙ ap (λ (g : Frame). subtreeOf (rowFirst (told (framesOf ws) first i) i i (reverse (children g)))) e
 
-  pub disorder-here : x ≡ Nowhere → SeekingDisorder (framesOf ws) first i → i < length ws
+  pub disorder-here : x ≡ OutOfOrder → SeekingDisorder (framesOf ws) first i → i < length ws
       → At i ≡ found (firstDisorder [] 0 (framesOf ws))
   disorder-here n g l =
-      let z = found-none (rowFirst (told (framesOf ws) first i) i i (reverse (children (frameAt (framesOf ws) i)))) n row-here in
+      let z = subtree-none (rowFirst (told (framesOf ws) first i) i i (reverse (children (frameAt (framesOf ws) i)))) n row-here in
       ap found (sym (ap (next ws first i) z) ∙ sym (look ws first i l) ∙ g)
 
-  pub disorder-next : (lo : ℕ) → x ≡ At lo → SeekingDisorder (framesOf ws) first i
+  pub disorder-next : (lo : ℕ) → x ≡ From lo → SeekingDisorder (framesOf ws) first i
       → length first ≡ 1024 → i < length ws → length ws ≤ 1024
       → SeekingDisorder (framesOf ws) (set first i lo) (i + 1)
   disorder-next lo n g a l m =
-      let z = found-some (rowFirst (told (framesOf ws) first i) i i (reverse (children (frameAt (framesOf ws) i)))) n row-here in
+      let z = subtree-some (rowFirst (told (framesOf ws) first i) i i (reverse (children (frameAt (framesOf ws) i)))) n row-here in
       let t = told-next (framesOf ws) first i lo (omega arith) in
       let s : i + 1 ≡ suc i = omega arith in
       rw s (ap (λ (ps : List Passed). firstDisorder ps (suc i) (drop (suc i) (framesOf ws))) t
       ∙ sym (ap (next ws first i) z)
       ∙ sym (look ws first i l) ∙ g)
 
-  pub backward-next : (lo : ℕ) → x ≡ At lo → Backward first i → length first ≡ 1024 → i < length ws
-      → length ws ≤ 1024 → Backward (set first i lo) (i + 1)
+  pub backward-next : (lo : ℕ) → x ≡ From lo → Backward first i → length first ≡ 1024
+      → i < length ws → length ws ≤ 1024 → Backward (set first i lo) (i + 1)
   backward-next lo n h a l m j k = go (eqb j i) refl
     where
       go : (b : Bool) → eqb j i ≡ b → getD (set first i lo) j 0 ≤ j

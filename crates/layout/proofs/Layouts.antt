@@ -11,11 +11,11 @@ use borrow.Author.Tests.{eqb-true, eqb-false, not-true}
 use lib.ListN.{length}
 use Rattle.basics.proofs.Ifs.{if-all}
 use Rattle.language.specs.declared.frame.Frame.{Frame}
-use Rattle.language.specs.declared.verdict.Verdict.{Verdict}
-use Rattle.language.specs.declared.verdict.Verdict.the-variants.{Accepted, Rejected}
 use Rattle.program.specs.Trees.{noFrame, frameAt}
 use Rattle.fields.specs.Fields.{headerFine, frameFine}
 use Rattle.fields.specs.inner.Scans.{headerFault, fieldFault}
+use Rattle.layout.specs.declared.LayoutVerdict.{LayoutVerdict}
+use Rattle.layout.specs.declared.LayoutVerdict.the-variants.{LaidOut, Rejected}
 use Rattle.layout.specs.Faults.{Fault, LayoutSays}
 use Rattle.layout.specs.inner.Scans.{orderFault, depthFault, rejectAt, layoutOf}
 use Rattle.layout.proofs.Searches.{Lowest, same-low, lowest-all}
@@ -28,7 +28,7 @@ four : {fs : List Frame} {n j : ℕ} → Fault fs n j → n ≡ 4
 four (Fault.header h) e = (refl, h)
 four (Fault.field l h) e = absurd (omega arith)
 four (Fault.order l h) e = absurd (omega arith)
-four (Fault.behind a b c d) e = absurd (omega arith)
+four (Fault.misplaced a b c d) e = absurd (omega arith)
 four (Fault.leftover a b c) e = absurd (omega arith)
 four (Fault.main a b) e = absurd (omega arith)
 four (Fault.depth d h) e = absurd (omega arith)
@@ -38,7 +38,7 @@ five : {fs : List Frame} {n j : ℕ} → Fault fs n j → n ≡ 5
 five (Fault.header h) e = absurd (omega arith)
 five (Fault.field l h) e = (l, h)
 five (Fault.order l h) e = absurd (omega arith)
-five (Fault.behind a b c d) e = absurd (omega arith)
+five (Fault.misplaced a b c d) e = absurd (omega arith)
 five (Fault.leftover a b c) e = absurd (omega arith)
 five (Fault.main a b) e = absurd (omega arith)
 five (Fault.depth d h) e = absurd (omega arith)
@@ -48,7 +48,7 @@ numbers : {fs : List Frame} {n j : ℕ} → Fault fs n j → (4 ≤ n) × (n ≤
 numbers (Fault.header h) = omega arith
 numbers (Fault.field l h) = omega arith
 numbers (Fault.order l h) = omega arith
-numbers (Fault.behind a b c d) = omega arith
+numbers (Fault.misplaced a b c d) = omega arith
 numbers (Fault.leftover a b c) = omega arith
 numbers (Fault.main a b) = omega arith
 numbers (Fault.depth d h) = omega arith
@@ -70,8 +70,8 @@ renumber : {fs : List Frame} {n m k : ℕ} → m ≡ n → Fault fs m k → Faul
 renumber e f = rw e at f
 
 -- the lowest fault n, if there is one, is the first; else no fault has a number up to n
-reject-step : {fs : List Frame} (n : ℕ) (o : Option ℕ) (next : Unit {0} → Verdict) → NoneBelow fs n
-    → Lowest (Fault fs n) o → (NoneBelow fs (suc n) → LayoutSays fs (next tt))
+reject-step : {fs : List Frame} (n : ℕ) (o : Option ℕ) (next : Unit {0} → LayoutVerdict)
+    → NoneBelow fs n → Lowest (Fault fs n) o → (NoneBelow fs (suc n) → LayoutSays fs (next tt))
     → LayoutSays fs (rejectAt n o next)
 reject-step {fs} n none next low (Lowest.nowhere h) g = g (λ m k f. go m k f (eqb m n) refl)
   where
@@ -97,10 +97,10 @@ layout-says fs l =
     λ m k f. (let x = d m k f in let y = numbers f in omega arith)))))
 
 -- there is only one
-pub layout-one : (fs : List Frame) (r s : Verdict) → LayoutSays fs r → LayoutSays fs s → r ≡ s
-layout-one fs Accepted Accepted h g = refl
-layout-one fs Accepted (Rejected n j) h g = absurd (h n j (g .fault))
-layout-one fs (Rejected n j) Accepted h g = absurd (g n j (h .fault))
+pub layout-one : (fs : List Frame) (r s : LayoutVerdict) → LayoutSays fs r → LayoutSays fs s → r ≡ s
+layout-one fs LaidOut LaidOut h g = refl
+layout-one fs LaidOut (Rejected n j) h g = absurd (h n j (g .fault))
+layout-one fs (Rejected n j) LaidOut h g = absurd (g n j (h .fault))
 layout-one fs (Rejected n j) (Rejected m k) h g =
     go (h .least m k (g .fault)) (g .least n j (h .fault))
   where

@@ -21,7 +21,7 @@ use Rattle.program.specs.declared.frames.Children.{Children}
 use Rattle.program.specs.declared.frames.Children.the-variants.{Nothing, One, Two, Three}
 use Rattle.program.specs.inner.Children.{listOf, childrenOf}
 use Rattle.program.proofs.FrameLaws.{frames-next, children-are}
-use Rattle.fields.specs.declared.found.Found.the-variants.{At, Nowhere}
+use Rattle.fields.specs.declared.fault_search.FaultSearch.the-variants.{At, Nowhere}
 use Rattle.fields.specs.inner.Scans.{found}
 use Rattle.fields.proofs.Seeking.{Seeking, seek-here, seek-next, seek-end}
 use Rattle.layout.specs.Order.{hasChild, hasClass}
@@ -136,7 +136,8 @@ unfolding any marks
 marks-say [] u j o l = refl
 marks-say (c ∷ cs) u j o l =
     let m : j < length (marked u (c .at)) = (let y = marked-length u (c .at) in omega arith) in
-    marks-say cs (marked u (c .at)) j o m ∙ ap (λ (b : Bool). not (any (isAt j) cs) && b) (marked-says u (c .at) j o l) ∙ neither (eqb (c .at) j) (any (isAt j) cs) (eqb (getD u j 0) 0)
+    marks-say cs (marked u (c .at)) j o m ∙ ap (λ (b : Bool). not (any (isAt j) cs) && b)
+    (marked-says u (c .at) j o l) ∙ neither (eqb (c .at) j) (any (isAt j) cs) (eqb (getD u j 0) 0)
 
 marks-length : (cs : List Child) (u : List ℕ) → length (marks u cs) ≡ length u
 unfolding marks

@@ -20,5 +20,5 @@ pub mod Raises
 pub mod DepthArray
 pub mod DepthPass
 pub mod Answers
-pub mod Accepted
+pub mod Judged
 pub mod AfterLayout

@@ -20,29 +20,30 @@ use Rattle.layout.proofs.Searches.{Lowest, either, same-low, lowest-all
 use Rattle.layout.proofs.Searches.{any-false, any-true, any-some}
 use Rattle.layout.specs.Faults.{Fault}
 use Rattle.layout.specs.Order.{hasChild, hasClass, isMain, Tree, Row}
-use Rattle.layout.specs.inner.Scans.{isBehind, isLeftover, firstLeftover, noMain, orderFault}
+use Rattle.layout.specs.inner.Scans.{isAfterOther, isLeftover, firstLeftover, noMain}
+use Rattle.layout.specs.inner.Scans.{orderFault}
 use Rattle.layout.proofs.Trees.{HasTree, row-le}
 use Rattle.layout.proofs.Disorder.{NoTree, disorder-low, no-disorder}
 
--- ---- a shared cell behind another kind
-record Behind (fs : List Frame) (j : ℕ) : Type 0 where
+-- ---- a shared cell after another kind
+record SharedAfterOther (fs : List Frame) (j : ℕ) : Type 0 where
   other : ℕ
   before : other < j
   inside : j < length fs
   shared : isShared (frameAt fs j .kind) ≡ true
   kind : (isHeader (frameAt fs other .kind) || isShared (frameAt fs other .kind)) ≡ false
 
--- a kind that no shared cell may stand behind
+-- a kind that no shared cell may stand after
 abbrev pub isOther : Frame → Bool
 isOther g = not (isHeader (g .kind) || isShared (g .kind))
 
-behind-low : (fs : List Frame)
-    → Lowest (Behind fs) (lowest (λ (i : ℕ) (f : Frame). isBehind fs i f) 0 fs)
-unfolding isBehind
-behind-low fs = same-low (λ j h. to j (isShared (frameAt fs j .kind)) refl (h .0) (h .1)) (λ j h. (h .inside, back j h)) (lowest-all noFrame (λ (i : ℕ) (f : Frame). isBehind fs i f) fs)
+after-other-low : (fs : List Frame)
+    → Lowest (SharedAfterOther fs) (lowest (λ (i : ℕ) (f : Frame). isAfterOther fs i f) 0 fs)
+unfolding isAfterOther
+after-other-low fs = same-low (λ j h. to j (isShared (frameAt fs j .kind)) refl (h .0) (h .1)) (λ j h. (h .inside, back j h)) (lowest-all noFrame (λ (i : ℕ) (f : Frame). isAfterOther fs i f) fs)
   where
     to : (j : ℕ) (b : Bool) → isShared (frameAt fs j .kind) ≡ b → j < length fs
-        → elim b [ true ↦ any isOther (take j fs) | false ↦ false ] ≡ true → Behind fs j
+        → elim b [ true ↦ any isOther (take j fs) | false ↦ false ] ≡ true → SharedAfterOther fs j
     to j false e l h = absurd (true≢false (sym h))
     to j true e l h =
         let p = any-true noFrame isOther (take j fs) h in
@@ -51,8 +52,8 @@ behind-low fs = same-low (λ j h. to j (isShared (frameAt fs j .kind)) refl (h .
         let k : p .at < j = omega arith in
         record { other = p .at; before = k; inside = l; shared = e; kind = not-true _ (rw (getD-take j fs (p .at) noFrame k) at (p .passes)) }
 
-    back : (j : ℕ) → Behind fs j → isBehind fs j (frameAt fs j) ≡ true
-    back j h = rw (h .shared, isBehind) (any-some noFrame isOther (take j fs) (h .other) (let m = length-take j fs in let a = h .before in let b = h .inside in omega arith) (rw (getD-take j fs (h .other) noFrame (h .before)) (ap not (h .kind))))
+    back : (j : ℕ) → SharedAfterOther fs j → isAfterOther fs j (frameAt fs j) ≡ true
+    back j h = rw (h .shared, isAfterOther) (any-some noFrame isOther (take j fs) (h .other) (let m = length-take j fs in let a = h .before in let b = h .inside in omega arith) (rw (getD-take j fs (h .other) noFrame (h .before)) (ap not (h .kind))))
 
 -- ---- a leftover frame: that the definition asks the later frames first changes nothing
 abbrev pub leftoverTest : List Frame → ℕ → Frame → Bool
@@ -79,7 +80,8 @@ leftover-lowest fs [] i h = refl
 leftover-lowest fs (f ∷ tail) i h = rw (leftover-test fs i f tail (λ e. h (hasChild i) (any-more (hasChild i) f tail e)), firstLeftover) (go (leftoverTest fs i f) (leftover-lowest fs tail (suc i) (λ t e. h t (any-more t f tail e))))
   where
     go : (b : Bool) → firstLeftover fs (suc i) tail ≡ lowest (leftoverTest fs) (suc i) tail
-        → _≡_ {A = Option ℕ} (elim b [ true ↦ some i | false ↦ firstLeftover fs (suc i) tail ]) (elim b [ true ↦ some i | false ↦ lowest (leftoverTest fs) (suc i) tail ])
+        → _≡_ {A = Option ℕ} (elim b [ true ↦ some i | false ↦ firstLeftover fs (suc i) tail ])
+        (elim b [ true ↦ some i | false ↦ lowest (leftoverTest fs) (suc i) tail ])
     go true e = refl
     go false e = e
 
@@ -106,13 +108,13 @@ main-low fs l = if-all (Lowest (NoMain fs)) (isMain (frameAt fs (length fs - 1))
 
 -- ---- the four faults together
 abbrev Six : List Frame → ℕ → Type 0
-Six fs j = NoTree fs j ⊎ (Behind fs j ⊎ (Leftover fs j ⊎ NoMain fs j))
+Six fs j = NoTree fs j ⊎ (SharedAfterOther fs j ⊎ (Leftover fs j ⊎ NoMain fs j))
 
 to-six : {fs : List Frame} {n j : ℕ} → Fault fs n j → n ≡ 6 → Six fs j
 to-six (Fault.header h) e = absurd (omega arith)
 to-six (Fault.field l h) e = absurd (omega arith)
 to-six (Fault.order l h) e = inl (l, h)
-to-six (Fault.behind {i =
+to-six (Fault.misplaced {i =
     i} a b c d) e = inr (inl (record { other = i; before = a; inside = b; shared = c; kind = d }))
 to-six (Fault.leftover a b c) e = inr (inr (inl (record { inside = a; class = b; unused = c })))
 to-six (Fault.main a b) e = inr (inr (inr (a, b)))
@@ -120,13 +122,13 @@ to-six (Fault.depth d h) e = absurd (omega arith)
 
 from-six : {fs : List Frame} {j : ℕ} → Six fs j → Fault fs 6 j
 from-six (inl h) = Fault.order (h .0) (h .1)
-from-six (inr (inl h)) = Fault.behind (h .before) (h .inside) (h .shared) (h .kind)
+from-six (inr (inl h)) = Fault.misplaced (h .before) (h .inside) (h .shared) (h .kind)
 from-six (inr (inr (inl h))) = Fault.leftover (h .inside) (h .class) (h .unused)
 from-six (inr (inr (inr h))) = Fault.main (h .0) (h .1)
 
 pub order-low : (fs : List Frame) → 0 < length fs → Lowest (Fault fs 6) (orderFault fs)
 unfolding orderFault
-order-low fs l = same-low (λ j h. from-six h) (λ j h. to-six h refl) (either (disorder-low fs) (either (behind-low fs) (either (leftover-low fs) (main-low fs l))))
+order-low fs l = same-low (λ j h. from-six h) (λ j h. to-six h refl) (either (disorder-low fs) (either (after-other-low fs) (either (leftover-low fs) (main-low fs l))))
 
 -- ---- where no frame has a fault 6, every frame is the root of a tree
 pub all-trees : (fs : List Frame) → ((k : ℕ) → Fault fs 6 k → ⊥) → (j : ℕ) → j < length fs

@@ -1,4 +1,4 @@
--- The code's other passes of refusal 6: shared cells behind another kind, `main`, and the lowest
+-- The code's other passes of refusal 6: shared cells after another kind, `main`, and the lowest
 -- frame of all four passes. Assumes nothing.
 use mathlib.Core.Path.{_≡_, refl, sym, ap, ap₂, _∙_}
 use mathlib.Core.Bool.{Bool, true, false, not, _&&_, _||_}
@@ -17,24 +17,24 @@ use Rattle.text.specs.Frames.{framesOf}
 use Rattle.text.proofs.FrameWords.{frames-length}
 use Rattle.program.specs.Trees.{frameAt}
 use Rattle.program.proofs.FrameLaws.{frames-more}
-use Rattle.fields.specs.declared.found.Found.{Found}
-use Rattle.fields.specs.declared.found.Found.the-variants.{At, Nowhere}
+use Rattle.fields.specs.declared.fault_search.FaultSearch.{FaultSearch}
+use Rattle.fields.specs.declared.fault_search.FaultSearch.the-variants.{At, Nowhere}
 use Rattle.fields.specs.inner.Scans.{found, optionOf}
 use Rattle.fields.proofs.Finds.{option-found}
 use Rattle.fields.proofs.Seeking.{Seeking, seek-here, seek-next, seek-end}
 use Rattle.layout.specs.Order.{isMain}
-use Rattle.layout.specs.inner.Scans.{firstDisorder, isBehind, firstLeftover, noMain}
+use Rattle.layout.specs.inner.Scans.{firstDisorder, isAfterOther, firstLeftover, noMain}
 use Rattle.layout.specs.inner.Scans.{orderFault}
 use Rattle.layout.proofs.Searches.{any-append}
 use Rattle.layout.proofs.Order.{isOther}
 
--- ---- shared cells behind another kind: `other` says whether there was one before i
--- `isBehind`, as the contract writes it
-abbrev behindTest : List Frame → ℕ → Frame → Bool
-behindTest fs i f = isBehind fs i f
+-- ---- shared cells after another kind: `other` says whether there was one before i
+-- `isAfterOther`, as the contract writes it
+abbrev afterOtherTest : List Frame → ℕ → Frame → Bool
+afterOtherTest fs i f = isAfterOther fs i f
 
-abbrev pub SeekingBehind : List Frame → ℕ → Type 0
-SeekingBehind fs i = Seeking (behindTest fs) fs i
+abbrev pub SeekingAfterOther : List Frame → ℕ → Type 0
+SeekingAfterOther fs i = Seeking (afterOtherTest fs) fs i
 
 abbrev pub Others : List Frame → Bool → ℕ → Type 0
 Others fs other i = other ≡ any isOther (take i fs)
@@ -52,9 +52,10 @@ others-next ws i other f x y e h j g l =
     ∙ ap (any isOther) (frames-more ws i f e l)
 
 module _ (ws : List ℕ) (i : ℕ) (other : Bool) (f : Frame) (b : Bool) (e : f ≡ frameAt (framesOf ws) i) (q : b ≡ (isShared (f .kind) && other)) where
-  behind-is : Others (framesOf ws) other i → isBehind (framesOf ws) i (frameAt (framesOf ws) i) ≡ b
-  unfolding isBehind
-  behind-is o =
+  after-other-is : Others (framesOf ws) other i
+      → isAfterOther (framesOf ws) i (frameAt (framesOf ws) i) ≡ b
+  unfolding isAfterOther
+  after-other-is o =
       go (isShared (frameAt (framesOf ws) i .kind))
       ∙ sym (q ∙ ap₂ (λ (g : Frame) (x : Bool). isShared (g .kind) && x) e o)
     where
@@ -64,18 +65,22 @@ module _ (ws : List ℕ) (i : ℕ) (other : Bool) (f : Frame) (b : Bool) (e : f 
       go true = refl
       go false = refl
 
-  pub behind-here : b ≡ true → Others (framesOf ws) other i → SeekingBehind (framesOf ws) i
+  pub after-other-here : b ≡ true → Others (framesOf ws) other i → SeekingAfterOther (framesOf ws) i
       → i < length ws
-      → At i ≡ found (lowest (λ (j : ℕ) (g : Frame). isBehind (framesOf ws) j g) 0 (framesOf ws))
-  behind-here t o g l = seek-here (behindTest (framesOf ws)) ws i g l (behind-is o ∙ t)
+      → At i
+      ≡ found (lowest (λ (j : ℕ) (g : Frame). isAfterOther (framesOf ws) j g) 0 (framesOf ws))
+  after-other-here t o g l =
+      seek-here (afterOtherTest (framesOf ws)) ws i g l (after-other-is o ∙ t)
 
-  pub behind-next : b ≡ false → Others (framesOf ws) other i → SeekingBehind (framesOf ws) i
-      → i < length ws → SeekingBehind (framesOf ws) (i + 1)
-  behind-next t o g l = seek-next (behindTest (framesOf ws)) ws i g l (behind-is o ∙ t)
+  pub after-other-next : b ≡ false → Others (framesOf ws) other i
+      → SeekingAfterOther (framesOf ws) i → i < length ws → SeekingAfterOther (framesOf ws) (i + 1)
+  after-other-next t o g l =
+      seek-next (afterOtherTest (framesOf ws)) ws i g l (after-other-is o ∙ t)
 
-pub behind-end : (ws : List ℕ) (i : ℕ) → SeekingBehind (framesOf ws) i → length ws ≤ i
-    → Nowhere ≡ found (lowest (λ (j : ℕ) (g : Frame). isBehind (framesOf ws) j g) 0 (framesOf ws))
-behind-end ws i g l = seek-end (behindTest (framesOf ws)) ws i g l
+pub after-other-end : (ws : List ℕ) (i : ℕ) → SeekingAfterOther (framesOf ws) i → length ws ≤ i
+    → Nowhere
+    ≡ found (lowest (λ (j : ℕ) (g : Frame). isAfterOther (framesOf ws) j g) 0 (framesOf ws))
+after-other-end ws i g l = seek-end (afterOtherTest (framesOf ws)) ws i g l
 
 -- ---- main
 pub main-not : (f : Frame) (x : Bool) → x ≡ isModule (f .kind) → not x ≡ true → false ≡ isMain f
@@ -105,9 +110,9 @@ module _ (ws : List ℕ) (f : Frame) (b : Bool) (e : f ≡ frameAt (framesOf ws)
 pub ruleset no-main-laws = (main-there, main-missing)
 
 -- ---- the lowest of the four
-module _ (fs : List Frame) (d b l m x y r : Found) where
+module _ (fs : List Frame) (d b l m x y r : FaultSearch) where
   pub order-is : d ≡ found (firstDisorder [] 0 fs)
-      → b ≡ found (lowest (λ (i : ℕ) (f : Frame). isBehind fs i f) 0 fs)
+      → b ≡ found (lowest (λ (i : ℕ) (f : Frame). isAfterOther fs i f) 0 fs)
       → l ≡ found (firstLeftover fs 0 fs) → m ≡ found (noMain fs)
       → x ≡ found (earlier (optionOf l) (optionOf m))
       → y ≡ found (earlier (optionOf b) (optionOf x))
@@ -115,5 +120,5 @@ module _ (fs : List Frame) (d b l m x y r : Found) where
   unfolding orderFault
   order-is hd hb hl hm hx hy hr =
       let a : optionOf x ≡ earlier (firstLeftover fs 0 fs) (noMain fs) = ap optionOf hx ∙ option-found _ ∙ ap₂ earlier (ap optionOf hl ∙ option-found _) (ap optionOf hm ∙ option-found _) in
-      let c : optionOf y ≡ earlier (lowest (behindTest fs) 0 fs) (earlier (firstLeftover fs 0 fs) (noMain fs)) = ap optionOf hy ∙ option-found _ ∙ ap₂ earlier (ap optionOf hb ∙ option-found _) a in
+      let c : optionOf y ≡ earlier (lowest (afterOtherTest fs) 0 fs) (earlier (firstLeftover fs 0 fs) (noMain fs)) = ap optionOf hy ∙ option-found _ ∙ ap₂ earlier (ap optionOf hb ∙ option-found _) a in
       hr ∙ ap found (ap₂ earlier (ap optionOf hd ∙ option-found _) c)

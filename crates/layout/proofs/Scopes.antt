@@ -1,4 +1,4 @@
--- What a file without fault has: the verdict `Accepted`, depths of at most 24, room for its
+-- What a file without fault has: the verdict `LaidOut`, depths of at most 24, room for its
 -- variables, children before their parents, places where frames name some, `main` last. Assumes
 -- nothing.
 use mathlib.Core.Path.{_≡_, refl, sym, ap, _∙_}
@@ -17,13 +17,13 @@ use Rattle.language.specs.declared.kind.Kind.{Kind}
 use Rattle.language.specs.declared.kind.Kind.the-variants.{Module, Statement}
 use Rattle.language.specs.declared.kind.Use.{Use}
 use Rattle.language.specs.declared.frame.Frame.{Frame}
-use Rattle.language.specs.declared.verdict.Verdict.the-variants.{Accepted}
 use Rattle.language.proofs.PlaceLaws.{has-place}
 use Rattle.program.specs.Trees.{frameAt}
 use Rattle.program.specs.inner.Ordered.{Placed}
 use Rattle.program.proofs.NodeLaws.{childrenAs, children-as}
 use Rattle.fields.specs.Fields.{schedulersOf, fieldFine, frameFine}
 use Rattle.fields.proofs.FramePass.{fine-parts}
+use Rattle.layout.specs.declared.LayoutVerdict.the-variants.{LaidOut}
 use Rattle.layout.specs.Order.{isMain}
 use Rattle.layout.specs.Depths.{Depth}
 use Rattle.layout.specs.Faults.{Fault, NoFault, LayoutSays}
@@ -34,14 +34,14 @@ use Rattle.layout.proofs.Order.{all-trees}
 use Rattle.layout.proofs.Layouts.{layout-says, layout-one}
 
 -- ---- the verdict and the faults
-pub accepted-no-fault : (fs : List Frame) → 0 < length fs → layoutOf fs ≡ Accepted → NoFault fs
-accepted-no-fault fs l e = says (layout-says fs l)
+pub laid-out-no-fault : (fs : List Frame) → 0 < length fs → layoutOf fs ≡ LaidOut → NoFault fs
+laid-out-no-fault fs l e = says (layout-says fs l)
   where
     says : LayoutSays fs (layoutOf fs) → NoFault fs
     says h = rw e at h
 
-pub no-fault-accepted : (fs : List Frame) → 0 < length fs → NoFault fs → layoutOf fs ≡ Accepted
-no-fault-accepted fs l h = layout-one fs (layoutOf fs) Accepted (layout-says fs l) h
+pub no-fault-laid-out : (fs : List Frame) → 0 < length fs → NoFault fs → layoutOf fs ≡ LaidOut
+no-fault-laid-out fs l h = layout-one fs (layoutOf fs) LaidOut (layout-says fs l) h
 
 -- ---- depths and scopes
 in-left : {c : Child} {xs : List Child} (ys : List Child) → In c xs → In c (xs ++ ys)

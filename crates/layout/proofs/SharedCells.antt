@@ -1,4 +1,4 @@
--- What a file without fault has of shared cells: at most 16, right behind the header, each with an
+-- What a file without fault has of shared cells: at most 16, right after the header, each with an
 -- owner that is a place and with room around its content. Assumes nothing.
 use mathlib.Core.Path.{_≡_, refl, sym, ap, _∙_}
 use mathlib.Core.Bool.{Bool, true, false, true≢false}
@@ -78,7 +78,7 @@ module _ (fs : List Frame) (fine : NoFault fs) where
       let c = and-true _ _ b .0 in
       is-header _ (and-true _ _ c .0)
 
-  -- before a cell, and behind frame 0, stand cells: 5 refuses another header, 6 all other kinds
+  -- before a cell, and after frame 0, stand cells: 5 refuses another header, 6 all other kinds
   no-gap : (i j : ℕ) → 0 < i → i < j → j < length fs → isShared (frameAt fs j .kind) ≡ true
       → isShared (frameAt fs i .kind) ≡ true
   no-gap i j p l m s =
@@ -87,7 +87,7 @@ module _ (fs : List Frame) (fine : NoFault fs) where
       go : (a b : Bool) → isHeader (frameAt fs i .kind) ≡ a
           → isShared (frameAt fs i .kind) ≡ b → b ≡ true
       go a true e f = refl
-      go false false e f = absurd (fine wrongOrder j (Fault.behind l m s (rw (e, f))))
+      go false false e f = absurd (fine wrongOrder j (Fault.misplaced l m s (rw (e, f))))
       go true false e f =
           let k = is-header (frameAt fs i .kind) e in
           let g = fine-parts fs i (frameAt fs i) (frame-right fs fine i (omega arith)) .0 in

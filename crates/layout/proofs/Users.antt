@@ -55,11 +55,11 @@ module _ {fs : List Frame} where
             let y = tree-le u in
             omega arith
 
-  -- a frame behind a child of a row has its tree behind it
-  behind-child : {lo stop : ℕ} {cs : List Child} {c : Child} → Row fs lo stop cs → In c cs
+  -- a frame after a child of a row has its tree after it
+  after-child : {lo stop : ℕ} {cs : List Child} {c : Child} → Row fs lo stop cs → In c cs
       → (i start : ℕ) → c .at < i → i < stop → Tree fs start i → c .at < start
-  behind-child (Row.more u e r) In.first i start a b t = within-row r i start a b t
-  behind-child (Row.more u e r) (In.later m) i start a b t = behind-child r m i start a b t
+  after-child (Row.more u e r) In.first i start a b t = within-row r i start a b t
+  after-child (Row.more u e r) (In.later m) i start a b t = after-child r m i start a b t
 
   row-from : {lo stop : ℕ} {cs : List Child} {c : Child} → Row fs lo stop cs → In c cs → lo ≤ c .at
   row-from (Row.more u e r) In.first = tree-le u
@@ -74,7 +74,7 @@ module _ {fs : List Frame} where
   apart {lo} {lo'} {i} {j} t (Tree.root r) m n e l =
       let a = tree-from t m in
       let b = tree-in t m in
-      let k = behind-child r n i lo (omega arith) l t in
+      let k = after-child r n i lo (omega arith) l t in
       omega arith
 
 among-any : (j : ℕ) (cs : List Child) → any (λ (c : Child). eqb (c .at) j) cs ≡ true → Among cs j
@@ -158,7 +158,7 @@ module _ (fs : List Frame) (fine : NoFault fs) where
   up j u (Parent.of-class h) rec =
       let s = rec h in record { depth = suc (s .depth); is = child-depth (s .is) (u .has) }
 
-  -- a user stands behind its child: n bounds how many frames are left to climb to
+  -- a user stands after its child: n bounds how many frames are left to climb to
   climb : (n j : ℕ) → length fs ≤ n + j → j < length fs
       → hasClass (classOf (frameAt fs j .kind)) ≡ true → Stands fs j
   climb zero j l k h = absurd (omega arith)
@@ -167,7 +167,8 @@ module _ (fs : List Frame) (fine : NoFault fs) where
       let h = u .has in
       let a = tree-in (all-trees fs (λ m f. fine 6 m f) (u .user) (u .inside) .tree) (h .among) in
       let e = h .at-it in
-      up j u (parent (frameAt fs (u .user)) (h .child) (h .among)) (λ g. climb n (u .user) (omega arith) (u .inside) g)
+      up j u (parent (frameAt fs (u .user)) (h .child) (h .among))
+      (λ g. climb n (u .user) (omega arith) (u .inside) g)
 
   pub stands : (j : ℕ) → j < length fs → hasClass (classOf (frameAt fs j .kind)) ≡ true
       → Stands fs j

@@ -1,30 +1,25 @@
--- Refusals 4 to 7: what each fault of the layout is, and which comes first. Nothing is computed here. Assumes nothing: definitions.
-use mathlib.Core.Path.{_≡_}
-use mathlib.Core.Logic.{_⊎_}
-use mathlib.Core.Bool.{true, false, _||_}
-use mathlib.Core.List.{List}
-use Prim.Native.Nat.{ℕ, suc, _<_, _≤_}
-use lib.ListN.{length}
-use Rattle.language.specs.Kinds.{isHeader, isShared, classOf}
-use Rattle.language.specs.declared.frame.Frame.{Frame}
-use Rattle.language.specs.declared.verdict.Verdict.{Verdict}
-use Rattle.language.specs.declared.verdict.Verdict.the-variants.{Accepted, Rejected}
-use Rattle.language.specs.Refusals.{wrongHeader, wrongField, wrongOrder, tooDeep}
-use Rattle.language.specs.Limits.{mostDepth}
+-- Refusals 4 to 7: what each fault of the layout is, and which comes first.
+use Rattle.basics.specs.Prelude.{List, true, false, _||_, ℕ, suc, _≤_, _<_, length, _≡_, _⊎_}
+use Rattle.language.specs.{Kinds.isHeader, Kinds.isShared, Kinds.classOf}
+use Rattle.language.specs.{declared.frame.Frame.Frame, Refusals.wrongHeader, Refusals.wrongField}
+use Rattle.language.specs.{Refusals.wrongOrder, Refusals.tooDeep, Limits.mostDepth}
 use Rattle.program.specs.Trees.{frameAt}
 use Rattle.fields.specs.Fields.{headerFine, frameFine}
+use Rattle.layout.specs.declared.LayoutVerdict.{LayoutVerdict}
+use Rattle.layout.specs.declared.LayoutVerdict.the-variants.{LaidOut, Rejected}
 use Rattle.layout.specs.Order.{Tree, hasChild, hasClass, isMain}
 use Rattle.layout.specs.Depths.{Depth}
 
 -- `Fault fs n j`: the frame j has the fault n
 pub data Fault (fs : List Frame) : ℕ → ℕ → Type 0 where
   header : headerFine (frameAt fs 0) ≡ false → Fault fs wrongHeader 0
-  -- 'kind (a later 00 too), field .., type word, owner, a 17th shared cell or module, or a place that the file lacks'
+  -- 'kind (a later 00 too), field .., type word, owner, a 17th shared cell or module, or a place
+  -- that the file lacks'
   field : {j : ℕ} → j < length fs → frameFine fs j (frameAt fs j) ≡ false → Fault fs wrongField j
   -- 'order, a child of the wrong class': no tree ends at j
   order : {j : ℕ} → j < length fs → ((lo : ℕ) → Tree fs lo j → ⊥) → Fault fs wrongOrder j
-  -- 'Frames stand as header, shared cells .., then the rest': the shared cell j is behind another kind
-  behind : {i j : ℕ}
+  -- 'Frames stand as header, shared cells .., then the rest': the shared cell j is misplaced
+  misplaced : {i j : ℕ}
       → i < j → j < length fs → isShared (frameAt fs j .kind) ≡ true
       → (isHeader (frameAt fs i .kind) || isShared (frameAt fs i .kind)) ≡ false
       → Fault fs wrongOrder j
@@ -48,6 +43,6 @@ pub record FirstFault (fs : List Frame) (n j : ℕ) : Type 0 where
   pub least : (m k : ℕ) → Fault fs m k → (n < m) ⊎ ((n ≡ m) × (j ≤ k))
 
 -- what refusals 4 to 7 say of the frames
-abbrev pub LayoutSays : List Frame → Verdict → Type 0
-LayoutSays fs Accepted = NoFault fs
+abbrev pub LayoutSays : List Frame → LayoutVerdict → Type 0
+LayoutSays fs LaidOut = NoFault fs
 LayoutSays fs (Rejected n j) = FirstFault fs n j

@@ -1,22 +1,17 @@
--- Refusal 6: the order of frames. Assumes nothing: definitions.
-use mathlib.Core.Path.{_≡_}
-use mathlib.Core.Bool.{Bool, true, false, _&&_}
-use mathlib.Core.List.{List, [], _∷_}
-use Prim.Native.Nat.{ℕ, suc}
-use lib.Dec.{eqb}
-use Rattle.basics.specs.Members.{any}
-use Rattle.language.specs.Kinds.{isModule, classOf, Child, children}
-use Rattle.language.specs.declared.kind.Class.{Class}
-use Rattle.language.specs.declared.frame.Frame.{Frame}
+-- Refusal 6: the order of frames.
+use Rattle.basics.specs.Prelude.{List, [], _∷_, Bool, true, false, _&&_, ℕ, suc, eqb, _≡_, any}
+use Rattle.language.specs.{Kinds.isModule, Kinds.classOf, Kinds.Child, Kinds.children}
+use Rattle.language.specs.{declared.kind.Class.Class, declared.frame.Frame.Frame}
 use Rattle.program.specs.Trees.{frameAt}
 
--- 'child-before-parent order: a frame's last child is the frame just before it, and each earlier child ends just before the next one's first frame'
+-- 'child-before-parent order: a frame's last child is the frame just before it, and each earlier
+-- child ends just before the next one's first frame'
 mutual
   -- `Tree fs lo i`: the frames lo to i are one tree, whose root is i
   pub data Tree (fs : List Frame) : ℕ → ℕ → Type 0 where
     root : {lo i : ℕ} → Row fs lo i (children (frameAt fs i)) → Tree fs lo i
 
-  -- `Row fs lo stop cs`: the frames from lo to just before `stop` are the trees of the children cs, each of its class
+  -- `Row fs lo stop cs`: the frames from lo on and before `stop` are the trees of the children cs
   pub data Row (fs : List Frame) : ℕ → ℕ → List Child → Type 0 where
     none : {stop : ℕ} → Row fs stop stop []
     more : {lo stop : ℕ} {c : Child} {cs : List Child}

@@ -1,4 +1,3 @@
--- What ties the code to the definitions: no reader has to believe it.
 pub mod Scans
 pub mod Passes
 pub mod Scope

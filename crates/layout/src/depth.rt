@@ -1,6 +1,6 @@
-// Refusal 7: the depth of frames, from the last frame to the first, since parents stand behind
+// Refusal 7: the depth of frames, from the last frame to the first, since parents stand after
 // their children.
-use fields::found::Found;
+use fields::fault_search::FaultSearch;
 use language::frame::Frame;
 use language::kind::is_module;
 use language::limit::MOST_DEPTH;
@@ -19,7 +19,7 @@ ghost use Rattle.fields.specs.inner.Scans.{found};
 ghost use Rattle.layout.specs.inner.Scans.{orderFault, depthFault};
 ghost use Rattle.layout.specs.inner.Passes.{given, raised, raisedAll, depthsDown};
 
-// At v a depth of at least d. A number behind the last frame raises nothing.
+// At v a depth of at least d. A number after the last frame raises nothing.
 fn raise(u: &mut [u8; MOST_LINES], d: u8, v: u16)
     ensures { λ r. ⌜ now (u .exit) ≡ raised (now (u .entry)) d v ⌝ }
 {
@@ -95,7 +95,7 @@ fn depths_down(words: &[u64], u: &mut [u8; MOST_LINES])
 
 // The lowest frame deeper than 24. Without a fault 6 the children of each frame stand before it;
 // only then does one pass see every parent before its children.
-pub(crate) fn depth(words: &[u64]) -> Found
+pub(crate) fn depth(words: &[u64]) -> FaultSearch
     requires { ⌜ (0 < length (now words)) × (length (now words) ≤ mostLines)
         × (orderFault (framesOf (now words)) ≡ none) ⌝ }
     ensures { λ r. ⌜ r ≡ found (depthFault (framesOf (now (words .entry)))) ⌝ }
@@ -105,9 +105,9 @@ pub(crate) fn depth(words: &[u64]) -> Found
     let mut i = 0;
     while i < words.len() {
         if u[i] > MOST_DEPTH {
-            return Found::At(i as u16);
+            return FaultSearch::At(i as u16);
         }
         i += 1;
     }
-    Found::Nowhere
+    FaultSearch::Nowhere
 }

@@ -1,6 +1,6 @@
 // Refusal 6: the order of frames.
-use fields::found::Found;
-use fields::found::lower;
+use fields::fault_search::FaultSearch;
+use fields::fault_search::lower;
 use language::frame::Frame;
 use language::kind::Class;
 use language::kind::Kind;
@@ -26,9 +26,16 @@ ghost use Rattle.language.specs.Limits.{mostLines};
 ghost use Rattle.text.specs.Frames.{framesOf};
 ghost use Rattle.fields.specs.inner.Scans.{found};
 ghost use Rattle.layout.specs.Order.{hasClass, isMain};
-ghost use Rattle.layout.specs.inner.Scans.{rowFirst, firstDisorder, isBehind, firstLeftover};
-ghost use Rattle.layout.specs.inner.Scans.{noMain, orderFault};
-ghost use Rattle.layout.specs.inner.Passes.{told, Backward, marked, marks, markAll};
+ghost use Rattle.layout.specs.inner.Scans.{rowFirst, firstDisorder, isAfterOther};
+ghost use Rattle.layout.specs.inner.Scans.{firstLeftover, noMain, orderFault};
+ghost use Rattle.layout.specs.inner.Passes.{subtreeOf, told, Backward, marked, marks};
+ghost use Rattle.layout.specs.inner.Passes.{markAll};
+
+// The first frame of a subtree whose children stand in order, each of its class.
+enum Subtree {
+    From(u16),
+    OutOfOrder,
+}
 
 // Where the tree of the child v begins, which is to be of that class and to end just before `stop`;
 // `first` says where the tree of each frame before i begins. A row ends at i or before, so that a
@@ -40,25 +47,25 @@ fn child_first(
     class: Class,
     v: u16,
     stop: u16,
-) -> Found
+) -> Subtree
     requires { ⌜ (i ≤ length (now words)) × (length (now words) ≤ mostLines) × (stop ≤ i) ⌝ }
     ensures { λ r. ⌜ r
-        ≡ found (rowFirst (told (framesOf (now (words .entry))) (now (first .entry)) i) i stop
+        ≡ subtreeOf (rowFirst (told (framesOf (now (words .entry))) (now (first .entry)) i) i stop
         (child class v ∷ [])) ⌝ }
 {
     let j = v as usize;
     if i <= j {
-        return Found::Nowhere;
+        return Subtree::OutOfOrder;
     }
     if v + 1 != stop {
-        return Found::Nowhere;
+        return Subtree::OutOfOrder;
     }
     let f = frame_at(words, j);
     let kind = f.kind;
     if !same_class(class_of(kind), class) {
-        return Found::Nowhere;
+        return Subtree::OutOfOrder;
     }
-    Found::At(first[j])
+    Subtree::From(first[j])
 }
 
 // The same for the two children a and b, side by side, of the classes k and l.
@@ -71,42 +78,42 @@ fn pair_first(
     l: Class,
     b: u16,
     stop: u16,
-) -> Found
+) -> Subtree
     requires { ⌜ (i ≤ length (now words)) × (length (now words) ≤ mostLines) × (stop ≤ i)
         × Backward (now first) i ⌝ }
     ensures { λ r. ⌜ r
-        ≡ found (rowFirst (told (framesOf (now (words .entry))) (now (first .entry)) i) i stop
+        ≡ subtreeOf (rowFirst (told (framesOf (now (words .entry))) (now (first .entry)) i) i stop
         (child l b ∷ child k a ∷ [])) ⌝ }
 {
     match child_first(words, first, i, l, b, stop) {
-        Found::Nowhere => Found::Nowhere,
-        Found::At(t) => child_first(words, first, i, k, a, t),
+        Subtree::OutOfOrder => Subtree::OutOfOrder,
+        Subtree::From(t) => child_first(words, first, i, k, a, t),
     }
 }
 
 // Where the tree of frame i begins, from its last child to its first. `Backward` keeps each row's
 // end from moving past i.
-fn row_first(words: &[u64], first: &[u16; MOST_LINES], i: usize, f: Frame) -> Found
+fn row_first(words: &[u64], first: &[u16; MOST_LINES], i: usize, f: Frame) -> Subtree
     requires { ⌜ (i ≤ length (now words)) × (length (now words) ≤ mostLines)
         × Backward (now first) i ⌝ }
     ensures { λ r. ⌜ r
-        ≡ found (rowFirst (told (framesOf (now (words .entry))) (now (first .entry)) i) i i (reverse
-        (children f))) ⌝ }
+        ≡ subtreeOf (rowFirst (told (framesOf (now (words .entry))) (now (first .entry)) i) i i
+        (reverse (children f))) ⌝ }
 {
     let stop = i as u16;
     match children_of(f) {
-        Children::Nothing => Found::At(stop),
+        Children::Nothing => Subtree::From(stop),
         Children::One(k, a) => child_first(words, first, i, k, a, stop),
         Children::Two(k, a, l, b) => pair_first(words, first, i, k, a, l, b, stop),
         Children::Three(k, a, l, b, m, c) => match child_first(words, first, i, m, c, stop) {
-            Found::Nowhere => Found::Nowhere,
-            Found::At(t) => pair_first(words, first, i, k, a, l, b, t),
+            Subtree::OutOfOrder => Subtree::OutOfOrder,
+            Subtree::From(t) => pair_first(words, first, i, k, a, l, b, t),
         },
     }
 }
 
 // The lowest frame whose children are out of order or of a wrong class.
-fn disorder(words: &[u64]) -> Found
+fn disorder(words: &[u64]) -> FaultSearch
     requires { ⌜ length (now words) ≤ mostLines ⌝ }
     ensures { λ r. ⌜ r ≡ found (firstDisorder [] 0 (framesOf (now (words .entry)))) ⌝ }
 {
@@ -115,16 +122,16 @@ fn disorder(words: &[u64]) -> Found
     while i < words.len() {
         let f = frame_at(words, i);
         match row_first(words, &first, i, f) {
-            Found::Nowhere => {
-                return Found::At(i as u16);
+            Subtree::OutOfOrder => {
+                return FaultSearch::At(i as u16);
             }
-            Found::At(lo) => {
+            Subtree::From(lo) => {
                 first[i] = lo;
             }
         }
         i += 1;
     }
-    Found::Nowhere
+    FaultSearch::Nowhere
 }
 
 fn either(a: bool, b: bool) -> bool
@@ -146,11 +153,11 @@ fn is_other(k: Kind) -> bool
     !is_shared(k)
 }
 
-// The lowest shared cell behind another kind.
-fn behind(words: &[u64]) -> Found
+// The lowest shared cell after a frame of another kind.
+fn shared_after_other(words: &[u64]) -> FaultSearch
     requires { ⌜ length (now words) ≤ mostLines ⌝ }
     ensures { λ r. ⌜ r
-        ≡ found (lowest (λ (i : ℕ) (f : Frame). isBehind (framesOf (now (words .entry))) i f) 0
+        ≡ found (lowest (λ (i : ℕ) (f : Frame). isAfterOther (framesOf (now (words .entry))) i f) 0
         (framesOf (now (words .entry)))) ⌝ }
 {
     let mut other = false;
@@ -159,12 +166,12 @@ fn behind(words: &[u64]) -> Found
         let f = frame_at(words, i);
         let kind = f.kind;
         if is_late(kind, other) {
-            return Found::At(i as u16);
+            return FaultSearch::At(i as u16);
         }
         other = either(other, is_other(kind));
         i += 1;
     }
-    Found::Nowhere
+    FaultSearch::Nowhere
 }
 
 // A shared cell, where another kind was before.
@@ -177,7 +184,7 @@ fn is_late(k: Kind, other: bool) -> bool
     false
 }
 
-// Each array of marks has a 1 at the frames that some frame has as a child. A number behind the
+// Each array of marks has a 1 at the frames that some frame has as a child. A number after the
 // last frame marks nothing.
 fn mark(used: &mut [u8; MOST_LINES], v: u16)
     ensures { λ r. ⌜ now (used .exit) ≡ marked (now (used .entry)) v ⌝ }
@@ -238,7 +245,7 @@ fn is_left(k: Class, mark: u8) -> bool
 }
 
 // The lowest statement or expression that no frame has as a child.
-fn leftover(words: &[u64]) -> Found
+fn leftover(words: &[u64]) -> FaultSearch
     requires { ⌜ length (now words) ≤ mostLines ⌝ }
     ensures { λ r. ⌜ r
         ≡ found (firstLeftover (framesOf (now (words .entry))) 0 (framesOf (now (words .entry)))) ⌝ }
@@ -250,11 +257,11 @@ fn leftover(words: &[u64]) -> Found
         let f = frame_at(words, i);
         let kind = f.kind;
         if is_left(class_of(kind), used[i]) {
-            return Found::At(i as u16);
+            return FaultSearch::At(i as u16);
         }
         i += 1;
     }
-    Found::Nowhere
+    FaultSearch::Nowhere
 }
 
 fn is_main(f: Frame) -> bool
@@ -268,25 +275,25 @@ fn is_main(f: Frame) -> bool
 }
 
 // The last frame, if it is not `main`.
-fn no_main(words: &[u64]) -> Found
+fn no_main(words: &[u64]) -> FaultSearch
     requires { ⌜ (0 < length (now words)) × (length (now words) ≤ mostLines) ⌝ }
     ensures { λ r. ⌜ r ≡ found (noMain (framesOf (now (words .entry)))) ⌝ }
 {
     let last = words.len() - 1;
     if is_main(frame_at(words, last)) {
-        return Found::Nowhere;
+        return FaultSearch::Nowhere;
     }
-    Found::At(last as u16)
+    FaultSearch::At(last as u16)
 }
 
 // The lowest frame with a fault 6.
-pub(crate) fn order(words: &[u64]) -> Found
+pub(crate) fn order(words: &[u64]) -> FaultSearch
     requires { ⌜ (0 < length (now words)) × (length (now words) ≤ mostLines) ⌝ }
     ensures { λ r. ⌜ r ≡ found (orderFault (framesOf (now (words .entry)))) ⌝ }
 {
     let d = disorder(words);
-    let b = behind(words);
+    let s = shared_after_other(words);
     let l = leftover(words);
     let m = no_main(words);
-    lower(d, lower(b, lower(l, m)))
+    lower(d, lower(s, lower(l, m)))
 }

@@ -1,5 +1,5 @@
 -- The count of frames: it is what its words say, each line that it counts is a frame and the line
--- behind them is none; and laws of the loop of `frames_from`, which counts them. Assumes nothing.
+-- after them is none; and laws of the loop of `frames_from`, which counts them. Assumes nothing.
 use mathlib.Core.Path.{_≡_, refl, sym, ap, _∙_}
 use mathlib.Core.Bool.{Bool, true, false, not}
 use mathlib.Core.List.{List}
@@ -11,7 +11,7 @@ use Rattle.basics.proofs.Ifs.{if-yes, if-no}
 use Rattle.text.specs.inner.Lines.{frameRead}
 use Rattle.text.specs.declared.line.FrameRead.{FrameRead}
 use Rattle.text.proofs.FrameLaws.{frame-over}
-use Rattle.lines.specs.Readers.{isRead, framesOfNext, framesFrom}
+use Rattle.lines.specs.inner.Readers.{isRead, framesOfNext, framesFrom}
 
 -- whether line n is a frame
 abbrev isFrame : List ℕ → ℕ → Bool
@@ -46,12 +46,12 @@ next-counted (suc k) bs n i h = by (isFrame bs n) refl (next-counted k bs (suc n
         at zero l = ap (isFrame bs) (omega arith) ∙ e
         at (suc j) l = ap (isFrame bs) (omega arith) ∙ r j (omega (arith, next-frame k bs n e))
 
-next-behind : (k : ℕ) (bs : List ℕ) (n : ℕ) → 1024 ≤ n + k
+next-after : (k : ℕ) (bs : List ℕ) (n : ℕ) → 1024 ≤ n + k
     → isFrame bs (n + framesOfNext k bs n) ≡ false
-next-behind zero bs n h =
+next-after zero bs n h =
     let z = none-next bs n in
     ap isRead (sym (frame-over bs (n + framesOfNext 0 bs n) (omega arith)))
-next-behind (suc k) bs n h = by (isFrame bs n) refl (next-behind k bs (suc n) (omega arith))
+next-after (suc k) bs n h = by (isFrame bs n) refl (next-after k bs (suc n) (omega arith))
   where
     by : (t : Bool) → isFrame bs n ≡ t → isFrame bs (suc n + framesOfNext k bs (suc n)) ≡ false
         → isFrame bs (n + framesOfNext (suc k) bs n) ≡ false
@@ -63,10 +63,10 @@ pub frames-counted : (bs : List ℕ) (n i : ℕ) → i < framesFrom bs n → isF
 unfolding framesFrom
 frames-counted bs n i h = next-counted (1024 - n) bs n i h
 
--- the line behind them is none
-pub none-behind : (bs : List ℕ) (n : ℕ) → isFrame bs (n + framesFrom bs n) ≡ false
+-- the line after them is none
+pub none-after : (bs : List ℕ) (n : ℕ) → isFrame bs (n + framesFrom bs n) ≡ false
 unfolding framesFrom
-none-behind bs n = next-behind (1024 - n) bs n (omega arith)
+none-after bs n = next-after (1024 - n) bs n (omega arith)
 
 -- ---- the loop
 

@@ -54,7 +54,8 @@ module _ {M : Type 1} (𝓤 : URA M) (H : Heap 𝓤) (A : Atoms 𝓤) (W : Given
   pub fields : r .next < 2 ^ 64
       → ent 𝓤 (sem 𝓤 H A (Own α r)) (sep 𝓤 (sem 𝓤 H A (Owns α r)) (sem 𝓤 H A (Own α r)))
   fields fits =
-      qed W (‵ (Own α r) ∷ []) ∵ use1 W (‵ (Own α r) ⊛ ‵ (Own α r)) (LL.copy D (T′.the-copy α) 𝓤 H A W .twice r (T′.lowered r ∷ [])) $ split ! $
+      qed W (‵ (Own α r) ∷ []) ∵ use1 W (‵ (Own α r) ⊛ ‵ (Own α r))
+      (LL.copy D (T′.the-copy α) 𝓤 H A W .twice r (T′.lowered r ∷ [])) $ split ! $
       use1 W (given (T′.lowered r ∷ [] ≡ T′.lowered r ∷ []) (‵ (all-own (D .parts) L vs))) (own-open 𝓤 H A W D L vs (T′.lowered r)) $ learn ! (λ _. use1 W (‵ (ownAt (D .parts) L 0 (r .text)) ⊛ ‵ (rest (D .parts) L 0 vs)) (own-out 𝓤 H A W (D .parts) L 0 vs) $ split ! $
       -- [what the slice owns; what the number owns; what the struct owns]
       move ! (1 ∷ []) $ drop ! $ nothing ! $ owned ! usize (Is usize) (uint-makes 𝓤 H A W w64) (r .next) _ (refl, fits) $ fjoin ! $ move ! (1 ∷ 0 ∷ []) $ fjoin ! $ frame ! $ done !)

@@ -1,1 +1,1 @@
-pub mod Readers
+pub mod inner

@@ -7,15 +7,15 @@ use text::line::FrameRead;
 use text::line::frame_at;
 ghost use mathlib.Core.Path.{_≡_};
 ghost use Rattle.text.specs.inner.Lines.{frameRead};
-ghost use Rattle.lines.specs.Readers.{lineAfter, linesFrom, isRead, framesFrom, opened};
-ghost use Rattle.lines.specs.Readers.{frameHere, moved, linesLeft, framesAhead};
+ghost use Rattle.lines.specs.inner.Readers.{lineAfter, isRead, framesFrom, opened, frameHere};
+ghost use Rattle.lines.specs.inner.Readers.{moved, framesAhead};
 
 pub struct LineReader<'a> {
     pub text: &'a [u8],
     pub next: usize,
 }
 
-// The number of the line behind line n. Behind the last whole line there is none, and the number
+// The number of the line after line n. After the last whole line there is none, and the number
 // stays.
 fn line_after(text: &[u8], n: usize) -> usize
     ensures { λ r. ⌜ r ≡ lineAfter (now (text .entry)) n ⌝ }
@@ -24,17 +24,6 @@ fn line_after(text: &[u8], n: usize) -> usize
         return n;
     }
     n + 1
-}
-
-// How many whole lines a text has from line n on.
-fn lines_from(text: &[u8], n: usize) -> usize
-    ensures { λ r. ⌜ r ≡ linesFrom (now (text .entry)) n ⌝ }
-{
-    let lines = text.len() / LINE_LENGTH;
-    if lines <= n {
-        return 0;
-    }
-    lines - n
 }
 
 fn is_read(f: FrameRead) -> bool
@@ -75,13 +64,6 @@ pub fn next_frame<'s, 'a>(r: &'s mut LineReader<'a>) -> FrameRead
     let at = r.next;
     r.next = line_after(text, at);
     frame_at(text, at)
-}
-
-// How many whole lines are left.
-pub fn lines_left<'a>(r: LineReader<'a>) -> usize
-    ensures { λ n. ⌜ n ≡ linesLeft (r .entry) ⌝ }
-{
-    lines_from(r.text, r.next)
 }
 
 // How many lines from the reader's on are frames, up to the first that is none.

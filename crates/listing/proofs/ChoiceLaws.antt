@@ -59,16 +59,16 @@ no-line k = refl
 
 -- ---- the loop over lines: k of them are choices, as far as `at`
 
--- what the bytes read as, from what is read behind k choices
-abbrev countBehind : ℕ → Choices → ChoicesRead
-countBehind k (choices cs) = read.Choices (k + length cs)
-countBehind k (malformed j) = read.Malformed j
+-- what the bytes read as, from what is read after k choices
+abbrev countAfter : ℕ → Choices → ChoicesRead
+countAfter k (choices cs) = read.Choices (k + length cs)
+countAfter k (malformed j) = read.Malformed j
 
-count-start : (r : Choices) → countBehind 0 r ≡ countRead r
+count-start : (r : Choices) → countAfter 0 r ≡ countRead r
 count-start (choices cs) = ap read.Choices (omega arith)
 count-start (malformed j) = refl
 
-count-more : (k c : ℕ) (r : Choices) → countBehind (suc k) r ≡ countBehind k (alsoChoice c r)
+count-more : (k c : ℕ) (r : Choices) → countAfter (suc k) r ≡ countAfter k (alsoChoice c r)
 count-more k c (choices cs) = ap read.Choices (omega arith)
 count-more k c (malformed j) = refl
 
@@ -77,7 +77,7 @@ pub record Judging (bytes digits : List ℕ) (k at : ℕ) : Type 0 where
   pub three : at ≡ 3 * k
   pub fits : at ≤ length bytes
   pub table : digits ≡ digitTable
-  pub rest : countBehind k (choicesFrom k (drop at bytes)) ≡ judged bytes
+  pub rest : countAfter k (choicesFrom k (drop at bytes)) ≡ judged bytes
 
 pub judged-over : (bytes : List ℕ) → 49152 < length bytes → read.TooLong ≡ judged bytes
 unfolding judged
@@ -91,7 +91,7 @@ judging-start bytes digits h e =
 
 module _ (bytes digits : List ℕ) (k at : ℕ) (j : Judging bytes digits k at) where
   stop : choicesFrom k (drop at bytes) ≡ malformed k → read.Malformed k ≡ judged bytes
-  stop e = ap (countBehind k) (sym e) ∙ j .rest
+  stop e = ap (countAfter k) (sym e) ∙ j .rest
 
   pub judged-short : at < length bytes → length bytes < at + 3 → read.Malformed k ≡ judged bytes
   judged-short p q = stop (line-short k (drop at bytes) (rw length-drop (omega arith)) (rw length-drop (omega arith)))
@@ -99,7 +99,7 @@ module _ (bytes digits : List ℕ) (k at : ℕ) (j : Judging bytes digits k at) 
   pub judged-all : length bytes ≤ at → read.Choices k ≡ judged bytes
   judged-all h =
       ap read.Choices (omega arith)
-      ∙ ap (countBehind k) (sym (no-line k) ∙ ap (choicesFrom k) (sym (drop-of-length-le bytes h)))
+      ∙ ap (countAfter k) (sym (no-line k) ∙ ap (choicesFrom k) (sym (drop-of-length-le bytes h)))
       ∙ j .rest
 
   module _ (whole : at + 3 ≤ length bytes) where
@@ -143,7 +143,7 @@ module _ (bytes digits : List ℕ) (k at : ℕ) (j : Judging bytes digits k at) 
               rest =
                   rw (add-one k)
                   (count-more k (16 * digit (getD bytes at 0) + digit (getD bytes (at + 1) 0)) (choicesFrom (suc k) (drop (at + 3) bytes))
-                  ∙ ap (countBehind k) (sym (ap (choicesFrom k) here ∙ line-right _ _ _ k _ (is-choice _ _ _ (omega (arith, value _ a)) (omega (arith, value _ b)) h)))
+                  ∙ ap (countAfter k) (sym (ap (choicesFrom k) here ∙ line-right _ _ _ k _ (is-choice _ _ _ (omega (arith, value _ a)) (omega (arith, value _ b)) h)))
                   ∙ j .rest);
             }
 

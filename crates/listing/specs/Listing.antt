@@ -1,21 +1,14 @@
--- What `check` and `run` print, as bytes. Assumes nothing: definitions.
-use mathlib.Core.List.{List, [], _∷_, _++_}
-use mathlib.Core.Bool.{Bool, true, false, _&&_}
-use Prim.Native.Nat.{ℕ, suc, _+_, _*_, _/_, _%_, min}
-use lib.Dec.{ltb, leb, eqb}
-use lib.ListN.{length, take}
-use Rattle.basics.specs.If.{if_then_else_}
-use Rattle.language.specs.declared.frame.Frame.{Frame}
-use Rattle.language.specs.Verdicts.{numberOf, frameOf}
-use Rattle.language.specs.declared.verdict.Verdict.{Verdict}
-use Rattle.language.specs.declared.verdict.Verdict.the-variants.{Accepted, Rejected}
-use Rattle.language.specs.Limits.{mostChoiceBytes}
-use Rattle.language.specs.Refusals.{longText, malformedText, tooDeep}
+-- What `check` and `run` print, as bytes.
+use Rattle.basics.specs.Prelude.{List, [], _∷_, _++_, Bool, true, false, _&&_, ℕ, suc, _+_, _*_}
+use Rattle.basics.specs.Prelude.{_/_, _%_, min, ltb, leb, eqb, length, take, if_then_else_}
+use Rattle.language.specs.{declared.frame.Frame.Frame, Verdicts.numberOf, Verdicts.frameOf}
+use Rattle.language.specs.{declared.verdict.Verdict.Verdict}
+use Rattle.language.specs.{declared.verdict.Verdict.the-variants.Accepted}
+use Rattle.language.specs.{declared.verdict.Verdict.the-variants.Rejected, Limits.mostChoiceBytes}
+use Rattle.language.specs.{Refusals.longText, Refusals.malformedText, Refusals.tooDeep}
 use Rattle.text.specs.Digits.{digit}
 use Rattle.program.specs.Programs.{Program, programOf}
-use Rattle.machine.specs.State.{usedCells}
-use Rattle.machine.specs.Turns.{Stepped}
-use Rattle.machine.specs.Runs.{steps}
+use Rattle.machine.specs.{State.usedCells, Turns.StepResult, Runs.steps}
 
 -- ---- numbers in digits
 
@@ -71,23 +64,22 @@ choicesFrom k [] = choices []
 choicesFrom k (a ∷ []) = malformed k
 choicesFrom k (a ∷ b ∷ []) = malformed k
 choicesFrom k (a ∷ b ∷ c ∷ rest) =
-    elim (isChoice a b c) [ true ↦ alsoChoice (16 * digit a + digit b) (choicesFrom (suc k) rest) | false ↦ malformed k ]
+    elim (isChoice a b c)
+    [ true ↦ alsoChoice (16 * digit a + digit b) (choicesFrom (suc k) rest) | false ↦ malformed k ]
 
 -- ---- the run
 
--- 'Per choice: choice, answer, acting thread (00 if none ..), cells in use, as 2, 2, 2 and 4 hexadecimal digits'
+-- 'Per choice: choice, answer, acting thread (00 if none ..), cells in use, as 2, 2, 2 and 4
+-- hexadecimal digits'
 abbrev pub choiceLineOf : ℕ → ℕ → ℕ → ℕ → List ℕ
 choiceLineOf choice answer thread cells =
-    twoDigits choice
-    ++ space ∷ twoDigits answer
-    ++ space ∷ twoDigits thread
-    ++ space ∷ fourDigits cells
-    ++ lineFeed ∷ []
+    twoDigits choice ++ space ∷ twoDigits answer ++ space ∷ twoDigits thread
+    ++ space ∷ fourDigits cells ++ lineFeed ∷ []
 
-unfoldable pub choiceLine : ℕ → Stepped → List ℕ
+unfoldable pub choiceLine : ℕ → StepResult → List ℕ
 choiceLine c r = choiceLineOf c (r .answer) (r .thread) (usedCells (r .state .cells))
 
-unfoldable pub choiceLines : List ℕ → List Stepped → List ℕ
+unfoldable pub choiceLines : List ℕ → List StepResult → List ℕ
 choiceLines [] rs = []
 choiceLines (c ∷ cs) [] = []
 choiceLines (c ∷ cs) (r ∷ rs) = choiceLine c r ++ choiceLines cs rs
@@ -110,10 +102,14 @@ abbrev pub linesOf : Program → Choices → List ℕ
 linesOf p (choices cs) = runLines p cs
 linesOf p (malformed k) = refusalLine malformedText k
 
--- behind the check's line, from the bytes of choices.txt, which are judged whole before any step: 'over 49,152 bytes prints `02 0000`, else the first malformed one `03` and its line'
+-- after the check's line, from the bytes of choices.txt, which are judged whole before any step:
+-- 'over 49,152 bytes prints `02 0000`, else the first malformed one `03` and its line'
 unfoldable pub choicesListing : Program → List ℕ → List ℕ
-choicesListing p bytes = elim (ltb mostChoiceBytes (length bytes)) [ true ↦ refusalLine longText 0 | false ↦ linesOf p (choicesFrom 0 bytes) ]
+choicesListing p bytes =
+    elim (ltb mostChoiceBytes (length bytes))
+    [ true ↦ refusalLine longText 0 | false ↦ linesOf p (choicesFrom 0 bytes) ]
 
 -- what `run` prints of a text with that verdict and those frames, and of the bytes of choices.txt
 unfoldable pub runListing : Verdict → List Frame → List ℕ → List ℕ
-runListing v fs bytes = checkLine v ++ elim (stops v) [ true ↦ [] | false ↦ choicesListing (programOf fs) bytes ]
+runListing v fs bytes =
+    checkLine v ++ elim (stops v) [ true ↦ [] | false ↦ choicesListing (programOf fs) bytes ]

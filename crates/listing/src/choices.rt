@@ -44,7 +44,7 @@ pub fn judge(bytes: &[u8]) -> ChoicesRead
     ChoicesRead::Choices(k as usize)
 }
 
-// The choice of line k, of bytes that were judged to be choices; 0 behind them. The table of digits
+// The choice of line k, of bytes that were judged to be choices; 0 after them. The table of digits
 // is lent, since it would be written out anew for each choice.
 pub fn choice_at(digits: &[u8; 256], bytes: &[u8], k: usize) -> u8
     requires { ⌜ now digits ≡ digitTable ⌝ }

@@ -4,7 +4,7 @@ use crate::digits::two_digits;
 ghost use mathlib.Core.Path.{_≡_};
 ghost use Rattle.listing.specs.Listing.{choiceLineOf, lastLine};
 
-// A step's line: its choice, its answer, the thread that acted, and the cells in use behind it.
+// A step's line: its choice, its answer, the thread that acted, and the cells in use after it.
 pub fn choice_line(choice: u8, answer: u8, thread: u8, cells: u16) -> [u8; 14]
     ensures { λ r. ⌜ r ≡ choiceLineOf choice answer thread cells ⌝ }
 {

@@ -2,7 +2,7 @@
 use Prim.Native.Nat.{ℕ, zero, suc, _+_, _*_, _-_, _/_, _%_, _<_, _≤_}
 use mathlib.Core.Path.{_≡_, refl, sym, ap, ap₂, _∙_, subst}
 use mathlib.Core.List.{List, [], _∷_, map}
-use mathlib.Core.Bool.{Bool, true, false, not, _||_}
+use mathlib.Core.Bool.{Bool, true, false, not, _&&_, _||_}
 use native.Mathlib.Omega.{arith}
 use native.Mathlib.Nat.{add-zero}
 use lib.ListN.{getD, length, set, length-set, length-map, List·getD-eq-default}
@@ -13,7 +13,7 @@ use Rattle.basics.specs.Members.{All, none, more}
 use Rattle.basics.proofs.Ifs.{if-yes, if-no, and-true}
 use Rattle.machine.specs.State.{State, Thread, Scheduler, Entry, plain, waiting, noThread}
 use Rattle.machine.specs.State.{noScheduler, withScheduler, schedulerAt}
-use Rattle.machine.specs.Waits.{endedFrom, isReady, threadOf, keepIf, readyThreads, stillWaiting}
+use Rattle.machine.specs.Waits.{endedFrom, isReady, entryThread, keepIf, readyThreads, stillWaiting}
 use Rattle.machine.specs.Words.{entryWord, listWord, wordsAt, pack}
 use Rattle.machine.specs.inner.Blocks.{pasted, padded}
 use Rattle.machine.specs.inner.Ranges.{allBelow}
@@ -24,55 +24,72 @@ use Rattle.machine.proofs.Padded.{padded-length, padded-at}
 use Rattle.machine.proofs.Round.{thread-1, thread-2, ended-bit}
 use Rattle.machine.proofs.Ranges.{below-each, all-below}
 use Rattle.machine.specs.Shapes.{EntryFits, plain-fits, waiting-fits}
-use Rattle.lists.specs.inner.Lists.{isQuiet, isReadyWord, readyWords, waitingWords, sortedIn}
+use Rattle.lists.specs.inner.Lists.{isAwaited, noneAwaited, isReadyWord}
+use Rattle.lists.specs.inner.Lists.{readyWords, waitingWords, partitionedIn}
 use Rattle.lists.specs.inner.Lists.{withInstantEnded}
 use Rattle.machine.proofs.AllBelow.{same-test}
-use Rattle.lists.proofs.SortLaws.{all-sorted}
+use Rattle.lists.proofs.PartitionLaws.{all-partitioned}
 use Rattle.lists.proofs.SchedulerSays.{by-lists, scheduler-put, active-word, next-word}
 use Rattle.lists.proofs.SchedulerSays.{room-says}
 
 -- ---- the ready test
--- thread t, which is x, has ended, or is neither thread u nor started by it: `isQuiet` on the state
-quiet : ℕ → ℕ → Thread → Bool
-quiet u t x = x .ended || not (eqb t u || eqb (x .starter) u)
+-- thread t, which is x, has ended, or a wait for thread u does not await it: as `endedFrom` has it
+endedFor : ℕ → ℕ → Thread → Bool
+endedFor u t x = x .ended || not (eqb t u || eqb (x .starter) u)
 
 ended-each : (u t : ℕ) (xs : List Thread) → endedFrom u t xs ≡ true → (k : ℕ) → k < length xs
-    → quiet u (t + k) (getD xs k noThread) ≡ true
-unfolding endedFrom quiet
+    → endedFor u (t + k) (getD xs k noThread) ≡ true
+unfolding endedFrom endedFor
 ended-each u t [] e k g = absurd (omega arith)
 ended-each u t (x ∷ xs) e zero g =
-    ap (λ (n : ℕ). quiet u n x) (add-zero t) ∙ and-true (quiet u t x) (endedFrom u (suc t) xs) e .0
+    ap (λ (n : ℕ). endedFor u n x) (add-zero t)
+    ∙ and-true (endedFor u t x) (endedFrom u (suc t) xs) e .0
 ended-each u t (x ∷ xs) e (suc k) g =
     let z : t + suc k ≡ suc t + k = omega arith in
-    ap (λ (n : ℕ). quiet u n (getD xs k noThread)) z ∙ ended-each u (suc t) xs (and-true (quiet u t x) (endedFrom u (suc t) xs) e .1) k (omega arith)
+    ap (λ (n : ℕ). endedFor u n (getD xs k noThread)) z
+    ∙ ended-each u (suc t) xs (and-true (endedFor u t x) (endedFrom u (suc t) xs) e .1) k
+    (omega arith)
 
 each-ended : (u t : ℕ) (xs : List Thread)
-    → ((k : ℕ) → k < length xs → quiet u (t + k) (getD xs k noThread) ≡ true)
+    → ((k : ℕ) → k < length xs → endedFor u (t + k) (getD xs k noThread) ≡ true)
     → endedFrom u t xs ≡ true
-unfolding endedFrom quiet
+unfolding endedFrom endedFor
 each-ended u t [] h = refl
 each-ended u t (x ∷ xs) h =
-    and-both (quiet u t x) (endedFrom u (suc t) xs) (ap (λ (n : ℕ). quiet u n x) (sym (add-zero t)) ∙ h 0 (omega arith))
-    (each-ended u (suc t) xs (λ k g. let z : suc t + k ≡ t + suc k = omega arith in ap (λ (n : ℕ). quiet u n (getD xs k noThread)) z ∙ h (suc k) (omega arith)))
+    and-both (endedFor u t x) (endedFrom u (suc t) xs)
+    (ap (λ (n : ℕ). endedFor u n x) (sym (add-zero t)) ∙ h 0 (omega arith))
+    (each-ended u (suc t) xs (λ k g. let z : suc t + k ≡ t + suc k = omega arith in
+    ap (λ (n : ℕ). endedFor u n (getD xs k noThread)) z ∙ h (suc k) (omega arith)))
 
 module _ (w : List ℕ) (s : State) (h : Says w s) (few : length (s .threads) ≤ 64) where
-  quiet-says : (u k : ℕ) → k < length (s .threads)
-      → isQuiet w u k ≡ quiet u (1 + k) (getD (s .threads) k noThread)
-  unfolding isQuiet quiet
-  quiet-says u k g =
+  awaited-says : (u k : ℕ) → k < length (s .threads)
+      → not (isAwaited w u k) ≡ endedFor u (1 + k) (getD (s .threads) k noThread)
+  unfolding isAwaited endedFor
+  awaited-says u k g =
       let z : suc k ≡ 1 + k = omega arith in
-      ap₂ (λ (a b : ℕ). eqb a 0 || not (eqb (suc k) u || eqb b u)) (h .thread k 2 (omega arith) (omega arith) ∙ thread-2 x) (h .thread k 1 (omega arith) (omega arith) ∙ thread-1 x)
-      ∙ ap₂ (λ (b : Bool) (n : ℕ). b || not (eqb n u || eqb (x .starter) u)) (ended-bit (x .ended)) z
+      ap₂ (λ (a b : ℕ). not (not (eqb a 0) && (eqb (suc k) u || eqb b u)))
+      (h .thread k 2 (omega arith) (omega arith) ∙ thread-2 x)
+      (h .thread k 1 (omega arith) (omega arith) ∙ thread-1 x)
+      ∙ ap₂ (λ (b : Bool) (n : ℕ). not (not b && (eqb n u || eqb (x .starter) u)))
+      (ended-bit (x .ended)) z
+      ∙ ended-or (x .ended) (eqb (1 + k) u || eqb (x .starter) u)
     where
       x : Thread
       x = getD (s .threads) k noThread
 
-  all-quiet-says : (u : ℕ) → allBelow (getD w 0 0) (isQuiet w u) ≡ endedFrom u 1 (s .threads)
-  all-quiet-says u =
-      ap (λ (n : ℕ). allBelow n (isQuiet w u)) (h .threads)
+      ended-or : (a b : Bool) → not (not a && b) ≡ a || not b
+      ended-or true b = refl
+      ended-or false b = refl
+
+  none-awaited-says : (u : ℕ) → noneAwaited w u (getD w 0 0) ≡ endedFrom u 1 (s .threads)
+  unfolding noneAwaited
+  none-awaited-says u =
+      ap (λ (n : ℕ). allBelow n (λ k. not (isAwaited w u k))) (h .threads)
       ∙ same-test _ _
-      (λ e. each-ended u 1 (s .threads) (λ k g. sym (quiet-says u k g) ∙ below-each (length (s .threads)) (isQuiet w u) e k g))
-      (λ e. all-below (length (s .threads)) (isQuiet w u) (λ k g. quiet-says u k g ∙ ended-each u 1 (s .threads) e k g))
+      (λ e. each-ended u 1 (s .threads) (λ k g. sym (awaited-says u k g)
+      ∙ below-each (length (s .threads)) (λ i. not (isAwaited w u i)) e k g))
+      (λ e. all-below (length (s .threads)) (λ i. not (isAwaited w u i))
+      (λ k g. awaited-says u k g ∙ ended-each u 1 (s .threads) e k g))
 
   pub ready-says : (e : Entry) → EntryFits e → isReadyWord w (entryWord e) ≡ isReady (s .threads) e
   unfolding isReadyWord isReady entryWord
@@ -81,9 +98,10 @@ module _ (w : List ℕ) (s : State) (h : Says w s) (few : length (s .threads) �
       let l = f .1 in
       let m = g .0 in
       let z : (128 * u + t) / 128 ≡ u = omega arith in
-      if-no _ _ (le-ltb (128 * u + t) 128 (omega arith)) ∙ ap (λ (v : ℕ). allBelow (getD w 0 0) (isQuiet w v)) z ∙ all-quiet-says u
+      if-no _ _ (le-ltb (128 * u + t) 128 (omega arith))
+      ∙ ap (λ (v : ℕ). noneAwaited w v (getD w 0 0)) z ∙ none-awaited-says u
 
-  thread-of : (e : Entry) → EntryFits e → entryWord e % 128 ≡ threadOf e
+  thread-of : (e : Entry) → EntryFits e → entryWord e % 128 ≡ entryThread e
   unfolding entryWord
   thread-of (plain t) (plain-fits f) = let l = f .1 in omega arith
   thread-of (waiting t u) (waiting-fits f g) = let l = f .1 in omega arith
@@ -93,15 +111,17 @@ module _ (w : List ℕ) (s : State) (h : Says w s) (few : length (s .threads) �
   unfolding readyWords readyThreads
   ready-words [] none = refl
   ready-words (e ∷ es) (more f fs) =
-      ap₂ (λ (b : Bool) (t : ℕ). keepIf b t (readyWords w (map entryWord es))) (ready-says e f) (thread-of e f)
-      ∙ ap (keepIf (isReady (s .threads) e) (threadOf e)) (ready-words es fs)
+      ap₂ (λ (b : Bool) (t : ℕ). keepIf b t (readyWords w (map entryWord es))) (ready-says e f)
+      (thread-of e f)
+      ∙ ap (keepIf (isReady (s .threads) e) (entryThread e)) (ready-words es fs)
 
   pub waiting-words : (es : List Entry) → All EntryFits es
       → waitingWords w (map entryWord es) ≡ map entryWord (stillWaiting (s .threads) es)
   unfolding waitingWords stillWaiting
   waiting-words [] none = refl
   waiting-words (e ∷ es) (more f fs) =
-      ap₂ (λ (b : Bool) (ws : List ℕ). keepIf (not b) (entryWord e) ws) (ready-says e f) (waiting-words es fs) ∙ kept (not (isReady (s .threads) e))
+      ap₂ (λ (b : Bool) (ws : List ℕ). keepIf (not b) (entryWord e) ws) (ready-says e f)
+      (waiting-words es fs) ∙ kept (not (isReady (s .threads) e))
     where
       kept : (b : Bool)
           → keepIf b (entryWord e) (map entryWord (stillWaiting (s .threads) es))
@@ -142,7 +162,8 @@ module _ (w : List ℕ) (s : State) (h : Says w s) (few : length (s .threads) �
           let n : getD w nextAt 0 ≡ length es = room-says w s h q a b in
           let r : length es ≤ 64 = room in
           let z : suc nextAt + j ≡ blockAt + (65 + suc j) = omega arith in
-          tab-from (getD w nextAt 0) (λ i. getD w i 0) (suc nextAt) j 0 m ∙ ap (λ (i : ℕ). getD w i 0) z ∙ next-word w s h q a b (suc j) (omega arith)
+          tab-from (getD w nextAt 0) (λ i. getD w i 0) (suc nextAt) j 0 m
+          ∙ ap (λ (i : ℕ). getD w i 0) z ∙ next-word w s h q a b (suc j) (omega arith)
 
   readies : rs ≡ readyThreads (s .threads) es
   readies = ap (readyWords w) entries-read ∙ ready-words w s h few es fit
@@ -158,9 +179,9 @@ module _ (w : List ℕ) (s : State) (h : Says w s) (few : length (s .threads) �
   abbrev after : Scheduler
   after = record { active = readyThreads (s .threads) (schedulerAt s q .next); next = stillWaiting (s .threads) (schedulerAt s q .next) }
 
-  -- what the words have behind the lists: the active list was empty
+  -- the words after the change: the active list was empty
   module _ (idle : schedulerAt s q .active ≡ []) where
-    -- the entries sorted, and both counts set
+    -- the entries partitioned, and both counts set
     abbrev m : ℕ
     m = getD w nextAt 0
 
@@ -174,7 +195,7 @@ module _ (w : List ℕ) (s : State) (h : Says w s) (few : length (s .threads) �
     v = set (set u blockAt (length rs)) nextAt (length ws)
 
     size : length rs + length ws ≡ m
-    size = all-sorted w (wordsAt w nextAt) ∙ tab-length m (λ i. getD w i 0) (suc nextAt)
+    size = all-partitioned w (wordsAt w nextAt) ∙ tab-length m (λ i. getD w i 0) (suc nextAt)
 
     count : m ≡ length es
     count = room-says w s h q a b
@@ -202,7 +223,7 @@ module _ (w : List ℕ) (s : State) (h : Says w s) (few : length (s .threads) �
         length-set (set u blockAt (length rs)) nextAt (length ws) ∙ length-set u blockAt (length rs)
         ∙ ul
 
-    -- a word that is no count is as it was sorted; one that is of no list is as it was
+    -- a word that is no count is as the partition left it; one of no list is as it was
     plain-word : (i : ℕ) → (i ≡ blockAt → ⊥) → (i ≡ nextAt → ⊥) → getD v i 0 ≡ getD u i 0
     plain-word i f g =
         getD-set-other (set u blockAt (length rs)) nextAt i (length ws) 0 g
@@ -223,7 +244,8 @@ module _ (w : List ℕ) (s : State) (h : Says w s) (few : length (s .threads) �
     active-here i g false c =
         let l : length rs ≤ i = ltb-false i (length rs) c in
         let z : blockAt + 1 + i ≡ blockAt + suc i = omega arith in
-        kept (blockAt + 1 + i) (λ p r. omega arith) (λ p r. omega arith) ∙ ap (λ (k : ℕ). getD w k 0) z
+        kept (blockAt + 1 + i) (λ p r. omega arith) (λ p r. omega arith)
+        ∙ ap (λ (k : ℕ). getD w k 0) z
         ∙ active-word w s h q a b (suc i) (omega arith) ∙ ap (λ (ts : List ℕ). getD ts i 0) idle
         ∙ sym (List·getD-eq-default rs 0 {n = i} l)
 
@@ -237,7 +259,8 @@ module _ (w : List ℕ) (s : State) (h : Says w s) (few : length (s .threads) �
         let x = size in
         let z : nextAt + 1 + i ≡ blockAt + (65 + suc i) = omega arith in
         let n : length (map entryWord es) ≤ i = rw (length-map es entryWord) (let y = count in omega arith) in
-        kept (nextAt + 1 + i) (λ p r. omega arith) (λ p r. let y = small in omega arith) ∙ ap (λ (k : ℕ). getD w k 0) z
+        kept (nextAt + 1 + i) (λ p r. omega arith) (λ p r. let y = small in omega arith)
+        ∙ ap (λ (k : ℕ). getD w k 0) z
         ∙ next-word w s h q a b (suc i) (omega arith)
         ∙ List·getD-eq-default (map entryWord es) 0 {n = i} n
         ∙ sym (List·getD-eq-default ws 0 {n = i} (omega arith))
@@ -250,22 +273,25 @@ module _ (w : List ℕ) (s : State) (h : Says w s) (few : length (s .threads) �
         ∙ getD-set-same u blockAt (length rs) 0 (rw ul (omega arith))
     active-words (suc i) g =
         let z : blockAt + suc i ≡ blockAt + 1 + i = omega arith in
-        plain-word (blockAt + suc i) (λ p. omega arith) (λ p. omega arith) ∙ ap (λ (k : ℕ). getD u k 0) z
+        plain-word (blockAt + suc i) (λ p. omega arith) (λ p. omega arith)
+        ∙ ap (λ (k : ℕ). getD u k 0) z
         ∙ active-here i (omega arith) (ltb i (length rs)) refl
 
     next-words : (j : ℕ) → j < 65 → getD v (blockAt + (65 + j)) 0 ≡ listWord ws j
     next-words zero g =
         let z : blockAt + (65 + 0) ≡ nextAt = omega arith in
         ap (λ (k : ℕ). getD v k 0) z
-        ∙ getD-set-same (set u blockAt (length rs)) nextAt (length ws) 0 (rw (length-set u blockAt (length rs) ∙ ul) (omega arith))
+        ∙ getD-set-same (set u blockAt (length rs)) nextAt (length ws) 0
+        (rw (length-set u blockAt (length rs) ∙ ul) (omega arith))
     next-words (suc i) g =
         let z : blockAt + (65 + suc i) ≡ nextAt + 1 + i = omega arith in
-        plain-word (blockAt + (65 + suc i)) (λ p. omega arith) (λ p. omega arith) ∙ ap (λ (k : ℕ). getD u k 0) z
+        plain-word (blockAt + (65 + suc i)) (λ p. omega arith) (λ p. omega arith)
+        ∙ ap (λ (k : ℕ). getD u k 0) z
         ∙ next-here i (omega arith) (ltb i m) refl
 
     -- `end_instant`
     pub instant-says : Says (withInstantEnded w (q - 2)) (withScheduler q (record { active = readyThreads (s .threads) (schedulerAt s q .next); next = stillWaiting (s .threads) (schedulerAt s q .next) }) s)
-    unfolding withInstantEnded sortedIn
+    unfolding withInstantEnded partitionedIn
     instant-says = subst (λ (l : List ℕ). Says l (withScheduler q after s)) same-place
         (scheduler-put w s h q a b v after long
         (by-lists after (λ j. getD v (blockAt + j) 0)
@@ -291,13 +317,14 @@ none-ready ts (x ∷ xs) e = by (isReady ts x) refl (none-ready ts xs)
     by : (b : Bool) → isReady ts x ≡ b → (readyThreads ts xs ≡ [] → stillWaiting ts xs ≡ xs)
         → stillWaiting ts (x ∷ xs) ≡ x ∷ xs
     by true q r =
-        absurd (some (sym (ap (λ (b : Bool). keepIf b (threadOf x) (readyThreads ts xs)) q) ∙ e))
+        absurd (some (sym (ap (λ (b : Bool). keepIf b (entryThread x) (readyThreads ts xs)) q) ∙ e))
       where
         some : {t : ℕ} {l : List ℕ} → t ∷ l ≡ [] → ⊥
         some z = let n : _≡_ {A = ℕ} 0 1 = cc in omega arith
     by false q r =
         ap (λ (b : Bool). keepIf (not b) x (stillWaiting ts xs)) q
-        ∙ ap (λ (l : List Entry). x ∷ l) (r (sym (ap (λ (b : Bool). keepIf b (threadOf x) (readyThreads ts xs)) q) ∙ e))
+        ∙ ap (λ (l : List Entry). x ∷ l)
+        (r (sym (ap (λ (b : Bool). keepIf b (entryThread x) (readyThreads ts xs)) q) ∙ e))
 
 pub instant-none : (w : List ℕ) (s : State) → Says w s → length (s .threads) ≤ 64 → (q : ℕ)
     → q - 2 < 8 → q - 2 < length (s .schedulers)

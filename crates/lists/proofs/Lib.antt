@@ -1,7 +1,7 @@
--- In the words: the ready test, a list changed, entries sorted.
+-- In the words: the ready test, a list changed, entries partitioned.
 pub mod WaitLaws
 pub mod ListLaws
-pub mod SortLaws
+pub mod PartitionLaws
 -- The same of the state that the words say: lists, and the end of an instant.
 pub mod SchedulerSays
 pub mod Instants

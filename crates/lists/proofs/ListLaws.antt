@@ -1,11 +1,10 @@
--- A scheduler's lists in the words: an entry put in, the first that leaves; one law for each turn
--- of a loop and each return of the code. Assumes nothing.
-use Prim.Native.Nat.{ℕ, suc, _+_, _*_, _-_, _<_, _≤_}
+-- A scheduler's lists in the words: an entry at the end, the first that leaves; one law for each
+-- turn of a loop and each return of the code. Assumes nothing.
+use Prim.Native.Nat.{ℕ, _+_, _*_, _-_, _<_, _≤_}
 use mathlib.Core.Path.{_≡_, refl, sym, ap, _∙_}
 use mathlib.Core.List.{List, [], _∷_}
 use mathlib.Core.Bool.{true, false}
 use native.Mathlib.Omega.{arith}
-use native.Mathlib.Numerals.{add-one}
 use lib.ListN.{getD, length, set, drop, length-append, length-drop, List·getD-append}
 use lib.Seq.{getD-drop, getD-at}
 use lib.Dec.{leb, ltb, eqb}
@@ -16,38 +15,7 @@ use Rattle.language.specs.Places.{isScheduler}
 use Rattle.language.proofs.PlaceLaws.{test-bounds}
 use Rattle.machine.specs.inner.Blocks.{part, pasted}
 use Rattle.machine.proofs.WordLaws.{pasted-more, pasted-out, part-at, part-length}
-use Rattle.lists.specs.inner.Lists.{shifted, withoutFirst, insertedIn, withLast}
-use Rattle.machine.proofs.PastedLaws.{first-word}
-
--- ---- an entry put into a list: j words are written, and e is the next
-module _ (w v : List ℕ) (first more entry j e : ℕ) (written : v ≡ pasted w first (entry ∷ part w first more) j) (next : e ≡ getD (entry ∷ part w first more) j 0) (room : first + more < length w) where
-  list-long : length (entry ∷ part w first more) ≡ suc more
-  list-long = ap suc (part-length w first more (omega arith))
-
-  pub insert-more : j ≤ more
-      → set v (first + j) e ≡ pasted w first (entry ∷ part w first more) (j + 1)
-  insert-more g =
-      let l = list-long in
-      pasted-more w (entry ∷ part w first more) v first j e written next (omega arith) (omega arith)
-
-  pub insert-next : j < more → getD v (first + j) 0 ≡ getD (entry ∷ part w first more) (j + 1) 0
-  insert-next g =
-      ap (λ (x : List ℕ). getD x (first + j) 0) written
-      ∙ pasted-out w first (entry ∷ part w first more) j (omega arith) (let l = list-long in omega arith) (first + j) (λ p q. omega arith)
-      ∙ sym (part-at w first more j g)
-      ∙ ap (λ (i : ℕ). getD (entry ∷ part w first more) i 0) (sym (add-one j))
-
-  pub insert-last : j ≤ more → more ≤ j
-      → set v (first + more) e ≡ pasted w first (entry ∷ part w first more) (more + 1)
-  insert-last a b =
-      let z : j ≡ more = omega arith in
-      ap (λ (i : ℕ). set v (first + i) e) (sym z) ∙ insert-more a ∙ ap (λ (i : ℕ). pasted w first (entry ∷ part w first more) (i + 1)) z
-
-pub inserted : (w v : List ℕ) (at n p e : ℕ)
-    → v ≡ pasted w (at + 1 + p) (e ∷ part w (at + 1 + p) (n - p)) (n - p + 1)
-    → set v at (n + 1) ≡ insertedIn w at n p e
-unfolding insertedIn
-inserted w v at n p e h = ap (λ (x : List ℕ). set x at (n + 1)) h
+use Rattle.lists.specs.inner.Lists.{shifted, withoutFirst, withLast}
 
 -- ---- where the lists of a scheduler begin; k is which of the schedulers it is, from 0
 pub active-place : (n k : ℕ) → k ≡ n - 2 → 2 + 130 * k ≡ 2 + 130 * (n - 2)
@@ -79,20 +47,10 @@ module _ (w : List ℕ) (at k e : ℕ) (z : at ≡ 67 + 130 * k) where
   unfolding withLast
   last-full h = no _ (le-ltb (getD w at 0) 64 h) refl ∙ ap last-at z
 
-  pub last-more : (v : List ℕ) (n : ℕ) → n ≡ getD w at 0 → n < 64 → at + 65 ≤ 1042
-      → length w ≡ 4818 → v ≡ insertedIn w at n n e → v ≡ withLast w k e
-  unfolding insertedIn withLast
-  last-more v n q h g l f =
-      let end = at + 1 + n in
-      f ∙ ap (λ (m : ℕ). set (pasted w end (e ∷ part w end m) (m + 1)) at (n + 1)) none
-      ∙ ap (λ (x : List ℕ). set x at (n + 1))
-      (sym (first-word w end (e ∷ part w end 0) e refl (omega arith) (omega arith)))
-      ∙ ap (λ (m : ℕ). set (set w (at + 1 + m) e) at (m + 1)) q
-      ∙ yes _ (lt-ltb (getD w at 0) 64 (omega arith)) refl
-      ∙ ap last-at z
-    where
-      none : n - n ≡ 0
-      none = omega arith
+  pub last-more : getD w at 0 < 64
+      → set (set w (at + 1 + getD w at 0) e) at (getD w at 0 + 1) ≡ withLast w k e
+  unfolding withLast
+  last-more h = yes _ (lt-ltb (getD w at 0) 64 h) refl ∙ ap last-at z
 
 pub ruleset last-laws = (last-full, last-more)
 

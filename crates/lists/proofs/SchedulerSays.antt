@@ -13,7 +13,7 @@ use borrow.Author.Tests.{ltb-true, ltb-false, lt-ltb, le-ltb, eq-eqb, ne-eqb, eq
 use Rattle.basics.proofs.Ifs.{if-yes, if-no}
 use Rattle.machine.specs.State.{State, Scheduler, Entry, noScheduler, withScheduler, schedulerAt}
 use Rattle.machine.specs.State.{enlist}
-use Rattle.machine.specs.Turns.{behindFirst}
+use Rattle.machine.specs.Turns.{afterFirst}
 use Rattle.machine.specs.Words.{entryWord, listWord, schedulerWord}
 use Rattle.machine.specs.inner.Blocks.{part, pasted, schedulerWords}
 use Rattle.machine.proofs.WordLaws.{Says, pasted-length, pasted-in, pasted-out, part-at}
@@ -75,7 +75,7 @@ module _ (w : List ℕ) (s : State) (h : Says w s) (q : ℕ) (a : q - 2 < 8) (b 
 
   -- `drop_first`
   pub leave-says : length (schedulerAt s q .active) ≤ 64
-      → Says (withoutFirst w (q - 2)) (withScheduler q (record { active = behindFirst (schedulerAt s q .active); next = schedulerAt s q .next }) s)
+      → Says (withoutFirst w (q - 2)) (withScheduler q (record { active = afterFirst (schedulerAt s q .active); next = schedulerAt s q .next }) s)
   unfolding withoutFirst
   leave-says room = by (here .active) refl
     where
@@ -85,7 +85,7 @@ module _ (w : List ℕ) (s : State) (h : Says w s) (q : ℕ) (a : q - 2 < 8) (b 
           ap (λ (i : ℕ). getD w i 0) z ∙ active-word 0 (omega arith)
 
       Goal : List ℕ → Type 0
-      Goal l = Says (withoutFirst w (q - 2)) (withScheduler q (record { active = behindFirst l; next = schedulerAt s q .next }) s)
+      Goal l = Says (withoutFirst w (q - 2)) (withScheduler q (record { active = afterFirst l; next = schedulerAt s q .next }) s)
 
       by : (l : List ℕ) → here .active ≡ l → Goal (here .active)
       by [] e = subst Goal (sym e) (subst (λ (v : List ℕ). Says v (withScheduler q (record { active = []; next = schedulerAt s q .next }) s))
@@ -152,14 +152,15 @@ module _ (w : List ℕ) (s : State) (h : Says w s) (q : ℕ) (a : q - 2 < 8) (b 
               getD-set-other u blockAt (blockAt + suc i) (getD w blockAt 0 - 1) 0 (λ z. omega arith)
               ∙ ap (λ (k : ℕ). getD u k 0) z ∙ pasted-in w (blockAt + 1) B m hd hs i g
 
-          -- a member that moved, the last, which is 0 now, and what lies behind
+          -- a member that moved, the last, which is 0 now, and what lies after it
           word : (i : ℕ) → i < 64 → (c : Bool) → ltb i (length ts) ≡ c → (d : Bool)
               → eqb i (length ts) ≡ d → getD v (blockAt + suc i) 0 ≡ getD ts i 0
           word i g true c d _ =
               let y = count in
               let l : i < length ts = ltb-true i (length ts) c in
               let z : blockAt + 1 + (1 + i) ≡ blockAt + suc (suc i) = omega arith in
-              inside i (omega arith) ∙ shifted-at (part w (blockAt + 1) m) m some block i (omega arith)
+              inside i (omega arith)
+              ∙ shifted-at (part w (blockAt + 1) m) m some block i (omega arith)
               ∙ part-at w (blockAt + 1) m (1 + i) (omega arith) ∙ ap (λ (k : ℕ). getD w k 0) z
               ∙ active-word (suc (suc i)) (let x = short in omega arith)
               ∙ ap (λ (l : List ℕ). getD l (suc i) 0) e
@@ -167,13 +168,15 @@ module _ (w : List ℕ) (s : State) (h : Says w s) (q : ℕ) (a : q - 2 < 8) (b 
               let y = count in
               let l : i ≡ length ts = eqb-true i (length ts) d in
               let z : i ≡ m - 1 = omega arith in
-              inside i (omega arith) ∙ ap (λ (k : ℕ). getD B k 0) z ∙ shifted-last (part w (blockAt + 1) m) m some block
+              inside i (omega arith) ∙ ap (λ (k : ℕ). getD B k 0) z
+              ∙ shifted-last (part w (blockAt + 1) m) m some block
               ∙ sym (List·getD-eq-default ts 0 {n = i} (omega arith))
           word i g false c false d =
               let y = count in
               let l : length ts ≤ i = ltb-false i (length ts) c in
               let n : (i ≡ length ts → ⊥) = eqb-false i (length ts) d in
-              out (blockAt + suc i) (λ z. omega arith) (λ p r. n (omega arith)) ∙ active-word (suc i) (omega arith)
+              out (blockAt + suc i) (λ z. omega arith) (λ p r. n (omega arith))
+              ∙ active-word (suc i) (omega arith)
               ∙ ap (λ (l : List ℕ). getD l i 0) e
               ∙ List·getD-eq-default (t ∷ ts) 0 {n = i} (past n l)
               ∙ sym (List·getD-eq-default ts 0 {n = i} l)
@@ -187,7 +190,8 @@ module _ (w : List ℕ) (s : State) (h : Says w s) (q : ℕ) (a : q - 2 < 8) (b 
           active-words : (j : ℕ) → j < 65 → getD v (blockAt + j) 0 ≡ listWord ts j
           active-words zero g =
               let z : blockAt + 0 ≡ blockAt = omega arith in
-              ap (λ (k : ℕ). getD v k 0) z ∙ getD-set-same u blockAt (getD w blockAt 0 - 1) 0 (rw ul (omega arith)) ∙ ap (λ (n : ℕ). n - 1) count ∙ one-less (length ts)
+              ap (λ (k : ℕ). getD v k 0) z ∙ getD-set-same u blockAt (getD w blockAt 0 - 1) 0
+              (rw ul (omega arith)) ∙ ap (λ (n : ℕ). n - 1) count ∙ one-less (length ts)
           active-words (suc i) g =
               word i (omega arith) (ltb i (length ts)) refl (eqb i (length ts)) refl
 
@@ -242,7 +246,8 @@ module _ (w : List ℕ) (s : State) (h : Says w s) (q : ℕ) (a : q - 2 < 8) (b 
           ≡ listWord (map entryWord (schedulerAt s q .next ++ (e ∷ []))) j
       next-words zero g =
           let z : blockAt + (65 + 0) ≡ nextAt = omega arith in
-          ap (λ (k : ℕ). getD v k 0) z ∙ getD-set-same u (nextAt) (getD w (nextAt) 0 + 1) 0 (rw ul (omega arith))
+          ap (λ (k : ℕ). getD v k 0) z
+          ∙ getD-set-same u (nextAt) (getD w (nextAt) 0 + 1) 0 (rw ul (omega arith))
           ∙ ap (λ (m : ℕ). m + 1) (sym size)
           ∙ sym (length-append (map entryWord es) (entryWord e ∷ [])) ∙ ap length (sym names)
       next-words (suc j) g =
@@ -255,19 +260,23 @@ module _ (w : List ℕ) (s : State) (h : Says w s) (q : ℕ) (a : q - 2 < 8) (b 
               ≡ getD (map entryWord (schedulerAt s q .next) ++ (entryWord e ∷ [])) j 0
           at-entry true c d _ =
               let m : j < getD w (nextAt) 0 = ltb-true _ _ c in
-              out (blockAt + (65 + suc j)) (λ z. omega arith) (λ z. omega arith) ∙ next-word (suc j) g
+              out (blockAt + (65 + suc j)) (λ z. omega arith) (λ z. omega arith)
+              ∙ next-word (suc j) g
               ∙ sym (List·getD-append (map entryWord es) (entryWord e ∷ []) 0 j (rw size m))
           at-entry false c true d =
               let m : j ≡ getD w (nextAt) 0 = eqb-true _ _ d in
               let z : blockAt + (65 + suc j) ≡ nextAt + 1 + getD w (nextAt) 0 = omega arith in
-              getD-set-other u (nextAt) (blockAt + (65 + suc j)) (getD w (nextAt) 0 + 1) 0 (λ y. omega arith)
+              getD-set-other u (nextAt) (blockAt + (65 + suc j)) (getD w (nextAt) 0 + 1) 0
+              (λ y. omega arith)
               ∙ ap (λ (k : ℕ). getD u k 0) z
-              ∙ getD-set-same w (nextAt + 1 + getD w (nextAt) 0) (entryWord e) 0 (rw (h .all) (let y = count in omega arith))
+              ∙ getD-set-same w (nextAt + 1 + getD w (nextAt) 0) (entryWord e) 0
+              (rw (h .all) (let y = count in omega arith))
               ∙ sym (getD-at (map entryWord es) (entryWord e) [] 0 j (size ∙ sym m))
           at-entry false c false d =
               let m : getD w (nextAt) 0 ≤ j = ltb-false _ _ c in
               let k : (j ≡ getD w (nextAt) 0 → ⊥) = eqb-false _ _ d in
-              out (blockAt + (65 + suc j)) (λ z. k (omega arith)) (λ z. omega arith) ∙ next-word (suc j) g
+              out (blockAt + (65 + suc j)) (λ z. k (omega arith)) (λ z. omega arith)
+              ∙ next-word (suc j) g
               ∙ List·getD-eq-default (map entryWord es) 0 {n = j} (rw size m)
               ∙ sym (List·getD-eq-default (map entryWord es ++ (entryWord e ∷ [])) 0 {n = j} (beyond k m (length-append (map entryWord es) (entryWord e ∷ []))))
             where

@@ -8,7 +8,7 @@ use machine::offset::SCHEDULERS_AT;
 use machine::offset::WAITING_FACTOR;
 ghost use mathlib.Core.Path.{_≡_};
 ghost use mathlib.Core.Bool.{true};
-ghost use Prim.Native.Nat.{_+_, _-_, _*_, _<_, _≤_};
+ghost use Prim.Native.Nat.{_+_, _-_, _*_, _≤_};
 ghost use lib.Dec.{leb};
 ghost use lib.ListN.{length, getD};
 ghost use Rattle.language.specs.Places.{home, isScheduler};
@@ -17,8 +17,8 @@ ghost use Rattle.machine.specs.Offsets.{stateLength, threadCountAt, schedulersA
 ghost use Rattle.machine.specs.Offsets.{listLength, nextListAt, threadsAt};
 ghost use Rattle.machine.specs.inner.Blocks.{part, pasted};
 ghost use Rattle.machine.specs.Words.{wordsAt};
-ghost use Rattle.lists.specs.inner.Lists.{shifted, withoutFirst, insertedIn, withLast};
-ghost use Rattle.lists.specs.inner.Lists.{sortedIn, withInstantEnded, readyWords};
+ghost use Rattle.lists.specs.inner.Lists.{shifted, withoutFirst, withLast};
+ghost use Rattle.lists.specs.inner.Lists.{partitionedIn, withInstantEnded, readyWords};
 
 // Where the scheduler's active list begins: its count, then the space of 64 threads.
 fn active_list(q: Place) -> usize
@@ -29,7 +29,7 @@ fn active_list(q: Place) -> usize
     SCHEDULERS_AT + SCHEDULER_LENGTH * q.index()
 }
 
-// Where its next list begins, right behind: its count, then the space of 64 entries.
+// Where its next list begins, right after that space: its count, then the space of 64 entries.
 fn next_list(q: Place) -> usize
     requires { ⌜ isScheduler (q .number) ≡ true ⌝ }
     ensures place { λ r. ⌜ r ≡ nextListAt + schedulerLength * (q .number - home) ⌝ }
@@ -95,50 +95,32 @@ pub fn drop_first(state: &mut [u64], q: Place)
     state[at] = n - 1;
 }
 
-// The entry stands at that position of the list at that place, which has n members; each from there
-// on moves to the index above it.
-fn insert(state: &mut [u64], at: usize, n: usize, position: usize, entry: u64)
-    requires { ⌜ (at + listLength ≤ length (now state)) × (n < mostThreads) × (position ≤ n) ⌝ }
-    ensures { λ _. ⌜ now (state .exit) ≡ insertedIn (now (state .entry)) at n position entry ⌝ }
-{
-    let first = at + 1 + position;
-    let more = n - position;
-    let mut e = entry;
-    let mut j: usize = 0;
-    while j < more {
-        let moved = state[first + j];
-        state[first + j] = e;
-        e = moved;
-        j += 1;
-    }
-    state[first + more] = e;
-    state[at] = (n + 1) as u64;
-}
-
 // The entry goes to the end of the next list; a full list stays as it is.
 pub fn append(state: &mut [u64], q: Place, entry: u64)
     requires { ⌜ (length (now state) ≡ stateLength) × (isScheduler (q .number) ≡ true) ⌝ }
     ensures { λ _. ⌜ now (state .exit) ≡ withLast (now (state .entry)) (q .number - home) entry ⌝ }
 {
     let at = next_list(q);
-    let n = state[at] as usize;
-    if MOST_THREADS <= n {
+    let n = state[at];
+    if MOST_THREADS as u64 <= n {
         return;
     }
-    insert(state, at, n, n, entry);
+    state[at + 1 + n as usize] = entry;
+    state[at] = n + 1;
 }
 
-// The entries of the next list behind that active list, sorted where they lie: the threads of the
-// ready ones go to the active list, those that wait move up, and 0 stands where they leave. How
-// many are ready. Validation has found at most 64 threads, and a list within its space.
-fn sort_entries(state: &mut [u64], active: usize) -> u64
+// Partitions the entries of the next list after that active list, in place and in order: the
+// threads of the ready ones go to the active list, those that wait stay, without gaps, and 0 stands
+// in the words that they leave. How many are ready. Validation has found at most 64 threads, and a
+// list within its space.
+fn partition_entries(state: &mut [u64], active: usize) -> u64
     requires { ⌜ (length (now state) ≡ stateLength)
         × (schedulersAt ≤ active) × (active + schedulerLength ≤ threadsAt)
         × (getD (now state) threadCountAt 0 ≤ mostThreads)
         × (getD (now state) (active + listLength) 0 ≤ mostThreads) ⌝ }
     ensures count { λ r. ⌜ r ≡ length (readyWords (now (state .entry))
         (wordsAt (now (state .entry)) (active + listLength))) ⌝ }
-    ensures words { λ r. ⌜ now (state .exit) ≡ sortedIn (now (state .entry)) active ⌝ }
+    ensures words { λ r. ⌜ now (state .exit) ≡ partitionedIn (now (state .entry)) active ⌝ }
 {
     let next = active + LIST_LENGTH;
     let n = state[next] as usize;
@@ -174,7 +156,7 @@ pub fn end_instant(state: &mut [u64], q: Place) -> u64
     let active = active_list(q);
     let next = active + LIST_LENGTH;
     let n = state[next];
-    let r = sort_entries(state, active);
+    let r = partition_entries(state, active);
     state[active] = r;
     state[next] = n - r;
     r

@@ -10,35 +10,34 @@ ghost use Prim.Native.Nat.{_<_, _≤_};
 ghost use lib.ListN.{length, getD};
 ghost use Rattle.language.specs.Limits.{mostThreads};
 ghost use Rattle.machine.specs.Offsets.{stateLength, threadCountAt};
-ghost use Rattle.machine.specs.inner.Ranges.{allBelow};
-ghost use Rattle.lists.specs.inner.Lists.{isQuiet, isReadyWord};
+ghost use Rattle.lists.specs.inner.Lists.{isAwaited, noneAwaited, isReadyWord};
 
-// Thread k + 1 has ended, or is neither thread u nor started by it.
-fn is_quiet(state: &[u64], u: u64, k: usize) -> bool
+// Thread k + 1 has not ended, and is thread u or started by it.
+fn is_awaited(state: &[u64], u: u64, k: usize) -> bool
     requires { ⌜ (length (now state) ≡ stateLength) × (k < mostThreads) ⌝ }
-    ensures { λ r. ⌜ r ≡ isQuiet (now (state .entry)) u k ⌝ }
+    ensures { λ r. ⌜ r ≡ isAwaited (now (state .entry)) u k ⌝ }
 {
     let at = THREADS_AT + THREAD_LENGTH * k;
     if state[at + LIVES_FIELD] == 0 {
-        return true;
-    }
-    if k as u64 + 1 == u {
         return false;
     }
-    state[at + STARTER_FIELD] != u
+    if k as u64 + 1 == u {
+        return true;
+    }
+    state[at + STARTER_FIELD] == u
 }
 
-// Validation has found at most 64 threads.
-fn all_quiet(state: &[u64], u: u64) -> bool
+// No thread is left that a wait for thread u awaits. Validation has found at most 64 threads.
+fn none_awaited(state: &[u64], u: u64) -> bool
     requires { ⌜ (length (now state) ≡ stateLength)
         × (getD (now state) threadCountAt 0 ≤ mostThreads) ⌝ }
     ensures { λ r. ⌜ r
-        ≡ allBelow (getD (now (state .entry)) threadCountAt 0) (isQuiet (now (state .entry)) u) ⌝ }
+        ≡ noneAwaited (now (state .entry)) u (getD (now (state .entry)) threadCountAt 0) ⌝ }
 {
     let n = state[THREAD_COUNT_AT] as usize;
     let mut k: usize = 0;
     while k < n {
-        if !is_quiet(state, u, k) {
+        if is_awaited(state, u, k) {
             return false;
         }
         k += 1;
@@ -56,5 +55,5 @@ pub(crate) fn is_ready(state: &[u64], e: u64) -> bool
     if e < WAITING_FACTOR {
         return true;
     }
-    all_quiet(state, e / WAITING_FACTOR)
+    none_awaited(state, e / WAITING_FACTOR)
 }

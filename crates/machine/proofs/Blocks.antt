@@ -130,7 +130,8 @@ module _ (w : List ℕ) (s : State) (h : Says w s) where
           ∙ ap (λ (y : Scheduler). schedulerWord y j) (sym (getD-set-same (s .schedulers) k x noScheduler b) ∙ ap (λ (m : ℕ). getD (set (s .schedulers) k x) m noScheduler) (sym e))
       go i j f g (no e) =
           out (2 + 130 * i + j) (λ p r. e (omega arith)) ∙ h .scheduler i j f g
-          ∙ ap (λ (y : Scheduler). schedulerWord y j) (sym (getD-set-other (s .schedulers) k i x noScheduler e))
+          ∙ ap (λ (y : Scheduler). schedulerWord y j)
+          (sym (getD-set-other (s .schedulers) k i x noScheduler e))
 
   -- all cells; their count is stored apart
   pub put-cells : (cs : List Stored)
@@ -168,7 +169,8 @@ pub put-new : (w : List ℕ) (s : State) → Says w s → (x : Thread) → lengt
 put-new w s h x l = record {
   all = length-set (pasted w (1042 + 55 * m) (threadWords x) 55) 0 (m + 1) ∙ pl ∙ size;
   threads =
-      getD-set-same (pasted w (1042 + 55 * m) (threadWords x) 55) 0 (m + 1) 0 (rw (pl, size) (omega arith))
+      getD-set-same (pasted w (1042 + 55 * m) (threadWords x) 55) 0 (m + 1) 0
+      (rw (pl, size) (omega arith))
       ∙ sym (length-append (s .threads) (x ∷ []));
   cells = other 1 (λ e. omega arith) ∙ out 1 (λ p q. omega arith) ∙ h .cells;
   scheduler = λ i j f g. other (2 + 130 * i + j) (λ e. omega arith) ∙ out (2 + 130 * i + j) (λ p q. omega arith) ∙ h .scheduler i j f g;

@@ -9,11 +9,11 @@ use lib.Dec.{eqb}
 use borrow.Author.Tests.{eqb-false, eqb-true}
 use Rattle.language.specs.declared.frame.Frame.{Frame}
 use Rattle.program.specs.Programs.{programOf}
-use Rattle.machine.specs.Turns.{Stepped}
+use Rattle.machine.specs.Turns.{StepResult}
 use Rattle.machine.specs.Steps.{step}
 use Rattle.machine.specs.Words.{pack, unpack}
 use Rattle.machine.specs.inner.Ranges.{inRange}
-use Rattle.machine.specs.Calls.{Called, unchanged, calledOf, stepCall}
+use Rattle.machine.specs.Calls.{CallResult, callResult, asCall, stepCall}
 use Rattle.machine.proofs.Fair.{fair}
 use Rattle.machine.proofs.Valid.{packed}
 
@@ -21,26 +21,26 @@ use Rattle.machine.proofs.Valid.{packed}
 abbrev pub programSchedulers : List Frame → ℕ
 programSchedulers fs = programOf fs .schedulers
 
-abbrev pub stepOf : List Frame → List ℕ → ℕ → Stepped
+abbrev pub stepOf : List Frame → List ℕ → ℕ → StepResult
 stepOf fs w c = step (programOf fs) (unpack fs (programSchedulers fs) w) c
 
 module _ (fs : List Frame) (w : List ℕ) (c : ℕ) where
   pub called-in : inRange fs (programSchedulers fs) w ≡ true
-      → stepCall fs w c ≡ calledOf w (stepOf fs w c)
+      → stepCall fs w c ≡ asCall w (stepOf fs w c)
   unfolding stepCall
   called-in e =
-      ap (λ (b : Bool). elim b [ true ↦ calledOf w (stepOf fs w c) | false ↦ unchanged 14 0 w ]) e
+      ap (λ (b : Bool). elim b [ true ↦ asCall w (stepOf fs w c) | false ↦ callResult 14 0 w ]) e
 
-  pub called-out : inRange fs (programSchedulers fs) w ≡ false → stepCall fs w c ≡ unchanged 14 0 w
+  pub called-out : inRange fs (programSchedulers fs) w ≡ false → stepCall fs w c ≡ callResult 14 0 w
   unfolding stepCall
   called-out e =
-      ap (λ (b : Bool). elim b [ true ↦ calledOf w (stepOf fs w c) | false ↦ unchanged 14 0 w ]) e
+      ap (λ (b : Bool). elim b [ true ↦ asCall w (stepOf fs w c) | false ↦ callResult 14 0 w ]) e
 
   -- words in range become the words of the step's state, refused or not
   pub step-packs : inRange fs (programSchedulers fs) w ≡ true
       → stepCall fs w c .words ≡ pack (stepOf fs w c .state)
   step-packs e =
-      ap (λ (x : Called). x .words) (called-in e) ∙ go (eqb (stepOf fs w c .answer) 0) refl
+      ap (λ (x : CallResult). x .words) (called-in e) ∙ go (eqb (stepOf fs w c .answer) 0) refl
     where
       go : (b : Bool) → eqb (stepOf fs w c .answer) 0 ≡ b
           → elim b [ true ↦ pack (stepOf fs w c .state) | false ↦ w ] ≡ pack (stepOf fs w c .state)
@@ -60,6 +60,7 @@ module _ (fs : List Frame) (w : List ℕ) (c : ℕ) where
 
       first : (b : Bool) → inRange fs (programSchedulers fs) w ≡ b → stepCall fs w c .words ≡ w
       first true e =
-          ap (λ (x : Called). x .words) (called-in e)
-          ∙ second (eqb (stepOf fs w c .answer) 0) refl (λ q. h (ap (λ (x : Called). x .answer) (called-in e) ∙ q))
-      first false e = ap (λ (x : Called). x .words) (called-out e)
+          ap (λ (x : CallResult). x .words) (called-in e)
+          ∙ second (eqb (stepOf fs w c .answer) 0) refl
+          (λ q. h (ap (λ (x : CallResult). x .answer) (called-in e) ∙ q))
+      first false e = ap (λ (x : CallResult). x .words) (called-out e)

@@ -16,8 +16,8 @@ use Rattle.machine.specs.Accesses.{Own}
 use Rattle.machine.specs.State.{State, Stored, Item, run, back, drop, Entry, schedulerAt}
 use Rattle.machine.specs.State.{threadAt}
 use Rattle.machine.specs.Waits.{readyThreads, stillWaiting}
-use Rattle.machine.specs.Evaluation.{Here, Evaluated, Evaluation, eval, storing}
-use Rattle.machine.specs.Turns.{Stepped, Turn, refuse, accept, behind, evaluator, goOn}
+use Rattle.machine.specs.Evaluation.{Here, EvalResult, Evaluation, eval, storing}
+use Rattle.machine.specs.Turns.{StepResult, Turn, refuse, accept, afterEval, evaluator, goOn}
 use Rattle.machine.specs.Turns.{withValue, withValues, byCondition, stay, move, goTo}
 use Rattle.machine.specs.inner.Parts.{stepItems, stepThread, turn, stepScheduler}
 use Rattle.machine.specs.Steps.{stepThreadWithin, nobody, turnInstant, endInstant, step}
@@ -35,7 +35,7 @@ use Rattle.machine.proofs.Owns.{IsForeign, Owns, owns-eval, owns-storin
 
 -- what r says of a choice put to the state s: refused, it kept the state; not foreign, it accessed
 -- only cells of its own
-pub record Fair (s : State) (r : Stepped) : Type 0 where
+pub record Fair (s : State) (r : StepResult) : Type 0 where
   pub kept : r .answer ≢ 0 → r .state ≡ s
   pub own : r .answer ≢ 19 → All Own (r .accesses)
 
@@ -51,32 +51,33 @@ fair-refuse u n h = record { kept = λ _. refl; own = λ _. h }
 fair-accept : (u : Turn) (s : State) → Owning u → Fair (u .state) (accept u s)
 fair-accept u s h = record { kept = λ n. absurd (n refl); own = λ _. h }
 
-fair-if : (s : State) (b : Bool) (x y : Stepped) → Fair s x → Fair s y → Fair s (if b then x else y)
+fair-if : (s : State) (b : Bool) (x y : StepResult) → Fair s x → Fair s y → Fair s (if b then x else y)
 fair-if s b x y f g = if-all (Fair s) b x y (λ _. f) (λ _. g)
 
-fair-goOn : (u : Turn) (o : Outcome) (k : Value → Turn → Stepped) → ((IsForeign o → ⊥) → Owning u)
+fair-goOn : (u : Turn) (o : Outcome) (k : Value → Turn → StepResult) → ((IsForeign o → ⊥) → Owning u)
     → ((v : Value) → Owning u → Fair (u .state) (k v u)) → Fair (u .state) (goOn u o k)
 fair-goOn u (Is v) k h g = g v (h (λ z. z))
 fair-goOn u Foreign k h g = record { kept = λ _. refl; own = λ n. absurd (n refl) }
 fair-goOn u Spent k h g = fair-refuse u 17 (h (λ z. z))
 fair-goOn u Stuck k h g = fair-refuse u 20 (h (λ z. z))
 
-fair-value : (u : Turn) (m : Here → Evaluation) (k : Value → Turn → Stepped)
+fair-value : (u : Turn) (m : Here → Evaluation) (k : Value → Turn → StepResult)
     → ((h : Here) (cs : List Stored) → Owns (m h cs)) → Owning u
     → ((v : Value) (w : Turn) → Owning w → Fair (w .state) (k v w))
     → Fair (u .state) (withValue u m k)
 fair-value u m k o h g =
-    let r : Evaluated = m (evaluator u) (u .cells) in
-    fair-goOn (behind u r) (r .outcome) k (λ n. all-append h (o (evaluator u) (u .cells) n)) (λ v. g v (behind u r))
+    let r : EvalResult = m (evaluator u) (u .cells) in
+    fair-goOn (afterEval u r) (r .outcome) k (λ n. all-append h (o (evaluator u) (u .cells) n))
+    (λ v. g v (afterEval u r))
 
-fair-values : (u : Turn) (xs : List Expr) (k : List Value → Turn → Stepped) → Owning u
+fair-values : (u : Turn) (xs : List Expr) (k : List Value → Turn → StepResult) → Owning u
     → ((vs : List Value) (w : Turn) → Owning w → Fair (w .state) (k vs w))
     → Fair (u .state) (withValues u xs k)
 unfolding withValues
 fair-values u [] k h g = g [] u h
 fair-values u (x ∷ xs) k h g = fair-value u (λ e. eval e x) _ (λ e. owns-eval e x) h (λ v w j. fair-values w xs _ j (λ vs. g (v ∷ vs)))
 
-fair-by : (u : Turn) (v : Value) (a b : Stepped) → Owning u → Fair (u .state) a → Fair (u .state) b
+fair-by : (u : Turn) (v : Value) (a b : StepResult) → Owning u → Fair (u .state) a → Fair (u .state) b
     → Fair (u .state) (byCondition u v a b)
 fair-by u (Truth true) a b h f g = f
 fair-by u (Truth false) a b h f g = g
@@ -97,7 +98,7 @@ fair-goTo : (u : Turn) (q : ℕ) (items : List Item) → Owning u → Fair (u .s
 unfolding goTo
 fair-goTo u q items h = fair-if _ _ _ _ (fair-stay u items _ h) (fair-move u q items h)
 
-fair-starting : (u : Turn) (m : ℕ) (vs : List Value) (r : Stepped) → Owning u → Fair (u .state) r
+fair-starting : (u : Turn) (m : ℕ) (vs : List Value) (r : StepResult) → Owning u → Fair (u .state) r
     → Fair (u .state) (starting u m vs r)
 unfolding starting
 fair-starting u m vs r h g =

@@ -41,7 +41,7 @@ use Rattle.machine.proofs.Round.{value-below}
 use Rattle.machine.proofs.Ranges.{InRange, Space, of-space, range-place, range-starter}
 use Rattle.machine.proofs.Ranges.{range-lives, range-items, range-variables, range-active}
 use Rattle.machine.proofs.Ranges.{range-next, in-range, range-in}
-use Rattle.machine.specs.Validity.{InRangeComputes}
+use Rattle.machine.specs.Calls.{InRangeComputes}
 use Rattle.machine.proofs.Valid.{packed, list-all, items-space, values-space, active-space}
 use Rattle.machine.proofs.Valid.{next-space, no-thread-word, no-scheduler-word, no-cell-word}
 
@@ -61,7 +61,8 @@ value-in (Number n) (number h) = if-yes _ _ (lt-ltb n (2 ^ 32) h)
 value-in (Truth true) truth = if-no _ _ refl ∙ if-yes _ _ refl
 value-in (Truth false) truth = if-no _ _ refl ∙ if-yes _ _ refl
 value-in (Cell c) (cell h) =
-    if-no _ _ (le-ltb (2 * 2 ^ 32 + c) (2 ^ 32) (omega arith)) ∙ if-no _ _ (le-ltb (2 * 2 ^ 32 + c) (2 * 2 ^ 32) (omega arith))
+    if-no _ _ (le-ltb (2 * 2 ^ 32 + c) (2 ^ 32) (omega arith))
+    ∙ if-no _ _ (le-ltb (2 * 2 ^ 32 + c) (2 * 2 ^ 32) (omega arith))
     ∙ le-leb (2 * 2 ^ 32 + c) (2 * 2 ^ 32 + 255) (omega arith)
 
 item-in : (fs : List Frame) (n : ℕ) (x : Item) → ItemFits fs n x
@@ -70,7 +71,8 @@ unfolding itemInRange itemWord
 item-in fs n (run x) (run-fits h k e) = if-yes _ _ (lt-ltb (rootS x) 1024 h) ∙ k
 item-in fs n (back q) (back-fits h k) =
     let a : 1024 + q - 1024 ≡ q = omega arith in
-    if-no _ _ (le-ltb (1024 + q) 1024 (omega arith)) ∙ if-yes _ _ (lt-ltb (1024 + q) 2048 (omega arith)) ∙ ap (hasPlace n) a ∙ k
+    if-no _ _ (le-ltb (1024 + q) 1024 (omega arith))
+    ∙ if-yes _ _ (lt-ltb (1024 + q) 2048 (omega arith)) ∙ ap (hasPlace n) a ∙ k
 item-in fs n drop drop-fits = if-no _ _ refl ∙ if-no _ _ refl
 
 entry-in : (e : Entry) → EntryFits e → entryInRange (entryWord e) ≡ true
@@ -91,7 +93,8 @@ cell-in n x h =
     let l : valueWord (x .content) < 2 ^ 34 = value-below (x .content) (h .value) in
     let a : (x .owner * 2 ^ 34 + valueWord (x .content)) / 2 ^ 34 ≡ x .owner = omega arith in
     let b : (x .owner * 2 ^ 34 + valueWord (x .content)) % 2 ^ 34 ≡ valueWord (x .content) = omega arith in
-    and-both _ _ (ap (ownerInRange n) a ∙ h .owner) (ap valueInRange b ∙ value-in (x .content) (h .value))
+    and-both _ _ (ap (ownerInRange n) a ∙ h .owner)
+    (ap valueInRange b ∙ value-in (x .content) (h .value))
 
 -- ---- single words in range say what is in shape
 
@@ -119,7 +122,8 @@ in-item fs n v h = first (ltb v 1024) refl
     second : ltb v 1024 ≡ false → (b : Bool) → ltb v 2048 ≡ b → ItemFits fs n (wordItem fs v)
     second l true e =
         let g : v < 2048 = ltb-true v 2048 e in
-        subst (ItemFits fs n) (sym (if-no _ _ l ∙ if-yes _ _ e)) (back-fits (low g) (sym (if-no _ _ l ∙ if-yes _ _ e) ∙ h))
+        subst (ItemFits fs n) (sym (if-no _ _ l ∙ if-yes _ _ e))
+        (back-fits (low g) (sym (if-no _ _ l ∙ if-yes _ _ e) ∙ h))
       where
         low : v < 2048 → v - 1024 < 1024
         low g = omega arith
@@ -143,7 +147,8 @@ in-entry v h = first (ltb v 128) refl
         subst EntryFits (sym (if-yes _ _ e)) (plain-fits (in-thread v (sym (if-yes _ _ e) ∙ h)))
     first false e =
         let p = and-true (threadInRange (v % 128)) (threadInRange (v / 128)) (sym (if-no _ _ e) ∙ h) in
-        subst EntryFits (sym (if-no _ _ e)) (waiting-fits (in-thread (v % 128) (p .0)) (in-thread (v / 128) (p .1)))
+        subst EntryFits (sym (if-no _ _ e))
+        (waiting-fits (in-thread (v % 128) (p .0)) (in-thread (v / 128) (p .1)))
 
 in-cell : (n v : ℕ) → cellInRange n v ≡ true → CellFits n (wordCell v)
 unfolding cellInRange wordCell
@@ -184,7 +189,8 @@ module _ (fs : List Frame) (n : ℕ) (w : List ℕ) (s : State) (h : Says w s) (
 
       items : Space (itemInRange fs n) w (1042 + 55 * k + 3) 25
       items =
-          list-space (itemInRange fs n) w (1042 + 55 * k + 3) 25 (reverse (map itemWord (x .continuation)))
+          list-space (itemInRange fs n) w (1042 + 55 * k + 3) 25
+          (reverse (map itemWord (x .continuation)))
           (λ i g. thread-says h k (3 + i) (1042 + 55 * k + 3 + i) a (omega arith) (omega arith) ∙ thread-continuation x i (omega arith))
           (rw (length-reverse (map itemWord (x .continuation)) ∙ length-map (x .continuation) itemWord) (f .items-room))
           (all-reverse (λ (v : ℕ). itemInRange fs n v ≡ true) (map itemWord (x .continuation))
@@ -239,11 +245,13 @@ module _ (fs : List Frame) (n : ℕ) (w : List ℕ) (s : State) (h : Says w s) (
         cells-room = rw (h .cells) (z .cells-room);
         scheduler = λ k j a b c. scheduler-range k j a b (z .schedulers k (rw (z .count) c));
         no-scheduler = λ k j a b c.
-            h .scheduler k j a b ∙ ap (λ (x : Scheduler). schedulerWord x j) (List·getD-eq-default (s .schedulers) noScheduler {n = k} (rw (z .count) c))
+            h .scheduler k j a b ∙ ap (λ (x : Scheduler). schedulerWord x j)
+            (List·getD-eq-default (s .schedulers) noScheduler {n = k} (rw (z .count) c))
             ∙ sym (no-scheduler-word j b);
         thread = λ k j b c. let l : k < length (s .threads) = rw (← h .threads) c in let m = z .threads-room in thread-range k j (omega arith) b (z .threads k l);
         no-thread = λ k j a b c.
-            h .thread k j a b ∙ ap (λ (x : Thread). threadWord x j) (List·getD-eq-default (s .threads) noThread {n = k} (rw (← h .threads) c))
+            h .thread k j a b ∙ ap (λ (x : Thread). threadWord x j)
+            (List·getD-eq-default (s .threads) noThread {n = k} (rw (← h .threads) c))
             ∙ sym (no-thread-word j b);
         cell = λ c l.
             let g : c < length (s .cells) = rw (← h .cells) l in
@@ -268,7 +276,8 @@ module _ (fs : List Frame) (n : ℕ) (w : List ℕ) (h : InRange fs n w) where
         items-room = rw (length-map (reverse items) (wordItem fs) ∙ length-reverse items ∙ tab-length (getD w (1042 + 55 * k + 3) 0) (λ j. getD w j 0) (suc (1042 + 55 * k + 3))) (items-space fs n w h k a .room);
         variables-room = rw (length-map values wordValue ∙ tab-length (getD w (1042 + 55 * k + 29) 0) (λ j. getD w j 0) (suc (1042 + 55 * k + 29))) (values-space fs n w h k a .room);
         items =
-            all-map (λ (v : ℕ). itemInRange fs n v ≡ true) (ItemFits fs n) (wordItem fs) (in-item fs n) (reverse items)
+            all-map (λ (v : ℕ). itemInRange fs n v ≡ true) (ItemFits fs n) (wordItem fs)
+            (in-item fs n) (reverse items)
             (all-reverse (λ (v : ℕ). itemInRange fs n v ≡ true) items (list-all (itemInRange fs n) w (1042 + 55 * k + 3) 25 (items-space fs n w h k a)));
         values =
             all-map (λ (v : ℕ). valueInRange v ≡ true) ValueFits wordValue in-value values

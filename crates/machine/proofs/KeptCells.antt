@@ -17,7 +17,7 @@ use Rattle.program.specs.Trees.{Expr}
 use Rattle.machine.specs.Accesses.{Access}
 use Rattle.machine.specs.State.{Stored, cellAt, noCell, isUsed, usedCells, withNewCell}
 use Rattle.machine.specs.State.{threadOwner}
-use Rattle.machine.specs.Evaluation.{Here, Evaluated, Evaluation, gives, after, andThen}
+use Rattle.machine.specs.Evaluation.{Here, EvalResult, Evaluation, gives, withAccesses, andThen}
 use Rattle.machine.specs.Evaluation.{_>>=_, isOwn, accessOf, accessing, atCell, readVariable}
 use Rattle.machine.specs.Evaluation.{sharedCell, addCell, newOwner, makeCell, readCell, putIn}
 use Rattle.machine.specs.Evaluation.{storeCell, ofNumbers, plus, lessThan, byTruth, aNumber}
@@ -95,16 +95,16 @@ pub data OutcomeFits : Outcome → Type 0 where
   is-spent : OutcomeFits Spent
   is-stuck : OutcomeFits Stuck
 
-pub record EvalFits (n : ℕ) (r : Evaluated) : Type 0 where
+pub record EvalFits (n : ℕ) (r : EvalResult) : Type 0 where
   pub cells : CellsFit n (r .cells)
   pub outcome : OutcomeFits (r .outcome)
 
 -- ---- one after the other
 
-fit-after : {n : ℕ} (ts : List Access) (r : Evaluated) → EvalFits n r → EvalFits n (after ts r)
+fit-after : {n : ℕ} (ts : List Access) (r : EvalResult) → EvalFits n r → EvalFits n (withAccesses ts r)
 fit-after ts r h = record { cells = h .cells; outcome = h .outcome }
 
-fit-andThen : {n : ℕ} (k : Value → Evaluation) (r : Evaluated) (o : Outcome) → EvalFits n r
+fit-andThen : {n : ℕ} (k : Value → Evaluation) (r : EvalResult) (o : Outcome) → EvalFits n r
     → OutcomeFits o
     → ((v : Value) (ds : List Stored) → ValueFits v → CellsFit n ds → EvalFits n (k v ds))
     → EvalFits n (andThen k r o)
@@ -126,7 +126,7 @@ fit-is : {n : ℕ} (v : Value) (cs : List Stored) → CellsFit n cs → ValueFit
     → EvalFits n (gives (Is v) cs)
 fit-is v cs c w = record { cells = c; outcome = is-value w }
 
--- ---- one law for each kind, behind its operands
+-- ---- one law for each kind, after its operands
 
 fit-accessing : {n : ℕ} (h : Here) (c o : ℕ) (r : Evaluation) (cs : List Stored) → CellsFit n cs
     → EvalFits n (r cs) → EvalFits n (accessing h c o r cs)
@@ -138,7 +138,8 @@ fit-at : {n : ℕ} (h : Here) (c : ℕ) (r : Evaluation) (cs : List Stored) → 
     → (isUsed cs c ≡ true → EvalFits n (r cs)) → EvalFits n (atCell h c r cs)
 unfolding atCell
 fit-at {n} h c r cs d f =
-    if-all (EvalFits n) (isUsed cs c) _ _ (λ e. fit-accessing h c _ r cs d (f e)) (λ _. fit-stuck cs d)
+    if-all (EvalFits n) (isUsed cs c) _ _ (λ e. fit-accessing h c _ r cs d (f e))
+    (λ _. fit-stuck cs d)
 
 fit-read : {n : ℕ} (h : Here) (v : Value) (cs : List Stored) → CellsFit n cs
     → EvalFits n (readCell h v cs)

@@ -21,12 +21,12 @@ use Rattle.machine.specs.State.{State, Item, run, back, drop, Thread, En
 use Rattle.machine.specs.State.{Scheduler, noThread, noScheduler, noCell, threadAt, setNth}
 use Rattle.machine.specs.State.{schedulerAt, withScheduler, withNew, enlist}
 use Rattle.machine.specs.Fresh.{fresh, firstCell, mainThread, homeScheduler}
-use Rattle.machine.specs.Waits.{isReady, threadOf, keepIf, readyThreads, stillWaiting}
-use Rattle.machine.specs.Evaluation.{Here, Evaluated, Evaluation, eval, storing}
-use Rattle.machine.specs.Turns.{Spaces, holds, stateSpaces, Stepped, Turn, here, continuation}
-use Rattle.machine.specs.Turns.{variables, unlinkedHere, evaluator, behind, goOn, withValue}
+use Rattle.machine.specs.Waits.{isReady, entryThread, keepIf, readyThreads, stillWaiting}
+use Rattle.machine.specs.Evaluation.{Here, EvalResult, Evaluation, eval, storing}
+use Rattle.machine.specs.Turns.{Spaces, holds, stateSpaces, StepResult, Turn, here, continuation}
+use Rattle.machine.specs.Turns.{variables, unlinkedHere, evaluator, afterEval, goOn, withValue}
 use Rattle.machine.specs.Turns.{withValues, byCondition, selfAt, settled, isSchedulerOf}
-use Rattle.machine.specs.Turns.{behindFirst, leave, room, fits, stay, move, goTo}
+use Rattle.machine.specs.Turns.{afterFirst, leave, room, fits, stay, move, goTo}
 use Rattle.machine.specs.Statements.{ends, drops, goesBack, stepNothing, stepSeq, stepDo}
 use Rattle.machine.specs.Statements.{started, newThread, withStarted, starting, stepStart}
 use Rattle.machine.specs.Statements.{startedWait, stepStartWait, stepCooperate, stepLet}
@@ -171,7 +171,7 @@ module _ (fs : List Frame) (P : Program) (n : ℕ) (F : FileFits fs P n) where
     pub program : u .program ≡ P
     pub spaces : u .spaces ≡ stateSpaces
 
-  abbrev Keeps : Stepped → Type 0
+  abbrev Keeps : StepResult → Type 0
   Keeps r = Shaped fs n (r .state)
 
   -- the acting thread replaced, where it is there
@@ -208,11 +208,11 @@ module _ (fs : List Frame) (P : Program) (n : ℕ) (F : FileFits fs P n) where
       (record { active-room = shorter (schedulerAt s (u .choice) .active) (x .active-room); next-room = x .next-room; threads = rest (schedulerAt s (u .choice) .active) (x .threads); entries = x .entries }))
       (λ _. z)
     where
-      shorter : (l : List ℕ) → length l ≤ 64 → length (behindFirst l) ≤ 64
+      shorter : (l : List ℕ) → length l ≤ 64 → length (afterFirst l) ≤ 64
       shorter [] h = h
       shorter (t ∷ l) h = omega arith
 
-      rest : (l : List ℕ) → All IsThread l → All IsThread (behindFirst l)
+      rest : (l : List ℕ) → All IsThread l → All IsThread (afterFirst l)
       rest [] h = none
       rest (t ∷ l) (more p ps) = ps
 
@@ -220,7 +220,8 @@ module _ (fs : List Frame) (P : Program) (n : ℕ) (F : FileFits fs P n) where
       → length (schedulerAt (leave u s) q .next) ≡ length (schedulerAt s q .next)
   unfolding leave
   leave-next u s q =
-      if-all (λ (r : State). length (schedulerAt r q .next) ≡ length (schedulerAt s q .next)) (isSchedulerOf (u .program) (u .choice)) _ s
+      if-all (λ (r : State). length (schedulerAt r q .next) ≡ length (schedulerAt s q .next))
+      (isSchedulerOf (u .program) (u .choice)) _ s
       (λ _. next-same (s .schedulers) (u .choice - 2) (q - 2) _ refl) (λ _. refl)
 
   pub enlist-next : (s : State) (q : ℕ) (e : Entry)
@@ -246,7 +247,8 @@ module _ (fs : List Frame) (P : Program) (n : ℕ) (F : FileFits fs P n) where
   unfolding fits
   self-fits u q items vars k p i v e =
       let l =
-      and-true (holds (stateSpaces .items) (length items)) (holds (stateSpaces .values) (length vars))
+      and-true (holds (stateSpaces .items) (length items))
+      (holds (stateSpaces .values) (length vars))
       (sym (ap (λ (z : Spaces). fits z items vars) (k .spaces)) ∙ e) in
       let a = leb-true (length items) _ (l .0) in
       let b = leb-true (length vars) _ (l .1) in
@@ -280,33 +282,34 @@ module _ (fs : List Frame) (P : Program) (n : ℕ) (F : FileFits fs P n) where
   pub here-fits : (u : Turn) → TurnFits u → HereFits (evaluator u)
   here-fits u k = record { thread = k .thread; values = k .self .values; shared = subst (λ (p : Program). length (p .shared) ≤ 256) (sym (k .program)) (F .shared-room) }
 
-  keeps-goOn : (u : Turn) (o : Outcome) (f : Value → Turn → Stepped) → TurnFits u → OutcomeFits o
+  keeps-goOn : (u : Turn) (o : Outcome) (f : Value → Turn → StepResult) → TurnFits u → OutcomeFits o
       → ((v : Value) → ValueFits v → Keeps (f v u)) → Keeps (goOn u o f)
   keeps-goOn u (Is v) f k (is-value w) h = h v w
   keeps-goOn u Foreign f k o h = k .before
   keeps-goOn u Spent f k o h = k .before
   keeps-goOn u Stuck f k o h = k .before
 
-  keeps-value : (u : Turn) (m : Here → Evaluation) (f : Value → Turn → Stepped) → TurnFits u
+  keeps-value : (u : Turn) (m : Here → Evaluation) (f : Value → Turn → StepResult) → TurnFits u
       → EvalFits n (m (evaluator u) (u .cells))
       → ((v : Value) (w : Turn) → TurnFits w → ValueFits v → Keeps (f v w))
       → Keeps (withValue u m f)
   keeps-value u m f k e h =
-      let r : Evaluated = m (evaluator u) (u .cells) in
-      let b : TurnFits (behind u r) = record { before = k .before; cells = e .cells; thread = k .thread; self = k .self; program = k .program; spaces = k .spaces } in
-      keeps-goOn (behind u r) (r .outcome) f b (e .outcome) (λ v. h v (behind u r) b)
+      let r : EvalResult = m (evaluator u) (u .cells) in
+      let b : TurnFits (afterEval u r) = record { before = k .before; cells = e .cells; thread = k .thread; self = k .self; program = k .program; spaces = k .spaces } in
+      keeps-goOn (afterEval u r) (r .outcome) f b (e .outcome) (λ v. h v (afterEval u r) b)
 
-  keeps-values : (u : Turn) (xs : List Expr) (f : List Value → Turn → Stepped) → TurnFits u
+  keeps-values : (u : Turn) (xs : List Expr) (f : List Value → Turn → StepResult) → TurnFits u
       → All (ExprFits n) xs
       → ((vs : List Value) (w : Turn) → TurnFits w → All ValueFits vs → Keeps (f vs w))
       → Keeps (withValues u xs f)
   unfolding withValues
   keeps-values u [] f k none h = h [] u k none
   keeps-values u (x ∷ xs) f k (more e es) h =
-      keeps-value u (λ i. eval i x) _ k (fit-eval (evaluator u) (u .cells) (here-fits u k) (k .cells) e)
+      keeps-value u (λ i. eval i x) _ k
+      (fit-eval (evaluator u) (u .cells) (here-fits u k) (k .cells) e)
       (λ v w j p. keeps-values w xs _ j es (λ vs y b q. h (v ∷ vs) y b (more p q)))
 
-  keeps-by : (u : Turn) (v : Value) (a b : Stepped) → TurnFits u → Keeps a → Keeps b
+  keeps-by : (u : Turn) (v : Value) (a b : StepResult) → TurnFits u → Keeps a → Keeps b
       → Keeps (byCondition u v a b)
   keeps-by u (Truth true) a b k f g = f
   keeps-by u (Truth false) a b k f g = g
@@ -315,7 +318,7 @@ module _ (fs : List Frame) (P : Program) (n : ℕ) (F : FileFits fs P n) where
 
   -- ---- starts
 
-  keeps-starting : (u : Turn) (m : ℕ) (vs : List Value) (r : Stepped) → TurnFits u
+  keeps-starting : (u : Turn) (m : ℕ) (vs : List Value) (r : StepResult) → TurnFits u
       → (m < length (u .program .modules) → length vs ≡ length (moduleAt (u .program) m .types) → room u 1 (here u) ≡ true → length (u .state .threads) < 64 → Keeps r)
       → Keeps (starting u m vs r)
   unfolding starting
@@ -361,7 +364,8 @@ module _ (fs : List Frame) (P : Program) (n : ℕ) (F : FileFits fs P n) where
   keeps-start u m vs k a b v r l =
       let e = settled-length u (u .self) in
       let g = has-room u 1 (here u) (k .spaces) r in
-      enlist-fits (withNew (started u (moduleAt (u .program) m) vs) (settled u (u .self))) (here u) (plain (newThread u))
+      enlist-fits (withNew (started u (moduleAt (u .program) m) vs) (settled u (u .self))) (here u)
+      (plain (newThread u))
       (with-new (settled u (u .self)) _ (keeps-settled u (u .self) k (k .self)) (started-fits u m vs k a b v) (omega arith))
       (plain-fits (new-is u l)) g
 
@@ -372,7 +376,8 @@ module _ (fs : List Frame) (P : Program) (n : ℕ) (F : FileFits fs P n) where
   keeps-wait u m vs k a b v l =
       if-all Keeps (room u 2 (here u)) _ _
       (λ r. let g = has-room u 2 (here u) (k .spaces) r in
-      enlist-fits (enlist (here u) (plain (newThread u)) s) (here u) (waiting (u .thread) (newThread u))
+      enlist-fits (enlist (here u) (plain (newThread u)) s) (here u)
+      (waiting (u .thread) (newThread u))
       (enlist-fits s (here u) (plain (newThread u)) fit (plain-fits (new-is u l)) (one g))
       (waiting-fits (k .thread) (new-is u l)) (two g))
       (λ _. k .before)
@@ -409,9 +414,11 @@ module _ (fs : List Frame) (P : Program) (n : ℕ) (F : FileFits fs P n) where
       if-all Keeps (unlinkedHere u && eqb q 1) _ _ (λ _. k .before)
       (λ _. keeps-goTo u q _ k p (more a (more (back-fits (place-small (here u) (k .self .place)) (k .self .place)) (k .self .items))))
   keeps-statement u x k i (of-start {m = m} {xs = xs} es) =
-      keeps-values u xs _ k es (λ vs w j v. keeps-starting w m vs _ j (λ a b r l. keeps-start w m vs j a b v r l))
+      keeps-values u xs _ k es
+      (λ vs w j v. keeps-starting w m vs _ j (λ a b r l. keeps-start w m vs j a b v r l))
   keeps-statement u x k i (of-wait {m = m} {xs = xs} es) =
-      keeps-values u xs _ k es (λ vs w j v. keeps-starting w m vs _ j (λ a b r l. keeps-wait w m vs j a b v l))
+      keeps-values u xs _ k es
+      (λ vs w j v. keeps-starting w m vs _ j (λ a b r l. keeps-wait w m vs j a b v l))
   keeps-statement u x k i of-cooperate =
       if-all Keeps (unlinkedHere u) _ _ (λ _. k .before)
       (λ _. if-all Keeps (room u 1 (here u)) _ _
@@ -419,16 +426,20 @@ module _ (fs : List Frame) (P : Program) (n : ℕ) (F : FileFits fs P n) where
       enlist-fits (leave u (settled u (u .self))) (here u) (plain (u .thread)) (leave-fits u (settled u (u .self)) (keeps-settled u (u .self) k (k .self))) (plain-fits (k .thread)) (omega arith))
       (λ _. k .before))
   keeps-statement u x k i (of-let {x = y} e a) =
-      keeps-value u (λ h. eval h y) _ k (fit-eval (evaluator u) (u .cells) (here-fits u k) (k .cells) e)
+      keeps-value u (λ h. eval h y) _ k
+      (fit-eval (evaluator u) (u .cells) (here-fits u k) (k .cells) e)
       (λ v w j p. keeps-stay w _ _ j (more a (more drop-fits (j .self .items))) (all-append (j .self .values) (more p none)))
   keeps-statement u x k i (of-store {x = y} {y = y′} e g) =
-      keeps-value u (λ h. storing h y y′) _ k (fit-storing (evaluator u) (u .cells) (here-fits u k) (k .cells) e g)
+      keeps-value u (λ h. storing h y y′) _ k
+      (fit-storing (evaluator u) (u .cells) (here-fits u k) (k .cells) e g)
       (λ v w j p. keeps-stay w _ _ j (j .self .items) (j .self .values))
   keeps-statement u x k i (of-if {x = y} e a b) =
-      keeps-value u (λ h. eval h y) _ k (fit-eval (evaluator u) (u .cells) (here-fits u k) (k .cells) e)
+      keeps-value u (λ h. eval h y) _ k
+      (fit-eval (evaluator u) (u .cells) (here-fits u k) (k .cells) e)
       (λ v w j p. keeps-by w v _ _ j (keeps-stay w _ _ j (more a (j .self .items)) (j .self .values)) (keeps-stay w _ _ j (more b (j .self .items)) (j .self .values)))
   keeps-statement u x k i (of-while {x = y} e a) =
-      keeps-value u (λ h. eval h y) _ k (fit-eval (evaluator u) (u .cells) (here-fits u k) (k .cells) e)
+      keeps-value u (λ h. eval h y) _ k
+      (fit-eval (evaluator u) (u .cells) (here-fits u k) (k .cells) e)
       (λ v w j p. keeps-by w v _ _ j (keeps-stay w _ _ j (more a (more i (j .self .items))) (j .self .values)) (keeps-stay w _ _ j (j .self .items) (j .self .values)))
 
   -- the thread ends, whether it is there or not
@@ -475,10 +486,12 @@ module _ (fs : List Frame) (P : Program) (n : ℕ) (F : FileFits fs P n) where
           → Keeps (stepItems P s c (suc i) (threadAt s (suc i) .continuation))
       go true e =
           let f = z .threads i (ltb-true i (length (s .threads)) e) in
-          keeps-items s c (suc i) (threadAt s (suc i) .continuation) z h f (f .items) (f .items-room)
+          keeps-items s c (suc i) (threadAt s (suc i) .continuation) z h f (f .items)
+          (f .items-room)
       go false e =
           let q : threadAt s (suc i) ≡ noThread = List·getD-eq-default (s .threads) noThread {n = i} (ltb-false i (length (s .threads)) e) in
-          subst (λ (l : List Item). Keeps (stepItems P s c (suc i) l)) (sym (ap (λ (x : Thread). x .continuation) q)) (keeps-ends s c (suc i) z)
+          subst (λ (l : List Item). Keeps (stepItems P s c (suc i) l))
+          (sym (ap (λ (x : Thread). x .continuation) q)) (keeps-ends s c (suc i) z)
 
   -- ---- the end of an instant
 
@@ -488,7 +501,7 @@ module _ (fs : List Frame) (P : Program) (n : ℕ) (F : FileFits fs P n) where
   ready-fits ts [] none = none
   ready-fits ts (e ∷ es) (more f fs) = go (isReady ts e) (of e f) (ready-fits ts es fs)
     where
-      of : (e : Entry) → EntryFits e → IsThread (threadOf e)
+      of : (e : Entry) → EntryFits e → IsThread (entryThread e)
       of (plain t) (plain-fits h) = h
       of (waiting t u) (waiting-fits h g) = h
 
@@ -542,7 +555,8 @@ module _ (fs : List Frame) (P : Program) (n : ℕ) (F : FileFits fs P n) where
   pub keeps-step : (s : State) (c : ℕ) → Shaped fs n s → Shaped fs n (step P s c .state)
   unfolding stepWithin
   keeps-step s c z =
-      if-all Keeps (isSchedulerOf P c) _ _ (λ _. keeps-scheduler s c (schedulerAt s c .active) z (scheduler-fits s z c .threads))
+      if-all Keeps (isSchedulerOf P c) _ _
+      (λ _. keeps-scheduler s c (schedulerAt s c .active) z (scheduler-fits s z c .threads))
       (λ _. if-all Keeps (isUnlinked s c) _ _ (λ e. keeps-thread s c (c - 16) z (unlinked-is s c z e)) (λ _. z))
 
   keeps-from : (s : State) (cs : List ℕ) → Shaped fs n s → Shaped fs n (stateFrom P s cs)

@@ -23,6 +23,7 @@ pub mod WordLaws
 pub mod Blocks
 pub mod Padded
 pub mod PastedLaws
+pub mod ValueWords
 -- States in shape and words in range: from a state to its words and back, from words to their state
 -- and back, and the one from the other.
 pub mod Round

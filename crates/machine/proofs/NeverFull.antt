@@ -19,9 +19,9 @@ use Rattle.machine.specs.State.{State, Item, run, back, drop, Thread, En
 use Rattle.machine.specs.State.{nth, setNth, schedulerAt, threadAt, enlist}
 use Rattle.machine.specs.Waits.{readyThreads, stillWaiting}
 use Rattle.machine.specs.Fresh.{fresh}
-use Rattle.machine.specs.Evaluation.{Here, Evaluated, Evaluation, eval, storing}
-use Rattle.machine.specs.Turns.{endlessSpaces, Stepped, Turn, here, continuation, variables}
-use Rattle.machine.specs.Turns.{refuse, accept, behind, evaluator, goOn, withValue}
+use Rattle.machine.specs.Evaluation.{Here, EvalResult, Evaluation, eval, storing}
+use Rattle.machine.specs.Turns.{endlessSpaces, StepResult, Turn, here, continuation, variables}
+use Rattle.machine.specs.Turns.{refuse, accept, afterEval, evaluator, goOn, withValue}
 use Rattle.machine.specs.Turns.{withValues, byCondition, selfAt, settled, isSchedulerOf}
 use Rattle.machine.specs.Turns.{leave, unlinkedHere, room, fits, stay, move, goTo}
 use Rattle.machine.specs.Statements.{ends, drops, goesBack, stepNothing, stepSeq, stepDo}
@@ -93,7 +93,7 @@ left-roomy u s h = subst RoomyThreads (sym (leave-threads u s)) h
 
 -- ---- what a choice gives, in the state's spaces and in spaces without end
 
-pub record Never (r w : Stepped) : Type 0 where
+pub record Never (r w : StepResult) : Type 0 where
   pub same : r ≡ w
   pub roomy : RoomyThreads (r .state .threads)
 
@@ -118,21 +118,21 @@ pub record Ready (i : Item) (u : Turn) : Type 0 where
   pub bodies : BodiesFit (u .program)
   pub top : Roomy (length (variables u)) (i ∷ continuation u)
 
-never-if : (b : Bool) (x y v w : Stepped) → (b ≡ true → Never x v) → (b ≡ false → Never y w)
+never-if : (b : Bool) (x y v w : StepResult) → (b ≡ true → Never x v) → (b ≡ false → Never y w)
     → Never (if b then x else y) (if b then v else w)
 unfolding if_then_else_
 never-if true x y v w f g = f refl
 never-if false x y v w f g = g refl
 
 -- both tests are met
-never-yes : (b d : Bool) (x y v w : Stepped) → b ≡ true → d ≡ true → Never x v
+never-yes : (b d : Bool) (x y v w : StepResult) → b ≡ true → d ≡ true → Never x v
     → Never (if b then x else y) (if d then v else w)
 unfolding if_then_else_
 never-yes true true x y v w e f h = h
 never-yes true false x y v w e f h = absurd (true≢false (sym f))
 never-yes false d x y v w e f h = absurd (true≢false (sym e))
 
-never-no : (b d : Bool) (x y v w : Stepped) → b ≡ true → d ≡ true → Never y w
+never-no : (b d : Bool) (x y v w : StepResult) → b ≡ true → d ≡ true → Never y w
     → Never (if not b then x else y) (if not d then v else w)
 unfolding if_then_else_
 never-no true true x y v w e f h = h
@@ -161,7 +161,8 @@ never-stay : {i : Item} (u : Turn) (items : List Item) (vs : List Value) → Rea
     → Roomy (length vs) items → Never (stay u items vs) (stay (endlessly u) items vs)
 unfolding stay
 never-stay u items vs r o =
-    never-yes (fits (u .spaces) items vs) (fits endlessSpaces items vs) _ _ _ _ (fits-true (u .spaces) (r .acting .spaces) items vs o) (endless-fits items vs)
+    never-yes (fits (u .spaces) items vs) (fits endlessSpaces items vs) _ _ _ _
+    (fits-true (u .spaces) (r .acting .spaces) items vs o) (endless-fits items vs)
     (never-accept u _ (with-roomy (u .state .threads) (u .thread) (selfAt u (here u) items vs) (r .before) o))
 
 never-move : {i : Item} (u : Turn) (q : ℕ) (items : List Item) → Ready i u
@@ -179,7 +180,7 @@ never-goTo : {i : Item} (u : Turn) (q : ℕ) (items : List Item) → Ready i u
 unfolding goTo
 never-goTo u q items r o = never-if (eqb q (here u)) _ _ _ _ (λ _. never-stay u items _ r o) (λ _. never-move u q items r o)
 
-never-goOn : {i : Item} (u : Turn) (o : Outcome) (k : Value → Turn → Stepped) → Ready i u
+never-goOn : {i : Item} (u : Turn) (o : Outcome) (k : Value → Turn → StepResult) → Ready i u
     → ((v : Value) → Never (k v u) (k v (endlessly u)))
     → Never (goOn u o k) (goOn (endlessly u) o k)
 never-goOn u (Is v) k r g = g v
@@ -187,20 +188,20 @@ never-goOn u Foreign k r g = never-refuse u 19 r
 never-goOn u Spent k r g = never-refuse u 17 r
 never-goOn u Stuck k r g = never-refuse u 20 r
 
-never-value : {i : Item} (u : Turn) (m : Here → Evaluation) (k : Value → Turn → Stepped) → Ready i u
+never-value : {i : Item} (u : Turn) (m : Here → Evaluation) (k : Value → Turn → StepResult) → Ready i u
     → ((v : Value) (w : Turn) → Ready i w → Never (k v w) (k v (endlessly w)))
     → Never (withValue u m k) (withValue (endlessly u) m k)
 never-value {i} u m k r g =
-    let e : Evaluated = m (evaluator u) (u .cells) in
-    let b : Ready i (behind u e) = record {
+    let e : EvalResult = m (evaluator u) (u .cells) in
+    let b : Ready i (afterEval u e) = record {
       acting = record { counted = r .acting .counted; stands = r .acting .stands; same = r .acting .same; spaces = r .acting .spaces };
       before = r .before;
       bodies = r .bodies;
       top = r .top;
     } in
-    never-goOn (behind u e) (e .outcome) k b (λ v. g v (behind u e) b)
+    never-goOn (afterEval u e) (e .outcome) k b (λ v. g v (afterEval u e) b)
 
-never-values : {i : Item} (u : Turn) (xs : List Expr) (k : List Value → Turn → Stepped) → Ready i u
+never-values : {i : Item} (u : Turn) (xs : List Expr) (k : List Value → Turn → StepResult) → Ready i u
     → ((vs : List Value) (w : Turn) → Ready i w → Never (k vs w) (k vs (endlessly w)))
     → Never (withValues u xs k) (withValues (endlessly u) xs k)
 unfolding withValues
@@ -208,7 +209,7 @@ never-values u [] k r g = g [] u r
 never-values u (x ∷ xs) k r g =
     never-value u (λ h. eval h x) _ r (λ v w j. never-values w xs _ j (λ vs. g (v ∷ vs)))
 
-never-by : {i : Item} (u : Turn) (v : Value) (a b x y : Stepped) → Ready i u → Never a x → Never b y
+never-by : {i : Item} (u : Turn) (v : Value) (a b x y : StepResult) → Ready i u → Never a x → Never b y
     → Never (byCondition u v a b) (byCondition (endlessly u) v x y)
 never-by u (Truth true) a b x y r f g = f
 never-by u (Truth false) a b x y r f g = g
@@ -217,7 +218,7 @@ never-by u (Cell c) a b x y r f g = never-refuse u 20 r
 
 -- ---- starts
 
-never-starting : {i : Item} (u : Turn) (m : ℕ) (vs : List Value) (a b : Stepped) → Ready i u
+never-starting : {i : Item} (u : Turn) (m : ℕ) (vs : List Value) (a b : StepResult) → Ready i u
     → (m < length (u .program .modules) → length vs ≡ length (moduleAt (u .program) m .types) → length (u .state .threads) < 64 → Never a b)
     → Never (starting u m vs a) (starting (endlessly u) m vs b)
 unfolding starting

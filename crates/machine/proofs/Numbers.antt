@@ -10,8 +10,8 @@ use Rattle.program.specs.Trees.{store, ifElse, while}
 use Rattle.program.specs.Programs.{Program}
 use Rattle.machine.specs.State.{State, Item, run, back, drop, Entry, schedulerAt, threadAt}
 use Rattle.machine.specs.Waits.{readyThreads, stillWaiting}
-use Rattle.machine.specs.Evaluation.{Here, Evaluated, Evaluation, eval, storing}
-use Rattle.machine.specs.Turns.{Stepped, Turn, behind, evaluator, goOn, withValue, withValues}
+use Rattle.machine.specs.Evaluation.{Here, EvalResult, Evaluation, eval, storing}
+use Rattle.machine.specs.Turns.{StepResult, Turn, afterEval, evaluator, goOn, withValue, withValues}
 use Rattle.machine.specs.Turns.{byCondition, stay, move, goTo}
 use Rattle.machine.specs.inner.Parts.{stepItems, stepThread, turn, stepScheduler}
 use Rattle.machine.specs.Steps.{stepThreadWithin, turnInstant, endInstant, step, stepWithin}
@@ -35,35 +35,35 @@ pub data StepNumber : ℕ → Type 0 where
   is-19 : StepNumber 19
   is-20 : StepNumber 20
 
-abbrev pub Numbered : Stepped → Type 0
+abbrev pub Numbered : StepResult → Type 0
 Numbered r = StepNumber (r .answer)
 
 -- ---- the ways in which a turn goes on and ends
 
-number-if : (b : Bool) (x y : Stepped) → Numbered x → Numbered y → Numbered (if b then x else y)
+number-if : (b : Bool) (x y : StepResult) → Numbered x → Numbered y → Numbered (if b then x else y)
 number-if b x y f g = if-all Numbered b x y (λ _. f) (λ _. g)
 
-number-goOn : (u : Turn) (o : Outcome) (k : Value → Turn → Stepped)
+number-goOn : (u : Turn) (o : Outcome) (k : Value → Turn → StepResult)
     → ((v : Value) → Numbered (k v u)) → Numbered (goOn u o k)
 number-goOn u (Is v) k g = g v
 number-goOn u Foreign k g = is-19
 number-goOn u Spent k g = is-17
 number-goOn u Stuck k g = is-20
 
-number-value : (u : Turn) (m : Here → Evaluation) (k : Value → Turn → Stepped)
+number-value : (u : Turn) (m : Here → Evaluation) (k : Value → Turn → StepResult)
     → ((v : Value) (w : Turn) → Numbered (k v w)) → Numbered (withValue u m k)
 number-value u m k g =
-    let r : Evaluated = m (evaluator u) (u .cells) in
-    number-goOn (behind u r) (r .outcome) k (λ v. g v (behind u r))
+    let r : EvalResult = m (evaluator u) (u .cells) in
+    number-goOn (afterEval u r) (r .outcome) k (λ v. g v (afterEval u r))
 
-number-values : (u : Turn) (xs : List Expr) (k : List Value → Turn → Stepped)
+number-values : (u : Turn) (xs : List Expr) (k : List Value → Turn → StepResult)
     → ((vs : List Value) (w : Turn) → Numbered (k vs w)) → Numbered (withValues u xs k)
 unfolding withValues
 number-values u [] k g = g [] u
 number-values u (x ∷ xs) k g =
     number-value u (λ h. eval h x) _ (λ v w. number-values w xs _ (λ vs. g (v ∷ vs)))
 
-number-by : (u : Turn) (v : Value) (a b : Stepped) → Numbered a → Numbered b
+number-by : (u : Turn) (v : Value) (a b : StepResult) → Numbered a → Numbered b
     → Numbered (byCondition u v a b)
 number-by u (Truth true) a b f g = f
 number-by u (Truth false) a b f g = g
@@ -82,7 +82,7 @@ number-goTo : (u : Turn) (q : ℕ) (items : List Item) → Numbered (goTo u q it
 unfolding goTo
 number-goTo u q items = number-if _ _ _ (number-stay u items _) (number-move u q items)
 
-number-starting : (u : Turn) (m : ℕ) (vs : List Value) (r : Stepped) → Numbered r
+number-starting : (u : Turn) (m : ℕ) (vs : List Value) (r : StepResult) → Numbered r
     → Numbered (starting u m vs r)
 unfolding starting
 number-starting u m vs r g = number-if _ _ _ is-20 (number-if _ _ _ is-20 (number-if _ _ _ is-20 (number-if _ _ _ is-20 (number-if _ _ _ is-18 g))))

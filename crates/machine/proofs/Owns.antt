@@ -13,7 +13,7 @@ use Rattle.program.specs.Trees.{Expr, number, truth, variable, shared, new, con
 use Rattle.program.specs.Trees.{choose}
 use Rattle.machine.specs.Accesses.{Access, Own}
 use Rattle.machine.specs.State.{Stored, threadOwner}
-use Rattle.machine.specs.Evaluation.{Here, Evaluated, Evaluation, gives, after, andThen}
+use Rattle.machine.specs.Evaluation.{Here, EvalResult, Evaluation, gives, withAccesses, andThen}
 use Rattle.machine.specs.Evaluation.{_>>=_, isOwn, accessOf, accessing, readVariable}
 use Rattle.machine.specs.Evaluation.{sharedCell, addCell, newOwner, makeCell, atCell}
 use Rattle.machine.specs.Evaluation.{readCell, storeCell, ofNumbers, byTruth, aNumber, plus}
@@ -34,13 +34,13 @@ IsForeign Spent = ⊥
 IsForeign Stuck = ⊥
 
 -- unless it was foreign, what it accessed was its own
-abbrev pub Owns : Evaluated → Type 0
+abbrev pub Owns : EvalResult → Type 0
 Owns r = (IsForeign (r .outcome) → ⊥) → All Own (r .accesses)
 
-owns-after : {ts : List Access} (r : Evaluated) → All Own ts → Owns r → Owns (after ts r)
+owns-after : {ts : List Access} (r : EvalResult) → All Own ts → Owns r → Owns (withAccesses ts r)
 owns-after r h g = λ n. all-append h (g n)
 
-owns-andThen : (k : Value → Evaluation) (r : Evaluated) (o : Outcome) → r .outcome ≡ o → Owns r
+owns-andThen : (k : Value → Evaluation) (r : EvalResult) (o : Outcome) → r .outcome ≡ o → Owns r
     → ((v : Value) (cs : List Stored) → Owns (k v cs)) → Owns (andThen k r o)
 owns-andThen k r (Is v) e h g = owns-after (k v (r .cells)) (h (subst (λ (x : Outcome). IsForeign x → ⊥) (sym e) (λ z. z))) (g v (r .cells))
 owns-andThen k r Foreign e h g = h
@@ -64,11 +64,11 @@ owns-accessing : (h : Here) (c o : ℕ) (r : Evaluation) (cs : List Stored) → 
     → Owns (accessing h c o r cs)
 unfolding accessing
 owns-accessing h c o r cs g =
-    if-all (λ x. Owns (after (accessOf h c o ∷ []) x)) (isOwn h o) (r cs) (gives Foreign cs)
+    if-all (λ x. Owns (withAccesses (accessOf h c o ∷ []) x)) (isOwn h o) (r cs) (gives Foreign cs)
     (λ e. owns-after (r cs) (more (is-own h c o e) none) g)
     (λ e n. absurd (n tt))
 
--- ---- one law for each kind, behind its operands
+-- ---- one law for each kind, after its operands
 
 owns-variable : (h : Here) (s : ℕ) (cs : List Stored) → Owns (readVariable h s cs)
 unfolding readVariable
@@ -136,9 +136,11 @@ owns-eval h (shared i s) cs = owns-shared h s cs
 owns-eval h (new i s x) cs = owns-then (eval h x) _ (owns-eval h x) (owns-make h s) cs
 owns-eval h (content i x) cs = owns-then (eval h x) _ (owns-eval h x) (owns-content h) cs
 owns-eval h (sum i x y) cs =
-    owns-then (eval h x) _ (owns-eval h x) (λ v. owns-then (eval h y) _ (owns-eval h y) (owns-numbers plus v)) cs
+    owns-then (eval h x) _ (owns-eval h x)
+    (λ v. owns-then (eval h y) _ (owns-eval h y) (owns-numbers plus v)) cs
 owns-eval h (less i x y) cs =
-    owns-then (eval h x) _ (owns-eval h x) (λ v. owns-then (eval h y) _ (owns-eval h y) (owns-numbers lessThan v)) cs
+    owns-then (eval h x) _ (owns-eval h x)
+    (λ v. owns-then (eval h y) _ (owns-eval h y) (owns-numbers lessThan v)) cs
 owns-eval h (choose i x y z) cs =
     owns-then (eval h x) _ (owns-eval h x)
     (λ v. owns-then (byTruth v (eval h y) (eval h z)) _ (owns-by v (eval h y) (eval h z) (owns-eval h y) (owns-eval h z)) owns-number) cs

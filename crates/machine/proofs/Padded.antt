@@ -1,4 +1,4 @@
--- A list in its space, with 0 behind its members: one member pushed, one popped, is one word set.
+-- A list in its space, with 0 after its members: one member pushed, one popped, is one word set.
 -- Assumes nothing.
 use Prim.Native.Nat.{ℕ, _+_, _<_, _≤_}
 use mathlib.Core.Path.{_≡_, refl, sym, ap, _∙_}

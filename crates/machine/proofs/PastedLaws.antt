@@ -77,7 +77,8 @@ module _ (d e : List ℕ) (at : ℕ) (s : List ℕ) (n : ℕ) (hd : at + n ≤ l
       let l : at ≤ i = ltb-false i at p in
       let m : i < at + n = ltb-true i (at + n) q in
       let z : at + (i - at) ≡ i = omega arith in
-      subst (λ (k : ℕ). getD e k 0 ≡ getD (pasted d at s n) k 0) z (inside (i - at) (omega arith) ∙ sym (pasted-in d at s n hd hs (i - at) (omega arith)))
+      subst (λ (k : ℕ). getD e k 0 ≡ getD (pasted d at s n) k 0) z
+      (inside (i - at) (omega arith) ∙ sym (pasted-in d at s n hd hs (i - at) (omega arith)))
 
   pub same-pasted : e ≡ pasted d at s n
   same-pasted = ext-getD 0 e (pasted d at s n) (long ∙ sym (pasted-length d at s n hd hs)) (λ i g. same-word i (ltb i at) (ltb i (at + n)) refl refl)
@@ -99,10 +100,12 @@ module _ (d : List ℕ) (at : ℕ) (s : List ℕ) (n : ℕ) (hd : at + n ≤ len
           → getD (set (pasted d at s n) (at + j) v) (at + i) 0 ≡ getD (set s j v) i 0
       here i g (yes e) =
           ap (λ (k : ℕ). getD (set (pasted d at s n) (at + j) v) (at + k) 0) e
-          ∙ getD-set-same (pasted d at s n) (at + j) v 0 (rw (pasted-length d at s n hd hs) (omega arith))
+          ∙ getD-set-same (pasted d at s n) (at + j) v 0
+          (rw (pasted-length d at s n hd hs) (omega arith))
           ∙ sym (getD-set-same s j v 0 (omega arith)) ∙ ap (λ (k : ℕ). getD (set s j v) k 0) (sym e)
       here i g (no e) =
-          getD-set-other (pasted d at s n) (at + j) (at + i) v 0 (λ q. e (omega arith)) ∙ pasted-in d at s n hd hs i g ∙ sym (getD-set-other s j i v 0 e)
+          getD-set-other (pasted d at s n) (at + j) (at + i) v 0 (λ q. e (omega arith))
+          ∙ pasted-in d at s n hd hs i g ∙ sym (getD-set-other s j i v 0 e)
 
   -- the whole block written again
   pub pasted-pasted : (t : List ℕ) → n ≤ length t

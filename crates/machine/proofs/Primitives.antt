@@ -15,7 +15,7 @@ use Rattle.language.specs.Limits.{mostCells}
 use Rattle.machine.specs.Accesses.{Access, Own}
 use Rattle.machine.specs.State.{Stored, cellAt, isUsed, freeNumber, usedCells, withNewCell}
 use Rattle.machine.specs.State.{threadOwner}
-use Rattle.machine.specs.Evaluation.{Here, Evaluated, Evaluation, after, isOwn, accessOf}
+use Rattle.machine.specs.Evaluation.{Here, EvalResult, Evaluation, withAccesses, isOwn, accessOf}
 use Rattle.machine.specs.Evaluation.{accessing, atCell, addCell, load, store, allocate, putIn}
 use Rattle.machine.specs.declared.value.Value.{Value}
 use Rattle.machine.specs.declared.value.Value.the-variants.{Cell}
@@ -27,7 +27,7 @@ use Rattle.machine.proofs.UsedCells.{put}
 -- ---- what is said of each
 
 -- an operation gave this outcome, left these cells, and logged these accesses
-pub record Logs (r : Evaluated) (o : Outcome) (cs : List Stored) (l : List Access) : Type 0 where
+pub record Logs (r : EvalResult) (o : Outcome) (cs : List Stored) (l : List Access) : Type 0 where
   pub outcome : r .outcome ≡ o
   pub cells : r .cells ≡ cs
   pub accesses : r .accesses ≡ l
@@ -38,20 +38,20 @@ module _ (h : Here) where
   accessAt cs c = accessOf h c (cellAt cs c .owner)
 
   -- an operation at cell c. None there: no access, no change. Another's: one access, no change. An
-  -- own one: one access, the outcome is o, and the cells are those behind
-  pub data CellLogs (c : ℕ) (cs : List Stored) (o : Outcome) (behind : List Stored) (r : Evaluated)
+  -- own one: one access, the outcome is o, and the cells are those after
+  pub data CellLogs (c : ℕ) (cs : List Stored) (o : Outcome) (left : List Stored) (r : EvalResult)
       : Type 0 where
-    no-cell : isUsed cs c ≡ false → Logs r Stuck cs [] → CellLogs c cs o behind r
+    no-cell : isUsed cs c ≡ false → Logs r Stuck cs [] → CellLogs c cs o left r
     foreign-cell : isUsed cs c ≡ true → (Own (accessAt cs c) → ⊥)
-        → Logs r Foreign cs (accessAt cs c ∷ []) → CellLogs c cs o behind r
+        → Logs r Foreign cs (accessAt cs c ∷ []) → CellLogs c cs o left r
     own-cell : isUsed cs c ≡ true → Own (accessAt cs c)
-        → Logs r o behind (accessAt cs c ∷ []) → CellLogs c cs o behind r
+        → Logs r o left (accessAt cs c ∷ []) → CellLogs c cs o left r
 
   -- the content, and the cells stay; or the value, and it is in the cell, which keeps its owner
-  abbrev pub LoadLogs : ℕ → List Stored → Evaluated → Type 0
+  abbrev pub LoadLogs : ℕ → List Stored → EvalResult → Type 0
   LoadLogs c cs r = CellLogs c cs (Is (cellAt cs c .content)) cs r
 
-  abbrev pub StoreLogs : ℕ → Value → List Stored → Evaluated → Type 0
+  abbrev pub StoreLogs : ℕ → Value → List Stored → EvalResult → Type 0
   StoreLogs c v cs r = CellLogs c cs (Is v) (put cs c v) r
 
   -- the acting thread's access to the cell that it would make, of owner o
@@ -59,7 +59,7 @@ module _ (h : Here) where
   creation cs o = accessOf h (freeNumber cs) o
 
   -- the cell may not be another's, and there has to be space for it; then it is there, the last one
-  pub data AllocateLogs (o : ℕ) (v : Value) (cs : List Stored) (r : Evaluated) : Type 0 where
+  pub data AllocateLogs (o : ℕ) (v : Value) (cs : List Stored) (r : EvalResult) : Type 0 where
     foreign-new : (Own (creation cs o) → ⊥) → Logs r Foreign cs (creation cs o ∷ [])
         → AllocateLogs o v cs r
     no-space : Own (creation cs o) → mostCells ≤ usedCells cs
@@ -91,7 +91,7 @@ module _ (h : Here) where
   unfolding atCell accessing
   at-logs c m cs z =
       if-all Q (isUsed cs c) _ _
-      (λ e. if-all (λ r. Q (after (accessAt cs c ∷ []) r)) (isOwn h o) _ _
+      (λ e. if-all (λ r. Q (withAccesses (accessAt cs c ∷ []) r)) (isOwn h o) _ _
       (λ f. own-cell e (is-own h c o f)
       (record { outcome = refl; cells = refl; accesses = ap (λ l. accessAt cs c ∷ l) z }))
       (λ f. foreign-cell e (not-own c o f)
@@ -101,7 +101,7 @@ module _ (h : Here) where
       o : ℕ
       o = cellAt cs c .owner
 
-      Q : Evaluated → Type 0
+      Q : EvalResult → Type 0
       Q r = CellLogs c cs (m cs .outcome) (m cs .cells) r
 
   pub load-logs : (c : ℕ) (cs : List Stored) → LoadLogs c cs (load h c cs)
@@ -123,5 +123,5 @@ module _ (h : Here) where
       (λ f. foreign-new (not-own (freeNumber cs) o f)
       (record { outcome = refl; cells = refl; accesses = refl }))
     where
-      Q : Evaluated → Type 0
-      Q r = AllocateLogs o v cs (after (creation cs o ∷ []) r)
+      Q : EvalResult → Type 0
+      Q r = AllocateLogs o v cs (withAccesses (creation cs o ∷ []) r)

@@ -149,7 +149,8 @@ module _ (fs : List Frame) (n : ℕ) (w : List ℕ) where
   pub range-in : InRange fs n w → inRange fs n w ≡ true
   unfolding inRange
   range-in h =
-      and-both (eqb (length w) 4818) (allBelow 4818 (wordInRange fs n w)) (eq-eqb (length w) 4818 (h .all))
+      and-both (eqb (length w) 4818) (allBelow 4818 (wordInRange fs n w))
+      (eq-eqb (length w) 4818 (h .all))
       (all-below 4818 (wordInRange fs n w)
       (by-region (λ (i : ℕ). wordInRange fs n w i ≡ true) (range-0 fs n w ∙ le-leb (getD w 0 0) 64 (h .threads-room)) (range-1 fs n w ∙ le-leb (getD w 1 0) 256 (h .cells-room))
       (λ k j a b. scheduler k j a b (decLt k n)) (λ k j a b. thread k j a b (decLt k (getD w 0 0))) (λ c a. range-cells fs n w c a ∙ cell c a)))
@@ -172,7 +173,8 @@ module _ (fs : List Frame) (n : ℕ) (w : List ℕ) where
           → (if ltb c (getD w 1 0) then cellInRange n (getD w (4562 + c) 0) else eqb (getD w (4562 + c) 0) 0)
           ≡ true
       cell c a =
-          if-all (λ (b : Bool). b ≡ true) (ltb c (getD w 1 0)) _ _ (λ e. h .cell c (ltb-true c (getD w 1 0) e))
+          if-all (λ (b : Bool). b ≡ true) (ltb c (getD w 1 0)) _ _
+          (λ e. h .cell c (ltb-true c (getD w 1 0) e))
           (λ e. eq-eqb _ 0 (h .no-cell c a (ltb-false c (getD w 1 0) e)))
 
 -- ---- the words of a thread, of a scheduler
@@ -196,7 +198,8 @@ pub range-items : (fs : List Frame) (n : ℕ) (w : List ℕ) (i j : ℕ) → j <
 unfolding threadWordInRange
 range-items fs n w i j h =
     let a : 3 + j - 3 ≡ j = omega arith in
-    if-no _ _ (ne-eqb (3 + j) 0 (λ e. omega arith)) ∙ if-no _ _ (ne-eqb (3 + j) 1 (λ e. omega arith)) ∙ if-no _ _ (ne-eqb (3 + j) 2 (λ e. omega arith))
+    if-no _ _ (ne-eqb (3 + j) 0 (λ e. omega arith)) ∙ if-no _ _
+    (ne-eqb (3 + j) 1 (λ e. omega arith)) ∙ if-no _ _ (ne-eqb (3 + j) 2 (λ e. omega arith))
     ∙ if-yes _ _ (lt-ltb (3 + j) 29 (omega arith))
     ∙ ap (listInRange (itemInRange fs n) 25 w (i + 3)) a
 
@@ -205,7 +208,8 @@ pub range-variables : (fs : List Frame) (n : ℕ) (w : List ℕ) (i j : ℕ) →
 unfolding threadWordInRange
 range-variables fs n w i j h =
     let a : 29 + j - 29 ≡ j = omega arith in
-    if-no _ _ (ne-eqb (29 + j) 0 (λ e. omega arith)) ∙ if-no _ _ (ne-eqb (29 + j) 1 (λ e. omega arith)) ∙ if-no _ _ (ne-eqb (29 + j) 2 (λ e. omega arith))
+    if-no _ _ (ne-eqb (29 + j) 0 (λ e. omega arith)) ∙ if-no _ _
+    (ne-eqb (29 + j) 1 (λ e. omega arith)) ∙ if-no _ _ (ne-eqb (29 + j) 2 (λ e. omega arith))
     ∙ if-no _ _ (le-ltb (29 + j) 29 (omega arith)) ∙ ap (listInRange valueInRange 25 w (i + 29)) a
 
 pub range-active : (w : List ℕ) (i j : ℕ) → j < 65

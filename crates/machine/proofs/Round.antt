@@ -35,7 +35,8 @@ value-back (Truth true) truth = if-no _ _ refl ∙ if-yes _ _ refl
 value-back (Truth false) truth = if-no _ _ refl ∙ if-yes _ _ refl
 value-back (Cell c) (cell h) =
     let a : 2 * 2 ^ 32 + c - 2 * 2 ^ 32 ≡ c = omega arith in
-    if-no _ _ (le-ltb (2 * 2 ^ 32 + c) (2 ^ 32) (omega arith)) ∙ if-no _ _ (le-ltb (2 * 2 ^ 32 + c) (2 * 2 ^ 32) (omega arith)) ∙ ap Cell a
+    if-no _ _ (le-ltb (2 * 2 ^ 32 + c) (2 ^ 32) (omega arith))
+    ∙ if-no _ _ (le-ltb (2 * 2 ^ 32 + c) (2 * 2 ^ 32) (omega arith)) ∙ ap Cell a
 
 pub item-back : (fs : List Frame) (n : ℕ) (x : Item) → ItemFits fs n x
     → wordItem fs (itemWord x) ≡ x
@@ -43,7 +44,8 @@ unfolding itemWord wordItem
 item-back fs n (run x) (run-fits h k e) = if-yes _ _ (lt-ltb (rootS x) 1024 h) ∙ ap run e
 item-back fs n (back q) (back-fits h k) =
     let a : 1024 + q - 1024 ≡ q = omega arith in
-    if-no _ _ (le-ltb (1024 + q) 1024 (omega arith)) ∙ if-yes _ _ (lt-ltb (1024 + q) 2048 (omega arith)) ∙ ap back a
+    if-no _ _ (le-ltb (1024 + q) 1024 (omega arith))
+    ∙ if-yes _ _ (lt-ltb (1024 + q) 2048 (omega arith)) ∙ ap back a
 item-back fs n drop drop-fits = if-no _ _ refl ∙ if-no _ _ refl
 
 pub entry-back : (e : Entry) → EntryFits e → wordEntry (entryWord e) ≡ e
@@ -80,7 +82,7 @@ map-back P f g e [] none = refl
 map-back {A} P f g e (x ∷ xs) (more h hs) =
     ap₂ (λ (y : A) (ys : List A). y ∷ ys) (e x h) (map-back P f g e xs hs)
 
--- a list's words behind its length
+-- a list's words after its length
 tab-list : (n : ℕ) (ws : List ℕ) (f : ℕ → ℕ) (i : ℕ) → n ≡ length ws
     → ((j : ℕ) → j < length ws → f (i + j) ≡ getD ws j 0) → tabulate n f i ≡ ws
 unfolding tabulate
@@ -115,7 +117,8 @@ pub thread-continuation : (x : Thread) (j : ℕ) → j < 26
 unfolding threadWord
 thread-continuation x j h =
     let a : 3 + j - 3 ≡ j = omega arith in
-    if-no _ _ (ne-eqb (3 + j) 0 (λ e. omega arith)) ∙ if-no _ _ (ne-eqb (3 + j) 1 (λ e. omega arith)) ∙ if-no _ _ (ne-eqb (3 + j) 2 (λ e. omega arith))
+    if-no _ _ (ne-eqb (3 + j) 0 (λ e. omega arith)) ∙ if-no _ _
+    (ne-eqb (3 + j) 1 (λ e. omega arith)) ∙ if-no _ _ (ne-eqb (3 + j) 2 (λ e. omega arith))
     ∙ if-yes _ _ (lt-ltb (3 + j) 29 (omega arith))
     ∙ ap (listWord (reverse (map itemWord (x .continuation)))) a
 
@@ -124,7 +127,8 @@ pub thread-variables : (x : Thread) (j : ℕ) → j < 26
 unfolding threadWord
 thread-variables x j h =
     let a : 29 + j - 29 ≡ j = omega arith in
-    if-no _ _ (ne-eqb (29 + j) 0 (λ e. omega arith)) ∙ if-no _ _ (ne-eqb (29 + j) 1 (λ e. omega arith)) ∙ if-no _ _ (ne-eqb (29 + j) 2 (λ e. omega arith))
+    if-no _ _ (ne-eqb (29 + j) 0 (λ e. omega arith)) ∙ if-no _ _
+    (ne-eqb (29 + j) 1 (λ e. omega arith)) ∙ if-no _ _ (ne-eqb (29 + j) 2 (λ e. omega arith))
     ∙ if-no _ _ (le-ltb (29 + j) 29 (omega arith)) ∙ ap (listWord (map valueWord (x .variables))) a
 
 pub scheduler-active : (x : Scheduler) (j : ℕ) → j < 65 → schedulerWord x j ≡ listWord (x .active) j

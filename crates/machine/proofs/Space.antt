@@ -19,12 +19,12 @@ use Rattle.machine.specs.State.{State, Item, run, back, drop, Thread, Sc
 use Rattle.machine.specs.State.{noThread, noScheduler, nth, setNth, schedulerAt, threadAt}
 use Rattle.machine.specs.State.{withNew, enlist}
 use Rattle.machine.specs.Words.{bit}
-use Rattle.machine.specs.Waits.{isReady, threadOf, keepIf, readyThreads, stillWaiting}
+use Rattle.machine.specs.Waits.{isReady, entryThread, keepIf, readyThreads, stillWaiting}
 use Rattle.machine.specs.Fresh.{fresh}
-use Rattle.machine.specs.Evaluation.{Here, Evaluated, Evaluation, eval, storing}
-use Rattle.machine.specs.Turns.{Spaces, holds, stateSpaces, Stepped, Turn, here, variables}
-use Rattle.machine.specs.Turns.{behind, evaluator, goOn, withValue, withValues, byCondition}
-use Rattle.machine.specs.Turns.{selfAt, settled, behindFirst, isSchedulerOf, leave, room}
+use Rattle.machine.specs.Evaluation.{Here, EvalResult, Evaluation, eval, storing}
+use Rattle.machine.specs.Turns.{Spaces, holds, stateSpaces, StepResult, Turn, here, variables}
+use Rattle.machine.specs.Turns.{afterEval, evaluator, goOn, withValue, withValues, byCondition}
+use Rattle.machine.specs.Turns.{selfAt, settled, afterFirst, isSchedulerOf, leave, room}
 use Rattle.machine.specs.Turns.{unlinkedHere, stay, move, goTo}
 use Rattle.machine.specs.Steps.{isUnlinked, stepThreadWithin, turnInstant, endInstant, step}
 use Rattle.machine.specs.Steps.{stepWithin}
@@ -209,12 +209,12 @@ stay-counted u a x e =
     record { most = omega arith; count = omega arith }
 
 first-less : (x : Scheduler) → 1 ≤ length (x .active)
-    → suc (weight (record { active = behindFirst (x .active); next = x .next })) ≡ weight x
+    → suc (weight (record { active = afterFirst (x .active); next = x .next })) ≡ weight x
 unfolding weight
 first-less x h = go (x .active) h
   where
     go : (l : List ℕ) → 1 ≤ length l
-        → suc (length (behindFirst l) + length (x .next)) ≡ length l + length (x .next)
+        → suc (length (afterFirst l) + length (x .next)) ≡ length l + length (x .next)
     go [] h = absurd (omega arith)
     go (t ∷ l) h = omega arith
 
@@ -223,7 +223,8 @@ leave-total : (u : Turn) (s : State) → isSchedulerOf (u .program) (u .choice) 
     → suc (total (leave u s .schedulers)) ≡ total (s .schedulers)
 unfolding leave
 leave-total u s e h =
-    if-all (λ (r : State). suc (total (r .schedulers)) ≡ total (s .schedulers)) (isSchedulerOf (u .program) (u .choice)) _ s
+    if-all (λ (r : State). suc (total (r .schedulers)) ≡ total (s .schedulers))
+    (isSchedulerOf (u .program) (u .choice)) _ s
     (λ _. total-set-less (s .schedulers) (u .choice - 2) _ (first-less (schedulerAt s (u .choice)) h))
     (λ f. absurd (true≢false (sym e ∙ f)))
 
@@ -231,7 +232,8 @@ leave-total-same : (u : Turn) (s : State) → isSchedulerOf (u .program) (u .cho
     → total (leave u s .schedulers) ≡ total (s .schedulers)
 unfolding leave
 leave-total-same u s e =
-    if-all (λ (r : State). total (r .schedulers) ≡ total (s .schedulers)) (isSchedulerOf (u .program) (u .choice)) _ s
+    if-all (λ (r : State). total (r .schedulers) ≡ total (s .schedulers))
+    (isSchedulerOf (u .program) (u .choice)) _ s
     (λ f. absurd (true≢false (sym f ∙ e))) (λ _. refl)
 
 pub leave-threads : (u : Turn) (s : State) → leave u s .threads ≡ s .threads
@@ -330,35 +332,35 @@ wait-counted u a x q e f z y r =
 -- ---- each step keeps it: one law for each way in which a turn goes on, then each statement, item
 -- and choice
 
-abbrev Kept : Stepped → Type 0
+abbrev Kept : StepResult → Type 0
 Kept r = Counted (r .state)
 
-kept-if : (b : Bool) (x y : Stepped) → (b ≡ true → Kept x) → (b ≡ false → Kept y)
+kept-if : (b : Bool) (x y : StepResult) → (b ≡ true → Kept x) → (b ≡ false → Kept y)
     → Kept (if b then x else y)
 kept-if b x y f g = if-all Kept b x y f g
 
-kept-goOn : (u : Turn) (o : Outcome) (k : Value → Turn → Stepped) → Acting u
+kept-goOn : (u : Turn) (o : Outcome) (k : Value → Turn → StepResult) → Acting u
     → ((v : Value) → Kept (k v u)) → Kept (goOn u o k)
 kept-goOn u (Is v) k a g = g v
 kept-goOn u Foreign k a g = a .counted
 kept-goOn u Spent k a g = a .counted
 kept-goOn u Stuck k a g = a .counted
 
-kept-value : (u : Turn) (m : Here → Evaluation) (k : Value → Turn → Stepped) → Acting u
+kept-value : (u : Turn) (m : Here → Evaluation) (k : Value → Turn → StepResult) → Acting u
     → ((v : Value) (w : Turn) → Acting w → Kept (k v w)) → Kept (withValue u m k)
 kept-value u m k a g =
-    let r : Evaluated = m (evaluator u) (u .cells) in
-    let b : Acting (behind u r) = record { counted = a .counted; stands = a .stands; same = a .same; spaces = a .spaces } in
-    kept-goOn (behind u r) (r .outcome) k b (λ v. g v (behind u r) b)
+    let r : EvalResult = m (evaluator u) (u .cells) in
+    let b : Acting (afterEval u r) = record { counted = a .counted; stands = a .stands; same = a .same; spaces = a .spaces } in
+    kept-goOn (afterEval u r) (r .outcome) k b (λ v. g v (afterEval u r) b)
 
-kept-values : (u : Turn) (xs : List Expr) (k : List Value → Turn → Stepped) → Acting u
+kept-values : (u : Turn) (xs : List Expr) (k : List Value → Turn → StepResult) → Acting u
     → ((vs : List Value) (w : Turn) → Acting w → Kept (k vs w)) → Kept (withValues u xs k)
 unfolding withValues
 kept-values u [] k a g = g [] u a
 kept-values u (x ∷ xs) k a g =
     kept-value u (λ h. eval h x) _ a (λ v w j. kept-values w xs _ j (λ vs. g (v ∷ vs)))
 
-kept-by : (u : Turn) (v : Value) (a b : Stepped) → Acting u → Kept a → Kept b
+kept-by : (u : Turn) (v : Value) (a b : StepResult) → Acting u → Kept a → Kept b
     → Kept (byCondition u v a b)
 kept-by u (Truth true) a b h f g = f
 kept-by u (Truth false) a b h f g = g
@@ -386,7 +388,7 @@ kept-goTo : (u : Turn) (q : ℕ) (items : List Item) → Acting u → Kept (goTo
 unfolding goTo
 kept-goTo u q items a = kept-if _ _ _ (λ _. kept-stay u items _ a) (λ _. kept-move u q items a)
 
-kept-starting : (u : Turn) (m : ℕ) (vs : List Value) (r : Stepped) → Acting u
+kept-starting : (u : Turn) (m : ℕ) (vs : List Value) (r : StepResult) → Acting u
     → (unlinkedHere u ≡ false → length (u .state .threads) < 64 → Kept r) → Kept (starting u m vs r)
 unfolding starting
 kept-starting u m vs r a g =
@@ -446,7 +448,8 @@ parted ts [] = omega arith
 parted ts (e ∷ es) = go (isReady ts e) (parted ts es)
   where
     go : (b : Bool) → length (readyThreads ts es) + length (stillWaiting ts es) ≡ length es
-        → length (keepIf b (threadOf e) (readyThreads ts es)) + length (keepIf (not b) e (stillWaiting ts es))
+        → length (keepIf b (entryThread e) (readyThreads ts es)) + length
+        (keepIf (not b) e (stillWaiting ts es))
         ≡ suc (length es)
     go true h = omega arith
     go false h = omega arith

@@ -19,9 +19,9 @@ use Rattle.program.specs.Programs.{Program, moduleAt}
 use Rattle.machine.specs.State.{State, Item, run, back, drop, Thread, Entry, threadAt}
 use Rattle.machine.specs.State.{schedulerAt, setNth}
 use Rattle.machine.specs.Waits.{readyThreads, stillWaiting}
-use Rattle.machine.specs.Evaluation.{Here, Evaluated, Evaluation, eval, storing}
-use Rattle.machine.specs.Turns.{Spaces, Stepped, Turn, here, continuation, variables, refuse}
-use Rattle.machine.specs.Turns.{behind, evaluator, goOn, withValue, withValues, byCondition}
+use Rattle.machine.specs.Evaluation.{Here, EvalResult, Evaluation, eval, storing}
+use Rattle.machine.specs.Turns.{Spaces, StepResult, Turn, here, continuation, variables, refuse}
+use Rattle.machine.specs.Turns.{afterEval, evaluator, goOn, withValue, withValues, byCondition}
 use Rattle.machine.specs.Turns.{isSchedulerOf, room, fits, unlinkedHere, stay, move, goTo}
 use Rattle.machine.specs.Statements.{ends, drops, goesBack, stepNothing, stepSeq, stepDo}
 use Rattle.machine.specs.Statements.{started, starting, stepStart, startedWait, stepStartWait}
@@ -73,7 +73,7 @@ module _ (P : Program) where
 
   -- what r says of the turn of thread t, whose top item was i above l: refused, and the threads
   -- stay; or the rest lies under what the item leaves; or the thread pauses, the rest left
-  pub data Did (ts : List Thread) (t : ℕ) (i : Item) (l : List Item) (r : Stepped) : Type 0 where
+  pub data Did (ts : List Thread) (t : ℕ) (i : Item) (l : List Item) (r : StepResult) : Type 0 where
     refused : r .thread ≡ t → r .state .threads ≡ ts → (r .answer ≡ 0 → ⊥) → Did ts t i l r
     went : r .thread ≡ t → r .answer ≡ 0 → (top : List Item) (x : Thread) → Goes i top
         → x .continuation ≡ top ++ l → Become ts t x (r .state .threads) → Did ts t i l r
@@ -81,7 +81,7 @@ module _ (P : Program) where
         → x .continuation ≡ l → Become ts t x (r .state .threads) → Did ts t i l r
 
   -- what r says of a choice on s
-  pub data Chose (s : State) (r : Stepped) : Type 0 where
+  pub data Chose (s : State) (r : StepResult) : Type 0 where
     nobody-acts : r .thread ≡ 0 → r .state .threads ≡ s .threads → Chose s r
     takes : (t : ℕ) (i : Item) (l : List Item) → threadAt s t .continuation ≡ i ∷ l
         → Did (s .threads) t i l r → Chose s r
@@ -91,10 +91,10 @@ module _ (P : Program) where
 
   -- ---- each way in which a turn ends
 
-  abbrev DidIn : Turn → Item → Stepped → Type 0
+  abbrev DidIn : Turn → Item → StepResult → Type 0
   DidIn u i r = Did (u .state .threads) (u .thread) i (continuation u) r
 
-  -- behind any evaluations the turn is the same but for its cells and accesses
+  -- after any evaluations the turn is the same but for its cells and accesses
   record Same (u w : Turn) : Type 0 where
     pub state : w .state ≡ u .state
     pub thread : w .thread ≡ u .thread
@@ -104,8 +104,8 @@ module _ (P : Program) where
   same-self : (u : Turn) → Same u u
   same-self u = record { state = refl; thread = refl; self = refl; program = refl }
 
-  same-behind : {u w : Turn} (e : Evaluated) → Same u w → Same u (behind w e)
-  same-behind e s =
+  same-after : {u w : Turn} (e : EvalResult) → Same u w → Same u (afterEval w e)
+  same-after e s =
       record { state = s .state; thread = s .thread; self = s .self; program = s .program }
 
   did-refuse : (u w : Turn) (i : Item) (n : ℕ) → Same u w → (n ≡ 0 → ⊥) → DidIn u i (refuse w n)
@@ -140,33 +140,34 @@ module _ (P : Program) where
       if-all (DidIn u i) (eqb q (here u)) _ _
       (λ _. did-stay u i top (variables u) g) (λ _. did-move u i q top g)
 
-  -- ---- behind values
+  -- ---- after values
 
-  did-goOn : (u w : Turn) (i : Item) (o : Outcome) (k : Value → Turn → Stepped) → Same u w
+  did-goOn : (u w : Turn) (i : Item) (o : Outcome) (k : Value → Turn → StepResult) → Same u w
       → ((a : Value) → DidIn u i (k a w)) → DidIn u i (goOn w o k)
   did-goOn u w i (Is a) k s h = h a
   did-goOn u w i Foreign k s h = did-refuse u w i foreign s (λ e. omega (arith, e))
   did-goOn u w i Spent k s h = did-refuse u w i cellsSpent s (λ e. omega (arith, e))
   did-goOn u w i Stuck k s h = did-refuse u w i stuck s (λ e. omega (arith, e))
 
-  did-value : (u : Turn) (i : Item) (m : Here → Evaluation) (k : Value → Turn → Stepped)
-      → ((e : Evaluated) (a : Value) → DidIn u i (k a (behind u e))) → DidIn u i (withValue u m k)
+  did-value : (u : Turn) (i : Item) (m : Here → Evaluation) (k : Value → Turn → StepResult)
+      → ((e : EvalResult) (a : Value) → DidIn u i (k a (afterEval u e)))
+      → DidIn u i (withValue u m k)
   did-value u i m k h =
-      let r : Evaluated = m (evaluator u) (u .cells) in
-      did-goOn u (behind u r) i (r .outcome) k (same-behind r (same-self u)) (h r)
+      let r : EvalResult = m (evaluator u) (u .cells) in
+      did-goOn u (afterEval u r) i (r .outcome) k (same-after r (same-self u)) (h r)
 
-  did-values : (u w : Turn) (i : Item) (xs : List Expr) (k : List Value → Turn → Stepped)
+  did-values : (u w : Turn) (i : Item) (xs : List Expr) (k : List Value → Turn → StepResult)
       → Same u w → ((vs : List Value) (y : Turn) → Same u y → DidIn u i (k vs y))
       → DidIn u i (withValues w xs k)
   unfolding withValues
   did-values u w i [] k s h = h [] w s
   did-values u w i (x ∷ xs) k s h =
-      let e : Evaluated = eval (evaluator w) x (w .cells) in
-      let t = same-behind e s in
-      did-goOn u (behind w e) i (e .outcome) _ t
-      (λ a. did-values u (behind w e) i xs _ t (λ vs y q. h (a ∷ vs) y q))
+      let e : EvalResult = eval (evaluator w) x (w .cells) in
+      let t = same-after e s in
+      did-goOn u (afterEval w e) i (e .outcome) _ t
+      (λ a. did-values u (afterEval w e) i xs _ t (λ vs y q. h (a ∷ vs) y q))
 
-  did-by : (u : Turn) (i : Item) (w : Value) (a b : Stepped) → DidIn u i a → DidIn u i b
+  did-by : (u : Turn) (i : Item) (w : Value) (a b : StepResult) → DidIn u i a → DidIn u i b
       → DidIn u i (byCondition u w a b)
   did-by u i (Truth true) a b f g = f
   did-by u i (Truth false) a b f g = g
@@ -175,7 +176,7 @@ module _ (P : Program) where
 
   -- ---- a start: the acting thread as it is, and one more
 
-  did-starting : (u w : Turn) (i : Item) (m : ℕ) (vs : List Value) (r : Stepped) → Same u w
+  did-starting : (u w : Turn) (i : Item) (m : ℕ) (vs : List Value) (r : StepResult) → Same u w
       → w .program ≡ P → (m < length (P .modules) → DidIn u i r) → DidIn u i (starting w m vs r)
   unfolding starting
   did-starting u w i m vs r s p h =
@@ -252,19 +253,19 @@ module _ (P : Program) where
       (λ _. did-stuck u _))
   did-statement u (letIn i x a) p =
       did-value u _ (λ e. eval e x) _
-      (λ e w. did-stay (behind u e) _ (run a ∷ drop ∷ []) _ g-let)
+      (λ e w. did-stay (afterEval u e) _ (run a ∷ drop ∷ []) _ g-let)
   did-statement u (store i x y) p =
-      did-value u _ (λ e. storing e x y) _ (λ e w. did-stay (behind u e) _ [] _ g-store)
+      did-value u _ (λ e. storing e x y) _ (λ e w. did-stay (afterEval u e) _ [] _ g-store)
   did-statement u (ifElse i x a b) p =
       did-value u _ (λ e. eval e x) _
-      (λ e w. did-by (behind u e) _ w _ _
-      (did-stay (behind u e) _ (run a ∷ []) _ g-then)
-      (did-stay (behind u e) _ (run b ∷ []) _ g-else))
+      (λ e w. did-by (afterEval u e) _ w _ _
+      (did-stay (afterEval u e) _ (run a ∷ []) _ g-then)
+      (did-stay (afterEval u e) _ (run b ∷ []) _ g-else))
   did-statement u (while i x a) p =
       did-value u _ (λ e. eval e x) _
-      (λ e w. did-by (behind u e) _ w _ _
-      (did-stay (behind u e) _ (run a ∷ run (while i x a) ∷ []) _ g-again)
-      (did-stay (behind u e) _ [] _ g-out))
+      (λ e w. did-by (afterEval u e) _ w _ _
+      (did-stay (afterEval u e) _ (run a ∷ run (while i x a) ∷ []) _ g-again)
+      (did-stay (afterEval u e) _ [] _ g-out))
 
   -- ---- each choice, in a state of the spaces z
 

@@ -41,7 +41,8 @@ new-other cs x c n = go (ltb c (length cs)) refl
     go true e = List·getD-append cs (x ∷ []) noCell c (ltb-true c (length cs) e)
     go false e =
         let l = ltb-false c (length cs) e in let k = length-append cs (x ∷ []) in
-        List·getD-eq-default (cs ++ (x ∷ [])) noCell {n = c} (omega (arith, n, k, l)) ∙ sym (List·getD-eq-default cs noCell {n = c} l)
+        List·getD-eq-default (cs ++ (x ∷ [])) noCell {n = c} (omega (arith, n, k, l))
+        ∙ sym (List·getD-eq-default cs noCell {n = c} l)
 
 pub new-used : (cs : List Stored) (x : Stored) → isUsed (withNewCell cs x) (freeNumber cs) ≡ true
 new-used cs x =

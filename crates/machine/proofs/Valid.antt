@@ -117,7 +117,8 @@ module _ (test : ℕ → Bool) (w : List ℕ) (i most : ℕ) (s : Space test w i
     where
       go : (b : Bool) → ltb j (getD w i 0) ≡ b → getD w (i + suc j) 0 ≡ getD (wordsAt w i) j 0
       go true e = let a : i + suc j ≡ suc i + j = omega arith in
-          ap (λ (k : ℕ). getD w k 0) a ∙ sym (tab-from (getD w i 0) (λ k. getD w k 0) (suc i) j 0 (ltb-true j (getD w i 0) e))
+          ap (λ (k : ℕ). getD w k 0) a
+          ∙ sym (tab-from (getD w i 0) (λ k. getD w k 0) (suc i) j 0 (ltb-true j (getD w i 0) e))
       go false e = let l : getD w i 0 ≤ j = ltb-false j (getD w i 0) e in
           s .unused j l (omega arith) ∙ sym (List·getD-eq-default (wordsAt w i) 0 {n = j} (rw (tab-length (getD w i 0) (λ k. getD w k 0) (suc i)) l))
 
@@ -129,14 +130,16 @@ thread-cases : (x : Thread) (v : ℕ → ℕ) → v 0 ≡ x .place → v 1 ≡ x
     → ((j : ℕ) → j < 26 → v (29 + j) ≡ listWord (map valueWord (x .variables)) j)
     → (j : ℕ) → j < 55 → v j ≡ threadWord x j
 thread-cases x v a b c d e =
-    by-thread-word (λ (j : ℕ). v j ≡ threadWord x j) (a ∙ sym (thread-0 x)) (b ∙ sym (thread-1 x)) (c ∙ sym (thread-2 x))
+    by-thread-word (λ (j : ℕ). v j ≡ threadWord x j) (a ∙ sym (thread-0 x)) (b ∙ sym (thread-1 x))
+    (c ∙ sym (thread-2 x))
     (λ j g. d j g ∙ sym (thread-continuation x j g)) (λ j g. e j g ∙ sym (thread-variables x j g))
 
 scheduler-cases : (x : Scheduler) (v : ℕ → ℕ) → ((j : ℕ) → j < 65 → v j ≡ listWord (x .active) j)
     → ((j : ℕ) → j < 65 → v (65 + j) ≡ listWord (map entryWord (x .next)) j)
     → (j : ℕ) → j < 130 → v j ≡ schedulerWord x j
 scheduler-cases x v a b =
-    by-scheduler-word (λ (j : ℕ). v j ≡ schedulerWord x j) (λ j g. a j g ∙ sym (scheduler-active x j g)) (λ j g. b j g ∙ sym (scheduler-next x j g))
+    by-scheduler-word (λ (j : ℕ). v j ≡ schedulerWord x j)
+    (λ j g. a j g ∙ sym (scheduler-active x j g)) (λ j g. b j g ∙ sym (scheduler-next x j g))
 
 nil-word : (j : ℕ) → 0 ≡ listWord [] j
 nil-word zero = refl
@@ -194,7 +197,8 @@ module _ (fs : List Frame) (n : ℕ) (w : List ℕ) (h : InRange fs n w) where
       → getD w (1042 + 55 * k + j) 0 ≡ threadWord (threadFrom fs w k) j
   unfolding threadFrom
   thread-there k j a g = thread-cases (threadFrom fs w k) (λ i. getD w (1042 + 55 * k + i) 0)
-      (ap (λ (m : ℕ). getD w m 0) (add-zero (1042 + 55 * k))) refl (bit-there (getD w (1042 + 55 * k + 2) 0) (lives-word k a))
+      (ap (λ (m : ℕ). getD w m 0) (add-zero (1042 + 55 * k))) refl
+      (bit-there (getD w (1042 + 55 * k + 2) 0) (lives-word k a))
       (λ i q. let z : 1042 + 55 * k + (3 + i) ≡ 1042 + 55 * k + 3 + i = omega arith in
       ap (λ (m : ℕ). getD w m 0) z ∙ list-says (itemInRange fs n) w (1042 + 55 * k + 3) 25 (items-space k a) i (omega arith) ∙ ap (λ (l : List ℕ). listWord l i) (sym continuation))
       (λ i q. let z : 1042 + 55 * k + (29 + i) ≡ 1042 + 55 * k + 29 + i = omega arith in

@@ -79,9 +79,9 @@ module _ (d : List ℕ) (at : ℕ) (s : List ℕ) (n : ℕ) (hd : at + n ≤ len
       ∙ List·getD-append (take at d) (take n s) 0 i (rw (length-take-le at d (omega arith)) h)
       ∙ getD-take at d i 0 h
 
-  behind : (m : ℕ) → getD (pasted d at s n) (at + n + m) 0 ≡ getD d (at + n + m) 0
+  beyond : (m : ℕ) → getD (pasted d at s n) (at + n + m) 0 ≡ getD d (at + n + m) 0
   unfolding pasted
-  behind m =
+  beyond m =
       ap (λ (k : ℕ). getD (take at d ++ take n s ++ drop (at + n) d) (k + m) 0) (sym head)
       ∙ getD-append-add (take at d ++ take n s) (drop (at + n) d) m 0 ∙ getD-drop (at + n) d m 0
 
@@ -93,7 +93,8 @@ module _ (d : List ℕ) (at : ℕ) (s : List ℕ) (n : ℕ) (hd : at + n ≤ len
       go false e =
           let g : at ≤ i = ltb-false i at e in
           let k : i ≡ at + n + (i - (at + n)) = over (ltb i (at + n)) refl g in
-          ap (λ (m : ℕ). getD (pasted d at s n) m 0) k ∙ behind (i - (at + n)) ∙ ap (λ (m : ℕ). getD d m 0) (sym k)
+          ap (λ (m : ℕ). getD (pasted d at s n) m 0) k ∙ beyond (i - (at + n))
+          ∙ ap (λ (m : ℕ). getD d m 0) (sym k)
         where
           over : (b : Bool) → ltb i (at + n) ≡ b → at ≤ i → i ≡ at + n + (i - (at + n))
           over true q g = absurd (h g (ltb-true i (at + n) q))
@@ -125,7 +126,8 @@ word-scheduler s k j h g =
     let i : ℕ = 2 + 130 * k + j in
     let a : 2 + (i - 2) / 130 - 2 ≡ k = omega arith in
     let b : (i - 2) % 130 ≡ j = omega arith in
-    pack-at s i (omega arith) ∙ if-no _ _ (ne-eqb i 0 (λ e. omega arith)) ∙ if-no _ _ (ne-eqb i 1 (λ e. omega arith))
+    pack-at s i (omega arith) ∙ if-no _ _ (ne-eqb i 0 (λ e. omega arith))
+    ∙ if-no _ _ (ne-eqb i 1 (λ e. omega arith))
     ∙ if-yes _ _ (lt-ltb i 1042 (omega arith))
     ∙ ap₂ (λ (x y : ℕ). schedulerWord (getD (s .schedulers) x noScheduler) y) a b
 
@@ -136,7 +138,8 @@ word-thread s k j h g =
     let i : ℕ = 1042 + 55 * k + j in
     let a : (i - 1042) / 55 ≡ k = omega arith in
     let b : (i - 1042) % 55 ≡ j = omega arith in
-    pack-at s i (omega arith) ∙ if-no _ _ (ne-eqb i 0 (λ e. omega arith)) ∙ if-no _ _ (ne-eqb i 1 (λ e. omega arith))
+    pack-at s i (omega arith) ∙ if-no _ _ (ne-eqb i 0 (λ e. omega arith))
+    ∙ if-no _ _ (ne-eqb i 1 (λ e. omega arith))
     ∙ if-no _ _ (le-ltb i 1042 (omega arith)) ∙ if-yes _ _ (lt-ltb i 4562 (omega arith))
     ∙ ap₂ (λ (x y : ℕ). threadWord (getD (s .threads) x noThread) y) a b
 
@@ -146,7 +149,8 @@ unfolding wordOf
 word-cell s j g =
     let i : ℕ = 4562 + j in
     let a : i - 4562 ≡ j = omega arith in
-    pack-at s i (omega arith) ∙ if-no _ _ (ne-eqb i 0 (λ e. omega arith)) ∙ if-no _ _ (ne-eqb i 1 (λ e. omega arith))
+    pack-at s i (omega arith) ∙ if-no _ _ (ne-eqb i 0 (λ e. omega arith))
+    ∙ if-no _ _ (ne-eqb i 1 (λ e. omega arith))
     ∙ if-no _ _ (le-ltb i 1042 (omega arith)) ∙ if-no _ _ (le-ltb i 4562 (omega arith))
     ∙ ap (λ (x : ℕ). cellWord (getD (s .cells) x noCell)) a
 

@@ -1,45 +1,48 @@
--- What the calls of the stepper give on the words that a caller lends. Assumes nothing: definitions.
-use mathlib.Core.Bool.{true, false}
-use mathlib.Core.List.{List, [], _∷_}
-use Prim.Native.Nat.{ℕ}
-use lib.Dec.{eqb}
-use lib.ListN.{length}
-use Rattle.language.specs.declared.frame.Frame.{Frame}
-use Rattle.language.specs.Refusals.{wrongState}
+-- What the calls of the stepper give on the words that a caller lends.
+use Rattle.basics.specs.Prelude.{List, [], _∷_, true, false, ℕ, _≤_, eqb, length, _≡_}
+use Rattle.language.specs.{declared.frame.Frame.Frame, Refusals.wrongState, Limits.mostSchedulers}
 use Rattle.program.specs.Programs.{programOf}
-use Rattle.machine.specs.Offsets.{stateLength}
-use Rattle.machine.specs.Turns.{Stepped}
-use Rattle.machine.specs.Fresh.{fresh}
-use Rattle.machine.specs.Steps.{step}
-use Rattle.machine.specs.Words.{pack, unpack}
-use Rattle.machine.specs.inner.Ranges.{inRange}
+use Rattle.machine.specs.{Offsets.stateLength, Turns.StepResult, Fresh.fresh, Steps.step}
+use Rattle.machine.specs.{Words.pack, Words.unpack, inner.Ranges.inRange, Shapes.StateWords}
 
--- the answer, the acting thread (0: none), and the words behind the call
-pub record Called : Type 0 where
+-- what 14 means: the test says whether words are those of a state in shape (proofs/InShape)
+abbrev pub InRangeComputes : Type 0
+InRangeComputes =
+    (fs : List Frame) (n : ℕ) → n ≤ mostSchedulers → (w : List ℕ)
+    → (inRange fs n w ≡ true → StateWords fs n w)
+    × (StateWords fs n w → inRange fs n w ≡ true)
+
+-- the answer, the acting thread (0: none), and the words after the call
+pub record CallResult : Type 0 where
   pub answer : ℕ
   pub thread : ℕ
   pub words : List ℕ
 
--- a refusal: 'No buffer changes.'
-abbrev pub unchanged : ℕ → ℕ → List ℕ → Called
-unchanged n t w = record { answer = n; thread = t; words = w }
+abbrev pub callResult : ℕ → ℕ → List ℕ → CallResult
+callResult n t w = record { answer = n; thread = t; words = w }
 
--- the fresh state; 14 is 'a lent buffer of the wrong length', whatever its words
-unfoldable pub freshCall : List Frame → List ℕ → Called
-freshCall fs w = elim (eqb (length w) stateLength) [ true ↦ record { answer = 0; thread = 0; words = pack (fresh (programOf fs)) } | false ↦ unchanged wrongState 0 w ]
+-- the fresh state; 14 is 'a lent buffer of the wrong length' ('No buffer changes.')
+unfoldable pub freshCall : List Frame → List ℕ → CallResult
+freshCall fs w =
+    elim (eqb (length w) stateLength)
+    [ true ↦ callResult 0 0 (pack (fresh (programOf fs))) | false ↦ callResult wrongState 0 w ]
 
 -- what a choice gives on words w: the words of its state, or, where it is refused, the same
-abbrev pub calledOf : List ℕ → Stepped → Called
-calledOf w r = record { answer = r .answer; thread = r .thread; words = elim (eqb (r .answer) 0) [ true ↦ pack (r .state) | false ↦ w ] }
+abbrev pub asCall : List ℕ → StepResult → CallResult
+asCall w r =
+    callResult (r .answer) (r .thread)
+    (elim (eqb (r .answer) 0) [ true ↦ pack (r .state) | false ↦ w ])
 
 -- 'after 1 to 7, in number order': 14, then 15, 16 and the run's own
-unfoldable pub stepCall : List Frame → List ℕ → ℕ → Called
+unfoldable pub stepCall : List Frame → List ℕ → ℕ → CallResult
 stepCall fs w c =
     let p = programOf fs in
-    elim (inRange fs (p .schedulers) w) [ true ↦ calledOf w (step p (unpack fs (p .schedulers) w) c) | false ↦ unchanged wrongState 0 w ]
+    let n = p .schedulers in
+    elim (inRange fs n w)
+    [ true ↦ asCall w (step p (unpack fs n w) c) | false ↦ callResult wrongState 0 w ]
 
 -- one call after the other, each on the words that the one before left
-unfoldable pub callsFrom : List Frame → List ℕ → List ℕ → List Called
+unfoldable pub callsFrom : List Frame → List ℕ → List ℕ → List CallResult
 callsFrom fs w [] = []
 callsFrom fs w (c ∷ cs) = let r = stepCall fs w c in r ∷ callsFrom fs (r .words) cs
 

@@ -1,50 +1,45 @@
--- Evaluation. 'Expressions run inside one step, A, B, C in order, unchosen ones not at all.' Assumes nothing: definitions.
-use mathlib.Core.List.{List, [], _∷_, _++_}
-use mathlib.Core.Bool.{Bool, true, false, _||_, _&&_}
-use Prim.Native.Nat.{ℕ, _+_, _%_, _^_}
-use lib.Dec.{ltb, leb, eqb}
-use lib.ListN.{length, getD, set}
-use Rattle.basics.specs.If.{if_then_else_}
-use Rattle.language.specs.Places.{private, home}
-use Rattle.language.specs.Limits.{mostCells}
-use Rattle.program.specs.Trees.{Expr, number, truth, variable, shared, new, content, sum, less, choose}
+-- Evaluation. 'Expressions run inside one step, A, B, C in order, unchosen ones not at all.'
+use Rattle.basics.specs.Prelude.{List, [], _∷_, _++_, Bool, true, false, _&&_, _||_, ℕ, _+_, _%_}
+use Rattle.basics.specs.Prelude.{_^_, ltb, leb, eqb, length, getD, set, if_then_else_}
+use Rattle.language.specs.{Places.private, Places.home, Limits.mostCells}
+use Rattle.program.specs.Trees.{Expr, number, truth, variable, shared, new, content, sum, less}
+use Rattle.program.specs.Trees.{choose}
 use Rattle.machine.specs.Accesses.{Access}
-use Rattle.machine.specs.Values.{truthOf}
-use Rattle.machine.specs.State.{Stored, cellAt, isUsed, freeNumber, usedCells, withNewCell, threadOwner}
-use Rattle.machine.specs.declared.value.Value.{Value}
-use Rattle.machine.specs.declared.value.Value.the-variants.{Number, Truth, Cell}
-use Rattle.machine.specs.declared.value.Outcome.{Outcome}
-use Rattle.machine.specs.declared.value.Outcome.the-variants.{Is, Foreign, Spent, Stuck}
+use Rattle.machine.specs.Values.{truthOf, Value, Number, Truth, Cell, Outcome, Is, Foreign}
+use Rattle.machine.specs.Values.{Spent, Stuck}
+use Rattle.machine.specs.State.{Stored, cellAt, isUsed, freeNumber, usedCells, withNewCell}
+use Rattle.machine.specs.State.{threadOwner}
 
 infixl 10 _>>=_
--- who evaluates: the acting thread, the place it stands on, its variables; and how many cells are shared
+-- who evaluates: the acting thread, its place, its variables; and how many cells are shared
 pub record Here : Type 0 where
   pub thread : ℕ
   pub place : ℕ
   pub variables : List Value
   pub shared : ℕ
 
--- what it gives: a value or a refusal, the cells then, and the accesses made, 'those before a refusal too'
-pub record Evaluated : Type 0 where
+-- what it gives: a value or a refusal, the cells then, the accesses, 'those before a refusal too'
+pub record EvalResult : Type 0 where
   pub outcome : Outcome
   pub cells : List Stored
   pub accesses : List Access
 
 -- an evaluation is done on the cells that there are
 abbrev pub Evaluation : Type 0
-Evaluation = List Stored → Evaluated
+Evaluation = List Stored → EvalResult
 
 -- a value or a refusal, with no access
 abbrev pub gives : Outcome → Evaluation
 gives o cs = record { outcome = o; cells = cs; accesses = [] }
 
 -- r after those accesses
-abbrev pub after : List Access → Evaluated → Evaluated
-after before r = record { outcome = r .outcome; cells = r .cells; accesses = before ++ r .accesses }
+abbrev pub withAccesses : List Access → EvalResult → EvalResult
+withAccesses before r =
+    record { outcome = r .outcome; cells = r .cells; accesses = before ++ r .accesses }
 
 -- one after the other: the second takes the value of the first, or the first's refusal stands
-abbrev pub andThen : (Value → Evaluation) → Evaluated → Outcome → Evaluated
-andThen k r (Is v) = after (r .accesses) (k v (r .cells))
+abbrev pub andThen : (Value → Evaluation) → EvalResult → Outcome → EvalResult
+andThen k r (Is v) = withAccesses (r .accesses) (k v (r .cells))
 andThen k r Foreign = r
 andThen k r Spent = r
 andThen k r Stuck = r
@@ -52,7 +47,7 @@ andThen k r Stuck = r
 abbrev pub _>>=_ : Evaluation → (Value → Evaluation) → Evaluation
 _>>=_ m k = λ cs. let r = m cs in andThen k r (r .outcome)
 
--- ---- the cells. Rules read and change them by `load`, `store` and `allocate` alone, and each of these logs the access that it makes
+-- ---- the cells: read and changed by `load`, `store`, `allocate` alone, which log each access
 
 -- not foreign: 'owned .. by the acting thread' or 'by the scheduler on which it stands'
 unfoldable pub isOwn : Here → ℕ → Bool
@@ -61,9 +56,10 @@ isOwn h o = eqb o (threadOwner (h .thread)) || leb home (h .place) && eqb o (h .
 abbrev pub accessOf : Here → ℕ → ℕ → Access
 accessOf h c o = record { cell = c; owner = o; thread = h .thread; place = h .place }
 
--- an access to cell c of owner o, and then r; foreign where the cell is another's. The foreign access is in the list too
+-- an access to cell c of owner o, then r; foreign (and in the list too) where it is another's
 unfoldable pub accessing : Here → ℕ → ℕ → Evaluation → Evaluation
-accessing h c o r = λ cs. after (accessOf h c o ∷ []) (if isOwn h o then r cs else gives Foreign cs)
+accessing h c o r = λ cs.
+    withAccesses (accessOf h c o ∷ []) (if isOwn h o then r cs else gives Foreign cs)
 
 -- at cell c, if it is there, an access and then r: 20 before 19
 unfoldable pub atCell : Here → ℕ → Evaluation → Evaluation
@@ -75,7 +71,9 @@ load h c = atCell h c (λ cs. gives (Is (cellAt cs c .content)) cs)
 
 -- v in cell c: 'the cell takes any value' and keeps its owner
 abbrev pub putIn : ℕ → Value → Evaluation
-putIn c v = λ cs. record { outcome = Is v; cells = set cs c (record { owner = cellAt cs c .owner; content = v }); accesses = [] }
+putIn c v = λ cs.
+    let x : Stored = record { owner = cellAt cs c .owner; content = v } in
+    record { outcome = Is v; cells = set cs c x; accesses = [] }
 
 abbrev pub store : Here → ℕ → Value → Evaluation
 store h c v = atCell h c (putIn c v)
@@ -84,18 +82,20 @@ store h c v = atCell h c (putIn c v)
 unfoldable pub addCell : ℕ → Value → Evaluation
 addCell o v = λ cs.
     if ltb (usedCells cs) mostCells
-    then record { outcome = Is (Cell (freeNumber cs)); cells = withNewCell cs (record { owner = o; content = v }); accesses = [] }
+    then gives (Is (Cell (freeNumber cs))) (withNewCell cs (record { owner = o; content = v }))
     else gives Spent cs
 
 -- a creation is an access: 19 before 17
 abbrev pub allocate : Here → ℕ → Value → Evaluation
 allocate h o v = λ cs. accessing h (freeNumber cs) o (addCell o v) cs
 
--- ---- one definition for each kind, behind its operands
+-- ---- one definition for each kind, after its operands
 
 -- 22: 'a missing variable' is 20
 unfoldable pub readVariable : Here → ℕ → Evaluation
-readVariable h s = if ltb s (length (h .variables)) then gives (Is (getD (h .variables) s (Number 0))) else gives Stuck
+readVariable h s =
+    let vs = h .variables in
+    if ltb s (length vs) then gives (Is (getD vs s (Number 0))) else gives Stuck
 
 -- 23: a missing shared cell is 20, also where a made cell has that number
 unfoldable pub sharedCell : Here → ℕ → Evaluation

@@ -1,8 +1,5 @@
--- The fresh state of a program. Assumes nothing: definitions.
-use mathlib.Core.List.{[], _∷_, map}
-use mathlib.Core.Bool.{false}
-use Prim.Native.Nat.{_-_}
-use lib.ListN.{replicate}
+-- The fresh state of a program.
+use Rattle.basics.specs.Prelude.{[], _∷_, map, false, _-_, replicate}
 use Rattle.language.specs.Places.{home}
 use Rattle.program.specs.Programs.{Program, SharedCell, mainOf}
 use Rattle.machine.specs.Values.{firstContent}
@@ -14,11 +11,18 @@ firstCell x = record { owner = x .owner; content = firstContent (x .content) (x 
 
 -- '`main` active at 2, its pile holding its body'; '`main` is 1'
 abbrev pub mainThread : Program → Thread
-mainThread p = record { place = home; continuation = run (mainOf p .body) ∷ []; variables = []; starter = 0; ended = false }
+mainThread p =
+    let items = run (mainOf p .body) ∷ [] in
+    record { place = home; continuation = items; variables = []; starter = 0; ended = false }
 
 abbrev pub homeScheduler : Scheduler
 homeScheduler = record { active = 1 ∷ []; next = [] }
 
 unfoldable pub fresh : Program → State
 fresh p =
-    record { threads = mainThread p ∷ []; schedulers = homeScheduler ∷ replicate (p .schedulers - 1) noScheduler; cells = map firstCell (p .shared) }
+    let others = replicate (p .schedulers - 1) noScheduler in
+    record {
+      threads = mainThread p ∷ [];
+      schedulers = homeScheduler ∷ others;
+      cells = map firstCell (p .shared);
+    }

@@ -11,6 +11,5 @@ pub mod Steps
 pub mod Runs
 pub mod Words
 pub mod Shapes
-pub mod Validity
 pub mod Calls
 pub mod inner

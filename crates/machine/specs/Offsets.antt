@@ -1,5 +1,6 @@
--- Where each part of a state lies in the words that a caller lends, and how parts are told apart in a word: each number of the layout is named here once. Assumes nothing: definitions.
-use Prim.Native.Nat.{ℕ, _*_, _^_}
+-- Where each part of a state lies in the words that a caller lends, and how parts are told apart in
+-- a word: each number of the layout is named here once.
+use Rattle.basics.specs.Prelude.{ℕ, _*_, _^_}
 
 -- all words; the count of threads and of cells in use
 abbrev pub stateLength : ℕ
@@ -24,7 +25,8 @@ listLength = 65
 abbrev pub nextListAt : ℕ
 nextListAt = 67
 
--- 64 threads: the place, the starter, 1 while it lives; the continuation from the bottom, 1 + 25 words; the variables, 1 + 25
+-- 64 threads: the place, the starter, 1 while it lives; the continuation from the bottom, 1 + 25
+-- words; the variables, 1 + 25
 abbrev pub threadsAt : ℕ
 threadsAt = 1042
 
@@ -57,7 +59,7 @@ backFrom = 1024
 abbrev pub dropWord : ℕ
 dropWord = 2048
 
--- an entry of a next list: a thread is itself; one that waits for thread u has this many times u added
+-- an entry of a next list: a thread; one that waits for thread u has this many times u added
 abbrev pub waitingFactor : ℕ
 waitingFactor = 128
 
@@ -68,7 +70,7 @@ truthFrom = 2 ^ 32
 abbrev pub cellFrom : ℕ
 cellFrom = 2 * 2 ^ 32
 
--- a cell: this many times the owner, and the content; the owner of a private cell is this and its thread
+-- a cell: this many times the owner, and the content; a private cell's owner is this and its thread
 abbrev pub ownerFactor : ℕ
 ownerFactor = 2 ^ 34
 

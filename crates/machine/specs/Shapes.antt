@@ -1,25 +1,21 @@
--- A state in shape: each list within its space, each number of it in its range. 14 is answered for words
--- that are those of no such state: 'a state with a word out of range (a place, frame or party that the
--- file lacks, a pile frame that is no statement, a thread over 64, a cell over 255, a list or pile longer
--- than its space; ..)'. Assumes nothing: definitions.
-use Prim.Native.Nat.{ℕ, _<_, _≤_}
-use mathlib.Core.Path.{_≡_}
-use mathlib.Core.List.{List}
-use mathlib.Core.Bool.{Bool, true, false, _&&_, _||_}
-use lib.Dec.{leb}
-use lib.ListN.{getD, length}
-use Rattle.basics.specs.Members.{All}
+-- A state in shape: each list within its space, each number of it in its range. 14 is answered for
+-- words that are those of no such state: 'a state with a word out of range (a place, frame or party
+-- that the file lacks, a pile frame that is no statement, a thread over 64, a cell over 255, a list
+-- or pile longer than its space; ..)'.
+use Rattle.basics.specs.Prelude.{List, Bool, true, false, _&&_, _||_, ℕ, _≤_, _<_, leb, length}
+use Rattle.basics.specs.Prelude.{getD, _≡_, All}
 use Rattle.language.specs.Places.{hasPlace, hasScheduler}
 use Rattle.language.specs.declared.kind.Kind.{Kind}
-use Rattle.language.specs.declared.kind.Kind.the-variants.{Header, Declared, Module, Statement, Expression, Unknown}
+use Rattle.language.specs.declared.kind.Kind.the-variants.{Header, Declared, Module, Statement}
+use Rattle.language.specs.declared.kind.Kind.the-variants.{Expression, Unknown}
 use Rattle.language.specs.declared.frame.Frame.{Frame}
 use Rattle.language.specs.Limits.{mostSchedulers, mostVariables, mostThreads, mostCells, mostItems}
 use Rattle.program.specs.Trees.{Stmt, statementAt, frameAt, rootS}
-use Rattle.machine.specs.Offsets.{backFrom, truthFrom}
-use Rattle.machine.specs.State.{State, Stored, Item, run, back, drop, Thread, Entry, plain, waiting, Scheduler, noThread, noScheduler, noCell, threadOwner}
-use Rattle.machine.specs.Words.{pack}
-use Rattle.machine.specs.declared.value.Value.{Value}
-use Rattle.machine.specs.declared.value.Value.the-variants.{Number, Truth, Cell}
+use Rattle.machine.specs.{Offsets.backFrom, Offsets.truthFrom, State.State, State.Stored}
+use Rattle.machine.specs.{State.Item, State.run, State.back, State.drop, State.Thread}
+use Rattle.machine.specs.{State.Entry, State.plain, State.waiting, State.Scheduler}
+use Rattle.machine.specs.{State.noThread, State.noScheduler, State.noCell, State.threadOwner}
+use Rattle.machine.specs.{Words.pack, Values.Value, Values.Number, Values.Truth, Values.Cell}
 
 -- ---- single parts, in a file of those frames and n schedulers
 
@@ -43,7 +39,8 @@ pub data ValueFits : Value → Type 0 where
 
 -- a statement of the file, the one at its frame; a back to a place of the file; a drop
 pub data ItemFits (fs : List Frame) (n : ℕ) : Item → Type 0 where
-  run-fits : {x : Stmt} → rootS x < backFrom → isStatement (frameAt fs (rootS x) .kind) ≡ true → statementAt fs (rootS x) ≡ x → ItemFits fs n (run x)
+  run-fits : {x : Stmt} → rootS x < backFrom → isStatement (frameAt fs (rootS x) .kind) ≡ true
+      → statementAt fs (rootS x) ≡ x → ItemFits fs n (run x)
   back-fits : {q : ℕ} → q < backFrom → hasPlace n q ≡ true → ItemFits fs n (back q)
   drop-fits : ItemFits fs n drop
 
@@ -81,7 +78,8 @@ pub record Shaped (fs : List Frame) (n : ℕ) (s : State) : Type 0 where
   pub cells-room : length (s .cells) ≤ mostCells
   pub count : length (s .schedulers) ≡ n
   pub threads : (k : ℕ) → k < length (s .threads) → ThreadFits fs n (getD (s .threads) k noThread)
-  pub schedulers : (k : ℕ) → k < length (s .schedulers) → SchedulerFits (getD (s .schedulers) k noScheduler)
+  pub schedulers : (k : ℕ) → k < length (s .schedulers)
+      → SchedulerFits (getD (s .schedulers) k noScheduler)
   pub cells : (k : ℕ) → k < length (s .cells) → CellFits n (getD (s .cells) k noCell)
 
 -- the words are those of a state in shape

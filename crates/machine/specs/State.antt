@@ -1,14 +1,9 @@
--- The state that the stepper keeps: threads, schedulers, cells. Each list holds those that there are. Assumes nothing: definitions.
-use mathlib.Core.List.{List, [], _∷_, _++_}
-use mathlib.Core.Bool.{Bool, true}
-use Prim.Native.Nat.{ℕ, zero, suc, _+_, _-_}
-use lib.Dec.{ltb}
-use lib.ListN.{length, getD, set}
+-- The state that the stepper keeps: the threads, schedulers and cells that there are.
+use Rattle.basics.specs.Prelude.{List, [], _∷_, _++_, Bool, true, ℕ, zero, suc, _+_, _-_, ltb}
+use Rattle.basics.specs.Prelude.{length, getD, set}
 use Rattle.language.specs.Places.{home}
 use Rattle.program.specs.Trees.{Stmt}
-use Rattle.machine.specs.Offsets.{threadOwnerFrom}
-use Rattle.machine.specs.declared.value.Value.{Value}
-use Rattle.machine.specs.declared.value.Value.the-variants.{Number}
+use Rattle.machine.specs.{Offsets.threadOwnerFrom, Values.Value, Values.Number}
 
 -- a cell in use: its owner, a scheduler or 16+t, and what it holds
 pub record Stored : Type 0 where
@@ -19,13 +14,15 @@ pub record Stored : Type 0 where
 abbrev pub threadOwner : ℕ → ℕ
 threadOwner t = threadOwnerFrom + t
 
--- an item of a continuation: a statement to run; 'back to here', with the place; 'a drop of the variable', the last one
+-- an item of a continuation: a statement to run; 'back to here', with the place; 'a drop of the
+-- variable', the last one
 pub data Item : Type 0 where
   run : Stmt → Item
   back : ℕ → Item
   drop : Item
 
--- a thread: where it stands (1: unlinked), its continuation (01: pile) from the top, its variables from the first, the thread that started it (0: none, it is `main`), and whether it has ended
+-- a thread: where it stands (1: unlinked), its continuation (01: pile) from the top, its variables
+-- from the first, the thread that started it (0: none, it is `main`), and whether it has ended
 pub record Thread : Type 0 where
   pub place : ℕ
   pub continuation : List Item
@@ -78,7 +75,7 @@ schedulerAt s q = getD (s .schedulers) (q - home) noScheduler
 abbrev pub cellAt : List Stored → ℕ → Stored
 cellAt cs c = getD cs c noCell
 
--- ---- the cells in use: whether c is one; the number that a new one takes; how many they are; with a new one. What is not said here of the list of cells is in proofs/UsedCells
+-- ---- the cells in use: whether c is one; a new one's number; how many they are; with a new one
 abbrev pub isUsed : List Stored → ℕ → Bool
 isUsed cs c = ltb c (length cs)
 
@@ -93,17 +90,23 @@ withNewCell cs x = cs ++ (x ∷ [])
 
 -- ---- a state with another thread t, another scheduler q, other cells, one more thread (the last)
 abbrev pub withThread : ℕ → Thread → State → State
-withThread t x s = record { threads = setNth (s .threads) t x; schedulers = s .schedulers; cells = s .cells }
+withThread t x s =
+    record { threads = setNth (s .threads) t x; schedulers = s .schedulers; cells = s .cells }
 
 abbrev pub withScheduler : ℕ → Scheduler → State → State
-withScheduler q x s = record { threads = s .threads; schedulers = set (s .schedulers) (q - home) x; cells = s .cells }
+withScheduler q x s =
+    let xs = set (s .schedulers) (q - home) x in
+    record { threads = s .threads; schedulers = xs; cells = s .cells }
 
 abbrev pub withCells : List Stored → State → State
 withCells cs s = record { threads = s .threads; schedulers = s .schedulers; cells = cs }
 
 abbrev pub withNew : Thread → State → State
-withNew x s = record { threads = s .threads ++ (x ∷ []); schedulers = s .schedulers; cells = s .cells }
+withNew x s =
+    record { threads = s .threads ++ (x ∷ []); schedulers = s .schedulers; cells = s .cells }
 
 -- entry e 'at the end of this next list', that of scheduler q
 unfoldable pub enlist : ℕ → Entry → State → State
-enlist q e s = let x = schedulerAt s q in withScheduler q (record { active = x .active; next = x .next ++ (e ∷ []) }) s
+enlist q e s =
+    let x = schedulerAt s q in
+    withScheduler q (record { active = x .active; next = x .next ++ (e ∷ []) }) s

@@ -1,54 +1,68 @@
--- 'A thread's step takes its top pile item': one definition for each item. Assumes nothing: definitions.
-use mathlib.Core.List.{List, [], _∷_, _++_}
-use mathlib.Core.Bool.{true, false, _&&_, not}
-use Prim.Native.Nat.{ℕ, suc, _-_}
-use lib.Dec.{leb, eqb}
-use lib.ListN.{length, take}
-use Rattle.basics.specs.If.{if_then_else_}
-use Rattle.language.specs.Places.{private}
-use Rattle.language.specs.Limits.{mostThreads}
-use Rattle.language.specs.Refusals.{threadsSpent, stuck}
-use Rattle.program.specs.Trees.{Expr, Stmt, nothing, seq, doAt, start, startWait, cooperate, letIn, store, ifElse, while}
+-- 'A thread's step takes its top pile item': one definition for each item.
+use Rattle.basics.specs.Prelude.{List, [], _∷_, _++_, true, false, not, _&&_, ℕ, suc, _-_, leb, eqb}
+use Rattle.basics.specs.Prelude.{length, take, if_then_else_}
+use Rattle.language.specs.{Places.private, Limits.mostThreads, Refusals.threadsSpent}
+use Rattle.language.specs.{Refusals.stuck}
+use Rattle.program.specs.Trees.{Expr, Stmt, nothing, seq, doAt, start, startWait, cooperate, letIn}
+use Rattle.program.specs.Trees.{store, ifElse, while}
 use Rattle.program.specs.Programs.{Part, moduleAt}
-use Rattle.machine.specs.State.{run, back, drop, Thread, plain, waiting, State, withNew, enlist}
+use Rattle.machine.specs.State.{run, back, drop, Thread, plain, waiting, State, withNew}
+use Rattle.machine.specs.State.{enlist}
 use Rattle.machine.specs.Evaluation.{eval, storing}
-use Rattle.machine.specs.Turns.{Stepped, Turn, here, continuation, variables, unlinkedHere, refuse, accept, withValue, withValues, byCondition, settled, leave, room, stay, goTo}
-use Rattle.machine.specs.declared.value.Value.{Value}
+use Rattle.machine.specs.Turns.{StepResult, Turn, here, continuation, variables, unlinkedHere}
+use Rattle.machine.specs.Turns.{refuse, accept, withValue, withValues, byCondition, settled}
+use Rattle.machine.specs.Turns.{leave, room, stay, goTo}
+use Rattle.machine.specs.Values.{Value}
 
 -- 'none: the thread ends and leaves'
-unfoldable pub ends : Turn → Stepped
+unfoldable pub ends : Turn → StepResult
 ends u =
-    let x : Thread = record { place = here u; continuation = []; variables = variables u; starter = u .self .starter; ended = true } in
+    let x : Thread = record {
+      place = here u;
+      continuation = [];
+      variables = variables u;
+      starter = u .self .starter;
+      ended = true;
+    } in
     accept u (leave u (settled u x))
 
 -- a drop of the last variable; a missing one is 20
-unfoldable pub drops : Turn → Stepped
+unfoldable pub drops : Turn → StepResult
 drops u =
     if eqb (length (variables u)) 0
     then refuse u stuck
     else stay u (continuation u) (take (length (variables u) - 1) (variables u))
 
 -- ''Back' moves in the same way.'
-unfoldable pub goesBack : Turn → ℕ → Stepped
+unfoldable pub goesBack : Turn → ℕ → StepResult
 goesBack u q = goTo u q (continuation u)
 
 -- 10: 'used up'
-unfoldable pub stepNothing : Turn → Stepped
+unfoldable pub stepNothing : Turn → StepResult
 stepNothing u = stay u (continuation u) (variables u)
 
 -- 11: 'A above B'
-unfoldable pub stepSeq : Turn → Stmt → Stmt → Stepped
+unfoldable pub stepSeq : Turn → Stmt → Stmt → StepResult
 stepSeq u a b = stay u (run a ∷ run b ∷ continuation u) (variables u)
 
--- 12: 'A above 'back to here''. 'refusal 12's condition met when running' is 20: while unlinked, with S 1
-unfoldable pub stepDo : Turn → ℕ → Stmt → Stepped
-stepDo u q a = if unlinkedHere u && eqb q private then refuse u stuck else goTo u q (run a ∷ back (here u) ∷ continuation u)
+-- 12: 'A above 'back to here''. 'refusal 12's condition met when running' is 20: unlinked, S 1
+unfoldable pub stepDo : Turn → ℕ → Stmt → StepResult
+stepDo u q a =
+    if unlinkedHere u && eqb q private then refuse u stuck else
+    goTo u q (run a ∷ back (here u) ∷ continuation u)
 
 -- ---- 13, 14
 
 -- 'its pile holding the module's body, its variables the arguments'
 abbrev pub started : Turn → Part → List Value → Thread
-started u m vs = record { place = here u; continuation = run (m .body) ∷ []; variables = vs; starter = u .thread; ended = false }
+started u m vs =
+    record {
+      place = here u;
+      continuation = run (m .body) ∷ [];
+      variables = vs;
+      starter = u .thread;
+      ended = false;
+    }
 
 -- the next thread number
 abbrev pub newThread : Turn → ℕ
@@ -56,10 +70,12 @@ newThread u = suc (length (u .state .threads))
 
 -- s with the 'new thread at the end of this next list'
 abbrev pub withStarted : Turn → ℕ → List Value → State → State
-withStarted u m vs s = enlist (here u) (plain (newThread u)) (withNew (started u (moduleAt (u .program) m) vs) s)
+withStarted u m vs s =
+    enlist (here u) (plain (newThread u)) (withNew (started u (moduleAt (u .program) m) vs) s)
 
--- what stands in the way of a start, '20, 19, 17, 18': unlinked, a missing module, another number of arguments, a full list; '18 spent, a 65th thread'; else r
-unfoldable pub starting : Turn → ℕ → List Value → Stepped → Stepped
+-- what stands in the way of a start, '20, 19, 17, 18': unlinked, a missing module, another number
+-- of arguments, a full list; '18 spent, a 65th thread'; else r
+unfoldable pub starting : Turn → ℕ → List Value → StepResult → StepResult
 starting u m vs r =
     if unlinkedHere u then refuse u stuck else
     if leb (length (u .program .modules)) m then refuse u stuck else
@@ -68,47 +84,60 @@ starting u m vs r =
     if leb mostThreads (length (u .state .threads)) then refuse u threadsSpent else r
 
 -- 13
-unfoldable pub stepStart : Turn → ℕ → List Expr → Stepped
-stepStart u m xs = withValues u xs (λ vs w. starting w m vs (accept w (withStarted w m vs (settled w (w .self)))))
+unfoldable pub stepStart : Turn → ℕ → List Expr → StepResult
+stepStart u m xs =
+    withValues u xs
+    (λ vs w. starting w m vs (accept w (withStarted w m vs (settled w (w .self)))))
 
--- 14: 'the same, then the starter behind it, waiting'. Its own room is tested last: with 64 threads, 63 of them in this list, the answer is 18, since a full list is one 'which only a caller's own state can bring'
-unfoldable pub startedWait : Turn → ℕ → List Value → Stepped
+-- 14: 'the same, then the starter behind it, waiting'. Its own room is tested last: with 64
+-- threads, 63 of them in this list, the answer is 18, since a full list is one 'which only a
+-- caller's own state can bring'
+unfoldable pub startedWait : Turn → ℕ → List Value → StepResult
 startedWait u m vs =
     let s = withStarted u m vs (leave u (settled u (u .self))) in
-    if room u 2 (here u) then accept u (enlist (here u) (waiting (u .thread) (newThread u)) s) else refuse u stuck
+    if room u 2 (here u) then accept u (enlist (here u) (waiting (u .thread) (newThread u)) s) else
+    refuse u stuck
 
-unfoldable pub stepStartWait : Turn → ℕ → List Expr → Stepped
+unfoldable pub stepStartWait : Turn → ℕ → List Expr → StepResult
 stepStartWait u m xs = withValues u xs (λ vs w. starting w m vs (startedWait w m vs))
 
 -- ---- 15 to 19
 
 -- 15: 'to the end of the next list'; while unlinked it is 20
-unfoldable pub stepCooperate : Turn → Stepped
+unfoldable pub stepCooperate : Turn → StepResult
 stepCooperate u =
     if unlinkedHere u then refuse u stuck else
-    if room u 1 (here u) then accept u (enlist (here u) (plain (u .thread)) (leave u (settled u (u .self)))) else refuse u stuck
+    if room u 1 (here u)
+    then accept u (enlist (here u) (plain (u .thread)) (leave u (settled u (u .self))))
+    else refuse u stuck
 
 -- 16: 'body above a drop of the variable'
-unfoldable pub stepLet : Turn → Expr → Stmt → Stepped
-stepLet u x a = withValue u (λ h. eval h x) (λ v w. stay w (run a ∷ drop ∷ continuation w) (variables w ++ (v ∷ [])))
+unfoldable pub stepLet : Turn → Expr → Stmt → StepResult
+stepLet u x a =
+    withValue u (λ h. eval h x)
+    (λ v w. stay w (run a ∷ drop ∷ continuation w) (variables w ++ (v ∷ [])))
 
 -- 17
-unfoldable pub stepStore : Turn → Expr → Expr → Stepped
+unfoldable pub stepStore : Turn → Expr → Expr → StepResult
 stepStore u x y = withValue u (λ h. storing h x y) (λ v w. stay w (continuation w) (variables w))
 
 -- 18: 'one branch'
-unfoldable pub stepIf : Turn → Expr → Stmt → Stmt → Stepped
+unfoldable pub stepIf : Turn → Expr → Stmt → Stmt → StepResult
 stepIf u x a b =
     withValue u (λ h. eval h x)
-    (λ v w. byCondition w v (stay w (run a ∷ continuation w) (variables w)) (stay w (run b ∷ continuation w) (variables w)))
+    (λ v w. byCondition w v
+    (stay w (run a ∷ continuation w) (variables w))
+    (stay w (run b ∷ continuation w) (variables w)))
 
 -- 19: 'if true, the body above the same loop'
-unfoldable pub stepWhile : Turn → Expr → Stmt → Stmt → Stepped
+unfoldable pub stepWhile : Turn → Expr → Stmt → Stmt → StepResult
 stepWhile u x a loop =
     withValue u (λ h. eval h x)
-    (λ v w. byCondition w v (stay w (run a ∷ run loop ∷ continuation w) (variables w)) (stay w (continuation w) (variables w)))
+    (λ v w. byCondition w v
+    (stay w (run a ∷ run loop ∷ continuation w) (variables w))
+    (stay w (continuation w) (variables w)))
 
-abbrev pub stepStatement : Turn → Stmt → Stepped
+abbrev pub stepStatement : Turn → Stmt → StepResult
 stepStatement u (nothing i) = stepNothing u
 stepStatement u (seq i a b) = stepSeq u a b
 stepStatement u (doAt i q a) = stepDo u q a

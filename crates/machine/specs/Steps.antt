@@ -1,17 +1,13 @@
--- One choice: what it answers, and the state and the accesses it makes. Assumes nothing: definitions.
-use mathlib.Core.List.{List, [], _∷_}
-use mathlib.Core.Bool.{Bool, _&&_, not}
-use Prim.Native.Nat.{ℕ, _-_}
-use lib.Dec.{leb, eqb}
-use lib.ListN.{length}
-use Rattle.basics.specs.If.{if_then_else_}
-use Rattle.language.specs.Places.{private}
-use Rattle.language.specs.Refusals.{noParty, nothingReady}
+-- One choice: what it answers, and the state and the accesses it makes.
+use Rattle.basics.specs.Prelude.{List, [], _∷_, Bool, not, _&&_, ℕ, _-_, leb, eqb, length}
+use Rattle.basics.specs.Prelude.{if_then_else_}
+use Rattle.language.specs.{Places.private, Refusals.noParty, Refusals.nothingReady}
 use Rattle.program.specs.Programs.{Program}
 use Rattle.machine.specs.Offsets.{threadOwnerFrom}
-use Rattle.machine.specs.State.{State, Item, run, back, drop, Entry, threadAt, schedulerAt, withScheduler, threadOwner}
+use Rattle.machine.specs.State.{State, Item, run, back, drop, Entry, threadAt, schedulerAt}
+use Rattle.machine.specs.State.{withScheduler, threadOwner}
 use Rattle.machine.specs.Waits.{readyThreads, stillWaiting}
-use Rattle.machine.specs.Turns.{Stepped, Spaces, stateSpaces, Turn, isSchedulerOf}
+use Rattle.machine.specs.Turns.{StepResult, Spaces, stateSpaces, Turn, isSchedulerOf}
 use Rattle.machine.specs.Statements.{ends, drops, goesBack, stepStatement}
 
 -- the turn of thread t at choice c, with that continuation left, in a state of the spaces z
@@ -23,38 +19,45 @@ turnWithin z p s c t items =
       state = s;
       choice = c;
       thread = t;
-      self = record { place = x .place; continuation = items; variables = x .variables; starter = x .starter; ended = x .ended };
+      self = record {
+        place = x .place;
+        continuation = items;
+        variables = x .variables;
+        starter = x .starter;
+        ended = x .ended;
+      };
       cells = s .cells;
       accesses = [];
       spaces = z;
     }
 
 -- 'A thread's step takes its top pile item'
-abbrev pub stepItemsWithin : Spaces → Program → State → ℕ → ℕ → List Item → Stepped
+abbrev pub stepItemsWithin : Spaces → Program → State → ℕ → ℕ → List Item → StepResult
 stepItemsWithin z p s c t [] = ends (turnWithin z p s c t [])
 stepItemsWithin z p s c t (run x ∷ items) = stepStatement (turnWithin z p s c t items) x
 stepItemsWithin z p s c t (back q ∷ items) = goesBack (turnWithin z p s c t items) q
 stepItemsWithin z p s c t (drop ∷ items) = drops (turnWithin z p s c t items)
 
-unfoldable pub stepThreadWithin : Spaces → Program → State → ℕ → ℕ → Stepped
+unfoldable pub stepThreadWithin : Spaces → Program → State → ℕ → ℕ → StepResult
 stepThreadWithin z p s c t = stepItemsWithin z p s c t (threadAt s t .continuation)
 
 -- an answer in which no thread acts
-abbrev pub nobody : ℕ → State → Stepped
+abbrev pub nobody : ℕ → State → StepResult
 nobody n s = record { answer = n; thread = 0; state = s; accesses = [] }
 
--- 'ready entries of the next list become active in order, waiting ones stay'; '16 'nothing': no active thread there and no ready one in its next list'
-abbrev pub turnInstant : State → ℕ → List ℕ → List Entry → Stepped
+-- 'ready entries of the next list become active in order, waiting ones stay'; '16 'nothing': no
+-- active thread there and no ready one in its next list'
+abbrev pub turnInstant : State → ℕ → List ℕ → List Entry → StepResult
 turnInstant s c [] es = nobody nothingReady s
 turnInstant s c (t ∷ ts) es = nobody 0 (withScheduler c (record { active = t ∷ ts; next = es }) s)
 
-unfoldable pub endInstant : State → ℕ → Stepped
+unfoldable pub endInstant : State → ℕ → StepResult
 endInstant s c =
     let es = schedulerAt s c .next in
     turnInstant s c (readyThreads (s .threads) es) (stillWaiting (s .threads) es)
 
 -- 'Choosing a scheduler steps its first active thread; with none active, an instant ends'
-abbrev pub stepSchedulerWithin : Spaces → Program → State → ℕ → List ℕ → Stepped
+abbrev pub stepSchedulerWithin : Spaces → Program → State → ℕ → List ℕ → StepResult
 stepSchedulerWithin z p s c [] = endInstant s c
 stepSchedulerWithin z p s c (t ∷ ts) = stepThreadWithin z p s c t
 
@@ -65,15 +68,17 @@ threadChosen c = c - threadOwnerFrom
 -- that thread is there, stands on 1 and has not ended
 unfoldable pub isUnlinked : State → ℕ → Bool
 isUnlinked s c =
-    leb (threadOwner 1) c && leb (threadChosen c) (length (s .threads)) && eqb (threadAt s (threadChosen c) .place) private && not (threadAt s (threadChosen c) .ended)
+    let t = threadChosen c in
+    leb (threadOwner 1) c && leb t (length (s .threads)) && eqb (threadAt s t .place) private
+    && not (threadAt s t .ended)
 
 -- '15 no such party (neither a scheduler of the file nor a thread now loose)'
-unfoldable pub stepWithin : Spaces → Program → State → ℕ → Stepped
+unfoldable pub stepWithin : Spaces → Program → State → ℕ → StepResult
 stepWithin z p s c =
     if isSchedulerOf p c then stepSchedulerWithin z p s c (schedulerAt s c .active) else
     if isUnlinked s c then stepThreadWithin z p s c (threadChosen c) else
     nobody noParty s
 
 -- in the spaces that a state has
-abbrev pub step : Program → State → ℕ → Stepped
+abbrev pub step : Program → State → ℕ → StepResult
 step p s c = stepWithin stateSpaces p s c

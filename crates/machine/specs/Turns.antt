@@ -1,23 +1,15 @@
--- A turn of a thread: what it works on, how it answers, how the thread moves between lists. Assumes nothing: definitions.
-use mathlib.Core.List.{List, [], _∷_, _++_}
-use mathlib.Core.Bool.{Bool, true, false, _&&_, not}
-use Prim.Native.Nat.{ℕ, _+_}
-use lib.Dec.{leb, eqb}
-use lib.ListN.{length}
-use Rattle.basics.specs.If.{if_then_else_}
-use Rattle.language.specs.Places.{private, hasScheduler}
-use Rattle.language.specs.Limits.{mostVariables, mostThreads, mostItems}
-use Rattle.language.specs.Refusals.{stuck}
-use Rattle.program.specs.Trees.{Expr}
-use Rattle.program.specs.Programs.{Program}
-use Rattle.machine.specs.Values.{answerOf}
+-- A turn of a thread: what it works on, how it answers, how the thread moves between lists.
+use Rattle.basics.specs.Prelude.{List, [], _∷_, _++_, Bool, true, false, not, _&&_, ℕ, _+_, leb}
+use Rattle.basics.specs.Prelude.{eqb, length, if_then_else_}
+use Rattle.language.specs.{Places.private, Places.hasScheduler, Limits.mostVariables}
+use Rattle.language.specs.{Limits.mostThreads, Limits.mostItems, Refusals.stuck}
+use Rattle.program.specs.{Trees.Expr, Programs.Program}
+use Rattle.machine.specs.Values.{answerOf, Value, Number, Truth, Cell, Outcome, Is, Foreign}
+use Rattle.machine.specs.Values.{Spent, Stuck}
 use Rattle.machine.specs.Accesses.{Access}
-use Rattle.machine.specs.State.{Stored, Item, Thread, plain, State, schedulerAt, withThread, withScheduler, withCells, enlist}
-use Rattle.machine.specs.Evaluation.{Here, Evaluated, Evaluation, eval}
-use Rattle.machine.specs.declared.value.Value.{Value}
-use Rattle.machine.specs.declared.value.Value.the-variants.{Number, Truth, Cell}
-use Rattle.machine.specs.declared.value.Outcome.{Outcome}
-use Rattle.machine.specs.declared.value.Outcome.the-variants.{Is, Foreign, Spent, Stuck}
+use Rattle.machine.specs.State.{Stored, Item, Thread, plain, State, schedulerAt, withThread}
+use Rattle.machine.specs.State.{withScheduler, withCells, enlist}
+use Rattle.machine.specs.Evaluation.{Here, EvalResult, Evaluation, eval}
 
 -- a space of a state: for so many, or without end
 pub data Space : Type 0 where
@@ -37,20 +29,22 @@ pub record Spaces : Type 0 where
 
 -- those that a state has
 abbrev pub stateSpaces : Spaces
-stateSpaces = record { entries = atMost mostThreads; items = atMost mostItems; values = atMost mostVariables }
+stateSpaces =
+    record { entries = atMost mostThreads; items = atMost mostItems; values = atMost mostVariables }
 
 -- none of them has an end: `NeverFull` (crate reach) compares the two
 abbrev pub endlessSpaces : Spaces
 endlessSpaces = record { entries = endless; items = endless; values = endless }
 
 -- what a choice gives: the answer, the acting thread (0: none), the state, the accesses
-pub record Stepped : Type 0 where
+pub record StepResult : Type 0 where
   pub answer : ℕ
   pub thread : ℕ
   pub state : State
   pub accesses : List Access
 
--- a turn: the choice, the thread that acts, and that thread without its top item; `spaces` are the state's; `cells` and `accesses` are those of the step so far, `state` is the one it was given
+-- a turn: the choice, the thread that acts, and that thread without its top item; `spaces` are the
+-- state's; `cells` and `accesses` are those of the step so far, `state` is the one it was given
 pub record Turn : Type 0 where
   pub program : Program
   pub state : State
@@ -75,20 +69,22 @@ abbrev pub unlinkedHere : Turn → Bool
 unlinkedHere u = eqb (here u) private
 
 -- a refusal leaves the state as it was, cells made in the step too
-abbrev pub refuse : Turn → ℕ → Stepped
+abbrev pub refuse : Turn → ℕ → StepResult
 refuse u n = record { answer = n; thread = u .thread; state = u .state; accesses = u .accesses }
 
-abbrev pub accept : Turn → State → Stepped
+abbrev pub accept : Turn → State → StepResult
 accept u s = record { answer = 0; thread = u .thread; state = s; accesses = u .accesses }
 
 -- ---- expressions
 
 abbrev pub evaluator : Turn → Here
-evaluator u = record { thread = u .thread; place = here u; variables = variables u; shared = length (u .program .shared) }
+evaluator u =
+    let n = length (u .program .shared) in
+    record { thread = u .thread; place = here u; variables = variables u; shared = n }
 
--- the turn behind an evaluation
-abbrev pub behind : Turn → Evaluated → Turn
-behind u r =
+-- the turn after an evaluation
+abbrev pub afterEval : Turn → EvalResult → Turn
+afterEval u r =
     record {
       program = u .program;
       state = u .state;
@@ -101,21 +97,21 @@ behind u r =
     }
 
 -- go on with the value, or answer the evaluation's refusal
-abbrev pub goOn : Turn → Outcome → (Value → Turn → Stepped) → Stepped
+abbrev pub goOn : Turn → Outcome → (Value → Turn → StepResult) → StepResult
 goOn u (Is v) k = k v u
 goOn u Foreign k = refuse u (answerOf Foreign)
 goOn u Spent k = refuse u (answerOf Spent)
 goOn u Stuck k = refuse u (answerOf Stuck)
 
-abbrev pub withValue : Turn → (Here → Evaluation) → (Value → Turn → Stepped) → Stepped
-withValue u m k = let r = m (evaluator u) (u .cells) in goOn (behind u r) (r .outcome) k
+abbrev pub withValue : Turn → (Here → Evaluation) → (Value → Turn → StepResult) → StepResult
+withValue u m k = let r = m (evaluator u) (u .cells) in goOn (afterEval u r) (r .outcome) k
 
-unfoldable pub withValues : Turn → List Expr → (List Value → Turn → Stepped) → Stepped
+unfoldable pub withValues : Turn → List Expr → (List Value → Turn → StepResult) → StepResult
 withValues u [] k = k [] u
 withValues u (x ∷ xs) k = withValue u (λ h. eval h x) (λ v w. withValues w xs (λ vs. k (v ∷ vs)))
 
 -- 'a condition's kind is tested before a branch is chosen': anything but a truth is 20
-abbrev pub byCondition : Turn → Value → Stepped → Stepped → Stepped
+abbrev pub byCondition : Turn → Value → StepResult → StepResult → StepResult
 byCondition u (Truth true) a b = a
 byCondition u (Truth false) a b = b
 byCondition u (Number n) a b = refuse u stuck
@@ -125,7 +121,14 @@ byCondition u (Cell c) a b = refuse u stuck
 
 -- the acting thread at place q, with that continuation and those variables
 abbrev pub selfAt : Turn → ℕ → List Item → List Value → Thread
-selfAt u q items vars = record { place = q; continuation = items; variables = vars; starter = u .self .starter; ended = u .self .ended }
+selfAt u q items vars =
+    record {
+      place = q;
+      continuation = items;
+      variables = vars;
+      starter = u .self .starter;
+      ended = u .self .ended;
+    }
 
 -- the state with the step's cells, and x as the acting thread
 abbrev pub settled : Turn → Thread → State
@@ -135,16 +138,16 @@ settled u x = withThread (u .thread) x (withCells (u .cells) (u .state))
 unfoldable pub isSchedulerOf : Program → ℕ → Bool
 isSchedulerOf p c = hasScheduler (p .schedulers) c
 
-abbrev pub behindFirst : List ℕ → List ℕ
-behindFirst [] = []
-behindFirst (t ∷ ts) = ts
+abbrev pub afterFirst : List ℕ → List ℕ
+afterFirst [] = []
+afterFirst (t ∷ ts) = ts
 
 -- the acting thread leaves the active list in which it stands first; an unlinked one stands in none
 unfoldable pub leave : Turn → State → State
 leave u s =
     let x = schedulerAt s (u .choice) in
     if isSchedulerOf (u .program) (u .choice)
-    then withScheduler (u .choice) (record { active = behindFirst (x .active); next = x .next }) s
+    then withScheduler (u .choice) (record { active = afterFirst (x .active); next = x .next }) s
     else s
 
 -- n more entries have room in the next list of scheduler q
@@ -155,12 +158,15 @@ room u n q = holds (u .spaces .entries) (length (schedulerAt (u .state) q .next)
 unfoldable pub fits : Spaces → List Item → List Value → Bool
 fits z items vars = holds (z .items) (length items) && holds (z .values) (length vars)
 
--- the thread stays where it is, first, with that continuation and those variables; 'a full .. pile or variable space' is 20
-unfoldable pub stay : Turn → List Item → List Value → Stepped
-stay u items vars = if fits (u .spaces) items vars then accept u (settled u (selfAt u (here u) items vars)) else refuse u stuck
+-- the thread stays where it is, first, with that continuation and those variables; 'a full .. pile
+-- or variable space' is 20
+unfoldable pub stay : Turn → List Item → List Value → StepResult
+stay u items vars =
+    if fits (u .spaces) items vars
+    then accept u (settled u (selfAt u (here u) items vars)) else refuse u stuck
 
 -- 'the thread moves: to the end of that next list, or loose'
-unfoldable pub move : Turn → ℕ → List Item → Stepped
+unfoldable pub move : Turn → ℕ → List Item → StepResult
 move u q items =
     let s = leave u (settled u (selfAt u q items (variables u))) in
     if not (fits (u .spaces) items (variables u)) then refuse u stuck else
@@ -168,5 +174,5 @@ move u q items =
     if room u 1 q then accept u (enlist q (plain (u .thread)) s) else refuse u stuck
 
 -- 'if S is another place, the thread moves'
-unfoldable pub goTo : Turn → ℕ → List Item → Stepped
+unfoldable pub goTo : Turn → ℕ → List Item → StepResult
 goTo u q items = if eqb q (here u) then stay u items (variables u) else move u q items

@@ -1,8 +1,5 @@
--- When an entry of a next list is ready. Assumes nothing: definitions.
-use mathlib.Core.List.{List, [], _∷_}
-use mathlib.Core.Bool.{Bool, true, false, _&&_, _||_, not}
-use Prim.Native.Nat.{ℕ, suc}
-use lib.Dec.{eqb}
+-- When an entry of a next list is ready.
+use Rattle.basics.specs.Prelude.{List, [], _∷_, Bool, true, false, not, _&&_, _||_, ℕ, suc, eqb}
 use Rattle.machine.specs.State.{Thread, Entry, plain, waiting}
 
 -- of the threads, which count from t: u, and each that u started itself, has ended
@@ -10,15 +7,16 @@ unfoldable pub endedFrom : ℕ → ℕ → List Thread → Bool
 endedFrom u t [] = true
 endedFrom u t (x ∷ xs) = (x .ended || not (eqb t u || eqb (x .starter) u)) && endedFrom u (suc t) xs
 
--- The ready test, the only place that says when a wait ends: 'The wait ends when the started thread and every thread that it started itself have ended.'
+-- The ready test, the only place that says when a wait ends: 'The wait ends when the started thread
+-- and every thread that it started itself have ended.'
 unfoldable pub isReady : List Thread → Entry → Bool
 isReady ts (plain t) = true
 isReady ts (waiting t u) = endedFrom u 1 ts
 
 -- the thread of an entry
-abbrev pub threadOf : Entry → ℕ
-threadOf (plain t) = t
-threadOf (waiting t u) = t
+abbrev pub entryThread : Entry → ℕ
+entryThread (plain t) = t
+entryThread (waiting t u) = t
 
 abbrev pub keepIf : {A : Type 0} → Bool → A → List A → List A
 keepIf true x xs = x ∷ xs
@@ -27,7 +25,7 @@ keepIf false x xs = xs
 -- 'ready entries of the next list become active in order': their threads
 unfoldable pub readyThreads : List Thread → List Entry → List ℕ
 readyThreads ts [] = []
-readyThreads ts (e ∷ es) = keepIf (isReady ts e) (threadOf e) (readyThreads ts es)
+readyThreads ts (e ∷ es) = keepIf (isReady ts e) (entryThread e) (readyThreads ts es)
 
 -- 'waiting ones stay'
 unfoldable pub stillWaiting : List Thread → List Entry → List Entry

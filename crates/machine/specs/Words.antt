@@ -1,22 +1,22 @@
--- A state as the 4,818 words that a caller lends. A word of unused space is 0. Assumes nothing: definitions.
+-- A state as the 4,818 words that a caller lends. A word of unused space is 0.
 --   0, 1      how many threads and cells there are
 --   2 ..      8 schedulers of 130 words: the active list, 1 + 64, then the next list, 1 + 64
---   1042 ..   64 threads of 55 words: place, starter, 1 while it lives, the continuation from the bottom, 1 + 25, then the variables, 1 + 25
+--   1042 ..   64 threads of 55 words: place, starter, 1 while it lives, the continuation from the
+-- bottom, 1 + 25, then the variables, 1 + 25
 --   4562 ..   256 cells, a word each
 -- A list stands as its length, then its members.
-use mathlib.Core.List.{List, [], _∷_, map, reverse}
-use mathlib.Core.Bool.{Bool, true, false, not}
-use Prim.Native.Nat.{ℕ, zero, suc, _+_, _-_, _*_, _/_, _%_}
-use lib.Dec.{ltb, eqb}
-use lib.ListN.{length, getD}
-use Rattle.basics.specs.If.{if_then_else_}
-use Rattle.language.specs.Places.{home}
-use Rattle.language.specs.declared.frame.Frame.{Frame}
+use Rattle.basics.specs.Prelude.{List, [], _∷_, map, reverse, Bool, true, false, not, ℕ, zero, suc}
+use Rattle.basics.specs.Prelude.{_+_, _-_, _*_, _/_, _%_, ltb, eqb, length, getD, if_then_else_}
+use Rattle.language.specs.{Places.home, declared.frame.Frame.Frame}
 use Rattle.program.specs.Trees.{rootS, statementAt}
-use Rattle.machine.specs.Offsets.{stateLength, threadCountAt, cellCountAt, schedulersAt, schedulerLength, listLength, nextListAt, threadsAt, threadLength, placeField, starterField, livesField, itemsField, variablesField, cellsAt, backFrom, dropWord, waitingFactor, truthFrom, cellFrom, ownerFactor}
-use Rattle.machine.specs.State.{State, Stored, Item, run, back, drop, Thread, Entry, plain, waiting, Scheduler, cellAt, usedCells, nth, schedulerAt}
-use Rattle.machine.specs.declared.value.Value.{Value}
-use Rattle.machine.specs.declared.value.Value.the-variants.{Number, Truth, Cell}
+use Rattle.machine.specs.Offsets.{stateLength, threadCountAt, cellCountAt, schedulersAt}
+use Rattle.machine.specs.Offsets.{schedulerLength, listLength, nextListAt, threadsAt}
+use Rattle.machine.specs.Offsets.{threadLength, placeField, starterField, livesField}
+use Rattle.machine.specs.Offsets.{itemsField, variablesField, cellsAt, backFrom, dropWord}
+use Rattle.machine.specs.Offsets.{waitingFactor, truthFrom, cellFrom, ownerFactor}
+use Rattle.machine.specs.State.{State, Stored, Item, run, back, drop, Thread, Entry, plain}
+use Rattle.machine.specs.State.{waiting, Scheduler, cellAt, usedCells, nth, schedulerAt}
+use Rattle.machine.specs.Values.{Value, Number, Truth, Cell}
 
 abbrev pub bit : Bool → ℕ
 bit true = 1
@@ -31,7 +31,9 @@ valueWord (Truth b) = truthFrom + bit b
 valueWord (Cell c) = cellFrom + c
 
 unfoldable pub wordValue : ℕ → Value
-wordValue w = if ltb w truthFrom then Number w else if ltb w cellFrom then Truth (eqb w (truthFrom + 1)) else Cell (w - cellFrom)
+wordValue w =
+    if ltb w truthFrom then Number w else
+    if ltb w cellFrom then Truth (eqb w (truthFrom + 1)) else Cell (w - cellFrom)
 
 -- a statement is its frame, a back 1024 and its place, a drop 2048
 unfoldable pub itemWord : Item → ℕ
@@ -40,7 +42,9 @@ itemWord (back q) = backFrom + q
 itemWord drop = dropWord
 
 unfoldable pub wordItem : List Frame → ℕ → Item
-wordItem fs w = let x = run (statementAt fs w) in if ltb w backFrom then x else if ltb w dropWord then back (w - backFrom) else drop
+wordItem fs w =
+    let x = run (statementAt fs w) in
+    if ltb w backFrom then x else if ltb w dropWord then back (w - backFrom) else drop
 
 -- a thread is itself; one that waits for thread u has 128 u added
 unfoldable pub entryWord : Entry → ℕ
@@ -48,7 +52,8 @@ entryWord (plain t) = t
 entryWord (waiting t u) = waitingFactor * u + t
 
 unfoldable pub wordEntry : ℕ → Entry
-wordEntry w = if ltb w waitingFactor then plain w else waiting (w % waitingFactor) (w / waitingFactor)
+wordEntry w =
+    if ltb w waitingFactor then plain w else waiting (w % waitingFactor) (w / waitingFactor)
 
 -- the owner 2^34 times, and the content
 unfoldable pub cellWord : Stored → ℕ
@@ -65,22 +70,29 @@ listWord ws zero = length ws
 listWord ws (suc j) = getD ws j 0
 
 unfoldable pub schedulerWord : Scheduler → ℕ → ℕ
-schedulerWord x j = if ltb j listLength then listWord (x .active) j else listWord (map entryWord (x .next)) (j - listLength)
+schedulerWord x j =
+    if ltb j listLength then listWord (x .active) j else
+    listWord (map entryWord (x .next)) (j - listLength)
 
 unfoldable pub threadWord : Thread → ℕ → ℕ
 threadWord x j =
     if eqb j placeField then x .place else
     if eqb j starterField then x .starter else
     if eqb j livesField then bit (not (x .ended)) else
-    if ltb j variablesField then listWord (reverse (map itemWord (x .continuation))) (j - itemsField) else
+    if ltb j variablesField
+    then listWord (reverse (map itemWord (x .continuation))) (j - itemsField) else
     listWord (map valueWord (x .variables)) (j - variablesField)
 
 unfoldable pub wordOf : State → ℕ → ℕ
 wordOf s i =
     if eqb i threadCountAt then length (s .threads) else
     if eqb i cellCountAt then usedCells (s .cells) else
-    if ltb i threadsAt then schedulerWord (schedulerAt s (home + (i - schedulersAt) / schedulerLength)) ((i - schedulersAt) % schedulerLength) else
-    if ltb i cellsAt then threadWord (nth (s .threads) (suc ((i - threadsAt) / threadLength))) ((i - threadsAt) % threadLength) else
+    if ltb i threadsAt
+    then (let j = i - schedulersAt in
+    schedulerWord (schedulerAt s (home + j / schedulerLength)) (j % schedulerLength)) else
+    if ltb i cellsAt
+    then (let j = i - threadsAt in
+    threadWord (nth (s .threads) (suc (j / threadLength))) (j % threadLength)) else
     cellWord (cellAt (s .cells) (i - cellsAt))
 
 -- f i, f (i + 1), .. , n of them
@@ -93,7 +105,7 @@ pack s = tabulate stateLength (wordOf s) 0
 
 -- ---- the state of the words
 
--- a list's words at i, behind its length
+-- a list's words at i, after its length
 abbrev pub wordsAt : List ℕ → ℕ → List ℕ
 wordsAt w i = tabulate (getD w i 0) (λ j. getD w j 0) (suc i)
 
@@ -109,7 +121,9 @@ threadFrom fs w k =
     }
 
 unfoldable pub schedulerFrom : List ℕ → ℕ → Scheduler
-schedulerFrom w k = record { active = wordsAt w (schedulersAt + schedulerLength * k); next = map wordEntry (wordsAt w (nextListAt + schedulerLength * k)) }
+schedulerFrom w k =
+    let entries = wordsAt w (nextListAt + schedulerLength * k) in
+    record { active = wordsAt w (schedulersAt + schedulerLength * k); next = map wordEntry entries }
 
 -- in a file of those frames and n schedulers
 unfoldable pub unpack : List Frame → ℕ → List ℕ → State

@@ -1,7 +1,8 @@
--- The code, by words: single words, the parts of a state's words, the operations, numbers and
--- truths that are wanted, one behind another.
+-- The code, by words: single words, what an else branch is told, the parts of a state's words, one
+-- operation after another, the operations, numbers and truths that are wanted.
 pub mod WordLaws
+pub mod Told
 pub mod InState
+pub mod Chains
 pub mod Operations
 pub mod Operands
-pub mod Chains

@@ -1,5 +1,5 @@
--- Single words: a law for each return of the functions of word.rt and cell.rt, and that the word of
--- a value or of a cell reads back as it was. Assumes nothing.
+-- Single words: a law for each return of `value_of`, and that the word of a value or of a cell
+-- reads back as it was. Assumes nothing.
 use mathlib.Core.Path.{_≡_, refl, sym, ap, _∙_, subst}
 use mathlib.Core.Bool.{Bool, true, false}
 use Prim.Native.Nat.{ℕ, _+_, _*_, _-_, _/_, _%_, _^_, _<_, _≤_}
@@ -16,26 +16,7 @@ use Rattle.machine.specs.Shapes.{ValueFits, number, truth, cell}
 use Rattle.machine.proofs.Round.{value-below}
 use Rattle.machine.proofs.InShape.{value-in}
 use Rattle.machine.proofs.Valid.{value-there}
-use Rattle.operations.specs.inner.ByWords.{valueIn, ownerIn, contentIn, cellOf}
-
--- ---- the word of a value
-pub word-number : (v : Value) (n r : ℕ) → v ≡ Number n → r ≡ n → r ≡ valueWord v
-unfolding valueWord
-word-number v n r e h = h ∙ sym (ap valueWord e)
-
-pub word-true : (v : Value) (t : Bool) → v ≡ Truth t → t ≡ true → 0x0001_0000_0001 ≡ valueWord v
-unfolding valueWord
-word-true v t e h = sym (ap valueWord (e ∙ ap Truth h))
-
-pub word-false : (v : Value) (t : Bool) → v ≡ Truth t → t ≡ false → 0x0001_0000_0000 ≡ valueWord v
-unfolding valueWord
-word-false v t e h = sym (ap valueWord (e ∙ ap Truth h))
-
-pub word-cell : (v : Value) (c r : ℕ) → v ≡ Cell c → r ≡ c → 0x0002_0000_0000 + r ≡ valueWord v
-unfolding valueWord
-word-cell v c r e h = ap (λ (x : ℕ). 0x0002_0000_0000 + x) h ∙ sym (ap valueWord e)
-
-pub ruleset word-laws = (word-number, word-true, word-false, word-cell)
+use Rattle.operations.specs.inner.ByWords.{valueIn, ownerIn, contentIn}
 
 -- ---- the value of a word
 pub value-number : (w : ℕ) → w < 2 ^ 32 → Number w ≡ valueIn w
@@ -52,14 +33,6 @@ value-cell w g h = no _ (le-ltb _ _ g) (no _ (le-ltb _ _ h) refl)
 
 pub ruleset value-laws = (value-number, value-truth, value-cell)
 
--- ---- the word of a cell: q is the owner o as a word, and r the word of the content
-pub cell-of : (o r q : ℕ) (v : Value) → q ≡ o → r ≡ valueWord v
-    → q * 0x0004_0000_0000 + r ≡ cellOf o v
-unfolding cellWord
-cell-of o r q v h e =
-    ap (λ (x : ℕ). q * 0x0004_0000_0000 + x) e
-    ∙ ap (λ (x : ℕ). x * 0x0004_0000_0000 + valueWord v) h
-
 -- ---- words read back
 -- `valueIn` reads any word; on a word in range it is `wordValue`, which the definitions use
 value-in-back : (v : Value) → ValueFits v → valueIn (valueWord v) ≡ v
@@ -69,7 +42,8 @@ value-in-back (Truth true) truth = if-no _ _ refl ∙ if-yes _ _ refl
 value-in-back (Truth false) truth = if-no _ _ refl ∙ if-yes _ _ refl
 value-in-back (Cell c) (cell h) =
     let a : (2 * 2 ^ 32 + c) % 256 ≡ c = omega arith in
-    if-no _ _ (le-ltb (2 * 2 ^ 32 + c) (2 ^ 32) (omega arith)) ∙ if-no _ _ (le-ltb (2 * 2 ^ 32 + c) (2 * 2 ^ 32) (omega arith)) ∙ ap Cell a
+    if-no _ _ (le-ltb (2 * 2 ^ 32 + c) (2 ^ 32) (omega arith))
+    ∙ if-no _ _ (le-ltb (2 * 2 ^ 32 + c) (2 * 2 ^ 32) (omega arith)) ∙ ap Cell a
 
 -- a word in range is that of a value that fits
 pub value-fits : (w : ℕ) → valueInRange w ≡ true → ValueFits (wordValue w)

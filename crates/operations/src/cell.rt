@@ -1,14 +1,13 @@
-// The words of cells: an owner above the word of a value.
-use crate::width::wide16;
-use crate::word::TRUE_WORD;
-use crate::word::value_word;
+// The words of cells read, and with another content: an owner above the word of a value.
 use language::limit::MOST_CELLS;
 use machine::offset::CELL_FROM;
 use machine::offset::OWNER_FACTOR;
 use machine::offset::TRUTH_FROM;
 use machine::value::Value;
+use machine::word::TRUE_WORD;
+use machine::word::value_word;
 ghost use mathlib.Core.Path.{_≡_};
-ghost use Rattle.operations.specs.inner.ByWords.{valueIn, ownerIn, contentIn, cellOf};
+ghost use Rattle.operations.specs.inner.ByWords.{valueIn, ownerIn, contentIn, cellWordOf};
 
 // A cell's number fits a byte, whatever the word is.
 const CELLS: u64 = MOST_CELLS as u64;
@@ -26,16 +25,9 @@ pub(crate) fn value_of(w: u64) -> Value
     Value::Cell((w % CELLS) as u8)
 }
 
-// The word of a cell.
-pub(crate) fn cell_word(owner: u16, v: Value) -> u64
-    ensures { λ r. ⌜ r ≡ cellOf owner v ⌝ }
-{
-    wide16(owner) * OWNER_FACTOR + value_word(v)
-}
-
 // The word of the same cell with another content.
 pub(crate) fn with_content(w: u64, v: Value) -> u64
-    ensures { λ r. ⌜ r ≡ cellOf (ownerIn w) v ⌝ }
+    ensures { λ r. ⌜ r ≡ cellWordOf (ownerIn w) v ⌝ }
 {
     w / OWNER_FACTOR * OWNER_FACTOR + value_word(v)
 }

@@ -5,8 +5,6 @@ use language::Place;
 mod cell;
 pub mod operand;
 pub mod operation;
-mod width;
-pub mod word;
 
 // Who evaluates: the acting thread, the place on which it stands, and how many cells are shared.
 pub struct Who {

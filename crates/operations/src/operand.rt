@@ -10,7 +10,7 @@ ghost use Rattle.operations.specs.inner.ByWords.{outcomeOf, chosen, chos
 ghost use Rattle.operations.specs.inner.ByWords.{operandStops, outcomeStops, aTruth};
 
 // What a frame comes to where a number is wanted of it. `Other` is a value of another kind: 20, but
-// behind all expressions of the frame that wants the number.
+// after all expressions of the frame that wants the number.
 pub enum Operand {
     Number(u32),
     Other,
@@ -33,37 +33,30 @@ fn operate(op: Operator, m: u32, n: u32) -> Value
 fn operate_first(op: Operator, p: Operand, n: u32) -> Outcome
     ensures { λ r. ⌜ r ≡ firstBy op p n ⌝ }
 {
-    match p {
-        Operand::Number(m) => Outcome::Is(operate(op, m, n)),
-        Operand::Other => Outcome::Stuck,
-        Operand::Foreign => Outcome::Foreign,
-        Operand::Spent => Outcome::Spent,
-        Operand::Stuck => Outcome::Stuck,
-    }
+    let Operand::Number(m) = p else {
+        return as_answer(p);
+    };
+    Outcome::Is(operate(op, m, n))
 }
 
 // The same where both are: the second's refusal comes before 20 for a wrong kind of the first.
 pub fn operated(op: Operator, p: Operand, q: Operand) -> Outcome
     ensures { λ r. ⌜ r ≡ bothBy op p q ⌝ }
 {
-    match q {
-        Operand::Number(n) => operate_first(op, p, n),
-        Operand::Other => Outcome::Stuck,
-        Operand::Foreign => Outcome::Foreign,
-        Operand::Spent => Outcome::Spent,
-        Operand::Stuck => Outcome::Stuck,
-    }
+    let Operand::Number(n) = q else {
+        return as_answer(q);
+    };
+    operate_first(op, p, n)
 }
 
 // A value where a number is wanted.
 fn number_in(v: Value) -> Operand
     ensures { λ r. ⌜ r ≡ numberOr v ⌝ }
 {
-    match v {
-        Value::Number(n) => Operand::Number(n),
-        Value::Truth(t) => Operand::Other,
-        Value::Cell(c) => Operand::Other,
-    }
+    let Value::Number(n) = v else {
+        return Operand::Other;
+    };
+    Operand::Number(n)
 }
 
 pub fn as_number(o: Outcome) -> Operand
@@ -90,7 +83,7 @@ pub fn as_answer(p: Operand) -> Outcome
     }
 }
 
-// Whether it is a refusal, behind which nothing more is evaluated.
+// Whether it is a refusal, after which nothing more is evaluated.
 pub fn number_stops(p: Operand) -> bool
     ensures { λ r. ⌜ r ≡ operandStops p ⌝ }
 {
@@ -106,61 +99,51 @@ pub fn number_stops(p: Operand) -> bool
 pub fn stops(o: Outcome) -> bool
     ensures { λ r. ⌜ r ≡ outcomeStops o ⌝ }
 {
-    match o {
-        Outcome::Is(v) => false,
-        Outcome::Foreign => true,
-        Outcome::Spent => true,
-        Outcome::Stuck => true,
-    }
+    let Outcome::Is(v) = o else {
+        return true;
+    };
+    false
 }
 
 // Only a truth goes on: 28's condition.
 fn a_truth(v: Value) -> Outcome
     ensures { λ r. ⌜ r ≡ aTruth v ⌝ }
 {
-    match v {
-        Value::Truth(t) => Outcome::Is(Value::Truth(t)),
-        Value::Number(n) => Outcome::Stuck,
-        Value::Cell(c) => Outcome::Stuck,
-    }
+    let Value::Truth(t) = v else {
+        return Outcome::Stuck;
+    };
+    Outcome::Is(Value::Truth(t))
 }
 
 // The same of an evaluation, whose refusal stands.
 pub fn then_truth(o: Outcome) -> Outcome
     ensures { λ r. ⌜ r ≡ onlyBy o aTruth ⌝ }
 {
-    match o {
-        Outcome::Is(v) => a_truth(v),
-        Outcome::Foreign => Outcome::Foreign,
-        Outcome::Spent => Outcome::Spent,
-        Outcome::Stuck => Outcome::Stuck,
-    }
+    let Outcome::Is(v) = o else {
+        return o;
+    };
+    a_truth(v)
 }
 
 // Which of two frames a truth chooses.
 fn branch_of(v: Value, b: u16, c: u16) -> u16
     ensures { λ r. ⌜ r ≡ chosen v b c ⌝ }
 {
-    match v {
-        Value::Truth(t) => {
-            if t {
-                return b;
-            }
-            c
-        },
-        Value::Number(n) => c,
-        Value::Cell(j) => c,
+    let Value::Truth(t) = v else {
+        return c;
+    };
+    if t {
+        return b;
     }
+    c
 }
 
 // The same by an outcome; a refusal chooses what is then not evaluated.
 pub fn branch(o: Outcome, b: u16, c: u16) -> u16
     ensures { λ r. ⌜ r ≡ chosenBy o b c ⌝ }
 {
-    match o {
-        Outcome::Is(v) => branch_of(v, b, c),
-        Outcome::Foreign => c,
-        Outcome::Spent => c,
-        Outcome::Stuck => c,
-    }
+    let Outcome::Is(v) = o else {
+        return c;
+    };
+    branch_of(v, b, c)
 }

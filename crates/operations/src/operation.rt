@@ -1,15 +1,9 @@
 // Leaves and cells: what an expression without operands gives, and a cell made, read or stored in.
 use crate::Who;
-use crate::cell::cell_word;
 use crate::cell::content_of;
 use crate::cell::owner_of;
 use crate::cell::value_of;
 use crate::cell::with_content;
-use crate::width::half8;
-use crate::width::index8;
-use crate::width::number16;
-use crate::width::wide8;
-use crate::width::wide16;
 use language::Place;
 use language::limit::MOST_CELLS;
 use machine::offset::CELL_COUNT_AT;
@@ -17,17 +11,18 @@ use machine::offset::CELLS_AT;
 use machine::offset::THREAD_OWNER_FROM;
 use machine::value::Outcome;
 use machine::value::Value;
+use machine::word::cell_word;
 use program::node::CellUse;
 use program::node::Leaf;
 ghost use mathlib.Core.Path.{_≡_};
 ghost use lib.ListN.{length};
 ghost use Rattle.machine.specs.Offsets.{stateLength};
-ghost use Rattle.operations.specs.inner.Lent.{countOf, cellsOf, restOf};
-ghost use Rattle.operations.specs.inner.Results.{resultIn, andThen};
+ghost use Rattle.operations.specs.inner.Lent.{lentCount, lentCells, lentRest};
+ghost use Rattle.operations.specs.inner.Results.{resultIn, andThenIn};
 ghost use Rattle.operations.specs.inner.ByWords.{ownIn, newOwnerIn, variableIn};
-ghost use Rattle.operations.specs.inner.ByWords.{sharedIn, leafIn, refusalOr, accessIn};
-ghost use Rattle.operations.specs.inner.ByWords.{readIn, reading, makeIn, usingIn};
-ghost use Rattle.operations.specs.inner.ByWords.{wordAfter, storeIn};
+ghost use Rattle.operations.specs.inner.ByWords.{sharedIn, leafIn, accessIn};
+ghost use Rattle.operations.specs.inner.ByWords.{readIn, readingIn, makeIn, usingIn};
+ghost use Rattle.operations.specs.inner.ByWords.{storeIn};
 
 // The same number at the width of a new cell's owner.
 const NEW_THREAD_OWNER: u16 = THREAD_OWNER_FROM as u16;
@@ -36,7 +31,7 @@ const NEW_THREAD_OWNER: u16 = THREAD_OWNER_FROM as u16;
 fn is_own(who: Who, owner: u64) -> bool
     ensures { λ r. ⌜ r ≡ ownIn who owner ⌝ }
 {
-    if owner == THREAD_OWNER_FROM + wide8(who.thread) {
+    if owner == THREAD_OWNER_FROM + who.thread as u64 {
         return true;
     }
     let p = who.place.word();
@@ -51,16 +46,16 @@ fn new_owner(who: Who, s: Place) -> u16
     ensures { λ r. ⌜ r ≡ newOwnerIn who (s .number) ⌝ }
 {
     if s.is_private() {
-        return NEW_THREAD_OWNER + half8(who.thread);
+        return NEW_THREAD_OWNER + who.thread as u16;
     }
-    half8(s.number())
+    s.number() as u16
 }
 
 // 22
 fn read_variable(variables: &[u64], s: u8) -> Outcome
     ensures { λ r. ⌜ r ≡ variableIn (now (variables .entry)) s ⌝ }
 {
-    let i = index8(s);
+    let i = s as usize;
     if i < variables.len() {
         return Outcome::Is(value_of(variables[i]));
     }
@@ -71,7 +66,7 @@ fn read_variable(variables: &[u64], s: u8) -> Outcome
 fn shared_cell(who: Who, s: u8) -> Outcome
     ensures { λ r. ⌜ r ≡ sharedIn who s ⌝ }
 {
-    if index8(s) < who.shared {
+    if (s as usize) < who.shared {
         return Outcome::Is(Value::Cell(s));
     }
     Outcome::Stuck
@@ -82,7 +77,7 @@ pub fn leaf(who: Who, variables: &[u64], l: Leaf) -> Outcome
     ensures { λ r. ⌜ r ≡ leafIn who (now (variables .entry)) l ⌝ }
 {
     match l {
-        Leaf::Number(n) => Outcome::Is(Value::Number(number16(n))),
+        Leaf::Number(n) => Outcome::Is(Value::Number(n as u32)),
         Leaf::Truth(s) => Outcome::Is(Value::Truth(s == 1)),
         Leaf::Variable(s) => read_variable(variables, s),
         Leaf::SharedCell(s) => shared_cell(who, s),
@@ -93,11 +88,11 @@ pub fn leaf(who: Who, variables: &[u64], l: Leaf) -> Outcome
 fn make_cell(who: Who, s: Place, v: Value, state: &mut [u64]) -> Outcome
     requires { ⌜ length (now state) ≡ stateLength ⌝ }
     ensures found { λ r. ⌜ resultIn r (now (state .exit))
-        ≡ makeIn who (s .number) v (countOf (now (state .entry))) (cellsOf (now (state .entry))) ⌝ }
-    ensures rest { λ _. ⌜ restOf (now (state .exit)) ≡ restOf (now (state .entry)) ⌝ }
+        ≡ makeIn who (s .number) v (lentCount (now (state .entry))) (lentCells (now (state .entry))) ⌝ }
+    ensures rest { λ _. ⌜ lentRest (now (state .exit)) ≡ lentRest (now (state .entry)) ⌝ }
 {
     let owner = new_owner(who, s);
-    if is_own(who, wide16(owner)) {
+    if is_own(who, owner as u64) {
         let used = state[CELL_COUNT_AT] as usize;
         if used < MOST_CELLS {
             state[CELLS_AT + used] = cell_word(owner, v);
@@ -109,115 +104,86 @@ fn make_cell(who: Who, s: Place, v: Value, state: &mut [u64]) -> Outcome
     Outcome::Foreign
 }
 
-// The first refusal of two that is met, or x.
-fn refusal_or(a: bool, first: Outcome, b: bool, second: Outcome, x: Value) -> Outcome
-    ensures { λ r. ⌜ r ≡ refusalOr a first b second x ⌝ }
+// v where the cell is in use and one's own: 20 is tested before 19. w is the cell's word.
+fn access(who: Who, j: usize, used: usize, w: u64, v: Value) -> Outcome
+    ensures { λ r. ⌜ r ≡ accessIn who j used w v ⌝ }
 {
-    if a {
-        return first;
+    if used <= j {
+        return Outcome::Stuck;
     }
-    if b {
-        return second;
+    if !is_own(who, owner_of(w)) {
+        return Outcome::Foreign;
     }
-    Outcome::Is(x)
-}
-
-// x where the cell is in use and one's own: 20 is tested before 19. w is the cell's word.
-fn access(who: Who, j: usize, used: usize, w: u64, x: Value) -> Outcome
-    ensures { λ r. ⌜ r ≡ accessIn who j used w x ⌝ }
-{
-    let missing = used <= j;
-    let foreign = !is_own(who, owner_of(w));
-    refusal_or(missing, Outcome::Stuck, foreign, Outcome::Foreign, x)
+    Outcome::Is(v)
 }
 
 // 25
 fn read_cell(who: Who, v: Value, state: &[u64]) -> Outcome
     requires { ⌜ length (now state) ≡ stateLength ⌝ }
     ensures { λ r. ⌜ r
-        ≡ readIn who v (countOf (now (state .entry))) (cellsOf (now (state .entry))) ⌝ }
+        ≡ readIn who v (lentCount (now (state .entry))) (lentCells (now (state .entry))) ⌝ }
 {
-    match v {
-        Value::Cell(c) => {
-            let j = index8(c);
-            let used = state[CELL_COUNT_AT] as usize;
-            let w = state[CELLS_AT + j];
-            access(who, j, used, w, content_of(w))
-        },
-        Value::Number(n) => Outcome::Stuck,
-        Value::Truth(t) => Outcome::Stuck,
-    }
-}
-
-// The word of a cell behind a store of u: a refusal changes nothing.
-fn word_after(o: Outcome, w: u64, u: Value) -> u64
-    ensures { λ r. ⌜ r ≡ wordAfter o w u ⌝ }
-{
-    let stored = with_content(w, u);
-    match o {
-        Outcome::Is(x) => stored,
-        Outcome::Foreign => w,
-        Outcome::Spent => w,
-        Outcome::Stuck => w,
-    }
+    let Value::Cell(c) = v else {
+        return Outcome::Stuck;
+    };
+    let j = c as usize;
+    let used = state[CELL_COUNT_AT] as usize;
+    let w = state[CELLS_AT + j];
+    access(who, j, used, w, content_of(w))
 }
 
 // 17: the cell takes any value and keeps its owner.
 fn store_cell(who: Who, v: Value, u: Value, state: &mut [u64]) -> Outcome
     requires { ⌜ length (now state) ≡ stateLength ⌝ }
     ensures found { λ r. ⌜ resultIn r (now (state .exit))
-        ≡ storeIn who v u (countOf (now (state .entry))) (cellsOf (now (state .entry))) ⌝ }
-    ensures rest { λ _. ⌜ restOf (now (state .exit)) ≡ restOf (now (state .entry)) ⌝ }
+        ≡ storeIn who v u (lentCount (now (state .entry))) (lentCells (now (state .entry))) ⌝ }
+    ensures rest { λ _. ⌜ lentRest (now (state .exit)) ≡ lentRest (now (state .entry)) ⌝ }
 {
-    match v {
-        Value::Cell(c) => {
-            let i = index8(c);
-            let used = state[CELL_COUNT_AT] as usize;
-            let w = state[CELLS_AT + i];
-            let o = access(who, i, used, w, u);
-            state[CELLS_AT + i] = word_after(o, w, u);
-            o
-        },
-        Value::Number(n) => Outcome::Stuck,
-        Value::Truth(t) => Outcome::Stuck,
-    }
+    let Value::Cell(c) = v else {
+        return Outcome::Stuck;
+    };
+    let i = c as usize;
+    let used = state[CELL_COUNT_AT] as usize;
+    let w = state[CELLS_AT + i];
+    let o = access(who, i, used, w, u);
+    let Outcome::Is(x) = o else {
+        return o;
+    };
+    state[CELLS_AT + i] = with_content(w, x);
+    Outcome::Is(x)
 }
 
-// ---- each of them behind the evaluation of its last operand, whose refusal stands
+// ---- each of them after the evaluation of its last operand, whose refusal stands
 
 fn then_make(who: Who, s: Place, o: Outcome, state: &mut [u64]) -> Outcome
     requires { ⌜ length (now state) ≡ stateLength ⌝ }
     ensures found { λ r. ⌜ resultIn r (now (state .exit))
-        ≡ andThen (resultIn o (now (state .entry))) (makeIn who (s .number)) ⌝ }
-    ensures rest { λ _. ⌜ restOf (now (state .exit)) ≡ restOf (now (state .entry)) ⌝ }
+        ≡ andThenIn (resultIn o (now (state .entry))) (makeIn who (s .number)) ⌝ }
+    ensures rest { λ _. ⌜ lentRest (now (state .exit)) ≡ lentRest (now (state .entry)) ⌝ }
 {
-    match o {
-        Outcome::Is(v) => make_cell(who, s, v, state),
-        Outcome::Foreign => o,
-        Outcome::Spent => o,
-        Outcome::Stuck => o,
-    }
+    let Outcome::Is(v) = o else {
+        return o;
+    };
+    make_cell(who, s, v, state)
 }
 
 fn then_read(who: Who, o: Outcome, state: &[u64]) -> Outcome
     requires { ⌜ length (now state) ≡ stateLength ⌝ }
     ensures { λ r. ⌜ resultIn r (now (state .entry))
-        ≡ andThen (resultIn o (now (state .entry))) (reading who) ⌝ }
+        ≡ andThenIn (resultIn o (now (state .entry))) (readingIn who) ⌝ }
 {
-    match o {
-        Outcome::Is(v) => read_cell(who, v, state),
-        Outcome::Foreign => o,
-        Outcome::Spent => o,
-        Outcome::Stuck => o,
-    }
+    let Outcome::Is(v) = o else {
+        return o;
+    };
+    read_cell(who, v, state)
 }
 
 // 24 or 25
 pub fn then_use(u: CellUse, who: Who, o: Outcome, state: &mut [u64]) -> Outcome
     requires { ⌜ length (now state) ≡ stateLength ⌝ }
     ensures found { λ r. ⌜ resultIn r (now (state .exit))
-        ≡ andThen (resultIn o (now (state .entry))) (usingIn who u) ⌝ }
-    ensures rest { λ _. ⌜ restOf (now (state .exit)) ≡ restOf (now (state .entry)) ⌝ }
+        ≡ andThenIn (resultIn o (now (state .entry))) (usingIn who u) ⌝ }
+    ensures rest { λ _. ⌜ lentRest (now (state .exit)) ≡ lentRest (now (state .entry)) ⌝ }
 {
     match u {
         CellUse::Make(s) => then_make(who, s, o, state),
@@ -228,13 +194,11 @@ pub fn then_use(u: CellUse, who: Who, o: Outcome, state: &mut [u64]) -> Outcome
 pub fn then_store(who: Who, v: Value, o: Outcome, state: &mut [u64]) -> Outcome
     requires { ⌜ length (now state) ≡ stateLength ⌝ }
     ensures found { λ r. ⌜ resultIn r (now (state .exit))
-        ≡ andThen (resultIn o (now (state .entry))) (storeIn who v) ⌝ }
-    ensures rest { λ _. ⌜ restOf (now (state .exit)) ≡ restOf (now (state .entry)) ⌝ }
+        ≡ andThenIn (resultIn o (now (state .entry))) (storeIn who v) ⌝ }
+    ensures rest { λ _. ⌜ lentRest (now (state .exit)) ≡ lentRest (now (state .entry)) ⌝ }
 {
-    match o {
-        Outcome::Is(u) => store_cell(who, v, u, state),
-        Outcome::Foreign => o,
-        Outcome::Spent => o,
-        Outcome::Stuck => o,
-    }
+    let Outcome::Is(u) = o else {
+        return o;
+    };
+    store_cell(who, v, u, state)
 }

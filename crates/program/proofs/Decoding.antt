@@ -70,7 +70,7 @@ expression-of-agrees g h n i f b e (Declared d) q = refl
 expression-of-agrees g h n i f b e Module q = refl
 expression-of-agrees g h n i f b e Unknown q = refl
 
--- behind the last frame there is none, and none has no child
+-- after the last frame there is none, and none has no child
 past : (fs : List Frame) (i : ℕ) → length fs ≤ i → frameAt fs i ≡ noFrame
 past fs i h = List·getD-eq-default fs noFrame h
 
@@ -143,7 +143,8 @@ module _ (fs : List Frame) (o : Ordered fs) where
 
   pub statement-at : (i : ℕ)
       → statementAt fs i
-      ≡ statementOf (λ j. expressionAt fs j) (λ j. statementAt fs j) i (frameAt fs i) (frameAt fs i .kind)
+      ≡ statementOf (λ j. expressionAt fs j) (λ j. statementAt fs j) i (frameAt fs i)
+      (frameAt fs i .kind)
   unfolding statementAt statementTo
   statement-at i =
       statement-of-agrees (λ j. expressionAt fs j) (λ j. statementTo i fs j) (λ j. statementTo (suc j) fs j) i i (frameAt fs i) (below fs o i) (λ j l. statement-deep i (suc j) j l (omega arith)) (frameAt fs i .kind) refl

@@ -135,4 +135,5 @@ pub children-are : (f : Frame) (x v : Children) → x ≡ childrenOf f → x ≡
 unfolding children
 children-are f x v h e =
     ap listOf (sym e ∙ h)
-    ∙ listed (few (uses (f .kind) .a) (f .a)) (few (uses (f .kind) .b) (f .b)) (few (uses (f .kind) .c) (f .c))
+    ∙ listed (few (uses (f .kind) .a) (f .a)) (few (uses (f .kind) .b) (f .b))
+    (few (uses (f .kind) .c) (f .c))

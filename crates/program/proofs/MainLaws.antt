@@ -38,7 +38,8 @@ modules-append fs [] ys i = ap (λ (n : ℕ). modulesFrom fs n ys) (omega arith)
 modules-append fs (x ∷ xs) ys i =
     let z : suc i + length xs ≡ i + suc (length xs) = omega arith in
     ap (withPart fs i x (x .kind)) (modules-append fs xs ys (suc i) ∙ ap (λ (n : ℕ). modulesFrom fs (suc i) xs ++ modulesFrom fs n ys) z)
-    ∙ part-append fs i x (x .kind) (modulesFrom fs (suc i) xs) (modulesFrom fs (i + suc (length xs)) ys)
+    ∙ part-append fs i x (x .kind) (modulesFrom fs (suc i) xs)
+    (modulesFrom fs (i + suc (length xs)) ys)
 
 last-part : (ps : List Part) (p : Part)
     → getD (ps ++ (p ∷ [])) (length (ps ++ (p ∷ [])) - 1) noModule ≡ p
@@ -48,7 +49,7 @@ last-part ps p =
     size : {n m : ℕ} → n ≡ m + 1 → m ≡ n - 1
     size e = omega arith
 
--- ---- the loop from the last frame down: i frames are left, and there is no module behind them
+-- ---- the loop from the last frame down: i frames are left, and there is no module after them
 -- the modules from frame i on
 abbrev pub partsFrom : List ℕ → ℕ → List Part
 partsFrom words i = modulesFrom (framesOf words) i (drop i (framesOf words))
@@ -89,9 +90,11 @@ module _ (words : List ℕ) (i : ℕ) (f : Frame) (t : Bool) (e : f ≡ frameOfW
       place = zero-add (length (take (i - 1) (framesOf words))) ∙ front
 
       split : modulesFrom (framesOf words) 0 (framesOf words)
-          ≡ modulesFrom (framesOf words) 0 (take (i - 1) (framesOf words)) ++ (partOf (framesOf words) (i - 1) f ∷ [])
+          ≡ modulesFrom (framesOf words) 0
+          (take (i - 1) (framesOf words)) ++ (partOf (framesOf words) (i - 1) f ∷ [])
       split =
-          ap (modulesFrom fs 0) (sym (take-append-drop (i - 1) fs)) ∙ modules-append fs (take (i - 1) fs) (drop (i - 1) fs) 0
+          ap (modulesFrom fs 0) (sym (take-append-drop (i - 1) fs))
+          ∙ modules-append fs (take (i - 1) fs) (drop (i - 1) fs) 0
           ∙ ap (λ (ps : List Part). modulesFrom fs 0 (take (i - 1) fs) ++ ps)
           (ap (λ (n : ℕ). modulesFrom fs n (drop (i - 1) fs)) place ∙ from-here ∙ part-yes fs (i - 1) f (f .kind) [] (sym q ∙ h))
 

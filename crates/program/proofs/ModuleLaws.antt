@@ -76,17 +76,17 @@ module _ (words : List ℕ) (m i n : ℕ) (f : Frame) (t : Bool) (s : Finding wo
   finding-one h z =
       record {
         same =
-            behind n z (partsFrom words (i + 1))
+            beyond n z (partsFrom words (i + 1))
             ∙ ap (λ (ps : List Part). getD ps n noModule) (sym (module-first h)) ∙ s .same;
         there =
             fewer n z (length (partsFrom words (i + 1)))
             ∙ ap (λ (ps : List Part). ltb n (length ps)) (sym (module-first h)) ∙ s .there;
       }
     where
-      behind : (n : ℕ) → (n ≡ 0 → ⊥) → (ps : List Part)
+      beyond : (n : ℕ) → (n ≡ 0 → ⊥) → (ps : List Part)
           → getD ps (n - 1) noModule ≡ getD (partOf (framesOf words) i f ∷ ps) n noModule
-      behind zero z ps = absurd (z refl)
-      behind (suc n) z ps =
+      beyond zero z ps = absurd (z refl)
+      beyond (suc n) z ps =
           let y : suc n - 1 ≡ n = omega arith in ap (λ (k : ℕ). getD ps k noModule) y
 
       fewer : (n : ℕ) → (n ≡ 0 → ⊥) → (k : ℕ) → ltb (n - 1) k ≡ ltb n (suc k)
@@ -96,19 +96,23 @@ module _ (words : List ℕ) (m i n : ℕ) (f : Frame) (t : Bool) (s : Finding wo
           ap (λ (j : ℕ). ltb j k) y ∙ sym (leb·suc-suc (suc n) k)
 
   pub found-here : (r : ℕ) → r ≡ parametersIn (f .s) → not t ≡ false → n ≡ 0
-      → _≡_ {A = ModuleFound} (record { there = true; parameters = r; body = f .a }) (foundIn (programOf (framesOf words)) m)
+      → _≡_ {A = ModuleFound} (record { there = true; parameters = r; body = f .a })
+      (foundIn (programOf (framesOf words)) m)
   unfolding foundIn programOf
   found-here r u h z = found-path _ _
       (sym (sym (s .there) ∙ ap (λ (ps : List Part). ltb n (length ps)) (module-first h) ∙ lt-ltb n (suc (length (partsFrom words (i + 1)))) (omega arith)))
-      (u ∙ types-length (f .s) (f .b) (f .c) ∙ ap (λ (p : Part). length (p .types)) here) (sym (statement-root (framesOf words) (f .a)) ∙ ap (λ (p : Part). rootS (p .body)) here)
+      (u ∙ types-length (f .s) (f .b) (f .c) ∙ ap (λ (p : Part). length (p .types)) here)
+      (sym (statement-root (framesOf words) (f .a)) ∙ ap (λ (p : Part). rootS (p .body)) here)
     where
       here : partOf (framesOf words) i f ≡ getD (partsFrom words 0) m noModule
       here =
-          ap (λ (k : ℕ). getD (partOf (framesOf words) i f ∷ partsFrom words (i + 1)) k noModule) (sym z)
+          ap (λ (k : ℕ). getD (partOf (framesOf words) i f ∷ partsFrom words (i + 1)) k noModule)
+          (sym z)
           ∙ ap (λ (ps : List Part). getD ps n noModule) (sym (module-first h)) ∙ s .same
 
 pub found-none : (words : List ℕ) (m i n : ℕ) → Finding words m i n → length words ≤ i
-    → _≡_ {A = ModuleFound} (record { there = false; parameters = 0; body = 0 }) (foundIn (programOf (framesOf words)) m)
+    → _≡_ {A = ModuleFound} (record { there = false; parameters = 0; body = 0 })
+    (foundIn (programOf (framesOf words)) m)
 unfolding foundIn programOf modulesFrom
 found-none words m i n s l = found-path _ _
     (sym (sym (s .there) ∙ ap (λ (ps : List Part). ltb n (length ps)) nothing ∙ le-ltb n 0 (omega arith)))

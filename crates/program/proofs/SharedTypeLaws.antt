@@ -1,4 +1,4 @@
--- The types of the shared cells: of one, in an array, and of all, read from behind the header on.
+-- The types of the shared cells: of one, in an array, and of all, read from after the header on.
 -- Assumes nothing.
 use mathlib.Core.Path.{_≡_, refl, sym, ap, ap₂, subst, _∙_}
 use mathlib.Core.Bool.{Bool, true, false, true≢false, not, _&&_}
@@ -24,7 +24,7 @@ use Rattle.text.specs.Frames.{framesOf}
 use Rattle.text.proofs.FrameWords.{frames-length, frame-at, frames-end}
 use Rattle.program.specs.Trees.{frameAt, noFrame}
 use Rattle.program.specs.Programs.{SharedCell, typeOfShared, sharedOf, cellsOf}
-use Rattle.program.specs.inner.Shared.{padded, sharedTypes, SharedFirst}
+use Rattle.program.specs.inner.Shared.{paddedTypes, sharedTypes, SharedFirst}
 use Rattle.program.specs.declared.shared.SharedTypes.{SharedTypes}
 use Rattle.program.proofs.OneMore.{shared-no, shared-yes}
 use Rattle.program.proofs.FrameLaws.{frames-next}
@@ -53,7 +53,7 @@ pub ruleset type-laws = (type-deep, type-word)
 
 -- ---- in an array: one type more takes the place of the first 0
 pub padded-more : (ts : List ℕ) (w : ℕ) → length ts < mostShared
-    → set (padded ts) (length ts) w ≡ padded (ts ++ (w ∷ []))
+    → set (paddedTypes ts) (length ts) w ≡ paddedTypes (ts ++ (w ∷ []))
 padded-more ts w l =
     let left : ℕ = mostShared - suc (length ts) in
     let e : mostShared - length ts ≡ suc left = omega arith in
@@ -63,11 +63,11 @@ padded-more ts w l =
     ∙ sym (append-assoc ts (w ∷ []) (replicate left 0))
     ∙ ap (λ (n : ℕ). (ts ++ (w ∷ [])) ++ replicate (mostShared - n) 0) (sym m)
 
-pub padded-taken : (ts : List ℕ) → take (length ts) (padded ts) ≡ ts
+pub padded-taken : (ts : List ℕ) → take (length ts) (paddedTypes ts) ≡ ts
 padded-taken ts = take-append-seam ts (replicate (mostShared - length ts) 0)
 
 padded-length : (ts : List ℕ)
-    → length (padded ts) ≡ length ts + (mostShared - length ts)
+    → length (paddedTypes ts) ≡ length ts + (mostShared - length ts)
 padded-length ts =
     length-append ts (replicate (mostShared - length ts) 0)
     ∙ ap (λ (k : ℕ). length ts + k) (length-replicate {A = ℕ} (mostShared - length ts) 0)
@@ -78,7 +78,7 @@ module _ (fs : List Frame) (t : SharedTypes) (e : t ≡ sharedTypes fs) where
   unfolding sharedTypes
   count-is = ap (λ (x : SharedTypes). x .count) e
 
-  types-are : t .types ≡ padded (cellsOf fs)
+  types-are : t .types ≡ paddedTypes (cellsOf fs)
   unfolding sharedTypes
   types-are = ap (λ (x : SharedTypes). x .types) e
 
@@ -97,13 +97,13 @@ pub record Collecting (ws types : List ℕ) (n : ℕ) : Type 0 where
   pub passed : List ℕ
   pub count : length passed ≡ n
   pub few : n ≤ mostShared
-  pub written : types ≡ padded passed
+  pub written : types ≡ paddedTypes passed
   pub all : cellsOf (framesOf ws) ≡ passed ++ cellsOf (drop (n + 1) (framesOf ws))
 
-behind-first : (fs : List Frame) → isShared (frameAt fs 0 .kind) ≡ false
+after-first : (fs : List Frame) → isShared (frameAt fs 0 .kind) ≡ false
     → cellsOf fs ≡ cellsOf (drop (0 + 1) fs)
-behind-first [] e = refl
-behind-first (f ∷ fs) e = ap (map typeOfShared) (shared-no f fs e)
+after-first [] e = refl
+after-first (f ∷ fs) e = ap (map typeOfShared) (shared-no f fs e)
 
 pub collect-start : (ws : List ℕ) → SharedFirst (framesOf ws)
     → Collecting ws (replicate mostShared 0) 0
@@ -113,7 +113,7 @@ collect-start ws g =
       count = refl;
       few = omega arith;
       written = refl;
-      all = behind-first (framesOf ws) (g .header);
+      all = after-first (framesOf ws) (g .header);
     }
 
 -- where the scan stops no cell is left
@@ -126,7 +126,7 @@ module _ (ws types : List ℕ) (n : ℕ) (s : Collecting ws types n) where
       s .all ∙ ap (λ (cs : List SharedCell). s .passed ++ map typeOfShared cs) e
       ∙ append-nil (s .passed) in
       ap₂ (λ (k : ℕ) (ts : List ℕ). record { count = k; types = ts })
-      (sym (s .count) ∙ ap length (sym all)) (s .written ∙ ap padded (sym all))
+      (sym (s .count) ∙ ap length (sym all)) (s .written ∙ ap paddedTypes (sym all))
 
   pub collect-end : length ws ≤ n + 1
       → record { count = n; types = types } ≡ sharedTypes (framesOf ws)

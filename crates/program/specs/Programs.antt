@@ -1,16 +1,11 @@
--- A file as a program: its header, its shared cells, its modules. Assumes nothing: definitions.
-use mathlib.Core.List.{List, [], _∷_, map}
-use Prim.Native.Nat.{ℕ, suc, _-_}
-use lib.Dec.{eqb}
-use lib.ListN.{length, getD, take}
-use Rattle.basics.specs.If.{if_then_else_}
-use Rattle.language.specs.Types.{cellType}
-use Rattle.language.specs.declared.kind.Kind.{Kind}
-use Rattle.language.specs.declared.kind.DeclarationKind.the-variants.{Shared}
-use Rattle.language.specs.declared.kind.Kind.the-variants.{Header, Declared, Module, Statement, Expression, Unknown}
-use Rattle.language.specs.declared.frame.Frame.{Frame}
-use Rattle.language.specs.Limits.{defaultAllowance}
+-- A file as a program: its header, its shared cells, its modules.
+use Rattle.basics.specs.Prelude.{List, [], _∷_, map, ℕ, suc, _-_, eqb, length, getD, take}
+use Rattle.basics.specs.Prelude.{if_then_else_}
+use Rattle.language.specs.{Types.cellType, declared.frame.Frame.Frame, Limits.defaultAllowance}
+use kind.{Kind.Kind, DeclarationKind.the-variants.Shared}
+use kind.Kind.the-variants.{Header, Declared, Module, Statement, Expression, Unknown}
 use Rattle.program.specs.Trees.{Stmt, nothing, frameAt, statementAt}
+use Rattle.language.specs.declared.kind as kind
 
 -- '01 shared cell: S owner (a scheduler), A content type, B first content'
 pub record SharedCell : Type 0 where
@@ -24,7 +19,7 @@ pub record Part : Type 0 where
   pub types : List ℕ
   pub body : Stmt
 
--- '00 header: A step allowance (0 means 4,096), B schedulers', 'Modules and shared cells count from 0.'
+-- 'A step allowance (0 means 4,096), B schedulers', 'Modules and shared cells count from 0.'
 pub record Program : Type 0 where
   pub allowance : ℕ
   pub schedulers : ℕ
@@ -57,7 +52,8 @@ abbrev pub cellsOf : List Frame → List ℕ
 cellsOf fs = map typeOfShared (sharedOf fs)
 
 abbrev pub partOf : List Frame → ℕ → Frame → Part
-partOf fs i f = record { frame = i; types = take (f .s) (f .b ∷ f .c ∷ []); body = statementAt fs (f .a) }
+partOf fs i f =
+    record { frame = i; types = take (f .s) (f .b ∷ f .c ∷ []); body = statementAt fs (f .a) }
 
 abbrev pub withPart : List Frame → ℕ → Frame → Kind → List Part → List Part
 withPart fs i f Module ps = partOf fs i f ∷ ps

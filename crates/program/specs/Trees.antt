@@ -1,16 +1,16 @@
--- Statements and expressions as trees. Each node carries its frame's number, which refusals name and continuations hold. Assumes nothing: definitions.
-use mathlib.Core.List.{List, [], _∷_}
-use Prim.Native.Nat.{ℕ, zero, suc}
-use lib.ListN.{getD}
-use Rattle.language.specs.declared.kind.StatementKind.{StatementKind}
-use Rattle.language.specs.declared.kind.StatementKind.the-variants.{Nothing, Then, DoAt, Start, StartWait, Cooperate, Let, Store, If, While}
-use Rattle.language.specs.declared.kind.ExpressionKind.{ExpressionKind}
-use Rattle.language.specs.declared.kind.ExpressionKind.the-variants.{Number, Truth, Variable, SharedCell, NewCell, Content, Sum, Less, Choose}
-use Rattle.language.specs.declared.kind.Kind.{Kind}
-use Rattle.language.specs.declared.kind.Kind.the-variants.{Header, Declared, Module, Statement, Expression, Unknown}
+-- Statements and expressions as trees. Each node carries its frame's number, which refusals name.
+use Rattle.basics.specs.Prelude.{List, [], _∷_, ℕ, zero, suc, getD}
 use Rattle.language.specs.declared.frame.Frame.{Frame}
+use kind.{StatementKind.StatementKind, ExpressionKind.ExpressionKind, Kind.Kind}
+use kind.StatementKind.the-variants.{Nothing, Then, DoAt, Start, StartWait, Cooperate, Let, Store}
+use kind.StatementKind.the-variants.{If, While}
+use kind.ExpressionKind.the-variants.{Number, Truth, Variable, SharedCell, NewCell, Content, Sum}
+use kind.ExpressionKind.the-variants.{Less, Choose}
+use kind.Kind.the-variants.{Header, Declared, Module, Statement, Expression, Unknown}
+use Rattle.language.specs.declared.kind as kind
 
--- K 20 to 28. The first number is the frame's; the second, where there is one, is the number, the truth, the index of the variable or of the shared cell, or the new cell's owner
+-- K 20 to 28. The first number is the frame's; the second, where there is one, is the number, the
+-- truth, the index of the variable or of the shared cell, or the new cell's owner
 pub data Expr : Type 0 where
   number truth variable shared : ℕ → ℕ → Expr
   new : ℕ → ℕ → Expr → Expr
@@ -53,7 +53,8 @@ rootS (store i x y) = i
 rootS (ifElse i x p q) = i
 rootS (while i x p) = i
 
--- ---- from frames to trees. In a file that passes refusals 1 to 7 every child is of its class and below its parent; elsewhere a wrong one reads as number 0 or as nothing
+-- ---- from frames to trees. After refusals 1 to 7 every child is of its class and below its parent
+-- (elsewhere a wrong one reads as number 0 or as nothing)
 
 abbrev pub noFrame : Frame
 noFrame = record { kind = Unknown; s = 0; a = 0; b = 0; c = 0 }
@@ -84,7 +85,8 @@ expressionOf rec i f Unknown = number i 0
 -- the tree to a depth of d
 unfoldable pub expressionTo : ℕ → List Frame → ℕ → Expr
 expressionTo zero fs i = number i 0
-expressionTo (suc d) fs i = expressionOf (λ j. expressionTo d fs j) i (frameAt fs i) (frameAt fs i .kind)
+expressionTo (suc d) fs i =
+    expressionOf (λ j. expressionTo d fs j) i (frameAt fs i) (frameAt fs i .kind)
 
 -- a child's number is below its parent's, so that depth is enough
 unfoldable pub expressionAt : List Frame → ℕ → Expr
@@ -119,7 +121,9 @@ statementOf expr rec i f Unknown = nothing i
 
 unfoldable pub statementTo : ℕ → List Frame → ℕ → Stmt
 statementTo zero fs i = nothing i
-statementTo (suc d) fs i = statementOf (λ j. expressionAt fs j) (λ j. statementTo d fs j) i (frameAt fs i) (frameAt fs i .kind)
+statementTo (suc d) fs i =
+    let f = frameAt fs i in
+    statementOf (λ j. expressionAt fs j) (λ j. statementTo d fs j) i f (f .kind)
 
 unfoldable pub statementAt : List Frame → ℕ → Stmt
 statementAt fs i = statementTo (suc i) fs i

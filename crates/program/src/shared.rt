@@ -63,7 +63,7 @@ pub fn shared_type(f: Frame) -> u16
     }
 }
 
-// The types of all shared cells of a laid-out file. The cells stand right behind the header, so
+// The types of all shared cells of a laid-out file. The cells stand right after the header, so
 // that the scan ends at the first other frame: a check looks at no line more than that.
 pub fn shared_types(frames: &[u64]) -> SharedTypes
     requires { ⌜ SharedFirst (framesOf (now frames)) ⌝ }

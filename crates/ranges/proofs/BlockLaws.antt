@@ -155,7 +155,8 @@ module _ (fs : List Frame) (n : ℕ) (w : List ℕ) (i : ℕ) where
       → r ≡ allBelow 55 (threadWordInRange fs n w i)
   thread-rest t u r a b c d e f g = g ∙ same-test _ _
       (λ q. all-below 55 (threadWordInRange fs n w i) (thread-parts (λ j. threadWordInRange fs n w i j ≡ true)
-      (range-place fs n w i ∙ sym a ∙ not-false t b) (range-starter fs n w i ∙ le-leb _ 64 c) (range-lives fs n w i ∙ le-leb _ 1 d)
+      (range-place fs n w i ∙ sym a ∙ not-false t b) (range-starter fs n w i ∙ le-leb _ 64 c)
+      (range-lives fs n w i ∙ le-leb _ 1 d)
       (λ j l. range-items fs n w i j l ∙ below-each 26 (listInRange (itemInRange fs n) 25 w (i + 3)) (sym e ∙ not-false u f) j l)
       (λ j l. range-variables fs n w i j l ∙ below-each 26 (listInRange valueInRange 25 w (i + 29)) q j l)))
       (λ q. all-below 26 (listInRange valueInRange 25 w (i + 29)) (λ j h. sym (range-variables fs n w i j h) ∙ word-in q (29 + j) (omega arith)))
@@ -183,7 +184,8 @@ module _ (fs : List Frame) (n : ℕ) (w : List ℕ) where
       by : (k : ℕ) → k < 8 → (b : Bool) → ltb k n ≡ b → schedulerBlock n w k ≡ true
       by k g true e =
           if-yes _ _ e
-          ∙ all-below 130 (schedulerInRange w (2 + 130 * k)) (λ j l. h .scheduler k j g l (ltb-true k n e))
+          ∙ all-below 130 (schedulerInRange w (2 + 130 * k))
+          (λ j l. h .scheduler k j g l (ltb-true k n e))
       by k g false e =
           if-no _ _ e
           ∙ at-zero w (2 + 130 * k) 130 (λ j l. h .no-scheduler k j g l (ltb-false k n e))
@@ -195,7 +197,8 @@ module _ (fs : List Frame) (n : ℕ) (w : List ℕ) where
       by : (k : ℕ) → k < 64 → (b : Bool) → ltb k (getD w 0 0) ≡ b → threadBlock fs n w k ≡ true
       by k g true e =
           if-yes _ _ e
-          ∙ all-below 55 (threadWordInRange fs n w (1042 + 55 * k)) (λ j l. h .thread k j l (ltb-true k (getD w 0 0) e))
+          ∙ all-below 55 (threadWordInRange fs n w (1042 + 55 * k))
+          (λ j l. h .thread k j l (ltb-true k (getD w 0 0) e))
       by k g false e =
           if-no _ _ e
           ∙ at-zero w (1042 + 55 * k) 55 (λ j l. h .no-thread k j g l (ltb-false k (getD w 0 0) e))

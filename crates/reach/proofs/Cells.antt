@@ -24,7 +24,7 @@ use Rattle.fields.proofs.Tallies.{count-cells}
 use Rattle.layout.specs.Faults.{NoFault}
 use Rattle.reach.proofs.Passed.{fields}
 
--- x is as refusal 5 wants it behind the cells `before`, in a file of n schedulers, and its first
+-- x is as refusal 5 wants it after the cells `before`, in a file of n schedulers, and its first
 -- content has Q
 pub record CellFine (Q : ℕ → Type 0) (n : ℕ) (before : List SharedCell) (x : SharedCell) : Type 0 where
   pub few : length before < 16
@@ -33,7 +33,7 @@ pub record CellFine (Q : ℕ → Type 0) (n : ℕ) (before : List SharedCell) (x
   pub first : firstContentFine (map typeOfShared before) (x .content) (x .first) ≡ true
   pub size : Q (x .first)
 
--- each of the cells is, behind those before it
+-- each of the cells is, after those before it
 pub data CellsFine (Q : ℕ → Type 0) (n : ℕ) : List SharedCell → List SharedCell → Type 0 where
   none : {before : List SharedCell} → CellsFine Q n before []
   more : {before : List SharedCell} {x : SharedCell} {xs : List SharedCell} → CellFine Q n before x
@@ -54,7 +54,8 @@ shared-append : (xs ys : List Frame) → sharedOf (xs ++ ys) ≡ sharedOf xs ++ 
 unfolding sharedOf
 shared-append [] ys = refl
 shared-append (f ∷ xs) ys =
-    shared-more f (xs ++ ys) ∙ ap (λ (l : List SharedCell). cellIn f (f .kind) ++ l) (shared-append xs ys)
+    shared-more f (xs ++ ys)
+    ∙ ap (λ (l : List SharedCell). cellIn f (f .kind) ++ l) (shared-append xs ys)
     ∙ sym (append-assoc (cellIn f (f .kind)) (sharedOf xs) (sharedOf ys))
     ∙ ap (λ (l : List SharedCell). l ++ sharedOf ys) (sym (shared-more f xs))
 
@@ -63,13 +64,14 @@ shared-snoc : (xs : List Frame) (f : Frame)
 unfolding sharedOf
 shared-snoc xs f =
     shared-append xs (f ∷ [])
-    ∙ ap (λ (l : List SharedCell). sharedOf xs ++ l) (shared-more f [] ∙ append-nil (cellIn f (f .kind)))
+    ∙ ap (λ (l : List SharedCell). sharedOf xs ++ l)
+    (shared-more f [] ∙ append-nil (cellIn f (f .kind)))
 
 count-shared : (fs : List Frame) → countOf isShared fs ≡ length (sharedOf fs)
 count-shared fs = count-cells fs ∙ length-map (sharedOf fs) typeOfShared
 
 module _ (Q : ℕ → Type 0) {fs : List Frame} (fine : NoFault fs) (each : (j : ℕ) → Q (frameAt fs j .b)) where
-  -- the frame f behind the frames `before`
+  -- the frame f after the frames `before`
   cell-fine : (before : List Frame) (f : Frame) → length before < length fs
       → frameAt fs (length before) ≡ f → take (length before) fs ≡ before
       → f .kind ≡ Declared Shared

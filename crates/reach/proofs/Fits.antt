@@ -122,7 +122,8 @@ module _ {fs : List Frame} (size : Sized fs) (fine : NoFault fs) where
     child-fits (Row.more t e r) (In.later m) q = child-fits r m q
 
     of-kind : (k : Kind) → isStatement k ≡ true → frameAt fs j .kind ≡ k
-        → Parts fs n (statementOf (λ i. expressionAt fs i) (λ i. statementAt fs i) j (frameAt fs j) k)
+        → Parts fs n
+        (statementOf (λ i. expressionAt fs i) (λ i. statementAt fs i) j (frameAt fs j) k)
     of-kind (Expression k) s q = absurd (true≢false (sym s))
     of-kind Header s q = absurd (true≢false (sym s))
     of-kind (Declared d) s q = absurd (true≢false (sym s))
@@ -142,7 +143,8 @@ module _ {fs : List Frame} (size : Sized fs) (fine : NoFault fs) where
     of-kind (Statement Store) s q = of-store (e-fits _) (e-fits _)
     of-kind (Statement If) s q =
         let r = row-at fine j l _ q in
-        of-if (e-fits _) (child-fits r (In.later In.first) refl) (child-fits r (In.later (In.later In.first)) refl)
+        of-if (e-fits _) (child-fits r (In.later In.first) refl)
+        (child-fits r (In.later (In.later In.first)) refl)
     of-kind (Statement While) s q =
         of-while (e-fits _) (child-fits (row-at fine j l _ q) (In.later In.first) refl)
 

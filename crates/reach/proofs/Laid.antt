@@ -137,7 +137,8 @@ module _ (Q : ℕ → Type 0) {fs : List Frame} (fine : NoFault fs) (none : Q 0)
   -- ---- statements; `rec` says it of the frames one deeper
   module _ (d j e : ℕ) (at : Depth fs j e) (rec : (i : ℕ) → Depth fs i (suc e) → LaidS Q (schedulersOf fs) d (statementAt fs i)) where
     s-kind : (k : Kind) → frameAt fs j .kind ≡ k
-        → LaidS Q (schedulersOf fs) (suc d) (statementOf (λ i. expressionAt fs i) (λ i. statementAt fs i) j (frameAt fs j) k)
+        → LaidS Q (schedulersOf fs) (suc d)
+        (statementOf (λ i. expressionAt fs i) (λ i. statementAt fs i) j (frameAt fs j) k)
     s-kind Header q = LaidS.nothing
     s-kind (Declared d) q = LaidS.nothing
     s-kind Module q = LaidS.nothing

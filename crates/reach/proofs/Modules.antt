@@ -42,7 +42,8 @@ unfolding modulesFrom
 parts-from [] i w = All.none
 parts-from {fs} (f ∷ tail) i w =
     let z : i + 0 ≡ i = omega arith in
-    with-part i f (f .kind) _ (let s = w .size in omega arith) (w .same 0 ∙ ap (frameAt fs) z) refl (parts-from tail (suc i) (from-next w))
+    with-part i f (f .kind) _ (let s = w .size in omega arith) (w .same 0 ∙ ap (frameAt fs) z) refl
+    (parts-from tail (suc i) (from-next w))
 
 pub parts : (fs : List Frame) → All (IsPart fs) (modulesFrom fs 0 fs)
 parts fs = parts-from fs 0 (from-start fs)

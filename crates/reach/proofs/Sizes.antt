@@ -16,7 +16,8 @@ pub record Sized (fs : List Frame) : Type 0 where
   pub b : (j : ℕ) → frameAt fs j .b < 2 ^ 32
 
 pub fields-small : (ws : List ℕ) (j : ℕ)
-    → (getD (map frameOfWord ws) j noFrame .a < 2 ^ 32) × (getD (map frameOfWord ws) j noFrame .b < 2 ^ 32)
+    → (getD (map frameOfWord ws) j noFrame .a < 2 ^ 32)
+    × (getD (map frameOfWord ws) j noFrame .b < 2 ^ 32)
 unfolding frameOfWord
 fields-small [] j = (omega arith, omega arith)
 fields-small (w ∷ ws) zero = (omega arith, omega arith)

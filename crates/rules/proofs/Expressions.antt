@@ -101,7 +101,8 @@ module _ (cells Γ : List ℕ) (i : ℕ) where
   found-choose x y z (Typed t e) (Untyped n j) s b c d = BrokenE.under ChildE.choose-b c
   found-choose x y z (Typed t e) (Typed u f) (Untyped n j) b c d = BrokenE.under ChildE.choose-c d
   found-choose x y z (Typed t e) (Typed u f) (Typed v g) b c d =
-      if-all (FoundE cells Γ (Expr.choose i x y z)) (eqb t truthType && eqb u numberType && eqb v numberType) _ _
+      if-all (FoundE cells Γ (Expr.choose i x y z))
+      (eqb t truthType && eqb u numberType && eqb v numberType) _ _
       (λ p. let q = and-true (eqb t truthType && eqb u numberType) _ p in let r = and-true _ _ (q .0) in HasType.choose (retype (eqb-true _ _ (r .0)) b) (retype (eqb-true _ _ (r .1)) c) (retype (eqb-true _ _ (q .1)) d))
       (λ p. BrokenE.here (BreaksE.choose b c d (λ w. and-false (eqb t truthType && eqb u numberType) _ p (both-true _ _ (eq-eqb _ _ (w .0)) (eq-eqb _ _ (w .1))) (eq-eqb _ _ (w .2)))))
     where

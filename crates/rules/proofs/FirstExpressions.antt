@@ -97,7 +97,8 @@ ownE (BreaksE.shared h) = own-named _ _ _ h
 ownE (BreaksE.new-deep {i = i} {t = t} x h) = rw (complete x) (if-all (Sooner Untyped illTyped i) (not (roomAround t)) _ _ (λ l. exactly) (λ l. absurd (true≢false (sym (not-false _ l) ∙ h))))
 ownE (BreaksE.new-escapes {i = i} {s = s} {t = t} ne x o) =
     rw (complete x) (
-    if-all (Sooner Untyped escaping i) (not (roomAround t)) _ _ (λ l. smaller {m = illTyped} (omega arith))
+    if-all (Sooner Untyped escaping i) (not (roomAround t)) _ _
+    (λ l. smaller {m = illTyped} (omega arith))
     (λ l. if-all (Sooner Untyped escaping i) (eqb s private) _ _ (λ p. absurd (ne (eqb-true _ _ p)))
     (λ p. if-all (Sooner Untyped escaping i) (not (public t)) _ _ (λ q. exactly) (λ q. absurd (true≢false (sym (not-false _ q) ∙ o))))))
 ownE (BreaksE.content {i = i} {t = t} x h) = rw (complete x) (if-all (Sooner Untyped illTyped i) (isCell t) _ _ (λ l. absurd (true≢false (sym l ∙ h))) (λ l. exactly))

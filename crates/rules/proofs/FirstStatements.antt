@@ -21,14 +21,14 @@ use Rattle.program.specs.Trees.{Expr, Stmt, rootS}
 use Rattle.layout.proofs.Placed.{PlacedEs, PlacedS}
 use Rattle.rules.specs.declared.finding.Typing.{Typing}
 use Rattle.rules.specs.declared.finding.Typing.the-variants.{Typed, Untyped}
-use Rattle.rules.specs.declared.finding.Conduct.{Conduct}
-use Rattle.rules.specs.declared.finding.Conduct.the-variants.{Does, Fails}
+use Rattle.rules.specs.declared.finding.StatementEffect.{StatementEffect}
+use Rattle.rules.specs.declared.finding.StatementEffect.the-variants.{Proper, Faulty}
 use Rattle.rules.specs.Rules.{Setting, Signature, signatureAt, AllPublic}
 use Rattle.rules.specs.Breaks.{BreaksS, Starts}
 use Rattle.rules.specs.Broken.{BrokenE, Operand, ChildS, BrokenS}
 use Rattle.rules.specs.inner.Checking.{Argued, argue, typesIn, startRule, cooperateRule}
 use Rattle.rules.specs.inner.Checking.{seqRule, doRule, joinRule, letRule, storeRule}
-use Rattle.rules.specs.inner.Checking.{ifElseRule, whileRule, runIn}
+use Rattle.rules.specs.inner.Checking.{ifElseRule, whileRule, effectIn}
 use Rattle.rules.proofs.Sooner.{Sooner, exactly, smaller}
 use Rattle.rules.proofs.Lists.{same-true, all-true}
 use Rattle.rules.proofs.Expressions.{complete}
@@ -36,10 +36,10 @@ use Rattle.rules.proofs.Statements.{completeEs, completeS, FoundEs, sou
 use Rattle.rules.proofs.Ranges.{rangeE, rangeEs, root-aboveS, rangeS}
 use Rattle.rules.proofs.FirstExpressions.{BeforeE, beforeE, leastE}
 
--- ---- a conduct, or types of arguments, or a fault before frame j
-data BeforeS (j : ℕ) : Conduct → Type 0 where
-  runs : {e : Effect} {b : Bool} → BeforeS j (Does e b)
-  before : {m k : ℕ} → k < j → BeforeS j (Fails m k)
+-- ---- an effect, or types of arguments, or a fault before frame j
+data BeforeS (j : ℕ) : StatementEffect → Type 0 where
+  runs : {e : Effect} {b : Bool} → BeforeS j (Proper e b)
+  before : {m k : ℕ} → k < j → BeforeS j (Faulty m k)
 
 data BeforeA (j : ℕ) : Argued → Type 0 where
   are : {ts : List ℕ} {e : Effect} → BeforeA j (Argued.have ts e)
@@ -55,12 +55,12 @@ beforeEs cells Γ {stop = stop} {xs = xs} p = go (typesIn cells Γ xs) (soundEs 
         let r = rangeEs (b .among) (b .broken) p in BeforeA.before {k = k} (omega arith)
 
 beforeS : (env : Setting) (below : List Signature) (Γ : List ℕ) (at : Standing) {lo j : ℕ} {p : Stmt}
-    → PlacedS lo p → rootS p < j → BeforeS j (runIn env below Γ at p)
-beforeS env below Γ at {j = j} {p = p} h l = go (runIn env below Γ at p) (soundS env below Γ at p)
+    → PlacedS lo p → rootS p < j → BeforeS j (effectIn env below Γ at p)
+beforeS env below Γ at {j = j} {p = p} h l = go (effectIn env below Γ at p) (soundS env below Γ at p)
   where
-    go : (r : Conduct) → FoundS env below Γ at p r → BeforeS j r
-    go (Does e b) g = BeforeS.runs
-    go (Fails m k) b = let r = rangeS b h in BeforeS.before {k = k} (omega arith)
+    go : (r : StatementEffect) → FoundS env below Γ at p r → BeforeS j r
+    go (Proper e b) g = BeforeS.runs
+    go (Faulty m k) b = let r = rangeS b h in BeforeS.before {k = k} (omega arith)
 
 -- ---- a child's fault that comes no later than rule n at frame j is the whole's: the first child's
 -- at once, a later one's where each child before it has no fault, or one before j.
@@ -77,68 +77,68 @@ module _ {n j : ℕ} where
   under-argue-b (BeforeE.before l) (Sooner.sooner h) = Sooner.sooner (inl l)
 
   under-start : (once : Bool) (below : List Signature) (at : Standing) (s i : ℕ) {a : Argued}
-      → Sooner Argued.fail n j a → Sooner Fails n j (startRule once below at s i a)
+      → Sooner Argued.fail n j a → Sooner Faulty n j (startRule once below at s i a)
   unfolding startRule
   under-start once below at s i (Sooner.sooner h) = Sooner.sooner h
 
-  under-seq-a : {r : Conduct} (s : Conduct) → Sooner Fails n j r → Sooner Fails n j (seqRule r s)
+  under-seq-a : {r : StatementEffect} (s : StatementEffect) → Sooner Faulty n j r → Sooner Faulty n j (seqRule r s)
   unfolding seqRule
   under-seq-a s (Sooner.sooner h) = Sooner.sooner h
 
-  under-seq-b : {r s : Conduct} → BeforeS j r → Sooner Fails n j s → Sooner Fails n j (seqRule r s)
+  under-seq-b : {r s : StatementEffect} → BeforeS j r → Sooner Faulty n j s → Sooner Faulty n j (seqRule r s)
   unfolding seqRule
   under-seq-b BeforeS.runs (Sooner.sooner h) = Sooner.sooner h
   under-seq-b (BeforeS.before l) (Sooner.sooner h) = Sooner.sooner (inl l)
 
-  under-do : (at : Standing) (s i : ℕ) {r : Conduct} → Sooner Fails n j r
-      → Sooner Fails n j (doRule at s i r)
+  under-do : (at : Standing) (s i : ℕ) {r : StatementEffect} → Sooner Faulty n j r
+      → Sooner Faulty n j (doRule at s i r)
   unfolding doRule
   under-do at s i (Sooner.sooner h) = Sooner.sooner h
 
-  under-join : (e : Effect) {r : Conduct} → Sooner Fails n j r → Sooner Fails n j (joinRule e r)
+  under-join : (e : Effect) {r : StatementEffect} → Sooner Faulty n j r → Sooner Faulty n j (joinRule e r)
   unfolding joinRule
   under-join e (Sooner.sooner h) = Sooner.sooner h
 
-  under-let : (body : List ℕ → Conduct) (Γ : List ℕ) {r : Typing} → Sooner Untyped n j r
-      → Sooner Fails n j (letRule body Γ r)
+  under-let : (body : List ℕ → StatementEffect) (Γ : List ℕ) {r : Typing} → Sooner Untyped n j r
+      → Sooner Faulty n j (letRule body Γ r)
   under-let body Γ (Sooner.sooner h) = Sooner.sooner h
 
   under-store-a : (i : ℕ) {r : Typing} (s : Typing) → Sooner Untyped n j r
-      → Sooner Fails n j (storeRule i r s)
+      → Sooner Faulty n j (storeRule i r s)
   unfolding storeRule
   under-store-a i s (Sooner.sooner h) = Sooner.sooner h
 
   under-store-b : (i : ℕ) {r s : Typing} → BeforeE j r → Sooner Untyped n j s
-      → Sooner Fails n j (storeRule i r s)
+      → Sooner Faulty n j (storeRule i r s)
   unfolding storeRule
   under-store-b i BeforeE.typed (Sooner.sooner h) = Sooner.sooner h
   under-store-b i (BeforeE.before l) (Sooner.sooner h) = Sooner.sooner (inl l)
 
-  under-ifElse-a : (i : ℕ) {r : Typing} (s t : Conduct) → Sooner Untyped n j r
-      → Sooner Fails n j (ifElseRule i r s t)
+  under-ifElse-a : (i : ℕ) {r : Typing} (s t : StatementEffect) → Sooner Untyped n j r
+      → Sooner Faulty n j (ifElseRule i r s t)
   unfolding ifElseRule
   under-ifElse-a i s t (Sooner.sooner h) = Sooner.sooner h
 
-  under-ifElse-b : (i : ℕ) {r : Typing} {s : Conduct} (t : Conduct) → BeforeE j r
-      → Sooner Fails n j s → Sooner Fails n j (ifElseRule i r s t)
+  under-ifElse-b : (i : ℕ) {r : Typing} {s : StatementEffect} (t : StatementEffect) → BeforeE j r
+      → Sooner Faulty n j s → Sooner Faulty n j (ifElseRule i r s t)
   unfolding ifElseRule
   under-ifElse-b i t BeforeE.typed (Sooner.sooner h) = Sooner.sooner h
   under-ifElse-b i t (BeforeE.before l) (Sooner.sooner h) = Sooner.sooner (inl l)
 
-  under-ifElse-c : (i : ℕ) {r : Typing} {s t : Conduct} → BeforeE j r → BeforeS j s
-      → Sooner Fails n j t → Sooner Fails n j (ifElseRule i r s t)
+  under-ifElse-c : (i : ℕ) {r : Typing} {s t : StatementEffect} → BeforeE j r → BeforeS j s
+      → Sooner Faulty n j t → Sooner Faulty n j (ifElseRule i r s t)
   unfolding ifElseRule
   under-ifElse-c i BeforeE.typed BeforeS.runs (Sooner.sooner h) = Sooner.sooner h
   under-ifElse-c i BeforeE.typed (BeforeS.before l) (Sooner.sooner h) = Sooner.sooner (inl l)
   under-ifElse-c i (BeforeE.before l) b (Sooner.sooner h) = Sooner.sooner (inl l)
 
-  under-while-a : (i : ℕ) {r : Typing} (s : Conduct) → Sooner Untyped n j r
-      → Sooner Fails n j (whileRule i r s)
+  under-while-a : (i : ℕ) {r : Typing} (s : StatementEffect) → Sooner Untyped n j r
+      → Sooner Faulty n j (whileRule i r s)
   unfolding whileRule
   under-while-a i s (Sooner.sooner h) = Sooner.sooner h
 
-  under-while-b : (i : ℕ) {r : Typing} {s : Conduct} → BeforeE j r → Sooner Fails n j s
-      → Sooner Fails n j (whileRule i r s)
+  under-while-b : (i : ℕ) {r : Typing} {s : StatementEffect} → BeforeE j r → Sooner Faulty n j s
+      → Sooner Faulty n j (whileRule i r s)
   unfolding whileRule
   under-while-b i BeforeE.typed (Sooner.sooner h) = Sooner.sooner h
   under-while-b i (BeforeE.before l) (Sooner.sooner h) = Sooner.sooner (inl l)
@@ -155,74 +155,78 @@ leastEs (In.later i) b (PlacedEs.more p q) =
 -- earlier fault
 module _ (once : Bool) (below : List Signature) (at : Standing) (s i : ℕ) where
   own-module : {a : Argued} → BeforeA i a → length below ≤ s
-      → Sooner Fails unbound i (startRule once below at s i a)
+      → Sooner Faulty unbound i (startRule once below at s i a)
   unfolding startRule
-  own-module BeforeA.are h = if-all (Sooner Fails unbound i) (leb (length below) s) _ _ (λ l. exactly) (λ l. absurd (true≢false (sym (le-leb _ _ h) ∙ l)))
+  own-module BeforeA.are h = if-all (Sooner Faulty unbound i) (leb (length below) s) _ _ (λ l. exactly) (λ l. absurd (true≢false (sym (le-leb _ _ h) ∙ l)))
   own-module (BeforeA.before l) h = Sooner.sooner (inl l)
 
   own-types : (ts : List ℕ) (e : Effect) → s < length below → (ts ≡ signatureAt below s .types → ⊥)
-      → Sooner Fails illTyped i (startRule once below at s i (Argued.have ts e))
+      → Sooner Faulty illTyped i (startRule once below at s i (Argued.have ts e))
   unfolding startRule
   own-types ts e h z =
-      if-all (Sooner Fails illTyped i) (leb (length below) s) _ _ (λ l. smaller {m = unbound} (omega arith))
-      (λ l. if-all (Sooner Fails illTyped i) (not (sameNumbers ts (signatureAt below s .types))) _ _ (λ m. exactly) (λ m. absurd (z (same-true _ _ (not-false _ m)))))
+      if-all (Sooner Faulty illTyped i) (leb (length below) s) _ _
+      (λ l. smaller {m = unbound} (omega arith))
+      (λ l. if-all (Sooner Faulty illTyped i) (not (sameNumbers ts (signatureAt below s .types))) _ _ (λ m. exactly) (λ m. absurd (z (same-true _ _ (not-false _ m)))))
 
   own-escapes : (ts : List ℕ) (e : Effect) → (AllPublic ts → ⊥)
-      → Sooner Fails escaping i (startRule once below at s i (Argued.have ts e))
+      → Sooner Faulty escaping i (startRule once below at s i (Argued.have ts e))
   unfolding startRule
   own-escapes ts e z =
-      if-all (Sooner Fails escaping i) (leb (length below) s) _ _ (λ l. smaller {m = unbound} (omega arith))
-      (λ l. if-all (Sooner Fails escaping i) (not (sameNumbers ts (signatureAt below s .types))) _ _ (λ m. smaller {m = illTyped} (omega arith))
-      (λ m. if-all (Sooner Fails escaping i) (not (every public ts)) _ _ (λ o. exactly) (λ o. absurd (z (all-true public _ (not-false _ o))))))
+      if-all (Sooner Faulty escaping i) (leb (length below) s) _ _
+      (λ l. smaller {m = unbound} (omega arith))
+      (λ l. if-all (Sooner Faulty escaping i) (not (sameNumbers ts (signatureAt below s .types))) _ _ (λ m. smaller {m = illTyped} (omega arith))
+      (λ m. if-all (Sooner Faulty escaping i) (not (every public ts)) _ _ (λ o. exactly) (λ o. absurd (z (all-true public _ (not-false _ o))))))
 
 own-unlinked : (once : Bool) (below : List Signature) (s i : ℕ) {a : Argued} → BeforeA i a
-    → Sooner Fails whileUnlinked i (startRule once below unlinked s i a)
+    → Sooner Faulty whileUnlinked i (startRule once below unlinked s i a)
 unfolding startRule
 own-unlinked once below s i (BeforeA.are {ts = ts}) =
-    if-all (Sooner Fails whileUnlinked i) (leb (length below) s) _ _ (λ l. smaller {m = unbound} (omega arith))
-    (λ l. if-all (Sooner Fails whileUnlinked i) (not (sameNumbers ts (signatureAt below s .types))) _ _ (λ m. smaller {m = illTyped} (omega arith))
-    (λ m. if-all (Sooner Fails whileUnlinked i) (not (every public ts)) _ _ (λ o. smaller {m = escaping} (omega arith))
-    (λ o. if-all (Sooner Fails whileUnlinked i) true _ _ (λ k. exactly) (λ k. absurd (true≢false k)))))
+    if-all (Sooner Faulty whileUnlinked i) (leb (length below) s) _ _
+    (λ l. smaller {m = unbound} (omega arith))
+    (λ l. if-all (Sooner Faulty whileUnlinked i) (not (sameNumbers ts (signatureAt below s .types))) _ _ (λ m. smaller {m = illTyped} (omega arith))
+    (λ m. if-all (Sooner Faulty whileUnlinked i) (not (every public ts)) _ _ (λ o. smaller {m = escaping} (omega arith))
+    (λ o. if-all (Sooner Faulty whileUnlinked i) true _ _ (λ k. exactly) (λ k. absurd (true≢false k)))))
 own-unlinked once below s i (BeforeA.before l) = Sooner.sooner (inl l)
 
 own-effect : (at : Standing) (s i : ℕ) (e : Effect) (a : Bool) → within s e ≡ false
-    → Sooner Fails wrongEffect i (doRule at s i (Does e a))
+    → Sooner Faulty wrongEffect i (doRule at s i (Proper e a))
 unfolding doRule
-own-effect at s i e a h = if-all (Sooner Fails wrongEffect i) (not (within s e)) _ _ (λ l. exactly) (λ l. absurd (true≢false (sym (not-false _ l) ∙ h)))
+own-effect at s i e a h = if-all (Sooner Faulty wrongEffect i) (not (within s e)) _ _ (λ l. exactly) (λ l. absurd (true≢false (sym (not-false _ l) ∙ h)))
 
-own-do-unlinked : (i : ℕ) {r : Conduct} → BeforeS i r
-    → Sooner Fails whileUnlinked i (doRule unlinked private i r)
+own-do-unlinked : (i : ℕ) {r : StatementEffect} → BeforeS i r
+    → Sooner Faulty whileUnlinked i (doRule unlinked private i r)
 unfolding doRule
-own-do-unlinked i (BeforeS.runs {e = e}) = if-all (Sooner Fails whileUnlinked i) (not (within private e)) _ _ (λ l. smaller {m = wrongEffect} (omega arith)) (λ l. if-all (Sooner Fails whileUnlinked i) true _ _ (λ k. exactly) (λ k. absurd (true≢false k)))
+own-do-unlinked i (BeforeS.runs {e = e}) = if-all (Sooner Faulty whileUnlinked i) (not (within private e)) _ _ (λ l. smaller {m = wrongEffect} (omega arith)) (λ l. if-all (Sooner Faulty whileUnlinked i) true _ _ (λ k. exactly) (λ k. absurd (true≢false k)))
 own-do-unlinked i (BeforeS.before l) = Sooner.sooner (inl l)
 
 own-store : (i t u : ℕ) (e f : Effect) → ((isCell t ≡ true) × (u ≡ contentOf t) → ⊥)
-    → Sooner Fails illTyped i (storeRule i (Typed t e) (Typed u f))
+    → Sooner Faulty illTyped i (storeRule i (Typed t e) (Typed u f))
 unfolding storeRule
-own-store i t u e f z = if-all (Sooner Fails illTyped i) (isCell t && eqb u (contentOf t)) _ _ (λ p. let q = and-true _ _ p in absurd (z (q .0, eqb-true _ _ (q .1)))) (λ p. exactly)
+own-store i t u e f z = if-all (Sooner Faulty illTyped i) (isCell t && eqb u (contentOf t)) _ _ (λ p. let q = and-true _ _ p in absurd (z (q .0, eqb-true _ _ (q .1)))) (λ p. exactly)
 
-own-ifElse : (i t : ℕ) (e : Effect) {r s : Conduct} → (t ≡ truthType → ⊥) → BeforeS i r
-    → BeforeS i s → Sooner Fails illTyped i (ifElseRule i (Typed t e) r s)
+own-ifElse : (i t : ℕ) (e : Effect) {r s : StatementEffect} → (t ≡ truthType → ⊥) → BeforeS i r
+    → BeforeS i s → Sooner Faulty illTyped i (ifElseRule i (Typed t e) r s)
 unfolding ifElseRule
-own-ifElse i t e z BeforeS.runs BeforeS.runs = if-all (Sooner Fails illTyped i) (eqb t truthType) _ _ (λ p. absurd (z (eqb-true _ _ p))) (λ p. exactly)
+own-ifElse i t e z BeforeS.runs BeforeS.runs = if-all (Sooner Faulty illTyped i) (eqb t truthType) _ _ (λ p. absurd (z (eqb-true _ _ p))) (λ p. exactly)
 own-ifElse i t e z BeforeS.runs (BeforeS.before l) = Sooner.sooner (inl l)
 own-ifElse i t e z (BeforeS.before l) q = Sooner.sooner (inl l)
 
-own-while : (i t : ℕ) (e : Effect) {r : Conduct} → (t ≡ truthType → ⊥) → BeforeS i r
-    → Sooner Fails illTyped i (whileRule i (Typed t e) r)
+own-while : (i t : ℕ) (e : Effect) {r : StatementEffect} → (t ≡ truthType → ⊥) → BeforeS i r
+    → Sooner Faulty illTyped i (whileRule i (Typed t e) r)
 unfolding whileRule
-own-while i t e z BeforeS.runs = if-all (Sooner Fails illTyped i) (not (eqb t truthType)) _ _ (λ p. exactly) (λ p. absurd (z (eqb-true _ _ (not-false _ p))))
+own-while i t e z BeforeS.runs = if-all (Sooner Faulty illTyped i) (not (eqb t truthType)) _ _ (λ p. exactly) (λ p. absurd (z (eqb-true _ _ (not-false _ p))))
 own-while i t e z (BeforeS.before l) = Sooner.sooner (inl l)
 
 own-body : (i : ℕ) (f : Effect) {r : Typing} → BeforeE i r
-    → Sooner Fails instantLoop i (whileRule i r (Does f true))
+    → Sooner Faulty instantLoop i (whileRule i r (Proper f true))
 unfolding whileRule
-own-body i f (BeforeE.typed {t = t}) = if-all (Sooner Fails instantLoop i) (not (eqb t truthType)) _ _ (λ p. smaller {m = illTyped} (omega arith)) (λ p. if-all (Sooner Fails instantLoop i) true _ _ (λ k. exactly) (λ k. absurd (true≢false k)))
+own-body i f (BeforeE.typed {t = t}) = if-all (Sooner Faulty instantLoop i) (not (eqb t truthType)) _ _ (λ p. smaller {m = illTyped} (omega arith)) (λ p. if-all (Sooner Faulty instantLoop i) true _ _ (λ k. exactly) (λ k. absurd (true≢false k)))
 own-body i f (BeforeE.before l) = Sooner.sooner (inl l)
 
 ownS : {env : Setting} {below : List Signature} {Γ : List ℕ} {at : Standing} {lo n : ℕ} {p : Stmt}
-    → BreaksS env below Γ at p n → PlacedS lo p → Sooner Fails n (rootS p) (runIn env below Γ at p)
-unfolding runIn cooperateRule
+    → BreaksS env below Γ at p n → PlacedS lo p
+    → Sooner Faulty n (rootS p) (effectIn env below Γ at p)
+unfolding effectIn cooperateRule
 ownS (BreaksS.start-module Starts.start h) (PlacedS.start p) =
     own-module _ _ _ _ _ (beforeEs _ _ p) h
 ownS (BreaksS.start-module Starts.start-wait h) (PlacedS.start-wait p) =
@@ -235,7 +239,8 @@ ownS (BreaksS.store x y z) (PlacedS.store p q e) =
     rw (complete x, complete y) (own-store _ _ _ _ _ z)
 ownS (BreaksS.ifElse x z) (PlacedS.ifElse p q r e) =
     let a = root-aboveS r in
-    rw (complete x) (own-ifElse _ _ _ z (beforeS _ _ _ _ q (omega arith)) (beforeS _ _ _ _ r (omega arith)))
+    rw (complete x)
+    (own-ifElse _ _ _ z (beforeS _ _ _ _ q (omega arith)) (beforeS _ _ _ _ r (omega arith)))
 ownS (BreaksS.while x z) (PlacedS.while p q e) =
     rw (complete x) (own-while _ _ _ z (beforeS _ _ _ _ q (omega arith)))
 ownS (BreaksS.start-escapes Starts.start xs z) (PlacedS.start p) =
@@ -253,8 +258,8 @@ ownS (BreaksS.while-body r) (PlacedS.while p q e) =
 
 -- ---- whatever is broken, at the root or below it
 pub leastS : {env : Setting} {below : List Signature} {Γ : List ℕ} {at : Standing} {lo n j : ℕ} {p : Stmt}
-    → BrokenS env below Γ at p n j → PlacedS lo p → Sooner Fails n j (runIn env below Γ at p)
-unfolding runIn
+    → BrokenS env below Γ at p n j → PlacedS lo p → Sooner Faulty n j (effectIn env below Γ at p)
+unfolding effectIn
 leastS (BrokenS.here b) p = ownS b p
 leastS (BrokenS.operand (Operand.argument Starts.start i) b) (PlacedS.start p) =
     under-start _ _ _ _ _ (leastEs i b p)

@@ -8,8 +8,8 @@ use Prim.Native.Nat.{ℕ}
 use native.Mathlib.Omega.{arith}
 use Rattle.language.specs.declared.effect.Effect.{Effect}
 use Rattle.language.specs.Refusals.{wrongEffect}
-use Rattle.rules.specs.declared.finding.Conduct.{Conduct}
-use Rattle.rules.specs.declared.finding.Conduct.the-variants.{Does, Fails}
+use Rattle.rules.specs.declared.finding.StatementEffect.{StatementEffect}
+use Rattle.rules.specs.declared.finding.StatementEffect.the-variants.{Proper, Faulty}
 use Rattle.language.specs.declared.verdict.Verdict.{Verdict}
 use Rattle.language.specs.declared.verdict.Verdict.the-variants.{Accepted, Rejected}
 use Rattle.basics.specs.If.{if_then_else_}
@@ -20,7 +20,7 @@ use Rattle.layout.proofs.Placed.{PlacedM}
 use Rattle.layout.proofs.Parts.{NonEmpty}
 use Rattle.rules.specs.Rules.{Setting, settingOf, Signature, signature, Modules}
 use Rattle.rules.specs.Broken.{BrokenM, Broken, NoLater, RulesSay}
-use Rattle.rules.specs.inner.Checking.{runIn, mainRule, afterModule, modulesIn, rulesOf}
+use Rattle.rules.specs.inner.Checking.{effectIn, mainRule, afterModule, modulesIn, rulesOf}
 use Rattle.basics.proofs.Ifs.{if-all}
 use Rattle.rules.proofs.Sooner.{Sooner, exactly}
 use Rattle.rules.proofs.Statements.{completeS, FoundS, soundS}
@@ -39,34 +39,34 @@ FoundM env below ms Accepted = Modules env below ms
 FoundM env below ms (Rejected n j) = BrokenM env below ms n j
 
 module _ (env : Setting) (below : List Signature) (m : Part) where
-  found-main : (rest : List Signature → Verdict) (r : Conduct)
+  found-main : (rest : List Signature → Verdict) (r : StatementEffect)
       → FoundS env below (m .types) linked (m .body) r
       → FoundM env below (m ∷ []) (afterModule rest below m [] r)
-  found-main rest (Does e b) h = if-all (FoundM env below (m ∷ [])) (within home e) _ _ (λ l. Modules.main h l) (λ l. BrokenM.main h l)
-  found-main rest (Fails n j) h = BrokenM.body h
+  found-main rest (Proper e b) h = if-all (FoundM env below (m ∷ [])) (within home e) _ _ (λ l. Modules.main h l) (λ l. BrokenM.main h l)
+  found-main rest (Faulty n j) h = BrokenM.body h
 
   found-more : (n : Part) (ms : List Part) (rest : List Signature → Verdict)
-      → ((sigs : List Signature) → FoundM env sigs (n ∷ ms) (rest sigs)) → (r : Conduct)
+      → ((sigs : List Signature) → FoundM env sigs (n ∷ ms) (rest sigs)) → (r : StatementEffect)
       → FoundS env below (m .types) linked (m .body) r
       → FoundM env below (m ∷ n ∷ ms) (afterModule rest below m (n ∷ ms) r)
-  found-more n ms rest g (Does e b) h =
+  found-more n ms rest g (Proper e b) h =
       go (rest (below ++ (signature m e ∷ []))) (g (below ++ (signature m e ∷ [])))
     where
       go : (a : Verdict) → FoundM env (below ++ (signature m e ∷ [])) (n ∷ ms) a
           → FoundM env below (m ∷ n ∷ ms) a
       go Accepted k = Modules.more h k
       go (Rejected i j) k = BrokenM.later h k
-  found-more n ms rest g (Fails i j) h = BrokenM.body h
+  found-more n ms rest g (Faulty i j) h = BrokenM.body h
 
 pub soundM : (env : Setting) (ms : List Part) (below : List Signature) (m : Part)
     → FoundM env below (m ∷ ms) (modulesIn env below (m ∷ ms))
 unfolding modulesIn
-soundM env [] below m = found-main env below m (λ sigs. modulesIn env sigs []) (runIn env below (m .types) linked (m .body)) (soundS env below (m .types) linked (m .body))
-soundM env (n ∷ ms) below m = found-more env below m n ms (λ sigs. modulesIn env sigs (n ∷ ms)) (λ sigs. soundM env ms sigs n) (runIn env below (m .types) linked (m .body)) (soundS env below (m .types) linked (m .body))
+soundM env [] below m = found-main env below m (λ sigs. modulesIn env sigs []) (effectIn env below (m .types) linked (m .body)) (soundS env below (m .types) linked (m .body))
+soundM env (n ∷ ms) below m = found-more env below m n ms (λ sigs. modulesIn env sigs (n ∷ ms)) (λ sigs. soundM env ms sigs n) (effectIn env below (m .types) linked (m .body)) (soundS env below (m .types) linked (m .body))
 
 -- ---- whatever is broken, the finding is a fault no later
-under-body : {n j : ℕ} (rest : List Signature → Verdict) (below : List Signature) (m : Part) (ms : List Part) {r : Conduct}
-    → Sooner Fails n j r → Sooner Rejected n j (afterModule rest below m ms r)
+under-body : {n j : ℕ} (rest : List Signature → Verdict) (below : List Signature) (m : Part) (ms : List Part) {r : StatementEffect}
+    → Sooner Faulty n j r → Sooner Rejected n j (afterModule rest below m ms r)
 under-body rest below m ms (Sooner.sooner h) = Sooner.sooner h
 
 own-main : (i : ℕ) (e : Effect) → within home e ≡ false

@@ -32,8 +32,8 @@ use Rattle.rules.specs.inner.NodeRules.{leafRule, OwnerPlaced, cellRule,
 use Rattle.rules.specs.inner.Standings.{standing}
 use Rattle.rules.specs.declared.finding.Typing.{Typing}
 use Rattle.rules.specs.declared.finding.Typing.the-variants.{Typed, Untyped}
-use Rattle.rules.specs.declared.finding.Conduct.{Conduct}
-use Rattle.rules.specs.declared.finding.Conduct.the-variants.{Does, Fails}
+use Rattle.rules.specs.declared.finding.StatementEffect.{StatementEffect}
+use Rattle.rules.specs.declared.finding.StatementEffect.the-variants.{Proper, Faulty}
 
 -- In the names: X-fault is what is found where the first child has a fault, X-fault-2 where the
 -- second has the first fault; X-row hands on the answer of the function that takes the children's
@@ -43,7 +43,8 @@ use Rattle.rules.specs.declared.finding.Conduct.the-variants.{Does, Fail
 read-word : (o t w : ℕ) → cellRead o t ≡ Word w → (roomAround t ≡ true) × (w ≡ cellType o t)
 unfolding cellRead
 read-word o t w =
-    if-all (λ (r : CellRead). r ≡ Word w → (roomAround t ≡ true) × (w ≡ cellType o t)) (isPlace o && roomAround t) _ _
+    if-all (λ (r : CellRead). r ≡ Word w → (roomAround t ≡ true) × (w ≡ cellType o t))
+    (isPlace o && roomAround t) _ _
     (λ k e. (and-true (isPlace o) (roomAround t) k .1, cc))
     (λ k e. absurd (let z : _≡_ {A = ℕ} 0 1 = cc in omega arith))
 
@@ -185,7 +186,8 @@ module _ (i : ℕ) (x : Typing) where
         → Typed u f ≡ contentRule i x
     unfolding contentRule
     content-read u f m a d =
-        yes (Untyped illTyped i) (sym k ∙ m) (ap (λ (n : ℕ). Typed n f) a ∙ ap (Typed (contentOf t)) d)
+        yes (Untyped illTyped i) (sym k ∙ m)
+        (ap (λ (n : ℕ). Typed n f) a ∙ ap (Typed (contentOf t)) d)
         ∙ ap (contentRule i) (sym h)
 
     pub content-none : y ≡ false → Untyped illTyped i ≡ contentRule i x
@@ -284,121 +286,123 @@ pub ruleset choose-laws = (choose-fault, choose-fault-2, choose-fault-3, choose-
 
 -- ---- 15, cooperate
 pub cooperate-linked : (l : Bool) (i : ℕ) (e : Effect) → l ≡ true → e ≡ noEffect
-    → Does e false ≡ cooperateRule (standing l) i
+    → Proper e false ≡ cooperateRule (standing l) i
 unfolding cooperateRule
 cooperate-linked l i e h k =
-    ap (λ (f : Effect). Does f false) k ∙ ap (λ (b : Bool). cooperateRule (standing b) i) (sym h)
+    ap (λ (f : Effect). Proper f false) k ∙ ap (λ (b : Bool). cooperateRule (standing b) i) (sym h)
 
 pub cooperate-unlinked : (l : Bool) (i : ℕ) → l ≡ false
-    → Fails whileUnlinked i ≡ cooperateRule (standing l) i
+    → Faulty whileUnlinked i ≡ cooperateRule (standing l) i
 unfolding cooperateRule
 cooperate-unlinked l i h = ap (λ (b : Bool). cooperateRule (standing b) i) (sym h)
 
 pub ruleset cooperate-laws = (cooperate-linked, cooperate-unlinked)
 
 -- ---- 11, one after the other
-module _ (x y : Conduct) where
-  seq-by : (a b : Conduct) → x ≡ a → y ≡ b → seqRule a b ≡ seqRule x y
-  seq-by a b h k = sym (ap (λ (w : Conduct). seqRule w y) h ∙ ap (seqRule a) k)
+module _ (x y : StatementEffect) where
+  seq-by : (a b : StatementEffect) → x ≡ a → y ≡ b → seqRule a b ≡ seqRule x y
+  seq-by a b h k = sym (ap (λ (w : StatementEffect). seqRule w y) h ∙ ap (seqRule a) k)
 
-  pub seq-fault : (n j : ℕ) → x ≡ Fails n j → Fails n j ≡ seqRule x y
+  pub seq-fault : (n j : ℕ) → x ≡ Faulty n j → Faulty n j ≡ seqRule x y
   unfolding seqRule
-  seq-fault n j h = seq-by (Fails n j) y h refl
+  seq-fault n j h = seq-by (Faulty n j) y h refl
 
-  pub seq-fault-2 : (e : Effect) (a : Bool) (n j : ℕ) → x ≡ Does e a → y ≡ Fails n j
-      → Fails n j ≡ seqRule x y
+  pub seq-fault-2 : (e : Effect) (a : Bool) (n j : ℕ) → x ≡ Proper e a → y ≡ Faulty n j
+      → Faulty n j ≡ seqRule x y
   unfolding seqRule
-  seq-fault-2 e a n j h k = seq-by (Does e a) (Fails n j) h k
+  seq-fault-2 e a n j h k = seq-by (Proper e a) (Faulty n j) h k
 
   -- `a && b` is a branch of the code on a
-  pub seq-first : (e f g : Effect) (a b : Bool) → x ≡ Does e a → y ≡ Does f b → g ≡ e ∪ f → a ≡ true
-      → Does g b ≡ seqRule x y
+  pub seq-first : (e f g : Effect) (a b : Bool) → x ≡ Proper e a → y ≡ Proper f b → g ≡ e ∪ f → a ≡ true
+      → Proper g b ≡ seqRule x y
   unfolding seqRule
   seq-first e f g a b h k q z =
-      ap (λ (o : Effect). Does o b) q ∙ ap (λ (c : Bool). Does (e ∪ f) (c && b)) (sym z)
-      ∙ seq-by (Does e a) (Does f b) h k
+      ap (λ (o : Effect). Proper o b) q ∙ ap (λ (c : Bool). Proper (e ∪ f) (c && b)) (sym z)
+      ∙ seq-by (Proper e a) (Proper f b) h k
 
-  pub seq-never : (e f g : Effect) (a b : Bool) → x ≡ Does e a → y ≡ Does f b → g ≡ e ∪ f
-      → a ≡ false → Does g false ≡ seqRule x y
+  pub seq-never : (e f g : Effect) (a b : Bool) → x ≡ Proper e a → y ≡ Proper f b → g ≡ e ∪ f
+      → a ≡ false → Proper g false ≡ seqRule x y
   unfolding seqRule
   seq-never e f g a b h k q z =
-      ap (λ (o : Effect). Does o false) q ∙ ap (λ (c : Bool). Does (e ∪ f) (c && b)) (sym z)
-      ∙ seq-by (Does e a) (Does f b) h k
+      ap (λ (o : Effect). Proper o false) q ∙ ap (λ (c : Bool). Proper (e ∪ f) (c && b)) (sym z)
+      ∙ seq-by (Proper e a) (Proper f b) h k
 
 pub ruleset seq-laws = (seq-fault, seq-fault-2, seq-first, seq-never)
 
 -- ---- 12, at a place
-module _ (l : Bool) (s i : ℕ) (x : Conduct) where
-  do-by : (c : Conduct) (m : Bool) → x ≡ c → l ≡ m
+module _ (l : Bool) (s i : ℕ) (x : StatementEffect) where
+  do-by : (c : StatementEffect) (m : Bool) → x ≡ c → l ≡ m
       → doRule (standing m) s i c ≡ doRule (standing l) s i x
-  do-by c m h k = sym (ap (λ (w : Conduct). doRule (standing l) s i w) h ∙ ap (λ (b : Bool). doRule (standing b) s i c) k)
+  do-by c m h k = sym (ap (λ (w : StatementEffect). doRule (standing l) s i w) h ∙ ap (λ (b : Bool). doRule (standing b) s i c) k)
 
-  pub do-fault : (n j : ℕ) → x ≡ Fails n j → Fails n j ≡ doRule (standing l) s i x
+  pub do-fault : (n j : ℕ) → x ≡ Faulty n j → Faulty n j ≡ doRule (standing l) s i x
   unfolding doRule
-  do-fault n j h = do-by (Fails n j) l h refl
+  do-fault n j h = do-by (Faulty n j) l h refl
 
-  module _ (e : Effect) (a : Bool) (h : x ≡ Does e a) (w : Bool) (q : w ≡ within s e) where
-    pub do-effect : not w ≡ true → Fails wrongEffect i ≡ doRule (standing l) s i x
+  module _ (e : Effect) (a : Bool) (h : x ≡ Proper e a) (w : Bool) (q : w ≡ within s e) where
+    pub do-effect : not w ≡ true → Faulty wrongEffect i ≡ doRule (standing l) s i x
     unfolding doRule
-    do-effect n = yes _ (ap not (sym q) ∙ n) refl ∙ do-by (Does e a) l h refl
+    do-effect n = yes _ (ap not (sym q) ∙ n) refl ∙ do-by (Proper e a) l h refl
 
     module _ (f : Effect) (z : f ≡ noEffect) (n : not w ≡ false) where
       inside : not (within s e) ≡ false
       inside = ap not (sym q) ∙ n
 
-      pub do-linked : l ≡ true → Does f a ≡ doRule (standing l) s i x
+      pub do-linked : l ≡ true → Proper f a ≡ doRule (standing l) s i x
       unfolding doRule
       do-linked k =
-          no (Fails wrongEffect i) inside (no (Fails whileUnlinked i) refl (ap (λ (o : Effect). Does o a) z))
-          ∙ do-by (Does e a) true h k
+          no (Faulty wrongEffect i) inside
+          (no (Faulty whileUnlinked i) refl (ap (λ (o : Effect). Proper o a) z))
+          ∙ do-by (Proper e a) true h k
 
       pub do-elsewhere : l ≡ false → (y : Bool) → y ≡ eqb s 1 → y ≡ false
-          → Does f a ≡ doRule (standing l) s i x
+          → Proper f a ≡ doRule (standing l) s i x
       unfolding doRule
       do-elsewhere k y d v =
-          no (Fails wrongEffect i) inside (no (Fails whileUnlinked i) (sym d ∙ v) (ap (λ (g : Effect). Does g a) z))
-          ∙ do-by (Does e a) false h k
+          no (Faulty wrongEffect i) inside
+          (no (Faulty whileUnlinked i) (sym d ∙ v) (ap (λ (g : Effect). Proper g a) z))
+          ∙ do-by (Proper e a) false h k
 
     pub do-twice : not w ≡ false → l ≡ false → (y : Bool) → y ≡ eqb s 1 → y ≡ true
-        → Fails whileUnlinked i ≡ doRule (standing l) s i x
+        → Faulty whileUnlinked i ≡ doRule (standing l) s i x
     unfolding doRule
     do-twice n k y d v =
-        no (Fails wrongEffect i) (ap not (sym q) ∙ n) (yes (Does noEffect a) (sym d ∙ v) refl)
-        ∙ do-by (Does e a) false h k
+        no (Faulty wrongEffect i) (ap not (sym q) ∙ n) (yes (Proper noEffect a) (sym d ∙ v) refl)
+        ∙ do-by (Proper e a) false h k
 
 pub ruleset do-laws = (do-fault, do-effect, do-linked, do-elsewhere, do-twice)
 
 -- ---- 16, the body of a let
-pub join-fault : (e : Effect) (x : Conduct) (n j : ℕ) → x ≡ Fails n j → Fails n j ≡ joinRule e x
+pub join-fault : (e : Effect) (x : StatementEffect) (n j : ℕ) → x ≡ Faulty n j → Faulty n j ≡ joinRule e x
 unfolding joinRule
 join-fault e x n j h = ap (joinRule e) (sym h)
 
-pub join-row : (e f g : Effect) (b : Bool) (x : Conduct) → x ≡ Does f b → g ≡ e ∪ f
-    → Does g b ≡ joinRule e x
+pub join-row : (e f g : Effect) (b : Bool) (x : StatementEffect) → x ≡ Proper f b → g ≡ e ∪ f
+    → Proper g b ≡ joinRule e x
 unfolding joinRule
-join-row e f g b x h q = ap (λ (o : Effect). Does o b) q ∙ ap (joinRule e) (sym h)
+join-row e f g b x h q = ap (λ (o : Effect). Proper o b) q ∙ ap (joinRule e) (sym h)
 
 pub ruleset join-laws = (join-fault, join-row)
 
 -- ---- 17, a store
 module _ (i t : ℕ) (e : Effect) (u : ℕ) (f : Effect) (x : Bool) (h : x ≡ isCell t) where
-  pub store-no-cell : not x ≡ true → Fails illTyped i ≡ storeRule i (Typed t e) (Typed u f)
+  pub store-no-cell : not x ≡ true → Faulty illTyped i ≡ storeRule i (Typed t e) (Typed u f)
   unfolding storeRule
   store-no-cell n = no _ (rw (sym h ∙ not-true x n)) refl
 
   pub store-apart : (c : ℕ) → not x ≡ false → c ≡ contentOf t → (u ≡ c → ⊥)
-      → Fails illTyped i ≡ storeRule i (Typed t e) (Typed u f)
+      → Faulty illTyped i ≡ storeRule i (Typed t e) (Typed u f)
   unfolding storeRule
   store-apart c n k d =
       no _ (rw (sym h ∙ not-false x n, ne-eqb u (contentOf t) (λ v. d (v ∙ sym k)))) refl
 
   pub store-equal : (c : ℕ) (g w : Effect) → not x ≡ false → c ≡ contentOf t → u ≡ c
       → g ≡ e ∪ f → w ≡ withOwner (ownerOf t) g
-      → Does w true ≡ storeRule i (Typed t e) (Typed u f)
+      → Proper w true ≡ storeRule i (Typed t e) (Typed u f)
   unfolding storeRule
   store-equal c g w n k d r z =
-      yes (Fails illTyped i) (rw (sym h ∙ not-false x n, eq-eqb u (contentOf t) (d ∙ k)))
-      (ap (λ (v : Effect). Does v true) (z ∙ ap (withOwner (ownerOf t)) r))
+      yes (Faulty illTyped i) (rw (sym h ∙ not-false x n, eq-eqb u (contentOf t) (d ∙ k)))
+      (ap (λ (v : Effect). Proper v true) (z ∙ ap (withOwner (ownerOf t)) r))
 
 pub ruleset store-typed-laws = (store-no-cell, store-apart, store-equal)
 
@@ -406,16 +410,16 @@ module _ (i : ℕ) (x y : Typing) where
   store-by : (a b : Typing) → x ≡ a → y ≡ b → storeRule i a b ≡ storeRule i x y
   store-by a b h k = sym (ap (λ (w : Typing). storeRule i w y) h ∙ ap (storeRule i a) k)
 
-  pub store-fault : (n j : ℕ) → x ≡ Untyped n j → Fails n j ≡ storeRule i x y
+  pub store-fault : (n j : ℕ) → x ≡ Untyped n j → Faulty n j ≡ storeRule i x y
   unfolding storeRule
   store-fault n j h = store-by (Untyped n j) y h refl
 
   pub store-fault-2 : (t : ℕ) (e : Effect) (n j : ℕ) → x ≡ Typed t e → y ≡ Untyped n j
-      → Fails n j ≡ storeRule i x y
+      → Faulty n j ≡ storeRule i x y
   unfolding storeRule
   store-fault-2 t e n j h k = store-by (Typed t e) (Untyped n j) h k
 
-  pub store-row : (t : ℕ) (e : Effect) (u : ℕ) (f : Effect) (r : Conduct) → x ≡ Typed t e
+  pub store-row : (t : ℕ) (e : Effect) (u : ℕ) (f : Effect) (r : StatementEffect) → x ≡ Typed t e
       → y ≡ Typed u f → r ≡ storeRule i (Typed t e) (Typed u f) → r ≡ storeRule i x y
   store-row t e u f r h k q = q ∙ store-by (Typed t e) (Typed u f) h k
 
@@ -423,80 +427,80 @@ pub ruleset store-laws = (store-fault, store-fault-2, store-row)
 
 -- ---- 18, if
 module _ (i t : ℕ) (e f : Effect) (a : Bool) (g : Effect) (b : Bool) where
-  pub if-no-truth : (t ≡ 2 → ⊥) → Fails illTyped i ≡ ifElseRule i (Typed t e) (Does f a) (Does g b)
+  pub if-no-truth : (t ≡ 2 → ⊥) → Faulty illTyped i ≡ ifElseRule i (Typed t e) (Proper f a) (Proper g b)
   unfolding ifElseRule
   if-no-truth n = no _ (ne-eqb t 2 n) refl
 
   pub if-first : (h k : Effect) → t ≡ 2 → h ≡ e ∪ f → k ≡ h ∪ g → a ≡ true
-      → Does k true ≡ ifElseRule i (Typed t e) (Does f a) (Does g b)
+      → Proper k true ≡ ifElseRule i (Typed t e) (Proper f a) (Proper g b)
   unfolding ifElseRule
-  if-first h k n p q z = yes (Fails illTyped i) (eq-eqb t 2 n) (ap (λ (o : Effect). Does o true) (q ∙ ap (λ (o : Effect). o ∪ g) p) ∙ ap (λ (c : Bool). Does (e ∪ f ∪ g) (c || b)) (sym z))
+  if-first h k n p q z = yes (Faulty illTyped i) (eq-eqb t 2 n) (ap (λ (o : Effect). Proper o true) (q ∙ ap (λ (o : Effect). o ∪ g) p) ∙ ap (λ (c : Bool). Proper (e ∪ f ∪ g) (c || b)) (sym z))
 
   pub if-second : (h k : Effect) → t ≡ 2 → h ≡ e ∪ f → k ≡ h ∪ g → a ≡ false
-      → Does k b ≡ ifElseRule i (Typed t e) (Does f a) (Does g b)
+      → Proper k b ≡ ifElseRule i (Typed t e) (Proper f a) (Proper g b)
   unfolding ifElseRule
-  if-second h k n p q z = yes (Fails illTyped i) (eq-eqb t 2 n) (ap (λ (o : Effect). Does o b) (q ∙ ap (λ (o : Effect). o ∪ g) p) ∙ ap (λ (c : Bool). Does (e ∪ f ∪ g) (c || b)) (sym z))
+  if-second h k n p q z = yes (Faulty illTyped i) (eq-eqb t 2 n) (ap (λ (o : Effect). Proper o b) (q ∙ ap (λ (o : Effect). o ∪ g) p) ∙ ap (λ (c : Bool). Proper (e ∪ f ∪ g) (c || b)) (sym z))
 
 pub ruleset if-typed-laws = (if-no-truth, if-first, if-second)
 
-module _ (i : ℕ) (x : Typing) (y z : Conduct) where
-  if-by : (a : Typing) (b c : Conduct) → x ≡ a → y ≡ b → z ≡ c
+module _ (i : ℕ) (x : Typing) (y z : StatementEffect) where
+  if-by : (a : Typing) (b c : StatementEffect) → x ≡ a → y ≡ b → z ≡ c
       → ifElseRule i a b c ≡ ifElseRule i x y z
-  if-by a b c h k l = sym (ap (λ (w : Typing). ifElseRule i w y z) h ∙ ap (λ (w : Conduct). ifElseRule i a w z) k ∙ ap (ifElseRule i a b) l)
+  if-by a b c h k l = sym (ap (λ (w : Typing). ifElseRule i w y z) h ∙ ap (λ (w : StatementEffect). ifElseRule i a w z) k ∙ ap (ifElseRule i a b) l)
 
-  pub if-fault : (n j : ℕ) → x ≡ Untyped n j → Fails n j ≡ ifElseRule i x y z
+  pub if-fault : (n j : ℕ) → x ≡ Untyped n j → Faulty n j ≡ ifElseRule i x y z
   unfolding ifElseRule
   if-fault n j h = if-by (Untyped n j) y z h refl refl
 
-  pub if-fault-2 : (t : ℕ) (e : Effect) (n j : ℕ) → x ≡ Typed t e → y ≡ Fails n j
-      → Fails n j ≡ ifElseRule i x y z
+  pub if-fault-2 : (t : ℕ) (e : Effect) (n j : ℕ) → x ≡ Typed t e → y ≡ Faulty n j
+      → Faulty n j ≡ ifElseRule i x y z
   unfolding ifElseRule
-  if-fault-2 t e n j h k = if-by (Typed t e) (Fails n j) z h k refl
+  if-fault-2 t e n j h k = if-by (Typed t e) (Faulty n j) z h k refl
 
-  pub if-fault-3 : (t : ℕ) (e f : Effect) (a : Bool) (n j : ℕ) → x ≡ Typed t e → y ≡ Does f a
-      → z ≡ Fails n j → Fails n j ≡ ifElseRule i x y z
+  pub if-fault-3 : (t : ℕ) (e f : Effect) (a : Bool) (n j : ℕ) → x ≡ Typed t e → y ≡ Proper f a
+      → z ≡ Faulty n j → Faulty n j ≡ ifElseRule i x y z
   unfolding ifElseRule
-  if-fault-3 t e f a n j h k l = if-by (Typed t e) (Does f a) (Fails n j) h k l
+  if-fault-3 t e f a n j h k l = if-by (Typed t e) (Proper f a) (Faulty n j) h k l
 
-  pub if-row : (t : ℕ) (e f : Effect) (a : Bool) (g : Effect) (b : Bool) (r : Conduct)
-      → x ≡ Typed t e → y ≡ Does f a → z ≡ Does g b
-      → r ≡ ifElseRule i (Typed t e) (Does f a) (Does g b) → r ≡ ifElseRule i x y z
-  if-row t e f a g b r h k l q = q ∙ if-by (Typed t e) (Does f a) (Does g b) h k l
+  pub if-row : (t : ℕ) (e f : Effect) (a : Bool) (g : Effect) (b : Bool) (r : StatementEffect)
+      → x ≡ Typed t e → y ≡ Proper f a → z ≡ Proper g b
+      → r ≡ ifElseRule i (Typed t e) (Proper f a) (Proper g b) → r ≡ ifElseRule i x y z
+  if-row t e f a g b r h k l q = q ∙ if-by (Typed t e) (Proper f a) (Proper g b) h k l
 
 pub ruleset if-laws = (if-fault, if-fault-2, if-fault-3, if-row)
 
 -- ---- 19, while
 module _ (i t : ℕ) (e f : Effect) (b : Bool) where
-  pub while-no-truth : (t ≡ 2 → ⊥) → Fails illTyped i ≡ whileRule i (Typed t e) (Does f b)
+  pub while-no-truth : (t ≡ 2 → ⊥) → Faulty illTyped i ≡ whileRule i (Typed t e) (Proper f b)
   unfolding whileRule
   while-no-truth n = yes _ (ap not (ne-eqb t 2 n)) refl
 
-  pub while-instant : t ≡ 2 → b ≡ true → Fails instantLoop i ≡ whileRule i (Typed t e) (Does f b)
+  pub while-instant : t ≡ 2 → b ≡ true → Faulty instantLoop i ≡ whileRule i (Typed t e) (Proper f b)
   unfolding whileRule
   while-instant n k = no _ (ap not (eq-eqb t 2 n)) (yes _ k refl)
 
   pub while-well : (g : Effect) → t ≡ 2 → b ≡ false → g ≡ e ∪ f
-      → Does g true ≡ whileRule i (Typed t e) (Does f b)
+      → Proper g true ≡ whileRule i (Typed t e) (Proper f b)
   unfolding whileRule
-  while-well g n k h = no _ (ap not (eq-eqb t 2 n)) (no _ k (ap (λ (o : Effect). Does o true) h))
+  while-well g n k h = no _ (ap not (eq-eqb t 2 n)) (no _ k (ap (λ (o : Effect). Proper o true) h))
 
 pub ruleset while-typed-laws = (while-no-truth, while-instant, while-well)
 
-module _ (i : ℕ) (x : Typing) (y : Conduct) where
-  while-by : (a : Typing) (b : Conduct) → x ≡ a → y ≡ b → whileRule i a b ≡ whileRule i x y
+module _ (i : ℕ) (x : Typing) (y : StatementEffect) where
+  while-by : (a : Typing) (b : StatementEffect) → x ≡ a → y ≡ b → whileRule i a b ≡ whileRule i x y
   while-by a b h k = sym (ap (λ (w : Typing). whileRule i w y) h ∙ ap (whileRule i a) k)
 
-  pub while-fault : (n j : ℕ) → x ≡ Untyped n j → Fails n j ≡ whileRule i x y
+  pub while-fault : (n j : ℕ) → x ≡ Untyped n j → Faulty n j ≡ whileRule i x y
   unfolding whileRule
   while-fault n j h = while-by (Untyped n j) y h refl
 
-  pub while-fault-2 : (t : ℕ) (e : Effect) (n j : ℕ) → x ≡ Typed t e → y ≡ Fails n j
-      → Fails n j ≡ whileRule i x y
+  pub while-fault-2 : (t : ℕ) (e : Effect) (n j : ℕ) → x ≡ Typed t e → y ≡ Faulty n j
+      → Faulty n j ≡ whileRule i x y
   unfolding whileRule
-  while-fault-2 t e n j h k = while-by (Typed t e) (Fails n j) h k
+  while-fault-2 t e n j h k = while-by (Typed t e) (Faulty n j) h k
 
-  pub while-row : (t : ℕ) (e f : Effect) (b : Bool) (r : Conduct) → x ≡ Typed t e → y ≡ Does f b
-      → r ≡ whileRule i (Typed t e) (Does f b) → r ≡ whileRule i x y
-  while-row t e f b r h k q = q ∙ while-by (Typed t e) (Does f b) h k
+  pub while-row : (t : ℕ) (e f : Effect) (b : Bool) (r : StatementEffect) → x ≡ Typed t e → y ≡ Proper f b
+      → r ≡ whileRule i (Typed t e) (Proper f b) → r ≡ whileRule i x y
+  while-row t e f b r h k q = q ∙ while-by (Typed t e) (Proper f b) h k
 
 pub ruleset while-laws = (while-fault, while-fault-2, while-row)

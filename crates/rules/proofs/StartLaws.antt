@@ -22,8 +22,8 @@ use Rattle.rules.specs.declared.start.Arguments.{Arguments}
 use Rattle.rules.specs.declared.start.Arguments.the-variants.{Nothing, One, Two, Fault}
 use Rattle.rules.specs.declared.finding.Typing.{Typing}
 use Rattle.rules.specs.declared.finding.Typing.the-variants.{Typed, Untyped}
-use Rattle.rules.specs.declared.finding.Conduct.{Conduct}
-use Rattle.rules.specs.declared.finding.Conduct.the-variants.{Does, Fails}
+use Rattle.rules.specs.declared.finding.StatementEffect.{StatementEffect}
+use Rattle.rules.specs.declared.finding.StatementEffect.the-variants.{Proper, Faulty}
 
 -- ---- arguments
 
@@ -75,7 +75,8 @@ module _ (x y : Typing) where
       → z ≡ noEffect → g ≡ f ∪ z → w ≡ e ∪ g → arguedOf (Two t u w) ≡ argue x (argue y noArguments)
   unfolding argue
   two-typed t e u f z g w h k a b c =
-      ap (Argued.have (t ∷ u ∷ [])) (c ∙ ap (λ (o : Effect). e ∪ o) (b ∙ ap (λ (o : Effect). f ∪ o) a))
+      ap (Argued.have (t ∷ u ∷ []))
+      (c ∙ ap (λ (o : Effect). e ∪ o) (b ∙ ap (λ (o : Effect). f ∪ o) a))
       ∙ by-both (Typed t e) (Typed u f) h k
 
 pub ruleset two-laws = (two-fault, two-fault-2, two-typed)
@@ -201,7 +202,8 @@ module _ (n t u w : ℕ) (l : n ≤ 2) where
       → Fits (eqb u (w / 2 ^ 16 % 2 ^ 16))
   types-two e z o d =
       let k : 2 ≡ n = omega (arith, z, o, l) in
-      by-same _ e (same-both t u (w % 2 ^ 16) (w / 2 ^ 16 % 2 ^ 16) d ∙ ap (λ (m : ℕ). SameHere m m) k)
+      by-same _ e
+      (same-both t u (w % 2 ^ 16) (w / 2 ^ 16 % 2 ^ 16) d ∙ ap (λ (m : ℕ). SameHere m m) k)
 
 pub ruleset types-laws = (types-count, types-none, types-first, types-one, types-two)
 
@@ -249,10 +251,10 @@ at-word ws s = List·getD-map signatureOf ws s 0
 -- with arguments of the types ts; the modules of tests stand inside each other as the returns of
 -- the code do
 module _ (once : Bool) (ws : List ℕ) (linked : Bool) (s i : ℕ) (ts : List ℕ) (e : Effect) where
-  abbrev Start : Conduct → Type 0
+  abbrev Start : StatementEffect → Type 0
   Start r = r ≡ startRule once (map signatureOf ws) (standing linked) s i (Argued.have ts e)
 
-  pub start-none : length ws ≤ s → Start (Fails unbound i)
+  pub start-none : length ws ≤ s → Start (Faulty unbound i)
   unfolding startRule
   start-none h = yes _ (le-leb (length (map signatureOf ws)) s (rw length-map h)) refl
 
@@ -264,17 +266,17 @@ module _ (once : Bool) (ws : List ℕ) (linked : Bool) (s i : ℕ) (ts : List �
       same : x ≡ sameNumbers ts (signatureAt (map signatureOf ws) s .types)
       same = k ∙ ap (λ (g : Signature). sameNumbers ts (g .types)) (sym (at-word ws s))
 
-      pub start-types : not x ≡ true → Start (Fails illTyped i)
+      pub start-types : not x ≡ true → Start (Faulty illTyped i)
       unfolding startRule
       start-types n = no _ there (yes _ (ap not (sym same) ∙ n) refl)
 
       module _ (n : not x ≡ false) (y : Bool) (q : y ≡ every public ts) where
-        pub start-escapes : not y ≡ true → Start (Fails escaping i)
+        pub start-escapes : not y ≡ true → Start (Faulty escaping i)
         unfolding startRule
         start-escapes m =
             no _ there (no _ (ap not (sym same) ∙ n) (yes _ (ap not (sym q) ∙ m) refl))
 
-        pub start-unlinked : not y ≡ false → linked ≡ false → Start (Fails whileUnlinked i)
+        pub start-unlinked : not y ≡ false → linked ≡ false → Start (Faulty whileUnlinked i)
         unfolding startRule
         start-unlinked m z = no _ there (no _ (ap not (sym same) ∙ n) (no _ (ap not (sym q) ∙ m) (yes _ (unlinked linked z) refl)))
           where
@@ -283,11 +285,11 @@ module _ (once : Bool) (ws : List ℕ) (linked : Bool) (s i : ℕ) (ts : List �
             unlinked false f = refl
 
         pub start-does : (f g : Effect) → not y ≡ false → linked ≡ true
-            → f ≡ signatureOf (getD ws s 0) .effect → g ≡ e ∪ f → Start (Does g once)
+            → f ≡ signatureOf (getD ws s 0) .effect → g ≡ e ∪ f → Start (Proper g once)
         unfolding startRule
         start-does f g m z a b =
             no _ there (no _ (ap not (sym same) ∙ n) (no _ (ap not (sym q) ∙ m) (no _ (linked-so linked z)
-            (ap (λ (o : Effect). Does o once) (b ∙ ap (λ (o : Effect). e ∪ o) (a ∙ ap (λ (v : Signature). v .effect) (sym (at-word ws s))))))))
+            (ap (λ (o : Effect). Proper o once) (b ∙ ap (λ (o : Effect). e ∪ o) (a ∙ ap (λ (v : Signature). v .effect) (sym (at-word ws s))))))))
           where
             linked-so : (b : Bool) → b ≡ true → not (isLinked (standing b)) ≡ false
             linked-so true f = refl
@@ -297,34 +299,37 @@ pub ruleset start-typed-laws = (start-none, start-types, start-escapes, start-un
 
 -- with whatever the arguments were found to be
 module _ (once : Bool) (ws : List ℕ) (linked : Bool) (s i : ℕ) (args : Arguments) where
-  abbrev StartWith : Conduct → Type 0
+  abbrev StartWith : StatementEffect → Type 0
   StartWith r = r ≡ startRule once (map signatureOf ws) (standing linked) s i (arguedOf args)
 
-  by-arguments : (v : Arguments) (r : Conduct) → args ≡ v
+  by-arguments : (v : Arguments) (r : StatementEffect) → args ≡ v
       → r ≡ startRule once (map signatureOf ws) (standing linked) s i (arguedOf v) → StartWith r
   by-arguments v r h k =
       k
       ∙ ap (λ (w : Arguments). startRule once (map signatureOf ws) (standing linked) s i (arguedOf w)) (sym h)
 
-  pub start-fault : (n j : ℕ) → args ≡ Fault n j → StartWith (Fails n j)
+  pub start-fault : (n j : ℕ) → args ≡ Fault n j → StartWith (Faulty n j)
   unfolding startRule
-  start-fault n j h = by-arguments (Fault n j) (Fails n j) h refl
+  start-fault n j h = by-arguments (Fault n j) (Faulty n j) h refl
 
-  pub start-nothing : (e : Effect) (r : Conduct) → args ≡ Nothing → e ≡ noEffect
+  pub start-nothing : (e : Effect) (r : StatementEffect) → args ≡ Nothing → e ≡ noEffect
       → r
-      ≡ startRule once (map signatureOf ws) (standing linked) s i (Argued.have (take 0 (0 ∷ 0 ∷ [])) e)
+      ≡ startRule once (map signatureOf ws) (standing linked) s i
+      (Argued.have (take 0 (0 ∷ 0 ∷ [])) e)
       → StartWith r
   start-nothing e r h q k = by-arguments Nothing r h (k ∙ ap (λ (o : Effect). startRule once (map signatureOf ws) (standing linked) s i (Argued.have [] o)) q)
 
-  pub start-one : (t : ℕ) (e : Effect) (r : Conduct) → args ≡ One t e
+  pub start-one : (t : ℕ) (e : Effect) (r : StatementEffect) → args ≡ One t e
       → r
-      ≡ startRule once (map signatureOf ws) (standing linked) s i (Argued.have (take 1 (t ∷ 0 ∷ [])) e)
+      ≡ startRule once (map signatureOf ws) (standing linked) s i
+      (Argued.have (take 1 (t ∷ 0 ∷ [])) e)
       → StartWith r
   start-one t e r h k = by-arguments (One t e) r h k
 
-  pub start-two : (t u : ℕ) (e : Effect) (r : Conduct) → args ≡ Two t u e
+  pub start-two : (t u : ℕ) (e : Effect) (r : StatementEffect) → args ≡ Two t u e
       → r
-      ≡ startRule once (map signatureOf ws) (standing linked) s i (Argued.have (take 2 (t ∷ u ∷ [])) e)
+      ≡ startRule once (map signatureOf ws) (standing linked) s i
+      (Argued.have (take 2 (t ∷ u ∷ [])) e)
       → StartWith r
   start-two t u e r h k = by-arguments (Two t u e) r h k
 

@@ -1,19 +1,14 @@
--- What it is for a frame to break a rule, from what its children are: refusals 8 to 13. Nothing is
--- computed here. Assumes nothing: definitions.
-use mathlib.Core.Path.{_≡_}
-use mathlib.Core.Bool.{Bool, true, false}
-use mathlib.Core.List.{List}
-use Prim.Native.Nat.{ℕ, _≤_, _<_}
-use lib.ListN.{length}
+-- What it is for a frame to break a rule, from what its children are: refusals 8 to 13.
+use Rattle.basics.specs.Prelude.{List, Bool, true, false, ℕ, _≤_, _<_, length, _≡_}
 use Rattle.language.specs.Places.{private, Standing, unlinked, standingAt}
 use Rattle.language.specs.Types.{numberType, truthType, isCell, contentOf, roomAround, public}
 use Rattle.language.specs.Effects.{within}
 use Rattle.language.specs.declared.effect.Effect.{Effect}
-use Rattle.language.specs.Refusals.{unbound, illTyped, escaping}
-use Rattle.language.specs.Refusals.{wrongEffect, whileUnlinked, instantLoop}
+use Rattle.language.specs.Refusals.{unbound, illTyped, escaping, wrongEffect, whileUnlinked}
+use Rattle.language.specs.Refusals.{instantLoop}
 use Rattle.program.specs.Trees.{Expr, Stmt}
-use Rattle.rules.specs.Rules.{Setting, Signature, signatureAt}
-use Rattle.rules.specs.Rules.{HasType, HaveTypes, AllPublic, Runs}
+use Rattle.rules.specs.Rules.{Setting, Signature, signatureAt, HasType, HaveTypes, AllPublic}
+use Rattle.rules.specs.Rules.{HasEffect}
 
 -- `BreaksE cells Γ x n`: the root of the expression x breaks rule n, its children having types
 pub data BreaksE (cells Γ : List ℕ) : Expr → ℕ → Type 0 where
@@ -77,7 +72,7 @@ pub data BreaksS (env : Setting) (below : List Signature)
       → BreaksS env below Γ at p escaping
   -- 11 'effect, at the 12'
   do-effect : {Γ : List ℕ} {at : Standing} {i s : ℕ} {p : Stmt} {e : Effect} {a : Bool}
-      → Runs env below Γ (standingAt s) p e a → within s e ≡ false
+      → HasEffect env below Γ (standingAt s) p e a → within s e ≡ false
       → BreaksS env below Γ at (Stmt.doAt i s p) wrongEffect
   -- 12 'while loose, a 13, 14, 15 or a 12 with S 1'
   start-unlinked : {Γ : List ℕ} {p : Stmt} {s : ℕ} {xs : List Expr}
@@ -89,5 +84,5 @@ pub data BreaksS (env : Setting) (below : List Signature)
       → BreaksS env below Γ unlinked (Stmt.doAt i private p) whileUnlinked
   -- 13 'a loop body that can end at once'
   while-body : {Γ : List ℕ} {at : Standing} {i : ℕ} {x : Expr} {p : Stmt} {e : Effect}
-      → Runs env below Γ at p e true
+      → HasEffect env below Γ at p e true
       → BreaksS env below Γ at (Stmt.while i x p) instantLoop

@@ -1,20 +1,14 @@
--- Which rule a program breaks first: refusals 8 to 13 over a whole file. Nothing is computed here.
--- Assumes nothing: definitions.
-use mathlib.Core.Path.{_≡_}
-use mathlib.Core.Logic.{_⊎_}
-use mathlib.Core.Bool.{Bool, false}
-use mathlib.Core.List.{List, [], _∷_, _++_}
-use Prim.Native.Nat.{ℕ, _≤_, _<_}
-use Rattle.basics.specs.Members.{In}
-use Rattle.language.specs.Places.{home, Standing, linked, standingAt}
-use Rattle.language.specs.Effects.{within}
-use Rattle.language.specs.declared.effect.Effect.{Effect}
-use Rattle.language.specs.declared.verdict.Verdict.{Verdict}
-use Rattle.language.specs.declared.verdict.Verdict.the-variants.{Accepted, Rejected}
-use Rattle.language.specs.Refusals.{wrongEffect}
+-- Which rule a program breaks first: refusals 8 to 13 over a whole file.
+use Rattle.basics.specs.Prelude.{List, [], _∷_, _++_, Bool, false, ℕ, _≤_, _<_, _≡_, _⊎_, In}
+use Rattle.language.specs.{Places.home, Places.Standing, Places.linked, Places.standingAt}
+use Rattle.language.specs.{Effects.within, declared.effect.Effect.Effect}
+use Rattle.language.specs.{declared.verdict.Verdict.Verdict}
+use Rattle.language.specs.{declared.verdict.Verdict.the-variants.Accepted}
+use Rattle.language.specs.{declared.verdict.Verdict.the-variants.Rejected, Refusals.wrongEffect}
 use Rattle.program.specs.Trees.{Expr, Stmt, rootE, rootS}
 use Rattle.program.specs.Programs.{Part, Program}
-use Rattle.rules.specs.Rules.{Setting, settingOf, Signature, signature, HasType, Runs, Keeps}
+use Rattle.rules.specs.Rules.{Setting, settingOf, Signature, signature, HasType, HasEffect}
+use Rattle.rules.specs.Rules.{Keeps}
 use Rattle.rules.specs.Breaks.{BreaksE, BreaksS, Starts}
 
 -- y is a child of the expression x
@@ -75,19 +69,18 @@ pub data BrokenS (env : Setting) (below : List Signature)
       → ChildS env Γ at p Δ by q → BrokenS env below Δ by q n j
       → BrokenS env below Γ at p n j
 
--- `BrokenM env below ms n j`: in the modules ms, which stand behind modules with the signatures
--- `below`, frame j breaks rule n
+-- `BrokenM env below ms n j`: in the modules ms, after those of the signatures `below`, likewise
 pub data BrokenM (env : Setting) : List Signature → List Part → ℕ → ℕ → Type 0 where
   body : {below : List Signature} {m : Part} {ms : List Part} {n j : ℕ}
       → BrokenS env below (m .types) linked (m .body) n j
       → BrokenM env below (m ∷ ms) n j
   later : {below : List Signature} {m : Part} {ms : List Part} {e : Effect} {b : Bool} {n j : ℕ}
-      → Runs env below (m .types) linked (m .body) e b
+      → HasEffect env below (m .types) linked (m .body) e b
       → BrokenM env (below ++ (signature m e ∷ [])) ms n j
       → BrokenM env below (m ∷ ms) n j
   -- 11 'effect, .. at main': main is the last
   main : {below : List Signature} {m : Part} {e : Effect} {b : Bool}
-      → Runs env below (m .types) linked (m .body) e b → within home e ≡ false
+      → HasEffect env below (m .types) linked (m .body) e b → within home e ≡ false
       → BrokenM env below (m ∷ []) wrongEffect (m .frame)
 
 -- in the program, frame j breaks rule n

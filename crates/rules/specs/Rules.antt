@@ -1,15 +1,10 @@
 -- The rules of types, effects and cooperation, as inference rules. 'The check's promise is the
--- rules themselves, written without the checker': nothing is computed here. Assumes nothing:
--- definitions.
-use mathlib.Core.Path.{_≡_}
-use mathlib.Core.Bool.{Bool, true, false, _&&_, _||_}
-use mathlib.Core.List.{List, [], _∷_, _++_}
-use Prim.Native.Nat.{ℕ, _<_}
-use lib.ListN.{length, getD}
-use Rattle.basics.specs.Members.{All}
+-- rules themselves, written without the checker': nothing is computed here.
+use Rattle.basics.specs.Prelude.{List, [], _∷_, _++_, Bool, true, false, _&&_, _||_, ℕ, _<_, length}
+use Rattle.basics.specs.Prelude.{getD, _≡_, All}
 use Rattle.language.specs.Places.{home, private, Standing, linked, unlinked}
-use Rattle.language.specs.Types.{numberType, truthType, isCell, cellType, ownerOf}
-use Rattle.language.specs.Types.{contentOf, roomAround, public}
+use Rattle.language.specs.Types.{numberType, truthType, isCell, cellType, ownerOf, contentOf}
+use Rattle.language.specs.Types.{roomAround, public}
 use Rattle.language.specs.Effects.{noEffect, _∪_, withOwner, within}
 use Rattle.language.specs.declared.effect.Effect.{Effect}
 use Rattle.program.specs.Trees.{Expr, Stmt}
@@ -39,9 +34,8 @@ signatureAt below s = getD below s noSignature
 abbrev pub signature : Part → Effect → Signature
 signature m e = record { types = m .types; effect = e }
 
--- `HasType cells Γ x t e`: where the shared cells have the types `cells` and the variables the
--- types Γ, the expression x has the type t and the effect e. 'A frame joins its children's
--- effects.'
+-- `HasType cells Γ x t e`: with shared cells of the types `cells` and variables of the types Γ, x
+-- has the type t and the effect e. 'A frame joins its children's effects.'
 pub data HasType (cells Γ : List ℕ) : Expr → ℕ → Effect → Type 0 where
   -- 20 number A
   number : {i v : ℕ} → HasType cells Γ (Expr.number i v) numberType noEffect
@@ -78,8 +72,7 @@ pub data HasType (cells Γ : List ℕ) : Expr → ℕ → Effect → Type 0 wher
       → HasType cells Γ z numberType g
       → HasType cells Γ (Expr.choose i x y z) numberType (e ∪ f ∪ g)
 
--- `HaveTypes cells Γ xs ts e`: the expressions xs have the types ts, in order, and together the
--- effect e
+-- `HaveTypes cells Γ xs ts e`: the expressions xs have the types ts, and together the effect e
 pub data HaveTypes (cells Γ : List ℕ) : List Expr → List ℕ → Effect → Type 0 where
   none : HaveTypes cells Γ [] [] noEffect
   more : {x : Expr} {t : ℕ} {e : Effect} {xs : List Expr} {ts : List ℕ} {f : Effect}
@@ -90,67 +83,67 @@ pub data HaveTypes (cells Γ : List ℕ) : List Expr → List ℕ → Effect →
 abbrev pub AllPublic : List ℕ → Type 0
 AllPublic ts = All (λ (t : ℕ). public t ≡ true) ts
 
--- `Runs env below Γ at p e b`: in a file of that setting, in a module behind the modules `below`,
--- where the variables have the types Γ and the thread stands `at`, the statement p has the effect
--- e, and b says whether it ends at once (report 001: terminates instantly): 'A statement ends at
--- once: 10, 13, 17, 19 yes; 14, 15 no; 11 if both do; 18 if either does; 12 and 16 as their
--- bodies.'
-pub data Runs (env : Setting) (below : List Signature)
+-- `HasEffect env below Γ at p e b`: in a module after the modules `below`, where the variables have
+-- the types Γ and the thread stands `at`, the statement p has the effect e, and b says whether it
+-- ends at once (report 001: terminates instantly): '10, 13, 17, 19 yes; 14, 15 no; 11 if both do;
+-- 18 if either does; 12 and 16 as their bodies.'
+pub data HasEffect (env : Setting) (below : List Signature)
     : List ℕ → Standing → Stmt → Effect → Bool → Type 0 where
   -- 10 nothing
   nothing : {Γ : List ℕ} {at : Standing} {i : ℕ}
-      → Runs env below Γ at (Stmt.nothing i) noEffect true
+      → HasEffect env below Γ at (Stmt.nothing i) noEffect true
   -- 11 A, then B
   seq : {Γ : List ℕ} {at : Standing} {i : ℕ} {p q : Stmt} {e f : Effect} {a b : Bool}
-      → Runs env below Γ at p e a → Runs env below Γ at q f b
-      → Runs env below Γ at (Stmt.seq i p q) (e ∪ f) (a && b)
+      → HasEffect env below Γ at p e a → HasEffect env below Γ at q f b
+      → HasEffect env below Γ at (Stmt.seq i p q) (e ∪ f) (a && b)
   -- 12 do A at place S: '12 needs the effect of A within {S}, or empty when S is 1, and itself has
   -- none'; with S 1 never while unlinked
   do-unlinked : {Γ : List ℕ} {i : ℕ} {p : Stmt} {e : Effect} {a : Bool}
-      → Runs env below Γ unlinked p e a → within private e ≡ true
-      → Runs env below Γ linked (Stmt.doAt i private p) noEffect a
+      → HasEffect env below Γ unlinked p e a → within private e ≡ true
+      → HasEffect env below Γ linked (Stmt.doAt i private p) noEffect a
   do-linked : {Γ : List ℕ} {at : Standing} {i s : ℕ} {p : Stmt} {e : Effect} {a : Bool}
-      → (s ≡ private → ⊥) → Runs env below Γ linked p e a → within s e ≡ true
-      → Runs env below Γ at (Stmt.doAt i s p) noEffect a
+      → (s ≡ private → ⊥) → HasEffect env below Γ linked p e a → within s e ≡ true
+      → HasEffect env below Γ at (Stmt.doAt i s p) noEffect a
   -- 13 start module S: 'Arguments agree with parameters in count and type, and are public', '13 and
   -- 14 add the started module's effect'; never while unlinked
   start : {Γ : List ℕ} {i s : ℕ} {xs : List Expr} {e : Effect}
       → s < length below → HaveTypes (env .cells) Γ xs (signatureAt below s .types) e
       → AllPublic (signatureAt below s .types)
-      → Runs env below Γ linked (Stmt.start i s xs) (e ∪ signatureAt below s .effect) true
+      → HasEffect env below Γ linked (Stmt.start i s xs) (e ∪ signatureAt below s .effect) true
   -- 14 the same, then wait
   start-wait : {Γ : List ℕ} {i s : ℕ} {xs : List Expr} {e : Effect}
       → s < length below → HaveTypes (env .cells) Γ xs (signatureAt below s .types) e
       → AllPublic (signatureAt below s .types)
-      → Runs env below Γ linked (Stmt.startWait i s xs) (e ∪ signatureAt below s .effect) false
+      → HasEffect env below Γ linked (Stmt.startWait i s xs) (e ∪ signatureAt below s .effect) false
   -- 15 cooperate; never while unlinked
-  cooperate : {Γ : List ℕ} {i : ℕ} → Runs env below Γ linked (Stmt.cooperate i) noEffect false
+  cooperate : {Γ : List ℕ} {i : ℕ} → HasEffect env below Γ linked (Stmt.cooperate i) noEffect false
   -- 16 let the next variable be A, in B
   letIn : {Γ : List ℕ} {at : Standing} {i t : ℕ} {x : Expr} {p : Stmt} {e f : Effect} {b : Bool}
-      → HasType (env .cells) Γ x t e → Runs env below (Γ ++ (t ∷ [])) at p f b
-      → Runs env below Γ at (Stmt.letIn i x p) (e ∪ f) b
+      → HasType (env .cells) Γ x t e → HasEffect env below (Γ ++ (t ∷ [])) at p f b
+      → HasEffect env below Γ at (Stmt.letIn i x p) (e ∪ f) b
   -- 17 store B in cell A: '17 needs equal content types'
   store : {Γ : List ℕ} {at : Standing} {i t : ℕ} {x y : Expr} {e f : Effect}
       → HasType (env .cells) Γ x t e → isCell t ≡ true → HasType (env .cells) Γ y (contentOf t) f
-      → Runs env below Γ at (Stmt.store i x y) (withOwner (ownerOf t) (e ∪ f)) true
+      → HasEffect env below Γ at (Stmt.store i x y) (withOwner (ownerOf t) (e ∪ f)) true
   -- 18 if A then B else C
   ifElse : {Γ : List ℕ} {at : Standing} {i : ℕ} {x : Expr} {p q : Stmt} {e f g : Effect}
       {a b : Bool}
-      → HasType (env .cells) Γ x truthType e → Runs env below Γ at p f a → Runs env below Γ at q g b
-      → Runs env below Γ at (Stmt.ifElse i x p q) (e ∪ f ∪ g) (a || b)
+      → HasType (env .cells) Γ x truthType e
+      → HasEffect env below Γ at p f a → HasEffect env below Γ at q g b
+      → HasEffect env below Γ at (Stmt.ifElse i x p q) (e ∪ f ∪ g) (a || b)
   -- 19 while A do B: 'The body of 19 must not' end at once
   while : {Γ : List ℕ} {at : Standing} {i : ℕ} {x : Expr} {p : Stmt} {e f : Effect}
-      → HasType (env .cells) Γ x truthType e → Runs env below Γ at p f false
-      → Runs env below Γ at (Stmt.while i x p) (e ∪ f) true
+      → HasType (env .cells) Γ x truthType e → HasEffect env below Γ at p f false
+      → HasEffect env below Γ at (Stmt.while i x p) (e ∪ f) true
 
--- `Modules env below ms`: in a file of that setting, behind modules with the signatures `below`,
+-- `Modules env below ms`: in a file of that setting, after modules with the signatures `below`,
 -- the modules ms keep the rules; the last of them is main, and 'main has an effect within {2}'
 pub data Modules (env : Setting) : List Signature → List Part → Type 0 where
   main : {below : List Signature} {m : Part} {e : Effect} {b : Bool}
-      → Runs env below (m .types) linked (m .body) e b → within home e ≡ true
+      → HasEffect env below (m .types) linked (m .body) e b → within home e ≡ true
       → Modules env below (m ∷ [])
   more : {below : List Signature} {m n : Part} {ms : List Part} {e : Effect} {b : Bool}
-      → Runs env below (m .types) linked (m .body) e b
+      → HasEffect env below (m .types) linked (m .body) e b
       → Modules env (below ++ (signature m e ∷ [])) (n ∷ ms)
       → Modules env below (m ∷ n ∷ ms)
 

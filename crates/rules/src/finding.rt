@@ -9,7 +9,7 @@ pub enum Typing {
 }
 
 // Of a statement: its effect and whether it ends at once, or the first fault in it.
-pub enum Conduct {
-    Does(Effect, bool),
-    Fails(u8, u16),
+pub enum StatementEffect {
+    Proper(Effect, bool),
+    Faulty(u8, u16),
 }

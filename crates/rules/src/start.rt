@@ -1,5 +1,5 @@
 // Starting a module, 13 and 14: the arguments, and what is known of the modules below.
-use crate::finding::Conduct;
+use crate::finding::StatementEffect;
 use crate::finding::Typing;
 use language::effect::Effect;
 use language::refusal::ESCAPING;
@@ -124,7 +124,7 @@ fn start_typed(
     t: u16,
     u: u16,
     e: Effect,
-) -> Conduct
+) -> StatementEffect
     requires { ⌜ n ≤ 2 ⌝ }
     ensures { λ r. ⌜ r
         ≡ startRule once (map signatureOf (now (below .entry))) (standing linked) s i
@@ -132,19 +132,19 @@ fn start_typed(
 {
     let at = s as usize;
     if below.len() <= at {
-        return Conduct::Fails(UNBOUND, i);
+        return StatementEffect::Faulty(UNBOUND, i);
     }
     let w = below[at];
     if !same_types(n, t, u, w) {
-        return Conduct::Fails(ILL_TYPED, i);
+        return StatementEffect::Faulty(ILL_TYPED, i);
     }
     if !all_public(n, t, u) {
-        return Conduct::Fails(ESCAPING, i);
+        return StatementEffect::Faulty(ESCAPING, i);
     }
     if linked {
-        return Conduct::Does(e.joined(signature_effect(w)), once);
+        return StatementEffect::Proper(e.joined(signature_effect(w)), once);
     }
-    Conduct::Fails(WHILE_UNLINKED, i)
+    StatementEffect::Faulty(WHILE_UNLINKED, i)
 }
 
 pub fn start_rule(
@@ -154,13 +154,13 @@ pub fn start_rule(
     s: u8,
     i: u16,
     args: Arguments,
-) -> Conduct
+) -> StatementEffect
     ensures { λ r. ⌜ r
         ≡ startRule once (map signatureOf (now (below .entry))) (standing linked) s i
         (arguedOf args) ⌝ }
 {
     match args {
-        Arguments::Fault(n, j) => Conduct::Fails(n, j),
+        Arguments::Fault(n, j) => StatementEffect::Faulty(n, j),
         Arguments::Nothing => start_typed(once, below, linked, s, i, 0, 0, 0, Effect::none()),
         Arguments::One(t, e) => start_typed(once, below, linked, s, i, 1, t, 0, e),
         Arguments::Two(t, u, e) => start_typed(once, below, linked, s, i, 2, t, u, e),

@@ -7,7 +7,7 @@ use files::read_file;
 use language::limit::MOST_BYTES;
 use language::limit::MOST_CHOICE_BYTES;
 use language::limit::MOST_LISTING_BYTES;
-use language::verdict::Verdict;
+use layout::LayoutVerdict;
 use layout::layout_verdict;
 use machine::offset::STATE_LENGTH;
 use runs::printing::run_listing;
@@ -19,11 +19,11 @@ fn choices_for(text: &[u8], choices: &mut [u8]) -> FileRead
     ensures { λ r. ⌜ Counts (r .count) (now (choices .exit)) ⌝ }
 {
     match layout_verdict(text) {
-        Verdict::Rejected(n, j) => FileRead {
+        LayoutVerdict::Rejected(n, j) => FileRead {
             readable: true,
             count: 0,
         },
-        Verdict::Accepted => read_file(b"choices.txt", choices),
+        LayoutVerdict::LaidOut => read_file(b"choices.txt", choices),
     }
 }
 

@@ -18,35 +18,37 @@ use Rattle.listing.specs.inner.Choices.{countRead, judged}
 use Rattle.listing.specs.declared.choices.ChoicesRead.{ChoicesRead}
 use Rattle.listing.specs.declared.choices.ChoicesRead.the-variants as read
 use Rattle.listing.proofs.ChoicesAt.{choices-count}
-use Rattle.runs.specs.Runs.{Behind, stepped}
-use Rattle.runs.specs.Printed.{unstepped, steppedOf, choicesStepped, ListedOn, listedAs}
-use Rattle.runs.specs.Printed.{listedOn, written}
-use Rattle.runs.specs.inner.Parts.{listOf, choicesOf, listedBehind}
-use Rattle.runs.specs.declared.printing.Listed.{Listed}
+use Rattle.runs.specs.Listings.{FinalState, finalState}
+use Rattle.runs.specs.Listings.{notRun, runOf, choicesRun, ListingResult, listingResult}
+use Rattle.runs.specs.Listings.{withBuffers, written}
+use Rattle.runs.specs.inner.Parts.{choiceList, choicesOf, listedAfter}
+use Rattle.runs.specs.declared.printing.ListingAnswer.{ListingAnswer}
 use Rattle.runs.proofs.ListingLoop.{written-put}
 use Rattle.runs.proofs.ListedRun.{listed-path}
 
 pub listed-refusal : (n i : ℕ) (w out line new : List ℕ) → line ≡ refusalLine n i
     → new ≡ paste out 8 line (length line)
-    → listedAs (A.Done 0) 16 0 w new ≡ listedBehind (unstepped w) (refusalLine n i) out
+    → listingResult (A.Done 0) 16 0 w new ≡ listedAfter (notRun w) (refusalLine n i) out
 listed-refusal n i w out line new a b =
     listed-path refl refl refl (written-put out 8 line new b ∙ ap (written out 8) a)
 
 -- ---- choices.txt
 module _ (p : Program) (w bytes : List ℕ) where
   listing-long : ltb 49152 (length bytes) ≡ true
-      → (choicesStepped p w bytes ≡ unstepped w) × (choicesListing p bytes ≡ refusalLine 2 0)
-  unfolding choicesStepped choicesListing
+      → (choicesRun p w bytes ≡ notRun w) × (choicesListing p bytes ≡ refusalLine 2 0)
+  unfolding choicesRun choicesListing
   listing-long h = (
-    ap (λ (b : Bool). elim b [ true ↦ unstepped w | false ↦ steppedOf p w (choicesFrom 0 bytes) ]) h,
-    ap (λ (b : Bool). elim b [ true ↦ refusalLine 2 0 | false ↦ linesOf p (choicesFrom 0 bytes) ]) h,
+    ap (λ (b : Bool). elim b [ true ↦ notRun w | false ↦ runOf p w (choicesFrom 0 bytes) ]) h,
+    ap
+        (λ (b : Bool). elim b [ true ↦ refusalLine 2 0 | false ↦ linesOf p (choicesFrom 0 bytes) ]) h,
   )
 
   listing-of : (r : Choices) → ltb 49152 (length bytes) ≡ false → choicesFrom 0 bytes ≡ r
-      → (choicesStepped p w bytes ≡ steppedOf p w r) × (choicesListing p bytes ≡ linesOf p r)
-  unfolding choicesStepped choicesListing
+      → (choicesRun p w bytes ≡ runOf p w r) × (choicesListing p bytes ≡ linesOf p r)
+  unfolding choicesRun choicesListing
   listing-of r h q = (
-    ap (λ (b : Bool). elim b [ true ↦ unstepped w | false ↦ steppedOf p w (choicesFrom 0 bytes) ]) h ∙ ap (steppedOf p w) q,
+    ap (λ (b : Bool). elim b [ true ↦ notRun w | false ↦ runOf p w (choicesFrom 0 bytes) ]) h
+        ∙ ap (runOf p w) q,
     ap (λ (b : Bool). elim b [ true ↦ refusalLine 2 0 | false ↦ linesOf p (choicesFrom 0 bytes) ]) h ∙ ap (linesOf p) q,
   )
 
@@ -90,17 +92,18 @@ module _ (bytes : List ℕ) (r : ChoicesRead) (e : r ≡ judged bytes) where
       go _ (Judged.right h q) z = absurd (let y : _≡_ {A = ℕ} 0 1 = cc in omega arith)
 
   is-choices : (n : ℕ) → r ≡ read.Choices n
-      → (ltb 49152 (length bytes) ≡ false) × (choicesFrom 0 bytes ≡ choices (choicesOf bytes)) × (n ≡ length (choicesOf bytes))
+      → (ltb 49152 (length bytes) ≡ false) × (choicesFrom 0 bytes ≡ choices (choicesOf bytes))
+      × (n ≡ length (choicesOf bytes))
   unfolding choicesOf
   is-choices n z = go r says z
     where
       go : (x : ChoicesRead) → Judged bytes x → x ≡ read.Choices n
-          → (ltb 49152 (length bytes) ≡ false) × (choicesFrom 0 bytes ≡ choices (listOf (choicesFrom 0 bytes))) × (n ≡ length (listOf (choicesFrom 0 bytes)))
+          → (ltb 49152 (length bytes) ≡ false) × (choicesFrom 0 bytes ≡ choices (choiceList (choicesFrom 0 bytes))) × (n ≡ length (choiceList (choicesFrom 0 bytes)))
       go _ (Judged.over h) z = absurd (let y : _≡_ {A = ℕ} 0 1 = cc in omega arith)
       go _ (Judged.wrong h q) z = absurd (let y : _≡_ {A = ℕ} 0 1 = cc in omega arith)
       go _ (Judged.right {cs = cs} h q) z =
           let y : length cs ≡ n = cc in
-          (h, q ∙ ap (λ (c : Choices). choices (listOf c)) (sym q), sym y ∙ ap (λ (c : Choices). length (listOf c)) (sym q))
+          (h, q ∙ ap (λ (c : Choices). choices (choiceList c)) (sym q), sym y ∙ ap (λ (c : Choices). length (choiceList c)) (sym q))
 
   pub choices-all : (n : ℕ) → r ≡ read.Choices n → n ≡ length (choicesOf bytes)
   choices-all n z = is-choices n z .2
@@ -113,34 +116,34 @@ module _ (bytes : List ℕ) (r : ChoicesRead) (e : r ≡ judged bytes) where
       let q = h .2 in
       omega arith
 
-  module _ (p : Program) (w v out new : List ℕ) (x : Listed) where
-    by-listing : (b c : Behind) (l m : List ℕ) → c ≡ b → m ≡ l
-        → listedBehind b l out ≡ listedBehind c m out
-    by-listing b c l m f g = ap₂ (λ (y : Behind) (z : List ℕ). listedBehind y z out) (sym f) (sym g)
+  module _ (p : Program) (w v out new : List ℕ) (x : ListingAnswer) where
+    by-listing : (b c : FinalState) (l m : List ℕ) → c ≡ b → m ≡ l
+        → listedAfter b l out ≡ listedAfter c m out
+    by-listing b c l m f g = ap₂ (λ (y : FinalState) (z : List ℕ). listedAfter y z out) (sym f) (sym g)
 
-    with-words : (l : List ℕ) → listedOn x [] new ≡ listedBehind (unstepped []) l out
-        → listedOn x w new ≡ listedBehind (unstepped w) l out
-    with-words l h = ap (λ (y : ListedOn). listedAs (y .answer) (y .size) (y .used) w (y .out)) h
+    with-words : (l : List ℕ) → withBuffers x [] new ≡ listedAfter (notRun []) l out
+        → withBuffers x w new ≡ listedAfter (notRun w) l out
+    with-words l h = ap (λ (y : ListingResult). listingResult (y .answer) (y .size) (y .used) w (y .out)) h
 
     pub choices-long : r ≡ read.TooLong
-        → listedOn x [] new ≡ listedBehind (unstepped []) (refusalLine 2 0) out
-        → listedOn x w new ≡ listedBehind (choicesStepped p w bytes) (choicesListing p bytes) out
+        → withBuffers x [] new ≡ listedAfter (notRun []) (refusalLine 2 0) out
+        → withBuffers x w new ≡ listedAfter (choicesRun p w bytes) (choicesListing p bytes) out
     choices-long z h =
         let s = listing-long p w bytes (is-long z) in
         with-words (refusalLine 2 0) h ∙ by-listing _ _ _ _ (s .0) (s .1)
 
     pub choices-wrong : (k : ℕ) → r ≡ read.Malformed k
-        → listedOn x [] new ≡ listedBehind (unstepped []) (refusalLine 3 k) out
-        → listedOn x w new ≡ listedBehind (choicesStepped p w bytes) (choicesListing p bytes) out
+        → withBuffers x [] new ≡ listedAfter (notRun []) (refusalLine 3 k) out
+        → withBuffers x w new ≡ listedAfter (choicesRun p w bytes) (choicesListing p bytes) out
     choices-wrong k z h =
         let a = is-malformed k z in
         let s = listing-of p w bytes (malformed k) (a .0) (a .1) in
         with-words (refusalLine 3 k) h ∙ by-listing _ _ _ _ (s .0) (s .1)
 
     pub choices-run : (n : ℕ) → r ≡ read.Choices n
-        → listedOn x v new
-        ≡ listedBehind (stepped p (choicesOf bytes)) (runLines p (choicesOf bytes)) out
-        → listedOn x v new ≡ listedBehind (choicesStepped p w bytes) (choicesListing p bytes) out
+        → withBuffers x v new
+        ≡ listedAfter (finalState p (choicesOf bytes)) (runLines p (choicesOf bytes)) out
+        → withBuffers x v new ≡ listedAfter (choicesRun p w bytes) (choicesListing p bytes) out
     choices-run n z h =
         let a = is-choices n z in
         let s = listing-of p w bytes (choices (choicesOf bytes)) (a .0) (a .1) in

@@ -1,4 +1,4 @@
--- The lines of a run in the buffer: the choices' behind the check's line, then the last. Assumes
+-- The lines of a run in the buffer: the choices' after the check's line, then the last. Assumes
 -- nothing.
 use Prim.Native.Nat.{ℕ, _+_, _*_, min}
 use mathlib.Core.Path.{_≡_, ap, ap₂, _∙_}
@@ -15,15 +15,15 @@ use Rattle.stepper.specs.declared.answer.Answer.the-variants as A
 use Rattle.stepper.specs.declared.file.File.{File}
 use Rattle.stepper.specs.inner.Files.{fileOf}
 use Rattle.listing.specs.Listing.{usedOf, lastLine, runLines}
-use Rattle.runs.specs.Runs.{stepped}
-use Rattle.runs.specs.Printed.{listedAs, written}
-use Rattle.runs.specs.inner.Parts.{stepLines, listedBehind}
+use Rattle.runs.specs.Listings.{finalState}
+use Rattle.runs.specs.Listings.{listingResult, written}
+use Rattle.runs.specs.inner.Parts.{stepLines, listedAfter}
 use Rattle.runs.proofs.ListingLoop.{written-put, written-more, step-lines-size}
 
 -- a listing, by its length, the choices used and both buffers
 pub listed-path : {x : Answer} {s t k j : ℕ} {w v o u : List ℕ} → s ≡ t → k ≡ j → w ≡ v → o ≡ u
-    → listedAs x s k w o ≡ listedAs x t j v u
-listed-path {x} a b c d = λ i. listedAs x (a i) (b i) (c i) (d i)
+    → listingResult x s k w o ≡ listingResult x t j v u
+listed-path {x} a b c d = λ i. listingResult x (a i) (b i) (c i) (d i)
 
 -- ---- how many choices are used
 used-is : (p : Program) (file : File) → file ≡ fileOf p → (n k : ℕ) → k ≡ min n (file .allowance)
@@ -51,13 +51,15 @@ module _ (p : Program) (cs : List ℕ) (file : File) (n k : ℕ) (e : file ≡ f
   pub listed-run : (v out o line new : List ℕ) → v ≡ pack (stateAfter p (take k cs))
       → o ≡ written out 8 (stepLines p (take k cs)) → line ≡ lastLine k
       → new ≡ paste o (8 + 14 * k) line (length line) → length out ≡ 229389
-      → listedAs (A.Done 0) (13 + 14 * k) k v new ≡ listedBehind (stepped p cs) (runLines p cs) out
-  unfolding stepped
+      → listingResult (A.Done 0) (13 + 14 * k) k v new
+      ≡ listedAfter (finalState p cs) (runLines p cs) out
+  unfolding finalState
   listed-run v out o line new a b d f room =
       listed-path size-is used (a ∙ ap (λ (i : ℕ). pack (stateAfter p (take i cs))) used)
       (written-put o (8 + 14 * k) line new f
       ∙ ap₂ (λ (x : List ℕ) (i : ℕ). written x i line) b at-end
-      ∙ ap (written (written out 8 (stepLines p (take k cs))) (8 + length (stepLines p (take k cs)))) d
+      ∙ ap
+      (written (written out 8 (stepLines p (take k cs))) (8 + length (stepLines p (take k cs)))) d
       ∙ written-more out 8 (stepLines p (take k cs)) (lastLine k) (omega arith)
       ∙ ap (written out 8) lines-are)
     where

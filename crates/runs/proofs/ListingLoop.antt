@@ -1,4 +1,4 @@
--- The loop of a listing: a line for each choice, one behind the other in the buffer. Assumes
+-- The loop of a listing: a line for each choice, one after the other in the buffer. Assumes
 -- nothing.
 use Prim.Native.Nat.{ℕ, _+_, _*_, _^_, _<_, _≤_}
 use mathlib.Core.Path.{_≡_, refl, sym, ap, ap₂, _∙_}
@@ -10,27 +10,27 @@ use Rattle.text.specs.Frames.{framesOf}
 use Rattle.program.specs.Programs.{Program, programOf}
 use Rattle.machine.specs.State.{State}
 use Rattle.machine.specs.Fresh.{fresh}
-use Rattle.machine.specs.Turns.{Stepped}
+use Rattle.machine.specs.Turns.{StepResult}
 use Rattle.machine.specs.Steps.{step}
 use Rattle.machine.specs.Runs.{stepsFrom, stateFrom, steps, stateAfter}
 use Rattle.machine.specs.Words.{pack}
-use Rattle.machine.specs.Calls.{Called, stepCall}
+use Rattle.machine.specs.Calls.{CallResult, stepCall}
 use Rattle.machine.proofs.Blocks.{says-pack}
 use Rattle.machine.proofs.CallRuns.{asCalled}
 use Rattle.machine.proofs.KeptShape.{reached-shaped}
 use Rattle.stepper.specs.declared.file.File.{File}
-use Rattle.stepper.specs.declared.party.Stepped.{Stepped as Answered}
+use Rattle.stepper.specs.declared.party.StepAnswer.{StepAnswer}
 use Rattle.stepper.specs.inner.Files.{FileWords, StepWords, fileOf, steppedOn}
 use Rattle.stepper.proofs.GoodWords.{fits-words}
 use Rattle.listing.specs.Listing.{Choices, choices, malformed, choicesFrom, choiceLineOf}
 use Rattle.listing.specs.Listing.{choiceLine, choiceLines}
 use Rattle.listing.specs.inner.Choices.{choiceAt}
 use Rattle.listing.proofs.ChoicesAt.{choices-at}
-use Rattle.runs.specs.Printed.{written}
-use Rattle.runs.specs.inner.Parts.{listOf, choicesOf, stepLines}
+use Rattle.runs.specs.Listings.{written}
+use Rattle.runs.specs.inner.Parts.{choiceList, choicesOf, stepLines}
 use Rattle.runs.proofs.RunLoop.{next-choice, state-next, reached-words, reached-call}
 
--- ---- bytes behind bytes
+-- ---- bytes after bytes
 module _ (out : List ℕ) (at : ℕ) where
   pub written-none : out ≡ written out at []
   unfolding written
@@ -45,10 +45,14 @@ module _ (out : List ℕ) (at : ℕ) where
       → written (written out at xs) (at + length xs) ys ≡ written out at (xs ++ ys)
   unfolding written
   written-more xs ys h =
-      ap₂ (λ (a b : List ℕ). a ++ take (length ys) ys ++ b) (take-paste out at xs (length xs) h (omega arith)) rest
-      ∙ ap₂ (λ (a b : List ℕ). take at out ++ a ++ b ++ drop (at + length xs + length ys) out) (take-length xs) (take-length ys)
-      ∙ ap (λ (a : List ℕ). a ++ drop (at + length xs + length ys) out) (append-assoc (take at out) xs ys)
-      ∙ ap₂ (λ (a : List ℕ) (i : ℕ). take at out ++ a ++ drop i out) (sym (take-length (xs ++ ys))) size
+      ap₂ (λ (a b : List ℕ). a ++ take (length ys) ys ++ b)
+      (take-paste out at xs (length xs) h (omega arith)) rest
+      ∙ ap₂ (λ (a b : List ℕ). take at out ++ a ++ b ++ drop (at + length xs + length ys) out)
+      (take-length xs) (take-length ys)
+      ∙ ap (λ (a : List ℕ). a ++ drop (at + length xs + length ys) out)
+      (append-assoc (take at out) xs ys)
+      ∙ ap₂ (λ (a : List ℕ) (i : ℕ). take at out ++ a ++ drop i out)
+      (sym (take-length (xs ++ ys))) size
     where
       rest : drop (at + length xs + length ys) (paste out at xs (length xs))
           ≡ drop (at + length xs + length ys) out
@@ -87,7 +91,8 @@ module _ (p : Program) where
 
   step-lines-next : (cs : List ℕ) (k : ℕ) → k < length cs
       → stepLines p (take (k + 1) cs)
-      ≡ stepLines p (take k cs) ++ choiceLine (getD cs k 0) (step p (stateAfter p (take k cs)) (getD cs k 0))
+      ≡ stepLines p (take k cs) ++ choiceLine (getD cs k 0)
+      (step p (stateAfter p (take k cs)) (getD cs k 0))
   unfolding stepLines
   step-lines-next cs k h =
       ap (λ (xs : List ℕ). choiceLines xs (steps p xs)) (next-choice cs k h)
@@ -99,8 +104,8 @@ pub choice-at-is : (bytes : List ℕ) (k : ℕ) → k < length (choicesOf bytes)
 unfolding choicesOf
 choice-at-is bytes k h = by (choicesFrom 0 bytes) refl h
   where
-    by : (r : Choices) → choicesFrom 0 bytes ≡ r → k < length (listOf r)
-        → getD (listOf r) k 0 ≡ choiceAt bytes k
+    by : (r : Choices) → choicesFrom 0 bytes ≡ r → k < length (choiceList r)
+        → getD (choiceList r) k 0 ≡ choiceAt bytes k
     by (choices cs) q l = choices-at bytes cs q k l
     by (malformed j) q l = absurd (omega arith)
 
@@ -137,8 +142,8 @@ module _ (frames : List ℕ) (file : File) (bytes : List ℕ) (n : ℕ) (old w b
   pub lining-asks : StepWords frames (file .shared) w
   lining-asks = reached-words frames file (take k cs) w g e (r .words)
 
-  module _ (c : ℕ) (a : c ≡ choiceAt bytes k) (m : n ≤ length (choicesOf bytes)) (h : k < n) (s : Answered) (v : List ℕ) (z : steppedOn s v ≡ stepCall (framesOf frames) w c) where
-    abbrev next : Stepped
+  module _ (c : ℕ) (a : c ≡ choiceAt bytes k) (m : n ≤ length (choicesOf bytes)) (h : k < n) (s : StepAnswer) (v : List ℕ) (z : steppedOn s v ≡ stepCall (framesOf frames) w c) where
+    abbrev next : StepResult
     next = step P (stateAfter P (take k cs)) (getD cs k 0)
 
     choice-is : c ≡ getD (choicesOf bytes) k 0
@@ -149,19 +154,19 @@ module _ (frames : List ℕ) (file : File) (bytes : List ℕ) (n : ℕ) (old w b
         reached-call frames file (take k cs) w g e (r .words) s v c z
         ∙ ap (λ (i : ℕ). asCalled (step P (stateAfter P (take k cs)) i)) choice-is
 
-    behind : v ≡ pack (stateAfter (programOf (framesOf frames)) (take (k + 1) (choicesOf bytes)))
-    behind = ap (λ (x : Called). x .words) called ∙ ap pack (sym (state-next P cs k (omega arith)))
+    beyond : v ≡ pack (stateAfter (programOf (framesOf frames)) (take (k + 1) (choicesOf bytes)))
+    beyond = ap (λ (x : CallResult). x .words) called ∙ ap pack (sym (state-next P cs k (omega arith)))
 
     cells-in : getD v 1 0 ≡ length (next .state .cells)
-    cells-in = ap (λ (x : Called). getD (x .words) 1 0) called ∙ says-pack (next .state) .cells
+    cells-in = ap (λ (x : CallResult). getD (x .words) 1 0) called ∙ says-pack (next .state) .cells
 
     pub lining-long : length v ≡ 4818
-    lining-long = ap (λ (x : Called). length (x .words)) called ∙ says-pack (next .state) .all
+    lining-long = ap (λ (x : CallResult). length (x .words)) called ∙ says-pack (next .state) .all
 
     pub lining-cells : getD v 1 0 < 2 ^ 16
     lining-cells =
         let b = reached-shaped (framesOf frames) P (P .schedulers) (fits-words frames g) (take (k + 1) cs) .cells-room in
-        let q : getD v 1 0 ≡ length (stateAfter P (take (k + 1) cs) .cells) = ap (λ (x : List ℕ). getD x 1 0) behind ∙ says-pack (stateAfter P (take (k + 1) cs)) .cells in
+        let q : getD v 1 0 ≡ length (stateAfter P (take (k + 1) cs) .cells) = ap (λ (x : List ℕ). getD x 1 0) beyond ∙ says-pack (stateAfter P (take (k + 1) cs)) .cells in
         omega arith
 
     module _ (line new : List ℕ) (y : line ≡ choiceLineOf c (s .answer) (s .thread) (getD v 1 0)) (o : new ≡ paste out (8 + 14 * k) line (length line)) where
@@ -169,7 +174,7 @@ module _ (frames : List ℕ) (file : File) (bytes : List ℕ) (n : ℕ) (old w b
       unfolding choiceLine
       line-is =
           y ∙ ap (λ (i : ℕ). choiceLineOf i (s .answer) (s .thread) (getD v 1 0)) choice-is
-          ∙ ap (λ (x : Called). choiceLineOf (getD cs k 0) (x .answer) (x .thread) (getD v 1 0)) called
+          ∙ ap (λ (x : CallResult). choiceLineOf (getD cs k 0) (x .answer) (x .thread) (getD v 1 0)) called
           ∙ ap (choiceLineOf (getD cs k 0) (next .answer) (next .thread)) cells-in
 
       pub lining-more : length v ≡ length w → length new ≡ length out → 8 + 14 * n ≤ length before
@@ -182,12 +187,13 @@ module _ (frames : List ℕ) (file : File) (bytes : List ℕ) (n : ℕ) (old w b
             few = omega arith;
             long = l ∙ r .long;
             wide = d ∙ r .wide;
-            words = behind;
+            words = beyond;
             lines =
                 written-put out (8 + 14 * k) line new o
                 ∙ ap₂ (λ (x : List ℕ) (j : ℕ). written x j line) (r .lines) i
                 ∙ ap (written (written before 8 (stepLines P (take k cs))) (8 + length (stepLines P (take k cs)))) line-is
-                ∙ written-more before 8 (stepLines P (take k cs)) (choiceLine (getD cs k 0) next) (omega arith)
+                ∙ written-more before 8 (stepLines P (take k cs)) (choiceLine (getD cs k 0) next)
+                (omega arith)
                 ∙ ap (written before 8) (sym (step-lines-next P cs k (omega arith)));
           }
 

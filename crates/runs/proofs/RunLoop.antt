@@ -12,11 +12,11 @@ use Rattle.machine.specs.Fresh.{fresh}
 use Rattle.machine.specs.Steps.{step}
 use Rattle.machine.specs.Runs.{stateFrom, stateAfter}
 use Rattle.machine.specs.Words.{pack}
-use Rattle.machine.specs.Calls.{Called, stepCall}
+use Rattle.machine.specs.Calls.{CallResult, stepCall}
 use Rattle.machine.proofs.KeptShape.{FileFits, reached-shaped, reached-in-range}
 use Rattle.machine.proofs.CallRuns.{asCalled, call-is}
 use Rattle.stepper.specs.declared.file.File.{File}
-use Rattle.stepper.specs.declared.party.Stepped.{Stepped}
+use Rattle.stepper.specs.declared.party.StepAnswer.{StepAnswer}
 use Rattle.stepper.specs.inner.Files.{FileWords, StepWords, fileOf, steppedOn}
 use Rattle.stepper.proofs.GoodWords.{fits-words}
 
@@ -54,10 +54,12 @@ module _ (frames : List ℕ) (file : File) (cs w : List ℕ) (g : FileWords fram
       }
 
   -- the call is the step of that state
-  pub reached-call : (s : Stepped) (v : List ℕ) (c : ℕ)
+  pub reached-call : (s : StepAnswer) (v : List ℕ) (c : ℕ)
       → steppedOn s v ≡ stepCall (framesOf frames) w c
       → steppedOn s v
-      ≡ asCalled (step (programOf (framesOf frames)) (stateAfter (programOf (framesOf frames)) cs) c)
+      ≡ asCalled
+      (step (programOf (framesOf frames)) (stateAfter (programOf (framesOf frames)) cs) c)
   reached-call s v c z =
       z ∙ ap (λ (x : List ℕ). stepCall (framesOf frames) x c) q
-      ∙ call-is (framesOf frames) fits (stateAfter P cs) c (reached-shaped (framesOf frames) P (P .schedulers) fits cs)
+      ∙ call-is (framesOf frames) fits (stateAfter P cs) c
+      (reached-shaped (framesOf frames) P (P .schedulers) fits cs)

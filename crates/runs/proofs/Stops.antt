@@ -1,4 +1,4 @@
--- The listing stops behind the check's line after 1 to 7, which are the layout's, and goes on after
+-- The listing stops after the check's line after 1 to 7, which are the layout's, and goes on after
 -- 8 to 13, which are the rules'. Assumes nothing.
 use Prim.Native.Nat.{ℕ, _<_, _≤_}
 use mathlib.Core.Path.{_≡_, refl, _∙_, subst}
@@ -16,6 +16,7 @@ use Rattle.text.specs.inner.Reading.{reading}
 use Rattle.text.proofs.Readings.{reads, some-frame}
 use Rattle.program.specs.Trees.{Expr, Stmt}
 use Rattle.program.specs.Programs.{Part, programOf}
+use Rattle.layout.specs.declared.LayoutVerdict.{LayoutVerdict}
 use Rattle.layout.specs.Faults.{Fault, NoFault, LayoutSays}
 use Rattle.layout.specs.inner.Layouts.{layoutRead, layoutVerdict}
 use Rattle.layout.proofs.Layouts.{layout-says}
@@ -38,17 +39,17 @@ fault-number : {fs : List Frame} {n j : ℕ} → Fault fs n j → n ≤ 7
 fault-number (Fault.header h) = omega arith
 fault-number (Fault.field l h) = omega arith
 fault-number (Fault.order l h) = omega arith
-fault-number (Fault.behind a b c d) = omega arith
+fault-number (Fault.misplaced a b c d) = omega arith
 fault-number (Fault.leftover a b c) = omega arith
 fault-number (Fault.main a b) = omega arith
 fault-number (Fault.depth d h) = omega arith
 
-pub layout-stops : (bs : List ℕ) (n j : ℕ) → layoutVerdict bs ≡ Rejected n j
+pub layout-stops : (bs : List ℕ) (n j : ℕ) → layoutVerdict bs ≡ LayoutVerdict.Rejected n j
     → stops (Rejected n j) ≡ true
 unfolding layoutVerdict
 layout-stops bs n j e = le-leb n 7 (go (reading bs) refl e)
   where
-    go : (r : Reading) → reading bs ≡ r → layoutRead r ≡ Rejected n j → n ≤ 7
+    go : (r : Reading) → reading bs ≡ r → layoutRead r ≡ LayoutVerdict.Rejected n j → n ≤ 7
     go (refused m k) q z =
         text-number (reads bs) n j (let a : m ≡ n = cc in let b : k ≡ j = cc in q ∙ cc)
     go (frames fs) q z =

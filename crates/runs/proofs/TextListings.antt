@@ -13,13 +13,14 @@ use Rattle.basics.specs.If.{if_then_else_}
 use Rattle.basics.proofs.Ifs.{if-yes, if-no, and-off}
 use Rattle.language.specs.declared.frame.Frame.{Frame}
 use Rattle.language.specs.declared.verdict.Verdict.{Verdict}
-use Rattle.language.specs.declared.verdict.Verdict.the-variants.{Accepted, Rejected}
+use Rattle.language.specs.declared.verdict.Verdict.the-variants.{Rejected}
 use Rattle.text.specs.Frames.{framesOf, textFrames}
 use Rattle.program.specs.Programs.{programOf}
-use Rattle.layout.specs.inner.Layouts.{layoutVerdict, laidAs, laidOut}
+use Rattle.layout.specs.declared.LayoutVerdict.{LayoutVerdict}
+use Rattle.layout.specs.inner.Layouts.{layoutVerdict, laidAs, laidWords}
 use Rattle.layout.specs.declared.Laid.{Laid}
 use Rattle.layout.proofs.Answers.{verdict-is}
-use Rattle.layout.proofs.Accepted.{laid-passed}
+use Rattle.layout.proofs.Judged.{laid-passed}
 use Rattle.rules.specs.inner.Checking.{rulesOf}
 use Rattle.checker.specs.Verdict.{verdict}
 use Rattle.checker.specs.inner.Frames.{FileIn}
@@ -29,12 +30,12 @@ use Rattle.stepper.specs.declared.answer.Answer.{Answer}
 use Rattle.stepper.specs.declared.answer.Answer.the-variants as A
 use Rattle.stepper.specs.inner.Files.{FileWords}
 use Rattle.listing.specs.Listing.{refusalLine, checkLine, stops, choicesListing, runListing}
-use Rattle.runs.specs.Runs.{Behind}
-use Rattle.runs.specs.Printed.{unstepped, choicesStepped, runStepped, ListedOn, listedAs}
-use Rattle.runs.specs.Printed.{listedOn, written, listedFrom, listedWhole, unlisted}
-use Rattle.runs.specs.Printed.{answerFor, buffersFit, listText}
-use Rattle.runs.specs.inner.Parts.{listedBehind, listedRejected}
-use Rattle.runs.specs.declared.printing.Listed.{Listed}
+use Rattle.runs.specs.Listings.{FinalState}
+use Rattle.runs.specs.Listings.{notRun, choicesRun, textRun, ListingResult, listingResult}
+use Rattle.runs.specs.Listings.{withBuffers, written, listingOf, wholeListing, noListing}
+use Rattle.runs.specs.Listings.{answerFor, buffersFit, listText}
+use Rattle.runs.specs.inner.Parts.{listedAfter, listedRejected}
+use Rattle.runs.specs.declared.printing.ListingAnswer.{ListingAnswer}
 use Rattle.runs.proofs.ListingLoop.{written-put, written-more}
 use Rattle.runs.proofs.ListedRun.{listed-path}
 use Rattle.runs.proofs.Stops.{layout-stops, rules-run}
@@ -42,18 +43,19 @@ use Rattle.runs.proofs.Stops.{layout-stops, rules-run}
 -- ---- the check's line
 module _ (v : Verdict) (fs : List Frame) (w bytes : List ℕ) where
   pub goes-on : stops v ≡ false
-      → (runStepped v fs w bytes ≡ choicesStepped (programOf fs) w bytes) × (runListing v fs bytes ≡ checkLine v ++ choicesListing (programOf fs) bytes)
-  unfolding runStepped runListing
+      → (textRun v fs w bytes ≡ choicesRun (programOf fs) w bytes)
+      × (runListing v fs bytes ≡ checkLine v ++ choicesListing (programOf fs) bytes)
+  unfolding textRun runListing
   goes-on h = (
-    ap (λ (b : Bool). elim b [ true ↦ unstepped w | false ↦ choicesStepped (programOf fs) w bytes ]) h,
+    ap (λ (b : Bool). elim b [ true ↦ notRun w | false ↦ choicesRun (programOf fs) w bytes ]) h,
     ap (λ (b : Bool). checkLine v ++ elim b [ true ↦ [] | false ↦ choicesListing (programOf fs) bytes ]) h,
   )
 
   ends : stops v ≡ true
-      → (runStepped v fs w bytes ≡ unstepped w) × (runListing v fs bytes ≡ checkLine v)
-  unfolding runStepped runListing
+      → (textRun v fs w bytes ≡ notRun w) × (runListing v fs bytes ≡ checkLine v)
+  unfolding textRun runListing
   ends h = (
-    ap (λ (b : Bool). elim b [ true ↦ unstepped w | false ↦ choicesStepped (programOf fs) w bytes ]) h,
+    ap (λ (b : Bool). elim b [ true ↦ notRun w | false ↦ choicesRun (programOf fs) w bytes ]) h,
     ap (λ (b : Bool). checkLine v ++ elim b [ true ↦ [] | false ↦ choicesListing (programOf fs) bytes ]) h,
   )
 
@@ -64,30 +66,33 @@ module _ (frames : List ℕ) (g : FileWords frames) (v : Verdict) (e : v ≡ rul
   abbrev fs : List Frame
   fs = framesOf frames
 
-  pub listed-frames : (w bytes u new : List ℕ) (x : Listed)
-      → listedOn x u new
-      ≡ listedBehind (choicesStepped (programOf (framesOf frames)) w bytes) (choicesListing (programOf (framesOf frames)) bytes) o
-      → listedOn x u new
-      ≡ listedWhole (A.Done 0) (rulesOf (programOf (framesOf frames))) (framesOf frames) bytes w out
+  pub listed-frames : (w bytes u new : List ℕ) (x : ListingAnswer)
+      → withBuffers x u new
+      ≡ listedAfter (choicesRun (programOf (framesOf frames)) w bytes)
+      (choicesListing (programOf (framesOf frames)) bytes) o
+      → withBuffers x u new
+      ≡ wholeListing (A.Done 0) (rulesOf (programOf (framesOf frames)))
+      (framesOf frames) bytes w out
   listed-frames w bytes u new x h =
       let s = goes-on (rulesOf (programOf fs)) fs w bytes (rules-run fs (some-frame (g .laid-out)) (g .laid-out)) in
-      h ∙ ap (listedBehind (choicesStepped (programOf fs) w bytes) (choicesListing (programOf fs) bytes)) start
+      h ∙ ap (listedAfter (choicesRun (programOf fs) w bytes) (choicesListing (programOf fs) bytes)) start
       ∙ listed-path (let l = length-append (checkLine (rulesOf (programOf fs))) (choicesListing (programOf fs) bytes) in omega arith) refl refl (written-more out 0 (checkLine (rulesOf (programOf fs))) (choicesListing (programOf fs) bytes) (omega arith))
-      ∙ ap₂ (λ (y : Behind) (z : List ℕ). listedFrom (A.Done 0) y z out) (sym (s .0)) (sym (s .1))
+      ∙ ap₂ (λ (y : FinalState) (z : List ℕ). listingOf (A.Done 0) y z out) (sym (s .0))
+      (sym (s .1))
     where
       start : o ≡ written out 0 (checkLine (rulesOf (programOf (framesOf frames))))
       start = written-put out 0 line o b ∙ ap (written out 0) (a ∙ ap checkLine e)
 
 -- ---- the whole: by what 1 to 7 say of the text
 module _ (n j : ℕ) (out : List ℕ) where
-  pub rejected-unlisted : (length out ≡ 229389 → ⊥)
-      → unlisted (A.Rejected n j) [] out ≡ listedRejected n j [] out
+  pub rejected-noListing : (length out ≡ 229389 → ⊥)
+      → noListing (A.Rejected n j) [] out ≡ listedRejected n j [] out
   unfolding listedRejected
-  rejected-unlisted f = sym (if-no _ _ (ne-eqb (length out) 229389 f))
+  rejected-noListing f = sym (if-no _ _ (ne-eqb (length out) 229389 f))
 
   pub rejected-listed : (line new : List ℕ) → line ≡ refusalLine n j
       → new ≡ paste out 0 line (length line) → length out ≡ 229389
-      → listedAs (A.Rejected n j) 8 0 [] new ≡ listedRejected n j [] out
+      → listingResult (A.Rejected n j) 8 0 [] new ≡ listedRejected n j [] out
   unfolding listedRejected
   rejected-listed line new a b room =
       listed-path refl refl refl (written-put out 0 line new b ∙ ap (written out 0) a)
@@ -95,80 +100,80 @@ module _ (n j : ℕ) (out : List ℕ) where
 
   -- the listing of a text that 1 to 7 stop says nothing of the state: whichever is lent stays
   module _ (w : List ℕ) where
-    abbrev withState : ListedOn → ListedOn
-    withState y = listedAs (y .answer) (y .size) (y .used) w (y .out)
+    abbrev withState : ListingResult → ListingResult
+    withState y = listingResult (y .answer) (y .size) (y .used) w (y .out)
 
-    either : (b : Bool) (x y : ListedOn)
+    either : (b : Bool) (x y : ListingResult)
         → withState (if b then x else y) ≡ (if b then withState x else withState y)
     unfolding if_then_else_
     either true x y = refl
     either false x y = refl
 
-    with-state : (x : Listed) (new : List ℕ) → listedOn x [] new ≡ listedRejected n j [] out
-        → listedOn x w new ≡ listedRejected n j w out
+    with-state : (x : ListingAnswer) (new : List ℕ) → withBuffers x [] new ≡ listedRejected n j [] out
+        → withBuffers x w new ≡ listedRejected n j w out
     unfolding listedRejected
     with-state x new k = ap withState k ∙ either (eqb (length out) 229389) _ _
 
-module _ (bs bytes w out : List ℕ) (l : Laid) (ws : List ℕ) (e : laidAs l ws ≡ laidOut bs) (v : Verdict) (h : v ≡ l .verdict) where
+module _ (bs bytes w out : List ℕ) (l : Laid) (ws : List ℕ) (e : laidAs l ws ≡ laidWords bs) (v : LayoutVerdict) (h : v ≡ l .verdict) where
   -- what the definition gives with that answer where no buffer hinders it
-  abbrev whole : Answer → ListedOn
-  whole a = listedWhole a (verdict bs) (textFrames bs) bytes w out
+  abbrev whole : Answer → ListingResult
+  whole a = wholeListing a (verdict bs) (textFrames bs) bytes w out
 
   -- the definition, by what 1 to 7 say
-  abbrev byVerdict : Verdict → ListedOn
+  abbrev byVerdict : LayoutVerdict → ListingResult
   byVerdict x =
-      if buffersFit x w out then whole (answerFor x true) else unlisted (answerFor x false) w out
+      if buffersFit x w out then whole (answerFor x true) else noListing (answerFor x false) w out
 
   layout-is : layoutVerdict bs ≡ v
   layout-is = sym (verdict-is bs (laidAs l ws) e) ∙ sym h
 
-  by-layout : (x : Verdict) → v ≡ x → byVerdict x ≡ listText bs bytes w out
+  by-layout : (x : LayoutVerdict) → v ≡ x → byVerdict x ≡ listText bs bytes w out
   unfolding listText
   by-layout x z = ap byVerdict (sym (layout-is ∙ z))
 
-  module _ (n j : ℕ) (z : v ≡ Rejected n j) where
+  module _ (n j : ℕ) (z : v ≡ LayoutVerdict.Rejected n j) where
     abbrev refusal : Answer
     refusal = A.Rejected n j
 
-    whole-rejected : listedFrom refusal (unstepped w) (refusalLine n j) out ≡ whole refusal
+    whole-rejected : listingOf refusal (notRun w) (refusalLine n j) out ≡ whole refusal
     whole-rejected =
         let s = ends (Rejected n j) (textFrames bs) w bytes (layout-stops bs n j (layout-is ∙ z)) in
-        ap₂ (λ (y : Behind) (t : List ℕ). listedFrom refusal y t out) (sym (s .0)) (sym (s .1))
-        ∙ ap (λ (x : Verdict). listedWhole refusal x (textFrames bs) bytes w out)
+        ap₂ (λ (y : FinalState) (t : List ℕ). listingOf refusal y t out) (sym (s .0)) (sym (s .1))
+        ∙ ap (λ (x : Verdict). wholeListing refusal x (textFrames bs) bytes w out)
         (check-rejected bs l ws e v n j h z)
 
     rejected-is : listedRejected n j w out ≡ listText bs bytes w out
     unfolding listedRejected
     rejected-is =
-        ap (λ (x : ListedOn). if eqb (length out) 229389 then x else unlisted (A.Rejected n j) w out) whole-rejected
-        ∙ by-layout (Rejected n j) z
+        ap (λ (x : ListingResult). if eqb (length out) 229389 then x else noListing (A.Rejected n j) w out) whole-rejected
+        ∙ by-layout (LayoutVerdict.Rejected n j) z
 
-    pub list-rejected : (x : Listed) (new : List ℕ) → listedOn x [] new ≡ listedRejected n j [] out
-        → listedOn x w new ≡ listText bs bytes w out
+    pub list-rejected : (x : ListingAnswer) (new : List ℕ) → withBuffers x [] new ≡ listedRejected n j [] out
+        → withBuffers x w new ≡ listText bs bytes w out
     list-rejected x new k = with-state n j out w x new k ∙ rejected-is
 
-  module _ (a : v ≡ Accepted) where
+  module _ (a : v ≡ LayoutVerdict.LaidOut) where
     pub list-short-state : (length w ≡ 4818 → ⊥)
-        → unlisted (A.Refused 14 0) w out ≡ listText bs bytes w out
+        → noListing (A.Refused 14 0) w out ≡ listText bs bytes w out
     list-short-state f =
         sym (if-no _ _ (ap (λ (b : Bool). b && eqb (length out) 229389) (ne-eqb (length w) 4818 f)))
-        ∙ by-layout Accepted a
+        ∙ by-layout LayoutVerdict.LaidOut a
 
     pub list-short-out : (length out ≡ 229389 → ⊥)
-        → unlisted (A.Refused 14 0) w out ≡ listText bs bytes w out
+        → noListing (A.Refused 14 0) w out ≡ listText bs bytes w out
     list-short-out f =
         sym (if-no _ _ (ap (λ (b : Bool). eqb (length w) 4818 && b) (ne-eqb (length out) 229389 f) ∙ and-off (eqb (length w) 4818)))
-        ∙ by-layout Accepted a
+        ∙ by-layout LayoutVerdict.LaidOut a
 
-    pub list-accepted : length w ≡ 4818 → length out ≡ 229389 → (n : ℕ) → n ≡ l .count
-        → (u new : List ℕ) (x : Listed)
-        → listedOn x u new
-        ≡ listedWhole (A.Done 0) (rulesOf (programOf (framesOf (take n ws))))
+    pub list-laid-out : length w ≡ 4818 → length out ≡ 229389 → (n : ℕ) → n ≡ l .count
+        → (u new : List ℕ) (x : ListingAnswer)
+        → withBuffers x u new
+        ≡ wholeListing (A.Done 0) (rulesOf (programOf (framesOf (take n ws))))
         (framesOf (take n ws)) bytes w out
-        → listedOn x u new ≡ listText bs bytes w out
-    list-accepted size room n q u new x k =
+        → withBuffers x u new ≡ listText bs bytes w out
+    list-laid-out size room n q u new x k =
         let f : framesOf (take n ws) ≡ textFrames bs = ap (λ (i : ℕ). framesOf (take i ws)) q ∙ laid-passed bs (laidAs l ws) e (sym h ∙ a) .lines in
         let r : rulesOf (programOf (framesOf (take n ws))) ≡ verdict bs = check-rules bs l ws e v h a n _ q refl in
-        k ∙ ap₂ (λ (y : Verdict) (fs : List Frame). listedWhole (A.Done 0) y fs bytes w out) r f
+        k ∙ ap₂ (λ (y : Verdict) (fs : List Frame). wholeListing (A.Done 0) y fs bytes w out) r f
         ∙ sym (if-yes _ _ (ap₂ (λ (b c : Bool). b && c) (eq-eqb (length w) 4818 size) (eq-eqb (length out) 229389 room)))
-        ∙ by-layout Accepted a
+        ∙ by-layout LayoutVerdict.LaidOut a

@@ -1,3 +1,2 @@
-pub mod Runs
-pub mod Printed
+pub mod Listings
 pub mod inner

@@ -1,4 +1,4 @@
-// The lines of a run, gathered in the buffer behind the check's line.
+// The lines of a run, gathered in the buffer after the check's line.
 use language::limit::CHECK_LINE;
 use language::limit::CHOICE_LINE;
 use listing::buffer::put;
@@ -17,11 +17,11 @@ ghost use Rattle.machine.specs.Fresh.{fresh};
 ghost use Rattle.machine.specs.Runs.{stateAfter};
 ghost use Rattle.machine.specs.Words.{pack};
 ghost use Rattle.stepper.specs.inner.Files.{FileWords, fileOf};
-ghost use Rattle.runs.specs.Printed.{written};
+ghost use Rattle.runs.specs.Listings.{written};
 ghost use Rattle.runs.specs.inner.Parts.{choicesOf, stepLines, checkLength, choiceLength};
 
 // The first n choices of choices.txt, from the fresh state on, and a line for each; its cells in
-// use are those behind the step.
+// use are those after the step.
 pub(crate) fn step_lines(
     frames: &[u64],
     file: File,

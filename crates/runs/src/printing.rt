@@ -9,7 +9,7 @@ use language::limit::MOST_LISTING_BYTES;
 use language::refusal::LONG_TEXT;
 use language::refusal::MALFORMED_TEXT;
 use language::refusal::WRONG_STATE;
-use language::verdict::Verdict;
+use layout::LayoutVerdict;
 use layout::lay_into;
 use listing::buffer::put;
 use listing::check_line;
@@ -33,14 +33,14 @@ ghost use Rattle.rules.specs.inner.Checking.{rulesOf};
 ghost use Rattle.stepper.specs.inner.Files.{FileWords};
 ghost use Rattle.stepper.specs.declared.answer.Answer.the-variants.{Done};
 ghost use Rattle.listing.specs.Listing.{refusalLine, runLines, choicesListing};
-ghost use Rattle.runs.specs.Runs.{stepped};
-ghost use Rattle.runs.specs.Printed.{unstepped, choicesStepped, listedOn, listedWhole};
-ghost use Rattle.runs.specs.Printed.{listText};
-ghost use Rattle.runs.specs.inner.Parts.{choicesOf, listedBehind, listedRejected};
+ghost use Rattle.runs.specs.Listings.{finalState};
+ghost use Rattle.runs.specs.Listings.{notRun, choicesRun, withBuffers, wholeListing};
+ghost use Rattle.runs.specs.Listings.{listText};
+ghost use Rattle.runs.specs.inner.Parts.{choicesOf, listedAfter, listedRejected};
 
 // The answer: the text's refusal 1 to 7, else 14, else 0; how many bytes of the buffer hold the
 // listing; how many choices were used.
-pub struct Listed {
+pub struct ListingAnswer {
     pub answer: Answer,
     pub length: u32,
     pub used: usize,
@@ -64,12 +64,18 @@ fn used_of(n: usize, allowance: u16) -> usize
 }
 
 // The n choices of choices.txt, as far as the allowance goes: a line for each, and the last.
-fn list_run(frames: &[u64], bytes: &[u8], n: usize, state: &mut [u64], out: &mut [u8]) -> Listed
+fn list_run(
+    frames: &[u64],
+    bytes: &[u8],
+    n: usize,
+    state: &mut [u64],
+    out: &mut [u8],
+) -> ListingAnswer
     requires { ⌜ FileWords (now frames) × (n ≡ length (choicesOf (now bytes))) × (n ≤ mostChoices)
         × (length (now state) ≡ stateLength) × (length (now out) ≡ mostListingBytes) ⌝ }
-    ensures { λ r. ⌜ listedOn r (now (state .exit)) (now (out .exit))
-        ≡ listedBehind
-        (stepped (programOf (framesOf (now (frames .entry)))) (choicesOf (now (bytes .entry))))
+    ensures { λ r. ⌜ withBuffers r (now (state .exit)) (now (out .exit))
+        ≡ listedAfter
+        (finalState (programOf (framesOf (now (frames .entry)))) (choicesOf (now (bytes .entry))))
         (runLines (programOf (framesOf (now (frames .entry)))) (choicesOf (now (bytes .entry))))
         (now (out .entry)) ⌝ }
 {
@@ -79,7 +85,7 @@ fn list_run(frames: &[u64], bytes: &[u8], n: usize, state: &mut [u64], out: &mut
     step_lines(frames, file, bytes, used, state, out);
     let line = last_line(used as u16);
     put(out, CHECK_LINE + CHOICE_LINE * used, &line);
-    Listed {
+    ListingAnswer {
         answer: Answer::Done(0),
         length: (ENDS + CHOICE_LINE * used) as u32,
         used,
@@ -87,14 +93,14 @@ fn list_run(frames: &[u64], bytes: &[u8], n: usize, state: &mut [u64], out: &mut
 }
 
 // Why no choice is stepped: the line of a number and of a line of choices.txt.
-fn list_refusal(number: u8, line: u16, out: &mut [u8]) -> Listed
+fn list_refusal(number: u8, line: u16, out: &mut [u8]) -> ListingAnswer
     requires { ⌜ length (now out) ≡ mostListingBytes ⌝ }
-    ensures { λ r. ⌜ listedOn r [] (now (out .exit))
-        ≡ listedBehind (unstepped []) (refusalLine number line) (now (out .entry)) ⌝ }
+    ensures { λ r. ⌜ withBuffers r [] (now (out .exit))
+        ≡ listedAfter (notRun []) (refusalLine number line) (now (out .entry)) ⌝ }
 {
     let bytes = refusal_line(number, line);
     put(out, CHECK_LINE, &bytes);
-    Listed {
+    ListingAnswer {
         answer: Answer::Done(0),
         length: TWO_LINES,
         used: 0,
@@ -102,12 +108,12 @@ fn list_refusal(number: u8, line: u16, out: &mut [u8]) -> Listed
 }
 
 // Behind the check's line: choices.txt is judged whole before any step.
-fn list_choices(frames: &[u64], bytes: &[u8], state: &mut [u64], out: &mut [u8]) -> Listed
+fn list_choices(frames: &[u64], bytes: &[u8], state: &mut [u64], out: &mut [u8]) -> ListingAnswer
     requires { ⌜ FileWords (now frames) × (length (now state) ≡ stateLength)
         × (length (now out) ≡ mostListingBytes) ⌝ }
-    ensures { λ r. ⌜ listedOn r (now (state .exit)) (now (out .exit))
-        ≡ listedBehind
-        (choicesStepped (programOf (framesOf (now (frames .entry)))) (now (state .entry)) (now
+    ensures { λ r. ⌜ withBuffers r (now (state .exit)) (now (out .exit))
+        ≡ listedAfter
+        (choicesRun (programOf (framesOf (now (frames .entry)))) (now (state .entry)) (now
         (bytes .entry))) (choicesListing (programOf (framesOf (now (frames .entry)))) (now
         (bytes .entry))) (now (out .entry)) ⌝ }
 {
@@ -120,11 +126,11 @@ fn list_choices(frames: &[u64], bytes: &[u8], state: &mut [u64], out: &mut [u8])
 }
 
 // A file that passes refusals 1 to 7 runs, whatever its rules say.
-fn list_frames(frames: &[u64], bytes: &[u8], state: &mut [u64], out: &mut [u8]) -> Listed
+fn list_frames(frames: &[u64], bytes: &[u8], state: &mut [u64], out: &mut [u8]) -> ListingAnswer
     requires { ⌜ FileWords (now frames) × (length (now state) ≡ stateLength)
         × (length (now out) ≡ mostListingBytes) ⌝ }
-    ensures { λ r. ⌜ listedOn r (now (state .exit)) (now (out .exit))
-        ≡ listedWhole (Done 0) (rulesOf (programOf (framesOf (now (frames .entry)))))
+    ensures { λ r. ⌜ withBuffers r (now (state .exit)) (now (out .exit))
+        ≡ wholeListing (Done 0) (rulesOf (programOf (framesOf (now (frames .entry)))))
         (framesOf (now (frames .entry))) (now (bytes .entry)) (now (state .entry))
         (now (out .entry)) ⌝ }
 {
@@ -135,11 +141,11 @@ fn list_frames(frames: &[u64], bytes: &[u8], state: &mut [u64], out: &mut [u8]) 
 
 // A text that refusal n at frame j stops: the refusal is the answer, and its line is the listing.
 // Bytes of another length cannot take the line.
-fn list_rejected(n: u8, j: u16, out: &mut [u8]) -> Listed
-    ensures { λ r. ⌜ listedOn r [] (now (out .exit)) ≡ listedRejected n j [] (now (out .entry)) ⌝ }
+fn list_rejected(n: u8, j: u16, out: &mut [u8]) -> ListingAnswer
+    ensures { λ r. ⌜ withBuffers r [] (now (out .exit)) ≡ listedRejected n j [] (now (out .entry)) ⌝ }
 {
     if out.len() != MOST_LISTING_BYTES {
-        return Listed {
+        return ListingAnswer {
             answer: Answer::Rejected(n, j),
             length: 0,
             used: 0,
@@ -147,19 +153,19 @@ fn list_rejected(n: u8, j: u16, out: &mut [u8]) -> Listed
     }
     let line = refusal_line(n, j);
     put(out, 0, &line);
-    Listed {
+    ListingAnswer {
         answer: Answer::Rejected(n, j),
         length: ONE_LINE,
         used: 0,
     }
 }
 
-// The listing of any text and of the bytes of choices.txt, and the state behind it. The answer is
+// The listing of any text and of the bytes of choices.txt, and the state after it. The answer is
 // the text's refusal 1 to 7 whatever the lengths, else 14 where a buffer has another length than
 // the listing needs, else 0. Where one has, nothing is written. The longest listing has 8 + 14 *
 // 16,384 + 5 bytes.
-pub fn run_listing(text: &[u8], choices: &[u8], state: &mut [u64], out: &mut [u8]) -> Listed
-    ensures { λ r. ⌜ listedOn r (now (state .exit)) (now (out .exit))
+pub fn run_listing(text: &[u8], choices: &[u8], state: &mut [u64], out: &mut [u8]) -> ListingAnswer
+    ensures { λ r. ⌜ withBuffers r (now (state .exit)) (now (out .exit))
         ≡ listText (now (text .entry)) (now (choices .entry)) (now (state .entry))
         (now (out .entry)) ⌝ }
 {
@@ -167,17 +173,17 @@ pub fn run_listing(text: &[u8], choices: &[u8], state: &mut [u64], out: &mut [u8
     let l = lay_into(text, &mut words);
     let v = l.verdict;
     match v {
-        Verdict::Rejected(n, j) => list_rejected(n, j, out),
-        Verdict::Accepted => {
+        LayoutVerdict::Rejected(n, j) => list_rejected(n, j, out),
+        LayoutVerdict::LaidOut => {
             if state.len() != STATE_LENGTH {
-                return Listed {
+                return ListingAnswer {
                     answer: Answer::Refused(WRONG_STATE, 0),
                     length: 0,
                     used: 0,
                 };
             }
             if out.len() != MOST_LISTING_BYTES {
-                return Listed {
+                return ListingAnswer {
                     answer: Answer::Refused(WRONG_STATE, 0),
                     length: 0,
                     used: 0,

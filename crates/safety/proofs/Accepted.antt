@@ -15,11 +15,11 @@ use Rattle.checker.specs.Verdict.{HasVerdict}
 use Rattle.machine.specs.Accesses.{Access, Own}
 use Rattle.machine.specs.State.{State}
 use Rattle.machine.specs.Fresh.{fresh}
-use Rattle.machine.specs.Turns.{Stepped}
+use Rattle.machine.specs.Turns.{StepResult}
 use Rattle.machine.specs.Steps.{step}
 use Rattle.machine.specs.Runs.{stepsFrom, stateAfter, steps, allAccesses}
 use Rattle.machine.specs.Words.{pack, unpack}
-use Rattle.machine.specs.Calls.{Called, freshCall, wordsFrom}
+use Rattle.machine.specs.Calls.{CallResult, freshCall, wordsFrom}
 use Rattle.machine.specs.Shapes.{Shaped}
 use Rattle.machine.proofs.InShape.{shaped-in-range}
 use Rattle.machine.proofs.Round.{unpack-pack}
@@ -28,8 +28,8 @@ use Rattle.machine.proofs.CallRuns.{asCalled, fresh-called, call-is, calls-are,
 use Rattle.reach.proofs.Sizes.{sized}
 use Rattle.reach.proofs.Fits.{file-fits}
 use Rattle.safety.specs.Safety.{Sound, Safe, Safety, NoPrivateInPublic, Apart}
-use Rattle.safety.specs.Accepted.{AcceptedSafe, stateOf, accessesUnder, accessesFrom}
-use Rattle.safety.specs.Accepted.{SafeCalls, AcceptedCallsSafe}
+use Rattle.safety.specs.Accepted.{AcceptedSafe, stateOf, accessesUnder}
+use Rattle.safety.specs.inner.Calls.{accessesFrom, SafeCalls, AcceptedCallsSafe}
 use Rattle.safety.proofs.Demand3.{demand-3}
 use Rattle.safety.proofs.TypedFiles.{typed}
 
@@ -58,7 +58,8 @@ module _ (fs : List Frame) (F : FileFits fs (programOf fs) (programOf fs .schedu
       → accessesUnder fs (pack s) c ≡ step P s c .accesses
   unfolding accessesUnder
   under-is s c z =
-      ap (λ (b : Bool). elim b [ true ↦ step P (unpack fs n (pack s)) c .accesses | false ↦ [] ]) (shaped-in-range fs n s z)
+      ap (λ (b : Bool). elim b [ true ↦ step P (unpack fs n (pack s)) c .accesses | false ↦ [] ])
+      (shaped-in-range fs n s z)
       ∙ ap (λ (x : State). step P x c .accesses) (unpack-pack fs n s z)
 
   accesses-are : (s : State) (cs : List ℕ) → Shaped fs n s
@@ -67,10 +68,10 @@ module _ (fs : List Frame) (F : FileFits fs (programOf fs) (programOf fs .schedu
   accesses-are s [] z = refl
   accesses-are s (c ∷ cs) z =
       ap₂ (λ (x : List Access) (y : List Access). x ++ y) (under-is s c z)
-      (ap (λ (x : Called). accessesFrom fs (x .words) cs) (call-is fs F s c z) ∙ accesses-are (step P s c .state) cs (keeps-step fs P n F s c z))
+      (ap (λ (x : CallResult). accessesFrom fs (x .words) cs) (call-is fs F s c z) ∙ accesses-are (step P s c .state) cs (keeps-step fs P n F s c z))
 
-  sound-calls : (rs : List Stepped) → All Sound (map (λ (r : Stepped). r .answer) rs)
-      → All (λ (r : Called). Sound (r .answer)) (map asCalled rs)
+  sound-calls : (rs : List StepResult) → All Sound (map (λ (r : StepResult). r .answer) rs)
+      → All (λ (r : CallResult). Sound (r .answer)) (map asCalled rs)
   sound-calls [] All.none = All.none
   sound-calls (r ∷ rs) (All.more h hs) = All.more h (sound-calls rs hs)
 
@@ -81,9 +82,9 @@ module _ (fs : List Frame) (F : FileFits fs (programOf fs) (programOf fs .schedu
       let q : wordsFrom fs (freshCall fs w .words) cs ≡ pack (stateAfter P cs) = words-are fs F w cs e in
       let u : stateOf fs (wordsFrom fs (freshCall fs w .words) cs) ≡ stateAfter P cs = ap (stateOf fs) q ∙ unpack-pack fs n (stateAfter P cs) (reached-shaped fs P n F cs) in
       record {
-        fresh = ap (λ (x : Called). x .answer) f;
-        accessed = subst (All Own) (sym (ap (λ (x : Called). accessesFrom fs (x .words) cs) f ∙ accesses-are (fresh P) cs z)) (s .accessed);
-        answered = subst (All (λ (r : Called). Sound (r .answer))) (sym (calls-are fs F w cs e)) (sound-calls (steps P cs) (s .answered));
+        fresh = ap (λ (x : CallResult). x .answer) f;
+        accessed = subst (All Own) (sym (ap (λ (x : CallResult). accessesFrom fs (x .words) cs) f ∙ accesses-are (fresh P) cs z)) (s .accessed);
+        answered = subst (All (λ (r : CallResult). Sound (r .answer))) (sym (calls-are fs F w cs e)) (sound-calls (steps P cs) (s .answered));
         words = q ∙ ap pack (sym u);
         public = subst NoPrivateInPublic (sym u) (s .public);
         apart = subst Apart (sym u) (s .apart);

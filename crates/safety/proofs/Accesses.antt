@@ -7,7 +7,7 @@ use Rattle.program.specs.Programs.{Program}
 use Rattle.machine.specs.Accesses.{Own}
 use Rattle.machine.specs.State.{State}
 use Rattle.machine.specs.Fresh.{fresh}
-use Rattle.machine.specs.Turns.{Stepped}
+use Rattle.machine.specs.Turns.{StepResult}
 use Rattle.machine.specs.Steps.{step}
 use Rattle.machine.specs.Runs.{stepsFrom, allAccesses, answers, accessesOf}
 use Rattle.machine.proofs.Lists.{all-append}
@@ -15,7 +15,7 @@ use Rattle.machine.proofs.Fair.{fair}
 use Rattle.safety.specs.Safety.{Sound}
 
 accessed-from : (p : Program) (s : State) (cs : List ℕ)
-    → All Sound (map (λ (r : Stepped). r .answer) (stepsFrom p s cs))
+    → All Sound (map (λ (r : StepResult). r .answer) (stepsFrom p s cs))
     → All Own (allAccesses (stepsFrom p s cs))
 unfolding stepsFrom allAccesses
 accessed-from p s [] h = none

@@ -10,7 +10,7 @@ use Rattle.basics.specs.Members.{All}
 use Rattle.program.specs.Programs.{Program, mainOf, programOf}
 use Rattle.machine.specs.State.{State, Stored, cellAt}
 use Rattle.machine.specs.Fresh.{fresh}
-use Rattle.machine.specs.Turns.{Stepped}
+use Rattle.machine.specs.Turns.{StepResult}
 use Rattle.machine.specs.Steps.{step}
 use Rattle.machine.specs.Runs.{stepsFrom, stateFrom}
 use Rattle.machine.specs.declared.value.Value.{Value}
@@ -79,7 +79,7 @@ module _ {Σ : Store} {cs : List Stored} (g : GoodCells Σ cs) where
   apart t none = All.none
   apart t (more w ws) = All.more (λ c o l e. sees t o l w e) (apart t ws)
 
--- ---- the fresh state is good, and so is every state behind a list of choices
+-- ---- the fresh state is good, and so is every state after a list of choices
 module _ (P : Program) (T : Typed P) where
   abbrev GoodS : State → Type 0
   GoodS s = Good P (T .sh) s
@@ -103,7 +103,7 @@ module _ (P : Program) (T : Typed P) where
 
   -- `answered`: no choice is foreign or stuck
   sound-from : (s : State) (cs : List ℕ) → GoodS s → Counted s
-      → All Sound (map (λ (r : Stepped). r .answer) (stepsFrom P s cs))
+      → All Sound (map (λ (r : StepResult). r .answer) (stepsFrom P s cs))
   unfolding stepsFrom
   sound-from s [] g h = All.none
   sound-from s (c ∷ cs) g h =

@@ -13,7 +13,7 @@ use borrow.Author.Tests.{lt-ltb, le-leb, eq-eqb, eqb-true, eqb-false}
 use Rattle.basics.proofs.Ifs.{if-all}
 use Rattle.program.specs.Trees.{Expr}
 use Rattle.machine.specs.State.{Stored, cellAt, isUsed, freeNumber, usedCells, threadOwner}
-use Rattle.machine.specs.Evaluation.{Here, Evaluated, Evaluation, gives, after, andThen, _>>=_}
+use Rattle.machine.specs.Evaluation.{Here, EvalResult, Evaluation, gives, withAccesses, andThen, _>>=_}
 use Rattle.machine.specs.Evaluation.{isOwn, accessOf, accessing, readVariable, sharedCell, addCell}
 use Rattle.machine.specs.Evaluation.{newOwner, makeCell, atCell, readCell, storeCell, ofNumbers}
 use Rattle.machine.specs.Evaluation.{byTruth, aNumber, plus, lessThan, eval, storing}
@@ -36,7 +36,7 @@ pub data FineO (Σ : Store) (t : ℕ) (τ : Ty) (cs : List Stored) : Outcome →
       → FineO Σ t τ cs (Is v)
   spent : FineO Σ t τ cs Spent
 
-abbrev pub Fine : Store → ℕ → Ty → Evaluated → Type 0
+abbrev pub Fine : Store → ℕ → Ty → EvalResult → Type 0
 Fine Σ t τ r = FineO Σ t τ (r .cells) (r .outcome)
 
 -- ---- one after the other: the second under the store typing that the first leaves
@@ -46,7 +46,7 @@ widen : {Σ Σ′ : Store} {t : ℕ} {τ : Ty} {cs : List Stored} {o : Outcome} 
 widen m (well Σ″ n g v) = well Σ″ (λ c k a. n c k (m c k a)) g v
 widen m spent = spent
 
-fine-andThen : {Σ : Store} {t : ℕ} {τ σ : Ty} (k : Value → Evaluation) (r : Evaluated) (o : Outcome)
+fine-andThen : {Σ : Store} {t : ℕ} {τ σ : Ty} (k : Value → Evaluation) (r : EvalResult) (o : Outcome)
     → r .outcome ≡ o → FineO Σ t τ (r .cells) o
     → ((Σ′ : Store) (v : Value) (ds : List Stored) → More Σ Σ′ → GoodCells Σ′ ds → Val Σ′ t v τ → Fine Σ′ t σ (k v ds))
     → Fine Σ t σ (andThen k r o)
@@ -76,7 +76,8 @@ fine-accessing : {Σ : Store} {τ : Ty} (h : Here) (c o own : ℕ) (r : Evaluati
     → Fine Σ (h .thread) τ (r cs) → Fine Σ (h .thread) τ (accessing h c own r cs)
 unfolding accessing
 fine-accessing {Σ} {τ} h c o own r cs a s f =
-    taken (λ (x : Evaluated). Fine Σ (h .thread) τ (after (accessOf h c own ∷ []) x)) (isOwn h own) (r cs) (gives Foreign cs) (own-seen h o own a s) f
+    taken (λ (x : EvalResult). Fine Σ (h .thread) τ (withAccesses (accessOf h c own ∷ []) x))
+    (isOwn h own) (r cs) (gives Foreign cs) (own-seen h o own a s) f
 
 fine-at : {Σ : Store} {τ : Ty} (h : Here) (c o : ℕ) (k : CellTyping) (r : Evaluation) (cs : List Stored)
     → Allowed (h .place) o → GoodCells Σ cs → Σ c ≡ some k → Seen (h .thread) o (k .own)
@@ -86,14 +87,15 @@ fine-at {Σ} {τ} h c o k r cs a g b s f =
     taken (Fine Σ (h .thread) τ) (isUsed cs c) _ _ (typed-used c g b)
     (fine-accessing h c o (cellAt cs c .owner) r cs a (subst (Seen (h .thread) o) (sym (g .each c k b .0)) s) f)
 
--- ---- one law for each kind, behind its operands
+-- ---- one law for each kind, after its operands
 
 fine-content : {Σ : Store} {τ : Ty} {v : Value} (h : Here) (o : ℕ) (cs : List Stored)
     → Allowed (h .place) o → GoodCells Σ cs → Val Σ (h .thread) v (cell o τ)
     → Fine Σ (h .thread) τ (readCell h v cs)
 unfolding readCell
 fine-content {Σ} h o cs a g (is-cell {c = c} {k = k} b s) =
-    fine-at h c o k _ cs a g b s (well Σ (λ _ _ x. x) g (held-val (h .thread) o s (g .each c k b .1)))
+    fine-at h c o k _ cs a g b s
+    (well Σ (λ _ _ x. x) g (held-val (h .thread) o s (g .each c k b .1)))
 
 fine-store : {Σ : Store} {τ : Ty} {v w : Value} (h : Here) (o : ℕ) (cs : List Stored)
     → Allowed (h .place) o → GoodCells Σ cs → Val Σ (h .thread) v (cell o τ)
@@ -160,15 +162,19 @@ fine-eval {Σ} h cs n s vs g t-number = well Σ (λ _ _ a. a) g is-num
 fine-eval {Σ} h cs n s vs g t-truth = well Σ (λ _ _ a. a) g is-tru
 fine-eval {Σ} h cs n s vs g (t-variable {s = i} {τ = τ} a) =
     let q = vals-at vs a in
-    taken (λ (m : Evaluation). Fine Σ (h .thread) τ (m cs)) _ _ _ (lt-ltb i (length (h .variables)) (q .0)) (well Σ (λ _ _ b. b) g (q .1))
+    taken (λ (m : Evaluation). Fine Σ (h .thread) τ (m cs)) _ _ _
+    (lt-ltb i (length (h .variables)) (q .0)) (well Σ (λ _ _ b. b) g (q .1))
 fine-eval {Σ} {sh} h cs n s vs g (t-shared {s = i} {k = k} a) =
     let q = at-below a in let b = s i k a in
-    taken (λ (m : Evaluation). Fine Σ (h .thread) (cell (k .own) (k .ty)) (m cs)) _ _ _ (lt-ltb i (h .shared) (omega arith))
+    taken (λ (m : Evaluation). Fine Σ (h .thread) (cell (k .own) (k .ty)) (m cs)) _ _ _
+    (lt-ltb i (h .shared) (omega arith))
     (well Σ (λ _ _ c. c) g (is-cell (b .0) (inr (b .1, b .2, refl))))
 fine-eval h cs n s vs g (t-new {o = o} {x = x} r l p d) =
-    fine-then (eval h x) _ cs (fine-eval h cs n s vs g d) (λ Σ′ v ds m gd w. fine-make h o ds r l p gd w)
+    fine-then (eval h x) _ cs (fine-eval h cs n s vs g d)
+    (λ Σ′ v ds m gd w. fine-make h o ds r l p gd w)
 fine-eval h cs n s vs g (t-content {o = o} {x = x} r d) =
-    fine-then (eval h x) _ cs (fine-eval h cs n s vs g d) (λ Σ′ v ds m gd w. fine-content h o ds r gd w)
+    fine-then (eval h x) _ cs (fine-eval h cs n s vs g d)
+    (λ Σ′ v ds m gd w. fine-content h o ds r gd w)
 fine-eval h cs n s vs g (t-sum {x = x} {y = y} d e) =
     fine-then (eval h x) _ cs (fine-eval h cs n s vs g d)
     (λ Σ′ v ds m gd w. fine-then (eval h y) _ ds (fine-eval h ds n (shared-more m s) (vals-more m vs) gd e)

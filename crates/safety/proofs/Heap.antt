@@ -98,7 +98,8 @@ vals-public u (All.more p ps) (more v vs) = more (val-public u p v) (vals-public
 pub held-val : {Σ : Store} {k : CellTyping} {v : Value} (t o : ℕ) → Seen t o (k .own) → Held Σ k v
     → Val Σ t v (k .ty)
 held-val {Σ} {k} {v} t o s (by-thread u e w) =
-    ⊎-elim (λ h. subst (λ (n : ℕ). Val Σ n v (k .ty)) (omega (arith, h .1, e)) w) (λ h. absurd (omega (arith, h .1, h .2, e))) s
+    ⊎-elim (λ h. subst (λ (n : ℕ). Val Σ n v (k .ty)) (omega (arith, h .1, e)) w)
+    (λ h. absurd (omega (arith, h .1, h .2, e))) s
 held-val t o s (by-place a b p w) = w t
 
 -- what a thread puts into a new cell: public, where the owner is a scheduler
@@ -208,7 +209,8 @@ typed-used {cs =
 pub new-more : (Σ : Store) (cs : List Stored) (k : CellTyping) → GoodCells Σ cs
     → More Σ (withTyping Σ (freeNumber cs) k)
 new-more Σ cs k g c l a =
-    typing-other Σ (freeNumber cs) k c (λ e. true≢false (sym (typed-used c g a) ∙ ap (isUsed cs) e ∙ free-unused cs)) ∙ a
+    typing-other Σ (freeNumber cs) k c
+    (λ e. true≢false (sym (typed-used c g a) ∙ ap (isUsed cs) e ∙ free-unused cs)) ∙ a
 
 pub new-good : (Σ : Store) (cs : List Stored) (k : CellTyping) (x : Stored) → GoodCells Σ cs
     → x .owner ≡ k .own → Held Σ k (x .content)
@@ -220,7 +222,8 @@ new-good Σ cs k x g e h = record { each = λ c l a. each c l a (ℕ-discrete c 
 
     each : (c : ℕ) (l : CellTyping) → withTyping Σ (freeNumber cs) k c ≡ some l
         → Dec (c ≡ freeNumber cs)
-        → (cellAt (withNewCell cs x) c .owner ≡ l .own) × Held (withTyping Σ (freeNumber cs) k) l (cellAt (withNewCell cs x) c .content)
+        → (cellAt (withNewCell cs x) c .owner ≡ l .own)
+        × Held (withTyping Σ (freeNumber cs) k) l (cellAt (withNewCell cs x) c .content)
     each c l a (yes f) =
         let p : cellAt (withNewCell cs x) c ≡ x = ap (cellAt (withNewCell cs x)) f ∙ new-at cs x in
         let q : k ≡ l = some-one (sym (typing-new Σ (freeNumber cs) k) ∙ ap (withTyping Σ (freeNumber cs) k) (sym f) ∙ a) in (
@@ -253,5 +256,6 @@ put-good Σ cs c k v g a h = record { each = λ d l b. at d l b (ℕ-discrete d 
         let p : cellAt (put cs c v) d ≡ record { owner = cellAt cs c .owner; content = v } = ap (cellAt (put cs c v)) e ∙ put-at cs c v (typed-used c g a) in
         let r : k ≡ l = some-one (sym a ∙ ap Σ (sym e) ∙ b) in (
           ap (λ (y : Stored). y .owner) p ∙ g .each c k a .0 ∙ ap (λ (y : CellTyping). y .own) r,
-          subst (λ (y : Stored). Held Σ l (y .content)) (sym p) (subst (λ (y : CellTyping). Held Σ y v) r h),
+          subst (λ (y : Stored). Held Σ l (y .content)) (sym p)
+              (subst (λ (y : CellTyping). Held Σ y v) r h),
         )

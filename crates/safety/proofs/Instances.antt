@@ -23,12 +23,12 @@ use Rattle.program.specs.Programs.{sharedOf, modulesFrom, allowanceOf, programO
 use Rattle.fields.specs.Fields.{headerFine, firstContentFine, countOf, frameFine}
 use Rattle.fields.specs.inner.Scans.{headerFault, fieldFault}
 use Rattle.layout.specs.Order.{hasChild}
-use Rattle.layout.specs.inner.Scans.{rowFirst, firstDisorder, isBehind, isLeftover, firstLeftover}
+use Rattle.layout.specs.inner.Scans.{rowFirst, firstDisorder, isAfterOther, isLeftover, firstLeftover}
 use Rattle.layout.specs.inner.Scans.{noMain, orderFault, lowestChild, deepTo, firstDeep, depthFault}
 use Rattle.layout.specs.inner.Scans.{layoutOf}
 use Rattle.rules.specs.inner.Checking.{namedRule, newRule, contentRule, numbersRule, chooseRule}
 use Rattle.rules.specs.inner.Checking.{typeIn, argue, typesIn, startRule, cooperateRule, seqRule}
-use Rattle.rules.specs.inner.Checking.{doRule, joinRule, storeRule, ifElseRule, whileRule, runIn}
+use Rattle.rules.specs.inner.Checking.{doRule, joinRule, storeRule, ifElseRule, whileRule, effectIn}
 use Rattle.rules.specs.inner.Checking.{modulesIn, rulesOf}
 use Rattle.checker.specs.Verdict.{HasVerdict, verdict}
 use Rattle.checker.proofs.Whole.{verdict-computes}
@@ -46,7 +46,7 @@ text = bytes "0001000000020000\n0102000100000000\n2300000000000000\n200000010000
 
 -- by computing the definition of the check on this text
 computed : verdict text ≡ Accepted
-unfolding text bytes verdict reading firstWrong rightAt digit textFrames wordsOf lineWord hexadecimal frameOfWord kindOf children if_then_else_ any every sameNumbers lowest earlier typeWord ownerDigit cellDepth cellType ownerOf contentOf public contentWord within withOwner standingAt expressionTo expressionAt statementTo statementAt sharedOf modulesFrom allowanceOf programOf headerFine firstContentFine countOf frameFine hasChild headerFault fieldFault rowFirst firstDisorder isBehind isLeftover firstLeftover noMain orderFault lowestChild deepTo firstDeep depthFault layoutOf namedRule newRule contentRule numbersRule chooseRule typeIn argue typesIn startRule cooperateRule seqRule doRule joinRule storeRule ifElseRule whileRule runIn modulesIn rulesOf
+unfolding text bytes verdict reading firstWrong rightAt digit textFrames wordsOf lineWord hexadecimal frameOfWord kindOf children if_then_else_ any every sameNumbers lowest earlier typeWord ownerDigit cellDepth cellType ownerOf contentOf public contentWord within withOwner standingAt expressionTo expressionAt statementTo statementAt sharedOf modulesFrom allowanceOf programOf headerFine firstContentFine countOf frameFine hasChild headerFault fieldFault rowFirst firstDisorder isAfterOther isLeftover firstLeftover noMain orderFault lowestChild deepTo firstDeep depthFault layoutOf namedRule newRule contentRule numbersRule chooseRule typeIn argue typesIn startRule cooperateRule seqRule doRule joinRule storeRule ifElseRule whileRule effectIn modulesIn rulesOf
 computed = refl
 
 accepted : HasVerdict text Accepted

@@ -76,7 +76,8 @@ module _ (P : Program) (sh : List CellTyping) where
       → GoodThread Σ (u .thread) x
       → GoodIn Σ (leave u (settled u x) .threads) (leave u (settled u x) .cells)
   left-good {Σ} u x h g =
-      subst (λ (ts : List Thread). GoodIn Σ ts (leave u (settled u x) .cells)) (sym (leave-threads u (settled u x)))
+      subst (λ (ts : List Thread). GoodIn Σ ts (leave u (settled u x) .cells))
+      (sym (leave-threads u (settled u x)))
       (subst (GoodIn Σ (settled u x .threads)) (sym (leave-cells u (settled u x))) (settled-good u x h g))
 
   pub enlisted-good : (q : ℕ) (e : Entry) (s : State) → Good s → Good (enlist q e s)

@@ -22,7 +22,7 @@ use Rattle.language.proofs.Members.{member-join, member-owner, Within, within-m
 use Rattle.program.specs.Trees.{Expr, Stmt}
 use Rattle.program.specs.Programs.{Part, Program, noModule, moduleAt, mainOf}
 use Rattle.rules.specs.Rules.{Setting, Signature, noSignature, signatureAt, signature, HasType}
-use Rattle.rules.specs.Rules.{HaveTypes, AllPublic, Runs, Modules}
+use Rattle.rules.specs.Rules.{HaveTypes, AllPublic, HasEffect, Modules}
 use Rattle.machine.proofs.Lists.{all-getD, all-append}
 use Rattle.reach.proofs.Laid.{LaidE, LaidS}
 use Rattle.reach.proofs.Modules.{LastPlain}
@@ -127,7 +127,8 @@ module _ (P : Program) (sh : List CellTyping) (env : Setting) (Q : ℕ → Type 
   ex-typed p l g (LaidE.new {o = o} h a) w (HasType.new-public {t = t} {e = e} m d r k) =
       let b = place-range o h in
       let x = ex-typed p l g a (in-owned p o e w) d in
-      has-new l h (ltb-true t 0x1000 r) (allowed p o e w (b .0) (b .1)) (λ _. formed-public (x .formed) k) x
+      has-new l h (ltb-true t 0x1000 r) (allowed p o e w (b .0) (b .1))
+      (λ _. formed-public (x .formed) k) x
   ex-typed {Γ} p l g (LaidE.content a) w (HasType.content {t = t} {x = x} {e = e} d h) =
       let r = ex-typed p l g a (in-owned p (ownerOf t) e w) d in
       let c = formed-cell (r .formed) h in
@@ -193,32 +194,35 @@ module _ (P : Program) (sh : List CellTyping) (env : Setting) (Q : ℕ → Type 
 
   st-typed : {below : List Signature} {Γ : List ℕ} {at : Standing} {x : Stmt} {e : Effect} {b : Bool} {d : ℕ} (p : ℕ)
       → KnownBelow below → Stands at p → All Formed Γ → LaidS Q n d x → Within p e
-      → Runs env below Γ at x e b → TypedS P sh (map tyOf Γ) p x
-  st-typed p k s g a w Runs.nothing = s-nothing
-  st-typed p k s g (LaidS.seq a b) w (Runs.seq {e = e} {f = f} c d) = s-seq (st-typed p k s g a (in-left p e f w) c) (st-typed p k s g b (in-right p e f w) d)
-  st-typed p k (on l m) g (LaidS.do-at h a) w (Runs.do-unlinked {e = e} r v) = s-do {p = p} {q = 1} (λ z _. omega (arith, l, z)) (st-typed 1 k off g a (within-members 1 e v) r)
-  st-typed p k s g (LaidS.do-at {q = q} h a) w (Runs.do-linked {e = e} z r v) =
+      → HasEffect env below Γ at x e b → TypedS P sh (map tyOf Γ) p x
+  st-typed p k s g a w HasEffect.nothing = s-nothing
+  st-typed p k s g (LaidS.seq a b) w (HasEffect.seq {e = e} {f = f} c d) = s-seq (st-typed p k s g a (in-left p e f w) c) (st-typed p k s g b (in-right p e f w) d)
+  st-typed p k (on l m) g (LaidS.do-at h a) w (HasEffect.do-unlinked {e = e} r v) = s-do {p = p} {q = 1} (λ z _. omega (arith, l, z)) (st-typed 1 k off g a (within-members 1 e v) r)
+  st-typed p k s g (LaidS.do-at {q = q} h a) w (HasEffect.do-linked {e = e} z r v) =
       let b = place-range q h in
-      s-do {p = p} {q = q} (λ _ y. z y) (st-typed q k (on (two q z (b .0)) (b .1)) g a (within-members q e v) r)
+      s-do {p = p} {q = q} (λ _ y. z y)
+      (st-typed q k (on (two q z (b .0)) (b .1)) g a (within-members q e v) r)
     where
       two : (q : ℕ) → (q ≡ 1 → ⊥) → 1 ≤ q → 2 ≤ q
       two q z l = omega (arith, z)
-  st-typed {below} p k (on l m) g (LaidS.start a) w (Runs.start {s = s} {e = e} i ds ps) = let r = started p s e (signatureAt below s) (k s i) l m g a w ds ps in s-start l (r .inside) (r .arguments) (r .count) (r .body)
-  st-typed {below} p k (on l m) g (LaidS.start-wait a) w (Runs.start-wait {s = s} {e = e} i ds ps) = let r = started p s e (signatureAt below s) (k s i) l m g a w ds ps in s-start-wait l (r .inside) (r .arguments) (r .count) (r .body)
-  st-typed p k (on l m) g a w Runs.cooperate = s-cooperate l
-  st-typed {Γ = Γ} p k s g (LaidS.letIn {a = body} x a) w (Runs.letIn {t = t} {e = e} {f = f} d r) =
+  st-typed {below} p k (on l m) g (LaidS.start a) w (HasEffect.start {s = s} {e = e} i ds ps) = let r = started p s e (signatureAt below s) (k s i) l m g a w ds ps in s-start l (r .inside) (r .arguments) (r .count) (r .body)
+  st-typed {below} p k (on l m) g (LaidS.start-wait a) w (HasEffect.start-wait {s = s} {e = e} i ds ps) = let r = started p s e (signatureAt below s) (k s i) l m g a w ds ps in s-start-wait l (r .inside) (r .arguments) (r .count) (r .body)
+  st-typed p k (on l m) g a w HasEffect.cooperate = s-cooperate l
+  st-typed {Γ = Γ} p k s g (LaidS.letIn {a = body} x a) w (HasEffect.letIn {t = t} {e = e} {f = f} d r) =
       let v = ex-typed p (most s) g x (in-left p e f w) d in
       s-let (v .typed) (subst (λ (Δ : List Ty). TypedS P sh Δ p body) (map-append tyOf Γ (t ∷ [])) (st-typed p k s (all-append g (All.more (v .formed) All.none)) a (in-right p e f w) r))
-  st-typed {Γ = Γ} p k s g (LaidS.store {x = x} a b) w (Runs.store {t = t} {e = e} {f = f} c h d) =
+  st-typed {Γ = Γ} p k s g (LaidS.store {x = x} a b) w (HasEffect.store {t = t} {e = e} {f = f} c h d) =
       let v = in-owned p (ownerOf t) (e ∪ f) w in
       let u = ex-typed p (most s) g a (in-left p e f v) c in
       let q = formed-cell (u .formed) h in
       s-store (allowed p (ownerOf t) (e ∪ f) w (q .low) (q .high)) (subst (TypedE sh (map tyOf Γ) p x) (q .same) (u .typed)) (ex-typed p (most s) g b (in-right p e f v) d .typed)
-  st-typed p k s g (LaidS.ifElse x a b) w (Runs.ifElse {e = e} {f = f} {g = h} c d r) =
+  st-typed p k s g (LaidS.ifElse x a b) w (HasEffect.ifElse {e = e} {f = f} {g = h} c d r) =
       let v = in-left p (e ∪ f) h w in
-      s-if (a-truth (ex-typed p (most s) g x (in-left p e f v) c)) (st-typed p k s g a (in-right p e f v) d) (st-typed p k s g b (in-right p (e ∪ f) h w) r)
-  st-typed p k s g (LaidS.while x a) w (Runs.while {e = e} {f = f} c d) =
-      s-while (a-truth (ex-typed p (most s) g x (in-left p e f w) c)) (st-typed p k s g a (in-right p e f w) d)
+      s-if (a-truth (ex-typed p (most s) g x (in-left p e f v) c))
+      (st-typed p k s g a (in-right p e f v) d) (st-typed p k s g b (in-right p (e ∪ f) h w) r)
+  st-typed p k s g (LaidS.while x a) w (HasEffect.while {e = e} {f = f} c d) =
+      s-while (a-truth (ex-typed p (most s) g x (in-left p e f w) c))
+      (st-typed p k s g a (in-right p e f w) d)
 
   -- ---- modules: those below are typed first
 
@@ -231,7 +235,8 @@ module _ (P : Program) (sh : List CellTyping) (env : Setting) (Q : ℕ → Type 
       go (no m) =
           let a = length-append below (g ∷ []) in
           let e : length below ≡ s = omega (arith, m) in
-          subst (λ (x : Signature). Known x s) (sym (getD-at below g [] noSignature s e)) (subst (Known g) e y)
+          subst (λ (x : Signature). Known x s) (sym (getD-at below g [] noSignature s e))
+          (subst (Known g) e y)
 
   module-here : (before : List Part) (m : Part) (ms : List Part) (s : ℕ)
       → P .modules ≡ before ++ (m ∷ ms) → length before ≡ s
@@ -243,7 +248,7 @@ module _ (P : Program) (sh : List CellTyping) (env : Setting) (Q : ℕ → Type 
 
   known-module : {below : List Signature} {m : Part} {e : Effect} {b : Bool} (s : ℕ)
       → s < length (P .modules) → moduleAt P s ≡ m → KnownBelow below → LaidS Q n 24 (m .body)
-      → Runs env below (m .types) linked (m .body) e b → Known (signature m e) s
+      → HasEffect env below (m .types) linked (m .body) e b → Known (signature m e) s
   known-module {m = m} s l q k a r = record {
     inside = l;
     types = ap (λ (x : Part). length (x .types)) (sym q);

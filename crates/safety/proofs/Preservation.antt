@@ -16,9 +16,9 @@ use Rattle.program.specs.Trees.{Expr, Stmt}
 use Rattle.program.specs.Programs.{Program, moduleAt}
 use Rattle.machine.specs.State.{State, Item, run, back, drop, Thread, Entry, threadAt, schedulerAt}
 use Rattle.machine.specs.Waits.{readyThreads, stillWaiting}
-use Rattle.machine.specs.Evaluation.{Here, Evaluated, Evaluation, eval, storing}
-use Rattle.machine.specs.Turns.{Stepped, Turn, here, continuation, variables, refuse, accept}
-use Rattle.machine.specs.Turns.{behind, evaluator, goOn, withValue, withValues, byCondition, selfAt}
+use Rattle.machine.specs.Evaluation.{Here, EvalResult, Evaluation, eval, storing}
+use Rattle.machine.specs.Turns.{StepResult, Turn, here, continuation, variables, refuse, accept}
+use Rattle.machine.specs.Turns.{afterEval, evaluator, goOn, withValue, withValues, byCondition, selfAt}
 use Rattle.machine.specs.Turns.{settled, isSchedulerOf, leave, room, fits, unlinkedHere, stay, move}
 use Rattle.machine.specs.Turns.{goTo}
 use Rattle.machine.specs.Steps.{isUnlinked, stepThreadWithin, nobody, turnInstant, endInstant, step}
@@ -53,7 +53,7 @@ use Rattle.safety.proofs.Invariant.{left-good, enlisted-good, started-g
 
 module _ (P : Program) (sh : List CellTyping) where
   -- what a choice gives on a good state
-  pub record Okay (r : Stepped) : Type 0 where
+  pub record Okay (r : StepResult) : Type 0 where
     pub good : Good P sh (r .state)
     pub sound : Sound (r .answer)
 
@@ -81,7 +81,8 @@ module _ (P : Program) (sh : List CellTyping) where
       → Roomy (length vs) items → Okay (stay u items vs)
   unfolding stay
   ok-stay u items vs Δ r v p o =
-      taken Okay (fits (u .spaces) items vs) _ _ (fits-true (u .spaces) (r .acting .spaces) items vs o)
+      taken Okay (fits (u .spaces) items vs) _ _
+      (fits-true (u .spaces) (r .acting .spaces) items vs o)
       (ok-accept u _ (r .typing, settled-good P sh u (selfAt u (here u) items vs) (r .now) (record { types = Δ; vars = v; typed = p; roomy = o })))
 
   ok-move : {Γ : List Ty} (u : Turn) (q : ℕ) (items : List Item) (r : Ready Γ u)
@@ -89,7 +90,8 @@ module _ (P : Program) (sh : List CellTyping) where
   unfolding move
   ok-move {Γ} u q items r p o =
       let g = left-good P sh u (selfAt u q items (variables u)) (r .now) (record { types = Γ; vars = r .vars; typed = p; roomy = o }) in
-      passed Okay (not (fits (u .spaces) items (variables u))) _ _ (ap not (fits-true (u .spaces) (r .acting .spaces) items (variables u) o))
+      passed Okay (not (fits (u .spaces) items (variables u))) _ _
+      (ap not (fits-true (u .spaces) (r .acting .spaces) items (variables u) o))
       (if-all Okay (eqb q 1) _ _ (λ _. ok-accept u _ (r .typing, g))
       (λ _. taken Okay (room u 1 q) _ _ (room-one u (r .acting) q) (ok-accept u _ (enlisted-good P sh q _ _ (r .typing, g)))))
 
@@ -103,9 +105,9 @@ module _ (P : Program) (sh : List CellTyping) where
 
   -- ---- evaluations in a turn: any refusal of them is 17
 
-  behind-ready : {Γ : List Ty} (u : Turn) (e : Evaluated) (r : Ready Γ u) (Σ : Store)
-      → More (r .typing) Σ → GoodCells Σ (e .cells) → Ready Γ (behind u e)
-  behind-ready u e r Σ m g =
+  after-ready : {Γ : List Ty} (u : Turn) (e : EvalResult) (r : Ready Γ u) (Σ : Store)
+      → More (r .typing) Σ → GoodCells Σ (e .cells) → Ready Γ (afterEval u e)
+  after-ready u e r Σ m g =
       record {
         before = r .before;
         acting = record { counted = r .acting .counted; stands = r .acting .stands; same = r .acting .same; spaces = r .acting .spaces };
@@ -115,23 +117,23 @@ module _ (P : Program) (sh : List CellTyping) where
         program = r .program;
       }
 
-  ok-goOn : {Γ : List Ty} {τ : Ty} (u : Turn) (e : Evaluated) (o : Outcome) (k : Value → Turn → Stepped) (r : Ready Γ u)
+  ok-goOn : {Γ : List Ty} {τ : Ty} (u : Turn) (e : EvalResult) (o : Outcome) (k : Value → Turn → StepResult) (r : Ready Γ u)
       → FineO (r .typing) (u .thread) τ (e .cells) o
-      → ((v : Value) (q : Ready Γ (behind u e)) → More (r .typing) (q .typing) → Val (q .typing) (u .thread) v τ → Okay (k v (behind u e)))
-      → Okay (goOn (behind u e) o k)
-  unfolding behind-ready
-  ok-goOn u e (Is v) k r (well Σ m g w) h = h v (behind-ready u e r Σ m g) m w
+      → ((v : Value) (q : Ready Γ (afterEval u e)) → More (r .typing) (q .typing) → Val (q .typing) (u .thread) v τ → Okay (k v (afterEval u e)))
+      → Okay (goOn (afterEval u e) o k)
+  unfolding after-ready
+  ok-goOn u e (Is v) k r (well Σ m g w) h = h v (after-ready u e r Σ m g) m w
   ok-goOn u e Spent k r spent h =
       record { good = r .before; sound = (λ x. omega (arith, x), λ x. omega (arith, x)) }
 
-  ok-value : {Γ : List Ty} {τ : Ty} (u : Turn) (m : Here → Evaluation) (k : Value → Turn → Stepped) (r : Ready Γ u)
+  ok-value : {Γ : List Ty} {τ : Ty} (u : Turn) (m : Here → Evaluation) (k : Value → Turn → StepResult) (r : Ready Γ u)
       → Fine (r .typing) (u .thread) τ (m (evaluator u) (u .cells))
-      → ((e : Evaluated) (v : Value) (q : Ready Γ (behind u e)) → More (r .typing) (q .typing) → Val (q .typing) (u .thread) v τ → Okay (k v (behind u e)))
+      → ((e : EvalResult) (v : Value) (q : Ready Γ (afterEval u e)) → More (r .typing) (q .typing) → Val (q .typing) (u .thread) v τ → Okay (k v (afterEval u e)))
       → Okay (withValue u m k)
   ok-value u m k r f h =
-      let e : Evaluated = m (evaluator u) (u .cells) in ok-goOn u e (e .outcome) k r f (h e)
+      let e : EvalResult = m (evaluator u) (u .cells) in ok-goOn u e (e .outcome) k r f (h e)
 
-  ok-by : {Σ : Store} {t : ℕ} {v : Value} (u : Turn) (a b : Stepped) → Val Σ t v tru → Okay a
+  ok-by : {Σ : Store} {t : ℕ} {v : Value} (u : Turn) (a b : StepResult) → Val Σ t v tru → Okay a
       → Okay b → Okay (byCondition u v a b)
   ok-by u a b (is-tru {b = true}) f g = f
   ok-by u a b (is-tru {b = false}) f g = g
@@ -151,20 +153,21 @@ module _ (P : Program) (sh : List CellTyping) where
     fine-in u r d = fine-eval (evaluator u) (u .cells) (shared-here u r) (r .now .shared) (r .vars) (r .now .cells) d
 
     -- arguments: any number of evaluations, after which the thread itself is as it was
-    ok-values : {Γ Δ : List Ty} (u w : Turn) (xs : List Expr) (k : List Value → Turn → Stepped) (r : Ready Γ w)
+    ok-values : {Γ Δ : List Ty} (u w : Turn) (xs : List Expr) (k : List Value → Turn → StepResult) (r : Ready Γ w)
         → w .self ≡ u .self → w .thread ≡ u .thread → Args sh Γ (here u) xs Δ
         → ((vs : List Value) (y : Turn) (q : Ready Γ y) → y .self ≡ u .self → y .thread ≡ u .thread → More (r .typing) (q .typing) → Vals (q .typing) (y .thread) vs Δ → Okay (k vs y))
         → Okay (withValues w xs k)
     unfolding withValues
     ok-values u w [] k r e f Args.none h = h [] w r e f (λ _ _ a. a) none
     ok-values {Γ} u w (x ∷ xs) k r e f (Args.more {τ = τ} d _ ds) h =
-        ok-value w (λ a. eval a x) _ r (fine-in w r (subst (λ (t : Thread). TypedE sh Γ (t .place) x τ) (sym e) d))
-        (λ ev v q m z. ok-values u (behind w ev) xs _ q e f ds
+        ok-value w (λ a. eval a x) _ r
+        (fine-in w r (subst (λ (t : Thread). TypedE sh Γ (t .place) x τ) (sym e) d))
+        (λ ev v q m z. ok-values u (afterEval w ev) xs _ q e f ds
         (λ vs y q′ e′ f′ m′ zs. h (v ∷ vs) y q′ e′ f′ (λ c l a. m′ c l (m c l a))
         (more (val-more m′ (subst (λ (j : ℕ). Val (q .typing) j v τ) (f ∙ sym f′) z)) zs)))
 
     -- nothing stands in the way of a start but that there are 64 threads: 18
-    ok-starting : {Γ : List Ty} (u : Turn) (m : ℕ) (vs : List Value) (s : Stepped) (r : Ready Γ u)
+    ok-starting : {Γ : List Ty} (u : Turn) (m : ℕ) (vs : List Value) (s : StepResult) (r : Ready Γ u)
         → 2 ≤ here u → m < length (P .modules)
         → length vs ≡ length (moduleAt P m .types) → (length (u .state .threads) < 64 → Okay s)
         → Okay (starting u m vs s)
@@ -226,7 +229,8 @@ module _ (P : Program) (sh : List CellTyping) where
         ok-stay u _ (variables u) Γ r (r .vars) (p-run a (p-run b p)) (roomy-seq o)
     -- 12: its rule types A at q, and the rest waits below a 'back' to this place
     ok-statement {Γ} u x r (s-do {q = q} {a = a} f d) p o =
-        passed Okay (unlinkedHere u && eqb q 1) _ _ (not-both (unlinkedHere u) (eqb q 1) (λ g h. f (eqb-true (here u) 1 g) (eqb-true q 1 h)))
+        passed Okay (unlinkedHere u && eqb q 1) _ _
+        (not-both (unlinkedHere u) (eqb q 1) (λ g h. f (eqb-true (here u) 1 g) (eqb-true q 1 h)))
         (ok-goTo u q _ r (p-run d (p-back p)) (roomy-do (here u) o))
     -- 13: the module is there, with as many parameters, and its body is typed at this place, since
     -- its effect is part of the starter's
@@ -258,24 +262,24 @@ module _ (P : Program) (sh : List CellTyping) where
     -- 16: the body over one variable more, above a drop
     ok-statement {Γ} u x r (s-let {x = y} {τ = τ} {a = a} d b) p o =
         ok-value u (λ h. eval h y) _ r (fine-in u r d)
-        (λ e v q m z. ok-stay (behind u e) _ (variables u ++ (v ∷ [])) (Γ ++ (τ ∷ [])) q (vals-snoc (q .vars) z) (p-run b (p-drop τ refl p))
+        (λ e v q m z. ok-stay (afterEval u e) _ (variables u ++ (v ∷ [])) (Γ ++ (τ ∷ [])) q (vals-snoc (q .vars) z) (p-run b (p-drop τ refl p))
         (subst (λ (j : ℕ). Roomy j (run a ∷ drop ∷ continuation u)) (one-more (variables u) v) (roomy-let o)))
     -- 17: the cell keeps the type of its content
     ok-statement {Γ} u x r (s-store {o = w} {x = y} {y = z} h d e) p o =
         ok-value u (λ i. storing i y z) _ r
         (fine-storing (evaluator u) (u .cells) (shared-here u r) (r .now .shared) (r .vars) (r .now .cells) h d e)
-        (λ ev v q m k. ok-stay (behind u ev) (continuation u) (variables u) Γ q (q .vars) p (below-run o))
+        (λ ev v q m k. ok-stay (afterEval u ev) (continuation u) (variables u) Γ q (q .vars) p (below-run o))
     ok-statement {Γ} u x r (s-if {x = y} d a b) p o =
         ok-value u (λ h. eval h y) _ r (fine-in u r d)
-        (λ e v q m z. ok-by (behind u e) _ _ z
-        (ok-stay (behind u e) _ (variables u) Γ q (q .vars) (p-run a p) (roomy-then o))
-        (ok-stay (behind u e) _ (variables u) Γ q (q .vars) (p-run b p) (roomy-else o)))
+        (λ e v q m z. ok-by (afterEval u e) _ _ z
+        (ok-stay (afterEval u e) _ (variables u) Γ q (q .vars) (p-run a p) (roomy-then o))
+        (ok-stay (afterEval u e) _ (variables u) Γ q (q .vars) (p-run b p) (roomy-else o)))
     -- 19: the body above the same loop
     ok-statement {Γ} u x r (s-while {i = i} {x = y} {a = a} d b) p o =
         ok-value u (λ h. eval h y) _ r (fine-in u r d)
-        (λ e v q m z. ok-by (behind u e) _ _ z
-        (ok-stay (behind u e) _ (variables u) Γ q (q .vars) (p-run b (p-run (s-while d b) p)) (roomy-while o))
-        (ok-stay (behind u e) _ (variables u) Γ q (q .vars) p (below-run o)))
+        (λ e v q m z. ok-by (afterEval u e) _ _ z
+        (ok-stay (afterEval u e) _ (variables u) Γ q (q .vars) (p-run b (p-run (s-while d b) p)) (roomy-while o))
+        (ok-stay (afterEval u e) _ (variables u) Γ q (q .vars) p (below-run o)))
 
     -- ---- each item: the acting thread, whose variables are of types Γ, takes the top of that
     -- continuation
@@ -316,7 +320,8 @@ module _ (P : Program) (sh : List CellTyping) where
     unfolding stepThreadWithin
     ok-thread s c t g a =
         let x = each-nth t (g .1 .threads) (no-thread P sh (g .0) t) in
-        ok-items s c t (g .0) (x .types) (threadAt s t .continuation) (g .1) a (x .vars) (x .typed) (x .roomy)
+        ok-items s c t (g .0) (x .types) (threadAt s t .continuation) (g .1) a (x .vars) (x .typed)
+        (x .roomy)
 
     ok-nobody : (k : ℕ) (s : State) → Good P sh s → Sound k → Okay (nobody k s)
     ok-nobody k s g h = record { good = g; sound = h }
@@ -341,7 +346,8 @@ module _ (P : Program) (sh : List CellTyping) where
     pub ok-step : (s : State) (c : ℕ) → Good P sh s → Counted s → Okay (step P s c)
     unfolding stepWithin
     ok-step s c g h =
-        if-all Okay (isSchedulerOf P c) _ _ (λ i. ok-scheduler s c (schedulerAt s c .active) g h i refl)
+        if-all Okay (isSchedulerOf P c) _ _
+        (λ i. ok-scheduler s c (schedulerAt s c .active) g h i refl)
         (λ i. if-all Okay (isUnlinked s c) _ _
         (λ l. ok-thread s c (c - 16) g (record { counted = h; stands = inr (i, unlinked-free s c l); same = free-same P s c (c - 16); spaces = refl }))
         (λ _. ok-nobody 15 s g (λ e. omega (arith, e), λ e. omega (arith, e))))

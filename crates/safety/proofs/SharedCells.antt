@@ -95,14 +95,16 @@ module _ (all : List SharedCell) (wells : All Well all) where
       let o = owner-of all wells (r .at) in
       let q : getD (map typeOfShared all) (x .first) 0 ≡ x .content =
       ap (λ (ts : List ℕ). getD ts (x .first) 0) a ∙ List·getD-append (map typeOfShared before) (map typeOfShared rest) 0 (x .first) l ∙ eqb-true _ _ (w .1) in
-      subst (Val Σ t (Cell (x .first))) (sym (r .same) ∙ ap tyOf q) (is-cell (store-at (r .at)) (inr (o .0, o .1, refl)))
+      subst (Val Σ t (Cell (x .first))) (sym (r .same) ∙ ap tyOf q)
+      (is-cell (store-at (r .at)) (inr (o .0, o .1, refl)))
 
   first-typed : {Q : ℕ → Type 0} {n : ℕ} (before rest : List SharedCell) (x : SharedCell)
       → all ≡ before ++ rest → CellFine Q n before x → Formed (x .content) → (t : ℕ)
       → Val Σ t (firstContent (x .content) (x .first)) (tyOf (x .content))
   unfolding firstContent
   first-typed before rest x e f g t =
-      if-all (λ (v : Value). Val Σ t v (tyOf (x .content))) (isCell (x .content)) _ _ (λ c. earlier before rest x e f c t)
+      if-all (λ (v : Value). Val Σ t v (tyOf (x .content))) (isCell (x .content)) _ _
+      (λ c. earlier before rest x e f c t)
       (λ c. if-all (λ (v : Value). Val Σ t v (tyOf (x .content))) (eqb (x .content) numberType) _ _
       (λ q. subst (Val Σ t (Number (x .first))) (sym (ap tyOf (eqb-true _ _ q) ∙ ty-number)) is-num)
       (λ q. ⊎-elim (λ z. absurd (eqb-false _ _ q z)) (λ z. subst (Val Σ t (truthOf (x .first))) (sym (ap tyOf z ∙ ty-truth)) is-tru) (formed-plain g c)))
@@ -110,7 +112,8 @@ module _ (all : List SharedCell) (wells : All Well all) where
   -- each shared cell has its owner and holds what it may hold
   held : {Q : ℕ → Type 0} {n : ℕ} (before xs : List SharedCell) → all ≡ before ++ xs
       → CellsFine Q n before xs → All Well xs → (c : ℕ) (k : CellTyping) → At (map typingOf xs) c k
-      → (cellAt (map firstCell xs) c .owner ≡ k .own) × Held Σ k (cellAt (map firstCell xs) c .content)
+      → (cellAt (map firstCell xs) c .owner ≡ k .own)
+      × Held Σ k (cellAt (map firstCell xs) c .content)
   held before (x ∷ xs) e (CellsFine.more f r) (All.more w ws) zero k here = (refl, by-place (w .low) (w .high) (w .word .public) (first-typed before (x ∷ xs) x e f (w .word .formed)))
   held before (x ∷ xs) e (CellsFine.more f r) (All.more w ws) (suc c) k (there a) =
       held (before ++ (x ∷ [])) xs (e ∙ sym (append-assoc before (x ∷ []) xs)) r ws c k a

@@ -1,28 +1,20 @@
--- Demand 3 of the check and the stepper: what holds of every text that the check accepts. Assumes nothing: definitions; the theorems are in proofs/Accepted.
--- 'Accepted: the check refuses nothing.' Acceptance is by the rules, `HasVerdict`, which name no checker.
-use mathlib.Core.Path.{_≡_}
-use mathlib.Core.Bool.{true, false}
-use mathlib.Core.List.{List, [], _∷_, _++_}
-use Prim.Native.Nat.{ℕ}
-use lib.ListN.{length}
-use Rattle.basics.specs.Members.{All}
+-- Demand 3 of the check and the stepper: what holds of every text that the check accepts. The
+-- theorems are in proofs/Accepted. 'Accepted: the check refuses nothing.' Acceptance is by the
+-- rules, `HasVerdict`, which name no checker.
+use Rattle.basics.specs.Prelude.{List, [], true, false, ℕ}
 use Rattle.language.specs.declared.frame.Frame.{Frame}
 use Rattle.language.specs.declared.verdict.Verdict.the-variants.{Accepted}
 use Rattle.text.specs.Frames.{textFrames}
 use Rattle.program.specs.Programs.{programOf}
-use Rattle.machine.specs.Offsets.{stateLength}
 use Rattle.checker.specs.Verdict.{HasVerdict}
-use Rattle.machine.specs.Accesses.{Access, Own}
-use Rattle.machine.specs.State.{State}
-use Rattle.machine.specs.Steps.{step}
-use Rattle.machine.specs.Words.{pack, unpack}
-use Rattle.machine.specs.inner.Ranges.{inRange}
-use Rattle.machine.specs.Calls.{Called, freshCall, stepCall, callsFrom, wordsFrom}
-use Rattle.safety.specs.Safety.{NoPrivateInPublic, Apart, Sound, Safe}
+use Rattle.machine.specs.{Accesses.Access, State.State, Steps.step, Words.unpack}
+use Rattle.machine.specs.{inner.Ranges.inRange}
+use Rattle.safety.specs.Safety.{Safe}
 
 -- for every text that the check accepts, and every list of choices, of any length and content
 abbrev pub AcceptedSafe : Type 0
-AcceptedSafe = (bs : List ℕ) → HasVerdict bs Accepted → (cs : List ℕ) → Safe (programOf (textFrames bs)) cs
+AcceptedSafe =
+    (bs : List ℕ) → HasVerdict bs Accepted → (cs : List ℕ) → Safe (programOf (textFrames bs)) cs
 
 -- ---- the same about the calls: 'States and answers are those that the calls give.'
 
@@ -30,27 +22,9 @@ AcceptedSafe = (bs : List ℕ) → HasVerdict bs Accepted → (cs : List ℕ) �
 abbrev pub stateOf : List Frame → List ℕ → State
 stateOf fs w = unpack fs (programOf fs .schedulers) w
 
--- the accesses under a call on words w: 'those that the stepping rules make on the state it was given, those before a refusal too'; words out of range say no state
+-- the accesses under a call on words w: 'those that the stepping rules make on the state it was
+-- given, those before a refusal too'; words out of range say no state
 unfoldable pub accessesUnder : List Frame → List ℕ → ℕ → List Access
-accessesUnder fs w c = elim (inRange fs (programOf fs .schedulers) w) [ true ↦ step (programOf fs) (stateOf fs w) c .accesses | false ↦ [] ]
-
--- the accesses of one call after the other, each on the words that the one before left
-unfoldable pub accessesFrom : List Frame → List ℕ → List ℕ → List Access
-accessesFrom fs w [] = []
-accessesFrom fs w (c ∷ cs) = accessesUnder fs w c ++ accessesFrom fs (stepCall fs w c .words) cs
-
--- of a file, a lent buffer w and a list of choices: the fresh call writes the buffer, then each choice is a call
-pub record SafeCalls (fs : List Frame) (w cs : List ℕ) : Type 0 where
-  pub fresh : freshCall fs w .answer ≡ 0
-  -- every access under every call was to a cell of the acting thread or of the scheduler on which it stood
-  pub accessed : All Own (accessesFrom fs (freshCall fs w .words) cs)
-  -- no call was foreign or stuck
-  pub answered : All (λ (r : Called). Sound (r .answer)) (callsFrom fs (freshCall fs w .words) cs)
-  -- the words behind the list are those of a state, in which no scheduler's cell holds a thread's, and no thread's variables reach another thread's cell
-  pub words : wordsFrom fs (freshCall fs w .words) cs ≡ pack (stateOf fs (wordsFrom fs (freshCall fs w .words) cs))
-  pub public : NoPrivateInPublic (stateOf fs (wordsFrom fs (freshCall fs w .words) cs))
-  pub apart : Apart (stateOf fs (wordsFrom fs (freshCall fs w .words) cs))
-
--- for every text that the check accepts, every lent buffer of the right length, and every list of choices
-abbrev pub AcceptedCallsSafe : Type 0
-AcceptedCallsSafe = (bs : List ℕ) → HasVerdict bs Accepted → (w cs : List ℕ) → length w ≡ stateLength → SafeCalls (textFrames bs) w cs
+accessesUnder fs w c =
+    elim (inRange fs (programOf fs .schedulers) w)
+    [ true ↦ step (programOf fs) (stateOf fs w) c .accesses | false ↦ [] ]

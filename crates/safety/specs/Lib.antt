@@ -1,2 +1,3 @@
 pub mod Safety
 pub mod Accepted
+pub mod inner

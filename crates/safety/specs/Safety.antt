@@ -1,29 +1,25 @@
--- Demand 3, 'a single statement about the list of choices, not one for each choice'. Assumes nothing: definitions.
-use mathlib.Core.Path.{_≡_}
-use mathlib.Core.Logic.{_≢_}
-use mathlib.Core.List.{List}
-use Prim.Native.Nat.{ℕ, _≤_}
-use Rattle.basics.specs.Members.{All}
-use Rattle.language.specs.Places.{home, lastScheduler}
-use Rattle.language.specs.declared.frame.Frame.{Frame}
-use Rattle.language.specs.Refusals.{foreign, stuck}
+-- Demand 3, 'a single statement about the list of choices, not one for each choice'.
+use Rattle.basics.specs.Prelude.{List, ℕ, _≤_, _≡_, _≢_, All}
+use Rattle.language.specs.{Places.home, Places.lastScheduler, declared.frame.Frame.Frame}
+use Rattle.language.specs.{Refusals.foreign, Refusals.stuck}
 use Rattle.program.specs.Programs.{Program, programOf}
-use Rattle.machine.specs.Accesses.{Own}
-use Rattle.machine.specs.State.{State, Stored, cellAt, threadAt, threadOwner}
-use Rattle.machine.specs.Runs.{stateAfter, answers, accessesOf}
-use Rattle.machine.specs.declared.value.Value.{Value}
-use Rattle.machine.specs.declared.value.Value.the-variants.{Cell}
+use Rattle.machine.specs.{Accesses.Own, State.State, State.Stored, State.cellAt, State.threadAt}
+use Rattle.machine.specs.{State.threadOwner, Runs.stateAfter, Runs.answers, Runs.accessesOf}
+use Rattle.machine.specs.{declared.value.Value.Value, declared.value.Value.the-variants.Cell}
 
 -- ---- ownership and reachability
 
--- 'A cell belongs to its owner: the S it was declared or made with, or 16+t where thread t made it with S 1.' Cell c belongs to thread t; to a scheduler
+-- 'A cell belongs to its owner: the S it was declared or made with, or 16+t where thread t made it
+-- with S 1.' Cell c belongs to thread t; to a scheduler
 abbrev pub BelongsToThread : List Stored → ℕ → ℕ → Type 0
 BelongsToThread cells c t = cellAt cells c .owner ≡ threadOwner t
 
 abbrev pub BelongsToScheduler : List Stored → ℕ → Type 0
-BelongsToScheduler cells c = (home ≤ cellAt cells c .owner) × (cellAt cells c .owner ≤ lastScheduler)
+BelongsToScheduler cells c =
+    (home ≤ cellAt cells c .owner) × (cellAt cells c .owner ≤ lastScheduler)
 
--- the value reaches cell c, over any number of cells. 01: 'A variable leads to the cell that is its value, and from each cell reached on to the cell that it holds.'
+-- the value reaches cell c, over any number of cells. 01: 'A variable leads to the cell that is its
+-- value, and from each cell reached on to the cell that it holds.'
 pub data Reaches (cells : List Stored) : Value → ℕ → Type 0 where
   itself : {c : ℕ} → Reaches cells (Cell c) c
   through : {b c : ℕ} → Reaches cells (cellAt cells b .content) c → Reaches cells (Cell b) c
@@ -33,21 +29,23 @@ pub data Reaches (cells : List Stored) : Value → ℕ → Type 0 where
 -- no cell that belongs to a scheduler holds a cell that belongs to a thread
 abbrev pub NoPrivateInPublic : State → Type 0
 NoPrivateInPublic s =
-    (b c t : ℕ) → BelongsToScheduler (s .cells) b → cellAt (s .cells) b .content ≡ Cell c → BelongsToThread (s .cells) c t → ⊥
+    (b c t : ℕ) → BelongsToScheduler (s .cells) b → cellAt (s .cells) b .content ≡ Cell c
+    → BelongsToThread (s .cells) c t → ⊥
 
 -- no thread's variables reach a cell that belongs to another thread
 abbrev pub Apart : State → Type 0
 Apart s =
-    (t : ℕ) → All (λ (v : Value). (c o : ℕ) → Reaches (s .cells) v c → BelongsToThread (s .cells) c o → o ≡ t) (threadAt s t .variables)
+    (t : ℕ) → All (λ (v : Value). (c o : ℕ)
+    → Reaches (s .cells) v c → BelongsToThread (s .cells) c o → o ≡ t) (threadAt s t .variables)
 
 -- ---- of an answer: 'Foreign is 19, stuck is 20.'
 abbrev pub Sound : ℕ → Type 0
 Sound n = (n ≢ foreign) × (n ≢ stuck)
 
--- ---- the statement, of a program and a list of choices. Its runs start at the fresh state, and each choice is put to the state that the one before returned or left
+-- ---- the statement, of a program and a list of choices, from the fresh state on
 
 pub record Safe (p : Program) (cs : List ℕ) : Type 0 where
-  -- every access under every choice was to a cell of the acting thread or of the scheduler on which it stood, 'those before a refusal too'
+  -- every access was to a cell of the acting thread or of the scheduler on which it stood
   pub accessed : All Own (accessesOf p cs)
   pub public : NoPrivateInPublic (stateAfter p cs)
   pub apart : Apart (stateAfter p cs)

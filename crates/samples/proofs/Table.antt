@@ -21,12 +21,12 @@ use Rattle.program.specs.Programs.{sharedOf, modulesFrom, allowanceOf, programO
 use Rattle.fields.specs.Fields.{headerFine, firstContentFine, countOf, frameFine}
 use Rattle.fields.specs.inner.Scans.{headerFault, fieldFault}
 use Rattle.layout.specs.Order.{hasChild}
-use Rattle.layout.specs.inner.Scans.{rowFirst, firstDisorder, isBehind, isLeftover, firstLeftover}
+use Rattle.layout.specs.inner.Scans.{rowFirst, firstDisorder, isAfterOther, isLeftover, firstLeftover}
 use Rattle.layout.specs.inner.Scans.{noMain, orderFault, lowestChild, deepTo, firstDeep, depthFault}
 use Rattle.layout.specs.inner.Scans.{layoutOf}
 use Rattle.rules.specs.inner.Checking.{namedRule, newRule, contentRule, numbersRule, chooseRule}
 use Rattle.rules.specs.inner.Checking.{typeIn, argue, typesIn, startRule, cooperateRule, seqRule}
-use Rattle.rules.specs.inner.Checking.{doRule, joinRule, storeRule, ifElseRule, whileRule, runIn}
+use Rattle.rules.specs.inner.Checking.{doRule, joinRule, storeRule, ifElseRule, whileRule, effectIn}
 use Rattle.rules.specs.inner.Checking.{modulesIn, rulesOf}
 use Rattle.checker.specs.Verdict.{HasVerdict, verdict}
 use Rattle.checker.proofs.Whole.{verdict-computes}
@@ -54,7 +54,7 @@ said x = record { verdict-of = x .verdict; answers-of = x .answers }
 
 -- the whole table, computed at once
 pub table : map computed samples ≡ map said samples
-unfolding bytes if_then_else_ any every sameNumbers lowest earlier standingAt cellDepth cellType ownerOf contentOf public ownerDigit typeWord contentWord withOwner within kindOf children digit hexadecimal lineWord frameOfWord wordsOf textFrames rightAt firstWrong reading expressionTo expressionAt statementTo statementAt sharedOf modulesFrom allowanceOf programOf headerFine firstContentFine countOf frameFine hasChild headerFault fieldFault rowFirst firstDisorder isBehind isLeftover firstLeftover noMain orderFault lowestChild deepTo firstDeep depthFault layoutOf namedRule newRule contentRule numbersRule chooseRule typeIn argue typesIn startRule cooperateRule seqRule doRule joinRule storeRule ifElseRule whileRule runIn modulesIn rulesOf verdict firstContent enlist fresh isReady readyThreads stillWaiting isSchedulerOf leave fits stay ends stepNothing stepThreadWithin endInstant isUnlinked stepWithin stepsFrom
+unfolding bytes if_then_else_ any every sameNumbers lowest earlier standingAt cellDepth cellType ownerOf contentOf public ownerDigit typeWord contentWord withOwner within kindOf children digit hexadecimal lineWord frameOfWord wordsOf textFrames rightAt firstWrong reading expressionTo expressionAt statementTo statementAt sharedOf modulesFrom allowanceOf programOf headerFine firstContentFine countOf frameFine hasChild headerFault fieldFault rowFirst firstDisorder isAfterOther isLeftover firstLeftover noMain orderFault lowestChild deepTo firstDeep depthFault layoutOf namedRule newRule contentRule numbersRule chooseRule typeIn argue typesIn startRule cooperateRule seqRule doRule joinRule storeRule ifElseRule whileRule effectIn modulesIn rulesOf verdict firstContent enlist fresh isReady readyThreads stillWaiting isSchedulerOf leave fits stay ends stepNothing stepThreadWithin endInstant isUnlinked stepWithin stepsFrom
 table = refl
 
 -- ---- each row: the verdict is the one that the rules give, and the answers are those of the steps

@@ -75,7 +75,8 @@ pub clear-more : (w v : List ℕ) (i : ℕ) → v ≡ pasted w 0 (replicate (len
     → length v ≡ length w → i < length v → set v i 0 ≡ pasted w 0 (replicate (length w) 0) (i + 1)
 clear-more w v i e k g =
     let h : i < length w = omega arith in
-    fill-more w (replicate (length w) 0) v i 0 e (sym (getD-replicate (length w) i 0 0 h)) h (rw (length-replicate {A = ℕ} (length w) 0) h)
+    fill-more w (replicate (length w) 0) v i 0 e (sym (getD-replicate (length w) i 0 0 h)) h
+    (rw (length-replicate {A = ℕ} (length w) 0) h)
 
 pub clear-end : (w v : List ℕ) (i : ℕ) → v ≡ pasted w 0 (replicate (length w) 0) i → i ≤ length w
     → length v ≡ length w → length v ≤ i → v ≡ replicate (length w) 0

@@ -18,13 +18,13 @@ use Rattle.machine.specs.State.{withScheduler}
 use Rattle.machine.specs.Fresh.{firstCell, mainThread, homeScheduler, fresh}
 use Rattle.machine.specs.Words.{itemWord, listWord, schedulerWord, cellWord, pack}
 use Rattle.machine.specs.inner.Blocks.{pasted, cellWords}
-use Rattle.machine.specs.Calls.{unchanged, freshCall}
+use Rattle.machine.specs.Calls.{callResult, freshCall}
 use Rattle.machine.proofs.WordLaws.{Says, is-pack, pasted-length, pasted-in, pasted-out}
 use Rattle.machine.proofs.Blocks.{cells-length, cells-at, put-cells}
 use Rattle.machine.proofs.Valid.{no-thread-word, no-scheduler-word, no-cell-word}
 use Rattle.machine.proofs.CallRuns.{fresh-called}
-use Rattle.states.specs.inner.Threads.{wordsOf, withOneMore}
-use Rattle.states.specs.inner.Starts.{mainWords, withShared, called}
+use Rattle.states.specs.inner.Threads.{threadWordsOf, withOneMore}
+use Rattle.states.specs.inner.Starts.{mainWords, withShared}
 use Rattle.states.specs.declared.thread.ThreadWords.{ThreadWords}
 use Rattle.machine.proofs.PastedLaws.{same-pasted}
 use Rattle.states.proofs.ThreadSays.{add-says}
@@ -32,7 +32,7 @@ use Rattle.states.proofs.SharedLaws.{sharedIn, cellsIn}
 use Rattle.lists.proofs.SchedulerSays.{by-lists, scheduler-put}
 
 -- ---- zeros are a state with nothing in it
--- a member of a list of one thing, or the default behind it, which is that thing
+-- a member of a list of one thing, or the default after it, which is that thing
 replicate-at : {A : Type 0} (n i : ℕ) (x : A) → getD (replicate n x) i x ≡ x
 replicate-at {A} n i x = by (ltb i n) refl
   where
@@ -65,7 +65,7 @@ zeros-say w m e =
     at : (i : ℕ) → getD w i 0 ≡ 0
     at i = zero-word w i e
 
--- ---- the shared cells: behind them the words are 0, as they were
+-- ---- the shared cells: after them the words are 0, as they were
 all-cells : (w : List ℕ) (xs : List SharedCell) → w ≡ replicate 4818 0
     → withShared w xs ≡ pasted w 4562 (cellWords (map firstCell xs)) 256
 unfolding withShared
@@ -85,8 +85,10 @@ all-cells w xs e = by (leb (length xs) 256) refl
     by false q = ap (pasted w 4562 B) (if-no _ _ q)
     by true q =
         ap (pasted w 4562 B) (if-yes _ _ q)
-        ∙ same-pasted w (pasted w 4562 B (length xs)) 4562 B 256 (rw long (omega arith)) (rw (cells-length cs) (omega arith)) (pasted-length w 4562 B (length xs) hd hs)
-        (λ j g. inside j g (ltb j (length xs)) refl) (λ i f. pasted-out w 4562 B (length xs) hd hs i (λ p r. let m = l in f p (omega arith)))
+        ∙ same-pasted w (pasted w 4562 B (length xs)) 4562 B 256 (rw long (omega arith))
+        (rw (cells-length cs) (omega arith)) (pasted-length w 4562 B (length xs) hd hs)
+        (λ j g. inside j g (ltb j (length xs)) refl)
+        (λ i f. pasted-out w 4562 B (length xs) hd hs i (λ p r. let m = l in f p (omega arith)))
       where
         l : length xs ≤ 256
         l = leb-true (length xs) 256 q
@@ -103,12 +105,13 @@ all-cells w xs e = by (leb (length xs) 256) refl
         inside j g true c = pasted-in w 4562 B (length xs) hd hs j (ltb-true j (length xs) c)
         inside j g false c =
             let m : length xs ≤ j = ltb-false j (length xs) c in
-            pasted-out w 4562 B (length xs) hd hs (4562 + j) (λ p r. omega arith) ∙ zero-word w (4562 + j) e ∙ no-cell-word
+            pasted-out w 4562 B (length xs) hd hs (4562 + j) (λ p r. omega arith)
+            ∙ zero-word w (4562 + j) e ∙ no-cell-word
             ∙ ap cellWord (sym (List·getD-eq-default (map firstCell xs) noCell {n = j} (rw (length-map xs firstCell) m)))
             ∙ sym (cells-at cs j g)
 
 -- ---- main
-main-is : (p : Program) → wordsOf (mainThread p) ≡ mainWords (rootS (mainOf p .body))
+main-is : (p : Program) → threadWordsOf (mainThread p) ≡ mainWords (rootS (mainOf p .body))
 unfolding itemWord
 main-is p = refl
 
@@ -174,7 +177,8 @@ fresh-words words w₀ w₁ w₂ w₃ b th e₁ e₂ eb et e₃ l =
     cells : w₂ ≡ set (pasted w₁ 4562 (cellWords (cellsIn words)) 256) 1 (length (cellsIn words))
     cells =
         e₂
-        ∙ ap₂ (λ (u : List ℕ) (k : ℕ). set u 1 k) (all-cells w₁ (sharedIn words) zeros) (sym (length-map (sharedIn words) firstCell))
+        ∙ ap₂ (λ (u : List ℕ) (k : ℕ). set u 1 k) (all-cells w₁ (sharedIn words) zeros)
+        (sym (length-map (sharedIn words) firstCell))
 
     with-cells : Says w₂ (withCells (cellsIn words) (bareIn words))
     with-cells = subst (λ (u : List ℕ). Says u (withCells (cellsIn words) (bareIn words))) (sym cells) (put-cells w₁ (bareIn words) (zeros-say w₁ (programIn words .schedulers - 1) zeros) (cellsIn words))
@@ -188,10 +192,11 @@ fresh-words words w₀ w₁ w₂ w₃ b th e₁ e₂ eb et e₃ l =
 
 -- ---- as a call
 pub call-wrong : (words w : List ℕ) → (length w ≡ 4818 → ⊥)
-    → called 14 0 w ≡ freshCall (framesOf words) w
+    → callResult 14 0 w ≡ freshCall (framesOf words) w
 unfolding freshCall
-call-wrong words w h = sym (ap (λ (b : Bool). elim b [ true ↦ called 0 0 (pack (fresh (programOf (framesOf words)))) | false ↦ unchanged 14 0 w ]) (ne-eqb (length w) 4818 h))
+call-wrong words w h = sym (ap (λ (b : Bool). elim b [ true ↦ callResult 0 0 (pack (fresh (programOf (framesOf words)))) | false ↦ callResult 14 0 w ]) (ne-eqb (length w) 4818 h))
 
 pub call-fresh : (words w v : List ℕ) → length w ≡ 4818
-    → v ≡ pack (fresh (programOf (framesOf words))) → called 0 0 v ≡ freshCall (framesOf words) w
-call-fresh words w v l e = ap (called 0 0) e ∙ sym (fresh-called (framesOf words) w l)
+    → v ≡ pack (fresh (programOf (framesOf words))) → callResult 0 0 v
+    ≡ freshCall (framesOf words) w
+call-fresh words w v l e = ap (callResult 0 0) e ∙ sym (fresh-called (framesOf words) w l)

@@ -65,7 +65,8 @@ unlinked-says w s h few c = low (leb 17 c) refl
         let y : suc (c - 17) ≡ c - 16 = omega arith in
         ap₂ (λ (p a : ℕ). eqb p private && not (eqb a 0)) (ap (λ (i : ℕ). getD w i 0) z ∙ h .thread (c - 17) 0 (omega arith) (omega arith) ∙ thread-0 x) (h .thread (c - 17) 2 (omega arith) (omega arith) ∙ thread-2 x)
         ∙ ap (λ (e : Bool). eqb (x .place) private && not e) (ended-bit (x .ended))
-        ∙ ap (λ (n : ℕ). eqb (nth (s .threads) n .place) private && not (nth (s .threads) n .ended)) y
+        ∙ ap
+        (λ (n : ℕ). eqb (nth (s .threads) n .place) private && not (nth (s .threads) n .ended)) y
 
     high : 17 ≤ c → (b : Bool) → leb (c - 16) (length (s .threads)) ≡ b
         → (leb (c - 16) (getD w 0 0) && eqb (getD w (1042 + 55 * (c - 17)) 0) private && not (eqb (getD w (1042 + 55 * (c - 17) + 2) 0) 0))

@@ -1,4 +1,4 @@
--- The shared cells' first contents as the code writes them, frame by frame; the cells behind the
+-- The shared cells' first contents as the code writes them, frame by frame; the cells after the
 -- 256th are counted and have no word. Assumes nothing.
 use Prim.Native.Nat.{ℕ, zero, suc, _+_, _-_, _<_, _≤_}
 use mathlib.Core.Path.{_≡_, refl, sym, ap, _∙_}
@@ -150,13 +150,15 @@ module _ (words w v : List ℕ) (i c : ℕ) (s : Sharing words w v i c) where
         word =
             z ∙ ap (λ (h : Frame). cellWord (firstCell (cellOf h))) q
             ∙ ap (λ (y : SharedCell). cellWord (firstCell y)) (sym one-cell-at)
-            ∙ ap cellWord (sym (inside (sharedIn words) c (cellOf f) (let b = one-cell-below in omega arith)))
+            ∙ ap cellWord
+            (sym (inside (sharedIn words) c (cellOf f) (let b = one-cell-below in omega arith)))
             ∙ sym (cells-at (cellsIn words) c m)
 
 module _ (words w v : List ℕ) (i c : ℕ) (s : Sharing words w v i c) (l : length words ≤ i) where
   pub sharing-count : c ≡ length (sharedIn words)
   sharing-count =
-      all (length-drop c (sharedIn words)) (ap length (s .rest ∙ next-end words (s .from) i (s .next) l)) (s .below)
+      all (length-drop c (sharedIn words))
+      (ap length (s .rest ∙ next-end words (s .from) i (s .next) l)) (s .below)
     where
       all : {a n : ℕ} → a ≡ n - c → a ≡ 0 → c ≤ n → c ≡ n
       all x y z = omega arith

@@ -46,10 +46,10 @@ itemsIn x n ws = record { place = x .place; starter = x .starter; alive = x .ali
 abbrev valuesIn : ThreadWords → ℕ → List ℕ → ThreadWords
 valuesIn x n ws = record { place = x .place; starter = x .starter; alive = x .alive; items = x .items; continuation = x .continuation; values = n; variables = ws }
 
-set-behind : (xs ys : List ℕ) (i v : ℕ) → set (xs ++ ys) (length xs + i) v ≡ xs ++ set ys i v
-set-behind [] ys i v = ap (λ (n : ℕ). set ys n v) (omega arith)
-set-behind (x ∷ xs) ys i v = let z : length (x ∷ xs) + i ≡ suc (length xs + i) = omega arith in
-    ap (λ (n : ℕ). set (x ∷ (xs ++ ys)) n v) z ∙ ap (λ (l : List ℕ). x ∷ l) (set-behind xs ys i v)
+set-after : (xs ys : List ℕ) (i v : ℕ) → set (xs ++ ys) (length xs + i) v ≡ xs ++ set ys i v
+set-after [] ys i v = ap (λ (n : ℕ). set ys n v) (omega arith)
+set-after (x ∷ xs) ys i v = let z : length (x ∷ xs) + i ≡ suc (length xs + i) = omega arith in
+    ap (λ (n : ℕ). set (x ∷ (xs ++ ys)) n v) z ∙ ap (λ (l : List ℕ). x ∷ l) (set-after xs ys i v)
 
 module _ (x : ThreadWords) (h : Wide x) where
   set-place : (p : ℕ) → set (blockOf x) 0 p ≡ blockOf (moveTo p x)
@@ -70,7 +70,8 @@ module _ (x : ThreadWords) (h : Wide x) where
   set-item n v l = let z : 4 + n ≡ suc (suc (suc (suc n))) = omega arith in
       let c : length (x .continuation) ≡ 25 = h .continuation in
       ap (λ (i : ℕ). set (blockOf x) i v) z
-      ∙ ap (λ (ws : List ℕ). x .place ∷ x .starter ∷ x .alive ∷ x .items ∷ ws) (set-append-left (x .continuation) (x .values ∷ x .variables) n v (omega arith))
+      ∙ ap (λ (ws : List ℕ). x .place ∷ x .starter ∷ x .alive ∷ x .items ∷ ws)
+      (set-append-left (x .continuation) (x .values ∷ x .variables) n v (omega arith))
 
   set-values : (m : ℕ) → set (blockOf x) 29 m ≡ blockOf (valuesIn x m (x .variables))
   unfolding blockOf
@@ -83,14 +84,16 @@ module _ (x : ThreadWords) (h : Wide x) where
       let c : length (x .continuation) ≡ 25 = h .continuation in
       let z : 30 + n ≡ suc (suc (suc (suc (length (x .continuation) + suc n)))) = omega arith in
       ap (λ (i : ℕ). set (blockOf x) i v) z
-      ∙ ap (λ (ws : List ℕ). x .place ∷ x .starter ∷ x .alive ∷ x .items ∷ ws) (set-behind (x .continuation) (x .values ∷ x .variables) (suc n) v)
+      ∙ ap (λ (ws : List ℕ). x .place ∷ x .starter ∷ x .alive ∷ x .items ∷ ws)
+      (set-after (x .continuation) (x .values ∷ x .variables) (suc n) v)
 
 -- ---- what each function of `stack` writes
 module _ (w : List ℕ) (k : ℕ) (all : length w ≡ 4818) (room : k < 64) where
   one-word : (y : ThreadWords) (i j v : ℕ) → i ≡ 1042 + 55 * k + j → j < 55
       → set (blockOf (threadIn w k)) j v ≡ blockOf y → set w i v ≡ putThread w k y
   one-word y i j v z l e =
-      ap (λ (u : List ℕ). set u i v) (sym (put-same w k all room)) ∙ ap (λ (n : ℕ). set (putThread w k (threadIn w k)) n v) z
+      ap (λ (u : List ℕ). set u i v) (sym (put-same w k all room))
+      ∙ ap (λ (n : ℕ). set (putThread w k (threadIn w k)) n v) z
       ∙ put-set w k all room (threadIn w k) (in-wide w k all room) y j v l e
 
   pub moved : (v p : ℕ) → v ≡ p → set w (1042 + 55 * k) v ≡ putThread w k (moveTo p (threadIn w k))
@@ -125,27 +128,31 @@ module _ (w : List ℕ) (k : ℕ) (all : length w ≡ 4818) (room : k < 64) wher
       ∙ put-set w k all room y g (valuesIn y m (y .variables)) 29 m (omega arith) (set-values y g m)
 
   pub item-pushed : (v : ℕ) → threadIn w k .items < 25
-      → set (set w (1042 + 55 * k + 4 + getD w (1042 + 55 * k + 3) 0) v) (1042 + 55 * k + 3) (getD w (1042 + 55 * k + 3) 0 + 1)
+      → set (set w (1042 + 55 * k + 4 + getD w (1042 + 55 * k + 3) 0) v) (1042 + 55 * k + 3)
+      (getD w (1042 + 55 * k + 3) 0 + 1)
       ≡ putThread w k (pushItem v (threadIn w k))
   unfolding pushItem
   item-pushed v l =
       item-written (getD w (1042 + 55 * k + 3) 0) v (getD w (1042 + 55 * k + 3) 0 + 1) l
 
   pub item-popped : 0 < threadIn w k .items → threadIn w k .items ≤ 25
-      → set (set w (1042 + 55 * k + 4 + (getD w (1042 + 55 * k + 3) 0 - 1)) 0) (1042 + 55 * k + 3) (getD w (1042 + 55 * k + 3) 0 - 1)
+      → set (set w (1042 + 55 * k + 4 + (getD w (1042 + 55 * k + 3) 0 - 1)) 0) (1042 + 55 * k + 3)
+      (getD w (1042 + 55 * k + 3) 0 - 1)
       ≡ putThread w k (popItem (threadIn w k))
   unfolding popItem
   item-popped g l = item-written (getD w (1042 + 55 * k + 3) 0 - 1) 0 (getD w (1042 + 55 * k + 3) 0 - 1) (omega arith)
 
   pub value-pushed : (v : ℕ) → threadIn w k .values < 25
-      → set (set w (1042 + 55 * k + 30 + getD w (1042 + 55 * k + 29) 0) v) (1042 + 55 * k + 29) (getD w (1042 + 55 * k + 29) 0 + 1)
+      → set (set w (1042 + 55 * k + 30 + getD w (1042 + 55 * k + 29) 0) v) (1042 + 55 * k + 29)
+      (getD w (1042 + 55 * k + 29) 0 + 1)
       ≡ putThread w k (pushValue v (threadIn w k))
   unfolding pushValue
   value-pushed v l =
       value-written (getD w (1042 + 55 * k + 29) 0) v (getD w (1042 + 55 * k + 29) 0 + 1) l
 
   pub value-popped : 0 < threadIn w k .values → threadIn w k .values ≤ 25
-      → set (set w (1042 + 55 * k + 30 + (getD w (1042 + 55 * k + 29) 0 - 1)) 0) (1042 + 55 * k + 29) (getD w (1042 + 55 * k + 29) 0 - 1)
+      → set (set w (1042 + 55 * k + 30 + (getD w (1042 + 55 * k + 29) 0 - 1)) 0)
+      (1042 + 55 * k + 29) (getD w (1042 + 55 * k + 29) 0 - 1)
       ≡ putThread w k (popValue (threadIn w k))
   unfolding popValue
   value-popped g l = value-written (getD w (1042 + 55 * k + 29) 0 - 1) 0 (getD w (1042 + 55 * k + 29) 0 - 1) (omega arith)

@@ -42,7 +42,8 @@ module _ (x : ThreadWords) (hp : length (x .continuation) ≡ 25) (hv : length (
       → getD (blockOf x) (4 + i) 0 ≡ getD (x .continuation) i 0
   unfolding blockOf
   block-continuation i h = let a : 4 + i ≡ suc (suc (suc (suc i))) = omega arith in
-      ap (λ (k : ℕ). getD (blockOf x) k 0) a ∙ List·getD-append (x .continuation) (x .values ∷ x .variables) 0 i (omega arith)
+      ap (λ (k : ℕ). getD (blockOf x) k 0) a
+      ∙ List·getD-append (x .continuation) (x .values ∷ x .variables) 0 i (omega arith)
 
   pub block-values : getD (blockOf x) 29 0 ≡ x .values
   unfolding blockOf
@@ -52,7 +53,8 @@ module _ (x : ThreadWords) (hp : length (x .continuation) ≡ 25) (hv : length (
   unfolding blockOf
   block-variables i h =
       let a : 30 + i ≡ suc (suc (suc (suc (length (x .continuation) + suc i)))) = omega arith in
-      ap (λ (k : ℕ). getD (blockOf x) k 0) a ∙ getD-append-add (x .continuation) (x .values ∷ x .variables) (suc i) 0
+      ap (λ (k : ℕ). getD (blockOf x) k 0) a
+      ∙ getD-append-add (x .continuation) (x .values ∷ x .variables) (suc i) 0
 
 -- ---- the block stored field by field
 -- the words when the continuation is written, and the variables are not yet
@@ -79,9 +81,10 @@ module _ (x : ThreadWords) (hp : length (x .continuation) ≡ 25) (hv : length (
       let e5 : w5 ≡ pasted w at (blockOf x) 29 = next-run w at (blockOf x) w4 (x .continuation) 4 25 e4 (λ i g. sym (block-continuation x hp hv i g)) (omega arith) (omega arith) (omega arith) in
       let w6 : List ℕ = set w5 (at + 29) (x .values) in
       let e6 : w6 ≡ pasted w at (blockOf x) 30 = pasted-more w (blockOf x) w5 at 29 (x .values) e5 (sym (block-values x hp hv)) (omega arith) (omega arith) in
-      next-run w at (blockOf x) w6 (x .variables) 30 25 e6 (λ i g. sym (block-variables x hp hv i g)) (omega arith) (omega arith) (omega arith)
+      next-run w at (blockOf x) w6 (x .variables) 30 25 e6
+      (λ i g. sym (block-variables x hp hv i g)) (omega arith) (omega arith) (omega arith)
 
--- the same in the two calls of `store_run` that the code makes: a is behind the first, b behind the
+-- the same in the two calls of `store_run` that the code makes: a is after the first, b after the
 -- second
 module _ (x : ThreadWords) (w a : List ℕ) (at : ℕ) (h : at + 55 ≤ length w) (hp : length (x .continuation) ≡ 25) (e : a ≡ halfStored x w at) where
   pub half-stored-length : length a ≡ length w

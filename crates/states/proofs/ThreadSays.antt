@@ -9,7 +9,7 @@ use lib.Seq.{ext-getD}
 use Rattle.machine.specs.State.{State, Thread, Item, noThread, withThread, withNew}
 use Rattle.machine.specs.Words.{itemWord, valueWord, threadWord}
 use Rattle.machine.specs.inner.Blocks.{part, pasted, padded, threadWords}
-use Rattle.states.specs.inner.Threads.{wordsOf, fieldsAt, blockOf, withOneMore}
+use Rattle.states.specs.inner.Threads.{threadWordsOf, fieldsAt, blockOf, withOneMore}
 use Rattle.states.specs.declared.thread.ThreadWords.{ThreadWords}
 use Rattle.machine.proofs.WordLaws.{part-at, part-length, Says}
 use Rattle.machine.proofs.Blocks.{put-thread, put-new, thread-length, thread-at}
@@ -44,8 +44,8 @@ module _ (w : List ℕ) (s : State) (h : Says w s) (k : ℕ) (l : k < 64) where
       pl : length (part w i 25) ≡ 25
       pl = part-length w i 25 (rw (h .all) g)
 
-  pub load-is : fieldsAt w (1042 + 55 * k) ≡ wordsOf (getD (s .threads) k noThread)
-  load-is = fields-path (fieldsAt w (1042 + 55 * k)) (wordsOf x)
+  pub load-is : fieldsAt w (1042 + 55 * k) ≡ threadWordsOf (getD (s .threads) k noThread)
+  load-is = fields-path (fieldsAt w (1042 + 55 * k)) (threadWordsOf x)
       (word 0 (1042 + 55 * k) (omega arith) (omega arith) ∙ thread-0 x)
       (word 1 (1042 + 55 * k + 1) (omega arith) refl ∙ thread-1 x)
       (word 2 (1042 + 55 * k + 2) (omega arith) refl ∙ thread-2 x)
@@ -58,52 +58,53 @@ module _ (w : List ℕ) (s : State) (h : Says w s) (k : ℕ) (l : k < 64) where
       x = getD (s .threads) k noThread
 
 -- ---- a thread written
-pub block-of : (x : Thread) → blockOf (wordsOf x) ≡ threadWords x
-block-of x = ext-getD 0 (blockOf (wordsOf x)) (threadWords x) (bl ∙ sym (thread-length x))
+pub block-of : (x : Thread) → blockOf (threadWordsOf x) ≡ threadWords x
+block-of x = ext-getD 0 (blockOf (threadWordsOf x)) (threadWords x) (bl ∙ sym (thread-length x))
     (λ j g. let m : j < 55 = rw bl at g in
-    thread-parts Same (block-place (wordsOf x) ∙ sym (thread-0 x)) (block-starter (wordsOf x) ∙ sym (thread-1 x)) (block-alive (wordsOf x) ∙ sym (thread-2 x)) items variables j m ∙ sym (thread-at x j m))
+    thread-parts Same (block-place (threadWordsOf x) ∙ sym (thread-0 x)) (block-starter (threadWordsOf x) ∙ sym (thread-1 x)) (block-alive (threadWordsOf x) ∙ sym (thread-2 x)) items variables j m ∙ sym (thread-at x j m))
   where
-    hp : length (wordsOf x .continuation) ≡ 25
+    hp : length (threadWordsOf x .continuation) ≡ 25
     hp = padded-length 25 (reverse (map itemWord (x .continuation)))
 
-    hv : length (wordsOf x .variables) ≡ 25
+    hv : length (threadWordsOf x .variables) ≡ 25
     hv = padded-length 25 (map valueWord (x .variables))
 
-    bl : length (blockOf (wordsOf x)) ≡ 55
-    bl = block-length (wordsOf x) hp hv
+    bl : length (blockOf (threadWordsOf x)) ≡ 55
+    bl = block-length (threadWordsOf x) hp hv
 
     Same : ℕ → Type 0
-    Same j = getD (blockOf (wordsOf x)) j 0 ≡ threadWord x j
+    Same j = getD (blockOf (threadWordsOf x)) j 0 ≡ threadWord x j
 
     items : (j : ℕ) → j < 26 → Same (3 + j)
     items zero g =
-        block-items (wordsOf x) ∙ sym (items-length (x .continuation))
+        block-items (threadWordsOf x) ∙ sym (items-length (x .continuation))
         ∙ sym (thread-continuation x 0 g)
     items (suc j) g =
         let z : 3 + suc j ≡ 4 + j = omega arith in
-        ap (λ (k : ℕ). getD (blockOf (wordsOf x)) k 0) z ∙ block-continuation (wordsOf x) hp hv j (omega arith) ∙ padded-at 25 (reverse (map itemWord (x .continuation))) j (omega arith) ∙ sym (thread-continuation x (suc j) g)
+        ap (λ (k : ℕ). getD (blockOf (threadWordsOf x)) k 0) z ∙ block-continuation (threadWordsOf x) hp hv j (omega arith) ∙ padded-at 25 (reverse (map itemWord (x .continuation))) j (omega arith) ∙ sym (thread-continuation x (suc j) g)
 
     variables : (j : ℕ) → j < 26 → Same (29 + j)
     variables zero g =
-        block-values (wordsOf x) hp hv ∙ sym (length-map (x .variables) valueWord)
+        block-values (threadWordsOf x) hp hv ∙ sym (length-map (x .variables) valueWord)
         ∙ sym (thread-variables x 0 g)
     variables (suc j) g =
         let z : 29 + suc j ≡ 30 + j = omega arith in
-        ap (λ (k : ℕ). getD (blockOf (wordsOf x)) k 0) z ∙ block-variables (wordsOf x) hp hv j (omega arith) ∙ padded-at 25 (map valueWord (x .variables)) j (omega arith) ∙ sym (thread-variables x (suc j) g)
+        ap (λ (k : ℕ). getD (blockOf (threadWordsOf x)) k 0) z ∙ block-variables (threadWordsOf x) hp hv j (omega arith) ∙ padded-at 25 (map valueWord (x .variables)) j (omega arith) ∙ sym (thread-variables x (suc j) g)
 
 -- what a caller composes
 module _ (w : List ℕ) (s : State) (h : Says w s) where
   pub store-says : (k : ℕ) (x : Thread) → k < 64 → k < length (s .threads)
-      → Says (pasted w (1042 + 55 * k) (blockOf (wordsOf x)) 55) (withThread (suc k) x s)
+      → Says (pasted w (1042 + 55 * k) (blockOf (threadWordsOf x)) 55) (withThread (suc k) x s)
   store-says k x a b = subst (λ (l : List ℕ). Says (pasted w (1042 + 55 * k) l 55) (withThread (suc k) x s)) (sym (block-of x)) (put-thread w s h k x a b)
 
   pub add-says : (x : Thread) → length (s .threads) < 64
-      → Says (withOneMore w (wordsOf x)) (withNew x s)
+      → Says (withOneMore w (threadWordsOf x)) (withNew x s)
   unfolding withOneMore
   add-says x l = subst (λ (v : List ℕ). Says v (withNew x s)) same (put-new w s h x l)
     where
       same : set (pasted w (1042 + 55 * length (s .threads)) (threadWords x) 55) 0 (length (s .threads) + 1)
-          ≡ withOneMore w (wordsOf x)
+          ≡ withOneMore w (threadWordsOf x)
       same =
-          ap₂ (λ (n : ℕ) (b : List ℕ). set (pasted w (1042 + 55 * n) b 55) 0 (n + 1)) (sym (h .threads)) (sym (block-of x))
-          ∙ one-more w _ (wordsOf x) (rw (h .threads) l) refl
+          ap₂ (λ (n : ℕ) (b : List ℕ). set (pasted w (1042 + 55 * n) b 55) 0 (n + 1))
+          (sym (h .threads)) (sym (block-of x))
+          ∙ one-more w _ (threadWordsOf x) (rw (h .threads) l) refl

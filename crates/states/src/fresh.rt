@@ -14,6 +14,7 @@ use machine::offset::CELLS_AT;
 use machine::offset::OWNER_FACTOR;
 use machine::offset::SCHEDULERS_AT;
 use machine::offset::TRUTH_FROM;
+use machine::word::TRUE_WORD;
 use program::module::main_body;
 use program::shared::next_shared;
 use text::line::frame_of_word;
@@ -27,9 +28,7 @@ ghost use Rattle.machine.specs.Fresh.{firstCell, fresh};
 ghost use Rattle.machine.specs.Words.{valueWord, cellWord, pack};
 ghost use Rattle.states.specs.inner.Starts.{mainWords, withShared};
 
-// The word of true, and where the first active thread of the first scheduler is.
-const TRUE_WORD: u64 = TRUTH_FROM + 1;
-
+// Where the first active thread of the first scheduler is.
 const FIRST_ACTIVE: usize = SCHEDULERS_AT + 1;
 
 // The word of a first content: a cell, a number, or a truth, by its type.

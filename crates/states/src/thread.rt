@@ -17,13 +17,13 @@ ghost use Rattle.machine.specs.Offsets.{stateLength, threadCountAt, threadsAt, 
 ghost use Rattle.machine.specs.inner.Blocks.{pasted};
 ghost use Rattle.states.specs.inner.Threads.{blockOf, withOneMore};
 
-// Where the words of a continuation and of the variables begin, behind their lengths.
+// Where the words of a continuation and of the variables begin, after their lengths.
 pub(crate) const FIRST_ITEM: usize = ITEMS_FIELD + 1;
 
 pub(crate) const FIRST_VARIABLE: usize = VARIABLES_FIELD + 1;
 
 // Where it stands, which thread started it, 1 while it lives; its continuation from the bottom and
-// its variables from the first, each behind its length and with 0 behind its members.
+// its variables from the first, each after its length and with 0 after its members.
 pub struct ThreadWords {
     pub place: u64,
     pub starter: u64,

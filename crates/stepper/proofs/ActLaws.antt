@@ -32,18 +32,18 @@ use Rattle.machine.proofs.Blocks.{cells-length, cells-at}
 use Rattle.machine.proofs.InShape.{value-in}
 use Rattle.machine.proofs.Padded.{padded-at}
 use Rattle.operations.specs.declared.Who.{Who}
-use Rattle.operations.specs.inner.Lent.{Lent, variableCount, variablesOf, countOf, cellsOf}
-use Rattle.operations.specs.inner.Lent.{restOf}
+use Rattle.operations.specs.inner.Lent.{Lent, variableCount, lentVariables, lentCount, lentCells}
+use Rattle.operations.specs.inner.Lent.{lentRest}
 use Rattle.evaluator.specs.inner.Results.{CellWords, ValueWords}
 use Rattle.evaluator.proofs.Holding.{holds-words}
 use Rattle.states.specs.declared.thread.ThreadWords.{ThreadWords}
-use Rattle.states.specs.inner.Threads.{wordsOf, threadIn}
+use Rattle.states.specs.inner.Threads.{threadWordsOf, threadIn}
 use Rattle.states.proofs.StackLaws.{withContinuation, top-item-is}
-use Rattle.acts.specs.declared.act.Acted.{Acted}
-use Rattle.acts.specs.inner.Fates.{popped, turned, Room}
-use Rattle.turns.specs.declared.view.View.{View}
+use Rattle.acts.specs.declared.act.Action.{Action}
+use Rattle.acts.specs.inner.Transitions.{popped, turned, HasRoom}
+use Rattle.turns.specs.declared.counts.Counts.{Counts}
 use Rattle.turns.specs.inner.Actions.{actIn, turnAct}
-use Rattle.turns.specs.inner.Acts.{ActedOn, actedOn, turnIn, topIn, variablesIn, Views, WholeTurn}
+use Rattle.turns.specs.inner.Acts.{TurnOutcome, turnOutcome, turnIn, topIn, variablesIn, Seen, WholeTurn}
 use Rattle.turns.specs.inner.Acts.{TurnWords}
 use Rattle.turns.proofs.TurnLaws.{act-turns}
 use Rattle.reach.proofs.Passed.{order, inside, some-frame}
@@ -79,7 +79,7 @@ module _ (frames : List ℕ) (shared : ℕ) (w : List ℕ) (h : StepWords frames
   abbrev n : ℕ
   n = programOf (framesOf frames) .schedulers
 
-  read : th ≡ wordsOf x
+  read : th ≡ threadWordsOf x
   read = thread-read frames shared w h t low high
 
   fits : ThreadFits (framesOf frames) n x
@@ -108,8 +108,8 @@ module _ (frames : List ℕ) (shared : ℕ) (w : List ℕ) (h : StepWords frames
         let r : 1042 + 55 * (who .thread - 1) + 29 ≡ 1042 + 55 * (t - 1) + 29 = omega arith in
         record { all = long; first = omega arith; last = omega arith; few = rw r b }
 
-    variables-are : variablesOf who w ≡ variablesIn th
-    unfolding variablesOf variableCount part
+    variables-are : lentVariables who w ≡ variablesIn th
+    unfolding lentVariables variableCount part
     variables-are =
         ap (λ (i : ℕ). take (getD w (1042 + 55 * (i - 1) + 29) 0)
         (list.drop (1042 + 55 * (i - 1) + 29 + 1) w)) e
@@ -130,7 +130,7 @@ module _ (frames : List ℕ) (shared : ℕ) (w : List ℕ) (h : StepWords frames
   values-in (v ∷ vs) (more p f) zero g = value-in v p
   values-in (v ∷ vs) (more p f) (suc k) g = values-in vs f k (omega arith)
 
-  variables-in : ValueWords (variablesIn (wordsOf x))
+  variables-in : ValueWords (variablesIn (threadWordsOf x))
   variables-in = subst ValueWords (sym (variables-words x (fits .variables-room))) (values-in (x .variables) (fits .values))
 
   -- ---- the top item: one that is a statement's is a frame of the file
@@ -155,11 +155,11 @@ module _ (frames : List ℕ) (shared : ℕ) (w : List ℕ) (h : StepWords frames
   item-there drop f g = absurd (omega arith)
 
   -- where there is no item, its word is 0, which is a frame of every file
-  top-there : topIn (wordsOf x) < 1024 → topIn (wordsOf x) < length frames
+  top-there : topIn (threadWordsOf x) < 1024 → topIn (threadWordsOf x) < length frames
   top-there = go (x .continuation) refl (fits .items) (fits .items-room)
     where
       Goal : List Item → Type 0
-      Goal is = topIn (wordsOf (withContinuation is x)) < 1024 → topIn (wordsOf (withContinuation is x)) < length frames
+      Goal is = topIn (threadWordsOf (withContinuation is x)) < 1024 → topIn (threadWordsOf (withContinuation is x)) < length frames
 
       go : (is : List Item) → x .continuation ≡ is → All (ItemFits (framesOf frames) n) is
           → length is ≤ 25 → Goal (x .continuation)
@@ -178,13 +178,13 @@ module _ (frames : List ℕ) (shared : ℕ) (w : List ℕ) (h : StepWords frames
       let z : 1024 + q - 1024 ≡ q = omega arith in rw z (has-place n q p .0)
   item-place drop f a b = absurd (omega arith)
 
-  top-place : 1024 ≤ topIn (wordsOf x) → topIn (wordsOf x) < 2048
-      → isPlace (topIn (wordsOf x) - 1024) ≡ true
+  top-place : 1024 ≤ topIn (threadWordsOf x) → topIn (threadWordsOf x) < 2048
+      → isPlace (topIn (threadWordsOf x) - 1024) ≡ true
   top-place = go (x .continuation) refl (fits .items) (fits .items-room)
     where
       Goal : List Item → Type 0
-      Goal is = 1024 ≤ topIn (wordsOf (withContinuation is x)) → topIn (wordsOf (withContinuation is x)) < 2048
-          → isPlace (topIn (wordsOf (withContinuation is x)) - 1024) ≡ true
+      Goal is = 1024 ≤ topIn (threadWordsOf (withContinuation is x)) → topIn (threadWordsOf (withContinuation is x)) < 2048
+          → isPlace (topIn (threadWordsOf (withContinuation is x)) - 1024) ≡ true
 
       go : (is : List Item) → x .continuation ≡ is → All (ItemFits (framesOf frames) n) is
           → length is ≤ 25 → Goal (x .continuation)
@@ -192,17 +192,17 @@ module _ (frames : List ℕ) (shared : ℕ) (w : List ℕ) (h : StepWords frames
       go (i ∷ is) e (more p f) l = subst Goal (sym e) (λ a b. let q = top-item-is (withContinuation is x) i (omega arith) in rw q (item-place i p (rw q at a) (rw q at b)))
 
   -- ---- the cells: the words from 4562 on
-  size : (v : List ℕ) → length v ≡ length w → length (cellsOf v) ≡ 256
-  unfolding cellsOf
+  size : (v : List ℕ) → length v ≡ length w → length (lentCells v) ≡ 256
+  unfolding lentCells
   size v l =
       let z = long in
       let r : length v - 4562 ≡ 256 = omega arith in
       length-drop 4562 v ∙ r
 
-  cells-are : cellsOf w ≡ cellWords (s .cells)
-  unfolding cellsOf
+  cells-are : lentCells w ≡ cellWords (s .cells)
+  unfolding lentCells
   cells-are =
-      ext-getD 0 (cellsOf w) (cellWords (s .cells)) (size w refl ∙ sym (cells-length (s .cells)))
+      ext-getD 0 (lentCells w) (cellWords (s .cells)) (size w refl ∙ sym (cells-length (s .cells)))
       (λ j g.
       let l : j < 256 = rw (size w refl) at g in
       getD-drop 4562 w j 0 ∙ says frames shared w h .cell j l ∙ sym (cells-at (s .cells) j l))
@@ -212,77 +212,82 @@ module _ (frames : List ℕ) (shared : ℕ) (w : List ℕ) (h : StepWords frames
       (record { count = refl; words = refl; room = shaped frames shared w h .cells-room; each = λ k g. shaped frames shared w h .cells k g .value })
 
   -- how many are in use
-  count-is : countOf w ≡ usedCells (s .cells)
-  unfolding countOf
+  count-is : lentCount w ≡ usedCells (s .cells)
+  unfolding lentCount
   count-is = says frames shared w h .cells
 
   -- words that are as before but for the cells and their count
-  module _ (v : List ℕ) (e : restOf v ≡ restOf w) (l : length v ≡ length w) where
-    rest-at : (u : List ℕ) (j : ℕ) → (j ≡ 1 → ⊥) → j < 4562 → getD (restOf u) j 0 ≡ getD u j 0
-    unfolding restOf
+  module _ (v : List ℕ) (e : lentRest v ≡ lentRest w) (l : length v ≡ length w) where
+    rest-at : (u : List ℕ) (j : ℕ) → (j ≡ 1 → ⊥) → j < 4562 → getD (lentRest u) j 0 ≡ getD u j 0
+    unfolding lentRest
     rest-at u j d m = getD-set-other (take 4562 u) 1 j 0 0 d ∙ getD-take 4562 u j 0 m
 
     abbrev put : List ℕ
-    put = pasted w 4562 (cellsOf v) 256
+    put = pasted w 4562 (lentCells v) 256
 
     words-room : 4562 + 256 ≤ length w
     words-room = let z = long in omega arith
 
-    cells-room : 256 ≤ length (cellsOf v)
+    cells-room : 256 ≤ length (lentCells v)
     cells-room = rw (size v l) (omega arith)
 
     put-length : length put ≡ length w
-    put-length = pasted-length w 4562 (cellsOf v) 256 words-room cells-room
+    put-length = pasted-length w 4562 (lentCells v) 256 words-room cells-room
 
     word : (j : ℕ) → j < 4818 → (a b : Bool) → eqb j 1 ≡ a → ltb j 4562 ≡ b
-        → getD v j 0 ≡ getD (set put 1 (countOf v)) j 0
-    unfolding countOf cellsOf
+        → getD v j 0 ≡ getD (set put 1 (lentCount v)) j 0
+    unfolding lentCount lentCells
     word j m true b p q =
         let i : j ≡ 1 = eqb-true j 1 p in
         let z = long in
         let y = put-length in
         ap (λ (k : ℕ). getD v k 0) i
-        ∙ sym (getD-set-same put 1 (countOf v) 0 (omega arith))
-        ∙ ap (λ (k : ℕ). getD (set put 1 (countOf v)) k 0) (sym i)
+        ∙ sym (getD-set-same put 1 (lentCount v) 0 (omega arith))
+        ∙ ap (λ (k : ℕ). getD (set put 1 (lentCount v)) k 0) (sym i)
     word j m false true p q =
         let d = eqb-false j 1 p in
         let i : j < 4562 = ltb-true j 4562 q in
         sym (rest-at v j d i)
         ∙ ap (λ (u : List ℕ). getD u j 0) e
         ∙ rest-at w j d i
-        ∙ sym (pasted-out w 4562 (cellsOf v) 256 words-room cells-room j (λ a b. omega arith))
-        ∙ sym (getD-set-other put 1 j (countOf v) 0 d)
+        ∙ sym (pasted-out w 4562 (lentCells v) 256 words-room cells-room j (λ a b. omega arith))
+        ∙ sym (getD-set-other put 1 j (lentCount v) 0 d)
     word j m false false p q =
         let d = eqb-false j 1 p in
         let i : 4562 ≤ j = ltb-false j 4562 q in
         let y : 4562 + (j - 4562) ≡ j = omega arith in
         ap (λ (k : ℕ). getD v k 0) (sym y)
         ∙ sym (getD-drop 4562 v (j - 4562) 0)
-        ∙ sym (pasted-in w 4562 (cellsOf v) 256 words-room cells-room (j - 4562) (omega arith))
+        ∙ sym (pasted-in w 4562 (lentCells v) 256 words-room cells-room (j - 4562) (omega arith))
         ∙ ap (λ (k : ℕ). getD put k 0) y
-        ∙ sym (getD-set-other put 1 j (countOf v) 0 d)
+        ∙ sym (getD-set-other put 1 j (lentCount v) 0 d)
 
-    whole : v ≡ set (pasted w 4562 (cellsOf v) 256) 1 (countOf v)
+    whole : v ≡ set (pasted w 4562 (lentCells v) 256) 1 (lentCount v)
     whole =
-        ext-getD 0 v (set put 1 (countOf v)) (l ∙ sym (length-set put 1 (countOf v) ∙ put-length))
+        ext-getD 0 v (set put 1 (lentCount v))
+        (l ∙ sym (length-set put 1 (lentCount v) ∙ put-length))
         (λ j g.
         let z = long in
         word j (omega arith) (eqb j 1) (ltb j 4562) refl refl)
 
   -- ---- `act`, on what is seen of the thread, its top item, its variables and the cells
+  abbrev whoAt : Place → Who
+  whoAt p = record { thread = t; place = p; shared = shared }
+
   module _
-      (v : View) (item : ℕ) (who : Who) (seen : Views v th) (top : item ≡ topIn th)
-      (is : who ≡ record { thread = t; place = v .place; shared = shared }) where
-    sees : Views v (wordsOf x)
-    sees = subst (Views v) read seen
+      (p : Place) (counts : Counts) (item : ℕ) (seen : Seen (whoAt p) counts th)
+      (top : item ≡ topIn th) where
+    abbrev who : Who
+    who = whoAt p
 
-    acting : who .thread ≡ t
-    acting = ap (λ (y : Who). y .thread) is
+    sees : Seen who counts (threadWordsOf x)
+    sees = subst (Seen who counts) read seen
 
-    variables : variablesOf who w ≡ variablesIn th
-    variables = variables-are who acting
+    variables : lentVariables who w ≡ variablesIn th
+    variables = variables-are who refl
 
-    pub act-asks : TurnWords frames v (variablesOf who w) (countOf w) (cellsOf w) × Lent who w
+    pub act-asks : TurnWords frames who counts (lentVariables who w) (lentCount w) (lentCells w)
+        × Lent who w
         × (item < 1024 → item < length frames)
         × (1024 ≤ item → item < 2048 → isPlace (item - 1024) ≡ true)
     act-asks = (
@@ -295,52 +300,50 @@ module _ (frames : List ℕ) (shared : ℕ) (w : List ℕ) (h : StepWords frames
         count = ap length variables
             ∙ length-take-le (th .values) (th .variables)
             (let a = values-read in let b = wide in omega arith)
-            ∙ seen .values;
+            ∙ seen .variables;
         variables = subst ValueWords (sym (variables ∙ ap variablesIn read)) variables-in;
         cells = rw (count-is, cells-are) cells-in;
       },
-      lent who acting,
+      lent who refl,
       subst (λ (i : ℕ). i < 1024 → i < length frames) (sym (top ∙ ap topIn read)) top-there,
       subst (λ (i : ℕ). 1024 ≤ i → i < 2048 → isPlace (i - 1024) ≡ true)
           (sym (top ∙ ap topIn read)) top-place,
     )
 
-    -- the words behind it are those before with its cells and their count
-    pub act-gives : (a : Acted) (v' : List ℕ)
+    -- the words after it are those before with its cells and their count
+    pub act-gives : (a : Action) (v' : List ℕ)
         → actIn a v'
-        ≡ turnAct (framesOf frames) who v item (variablesOf who w) (countOf w) (cellsOf w)
-        → restOf v' ≡ restOf w → length v' ≡ length w → turnOn a v' frames shared w t
-    unfolding countOf
+        ≡ turnAct (framesOf frames) who counts item (lentVariables who w) (lentCount w)
+        (lentCells w)
+        → lentRest v' ≡ lentRest w → length v' ≡ length w → turnOn a v' frames shared w t
+    unfolding lentCount
     act-gives a v' e k l = record {
-      acted = ap (λ (y : ActedOn). y .acted) same;
+      acted = ap (λ (y : TurnOutcome). y .acted) same;
       words = whole v' k l
-          ∙ ap (λ (y : ActedOn). set (pasted w 4562 (y .cells) 256) 1 (y .acted .used)) same;
+          ∙ ap (λ (y : TurnOutcome). set (pasted w 4562 (y .cells) 256) 1 (y .acted .used)) same;
       whole = ap length (sym cells-left) ∙ size v' l;
-      room = subst (λ (i : ℕ). Room (a .change) (i - 1) (wordsOf x .values)) (sym (sees .items))
-          (subst (Room (a .change) (v .items - 1)) (sym (sees .values)) (r .room));
+      room = subst (λ (i : ℕ). HasRoom (a .change) (i - 1) (threadWordsOf x .values)) (sym (sees .items))
+          (subst (HasRoom (a .change) (counts .items - 1)) (sym (sees .variables)) (r .room));
     }
       where
-        r : WholeTurn a (countOf v') (cellsOf v') v item (variablesOf who w)
-            (λ y. turnIn (framesOf frames) who y (countOf w) (cellsOf w))
-        r = act-turns (framesOf frames) who v item (variablesOf who w) (countOf w) (cellsOf w)
-            a (countOf v') (cellsOf v') e
-
-        at-place : ℕ → Who
-        at-place i = record { thread = t; place = record { number = i }; shared = shared }
+        r : WholeTurn a (lentCount v') (lentCells v') who counts item (lentVariables who w)
+            (λ y. turnIn (framesOf frames) who y (lentCount w) (lentCells w))
+        r = act-turns (framesOf frames) who counts item (lentVariables who w) (lentCount w)
+            (lentCells w) a (lentCount v') (lentCells v') e
 
         who-is : who ≡ whoIn frames shared w t
-        who-is = is ∙ ap at-place (sym (sees .place))
+        who-is = ap (λ (i : ℕ). whoAt (record { number = i })) (sym (sees .place))
 
-        turn-by : Who → ℕ → List ℕ → ActedOn
-        turn-by y i ws = turnIn (framesOf frames) y (wordsOf x) i ws
+        turn-by : Who → ℕ → List ℕ → TurnOutcome
+        turn-by y i ws = turnIn (framesOf frames) y (threadWordsOf x) i ws
 
-        same : actedOn (turned a (countOf v') (popped (wordsOf x))) (cellsOf v')
+        same : turnOutcome (turned a (lentCount v') (popped (threadWordsOf x))) (lentCells v')
             ≡ turnOf frames shared w t
         same =
-            r .thread (wordsOf x) sees (sym (variables ∙ ap variablesIn read))
+            r .thread (threadWordsOf x) sees (sym (variables ∙ ap variablesIn read))
             (sym (top ∙ ap topIn read))
             ∙ ap₂ (turn-by who) count-is cells-are
             ∙ ap (λ (y : Who). turn-by y (usedCells (s .cells)) (cellWords (s .cells))) who-is
 
-        cells-left : cellsOf v' ≡ turnOf frames shared w t .cells
-        cells-left = ap (λ (y : ActedOn). y .cells) same
+        cells-left : lentCells v' ≡ turnOf frames shared w t .cells
+        cells-left = ap (λ (y : TurnOutcome). y .cells) same

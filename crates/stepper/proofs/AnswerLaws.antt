@@ -10,25 +10,25 @@ use lib.ListN.{length, take}
 use borrow.Author.Tests.{eqb-true, eq-eqb, ne-eqb, not-true, not-false}
 use Rattle.basics.proofs.Ifs.{if-all, if-yes, if-no}
 use Rattle.language.specs.declared.frame.Frame.{Frame}
-use Rattle.language.specs.declared.verdict.Verdict.{Verdict}
-use Rattle.language.specs.declared.verdict.Verdict.the-variants.{Accepted, Rejected}
 use Rattle.text.specs.Frames.{framesOf}
 use Rattle.program.specs.Programs.{programOf}
-use Rattle.layout.specs.inner.Layouts.{laidAs, laidOut}
+use Rattle.layout.specs.declared.LayoutVerdict.{LayoutVerdict}
+use Rattle.layout.specs.declared.LayoutVerdict.the-variants.{LaidOut, Rejected}
+use Rattle.layout.specs.inner.Layouts.{laidAs, laidWords}
 use Rattle.layout.specs.declared.Laid.{Laid}
 use Rattle.layout.proofs.AfterLayout.{text-refused, text-passed}
 use Rattle.checker.proofs.CheckLaws.{check-file}
 use Rattle.machine.specs.Fresh.{fresh}
 use Rattle.machine.specs.Words.{pack}
 use Rattle.machine.specs.inner.Ranges.{inRange}
-use Rattle.machine.specs.Calls.{Called, freshCall, stepCall}
+use Rattle.machine.specs.Calls.{CallResult, freshCall, stepCall}
 use Rattle.machine.proofs.Calls.{called-out}
 use Rattle.states.proofs.FreshWords.{call-wrong, call-fresh}
 use Rattle.stepper.specs.declared.answer.Answer.{Answer}
 use Rattle.stepper.specs.declared.answer.Answer.the-variants as A
 use Rattle.stepper.specs.declared.file.File.{File}
-use Rattle.stepper.specs.declared.party.Stepped.{Stepped}
-use Rattle.stepper.specs.Answers.{numberOf, threadOf, answerTo, answered, calledAs, onText}
+use Rattle.stepper.specs.declared.party.StepAnswer.{StepAnswer}
+use Rattle.stepper.specs.Answers.{answerNumber, answerThread, answerTo, textResult, asTextResult, onText}
 use Rattle.stepper.specs.Answers.{freshText, stepText}
 use Rattle.stepper.specs.inner.Files.{FileWords, StepWords, fileOf, steppedOn}
 
@@ -43,14 +43,15 @@ module _ (n t : ℕ) where
   answer-refused h = sym (if-no _ _ (ne-eqb n 0 h))
 
   -- the enum says 01's number, and the acting thread
-  pub number-back : numberOf (answerTo n t) ≡ n
+  pub number-back : answerNumber (answerTo n t) ≡ n
   unfolding answerTo
   number-back =
-      if-all (λ (a : Answer). numberOf a ≡ n) (eqb n 0) _ _ (λ e. sym (eqb-true n 0 e)) (λ _. refl)
+      if-all (λ (a : Answer). answerNumber a ≡ n) (eqb n 0) _ _ (λ e. sym (eqb-true n 0 e))
+      (λ _. refl)
 
-  pub thread-back : threadOf (answerTo n t) ≡ t
+  pub thread-back : answerThread (answerTo n t) ≡ t
   unfolding answerTo
-  thread-back = if-all (λ (a : Answer). threadOf a ≡ t) (eqb n 0) _ _ (λ _. refl) (λ _. refl)
+  thread-back = if-all (λ (a : Answer). answerThread a ≡ t) (eqb n 0) _ _ (λ _. refl) (λ _. refl)
 
 pub ruleset answer-laws = (answer-done, answer-refused)
 
@@ -67,55 +68,57 @@ module _ (frames w : List ℕ) (file : File) (e : file ≡ fileOf (programOf (fr
   range-of x q = q ∙ ap (λ (f : File). inRange (framesOf frames) (f .schedulers) w) e
 
   pub step-out : (x : Bool) (c : ℕ) → x ≡ inRange (framesOf frames) (file .schedulers) w
-      → not x ≡ true → answered (A.Refused 14 0) w ≡ calledAs (stepCall (framesOf frames) w c)
+      → not x ≡ true → textResult (A.Refused 14 0) w ≡ asTextResult (stepCall (framesOf frames) w c)
   step-out x c q h =
-      ap (λ (a : Answer). answered a w) refused-14
-      ∙ sym (ap calledAs (called-out (framesOf frames) w c (sym (range-of x q) ∙ not-true x h)))
+      ap (λ (a : Answer). textResult a w) refused-14
+      ∙ sym (ap asTextResult (called-out (framesOf frames) w c (sym (range-of x q) ∙ not-true x h)))
 
   pub step-words : (x : Bool) → x ≡ inRange (framesOf frames) (file .schedulers) w → not x ≡ false
       → FileWords frames → StepWords frames (file .shared) w
   step-words x q h g = record { file = g; count = ap (λ (f : File). f .shared) e; range = sym (range-of x q) ∙ not-false x h }
 
-pub step-in : (s : Stepped) (r : Answer) (v : List ℕ) (k : Called) → steppedOn s v ≡ k
-    → r ≡ answerTo (s .answer) (s .thread) → answered r v ≡ calledAs k
-step-in s r v k e h = ap (λ (a : Answer). answered a v) h ∙ ap calledAs e
+pub step-in : (s : StepAnswer) (r : Answer) (v : List ℕ) (k : CallResult) → steppedOn s v ≡ k
+    → r ≡ answerTo (s .answer) (s .thread) → textResult r v ≡ asTextResult k
+step-in s r v k e h = ap (λ (a : Answer). textResult a v) h ∙ ap asTextResult e
 
--- ---- a text: a rejected one gives that refusal whatever the call (`by-reading`), an accepted one
--- what the call gives (`by-call`)
-module _ (bs : List ℕ) (l : Laid) (ws : List ℕ) (e : laidAs l ws ≡ laidOut bs) where
-  module _ (v : Verdict) (n j : ℕ) (h : v ≡ l .verdict) (z : v ≡ Rejected n j) where
-    pub fresh-rejected : (w : List ℕ) → answered (A.Rejected n j) w ≡ freshText bs w
+-- ---- a text: a rejected one gives that refusal whatever the call (`by-reading`), one that is laid
+-- out what the call gives (`by-call`)
+module _ (bs : List ℕ) (l : Laid) (ws : List ℕ) (e : laidAs l ws ≡ laidWords bs) where
+  module _ (v : LayoutVerdict) (n j : ℕ) (h : v ≡ l .verdict) (z : v ≡ Rejected n j) where
+    pub fresh-rejected : (w : List ℕ) → textResult (A.Rejected n j) w ≡ freshText bs w
     unfolding freshText
     fresh-rejected w = text-refused _ _ bs (laidAs l ws) e n j (sym h ∙ z)
 
-    pub step-rejected : (w : List ℕ) (c : ℕ) → answered (A.Rejected n j) w ≡ stepText bs w c
+    pub step-rejected : (w : List ℕ) (c : ℕ) → textResult (A.Rejected n j) w ≡ stepText bs w c
     unfolding stepText
     step-rejected w c = text-refused _ _ bs (laidAs l ws) e n j (sym h ∙ z)
 
-  module _ (v : Verdict) (h : v ≡ l .verdict) (a : v ≡ Accepted) where
+  module _ (v : LayoutVerdict) (h : v ≡ l .verdict) (a : v ≡ LaidOut) where
     pub text-file : (n : ℕ) → n ≡ l .count → FileWords (take n ws)
     text-file n q =
         let g = check-file bs l ws e v h a n q in record { laid-out = g .laid-out; few = g .few }
 
-    pub by-call : (call : List Frame → Called) (w : List ℕ) (n : ℕ) → n ≡ l .count
-        → calledAs (call (framesOf (take n ws))) ≡ onText bs w call
-    by-call call w n q = text-passed (λ n j. answered (A.Rejected n j) w) (λ fs. calledAs (call fs)) bs (laidAs l ws) e (sym h ∙ a) n q
+    pub by-call : (call : List Frame → CallResult) (w : List ℕ) (n : ℕ) → n ≡ l .count
+        → asTextResult (call (framesOf (take n ws))) ≡ onText bs w call
+    by-call call w n q = text-passed (λ n j. textResult (A.Rejected n j) w) (λ fs. asTextResult (call fs)) bs (laidAs l ws) e (sym h ∙ a) n q
 
     pub fresh-wrong : (w : List ℕ) → (length w ≡ 4818 → ⊥)
-        → answered (A.Refused 14 0) w ≡ freshText bs w
+        → textResult (A.Refused 14 0) w ≡ freshText bs w
     unfolding freshText
     fresh-wrong w f =
-        ap (λ (x : Answer). answered x w) refused-14 ∙ ap calledAs (call-wrong (take (l .count) ws) w f) ∙ by-call (λ fs. freshCall fs w) w (l .count) refl
+        ap (λ (x : Answer). textResult x w) refused-14 ∙ ap asTextResult
+        (call-wrong (take (l .count) ws) w f) ∙ by-call (λ fs. freshCall fs w) w (l .count) refl
 
     pub fresh-done : (w u : List ℕ) (n : ℕ) → n ≡ l .count
         → u ≡ pack (fresh (programOf (framesOf (take n ws)))) → length w ≡ 4818
-        → answered (A.Done 0) u ≡ freshText bs w
+        → textResult (A.Done 0) u ≡ freshText bs w
     unfolding freshText
     fresh-done w u n q z k =
-        ap (λ (x : Answer). answered x u) done-0 ∙ ap calledAs (call-fresh (take n ws) w u k z) ∙ by-call (λ fs. freshCall fs w) w n q
+        ap (λ (x : Answer). textResult x u) done-0
+        ∙ ap asTextResult (call-fresh (take n ws) w u k z) ∙ by-call (λ fs. freshCall fs w) w n q
 
     pub step-done : (w u : List ℕ) (c n : ℕ) (r : Answer) → n ≡ l .count
-        → answered r u ≡ calledAs (stepCall (framesOf (take n ws)) w c)
-        → answered r u ≡ stepText bs w c
+        → textResult r u ≡ asTextResult (stepCall (framesOf (take n ws)) w c)
+        → textResult r u ≡ stepText bs w c
     unfolding stepText
     step-done w u c n r q z = z ∙ by-call (λ fs. stepCall fs w c) w n q

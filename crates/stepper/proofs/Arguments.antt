@@ -35,7 +35,8 @@ unfolding statementAt statementTo
 few-arguments-at fs i = of (frameAt fs i .kind)
   where
     by : (k : StatementKind)
-        → FewArguments (statementWith (λ j. expressionAt fs j) (λ j. statementTo i fs j) i (frameAt fs i) k)
+        → FewArguments
+        (statementWith (λ j. expressionAt fs j) (λ j. statementTo i fs j) i (frameAt fs i) k)
     by K.Nothing = tt
     by K.Then = tt
     by K.DoAt = tt
@@ -48,7 +49,8 @@ few-arguments-at fs i = of (frameAt fs i .kind)
     by K.While = tt
 
     of : (k : Kind)
-        → FewArguments (statementOf (λ j. expressionAt fs j) (λ j. statementTo i fs j) i (frameAt fs i) k)
+        → FewArguments
+        (statementOf (λ j. expressionAt fs j) (λ j. statementTo i fs j) i (frameAt fs i) k)
     of (Statement k) = by k
     of (Expression k) = tt
     of Header = tt

@@ -9,23 +9,23 @@ use lib.ListN.{length, getD, take, drop, set, length-set}
 use lib.Seq.{take-all, take-suc-set, drop-cons, drop-length, append-snoc}
 use borrow.Author.Tests.{eq-eqb, ne-eqb, not-true}
 use Rattle.basics.proofs.Ifs.{if-yes, if-no}
-use Rattle.language.specs.declared.verdict.Verdict.{Verdict}
-use Rattle.language.specs.declared.verdict.Verdict.the-variants.{Accepted, Rejected}
 use Rattle.text.specs.Frames.{framesOf}
 use Rattle.program.specs.Programs.{programOf}
-use Rattle.layout.specs.inner.Layouts.{laidAs, laidOut}
+use Rattle.layout.specs.declared.LayoutVerdict.{LayoutVerdict}
+use Rattle.layout.specs.declared.LayoutVerdict.the-variants.{LaidOut, Rejected}
+use Rattle.layout.specs.inner.Layouts.{laidAs, laidWords}
 use Rattle.layout.specs.declared.Laid.{Laid}
 use Rattle.layout.proofs.AfterLayout.{text-refused, text-passed}
 use Rattle.machine.specs.inner.Ranges.{inRange}
-use Rattle.machine.specs.Calls.{Called, stepCall, callsFrom, wordsFrom}
+use Rattle.machine.specs.Calls.{CallResult, stepCall, callsFrom, wordsFrom}
 use Rattle.machine.proofs.Calls.{step-packs}
 use Rattle.machine.proofs.InShape.{shaped-in-range}
 use Rattle.machine.proofs.KeptShape.{keeps-step}
 use Rattle.stepper.specs.declared.answer.Answer.{Answer}
 use Rattle.stepper.specs.declared.answer.Answer.the-variants as A
 use Rattle.stepper.specs.declared.file.File.{File}
-use Rattle.stepper.specs.declared.party.Stepped.{Stepped}
-use Rattle.stepper.specs.Batches.{answerWord, batch, stepsCall, stepsText}
+use Rattle.stepper.specs.declared.party.StepAnswer.{StepAnswer}
+use Rattle.stepper.specs.Answers.{answerWord, batchResult, stepsCall, stepsText}
 use Rattle.stepper.specs.inner.Files.{StepWords, stateIn, fileOf, steppedOn}
 use Rattle.stepper.proofs.GoodWords.{fits-in, shaped}
 
@@ -37,7 +37,8 @@ step-good frames shared w c h =
       file = h .file;
       count = h .count;
       range =
-          ap (inRange (framesOf frames) (programOf (framesOf frames) .schedulers)) (step-packs (framesOf frames) w c (h .range))
+          ap (inRange (framesOf frames) (programOf (framesOf frames) .schedulers))
+          (step-packs (framesOf frames) w c (h .range))
           ∙ shaped-in-range (framesOf frames) _ _ (keeps-step (framesOf frames) (programOf (framesOf frames)) _ (fits-in frames shared w h) (stateIn frames w) c (shaped frames shared w h));
     }
 
@@ -58,12 +59,12 @@ stepping-start frames shared cs w out h =
     record { few = omega arith; long = refl; wide = refl; good = h; words = refl; answers = refl }
 
 module _ (frames : List ℕ) (shared : ℕ) (cs old w before out : List ℕ) (k : ℕ) (r : Stepping frames shared cs old w before out k) where
-  module _ (room : length before ≡ length cs) (h : k < length cs) (s : Stepped) (v : List ℕ) (a : ℕ) (z : steppedOn s v ≡ stepCall (framesOf frames) w (getD cs k 0)) (e : a ≡ s .answer * 65536 + s .thread) where
-    abbrev next : Called
+  module _ (room : length before ≡ length cs) (h : k < length cs) (s : StepAnswer) (v : List ℕ) (a : ℕ) (z : steppedOn s v ≡ stepCall (framesOf frames) w (getD cs k 0)) (e : a ≡ s .answer * 65536 + s .thread) where
+    abbrev next : CallResult
     next = stepCall (framesOf frames) w (getD cs k 0)
 
     words-next : v ≡ next .words
-    words-next = ap (λ (x : Called). x .words) z
+    words-next = ap (λ (x : CallResult). x .words) z
 
     one-more : k + 1 ≡ suc k
     one-more = omega arith
@@ -101,7 +102,8 @@ module _ (frames : List ℕ) (shared : ℕ) (cs old w before out : List ℕ) (k 
           words = words-from ∙ r .words;
           answers =
               ap (λ (x : List ℕ). x ++ map answerWord (callsFrom (framesOf frames) v (drop (k + 1) cs))) first
-              ∙ append-snoc (take k out) a (map answerWord (callsFrom (framesOf frames) v (drop (k + 1) cs)))
+              ∙ append-snoc (take k out) a
+              (map answerWord (callsFrom (framesOf frames) v (drop (k + 1) cs)))
               ∙ ap (λ (x : List ℕ). take k out ++ x) calls-from
               ∙ r .answers;
         }
@@ -122,7 +124,8 @@ module _ (frames : List ℕ) (shared : ℕ) (cs old w before out : List ℕ) (k 
     stepping-answers room =
         sym (take-all k out (let l = r .wide in omega arith))
         ∙ sym (append-nil (take k out))
-        ∙ ap (λ (x : List ℕ). take k out ++ map answerWord (callsFrom (framesOf frames) w x)) (sym none-left)
+        ∙ ap (λ (x : List ℕ). take k out ++ map answerWord (callsFrom (framesOf frames) w x))
+        (sym none-left)
         ∙ r .answers
 
 -- ---- on frames: 14, or all choices
@@ -135,7 +138,7 @@ module _ (frames w cs out : List ℕ) where
   and-off false = refl
 
   pub steps-wrong : (length out ≡ length cs → ⊥)
-      → batch (A.Refused 14 0) w out ≡ stepsCall (framesOf frames) w cs out
+      → batchResult (A.Refused 14 0) w out ≡ stepsCall (framesOf frames) w cs out
   unfolding stepsCall
   steps-wrong f = sym (if-no _ _ (ap (λ (b : Bool). b && F) (ne-eqb (length out) (length cs) f)))
 
@@ -144,30 +147,31 @@ module _ (frames w cs out : List ℕ) where
     range-of = q ∙ ap (λ (f : File). inRange (framesOf frames) (f .schedulers) w) e
 
     pub steps-out : not x ≡ true
-        → batch (A.Refused 14 0) w out ≡ stepsCall (framesOf frames) w cs out
+        → batchResult (A.Refused 14 0) w out ≡ stepsCall (framesOf frames) w cs out
     unfolding stepsCall
     steps-out h = sym (if-no _ _ (ap (λ (b : Bool). eqb (length out) (length cs) && b) (sym range-of ∙ not-true x h) ∙ and-off (eqb (length out) (length cs))))
 
   pub steps-in : (shared : ℕ) (v u : List ℕ) → StepWords frames shared w → length out ≡ length cs
       → v ≡ wordsFrom (framesOf frames) w cs → u ≡ map answerWord (callsFrom (framesOf frames) w cs)
-      → batch (A.Done 0) v u ≡ stepsCall (framesOf frames) w cs out
+      → batchResult (A.Done 0) v u ≡ stepsCall (framesOf frames) w cs out
   unfolding stepsCall
   steps-in shared v u g l a b =
-      ap₂ (batch (A.Done 0)) a b
+      ap₂ (batchResult (A.Done 0)) a b
       ∙ sym (if-yes _ _ (ap₂ _&&_ (eq-eqb (length out) (length cs) l) (g .range)))
 
 -- ---- on a text
-module _ (bs : List ℕ) (l : Laid) (ws : List ℕ) (e : laidAs l ws ≡ laidOut bs)
-    (v : Verdict) (h : v ≡ l .verdict) (w cs out : List ℕ) where
+module _ (bs : List ℕ) (l : Laid) (ws : List ℕ) (e : laidAs l ws ≡ laidWords bs)
+    (v : LayoutVerdict) (h : v ≡ l .verdict) (w cs out : List ℕ) where
   pub steps-rejected : (n j : ℕ) → v ≡ Rejected n j
-      → batch (A.Rejected n j) w out ≡ stepsText bs w cs out
+      → batchResult (A.Rejected n j) w out ≡ stepsText bs w cs out
   unfolding stepsText
   steps-rejected n j z = text-refused _ _ bs (laidAs l ws) e n j (sym h ∙ z)
 
-  pub steps-done : v ≡ Accepted → (n : ℕ) → n ≡ l .count → (r : Answer) (u o : List ℕ)
-      → batch r u o ≡ stepsCall (framesOf (take n ws)) w cs out
-      → batch r u o ≡ stepsText bs w cs out
+  pub steps-done : v ≡ LaidOut → (n : ℕ) → n ≡ l .count → (r : Answer) (u o : List ℕ)
+      → batchResult r u o ≡ stepsCall (framesOf (take n ws)) w cs out
+      → batchResult r u o ≡ stepsText bs w cs out
   unfolding stepsText
   steps-done a n q r u o z =
       z
-      ∙ text-passed (λ n j. batch (A.Rejected n j) w out) (λ fs. stepsCall fs w cs out) bs (laidAs l ws) e (sym h ∙ a) n q
+      ∙ text-passed (λ n j. batchResult (A.Rejected n j) w out) (λ fs. stepsCall fs w cs out) bs
+      (laidAs l ws) e (sym h ∙ a) n q

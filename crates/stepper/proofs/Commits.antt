@@ -14,13 +14,13 @@ use Rattle.basics.proofs.Ifs.{if-all, if-yes, if-no}
 use Rattle.language.specs.Places.{isScheduler}
 use Rattle.machine.specs.State.{State, Stored, Thread, Entry, noCell, schedulerAt, withThread}
 use Rattle.machine.specs.State.{withCells, withScheduler, enlist, usedCells}
-use Rattle.machine.specs.Turns.{Turn, isSchedulerOf, behindFirst, leave}
+use Rattle.machine.specs.Turns.{Turn, isSchedulerOf, afterFirst, leave}
 use Rattle.machine.specs.Words.{entryWord, cellWord}
 use Rattle.machine.specs.inner.Blocks.{pasted, cellWords}
 use Rattle.machine.proofs.WordLaws.{Says, is-pack, pasted-length, pasted-in, pasted-out}
 use Rattle.machine.proofs.Blocks.{put-cells, cells-length, cells-at}
 use Rattle.machine.proofs.Valid.{no-cell-word}
-use Rattle.states.specs.inner.Threads.{putThread, wordsOf}
+use Rattle.states.specs.inner.Threads.{putThread, threadWordsOf}
 use Rattle.states.proofs.ThreadSays.{store-says}
 use Rattle.lists.proofs.SchedulerSays.{room-says, leave-says, last-says}
 use Rattle.commits.specs.inner.Commits.{clearedIn, settledIn, leftIn, roomIn, joinedIn}
@@ -36,7 +36,7 @@ module _ (v : List ℕ) (s : State) (h : Says v s) where
   left-says u e there short =
       if-all (λ (r : State). Says (leftIn v c) r) (isSchedulerOf (u .program) c) _ s
       (λ q. let l : isScheduler (u .choice) ≡ true = sym e ∙ q in
-      subst (λ (x : List ℕ). Says x (withScheduler (u .choice) (record { active = behindFirst (schedulerAt s (u .choice) .active); next = schedulerAt s (u .choice) .next }) s)) (sym (if-yes _ _ l)) (leave-says v s h c (list-block c l .1) (there q) short))
+      subst (λ (x : List ℕ). Says x (withScheduler (u .choice) (record { active = afterFirst (schedulerAt s (u .choice) .active); next = schedulerAt s (u .choice) .next }) s)) (sym (if-yes _ _ l)) (leave-says v s h c (list-block c l .1) (there q) short))
       (λ q. subst (λ (x : List ℕ). Says x s) (sym (if-no _ _ (sym e ∙ q))) h)
     where
       c : ℕ
@@ -89,7 +89,7 @@ module _ (w : List ℕ) (s : State) (h : Says w s) where
         ∙ cells-at cs j l
 
     pub settled-says : (k : ℕ) (x : Thread) → k < 64 → k < length (s .threads)
-        → Says (settledIn (withCellWords w cs) k (wordsOf x))
+        → Says (settledIn (withCellWords w cs) k (threadWordsOf x))
         (withThread (suc k) x (withCells cs s))
     unfolding settledIn putThread
     settled-says k x a b = store-says _ (withCells cs s) (put-cells w s h cs) k x a b
@@ -102,9 +102,10 @@ module _ (w : List ℕ) (s : State) (h : Says w s) where
         let e =
         cells-out (67 + 130 * (q - 2)) (λ z. omega arith) (omega arith)
         ∙ room-says w s h q (b .1) there in
-        ap (λ (x : Bool). x && leb (getD (withCellWords w cs) (67 + 130 * (q - 2)) 0 + m) 64) l ∙ ap (λ (x : ℕ). leb (x + m) 64) e
+        ap (λ (x : Bool). x && leb (getD (withCellWords w cs) (67 + 130 * (q - 2)) 0 + m) 64) l
+        ∙ ap (λ (x : ℕ). leb (x + m) 64) e
 
-  -- where the turn has made the cells ds behind the old ones, clearing those gives the words of s
+  -- where the turn has made the cells ds after the old ones, clearing those gives the words of s
   -- again
   module _ (ds : List Stored) (few : length (s .cells ++ ds) ≤ 256) where
     abbrev old : ℕ
@@ -156,7 +157,8 @@ module _ (w : List ℕ) (s : State) (h : Says w s) where
         → getD blank (4562 + j) 0 ≡ cellWord (getD (s .cells) j noCell)
     cell j l true b e f =
         let m : j < old = ltb-true j old e in
-        pasted-out made (4562 + old) zeros (all - old) room size (4562 + j) (λ p q. omega arith) ∙ cells-in (s .cells ++ ds) j l
+        pasted-out made (4562 + old) zeros (all - old) room size (4562 + j) (λ p q. omega arith)
+        ∙ cells-in (s .cells ++ ds) j l
         ∙ ap cellWord (List·getD-append (s .cells) ds noCell j m)
     cell j l false true e f =
         let m : old ≤ j = ltb-false j old e in
@@ -170,7 +172,8 @@ module _ (w : List ℕ) (s : State) (h : Says w s) where
         let m : old ≤ j = ltb-false j old e in
         let k : all ≤ j = ltb-false j all f in
         let c = count in
-        pasted-out made (4562 + old) zeros (all - old) room size (4562 + j) (λ p q. omega arith) ∙ cells-in (s .cells ++ ds) j l
+        pasted-out made (4562 + old) zeros (all - old) room size (4562 + j) (λ p q. omega arith)
+        ∙ cells-in (s .cells ++ ds) j l
         ∙ ap cellWord (List·getD-eq-default (s .cells ++ ds) noCell {n = j} k ∙ sym (List·getD-eq-default (s .cells) noCell {n = j} m))
 
     cleared-says : Says cleared s

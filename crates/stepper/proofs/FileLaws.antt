@@ -44,7 +44,8 @@ file-fits words f e g =
 
 pub file-is : (words : List ℕ) (f : Frame) (n a : ℕ) → f ≡ frameOfWord (getD words 0 0)
     → n ≡ length (sharedOf (framesOf words)) → a ≡ allowanceOf (f .a) → FileWords words
-    → _≡_ {A = File} (record { schedulers = f .b; shared = n; allowance = a }) (fileOf (programOf (framesOf words)))
+    → _≡_ {A = File} (record { schedulers = f .b; shared = n; allowance = a })
+    (fileOf (programOf (framesOf words)))
 unfolding programOf
 file-is words f n a e h k g = let z = file-header words g f e in
     ap (λ (x : Frame). record { schedulers = x .b; shared = n; allowance = a }) z

@@ -18,7 +18,7 @@ use Rattle.machine.specs.Shapes.{Shaped, ThreadFits}
 use Rattle.machine.proofs.Valid.{packed}
 use Rattle.machine.proofs.InShape.{in-range-shaped}
 use Rattle.machine.proofs.KeptShape.{FileFits}
-use Rattle.states.specs.inner.Threads.{wordsOf, threadIn}
+use Rattle.states.specs.inner.Threads.{threadWordsOf, threadIn}
 use Rattle.states.proofs.ThreadSays.{load-is}
 use Rattle.reach.proofs.Sizes.{Sized, fields-small}
 use Rattle.reach.proofs.Fits.{file-fits}
@@ -69,10 +69,11 @@ module _ (frames : List ℕ) (shared : ℕ) (w : List ℕ) (h : StepWords frames
     pub in-list : t - 1 < length (s .threads)
     in-list = let z = says .threads in omega arith
 
-    pub thread-read : threadIn w (t - 1) ≡ wordsOf (threadAt s t)
+    pub thread-read : threadIn w (t - 1) ≡ threadWordsOf (threadAt s t)
     thread-read =
         let a = threads-few in
-        load-is w s says (t - 1) (omega arith) ∙ ap (λ (i : ℕ). wordsOf (nth (s .threads) i)) index
+        load-is w s says (t - 1) (omega arith)
+        ∙ ap (λ (i : ℕ). threadWordsOf (nth (s .threads) i)) index
 
     pub fit : ThreadFits fs n (threadAt s t)
     fit = subst (λ (i : ℕ). ThreadFits fs n (nth (s .threads) i)) index (shaped .threads (t - 1) in-list)

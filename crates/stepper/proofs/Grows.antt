@@ -1,5 +1,5 @@
 -- An evaluation only adds cells, and a store that is refused has only added some: so a refused step
--- is taken back by forgetting those behind the old ones. Assumes nothing.
+-- is taken back by forgetting those after the old ones. Assumes nothing.
 use mathlib.Core.Path.{_≡_, refl, sym, ap, _∙_}
 use mathlib.Core.List.{List, [], _∷_, _++_, append-assoc, append-nil}
 use mathlib.Core.Bool.{true, false}
@@ -10,7 +10,7 @@ use Rattle.basics.proofs.Ifs.{if-all}
 use Rattle.program.specs.Trees.{Expr, number, truth, variable, shared, new, content, sum, less}
 use Rattle.program.specs.Trees.{choose}
 use Rattle.machine.specs.State.{Stored, cellAt, isUsed, freeNumber, usedCells}
-use Rattle.machine.specs.Evaluation.{Here, Evaluated, Evaluation, gives, after, andThen, _>>=_}
+use Rattle.machine.specs.Evaluation.{Here, EvalResult, Evaluation, gives, withAccesses, andThen, _>>=_}
 use Rattle.machine.specs.Evaluation.{isOwn, accessOf, accessing, atCell, readVariable, sharedCell}
 use Rattle.machine.specs.Evaluation.{addCell, newOwner, makeCell, readCell, storeCell, putIn}
 use Rattle.machine.specs.Evaluation.{ofNumbers, plus, lessThan, byTruth, aNumber, eval, storing}
@@ -31,10 +31,10 @@ pub grown-on : {cs ds es : List Stored} → Grown cs ds → Grown ds es → Grow
 grown-on {cs} g h = record { more = g .more ++ h .more; is = h .is ∙ ap (λ (l : List Stored). l ++ h .more) (g .is) ∙ append-assoc cs (g .more) (h .more) }
 
 -- ---- evaluations
-abbrev Grows : List Stored → Evaluated → Type 0
+abbrev Grows : List Stored → EvalResult → Type 0
 Grows cs r = Grown cs (r .cells)
 
-grows-andThen : (cs : List Stored) (k : Value → Evaluation) (r : Evaluated) (o : Outcome)
+grows-andThen : (cs : List Stored) (k : Value → Evaluation) (r : EvalResult) (o : Outcome)
     → Grows cs r → ((v : Value) (ds : List Stored) → Grows ds (k v ds)) → Grows cs (andThen k r o)
 grows-andThen cs k r (Is v) g f = grown-on g (f v (r .cells))
 grows-andThen cs k r Foreign g f = g
@@ -48,7 +48,7 @@ grows-then m k cs g f = grows-andThen cs k (m cs) (m cs .outcome) g f
 grows-accessing : (h : Here) (c o : ℕ) (r : Evaluation) (cs : List Stored) → Grows cs (r cs)
     → Grows cs (accessing h c o r cs)
 unfolding accessing
-grows-accessing h c o r cs g = if-all (λ (x : Evaluated). Grows cs (after (accessOf h c o ∷ []) x)) (isOwn h o) (r cs) (gives Foreign cs) (λ _. g) (λ _. grown-same cs)
+grows-accessing h c o r cs g = if-all (λ (x : EvalResult). Grows cs (withAccesses (accessOf h c o ∷ []) x)) (isOwn h o) (r cs) (gives Foreign cs) (λ _. g) (λ _. grown-same cs)
 
 grows-at : (h : Here) (c : ℕ) (r : Evaluation) (cs : List Stored) → Grows cs (r cs)
     → Grows cs (atCell h c r cs)
@@ -100,7 +100,8 @@ grows-eval h (new i s x) cs =
 grows-eval h (content i x) cs =
     grows-then (eval h x) _ cs (grows-eval h x cs) (λ v ds. grows-read h v ds)
 grows-eval h (sum i x y) cs =
-    grows-then (eval h x) _ cs (grows-eval h x cs) (λ v ds. grows-then (eval h y) _ ds (grows-eval h y ds) (λ w es. grows-numbers plus v w es))
+    grows-then (eval h x) _ cs (grows-eval h x cs)
+    (λ v ds. grows-then (eval h y) _ ds (grows-eval h y ds) (λ w es. grows-numbers plus v w es))
 grows-eval h (less i x y) cs =
     grows-then (eval h x) _ cs (grows-eval h x cs) (λ v ds. grows-then (eval h y) _ ds (grows-eval h y ds) (λ w es. grows-numbers lessThan v w es))
 grows-eval h (choose i x y z) cs =
@@ -115,7 +116,7 @@ UnlessValue Foreign A = A
 UnlessValue Spent A = A
 UnlessValue Stuck A = A
 
-abbrev Unless : List Stored → Evaluated → Type 0
+abbrev Unless : List Stored → EvalResult → Type 0
 Unless cs r = UnlessValue (r .outcome) (Grown cs (r .cells))
 
 pub unless-on : (o : Outcome) (cs ds es : List Stored) → Grown cs ds → UnlessValue o (Grown ds es)
@@ -131,7 +132,7 @@ unless-grown Foreign g = g
 unless-grown Spent g = g
 unless-grown Stuck g = g
 
-unless-andThen : (cs : List Stored) (k : Value → Evaluation) (r : Evaluated) (o : Outcome)
+unless-andThen : (cs : List Stored) (k : Value → Evaluation) (r : EvalResult) (o : Outcome)
     → r .outcome ≡ o → Grown cs (r .cells) → ((v : Value) (ds : List Stored) → Unless ds (k v ds))
     → Unless cs (andThen k r o)
 unless-andThen cs k r (Is v) e g f =
@@ -144,7 +145,7 @@ unless-store : (h : Here) (v w : Value) (cs : List Stored) → Unless cs (storeC
 unfolding storeCell atCell accessing
 unless-store h (Cell c) w cs =
     if-all (Unless cs) (isUsed cs c) _ _
-    (λ _. if-all (λ (x : Evaluated). Unless cs (after (accessOf h c (cellAt cs c .owner) ∷ []) x)) (isOwn h (cellAt cs c .owner)) (putIn c w cs) (gives Foreign cs) (λ _. tt) (λ _. grown-same cs))
+    (λ _. if-all (λ (x : EvalResult). Unless cs (withAccesses (accessOf h c (cellAt cs c .owner) ∷ []) x)) (isOwn h (cellAt cs c .owner)) (putIn c w cs) (gives Foreign cs) (λ _. tt) (λ _. grown-same cs))
     (λ _. grown-same cs)
 unless-store h (Number n) w cs = grown-same cs
 unless-store h (Truth b) w cs = grown-same cs

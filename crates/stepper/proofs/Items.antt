@@ -11,15 +11,15 @@ use Rattle.program.specs.Trees.{Expr, Stmt, while, rootS}
 use Rattle.program.specs.Programs.{Program}
 use Rattle.machine.specs.Accesses.{Access}
 use Rattle.machine.specs.State.{State, Stored, Thread, run, drop, usedCells}
-use Rattle.machine.specs.Evaluation.{Here, Evaluated, Evaluation, eval, storing}
-use Rattle.machine.specs.Turns.{Stepped, Turn, continuation, variables, accept, evaluator, behind}
+use Rattle.machine.specs.Evaluation.{Here, EvalResult, Evaluation, eval, storing}
+use Rattle.machine.specs.Turns.{StepResult, Turn, continuation, variables, accept, evaluator, afterEval}
 use Rattle.machine.specs.Turns.{goOn, withValue, withValues, byCondition, stay, settled}
 use Rattle.machine.specs.Statements.{stepNothing, stepSeq, stepStart, stepStartWait, stepLet}
 use Rattle.machine.specs.Statements.{stepStore, stepIf, stepWhile, starting, startedWait}
 use Rattle.machine.specs.Statements.{withStarted, stepStatement}
 use Rattle.machine.specs.Words.{itemWord, valueWord, wordValue}
 use Rattle.machine.specs.inner.Blocks.{cellWords}
-use Rattle.machine.specs.Calls.{calledOf}
+use Rattle.machine.specs.Calls.{asCall}
 use Rattle.machine.specs.declared.value.Value.{Value}
 use Rattle.machine.specs.declared.value.Value.the-variants.{Number, Truth, Cell}
 use Rattle.machine.specs.declared.value.Outcome.{Outcome}
@@ -34,17 +34,17 @@ use Rattle.operations.specs.declared.Who.{Who}
 use Rattle.operations.specs.inner.Results.{Result}
 use Rattle.evaluator.specs.inner.Results.{hereOf, resultOf, onWords}
 use Rattle.evaluator.proofs.Holding.{Holds, holds-cells}
-use Rattle.states.specs.inner.Threads.{wordsOf}
-use Rattle.acts.specs.inner.Fates.{Turned}
-use Rattle.turns.specs.inner.Acts.{ActedOn, actedOn, thenActs, thenOn, byTruthIn, letsOn, storesOn}
+use Rattle.states.specs.inner.Threads.{threadWordsOf}
+use Rattle.acts.specs.inner.Transitions.{TurnResult}
+use Rattle.turns.specs.inner.Acts.{TurnOutcome, turnOutcome, thenActs, thenOn, byTruthIn, letsOn, storesOn}
 use Rattle.turns.specs.inner.Acts.{choosesOn, loopsOn, variablesIn, evaluatedIn, storedIn, request}
-use Rattle.turns.specs.inner.Acts.{startsIn, oneArgument, lastArgument, twoArguments, statementIn}
+use Rattle.turns.specs.inner.Acts.{startTurn, oneArgument, lastArgument, twoArguments, statementIn}
 use Rattle.stepper.proofs.Grows.{Grown, grown-on, grows-eval, UnlessValue, unless-on}
 use Rattle.stepper.proofs.Grows.{unless-grown, grows-storing}
-use Rattle.stepper.proofs.Fates.{Acts, turnAt, commit, commitOn, refuse-is}
+use Rattle.stepper.proofs.Transitions.{Acts, turnAt, commit, commitOn, refuse-is}
 use Rattle.stepper.proofs.Arguments.{FewArguments}
 use Rattle.stepper.proofs.Variables.{variables-words}
-use Rattle.stepper.proofs.StartFates.{argued, start-commits, started-is, waits-is}
+use Rattle.stepper.proofs.StartTransitions.{argued, start-commits, started-is, waits-is}
 use Rattle.stepper.proofs.Moves.{stay-none, stay-one, stay-two, stay-let, does-is}
 use Rattle.stepper.proofs.Moves.{cooperates-is}
 
@@ -60,7 +60,7 @@ module _ {fs : List Frame} {P : Program} {n : ℕ} {w : List ℕ} {s : State} {c
 
   -- ---- an evaluation on words is the one of the rules
   module _ (cs : List Stored) (acc : List Access) where
-    here-same : hereOf who (variablesIn (wordsOf x)) ≡ evaluator (turnAt A x cs acc)
+    here-same : hereOf who (variablesIn (threadWordsOf x)) ≡ evaluator (turnAt A x cs acc)
     here-same = λ i. record {
       thread = W .thread i;
       place = W .place i;
@@ -76,45 +76,46 @@ module _ {fs : List Frame} {P : Program} {n : ℕ} {w : List ℕ} {s : State} {c
       held = record { count = refl; words = refl; room = C .room; each = λ j g. C .each j g .value }
 
       pub evaluation-is : (m : Here → Evaluation)
-          → onWords (m (hereOf who (variablesIn (wordsOf x)))) (usedCells cs) (cellWords cs)
+          → onWords (m (hereOf who (variablesIn (threadWordsOf x)))) (usedCells cs) (cellWords cs)
           ≡ resultOf (m (evaluator (turnAt A x cs acc)) cs)
       unfolding onWords
       evaluation-is m =
-          ap (λ (ds : List Stored). resultOf (m (hereOf who (variablesIn (wordsOf x))) ds)) (holds-cells (usedCells cs) (cellWords cs) cs held)
+          ap (λ (ds : List Stored). resultOf (m (hereOf who (variablesIn (threadWordsOf x))) ds))
+          (holds-cells (usedCells cs) (cellWords cs) cs held)
           ∙ ap (λ (h : Here). resultOf (m h cs)) here-same
 
       pub eval-fits : (e : Expr) → ExprFits n e
           → EvalFits n (eval (evaluator (turnAt A x cs acc)) e cs)
       eval-fits e E = fit-eval (evaluator (turnAt A x cs acc)) cs here-fits C E
 
-  -- ---- behind an evaluation
+  -- ---- after an evaluation
   module _ (cs : List Stored) (acc : List Access) (l : usedCells cs ≤ 256) where
-    then-is : (o : Outcome) (K : Value → Turned) (F : Value → Turn → Stepped)
+    then-is : (o : Outcome) (K : Value → TurnResult) (F : Value → Turn → StepResult)
         → UnlessValue o (Grown (s .cells) cs)
-        → ((v : Value) → o ≡ Is v → commit A (K v) cs ≡ calledOf w (F v (turnAt A x cs acc)))
-        → commit A (thenActs o (wordsOf x) (usedCells cs) K) cs
-        ≡ calledOf w (goOn (turnAt A x cs acc) o F)
+        → ((v : Value) → o ≡ Is v → commit A (K v) cs ≡ asCall w (F v (turnAt A x cs acc)))
+        → commit A (thenActs o (threadWordsOf x) (usedCells cs) K) cs
+        ≡ asCall w (goOn (turnAt A x cs acc) o F)
     then-is (Is v) K F g f = f v refl
-    then-is Foreign K F g f = refuse-is A x cs acc 19 (wordsOf x) g l refl
-    then-is Spent K F g f = refuse-is A x cs acc 17 (wordsOf x) g l refl
-    then-is Stuck K F g f = refuse-is A x cs acc 20 (wordsOf x) g l refl
+    then-is Foreign K F g f = refuse-is A x cs acc 19 (threadWordsOf x) g l refl
+    then-is Spent K F g f = refuse-is A x cs acc 17 (threadWordsOf x) g l refl
+    then-is Stuck K F g f = refuse-is A x cs acc 20 (threadWordsOf x) g l refl
 
-    by-truth : (v : Value) (a b : Turned) (y z : Stepped) → Grown (s .cells) cs
-        → commit A a cs ≡ calledOf w y → commit A b cs ≡ calledOf w z
-        → commit A (byTruthIn v (wordsOf x) (usedCells cs) a b) cs
-        ≡ calledOf w (byCondition (turnAt A x cs acc) v y z)
+    by-truth : (v : Value) (a b : TurnResult) (y z : StepResult) → Grown (s .cells) cs
+        → commit A a cs ≡ asCall w y → commit A b cs ≡ asCall w z
+        → commit A (byTruthIn v (threadWordsOf x) (usedCells cs) a b) cs
+        ≡ asCall w (byCondition (turnAt A x cs acc) v y z)
     by-truth (Truth true) a b y z g f h = f
     by-truth (Truth false) a b y z g f h = h
-    by-truth (Number m) a b y z g f h = refuse-is A x cs acc 20 (wordsOf x) g l refl
-    by-truth (Cell d) a b y z g f h = refuse-is A x cs acc 20 (wordsOf x) g l refl
+    by-truth (Number m) a b y z g f h = refuse-is A x cs acc 20 (threadWordsOf x) g l refl
+    by-truth (Cell d) a b y z g f h = refuse-is A x cs acc 20 (threadWordsOf x) g l refl
 
   module _ (cs : List Stored) (acc : List Access) (C : CellsFit n cs) (g : Grown (s .cells) cs) where
     abbrev u : Turn
     u = turnAt A x cs acc
 
-    -- the value of an expression, and the turn behind it
+    -- the value of an expression, and the turn after it
     module _ (e : Expr) (E : ExprFits n e) where
-      abbrev r : Evaluated
+      abbrev r : EvalResult
       r = eval (evaluator u) e cs
 
       fits : EvalFits n r
@@ -123,55 +124,60 @@ module _ {fs : List Frame} {P : Program} {n : ℕ} {w : List ℕ} {s : State} {c
       grown : Grown (s .cells) (r .cells)
       grown = grown-on g (grows-eval (evaluator u) e cs)
 
-      value-is : (On : Result → ActedOn) (K : Value → Turned) (F : Value → Turn → Stepped)
+      value-is : (On : Result → TurnOutcome) (K : Value → TurnResult) (F : Value → Turn → StepResult)
           → On (resultOf r)
-          ≡ actedOn (thenActs (r .outcome) (wordsOf x) (usedCells (r .cells)) K) (cellWords (r .cells))
-          → ((v : Value) → OutcomeFits (Is v) → commit A (K v) (r .cells) ≡ calledOf w (F v (behind u r)))
-          → commitOn A (On (evaluatedIn who (wordsOf x) e (usedCells cs) (cellWords cs)))
-          ≡ calledOf w (withValue u (λ h. eval h e) F)
+          ≡ turnOutcome (thenActs (r .outcome) (threadWordsOf x) (usedCells (r .cells)) K)
+          (cellWords (r .cells))
+          → ((v : Value) → OutcomeFits (Is v) → commit A (K v) (r .cells) ≡ asCall w (F v (afterEval u r)))
+          → commitOn A (On (evaluatedIn who (threadWordsOf x) e (usedCells cs) (cellWords cs)))
+          ≡ asCall w (withValue u (λ h. eval h e) F)
       value-is On K F z f =
-          ap (λ (q : Result). commitOn A (On q)) (evaluation-is cs acc C (λ h. eval h e)) ∙ ap (commitOn A) z
-          ∙ then-is (r .cells) (acc ++ r .accesses) (fits .cells .room) (r .outcome) K F (unless-grown (r .outcome) grown) (λ v q. f v (subst OutcomeFits q (fits .outcome)))
+          ap (λ (q : Result). commitOn A (On q)) (evaluation-is cs acc C (λ h. eval h e))
+          ∙ ap (commitOn A) z
+          ∙ then-is (r .cells) (acc ++ r .accesses) (fits .cells .room) (r .outcome) K F
+          (unless-grown (r .outcome) grown) (λ v q. f v (subst OutcomeFits q (fits .outcome)))
 
     -- ---- each kind of statement with expressions
     let-is : (e : Expr) (a : Stmt) → ExprFits n e
-        → commitOn A (letsOn (wordsOf x) (rootS a) (evaluatedIn who (wordsOf x) e (usedCells cs) (cellWords cs)))
-        ≡ calledOf w (stepLet u e a)
+        → commitOn A (letsOn (threadWordsOf x) (rootS a) (evaluatedIn who (threadWordsOf x) e (usedCells cs) (cellWords cs)))
+        ≡ asCall w (stepLet u e a)
     unfolding stepLet
     let-is e a E =
-        value-is e E (letsOn (wordsOf x) (rootS a)) _ (λ v y. stay y (run a ∷ drop ∷ continuation y) (variables y ++ (v ∷ []))) refl
+        value-is e E (letsOn (threadWordsOf x) (rootS a)) _
+        (λ v y. stay y (run a ∷ drop ∷ continuation y) (variables y ++ (v ∷ []))) refl
         (λ v _. stay-let A x X (r e E .cells) (acc ++ r e E .accesses) (grown e E) (fits e E .cells .room) v a)
 
     if-is : (e : Expr) (a b : Stmt) → ExprFits n e
-        → commitOn A (choosesOn (wordsOf x) (rootS a) (rootS b) (evaluatedIn who (wordsOf x) e (usedCells cs) (cellWords cs)))
-        ≡ calledOf w (stepIf u e a b)
+        → commitOn A (choosesOn (threadWordsOf x) (rootS a) (rootS b) (evaluatedIn who (threadWordsOf x) e (usedCells cs) (cellWords cs)))
+        ≡ asCall w (stepIf u e a b)
     unfolding stepIf itemWord
     if-is e a b E =
-        value-is e E (choosesOn (wordsOf x) (rootS a) (rootS b)) _ (λ v y. byCondition y v (stay y (run a ∷ continuation y) (variables y)) (stay y (run b ∷ continuation y) (variables y))) refl
+        value-is e E (choosesOn (threadWordsOf x) (rootS a) (rootS b)) _ (λ v y. byCondition y v (stay y (run a ∷ continuation y) (variables y)) (stay y (run b ∷ continuation y) (variables y))) refl
         (λ v _. by-truth (r e E .cells) (acc ++ r e E .accesses) (fits e E .cells .room) v _ _ _ _ (grown e E)
         (stay-one A x X (r e E .cells) (acc ++ r e E .accesses) (grown e E) (fits e E .cells .room) (run a))
         (stay-one A x X (r e E .cells) (acc ++ r e E .accesses) (grown e E) (fits e E .cells .room) (run b)))
 
     while-is : (i : ℕ) (e : Expr) (a : Stmt) → ExprFits n e
-        → commitOn A (loopsOn (wordsOf x) (rootS a) i (evaluatedIn who (wordsOf x) e (usedCells cs) (cellWords cs)))
-        ≡ calledOf w (stepWhile u e a (while i e a))
+        → commitOn A (loopsOn (threadWordsOf x) (rootS a) i (evaluatedIn who (threadWordsOf x) e (usedCells cs) (cellWords cs)))
+        ≡ asCall w (stepWhile u e a (while i e a))
     unfolding stepWhile itemWord
     while-is i e a E =
-        value-is e E (loopsOn (wordsOf x) (rootS a) i) _ (λ v y. byCondition y v (stay y (run a ∷ run (while i e a) ∷ continuation y) (variables y)) (stay y (continuation y) (variables y))) refl
+        value-is e E (loopsOn (threadWordsOf x) (rootS a) i) _ (λ v y. byCondition y v (stay y (run a ∷ run (while i e a) ∷ continuation y) (variables y)) (stay y (continuation y) (variables y))) refl
         (λ v _. by-truth (r e E .cells) (acc ++ r e E .accesses) (fits e E .cells .room) v _ _ _ _ (grown e E)
         (stay-two A x X (r e E .cells) (acc ++ r e E .accesses) (grown e E) (fits e E .cells .room) (run a) (run (while i e a)))
         (stay-none A x X (r e E .cells) (acc ++ r e E .accesses)))
 
     store-is : (d e : Expr) → ExprFits n d → ExprFits n e
-        → commitOn A (storesOn (wordsOf x) (storedIn who (wordsOf x) d e (usedCells cs) (cellWords cs)))
-        ≡ calledOf w (stepStore u d e)
+        → commitOn A (storesOn (threadWordsOf x) (storedIn who (threadWordsOf x) d e (usedCells cs) (cellWords cs)))
+        ≡ asCall w (stepStore u d e)
     unfolding stepStore
     store-is d e D E =
-        ap (λ (q : Result). commitOn A (storesOn (wordsOf x) q)) (evaluation-is cs acc C (λ h. storing h d e))
+        ap (λ (q : Result). commitOn A (storesOn (threadWordsOf x) q))
+        (evaluation-is cs acc C (λ h. storing h d e))
         ∙ then-is (z .cells) (acc ++ z .accesses) (f .cells .room) (z .outcome) _ (λ v y. stay y (continuation y) (variables y)) (unless-on (z .outcome) (s .cells) cs (z .cells) g (grows-storing (evaluator u) d e cs))
         (λ v _. stay-none A x X (z .cells) (acc ++ z .accesses))
       where
-        z : Evaluated
+        z : EvalResult
         z = storing (evaluator u) d e cs
 
         f : EvalFits n (storing (evaluator u) d e cs)
@@ -179,14 +185,14 @@ module _ {fs : List Frame} {P : Program} {n : ℕ} {w : List ℕ} {s : State} {c
 
   -- ---- starts
   module _ (m : ℕ) where
-    abbrev next : Bool → List Value → Turn → Stepped
+    abbrev next : Bool → List Value → Turn → StepResult
     next true args y = startedWait y m args
     next false args y = accept y (withStarted y m args (settled y (y .self)))
 
     start-is : (waits : Bool) (args : List Value) → length args ≤ 2
         → (cs : List Stored) (acc : List Access) (g : Grown (s .cells) cs) (l : usedCells cs ≤ 256)
         → commit A (argued A x (X .place) cs acc g l waits m args) cs
-        ≡ calledOf w (starting (turnAt A x cs acc) m args (next waits args (turnAt A x cs acc)))
+        ≡ asCall w (starting (turnAt A x cs acc) m args (next waits args (turnAt A x cs acc)))
     start-is true args h cs acc g l =
         start-commits A x (X .place) cs acc g l m args true (startedWait (turnAt A x cs acc) m args)
         (λ ob e r less. waits-is A x (X .place) cs acc g l m args (rw (length-map args valueWord) h) ob e less)
@@ -195,43 +201,48 @@ module _ {fs : List Frame} {P : Program} {n : ℕ} {w : List ℕ} {s : State} {c
         (λ ob e r less. started-is A x (X .place) cs acc g l m args (rw (length-map args valueWord) h) ob e less r)
 
     module _ (waits : Bool) (cs : List Stored) (acc : List Access) (C : CellsFit n cs) (g : Grown (s .cells) cs) where
-      then-on : (o : Outcome) (K : Value → ActedOn) (F : Value → Turn → Stepped)
-          → ((v : Value) → o ≡ Is v → commitOn A (K v) ≡ calledOf w (F v (turnAt A x cs acc)))
-          → commitOn A (thenOn o (wordsOf x) (usedCells cs) (cellWords cs) K)
-          ≡ calledOf w (goOn (turnAt A x cs acc) o F)
+      then-on : (o : Outcome) (K : Value → TurnOutcome) (F : Value → Turn → StepResult)
+          → ((v : Value) → o ≡ Is v → commitOn A (K v) ≡ asCall w (F v (turnAt A x cs acc)))
+          → commitOn A (thenOn o (threadWordsOf x) (usedCells cs) (cellWords cs) K)
+          ≡ asCall w (goOn (turnAt A x cs acc) o F)
       then-on (Is v) K F f = f v refl
-      then-on Foreign K F f = refuse-is A x cs acc 19 (wordsOf x) g (C .room) refl
-      then-on Spent K F f = refuse-is A x cs acc 17 (wordsOf x) g (C .room) refl
-      then-on Stuck K F f = refuse-is A x cs acc 20 (wordsOf x) g (C .room) refl
+      then-on Foreign K F f = refuse-is A x cs acc 19 (threadWordsOf x) g (C .room) refl
+      then-on Spent K F f = refuse-is A x cs acc 17 (threadWordsOf x) g (C .room) refl
+      then-on Stuck K F f = refuse-is A x cs acc 20 (threadWordsOf x) g (C .room) refl
 
-      -- the second of two, behind the first one's value
+      -- the second of two, after the first one's value
       last-is : (e : Expr) → ExprFits n e → (v : Value)
-          → commitOn A (lastArgument (request waits m) (wordsOf x) (valueWord v) (evaluatedIn who (wordsOf x) e (usedCells cs) (cellWords cs)))
-          ≡ calledOf w (withValue (turnAt A x cs acc) (λ h. eval h e) (λ d z. starting z m (v ∷ d ∷ []) (next waits (v ∷ d ∷ []) z)))
+          → commitOn A (lastArgument (request waits m) (threadWordsOf x) (valueWord v) (evaluatedIn who (threadWordsOf x) e (usedCells cs) (cellWords cs)))
+          ≡ asCall w (withValue (turnAt A x cs acc) (λ h. eval h e) (λ d z. starting z m (v ∷ d ∷ []) (next waits (v ∷ d ∷ []) z)))
       last-is e E v =
-          value-is cs acc C g e E (lastArgument (request waits m) (wordsOf x) (valueWord v)) _ (λ d z. starting z m (v ∷ d ∷ []) (next waits (v ∷ d ∷ []) z)) refl
+          value-is cs acc C g e E (lastArgument (request waits m) (threadWordsOf x) (valueWord v)) _ (λ d z. starting z m (v ∷ d ∷ []) (next waits (v ∷ d ∷ []) z)) refl
           (λ d _. start-is waits (v ∷ d ∷ []) (omega arith) (r cs acc C g e E .cells) (acc ++ r cs acc C g e E .accesses) (grown cs acc C g e E) (fits cs acc C g e E .cells .room))
 
     starts-is : (waits : Bool) (cs : List Stored) (acc : List Access) (C : CellsFit n cs) (g : Grown (s .cells) cs) (xs : List Expr)
         → length xs ≤ 2 → All (ExprFits n) xs
-        → commitOn A (startsIn who (request waits m) (wordsOf x) (usedCells cs) (cellWords cs) xs)
-        ≡ calledOf w (withValues (turnAt A x cs acc) xs (λ args z. starting z m args (next waits args z)))
+        → commitOn A
+        (startTurn who (request waits m) (threadWordsOf x) (usedCells cs) (cellWords cs) xs)
+        ≡ asCall w
+        (withValues (turnAt A x cs acc) xs (λ args z. starting z m args (next waits args z)))
     unfolding withValues
     starts-is waits cs acc C g [] h none = start-is waits [] (omega arith) cs acc g (C .room)
     starts-is waits cs acc C g (e ∷ []) h (more E none) =
-        value-is cs acc C g e E (oneArgument (request waits m) (wordsOf x)) _ (λ v z. starting z m (v ∷ []) (next waits (v ∷ []) z)) refl
+        value-is cs acc C g e E (oneArgument (request waits m) (threadWordsOf x)) _
+        (λ v z. starting z m (v ∷ []) (next waits (v ∷ []) z)) refl
         (λ v _. start-is waits (v ∷ []) (omega arith) (r cs acc C g e E .cells) (acc ++ r cs acc C g e E .accesses) (grown cs acc C g e E) (fits cs acc C g e E .cells .room))
     starts-is waits cs acc C g (e ∷ d ∷ []) h (more E (more D none)) =
-        ap (λ (q : Result). commitOn A (twoArguments who (request waits m) (wordsOf x) d q)) (evaluation-is cs acc C (λ i. eval i e))
-        ∙ then-on waits (r cs acc C g e E .cells) (acc ++ r cs acc C g e E .accesses) (fits cs acc C g e E .cells) (grown cs acc C g e E) (r cs acc C g e E .outcome) _ _
+        ap (λ (q : Result). commitOn A (twoArguments who (request waits m) (threadWordsOf x) d q))
+        (evaluation-is cs acc C (λ i. eval i e))
+        ∙ then-on waits (r cs acc C g e E .cells) (acc ++ r cs acc C g e E .accesses)
+        (fits cs acc C g e E .cells) (grown cs acc C g e E) (r cs acc C g e E .outcome) _ _
         (λ v _. last-is waits (r cs acc C g e E .cells) (acc ++ r cs acc C g e E .accesses) (fits cs acc C g e E .cells) (grown cs acc C g e E) d D v)
     starts-is waits cs acc C g (e ∷ d ∷ f ∷ xs) h all = absurd (omega arith)
 
   -- ---- every statement
   pub statement-is : (cs : List Stored) (acc : List Access) → CellsFit n cs → Grown (s .cells) cs
       → (st : Stmt) → Parts fs n st → FewArguments st
-      → commitOn A (statementIn who (wordsOf x) (usedCells cs) (cellWords cs) st)
-      ≡ calledOf w (stepStatement (turnAt A x cs acc) st)
+      → commitOn A (statementIn who (threadWordsOf x) (usedCells cs) (cellWords cs) st)
+      ≡ asCall w (stepStatement (turnAt A x cs acc) st)
   unfolding stepNothing stepSeq stepStart stepStartWait itemWord
   statement-is cs acc C g st of-nothing h = stay-none A x X cs acc
   statement-is cs acc C g st of-cooperate h = cooperates-is A x X cs acc g (C .room)

@@ -1,8 +1,8 @@
--- Words to rules: what a refused turn takes back, each change and each fate of a commit.
+-- Words to rules: what a refused turn takes back, each change and each transition of a commit.
 pub mod Grows
 pub mod Commits
-pub mod Fates
-pub mod StartFates
+pub mod Transitions
+pub mod StartTransitions
 -- The turn: by the kind of its top item, then whole (`turn-is`).
 pub mod Moves
 pub mod Arguments

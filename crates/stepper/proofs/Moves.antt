@@ -18,24 +18,24 @@ use Rattle.program.specs.Programs.{Program}
 use Rattle.machine.specs.Accesses.{Access}
 use Rattle.machine.specs.State.{State, Stored, Thread, Item, run, back, drop, plain, enlist}
 use Rattle.machine.specs.State.{usedCells}
-use Rattle.machine.specs.Turns.{stateSpaces, Stepped, Turn, here, continuation, variables, refuse}
+use Rattle.machine.specs.Turns.{stateSpaces, StepResult, Turn, here, continuation, variables, refuse}
 use Rattle.machine.specs.Turns.{accept, selfAt, settled, leave, room, fits, stay, move, goTo}
 use Rattle.machine.specs.Statements.{drops, stepDo, stepCooperate}
 use Rattle.machine.specs.Words.{itemWord, valueWord}
-use Rattle.machine.specs.Calls.{calledOf}
+use Rattle.machine.specs.Calls.{asCall}
 use Rattle.machine.specs.declared.value.Value.{Value}
 use Rattle.machine.specs.declared.value.Value.the-variants.{Number}
 use Rattle.machine.specs.Shapes.{ThreadFits}
 use Rattle.states.specs.declared.thread.ThreadWords.{ThreadWords}
-use Rattle.states.specs.inner.Threads.{wordsOf}
+use Rattle.states.specs.inner.Threads.{threadWordsOf}
 use Rattle.states.specs.inner.Stacks.{pushItem, pushValue, popValue, moveTo}
 use Rattle.states.proofs.StackLaws.{push-item-is, push-value-is, pop-value-is}
-use Rattle.acts.specs.declared.act.Fate.the-variants.{Stays, Leaves, Joins}
-use Rattle.acts.specs.inner.Fates.{Turned, actedIn, refusedIn}
+use Rattle.acts.specs.declared.act.Transition.the-variants.{Stays, Leaves, Joins}
+use Rattle.acts.specs.inner.Transitions.{TurnResult, actedIn, refusedIn}
 use Rattle.turns.specs.inner.Acts.{oneIn, twoIn, letsIn, dropsIn, goesIn, doesIn, cooperatesIn}
 use Rattle.stepper.proofs.Grows.{Grown}
-use Rattle.stepper.proofs.Fates.{Acts, turnAt, commit, place-scheduler, refuse-is, stays-is}
-use Rattle.stepper.proofs.Fates.{leaves-is, joins-is}
+use Rattle.stepper.proofs.Transitions.{Acts, turnAt, commit, place-scheduler, refuse-is, stays-is}
+use Rattle.stepper.proofs.Transitions.{leaves-is, joins-is}
 
 -- ---- a thread's space, by its two counts
 fits-yes : (items : List Item) (vars : List Value) → length items ≤ 25 → length vars ≤ 25
@@ -70,7 +70,8 @@ with-last : (vs : List Value) → 0 < length vs
     → vs ≡ take (length vs - 1) vs ++ (getD vs (length vs - 1) (Number 0) ∷ [])
 with-last vs h =
     let z : suc (length vs - 1) ≡ length vs = omega arith in
-    sym (take-length vs) ∙ ap (λ (i : ℕ). take i vs) (sym z) ∙ take-suc vs (length vs - 1) (Number 0) (omega arith)
+    sym (take-length vs) ∙ ap (λ (i : ℕ). take i vs) (sym z)
+    ∙ take-suc vs (length vs - 1) (Number 0) (omega arith)
 
 module _ {fs : List Frame} {P : Program} {n : ℕ} {w : List ℕ} {s : State} {c k : ℕ} (A : Acts fs P n w s c k) (x : Thread) (X : ThreadFits fs n x) (cs : List Stored) (acc : List Access) where
   abbrev u : Turn
@@ -88,70 +89,77 @@ module _ {fs : List Frame} {P : Program} {n : ℕ} {w : List ℕ} {s : State} {c
 
   -- ---- the thread stays: with the items and variables that it has, with one item more, with two,
   -- with a variable more or less
-  pub stay-none : commit A (actedIn Stays (wordsOf x) (usedCells cs)) cs
-      ≡ calledOf w (stay u items vars)
+  pub stay-none : commit A (actedIn Stays (threadWordsOf x) (usedCells cs)) cs
+      ≡ asCall w (stay u items vars)
   stay-none =
       stays-is A x cs acc x
-      ∙ ap (calledOf w) (sym (stay-yes u items vars (fits-yes items vars (X .items-room) (X .variables-room))))
+      ∙ ap (asCall w)
+      (sym (stay-yes u items vars (fits-yes items vars (X .items-room) (X .variables-room))))
 
   module _ (g : Grown (s .cells) cs) (l : usedCells cs ≤ 256) where
     refused-20 : (th : ThreadWords)
-        → commit A (refusedIn 20 th (usedCells cs)) cs ≡ calledOf w (refuse u 20)
+        → commit A (refusedIn 20 th (usedCells cs)) cs ≡ asCall w (refuse u 20)
     refused-20 th = refuse-is A x cs acc 20 th g l refl
 
     no-stay : (th : ThreadWords) (is : List Item) (vs : List Value) → fits stateSpaces is vs ≡ false
-        → commit A (refusedIn 20 th (usedCells cs)) cs ≡ calledOf w (stay u is vs)
-    no-stay th is vs e = refused-20 th ∙ ap (calledOf w) (sym (stay-no u is vs e))
+        → commit A (refusedIn 20 th (usedCells cs)) cs ≡ asCall w (stay u is vs)
+    no-stay th is vs e = refused-20 th ∙ ap (asCall w) (sym (stay-no u is vs e))
 
     yes-stay : (th : ThreadWords) (is : List Item) (vs : List Value) → fits stateSpaces is vs ≡ true
-        → th ≡ wordsOf (self (x .place) is vs)
-        → commit A (actedIn Stays th (usedCells cs)) cs ≡ calledOf w (stay u is vs)
+        → th ≡ threadWordsOf (self (x .place) is vs)
+        → commit A (actedIn Stays th (usedCells cs)) cs ≡ asCall w (stay u is vs)
     yes-stay th is vs e q =
-        ap (λ (y : ThreadWords). commit A (actedIn Stays y (usedCells cs)) cs) q ∙ stays-is A x cs acc (self (x .place) is vs) ∙ ap (calledOf w) (sym (stay-yes u is vs e))
+        ap (λ (y : ThreadWords). commit A (actedIn Stays y (usedCells cs)) cs) q
+        ∙ stays-is A x cs acc (self (x .place) is vs) ∙ ap (asCall w) (sym (stay-yes u is vs e))
 
     pub stay-one : (i : Item)
-        → commit A (oneIn (wordsOf x) (usedCells cs) (itemWord i)) cs
-        ≡ calledOf w (stay u (i ∷ items) vars)
+        → commit A (oneIn (threadWordsOf x) (usedCells cs) (itemWord i)) cs
+        ≡ asCall w (stay u (i ∷ items) vars)
     unfolding oneIn
     stay-one i =
-        if-all (λ (a : Turned). commit A a cs ≡ calledOf w (stay u (i ∷ items) vars)) (leb 25 (length items)) _ _
-        (λ e. let h = leb-true 25 (length items) e in no-stay (wordsOf x) (i ∷ items) vars (fits-items (i ∷ items) vars (omega arith)))
+        if-all (λ (a : TurnResult). commit A a cs ≡ asCall w (stay u (i ∷ items) vars))
+        (leb 25 (length items)) _ _
+        (λ e. let h = leb-true 25 (length items) e in no-stay (threadWordsOf x) (i ∷ items) vars (fits-items (i ∷ items) vars (omega arith)))
         (λ e. let h = leb-false 25 (length items) e in
-        yes-stay (pushItem (itemWord i) (wordsOf x)) (i ∷ items) vars (fits-yes (i ∷ items) vars (omega arith) (X .variables-room)) (push-item-is x i h))
+        yes-stay (pushItem (itemWord i) (threadWordsOf x)) (i ∷ items) vars (fits-yes (i ∷ items) vars (omega arith) (X .variables-room)) (push-item-is x i h))
 
     pub stay-two : (i j : Item)
-        → commit A (twoIn (wordsOf x) (usedCells cs) (itemWord i) (itemWord j)) cs
-        ≡ calledOf w (stay u (i ∷ j ∷ items) vars)
+        → commit A (twoIn (threadWordsOf x) (usedCells cs) (itemWord i) (itemWord j)) cs
+        ≡ asCall w (stay u (i ∷ j ∷ items) vars)
     unfolding twoIn
     stay-two i j =
-        if-all (λ (a : Turned). commit A a cs ≡ calledOf w (stay u (i ∷ j ∷ items) vars)) (leb 24 (length items)) _ _
-        (λ e. let h = leb-true 24 (length items) e in no-stay (wordsOf x) (i ∷ j ∷ items) vars (fits-items (i ∷ j ∷ items) vars (omega arith)))
+        if-all (λ (a : TurnResult). commit A a cs ≡ asCall w (stay u (i ∷ j ∷ items) vars))
+        (leb 24 (length items)) _ _
+        (λ e. let h = leb-true 24 (length items) e in no-stay (threadWordsOf x) (i ∷ j ∷ items) vars (fits-items (i ∷ j ∷ items) vars (omega arith)))
         (λ e. let h = leb-false 24 (length items) e in
-        yes-stay (pushItem (itemWord i) (pushItem (itemWord j) (wordsOf x))) (i ∷ j ∷ items) vars (fits-yes (i ∷ j ∷ items) vars (omega arith) (X .variables-room))
+        yes-stay (pushItem (itemWord i) (pushItem (itemWord j) (threadWordsOf x)))
+        (i ∷ j ∷ items) vars (fits-yes (i ∷ j ∷ items) vars (omega arith) (X .variables-room))
         (ap (pushItem (itemWord i)) (push-item-is x j (omega arith)) ∙ push-item-is (self (x .place) (j ∷ items) vars) i (omega arith)))
 
     -- 16
     pub stay-let : (v : Value) (a : Stmt)
-        → commit A (letsIn (wordsOf x) (usedCells cs) (valueWord v) (rootS a)) cs
-        ≡ calledOf w (stay u (run a ∷ drop ∷ items) (vars ++ (v ∷ [])))
+        → commit A (letsIn (threadWordsOf x) (usedCells cs) (valueWord v) (rootS a)) cs
+        ≡ asCall w (stay u (run a ∷ drop ∷ items) (vars ++ (v ∷ [])))
     unfolding letsIn itemWord
     stay-let v a =
-        if-all (λ (y : Turned). commit A y cs ≡ calledOf w (stay u (run a ∷ drop ∷ items) (vars ++ (v ∷ [])))) (leb 25 (length vars)) _ _
+        if-all (λ (y : TurnResult). commit A y cs ≡ asCall w (stay u (run a ∷ drop ∷ items) (vars ++ (v ∷ [])))) (leb 25 (length vars)) _ _
         (λ e. let h = leb-true 25 (length vars) e in let z = length-append vars (v ∷ []) in
-        no-stay (wordsOf x) (run a ∷ drop ∷ items) (vars ++ (v ∷ [])) (fits-vars (run a ∷ drop ∷ items) (vars ++ (v ∷ [])) (omega arith)))
+        no-stay (threadWordsOf x) (run a ∷ drop ∷ items) (vars ++ (v ∷ [])) (fits-vars (run a ∷ drop ∷ items) (vars ++ (v ∷ [])) (omega arith)))
         (λ e. let h = leb-false 25 (length vars) e in let z = length-append vars (v ∷ []) in
-        if-all (λ (y : Turned). commit A y cs ≡ calledOf w (stay u (run a ∷ drop ∷ items) (vars ++ (v ∷ [])))) (leb 24 (length items)) _ _
+        if-all (λ (y : TurnResult). commit A y cs ≡ asCall w (stay u (run a ∷ drop ∷ items) (vars ++ (v ∷ [])))) (leb 24 (length items)) _ _
         (λ f. let g = leb-true 24 (length items) f in
-        no-stay (wordsOf x) (run a ∷ drop ∷ items) (vars ++ (v ∷ [])) (fits-items (run a ∷ drop ∷ items) (vars ++ (v ∷ [])) (omega arith)))
+        no-stay (threadWordsOf x) (run a ∷ drop ∷ items) (vars ++ (v ∷ [])) (fits-items (run a ∷ drop ∷ items) (vars ++ (v ∷ [])) (omega arith)))
         (λ f. let g = leb-false 24 (length items) f in
-        yes-stay (pushItem (rootS a) (pushItem 2048 (pushValue (valueWord v) (wordsOf x)))) (run a ∷ drop ∷ items) (vars ++ (v ∷ []))
+        yes-stay (pushItem (rootS a) (pushItem 2048 (pushValue (valueWord v) (threadWordsOf x))))
+        (run a ∷ drop ∷ items) (vars ++ (v ∷ []))
         (fits-yes (run a ∷ drop ∷ items) (vars ++ (v ∷ [])) (omega arith) (omega arith))
         (ap (λ (th : ThreadWords). pushItem (rootS a) (pushItem 2048 th)) (push-value-is x v h)
-        ∙ ap (pushItem (rootS a)) (push-item-is (self (x .place) items (vars ++ (v ∷ []))) drop (omega arith))
+        ∙ ap (pushItem (rootS a))
+        (push-item-is (self (x .place) items (vars ++ (v ∷ []))) drop (omega arith))
         ∙ push-item-is (self (x .place) (drop ∷ items) (vars ++ (v ∷ []))) (run a) (omega arith))))
 
     -- a drop
-    pub drops-is : commit A (dropsIn (wordsOf x) (usedCells cs)) cs ≡ calledOf w (drops u)
+    pub drops-is : commit A (dropsIn (threadWordsOf x) (usedCells cs)) cs ≡ asCall w (drops u)
     unfolding drops dropsIn
     drops-is = go (eqb (length vars) 0) refl
       where
@@ -162,23 +170,27 @@ module _ {fs : List Frame} {P : Program} {n : ℕ} {w : List ℕ} {s : State} {c
         fewer = length-take-le (length vars - 1) vars (omega arith)
 
         popped : 0 < length vars
-            → popValue (wordsOf x) ≡ wordsOf (self (x .place) items (take (length vars - 1) vars))
+            → popValue (threadWordsOf x)
+            ≡ threadWordsOf (self (x .place) items (take (length vars - 1) vars))
         popped h =
             let r = X .variables-room in let z = fewer in
-            ap (λ (vs : List Value). popValue (wordsOf (self (x .place) items vs))) (with-last vars h)
-            ∙ pop-value-is (self (x .place) items (take (length vars - 1) vars)) (getD vars (length vars - 1) (Number 0)) (omega arith)
+            ap (λ (vs : List Value). popValue (threadWordsOf (self (x .place) items vs)))
+            (with-last vars h)
+            ∙ pop-value-is (self (x .place) items (take (length vars - 1) vars))
+            (getD vars (length vars - 1) (Number 0)) (omega arith)
 
         go : (b : Bool) → eqb (length vars) 0 ≡ b
-            → commit A (if eqb (length vars) 0 then refusedIn 20 (wordsOf x) (usedCells cs) else actedIn Stays (popValue (wordsOf x)) (usedCells cs)) cs
-            ≡ calledOf w (if eqb (length vars) 0 then refuse u 20 else stay u items (take (length vars - 1) vars))
+            → commit A (if eqb (length vars) 0 then refusedIn 20 (threadWordsOf x) (usedCells cs) else actedIn Stays (popValue (threadWordsOf x)) (usedCells cs)) cs
+            ≡ asCall w (if eqb (length vars) 0 then refuse u 20 else stay u items (take (length vars - 1) vars))
         go true e =
-            ap (λ (a : Turned). commit A a cs) (if-yes _ _ e) ∙ refused-20 (wordsOf x)
-            ∙ ap (calledOf w) (sym (if-yes _ _ e))
+            ap (λ (a : TurnResult). commit A a cs) (if-yes _ _ e) ∙ refused-20 (threadWordsOf x)
+            ∙ ap (asCall w) (sym (if-yes _ _ e))
         go false e =
             let h = eqb-false (length vars) 0 e in let r = X .variables-room in let z = fewer in
-            ap (λ (a : Turned). commit A a cs) (if-no _ _ e)
-            ∙ yes-stay (popValue (wordsOf x)) items rest (fits-yes items rest (X .items-room) (omega arith)) (popped (omega arith))
-            ∙ ap (calledOf w) (sym (if-no _ _ e))
+            ap (λ (a : TurnResult). commit A a cs) (if-no _ _ e)
+            ∙ yes-stay (popValue (threadWordsOf x)) items rest
+            (fits-yes items rest (X .items-room) (omega arith)) (popped (omega arith))
+            ∙ ap (asCall w) (sym (if-no _ _ e))
 
     -- ---- moves
     move-fits : (q : ℕ) (is : List Item) → fits stateSpaces is vars ≡ true
@@ -196,11 +208,11 @@ module _ {fs : List Frame} {P : Program} {n : ℕ} {w : List ℕ} {s : State} {c
     go-full : (q : ℕ) (is : List Item) → fits stateSpaces is vars ≡ false
         → goTo u q is ≡ refuse u 20
     unfolding goTo
-    go-full q is e = if-all (λ (r : Stepped). r ≡ refuse u 20) (eqb q (x .place)) _ _ (λ _. stay-no u is vars e) (λ _. move-full q is e)
+    go-full q is e = if-all (λ (r : StepResult). r ≡ refuse u 20) (eqb q (x .place)) _ _ (λ _. stay-no u is vars e) (λ _. move-full q is e)
 
     pub goes-is : (q : ℕ) (is : List Item) → hasPlace n q ≡ true → length is ≤ 25
-        → commit A (goesIn (x .place) (wordsOf (self (x .place) is vars)) (usedCells cs) q) cs
-        ≡ calledOf w (goTo u q is)
+        → commit A (goesIn (x .place) (threadWordsOf (self (x .place) is vars)) (usedCells cs) q) cs
+        ≡ asCall w (goTo u q is)
     unfolding goesIn goTo moveTo
     goes-is q is p h = go (eqb q (x .place)) (eqb q private) refl refl
       where
@@ -208,24 +220,27 @@ module _ {fs : List Frame} {P : Program} {n : ℕ} {w : List ℕ} {s : State} {c
         f = fits-yes is vars h (X .variables-room)
 
         th : ThreadWords
-        th = wordsOf (self (x .place) is vars)
+        th = threadWordsOf (self (x .place) is vars)
 
         go : (b d : Bool) → eqb q (x .place) ≡ b → eqb q private ≡ d
             → commit A (if eqb q (x .place) then actedIn Stays th (usedCells cs) else if eqb q 1 then actedIn Leaves (moveTo q th) (usedCells cs) else actedIn (Joins (record { number = q })) (moveTo q th) (usedCells cs)) cs
-            ≡ calledOf w (if eqb q (x .place) then stay u is vars else move u q is)
+            ≡ asCall w (if eqb q (x .place) then stay u is vars else move u q is)
         go true d e z =
-            ap (λ (a : Turned). commit A a cs) (if-yes _ _ e) ∙ yes-stay th is vars f refl
-            ∙ ap (calledOf w) (sym (if-yes _ _ e))
+            ap (λ (a : TurnResult). commit A a cs) (if-yes _ _ e) ∙ yes-stay th is vars f refl
+            ∙ ap (asCall w) (sym (if-yes _ _ e))
         go false true e z =
-            ap (λ (a : Turned). commit A a cs) (if-no _ _ e ∙ if-yes _ _ z) ∙ leaves-is A x cs acc (self q is vars)
-            ∙ ap (calledOf w) (sym (if-no _ _ e ∙ move-fits q is f ∙ if-yes _ _ z))
+            ap (λ (a : TurnResult). commit A a cs) (if-no _ _ e ∙ if-yes _ _ z)
+            ∙ leaves-is A x cs acc (self q is vars)
+            ∙ ap (asCall w) (sym (if-no _ _ e ∙ move-fits q is f ∙ if-yes _ _ z))
         go false false e z =
-            ap (λ (a : Turned). commit A a cs) (if-no _ _ e ∙ if-no _ _ z) ∙ joins-is A x cs acc (self q is vars) q (place-scheduler n q p z) g l
-            ∙ ap (calledOf w) (sym (if-no _ _ e ∙ move-fits q is f ∙ if-no _ _ z))
+            ap (λ (a : TurnResult). commit A a cs) (if-no _ _ e ∙ if-no _ _ z)
+            ∙ joins-is A x cs acc (self q is vars) q (place-scheduler n q p z) g l
+            ∙ ap (asCall w) (sym (if-no _ _ e ∙ move-fits q is f ∙ if-no _ _ z))
 
     -- 12
     pub does-is : (q : ℕ) (a : Stmt) → hasPlace n q ≡ true
-        → commit A (doesIn (wordsOf x) (usedCells cs) q (rootS a)) cs ≡ calledOf w (stepDo u q a)
+        → commit A (doesIn (threadWordsOf x) (usedCells cs) q (rootS a)) cs
+        ≡ asCall w (stepDo u q a)
     unfolding doesIn stepDo itemWord
     does-is q a p = go (eqb (x .place) 1 && eqb q 1) (leb 24 (length items)) refl refl
       where
@@ -233,38 +248,39 @@ module _ {fs : List Frame} {P : Program} {n : ℕ} {w : List ℕ} {s : State} {c
         is = run a ∷ back (x .place) ∷ items
 
         th : ThreadWords
-        th = pushItem (rootS a) (pushItem (1024 + x .place) (wordsOf x))
+        th = pushItem (rootS a) (pushItem (1024 + x .place) (threadWordsOf x))
 
         go : (b d : Bool) → (eqb (x .place) 1 && eqb q 1) ≡ b → leb 24 (length items) ≡ d
-            → commit A (if eqb (x .place) 1 && eqb q 1 then refusedIn 20 (wordsOf x) (usedCells cs) else if leb 24 (length items) then refusedIn 20 (wordsOf x) (usedCells cs) else goesIn (x .place) th (usedCells cs) q) cs
-            ≡ calledOf w (if eqb (x .place) 1 && eqb q 1 then refuse u 20 else goTo u q is)
+            → commit A (if eqb (x .place) 1 && eqb q 1 then refusedIn 20 (threadWordsOf x) (usedCells cs) else if leb 24 (length items) then refusedIn 20 (threadWordsOf x) (usedCells cs) else goesIn (x .place) th (usedCells cs) q) cs
+            ≡ asCall w (if eqb (x .place) 1 && eqb q 1 then refuse u 20 else goTo u q is)
         go true d e z =
-            ap (λ (y : Turned). commit A y cs) (if-yes _ _ e) ∙ refused-20 (wordsOf x)
-            ∙ ap (calledOf w) (sym (if-yes _ _ e))
+            ap (λ (y : TurnResult). commit A y cs) (if-yes _ _ e) ∙ refused-20 (threadWordsOf x)
+            ∙ ap (asCall w) (sym (if-yes _ _ e))
         go false true e z =
             let h = leb-true 24 (length items) z in
-            ap (λ (y : Turned). commit A y cs) (if-no _ _ e ∙ if-yes _ _ z) ∙ refused-20 (wordsOf x) ∙ ap (calledOf w) (sym (if-no _ _ e ∙ go-full q is (fits-items is vars (omega arith))))
+            ap (λ (y : TurnResult). commit A y cs) (if-no _ _ e ∙ if-yes _ _ z) ∙ refused-20 (threadWordsOf x) ∙ ap (asCall w) (sym (if-no _ _ e ∙ go-full q is (fits-items is vars (omega arith))))
         go false false e z =
             let h = leb-false 24 (length items) z in
-            ap (λ (y : Turned). commit A y cs) (if-no _ _ e ∙ if-no _ _ z)
+            ap (λ (y : TurnResult). commit A y cs) (if-no _ _ e ∙ if-no _ _ z)
             ∙ ap (λ (y : ThreadWords). commit A (goesIn (x .place) y (usedCells cs) q) cs)
             (ap (pushItem (rootS a)) (push-item-is x (back (x .place)) (omega arith)) ∙ push-item-is (self (x .place) (back (x .place) ∷ items) vars) (run a) (omega arith))
-            ∙ goes-is q is p (omega arith) ∙ ap (calledOf w) (sym (if-no _ _ e))
+            ∙ goes-is q is p (omega arith) ∙ ap (asCall w) (sym (if-no _ _ e))
 
     -- 15
-    pub cooperates-is : commit A (cooperatesIn (wordsOf x) (usedCells cs)) cs
-        ≡ calledOf w (stepCooperate u)
+    pub cooperates-is : commit A (cooperatesIn (threadWordsOf x) (usedCells cs)) cs
+        ≡ asCall w (stepCooperate u)
     unfolding cooperatesIn stepCooperate
     cooperates-is = go (eqb (x .place) private) refl
       where
-        next : Stepped
+        next : StepResult
         next = if room u 1 (x .place) then accept u (enlist (x .place) (plain (suc k)) (leave u (settled u x))) else refuse u 20
 
         go : (b : Bool) → eqb (x .place) private ≡ b
-            → commit A (if eqb (x .place) 1 then refusedIn 20 (wordsOf x) (usedCells cs) else actedIn (Joins (record { number = x .place })) (wordsOf x) (usedCells cs)) cs
-            ≡ calledOf w (if eqb (x .place) private then refuse u 20 else next)
+            → commit A (if eqb (x .place) 1 then refusedIn 20 (threadWordsOf x) (usedCells cs) else actedIn (Joins (record { number = x .place })) (threadWordsOf x) (usedCells cs)) cs
+            ≡ asCall w (if eqb (x .place) private then refuse u 20 else next)
         go true e =
-            ap (λ (y : Turned). commit A y cs) (if-yes _ _ e) ∙ refused-20 (wordsOf x)
-            ∙ ap (calledOf w) (sym (if-yes _ _ e))
+            ap (λ (y : TurnResult). commit A y cs) (if-yes _ _ e) ∙ refused-20 (threadWordsOf x)
+            ∙ ap (asCall w) (sym (if-yes _ _ e))
         go false e =
-            ap (λ (y : Turned). commit A y cs) (if-no _ _ e) ∙ joins-is A x cs acc x (x .place) (place-scheduler n (x .place) (X .place) e) g l ∙ ap (calledOf w) (sym (if-no _ _ e))
+            ap (λ (y : TurnResult). commit A y cs) (if-no _ _ e) ∙ joins-is A x cs acc x (x .place)
+            (place-scheduler n (x .place) (X .place) e) g l ∙ ap (asCall w) (sym (if-no _ _ e))

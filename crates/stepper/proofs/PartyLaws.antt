@@ -22,7 +22,7 @@ use Rattle.machine.specs.Turns.{isSchedulerOf}
 use Rattle.machine.specs.inner.Parts.{stepThread, stepScheduler}
 use Rattle.machine.specs.Steps.{turnInstant, endInstant, isUnlinked, step, stepWithin}
 use Rattle.machine.specs.Words.{pack, wordsAt}
-use Rattle.machine.specs.Calls.{Called, calledOf, stepCall}
+use Rattle.machine.specs.Calls.{CallResult, asCall, stepCall, callResult}
 use Rattle.machine.specs.Shapes.{IsThread, SchedulerFits}
 use Rattle.machine.proofs.WordLaws.{is-pack}
 use Rattle.machine.proofs.Calls.{called-in}
@@ -32,10 +32,9 @@ use Rattle.lists.proofs.SchedulerSays.{first-says, room-says}
 use Rattle.lists.proofs.Instants.{instant-readies, instant-says, instant-none}
 use Rattle.states.specs.inner.Parties.{isUnlinkedWord}
 use Rattle.states.proofs.PartyLaws.{unlinked-low, unlinked-says}
-use Rattle.commits.specs.inner.Commits.{called}
 use Rattle.stepper.specs.declared.file.File.{File}
 use Rattle.stepper.specs.inner.Files.{StepWords, stateIn, TurnChoice, fileOf, actingIn}
-use Rattle.stepper.proofs.Fates.{scheduler-there}
+use Rattle.stepper.proofs.Transitions.{scheduler-there}
 use Rattle.stepper.proofs.GoodWords.{fits-in, shaped, says, step-long, threads-few}
 
 module _ (frames : List ℕ) (shared : ℕ) (w : List ℕ) (h : StepWords frames shared w) (c : ℕ) where
@@ -102,13 +101,13 @@ module _ (frames : List ℕ) (shared : ℕ) (w : List ℕ) (h : StepWords frames
       pub turn-asks : (1 ≤ t) × (t ≤ 64)
       turn-asks = is-thread
 
-      pub turn-done : (v : List ℕ) (r : ℕ) → called r t v ≡ calledOf w (stepThread P s c t)
-          → called r t v ≡ calledOf w (stepScheduler P s c (schedulerAt s c .active))
+      pub turn-done : (v : List ℕ) (r : ℕ) → callResult r t v ≡ asCall w (stepThread P s c t)
+          → callResult r t v ≡ asCall w (stepScheduler P s c (schedulerAt s c .active))
       turn-done v r k = by (schedulerAt s c .active) (first t q)
         where
-          by : (ts : List ℕ) → t ≡ getD ts 0 0 → called r t v ≡ calledOf w (stepScheduler P s c ts)
+          by : (ts : List ℕ) → t ≡ getD ts 0 0 → callResult r t v ≡ asCall w (stepScheduler P s c ts)
           by [] z = absurd (some z)
-          by (a ∷ ts) z = k ∙ ap (λ (i : ℕ). calledOf w (stepThread P s c i)) z
+          by (a ∷ ts) z = k ∙ ap (λ (i : ℕ). asCall w (stepThread P s c i)) z
 
     -- ---- with none: an instant ends
     module _ (t : ℕ) (q : t ≡ getD w (3 + 130 * (c - 2)) 0) (zero-is : t ≡ 0) where
@@ -126,19 +125,20 @@ module _ (frames : List ℕ) (shared : ℕ) (w : List ℕ) (h : StepWords frames
         readies : k ≡ length (readyThreads (s .threads) (schedulerAt s c .next))
         readies =
             count
-            ∙ instant-readies w s (says frames shared w h) few c in-lists (there .0) (fit .next-room) (fit .entries)
+            ∙ instant-readies w s (says frames shared w h) few c in-lists (there .0)
+            (fit .next-room) (fit .entries)
 
-        ended : called 0 0 v
-            ≡ called 0 0 (pack (withScheduler c (record { active = readyThreads (s .threads) (schedulerAt s c .next); next = stillWaiting (s .threads) (schedulerAt s c .next) }) s))
-        ended = ap (called 0 0) (out ∙ is-pack _ _ (instant-says w s (says frames shared w h) few c in-lists (there .0) (fit .next-room) (fit .entries) idle))
+        ended : callResult 0 0 v
+            ≡ callResult 0 0 (pack (withScheduler c (record { active = readyThreads (s .threads) (schedulerAt s c .next); next = stillWaiting (s .threads) (schedulerAt s c .next) }) s))
+        ended = ap (callResult 0 0) (out ∙ is-pack _ _ (instant-says w s (says frames shared w h) few c in-lists (there .0) (fit .next-room) (fit .entries) idle))
 
         pub instant-nothing : k ≡ 0
-            → called 16 0 v ≡ calledOf w (stepScheduler P s c (schedulerAt s c .active))
+            → callResult 16 0 v ≡ asCall w (stepScheduler P s c (schedulerAt s c .active))
         unfolding endInstant
         instant-nothing z =
-            ap (called 16 0) (out ∙ instant-none w s (says frames shared w h) few c in-lists (there .0) (fit .next-room) (fit .entries) idle none-ready)
-            ∙ ap (λ (ts : List ℕ). calledOf w (turnInstant s c ts (stillWaiting (s .threads) (schedulerAt s c .next)))) (sym none-ready)
-            ∙ ap (λ (ts : List ℕ). calledOf w (stepScheduler P s c ts)) (sym idle)
+            ap (callResult 16 0) (out ∙ instant-none w s (says frames shared w h) few c in-lists (there .0) (fit .next-room) (fit .entries) idle none-ready)
+            ∙ ap (λ (ts : List ℕ). asCall w (turnInstant s c ts (stillWaiting (s .threads) (schedulerAt s c .next)))) (sym none-ready)
+            ∙ ap (λ (ts : List ℕ). asCall w (stepScheduler P s c ts)) (sym idle)
           where
             none-ready : readyThreads (s .threads) (schedulerAt s c .next) ≡ []
             none-ready = by (readyThreads (s .threads) (schedulerAt s c .next)) (sym z ∙ readies)
@@ -148,15 +148,15 @@ module _ (frames : List ℕ) (shared : ℕ) (w : List ℕ) (h : StepWords frames
                 by (a ∷ ts) y = absurd (omega arith)
 
         pub instant-done : (k ≡ 0 → ⊥)
-            → called 0 0 v ≡ calledOf w (stepScheduler P s c (schedulerAt s c .active))
+            → callResult 0 0 v ≡ asCall w (stepScheduler P s c (schedulerAt s c .active))
         unfolding endInstant
         instant-done z =
             ended ∙ by (readyThreads (s .threads) (schedulerAt s c .next)) readies
-            ∙ ap (λ (ts : List ℕ). calledOf w (stepScheduler P s c ts)) (sym idle)
+            ∙ ap (λ (ts : List ℕ). asCall w (stepScheduler P s c ts)) (sym idle)
           where
             by : (ts : List ℕ) → k ≡ length ts
-                → called 0 0 (pack (withScheduler c (record { active = ts; next = stillWaiting (s .threads) (schedulerAt s c .next) }) s))
-                ≡ calledOf w (turnInstant s c ts (stillWaiting (s .threads) (schedulerAt s c .next)))
+                → callResult 0 0 (pack (withScheduler c (record { active = ts; next = stillWaiting (s .threads) (schedulerAt s c .next) }) s))
+                ≡ asCall w (turnInstant s c ts (stillWaiting (s .threads) (schedulerAt s c .next)))
             by [] y = absurd (z y)
             by (a ∷ ts) y = refl
 
@@ -169,14 +169,14 @@ module _ (frames : List ℕ) (shared : ℕ) (w : List ℕ) (h : StepWords frames
     pub is-scheduler : b ≡ true → isSchedulerOf P c ≡ true
     is-scheduler e = sym same ∙ e
 
-    whole : stepCall (framesOf frames) w c ≡ calledOf w (step P s c)
+    whole : stepCall (framesOf frames) w c ≡ asCall w (step P s c)
     whole = called-in (framesOf frames) w c (h .range)
 
-    pub scheduler-steps : b ≡ true → (r : Called)
-        → r ≡ calledOf w (stepScheduler P s c (schedulerAt s c .active))
+    pub scheduler-steps : b ≡ true → (r : CallResult)
+        → r ≡ asCall w (stepScheduler P s c (schedulerAt s c .active))
         → r ≡ stepCall (framesOf frames) w c
     unfolding stepWithin
-    scheduler-steps e r k = k ∙ ap (calledOf w) (sym (if-yes _ _ (is-scheduler e))) ∙ sym whole
+    scheduler-steps e r k = k ∙ ap (asCall w) (sym (if-yes _ _ (is-scheduler e))) ∙ sym whole
 
     module _ (no : b ≡ false) where
       not-scheduler : isSchedulerOf P c ≡ false
@@ -199,17 +199,17 @@ module _ (frames : List ℕ) (shared : ℕ) (w : List ℕ) (h : StepWords frames
               over =
                   let z = thread in ap₂ _&&_ (le-leb 2 c (omega arith)) (lt-leb c 9 (omega arith))
 
-          pub thread-steps : (r : Called) → r ≡ calledOf w (stepThread P s c (c - 16))
+          pub thread-steps : (r : CallResult) → r ≡ asCall w (stepThread P s c (c - 16))
               → r ≡ stepCall (framesOf frames) w c
           unfolding stepWithin
           thread-steps r k =
-              k ∙ ap (calledOf w) (sym (if-no _ _ not-scheduler ∙ if-yes _ _ (sym unlinked ∙ yes)))
+              k ∙ ap (asCall w) (sym (if-no _ _ not-scheduler ∙ if-yes _ _ (sym unlinked ∙ yes)))
               ∙ sym whole
 
-        pub no-party : d ≡ false → called 15 0 w ≡ stepCall (framesOf frames) w c
+        pub no-party : d ≡ false → callResult 15 0 w ≡ stepCall (framesOf frames) w c
         unfolding stepWithin
         no-party e =
-            ap (calledOf w) (sym (if-no _ _ not-scheduler ∙ if-no _ _ (sym unlinked ∙ e)))
+            ap (asCall w) (sym (if-no _ _ not-scheduler ∙ if-no _ _ (sym unlinked ∙ e)))
             ∙ sym whole
 
   -- ---- by the thread that acts
@@ -243,17 +243,17 @@ module _ (frames : List ℕ) (shared : ℕ) (w : List ℕ) (h : StepWords frames
       pub acting-byte : t < 256
       acting-byte = let k = acting-asks .1 in omega arith
 
-      pub acting-steps : (v : List ℕ) (r : ℕ) → called r t v ≡ calledOf w (stepThread P s c t)
-          → called r t v ≡ stepCall (framesOf frames) w c
+      pub acting-steps : (v : List ℕ) (r : ℕ) → callResult r t v ≡ asCall w (stepThread P s c t)
+          → callResult r t v ≡ stepCall (framesOf frames) w c
       acting-steps v r k =
           acting-cases
           (λ e z. scheduler-steps has file f refl e _ (turn-done (is-scheduler has file f refl e) t z some v r k))
-          (λ e u z. thread-steps has file f refl e loose refl u _ (k ∙ ap (λ (i : ℕ). calledOf w (stepThread P s c i)) z))
+          (λ e u z. thread-steps has file f refl e loose refl u _ (k ∙ ap (λ (i : ℕ). asCall w (stepThread P s c i)) z))
           (λ e u z. absurd (some z))
 
     -- where none acts
     module _ (none : t ≡ 0) (b : Bool) (q : b ≡ hasScheduler (file .schedulers) c) where
-      pub nobody-steps : not b ≡ true → called 15 0 w ≡ stepCall (framesOf frames) w c
+      pub nobody-steps : not b ≡ true → callResult 15 0 w ≡ stepCall (framesOf frames) w c
       nobody-steps m =
           acting-cases
           (λ e z. absurd (true≢false (sym e ∙ sym q ∙ not-true b m)))
@@ -272,19 +272,20 @@ module _ (frames : List ℕ) (shared : ℕ) (w : List ℕ) (h : StepWords frames
 
         first-none : t ≡ getD w (3 + 130 * (c - 2)) 0
         first-none =
-            acting-cases (λ e z. z) (λ e u z. absurd (true≢false (sym has-is ∙ e))) (λ e u z. absurd (true≢false (sym has-is ∙ e)))
+            acting-cases (λ e z. z) (λ e u z. absurd (true≢false (sym has-is ∙ e)))
+            (λ e u z. absurd (true≢false (sym has-is ∙ e)))
 
         module _ (p : Place) (at : p ≡ record { number = c }) where
           pub idle-asks : (length w ≡ 4818) × (isScheduler (p .number) ≡ true) × (getD w 0 0 ≤ 64) × (getD w (67 + 130 * (p .number - 2)) 0 ≤ 64)
           idle-asks = instant-asks is p at
 
           module _ (v : List ℕ) (k : ℕ) (count : k ≡ length (readyWords w (wordsAt w (67 + 130 * (p .number - 2))))) (out : v ≡ withInstantEnded w (p .number - 2)) where
-            pub idle-nothing : k ≡ 0 → called 16 0 v ≡ stepCall (framesOf frames) w c
+            pub idle-nothing : k ≡ 0 → callResult 16 0 v ≡ stepCall (framesOf frames) w c
             idle-nothing z =
                 scheduler-steps has file f refl has-is _
                 (instant-nothing is t first-none none v k (count-at is p at k count) (ended-at is p at v out) z)
 
-            pub idle-done : (k ≡ 0 → ⊥) → called 0 0 v ≡ stepCall (framesOf frames) w c
+            pub idle-done : (k ≡ 0 → ⊥) → callResult 0 0 v ≡ stepCall (framesOf frames) w c
             idle-done z =
                 scheduler-steps has file f refl has-is _
                 (instant-done is t first-none none v k (count-at is p at k count) (ended-at is p at v out) z)

@@ -17,19 +17,19 @@ use Rattle.machine.specs.inner.Parts.{turn, stepItems, stepThread}
 use Rattle.machine.specs.Steps.{stepThreadWithin}
 use Rattle.machine.specs.Words.{pack}
 use Rattle.machine.specs.inner.Blocks.{pasted, cellWords}
-use Rattle.machine.specs.Calls.{calledOf}
+use Rattle.machine.specs.Calls.{asCall, callResult}
 use Rattle.machine.proofs.WordLaws.{is-pack, pasted-length, pasted-out}
 use Rattle.machine.proofs.KeptShape.{scheduler-fits}
 use Rattle.states.specs.declared.thread.ThreadWords.{ThreadWords}
-use Rattle.states.specs.inner.Threads.{wordsOf, threadIn}
-use Rattle.acts.specs.declared.act.Acted.{Acted}
-use Rattle.acts.specs.inner.Fates.{Turned, popped, turned, Room}
-use Rattle.turns.specs.inner.Acts.{ActedOn, turnIn}
-use Rattle.commits.specs.inner.Commits.{called, leftIn, after, committedIn, CommitWords}
+use Rattle.states.specs.inner.Threads.{threadWordsOf, threadIn}
+use Rattle.acts.specs.declared.act.Action.{Action}
+use Rattle.acts.specs.inner.Transitions.{TurnResult, popped, turned, HasRoom}
+use Rattle.turns.specs.inner.Acts.{TurnOutcome, turnIn}
+use Rattle.commits.specs.inner.Commits.{leftIn, turnResultIn, committedIn, CommitWords}
 use Rattle.commits.proofs.ChangeLaws.{same-thread}
 use Rattle.stepper.specs.inner.Files.{StepWords, stateIn, TurnChoice, whoIn, turnOf, turnOn}
 use Rattle.stepper.proofs.Commits.{left-says}
-use Rattle.stepper.proofs.Fates.{scheduler-there, Acts}
+use Rattle.stepper.proofs.Transitions.{scheduler-there, Acts}
 use Rattle.stepper.proofs.Items.{IsWho}
 use Rattle.stepper.proofs.Threads.{turn-is, turn-few}
 use Rattle.stepper.proofs.GoodWords.{fits-in, shaped, says, threads-few, index, in-list, fit}
@@ -55,12 +55,12 @@ module _ (frames : List ℕ) (shared : ℕ) (w : List ℕ) (h : StepWords frames
     who-is = record { thread = sym number-same; place = ap (λ (i : ℕ). nth (s .threads) i .place) (sym number-same); shared = h .count }
 
     -- the turn of thread i, so that a law of thread suc (t - 1) is one of thread t
-    abbrev turnFor : ℕ → ActedOn
-    turnFor i = turnIn (framesOf frames) (whoIn frames shared w t) (wordsOf (threadAt s i)) (usedCells (s .cells)) (cellWords (s .cells))
+    abbrev turnFor : ℕ → TurnOutcome
+    turnFor i = turnIn (framesOf frames) (whoIn frames shared w t) (threadWordsOf (threadAt s i)) (usedCells (s .cells)) (cellWords (s .cells))
 
     -- the turn has changed the cells and their count alone: the thread's words are as before
-    kept : (a : Acted) (v : List ℕ) → turnOn a v frames shared w t
-        → threadIn v (t - 1) ≡ wordsOf (threadAt s t)
+    kept : (a : Action) (v : List ℕ) → turnOn a v frames shared w t
+        → threadIn v (t - 1) ≡ threadWordsOf (threadAt s t)
     kept a v o =
         let z = says frames shared w h .all in
         let m = threads-few frames shared w h in
@@ -77,14 +77,14 @@ module _ (frames : List ℕ) (shared : ℕ) (w : List ℕ) (h : StepWords frames
         ∙ thread-read frames shared w h t low high
 
     -- what the commit asks
-    pub commit-asks : (a : Acted) (v : List ℕ) → turnOn a v frames shared w t → length v ≡ length w
+    pub commit-asks : (a : Action) (v : List ℕ) → turnOn a v frames shared w t → length v ≡ length w
         → CommitWords v t a
     commit-asks a v o l =
         let m = threads-few frames shared w h in
         record {
           first = low;
           last = omega arith;
-          cells = subst (λ (x : Turned). x .used ≤ 256) (sym (o .acted))
+          cells = subst (λ (x : TurnResult). x .used ≤ 256) (sym (o .acted))
               (subst (λ (i : ℕ). turnFor i .acted .used ≤ 256) number-same (turn-few acts (whoIn frames shared w t) who-is));
           settle =
               record {
@@ -93,37 +93,37 @@ module _ (frames : List ℕ) (shared : ℕ) (w : List ℕ) (h : StepWords frames
                 place = subst (λ (x : ThreadWords). isPlace (x .place) ≡ true) (sym (kept a v o)) (place-in frames shared w h t low high);
                 items = subst (λ (x : ThreadWords). x .items ≤ 25) (sym (kept a v o)) (fit frames shared w h t low high .items-room);
                 values = subst (λ (x : ThreadWords). x .values ≤ 25) (sym (kept a v o)) (fit frames shared w h t low high .variables-room);
-                room = subst (λ (x : ThreadWords). Room (a .change) (x .items - 1) (x .values)) (sym (kept a v o)) (o .room);
+                room = subst (λ (x : ThreadWords). HasRoom (a .change) (x .items - 1) (x .values)) (sym (kept a v o)) (o .room);
               };
         }
 
     -- and gives
-    pub commit-gives : (a : Acted) (v v' : List ℕ) (used r : ℕ) → turnOn a v frames shared w t
+    pub commit-gives : (a : Action) (v v' : List ℕ) (used r : ℕ) → turnOn a v frames shared w t
         → used ≡ getD w 1 0
-        → called r t v' ≡ committedIn P v used c t (after v t a) (a .fate)
-        → called r t v' ≡ calledOf w (stepThread P s c t)
+        → callResult r t v' ≡ committedIn P v used c t (turnResultIn v t a) (a .transition)
+        → callResult r t v' ≡ asCall w (stepThread P s c t)
     commit-gives a v v' used r o u e =
         e
         ∙ ap (λ (x : ThreadWords).
-        committedIn P v used c t (turned a (getD v 1 0) (popped x)) (a .fate)) (kept a v o)
-        ∙ ap (λ (x : Turned). committedIn P v used c t x (x .fate)) (o .acted)
-        ∙ ap (λ (x : List ℕ). committedIn P x used c t (y .acted) (y .acted .fate)) (o .words)
-        ∙ ap (λ (i : ℕ). committedIn P (on y) i c t (y .acted) (y .acted .fate))
+        committedIn P v used c t (turned a (getD v 1 0) (popped x)) (a .transition)) (kept a v o)
+        ∙ ap (λ (x : TurnResult). committedIn P v used c t x (x .transition)) (o .acted)
+        ∙ ap (λ (x : List ℕ). committedIn P x used c t (y .acted) (y .acted .transition)) (o .words)
+        ∙ ap (λ (i : ℕ). committedIn P (on y) i c t (y .acted) (y .acted .transition))
         (u ∙ says frames shared w h .cells)
         ∙ subst Goal number-same (turn-is acts (whoIn frames shared w t) who-is)
       where
-        y : ActedOn
+        y : TurnOutcome
         y = turnOf frames shared w t
 
         -- the words with the cells of that turn and their count
-        on : ActedOn → List ℕ
+        on : TurnOutcome → List ℕ
         on r = set (pasted w 4562 (r .cells) 256) 1 (r .acted .used)
 
         Goal : ℕ → Type 0
         Goal i =
             committedIn P (on (turnFor i)) (usedCells (s .cells)) c i
-            (turnFor i .acted) (turnFor i .acted .fate)
-            ≡ calledOf w (stepThread P s c i)
+            (turnFor i .acted) (turnFor i .acted .transition)
+            ≡ asCall w (stepThread P s c i)
 
   -- ---- a thread that is not there has nothing to run: it ends, and no thread changes
   module _ (high : getD w 0 0 < t) where
@@ -151,9 +151,9 @@ module _ (frames : List ℕ) (shared : ℕ) (w : List ℕ) (h : StepWords frames
     unfolding isSchedulerOf
     chosen-there e = scheduler-there (fits-in frames shared w h) (shaped frames shared w h) c e .0
 
-    pub gone-is : (v : List ℕ) → v ≡ leftIn w c → called 0 t v ≡ calledOf w (stepThread P s c t)
+    pub gone-is : (v : List ℕ) → v ≡ leftIn w c → callResult 0 t v ≡ asCall w (stepThread P s c t)
     unfolding stepThreadWithin ends
     gone-is v e =
-        ap (called 0 t) (e ∙ is-pack _ (leave gone s) (left-says w s (says frames shared w h) gone choice chosen-there (scheduler-fits (framesOf frames) _ _ (fits-in frames shared w h) s (shaped frames shared w h) c .active-room))
+        ap (callResult 0 t) (e ∙ is-pack _ (leave gone s) (left-says w s (says frames shared w h) gone choice chosen-there (scheduler-fits (framesOf frames) _ _ (fits-in frames shared w h) s (shaped frames shared w h) c .active-room))
         ∙ ap (λ (x : State). pack (leave gone x)) (sym (same-state _)))
-        ∙ ap (λ (is : List Item). calledOf w (stepItems P s c t is)) (sym empty)
+        ∙ ap (λ (is : List Item). asCall w (stepItems P s c t is)) (sym empty)

@@ -11,7 +11,7 @@ use Rattle.language.specs.declared.frame.Frame.{Frame}
 use Rattle.program.specs.Trees.{Expr, Stmt, rootS}
 use Rattle.program.specs.Programs.{Program}
 use Rattle.machine.specs.State.{State, Stored, Thread, usedCells}
-use Rattle.machine.specs.Evaluation.{Evaluated, eval, storing}
+use Rattle.machine.specs.Evaluation.{EvalResult, eval, storing}
 use Rattle.machine.specs.Turns.{evaluator}
 use Rattle.machine.specs.Words.{valueWord}
 use Rattle.machine.specs.inner.Blocks.{cellWords}
@@ -27,17 +27,17 @@ use Rattle.operations.specs.declared.Who.{Who}
 use Rattle.operations.specs.inner.Results.{Result}
 use Rattle.evaluator.specs.inner.Results.{resultOf}
 use Rattle.states.specs.declared.thread.ThreadWords.{ThreadWords}
-use Rattle.states.specs.inner.Threads.{wordsOf}
-use Rattle.acts.specs.inner.Fates.{Turned}
-use Rattle.turns.specs.inner.Acts.{ActedOn, oneIn, twoIn, letsIn, dropsIn, goesIn, doesIn}
+use Rattle.states.specs.inner.Threads.{threadWordsOf}
+use Rattle.acts.specs.inner.Transitions.{TurnResult}
+use Rattle.turns.specs.inner.Acts.{TurnOutcome, oneIn, twoIn, letsIn, dropsIn, goesIn, doesIn}
 use Rattle.turns.specs.inner.Acts.{cooperatesIn, thenActs, thenOn, byTruthIn, letsOn, storesOn}
-use Rattle.turns.specs.inner.Acts.{choosesOn, loopsOn, evaluatedIn, request, startsIn, oneArgument}
+use Rattle.turns.specs.inner.Acts.{choosesOn, loopsOn, evaluatedIn, request, startTurn, oneArgument}
 use Rattle.turns.specs.inner.Acts.{lastArgument, twoArguments, statementIn}
-use Rattle.stepper.proofs.Fates.{Acts, turnAt}
+use Rattle.stepper.proofs.Transitions.{Acts, turnAt}
 use Rattle.stepper.proofs.Items.{IsWho, here-fits, evaluation-is, eval-fits}
 
 -- ---- each way to come to something, with n cells in use
-abbrev Few : Turned → Type 0
+abbrev Few : TurnResult → Type 0
 Few a = a .used ≤ 256
 
 module _ (n : ℕ) (h : n ≤ 256) (th : ThreadWords) where
@@ -62,14 +62,14 @@ module _ (n : ℕ) (h : n ≤ 256) (th : ThreadWords) where
   unfolding cooperatesIn
   cooperates-few = if-all Few (eqb (th .place) 1) _ _ (λ _. h) (λ _. h)
 
-  then-few : (o : Outcome) (K : Value → Turned) → ((v : Value) → K v .used ≤ 256)
+  then-few : (o : Outcome) (K : Value → TurnResult) → ((v : Value) → K v .used ≤ 256)
       → thenActs o th n K .used ≤ 256
   then-few (Is v) K f = f v
   then-few Foreign K f = h
   then-few Spent K f = h
   then-few Stuck K f = h
 
-  truth-few : (v : Value) (a b : Turned) → a .used ≤ 256 → b .used ≤ 256
+  truth-few : (v : Value) (a b : TurnResult) → a .used ≤ 256 → b .used ≤ 256
       → byTruthIn v th n a b .used ≤ 256
   truth-few (Truth true) a b f g = f
   truth-few (Truth false) a b f g = g
@@ -88,19 +88,21 @@ does-few n h th q body =
 
 module _ {fs : List Frame} {P : Program} {n : ℕ} {w : List ℕ} {s : State} {c k : ℕ} (A : Acts fs P n w s c k) (x : Thread) (X : ThreadFits fs n x) (who : Who) (W : IsWho P k x who) where
   abbrev th : ThreadWords
-  th = wordsOf x
+  th = threadWordsOf x
 
   -- the value of an expression
   module _ (cs : List Stored) (C : CellsFit n cs) (e : Expr) (E : ExprFits n e) where
-    value-few : (On : Result → ActedOn)
-        → ((r : Evaluated) → usedCells (r .cells) ≤ 256 → On (resultOf r) .acted .used ≤ 256)
-        → On (evaluatedIn who (wordsOf x) e (usedCells cs) (cellWords cs)) .acted .used ≤ 256
+    value-few : (On : Result → TurnOutcome)
+        → ((r : EvalResult) → usedCells (r .cells) ≤ 256 → On (resultOf r) .acted .used ≤ 256)
+        → On (evaluatedIn who (threadWordsOf x) e (usedCells cs) (cellWords cs)) .acted .used ≤ 256
     value-few On f =
-        subst (λ (r : Result). On r .acted .used ≤ 256) (sym (evaluation-is A x X who W cs [] C (λ h. eval h e)))
+        subst (λ (r : Result). On r .acted .used ≤ 256)
+        (sym (evaluation-is A x X who W cs [] C (λ h. eval h e)))
         (f (eval (evaluator (turnAt A x cs [])) e cs) (eval-fits A x X who W cs [] C e E .cells .room))
 
-  on-few : (o : Outcome) (m : ℕ) (ws : List ℕ) (K : Value → ActedOn) → m ≤ 256
-      → ((v : Value) → K v .acted .used ≤ 256) → thenOn o (wordsOf x) m ws K .acted .used ≤ 256
+  on-few : (o : Outcome) (m : ℕ) (ws : List ℕ) (K : Value → TurnOutcome) → m ≤ 256
+      → ((v : Value) → K v .acted .used ≤ 256)
+      → thenOn o (threadWordsOf x) m ws K .acted .used ≤ 256
   on-few (Is v) m ws K h f = f v
   on-few Foreign m ws K h f = h
   on-few Spent m ws K h f = h
@@ -108,24 +110,27 @@ module _ {fs : List Frame} {P : Program} {n : ℕ} {w : List ℕ} {s : State} {c
 
   starts-few : (waits : Bool) (m : ℕ) (cs : List Stored) → CellsFit n cs → (xs : List Expr)
       → All (ExprFits n) xs
-      → startsIn who (request waits m) (wordsOf x) (usedCells cs) (cellWords cs) xs .acted .used ≤ 256
+      → startTurn who (request waits m) (threadWordsOf x) (usedCells cs)
+      (cellWords cs) xs .acted .used ≤ 256
   starts-few waits m cs C [] f = C .room
   starts-few waits m cs C (e ∷ []) (more E f) =
-      value-few cs C e E (oneArgument (request waits m) th) (λ r h. then-few (usedCells (r .cells)) h th (r .outcome) _ (λ _. h))
+      value-few cs C e E (oneArgument (request waits m) th)
+      (λ r h. then-few (usedCells (r .cells)) h th (r .outcome) _ (λ _. h))
   starts-few waits m cs C (e ∷ d ∷ xs) (more E (more D f)) =
-      subst (λ (r : Result). twoArguments who (request waits m) th d r .acted .used ≤ 256) (sym (evaluation-is A x X who W cs [] C (λ h. eval h e)))
+      subst (λ (r : Result). twoArguments who (request waits m) th d r .acted .used ≤ 256)
+      (sym (evaluation-is A x X who W cs [] C (λ h. eval h e)))
       (on-few (r .outcome) (usedCells (r .cells)) (cellWords (r .cells)) _ (F .cells .room)
       (λ v. value-few (r .cells) (F .cells) d D (lastArgument (request waits m) th (valueWord v))
       (λ q h. then-few (usedCells (q .cells)) h th (q .outcome) _ (λ _. h))))
     where
-      r : Evaluated
+      r : EvalResult
       r = eval (evaluator (turnAt A x cs [])) e cs
 
       F : EvalFits n (eval (evaluator (turnAt A x cs [])) e cs)
       F = eval-fits A x X who W cs [] C e E
 
   pub statement-few : (cs : List Stored) → CellsFit n cs → (st : Stmt) → Parts fs n st
-      → statementIn who (wordsOf x) (usedCells cs) (cellWords cs) st .acted .used ≤ 256
+      → statementIn who (threadWordsOf x) (usedCells cs) (cellWords cs) st .acted .used ≤ 256
   statement-few cs C st of-nothing = C .room
   statement-few cs C st of-cooperate = cooperates-few (usedCells cs) (C .room) th
   statement-few cs C st (of-seq {a =
@@ -137,7 +142,8 @@ module _ {fs : List Frame} {P : Program} {n : ℕ} {w : List ℕ} {s : State} {c
   statement-few cs C st (of-let {x = e} {a = a} E i) =
       value-few cs C e E (letsOn th (rootS a)) (λ r h. then-few (usedCells (r .cells)) h th (r .outcome) _ (λ v. lets-few (usedCells (r .cells)) h th (valueWord v) (rootS a)))
   statement-few cs C st (of-store {x = d} {y = e} D E) =
-      subst (λ (r : Result). storesOn th r .acted .used ≤ 256) (sym (evaluation-is A x X who W cs [] C (λ h. storing h d e)))
+      subst (λ (r : Result). storesOn th r .acted .used ≤ 256)
+      (sym (evaluation-is A x X who W cs [] C (λ h. storing h d e)))
       (let l = fit-storing (evaluator (turnAt A x cs [])) cs (here-fits A x X who W cs []) C D E .cells .room in
       then-few (usedCells (storing (evaluator (turnAt A x cs [])) d e cs .cells)) l th (storing (evaluator (turnAt A x cs [])) d e cs .outcome) _ (λ _. l))
   statement-few cs C st (of-if {x = e} {a = a} {b = b} E i j) =

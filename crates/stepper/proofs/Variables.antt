@@ -10,7 +10,7 @@ use Rattle.machine.specs.State.{Thread}
 use Rattle.machine.specs.Words.{valueWord}
 use Rattle.machine.specs.inner.Blocks.{padded}
 use Rattle.machine.proofs.Padded.{padded-length, padded-at}
-use Rattle.states.specs.inner.Threads.{wordsOf}
+use Rattle.states.specs.inner.Threads.{threadWordsOf}
 use Rattle.turns.specs.inner.Acts.{variablesIn}
 
 take-padded : (n : ℕ) (ws : List ℕ) → length ws ≤ n → take (length ws) (padded n ws) ≡ ws
@@ -22,7 +22,8 @@ take-padded n ws h =
     long = length-take-le (length ws) (padded n ws) (rw (padded-length n ws) h)
 
 pub variables-words : (x : Thread) → length (x .variables) ≤ 25
-    → variablesIn (wordsOf x) ≡ map valueWord (x .variables)
+    → variablesIn (threadWordsOf x) ≡ map valueWord (x .variables)
 variables-words x h =
-    ap (λ (j : ℕ). take j (padded 25 (map valueWord (x .variables)))) (sym (length-map (x .variables) valueWord))
+    ap (λ (j : ℕ). take j (padded 25 (map valueWord (x .variables))))
+    (sym (length-map (x .variables) valueWord))
     ∙ take-padded 25 (map valueWord (x .variables)) (rw (length-map (x .variables) valueWord) h)

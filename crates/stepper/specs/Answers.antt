@@ -1,54 +1,84 @@
--- What the calls of the stepper give on any text, any words and any choice. Assumes nothing: definitions.
-use mathlib.Core.List.{List}
-use Prim.Native.Nat.{ℕ}
-use lib.Dec.{eqb}
-use Rattle.basics.specs.If.{if_then_else_}
-use Rattle.language.specs.declared.frame.Frame.{Frame}
+-- What the calls of the stepper give on any text, any words and any choice.
+use Rattle.basics.specs.Prelude.{List, map, _&&_, ℕ, _+_, _*_, _^_, eqb, length, if_then_else_}
 use Rattle.text.specs.inner.Reading.{reading}
 use Rattle.layout.specs.LaidOut.{afterReading}
-use Rattle.machine.specs.Calls.{Called, freshCall, stepCall}
+use Rattle.machine.specs.Calls.{CallResult, freshCall, stepCall, callsFrom, wordsFrom}
+use Rattle.machine.specs.inner.Ranges.{inRange}
+use Rattle.language.specs.{declared.frame.Frame.Frame, Refusals.wrongState}
+use Rattle.program.specs.Programs.{programOf}
 use Rattle.stepper.specs.declared.answer.Answer.{Answer}
 use Rattle.stepper.specs.declared.answer.Answer.the-variants as A
 
--- 01's number of an answer, 0 where the call is done; the frame that a refusal of the text names; the acting thread, 0 where none acts
-abbrev pub numberOf : Answer → ℕ
-numberOf (A.Rejected n j) = n
-numberOf (A.Refused n t) = n
-numberOf (A.Done t) = 0
+-- 01's number of an answer, 0 where it is done; the frame that it names; the acting thread, 0: none
+abbrev pub answerNumber : Answer → ℕ
+answerNumber (A.Rejected n j) = n
+answerNumber (A.Refused n t) = n
+answerNumber (A.Done t) = 0
 
-abbrev pub frameOf : Answer → ℕ
-frameOf (A.Rejected n j) = j
-frameOf (A.Refused n t) = 0
-frameOf (A.Done t) = 0
+abbrev pub answerFrame : Answer → ℕ
+answerFrame (A.Rejected n j) = j
+answerFrame (A.Refused n t) = 0
+answerFrame (A.Done t) = 0
 
-abbrev pub threadOf : Answer → ℕ
-threadOf (A.Rejected n j) = 0
-threadOf (A.Refused n t) = t
-threadOf (A.Done t) = t
+abbrev pub answerThread : Answer → ℕ
+answerThread (A.Rejected n j) = 0
+answerThread (A.Refused n t) = t
+answerThread (A.Done t) = t
 
 -- the answer with that number and that acting thread
 unfoldable pub answerTo : ℕ → ℕ → Answer
 answerTo n t = if eqb n 0 then A.Done t else A.Refused n t
 
--- a call's answer, and all lent words behind it
-pub record Answered : Type 0 where
+-- a call's answer, and all lent words after it
+pub record TextResult : Type 0 where
   pub answer : Answer
   pub words : List ℕ
 
-abbrev pub answered : Answer → List ℕ → Answered
-answered a w = record { answer = a; words = w }
+abbrev pub textResult : Answer → List ℕ → TextResult
+textResult a w = record { answer = a; words = w }
 
-abbrev pub calledAs : Called → Answered
-calledAs r = answered (answerTo (r .answer) (r .thread)) (r .words)
+abbrev pub asTextResult : CallResult → TextResult
+asTextResult r = textResult (answerTo (r .answer) (r .thread)) (r .words)
 
--- 'after 1 to 7, in number order': the text's refusal, which changes no buffer; else what the call gives on its frames
-abbrev pub onText : List ℕ → List ℕ → (List Frame → Called) → Answered
-onText bs w call = afterReading (λ n j. answered (A.Rejected n j) w) (λ fs. calledAs (call fs)) (reading bs)
+-- 'after 1 to 7, in number order': the text's refusal; else what the call gives on its frames
+abbrev pub onText : List ℕ → List ℕ → (List Frame → CallResult) → TextResult
+onText bs w call =
+    afterReading (λ n j. textResult (A.Rejected n j) w) (λ fs. asTextResult (call fs)) (reading bs)
 
 -- the fresh state of a text
-unfoldable pub freshText : List ℕ → List ℕ → Answered
+unfoldable pub freshText : List ℕ → List ℕ → TextResult
 freshText bs w = onText bs w (λ fs. freshCall fs w)
 
 -- one choice
-unfoldable pub stepText : List ℕ → List ℕ → ℕ → Answered
+unfoldable pub stepText : List ℕ → List ℕ → ℕ → TextResult
 stepText bs w c = onText bs w (λ fs. stepCall fs w c)
+
+-- ---- many choices in one call: one step after the other, as `step` called for each
+
+-- the answer to one choice as a number: 01's above 16 bits, the acting thread, 0 where none acts
+abbrev pub answerWord : CallResult → ℕ
+answerWord r = r .answer * 2 ^ 16 + r .thread
+
+-- the answer to the whole call, the state's words after it, and an answer to each choice
+pub record BatchResult : Type 0 where
+  pub answer : Answer
+  pub words : List ℕ
+  pub answers : List ℕ
+
+abbrev pub batchResult : Answer → List ℕ → List ℕ → BatchResult
+batchResult a w out = record { answer = a; words = w; answers = out }
+
+-- 14 where the words are no state of the file, or where there are not as many answers as choices:
+-- 'a lent buffer of the wrong length' ('No buffer changes.'); else every choice is stepped, and
+-- answered whether it is done or refused
+unfoldable pub stepsCall : List Frame → List ℕ → List ℕ → List ℕ → BatchResult
+stepsCall fs w cs out =
+    if eqb (length out) (length cs) && inRange fs (programOf fs .schedulers) w
+    then batchResult (A.Done 0) (wordsFrom fs w cs) (map answerWord (callsFrom fs w cs))
+    else batchResult (A.Refused wrongState 0) w out
+
+-- 'after 1 to 7, in number order'
+unfoldable pub stepsText : List ℕ → List ℕ → List ℕ → List ℕ → BatchResult
+stepsText bs w cs out =
+    afterReading
+    (λ n j. batchResult (A.Rejected n j) w out) (λ fs. stepsCall fs w cs out) (reading bs)

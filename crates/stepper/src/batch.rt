@@ -2,11 +2,11 @@
 use crate::answer::Answer;
 use crate::file::File;
 use crate::file::file_of;
-use crate::party::Stepped;
+use crate::party::StepAnswer;
 use crate::valid::step_valid;
 use language::limit::MOST_LINES;
 use language::refusal::WRONG_STATE;
-use language::verdict::Verdict;
+use layout::LayoutVerdict;
 use layout::lay_into;
 use ranges::range::in_range;
 ghost use mathlib.Core.Path.{_≡_};
@@ -17,10 +17,10 @@ ghost use Rattle.text.specs.Frames.{framesOf};
 ghost use Rattle.program.specs.Programs.{programOf};
 ghost use Rattle.machine.specs.Calls.{callsFrom, wordsFrom};
 ghost use Rattle.stepper.specs.inner.Files.{FileWords, StepWords, fileOf};
-ghost use Rattle.stepper.specs.Batches.{answerWord, batch, stepsCall, stepsText};
+ghost use Rattle.stepper.specs.Answers.{answerWord, batchResult, stepsCall, stepsText};
 
 // The answer to one choice as a number: 01's above 16 bits, the acting thread in them.
-fn answer_word(s: Stepped) -> u32
+fn answer_word(s: StepAnswer) -> u32
     ensures { λ r. ⌜ r ≡ s .answer * 2 ^ 16 + s .thread ⌝ }
 {
     s.answer as u32 * 0x0001_0000 + s.thread as u32
@@ -48,7 +48,7 @@ fn step_all(frames: &[u64], file: File, state: &mut [u64], choices: &[u8], answe
 // The choices on a file that passes refusals 1 to 7, on words that may be anything.
 fn steps_frames(frames: &[u64], state: &mut [u64], choices: &[u8], answers: &mut [u32]) -> Answer
     requires { ⌜ FileWords (now frames) ⌝ }
-    ensures { λ r. ⌜ batch r (now (state .exit)) (now (answers .exit))
+    ensures { λ r. ⌜ batchResult r (now (state .exit)) (now (answers .exit))
         ≡ stepsCall (framesOf (now (frames .entry))) (now (state .entry)) (now (choices .entry))
         (now (answers .entry)) ⌝ }
 {
@@ -68,7 +68,7 @@ fn steps_frames(frames: &[u64], state: &mut [u64], choices: &[u8], answers: &mut
 // as `step` does, and its answer stands in its place: refused ones leave the words as they were,
 // and the next choice follows. A choice is a byte: no party has a number above 80.
 pub fn steps(text: &[u8], state: &mut [u64], choices: &[u8], answers: &mut [u32]) -> Answer
-    ensures { λ r. ⌜ batch r (now (state .exit)) (now (answers .exit))
+    ensures { λ r. ⌜ batchResult r (now (state .exit)) (now (answers .exit))
         ≡ stepsText (now (text .entry)) (now (state .entry)) (now (choices .entry))
         (now (answers .entry)) ⌝ }
 {
@@ -76,8 +76,8 @@ pub fn steps(text: &[u8], state: &mut [u64], choices: &[u8], answers: &mut [u32]
     let l = lay_into(text, &mut words);
     let v = l.verdict;
     match v {
-        Verdict::Rejected(n, j) => Answer::Rejected(n, j),
-        Verdict::Accepted => {
+        LayoutVerdict::Rejected(n, j) => Answer::Rejected(n, j),
+        LayoutVerdict::LaidOut => {
             let n = l.count;
             steps_frames(&words[..n], state, choices, answers)
         }

@@ -11,7 +11,7 @@ ghost use Rattle.machine.specs.Offsets.{stateLength, threadCountAt};
 ghost use Rattle.stepper.specs.inner.Files.{actingIn};
 
 // The number of the answer, 0 where the step is done, and the acting thread, 0 where none acts.
-pub struct Stepped {
+pub struct StepAnswer {
     pub answer: u8,
     pub thread: u8,
 }

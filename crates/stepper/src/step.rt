@@ -5,7 +5,7 @@ use crate::file::file_of;
 use crate::valid::step_valid;
 use language::limit::MOST_LINES;
 use language::refusal::WRONG_STATE;
-use language::verdict::Verdict;
+use layout::LayoutVerdict;
 use layout::lay_into;
 use machine::offset::STATE_LENGTH;
 use ranges::range::in_range;
@@ -15,7 +15,7 @@ ghost use Rattle.text.specs.Frames.{framesOf};
 ghost use Rattle.machine.specs.Offsets.{stateLength};
 ghost use Rattle.machine.specs.Calls.{stepCall};
 ghost use Rattle.stepper.specs.inner.Files.{FileWords};
-ghost use Rattle.stepper.specs.Answers.{answered, calledAs, freshText, stepText};
+ghost use Rattle.stepper.specs.Answers.{textResult, asTextResult, freshText, stepText};
 
 // How many words a state is.
 pub fn state_length() -> usize
@@ -26,15 +26,15 @@ pub fn state_length() -> usize
 
 // The fresh state of a text that passes refusals 1 to 7; a buffer of another length is 14.
 pub fn fresh(text: &[u8], state: &mut [u64]) -> Answer
-    ensures { λ r. ⌜ answered r (now (state .exit))
+    ensures { λ r. ⌜ textResult r (now (state .exit))
         ≡ freshText (now (text .entry)) (now (state .entry)) ⌝ }
 {
     let mut words = [0u64; MOST_LINES];
     let l = lay_into(text, &mut words);
     let v = l.verdict;
     match v {
-        Verdict::Rejected(n, j) => Answer::Rejected(n, j),
-        Verdict::Accepted => {
+        LayoutVerdict::Rejected(n, j) => Answer::Rejected(n, j),
+        LayoutVerdict::LaidOut => {
             if state.len() != STATE_LENGTH {
                 return Answer::Refused(WRONG_STATE, 0);
             }
@@ -48,8 +48,8 @@ pub fn fresh(text: &[u8], state: &mut [u64]) -> Answer
 // A step of a file that passes refusals 1 to 7, on words that may be anything.
 fn step_frames(frames: &[u64], state: &mut [u64], choice: u64) -> Answer
     requires { ⌜ FileWords (now frames) ⌝ }
-    ensures { λ r. ⌜ answered r (now (state .exit))
-        ≡ calledAs (stepCall (framesOf (now (frames .entry))) (now (state .entry)) choice) ⌝ }
+    ensures { λ r. ⌜ textResult r (now (state .exit))
+        ≡ asTextResult (stepCall (framesOf (now (frames .entry))) (now (state .entry)) choice) ⌝ }
 {
     let file = file_of(frames);
     if !in_range(frames, file.schedulers, state) {
@@ -62,15 +62,15 @@ fn step_frames(frames: &[u64], state: &mut [u64], choice: u64) -> Answer
 // One choice on any text, any words: 1 to 7, then 14, then 15 to 20, or the step. A refusal leaves
 // the words as they were.
 pub fn step(text: &[u8], state: &mut [u64], choice: u64) -> Answer
-    ensures { λ r. ⌜ answered r (now (state .exit))
+    ensures { λ r. ⌜ textResult r (now (state .exit))
         ≡ stepText (now (text .entry)) (now (state .entry)) choice ⌝ }
 {
     let mut words = [0u64; MOST_LINES];
     let l = lay_into(text, &mut words);
     let v = l.verdict;
     match v {
-        Verdict::Rejected(n, j) => Answer::Rejected(n, j),
-        Verdict::Accepted => {
+        LayoutVerdict::Rejected(n, j) => Answer::Rejected(n, j),
+        LayoutVerdict::LaidOut => {
             let n = l.count;
             step_frames(&words[..n], state, choice)
         }

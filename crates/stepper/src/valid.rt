@@ -1,6 +1,6 @@
 // A step on a file and a state that are known to be good: nothing is validated again.
 use crate::file::File;
-use crate::party::Stepped;
+use crate::party::StepAnswer;
 use crate::party::acting_thread;
 use crate::turn::turn;
 use language::Place;
@@ -17,7 +17,7 @@ ghost use Rattle.stepper.specs.inner.Files.{StepWords, fileOf, steppedOn
 // any other choice names no party. (One call of `turn`, so that it is compiled into this function
 // once.) A run calls this after the text has passed refusals 1 to 7, on a state that it has made
 // itself.
-pub fn step_valid(frames: &[u64], file: File, state: &mut [u64], choice: u64) -> Stepped
+pub fn step_valid(frames: &[u64], file: File, state: &mut [u64], choice: u64) -> StepAnswer
     requires { ⌜ StepWords (now frames) (file .shared) (now state)
         × (file ≡ fileOf (programOf (framesOf (now frames)))) ⌝ }
     ensures { λ r. ⌜ steppedOn r (now (state .exit))
@@ -26,24 +26,24 @@ pub fn step_valid(frames: &[u64], file: File, state: &mut [u64], choice: u64) ->
     let t = acting_thread(file.schedulers, state, choice);
     if t != 0 {
         let answer = turn(frames, file.shared, state, choice, t);
-        return Stepped {
+        return StepAnswer {
             answer,
             thread: t as u8,
         };
     }
     if !Place::is_scheduler_in_file(choice, file.schedulers) {
-        return Stepped {
+        return StepAnswer {
             answer: NO_PARTY,
             thread: 0,
         };
     }
     if end_instant(state, Place::known(choice)) == 0 {
-        return Stepped {
+        return StepAnswer {
             answer: NOTHING_READY,
             thread: 0,
         };
     }
-    Stepped {
+    StepAnswer {
         answer: 0,
         thread: 0,
     }

@@ -18,7 +18,7 @@ use Rattle.text.specs.declared.line.FrameRead.{FrameRead}
 use Rattle.text.specs.declared.line.FrameRead.the-variants.{Read, NoFrame}
 use Rattle.text.proofs.LineLaws.{line-short}
 use Rattle.text.proofs.ReadLaws.{length-frames, LineAt, line-at, Scanning, scanning-start}
-use Rattle.text.proofs.ReadLaws.{here-wrong, here-word, scanning-more, line-behind}
+use Rattle.text.proofs.ReadLaws.{here-wrong, here-word, scanning-more, line-after}
 
 -- ---- the frame of an index, return by return
 pub frame-row : (l : Line) (w : ℕ) (f : Frame) → l ≡ Word w → f ≡ frameOfWord w
@@ -49,7 +49,7 @@ unfolding wordsOf
 word-at zero i cs h = absurd (omega arith)
 word-at (suc n) zero cs h = refl
 word-at (suc n) (suc i) cs h =
-    word-at n i (drop 17 cs) (omega arith) ∙ ap lineWord (line-behind i cs)
+    word-at n i (drop 17 cs) (omega arith) ∙ ap lineWord (line-after i cs)
 
 module _ (bs : List ℕ) (good : firstWrong 0 bs ≡ none) where
   -- the next line is right, and its number is read
@@ -78,5 +78,6 @@ module _ (bs : List ℕ) (good : firstWrong 0 bs ≡ none) where
   frames-read i h m =
       let k : i < length bs / 17 = omega (arith, length-frames bs) in
       let r = line-good i (i * 17) (scanned i (omega arith)) (omega arith) .0 in
-      if-yes _ _ (lt-ltb i 1024 (omega arith)) ∙ ap frameOfLine r ∙ ap (λ (w : ℕ). Read (frameOfWord w)) (sym (word-at (length bs / 17) i bs k))
+      if-yes _ _ (lt-ltb i 1024 (omega arith)) ∙ ap frameOfLine r
+      ∙ ap (λ (w : ℕ). Read (frameOfWord w)) (sym (word-at (length bs / 17) i bs k))
       ∙ ap Read (sym (List·getD-map frameOfWord (wordsOf (length bs / 17) bs) i 0))

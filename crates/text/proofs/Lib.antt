@@ -7,5 +7,5 @@ pub mod LineLaws
 pub mod LineScan
 pub mod ReadLaws
 pub mod FrameLaws
--- Frames as numbers, for the crates behind.
+-- Frames as numbers, for the crates after.
 pub mod FrameWords

@@ -39,7 +39,7 @@ or-below a b = by (ltb a 16) (ltb b 16) refl refl
         let o = or-left a b in
         le-ltb (bitOr a b) 16 (omega arith)
 
--- ---- one byte behind others
+-- ---- one byte after others
 all-more : (bs : List ℕ) (b : ℕ) → allDigits (bs ++ (b ∷ [])) ≡ allDigits bs && ltb (digit b) 16
 unfolding allDigits
 all-more [] b = go (ltb (digit b) 16)
@@ -60,7 +60,7 @@ unfolding hexadecimal
 hexadecimal-more [] b w = refl
 hexadecimal-more (c ∷ bs) b w = hexadecimal-more bs b (w * 16 + digit c)
 
--- ---- the loop, behind k bytes: whether all are digits, and then their number; and it fits
+-- ---- the loop, after k bytes: whether all are digits, and then their number; and it fits
 pub record Taking (bytes : List ℕ) (w bits k : ℕ) : Type 0 where
   pub tested : ltb bits 16 ≡ allDigits (take k bytes)
   pub word : bits < 16 → w ≡ hexadecimal 0 (take k bytes)
@@ -81,13 +81,13 @@ module _ (bytes : List ℕ) (w bits k : ℕ) (t : Taking bytes w bits k) where
   pub times-fits : k < 16 → w * 16 < 2 ^ 64
   times-fits l = let f = t .fits in let p = power l in omega arith
 
-  -- d is the value, and v what the code adds of it
-  pub word-fits : (d v : ℕ) → k < 16 → v ≡ d % 16 → w * 16 + v < 2 ^ 64
-  word-fits d v l z = let f = t .fits in let p = power l in omega arith
+  -- d is the value
+  pub word-fits : (d : ℕ) → k < 16 → w * 16 + d % 16 < 2 ^ 64
+  word-fits d l = let f = t .fits in let p = power l in omega arith
 
-  pub taking-more : (d v : ℕ) → d ≡ digit (getD bytes k 0) → v ≡ d % 16 → k < 16
-      → 17 ≤ length bytes → Taking bytes (w * 16 + v) (bitOr bits d) (k + 1)
-  taking-more d v e z h m =
+  pub taking-more : (d : ℕ) → d ≡ digit (getD bytes k 0) → k < 16 → 17 ≤ length bytes
+      → Taking bytes (w * 16 + d % 16) (bitOr bits d) (k + 1)
+  taking-more d e h m =
       let b = getD bytes k 0 in
       let s = sym (take-suc bytes k 0 (omega arith)) in
       rw add-one (record {
@@ -99,7 +99,7 @@ module _ (bytes : List ℕ) (w bits k : ℕ) (t : Taking bytes w bits k) where
             let o = or-left bits d in
             let q = or-right bits d in
             let i : w ≡ hexadecimal 0 (take k bytes) = t .word (omega arith) in
-            let j : v ≡ digit b = omega arith in
+            let j : d % 16 ≡ digit b = omega arith in
             ap₂ (λ (x y : ℕ). x * 16 + y) i j ∙ sym (hexadecimal-more (take k bytes) b 0)
             ∙ ap (hexadecimal 0) s;
         fits = let p = pow-suc 16 k in let f = t .fits in omega arith;
@@ -123,17 +123,17 @@ module _ (bytes : List ℕ) where
       (ne-eqb (getD bytes 16 0) 10 n)
       ∙ and-off (leb 17 (length bytes) && allDigits (take 16 bytes)))
 
-  -- behind the loop, k is 16
+  -- after the loop, k is 16
   module _ (w bits k : ℕ) (t : Taking bytes w bits k) (low : 16 ≤ k) (high : k ≤ 16) where
-    behind : Taking bytes w bits 16
-    behind = let e : k ≡ 16 = omega arith in rw e at t
+    beyond : Taking bytes w bits 16
+    beyond = let e : k ≡ 16 = omega arith in rw e at t
 
     pub line-digit-wrong : 16 ≤ bits → Malformed ≡ lineRead bytes
     unfolding startsLine
     line-digit-wrong h =
         malformed
         (ap (λ (t : Bool). leb 17 (length bytes) && t && eqb (getD bytes 16 0) 10)
-        (sym (behind .tested) ∙ le-ltb bits 16 h)
+        (sym (beyond .tested) ∙ le-ltb bits 16 h)
         ∙ ap (λ (t : Bool). t && eqb (getD bytes 16 0) 10) (and-off (leb 17 (length bytes))))
 
     pub line-done : 17 ≤ length bytes → bits < 16 → getD bytes 16 0 ≡ 10
@@ -143,9 +143,9 @@ module _ (bytes : List ℕ) where
         yes _
         (rw (
           le-leb 17 (length bytes) m,
-          sym (behind .tested) ∙ lt-ltb bits 16 h,
+          sym (beyond .tested) ∙ lt-ltb bits 16 h,
           eq-eqb (getD bytes 16 0) 10 n,
         ) refl)
-        (ap Word (behind .word h))
+        (ap Word (beyond .word h))
 
 pub ruleset line-laws = (line-short, line-digit-wrong, line-feed-wrong, line-done)

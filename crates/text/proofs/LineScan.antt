@@ -1,5 +1,5 @@
 -- A line that is read is a step of the scan for the first wrong byte: the scan stops in a malformed
--- line, and goes on 17 bytes later behind a right one. Assumes nothing.
+-- line, and goes on 17 bytes later after a right one. Assumes nothing.
 use mathlib.Core.Path.{_≡_, refl, sym, ap, subst, _∙_}
 use mathlib.Core.Bool.{Bool, true, false, _&&_, true≢false}
 use mathlib.Core.List.{List, [], _∷_}
@@ -102,7 +102,7 @@ module _ (p : ℕ) (z : p % 17 ≡ 0) where
       ∙ digits-right n bs (suc k) (omega arith) (omega arith) (t .1)
       ∙ ap (λ (m : ℕ). firstWrong (p + m) (drop n bs)) (omega arith)
 
--- ---- a whole line, of a text that stands from p on: the scan stops in it, or goes on behind it
+-- ---- a whole line, of a text that stands from p on: the scan stops in it, or goes on after it
 module _ (bs : List ℕ) (p : ℕ) (z : p % 17 ≡ 0) (some-left : 0 < length bs) where
   -- the first 16 bytes are digits, and there is one more
   feed-due : 17 ≤ length bs → allDigits (take 16 bs) ≡ true

@@ -114,9 +114,9 @@ module _ (bs : List ℕ) (i at : ℕ) (s : Scanning bs i at) where
 
 -- ---- the lines that were read, in their array
 
--- line i behind the first is line i + 1
-pub line-behind : (i : ℕ) (bs : List ℕ) → drop (i * 17) (drop 17 bs) ≡ drop (suc i * 17) bs
-line-behind i bs =
+-- line i after the first is line i + 1
+pub line-after : (i : ℕ) (bs : List ℕ) → drop (i * 17) (drop 17 bs) ≡ drop (suc i * 17) bs
+line-after i bs =
     let e : 17 + i * 17 ≡ suc i * 17 = omega arith in
     drop-drop (i * 17) 17 bs ∙ ap (λ (k : ℕ). drop k bs) e
 
@@ -124,7 +124,7 @@ words-more : (i : ℕ) (bs : List ℕ)
     → wordsOf (suc i) bs ≡ wordsOf i bs ++ (lineWord (drop (i * 17) bs) ∷ [])
 unfolding wordsOf
 words-more zero bs = refl
-words-more (suc i) bs = ap (λ (ws : List ℕ). lineWord bs ∷ ws) (words-more i (drop 17 bs) ∙ ap (λ (cs : List ℕ). wordsOf i (drop 17 bs) ++ (lineWord cs ∷ [])) (line-behind i bs))
+words-more (suc i) bs = ap (λ (ws : List ℕ). lineWord bs ∷ ws) (words-more i (drop 17 bs) ∙ ap (λ (cs : List ℕ). wordsOf i (drop 17 bs) ++ (lineWord cs ∷ [])) (line-after i bs))
 
 pub zeros-length : (words : List ℕ) → words ≡ replicate 1024 0 → length words ≡ 1024
 zeros-length words e = ap length e ∙ length-replicate {A = ℕ} 1024 0
@@ -143,8 +143,10 @@ unfolding wordArray
 array-more i bs h =
     let e : 1024 - i ≡ suc (1024 - suc i) = omega arith in
     ap (λ (n : ℕ). set (wordsOf i bs ++ replicate n 0) i (lineWord (drop (i * 17) bs))) e
-    ∙ set-at (wordsOf i bs) 0 (replicate (1024 - suc i) 0) (lineWord (drop (i * 17) bs)) i (length-words i bs)
-    ∙ sym (append-assoc (wordsOf i bs) (lineWord (drop (i * 17) bs) ∷ []) (replicate (1024 - suc i) 0))
+    ∙ set-at (wordsOf i bs) 0 (replicate (1024 - suc i) 0) (lineWord (drop (i * 17) bs)) i
+    (length-words i bs)
+    ∙ sym
+    (append-assoc (wordsOf i bs) (lineWord (drop (i * 17) bs) ∷ []) (replicate (1024 - suc i) 0))
     ∙ ap (λ (ws : List ℕ). ws ++ replicate (1024 - suc i) 0) (sym (words-more i bs))
 
 -- ---- the reader's loop: where the scan is, and what the lent words hold; and its answer
@@ -190,7 +192,8 @@ module _ (bs words : List ℕ) (i at : ℕ) (d : Reader bs words i at) where
         scan = scanning-more bs i at s h w q;
         kept =
             ap (λ (ws : List ℕ). set ws i w) (d .kept)
-            ∙ ap (set (wordArray i bs) i) (here-word bs i at s h w q ∙ ap (λ (n : ℕ). lineWord (drop n bs)) (s .lines))
+            ∙ ap (set (wordArray i bs) i)
+            (here-word bs i at s h w q ∙ ap (λ (n : ℕ). lineWord (drop n bs)) (s .lines))
             ∙ array-more i bs k;
       })
 

@@ -105,7 +105,8 @@ reads [] = Reads.empty
 reads (b ∷ bs) = go (ltb 17408 (length (b ∷ bs))) refl
   where
     go : (t : Bool) → ltb 17408 (length (b ∷ bs)) ≡ t
-        → Reads (b ∷ bs) (elim t [ true ↦ refused 2 0 | false ↦ readLines (b ∷ bs) (firstWrong 0 (b ∷ bs)) ])
+        → Reads (b ∷ bs)
+        (elim t [ true ↦ refused 2 0 | false ↦ readLines (b ∷ bs) (firstWrong 0 (b ∷ bs)) ])
     go true e = Reads.over (ltb-true _ _ e)
     go false e = reads-lines (b ∷ bs) (omega arith) (ltb-false _ _ e) _ (scan (b ∷ bs) 0)
 

@@ -1,8 +1,5 @@
--- Digits. 'Digits are read through a table of 256 numbers, one for each byte: the digit's value, or 255.' Assumes nothing: a definition.
-use mathlib.Core.List.{List, [], _∷_}
-use Prim.Native.Nat.{ℕ, zero, suc, _-_}
-use lib.Dec.{ltb}
-use Rattle.basics.specs.If.{if_then_else_}
+-- 'Digits are read through a table of 256 numbers, one for each byte: the digit's value, or 255.'
+use Rattle.basics.specs.Prelude.{List, [], _∷_, ℕ, zero, suc, _-_, ltb, if_then_else_}
 
 -- the value of a byte that is one of 0-9, A-F, or 255
 unfoldable pub digit : ℕ → ℕ

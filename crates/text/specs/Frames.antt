@@ -1,13 +1,10 @@
--- Frames as lines write them. 'A frame is K (2 digits), S (2), A, B, C (4 each), all hexadecimal. Frames count from 0.' Assumes nothing: definitions.
-use mathlib.Core.List.{List, [], _∷_, map}
-use Prim.Native.Nat.{ℕ, zero, suc, _+_, _*_, _/_, _%_, _^_}
-use lib.ListN.{length, take, drop}
-use Rattle.language.specs.Kinds.{kindOf}
-use Rattle.language.specs.declared.frame.Frame.{Frame}
-use Rattle.language.specs.Limits.{lineLength}
+-- 'A frame is K (2 digits), S (2), A, B, C (4 each), all hexadecimal. Frames count from 0.'
+use Rattle.basics.specs.Prelude.{List, [], _∷_, map, ℕ, zero, suc, _+_, _*_, _/_, _%_, _^_, length}
+use Rattle.basics.specs.Prelude.{take, drop}
+use Rattle.language.specs.{Kinds.kindOf, declared.frame.Frame.Frame, Limits.lineLength}
 use Rattle.text.specs.Digits.{digit}
 
--- the number that hexadecimal digits write, behind w
+-- the number that hexadecimal digits write, after w
 unfoldable pub hexadecimal : ℕ → List ℕ → ℕ
 hexadecimal w [] = w
 hexadecimal w (b ∷ bs) = hexadecimal (w * 16 + digit b) bs

@@ -27,12 +27,6 @@ pub enum FrameRead {
     NoFrame,
 }
 
-fn wide(d: u8) -> u64
-    ensures { λ r. ⌜ r ≡ d ⌝ }
-{
-    d as u64
-}
-
 // The line with which the bytes begin, by the table of digits that the caller has: who reads many
 // lines makes it once. The loop has no exit, so that it is unrolled: `bits` puts all values
 // together, and is 16 or more exactly where one of them is no digit.
@@ -49,7 +43,7 @@ pub(crate) fn read_line(digits: &[u8; 256], bytes: &[u8]) -> Line
     while k < LINE_DIGITS {
         let d = digit(digits, bytes[k]);
         bits |= d;
-        w = w * 16 + wide(d % 16);
+        w = w * 16 + (d % 16) as u64;
         k += 1;
     }
     if 16 <= bits {

@@ -20,7 +20,7 @@ pub enum TextRead {
 }
 
 // What any bytes read as. Their lines go to the first of the lent words, each as one number of 16
-// digits; the words are all 0 before, so that 0 stands behind the lines.
+// digits; the words are all 0 before, so that 0 stands after the lines.
 pub fn read_into(text: &[u8], words: &mut [u64]) -> TextRead
     requires { ⌜ now words ≡ replicate mostLines 0 ⌝ }
     ensures { λ r. ⌜ readAs r (now (words .exit)) ≡ textWords (now (text .entry)) ⌝ }

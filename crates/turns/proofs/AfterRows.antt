@@ -1,42 +1,28 @@
--- The returns behind an evaluation (evaluated.rt, and the starts of start.rt): a refusal, a value,
+-- The returns after an evaluation (evaluated.rt, and the starts of start.rt): a refusal, a value,
 -- and for 18 and 19 each value of the condition. Assumes nothing.
 use mathlib.Core.Path.{_≡_, refl, sym, ap, _∙_}
 use mathlib.Core.Bool.{Bool, true, false}
-use mathlib.Core.Logic.{inl, inr}
-use mathlib.Core.List.{[], _∷_}
 use Prim.Native.Nat.{ℕ}
-use native.Mathlib.Omega.{arith}
-use denote.Enum.Declared.{tagOf}
-use types.Run.{OneOf}
 use Rattle.machine.specs.Values.{answerOf}
 use Rattle.machine.specs.Words.{valueWord}
 use Rattle.machine.specs.declared.value.Value.{Value}
 use Rattle.machine.specs.declared.value.Value.the-variants.{Number, Truth, Cell}
 use Rattle.machine.specs.declared.value.Outcome.{Outcome}
 use Rattle.machine.specs.declared.value.Outcome.the-variants.{Is, Foreign, Spent, Stuck}
-use Rattle.machine.proofs.value.Outcome as outcome
-use Rattle.acts.specs.declared.act.Acted.{Acted}
-use Rattle.acts.specs.inner.Fates.{argumentsOf, refusedWith}
-use Rattle.turns.specs.declared.view.View.{View}
+use Rattle.operations.proofs.Told.{IsRefusal, no-refusal}
+use Rattle.acts.specs.declared.act.Action.{Action}
+use Rattle.acts.specs.inner.Transitions.{argumentsOf, refusedWith}
+use Rattle.turns.specs.declared.counts.Counts.{Counts}
 use Rattle.turns.specs.declared.start.Request.{Request}
-use Rattle.turns.specs.inner.Actions.{letMore, afterValue, byTruth, letAfter, startWith}
+use Rattle.turns.specs.inner.Actions.{letMore, afterValue, byTruthAct, letAfter, startWith}
 use Rattle.turns.specs.inner.Actions.{startOne, startTwo}
 
--- ---- what is told where an outcome is no value: it is the second, third or fourth variant
-abbrev pub IsRefusal : Outcome → Type 0
-IsRefusal o = OneOf (1 ∷ 2 ∷ 3 ∷ []) (tagOf outcome.the-type o)
-
-pub no-refusal : (v : Value) → IsRefusal (Is v) → ⊥
-no-refusal v (inl e) = omega arith
-no-refusal v (inr (inl e)) = omega arith
-no-refusal v (inr (inr e)) = omega arith
-
-pub refused-as : (o : Outcome) (m : ℕ) (r : Acted) → m ≡ answerOf o → r ≡ refusedWith m
+pub refused-as : (o : Outcome) (m : ℕ) (r : Action) → m ≡ answerOf o → r ≡ refusedWith m
     → r ≡ refusedWith (answerOf o)
 refused-as o m r e h = h ∙ ap refusedWith e
 
 -- ---- by the outcome
-module _ (o : Outcome) (k : Value → Acted) (r : Acted) where
+module _ (o : Outcome) (k : Value → Action) (r : Action) where
   pub after-refused : IsRefusal o → r ≡ refusedWith (answerOf o) → r ≡ afterValue o k
   unfolding afterValue
   after-refused h e = e ∙ by o h
@@ -53,11 +39,11 @@ module _ (o : Outcome) (k : Value → Acted) (r : Acted) where
 
 -- a value that goes on as its word
 module _
-    (o : Outcome) (r : Acted) (x : Value) (m : ℕ) (e : o ≡ Is x) (h : m ≡ valueWord x) where
-  pub after-lets : (v : View) (body : ℕ) → r ≡ letMore v m body
-      → r ≡ afterValue o (letAfter v body)
-  after-lets v body q =
-      after-is o (letAfter v body) r x e (q ∙ ap (λ (w : ℕ). letMore v w body) h)
+    (o : Outcome) (r : Action) (x : Value) (m : ℕ) (e : o ≡ Is x) (h : m ≡ valueWord x) where
+  pub after-lets : (counts : Counts) (body : ℕ) → r ≡ letMore counts m body
+      → r ≡ afterValue o (letAfter counts body)
+  after-lets counts body q =
+      after-is o (letAfter counts body) r x e (q ∙ ap (λ (w : ℕ). letMore counts w body) h)
 
   pub after-starts-one : (s : Request) → r ≡ startWith s (argumentsOf 1 m 0)
       → r ≡ afterValue o (startOne s)
@@ -71,20 +57,20 @@ module _
       (q ∙ ap (λ (w : ℕ). startWith s (argumentsOf 2 first w)) h)
 
 -- ---- by the condition: a truth chooses, any other value is 20
-module _ (x : Value) (a b r : Acted) where
-  at-value : (u : Value) → x ≡ u → r ≡ byTruth u a b → r ≡ byTruth x a b
-  at-value u e h = h ∙ ap (λ (w : Value). byTruth w a b) (sym e)
+module _ (x : Value) (a b r : Action) where
+  at-value : (u : Value) → x ≡ u → r ≡ byTruthAct u a b → r ≡ byTruthAct x a b
+  at-value u e h = h ∙ ap (λ (w : Value). byTruthAct w a b) (sym e)
 
-  pub truth-yes : (t : Bool) → x ≡ Truth t → t ≡ true → r ≡ a → r ≡ byTruth x a b
+  pub truth-yes : (t : Bool) → x ≡ Truth t → t ≡ true → r ≡ a → r ≡ byTruthAct x a b
   truth-yes t e h q = at-value (Truth true) (e ∙ ap Truth h) q
 
-  pub truth-no : (t : Bool) → x ≡ Truth t → t ≡ false → r ≡ b → r ≡ byTruth x a b
+  pub truth-no : (t : Bool) → x ≡ Truth t → t ≡ false → r ≡ b → r ≡ byTruthAct x a b
   truth-no t e h q = at-value (Truth false) (e ∙ ap Truth h) q
 
-  pub truth-number : (m : ℕ) → x ≡ Number m → r ≡ refusedWith 20 → r ≡ byTruth x a b
+  pub truth-number : (m : ℕ) → x ≡ Number m → r ≡ refusedWith 20 → r ≡ byTruthAct x a b
   truth-number m e q = at-value (Number m) e q
 
-  pub truth-cell : (c : ℕ) → x ≡ Cell c → r ≡ refusedWith 20 → r ≡ byTruth x a b
+  pub truth-cell : (c : ℕ) → x ≡ Cell c → r ≡ refusedWith 20 → r ≡ byTruthAct x a b
   truth-cell c e q = at-value (Cell c) e q
 
 pub ruleset truth-rows = (truth-yes, truth-no, truth-number, truth-cell)

@@ -10,19 +10,19 @@ use Rattle.language.specs.declared.Place.{Place}
 use Rattle.language.specs.declared.frame.Frame.{Frame}
 use Rattle.program.specs.Trees.{statementAt}
 use Rattle.operations.specs.declared.Who.{Who}
-use Rattle.acts.specs.declared.act.Fate.the-variants.{Leaves}
+use Rattle.acts.specs.declared.act.Transition.the-variants.{Leaves}
 use Rattle.acts.specs.declared.act.Change.the-variants.{End}
-use Rattle.acts.specs.declared.act.Acted.{Acted}
-use Rattle.acts.specs.inner.Fates.{actedWith}
-use Rattle.turns.specs.declared.view.View.{View}
+use Rattle.acts.specs.declared.act.Action.{Action}
+use Rattle.acts.specs.inner.Transitions.{action}
+use Rattle.turns.specs.declared.counts.Counts.{Counts}
 use Rattle.turns.specs.inner.Acts.{TurnWords}
-use Rattle.turns.specs.inner.Actions.{actOn, placeAt, goBack, dropOne, statementAct, itemAct}
+use Rattle.turns.specs.inner.Actions.{actResult, placeAt, goBack, dropOne, statementAct, itemAct}
 use Rattle.turns.specs.inner.Actions.{below, turnAct}
 
 -- what a caller has shown holds without the top item
-pub below-words : (fw : List ℕ) (v : View) (vs : List ℕ) (n : ℕ) (ws : List ℕ)
-    → TurnWords fw v vs n ws → TurnWords fw (below v) vs n ws
-below-words fw v vs n ws g =
+pub below-words : (fw : List ℕ) (who : Who) (counts : Counts) (vs : List ℕ) (n : ℕ) (ws : List ℕ)
+    → TurnWords fw who counts vs n ws → TurnWords fw who (below counts) vs n ws
+below-words fw who counts vs n ws g =
     record {
       ordered = g .ordered;
       placed = g .placed;
@@ -34,37 +34,39 @@ below-words fw v vs n ws g =
     }
 
 module _
-    (fs : List Frame) (who : Who) (v : View) (item : ℕ) (vs : List ℕ) (n : ℕ) (ws : List ℕ)
-    (r : Acted) where
+    (fs : List Frame) (who : Who) (counts : Counts) (item : ℕ) (vs : List ℕ) (n : ℕ) (ws : List ℕ)
+    (r : Action) where
   -- ---- by the item: a statement, a way back to a place, a drop
   pub item-statement : (m : ℕ) (us : List ℕ) → item < 1024
-      → actOn r m us ≡ statementAct who v vs n ws (statementAt fs item)
-      → actOn r m us ≡ itemAct fs who v item vs n ws
+      → actResult r m us ≡ statementAct who counts vs n ws (statementAt fs item)
+      → actResult r m us ≡ itemAct fs who counts item vs n ws
   unfolding itemAct
   item-statement m us h z = yes _ (lt-ltb item 1024 h) z
 
   pub item-back : (q : Place) → 1024 ≤ item → item < 2048 → q ≡ placeAt (item - 1024)
-      → r ≡ goBack v q → actOn r n ws ≡ itemAct fs who v item vs n ws
+      → r ≡ goBack (who .place) q → actResult r n ws ≡ itemAct fs who counts item vs n ws
   unfolding itemAct
   item-back q h k e z =
       no _ (le-ltb item 1024 h)
       (yes _ (lt-ltb item 2048 k)
-      (ap (λ (x : Acted). actOn x n ws) z ∙ ap (λ (p : Place). actOn (goBack v p) n ws) e))
+      (ap (λ (x : Action). actResult x n ws) z
+      ∙ ap (λ (p : Place). actResult (goBack (who .place) p) n ws) e))
 
-  pub item-drop : 1024 ≤ item → 2048 ≤ item → r ≡ dropOne v
-      → actOn r n ws ≡ itemAct fs who v item vs n ws
+  pub item-drop : 1024 ≤ item → 2048 ≤ item → r ≡ dropOne counts
+      → actResult r n ws ≡ itemAct fs who counts item vs n ws
   unfolding itemAct
   item-drop h k z =
-      no _ (le-ltb item 1024 h) (no _ (le-ltb item 2048 k) (ap (λ (x : Acted). actOn x n ws) z))
+      no _ (le-ltb item 1024 h)
+      (no _ (le-ltb item 2048 k) (ap (λ (x : Action). actResult x n ws) z))
 
   -- ---- the turn
-  pub turn-ends : v .items ≡ 0 → r ≡ actedWith Leaves End
-      → actOn r n ws ≡ turnAct fs who v item vs n ws
+  pub turn-ends : counts .items ≡ 0 → r ≡ action Leaves End
+      → actResult r n ws ≡ turnAct fs who counts item vs n ws
   unfolding turnAct
-  turn-ends h e = yes _ (eq-eqb (v .items) 0 h) (ap (λ (x : Acted). actOn x n ws) e)
+  turn-ends h e = yes _ (eq-eqb (counts .items) 0 h) (ap (λ (x : Action). actResult x n ws) e)
 
-  pub turn-item : (m : ℕ) (us : List ℕ) → (v .items ≡ 0 → ⊥)
-      → actOn r m us ≡ itemAct fs who (below v) item vs n ws
-      → actOn r m us ≡ turnAct fs who v item vs n ws
+  pub turn-item : (m : ℕ) (us : List ℕ) → (counts .items ≡ 0 → ⊥)
+      → actResult r m us ≡ itemAct fs who (below counts) item vs n ws
+      → actResult r m us ≡ turnAct fs who counts item vs n ws
   unfolding turnAct
-  turn-item m us h z = no _ (ne-eqb (v .items) 0 h) z
+  turn-item m us h z = no _ (ne-eqb (counts .items) 0 h) z

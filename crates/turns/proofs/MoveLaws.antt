@@ -8,31 +8,32 @@ use Rattle.basics.specs.If.{if_then_else_}
 use Rattle.basics.proofs.Ifs.{if-all, yes, no}
 use Rattle.language.specs.Places.{private}
 use Rattle.language.specs.declared.Place.{Place}
+use Rattle.operations.specs.declared.Who.{Who}
 use Rattle.states.specs.declared.thread.ThreadWords.{ThreadWords}
 use Rattle.states.specs.inner.Stacks.{pushItem, moveTo}
-use Rattle.acts.specs.declared.act.Fate.the-variants.{Stays, Leaves, Joins}
+use Rattle.acts.specs.declared.act.Transition.the-variants.{Stays, Leaves, Joins}
 use Rattle.acts.specs.declared.act.Change.{Change}
 use Rattle.acts.specs.declared.act.Change.the-variants.{Same, Items, Move, Enter}
-use Rattle.acts.specs.declared.act.Acted.{Acted}
-use Rattle.acts.specs.inner.Fates.{actedIn, actedWith, changed, turned, Room}
-use Rattle.turns.specs.declared.view.View.{View}
-use Rattle.turns.specs.inner.Acts.{goesIn, doesIn, cooperatesIn, Views}
-use Rattle.turns.specs.inner.Actions.{goTo, goBack, unlinkedAgain, doThere, cooperation}
-use Rattle.turns.proofs.ViewLaws.{Turns}
+use Rattle.acts.specs.declared.act.Action.{Action}
+use Rattle.acts.specs.inner.Transitions.{actedIn, action, changed, turned, HasRoom}
+use Rattle.turns.specs.declared.counts.Counts.{Counts}
+use Rattle.turns.specs.inner.Acts.{goesIn, doesIn, cooperatesIn, Seen}
+use Rattle.turns.specs.inner.Actions.{goToAct, goBack, unlinkedAgain, doThere, cooperation}
+use Rattle.turns.proofs.SeenLaws.{Turns}
 
 -- ---- the act made in a thread: with either change it is the thread that goes, and there is room
 -- for both
 module _ (from q : Place) (same moved : Change) where
-  abbrev act : Bool → Bool → Acted
+  abbrev act : Bool → Bool → Action
   act b c =
-      if b then actedWith Stays same else
-      if c then actedWith Leaves moved else
-      actedWith (Joins q) moved
+      if b then action Stays same else
+      if c then action Leaves moved else
+      action (Joins q) moved
 
   goes-made : (n : ℕ) (th p : ThreadWords) → changed same th ≡ p
       → changed moved th ≡ moveTo (q .number) p
-      → turned (goTo from q same moved) n th ≡ goesIn (from .number) p n (q .number)
-  unfolding goTo goesIn if_then_else_
+      → turned (goToAct from q same moved) n th ≡ goesIn (from .number) p n (q .number)
+  unfolding goToAct goesIn if_then_else_
   goes-made n th p h k = by (eqb (q .number) (from .number)) (eqb (q .number) private)
     where
       by : (b c : Bool)
@@ -44,41 +45,43 @@ module _ (from q : Place) (same moved : Change) where
       by false true = ap (λ (x : ThreadWords). actedIn Leaves x n) k
       by false false = ap (λ (x : ThreadWords). actedIn (Joins q) x n) k
 
-  goes-room : (items values : ℕ) → Room same items values → Room moved items values
-      → Room (goTo from q same moved .change) items values
-  unfolding goTo if_then_else_
+  goes-room : (items values : ℕ) → HasRoom same items values → HasRoom moved items values
+      → HasRoom (goToAct from q same moved .change) items values
+  unfolding goToAct if_then_else_
   goes-room items values h k = by (eqb (q .number) (from .number)) (eqb (q .number) private)
     where
-      by : (b c : Bool) → Room (act b c .change) items values
+      by : (b c : Bool) → HasRoom (act b c .change) items values
       by true c = h
       by false true = k
       by false false = k
 
-module _ (v : View) (n : ℕ) where
-  pub back-turns : (q : Place) → Turns (goBack v q) n v (λ th. goesIn (th .place) th n (q .number))
+module _ (who : Who) (counts : Counts) (n : ℕ) where
+  pub back-turns : (q : Place)
+      → Turns (goBack (who .place) q) n who counts (λ th. goesIn (th .place) th n (q .number))
   back-turns q =
       record {
         thread =
             λ th w.
-            goes-made (v .place) q Same (Move q) n th th refl refl
+            goes-made (who .place) q Same (Move q) n th th refl refl
             ∙ ap (λ (x : ℕ). goesIn x th n (q .number)) (sym (w .place));
-        room = goes-room (v .place) q Same (Move q) (v .items) (v .values) tt tt;
+        room = goes-room (who .place) q Same (Move q) (counts .items) (counts .variables) tt tt;
       }
 
-  again-at : {th : ThreadWords} {t : Bool} (q : Place) → Views v th → unlinkedAgain (v .place) q ≡ t
+  again-at : {th : ThreadWords} {t : Bool} (q : Place) → Seen who counts th
+      → unlinkedAgain (who .place) q ≡ t
       → (eqb (th .place) private && eqb (q .number) private) ≡ t
   again-at q w e = ap (λ (x : ℕ). eqb x private && eqb (q .number) private) (w .place) ∙ e
 
   pub does-turns : (q : Place) (body : ℕ)
-      → Turns (doThere v q body) n v (λ th. doesIn th n (q .number) body)
+      → Turns (doThere (who .place) counts q body) n who counts (λ th. doesIn th n (q .number) body)
   unfolding doThere doesIn
   does-turns q body =
-      if-all (λ (a : Acted). Turns a n v (λ th. doesIn th n (q .number) body))
-      (unlinkedAgain (v .place) q) _ _
+      if-all (λ (a : Action). Turns a n who counts (λ th. doesIn th n (q .number) body))
+      (unlinkedAgain (who .place) q) _ _
       (λ e. record { thread = λ th w. yes _ (again-at q w e) refl; room = tt })
       (λ e.
-      if-all (λ (a : Acted). Turns a n v (λ th. doesIn th n (q .number) body))
-      (leb 24 (v .items)) _ _
+      if-all (λ (a : Action). Turns a n who counts (λ th. doesIn th n (q .number) body))
+      (leb 24 (counts .items)) _ _
       (λ k.
       record {
         thread = λ th w. no _ (again-at q w e) (yes _ (ap (leb 24) (w .items) ∙ k) refl);
@@ -91,21 +94,21 @@ module _ (v : View) (n : ℕ) where
             no _ (again-at q w e)
             (no _ (ap (leb 24) (w .items) ∙ k)
             (let p = pushItem body (pushItem (1024 + th .place) th) in
-            goes-made (v .place) q (Items body (1024 + v .place .number)) (Enter q body) n th p
+            goes-made (who .place) q (Items body (1024 + who .place .number)) (Enter q body) n th p
             (ap (λ (x : ℕ). pushItem body (pushItem (1024 + x) th)) (sym (w .place)))
             refl
             ∙ ap (λ (x : ℕ). goesIn x p n (q .number)) (sym (w .place))));
         room =
-            let h = leb-false 24 (v .items) k in
-            goes-room (v .place) q (Items body (1024 + v .place .number)) (Enter q body)
-            (v .items) (v .values) h h;
+            let h = leb-false 24 (counts .items) k in
+            goes-room (who .place) q (Items body (1024 + who .place .number)) (Enter q body)
+            (counts .items) (counts .variables) h h;
       }))
 
-  pub cooperates-turns : Turns (cooperation v) n v (λ th. cooperatesIn th n)
+  pub cooperates-turns : Turns (cooperation (who .place)) n who counts (λ th. cooperatesIn th n)
   unfolding cooperation cooperatesIn
   cooperates-turns =
-      if-all (λ (a : Acted). Turns a n v (λ th. cooperatesIn th n))
-      (eqb (v .place .number) private) _ _
+      if-all (λ (a : Action). Turns a n who counts (λ th. cooperatesIn th n))
+      (eqb (who .place .number) private) _ _
       (λ e.
       record {
         thread = λ th w. yes _ (ap (λ (x : ℕ). eqb x private) (w .place) ∙ e) refl;

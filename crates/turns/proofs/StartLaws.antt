@@ -11,59 +11,59 @@ use Rattle.operations.specs.declared.Who.{Who}
 use Rattle.operations.specs.inner.Results.{Result}
 use Rattle.states.specs.declared.thread.ThreadWords.{ThreadWords}
 use Rattle.acts.specs.declared.act.Arguments.{Arguments}
-use Rattle.acts.specs.inner.Fates.{argumentsOf}
-use Rattle.turns.specs.declared.view.View.{View}
+use Rattle.acts.specs.inner.Transitions.{argumentsOf}
+use Rattle.turns.specs.declared.counts.Counts.{Counts}
 use Rattle.turns.specs.declared.start.Request.{Request}
-use Rattle.turns.specs.inner.Acts.{ActedOn, thenOn, startsWith, oneArgument, lastArgument}
-use Rattle.turns.specs.inner.Acts.{twoArguments, startsIn}
-use Rattle.turns.specs.inner.Actions.{ActOn, startWith, startOne, startTwo, behind}
+use Rattle.turns.specs.inner.Acts.{TurnOutcome, thenOn, startsWith, oneArgument, lastArgument}
+use Rattle.turns.specs.inner.Acts.{twoArguments, startTurn}
+use Rattle.turns.specs.inner.Actions.{ActResult, startWith, startOne, startTwo, actAfter}
 use Rattle.turns.specs.inner.Actions.{evaluatedBy, firstThen, bothArguments, startAct}
-use Rattle.turns.proofs.ViewLaws.{Turns, Turning, refused-so, act-on, act-on-as, in-thread}
+use Rattle.turns.proofs.SeenLaws.{Turns, Turning, refused-so, act-on, act-on-as, in-thread}
 use Rattle.turns.proofs.AfterLaws.{after-turns}
 
--- behind the first of two arguments, whose outcome is o
-first-turns : (o : Outcome) (n : ℕ) (us : List ℕ) (v : View) (vs : List ℕ) (k : Value → ActOn)
-    (f : ThreadWords → Value → ActedOn)
-    → ((x : Value) → Turning (k x) v vs (λ th. f th x))
-    → Turning (firstThen o n us k) v vs (λ th. thenOn o th n us (f th))
-first-turns (Is x) n us v vs k f h = h x
-first-turns Foreign n us v vs k f h = act-on (refused-so v 19 n) (λ th e. refl)
-first-turns Spent n us v vs k f h = act-on (refused-so v 17 n) (λ th e. refl)
-first-turns Stuck n us v vs k f h = act-on (refused-so v 20 n) (λ th e. refl)
+-- after the first of two arguments, whose outcome is o
+first-turns : (o : Outcome) (n : ℕ) (us : List ℕ) (who : Who) (counts : Counts) (vs : List ℕ)
+    (k : Value → ActResult) (f : ThreadWords → Value → TurnOutcome)
+    → ((x : Value) → Turning (k x) who counts vs (λ th. f th x))
+    → Turning (firstThen o n us k) who counts vs (λ th. thenOn o th n us (f th))
+first-turns (Is x) n us who counts vs k f h = h x
+first-turns Foreign n us who counts vs k f h = act-on (refused-so who counts 19 n) (λ th e. refl)
+first-turns Spent n us who counts vs k f h = act-on (refused-so who counts 17 n) (λ th e. refl)
+first-turns Stuck n us who counts vs k f h = act-on (refused-so who counts 20 n) (λ th e. refl)
 
-module _ (who : Who) (q : Request) (v : View) (vs : List ℕ) where
+module _ (who : Who) (q : Request) (counts : Counts) (vs : List ℕ) where
   with-arguments : (n : ℕ) (args : Arguments)
-      → Turns (startWith q args) n v (λ th. startsWith q th n args)
+      → Turns (startWith q args) n who counts (λ th. startsWith q th n args)
   with-arguments n args = record { thread = λ th w. refl; room = tt }
 
   one-turns : (r : Result)
-      → Turning (behind r (startOne q)) v vs (λ th. oneArgument q th r)
+      → Turning (actAfter r (startOne q)) who counts vs (λ th. oneArgument q th r)
   one-turns r =
       act-on
-      (after-turns (r .outcome) (r .used) v (startOne q)
+      (after-turns (r .outcome) (r .used) who counts (startOne q)
       (λ th x. startsWith q th (r .used) (argumentsOf 1 (valueWord x) 0))
       (λ x. with-arguments (r .used) (argumentsOf 1 (valueWord x) 0)))
       (λ th e. refl)
 
   last-turns : (first : ℕ) (r : Result)
-      → Turning (behind r (startTwo q first)) v vs (λ th. lastArgument q th first r)
+      → Turning (actAfter r (startTwo q first)) who counts vs (λ th. lastArgument q th first r)
   last-turns first r =
       act-on
-      (after-turns (r .outcome) (r .used) v (startTwo q first)
+      (after-turns (r .outcome) (r .used) who counts (startTwo q first)
       (λ th x. startsWith q th (r .used) (argumentsOf 2 first (valueWord x)))
       (λ x. with-arguments (r .used) (argumentsOf 2 first (valueWord x))))
       (λ th e. refl)
 
   both-turns : (y : Expr) (r : Result)
-      → Turning (bothArguments who q vs y r) v vs (λ th. twoArguments who q th y r)
+      → Turning (bothArguments who q vs y r) who counts vs (λ th. twoArguments who q th y r)
   both-turns y r =
-      first-turns (r .outcome) (r .used) (r .words) v vs _ _
+      first-turns (r .outcome) (r .used) (r .words) who counts vs _ _
       (λ x.
       act-on-as (last-turns (valueWord x) (evaluatedBy who vs y (r .used) (r .words)))
       (λ th e. ap (lastArgument q th (valueWord x)) (in-thread who th vs e (r .used) (r .words) y)))
 
   pub starts-turns : (n : ℕ) (ws : List ℕ) (xs : List Expr)
-      → Turning (startAct who q vs n ws xs) v vs (λ th. startsIn who q th n ws xs)
+      → Turning (startAct who q vs n ws xs) who counts vs (λ th. startTurn who q th n ws xs)
   starts-turns n ws [] = act-on (with-arguments n (argumentsOf 0 0 0)) (λ th e. refl)
   starts-turns n ws (x ∷ []) =
       act-on-as (one-turns (evaluatedBy who vs x n ws))

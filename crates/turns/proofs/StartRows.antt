@@ -13,34 +13,34 @@ use Rattle.machine.specs.declared.value.Value.{Value}
 use Rattle.machine.specs.declared.value.Outcome.{Outcome}
 use Rattle.machine.specs.declared.value.Outcome.the-variants.{Is, Foreign, Spent, Stuck}
 use Rattle.operations.specs.declared.Who.{Who}
-use Rattle.operations.specs.inner.Lent.{Lent, variablesOf, restOf}
+use Rattle.operations.specs.inner.Lent.{Lent, lentVariables, lentRest}
 use Rattle.operations.specs.inner.Results.{Result, result}
 use Rattle.evaluator.specs.inner.Results.{hereOf, onWords, CellWords, ValueWords}
 use Rattle.evaluator.proofs.Agreement.{eval-leaves}
 use Rattle.evaluator.proofs.InPlace.{variables-kept}
-use Rattle.acts.specs.declared.act.Acted.{Acted}
-use Rattle.acts.specs.inner.Fates.{argumentsOf, refusedWith}
+use Rattle.acts.specs.declared.act.Action.{Action}
+use Rattle.acts.specs.inner.Transitions.{argumentsOf, refusedWith}
 use Rattle.turns.specs.declared.start.Request.{Request}
-use Rattle.turns.specs.inner.Actions.{ActOn, actOn, afterValue, startWith, startOne, startTwo}
-use Rattle.turns.specs.inner.Actions.{behind, evaluatedBy, firstThen, bothArguments, startAct}
-use Rattle.turns.proofs.AfterRows.{IsRefusal, no-refusal}
+use Rattle.turns.specs.inner.Actions.{ActResult, actResult, afterValue, startWith, startOne, startTwo}
+use Rattle.turns.specs.inner.Actions.{actAfter, evaluatedBy, firstThen, bothArguments, startAct}
+use Rattle.operations.proofs.Told.{IsRefusal, no-refusal}
 
--- behind an evaluation the cells may be lent again
-pub cells-behind : (fw vs : List ℕ) (who : Who) (i n : ℕ) (ws : List ℕ)
+-- after an evaluation the cells may be lent again
+pub cells-after : (fw vs : List ℕ) (who : Who) (i n : ℕ) (ws : List ℕ)
     (x : Outcome) (m : ℕ) (us : List ℕ)
     → result x m us ≡ onWords (eval (hereOf who vs) (expressionAt (framesOf fw) i)) n ws
     → ValueWords vs → CellWords n ws → CellWords m us
-cells-behind fw vs who i n ws x m us e h g = eval-leaves fw vs who i n ws (result x m us) h g e
+cells-after fw vs who i n ws x m us e h g = eval-leaves fw vs who i n ws (result x m us) h g e
 
--- behind an evaluation the thread's variables are as before
+-- after an evaluation the thread's variables are as before
 module _
-    (who : Who) (w v : List ℕ) (l : Lent who w) (e : restOf v ≡ restOf w) where
-  pub values-again : ValueWords (variablesOf who w) → ValueWords (variablesOf who v)
+    (who : Who) (w v : List ℕ) (l : Lent who w) (e : lentRest v ≡ lentRest w) where
+  pub values-again : ValueWords (lentVariables who w) → ValueWords (lentVariables who v)
   values-again h = subst ValueWords (sym (variables-kept who w v e l)) h
 
   pub variables-again : (x : Expr) (n : ℕ) (ws : List ℕ) (y : Result)
-      → y ≡ evaluatedBy who (variablesOf who v) x n ws
-      → y ≡ evaluatedBy who (variablesOf who w) x n ws
+      → y ≡ evaluatedBy who (lentVariables who v) x n ws
+      → y ≡ evaluatedBy who (lentVariables who w) x n ws
   variables-again x n ws y h =
       h ∙ ap (λ (vs : List ℕ). evaluatedBy who vs x n ws) (variables-kept who w v e l)
 
@@ -57,17 +57,17 @@ module _ (expr : ℕ → Expr) where
   arguments-two (suc a) zero h k = absurd (k refl)
   arguments-two (suc a) (suc b) h k = refl
 
--- ---- the returns; x is the first argument's outcome, with m cells in use behind it, whose words
+-- ---- the returns; x is the first argument's outcome, with m cells in use after it, whose words
 -- are us
 module _
     (expr : ℕ → Expr) (who : Who) (q : Request) (vs : List ℕ) (n : ℕ) (ws : List ℕ) (a b : ℕ)
-    (r : Acted) where
+    (r : Action) where
   abbrev Starts : ℕ → List ℕ → Type 0
-  Starts m us = actOn r m us ≡ startAct who q vs n ws (arguments expr a b)
+  Starts m us = actResult r m us ≡ startAct who q vs n ws (arguments expr a b)
 
   pub starts-none : a ≡ 0 → r ≡ startWith q (argumentsOf 0 0 0) → Starts n ws
   starts-none h e =
-      ap (λ (z : Acted). actOn z n ws) e
+      ap (λ (z : Action). actResult z n ws) e
       ∙ ap (λ (m : ℕ). startAct who q vs n ws (arguments expr m b)) (sym h)
 
   module _
@@ -75,7 +75,7 @@ module _
       (e : result x m us ≡ evaluatedBy who vs (expr a) n ws) where
     pub starts-one : b ≡ 0 → r ≡ afterValue x (startOne q) → Starts m us
     starts-one k z =
-        ap (λ (y : Acted). actOn y m us) z ∙ ap (λ (y : Result). behind y (startOne q)) e
+        ap (λ (y : Action). actResult y m us) z ∙ ap (λ (y : Result). actAfter y (startOne q)) e
         ∙ ap (startAct who q vs n ws) (sym (arguments-one expr a b h k))
 
     both : (b ≡ 0 → ⊥)
@@ -86,13 +86,13 @@ module _
         ∙ ap (startAct who q vs n ws) (sym (arguments-two expr a b h k))
 
     pub starts-refused : (b ≡ 0 → ⊥) → IsRefusal x → r ≡ refusedWith (answerOf x) → Starts m us
-    starts-refused k l z = ap (λ (y : Acted). actOn y m us) z ∙ by x l ∙ both k
+    starts-refused k l z = ap (λ (y : Action). actResult y m us) z ∙ by x l ∙ both k
       where
-        rest : Value → ActOn
-        rest w = behind (evaluatedBy who vs (expr b) m us) (startTwo q (valueWord w))
+        rest : Value → ActResult
+        rest w = actAfter (evaluatedBy who vs (expr b) m us) (startTwo q (valueWord w))
 
         by : (o : Outcome) → IsRefusal o
-            → actOn (refusedWith (answerOf o)) m us ≡ firstThen o m us rest
+            → actResult (refusedWith (answerOf o)) m us ≡ firstThen o m us rest
         by (Is w) l = absurd (no-refusal w l)
         by Foreign l = refl
         by Spent l = refl
@@ -102,11 +102,11 @@ module _
         → (b ≡ 0 → ⊥) → x ≡ Is w → result y p ys ≡ evaluatedBy who vs (expr b) m us
         → first ≡ valueWord w → r ≡ afterValue y (startTwo q first) → Starts p ys
     starts-two w first y p ys k o g l z =
-        ap (λ (c : Acted). actOn c p ys) z
-        ∙ ap (λ (c : ℕ). behind (result y p ys) (startTwo q c)) l
-        ∙ ap (λ (c : Result). behind c (startTwo q (valueWord w))) g
+        ap (λ (c : Action). actResult c p ys) z
+        ∙ ap (λ (c : ℕ). actAfter (result y p ys) (startTwo q c)) l
+        ∙ ap (λ (c : Result). actAfter c (startTwo q (valueWord w))) g
         ∙ ap (λ (c : Outcome). firstThen c m us rest) (sym o)
         ∙ both k
       where
-        rest : Value → ActOn
-        rest u = behind (evaluatedBy who vs (expr b) m us) (startTwo q (valueWord u))
+        rest : Value → ActResult
+        rest u = actAfter (evaluatedBy who vs (expr b) m us) (startTwo q (valueWord u))

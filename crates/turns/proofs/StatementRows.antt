@@ -24,19 +24,20 @@ use Rattle.program.proofs.Roots.{statement-root}
 use Rattle.machine.specs.declared.value.Outcome.{Outcome}
 use Rattle.operations.specs.declared.Who.{Who}
 use Rattle.operations.specs.inner.Results.{Result, result}
-use Rattle.acts.specs.declared.act.Fate.the-variants.{Stays}
+use Rattle.acts.specs.declared.act.Transition.the-variants.{Stays}
 use Rattle.acts.specs.declared.act.Change.the-variants.{Same}
-use Rattle.acts.specs.declared.act.Acted.{Acted}
-use Rattle.acts.specs.inner.Fates.{actedWith}
-use Rattle.turns.specs.declared.view.View.{View}
+use Rattle.acts.specs.declared.act.Action.{Action}
+use Rattle.acts.specs.inner.Transitions.{action}
+use Rattle.turns.specs.declared.counts.Counts.{Counts}
 use Rattle.turns.specs.inner.Acts.{request, TurnWords}
-use Rattle.turns.specs.inner.Actions.{ActOn, actOn, placeAt, twoMore, doThere, cooperation}
+use Rattle.turns.specs.inner.Actions.{ActResult, actResult, placeAt, twoMore, doThere, cooperation}
 use Rattle.turns.specs.inner.Actions.{afterValue, letAfter, storeAfter, chooseAfter}
-use Rattle.turns.specs.inner.Actions.{loopAfter, behind, evaluatedBy, storedBy, startAct}
+use Rattle.turns.specs.inner.Actions.{loopAfter, actAfter, evaluatedBy, storedBy, startAct}
 use Rattle.turns.specs.inner.Actions.{statementAct}
 
 -- ---- the act that a node says
-module _ (fw : List ℕ) (who : Who) (v : View) (vs : List ℕ) (n : ℕ) (ws : List ℕ) (i : ℕ) where
+module _
+    (fw : List ℕ) (who : Who) (counts : Counts) (vs : List ℕ) (n : ℕ) (ws : List ℕ) (i : ℕ) where
   abbrev expr : ℕ → Expr
   expr = expressionAt (framesOf fw)
 
@@ -46,39 +47,42 @@ module _ (fw : List ℕ) (who : Who) (v : View) (vs : List ℕ) (n : ℕ) (ws : 
   abbrev value : ℕ → Result
   value a = evaluatedBy who vs (expr a) n ws
 
-  abbrev actBy : StatementNode → ActOn
-  actBy Y.Nothing = actOn (actedWith Stays Same) n ws
-  actBy Y.Cooperate = actOn (cooperation v) n ws
-  actBy (Y.Seq a b) = actOn (twoMore v a b) n ws
-  actBy (Y.DoAt q a) = actOn (doThere v q a) n ws
+  abbrev actBy : StatementNode → ActResult
+  actBy Y.Nothing = actResult (action Stays Same) n ws
+  actBy Y.Cooperate = actResult (cooperation (who .place)) n ws
+  actBy (Y.Seq a b) = actResult (twoMore counts a b) n ws
+  actBy (Y.DoAt q a) = actResult (doThere (who .place) counts q a) n ws
   actBy (Y.Start m a b) = startAct who (request false m) vs n ws (arguments expr a b)
   actBy (Y.StartWait m a b) = startAct who (request true m) vs n ws (arguments expr a b)
-  actBy (Y.LetIn a b) = behind (value a) (letAfter v b)
-  actBy (Y.Store a b) = behind (storedBy who vs (expr a) (expr b) n ws) storeAfter
-  actBy (Y.IfElse a b c) = behind (value a) (chooseAfter v b c)
-  actBy (Y.While a b) = behind (value a) (loopAfter v b i)
+  actBy (Y.LetIn a b) = actAfter (value a) (letAfter counts b)
+  actBy (Y.Store a b) = actAfter (storedBy who vs (expr a) (expr b) n ws) storeAfter
+  actBy (Y.IfElse a b c) = actAfter (value a) (chooseAfter counts b c)
+  actBy (Y.While a b) = actAfter (value a) (loopAfter counts b i)
 
   root : (j : ℕ) → rootS (stmt j) ≡ j
   root = statement-root (framesOf fw)
 
   by-statement : (f : Frame) (k : StatementKind)
-      → statementAct who v vs n ws (statementOf expr stmt i f (Statement k))
+      → statementAct who counts vs n ws (statementOf expr stmt i f (Statement k))
       ≡ actBy (statementNodeOf k (f .s) (f .a) (f .b) (f .c))
   by-statement f S.Nothing = refl
   by-statement f S.Then =
-      ap₂ (λ (x y : ℕ). actOn (twoMore v x y) n ws) (root (f .a)) (root (f .b))
-  by-statement f S.DoAt = ap (λ (x : ℕ). actOn (doThere v (placeAt (f .s)) x) n ws) (root (f .a))
+      ap₂ (λ (x y : ℕ). actResult (twoMore counts x y) n ws) (root (f .a)) (root (f .b))
+  by-statement f S.DoAt =
+      ap (λ (x : ℕ). actResult (doThere (who .place) counts (placeAt (f .s)) x) n ws) (root (f .a))
   by-statement f S.Start = refl
   by-statement f S.StartWait = refl
   by-statement f S.Cooperate = refl
-  by-statement f S.Let = ap (λ (x : ℕ). behind (value (f .a)) (letAfter v x)) (root (f .b))
+  by-statement f S.Let = ap (λ (x : ℕ). actAfter (value (f .a)) (letAfter counts x)) (root (f .b))
   by-statement f S.Store = refl
   by-statement f S.If =
-      ap₂ (λ (x y : ℕ). behind (value (f .a)) (chooseAfter v x y)) (root (f .b)) (root (f .c))
-  by-statement f S.While = ap (λ (x : ℕ). behind (value (f .a)) (loopAfter v x i)) (root (f .b))
+      ap₂ (λ (x y : ℕ). actAfter (value (f .a)) (chooseAfter counts x y)) (root (f .b))
+      (root (f .c))
+  by-statement f S.While =
+      ap (λ (x : ℕ). actAfter (value (f .a)) (loopAfter counts x i)) (root (f .b))
 
   by-kind : (f : Frame) (k : Kind)
-      → statementAct who v vs n ws (statementOf expr stmt i f k) ≡ actBy (statementNodeIn k f)
+      → statementAct who counts vs n ws (statementOf expr stmt i f k) ≡ actBy (statementNodeIn k f)
   by-kind f Header = refl
   by-kind f (Declared d) = refl
   by-kind f Module = refl
@@ -86,67 +90,69 @@ module _ (fw : List ℕ) (who : Who) (v : View) (vs : List ℕ) (n : ℕ) (ws : 
   by-kind f (Expression k) = refl
   by-kind f Unknown = refl
 
-  -- ---- d is the node that the code has read at frame i, r the act, with m cells in use behind it,
+  -- ---- d is the node that the code has read at frame i, r the act, with m cells in use after it,
   -- whose words are us
   module _
       (f : Frame) (d : StatementNode) (k : d ≡ statementNode f)
-      (e : f ≡ frameOfWord (getD fw i 0)) (g : TurnWords fw v vs n ws) (l : i < length fw)
-      (r : Acted) where
+      (e : f ≡ frameOfWord (getD fw i 0)) (g : TurnWords fw who counts vs n ws) (l : i < length fw)
+      (r : Action) where
     abbrev Acts : ℕ → List ℕ → Type 0
-    Acts m us = actOn r m us ≡ statementAct who v vs n ws (statementAt (framesOf fw) i)
+    Acts m us = actResult r m us ≡ statementAct who counts vs n ws (statementAt (framesOf fw) i)
 
-    at : (y : StatementNode) (m : ℕ) (us : List ℕ) → d ≡ y → actOn r m us ≡ actBy y → Acts m us
+    at : (y : StatementNode) (m : ℕ) (us : List ℕ) → d ≡ y → actResult r m us ≡ actBy y → Acts m us
     at y m us h z =
         z
-        ∙ sym (ap (statementAct who v vs n ws) (statement-at (framesOf fw) (g .ordered) i)
+        ∙ sym (ap (statementAct who counts vs n ws) (statement-at (framesOf fw) (g .ordered) i)
         ∙ by-kind (frameAt (framesOf fw) i) (frameAt (framesOf fw) i .kind)
         ∙ ap (λ (x : Frame). actBy (statementNode x)) (frame-at fw i noFrame l ∙ sym e)
         ∙ ap actBy (sym k ∙ h))
 
-    act-is : {a : Acted} (m : ℕ) (us : List ℕ) → r ≡ a → actOn r m us ≡ actOn a m us
-    act-is m us z = ap (λ (x : Acted). actOn x m us) z
+    act-is : {a : Action} (m : ℕ) (us : List ℕ) → r ≡ a → actResult r m us ≡ actResult a m us
+    act-is m us z = ap (λ (x : Action). actResult x m us) z
 
-    pub acts-nothing : d ≡ Y.Nothing → r ≡ actedWith Stays Same → Acts n ws
+    pub acts-nothing : d ≡ Y.Nothing → r ≡ action Stays Same → Acts n ws
     acts-nothing h z = at Y.Nothing n ws h (act-is n ws z)
 
-    pub acts-cooperate : d ≡ Y.Cooperate → r ≡ cooperation v → Acts n ws
+    pub acts-cooperate : d ≡ Y.Cooperate → r ≡ cooperation (who .place) → Acts n ws
     acts-cooperate h z = at Y.Cooperate n ws h (act-is n ws z)
 
-    pub acts-seq : (a b : ℕ) → d ≡ Y.Seq a b → r ≡ twoMore v a b → Acts n ws
+    pub acts-seq : (a b : ℕ) → d ≡ Y.Seq a b → r ≡ twoMore counts a b → Acts n ws
     acts-seq a b h z = at (Y.Seq a b) n ws h (act-is n ws z)
 
-    pub acts-do : (q : Place) (a : ℕ) → d ≡ Y.DoAt q a → r ≡ doThere v q a → Acts n ws
+    pub acts-do : (q : Place) (a : ℕ) → d ≡ Y.DoAt q a → r ≡ doThere (who .place) counts q a
+        → Acts n ws
     acts-do q a h z = at (Y.DoAt q a) n ws h (act-is n ws z)
 
     pub acts-start : (s a b m : ℕ) (us : List ℕ) → d ≡ Y.Start s a b
-        → actOn r m us ≡ startAct who (request false s) vs n ws (arguments expr a b) → Acts m us
+        → actResult r m us ≡ startAct who (request false s) vs n ws (arguments expr a b) → Acts m us
     acts-start s a b m us h z = at (Y.Start s a b) m us h z
 
     pub acts-wait : (s a b m : ℕ) (us : List ℕ) → d ≡ Y.StartWait s a b
-        → actOn r m us ≡ startAct who (request true s) vs n ws (arguments expr a b) → Acts m us
+        → actResult r m us ≡ startAct who (request true s) vs n ws (arguments expr a b) → Acts m us
     acts-wait s a b m us h z = at (Y.StartWait s a b) m us h z
 
-    -- behind an evaluation, whose outcome is x and which leaves so many cells and these words
+    -- after an evaluation, whose outcome is x and which leaves so many cells and these words
     module _ (x : Outcome) (m : ℕ) (us : List ℕ) where
       pub acts-let : (a b : ℕ) → d ≡ Y.LetIn a b → result x m us ≡ value a
-          → r ≡ afterValue x (letAfter v b) → Acts m us
+          → r ≡ afterValue x (letAfter counts b) → Acts m us
       acts-let a b h q z =
-          at (Y.LetIn a b) m us h (act-is m us z ∙ ap (λ (y : Result). behind y (letAfter v b)) q)
+          at (Y.LetIn a b) m us h
+          (act-is m us z ∙ ap (λ (y : Result). actAfter y (letAfter counts b)) q)
 
       pub acts-store : (a b : ℕ) → d ≡ Y.Store a b
           → result x m us ≡ storedBy who vs (expr a) (expr b) n ws
           → r ≡ afterValue x storeAfter → Acts m us
       acts-store a b h q z =
-          at (Y.Store a b) m us h (act-is m us z ∙ ap (λ (y : Result). behind y storeAfter) q)
+          at (Y.Store a b) m us h (act-is m us z ∙ ap (λ (y : Result). actAfter y storeAfter) q)
 
       pub acts-if : (a b c : ℕ) → d ≡ Y.IfElse a b c → result x m us ≡ value a
-          → r ≡ afterValue x (chooseAfter v b c) → Acts m us
+          → r ≡ afterValue x (chooseAfter counts b c) → Acts m us
       acts-if a b c h q z =
           at (Y.IfElse a b c) m us h
-          (act-is m us z ∙ ap (λ (y : Result). behind y (chooseAfter v b c)) q)
+          (act-is m us z ∙ ap (λ (y : Result). actAfter y (chooseAfter counts b c)) q)
 
       pub acts-while : (a b : ℕ) → d ≡ Y.While a b → result x m us ≡ value a
-          → r ≡ afterValue x (loopAfter v b i) → Acts m us
+          → r ≡ afterValue x (loopAfter counts b i) → Acts m us
       acts-while a b h q z =
           at (Y.While a b) m us h
-          (act-is m us z ∙ ap (λ (y : Result). behind y (loopAfter v b i)) q)
+          (act-is m us z ∙ ap (λ (y : Result). actAfter y (loopAfter counts b i)) q)

@@ -3,51 +3,55 @@ use mathlib.Core.Path.{_≡_}
 use Prim.Native.Nat.{ℕ, _<_, _≤_}
 use borrow.Author.Tests.{le-leb, lt-leb, eq-eqb, ne-eqb}
 use Rattle.basics.proofs.Ifs.{yes, no}
-use Rattle.acts.specs.declared.act.Fate.the-variants.{Stays}
+use Rattle.acts.specs.declared.act.Transition.the-variants.{Stays}
 use Rattle.acts.specs.declared.act.Change.the-variants.{Item, Items, Let, Drop}
-use Rattle.acts.specs.declared.act.Acted.{Acted}
-use Rattle.acts.specs.inner.Fates.{actedWith, refusedWith}
-use Rattle.turns.specs.declared.view.View.{View}
+use Rattle.acts.specs.declared.act.Action.{Action}
+use Rattle.acts.specs.inner.Transitions.{action, refusedWith}
+use Rattle.turns.specs.declared.counts.Counts.{Counts}
 use Rattle.turns.specs.inner.Actions.{oneMore, twoMore, letMore, dropOne}
 
-module _ (v : View) (r : Acted) where
-  pub one-full : (a : ℕ) → 25 ≤ v .items → r ≡ refusedWith 20 → r ≡ oneMore v a
+module _ (counts : Counts) (r : Action) where
+  pub one-full : (a : ℕ) → 25 ≤ counts .items → r ≡ refusedWith 20 → r ≡ oneMore counts a
   unfolding oneMore
-  one-full a h e = yes _ (le-leb 25 (v .items) h) e
+  one-full a h e = yes _ (le-leb 25 (counts .items) h) e
 
-  pub one-more : (a : ℕ) → v .items < 25 → r ≡ actedWith Stays (Item a) → r ≡ oneMore v a
+  pub one-more : (a : ℕ) → counts .items < 25 → r ≡ action Stays (Item a) → r ≡ oneMore counts a
   unfolding oneMore
-  one-more a h e = no _ (lt-leb 25 (v .items) h) e
+  one-more a h e = no _ (lt-leb 25 (counts .items) h) e
 
-  pub two-full : (a b : ℕ) → 24 ≤ v .items → r ≡ refusedWith 20 → r ≡ twoMore v a b
+  pub two-full : (a b : ℕ) → 24 ≤ counts .items → r ≡ refusedWith 20 → r ≡ twoMore counts a b
   unfolding twoMore
-  two-full a b h e = yes _ (le-leb 24 (v .items) h) e
+  two-full a b h e = yes _ (le-leb 24 (counts .items) h) e
 
-  pub two-more : (a b : ℕ) → v .items < 24 → r ≡ actedWith Stays (Items a b) → r ≡ twoMore v a b
+  pub two-more : (a b : ℕ) → counts .items < 24 → r ≡ action Stays (Items a b)
+      → r ≡ twoMore counts a b
   unfolding twoMore
-  two-more a b h e = no _ (lt-leb 24 (v .items) h) e
+  two-more a b h e = no _ (lt-leb 24 (counts .items) h) e
 
-  pub lets-values : (x body : ℕ) → 25 ≤ v .values → r ≡ refusedWith 20 → r ≡ letMore v x body
+  pub lets-values : (x body : ℕ) → 25 ≤ counts .variables → r ≡ refusedWith 20
+      → r ≡ letMore counts x body
   unfolding letMore
-  lets-values x body h e = yes _ (le-leb 25 (v .values) h) e
+  lets-values x body h e = yes _ (le-leb 25 (counts .variables) h) e
 
-  pub lets-items : (x body : ℕ) → v .values < 25 → 24 ≤ v .items → r ≡ refusedWith 20
-      → r ≡ letMore v x body
+  pub lets-items : (x body : ℕ) → counts .variables < 25 → 24 ≤ counts .items → r ≡ refusedWith 20
+      → r ≡ letMore counts x body
   unfolding letMore
-  lets-items x body h k e = no _ (lt-leb 25 (v .values) h) (yes _ (le-leb 24 (v .items) k) e)
+  lets-items x body h k e =
+      no _ (lt-leb 25 (counts .variables) h) (yes _ (le-leb 24 (counts .items) k) e)
 
-  pub lets-more : (x body : ℕ) → v .values < 25 → v .items < 24 → r ≡ actedWith Stays (Let x body)
-      → r ≡ letMore v x body
+  pub lets-more : (x body : ℕ) → counts .variables < 25 → counts .items < 24
+      → r ≡ action Stays (Let x body) → r ≡ letMore counts x body
   unfolding letMore
-  lets-more x body h k e = no _ (lt-leb 25 (v .values) h) (no _ (lt-leb 24 (v .items) k) e)
+  lets-more x body h k e =
+      no _ (lt-leb 25 (counts .variables) h) (no _ (lt-leb 24 (counts .items) k) e)
 
-  pub drops-none : v .values ≡ 0 → r ≡ refusedWith 20 → r ≡ dropOne v
+  pub drops-none : counts .variables ≡ 0 → r ≡ refusedWith 20 → r ≡ dropOne counts
   unfolding dropOne
-  drops-none h e = yes _ (eq-eqb (v .values) 0 h) e
+  drops-none h e = yes _ (eq-eqb (counts .variables) 0 h) e
 
-  pub drops-one : (v .values ≡ 0 → ⊥) → r ≡ actedWith Stays Drop → r ≡ dropOne v
+  pub drops-one : (counts .variables ≡ 0 → ⊥) → r ≡ action Stays Drop → r ≡ dropOne counts
   unfolding dropOne
-  drops-one h e = no _ (ne-eqb (v .values) 0 h) e
+  drops-one h e = no _ (ne-eqb (counts .variables) 0 h) e
 
 pub ruleset one-rows = (one-full, one-more)
 

@@ -1,11 +1,11 @@
-// Turns behind an evaluation: its refusal stands, or its value decides.
+// Turns after an evaluation: its refusal stands, or its value decides.
+use crate::counts::Counts;
 use crate::staying::lets;
 use crate::staying::stays_with;
 use crate::staying::stays_with_two;
-use crate::view::View;
-use acts::act::Acted;
+use acts::act::Action;
 use acts::act::Change;
-use acts::act::Fate;
+use acts::act::Transition;
 use acts::act::comes_to;
 use acts::act::refused;
 use language::refusal::CELLS_SPENT;
@@ -13,10 +13,10 @@ use language::refusal::FOREIGN;
 use language::refusal::STUCK;
 use machine::value::Outcome;
 use machine::value::Value;
-use operations::word::value_word;
+use machine::word::value_word;
 ghost use mathlib.Core.Path.{_≡_};
 ghost use Rattle.machine.specs.Values.{answerOf};
-ghost use Rattle.acts.specs.inner.Fates.{refusedWith};
+ghost use Rattle.acts.specs.inner.Transitions.{refusedWith};
 ghost use Rattle.turns.specs.inner.Actions.{afterValue, letAfter, storeAfter};
 ghost use Rattle.turns.specs.inner.Actions.{chooseAfter, loopAfter};
 
@@ -33,41 +33,41 @@ fn answer_of(o: Outcome) -> u8
 }
 
 // A refused evaluation refuses the turn.
-pub(crate) fn refused_by(o: Outcome) -> Acted
+pub(crate) fn refused_by(o: Outcome) -> Action
     ensures { λ r. ⌜ r ≡ refusedWith (answerOf o) ⌝ }
 {
     refused(answer_of(o))
 }
 
 // 16.
-pub(crate) fn lets_after(x: Outcome, v: View, body: u64) -> Acted
-    ensures { λ r. ⌜ r ≡ afterValue x (letAfter v body) ⌝ }
+pub(crate) fn lets_after(x: Outcome, counts: Counts, body: u64) -> Action
+    ensures { λ r. ⌜ r ≡ afterValue x (letAfter counts body) ⌝ }
 {
     let Outcome::Is(w) = x else {
         return refused_by(x);
     };
-    lets(v, value_word(w), body)
+    lets(counts, value_word(w), body)
 }
 
 // 17.
-pub(crate) fn stores_after(x: Outcome) -> Acted
+pub(crate) fn stores_after(x: Outcome) -> Action
     ensures { λ r. ⌜ r ≡ afterValue x storeAfter ⌝ }
 {
     let Outcome::Is(w) = x else {
         return refused_by(x);
     };
-    comes_to(Fate::Stays, Change::Same)
+    comes_to(Transition::Stays, Change::Same)
 }
 
-fn one_of(w: Value, v: View, a: u64, b: u64) -> Acted
-    ensures { λ r. ⌜ r ≡ chooseAfter v a b w ⌝ }
+fn one_of(w: Value, counts: Counts, a: u64, b: u64) -> Action
+    ensures { λ r. ⌜ r ≡ chooseAfter counts a b w ⌝ }
 {
     match w {
         Value::Truth(t) => {
             if t {
-                return stays_with(v, a);
+                return stays_with(counts, a);
             }
-            stays_with(v, b)
+            stays_with(counts, b)
         },
         Value::Number(n) => refused(STUCK),
         Value::Cell(c) => refused(STUCK),
@@ -75,24 +75,24 @@ fn one_of(w: Value, v: View, a: u64, b: u64) -> Acted
 }
 
 // 18: one branch.
-pub(crate) fn chooses_after(x: Outcome, v: View, a: u64, b: u64) -> Acted
-    ensures { λ r. ⌜ r ≡ afterValue x (chooseAfter v a b) ⌝ }
+pub(crate) fn chooses_after(x: Outcome, counts: Counts, a: u64, b: u64) -> Action
+    ensures { λ r. ⌜ r ≡ afterValue x (chooseAfter counts a b) ⌝ }
 {
     let Outcome::Is(w) = x else {
         return refused_by(x);
     };
-    one_of(w, v, a, b)
+    one_of(w, counts, a, b)
 }
 
-fn again_or_not(w: Value, v: View, body: u64, again: u64) -> Acted
-    ensures { λ r. ⌜ r ≡ loopAfter v body again w ⌝ }
+fn again_or_not(w: Value, counts: Counts, body: u64, again: u64) -> Action
+    ensures { λ r. ⌜ r ≡ loopAfter counts body again w ⌝ }
 {
     match w {
         Value::Truth(t) => {
             if t {
-                return stays_with_two(v, body, again);
+                return stays_with_two(counts, body, again);
             }
-            comes_to(Fate::Stays, Change::Same)
+            comes_to(Transition::Stays, Change::Same)
         },
         Value::Number(n) => refused(STUCK),
         Value::Cell(c) => refused(STUCK),
@@ -100,11 +100,11 @@ fn again_or_not(w: Value, v: View, body: u64, again: u64) -> Acted
 }
 
 // 19: if true, the body above the same loop.
-pub(crate) fn loops_after(x: Outcome, v: View, body: u64, again: u64) -> Acted
-    ensures { λ r. ⌜ r ≡ afterValue x (loopAfter v body again) ⌝ }
+pub(crate) fn loops_after(x: Outcome, counts: Counts, body: u64, again: u64) -> Action
+    ensures { λ r. ⌜ r ≡ afterValue x (loopAfter counts body again) ⌝ }
 {
     let Outcome::Is(w) = x else {
         return refused_by(x);
     };
-    again_or_not(w, v, body, again)
+    again_or_not(w, counts, body, again)
 }

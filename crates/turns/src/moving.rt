@@ -1,9 +1,9 @@
 // Turns after which the thread is at a place: another or the same.
-use crate::view::ONE_ITEM_LEFT;
-use crate::view::View;
-use acts::act::Acted;
+use crate::counts::Counts;
+use crate::counts::ONE_ITEM_LEFT;
+use acts::act::Action;
 use acts::act::Change;
-use acts::act::Fate;
+use acts::act::Transition;
 use acts::act::comes_to;
 use acts::act::refused;
 use language::Place;
@@ -12,28 +12,28 @@ use machine::offset::BACK_FROM;
 ghost use mathlib.Core.Path.{_≡_};
 ghost use Prim.Native.Nat.{_≤_};
 ghost use Rattle.language.specs.Places.{lastScheduler};
-ghost use Rattle.turns.specs.inner.Actions.{goTo, goBack, unlinkedAgain, doThere};
+ghost use Rattle.turns.specs.inner.Actions.{goToAct, goBack, unlinkedAgain, doThere};
 ghost use Rattle.turns.specs.inner.Actions.{cooperation};
 
 // To place q, from that place: a move to one's own place is none. The change is the one or the
 // other.
-fn goes(from: Place, q: Place, same: Change, moved: Change) -> Acted
-    ensures { λ r. ⌜ r ≡ goTo from q same moved ⌝ }
+fn goes(from: Place, q: Place, same: Change, moved: Change) -> Action
+    ensures { λ r. ⌜ r ≡ goToAct from q same moved ⌝ }
 {
     if q.is_same(from) {
-        return comes_to(Fate::Stays, same);
+        return comes_to(Transition::Stays, same);
     }
     if q.is_private() {
-        return comes_to(Fate::Leaves, moved);
+        return comes_to(Transition::Leaves, moved);
     }
-    comes_to(Fate::Joins(q), moved)
+    comes_to(Transition::Joins(q), moved)
 }
 
 // 'Back to q'.
-pub(crate) fn goes_back(v: View, q: Place) -> Acted
-    ensures { λ r. ⌜ r ≡ goBack v q ⌝ }
+pub(crate) fn goes_back(from: Place, q: Place) -> Action
+    ensures { λ r. ⌜ r ≡ goBack from q ⌝ }
 {
-    goes(v.place, q, Change::Same, Change::Move(q))
+    goes(from, q, Change::Same, Change::Move(q))
 }
 
 // Refusal 12's condition met when running: unlinked already.
@@ -47,15 +47,14 @@ fn unlinked_again(from: Place, q: Place) -> bool
 }
 
 // 12: the body above 'back to here'.
-pub(crate) fn does_at(v: View, q: Place, body: u64) -> Acted
-    requires { ⌜ v .place .number ≤ lastScheduler ⌝ }
-    ensures { λ r. ⌜ r ≡ doThere v q body ⌝ }
+pub(crate) fn does_at(from: Place, counts: Counts, q: Place, body: u64) -> Action
+    requires { ⌜ from .number ≤ lastScheduler ⌝ }
+    ensures { λ r. ⌜ r ≡ doThere from counts q body ⌝ }
 {
-    let from = v.place;
     if unlinked_again(from, q) {
         return refused(STUCK);
     }
-    if ONE_ITEM_LEFT <= v.items {
+    if ONE_ITEM_LEFT <= counts.items {
         return refused(STUCK);
     }
     goes(
@@ -67,12 +66,11 @@ pub(crate) fn does_at(v: View, q: Place, body: u64) -> Acted
 }
 
 // 15: to the end of the next list.
-pub(crate) fn cooperates(v: View) -> Acted
-    ensures { λ r. ⌜ r ≡ cooperation v ⌝ }
+pub(crate) fn cooperates(place: Place) -> Action
+    ensures { λ r. ⌜ r ≡ cooperation place ⌝ }
 {
-    let p = v.place;
-    if p.is_private() {
+    if place.is_private() {
         return refused(STUCK);
     }
-    comes_to(Fate::Joins(p), Change::Same)
+    comes_to(Transition::Joins(place), Change::Same)
 }

@@ -1,19 +1,19 @@
 // 13 and 14: a start with its arguments.
 use crate::evaluated::refused_by;
-use acts::act::Acted;
+use acts::act::Action;
 use acts::act::Arguments;
 use acts::act::Change;
-use acts::act::Fate;
+use acts::act::Transition;
 use acts::act::comes_to;
 use evaluator::evaluation::evaluate;
 use machine::value::Outcome;
+use machine::word::value_word;
 use operations::Who;
-use operations::word::value_word;
 ghost use mathlib.Core.Path.{_≡_};
 ghost use Rattle.text.specs.Frames.{framesOf};
 ghost use Rattle.program.specs.Trees.{arguments, expressionAt};
 ghost use Rattle.evaluator.specs.inner.Results.{CellWords, ValueWords, FrameWords};
-ghost use Rattle.operations.specs.inner.Lent.{Lent, variablesOf, countOf, cellsOf, restOf};
+ghost use Rattle.operations.specs.inner.Lent.{Lent, lentVariables, lentCount, lentCells, lentRest};
 ghost use Rattle.turns.specs.inner.Actions.{startWith, startOne, startTwo, startAct};
 ghost use Rattle.turns.specs.inner.Actions.{afterValue, actIn};
 
@@ -23,13 +23,13 @@ pub(crate) struct Request {
     pub target: u8,
 }
 
-fn starts_with(q: Request, args: Arguments) -> Acted
+fn starts_with(q: Request, args: Arguments) -> Action
     ensures { λ r. ⌜ r ≡ startWith q args ⌝ }
 {
-    comes_to(Fate::Starts(q.waits, q.target, args), Change::Same)
+    comes_to(Transition::Starts(q.waits, q.target, args), Change::Same)
 }
 
-fn starts_one(q: Request, x: Outcome) -> Acted
+fn starts_one(q: Request, x: Outcome) -> Action
     ensures { λ r. ⌜ r ≡ afterValue x (startOne q) ⌝ }
 {
     let Outcome::Is(w) = x else {
@@ -46,7 +46,7 @@ fn starts_one(q: Request, x: Outcome) -> Acted
     )
 }
 
-fn starts_two(q: Request, first: u64, y: Outcome) -> Acted
+fn starts_two(q: Request, first: u64, y: Outcome) -> Action
     ensures { λ r. ⌜ r ≡ afterValue y (startTwo q first) ⌝ }
 {
     let Outcome::Is(w) = y else {
@@ -71,15 +71,15 @@ pub(crate) fn starts(
     state: &mut [u64],
     a: u16,
     b: u16,
-) -> Acted
+) -> Action
     requires { ⌜ FrameWords (now frames) a × FrameWords (now frames) b × Lent who (now state)
-        × ValueWords (variablesOf who (now state))
-        × CellWords (countOf (now state)) (cellsOf (now state)) ⌝ }
+        × ValueWords (lentVariables who (now state))
+        × CellWords (lentCount (now state)) (lentCells (now state)) ⌝ }
     ensures found { λ r. ⌜ actIn r (now (state .exit))
-        ≡ startAct who q (variablesOf who (now (state .entry)))
-        (countOf (now (state .entry))) (cellsOf (now (state .entry)))
+        ≡ startAct who q (lentVariables who (now (state .entry)))
+        (lentCount (now (state .entry))) (lentCells (now (state .entry)))
         (arguments (expressionAt (framesOf (now (frames .entry)))) a b) ⌝ }
-    ensures rest { λ _. ⌜ restOf (now (state .exit)) ≡ restOf (now (state .entry)) ⌝ }
+    ensures rest { λ _. ⌜ lentRest (now (state .exit)) ≡ lentRest (now (state .entry)) ⌝ }
 {
     if a == 0 {
         return starts_with(

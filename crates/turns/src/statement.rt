@@ -1,4 +1,5 @@
 // A statement's turn, by its kind.
+use crate::counts::Counts;
 use crate::evaluated::chooses_after;
 use crate::evaluated::lets_after;
 use crate::evaluated::loops_after;
@@ -8,10 +9,9 @@ use crate::moving::does_at;
 use crate::start::Request;
 use crate::start::starts;
 use crate::staying::stays_with_two;
-use crate::view::View;
-use acts::act::Acted;
+use acts::act::Action;
 use acts::act::Change;
-use acts::act::Fate;
+use acts::act::Transition;
 use acts::act::comes_to;
 use evaluator::evaluation::evaluate;
 use evaluator::evaluation::store;
@@ -24,25 +24,31 @@ ghost use Prim.Native.Nat.{_<_};
 ghost use lib.ListN.{length};
 ghost use Rattle.text.specs.Frames.{framesOf};
 ghost use Rattle.program.specs.Trees.{statementAt};
-ghost use Rattle.operations.specs.inner.Lent.{Lent, variablesOf, countOf, cellsOf, restOf};
+ghost use Rattle.operations.specs.inner.Lent.{Lent, lentVariables, lentCount, lentCells, lentRest};
 ghost use Rattle.turns.specs.inner.Acts.{TurnWords};
 ghost use Rattle.turns.specs.inner.Actions.{statementAct, actIn};
 
 // Statement i, on top of a continuation that no longer has it.
-pub(crate) fn act_statement(frames: &[u64], who: Who, v: View, state: &mut [u64], i: usize) -> Acted
-    requires { ⌜ TurnWords (now frames) v (variablesOf who (now state))
-        (countOf (now state)) (cellsOf (now state))
+pub(crate) fn act_statement(
+    frames: &[u64],
+    who: Who,
+    counts: Counts,
+    state: &mut [u64],
+    i: usize,
+) -> Action
+    requires { ⌜ TurnWords (now frames) who counts (lentVariables who (now state))
+        (lentCount (now state)) (lentCells (now state))
         × Lent who (now state) × (i < length (now frames)) ⌝ }
     ensures found { λ r. ⌜ actIn r (now (state .exit))
-        ≡ statementAct who v (variablesOf who (now (state .entry)))
-        (countOf (now (state .entry))) (cellsOf (now (state .entry)))
+        ≡ statementAct who counts (lentVariables who (now (state .entry)))
+        (lentCount (now (state .entry))) (lentCells (now (state .entry)))
         (statementAt (framesOf (now (frames .entry))) i) ⌝ }
-    ensures rest { λ _. ⌜ restOf (now (state .exit)) ≡ restOf (now (state .entry)) ⌝ }
+    ensures rest { λ _. ⌜ lentRest (now (state .exit)) ≡ lentRest (now (state .entry)) ⌝ }
 {
     match statement_node(frame_of_word(frames[i])) {
-        StatementNode::Nothing => comes_to(Fate::Stays, Change::Same),
-        StatementNode::Seq(a, b) => stays_with_two(v, a as u64, b as u64),
-        StatementNode::DoAt(q, a) => does_at(v, q, a as u64),
+        StatementNode::Nothing => comes_to(Transition::Stays, Change::Same),
+        StatementNode::Seq(a, b) => stays_with_two(counts, a as u64, b as u64),
+        StatementNode::DoAt(q, a) => does_at(who.place, counts, q, a as u64),
         StatementNode::Start(m, a, b) => {
             let q = Request {
                 waits: false,
@@ -57,10 +63,10 @@ pub(crate) fn act_statement(frames: &[u64], who: Who, v: View, state: &mut [u64]
             };
             starts(frames, who, q, state, a, b)
         },
-        StatementNode::Cooperate => cooperates(v),
+        StatementNode::Cooperate => cooperates(who.place),
         StatementNode::LetIn(a, b) => {
             let x = evaluate(frames, who, state, a);
-            lets_after(x, v, b as u64)
+            lets_after(x, counts, b as u64)
         },
         StatementNode::Store(a, b) => {
             let x = store(frames, who, state, a, b);
@@ -68,11 +74,11 @@ pub(crate) fn act_statement(frames: &[u64], who: Who, v: View, state: &mut [u64]
         },
         StatementNode::IfElse(a, b, c) => {
             let x = evaluate(frames, who, state, a);
-            chooses_after(x, v, b as u64, c as u64)
+            chooses_after(x, counts, b as u64, c as u64)
         },
         StatementNode::While(a, b) => {
             let x = evaluate(frames, who, state, a);
-            loops_after(x, v, b as u64, i as u64)
+            loops_after(x, counts, b as u64, i as u64)
         },
     }
 }

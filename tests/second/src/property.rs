@@ -146,7 +146,7 @@ mod tests {
         assert!(violation.is_some(), "{rule:?}");
     }
 
-    macro_rules! teeth {
+    macro_rules! fails_without {
         ($($name:ident: $rule:ident,)*) => {
             $(#[test]
             fn $name() {
@@ -155,7 +155,7 @@ mod tests {
         };
     }
 
-    teeth! {
+    fails_without! {
         breaks_without_start_effect: StartEffect,
         breaks_without_new_cell_effect: NewCellEffect,
         breaks_without_content_effect: ContentEffect,

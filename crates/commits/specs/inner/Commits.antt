@@ -13,18 +13,18 @@ use Rattle.language.specs.Limits.{mostVariables, mostThreads, mostCells, mostIt
 use Rattle.language.specs.Refusals.{threadsSpent, stuck}
 use Rattle.program.specs.Programs.{Program}
 use Rattle.machine.specs.inner.Blocks.{pasted, padded}
-use Rattle.machine.specs.Calls.{Called}
+use Rattle.machine.specs.Calls.{CallResult, callResult}
 use Rattle.states.specs.declared.thread.ThreadWords.{ThreadWords}
 use Rattle.states.specs.inner.Threads.{threadIn, putThread, withOneMore}
 use Rattle.lists.specs.inner.Lists.{withoutFirst, withLast}
 use Rattle.acts.specs.declared.act.Arguments.{Arguments}
-use Rattle.acts.specs.declared.act.Fate.{Fate}
-use Rattle.acts.specs.declared.act.Fate.the-variants.{Refused, Stays, Leaves, Joins, Starts}
+use Rattle.acts.specs.declared.act.Transition.{Transition}
+use Rattle.acts.specs.declared.act.Transition.the-variants.{Refused, Stays, Leaves, Joins, Starts}
 use Rattle.acts.specs.declared.act.Change.{Change}
 use Rattle.acts.specs.declared.act.Change.the-variants.{Same, Item, Items, Let, Drop, Move, Enter}
 use Rattle.acts.specs.declared.act.Change.the-variants.{End}
-use Rattle.acts.specs.declared.act.Acted.{Acted}
-use Rattle.acts.specs.inner.Fates.{Turned, popped, turned, Room}
+use Rattle.acts.specs.declared.act.Action.{Action}
+use Rattle.acts.specs.inner.Transitions.{TurnResult, popped, turned, HasRoom}
 use Rattle.program.specs.declared.module.ModuleFound.{ModuleFound}
 use Rattle.program.specs.inner.Modules.{foundIn}
 use Rattle.commits.specs.declared.decision.Passed.{Passed}
@@ -33,9 +33,6 @@ use Rattle.commits.specs.declared.decision.Decision.{Decision}
 use Rattle.commits.specs.declared.decision.Decision.the-variants.{Refuse, Settle}
 use Rattle.machine.specs.Offsets.{stateLength, threadCountAt, cellCountAt, schedulerLength}
 use Rattle.machine.specs.Offsets.{nextListAt, cellsAt, waitingFactor}
-
-abbrev pub called : ℕ → ℕ → List ℕ → Called
-called n t w = record { answer = n; thread = t; words = w }
 
 -- how many cells are in use
 abbrev pub countIn : List ℕ → ℕ
@@ -63,26 +60,26 @@ roomIn w q more =
 unfoldable pub joinedIn : List ℕ → ℕ → ℕ → List ℕ
 joinedIn w q e = if isScheduler q then withLast w (q - home) e else w
 
--- ---- each fate, of thread t at choice c, where `before` cells were in use
+-- ---- each transition, of thread t at choice c, where `before` cells were in use
 
-abbrev pub refusesIn : List ℕ → ℕ → ℕ → ℕ → Called
-refusesIn w before t n = called n t (clearedIn w before)
+abbrev pub refusesIn : List ℕ → ℕ → ℕ → ℕ → CallResult
+refusesIn w before t n = callResult n t (clearedIn w before)
 
-abbrev pub staysIn : List ℕ → ℕ → Turned → List ℕ
+abbrev pub staysIn : List ℕ → ℕ → TurnResult → List ℕ
 staysIn w t a = settledIn w (t - 1) (a .thread)
 
-abbrev pub leavesIn : List ℕ → ℕ → ℕ → Turned → List ℕ
+abbrev pub leavesIn : List ℕ → ℕ → ℕ → TurnResult → List ℕ
 leavesIn w c t a = leftIn (staysIn w t a) c
 
-unfoldable pub joinsIn : List ℕ → ℕ → ℕ → ℕ → Turned → ℕ → Called
+unfoldable pub joinsIn : List ℕ → ℕ → ℕ → ℕ → TurnResult → ℕ → CallResult
 joinsIn w before c t a q =
     if roomIn w q 1
-    then called 0 t (joinedIn (leavesIn w c t a) q t)
+    then callResult 0 t (joinedIn (leavesIn w c t a) q t)
     else refusesIn w before t stuck
 
 -- the new thread, at that place, with so many arguments
-abbrev pub newThread : ℕ → ℕ → ℕ → ℕ → ℕ → ℕ → ThreadWords
-newThread place given first second t body =
+abbrev pub newThreadWords : ℕ → ℕ → ℕ → ℕ → ℕ → ℕ → ThreadWords
+newThreadWords place given first second t body =
     record {
       place = place;
       starter = t;
@@ -93,9 +90,9 @@ newThread place given first second t body =
       variables = padded mostVariables (first ∷ second ∷ []);
     }
 
-abbrev pub newIn : Turned → Arguments → ℕ → ℕ → ThreadWords
+abbrev pub newIn : TurnResult → Arguments → ℕ → ℕ → ThreadWords
 newIn a args t body =
-    newThread (a .thread .place) (args .count) (args .first) (args .second) t body
+    newThreadWords (a .thread .place) (args .count) (args .first) (args .second) t body
 
 -- a start that does not fit is 20, a 65th thread 18; 0 is neither
 unfoldable pub obstacleIn : List ℕ → ModuleFound → ℕ → ℕ → ℕ
@@ -107,36 +104,36 @@ obstacleIn w found place given =
     if leb mostThreads (getD w threadCountAt 0) then threadsSpent else
     0
 
-abbrev pub startedIn : List ℕ → ℕ → Turned → Arguments → ℕ → List ℕ
+abbrev pub startedIn : List ℕ → ℕ → TurnResult → Arguments → ℕ → List ℕ
 startedIn w t a args body =
     joinedIn (withOneMore (staysIn w t a) (newIn a args t body)) (a .thread .place)
     (getD w threadCountAt 0 + 1)
 
-abbrev pub waitingIn : List ℕ → ℕ → ℕ → Turned → Arguments → ℕ → List ℕ
+abbrev pub waitingIn : List ℕ → ℕ → ℕ → TurnResult → Arguments → ℕ → List ℕ
 waitingIn w c t a args body =
     joinedIn (joinedIn (withOneMore (leavesIn w c t a) (newIn a args t body)) (a .thread .place)
     (getD w threadCountAt 0 + 1)) (a .thread .place)
     (waitingFactor * (getD w threadCountAt 0 + 1) + t)
 
-unfoldable pub startsIn : Program → List ℕ → ℕ → ℕ → ℕ → Turned → Bool → ℕ → Arguments → Called
+unfoldable pub startsIn : Program → List ℕ → ℕ → ℕ → ℕ → TurnResult → Bool → ℕ → Arguments → CallResult
 startsIn p w before c t a waits m args =
     let found = foundIn p m in
     let no = obstacleIn w found (a .thread .place) (args .count) in
     if not (eqb no 0) then refusesIn w before t no else
-    if not waits then called 0 t (startedIn w t a args (found .body)) else
+    if not waits then callResult 0 t (startedIn w t a args (found .body)) else
     if not (roomIn w (a .thread .place) 2) then refusesIn w before t stuck else
-    called 0 t (waitingIn w c t a args (found .body))
+    callResult 0 t (waitingIn w c t a args (found .body))
 
-abbrev pub committedIn : Program → List ℕ → ℕ → ℕ → ℕ → Turned → Fate → Called
+abbrev pub committedIn : Program → List ℕ → ℕ → ℕ → ℕ → TurnResult → Transition → CallResult
 committedIn p w before c t a (Refused n) = refusesIn w before t n
-committedIn p w before c t a Stays = called 0 t (staysIn w t a)
-committedIn p w before c t a Leaves = called 0 t (leavesIn w c t a)
+committedIn p w before c t a Stays = callResult 0 t (staysIn w t a)
+committedIn p w before c t a Leaves = callResult 0 t (leavesIn w c t a)
 committedIn p w before c t a (Joins q) = joinsIn w before c t a (q .number)
 committedIn p w before c t a (Starts waits m args) = startsIn p w before c t a waits m args
 
 -- ---- the act as it is committed
 
--- where a thread that stands at p stands behind the change
+-- where a thread that stands at p stands after the change
 abbrev pub placeAfter : Change → Place → Place
 placeAfter Same p = p
 placeAfter (Item a) p = p
@@ -148,13 +145,13 @@ placeAfter (Enter q body) p = q
 placeAfter End p = p
 
 -- what thread t's act comes to on those words
-abbrev pub after : List ℕ → ℕ → Acted → Turned
-after w t a = turned a (countIn w) (popped (threadIn w (t - 1)))
+abbrev pub turnResultIn : List ℕ → ℕ → Action → TurnResult
+turnResultIn w t a = turned a (countIn w) (popped (threadIn w (t - 1)))
 
 -- ---- the commit as the code makes it: decided on the words before it, then on the settled words
 -- the lists follow. It is `committedIn` (proofs/CommitLaws, `decided-is`).
 
--- a start of the module so found, by a starter that stands at q behind its turn
+-- a start of the module so found, by a starter that stands at q after its turn
 unfoldable pub startTested : List ℕ → Arguments → Bool → ModuleFound → Place → Decision
 startTested w args waits found q =
     let no = obstacleIn w found (q .number) (args .count) in
@@ -162,12 +159,12 @@ startTested w args waits found q =
     if waits && not (roomIn w (q .number) 2) then Refuse stuck else
     Settle (Start waits q (found .body) args)
 
-abbrev pub startDecided : Program → List ℕ → ℕ → Acted → Bool → ℕ → Arguments → Decision
+abbrev pub startDecided : Program → List ℕ → ℕ → Action → Bool → ℕ → Arguments → Decision
 startDecided p w t a waits m args =
     startTested w args waits (foundIn p m)
     (placeAfter (a .change) (record { number = threadIn w (t - 1) .place }))
 
-abbrev pub decidedIn : Program → List ℕ → ℕ → Acted → Fate → Decision
+abbrev pub decidedIn : Program → List ℕ → ℕ → Action → Transition → Decision
 decidedIn p w t a (Refused n) = Refuse n
 decidedIn p w t a Stays = Settle Keep
 decidedIn p w t a Leaves = Settle Leave
@@ -177,10 +174,10 @@ decidedIn p w t a (Starts waits m args) = startDecided p w t a waits m args
 -- the new thread of a starter that stands at q
 abbrev pub newAt : Arguments → Place → ℕ → ℕ → ThreadWords
 newAt args q t body =
-    newThread (q .number) (args .count) (args .first) (args .second) t body
+    newThreadWords (q .number) (args .count) (args .first) (args .second) t body
 
 -- a start by t, who stands at q: the new thread is the last, and the last in the next list of q; a
--- starter that waits stands behind it
+-- starter that waits stands after it
 unfoldable pub startedOn : List ℕ → ℕ → Place → ℕ → Bool → Arguments → List ℕ
 startedOn w t q body waits args =
     let new = getD w threadCountAt 0 + 1 in
@@ -209,14 +206,14 @@ followedIn w c t x = enlistedIn (unlistedIn w c x) t x
 
 -- ---- what a caller has to show
 
--- thread k is within its space, and behind its top item there is room for the change
+-- thread k is within its space, and once its top item is taken there is room for the change
 pub record SettleWords (w : List ℕ) (k : ℕ) (c : Change) : Type 0 where
   pub all : length w ≡ stateLength
   pub thread : k < mostThreads
   pub place : isPlace (threadIn w k .place) ≡ true
   pub items : threadIn w k .items ≤ mostItems
   pub values : threadIn w k .values ≤ mostVariables
-  pub room : Room c (threadIn w k .items - 1) (threadIn w k .values)
+  pub room : HasRoom c (threadIn w k .items - 1) (threadIn w k .values)
 
 -- q has lists, and there is a number left for one more thread
 pub record StartWords (w : List ℕ) (q : Place) : Type 0 where
@@ -230,7 +227,7 @@ Follows w Leave = Unit {0}
 Follows w (Join q) = isScheduler (q .number) ≡ true
 Follows w (Start waits q body args) = StartWords w q
 
-pub record CommitWords (w : List ℕ) (t : ℕ) (a : Acted) : Type 0 where
+pub record CommitWords (w : List ℕ) (t : ℕ) (a : Action) : Type 0 where
   pub first : 1 ≤ t
   pub last : t ≤ mostThreads
   pub cells : countIn w ≤ mostCells

@@ -12,12 +12,12 @@ use Rattle.machine.specs.declared.value.Outcome.{Outcome}
 use Rattle.machine.specs.declared.value.Outcome.the-variants.{Is, Stuck}
 use Rattle.operations.specs.declared.Who.{Who}
 use Rattle.operations.specs.declared.operand.Operand.{Operand}
-use Rattle.operations.specs.inner.Lent.{countOf, cellsOf}
-use Rattle.operations.specs.inner.Results.{Result, result, andThen, keeping}
-use Rattle.operations.specs.inner.ByWords.{variableIn, sharedIn, makeIn, reading, storeIn}
+use Rattle.operations.specs.inner.Lent.{lentCount, lentCells}
+use Rattle.operations.specs.inner.Results.{Result, result, andThenIn, keeping}
+use Rattle.operations.specs.inner.ByWords.{variableIn, sharedIn, makeIn, readingIn, storeIn}
 use Rattle.operations.specs.inner.ByWords.{operandOf, aTruth, chosen}
 
--- ---- kinds that are wanted, behind the operands
+-- ---- kinds that are wanted, after the operands
 abbrev pub numbersOf : (ℕ → ℕ → Value) → Value → Value → Outcome
 numbersOf f (Number m) (Number n) = Is (f m n)
 numbersOf f (Number m) (Truth b) = Stuck
@@ -25,10 +25,10 @@ numbersOf f (Number m) (Cell c) = Stuck
 numbersOf f (Truth b) w = Stuck
 numbersOf f (Cell c) w = Stuck
 
-abbrev pub aNumber : Value → Outcome
-aNumber (Number n) = Is (Number n)
-aNumber (Truth b) = Stuck
-aNumber (Cell c) = Stuck
+abbrev pub aNumberIn : Value → Outcome
+aNumberIn (Number n) = Is (Number n)
+aNumberIn (Truth b) = Stuck
+aNumberIn (Cell c) = Stuck
 
 -- ---- the recursion
 unfoldable pub evalIn : Who → List ℕ → Expr → ℕ → List ℕ → Result
@@ -36,17 +36,17 @@ evalIn who vs (number i m) n ws = result (Is (Number m)) n ws
 evalIn who vs (truth i m) n ws = result (Is (truthOf m)) n ws
 evalIn who vs (variable i s) n ws = result (variableIn vs s) n ws
 evalIn who vs (shared i s) n ws = result (sharedIn who s) n ws
-evalIn who vs (new i s x) n ws = andThen (evalIn who vs x n ws) (makeIn who s)
-evalIn who vs (content i x) n ws = andThen (evalIn who vs x n ws) (reading who)
+evalIn who vs (new i s x) n ws = andThenIn (evalIn who vs x n ws) (makeIn who s)
+evalIn who vs (content i x) n ws = andThenIn (evalIn who vs x n ws) (readingIn who)
 evalIn who vs (sum i x y) n ws =
-    andThen (evalIn who vs x n ws)
-    (λ v m us. andThen (evalIn who vs y m us) (keeping (numbersOf plus v)))
+    andThenIn (evalIn who vs x n ws)
+    (λ v m us. andThenIn (evalIn who vs y m us) (keeping (numbersOf plus v)))
 evalIn who vs (less i x y) n ws =
-    andThen (evalIn who vs x n ws)
-    (λ v m us. andThen (evalIn who vs y m us) (keeping (numbersOf lessThan v)))
+    andThenIn (evalIn who vs x n ws)
+    (λ v m us. andThenIn (evalIn who vs y m us) (keeping (numbersOf lessThan v)))
 evalIn who vs (choose i x y z) n ws =
-    andThen (andThen (evalIn who vs x n ws) (keeping aTruth))
-    (λ v m us. andThen (chosen v (evalIn who vs y m us) (evalIn who vs z m us)) (keeping aNumber))
+    andThenIn (andThenIn (evalIn who vs x n ws) (keeping aTruth))
+    (λ v m us. andThenIn (chosen v (evalIn who vs y m us) (evalIn who vs z m us)) (keeping aNumberIn))
 
 -- where a number is wanted: `evalIn`, with all that is no number as one
 pub record WantedResult : Type 0 where
@@ -56,20 +56,20 @@ pub record WantedResult : Type 0 where
 
 -- an operand beside the words of a state
 abbrev pub wantedIn : Operand → List ℕ → WantedResult
-wantedIn p w = record { operand = p; used = countOf w; words = cellsOf w }
+wantedIn p w = record { operand = p; used = lentCount w; words = lentCells w }
 
-abbrev pub numberOf : Result → WantedResult
-numberOf r = record { operand = operandOf (r .outcome); used = r .used; words = r .words }
+abbrev pub wantedNumber : Result → WantedResult
+wantedNumber r = record { operand = operandOf (r .outcome); used = r .used; words = r .words }
 
 abbrev pub numberIn : Who → List ℕ → Expr → ℕ → List ℕ → WantedResult
-numberIn who vs x n ws = numberOf (evalIn who vs x n ws)
+numberIn who vs x n ws = wantedNumber (evalIn who vs x n ws)
 
 -- 28's condition
 abbrev pub truthIn : Who → List ℕ → Expr → ℕ → List ℕ → Result
-truthIn who vs x n ws = andThen (evalIn who vs x n ws) (keeping aTruth)
+truthIn who vs x n ws = andThenIn (evalIn who vs x n ws) (keeping aTruth)
 
 -- 17
 abbrev pub storingIn : Who → List ℕ → Expr → Expr → ℕ → List ℕ → Result
 storingIn who vs x y n ws =
-    andThen (evalIn who vs x n ws)
-    (λ v m us. andThen (evalIn who vs y m us) (storeIn who v))
+    andThenIn (evalIn who vs x n ws)
+    (λ v m us. andThenIn (evalIn who vs y m us) (storeIn who v))

@@ -10,7 +10,7 @@ use Rattle.text.specs.Frames.{framesOf}
 use Rattle.program.specs.inner.Ordered.{Ordered, Placed}
 use Rattle.machine.specs.Offsets.{ownerFactor}
 use Rattle.machine.specs.State.{Stored, usedCells}
-use Rattle.machine.specs.Evaluation.{Here, Evaluated, Evaluation}
+use Rattle.machine.specs.Evaluation.{Here, EvalResult, Evaluation}
 use Rattle.machine.specs.Words.{wordValue, wordCell, tabulate}
 use Rattle.machine.specs.inner.Ranges.{valueInRange}
 use Rattle.machine.specs.inner.Blocks.{cellWords}
@@ -31,8 +31,8 @@ hereOf who vs =
 unfoldable pub cellsFrom : ℕ → List ℕ → List Stored
 cellsFrom n ws = tabulate n (λ c. wordCell (getD ws c 0)) 0
 
--- the words of what an evaluation gives; behind the cells in use they are 0
-abbrev pub resultOf : Evaluated → Result
+-- the words of what an evaluation gives; after the cells in use they are 0
+abbrev pub resultOf : EvalResult → Result
 resultOf r =
     record { outcome = r .outcome; used = usedCells (r .cells); words = cellWords (r .cells) }
 

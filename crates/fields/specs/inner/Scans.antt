@@ -12,10 +12,10 @@ use Rattle.language.specs.declared.kind.Uses.{Uses}
 use Rattle.language.specs.declared.frame.Frame.{Frame}
 use Rattle.program.specs.Trees.{frameAt}
 use Rattle.program.specs.Programs.{cellsOf}
-use Rattle.program.specs.inner.Shared.{padded}
+use Rattle.program.specs.inner.Shared.{paddedTypes}
 use Rattle.fields.specs.Fields.{headerFine, countOf, fieldFine, frameFine}
-use Rattle.fields.specs.declared.found.Found.{Found}
-use Rattle.fields.specs.declared.found.Found.the-variants.{At, Nowhere}
+use Rattle.fields.specs.declared.fault_search.FaultSearch.{FaultSearch}
+use Rattle.fields.specs.declared.fault_search.FaultSearch.the-variants.{At, Nowhere}
 use Rattle.fields.specs.declared.field.Tally.{Tally}
 
 -- ---- the lowest frame with the fault 4, and with 5
@@ -26,11 +26,11 @@ unfoldable pub fieldFault : List Frame → Option ℕ
 fieldFault fs = lowest (λ (i : ℕ) (f : Frame). not (frameFine fs i f)) 0 fs
 
 -- the code's answers
-abbrev pub found : Option ℕ → Found
+abbrev pub found : Option ℕ → FaultSearch
 found none = Nowhere
 found (some j) = At j
 
-abbrev pub optionOf : Found → Option ℕ
+abbrev pub optionOf : FaultSearch → Option ℕ
 optionOf Nowhere = none
 optionOf (At j) = some j
 
@@ -45,5 +45,5 @@ tallyOf fs =
     record {
       cells = countOf isShared fs;
       modules = countOf isModule fs;
-      types = padded (cellsOf fs);
+      types = paddedTypes (cellsOf fs);
     }

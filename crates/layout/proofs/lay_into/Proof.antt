@@ -1,7 +1,7 @@
 -- `lay_into` meets its contract. Assumes nothing.
 use borrow.Author.Needs.{needs}
 use Rattle.layout.proofs.Answers.{lines-fit, lines-count, lines-some, lines-few, laid-laws}
-use Rattle.layout.proofs.Accepted.{judged-laws}
+use Rattle.layout.proofs.Judged.{judged-laws}
 use Rattle.layout.proofs.lay_into.Statement.{statement}
 use Rattle.layout.proofs.lay_into.Tie as tie
 

@@ -1,6 +1,6 @@
 -- `layout_verdict` meets its contract. Assumes nothing.
 use borrow.Author.Needs.{needs}
-use Rattle.layout.proofs.Accepted.{verdict-alone}
+use Rattle.layout.proofs.Judged.{verdict-alone}
 use Rattle.layout.proofs.layout_verdict.Statement.{statement}
 use Rattle.layout.proofs.layout_verdict.Tie as tie
 

@@ -1,7 +1,7 @@
 -- What the passes of the code hold in their arrays. A reader of the rules can skip this file:
 -- proofs/ ties each pass to the definitions of Scans. Assumes nothing: definitions.
 use mathlib.Core.List.{List, [], _∷_}
-use mathlib.Core.Option.{Option}
+use mathlib.Core.Option.{Option, none, some}
 use Prim.Native.Nat.{ℕ, zero, suc, _<_, _≤_}
 use lib.Dec.{ltb, eqb}
 use lib.ListN.{length, getD, set, replicate}
@@ -11,15 +11,22 @@ use Rattle.language.specs.Kinds.{isModule, classOf, Child, children}
 use Rattle.language.specs.declared.frame.Frame.{Frame}
 use Rattle.language.specs.Limits.{mostLines, mostDepth}
 use Rattle.program.specs.Trees.{frameAt}
+use Rattle.layout.specs.declared.in_order.Subtree.{Subtree}
+use Rattle.layout.specs.declared.in_order.Subtree.the-variants.{From, OutOfOrder}
 use Rattle.layout.specs.inner.Scans.{Passed, passed}
 
--- ---- 6: what an array that says where the tree of each of the i frames passed begins tells of
--- them, from the last to the first
+-- ---- 6: the code's answer, from where a row of children begins
+abbrev pub subtreeOf : Option ℕ → Subtree
+subtreeOf none = OutOfOrder
+subtreeOf (some lo) = From lo
+
+-- what an array that says where the tree of each of the i frames passed begins tells of them, from
+-- the last to the first
 unfoldable pub told : List Frame → List ℕ → ℕ → List Passed
 told fs first zero = []
 told fs first (suc i) = passed (classOf (frameAt fs i .kind)) (getD first i 0) ∷ told fs first i
 
--- no tree begins behind its root
+-- no tree begins after its root
 abbrev pub Backward : List ℕ → ℕ → Type 0
 Backward first i = (j : ℕ) → j < i → getD first j 0 ≤ j
 

@@ -12,13 +12,13 @@ use Rattle.basics.specs.inner.Searches.{lowest, earlier}
 use Rattle.language.specs.Kinds.{isHeader, isShared, isModule, classOf, Child, children}
 use Rattle.language.specs.declared.kind.Class.{Class}
 use Rattle.language.specs.declared.frame.Frame.{Frame}
-use Rattle.language.specs.declared.verdict.Verdict.{Verdict}
-use Rattle.language.specs.declared.verdict.Verdict.the-variants.{Accepted, Rejected}
 use Rattle.language.specs.Refusals.{wrongHeader, wrongField, wrongOrder, tooDeep}
 use Rattle.language.specs.Limits.{mostDepth}
 use Rattle.program.specs.Trees.{frameAt}
 use Rattle.program.specs.inner.Children.{sameClass}
 use Rattle.fields.specs.inner.Scans.{headerFault, fieldFault}
+use Rattle.layout.specs.declared.LayoutVerdict.{LayoutVerdict}
+use Rattle.layout.specs.declared.LayoutVerdict.the-variants.{LaidOut, Rejected}
 use Rattle.layout.specs.Order.{hasChild, hasClass, isMain}
 
 -- ---- 6, 'order, a child of the wrong class': one pass, which stops at the first frame without a
@@ -49,9 +49,9 @@ firstDisorder ps i (f ∷ fs) =
       | some first ↦ firstDisorder (passed (classOf (f .kind)) first ∷ ps) (suc i) fs
     ]
 
--- a shared cell behind another kind
-unfoldable pub isBehind : List Frame → ℕ → Frame → Bool
-isBehind fs i f =
+-- a shared cell after another kind
+unfoldable pub isAfterOther : List Frame → ℕ → Frame → Bool
+isAfterOther fs i f =
     elim (isShared (f .kind)) [
       | true ↦ any (λ (g : Frame). not (isHeader (g .kind) || isShared (g .kind))) (take i fs)
       | false ↦ false
@@ -80,7 +80,7 @@ noMain fs = if isMain (frameAt fs (length fs - 1)) then none else some (length f
 unfoldable pub orderFault : List Frame → Option ℕ
 orderFault fs =
     earlier (firstDisorder [] 0 fs)
-    (earlier (lowest (λ (i : ℕ) (f : Frame). isBehind fs i f) 0 fs)
+    (earlier (lowest (λ (i : ℕ) (f : Frame). isAfterOther fs i f) 0 fs)
     (earlier (firstLeftover fs 0 fs) (noMain fs)))
 
 -- ---- 7
@@ -113,15 +113,15 @@ depthFault fs = firstDeep fs fs
 
 -- ---- 4 to 7
 -- refusal n at that frame, if there is one; else what comes next, which is computed only then
-abbrev pub rejectAt : ℕ → Option ℕ → (Unit {0} → Verdict) → Verdict
+abbrev pub rejectAt : ℕ → Option ℕ → (Unit {0} → LayoutVerdict) → LayoutVerdict
 rejectAt n (some j) next = Rejected n j
 rejectAt n none next = next tt
 
 -- 'Over the whole file, smallest number first, then lowest frame'
-unfoldable pub layoutOf : List Frame → Verdict
+unfoldable pub layoutOf : List Frame → LayoutVerdict
 layoutOf fs =
     rejectAt wrongHeader (headerFault fs) λ _.
     rejectAt wrongField (fieldFault fs) λ _.
     rejectAt wrongOrder (orderFault fs) λ _.
     rejectAt tooDeep (depthFault fs) λ _.
-    Accepted
+    LaidOut

@@ -1,5 +1,7 @@
--- `frames_ahead` meets its contract: a walk of its MIR, by hand, as that of `lines_left`;
--- `frames_from` is called. Assumes nothing.
+-- `frames_ahead` meets its contract: a walk of its MIR, by hand. The struct is taken apart, and
+-- `frames_from` is called on the slice and the number. All that the proof knows of `frames_from` is
+-- that it meets its contract. The struct is kept whole for the exit, and what the slice owns goes
+-- to the callee (`fields`), beside the lifetime's token, which comes back. Assumes nothing.
 use mathlib.Core.Path.{_≡_, refl}
 use Prim.Native.Nat.{ℕ, _<_, _^_}
 use mathlib.Core.List.{[], _∷_}
@@ -39,7 +41,7 @@ use denote.Triple.Walked.{says, Stays, stay-none, walkOf, goes-none, Walks, ends
 use denote.Triple.Walked.{walk-meets}
 use denote.Exit.{yes}
 use denote.Triple.Clauses.{ensured, lasts}
-use Rattle.lines.specs.Readers.{framesFrom}
+use Rattle.lines.specs.inner.Readers.{framesFrom}
 use Rattle.lines.specs.declared.LineReader.{LineReader}
 use Rattle.lines.proofs.LineReader as T
 use Rattle.lines.proofs.LineReader.Laws as T′

@@ -58,7 +58,7 @@ use Rattle.text.proofs.line.frame_at as frame-at
 use Rattle.text.proofs.line.frame_at.Symbol as frame-at-def
 use Rattle.text.proofs.line.frame_at.Symbol.{name as #text·line·frame-at}
 use Rattle.text.proofs.line.frame_at.Met as frame-at-thm
-use Rattle.lines.specs.Readers.{lineAfter}
+use Rattle.lines.specs.inner.Readers.{lineAfter}
 use Rattle.lines.specs.declared.LineReader.{LineReader}
 use Rattle.lines.proofs.LineReader as T
 use Rattle.lines.proofs.LineReader.Laws as T′
@@ -80,11 +80,11 @@ abbrev B : Lft → RattleType
 B κ′ = T.the-row (α κ′)
 
 -- `LineReader<'a>`, as the referent's place in the signature
-abbrev behind : Slot 2
-behind = plain (λ κs. T.the-row (namedLft 2 1 tt κs))
+abbrev beyond : Slot 2
+beyond = plain (λ κs. T.the-row (namedLft 2 1 tt κs))
 
 abbrev stayed : Stays (this.ended .signature .params) (this.ended .kept)
-stayed = (stay-ref (0 ∷ []) tt behind, tt)
+stayed = (stay-ref (0 ∷ []) tt beyond, tt)
 
 module _ {M : Type 1} (𝓤 : URA M) (H : Heap 𝓤) (A : Atoms 𝓤) (at-mem : Memory → SProp 𝓤) (run : Routine → Fun 𝓤) where
   -- the contracts that the proof cites
@@ -219,7 +219,7 @@ next-frame-meets : {M : Type 1} (𝓤 : URA M) (H : Heap 𝓤) (A : Atoms 𝓤) 
     → Triple 𝓤 (𝓣 .C #lines·line-after) (After 𝓤 H A mem run)
     → Triple 𝓤 (𝓣 .C #text·line·frame-at) (FrameAt 𝓤 H A mem run)
     → Meets 𝓤 H A this.signature (WpFn 𝓤 H (𝓣 .C) (𝓣 .Λ) code.function) (this.spec 𝓤 H A mem run)
-next-frame-meets 𝓤 H A W mem run 𝓣 known-after known-frame-at = walk-meets 𝓤 H A this.ended stayed W (goes-ref 𝓤 H A W 2 0 tt behind, tt) (this.clauses 𝓤 H A mem run) (WpFn 𝓤 H (𝓣 .C) (𝓣 .Λ) code.function) (WpFn-mono 𝓤 H (W .laws) 𝓣 code.function)
+next-frame-meets 𝓤 H A W mem run 𝓣 known-after known-frame-at = walk-meets 𝓤 H A this.ended stayed W (goes-ref 𝓤 H A W 2 0 tt beyond, tt) (this.clauses 𝓤 H A mem run) (WpFn 𝓤 H (𝓣 .C) (𝓣 .Λ) code.function) (WpFn-mono 𝓤 H (W .laws) 𝓣 code.function)
     (next-frame-walks 𝓤 H A W mem run (𝓣 .C) (𝓣 .Λ) (fmOf 𝓤 H (W .laws) 𝓣) known-after known-frame-at)
 
 pub next-frame-spec : {M : Type 1} → stated.statement M

@@ -3,7 +3,7 @@
 -- (proofs/SchedulerSays, proofs/Instants). Scheduler k counts from 0. Assumes nothing:
 -- definitions.
 use mathlib.Core.List.{List, [], _∷_, _++_}
-use mathlib.Core.Bool.{Bool, true, not, _||_}
+use mathlib.Core.Bool.{Bool, true, not, _&&_, _||_}
 use Prim.Native.Nat.{ℕ, suc, _+_, _-_, _*_, _/_, _%_}
 use lib.Dec.{ltb, eqb}
 use lib.ListN.{length, getD, set, drop}
@@ -17,7 +17,7 @@ use Rattle.machine.specs.Words.{wordsAt}
 use Rattle.machine.specs.inner.Blocks.{part, pasted, padded}
 use Rattle.machine.specs.inner.Ranges.{allBelow}
 
--- the words without the first, and 0 behind
+-- the words without the first, then 0
 unfoldable pub shifted : List ℕ → List ℕ
 shifted ws = drop 1 ws ++ (0 ∷ [])
 
@@ -30,12 +30,6 @@ withoutFirst w k =
     if ltb mostThreads n then w else
     set (pasted w (at + 1) (shifted (part w (at + 1) n)) n) at (n - 1)
 
--- entry e stands at position p of the list at that place, of n members; those from there on stand
--- behind it
-unfoldable pub insertedIn : List ℕ → ℕ → ℕ → ℕ → ℕ → List ℕ
-insertedIn w at n p e =
-    set (pasted w (at + 1 + p) (e ∷ part w (at + 1 + p) (n - p)) (n - p + 1)) at (n + 1)
-
 -- entry e stands at the end of the next list of scheduler k; 64 are its space
 unfoldable pub withLast : List ℕ → ℕ → ℕ → List ℕ
 withLast w k e =
@@ -46,17 +40,21 @@ withLast w k e =
 
 -- ---- the end of an instant
 
--- thread k, from 0, has ended, or is neither thread u nor started by it
-unfoldable pub isQuiet : List ℕ → ℕ → ℕ → Bool
-isQuiet w u k =
-    eqb (getD w (threadsAt + threadLength * k + livesField) 0) 0
-    || not (eqb (suc k) u || eqb (getD w (threadsAt + threadLength * k + starterField) 0) u)
+-- a wait for thread u awaits thread k, from 0: it has not ended, and is thread u or started by it
+unfoldable pub isAwaited : List ℕ → ℕ → ℕ → Bool
+isAwaited w u k =
+    not (eqb (getD w (threadsAt + threadLength * k + livesField) 0) 0)
+    && (eqb (suc k) u || eqb (getD w (threadsAt + threadLength * k + starterField) 0) u)
+
+-- it awaits none of the first n threads
+unfoldable pub noneAwaited : List ℕ → ℕ → ℕ → Bool
+noneAwaited w u n = allBelow n (λ k. not (isAwaited w u k))
 
 -- the entry e is ready
 unfoldable pub isReadyWord : List ℕ → ℕ → Bool
 isReadyWord w e =
     if ltb e waitingFactor then true else
-    allBelow (getD w threadCountAt 0) (isQuiet w (e / waitingFactor))
+    noneAwaited w (e / waitingFactor) (getD w threadCountAt 0)
 
 -- of the entries, the threads of the ready ones, and those that wait
 unfoldable pub readyWords : List ℕ → List ℕ → List ℕ
@@ -67,10 +65,10 @@ unfoldable pub waitingWords : List ℕ → List ℕ → List ℕ
 waitingWords w [] = []
 waitingWords w (e ∷ es) = keepIf (not (isReadyWord w e)) e (waitingWords w es)
 
--- the next list behind the active list at that place, sorted: the threads of the ready entries in
--- the active list's space, and in their own those that wait, with 0 behind
-unfoldable pub sortedIn : List ℕ → ℕ → List ℕ
-sortedIn w at =
+-- the entries of the next list after the active list at that place, partitioned: the threads of the
+-- ready ones in the active list's space, and in their own those that wait, then 0
+unfoldable pub partitionedIn : List ℕ → ℕ → List ℕ
+partitionedIn w at =
     let es = wordsAt w (at + listLength) in
     let n = getD w (at + listLength) 0 in
     pasted (pasted w (at + 1) (readyWords w es) (length (readyWords w es)))
@@ -81,5 +79,5 @@ unfoldable pub withInstantEnded : List ℕ → ℕ → List ℕ
 withInstantEnded w k =
     let at = schedulersAt + schedulerLength * k in
     let es = wordsAt w (nextListAt + schedulerLength * k) in
-    set (set (sortedIn w at) at (length (readyWords w es)))
+    set (set (partitionedIn w at) at (length (readyWords w es)))
     (nextListAt + schedulerLength * k) (length (waitingWords w es))

@@ -17,7 +17,7 @@ part w i n = take n (drop i w)
 unfoldable pub pasted : List ℕ → ℕ → List ℕ → ℕ → List ℕ
 pasted w i v n = paste w i v n
 
--- the first n of the words, 0 behind their end: a list's space behind its length
+-- the first n of the words, 0 after their end: a list's space after its length
 unfoldable pub padded : ℕ → List ℕ → List ℕ
 padded n ws = tabulate n (λ j. getD ws j 0) 0
 

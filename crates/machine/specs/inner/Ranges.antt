@@ -46,7 +46,7 @@ cellInRange n w = ownerInRange n (w / ownerFactor) && valueInRange (w % ownerFac
 -- ---- the words of a list, a scheduler, a thread
 
 -- word j of the space of a list at i, which holds at most `most` members that pass the test: 'a
--- list or pile longer than its space'; behind its members, 0
+-- list or pile longer than its space'; after its members, 0
 unfoldable pub listInRange : (ℕ → Bool) → ℕ → List ℕ → ℕ → ℕ → Bool
 listInRange test most w i zero = leb (getD w i 0) most
 listInRange test most w i (suc j) =

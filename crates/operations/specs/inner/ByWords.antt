@@ -1,7 +1,7 @@
 -- What one operation does on lent words. No reader has to believe it: on words of cells it does
 -- what `eval` does on the cells (crate evaluator). Assumes nothing: definitions.
 use mathlib.Core.List.{List}
-use mathlib.Core.Bool.{Bool, true, false, _||_, _&&_}
+use mathlib.Core.Bool.{Bool, true, false, not, _||_, _&&_}
 use Prim.Native.Nat.{ℕ, _+_, _/_, _%_}
 use lib.Dec.{ltb, leb, eqb}
 use lib.ListN.{length, getD, set}
@@ -24,7 +24,7 @@ use Rattle.machine.specs.declared.value.Outcome.{Outcome}
 use Rattle.machine.specs.declared.value.Outcome.the-variants.{Is, Foreign, Spent, Stuck}
 use Rattle.operations.specs.declared.Who.{Who}
 use Rattle.operations.specs.declared.operand.Operand.{Operand}
-use Rattle.operations.specs.inner.Results.{Result, result}
+use Rattle.operations.specs.inner.Results.{Result, result, thenBy}
 
 -- ---- words
 
@@ -41,10 +41,10 @@ ownerIn w = w / ownerFactor
 abbrev pub contentIn : ℕ → Value
 contentIn w = valueIn (w % ownerFactor)
 
-abbrev pub cellOf : ℕ → Value → ℕ
-cellOf o v = cellWord (record { owner = o; content = v })
+abbrev pub cellWordOf : ℕ → Value → ℕ
+cellWordOf o v = cellWord (record { owner = o; content = v })
 
--- ---- one definition for each kind, behind its operands
+-- ---- one definition for each kind, after its operands
 
 unfoldable pub ownIn : Who → ℕ → Bool
 ownIn who o =
@@ -63,7 +63,7 @@ sharedIn who s = if ltb s (who .shared) then Is (Cell s) else Stuck
 unfoldable pub makeIn : Who → ℕ → Value → ℕ → List ℕ → Result
 makeIn who s v n ws =
     if ownIn who (newOwnerIn who s) then
-    (if ltb n mostCells then result (Is (Cell n)) (n + 1) (set ws n (cellOf (newOwnerIn who s) v))
+    (if ltb n mostCells then result (Is (Cell n)) (n + 1) (set ws n (cellWordOf (newOwnerIn who s) v))
     else result Spent n ws)
     else result Foreign n ws
 
@@ -73,40 +73,32 @@ leafIn who vs (Leaf.Truth s) = Is (truthOf s)
 leafIn who vs (Leaf.Variable s) = variableIn vs s
 leafIn who vs (Leaf.SharedCell s) = sharedIn who s
 
--- the first refusal of two that is met, or v
-unfoldable pub refusalOr : Bool → Outcome → Bool → Outcome → Value → Outcome
-refusalOr a first b second v = if a then first else if b then second else Is v
-
 -- v at cell c, whose word is w, where n cells are in use: 20 is tested before 19
 unfoldable pub accessIn : Who → ℕ → ℕ → ℕ → Value → Outcome
-accessIn who c n w v = if ltb c n then (if ownIn who (ownerIn w) then Is v else Foreign) else Stuck
+accessIn who c n w v =
+    if leb n c then Stuck else
+    if not (ownIn who (ownerIn w)) then Foreign else
+    Is v
 
 unfoldable pub readIn : Who → Value → ℕ → List ℕ → Outcome
 readIn who (Cell c) n ws = accessIn who c n (getD ws c 0) (contentIn (getD ws c 0))
 readIn who (Number m) n ws = Stuck
 readIn who (Truth b) n ws = Stuck
 
-abbrev pub reading : Who → Value → ℕ → List ℕ → Result
-reading who v n ws = result (readIn who v n ws) n ws
+abbrev pub readingIn : Who → Value → ℕ → List ℕ → Result
+readingIn who v n ws = result (readIn who v n ws) n ws
 
 abbrev pub usingIn : Who → CellUse → Value → ℕ → List ℕ → Result
 usingIn who (Make s) = makeIn who (s .number)
-usingIn who Read = reading who
+usingIn who Read = readingIn who
 
--- the word of a cell behind a store: a refusal changes nothing
-abbrev pub wordAfter : Outcome → ℕ → Value → ℕ
-wordAfter (Is x) w v = cellOf (ownerIn w) v
-wordAfter Foreign w v = w
-wordAfter Spent w v = w
-wordAfter Stuck w v = w
+-- v in the word of cell c, which keeps its owner
+abbrev pub putIn : ℕ → Value → ℕ → List ℕ → Result
+putIn c v n ws = result (Is v) n (set ws c (cellWordOf (ownerIn (getD ws c 0)) v))
 
+-- only where the access is allowed: a refusal changes nothing
 unfoldable pub storeIn : Who → Value → Value → ℕ → List ℕ → Result
-storeIn who (Cell c) v n ws =
-    if ltb c n then
-    (if ownIn who (ownerIn (getD ws c 0))
-    then result (Is v) n (set ws c (cellOf (ownerIn (getD ws c 0)) v))
-    else result Foreign n ws)
-    else result Stuck n ws
+storeIn who (Cell c) v n ws = thenBy (accessIn who c n (getD ws c 0) v) n ws (putIn c)
 storeIn who (Number m) v n ws = result Stuck n ws
 storeIn who (Truth b) v n ws = result Stuck n ws
 
@@ -147,7 +139,7 @@ outcomeStops Foreign = true
 outcomeStops Spent = true
 outcomeStops Stuck = true
 
--- 26 and 27 behind their operands: the second's refusal, then 20 for either's kind
+-- 26 and 27 after their operands: the second's refusal, then 20 for either's kind
 abbrev pub firstBy : Operator → Operand → ℕ → Outcome
 firstBy op (Operand.Number m) n = Is (operation op m n)
 firstBy op Operand.Other n = Stuck

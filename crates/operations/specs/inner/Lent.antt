@@ -11,28 +11,28 @@ use Rattle.machine.specs.Offsets.{variablesField, cellsAt}
 use Rattle.operations.specs.declared.Who.{Who}
 
 -- where the words of the acting thread begin
-abbrev pub threadFrom : Who → ℕ
-threadFrom who = threadsAt + threadLength * (who .thread - 1)
+abbrev pub lentThread : Who → ℕ
+lentThread who = threadsAt + threadLength * (who .thread - 1)
 
 -- how many variables it has
 unfoldable pub variableCount : Who → List ℕ → ℕ
-variableCount who w = getD w (threadFrom who + variablesField) 0
+variableCount who w = getD w (lentThread who + variablesField) 0
 
 -- its variables
-unfoldable pub variablesOf : Who → List ℕ → List ℕ
-variablesOf who w = take (variableCount who w) (drop (threadFrom who + variablesField + 1) w)
+unfoldable pub lentVariables : Who → List ℕ → List ℕ
+lentVariables who w = take (variableCount who w) (drop (lentThread who + variablesField + 1) w)
 
 -- how many cells are in use
-unfoldable pub countOf : List ℕ → ℕ
-countOf w = getD w cellCountAt 0
+unfoldable pub lentCount : List ℕ → ℕ
+lentCount w = getD w cellCountAt 0
 
 -- the words of the cells
-unfoldable pub cellsOf : List ℕ → List ℕ
-cellsOf w = drop cellsAt w
+unfoldable pub lentCells : List ℕ → List ℕ
+lentCells w = drop cellsAt w
 
 -- all that an evaluation does not write
-unfoldable pub restOf : List ℕ → List ℕ
-restOf w = set (take cellsAt w) cellCountAt 0
+unfoldable pub lentRest : List ℕ → List ℕ
+lentRest w = set (take cellsAt w) cellCountAt 0
 
 -- what a caller has to show: a state's words, a thread that there can be, and no more variables
 -- than its space has

@@ -1,11 +1,11 @@
--- What a function on lent cells gives, and one such function behind another. No reader has to
+-- What a function on lent cells gives, and one such function after another. No reader has to
 -- believe it. Assumes nothing: definitions.
 use mathlib.Core.List.{List}
 use Prim.Native.Nat.{ℕ}
 use Rattle.machine.specs.declared.value.Value.{Value}
 use Rattle.machine.specs.declared.value.Outcome.{Outcome}
 use Rattle.machine.specs.declared.value.Outcome.the-variants.{Is, Foreign, Spent, Stuck}
-use Rattle.operations.specs.inner.Lent.{countOf, cellsOf}
+use Rattle.operations.specs.inner.Lent.{lentCount, lentCells}
 
 -- the outcome, how many cells are in use, and the words of the cells
 pub record Result : Type 0 where
@@ -18,7 +18,7 @@ result o n ws = record { outcome = o; used = n; words = ws }
 
 -- an outcome beside the words of a state: how many cells are in use, and the cells' words
 abbrev pub resultIn : Outcome → List ℕ → Result
-resultIn o w = result o (countOf w) (cellsOf w)
+resultIn o w = result o (lentCount w) (lentCells w)
 
 -- go on with the value, or keep the refusal
 abbrev pub thenBy : Outcome → ℕ → List ℕ → (Value → ℕ → List ℕ → Result) → Result
@@ -27,8 +27,8 @@ thenBy Foreign n ws k = result Foreign n ws
 thenBy Spent n ws k = result Spent n ws
 thenBy Stuck n ws k = result Stuck n ws
 
-abbrev pub andThen : Result → (Value → ℕ → List ℕ → Result) → Result
-andThen r k = thenBy (r .outcome) (r .used) (r .words) k
+abbrev pub andThenIn : Result → (Value → ℕ → List ℕ → Result) → Result
+andThenIn r k = thenBy (r .outcome) (r .used) (r .words) k
 
 -- the same where the words stay
 abbrev pub onlyBy : Outcome → (Value → Outcome) → Outcome

@@ -22,14 +22,14 @@ nextShared i [] = i
 nextShared i (f ∷ fs) = if isShared (f .kind) then i else nextShared (suc i) fs
 
 -- types in an array of 16
-abbrev pub padded : List ℕ → List ℕ
-padded ts = ts ++ replicate (mostShared - length ts) 0
+abbrev pub paddedTypes : List ℕ → List ℕ
+paddedTypes ts = ts ++ replicate (mostShared - length ts) 0
 
 -- the types of the shared cells among the frames
 unfoldable pub sharedTypes : List Frame → SharedTypes
-sharedTypes fs = record { count = length (cellsOf fs); types = padded (cellsOf fs) }
+sharedTypes fs = record { count = length (cellsOf fs); types = paddedTypes (cellsOf fs) }
 
--- the shared cells stand right behind frame 0, there are at most 16, and each has a type
+-- the shared cells stand right after frame 0, there are at most 16, and each has a type
 pub record SharedFirst (fs : List Frame) : Type 0 where
   pub header : isShared (frameAt fs 0 .kind) ≡ false
   pub together : (i j : ℕ) → 0 < i → i < j → j < length fs

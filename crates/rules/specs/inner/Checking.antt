@@ -23,8 +23,8 @@ use Rattle.program.specs.Trees.{start, startWait, letIn, store, ifElse, while}
 use Rattle.program.specs.Programs.{Part, Program}
 use Rattle.rules.specs.declared.finding.Typing.{Typing}
 use Rattle.rules.specs.declared.finding.Typing.the-variants.{Typed, Untyped}
-use Rattle.rules.specs.declared.finding.Conduct.{Conduct}
-use Rattle.rules.specs.declared.finding.Conduct.the-variants.{Does, Fails}
+use Rattle.rules.specs.declared.finding.StatementEffect.{StatementEffect}
+use Rattle.rules.specs.declared.finding.StatementEffect.the-variants.{Proper, Faulty}
 use Rattle.rules.specs.Rules.{Setting, settingOf, Signature, signatureAt, signature}
 
 -- ---- expressions. In each rule i is the frame; at one frame the smallest number comes first
@@ -104,84 +104,84 @@ isLinked linked = true
 isLinked unlinked = false
 
 -- 13 and 14; `once` says whether it ends at once
-unfoldable pub startRule : Bool → List Signature → Standing → ℕ → ℕ → Argued → Conduct
+unfoldable pub startRule : Bool → List Signature → Standing → ℕ → ℕ → Argued → StatementEffect
 startRule once below at s i (Argued.have ts e) =
-    if leb (length below) s then Fails unbound i else
-    if not (sameNumbers ts (signatureAt below s .types)) then Fails illTyped i else
-    if not (every public ts) then Fails escaping i else
-    if not (isLinked at) then Fails whileUnlinked i else
-    Does (e ∪ signatureAt below s .effect) once
-startRule once below at s i (Argued.fail n j) = Fails n j
+    if leb (length below) s then Faulty unbound i else
+    if not (sameNumbers ts (signatureAt below s .types)) then Faulty illTyped i else
+    if not (every public ts) then Faulty escaping i else
+    if not (isLinked at) then Faulty whileUnlinked i else
+    Proper (e ∪ signatureAt below s .effect) once
+startRule once below at s i (Argued.fail n j) = Faulty n j
 
 -- 15
-unfoldable pub cooperateRule : Standing → ℕ → Conduct
-cooperateRule linked i = Does noEffect false
-cooperateRule unlinked i = Fails whileUnlinked i
+unfoldable pub cooperateRule : Standing → ℕ → StatementEffect
+cooperateRule linked i = Proper noEffect false
+cooperateRule unlinked i = Faulty whileUnlinked i
 
 -- 11
-unfoldable pub seqRule : Conduct → Conduct → Conduct
-seqRule (Does e a) (Does f b) = Does (e ∪ f) (a && b)
-seqRule (Does e a) (Fails n j) = Fails n j
-seqRule (Fails n j) y = Fails n j
+unfoldable pub seqRule : StatementEffect → StatementEffect → StatementEffect
+seqRule (Proper e a) (Proper f b) = Proper (e ∪ f) (a && b)
+seqRule (Proper e a) (Faulty n j) = Faulty n j
+seqRule (Faulty n j) y = Faulty n j
 
 -- 12
-unfoldable pub doRule : Standing → ℕ → ℕ → Conduct → Conduct
-doRule at s i (Does e a) =
-    if not (within s e) then Fails wrongEffect i else
-    if not (isLinked at) && eqb s private then Fails whileUnlinked i else
-    Does noEffect a
-doRule at s i (Fails n j) = Fails n j
+unfoldable pub doRule : Standing → ℕ → ℕ → StatementEffect → StatementEffect
+doRule at s i (Proper e a) =
+    if not (within s e) then Faulty wrongEffect i else
+    if not (isLinked at) && eqb s private then Faulty whileUnlinked i else
+    Proper noEffect a
+doRule at s i (Faulty n j) = Faulty n j
 
 -- 16: the effect of what the variable is, joined to the body's
-unfoldable pub joinRule : Effect → Conduct → Conduct
-joinRule e (Does f b) = Does (e ∪ f) b
-joinRule e (Fails n j) = Fails n j
+unfoldable pub joinRule : Effect → StatementEffect → StatementEffect
+joinRule e (Proper f b) = Proper (e ∪ f) b
+joinRule e (Faulty n j) = Faulty n j
 
 -- 16: the body is asked with the new variable
-abbrev pub letRule : (List ℕ → Conduct) → List ℕ → Typing → Conduct
+abbrev pub letRule : (List ℕ → StatementEffect) → List ℕ → Typing → StatementEffect
 letRule body Γ (Typed t e) = joinRule e (body (Γ ++ (t ∷ [])))
-letRule body Γ (Untyped n j) = Fails n j
+letRule body Γ (Untyped n j) = Faulty n j
 
 -- 17
-unfoldable pub storeRule : ℕ → Typing → Typing → Conduct
+unfoldable pub storeRule : ℕ → Typing → Typing → StatementEffect
 storeRule i (Typed t e) (Typed u f) =
-    if isCell t && eqb u (contentOf t) then Does (withOwner (ownerOf t) (e ∪ f)) true else
-    Fails illTyped i
-storeRule i (Typed t e) (Untyped n j) = Fails n j
-storeRule i (Untyped n j) y = Fails n j
+    if isCell t && eqb u (contentOf t) then Proper (withOwner (ownerOf t) (e ∪ f)) true else
+    Faulty illTyped i
+storeRule i (Typed t e) (Untyped n j) = Faulty n j
+storeRule i (Untyped n j) y = Faulty n j
 
 -- 18
-unfoldable pub ifElseRule : ℕ → Typing → Conduct → Conduct → Conduct
-ifElseRule i (Typed t e) (Does f a) (Does g b) =
-    if eqb t truthType then Does (e ∪ f ∪ g) (a || b) else
-    Fails illTyped i
-ifElseRule i (Typed t e) (Does f a) (Fails n j) = Fails n j
-ifElseRule i (Typed t e) (Fails n j) z = Fails n j
-ifElseRule i (Untyped n j) y z = Fails n j
+unfoldable pub ifElseRule : ℕ → Typing → StatementEffect → StatementEffect → StatementEffect
+ifElseRule i (Typed t e) (Proper f a) (Proper g b) =
+    if eqb t truthType then Proper (e ∪ f ∪ g) (a || b) else
+    Faulty illTyped i
+ifElseRule i (Typed t e) (Proper f a) (Faulty n j) = Faulty n j
+ifElseRule i (Typed t e) (Faulty n j) z = Faulty n j
+ifElseRule i (Untyped n j) y z = Faulty n j
 
 -- 19
-unfoldable pub whileRule : ℕ → Typing → Conduct → Conduct
-whileRule i (Typed t e) (Does f b) =
-    if not (eqb t truthType) then Fails illTyped i else
-    if b then Fails instantLoop i else
-    Does (e ∪ f) true
-whileRule i (Typed t e) (Fails n j) = Fails n j
-whileRule i (Untyped n j) y = Fails n j
+unfoldable pub whileRule : ℕ → Typing → StatementEffect → StatementEffect
+whileRule i (Typed t e) (Proper f b) =
+    if not (eqb t truthType) then Faulty illTyped i else
+    if b then Faulty instantLoop i else
+    Proper (e ∪ f) true
+whileRule i (Typed t e) (Faulty n j) = Faulty n j
+whileRule i (Untyped n j) y = Faulty n j
 
 -- what a statement is found to be, or the first fault in it
-unfoldable pub runIn : Setting → List Signature → List ℕ → Standing → Stmt → Conduct
-runIn env below Γ at (nothing i) = Does noEffect true
-runIn env below Γ at (cooperate i) = cooperateRule at i
-runIn env below Γ at (seq i p q) = seqRule (runIn env below Γ at p) (runIn env below Γ at q)
-runIn env below Γ at (doAt i s p) = doRule at s i (runIn env below Γ (standingAt s) p)
-runIn env below Γ at (start i s xs) = startRule true below at s i (typesIn (env .cells) Γ xs)
-runIn env below Γ at (startWait i s xs) = startRule false below at s i (typesIn (env .cells) Γ xs)
-runIn env below Γ at (letIn i x p) =
-    letRule (λ Δ. runIn env below Δ at p) Γ (typeIn (env .cells) Γ x)
-runIn env below Γ at (store i x y) = storeRule i (typeIn (env .cells) Γ x) (typeIn (env .cells) Γ y)
-runIn env below Γ at (ifElse i x p q) =
-    ifElseRule i (typeIn (env .cells) Γ x) (runIn env below Γ at p) (runIn env below Γ at q)
-runIn env below Γ at (while i x p) = whileRule i (typeIn (env .cells) Γ x) (runIn env below Γ at p)
+unfoldable pub effectIn : Setting → List Signature → List ℕ → Standing → Stmt → StatementEffect
+effectIn env below Γ at (nothing i) = Proper noEffect true
+effectIn env below Γ at (cooperate i) = cooperateRule at i
+effectIn env below Γ at (seq i p q) = seqRule (effectIn env below Γ at p) (effectIn env below Γ at q)
+effectIn env below Γ at (doAt i s p) = doRule at s i (effectIn env below Γ (standingAt s) p)
+effectIn env below Γ at (start i s xs) = startRule true below at s i (typesIn (env .cells) Γ xs)
+effectIn env below Γ at (startWait i s xs) = startRule false below at s i (typesIn (env .cells) Γ xs)
+effectIn env below Γ at (letIn i x p) =
+    letRule (λ Δ. effectIn env below Δ at p) Γ (typeIn (env .cells) Γ x)
+effectIn env below Γ at (store i x y) = storeRule i (typeIn (env .cells) Γ x) (typeIn (env .cells) Γ y)
+effectIn env below Γ at (ifElse i x p q) =
+    ifElseRule i (typeIn (env .cells) Γ x) (effectIn env below Γ at p) (effectIn env below Γ at q)
+effectIn env below Γ at (while i x p) = whileRule i (typeIn (env .cells) Γ x) (effectIn env below Γ at p)
 
 -- ---- modules
 
@@ -191,18 +191,18 @@ mainRule i e = if within home e then Accepted else Rejected wrongEffect i
 
 -- module m was found to be so; `rest` gives the verdict on the later modules ms, from the
 -- signatures before them
-abbrev pub afterModule : (List Signature → Verdict) → List Signature → Part → List Part → Conduct
+abbrev pub afterModule : (List Signature → Verdict) → List Signature → Part → List Part → StatementEffect
     → Verdict
-afterModule rest below m [] (Does e b) = mainRule (m .frame) e
-afterModule rest below m (n ∷ ms) (Does e b) = rest (below ++ (signature m e ∷ []))
-afterModule rest below m ms (Fails n j) = Rejected n j
+afterModule rest below m [] (Proper e b) = mainRule (m .frame) e
+afterModule rest below m (n ∷ ms) (Proper e b) = rest (below ++ (signature m e ∷ []))
+afterModule rest below m ms (Faulty n j) = Rejected n j
 
--- the modules ms behind modules with the signatures `below`
+-- the modules ms after modules with the signatures `below`
 unfoldable pub modulesIn : Setting → List Signature → List Part → Verdict
 modulesIn env below [] = Accepted
 modulesIn env below (m ∷ ms) =
     afterModule (λ sigs. modulesIn env sigs ms) below m ms
-    (runIn env below (m .types) linked (m .body))
+    (effectIn env below (m .types) linked (m .body))
 
 -- the first broken rule of a program
 unfoldable pub rulesOf : Program → Verdict

@@ -10,16 +10,16 @@ use Rattle.machine.specs.Runs.{steps}
 use Rattle.stepper.specs.declared.answer.Answer.the-variants as A
 use Rattle.listing.specs.Listing.{refusalLine, Choices, choices, malformed, choicesFrom}
 use Rattle.listing.specs.Listing.{choiceLines}
-use Rattle.runs.specs.Runs.{Behind}
-use Rattle.runs.specs.Printed.{unstepped, ListedOn, listedAs, written, listedFrom, unlisted}
+use Rattle.runs.specs.Listings.{FinalState}
+use Rattle.runs.specs.Listings.{notRun, ListingResult, listingResult, written, listingOf, noListing}
 
 -- the choices that bytes are; none where they are malformed
-abbrev pub listOf : Choices → List ℕ
-listOf (choices cs) = cs
-listOf (malformed k) = []
+abbrev pub choiceList : Choices → List ℕ
+choiceList (choices cs) = cs
+choiceList (malformed k) = []
 
 unfoldable pub choicesOf : List ℕ → List ℕ
-choicesOf bytes = listOf (choicesFrom 0 bytes)
+choicesOf bytes = choiceList (choicesFrom 0 bytes)
 
 -- the lines of all those choices
 unfoldable pub stepLines : Program → List ℕ → List ℕ
@@ -33,12 +33,12 @@ abbrev pub choiceLength : ℕ
 choiceLength = 14
 
 -- after the check's line
-abbrev pub listedBehind : Behind → List ℕ → List ℕ → ListedOn
-listedBehind b listing out = listedAs (A.Done 0) (checkLength + length listing) (b .used) (b .words) (written out checkLength listing)
+abbrev pub listedAfter : FinalState → List ℕ → List ℕ → ListingResult
+listedAfter b listing out = listingResult (A.Done 0) (checkLength + length listing) (b .used) (b .words) (written out checkLength listing)
 
 -- of a text that refusal n at frame j stops
-unfoldable pub listedRejected : ℕ → ℕ → List ℕ → List ℕ → ListedOn
+unfoldable pub listedRejected : ℕ → ℕ → List ℕ → List ℕ → ListingResult
 listedRejected n j w out =
     if eqb (length out) mostListingBytes
-    then listedFrom (A.Rejected n j) (unstepped w) (refusalLine n j) out
-    else unlisted (A.Rejected n j) w out
+    then listingOf (A.Rejected n j) (notRun w) (refusalLine n j) out
+    else noListing (A.Rejected n j) w out

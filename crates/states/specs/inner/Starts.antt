@@ -11,7 +11,7 @@ use Rattle.program.specs.Programs.{SharedCell}
 use Rattle.machine.specs.Offsets.{cellsAt}
 use Rattle.machine.specs.Fresh.{firstCell}
 use Rattle.machine.specs.inner.Blocks.{pasted, padded, cellWords}
-use Rattle.machine.specs.Calls.{Called}
+use Rattle.machine.specs.Calls.{CallResult, callResult}
 use Rattle.states.specs.declared.thread.ThreadWords.{ThreadWords}
 
 -- the words with the first contents of those cells, at most 256
@@ -32,7 +32,3 @@ mainWords body =
       values = 0;
       variables = padded mostVariables [];
     }
-
--- the answer, the acting thread and the words of a call
-abbrev pub called : ℕ → ℕ → List ℕ → Called
-called answer thread words = record { answer = answer; thread = thread; words = words }

@@ -16,8 +16,8 @@ use Rattle.machine.specs.inner.Blocks.{part, pasted, padded}
 use Rattle.states.specs.declared.thread.ThreadWords.{ThreadWords}
 
 -- a thread in the code's form
-abbrev pub wordsOf : Thread → ThreadWords
-wordsOf x =
+abbrev pub threadWordsOf : Thread → ThreadWords
+threadWordsOf x =
     record {
       place = x .place;
       starter = x .starter;

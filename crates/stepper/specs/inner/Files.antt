@@ -18,23 +18,22 @@ use Rattle.machine.specs.Turns.{isSchedulerOf}
 use Rattle.machine.specs.Words.{unpack}
 use Rattle.machine.specs.inner.Ranges.{inRange}
 use Rattle.machine.specs.inner.Blocks.{pasted, cellWords}
-use Rattle.machine.specs.Calls.{Called}
+use Rattle.machine.specs.Calls.{CallResult, callResult}
 use Rattle.operations.specs.declared.Who.{Who}
-use Rattle.states.specs.inner.Threads.{wordsOf}
+use Rattle.states.specs.inner.Threads.{threadWordsOf}
 use Rattle.states.specs.inner.Parties.{isUnlinkedWord}
-use Rattle.acts.specs.declared.act.Acted.{Acted}
-use Rattle.acts.specs.inner.Fates.{popped, turned, Room}
-use Rattle.turns.specs.inner.Acts.{ActedOn, turnIn}
-use Rattle.commits.specs.inner.Commits.{called}
+use Rattle.acts.specs.declared.act.Action.{Action}
+use Rattle.acts.specs.inner.Transitions.{popped, turned, HasRoom}
+use Rattle.turns.specs.inner.Acts.{TurnOutcome, turnIn}
 use Rattle.stepper.specs.declared.file.File.{File}
-use Rattle.stepper.specs.declared.party.Stepped.{Stepped}
+use Rattle.stepper.specs.declared.party.StepAnswer.{StepAnswer}
 
 abbrev pub fileOf : Program → File
 fileOf p =
     record { schedulers = p .schedulers; shared = length (p .shared); allowance = p .allowance }
 
-abbrev pub steppedOn : Stepped → List ℕ → Called
-steppedOn r w = called (r .answer) (r .thread) w
+abbrev pub steppedOn : StepAnswer → List ℕ → CallResult
+steppedOn r w = callResult (r .answer) (r .thread) w
 
 -- the frames of a file that passes refusals 1 to 7
 pub record FileWords (frames : List ℕ) : Type 0 where
@@ -67,18 +66,18 @@ abbrev pub whoIn : List ℕ → ℕ → List ℕ → ℕ → Who
 whoIn frames shared w t = record { thread = t; place = record { number = threadAt (stateIn frames w) t .place }; shared = shared }
 
 -- the turn of thread t, on the words of its state
-abbrev pub turnOf : List ℕ → ℕ → List ℕ → ℕ → ActedOn
+abbrev pub turnOf : List ℕ → ℕ → List ℕ → ℕ → TurnOutcome
 turnOf frames shared w t =
     let s = stateIn frames w in
-    turnIn (framesOf frames) (whoIn frames shared w t) (wordsOf (threadAt s t)) (usedCells (s .cells)) (cellWords (s .cells))
+    turnIn (framesOf frames) (whoIn frames shared w t) (threadWordsOf (threadAt s t)) (usedCells (s .cells)) (cellWords (s .cells))
 
 -- what the turn comes to, the words with its cells and their count, and that the thread's space has
 -- room for the change
-pub record turnOn (a : Acted) (v : List ℕ) (frames : List ℕ) (shared : ℕ) (w : List ℕ) (t : ℕ) : Type 0 where
-  pub acted : turned a (getD v cellCountAt 0) (popped (wordsOf (threadAt (stateIn frames w) t)))
+pub record turnOn (a : Action) (v : List ℕ) (frames : List ℕ) (shared : ℕ) (w : List ℕ) (t : ℕ) : Type 0 where
+  pub acted : turned a (getD v cellCountAt 0) (popped (threadWordsOf (threadAt (stateIn frames w) t)))
       ≡ turnOf frames shared w t .acted
   pub words : v
       ≡ set (pasted w cellsAt (turnOf frames shared w t .cells) mostCells) cellCountAt
       (turnOf frames shared w t .acted .used)
   pub whole : length (turnOf frames shared w t .cells) ≡ mostCells
-  pub room : Room (a .change) (wordsOf (threadAt (stateIn frames w) t) .items - 1) (wordsOf (threadAt (stateIn frames w) t) .values)
+  pub room : HasRoom (a .change) (threadWordsOf (threadAt (stateIn frames w) t) .items - 1) (threadWordsOf (threadAt (stateIn frames w) t) .values)

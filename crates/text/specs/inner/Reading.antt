@@ -33,7 +33,7 @@ abbrev pub textRead : Reading → TextRead
 textRead (frames fs) = Frames (length fs)
 textRead (refused n j) = Refused n j
 
--- the lines behind which the reader stopped: all of them, or those before the one that is refused
+-- the lines after which the reader stopped: all of them, or those before the one that is refused
 abbrev pub linesRead : Reading → ℕ
 linesRead (frames fs) = length fs
 linesRead (refused n j) = j
@@ -42,7 +42,7 @@ linesRead (refused n j) = j
 unfoldable pub wordArray : ℕ → List ℕ → List ℕ
 wordArray n bs = wordsOf n bs ++ replicate (mostLines - n) 0
 
--- the reader's whole answer, and what its lent words hold behind it
+-- the reader's whole answer, and what its lent words hold after it
 pub record TextWords : Type 0 where
   pub read : TextRead
   pub words : List ℕ

@@ -28,8 +28,8 @@ add-loop c = search (judge-few, judge-index, needs)
 frame-at-requires : tie.Need-frame-at-requires Inv-loop μ-loop
 frame-at-requires c κs = search judge-index
 
-module-conduct-requires : tie.Need-module-conduct-requires Inv-loop μ-loop
-module-conduct-requires c κs =
+module-effect-requires : tie.Need-module-effect-requires Inv-loop μ-loop
+module-effect-requires c κs =
     (search judge-body, search judge-room, search judge-parameters, search judge-most)
 
 enum-known-k : tie.Need-enum-known-k Inv-loop μ-loop
@@ -68,8 +68,8 @@ loop-again c = search judge-more
 frame-at-requires-2 : tie.Need-frame-at-requires-2 Inv-loop μ-loop
 frame-at-requires-2 c κs = search judge-index
 
-module-conduct-requires-2 : tie.Need-module-conduct-requires-2 Inv-loop μ-loop
-module-conduct-requires-2 c κs =
+module-effect-requires-2 : tie.Need-module-effect-requires-2 Inv-loop μ-loop
+module-effect-requires-2 c κs =
     (search judge-body, search judge-room, search judge-parameters, search judge-most)
 
 enum-known-k-2 : tie.Need-enum-known-k-2 Inv-loop μ-loop
@@ -100,7 +100,7 @@ modules-rule-spec =
     loop-holds
     add-loop
     frame-at-requires
-    module-conduct-requires
+    module-effect-requires
     enum-known-k
     returns
     enum-known-e
@@ -113,7 +113,7 @@ modules-rule-spec =
     loop-less
     loop-again
     frame-at-requires-2
-    module-conduct-requires-2
+    module-effect-requires-2
     enum-known-k-2
     enum-known-e-2
     cast-main-rule

@@ -4,8 +4,8 @@ use borrow.Author.Needs.{needs}
 use Rattle.commits.proofs.decision.decide.Statement.{statement}
 use Rattle.commits.proofs.decision.decide.Tie as tie
 
-enum-known-fate : tie.Need-enum-known-fate
-enum-known-fate c = search needs
+enum-known-transition : tie.Need-enum-known-transition
+enum-known-transition c = search needs
 
 enum-told : tie.Need-enum-told
 enum-told c = search needs
@@ -13,8 +13,8 @@ enum-told c = search needs
 enum-told-2 : tie.Need-enum-told-2
 enum-told-2 c = search needs
 
-enum-known-fate-2 : tie.Need-enum-known-fate-2
-enum-known-fate-2 c = search needs
+enum-known-transition-2 : tie.Need-enum-known-transition-2
+enum-known-transition-2 c = search needs
 
 room-at-requires : tie.Need-room-at-requires
 room-at-requires c κs = search needs
@@ -22,8 +22,8 @@ room-at-requires c κs = search needs
 returns : tie.Need-returns
 returns c = search decide-laws
 
-enum-known-fate-3 : tie.Need-enum-known-fate-3
-enum-known-fate-3 c = search needs
+enum-known-transition-3 : tie.Need-enum-known-transition-3
+enum-known-transition-3 c = search needs
 
 decide-start-requires : tie.Need-decide-start-requires
 decide-start-requires c κs = search needs
@@ -47,13 +47,13 @@ pub decide-spec : {M : Type 1} → statement M
 decide-spec =
     tie.close
     (tie.spec
-    enum-known-fate
+    enum-known-transition
     enum-told
     enum-told-2
-    enum-known-fate-2
+    enum-known-transition-2
     room-at-requires
     returns
-    enum-known-fate-3
+    enum-known-transition-3
     decide-start-requires
     returns-2
     returns-3

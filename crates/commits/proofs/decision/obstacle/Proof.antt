@@ -4,12 +4,6 @@ use borrow.Author.Needs.{needs}
 use Rattle.commits.proofs.decision.obstacle.Statement.{statement}
 use Rattle.commits.proofs.decision.obstacle.Tie as tie
 
-room-at-requires : tie.Need-room-at-requires
-room-at-requires c κs = search needs
-
-thread-count-requires : tie.Need-thread-count-requires
-thread-count-requires c κs = search needs
-
 is-private-requires : tie.Need-is-private-requires
 is-private-requires c κs = search needs
 
@@ -22,8 +16,14 @@ returns-2 c = search obstacle-laws
 returns-3 : tie.Need-returns-3
 returns-3 c = search obstacle-laws
 
+room-at-requires : tie.Need-room-at-requires
+room-at-requires c κs = search needs
+
 returns-4 : tie.Need-returns-4
 returns-4 c = search obstacle-laws
+
+thread-count-requires : tie.Need-thread-count-requires
+thread-count-requires c κs = search needs
 
 returns-5 : tie.Need-returns-5
 returns-5 c = search obstacle-laws
@@ -35,12 +35,12 @@ pub obstacle-spec : {M : Type 1} → statement M
 obstacle-spec =
     tie.close
     (tie.spec
-    room-at-requires
-    thread-count-requires
     is-private-requires
     returns
     returns-2
     returns-3
+    room-at-requires
     returns-4
+    thread-count-requires
     returns-5
     returns-6)

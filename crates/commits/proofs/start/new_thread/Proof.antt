@@ -4,7 +4,7 @@ use Prim.Native.Nat.{ℕ}
 use mathlib.Core.Path.{ap}
 use Rattle.machine.specs.inner.Blocks.{padded}
 use Rattle.machine.specs.Words.{tabulate}
-use Rattle.commits.specs.inner.Commits.{newThread}
+use Rattle.commits.specs.inner.Commits.{newThreadWords}
 use Rattle.commits.proofs.start.new_thread.Statement.{statement}
 use Rattle.commits.proofs.start.new_thread.Tie as tie
 
@@ -25,7 +25,7 @@ unfolding padded tabulate
 returns c =
     let at = c .before .args in
     let args = at .args in
-    ap (λ (p : ℕ). newThread p (args .count) (args .first) (args .second) (at .t) (at .body))
+    ap (λ (p : ℕ). newThreadWords p (args .count) (args .first) (args .second) (at .t) (at .body))
     (c .word .ensures)
 
 pub new-thread-spec : {M : Type 1} → statement M

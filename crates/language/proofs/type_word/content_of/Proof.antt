@@ -1,19 +1,17 @@
 -- `content_of` meets its contract. Assumes nothing.
-use Rattle.language.proofs.Words.{content-laws}
+use borrow.Author.Needs.{needs}
+use Rattle.language.proofs.Words.{content-rest, unit-some}
 use Rattle.language.proofs.type_word.content_of.Statement.{statement}
 use Rattle.language.proofs.type_word.content_of.Tie as tie
 
+leftmost-unit-requires : tie.Need-leftmost-unit-requires
+leftmost-unit-requires c κs = search needs
+
+rem-result : tie.Need-rem-result
+rem-result c = search unit-some
+
 returns : tie.Need-returns
-returns c = search content-laws
-
-returns-2 : tie.Need-returns-2
-returns-2 c = search content-laws
-
-returns-3 : tie.Need-returns-3
-returns-3 c = search content-laws
-
-returns-4 : tie.Need-returns-4
-returns-4 c = search content-laws
+returns c = search content-rest
 
 pub content-of-spec : {M : Type 1} → statement M
-content-of-spec = tie.close (tie.spec returns returns-2 returns-3 returns-4)
+content-of-spec = tie.close (tie.spec leftmost-unit-requires rem-result returns)

@@ -2,7 +2,7 @@
 use borrow.Author.Needs.{needs}
 use lib.ListN.{length-set}
 use native.Mathlib.Omega.{arith}
-use Rattle.lists.proofs.SortLaws.{next-short, ready-few, instant-count, instant-words}
+use Rattle.lists.proofs.PartitionLaws.{next-short, ready-few, instant-count, instant-words}
 use Rattle.lists.proofs.list.end_instant.Statement.{statement}
 use Rattle.lists.proofs.list.end_instant.Tie as tie
 
@@ -18,8 +18,8 @@ mul-n c = search needs
 slice-read-n : tie.Need-slice-read-n
 slice-read-n c = search needs
 
-sort-entries-requires : tie.Need-sort-entries-requires
-sort-entries-requires c κs =
+partition-entries-requires : tie.Need-partition-entries-requires
+partition-entries-requires c κs =
     (search needs, search needs, search needs, search needs, search next-short)
 
 mul-state : tie.Need-mul-state
@@ -51,7 +51,7 @@ end-instant-spec =
     add-next
     mul-n
     slice-read-n
-    sort-entries-requires
+    partition-entries-requires
     mul-state
     slice-write-state
     sub-state

@@ -1,6 +1,6 @@
 -- `with_content` meets its contract. Assumes nothing.
 use borrow.Author.Needs.{needs}
-use Rattle.operations.proofs.WordLaws.{cell-of}
+use Rattle.machine.proofs.ValueWords.{cell-of}
 use Rattle.operations.proofs.cell.with_content.Statement.{statement}
 use Rattle.operations.proofs.cell.with_content.Tie as tie
 

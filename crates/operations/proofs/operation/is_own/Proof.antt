@@ -4,8 +4,8 @@ use Rattle.operations.proofs.Operations.{own-laws}
 use Rattle.operations.proofs.operation.is_own.Statement.{statement}
 use Rattle.operations.proofs.operation.is_own.Tie as tie
 
-wide8-requires : tie.Need-wide8-requires
-wide8-requires c κs = search needs
+cast-if1 : tie.Need-cast-if1
+cast-if1 c = search needs
 
 add-if1 : tie.Need-add-if1
 add-if1 c = search needs
@@ -27,5 +27,4 @@ returns-3 c = search own-laws
 
 pub is-own-spec : {M : Type 1} → statement M
 is-own-spec =
-    tie.close
-    (tie.spec wide8-requires add-if1 returns word-requires word-requires-2 returns-2 returns-3)
+    tie.close (tie.spec cast-if1 add-if1 returns word-requires word-requires-2 returns-2 returns-3)

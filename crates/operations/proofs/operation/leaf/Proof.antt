@@ -7,8 +7,8 @@ use Rattle.operations.proofs.operation.leaf.Tie as tie
 enum-known-l : tie.Need-enum-known-l
 enum-known-l c = search needs
 
-number16-requires : tie.Need-number16-requires
-number16-requires c κs = search needs
+cast-t9 : tie.Need-cast-t9
+cast-t9 c = search needs
 
 enum-known-l-2 : tie.Need-enum-known-l-2
 enum-known-l-2 c = search needs
@@ -42,7 +42,7 @@ leaf-spec =
     tie.close
     (tie.spec
     enum-known-l
-    number16-requires
+    cast-t9
     enum-known-l-2
     enum-known-l-3
     read-variable-requires

@@ -9,8 +9,8 @@ use Rattle.operations.proofs.operation.make_cell.Tie as tie
 new-owner-requires : tie.Need-new-owner-requires
 new-owner-requires c κs = search needs
 
-wide16-requires : tie.Need-wide16-requires
-wide16-requires c κs = search needs
+cast-is-own : tie.Need-cast-is-own
+cast-is-own c = search needs
 
 is-own-requires : tie.Need-is-own-requires
 is-own-requires c κs = search needs
@@ -56,7 +56,7 @@ make-cell-spec =
     tie.close
     (tie.spec
     new-owner-requires
-    wide16-requires
+    cast-is-own
     is-own-requires
     slice-read-used
     cell-word-requires

@@ -7,8 +7,8 @@ use Rattle.operations.proofs.operation.new_owner.Tie as tie
 is-private-requires : tie.Need-is-private-requires
 is-private-requires c κs = search needs
 
-half8-requires : tie.Need-half8-requires
-half8-requires c κs = search needs
+cast-result : tie.Need-cast-result
+cast-result c = search needs
 
 add-result : tie.Need-add-result
 add-result c = search needs
@@ -19,8 +19,8 @@ returns c = search owner-laws
 number-requires : tie.Need-number-requires
 number-requires c κs = search needs
 
-half8-requires-2 : tie.Need-half8-requires-2
-half8-requires-2 c κs = search needs
+cast-result-2 : tie.Need-cast-result-2
+cast-result-2 c = search needs
 
 returns-2 : tie.Need-returns-2
 returns-2 c = search owner-laws
@@ -30,9 +30,9 @@ new-owner-spec =
     tie.close
     (tie.spec
     is-private-requires
-    half8-requires
+    cast-result
     add-result
     returns
     number-requires
-    half8-requires-2
+    cast-result-2
     returns-2)

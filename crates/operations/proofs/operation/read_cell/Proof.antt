@@ -1,14 +1,17 @@
 -- `read_cell` meets its contract. Assumes nothing.
 use borrow.Author.Needs.{needs}
-use Rattle.operations.proofs.Operations.{read-laws}
+use Rattle.operations.proofs.Operations.{read-none, read-is}
 use Rattle.operations.proofs.operation.read_cell.Statement.{statement}
 use Rattle.operations.proofs.operation.read_cell.Tie as tie
 
 enum-known-v : tie.Need-enum-known-v
 enum-known-v c = search needs
 
-index8-requires : tie.Need-index8-requires
-index8-requires c κs = search needs
+returns : tie.Need-returns
+returns c = search read-none
+
+cast-j : tie.Need-cast-j
+cast-j c = search needs
 
 shared-slice-read-used : tie.Need-shared-slice-read-used
 shared-slice-read-used c = search needs
@@ -28,35 +31,20 @@ content-of-requires c κs = search needs
 access-requires : tie.Need-access-requires
 access-requires c κs = search needs
 
-enum-known-v-2 : tie.Need-enum-known-v-2
-enum-known-v-2 c = search needs
-
-enum-known-v-3 : tie.Need-enum-known-v-3
-enum-known-v-3 c = search needs
-
-returns : tie.Need-returns
-returns c = search read-laws
-
 returns-2 : tie.Need-returns-2
-returns-2 c = search read-laws
-
-returns-3 : tie.Need-returns-3
-returns-3 c = search read-laws
+returns-2 c = search read-is
 
 pub read-cell-spec : {M : Type 1} → statement M
 read-cell-spec =
     tie.close
     (tie.spec
     enum-known-v
-    index8-requires
+    returns
+    cast-j
     shared-slice-read-used
     add-w
     mul-w
     shared-slice-read-w
     content-of-requires
     access-requires
-    enum-known-v-2
-    enum-known-v-3
-    returns
-    returns-2
-    returns-3)
+    returns-2)

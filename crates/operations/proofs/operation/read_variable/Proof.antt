@@ -4,9 +4,6 @@ use Rattle.operations.proofs.Operations.{variable-laws}
 use Rattle.operations.proofs.operation.read_variable.Statement.{statement}
 use Rattle.operations.proofs.operation.read_variable.Tie as tie
 
-index8-requires : tie.Need-index8-requires
-index8-requires c κs = search needs
-
 mul-value-of : tie.Need-mul-value-of
 mul-value-of c = search needs
 
@@ -25,10 +22,4 @@ returns-2 c = search variable-laws
 pub read-variable-spec : {M : Type 1} → statement M
 read-variable-spec =
     tie.close
-    (tie.spec
-    index8-requires
-    mul-value-of
-    shared-slice-read-value-of
-    value-of-requires
-    returns
-    returns-2)
+    (tie.spec mul-value-of shared-slice-read-value-of value-of-requires returns returns-2)

@@ -1,7 +1,7 @@
 -- `store_cell` meets its contract. Assumes nothing.
 use mathlib.Core.Path.{refl}
 use borrow.Author.Needs.{needs}
-use Rattle.operations.proofs.Operations.{store-is, store-number, store-truth}
+use Rattle.operations.proofs.Operations.{store-none, store-refused, store-is}
 use Rattle.operations.proofs.InState.{rest-put}
 use Rattle.operations.proofs.operation.store_cell.Statement.{statement}
 use Rattle.operations.proofs.operation.store_cell.Tie as tie
@@ -9,8 +9,11 @@ use Rattle.operations.proofs.operation.store_cell.Tie as tie
 enum-known-v : tie.Need-enum-known-v
 enum-known-v c = search needs
 
-index8-requires : tie.Need-index8-requires
-index8-requires c κs = search needs
+returns : tie.Need-returns
+returns c = (search store-none, refl)
+
+cast-i : tie.Need-cast-i
+cast-i c = search needs
 
 slice-read-used : tie.Need-slice-read-used
 slice-read-used c = search needs
@@ -27,8 +30,14 @@ slice-read-w c = search needs
 access-requires : tie.Need-access-requires
 access-requires c κs = search needs
 
-word-after-requires : tie.Need-word-after-requires
-word-after-requires c κs = search needs
+enum-known-o : tie.Need-enum-known-o
+enum-known-o c = search needs
+
+returns-2 : tie.Need-returns-2
+returns-2 c = (search store-refused, refl)
+
+with-content-requires : tie.Need-with-content-requires
+with-content-requires c κs = search needs
 
 add-state : tie.Need-add-state
 add-state c = search needs
@@ -39,42 +48,35 @@ mul-state c = search needs
 slice-write-state : tie.Need-slice-write-state
 slice-write-state c = search needs
 
-enum-known-v-2 : tie.Need-enum-known-v-2
-enum-known-v-2 c = search needs
-
-enum-known-v-3 : tie.Need-enum-known-v-3
-enum-known-v-3 c = search needs
-
 same-length : tie.Need-same-length
 same-length c = search needs
 
-returns : tie.Need-returns
-returns c = (search store-is, search rest-put)
-
-returns-2 : tie.Need-returns-2
-returns-2 c = (search store-number, refl)
-
 returns-3 : tie.Need-returns-3
-returns-3 c = (search store-truth, refl)
+returns-3 c =
+    let is = c .before .before in
+    let tried = is .before .before in (
+      store-is _ _ _ _ _ _ (tried .before .before .before .before .v .given .1)
+          (tried .access .ensures) _ _ (is .o .given .1) (c .with-content .ensures),
+      search rest-put,
+    )
 
 pub store-cell-spec : {M : Type 1} → statement M
 store-cell-spec =
     tie.close
     (tie.spec
     enum-known-v
-    index8-requires
+    returns
+    cast-i
     slice-read-used
     add-w
     mul-w
     slice-read-w
     access-requires
-    word-after-requires
+    enum-known-o
+    returns-2
+    with-content-requires
     add-state
     mul-state
     slice-write-state
-    enum-known-v-2
-    enum-known-v-3
     same-length
-    returns
-    returns-2
     returns-3)

@@ -1,47 +1,21 @@
 -- `then_read` meets its contract. Assumes nothing.
 use borrow.Author.Needs.{needs}
 use Rattle.operations.proofs.Operations.{reading-is}
-use Rattle.operations.proofs.Chains.{then-is, then-keeps}
+use Rattle.operations.proofs.Chains.{then-refused, then-is}
 use Rattle.operations.proofs.operation.then_read.Statement.{statement}
 use Rattle.operations.proofs.operation.then_read.Tie as tie
 
 enum-known-o : tie.Need-enum-known-o
 enum-known-o c = search needs
 
+returns : tie.Need-returns
+returns c = search then-refused
+
 read-cell-requires : tie.Need-read-cell-requires
 read-cell-requires c κs = search needs
 
-enum-told : tie.Need-enum-told
-enum-told c = search needs
-
-enum-told-2 : tie.Need-enum-told-2
-enum-told-2 c = search needs
-
-enum-told-3 : tie.Need-enum-told-3
-enum-told-3 c = search needs
-
-returns : tie.Need-returns
-returns c = search (then-is, reading-is)
-
 returns-2 : tie.Need-returns-2
-returns-2 c = search then-keeps
-
-returns-3 : tie.Need-returns-3
-returns-3 c = search then-keeps
-
-returns-4 : tie.Need-returns-4
-returns-4 c = search then-keeps
+returns-2 c = search (then-is, reading-is)
 
 pub then-read-spec : {M : Type 1} → statement M
-then-read-spec =
-    tie.close
-    (tie.spec
-    enum-known-o
-    read-cell-requires
-    enum-told
-    enum-told-2
-    enum-told-3
-    returns
-    returns-2
-    returns-3
-    returns-4)
+then-read-spec = tie.close (tie.spec enum-known-o returns read-cell-requires returns-2)

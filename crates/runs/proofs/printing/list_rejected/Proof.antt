@@ -1,11 +1,11 @@
 -- `list_rejected` meets its contract. Assumes nothing.
 use borrow.Author.Needs.{needs}
-use Rattle.runs.proofs.TextListings.{rejected-unlisted, rejected-listed}
+use Rattle.runs.proofs.TextListings.{rejected-noListing, rejected-listed}
 use Rattle.runs.proofs.printing.list_rejected.Statement.{statement}
 use Rattle.runs.proofs.printing.list_rejected.Tie as tie
 
 returns : tie.Need-returns
-returns c = search rejected-unlisted
+returns c = search rejected-noListing
 
 refusal-line-requires : tie.Need-refusal-line-requires
 refusal-line-requires c κs = search needs

@@ -3,7 +3,7 @@ use borrow.Author.Needs.{needs}
 use Rattle.checker.proofs.CheckLaws.{check-room, check-length}
 use Rattle.stepper.proofs.AnswerLaws.{text-file}
 use Rattle.runs.proofs.TextListings.{list-rejected, list-short-state, list-short-out}
-use Rattle.runs.proofs.TextListings.{list-accepted}
+use Rattle.runs.proofs.TextListings.{list-laid-out}
 use Rattle.runs.proofs.printing.run_listing.Statement.{statement}
 use Rattle.runs.proofs.printing.run_listing.Tie as tie
 
@@ -50,7 +50,7 @@ same-length-3 : tie.Need-same-length-3
 same-length-3 c = search needs
 
 returns-4 : tie.Need-returns-4
-returns-4 c = search list-accepted
+returns-4 c = search list-laid-out
 
 pub run-listing-spec : {M : Type 1} → statement M
 run-listing-spec =

@@ -22,6 +22,11 @@ add-at c =
     let at = c .before .before in
     let b = act-bounds (at .pre) in omega arith
 
+cast-t12 : tie.Need-cast-t12
+cast-t12 c =
+    let at = c .before .before in
+    let b = act-bounds (at .pre) in record { fits = omega arith }
+
 mul-known : tie.Need-mul-known
 mul-known c =
     let at = c .before .before in
@@ -37,40 +42,35 @@ known-requires c κs =
     let at = c .before .before .before in
     let p = at .pre in place-read _ _ _ (p .0) _ (p .1) (p .2) _ refl
 
-add-t12 : tie.Need-add-t12
-add-t12 c =
+add-t11 : tie.Need-add-t11
+add-t11 c =
     let at = c .before .before .before .before in
     let b = act-bounds (at .pre) in omega arith
 
-mul-t14 : tie.Need-mul-t14
-mul-t14 c =
+mul-t15 : tie.Need-mul-t15
+mul-t15 c =
     let at = c .before .before .before .before in
     let b = act-bounds (at .pre) in record { fits = omega arith }
 
-slice-read-t11 : tie.Need-slice-read-t11
-slice-read-t11 c =
+slice-read-t10 : tie.Need-slice-read-t10
+slice-read-t10 c =
     let at = c .before .before .before .before .before in
     let b = act-bounds (at .pre) in omega arith
 
-add-t16 : tie.Need-add-t16
-add-t16 c =
+add-t17 : tie.Need-add-t17
+add-t17 c =
     let at = c .before .before .before .before .before in
     let b = act-bounds (at .pre) in omega arith
 
-mul-t17 : tie.Need-mul-t17
-mul-t17 c =
+mul-t18 : tie.Need-mul-t18
+mul-t18 c =
     let at = c .before .before .before .before .before in
     let b = act-bounds (at .pre) in record { fits = omega arith }
 
-slice-read-t19 : tie.Need-slice-read-t19
-slice-read-t19 c =
+slice-read-t20 : tie.Need-slice-read-t20
+slice-read-t20 c =
     let at = c .before .before .before .before .before .before in
     let b = act-bounds (at .pre) in omega arith
-
-cast-t20 : tie.Need-cast-t20
-cast-t20 c =
-    let at = c .before .before .before .before .before .before in
-    let b = act-bounds (at .pre) in record { fits = omega arith }
 
 top-item-requires : tie.Need-top-item-requires
 top-item-requires c κs =
@@ -87,9 +87,9 @@ act-requires c κs =
     (record {
       place = sym (number-is _ _ (known .known .ensures));
       items = refl;
-      values = refl;
+      variables = refl;
     })
-    (c .before .top-item .ensures) refl
+    (c .before .top-item .ensures)
 
 same-length : tie.Need-same-length
 same-length c = search needs
@@ -105,9 +105,9 @@ returns c =
     (record {
       place = sym (number-is _ _ (known .known .ensures));
       items = refl;
-      values = refl;
+      variables = refl;
     })
-    (top .top-item .ensures) refl _ _
+    (top .top-item .ensures) _ _
     (acted .act .ensures .0) (acted .act .ensures .1) (acted .act .kept .1 .1 .1 .1 .0)
 
 pub act-in-spec : {M : Type 1} → statement M
@@ -117,16 +117,16 @@ act-in-spec =
     sub-k
     mul-at
     add-at
+    cast-t12
     mul-known
     slice-read-known
     known-requires
-    add-t12
-    mul-t14
-    slice-read-t11
-    add-t16
-    mul-t17
-    slice-read-t19
-    cast-t20
+    add-t11
+    mul-t15
+    slice-read-t10
+    add-t17
+    mul-t18
+    slice-read-t20
     top-item-requires
     act-requires
     same-length

@@ -27,8 +27,8 @@ digit-requires c κs = search needs
 mul-w : tie.Need-mul-w Inv-loop μ-loop
 mul-w c = record { fits = search times-fits }
 
-wide-requires : tie.Need-wide-requires Inv-loop μ-loop
-wide-requires c κs = search needs
+cast-w : tie.Need-cast-w Inv-loop μ-loop
+cast-w c = search needs
 
 add-w : tie.Need-add-w Inv-loop μ-loop
 add-w c = record { fits = search word-fits }
@@ -65,7 +65,7 @@ read-line-spec =
     shared-slice-read-digit
     digit-requires
     mul-w
-    wide-requires
+    cast-w
     add-w
     add-k
     loop-less

@@ -10,13 +10,13 @@ comes-to-requires c κs = search needs
 returns : tie.Need-returns
 returns c = (search turn-ends, search needs)
 
-sub-t11 : tie.Need-sub-t11
-sub-t11 c = search needs
+sub-t10 : tie.Need-sub-t10
+sub-t10 c = search needs
 
 act-item-requires : tie.Need-act-item-requires
 act-item-requires c κs =
-    let at = c .before .before .before .before .before .before .before in
-    (below-words _ _ _ _ _ (at .pre .0), at .pre .1, at .pre .2, at .pre .3)
+    let at = c .before .before .before .before .before .before in
+    (below-words _ _ _ _ _ _ (at .pre .0), at .pre .1, at .pre .2, at .pre .3)
 
 same-length : tie.Need-same-length
 same-length c = search needs
@@ -26,4 +26,4 @@ returns-2 c = (search turn-item, search needs)
 
 pub act-spec : {M : Type 1} → statement M
 act-spec =
-    tie.close (tie.spec comes-to-requires returns sub-t11 act-item-requires same-length returns-2)
+    tie.close (tie.spec comes-to-requires returns sub-t10 act-item-requires same-length returns-2)

@@ -2,7 +2,7 @@
 use mathlib.Core.Path.{_∙_}
 use borrow.Author.Needs.{needs}
 use Rattle.evaluator.proofs.InPlace.{lent-again}
-use Rattle.turns.proofs.StartRows.{cells-behind, values-again, variables-again}
+use Rattle.turns.proofs.StartRows.{cells-after, values-again, variables-again}
 use Rattle.turns.proofs.StartRows.{starts-none, starts-one, starts-refused, starts-two}
 use Rattle.turns.proofs.start.starts.Statement.{statement}
 use Rattle.turns.proofs.start.starts.Tie as tie
@@ -47,7 +47,7 @@ evaluate-requires-2 c κs =
       at .pre .1,
       lent-again _ _ _ lent kept (first .kept .1 .1 .0),
       values-again _ _ _ lent kept (at .pre .3),
-      search cells-behind,
+      search cells-after,
     )
 
 value-word-requires : tie.Need-value-word-requires

@@ -19,7 +19,7 @@ frame-of-word-requires c κs = search needs
 statement-node-requires : tie.Need-statement-node-requires
 statement-node-requires c κs =
     let at = c .before .before .before .before in
-    statement-named _ _ _ _ _ _ _ (c .frame-of-word .ensures) (at .pre .0) (at .pre .2)
+    statement-named _ _ _ _ _ _ _ _ (c .frame-of-word .ensures) (at .pre .0) (at .pre .2)
 
 enum-told : tie.Need-enum-told
 enum-told c = search needs

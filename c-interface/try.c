@@ -1,0 +1,158 @@
+/* The interface tried from C: wrong lengths, null with length 0, garbage states. Prints nothing and ends with 0 where all is well. */
+#include "purkvaldi.h"
+#include <stdio.h>
+#include <string.h>
+
+enum { WORDS = PURKVALDI_STATE_WORDS, OUT = PURKVALDI_LISTING_BYTES };
+
+/* 01's three-line file: one module, which does nothing. */
+static const char three[] = "0001000000010000\n1000000000000000\n0200000100000000\n";
+static uint64_t state[WORDS + 1];
+static uint64_t before[WORDS + 1];
+static uint8_t out[OUT + 1];
+static uint8_t out_before[OUT + 1];
+static int failures;
+
+static void expect(const char *what, uint32_t code, uint32_t wanted)
+{
+    if (code != wanted) {
+        printf("%s: %06X, not %06X\n", what, (unsigned)code, (unsigned)wanted);
+        failures++;
+    }
+}
+
+/* A refused call leaves every word. */
+static void refused(const char *what, size_t words, uint64_t choice, uint32_t wanted)
+{
+    memcpy(before, state, sizeof state);
+    expect(what, purkvaldi_step((const uint8_t *)three, sizeof three - 1, state, words, choice), wanted);
+    if (memcmp(before, state, sizeof state) != 0) {
+        printf("%s: a refused step wrote\n", what);
+        failures++;
+    }
+}
+
+/* A listing that a buffer cannot take leaves both buffers. */
+static void unprinted(const char *what, const uint8_t *text, size_t length, size_t words, size_t bytes, uint32_t wanted)
+{
+    uint64_t result;
+    memcpy(before, state, sizeof state);
+    memcpy(out_before, out, sizeof out);
+    result = purkvaldi_run(text, length, (const uint8_t *)"02\n", 3, state, words, out, bytes);
+    expect(what, PURKVALDI_CODE(result), wanted);
+    if (PURKVALDI_SIZE(result) != 0 || memcmp(before, state, sizeof state) != 0 || memcmp(out_before, out, sizeof out) != 0) {
+        printf("%s: a listing without its buffers wrote\n", what);
+        failures++;
+    }
+}
+
+/* A listing that is written, with that code, and no byte after it. */
+static void printed(const char *what, const uint8_t *text, size_t length, const char *choices, size_t words,
+                    uint32_t code, const char *wanted)
+{
+    uint64_t result;
+    size_t size = strlen(wanted);
+    memset(out, 7, sizeof out);
+    memset(out_before, 7, sizeof out);
+    memcpy(out_before, wanted, size);
+    result = purkvaldi_run(text, length, (const uint8_t *)choices, strlen(choices), state, words, out, OUT);
+    expect(what, PURKVALDI_CODE(result), code);
+    if (PURKVALDI_SIZE(result) != size || memcmp(out, out_before, sizeof out) != 0) {
+        printf("%s: another listing\n", what);
+        failures++;
+    }
+}
+
+/* Choices that cannot be stepped leave the state and the answers. */
+static void unstepped(const char *what, const uint8_t *text, size_t length, size_t words, size_t count, uint32_t wanted)
+{
+    static const uint8_t choices[3] = {2, 2, 2};
+    uint32_t answers[4] = {7, 7, 7, 7};
+    int i;
+    memcpy(before, state, sizeof state);
+    expect(what, purkvaldi_steps(text, length, state, words, choices, sizeof choices, answers, count), wanted);
+    for (i = 0; i < 4; i++)
+        expect(what, answers[i], 7);
+    if (memcmp(before, state, sizeof state) != 0) {
+        printf("%s: refused choices wrote\n", what);
+        failures++;
+    }
+}
+
+int main(void)
+{
+    static const uint8_t many[6] = {2, 3, 2, 255, 2, 0};
+    static const uint32_t codes[6] = {0x000001, 0x0F0000, 0x000001, 0x0F0000, 0x100000, 0x0F0000};
+    uint32_t answers[7];
+    const uint8_t *text = (const uint8_t *)three;
+    size_t length = sizeof three - 1;
+    size_t i;
+    expect("check", purkvaldi_check(text, length), 0);
+    expect("check of nothing", purkvaldi_check(NULL, 0), 0x010000);
+    expect("check without the last line feed", purkvaldi_check(text, length - 1), 0x030002);
+    expect("length", (uint32_t)purkvaldi_state_length(), WORDS);
+
+    expect("fresh of no text", purkvaldi_fresh(NULL, 0, state, WORDS), 0x010000);
+    expect("fresh in no state", purkvaldi_fresh(text, length, NULL, 0), 0x0E0000);
+    expect("fresh in a shorter state", purkvaldi_fresh(text, length, state, WORDS - 1), 0x0E0000);
+    expect("fresh in a longer state", purkvaldi_fresh(text, length, state, WORDS + 1), 0x0E0000);
+    for (i = 0; i <= WORDS; i++)
+        if (state[i] != 0)
+            failures++;
+    expect("fresh", purkvaldi_fresh(text, length, state, WORDS), 0);
+
+    /* 'choices 02, 02, 02 answer 0, 0, 16' */
+    expect("first choice", purkvaldi_step(text, length, state, WORDS, 2), 0x000001);
+    expect("second choice", purkvaldi_step(text, length, state, WORDS, 2), 0x000001);
+    refused("third choice", WORDS, 2, 0x100000);
+    refused("no such party", WORDS, 3, 0x0F0000);
+    refused("a party beyond all", WORDS, UINT64_MAX, 0x0F0000);
+    refused("a shorter state", WORDS - 1, 2, 0x0E0000);
+    refused("a longer state", WORDS + 1, 2, 0x0E0000);
+    expect("a step on no state", purkvaldi_step(text, length, NULL, 0, 2), 0x0E0000);
+    expect("a step of no text", purkvaldi_step(NULL, 0, state, WORDS, 2), 0x010000);
+
+    memset(state, 0xFF, sizeof state);
+    refused("all ones", WORDS, 2, 0x0E0000);
+    memset(state, 0, sizeof state);
+    refused("all zeros", WORDS, 2, 0x100000);
+    expect("fresh again", purkvaldi_fresh(text, length, state, WORDS), 0);
+    for (i = 0; i < WORDS; i++) {
+        uint64_t kept = state[i];
+        state[i] = UINT64_MAX;
+        refused("one word changed", WORDS, 2, 0x0E0000);
+        state[i] = kept;
+    }
+
+    /* many choices in one call: what a call for each gives, whether it is done or refused */
+    unstepped("choices with too few answers", text, length, WORDS, 2, 0x0E0000);
+    unstepped("choices with too many answers", text, length, WORDS, 4, 0x0E0000);
+    unstepped("choices on a shorter state", text, length, WORDS - 1, 3, 0x0E0000);
+    unstepped("choices of no text with too few answers", NULL, 0, WORDS, 2, 0x010000);
+    expect("no choices", purkvaldi_steps(text, length, state, WORDS, NULL, 0, NULL, 0), 0);
+    answers[6] = 7;
+    expect("choices", purkvaldi_steps(text, length, state, WORDS, many, 6, answers, 6), 0);
+    for (i = 0; i < 6; i++)
+        expect("a choice among many", answers[i], codes[i]);
+    expect("behind the answers", answers[6], 7);
+    refused("behind the choices", WORDS, 2, 0x100000);
+    state[0] = UINT64_MAX;
+    unstepped("choices on a changed state", text, length, WORDS, 3, 0x0E0000);
+    expect("no choices on a changed state", purkvaldi_steps(text, length, state, WORDS, NULL, 0, NULL, 0), 0x0E0000);
+
+    /* the listing of a run: the code is the text's refusal 1 to 7, else 14, else 0; the line of a refused text is in a buffer
+     * of the right length */
+    expect("listing length", (uint32_t)purkvaldi_listing_length(), OUT);
+    unprinted("a run in a shorter buffer", text, length, WORDS, OUT - 1, 0x0E0000);
+    unprinted("a run in a longer buffer", text, length, WORDS, OUT + 1, 0x0E0000);
+    unprinted("a run on a shorter state", text, length, WORDS - 1, OUT, 0x0E0000);
+    unprinted("a run of no text in a shorter buffer", NULL, 0, WORDS, OUT - 1, 0x010000);
+    unprinted("a run of half a text on a shorter state in a longer buffer", text, length - 8, WORDS - 1, OUT + 1, 0x030002);
+    expect("a run in no buffer", PURKVALDI_CODE(purkvaldi_run(text, length, NULL, 0, NULL, 0, NULL, 0)), 0x0E0000);
+    printed("a run", text, length, "02\n02\n02\n", WORDS, 0,
+            "00 0000\n02 00 01 0000\n02 00 01 0000\n02 10 00 0000\n0003\n");
+    printed("a run of no text", NULL, 0, "", WORDS, 0x010000, "01 0000\n");
+    printed("a run of no text on a shorter state", NULL, 0, "02\n", WORDS - 1, 0x010000, "01 0000\n");
+    printed("a run of half a text", text, length - 8, "02\n", WORDS, 0x030002, "03 0002\n");
+    return failures != 0;
+}

@@ -1,0 +1,70 @@
+-- What the functions of the interface compute. Assumes nothing.
+use mathlib.Core.Path.{_≡_, refl, sym, ap, _∙_}
+use Prim.Native.Nat.{ℕ, _+_, _*_}
+use native.Mathlib.Omega.{arith}
+use lib.Dec.{eqb}
+use borrow.Author.Tests.{eqb-true}
+use mathlib.Core.List.{List}
+use Rattle.basics.proofs.Ifs.{if-all}
+use Rattle.language.specs.declared.verdict.Verdict.{Verdict}
+use Rattle.language.specs.declared.verdict.Verdict.the-variants.{Accepted, Rejected}
+use Rattle.checker.specs.Verdict.{verdict, Checked}
+use Rattle.machine.specs.Calls.{CallResult}
+use Rattle.stepper.specs.declared.answer.Answer.{Answer}
+use Rattle.stepper.specs.declared.answer.Answer.the-variants as A
+use Rattle.stepper.specs.Answers.{answerTo, TextResult, textResult, asTextResult}
+use Rattle.stepper.specs.Answers.{answerWord, BatchResult, batchResult}
+use Rattle.runs.specs.Listings.{ListingResult, withBuffers}
+use Rattle.runs.specs.declared.printing.ListingAnswer.{ListingAnswer}
+use Rattle.c_interface.specs.Codes.{codeOf, CheckedCode, answerCode, coded, codedOf, codedOut}
+use Rattle.c_interface.specs.Codes.{codedBatchOf, listingCode, codedListingOf}
+
+pub code-accepted : (v : Verdict) → v ≡ Accepted → 0 ≡ codeOf v
+code-accepted v h = ap codeOf (sym h)
+
+pub code-rejected : (v : Verdict) (n j : ℕ) → v ≡ Rejected n j → n * 65536 + j ≡ codeOf v
+code-rejected v n j h = ap codeOf (sym h)
+
+pub ruleset code-laws = (code-accepted, code-rejected)
+
+pub code-checked : (bs : List ℕ) (v : Verdict) (r : ℕ) → v ≡ verdict bs → r ≡ codeOf v
+    → r ≡ codeOf (verdict bs)
+code-checked bs v r e h = h ∙ ap codeOf e
+
+pub code-promised : (bs : List ℕ) (v : Verdict) (r : ℕ)
+    → Checked bs v → r ≡ codeOf v → CheckedCode bs r
+code-promised bs v r p h = record { verdict = v; checked = p; code = h }
+
+-- ---- a call's answer
+pub answer-rejected : (v : Answer) (n j : ℕ) → v ≡ A.Rejected n j → n * 65536 + j ≡ answerCode v
+answer-rejected v n j h = ap answerCode (sym h)
+
+pub answer-refused : (v : Answer) (n t : ℕ) → v ≡ A.Refused n t → n * 65536 + t ≡ answerCode v
+answer-refused v n t h = ap answerCode (sym h)
+
+pub ruleset answer-laws = (answer-rejected, answer-refused)
+
+pub answer-coded : (w : List ℕ) (x : TextResult) (v : Answer) (r : ℕ) → textResult v w ≡ x
+    → r ≡ answerCode v → coded r w ≡ codedOf x
+answer-coded w x v r e h = ap (λ (n : ℕ). coded n w) h ∙ ap codedOf e
+
+-- ---- many choices
+pub batch-coded : (w out : List ℕ) (x : BatchResult) (v : Answer) (r : ℕ) → batchResult v w out ≡ x
+    → r ≡ answerCode v → codedOut r w out ≡ codedBatchOf x
+batch-coded w out x v r e h = ap (λ (n : ℕ). codedOut n w out) h ∙ ap codedBatchOf e
+
+-- the answer to each is the number that a call with this choice alone gives
+pub answer-word-code : (r : CallResult) → answerWord r ≡ codedOf (asTextResult r) .code
+unfolding answerTo
+answer-word-code r =
+    if-all (λ (a : Answer). answerWord r ≡ answerCode a) (eqb (r .answer) 0) (A.Done (r .thread))
+    (A.Refused (r .answer) (r .thread))
+    (λ e. let z = eqb-true (r .answer) 0 e in omega arith) (λ _. refl)
+
+-- ---- a listing's answer and length
+pub listing-coded : (w out : List ℕ) (x : ListingResult) (l : ListingAnswer) (v : Answer) (n : ℕ)
+    → withBuffers l w out ≡ x → v ≡ l .answer → n ≡ listingCode v (l .length)
+    → codedOut n w out ≡ codedListingOf x
+listing-coded w out x l v n e q h =
+    ap (λ (k : ℕ). codedOut k w out) (h ∙ ap (λ (a : Answer). listingCode a (l .length)) q)
+    ∙ ap codedListingOf e

@@ -1,0 +1,135 @@
+// The interface for C and Rust: functions on numbers and on pointers with lengths. None has a
+// `requires`.
+use checker::check::check;
+use language::limit::MOST_LISTING_BYTES;
+use language::verdict::Verdict;
+use runs::printing::run_listing;
+use stepper::answer::Answer;
+use stepper::batch::steps;
+use stepper::step::fresh;
+use stepper::step::state_length;
+use stepper::step::step;
+ghost use mathlib.Core.Path.{_≡_};
+ghost use Rattle.language.specs.Limits.{mostListingBytes};
+ghost use Rattle.checker.specs.Verdict.{verdict};
+ghost use Rattle.machine.specs.Offsets.{stateLength};
+ghost use Rattle.stepper.specs.Answers.{freshText, stepText, stepsText};
+ghost use Rattle.runs.specs.Listings.{listText};
+ghost use Rattle.c_interface.specs.Codes.{codeOf, CheckedCode, answerCode, coded, codedOf};
+ghost use Rattle.c_interface.specs.Codes.{codedOut, codedBatchOf, listingCode};
+ghost use Rattle.c_interface.specs.Codes.{codedListingOf};
+
+// A verdict as one number.
+fn code_of(v: Verdict) -> u32
+    ensures { λ r. ⌜ r ≡ codeOf v ⌝ }
+{
+    match v {
+        Verdict::Accepted => 0,
+        Verdict::Rejected(n, j) => n as u32 * 0x0001_0000 + j as u32,
+    }
+}
+
+// What the check answers on `length` bytes: the number of the refusal above 16 bits, the frame in
+// them; 0 where it accepts. It is the code of the one verdict that the rules give.
+#[no_mangle]
+pub extern "C" fn purkvaldi_check(text: &[u8]) -> u32
+    ensures computed { λ r. ⌜ r ≡ codeOf (verdict (now (text .entry))) ⌝ }
+    ensures promised { λ r. ⌜ CheckedCode (now (text .entry)) r ⌝ }
+{
+    code_of(check(text))
+}
+
+// An answer as one number.
+fn answer_code(a: Answer) -> u32
+    ensures { λ r. ⌜ r ≡ answerCode a ⌝ }
+{
+    match a {
+        Answer::Rejected(n, j) => n as u32 * 0x0001_0000 + j as u32,
+        Answer::Refused(n, t) => n as u32 * 0x0001_0000 + t as u32,
+        Answer::Done(t) => t as u32,
+    }
+}
+
+// How many words of 64 bits a state is.
+#[no_mangle]
+pub extern "C" fn purkvaldi_state_length() -> usize
+    ensures { λ r. ⌜ r ≡ stateLength ⌝ }
+{
+    state_length()
+}
+
+// The fresh state of a text: 0, or the number of the refusal above 16 bits, the frame of a refusal
+// 1 to 7 in them. A refusal writes nothing.
+#[no_mangle]
+pub extern "C" fn purkvaldi_fresh(text: &[u8], state: &mut [u64]) -> u32
+    ensures { λ r. ⌜ coded r (now (state .exit))
+        ≡ codedOf (freshText (now (text .entry)) (now (state .entry))) ⌝ }
+{
+    answer_code(fresh(text, state))
+}
+
+// One choice: the acting thread where it is done, 0 where none acts; else the number of the refusal
+// above 16 bits, and in them the frame of a refusal 1 to 7 or the acting thread of one above. A
+// refusal writes nothing.
+#[no_mangle]
+pub extern "C" fn purkvaldi_step(text: &[u8], state: &mut [u64], choice: u64) -> u32
+    ensures { λ r. ⌜ coded r (now (state .exit))
+        ≡ codedOf (stepText (now (text .entry)) (now (state .entry)) choice) ⌝ }
+{
+    answer_code(step(text, state, choice))
+}
+
+// Many choices, a byte each: 0 where all are stepped, and the code of each, as `purkvaldi_step`
+// gives it, is in its place in `answers`; else the code of the text's refusal 1 to 7, or of 14, and
+// nothing is written.
+#[no_mangle]
+pub extern "C" fn purkvaldi_steps(
+    text: &[u8],
+    state: &mut [u64],
+    choices: &[u8],
+    answers: &mut [u32],
+) -> u32
+    ensures { λ r. ⌜ codedOut r (now (state .exit)) (now (answers .exit))
+        ≡ codedBatchOf
+        (stepsText (now (text .entry)) (now (state .entry)) (now (choices .entry)) (now
+        (answers .entry))) ⌝ }
+{
+    answer_code(steps(text, state, choices, answers))
+}
+
+// How many bytes a listing's buffer has: the longest listing.
+#[no_mangle]
+pub extern "C" fn purkvaldi_listing_length() -> usize
+    ensures { λ r. ⌜ r ≡ mostListingBytes ⌝ }
+{
+    MOST_LISTING_BYTES
+}
+
+// A listing's answer above 32 bits, its length in them.
+fn listing_code(a: Answer, length: u32) -> u64
+    ensures { λ r. ⌜ r ≡ listingCode a length ⌝ }
+{
+    answer_code(a) as u64 * 0x0000_0001_0000_0000 + length as u64
+}
+
+// The listing of a run, in the first bytes of `out`: in the low 32 bits how many they are, 0 where
+// nothing is written; above them the code of the text's refusal 1 to 7, whatever the lengths, else
+// of 14 where a buffer has another length than the listing needs, else 0. The line of a refusal 1
+// to 7 is in `out` where `out` has its length. `choices` are the bytes of choices.txt; the state
+// after the run is in `state` where choices were stepped.
+#[no_mangle]
+pub extern "C" fn purkvaldi_run(
+    text: &[u8],
+    choices: &[u8],
+    state: &mut [u64],
+    out: &mut [u8],
+) -> u64
+    ensures { λ r. ⌜ codedOut r (now (state .exit)) (now (out .exit))
+        ≡ codedListingOf
+        (listText (now (text .entry)) (now (choices .entry)) (now (state .entry)) (now
+        (out .entry))) ⌝ }
+{
+    let l = run_listing(text, choices, state, out);
+    let a = l.answer;
+    listing_code(a, l.length)
+}

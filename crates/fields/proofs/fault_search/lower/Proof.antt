@@ -1,0 +1,42 @@
+-- `lower` meets its contract. Assumes nothing.
+use borrow.Author.Needs.{needs}
+use Rattle.fields.proofs.Finds.{lower-laws}
+use Rattle.fields.proofs.fault_search.lower.Statement.{statement}
+use Rattle.fields.proofs.fault_search.lower.Tie as tie
+
+enum-told : tie.Need-enum-told
+enum-told c = search needs
+
+enum-known-a : tie.Need-enum-known-a
+enum-known-a c = search needs
+
+enum-told-2 : tie.Need-enum-told-2
+enum-told-2 c = search needs
+
+enum-known-b : tie.Need-enum-known-b
+enum-known-b c = search needs
+
+returns : tie.Need-returns
+returns c = search lower-laws
+
+returns-2 : tie.Need-returns-2
+returns-2 c = search lower-laws
+
+returns-3 : tie.Need-returns-3
+returns-3 c = search lower-laws
+
+returns-4 : tie.Need-returns-4
+returns-4 c = search lower-laws
+
+pub lower-spec : {M : Type 1} → statement M
+lower-spec =
+    tie.close
+    (tie.spec
+    enum-told
+    enum-known-a
+    enum-told-2
+    enum-known-b
+    returns
+    returns-2
+    returns-3
+    returns-4)

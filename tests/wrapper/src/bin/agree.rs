@@ -1,0 +1,163 @@
+//! agree SECONDS SEED: the proved check and stepper and the second program in one process, on random texts and choices, and
+//! on lent words that are garbage. Not 0 on a difference.
+use purkvaldi::Answer;
+use second::generate::Case;
+use second::listing::{used, Reading};
+use second::state::State;
+use std::time::{Duration, Instant};
+
+/// The choices of a case whose choices.txt is well formed.
+fn choices_of(case: &Case) -> Vec<u8> {
+    second::text::choices(&case.choices).unwrap_or_default()
+}
+
+/// Steps both through at most 200 choices; counts the answers. None where the first difference is.
+fn run(case: &Case, state: &mut [u64], answers: &mut [u64; 21]) -> Option<()> {
+    let text = &case.program;
+    let fresh = purkvaldi::fresh(text, state);
+    let Reading::Readable(program, _) = Reading::new(text) else {
+        let (number, frame) = purkvaldi::second_check(text);
+        return (fresh
+            == (Answer {
+                number,
+                detail: frame,
+            }))
+        .then_some(());
+    };
+    (fresh
+        == Answer {
+            number: 0,
+            detail: 0,
+        })
+    .then_some(())?;
+    let choices = choices_of(case);
+    let mut theirs = State::new(&program);
+    for &choice in used(&program, &choices).iter().take(200) {
+        let before = state.to_vec();
+        let ours = purkvaldi::step(text, state, u64::from(choice));
+        let outcome = theirs.step(&program, choice, &mut ());
+        answers[usize::from(outcome.answer)] += 1;
+        let same = ours.number == outcome.answer && ours.detail == u16::from(outcome.thread);
+        let kept = ours.number == 0 || state == &before[..];
+        (same && kept && state[1] == theirs.cells.len() as u64).then_some(())?;
+    }
+    Some(())
+}
+
+/// All choices of a case in one call, beside a call for each: the same answers, the same words.
+fn at_once(case: &Case, state: &mut [u64]) -> bool {
+    let text = &case.program;
+    let mut choices = choices_of(case);
+    choices.truncate(200);
+    let refused = purkvaldi::fresh(text, state);
+    let mut words = state.to_vec();
+    let mut codes = vec![u32::MAX; choices.len()];
+    let answer = purkvaldi::steps(text, &mut words, &choices, &mut codes);
+    if refused.number != 0 {
+        return answer == refused && words == state && codes.iter().all(|&code| code == u32::MAX);
+    }
+    let same = choices
+        .iter()
+        .zip(codes)
+        .all(|(&choice, code)| purkvaldi::step(text, state, u64::from(choice)) == Answer::of_code(code));
+    answer.number == 0 && same && words == state
+}
+
+/// Words that no caller should lend: an answer, and nothing written where it is a refusal.
+fn garbage(text: &[u8], state: &mut [u64], seed: u64) -> bool {
+    let mut random = seed.wrapping_mul(0x9E37_79B9_7F4A_7C15) | 1;
+    let mut next = || {
+        random ^= random << 13;
+        random ^= random >> 7;
+        random ^= random << 17;
+        random
+    };
+    let mut fine = true;
+    let mut trial = |words: &mut [u64], choice: u64| {
+        let before = words.to_vec();
+        let answer = purkvaldi::step(text, words, choice);
+        fine &= answer.number == 0 || words == &before[..];
+    };
+    trial(&mut [], next() % 90);
+    trial(&mut vec![u64::MAX; 4818], next() % 90);
+    trial(&mut vec![0; 4818], next() % 90);
+    trial(&mut vec![0; 4817], next());
+    let at = next() as usize % 4818;
+    let mut changed = state.to_vec();
+    changed[at] = if next() % 2 == 0 { next() } else { next() % 80 };
+    for _ in 0..4 {
+        trial(&mut changed, next() % 90);
+    }
+    fine
+}
+
+fn main() {
+    let mut args = std::env::args()
+        .skip(1)
+        .map(|a| a.parse::<u64>().expect("agree SECONDS SEED"));
+    let (seconds, seed) = (args.next().expect("SECONDS"), args.next().expect("SEED"));
+    let end = Instant::now() + Duration::from_secs(seconds);
+    let mut state = vec![0u64; purkvaldi::state_length()];
+    let mut out = vec![0u8; purkvaldi::listing_length()];
+    let mut verdicts = [0u64; 14];
+    let mut answers = [0u64; 21];
+    let mut listed = [0u64; 21];
+    let (mut cases, mut differences) = (0u64, 0u64);
+    while Instant::now() < end {
+        for _ in 0..100 {
+            let case = second::generate::case(seed, cases);
+            let (ours, theirs) = (
+                purkvaldi::check(&case.program),
+                purkvaldi::second_check(&case.program),
+            );
+            verdicts[usize::from(ours.0) % 14] += 1;
+            // A listing answers the text's refusal 1 to 7; 8 to 13 stop none.
+            let (number, detail) = if theirs.0 <= 7 { theirs } else { (0, 0) };
+            let answer = Answer { number, detail };
+            if ours != theirs {
+                differences += 1;
+                println!("seed {seed} case {cases}: {ours:?}, the second program {theirs:?}");
+            }
+            let theirs = second::listing::run(&case.program, &case.choices);
+            let ours = purkvaldi::run(&case.program, &case.choices, &mut state, &mut out);
+            if ours.answer != answer || ours.bytes != theirs {
+                differences += 1;
+                println!("seed {seed} case {cases}: another listing");
+            }
+            for line in theirs.split(|b| *b == b'\n').filter(|l| l.len() == 13) {
+                let digits = std::str::from_utf8(&line[3..5]).unwrap();
+                listed[usize::from_str_radix(digits, 16).unwrap()] += 1;
+            }
+            // Each public step reads and validates anew, so the stepper sees one case in ten.
+            if cases % 10 == 0 {
+                if run(&case, &mut state, &mut answers).is_none() {
+                    differences += 1;
+                    println!("seed {seed} case {cases}: a step differs");
+                }
+                if !at_once(&case, &mut state) {
+                    differences += 1;
+                    println!("seed {seed} case {cases}: many choices differ from one by one");
+                }
+                if !garbage(&case.program, &mut state, cases) {
+                    differences += 1;
+                    println!("seed {seed} case {cases}: a refused step wrote");
+                }
+            }
+            cases += 1;
+        }
+    }
+    println!("{cases} texts, {differences} differences; verdicts 0 to 13: {verdicts:?}");
+    println!(
+        "answers in the listings of runs, 0 and 15 to 20: {} {:?}",
+        listed[0],
+        &listed[15..]
+    );
+    println!(
+        "answers of steps 0 and 15 to 20: {} {:?}",
+        answers[0],
+        &answers[15..]
+    );
+    if differences > 0 {
+        std::process::exit(1);
+    }
+}

@@ -1,0 +1,254 @@
+//! bench: times of the check and of a step, proved and second side by side, how the check grows, and the stack below each call, as
+//! one table whose rows keep their names, so that two runs can be compared line by line.
+use std::time::Instant;
+
+/// An accepted file of n lines: modules whose bodies nest, each with lets, stores, loops and starts.
+fn accepted(lines: usize) -> Vec<u8> {
+    let mut frames: Vec<String> = vec!["0001000000020000".into(), "0102000100000000".into()];
+    // One body: a balanced sequence of stores of a sum into the shared cell, depth below 24.
+    fn store(frames: &mut Vec<String>) -> usize {
+        frames.push("2300000000000000".into());
+        let cell = frames.len() - 1;
+        frames.push("2000000100000000".into());
+        frames.push("2000000200000000".into());
+        let n = frames.len() - 1;
+        frames.push(format!("2600{:04X}{:04X}0000", n - 1, n));
+        frames.push(format!("1700{:04X}{:04X}0000", cell, n + 1));
+        frames.len() - 1
+    }
+    fn block(frames: &mut Vec<String>, count: usize) -> usize {
+        if count == 1 {
+            return store(frames);
+        }
+        let a = block(frames, count / 2);
+        let b = block(frames, count - count / 2);
+        frames.push(format!("1100{a:04X}{b:04X}0000"));
+        frames.len() - 1
+    }
+    // Six frames a statement, less one, and the module.
+    let count = ((lines - 3) / 6).max(1);
+    let body = block(&mut frames, count);
+    let mut body = body;
+    while frames.len() + 1 < lines {
+        frames.push(format!("1202{body:04X}00000000"));
+        body = frames.len() - 1;
+    }
+    frames.push(format!("0200{body:04X}00000000"));
+    let mut text = frames.join("\n").into_bytes();
+    text.push(b'\n');
+    text
+}
+
+fn nanoseconds(check: fn(&[u8]) -> (u8, u16), text: &[u8]) -> u128 {
+    let rounds = 2_000_000 / text.len().max(1) + 20;
+    (0..5)
+        .map(|_| {
+            let start = Instant::now();
+            for _ in 0..rounds {
+                assert_eq!(
+                    std::hint::black_box(check(std::hint::black_box(text))),
+                    (0, 0)
+                );
+            }
+            start.elapsed().as_nanos() / rounds as u128
+        })
+        .min()
+        .unwrap()
+}
+
+/// A file whose main loops for ever on its own scheduler: it adds to a shared cell, lets a variable, and cooperates.
+fn looping() -> Vec<u8> {
+    let frames = [
+        "0001FFFF00020000", // 0 header
+        "0102000100000000", // 1 shared cell, owner 2, a number
+        "2101000000000000", // 2 true
+        "2300000000000000", // 3 shared cell 0
+        "2500000300000000", // 4 its content
+        "2000000100000000", // 5 number 1
+        "2600000400050000", // 6 sum
+        "2300000000000000", // 7 shared cell 0
+        "2200000000000000", // 8 variable 0
+        "1700000700080000", // 9 store
+        "1600000600090000", // 10 let
+        "1500000000000000", // 11 cooperate
+        "1100000A000B0000", // 12 then
+        "19000002000C0000", // 13 while
+        "0200000D00000000", // 14 main
+    ];
+    let mut text = frames.join("\n").into_bytes();
+    text.push(b'\n');
+    text
+}
+
+const STEPS: usize = 16_384;
+
+/// The best of twenty rounds, for each step.
+fn best_step(mut round: impl FnMut()) -> f64 {
+    (0..20)
+        .map(|_| {
+            let start = Instant::now();
+            round();
+            start.elapsed().as_nanos() as f64 / STEPS as f64
+        })
+        .fold(f64::INFINITY, f64::min)
+}
+
+/// A row of the table: ours, the second program's where it does the same, and the ratio.
+fn row(name: &str, ours: f64, theirs: Option<f64>) {
+    match theirs {
+        Some(t) => println!("{name:<44} {ours:>10.0} ns {t:>10.0} ns {:>6.2}", ours / t),
+        None => println!("{name:<44} {ours:>10.0} ns"),
+    }
+}
+
+/// A file whose recursion goes deepest: 24 frames, one in the other.
+const DEEPEST: &[u8] = include_bytes!("../../deep.txt");
+
+/// How many bytes of a painted stack a call changes.
+fn stack_used(call: impl FnOnce() + Send + 'static) -> usize {
+    const SIZE: usize = 1 << 20;
+    let thread = std::thread::Builder::new().stack_size(SIZE + (1 << 18));
+    thread
+        .spawn(move || {
+            #[inline(never)]
+            fn paint() -> usize {
+                let mut area = [0xA5u8; SIZE / 2];
+                std::hint::black_box(&mut area);
+                area.as_ptr() as usize
+            }
+            #[inline(never)]
+            fn untouched(low: usize) -> usize {
+                let area = low as *const u8;
+                (0..SIZE / 2)
+                    .take_while(|&i| unsafe { area.add(i).read_volatile() } == 0xA5)
+                    .count()
+            }
+            let low = paint();
+            call();
+            SIZE / 2 - untouched(low)
+        })
+        .unwrap()
+        .join()
+        .unwrap()
+}
+
+/// Checks of accepted files, and how their time grows with the lines: 8 is linear from 128 to 1,024.
+fn checks() {
+    let mut ours_at = Vec::new();
+    for lines in [9, 100, 128, 256, 512, 1024] {
+        let text = accepted(lines);
+        let (ours, theirs) = (
+            nanoseconds(purkvaldi::check, &text) as f64,
+            nanoseconds(purkvaldi::second_check, &text) as f64,
+        );
+        ours_at.push((lines, ours));
+        row(&format!("check, {} lines", text.len() / 17), ours, Some(theirs));
+    }
+    let at = |lines| ours_at.iter().find(|x| x.0 == lines).unwrap().1;
+    println!(
+        "{:<44} {:>10.2} times",
+        "check, 1,024 lines to 128",
+        at(1024) / at(128)
+    );
+}
+
+/// Steps of scheduler 2: in a run's listing; by one public call each, which reads and validates anew; as one of many choices
+/// in one public call.
+fn steps() {
+    let text = looping();
+    assert_eq!(purkvaldi::check(&text), (0, 0));
+    let choices = b"02\n".repeat(STEPS);
+    let mut state = vec![0; purkvaldi::state_length()];
+    let mut out = vec![0; purkvaldi::listing_length()];
+    let inside = best_step(|| {
+        assert_eq!(
+            purkvaldi::run(&text, &choices, &mut state, &mut out).answer.number,
+            0
+        );
+    });
+    let theirs = best_step(|| {
+        std::hint::black_box(second::listing::run(&text, &choices));
+    });
+    row("a step in a run, with its line", inside, Some(theirs));
+    assert_eq!(purkvaldi::fresh(&text, &mut state).number, 0);
+    let public = best_step(|| {
+        for _ in 0..STEPS {
+            assert_eq!(purkvaldi::step(&text, &mut state, 2).number, 0);
+        }
+    });
+    row("a step by the public call, 15 lines", public, None);
+    let many = vec![2; STEPS];
+    let mut answers = vec![0; STEPS];
+    let batch = best_step(|| {
+        assert_eq!(purkvaldi::steps(&text, &mut state, &many, &mut answers).number, 0);
+    });
+    assert!(answers.iter().all(|code| code >> 16 == 0));
+    row("a step as one of many in a public call", batch, None);
+}
+
+/// The deepest stack of each call, on the file whose recursion goes deepest and on one of 1,024 lines.
+fn stacks() {
+    for (name, text) in [
+        ("24 deep", DEEPEST.to_vec()),
+        ("1,024 lines", accepted(1024)),
+    ] {
+        let fresh_state = || {
+            let mut state = vec![0; purkvaldi::state_length()];
+            assert_eq!(purkvaldi::fresh(&text, &mut state).number, 0);
+            state
+        };
+        let bytes = |what: &str, used: usize| {
+            println!("{:<44} {used:>10} bytes", format!("stack, {what}, {name}"));
+        };
+        let t = text.clone();
+        bytes(
+            "check",
+            stack_used(move || {
+                std::hint::black_box(purkvaldi::check(&t));
+            }),
+        );
+        let (t, mut state) = (text.clone(), fresh_state());
+        bytes(
+            "fresh",
+            stack_used(move || {
+                std::hint::black_box(purkvaldi::fresh(&t, &mut state));
+            }),
+        );
+        let (t, mut state) = (text.clone(), fresh_state());
+        bytes(
+            "step",
+            stack_used(move || {
+                for _ in 0..200 {
+                    std::hint::black_box(purkvaldi::step(&t, &mut state, 2));
+                }
+            }),
+        );
+        let (t, mut state) = (text.clone(), fresh_state());
+        bytes(
+            "steps",
+            stack_used(move || {
+                let mut answers = vec![0; 200];
+                std::hint::black_box(purkvaldi::steps(&t, &mut state, &[2; 200], &mut answers));
+            }),
+        );
+        let (t, mut state) = (text.clone(), fresh_state());
+        let mut out = vec![0; purkvaldi::listing_length()];
+        bytes(
+            "run",
+            stack_used(move || {
+                let choices = b"02\n".repeat(200);
+                std::hint::black_box(purkvaldi::run(&t, &choices, &mut state, &mut out).answer);
+            }),
+        );
+    }
+}
+
+/// With the argument `times`, the times alone.
+fn main() {
+    println!("{:<44} {:>13} {:>13} {:>6}", "", "proved", "second", "ratio");
+    checks();
+    steps();
+    if std::env::args().nth(1).as_deref() != Some("times") {
+        stacks();
+    }
+}

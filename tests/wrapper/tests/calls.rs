@@ -1,0 +1,268 @@
+//! The wrapper tried on wrong lengths, empty buffers and garbage states; demand 3 tried on the accepted vectors.
+use purkvaldi::{Answer, Listing};
+use std::path::Path;
+
+const THREE: &[u8] = b"0001000000010000\n1000000000000000\n0200000100000000\n";
+
+fn answer(number: u8, detail: u16) -> Answer {
+    Answer { number, detail }
+}
+
+fn fresh() -> Vec<u64> {
+    let mut state = vec![0; purkvaldi::state_length()];
+    assert_eq!(purkvaldi::fresh(THREE, &mut state), answer(0, 0));
+    state
+}
+
+#[test]
+fn the_three_line_file_answers_0_0_16() {
+    let mut state = fresh();
+    let answers: Vec<u8> = (0..3)
+        .map(|_| purkvaldi::step(THREE, &mut state, 2).number)
+        .collect();
+    assert_eq!(answers, [0, 0, 16]);
+}
+
+#[test]
+fn a_buffer_of_another_length_is_14_and_stays() {
+    for words in [0, 1, 4817, 4819] {
+        let mut state = vec![7; words];
+        assert_eq!(purkvaldi::fresh(THREE, &mut state), answer(14, 0));
+        assert_eq!(purkvaldi::step(THREE, &mut state, 2), answer(14, 0));
+        assert_eq!(state, vec![7; words]);
+    }
+}
+
+#[test]
+fn the_texts_refusals_come_first() {
+    assert_eq!(purkvaldi::fresh(&[], &mut []), answer(1, 0));
+    assert_eq!(purkvaldi::step(&THREE[..40], &mut [], 2), answer(3, 2));
+}
+
+#[test]
+fn garbage_states_are_14_and_stay() {
+    for word in [u64::MAX, 1 << 63, 300] {
+        let mut state = vec![word; 4818];
+        assert_eq!(purkvaldi::step(THREE, &mut state, 2), answer(14, 0));
+        assert_eq!(state, vec![word; 4818]);
+    }
+    let state = fresh();
+    for at in 0..4818 {
+        let mut changed = state.clone();
+        changed[at] = u64::MAX;
+        let kept = changed.clone();
+        assert_eq!(
+            purkvaldi::step(THREE, &mut changed, 2),
+            answer(14, 0),
+            "word {at}"
+        );
+        assert_eq!(changed, kept);
+    }
+}
+
+/// The answers of these choices in one call, from this state on.
+fn in_one_call(text: &[u8], state: &mut [u64], choices: &[u8]) -> Vec<Answer> {
+    let mut codes = vec![u32::MAX; choices.len()];
+    assert_eq!(purkvaldi::steps(text, state, choices, &mut codes), answer(0, 0));
+    codes.into_iter().map(Answer::of_code).collect()
+}
+
+#[test]
+fn choices_that_cannot_be_stepped_write_nothing() {
+    for (text, words, count, wanted) in [
+        (THREE, 4818, 2, answer(14, 0)),
+        (THREE, 4818, 4, answer(14, 0)),
+        (THREE, 4818, 0, answer(14, 0)),
+        (THREE, 4817, 3, answer(14, 0)),
+        (THREE, 0, 3, answer(14, 0)),
+        (&THREE[..40], 4818, 2, answer(3, 2)),
+        (&[], 0, 0, answer(1, 0)),
+    ] {
+        let mut state = fresh();
+        state.resize(words, 0);
+        let kept = state.clone();
+        let mut codes = vec![7; count];
+        assert_eq!(purkvaldi::steps(text, &mut state, &[2; 3], &mut codes), wanted);
+        assert_eq!(state, kept);
+        assert_eq!(codes, vec![7; count]);
+    }
+}
+
+#[test]
+fn garbage_states_are_14_for_many_choices_too() {
+    let state = fresh();
+    for at in 0..4818 {
+        let mut changed = state.clone();
+        changed[at] = u64::MAX;
+        let kept = changed.clone();
+        for choices in [&[][..], &[2, 2]] {
+            let mut codes = vec![7; choices.len()];
+            let refused = purkvaldi::steps(THREE, &mut changed, choices, &mut codes);
+            assert_eq!(refused, answer(14, 0), "word {at}");
+            assert_eq!(codes, vec![7; choices.len()]);
+        }
+        assert_eq!(changed, kept);
+    }
+}
+
+/// Many choices in one call are a call of `step` for each: every answer and every word, from the fresh state on and from where the
+/// last call stopped.
+#[test]
+fn many_choices_are_the_steps_one_by_one() {
+    let choices: Vec<u8> = any_choices()
+        .map(|c| if c < 128 { 2 + c % 3 } else { c })
+        .collect();
+    let mut texts = 0;
+    for vector in 0..1000 {
+        let text = read(&format!("tests/vectors/{vector:03}/prog.txt"));
+        let mut one_by_one = vec![0; purkvaldi::state_length()];
+        if purkvaldi::fresh(&text, &mut one_by_one) != answer(0, 0) {
+            continue;
+        }
+        texts += 1;
+        let mut at_once = one_by_one.clone();
+        for some in choices.chunks(170) {
+            let wanted: Vec<Answer> = some
+                .iter()
+                .map(|&choice| purkvaldi::step(&text, &mut one_by_one, u64::from(choice)))
+                .collect();
+            assert_eq!(
+                in_one_call(&text, &mut at_once, some),
+                wanted,
+                "vector {vector}"
+            );
+            assert_eq!(at_once, one_by_one, "vector {vector}");
+        }
+    }
+    assert!(texts > 100, "only {texts} vectors can be stepped");
+}
+
+#[test]
+fn a_listing_is_that_of_the_second_program() {
+    let mut state = vec![0; purkvaldi::state_length()];
+    let mut out = vec![0; purkvaldi::listing_length()];
+    for choices in [&b""[..], b"02\n02\n02\n", b"02\n2", b"0a\n"] {
+        let theirs = second::listing::run(THREE, choices);
+        assert_eq!(
+            purkvaldi::run(THREE, choices, &mut state, &mut out),
+            Listing {
+                answer: answer(0, 0),
+                bytes: &theirs,
+            }
+        );
+    }
+}
+
+#[test]
+fn a_listing_in_a_buffer_of_another_length_is_refused() {
+    let length = purkvaldi::listing_length();
+    for (words, bytes) in [
+        (4818, 0),
+        (4818, 8),
+        (4818, length - 1),
+        (4818, length + 1),
+        (4817, length),
+        (4819, length),
+        (0, 0),
+    ] {
+        let mut state = vec![3; words];
+        let mut out = vec![7; bytes];
+        let refused = purkvaldi::run(THREE, b"02\n", &mut state, &mut out);
+        assert_eq!(
+            refused,
+            Listing {
+                answer: answer(14, 0),
+                bytes: b"",
+            }
+        );
+        assert_eq!(out, vec![7; bytes]);
+        assert_eq!(state, vec![3; words]);
+    }
+}
+
+/// 14 comes 'after 1 to 7': the answer is the text's refusal whatever the lengths, and its line is written where `out` has its length.
+#[test]
+fn a_text_refused_with_1_to_7_comes_before_the_buffers() {
+    let length = purkvaldi::listing_length();
+    for (text, number, frame) in [
+        (&b""[..], 1, 0),
+        (&THREE[..20], 3, 1),
+        (b"1000000000000000\n", 4, 0),
+    ] {
+        let line = format!("{number:02X} {frame:04X}\n");
+        for words in [0, 4817, 4818] {
+            for (bytes, written) in [(length, line.as_bytes()), (8, b""), (length - 1, b"")] {
+                let mut state = vec![3; words];
+                let mut out = vec![7; bytes];
+                assert_eq!(
+                    purkvaldi::run(text, b"02\n", &mut state, &mut out),
+                    Listing {
+                        answer: answer(number, frame),
+                        bytes: written,
+                    }
+                );
+                assert_eq!(state, vec![3; words]);
+                assert!(out[written.len()..].iter().all(|b| *b == 7));
+            }
+        }
+    }
+}
+
+/// A file of the repository; an absent one reads as empty.
+fn read(path: &str) -> Vec<u8> {
+    let root = Path::new(env!("CARGO_MANIFEST_DIR")).join("../..");
+    std::fs::read(root.join(path)).unwrap_or_default()
+}
+
+/// The numbers of the answers of these choices, each a call of `step`, from the fresh state on.
+fn numbers(text: &[u8], choices: impl Iterator<Item = u8>) -> Vec<u8> {
+    let mut state = vec![0; purkvaldi::state_length()];
+    assert_eq!(purkvaldi::fresh(text, &mut state), answer(0, 0));
+    choices
+        .map(|choice| purkvaldi::step(text, &mut state, u64::from(choice)).number)
+        .collect()
+}
+
+/// 500 choices of 0 to 255, the same for every text.
+fn any_choices() -> impl Iterator<Item = u8> {
+    let mut random = 1u32;
+    std::iter::repeat_with(move || {
+        random = random.wrapping_mul(1_664_525).wrapping_add(1_013_904_223);
+        (random >> 24) as u8
+    })
+    .take(500)
+}
+
+/// Demand 3 as a trial: on an accepted text no call is 14, foreign (19) or stuck (20).
+#[test]
+fn accepted_vectors_are_never_14_19_or_20() {
+    let mut texts = 0;
+    for vector in 0..1000 {
+        let folder = format!("tests/vectors/{vector:03}");
+        if read(&format!("{folder}/check.txt")) != b"00 0000\n" {
+            continue;
+        }
+        texts += 1;
+        let text = read(&format!("{folder}/prog.txt"));
+        let own = second::text::choices(&read(&format!("{folder}/choices.txt")));
+        let own = own.unwrap_or_default();
+        for number in [
+            numbers(&text, own.into_iter()),
+            numbers(&text, any_choices()),
+        ]
+        .concat()
+        {
+            assert!(![14, 19, 20].contains(&number), "{folder}: {number}");
+        }
+    }
+    assert!(texts > 50, "only {texts} accepted vectors were found");
+}
+
+/// The trial can fail: case R, which the check refuses, is foreign.
+#[test]
+fn case_r_is_foreign() {
+    let text = read("examples/r/prog.txt");
+    let choices = second::text::choices(&read("examples/r/choices.txt"));
+    let choices = choices.unwrap_or_default();
+    assert!(numbers(&text, choices.into_iter()).contains(&19));
+}
