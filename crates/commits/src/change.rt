@@ -15,20 +15,17 @@ use states::stack::push_value;
 ghost use mathlib.Core.Path.{_≡_};
 ghost use mathlib.Core.Bool.{true};
 ghost use Prim.Native.Nat.{_-_, _<_, _≤_};
-ghost use lib.ListN.{length};
 ghost use Rattle.language.specs.Places.{isPlace};
-ghost use Rattle.language.specs.Limits.{mostVariables, mostThreads, mostItems};
-ghost use Rattle.machine.specs.Offsets.{stateLength};
-ghost use Rattle.states.specs.inner.Threads.{threadIn, putThread};
+ghost use Rattle.language.specs.Limits.{mostVariables, mostItems};
+ghost use Rattle.states.specs.inner.Threads.{threadIn, putThread, ThreadSpace};
 ghost use Rattle.states.specs.inner.Stacks.{pushItem};
 ghost use Rattle.acts.specs.declared.act.Change.the-variants.{Let, Enter};
-ghost use Rattle.acts.specs.inner.Transitions.{changed, popped, HasRoom};
-ghost use Rattle.commits.specs.inner.Commits.{placeAfter};
+ghost use Rattle.acts.specs.inner.Transitions.{changed, popped};
+ghost use Rattle.commits.specs.inner.Commits.{placeAfter, RoomIn};
 
 // The top item off the continuation; where there is none, nothing changes.
 pub(crate) fn take_item(state: &mut [u64], k: usize)
-    requires { ⌜ (length (now state) ≡ stateLength) × (k < mostThreads)
-        × (threadIn (now state) k .items ≤ mostItems) ⌝ }
+    requires { ⌜ ThreadSpace (now state) k × (threadIn (now state) k .items ≤ mostItems) ⌝ }
     ensures { λ _. ⌜ now (state .exit)
         ≡ putThread (now (state .entry)) k (popped (threadIn (now (state .entry)) k)) ⌝ }
 {
@@ -39,8 +36,7 @@ pub(crate) fn take_item(state: &mut [u64], k: usize)
 }
 
 fn push_two(state: &mut [u64], k: usize, top: u64, below: u64)
-    requires { ⌜ (length (now state) ≡ stateLength) × (k < mostThreads)
-        × (threadIn (now state) k .items < mostItems - 1) ⌝ }
+    requires { ⌜ ThreadSpace (now state) k × (threadIn (now state) k .items < mostItems - 1) ⌝ }
     ensures { λ _. ⌜ now (state .exit) ≡ putThread (now (state .entry)) k
         (pushItem top (pushItem below (threadIn (now (state .entry)) k))) ⌝ }
 {
@@ -50,9 +46,7 @@ fn push_two(state: &mut [u64], k: usize, top: u64, below: u64)
 
 // 16: the variable, and its body above a drop of it.
 fn push_let(state: &mut [u64], k: usize, value: u64, body: u64)
-    requires { ⌜ (length (now state) ≡ stateLength) × (k < mostThreads)
-        × (threadIn (now state) k .items < mostItems - 1)
-        × (threadIn (now state) k .values < mostVariables) ⌝ }
+    requires { ⌜ ThreadSpace (now state) k × RoomIn (Let value body) (threadIn (now state) k) ⌝ }
     ensures { λ _. ⌜ now (state .exit) ≡ putThread (now (state .entry)) k
         (changed (Let value body) (threadIn (now (state .entry)) k)) ⌝ }
 {
@@ -62,8 +56,7 @@ fn push_let(state: &mut [u64], k: usize, value: u64, body: u64)
 
 // 12: to place q, with the body above 'back to here'.
 fn enter(state: &mut [u64], k: usize, q: Place, body: u64)
-    requires { ⌜ (length (now state) ≡ stateLength) × (k < mostThreads)
-        × (threadIn (now state) k .items < mostItems - 1)
+    requires { ⌜ ThreadSpace (now state) k × (threadIn (now state) k .items < mostItems - 1)
         × (isPlace (threadIn (now state) k .place) ≡ true) ⌝ }
     ensures { λ _. ⌜ now (state .exit) ≡ putThread (now (state .entry)) k
         (changed (Enter q body) (threadIn (now (state .entry)) k)) ⌝ }
@@ -74,10 +67,9 @@ fn enter(state: &mut [u64], k: usize, q: Place, body: u64)
 }
 
 pub(crate) fn change_thread(state: &mut [u64], k: usize, change: Change)
-    requires { ⌜ (length (now state) ≡ stateLength) × (k < mostThreads)
-        × (threadIn (now state) k .values ≤ mostVariables)
+    requires { ⌜ ThreadSpace (now state) k × (threadIn (now state) k .values ≤ mostVariables)
         × (isPlace (threadIn (now state) k .place) ≡ true)
-        × HasRoom change (threadIn (now state) k .items) (threadIn (now state) k .values) ⌝ }
+        × RoomIn change (threadIn (now state) k) ⌝ }
     ensures { λ _. ⌜ now (state .exit) ≡ putThread (now (state .entry)) k
         (changed change (threadIn (now (state .entry)) k)) ⌝ }
 {

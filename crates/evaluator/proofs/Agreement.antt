@@ -259,14 +259,14 @@ module _ (who : Who) (vs : List ℕ) where
   stuck-cell k y z m us ds q = record { outcome = refl; cells = q; fits = is-stuck }
 
   branches : (y z : Expr) (v : Value) (m : ℕ) (us : List ℕ) (ds : List Stored)
-      → Agrees (evalIn who vs y m us) (eval here y ds)
-      → Agrees (evalIn who vs z m us) (eval here z ds) → Holds m us ds
-      → Agrees (andThenIn (keeping aTruth v m us) (λ v m us. andThenIn (chosen v (evalIn who vs y m us) (evalIn who vs z m us)) (keeping aNumberIn)))
+      → Agrees (evalIn who y vs m us) (eval here y ds)
+      → Agrees (evalIn who z vs m us) (eval here z ds) → Holds m us ds
+      → Agrees (andThenIn (keeping aTruth v m us) (λ v m us. andThenIn (chosen v (evalIn who y vs m us) (evalIn who z vs m us)) (keeping aNumberIn)))
       ((byTruth v (eval here y) (eval here z) >>= def.aNumber) ds)
   branches y z (Truth t) m us ds a b q =
-      agree-then (chosen (Truth t) (evalIn who vs y m us) (evalIn who vs z m us))
+      agree-then (chosen (Truth t) (evalIn who y vs m us) (evalIn who z vs m us))
       (byTruth (Truth t) (eval here y) (eval here z)) (keeping aNumberIn) def.aNumber ds
-      (agree-choice t (evalIn who vs y m us) (evalIn who vs z m us) (eval here y) (eval here z) ds a b)
+      (agree-choice t (evalIn who y vs m us) (evalIn who z vs m us) (eval here y) (eval here z) ds a b)
       (λ u k ts es f r. agree-number k ts es r u f)
   branches y z (Number k) m us ds a b q = stuck-number k (eval here y) (eval here z) m us ds q
   branches y z (Cell k) m us ds a b q = stuck-cell k (eval here y) (eval here z) m us ds q
@@ -274,35 +274,35 @@ module _ (who : Who) (vs : List ℕ) where
   -- ---- the agreement
   module _ (w : ValueWords vs) where
     agree : (x : Expr) (n : ℕ) (ws : List ℕ) (cs : List Stored) → Small x → Holds n ws cs
-        → Agrees (evalIn who vs x n ws) (eval here x cs)
+        → Agrees (evalIn who x vs n ws) (eval here x cs)
     unfolding evalIn eval
     agree (number i m) n ws cs s g = unchanged n ws cs g (Is (Number m)) (is-value (shape.number s))
     agree (truth i m) n ws cs s g = unchanged n ws cs g _ (is-value shape.truth)
     agree (variable i k) n ws cs s g = agree-variable n ws cs g k w
     agree (shared i k) n ws cs s g = agree-shared n ws cs g k s
     agree (new i k x) n ws cs s g =
-        agree-then (evalIn who vs x n ws) (eval here x) (makeIn who k) _ cs (agree x n ws cs s g)
+        agree-then (evalIn who x vs n ws) (eval here x) (makeIn who k) _ cs (agree x n ws cs s g)
         (λ v m us ds f q. agree-make m us ds q k v f)
     agree (content i x) n ws cs s g =
-        agree-then (evalIn who vs x n ws) (eval here x) (readingIn who) _ cs (agree x n ws cs s g)
+        agree-then (evalIn who x vs n ws) (eval here x) (readingIn who) _ cs (agree x n ws cs s g)
         (λ v m us ds f q. agree-read m us ds q v)
     agree (sum i x y) n ws cs s g =
-        agree-then (evalIn who vs x n ws) (eval here x) _ _ cs (agree x n ws cs (s .0) g)
-        (λ v m us ds f q. agree-then (evalIn who vs y m us) (eval here y) (keeping (numbersOf plus v)) _ ds (agree y m us ds (s .1) q)
+        agree-then (evalIn who x vs n ws) (eval here x) _ _ cs (agree x n ws cs (s .0) g)
+        (λ v m us ds f q. agree-then (evalIn who y vs m us) (eval here y) (keeping (numbersOf plus v)) _ ds (agree y m us ds (s .1) q)
         (λ u k ts es z r. agree-numbers k ts es r plus plus-fits v u))
     agree (less i x y) n ws cs s g =
-        agree-then (evalIn who vs x n ws) (eval here x) _ _ cs (agree x n ws cs (s .0) g)
-        (λ v m us ds f q. agree-then (evalIn who vs y m us) (eval here y) (keeping (numbersOf lessThan v)) _ ds (agree y m us ds (s .1) q)
+        agree-then (evalIn who x vs n ws) (eval here x) _ _ cs (agree x n ws cs (s .0) g)
+        (λ v m us ds f q. agree-then (evalIn who y vs m us) (eval here y) (keeping (numbersOf lessThan v)) _ ds (agree y m us ds (s .1) q)
         (λ u k ts es z r. agree-numbers k ts es r lessThan (λ _ _. shape.truth) v u))
     agree (choose i x y z) n ws cs s g =
-        agree-left (regroup (evalIn who vs x n ws) (keeping aTruth) (λ v m us. andThenIn (chosen v (evalIn who vs y m us) (evalIn who vs z m us)) (keeping aNumberIn)))
-        (agree-then (evalIn who vs x n ws) (eval here x) _ _ cs (agree x n ws cs (s .0) g) (λ v m us ds f q. branches y z v m us ds (agree y m us ds (s .1) q) (agree z m us ds (s .2) q) q))
+        agree-left (regroup (evalIn who x vs n ws) (keeping aTruth) (λ v m us. andThenIn (chosen v (evalIn who y vs m us) (evalIn who z vs m us)) (keeping aNumberIn)))
+        (agree-then (evalIn who x vs n ws) (eval here x) _ _ cs (agree x n ws cs (s .0) g) (λ v m us ds f q. branches y z v m us ds (agree y m us ds (s .1) q) (agree z m us ds (s .2) q) q))
 
     agree-storing : (x y : Expr) (n : ℕ) (ws : List ℕ) (cs : List Stored) → Small x → Small y
-        → Holds n ws cs → Agrees (storingIn who vs x y n ws) (storing here x y cs)
+        → Holds n ws cs → Agrees (storingIn who x y vs n ws) (storing here x y cs)
     agree-storing x y n ws cs s t g =
-        agree-then (evalIn who vs x n ws) (eval here x) _ _ cs (agree x n ws cs s g)
-        (λ v m us ds f q. agree-then (evalIn who vs y m us) (eval here y) (storeIn who v) _ ds (agree y m us ds t q)
+        agree-then (evalIn who x vs n ws) (eval here x) _ _ cs (agree x n ws cs s g)
+        (λ v m us ds f q. agree-then (evalIn who y vs m us) (eval here y) (storeIn who v) _ ds (agree y m us ds t q)
         (λ u k ts es z r. agree-store k ts es r v u z))
 
 -- ---- as equations, for the contracts
@@ -313,7 +313,7 @@ equation l r a =
     ∙ ap (λ (ws : List ℕ). result (r .outcome) (usedCells (r .cells)) ws) (a .cells .words)
 
 pub eval-on : (fw vs : List ℕ) (who : Who) (i n : ℕ) (ws : List ℕ) (r : Result)
-    → ValueWords vs → CellWords n ws → r ≡ evalIn who vs (expressionAt (framesOf fw) i) n ws
+    → ValueWords vs → CellWords n ws → r ≡ evalIn who (expressionAt (framesOf fw) i) vs n ws
     → r ≡ onWords (eval (hereOf who vs) (expressionAt (framesOf fw) i)) n ws
 unfolding onWords
 eval-on fw vs who i n ws r w g e =
@@ -321,7 +321,7 @@ eval-on fw vs who i n ws r w g e =
     e ∙ equation _ _ (agree who vs w x n ws (cellsFrom n ws) (small-at fw i) (holds-from n ws g))
 
 storing-on : (fw vs : List ℕ) (who : Who) (a b n : ℕ) (ws : List ℕ) → ValueWords vs → CellWords n ws
-    → storingIn who vs (expressionAt (framesOf fw) a) (expressionAt (framesOf fw) b) n ws
+    → storingIn who (expressionAt (framesOf fw) a) (expressionAt (framesOf fw) b) vs n ws
     ≡ onWords
     (storing (hereOf who vs) (expressionAt (framesOf fw) a) (expressionAt (framesOf fw) b)) n ws
 unfolding onWords
@@ -342,11 +342,11 @@ eval-leaves fw vs who i n ws x w g e =
 -- ---- the returns of `store`
 module _ (fw vs : List ℕ) (who : Who) (a b n : ℕ) (ws : List ℕ) (w : ValueWords vs) (g : CellWords n ws) where
   second : Value → ℕ → List ℕ → Result
-  second v m us = andThenIn (evalIn who vs (expressionAt (framesOf fw) b) m us) (storeIn who v)
+  second v m us = andThenIn (evalIn who (expressionAt (framesOf fw) b) vs m us) (storeIn who v)
 
   pub store-runs : (x y r : Result) (v : Value)
-      → x ≡ evalIn who vs (expressionAt (framesOf fw) a) n ws → x .outcome ≡ Is v
-      → y ≡ evalIn who vs (expressionAt (framesOf fw) b) (x .used) (x .words)
+      → x ≡ evalIn who (expressionAt (framesOf fw) a) vs n ws → x .outcome ≡ Is v
+      → y ≡ evalIn who (expressionAt (framesOf fw) b) vs (x .used) (x .words)
       → r ≡ andThenIn y (storeIn who v)
       → r
       ≡ onWords
@@ -357,7 +357,7 @@ module _ (fw vs : List ℕ) (who : Who) (a b n : ℕ) (ws : List ℕ) (w : Value
       ∙ ap (λ (u : Result). andThenIn u second) e ∙ storing-on fw vs who a b n ws w g
 
   pub store-keeps : (x : Result) (o : Outcome)
-      → x ≡ evalIn who vs (expressionAt (framesOf fw) a) n ws → x .outcome ≡ o → Refused o
+      → x ≡ evalIn who (expressionAt (framesOf fw) a) vs n ws → x .outcome ≡ o → Refused o
       → x
       ≡ onWords
       (storing (hereOf who vs) (expressionAt (framesOf fw) a) (expressionAt (framesOf fw) b)) n ws

@@ -37,25 +37,25 @@ module _ (fw vs : List ℕ) (who : Who) where
   at = expressionAt (framesOf fw)
 
   abbrev run : Expr → List ℕ → Result
-  run x w = evalIn who vs x (lentCount w) (lentCells w)
+  run x w = evalIn who x vs (lentCount w) (lentCells w)
 
   -- what the recursion gives at frame i: as a value, as a number, as a truth
   abbrev Ran : ℕ → List ℕ → Result → Type 0
   Ran i w x = x ≡ run (at i) w
 
   abbrev RanNumber : ℕ → List ℕ → WantedResult → Type 0
-  RanNumber i w x = x ≡ numberIn who vs (at i) (lentCount w) (lentCells w)
+  RanNumber i w x = x ≡ numberIn who (at i) vs (lentCount w) (lentCells w)
 
   abbrev RanTruth : ℕ → List ℕ → Result → Type 0
-  RanTruth i w x = x ≡ truthIn who vs (at i) (lentCount w) (lentCells w)
+  RanTruth i w x = x ≡ truthIn who (at i) vs (lentCount w) (lentCells w)
 
   -- what follows the first operand of 26 or 27, and the condition of 28
   abbrev second : Operator → ℕ → Value → ℕ → List ℕ → Result
-  second op b v m us = andThenIn (evalIn who vs (at b) m us) (keeping (numbersOf (operation op) v))
+  second op b v m us = andThenIn (evalIn who (at b) vs m us) (keeping (numbersOf (operation op) v))
 
   abbrev branch : ℕ → ℕ → Value → ℕ → List ℕ → Result
   branch b c v m us =
-      andThenIn (chosen v (evalIn who vs (at b) m us) (evalIn who vs (at c) m us))
+      andThenIn (chosen v (evalIn who (at b) vs m us) (evalIn who (at c) vs m us))
       (keeping aNumberIn)
 
   -- a value as a number, and as a truth
@@ -148,8 +148,8 @@ module _ (fw vs : List ℕ) (who : Who) where
         (ap (λ (o : Outcome). resultIn o u) z ∙ go op)
       where
         go : (op : Operator) → resultIn (bothBy op p q) u ≡ run (treeOf at i (OfNumbers op a b)) w
-        go Sum = numbers-ran Sum (evalIn who vs (at b)) (run (at a) w) p q t u x s y
-        go Less = numbers-ran Less (evalIn who vs (at b)) (run (at a) w) p q t u x s y
+        go Sum = numbers-ran Sum (evalIn who (at b) vs) (run (at a) w) p q t u x s y
+        go Less = numbers-ran Less (evalIn who (at b) vs) (run (at a) w) p q t u x s y
 
     -- a truth, and after it one of two numbers
     pub case-condition : (a b c : ℕ) (o : Outcome) (t : List ℕ)
@@ -168,5 +168,5 @@ module _ (fw vs : List ℕ) (who : Who) where
     case-choice a b c j o p r t u e q s d k z =
         at-node (Choose a b c) (resultIn r u) e
         (ap (λ (x : Outcome). resultIn x u) z
-        ∙ choice-ran (λ f m us. evalIn who vs (at f) m us) b c j o p t u s d k
+        ∙ choice-ran (λ f m us. evalIn who (at f) vs m us) b c j o p t u s d k
         ∙ ap (λ (x : Result). andThenIn x (branch b c)) q)

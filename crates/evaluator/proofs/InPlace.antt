@@ -112,23 +112,23 @@ module _ (who : Who) (w : List ℕ) (l : Lent who w) where
 -- a second operand sees the same variables
 module _ (fw : List ℕ) (who : Who) (b : ℕ) (w v : List ℕ) where
   pub again-number : (y : WantedResult) → Lent who w → lentRest v ≡ lentRest w
-      → y ≡ numberIn who (lentVariables who v) (expressionAt (framesOf fw) b) (lentCount v)
+      → y ≡ numberIn who (expressionAt (framesOf fw) b) (lentVariables who v) (lentCount v)
       (lentCells v)
-      → y ≡ numberIn who (lentVariables who w) (expressionAt (framesOf fw) b) (lentCount v)
+      → y ≡ numberIn who (expressionAt (framesOf fw) b) (lentVariables who w) (lentCount v)
       (lentCells v)
   again-number y l e h =
       h
       ∙ ap (λ (vs : List ℕ).
-      numberIn who vs (expressionAt (framesOf fw) b) (lentCount v) (lentCells v))
+      numberIn who (expressionAt (framesOf fw) b) vs (lentCount v) (lentCells v))
       (variables-kept who w v e l)
 
   pub again-value : (y : Result) → Lent who w → lentRest v ≡ lentRest w
-      → y ≡ evalIn who (lentVariables who v) (expressionAt (framesOf fw) b) (lentCount v)
+      → y ≡ evalIn who (expressionAt (framesOf fw) b) (lentVariables who v) (lentCount v)
       (lentCells v)
-      → y ≡ evalIn who (lentVariables who w) (expressionAt (framesOf fw) b) (lentCount v)
+      → y ≡ evalIn who (expressionAt (framesOf fw) b) (lentVariables who w) (lentCount v)
       (lentCells v)
   again-value y l e h =
       h
       ∙ ap
-      (λ (vs : List ℕ). evalIn who vs (expressionAt (framesOf fw) b) (lentCount v) (lentCells v))
+      (λ (vs : List ℕ). evalIn who (expressionAt (framesOf fw) b) vs (lentCount v) (lentCells v))
       (variables-kept who w v e l)

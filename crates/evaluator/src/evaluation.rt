@@ -23,12 +23,11 @@ ghost use mathlib.Core.Path.{_≡_};
 ghost use Rattle.text.specs.Frames.{framesOf};
 ghost use Rattle.program.specs.Trees.{frameAt, expressionAt};
 ghost use Rattle.program.specs.inner.Nodes.{expressionNode};
-ghost use Rattle.machine.specs.Evaluation.{eval, storing};
-ghost use Rattle.operations.specs.inner.Lent.{Lent, lentVariables, lentCount, lentCells, lentRest};
+ghost use Rattle.operations.specs.inner.Lent.{Lent, lentVariables, lentRest, onLent};
 ghost use Rattle.operations.specs.inner.Results.{resultIn};
 ghost use Rattle.operations.specs.inner.ByWords.{leafIn};
-ghost use Rattle.evaluator.specs.inner.Results.{hereOf, onWords};
-ghost use Rattle.evaluator.specs.inner.Results.{CellWords, ValueWords, FrameWords};
+ghost use Rattle.evaluator.specs.inner.Results.{evaluatedBy, storedBy};
+ghost use Rattle.evaluator.specs.inner.Results.{LentWords, FrameWords};
 ghost use Rattle.evaluator.specs.inner.ByWords.{evalIn, wantedIn, numberIn, truthIn};
 
 // The node that frame i is. There is such a frame: the recursion goes from frames of the file to
@@ -54,9 +53,8 @@ fn leaf_at(who: Who, state: &[u64], l: Leaf) -> Outcome
 fn value_at(frames: &[u64], who: Who, state: &mut [u64], i: u16) -> Outcome
     requires { ⌜ FrameWords (now frames) i × Lent who (now state) ⌝ }
     ensures found { λ r. ⌜ resultIn r (now (state .exit))
-        ≡ evalIn who (lentVariables who (now (state .entry)))
-        (expressionAt (framesOf (now (frames .entry))) i)
-        (lentCount (now (state .entry))) (lentCells (now (state .entry))) ⌝ }
+        ≡ onLent (evalIn who (expressionAt (framesOf (now (frames .entry))) i)) who
+        (now (state .entry)) ⌝ }
     ensures rest { λ _. ⌜ lentRest (now (state .exit)) ≡ lentRest (now (state .entry)) ⌝ }
 {
     match node_at(frames, i) {
@@ -89,9 +87,8 @@ fn value_at(frames: &[u64], who: Who, state: &mut [u64], i: u16) -> Outcome
 fn number_at(frames: &[u64], who: Who, state: &mut [u64], i: u16) -> Operand
     requires { ⌜ FrameWords (now frames) i × Lent who (now state) ⌝ }
     ensures found { λ r. ⌜ wantedIn r (now (state .exit))
-        ≡ numberIn who (lentVariables who (now (state .entry)))
-        (expressionAt (framesOf (now (frames .entry))) i)
-        (lentCount (now (state .entry))) (lentCells (now (state .entry))) ⌝ }
+        ≡ onLent (numberIn who (expressionAt (framesOf (now (frames .entry))) i)) who
+        (now (state .entry)) ⌝ }
     ensures rest { λ _. ⌜ lentRest (now (state .exit)) ≡ lentRest (now (state .entry)) ⌝ }
 {
     match node_at(frames, i) {
@@ -123,9 +120,8 @@ fn number_at(frames: &[u64], who: Who, state: &mut [u64], i: u16) -> Operand
 fn truth_at(frames: &[u64], who: Who, state: &mut [u64], i: u16) -> Outcome
     requires { ⌜ FrameWords (now frames) i × Lent who (now state) ⌝ }
     ensures found { λ r. ⌜ resultIn r (now (state .exit))
-        ≡ truthIn who (lentVariables who (now (state .entry)))
-        (expressionAt (framesOf (now (frames .entry))) i)
-        (lentCount (now (state .entry))) (lentCells (now (state .entry))) ⌝ }
+        ≡ onLent (truthIn who (expressionAt (framesOf (now (frames .entry))) i)) who
+        (now (state .entry)) ⌝ }
     ensures rest { λ _. ⌜ lentRest (now (state .exit)) ≡ lentRest (now (state .entry)) ⌝ }
 {
     match node_at(frames, i) {
@@ -158,13 +154,10 @@ fn truth_at(frames: &[u64], who: Who, state: &mut [u64], i: u16) -> Outcome
 // is what refusals 3, 6 and 14 leave: the words of cells and of values are in range, the thread's
 // variables fit their space, children stand before their parents, and frame i is there.
 pub fn evaluate(frames: &[u64], who: Who, state: &mut [u64], i: u16) -> Outcome
-    requires { ⌜ FrameWords (now frames) i × Lent who (now state)
-        × ValueWords (lentVariables who (now state))
-        × CellWords (lentCount (now state)) (lentCells (now state)) ⌝ }
+    requires { ⌜ FrameWords (now frames) i × LentWords who (now state) ⌝ }
     ensures found { λ r. ⌜ resultIn r (now (state .exit))
-        ≡ onWords (eval (hereOf who (lentVariables who (now (state .entry))))
-        (expressionAt (framesOf (now (frames .entry))) i))
-        (lentCount (now (state .entry))) (lentCells (now (state .entry))) ⌝ }
+        ≡ onLent (evaluatedBy who (expressionAt (framesOf (now (frames .entry))) i)) who
+        (now (state .entry)) ⌝ }
     ensures rest { λ _. ⌜ lentRest (now (state .exit)) ≡ lentRest (now (state .entry)) ⌝ }
 {
     value_at(frames, who, state, i)
@@ -174,13 +167,10 @@ pub fn evaluate(frames: &[u64], who: Who, state: &mut [u64], i: u16) -> Outcome
 // and that both frames are there.
 pub fn store(frames: &[u64], who: Who, state: &mut [u64], a: u16, b: u16) -> Outcome
     requires { ⌜ FrameWords (now frames) a × FrameWords (now frames) b
-        × Lent who (now state) × ValueWords (lentVariables who (now state))
-        × CellWords (lentCount (now state)) (lentCells (now state)) ⌝ }
+        × LentWords who (now state) ⌝ }
     ensures found { λ r. ⌜ resultIn r (now (state .exit))
-        ≡ onWords (storing (hereOf who (lentVariables who (now (state .entry))))
-        (expressionAt (framesOf (now (frames .entry))) a)
-        (expressionAt (framesOf (now (frames .entry))) b))
-        (lentCount (now (state .entry))) (lentCells (now (state .entry))) ⌝ }
+        ≡ onLent (storedBy who (expressionAt (framesOf (now (frames .entry))) a)
+        (expressionAt (framesOf (now (frames .entry))) b)) who (now (state .entry)) ⌝ }
     ensures rest { λ _. ⌜ lentRest (now (state .exit)) ≡ lentRest (now (state .entry)) ⌝ }
 {
     let x = value_at(frames, who, state, a);

@@ -31,12 +31,11 @@ ghost use Rattle.language.specs.declared.kind.Kind.the-variants.{Declared, Modu
 ghost use Rattle.language.specs.Kinds.{statementUses, expressionUses, isShared, isModule};
 ghost use Rattle.language.specs.Places.{hasPlace, hasScheduler};
 ghost use Rattle.language.specs.Types.{typeWord};
-ghost use Rattle.language.specs.Limits.{mostLines, mostSchedulers, mostShared, mostModules};
+ghost use Rattle.language.specs.Limits.{mostLines, mostShared, mostModules};
 ghost use Rattle.text.specs.Frames.{framesOf};
-ghost use Rattle.program.specs.Trees.{frameAt};
 ghost use Rattle.fields.specs.Fields.{headerFine, schedulersOf, firstContentFine, frameFine};
 ghost use Rattle.fields.specs.inner.Scans.{headerFault, fieldFault, found, fieldsFine};
-ghost use Rattle.fields.specs.inner.Scans.{tallyOf};
+ghost use Rattle.fields.specs.inner.Scans.{tallyOf, fineAt, HeaderWords, TallyWords};
 
 // Of the frames passed: how many are shared cells, how many are modules, and the types of these
 // cells.
@@ -78,8 +77,7 @@ pub fn header(words: &[u64]) -> FaultSearch
 
 // How many schedulers the file has.
 fn schedulers_in(words: &[u64]) -> u8
-    requires { ⌜ (0 < length (now words)) × (schedulersOf (framesOf
-        (now words)) ≤ mostSchedulers) ⌝ }
+    requires { ⌜ HeaderWords (now words) ⌝ }
     ensures { λ r. ⌜ r ≡ schedulersOf (framesOf (now (words .entry))) ⌝ }
 {
     let f = frame_at(words, 0);
@@ -87,16 +85,14 @@ fn schedulers_in(words: &[u64]) -> u8
 }
 
 fn place_fine(words: &[u64], v: u8) -> bool
-    requires { ⌜ (0 < length (now words)) × (schedulersOf (framesOf
-        (now words)) ≤ mostSchedulers) ⌝ }
+    requires { ⌜ HeaderWords (now words) ⌝ }
     ensures { λ r. ⌜ r ≡ hasPlace (schedulersOf (framesOf (now (words .entry)))) v ⌝ }
 {
     Place::is_in_file(v as u64, schedulers_in(words))
 }
 
 fn scheduler_fine(words: &[u64], v: u8) -> bool
-    requires { ⌜ (0 < length (now words)) × (schedulersOf (framesOf
-        (now words)) ≤ mostSchedulers) ⌝ }
+    requires { ⌜ HeaderWords (now words) ⌝ }
     ensures { λ r. ⌜ r ≡ hasScheduler (schedulersOf (framesOf (now (words .entry)))) v ⌝ }
 {
     Place::is_scheduler_in_file(v as u64, schedulers_in(words))
@@ -114,8 +110,7 @@ fn further_fine(a: u16, v: u16) -> bool
 
 // The type of the parameter `n`, of s parameters.
 fn type_fine(words: &[u64], n: u8, s: u8, v: u16) -> bool
-    requires { ⌜ (0 < length (now words)) × (schedulersOf (framesOf
-        (now words)) ≤ mostSchedulers) ⌝ }
+    requires { ⌜ HeaderWords (now words) ⌝ }
     ensures { λ r. ⌜ r
         ≡ (if leb n s then typeWord (schedulersOf (framesOf (now (words .entry)))) v else eqb v 0) ⌝ }
 {
@@ -221,8 +216,7 @@ fn arguments_fine(f: Frame) -> bool
 
 // A place in S, a child in A.
 fn placed_fine(words: &[u64], f: Frame) -> bool
-    requires { ⌜ (0 < length (now words)) × (schedulersOf (framesOf
-        (now words)) ≤ mostSchedulers) ⌝ }
+    requires { ⌜ HeaderWords (now words) ⌝ }
     ensures { λ r. ⌜ r
         ≡ fieldsFine (framesOf (now (words .entry))) 0 f (statementUses StatementKind.DoAt) ⌝ }
 {
@@ -237,8 +231,7 @@ fn placed_fine(words: &[u64], f: Frame) -> bool
 
 // No field of a statement or of an expression asks for the frame's number: it is 0 here.
 fn statement_fine(words: &[u64], f: Frame, k: StatementKind) -> bool
-    requires { ⌜ (0 < length (now words)) × (schedulersOf (framesOf
-        (now words)) ≤ mostSchedulers) ⌝ }
+    requires { ⌜ HeaderWords (now words) ⌝ }
     ensures { λ r. ⌜ r ≡ fieldsFine (framesOf (now (words .entry))) 0 f (statementUses k) ⌝ }
 {
     match k {
@@ -256,8 +249,7 @@ fn statement_fine(words: &[u64], f: Frame, k: StatementKind) -> bool
 }
 
 fn expression_fine(words: &[u64], f: Frame, k: ExpressionKind) -> bool
-    requires { ⌜ (0 < length (now words)) × (schedulersOf (framesOf
-        (now words)) ≤ mostSchedulers) ⌝ }
+    requires { ⌜ HeaderWords (now words) ⌝ }
     ensures { λ r. ⌜ r ≡ fieldsFine (framesOf (now (words .entry))) 0 f (expressionUses k) ⌝ }
 {
     match k {
@@ -282,9 +274,8 @@ fn room_for_cell(cells: usize) -> bool
 
 // The shared cell f, which has the number i.
 fn shared_fine(words: &[u64], i: usize, f: Frame, t: Tally) -> bool
-    requires { ⌜ (0 < length (now words)) × (schedulersOf (framesOf (now words)) ≤ mostSchedulers)
-        × (t ≡ tallyOf (take i (framesOf (now words)))) × (t .cells ≤ mostShared)
-        × (f .kind ≡ Declared Shared) ⌝ }
+    requires { ⌜ HeaderWords (now words) × (t ≡ tallyOf (take i (framesOf (now words))))
+        × (t .cells ≤ mostShared) × (f .kind ≡ Declared Shared) ⌝ }
     ensures { λ r. ⌜ r ≡ frameFine (framesOf (now (words .entry))) i f ⌝ }
 {
     if !room_for_cell(t.cells) {
@@ -304,8 +295,8 @@ fn shared_fine(words: &[u64], i: usize, f: Frame, t: Tally) -> bool
 
 // The module f, which has the number i.
 fn module_fine(words: &[u64], i: usize, f: Frame, t: Tally) -> bool
-    requires { ⌜ (0 < length (now words)) × (schedulersOf (framesOf (now words)) ≤ mostSchedulers)
-        × (t ≡ tallyOf (take i (framesOf (now words)))) × (f .kind ≡ Module) ⌝ }
+    requires { ⌜ HeaderWords (now words) × (t ≡ tallyOf (take i (framesOf (now words))))
+        × (f .kind ≡ Module) ⌝ }
     ensures { λ r. ⌜ r ≡ frameFine (framesOf (now (words .entry))) i f ⌝ }
 {
     if MOST_MODULES <= t.modules {
@@ -323,10 +314,8 @@ fn module_fine(words: &[u64], i: usize, f: Frame, t: Tally) -> bool
 // Whether 5 does not name frame i: no later header, no 17th shared cell or module, and the fields
 // that its kind has. By kind, without the table of uses: this is asked of each line.
 fn frame_fine(words: &[u64], i: usize, t: Tally) -> bool
-    requires { ⌜ (i < length (now words)) × (schedulersOf (framesOf (now words)) ≤ mostSchedulers)
-        × (t ≡ tallyOf (take i (framesOf (now words)))) × (t .cells ≤ mostShared) ⌝ }
-    ensures { λ r. ⌜ r
-        ≡ frameFine (framesOf (now (words .entry))) i (frameAt (framesOf (now (words .entry))) i) ⌝ }
+    requires { ⌜ TallyWords (now words) i t × (t .cells ≤ mostShared) ⌝ }
+    ensures { λ r. ⌜ r ≡ fineAt (framesOf (now (words .entry))) i ⌝ }
 {
     let f = frame_at(words, i);
     let kind = f.kind;
@@ -372,9 +361,7 @@ fn with_module(t: Tally) -> Tally
 
 // With frame i, which has no fault 5.
 fn counted(words: &[u64], i: usize, t: Tally) -> Tally
-    requires { ⌜ (i < length (now words)) × (schedulersOf (framesOf (now words)) ≤ mostSchedulers)
-        × (t ≡ tallyOf (take i (framesOf (now words))))
-        × (frameFine (framesOf (now words)) i (frameAt (framesOf (now words)) i) ≡ true) ⌝ }
+    requires { ⌜ TallyWords (now words) i t × (fineAt (framesOf (now words)) i ≡ true) ⌝ }
     ensures { λ r. ⌜ r ≡ tallyOf (take (i + 1) (framesOf (now (words .entry)))) ⌝ }
 {
     let f = frame_at(words, i);
@@ -410,8 +397,7 @@ fn is_counted(k: Kind) -> bool
 // The lowest frame with the fault 5. It stops there, so that no 17th cell is counted. With a right
 // header there are at most 8 schedulers, and a place is one of the nine.
 pub fn fields(words: &[u64]) -> FaultSearch
-    requires { ⌜ (0 < length (now words)) × (length (now words) ≤ mostLines)
-        × (schedulersOf (framesOf (now words)) ≤ mostSchedulers) ⌝ }
+    requires { ⌜ HeaderWords (now words) × (length (now words) ≤ mostLines) ⌝ }
     ensures { λ r. ⌜ r ≡ found (fieldFault (framesOf (now (words .entry)))) ⌝ }
 {
     let mut t = Tally {

@@ -10,13 +10,13 @@ use program::frames::children_of;
 use program::frames::frame_at;
 ghost use mathlib.Core.Path.{_≡_};
 ghost use mathlib.Core.Option.{none};
-ghost use Prim.Native.Nat.{_<_, _≤_};
+ghost use Prim.Native.Nat.{_≤_};
 ghost use lib.ListN.{length};
 ghost use Rattle.language.specs.Kinds.{children};
 ghost use Rattle.language.specs.Limits.{mostLines};
 ghost use Rattle.text.specs.Frames.{framesOf};
 ghost use Rattle.fields.specs.inner.Scans.{found};
-ghost use Rattle.layout.specs.inner.Scans.{orderFault, depthFault};
+ghost use Rattle.layout.specs.inner.Scans.{orderFault, depthFault, LineWords};
 ghost use Rattle.layout.specs.inner.Passes.{given, raised, raisedAll, depthsDown};
 
 // At v a depth of at least d. A number after the last frame raises nothing.
@@ -96,8 +96,7 @@ fn depths_down(words: &[u64], u: &mut [u8; MOST_LINES])
 // The lowest frame deeper than 24. Without a fault 6 the children of each frame stand before it;
 // only then does one pass see every parent before its children.
 pub(crate) fn depth(words: &[u64]) -> FaultSearch
-    requires { ⌜ (0 < length (now words)) × (length (now words) ≤ mostLines)
-        × (orderFault (framesOf (now words)) ≡ none) ⌝ }
+    requires { ⌜ LineWords (now words) × (orderFault (framesOf (now words)) ≡ none) ⌝ }
     ensures { λ r. ⌜ r ≡ found (depthFault (framesOf (now (words .entry)))) ⌝ }
 {
     let mut u = [0u8; MOST_LINES];

@@ -27,7 +27,7 @@ ghost use Rattle.text.specs.Frames.{framesOf};
 ghost use Rattle.fields.specs.inner.Scans.{found};
 ghost use Rattle.layout.specs.Order.{hasClass, isMain};
 ghost use Rattle.layout.specs.inner.Scans.{rowFirst, firstDisorder, isAfterOther};
-ghost use Rattle.layout.specs.inner.Scans.{firstLeftover, noMain, orderFault};
+ghost use Rattle.layout.specs.inner.Scans.{firstLeftover, noMain, orderFault, LineWords};
 ghost use Rattle.layout.specs.inner.Passes.{subtreeOf, told, Backward, marked, marks};
 ghost use Rattle.layout.specs.inner.Passes.{markAll};
 
@@ -276,7 +276,7 @@ fn is_main(f: Frame) -> bool
 
 // The last frame, if it is not `main`.
 fn no_main(words: &[u64]) -> FaultSearch
-    requires { ⌜ (0 < length (now words)) × (length (now words) ≤ mostLines) ⌝ }
+    requires { ⌜ LineWords (now words) ⌝ }
     ensures { λ r. ⌜ r ≡ found (noMain (framesOf (now (words .entry)))) ⌝ }
 {
     let last = words.len() - 1;
@@ -288,7 +288,7 @@ fn no_main(words: &[u64]) -> FaultSearch
 
 // The lowest frame with a fault 6.
 pub(crate) fn order(words: &[u64]) -> FaultSearch
-    requires { ⌜ (0 < length (now words)) × (length (now words) ≤ mostLines) ⌝ }
+    requires { ⌜ LineWords (now words) ⌝ }
     ensures { λ r. ⌜ r ≡ found (orderFault (framesOf (now (words .entry)))) ⌝ }
 {
     let d = disorder(words);

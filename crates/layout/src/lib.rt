@@ -12,11 +12,10 @@ use language::refusal::WRONG_ORDER;
 use text::reading::TextRead;
 use text::reading::read_into;
 ghost use mathlib.Core.Path.{_≡_};
-ghost use Prim.Native.Nat.{_<_, _≤_};
-ghost use lib.ListN.{length, replicate};
+ghost use lib.ListN.{replicate};
 ghost use Rattle.language.specs.Limits.{mostLines};
 ghost use Rattle.text.specs.Frames.{framesOf};
-ghost use Rattle.layout.specs.inner.Scans.{layoutOf};
+ghost use Rattle.layout.specs.inner.Scans.{layoutOf, LineWords};
 ghost use Rattle.layout.specs.LaidOut.{Judged};
 ghost use Rattle.layout.specs.inner.Layouts.{laidAs, laidWords, layoutVerdict};
 
@@ -39,7 +38,7 @@ pub struct Laid {
 // Refusals 4 to 7. A pass may rely on those before it: the fields on the header, the depths on the
 // order.
 fn layout_of(words: &[u64]) -> LayoutVerdict
-    requires { ⌜ (0 < length (now words)) × (length (now words) ≤ mostLines) ⌝ }
+    requires { ⌜ LineWords (now words) ⌝ }
     ensures { λ r. ⌜ r ≡ layoutOf (framesOf (now (words .entry))) ⌝ }
 {
     match header(words) {

@@ -13,11 +13,11 @@ ghost use lib.Dec.{leb};
 ghost use lib.ListN.{length, getD};
 ghost use Rattle.language.specs.Places.{home, isScheduler};
 ghost use Rattle.language.specs.Limits.{mostThreads};
-ghost use Rattle.machine.specs.Offsets.{stateLength, threadCountAt, schedulersAt, schedulerLength};
+ghost use Rattle.machine.specs.Offsets.{stateLength, schedulersAt, schedulerLength};
 ghost use Rattle.machine.specs.Offsets.{listLength, nextListAt, threadsAt};
 ghost use Rattle.machine.specs.inner.Blocks.{part, pasted};
 ghost use Rattle.machine.specs.Words.{wordsAt};
-ghost use Rattle.lists.specs.inner.Lists.{shifted, withoutFirst, withLast};
+ghost use Rattle.lists.specs.inner.Lists.{shifted, withoutFirst, withLast, ListWords};
 ghost use Rattle.lists.specs.inner.Lists.{partitionedIn, withInstantEnded, readyWords};
 
 // Where the scheduler's active list begins: its count, then the space of 64 threads.
@@ -114,10 +114,8 @@ pub fn append(state: &mut [u64], q: Place, entry: u64)
 // in the words that they leave. How many are ready. Validation has found at most 64 threads, and a
 // list within its space.
 fn partition_entries(state: &mut [u64], active: usize) -> u64
-    requires { ⌜ (length (now state) ≡ stateLength)
-        × (schedulersAt ≤ active) × (active + schedulerLength ≤ threadsAt)
-        × (getD (now state) threadCountAt 0 ≤ mostThreads)
-        × (getD (now state) (active + listLength) 0 ≤ mostThreads) ⌝ }
+    requires { ⌜ ListWords (now state) (active + listLength)
+        × (schedulersAt ≤ active) × (active + schedulerLength ≤ threadsAt) ⌝ }
     ensures count { λ r. ⌜ r ≡ length (readyWords (now (state .entry))
         (wordsAt (now (state .entry)) (active + listLength))) ⌝ }
     ensures words { λ r. ⌜ now (state .exit) ≡ partitionedIn (now (state .entry)) active ⌝ }
@@ -145,9 +143,8 @@ fn partition_entries(state: &mut [u64], active: usize) -> u64
 // The instant of a scheduler with no active thread ends: how many entries were ready. Where none
 // was, nothing changes.
 pub fn end_instant(state: &mut [u64], q: Place) -> u64
-    requires { ⌜ (length (now state) ≡ stateLength) × (isScheduler (q .number) ≡ true)
-        × (getD (now state) threadCountAt 0 ≤ mostThreads)
-        × (getD (now state) (nextListAt + schedulerLength * (q .number - home)) 0 ≤ mostThreads) ⌝ }
+    requires { ⌜ ListWords (now state) (nextListAt + schedulerLength * (q .number - home))
+        × (isScheduler (q .number) ≡ true) ⌝ }
     ensures count { λ r. ⌜ r ≡ length (readyWords (now (state .entry))
         (wordsAt (now (state .entry)) (nextListAt + schedulerLength * (q .number - home)))) ⌝ }
     ensures words { λ r. ⌜ now (state .exit)

@@ -11,17 +11,15 @@ use machine::offset::THREADS_AT;
 use machine::offset::VARIABLES_FIELD;
 ghost use mathlib.Core.Path.{_≡_};
 ghost use Prim.Native.Nat.{_-_, _<_, _≤_};
-ghost use lib.ListN.{length, getD};
-ghost use Rattle.language.specs.Limits.{mostVariables, mostThreads, mostItems};
-ghost use Rattle.machine.specs.Offsets.{stateLength};
-ghost use Rattle.states.specs.inner.Threads.{threadIn, putThread};
+ghost use lib.ListN.{getD};
+ghost use Rattle.language.specs.Limits.{mostVariables, mostItems};
+ghost use Rattle.states.specs.inner.Threads.{threadIn, putThread, ThreadSpace};
 ghost use Rattle.states.specs.inner.Stacks.{pushItem, popItem, pushValue, popValue, moveTo};
-ghost use Rattle.states.specs.inner.Stacks.{ended};
+ghost use Rattle.states.specs.inner.Stacks.{ended, SomeWithin};
 
 // The item on top of the continuation, its last word; 0 where there is none.
 pub fn top_item(state: &[u64], k: usize) -> u64
-    requires { ⌜ (length (now state) ≡ stateLength) × (k < mostThreads)
-        × (threadIn (now state) k .items ≤ mostItems) ⌝ }
+    requires { ⌜ ThreadSpace (now state) k × (threadIn (now state) k .items ≤ mostItems) ⌝ }
     ensures { λ r. ⌜ r ≡ getD (threadIn (now (state .entry)) k .continuation)
         (threadIn (now (state .entry)) k .items - 1) 0 ⌝ }
 {
@@ -34,8 +32,7 @@ pub fn top_item(state: &[u64], k: usize) -> u64
 }
 
 pub fn push_item(state: &mut [u64], k: usize, item: u64)
-    requires { ⌜ (length (now state) ≡ stateLength) × (k < mostThreads)
-        × (threadIn (now state) k .items < mostItems) ⌝ }
+    requires { ⌜ ThreadSpace (now state) k × (threadIn (now state) k .items < mostItems) ⌝ }
     ensures { λ _. ⌜ now (state .exit)
         ≡ putThread (now (state .entry)) k (pushItem item (threadIn (now (state .entry)) k)) ⌝ }
 {
@@ -46,8 +43,8 @@ pub fn push_item(state: &mut [u64], k: usize, item: u64)
 }
 
 pub fn pop_item(state: &mut [u64], k: usize)
-    requires { ⌜ (length (now state) ≡ stateLength) × (k < mostThreads)
-        × (0 < threadIn (now state) k .items) × (threadIn (now state) k .items ≤ mostItems) ⌝ }
+    requires { ⌜ ThreadSpace (now state) k
+        × SomeWithin mostItems (threadIn (now state) k .items) ⌝ }
     ensures { λ _. ⌜ now (state .exit)
         ≡ putThread (now (state .entry)) k (popItem (threadIn (now (state .entry)) k)) ⌝ }
 {
@@ -58,8 +55,7 @@ pub fn pop_item(state: &mut [u64], k: usize)
 }
 
 pub fn push_value(state: &mut [u64], k: usize, value: u64)
-    requires { ⌜ (length (now state) ≡ stateLength) × (k < mostThreads)
-        × (threadIn (now state) k .values < mostVariables) ⌝ }
+    requires { ⌜ ThreadSpace (now state) k × (threadIn (now state) k .values < mostVariables) ⌝ }
     ensures { λ _. ⌜ now (state .exit)
         ≡ putThread (now (state .entry)) k (pushValue value (threadIn (now (state .entry)) k)) ⌝ }
 {
@@ -70,9 +66,8 @@ pub fn push_value(state: &mut [u64], k: usize, value: u64)
 }
 
 pub fn pop_value(state: &mut [u64], k: usize)
-    requires { ⌜ (length (now state) ≡ stateLength) × (k < mostThreads)
-        × (0 < threadIn (now state) k .values)
-        × (threadIn (now state) k .values ≤ mostVariables) ⌝ }
+    requires { ⌜ ThreadSpace (now state) k
+        × SomeWithin mostVariables (threadIn (now state) k .values) ⌝ }
     ensures { λ _. ⌜ now (state .exit)
         ≡ putThread (now (state .entry)) k (popValue (threadIn (now (state .entry)) k)) ⌝ }
 {
@@ -83,7 +78,7 @@ pub fn pop_value(state: &mut [u64], k: usize)
 }
 
 pub fn move_to(state: &mut [u64], k: usize, place: Place)
-    requires { ⌜ (length (now state) ≡ stateLength) × (k < mostThreads) ⌝ }
+    requires { ⌜ ThreadSpace (now state) k ⌝ }
     ensures { λ _. ⌜ now (state .exit) ≡ putThread (now (state .entry)) k
         (moveTo (place .number) (threadIn (now (state .entry)) k)) ⌝ }
 {
@@ -92,7 +87,7 @@ pub fn move_to(state: &mut [u64], k: usize, place: Place)
 
 // The thread as one that has ended.
 pub fn end_thread(state: &mut [u64], k: usize)
-    requires { ⌜ (length (now state) ≡ stateLength) × (k < mostThreads) ⌝ }
+    requires { ⌜ ThreadSpace (now state) k ⌝ }
     ensures { λ _. ⌜ now (state .exit)
         ≡ putThread (now (state .entry)) k (ended (threadIn (now (state .entry)) k)) ⌝ }
 {

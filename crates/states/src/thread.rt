@@ -12,10 +12,10 @@ use machine::offset::VARIABLES_FIELD;
 ghost use mathlib.Core.Path.{_≡_};
 ghost use Prim.Native.Nat.{_+_, _*_, _<_, _≤_};
 ghost use lib.ListN.{length, getD};
-ghost use Rattle.language.specs.Limits.{mostThreads, mostItems};
+ghost use Rattle.language.specs.Limits.{mostItems};
 ghost use Rattle.machine.specs.Offsets.{stateLength, threadCountAt, threadsAt, threadLength};
 ghost use Rattle.machine.specs.inner.Blocks.{pasted};
-ghost use Rattle.states.specs.inner.Threads.{blockOf, withOneMore};
+ghost use Rattle.states.specs.inner.Threads.{blockOf, withOneMore, ThreadSpace};
 
 // Where the words of a continuation and of the variables begin, after their lengths.
 pub(crate) const FIRST_ITEM: usize = ITEMS_FIELD + 1;
@@ -48,7 +48,7 @@ fn store_run(w: &mut [u64], at: usize, a: [u64; MOST_ITEMS])
 }
 
 fn store_thread(state: &mut [u64], k: usize, th: ThreadWords)
-    requires { ⌜ (length (now state) ≡ stateLength) × (k < mostThreads) ⌝ }
+    requires { ⌜ ThreadSpace (now state) k ⌝ }
     ensures { λ _. ⌜ now (state .exit)
         ≡ pasted (now (state .entry)) (threadsAt + threadLength * k) (blockOf th) threadLength ⌝ }
 {

@@ -286,8 +286,7 @@ module _ (frames : List ℕ) (shared : ℕ) (w : List ℕ) (h : StepWords frames
     variables : lentVariables who w ≡ variablesIn th
     variables = variables-are who refl
 
-    pub act-asks : TurnWords frames who counts (lentVariables who w) (lentCount w) (lentCells w)
-        × Lent who w
+    pub act-asks : TurnWords frames who counts w
         × (item < 1024 → item < length frames)
         × (1024 ≤ item → item < 2048 → isPlace (item - 1024) ≡ true)
     act-asks = (
@@ -301,10 +300,12 @@ module _ (frames : List ℕ) (shared : ℕ) (w : List ℕ) (h : StepWords frames
             ∙ length-take-le (th .values) (th .variables)
             (let a = values-read in let b = wide in omega arith)
             ∙ seen .variables;
-        variables = subst ValueWords (sym (variables ∙ ap variablesIn read)) variables-in;
-        cells = rw (count-is, cells-are) cells-in;
+        state = record {
+          lent = lent who refl;
+          variables = subst ValueWords (sym (variables ∙ ap variablesIn read)) variables-in;
+          cells = rw (count-is, cells-are) cells-in;
+        };
       },
-      lent who refl,
       subst (λ (i : ℕ). i < 1024 → i < length frames) (sym (top ∙ ap topIn read)) top-there,
       subst (λ (i : ℕ). 1024 ≤ i → i < 2048 → isPlace (i - 1024) ≡ true)
           (sym (top ∙ ap topIn read)) top-place,

@@ -27,7 +27,7 @@ use Rattle.machine.specs.Shapes.{IsThread, SchedulerFits}
 use Rattle.machine.proofs.WordLaws.{is-pack}
 use Rattle.machine.proofs.Calls.{called-in}
 use Rattle.machine.proofs.KeptShape.{scheduler-fits, unlinked-is}
-use Rattle.lists.specs.inner.Lists.{readyWords, withInstantEnded}
+use Rattle.lists.specs.inner.Lists.{readyWords, withInstantEnded, ListWords}
 use Rattle.lists.proofs.SchedulerSays.{first-says, room-says}
 use Rattle.lists.proofs.Instants.{instant-readies, instant-says, instant-none}
 use Rattle.states.specs.inner.Parties.{isUnlinkedWord}
@@ -71,13 +71,15 @@ module _ (frames : List ℕ) (shared : ℕ) (w : List ℕ) (h : StepWords frames
       list-asks =
           (step-long frames shared w h, ap (λ (q : Place). isScheduler (q .number)) at ∙ there .1)
 
-      pub instant-asks : (length w ≡ 4818) × (isScheduler (p .number) ≡ true) × (getD w 0 0 ≤ 64) × (getD w (67 + 130 * (p .number - 2)) 0 ≤ 64)
+      pub instant-asks : ListWords w (67 + 130 * (p .number - 2)) × (isScheduler (p .number) ≡ true)
       instant-asks = (
-        list-asks .0,
+        (
+          list-asks .0,
+          threads-few frames shared w h,
+          subst (λ (q : Place). getD w (67 + 130 * (q .number - 2)) 0 ≤ 64) (sym at)
+              (rw (room-says w s (says frames shared w h) c in-lists (there .0)) (fit .next-room)),
+        ),
         list-asks .1,
-        threads-few frames shared w h,
-        subst (λ (q : Place). getD w (67 + 130 * (q .number - 2)) 0 ≤ 64) (sym at)
-            (rw (room-says w s (says frames shared w h) c in-lists (there .0)) (fit .next-room)),
       )
 
       pub count-at : (k : ℕ) → k ≡ length (readyWords w (wordsAt w (67 + 130 * (p .number - 2))))
@@ -276,7 +278,8 @@ module _ (frames : List ℕ) (shared : ℕ) (w : List ℕ) (h : StepWords frames
             (λ e u z. absurd (true≢false (sym has-is ∙ e)))
 
         module _ (p : Place) (at : p ≡ record { number = c }) where
-          pub idle-asks : (length w ≡ 4818) × (isScheduler (p .number) ≡ true) × (getD w 0 0 ≤ 64) × (getD w (67 + 130 * (p .number - 2)) 0 ≤ 64)
+          pub idle-asks : ListWords w (67 + 130 * (p .number - 2))
+              × (isScheduler (p .number) ≡ true)
           idle-asks = instant-asks is p at
 
           module _ (v : List ℕ) (k : ℕ) (count : k ≡ length (readyWords w (wordsAt w (67 + 130 * (p .number - 2))))) (out : v ≡ withInstantEnded w (p .number - 2)) where

@@ -20,17 +20,16 @@ use Rattle.turns.specs.inner.Actions.{actResult, placeAt, goBack, dropOn
 use Rattle.turns.specs.inner.Actions.{below, turnAct}
 
 -- what a caller has shown holds without the top item
-pub below-words : (fw : List ℕ) (who : Who) (counts : Counts) (vs : List ℕ) (n : ℕ) (ws : List ℕ)
-    → TurnWords fw who counts vs n ws → TurnWords fw who (below counts) vs n ws
-below-words fw who counts vs n ws g =
+pub below-words : (fw : List ℕ) (who : Who) (counts : Counts) (w : List ℕ)
+    → TurnWords fw who counts w → TurnWords fw who (below counts) w
+below-words fw who counts w g =
     record {
       ordered = g .ordered;
       placed = g .placed;
       place = g .place;
       items = let h = g .items in omega arith;
       count = g .count;
-      variables = g .variables;
-      cells = g .cells;
+      state = g .state;
     }
 
 module _
@@ -38,7 +37,7 @@ module _
     (r : Action) where
   -- ---- by the item: a statement, a way back to a place, a drop
   pub item-statement : (m : ℕ) (us : List ℕ) → item < 1024
-      → actResult r m us ≡ statementAct who counts vs n ws (statementAt fs item)
+      → actResult r m us ≡ statementAct who counts (statementAt fs item) vs n ws
       → actResult r m us ≡ itemAct fs who counts item vs n ws
   unfolding itemAct
   item-statement m us h z = yes _ (lt-ltb item 1024 h) z

@@ -80,17 +80,17 @@ module _ (m i : ℕ) (l : i < m) where
   under-frame f h = under-kind f (f .kind) h
 
 -- ---- at frame i, whose node the code has read as d
-pub frame-words : (fw : List ℕ) (who : Who) (counts : Counts) (vs : List ℕ) (n : ℕ) (ws : List ℕ)
-    (i : ℕ) → TurnWords fw who counts vs n ws → i < length fw → FrameWords fw i
-frame-words fw who counts vs n ws i g l =
+pub frame-words : (fw : List ℕ) (who : Who) (counts : Counts) (w : List ℕ) (i : ℕ)
+    → TurnWords fw who counts w → i < length fw → FrameWords fw i
+frame-words fw who counts w i g l =
     record { ordered = g .ordered; placed = g .placed; there = l }
 
 module _
-    (fw : List ℕ) (who : Who) (counts : Counts) (vs : List ℕ) (n : ℕ) (ws : List ℕ) (i : ℕ)
+    (fw : List ℕ) (who : Who) (counts : Counts) (w : List ℕ) (i : ℕ)
     (f : Frame) (e : f ≡ frameOfWord (getD fw i 0))
-    (g : TurnWords fw who counts vs n ws) (l : i < length fw) where
+    (g : TurnWords fw who counts w) (l : i < length fw) where
   pub statement-named : NamesPlace f
-  statement-named = frame-named fw i f (frame-words fw who counts vs n ws i g l) e
+  statement-named = frame-named fw i f (frame-words fw who counts w i g l) e
 
   module _ (d : StatementNode) (k : d ≡ statementNode f) where
     under : (y : StatementNode) → d ≡ y → Under (length fw) y
@@ -99,7 +99,7 @@ module _
         (under-frame (length fw) i l (frameAt (framesOf fw) i) (g .ordered i (rw length-map l)))
 
     there : {j : ℕ} → j < length fw → FrameWords fw j
-    there {j} h = frame-words fw who counts vs n ws j g h
+    there {j} h = frame-words fw who counts w j g h
 
     pub start-a : (s a b : ℕ) → d ≡ Y.Start s a b → FrameWords fw a
     start-a s a b h = there (under (Y.Start s a b) h .0)

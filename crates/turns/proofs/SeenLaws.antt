@@ -4,9 +4,8 @@ use mathlib.Core.Path.{_≡_, refl, sym, ap, _∙_}
 use mathlib.Core.List.{List}
 use Prim.Native.Nat.{ℕ}
 use Rattle.program.specs.Trees.{Expr}
-use Rattle.machine.specs.Evaluation.{eval, storing}
 use Rattle.operations.specs.declared.Who.{Who}
-use Rattle.evaluator.specs.inner.Results.{hereOf, onWords}
+use Rattle.evaluator.specs.inner.Results.{evaluatedBy, storedBy}
 use Rattle.states.specs.declared.thread.ThreadWords.{ThreadWords}
 use Rattle.acts.specs.declared.act.Transition.the-variants.{Stays}
 use Rattle.acts.specs.declared.act.Change.the-variants.{Same}
@@ -15,7 +14,7 @@ use Rattle.acts.specs.inner.Transitions.{TurnResult, actedIn, action, refusedIn
 use Rattle.turns.specs.declared.counts.Counts.{Counts}
 use Rattle.turns.specs.inner.Acts.{TurnOutcome, turnOutcome, variablesIn, evaluatedIn, storedIn}
 use Rattle.turns.specs.inner.Acts.{Seen}
-use Rattle.turns.specs.inner.Actions.{ActResult, evaluatedBy, storedBy}
+use Rattle.turns.specs.inner.Actions.{ActResult}
 
 -- the act, its change made in such a thread without its top item, is with n cells in use that turn;
 -- and there is room for the change
@@ -65,8 +64,8 @@ act-on-as h k = record { thread = λ th w e. h .thread th w e ∙ k th e; room =
 module _
     (who : Who) (th : ThreadWords) (vs : List ℕ) (e : variablesIn th ≡ vs) (n : ℕ)
     (ws : List ℕ) where
-  pub in-thread : (x : Expr) → evaluatedBy who vs x n ws ≡ evaluatedIn who th x n ws
-  in-thread x = ap (λ (us : List ℕ). onWords (eval (hereOf who us) x) n ws) (sym e)
+  pub in-thread : (x : Expr) → evaluatedBy who x vs n ws ≡ evaluatedIn who th x n ws
+  in-thread x = ap (λ (us : List ℕ). evaluatedBy who x us n ws) (sym e)
 
-  pub stored-in : (x y : Expr) → storedBy who vs x y n ws ≡ storedIn who th x y n ws
-  stored-in x y = ap (λ (us : List ℕ). onWords (storing (hereOf who us) x y) n ws) (sym e)
+  pub stored-in : (x y : Expr) → storedBy who x y vs n ws ≡ storedIn who th x y n ws
+  stored-in x y = ap (λ (us : List ℕ). storedBy who x y us n ws) (sym e)

@@ -9,6 +9,7 @@ use Rattle.machine.specs.declared.value.Outcome.{Outcome}
 use Rattle.machine.specs.declared.value.Outcome.the-variants.{Is, Foreign, Spent, Stuck}
 use Rattle.operations.specs.declared.Who.{Who}
 use Rattle.operations.specs.inner.Results.{Result}
+use Rattle.evaluator.specs.inner.Results.{evaluatedBy}
 use Rattle.states.specs.declared.thread.ThreadWords.{ThreadWords}
 use Rattle.acts.specs.declared.act.Arguments.{Arguments}
 use Rattle.acts.specs.inner.Transitions.{argumentsOf}
@@ -17,7 +18,7 @@ use Rattle.turns.specs.declared.start.Request.{Request}
 use Rattle.turns.specs.inner.Acts.{TurnOutcome, thenOn, startsWith, oneArgument, lastArgument}
 use Rattle.turns.specs.inner.Acts.{twoArguments, startTurn}
 use Rattle.turns.specs.inner.Actions.{ActResult, startWith, startOne, startTwo, actAfter}
-use Rattle.turns.specs.inner.Actions.{evaluatedBy, firstThen, bothArguments, startAct}
+use Rattle.turns.specs.inner.Actions.{firstThen, bothArguments, startAct}
 use Rattle.turns.proofs.SeenLaws.{Turns, Turning, refused-so, act-on, act-on-as, in-thread}
 use Rattle.turns.proofs.AfterLaws.{after-turns}
 
@@ -59,15 +60,15 @@ module _ (who : Who) (q : Request) (counts : Counts) (vs : List ℕ) where
   both-turns y r =
       first-turns (r .outcome) (r .used) (r .words) who counts vs _ _
       (λ x.
-      act-on-as (last-turns (valueWord x) (evaluatedBy who vs y (r .used) (r .words)))
+      act-on-as (last-turns (valueWord x) (evaluatedBy who y vs (r .used) (r .words)))
       (λ th e. ap (lastArgument q th (valueWord x)) (in-thread who th vs e (r .used) (r .words) y)))
 
   pub starts-turns : (n : ℕ) (ws : List ℕ) (xs : List Expr)
-      → Turning (startAct who q vs n ws xs) who counts vs (λ th. startTurn who q th n ws xs)
+      → Turning (startAct who q xs vs n ws) who counts vs (λ th. startTurn who q th n ws xs)
   starts-turns n ws [] = act-on (with-arguments n (argumentsOf 0 0 0)) (λ th e. refl)
   starts-turns n ws (x ∷ []) =
-      act-on-as (one-turns (evaluatedBy who vs x n ws))
+      act-on-as (one-turns (evaluatedBy who x vs n ws))
       (λ th e. ap (oneArgument q th) (in-thread who th vs e n ws x))
   starts-turns n ws (x ∷ y ∷ ys) =
-      act-on-as (both-turns y (evaluatedBy who vs x n ws))
+      act-on-as (both-turns y (evaluatedBy who x vs n ws))
       (λ th e. ap (twoArguments who q th y) (in-thread who th vs e n ws x))

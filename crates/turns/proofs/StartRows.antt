@@ -6,7 +6,6 @@ use Prim.Native.Nat.{ℕ, zero, suc}
 use native.Mathlib.Omega.{arith}
 use Rattle.text.specs.Frames.{framesOf}
 use Rattle.program.specs.Trees.{Expr, arguments, expressionAt}
-use Rattle.machine.specs.Evaluation.{eval}
 use Rattle.machine.specs.Values.{answerOf}
 use Rattle.machine.specs.Words.{valueWord}
 use Rattle.machine.specs.declared.value.Value.{Value}
@@ -15,20 +14,20 @@ use Rattle.machine.specs.declared.value.Outcome.the-variants.{Is, Foreign, Spen
 use Rattle.operations.specs.declared.Who.{Who}
 use Rattle.operations.specs.inner.Lent.{Lent, lentVariables, lentRest}
 use Rattle.operations.specs.inner.Results.{Result, result}
-use Rattle.evaluator.specs.inner.Results.{hereOf, onWords, CellWords, ValueWords}
+use Rattle.evaluator.specs.inner.Results.{evaluatedBy, CellWords, ValueWords}
 use Rattle.evaluator.proofs.Agreement.{eval-leaves}
 use Rattle.evaluator.proofs.InPlace.{variables-kept}
 use Rattle.acts.specs.declared.act.Action.{Action}
 use Rattle.acts.specs.inner.Transitions.{argumentsOf, refusedWith}
 use Rattle.turns.specs.declared.start.Request.{Request}
 use Rattle.turns.specs.inner.Actions.{ActResult, actResult, afterValue, startWith, startOne, startTwo}
-use Rattle.turns.specs.inner.Actions.{actAfter, evaluatedBy, firstThen, bothArguments, startAct}
+use Rattle.turns.specs.inner.Actions.{actAfter, firstThen, bothArguments, startAct}
 use Rattle.operations.proofs.Told.{IsRefusal, no-refusal}
 
 -- after an evaluation the cells may be lent again
 pub cells-after : (fw vs : List ℕ) (who : Who) (i n : ℕ) (ws : List ℕ)
     (x : Outcome) (m : ℕ) (us : List ℕ)
-    → result x m us ≡ onWords (eval (hereOf who vs) (expressionAt (framesOf fw) i)) n ws
+    → result x m us ≡ evaluatedBy who (expressionAt (framesOf fw) i) vs n ws
     → ValueWords vs → CellWords n ws → CellWords m us
 cells-after fw vs who i n ws x m us e h g = eval-leaves fw vs who i n ws (result x m us) h g e
 
@@ -39,10 +38,10 @@ module _
   values-again h = subst ValueWords (sym (variables-kept who w v e l)) h
 
   pub variables-again : (x : Expr) (n : ℕ) (ws : List ℕ) (y : Result)
-      → y ≡ evaluatedBy who (lentVariables who v) x n ws
-      → y ≡ evaluatedBy who (lentVariables who w) x n ws
+      → y ≡ evaluatedBy who x (lentVariables who v) n ws
+      → y ≡ evaluatedBy who x (lentVariables who w) n ws
   variables-again x n ws y h =
-      h ∙ ap (λ (vs : List ℕ). evaluatedBy who vs x n ws) (variables-kept who w v e l)
+      h ∙ ap (λ (vs : List ℕ). evaluatedBy who x vs n ws) (variables-kept who w v e l)
 
 -- ---- the frames a and b as arguments, where 0 is none
 module _ (expr : ℕ → Expr) where
@@ -63,33 +62,33 @@ module _
     (expr : ℕ → Expr) (who : Who) (q : Request) (vs : List ℕ) (n : ℕ) (ws : List ℕ) (a b : ℕ)
     (r : Action) where
   abbrev Starts : ℕ → List ℕ → Type 0
-  Starts m us = actResult r m us ≡ startAct who q vs n ws (arguments expr a b)
+  Starts m us = actResult r m us ≡ startAct who q (arguments expr a b) vs n ws
 
   pub starts-none : a ≡ 0 → r ≡ startWith q (argumentsOf 0 0 0) → Starts n ws
   starts-none h e =
       ap (λ (z : Action). actResult z n ws) e
-      ∙ ap (λ (m : ℕ). startAct who q vs n ws (arguments expr m b)) (sym h)
+      ∙ ap (λ (m : ℕ). startAct who q (arguments expr m b) vs n ws) (sym h)
 
   module _
       (x : Outcome) (m : ℕ) (us : List ℕ) (h : a ≡ 0 → ⊥)
-      (e : result x m us ≡ evaluatedBy who vs (expr a) n ws) where
+      (e : result x m us ≡ evaluatedBy who (expr a) vs n ws) where
     pub starts-one : b ≡ 0 → r ≡ afterValue x (startOne q) → Starts m us
     starts-one k z =
         ap (λ (y : Action). actResult y m us) z ∙ ap (λ (y : Result). actAfter y (startOne q)) e
-        ∙ ap (startAct who q vs n ws) (sym (arguments-one expr a b h k))
+        ∙ ap (λ (xs : List Expr). startAct who q xs vs n ws) (sym (arguments-one expr a b h k))
 
     both : (b ≡ 0 → ⊥)
         → bothArguments who q vs (expr b) (result x m us)
-        ≡ startAct who q vs n ws (arguments expr a b)
+        ≡ startAct who q (arguments expr a b) vs n ws
     both k =
         ap (bothArguments who q vs (expr b)) e
-        ∙ ap (startAct who q vs n ws) (sym (arguments-two expr a b h k))
+        ∙ ap (λ (xs : List Expr). startAct who q xs vs n ws) (sym (arguments-two expr a b h k))
 
     pub starts-refused : (b ≡ 0 → ⊥) → IsRefusal x → r ≡ refusedWith (answerOf x) → Starts m us
     starts-refused k l z = ap (λ (y : Action). actResult y m us) z ∙ by x l ∙ both k
       where
         rest : Value → ActResult
-        rest w = actAfter (evaluatedBy who vs (expr b) m us) (startTwo q (valueWord w))
+        rest w = actAfter (evaluatedBy who (expr b) vs m us) (startTwo q (valueWord w))
 
         by : (o : Outcome) → IsRefusal o
             → actResult (refusedWith (answerOf o)) m us ≡ firstThen o m us rest
@@ -99,7 +98,7 @@ module _
         by Stuck l = refl
 
     pub starts-two : (w : Value) (first : ℕ) (y : Outcome) (p : ℕ) (ys : List ℕ)
-        → (b ≡ 0 → ⊥) → x ≡ Is w → result y p ys ≡ evaluatedBy who vs (expr b) m us
+        → (b ≡ 0 → ⊥) → x ≡ Is w → result y p ys ≡ evaluatedBy who (expr b) vs m us
         → first ≡ valueWord w → r ≡ afterValue y (startTwo q first) → Starts p ys
     starts-two w first y p ys k o g l z =
         ap (λ (c : Action). actResult c p ys) z
@@ -109,4 +108,4 @@ module _
         ∙ both k
       where
         rest : Value → ActResult
-        rest u = actAfter (evaluatedBy who vs (expr b) m us) (startTwo q (valueWord u))
+        rest u = actAfter (evaluatedBy who (expr b) vs m us) (startTwo q (valueWord u))

@@ -24,6 +24,7 @@ use Rattle.program.proofs.Roots.{statement-root}
 use Rattle.machine.specs.declared.value.Outcome.{Outcome}
 use Rattle.operations.specs.declared.Who.{Who}
 use Rattle.operations.specs.inner.Results.{Result, result}
+use Rattle.evaluator.specs.inner.Results.{evaluatedBy, storedBy}
 use Rattle.acts.specs.declared.act.Transition.the-variants.{Stays}
 use Rattle.acts.specs.declared.act.Change.the-variants.{Same}
 use Rattle.acts.specs.declared.act.Action.{Action}
@@ -32,8 +33,7 @@ use Rattle.turns.specs.declared.counts.Counts.{Counts}
 use Rattle.turns.specs.inner.Acts.{request, TurnWords}
 use Rattle.turns.specs.inner.Actions.{ActResult, actResult, placeAt, twoMore, doThere, cooperation}
 use Rattle.turns.specs.inner.Actions.{afterValue, letAfter, storeAfter, chooseAfter}
-use Rattle.turns.specs.inner.Actions.{loopAfter, actAfter, evaluatedBy, storedBy, startAct}
-use Rattle.turns.specs.inner.Actions.{statementAct}
+use Rattle.turns.specs.inner.Actions.{loopAfter, actAfter, startAct, statementAct}
 
 -- ---- the act that a node says
 module _
@@ -45,17 +45,17 @@ module _
   stmt = statementAt (framesOf fw)
 
   abbrev value : ℕ → Result
-  value a = evaluatedBy who vs (expr a) n ws
+  value a = evaluatedBy who (expr a) vs n ws
 
   abbrev actBy : StatementNode → ActResult
   actBy Y.Nothing = actResult (action Stays Same) n ws
   actBy Y.Cooperate = actResult (cooperation (who .place)) n ws
   actBy (Y.Seq a b) = actResult (twoMore counts a b) n ws
   actBy (Y.DoAt q a) = actResult (doThere (who .place) counts q a) n ws
-  actBy (Y.Start m a b) = startAct who (request false m) vs n ws (arguments expr a b)
-  actBy (Y.StartWait m a b) = startAct who (request true m) vs n ws (arguments expr a b)
+  actBy (Y.Start m a b) = startAct who (request false m) (arguments expr a b) vs n ws
+  actBy (Y.StartWait m a b) = startAct who (request true m) (arguments expr a b) vs n ws
   actBy (Y.LetIn a b) = actAfter (value a) (letAfter counts b)
-  actBy (Y.Store a b) = actAfter (storedBy who vs (expr a) (expr b) n ws) storeAfter
+  actBy (Y.Store a b) = actAfter (storedBy who (expr a) (expr b) vs n ws) storeAfter
   actBy (Y.IfElse a b c) = actAfter (value a) (chooseAfter counts b c)
   actBy (Y.While a b) = actAfter (value a) (loopAfter counts b i)
 
@@ -63,7 +63,7 @@ module _
   root = statement-root (framesOf fw)
 
   by-statement : (f : Frame) (k : StatementKind)
-      → statementAct who counts vs n ws (statementOf expr stmt i f (Statement k))
+      → statementAct who counts (statementOf expr stmt i f (Statement k)) vs n ws
       ≡ actBy (statementNodeOf k (f .s) (f .a) (f .b) (f .c))
   by-statement f S.Nothing = refl
   by-statement f S.Then =
@@ -82,7 +82,7 @@ module _
       ap (λ (x : ℕ). actAfter (value (f .a)) (loopAfter counts x i)) (root (f .b))
 
   by-kind : (f : Frame) (k : Kind)
-      → statementAct who counts vs n ws (statementOf expr stmt i f k) ≡ actBy (statementNodeIn k f)
+      → statementAct who counts (statementOf expr stmt i f k) vs n ws ≡ actBy (statementNodeIn k f)
   by-kind f Header = refl
   by-kind f (Declared d) = refl
   by-kind f Module = refl
@@ -94,15 +94,16 @@ module _
   -- whose words are us
   module _
       (f : Frame) (d : StatementNode) (k : d ≡ statementNode f)
-      (e : f ≡ frameOfWord (getD fw i 0)) (g : TurnWords fw who counts vs n ws) (l : i < length fw)
-      (r : Action) where
+      (e : f ≡ frameOfWord (getD fw i 0)) (w : List ℕ) (g : TurnWords fw who counts w)
+      (l : i < length fw) (r : Action) where
     abbrev Acts : ℕ → List ℕ → Type 0
-    Acts m us = actResult r m us ≡ statementAct who counts vs n ws (statementAt (framesOf fw) i)
+    Acts m us = actResult r m us ≡ statementAct who counts (statementAt (framesOf fw) i) vs n ws
 
     at : (y : StatementNode) (m : ℕ) (us : List ℕ) → d ≡ y → actResult r m us ≡ actBy y → Acts m us
     at y m us h z =
         z
-        ∙ sym (ap (statementAct who counts vs n ws) (statement-at (framesOf fw) (g .ordered) i)
+        ∙ sym (ap (λ (s : Stmt). statementAct who counts s vs n ws)
+        (statement-at (framesOf fw) (g .ordered) i)
         ∙ by-kind (frameAt (framesOf fw) i) (frameAt (framesOf fw) i .kind)
         ∙ ap (λ (x : Frame). actBy (statementNode x)) (frame-at fw i noFrame l ∙ sym e)
         ∙ ap actBy (sym k ∙ h))
@@ -124,11 +125,11 @@ module _
     acts-do q a h z = at (Y.DoAt q a) n ws h (act-is n ws z)
 
     pub acts-start : (s a b m : ℕ) (us : List ℕ) → d ≡ Y.Start s a b
-        → actResult r m us ≡ startAct who (request false s) vs n ws (arguments expr a b) → Acts m us
+        → actResult r m us ≡ startAct who (request false s) (arguments expr a b) vs n ws → Acts m us
     acts-start s a b m us h z = at (Y.Start s a b) m us h z
 
     pub acts-wait : (s a b m : ℕ) (us : List ℕ) → d ≡ Y.StartWait s a b
-        → actResult r m us ≡ startAct who (request true s) vs n ws (arguments expr a b) → Acts m us
+        → actResult r m us ≡ startAct who (request true s) (arguments expr a b) vs n ws → Acts m us
     acts-wait s a b m us h z = at (Y.StartWait s a b) m us h z
 
     -- after an evaluation, whose outcome is x and which leaves so many cells and these words
@@ -140,7 +141,7 @@ module _
           (act-is m us z ∙ ap (λ (y : Result). actAfter y (letAfter counts b)) q)
 
       pub acts-store : (a b : ℕ) → d ≡ Y.Store a b
-          → result x m us ≡ storedBy who vs (expr a) (expr b) n ws
+          → result x m us ≡ storedBy who (expr a) (expr b) vs n ws
           → r ≡ afterValue x storeAfter → Acts m us
       acts-store a b h q z =
           at (Y.Store a b) m us h (act-is m us z ∙ ap (λ (y : Result). actAfter y storeAfter) q)

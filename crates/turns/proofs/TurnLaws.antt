@@ -13,6 +13,7 @@ use Rattle.machine.specs.Words.{valueWord}
 use Rattle.machine.specs.declared.value.Value.{Value}
 use Rattle.operations.specs.declared.Who.{Who}
 use Rattle.operations.specs.inner.Results.{Result}
+use Rattle.evaluator.specs.inner.Results.{evaluatedBy, storedBy}
 use Rattle.states.specs.declared.thread.ThreadWords.{ThreadWords}
 use Rattle.states.specs.inner.Stacks.{popItem}
 use Rattle.acts.specs.declared.act.Transition.the-variants.{Stays, Leaves}
@@ -24,7 +25,7 @@ use Rattle.turns.specs.inner.Acts.{turnOutcome, oneIn, twoIn, letsIn, th
 use Rattle.turns.specs.inner.Acts.{variablesIn, letsOn, storesOn, choosesOn, loopsOn, request}
 use Rattle.turns.specs.inner.Acts.{statementIn, itemIn, turnIn, Seen, WholeTurn}
 use Rattle.turns.specs.inner.Actions.{ActResult, actResult, placeAt, letAfter, storeAfter}
-use Rattle.turns.specs.inner.Actions.{chooseAfter, loopAfter, actAfter, evaluatedBy, storedBy}
+use Rattle.turns.specs.inner.Actions.{chooseAfter, loopAfter, actAfter}
 use Rattle.turns.specs.inner.Actions.{statementAct, itemAct, below, turnAct}
 use Rattle.turns.proofs.SeenLaws.{Turns, Turning, stays-so, act-on, act-on-as, in-thread}
 use Rattle.turns.proofs.SeenLaws.{stored-in}
@@ -77,7 +78,7 @@ module _ (who : Who) (counts : Counts) (vs : List ℕ) where
 
 module _ (who : Who) (counts : Counts) (vs : List ℕ) (n : ℕ) (ws : List ℕ) where
   statement-turns : (s : Stmt)
-      → Turning (statementAct who counts vs n ws s) who counts vs (λ th. statementIn who th n ws s)
+      → Turning (statementAct who counts s vs n ws) who counts vs (λ th. statementIn who th n ws s)
   statement-turns (nothing i) = act-on (stays-so who counts n) (λ th e. refl)
   statement-turns (seq i a b) = act-on (two-turns who counts n (rootS a) (rootS b)) (λ th e. refl)
   statement-turns (doAt i q a) =
@@ -86,16 +87,16 @@ module _ (who : Who) (counts : Counts) (vs : List ℕ) (n : ℕ) (ws : List ℕ)
   statement-turns (startWait i m xs) = starts-turns who (request true m) counts vs n ws xs
   statement-turns (cooperate i) = act-on (cooperates-turns who counts n) (λ th e. refl)
   statement-turns (letIn i x a) =
-      act-on-as (let-turns who counts vs (rootS a) (evaluatedBy who vs x n ws))
+      act-on-as (let-turns who counts vs (rootS a) (evaluatedBy who x vs n ws))
       (λ th e. ap (letsOn th (rootS a)) (in-thread who th vs e n ws x))
   statement-turns (store i x y) =
-      act-on-as (store-turns who counts vs (storedBy who vs x y n ws))
+      act-on-as (store-turns who counts vs (storedBy who x y vs n ws))
       (λ th e. ap (storesOn th) (stored-in who th vs e n ws x y))
   statement-turns (ifElse i x a b) =
-      act-on-as (choose-turns who counts vs (rootS a) (rootS b) (evaluatedBy who vs x n ws))
+      act-on-as (choose-turns who counts vs (rootS a) (rootS b) (evaluatedBy who x vs n ws))
       (λ th e. ap (choosesOn th (rootS a) (rootS b)) (in-thread who th vs e n ws x))
   statement-turns (while i x a) =
-      act-on-as (loop-turns who counts vs (rootS a) i (evaluatedBy who vs x n ws))
+      act-on-as (loop-turns who counts vs (rootS a) i (evaluatedBy who x vs n ws))
       (λ th e. ap (loopsOn th (rootS a) i) (in-thread who th vs e n ws x))
 
   -- ---- the top item

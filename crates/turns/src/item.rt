@@ -18,21 +18,18 @@ ghost use lib.ListN.{length};
 ghost use Rattle.language.specs.Places.{isPlace};
 ghost use Rattle.machine.specs.Offsets.{backFrom, dropWord};
 ghost use Rattle.text.specs.Frames.{framesOf};
-ghost use Rattle.operations.specs.inner.Lent.{Lent, lentVariables, lentCount, lentCells, lentRest};
+ghost use Rattle.operations.specs.inner.Lent.{lentRest, onLent};
 ghost use Rattle.turns.specs.inner.Acts.{TurnWords};
 ghost use Rattle.turns.specs.inner.Actions.{itemAct, turnAct, actIn};
 
 // The item that is off its continuation: the counts are without it.
 fn act_item(frames: &[u64], who: Who, counts: Counts, state: &mut [u64], item: u64) -> Action
-    requires { ⌜ TurnWords (now frames) who counts (lentVariables who (now state))
-        (lentCount (now state)) (lentCells (now state))
-        × Lent who (now state)
+    requires { ⌜ TurnWords (now frames) who counts (now state)
         × (item < backFrom → item < length (now frames))
         × (backFrom ≤ item → item < dropWord → isPlace (item - backFrom) ≡ true) ⌝ }
     ensures found { λ r. ⌜ actIn r (now (state .exit))
-        ≡ itemAct (framesOf (now (frames .entry))) who counts item
-        (lentVariables who (now (state .entry)))
-        (lentCount (now (state .entry))) (lentCells (now (state .entry))) ⌝ }
+        ≡ onLent (itemAct (framesOf (now (frames .entry))) who counts item) who
+        (now (state .entry)) ⌝ }
     ensures rest { λ _. ⌜ lentRest (now (state .exit)) ≡ lentRest (now (state .entry)) ⌝ }
 {
     if item < BACK_FROM {
@@ -48,15 +45,12 @@ fn act_item(frames: &[u64], who: Who, counts: Counts, state: &mut [u64], item: u
 // since the variables are read where they lie beside the cells, which with their count alone are
 // written.
 pub fn act(frames: &[u64], who: Who, counts: Counts, item: u64, state: &mut [u64]) -> Action
-    requires { ⌜ TurnWords (now frames) who counts (lentVariables who (now state))
-        (lentCount (now state)) (lentCells (now state))
-        × Lent who (now state)
+    requires { ⌜ TurnWords (now frames) who counts (now state)
         × (item < backFrom → item < length (now frames))
         × (backFrom ≤ item → item < dropWord → isPlace (item - backFrom) ≡ true) ⌝ }
     ensures found { λ r. ⌜ actIn r (now (state .exit))
-        ≡ turnAct (framesOf (now (frames .entry))) who counts item
-        (lentVariables who (now (state .entry)))
-        (lentCount (now (state .entry))) (lentCells (now (state .entry))) ⌝ }
+        ≡ onLent (turnAct (framesOf (now (frames .entry))) who counts item) who
+        (now (state .entry)) ⌝ }
     ensures rest { λ _. ⌜ lentRest (now (state .exit)) ≡ lentRest (now (state .entry)) ⌝ }
 {
     if counts.items == 0 {

@@ -12,8 +12,8 @@ use operations::Who;
 ghost use mathlib.Core.Path.{_≡_};
 ghost use Rattle.text.specs.Frames.{framesOf};
 ghost use Rattle.program.specs.Trees.{arguments, expressionAt};
-ghost use Rattle.evaluator.specs.inner.Results.{CellWords, ValueWords, FrameWords};
-ghost use Rattle.operations.specs.inner.Lent.{Lent, lentVariables, lentCount, lentCells, lentRest};
+ghost use Rattle.evaluator.specs.inner.Results.{LentWords, FrameWords};
+ghost use Rattle.operations.specs.inner.Lent.{lentRest, onLent};
 ghost use Rattle.turns.specs.inner.Actions.{startWith, startOne, startTwo, startAct};
 ghost use Rattle.turns.specs.inner.Actions.{afterValue, actIn};
 
@@ -72,13 +72,11 @@ pub(crate) fn starts(
     a: u16,
     b: u16,
 ) -> Action
-    requires { ⌜ FrameWords (now frames) a × FrameWords (now frames) b × Lent who (now state)
-        × ValueWords (lentVariables who (now state))
-        × CellWords (lentCount (now state)) (lentCells (now state)) ⌝ }
+    requires { ⌜ FrameWords (now frames) a × FrameWords (now frames) b
+        × LentWords who (now state) ⌝ }
     ensures found { λ r. ⌜ actIn r (now (state .exit))
-        ≡ startAct who q (lentVariables who (now (state .entry)))
-        (lentCount (now (state .entry))) (lentCells (now (state .entry)))
-        (arguments (expressionAt (framesOf (now (frames .entry)))) a b) ⌝ }
+        ≡ onLent (startAct who q (arguments (expressionAt (framesOf (now (frames .entry)))) a b))
+        who (now (state .entry)) ⌝ }
     ensures rest { λ _. ⌜ lentRest (now (state .exit)) ≡ lentRest (now (state .entry)) ⌝ }
 {
     if a == 0 {

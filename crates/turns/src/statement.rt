@@ -24,7 +24,7 @@ ghost use Prim.Native.Nat.{_<_};
 ghost use lib.ListN.{length};
 ghost use Rattle.text.specs.Frames.{framesOf};
 ghost use Rattle.program.specs.Trees.{statementAt};
-ghost use Rattle.operations.specs.inner.Lent.{Lent, lentVariables, lentCount, lentCells, lentRest};
+ghost use Rattle.operations.specs.inner.Lent.{lentRest, onLent};
 ghost use Rattle.turns.specs.inner.Acts.{TurnWords};
 ghost use Rattle.turns.specs.inner.Actions.{statementAct, actIn};
 
@@ -36,13 +36,10 @@ pub(crate) fn act_statement(
     state: &mut [u64],
     i: usize,
 ) -> Action
-    requires { ⌜ TurnWords (now frames) who counts (lentVariables who (now state))
-        (lentCount (now state)) (lentCells (now state))
-        × Lent who (now state) × (i < length (now frames)) ⌝ }
+    requires { ⌜ TurnWords (now frames) who counts (now state) × (i < length (now frames)) ⌝ }
     ensures found { λ r. ⌜ actIn r (now (state .exit))
-        ≡ statementAct who counts (lentVariables who (now (state .entry)))
-        (lentCount (now (state .entry))) (lentCells (now (state .entry)))
-        (statementAt (framesOf (now (frames .entry))) i) ⌝ }
+        ≡ onLent (statementAct who counts (statementAt (framesOf (now (frames .entry))) i)) who
+        (now (state .entry)) ⌝ }
     ensures rest { λ _. ⌜ lentRest (now (state .exit)) ≡ lentRest (now (state .entry)) ⌝ }
 {
     match statement_node(frame_of_word(frames[i])) {

@@ -215,6 +215,10 @@ pub record SettleWords (w : List ℕ) (k : ℕ) (c : Change) : Type 0 where
   pub values : threadIn w k .values ≤ mostVariables
   pub room : HasRoom c (threadIn w k .items - 1) (threadIn w k .values)
 
+-- a thread with room for the change
+abbrev pub RoomIn : Change → ThreadWords → Type 0
+RoomIn c th = HasRoom c (th .items) (th .values)
+
 -- q has lists, and there is a number left for one more thread
 pub record StartWords (w : List ℕ) (q : Place) : Type 0 where
   pub scheduler : isScheduler (q .number) ≡ true

@@ -31,22 +31,23 @@ aNumberIn (Truth b) = Stuck
 aNumberIn (Cell c) = Stuck
 
 -- ---- the recursion
-unfoldable pub evalIn : Who → List ℕ → Expr → ℕ → List ℕ → Result
-evalIn who vs (number i m) n ws = result (Is (Number m)) n ws
-evalIn who vs (truth i m) n ws = result (Is (truthOf m)) n ws
-evalIn who vs (variable i s) n ws = result (variableIn vs s) n ws
-evalIn who vs (shared i s) n ws = result (sharedIn who s) n ws
-evalIn who vs (new i s x) n ws = andThenIn (evalIn who vs x n ws) (makeIn who s)
-evalIn who vs (content i x) n ws = andThenIn (evalIn who vs x n ws) (readingIn who)
-evalIn who vs (sum i x y) n ws =
-    andThenIn (evalIn who vs x n ws)
-    (λ v m us. andThenIn (evalIn who vs y m us) (keeping (numbersOf plus v)))
-evalIn who vs (less i x y) n ws =
-    andThenIn (evalIn who vs x n ws)
-    (λ v m us. andThenIn (evalIn who vs y m us) (keeping (numbersOf lessThan v)))
-evalIn who vs (choose i x y z) n ws =
-    andThenIn (andThenIn (evalIn who vs x n ws) (keeping aTruth))
-    (λ v m us. andThenIn (chosen v (evalIn who vs y m us) (evalIn who vs z m us)) (keeping aNumberIn))
+unfoldable pub evalIn : Who → Expr → List ℕ → ℕ → List ℕ → Result
+evalIn who (number i m) vs n ws = result (Is (Number m)) n ws
+evalIn who (truth i m) vs n ws = result (Is (truthOf m)) n ws
+evalIn who (variable i s) vs n ws = result (variableIn vs s) n ws
+evalIn who (shared i s) vs n ws = result (sharedIn who s) n ws
+evalIn who (new i s x) vs n ws = andThenIn (evalIn who x vs n ws) (makeIn who s)
+evalIn who (content i x) vs n ws = andThenIn (evalIn who x vs n ws) (readingIn who)
+evalIn who (sum i x y) vs n ws =
+    andThenIn (evalIn who x vs n ws)
+    (λ v m us. andThenIn (evalIn who y vs m us) (keeping (numbersOf plus v)))
+evalIn who (less i x y) vs n ws =
+    andThenIn (evalIn who x vs n ws)
+    (λ v m us. andThenIn (evalIn who y vs m us) (keeping (numbersOf lessThan v)))
+evalIn who (choose i x y z) vs n ws =
+    andThenIn (andThenIn (evalIn who x vs n ws) (keeping aTruth))
+    (λ v m us. andThenIn (chosen v (evalIn who y vs m us) (evalIn who z vs m us))
+    (keeping aNumberIn))
 
 -- where a number is wanted: `evalIn`, with all that is no number as one
 pub record WantedResult : Type 0 where
@@ -61,15 +62,15 @@ wantedIn p w = record { operand = p; used = lentCount w; words = lentCells w }
 abbrev pub wantedNumber : Result → WantedResult
 wantedNumber r = record { operand = operandOf (r .outcome); used = r .used; words = r .words }
 
-abbrev pub numberIn : Who → List ℕ → Expr → ℕ → List ℕ → WantedResult
-numberIn who vs x n ws = wantedNumber (evalIn who vs x n ws)
+abbrev pub numberIn : Who → Expr → List ℕ → ℕ → List ℕ → WantedResult
+numberIn who x vs n ws = wantedNumber (evalIn who x vs n ws)
 
 -- 28's condition
-abbrev pub truthIn : Who → List ℕ → Expr → ℕ → List ℕ → Result
-truthIn who vs x n ws = andThenIn (evalIn who vs x n ws) (keeping aTruth)
+abbrev pub truthIn : Who → Expr → List ℕ → ℕ → List ℕ → Result
+truthIn who x vs n ws = andThenIn (evalIn who x vs n ws) (keeping aTruth)
 
 -- 17
-abbrev pub storingIn : Who → List ℕ → Expr → Expr → ℕ → List ℕ → Result
-storingIn who vs x y n ws =
-    andThenIn (evalIn who vs x n ws)
-    (λ v m us. andThenIn (evalIn who vs y m us) (storeIn who v))
+abbrev pub storingIn : Who → Expr → Expr → List ℕ → ℕ → List ℕ → Result
+storingIn who x y vs n ws =
+    andThenIn (evalIn who x vs n ws)
+    (λ v m us. andThenIn (evalIn who y vs m us) (storeIn who v))

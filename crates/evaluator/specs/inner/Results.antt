@@ -7,14 +7,16 @@ use Prim.Native.Nat.{ℕ, _%_, _<_, _≤_}
 use lib.ListN.{length, getD}
 use Rattle.language.specs.Limits.{mostCells}
 use Rattle.text.specs.Frames.{framesOf}
+use Rattle.program.specs.Trees.{Expr}
 use Rattle.program.specs.inner.Ordered.{Ordered, Placed}
 use Rattle.machine.specs.Offsets.{ownerFactor}
 use Rattle.machine.specs.State.{Stored, usedCells}
-use Rattle.machine.specs.Evaluation.{Here, EvalResult, Evaluation}
+use Rattle.machine.specs.Evaluation.{Here, EvalResult, Evaluation, eval, storing}
 use Rattle.machine.specs.Words.{wordValue, wordCell, tabulate}
 use Rattle.machine.specs.inner.Ranges.{valueInRange}
 use Rattle.machine.specs.inner.Blocks.{cellWords}
 use Rattle.operations.specs.declared.Who.{Who}
+use Rattle.operations.specs.inner.Lent.{Lent, lentVariables, lentCount, lentCells}
 use Rattle.operations.specs.inner.Results.{Result}
 
 -- who evaluates, with the variables of those words
@@ -40,6 +42,13 @@ resultOf r =
 unfoldable pub onWords : Evaluation → ℕ → List ℕ → Result
 onWords m n ws = resultOf (m (cellsFrom n ws))
 
+-- an expression evaluated on the words of the variables and of the cells, and 17
+abbrev pub evaluatedBy : Who → Expr → List ℕ → ℕ → List ℕ → Result
+evaluatedBy who x vs n ws = onWords (eval (hereOf who vs) x) n ws
+
+abbrev pub storedBy : Who → Expr → Expr → List ℕ → ℕ → List ℕ → Result
+storedBy who x y vs n ws = onWords (storing (hereOf who vs) x y) n ws
+
 -- ---- what a caller has to show: the words of a state that is not refused with 14 are such
 
 -- the words of n cells: each content is in range, and unused words are 0
@@ -52,6 +61,12 @@ pub record CellWords (n : ℕ) (ws : List ℕ) : Type 0 where
 -- the words of values
 abbrev pub ValueWords : List ℕ → Type 0
 ValueWords vs = (k : ℕ) → k < length vs → valueInRange (getD vs k 0) ≡ true
+
+-- the words of a state, lent: of the acting thread's variables and of the cells
+pub record LentWords (who : Who) (w : List ℕ) : Type 0 where
+  pub lent : Lent who w
+  pub variables : ValueWords (lentVariables who w)
+  pub cells : CellWords (lentCount w) (lentCells w)
 
 -- children stand before their parents, and frame i is there: so the frame number falls in the
 -- recursion; and an owner is a place

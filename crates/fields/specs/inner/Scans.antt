@@ -1,19 +1,23 @@
 -- The lowest frame with the fault 4 or 5, as functions that compute, and what the code's pass
 -- holds. No reader has to believe it: layout/proofs/Layouts and proofs/FramePass tie it to the
 -- definitions. Assumes nothing: definitions.
+use mathlib.Core.Path.{_≡_}
 use mathlib.Core.Bool.{Bool, not, _&&_}
 use mathlib.Core.List.{List}
 use mathlib.Core.Option.{Option, none, some}
-use Prim.Native.Nat.{ℕ}
+use Prim.Native.Nat.{ℕ, _<_, _≤_}
+use lib.ListN.{length, take}
 use Rattle.basics.specs.If.{if_then_else_}
 use Rattle.basics.specs.inner.Searches.{lowest}
 use Rattle.language.specs.Kinds.{isShared, isModule}
+use Rattle.language.specs.Limits.{mostSchedulers}
 use Rattle.language.specs.declared.kind.Uses.{Uses}
 use Rattle.language.specs.declared.frame.Frame.{Frame}
+use Rattle.text.specs.Frames.{framesOf}
 use Rattle.program.specs.Trees.{frameAt}
 use Rattle.program.specs.Programs.{cellsOf}
 use Rattle.program.specs.inner.Shared.{paddedTypes}
-use Rattle.fields.specs.Fields.{headerFine, countOf, fieldFine, frameFine}
+use Rattle.fields.specs.Fields.{headerFine, schedulersOf, countOf, fieldFine, frameFine}
 use Rattle.fields.specs.declared.fault_search.FaultSearch.{FaultSearch}
 use Rattle.fields.specs.declared.fault_search.FaultSearch.the-variants.{At, Nowhere}
 use Rattle.fields.specs.declared.field.Tally.{Tally}
@@ -24,6 +28,10 @@ headerFault fs = if headerFine (frameAt fs 0) then none else some 0
 
 unfoldable pub fieldFault : List Frame → Option ℕ
 fieldFault fs = lowest (λ (i : ℕ) (f : Frame). not (frameFine fs i f)) 0 fs
+
+-- frame i has no fault 5
+abbrev pub fineAt : List Frame → ℕ → Bool
+fineAt fs i = frameFine fs i (frameAt fs i)
 
 -- the code's answers
 abbrev pub found : Option ℕ → FaultSearch
@@ -47,3 +55,15 @@ tallyOf fs =
       modules = countOf isModule fs;
       types = paddedTypes (cellsOf fs);
     }
+
+-- ---- what a caller has to show
+
+-- there is a header, and no more schedulers than there may be
+abbrev pub HeaderWords : List ℕ → Type 0
+HeaderWords words = (0 < length words) × (schedulersOf (framesOf words) ≤ mostSchedulers)
+
+-- frame i is there, and t is the tally of those before it
+abbrev pub TallyWords : List ℕ → ℕ → Tally → Type 0
+TallyWords words i t =
+    (i < length words) × (schedulersOf (framesOf words) ≤ mostSchedulers)
+    × (t ≡ tallyOf (take i (framesOf words)))

@@ -16,7 +16,7 @@ enum-told : tie.Need-enum-told
 enum-told c = search needs
 
 fields-requires : tie.Need-fields-requires
-fields-requires c κs = (search needs, search needs, search few-schedulers)
+fields-requires c κs = ((search needs, search few-schedulers), search needs)
 
 enum-known-j-2 : tie.Need-enum-known-j-2
 enum-known-j-2 c = search needs
@@ -34,7 +34,7 @@ enum-told-3 : tie.Need-enum-told-3
 enum-told-3 c = search needs
 
 depth-requires : tie.Need-depth-requires
-depth-requires c κs = (search needs, search needs, search found-none)
+depth-requires c κs = (search needs, search found-none)
 
 enum-known-j-4 : tie.Need-enum-known-j-4
 enum-known-j-4 c = search needs

@@ -3,7 +3,7 @@
 use mathlib.Core.Bool.{Bool, true, false, not, _&&_, _||_}
 use mathlib.Core.List.{List, [], _∷_, reverse}
 use mathlib.Core.Option.{Option, none, some}
-use Prim.Native.Nat.{ℕ, zero, suc, _-_}
+use Prim.Native.Nat.{ℕ, zero, suc, _-_, _<_, _≤_}
 use lib.Dec.{ltb, eqb}
 use lib.ListN.{length, getD, take}
 use Rattle.basics.specs.If.{if_then_else_}
@@ -13,13 +13,17 @@ use Rattle.language.specs.Kinds.{isHeader, isShared, isModule, classOf, Child, 
 use Rattle.language.specs.declared.kind.Class.{Class}
 use Rattle.language.specs.declared.frame.Frame.{Frame}
 use Rattle.language.specs.Refusals.{wrongHeader, wrongField, wrongOrder, tooDeep}
-use Rattle.language.specs.Limits.{mostDepth}
+use Rattle.language.specs.Limits.{mostLines, mostDepth}
 use Rattle.program.specs.Trees.{frameAt}
 use Rattle.program.specs.inner.Children.{sameClass}
 use Rattle.fields.specs.inner.Scans.{headerFault, fieldFault}
 use Rattle.layout.specs.declared.LayoutVerdict.{LayoutVerdict}
 use Rattle.layout.specs.declared.LayoutVerdict.the-variants.{LaidOut, Rejected}
 use Rattle.layout.specs.Order.{hasChild, hasClass, isMain}
+
+-- what a caller has to show: there is a line, and no more than a file may have
+abbrev pub LineWords : List ℕ → Type 0
+LineWords words = (0 < length words) × (length words ≤ mostLines)
 
 -- ---- 6, 'order, a child of the wrong class': one pass, which stops at the first frame without a
 -- tree

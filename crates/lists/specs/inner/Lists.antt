@@ -2,16 +2,17 @@
 -- believe it: on words that say a state each is what the rules do to the state
 -- (proofs/SchedulerSays, proofs/Instants). Scheduler k counts from 0. Assumes nothing:
 -- definitions.
+use mathlib.Core.Path.{_≡_}
 use mathlib.Core.List.{List, [], _∷_, _++_}
 use mathlib.Core.Bool.{Bool, true, not, _&&_, _||_}
-use Prim.Native.Nat.{ℕ, suc, _+_, _-_, _*_, _/_, _%_}
+use Prim.Native.Nat.{ℕ, suc, _+_, _-_, _*_, _/_, _%_, _≤_}
 use lib.Dec.{ltb, eqb}
 use lib.ListN.{length, getD, set, drop}
 use Rattle.basics.specs.If.{if_then_else_}
 use Rattle.language.specs.Limits.{mostThreads}
-use Rattle.machine.specs.Offsets.{threadCountAt, schedulersAt, schedulerLength, listLength}
-use Rattle.machine.specs.Offsets.{nextListAt, threadsAt, threadLength, starterField, livesField}
-use Rattle.machine.specs.Offsets.{waitingFactor}
+use Rattle.machine.specs.Offsets.{stateLength, threadCountAt, schedulersAt, schedulerLength}
+use Rattle.machine.specs.Offsets.{listLength, nextListAt, threadsAt, threadLength, starterField}
+use Rattle.machine.specs.Offsets.{livesField, waitingFactor}
 use Rattle.machine.specs.Waits.{keepIf}
 use Rattle.machine.specs.Words.{wordsAt}
 use Rattle.machine.specs.inner.Blocks.{part, pasted, padded}
@@ -81,3 +82,9 @@ withInstantEnded w k =
     let es = wordsAt w (nextListAt + schedulerLength * k) in
     set (set (partitionedIn w at) at (length (readyWords w es)))
     (nextListAt + schedulerLength * k) (length (waitingWords w es))
+
+-- what a caller has to show: a state's words, with no more threads than there may be, and the list
+-- at that place within its space
+abbrev pub ListWords : List ℕ → ℕ → Type 0
+ListWords w at =
+    (length w ≡ stateLength) × (getD w threadCountAt 0 ≤ mostThreads) × (getD w at 0 ≤ mostThreads)

@@ -30,6 +30,10 @@ lentCount w = getD w cellCountAt 0
 unfoldable pub lentCells : List ℕ → List ℕ
 lentCells w = drop cellsAt w
 
+-- f of what is lent of a state: the thread's variables, the count of cells, the cells
+abbrev pub onLent : {A : Type 0} → (List ℕ → ℕ → List ℕ → A) → Who → List ℕ → A
+onLent f who w = f (lentVariables who w) (lentCount w) (lentCells w)
+
 -- all that an evaluation does not write
 unfoldable pub lentRest : List ℕ → List ℕ
 lentRest w = set (take cellsAt w) cellCountAt 0

@@ -1,7 +1,7 @@
 -- What the code does to a thread's struct: one item or one variable more or less, another place,
 -- the end. No reader has to believe it: each is what the rules do to the thread (proofs/StackLaws;
 -- place and end in crate stepper). Assumes nothing: definitions.
-use Prim.Native.Nat.{ℕ, _+_, _-_}
+use Prim.Native.Nat.{ℕ, _+_, _-_, _<_, _≤_}
 use lib.ListN.{set}
 use Rattle.states.specs.declared.thread.ThreadWords.{ThreadWords}
 
@@ -76,3 +76,7 @@ ended x =
       values = x .values;
       variables = x .variables;
     }
+
+-- what a caller has to show before one is taken off: there is one, and all are within their space
+abbrev pub SomeWithin : ℕ → ℕ → Type 0
+SomeWithin space n = (0 < n) × (n ≤ space)

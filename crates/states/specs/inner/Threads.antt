@@ -1,15 +1,16 @@
 -- A thread's words as the code's struct, read, written and added. No reader has to believe it: on
 -- words that say a state it is the state's thread (proofs/ThreadSays). Assumes nothing:
 -- definitions.
+use mathlib.Core.Path.{_≡_}
 use mathlib.Core.List.{List, _∷_, _++_, map, reverse}
 use mathlib.Core.Bool.{not}
-use Prim.Native.Nat.{ℕ, _+_, _*_}
+use Prim.Native.Nat.{ℕ, _+_, _*_, _<_}
 use lib.Dec.{ltb}
 use lib.ListN.{getD, length, set}
 use Rattle.basics.specs.If.{if_then_else_}
 use Rattle.language.specs.Limits.{mostVariables, mostThreads, mostItems}
-use Rattle.machine.specs.Offsets.{threadCountAt, threadsAt, threadLength, starterField, livesField}
-use Rattle.machine.specs.Offsets.{itemsField, variablesField}
+use Rattle.machine.specs.Offsets.{stateLength, threadCountAt, threadsAt, threadLength, starterField}
+use Rattle.machine.specs.Offsets.{livesField, itemsField, variablesField}
 use Rattle.machine.specs.State.{Thread}
 use Rattle.machine.specs.Words.{bit, itemWord, valueWord}
 use Rattle.machine.specs.inner.Blocks.{part, pasted, padded}
@@ -60,3 +61,7 @@ withOneMore w x =
     then set (pasted w (threadsAt + threadLength * getD w threadCountAt 0) (blockOf x) threadLength)
     threadCountAt (getD w threadCountAt 0 + 1)
     else w
+
+-- what a caller has to show: a state's words, and a thread that there can be
+abbrev pub ThreadSpace : List ℕ → ℕ → Type 0
+ThreadSpace w k = (length w ≡ stateLength) × (k < mostThreads)

@@ -14,7 +14,6 @@ use Rattle.language.specs.Refusals.{stuck}
 use Rattle.program.specs.Trees.{Expr, Stmt, nothing, seq, doAt, start, startWait, cooperate, letIn}
 use Rattle.program.specs.Trees.{store, ifElse, while, rootS, statementAt}
 use Rattle.machine.specs.Offsets.{backFrom, dropWord}
-use Rattle.machine.specs.Evaluation.{eval, storing}
 use Rattle.machine.specs.Values.{answerOf}
 use Rattle.machine.specs.Words.{valueWord}
 use Rattle.machine.specs.declared.value.Value.{Value}
@@ -24,7 +23,7 @@ use Rattle.machine.specs.declared.value.Outcome.the-variants.{Is, Foreign, Spen
 use Rattle.operations.specs.declared.Who.{Who}
 use Rattle.operations.specs.inner.Lent.{lentCount, lentCells}
 use Rattle.operations.specs.inner.Results.{Result}
-use Rattle.evaluator.specs.inner.Results.{hereOf, onWords}
+use Rattle.evaluator.specs.inner.Results.{evaluatedBy, storedBy}
 use Rattle.acts.specs.declared.act.Arguments.{Arguments}
 use Rattle.acts.specs.declared.act.Transition.the-variants.{Stays, Leaves, Joins, Starts}
 use Rattle.acts.specs.declared.act.Change.{Change}
@@ -147,12 +146,6 @@ actIn a w = actResult a (lentCount w) (lentCells w)
 abbrev pub actAfter : Result → (Value → Action) → ActResult
 actAfter r k = actResult (afterValue (r .outcome) k) (r .used) (r .words)
 
-abbrev pub evaluatedBy : Who → List ℕ → Expr → ℕ → List ℕ → Result
-evaluatedBy who vs x n ws = onWords (eval (hereOf who vs) x) n ws
-
-abbrev pub storedBy : Who → List ℕ → Expr → Expr → ℕ → List ℕ → Result
-storedBy who vs x y n ws = onWords (storing (hereOf who vs) x y) n ws
-
 -- after the first of two arguments
 abbrev pub firstThen : Outcome → ℕ → List ℕ → (Value → ActResult) → ActResult
 firstThen (Is x) n ws k = k x
@@ -163,35 +156,35 @@ firstThen Stuck n ws k = actResult (refusedWith (answerOf Stuck)) n ws
 abbrev pub bothArguments : Who → Request → List ℕ → Expr → Result → ActResult
 bothArguments who q vs y r =
     firstThen (r .outcome) (r .used) (r .words)
-    (λ x. actAfter (evaluatedBy who vs y (r .used) (r .words)) (startTwo q (valueWord x)))
+    (λ x. actAfter (evaluatedBy who y vs (r .used) (r .words)) (startTwo q (valueWord x)))
 
-abbrev pub startAct : Who → Request → List ℕ → ℕ → List ℕ → List Expr → ActResult
-startAct who q vs n ws [] = actResult (startWith q (argumentsOf 0 0 0)) n ws
-startAct who q vs n ws (x ∷ []) = actAfter (evaluatedBy who vs x n ws) (startOne q)
-startAct who q vs n ws (x ∷ y ∷ ys) = bothArguments who q vs y (evaluatedBy who vs x n ws)
+abbrev pub startAct : Who → Request → List Expr → List ℕ → ℕ → List ℕ → ActResult
+startAct who q [] vs n ws = actResult (startWith q (argumentsOf 0 0 0)) n ws
+startAct who q (x ∷ []) vs n ws = actAfter (evaluatedBy who x vs n ws) (startOne q)
+startAct who q (x ∷ y ∷ ys) vs n ws = bothArguments who q vs y (evaluatedBy who x vs n ws)
 
 -- ---- the whole turn, from the top item on
 
-abbrev pub statementAct : Who → Counts → List ℕ → ℕ → List ℕ → Stmt → ActResult
-statementAct who counts vs n ws (nothing i) = actResult (action Stays Same) n ws
-statementAct who counts vs n ws (seq i a b) = actResult (twoMore counts (rootS a) (rootS b)) n ws
-statementAct who counts vs n ws (doAt i q a) =
+abbrev pub statementAct : Who → Counts → Stmt → List ℕ → ℕ → List ℕ → ActResult
+statementAct who counts (nothing i) vs n ws = actResult (action Stays Same) n ws
+statementAct who counts (seq i a b) vs n ws = actResult (twoMore counts (rootS a) (rootS b)) n ws
+statementAct who counts (doAt i q a) vs n ws =
     actResult (doThere (who .place) counts (placeAt q) (rootS a)) n ws
-statementAct who counts vs n ws (start i m xs) = startAct who (request false m) vs n ws xs
-statementAct who counts vs n ws (startWait i m xs) = startAct who (request true m) vs n ws xs
-statementAct who counts vs n ws (cooperate i) = actResult (cooperation (who .place)) n ws
-statementAct who counts vs n ws (letIn i x a) =
-    actAfter (evaluatedBy who vs x n ws) (letAfter counts (rootS a))
-statementAct who counts vs n ws (store i x y) = actAfter (storedBy who vs x y n ws) storeAfter
-statementAct who counts vs n ws (ifElse i x a b) =
-    actAfter (evaluatedBy who vs x n ws) (chooseAfter counts (rootS a) (rootS b))
-statementAct who counts vs n ws (while i x a) =
-    actAfter (evaluatedBy who vs x n ws) (loopAfter counts (rootS a) i)
+statementAct who counts (start i m xs) vs n ws = startAct who (request false m) xs vs n ws
+statementAct who counts (startWait i m xs) vs n ws = startAct who (request true m) xs vs n ws
+statementAct who counts (cooperate i) vs n ws = actResult (cooperation (who .place)) n ws
+statementAct who counts (letIn i x a) vs n ws =
+    actAfter (evaluatedBy who x vs n ws) (letAfter counts (rootS a))
+statementAct who counts (store i x y) vs n ws = actAfter (storedBy who x y vs n ws) storeAfter
+statementAct who counts (ifElse i x a b) vs n ws =
+    actAfter (evaluatedBy who x vs n ws) (chooseAfter counts (rootS a) (rootS b))
+statementAct who counts (while i x a) vs n ws =
+    actAfter (evaluatedBy who x vs n ws) (loopAfter counts (rootS a) i)
 
 -- the item that the word is; the counts are without it
 unfoldable pub itemAct : List Frame → Who → Counts → ℕ → List ℕ → ℕ → List ℕ → ActResult
 itemAct fs who counts item vs n ws =
-    if ltb item backFrom then statementAct who counts vs n ws (statementAt fs item) else
+    if ltb item backFrom then statementAct who counts (statementAt fs item) vs n ws else
     if ltb item dropWord then actResult (goBack (who .place) (placeAt (item - backFrom))) n ws else
     actResult (dropOne counts) n ws
 

@@ -16,15 +16,15 @@ use Rattle.program.specs.Trees.{Expr, Stmt, nothing, seq, doAt, start, startWai
 use Rattle.program.specs.Trees.{store, ifElse, while, rootS, statementAt}
 use Rattle.program.specs.inner.Ordered.{Ordered, Placed}
 use Rattle.machine.specs.Offsets.{backFrom, dropWord}
-use Rattle.machine.specs.Evaluation.{eval, storing}
 use Rattle.machine.specs.Words.{valueWord}
 use Rattle.machine.specs.declared.value.Value.{Value}
 use Rattle.machine.specs.declared.value.Value.the-variants.{Number, Truth, Cell}
 use Rattle.machine.specs.declared.value.Outcome.{Outcome}
 use Rattle.machine.specs.declared.value.Outcome.the-variants.{Is, Foreign, Spent, Stuck}
 use Rattle.operations.specs.declared.Who.{Who}
+use Rattle.operations.specs.inner.Lent.{lentVariables}
 use Rattle.operations.specs.inner.Results.{Result}
-use Rattle.evaluator.specs.inner.Results.{hereOf, onWords, CellWords, ValueWords}
+use Rattle.evaluator.specs.inner.Results.{evaluatedBy, storedBy, LentWords}
 use Rattle.states.specs.declared.thread.ThreadWords.{ThreadWords}
 use Rattle.states.specs.inner.Stacks.{pushItem, popItem, pushValue, popValue, moveTo, ended}
 use Rattle.acts.specs.declared.act.Arguments.{Arguments}
@@ -102,10 +102,10 @@ abbrev pub variablesIn : ThreadWords → List ℕ
 variablesIn th = take (th .values) (th .variables)
 
 abbrev pub evaluatedIn : Who → ThreadWords → Expr → ℕ → List ℕ → Result
-evaluatedIn who th x n ws = onWords (eval (hereOf who (variablesIn th)) x) n ws
+evaluatedIn who th x n ws = evaluatedBy who x (variablesIn th) n ws
 
 abbrev pub storedIn : Who → ThreadWords → Expr → Expr → ℕ → List ℕ → Result
-storedIn who th x y n ws = onWords (storing (hereOf who (variablesIn th)) x y) n ws
+storedIn who th x y n ws = storedBy who x y (variablesIn th) n ws
 
 abbrev pub letsOn : ThreadWords → ℕ → Result → TurnOutcome
 letsOn th body r =
@@ -220,12 +220,10 @@ pub record WholeTurn (a : Action) (m : ℕ) (us : List ℕ) (who : Who) (counts 
 -- ---- what a caller has to show: words of a state that is not refused with 14, and frames that
 -- pass refusals 5 and 6
 
-pub record TurnWords (frames : List ℕ) (who : Who) (counts : Counts) (vs : List ℕ) (n : ℕ)
-    (ws : List ℕ) : Type 0 where
+pub record TurnWords (frames : List ℕ) (who : Who) (counts : Counts) (w : List ℕ) : Type 0 where
   pub ordered : Ordered (framesOf frames)
   pub placed : Placed (framesOf frames)
   pub place : who .place .number ≤ lastScheduler
   pub items : counts .items ≤ mostItems
-  pub count : length vs ≡ counts .variables
-  pub variables : ValueWords vs
-  pub cells : CellWords n ws
+  pub count : length (lentVariables who w) ≡ counts .variables
+  pub state : LentWords who w

@@ -11,25 +11,25 @@ enum-known-change : tie.Need-enum-known-change
 enum-known-change c = search needs
 
 push-item-requires : tie.Need-push-item-requires
-push-item-requires c κs = (search needs, search needs, search change-room)
+push-item-requires c κs = (search needs, search change-room)
 
 enum-known-change-2 : tie.Need-enum-known-change-2
 enum-known-change-2 c = search needs
 
 push-two-requires : tie.Need-push-two-requires
-push-two-requires c κs = (search needs, search needs, search change-room)
+push-two-requires c κs = (search needs, search change-room)
 
 enum-known-change-3 : tie.Need-enum-known-change-3
 enum-known-change-3 c = search needs
 
 push-let-requires : tie.Need-push-let-requires
-push-let-requires c κs = (search needs, search needs, search change-room, search change-room)
+push-let-requires c κs = (search needs, (search change-room, search change-room))
 
 enum-told-2 : tie.Need-enum-told-2
 enum-told-2 c = search needs
 
 pop-value-requires : tie.Need-pop-value-requires
-pop-value-requires c κs = (search needs, search needs, search change-room, search needs)
+pop-value-requires c κs = (search needs, (search change-room, search needs))
 
 enum-known-change-4 : tie.Need-enum-known-change-4
 enum-known-change-4 c = search needs
@@ -41,7 +41,7 @@ enum-known-change-5 : tie.Need-enum-known-change-5
 enum-known-change-5 c = search needs
 
 enter-requires : tie.Need-enter-requires
-enter-requires c κs = (search needs, search needs, search change-room, search needs)
+enter-requires c κs = (search needs, search change-room, search needs)
 
 enum-told-3 : tie.Need-enum-told-3
 enum-told-3 c = search needs

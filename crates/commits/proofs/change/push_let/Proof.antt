@@ -8,7 +8,7 @@ push-value-requires : tie.Need-push-value-requires
 push-value-requires c κs = search needs
 
 push-two-requires : tie.Need-push-two-requires
-push-two-requires c κs = (search needs, search needs, search pushed-let-room)
+push-two-requires c κs = (search needs, search pushed-let-room)
 
 same-length : tie.Need-same-length
 same-length c = search needs

@@ -8,7 +8,7 @@ push-item-requires : tie.Need-push-item-requires
 push-item-requires c κs = search needs
 
 push-item-requires-2 : tie.Need-push-item-requires-2
-push-item-requires-2 c κs = (search needs, search needs, search pushed-two-room)
+push-item-requires-2 c κs = (search needs, search pushed-two-room)
 
 same-length : tie.Need-same-length
 same-length c = search needs

@@ -16,8 +16,8 @@ returns : tie.Need-returns
 returns c =
     let one = c .before .before in
     let at = one .before .before .before .before in (
-      eval-on (now (at .args .frames)) _ _ _ _ _ _ (at .pre .2) (at .pre .3)
-          (one .value-at .ensures .0),
+      eval-on (now (at .args .frames)) _ _ _ _ _ _ (at .pre .1 .variables)
+          (at .pre .1 .cells) (one .value-at .ensures .0),
       one .value-at .ensures .1,
     )
 

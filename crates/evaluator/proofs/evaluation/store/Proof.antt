@@ -21,7 +21,8 @@ value-at-requires-2 c κs =
     let at = one .before .before .before .before in
     let w = now (at .args .state) in (
       at .pre .1,
-      lent-again _ w _ (at .pre .2) (one .value-at .ensures .1) (one .value-at .kept .1 .1 .0),
+      lent-again _ w _ (at .pre .2 .lent) (one .value-at .ensures .1)
+          (one .value-at .kept .1 .1 .0),
     )
 
 then-store-requires : tie.Need-then-store-requires
@@ -50,8 +51,8 @@ returns c =
     let w = now (at .args .state) in
     let second =
     again-value fs _ _ w _ _
-    (at .pre .2) (one .value-at .ensures .1) (two .value-at2 .ensures .0) in (
-      store-runs fs _ _ _ _ _ _ (at .pre .3) (at .pre .4) _ _ _ _
+    (at .pre .2 .lent) (one .value-at .ensures .1) (two .value-at2 .ensures .0) in (
+      store-runs fs _ _ _ _ _ _ (at .pre .2 .variables) (at .pre .2 .cells) _ _ _ _
           (one .value-at .ensures .0) (arm .x .given .1) second (stored .then-store .ensures .0),
       stored .then-store .ensures .1 ∙ two .value-at2 .ensures .1 ∙ one .value-at .ensures .1,
     )
@@ -63,7 +64,8 @@ returns-2 : tie.Need-returns-2
 returns-2 c =
     let one = c .before .before .before .before in
     let at = one .before .before .before .before in (
-      store-keeps (now (at .args .frames)) _ _ _ _ _ _ (at .pre .3) (at .pre .4) (resultIn _ _) _
+      store-keeps (now (at .args .frames)) _ _ _ _ _ _ (at .pre .2 .variables)
+          (at .pre .2 .cells) (resultIn _ _) _
           (one .value-at .ensures .0) (c .enum-told .given .1) tt,
       one .value-at .ensures .1,
     )
@@ -75,7 +77,8 @@ returns-3 : tie.Need-returns-3
 returns-3 c =
     let one = c .before .before .before .before in
     let at = one .before .before .before .before in (
-      store-keeps (now (at .args .frames)) _ _ _ _ _ _ (at .pre .3) (at .pre .4) (resultIn _ _) _
+      store-keeps (now (at .args .frames)) _ _ _ _ _ _ (at .pre .2 .variables)
+          (at .pre .2 .cells) (resultIn _ _) _
           (one .value-at .ensures .0) (c .enum-told2 .given .1) tt,
       one .value-at .ensures .1,
     )
@@ -87,7 +90,8 @@ returns-4 : tie.Need-returns-4
 returns-4 c =
     let one = c .before .before .before .before in
     let at = one .before .before .before .before in (
-      store-keeps (now (at .args .frames)) _ _ _ _ _ _ (at .pre .3) (at .pre .4) (resultIn _ _) _
+      store-keeps (now (at .args .frames)) _ _ _ _ _ _ (at .pre .2 .variables)
+          (at .pre .2 .cells) (resultIn _ _) _
           (one .value-at .ensures .0) (c .enum-told3 .given .1) tt,
       one .value-at .ensures .1,
     )

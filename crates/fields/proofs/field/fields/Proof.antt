@@ -20,7 +20,7 @@ loop-holds : tie.Need-loop-holds Inv-loop μ-loop
 loop-holds c = (search needs, search tally-start, search needs, refl)
 
 frame-fine-requires : tie.Need-frame-fine-requires Inv-loop μ-loop
-frame-fine-requires c κs = (search needs, search needs, search needs, search needs)
+frame-fine-requires c κs = search needs
 
 cast-t11 : tie.Need-cast-t11 Inv-loop μ-loop
 cast-t11 c = search needs
@@ -38,7 +38,7 @@ is-counted-requires : tie.Need-is-counted-requires Inv-loop μ-loop
 is-counted-requires c κs = search needs
 
 counted-requires : tie.Need-counted-requires Inv-loop μ-loop
-counted-requires c κs = (search needs, search needs, search needs, search is-fine)
+counted-requires c κs = (search needs, search is-fine)
 
 loop-less : tie.Need-loop-less Inv-loop μ-loop
 loop-less c = search needs

@@ -17,7 +17,7 @@ enum-known-kind c = search needs
 
 shared-fine-requires : tie.Need-shared-fine-requires
 shared-fine-requires c κs =
-    (search needs, search needs, search needs, search needs, search a-shared)
+    (search needs, search needs, search needs, search a-shared)
 
 enum-told-2 : tie.Need-enum-told-2
 enum-told-2 c = search needs

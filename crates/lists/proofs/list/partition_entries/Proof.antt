@@ -86,7 +86,8 @@ loop-again c =
       simp length-set (omega arith),
       partition-ready _ _ _ _ _ _ (top .loop .inv .3)
           (c .before .before .before .before .loop-test .taken)
-          (pre .4) (pre .1) (pre .2) (pre .0) refl _ (c .before .is-ready .ensures) (c .if1 .taken),
+          (pre .0 .2) (pre .1) (pre .2) (pre .0 .0) refl _
+          (c .before .is-ready .ensures) (c .if1 .taken),
     )
 
 add-state-5 : tie.Need-add-state-5 Inv-loop μ-loop
@@ -119,7 +120,8 @@ loop-again-2 c =
       simp length-set (omega arith),
       partition-waiting _ _ _ _ _ _ (top .loop .inv .3)
           (c .before .before .before .before .loop-test .taken)
-          (pre .4) (pre .1) (pre .2) (pre .0) refl _ (c .before .is-ready .ensures) (c .if1 .left),
+          (pre .0 .2) (pre .1) (pre .2) (pre .0 .0) refl _
+          (c .before .is-ready .ensures) (c .if1 .left),
     )
 
 same-length : tie.Need-same-length Inv-loop μ-loop

@@ -76,7 +76,7 @@ top-item-requires : tie.Need-top-item-requires
 top-item-requires c κs =
     let at = c .before .before .before .before .before .before .before in
     let p = at .pre in
-    let b = act-bounds p in (b .0, omega arith, items-read _ _ _ (p .0) _ (p .1) (p .2))
+    let b = act-bounds p in ((b .0, omega arith), items-read _ _ _ (p .0) _ (p .1) (p .2))
 
 act-requires : tie.Need-act-requires
 act-requires c κs =

@@ -42,12 +42,14 @@ evaluate-requires-2 c κs =
     let first = c .before .before .before .before .before .before .before .evaluate in
     let at = c .before .before .before .before .before .before .before
     .before .before .before .before .before in
-    let lent = at .pre .2 in
+    let words = at .pre .2 in
     let kept = first .ensures .1 in (
       at .pre .1,
-      lent-again _ _ _ lent kept (first .kept .1 .1 .0),
-      values-again _ _ _ lent kept (at .pre .3),
-      search cells-after,
+      record {
+        lent = lent-again _ _ _ (words .lent) kept (first .kept .1 .1 .0);
+        variables = values-again _ _ _ (words .lent) kept (words .variables);
+        cells = search cells-after;
+      },
     )
 
 value-word-requires : tie.Need-value-word-requires
@@ -71,7 +73,7 @@ returns-4 c =
     let found = second .evaluate2 .ensures .0 in (
       starts-two _ _ _ _ _ _ _ _ _ (first .evaluate .result) _ _ (some .if1 .left)
           (first .evaluate .ensures .0) _ _ (second .evaluate2 .result) _ _ (both .if2 .left)
-          (match .x .given .1) (variables-again _ _ _ (at .pre .2) kept _ _ _ _ found)
+          (match .x .given .1) (variables-again _ _ _ (at .pre .2 .lent) kept _ _ _ _ found)
           (c .before .value-word .ensures .0) (c .starts-two .ensures),
       second .evaluate2 .ensures .1 ∙ kept,
     )

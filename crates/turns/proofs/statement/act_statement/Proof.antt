@@ -19,7 +19,7 @@ frame-of-word-requires c κs = search needs
 statement-node-requires : tie.Need-statement-node-requires
 statement-node-requires c κs =
     let at = c .before .before .before .before in
-    statement-named _ _ _ _ _ _ _ _ (c .frame-of-word .ensures) (at .pre .0) (at .pre .2)
+    statement-named _ _ _ _ _ _ (c .frame-of-word .ensures) (at .pre .0) (at .pre .1)
 
 enum-told : tie.Need-enum-told
 enum-told c = search needs
@@ -54,8 +54,7 @@ enum-known-m c = search needs
 starts-requires : tie.Need-starts-requires
 starts-requires c κs =
     let at = c .before .before .before .before .before .before .before .before .before in
-    let words = at .pre .0 in
-    (search under-laws, search under-laws, at .pre .1, words .variables, words .cells)
+    (search under-laws, search under-laws, at .pre .0 .state)
 
 enum-known-m-2 : tie.Need-enum-known-m-2
 enum-known-m-2 c = search needs
@@ -63,8 +62,7 @@ enum-known-m-2 c = search needs
 starts-requires-2 : tie.Need-starts-requires-2
 starts-requires-2 c κs =
     let at = c .before .before .before .before .before .before .before .before .before in
-    let words = at .pre .0 in
-    (search under-laws, search under-laws, at .pre .1, words .variables, words .cells)
+    (search under-laws, search under-laws, at .pre .0 .state)
 
 enum-told-2 : tie.Need-enum-told-2
 enum-told-2 c = search needs
@@ -78,8 +76,7 @@ enum-known-a-2 c = search needs
 evaluate-requires : tie.Need-evaluate-requires
 evaluate-requires c κs =
     let at = c .before .before .before .before .before .before .before .before .before in
-    let words = at .pre .0 in
-    (search under-laws, at .pre .1, words .variables, words .cells)
+    (search under-laws, at .pre .0 .state)
 
 cast-lets-after : tie.Need-cast-lets-after
 cast-lets-after c = search needs
@@ -93,8 +90,7 @@ enum-known-a-3 c = search needs
 store-requires : tie.Need-store-requires
 store-requires c κs =
     let at = c .before .before .before .before .before .before .before .before .before in
-    let words = at .pre .0 in
-    (search under-laws, search under-laws, at .pre .1, words .variables, words .cells)
+    (search under-laws, search under-laws, at .pre .0 .state)
 
 stores-after-requires : tie.Need-stores-after-requires
 stores-after-requires c κs = search needs
@@ -105,8 +101,7 @@ enum-known-a-4 c = search needs
 evaluate-requires-2 : tie.Need-evaluate-requires-2
 evaluate-requires-2 c κs =
     let at = c .before .before .before .before .before .before .before .before .before in
-    let words = at .pre .0 in
-    (search under-laws, at .pre .1, words .variables, words .cells)
+    (search under-laws, at .pre .0 .state)
 
 cast-chooses-after : tie.Need-cast-chooses-after
 cast-chooses-after c = search needs
@@ -123,8 +118,7 @@ enum-known-a-5 c = search needs
 evaluate-requires-3 : tie.Need-evaluate-requires-3
 evaluate-requires-3 c κs =
     let at = c .before .before .before .before .before .before .before .before .before in
-    let words = at .pre .0 in
-    (search under-laws, at .pre .1, words .variables, words .cells)
+    (search under-laws, at .pre .0 .state)
 
 cast-loops-after : tie.Need-cast-loops-after
 cast-loops-after c = search needs
