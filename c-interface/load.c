@@ -1,5 +1,6 @@
-/* A loader: reads prog.txt and steps it through the choices on the command line, in hexadecimal. Prints the check's number and frame,
- * then for each choice the choice, the answer and the acting thread.
+/* A loader: reads prog.txt and steps it through the choices on the command line, in hexadecimal.
+ * Prints the check's number and frame, then for each choice the choice, the answer and the acting
+ * thread.
  *
  *   load FOLDER 02 03 03
  */
@@ -29,7 +30,8 @@ int main(int count, char **words)
     for (i = 2; i < count; i++) {
         uint64_t choice = strtoull(words[i], NULL, 16);
         code = purkvaldi_step(text, length, state, PURKVALDI_STATE_WORDS, choice);
-        printf("%02X %02X %02X\n", (unsigned)choice, (unsigned)PURKVALDI_NUMBER(code), (unsigned)PURKVALDI_DETAIL(code));
+        printf("%02X %02X %02X\n", (unsigned)choice, (unsigned)PURKVALDI_NUMBER(code),
+               (unsigned)PURKVALDI_DETAIL(code));
     }
     return 0;
 }

@@ -5,7 +5,8 @@
 #include <stdint.h>
 #include <stdio.h>
 
-/* Reads at most one byte more than the longest text, so that a longer one is seen to be longer. An absent file reads as empty. */
+/* Reads at most one byte more than the longest text, so that a longer one is seen to be longer. An
+ * absent file reads as empty. */
 enum { PROG_ROOM = 17409 };
 
 static size_t read_prog(const char *folder, uint8_t text[PROG_ROOM])

@@ -1,5 +1,6 @@
-/* A loader that steps all choices in one call: reads prog.txt and steps it through the choices on the command line, in hexadecimal, at
- * most 64 at a time. Prints the check's number and frame, then for each choice the choice, the answer and the acting thread, as `load`.
+/* A loader that steps all choices in one call: reads prog.txt and steps it through the choices on
+ * the command line, in hexadecimal, at most 64 at a time. Prints the check's number and frame, then
+ * for each choice the choice, the answer and the acting thread, as `load`.
  *
  *   steps FOLDER 02 03 03
  */
@@ -31,10 +32,12 @@ int main(int count, char **words)
         for (; n < MANY && at < count; n++, at++)
             choices[n] = (uint8_t)strtoul(words[at], NULL, 16);
         /* The state is this program's own, so 14 would be its fault. */
-        if (purkvaldi_steps(text, length, state, PURKVALDI_STATE_WORDS, choices, (size_t)n, answers, (size_t)n) != 0)
+        if (purkvaldi_steps(text, length, state, PURKVALDI_STATE_WORDS, choices, (size_t)n, answers,
+                            (size_t)n) != 0)
             return 1;
         for (i = 0; i < n; i++)
-            printf("%02X %02X %02X\n", choices[i], (unsigned)PURKVALDI_NUMBER(answers[i]), (unsigned)PURKVALDI_DETAIL(answers[i]));
+            printf("%02X %02X %02X\n", choices[i], (unsigned)PURKVALDI_NUMBER(answers[i]),
+                   (unsigned)PURKVALDI_DETAIL(answers[i]));
     }
     return 0;
 }

@@ -1,4 +1,5 @@
-/* The interface tried from C: wrong lengths, null with length 0, garbage states. Prints nothing and ends with 0 where all is well. */
+/* The interface tried from C: wrong lengths, null with length 0, garbage states. Prints nothing and
+ * ends with 0 where all is well. */
 #include "purkvaldi.h"
 #include <stdio.h>
 #include <string.h>
@@ -25,7 +26,8 @@ static void expect(const char *what, uint32_t code, uint32_t wanted)
 static void refused(const char *what, size_t words, uint64_t choice, uint32_t wanted)
 {
     memcpy(before, state, sizeof state);
-    expect(what, purkvaldi_step((const uint8_t *)three, sizeof three - 1, state, words, choice), wanted);
+    expect(what, purkvaldi_step((const uint8_t *)three, sizeof three - 1, state, words, choice),
+           wanted);
     if (memcmp(before, state, sizeof state) != 0) {
         printf("%s: a refused step wrote\n", what);
         failures++;
@@ -33,29 +35,32 @@ static void refused(const char *what, size_t words, uint64_t choice, uint32_t wa
 }
 
 /* A listing that a buffer cannot take leaves both buffers. */
-static void unprinted(const char *what, const uint8_t *text, size_t length, size_t words, size_t bytes, uint32_t wanted)
+static void unprinted(const char *what, const uint8_t *text, size_t length, size_t words,
+                      size_t bytes, uint32_t wanted)
 {
     uint64_t result;
     memcpy(before, state, sizeof state);
     memcpy(out_before, out, sizeof out);
     result = purkvaldi_run(text, length, (const uint8_t *)"02\n", 3, state, words, out, bytes);
     expect(what, PURKVALDI_CODE(result), wanted);
-    if (PURKVALDI_SIZE(result) != 0 || memcmp(before, state, sizeof state) != 0 || memcmp(out_before, out, sizeof out) != 0) {
+    if (PURKVALDI_SIZE(result) != 0 || memcmp(before, state, sizeof state) != 0 ||
+        memcmp(out_before, out, sizeof out) != 0) {
         printf("%s: a listing without its buffers wrote\n", what);
         failures++;
     }
 }
 
 /* A listing that is written, with that code, and no byte after it. */
-static void printed(const char *what, const uint8_t *text, size_t length, const char *choices, size_t words,
-                    uint32_t code, const char *wanted)
+static void printed(const char *what, const uint8_t *text, size_t length, const char *choices,
+                    size_t words, uint32_t code, const char *wanted)
 {
     uint64_t result;
     size_t size = strlen(wanted);
     memset(out, 7, sizeof out);
     memset(out_before, 7, sizeof out);
     memcpy(out_before, wanted, size);
-    result = purkvaldi_run(text, length, (const uint8_t *)choices, strlen(choices), state, words, out, OUT);
+    result = purkvaldi_run(text, length, (const uint8_t *)choices, strlen(choices), state, words,
+                           out, OUT);
     expect(what, PURKVALDI_CODE(result), code);
     if (PURKVALDI_SIZE(result) != size || memcmp(out, out_before, sizeof out) != 0) {
         printf("%s: another listing\n", what);
@@ -64,13 +69,16 @@ static void printed(const char *what, const uint8_t *text, size_t length, const 
 }
 
 /* Choices that cannot be stepped leave the state and the answers. */
-static void unstepped(const char *what, const uint8_t *text, size_t length, size_t words, size_t count, uint32_t wanted)
+static void unstepped(const char *what, const uint8_t *text, size_t length, size_t words,
+                      size_t count, uint32_t wanted)
 {
     static const uint8_t choices[3] = {2, 2, 2};
     uint32_t answers[4] = {7, 7, 7, 7};
     int i;
     memcpy(before, state, sizeof state);
-    expect(what, purkvaldi_steps(text, length, state, words, choices, sizeof choices, answers, count), wanted);
+    expect(what,
+           purkvaldi_steps(text, length, state, words, choices, sizeof choices, answers, count),
+           wanted);
     for (i = 0; i < 4; i++)
         expect(what, answers[i], 7);
     if (memcmp(before, state, sizeof state) != 0) {
@@ -138,21 +146,25 @@ int main(void)
     refused("behind the choices", WORDS, 2, 0x100000);
     state[0] = UINT64_MAX;
     unstepped("choices on a changed state", text, length, WORDS, 3, 0x0E0000);
-    expect("no choices on a changed state", purkvaldi_steps(text, length, state, WORDS, NULL, 0, NULL, 0), 0x0E0000);
+    expect("no choices on a changed state",
+           purkvaldi_steps(text, length, state, WORDS, NULL, 0, NULL, 0), 0x0E0000);
 
-    /* the listing of a run: the code is the text's refusal 1 to 7, else 14, else 0; the line of a refused text is in a buffer
-     * of the right length */
+    /* the listing of a run: the code is the text's refusal 1 to 7, else 14, else 0; the line of a
+     * refused text is in a buffer of the right length */
     expect("listing length", (uint32_t)purkvaldi_listing_length(), OUT);
     unprinted("a run in a shorter buffer", text, length, WORDS, OUT - 1, 0x0E0000);
     unprinted("a run in a longer buffer", text, length, WORDS, OUT + 1, 0x0E0000);
     unprinted("a run on a shorter state", text, length, WORDS - 1, OUT, 0x0E0000);
     unprinted("a run of no text in a shorter buffer", NULL, 0, WORDS, OUT - 1, 0x010000);
-    unprinted("a run of half a text on a shorter state in a longer buffer", text, length - 8, WORDS - 1, OUT + 1, 0x030002);
-    expect("a run in no buffer", PURKVALDI_CODE(purkvaldi_run(text, length, NULL, 0, NULL, 0, NULL, 0)), 0x0E0000);
+    unprinted("a run of half a text on a shorter state in a longer buffer", text, length - 8,
+              WORDS - 1, OUT + 1, 0x030002);
+    expect("a run in no buffer",
+           PURKVALDI_CODE(purkvaldi_run(text, length, NULL, 0, NULL, 0, NULL, 0)), 0x0E0000);
     printed("a run", text, length, "02\n02\n02\n", WORDS, 0,
             "00 0000\n02 00 01 0000\n02 00 01 0000\n02 10 00 0000\n0003\n");
     printed("a run of no text", NULL, 0, "", WORDS, 0x010000, "01 0000\n");
-    printed("a run of no text on a shorter state", NULL, 0, "02\n", WORDS - 1, 0x010000, "01 0000\n");
+    printed("a run of no text on a shorter state", NULL, 0, "02\n", WORDS - 1, 0x010000,
+            "01 0000\n");
     printed("a run of half a text", text, length - 8, "02\n", WORDS, 0x030002, "03 0002\n");
     return failures != 0;
 }

@@ -39,8 +39,8 @@ pub fn listing_length() -> usize {
     unsafe { purkvaldi_listing_length() }
 }
 
-/// What a listing gives: the text's refusal 1 to 7, else 14 where a buffer has another length than the listing needs, else 0; and
-/// the bytes that were written.
+/// What a listing gives: the text's refusal 1 to 7, else 14 where a buffer has another length than
+/// the listing needs, else 0; and the bytes that were written.
 #[derive(Clone, Copy, PartialEq, Eq, Debug)]
 pub struct Listing<'o> {
     pub answer: Answer,
@@ -67,8 +67,8 @@ pub fn run<'o>(text: &[u8], choices: &[u8], state: &mut [u64], out: &'o mut [u8]
     }
 }
 
-/// What a call of the stepper answers: the number, 0 where it is done; and the frame of a refusal 1 to 7, else the acting
-/// thread.
+/// What a call of the stepper answers: the number, 0 where it is done; and the frame of a refusal 1
+/// to 7, else the acting thread.
 #[derive(Clone, Copy, PartialEq, Eq, Debug)]
 pub struct Answer {
     pub number: u8,
@@ -111,7 +111,8 @@ pub fn step(text: &[u8], state: &mut [u64], choice: u64) -> Answer {
     })
 }
 
-/// Many choices on a state of any words, in one call; `answers` takes a code for each, which `Answer::of_code` reads.
+/// Many choices on a state of any words, in one call; `answers` takes a code for each, which
+/// `Answer::of_code` reads.
 pub fn steps(text: &[u8], state: &mut [u64], choices: &[u8], answers: &mut [u32]) -> Answer {
     Answer::of_code(unsafe {
         purkvaldi_steps(

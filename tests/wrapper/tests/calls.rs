@@ -1,4 +1,5 @@
-//! The wrapper tried on wrong lengths, empty buffers and garbage states; demand 3 tried on the accepted vectors.
+//! The wrapper tried on wrong lengths, empty buffers and garbage states; demand 3 tried on the
+//! accepted vectors.
 use purkvaldi::{Answer, Listing};
 use std::path::Path;
 
@@ -63,7 +64,10 @@ fn garbage_states_are_14_and_stay() {
 /// The answers of these choices in one call, from this state on.
 fn in_one_call(text: &[u8], state: &mut [u64], choices: &[u8]) -> Vec<Answer> {
     let mut codes = vec![u32::MAX; choices.len()];
-    assert_eq!(purkvaldi::steps(text, state, choices, &mut codes), answer(0, 0));
+    assert_eq!(
+        purkvaldi::steps(text, state, choices, &mut codes),
+        answer(0, 0)
+    );
     codes.into_iter().map(Answer::of_code).collect()
 }
 
@@ -82,7 +86,10 @@ fn choices_that_cannot_be_stepped_write_nothing() {
         state.resize(words, 0);
         let kept = state.clone();
         let mut codes = vec![7; count];
-        assert_eq!(purkvaldi::steps(text, &mut state, &[2; 3], &mut codes), wanted);
+        assert_eq!(
+            purkvaldi::steps(text, &mut state, &[2; 3], &mut codes),
+            wanted
+        );
         assert_eq!(state, kept);
         assert_eq!(codes, vec![7; count]);
     }
@@ -105,8 +112,8 @@ fn garbage_states_are_14_for_many_choices_too() {
     }
 }
 
-/// Many choices in one call are a call of `step` for each: every answer and every word, from the fresh state on and from where the
-/// last call stopped.
+/// Many choices in one call are a call of `step` for each: every answer and every word, from the
+/// fresh state on and from where the last call stopped.
 #[test]
 fn many_choices_are_the_steps_one_by_one() {
     let choices: Vec<u8> = any_choices()
@@ -180,7 +187,8 @@ fn a_listing_in_a_buffer_of_another_length_is_refused() {
     }
 }
 
-/// 14 comes 'after 1 to 7': the answer is the text's refusal whatever the lengths, and its line is written where `out` has its length.
+/// 14 comes 'after 1 to 7': the answer is the text's refusal whatever the lengths, and its line is
+/// written where `out` has its length.
 #[test]
 fn a_text_refused_with_1_to_7_comes_before_the_buffers() {
     let length = purkvaldi::listing_length();

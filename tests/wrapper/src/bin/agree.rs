@@ -1,5 +1,5 @@
-//! agree SECONDS SEED: the proved check and stepper and the second program in one process, on random texts and choices, and
-//! on lent words that are garbage. Not 0 on a difference.
+//! agree SECONDS SEED: the proved check and stepper and the second program in one process, on
+//! random texts and choices, and on lent words that are garbage. Not 0 on a difference.
 use purkvaldi::Answer;
 use second::generate::Case;
 use second::listing::{used, Reading};
@@ -56,10 +56,9 @@ fn at_once(case: &Case, state: &mut [u64]) -> bool {
     if refused.number != 0 {
         return answer == refused && words == state && codes.iter().all(|&code| code == u32::MAX);
     }
-    let same = choices
-        .iter()
-        .zip(codes)
-        .all(|(&choice, code)| purkvaldi::step(text, state, u64::from(choice)) == Answer::of_code(code));
+    let same = choices.iter().zip(codes).all(|(&choice, code)| {
+        purkvaldi::step(text, state, u64::from(choice)) == Answer::of_code(code)
+    });
     answer.number == 0 && same && words == state
 }
 

@@ -1,8 +1,10 @@
-//! bench: times of the check and of a step, proved and second side by side, how the check grows, and the stack below each call, as
-//! one table whose rows keep their names, so that two runs can be compared line by line.
+//! bench: times of the check and of a step, proved and second side by side, how the check grows,
+//! and the stack below each call, as one table whose rows keep their names, so that two runs can be
+//! compared line by line.
 use std::time::Instant;
 
-/// An accepted file of n lines: modules whose bodies nest, each with lets, stores, loops and starts.
+/// An accepted file of n lines: modules whose bodies nest, each with lets, stores, loops and
+/// starts.
 fn accepted(lines: usize) -> Vec<u8> {
     let mut frames: Vec<String> = vec!["0001000000020000".into(), "0102000100000000".into()];
     // One body: a balanced sequence of stores of a sum into the shared cell, depth below 24.
@@ -56,7 +58,8 @@ fn nanoseconds(check: fn(&[u8]) -> (u8, u16), text: &[u8]) -> u128 {
         .unwrap()
 }
 
-/// A file whose main loops for ever on its own scheduler: it adds to a shared cell, lets a variable, and cooperates.
+/// A file whose main loops for ever on its own scheduler: it adds to a shared cell, lets a
+/// variable, and cooperates.
 fn looping() -> Vec<u8> {
     let frames = [
         "0001FFFF00020000", // 0 header
@@ -132,7 +135,8 @@ fn stack_used(call: impl FnOnce() + Send + 'static) -> usize {
         .unwrap()
 }
 
-/// Checks of accepted files, and how their time grows with the lines: 8 is linear from 128 to 1,024.
+/// Checks of accepted files, and how their time grows with the lines: 8 is linear from 128 to
+/// 1,024.
 fn checks() {
     let mut ours_at = Vec::new();
     for lines in [9, 100, 128, 256, 512, 1024] {
@@ -142,7 +146,11 @@ fn checks() {
             nanoseconds(purkvaldi::second_check, &text) as f64,
         );
         ours_at.push((lines, ours));
-        row(&format!("check, {} lines", text.len() / 17), ours, Some(theirs));
+        row(
+            &format!("check, {} lines", text.len() / 17),
+            ours,
+            Some(theirs),
+        );
     }
     let at = |lines| ours_at.iter().find(|x| x.0 == lines).unwrap().1;
     println!(
@@ -152,8 +160,8 @@ fn checks() {
     );
 }
 
-/// Steps of scheduler 2: in a run's listing; by one public call each, which reads and validates anew; as one of many choices
-/// in one public call.
+/// Steps of scheduler 2: in a run's listing; by one public call each, which reads and validates
+/// anew; as one of many choices in one public call.
 fn steps() {
     let text = looping();
     assert_eq!(purkvaldi::check(&text), (0, 0));
@@ -162,7 +170,9 @@ fn steps() {
     let mut out = vec![0; purkvaldi::listing_length()];
     let inside = best_step(|| {
         assert_eq!(
-            purkvaldi::run(&text, &choices, &mut state, &mut out).answer.number,
+            purkvaldi::run(&text, &choices, &mut state, &mut out)
+                .answer
+                .number,
             0
         );
     });
@@ -180,13 +190,17 @@ fn steps() {
     let many = vec![2; STEPS];
     let mut answers = vec![0; STEPS];
     let batch = best_step(|| {
-        assert_eq!(purkvaldi::steps(&text, &mut state, &many, &mut answers).number, 0);
+        assert_eq!(
+            purkvaldi::steps(&text, &mut state, &many, &mut answers).number,
+            0
+        );
     });
     assert!(answers.iter().all(|code| code >> 16 == 0));
     row("a step as one of many in a public call", batch, None);
 }
 
-/// The deepest stack of each call, on the file whose recursion goes deepest and on one of 1,024 lines.
+/// The deepest stack of each call, on the file whose recursion goes deepest and on one of 1,024
+/// lines.
 fn stacks() {
     for (name, text) in [
         ("24 deep", DEEPEST.to_vec()),
@@ -245,7 +259,10 @@ fn stacks() {
 
 /// With the argument `times`, the times alone.
 fn main() {
-    println!("{:<44} {:>13} {:>13} {:>6}", "", "proved", "second", "ratio");
+    println!(
+        "{:<44} {:>13} {:>13} {:>6}",
+        "", "proved", "second", "ratio"
+    );
     checks();
     steps();
     if std::env::args().nth(1).as_deref() != Some("times") {

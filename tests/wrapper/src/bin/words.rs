@@ -1,5 +1,5 @@
-//! words FOLDER: the words of the state that are not 0, fresh and after each choice of choices.txt. It prints the worked example of
-//! docs/STATE.md.
+//! words FOLDER: the words of the state that are not 0, fresh and after each choice of choices.txt.
+//! It prints the worked example of docs/STATE.md.
 fn main() {
     let folder = std::env::args().nth(1).expect("words FOLDER");
     let read = |name: &str| std::fs::read(format!("{folder}/{name}")).unwrap_or_default();
