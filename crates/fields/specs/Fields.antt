@@ -11,8 +11,8 @@ use kind.Kind.the-variants.{Header, Declared, Module, Statement, Expression, Unk
 use Rattle.program.specs.{Trees.frameAt, Programs.cellsOf}
 use Rattle.language.specs.declared.kind as kind
 
--- 4: 'header (frame 0 not K 00, or its S, B or C not as said)': 'S version 01, A step allowance (0
--- means 4,096), B schedulers, 1 to 8'
+-- 4: 'header (frame 0 not K 00, or its S, B or C not as said)': 'S version 01, A step allowance ..,
+-- B schedulers, 1 to 8'
 unfoldable pub headerFine : Frame → Bool
 headerFine f =
     isHeader (f .kind) && eqb (f .s) 1 && leb 1 (f .b) && leb (f .b) mostSchedulers && eqb (f .c) 0

@@ -42,7 +42,7 @@ abbrev pub mostItems : ℕ
 mostItems = 25
 
 -- a run: the choices of the 49,152 bytes; the listing's lines of 14 bytes, its first and its last;
--- 'A (0 means 4,096)'
+-- 02, change 1, of the header's allowance: 'A 0 shall mean 16,384.'
 abbrev pub mostChoices : ℕ
 mostChoices = 16384
 
@@ -53,4 +53,4 @@ abbrev pub mostListingBytes : ℕ
 mostListingBytes = 229389
 
 abbrev pub defaultAllowance : ℕ
-defaultAllowance = 4096
+defaultAllowance = 16384

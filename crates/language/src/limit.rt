@@ -36,4 +36,5 @@ pub const LAST_LINE: usize = 5;
 
 pub const MOST_LISTING_BYTES: usize = CHECK_LINE + CHOICE_LINE * MOST_CHOICES + LAST_LINE;
 
-pub const DEFAULT_ALLOWANCE: u16 = 4096;
+// What a header's allowance of 0 means: 02, change 1.
+pub const DEFAULT_ALLOWANCE: u16 = 16384;

@@ -19,7 +19,7 @@ pub record Part : Type 0 where
   pub types : List ℕ
   pub body : Stmt
 
--- 'A step allowance (0 means 4,096), B schedulers', 'Modules and shared cells count from 0.'
+-- 'A step allowance .., B schedulers', 'Modules and shared cells count from 0.'
 pub record Program : Type 0 where
   pub allowance : ℕ
   pub schedulers : ℕ
@@ -68,7 +68,7 @@ unfoldable pub modulesFrom : List Frame → ℕ → List Frame → List Part
 modulesFrom fs i [] = []
 modulesFrom fs i (f ∷ rest) = withPart fs i f (f .kind) (modulesFrom fs (suc i) rest)
 
--- 'A step allowance (0 means 4,096)'
+-- 02, change 1: 'A 0 shall mean 16,384.', 'Explicit allowances mean what they did.'
 unfoldable pub allowanceOf : ℕ → ℕ
 allowanceOf n = if eqb n 0 then defaultAllowance else n
 

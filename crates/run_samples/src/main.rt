@@ -1,6 +1,7 @@
-// Runs of many files: the bench samples of document 01 that concern running, and the vectors. For
-// each sample i it reads the text in data/iiip and the choices in data/iiic, and prints the
-// sample's name and the listing; the report is compared with the stored one.
+// Runs of many files: the bench samples of document 01 that concern running, the vectors, and long
+// runs under several allowances. For each sample i it reads the text in data/iiip and the choices
+// in data/iiic, and prints the sample's name and the listing; the report is compared with the
+// stored one.
 use files::print;
 use files::read_file;
 use language::limit::MOST_BYTES;
@@ -38,7 +39,7 @@ fn report(i: usize) {
 }
 
 fn main() {
-    for i in 0..294 {
+    for i in 0..298 {
         report(i);
     }
 }

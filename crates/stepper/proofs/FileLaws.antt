@@ -7,6 +7,7 @@ use lib.ListN.{getD, length}
 use borrow.Author.Tests.{eq-eqb, ne-eqb}
 use Rattle.basics.proofs.Ifs.{if-yes, if-no}
 use Rattle.language.specs.declared.frame.Frame.{Frame}
+use Rattle.language.specs.Limits.{defaultAllowance}
 use Rattle.text.specs.Frames.{frameOfWord, framesOf}
 use Rattle.text.proofs.FrameWords.{frames-length, frame-at}
 use Rattle.program.specs.Trees.{noFrame}
@@ -17,7 +18,7 @@ use Rattle.stepper.specs.inner.Files.{FileWords, fileOf}
 
 -- ---- the allowance
 module _ (a : ℕ) where
-  pub allowance-none : a ≡ 0 → 4096 ≡ allowanceOf a
+  pub allowance-none : a ≡ 0 → defaultAllowance ≡ allowanceOf a
   unfolding allowanceOf
   allowance-none h = sym (if-yes _ _ (eq-eqb a 0 h))
 

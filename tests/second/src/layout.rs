@@ -9,8 +9,9 @@ use crate::verdict::Verdict;
 pub const DECLARATIONS: usize = 16;
 /// Depth of a tree, at most; a body stands at depth 1.
 pub const DEPTH: u16 = 24;
-/// Choices that a run uses, at most, where the header says 0.
-pub const ALLOWANCE: usize = 4096;
+/// Choices that a run uses, at most, where the header's allowance is 0
+/// (document 02, change 1).
+pub const DEFAULT_ALLOWANCE: usize = 16_384;
 
 /// A file that passes refusals 1 to 7: all that the stepper needs.
 pub struct Program {
@@ -36,7 +37,7 @@ impl Program {
             shared_cells: shared_cells(&frames),
             last_place,
             allowance: match header.a {
-                0 => ALLOWANCE,
+                0 => DEFAULT_ALLOWANCE,
                 allowance => usize::from(allowance),
             },
             frames,

@@ -99,3 +99,44 @@ pub fn word(listing: &mut Vec<u8>, number: u16) {
     byte(listing, high);
     byte(listing, low);
 }
+
+#[cfg(test)]
+mod tests {
+    use super::*;
+
+    /// How many of `count` choices a run with this allowance uses: its last
+    /// line, which the number of its lines and `used` bear out. The list is
+    /// no text, so it can be longer than any file holds.
+    fn used_of(allowance: u16, count: usize) -> usize {
+        let program = format!("0001{allowance:04X}00010000\n1000000000000000\n0200000100000000\n");
+        let Reading::Readable(program, _) = Reading::new(program.as_bytes()) else {
+            panic!("readable");
+        };
+        let choices = vec![2; count];
+        let mut listing = Vec::new();
+        run_lines(&mut listing, &program, &choices);
+        let listing = String::from_utf8(listing).unwrap();
+        let lines: Vec<&str> = listing.lines().collect();
+        let printed = usize::from_str_radix(lines[lines.len() - 1], 16).unwrap();
+        assert_eq!(lines.len(), printed + 1);
+        assert_eq!(used(&program, &choices), &choices[..printed]);
+        printed
+    }
+
+    #[test]
+    fn a_list_longer_than_a_file_is_cut_by_a_0() {
+        assert_eq!(used_of(0, 16_383), 16_383);
+        assert_eq!(used_of(0, 16_384), 16_384);
+        assert_eq!(used_of(0, 16_385), 16_384);
+        assert_eq!(used_of(0, 70_000), 16_384);
+    }
+
+    #[test]
+    fn a_list_longer_than_a_file_is_cut_by_an_explicit_allowance() {
+        assert_eq!(used_of(0x1000, 16_385), 4096);
+        assert_eq!(used_of(0x4000, 16_385), 16_384);
+        assert_eq!(used_of(0x4001, 16_385), 16_385);
+        assert_eq!(used_of(0xFFFF, 16_385), 16_385);
+        assert_eq!(used_of(0xFFFF, 70_000), 65_535);
+    }
+}

@@ -1,5 +1,7 @@
 //! What the generator reaches.
 
+use std::collections::BTreeSet;
+
 use second::generate;
 use second::listing;
 use second::tally::Tally;
@@ -43,4 +45,28 @@ fn greatest_length_is_reached() {
     };
     assert_eq!(verdict_at(1024 * 17).as_deref(), Some(&b"00 0000\n"[..]));
     assert_eq!(verdict_at(1025 * 17).as_deref(), Some(&b"02 0000\n"[..]));
+}
+
+/// Each allowance at a bound meets each length of a list near one, and few
+/// other lists are as long.
+#[test]
+fn allowances_meet_long_lists() {
+    const CASES: u64 = 150_000;
+    let mut missing: BTreeSet<(&[u8], usize)> = BTreeSet::new();
+    for allowance in [b"0000", b"0FFF", b"1000", b"4000", b"FFFF"] {
+        for count in [4095, 4096, 4097, 16_383, 16_384] {
+            missing.insert((allowance, count));
+        }
+    }
+    let mut long = 0;
+    for index in 0..CASES {
+        let case = generate::case(SEED, index);
+        let count = case.choices.len() / 3;
+        if count > 2000 {
+            long += 1;
+            missing.retain(|&pair| pair != (&case.program[4..8], count));
+        }
+    }
+    assert!(missing.is_empty(), "{missing:?}");
+    assert!(long < CASES / 300, "{long} long lists");
 }

@@ -1,4 +1,5 @@
-//! The bench samples that 01 prints, and the traps that it names.
+//! The bench samples that 01 prints, the traps that it names, and the
+//! allowances of 02, change 1.
 
 use second::listing;
 
@@ -239,4 +240,58 @@ fn thread_64_starts_and_65_does_not() {
     let refused = run.iter().position(|line| line[1] != "00").unwrap();
     assert!(run[..refused].iter().any(|line| line[2] == "40"));
     assert!(run[refused..].iter().all(|line| line[1..3] == ["12", "01"]));
+}
+
+/// The listing of a loop that never ends, under this many choices.
+fn endless_run(allowance: u16, count: usize) -> String {
+    let program = lines(&[
+        &format!("0001{allowance:04X}00010000"),
+        "2101000000000000",
+        "1500000000000000",
+        "1900000100020000",
+        "0200000300000000",
+    ]);
+    String::from_utf8(listing::run(&program, &b"02\n".repeat(count))).unwrap()
+}
+
+/// How many of them the run uses: its last line, borne out by the number of
+/// its lines, on each of which the loop goes on.
+fn used(allowance: u16, count: usize) -> usize {
+    let listing = endless_run(allowance, count);
+    let lines: Vec<&str> = listing.lines().collect();
+    let (first, last) = (lines[0], lines[lines.len() - 1]);
+    assert_eq!(first, "00 0000");
+    let choices = &lines[1..lines.len() - 1];
+    assert!(choices.iter().all(|line| line.starts_with("02 00 ")));
+    assert_eq!(last, format!("{:04X}", choices.len()));
+    choices.len()
+}
+
+#[test]
+fn an_allowance_of_0_uses_every_choice_of_a_file() {
+    for count in [0, 1, 4095, 4096, 4097, 5000, 16_383, 16_384] {
+        assert_eq!(used(0, count), count);
+    }
+}
+
+#[test]
+fn an_explicit_allowance_means_itself() {
+    assert_eq!(used(0x1000, 5000), 4096);
+    assert_eq!(used(0x1000, 4096), 4096);
+    assert_eq!(used(0x1000, 4095), 4095);
+    assert_eq!(used(0x0FFF, 4096), 4095);
+    assert_eq!(used(0x1001, 5000), 4097);
+    assert_eq!(used(0x3FFF, 16_384), 16_383);
+    assert_eq!(used(0x4000, 16_384), 16_384);
+    assert_eq!(used(0xFFFF, 16_384), 16_384);
+    assert_eq!(used(0x0001, 5000), 1);
+}
+
+/// What 0 did before the change, 1000 does: the same lines up to its end.
+#[test]
+fn a_shorter_allowance_only_cuts() {
+    let (whole, cut) = (endless_run(0, 5000), endless_run(0x1000, 5000));
+    assert!(whole.ends_with("\n1388\n"));
+    let lines = cut.strip_suffix("1000\n").unwrap();
+    assert!(whole.starts_with(lines));
 }

@@ -120,8 +120,8 @@ fn many_choices_are_the_steps_one_by_one() {
         .map(|c| if c < 128 { 2 + c % 3 } else { c })
         .collect();
     let mut texts = 0;
-    for vector in 0..1000 {
-        let text = read(&format!("tests/vectors/{vector:03}/prog.txt"));
+    for folder in vectors() {
+        let text = read(&format!("{folder}/prog.txt"));
         let mut one_by_one = vec![0; purkvaldi::state_length()];
         if purkvaldi::fresh(&text, &mut one_by_one) != answer(0, 0) {
             continue;
@@ -133,12 +133,8 @@ fn many_choices_are_the_steps_one_by_one() {
                 .iter()
                 .map(|&choice| purkvaldi::step(&text, &mut one_by_one, u64::from(choice)))
                 .collect();
-            assert_eq!(
-                in_one_call(&text, &mut at_once, some),
-                wanted,
-                "vector {vector}"
-            );
-            assert_eq!(at_once, one_by_one, "vector {vector}");
+            assert_eq!(in_one_call(&text, &mut at_once, some), wanted, "{folder}");
+            assert_eq!(at_once, one_by_one, "{folder}");
         }
     }
     assert!(texts > 100, "only {texts} vectors can be stepped");
@@ -222,6 +218,25 @@ fn read(path: &str) -> Vec<u8> {
     std::fs::read(root.join(path)).unwrap_or_default()
 }
 
+/// The folders of the vectors of the base (00) and of each change.
+fn vectors() -> Vec<String> {
+    let below = |path: String| {
+        let root = Path::new(env!("CARGO_MANIFEST_DIR")).join("../..");
+        let mut names: Vec<_> = std::fs::read_dir(root.join(&path))
+            .expect("a folder of vectors")
+            .map(|entry| entry.expect("entry"))
+            .filter(|entry| entry.path().is_dir())
+            .map(|entry| format!("{path}/{}", entry.file_name().to_string_lossy()))
+            .collect();
+        names.sort();
+        names
+    };
+    below("tests/vectors".into())
+        .into_iter()
+        .flat_map(below)
+        .collect()
+}
+
 /// The numbers of the answers of these choices, each a call of `step`, from the fresh state on.
 fn numbers(text: &[u8], choices: impl Iterator<Item = u8>) -> Vec<u8> {
     let mut state = vec![0; purkvaldi::state_length()];
@@ -241,12 +256,23 @@ fn any_choices() -> impl Iterator<Item = u8> {
     .take(500)
 }
 
+/// A header's allowance cuts a run, not the call for many choices: 16,385 of them, one more than an
+/// allowance of 0 means, are stepped.
+#[test]
+fn no_allowance_cuts_the_call_for_many_choices() {
+    let text = read("examples/while-cooperate/prog.txt");
+    let mut state = vec![0; purkvaldi::state_length()];
+    assert_eq!(purkvaldi::fresh(&text, &mut state), answer(0, 0));
+    let answers = in_one_call(&text, &mut state, &[2; 16_385]);
+    assert_eq!(answers.len(), 16_385);
+    assert!(answers.iter().all(|answer| answer.number == 0));
+}
+
 /// Demand 3 as a trial: on an accepted text no call is 14, foreign (19) or stuck (20).
 #[test]
 fn accepted_vectors_are_never_14_19_or_20() {
     let mut texts = 0;
-    for vector in 0..1000 {
-        let folder = format!("tests/vectors/{vector:03}");
+    for folder in vectors() {
         if read(&format!("{folder}/check.txt")) != b"00 0000\n" {
             continue;
         }

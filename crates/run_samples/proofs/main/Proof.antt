@@ -5,10 +5,10 @@ use Rattle.run_samples.proofs.main.Statement.{statement}
 use Rattle.run_samples.proofs.main.Tie as tie
 
 abbrev Inv-loop : tie.InvT-loop
-Inv-loop i₀ i = i ≤ 294
+Inv-loop i₀ i = i ≤ 298
 
 abbrev μ-loop : tie.MeasureT-loop
-μ-loop i₀ i = 294 - i
+μ-loop i₀ i = 298 - i
 
 loop-holds : tie.Need-loop-holds Inv-loop μ-loop
 loop-holds c = search needs

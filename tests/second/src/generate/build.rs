@@ -36,7 +36,7 @@ pub fn frames(random: &mut Random, plan: fn(&mut Random) -> Plan) -> Vec<Frame> 
     builder.lines.0
 }
 
-/// Mostly the usual one, as it outlasts most lists of choices.
+/// Mostly 0, as it outlasts every list of choices that a file can hold.
 fn allowance(random: &mut Random) -> u16 {
     match random.below(12) {
         0 => random.between(1, 20) as u16,

@@ -7,6 +7,9 @@ use crate::place::{of_thread, HOME, PRIVATE};
 use crate::state::State;
 use crate::text::CHOICES_LIMIT;
 
+/// Lengths of lists around 4,096, and up to 16,384, the longest list.
+const NEAR_BOUNDS: [usize; 5] = [4095, 4096, 4097, 16_383, 16_384];
+
 #[derive(Clone, Copy, PartialEq, Eq, Debug)]
 pub enum Flavour {
     Empty,
@@ -19,6 +22,8 @@ pub enum Flavour {
     Valid,
     /// The same, and enough of them to spend the cells or the threads.
     Long,
+    /// As many schedulers of the file as some allowance, or one more or less.
+    NearBound,
     /// Any byte.
     Garbage,
     /// A text that is no list.
@@ -47,6 +52,7 @@ pub fn text(random: &mut Random, program: &[u8], flavour: Flavour) -> Vec<u8> {
     let count = match flavour {
         Flavour::Empty => 0,
         Flavour::Long => random.between(200, 1200),
+        Flavour::NearBound => NEAR_BOUNDS[random.below(NEAR_BOUNDS.len())],
         Flavour::OverLong => CHOICES_LIMIT / 3 + random.below(2),
         _ if random.chance(20) => random.between(60, 400),
         _ => random.between(1, 60),

@@ -73,6 +73,8 @@ enum Sort {
     SpendThreads,
     Nest,
     Doubling,
+    /// An allowance at a bound, with a list of choices near that one or another.
+    LongRun,
     Full,
     /// Damaged frames: refusals 4 to 6.
     DamagedFrames,
@@ -90,6 +92,8 @@ impl Sort {
             150..=154 => Sort::Deep,
             155..=158 => Sort::SpendCells,
             159..=162 => Sort::SpendThreads,
+            // About as rare as an over-long list: these take their time.
+            163 if random.chance(4) => Sort::LongRun,
             163 => Sort::Doubling,
             164 => Sort::Full,
             165..=189 => Sort::DamagedFrames,
@@ -101,6 +105,7 @@ impl Sort {
     fn flavour(self, random: &mut Random) -> Flavour {
         match self {
             Sort::Soup | Sort::SpendCells | Sort::SpendThreads | Sort::Doubling => Flavour::Long,
+            Sort::LongRun => Flavour::NearBound,
             _ => Flavour::random(random),
         }
     }
@@ -116,6 +121,7 @@ fn program(random: &mut Random, sort: Sort) -> Vec<u8> {
         Sort::SpendThreads => text(&special::spend_threads(random)),
         Sort::Nest => text(&special::nest(random)),
         Sort::Doubling => text(&special::doubling(random)),
+        Sort::LongRun => text(&special::long_run(random)),
         Sort::Full => text(&special::full(random)),
         Sort::DamagedFrames => {
             let frames = build::frames(random, Plan::roomy);

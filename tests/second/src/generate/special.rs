@@ -1,5 +1,6 @@
 //! Files for the corners that random building rarely reaches: spent cells and
-//! threads, nested moves, sums that wrap, and a text of the greatest length.
+//! threads, nested moves, sums that wrap, allowances that end a long run, and a
+//! text of the greatest length.
 
 use super::build;
 use super::lines::Lines;
@@ -7,6 +8,9 @@ use super::plan::Plan;
 use super::random::Random;
 use crate::frame::{kind, Frame};
 use crate::place::{HOME, PRIVATE};
+
+/// 0, and explicit allowances at 4,096 and 16,384, below the first and past both.
+const ALLOWANCES: [u16; 5] = [0, 0x0FFF, 0x1000, 0x4000, 0xFFFF];
 
 impl Lines {
     /// A balanced tree of `count` leaves under nodes of one kind.
@@ -172,6 +176,23 @@ pub fn doubling(random: &mut Random) -> Vec<Frame> {
     });
     lines.module(body);
     lines.0
+}
+
+/// A thread at home that counts and one at scheduler 3 that only cooperates,
+/// both for ever, so that every part of a long list has something to do.
+pub fn long_run(random: &mut Random) -> Vec<Frame> {
+    let mut lines = Lines::new(ALLOWANCES[random.below(ALLOWANCES.len())], 2);
+    lines.add(kind::SHARED_CELL, HOME, [1, 0, 0]);
+    let body = lines.forever(|lines| {
+        let target = lines.leaf(kind::SHARED, 0);
+        let cell = lines.leaf(kind::SHARED, 0);
+        let content = lines.add(kind::CONTENT, 0, [cell, 0, 0]);
+        let one = lines.add(kind::NUMBER, 0, [1, 0, 0]);
+        let sum = lines.add(kind::SUM, 0, [content, one, 0]);
+        lines.add(kind::STORE, 0, [target, sum, 0])
+    });
+    lines.module(body);
+    lines.with_intruder(|lines| lines.forever(|lines| lines.leaf(kind::NOTHING, 0)))
 }
 
 /// A file of 1,024 lines, or just under or over, `main` being nothing.
