@@ -142,8 +142,8 @@ int main(void)
     expect("choices", purkvaldi_steps(text, length, state, WORDS, many, 6, answers, 6), 0);
     for (i = 0; i < 6; i++)
         expect("a choice among many", answers[i], codes[i]);
-    expect("behind the answers", answers[6], 7);
-    refused("behind the choices", WORDS, 2, 0x100000);
+    expect("after the answers", answers[6], 7);
+    refused("after the choices", WORDS, 2, 0x100000);
     state[0] = UINT64_MAX;
     unstepped("choices on a changed state", text, length, WORDS, 3, 0x0E0000);
     expect("no choices on a changed state",

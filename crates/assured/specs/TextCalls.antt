@@ -49,7 +49,8 @@ stateLeft bs w cs = stateOf (textFrames bs) (wordsLeft bs w cs)
 -- choice
 pub record SafeTexts (bs w cs : List ℕ) : Type 0 where
   pub fresh : freshText bs w .answer ≡ Done 0
-  -- every access was to a cell of the acting thread or of the scheduler on which it stood
+  -- every access under every choice or call was to a cell of the acting thread or of the scheduler
+  -- on which it stood, 'those before a refusal too'
   pub accessed : All Own (textAccessesFrom bs (freshText bs w .words) cs)
   -- no call was 14, foreign or stuck, nor was the text refused
   pub answered : All (λ (r : TextResult). Plain (answerNumber (r .answer)))

@@ -33,7 +33,7 @@ use Rattle.evaluator.specs.inner.Results.{hereOf, resultOf, onWords, cel
 use Rattle.evaluator.specs.inner.Results.{ValueWords}
 use Rattle.operations.specs.inner.ByWords.{valueIn, ownerIn, contentIn, cellWordOf, ownIn, newOwnerIn}
 use Rattle.operations.specs.inner.ByWords.{variableIn, sharedIn, makeIn, accessIn, readIn, readingIn}
-use Rattle.operations.specs.inner.ByWords.{putIn, storeIn, aTruth, chosen}
+use Rattle.operations.specs.inner.ByWords.{putWordIn, storeIn, aTruth, chosen}
 use Rattle.evaluator.specs.inner.ByWords.{numbersOf, aNumberIn, evalIn, storingIn}
 use Rattle.operations.proofs.Chains.{Refused, then-is, then-keeps}
 use Rattle.evaluator.proofs.Chains.{regroup}
@@ -220,8 +220,8 @@ module _ (who : Who) (vs : List ℕ) where
         (λ e. agree-left (by-access (access-missing c u e)) stuck)
       where
         by-access : {o : Outcome} → accessIn who c n (getD ws c 0) u ≡ o
-            → thenBy (accessIn who c n (getD ws c 0) u) n ws (putIn c) ≡ thenBy o n ws (putIn c)
-        by-access e = ap (λ (o : Outcome). thenBy o n ws (putIn c)) e
+            → thenBy (accessIn who c n (getD ws c 0) u) n ws (putWordIn c) ≡ thenBy o n ws (putWordIn c)
+        by-access e = ap (λ (o : Outcome). thenBy o n ws (putWordIn c)) e
     agree-store (Number m) u f = stuck
     agree-store (Truth b) u f = stuck
 

@@ -31,7 +31,8 @@ mostDepth = 24
 abbrev pub mostVariables : ℕ
 mostVariables = 25
 
--- a state: 'a 65th thread', 'a 257th cell'; a continuation has as much space as the variables
+-- a state: 'a 65th thread', 'a 257th cell'; a continuation has as much space as the variables, and
+-- a list holds every thread
 abbrev pub mostThreads : ℕ
 mostThreads = 64
 

@@ -1,4 +1,5 @@
--- Refusals 4 to 7: what each fault of the layout is, and which comes first.
+-- Refusals 4 to 7: what each fault of the layout is, and which comes first. Nothing is computed
+-- here.
 use Rattle.basics.specs.Prelude.{List, true, false, _||_, ℕ, suc, _≤_, _<_, length, _≡_, _⊎_}
 use Rattle.language.specs.{Kinds.isHeader, Kinds.isShared, Kinds.classOf}
 use Rattle.language.specs.{declared.frame.Frame.Frame, Refusals.wrongHeader, Refusals.wrongField}
@@ -18,7 +19,8 @@ pub data Fault (fs : List Frame) : ℕ → ℕ → Type 0 where
   field : {j : ℕ} → j < length fs → frameFine fs j (frameAt fs j) ≡ false → Fault fs wrongField j
   -- 'order, a child of the wrong class': no tree ends at j
   order : {j : ℕ} → j < length fs → ((lo : ℕ) → Tree fs lo j → ⊥) → Fault fs wrongOrder j
-  -- 'Frames stand as header, shared cells .., then the rest': the shared cell j is misplaced
+  -- 'Frames stand as header, shared cells .., then the rest': the shared cell j is after another
+  -- kind
   misplaced : {i j : ℕ}
       → i < j → j < length fs → isShared (frameAt fs j .kind) ≡ true
       → (isHeader (frameAt fs i .kind) || isShared (frameAt fs i .kind)) ≡ false

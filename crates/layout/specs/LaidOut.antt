@@ -7,7 +7,8 @@ use Rattle.layout.specs.declared.LayoutVerdict.the-variants.{LaidOut, Re
 use Rattle.layout.specs.Faults.{LayoutSays}
 use Rattle.layout.specs.inner.Scans.{layoutOf}
 
--- `HasLayout bs v`: what refusals 1 to 7 say of the text bs, by their rules
+-- `HasLayout bs v`: what refusals 1 to 7 say of the text bs, by their rules; nothing is computed
+-- here
 pub data HasLayout : List ℕ → LayoutVerdict → Type 0 where
   text : {bs : List ℕ} {n j : ℕ} → Reads bs (refused n j) → HasLayout bs (Rejected n j)
   layout : {bs : List ℕ} {fs : List Frame} {v : LayoutVerdict}

@@ -11,7 +11,8 @@ mutual
   pub data Tree (fs : List Frame) : ℕ → ℕ → Type 0 where
     root : {lo i : ℕ} → Row fs lo i (children (frameAt fs i)) → Tree fs lo i
 
-  -- `Row fs lo stop cs`: the frames from lo on and before `stop` are the trees of the children cs
+  -- `Row fs lo stop cs`: the frames from lo to just before `stop` are the trees of the children cs,
+  -- each of its class
   pub data Row (fs : List Frame) : ℕ → ℕ → List Child → Type 0 where
     none : {stop : ℕ} → Row fs stop stop []
     more : {lo stop : ℕ} {c : Child} {cs : List Child}

@@ -11,7 +11,7 @@ use Rattle.basics.proofs.Ifs.{if-yes, if-no}
 use Rattle.text.specs.inner.Lines.{frameRead}
 use Rattle.text.specs.declared.line.FrameRead.{FrameRead}
 use Rattle.text.proofs.FrameLaws.{frame-over}
-use Rattle.lines.specs.inner.Readers.{isRead, framesOfNext, framesFrom}
+use Rattle.lines.specs.Readers.{isRead, framesOfNext, framesFrom}
 
 -- whether line n is a frame
 abbrev isFrame : List ℕ → ℕ → Bool

@@ -7,7 +7,7 @@ use native.Mathlib.Numerals.{add-one}
 use lib.ListN.{length}
 use borrow.Author.Tests.{lt-ltb, le-ltb}
 use Rattle.basics.proofs.Ifs.{yes, no}
-use Rattle.lines.specs.inner.Readers.{lineAfter}
+use Rattle.lines.specs.Readers.{lineAfter}
 
 module _ (bs : List ℕ) (n : ℕ) where
   pub after-end : length bs / 17 ≤ n → n ≡ lineAfter bs n

@@ -7,8 +7,8 @@ use text::line::FrameRead;
 use text::line::frame_at;
 ghost use mathlib.Core.Path.{_≡_};
 ghost use Rattle.text.specs.inner.Lines.{frameRead};
-ghost use Rattle.lines.specs.inner.Readers.{lineAfter, isRead, framesFrom, opened, frameHere};
-ghost use Rattle.lines.specs.inner.Readers.{moved, framesAhead};
+ghost use Rattle.lines.specs.Readers.{lineAfter, isRead, framesFrom, opened, frameHere};
+ghost use Rattle.lines.specs.Readers.{moved, framesAhead};
 
 pub struct LineReader<'a> {
     pub text: &'a [u8],

@@ -3,13 +3,15 @@ use Rattle.basics.specs.Prelude.{ℕ, _≤_, _≡_, _⊎_}
 use Rattle.language.specs.Places.{home}
 use Rattle.machine.specs.State.{threadOwner}
 
--- 01's touch, 'read, store or creation' of a cell: its owner then, the acting thread and its place
+-- 01's touch, 'read, store or creation' of a cell: its owner at that time, and which thread acted,
+-- on which place (1: unlinked)
 pub record Access : Type 0 where
   pub cell : ℕ
   pub owner : ℕ
   pub thread : ℕ
   pub place : ℕ
 
--- the cell was 'owned .. by the acting thread' or 'by the scheduler on which it stands'
+-- the cell was 'owned .. by the acting thread' or 'by the scheduler on which it stands'; any other
+-- access is foreign
 abbrev pub Own : Access → Type 0
 Own x = (x .owner ≡ threadOwner (x .thread)) ⊎ ((home ≤ x .place) × (x .owner ≡ x .place))

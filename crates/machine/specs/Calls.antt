@@ -21,7 +21,8 @@ pub record CallResult : Type 0 where
 abbrev pub callResult : ℕ → ℕ → List ℕ → CallResult
 callResult n t w = record { answer = n; thread = t; words = w }
 
--- the fresh state; 14 is 'a lent buffer of the wrong length' ('No buffer changes.')
+-- the fresh state; 14 is 'a lent buffer of the wrong length', whatever its words ('No buffer
+-- changes.')
 unfoldable pub freshCall : List Frame → List ℕ → CallResult
 freshCall fs w =
     elim (eqb (length w) stateLength)

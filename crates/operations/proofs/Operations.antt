@@ -21,7 +21,7 @@ use Rattle.operations.specs.inner.Lent.{lentCount, lentCells}
 use Rattle.operations.specs.inner.Results.{result, resultIn, thenBy}
 use Rattle.operations.specs.inner.ByWords.{valueIn, ownerIn, contentIn, cellWordOf, ownIn}
 use Rattle.operations.specs.inner.ByWords.{newOwnerIn, variableIn, sharedIn, leafIn, makeIn}
-use Rattle.operations.specs.inner.ByWords.{accessIn, readIn, readingIn, putIn, storeIn}
+use Rattle.operations.specs.inner.ByWords.{accessIn, readIn, readingIn, putWordIn, storeIn}
 use Rattle.operations.proofs.InState.{cell-at, put-in, new-in}
 use Rattle.operations.proofs.Told.{IsRefusal, IsNoCell, a-cell}
 use Rattle.operations.proofs.Chains.{then-refused}
@@ -189,17 +189,17 @@ reading-is who v n ws o e = ap (λ (p : Outcome). result p n ws) e
 -- ---- a cell stored in: o is what the access answers
 module _ (who : Who) (v u : Value) (c : ℕ) (w : List ℕ) (o : Outcome) (ev : v ≡ Cell c)
     (eo : o ≡ accessIn who c (getD w cellCountAt 0) (getD w (cellsAt + c) 0) u) where
-  store-at : thenBy o (lentCount w) (lentCells w) (putIn c) ≡ storeIn who v u (lentCount w) (lentCells w)
+  store-at : thenBy o (lentCount w) (lentCells w) (putWordIn c) ≡ storeIn who v u (lentCount w) (lentCells w)
   unfolding storeIn lentCount
   store-at =
       let n : ℕ = getD w cellCountAt 0 in
-      ap (λ (p : Outcome). thenBy p n (lentCells w) (putIn c))
+      ap (λ (p : Outcome). thenBy p n (lentCells w) (putWordIn c))
       (eo ∙ ap (λ (y : ℕ). accessIn who c n y u) (cell-at w c))
       ∙ ap (λ (y : Value). storeIn who y u n (lentCells w)) (sym ev)
 
   -- a refusal changes nothing
   pub store-refused : IsRefusal o → resultIn o w ≡ storeIn who v u (lentCount w) (lentCells w)
-  store-refused h = then-refused (resultIn o w) (putIn c) h ∙ store-at
+  store-refused h = then-refused (resultIn o w) (putWordIn c) h ∙ store-at
 
   -- y is the cell's word after the store
   pub store-is : (x : Value) (y : ℕ) → o ≡ Is x
@@ -209,7 +209,7 @@ module _ (who : Who) (v u : Value) (c : ℕ) (w : List ℕ) (o : Outcome) (ev : 
       put-in w (Is x) c y
       ∙ ap (λ (z : ℕ). result (Is x) (lentCount w) (set (lentCells w) c z))
       (ey ∙ ap (λ (z : ℕ). cellWordOf (ownerIn z) x) (cell-at w c))
-      ∙ ap (λ (p : Outcome). thenBy p (lentCount w) (lentCells w) (putIn c)) (sym ex)
+      ∙ ap (λ (p : Outcome). thenBy p (lentCount w) (lentCells w) (putWordIn c)) (sym ex)
       ∙ store-at
 
 pub store-none : (who : Who) (v u : Value) (n : ℕ) (ws : List ℕ) → IsNoCell v

@@ -1,4 +1,5 @@
--- Statements and expressions as trees. Each node carries its frame's number, which refusals name.
+-- Statements and expressions as trees. Each node carries its frame's number, which refusals name
+-- and continuations hold.
 use Rattle.basics.specs.Prelude.{List, [], _∷_, ℕ, zero, suc, getD}
 use Rattle.language.specs.declared.frame.Frame.{Frame}
 use kind.{StatementKind.StatementKind, ExpressionKind.ExpressionKind, Kind.Kind}

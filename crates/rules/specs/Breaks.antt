@@ -1,4 +1,5 @@
--- What it is for a frame to break a rule, from what its children are: refusals 8 to 13.
+-- What it is for a frame to break a rule, from what its children are: refusals 8 to 13. Nothing is
+-- computed here.
 use Rattle.basics.specs.Prelude.{List, Bool, true, false, ℕ, _≤_, _<_, length, _≡_}
 use Rattle.language.specs.Places.{private, Standing, unlinked, standingAt}
 use Rattle.language.specs.Types.{numberType, truthType, isCell, contentOf, roomAround, public}

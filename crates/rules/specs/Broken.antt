@@ -1,4 +1,4 @@
--- Which rule a program breaks first: refusals 8 to 13 over a whole file.
+-- Which rule a program breaks first: refusals 8 to 13 over a whole file. Nothing is computed here.
 use Rattle.basics.specs.Prelude.{List, [], _∷_, _++_, Bool, false, ℕ, _≤_, _<_, _≡_, _⊎_, In}
 use Rattle.language.specs.{Places.home, Places.Standing, Places.linked, Places.standingAt}
 use Rattle.language.specs.{Effects.within, declared.effect.Effect.Effect}
@@ -69,7 +69,8 @@ pub data BrokenS (env : Setting) (below : List Signature)
       → ChildS env Γ at p Δ by q → BrokenS env below Δ by q n j
       → BrokenS env below Γ at p n j
 
--- `BrokenM env below ms n j`: in the modules ms, after those of the signatures `below`, likewise
+-- `BrokenM env below ms n j`: in the modules ms, which stand after modules with the signatures
+-- `below`, frame j breaks rule n
 pub data BrokenM (env : Setting) : List Signature → List Part → ℕ → ℕ → Type 0 where
   body : {below : List Signature} {m : Part} {ms : List Part} {n j : ℕ}
       → BrokenS env below (m .types) linked (m .body) n j

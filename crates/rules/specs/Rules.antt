@@ -72,7 +72,8 @@ pub data HasType (cells Γ : List ℕ) : Expr → ℕ → Effect → Type 0 wher
       → HasType cells Γ z numberType g
       → HasType cells Γ (Expr.choose i x y z) numberType (e ∪ f ∪ g)
 
--- `HaveTypes cells Γ xs ts e`: the expressions xs have the types ts, and together the effect e
+-- `HaveTypes cells Γ xs ts e`: the expressions xs have the types ts, in order, and together the
+-- effect e
 pub data HaveTypes (cells Γ : List ℕ) : List Expr → List ℕ → Effect → Type 0 where
   none : HaveTypes cells Γ [] [] noEffect
   more : {x : Expr} {t : ℕ} {e : Effect} {xs : List Expr} {ts : List ℕ} {f : Effect}
@@ -83,10 +84,11 @@ pub data HaveTypes (cells Γ : List ℕ) : List Expr → List ℕ → Effect →
 abbrev pub AllPublic : List ℕ → Type 0
 AllPublic ts = All (λ (t : ℕ). public t ≡ true) ts
 
--- `HasEffect env below Γ at p e b`: in a module after the modules `below`, where the variables have
--- the types Γ and the thread stands `at`, the statement p has the effect e, and b says whether it
--- ends at once (report 001: terminates instantly): '10, 13, 17, 19 yes; 14, 15 no; 11 if both do;
--- 18 if either does; 12 and 16 as their bodies.'
+-- `HasEffect env below Γ at p e b`: in a file of that setting, in a module after the modules
+-- `below`, where the variables have the types Γ and the thread stands `at`, the statement p has the
+-- effect e, and b says whether it ends at once (report 001: terminates instantly): 'A statement
+-- ends at once: 10, 13, 17, 19 yes; 14, 15 no; 11 if both do; 18 if either does; 12 and 16 as their
+-- bodies.'
 pub data HasEffect (env : Setting) (below : List Signature)
     : List ℕ → Standing → Stmt → Effect → Bool → Type 0 where
   -- 10 nothing

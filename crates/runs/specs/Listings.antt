@@ -23,7 +23,8 @@ pub record FinalState : Type 0 where
   pub used : ℕ
   pub words : List ℕ
 
--- 'choices used, which is the smaller of the list's length and the allowance': so many are stepped
+-- 'choices used, which is the smaller of the list's length and the allowance': so many are stepped,
+-- from the fresh state on
 unfoldable pub finalState : Program → List ℕ → FinalState
 finalState p cs = record { used = usedOf p cs; words = pack (stateAfter p (take (usedOf p cs) cs)) }
 

@@ -107,7 +107,7 @@ fn list_refusal(number: u8, line: u16, out: &mut [u8]) -> ListingAnswer
     }
 }
 
-// Behind the check's line: choices.txt is judged whole before any step.
+// After the check's line: choices.txt is judged whole before any step.
 fn list_choices(frames: &[u64], bytes: &[u8], state: &mut [u64], out: &mut [u8]) -> ListingAnswer
     requires { ⌜ FileWords (now frames) × (length (now state) ≡ stateLength)
         × (length (now out) ≡ mostListingBytes) ⌝ }

@@ -45,7 +45,8 @@ Sound n = (n ≢ foreign) × (n ≢ stuck)
 -- ---- the statement, of a program and a list of choices, from the fresh state on
 
 pub record Safe (p : Program) (cs : List ℕ) : Type 0 where
-  -- every access was to a cell of the acting thread or of the scheduler on which it stood
+  -- every access under every choice or call was to a cell of the acting thread or of the scheduler
+  -- on which it stood, 'those before a refusal too'
   pub accessed : All Own (accessesOf p cs)
   pub public : NoPrivateInPublic (stateAfter p cs)
   pub apart : Apart (stateAfter p cs)

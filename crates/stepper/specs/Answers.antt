@@ -40,7 +40,8 @@ textResult a w = record { answer = a; words = w }
 abbrev pub asTextResult : CallResult → TextResult
 asTextResult r = textResult (answerTo (r .answer) (r .thread)) (r .words)
 
--- 'after 1 to 7, in number order': the text's refusal; else what the call gives on its frames
+-- 'after 1 to 7, in number order': the text's refusal, which changes no buffer; else what the call
+-- gives on its frames
 abbrev pub onText : List ℕ → List ℕ → (List Frame → CallResult) → TextResult
 onText bs w call =
     afterReading (λ n j. textResult (A.Rejected n j) w) (λ fs. asTextResult (call fs)) (reading bs)
@@ -55,7 +56,8 @@ stepText bs w c = onText bs w (λ fs. stepCall fs w c)
 
 -- ---- many choices in one call: one step after the other, as `step` called for each
 
--- the answer to one choice as a number: 01's above 16 bits, the acting thread, 0 where none acts
+-- the answer to one choice as a number: 01's above 16 bits, 0 where it is done; the acting thread,
+-- 0 where none acts
 abbrev pub answerWord : CallResult → ℕ
 answerWord r = r .answer * 2 ^ 16 + r .thread
 

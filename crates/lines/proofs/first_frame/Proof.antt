@@ -54,7 +54,7 @@ use Rattle.text.specs.inner.Lines.{frameRead}
 use Rattle.text.specs.declared.line.FrameRead.{FrameRead}
 use Rattle.text.proofs.line.FrameRead as S
 use Rattle.text.proofs.line.FrameRead.Laws as S′
-use Rattle.lines.specs.inner.Readers.{opened, frameHere, moved}
+use Rattle.lines.specs.Readers.{opened, frameHere, moved}
 use Rattle.lines.specs.declared.LineReader.{LineReader}
 use Rattle.lines.proofs.LineReader as T
 use Rattle.lines.proofs.LineReader.Laws as T′

@@ -41,7 +41,7 @@ use denote.Triple.Walked.{says, Stays, stay-none, walkOf, goes-none, Walks, ends
 use denote.Triple.Walked.{walk-meets}
 use denote.Exit.{yes}
 use denote.Triple.Clauses.{ensured, lasts}
-use Rattle.lines.specs.inner.Readers.{framesFrom}
+use Rattle.lines.specs.Readers.{framesFrom}
 use Rattle.lines.specs.declared.LineReader.{LineReader}
 use Rattle.lines.proofs.LineReader as T
 use Rattle.lines.proofs.LineReader.Laws as T′

@@ -58,7 +58,7 @@ use Rattle.text.proofs.line.frame_at as frame-at
 use Rattle.text.proofs.line.frame_at.Symbol as frame-at-def
 use Rattle.text.proofs.line.frame_at.Symbol.{name as #text·line·frame-at}
 use Rattle.text.proofs.line.frame_at.Met as frame-at-thm
-use Rattle.lines.specs.inner.Readers.{lineAfter}
+use Rattle.lines.specs.Readers.{lineAfter}
 use Rattle.lines.specs.declared.LineReader.{LineReader}
 use Rattle.lines.proofs.LineReader as T
 use Rattle.lines.proofs.LineReader.Laws as T′

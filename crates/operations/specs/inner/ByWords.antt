@@ -93,12 +93,12 @@ usingIn who (Make s) = makeIn who (s .number)
 usingIn who Read = readingIn who
 
 -- v in the word of cell c, which keeps its owner
-abbrev pub putIn : ℕ → Value → ℕ → List ℕ → Result
-putIn c v n ws = result (Is v) n (set ws c (cellWordOf (ownerIn (getD ws c 0)) v))
+abbrev pub putWordIn : ℕ → Value → ℕ → List ℕ → Result
+putWordIn c v n ws = result (Is v) n (set ws c (cellWordOf (ownerIn (getD ws c 0)) v))
 
 -- only where the access is allowed: a refusal changes nothing
 unfoldable pub storeIn : Who → Value → Value → ℕ → List ℕ → Result
-storeIn who (Cell c) v n ws = thenBy (accessIn who c n (getD ws c 0) v) n ws (putIn c)
+storeIn who (Cell c) v n ws = thenBy (accessIn who c n (getD ws c 0) v) n ws (putWordIn c)
 storeIn who (Number m) v n ws = result Stuck n ws
 storeIn who (Truth b) v n ws = result Stuck n ws
 
