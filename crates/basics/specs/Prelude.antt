@@ -8,5 +8,5 @@ pub use lib.Dec.{ltb, leb, eqb}
 pub use lib.ListN.{length, getD, set, take, drop, replicate}
 pub use lib.Seq.{paste}
 pub use lib.Bits.{bitOr}
-pub use Rattle.basics.specs.If.{if_then_else_}
+pub use Rattle.basics.specs.If.{if_then_else_, keepIf}
 pub use Rattle.basics.specs.Members.{In, All, any}

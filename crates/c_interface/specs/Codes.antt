@@ -20,9 +20,7 @@ pub record CheckedCode (bs : List ℕ) (r : ℕ) : Type 0 where
 
 -- the code of a call's answer, with the acting thread where no frame is named
 abbrev pub answerCode : Answer → ℕ
-answerCode (Rejected n j) = n * 2 ^ 16 + j
-answerCode (Refused n t) = n * 2 ^ 16 + t
-answerCode (Done t) = t
+answerCode a = elim a [ Rejected n j ↦ n * 2 ^ 16 + j | Refused n t ↦ n * 2 ^ 16 + t | Done t ↦ t ]
 
 -- a call's number, and all lent words after it
 pub record Coded : Type 0 where

@@ -12,7 +12,6 @@ use Rattle.program.specs.Programs.{programOf, modulesFrom}
 use Rattle.program.specs.inner.Shared.{SharedFirst, sharedTypes}
 use Rattle.program.specs.declared.shared.SharedTypes.{SharedTypes}
 use Rattle.program.proofs.SharedTypeLaws.{types-room, types-taken}
-use Rattle.layout.specs.declared.LayoutVerdict.{LayoutVerdict}
 use Rattle.layout.specs.Faults.{NoFault}
 use Rattle.layout.specs.inner.Layouts.{laidAs, laidWords}
 use Rattle.layout.specs.declared.Laid.{Laid}
@@ -52,47 +51,47 @@ promise bs r e = subst (Checked bs) (sym e) (verdict-computes bs)
 
 -- l is what `lay_into` answered, ws what the lent words hold
 module _ (bs : List ℕ) (l : Laid) (ws : List ℕ) (e : laidAs l ws ≡ laidWords bs) where
-  pub check-rejected : (v : LayoutVerdict) (n j : ℕ) → v ≡ l .verdict
-      → v ≡ LayoutVerdict.Rejected n j → Rejected n j ≡ verdict bs
+  pub check-rejected : (n j : ℕ) → l ≡ Laid.Rejected n j → Rejected n j ≡ verdict bs
   unfolding verdict
-  check-rejected v n j h z = text-refused (λ n j. Rejected n j) (λ fs. rulesOf (programOf fs)) bs (laidAs l ws) e n j (sym h ∙ z)
+  check-rejected n j z =
+      text-refused (λ n j. Rejected n j) (λ fs. rulesOf (programOf fs)) bs l ws e n j z
 
-  module _ (v : LayoutVerdict) (h : v ≡ l .verdict) (a : v ≡ LayoutVerdict.LaidOut) where
-    right : Passed bs (laidAs l ws)
-    right = laid-passed bs (laidAs l ws) e (sym h ∙ a)
+  module _ (n : ℕ) (a : l ≡ Laid.Lines n) where
+    right : Passed bs n ws
+    right = laid-passed bs l ws e n a
 
-    same-length : length (take (l .count) ws) ≡ l .count
+    same-length : length (take n ws) ≡ n
     same-length =
-        sym (length-map (take (l .count) ws) frameOfWord) ∙ ap length (right .lines) ∙ right .count
+        sym (length-map (take n ws) frameOfWord) ∙ ap length (right .lines) ∙ right .count
 
-    pub check-file : (n : ℕ) → n ≡ l .count → FileIn (take n ws)
-    check-file n q =
+    pub check-file : FileIn (take n ws)
+    check-file =
         let s = same-length in
         let x = right .some in
         let y = right .few in
-        subst (λ (k : ℕ). FileIn (take k ws)) (sym q) (record { laid-out = subst NoFault (sym (right .lines)) (right .no-fault); some = omega arith; few = omega arith })
+        record {
+          laid-out = subst NoFault (sym (right .lines)) (right .no-fault);
+          some = omega arith;
+          few = omega arith;
+        }
 
-    pub check-room : l .count ≤ length ws
-    check-room = let s = sym (length-take (l .count) ws) ∙ same-length in omega arith
+    pub check-room : n ≤ length ws
+    check-room = let s = sym (length-take n ws) ∙ same-length in omega arith
 
-    pub check-length : (n : ℕ) → n ≡ l .count → n ≡ length (take n ws)
-    check-length n q = q ∙ sym same-length ∙ ap (λ (k : ℕ). length (take k ws)) (sym q)
+    pub check-length : n ≡ length (take n ws)
+    check-length = sym same-length
 
-    pub check-rules : (n : ℕ) (r : Verdict) → n ≡ l .count
-        → r ≡ rulesOf (programOf (framesOf (take n ws))) → r ≡ verdict bs
+    pub check-rules : (r : Verdict) → r ≡ rulesOf (programOf (framesOf (take n ws)))
+        → r ≡ verdict bs
     unfolding verdict
-    check-rules n r q z =
-        z
-        ∙ text-passed (λ n j. Rejected n j) (λ fs. rulesOf (programOf fs)) bs (laidAs l ws) e
-        (sym h ∙ a) n q
+    check-rules r z =
+        z ∙ text-passed (λ n j. Rejected n j) (λ fs. rulesOf (programOf fs)) bs l ws e n a
 
 pub promised-rejected : (bs : List ℕ) (l : Laid) (ws : List ℕ) → laidAs l ws ≡ laidWords bs
-    → (v : LayoutVerdict) (n j : ℕ) → v ≡ l .verdict → v ≡ LayoutVerdict.Rejected n j
-    → Checked bs (Rejected n j)
-promised-rejected bs l ws e v n j h z =
-    promise bs (Rejected n j) (check-rejected bs l ws e v n j h z)
+    → (n j : ℕ) → l ≡ Laid.Rejected n j → Checked bs (Rejected n j)
+promised-rejected bs l ws e n j z = promise bs (Rejected n j) (check-rejected bs l ws e n j z)
 
 pub promised-rules : (bs : List ℕ) (l : Laid) (ws : List ℕ) → laidAs l ws ≡ laidWords bs
-    → (v : LayoutVerdict) → v ≡ l .verdict → v ≡ LayoutVerdict.LaidOut → (n : ℕ) (r : Verdict)
-    → n ≡ l .count → r ≡ rulesOf (programOf (framesOf (take n ws))) → Checked bs r
-promised-rules bs l ws e v h a n r q z = promise bs r (check-rules bs l ws e v h a n r q z)
+    → (n : ℕ) → l ≡ Laid.Lines n → (r : Verdict)
+    → r ≡ rulesOf (programOf (framesOf (take n ws))) → Checked bs r
+promised-rules bs l ws e n a r z = promise bs r (check-rules bs l ws e n a r z)

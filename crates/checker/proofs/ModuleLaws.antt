@@ -25,7 +25,8 @@ use Rattle.language.specs.declared.frame.Frame.{Frame}
 use Rattle.language.specs.Refusals.{wrongEffect}
 use Rattle.text.specs.Frames.{frameOfWord, framesOf}
 use Rattle.program.specs.Trees.{noFrame, frameAt, statementAt}
-use Rattle.program.specs.Programs.{Part, partOf, withPart, modulesFrom}
+use Rattle.program.specs.Programs.{Part, partOf, modulesFrom}
+use Rattle.program.specs.inner.Modules.{withPart}
 use Rattle.fields.specs.Fields.{countOf}
 use Rattle.layout.specs.inner.Scope.{Room}
 use Rattle.layout.specs.Faults.{NoFault}

@@ -2,7 +2,7 @@
 use crate::module::modules_rule;
 use language::limit::MOST_LINES;
 use language::verdict::Verdict;
-use layout::LayoutVerdict;
+use layout::Laid;
 use layout::lay_into;
 use program::shared::shared_types;
 ghost use mathlib.Core.Path.{_≡_};
@@ -29,13 +29,8 @@ pub fn check(text: &[u8]) -> Verdict
     ensures promised { λ r. ⌜ Checked (now (text .entry)) r ⌝ }
 {
     let mut words = [0u64; MOST_LINES];
-    let l = lay_into(text, &mut words);
-    let v = l.verdict;
-    match v {
-        LayoutVerdict::Rejected(n, j) => Verdict::Rejected(n, j),
-        LayoutVerdict::LaidOut => {
-            let n = l.count;
-            rules_of(&words[..n])
-        }
+    match lay_into(text, &mut words) {
+        Laid::Rejected(n, j) => Verdict::Rejected(n, j),
+        Laid::Lines(n) => rules_of(&words[..n]),
     }
 }

@@ -13,15 +13,13 @@ use states::stack::pop_value;
 use states::stack::push_item;
 use states::stack::push_value;
 ghost use mathlib.Core.Path.{_≡_};
-ghost use mathlib.Core.Bool.{true};
 ghost use Prim.Native.Nat.{_-_, _<_, _≤_};
-ghost use Rattle.language.specs.Places.{isPlace};
 ghost use Rattle.language.specs.Limits.{mostVariables, mostItems};
 ghost use Rattle.states.specs.inner.Threads.{threadIn, putThread, ThreadSpace};
 ghost use Rattle.states.specs.inner.Stacks.{pushItem};
 ghost use Rattle.acts.specs.declared.act.Change.the-variants.{Let, Enter};
 ghost use Rattle.acts.specs.inner.Transitions.{changed, popped};
-ghost use Rattle.commits.specs.inner.Commits.{placeAfter, RoomIn};
+ghost use Rattle.commits.specs.inner.Commits.{placeAfter, RoomIn, ChangeSpace};
 
 // The top item off the continuation; where there is none, nothing changes.
 pub(crate) fn take_item(state: &mut [u64], k: usize)
@@ -56,8 +54,7 @@ fn push_let(state: &mut [u64], k: usize, value: u64, body: u64)
 
 // 12: to place q, with the body above 'back to here'.
 fn enter(state: &mut [u64], k: usize, q: Place, body: u64)
-    requires { ⌜ ThreadSpace (now state) k × (threadIn (now state) k .items < mostItems - 1)
-        × (isPlace (threadIn (now state) k .place) ≡ true) ⌝ }
+    requires { ⌜ ChangeSpace (now state) k (Enter q body) ⌝ }
     ensures { λ _. ⌜ now (state .exit) ≡ putThread (now (state .entry)) k
         (changed (Enter q body) (threadIn (now (state .entry)) k)) ⌝ }
 {
@@ -67,9 +64,8 @@ fn enter(state: &mut [u64], k: usize, q: Place, body: u64)
 }
 
 pub(crate) fn change_thread(state: &mut [u64], k: usize, change: Change)
-    requires { ⌜ ThreadSpace (now state) k × (threadIn (now state) k .values ≤ mostVariables)
-        × (isPlace (threadIn (now state) k .place) ≡ true)
-        × RoomIn change (threadIn (now state) k) ⌝ }
+    requires { ⌜ ChangeSpace (now state) k change
+        × (threadIn (now state) k .values ≤ mostVariables) ⌝ }
     ensures { λ _. ⌜ now (state .exit) ≡ putThread (now (state .entry)) k
         (changed change (threadIn (now (state .entry)) k)) ⌝ }
 {

@@ -6,6 +6,4 @@ use Rattle.files.specs.declared.Printed.the-variants.{Whole, Failed, Too
 -- there are fewer bytes than were to be printed; whether the system took those that there are,
 -- `Whole` or `Failed`, is outside the logic
 abbrev pub tooFew : Printed → Bool
-tooFew TooFew = true
-tooFew Failed = false
-tooFew Whole = false
+tooFew p = elim p [ TooFew ↦ true | Failed ↦ false | Whole ↦ false ]

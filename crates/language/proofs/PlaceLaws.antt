@@ -1,6 +1,6 @@
 -- What the constructors and the tests of `Place` compute, return by return, with the tests that
 -- lead there as premises. Assumes nothing.
-use mathlib.Core.Path.{_≡_, refl, sym, _∙_}
+use mathlib.Core.Path.{_≡_, refl, sym, ap, _∙_}
 use mathlib.Core.Bool.{Bool, true, false, _&&_}
 use Prim.Native.Nat.{ℕ, _+_, _-_, _≤_, _<_}
 use native.Mathlib.Omega.{arith}
@@ -14,42 +14,35 @@ use Rattle.language.specs.declared.Place.{Place}
 use Rattle.language.specs.declared.PlaceRead.{PlaceRead}
 use Rattle.language.specs.declared.PlaceRead.the-variants.{At, NoPlace}
 
--- ---- a constructor whose numbers are `low` to 9: the number is too low, too high, or right
-module _ (low n : ℕ) where
-  by-low : n < low → NoPlace ≡ placeRead (leb low n && leb n 9) n
-  unfolding placeRead
-  by-low h = no _ (rw (lt-leb low n h)) refl
-
-  by-high : low ≤ n → 9 < n → NoPlace ≡ placeRead (leb low n && leb n 9) n
-  unfolding placeRead
-  by-high l h = no _ (rw (le-leb low n l, lt-leb n 9 h)) refl
-
-  by-right : low ≤ n → n ≤ 9 → At (record { number = n }) ≡ placeRead (leb low n && leb n 9) n
-  unfolding placeRead
-  by-right l h = yes _ (rw (le-leb low n l, le-leb n 9 h)) refl
+-- ---- the constructors: the number is too low, too high, or right
+by-low : (low n : ℕ) → n < low → NoPlace ≡ placeRead (leb low n && leb n 9) n
+unfolding placeRead
+by-low low n h = no _ (rw (lt-leb low n h)) refl
 
 pub place-low : (n : ℕ) → n < 1 → NoPlace ≡ placeRead (isPlace n) n
 place-low = by-low 1
 
 pub place-high : (n : ℕ) → 1 ≤ n → 9 < n → NoPlace ≡ placeRead (isPlace n) n
-place-high = by-high 1
+unfolding placeRead
+place-high n l h = no _ (rw (le-leb 1 n l, lt-leb n 9 h)) refl
 
 pub place-right : (n : ℕ) → 1 ≤ n → n ≤ 9 → At (record { number = n }) ≡ placeRead (isPlace n) n
-place-right = by-right 1
+unfolding placeRead
+place-right n l h = yes _ (rw (le-leb 1 n l, le-leb n 9 h)) refl
 
 pub ruleset place-laws = (place-low, place-high, place-right)
 
 pub scheduler-low : (n : ℕ) → n < 2 → NoPlace ≡ placeRead (isScheduler n) n
 scheduler-low = by-low 2
 
-pub scheduler-high : (n : ℕ) → 2 ≤ n → 9 < n → NoPlace ≡ placeRead (isScheduler n) n
-scheduler-high = by-high 2
+-- from home on a scheduler is a place; r is what the constructor of places answers
+pub scheduler-read : (n : ℕ) (r : PlaceRead) → 2 ≤ n → r ≡ placeRead (isPlace n) n
+    → r ≡ placeRead (isScheduler n) n
+scheduler-read n r h e =
+    e ∙ ap (λ (t : Bool). placeRead (t && leb n 9) n)
+    (le-leb 1 n (omega arith) ∙ sym (le-leb 2 n h))
 
-pub scheduler-right : (n : ℕ) → 2 ≤ n → n ≤ 9
-    → At (record { number = n }) ≡ placeRead (isScheduler n) n
-scheduler-right = by-right 2
-
-pub ruleset scheduler-laws = (scheduler-low, scheduler-high, scheduler-right)
+pub ruleset scheduler-laws = (scheduler-low, scheduler-read)
 
 -- ---- what a constructor's answer says of the number: a place is that number's, and its test holds
 pub read-at : (t : Bool) (n : ℕ) (p : Place) → placeRead t n ≡ At p → (t ≡ true) × (p .number ≡ n)

@@ -5,9 +5,7 @@ use Rattle.language.specs.declared.verdict.Verdict.{Verdict}
 use Rattle.language.specs.declared.verdict.Verdict.the-variants.{Accepted, Rejected}
 
 abbrev pub numberOf : Verdict → ℕ
-numberOf Accepted = 0
-numberOf (Rejected n j) = n
+numberOf v = elim v [ Accepted ↦ 0 | Rejected n j ↦ n ]
 
 abbrev pub frameOf : Verdict → ℕ
-frameOf Accepted = 0
-frameOf (Rejected n j) = j
+frameOf v = elim v [ Accepted ↦ 0 | Rejected n j ↦ j ]

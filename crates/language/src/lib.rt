@@ -48,17 +48,14 @@ impl Place {
         PlaceRead::At(Place { number: n as u8 })
     }
 
-    // The scheduler of that number.
+    // The scheduler of that number: a place from home on.
     pub fn scheduler(n: u64) -> PlaceRead
         ensures { λ r. ⌜ r ≡ placeRead (isScheduler n) n ⌝ }
     {
         if n < Place::HOME.number as u64 {
             return PlaceRead::NoPlace;
         }
-        if (Place::LAST_SCHEDULER.number as u64) < n {
-            return PlaceRead::NoPlace;
-        }
-        PlaceRead::At(Place { number: n as u8 })
+        Place::new(n)
     }
 
     // The place of a number that has been found to be one: S of a frame that passes refusal 5, a

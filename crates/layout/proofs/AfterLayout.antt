@@ -10,14 +10,14 @@ use Rattle.text.specs.Frames.{framesOf, textFrames}
 use Rattle.text.specs.Reading.{Reading, frames, refused, Reads}
 use Rattle.text.specs.inner.Reading.{reading}
 use Rattle.text.proofs.Readings.{reads, reads-one, some-frame}
-use Rattle.layout.specs.declared.LayoutVerdict.the-variants.{LaidOut, Rejected}
+use Rattle.layout.specs.declared.LayoutVerdict.the-variants.{Rejected}
+use Rattle.layout.specs.declared.Laid.{Laid}
 use Rattle.layout.specs.Faults.{NoFault}
 use Rattle.layout.specs.inner.Scans.{layoutOf}
-use Rattle.layout.specs.inner.Layouts.{layoutRead, layoutVerdict, LaidWords, laidWords}
+use Rattle.layout.specs.inner.Layouts.{layoutRead, layoutVerdict, laidAs, laidWords}
 use Rattle.layout.specs.LaidOut.{afterLayout, afterReading}
-use Rattle.layout.proofs.Answers.{verdict-is}
 use Rattle.layout.proofs.Scopes.{no-fault-laid-out}
-use Rattle.layout.proofs.Judged.{laid-passed}
+use Rattle.layout.proofs.Judged.{laid-passed, verdict-rejected}
 
 module _ {A : Type 0} (refusal : ℕ → ℕ → A) (passed : List Frame → A) (bs : List ℕ) where
   -- by the rules: the text reads as these frames, and they have no fault
@@ -28,26 +28,26 @@ module _ {A : Type 0} (refusal : ℕ → ℕ → A) (passed : List Frame → A) 
       (ap (afterReading refusal passed) (reads-one (reads bs) h)
       ∙ ap (afterLayout refusal (passed fs)) (no-fault-laid-out fs (some-frame h refl) f))
 
-  module _ (l : LaidWords) (e : l ≡ laidWords bs) where
-    by-reading : (r : Reading) → reading bs ≡ r → (n j : ℕ) → l .verdict ≡ Rejected n j
+  module _ (l : Laid) (ws : List ℕ) (e : laidAs l ws ≡ laidWords bs) where
+    by-reading : (r : Reading) → reading bs ≡ r → (n j : ℕ) → l ≡ Laid.Rejected n j
         → refusal n j ≡ afterReading refusal passed r
     unfolding layoutVerdict
     by-reading (refused m k) q n j z =
-        let y : Rejected m k ≡ Rejected n j = sym (ap layoutRead q) ∙ sym (verdict-is bs l e) ∙ z in
-        sym (ap (afterLayout refusal (passed (textFrames bs))) y)
+        let y : Rejected n j ≡ Rejected m k = verdict-rejected bs l ws e n j z ∙ ap layoutRead q in
+        ap (afterLayout refusal (passed (textFrames bs))) y
     by-reading (frames fs) q n j z =
-        let y : layoutOf fs ≡ Rejected n j = sym (ap layoutRead q) ∙ sym (verdict-is bs l e) ∙ z in
-        sym (ap (afterLayout refusal (passed fs)) y)
+        let y : Rejected n j ≡ layoutOf fs = verdict-rejected bs l ws e n j z ∙ ap layoutRead q in
+        ap (afterLayout refusal (passed fs)) y
 
-    pub text-refused : (n j : ℕ) → l .verdict ≡ Rejected n j
+    pub text-refused : (n j : ℕ) → l ≡ Laid.Rejected n j
         → refusal n j ≡ afterReading refusal passed (reading bs)
     text-refused n j z = by-reading (reading bs) refl n j z
 
-    pub text-passed : l .verdict ≡ LaidOut → (n : ℕ) → n ≡ l .count
-        → passed (framesOf (take n (l .words))) ≡ afterReading refusal passed (reading bs)
-    text-passed a n q =
-        let r = laid-passed bs l e a in
-        ap (λ (k : ℕ). passed (framesOf (take k (l .words)))) q ∙ ap passed (r .lines)
+    pub text-passed : (n : ℕ) → l ≡ Laid.Lines n
+        → passed (framesOf (take n ws)) ≡ afterReading refusal passed (reading bs)
+    text-passed n z =
+        let r = laid-passed bs l ws e n z in
+        ap passed (r .lines)
         ∙ sym
         (ap (afterReading refusal passed) (r .reads)
         ∙ ap (afterLayout refusal (passed (textFrames bs))) (no-fault-laid-out (textFrames bs) (let c = r .count in let s = r .some in omega arith) (r .no-fault)))

@@ -20,8 +20,10 @@ use Rattle.fields.specs.inner.Scans.{headerFault, fieldFault, found}
 use Rattle.fields.proofs.Finds.{found-none, found-some}
 use Rattle.layout.specs.declared.LayoutVerdict.{LayoutVerdict}
 use Rattle.layout.specs.declared.LayoutVerdict.the-variants.{LaidOut, Rejected}
+use Rattle.layout.specs.declared.Laid.{Laid}
 use Rattle.layout.specs.inner.Scans.{orderFault, depthFault, layoutOf}
-use Rattle.layout.specs.inner.Layouts.{layoutRead, layoutVerdict, LaidWords, laidWords}
+use Rattle.layout.specs.inner.Layouts.{layoutRead, layoutVerdict, laidFor, verdictOf}
+use Rattle.layout.specs.inner.Layouts.{LaidWords, laidAs, laidWords}
 
 -- ---- 4 to 7: the code stops at the first pass that finds a frame
 module _ (fs : List Frame) (a : FaultSearch) (ha : a ≡ found (headerFault fs)) where
@@ -82,23 +84,21 @@ unfolding wordArray
 array-take n bs = take-at (wordsOf n bs) (replicate (1024 - n) 0) n (length-words n bs)
 
 -- ---- 1 to 7, with the lines read: t is what the reader answered, ws what the lent words hold
-abbrev answer : LayoutVerdict → ℕ → List ℕ → LaidWords
-answer v n ws = record { verdict = v; count = n; words = ws }
+abbrev answer : Reading → List ℕ → LaidWords
+answer r ws = laidAs (laidFor (layoutRead r) (linesRead r)) ws
 
 module _ (bs : List ℕ) (t : TextRead) (ws : List ℕ) (h : readAs t ws ≡ textWords bs) where
   words-are : ws ≡ wordArray (linesRead (reading bs)) bs
   unfolding textWords
   words-are = ap (λ (x : TextWords). x .words) h
 
-  by-reading : (r : Reading) → reading bs ≡ r
-      → answer (layoutRead r) (linesRead r) ws ≡ laidWords bs
+  by-reading : (r : Reading) → reading bs ≡ r → answer r ws ≡ laidWords bs
   unfolding laidWords layoutVerdict
   by-reading r e =
-      ap (λ (s : Reading). answer (layoutRead s) (linesRead s) ws) (sym e)
-      ∙ ap
-      (λ (x : TextWords). answer (layoutRead (reading bs)) (linesRead (reading bs)) (x .words)) h
+      ap (λ (s : Reading). answer s ws) (sym e)
+      ∙ ap (λ (x : TextWords). answer (reading bs) (x .words)) h
 
-  pub laid-refused : (n j : ℕ) → t ≡ Refused n j → answer (Rejected n j) j ws ≡ laidWords bs
+  pub laid-refused : (n j : ℕ) → t ≡ Refused n j → laidAs (Laid.Rejected n j) ws ≡ laidWords bs
   laid-refused n j e =
       by-reading (refused n j) (go (reading bs) (sym (read-field bs (readAs t ws) h) ∙ e))
     where
@@ -138,15 +138,43 @@ module _ (bs : List ℕ) (t : TextRead) (ws : List ℕ) (h : readAs t ws ≡ tex
     frames-are =
         ap framesOf (taken ∙ ap (λ (k : ℕ). wordsOf k bs) (sym (w .count) ∙ length-frames bs))
 
-    pub laid-whole : (v : LayoutVerdict) → v ≡ layoutOf (framesOf (take n ws))
-        → answer v n ws ≡ laidWords bs
-    laid-whole v q =
-        ap (λ (x : LayoutVerdict). answer x n ws) (q ∙ ap layoutOf frames-are)
-        ∙ ap (λ (k : ℕ). answer (layoutOf (textFrames bs)) k ws) (sym (w .count))
-        ∙ by-reading (frames (textFrames bs)) (w .is)
+    module _ (v : LayoutVerdict) (q : v ≡ layoutOf (framesOf (take n ws))) where
+      laid-whole : laidAs (laidFor v n) ws ≡ laidWords bs
+      laid-whole =
+          ap (λ (x : LayoutVerdict). laidAs (laidFor x n) ws) (q ∙ ap layoutOf frames-are)
+          ∙ ap (λ (k : ℕ). laidAs (laidFor (layoutOf (textFrames bs)) k) ws) (sym (w .count))
+          ∙ by-reading (frames (textFrames bs)) (w .is)
 
-pub ruleset laid-laws = (laid-refused, laid-whole)
+      pub laid-rejected : (m j : ℕ) → v ≡ Rejected m j
+          → laidAs (Laid.Rejected m j) ws ≡ laidWords bs
+      laid-rejected m j z = ap (λ (x : LayoutVerdict). laidAs (laidFor x n) ws) (sym z) ∙ laid-whole
 
-pub verdict-is : (bs : List ℕ) (l : LaidWords) → l ≡ laidWords bs → l .verdict ≡ layoutVerdict bs
-unfolding laidWords
-verdict-is bs l e = ap (λ (x : LaidWords). x .verdict) e
+      pub laid-lines : v ≡ LaidOut → laidAs (Laid.Lines n) ws ≡ laidWords bs
+      laid-lines z = ap (λ (x : LayoutVerdict). laidAs (laidFor x n) ws) (sym z) ∙ laid-whole
+
+pub ruleset laid-laws = (laid-refused, laid-rejected, laid-lines)
+
+-- ---- from the answer: l is what `lay_into` answered, ws what the lent words hold
+module _ (bs : List ℕ) (l : Laid) (ws : List ℕ) (e : laidAs l ws ≡ laidWords bs) where
+  laid-is : l ≡ laidFor (layoutVerdict bs) (linesRead (reading bs))
+  unfolding laidWords
+  laid-is = ap (λ (x : LaidWords). x .laid) e
+
+  pub words-kept : ws ≡ textWords bs .words
+  unfolding laidWords
+  words-kept = ap (λ (x : LaidWords). x .words) e
+
+  pub verdict-is : verdictOf l ≡ layoutVerdict bs
+  verdict-is = ap verdictOf laid-is ∙ back (layoutVerdict bs)
+    where
+      back : (v : LayoutVerdict) → verdictOf (laidFor v (linesRead (reading bs))) ≡ v
+      back LaidOut = refl
+      back (Rejected n j) = refl
+
+  pub lines-are : (n : ℕ) → l ≡ Laid.Lines n → linesRead (reading bs) ≡ n
+  lines-are n z = go (layoutVerdict bs) (sym laid-is ∙ z)
+    where
+      go : (v : LayoutVerdict) → laidFor v (linesRead (reading bs)) ≡ Laid.Lines n
+          → linesRead (reading bs) ≡ n
+      go LaidOut q = cc
+      go (Rejected m j) q = absurd (let z : _≡_ {A = ℕ} 0 1 = cc in omega arith)

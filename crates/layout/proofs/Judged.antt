@@ -1,4 +1,4 @@
--- What the answer of `lay_into` means: where it is `LaidOut`, the lines kept are frames without
+-- What the answer of `lay_into` means: where it is `Lines`, the lines kept are frames without
 -- fault; its verdict is the one that `HasLayout` allows. Assumes nothing.
 use mathlib.Core.Path.{_≡_, refl, sym, ap, subst, _∙_}
 use mathlib.Core.List.{List}
@@ -18,20 +18,20 @@ use Rattle.layout.specs.declared.Laid.{Laid}
 use Rattle.layout.specs.Faults.{NoFault}
 use Rattle.layout.specs.inner.Scans.{layoutOf}
 use Rattle.layout.specs.LaidOut.{HasLayout, Judged}
-use Rattle.layout.specs.inner.Layouts.{layoutRead, layoutVerdict, LaidWords, laidAs}
+use Rattle.layout.specs.inner.Layouts.{layoutRead, layoutVerdict, verdictOf, laidAs}
 use Rattle.layout.specs.inner.Layouts.{laidWords}
 use Rattle.layout.proofs.Layouts.{layout-says, layout-one}
-use Rattle.layout.proofs.Answers.{Whole, whole, frames-are, verdict-is, laid-refused}
-use Rattle.layout.proofs.Answers.{laid-whole}
+use Rattle.layout.proofs.Answers.{Whole, whole, frames-are, laid-refused, laid-rejected}
+use Rattle.layout.proofs.Answers.{laid-lines, words-kept, verdict-is, lines-are}
 use Rattle.layout.proofs.Scopes.{laid-out-no-fault}
 
 -- the text passes 1 to 7: its frames are those of the lines kept, at most 1,024, and have no fault
-pub record Passed (bs : List ℕ) (l : LaidWords) : Type 0 where
+pub record Passed (bs : List ℕ) (n : ℕ) (ws : List ℕ) : Type 0 where
   pub reads : reading bs ≡ frames (textFrames bs)
-  pub lines : framesOf (take (l .count) (l .words)) ≡ textFrames bs
-  pub count : length (textFrames bs) ≡ l .count
-  pub some : 0 < l .count
-  pub few : l .count ≤ 1024
+  pub lines : framesOf (take n ws) ≡ textFrames bs
+  pub count : length (textFrames bs) ≡ n
+  pub some : 0 < n
+  pub few : n ≤ 1024
   pub no-fault : NoFault (textFrames bs)
 
 laid-reads : (bs : List ℕ) → layoutVerdict bs ≡ LaidOut → Whole bs (linesRead (reading bs))
@@ -48,20 +48,20 @@ frames-laid-out : (bs : List ℕ) (n : ℕ) → Whole bs n → layoutVerdict bs 
 unfolding layoutVerdict
 frames-laid-out bs n w e = ap layoutRead (sym (w .is)) ∙ e
 
-pub laid-passed : (bs : List ℕ) (l : LaidWords) → l ≡ laidWords bs → l .verdict ≡ LaidOut
-    → Passed bs l
-unfolding laidWords
-laid-passed bs l e v =
-    let a : layoutVerdict bs ≡ LaidOut = sym (verdict-is bs l e) ∙ v in
+pub laid-passed : (bs : List ℕ) (l : Laid) (ws : List ℕ) → laidAs l ws ≡ laidWords bs → (n : ℕ)
+    → l ≡ Laid.Lines n → Passed bs n ws
+laid-passed bs l ws e n z =
+    let a : layoutVerdict bs ≡ LaidOut = sym (verdict-is bs l ws e) ∙ ap verdictOf z in
     let w = laid-reads bs a in
-    let c : l .count ≡ linesRead (reading bs) = ap (λ (x : LaidWords). x .count) e in
-    let r : textWords bs .read ≡ Frames (linesRead (reading bs)) = read-field bs (textWords bs) refl ∙ ap textRead (w .is) ∙ ap Frames (w .count) in
+    let c : linesRead (reading bs) ≡ n = lines-are bs l ws e n z in
+    let k : textRead (reading bs) ≡ Frames n = ap textRead (w .is) ∙ ap Frames (w .count ∙ c) in
+    let r : textWords bs .read ≡ Frames n = read-field bs (textWords bs) refl ∙ k in
     record {
       reads = w .is;
       lines =
-          ap (λ (x : LaidWords). framesOf (take (x .count) (x .words))) e
-          ∙ frames-are bs (textWords bs .read) (textWords bs .words) refl (linesRead (reading bs)) r;
-      count = w .count ∙ sym c;
+          ap (λ (x : List ℕ). framesOf (take n x)) (words-kept bs l ws e)
+          ∙ frames-are bs (textWords bs .read) (textWords bs .words) refl n r;
+      count = w .count ∙ c;
       some = (let s = w .some in omega arith);
       few = (let f = w .fits in omega arith);
       no-fault = laid-out-no-fault (textFrames bs) (let s = w .some in let d = w .count in omega arith) (frames-laid-out bs (linesRead (reading bs)) w a);
@@ -81,26 +81,37 @@ unfolding layoutVerdict
 layout-only {bs} (HasLayout.text h) = ap layoutRead (reads-one h (reads bs))
 layout-only {bs} {v} (HasLayout.layout {fs = fs} h s) = layout-one fs v (layoutOf fs) s (layout-says fs (some-frame h refl)) ∙ ap layoutRead (reads-one h (reads bs))
 
-judged : (bs : List ℕ) (l : LaidWords) → l ≡ laidWords bs → Judged bs (l .verdict)
-judged bs l e =
-    let v : l .verdict ≡ layoutVerdict bs = verdict-is bs l e in
+pub judged : (bs : List ℕ) (v : LayoutVerdict) → v ≡ layoutVerdict bs → Judged bs v
+judged bs v e =
     record {
-      says = subst (HasLayout bs) (sym v) (has-layout bs);
-      only = λ other h. layout-only h ∙ sym v;
+      says = subst (HasLayout bs) (sym e) (has-layout bs);
+      only = λ other h. layout-only h ∙ sym e;
     }
+
+answer-judged : (bs : List ℕ) (l : Laid) (ws : List ℕ) → laidAs l ws ≡ laidWords bs
+    → Judged bs (verdictOf l)
+answer-judged bs l ws e = judged bs (verdictOf l) (verdict-is bs l ws e)
 
 -- of each answer of `lay_into`
 module _ (bs : List ℕ) (t : TextRead) (ws : List ℕ) (h : readAs t ws ≡ textWords bs) where
   pub judged-refused : (n j : ℕ) → t ≡ Refused n j → Judged bs (Rejected n j)
-  judged-refused n j e = judged bs _ (laid-refused bs t ws h n j e)
+  judged-refused n j e = answer-judged bs (Laid.Rejected n j) ws (laid-refused bs t ws h n j e)
 
-  pub judged-whole : (n : ℕ) → t ≡ Frames n → (v : LayoutVerdict)
-      → v ≡ layoutOf (framesOf (take n ws)) → Judged bs v
-  judged-whole n e v q = judged bs _ (laid-whole bs t ws h n e v q)
+  module _ (n : ℕ) (e : t ≡ Frames n) (v : LayoutVerdict)
+      (q : v ≡ layoutOf (framesOf (take n ws))) where
+    pub judged-rejected : (m j : ℕ) → v ≡ Rejected m j → Judged bs (Rejected m j)
+    judged-rejected m j z =
+        answer-judged bs (Laid.Rejected m j) ws (laid-rejected bs t ws h n e v q m j z)
 
-pub ruleset judged-laws = (judged-refused, judged-whole)
+    pub judged-lines : v ≡ LaidOut → Judged bs LaidOut
+    judged-lines z = answer-judged bs (Laid.Lines n) ws (laid-lines bs t ws h n e v q z)
+
+pub ruleset judged-laws = (judged-refused, judged-rejected, judged-lines)
 
 -- the verdict alone
 module _ (bs : List ℕ) (l : Laid) (ws : List ℕ) (e : laidAs l ws ≡ laidWords bs) where
-  pub verdict-alone : l .verdict ≡ layoutVerdict bs
-  verdict-alone = verdict-is bs (laidAs l ws) e
+  pub verdict-rejected : (n j : ℕ) → l ≡ Laid.Rejected n j → Rejected n j ≡ layoutVerdict bs
+  verdict-rejected n j z = sym (ap verdictOf z) ∙ verdict-is bs l ws e
+
+  pub verdict-lines : (n : ℕ) → l ≡ Laid.Lines n → LaidOut ≡ layoutVerdict bs
+  verdict-lines n z = sym (ap verdictOf z) ∙ verdict-is bs l ws e

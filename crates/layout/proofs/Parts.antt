@@ -12,7 +12,8 @@ use Rattle.language.specs.declared.kind.Kind.the-variants.{Header, Declared, Mo
 use Rattle.language.specs.declared.kind.Kind.the-variants.{Expression, Unknown}
 use Rattle.language.specs.declared.frame.Frame.{Frame}
 use Rattle.program.specs.Trees.{frameAt}
-use Rattle.program.specs.Programs.{Part, partOf, withPart, modulesFrom}
+use Rattle.program.specs.Programs.{Part, partOf, modulesFrom}
+use Rattle.program.specs.inner.Modules.{withPart}
 use Rattle.layout.specs.Order.{isMain}
 use Rattle.layout.specs.Faults.{Fault}
 use Rattle.layout.proofs.Placed.{PlacedM}

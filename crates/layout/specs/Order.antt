@@ -26,9 +26,7 @@ hasChild j f = any (λ (c : Child). eqb (c .at) j) (children f)
 
 -- and that is what a leftover frame is: a statement or an expression
 abbrev pub hasClass : Class → Bool
-hasClass Class.Statement = true
-hasClass Class.Expression = true
-hasClass Class.Neither = false
+hasClass k = elim k [ Class.Statement ↦ true | Class.Expression ↦ true | Class.Neither ↦ false ]
 
 -- 'The last frame is main, a module with S 0.'
 abbrev pub isMain : Frame → Bool

@@ -17,7 +17,7 @@ ghost use Rattle.language.specs.Limits.{mostLines};
 ghost use Rattle.text.specs.Frames.{framesOf};
 ghost use Rattle.layout.specs.inner.Scans.{layoutOf, LineWords};
 ghost use Rattle.layout.specs.LaidOut.{Judged};
-ghost use Rattle.layout.specs.inner.Layouts.{laidAs, laidWords, layoutVerdict};
+ghost use Rattle.layout.specs.inner.Layouts.{laidAs, laidWords, layoutVerdict, verdictOf};
 
 mod depth;
 mod in_order;
@@ -29,10 +29,12 @@ pub enum LayoutVerdict {
     Rejected(u8, u16),
 }
 
-// What the check of the layout answers, and how many lines were read.
-pub struct Laid {
-    pub verdict: LayoutVerdict,
-    pub count: usize,
+// The same, where the lines of the text are kept.
+pub enum Laid {
+    // It is laid out, and has so many lines.
+    Lines(usize),
+    // The number of the refusal, and the frame that it names.
+    Rejected(u8, u16),
 }
 
 // Refusals 4 to 7. A pass may rely on those before it: the fields on the header, the depths on the
@@ -61,18 +63,17 @@ fn layout_of(words: &[u64]) -> LayoutVerdict
 pub fn lay_into(text: &[u8], words: &mut [u64]) -> Laid
     requires { ⌜ now words ≡ replicate mostLines 0 ⌝ }
     ensures computed { λ r. ⌜ laidAs r (now (words .exit)) ≡ laidWords (now (text .entry)) ⌝ }
-    ensures promised { λ r. ⌜ Judged (now (text .entry)) (r .verdict) ⌝ }
+    ensures promised { λ r. ⌜ Judged (now (text .entry)) (verdictOf r) ⌝ }
 {
     let read = read_into(text, words);
     match read {
-        TextRead::Refused(n, j) => Laid {
-            verdict: LayoutVerdict::Rejected(n, j),
-            count: j as usize,
-        },
+        TextRead::Refused(n, j) => Laid::Rejected(n, j),
         TextRead::Frames(n) => {
             let count = n as usize;
-            let verdict = layout_of(&words[..count]);
-            Laid { verdict, count }
+            match layout_of(&words[..count]) {
+                LayoutVerdict::Rejected(n, j) => Laid::Rejected(n, j),
+                LayoutVerdict::LaidOut => Laid::Lines(count),
+            }
         }
     }
 }
@@ -83,6 +84,8 @@ pub fn layout_verdict(text: &[u8]) -> LayoutVerdict
     ensures promised { λ r. ⌜ Judged (now (text .entry)) r ⌝ }
 {
     let mut words = [0u64; MOST_LINES];
-    let l = lay_into(text, &mut words);
-    l.verdict
+    match lay_into(text, &mut words) {
+        Laid::Rejected(n, j) => LayoutVerdict::Rejected(n, j),
+        Laid::Lines(n) => LayoutVerdict::LaidOut,
+    }
 }

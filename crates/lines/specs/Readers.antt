@@ -15,8 +15,7 @@ unfoldable pub lineAfter : List ℕ → ℕ → ℕ
 lineAfter bs n = if ltb n (length bs / lineLength) then suc n else n
 
 abbrev pub isRead : FrameRead → Bool
-isRead (Read f) = true
-isRead NoFrame = false
+isRead r = elim r [ Read f ↦ true | NoFrame ↦ false ]
 
 -- how many of the k lines from line n on are frames, up to the first that is none
 unfoldable pub framesOfNext : ℕ → List ℕ → ℕ → ℕ

@@ -40,8 +40,7 @@ checkLine v = refusalLine (numberOf v) (frameOf v)
 
 -- '`run` prints that line, then after 1 to 7 stops.'
 abbrev pub stops : Verdict → Bool
-stops Accepted = false
-stops (Rejected n i) = leb n tooDeep
+stops v = elim v [ Accepted ↦ false | Rejected n i ↦ leb n tooDeep ]
 
 -- ---- choices.txt
 
@@ -51,8 +50,7 @@ pub data Choices : Type 0 where
   malformed : ℕ → Choices
 
 abbrev pub alsoChoice : ℕ → Choices → Choices
-alsoChoice c (choices cs) = choices (c ∷ cs)
-alsoChoice c (malformed k) = malformed k
+alsoChoice c r = elim r [ choices cs ↦ choices (c ∷ cs) | malformed k ↦ malformed k ]
 
 -- 'two digits and a line feed each'
 unfoldable pub isChoice : ℕ → ℕ → ℕ → Bool
@@ -99,8 +97,7 @@ runLines p cs =
     choiceLines (take used cs) (steps p (take used cs)) ++ lastLine used
 
 abbrev pub linesOf : Program → Choices → List ℕ
-linesOf p (choices cs) = runLines p cs
-linesOf p (malformed k) = refusalLine malformedText k
+linesOf p r = elim r [ choices cs ↦ runLines p cs | malformed k ↦ refusalLine malformedText k ]
 
 -- after the check's line, from the bytes of choices.txt, which are judged whole before any step:
 -- 'over 49,152 bytes prints `02 0000`, else the first malformed one `03` and its line'

@@ -13,7 +13,8 @@ use Rattle.basics.specs.Members.{All, none, more}
 use Rattle.basics.proofs.Ifs.{if-yes, if-no, and-true}
 use Rattle.machine.specs.State.{State, Thread, Scheduler, Entry, plain, waiting, noThread}
 use Rattle.machine.specs.State.{noScheduler, withScheduler, schedulerAt}
-use Rattle.machine.specs.Waits.{endedFrom, isReady, entryThread, keepIf, readyThreads, stillWaiting}
+use Rattle.basics.specs.If.{keepIf}
+use Rattle.machine.specs.Waits.{endedFrom, isReady, entryThread, readyThreads, stillWaiting}
 use Rattle.machine.specs.Words.{entryWord, listWord, wordsAt, pack}
 use Rattle.machine.specs.inner.Blocks.{pasted, padded}
 use Rattle.machine.specs.inner.Ranges.{allBelow}

@@ -13,7 +13,7 @@ use lib.ListN.{getD, length, set, take, length-set, length-append, List·getD-ap
 use lib.ListN.{List·getD-eq-default}
 use lib.Seq.{take-suc, take-all, length-take-le, getD-at, getD-set-same, getD-set-other}
 use Rattle.basics.specs.If.{if_then_else_}
-use Rattle.machine.specs.Waits.{keepIf}
+use Rattle.basics.specs.If.{keepIf}
 use Rattle.machine.specs.Words.{wordsAt}
 use Rattle.machine.specs.inner.Blocks.{pasted, padded}
 use Rattle.machine.specs.inner.Ranges.{allBelow}

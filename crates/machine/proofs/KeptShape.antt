@@ -21,7 +21,8 @@ use Rattle.machine.specs.State.{State, Item, run, back, drop, Thread, En
 use Rattle.machine.specs.State.{Scheduler, noThread, noScheduler, noCell, threadAt, setNth}
 use Rattle.machine.specs.State.{schedulerAt, withScheduler, withNew, enlist}
 use Rattle.machine.specs.Fresh.{fresh, firstCell, mainThread, homeScheduler}
-use Rattle.machine.specs.Waits.{isReady, entryThread, keepIf, readyThreads, stillWaiting}
+use Rattle.basics.specs.If.{keepIf}
+use Rattle.machine.specs.Waits.{isReady, entryThread, readyThreads, stillWaiting}
 use Rattle.machine.specs.Evaluation.{Here, EvalResult, Evaluation, eval, storing}
 use Rattle.machine.specs.Turns.{Spaces, holds, stateSpaces, StepResult, Turn, here, continuation}
 use Rattle.machine.specs.Turns.{variables, unlinkedHere, evaluator, afterEval, goOn, withValue}

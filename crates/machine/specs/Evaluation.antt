@@ -111,15 +111,11 @@ makeCell h s v = allocate h (newOwner h s) v
 
 -- 25: any other value than a cell is 20
 unfoldable pub readCell : Here → Value → Evaluation
-readCell h (Cell c) = load h c
-readCell h (Number n) = gives Stuck
-readCell h (Truth b) = gives Stuck
+readCell h v = elim v [ Cell c ↦ load h c | Number n ↦ gives Stuck | Truth b ↦ gives Stuck ]
 
 -- 17
 unfoldable pub storeCell : Here → Value → Value → Evaluation
-storeCell h (Cell c) v = store h c v
-storeCell h (Number n) v = gives Stuck
-storeCell h (Truth b) v = gives Stuck
+storeCell h x v = elim x [ Cell c ↦ store h c v | Number n ↦ gives Stuck | Truth b ↦ gives Stuck ]
 
 -- 26 and 27: two numbers, or 20
 unfoldable pub ofNumbers : (ℕ → ℕ → Value) → Value → Value → Evaluation

@@ -5,10 +5,8 @@
 use Rattle.basics.specs.Prelude.{List, Bool, true, false, _&&_, _||_, ℕ, _≤_, _<_, leb, length}
 use Rattle.basics.specs.Prelude.{getD, _≡_, All}
 use Rattle.language.specs.Places.{hasPlace, hasScheduler}
-use Rattle.language.specs.declared.kind.Kind.{Kind}
-use Rattle.language.specs.declared.kind.Kind.the-variants.{Header, Declared, Module, Statement}
-use Rattle.language.specs.declared.kind.Kind.the-variants.{Expression, Unknown}
-use Rattle.language.specs.declared.frame.Frame.{Frame}
+use Rattle.language.specs.{Kinds.classOf, declared.kind.Kind.Kind, declared.frame.Frame.Frame}
+use Rattle.language.specs.declared.kind.Class.the-variants.{Statement, Expression, Neither}
 use Rattle.language.specs.Limits.{mostSchedulers, mostVariables, mostThreads, mostCells, mostItems}
 use Rattle.program.specs.Trees.{Stmt, statementAt, frameAt, rootS}
 use Rattle.machine.specs.{Offsets.backFrom, Offsets.truthFrom, State.State, State.Stored}
@@ -20,12 +18,7 @@ use Rattle.machine.specs.{Words.pack, Values.Value, Values.Number, Value
 -- ---- single parts, in a file of those frames and n schedulers
 
 abbrev pub isStatement : Kind → Bool
-isStatement (Statement k) = true
-isStatement (Expression k) = false
-isStatement Header = false
-isStatement (Declared d) = false
-isStatement Module = false
-isStatement Unknown = false
+isStatement k = elim (classOf k) [ Statement ↦ true | Expression ↦ false | Neither ↦ false ]
 
 -- a scheduler of the file, or a thread's own
 unfoldable pub ownerInRange : ℕ → ℕ → Bool

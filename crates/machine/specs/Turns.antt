@@ -18,8 +18,7 @@ pub data Space : Type 0 where
 
 -- it has room for n
 abbrev pub holds : Space → ℕ → Bool
-holds (atMost m) n = leb n m
-holds endless n = true
+holds s n = elim s [ atMost m ↦ leb n m | endless ↦ true ]
 
 -- the spaces of a state: of each next list, of each continuation, of the variables of each thread
 pub record Spaces : Type 0 where
@@ -139,8 +138,7 @@ unfoldable pub isSchedulerOf : Program → ℕ → Bool
 isSchedulerOf p c = hasScheduler (p .schedulers) c
 
 abbrev pub afterFirst : List ℕ → List ℕ
-afterFirst [] = []
-afterFirst (t ∷ ts) = ts
+afterFirst xs = elim xs [ [] ↦ [] | t ∷ ts ↦ ts ]
 
 -- the acting thread leaves the active list in which it stands first; an unlinked one stands in none
 unfoldable pub leave : Turn → State → State

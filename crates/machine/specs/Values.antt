@@ -9,10 +9,7 @@ pub use Rattle.machine.specs.declared.value.Outcome.the-variants.{Is, Fo
 
 -- the paper's number of each case: '17 spent', 'Foreign is 19, stuck is 20.'
 abbrev pub answerOf : Outcome → ℕ
-answerOf (Is v) = 0
-answerOf Spent = cellsSpent
-answerOf Foreign = foreign
-answerOf Stuck = stuck
+answerOf o = elim o [ Is v ↦ 0 | Spent ↦ cellsSpent | Foreign ↦ foreign | Stuck ↦ stuck ]
 
 -- the truth that a number says: '21 truth S (0 or 1)'
 abbrev pub truthOf : ℕ → Value

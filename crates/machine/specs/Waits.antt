@@ -1,5 +1,6 @@
 -- When an entry of a next list is ready.
 use Rattle.basics.specs.Prelude.{List, [], _∷_, Bool, true, false, not, _&&_, _||_, ℕ, suc, eqb}
+use Rattle.basics.specs.Prelude.{keepIf}
 use Rattle.machine.specs.State.{Thread, Entry, plain, waiting}
 
 -- of the threads, which count from t: u, and each that u started itself, has ended
@@ -15,12 +16,7 @@ isReady ts (waiting t u) = endedFrom u 1 ts
 
 -- the thread of an entry
 abbrev pub entryThread : Entry → ℕ
-entryThread (plain t) = t
-entryThread (waiting t u) = t
-
-abbrev pub keepIf : {A : Type 0} → Bool → A → List A → List A
-keepIf true x xs = x ∷ xs
-keepIf false x xs = xs
+entryThread e = elim e [ plain t ↦ t | waiting t u ↦ t ]
 
 -- 'ready entries of the next list become active in order': their threads
 unfoldable pub readyThreads : List Thread → List Entry → List ℕ

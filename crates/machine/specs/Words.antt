@@ -19,16 +19,13 @@ use Rattle.machine.specs.State.{waiting, Scheduler, cellAt, usedCells, n
 use Rattle.machine.specs.Values.{Value, Number, Truth, Cell}
 
 abbrev pub bit : Bool → ℕ
-bit true = 1
-bit false = 0
+bit b = elim b [ true ↦ 1 | false ↦ 0 ]
 
 -- ---- single words, there and back
 
 -- a number is itself, a truth 2^32 and 0 or 1, a cell 2^33 and its number
 unfoldable pub valueWord : Value → ℕ
-valueWord (Number n) = n
-valueWord (Truth b) = truthFrom + bit b
-valueWord (Cell c) = cellFrom + c
+valueWord v = elim v [ Number n ↦ n | Truth b ↦ truthFrom + bit b | Cell c ↦ cellFrom + c ]
 
 unfoldable pub wordValue : ℕ → Value
 wordValue w =
@@ -37,9 +34,7 @@ wordValue w =
 
 -- a statement is its frame, a back 1024 and its place, a drop 2048
 unfoldable pub itemWord : Item → ℕ
-itemWord (run x) = rootS x
-itemWord (back q) = backFrom + q
-itemWord drop = dropWord
+itemWord i = elim i [ run x ↦ rootS x | back q ↦ backFrom + q | drop ↦ dropWord ]
 
 unfoldable pub wordItem : List Frame → ℕ → Item
 wordItem fs w =
@@ -48,8 +43,7 @@ wordItem fs w =
 
 -- a thread is itself; one that waits for thread u has 128 u added
 unfoldable pub entryWord : Entry → ℕ
-entryWord (plain t) = t
-entryWord (waiting t u) = waitingFactor * u + t
+entryWord e = elim e [ plain t ↦ t | waiting t u ↦ waitingFactor * u + t ]
 
 unfoldable pub wordEntry : ℕ → Entry
 wordEntry w =

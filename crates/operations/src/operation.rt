@@ -12,6 +12,7 @@ use machine::offset::THREAD_OWNER_FROM;
 use machine::value::Outcome;
 use machine::value::Value;
 use machine::word::cell_word;
+use machine::word::value_word;
 use program::node::CellUse;
 use program::node::Leaf;
 ghost use mathlib.Core.Path.{_≡_};
@@ -88,14 +89,15 @@ pub fn leaf(who: Who, variables: &[u64], l: Leaf) -> Outcome
 fn make_cell(who: Who, s: Place, v: Value, state: &mut [u64]) -> Outcome
     requires { ⌜ length (now state) ≡ stateLength ⌝ }
     ensures found { λ r. ⌜ resultIn r (now (state .exit))
-        ≡ makeIn who (s .number) v (lentCount (now (state .entry))) (lentCells (now (state .entry))) ⌝ }
+        ≡ makeIn who (s .number) v (lentCount (now (state .entry)))
+        (lentCells (now (state .entry))) ⌝ }
     ensures rest { λ _. ⌜ lentRest (now (state .exit)) ≡ lentRest (now (state .entry)) ⌝ }
 {
     let owner = new_owner(who, s);
     if is_own(who, owner as u64) {
         let used = state[CELL_COUNT_AT] as usize;
         if used < MOST_CELLS {
-            state[CELLS_AT + used] = cell_word(owner, v);
+            state[CELLS_AT + used] = cell_word(owner, value_word(v));
             state[CELL_COUNT_AT] = (used + 1) as u64;
             return Outcome::Is(Value::Cell(used as u8));
         }

@@ -16,7 +16,8 @@ use Rattle.language.specs.declared.frame.Frame.{Frame}
 use Rattle.text.specs.Frames.{frameOfWord, framesOf}
 use Rattle.text.proofs.FrameWords.{frames-length, next-frame, frames-end}
 use Rattle.program.specs.Trees.{rootS}
-use Rattle.program.specs.Programs.{Part, partOf, withPart, modulesFrom, programOf, mainOf}
+use Rattle.program.specs.Programs.{Part, partOf, modulesFrom, programOf, mainOf}
+use Rattle.program.specs.inner.Modules.{withPart}
 use Rattle.program.specs.Programs.{noModule}
 use Rattle.program.proofs.Roots.{statement-root}
 use Rattle.program.proofs.OneMore.{part-no, part-yes}

@@ -15,7 +15,8 @@ use Rattle.language.specs.declared.frame.Frame.{Frame}
 use Rattle.text.specs.Frames.{frameOfWord, framesOf}
 use Rattle.text.proofs.FrameWords.{next-frame, frames-end}
 use Rattle.program.specs.Trees.{rootS}
-use Rattle.program.specs.Programs.{Part, partOf, withPart, modulesFrom, programOf, noModule}
+use Rattle.program.specs.Programs.{Part, partOf, modulesFrom, programOf, noModule}
+use Rattle.program.specs.inner.Modules.{withPart}
 use Rattle.program.proofs.Roots.{statement-root}
 use Rattle.program.proofs.OneMore.{part-no, part-yes}
 use Rattle.program.proofs.MainLaws.{partsFrom}

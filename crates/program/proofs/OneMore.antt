@@ -9,7 +9,8 @@ use Rattle.language.specs.declared.kind.DeclarationKind.the-variants.{Shared}
 use Rattle.language.specs.declared.kind.Kind.the-variants.{Header, Declared, Module, Statement}
 use Rattle.language.specs.declared.kind.Kind.the-variants.{Expression, Unknown}
 use Rattle.language.specs.declared.frame.Frame.{Frame}
-use Rattle.program.specs.Programs.{SharedCell, cellOf, sharedOf, Part, partOf, withPart}
+use Rattle.program.specs.Programs.{SharedCell, cellOf, sharedOf, Part, partOf}
+use Rattle.program.specs.inner.Modules.{withPart}
 
 -- ---- shared cells
 

@@ -1,11 +1,9 @@
 -- A file as a program: its header, its shared cells, its modules.
 use Rattle.basics.specs.Prelude.{List, [], _∷_, map, ℕ, suc, _-_, eqb, length, getD, take}
-use Rattle.basics.specs.Prelude.{if_then_else_}
-use Rattle.language.specs.{Types.cellType, declared.frame.Frame.Frame, Limits.defaultAllowance}
-use kind.{Kind.Kind, DeclarationKind.the-variants.Shared}
-use kind.Kind.the-variants.{Header, Declared, Module, Statement, Expression, Unknown}
+use Rattle.basics.specs.Prelude.{if_then_else_, keepIf}
+use Rattle.language.specs.{Types.cellType, Kinds.isShared, Kinds.isModule}
+use Rattle.language.specs.{declared.frame.Frame.Frame, Limits.defaultAllowance}
 use Rattle.program.specs.Trees.{Stmt, nothing, frameAt, statementAt}
-use Rattle.language.specs.declared.kind as kind
 
 -- '01 shared cell: S owner (a scheduler), A content type, B first content'
 pub record SharedCell : Type 0 where
@@ -34,18 +32,10 @@ typeOfShared x = cellType (x .owner) (x .content)
 abbrev pub cellOf : Frame → SharedCell
 cellOf f = record { owner = f .s; content = f .a; first = f .b }
 
-abbrev withShared : Frame → Kind → List SharedCell → List SharedCell
-withShared f (Declared Shared) cs = cellOf f ∷ cs
-withShared f Header cs = cs
-withShared f Module cs = cs
-withShared f (Statement k) cs = cs
-withShared f (Expression k) cs = cs
-withShared f Unknown cs = cs
-
 -- the shared cells among those frames
 unfoldable pub sharedOf : List Frame → List SharedCell
 sharedOf [] = []
-sharedOf (f ∷ fs) = withShared f (f .kind) (sharedOf fs)
+sharedOf (f ∷ fs) = keepIf (isShared (f .kind)) (cellOf f) (sharedOf fs)
 
 -- and their types
 abbrev pub cellsOf : List Frame → List ℕ
@@ -55,18 +45,11 @@ abbrev pub partOf : List Frame → ℕ → Frame → Part
 partOf fs i f =
     record { frame = i; types = take (f .s) (f .b ∷ f .c ∷ []); body = statementAt fs (f .a) }
 
-abbrev pub withPart : List Frame → ℕ → Frame → Kind → List Part → List Part
-withPart fs i f Module ps = partOf fs i f ∷ ps
-withPart fs i f Header ps = ps
-withPart fs i f (Declared d) ps = ps
-withPart fs i f (Statement k) ps = ps
-withPart fs i f (Expression k) ps = ps
-withPart fs i f Unknown ps = ps
-
 -- the modules among those frames, which count from i in the file fs
 unfoldable pub modulesFrom : List Frame → ℕ → List Frame → List Part
 modulesFrom fs i [] = []
-modulesFrom fs i (f ∷ rest) = withPart fs i f (f .kind) (modulesFrom fs (suc i) rest)
+modulesFrom fs i (f ∷ rest) =
+    keepIf (isModule (f .kind)) (partOf fs i f) (modulesFrom fs (suc i) rest)
 
 -- 02, change 1: 'A 0 shall mean 16,384.', 'Explicit allowances mean what they did.'
 unfoldable pub allowanceOf : ℕ → ℕ

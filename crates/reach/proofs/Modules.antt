@@ -11,7 +11,8 @@ use Rattle.language.specs.declared.kind.Kind.the-variants.{Header, Declared, Mo
 use Rattle.language.specs.declared.kind.Kind.the-variants.{Expression, Unknown}
 use Rattle.language.specs.declared.frame.Frame.{Frame}
 use Rattle.program.specs.Trees.{frameAt}
-use Rattle.program.specs.Programs.{Part, partOf, withPart, modulesFrom}
+use Rattle.program.specs.Programs.{Part, partOf, modulesFrom}
+use Rattle.program.specs.inner.Modules.{withPart}
 use Rattle.fields.specs.Fields.{schedulersOf}
 use Rattle.layout.specs.Depths.{Depth}
 use Rattle.layout.specs.Faults.{NoFault}

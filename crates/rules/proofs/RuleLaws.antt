@@ -7,6 +7,7 @@ use native.Mathlib.Omega.{arith}
 use lib.Dec.{eqb}
 use lib.ListN.{length, getD}
 use borrow.Author.Tests.{lt-ltb, le-ltb, eq-eqb, ne-eqb, not-true, not-false}
+use Rattle.basics.specs.If.{if_then_else_}
 use Rattle.basics.proofs.Ifs.{if-all, yes, no, and-true}
 use Rattle.language.specs.Places.{isPlace, isScheduler}
 use Rattle.language.specs.inner.Reads.{placeRead, cellRead}
@@ -28,16 +29,20 @@ use Rattle.program.specs.declared.node.Operator.{Operator}
 use Rattle.rules.specs.inner.Checking.{namedRule, newRule, contentRule, numbersRule}
 use Rattle.rules.specs.inner.Checking.{chooseRule, cooperateRule, seqRule, doRule, joinRule}
 use Rattle.rules.specs.inner.Checking.{storeRule, ifElseRule, whileRule}
-use Rattle.rules.specs.inner.NodeRules.{leafRule, OwnerPlaced, cellRule, madeBy}
+use Rattle.rules.specs.inner.NodeRules.{leafRule, OwnerPlaced, cellRule, madeBy, bothTyped}
 use Rattle.rules.specs.inner.Standings.{standing}
 use Rattle.rules.specs.declared.finding.Typing.{Typing}
 use Rattle.rules.specs.declared.finding.Typing.the-variants.{Typed, Untyped}
+use Rattle.rules.specs.declared.finding.TypingPair.{TypingPair}
+use Rattle.rules.specs.declared.finding.TypingPair.the-variants.{Both, FirstFault}
 use Rattle.rules.specs.declared.finding.StatementEffect.{StatementEffect}
 use Rattle.rules.specs.declared.finding.StatementEffect.the-variants.{Proper, Faulty}
 
 -- In the names: X-fault is what is found where the first child has a fault, X-fault-2 where the
--- second has the first fault; X-row hands on the answer of the function that takes the children's
--- types and effects; X-by is the rule on equal findings.
+-- second has the first fault, X-fault-3 the third; X-row hands on the answer of the function that
+-- takes the children's types and effects; X-by is the rule on equal findings. Of the rules on two
+-- expressions together, X-fault is where one of the two has a fault, and X-of says the rule of the
+-- pair.
 
 -- ---- what the constructor of a cell's type answered
 read-word : (o t w : ℕ) → cellRead o t ≡ Word w → (roomAround t ≡ true) × (w ≡ cellType o t)
@@ -198,91 +203,130 @@ module _ (i : ℕ) (x : Typing) where
 
 pub ruleset content-laws = (content-fault, content-read, content-none)
 
+-- ---- two expressions together
+module _ (x y : Typing) where
+  both-by : (a b : Typing) → x ≡ a → y ≡ b → bothTyped a b ≡ bothTyped x y
+  both-by a b h k = sym (ap (λ (w : Typing). bothTyped w y) h ∙ ap (bothTyped a) k)
+
+  pub both-fault : (n j : ℕ) → x ≡ Untyped n j → FirstFault n j ≡ bothTyped x y
+  unfolding bothTyped
+  both-fault n j h = both-by (Untyped n j) y h refl
+
+  pub both-fault-2 : (t : ℕ) (e : Effect) (n j : ℕ) → x ≡ Typed t e → y ≡ Untyped n j
+      → FirstFault n j ≡ bothTyped x y
+  unfolding bothTyped
+  both-fault-2 t e n j h k = both-by (Typed t e) (Untyped n j) h k
+
+  pub both-row : (t : ℕ) (e : Effect) (u : ℕ) (f g : Effect) → x ≡ Typed t e → y ≡ Typed u f
+      → g ≡ e ∪ f → Both t u g ≡ bothTyped x y
+  unfolding bothTyped
+  both-row t e u f g h k q = ap (Both t u) q ∙ both-by (Typed t e) (Typed u f) h k
+
+pub ruleset both-laws = (both-fault, both-fault-2, both-row)
+
 -- ---- 26 and 27, a sum and a comparison
-module _ (w i t : ℕ) (e : Effect) (u : ℕ) (f : Effect) where
-  pub numbers-no-first : (t ≡ 1 → ⊥) → Untyped illTyped i ≡ numbersRule w i (Typed t e) (Typed u f)
-  unfolding numbersRule
-  numbers-no-first n = no _ (rw (ne-eqb t 1 n)) refl
+unfoldable numbersOf : ℕ → ℕ → TypingPair → Typing
+numbersOf w i (Both t u e) =
+    if eqb t numberType && eqb u numberType then Typed w e else Untyped illTyped i
+numbersOf w i (FirstFault n j) = Untyped n j
 
-  pub numbers-no-second : t ≡ 1 → (u ≡ 1 → ⊥)
-      → Untyped illTyped i ≡ numbersRule w i (Typed t e) (Typed u f)
-  unfolding numbersRule
-  numbers-no-second m n = no _ (rw (eq-eqb t 1 m, ne-eqb u 1 n)) refl
+numbers-of : (w i : ℕ) (x y : Typing) → numbersOf w i (bothTyped x y) ≡ numbersRule w i x y
+unfolding numbersOf bothTyped numbersRule
+numbers-of w i (Typed t e) (Typed u f) = refl
+numbers-of w i (Typed t e) (Untyped n j) = refl
+numbers-of w i (Untyped n j) y = refl
 
-  pub numbers-both : (g : Effect) → t ≡ 1 → u ≡ 1 → g ≡ e ∪ f
-      → Typed w g ≡ numbersRule w i (Typed t e) (Typed u f)
-  unfolding numbersRule
-  numbers-both g m n h = yes _ (rw (eq-eqb t 1 m, eq-eqb u 1 n)) (ap (Typed w) h)
+module _ (w i : ℕ) (x y : Typing) (p : TypingPair) (o : p ≡ bothTyped x y) where
+  numbers-by : (q : TypingPair) → p ≡ q → numbersOf w i q ≡ numbersRule w i x y
+  numbers-by q h = ap (numbersOf w i) (sym h ∙ o) ∙ numbers-of w i x y
 
-pub ruleset numbers-typed-laws = (numbers-no-first, numbers-no-second, numbers-both)
+  pub numbers-fault : (n j : ℕ) → p ≡ FirstFault n j → Untyped n j ≡ numbersRule w i x y
+  unfolding numbersOf
+  numbers-fault n j h = numbers-by (FirstFault n j) h
 
-module _ (w i : ℕ) (x y : Typing) where
-  pub numbers-fault : (n j : ℕ) → x ≡ Untyped n j → Untyped n j ≡ numbersRule w i x y
-  unfolding numbersRule
-  numbers-fault n j h = ap (λ (z : Typing). numbersRule w i z y) (sym h)
+  module _ (t u : ℕ) (e : Effect) (h : p ≡ Both t u e) where
+    pub numbers-no-first : (t ≡ 1 → ⊥) → Untyped illTyped i ≡ numbersRule w i x y
+    unfolding numbersOf
+    numbers-no-first n = no (Typed w e) (rw (ne-eqb t 1 n)) refl ∙ numbers-by (Both t u e) h
 
-  pub numbers-fault-2 : (t : ℕ) (e : Effect) (n j : ℕ) → x ≡ Typed t e → y ≡ Untyped n j
-      → Untyped n j ≡ numbersRule w i x y
-  unfolding numbersRule
-  numbers-fault-2 t e n j h k =
-      ap (numbersRule w i (Typed t e)) (sym k) ∙ ap (λ (z : Typing). numbersRule w i z y) (sym h)
+    pub numbers-no-second : t ≡ 1 → (u ≡ 1 → ⊥) → Untyped illTyped i ≡ numbersRule w i x y
+    unfolding numbersOf
+    numbers-no-second m n =
+        no (Typed w e) (rw (eq-eqb t 1 m, ne-eqb u 1 n)) refl ∙ numbers-by (Both t u e) h
 
-  pub numbers-row : (t : ℕ) (e : Effect) (u : ℕ) (f : Effect) (r : Typing) → x ≡ Typed t e
-      → y ≡ Typed u f → r ≡ numbersRule w i (Typed t e) (Typed u f) → r ≡ numbersRule w i x y
-  numbers-row t e u f r h k q =
-      q ∙ ap (numbersRule w i (Typed t e)) (sym k)
-      ∙ ap (λ (z : Typing). numbersRule w i z y) (sym h)
+    pub numbers-both : t ≡ 1 → u ≡ 1 → Typed w e ≡ numbersRule w i x y
+    unfolding numbersOf
+    numbers-both m n =
+        yes (Untyped illTyped i) (rw (eq-eqb t 1 m, eq-eqb u 1 n)) refl
+        ∙ numbers-by (Both t u e) h
 
-pub ruleset numbers-laws = (numbers-fault, numbers-fault-2, numbers-row)
+pub ruleset numbers-laws = (numbers-fault, numbers-no-first, numbers-no-second, numbers-both)
 
 -- ---- 28, a number by a truth
-module _ (i t : ℕ) (e : Effect) (u : ℕ) (f : Effect) (v : ℕ) (g : Effect) where
-  pub choose-no-truth : (t ≡ 2 → ⊥)
-      → Untyped illTyped i ≡ chooseRule i (Typed t e) (Typed u f) (Typed v g)
-  unfolding chooseRule
-  choose-no-truth n = no _ (rw (ne-eqb t 2 n)) refl
+unfoldable chooseOf : ℕ → TypingPair → Typing → Typing
+chooseOf i (Both t u e) (Typed v g) =
+    if eqb t truthType && eqb u numberType && eqb v numberType
+    then Typed numberType (e ∪ g) else
+    Untyped illTyped i
+chooseOf i (Both t u e) (Untyped n j) = Untyped n j
+chooseOf i (FirstFault n j) z = Untyped n j
 
-  pub choose-no-first : t ≡ 2 → (u ≡ 1 → ⊥)
-      → Untyped illTyped i ≡ chooseRule i (Typed t e) (Typed u f) (Typed v g)
-  unfolding chooseRule
-  choose-no-first m n = no _ (rw (eq-eqb t 2 m, ne-eqb u 1 n)) refl
+choose-of : (i : ℕ) (x y z : Typing) → chooseOf i (bothTyped x y) z ≡ chooseRule i x y z
+unfolding chooseOf bothTyped chooseRule
+choose-of i (Typed t e) (Typed u f) (Typed v g) = refl
+choose-of i (Typed t e) (Typed u f) (Untyped n j) = refl
+choose-of i (Typed t e) (Untyped n j) z = refl
+choose-of i (Untyped n j) y z = refl
 
-  pub choose-no-second : t ≡ 2 → u ≡ 1 → (v ≡ 1 → ⊥)
-      → Untyped illTyped i ≡ chooseRule i (Typed t e) (Typed u f) (Typed v g)
-  unfolding chooseRule
-  choose-no-second m n o = no _ (rw (eq-eqb t 2 m, eq-eqb u 1 n, ne-eqb v 1 o)) refl
+module _ (i : ℕ) (x y z : Typing) (p : TypingPair) (o : p ≡ bothTyped x y) where
+  choose-by : (q : TypingPair) (a : Typing) → p ≡ q → z ≡ a → chooseOf i q a ≡ chooseRule i x y z
+  choose-by q a h k =
+      ap (chooseOf i q) (sym k) ∙ ap (λ (b : TypingPair). chooseOf i b z) (sym h ∙ o)
+      ∙ choose-of i x y z
 
-  pub choose-both : (h k : Effect) → t ≡ 2 → u ≡ 1 → v ≡ 1 → h ≡ e ∪ f → k ≡ h ∪ g
-      → Typed 1 k ≡ chooseRule i (Typed t e) (Typed u f) (Typed v g)
-  unfolding chooseRule
-  choose-both h k m n o p q = yes _ (rw (eq-eqb t 2 m, eq-eqb u 1 n, eq-eqb v 1 o)) (ap (Typed 1) (q ∙ ap (λ (z : Effect). z ∪ g) p))
+  pub choose-fault : (n j : ℕ) → p ≡ FirstFault n j → Untyped n j ≡ chooseRule i x y z
+  unfolding chooseOf
+  choose-fault n j h = choose-by (FirstFault n j) z h refl
 
-pub ruleset choose-typed-laws = (choose-no-truth, choose-no-first, choose-no-second, choose-both)
+  module _ (t u : ℕ) (e : Effect) (h : p ≡ Both t u e) where
+    pub choose-fault-3 : (n j : ℕ) → z ≡ Untyped n j → Untyped n j ≡ chooseRule i x y z
+    unfolding chooseOf
+    choose-fault-3 n j k = choose-by (Both t u e) (Untyped n j) h k
 
-module _ (i : ℕ) (x y z : Typing) where
-  choose-by : (a b c : Typing) → x ≡ a → y ≡ b → z ≡ c → chooseRule i a b c ≡ chooseRule i x y z
-  choose-by a b c h k l = sym (ap (λ (w : Typing). chooseRule i w y z) h ∙ ap (λ (w : Typing). chooseRule i a w z) k ∙ ap (chooseRule i a b) l)
+    module _ (v : ℕ) (g : Effect) (k : z ≡ Typed v g) where
+      pub choose-no-truth : (t ≡ 2 → ⊥) → Untyped illTyped i ≡ chooseRule i x y z
+      unfolding chooseOf
+      choose-no-truth n =
+          no (Typed 1 (e ∪ g)) (rw (ne-eqb t 2 n)) refl ∙ choose-by (Both t u e) (Typed v g) h k
 
-  pub choose-fault : (n j : ℕ) → x ≡ Untyped n j → Untyped n j ≡ chooseRule i x y z
-  unfolding chooseRule
-  choose-fault n j h = choose-by (Untyped n j) y z h refl refl
+      pub choose-no-first : t ≡ 2 → (u ≡ 1 → ⊥) → Untyped illTyped i ≡ chooseRule i x y z
+      unfolding chooseOf
+      choose-no-first m n =
+          no (Typed 1 (e ∪ g)) (rw (eq-eqb t 2 m, ne-eqb u 1 n)) refl
+          ∙ choose-by (Both t u e) (Typed v g) h k
 
-  pub choose-fault-2 : (t : ℕ) (e : Effect) (n j : ℕ) → x ≡ Typed t e → y ≡ Untyped n j
-      → Untyped n j ≡ chooseRule i x y z
-  unfolding chooseRule
-  choose-fault-2 t e n j h k = choose-by (Typed t e) (Untyped n j) z h k refl
+      pub choose-no-second : t ≡ 2 → u ≡ 1 → (v ≡ 1 → ⊥)
+          → Untyped illTyped i ≡ chooseRule i x y z
+      unfolding chooseOf
+      choose-no-second m n l =
+          no (Typed 1 (e ∪ g)) (rw (eq-eqb t 2 m, eq-eqb u 1 n, ne-eqb v 1 l)) refl
+          ∙ choose-by (Both t u e) (Typed v g) h k
 
-  pub choose-fault-3 : (t : ℕ) (e : Effect) (u : ℕ) (f : Effect) (n j : ℕ) → x ≡ Typed t e
-      → y ≡ Typed u f → z ≡ Untyped n j → Untyped n j ≡ chooseRule i x y z
-  unfolding chooseRule
-  choose-fault-3 t e u f n j h k l = choose-by (Typed t e) (Typed u f) (Untyped n j) h k l
+      pub choose-both : (f : Effect) → t ≡ 2 → u ≡ 1 → v ≡ 1 → f ≡ e ∪ g
+          → Typed 1 f ≡ chooseRule i x y z
+      unfolding chooseOf
+      choose-both f m n l q =
+          yes (Untyped illTyped i) (rw (eq-eqb t 2 m, eq-eqb u 1 n, eq-eqb v 1 l)) (ap (Typed 1) q)
+          ∙ choose-by (Both t u e) (Typed v g) h k
 
-  pub choose-row : (t : ℕ) (e : Effect) (u : ℕ) (f : Effect) (v : ℕ) (g : Effect) (r : Typing)
-      → x ≡ Typed t e → y ≡ Typed u f → z ≡ Typed v g
-      → r ≡ chooseRule i (Typed t e) (Typed u f) (Typed v g) → r ≡ chooseRule i x y z
-  choose-row t e u f v g r h k l q = q ∙ choose-by (Typed t e) (Typed u f) (Typed v g) h k l
-
-pub ruleset choose-laws = (choose-fault, choose-fault-2, choose-fault-3, choose-row)
+pub ruleset choose-laws = (
+  choose-fault,
+  choose-fault-3,
+  choose-no-truth,
+  choose-no-first,
+  choose-no-second,
+  choose-both,
+)
 
 -- ---- 15, cooperate
 pub cooperate-linked : (l : Bool) (i : ℕ) (e : Effect) → l ≡ true → e ≡ noEffect
@@ -313,7 +357,8 @@ module _ (x y : StatementEffect) where
   seq-fault-2 e a n j h k = seq-by (Proper e a) (Faulty n j) h k
 
   -- `a && b` is a branch of the code on a
-  pub seq-first : (e f g : Effect) (a b : Bool) → x ≡ Proper e a → y ≡ Proper f b → g ≡ e ∪ f → a ≡ true
+  pub seq-first : (e f g : Effect) (a b : Bool) → x ≡ Proper e a → y ≡ Proper f b → g ≡ e ∪ f
+      → a ≡ true
       → Proper g b ≡ seqRule x y
   unfolding seqRule
   seq-first e f g a b h k q z =
@@ -333,7 +378,9 @@ pub ruleset seq-laws = (seq-fault, seq-fault-2, seq-first, seq-never)
 module _ (l : Bool) (s i : ℕ) (x : StatementEffect) where
   do-by : (c : StatementEffect) (m : Bool) → x ≡ c → l ≡ m
       → doRule (standing m) s i c ≡ doRule (standing l) s i x
-  do-by c m h k = sym (ap (λ (w : StatementEffect). doRule (standing l) s i w) h ∙ ap (λ (b : Bool). doRule (standing b) s i c) k)
+  do-by c m h k =
+      sym (ap (λ (w : StatementEffect). doRule (standing l) s i w) h
+      ∙ ap (λ (b : Bool). doRule (standing b) s i c) k)
 
   pub do-fault : (n j : ℕ) → x ≡ Faulty n j → Faulty n j ≡ doRule (standing l) s i x
   unfolding doRule
@@ -373,7 +420,8 @@ module _ (l : Bool) (s i : ℕ) (x : StatementEffect) where
 pub ruleset do-laws = (do-fault, do-effect, do-linked, do-elsewhere, do-twice)
 
 -- ---- 16, the body of a let
-pub join-fault : (e : Effect) (x : StatementEffect) (n j : ℕ) → x ≡ Faulty n j → Faulty n j ≡ joinRule e x
+pub join-fault : (e : Effect) (x : StatementEffect) (n j : ℕ) → x ≡ Faulty n j
+    → Faulty n j ≡ joinRule e x
 unfolding joinRule
 join-fault e x n j h = ap (joinRule e) (sym h)
 
@@ -385,68 +433,82 @@ join-row e f g b x h q = ap (λ (o : Effect). Proper o b) q ∙ ap (joinRule e) 
 pub ruleset join-laws = (join-fault, join-row)
 
 -- ---- 17, a store
-module _ (i t : ℕ) (e : Effect) (u : ℕ) (f : Effect) (x : Bool) (h : x ≡ isCell t) where
-  pub store-no-cell : not x ≡ true → Faulty illTyped i ≡ storeRule i (Typed t e) (Typed u f)
-  unfolding storeRule
-  store-no-cell n = no _ (rw (sym h ∙ not-true x n)) refl
+unfoldable storeOf : ℕ → TypingPair → StatementEffect
+storeOf i (Both t u e) =
+    if isCell t && eqb u (contentOf t) then Proper (withOwner (ownerOf t) e) true else
+    Faulty illTyped i
+storeOf i (FirstFault n j) = Faulty n j
 
-  pub store-apart : (c : ℕ) → not x ≡ false → c ≡ contentOf t → (u ≡ c → ⊥)
-      → Faulty illTyped i ≡ storeRule i (Typed t e) (Typed u f)
-  unfolding storeRule
-  store-apart c n k d =
-      no _ (rw (sym h ∙ not-false x n, ne-eqb u (contentOf t) (λ v. d (v ∙ sym k)))) refl
+store-of : (i : ℕ) (x y : Typing) → storeOf i (bothTyped x y) ≡ storeRule i x y
+unfolding storeOf bothTyped storeRule
+store-of i (Typed t e) (Typed u f) = refl
+store-of i (Typed t e) (Untyped n j) = refl
+store-of i (Untyped n j) y = refl
 
-  pub store-equal : (c : ℕ) (g w : Effect) → not x ≡ false → c ≡ contentOf t → u ≡ c
-      → g ≡ e ∪ f → w ≡ withOwner (ownerOf t) g
-      → Proper w true ≡ storeRule i (Typed t e) (Typed u f)
-  unfolding storeRule
-  store-equal c g w n k d r z =
-      yes (Faulty illTyped i) (rw (sym h ∙ not-false x n, eq-eqb u (contentOf t) (d ∙ k)))
-      (ap (λ (v : Effect). Proper v true) (z ∙ ap (withOwner (ownerOf t)) r))
+module _ (i : ℕ) (x y : Typing) (p : TypingPair) (o : p ≡ bothTyped x y) where
+  store-by : (q : TypingPair) → p ≡ q → storeOf i q ≡ storeRule i x y
+  store-by q h = ap (storeOf i) (sym h ∙ o) ∙ store-of i x y
 
-pub ruleset store-typed-laws = (store-no-cell, store-apart, store-equal)
+  pub store-fault : (n j : ℕ) → p ≡ FirstFault n j → Faulty n j ≡ storeRule i x y
+  unfolding storeOf
+  store-fault n j h = store-by (FirstFault n j) h
 
-module _ (i : ℕ) (x y : Typing) where
-  store-by : (a b : Typing) → x ≡ a → y ≡ b → storeRule i a b ≡ storeRule i x y
-  store-by a b h k = sym (ap (λ (w : Typing). storeRule i w y) h ∙ ap (storeRule i a) k)
+  module _ (t u : ℕ) (e : Effect) (h : p ≡ Both t u e) (b : Bool) (k : b ≡ isCell t) where
+    pub store-no-cell : not b ≡ true → Faulty illTyped i ≡ storeRule i x y
+    unfolding storeOf
+    store-no-cell n =
+        no (Proper (withOwner (ownerOf t) e) true) (rw (sym k ∙ not-true b n)) refl
+        ∙ store-by (Both t u e) h
 
-  pub store-fault : (n j : ℕ) → x ≡ Untyped n j → Faulty n j ≡ storeRule i x y
-  unfolding storeRule
-  store-fault n j h = store-by (Untyped n j) y h refl
+    pub store-apart : (c : ℕ) → not b ≡ false → c ≡ contentOf t → (u ≡ c → ⊥)
+        → Faulty illTyped i ≡ storeRule i x y
+    unfolding storeOf
+    store-apart c n l d =
+        no (Proper (withOwner (ownerOf t) e) true)
+        (rw (sym k ∙ not-false b n, ne-eqb u (contentOf t) (λ v. d (v ∙ sym l)))) refl
+        ∙ store-by (Both t u e) h
 
-  pub store-fault-2 : (t : ℕ) (e : Effect) (n j : ℕ) → x ≡ Typed t e → y ≡ Untyped n j
-      → Faulty n j ≡ storeRule i x y
-  unfolding storeRule
-  store-fault-2 t e n j h k = store-by (Typed t e) (Untyped n j) h k
+    pub store-equal : (c : ℕ) (w : Effect) → not b ≡ false → c ≡ contentOf t → u ≡ c
+        → w ≡ withOwner (ownerOf t) e → Proper w true ≡ storeRule i x y
+    unfolding storeOf
+    store-equal c w n l d z =
+        yes (Faulty illTyped i) (rw (sym k ∙ not-false b n, eq-eqb u (contentOf t) (d ∙ l)))
+        (ap (λ (v : Effect). Proper v true) z)
+        ∙ store-by (Both t u e) h
 
-  pub store-row : (t : ℕ) (e : Effect) (u : ℕ) (f : Effect) (r : StatementEffect) → x ≡ Typed t e
-      → y ≡ Typed u f → r ≡ storeRule i (Typed t e) (Typed u f) → r ≡ storeRule i x y
-  store-row t e u f r h k q = q ∙ store-by (Typed t e) (Typed u f) h k
-
-pub ruleset store-laws = (store-fault, store-fault-2, store-row)
+pub ruleset store-laws = (store-fault, store-no-cell, store-apart, store-equal)
 
 -- ---- 18, if
 module _ (i t : ℕ) (e f : Effect) (a : Bool) (g : Effect) (b : Bool) where
-  pub if-no-truth : (t ≡ 2 → ⊥) → Faulty illTyped i ≡ ifElseRule i (Typed t e) (Proper f a) (Proper g b)
+  pub if-no-truth : (t ≡ 2 → ⊥)
+      → Faulty illTyped i ≡ ifElseRule i (Typed t e) (Proper f a) (Proper g b)
   unfolding ifElseRule
   if-no-truth n = no _ (ne-eqb t 2 n) refl
 
   pub if-first : (h k : Effect) → t ≡ 2 → h ≡ e ∪ f → k ≡ h ∪ g → a ≡ true
       → Proper k true ≡ ifElseRule i (Typed t e) (Proper f a) (Proper g b)
   unfolding ifElseRule
-  if-first h k n p q z = yes (Faulty illTyped i) (eq-eqb t 2 n) (ap (λ (o : Effect). Proper o true) (q ∙ ap (λ (o : Effect). o ∪ g) p) ∙ ap (λ (c : Bool). Proper (e ∪ f ∪ g) (c || b)) (sym z))
+  if-first h k n p q z =
+      yes (Faulty illTyped i) (eq-eqb t 2 n)
+      (ap (λ (o : Effect). Proper o true) (q ∙ ap (λ (o : Effect). o ∪ g) p)
+      ∙ ap (λ (c : Bool). Proper (e ∪ f ∪ g) (c || b)) (sym z))
 
   pub if-second : (h k : Effect) → t ≡ 2 → h ≡ e ∪ f → k ≡ h ∪ g → a ≡ false
       → Proper k b ≡ ifElseRule i (Typed t e) (Proper f a) (Proper g b)
   unfolding ifElseRule
-  if-second h k n p q z = yes (Faulty illTyped i) (eq-eqb t 2 n) (ap (λ (o : Effect). Proper o b) (q ∙ ap (λ (o : Effect). o ∪ g) p) ∙ ap (λ (c : Bool). Proper (e ∪ f ∪ g) (c || b)) (sym z))
+  if-second h k n p q z =
+      yes (Faulty illTyped i) (eq-eqb t 2 n)
+      (ap (λ (o : Effect). Proper o b) (q ∙ ap (λ (o : Effect). o ∪ g) p)
+      ∙ ap (λ (c : Bool). Proper (e ∪ f ∪ g) (c || b)) (sym z))
 
 pub ruleset if-typed-laws = (if-no-truth, if-first, if-second)
 
 module _ (i : ℕ) (x : Typing) (y z : StatementEffect) where
   if-by : (a : Typing) (b c : StatementEffect) → x ≡ a → y ≡ b → z ≡ c
       → ifElseRule i a b c ≡ ifElseRule i x y z
-  if-by a b c h k l = sym (ap (λ (w : Typing). ifElseRule i w y z) h ∙ ap (λ (w : StatementEffect). ifElseRule i a w z) k ∙ ap (ifElseRule i a b) l)
+  if-by a b c h k l =
+      sym (ap (λ (w : Typing). ifElseRule i w y z) h
+      ∙ ap (λ (w : StatementEffect). ifElseRule i a w z) k ∙ ap (ifElseRule i a b) l)
 
   pub if-fault : (n j : ℕ) → x ≡ Untyped n j → Faulty n j ≡ ifElseRule i x y z
   unfolding ifElseRule
@@ -499,7 +561,8 @@ module _ (i : ℕ) (x : Typing) (y : StatementEffect) where
   unfolding whileRule
   while-fault-2 t e n j h k = while-by (Typed t e) (Faulty n j) h k
 
-  pub while-row : (t : ℕ) (e f : Effect) (b : Bool) (r : StatementEffect) → x ≡ Typed t e → y ≡ Proper f b
+  pub while-row : (t : ℕ) (e f : Effect) (b : Bool) (r : StatementEffect) → x ≡ Typed t e
+      → y ≡ Proper f b
       → r ≡ whileRule i (Typed t e) (Proper f b) → r ≡ whileRule i x y
   while-row t e f b r h k q = q ∙ while-by (Typed t e) (Proper f b) h k
 

@@ -4,6 +4,7 @@ use mathlib.Core.Bool.{Bool, true, false, not, true≢false}
 use mathlib.Core.List.{List, [], _∷_, map}
 use Prim.Native.Nat.{ℕ, zero, suc, _+_, _*_, _/_, _%_, _^_, _<_, _≤_}
 use native.Mathlib.Omega.{arith}
+use lib.Bits.{or-zero-r}
 use lib.Dec.{leb, eqb}
 use lib.ListN.{length, getD, take, length-map, List·getD-map}
 use borrow.Author.Tests.{le-leb, lt-leb, eq-eqb, ne-eqb, not-true, not-false}
@@ -15,6 +16,7 @@ use Rattle.language.specs.declared.effect.Effect.{Effect}
 use Rattle.language.specs.Refusals.{unbound, illTyped, escaping, whileUnlinked}
 use Rattle.rules.specs.Rules.{Signature, signatureAt}
 use Rattle.rules.specs.inner.Checking.{Argued, argue, isLinked, startRule}
+use Rattle.rules.specs.inner.NodeRules.{bothTyped}
 use Rattle.rules.specs.inner.Standings.{standing}
 use Rattle.rules.specs.inner.Signatures.{noArguments, arguedOf, signatureWith, signatureWord}
 use Rattle.rules.specs.inner.Signatures.{signatureOf}
@@ -22,6 +24,8 @@ use Rattle.rules.specs.declared.start.Arguments.{Arguments}
 use Rattle.rules.specs.declared.start.Arguments.the-variants.{Nothing, One, Two, Fault}
 use Rattle.rules.specs.declared.finding.Typing.{Typing}
 use Rattle.rules.specs.declared.finding.Typing.the-variants.{Typed, Untyped}
+use Rattle.rules.specs.declared.finding.TypingPair.{TypingPair}
+use Rattle.rules.specs.declared.finding.TypingPair.the-variants.{Both, FirstFault}
 use Rattle.rules.specs.declared.finding.StatementEffect.{StatementEffect}
 use Rattle.rules.specs.declared.finding.StatementEffect.the-variants.{Proper, Faulty}
 
@@ -43,43 +47,47 @@ one-form (Fault n j) = refl
 pub argued-once : (x y : Arguments) → arguedOf x ≡ arguedOf y → x ≡ y
 argued-once x y h = sym (one-form x) ∙ ap form h ∙ one-form y
 
+with-none : (e : Effect) → e ∪ noEffect ≡ e
+with-none e = ap (λ (b : ℕ). record { bits = b }) (or-zero-r (e .bits))
+
 module _ (x : Typing) where
   pub one-fault : (n j : ℕ) → x ≡ Untyped n j → arguedOf (Fault n j) ≡ argue x noArguments
   unfolding argue
   one-fault n j h = ap (λ (w : Typing). argue w noArguments) (sym h)
 
-  pub one-typed : (t : ℕ) (e f g : Effect) → x ≡ Typed t e → f ≡ noEffect → g ≡ e ∪ f
-      → arguedOf (One t g) ≡ argue x noArguments
+  pub one-typed : (t : ℕ) (e : Effect) → x ≡ Typed t e → arguedOf (One t e) ≡ argue x noArguments
   unfolding argue
-  one-typed t e f g h k q =
-      ap (Argued.have (t ∷ [])) (q ∙ ap (λ (o : Effect). e ∪ o) k)
+  one-typed t e h =
+      ap (Argued.have (t ∷ [])) (sym (with-none e))
       ∙ ap (λ (w : Typing). argue w noArguments) (sym h)
 
 pub ruleset one-laws = (one-fault, one-typed)
 
-module _ (x y : Typing) where
-  by-both : (a b : Typing) → x ≡ a → y ≡ b
-      → argue a (argue b noArguments) ≡ argue x (argue y noArguments)
-  by-both a b h k = sym (ap (λ (w : Typing). argue w (argue y noArguments)) h ∙ ap (λ (w : Typing). argue a (argue w noArguments)) k)
+-- the arguments that two expressions are
+abbrev twoOf : TypingPair → Arguments
+twoOf (Both t u e) = Two t u e
+twoOf (FirstFault n j) = Fault n j
 
-  pub two-fault : (n j : ℕ) → x ≡ Untyped n j → arguedOf (Fault n j) ≡ argue x (argue y noArguments)
-  unfolding argue
-  two-fault n j h = by-both (Untyped n j) y h refl
+two-of : (x y : Typing) → arguedOf (twoOf (bothTyped x y)) ≡ argue x (argue y noArguments)
+unfolding argue bothTyped
+two-of (Typed t e) (Typed u f) =
+    ap (λ (o : Effect). Argued.have (t ∷ u ∷ []) (e ∪ o)) (sym (with-none f))
+two-of (Typed t e) (Untyped n j) = refl
+two-of (Untyped n j) y = refl
 
-  pub two-fault-2 : (t : ℕ) (e : Effect) (n j : ℕ) → x ≡ Typed t e → y ≡ Untyped n j
+module _ (x y : Typing) (p : TypingPair) (o : p ≡ bothTyped x y) where
+  two-by : (q : TypingPair) → p ≡ q → arguedOf (twoOf q) ≡ argue x (argue y noArguments)
+  two-by q h = ap (λ (r : TypingPair). arguedOf (twoOf r)) (sym h ∙ o) ∙ two-of x y
+
+  pub two-fault : (n j : ℕ) → p ≡ FirstFault n j
       → arguedOf (Fault n j) ≡ argue x (argue y noArguments)
-  unfolding argue
-  two-fault-2 t e n j h k = by-both (Typed t e) (Untyped n j) h k
+  two-fault n j h = two-by (FirstFault n j) h
 
-  pub two-typed : (t : ℕ) (e : Effect) (u : ℕ) (f z g w : Effect) → x ≡ Typed t e → y ≡ Typed u f
-      → z ≡ noEffect → g ≡ f ∪ z → w ≡ e ∪ g → arguedOf (Two t u w) ≡ argue x (argue y noArguments)
-  unfolding argue
-  two-typed t e u f z g w h k a b c =
-      ap (Argued.have (t ∷ u ∷ []))
-      (c ∙ ap (λ (o : Effect). e ∪ o) (b ∙ ap (λ (o : Effect). f ∪ o) a))
-      ∙ by-both (Typed t e) (Typed u f) h k
+  pub two-typed : (t u : ℕ) (e : Effect) → p ≡ Both t u e
+      → arguedOf (Two t u e) ≡ argue x (argue y noArguments)
+  two-typed t u e h = two-by (Both t u e) h
 
-pub ruleset two-laws = (two-fault, two-fault-2, two-typed)
+pub ruleset two-laws = (two-fault, two-typed)
 
 -- ---- a signature's word
 record-is : (m n : ℕ) (a b c d : ℕ) (e : Effect) (f : ℕ) → m ≡ n → a ≡ c → b ≡ d → f ≡ e .bits
@@ -168,7 +176,9 @@ module _ (t u a b : ℕ) where
 
   same-both : t ≡ a → eqb u b ≡ Same 2 2
   unfolding sameNumbers
-  same-both e = sym (numbers-step t a (u ∷ []) (b ∷ []) true (eq-eqb t a e) ∙ numbers-step u b [] [] (eqb u b) refl ∙ last (eqb u b))
+  same-both e =
+      sym (numbers-step t a (u ∷ []) (b ∷ []) true (eq-eqb t a e)
+      ∙ numbers-step u b [] [] (eqb u b) refl ∙ last (eqb u b))
 
 -- the code's tests, on a signature's word
 module _ (n t u w : ℕ) (l : n ≤ 2) where
@@ -185,7 +195,9 @@ module _ (n t u w : ℕ) (l : n ≤ 2) where
 
   pub types-count : (n ≡ w / 2 ^ 48 % 3 → ⊥) → Fits false
   unfolding signatureOf
-  types-count d = apart t u (w % 2 ^ 16) (w / 2 ^ 16 % 2 ^ 16) (up-to-two n l) (up-to-two (w / 2 ^ 48 % 3) (omega arith)) d
+  types-count d =
+      apart t u (w % 2 ^ 16) (w / 2 ^ 16 % 2 ^ 16)
+      (up-to-two n l) (up-to-two (w / 2 ^ 48 % 3) (omega arith)) d
 
   pub types-none : n ≡ w / 2 ^ 48 % 3 → n ≡ 0 → Fits true
   unfolding sameNumbers
@@ -196,7 +208,9 @@ module _ (n t u w : ℕ) (l : n ≤ 2) where
       by-same false e (first-apart t u (w % 2 ^ 16) (w / 2 ^ 16 % 2 ^ 16) (up-to-two n l) z d)
 
   pub types-one : n ≡ w / 2 ^ 48 % 3 → n ≡ 1 → t ≡ w % 2 ^ 16 → Fits true
-  types-one e z d = by-same true e (same-one t u (w % 2 ^ 16) (w / 2 ^ 16 % 2 ^ 16) d ∙ ap (λ (m : ℕ). SameHere m m) (sym z))
+  types-one e z d =
+      by-same true e
+      (same-one t u (w % 2 ^ 16) (w / 2 ^ 16 % 2 ^ 16) d ∙ ap (λ (m : ℕ). SameHere m m) (sym z))
 
   pub types-two : n ≡ w / 2 ^ 48 % 3 → (n ≡ 0 → ⊥) → (n ≡ 1 → ⊥) → t ≡ w % 2 ^ 16
       → Fits (eqb u (w / 2 ^ 16 % 2 ^ 16))
@@ -227,14 +241,17 @@ module _ (n t u : ℕ) (l : n ≤ 2) where
 
   pub public-one : (x : Bool) → n ≡ 1 → x ≡ public t → not x ≡ false → Public true
   unfolding every
-  public-one x z h k = sym (ap (λ (m : ℕ). every public (take m (t ∷ u ∷ []))) z ∙ every-step t [] true (sym h ∙ not-false x k))
+  public-one x z h k =
+      sym (ap (λ (m : ℕ). every public (take m (t ∷ u ∷ []))) z
+      ∙ every-step t [] true (sym h ∙ not-false x k))
 
   pub public-two : (x y : Bool) → (n ≡ 0 → ⊥) → (n ≡ 1 → ⊥) → x ≡ public t → not x ≡ false
       → y ≡ public u → Public y
   unfolding every
   public-two x y z o h k q =
       let e : n ≡ 2 = omega (arith, z, o, l) in
-      sym (ap (λ (m : ℕ). every public (take m (t ∷ u ∷ []))) e ∙ every-step t (u ∷ []) true (sym h ∙ not-false x k) ∙ every-step u [] y (sym q) ∙ last y)
+      sym (ap (λ (m : ℕ). every public (take m (t ∷ u ∷ []))) e
+      ∙ every-step t (u ∷ []) true (sym h ∙ not-false x k) ∙ every-step u [] y (sym q) ∙ last y)
 
 pub ruleset public-laws = (public-none, public-first, public-one, public-two)
 
@@ -278,7 +295,9 @@ module _ (once : Bool) (ws : List ℕ) (linked : Bool) (s i : ℕ) (ts : List �
 
         pub start-unlinked : not y ≡ false → linked ≡ false → Start (Faulty whileUnlinked i)
         unfolding startRule
-        start-unlinked m z = no _ there (no _ (ap not (sym same) ∙ n) (no _ (ap not (sym q) ∙ m) (yes _ (unlinked linked z) refl)))
+        start-unlinked m z =
+            no _ there (no _ (ap not (sym same) ∙ n) (no _ (ap not (sym q) ∙ m)
+            (yes _ (unlinked linked z) refl)))
           where
             unlinked : (b : Bool) → b ≡ false → not (isLinked (standing b)) ≡ true
             unlinked true f = absurd (true≢false f)
@@ -288,8 +307,10 @@ module _ (once : Bool) (ws : List ℕ) (linked : Bool) (s i : ℕ) (ts : List �
             → f ≡ signatureOf (getD ws s 0) .effect → g ≡ e ∪ f → Start (Proper g once)
         unfolding startRule
         start-does f g m z a b =
-            no _ there (no _ (ap not (sym same) ∙ n) (no _ (ap not (sym q) ∙ m) (no _ (linked-so linked z)
-            (ap (λ (o : Effect). Proper o once) (b ∙ ap (λ (o : Effect). e ∪ o) (a ∙ ap (λ (v : Signature). v .effect) (sym (at-word ws s))))))))
+            no _ there (no _ (ap not (sym same) ∙ n) (no _ (ap not (sym q) ∙ m)
+            (no _ (linked-so linked z)
+            (ap (λ (o : Effect). Proper o once) (b ∙ ap (λ (o : Effect). e ∪ o)
+            (a ∙ ap (λ (v : Signature). v .effect) (sym (at-word ws s))))))))
           where
             linked-so : (b : Bool) → b ≡ true → not (isLinked (standing b)) ≡ false
             linked-so true f = refl
@@ -306,7 +327,8 @@ module _ (once : Bool) (ws : List ℕ) (linked : Bool) (s i : ℕ) (args : Argum
       → r ≡ startRule once (map signatureOf ws) (standing linked) s i (arguedOf v) → StartWith r
   by-arguments v r h k =
       k
-      ∙ ap (λ (w : Arguments). startRule once (map signatureOf ws) (standing linked) s i (arguedOf w)) (sym h)
+      ∙ ap (λ (w : Arguments). startRule once (map signatureOf ws) (standing linked) s i
+      (arguedOf w)) (sym h)
 
   pub start-fault : (n j : ℕ) → args ≡ Fault n j → StartWith (Faulty n j)
   unfolding startRule
@@ -317,7 +339,10 @@ module _ (once : Bool) (ws : List ℕ) (linked : Bool) (s i : ℕ) (args : Argum
       ≡ startRule once (map signatureOf ws) (standing linked) s i
       (Argued.have (take 0 (0 ∷ 0 ∷ [])) e)
       → StartWith r
-  start-nothing e r h q k = by-arguments Nothing r h (k ∙ ap (λ (o : Effect). startRule once (map signatureOf ws) (standing linked) s i (Argued.have [] o)) q)
+  start-nothing e r h q k =
+      by-arguments Nothing r h
+      (k ∙ ap (λ (o : Effect). startRule once (map signatureOf ws) (standing linked) s i
+      (Argued.have [] o)) q)
 
   pub start-one : (t : ℕ) (e : Effect) (r : StatementEffect) → args ≡ One t e
       → r

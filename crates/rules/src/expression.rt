@@ -1,6 +1,7 @@
 // One function for each rule of expressions: what a node is found to be, from what its children
 // were found to be.
 use crate::finding::Typing;
+use crate::finding::TypingPair;
 use language::Place;
 use language::PlaceRead;
 use language::effect::Effect;
@@ -26,6 +27,7 @@ ghost use Rattle.language.specs.Effects.{withOwner};
 ghost use Rattle.rules.specs.inner.Checking.{namedRule, newRule, contentRule};
 ghost use Rattle.rules.specs.inner.Checking.{numbersRule, chooseRule};
 ghost use Rattle.rules.specs.inner.NodeRules.{leafRule, OwnerPlaced, cellRule, madeBy};
+ghost use Rattle.rules.specs.inner.NodeRules.{bothTyped};
 ghost use Rattle.rules.specs.declared.finding.Typing.the-variants.{Typed};
 
 // 22 and 23: a variable or a shared cell, by its index in the types of those there are.
@@ -127,58 +129,58 @@ pub fn made_by(op: Operator) -> u16
     }
 }
 
-// 26 and 27: two numbers, and the type of what they make.
-fn numbers_typed(w: u16, i: u16, t: u16, e: Effect, u: u16, f: Effect) -> Typing
-    ensures { λ r. ⌜ r ≡ numbersRule w i (Typed t e) (Typed u f) ⌝ }
-{
-    if t != NUMBER {
-        return Typing::Untyped(ILL_TYPED, i);
-    }
-    if u != NUMBER {
-        return Typing::Untyped(ILL_TYPED, i);
-    }
-    Typing::Typed(w, e.joined(f))
-}
-
-pub fn numbers_rule(w: u16, i: u16, x: Typing, y: Typing) -> Typing
-    ensures { λ r. ⌜ r ≡ numbersRule w i x y ⌝ }
+// What two expressions are found to be together: the operands of 17, 26 and 27, the first two of
+// 28, and two arguments of a start.
+pub(crate) fn both_typed(x: Typing, y: Typing) -> TypingPair
+    ensures { λ r. ⌜ r ≡ bothTyped x y ⌝ }
 {
     match x {
-        Typing::Untyped(n, j) => Typing::Untyped(n, j),
+        Typing::Untyped(n, j) => TypingPair::FirstFault(n, j),
         Typing::Typed(t, e) => match y {
-            Typing::Untyped(n, j) => Typing::Untyped(n, j),
-            Typing::Typed(u, f) => numbers_typed(w, i, t, e, u, f),
+            Typing::Untyped(n, j) => TypingPair::FirstFault(n, j),
+            Typing::Typed(u, f) => TypingPair::Both(t, u, e.joined(f)),
         },
     }
 }
 
-// 28
-fn choose_typed(i: u16, t: u16, e: Effect, u: u16, f: Effect, v: u16, g: Effect) -> Typing
-    ensures { λ r. ⌜ r ≡ chooseRule i (Typed t e) (Typed u f) (Typed v g) ⌝ }
+// 26 and 27: two numbers, and the type of what they make.
+pub fn numbers_rule(w: u16, i: u16, x: Typing, y: Typing) -> Typing
+    ensures { λ r. ⌜ r ≡ numbersRule w i x y ⌝ }
 {
-    if t != TRUTH {
-        return Typing::Untyped(ILL_TYPED, i);
+    match both_typed(x, y) {
+        TypingPair::FirstFault(n, j) => Typing::Untyped(n, j),
+        TypingPair::Both(t, u, e) => {
+            if t != NUMBER {
+                return Typing::Untyped(ILL_TYPED, i);
+            }
+            if u != NUMBER {
+                return Typing::Untyped(ILL_TYPED, i);
+            }
+            Typing::Typed(w, e)
+        }
     }
-    if u != NUMBER {
-        return Typing::Untyped(ILL_TYPED, i);
-    }
-    if v != NUMBER {
-        return Typing::Untyped(ILL_TYPED, i);
-    }
-    Typing::Typed(NUMBER, e.joined(f).joined(g))
 }
 
+// 28
 pub fn choose_rule(i: u16, x: Typing, y: Typing, z: Typing) -> Typing
     ensures { λ r. ⌜ r ≡ chooseRule i x y z ⌝ }
 {
-    match x {
-        Typing::Untyped(n, j) => Typing::Untyped(n, j),
-        Typing::Typed(t, e) => match y {
+    match both_typed(x, y) {
+        TypingPair::FirstFault(n, j) => Typing::Untyped(n, j),
+        TypingPair::Both(t, u, e) => match z {
             Typing::Untyped(n, j) => Typing::Untyped(n, j),
-            Typing::Typed(u, f) => match z {
-                Typing::Untyped(n, j) => Typing::Untyped(n, j),
-                Typing::Typed(v, g) => choose_typed(i, t, e, u, f, v, g),
-            },
+            Typing::Typed(v, g) => {
+                if t != TRUTH {
+                    return Typing::Untyped(ILL_TYPED, i);
+                }
+                if u != NUMBER {
+                    return Typing::Untyped(ILL_TYPED, i);
+                }
+                if v != NUMBER {
+                    return Typing::Untyped(ILL_TYPED, i);
+                }
+                Typing::Typed(NUMBER, e.joined(g))
+            }
         },
     }
 }

@@ -8,6 +8,13 @@ pub enum Typing {
     Untyped(u8, u16),
 }
 
+// Of two expressions, the first before the second: their types and the effect of both, or the first
+// fault in them.
+pub(crate) enum TypingPair {
+    Both(u16, u16, Effect),
+    FirstFault(u8, u16),
+}
+
 // Of a statement: its effect and whether it ends at once, or the first fault in it.
 pub enum StatementEffect {
     Proper(Effect, bool),

@@ -1,6 +1,8 @@
 // Starting a module, 13 and 14: the arguments, and what is known of the modules below.
+use crate::expression::both_typed;
 use crate::finding::StatementEffect;
 use crate::finding::Typing;
+use crate::finding::TypingPair;
 use language::effect::Effect;
 use language::refusal::ESCAPING;
 use language::refusal::ILL_TYPED;
@@ -32,19 +34,16 @@ pub fn one_argument(x: Typing) -> Arguments
 {
     match x {
         Typing::Untyped(n, j) => Arguments::Fault(n, j),
-        Typing::Typed(t, e) => Arguments::One(t, e.joined(Effect::none())),
+        Typing::Typed(t, e) => Arguments::One(t, e),
     }
 }
 
 pub fn two_arguments(x: Typing, y: Typing) -> Arguments
     ensures { λ r. ⌜ arguedOf r ≡ argue x (argue y noArguments) ⌝ }
 {
-    match x {
-        Typing::Untyped(n, j) => Arguments::Fault(n, j),
-        Typing::Typed(t, e) => match y {
-            Typing::Untyped(n, j) => Arguments::Fault(n, j),
-            Typing::Typed(u, f) => Arguments::Two(t, u, e.joined(f.joined(Effect::none()))),
-        },
+    match both_typed(x, y) {
+        TypingPair::FirstFault(n, j) => Arguments::Fault(n, j),
+        TypingPair::Both(t, u, e) => Arguments::Two(t, u, e),
     }
 }
 

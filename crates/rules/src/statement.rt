@@ -1,8 +1,10 @@
 // One function for each rule of statements: what a node is found to be, from what its children were
 // found to be.
+use crate::expression::both_typed;
 use crate::expression::with_owner_of;
 use crate::finding::StatementEffect;
 use crate::finding::Typing;
+use crate::finding::TypingPair;
 use language::Place;
 use language::effect::Effect;
 use language::refusal::ILL_TYPED;
@@ -79,27 +81,20 @@ pub fn join_rule(e: Effect, x: StatementEffect) -> StatementEffect
 }
 
 // 17
-fn store_typed(i: u16, t: u16, e: Effect, u: u16, f: Effect) -> StatementEffect
-    ensures { λ r. ⌜ r ≡ storeRule i (Typed t e) (Typed u f) ⌝ }
-{
-    if !is_cell(t) {
-        return StatementEffect::Faulty(ILL_TYPED, i);
-    }
-    if u != content_of(t) {
-        return StatementEffect::Faulty(ILL_TYPED, i);
-    }
-    StatementEffect::Proper(with_owner_of(e.joined(f), t), true)
-}
-
 pub fn store_rule(i: u16, x: Typing, y: Typing) -> StatementEffect
     ensures { λ r. ⌜ r ≡ storeRule i x y ⌝ }
 {
-    match x {
-        Typing::Untyped(n, j) => StatementEffect::Faulty(n, j),
-        Typing::Typed(t, e) => match y {
-            Typing::Untyped(n, j) => StatementEffect::Faulty(n, j),
-            Typing::Typed(u, f) => store_typed(i, t, e, u, f),
-        },
+    match both_typed(x, y) {
+        TypingPair::FirstFault(n, j) => StatementEffect::Faulty(n, j),
+        TypingPair::Both(t, u, e) => {
+            if !is_cell(t) {
+                return StatementEffect::Faulty(ILL_TYPED, i);
+            }
+            if u != content_of(t) {
+                return StatementEffect::Faulty(ILL_TYPED, i);
+            }
+            StatementEffect::Proper(with_owner_of(e, t), true)
+        }
     }
 }
 

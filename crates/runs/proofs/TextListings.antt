@@ -19,8 +19,7 @@ use Rattle.program.specs.Programs.{programOf}
 use Rattle.layout.specs.declared.LayoutVerdict.{LayoutVerdict}
 use Rattle.layout.specs.inner.Layouts.{layoutVerdict, laidAs, laidWords}
 use Rattle.layout.specs.declared.Laid.{Laid}
-use Rattle.layout.proofs.Answers.{verdict-is}
-use Rattle.layout.proofs.Judged.{laid-passed}
+use Rattle.layout.proofs.Judged.{laid-passed, verdict-rejected, verdict-lines}
 use Rattle.rules.specs.inner.Checking.{rulesOf}
 use Rattle.checker.specs.Verdict.{verdict}
 use Rattle.checker.specs.inner.Frames.{FileIn}
@@ -114,7 +113,7 @@ module _ (n j : ℕ) (out : List ℕ) where
     unfolding listedRejected
     with-state x new k = ap withState k ∙ either (eqb (length out) 229389) _ _
 
-module _ (bs bytes w out : List ℕ) (l : Laid) (ws : List ℕ) (e : laidAs l ws ≡ laidWords bs) (v : LayoutVerdict) (h : v ≡ l .verdict) where
+module _ (bs bytes w out : List ℕ) (l : Laid) (ws : List ℕ) (e : laidAs l ws ≡ laidWords bs) where
   -- what the definition gives with that answer where no buffer hinders it
   abbrev whole : Answer → ListingResult
   whole a = wholeListing a (verdict bs) (textFrames bs) bytes w out
@@ -124,56 +123,64 @@ module _ (bs bytes w out : List ℕ) (l : Laid) (ws : List ℕ) (e : laidAs l ws
   byVerdict x =
       if buffersFit x w out then whole (answerFor x true) else noListing (answerFor x false) w out
 
-  layout-is : layoutVerdict bs ≡ v
-  layout-is = sym (verdict-is bs (laidAs l ws) e) ∙ sym h
-
-  by-layout : (x : LayoutVerdict) → v ≡ x → byVerdict x ≡ listText bs bytes w out
+  by-layout : (x : LayoutVerdict) → x ≡ layoutVerdict bs → byVerdict x ≡ listText bs bytes w out
   unfolding listText
-  by-layout x z = ap byVerdict (sym (layout-is ∙ z))
+  by-layout x z = ap byVerdict z
 
-  module _ (n j : ℕ) (z : v ≡ LayoutVerdict.Rejected n j) where
+  module _ (n j : ℕ) (z : l ≡ Laid.Rejected n j) where
     abbrev refusal : Answer
     refusal = A.Rejected n j
 
+    refused : LayoutVerdict.Rejected n j ≡ layoutVerdict bs
+    refused = verdict-rejected bs l ws e n j z
+
     whole-rejected : listingOf refusal (notRun w) (refusalLine n j) out ≡ whole refusal
     whole-rejected =
-        let s = ends (Rejected n j) (textFrames bs) w bytes (layout-stops bs n j (layout-is ∙ z)) in
+        let s = ends (Rejected n j) (textFrames bs) w bytes (layout-stops bs n j (sym refused)) in
         ap₂ (λ (y : FinalState) (t : List ℕ). listingOf refusal y t out) (sym (s .0)) (sym (s .1))
         ∙ ap (λ (x : Verdict). wholeListing refusal x (textFrames bs) bytes w out)
-        (check-rejected bs l ws e v n j h z)
+        (check-rejected bs l ws e n j z)
 
     rejected-is : listedRejected n j w out ≡ listText bs bytes w out
     unfolding listedRejected
     rejected-is =
         ap (λ (x : ListingResult). if eqb (length out) 229389 then x else noListing (A.Rejected n j) w out) whole-rejected
-        ∙ by-layout (LayoutVerdict.Rejected n j) z
+        ∙ by-layout (LayoutVerdict.Rejected n j) refused
 
     pub list-rejected : (x : ListingAnswer) (new : List ℕ) → withBuffers x [] new ≡ listedRejected n j [] out
         → withBuffers x w new ≡ listText bs bytes w out
     list-rejected x new k = with-state n j out w x new k ∙ rejected-is
 
-  module _ (a : v ≡ LayoutVerdict.LaidOut) where
+  module _ (n : ℕ) (a : l ≡ Laid.Lines n) where
+    frames-are : framesOf (take n ws) ≡ textFrames bs
+    frames-are = laid-passed bs l ws e n a .lines
+
+    rules-are : rulesOf (programOf (framesOf (take n ws))) ≡ verdict bs
+    rules-are = check-rules bs l ws e n a _ refl
+
+    laid-out : byVerdict LayoutVerdict.LaidOut ≡ listText bs bytes w out
+    laid-out = by-layout LayoutVerdict.LaidOut (verdict-lines bs l ws e n a)
+
     pub list-short-state : (length w ≡ 4818 → ⊥)
         → noListing (A.Refused 14 0) w out ≡ listText bs bytes w out
     list-short-state f =
         sym (if-no _ _ (ap (λ (b : Bool). b && eqb (length out) 229389) (ne-eqb (length w) 4818 f)))
-        ∙ by-layout LayoutVerdict.LaidOut a
+        ∙ laid-out
 
     pub list-short-out : (length out ≡ 229389 → ⊥)
         → noListing (A.Refused 14 0) w out ≡ listText bs bytes w out
     list-short-out f =
         sym (if-no _ _ (ap (λ (b : Bool). eqb (length w) 4818 && b) (ne-eqb (length out) 229389 f) ∙ and-off (eqb (length w) 4818)))
-        ∙ by-layout LayoutVerdict.LaidOut a
+        ∙ laid-out
 
-    pub list-laid-out : length w ≡ 4818 → length out ≡ 229389 → (n : ℕ) → n ≡ l .count
+    pub list-laid-out : length w ≡ 4818 → length out ≡ 229389
         → (u new : List ℕ) (x : ListingAnswer)
         → withBuffers x u new
         ≡ wholeListing (A.Done 0) (rulesOf (programOf (framesOf (take n ws))))
         (framesOf (take n ws)) bytes w out
         → withBuffers x u new ≡ listText bs bytes w out
-    list-laid-out size room n q u new x k =
-        let f : framesOf (take n ws) ≡ textFrames bs = ap (λ (i : ℕ). framesOf (take i ws)) q ∙ laid-passed bs (laidAs l ws) e (sym h ∙ a) .lines in
-        let r : rulesOf (programOf (framesOf (take n ws))) ≡ verdict bs = check-rules bs l ws e v h a n _ q refl in
-        k ∙ ap₂ (λ (y : Verdict) (fs : List Frame). wholeListing (A.Done 0) y fs bytes w out) r f
+    list-laid-out size room u new x k =
+        k ∙ ap₂ (λ (y : Verdict) (fs : List Frame). wholeListing (A.Done 0) y fs bytes w out)
+        rules-are frames-are
         ∙ sym (if-yes _ _ (ap₂ (λ (b c : Bool). b && c) (eq-eqb (length w) 4818 size) (eq-eqb (length out) 229389 room)))
-        ∙ by-layout LayoutVerdict.LaidOut a
+        ∙ laid-out

@@ -35,8 +35,7 @@ abbrev pub notRun : List ℕ → FinalState
 notRun w = record { used = 0; words = w }
 
 abbrev pub runOf : Program → List ℕ → Choices → FinalState
-runOf p w (choices cs) = finalState p cs
-runOf p w (malformed k) = notRun w
+runOf p w r = elim r [ choices cs ↦ finalState p cs | malformed k ↦ notRun w ]
 
 -- the bytes of choices.txt are judged whole before any step, in the order of `choicesListing`
 unfoldable pub choicesRun : Program → List ℕ → List ℕ → FinalState

@@ -13,12 +13,11 @@ ghost use Prim.Native.Nat.{_+_, _*_, _≤_};
 ghost use lib.ListN.{length, take};
 ghost use Rattle.text.specs.Frames.{framesOf};
 ghost use Rattle.program.specs.Programs.{programOf};
-ghost use Rattle.machine.specs.Fresh.{fresh};
 ghost use Rattle.machine.specs.Runs.{stateAfter};
 ghost use Rattle.machine.specs.Words.{pack};
-ghost use Rattle.stepper.specs.inner.Files.{FileWords, fileOf};
 ghost use Rattle.runs.specs.Listings.{written};
 ghost use Rattle.runs.specs.inner.Parts.{choicesOf, stepLines, checkLength, choiceLength};
+ghost use Rattle.runs.specs.inner.Parts.{RunStart};
 
 // The first n choices of choices.txt, from the fresh state on, and a line for each; its cells in
 // use are those after the step.
@@ -30,9 +29,8 @@ pub(crate) fn step_lines(
     state: &mut [u64],
     out: &mut [u8],
 )
-    requires { ⌜ FileWords (now frames) × (file ≡ fileOf (programOf (framesOf (now frames))))
-        × (n ≤ length (choicesOf (now bytes))) × (checkLength + choiceLength * n ≤ length (now out))
-        × (now state ≡ pack (fresh (programOf (framesOf (now frames))))) ⌝ }
+    requires { ⌜ RunStart (now frames) file (now state) × (n ≤ length (choicesOf (now bytes)))
+        × (checkLength + choiceLength * n ≤ length (now out)) ⌝ }
     ensures words { λ _. ⌜ now (state .exit)
         ≡ pack (stateAfter (programOf (framesOf (now (frames .entry)))) (take n (choicesOf (now
         (bytes .entry))))) ⌝ }

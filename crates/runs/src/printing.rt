@@ -9,7 +9,7 @@ use language::limit::MOST_LISTING_BYTES;
 use language::refusal::LONG_TEXT;
 use language::refusal::MALFORMED_TEXT;
 use language::refusal::WRONG_STATE;
-use layout::LayoutVerdict;
+use layout::Laid;
 use layout::lay_into;
 use listing::buffer::put;
 use listing::check_line;
@@ -170,11 +170,9 @@ pub fn run_listing(text: &[u8], choices: &[u8], state: &mut [u64], out: &mut [u8
         (now (out .entry)) ⌝ }
 {
     let mut words = [0u64; MOST_LINES];
-    let l = lay_into(text, &mut words);
-    let v = l.verdict;
-    match v {
-        LayoutVerdict::Rejected(n, j) => list_rejected(n, j, out),
-        LayoutVerdict::LaidOut => {
+    match lay_into(text, &mut words) {
+        Laid::Rejected(n, j) => list_rejected(n, j, out),
+        Laid::Lines(n) => {
             if state.len() != STATE_LENGTH {
                 return ListingAnswer {
                     answer: Answer::Refused(WRONG_STATE, 0),
@@ -189,7 +187,6 @@ pub fn run_listing(text: &[u8], choices: &[u8], state: &mut [u64], out: &mut [u8
                     used: 0,
                 };
             }
-            let n = l.count;
             list_frames(&words[..n], choices, state, out)
         }
     }

@@ -9,20 +9,21 @@ use language::limit::MOST_VARIABLES;
 use language::type_word::NUMBER;
 use language::type_word::is_cell;
 use machine::offset::CELL_COUNT_AT;
-use machine::offset::CELL_FROM;
 use machine::offset::CELLS_AT;
-use machine::offset::OWNER_FACTOR;
 use machine::offset::SCHEDULERS_AT;
-use machine::offset::TRUTH_FROM;
-use machine::word::TRUE_WORD;
+use machine::word::cell_word;
+use machine::word::number_word;
+use machine::word::reference_word;
+use machine::word::truth_word;
 use program::module::main_body;
 use program::shared::next_shared;
 use text::line::frame_of_word;
 ghost use mathlib.Core.Path.{_≡_};
+ghost use Prim.Native.Nat.{_<_};
 ghost use lib.ListN.{length, set, replicate};
 ghost use Rattle.text.specs.Frames.{framesOf};
 ghost use Rattle.program.specs.Programs.{sharedOf, programOf, cellOf};
-ghost use Rattle.machine.specs.Offsets.{stateLength, cellCountAt};
+ghost use Rattle.machine.specs.Offsets.{stateLength, cellCountAt, ownerFactor};
 ghost use Rattle.machine.specs.Values.{firstContent};
 ghost use Rattle.machine.specs.Fresh.{firstCell, fresh};
 ghost use Rattle.machine.specs.Words.{valueWord, cellWord, pack};
@@ -32,25 +33,22 @@ ghost use Rattle.states.specs.inner.Starts.{mainWords, withShared};
 const FIRST_ACTIVE: usize = SCHEDULERS_AT + 1;
 
 // The word of a first content: a cell, a number, or a truth, by its type.
-fn content_word(content: u16, first: u16) -> u64
-    ensures { λ r. ⌜ r ≡ valueWord (firstContent content first) ⌝ }
+fn first_content_word(content: u16, first: u16) -> u64
+    ensures { λ r. ⌜ (r ≡ valueWord (firstContent content first)) × (r < ownerFactor) ⌝ }
 {
     if is_cell(content) {
-        return CELL_FROM + first as u64;
+        return reference_word(first);
     }
     if content == NUMBER {
-        return first as u64;
+        return number_word(first as u32);
     }
-    if first == 1 {
-        return TRUE_WORD;
-    }
-    TRUTH_FROM
+    truth_word(first == 1)
 }
 
-fn cell_word(f: Frame) -> u64
+fn first_cell_word(f: Frame) -> u64
     ensures { λ r. ⌜ r ≡ cellWord (firstCell (cellOf f)) ⌝ }
 {
-    f.s as u64 * OWNER_FACTOR + content_word(f.a, f.b)
+    cell_word(f.s as u16, first_content_word(f.a, f.b))
 }
 
 fn clear(state: &mut [u64])
@@ -78,7 +76,7 @@ fn write_shared(frames: &[u64], state: &mut [u64]) -> u64
             i = next_shared(frames, i + 1);
             continue;
         }
-        state[CELLS_AT + c] = cell_word(frame_of_word(frames[i]));
+        state[CELLS_AT + c] = first_cell_word(frame_of_word(frames[i]));
         c += 1;
         i = next_shared(frames, i + 1);
     }

@@ -2,7 +2,6 @@
 // 0: it is thread k + 1 of the state. Whoever calls has tested that there is an item or a variable
 // to take off, or room for one more.
 use crate::thread::FIRST_ITEM;
-use crate::thread::FIRST_VARIABLE;
 use language::Place;
 use machine::offset::ITEMS_FIELD;
 use machine::offset::LIVES_FIELD;
@@ -10,12 +9,12 @@ use machine::offset::THREAD_LENGTH;
 use machine::offset::THREADS_AT;
 use machine::offset::VARIABLES_FIELD;
 ghost use mathlib.Core.Path.{_≡_};
-ghost use Prim.Native.Nat.{_-_, _<_, _≤_};
-ghost use lib.ListN.{getD};
+ghost use Prim.Native.Nat.{_+_, _-_, _<_, _≤_};
+ghost use lib.ListN.{getD, length};
 ghost use Rattle.language.specs.Limits.{mostVariables, mostItems};
 ghost use Rattle.states.specs.inner.Threads.{threadIn, putThread, ThreadSpace};
 ghost use Rattle.states.specs.inner.Stacks.{pushItem, popItem, pushValue, popValue, moveTo};
-ghost use Rattle.states.specs.inner.Stacks.{ended, SomeWithin};
+ghost use Rattle.states.specs.inner.Stacks.{ended, SomeWithin, pushedAt, poppedAt};
 
 // The item on top of the continuation, its last word; 0 where there is none.
 pub fn top_item(state: &[u64], k: usize) -> u64
@@ -31,15 +30,33 @@ pub fn top_item(state: &[u64], k: usize) -> u64
     state[at + ITEMS_FIELD + n as usize]
 }
 
+// A list in the words is its count and then its space. One more word goes to its end.
+fn push_at(state: &mut [u64], at: usize, word: u64)
+    requires { ⌜ at + 1 + getD (now state) at 0 < length (now state) ⌝ }
+    ensures { λ _. ⌜ now (state .exit) ≡ pushedAt (now (state .entry)) at word ⌝ }
+{
+    let n = state[at];
+    state[at + 1 + n as usize] = word;
+    state[at] = n + 1;
+}
+
+// Its last word is taken off: there is one.
+fn pop_at(state: &mut [u64], at: usize)
+    requires { ⌜ (0 < getD (now state) at 0)
+        × (at + getD (now state) at 0 < length (now state)) ⌝ }
+    ensures { λ _. ⌜ now (state .exit) ≡ poppedAt (now (state .entry)) at ⌝ }
+{
+    let n = state[at];
+    state[at + n as usize] = 0;
+    state[at] = n - 1;
+}
+
 pub fn push_item(state: &mut [u64], k: usize, item: u64)
     requires { ⌜ ThreadSpace (now state) k × (threadIn (now state) k .items < mostItems) ⌝ }
     ensures { λ _. ⌜ now (state .exit)
         ≡ putThread (now (state .entry)) k (pushItem item (threadIn (now (state .entry)) k)) ⌝ }
 {
-    let at = THREADS_AT + THREAD_LENGTH * k;
-    let n = state[at + ITEMS_FIELD];
-    state[at + FIRST_ITEM + n as usize] = item;
-    state[at + ITEMS_FIELD] = n + 1;
+    push_at(state, THREADS_AT + THREAD_LENGTH * k + ITEMS_FIELD, item);
 }
 
 pub fn pop_item(state: &mut [u64], k: usize)
@@ -48,10 +65,7 @@ pub fn pop_item(state: &mut [u64], k: usize)
     ensures { λ _. ⌜ now (state .exit)
         ≡ putThread (now (state .entry)) k (popItem (threadIn (now (state .entry)) k)) ⌝ }
 {
-    let at = THREADS_AT + THREAD_LENGTH * k;
-    let n = state[at + ITEMS_FIELD] - 1;
-    state[at + FIRST_ITEM + n as usize] = 0;
-    state[at + ITEMS_FIELD] = n;
+    pop_at(state, THREADS_AT + THREAD_LENGTH * k + ITEMS_FIELD);
 }
 
 pub fn push_value(state: &mut [u64], k: usize, value: u64)
@@ -59,10 +73,11 @@ pub fn push_value(state: &mut [u64], k: usize, value: u64)
     ensures { λ _. ⌜ now (state .exit)
         ≡ putThread (now (state .entry)) k (pushValue value (threadIn (now (state .entry)) k)) ⌝ }
 {
-    let at = THREADS_AT + THREAD_LENGTH * k;
-    let n = state[at + VARIABLES_FIELD];
-    state[at + FIRST_VARIABLE + n as usize] = value;
-    state[at + VARIABLES_FIELD] = n + 1;
+    push_at(
+        state,
+        THREADS_AT + THREAD_LENGTH * k + VARIABLES_FIELD,
+        value,
+    );
 }
 
 pub fn pop_value(state: &mut [u64], k: usize)
@@ -71,10 +86,7 @@ pub fn pop_value(state: &mut [u64], k: usize)
     ensures { λ _. ⌜ now (state .exit)
         ≡ putThread (now (state .entry)) k (popValue (threadIn (now (state .entry)) k)) ⌝ }
 {
-    let at = THREADS_AT + THREAD_LENGTH * k;
-    let n = state[at + VARIABLES_FIELD] - 1;
-    state[at + FIRST_VARIABLE + n as usize] = 0;
-    state[at + VARIABLES_FIELD] = n;
+    pop_at(state, THREADS_AT + THREAD_LENGTH * k + VARIABLES_FIELD);
 }
 
 pub fn move_to(state: &mut [u64], k: usize, place: Place)

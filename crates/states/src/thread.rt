@@ -20,7 +20,7 @@ ghost use Rattle.states.specs.inner.Threads.{blockOf, withOneMore, Threa
 // Where the words of a continuation and of the variables begin, after their lengths.
 pub(crate) const FIRST_ITEM: usize = ITEMS_FIELD + 1;
 
-pub(crate) const FIRST_VARIABLE: usize = VARIABLES_FIELD + 1;
+const FIRST_VARIABLE: usize = VARIABLES_FIELD + 1;
 
 // Where it stands, which thread started it, 1 while it lives; its continuation from the bottom and
 // its variables from the first, each after its length and with 0 after its members.

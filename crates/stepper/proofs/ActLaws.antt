@@ -2,7 +2,7 @@
 -- Assumes nothing.
 use Prim.Native.Nat.{ℕ, zero, suc, _+_, _-_, _*_, _<_, _≤_}
 use mathlib.Core.Path.{_≡_, refl, sym, ap, ap₂, _∙_, subst}
-use mathlib.Core.List.{List, [], _∷_, map, reverse}
+use mathlib.Core.List.{List, [], _∷_, map}
 use mathlib.Core.Bool.{Bool, true, false, false≢true}
 use native.Mathlib.Omega.{arith}
 use lib.ListN as list
@@ -25,7 +25,7 @@ use Rattle.layout.proofs.Scopes.{placed}
 use Rattle.machine.specs.State.{State, Thread, Item, run, back, drop, threadAt, usedCells}
 use Rattle.machine.specs.Words.{itemWord, valueWord}
 use Rattle.machine.specs.Shapes.{isStatement, ThreadFits, ValueFits, ItemFits, run-fits, back-fits}
-use Rattle.machine.specs.inner.Blocks.{part, pasted, padded, cellWords}
+use Rattle.machine.specs.inner.Blocks.{part, pasted, cellWords}
 use Rattle.machine.specs.declared.value.Value.{Value}
 use Rattle.machine.proofs.WordLaws.{part-length, pasted-length, pasted-in, pasted-out}
 use Rattle.machine.proofs.Blocks.{cells-length, cells-at}
@@ -43,8 +43,8 @@ use Rattle.acts.specs.declared.act.Action.{Action}
 use Rattle.acts.specs.inner.Transitions.{popped, turned, HasRoom}
 use Rattle.turns.specs.declared.counts.Counts.{Counts}
 use Rattle.turns.specs.inner.Actions.{actIn, turnAct}
-use Rattle.turns.specs.inner.Acts.{TurnOutcome, turnOutcome, turnIn, topIn, variablesIn, Seen, WholeTurn}
-use Rattle.turns.specs.inner.Acts.{TurnWords}
+use Rattle.turns.specs.inner.Acts.{TurnOutcome, turnOutcome, turnIn, topIn, variablesIn, Seen}
+use Rattle.turns.specs.inner.Acts.{WholeTurn, TurnWords, ItemWord}
 use Rattle.turns.proofs.TurnLaws.{act-turns}
 use Rattle.reach.proofs.Passed.{order, inside, some-frame}
 use Rattle.stepper.specs.inner.Files.{StepWords, stateIn, whoIn, turnOf, turnOn}
@@ -66,7 +66,9 @@ act-bounds {frames} {shared} {w} p =
     let b = p .2 in
     (step-long frames shared w (p .0), a, omega arith)
 
-module _ (frames : List ℕ) (shared : ℕ) (w : List ℕ) (h : StepWords frames shared w) (t : ℕ) (low : 1 ≤ t) (high : t ≤ getD w 0 0) where
+module _
+    (frames : List ℕ) (shared : ℕ) (w : List ℕ) (h : StepWords frames shared w) (t : ℕ)
+    (low : 1 ≤ t) (high : t ≤ getD w 0 0) where
   abbrev s : State
   s = stateIn frames w
 
@@ -90,7 +92,9 @@ module _ (frames : List ℕ) (shared : ℕ) (w : List ℕ) (h : StepWords frames
 
   -- ---- the place and the counts
   pub place-read : (p : ℕ) → p ≡ getD w (1042 + 55 * (t - 1)) 0 → isPlace p ≡ true
-  place-read p e = subst (λ (i : ℕ). isPlace i ≡ true) (sym (e ∙ ap (λ (y : ThreadWords). y .place) read)) (place-in frames shared w h t low high)
+  place-read p e =
+      subst (λ (i : ℕ). isPlace i ≡ true) (sym (e ∙ ap (λ (y : ThreadWords). y .place) read))
+      (place-in frames shared w h t low high)
 
   pub items-read : getD w (1042 + 55 * (t - 1) + 3) 0 ≤ 25
   items-read = subst (λ (y : ThreadWords). y .items ≤ 25) (sym read) (fits .items-room)
@@ -131,7 +135,9 @@ module _ (frames : List ℕ) (shared : ℕ) (w : List ℕ) (h : StepWords frames
   values-in (v ∷ vs) (more p f) (suc k) g = values-in vs f k (omega arith)
 
   variables-in : ValueWords (variablesIn (threadWordsOf x))
-  variables-in = subst ValueWords (sym (variables-words x (fits .variables-room))) (values-in (x .variables) (fits .values))
+  variables-in =
+      subst ValueWords (sym (variables-words x (fits .variables-room)))
+      (values-in (x .variables) (fits .values))
 
   -- ---- the top item: one that is a statement's is a frame of the file
   statement-there : (i : ℕ) → isStatement (frameAt (framesOf frames) i .kind) ≡ true
@@ -154,20 +160,6 @@ module _ (frames : List ℕ) (shared : ℕ) (w : List ℕ) (h : StepWords frames
   item-there (back q) f g = absurd (omega arith)
   item-there drop f g = absurd (omega arith)
 
-  -- where there is no item, its word is 0, which is a frame of every file
-  top-there : topIn (threadWordsOf x) < 1024 → topIn (threadWordsOf x) < length frames
-  top-there = go (x .continuation) refl (fits .items) (fits .items-room)
-    where
-      Goal : List Item → Type 0
-      Goal is = topIn (threadWordsOf (withContinuation is x)) < 1024 → topIn (threadWordsOf (withContinuation is x)) < length frames
-
-      go : (is : List Item) → x .continuation ≡ is → All (ItemFits (framesOf frames) n) is
-          → length is ≤ 25 → Goal (x .continuation)
-      go [] e f l = subst Goal (sym e) (λ g. let z : 0 < length (framesOf frames) = some-frame (h .file .laid-out) in
-          let y : getD (padded 25 (reverse (map itemWord []))) (0 - 1) 0 ≡ 0 = padded-at 25 [] 0 (omega arith) in
-          rw y (rw length-map at z))
-      go (i ∷ is) e (more p f) l = subst Goal (sym e) (λ g. let q = top-item-is (withContinuation is x) i (omega arith) in rw q (item-there i p (rw q at g)))
-
   -- one that is 'back to q' has a place of the file
   item-place : (i : Item) → ItemFits (framesOf frames) n i → 1024 ≤ itemWord i → itemWord i < 2048
       → isPlace (itemWord i - 1024) ≡ true
@@ -178,18 +170,32 @@ module _ (frames : List ℕ) (shared : ℕ) (w : List ℕ) (h : StepWords frames
       let z : 1024 + q - 1024 ≡ q = omega arith in rw z (has-place n q p .0)
   item-place drop f a b = absurd (omega arith)
 
-  top-place : 1024 ≤ topIn (threadWordsOf x) → topIn (threadWordsOf x) < 2048
-      → isPlace (topIn (threadWordsOf x) - 1024) ≡ true
-  top-place = go (x .continuation) refl (fits .items) (fits .items-room)
+  item-word : (i : Item) → ItemFits (framesOf frames) n i → ItemWord frames (itemWord i)
+  item-word i f = record { statement = item-there i f; back = item-place i f }
+
+  -- where there is no item, its word is 0, which is a frame of every file
+  none-word : ItemWord frames 0
+  none-word =
+      record {
+        statement = λ g. rw length-map at (some-frame (h .file .laid-out));
+        back = λ a b. absurd (omega arith);
+      }
+
+  top-word : ItemWord frames (topIn (threadWordsOf x))
+  top-word = go (x .continuation) refl (fits .items) (fits .items-room)
     where
       Goal : List Item → Type 0
-      Goal is = 1024 ≤ topIn (threadWordsOf (withContinuation is x)) → topIn (threadWordsOf (withContinuation is x)) < 2048
-          → isPlace (topIn (threadWordsOf (withContinuation is x)) - 1024) ≡ true
+      Goal is = ItemWord frames (topIn (threadWordsOf (withContinuation is x)))
 
       go : (is : List Item) → x .continuation ≡ is → All (ItemFits (framesOf frames) n) is
           → length is ≤ 25 → Goal (x .continuation)
-      go [] e f l = subst Goal (sym e) (λ a b. absurd (let y : getD (padded 25 (reverse (map itemWord []))) (0 - 1) 0 ≡ 0 = padded-at 25 [] 0 (omega arith) in omega arith))
-      go (i ∷ is) e (more p f) l = subst Goal (sym e) (λ a b. let q = top-item-is (withContinuation is x) i (omega arith) in rw q (item-place i p (rw q at a) (rw q at b)))
+      go [] e f l =
+          subst Goal (sym e)
+          (subst (ItemWord frames) (sym (padded-at 25 [] 0 (omega arith))) none-word)
+      go (i ∷ is) e (more p f) l =
+          subst Goal (sym e)
+          (subst (ItemWord frames) (sym (top-item-is (withContinuation is x) i (omega arith)))
+          (item-word i p))
 
   -- ---- the cells: the words from 4562 on
   size : (v : List ℕ) → length v ≡ length w → length (lentCells v) ≡ 256
@@ -209,7 +215,12 @@ module _ (frames : List ℕ) (shared : ℕ) (w : List ℕ) (h : StepWords frames
 
   cells-in : CellWords (usedCells (s .cells)) (cellWords (s .cells))
   cells-in = holds-words (usedCells (s .cells)) (cellWords (s .cells)) (s .cells)
-      (record { count = refl; words = refl; room = shaped frames shared w h .cells-room; each = λ k g. shaped frames shared w h .cells k g .value })
+      (record {
+        count = refl;
+        words = refl;
+        room = shaped frames shared w h .cells-room;
+        each = λ k g. shaped frames shared w h .cells k g .value;
+      })
 
   -- how many are in use
   count-is : lentCount w ≡ usedCells (s .cells)
@@ -286,9 +297,7 @@ module _ (frames : List ℕ) (shared : ℕ) (w : List ℕ) (h : StepWords frames
     variables : lentVariables who w ≡ variablesIn th
     variables = variables-are who refl
 
-    pub act-asks : TurnWords frames who counts w
-        × (item < 1024 → item < length frames)
-        × (1024 ≤ item → item < 2048 → isPlace (item - 1024) ≡ true)
+    pub act-asks : TurnWords frames who counts w × ItemWord frames item
     act-asks = (
       record {
         ordered = order (h .file .laid-out);
@@ -306,9 +315,7 @@ module _ (frames : List ℕ) (shared : ℕ) (w : List ℕ) (h : StepWords frames
           cells = rw (count-is, cells-are) cells-in;
         };
       },
-      subst (λ (i : ℕ). i < 1024 → i < length frames) (sym (top ∙ ap topIn read)) top-there,
-      subst (λ (i : ℕ). 1024 ≤ i → i < 2048 → isPlace (i - 1024) ≡ true)
-          (sym (top ∙ ap topIn read)) top-place,
+      subst (ItemWord frames) (sym (top ∙ ap topIn read)) top-word,
     )
 
     -- the words after it are those before with its cells and their count
@@ -323,7 +330,8 @@ module _ (frames : List ℕ) (shared : ℕ) (w : List ℕ) (h : StepWords frames
       words = whole v' k l
           ∙ ap (λ (y : TurnOutcome). set (pasted w 4562 (y .cells) 256) 1 (y .acted .used)) same;
       whole = ap length (sym cells-left) ∙ size v' l;
-      room = subst (λ (i : ℕ). HasRoom (a .change) (i - 1) (threadWordsOf x .values)) (sym (sees .items))
+      room = subst (λ (i : ℕ). HasRoom (a .change) (i - 1) (threadWordsOf x .values))
+          (sym (sees .items))
           (subst (HasRoom (a .change) (counts .items - 1)) (sym (sees .variables)) (r .room));
     }
       where

@@ -12,8 +12,6 @@ use Rattle.basics.proofs.Ifs.{if-all, if-yes, if-no}
 use Rattle.language.specs.declared.frame.Frame.{Frame}
 use Rattle.text.specs.Frames.{framesOf}
 use Rattle.program.specs.Programs.{programOf}
-use Rattle.layout.specs.declared.LayoutVerdict.{LayoutVerdict}
-use Rattle.layout.specs.declared.LayoutVerdict.the-variants.{LaidOut, Rejected}
 use Rattle.layout.specs.inner.Layouts.{laidAs, laidWords}
 use Rattle.layout.specs.declared.Laid.{Laid}
 use Rattle.layout.proofs.AfterLayout.{text-refused, text-passed}
@@ -81,44 +79,45 @@ pub step-in : (s : StepAnswer) (r : Answer) (v : List ℕ) (k : CallResult) → 
     → r ≡ answerTo (s .answer) (s .thread) → textResult r v ≡ asTextResult k
 step-in s r v k e h = ap (λ (a : Answer). textResult a v) h ∙ ap asTextResult e
 
--- ---- a text: a rejected one gives that refusal whatever the call (`by-reading`), one that is laid
--- out what the call gives (`by-call`)
+-- ---- a text: a rejected one gives that refusal whatever the call (`text-refused`), one that is
+-- laid out what the call gives (`by-call`)
 module _ (bs : List ℕ) (l : Laid) (ws : List ℕ) (e : laidAs l ws ≡ laidWords bs) where
-  module _ (v : LayoutVerdict) (n j : ℕ) (h : v ≡ l .verdict) (z : v ≡ Rejected n j) where
+  module _ (n j : ℕ) (z : l ≡ Laid.Rejected n j) where
     pub fresh-rejected : (w : List ℕ) → textResult (A.Rejected n j) w ≡ freshText bs w
     unfolding freshText
-    fresh-rejected w = text-refused _ _ bs (laidAs l ws) e n j (sym h ∙ z)
+    fresh-rejected w = text-refused _ _ bs l ws e n j z
 
     pub step-rejected : (w : List ℕ) (c : ℕ) → textResult (A.Rejected n j) w ≡ stepText bs w c
     unfolding stepText
-    step-rejected w c = text-refused _ _ bs (laidAs l ws) e n j (sym h ∙ z)
+    step-rejected w c = text-refused _ _ bs l ws e n j z
 
-  module _ (v : LayoutVerdict) (h : v ≡ l .verdict) (a : v ≡ LaidOut) where
-    pub text-file : (n : ℕ) → n ≡ l .count → FileWords (take n ws)
-    text-file n q =
-        let g = check-file bs l ws e v h a n q in record { laid-out = g .laid-out; few = g .few }
+  module _ (n : ℕ) (a : l ≡ Laid.Lines n) where
+    pub text-file : FileWords (take n ws)
+    text-file =
+        let g = check-file bs l ws e n a in record { laid-out = g .laid-out; few = g .few }
 
-    pub by-call : (call : List Frame → CallResult) (w : List ℕ) (n : ℕ) → n ≡ l .count
+    pub by-call : (call : List Frame → CallResult) (w : List ℕ)
         → asTextResult (call (framesOf (take n ws))) ≡ onText bs w call
-    by-call call w n q = text-passed (λ n j. textResult (A.Rejected n j) w) (λ fs. asTextResult (call fs)) bs (laidAs l ws) e (sym h ∙ a) n q
+    by-call call w =
+        text-passed (λ n j. textResult (A.Rejected n j) w) (λ fs. asTextResult (call fs)) bs
+        l ws e n a
 
     pub fresh-wrong : (w : List ℕ) → (length w ≡ 4818 → ⊥)
         → textResult (A.Refused 14 0) w ≡ freshText bs w
     unfolding freshText
     fresh-wrong w f =
-        ap (λ (x : Answer). textResult x w) refused-14 ∙ ap asTextResult
-        (call-wrong (take (l .count) ws) w f) ∙ by-call (λ fs. freshCall fs w) w (l .count) refl
+        ap (λ (x : Answer). textResult x w) refused-14
+        ∙ ap asTextResult (call-wrong (take n ws) w f) ∙ by-call (λ fs. freshCall fs w) w
 
-    pub fresh-done : (w u : List ℕ) (n : ℕ) → n ≡ l .count
-        → u ≡ pack (fresh (programOf (framesOf (take n ws)))) → length w ≡ 4818
-        → textResult (A.Done 0) u ≡ freshText bs w
+    pub fresh-done : (w u : List ℕ) → u ≡ pack (fresh (programOf (framesOf (take n ws))))
+        → length w ≡ 4818 → textResult (A.Done 0) u ≡ freshText bs w
     unfolding freshText
-    fresh-done w u n q z k =
+    fresh-done w u z k =
         ap (λ (x : Answer). textResult x u) done-0
-        ∙ ap asTextResult (call-fresh (take n ws) w u k z) ∙ by-call (λ fs. freshCall fs w) w n q
+        ∙ ap asTextResult (call-fresh (take n ws) w u k z) ∙ by-call (λ fs. freshCall fs w) w
 
-    pub step-done : (w u : List ℕ) (c n : ℕ) (r : Answer) → n ≡ l .count
+    pub step-done : (w u : List ℕ) (c : ℕ) (r : Answer)
         → textResult r u ≡ asTextResult (stepCall (framesOf (take n ws)) w c)
         → textResult r u ≡ stepText bs w c
     unfolding stepText
-    step-done w u c n r q z = z ∙ by-call (λ fs. stepCall fs w c) w n q
+    step-done w u c r z = z ∙ by-call (λ fs. stepCall fs w c) w

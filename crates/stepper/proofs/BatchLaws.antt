@@ -11,8 +11,6 @@ use borrow.Author.Tests.{eq-eqb, ne-eqb, not-true}
 use Rattle.basics.proofs.Ifs.{if-yes, if-no}
 use Rattle.text.specs.Frames.{framesOf}
 use Rattle.program.specs.Programs.{programOf}
-use Rattle.layout.specs.declared.LayoutVerdict.{LayoutVerdict}
-use Rattle.layout.specs.declared.LayoutVerdict.the-variants.{LaidOut, Rejected}
 use Rattle.layout.specs.inner.Layouts.{laidAs, laidWords}
 use Rattle.layout.specs.declared.Laid.{Laid}
 use Rattle.layout.proofs.AfterLayout.{text-refused, text-passed}
@@ -161,17 +159,17 @@ module _ (frames w cs out : List ℕ) where
 
 -- ---- on a text
 module _ (bs : List ℕ) (l : Laid) (ws : List ℕ) (e : laidAs l ws ≡ laidWords bs)
-    (v : LayoutVerdict) (h : v ≡ l .verdict) (w cs out : List ℕ) where
-  pub steps-rejected : (n j : ℕ) → v ≡ Rejected n j
+    (w cs out : List ℕ) where
+  pub steps-rejected : (n j : ℕ) → l ≡ Laid.Rejected n j
       → batchResult (A.Rejected n j) w out ≡ stepsText bs w cs out
   unfolding stepsText
-  steps-rejected n j z = text-refused _ _ bs (laidAs l ws) e n j (sym h ∙ z)
+  steps-rejected n j z = text-refused _ _ bs l ws e n j z
 
-  pub steps-done : v ≡ LaidOut → (n : ℕ) → n ≡ l .count → (r : Answer) (u o : List ℕ)
+  pub steps-done : (n : ℕ) → l ≡ Laid.Lines n → (r : Answer) (u o : List ℕ)
       → batchResult r u o ≡ stepsCall (framesOf (take n ws)) w cs out
       → batchResult r u o ≡ stepsText bs w cs out
   unfolding stepsText
-  steps-done a n q r u o z =
+  steps-done n a r u o z =
       z
       ∙ text-passed (λ n j. batchResult (A.Rejected n j) w out) (λ fs. stepsCall fs w cs out) bs
-      (laidAs l ws) e (sym h ∙ a) n q
+      l ws e n a

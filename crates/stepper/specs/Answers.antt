@@ -11,19 +11,13 @@ use Rattle.stepper.specs.declared.answer.Answer.the-variants as A
 
 -- 01's number of an answer, 0 where it is done; the frame that it names; the acting thread, 0: none
 abbrev pub answerNumber : Answer → ℕ
-answerNumber (A.Rejected n j) = n
-answerNumber (A.Refused n t) = n
-answerNumber (A.Done t) = 0
+answerNumber a = elim a [ A.Rejected n j ↦ n | A.Refused n t ↦ n | A.Done t ↦ 0 ]
 
 abbrev pub answerFrame : Answer → ℕ
-answerFrame (A.Rejected n j) = j
-answerFrame (A.Refused n t) = 0
-answerFrame (A.Done t) = 0
+answerFrame a = elim a [ A.Rejected n j ↦ j | A.Refused n t ↦ 0 | A.Done t ↦ 0 ]
 
 abbrev pub answerThread : Answer → ℕ
-answerThread (A.Rejected n j) = 0
-answerThread (A.Refused n t) = t
-answerThread (A.Done t) = t
+answerThread a = elim a [ A.Rejected n j ↦ 0 | A.Refused n t ↦ t | A.Done t ↦ t ]
 
 -- the answer with that number and that acting thread
 unfoldable pub answerTo : ℕ → ℕ → Answer

@@ -6,7 +6,7 @@ use crate::party::StepAnswer;
 use crate::valid::step_valid;
 use language::limit::MOST_LINES;
 use language::refusal::WRONG_STATE;
-use layout::LayoutVerdict;
+use layout::Laid;
 use layout::lay_into;
 use ranges::range::in_range;
 ghost use mathlib.Core.Path.{_≡_};
@@ -73,13 +73,8 @@ pub fn steps(text: &[u8], state: &mut [u64], choices: &[u8], answers: &mut [u32]
         (now (answers .entry)) ⌝ }
 {
     let mut words = [0u64; MOST_LINES];
-    let l = lay_into(text, &mut words);
-    let v = l.verdict;
-    match v {
-        LayoutVerdict::Rejected(n, j) => Answer::Rejected(n, j),
-        LayoutVerdict::LaidOut => {
-            let n = l.count;
-            steps_frames(&words[..n], state, choices, answers)
-        }
+    match lay_into(text, &mut words) {
+        Laid::Rejected(n, j) => Answer::Rejected(n, j),
+        Laid::Lines(n) => steps_frames(&words[..n], state, choices, answers),
     }
 }

@@ -5,7 +5,7 @@ use crate::file::file_of;
 use crate::valid::step_valid;
 use language::limit::MOST_LINES;
 use language::refusal::WRONG_STATE;
-use layout::LayoutVerdict;
+use layout::Laid;
 use layout::lay_into;
 use machine::offset::STATE_LENGTH;
 use ranges::range::in_range;
@@ -30,15 +30,12 @@ pub fn fresh(text: &[u8], state: &mut [u64]) -> Answer
         ≡ freshText (now (text .entry)) (now (state .entry)) ⌝ }
 {
     let mut words = [0u64; MOST_LINES];
-    let l = lay_into(text, &mut words);
-    let v = l.verdict;
-    match v {
-        LayoutVerdict::Rejected(n, j) => Answer::Rejected(n, j),
-        LayoutVerdict::LaidOut => {
+    match lay_into(text, &mut words) {
+        Laid::Rejected(n, j) => Answer::Rejected(n, j),
+        Laid::Lines(n) => {
             if state.len() != STATE_LENGTH {
                 return Answer::Refused(WRONG_STATE, 0);
             }
-            let n = l.count;
             write_fresh(&words[..n], state);
             Answer::Done(0)
         }
@@ -66,13 +63,8 @@ pub fn step(text: &[u8], state: &mut [u64], choice: u64) -> Answer
         ≡ stepText (now (text .entry)) (now (state .entry)) choice ⌝ }
 {
     let mut words = [0u64; MOST_LINES];
-    let l = lay_into(text, &mut words);
-    let v = l.verdict;
-    match v {
-        LayoutVerdict::Rejected(n, j) => Answer::Rejected(n, j),
-        LayoutVerdict::LaidOut => {
-            let n = l.count;
-            step_frames(&words[..n], state, choice)
-        }
+    match lay_into(text, &mut words) {
+        Laid::Rejected(n, j) => Answer::Rejected(n, j),
+        Laid::Lines(n) => step_frames(&words[..n], state, choice),
     }
 }

@@ -1,6 +1,6 @@
--- The returns after an evaluation (evaluated.rt, and the starts of start.rt): a refusal, a value,
--- and for 18 and 19 each value of the condition. Assumes nothing.
-use mathlib.Core.Path.{_≡_, refl, sym, ap, _∙_}
+-- The returns after an evaluation (evaluated.rt): a refusal, a value, and for 18 and 19 each value
+-- of the condition. Assumes nothing.
+use mathlib.Core.Path.{_≡_, refl, sym, ap, ap₂, _∙_}
 use mathlib.Core.Bool.{Bool, true, false}
 use Prim.Native.Nat.{ℕ}
 use Rattle.machine.specs.Values.{answerOf}
@@ -11,11 +11,12 @@ use Rattle.machine.specs.declared.value.Outcome.{Outcome}
 use Rattle.machine.specs.declared.value.Outcome.the-variants.{Is, Foreign, Spent, Stuck}
 use Rattle.operations.proofs.Told.{IsRefusal, no-refusal}
 use Rattle.acts.specs.declared.act.Action.{Action}
-use Rattle.acts.specs.inner.Transitions.{argumentsOf, refusedWith}
+use Rattle.acts.specs.declared.act.Transition.the-variants.{Stays}
+use Rattle.acts.specs.declared.act.Change.the-variants.{Same}
+use Rattle.acts.specs.inner.Transitions.{action, refusedWith}
 use Rattle.turns.specs.declared.counts.Counts.{Counts}
-use Rattle.turns.specs.declared.start.Request.{Request}
-use Rattle.turns.specs.inner.Actions.{letMore, afterValue, byTruthAct, letAfter, startWith}
-use Rattle.turns.specs.inner.Actions.{startOne, startTwo}
+use Rattle.turns.specs.inner.Actions.{oneMore, twoMore, letMore, afterValue, byTruthAct}
+use Rattle.turns.specs.inner.Actions.{letAfter, chooseAfter, loopAfter}
 
 pub refused-as : (o : Outcome) (m : ℕ) (r : Action) → m ≡ answerOf o → r ≡ refusedWith m
     → r ≡ refusedWith (answerOf o)
@@ -38,23 +39,11 @@ module _ (o : Outcome) (k : Value → Action) (r : Action) where
   after-is x e h = h ∙ ap (λ (p : Outcome). afterValue p k) (sym e)
 
 -- a value that goes on as its word
-module _
-    (o : Outcome) (r : Action) (x : Value) (m : ℕ) (e : o ≡ Is x) (h : m ≡ valueWord x) where
-  pub after-lets : (counts : Counts) (body : ℕ) → r ≡ letMore counts m body
-      → r ≡ afterValue o (letAfter counts body)
-  after-lets counts body q =
-      after-is o (letAfter counts body) r x e (q ∙ ap (λ (w : ℕ). letMore counts w body) h)
-
-  pub after-starts-one : (s : Request) → r ≡ startWith s (argumentsOf 1 m 0)
-      → r ≡ afterValue o (startOne s)
-  after-starts-one s q =
-      after-is o (startOne s) r x e (q ∙ ap (λ (w : ℕ). startWith s (argumentsOf 1 w 0)) h)
-
-  pub after-starts-two : (s : Request) (first : ℕ) → r ≡ startWith s (argumentsOf 2 first m)
-      → r ≡ afterValue o (startTwo s first)
-  after-starts-two s first q =
-      after-is o (startTwo s first) r x e
-      (q ∙ ap (λ (w : ℕ). startWith s (argumentsOf 2 first w)) h)
+pub after-lets : (o : Outcome) (r : Action) (x : Value) (m : ℕ) → o ≡ Is x → m ≡ valueWord x
+    → (counts : Counts) (body : ℕ) → r ≡ letMore counts m body
+    → r ≡ afterValue o (letAfter counts body)
+after-lets o r x m e h counts body q =
+    after-is o (letAfter counts body) r x e (q ∙ ap (λ (w : ℕ). letMore counts w body) h)
 
 -- ---- by the condition: a truth chooses, any other value is 20
 module _ (x : Value) (a b r : Action) where
@@ -74,3 +63,18 @@ module _ (x : Value) (a b r : Action) where
   truth-cell c e q = at-value (Cell c) e q
 
 pub ruleset truth-rows = (truth-yes, truth-no, truth-number, truth-cell)
+
+-- 18 and 19: y and n are the acts that a truth decides between
+module _
+    (o : Outcome) (r : Action) (x : Value) (y n : Action) (e : o ≡ Is x)
+    (h : r ≡ byTruthAct x y n) (counts : Counts) where
+  decided : (a b : Action) → y ≡ a → n ≡ b → r ≡ byTruthAct x a b
+  decided a b f g = h ∙ ap₂ (byTruthAct x) f g
+
+  pub after-chooses : (a b : ℕ) → y ≡ oneMore counts a → n ≡ oneMore counts b
+      → r ≡ afterValue o (chooseAfter counts a b)
+  after-chooses a b f g = after-is o (chooseAfter counts a b) r x e (decided _ _ f g)
+
+  pub after-loops : (body again : ℕ) → y ≡ twoMore counts body again → n ≡ action Stays Same
+      → r ≡ afterValue o (loopAfter counts body again)
+  after-loops body again f g = after-is o (loopAfter counts body again) r x e (decided _ _ f g)

@@ -4,6 +4,7 @@ use mathlib.Core.Path.{_≡_, refl, sym, ap, _∙_, subst}
 use mathlib.Core.List.{List, [], _∷_}
 use Prim.Native.Nat.{ℕ, zero, suc}
 use native.Mathlib.Omega.{arith}
+use native.Mathlib.Decide.{ℕ-discrete}
 use Rattle.text.specs.Frames.{framesOf}
 use Rattle.program.specs.Trees.{Expr, arguments, expressionAt}
 use Rattle.machine.specs.Values.{answerOf}
@@ -20,9 +21,10 @@ use Rattle.evaluator.proofs.InPlace.{variables-kept}
 use Rattle.acts.specs.declared.act.Action.{Action}
 use Rattle.acts.specs.inner.Transitions.{argumentsOf, refusedWith}
 use Rattle.turns.specs.declared.start.Request.{Request}
-use Rattle.turns.specs.inner.Actions.{ActResult, actResult, afterValue, startWith, startOne, startTwo}
-use Rattle.turns.specs.inner.Actions.{actAfter, firstThen, bothArguments, startAct}
+use Rattle.turns.specs.inner.Actions.{ActResult, actResult, afterValue, startWith, startOne}
+use Rattle.turns.specs.inner.Actions.{startTwo, actAfter, firstThen, bothArguments, startAct}
 use Rattle.operations.proofs.Told.{IsRefusal, no-refusal}
+use Rattle.turns.proofs.AfterRows.{after-refused, after-is}
 
 -- after an evaluation the cells may be lent again
 pub cells-after : (fw vs : List ℕ) (who : Who) (i n : ℕ) (ws : List ℕ)
@@ -72,9 +74,10 @@ module _
   module _
       (x : Outcome) (m : ℕ) (us : List ℕ) (h : a ≡ 0 → ⊥)
       (e : result x m us ≡ evaluatedBy who (expr a) vs n ws) where
-    pub starts-one : b ≡ 0 → r ≡ afterValue x (startOne q) → Starts m us
-    starts-one k z =
-        ap (λ (y : Action). actResult y m us) z ∙ ap (λ (y : Result). actAfter y (startOne q)) e
+    one : b ≡ 0
+        → actAfter (result x m us) (startOne q) ≡ startAct who q (arguments expr a b) vs n ws
+    one k =
+        ap (λ (y : Result). actAfter y (startOne q)) e
         ∙ ap (λ (xs : List Expr). startAct who q xs vs n ws) (sym (arguments-one expr a b h k))
 
     both : (b ≡ 0 → ⊥)
@@ -84,28 +87,55 @@ module _
         ap (bothArguments who q vs (expr b)) e
         ∙ ap (λ (xs : List Expr). startAct who q xs vs n ws) (sym (arguments-two expr a b h k))
 
-    pub starts-refused : (b ≡ 0 → ⊥) → IsRefusal x → r ≡ refusedWith (answerOf x) → Starts m us
-    starts-refused k l z = ap (λ (y : Action). actResult y m us) z ∙ by x l ∙ both k
+    -- the first argument is refused, whether or not there is a second
+    pub starts-refused : IsRefusal x → r ≡ refusedWith (answerOf x) → Starts m us
+    starts-refused l z = ap (λ (y : Action). actResult y m us) z ∙ by (ℕ-discrete b 0)
       where
         rest : Value → ActResult
         rest w = actAfter (evaluatedBy who (expr b) vs m us) (startTwo q (valueWord w))
 
-        by : (o : Outcome) → IsRefusal o
+        first : (o : Outcome) → IsRefusal o
             → actResult (refusedWith (answerOf o)) m us ≡ firstThen o m us rest
-        by (Is w) l = absurd (no-refusal w l)
-        by Foreign l = refl
-        by Spent l = refl
-        by Stuck l = refl
+        first (Is w) l = absurd (no-refusal w l)
+        first Foreign l = refl
+        first Spent l = refl
+        first Stuck l = refl
 
-    pub starts-two : (w : Value) (first : ℕ) (y : Outcome) (p : ℕ) (ys : List ℕ)
-        → (b ≡ 0 → ⊥) → x ≡ Is w → result y p ys ≡ evaluatedBy who (expr b) vs m us
-        → first ≡ valueWord w → r ≡ afterValue y (startTwo q first) → Starts p ys
-    starts-two w first y p ys k o g l z =
-        ap (λ (c : Action). actResult c p ys) z
-        ∙ ap (λ (c : ℕ). actAfter (result y p ys) (startTwo q c)) l
-        ∙ ap (λ (c : Result). actAfter c (startTwo q (valueWord w))) g
-        ∙ ap (λ (c : Outcome). firstThen c m us rest) (sym o)
-        ∙ both k
-      where
-        rest : Value → ActResult
-        rest u = actAfter (evaluatedBy who (expr b) vs m us) (startTwo q (valueWord u))
+        by : Dec (b ≡ 0)
+            → actResult (refusedWith (answerOf x)) m us
+            ≡ startAct who q (arguments expr a b) vs n ws
+        by (yes k) =
+            ap (λ (y : Action). actResult y m us) (after-refused x (startOne q) _ l refl) ∙ one k
+        by (no k) = first x l ∙ both k
+
+    module _ (w : Value) (v : ℕ) (o : x ≡ Is w) (g : v ≡ valueWord w) where
+      pub starts-one : b ≡ 0 → r ≡ startWith q (argumentsOf 1 v 0) → Starts m us
+      starts-one k z =
+          ap (λ (y : Action). actResult y m us)
+          (after-is x (startOne q) r w o (z ∙ ap (λ (c : ℕ). startWith q (argumentsOf 1 c 0)) g))
+          ∙ one k
+
+      -- y is the second argument's outcome, with p cells in use after it, whose words are ys
+      module _
+          (y : Outcome) (p : ℕ) (ys : List ℕ) (k : b ≡ 0 → ⊥)
+          (f : result y p ys ≡ evaluatedBy who (expr b) vs m us) where
+        after-both : r ≡ afterValue y (startTwo q v) → Starts p ys
+        after-both z =
+            ap (λ (c : Action). actResult c p ys) z
+            ∙ ap (λ (c : ℕ). actAfter (result y p ys) (startTwo q c)) g
+            ∙ ap (λ (c : Result). actAfter c (startTwo q (valueWord w))) f
+            ∙ ap (λ (c : Outcome). firstThen c m us rest) (sym o)
+            ∙ both k
+          where
+            rest : Value → ActResult
+            rest u = actAfter (evaluatedBy who (expr b) vs m us) (startTwo q (valueWord u))
+
+        pub starts-second-refused : IsRefusal y → r ≡ refusedWith (answerOf y) → Starts p ys
+        starts-second-refused l z = after-both (after-refused y (startTwo q v) r l z)
+
+        pub starts-two : (u : Value) (c : ℕ) → y ≡ Is u → c ≡ valueWord u
+            → r ≡ startWith q (argumentsOf 2 v c) → Starts p ys
+        starts-two u c l d z =
+            after-both
+            (after-is y (startTwo q v) r u l
+            (z ∙ ap (λ (t : ℕ). startWith q (argumentsOf 2 v t)) d))

@@ -17,8 +17,8 @@ use machine::word::value_word;
 ghost use mathlib.Core.Path.{_≡_};
 ghost use Rattle.machine.specs.Values.{answerOf};
 ghost use Rattle.acts.specs.inner.Transitions.{refusedWith};
-ghost use Rattle.turns.specs.inner.Actions.{afterValue, letAfter, storeAfter};
-ghost use Rattle.turns.specs.inner.Actions.{chooseAfter, loopAfter};
+ghost use Rattle.turns.specs.inner.Actions.{afterValue, byTruthAct, letAfter};
+ghost use Rattle.turns.specs.inner.Actions.{storeAfter, chooseAfter, loopAfter};
 
 // The number of a refusal.
 fn answer_of(o: Outcome) -> u8
@@ -59,15 +59,16 @@ pub(crate) fn stores_after(x: Outcome) -> Action
     comes_to(Transition::Stays, Change::Same)
 }
 
-fn one_of(w: Value, counts: Counts, a: u64, b: u64) -> Action
-    ensures { λ r. ⌜ r ≡ chooseAfter counts a b w ⌝ }
+// A truth decides which of the two it is; any other value is 20.
+fn by_truth(w: Value, yes: Action, no: Action) -> Action
+    ensures { λ r. ⌜ r ≡ byTruthAct w yes no ⌝ }
 {
     match w {
         Value::Truth(t) => {
             if t {
-                return stays_with(counts, a);
+                return yes;
             }
-            stays_with(counts, b)
+            no
         },
         Value::Number(n) => refused(STUCK),
         Value::Cell(c) => refused(STUCK),
@@ -81,22 +82,7 @@ pub(crate) fn chooses_after(x: Outcome, counts: Counts, a: u64, b: u64) -> Actio
     let Outcome::Is(w) = x else {
         return refused_by(x);
     };
-    one_of(w, counts, a, b)
-}
-
-fn again_or_not(w: Value, counts: Counts, body: u64, again: u64) -> Action
-    ensures { λ r. ⌜ r ≡ loopAfter counts body again w ⌝ }
-{
-    match w {
-        Value::Truth(t) => {
-            if t {
-                return stays_with_two(counts, body, again);
-            }
-            comes_to(Transition::Stays, Change::Same)
-        },
-        Value::Number(n) => refused(STUCK),
-        Value::Cell(c) => refused(STUCK),
-    }
+    by_truth(w, stays_with(counts, a), stays_with(counts, b))
 }
 
 // 19: if true, the body above the same loop.
@@ -106,5 +92,6 @@ pub(crate) fn loops_after(x: Outcome, counts: Counts, body: u64, again: u64) -> 
     let Outcome::Is(w) = x else {
         return refused_by(x);
     };
-    again_or_not(w, counts, body, again)
+    let goes_on = stays_with_two(counts, body, again);
+    by_truth(w, goes_on, comes_to(Transition::Stays, Change::Same))
 }

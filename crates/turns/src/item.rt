@@ -12,21 +12,14 @@ use machine::offset::BACK_FROM;
 use machine::offset::DROP_WORD;
 use operations::Who;
 ghost use mathlib.Core.Path.{_≡_};
-ghost use mathlib.Core.Bool.{true};
-ghost use Prim.Native.Nat.{_-_, _<_, _≤_};
-ghost use lib.ListN.{length};
-ghost use Rattle.language.specs.Places.{isPlace};
-ghost use Rattle.machine.specs.Offsets.{backFrom, dropWord};
 ghost use Rattle.text.specs.Frames.{framesOf};
 ghost use Rattle.operations.specs.inner.Lent.{lentRest, onLent};
-ghost use Rattle.turns.specs.inner.Acts.{TurnWords};
+ghost use Rattle.turns.specs.inner.Acts.{TurnWords, ItemWord};
 ghost use Rattle.turns.specs.inner.Actions.{itemAct, turnAct, actIn};
 
 // The item that is off its continuation: the counts are without it.
 fn act_item(frames: &[u64], who: Who, counts: Counts, state: &mut [u64], item: u64) -> Action
-    requires { ⌜ TurnWords (now frames) who counts (now state)
-        × (item < backFrom → item < length (now frames))
-        × (backFrom ≤ item → item < dropWord → isPlace (item - backFrom) ≡ true) ⌝ }
+    requires { ⌜ TurnWords (now frames) who counts (now state) × ItemWord (now frames) item ⌝ }
     ensures found { λ r. ⌜ actIn r (now (state .exit))
         ≡ onLent (itemAct (framesOf (now (frames .entry))) who counts item) who
         (now (state .entry)) ⌝ }
@@ -45,9 +38,7 @@ fn act_item(frames: &[u64], who: Who, counts: Counts, state: &mut [u64], item: u
 // since the variables are read where they lie beside the cells, which with their count alone are
 // written.
 pub fn act(frames: &[u64], who: Who, counts: Counts, item: u64, state: &mut [u64]) -> Action
-    requires { ⌜ TurnWords (now frames) who counts (now state)
-        × (item < backFrom → item < length (now frames))
-        × (backFrom ≤ item → item < dropWord → isPlace (item - backFrom) ≡ true) ⌝ }
+    requires { ⌜ TurnWords (now frames) who counts (now state) × ItemWord (now frames) item ⌝ }
     ensures found { λ r. ⌜ actIn r (now (state .exit))
         ≡ onLent (turnAct (framesOf (now (frames .entry))) who counts item) who
         (now (state .entry)) ⌝ }

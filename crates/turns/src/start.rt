@@ -14,8 +14,8 @@ ghost use Rattle.text.specs.Frames.{framesOf};
 ghost use Rattle.program.specs.Trees.{arguments, expressionAt};
 ghost use Rattle.evaluator.specs.inner.Results.{LentWords, FrameWords};
 ghost use Rattle.operations.specs.inner.Lent.{lentRest, onLent};
-ghost use Rattle.turns.specs.inner.Actions.{startWith, startOne, startTwo, startAct};
-ghost use Rattle.turns.specs.inner.Actions.{afterValue, actIn};
+ghost use Rattle.acts.specs.inner.Transitions.{argumentsOf};
+ghost use Rattle.turns.specs.inner.Actions.{startWith, startAct, actIn};
 
 // Which module is started, and whether the starter waits.
 pub(crate) struct Request {
@@ -23,44 +23,16 @@ pub(crate) struct Request {
     pub target: u8,
 }
 
-fn starts_with(q: Request, args: Arguments) -> Action
-    ensures { λ r. ⌜ r ≡ startWith q args ⌝ }
+// With so many arguments, of those words.
+fn starts_with(q: Request, count: u64, first: u64, second: u64) -> Action
+    ensures { λ r. ⌜ r ≡ startWith q (argumentsOf count first second) ⌝ }
 {
+    let args = Arguments {
+        count,
+        first,
+        second,
+    };
     comes_to(Transition::Starts(q.waits, q.target, args), Change::Same)
-}
-
-fn starts_one(q: Request, x: Outcome) -> Action
-    ensures { λ r. ⌜ r ≡ afterValue x (startOne q) ⌝ }
-{
-    let Outcome::Is(w) = x else {
-        return refused_by(x);
-    };
-    let first = value_word(w);
-    starts_with(
-        q,
-        Arguments {
-            count: 1,
-            first,
-            second: 0,
-        },
-    )
-}
-
-fn starts_two(q: Request, first: u64, y: Outcome) -> Action
-    ensures { λ r. ⌜ r ≡ afterValue y (startTwo q first) ⌝ }
-{
-    let Outcome::Is(w) = y else {
-        return refused_by(y);
-    };
-    let second = value_word(w);
-    starts_with(
-        q,
-        Arguments {
-            count: 2,
-            first,
-            second,
-        },
-    )
 }
 
 // The arguments are frames a and b, where 0 is none: A, then B.
@@ -80,22 +52,19 @@ pub(crate) fn starts(
     ensures rest { λ _. ⌜ lentRest (now (state .exit)) ≡ lentRest (now (state .entry)) ⌝ }
 {
     if a == 0 {
-        return starts_with(
-            q,
-            Arguments {
-                count: 0,
-                first: 0,
-                second: 0,
-            },
-        );
+        return starts_with(q, 0, 0, 0);
     }
     let x = evaluate(frames, who, state, a);
-    if b == 0 {
-        return starts_one(q, x);
-    }
-    let Outcome::Is(w) = x else {
+    let Outcome::Is(v) = x else {
         return refused_by(x);
     };
+    let first = value_word(v);
+    if b == 0 {
+        return starts_with(q, 1, first, 0);
+    }
     let y = evaluate(frames, who, state, b);
-    starts_two(q, value_word(w), y)
+    let Outcome::Is(w) = y else {
+        return refused_by(y);
+    };
+    starts_with(q, 2, first, value_word(w))
 }

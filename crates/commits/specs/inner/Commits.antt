@@ -15,7 +15,7 @@ use Rattle.program.specs.Programs.{Program}
 use Rattle.machine.specs.inner.Blocks.{pasted, padded}
 use Rattle.machine.specs.Calls.{CallResult, callResult}
 use Rattle.states.specs.declared.thread.ThreadWords.{ThreadWords}
-use Rattle.states.specs.inner.Threads.{threadIn, putThread, withOneMore}
+use Rattle.states.specs.inner.Threads.{threadIn, putThread, withOneMore, ThreadSpace}
 use Rattle.lists.specs.inner.Lists.{withoutFirst, withLast}
 use Rattle.acts.specs.declared.act.Arguments.{Arguments}
 use Rattle.acts.specs.declared.act.Transition.{Transition}
@@ -115,7 +115,8 @@ waitingIn w c t a args body =
     (getD w threadCountAt 0 + 1)) (a .thread .place)
     (waitingFactor * (getD w threadCountAt 0 + 1) + t)
 
-unfoldable pub startsIn : Program → List ℕ → ℕ → ℕ → ℕ → TurnResult → Bool → ℕ → Arguments → CallResult
+unfoldable pub startsIn : Program → List ℕ → ℕ → ℕ → ℕ → TurnResult → Bool → ℕ → Arguments
+    → CallResult
 startsIn p w before c t a waits m args =
     let found = foundIn p m in
     let no = obstacleIn w found (a .thread .place) (args .count) in
@@ -218,6 +219,11 @@ pub record SettleWords (w : List ℕ) (k : ℕ) (c : Change) : Type 0 where
 -- a thread with room for the change
 abbrev pub RoomIn : Change → ThreadWords → Type 0
 RoomIn c th = HasRoom c (th .items) (th .values)
+
+-- thread k has its space, stands at a place, and has room for the change
+abbrev pub ChangeSpace : List ℕ → ℕ → Change → Type 0
+ChangeSpace w k c =
+    ThreadSpace w k × (isPlace (threadIn w k .place) ≡ true) × RoomIn c (threadIn w k)
 
 -- q has lists, and there is a number left for one more thread
 pub record StartWords (w : List ℕ) (q : Place) : Type 0 where

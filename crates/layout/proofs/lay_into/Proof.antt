@@ -11,9 +11,6 @@ read-into-requires c κs = search needs
 enum-known-read : tie.Need-enum-known-read
 enum-known-read c = search needs
 
-cast-t13 : tie.Need-cast-t13
-cast-t13 c = search needs
-
 enum-known-read-2 : tie.Need-enum-known-read-2
 enum-known-read-2 c = search needs
 
@@ -29,6 +26,12 @@ slice-aggregate-layout-of c = search (lines-count, needs)
 layout-of-requires : tie.Need-layout-of-requires
 layout-of-requires c κs = (search lines-some, search lines-few)
 
+enum-known-n : tie.Need-enum-known-n
+enum-known-n c = search needs
+
+enum-told : tie.Need-enum-told
+enum-told c = search needs
+
 same-length : tie.Need-same-length
 same-length c = search needs
 
@@ -41,19 +44,28 @@ same-length-2 c = search needs
 returns-2 : tie.Need-returns-2
 returns-2 c = (search laid-laws, search judged-laws)
 
+same-length-3 : tie.Need-same-length-3
+same-length-3 c = search needs
+
+returns-3 : tie.Need-returns-3
+returns-3 c = (search laid-laws, search judged-laws)
+
 pub lay-into-spec : {M : Type 1} → statement M
 lay-into-spec =
     tie.close
     (tie.spec
     read-into-requires
     enum-known-read
-    cast-t13
     enum-known-read-2
     cast-count
     slice-reshare-prefix-layout-of
     slice-aggregate-layout-of
     layout-of-requires
+    enum-known-n
+    enum-told
     same-length
     returns
     same-length-2
-    returns-2)
+    returns-2
+    same-length-3
+    returns-3)

@@ -5,7 +5,7 @@ use Prim.Native.Nat.{ℕ}
 use Rattle.text.specs.Reading.{Reading, frames, refused}
 use Rattle.text.specs.inner.Reading.{reading, linesRead, textWords}
 use Rattle.layout.specs.declared.LayoutVerdict.{LayoutVerdict}
-use Rattle.layout.specs.declared.LayoutVerdict.the-variants.{Rejected}
+use Rattle.layout.specs.declared.LayoutVerdict.the-variants.{LaidOut, Rejected}
 use Rattle.layout.specs.declared.Laid.{Laid}
 use Rattle.layout.specs.inner.Scans.{layoutOf}
 
@@ -18,14 +18,22 @@ layoutRead (refused n j) = Rejected n j
 unfoldable pub layoutVerdict : List ℕ → LayoutVerdict
 layoutVerdict bs = layoutRead (reading bs)
 
--- with the lines that were read, and how many they are: the answer of the code, and its lent words
+-- the answer of the code: the verdict, and beside `LaidOut` how many lines there are
+abbrev pub laidFor : LayoutVerdict → ℕ → Laid
+laidFor LaidOut n = Laid.Lines n
+laidFor (Rejected m j) n = Laid.Rejected m j
+
+abbrev pub verdictOf : Laid → LayoutVerdict
+verdictOf (Laid.Lines n) = LaidOut
+verdictOf (Laid.Rejected n j) = Rejected n j
+
+-- with what its lent words hold: the lines that were read
 pub record LaidWords : Type 0 where
-  pub verdict : LayoutVerdict
-  pub count : ℕ
+  pub laid : Laid
   pub words : List ℕ
 
 abbrev pub laidAs : Laid → List ℕ → LaidWords
-laidAs l ws = record { verdict = l .verdict; count = l .count; words = ws }
+laidAs l ws = record { laid = l; words = ws }
 
 unfoldable pub laidWords : List ℕ → LaidWords
-laidWords bs = record { verdict = layoutVerdict bs; count = linesRead (reading bs); words = textWords bs .words }
+laidWords bs = laidAs (laidFor (layoutVerdict bs) (linesRead (reading bs))) (textWords bs .words)

@@ -13,7 +13,7 @@ use Rattle.language.specs.Limits.{mostThreads}
 use Rattle.machine.specs.Offsets.{stateLength, threadCountAt, schedulersAt, schedulerLength}
 use Rattle.machine.specs.Offsets.{listLength, nextListAt, threadsAt, threadLength, starterField}
 use Rattle.machine.specs.Offsets.{livesField, waitingFactor}
-use Rattle.machine.specs.Waits.{keepIf}
+use Rattle.basics.specs.If.{keepIf}
 use Rattle.machine.specs.Words.{wordsAt}
 use Rattle.machine.specs.inner.Blocks.{part, pasted, padded}
 use Rattle.machine.specs.inner.Ranges.{allBelow}

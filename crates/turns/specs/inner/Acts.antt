@@ -3,11 +3,11 @@
 use mathlib.Core.Path.{_≡_}
 use mathlib.Core.List.{List, [], _∷_}
 use mathlib.Core.Bool.{Bool, true, false, _&&_}
-use Prim.Native.Nat.{ℕ, _+_, _-_, _≤_}
+use Prim.Native.Nat.{ℕ, _+_, _-_, _<_, _≤_}
 use lib.Dec.{ltb, leb, eqb}
 use lib.ListN.{length, getD, take}
 use Rattle.basics.specs.If.{if_then_else_}
-use Rattle.language.specs.Places.{private, lastScheduler}
+use Rattle.language.specs.Places.{private, lastScheduler, isPlace}
 use Rattle.language.specs.declared.frame.Frame.{Frame}
 use Rattle.language.specs.Limits.{mostVariables, mostItems}
 use Rattle.language.specs.Refusals.{cellsSpent, foreign, stuck}
@@ -30,7 +30,8 @@ use Rattle.states.specs.inner.Stacks.{pushItem, popItem, pushValue, popValue, m
 use Rattle.acts.specs.declared.act.Arguments.{Arguments}
 use Rattle.acts.specs.declared.act.Transition.the-variants.{Stays, Leaves, Joins, Starts}
 use Rattle.acts.specs.declared.act.Action.{Action}
-use Rattle.acts.specs.inner.Transitions.{argumentsOf, TurnResult, actedIn, refusedIn, popped, turned, HasRoom}
+use Rattle.acts.specs.inner.Transitions.{argumentsOf, TurnResult, actedIn, refusedIn}
+use Rattle.acts.specs.inner.Transitions.{popped, turned, HasRoom}
 use Rattle.turns.specs.declared.counts.Counts.{Counts}
 use Rattle.turns.specs.declared.start.Request.{Request}
 
@@ -227,3 +228,8 @@ pub record TurnWords (frames : List ℕ) (who : Who) (counts : Counts) (w : List
   pub items : counts .items ≤ mostItems
   pub count : length (lentVariables who w) ≡ counts .variables
   pub state : LentWords who w
+
+-- and a word of an item: the statement's frame is there, and so is the place of a way back
+pub record ItemWord (frames : List ℕ) (item : ℕ) : Type 0 where
+  pub statement : item < backFrom → item < length frames
+  pub back : backFrom ≤ item → item < dropWord → isPlace (item - backFrom) ≡ true

@@ -41,7 +41,7 @@ enum-known-change-5 : tie.Need-enum-known-change-5
 enum-known-change-5 c = search needs
 
 enter-requires : tie.Need-enter-requires
-enter-requires c κs = (search needs, search change-room, search needs)
+enter-requires c κs = (search needs, search needs, search change-room)
 
 enum-told-3 : tie.Need-enum-told-3
 enum-told-3 c = search needs

@@ -9,7 +9,7 @@ take-item-requires c κs = search needs
 
 change-thread-requires : tie.Need-change-thread-requires
 change-thread-requires c κs =
-    (search needs, search settle-values, search settle-place, search settle-room)
+    ((search needs, search settle-place, search settle-room), search settle-values)
 
 same-length : tie.Need-same-length
 same-length c = search needs

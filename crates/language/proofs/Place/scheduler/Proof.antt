@@ -10,17 +10,11 @@ cast-if1 c = search needs
 returns : tie.Need-returns
 returns c = search scheduler-laws
 
-cast-if2 : tie.Need-cast-if2
-cast-if2 c = search needs
+new-requires : tie.Need-new-requires
+new-requires c κs = search needs
 
 returns-2 : tie.Need-returns-2
 returns-2 c = search scheduler-laws
 
-cast-t5 : tie.Need-cast-t5
-cast-t5 c = search needs
-
-returns-3 : tie.Need-returns-3
-returns-3 c = search scheduler-laws
-
 pub scheduler-spec : {M : Type 1} → statement M
-scheduler-spec = tie.close (tie.spec cast-if1 returns cast-if2 returns-2 cast-t5 returns-3)
+scheduler-spec = tie.close (tie.spec cast-if1 returns new-requires returns-2)

@@ -1,6 +1,7 @@
 -- `make_cell` meets its contract. Assumes nothing.
 use mathlib.Core.Path.{refl}
 use borrow.Author.Needs.{needs}
+use Rattle.machine.proofs.ValueWords.{cell-made}
 use Rattle.operations.proofs.Operations.{make-is, make-spent, make-foreign}
 use Rattle.operations.proofs.InState.{rest-new}
 use Rattle.operations.proofs.operation.make_cell.Statement.{statement}
@@ -17,6 +18,9 @@ is-own-requires c κs = search needs
 
 slice-read-used : tie.Need-slice-read-used
 slice-read-used c = search needs
+
+value-word-requires : tie.Need-value-word-requires
+value-word-requires c κs = search needs
 
 cell-word-requires : tie.Need-cell-word-requires
 cell-word-requires c κs = search needs
@@ -36,14 +40,14 @@ add-state-2 c = search needs
 slice-write-state-2 : tie.Need-slice-write-state-2
 slice-write-state-2 c = search needs
 
-cast-t17 : tie.Need-cast-t17
-cast-t17 c = search needs
+cast-t18 : tie.Need-cast-t18
+cast-t18 c = search needs
 
 same-length : tie.Need-same-length
 same-length c = search needs
 
 returns : tie.Need-returns
-returns c = (search (make-is, needs), search (rest-new, needs))
+returns c = (search (make-is, cell-made, needs), search (rest-new, needs))
 
 returns-2 : tie.Need-returns-2
 returns-2 c = (search (make-spent, needs), refl)
@@ -59,13 +63,14 @@ make-cell-spec =
     cast-is-own
     is-own-requires
     slice-read-used
+    value-word-requires
     cell-word-requires
     add-state
     mul-state
     slice-write-state
     add-state-2
     slice-write-state-2
-    cast-t17
+    cast-t18
     same-length
     returns
     returns-2

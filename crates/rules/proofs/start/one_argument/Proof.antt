@@ -10,12 +10,6 @@ enum-known-x c = search needs
 enum-known-x-2 : tie.Need-enum-known-x-2
 enum-known-x-2 c = search needs
 
-none-requires : tie.Need-none-requires
-none-requires c κs = search needs
-
-joined-requires : tie.Need-joined-requires
-joined-requires c κs = search needs
-
 returns : tie.Need-returns
 returns c = search one-laws
 
@@ -23,6 +17,4 @@ returns-2 : tie.Need-returns-2
 returns-2 c = search one-laws
 
 pub one-argument-spec : {M : Type 1} → statement M
-one-argument-spec =
-    tie.close
-    (tie.spec enum-known-x enum-known-x-2 none-requires joined-requires returns returns-2)
+one-argument-spec = tie.close (tie.spec enum-known-x enum-known-x-2 returns returns-2)

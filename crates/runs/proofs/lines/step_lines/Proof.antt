@@ -18,7 +18,7 @@ digit-table-requires : tie.Need-digit-table-requires Inv-loop μ-loop
 digit-table-requires c κs = search needs
 
 loop-holds : tie.Need-loop-holds Inv-loop μ-loop
-loop-holds c = lining-start _ _ _ _ _ (c .before .before .before .before .before .pre .4)
+loop-holds c = lining-start _ _ _ _ _ (c .before .before .before .before .before .pre .0 .words)
 
 choice-at-requires : tie.Need-choice-at-requires Inv-loop μ-loop
 choice-at-requires c κs = search needs
@@ -28,19 +28,35 @@ cast-step-valid c = search needs
 
 step-valid-requires : tie.Need-step-valid-requires Inv-loop μ-loop
 step-valid-requires c κs =
-    let p = c .before .before .before .before .before .before .before .before .before .before .pre in
-    (lining-asks _ _ _ _ _ _ _ _ _ (p .0) (p .1) (c .before .before .before .before .loop .inv), p .1)
+    let turn = c .before .before .before .before in
+    let p = turn .before .before .before .before .before .before .pre in
+    let start = p .0 in (
+      lining-asks _ _ _ _ _ _ _ _ _ (start .laid-out) (start .numbers) (turn .loop .inv),
+      start .numbers,
+    )
 
 slice-read-choice-line : tie.Need-slice-read-choice-line Inv-loop μ-loop
 slice-read-choice-line c =
-    let p = c .before .before .before .before .before .before .before .before .before .before .before .before .before .before .pre in
-    let l = lining-long _ _ _ _ _ _ _ _ _ (p .0) (p .1) (c .before .before .before .before .before .before .before .before .loop .inv) _ (c .before .before .before .before .before .choice-at .ensures) (p .2) (c .before .before .before .before .before .before .before .loop-test .taken) _ _ (c .before .before .before .step-valid .ensures) in
+    let step = c .before .before .before in
+    let choice = step .before .before in
+    let test = choice .before .before in
+    let turn = test .before in
+    let p = turn .before .before .before .before .before .before .pre in
+    let start = p .0 in
+    let l = lining-long _ _ _ _ _ _ _ _ _ (start .laid-out) (start .numbers) (turn .loop .inv) _
+    (choice .choice-at .ensures) (p .1) (test .loop-test .taken) _ _ (step .step-valid .ensures) in
     omega arith
 
 cast-choice-line : tie.Need-cast-choice-line Inv-loop μ-loop
 cast-choice-line c =
-    let p = c .before .before .before .before .before .before .before .before .before .before .before .before .before .before .pre in
-    let l = lining-cells _ _ _ _ _ _ _ _ _ (p .0) (p .1) (c .before .before .before .before .before .before .before .before .loop .inv) _ (c .before .before .before .before .before .choice-at .ensures) (p .2) (c .before .before .before .before .before .before .before .loop-test .taken) _ _ (c .before .before .before .step-valid .ensures) in
+    let step = c .before .before .before in
+    let choice = step .before .before in
+    let test = choice .before .before in
+    let turn = test .before in
+    let p = turn .before .before .before .before .before .before .pre in
+    let start = p .0 in
+    let l = lining-cells _ _ _ _ _ _ _ _ _ (start .laid-out) (start .numbers) (turn .loop .inv) _
+    (choice .choice-at .ensures) (p .1) (test .loop-test .taken) _ _ (step .step-valid .ensures) in
     record { fits = l }
 
 choice-line-requires : tie.Need-choice-line-requires Inv-loop μ-loop
@@ -66,8 +82,17 @@ loop-less c = search needs
 
 loop-again : tie.Need-loop-again Inv-loop μ-loop
 loop-again c =
-    let p = c .before .before .before .before .before .before .before .before .before .before .before .before .before .before .before .before .before .before .before .before .pre in
-    lining-more _ _ _ _ _ _ _ _ _ (p .0) (p .1) (c .before .before .before .before .before .before .before .before .before .before .before .before .before .before .loop .inv) _ (c .before .before .before .before .before .before .before .before .before .before .before .choice-at .ensures) (p .2) (c .before .before .before .before .before .before .before .before .before .before .before .before .before .loop-test .taken) _ _ (c .before .before .before .before .before .before .before .before .before .step-valid .ensures) _ _ (c .before .before .before .before .before .choice-line .ensures) (c .before .before .put .ensures) (search needs) (search needs) (p .3)
+    let put = c .before .before in
+    let line = put .before .before .before in
+    let step = line .before .before .before .before in
+    let choice = step .before .before in
+    let test = choice .before .before in
+    let turn = test .before in
+    let p = turn .before .before .before .before .before .before .pre in
+    let start = p .0 in
+    lining-more _ _ _ _ _ _ _ _ _ (start .laid-out) (start .numbers) (turn .loop .inv) _
+    (choice .choice-at .ensures) (p .1) (test .loop-test .taken) _ _ (step .step-valid .ensures) _ _
+    (line .choice-line .ensures) (put .put .ensures) (search needs) (search needs) (p .2)
 
 same-length : tie.Need-same-length Inv-loop μ-loop
 same-length c = search needs

@@ -14,7 +14,11 @@ write-fresh-requires : tie.Need-write-fresh-requires
 write-fresh-requires c κs = search needs
 
 step-lines-requires : tie.Need-step-lines-requires
-step-lines-requires c κs = search needs
+step-lines-requires c κs = (
+  record { laid-out = search needs; numbers = search needs; words = search needs },
+  search needs,
+  search needs,
+)
 
 cast-last-line : tie.Need-cast-last-line
 cast-last-line c = search needs
@@ -51,8 +55,15 @@ same-length-2 c = search needs
 
 returns : tie.Need-returns
 returns c =
-    let p = c .before .before .before .before .before .before .before .before .before .before .before .before .before .before .before .before .before .before .before .before .before .before .before .pre in
-    listed-run _ _ _ _ _ (c .before .before .before .before .before .before .before .before .before .before .before .before .before .before .before .before .before .before .file-of .ensures) (p .1) (c .before .before .before .before .before .before .before .before .before .before .before .before .before .before .before .before .before .used-of .ensures) _ _ _ _ _ (c .before .before .before .before .before .before .before .before .before .before .step-lines .ensures .0) (c .before .before .before .before .before .before .before .before .before .before .step-lines .ensures .1) (c .before .before .before .before .before .last-line .ensures) (c .before .before .put .ensures) (p .4)
+    let put = c .before .before in
+    let last = put .before .before .before in
+    let lines = last .before .before .before .before .before in
+    let used = lines .before .before .before .before .before .before .before in
+    let file = used .before in
+    let p = file .before .before .before .before .before .pre in
+    listed-run _ _ _ _ _ (file .file-of .ensures) (p .1) (used .used-of .ensures) _ _ _ _ _
+    (lines .step-lines .ensures .0) (lines .step-lines .ensures .1) (last .last-line .ensures)
+    (put .put .ensures) (p .4)
 
 pub list-run-spec : {M : Type 1} → statement M
 list-run-spec =

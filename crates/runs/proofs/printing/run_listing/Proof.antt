@@ -13,14 +13,14 @@ slice-aggregate-lay-into c = search needs
 lay-into-requires : tie.Need-lay-into-requires
 lay-into-requires c κs = search needs
 
-enum-known-v : tie.Need-enum-known-v
-enum-known-v c = search needs
+enum-known-n : tie.Need-enum-known-n
+enum-known-n c = search needs
 
 list-rejected-requires : tie.Need-list-rejected-requires
 list-rejected-requires c κs = search needs
 
-enum-told : tie.Need-enum-told
-enum-told c = search needs
+enum-known-n-2 : tie.Need-enum-known-n-2
+enum-known-n-2 c = search needs
 
 returns : tie.Need-returns
 returns c = search list-short-state
@@ -58,9 +58,9 @@ run-listing-spec =
     (tie.spec
     slice-aggregate-lay-into
     lay-into-requires
-    enum-known-v
+    enum-known-n
     list-rejected-requires
-    enum-told
+    enum-known-n-2
     returns
     returns-2
     array-share-prefix-words

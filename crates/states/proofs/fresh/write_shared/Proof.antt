@@ -47,8 +47,8 @@ shared-slice-read-frame-of-word c = search needs
 frame-of-word-requires : tie.Need-frame-of-word-requires Inv-loop μ-loop
 frame-of-word-requires c κs = search needs
 
-cell-word-requires : tie.Need-cell-word-requires Inv-loop μ-loop
-cell-word-requires c κs = search needs
+first-cell-word-requires : tie.Need-first-cell-word-requires Inv-loop μ-loop
+first-cell-word-requires c κs = search needs
 
 add-state : tie.Need-add-state Inv-loop μ-loop
 add-state c = search needs
@@ -96,7 +96,7 @@ write-shared-spec =
     mul-frame-of-word
     shared-slice-read-frame-of-word
     frame-of-word-requires
-    cell-word-requires
+    first-cell-word-requires
     add-state
     mul-state
     slice-write-state

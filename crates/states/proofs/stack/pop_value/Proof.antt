@@ -1,49 +1,20 @@
 -- `pop_value` meets its contract. Assumes nothing.
-use Rattle.states.proofs.StackWords.{stack-laws}
-use lib.ListN.{length-set}
-use native.Mathlib.Omega.{arith}
 use borrow.Author.Needs.{needs}
+use Rattle.states.proofs.StackWords.{stack-laws}
 use Rattle.states.proofs.stack.pop_value.Statement.{statement}
 use Rattle.states.proofs.stack.pop_value.Tie as tie
 
-mul-at : tie.Need-mul-at
-mul-at c = search needs
+mul-pop-at : tie.Need-mul-pop-at
+mul-pop-at c = search needs
 
-add-at : tie.Need-add-at
-add-at c = search needs
+add-pop-at : tie.Need-add-pop-at
+add-pop-at c = search needs
 
-add-n : tie.Need-add-n
-add-n c = search needs
+add-pop-at-2 : tie.Need-add-pop-at-2
+add-pop-at-2 c = search needs
 
-mul-n : tie.Need-mul-n
-mul-n c = search needs
-
-slice-read-n : tie.Need-slice-read-n
-slice-read-n c = search needs
-
-sub-n : tie.Need-sub-n
-sub-n c = search needs
-
-add-state : tie.Need-add-state
-add-state c = search needs
-
-add-state-2 : tie.Need-add-state-2
-add-state-2 c = search needs
-
-mul-state : tie.Need-mul-state
-mul-state c = search needs
-
-slice-write-state : tie.Need-slice-write-state
-slice-write-state c = search needs
-
-add-state-3 : tie.Need-add-state-3
-add-state-3 c = search needs
-
-mul-state-2 : tie.Need-mul-state-2
-mul-state-2 c = search needs
-
-slice-write-state-2 : tie.Need-slice-write-state-2
-slice-write-state-2 c = simp length-set (omega arith)
+pop-at-requires : tie.Need-pop-at-requires
+pop-at-requires c κs = search needs
 
 same-length : tie.Need-same-length
 same-length c = search needs
@@ -53,20 +24,4 @@ returns c = search stack-laws
 
 pub pop-value-spec : {M : Type 1} → statement M
 pop-value-spec =
-    tie.close
-    (tie.spec
-    mul-at
-    add-at
-    add-n
-    mul-n
-    slice-read-n
-    sub-n
-    add-state
-    add-state-2
-    mul-state
-    slice-write-state
-    add-state-3
-    mul-state-2
-    slice-write-state-2
-    same-length
-    returns)
+    tie.close (tie.spec mul-pop-at add-pop-at add-pop-at-2 pop-at-requires same-length returns)

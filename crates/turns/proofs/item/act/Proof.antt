@@ -16,7 +16,7 @@ sub-t10 c = search needs
 act-item-requires : tie.Need-act-item-requires
 act-item-requires c κs =
     let at = c .before .before .before .before .before .before in
-    (below-words _ _ _ _ (at .pre .0), at .pre .1, at .pre .2)
+    (below-words _ _ _ _ (at .pre .0), at .pre .1)
 
 same-length : tie.Need-same-length
 same-length c = search needs

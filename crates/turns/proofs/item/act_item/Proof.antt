@@ -7,7 +7,7 @@ use Rattle.turns.proofs.item.act_item.Tie as tie
 act-statement-requires : tie.Need-act-statement-requires
 act-statement-requires c κs =
     let at = c .before .before .before .before in
-    (at .pre .0, at .pre .1 (c .before .if1 .taken))
+    (at .pre .0, at .pre .1 .statement (c .before .if1 .taken))
 
 same-length : tie.Need-same-length
 same-length c = search needs
@@ -17,7 +17,7 @@ returns c = (search item-statement, search needs)
 
 known-requires : tie.Need-known-requires
 known-requires c κs =
-    c .before .before .before .before .pre .2 (c .before .if1 .left) (c .if2 .taken)
+    c .before .before .before .before .pre .1 .back (c .before .if1 .left) (c .if2 .taken)
 
 goes-back-requires : tie.Need-goes-back-requires
 goes-back-requires c κs = search needs

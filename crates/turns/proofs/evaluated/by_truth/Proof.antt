@@ -1,20 +1,14 @@
--- `again_or_not` meets its contract. Assumes nothing.
+-- `by_truth` meets its contract. Assumes nothing.
 use borrow.Author.Needs.{needs}
 use Rattle.turns.proofs.AfterRows.{truth-rows}
-use Rattle.turns.proofs.evaluated.again_or_not.Statement.{statement}
-use Rattle.turns.proofs.evaluated.again_or_not.Tie as tie
+use Rattle.turns.proofs.evaluated.by_truth.Statement.{statement}
+use Rattle.turns.proofs.evaluated.by_truth.Tie as tie
 
 enum-known-w : tie.Need-enum-known-w
 enum-known-w c = search needs
 
-stays-with-two-requires : tie.Need-stays-with-two-requires
-stays-with-two-requires c κs = search needs
-
 returns : tie.Need-returns
-returns c = search truth-rows
-
-comes-to-requires : tie.Need-comes-to-requires
-comes-to-requires c κs = search needs
+returns c = search needs
 
 enum-known-w-2 : tie.Need-enum-known-w-2
 enum-known-w-2 c = search needs
@@ -29,7 +23,7 @@ refused-requires-2 : tie.Need-refused-requires-2
 refused-requires-2 c κs = search needs
 
 returns-2 : tie.Need-returns-2
-returns-2 c = search truth-rows
+returns-2 c = search needs
 
 returns-3 : tie.Need-returns-3
 returns-3 c = search truth-rows
@@ -37,14 +31,12 @@ returns-3 c = search truth-rows
 returns-4 : tie.Need-returns-4
 returns-4 c = search truth-rows
 
-pub again-or-not-spec : {M : Type 1} → statement M
-again-or-not-spec =
+pub by-truth-spec : {M : Type 1} → statement M
+by-truth-spec =
     tie.close
     (tie.spec
     enum-known-w
-    stays-with-two-requires
     returns
-    comes-to-requires
     enum-known-w-2
     refused-requires
     enum-known-w-3
