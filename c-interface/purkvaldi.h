@@ -1,4 +1,4 @@
-/* Purkvaldi: the check and the stepper, for a loader in C. Link target/staticlib/libc_interface.a,
+/* Purkvaldi: the check, the writer and the stepper, for a loader in C. Link target/staticlib/libc_interface.a,
  * which `rt staticlib c_interface` writes.
  *
  * Every function takes any bytes and any words and has a defined answer. The one thing asked is C's
@@ -11,8 +11,8 @@
  * No two buffers overlap. A pointer whose length is 0 is not looked at and may be null. No pointer
  * is kept after the call.
  *
- * Stack, measured and not proved: at most 15,292 bytes below a call (purkvaldi_run on a file 24
- * deep); 16 KB are enough. */
+ * Stack, measured and not proved: at most 16,809 bytes below a call (purkvaldi_arrange on a file 24
+ * deep; of the others at most 15,292, purkvaldi_run); 17 KB are enough. */
 #ifndef PURKVALDI_H
 #define PURKVALDI_H
 
@@ -29,12 +29,19 @@ extern "C" {
 #define PURKVALDI_LISTING_BYTES 229389
 
 /* A code: the number of document 01 above 16 bits, 0 where nothing is refused; below them the frame
- * that a refusal of the text (1 to 13) names, or, of a step, the acting thread (0: none). */
+ * that a refusal of the text (1 to 13, 21) names, or, of a step, the acting thread (0: none). */
 #define PURKVALDI_NUMBER(code) ((code) >> 16)
 #define PURKVALDI_DETAIL(code) ((code) & 0xFFFFu)
 
 /* The check of a text: 0 where it is accepted, else the code of its refusal, 1 to 13. */
 uint32_t purkvaldi_check(const uint8_t *text, size_t length);
+
+/* The lines of a text whose frames after the header stand in any order, laid out into `out` as the
+ * check wants them, the children renumbered: 0 where they are written, and `out` is as long as the
+ * text. Else the code of a refusal 1 to 5, 21 (a child number without a frame, a frame used twice or
+ * a circle of children), 6 (whatever the order) or 7, its frame by its number in `text`; else that
+ * of 14 (out_length is not length). A refusal writes nothing. 8 to 13 are not looked at. */
+uint32_t purkvaldi_arrange(const uint8_t *text, size_t length, uint8_t *out, size_t out_length);
 
 /* How many words a state is: PURKVALDI_STATE_WORDS. */
 size_t purkvaldi_state_length(void);

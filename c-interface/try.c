@@ -8,6 +8,9 @@ enum { WORDS = PURKVALDI_STATE_WORDS, OUT = PURKVALDI_LISTING_BYTES };
 
 /* 01's three-line file: one module, which does nothing. */
 static const char three[] = "0001000000010000\n1000000000000000\n0200000100000000\n";
+/* The same, the module first; and with a frame that is its own child. */
+static const char drawn[] = "0001000000010000\n0200000200000000\n1000000000000000\n";
+static const char circle[] = "0001000000010000\n0200000200000000\n1202000200000000\n";
 static uint64_t state[WORDS + 1];
 static uint64_t before[WORDS + 1];
 static uint8_t out[OUT + 1];
@@ -87,6 +90,19 @@ static void unstepped(const char *what, const uint8_t *text, size_t length, size
     }
 }
 
+/* A text that cannot be laid out leaves the buffer. */
+static void unwritten(const char *what, const char *text, size_t length, size_t bytes,
+                      uint32_t wanted)
+{
+    memset(out, 7, sizeof out);
+    memset(out_before, 7, sizeof out);
+    expect(what, purkvaldi_arrange((const uint8_t *)text, length, out, bytes), wanted);
+    if (memcmp(out, out_before, sizeof out) != 0) {
+        printf("%s: a refused text wrote\n", what);
+        failures++;
+    }
+}
+
 int main(void)
 {
     static const uint8_t many[6] = {2, 3, 2, 255, 2, 0};
@@ -99,6 +115,20 @@ int main(void)
     expect("check of nothing", purkvaldi_check(NULL, 0), 0x010000);
     expect("check without the last line feed", purkvaldi_check(text, length - 1), 0x030002);
     expect("length", (uint32_t)purkvaldi_state_length(), WORDS);
+
+    /* the three lines, the module first; then with a child that there is not, with a circle */
+    memset(out, 7, sizeof out);
+    expect("a drawn file", purkvaldi_arrange((const uint8_t *)drawn, length, out, length), 0);
+    if (memcmp(out, three, length) != 0 || out[length] != 7) {
+        printf("a drawn file: other lines\n");
+        failures++;
+    }
+    expect("nothing to arrange", purkvaldi_arrange(NULL, 0, NULL, 0), 0x010000);
+    unwritten("a shorter buffer", drawn, length, length - 1, 0x0E0000);
+    unwritten("a longer buffer", drawn, length, length + 1, 0x0E0000);
+    unwritten("without the last line", drawn, 34, 34, 0x150001);
+    unwritten("without a module, too short a buffer", drawn, 17, 1, 0x060000);
+    unwritten("a circle", circle, length, length, 0x150002);
 
     expect("fresh of no text", purkvaldi_fresh(NULL, 0, state, WORDS), 0x010000);
     expect("fresh in no state", purkvaldi_fresh(text, length, NULL, 0), 0x0E0000);

@@ -36,7 +36,8 @@ use Rattle.machine.proofs.Tests.{and-both}
 use Rattle.machine.proofs.Numbers.{all-numbered}
 use Rattle.stepper.specs.declared.answer.Answer.the-variants as A
 use Rattle.safety.proofs.Accepted.{accepted-safe}
-use Rattle.listing.specs.Listing.{digitByte, twoDigits, refusalLine, checkLine, choices}
+use Rattle.text.specs.Digits.{digitByte}
+use Rattle.listing.specs.Listing.{twoDigits, refusalLine, checkLine, choices}
 use Rattle.listing.specs.Listing.{choicesFrom, stops, choiceLine, choiceLines, usedOf, lastLine}
 use Rattle.listing.specs.Listing.{runLines, linesOf, choicesListing}
 use Rattle.runs.specs.Listings.{FinalState, finalState}

@@ -15,9 +15,12 @@ use Rattle.stepper.specs.declared.answer.Answer.the-variants as A
 use Rattle.stepper.specs.Answers.{answerTo, TextResult, textResult, asTextResult}
 use Rattle.stepper.specs.Answers.{answerWord, BatchResult, batchResult}
 use Rattle.runs.specs.Listings.{ListingResult, withBuffers}
+use Rattle.drawing.specs.Writings.{Writing, asWriting}
+use Rattle.drawing.specs.Answers.{Answered}
 use Rattle.runs.specs.declared.printing.ListingAnswer.{ListingAnswer}
 use Rattle.c_interface.specs.Codes.{codeOf, CheckedCode, answerCode, coded, codedOf, codedOut}
-use Rattle.c_interface.specs.Codes.{codedBatchOf, listingCode, codedListingOf}
+use Rattle.c_interface.specs.Codes.{codedBatchOf, listingCode, codedListingOf, codedWritingOf}
+use Rattle.c_interface.specs.Codes.{AnsweredCode}
 
 pub code-accepted : (v : Verdict) → v ≡ Accepted → 0 ≡ codeOf v
 code-accepted v h = ap codeOf (sym h)
@@ -34,6 +37,16 @@ code-checked bs v r e h = h ∙ ap codeOf e
 pub code-promised : (bs : List ℕ) (v : Verdict) (r : ℕ)
     → Checked bs v → r ≡ codeOf v → CheckedCode bs r
 code-promised bs v r p h = record { verdict = v; checked = p; code = h }
+
+-- ---- the writer's
+pub writing-coded : (w : List ℕ) (x : Writing) (v : Verdict) (r : ℕ) → asWriting v w ≡ x
+    → r ≡ codeOf v → coded r w ≡ codedWritingOf x
+writing-coded w x v r e h = ap (λ (n : ℕ). coded n w) h ∙ ap codedWritingOf e
+
+pub writing-promised : (bs out w : List ℕ) (v : Verdict) (r : ℕ) → Answered bs out (asWriting v w)
+    → r ≡ codeOf v → AnsweredCode bs out (coded r w)
+writing-promised bs out w v r p h =
+    record { writing = asWriting v w; answered = p; code = ap (λ (n : ℕ). coded n w) h }
 
 -- ---- a call's answer
 pub answer-rejected : (v : Answer) (n j : ℕ) → v ≡ A.Rejected n j → n * 65536 + j ≡ answerCode v

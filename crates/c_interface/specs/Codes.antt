@@ -6,6 +6,7 @@ use Rattle.stepper.specs.declared.answer.Answer.{Answer}
 use Rattle.stepper.specs.declared.answer.Answer.the-variants.{Rejected, Refused, Done}
 use Rattle.stepper.specs.Answers.{TextResult, BatchResult}
 use Rattle.runs.specs.Listings.{ListingResult}
+use Rattle.drawing.specs.{Writings.Writing, Answers.Answered}
 
 -- the number of the refusal above 16 bits, and the frame
 abbrev pub codeOf : Verdict → ℕ
@@ -32,6 +33,17 @@ coded n w = record { code = n; words = w }
 
 abbrev pub codedOf : TextResult → Coded
 codedOf r = coded (answerCode (r .answer)) (r .words)
+
+-- of the writer
+abbrev pub codedWritingOf : Writing → Coded
+codedWritingOf w = coded (codeOf (w .verdict)) (w .out)
+
+-- what its number and its buffer promise, with no writer named: they are those of the answer that
+-- the rules give of the text and the lent buffer, and they give no other (`Answered`)
+pub record AnsweredCode (bs out : List ℕ) (r : Coded) : Type 0 where
+  pub writing : Writing
+  pub answered : Answered bs out writing
+  pub code : r ≡ codedWritingOf writing
 
 -- the same with a second lent buffer: the answers to many choices, or a listing
 pub record CodedOut : Type 0 where

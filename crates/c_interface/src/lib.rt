@@ -9,15 +9,17 @@ use stepper::batch::steps;
 use stepper::step::fresh;
 use stepper::step::state_length;
 use stepper::step::step;
+use writer::arrange;
 ghost use mathlib.Core.Path.{_≡_};
 ghost use Rattle.language.specs.Limits.{mostListingBytes};
 ghost use Rattle.checker.specs.Verdict.{verdict};
+ghost use Rattle.drawing.specs.Answers.{writing};
 ghost use Rattle.machine.specs.Offsets.{stateLength};
 ghost use Rattle.stepper.specs.Answers.{freshText, stepText, stepsText};
 ghost use Rattle.runs.specs.Listings.{listText};
 ghost use Rattle.c_interface.specs.Codes.{codeOf, CheckedCode, answerCode, coded, codedOf};
 ghost use Rattle.c_interface.specs.Codes.{codedOut, codedBatchOf, listingCode};
-ghost use Rattle.c_interface.specs.Codes.{codedListingOf};
+ghost use Rattle.c_interface.specs.Codes.{codedListingOf, codedWritingOf, AnsweredCode};
 
 // A verdict as one number.
 fn code_of(v: Verdict) -> u32
@@ -37,6 +39,19 @@ pub extern "C" fn purkvaldi_check(text: &[u8]) -> u32
     ensures promised { λ r. ⌜ CheckedCode (now (text .entry)) r ⌝ }
 {
     code_of(check(text))
+}
+
+// A text's lines laid out into `out`: 0 where they are written, else the number of the refusal above
+// 16 bits, the frame in them. A refusal writes nothing. It is the code of the one answer that the
+// rules give.
+#[no_mangle]
+pub extern "C" fn purkvaldi_arrange(text: &[u8], out: &mut [u8]) -> u32
+    ensures computed { λ r. ⌜ coded r (now (out .exit))
+        ≡ codedWritingOf (writing (now (text .entry)) (now (out .entry))) ⌝ }
+    ensures promised { λ r. ⌜ AnsweredCode (now (text .entry)) (now (out .entry))
+        (coded r (now (out .exit))) ⌝ }
+{
+    code_of(arrange(text, out))
 }
 
 // An answer as one number.

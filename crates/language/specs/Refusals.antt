@@ -1,4 +1,5 @@
--- The numbers of the refusals, in the order of 01's 'Who can cause which refusal'.
+-- The numbers of the refusals, in the order of 01's 'Who can cause which refusal'; then those of
+-- document 02.
 use Rattle.basics.specs.Prelude.{ℕ}
 
 -- 'Whoever moves files': 'empty text; over 17,408 bytes; not such lines'
@@ -67,3 +68,7 @@ foreign = 19
 
 abbrev pub stuck : ℕ
 stuck = 20
+
+-- 02, change 2: 'a child number without a frame, a frame used twice, or a circle of children'
+abbrev pub wrongTree : ℕ
+wrongTree = 21

@@ -1,4 +1,4 @@
-// The numbers of the refusals. specs/Refusals says in 01's words what each is.
+// The numbers of the refusals. specs/Refusals says in the documents' words what each is.
 pub const EMPTY_TEXT: u8 = 1;
 
 pub const LONG_TEXT: u8 = 2;
@@ -38,3 +38,5 @@ pub const THREADS_SPENT: u8 = 18;
 pub const FOREIGN: u8 = 19;
 
 pub const STUCK: u8 = 20;
+
+pub const WRONG_TREE: u8 = 21;

@@ -121,11 +121,11 @@ module _ (bs : List ℕ) (t : TextRead) (ws : List ℕ) (h : readAs t ws ≡ tex
         let b = w .fits in
         omega arith
 
-    taken : take n ws ≡ wordsOf n bs
-    taken = ap (take n) array ∙ array-take n bs
+    pub lines-taken : take n ws ≡ wordsOf n bs
+    lines-taken = ap (take n) array ∙ array-take n bs
 
     pub lines-count : length (take n ws) ≡ n
-    lines-count = ap length taken ∙ length-words n bs
+    lines-count = ap length lines-taken ∙ length-words n bs
 
     pub lines-some : 0 < length (take n ws)
     lines-some = let a = lines-count in let b = w .some in omega arith
@@ -136,7 +136,7 @@ module _ (bs : List ℕ) (t : TextRead) (ws : List ℕ) (h : readAs t ws ≡ tex
     pub frames-are : framesOf (take n ws) ≡ textFrames bs
     unfolding textFrames
     frames-are =
-        ap framesOf (taken ∙ ap (λ (k : ℕ). wordsOf k bs) (sym (w .count) ∙ length-frames bs))
+        ap framesOf (lines-taken ∙ ap (λ (k : ℕ). wordsOf k bs) (sym (w .count) ∙ length-frames bs))
 
     module _ (v : LayoutVerdict) (q : v ≡ layoutOf (framesOf (take n ws))) where
       laid-whole : laidAs (laidFor v n) ws ≡ laidWords bs

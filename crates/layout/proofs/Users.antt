@@ -28,7 +28,7 @@ use Rattle.layout.proofs.Depths.{body-depth, child-depth}
 module _ {fs : List Frame} where
   -- the tree of a frame within a tree or a row begins within it
   mutual
-    within-tree : {lo r : ℕ} → Tree fs lo r → (i start : ℕ) → lo ≤ i → i ≤ r → Tree fs start i
+    pub within-tree : {lo r : ℕ} → Tree fs lo r → (i start : ℕ) → lo ≤ i → i ≤ r → Tree fs start i
         → lo ≤ start
     within-tree {lo} {r} (Tree.root row) i start a b t =
         go (eqb i r) refl (λ l. within-row row i start a l t)
@@ -41,7 +41,7 @@ module _ {fs : List Frame} where
             omega arith
         go false e h = let q : i ≡ r → ⊥ = eqb-false i r e in h (omega arith)
 
-    within-row : {lo stop : ℕ} {cs : List Child} → Row fs lo stop cs → (i start : ℕ) → lo ≤ i
+    pub within-row : {lo stop : ℕ} {cs : List Child} → Row fs lo stop cs → (i start : ℕ) → lo ≤ i
         → i < stop → Tree fs start i → lo ≤ start
     within-row Row.none i start a b t = absurd (omega arith)
     within-row {lo} (Row.more {c = c} u e r) i start a b t = go (leb i (c .at)) refl (λ l. within-tree u i start a l t) (λ l. within-row r i start l b t)
@@ -56,16 +56,16 @@ module _ {fs : List Frame} where
             omega arith
 
   -- a frame after a child of a row has its tree after it
-  after-child : {lo stop : ℕ} {cs : List Child} {c : Child} → Row fs lo stop cs → In c cs
+  pub after-child : {lo stop : ℕ} {cs : List Child} {c : Child} → Row fs lo stop cs → In c cs
       → (i start : ℕ) → c .at < i → i < stop → Tree fs start i → c .at < start
   after-child (Row.more u e r) In.first i start a b t = within-row r i start a b t
   after-child (Row.more u e r) (In.later m) i start a b t = after-child r m i start a b t
 
-  row-from : {lo stop : ℕ} {cs : List Child} {c : Child} → Row fs lo stop cs → In c cs → lo ≤ c .at
+  pub row-from : {lo stop : ℕ} {cs : List Child} {c : Child} → Row fs lo stop cs → In c cs → lo ≤ c .at
   row-from (Row.more u e r) In.first = tree-le u
   row-from (Row.more u e r) (In.later m) = let a = tree-le u in let b = row-from r m in omega arith
 
-  tree-from : {lo i : ℕ} {c : Child} → Tree fs lo i → In c (children (frameAt fs i)) → lo ≤ c .at
+  pub tree-from : {lo i : ℕ} {c : Child} → Tree fs lo i → In c (children (frameAt fs i)) → lo ≤ c .at
   tree-from (Tree.root r) m = row-from r m
 
   -- no two frames have the same child
@@ -89,7 +89,7 @@ among-any j (c ∷ cs) h = go (eqb (c .at) j) refl h (λ g. among-any j cs g)
     go false e g r =
         let p = r g in record { child = p .child; among = In.later (p .among); at-it = p .at-it }
 
-among-children : (j : ℕ) (f : Frame) → hasChild j f ≡ true → Among (children f) j
+pub among-children : (j : ℕ) (f : Frame) → hasChild j f ≡ true → Among (children f) j
 unfolding hasChild
 among-children j f h = among-any j (children f) h
 
@@ -132,7 +132,7 @@ pub record Stands (fs : List Frame) (j : ℕ) : Type 0 where
   pub is : Depth fs j depth
 
 -- what has a child is a module, a statement or an expression
-data Parent (k : Kind) : Type 0 where
+pub data Parent (k : Kind) : Type 0 where
   of-module : k ≡ Module → Parent k
   of-class : hasClass (classOf k) ≡ true → Parent k
 
@@ -140,7 +140,7 @@ as-kind : (f : Frame) (k : Kind) {c : Child} → f .kind ≡ k → In c (childre
     → In c (childrenAs k f)
 as-kind f k {c} e m = rw (children-as f k e) at m
 
-parent : (f : Frame) (c : Child) → In c (children f) → Parent (f .kind)
+pub parent : (f : Frame) (c : Child) → In c (children f) → Parent (f .kind)
 parent f c m = go (f .kind) refl
   where
     go : (k : Kind) → f .kind ≡ k → Parent (f .kind)

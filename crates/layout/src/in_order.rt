@@ -233,8 +233,8 @@ fn mark_all(words: &[u64], used: &mut [u8; MOST_LINES])
     }
 }
 
-// A statement or an expression that is not marked.
-fn is_left(k: Class, mark: u8) -> bool
+// A statement or an expression that is not marked, or not used.
+pub fn is_left(k: Class, mark: u8) -> bool
     ensures { λ r. ⌜ r ≡ (hasClass k && eqb mark 0) ⌝ }
 {
     match k {

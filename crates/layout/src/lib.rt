@@ -20,7 +20,7 @@ ghost use Rattle.layout.specs.LaidOut.{Judged};
 ghost use Rattle.layout.specs.inner.Layouts.{laidAs, laidWords, layoutVerdict, verdictOf};
 
 mod depth;
-mod in_order;
+pub mod in_order;
 
 // What refusals 1 to 7 say of a text. One that passes is laid out; 8 to 13 may still refuse it.
 pub enum LayoutVerdict {

@@ -1,23 +1,11 @@
 -- What the functions of a line compute. Assumes nothing.
-use mathlib.Core.Path.{_≡_, refl, sym, ap, _∙_}
+use mathlib.Core.Path.{_≡_, sym, ap, _∙_}
 use mathlib.Core.List.{List, [], _∷_}
-use Prim.Native.Nat.{ℕ, _+_, _<_, _≤_}
+use Prim.Native.Nat.{ℕ}
 use lib.ListN.{getD}
-use borrow.Author.Tests.{lt-ltb, le-ltb}
-use Rattle.basics.proofs.Ifs.{yes, no}
 use Rattle.language.specs.declared.verdict.Verdict.{Verdict}
-use Rattle.listing.specs.Listing.{digitByte, twoDigits, fourDigits, refusalLine, checkLine}
+use Rattle.listing.specs.Listing.{twoDigits, fourDigits, refusalLine, checkLine}
 use Rattle.listing.specs.Listing.{choiceLineOf, lastLine}
-
-pub low-digit : (n : ℕ) → n < 10 → 48 + n ≡ digitByte n
-unfolding digitByte
-low-digit n h = yes _ (lt-ltb n 10 h) refl
-
-pub high-digit : (n : ℕ) → 10 ≤ n → 55 + n ≡ digitByte n
-unfolding digitByte
-high-digit n h = no _ (le-ltb n 10 h) refl
-
-pub ruleset digit-laws = (low-digit, high-digit)
 
 pub line-row : (v w : Verdict) (r : List ℕ) → v ≡ w → r ≡ checkLine w → r ≡ checkLine v
 line-row v w r e h = h ∙ ap checkLine (sym e)

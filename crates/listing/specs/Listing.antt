@@ -6,15 +6,11 @@ use Rattle.language.specs.{declared.verdict.Verdict.Verdict}
 use Rattle.language.specs.{declared.verdict.Verdict.the-variants.Accepted}
 use Rattle.language.specs.{declared.verdict.Verdict.the-variants.Rejected, Limits.mostChoiceBytes}
 use Rattle.language.specs.{Refusals.longText, Refusals.malformedText, Refusals.tooDeep}
-use Rattle.text.specs.Digits.{digit}
+use Rattle.text.specs.Digits.{digit, digitByte}
 use Rattle.program.specs.Programs.{Program, programOf}
 use Rattle.machine.specs.{State.usedCells, Turns.StepResult, Runs.steps}
 
 -- ---- numbers in digits
-
--- the byte of a hexadecimal digit of value n, 0 to 15
-unfoldable pub digitByte : ℕ → ℕ
-digitByte n = if ltb n 10 then 48 + n else 55 + n
 
 abbrev pub twoDigits : ℕ → List ℕ
 twoDigits n = digitByte (n / 16 % 16) ∷ digitByte (n % 16) ∷ []

@@ -1,18 +1,7 @@
 // Numbers in hexadecimal digits.
+use text::digit::digit_byte;
 ghost use mathlib.Core.Path.{_≡_};
-ghost use Prim.Native.Nat.{_<_};
-ghost use Rattle.listing.specs.Listing.{digitByte, twoDigits, fourDigits};
-
-// The byte of a hexadecimal digit of that value.
-fn digit_byte(n: u8) -> u8
-    requires { ⌜ n < 16 ⌝ }
-    ensures { λ r. ⌜ r ≡ digitByte n ⌝ }
-{
-    if n < 10 {
-        return 48 + n;
-    }
-    55 + n
-}
+ghost use Rattle.listing.specs.Listing.{twoDigits, fourDigits};
 
 pub(crate) fn two_digits(n: u8) -> [u8; 2]
     ensures { λ r. ⌜ r ≡ twoDigits n ⌝ }

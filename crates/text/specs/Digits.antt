@@ -1,5 +1,5 @@
 -- 'Digits are read through a table of 256 numbers, one for each byte: the digit's value, or 255.'
-use Rattle.basics.specs.Prelude.{List, [], _∷_, ℕ, zero, suc, _-_, ltb, if_then_else_}
+use Rattle.basics.specs.Prelude.{List, [], _∷_, ℕ, zero, suc, _+_, _-_, ltb, if_then_else_}
 
 -- the value of a byte that is one of 0-9, A-F, or 255
 unfoldable pub digit : ℕ → ℕ
@@ -17,3 +17,7 @@ digitsFrom k (suc n) = digit k ∷ digitsFrom (suc k) n
 -- 'a table of 256 numbers, one for each byte'
 unfoldable pub digitTable : List ℕ
 digitTable = digitsFrom 0 256
+
+-- and back: the byte of a digit of value n, 0 to 15
+unfoldable pub digitByte : ℕ → ℕ
+digitByte n = if ltb n 10 then 48 + n else 55 + n

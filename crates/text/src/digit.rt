@@ -1,6 +1,7 @@
-// Digits: the table of a byte's value.
+// Digits: the table of a byte's value, and the byte of a value.
 ghost use mathlib.Core.Path.{_≡_};
-ghost use Rattle.text.specs.Digits.{digit, digitTable};
+ghost use Prim.Native.Nat.{_<_};
+ghost use Rattle.text.specs.Digits.{digit, digitTable, digitByte};
 
 // One number for each byte: the value of the digit that it is, or 255.
 const DIGITS: [u8; 256] = [
@@ -275,4 +276,15 @@ pub fn digit(digits: &[u8; 256], b: u8) -> u8
     ensures { λ r. ⌜ r ≡ digit b ⌝ }
 {
     digits[b as usize]
+}
+
+// The byte of a hexadecimal digit of that value.
+pub fn digit_byte(n: u8) -> u8
+    requires { ⌜ n < 16 ⌝ }
+    ensures { λ r. ⌜ r ≡ digitByte n ⌝ }
+{
+    if n < 10 {
+        return 48 + n;
+    }
+    55 + n
 }

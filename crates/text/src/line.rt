@@ -11,9 +11,9 @@ ghost use Rattle.text.specs.Frames.{frameOfWord};
 ghost use Rattle.text.specs.inner.Lines.{lineRead, frameOfLine, frameRead};
 
 // A line is so many digits, and then this byte.
-const LINE_DIGITS: usize = LINE_LENGTH - 1;
+pub const LINE_DIGITS: usize = LINE_LENGTH - 1;
 
-const LINE_FEED: u8 = b'\n';
+pub const LINE_FEED: u8 = b'\n';
 
 // What stands at the start of some bytes: a line, as one number of 16 digits, or no line.
 pub(crate) enum Line {

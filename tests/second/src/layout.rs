@@ -27,15 +27,13 @@ pub struct Program {
 
 impl Program {
     pub fn new(frames: Vec<Frame>) -> Result<Program, Verdict> {
-        let header = header(&frames).ok_or(Verdict::rejected(4, 0))?;
-        let last_place = PRIVATE + header.b as u8;
-        first_bad_field(&frames, last_place).map_or(Ok(()), |f| Err(Verdict::rejected(5, f)))?;
+        let header = well_formed(&frames)?;
         first_out_of_order(&frames).map_or(Ok(()), |f| Err(Verdict::rejected(6, f)))?;
         first_too_deep(&frames).map_or(Ok(()), |f| Err(Verdict::rejected(7, f)))?;
         Ok(Program {
             modules: modules(&frames),
             shared_cells: shared_cells(&frames),
-            last_place,
+            last_place: last_place(&header),
             allowance: match header.a {
                 0 => DEFAULT_ALLOWANCE,
                 allowance => usize::from(allowance),
@@ -55,6 +53,19 @@ impl Program {
             .get(number)
             .map(|&frame| &self.frames[usize::from(frame)])
     }
+}
+
+/// Refusals 4 and 5, which do not depend on the order of the frames but for
+/// the count of declarations and for first contents. Hands back the header.
+pub(crate) fn well_formed(frames: &[Frame]) -> Result<Frame, Verdict> {
+    let header = header(frames).ok_or(Verdict::rejected(4, 0))?;
+    let bad = first_bad_field(frames, last_place(&header));
+    bad.map_or(Ok(header), |f| Err(Verdict::rejected(5, f)))
+}
+
+/// The last scheduler's place, in a file with this header.
+fn last_place(header: &Frame) -> u8 {
+    PRIVATE + header.b as u8
 }
 
 fn header(frames: &[Frame]) -> Option<Frame> {
@@ -183,7 +194,7 @@ fn is_misplaced(frames: &[Frame], f: usize) -> bool {
     frames[f].kind == kind::SHARED_CELL && frames[f - 1].kind > kind::SHARED_CELL
 }
 
-fn is_leftover(frame: &Frame, has_parent: bool) -> bool {
+pub(crate) fn is_leftover(frame: &Frame, has_parent: bool) -> bool {
     !has_parent && (frame.is_statement() || frame.is_expression())
 }
 

@@ -1,11 +1,13 @@
 //! The second program: an independent checker and stepper of document 01 with
-//! change 1 of document 02.
+//! changes 1 and 2 of document 02.
 //!
 //! It shares no line with the proved implementation and serves as its test
 //! oracle and speed baseline. The path of a file through the modules is
-//! `text`, `layout`, `rules`, then `state`, `step` and `listing`.
+//! `text`, `layout`, `rules`, then `state`, `step` and `listing`; that of a
+//! drawn file is `text`, `arrange` and `listing`.
 #![forbid(unsafe_code)]
 
+pub mod arrange;
 pub mod effect;
 pub mod evaluate;
 pub mod frame;

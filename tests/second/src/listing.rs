@@ -1,5 +1,6 @@
-//! What `check` and `run` print.
+//! What `check`, `run` and `arrange` print.
 
+use crate::arrange;
 use crate::layout::Program;
 use crate::rules;
 use crate::state::State;
@@ -52,6 +53,17 @@ pub fn run(text: &[u8], choices: &[u8]) -> Vec<u8> {
         }
     }
     listing
+}
+
+/// The lines of `arrange`, or its refusal as `check` prints one.
+pub fn arrange(text: &[u8]) -> Vec<u8> {
+    let mut lines = vec![0; text.len()];
+    let verdict = arrange::arrange(text, &mut lines);
+    if verdict != Verdict::ACCEPTED {
+        lines.clear();
+        verdict_line(&mut lines, verdict);
+    }
+    lines
 }
 
 /// The choices that a run uses: those within the allowance.

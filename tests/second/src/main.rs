@@ -1,5 +1,6 @@
-//! `second check FOLDER`, `second run FOLDER`, `second case SEED INDEX FOLDER`
-//! and `second self SECONDS SEED`.
+//! `second check FOLDER`, `second run FOLDER`, `second arrange FOLDER`,
+//! `second case SEED INDEX FOLDER`, `second drawn SEED INDEX FOLDER` and
+//! `second self SECONDS SEED`.
 #![forbid(unsafe_code)]
 
 use std::error::Error;
@@ -17,7 +18,9 @@ use second::text::{self, CHOICES_LIMIT, PROGRAM_LIMIT};
 
 const USAGE: &str = "usage: second check FOLDER
        second run FOLDER
+       second arrange FOLDER
        second case SEED INDEX FOLDER
+       second drawn SEED INDEX FOLDER
        second self SECONDS SEED";
 
 fn main() -> ExitCode {
@@ -26,7 +29,9 @@ fn main() -> ExitCode {
     let done = match arguments[..] {
         ["check", folder] => check(Path::new(folder)),
         ["run", folder] => run(Path::new(folder)),
-        ["case", seed, index, folder] => write_case(seed, index, Path::new(folder)),
+        ["arrange", folder] => arrange(Path::new(folder)),
+        ["case", seed, index, folder] => write_case(generate::case, seed, index, folder),
+        ["drawn", seed, index, folder] => write_case(generate::drawn, seed, index, folder),
         ["self", seconds, seed] => test_self(seconds, seed),
         _ => Err(USAGE.into()),
     };
@@ -66,10 +71,16 @@ fn run(folder: &Path) -> Outcome {
     Ok(())
 }
 
-fn write_case(seed: &str, index: &str, folder: &Path) -> Outcome {
-    let case = generate::case(seed.parse()?, index.parse()?);
+fn arrange(folder: &Path) -> Outcome {
+    let text = read(&folder.join("prog.txt"), PROGRAM_LIMIT)?;
+    io::stdout().write_all(&listing::arrange(&text))?;
+    Ok(())
+}
+
+fn write_case(named: fn(u64, u64) -> Case, seed: &str, index: &str, folder: &str) -> Outcome {
+    let case = named(seed.parse()?, index.parse()?);
     fs::create_dir_all(folder)?;
-    Ok(case.write(folder)?)
+    Ok(case.write(Path::new(folder))?)
 }
 
 /// Generator, check, run and property, without any other process.

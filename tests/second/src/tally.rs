@@ -1,4 +1,4 @@
-//! Counts of verdicts and answers over many cases, read off their listings.
+//! Counts of verdicts and answers over many cases, read off what is printed.
 
 use std::fmt;
 
@@ -38,6 +38,32 @@ impl Tally {
     pub fn is_complete(&self) -> bool {
         self.verdicts.iter().all(|&count| count > 0)
             && ANSWERS.iter().all(|&answer| self.answers[answer] > 0)
+    }
+}
+
+/// Drawn files by the writer's refusal, 0 where the lines were written.
+#[derive(Default)]
+pub struct Arranged(pub [u64; 22]);
+
+impl Arranged {
+    /// Adds what `arrange` prints; a refusal alone has a blank.
+    pub fn add(&mut self, printed: &[u8]) {
+        let number = match printed.get(2) {
+            Some(b' ') => hexadecimal(&printed[..2]),
+            _ => 0,
+        };
+        self.0[number] += 1;
+    }
+}
+
+impl fmt::Display for Arranged {
+    fn fmt(&self, f: &mut fmt::Formatter) -> fmt::Result {
+        write!(f, "arranged")?;
+        let occurred = self.0.iter().enumerate().filter(|(_, &count)| count > 0);
+        for (number, count) in occurred {
+            write!(f, " {number}:{count}")?;
+        }
+        Ok(())
     }
 }
 

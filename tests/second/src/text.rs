@@ -29,6 +29,11 @@ const fn digits() -> [u8; 256] {
 /// The byte of each digit.
 pub const DIGIT_BYTES: &[u8; 16] = b"0123456789ABCDEF";
 
+/// The four digits of a word.
+pub fn word_digits(word: u16) -> [u8; 4] {
+    [12, 8, 4, 0].map(|shift| DIGIT_BYTES[usize::from(word >> shift & 15)])
+}
+
 /// The number that the digits write; none if a byte is no digit. Values are
 /// joined by `or`, so one test at the end finds any 255.
 #[inline]

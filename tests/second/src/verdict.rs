@@ -1,6 +1,6 @@
-//! What the check says of a file.
+//! What the check and the writer say of a file.
 
-/// A refusal number (1 to 13) with its frame, or accepted. A file with a
+/// A refusal number (1 to 13; the writer's 14 and 21) with its frame, or accepted. A file with a
 /// number other than 0 is rejected (01: "refused by the check").
 #[derive(Clone, Copy, PartialEq, Eq, Debug)]
 pub struct Verdict {

@@ -1,5 +1,5 @@
-//! The sample cases of the base (00) and of each change: listings of `check` and `run`, byte for
-//! byte.
+//! The sample cases of the base (00) and of each change: what the commands print that a case has a
+//! file of, byte for byte.
 
 use std::fs;
 use std::path::{Path, PathBuf};
@@ -14,17 +14,35 @@ fn folders(root: &Path) -> Vec<PathBuf> {
     folders
 }
 
-#[test]
-fn every_vector_is_listed_alike() {
+/// What a command prints on a case's prog.txt and choices.txt.
+type Command = fn(&[u8], &[u8]) -> Vec<u8>;
+
+/// Compares the command with the file of each case that has it.
+fn printed_alike(name: &str, at_least: usize, command: Command) {
     let root = Path::new(env!("CARGO_MANIFEST_DIR")).join("../vectors");
     let changes = folders(&root);
-    let all: Vec<_> = changes.iter().flat_map(|change| folders(change)).collect();
-    assert!(all.len() >= 298, "only {} vectors were found", all.len());
-    for folder in all {
+    let all = changes.iter().flat_map(|change| folders(change));
+    let mut found = 0;
+    for folder in all.filter(|folder| folder.join(name).exists()) {
         let read = |name| fs::read(folder.join(name)).unwrap_or_default();
-        let text = read("prog.txt");
-        assert_eq!(listing::check(&text), read("check.txt"), "{folder:?}");
-        let run = listing::run(&text, &read("choices.txt"));
-        assert_eq!(run, read("run.txt"), "{folder:?}");
+        let printed = command(&read("prog.txt"), &read("choices.txt"));
+        assert_eq!(printed, read(name), "{folder:?}");
+        found += 1;
     }
+    assert!(found >= at_least, "only {found} have {name}");
+}
+
+#[test]
+fn check_prints_every_vector() {
+    printed_alike("check.txt", 298, |text, _| listing::check(text));
+}
+
+#[test]
+fn run_prints_every_vector() {
+    printed_alike("run.txt", 298, listing::run);
+}
+
+#[test]
+fn arrange_prints_every_vector() {
+    printed_alike("arrange.txt", 60, |text, _| listing::arrange(text));
 }

@@ -2,6 +2,7 @@
 
 extern "C" {
     fn purkvaldi_check(text: *const u8, length: usize) -> u32;
+    fn purkvaldi_arrange(text: *const u8, length: usize, out: *mut u8, out_length: usize) -> u32;
     fn purkvaldi_state_length() -> usize;
     fn purkvaldi_fresh(text: *const u8, length: usize, state: *mut u64, words: usize) -> u32;
     fn purkvaldi_step(
@@ -140,4 +141,18 @@ pub fn second_check(text: &[u8]) -> (u8, u16) {
     let line = second::listing::check(text);
     let hex = |part: &[u8]| u16::from_str_radix(std::str::from_utf8(part).unwrap(), 16).unwrap();
     (hex(&line[0..2]) as u8, hex(&line[3..7]))
+}
+
+/// Lays out a text whose frames stand in any order: (0, 0) where `out` has the lines; else the
+/// number of the refusal (1 to 7, 14 or 21) and the frame, and `out` is as it was.
+pub fn arrange(text: &[u8], out: &mut [u8]) -> (u8, u16) {
+    // Any bytes may be lent, of any lengths.
+    let code = unsafe { purkvaldi_arrange(text.as_ptr(), text.len(), out.as_mut_ptr(), out.len()) };
+    ((code >> 16) as u8, code as u16)
+}
+
+/// The same by the second program.
+pub fn second_arrange(text: &[u8], out: &mut [u8]) -> (u8, u16) {
+    let verdict = second::arrange::arrange(text, out);
+    (verdict.number, verdict.frame)
 }

@@ -1,5 +1,5 @@
 //! The wrapper tried on wrong lengths, empty buffers and garbage states; demand 3 tried on the
-//! accepted vectors.
+//! accepted vectors; the writer tried on drawn files.
 use purkvaldi::{Answer, Listing};
 use std::path::Path;
 
@@ -299,4 +299,61 @@ fn case_r_is_foreign() {
     let choices = second::text::choices(&read("examples/r/choices.txt"));
     let choices = choices.unwrap_or_default();
     assert!(numbers(&text, choices.into_iter()).contains(&19));
+}
+
+/// The three lines of `THREE`, the module first.
+const DRAWN: &[u8] = b"0001000000010000\n0200000200000000\n1000000000000000\n";
+
+#[test]
+fn a_drawn_file_is_laid_out() {
+    let mut out = [b'?'; 51];
+    assert_eq!(purkvaldi::arrange(DRAWN, &mut out), (0, 0));
+    assert_eq!(out, THREE);
+    let mut again = [b'?'; 51];
+    assert_eq!(purkvaldi::arrange(&out, &mut again), (0, 0));
+    assert_eq!(again, out);
+}
+
+#[test]
+fn a_drawn_file_that_is_refused_leaves_the_output() {
+    let circle = b"0001000000010000\n0200000200000000\n1202000200000000\n";
+    let too_short = &DRAWN[..50];
+    for (text, length, wanted) in [
+        (&[][..], 0, (1, 0)),
+        (&[b'0'; 17_409], 3, (2, 0)),
+        (too_short, 50, (3, 2)),
+        (too_short, 51, (3, 2)),
+        (circle, 51, (21, 2)),
+        (circle, 50, (21, 2)),
+        (&DRAWN[..34], 34, (21, 1)),
+        (&DRAWN[..17], 17, (6, 0)),
+        (DRAWN, 0, (14, 0)),
+        (DRAWN, 50, (14, 0)),
+        (DRAWN, 52, (14, 0)),
+    ] {
+        let mut out = vec![b'?'; length];
+        assert_eq!(purkvaldi::arrange(text, &mut out), wanted);
+        assert_eq!(out, vec![b'?'; length]);
+    }
+}
+
+/// The vectors of change 2.
+#[test]
+fn drawn_vectors_are_arranged() {
+    let mut texts = 0;
+    for folder in vectors() {
+        let expected = read(&format!("{folder}/arrange.txt"));
+        if expected.is_empty() {
+            continue;
+        }
+        texts += 1;
+        let text = read(&format!("{folder}/prog.txt"));
+        let mut out = vec![b'?'; text.len()];
+        let (number, frame) = purkvaldi::arrange(&text, &mut out);
+        if number != 0 {
+            out = format!("{number:02X} {frame:04X}\n").into_bytes();
+        }
+        assert_eq!(out, expected, "{folder}");
+    }
+    assert!(texts >= 60, "only {texts} vectors were found");
 }

@@ -3,6 +3,8 @@
 //!
 //! `CHECK_PROGRAM` and, if set, `RUN_PROGRAM` name executables that read
 //! `prog.txt` (and `choices.txt`) in their current folder and print a listing.
+//! `ARRANGE_PROGRAM`, if set, names one that lays out `prog.txt`; it gets the
+//! drawn files.
 #![forbid(unsafe_code)]
 
 use std::error::Error;
@@ -15,7 +17,7 @@ use std::{env, fs, process, thread};
 
 use second::generate::{self, Case};
 use second::listing;
-use second::tally::Tally;
+use second::tally::{Arranged, Tally};
 
 /// A program that is silent for longer is taken to hang.
 const PATIENCE: Duration = Duration::from_secs(10);
@@ -46,6 +48,7 @@ struct Subject {
     expected: fn(&Case) -> Vec<u8>,
 }
 
+/// For the cases with choices.
 fn subjects() -> Result<Vec<Subject>, Box<dyn Error>> {
     let check = subject("check", "CHECK_PROGRAM", |case| {
         listing::check(&case.program)
@@ -55,6 +58,13 @@ fn subjects() -> Result<Vec<Subject>, Box<dyn Error>> {
     })?;
     let check = check.ok_or("CHECK_PROGRAM is not set")?;
     Ok([check].into_iter().chain(run).collect())
+}
+
+/// For the drawn files.
+fn writer() -> Result<Option<Subject>, Box<dyn Error>> {
+    subject("arrange", "ARRANGE_PROGRAM", |case| {
+        listing::arrange(&case.program)
+    })
 }
 
 /// The path is made absolute, since the program runs in another folder.
@@ -83,22 +93,34 @@ fn compare() -> Result<usize, Box<dyn Error>> {
     let limit = Duration::from_secs(seconds.parse()?);
     let seed: u64 = seed.parse()?;
     let subjects = subjects()?;
+    let writer = writer()?;
     let scratch = Scratch::new()?;
     let folder = &scratch.0;
     let begin = Instant::now();
     let mut tally = Tally::default();
     let mut differences = 0;
+    let mut arranged = Arranged::default();
     while begin.elapsed() < limit && differences < DIFFERENCES {
         let index = tally.cases;
         let case = generate::case(seed, index);
         case.write(folder)?;
         tally.add(&listing::run(&case.program, &case.choices));
+        let name = format!("{seed}-{index}");
         for subject in &subjects {
-            differences += usize::from(differs(subject, &case, folder, seed, index)?);
+            differences += usize::from(differs(subject, &case, folder, &name)?);
+        }
+        if let Some(writer) = &writer {
+            let drawn = generate::drawn(seed, index);
+            drawn.write(folder)?;
+            arranged.add(&listing::arrange(&drawn.program));
+            differences += usize::from(differs(writer, &drawn, folder, &format!("{name}-drawn"))?);
         }
     }
     let rate = tally.cases as f64 / begin.elapsed().as_secs_f64();
     println!("{tally}\n{rate:.0} cases a second");
+    if writer.is_some() {
+        println!("{arranged}");
+    }
     Ok(differences)
 }
 
@@ -132,23 +154,22 @@ fn differs(
     subject: &Subject,
     case: &Case,
     folder: &Path,
-    seed: u64,
-    index: u64,
+    name: &str,
 ) -> Result<bool, Box<dyn Error>> {
     let expected = (subject.expected)(case);
     let printed = output(&subject.path, folder)?;
     if printed.as_deref() == Ok(&expected[..]) {
         return Ok(false);
     }
-    let kept = env::temp_dir().join(format!("second-differences/{seed}-{index}"));
+    let kept = env::temp_dir().join("second-differences").join(name);
     fs::create_dir_all(&kept)?;
     case.write(&kept)?;
-    let name = subject.name;
-    fs::write(kept.join(format!("{name}.expected.txt")), &expected)?;
+    let what = subject.name;
+    fs::write(kept.join(format!("{what}.expected.txt")), &expected)?;
     let printed = printed.unwrap_or_else(|reason| reason.as_bytes().to_vec());
-    fs::write(kept.join(format!("{name}.printed.txt")), &printed)?;
+    fs::write(kept.join(format!("{what}.printed.txt")), &printed)?;
     let line = first_difference(&expected, &printed);
-    println!("{name} differs: seed {seed} index {index}, {line}; kept in {kept:?}");
+    println!("{what} differs: case {name}, {line}; kept in {kept:?}");
     Ok(true)
 }
 

@@ -2,6 +2,7 @@
 
 mod build;
 mod choices;
+mod drawn;
 mod expressions;
 mod lines;
 mod mutate;
@@ -20,6 +21,7 @@ use random::Random;
 
 use crate::frame::Frame;
 use crate::listing;
+use crate::verdict::Verdict;
 
 /// The contents of `prog.txt` and `choices.txt`.
 pub struct Case {
@@ -57,6 +59,42 @@ pub fn case(seed: u64, index: u64) -> Case {
         choices,
         empty_is_absent: random.chance(2),
     }
+}
+
+/// The drawn file of this name, for the writer of change 2; no choices.
+pub fn drawn(seed: u64, index: u64) -> Case {
+    let random = &mut Random::of_case(seed, index);
+    let mut program = text(&drawn::frames(random));
+    if random.chance(20) {
+        mutate::text(random, &mut program);
+    }
+    Case {
+        program,
+        choices: Vec::new(),
+        empty_is_absent: random.chance(2),
+    }
+}
+
+/// A file that passes refusals 1 to 7, and the same drawn in another order,
+/// the modules and shared cells in theirs.
+pub fn laid_out_and_drawn(seed: u64, index: u64) -> [Vec<u8>; 2] {
+    let random = &mut Random::of_case(seed, index);
+    let frames = drawn::laid_out(random);
+    let drawn = drawn::shuffled(random, &frames, true);
+    [text(&frames), text(&drawn)]
+}
+
+/// The longest files whose circles are hard to find: one circle over all
+/// frames, and a row of frames that leads to a knot.
+pub fn circles() -> [Vec<u8>; 2] {
+    [text(&drawn::one_circle()), text(&drawn::tail_and_knot())]
+}
+
+/// The frames of a text in any order, but modules and shared cells in theirs.
+pub fn shuffled(seed: u64, program: &[u8]) -> Result<Vec<u8>, Verdict> {
+    let frames = crate::text::frames(program)?;
+    let random = &mut Random::of_case(seed, 0);
+    Ok(text(&drawn::shuffled(random, &frames, true)))
 }
 
 /// Sorts of files, by what they are to show.
@@ -122,7 +160,7 @@ fn program(random: &mut Random, sort: Sort) -> Vec<u8> {
         Sort::Nest => text(&special::nest(random)),
         Sort::Doubling => text(&special::doubling(random)),
         Sort::LongRun => text(&special::long_run(random)),
-        Sort::Full => text(&special::full(random)),
+        Sort::Full => text(&special::full_or_over(random)),
         Sort::DamagedFrames => {
             let frames = build::frames(random, Plan::roomy);
             text(&mutate::frames(random, frames))

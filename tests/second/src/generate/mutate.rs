@@ -158,7 +158,7 @@ fn more_shared_cells(random: &mut Random, frames: &mut Vec<Frame>) {
     }
 }
 
-fn shared_cell() -> Frame {
+pub(super) fn shared_cell() -> Frame {
     Frame {
         kind: kind::SHARED_CELL,
         s: HOME,
@@ -191,7 +191,7 @@ fn swap(random: &mut Random, frames: &mut [Frame]) {
     frames.swap(at, other);
 }
 
-fn leaf(random: &mut Random) -> Frame {
+pub(super) fn leaf(random: &mut Random) -> Frame {
     let kinds = [kind::NOTHING, kind::COOPERATE, kind::NUMBER, kind::TRUTH];
     Frame {
         kind: kinds[random.below(kinds.len())],

@@ -195,10 +195,20 @@ pub fn long_run(random: &mut Random) -> Vec<Frame> {
     lines.with_intruder(|lines| lines.forever(|lines| lines.leaf(kind::NOTHING, 0)))
 }
 
-/// A file of 1,024 lines, or just under or over, `main` being nothing.
-pub fn full(random: &mut Random) -> Vec<Frame> {
-    let mut lines = Lines(build::frames(random, Plan::small));
+/// A file of 1,024 lines, or just under or over.
+pub fn full_or_over(random: &mut Random) -> Vec<Frame> {
+    let lines = Lines(build::frames(random, Plan::small));
     let total = random.between(1023, 1026);
+    filled(lines, total)
+}
+
+/// A file of so many lines.
+pub fn full(random: &mut Random, total: usize) -> Vec<Frame> {
+    filled(Lines(build::frames(random, Plan::small)), total)
+}
+
+/// Up to so many lines, `main` being nothing.
+fn filled(mut lines: Lines, total: usize) -> Vec<Frame> {
     let rest = total - lines.0.len() - 3;
     let body = lines.padding(rest);
     lines.module(body);

@@ -1,9 +1,11 @@
-//! agree SECONDS SEED: the proved check and stepper and the second program in one process, on
-//! random texts and choices, and on lent words that are garbage. Not 0 on a difference.
+//! agree SECONDS SEED: the proved check, stepper and writer and the second program in one process,
+//! on random texts and choices, on drawn files, and on lent words that are garbage. Not 0 on a
+//! difference.
 use purkvaldi::Answer;
 use second::generate::Case;
 use second::listing::{used, Reading};
 use second::state::State;
+use second::tally::Arranged;
 use std::time::{Duration, Instant};
 
 /// The choices of a case whose choices.txt is well formed.
@@ -90,6 +92,31 @@ fn garbage(text: &[u8], state: &mut [u64], seed: u64) -> bool {
     fine
 }
 
+/// What a writer answers with an output of this length, and the output, full of a byte before.
+fn arranged(
+    arrange: fn(&[u8], &mut [u8]) -> (u8, u16),
+    text: &[u8],
+    length: usize,
+    before: u8,
+) -> ((u8, u16), Vec<u8>) {
+    let mut out = vec![before; length];
+    (arrange(text, &mut out), out)
+}
+
+/// Both writers on a text: the same answers and bytes, with an output as long and with others. A
+/// refusal leaves every byte, which the second program's output shows.
+fn arranged_alike(text: &[u8]) -> bool {
+    let length = text.len();
+    let lengths = [length, length + 1, length.saturating_sub(1), 0];
+    lengths
+        .into_iter()
+        .zip([b'?', 0, 255, 10])
+        .all(|(length, before)| {
+            arranged(purkvaldi::arrange, text, length, before)
+                == arranged(purkvaldi::second_arrange, text, length, before)
+        })
+}
+
 fn main() {
     let mut args = std::env::args()
         .skip(1)
@@ -101,6 +128,7 @@ fn main() {
     let mut verdicts = [0u64; 14];
     let mut answers = [0u64; 21];
     let mut listed = [0u64; 21];
+    let mut arranged = Arranged::default();
     let (mut cases, mut differences) = (0u64, 0u64);
     while Instant::now() < end {
         for _ in 0..100 {
@@ -127,6 +155,14 @@ fn main() {
                 let digits = std::str::from_utf8(&line[3..5]).unwrap();
                 listed[usize::from_str_radix(digits, 16).unwrap()] += 1;
             }
+            let drawn = second::generate::drawn(seed, cases);
+            arranged.add(&second::listing::arrange(&drawn.program));
+            for (what, text) in [("case", &case.program), ("drawn", &drawn.program)] {
+                if !arranged_alike(text) {
+                    differences += 1;
+                    println!("seed {seed} {what} {cases}: arranged in another way");
+                }
+            }
             // Each public step reads and validates anew, so the stepper sees one case in ten.
             if cases % 10 == 0 {
                 if run(&case, &mut state, &mut answers).is_none() {
@@ -146,6 +182,7 @@ fn main() {
         }
     }
     println!("{cases} texts, {differences} differences; verdicts 0 to 13: {verdicts:?}");
+    println!("drawn files, {arranged}");
     println!(
         "answers in the listings of runs, 0 and 15 to 20: {} {:?}",
         listed[0],

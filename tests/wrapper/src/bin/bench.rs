@@ -1,6 +1,6 @@
-//! bench: times of the check and of a step, proved and second side by side, how the check grows,
-//! and the stack below each call, as one table whose rows keep their names, so that two runs can be
-//! compared line by line.
+//! bench: times of the check, of a step and of the writer, proved and second side by side, how the
+//! check grows, and the stack below each call, as one table whose rows keep their names, so that
+//! two runs can be compared line by line.
 use std::time::Instant;
 
 /// An accepted file of n lines: modules whose bodies nest, each with lets, stores, loops and
@@ -199,6 +199,45 @@ fn steps() {
     row("a step as one of many in a public call", batch, None);
 }
 
+/// A writer's time on a text, the best of five rounds; its answer is known.
+fn nanoseconds_to_arrange(
+    arrange: fn(&[u8], &mut [u8]) -> (u8, u16),
+    text: &[u8],
+    answer: (u8, u16),
+) -> f64 {
+    const ROUNDS: u32 = 200;
+    let mut out = vec![0; text.len()];
+    (0..5)
+        .map(|_| {
+            let start = Instant::now();
+            for _ in 0..ROUNDS {
+                let text = std::hint::black_box(text);
+                assert_eq!(std::hint::black_box(arrange(text, &mut out)), answer);
+            }
+            start.elapsed().as_nanos() as f64 / f64::from(ROUNDS)
+        })
+        .fold(f64::INFINITY, f64::min)
+}
+
+/// The writer on 1,024 lines: laid out already, shuffled, one circle over all frames, and the worst
+/// for a search of circles, a row of frames that leads to a knot.
+fn writers() {
+    let laid_out = accepted(1024);
+    let shuffled = second::generate::shuffled(1, &laid_out).expect("lines");
+    let [one_circle, tail_and_knot] = second::generate::circles();
+    for (name, text, answer) in [
+        ("laid out", laid_out, (0, 0)),
+        ("shuffled", shuffled, (0, 0)),
+        ("one circle", one_circle, (21, 1)),
+        ("row to a knot", tail_and_knot, (21, 512)),
+    ] {
+        let ours = nanoseconds_to_arrange(purkvaldi::arrange, &text, answer);
+        let theirs = nanoseconds_to_arrange(purkvaldi::second_arrange, &text, answer);
+        let name = format!("arrange, {} lines, {name}", text.len() / 17);
+        row(&name, ours, Some(theirs));
+    }
+}
+
 /// The deepest stack of each call, on the file whose recursion goes deepest and on one of 1,024
 /// lines.
 fn stacks() {
@@ -219,6 +258,13 @@ fn stacks() {
             "check",
             stack_used(move || {
                 std::hint::black_box(purkvaldi::check(&t));
+            }),
+        );
+        let (t, mut out) = (text.clone(), vec![0; text.len()]);
+        bytes(
+            "arrange",
+            stack_used(move || {
+                std::hint::black_box(purkvaldi::arrange(&t, &mut out));
             }),
         );
         let (t, mut state) = (text.clone(), fresh_state());
@@ -265,6 +311,7 @@ fn main() {
     );
     checks();
     steps();
+    writers();
     if std::env::args().nth(1).as_deref() != Some("times") {
         stacks();
     }

@@ -1,0 +1,114 @@
+-- The roots of a file in order: by rank they come as they stand in the file. Assumes nothing.
+use mathlib.Core.Path.{_≡_, refl, sym, ap, ap₂, _∙_}
+use mathlib.Core.Bool.{Bool, true, false, _||_, true≢false}
+use mathlib.Core.List.{List, [], _∷_, _++_}
+use Prim.Native.Nat.{ℕ, zero, suc, _+_, _≤_, _<_}
+use native.Mathlib.Omega.{arith}
+use lib.Dec.{eqb, ltb, leb}
+use lib.ListN.{length}
+use borrow.Author.Tests.{eq-eqb, ne-eqb, eqb-true, eqb-false, lt-ltb, le-ltb, ltb-true, ltb-false}
+use Rattle.basics.specs.If.{if_then_else_}
+use Rattle.basics.proofs.Ifs.{if-yes, if-no, and-true}
+use Rattle.language.specs.Kinds.{isHeader, isShared}
+use Rattle.language.specs.declared.kind.Kind.{Kind}
+use Rattle.language.specs.declared.kind.DeclarationKind.{DeclarationKind}
+use Rattle.language.specs.declared.kind.DeclarationKind.the-variants.{Shared}
+use Rattle.language.specs.declared.kind.Kind.the-variants.{Header, Declared, Module, Statement}
+use Rattle.language.specs.declared.kind.Kind.the-variants.{Expression, Unknown}
+use Rattle.language.specs.declared.frame.Frame.{Frame}
+use Rattle.program.specs.Trees.{noFrame, frameAt}
+use Rattle.fields.specs.Fields.{frameFine, kindFine}
+use Rattle.layout.specs.Faults.{Fault, NoFault}
+use Rattle.drawing.specs.Drawings.{rank, ranks, numbered, rootsTo, declarationRank}
+use Rattle.drawing.specs.Drawings.{declarations}
+
+abbrev pub rankOf : Frame → ℕ
+rankOf f = rank (f .kind)
+
+-- no declaration comes after the last kind of them
+pub declared-rank : (d : DeclarationKind) → declarationRank d ≤ declarations
+declared-rank Shared = omega arith
+
+-- the numbers of the frames of the ranks below r, as they stand; the list stands from i on
+unfoldable pub below : ℕ → ℕ → List Frame → List ℕ
+below r i [] = []
+below r i (f ∷ fs) = (if ltb (rankOf f) r then i ∷ [] else []) ++ below r (suc i) fs
+
+-- ---- of ranks up to r: after a frame of such a rank stands none of a lower one
+abbrev pub Sorted : ℕ → List Frame → Type 0
+Sorted r fs =
+    (i j : ℕ) → i < j → j < length fs → rankOf (frameAt fs i) < r → rankOf (frameAt fs i) ≤ rankOf (frameAt fs j)
+
+-- no frame of a lower rank
+none-below : (r i : ℕ) (fs : List Frame) → ((j : ℕ) → j < length fs → r ≤ rankOf (frameAt fs j))
+    → below r i fs ≡ []
+unfolding below
+none-below r i [] h = refl
+none-below r i (f ∷ fs) h =
+    ap (λ (l : List ℕ). l ++ below r (suc i) fs) (if-no (i ∷ []) [] (le-ltb (rankOf f) r (h 0 (omega arith))))
+    ∙ none-below r (suc i) fs (λ j l. h (suc j) (omega arith))
+
+merge : (r m i : ℕ) (fs : List Frame) → r < m → Sorted m fs
+    → below r i fs ++ numbered r i fs ≡ below (suc r) i fs
+unfolding below numbered
+merge r m i [] l s = refl
+merge r m i (f ∷ fs) l s =
+    go (ltb (rankOf f) r) refl (eqb (rankOf f) r) refl (merge r m (suc i) fs l (λ a b p q. s (suc a) (suc b) (omega arith) (omega arith)))
+  where
+    go : (x : Bool) → ltb (rankOf f) r ≡ x → (y : Bool) → eqb (rankOf f) r ≡ y
+        → below r (suc i) fs ++ numbered r (suc i) fs ≡ below (suc r) (suc i) fs
+        → ((if ltb (rankOf f) r then i ∷ [] else []) ++ below r (suc i) fs) ++ ((if eqb (rankOf f) r then i ∷ [] else []) ++ numbered r (suc i) fs) ≡ (if ltb (rankOf f) (suc r) then i ∷ [] else []) ++ below (suc r) (suc i) fs
+    go true a y b h =
+        let p = ltb-true (rankOf f) r a in
+        rw (if-yes (i ∷ []) [] a, if-no (i ∷ []) [] (ne-eqb (rankOf f) r (λ e. omega arith)), if-yes (i ∷ []) [] (lt-ltb (rankOf f) (suc r) (omega arith))) (ap (λ (t : List ℕ). i ∷ t) h)
+    go false a true b h =
+        let e = eqb-true (rankOf f) r b in
+        let z = none-below r (suc i) fs (λ j q. (let g = s 0 (suc j) (omega arith) (omega arith) (omega arith) in omega arith)) in
+        rw (if-no (i ∷ []) [] a, if-yes (i ∷ []) [] b, if-yes (i ∷ []) [] (lt-ltb (rankOf f) (suc r) (omega arith)), z) (ap (λ (t : List ℕ). i ∷ t) (ap (λ (t : List ℕ). t ++ numbered r (suc i) fs) (sym z) ∙ h))
+    go false a false b h =
+        let p = ltb-false (rankOf f) r a in
+        let q = eqb-false (rankOf f) r b in
+        rw (if-no (i ∷ []) [] a, if-no (i ∷ []) [] b, if-no (i ∷ []) [] (le-ltb (rankOf f) (suc r) (omega (arith, q)))) h
+
+pub as-they-stand : (m r : ℕ) (fs : List Frame) → r ≤ m → Sorted m fs → rootsTo r fs ≡ below r 0 fs
+unfolding rootsTo
+as-they-stand m zero fs l s = sym (none-below 0 0 fs (λ j q. omega arith))
+as-they-stand m (suc r) fs l s =
+    ap (λ (t : List ℕ). t ++ numbered r 0 fs) (as-they-stand m r fs (omega arith) s)
+    ∙ merge r m 0 fs (omega arith) s
+
+-- ---- a file without fault stands by ranks. (Change 5 gives refusal 6 by rank: then this is its
+-- rule)
+pub kind-fine : (fs : List Frame) → ((j : ℕ) → Fault fs 5 j → ⊥) → (j : ℕ) → j < length fs
+    → kindFine fs j (frameAt fs j .kind) ≡ true
+unfolding frameFine
+kind-fine fs h j l = go (frameFine fs j (frameAt fs j)) refl
+  where
+    go : (b : Bool) → frameFine fs j (frameAt fs j) ≡ b → kindFine fs j (frameAt fs j .kind) ≡ true
+    go true e = and-true _ _ (and-true _ _ (and-true _ _ (and-true _ _ e .0) .0) .0) .0
+    go false e = absurd (h j (Fault.field l e))
+
+pub sorted : (fs : List Frame) → NoFault fs → Sorted ranks fs
+sorted fs h i j l k r = go (frameAt fs j .kind) refl
+  where
+    of-shared : (x : Kind) → frameAt fs i .kind ≡ x → frameAt fs j .kind ≡ Declared Shared
+        → rank x ≤ declarationRank Shared
+    of-shared Header e s = omega arith
+    of-shared (Declared Shared) e s = omega arith
+    of-shared Module e s =
+        absurd (h 6 j (Fault.misplaced l k (ap isShared s) (ap (λ (y : Kind). isHeader y || isShared y) e)))
+    of-shared (Statement x) e s =
+        absurd (h 6 j (Fault.misplaced l k (ap isShared s) (ap (λ (y : Kind). isHeader y || isShared y) e)))
+    of-shared (Expression x) e s =
+        absurd (h 6 j (Fault.misplaced l k (ap isShared s) (ap (λ (y : Kind). isHeader y || isShared y) e)))
+    of-shared Unknown e s =
+        absurd (h 6 j (Fault.misplaced l k (ap isShared s) (ap (λ (y : Kind). isHeader y || isShared y) e)))
+
+    go : (x : Kind) → frameAt fs j .kind ≡ x → rankOf (frameAt fs i) ≤ rank (frameAt fs j .kind)
+    go Header e =
+        absurd (let z : eqb j 0 ≡ true = ap (kindFine fs j) (sym e) ∙ kind-fine fs (λ j f. h 5 j f) j k in let y = eqb-true j 0 z in omega arith)
+    go (Declared Shared) e = rw e (of-shared (frameAt fs i .kind) refl e)
+    go Module e = rw e (omega arith)
+    go (Statement x) e = rw e (omega arith)
+    go (Expression x) e = rw e (omega arith)
+    go Unknown e = rw e (omega arith)

@@ -1,0 +1,189 @@
+-- How the test for a cycle enters frames into its queue, and that there is room for them. Assumes
+-- nothing.
+use mathlib.Core.Path.{_≡_, refl, sym, ap, subst, _∙_}
+use mathlib.Core.Bool.{Bool, true, false, true≢false}
+use mathlib.Core.List.{List, [], _∷_}
+use Prim.Native.Nat.{ℕ, zero, suc, _+_, _*_, _^_, _≤_, _<_}
+use native.Mathlib.Omega.{arith}
+use lib.Dec.{ltb}
+use borrow.Author.Tests.{ltb-true, ltb-false, lt-ltb, le-ltb}
+use lib.ListN.{getD, length, set, replicate, length-replicate, length-set}
+use Rattle.basics.specs.If.{if_then_else_}
+use Rattle.basics.proofs.Ifs.{yes, no, if-all}
+use Rattle.language.specs.Kinds.{Child, children}
+use Rattle.language.specs.declared.kind.Class.{Class}
+use Rattle.language.specs.declared.frame.Frame.{Frame}
+use Rattle.program.specs.declared.frames.Children.{Children}
+use Rattle.program.specs.declared.frames.Children.the-variants.{Nothing, One, Two, Three}
+use Rattle.program.specs.inner.Children.{listOf, childrenOf}
+use Rattle.program.proofs.FrameLaws.{children-are}
+use Rattle.forest.specs.inner.Walks.{Walk, walk, tally, Room, entered, enteredAll}
+
+-- ---- marks are counted
+tally-most : (bs : List Bool) → tally bs ≤ length bs
+unfolding tally
+tally-most [] = omega arith
+tally-most (true ∷ bs) = let m = tally-most bs in omega arith
+tally-most (false ∷ bs) = let m = tally-most bs in omega arith
+
+tally-less : (bs : List Bool) (v : ℕ) → v < length bs → getD bs v false ≡ false
+    → tally bs < length bs
+unfolding tally
+tally-less [] v l e = absurd (omega arith)
+tally-less (true ∷ bs) zero l e = absurd (true≢false e)
+tally-less (false ∷ bs) zero l e = let m = tally-most bs in omega arith
+tally-less (true ∷ bs) (suc v) l e = let m = tally-less bs v (omega arith) e in omega arith
+tally-less (false ∷ bs) (suc v) l e = let m = tally-less bs v (omega arith) e in omega arith
+
+tally-set : (bs : List Bool) (v : ℕ) → v < length bs → getD bs v false ≡ false
+    → tally (set bs v true) ≡ suc (tally bs)
+unfolding tally
+tally-set [] v l e = absurd (omega arith)
+tally-set (true ∷ bs) zero l e = absurd (true≢false e)
+tally-set (false ∷ bs) zero l e = refl
+tally-set (true ∷ bs) (suc v) l e = ap suc (tally-set bs v (omega arith) e)
+tally-set (false ∷ bs) (suc v) l e = tally-set bs v (omega arith) e
+
+-- ---- room
+room-most : (marks : List Bool) (filled : ℕ) → Room marks filled → filled ≤ 1024
+room-most marks filled r =
+    let m = tally-most marks in let a = r .long in let b = r .each in omega arith
+
+no-tally : (n : ℕ) → tally (replicate n false) ≡ 0
+unfolding tally
+no-tally zero = refl
+no-tally (suc n) = no-tally n
+
+pub room-empty : Room (replicate 1024 false) 0
+room-empty =
+    record { long = length-replicate {A = Bool} 1024 false; each = sym (no-tally 1024) }
+
+-- a place for what is not marked, as the code's index and its new count
+module _ (marks : List Bool) (filled v n : ℕ) (r : Room marks filled)
+    (m : n ≤ 1024) (l : v < n) (e : getD marks v false ≡ false) where
+  pub room-less : filled < 1024
+  room-less =
+      let a = r .long in
+      let b = r .each in
+      let z = tally-less marks v (omega arith) e in
+      omega arith
+
+  pub room-scales : filled * 2 < 2 ^ 64
+  room-scales = let z = room-less in omega arith
+
+  pub room-next : filled + 1 < 2 ^ 64
+  room-next = let z = room-less in omega arith
+
+abbrev pub RoomIn : Walk → Type 0
+RoomIn w = Room (w .marks) (w .filled)
+
+pub more-room : (marks : List Bool) (filled v n : ℕ) → Room marks filled → n ≤ 1024 → v < n
+    → getD marks v false ≡ false → Room (set marks v true) (suc filled)
+more-room marks filled v n r m l e =
+    let a = r .long in
+    let b = tally-set marks v (omega arith) e in
+    record { long = length-set marks v true ∙ a; each = ap suc (r .each) ∙ sym b }
+
+-- ---- entering: v is before i, has no frame, was met, or is new
+abbrev pub withNew : Walk → ℕ → Walk
+withNew w v = walk (set (w .marks) v true) (set (w .queue) (w .filled) v) (suc (w .filled))
+
+pub by-entering : (P : Walk → Type 0) (i n : ℕ) (w : Walk) (v : ℕ) → (v < i → P w) → (n ≤ v → P w)
+    → (getD (w .marks) v false ≡ true → P w)
+    → (v < n → getD (w .marks) v false ≡ false → P (withNew w v)) → P (entered i n w v)
+unfolding entered
+by-entering P i n w v early past met new =
+    if-all P (ltb v i) w _ (λ a. early (ltb-true v i a))
+    (λ _. if-all P (ltb v n) _ w inner (λ a. past (ltb-false v n a)))
+  where
+    inner : ltb v n ≡ true → P (if getD (w .marks) v false then w else withNew w v)
+    inner a = if-all P (getD (w .marks) v false) w (withNew w v) met (new (ltb-true v n a))
+
+entered-room : (i n v : ℕ) (w : Walk) → n ≤ 1024 → RoomIn w → RoomIn (entered i n w v)
+entered-room i n v w m r =
+    let new = more-room (w .marks) (w .filled) v n r m in
+    by-entering RoomIn i n w v (λ _. r) (λ _. r) (λ _. r) new
+
+pub room-kept : (marks marks' : List Bool) (queue queue' : List ℕ) (filled filled' v i n : ℕ)
+    → walk marks' queue' filled' ≡ entered i n (walk marks queue filled) v → Room marks filled
+    → n ≤ 1024 → Room marks' filled'
+room-kept marks marks' queue queue' filled filled' v i n e r m =
+    subst RoomIn (sym e) (entered-room i n v (walk marks queue filled) m r)
+
+all-room : (i n : ℕ) (cs : List Child) (w : Walk) → n ≤ 1024 → RoomIn w
+    → RoomIn (enteredAll i n w cs)
+unfolding enteredAll
+all-room i n [] w m r = r
+all-room i n (c ∷ cs) w m r =
+    all-room i n cs (entered i n w (c .at)) m (entered-room i n (c .at) w m r)
+
+pub all-most : (marks marks' : List Bool) (queue queue' : List ℕ) (filled filled' i n : ℕ)
+    (cs : List Child)
+    → walk marks' queue' filled' ≡ enteredAll i n (walk marks queue filled) cs → Room marks filled
+    → n ≤ 1024 → filled' ≤ 1024
+all-most marks marks' queue queue' filled filled' i n cs e r m =
+    room-most marks' filled' (subst RoomIn (sym e) (all-room i n cs (walk marks queue filled) m r))
+
+-- ---- how the code enters a frame
+module _ (marks : List Bool) (queue : List ℕ) (filled v i n : ℕ) where
+  pub enter-early : v < i → walk marks queue filled ≡ entered i n (walk marks queue filled) v
+  unfolding entered
+  enter-early l = yes _ (lt-ltb v i l) refl
+
+  pub enter-past : i ≤ v → n ≤ v → walk marks queue filled ≡ entered i n (walk marks queue filled) v
+  unfolding entered
+  enter-past o l = no _ (le-ltb v i o) (no _ (le-ltb v n l) refl)
+
+  pub enter-met : getD marks v false ≡ true → i ≤ v → v < n
+      → walk marks queue filled ≡ entered i n (walk marks queue filled) v
+  unfolding entered
+  enter-met e o l = no _ (le-ltb v i o) (yes _ (lt-ltb v n l) (yes _ e refl))
+
+  pub enter-new : getD marks v false ≡ false → i ≤ v → v < n
+      → walk (set marks v true) (set queue filled v) (filled + 1)
+      ≡ entered i n (walk marks queue filled) v
+  unfolding entered
+  enter-new e o l =
+      no _ (le-ltb v i o)
+      (yes _ (lt-ltb v n l) (no _ e (ap (walk (set marks v true) (set queue filled v)) one)))
+    where
+      one : filled + 1 ≡ suc filled
+      one = omega arith
+
+pub ruleset enter-laws = (enter-early, enter-past, enter-met, enter-new)
+
+-- each arm of the match on the children of a frame
+module _ (i n : ℕ) (w : Walk) (f : Frame) (x : Children) (h : x ≡ childrenOf f) where
+  pub none-entered : x ≡ Nothing → w ≡ enteredAll i n w (children f)
+  none-entered e = end ∙ ap (enteredAll i n w) (children-are f x Nothing h e)
+    where
+      end : w ≡ enteredAll i n w []
+      end = unfold enteredAll in refl
+
+  module _ (k : Class) (a : ℕ) (t : Walk) where
+    pub one-entered : x ≡ One k a → t ≡ entered i n w a → t ≡ enteredAll i n w (children f)
+    one-entered e p = p ∙ end ∙ ap (enteredAll i n w) (children-are f x (One k a) h e)
+      where
+        end : entered i n w a ≡ enteredAll i n w (listOf (One k a))
+        end = unfold enteredAll in refl
+
+    module _ (l : Class) (b : ℕ) (r : Walk) where
+      pub two-entered : x ≡ Two k a l b → t ≡ entered i n w a → r ≡ entered i n t b
+          → r ≡ enteredAll i n w (children f)
+      two-entered e p q =
+          q ∙ ap (λ (s : Walk). entered i n s b) p ∙ end
+          ∙ ap (enteredAll i n w) (children-are f x (Two k a l b) h e)
+        where
+          end : entered i n (entered i n w a) b ≡ enteredAll i n w (listOf (Two k a l b))
+          end = unfold enteredAll in refl
+
+      pub three-entered : (m : Class) (c : ℕ) (s : Walk) → x ≡ Three k a l b m c
+          → t ≡ entered i n w a → r ≡ entered i n t b → s ≡ entered i n r c
+          → s ≡ enteredAll i n w (children f)
+      three-entered m c s e p q z =
+          z ∙ ap (λ (y : Walk). entered i n y c) (q ∙ ap (λ (y : Walk). entered i n y b) p) ∙ end
+          ∙ ap (enteredAll i n w) (children-are f x (Three k a l b m c) h e)
+        where
+          end : entered i n (entered i n (entered i n w a) b) c
+              ≡ enteredAll i n w (listOf (Three k a l b m c))
+          end = unfold enteredAll in refl

@@ -1,0 +1,11 @@
+pub mod UseCounts
+pub mod AnyChild
+pub mod TreePass
+pub mod ShapeTests
+pub mod ShapePass
+pub mod FormAnswers
+pub mod UserArray
+pub mod Climbing
+pub mod ClimbDepths
+pub mod CycleWalk
+pub mod CycleReach

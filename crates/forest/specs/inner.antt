@@ -1,0 +1,4 @@
+pub mod FrameTests
+pub mod Uses
+pub mod Climbs
+pub mod Walks

@@ -1,0 +1,98 @@
+// Whether a frame is below itself.
+use language::frame::Frame;
+use language::limit::MOST_LINES;
+use program::frames::Children;
+use program::frames::children_of;
+use program::frames::frame_at;
+ghost use mathlib.Core.Path.{_≡_};
+ghost use Prim.Native.Nat.{_<_, _≤_};
+ghost use lib.ListN.{length};
+ghost use Rattle.language.specs.Kinds.{children};
+ghost use Rattle.language.specs.Limits.{mostLines};
+ghost use Rattle.text.specs.Frames.{framesOf};
+ghost use Rattle.drawing.specs.inner.Finds.{isBelow};
+ghost use Rattle.forest.specs.inner.Walks.{walk, Room, entered, enteredAll};
+ghost use Rattle.forest.specs.inner.Walks.{NoCycleBefore};
+
+// The frames met so far are marked, and stand in the first `filled` places of the queue.
+
+// Frame v of n frames is met, on a way from i. A frame enters the queue the first time only, so
+// that there is always room (`Room`); a number before i or after the last frame does not enter.
+fn enter(
+    marks: &mut [bool; MOST_LINES],
+    queue: &mut [u16; MOST_LINES],
+    filled: usize,
+    v: u16,
+    i: usize,
+    n: usize,
+) -> usize
+    requires { ⌜ (n ≤ mostLines) × Room (now marks) filled ⌝ }
+    ensures { λ r. ⌜ walk (now (marks .exit)) (now (queue .exit)) r
+        ≡ entered i n (walk (now (marks .entry)) (now (queue .entry)) filled) v ⌝ }
+{
+    let j = v as usize;
+    if j < i {
+        return filled;
+    }
+    if n <= j {
+        return filled;
+    }
+    if marks[j] {
+        return filled;
+    }
+    marks[j] = true;
+    queue[filled] = v;
+    filled + 1
+}
+
+fn enter_children(
+    marks: &mut [bool; MOST_LINES],
+    queue: &mut [u16; MOST_LINES],
+    filled: usize,
+    f: Frame,
+    i: usize,
+    n: usize,
+) -> usize
+    requires { ⌜ (n ≤ mostLines) × Room (now marks) filled ⌝ }
+    ensures { λ r. ⌜ walk (now (marks .exit)) (now (queue .exit)) r
+        ≡ enteredAll i n (walk (now (marks .entry)) (now (queue .entry)) filled) (children f) ⌝ }
+{
+    match children_of(f) {
+        Children::Nothing => filled,
+        Children::One(k, a) => enter(marks, queue, filled, a, i, n),
+        Children::Two(k, a, l, b) => {
+            let one = enter(marks, queue, filled, a, i, n);
+            enter(marks, queue, one, b, i, n)
+        }
+        Children::Three(k, a, l, b, m, c) => {
+            let one = enter(marks, queue, filled, a, i, n);
+            let two = enter(marks, queue, one, b, i, n);
+            enter(marks, queue, two, c, i, n)
+        }
+    }
+}
+
+// Frame i is on a cycle of children. The frames before i were asked first and are on no cycle, so
+// none of them is looked at, and each other frame below i at most once. The queue is lent, with
+// anything in it, so that it is made once for all frames; its length stands in the contract because
+// a proof is not told the length of a lent array.
+pub(crate) fn on_cycle(words: &[u64], i: usize, queue: &mut [u16; MOST_LINES]) -> bool
+    requires { ⌜ (i < length (now words)) × (length (now words) ≤ mostLines)
+        × (length (now queue) ≡ mostLines) × NoCycleBefore (framesOf (now words)) i ⌝ }
+    ensures { λ r. ⌜ r ≡ isBelow (framesOf (now (words .entry))) i i ⌝ }
+    ensures wide { λ _. ⌜ length (now (queue .exit)) ≡ mostLines ⌝ }
+{
+    let n = words.len();
+    let mut marks = [false; MOST_LINES];
+    let mut filled = enter_children(&mut marks, queue, 0, frame_at(words, i), i, n);
+    let mut k: usize = 0;
+    while k < filled {
+        let j = queue[k] as usize;
+        if j == i {
+            return true;
+        }
+        filled = enter_children(&mut marks, queue, filled, frame_at(words, j), i, n);
+        k += 1;
+    }
+    false
+}

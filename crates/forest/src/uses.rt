@@ -1,0 +1,67 @@
+// How often each frame is used as a child.
+use language::frame::Frame;
+use language::limit::MOST_LINES;
+use program::frames::Children;
+use program::frames::children_of;
+use program::frames::frame_at;
+ghost use mathlib.Core.Path.{_≡_};
+ghost use Rattle.language.specs.Kinds.{children};
+ghost use Rattle.text.specs.Frames.{framesOf};
+ghost use Rattle.layout.specs.inner.Scans.{LineWords};
+ghost use Rattle.forest.specs.inner.Uses.{counted, countedAll, CountsUses};
+
+// Stands for every count from 2 on.
+pub(crate) const TWICE: u8 = 2;
+
+// One more use of v. A number after the last frame counts for nothing.
+fn count(counts: &mut [u8; MOST_LINES], v: u16)
+    ensures { λ r. ⌜ now (counts .exit) ≡ counted (now (counts .entry)) v ⌝ }
+{
+    let j = v as usize;
+    if MOST_LINES <= j {
+        return;
+    }
+    if TWICE <= counts[j] {
+        return;
+    }
+    counts[j] = counts[j] + 1;
+}
+
+fn count_frame(counts: &mut [u8; MOST_LINES], f: Frame)
+    ensures { λ r. ⌜ now (counts .exit) ≡ countedAll (now (counts .entry)) (children f) ⌝ }
+{
+    match children_of(f) {
+        Children::Nothing => {
+            return;
+        }
+        Children::One(k, a) => {
+            count(counts, a);
+            return;
+        }
+        Children::Two(k, a, l, b) => {
+            count(counts, a);
+            count(counts, b);
+            return;
+        }
+        Children::Three(k, a, l, b, m, c) => {
+            count(counts, a);
+            count(counts, b);
+            count(counts, c);
+            return;
+        }
+    }
+}
+
+// For each frame how often it is used, 2 standing for more.
+pub(crate) fn count_uses(words: &[u64]) -> [u8; MOST_LINES]
+    requires { ⌜ LineWords (now words) ⌝ }
+    ensures { λ r. ⌜ CountsUses (framesOf (now (words .entry))) r ⌝ }
+{
+    let mut counts = [0u8; MOST_LINES];
+    let mut i: usize = 0;
+    while i < words.len() {
+        count_frame(&mut counts, frame_at(words, i));
+        i += 1;
+    }
+    counts
+}
