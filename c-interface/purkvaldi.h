@@ -11,8 +11,8 @@
  * No two buffers overlap. A pointer whose length is 0 is not looked at and may be null. No pointer
  * is kept after the call.
  *
- * Stack, measured and not proved: at most 16,809 bytes below a call (purkvaldi_arrange on a file 24
- * deep; of the others at most 15,292, purkvaldi_run); 17 KB are enough. */
+ * Stack, measured and not proved: at most 15,292 bytes below a call (purkvaldi_run on a file 24
+ * deep); 16 KB are enough. */
 #ifndef PURKVALDI_H
 #define PURKVALDI_H
 

@@ -10,7 +10,7 @@ use Rattle.language.specs.declared.kind.Kind.{Kind}
 use Rattle.language.specs.declared.kind.Use.{Use}
 use Rattle.language.specs.declared.frame.Frame.{Frame}
 use Rattle.text.specs.Frames.{frameOfWord}
-use Rattle.drawing.specs.Drawings.{wordOf, headOf, Drawn, Field, node, kept, child, size}
+use Rattle.drawing.specs.Drawings.{lineFrom, headOf, Drawn, Field, node, kept, child, size}
 use Rattle.drawing.specs.Drawings.{sizeIn, fieldWith, nodeWith, drawn, rootFrom, valueFrom}
 use Rattle.drawing.specs.Drawings.{rootLine, lined, linedIn, rank, ranks}
 use Rattle.drawing.proofs.Heights.{height, heightIn}

@@ -23,7 +23,7 @@ use Rattle.layout.proofs.Searches.{Lowest, same-low, lowest-all, any-true, any-
 use Rattle.layout.proofs.Trees.{is-module, in-body}
 use Rattle.layout.proofs.Depths.{AtLeast, seven}
 use Rattle.drawing.specs.TreeFaults.{Below}
-use Rattle.drawing.specs.inner.Finds.{deepTo, isDeep, depthFaultAt}
+use Rattle.drawing.specs.inner.Finds.{deeperTo, isDeep, depthFaultAt}
 use Rattle.drawing.proofs.InOrder.{Within, within}
 use Rattle.drawing.proofs.Cycles.{or-true, or-left, or-right, in-any, any-in, within-all}
 
@@ -56,25 +56,25 @@ and-both {a} {b} p q = ap (λ (x : Bool). x && b) p ∙ q
 
 module _ (fs : List Frame) where
   deep-found : {i d j e : ℕ} → Reach fs i d j e → (n : ℕ) → Within fs n i → mostDepth < e
-      → deepTo n fs j d i ≡ true
-  unfolding deepTo
+      → deeperTo n fs j d i ≡ true
+  unfolding deeperTo
   deep-found (Reach.here {i = i} {d = d}) n (within g) l =
       or-left _ (and-both (lt-ltb mostDepth d l) (eq-eqb i i refl))
   deep-found (Reach.down {i = i} {d = d} {j = j} {c = c} m r) n (within {d = k} g) l =
-      or-right (ltb mostDepth d && eqb i j) (any-in (λ (c : Child). deepTo k fs j (suc d) (c .at)) m (deep-found r k (g c m) l))
+      or-right (ltb mostDepth d && eqb i j) (any-in (λ (c : Child). deeperTo k fs j (suc d) (c .at)) m (deep-found r k (g c m) l))
 
-  found-deep : (n i d j : ℕ) → Depth fs i d → deepTo n fs j d i ≡ true → AtLeast fs j 25
-  unfolding deepTo
+  found-deep : (n i d j : ℕ) → Depth fs i d → deeperTo n fs j d i ≡ true → AtLeast fs j 25
+  unfolding deeperTo
   found-deep zero i d j h e = absurd (true≢false (sym e))
   found-deep (suc n) i d j h e = ⊎-elim
       (λ q. (let a = and-true (ltb mostDepth d) (eqb i j) q in subst (λ (k : ℕ). AtLeast fs k 25) (eqb-true i j (a .1)) (record { depth = d; is = h; least = ltb-true mostDepth d (a .0) })))
-      (λ q. (let m = in-any (λ (c : Child). deepTo n fs j (suc d) (c .at)) (children (frameAt fs i)) q in found-deep n (m .member .at) (suc d) j (Depth.child h (m .among)) (m .passes)))
+      (λ q. (let m = in-any (λ (c : Child). deeperTo n fs j (suc d) (c .at)) (children (frameAt fs i)) q in found-deep n (m .member .at) (suc d) j (Depth.child h (m .among)) (m .passes)))
       (or-true (ltb mostDepth d && eqb i j) _ e)
 
   deep-test : (j : ℕ) → isDeep fs j (frameAt fs j) ≡ true → Fault fs 7 j
   unfolding isDeep
   deep-test j e =
-      let p = any-true noFrame (λ (g : Frame). isModule (g .kind) && deepTo (suc (length fs)) fs j 1 (g .a)) fs e in
+      let p = any-true noFrame (λ (g : Frame). isModule (g .kind) && deeperTo (suc (length fs)) fs j 1 (g .a)) fs e in
       let a = and-true (isModule (frameAt fs (p .at) .kind)) _ (p .passes) in
       let d = found-deep (suc (length fs)) (frameAt fs (p .at) .a) 1 j (Depth.body (p .inside) (is-module (frameAt fs (p .at) .kind) (a .0))) (a .1) in
       Fault.depth (d .is) (d .least)
@@ -91,7 +91,7 @@ module _ (fs : List Frame) where
         let u = under (a .is) in
         let b = inside (u .at) _ (in-body (frameAt fs (u .at)) (u .kind)) in
         let q = deep-found (u .reach) (suc (length fs)) (within-all fs inside trees (frameAt fs (u .at) .a)) (a .least) in
-        (reach-inside (u .reach) b, any-some noFrame (λ (g : Frame). isModule (g .kind) && deepTo (suc (length fs)) fs j 1 (g .a)) fs (u .at) (u .inside) (and-both (ap isModule (u .kind)) q))
+        (reach-inside (u .reach) b, any-some noFrame (λ (g : Frame). isModule (g .kind) && deeperTo (suc (length fs)) fs j 1 (g .a)) fs (u .at) (u .inside) (and-both (ap isModule (u .kind)) q))
 
     pub depth-low : Lowest (Fault fs 7) (depthFaultAt fs)
     unfolding depthFaultAt

@@ -13,7 +13,7 @@ use Rattle.program.specs.Trees.{noFrame, frameAt}
 use Rattle.layout.specs.Order.{Tree, Row}
 use Rattle.layout.proofs.Trees.{tree-in}
 pub use Rattle.drawing.specs.inner.Heights.{Within, within}
-use Rattle.drawing.specs.Drawings.{wordOf, headOf, Drawn, Field, node, kept, child, size}
+use Rattle.drawing.specs.Drawings.{lineFrom, headOf, Drawn, Field, node, kept, child, size}
 use Rattle.drawing.specs.Drawings.{sizeIn, fieldWith, nodeWith, drawn, rootFrom, valueFrom}
 use Rattle.drawing.specs.Drawings.{rootLine, lined, linedIn}
 use Rattle.drawing.proofs.Lines.{frame-word}
@@ -102,7 +102,7 @@ module _ (ws : List ℕ) where
       record { from = omega arith; count = s .count; at = s .at ∙ e; lines = s .lines }
 
   node-lines : (lo m k i h va vb vc : ℕ) (a b c : Field) → SameIn ws lo m va a → SameIn ws m k vb b
-      → SameIn ws k i vc c → wordOf h va vb vc ≡ getD ws i 0 → Same ws lo i (node h a b c)
+      → SameIn ws k i vc c → lineFrom h va vb vc ≡ getD ws i 0 → Same ws lo i (node h a b c)
   unfolding lined size rootFrom
   node-lines lo m k i h va vb vc a b c x y z w =
       let p : lo + sizeIn a ≡ m = x .count in
@@ -115,7 +115,7 @@ module _ (ws : List ℕ) where
       let vb' : valueFrom (lo + sizeIn a) b ≡ vb = ap (λ (n : ℕ). valueFrom n b) p ∙ y .at in
       let vc' : valueFrom (lo + sizeIn a + sizeIn b) c ≡ vc = ap (λ (n : ℕ). valueFrom n c) q' ∙ z .at in
       let va' : valueFrom lo a ≡ va = x .at in
-      let root : rootLine lo h a b c ≡ getD ws i 0 = ap₂ (λ (n m : ℕ). wordOf h n m (valueFrom (lo + sizeIn a + sizeIn b) c)) va' vb' ∙ ap (wordOf h va vb) vc' ∙ w in
+      let root : rootLine lo h a b c ≡ getD ws i 0 = ap₂ (λ (n m : ℕ). lineFrom h n m (valueFrom (lo + sizeIn a + sizeIn b) c)) va' vb' ∙ ap (lineFrom h va vb) vc' ∙ w in
       let B : linedIn (lo + sizeIn a) b ≡ part ws m (sizeIn b) = ap (λ (n : ℕ). linedIn n b) p ∙ y .lines in
       let C : linedIn (lo + sizeIn a + sizeIn b) c ≡ part ws k (sizeIn c) = ap (λ (n : ℕ). linedIn n c) q' ∙ z .lines in
       let T : part ws k (sizeIn c) ++ (getD ws i 0 ∷ []) ≡ part ws k (suc (sizeIn c)) = part-one ws k (sizeIn c) i (sym r) in

@@ -5,7 +5,7 @@ use native.Mathlib.Omega.{arith}
 use Rattle.language.specs.Kinds.{kindOf}
 use Rattle.language.specs.declared.frame.Frame.{Frame}
 use Rattle.text.specs.Frames.{frameOfWord}
-use Rattle.drawing.specs.Drawings.{wordOf, headOf}
+use Rattle.drawing.specs.Drawings.{lineFrom, headOf}
 
 abbrev frame : ℕ → ℕ → ℕ → ℕ → ℕ → Frame
 frame k s a b c = record { kind = kindOf k; s = s; a = a; b = b; c = c }
@@ -15,25 +15,25 @@ abbrev pub frameOf : ℕ → ℕ → ℕ → ℕ → Frame
 frameOf h a b c = frame (h / 16 ^ 2) (h % 16 ^ 2) a b c
 
 module _ (h a b c : ℕ) (lh : h < 16 ^ 4) (la : a < 16 ^ 4) (lb : b < 16 ^ 4) (lc : c < 16 ^ 4) where
-  pub word-head : headOf (wordOf h a b c) ≡ h
+  pub word-head : headOf (lineFrom h a b c) ≡ h
   word-head = omega arith
 
-  word-k : wordOf h a b c / 16 ^ 14 % 16 ^ 2 ≡ h / 16 ^ 2
+  word-k : lineFrom h a b c / 16 ^ 14 % 16 ^ 2 ≡ h / 16 ^ 2
   word-k = omega arith
 
-  word-s : wordOf h a b c / 16 ^ 12 % 16 ^ 2 ≡ h % 16 ^ 2
+  word-s : lineFrom h a b c / 16 ^ 12 % 16 ^ 2 ≡ h % 16 ^ 2
   word-s = omega arith
 
-  word-a : wordOf h a b c / 16 ^ 8 % 16 ^ 4 ≡ a
+  word-a : lineFrom h a b c / 16 ^ 8 % 16 ^ 4 ≡ a
   word-a = omega arith
 
-  word-b : wordOf h a b c / 16 ^ 4 % 16 ^ 4 ≡ b
+  word-b : lineFrom h a b c / 16 ^ 4 % 16 ^ 4 ≡ b
   word-b = omega arith
 
-  word-c : wordOf h a b c % 16 ^ 4 ≡ c
+  word-c : lineFrom h a b c % 16 ^ 4 ≡ c
   word-c = omega arith
 
-  pub word-frame : frameOfWord (wordOf h a b c) ≡ frameOf h a b c
+  pub word-frame : frameOfWord (lineFrom h a b c) ≡ frameOf h a b c
   unfolding frameOfWord
   word-frame =
       let p = ap kindOf word-k in
@@ -57,7 +57,7 @@ unfolding frameOfWord
 frame-fits w = (omega arith, omega arith, omega arith)
 
 pub frame-word : (w : ℕ) → w < 16 ^ 16
-    → wordOf (headOf w) (frameOfWord w .a) (frameOfWord w .b) (frameOfWord w .c) ≡ w
+    → lineFrom (headOf w) (frameOfWord w .a) (frameOfWord w .b) (frameOfWord w .c) ≡ w
 unfolding frameOfWord
 frame-word w l =
     let a : w / 16 ^ 8 ≡ w / 16 ^ 4 / 16 ^ 4 = omega arith in

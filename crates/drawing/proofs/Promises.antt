@@ -23,7 +23,7 @@ use Rattle.layout.specs.LaidOut.{HasLayout}
 use Rattle.layout.specs.inner.Layouts.{layoutVerdict}
 use Rattle.layout.proofs.Judged.{has-layout, layout-only}
 use Rattle.drawing.specs.Drawings.{drawing, laidOut}
-use Rattle.drawing.specs.Texts.{digitsOnto, bytesOf, linesOf}
+use Rattle.drawing.specs.Texts.{digitsOnto, bytesOf, linesIn}
 use Rattle.drawing.specs.Writings.{Writing, asWriting, Writable, rewritten, HasWriting}
 use Rattle.drawing.specs.Answers.{WellWritten, WritesWell, KeepsOrder}
 use Rattle.drawing.proofs.Whole.{in-order-same}
@@ -39,10 +39,10 @@ use Rattle.drawing.proofs.Rereads.{lines-back, bytes-read}
 
 -- a text that reads as frames: they are its lines', and it has no wrong byte
 pub record Lines (bs : List ℕ) (fs : List Frame) : Type 0 where
-  pub same : fs ≡ framesOf (linesOf bs)
+  pub same : fs ≡ framesOf (linesIn bs)
   pub right : Right (length bs / 17) bs
-  pub some : 0 < length (linesOf bs)
-  pub most : length (linesOf bs) ≤ 1024
+  pub some : 0 < length (linesIn bs)
+  pub most : length (linesIn bs) ≤ 1024
 
 lines-by : {bs : List ℕ} {r : Reading} {fs : List Frame} → Reads bs r → r ≡ frames fs → Lines bs fs
 unfolding textFrames
@@ -66,8 +66,8 @@ no-fault-of (HasLayout.text h) e = absurd (let z : _≡_ {A = ℕ} 0 1 = cc in o
 no-fault-of {bs} (HasLayout.layout {fs = fs} {v = v} r s) e =
     let l = lines-of r in
     let f : NoFault fs = subst (LayoutSays fs) e s in
-    let g : NoFault (framesOf (linesOf bs)) = subst NoFault (l .same) f in
-    ap bytesOf (in-order-same (linesOf bs) (words-small (length bs / 17) bs (l .right)) g (l .some)) ∙ bytes-back (length bs / 17) bs (l .right)
+    let g : NoFault (framesOf (linesIn bs)) = subst NoFault (l .same) f in
+    ap bytesOf (in-order-same (linesIn bs) (words-small (length bs / 17) bs (l .right)) g (l .some)) ∙ bytes-back (length bs / 17) bs (l .right)
 
 pub in-order-equal : (bs : List ℕ) → layoutVerdict bs ≡ LaidOut → rewritten bs ≡ bs
 in-order-equal bs e = no-fault-of (has-layout bs) e
@@ -87,7 +87,7 @@ bytes-length (w ∷ ws) =
     omega arith
 
 writable-lines : {bs : List ℕ} {fs : List Frame} → Reads bs (frames fs) → Writable fs
-    → Writable (framesOf (linesOf bs))
+    → Writable (framesOf (linesIn bs))
 writable-lines r s = subst Writable (lines-of r .same) s
 
 pub same-length : {bs : List ℕ} {fs : List Frame} → Reads bs (frames fs) → Writable fs
@@ -95,8 +95,8 @@ pub same-length : {bs : List ℕ} {fs : List Frame} → Reads bs (frames fs) →
 unfolding rewritten
 same-length {bs} r s =
     let l = lines-of r in
-    let a = bytes-length (laidOut (drawing (linesOf bs))) in
-    let b = nothing-lost (linesOf bs) (writable-lines r s) in
+    let a = bytes-length (laidOut (drawing (linesIn bs))) in
+    let b = nothing-lost (linesIn bs) (writable-lines r s) in
     let c = l .right .size in
     let n = length-words (length bs / 17) bs in
     omega arith
@@ -104,10 +104,10 @@ same-length {bs} r s =
 -- ---- 'Read back, the lines give the same tree.'
 module _ {bs : List ℕ} {fs : List Frame} (r : Reads bs (frames fs)) (s : Writable fs) where
   abbrev Out : List ℕ
-  Out = laidOut (drawing (linesOf bs))
+  Out = laidOut (drawing (linesIn bs))
 
-  out-length : length Out ≡ length (linesOf bs)
-  out-length = nothing-lost (linesOf bs) (writable-lines r s)
+  out-length : length Out ≡ length (linesIn bs)
+  out-length = nothing-lost (linesIn bs) (writable-lines r s)
 
   pub reads-back : Reads (rewritten bs) (frames (framesOf Out))
   unfolding rewritten
@@ -116,18 +116,18 @@ module _ {bs : List ℕ} {fs : List Frame} (r : Reads bs (frames fs)) (s : Writa
       let n = out-length in
       let a = l .some in
       let b = l .most in
-      bytes-read (out-small (linesOf bs) (writable-lines r s) (l .some) (l .most)) (omega arith) (omega arith)
+      bytes-read (out-small (linesIn bs) (writable-lines r s) (l .some) (l .most)) (omega arith) (omega arith)
 
-  pub same-tree : drawing (linesOf (rewritten bs)) ≡ drawing (linesOf bs)
+  pub same-tree : drawing (linesIn (rewritten bs)) ≡ drawing (linesIn bs)
   unfolding rewritten
   same-tree =
       let l = lines-of r in
-      ap drawing (lines-back (out-small (linesOf bs) (writable-lines r s) (l .some) (l .most)))
-      ∙ same-drawing (linesOf bs) (writable-lines r s) (l .some) (l .most)
+      ap drawing (lines-back (out-small (linesIn bs) (writable-lines r s) (l .some) (l .most)))
+      ∙ same-drawing (linesIn bs) (writable-lines r s) (l .some) (l .most)
 
   -- ---- the output has no fault of children's order or class, no leftover, nothing too deep
   spot : (p : ℕ) → p < length Out → Spot Out p
-  spot = let l = lines-of r in out-spots (linesOf bs) (writable-lines r s) (l .some) (l .most)
+  spot = let l = lines-of r in out-spots (linesIn bs) (writable-lines r s) (l .some) (l .most)
 
   pub out-order : (j : ℕ) → j < length (framesOf Out) → ((lo : ℕ) → Tree (framesOf Out) lo j → ⊥)
       → ⊥
@@ -148,20 +148,20 @@ module _ {bs : List ℕ} {fs : List Frame} (r : Reads bs (frames fs)) (s : Writa
       → ⊥
   out-shared =
       let l = lines-of r in
-      out-shared-first (linesOf bs) (writable-lines r s) (l .some) (l .most)
+      out-shared-first (linesIn bs) (writable-lines r s) (l .some) (l .most)
 
   pub out-last : (j : ℕ) → suc j ≡ length (framesOf Out) → isMain (frameAt (framesOf Out) j) ≡ true
-  out-last = let l = lines-of r in out-main (linesOf bs) (writable-lines r s) (l .some) (l .most)
+  out-last = let l = lines-of r in out-main (linesIn bs) (writable-lines r s) (l .some) (l .most)
 
   -- and every line has a kind and fields that are right
   pub out-right : (j : ℕ) → j < length (framesOf Out)
       → frameFine (framesOf Out) j (frameAt (framesOf Out) j) ≡ true
-  out-right = let l = lines-of r in out-fields (linesOf bs) (writable-lines r s) (l .some) (l .most)
+  out-right = let l = lines-of r in out-fields (linesIn bs) (writable-lines r s) (l .some) (l .most)
 
   -- ---- so it passes 4 to 7
   pub out-fault : NoFault (framesOf Out)
   out-fault n j (Fault.header h) =
-      writable-lines r s .early 4 0 (omega arith) (Fault.header (ap headerFine (sym (out-header (linesOf bs) (writable-lines r s) (lines-of r .some))) ∙ h))
+      writable-lines r s .early 4 0 (omega arith) (Fault.header (ap headerFine (sym (out-header (linesIn bs) (writable-lines r s) (lines-of r .some))) ∙ h))
   out-fault n j (Fault.field {j = k} l h) = true≢false (sym (out-right k l) ∙ h)
   out-fault n j (Fault.order {j = k} l h) = out-order k l h
   out-fault n j (Fault.misplaced {i = i} {j = k} a b c d) = out-shared i k a b c d
@@ -203,7 +203,7 @@ kept-by : {bs lent : List ℕ} {v : LayoutVerdict} → HasLayout bs v → v ≡ 
 kept-by (HasLayout.text h) e m = absurd (let z : _≡_ {A = ℕ} 0 1 = cc in omega arith)
 kept-by {bs} (HasLayout.layout {fs = fs} r s) e m =
     let l = lines-of r in
-    let n = frames-length (linesOf bs) in
+    let n = frames-length (linesIn bs) in
     let k = l .some in
     let some : 0 < length fs = subst (λ (gs : List Frame). 0 < length gs) (sym (l .same)) (omega arith) in
     HasWriting.lines r (in-order-writable fs (subst (LayoutSays fs) e s) some) m

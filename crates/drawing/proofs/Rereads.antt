@@ -16,7 +16,7 @@ use Rattle.text.specs.Digits.{digit}
 use Rattle.text.specs.Frames.{hexadecimal, lineWord, wordsOf, framesOf, textFrames}
 use Rattle.text.specs.Reading.{rightAt, WrongAt, Reads, frames}
 use Rattle.text.specs.Digits.{digitByte}
-use Rattle.drawing.specs.Texts.{digitsOnto, bytesOf, linesOf}
+use Rattle.drawing.specs.Texts.{digitsOnto, bytesOf, linesIn}
 use Rattle.drawing.proofs.Bytes.{Digits, Right, shifted}
 
 -- ---- the value of a digit's byte
@@ -130,7 +130,7 @@ words-back (All.more {x = w} {xs = ws} l h) =
     ∙ ap (λ (t : List ℕ). w ∷ t) (words-back h)
 
 -- ---- so the text reads as the lines' frames
-pub lines-back : {ws : List ℕ} → All (λ (w : ℕ). w < 16 ^ 16) ws → linesOf (bytesOf ws) ≡ ws
+pub lines-back : {ws : List ℕ} → All (λ (w : ℕ). w < 16 ^ 16) ws → linesIn (bytesOf ws) ≡ ws
 lines-back {ws} h =
     let s = bytes-right h .size in
     let e : length (bytesOf ws) / 17 ≡ length ws = omega arith in

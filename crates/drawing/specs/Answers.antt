@@ -3,7 +3,7 @@ use Rattle.basics.specs.Prelude.{List, ℕ, length, _≡_}
 use Rattle.language.specs.declared.verdict.Verdict.the-variants.{Accepted}
 use Rattle.text.specs.inner.Reading.{reading}
 use Rattle.layout.specs.{LaidOut.HasLayout, declared.LayoutVerdict.the-variants.LaidOut}
-use Rattle.drawing.specs.{Drawings.drawing, Texts.linesOf}
+use Rattle.drawing.specs.{Drawings.drawing, Texts.linesIn}
 use Rattle.drawing.specs.Writings.{Writing, asWriting, HasWriting}
 use Rattle.drawing.specs.inner.Finds.{writingRead}
 
@@ -29,7 +29,7 @@ WritingComputes = (bs out : List ℕ) → Answered bs out (writing bs out)
 -- give the same tree.'
 pub record WellWritten (bs out : List ℕ) : Type 0 where
   pub passes : HasLayout out LaidOut
-  pub tree : drawing (linesOf out) ≡ drawing (linesOf bs)
+  pub tree : drawing (linesIn out) ≡ drawing (linesIn bs)
   pub long : length out ≡ length bs
 
 abbrev pub WritesWell : Type 0

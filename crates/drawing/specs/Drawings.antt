@@ -11,8 +11,8 @@ use Rattle.language.specs.declared.kind as kind
 
 -- ---- a line as one number, from its first four digits, K and S, and its fields A, B and C; and
 -- its first four digits again
-abbrev pub wordOf : ℕ → ℕ → ℕ → ℕ → ℕ
-wordOf h a b c = h * 16 ^ 12 + a * 16 ^ 8 + b * 16 ^ 4 + c
+abbrev pub lineFrom : ℕ → ℕ → ℕ → ℕ → ℕ
+lineFrom h a b c = h * 16 ^ 12 + a * 16 ^ 8 + b * 16 ^ 4 + c
 
 abbrev pub headOf : ℕ → ℕ
 headOf w = w / 16 ^ 12 % 16 ^ 4
@@ -73,7 +73,7 @@ valueFrom n (child t) = rootFrom n t
 -- the root's line: A's tree begins at n, B's after A's, C's after B's
 abbrev pub rootLine : ℕ → ℕ → Field → Field → Field → ℕ
 rootLine n h a b c =
-    wordOf h (valueFrom n a) (valueFrom (n + sizeIn a) b) (valueFrom (n + sizeIn a + sizeIn b) c)
+    lineFrom h (valueFrom n a) (valueFrom (n + sizeIn a) b) (valueFrom (n + sizeIn a + sizeIn b) c)
 
 unfoldable mutual
   pub lined : ℕ → Drawn → List ℕ

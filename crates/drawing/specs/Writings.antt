@@ -7,7 +7,7 @@ use Rattle.language.specs.Refusals.{wrongField, wrongTree, wrongOrder, tooDeep,
 use Rattle.text.specs.Reading.{Reads, frames, refused}
 use Rattle.layout.specs.Faults.{Fault, FirstFault}
 use Rattle.drawing.specs.Drawings.{drawing, laidOut}
-use Rattle.drawing.specs.Texts.{linesOf, bytesOf}
+use Rattle.drawing.specs.Texts.{linesIn, bytesOf}
 use Rattle.drawing.specs.TreeFaults.{TreeFault, ShapeFault}
 
 -- what a call gives: its verdict, `Accepted` where the lines are written, and the lent buffer then
@@ -33,7 +33,7 @@ NoEarly fs = (n j : ℕ) → n ≤ wrongField → Fault fs n j → ⊥
 
 -- the text's lines, 'as that paper wants', as bytes
 unfoldable pub rewritten : List ℕ → List ℕ
-rewritten bs = bytesOf (laidOut (drawing (linesOf bs)))
+rewritten bs = bytesOf (laidOut (drawing (linesIn bs)))
 
 -- the frames pass: nothing of 4, 5, 21, 6 and 7
 pub record Writable (fs : List Frame) : Type 0 where

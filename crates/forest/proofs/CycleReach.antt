@@ -20,9 +20,10 @@ use Rattle.program.specs.Trees.{frameAt}
 use Rattle.drawing.specs.TreeFaults.{Below}
 use Rattle.drawing.specs.inner.Finds.{isBelow}
 use Rattle.drawing.proofs.Cycles.{only-frames, is-below, below-is, any-in}
-use Rattle.forest.specs.inner.Walks.{Walk, walk, Room, NoCycleBefore}
-use Rattle.forest.specs.inner.Walks.{entered, enteredAll}
+use Rattle.forest.specs.inner.Walks.{Walk, walk, QueueRoom, NoCycleBefore}
+use Rattle.forest.specs.inner.Walks.{entered, enteredAll, marksOf}
 use Rattle.forest.specs.inner.FrameTests.{hasChildFrom}
+use Rattle.forest.proofs.MarkBits.{no-marks}
 use Rattle.forest.proofs.CycleWalk.{room-empty, room-less, RoomIn, more-room, withNew}
 use Rattle.forest.proofs.CycleWalk.{by-entering}
 
@@ -354,10 +355,11 @@ module _ (ws : List ℕ) (i : ℕ) (few : length ws ≤ 1024) where
   pub look-start : (marks : List Bool) (lent queue : List ℕ) (filled : ℕ) (f : Frame)
       → f ≡ frameAt (framesOf ws) i
       → walk marks queue filled
-      ≡ enteredAll i (length ws) (walk (replicate 1024 false) lent 0) (children f)
+      ≡ enteredAll i (length ws) (walk (marksOf (replicate 16 0)) lent 0) (children f)
       → length lent ≡ 1024 → Looking ws i marks queue filled 0
   look-start marks lent queue filled f e h l =
-      let same = as-entered ws i i f (start lent) (walk marks queue filled) e h in
+      let none = rw no-marks at h in
+      let same = as-entered ws i i f (start lent) (walk marks queue filled) e none in
       let first = looked-start (framesOf ws) i short lent l in
       subst (λ (w : Walk). Looked (framesOf ws) i w 0) same first
 
@@ -366,7 +368,7 @@ module _ (ws : List ℕ) (i : ℕ) (few : length ws ≤ 1024) where
     abbrev held : Walk
     held = walk marks queue filled
 
-    pub look-room : Room marks filled
+    pub look-room : QueueRoom marks filled
     look-room = g .reached .room
 
     pub look-wide : length queue ≡ 1024

@@ -17,7 +17,9 @@ use Rattle.program.specs.declared.frames.Children.{Children}
 use Rattle.program.specs.declared.frames.Children.the-variants.{Nothing, One, Two, Three}
 use Rattle.program.specs.inner.Children.{listOf, childrenOf}
 use Rattle.program.proofs.FrameLaws.{children-are}
-use Rattle.forest.specs.inner.Walks.{Walk, walk, tally, Room, entered, enteredAll}
+use Rattle.forest.specs.inner.Walks.{Walk, walk, tally, QueueRoom, entered, enteredAll}
+use Rattle.forest.specs.inner.Walks.{marksOf}
+use Rattle.forest.proofs.MarkBits.{no-marks}
 
 -- ---- marks are counted
 tally-most : (bs : List Bool) → tally bs ≤ length bs
@@ -45,7 +47,7 @@ tally-set (true ∷ bs) (suc v) l e = ap suc (tally-set bs v (omega arith) e)
 tally-set (false ∷ bs) (suc v) l e = tally-set bs v (omega arith) e
 
 -- ---- room
-room-most : (marks : List Bool) (filled : ℕ) → Room marks filled → filled ≤ 1024
+room-most : (marks : List Bool) (filled : ℕ) → QueueRoom marks filled → filled ≤ 1024
 room-most marks filled r =
     let m = tally-most marks in let a = r .long in let b = r .each in omega arith
 
@@ -54,31 +56,27 @@ unfolding tally
 no-tally zero = refl
 no-tally (suc n) = no-tally n
 
-pub room-empty : Room (replicate 1024 false) 0
+pub room-empty : QueueRoom (replicate 1024 false) 0
 room-empty =
     record { long = length-replicate {A = Bool} 1024 false; each = sym (no-tally 1024) }
 
--- a place for what is not marked, as the code's index and its new count
-module _ (marks : List Bool) (filled v n : ℕ) (r : Room marks filled)
-    (m : n ≤ 1024) (l : v < n) (e : getD marks v false ≡ false) where
-  pub room-less : filled < 1024
-  room-less =
-      let a = r .long in
-      let b = r .each in
-      let z = tally-less marks v (omega arith) e in
-      omega arith
+pub room-zeros : QueueRoom (marksOf (replicate 16 0)) 0
+room-zeros = subst (λ (marks : List Bool). QueueRoom marks 0) (sym no-marks) room-empty
 
-  pub room-scales : filled * 2 < 2 ^ 64
-  room-scales = let z = room-less in omega arith
-
-  pub room-next : filled + 1 < 2 ^ 64
-  room-next = let z = room-less in omega arith
+-- a place for what is not marked
+pub room-less : (marks : List Bool) (filled v n : ℕ) → QueueRoom marks filled → n ≤ 1024 → v < n
+    → getD marks v false ≡ false → filled < 1024
+room-less marks filled v n r m l e =
+    let a = r .long in
+    let b = r .each in
+    let z = tally-less marks v (omega arith) e in
+    omega arith
 
 abbrev pub RoomIn : Walk → Type 0
-RoomIn w = Room (w .marks) (w .filled)
+RoomIn w = QueueRoom (w .marks) (w .filled)
 
-pub more-room : (marks : List Bool) (filled v n : ℕ) → Room marks filled → n ≤ 1024 → v < n
-    → getD marks v false ≡ false → Room (set marks v true) (suc filled)
+pub more-room : (marks : List Bool) (filled v n : ℕ) → QueueRoom marks filled → n ≤ 1024 → v < n
+    → getD marks v false ≡ false → QueueRoom (set marks v true) (suc filled)
 more-room marks filled v n r m l e =
     let a = r .long in
     let b = tally-set marks v (omega arith) e in
@@ -105,8 +103,8 @@ entered-room i n v w m r =
     by-entering RoomIn i n w v (λ _. r) (λ _. r) (λ _. r) new
 
 pub room-kept : (marks marks' : List Bool) (queue queue' : List ℕ) (filled filled' v i n : ℕ)
-    → walk marks' queue' filled' ≡ entered i n (walk marks queue filled) v → Room marks filled
-    → n ≤ 1024 → Room marks' filled'
+    → walk marks' queue' filled' ≡ entered i n (walk marks queue filled) v → QueueRoom marks filled
+    → n ≤ 1024 → QueueRoom marks' filled'
 room-kept marks marks' queue queue' filled filled' v i n e r m =
     subst RoomIn (sym e) (entered-room i n v (walk marks queue filled) m r)
 
@@ -119,12 +117,25 @@ all-room i n (c ∷ cs) w m r =
 
 pub all-most : (marks marks' : List Bool) (queue queue' : List ℕ) (filled filled' i n : ℕ)
     (cs : List Child)
-    → walk marks' queue' filled' ≡ enteredAll i n (walk marks queue filled) cs → Room marks filled
+    → walk marks' queue' filled' ≡ enteredAll i n (walk marks queue filled) cs → QueueRoom marks filled
     → n ≤ 1024 → filled' ≤ 1024
 all-most marks marks' queue queue' filled filled' i n cs e r m =
     room-most marks' filled' (subst RoomIn (sym e) (all-room i n cs (walk marks queue filled) m r))
 
--- ---- how the code enters a frame
+-- ---- how the code enters a frame: x is what it found of the mark
+
+-- the place, as the code's index and its new count
+module _ (marks : List Bool) (filled v n : ℕ) (x : Bool) (h : x ≡ getD marks v false)
+    (e : x ≡ false) (r : QueueRoom marks filled) (m : n ≤ 1024) (l : v < n) where
+  pub place-free : filled < 1024
+  place-free = room-less marks filled v n r m l (sym h ∙ e)
+
+  pub place-scales : filled * 2 < 2 ^ 64
+  place-scales = let z = place-free in omega arith
+
+  pub next-fits : filled + 1 < 2 ^ 64
+  next-fits = let z = place-free in omega arith
+
 module _ (marks : List Bool) (queue : List ℕ) (filled v i n : ℕ) where
   pub enter-early : v < i → walk marks queue filled ≡ entered i n (walk marks queue filled) v
   unfolding entered
@@ -134,21 +145,20 @@ module _ (marks : List Bool) (queue : List ℕ) (filled v i n : ℕ) where
   unfolding entered
   enter-past o l = no _ (le-ltb v i o) (no _ (le-ltb v n l) refl)
 
-  pub enter-met : getD marks v false ≡ true → i ≤ v → v < n
-      → walk marks queue filled ≡ entered i n (walk marks queue filled) v
-  unfolding entered
-  enter-met e o l = no _ (le-ltb v i o) (yes _ (lt-ltb v n l) (yes _ e refl))
+  module _ (x : Bool) (h : x ≡ getD marks v false) where
+    pub enter-met : x ≡ true → i ≤ v → v < n
+        → walk marks queue filled ≡ entered i n (walk marks queue filled) v
+    unfolding entered
+    enter-met e o l = no _ (le-ltb v i o) (yes _ (lt-ltb v n l) (yes _ (sym h ∙ e) refl))
 
-  pub enter-new : getD marks v false ≡ false → i ≤ v → v < n
-      → walk (set marks v true) (set queue filled v) (filled + 1)
-      ≡ entered i n (walk marks queue filled) v
-  unfolding entered
-  enter-new e o l =
-      no _ (le-ltb v i o)
-      (yes _ (lt-ltb v n l) (no _ e (ap (walk (set marks v true) (set queue filled v)) one)))
-    where
-      one : filled + 1 ≡ suc filled
-      one = omega arith
+    pub enter-new : (marks' : List Bool) → marks' ≡ set marks v true → x ≡ false → i ≤ v → v < n
+        → walk marks' (set queue filled v) (filled + 1) ≡ entered i n (walk marks queue filled) v
+    unfolding entered
+    enter-new marks' s e o l =
+        no _ (le-ltb v i o) (yes _ (lt-ltb v n l) (no _ (sym h ∙ e) (rw (s, one) refl)))
+      where
+        one : filled + 1 ≡ suc filled
+        one = omega arith
 
 pub ruleset enter-laws = (enter-early, enter-past, enter-met, enter-new)
 

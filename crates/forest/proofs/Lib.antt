@@ -7,5 +7,6 @@ pub mod FormAnswers
 pub mod UserArray
 pub mod Climbing
 pub mod ClimbDepths
+pub mod MarkBits
 pub mod CycleWalk
 pub mod CycleReach

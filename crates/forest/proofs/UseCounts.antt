@@ -213,6 +213,9 @@ frames-say (f ∷ fs) u j o l c =
 abbrev pub CountingUses : List Frame → List ℕ → ℕ → Type 0
 CountingUses fs u i = countedIn u (drop i fs) ≡ countedIn (replicate 1024 0) fs
 
+pub counting-start : (fs : List Frame) (u : List ℕ) → u ≡ replicate 1024 0 → CountingUses fs u 0
+counting-start fs u e = ap (λ (x : List ℕ). countedIn x fs) e
+
 pub counting-next : (ws u t : List ℕ) (i : ℕ) (f : Frame) → f ≡ frameAt (framesOf ws) i
     → t ≡ countedAll u (children f) → CountingUses (framesOf ws) u i → i < length ws
     → CountingUses (framesOf ws) t (i + 1)

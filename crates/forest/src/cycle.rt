@@ -5,30 +5,51 @@ use program::frames::Children;
 use program::frames::children_of;
 use program::frames::frame_at;
 ghost use mathlib.Core.Path.{_≡_};
+ghost use mathlib.Core.Bool.{true, false};
 ghost use Prim.Native.Nat.{_<_, _≤_};
-ghost use lib.ListN.{length};
+ghost use lib.ListN.{length, getD, set};
 ghost use Rattle.language.specs.Kinds.{children};
 ghost use Rattle.language.specs.Limits.{mostLines};
 ghost use Rattle.text.specs.Frames.{framesOf};
 ghost use Rattle.drawing.specs.inner.Finds.{isBelow};
-ghost use Rattle.forest.specs.inner.Walks.{walk, Room, entered, enteredAll};
-ghost use Rattle.forest.specs.inner.Walks.{NoCycleBefore};
+ghost use Rattle.forest.specs.inner.Walks.{walk, QueueRoom, entered, enteredAll};
+ghost use Rattle.forest.specs.inner.Walks.{NoCycleBefore, marksOf};
 
-// The frames met so far are marked, and stand in the first `filled` places of the queue.
+// The frames met so far are marked, and stand in the first `filled` places of the queue. A mark is
+// a bit, so that those of all frames take few bytes of the stack.
+const WORD_BITS: usize = 64;
+
+const MARK_WORDS: usize = MOST_LINES / WORD_BITS;
+
+// The length of the marks stands in the contracts because a proof is not told the length of a lent
+// array; `QueueRoom` has it too.
+fn is_marked(marks: &[u64; MARK_WORDS], j: usize) -> bool
+    requires { ⌜ (j < mostLines) × (length (marksOf (now marks)) ≡ mostLines) ⌝ }
+    ensures { λ r. ⌜ r ≡ getD (marksOf (now (marks .entry))) j false ⌝ }
+{
+    (marks[j / WORD_BITS] >> (j % WORD_BITS)) & 1 == 1
+}
+
+fn mark(marks: &mut [u64; MARK_WORDS], j: usize)
+    requires { ⌜ (j < mostLines) × (length (marksOf (now marks)) ≡ mostLines) ⌝ }
+    ensures { λ _. ⌜ marksOf (now (marks .exit)) ≡ set (marksOf (now (marks .entry))) j true ⌝ }
+{
+    marks[j / WORD_BITS] |= 1u64 << (j % WORD_BITS);
+}
 
 // Frame v of n frames is met, on a way from i. A frame enters the queue the first time only, so
-// that there is always room (`Room`); a number before i or after the last frame does not enter.
+// that there is always room (`QueueRoom`); a number before i or after the last frame does not enter.
 fn enter(
-    marks: &mut [bool; MOST_LINES],
+    marks: &mut [u64; MARK_WORDS],
     queue: &mut [u16; MOST_LINES],
     filled: usize,
     v: u16,
     i: usize,
     n: usize,
 ) -> usize
-    requires { ⌜ (n ≤ mostLines) × Room (now marks) filled ⌝ }
-    ensures { λ r. ⌜ walk (now (marks .exit)) (now (queue .exit)) r
-        ≡ entered i n (walk (now (marks .entry)) (now (queue .entry)) filled) v ⌝ }
+    requires { ⌜ (n ≤ mostLines) × QueueRoom (marksOf (now marks)) filled ⌝ }
+    ensures { λ r. ⌜ walk (marksOf (now (marks .exit))) (now (queue .exit)) r
+        ≡ entered i n (walk (marksOf (now (marks .entry))) (now (queue .entry)) filled) v ⌝ }
 {
     let j = v as usize;
     if j < i {
@@ -37,25 +58,26 @@ fn enter(
     if n <= j {
         return filled;
     }
-    if marks[j] {
+    if is_marked(marks, j) {
         return filled;
     }
-    marks[j] = true;
+    mark(marks, j);
     queue[filled] = v;
     filled + 1
 }
 
 fn enter_children(
-    marks: &mut [bool; MOST_LINES],
+    marks: &mut [u64; MARK_WORDS],
     queue: &mut [u16; MOST_LINES],
     filled: usize,
     f: Frame,
     i: usize,
     n: usize,
 ) -> usize
-    requires { ⌜ (n ≤ mostLines) × Room (now marks) filled ⌝ }
-    ensures { λ r. ⌜ walk (now (marks .exit)) (now (queue .exit)) r
-        ≡ enteredAll i n (walk (now (marks .entry)) (now (queue .entry)) filled) (children f) ⌝ }
+    requires { ⌜ (n ≤ mostLines) × QueueRoom (marksOf (now marks)) filled ⌝ }
+    ensures { λ r. ⌜ walk (marksOf (now (marks .exit))) (now (queue .exit)) r
+        ≡ enteredAll i n (walk (marksOf (now (marks .entry))) (now (queue .entry)) filled)
+        (children f) ⌝ }
 {
     match children_of(f) {
         Children::Nothing => filled,
@@ -83,7 +105,7 @@ pub(crate) fn on_cycle(words: &[u64], i: usize, queue: &mut [u16; MOST_LINES]) -
     ensures wide { λ _. ⌜ length (now (queue .exit)) ≡ mostLines ⌝ }
 {
     let n = words.len();
-    let mut marks = [false; MOST_LINES];
+    let mut marks = [0; MARK_WORDS];
     let mut filled = enter_children(&mut marks, queue, 0, frame_at(words, i), i, n);
     let mut k: usize = 0;
     while k < filled {

@@ -58,18 +58,11 @@ fn note_users(users: &mut [u16; MOST_LINES], user: u16, f: Frame)
     }
 }
 
-fn clear(users: &mut [u16; MOST_LINES])
-    ensures { λ r. ⌜ now (users .exit) ≡ replicate mostLines 0 ⌝ }
-{
-    *users = [NO_USER; MOST_LINES];
-}
-
-// The array may hold anything before.
+// In the array that is lent no user is noted yet.
 fn users_of(words: &[u64], users: &mut [u16; MOST_LINES])
-    requires { ⌜ length (now words) ≤ mostLines ⌝ }
+    requires { ⌜ (length (now words) ≤ mostLines) × (now users ≡ replicate mostLines 0) ⌝ }
     ensures { λ r. ⌜ now (users .exit) ≡ usersOf (framesOf (now (words .entry))) ⌝ }
 {
-    clear(users);
     let mut i: usize = 0;
     while i < words.len() {
         let f = frame_at(words, i);
@@ -99,15 +92,16 @@ fn is_deep(users: &[u16; MOST_LINES], j: usize) -> bool
 // The lowest frame deeper than 24. Where the frames form trees of the right shape, each has one
 // user at most, and the way from user to user ends in a module, which has none: a frame's depth is
 // how many users are above it.
-pub(crate) fn depth_fault(words: &[u64], users: &mut [u16; MOST_LINES]) -> FaultSearch
+pub(crate) fn depth_fault(words: &[u64]) -> FaultSearch
     requires { ⌜ LineWords (now words) × (treeFaultAt (framesOf (now words)) ≡ none)
         × (shapeFaultAt (framesOf (now words)) ≡ none) ⌝ }
     ensures { λ r. ⌜ r ≡ found (depthFaultAt (framesOf (now (words .entry)))) ⌝ }
 {
-    users_of(words, users);
+    let mut users = [NO_USER; MOST_LINES];
+    users_of(words, &mut users);
     let mut i = 0;
     while i < words.len() {
-        if is_deep(users, i) {
+        if is_deep(&users, i) {
             return FaultSearch::At(i as u16);
         }
         i += 1;

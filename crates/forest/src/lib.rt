@@ -2,11 +2,9 @@
 use crate::depth::depth_fault;
 use crate::shape::shape_fault;
 use crate::tree::tree_fault;
-use crate::uses::count_uses;
 use fields::fault_search::FaultSearch;
 use fields::field::fields;
 use fields::field::header;
-use language::limit::MOST_LINES;
 use language::refusal::TOO_DEEP;
 use language::refusal::WRONG_FIELD;
 use language::refusal::WRONG_HEADER;
@@ -25,19 +23,17 @@ mod tree;
 mod uses;
 
 // 21, 6 and 7. A pass may rely on those before it: the depths on there being trees of the right
-// shape.
+// shape. Each makes its own arrays, and none outlives its pass, so that they can share their place
+// on the stack.
 fn form_of(words: &[u64]) -> Verdict
     requires { ⌜ LineWords (now words) ⌝ }
     ensures { λ r. ⌜ r ≡ formVerdict (framesOf (now (words .entry))) ⌝ }
 {
-    let counts = count_uses(words);
-    // One array for two passes, first the queue, then the users, so that the stack stays small.
-    let mut list = [0u16; MOST_LINES];
-    match tree_fault(words, &counts, &mut list) {
+    match tree_fault(words) {
         FaultSearch::At(j) => Verdict::Rejected(WRONG_TREE, j),
-        FaultSearch::Nowhere => match shape_fault(words, &counts) {
+        FaultSearch::Nowhere => match shape_fault(words) {
             FaultSearch::At(j) => Verdict::Rejected(WRONG_ORDER, j),
-            FaultSearch::Nowhere => match depth_fault(words, &mut list) {
+            FaultSearch::Nowhere => match depth_fault(words) {
                 FaultSearch::At(j) => Verdict::Rejected(TOO_DEEP, j),
                 FaultSearch::Nowhere => Verdict::Accepted,
             },

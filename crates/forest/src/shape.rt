@@ -1,4 +1,5 @@
 // The writer's refusal 6: the shape of the trees, whatever the order of frames.
+use crate::uses::count_uses;
 use fields::fault_search::FaultSearch;
 use fields::fault_search::lower;
 use language::frame::Frame;
@@ -23,7 +24,6 @@ ghost use Rattle.layout.specs.Order.{hasClass};
 ghost use Rattle.layout.specs.inner.Scans.{LineWords};
 ghost use Rattle.drawing.specs.inner.Finds.{wrongClass, shapeFaultAt};
 ghost use Rattle.forest.specs.inner.FrameTests.{hasWrongChild, hasClassFault, isMainFault};
-ghost use Rattle.forest.specs.inner.Uses.{CountsUses};
 
 // The class of frame v. Where there is no such frame it is neither, so that no child's class fits.
 fn class_at(words: &[u64], v: u16) -> Class
@@ -83,12 +83,14 @@ fn has_class_fault(words: &[u64], f: Frame, count: u8) -> bool
 }
 
 // The lowest frame with a child of a wrong class or left over.
-fn class_fault(words: &[u64], counts: &[u8; MOST_LINES]) -> FaultSearch
-    requires { ⌜ LineWords (now words) × CountsUses (framesOf (now words)) (now counts) ⌝ }
+fn class_fault(words: &[u64]) -> FaultSearch
+    requires { ⌜ LineWords (now words) ⌝ }
     ensures { λ r. ⌜ r
         ≡ found (lowest (hasClassFault (framesOf (now (words .entry)))) 0
         (framesOf (now (words .entry)))) ⌝ }
 {
+    let mut counts = [0u8; MOST_LINES];
+    count_uses(words, &mut counts);
     let mut i = 0;
     while i < words.len() {
         if has_class_fault(words, frame_at(words, i), counts[i]) {
@@ -123,11 +125,11 @@ fn main_fault(words: &[u64]) -> FaultSearch
 }
 
 // The lowest frame with a child of a wrong class, left over, or in the way of `main`.
-pub(crate) fn shape_fault(words: &[u64], counts: &[u8; MOST_LINES]) -> FaultSearch
-    requires { ⌜ LineWords (now words) × CountsUses (framesOf (now words)) (now counts) ⌝ }
+pub(crate) fn shape_fault(words: &[u64]) -> FaultSearch
+    requires { ⌜ LineWords (now words) ⌝ }
     ensures { λ r. ⌜ r ≡ found (shapeFaultAt (framesOf (now (words .entry)))) ⌝ }
 {
-    let a = class_fault(words, counts);
+    let a = class_fault(words);
     let b = main_fault(words);
     lower(a, b)
 }

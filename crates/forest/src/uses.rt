@@ -5,7 +5,9 @@ use program::frames::Children;
 use program::frames::children_of;
 use program::frames::frame_at;
 ghost use mathlib.Core.Path.{_≡_};
+ghost use lib.ListN.{replicate};
 ghost use Rattle.language.specs.Kinds.{children};
+ghost use Rattle.language.specs.Limits.{mostLines};
 ghost use Rattle.text.specs.Frames.{framesOf};
 ghost use Rattle.layout.specs.inner.Scans.{LineWords};
 ghost use Rattle.forest.specs.inner.Uses.{counted, countedAll, CountsUses};
@@ -52,16 +54,15 @@ fn count_frame(counts: &mut [u8; MOST_LINES], f: Frame)
     }
 }
 
-// For each frame how often it is used, 2 standing for more.
-pub(crate) fn count_uses(words: &[u64]) -> [u8; MOST_LINES]
-    requires { ⌜ LineWords (now words) ⌝ }
-    ensures { λ r. ⌜ CountsUses (framesOf (now (words .entry))) r ⌝ }
+// For each frame how often it is used, 2 standing for more. The caller lends the zeros, so that the
+// array is made in one place only.
+pub(crate) fn count_uses(words: &[u64], counts: &mut [u8; MOST_LINES])
+    requires { ⌜ LineWords (now words) × (now counts ≡ replicate mostLines 0) ⌝ }
+    ensures { λ r. ⌜ CountsUses (framesOf (now (words .entry))) (now (counts .exit)) ⌝ }
 {
-    let mut counts = [0u8; MOST_LINES];
     let mut i: usize = 0;
     while i < words.len() {
-        count_frame(&mut counts, frame_at(words, i));
+        count_frame(counts, frame_at(words, i));
         i += 1;
     }
-    counts
 }

@@ -6,7 +6,7 @@ use Rattle.language.specs.{declared.verdict.Verdict.Verdict}
 use Rattle.language.specs.{declared.verdict.Verdict.the-variants.Accepted}
 use Rattle.language.specs.{declared.verdict.Verdict.the-variants.Rejected, Limits.mostChoiceBytes}
 use Rattle.language.specs.{Refusals.longText, Refusals.malformedText, Refusals.tooDeep}
-use Rattle.text.specs.Digits.{digit, digitByte}
+use Rattle.text.specs.Digits.{digit, digitByte, lineFeed}
 use Rattle.program.specs.Programs.{Program, programOf}
 use Rattle.machine.specs.{State.usedCells, Turns.StepResult, Runs.steps}
 
@@ -20,9 +20,6 @@ fourDigits n = twoDigits (n / 256) ++ twoDigits n
 
 abbrev space : ℕ
 space = 32
-
-abbrev lineFeed : ℕ
-lineFeed = 10
 
 -- ---- the check's line
 

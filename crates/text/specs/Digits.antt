@@ -21,3 +21,7 @@ digitTable = digitsFrom 0 256
 -- and back: the byte of a digit of value n, 0 to 15
 unfoldable pub digitByte : ℕ → ℕ
 digitByte n = if ltb n 10 then 48 + n else 55 + n
+
+-- 'then a line feed (byte 10)'
+abbrev pub lineFeed : ℕ
+lineFeed = 10

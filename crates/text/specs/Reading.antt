@@ -4,11 +4,11 @@ use Rattle.basics.specs.Prelude.{List, [], Bool, false, ℕ, _/_, _%_, _≤_, _
 use Rattle.basics.specs.Prelude.{getD, _≡_, _⊎_, if_then_else_}
 use Rattle.language.specs.{declared.frame.Frame.Frame, Limits.lineLength, Limits.mostBytes}
 use Rattle.language.specs.{Refusals.emptyText, Refusals.longText, Refusals.malformedText}
-use Rattle.text.specs.{Digits.digit, Frames.textFrames}
+use Rattle.text.specs.{Digits.digit, Digits.lineFeed, Frames.textFrames}
 
 -- byte b is right at the position p of a text
 unfoldable pub rightAt : ℕ → ℕ → Bool
-rightAt p b = if eqb (p % lineLength) 16 then eqb b 10 else ltb (digit b) 16
+rightAt p b = if eqb (p % lineLength) 16 then eqb b lineFeed else ltb (digit b) 16
 
 -- at the position p there is a wrong byte, or the text ends where a byte is missing
 abbrev pub WrongAt : List ℕ → ℕ → Type 0

@@ -19,7 +19,7 @@ use Rattle.text.proofs.Readings.{reads}
 use Rattle.text.proofs.ReadLaws.{length-frames, length-words, read-field}
 use Rattle.layout.proofs.Answers.{Whole, whole, lines-taken}
 use Rattle.drawing.specs.Drawings.{drawing, laidOut}
-use Rattle.drawing.specs.Texts.{bytesOf, linesOf}
+use Rattle.drawing.specs.Texts.{bytesOf, linesIn}
 use Rattle.drawing.specs.Writings.{Writing, asWriting, Writable, rewritten}
 use Rattle.drawing.specs.Answers.{writing, Answered}
 use Rattle.drawing.specs.inner.Finds.{drawingVerdict, writingAfter, writingOf, writingRead}
@@ -71,17 +71,17 @@ module _ (bs out : List ℕ) (t : TextRead) (ws : List ℕ) (h : readAs t ws ≡
     w : Whole bs n
     w = whole bs n (sym (read-field bs (readAs t ws) h) ∙ e)
 
-    lines-are : take n ws ≡ linesOf bs
+    lines-are : take n ws ≡ linesIn bs
     lines-are =
         lines-taken bs t ws h n e ∙ ap (λ (k : ℕ). wordsOf k bs) (sym (w .count) ∙ length-frames bs)
 
-    size : 17 * length (linesOf bs) ≡ length bs
+    size : 17 * length (linesIn bs) ≡ length bs
     size =
         let r = lines-of (subst (Reads bs) (w .is) (reads bs)) .right .size in
         let l = length-words (length bs / 17) bs in
         omega arith
 
-    same-after : (v : Verdict) → arrangedAfter (linesOf bs) out v ≡ writingAfter bs out v
+    same-after : (v : Verdict) → arrangedAfter (linesIn bs) out v ≡ writingAfter bs out v
     unfolding rewritten
     same-after Accepted =
         ap
@@ -91,10 +91,10 @@ module _ (bs out : List ℕ) (t : TextRead) (ws : List ℕ) (h : readAs t ws ≡
         size
     same-after (Rejected m j) = refl
 
-    same : arranged (linesOf bs) out ≡ writing bs out
+    same : arranged (linesIn bs) out ≡ writing bs out
     unfolding arranged writing writingOf textFrames
     same =
-        same-after (drawingVerdict (framesOf (linesOf bs)))
+        same-after (drawingVerdict (framesOf (linesIn bs)))
         ∙ ap (writingRead bs out) (sym (w .is))
 
     pub whole-text : (v : Verdict) (new : List ℕ) → asWriting v new ≡ arranged (take n ws) out

@@ -9,7 +9,7 @@ use Rattle.text.specs.Digits.{digitByte}
 use Rattle.drawing.specs.Texts.{digitsOnto, bytesOf}
 use Rattle.drawing.proofs.Rereads.{bytes-cons}
 use Rattle.drawing.proofs.Promises.{bytes-length}
-use Rattle.writer.specs.inner.Placing.{withLines, Room}
+use Rattle.writer.specs.inner.Placing.{withLines, LineRoom}
 
 -- ---- its digits: k are still to be written, those of `rest`, before what is there
 pub record Written (old : List ℕ) (at w : ℕ) (new : List ℕ) (rest k : ℕ) : Type 0 where
@@ -92,7 +92,7 @@ written-all out n w new rest h room =
     (append-assoc (take at out) D (10 ∷ []) ∙ ap (λ (t : List ℕ). take at out ++ t) line)
 
 -- as the code goes
-module _ (out : List ℕ) (n w : ℕ) (room : Room out n 1) (new : List ℕ) (rest k : ℕ)
+module _ (out : List ℕ) (n w : ℕ) (room : LineRoom out n 1) (new : List ℕ) (rest k : ℕ)
     (h : Written out (17 * n) w new rest k) where
   pub written-next : (v : ℕ) → v ≡ digitByte (rest % 16) → 0 < k
       → Written out (17 * n) w (set new (17 * n + (k - 1)) v) (rest / 16) (k - 1)

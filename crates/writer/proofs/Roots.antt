@@ -24,7 +24,7 @@ use Rattle.drawing.proofs.Shapes.{all-lined}
 use Rattle.drawing.proofs.Writables.{map-append}
 use Rattle.drawing.proofs.Mains.{all-append}
 use Rattle.drawing.proofs.Counted.{roots-within, nothing-lost}
-use Rattle.writer.specs.inner.Placing.{withLines, Room, HasTree, linesAt, rootAt}
+use Rattle.writer.specs.inner.Placing.{withLines, LineRoom, HasTree, linesAt, rootAt}
 use Rattle.writer.proofs.Buffers.{lines-none, lines-length, lines-more, lines-next}
 use Rattle.writer.proofs.Buffers.{lines-all}
 
@@ -85,8 +85,8 @@ module _ (ws : List ℕ) where
               within = roots-within ws s i (omega arith) (omega arith);
             }
 
-        pub root-room : Room out n (length root) → Room out n (size (drawn levels ws i))
-        root-room h = subst (Room out n) root-size h
+        pub root-room : LineRoom out n (length root) → LineRoom out n (size (drawn levels ws i))
+        root-room h = subst (LineRoom out n) root-size h
 
         pub root-written : (new : List ℕ) → new ≡ withLines out n (lined n (drawn levels ws i))
             → new ≡ withLines out n root
@@ -116,11 +116,11 @@ module _ (ws : List ℕ) where
   pub record Laying (r n₀ : ℕ) (out₀ : List ℕ) (n : ℕ) (out : List ℕ) (i : ℕ) : Type 0 where
     pub same : withLines out n (rest r n i) ≡ withLines out₀ n₀ (rest r n₀ 0)
     pub total : n + length (rest r n i) ≡ n₀ + length (rest r n₀ 0)
-    pub room : Room out n (length (rest r n i))
+    pub room : LineRoom out n (length (rest r n i))
     pub long : length out ≡ length out₀
 
   pub laying-start : (r n : ℕ) (out : List ℕ)
-      → Room out n (length (linesAt ws n (numbered r 0 (framesOf ws)))) → Laying r n out n out 0
+      → LineRoom out n (length (linesAt ws n (numbered r 0 (framesOf ws)))) → Laying r n out n out 0
   laying-start r n out h = record { same = refl; total = refl; room = h; long = refl }
 
   module _ (r n₀ : ℕ) (out₀ : List ℕ) (n : ℕ) (out : List ℕ) (i : ℕ)
@@ -136,7 +136,7 @@ module _ (ws : List ℕ) where
         (drop-cons Fs i noFrame (omega arith))
         ∙ more-lines n (rootAt r i (frameAt Fs i)) (numbered r (suc i) (drop (suc i) Fs))
 
-    pub laying-room : i < length ws → Room out n (length here)
+    pub laying-room : i < length ws → LineRoom out n (length here)
     laying-room l =
         let s = ap length (split l) in
         let a = length-append here (rest r (n + length here) (suc i)) in
@@ -257,7 +257,7 @@ module _ (ws : List ℕ) where
           let x = h .next in
           omega arith
 
-      pub laid-room : r < ranks → Room out n (length these)
+      pub laid-room : r < ranks → LineRoom out n (length these)
       laid-room l =
           let c = these-count l in
           let x = h .long in

@@ -14,7 +14,7 @@ use Rattle.language.specs.declared.kind.Uses.{Uses}
 use Rattle.text.specs.Frames.{frameOfWord, framesOf}
 use Rattle.text.proofs.FrameWords.{frame-at}
 use Rattle.program.specs.Trees.{noFrame, frameAt}
-use Rattle.drawing.specs.Drawings.{wordOf, headOf, Drawn, Field, node, kept, child, size, sizeIn}
+use Rattle.drawing.specs.Drawings.{lineFrom, headOf, Drawn, Field, node, kept, child, size, sizeIn}
 use Rattle.drawing.specs.Drawings.{nodeWith, drawn, rootFrom, valueFrom, rootLine, lined, linedIn}
 use Rattle.drawing.specs.inner.Heights.{Within, within}
 use Rattle.drawing.proofs.Back.{linedIn-length, root-inside, node-same}
@@ -24,7 +24,7 @@ use Rattle.writer.specs.declared.child.Holds.{Holds}
 use Rattle.writer.specs.declared.child.ChildFields.{ChildFields}
 use Rattle.writer.specs.declared.emit.Placed.{Placed}
 use Rattle.writer.specs.inner.Fields.{holdsOf, childFields, namesChild, fieldBy, placedFrom}
-use Rattle.writer.specs.inner.Placing.{withLines, Room, HasTree, FieldHasTree}
+use Rattle.writer.specs.inner.Placing.{withLines, LineRoom, HasTree, FieldHasTree}
 use Rattle.writer.proofs.FieldLaws.{field-by, Named, named}
 use Rattle.writer.proofs.Buffers.{lines-none, lines-length, lines-next}
 
@@ -48,13 +48,13 @@ module _ (ws : List ℕ) (d : ℕ) (h : Holds) (v : ℕ) where
     pub child-tree : FieldHasTree ws d h v → HasTree ws d v
     child-tree t = t .tree (sym ex ∙ e)
 
-    pub child-room : (n : ℕ) (out : List ℕ) → Room out n (sizeIn X)
-        → Room out n (size (drawn d ws v))
+    pub child-room : (n : ℕ) (out : List ℕ) → LineRoom out n (sizeIn X)
+        → LineRoom out n (size (drawn d ws v))
     unfolding sizeIn
-    child-room n out r = subst (λ (f : Field). Room out n (sizeIn f)) is-child r
+    child-room n out r = subst (λ (f : Field). LineRoom out n (sizeIn f)) is-child r
 
     pub child-next : (n : ℕ) (out : List ℕ) (r : ℕ) → r ≡ n + size (drawn d ws v)
-        → Room out n (sizeIn X) → (1 ≤ r) × (r - 1 < 2 ^ 16)
+        → LineRoom out n (sizeIn X) → (1 ≤ r) × (r - 1 < 2 ^ 16)
     child-next n out r er room =
         let q = root-inside n (drawn d ws v) in
         let k = child-room n out room .few in
@@ -118,7 +118,7 @@ node-by draw k f =
     (field-by draw (uses (f .kind) .c) (f .c))
 
 module _ (ws : List ℕ) (l i n : ℕ) (out : List ℕ) (t : HasTree ws l i)
-    (room : Room out n (size (drawn l ws i))) (f : Frame) (ef : f ≡ frameOfWord (getD ws i 0))
+    (room : LineRoom out n (size (drawn l ws i))) (f : Frame) (ef : f ≡ frameOfWord (getD ws i 0))
     (h : ChildFields) (eh : h ≡ childFields (uses (f .kind))) where
   abbrev A : Field
   A = fieldBy (drawn (l - 1) ws) (h .a) (f .a)
@@ -189,7 +189,7 @@ module _ (ws : List ℕ) (l i n : ℕ) (out : List ℕ) (t : HasTree ws l i)
       field-tree (h .c) (U .c) (f .c) (ap (λ (x : ChildFields). x .c) eh)
       (λ c m. in-right (childIn (U .a) (f .a) ++ childIn (U .b) (f .b)) m)
 
-  pub a-room : Room out n (sizeIn A)
+  pub a-room : LineRoom out n (sizeIn A)
   a-room =
       let s = tree-size in
       let p = room .fits in
@@ -211,7 +211,7 @@ module _ (ws : List ℕ) (l i n : ℕ) (out : List ℕ) (t : HasTree ws l i)
         let x = linedIn-length n A in
         ap length w1 ∙ lines-length out n (linedIn n A) (omega arith)
 
-    pub b-room : Room o1 (a .next) (sizeIn B)
+    pub b-room : LineRoom o1 (a .next) (sizeIn B)
     b-room =
         let s = tree-size in
         let p = room .fits in
@@ -249,7 +249,7 @@ module _ (ws : List ℕ) (l i n : ℕ) (out : List ℕ) (t : HasTree ws l i)
           let x = long-AB in
           ap length two ∙ lines-length out n AB (omega arith)
 
-      pub c-room : Room o2 (b .next) (sizeIn C)
+      pub c-room : LineRoom o2 (b .next) (sizeIn C)
       c-room =
           let s = tree-size in
           let p = room .fits in
@@ -280,7 +280,7 @@ module _ (ws : List ℕ) (l i n : ℕ) (out : List ℕ) (t : HasTree ws l i)
             lines-next out o2 o3 n (b .next) AB LC two
             (w3 ∙ ap (λ (k : ℕ). withLines o2 (b .next) (linedIn k C)) y) (omega arith) start
 
-        pub line-room : Room o3 (c .next) 1
+        pub line-room : LineRoom o3 (c .next) 1
         line-room =
             let s = tree-size in
             let p = room .fits in
@@ -299,7 +299,7 @@ module _ (ws : List ℕ) (l i n : ℕ) (out : List ℕ) (t : HasTree ws l i)
 
         -- the line itself
         pub tree-written : (w line : ℕ) (new : List ℕ) → w ≡ getD ws i 0
-            → line ≡ wordOf (headOf w) (a .value) (b .value) (c .value)
+            → line ≡ lineFrom (headOf w) (a .value) (b .value) (c .value)
             → new ≡ withLines o3 (c .next) (line ∷ [])
             → new ≡ withLines out n (lined n (drawn l ws i))
         unfolding lined
@@ -313,10 +313,10 @@ module _ (ws : List ℕ) (l i n : ℕ) (out : List ℕ) (t : HasTree ws l i)
             let vc : c .value ≡ valueFrom (n + sizeIn A + sizeIn B) C =
             ap (λ (x : Placed). x .value) ec ∙ ap (λ (k : ℕ). valueFrom k C) at-c in
             let is : line ≡ root =
-            el ∙ ap (λ (k : ℕ). wordOf (headOf k) (a .value) (b .value) (c .value)) ew
-            ∙ ap₂ (λ (j k : ℕ). wordOf (headOf (getD ws i 0)) j k (c .value)) va vb
+            el ∙ ap (λ (k : ℕ). lineFrom (headOf k) (a .value) (b .value) (c .value)) ew
+            ∙ ap₂ (λ (j k : ℕ). lineFrom (headOf (getD ws i 0)) j k (c .value)) va vb
             ∙ ap (λ (k : ℕ).
-            wordOf (headOf (getD ws i 0)) (valueFrom n A) (valueFrom (n + sizeIn A) B) k) vc in
+            lineFrom (headOf (getD ws i 0)) (valueFrom n A) (valueFrom (n + sizeIn A) B) k) vc in
             lines-next out o3 new n (c .next) (AB ++ LC) (line ∷ []) three e (omega arith) start
             ∙ ap (λ (x : ℕ). withLines out n ((AB ++ LC) ++ (x ∷ []))) is
             ∙ ap (withLines out n)

@@ -9,7 +9,7 @@ ghost use mathlib.Core.Path.{_≡_};
 ghost use Prim.Native.Nat.{_+_};
 ghost use Rattle.drawing.specs.Drawings.{size, sizeIn, drawn, lined, linedIn};
 ghost use Rattle.writer.specs.inner.Fields.{fieldBy, placedFrom};
-ghost use Rattle.writer.specs.inner.Placing.{withLines, Room, HasTree, FieldHasTree};
+ghost use Rattle.writer.specs.inner.Placing.{withLines, LineRoom, HasTree, FieldHasTree};
 
 // Of a field whose child has been written: what the new line holds in it, and the next line's
 // number.
@@ -22,7 +22,7 @@ pub(crate) struct Placed {
 // line's number.
 pub(crate) fn emit(words: &[u64], i: usize, n: usize, levels: u8, out: &mut [u8]) -> usize
     requires { ⌜ HasTree (now words) levels i
-        × Room (now out) n (size (drawn levels (now words) i)) ⌝ }
+        × LineRoom (now out) n (size (drawn levels (now words) i)) ⌝ }
     ensures written { λ _. ⌜ now (out .exit)
         ≡ withLines (now (out .entry)) n (lined n (drawn levels (now (words .entry)) i)) ⌝ }
     ensures next { λ r. ⌜ r ≡ n + size (drawn levels (now (words .entry)) i) ⌝ }
@@ -45,7 +45,7 @@ pub(crate) fn emit(words: &[u64], i: usize, n: usize, levels: u8, out: &mut [u8]
 // The same for the child that a field names, if it names one. A child is the last line of its tree.
 fn emit_field(words: &[u64], holds: Holds, v: u16, n: usize, levels: u8, out: &mut [u8]) -> Placed
     requires { ⌜ FieldHasTree (now words) levels holds v
-        × Room (now out) n (sizeIn (fieldBy (drawn levels (now words)) holds v)) ⌝ }
+        × LineRoom (now out) n (sizeIn (fieldBy (drawn levels (now words)) holds v)) ⌝ }
     ensures written { λ _. ⌜ now (out .exit)
         ≡ withLines (now (out .entry)) n
         (linedIn n (fieldBy (drawn levels (now (words .entry))) holds v)) ⌝ }

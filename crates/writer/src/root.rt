@@ -13,7 +13,7 @@ ghost use Rattle.program.specs.Trees.{frameAt};
 ghost use Rattle.drawing.specs.Drawings.{rank, ranks, numbered, drawing, laidOut};
 ghost use Rattle.drawing.specs.Texts.{bytesOf};
 ghost use Rattle.drawing.specs.Writings.{Writable};
-ghost use Rattle.writer.specs.inner.Placing.{withLines, Room, linesAt, rootAt};
+ghost use Rattle.writer.specs.inner.Placing.{withLines, LineRoom, linesAt, rootAt};
 
 const HEADER_RANK: u8 = 0;
 
@@ -46,7 +46,7 @@ fn rank_of(kind: Kind) -> u8
 // number.
 fn lay_root(words: &[u64], i: usize, rank: u8, n: usize, out: &mut [u8]) -> usize
     requires { ⌜ Writable (framesOf (now words)) × (i < length (now words)) × (rank < ranks)
-        × Room (now out) n
+        × LineRoom (now out) n
         (length (linesAt (now words) n (rootAt rank i (frameAt (framesOf (now words)) i)))) ⌝ }
     ensures written { λ _. ⌜ now (out .exit)
         ≡ withLines (now (out .entry)) n (linesAt (now (words .entry)) n
@@ -66,7 +66,7 @@ fn lay_root(words: &[u64], i: usize, rank: u8, n: usize, out: &mut [u8]) -> usiz
 // The same for all lines of the rank, in their order.
 fn lay_rank(words: &[u64], rank: u8, n: usize, out: &mut [u8]) -> usize
     requires { ⌜ Writable (framesOf (now words)) × (rank < ranks)
-        × Room (now out) n
+        × LineRoom (now out) n
         (length (linesAt (now words) n (numbered rank 0 (framesOf (now words))))) ⌝ }
     ensures written { λ _. ⌜ now (out .exit)
         ≡ withLines (now (out .entry)) n

@@ -204,7 +204,7 @@ impl<'f> Walk<'f> {
     }
 
     /// All below `f` is known: its user leads back as far as it does. If it
-    /// leads back to none before it, it and what is open behind it lead to
+    /// leads back to none before it, it and what is open after it lead to
     /// each other.
     fn finish(&mut self, f: usize) {
         self.finished.push(f as u16);

@@ -189,7 +189,7 @@ fn first_of_subtree(frames: &[Frame], first: &[usize], f: usize) -> Option<usize
     Some(start)
 }
 
-/// A shared cell behind another kind.
+/// A shared cell after another kind.
 fn is_misplaced(frames: &[Frame], f: usize) -> bool {
     frames[f].kind == kind::SHARED_CELL && frames[f - 1].kind > kind::SHARED_CELL
 }
@@ -202,7 +202,7 @@ fn is_main(frame: &Frame) -> bool {
     frame.kind == kind::MODULE && frame.s == 0
 }
 
-/// Refusal 7. Parents stand behind their children, so depths are known from
+/// Refusal 7. Parents stand after their children, so depths are known from
 /// the end on; the last one found is the lowest.
 fn first_too_deep(frames: &[Frame]) -> Option<usize> {
     let mut depths = vec![0; frames.len()];

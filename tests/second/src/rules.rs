@@ -138,7 +138,7 @@ impl<'p, S: Strictness> Checker<'p, S> {
         }
     }
 
-    /// Keeps the facts of `f` and opens or closes scopes behind it: a let's
+    /// Keeps the facts of `f` and opens or closes scopes after it: a let's
     /// variable is in scope from its value's end to the let itself.
     fn enter(&mut self, f: usize, facts: Facts) {
         self.facts[f] = facts;

@@ -18,13 +18,13 @@ fn lines(frames: &[&str]) -> Vec<u8> {
     (frames.join("\n") + "\n").into_bytes()
 }
 
-/// What the program prints on these frames behind a header.
+/// What the program prints on these frames after a header.
 fn printed(frames: &[&str]) -> String {
     let frames = [&["0001000000020000"], frames].concat();
     String::from_utf8(listing::arrange(&lines(&frames))).unwrap()
 }
 
-/// The same, where these frames are expected behind the header.
+/// The same, where these frames are expected after the header.
 fn becomes(frames: &[&str], expected: &[&str]) {
     let expected = [&["0001000000020000"], expected].concat();
     assert_eq!(printed(frames).as_bytes(), lines(&expected));
@@ -326,7 +326,7 @@ fn first_misfit(frames: &[Frame]) -> Option<usize> {
     })
 }
 
-/// Appends the frame behind its children; notes each frame's depth.
+/// Appends the frame after its children; notes each frame's depth.
 fn tree(frames: &[Frame], f: usize, depth: usize, order: &mut Vec<(usize, usize)>) {
     for child in children(&frames[f]) {
         tree(frames, child, depth + 1, order);

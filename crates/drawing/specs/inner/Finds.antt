@@ -64,16 +64,16 @@ shapeFaultAt fs = lowest (isShapeFault fs) 0 fs
 -- ---- 7
 -- in the tree at frame i, which stands at the depth d, frame j stands deeper than 24; n bounds the
 -- steps down
-unfoldable pub deepTo : ℕ → List Frame → ℕ → ℕ → ℕ → Bool
-deepTo zero fs j d i = false
-deepTo (suc n) fs j d i =
+unfoldable pub deeperTo : ℕ → List Frame → ℕ → ℕ → ℕ → Bool
+deeperTo zero fs j d i = false
+deeperTo (suc n) fs j d i =
     (ltb mostDepth d && eqb i j)
-    || any (λ (c : Child). deepTo n fs j (suc d) (c .at)) (children (frameAt fs i))
+    || any (λ (c : Child). deeperTo n fs j (suc d) (c .at)) (children (frameAt fs i))
 
 -- in the body of a module; without a circle no path of children is longer than there are frames
 unfoldable pub isDeep : List Frame → ℕ → Frame → Bool
 isDeep fs j f =
-    any (λ (g : Frame). isModule (g .kind) && deepTo (suc (length fs)) fs j 1 (g .a)) fs
+    any (λ (g : Frame). isModule (g .kind) && deeperTo (suc (length fs)) fs j 1 (g .a)) fs
 
 unfoldable pub depthFaultAt : List Frame → Option ℕ
 depthFaultAt fs = lowest (isDeep fs) 0 fs

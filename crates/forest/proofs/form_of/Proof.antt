@@ -5,9 +5,6 @@ use Rattle.forest.proofs.FormAnswers.{form-laws}
 use Rattle.forest.proofs.form_of.Statement.{statement}
 use Rattle.forest.proofs.form_of.Tie as tie
 
-count-uses-requires : tie.Need-count-uses-requires
-count-uses-requires c κs = search needs
-
 tree-fault-requires : tie.Need-tree-fault-requires
 tree-fault-requires c κs = search needs
 
@@ -51,7 +48,6 @@ pub form-of-spec : {M : Type 1} → statement M
 form-of-spec =
     tie.close
     (tie.spec
-    count-uses-requires
     tree-fault-requires
     enum-known-j
     enum-told

@@ -6,19 +6,16 @@ use lib.Dec.{leb, ltb, eqb}
 use lib.ListN.{length, getD, take, drop}
 use Rattle.basics.specs.If.{if_then_else_}
 use Rattle.language.specs.Limits.{lineLength, mostLines}
-use Rattle.text.specs.Digits.{digit}
+use Rattle.text.specs.Digits.{digit, lineFeed}
 use Rattle.text.specs.Frames.{lineWord, frameOfWord}
 use Rattle.text.specs.declared.line.Line.{Line}
 use Rattle.text.specs.declared.line.Line.the-variants.{Word, Malformed}
 use Rattle.text.specs.declared.line.FrameRead.{FrameRead}
 use Rattle.text.specs.declared.line.FrameRead.the-variants.{Read, NoFrame}
 
--- a line has so many digits, and then this byte
+-- a line has so many digits, and then a line feed
 abbrev pub lineDigits : ℕ
 lineDigits = 16
-
-abbrev pub lineFeed : ℕ
-lineFeed = 10
 
 -- whether every byte is a digit
 unfoldable pub allDigits : List ℕ → Bool

@@ -29,7 +29,7 @@ unfoldable pub withLines : List ℕ → ℕ → List ℕ → List ℕ
 withLines out n ws = paste out (lineLength * n) (bytesOf ws) (lineLength * length ws)
 
 -- it has room for k lines from line n on, and with them there are no more than a file may have
-pub record Room (out : List ℕ) (n k : ℕ) : Type 0 where
+pub record LineRoom (out : List ℕ) (n k : ℕ) : Type 0 where
   pub fits : lineLength * (n + k) ≤ length out
   pub few : n + k ≤ mostLines
 

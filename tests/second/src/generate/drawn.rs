@@ -311,7 +311,7 @@ fn insert(frames: &mut Vec<Frame>, at: usize, frame: Frame) {
     frames.insert(at, frame);
 }
 
-/// The numbers behind `at` go down by one; its users get what follows it.
+/// The numbers after `at` go down by one; its users get what follows it.
 fn remove(frames: &mut Vec<Frame>, at: usize) {
     if at > 0 {
         frames.remove(at);

@@ -1,6 +1,6 @@
 -- `enter` meets its contract. Assumes nothing.
 use borrow.Author.Needs.{needs}
-use Rattle.forest.proofs.CycleWalk.{room-less, room-scales, room-next, enter-laws}
+use Rattle.forest.proofs.CycleWalk.{place-free, place-scales, next-fits, enter-laws}
 use Rattle.forest.proofs.cycle.enter.Statement.{statement}
 use Rattle.forest.proofs.cycle.enter.Tie as tie
 
@@ -10,23 +10,23 @@ returns c = search enter-laws
 returns-2 : tie.Need-returns-2
 returns-2 c = search enter-laws
 
-element-copy-out-if3 : tie.Need-element-copy-out-if3
-element-copy-out-if3 c = search needs
+is-marked-requires : tie.Need-is-marked-requires
+is-marked-requires c κs = search needs
 
 returns-3 : tie.Need-returns-3
 returns-3 c = search enter-laws
 
-element-write-marks : tie.Need-element-write-marks
-element-write-marks c = search needs
+mark-requires : tie.Need-mark-requires
+mark-requires c κs = search needs
 
 mul-queue : tie.Need-mul-queue
-mul-queue c = record { fits = search room-scales }
+mul-queue c = record { fits = search place-scales }
 
 element-write-queue : tie.Need-element-write-queue
-element-write-queue c = search room-less
+element-write-queue c = search place-free
 
 add-result : tie.Need-add-result
-add-result c = record { fits = search room-next }
+add-result c = record { fits = search next-fits }
 
 returns-4 : tie.Need-returns-4
 returns-4 c = search enter-laws
@@ -37,9 +37,9 @@ enter-spec =
     (tie.spec
     returns
     returns-2
-    element-copy-out-if3
+    is-marked-requires
     returns-3
-    element-write-marks
+    mark-requires
     mul-queue
     element-write-queue
     add-result

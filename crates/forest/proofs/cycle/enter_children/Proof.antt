@@ -35,7 +35,7 @@ enter-requires-4 c κs = search needs
 enter-requires-5 : tie.Need-enter-requires-5
 enter-requires-5 c κs = (search needs, search room-kept)
 
--- by hand: after two calls on two lent arrays `search` breaks off
+-- this one and the last by hand: after two calls on two lent arrays `search` breaks off
 enter-requires-6 : tie.Need-enter-requires-6
 enter-requires-6 c κs =
     let first = c .before .before .before .before .before in
@@ -54,7 +54,12 @@ returns-3 : tie.Need-returns-3
 returns-3 c = search two-entered
 
 returns-4 : tie.Need-returns-4
-returns-4 c = search three-entered
+returns-4 c =
+    let second = c .before .before .before in
+    let first = second .before .before .before in
+    let arm = first .before .before .before .before in
+    three-entered _ _ _ _ _ (arm .before .before .children-of .ensures) _ _ _ _ _ _ _ _ _
+    (arm .k3 .given .1) (first .enter4 .ensures) (second .enter5 .ensures) (c .enter6 .ensures)
 
 pub enter-children-spec : {M : Type 1} → statement M
 enter-children-spec =

@@ -1,7 +1,8 @@
 -- `on_cycle` meets its contract. Assumes nothing.
 use Prim.Native.Nat.{_≤_, _-_}
 use borrow.Author.Needs.{needs}
-use Rattle.forest.proofs.CycleWalk.{room-empty, all-most}
+use Rattle.forest.specs.inner.Walks.{marksOf}
+use Rattle.forest.proofs.CycleWalk.{room-zeros, all-most}
 use Rattle.forest.proofs.CycleReach.{Looking, look-start, look-room, look-inside, look-fits}
 use Rattle.forest.proofs.CycleReach.{look-wide, look-next, look-found, look-end}
 use Rattle.forest.proofs.cycle.on_cycle.Statement.{statement}
@@ -9,7 +10,7 @@ use Rattle.forest.proofs.cycle.on_cycle.Tie as tie
 
 abbrev Inv-loop : tie.InvT-loop
 Inv-loop words i queue₀ n marks₀ filled₀ k₀ queue marks filled k =
-    (filled ≤ 1024) × Looking words i marks queue filled k
+    (filled ≤ 1024) × Looking words i (marksOf marks) queue filled k
 
 abbrev μ-loop : tie.MeasureT-loop
 μ-loop words i queue₀ n marks₀ filled₀ k₀ queue marks filled k = 1024 - k
@@ -18,10 +19,10 @@ frame-at-requires : tie.Need-frame-at-requires Inv-loop μ-loop
 frame-at-requires c κs = search needs
 
 enter-children-requires : tie.Need-enter-children-requires Inv-loop μ-loop
-enter-children-requires c κs = (search needs, search room-empty)
+enter-children-requires c κs = (search needs, search room-zeros)
 
 loop-holds : tie.Need-loop-holds Inv-loop μ-loop
-loop-holds c = (search (all-most, room-empty), search look-start)
+loop-holds c = (search (all-most, room-zeros), search look-start)
 
 mul-j : tie.Need-mul-j Inv-loop μ-loop
 mul-j c = search needs

@@ -13,9 +13,6 @@ Inv-loop words users₀ i₀ users i = (i ≤ length words) × Noting (framesOf 
 abbrev μ-loop : tie.MeasureT-loop
 μ-loop words users₀ i₀ users i = length words - i
 
-clear-requires : tie.Need-clear-requires Inv-loop μ-loop
-clear-requires c κs = search needs
-
 loop-holds : tie.Need-loop-holds Inv-loop μ-loop
 loop-holds c = (search needs, search noting-start)
 
@@ -38,14 +35,7 @@ loop-less : tie.Need-loop-less Inv-loop μ-loop
 loop-less c = search needs
 
 loop-again : tie.Need-loop-again Inv-loop μ-loop
-loop-again c =
-    let f = c .before .before in
-    let round = f .before .before in
-    let words = round .before .before .before .before .args .words .now in
-    let noted = c .note-users .ensures in
-    let inv = round .loop .inv .1 in
-    let test = f .before .loop-test .taken in
-    (search needs, noting-next words _ _ _ _ (f .frame-at .ensures) noted inv test)
+loop-again c = (search needs, search noting-next)
 
 returns : tie.Need-returns Inv-loop μ-loop
 returns c = search noting-end
@@ -56,7 +46,6 @@ users-of-spec =
     (tie.spec
     Inv-loop
     μ-loop
-    clear-requires
     loop-holds
     frame-at-requires
     add-note-users

@@ -4,7 +4,8 @@ use mathlib.Core.Path.{refl}
 use Prim.Native.Nat.{_≤_, _-_}
 use lib.ListN.{length}
 use Rattle.text.specs.Frames.{framesOf}
-use Rattle.forest.proofs.ShapePass.{SeekingMisfit, class-fault-here, class-fault-next, class-fault-end}
+use Rattle.forest.proofs.ShapePass.{SeekingMisfit, class-fault-here, class-fault-next}
+use Rattle.forest.proofs.ShapePass.{class-fault-end}
 use Rattle.forest.proofs.shape.class_fault.Statement.{statement}
 use Rattle.forest.proofs.shape.class_fault.Tie as tie
 
@@ -14,20 +15,23 @@ Inv-loop words counts i₀ i = (i ≤ length words) × SeekingMisfit (framesOf w
 abbrev μ-loop : tie.MeasureT-loop
 μ-loop words counts i₀ i = length words - i
 
+count-uses-requires : tie.Need-count-uses-requires Inv-loop μ-loop
+count-uses-requires c κs = search needs
+
 loop-holds : tie.Need-loop-holds Inv-loop μ-loop
 loop-holds c = (search needs, refl)
 
 frame-at-requires : tie.Need-frame-at-requires Inv-loop μ-loop
 frame-at-requires c κs = search needs
 
-element-copy-out-has-class-fault : tie.Need-element-copy-out-has-class-fault Inv-loop μ-loop
-element-copy-out-has-class-fault c = search needs
+array-read-has-class-fault : tie.Need-array-read-has-class-fault Inv-loop μ-loop
+array-read-has-class-fault c = search needs
 
 has-class-fault-requires : tie.Need-has-class-fault-requires Inv-loop μ-loop
 has-class-fault-requires c κs = search needs
 
-cast-t11 : tie.Need-cast-t11 Inv-loop μ-loop
-cast-t11 c = search needs
+cast-t13 : tie.Need-cast-t13 Inv-loop μ-loop
+cast-t13 c = search needs
 
 returns : tie.Need-returns Inv-loop μ-loop
 returns c = search class-fault-here
@@ -50,11 +54,12 @@ class-fault-spec =
     (tie.spec
     Inv-loop
     μ-loop
+    count-uses-requires
     loop-holds
     frame-at-requires
-    element-copy-out-has-class-fault
+    array-read-has-class-fault
     has-class-fault-requires
-    cast-t11
+    cast-t13
     returns
     add-i
     loop-less

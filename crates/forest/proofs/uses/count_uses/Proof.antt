@@ -1,10 +1,10 @@
 -- `count_uses` meets its contract. Assumes nothing.
 use borrow.Author.Needs.{needs}
-use mathlib.Core.Path.{refl}
 use Prim.Native.Nat.{_≤_, _-_}
 use lib.ListN.{length}
 use Rattle.text.specs.Frames.{framesOf}
-use Rattle.forest.proofs.UseCounts.{CountingUses, counting-next, counting-end}
+use Rattle.forest.proofs.UseCounts.{CountingUses, counting-start, counting-next}
+use Rattle.forest.proofs.UseCounts.{counting-end}
 use Rattle.forest.proofs.uses.count_uses.Statement.{statement}
 use Rattle.forest.proofs.uses.count_uses.Tie as tie
 
@@ -15,7 +15,7 @@ abbrev μ-loop : tie.MeasureT-loop
 μ-loop words counts₀ i₀ counts i = length words - i
 
 loop-holds : tie.Need-loop-holds Inv-loop μ-loop
-loop-holds c = (search needs, refl)
+loop-holds c = (search needs, search counting-start)
 
 frame-at-requires : tie.Need-frame-at-requires Inv-loop μ-loop
 frame-at-requires c κs = search needs
