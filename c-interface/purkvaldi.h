@@ -1,5 +1,5 @@
-/* Purkvaldi: the check, the writer and the stepper, for a loader in C. Link target/staticlib/libc_interface.a,
- * which `rt staticlib c_interface` writes.
+/* Purkvaldi: the check, the writer and the stepper, for a loader in C. Link
+ * target/staticlib/libc_interface.a, which `rt staticlib c_interface` writes.
  *
  * Every function takes any bytes and any words and has a defined answer. The one thing asked is C's
  * own rule for each pointer, which comes with its length:

@@ -1,12 +1,17 @@
+-- 21: how often each frame is used, a child that there is not; then cycles: marks as bits, the walk
+-- down from a frame, what it reaches.
 pub mod UseCounts
 pub mod AnyChild
 pub mod TreePass
-pub mod ShapeTests
-pub mod ShapePass
-pub mod FormAnswers
-pub mod UserArray
-pub mod Climbing
-pub mod ClimbDepths
 pub mod MarkBits
 pub mod CycleWalk
 pub mod CycleReach
+-- The writer's 6.
+pub mod ShapeTests
+pub mod ShapePass
+-- 7: the users, and the climb from user to user.
+pub mod UserArray
+pub mod Climbing
+pub mod ClimbDepths
+-- The verdict.
+pub mod FormAnswers
