@@ -1,1 +1,3 @@
 pub mod Ifs
+pub mod Bits
+pub mod Closures

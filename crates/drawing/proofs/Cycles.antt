@@ -19,7 +19,7 @@ use Rattle.layout.proofs.Trees.{Among, none-in}
 use Rattle.layout.proofs.Users.{among-children}
 use Rattle.drawing.specs.TreeFaults.{Below}
 use Rattle.drawing.specs.inner.Finds.{belowTo, isBelow}
-use Rattle.drawing.proofs.Closures.{count, count-most, fewer, Still, closed}
+use Rattle.basics.proofs.Closures.{count, count-most, fewer, Still, closed}
 use Rattle.drawing.proofs.InOrder.{Within, within}
 
 -- ---- connectives, and a test of some member

@@ -11,7 +11,6 @@ pub mod Depths
 pub mod Whole
 pub mod Bytes
 -- The refusals computed: what is below a frame, the lowest faults, the one answer.
-pub mod Closures
 pub mod Cycles
 pub mod FaultTests
 pub mod Deep

@@ -4,50 +4,15 @@ use mathlib.Core.Path.{_≡_, refl, sym, ap, _∙_}
 use mathlib.Core.Bool.{Bool, true, false}
 use mathlib.Core.List.{List, _∷_}
 use Prim.Native.Nat.{ℕ, zero, suc, _*_, _/_, _%_, _^_, _<_, max}
-use native.Mathlib.Nat.{div-div-eq-div-mul, pow-suc, pow-succ', div-one, zero-div}
-use native.Mathlib.Nat.{mod-eq-of-lt, one-mul}
 use native.Mathlib.Omega.{arith}
 use native.Mathlib.Decide.{ℕ-discrete}
 use lib.Dec.{eqb}
-use lib.Pow.{pow-lt}
-use lib.Bits.{bitAnd, bitOr, or-step, or-shr, and-mask}
+use lib.Bits.{bitAnd, bitOr, and-mask}
 use borrow.Author.Tests.{eq-eqb}
 use lib.ListN.{getD, length, set, replicate, length-set}
 use lib.Seq.{ext-getD, getD-set-same, getD-set-other}
+use Rattle.basics.proofs.Bits.{bit, no-bit, set-bit, kept-bit}
 use Rattle.forest.specs.inner.Walks.{isMarked, eachBelow, marksOf}
-
--- ---- the bits of a power of two, and of two numbers together
-abbrev bit : ℕ → ℕ → ℕ
-bit q n = n / 2 ^ q % 2
-
-bit-suc : (q n : ℕ) → bit (suc q) n ≡ bit q (n / 2)
-bit-suc q n =
-    ap (λ (m : ℕ). m % 2)
-    (ap (λ (m : ℕ). n / m) (pow-succ' 2 q) ∙ sym (div-div-eq-div-mul n 2 (2 ^ q)))
-
-half-power : (o : ℕ) → 2 ^ suc o / 2 ≡ 2 ^ o
-half-power o = ap (λ (n : ℕ). n / 2) (pow-suc 2 o) ∙ omega arith
-
-even-power : (o : ℕ) → 2 ^ suc o % 2 ≡ 0
-even-power o = ap (λ (n : ℕ). n % 2) (pow-suc 2 o) ∙ omega arith
-
-no-bit : (q : ℕ) → bit q 0 ≡ 0
-no-bit q = ap (λ (m : ℕ). m % 2) (zero-div (2 ^ q))
-
-same-bit : (o : ℕ) → bit o (2 ^ o) ≡ 1
-same-bit zero = refl
-same-bit (suc o) = bit-suc o (2 ^ suc o) ∙ ap (bit o) (half-power o) ∙ same-bit o
-
-other-bit : (q o : ℕ) → (q ≡ o → ⊥) → bit q (2 ^ o) ≡ 0
-other-bit zero zero d = absurd (d refl)
-other-bit zero (suc o) d = ap (λ (m : ℕ). m % 2) (div-one (2 ^ suc o)) ∙ even-power o
-other-bit (suc q) zero d = bit-suc q 1 ∙ no-bit q
-other-bit (suc q) (suc o) d =
-    bit-suc q (2 ^ suc o) ∙ ap (bit q) (half-power o) ∙ other-bit q o (λ e. d (ap suc e))
-
-bit-or : (q a b : ℕ) → bit q (bitOr a b) ≡ max (bit q a) (bit q b)
-bit-or q a b =
-    ap (λ (n : ℕ). n % 2) (or-shr a b q ∙ or-step (a / 2 ^ q) (b / 2 ^ q)) ∙ omega arith
 
 -- ---- a list by its places
 each-length : (n : ℕ) (f : ℕ → Bool) → length (eachBelow n f) ≡ n
@@ -110,12 +75,6 @@ module _ (words : List ℕ) (j : ℕ) (l : j < 1024) (long : length (marksOf wor
   abbrev new : ℕ
   new = bitOr old (1 * 2 ^ (j % 64) % 2 ^ 64)
 
-  shifted : 1 * 2 ^ (j % 64) % 2 ^ 64 ≡ 2 ^ (j % 64)
-  shifted = rw one-mul (mod-eq-of-lt (pow-lt {j = 64} (omega arith)))
-
-  new-bit : (q : ℕ) → bit q new ≡ max (bit q old) (bit q (2 ^ (j % 64)))
-  new-bit q = ap (λ (m : ℕ). bit q (bitOr old m)) shifted ∙ bit-or q old (2 ^ (j % 64))
-
   abbrev after : List ℕ
   after = set words (j / 64) new
 
@@ -124,19 +83,15 @@ module _ (words : List ℕ) (j : ℕ) (l : j < 1024) (long : length (marksOf wor
 
   own-mark : isMarked after j ≡ true
   own-mark =
-      let one = same-bit (j % 64) in
-      let b = new-bit (j % 64) in
       ap (λ (w : ℕ). eqb (bit (j % 64) w) 1) new-word
-      ∙ eq-eqb (bit (j % 64) new) 1 (omega arith)
+      ∙ eq-eqb (bit (j % 64) new) 1 (set-bit old (j % 64) (omega arith))
 
   other-mark : (i : ℕ) → (i ≡ j → ⊥) → isMarked after i ≡ isMarked words i
   other-mark i d = go (ℕ-discrete (i / 64) (j / 64))
     where
       go : Dec (i / 64 ≡ j / 64) → isMarked after i ≡ isMarked words i
       go (yes e) =
-          let none = other-bit (i % 64) (j % 64) (λ q. d (omega arith)) in
-          let b = new-bit (i % 64) in
-          let same : bit (i % 64) new ≡ bit (i % 64) old = omega arith in
+          let same = kept-bit old (j % 64) (omega arith) (i % 64) (λ q. d (omega arith)) in
           ap (λ (k : ℕ). eqb (bit (i % 64) (getD after k 0)) 1) e
           ∙ ap (λ (w : ℕ). eqb (bit (i % 64) w) 1) new-word
           ∙ ap (λ (b : ℕ). eqb b 1) same

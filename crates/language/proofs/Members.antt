@@ -3,46 +3,19 @@
 use mathlib.Core.Path.{_≡_, refl, sym, ap, _∙_}
 use mathlib.Core.Bool.{Bool, true, false, _&&_, _||_}
 use Prim.Native.Nat.{ℕ, zero, suc, _+_, _-_, _/_, _%_, _^_, _<_, _≤_, max}
-use native.Mathlib.Nat.{div-div-eq-div-mul, pow-suc, pow-succ', div-one, zero-div}
+use native.Mathlib.Nat.{pow-suc}
 use native.Mathlib.Omega.{arith}
 use native.Mathlib.Decide.{ℕ-discrete}
 use lib.Dec.{leb, eqb}
-use lib.Bits.{or-step, or-shr}
 use borrow.Author.Tests.{le-leb, eq-eqb, ne-eqb, leb-true, eqb-true, eqb-false}
 use Rattle.basics.proofs.Ifs.{if-all, and-true, and-off, or-off}
+use Rattle.basics.proofs.Bits.{bit, bit-zero, bit-suc, no-bit, same-bit, other-bit, bit-or}
 use Rattle.language.specs.Places.{isScheduler}
 use Rattle.language.specs.Effects.{member, noEffect, only, _∪_, withOwner, within}
 use Rattle.language.specs.declared.effect.Effect.{Effect}
 use Rattle.language.proofs.PlaceLaws.{from-home}
 
 -- ---- bits
-abbrev bit : ℕ → ℕ → ℕ
-bit q n = n / 2 ^ q % 2
-
-bit-zero : (n : ℕ) → bit 0 n ≡ n % 2
-bit-zero n = ap (λ (m : ℕ). m % 2) (div-one n)
-
-bit-suc : (q n : ℕ) → bit (suc q) n ≡ bit q (n / 2)
-bit-suc q n = ap (λ (m : ℕ). m % 2) (ap (λ (m : ℕ). n / m) (pow-succ' 2 q) ∙ sym (div-div-eq-div-mul n 2 (2 ^ q)))
-
-half-power : (o : ℕ) → 2 ^ suc o / 2 ≡ 2 ^ o
-half-power o = ap (λ (n : ℕ). n / 2) (pow-suc 2 o) ∙ omega arith
-
-even-power : (o : ℕ) → 2 ^ suc o % 2 ≡ 0
-even-power o = ap (λ (n : ℕ). n % 2) (pow-suc 2 o) ∙ omega arith
-
--- the bits of 2 ^ o
-same-bit : (o : ℕ) → bit o (2 ^ o) ≡ 1
-same-bit zero = refl
-same-bit (suc o) = bit-suc o (2 ^ suc o) ∙ ap (bit o) (half-power o) ∙ same-bit o
-
-other-bit : (p o : ℕ) → (p ≡ o → ⊥) → bit p (2 ^ o) ≡ 0
-other-bit zero zero n = absurd (n refl)
-other-bit zero (suc o) n = bit-zero (2 ^ suc o) ∙ even-power o
-other-bit (suc p) zero n = bit-suc p 1 ∙ ap (λ (m : ℕ). m % 2) (zero-div (2 ^ p))
-other-bit (suc p) (suc o) n =
-    bit-suc p (2 ^ suc o) ∙ ap (bit p) (half-power o) ∙ other-bit p o (λ e. n (ap suc e))
-
 -- a bit of the half is one of the whole
 bit-of-half : (n : ℕ) → (q : ℕ) × (bit q (n / 2) ≡ 1) → (q : ℕ) × (bit q n ≡ 1)
 bit-of-half n (q, e) = (suc q, bit-suc q n ∙ e)
@@ -89,14 +62,11 @@ only-bit (suc p) n m f = go (only-bit p (n / 2)) (ℕ-discrete (n % 2) 1)
 pub member-none : (p : ℕ) → member p noEffect ≡ false
 member-none p =
     ap (λ (b : Bool). leb 2 p && b)
-    (ne-eqb (bit (p - 2) 0) 1 (λ e. let z = ap (λ (m : ℕ). m % 2) (zero-div (2 ^ (p - 2))) in omega arith))
+    (ne-eqb (bit (p - 2) 0) 1 (λ e. let z = no-bit (p - 2) in omega arith))
     ∙ and-off (leb 2 p)
 
 bit-join : (q : ℕ) (e f : Effect) → bit q ((e ∪ f) .bits) ≡ max (bit q (e .bits)) (bit q (f .bits))
-bit-join q e f =
-    ap (λ (n : ℕ). n % 2)
-    (or-shr (e .bits) (f .bits) q ∙ or-step (e .bits / 2 ^ q) (f .bits / 2 ^ q))
-    ∙ omega arith
+bit-join q e f = bit-or q (e .bits) (f .bits)
 
 either : (x y z : ℕ) → x < 2 → y < 2 → z ≡ max x y → eqb z 1 ≡ (eqb x 1 || eqb y 1)
 either x y z a b e = go (eqb x 1) refl (eqb y 1) refl
@@ -162,7 +132,7 @@ within-members p e h q m = go (eqb (e .bits) 0) refl h
         → (t || isScheduler p && eqb (e .bits) (only p .bits)) ≡ true
         → (q ≡ p) × (isScheduler p ≡ true)
     go true z k =
-        let n : bit (q - 2) (e .bits) ≡ 0 = ap (λ (b : ℕ). bit (q - 2) b) (eqb-true _ _ z) ∙ ap (λ (a : ℕ). a % 2) (zero-div (2 ^ (q - 2))) in
+        let n : bit (q - 2) (e .bits) ≡ 0 = ap (bit (q - 2)) (eqb-true _ _ z) ∙ no-bit (q - 2) in
         let o = has in
         absurd (omega arith)
     go false z k =

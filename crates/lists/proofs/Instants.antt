@@ -4,76 +4,73 @@ use mathlib.Core.Path.{_≡_, refl, sym, ap, ap₂, _∙_, subst}
 use mathlib.Core.List.{List, [], _∷_, map}
 use mathlib.Core.Bool.{Bool, true, false, not, _&&_, _||_}
 use native.Mathlib.Omega.{arith}
-use native.Mathlib.Nat.{add-zero}
 use lib.ListN.{getD, length, set, length-set, length-map, List·getD-eq-default}
 use lib.Seq.{ext-getD, set-getD, getD-set-same, getD-set-other}
 use lib.Dec.{eqb, ltb}
 use borrow.Author.Tests.{lt-ltb, le-ltb, ltb-true, ltb-false}
 use Rattle.basics.specs.Members.{All, none, more}
-use Rattle.basics.proofs.Ifs.{if-yes, if-no, and-true}
+use Rattle.basics.proofs.Ifs.{if-yes, if-no}
 use Rattle.machine.specs.State.{State, Thread, Scheduler, Entry, plain, waiting, noThread}
-use Rattle.machine.specs.State.{noScheduler, withScheduler, schedulerAt}
-use Rattle.basics.specs.If.{keepIf}
-use Rattle.machine.specs.Waits.{endedFrom, isReady, entryThread, readyThreads, stillWaiting}
+use Rattle.machine.specs.State.{noScheduler, withScheduler, schedulerAt, starterOf}
+use Rattle.basics.specs.If.{if_then_else_, keepIf}
+use Rattle.machine.specs.Waits.{entryThread, readyThreads, stillWaiting}
+use Rattle.machine.specs.inner.Families.{familyTo, familySteps, inFamily, endedFrom, isReady}
 use Rattle.machine.specs.Words.{entryWord, listWord, wordsAt, pack}
 use Rattle.machine.specs.inner.Blocks.{pasted, padded}
-use Rattle.machine.specs.inner.Ranges.{allBelow}
-use Rattle.machine.proofs.Tests.{and-both}
+use Rattle.machine.specs.inner.Ranges.{allBelow, threadInRange}
+use Rattle.machine.proofs.Families.{same-found, ended-each, each-ended, no-starter}
 use Rattle.machine.proofs.WordLaws.{Says, is-pack, tab-length, tab-from, pasted-length, pasted-in}
 use Rattle.machine.proofs.WordLaws.{pasted-out}
 use Rattle.machine.proofs.Padded.{padded-length, padded-at}
 use Rattle.machine.proofs.Round.{thread-1, thread-2, ended-bit}
 use Rattle.machine.proofs.Ranges.{below-each, all-below}
 use Rattle.machine.specs.Shapes.{EntryFits, plain-fits, waiting-fits}
-use Rattle.lists.specs.inner.Lists.{isAwaited, noneAwaited, isReadyWord}
+use Rattle.lists.specs.inner.Families.{starterIn, isOfFamily, isAwaited, noneAwaited}
+use Rattle.lists.specs.inner.Families.{isReadyWord}
 use Rattle.lists.specs.inner.Lists.{readyWords, waitingWords, partitionedIn}
 use Rattle.lists.specs.inner.Lists.{withInstantEnded}
 use Rattle.machine.proofs.AllBelow.{same-test}
+use Rattle.lists.proofs.ThreadSets.{thread-is}
 use Rattle.lists.proofs.PartitionLaws.{all-partitioned}
 use Rattle.lists.proofs.SchedulerSays.{by-lists, scheduler-put, active-word, next-word}
 use Rattle.lists.proofs.SchedulerSays.{room-says}
 
 -- ---- the ready test
--- thread t, which is x, has ended, or a wait for thread u does not await it: as `endedFrom` has it
-endedFor : ℕ → ℕ → Thread → Bool
-endedFor u t x = x .ended || not (eqb t u || eqb (x .starter) u)
-
-ended-each : (u t : ℕ) (xs : List Thread) → endedFrom u t xs ≡ true → (k : ℕ) → k < length xs
-    → endedFor u (t + k) (getD xs k noThread) ≡ true
-unfolding endedFrom endedFor
-ended-each u t [] e k g = absurd (omega arith)
-ended-each u t (x ∷ xs) e zero g =
-    ap (λ (n : ℕ). endedFor u n x) (add-zero t)
-    ∙ and-true (endedFor u t x) (endedFrom u (suc t) xs) e .0
-ended-each u t (x ∷ xs) e (suc k) g =
-    let z : t + suc k ≡ suc t + k = omega arith in
-    ap (λ (n : ℕ). endedFor u n (getD xs k noThread)) z
-    ∙ ended-each u (suc t) xs (and-true (endedFor u t x) (endedFrom u (suc t) xs) e .1) k
-    (omega arith)
-
-each-ended : (u t : ℕ) (xs : List Thread)
-    → ((k : ℕ) → k < length xs → endedFor u (t + k) (getD xs k noThread) ≡ true)
-    → endedFrom u t xs ≡ true
-unfolding endedFrom endedFor
-each-ended u t [] h = refl
-each-ended u t (x ∷ xs) h =
-    and-both (endedFor u t x) (endedFrom u (suc t) xs)
-    (ap (λ (n : ℕ). endedFor u n x) (sym (add-zero t)) ∙ h 0 (omega arith))
-    (each-ended u (suc t) xs (λ k g. let z : suc t + k ≡ t + suc k = omega arith in
-    ap (λ (n : ℕ). endedFor u n (getD xs k noThread)) z ∙ h (suc k) (omega arith)))
-
 module _ (w : List ℕ) (s : State) (h : Says w s) (few : length (s .threads) ≤ 64) where
+  -- the words say by whom each thread was begun
+  starter-says : (t : ℕ) → starterIn w t ≡ starterOf (s .threads) t
+  unfolding starterIn
+  starter-says zero = refl
+  starter-says (suc k) = go (ltb k 64) refl
+    where
+      go : (b : Bool) → ltb k 64 ≡ b
+          → (if ltb k 64 then getD w (1042 + 55 * k + 1) 0 else 0) ≡ getD (s .threads) k noThread .starter
+      go true q =
+          let l = ltb-true k 64 q in
+          if-yes _ _ q ∙ h .thread k 1 (omega arith) (omega arith)
+          ∙ thread-1 (getD (s .threads) k noThread)
+      go false q =
+          let l = ltb-false k 64 q in
+          if-no _ _ q ∙ sym (no-starter (s .threads) (suc k) (omega arith))
+
+  family-says : (u k : ℕ) → k < length (s .threads)
+      → isOfFamily w u (suc k) ≡ inFamily (s .threads) u (suc k)
+  unfolding inFamily
+  family-says u k g =
+      ap (λ (f : ℕ → ℕ). familyTo (familySteps 64) f u (suc k)) (λ i t. starter-says t i)
+      ∙ same-found (starterOf (s .threads)) (length (s .threads)) 64 refl (no-starter (s .threads))
+      few u (suc k) (omega arith)
+
   awaited-says : (u k : ℕ) → k < length (s .threads)
-      → not (isAwaited w u k) ≡ endedFor u (1 + k) (getD (s .threads) k noThread)
-  unfolding isAwaited endedFor
+      → not (isAwaited w u k)
+      ≡ (getD (s .threads) k noThread .ended || not (inFamily (s .threads) u (1 + k)))
+  unfolding isAwaited
   awaited-says u k g =
       let z : suc k ≡ 1 + k = omega arith in
-      ap₂ (λ (a b : ℕ). not (not (eqb a 0) && (eqb (suc k) u || eqb b u)))
-      (h .thread k 2 (omega arith) (omega arith) ∙ thread-2 x)
-      (h .thread k 1 (omega arith) (omega arith) ∙ thread-1 x)
-      ∙ ap₂ (λ (b : Bool) (n : ℕ). not (not b && (eqb n u || eqb (x .starter) u)))
-      (ended-bit (x .ended)) z
-      ∙ ended-or (x .ended) (eqb (1 + k) u || eqb (x .starter) u)
+      ap₂ (λ (a : ℕ) (b : Bool). not (not (eqb a 0) && b))
+      (h .thread k 2 (omega arith) (omega arith) ∙ thread-2 x) (family-says u k g)
+      ∙ ap₂ (λ (b : Bool) (n : ℕ). not (not b && inFamily (s .threads) u n)) (ended-bit (x .ended)) z
+      ∙ ended-or (x .ended) (inFamily (s .threads) u (1 + k))
     where
       x : Thread
       x = getD (s .threads) k noThread
@@ -82,15 +79,16 @@ module _ (w : List ℕ) (s : State) (h : Says w s) (few : length (s .threads) �
       ended-or true b = refl
       ended-or false b = refl
 
-  none-awaited-says : (u : ℕ) → noneAwaited w u (getD w 0 0) ≡ endedFrom u 1 (s .threads)
+  none-awaited-says : (u : ℕ)
+      → noneAwaited w u (getD w 0 0) ≡ endedFrom (inFamily (s .threads) u) 1 (s .threads)
   unfolding noneAwaited
   none-awaited-says u =
       ap (λ (n : ℕ). allBelow n (λ k. not (isAwaited w u k))) (h .threads)
       ∙ same-test _ _
-      (λ e. each-ended u 1 (s .threads) (λ k g. sym (awaited-says u k g)
+      (λ e. each-ended (inFamily (s .threads) u) 1 (s .threads) (λ k g. sym (awaited-says u k g)
       ∙ below-each (length (s .threads)) (λ i. not (isAwaited w u i)) e k g))
       (λ e. all-below (length (s .threads)) (λ i. not (isAwaited w u i))
-      (λ k g. awaited-says u k g ∙ ended-each u 1 (s .threads) e k g))
+      (λ k g. awaited-says u k g ∙ ended-each (inFamily (s .threads) u) 1 (s .threads) e k g))
 
   pub ready-says : (e : Entry) → EntryFits e → isReadyWord w (entryWord e) ≡ isReady (s .threads) e
   unfolding isReadyWord isReady entryWord
@@ -100,7 +98,8 @@ module _ (w : List ℕ) (s : State) (h : Says w s) (few : length (s .threads) �
       let m = g .0 in
       let z : (128 * u + t) / 128 ≡ u = omega arith in
       if-no _ _ (le-ltb (128 * u + t) 128 (omega arith))
-      ∙ ap (λ (v : ℕ). noneAwaited w v (getD w 0 0)) z ∙ none-awaited-says u
+      ∙ ap (λ (v : ℕ). threadInRange v && noneAwaited w v (getD w 0 0)) z
+      ∙ ap (λ (b : Bool). b && noneAwaited w u (getD w 0 0)) (thread-is u g) ∙ none-awaited-says u
 
   thread-of : (e : Entry) → EntryFits e → entryWord e % 128 ≡ entryThread e
   unfolding entryWord

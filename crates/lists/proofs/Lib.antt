@@ -1,4 +1,7 @@
--- In the words: the ready test, a list changed, entries partitioned.
+-- In the words: sets of threads, the climb from starter to starter, the ready test; a list changed,
+-- entries partitioned.
+pub mod ThreadSets
+pub mod Climbs
 pub mod WaitLaws
 pub mod ListLaws
 pub mod PartitionLaws

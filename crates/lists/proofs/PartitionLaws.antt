@@ -3,24 +3,22 @@
 use Prim.Native.Nat.{ℕ, suc, _+_, _*_, _-_, _/_, _%_, _<_, _≤_}
 use mathlib.Core.Path.{_≡_, refl, sym, ap, ap₂, _∙_}
 use mathlib.Core.List.{List, [], _∷_, _++_, append-nil}
-use mathlib.Core.Bool.{Bool, true, false, not, _&&_, _||_}
+use mathlib.Core.Bool.{Bool, true, false, not}
 use native.Mathlib.Omega.{arith}
 use native.Mathlib.Numerals.{add-one}
 use native.Mathlib.Decide.{ℕ-discrete}
 use borrow.Author.Tests.{ltb-true, ltb-false}
-use lib.Dec.{eqb, ltb}
+use lib.Dec.{ltb}
 use lib.ListN.{getD, length, set, take, length-set, length-append, List·getD-append}
 use lib.ListN.{List·getD-eq-default}
 use lib.Seq.{take-suc, take-all, length-take-le, getD-at, getD-set-same, getD-set-other}
-use Rattle.basics.specs.If.{if_then_else_}
 use Rattle.basics.specs.If.{keepIf}
 use Rattle.machine.specs.Words.{wordsAt}
 use Rattle.machine.specs.inner.Blocks.{pasted, padded}
-use Rattle.machine.specs.inner.Ranges.{allBelow}
 use Rattle.machine.proofs.WordLaws.{tab-length, tab-from, pasted-length, pasted-in, pasted-out}
 use Rattle.machine.proofs.Padded.{padded-length, padded-at}
 use Rattle.machine.proofs.PastedLaws.{same-pasted}
-use Rattle.lists.specs.inner.Lists.{isAwaited, noneAwaited, isReadyWord}
+use Rattle.lists.specs.inner.Families.{isReadyWord}
 use Rattle.lists.specs.inner.Lists.{readyWords, waitingWords, partitionedIn}
 use Rattle.lists.specs.inner.Lists.{withInstantEnded}
 
@@ -89,22 +87,6 @@ module _ (w : List ℕ) where
       let b = tab-length (getD w i 0) (λ j. getD w j 0) (suc i) in
       omega arith
 
-  -- words that differ from w in a scheduler's block alone find the same entries ready
-  module _ (v : List ℕ) (at : ℕ) (low : 2 ≤ at) (high : at + 130 ≤ 1042)
-      (same : (i : ℕ) → (at ≤ i → i < at + 130 → ⊥) → getD v i 0 ≡ getD w i 0) where
-    awaited-same : (u k : ℕ) → isAwaited v u k ≡ isAwaited w u k
-    unfolding isAwaited
-    awaited-same u k =
-        ap₂ (λ (a b : ℕ). not (eqb a 0) && (eqb (suc k) u || eqb b u))
-        (same (1042 + 55 * k + 2) (λ p q. omega arith))
-        (same (1042 + 55 * k + 1) (λ p q. omega arith))
-
-    pub ready-same : (e : ℕ) → isReadyWord v e ≡ isReadyWord w e
-    unfolding isReadyWord noneAwaited
-    ready-same e =
-        ap₂ (λ (n : ℕ) (f : ℕ → Bool). if ltb e 128 then true else allBelow n f)
-        (same 0 (λ p q. omega arith)) (λ i k. not (awaited-same (e / 128) k i))
-
   -- ---- the loop: the first j entries are partitioned, r of them ready; where they lay are those
   -- that wait, then 0
   pub record Partitioning (at : ℕ) (v : List ℕ) (r j : ℕ) : Type 0 where
@@ -143,14 +125,6 @@ module _ (w : List ℕ) where
 
     pub partition-few : r ≤ j
     partition-few = let a = waits in omega arith
-
-    pub partition-same : (i : ℕ) → (at ≤ i → i < at + 130 → ⊥) → getD v i 0 ≡ getD w i 0
-    partition-same i f =
-        let a = partition-few in
-        s .rest i (λ p q. f (omega arith) (omega arith)) (λ p q. f (omega arith) (omega arith))
-
-    pub partition-threads : 2 ≤ at → getD w 0 0 ≤ 64 → getD v 0 0 ≤ 64
-    partition-threads low h = rw (partition-same 0 (λ p q. omega arith)) h
 
     module _ (all : getD w (at + 65) 0 ≤ j) (len : length w ≡ 4818) (high : at + 130 ≤ 1042) where
       abbrev n : ℕ
@@ -213,7 +187,7 @@ module _ (w : List ℕ) where
   -- one entry more
   module _ (at : ℕ) (v : List ℕ) (r j e : ℕ) (s : Partitioning at v r j)
       (more : j < getD w (at + 65) 0) (few : getD w (at + 65) 0 ≤ 64)
-      (low : 2 ≤ at) (high : at + 130 ≤ 1042) (len : length w ≡ 4818)
+      (high : at + 130 ≤ 1042) (len : length w ≡ 4818)
       (read : e ≡ getD v (at + 65 + 1 + j) 0) where
     abbrev ready-j : List ℕ
     ready-j = readyWords w (take j (wordsAt w (at + 65)))
@@ -249,9 +223,6 @@ module _ (w : List ℕ) where
         ∙ ap (λ (i : ℕ). getD w i 0) z
         ∙ sym (read ∙ s .rest (at + 65 + 1 + j) (λ p q. omega arith) (λ p q. omega arith)))
 
-    as-before : isReadyWord v e ≡ isReadyWord w e
-    as-before = ready-same v at low high (partition-same at v r j s (omega arith) few) e
-
     -- words of the next list's space, of which that of the entry is 0 now
     left : (i : ℕ) → i < j + 1 → getD (set v (at + 65 + 1 + j) 0) (at + 65 + 1 + i) 0
         ≡ getD (waitingWords w (take j (wordsAt w (at + 65)))) i 0
@@ -272,7 +243,7 @@ module _ (w : List ℕ) where
             beside : (i ≡ j → ⊥) → i < j
             beside z = omega arith
 
-    pub partition-ready : (t : Bool) → t ≡ isReadyWord v e → t ≡ true
+    pub partition-ready : (t : Bool) → t ≡ isReadyWord w e → t ≡ true
         → Partitioning at (set (set v (at + 65 + 1 + j) 0) (at + 1 + r) (e % 128)) (r + 1) (j + 1)
     partition-ready t f h =
         record {
@@ -289,7 +260,7 @@ module _ (w : List ℕ) where
         }
       where
         is : isReadyWord w e ≡ true
-        is = sym as-before ∙ sym f ∙ h
+        is = sym f ∙ h
 
         more-ready : readyWords w (take (j + 1) (wordsAt w (at + 65)))
             ≡ readyWords w (take j (wordsAt w (at + 65))) ++ (e % 128 ∷ [])
@@ -326,7 +297,7 @@ module _ (w : List ℕ) where
             below : (i ≡ r → ⊥) → i < r
             below z = omega arith
 
-    pub partition-waiting : (t : Bool) → t ≡ isReadyWord v e → t ≡ false
+    pub partition-waiting : (t : Bool) → t ≡ isReadyWord w e → t ≡ false
         → Partitioning at (set (set v (at + 65 + 1 + j) 0) (at + 65 + 1 + (j - r)) e) r (j + 1)
     partition-waiting t f h =
         record {
@@ -343,7 +314,7 @@ module _ (w : List ℕ) where
         }
       where
         is : isReadyWord w e ≡ false
-        is = sym as-before ∙ sym f ∙ h
+        is = sym f ∙ h
 
         more-wait : waitingWords w (take (j + 1) (wordsAt w (at + 65)))
             ≡ waitingWords w (take j (wordsAt w (at + 65))) ++ (e ∷ [])

@@ -1,59 +1,95 @@
--- The ready test on the words, one law for each return of the code. Assumes nothing.
+-- The ready test on the words: the set of threads in whose families one lives, thread by thread, and
+-- an entry asked by it. Assumes nothing.
 use Prim.Native.Nat.{ℕ, suc, _+_, _*_, _/_, _<_, _≤_}
-use mathlib.Core.Path.{_≡_, refl, sym, ap, _∙_}
+use mathlib.Core.Path.{_≡_, refl, sym, ap, subst, _∙_}
 use mathlib.Core.List.{List}
-use mathlib.Core.Bool.{Bool, true, false, not}
+use mathlib.Core.Bool.{Bool, true, false, not, _&&_, _||_, true≢false}
+use native.Mathlib.Omega.{arith}
 use native.Mathlib.Numerals.{add-one}
 use lib.ListN.{getD}
-use lib.Dec.{eqb}
+use lib.Dec.{eqb, ltb}
 use borrow.Author.Tests.{lt-ltb, le-ltb, eq-eqb, ne-eqb}
-use Rattle.basics.proofs.Ifs.{yes, no}
-use Rattle.machine.proofs.AllBelow.{all-none, all-more, all-wrong, all-end}
-use Rattle.lists.specs.inner.Lists.{isAwaited, noneAwaited, isReadyWord}
+use Rattle.basics.specs.If.{if_then_else_}
+use Rattle.basics.proofs.Ifs.{yes, no, or-off}
+use Rattle.machine.specs.Shapes.{IsThread}
+use Rattle.machine.specs.inner.Ranges.{allBelow, threadInRange}
+use Rattle.machine.proofs.AllBelow.{all-none}
+use Rattle.lists.specs.inner.Families.{isOfFamily, isAwaited, noneAwaited, isReadyWord}
+use Rattle.lists.specs.inner.Families.{hasThread, lacksThread, HasStarters, AddsAncestors}
+use Rattle.lists.specs.inner.Families.{AddsAwaited, LivingTo, LivingFamilies, isReadyBy}
+use Rattle.lists.proofs.ThreadSets.{is-thread, none-in}
 
-module _ (w : List ℕ) (u k : ℕ) where
-  pub awaited-ended : getD w (1042 + 55 * k + 2) 0 ≡ 0 → false ≡ isAwaited w u k
+-- ---- one thread more
+module _ (w : List ℕ) (set k : ℕ) where
+  pub ended-adds : getD w (1042 + 55 * k + 2) 0 ≡ 0 → AddsAwaited w set k set
   unfolding isAwaited
-  awaited-ended h = rw (eq-eqb _ 0 h)
+  ended-adds e u h =
+      or-off (hasThread set u)
+      ∙ ap (λ (b : Bool). hasThread set u || (not b && isOfFamily w u (suc k))) (sym (eq-eqb _ 0 e))
 
-  pub awaited-self : (getD w (1042 + 55 * k + 2) 0 ≡ 0 → ⊥) → k + 1 ≡ u → true ≡ isAwaited w u k
+  pub living-adds : (r : ℕ) → (getD w (1042 + 55 * k + 2) 0 ≡ 0 → ⊥)
+      → AddsAncestors w set (k + 1) r → AddsAwaited w set k r
   unfolding isAwaited
-  awaited-self h e = rw (ne-eqb _ 0 h, eq-eqb (suc k) u (sym (add-one k) ∙ e))
+  living-adds r d a u h =
+      a u h ∙ ap (λ (t : ℕ). hasThread set u || isOfFamily w u t) (add-one k)
+      ∙ ap (λ (b : Bool). hasThread set u || (not b && isOfFamily w u (suc k)))
+      (sym (ne-eqb _ 0 d))
 
-  pub awaited-started : (getD w (1042 + 55 * k + 2) 0 ≡ 0 → ⊥) → (k + 1 ≡ u → ⊥)
-      → eqb (getD w (1042 + 55 * k + 1) 0) u ≡ isAwaited w u k
-  unfolding isAwaited
-  awaited-started h e = rw (ne-eqb _ 0 h, ne-eqb (suc k) u (λ q. e (add-one k ∙ q)))
-
-pub ruleset awaited-laws = (awaited-ended, awaited-self, awaited-started)
-
--- the loop: none yet, one more, one that is awaited, the end
-module _ (w : List ℕ) (u : ℕ) where
-  pub none-start : noneAwaited w u 0 ≡ true
+-- ---- the loop: none yet, one more, the end
+module _ (w : List ℕ) where
+  pub living-start : LivingTo w 0 0
   unfolding noneAwaited
-  none-start = all-none _
+  living-start u h = none-in u ∙ ap not (sym (all-none (λ k. not (isAwaited w u k))))
 
-  pub none-more : (j : ℕ) (t : Bool) → noneAwaited w u j ≡ true → t ≡ isAwaited w u j → t ≡ false
-      → noneAwaited w u (j + 1) ≡ true
-  unfolding noneAwaited
-  none-more j t h e f = all-more _ j h (ap not (sym e ∙ f))
+  pub starters-start : HasStarters w 0
+  starters-start x h e g = absurd (true≢false (sym e ∙ none-in x))
 
-  pub none-but-one : (j n : ℕ) (t : Bool) → t ≡ isAwaited w u j → t ≡ true → j < n
-      → false ≡ noneAwaited w u n
-  unfolding noneAwaited
-  none-but-one j n t e f h = all-wrong _ j n (ap not (sym e ∙ f)) h
+  pub living-more : (n set r : ℕ) → LivingTo w n set → AddsAwaited w set n r → LivingTo w (n + 1) r
+  unfolding noneAwaited allBelow
+  living-more n set r l a u h =
+      a u h ∙ ap (λ (b : Bool). b || isAwaited w u n) (l u h)
+      ∙ either (isAwaited w u n) (noneAwaited w u n)
+      ∙ ap (λ (k : ℕ). not (noneAwaited w u k)) (sym (add-one n))
+    where
+      either : (a b : Bool) → (not b || a) ≡ not (not a && b)
+      either true true = refl
+      either true false = refl
+      either false true = refl
+      either false false = refl
 
-  pub none-end : (j n : ℕ) → noneAwaited w u j ≡ true → j ≤ n → n ≤ j → true ≡ noneAwaited w u n
-  unfolding noneAwaited
-  none-end j n h a b = all-end _ j n h a b
+  pub living-end : (j n set : ℕ) → LivingTo w j set → n ≡ getD w 0 0 → j ≤ n → n ≤ j
+      → LivingFamilies w set
+  living-end j n set l e a b = subst (λ (k : ℕ). LivingTo w k set) (omega arith) l
 
-pub ready-plain : (w : List ℕ) (e : ℕ) → e < 128 → true ≡ isReadyWord w e
-unfolding isReadyWord
-ready-plain w e h = yes _ (lt-ltb e 128 h) refl
+-- ---- an entry
+pub ready-plain : (living e : ℕ) → e < 128 → true ≡ isReadyBy living e
+unfolding isReadyBy
+ready-plain living e h = yes _ (lt-ltb e 128 h) refl
 
-pub ready-waiting : (w : List ℕ) (e : ℕ) (r : Bool) → 128 ≤ e
-    → r ≡ noneAwaited w (e / 128) (getD w 0 0) → r ≡ isReadyWord w e
-unfolding isReadyWord
-ready-waiting w e r h q = no _ (le-ltb e 128 h) q
+pub ready-waiting : (living e : ℕ) (r : Bool) → 128 ≤ e → r ≡ lacksThread living (e / 128)
+    → r ≡ isReadyBy living e
+unfolding isReadyBy
+ready-waiting living e r h q = no _ (le-ltb e 128 h) q
 
 pub ruleset ready-laws = (ready-plain, ready-waiting)
+
+-- the set says of every entry what the words say
+pub ready-by : (w : List ℕ) (living : ℕ) → LivingFamilies w living → (e : ℕ)
+    → isReadyBy living e ≡ isReadyWord w e
+unfolding isReadyBy isReadyWord lacksThread
+ready-by w living l e =
+    ap (λ (b : Bool). if ltb e 128 then true else b) (go (e / 128) (threadInRange (e / 128)) refl)
+  where
+    twice : (b : Bool) → not (not b) ≡ b
+    twice true = refl
+    twice false = refl
+
+    go : (u : ℕ) (b : Bool) → threadInRange u ≡ b
+        → (threadInRange u && not (hasThread living u))
+        ≡ (threadInRange u && noneAwaited w u (getD w 0 0))
+    go u true q =
+        ap (λ (b : Bool). threadInRange u && b)
+        (ap not (l u (is-thread u q)) ∙ twice (noneAwaited w u (getD w 0 0)))
+    go u false q =
+        ap (λ (b : Bool). b && not (hasThread living u)) q
+        ∙ sym (ap (λ (b : Bool). b && noneAwaited w u (getD w 0 0)) q)

@@ -1,5 +1,6 @@
 // A scheduler's active list and next list in the lent words.
 use crate::wait::is_ready;
+use crate::wait::living_families;
 use language::Place;
 use language::limit::MOST_THREADS;
 use machine::offset::LIST_LENGTH;
@@ -115,18 +116,19 @@ pub fn append(state: &mut [u64], q: Place, entry: u64)
 // list within its space.
 fn partition_entries(state: &mut [u64], active: usize) -> u64
     requires { ⌜ ListWords (now state) (active + listLength)
-        × (schedulersAt ≤ active) × (active + schedulerLength ≤ threadsAt) ⌝ }
+        × (active + schedulerLength ≤ threadsAt) ⌝ }
     ensures count { λ r. ⌜ r ≡ length (readyWords (now (state .entry))
         (wordsAt (now (state .entry)) (active + listLength))) ⌝ }
     ensures words { λ r. ⌜ now (state .exit) ≡ partitionedIn (now (state .entry)) active ⌝ }
 {
     let next = active + LIST_LENGTH;
     let n = state[next] as usize;
+    let living = living_families(state);
     let mut r: usize = 0;
     let mut j: usize = 0;
     while j < n {
         let e = state[next + 1 + j];
-        let ready = is_ready(state, e);
+        let ready = is_ready(living, e);
         state[next + 1 + j] = 0;
         if ready {
             state[active + 1 + r] = e % WAITING_FACTOR;

@@ -1,4 +1,6 @@
-// The ready test on the lent words, apart: the only place that says when a wait ends.
+// The ready test on the lent words, apart: the only place that says when a wait ends. An entry
+// waits for a family: for a thread, and for those that it began, directly or through others.
+use language::limit::MOST_THREADS;
 use machine::offset::LIVES_FIELD;
 use machine::offset::STARTER_FIELD;
 use machine::offset::THREAD_COUNT_AT;
@@ -10,50 +12,78 @@ ghost use Prim.Native.Nat.{_<_, _≤_};
 ghost use lib.ListN.{length, getD};
 ghost use Rattle.language.specs.Limits.{mostThreads};
 ghost use Rattle.machine.specs.Offsets.{stateLength, threadCountAt};
-ghost use Rattle.lists.specs.inner.Lists.{isAwaited, noneAwaited, isReadyWord};
+ghost use Rattle.machine.specs.Shapes.{IsThread};
+ghost use Rattle.lists.specs.inner.Families.{lacksThread, HasStarters, AddsAncestors};
+ghost use Rattle.lists.specs.inner.Families.{AddsAwaited, LivingFamilies, isReadyBy};
 
-// Thread k + 1 has not ended, and is thread u or started by it.
-fn is_awaited(state: &[u64], u: u64, k: usize) -> bool
-    requires { ⌜ (length (now state) ≡ stateLength) × (k < mostThreads) ⌝ }
-    ensures { λ r. ⌜ r ≡ isAwaited (now (state .entry)) u k ⌝ }
+// A set of threads is a number: bit t - 1 is set where thread t is a member. Here t is a thread's
+// number, and no member.
+fn lacks_thread(set: u64, t: u64) -> bool
+    ensures { λ r. ⌜ r ≡ lacksThread set t ⌝ }
 {
-    let at = THREADS_AT + THREAD_LENGTH * k;
-    if state[at + LIVES_FIELD] == 0 {
+    if t == 0 {
         return false;
     }
-    if k as u64 + 1 == u {
-        return true;
+    if (MOST_THREADS as u64) < t {
+        return false;
     }
-    state[at + STARTER_FIELD] == u
+    (set >> (t - 1)) & 1 == 0
 }
 
-// No thread is left that a wait for thread u awaits. Validation has found at most 64 threads.
-fn none_awaited(state: &[u64], u: u64) -> bool
+// The set with thread t and the threads of whose families it is: the one that began it, the one
+// that began that one, and so on. With each member the set has the one that began it, so the first
+// member that is met ends the climb; in a caller's own state starters may form a circle.
+fn with_ancestors(state: &[u64], set: u64, t: u64) -> u64
+    requires { ⌜ (length (now state) ≡ stateLength) × IsThread t × HasStarters (now state) set ⌝ }
+    ensures added { λ r. ⌜ AddsAncestors (now (state .entry)) set t r ⌝ }
+    ensures starters { λ r. ⌜ HasStarters (now (state .entry)) r ⌝ }
+{
+    let mut found = set;
+    let mut at = t;
+    while lacks_thread(found, at) {
+        found |= 1u64 << (at - 1);
+        at = state[THREADS_AT + THREAD_LENGTH * (at - 1) as usize + STARTER_FIELD];
+    }
+    found
+}
+
+// The set with the threads whose waiting entries await thread k + 1: none where it has ended.
+fn with_awaiting(state: &[u64], set: u64, k: usize) -> u64
+    requires { ⌜ (length (now state) ≡ stateLength) × (k < mostThreads)
+        × HasStarters (now state) set ⌝ }
+    ensures added { λ r. ⌜ AddsAwaited (now (state .entry)) set k r ⌝ }
+    ensures starters { λ r. ⌜ HasStarters (now (state .entry)) r ⌝ }
+{
+    if state[THREADS_AT + THREAD_LENGTH * k + LIVES_FIELD] == 0 {
+        return set;
+    }
+    with_ancestors(state, set, k as u64 + 1)
+}
+
+// The threads in whose families some thread lives, found in one climb over all of them. Validation
+// has found at most 64 threads.
+pub(crate) fn living_families(state: &[u64]) -> u64
     requires { ⌜ (length (now state) ≡ stateLength)
         × (getD (now state) threadCountAt 0 ≤ mostThreads) ⌝ }
-    ensures { λ r. ⌜ r
-        ≡ noneAwaited (now (state .entry)) u (getD (now (state .entry)) threadCountAt 0) ⌝ }
+    ensures { λ r. ⌜ LivingFamilies (now (state .entry)) r ⌝ }
 {
     let n = state[THREAD_COUNT_AT] as usize;
+    let mut living: u64 = 0;
     let mut k: usize = 0;
     while k < n {
-        if is_awaited(state, u, k) {
-            return false;
-        }
+        living = with_awaiting(state, living, k);
         k += 1;
     }
-    true
+    living
 }
 
-// An entry of a next list is ready: the thread for which it waits, and each that this one started
-// itself, has ended.
-pub(crate) fn is_ready(state: &[u64], e: u64) -> bool
-    requires { ⌜ (length (now state) ≡ stateLength)
-        × (getD (now state) threadCountAt 0 ≤ mostThreads) ⌝ }
-    ensures { λ r. ⌜ r ≡ isReadyWord (now (state .entry)) e ⌝ }
+// An entry of a next list is ready: it waits for nobody, or no thread lives in the family for which
+// it waits.
+pub(crate) fn is_ready(living: u64, e: u64) -> bool
+    ensures { λ r. ⌜ r ≡ isReadyBy living e ⌝ }
 {
     if e < WAITING_FACTOR {
         return true;
     }
-    none_awaited(state, e / WAITING_FACTOR)
+    lacks_thread(living, e / WAITING_FACTOR)
 }

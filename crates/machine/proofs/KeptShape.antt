@@ -22,7 +22,8 @@ use Rattle.machine.specs.State.{Scheduler, noThread, noScheduler, noCell
 use Rattle.machine.specs.State.{schedulerAt, withScheduler, withNew, enlist}
 use Rattle.machine.specs.Fresh.{fresh, firstCell, mainThread, homeScheduler}
 use Rattle.basics.specs.If.{keepIf}
-use Rattle.machine.specs.Waits.{isReady, entryThread, readyThreads, stillWaiting}
+use Rattle.machine.specs.Waits.{entryThread, readyThreads, stillWaiting}
+use Rattle.machine.specs.inner.Families.{isReady}
 use Rattle.machine.specs.Evaluation.{Here, EvalResult, Evaluation, eval, storing}
 use Rattle.machine.specs.Turns.{Spaces, holds, stateSpaces, StepResult, Turn, here, continuation}
 use Rattle.machine.specs.Turns.{variables, unlinkedHere, evaluator, afterEval, goOn, withValue}

@@ -4,6 +4,8 @@ pub mod Lists
 -- The cells in use; what each operation on a cell gives, changes and logs.
 pub mod UsedCells
 pub mod Primitives
+-- The ready test finds the whole family.
+pub mod Families
 -- Whose cells are accessed: by an evaluation, by a choice; and that a refused choice leaves the
 -- state. What a choice can answer.
 pub mod Owns

@@ -20,7 +20,8 @@ use Rattle.machine.specs.State.{noThread, noScheduler, nth, setNth, sche
 use Rattle.machine.specs.State.{withNew, enlist}
 use Rattle.machine.specs.Words.{bit}
 use Rattle.basics.specs.If.{keepIf}
-use Rattle.machine.specs.Waits.{isReady, entryThread, readyThreads, stillWaiting}
+use Rattle.machine.specs.Waits.{entryThread, readyThreads, stillWaiting}
+use Rattle.machine.specs.inner.Families.{isReady}
 use Rattle.machine.specs.Fresh.{fresh}
 use Rattle.machine.specs.Evaluation.{Here, EvalResult, Evaluation, eval, storing}
 use Rattle.machine.specs.Turns.{Spaces, holds, stateSpaces, StepResult, Turn, here, variables}

@@ -65,6 +65,10 @@ abbrev pub setNth : List Thread → ℕ → Thread → List Thread
 setNth xs zero x = xs
 setNth xs (suc i) x = set xs i x
 
+-- by which thread thread t was begun; 0: by none
+abbrev pub starterOf : List Thread → ℕ → ℕ
+starterOf ts t = nth ts t .starter
+
 -- ---- thread t, scheduler q, cell c
 abbrev pub threadAt : State → ℕ → Thread
 threadAt s t = nth (s .threads) t

@@ -1,18 +1,29 @@
--- When an entry of a next list is ready.
-use Rattle.basics.specs.Prelude.{List, [], _∷_, Bool, true, false, not, _&&_, _||_, ℕ, suc, eqb}
-use Rattle.basics.specs.Prelude.{keepIf}
-use Rattle.machine.specs.State.{Thread, Entry, plain, waiting}
+-- When an entry of a next list is ready. 02, change 3: 'A wait shall end when the started thread
+-- and all threads begun by it, directly or through others, have ended, as source document 001 has
+-- it.' 001, section 2: 'termination of thread t and of all its descendants (threads transitively
+-- created by t) is required'.
+use Rattle.basics.specs.Prelude.{List, [], _∷_, true, not, ℕ, keepIf, _≡_}
+use Rattle.machine.specs.State.{Thread, Entry, plain, waiting, nth, starterOf}
+use Rattle.machine.specs.inner.Families.{isReady}
 
--- of the threads, which count from t: u, and each that u started itself, has ended
-unfoldable pub endedFrom : ℕ → ℕ → List Thread → Bool
-endedFrom u t [] = true
-endedFrom u t (x ∷ xs) = (x .ended || not (eqb t u || eqb (x .starter) u)) && endedFrom u (suc t) xs
+-- `Family f u t`, where f tells by which thread each was begun: t is u, or was begun by one of the
+-- family of u
+pub data Family (f : ℕ → ℕ) (u : ℕ) : ℕ → Type 0 where
+  itself : Family f u u
+  begun : {t : ℕ} → Family f u (f t) → Family f u t
 
--- The ready test, the only place that says when a wait ends: 'The wait ends when the started thread
--- and every thread that it started itself have ended.'
-unfoldable pub isReady : List Thread → Entry → Bool
-isReady ts (plain t) = true
-isReady ts (waiting t u) = endedFrom u 1 ts
+-- The ready test, the only place that says when a wait ends
+pub data Ready (ts : List Thread) : Entry → Type 0 where
+  no-wait : {t : ℕ} → Ready ts (plain t)
+  all-ended : {t u : ℕ} → ((x : ℕ) → Family (starterOf ts) u x → nth ts x .ended ≡ true)
+      → Ready ts (waiting t u)
+
+-- `isReady` computes it, whatever the threads, circles of starters included; proved in
+-- proofs/Families
+abbrev pub ReadyComputes : Type 0
+ReadyComputes =
+    (ts : List Thread) (e : Entry)
+    → (isReady ts e ≡ true → Ready ts e) × (Ready ts e → isReady ts e ≡ true)
 
 -- the thread of an entry
 abbrev pub entryThread : Entry → ℕ

@@ -1,3 +1,4 @@
+pub mod Families
 pub mod Ranges
 pub mod Blocks
 pub mod Parts

@@ -33,7 +33,8 @@ use Rattle.checker.proofs.Whole.{verdict-computes}
 use Rattle.machine.specs.Values.{firstContent}
 use Rattle.machine.specs.State.{enlist}
 use Rattle.machine.specs.Fresh.{fresh}
-use Rattle.machine.specs.Waits.{isReady, readyThreads, stillWaiting}
+use Rattle.machine.specs.Waits.{readyThreads, stillWaiting}
+use Rattle.machine.specs.inner.Families.{isReady}
 use Rattle.machine.specs.Turns.{isSchedulerOf, leave, fits, stay}
 use Rattle.machine.specs.Statements.{ends, stepNothing}
 use Rattle.machine.specs.Steps.{stepThreadWithin, endInstant, isUnlinked, stepWithin}

@@ -48,9 +48,12 @@ pub struct Thread {
     pub ended: bool,
     /// The thread that started this one; `main` has none.
     pub starter: Option<u8>,
-    /// How many of this thread and those that it started itself have not
-    /// ended: a wait for this thread ends at 0.
-    pub unfinished: u8,
+    /// What keeps its family alive (the thread and all begun by it, directly
+    /// or through others): the thread itself until it ends, and each that it
+    /// started itself until that one's family has ended. So a start adds to
+    /// one count, a readiness test reads one, and an end passes up only to
+    /// families that end with it, which each does once in a run.
+    unfinished: u8,
 }
 
 /// An entry of a next list.
@@ -92,6 +95,11 @@ impl Thread {
     pub fn is_unlinked(&self) -> bool {
         self.place == PRIVATE && !self.ended
     }
+
+    /// Have this thread and all begun by it, directly or through others, ended?
+    pub fn family_ended(&self) -> bool {
+        self.unfinished == 0
+    }
 }
 
 impl State {
@@ -117,6 +125,27 @@ impl State {
 
     pub fn thread_mut(&mut self, thread: u8) -> &mut Thread {
         &mut self.threads[usize::from(thread) - 1]
+    }
+
+    /// Adds a thread and hands back its number. Its starter lives, and so do
+    /// the families above, whose counts have that one in them already.
+    pub fn add_thread(&mut self, thread: Thread) -> u8 {
+        if let Some(starter) = thread.starter {
+            self.thread_mut(starter).unfinished += 1;
+        }
+        self.threads.push(thread);
+        self.threads.len() as u8
+    }
+
+    /// The thread ends, and with it each family that only it kept alive.
+    pub fn end_thread(&mut self, thread: u8) {
+        self.thread_mut(thread).ended = true;
+        let mut family = Some(thread);
+        while let Some(root) = family {
+            let root = self.thread_mut(root);
+            root.unfinished -= 1;
+            family = root.starter.filter(|_| root.family_ended());
+        }
     }
 
     /// Where the scheduler of a place stands; `PRIVATE` has none.

@@ -53,7 +53,7 @@ impl State {
         next.retain(|entry| {
             let waits = entry
                 .awaits
-                .is_some_and(|awaited| threads[usize::from(awaited) - 1].unfinished > 0);
+                .is_some_and(|awaited| !threads[usize::from(awaited) - 1].family_ended());
             if !waits {
                 active.push_back(entry.thread);
             }
@@ -91,7 +91,10 @@ impl State {
         observer: &mut O,
     ) -> Result<(), Fault> {
         match self.thread(thread).continuation.last() {
-            None => self.end(thread),
+            None => {
+                self.leave(thread);
+                self.end_thread(thread);
+            }
             Some(&Item::Back(place)) => {
                 self.replace(thread, &[]);
                 self.go(thread, place);
@@ -110,16 +113,6 @@ impl State {
         let continuation = &mut self.thread_mut(thread).continuation;
         continuation.pop();
         continuation.extend_from_slice(items);
-    }
-
-    fn end(&mut self, thread: u8) {
-        self.leave(thread);
-        let ended = self.thread_mut(thread);
-        ended.ended = true;
-        ended.unfinished -= 1;
-        if let Some(starter) = ended.starter {
-            self.thread_mut(starter).unfinished -= 1;
-        }
     }
 
     /// Takes the acting thread, which is the first, off its active list.
@@ -228,18 +221,15 @@ impl State {
             return Err(Fault::ThreadsSpent);
         }
         let place = self.thread(thread).place;
-        let started = Thread::new(module, arguments, place, Some(thread));
-        self.threads.push(started);
-        let number = self.threads.len() as u8;
-        self.thread_mut(thread).unfinished += 1;
+        let started = self.add_thread(Thread::new(module, arguments, place, Some(thread)));
         let entry = Entry {
-            thread: number,
+            thread: started,
             awaits: None,
         };
         self.append(place, entry);
         self.replace(thread, &[]);
         if frame.kind == kind::START_AND_WAIT {
-            self.requeue(thread, place, Some(number));
+            self.requeue(thread, place, Some(started));
         }
         Ok(())
     }

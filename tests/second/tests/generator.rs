@@ -1,10 +1,14 @@
 //! What the generator reaches.
 
+mod literal;
+
 use std::collections::BTreeSet;
 
+use literal::Waits;
 use second::generate;
-use second::listing;
+use second::listing::{self, Reading};
 use second::tally::Tally;
+use second::text;
 
 const SEED: u64 = 1;
 
@@ -37,14 +41,12 @@ fn a_case_can_be_repeated() {
 /// The longest text that may be accepted is among the cases, and one more line.
 #[test]
 fn greatest_length_is_reached() {
-    let verdict_at = |length: usize| {
-        let mut cases = (0..20_000).map(|index| generate::case(SEED, index));
-        cases
-            .find(|case| case.program.len() == length)
-            .map(|case| listing::check(&case.program))
+    let occurs = |length: usize, printed: &[u8]| {
+        let mut cases = (0..20_000).map(|index| generate::case(SEED, index).program);
+        cases.any(|text| text.len() == length && listing::check(&text) == printed)
     };
-    assert_eq!(verdict_at(1024 * 17).as_deref(), Some(&b"00 0000\n"[..]));
-    assert_eq!(verdict_at(1025 * 17).as_deref(), Some(&b"02 0000\n"[..]));
+    assert!(occurs(1024 * 17, b"00 0000\n"));
+    assert!(occurs(1025 * 17, b"02 0000\n"));
 }
 
 /// Each allowance at a bound meets each length of a list near one, and few
@@ -69,4 +71,35 @@ fn allowances_meet_long_lists() {
     }
     assert!(missing.is_empty(), "{missing:?}");
     assert!(long < CASES / 300, "{long} long lists");
+}
+
+/// Waits begin, are held up by members far below the awaited thread, and end;
+/// the members end in every order.
+#[test]
+fn families_hold_up_waits() {
+    let mut waits = Waits::default();
+    let (mut differing, mut accepted, mut held_up_and_ended) = (0, 0, 0);
+    for index in 0..30_000 {
+        let case = generate::case(SEED, index);
+        let Reading::Readable(program, verdict) = Reading::new(&case.program) else {
+            continue;
+        };
+        let Ok(choices) = text::choices(&case.choices) else {
+            continue;
+        };
+        let before = (waits.differing, waits.held_up_and_ended);
+        waits.add(&program, listing::used(&program, &choices));
+        differing += usize::from(waits.differing > before.0);
+        accepted += usize::from(waits.differing > before.0 && verdict.number == 0);
+        held_up_and_ended += usize::from(waits.held_up_and_ended > before.1);
+    }
+    println!("{waits}\ncases that differ {differing}, accepted ones {accepted}");
+    println!("cases that differ and end later {held_up_and_ended}");
+    assert!(differing > 1000, "{differing} cases differ from 01");
+    assert!(accepted > 800, "{accepted} of them are accepted");
+    assert!(held_up_and_ended > 800, "{held_up_and_ended} of them end");
+    for levels in 2..=20 {
+        assert!(waits.levels.contains_key(&levels), "{levels} levels below");
+    }
+    assert_eq!(waits.orders.len(), 6 + 24, "orders of 3 and 4 members");
 }

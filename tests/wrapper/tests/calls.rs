@@ -1,5 +1,6 @@
-//! The wrapper tried on wrong lengths, empty buffers and garbage states; demand 3 tried on the
-//! accepted vectors; the writer tried on drawn files.
+//! The wrapper tried on wrong lengths, empty buffers and garbage states; the end of an instant tried
+//! on states of a caller's own; demand 3 tried on the accepted vectors; the writer tried on drawn
+//! files.
 use purkvaldi::{Answer, Listing};
 use std::path::Path;
 
@@ -59,6 +60,90 @@ fn garbage_states_are_14_and_stay() {
         );
         assert_eq!(changed, kept);
     }
+}
+
+/// The next number of a row that looks random, below `most`.
+fn below(seed: &mut u64, most: u64) -> u64 {
+    *seed = seed
+        .wrapping_mul(6364136223846793005)
+        .wrapping_add(1442695040888963407);
+    (*seed >> 33) % most
+}
+
+/// In a caller's own state anybody may have begun anybody: families are gathered from the starters
+/// until nothing is new, and an entry is ready where all of the awaited family have ended. (Document
+/// 02, change 3; docs/STATE.md has the words.)
+#[test]
+fn waits_end_with_the_family_whatever_the_starters() {
+    const ACTIVE: usize = 2;
+    const NEXT: usize = ACTIVE + 65;
+    let thread_at = |t: usize| 1042 + 55 * (t - 1);
+    let mut seed = 3;
+    let (mut held_up, mut circles) = (0, 0);
+    for round in 0..20_000 {
+        let mut state = vec![0; purkvaldi::state_length()];
+        let threads = 1 + below(&mut seed, 64) as usize;
+        let living = 1 + below(&mut seed, 40);
+        state[0] = threads as u64;
+        for t in 1..=threads {
+            // Most starters are threads; some are none, and some are over the count.
+            let most = if below(&mut seed, 20) == 0 {
+                65
+            } else {
+                threads as u64 + 1
+            };
+            state[thread_at(t)] = 2;
+            state[thread_at(t) + 1] = below(&mut seed, most);
+            state[thread_at(t) + 2] = u64::from(below(&mut seed, living) == 0);
+        }
+        let family = |root: usize, state: &[u64]| {
+            let mut family = [false; 65];
+            family[root] = true;
+            for _ in 0..64 {
+                for t in 1..=threads {
+                    family[t] = family[t] || family[state[thread_at(t) + 1] as usize];
+                }
+            }
+            family
+        };
+        let (mut ready, mut waiting) = (Vec::new(), Vec::new());
+        let entries = below(&mut seed, 65) as usize;
+        state[NEXT] = entries as u64;
+        for i in 0..entries {
+            let (t, u) = (1 + below(&mut seed, 64), below(&mut seed, 65));
+            let entry = 128 * u + t;
+            state[NEXT + 1 + i] = entry;
+            let awaited = family(u as usize, &state);
+            let lives = |x: usize| state[thread_at(x) + 2] == 1;
+            if u > 0 && (1..=threads).any(|x| awaited[x] && lives(x)) {
+                waiting.push(entry);
+                held_up += usize::from(u as usize > threads || !lives(u as usize));
+                circles += usize::from(awaited[state[thread_at(u as usize) + 1] as usize]);
+            } else {
+                ready.push(t);
+            }
+        }
+        let mut wanted = state.clone();
+        if !ready.is_empty() {
+            wanted[ACTIVE..NEXT + 65].fill(0);
+            for (at, list) in [(ACTIVE, &ready), (NEXT, &waiting)] {
+                wanted[at] = list.len() as u64;
+                wanted[at + 1..at + 1 + list.len()].copy_from_slice(list);
+            }
+        }
+        let number = if ready.is_empty() { 16 } else { 0 };
+        assert_eq!(
+            purkvaldi::step(THREE, &mut state, 2),
+            answer(number, 0),
+            "round {round}"
+        );
+        assert_eq!(state, wanted, "round {round}");
+    }
+    assert!(
+        held_up > 10_000,
+        "{held_up} waits only for threads further down"
+    );
+    assert!(circles > 10_000, "{circles} waits for a thread in a circle");
 }
 
 /// The answers of these choices in one call, from this state on.

@@ -1,22 +1,20 @@
--- What the code does to the lists of schedulers, and its ready test, in the words. No reader has to
--- believe it: on words that say a state each is what the rules do to the state
--- (proofs/SchedulerSays, proofs/Instants). Scheduler k counts from 0. Assumes nothing:
--- definitions.
+-- What the code does to the lists of schedulers in the words. No reader has to believe it: on words
+-- that say a state each is what the rules do to the state (proofs/SchedulerSays, proofs/Instants).
+-- Scheduler k counts from 0. Assumes nothing: definitions.
 use mathlib.Core.Path.{_≡_}
 use mathlib.Core.List.{List, [], _∷_, _++_}
-use mathlib.Core.Bool.{Bool, true, not, _&&_, _||_}
-use Prim.Native.Nat.{ℕ, suc, _+_, _-_, _*_, _/_, _%_, _≤_}
+use mathlib.Core.Bool.{not}
+use Prim.Native.Nat.{ℕ, _+_, _-_, _*_, _%_, _≤_}
 use lib.Dec.{ltb, eqb}
 use lib.ListN.{length, getD, set, drop}
 use Rattle.basics.specs.If.{if_then_else_}
 use Rattle.language.specs.Limits.{mostThreads}
 use Rattle.machine.specs.Offsets.{stateLength, threadCountAt, schedulersAt, schedulerLength}
-use Rattle.machine.specs.Offsets.{listLength, nextListAt, threadsAt, threadLength, starterField}
-use Rattle.machine.specs.Offsets.{livesField, waitingFactor}
+use Rattle.machine.specs.Offsets.{listLength, nextListAt, waitingFactor}
 use Rattle.basics.specs.If.{keepIf}
 use Rattle.machine.specs.Words.{wordsAt}
 use Rattle.machine.specs.inner.Blocks.{part, pasted, padded}
-use Rattle.machine.specs.inner.Ranges.{allBelow}
+use Rattle.lists.specs.inner.Families.{isReadyWord}
 
 -- the words without the first, then 0
 unfoldable pub shifted : List ℕ → List ℕ
@@ -40,22 +38,6 @@ withLast w k e =
     else w
 
 -- ---- the end of an instant
-
--- a wait for thread u awaits thread k, from 0: it has not ended, and is thread u or started by it
-unfoldable pub isAwaited : List ℕ → ℕ → ℕ → Bool
-isAwaited w u k =
-    not (eqb (getD w (threadsAt + threadLength * k + livesField) 0) 0)
-    && (eqb (suc k) u || eqb (getD w (threadsAt + threadLength * k + starterField) 0) u)
-
--- it awaits none of the first n threads
-unfoldable pub noneAwaited : List ℕ → ℕ → ℕ → Bool
-noneAwaited w u n = allBelow n (λ k. not (isAwaited w u k))
-
--- the entry e is ready
-unfoldable pub isReadyWord : List ℕ → ℕ → Bool
-isReadyWord w e =
-    if ltb e waitingFactor then true else
-    noneAwaited w (e / waitingFactor) (getD w threadCountAt 0)
 
 -- of the entries, the threads of the ready ones, and those that wait
 unfoldable pub readyWords : List ℕ → List ℕ → List ℕ

@@ -22,6 +22,9 @@ pub enum Flavour {
     Valid,
     /// The same, and enough of them to spend the cells or the threads.
     Long,
+    /// The same, and enough for most waits to end; one party several times in
+    /// a row, so that it runs ahead of the others.
+    Bursts,
     /// As many schedulers of the file as some allowance, or one more or less.
     NearBound,
     /// Any byte.
@@ -52,6 +55,7 @@ pub fn text(random: &mut Random, program: &[u8], flavour: Flavour) -> Vec<u8> {
     let count = match flavour {
         Flavour::Empty => 0,
         Flavour::Long => random.between(200, 1200),
+        Flavour::Bursts => random.between(100, 900),
         Flavour::NearBound => NEAR_BOUNDS[random.below(NEAR_BOUNDS.len())],
         Flavour::OverLong => CHOICES_LIMIT / 3 + random.below(2),
         _ if random.chance(20) => random.between(60, 400),
@@ -79,7 +83,7 @@ fn parties(random: &mut Random, program: &Program, flavour: Flavour, count: usiz
         Flavour::RoundRobin => (0..count)
             .map(|number| HOME + (number % schedulers) as u8)
             .collect(),
-        Flavour::Valid | Flavour::Long => valid(random, program, flavour, count),
+        Flavour::Valid | Flavour::Long | Flavour::Bursts => valid(random, program, flavour, count),
         Flavour::Threads => (0..count)
             .map(|_| match random.chance(2) {
                 true => of_thread(random.place(1, 4)),
@@ -91,7 +95,7 @@ fn parties(random: &mut Random, program: &Program, flavour: Flavour, count: usiz
     }
 }
 
-/// Steps along, to see which parties have something to do. Behind the end of
+/// Steps along, to see which parties have something to do. After the end of
 /// all threads a few more choices show that there is nothing left.
 fn valid(random: &mut Random, program: &Program, flavour: Flavour, count: usize) -> Vec<u8> {
     let mut state = State::new(program);
@@ -101,19 +105,47 @@ fn valid(random: &mut Random, program: &Program, flavour: Flavour, count: usize)
         Flavour::Long => 100,
         _ => 8,
     };
+    let mut burst = Burst::default();
     while chosen.len() < count {
-        let Some(party) = random.pick(&busy(&state)) else {
+        let busy = busy(&state);
+        let party = match flavour {
+            Flavour::Bursts => burst.party(random, &busy),
+            _ => random.pick(&busy),
+        };
+        let Some(party) = party else {
             chosen.extend(HOME..=program.last_place);
             break;
         };
         let outcome = state.step(program, party, &mut ());
         chosen.push(party);
+        if outcome.answer != 0 {
+            burst.left = 0;
+        }
         let refused = matches!(outcome.answer, 17..=20);
         if refused && random.chance(patience) {
             break;
         }
     }
     chosen
+}
+
+/// A party, and how many choices of it are left.
+#[derive(Default)]
+struct Burst {
+    party: u8,
+    left: usize,
+}
+
+impl Burst {
+    /// The same party as before, or where that is over another one.
+    fn party(&mut self, random: &mut Random, busy: &[u8]) -> Option<u8> {
+        if self.left == 0 || !busy.contains(&self.party) {
+            self.party = random.pick(busy)?;
+            self.left = random.between(1, 24);
+        }
+        self.left -= 1;
+        Some(self.party)
+    }
 }
 
 fn busy(state: &State) -> Vec<u8> {

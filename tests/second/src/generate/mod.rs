@@ -4,6 +4,7 @@ mod build;
 mod choices;
 mod drawn;
 mod expressions;
+mod families;
 mod lines;
 mod mutate;
 mod plan;
@@ -118,11 +119,15 @@ enum Sort {
     DamagedFrames,
     /// Damaged text: refusals 1 to 3.
     DamagedText,
+    /// Threads that start others over several levels, and waits for them.
+    Families,
+    /// The same in one long chain of starters; refused with 8.
+    Chain,
 }
 
 impl Sort {
     fn random(random: &mut Random) -> Sort {
-        match random.below(200) {
+        match random.below(220) {
             0..=84 => Sort::Clean,
             85..=136 => Sort::Slipping,
             137..=139 => Sort::Nest,
@@ -135,7 +140,9 @@ impl Sort {
             163 => Sort::Doubling,
             164 => Sort::Full,
             165..=189 => Sort::DamagedFrames,
-            _ => Sort::DamagedText,
+            190..=199 => Sort::DamagedText,
+            200..=217 => Sort::Families,
+            _ => Sort::Chain,
         }
     }
 
@@ -144,6 +151,7 @@ impl Sort {
         match self {
             Sort::Soup | Sort::SpendCells | Sort::SpendThreads | Sort::Doubling => Flavour::Long,
             Sort::LongRun => Flavour::NearBound,
+            Sort::Families | Sort::Chain if !random.chance(8) => Flavour::Bursts,
             _ => Flavour::random(random),
         }
     }
@@ -161,6 +169,8 @@ fn program(random: &mut Random, sort: Sort) -> Vec<u8> {
         Sort::Doubling => text(&special::doubling(random)),
         Sort::LongRun => text(&special::long_run(random)),
         Sort::Full => text(&special::full_or_over(random)),
+        Sort::Families => text(&families::levels(random)),
+        Sort::Chain => text(&families::chain(random)),
         Sort::DamagedFrames => {
             let frames = build::frames(random, Plan::roomy);
             text(&mutate::frames(random, frames))

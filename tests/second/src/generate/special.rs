@@ -14,7 +14,12 @@ const ALLOWANCES: [u16; 5] = [0, 0x0FFF, 0x1000, 0x4000, 0xFFFF];
 
 impl Lines {
     /// A balanced tree of `count` leaves under nodes of one kind.
-    fn tree(&mut self, node: u8, count: usize, leaf: &mut dyn FnMut(&mut Lines) -> u16) -> u16 {
+    pub(super) fn tree(
+        &mut self,
+        node: u8,
+        count: usize,
+        leaf: &mut dyn FnMut(&mut Lines) -> u16,
+    ) -> u16 {
         if count <= 1 {
             return leaf(self);
         }
@@ -24,12 +29,17 @@ impl Lines {
     }
 
     /// The statement again and again, an instant apart.
-    fn forever(&mut self, statement: impl FnOnce(&mut Lines) -> u16) -> u16 {
+    pub(super) fn forever(&mut self, statement: impl FnOnce(&mut Lines) -> u16) -> u16 {
         let condition = self.leaf(kind::TRUTH, 1);
         self.turn(condition, statement)
     }
 
-    fn turn(&mut self, condition: u16, statement: impl FnOnce(&mut Lines) -> u16) -> u16 {
+    /// While the condition holds, the statement and a cooperate.
+    pub(super) fn turn(
+        &mut self,
+        condition: u16,
+        statement: impl FnOnce(&mut Lines) -> u16,
+    ) -> u16 {
         let statement = statement(self);
         let cooperate = self.leaf(kind::COOPERATE, 0);
         let body = self.add(kind::SEQUENCE, 0, [statement, cooperate, 0]);

@@ -1,6 +1,6 @@
-//! bench: times of the check, of a step and of the writer, proved and second side by side, how the
-//! check grows, and the stack below each call, as one table whose rows keep their names, so that
-//! two runs can be compared line by line.
+//! bench: times of the check, of steps and instants and of the writer, proved and second side by
+//! side, how the check grows, and the stack below each call, as one table whose rows keep their
+//! names, so that two runs can be compared line by line.
 use std::time::Instant;
 
 /// An accepted file of n lines: modules whose bodies nest, each with lets, stores, loops and
@@ -61,7 +61,7 @@ fn nanoseconds(check: fn(&[u8]) -> (u8, u16), text: &[u8]) -> u128 {
 /// A file whose main loops for ever on its own scheduler: it adds to a shared cell, lets a
 /// variable, and cooperates.
 fn looping() -> Vec<u8> {
-    let frames = [
+    lines(&[
         "0001FFFF00020000", // 0 header
         "0102000100000000", // 1 shared cell, owner 2, a number
         "2101000000000000", // 2 true
@@ -77,10 +77,7 @@ fn looping() -> Vec<u8> {
         "1100000A000B0000", // 12 then
         "19000002000C0000", // 13 while
         "0200000D00000000", // 14 main
-    ];
-    let mut text = frames.join("\n").into_bytes();
-    text.push(b'\n');
-    text
+    ])
 }
 
 const STEPS: usize = 16_384;
@@ -199,6 +196,94 @@ fn steps() {
     row("a step as one of many in a public call", batch, None);
 }
 
+/// A text of frames.
+fn lines(frames: &[&str]) -> Vec<u8> {
+    let mut text = frames.join("\n").into_bytes();
+    text.push(b'\n');
+    text
+}
+
+/// 64 threads in one chain: each starts the next and waits, and the last one cooperates for ever. A
+/// module starts itself, which the check refuses (8) and the stepper does not.
+fn chain() -> Vec<u8> {
+    lines(&[
+        "0001FFFF00010000", // 0 header
+        "0102000100000000", // 1 shared cell, owner 2, a number: how many were started
+        "2300000000000000", // 2 shared cell 0
+        "2500000200000000", // 3 its content
+        "2000003E00000000", // 4 number 62
+        "2700000300040000", // 5 less
+        "2300000000000000", // 6 shared cell 0
+        "2300000000000000", // 7 shared cell 0
+        "2500000700000000", // 8 its content
+        "2000000100000000", // 9 number 1
+        "2600000800090000", // 10 sum
+        "17000006000A0000", // 11 store
+        "1400000000000000", // 12 start module 0, and wait
+        "1100000B000C0000", // 13 then
+        "2101000000000000", // 14 true
+        "1500000000000000", // 15 cooperate
+        "1900000E000F0000", // 16 while
+        "18000005000D0010", // 17 if
+        "0200001100000000", // 18 module 0
+        "1400000000000000", // 19 start module 0, and wait
+        "0200001300000000", // 20 main
+    ])
+}
+
+/// 64 threads that cooperate for ever. Main's first loop starts 63 in one instant, which the check
+/// refuses (13) and the stepper does not.
+fn crowd() -> Vec<u8> {
+    lines(&[
+        "0001FFFF00010000", // 0 header
+        "0102000100000000", // 1 shared cell, owner 2, a number: how many were started
+        "2101000000000000", // 2 true
+        "1500000000000000", // 3 cooperate
+        "1900000200030000", // 4 while
+        "0200000400000000", // 5 module 0
+        "2300000000000000", // 6 shared cell 0
+        "2500000600000000", // 7 its content
+        "2000003F00000000", // 8 number 63
+        "2700000700080000", // 9 less
+        "2300000000000000", // 10 shared cell 0
+        "2300000000000000", // 11 shared cell 0
+        "2500000B00000000", // 12 its content
+        "2000000100000000", // 13 number 1
+        "2600000C000D0000", // 14 sum
+        "1700000A000E0000", // 15 store
+        "1300000000000000", // 16 start module 0
+        "1100000F00100000", // 17 then
+        "1900000900110000", // 18 while
+        "2101000000000000", // 19 true
+        "1500000000000000", // 20 cooperate
+        "1900001300140000", // 21 while
+        "1100001200150000", // 22 then
+        "0200001600000000", // 23 main
+    ])
+}
+
+/// Choices of scheduler 2 where the end of an instant has much to do: of three choices in the chain
+/// one ends an instant, and 63 of 64 entries wait; in the crowd none waits.
+fn instants() {
+    let choices = b"02\n".repeat(STEPS);
+    let mut state = vec![0; purkvaldi::state_length()];
+    let mut out = vec![0; purkvaldi::listing_length()];
+    for (name, text) in [
+        ("a choice, 63 of 64 threads wait in a chain", chain()),
+        ("a choice, 64 threads cooperate", crowd()),
+    ] {
+        let ours = best_step(|| {
+            let run = purkvaldi::run(&text, &choices, &mut state, &mut out);
+            assert_eq!(run.answer.number, 0);
+        });
+        assert_eq!(state[0], 64);
+        let theirs = best_step(|| {
+            std::hint::black_box(second::listing::run(&text, &choices));
+        });
+        row(name, ours, Some(theirs));
+    }
+}
+
 /// A writer's time on a text, the best of five rounds; its answer is known.
 fn nanoseconds_to_arrange(
     arrange: fn(&[u8], &mut [u8]) -> (u8, u16),
@@ -311,6 +396,7 @@ fn main() {
     );
     checks();
     steps();
+    instants();
     writers();
     if std::env::args().nth(1).as_deref() != Some("times") {
         stacks();

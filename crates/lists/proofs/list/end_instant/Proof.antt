@@ -20,7 +20,7 @@ slice-read-n c = search needs
 
 partition-entries-requires : tie.Need-partition-entries-requires
 partition-entries-requires c κs =
-    ((search needs, search needs, search next-short), search needs, search needs)
+    ((search needs, search needs, search next-short), search needs)
 
 mul-state : tie.Need-mul-state
 mul-state c = search needs

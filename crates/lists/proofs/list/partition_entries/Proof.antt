@@ -1,21 +1,22 @@
 -- `partition_entries` meets its contract. Assumes nothing.
 use borrow.Author.Needs.{needs}
 use Prim.Native.Nat.{_≤_, _-_}
-use mathlib.Core.Path.{_≡_, refl}
+use mathlib.Core.Path.{_≡_, refl, _∙_}
 use lib.ListN.{length, length-set}
 use native.Mathlib.Omega.{arith}
-use Rattle.lists.proofs.PartitionLaws.{Partitioning, partition-start, partition-threads}
+use Rattle.lists.proofs.WaitLaws.{ready-by}
+use Rattle.lists.proofs.PartitionLaws.{Partitioning, partition-start}
 use Rattle.lists.proofs.PartitionLaws.{partition-ready, partition-waiting}
 use Rattle.lists.proofs.PartitionLaws.{partition-count, partition-end}
 use Rattle.lists.proofs.list.partition_entries.Statement.{statement}
 use Rattle.lists.proofs.list.partition_entries.Tie as tie
 
 abbrev Inv-loop : tie.InvT-loop
-Inv-loop state₀ active next n r₀ j₀ state r j =
+Inv-loop state₀ active next n living r₀ j₀ state r j =
     (r ≤ j) × (j ≤ n) × (length state ≡ length state₀) × Partitioning state₀ active state r j
 
 abbrev μ-loop : tie.MeasureT-loop
-μ-loop state₀ active next n r₀ j₀ state r j = n - j
+μ-loop state₀ active next n living r₀ j₀ state r j = n - j
 
 add-next : tie.Need-add-next Inv-loop μ-loop
 add-next c = search needs
@@ -25,6 +26,9 @@ mul-n c = search needs
 
 slice-read-n : tie.Need-slice-read-n Inv-loop μ-loop
 slice-read-n c = search needs
+
+living-families-requires : tie.Need-living-families-requires Inv-loop μ-loop
+living-families-requires c κs = search needs
 
 loop-holds : tie.Need-loop-holds Inv-loop μ-loop
 loop-holds c = (search needs, search needs, refl, partition-start _ _)
@@ -42,7 +46,7 @@ slice-read-e : tie.Need-slice-read-e Inv-loop μ-loop
 slice-read-e c = search needs
 
 is-ready-requires : tie.Need-is-ready-requires Inv-loop μ-loop
-is-ready-requires c κs = (search needs, search partition-threads)
+is-ready-requires c κs = search needs
 
 add-state : tie.Need-add-state Inv-loop μ-loop
 add-state c = search needs
@@ -79,15 +83,16 @@ loop-less c = search needs
 
 loop-again : tie.Need-loop-again Inv-loop μ-loop
 loop-again c =
-    let top = c .before .before .before .before .before in
-    let pre = top .before .before .before .pre in (
+    let top = c .before .before .before .before in
+    let pre = top .before .before .before .before .before .pre in
+    let living = top .before .living-families .ensures in (
       search needs,
       search needs,
       simp length-set (omega arith),
       partition-ready _ _ _ _ _ _ (top .loop .inv .3)
-          (c .before .before .before .before .loop-test .taken)
-          (pre .0 .2) (pre .1) (pre .2) (pre .0 .0) refl _
-          (c .before .is-ready .ensures) (c .if1 .taken),
+          (c .before .before .before .loop-test .taken)
+          (pre .0 .2) (pre .1) (pre .0 .0) refl _
+          (c .before .is-ready .ensures ∙ ready-by _ _ living _) (c .if1 .taken),
     )
 
 add-state-5 : tie.Need-add-state-5 Inv-loop μ-loop
@@ -113,15 +118,16 @@ loop-less-2 c = search needs
 
 loop-again-2 : tie.Need-loop-again-2 Inv-loop μ-loop
 loop-again-2 c =
-    let top = c .before .before .before .before .before in
-    let pre = top .before .before .before .pre in (
+    let top = c .before .before .before .before in
+    let pre = top .before .before .before .before .before .pre in
+    let living = top .before .living-families .ensures in (
       search needs,
       search needs,
       simp length-set (omega arith),
       partition-waiting _ _ _ _ _ _ (top .loop .inv .3)
-          (c .before .before .before .before .loop-test .taken)
-          (pre .0 .2) (pre .1) (pre .2) (pre .0 .0) refl _
-          (c .before .is-ready .ensures) (c .if1 .left),
+          (c .before .before .before .loop-test .taken)
+          (pre .0 .2) (pre .1) (pre .0 .0) refl _
+          (c .before .is-ready .ensures ∙ ready-by _ _ living _) (c .if1 .left),
     )
 
 same-length : tie.Need-same-length Inv-loop μ-loop
@@ -139,6 +145,7 @@ partition-entries-spec =
     add-next
     mul-n
     slice-read-n
+    living-families-requires
     loop-holds
     add-e
     add-e-2
