@@ -7,6 +7,7 @@ use mathlib.Core.Path.{_≡_, refl, sym, ap, ap₂, subst, _∙_}
 use mathlib.Core.List.{List, [], _∷_, _++_, map}
 use lib.ListN.{length}
 use Rattle.basics.specs.Members.{All}
+use Rattle.basics.specs.Chains.{eachFrom, lastFrom}
 use Rattle.language.specs.declared.frame.Frame.{Frame}
 use Rattle.text.specs.Frames.{textFrames}
 use Rattle.text.specs.Reading.{Reads, frames}
@@ -24,7 +25,7 @@ use Rattle.machine.proofs.CallRuns.{asCalled, calls-are, fresh-called, words-ar
 use Rattle.machine.proofs.Lists.{all-imply}
 use Rattle.reach.proofs.Fits.{fits}
 use Rattle.safety.specs.Safety.{Sound, NoPrivateInPublic, Apart}
-use Rattle.safety.specs.Accepted.{stateOf, accessesUnder}
+use Rattle.safety.specs.Accepted.{stateOf, accessesUnder, accessesAlong}
 use Rattle.safety.specs.inner.Calls.{accessesFrom, SafeCalls}
 use Rattle.safety.proofs.Accepted.{accepted-safe, accepted-calls-safe}
 use Rattle.stepper.specs.declared.answer.Answer.the-variants as A
@@ -83,21 +84,21 @@ module _ (bs : List ℕ) (read : Reads bs (frames (textFrames bs))) (fine : NoFa
   step-is w c = sym (text-fine (λ n j. textResult (A.Rejected n j) w) (λ gs. asTextResult (stepCall gs w c)) bs fs read fine)
 
   pub texts-are : (w cs : List ℕ) → textCallsFrom bs w cs ≡ map asTextResult (callsFrom fs w cs)
-  unfolding textCallsFrom callsFrom
+  unfolding eachFrom
   texts-are w [] = refl
   texts-are w (c ∷ cs) =
       ap₂ (λ (x : TextResult) (l : List TextResult). x ∷ l) (step-is w c)
       (ap (λ (x : TextResult). textCallsFrom bs (x .words) cs) (step-is w c) ∙ texts-are (stepCall fs w c .words) cs)
 
   pub words-are : (w cs : List ℕ) → textWordsFrom bs w cs ≡ wordsFrom fs w cs
-  unfolding textWordsFrom wordsFrom
+  unfolding lastFrom
   words-are w [] = refl
   words-are w (c ∷ cs) =
       ap (λ (x : TextResult). textWordsFrom bs (x .words) cs) (step-is w c)
       ∙ words-are (stepCall fs w c .words) cs
 
   accesses-are : (w cs : List ℕ) → textAccessesFrom bs w cs ≡ accessesFrom fs w cs
-  unfolding textAccessesFrom accessesFrom
+  unfolding accessesAlong
   accesses-are w [] = refl
   accesses-are w (c ∷ cs) =
       ap (λ (x : List Access). accessesUnder fs w c ++ x)

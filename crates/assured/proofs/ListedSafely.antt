@@ -12,6 +12,7 @@ use borrow.Author.Tests.{eq-eqb, le-ltb}
 use Rattle.basics.specs.Members.{All}
 use Rattle.basics.specs.If.{if_then_else_}
 use Rattle.basics.proofs.Ifs.{if-yes}
+use Rattle.basics.specs.Chains.{eachFrom}
 use Rattle.language.specs.declared.frame.Frame.{Frame}
 use Rattle.language.specs.declared.verdict.Verdict.{Verdict}
 use Rattle.language.specs.declared.verdict.Verdict.the-variants.{Accepted, Rejected}
@@ -54,7 +55,7 @@ use Rattle.assured.proofs.CalledTexts.{plain-steps, left-packed, accept
 plain-lines : (p : Program) (s : State) (cs : List ℕ)
     → All (λ (r : StepResult). Plain (r .answer)) (stepsFrom p s cs)
     → PlainLines cs (choiceLines cs (stepsFrom p s cs))
-unfolding stepsFrom choiceLines choiceLine
+unfolding eachFrom choiceLines choiceLine
 plain-lines p s [] h = PlainLines.none
 plain-lines p s (c ∷ cs) (All.more h hs) =
     PlainLines.more _ _ _ _ h (plain-lines p (step p s c .state) cs hs)

@@ -1,6 +1,7 @@
 -- Demand 3 of the very calls: of what the public functions `fresh` and `step` promise on a text,
 -- `freshText` and `stepText`, one call after the other. The theorems are in proofs/CalledTexts.
-use Rattle.basics.specs.Prelude.{List, [], _∷_, _++_, ℕ, length, _≡_, _≢_, All}
+use Rattle.basics.specs.Prelude.{List, ℕ, length, _≡_, _≢_, All}
+use Rattle.basics.specs.Chains.{eachFrom, lastFrom}
 use Rattle.language.specs.declared.frame.Frame.{Frame}
 use Rattle.language.specs.declared.verdict.Verdict.the-variants.{Accepted}
 use Rattle.language.specs.Refusals.{wrongState, noParty, nothingReady, cellsSpent, threadsSpent}
@@ -12,7 +13,7 @@ use Rattle.reach.specs.Reached.{Passes}
 use Rattle.stepper.specs.declared.answer.Answer.the-variants.{Done}
 use Rattle.stepper.specs.Answers.{answerNumber, TextResult, freshText, stepText}
 use Rattle.safety.specs.Safety.{NoPrivateInPublic, Apart}
-use Rattle.safety.specs.Accepted.{stateOf, accessesUnder}
+use Rattle.safety.specs.Accepted.{stateOf, accessesAlong}
 
 -- an answer that is no refusal of the text (1 to 13), not 14, foreign (19) or stuck (20)
 pub data Plain : ℕ → Type 0 where
@@ -23,20 +24,16 @@ pub data Plain : ℕ → Type 0 where
   threads-spent : Plain threadsSpent
 
 -- one call of `step` after the other, each on the words that the one before left
-unfoldable pub textCallsFrom : List ℕ → List ℕ → List ℕ → List TextResult
-textCallsFrom bs w [] = []
-textCallsFrom bs w (c ∷ cs) = let r = stepText bs w c in r ∷ textCallsFrom bs (r .words) cs
+abbrev pub textCallsFrom : List ℕ → List ℕ → List ℕ → List TextResult
+textCallsFrom bs w cs = eachFrom (stepText bs) (λ (r : TextResult). r .words) w cs
 
 -- the words that the last of these calls leaves
-unfoldable pub textWordsFrom : List ℕ → List ℕ → List ℕ → List ℕ
-textWordsFrom bs w [] = w
-textWordsFrom bs w (c ∷ cs) = textWordsFrom bs (stepText bs w c .words) cs
+abbrev pub textWordsFrom : List ℕ → List ℕ → List ℕ → List ℕ
+textWordsFrom bs w cs = lastFrom (stepText bs) (λ (r : TextResult). r .words) w cs
 
 -- 'those that the stepping rules make on the state it was given, those before a refusal too'
-unfoldable pub textAccessesFrom : List ℕ → List ℕ → List ℕ → List Access
-textAccessesFrom bs w [] = []
-textAccessesFrom bs w (c ∷ cs) =
-    accessesUnder (textFrames bs) w c ++ textAccessesFrom bs (stepText bs w c .words) cs
+abbrev pub textAccessesFrom : List ℕ → List ℕ → List ℕ → List Access
+textAccessesFrom bs w cs = accessesAlong (textFrames bs) (λ v c. stepText bs v c .words) w cs
 
 -- the words after a call of `fresh` on the buffer w and those calls, and the state that they are
 abbrev pub wordsLeft : List ℕ → List ℕ → List ℕ → List ℕ

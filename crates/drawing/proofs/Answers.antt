@@ -23,13 +23,13 @@ use Rattle.text.specs.Reading.{Reading, frames, refused, Reads}
 use Rattle.text.specs.inner.Reading.{reading}
 use Rattle.text.proofs.Readings.{reads, reads-one}
 use Rattle.layout.specs.Faults.{Fault, FirstFault}
-use Rattle.fields.specs.inner.Scans.{headerFault, fieldFault}
+use Rattle.fields.specs.inner.Scans.{headerFault, fieldFault, rejectAt}
 use Rattle.layout.proofs.Searches.{Lowest, lowest-one}
 use Rattle.layout.proofs.Layouts.{header-low, field-low}
 use Rattle.drawing.specs.TreeFaults.{Below, TreeFault, ShapeFault}
 use Rattle.drawing.specs.Writings.{Writing, asWriting, LowestAt, NoneAt}
 use Rattle.drawing.specs.Writings.{NoEarly, Writable, rewritten, HasWriting}
-use Rattle.drawing.specs.inner.Finds.{treeFaultAt, shapeFaultAt, depthFaultAt, stopAt, drawingVerdict}
+use Rattle.drawing.specs.inner.Finds.{treeFaultAt, shapeFaultAt, depthFaultAt, drawingVerdict}
 use Rattle.drawing.specs.inner.Finds.{writingAfter, writingOf, writingRead}
 use Rattle.drawing.specs.Answers.{writing, WritingComputes}
 use Rattle.drawing.proofs.Cycles.{only-frames}
@@ -102,7 +102,7 @@ module _ (fs : List Frame) where
 
 -- ---- frames without a fault pass
 stop-passed : {P : ℕ → Type 0} (m : ℕ) (o : Option ℕ) (next : Unit {0} → Verdict) → Lowest P o
-    → stopAt m o next ≡ Accepted → NoneAt P × (next tt ≡ Accepted)
+    → rejectAt Rejected m o next ≡ Accepted → NoneAt P × (next tt ≡ Accepted)
 stop-passed m none next (Lowest.nowhere h) e = (h, e)
 stop-passed m (some j) next (Lowest.lowest-at p l) e =
     absurd (let z : _≡_ {A = ℕ} 0 1 = cc in omega arith)
@@ -129,7 +129,7 @@ module _ (bs out : List ℕ) where
   stop-step : {P : ℕ → Type 0} (m : ℕ) (o : Option ℕ) (next : Unit {0} → Verdict) → Lowest P o
       → ((j : ℕ) → LowestAt P j → HasWriting bs out (asWriting (Rejected m j) out))
       → (NoneAt P → HasWriting bs out (writingAfter bs out (next tt)))
-      → HasWriting bs out (writingAfter bs out (stopAt m o next))
+      → HasWriting bs out (writingAfter bs out (rejectAt Rejected m o next))
   stop-step m none next (Lowest.nowhere h) f g = g h
   stop-step m (some j) next (Lowest.lowest-at p l) f g = f j (record { holds = p; least = l })
 

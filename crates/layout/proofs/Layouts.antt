@@ -13,11 +13,11 @@ use Rattle.basics.proofs.Ifs.{if-all}
 use Rattle.language.specs.declared.frame.Frame.{Frame}
 use Rattle.program.specs.Trees.{noFrame, frameAt}
 use Rattle.fields.specs.Fields.{headerFine, frameFine}
-use Rattle.fields.specs.inner.Scans.{headerFault, fieldFault}
+use Rattle.fields.specs.inner.Scans.{headerFault, fieldFault, rejectAt}
 use Rattle.layout.specs.declared.LayoutVerdict.{LayoutVerdict}
 use Rattle.layout.specs.declared.LayoutVerdict.the-variants.{LaidOut, Rejected}
 use Rattle.layout.specs.Faults.{Fault, LayoutSays}
-use Rattle.layout.specs.inner.Scans.{orderFault, depthFault, rejectAt, layoutOf}
+use Rattle.layout.specs.inner.Scans.{orderFault, depthFault, layoutOf}
 use Rattle.layout.proofs.Searches.{Lowest, same-low, lowest-all}
 use Rattle.layout.proofs.Order.{order-low, all-trees}
 use Rattle.layout.proofs.Depths.{depth-low}
@@ -72,7 +72,7 @@ renumber e f = rw e at f
 -- the lowest fault n, if there is one, is the first; else no fault has a number up to n
 reject-step : {fs : List Frame} (n : ℕ) (o : Option ℕ) (next : Unit {0} → LayoutVerdict)
     → NoneBelow fs n → Lowest (Fault fs n) o → (NoneBelow fs (suc n) → LayoutSays fs (next tt))
-    → LayoutSays fs (rejectAt n o next)
+    → LayoutSays fs (rejectAt Rejected n o next)
 reject-step {fs} n none next low (Lowest.nowhere h) g = g (λ m k f. go m k f (eqb m n) refl)
   where
     go : (m k : ℕ) → Fault fs m k → (b : Bool) → eqb m n ≡ b → suc n ≤ m

@@ -6,6 +6,7 @@ use mathlib.Core.Bool.{Bool, true, false}
 use Prim.Native.Nat.{ℕ}
 use lib.ListN.{length}
 use borrow.Author.Tests.{eq-eqb}
+use Rattle.basics.specs.Chains.{eachFrom, lastFrom}
 use Rattle.language.specs.declared.frame.Frame.{Frame}
 use Rattle.program.specs.Programs.{programOf}
 use Rattle.machine.specs.State.{State}
@@ -52,7 +53,7 @@ module _ (fs : List Frame) (F : FileFits fs (programOf fs) (programSchedulers fs
 
   calls-from : (s : State) (cs : List ℕ) → Shaped fs (programSchedulers fs) s
       → callsFrom fs (pack s) cs ≡ map asCalled (stepsFrom (programOf fs) s cs)
-  unfolding callsFrom stepsFrom
+  unfolding eachFrom
   calls-from s [] z = refl
   calls-from s (c ∷ cs) z =
       ap₂ (λ (x : CallResult) (l : List CallResult). x ∷ l) (call-is s c z)
@@ -68,7 +69,7 @@ module _ (fs : List Frame) (F : FileFits fs (programOf fs) (programSchedulers fs
 
   words-from : (s : State) (cs : List ℕ) → Shaped fs (programSchedulers fs) s
       → wordsFrom fs (pack s) cs ≡ pack (stateFrom (programOf fs) s cs)
-  unfolding wordsFrom stateFrom
+  unfolding lastFrom
   words-from s [] z = refl
   words-from s (c ∷ cs) z =
       ap (λ (x : CallResult). wordsFrom fs (x .words) cs) (call-is s c z)

@@ -11,6 +11,7 @@ use lib.Dec.{ltb, leb, eqb}
 use borrow.Author.Tests.{ltb-true, ltb-false, eqb-true, leb-true, leb-false, le-leb, not-false}
 use Rattle.basics.specs.Members.{All, none, more}
 use Rattle.basics.proofs.Ifs.{if-all, and-true}
+use Rattle.basics.specs.Chains.{lastFrom}
 use Rattle.language.specs.Places.{hasPlace}
 use Rattle.language.specs.declared.frame.Frame.{Frame}
 use Rattle.language.proofs.PlaceLaws.{has-place}
@@ -562,7 +563,7 @@ module _ (fs : List Frame) (P : Program) (n : ℕ) (F : FileFits fs P n) where
       (λ _. if-all Keeps (isUnlinked s c) _ _ (λ e. keeps-thread s c (c - 16) z (unlinked-is s c z e)) (λ _. z))
 
   keeps-from : (s : State) (cs : List ℕ) → Shaped fs n s → Shaped fs n (stateFrom P s cs)
-  unfolding stateFrom
+  unfolding lastFrom
   keeps-from s [] z = z
   keeps-from s (c ∷ cs) z = keeps-from (step P s c .state) cs (keeps-step s c z)
 

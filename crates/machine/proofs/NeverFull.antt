@@ -12,6 +12,7 @@ use lib.ListN.{length, getD, set, take, replicate, length-append}
 use lib.Seq.{length-take-le}
 use borrow.Author.Tests.{leb-false, eqb-true, not-false}
 use Rattle.basics.specs.If.{if_then_else_}
+use Rattle.basics.specs.Chains.{lastFrom}
 use Rattle.program.specs.Trees.{Expr, number, Stmt, nothing, seq, doAt, start, startWait, cooperate}
 use Rattle.program.specs.Trees.{letIn, store, ifElse, while}
 use Rattle.program.specs.Programs.{Program, moduleAt, mainOf}
@@ -338,7 +339,7 @@ module _ (p : Program) (bodies : BodiesFit p) (s : State) (c : ℕ) (before : Ro
 module _ (p : Program) (bodies : BodiesFit p) where
   pub never-from : (s : State) → Counted s → RoomyThreads (s .threads) → (cs : List ℕ)
       → Counted (stateFrom p s cs) × RoomyThreads (stateFrom p s cs .threads)
-  unfolding stateFrom
+  unfolding lastFrom
   never-from s h r [] = (h, r)
   never-from s h r (c ∷ cs) =
       never-from (step p s c .state) (counted-step p s c h) (never-step p bodies s c r h .roomy) cs

@@ -5,6 +5,7 @@ use Prim.Native.Nat.{ℕ}
 use Rattle.basics.specs.If.{if_then_else_}
 use Rattle.basics.specs.Members.{All}
 use Rattle.basics.proofs.Ifs.{if-all}
+use Rattle.basics.specs.Chains.{eachFrom}
 use Rattle.program.specs.Trees.{Expr, Stmt, nothing, seq, doAt, start, startWait, cooperate, letIn}
 use Rattle.program.specs.Trees.{store, ifElse, while}
 use Rattle.program.specs.Programs.{Program}
@@ -133,6 +134,6 @@ unfolding stepWithin
 numbered p s c = number-if _ _ _ (number-scheduler p s c (schedulerAt s c .active)) (number-if _ _ _ (number-thread p s c _) is-15)
 
 pub all-numbered : (p : Program) (s : State) (cs : List ℕ) → All Numbered (stepsFrom p s cs)
-unfolding stepsFrom
+unfolding eachFrom
 all-numbered p s [] = All.none
 all-numbered p s (c ∷ cs) = All.more (numbered p s c) (all-numbered p (step p s c .state) cs)

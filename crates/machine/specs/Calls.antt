@@ -1,5 +1,6 @@
 -- What the calls of the stepper give on the words that a caller lends.
-use Rattle.basics.specs.Prelude.{List, [], _∷_, true, false, ℕ, _≤_, eqb, length, _≡_}
+use Rattle.basics.specs.Prelude.{List, true, false, ℕ, _≤_, eqb, length, _≡_}
+use Rattle.basics.specs.Chains.{eachFrom, lastFrom}
 use Rattle.language.specs.{declared.frame.Frame.Frame, Refusals.wrongState, Limits.mostSchedulers}
 use Rattle.program.specs.Programs.{programOf}
 use Rattle.machine.specs.{Offsets.stateLength, Turns.StepResult, Fresh.fresh, Steps.step}
@@ -43,11 +44,9 @@ stepCall fs w c =
     [ true ↦ asCall w (step p (unpack fs n w) c) | false ↦ callResult wrongState 0 w ]
 
 -- one call after the other, each on the words that the one before left
-unfoldable pub callsFrom : List Frame → List ℕ → List ℕ → List CallResult
-callsFrom fs w [] = []
-callsFrom fs w (c ∷ cs) = let r = stepCall fs w c in r ∷ callsFrom fs (r .words) cs
+abbrev pub callsFrom : List Frame → List ℕ → List ℕ → List CallResult
+callsFrom fs w cs = eachFrom (stepCall fs) (λ (r : CallResult). r .words) w cs
 
 -- the words that the last of these calls leaves
-unfoldable pub wordsFrom : List Frame → List ℕ → List ℕ → List ℕ
-wordsFrom fs w [] = w
-wordsFrom fs w (c ∷ cs) = wordsFrom fs (stepCall fs w c .words) cs
+abbrev pub wordsFrom : List Frame → List ℕ → List ℕ → List ℕ
+wordsFrom fs w cs = lastFrom (stepCall fs) (λ (r : CallResult). r .words) w cs

@@ -1,18 +1,17 @@
 -- A list of choices: each is put to the state that the one before returned or left.
 use Rattle.basics.specs.Prelude.{List, [], _∷_, _++_, map, ℕ}
+use Rattle.basics.specs.Chains.{eachFrom, lastFrom}
 use Rattle.program.specs.Programs.{Program}
 use Rattle.machine.specs.{Accesses.Access, State.State, Fresh.fresh, Turns.StepResult}
 use Rattle.machine.specs.{Steps.step}
 
 -- what each choice gives, in order
-unfoldable pub stepsFrom : Program → State → List ℕ → List StepResult
-stepsFrom p s [] = []
-stepsFrom p s (c ∷ cs) = let r = step p s c in r ∷ stepsFrom p (r .state) cs
+abbrev pub stepsFrom : Program → State → List ℕ → List StepResult
+stepsFrom p s cs = eachFrom (step p) (λ (r : StepResult). r .state) s cs
 
 -- the state after them
-unfoldable pub stateFrom : Program → State → List ℕ → State
-stateFrom p s [] = s
-stateFrom p s (c ∷ cs) = stateFrom p (step p s c .state) cs
+abbrev pub stateFrom : Program → State → List ℕ → State
+stateFrom p s cs = lastFrom (step p) (λ (r : StepResult). r .state) s cs
 
 abbrev pub steps : Program → List ℕ → List StepResult
 steps p cs = stepsFrom p (fresh p) cs

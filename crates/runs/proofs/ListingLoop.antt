@@ -6,6 +6,7 @@ use mathlib.Core.List.{List, [], _∷_, _++_, append-assoc, append-nil}
 use native.Mathlib.Omega.{arith}
 use lib.ListN.{length, getD, take, drop, length-append}
 use lib.Seq.{paste, paste-zero, take-paste, drop-paste, drop-drop, take-length, length-take-le}
+use Rattle.basics.specs.Chains.{eachFrom, lastFrom}
 use Rattle.text.specs.Frames.{framesOf}
 use Rattle.program.specs.Programs.{Program, programOf}
 use Rattle.machine.specs.State.{State}
@@ -68,21 +69,21 @@ module _ (out : List ℕ) (at : ℕ) where
 module _ (p : Program) where
   lines-size : (s : State) (cs : List ℕ)
       → length (choiceLines cs (stepsFrom p s cs)) ≡ 14 * length cs
-  unfolding choiceLines choiceLine stepsFrom
+  unfolding choiceLines choiceLine eachFrom
   lines-size s [] = refl
   lines-size s (c ∷ cs) = let l = lines-size (step p s c .state) cs in omega arith
 
   lines-snoc : (s : State) (xs : List ℕ) (c : ℕ)
       → choiceLines (xs ++ (c ∷ [])) (stepsFrom p s (xs ++ (c ∷ [])))
       ≡ choiceLines xs (stepsFrom p s xs) ++ choiceLine c (step p (stateFrom p s xs) c)
-  unfolding choiceLines stepsFrom stateFrom
+  unfolding choiceLines eachFrom lastFrom
   lines-snoc s [] c = append-nil (choiceLine c (step p s c))
   lines-snoc s (x ∷ xs) c =
       ap (λ (l : List ℕ). choiceLine x (step p s x) ++ l) (lines-snoc (step p s x .state) xs c)
       ∙ sym (append-assoc (choiceLine x (step p s x)) (choiceLines xs (stepsFrom p (step p s x .state) xs)) (choiceLine c (step p (stateFrom p (step p s x .state) xs) c)))
 
   pub step-lines-none : stepLines p [] ≡ []
-  unfolding stepLines choiceLines stepsFrom
+  unfolding stepLines choiceLines eachFrom
   step-lines-none = refl
 
   pub step-lines-size : (cs : List ℕ) → length (stepLines p cs) ≡ 14 * length cs
@@ -120,7 +121,7 @@ pub record Lining (frames bytes : List ℕ) (n : ℕ) (old w before out : List �
 
 pub lining-start : (frames bytes : List ℕ) (n : ℕ) (w out : List ℕ)
     → w ≡ pack (fresh (programOf (framesOf frames))) → Lining frames bytes n w w out out 0
-unfolding stateFrom
+unfolding lastFrom
 lining-start frames bytes n w out q =
     record {
       few = omega arith;

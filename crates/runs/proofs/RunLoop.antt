@@ -5,6 +5,7 @@ use mathlib.Core.List.{List, [], _∷_, _++_}
 use native.Mathlib.Omega.{arith}
 use lib.ListN.{length, getD, take}
 use lib.Seq.{take-suc}
+use Rattle.basics.specs.Chains.{lastFrom}
 use Rattle.text.specs.Frames.{framesOf}
 use Rattle.program.specs.Programs.{Program, programOf}
 use Rattle.machine.specs.State.{State}
@@ -23,7 +24,7 @@ use Rattle.stepper.proofs.GoodWords.{fits-words}
 -- ---- one choice more
 state-snoc : (p : Program) (s : State) (xs : List ℕ) (c : ℕ)
     → stateFrom p s (xs ++ (c ∷ [])) ≡ step p (stateFrom p s xs) c .state
-unfolding stateFrom
+unfolding lastFrom
 state-snoc p s [] c = refl
 state-snoc p s (x ∷ xs) c = state-snoc p (step p s x .state) xs c
 

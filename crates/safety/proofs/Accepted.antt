@@ -6,6 +6,7 @@ use mathlib.Core.List.{List, [], _∷_, _++_, map}
 use Prim.Native.Nat.{ℕ}
 use lib.ListN.{length}
 use Rattle.basics.specs.Members.{All}
+use Rattle.basics.specs.Chains.{eachFrom}
 use Rattle.language.specs.declared.frame.Frame.{Frame}
 use Rattle.text.specs.Reading.{Reads}
 use Rattle.program.specs.Programs.{Program, programOf}
@@ -28,7 +29,7 @@ use Rattle.machine.proofs.CallRuns.{asCalled, fresh-called, call-is, calls-are,
 use Rattle.reach.proofs.Sizes.{sized}
 use Rattle.reach.proofs.Fits.{file-fits}
 use Rattle.safety.specs.Safety.{Sound, Safe, Safety, NoPrivateInPublic, Apart}
-use Rattle.safety.specs.Accepted.{AcceptedSafe, stateOf, accessesUnder}
+use Rattle.safety.specs.Accepted.{AcceptedSafe, stateOf, accessesUnder, accessesAlong}
 use Rattle.safety.specs.inner.Calls.{accessesFrom, SafeCalls, AcceptedCallsSafe}
 use Rattle.safety.proofs.Demand3.{demand-3}
 use Rattle.safety.proofs.TypedFiles.{typed}
@@ -64,7 +65,7 @@ module _ (fs : List Frame) (F : FileFits fs (programOf fs) (programOf fs .schedu
 
   accesses-are : (s : State) (cs : List ℕ) → Shaped fs n s
       → accessesFrom fs (pack s) cs ≡ allAccesses (stepsFrom P s cs)
-  unfolding accessesFrom stepsFrom allAccesses
+  unfolding accessesAlong eachFrom allAccesses
   accesses-are s [] z = refl
   accesses-are s (c ∷ cs) z =
       ap₂ (λ (x : List Access) (y : List Access). x ++ y) (under-is s c z)

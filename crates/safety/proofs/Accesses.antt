@@ -3,6 +3,7 @@
 use mathlib.Core.List.{List, [], _∷_, map}
 use Prim.Native.Nat.{ℕ}
 use Rattle.basics.specs.Members.{All, none, more}
+use Rattle.basics.specs.Chains.{eachFrom}
 use Rattle.program.specs.Programs.{Program}
 use Rattle.machine.specs.Accesses.{Own}
 use Rattle.machine.specs.State.{State}
@@ -17,7 +18,7 @@ use Rattle.safety.specs.Safety.{Sound}
 accessed-from : (p : Program) (s : State) (cs : List ℕ)
     → All Sound (map (λ (r : StepResult). r .answer) (stepsFrom p s cs))
     → All Own (allAccesses (stepsFrom p s cs))
-unfolding stepsFrom allAccesses
+unfolding eachFrom allAccesses
 accessed-from p s [] h = none
 accessed-from p s (c ∷ cs) (more a h) =
     all-append (fair p s c .own (a .0)) (accessed-from p (step p s c .state) cs h)

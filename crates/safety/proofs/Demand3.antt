@@ -7,6 +7,7 @@ use Prim.Native.Nat.{ℕ, _-_, _≤_}
 use native.Mathlib.Omega.{arith}
 use lib.ListN.{length}
 use Rattle.basics.specs.Members.{All}
+use Rattle.basics.specs.Chains.{eachFrom, lastFrom}
 use Rattle.program.specs.Programs.{Program, mainOf, programOf}
 use Rattle.machine.specs.State.{State, Stored, cellAt}
 use Rattle.machine.specs.Fresh.{fresh}
@@ -104,14 +105,14 @@ module _ (P : Program) (T : Typed P) where
   -- `answered`: no choice is foreign or stuck
   sound-from : (s : State) (cs : List ℕ) → GoodS s → Counted s
       → All Sound (map (λ (r : StepResult). r .answer) (stepsFrom P s cs))
-  unfolding stepsFrom
+  unfolding eachFrom
   sound-from s [] g h = All.none
   sound-from s (c ∷ cs) g h =
       let r = ok-step P (T .sh) (T .count) (T .bodies) s c g h in
       All.more (r .sound) (sound-from (step P s c .state) cs (r .good) (counted-step P s c h))
 
   good-from : (s : State) (cs : List ℕ) → GoodS s → Counted s → GoodS (stateFrom P s cs)
-  unfolding stateFrom
+  unfolding lastFrom
   good-from s [] g h = g
   good-from s (c ∷ cs) g h = good-from (step P s c .state) cs (ok-step P (T .sh) (T .count) (T .bodies) s c g h .good) (counted-step P s c h)
 

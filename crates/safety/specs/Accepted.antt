@@ -1,7 +1,7 @@
 -- Demand 3 of the check and the stepper: what holds of every text that the check accepts. The
 -- theorems are in proofs/Accepted. 'Accepted: the check refuses nothing.' Acceptance is by the
 -- rules, `HasVerdict`, which name no checker.
-use Rattle.basics.specs.Prelude.{List, [], true, false, ℕ}
+use Rattle.basics.specs.Prelude.{List, [], _∷_, _++_, true, false, ℕ}
 use Rattle.language.specs.declared.frame.Frame.{Frame}
 use Rattle.language.specs.declared.verdict.Verdict.the-variants.{Accepted}
 use Rattle.text.specs.Frames.{textFrames}
@@ -28,3 +28,8 @@ unfoldable pub accessesUnder : List Frame → List ℕ → ℕ → List Access
 accessesUnder fs w c =
     elim (inRange fs (programOf fs .schedulers) w)
     [ true ↦ step (programOf fs) (stateOf fs w) c .accesses | false ↦ [] ]
+
+-- of one call after the other, each on the words that `next` says the one before left
+unfoldable pub accessesAlong : List Frame → (List ℕ → ℕ → List ℕ) → List ℕ → List ℕ → List Access
+accessesAlong fs next w [] = []
+accessesAlong fs next w (c ∷ cs) = accessesUnder fs w c ++ accessesAlong fs next (next w c) cs

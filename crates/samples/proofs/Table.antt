@@ -6,6 +6,7 @@ use Prim.Native.Nat.{ℕ}
 use Rattle.basics.specs.If.{if_then_else_}
 use Rattle.basics.specs.Members.{All, any}
 use Rattle.basics.specs.inner.Searches.{every, sameNumbers, lowest, earlier}
+use Rattle.basics.specs.Chains.{eachFrom}
 use Rattle.language.specs.Types.{typeWord, ownerDigit, cellDepth, cellType, ownerOf, contentOf}
 use Rattle.language.specs.Types.{public, contentWord}
 use Rattle.language.specs.Kinds.{kindOf, children}
@@ -55,7 +56,7 @@ said x = record { verdict-of = x .verdict; answers-of = x .answers }
 
 -- the whole table, computed at once
 pub table : map computed samples ≡ map said samples
-unfolding bytes if_then_else_ any every sameNumbers lowest earlier standingAt cellDepth cellType ownerOf contentOf public ownerDigit typeWord contentWord withOwner within kindOf children digit hexadecimal lineWord frameOfWord wordsOf textFrames rightAt firstWrong reading expressionTo expressionAt statementTo statementAt sharedOf modulesFrom allowanceOf programOf headerFine firstContentFine countOf frameFine hasChild headerFault fieldFault rowFirst firstDisorder isAfterOther isLeftover firstLeftover noMain orderFault lowestChild deepTo firstDeep depthFault layoutOf namedRule newRule contentRule numbersRule chooseRule typeIn argue typesIn startRule cooperateRule seqRule doRule joinRule storeRule ifElseRule whileRule effectIn modulesIn rulesOf verdict firstContent enlist fresh isReady readyThreads stillWaiting isSchedulerOf leave fits stay ends stepNothing stepThreadWithin endInstant isUnlinked stepWithin stepsFrom
+unfolding bytes if_then_else_ any every sameNumbers lowest earlier standingAt cellDepth cellType ownerOf contentOf public ownerDigit typeWord contentWord withOwner within kindOf children digit hexadecimal lineWord frameOfWord wordsOf textFrames rightAt firstWrong reading expressionTo expressionAt statementTo statementAt sharedOf modulesFrom allowanceOf programOf headerFine firstContentFine countOf frameFine hasChild headerFault fieldFault rowFirst firstDisorder isAfterOther isLeftover firstLeftover noMain orderFault lowestChild deepTo firstDeep depthFault layoutOf namedRule newRule contentRule numbersRule chooseRule typeIn argue typesIn startRule cooperateRule seqRule doRule joinRule storeRule ifElseRule whileRule effectIn modulesIn rulesOf verdict firstContent enlist fresh isReady readyThreads stillWaiting isSchedulerOf leave fits stay ends stepNothing stepThreadWithin endInstant isUnlinked stepWithin eachFrom
 table = refl
 
 -- ---- each row: the verdict is the one that the rules give, and the answers are those of the steps

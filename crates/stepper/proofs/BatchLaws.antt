@@ -9,6 +9,7 @@ use lib.ListN.{length, getD, take, drop, set, length-set}
 use lib.Seq.{take-all, take-suc-set, drop-cons, drop-length, append-snoc}
 use borrow.Author.Tests.{eq-eqb, ne-eqb, not-true}
 use Rattle.basics.proofs.Ifs.{if-yes, if-no}
+use Rattle.basics.specs.Chains.{eachFrom, lastFrom}
 use Rattle.text.specs.Frames.{framesOf}
 use Rattle.program.specs.Programs.{programOf}
 use Rattle.layout.specs.inner.Layouts.{laidAs, laidWords}
@@ -77,14 +78,14 @@ module _ (frames : List ℕ) (shared : ℕ) (cs old w before out : List ℕ) (k 
 
     words-from : wordsFrom (framesOf frames) v (drop (k + 1) cs)
         ≡ wordsFrom (framesOf frames) w (drop k cs)
-    unfolding wordsFrom
+    unfolding lastFrom
     words-from =
         ap (λ (x : List ℕ). wordsFrom (framesOf frames) x (drop (k + 1) cs)) words-next
         ∙ ap (wordsFrom (framesOf frames) w) (sym rest)
 
     calls-from : a ∷ map answerWord (callsFrom (framesOf frames) v (drop (k + 1) cs))
         ≡ map answerWord (callsFrom (framesOf frames) w (drop k cs))
-    unfolding callsFrom
+    unfolding eachFrom
     calls-from =
         ap₂ (λ (i : ℕ) (x : List ℕ). i ∷ map answerWord (callsFrom (framesOf frames) x (drop (k + 1) cs))) (e ∙ ap answerWord z) words-next
         ∙ ap (λ (x : List ℕ). map answerWord (callsFrom (framesOf frames) w x)) (sym rest)
@@ -113,12 +114,12 @@ module _ (frames : List ℕ) (shared : ℕ) (cs old w before out : List ℕ) (k 
         ap (λ (i : ℕ). drop i cs) all ∙ drop-length cs
 
     pub stepping-words : w ≡ wordsFrom (framesOf frames) old cs
-    unfolding wordsFrom
+    unfolding lastFrom
     stepping-words = ap (wordsFrom (framesOf frames) w) (sym none-left) ∙ r .words
 
     pub stepping-answers : length before ≡ length cs
         → out ≡ map answerWord (callsFrom (framesOf frames) old cs)
-    unfolding callsFrom
+    unfolding eachFrom
     stepping-answers room =
         sym (take-all k out (let l = r .wide in omega arith))
         ∙ sym (append-nil (take k out))

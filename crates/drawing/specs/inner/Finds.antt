@@ -19,7 +19,7 @@ use Rattle.language.specs.declared.verdict.Verdict.the-variants.{Accepted, Reje
 use Rattle.program.specs.Trees.{frameAt}
 use Rattle.program.specs.inner.Children.{sameClass}
 use Rattle.text.specs.Reading.{Reading, frames, refused}
-use Rattle.fields.specs.inner.Scans.{headerFault, fieldFault}
+use Rattle.fields.specs.inner.Scans.{headerFault, fieldFault, rejectAt}
 use Rattle.layout.specs.Order.{hasChild, hasClass}
 use Rattle.drawing.specs.TreeFaults.{used}
 use Rattle.drawing.specs.Writings.{Writing, asWriting, rewritten}
@@ -78,23 +78,18 @@ isDeep fs j f =
 unfoldable pub depthFaultAt : List Frame → Option ℕ
 depthFaultAt fs = lowest (isDeep fs) 0 fs
 
--- ---- 4, 5, 21, 6 and 7: refusal n at that frame, if there is one; else what comes next, which is
--- computed only then
-abbrev pub stopAt : ℕ → Option ℕ → (Unit {0} → Verdict) → Verdict
-stopAt n (some j) next = Rejected n j
-stopAt n none next = next tt
-
+-- ---- 4, 5, 21, 6 and 7
 abbrev pub formVerdict : List Frame → Verdict
 formVerdict fs =
-    stopAt wrongTree (treeFaultAt fs) λ _.
-    stopAt wrongOrder (shapeFaultAt fs) λ _.
-    stopAt tooDeep (depthFaultAt fs) λ _.
+    rejectAt Rejected wrongTree (treeFaultAt fs) λ _.
+    rejectAt Rejected wrongOrder (shapeFaultAt fs) λ _.
+    rejectAt Rejected tooDeep (depthFaultAt fs) λ _.
     Accepted
 
 unfoldable pub drawingVerdict : List Frame → Verdict
 drawingVerdict fs =
-    stopAt wrongHeader (headerFault fs) λ _.
-    stopAt wrongField (fieldFault fs) λ _.
+    rejectAt Rejected wrongHeader (headerFault fs) λ _.
+    rejectAt Rejected wrongField (fieldFault fs) λ _.
     formVerdict fs
 
 -- ---- the answer, from that verdict; 14 comes last

@@ -33,6 +33,11 @@ fieldFault fs = lowest (λ (i : ℕ) (f : Frame). not (frameFine fs i f)) 0 fs
 abbrev pub fineAt : List Frame → ℕ → Bool
 fineAt fs i = frameFine fs i (frameAt fs i)
 
+-- refusal n at that frame, if there is one; else what comes next, which is computed only then
+abbrev pub rejectAt : {R : Type 0} → (ℕ → ℕ → R) → ℕ → Option ℕ → (Unit {0} → R) → R
+rejectAt reject n (some j) next = reject n j
+rejectAt reject n none next = next tt
+
 -- the code's answers
 abbrev pub found : Option ℕ → FaultSearch
 found none = Nowhere

@@ -16,7 +16,7 @@ use Rattle.language.specs.Refusals.{wrongHeader, wrongField, wrongOrder, tooDee
 use Rattle.language.specs.Limits.{mostLines, mostDepth}
 use Rattle.program.specs.Trees.{frameAt}
 use Rattle.program.specs.inner.Children.{sameClass}
-use Rattle.fields.specs.inner.Scans.{headerFault, fieldFault}
+use Rattle.fields.specs.inner.Scans.{headerFault, fieldFault, rejectAt}
 use Rattle.layout.specs.declared.LayoutVerdict.{LayoutVerdict}
 use Rattle.layout.specs.declared.LayoutVerdict.the-variants.{LaidOut, Rejected}
 use Rattle.layout.specs.Order.{hasChild, hasClass, isMain}
@@ -116,16 +116,11 @@ unfoldable pub depthFault : List Frame → Option ℕ
 depthFault fs = firstDeep fs fs
 
 -- ---- 4 to 7
--- refusal n at that frame, if there is one; else what comes next, which is computed only then
-abbrev pub rejectAt : ℕ → Option ℕ → (Unit {0} → LayoutVerdict) → LayoutVerdict
-rejectAt n (some j) next = Rejected n j
-rejectAt n none next = next tt
-
 -- 'Over the whole file, smallest number first, then lowest frame'
 unfoldable pub layoutOf : List Frame → LayoutVerdict
 layoutOf fs =
-    rejectAt wrongHeader (headerFault fs) λ _.
-    rejectAt wrongField (fieldFault fs) λ _.
-    rejectAt wrongOrder (orderFault fs) λ _.
-    rejectAt tooDeep (depthFault fs) λ _.
+    rejectAt Rejected wrongHeader (headerFault fs) λ _.
+    rejectAt Rejected wrongField (fieldFault fs) λ _.
+    rejectAt Rejected wrongOrder (orderFault fs) λ _.
+    rejectAt Rejected tooDeep (depthFault fs) λ _.
     LaidOut

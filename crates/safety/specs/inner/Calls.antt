@@ -1,7 +1,7 @@
 -- Demand 3 of the calls on the words of a file's frames, one after the other: a step on the way to
 -- that of the very calls on a text (crate assured, `SafeTexts`).
 use mathlib.Core.Path.{_≡_}
-use mathlib.Core.List.{List, [], _∷_, _++_}
+use mathlib.Core.List.{List}
 use Prim.Native.Nat.{ℕ}
 use lib.ListN.{length}
 use Rattle.basics.specs.Members.{All}
@@ -14,12 +14,11 @@ use Rattle.machine.specs.Accesses.{Access, Own}
 use Rattle.machine.specs.Words.{pack}
 use Rattle.machine.specs.Calls.{CallResult, freshCall, stepCall, callsFrom, wordsFrom}
 use Rattle.safety.specs.Safety.{NoPrivateInPublic, Apart, Sound}
-use Rattle.safety.specs.Accepted.{stateOf, accessesUnder}
+use Rattle.safety.specs.Accepted.{stateOf, accessesAlong}
 
 -- the accesses of one call after the other, each on the words that the one before left
-unfoldable pub accessesFrom : List Frame → List ℕ → List ℕ → List Access
-accessesFrom fs w [] = []
-accessesFrom fs w (c ∷ cs) = accessesUnder fs w c ++ accessesFrom fs (stepCall fs w c .words) cs
+abbrev pub accessesFrom : List Frame → List ℕ → List ℕ → List Access
+accessesFrom fs w cs = accessesAlong fs (λ v c. stepCall fs v c .words) w cs
 
 -- of a file, a lent buffer w and a list of choices: the fresh call writes the buffer, then each
 -- choice is a call
