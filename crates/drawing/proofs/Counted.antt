@@ -2,12 +2,12 @@
 use mathlib.Core.Path.{_≡_, refl, sym, ap, ap₂, subst, _∙_}
 use mathlib.Core.Bool.{Bool, true, false, true≢false}
 use mathlib.Core.List.{List, [], _∷_, _++_, map}
-use Prim.Native.Nat.{ℕ, zero, suc, _+_, _*_, _<_, _≤_}
+use Prim.Native.Nat.{ℕ, suc, _+_, _*_, _<_, _≤_}
 use native.Mathlib.Omega.{arith}
 use native.Mathlib.Nat.{zero-mul}
 use lib.Dec.{eqb, ltb, leb}
 use lib.ListN.{length, getD, length-append}
-use borrow.Author.Tests.{eq-eqb, eqb-true, ltb-true, ltb-false, leb-true, leb-false}
+use borrow.Author.Tests.{eqb-true, ltb-true, ltb-false, leb-true, leb-false}
 use Rattle.basics.specs.If.{if_then_else_}
 use Rattle.basics.specs.Members.{In}
 use Rattle.basics.specs.Members.{any}
@@ -21,12 +21,12 @@ use Rattle.layout.specs.Depths.{Depth}
 use Rattle.language.specs.Limits.{mostDepth}
 use Rattle.layout.specs.Faults.{Fault}
 use Rattle.layout.specs.Order.{hasChild, hasClass}
-use Rattle.layout.proofs.Trees.{Among}
-use Rattle.layout.proofs.Users.{among-children}
+use Rattle.layout.specs.Uses.{times, used}
+use Rattle.layout.proofs.UseCounts.{used-some}
 use Rattle.drawing.specs.Drawings.{headOf, Drawn, Field, node, size, sizeIn, fieldWith}
 use Rattle.drawing.specs.Drawings.{nodeWith, drawn, linedAll, ranks, levels, rootsTo, drawing}
 use Rattle.drawing.specs.Drawings.{laidOut}
-use Rattle.drawing.specs.TreeFaults.{times, used, Below, TreeFault, ShapeFault}
+use Rattle.drawing.specs.TreeFaults.{Below, TreeFault, ShapeFault}
 use Rattle.drawing.specs.Writings.{Writable}
 use Rattle.drawing.proofs.Fields.{Few, few, all-classed, all-in}
 use Rattle.drawing.proofs.Back.{lined-length}
@@ -81,13 +81,6 @@ all-length n draw (i ∷ is) =
     simp length-append (omega arith)
 
 -- ---- how often a frame is used
-times-in : (j : ℕ) {c : Child} {cs : List Child} → In c cs → c .at ≡ j → 1 ≤ times j cs
-unfolding times
-times-in j {c} (In.first {xs = xs}) e =
-    let a = if-yes {A = ℕ} 1 0 (eq-eqb (c .at) j e) in
-    omega arith
-times-in j (In.later m) e = let a = times-in j m e in omega arith
-
 pub times-none : (j : ℕ) (cs : List Child) → ((c : Child) → In c cs → c .at ≡ j → ⊥)
     → times j cs ≡ 0
 unfolding times
@@ -108,13 +101,6 @@ used-none j (f ∷ fs) h =
     let a = times-none j (children f) (λ c m. h 0 c (omega arith) m) in
     let b = used-none j fs (λ i c l m. h (suc i) c (omega arith) m) in
     omega arith
-
-used-in : (j : ℕ) (fs : List Frame) (i : ℕ) (c : Child) → i < length fs
-    → In c (children (frameAt fs i)) → c .at ≡ j → 1 ≤ used j fs
-unfolding used
-used-in j [] i c l m e = absurd (omega arith)
-used-in j (f ∷ fs) zero c l m e = let a = times-in j m e in omega arith
-used-in j (f ∷ fs) (suc i) c l m e = let a = used-in j fs i c (omega arith) m e in omega arith
 
 -- ---- a writable file
 module _ (fs : List Frame) (writable : Writable fs) where
@@ -146,9 +132,7 @@ module _ (fs : List Frame) (writable : Writable fs) where
           unused : used j fs < 1 → (i : ℕ) → i < length fs → (b : Bool)
               → hasChild j (frameAt fs i) ≡ b → b ≡ false
           unused z i k true e =
-              let a = among-children j (frameAt fs i) e in
-              let u = used-in j fs i (a .child) k (a .among) (a .at-it) in
-              absurd (omega arith)
+              let u = used-some j fs i k e in absurd (omega arith)
           unused z i k false e = refl
 
           by : (b : Bool) → leb 1 (used j fs) ≡ b → 1 ≤ used j fs

@@ -21,9 +21,10 @@ use Rattle.language.specs.declared.kind.Class.{Class}
 use Rattle.language.specs.declared.frame.Frame.{Frame}
 use Rattle.program.specs.Trees.{noFrame, frameAt}
 use Rattle.layout.specs.Order.{hasChild, hasClass}
+use Rattle.layout.specs.Uses.{used}
 use Rattle.program.specs.inner.Children.{sameClass}
 use Rattle.layout.proofs.Searches.{Lowest, same-low, lowest-all, any-none, any-false}
-use Rattle.drawing.specs.TreeFaults.{used, Below, TreeFault, ShapeFault}
+use Rattle.drawing.specs.TreeFaults.{Below, TreeFault, ShapeFault}
 use Rattle.drawing.specs.inner.Finds.{isBelow, isTreeFault, treeFaultAt, isModuleFrame, isShapeFault}
 use Rattle.drawing.specs.inner.Finds.{shapeFaultAt}
 use Rattle.drawing.proofs.Cycles.{or-true, or-left, or-right, in-any, any-in, is-below}

@@ -18,11 +18,12 @@ use Rattle.language.specs.declared.kind.Kind.the-variants.{Module}
 use Rattle.language.specs.declared.frame.Frame.{Frame}
 use Rattle.program.specs.Trees.{frameAt}
 use Rattle.layout.specs.Order.{Tree, Row, hasChild, hasClass}
+use Rattle.layout.specs.Uses.{times, used}
 use Rattle.layout.specs.Faults.{Fault, NoFault}
 use Rattle.layout.proofs.Order.{all-trees}
 use Rattle.layout.proofs.Scopes.{child-below, main-last}
 use Rattle.layout.proofs.Users.{row-from, among-children, one-user}
-use Rattle.drawing.specs.TreeFaults.{times, used, Below, TreeFault, ShapeFault}
+use Rattle.drawing.specs.TreeFaults.{Below, TreeFault, ShapeFault}
 use Rattle.drawing.specs.Writings.{Writable}
 use Rattle.drawing.proofs.Fields.{all-classed, all-in}
 use Rattle.drawing.proofs.Cycles.{only-frames, has-child}

@@ -16,8 +16,8 @@ use Rattle.basics.proofs.Ifs.{if-yes, if-no}
 use Rattle.language.specs.Kinds.{Child, children}
 use Rattle.language.specs.declared.frame.Frame.{Frame}
 use Rattle.program.specs.Trees.{frameAt}
+use Rattle.layout.specs.Uses.{times, used}
 use Rattle.drawing.specs.Drawings.{rank, numbered, rootsTo}
-use Rattle.drawing.specs.TreeFaults.{times, used}
 use Rattle.drawing.proofs.Roots.{rankOf}
 
 abbrev pub unit : Bool → ℕ

@@ -1,23 +1,12 @@
 -- 02, change 2: the writer's refusals 21, children that form no trees, and 6, without the order.
 -- Nothing is computed here. Frames are named by their number in the given text.
-use Rattle.basics.specs.Prelude.{List, [], _∷_, true, false, ℕ, suc, _+_, _≤_, _<_, eqb, length}
-use Rattle.basics.specs.Prelude.{_≡_, if_then_else_, In}
+use Rattle.basics.specs.Prelude.{List, true, false, ℕ, suc, _≤_, _<_, length, _≡_, In}
 use Rattle.language.specs.{Kinds.isModule, Kinds.classOf, Kinds.Child, Kinds.children}
 use Rattle.language.specs.declared.frame.Frame.{Frame}
 use Rattle.program.specs.Trees.{frameAt}
-use Rattle.layout.specs.Order.{hasChild, hasClass}
+use Rattle.layout.specs.{Order.hasChild, Order.hasClass, Uses.used}
 
 -- ---- 21
-
--- how often frame j is among the children; and how often in the file: 'a frame used twice' counts
--- fields, of one frame or of two
-unfoldable pub times : ℕ → List Child → ℕ
-times j [] = 0
-times j (c ∷ cs) = (if eqb (c .at) j then 1 else 0) + times j cs
-
-unfoldable pub used : ℕ → List Frame → ℕ
-used j [] = 0
-used j (f ∷ fs) = times j (children f) + used j fs
 
 -- `Below fs i j`: frame i has j as a child, or has a child below which j is
 pub data Below (fs : List Frame) : ℕ → ℕ → Type 0 where

@@ -21,6 +21,7 @@ use Rattle.fields.specs.declared.fault_search.FaultSearch.the-variants.{At, Now
 use Rattle.fields.specs.inner.Scans.{found}
 use Rattle.fields.proofs.Seeking.{Seeking, seek-here, seek-next, seek-end}
 use Rattle.layout.specs.Order.{hasChild, hasClass}
+use Rattle.layout.specs.Uses.{used}
 use Rattle.layout.specs.Depths.{Depth}
 use Rattle.layout.specs.Faults.{Fault}
 use Rattle.layout.proofs.Searches.{Lowest, same-low, lowest-all, lowest-one, any-true, any-false}
@@ -28,7 +29,7 @@ use Rattle.layout.proofs.Trees.{Among, in-body}
 use Rattle.layout.proofs.Depths.{AtLeast, seven, body-depth, child-depth}
 use Rattle.layout.proofs.Users.{Parent, parent, among-children}
 use Rattle.drawing.specs.Writings as writings
-use Rattle.drawing.specs.TreeFaults.{used, TreeFault, ShapeFault}
+use Rattle.drawing.specs.TreeFaults.{TreeFault, ShapeFault}
 use Rattle.drawing.specs.inner.Heights.{Within, within}
 use Rattle.drawing.specs.inner.Finds.{treeFaultAt, shapeFaultAt, depthFaultAt}
 use Rattle.drawing.proofs.Cycles.{has-child, only-frames, within-all}

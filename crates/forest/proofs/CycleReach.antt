@@ -17,11 +17,12 @@ use Rattle.language.specs.declared.frame.Frame.{Frame}
 use Rattle.text.specs.Frames.{framesOf}
 use Rattle.text.proofs.FrameWords.{frames-length}
 use Rattle.program.specs.Trees.{frameAt}
+use Rattle.program.specs.inner.Children.{overChildren}
 use Rattle.drawing.specs.TreeFaults.{Below}
 use Rattle.drawing.specs.inner.Finds.{isBelow}
 use Rattle.drawing.proofs.Cycles.{only-frames, is-below, below-is, any-in}
 use Rattle.forest.specs.inner.Walks.{Walk, walk, QueueRoom, NoCycleBefore}
-use Rattle.forest.specs.inner.Walks.{entered, enteredAll, marksOf}
+use Rattle.forest.specs.inner.Walks.{entered, marksOf}
 use Rattle.forest.specs.inner.FrameTests.{hasChildFrom}
 use Rattle.forest.proofs.MarkBits.{no-marks}
 use Rattle.forest.proofs.CycleWalk.{room-empty, room-less, RoomIn, more-room, withNew}
@@ -182,8 +183,8 @@ module _ (fs : List Frame) (i : ℕ) (few : length fs ≤ 1024) where
 
   -- ---- the children of a frame enter
   all-step : (cs : List Child) (w : Walk) → Reached fs i w → AllBelow fs i cs
-      → Step fs i w (enteredAll i (length fs) w cs)
-  unfolding enteredAll
+      → Step fs i w (overChildren (entered i (length fs)) w cs)
+  unfolding overChildren
   all-step [] w r h = record { reached = r; grows = grows-same w }
   all-step (c ∷ cs) w r h =
       let a = entered-step w r (c .at) (h c In.first) in
@@ -192,8 +193,9 @@ module _ (fs : List Frame) (i : ℕ) (few : length fs ≤ 1024) where
       record { reached = b .reached; grows = grows-on (a .grows) (b .grows) }
 
   all-marked : (cs : List Child) (w : Walk) → Reached fs i w → AllBelow fs i cs → (c : Child)
-      → In c cs → i ≤ c .at → c .at < length fs → Marked (enteredAll i (length fs) w cs) (c .at)
-  unfolding enteredAll
+      → In c cs → i ≤ c .at → c .at < length fs
+      → Marked (overChildren (entered i (length fs)) w cs) (c .at)
+  unfolding overChildren
   all-marked (c ∷ cs) w r h x In.first o l =
       let a = entered-step w r (c .at) (h c In.first) in
       let one = entered i (length fs) w (c .at) in
@@ -237,7 +239,7 @@ empty fs i queue e = record {
 
 module _ (fs : List Frame) (i : ℕ) (few : length fs ≤ 1024) where
   looked-start : (queue : List ℕ) → length queue ≡ 1024
-      → Looked fs i (enteredAll i (length fs) (start queue) (children (frameAt fs i))) 0
+      → Looked fs i (overChildren (entered i (length fs)) (start queue) (children (frameAt fs i))) 0
   looked-start queue e =
       let r = empty fs i queue e in
       let cs = children (frameAt fs i) in
@@ -254,7 +256,7 @@ module _ (fs : List Frame) (i : ℕ) (few : length fs ≤ 1024) where
     cs = children (frameAt fs (getD (w .queue) k 0))
 
     abbrev after : Walk
-    after = enteredAll i (length fs) w cs
+    after = overChildren (entered i (length fs)) w cs
 
     under : (c : Child) → In c cs → Below fs i (c .at)
     under c m = below-child (g .reached .met k l) m
@@ -344,8 +346,8 @@ Looking ws i marks queue filled k = Looked (framesOf ws) i (walk marks queue fil
 
 -- what the code's call made of w is what the laws above speak of
 as-entered : (ws : List ℕ) (i j : ℕ) (f : Frame) (w t : Walk) → f ≡ frameAt (framesOf ws) j
-    → t ≡ enteredAll i (length ws) w (children f)
-    → enteredAll i (length (framesOf ws)) w (children (frameAt (framesOf ws) j)) ≡ t
+    → t ≡ overChildren (entered i (length ws)) w (children f)
+    → overChildren (entered i (length (framesOf ws))) w (children (frameAt (framesOf ws) j)) ≡ t
 as-entered ws i j f w t e h = rw (frames-length ws, sym e, sym h)
 
 module _ (ws : List ℕ) (i : ℕ) (few : length ws ≤ 1024) where
@@ -355,7 +357,7 @@ module _ (ws : List ℕ) (i : ℕ) (few : length ws ≤ 1024) where
   pub look-start : (marks : List Bool) (lent queue : List ℕ) (filled : ℕ) (f : Frame)
       → f ≡ frameAt (framesOf ws) i
       → walk marks queue filled
-      ≡ enteredAll i (length ws) (walk (marksOf (replicate 16 0)) lent 0) (children f)
+      ≡ overChildren (entered i (length ws)) (walk (marksOf (replicate 16 0)) lent 0) (children f)
       → length lent ≡ 1024 → Looking ws i marks queue filled 0
   look-start marks lent queue filled f e h l =
       let none = rw no-marks at h in
@@ -386,7 +388,7 @@ module _ (ws : List ℕ) (i : ℕ) (few : length ws ≤ 1024) where
     pub look-next : (marks' : List Bool) (queue' : List ℕ) (filled' : ℕ) (f : Frame)
         → f ≡ frameAt (framesOf ws) (getD queue k 0)
         → walk marks' queue' filled'
-        ≡ enteredAll i (length ws) (walk marks queue filled) (children f)
+        ≡ overChildren (entered i (length ws)) (walk marks queue filled) (children f)
         → k < filled → (getD queue k 0 ≡ i → ⊥) → Looking ws i marks' queue' filled' (k + 1)
     look-next marks' queue' filled' f e h l d =
         let one : k + 1 ≡ suc k = omega arith in

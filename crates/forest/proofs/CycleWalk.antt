@@ -10,15 +10,10 @@ use borrow.Author.Tests.{ltb-true, ltb-false, lt-ltb, le-ltb}
 use lib.ListN.{getD, length, set, replicate, length-replicate, length-set}
 use Rattle.basics.specs.If.{if_then_else_}
 use Rattle.basics.proofs.Ifs.{yes, no, if-all}
-use Rattle.language.specs.Kinds.{Child, children}
-use Rattle.language.specs.declared.kind.Class.{Class}
-use Rattle.language.specs.declared.frame.Frame.{Frame}
-use Rattle.program.specs.declared.frames.Children.{Children}
-use Rattle.program.specs.declared.frames.Children.the-variants.{Nothing, One, Two, Three}
-use Rattle.program.specs.inner.Children.{listOf, childrenOf}
-use Rattle.program.proofs.FrameLaws.{children-are}
-use Rattle.forest.specs.inner.Walks.{Walk, walk, tally, QueueRoom, entered, enteredAll}
-use Rattle.forest.specs.inner.Walks.{marksOf}
+use Rattle.language.specs.Kinds.{Child}
+use Rattle.program.specs.inner.Children.{overChildren}
+use Rattle.program.proofs.ChildFolds.{fold-keeps}
+use Rattle.forest.specs.inner.Walks.{Walk, walk, tally, QueueRoom, entered, marksOf}
 use Rattle.forest.proofs.MarkBits.{no-marks}
 
 -- ---- marks are counted
@@ -109,18 +104,22 @@ room-kept marks marks' queue queue' filled filled' v i n e r m =
     subst RoomIn (sym e) (entered-room i n v (walk marks queue filled) m r)
 
 all-room : (i n : ℕ) (cs : List Child) (w : Walk) → n ≤ 1024 → RoomIn w
-    → RoomIn (enteredAll i n w cs)
-unfolding enteredAll
-all-room i n [] w m r = r
-all-room i n (c ∷ cs) w m r =
-    all-room i n cs (entered i n w (c .at)) m (entered-room i n (c .at) w m r)
+    → RoomIn (overChildren (entered i n) w cs)
+all-room i n cs w m r =
+    fold-keeps (entered i n) RoomIn (λ t v h. entered-room i n v t m h) cs w r
 
 pub all-most : (marks marks' : List Bool) (queue queue' : List ℕ) (filled filled' i n : ℕ)
     (cs : List Child)
-    → walk marks' queue' filled' ≡ enteredAll i n (walk marks queue filled) cs → QueueRoom marks filled
-    → n ≤ 1024 → filled' ≤ 1024
+    → walk marks' queue' filled' ≡ overChildren (entered i n) (walk marks queue filled) cs
+    → QueueRoom marks filled → n ≤ 1024 → filled' ≤ 1024
 all-most marks marks' queue queue' filled filled' i n cs e r m =
     room-most marks' filled' (subst RoomIn (sym e) (all-room i n cs (walk marks queue filled) m r))
+
+-- a number after the last frame does not enter
+pub entered-past : (i n : ℕ) → n ≤ 1024 → (w : Walk) (v : ℕ) → 1024 ≤ v → w ≡ entered i n w v
+entered-past i n m w v l =
+    by-entering (λ t. w ≡ t) i n w v (λ _. refl) (λ _. refl) (λ _. refl)
+    (λ k _. absurd (omega arith))
 
 -- ---- how the code enters a frame: x is what it found of the mark
 
@@ -161,39 +160,3 @@ module _ (marks : List Bool) (queue : List ℕ) (filled v i n : ℕ) where
         one = omega arith
 
 pub ruleset enter-laws = (enter-early, enter-past, enter-met, enter-new)
-
--- each arm of the match on the children of a frame
-module _ (i n : ℕ) (w : Walk) (f : Frame) (x : Children) (h : x ≡ childrenOf f) where
-  pub none-entered : x ≡ Nothing → w ≡ enteredAll i n w (children f)
-  none-entered e = end ∙ ap (enteredAll i n w) (children-are f x Nothing h e)
-    where
-      end : w ≡ enteredAll i n w []
-      end = unfold enteredAll in refl
-
-  module _ (k : Class) (a : ℕ) (t : Walk) where
-    pub one-entered : x ≡ One k a → t ≡ entered i n w a → t ≡ enteredAll i n w (children f)
-    one-entered e p = p ∙ end ∙ ap (enteredAll i n w) (children-are f x (One k a) h e)
-      where
-        end : entered i n w a ≡ enteredAll i n w (listOf (One k a))
-        end = unfold enteredAll in refl
-
-    module _ (l : Class) (b : ℕ) (r : Walk) where
-      pub two-entered : x ≡ Two k a l b → t ≡ entered i n w a → r ≡ entered i n t b
-          → r ≡ enteredAll i n w (children f)
-      two-entered e p q =
-          q ∙ ap (λ (s : Walk). entered i n s b) p ∙ end
-          ∙ ap (enteredAll i n w) (children-are f x (Two k a l b) h e)
-        where
-          end : entered i n (entered i n w a) b ≡ enteredAll i n w (listOf (Two k a l b))
-          end = unfold enteredAll in refl
-
-      pub three-entered : (m : Class) (c : ℕ) (s : Walk) → x ≡ Three k a l b m c
-          → t ≡ entered i n w a → r ≡ entered i n t b → s ≡ entered i n r c
-          → s ≡ enteredAll i n w (children f)
-      three-entered m c s e p q z =
-          z ∙ ap (λ (y : Walk). entered i n y c) (q ∙ ap (λ (y : Walk). entered i n y b) p) ∙ end
-          ∙ ap (enteredAll i n w) (children-are f x (Three k a l b m c) h e)
-        where
-          end : entered i n (entered i n (entered i n w a) b) c
-              ≡ enteredAll i n w (listOf (Three k a l b m c))
-          end = unfold enteredAll in refl

@@ -1,6 +1,5 @@
--- 21: how often each frame is used, a child that there is not; then cycles: marks as bits, the walk
--- down from a frame, what it reaches.
-pub mod UseCounts
+-- 21: a child that there is not, a frame used twice; then cycles: marks as bits, the walk down from
+-- a frame, what it reaches.
 pub mod AnyChild
 pub mod TreePass
 pub mod MarkBits

@@ -26,11 +26,11 @@ use Rattle.fields.specs.inner.Scans.{found, optionOf}
 use Rattle.fields.proofs.Finds.{option-found}
 use Rattle.fields.proofs.Seeking.{Seeking, seek-here, seek-next, seek-end}
 use Rattle.layout.specs.Order.{hasChild, hasClass}
+use Rattle.layout.specs.inner.Uses.{CountsUses}
 use Rattle.layout.proofs.Searches.{Lowest, either, same-low, lowest-one, lowest-all, any-false}
 use Rattle.drawing.specs.inner.Finds.{isModuleFrame, isShapeFault, shapeFaultAt}
 use Rattle.drawing.proofs.Cycles.{or-true, or-left, or-right}
 use Rattle.forest.specs.inner.FrameTests.{hasWrongChild, hasClassFault, isMainFault}
-use Rattle.forest.specs.inner.Uses.{CountsUses}
 use Rattle.forest.proofs.ShapeTests.{class-fault-is}
 
 -- ---- the loop that looks for a class_fault

@@ -21,15 +21,15 @@ use Rattle.fields.specs.declared.fault_search.FaultSearch.the-variants.{At, Now
 use Rattle.fields.specs.inner.Scans.{found, optionOf}
 use Rattle.fields.proofs.Finds.{option-found}
 use Rattle.fields.proofs.Seeking.{Seeking, seek-here, seek-next, seek-end}
+use Rattle.layout.specs.Uses.{used}
+use Rattle.layout.specs.inner.Uses.{CountsUses}
 use Rattle.layout.proofs.Searches.{Lowest, either, lowest-one, lowest-all}
-use Rattle.drawing.specs.TreeFaults.{used}
+use Rattle.layout.proofs.UseCounts.{cap-full, cap-few}
 use Rattle.drawing.specs.inner.Finds.{isBelow, isTreeFault, treeFaultAt}
 use Rattle.drawing.proofs.Cycles.{or-true, or-left, or-right}
 use Rattle.forest.specs.inner.FrameTests.{hasChildFrom, isUseFault, isCycleFault}
 use Rattle.forest.specs.inner.FrameTests.{framesBefore}
-use Rattle.forest.specs.inner.Uses.{CountsUses}
 use Rattle.forest.specs.inner.Walks.{NoCycleBefore}
-use Rattle.forest.proofs.UseCounts.{cap-full, cap-few}
 
 -- ---- a count of 2 is a frame used twice
 twice-is : (n k : ℕ) → k ≡ min 2 n → eqb k 2 ≡ leb 2 n

@@ -14,65 +14,28 @@ use Rattle.basics.specs.Members.{any}
 use Rattle.basics.proofs.Ifs.{yes, no, if-all, if-yes, if-no}
 use Rattle.language.specs.Kinds.{Child, children}
 use Rattle.language.specs.Limits.{mostLines}
-use Rattle.language.specs.declared.kind.Class.{Class}
 use Rattle.language.specs.declared.frame.Frame.{Frame}
 use Rattle.text.specs.Frames.{framesOf}
 use Rattle.text.proofs.FrameWords.{frames-end}
 use Rattle.program.specs.Trees.{frameAt}
-use Rattle.program.specs.declared.frames.Children.{Children}
-use Rattle.program.specs.declared.frames.Children.the-variants.{Nothing, One, Two, Three}
-use Rattle.program.specs.inner.Children.{listOf, childrenOf}
-use Rattle.program.proofs.FrameLaws.{frames-next, children-are}
+use Rattle.program.specs.inner.Children.{overChildren}
+use Rattle.program.proofs.FrameLaws.{frames-next}
+use Rattle.program.proofs.ChildFolds.{fold-keeps}
 use Rattle.layout.specs.Order.{hasChild}
-use Rattle.drawing.specs.TreeFaults.{times, used}
-use Rattle.forest.specs.inner.Climbs.{withUser, withUsers, usersFrom, usersOf}
+use Rattle.layout.specs.Uses.{used}
+use Rattle.layout.proofs.UseCounts.{frame-some, used-some}
+use Rattle.forest.specs.inner.Climbs.{withUser, usersFrom, usersOf}
 
 -- ---- one user
-pub note-past : (u : List ℕ) (n v : ℕ) → mostLines ≤ v → u ≡ withUser u n v
+pub note-past : (n : ℕ) (u : List ℕ) (v : ℕ) → mostLines ≤ v → u ≡ withUser n u v
 unfolding withUser
-note-past u n v l = no (set u v n) (le-ltb v mostLines l) refl
+note-past n u v l = no (set u v n) (le-ltb v mostLines l) refl
 
-pub note-set : (u : List ℕ) (n v : ℕ) → v < mostLines → set u v n ≡ withUser u n v
+pub note-set : (n : ℕ) (u : List ℕ) (v : ℕ) → v < mostLines → set u v n ≡ withUser n u v
 unfolding withUser
-note-set u n v l = yes u (lt-ltb v mostLines l) refl
+note-set n u v l = yes u (lt-ltb v mostLines l) refl
 
 pub ruleset note-laws = (note-past, note-set)
-
--- ---- the children of a frame: each arm of the match on them
-module _ (u : List ℕ) (n : ℕ) (f : Frame) (x : Children) (h : x ≡ childrenOf f) where
-  pub none-noted : x ≡ Nothing → u ≡ withUsers u n (children f)
-  none-noted e = end ∙ ap (withUsers u n) (children-are f x Nothing h e)
-    where
-      end : u ≡ withUsers u n []
-      end = unfold withUsers in refl
-
-  module _ (k : Class) (a : ℕ) (t : List ℕ) where
-    pub one-noted : x ≡ One k a → t ≡ withUser u n a → t ≡ withUsers u n (children f)
-    one-noted e p = p ∙ end ∙ ap (withUsers u n) (children-are f x (One k a) h e)
-      where
-        end : withUser u n a ≡ withUsers u n (listOf (One k a))
-        end = unfold withUsers in refl
-
-    module _ (l : Class) (b : ℕ) (r : List ℕ) where
-      pub two-noted : x ≡ Two k a l b → t ≡ withUser u n a → r ≡ withUser t n b
-          → r ≡ withUsers u n (children f)
-      two-noted e p q =
-          q ∙ ap (λ (s : List ℕ). withUser s n b) p ∙ end
-          ∙ ap (withUsers u n) (children-are f x (Two k a l b) h e)
-        where
-          end : withUser (withUser u n a) n b ≡ withUsers u n (listOf (Two k a l b))
-          end = unfold withUsers in refl
-
-      pub three-noted : (m : Class) (c : ℕ) (s : List ℕ) → x ≡ Three k a l b m c
-          → t ≡ withUser u n a → r ≡ withUser t n b → s ≡ withUser r n c
-          → s ≡ withUsers u n (children f)
-      three-noted m c s e p q w =
-          w ∙ ap (λ (y : List ℕ). withUser y n c) (q ∙ ap (λ (y : List ℕ). withUser y n b) p) ∙ end
-          ∙ ap (withUsers u n) (children-are f x (Three k a l b m c) h e)
-        where
-          end : withUser (withUser (withUser u n a) n b) n c
-              ≡ withUsers u n (listOf (Three k a l b m c))
-          end = unfold withUsers in refl
 
 -- ---- the loop that fills: from here on it is as from the start
 abbrev pub Noting : List Frame → List ℕ → ℕ → Type 0
@@ -83,18 +46,18 @@ unfolding usersOf
 noting-start fs u e = ap (λ (x : List ℕ). usersFrom x 0 fs) e
 
 noting-step : (ws u : List ℕ) (i : ℕ) → i < length ws
-    → usersFrom (withUsers u (suc i) (children (frameAt (framesOf ws) i))) (suc i)
+    → usersFrom (overChildren (withUser (suc i)) u (children (frameAt (framesOf ws) i))) (suc i)
     (drop (suc i) (framesOf ws))
     ≡ usersFrom u i (drop i (framesOf ws))
 unfolding usersFrom
 noting-step ws u i l = sym (ap (usersFrom u i) (frames-next ws i l))
 
 pub noting-next : (ws u t : List ℕ) (i : ℕ) (f : Frame) → f ≡ frameAt (framesOf ws) i
-    → t ≡ withUsers u (i + 1) (children f) → Noting (framesOf ws) u i → i < length ws
+    → t ≡ overChildren (withUser (i + 1)) u (children f) → Noting (framesOf ws) u i → i < length ws
     → Noting (framesOf ws) t (i + 1)
 noting-next ws u t i f e q g l =
     let s : i + 1 ≡ suc i = omega arith in
-    let b = q ∙ ap₂ (λ (k : ℕ) (h : Frame). withUsers u k (children h)) s e in
+    let b = q ∙ ap₂ (λ (k : ℕ) (h : Frame). overChildren (withUser k) u (children h)) s e in
     let rest = drop (suc i) (framesOf ws) in
     rw s (ap (λ (x : List ℕ). usersFrom x (suc i) rest) b ∙ noting-step ws u i l ∙ g)
 
@@ -109,28 +72,6 @@ abbrev isAt : ℕ → Child → Bool
 isAt j c = eqb (c .at) j
 
 -- ---- a frame that is used once at most has one user at most
-times-some : (j : ℕ) (cs : List Child) → any (isAt j) cs ≡ true → 1 ≤ times j cs
-unfolding times any
-times-some j [] h = absurd (true≢false (sym h))
-times-some j (c ∷ cs) h = go (eqb (c .at) j) refl h (λ g. times-some j cs g)
-  where
-    go : (b : Bool) → eqb (c .at) j ≡ b → elim b [ true ↦ true | false ↦ any (isAt j) cs ] ≡ true
-        → (any (isAt j) cs ≡ true → 1 ≤ times j cs)
-        → 1 ≤ (if eqb (c .at) j then 1 else 0) + times j cs
-    go true e g r = let a = if-yes {A = ℕ} 1 0 e in omega arith
-    go false e g r = let a = r g in omega arith
-
-frame-some : (j : ℕ) (f : Frame) → hasChild j f ≡ true → 1 ≤ times j (children f)
-unfolding hasChild
-frame-some j f h = times-some j (children f) h
-
-used-some : (j : ℕ) (fs : List Frame) (i : ℕ) → i < length fs → hasChild j (frameAt fs i) ≡ true
-    → 1 ≤ used j fs
-unfolding used
-used-some j [] i l h = absurd (omega arith)
-used-some j (f ∷ fs) zero l h = let a = frame-some j f h in omega arith
-used-some j (f ∷ fs) (suc i) l h = let a = used-some j fs i (omega arith) h in omega arith
-
 one-user : (j : ℕ) (fs : List Frame) → used j fs ≤ 1 → (i k : ℕ) → i < length fs → k < length fs
     → hasChild j (frameAt fs i) ≡ true → hasChild j (frameAt fs k) ≡ true → i ≡ k
 unfolding used
@@ -148,16 +89,17 @@ one-user j (f ∷ fs) s (suc i) (suc k) l m p q =
     ap suc (one-user j fs (omega arith) i k (omega arith) (omega arith) p q)
 
 -- ---- what stands at a frame
-user-length : (u : List ℕ) (n v : ℕ) → length (withUser u n v) ≡ length u
+user-length : (n : ℕ) (u : List ℕ) (v : ℕ) → length (withUser n u v) ≡ length u
 unfolding withUser
-user-length u n v =
+user-length n u v =
     let same : List ℕ → Type 0 = λ x. length x ≡ length u in
     if-all same (ltb v mostLines) (set u v n) u (λ h. length-set u v n) (λ h. refl)
 
-users-length : (cs : List Child) (u : List ℕ) (n : ℕ) → length (withUsers u n cs) ≡ length u
-unfolding withUsers
-users-length [] u n = refl
-users-length (c ∷ cs) u n = users-length cs (withUser u n (c .at)) n ∙ user-length u n (c .at)
+users-length : (cs : List Child) (u : List ℕ) (n : ℕ)
+    → length (overChildren (withUser n) u cs) ≡ length u
+users-length cs u n =
+    let same : List ℕ → Type 0 = λ x. length x ≡ length u in
+    fold-keeps (withUser n) same (λ x v e. user-length n x v ∙ e) cs u refl
 
 module _ (j : ℕ) (o : j < mostLines) where
   set-says : (u : List ℕ) (n v : ℕ) → length u ≡ mostLines
@@ -172,7 +114,7 @@ module _ (j : ℕ) (o : j < mostLines) where
           no n refl (getD-set-other u v j n 0 (λ q. eqb-false v j e (sym q)))
 
   user-says : (u : List ℕ) (n v : ℕ) → length u ≡ mostLines
-      → getD (withUser u n v) j 0 ≡ (if eqb v j then n else getD u j 0)
+      → getD (withUser n u v) j 0 ≡ (if eqb v j then n else getD u j 0)
   unfolding withUser
   user-says u n v l =
       if-all Says (ltb v mostLines) (set u v n) u (λ h. set-says u n v l)
@@ -193,16 +135,17 @@ module _ (j : ℕ) (o : j < mostLines) where
   either false b n x = refl
 
   users-say : (cs : List Child) (u : List ℕ) (n : ℕ) → length u ≡ mostLines
-      → getD (withUsers u n cs) j 0 ≡ (if any (isAt j) cs then n else getD u j 0)
-  unfolding withUsers any
+      → getD (overChildren (withUser n) u cs) j 0 ≡ (if any (isAt j) cs then n else getD u j 0)
+  unfolding overChildren any
   users-say [] u n l = no n refl refl
   users-say (c ∷ cs) u n l =
-      users-say cs (withUser u n (c .at)) n (user-length u n (c .at) ∙ l)
+      users-say cs (withUser n u (c .at)) n (user-length n u (c .at) ∙ l)
       ∙ ap (λ (x : ℕ). if any (isAt j) cs then n else x) (user-says u n (c .at) l)
       ∙ either (eqb (c .at) j) (any (isAt j) cs) n (getD u j 0)
 
   frame-says : (f : Frame) (u : List ℕ) (n : ℕ) → length u ≡ mostLines
-      → getD (withUsers u n (children f)) j 0 ≡ (if hasChild j f then n else getD u j 0)
+      → getD (overChildren (withUser n) u (children f)) j 0
+      ≡ (if hasChild j f then n else getD u j 0)
   unfolding hasChild
   frame-says f u n l = users-say (children f) u n l
 
@@ -219,7 +162,7 @@ module _ (j : ℕ) (o : j < mostLines) where
   unfolding usersFrom
   all-noted [] u i l = Noted.kept refl (λ k q. absurd (omega arith))
   all-noted (f ∷ fs) u i l =
-      let t = withUsers u (suc i) (children f) in
+      let t = overChildren (withUser (suc i)) u (children f) in
       let m = users-length (children f) u (suc i) ∙ l in
       go _ (hasChild j f) refl (all-noted fs t (suc i) m)
     where
@@ -230,7 +173,8 @@ module _ (j : ℕ) (o : j < mostLines) where
       none-of h e (suc k) q = h k (omega arith)
 
       go : (x : ℕ) (b : Bool) → hasChild j f ≡ b
-          → Noted fs (withUsers u (suc i) (children f)) (suc i) x → Noted (f ∷ fs) u i x
+          → Noted fs (overChildren (withUser (suc i)) u (children f)) (suc i) x
+          → Noted (f ∷ fs) u i x
       go x b e (Noted.by k z q h) = Noted.by (suc k) (omega arith) (omega arith) h
       go x true e (Noted.kept z h) =
           let a = frame-says f u (suc i) l ∙ if-yes (suc i) (getD u j 0) e in

@@ -1,4 +1,3 @@
 pub mod FrameTests
-pub mod Uses
 pub mod Climbs
 pub mod Walks

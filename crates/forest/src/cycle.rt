@@ -1,8 +1,7 @@
 // Whether a frame is below itself.
 use language::frame::Frame;
 use language::limit::MOST_LINES;
-use program::frames::Children;
-use program::frames::children_of;
+use program::frames::child_numbers;
 use program::frames::frame_at;
 ghost use mathlib.Core.Path.{_≡_};
 ghost use mathlib.Core.Bool.{true, false};
@@ -11,9 +10,10 @@ ghost use lib.ListN.{length, getD, set};
 ghost use Rattle.language.specs.Kinds.{children};
 ghost use Rattle.language.specs.Limits.{mostLines};
 ghost use Rattle.text.specs.Frames.{framesOf};
+ghost use Rattle.program.specs.inner.Children.{overChildren};
 ghost use Rattle.drawing.specs.inner.Finds.{isBelow};
-ghost use Rattle.forest.specs.inner.Walks.{walk, QueueRoom, entered, enteredAll};
-ghost use Rattle.forest.specs.inner.Walks.{NoCycleBefore, marksOf};
+ghost use Rattle.forest.specs.inner.Walks.{walk, QueueRoom, entered, NoCycleBefore};
+ghost use Rattle.forest.specs.inner.Walks.{marksOf};
 
 // The frames met so far are marked, and stand in the first `filled` places of the queue. A mark is
 // a bit, so that those of all frames take few bytes of the stack.
@@ -76,22 +76,13 @@ fn enter_children(
 ) -> usize
     requires { ⌜ (n ≤ mostLines) × QueueRoom (marksOf (now marks)) filled ⌝ }
     ensures { λ r. ⌜ walk (marksOf (now (marks .exit))) (now (queue .exit)) r
-        ≡ enteredAll i n (walk (marksOf (now (marks .entry))) (now (queue .entry)) filled)
-        (children f) ⌝ }
+        ≡ overChildren (entered i n)
+        (walk (marksOf (now (marks .entry))) (now (queue .entry)) filled) (children f) ⌝ }
 {
-    match children_of(f) {
-        Children::Nothing => filled,
-        Children::One(k, a) => enter(marks, queue, filled, a, i, n),
-        Children::Two(k, a, l, b) => {
-            let one = enter(marks, queue, filled, a, i, n);
-            enter(marks, queue, one, b, i, n)
-        }
-        Children::Three(k, a, l, b, m, c) => {
-            let one = enter(marks, queue, filled, a, i, n);
-            let two = enter(marks, queue, one, b, i, n);
-            enter(marks, queue, two, c, i, n)
-        }
-    }
+    let numbers = child_numbers(f);
+    let one = enter(marks, queue, filled, numbers.a, i, n);
+    let two = enter(marks, queue, one, numbers.b, i, n);
+    enter(marks, queue, two, numbers.c, i, n)
 }
 
 // Frame i is on a cycle of children. The frames before i were asked first and are on no cycle, so

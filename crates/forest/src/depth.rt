@@ -3,8 +3,7 @@ use fields::fault_search::FaultSearch;
 use language::frame::Frame;
 use language::limit::MOST_DEPTH;
 use language::limit::MOST_LINES;
-use program::frames::Children;
-use program::frames::children_of;
+use program::frames::child_numbers;
 use program::frames::frame_at;
 ghost use mathlib.Core.Path.{_≡_};
 ghost use mathlib.Core.Option.{none};
@@ -13,18 +12,18 @@ ghost use lib.ListN.{length, replicate};
 ghost use Rattle.language.specs.Kinds.{children};
 ghost use Rattle.language.specs.Limits.{mostLines, mostDepth};
 ghost use Rattle.text.specs.Frames.{framesOf};
+ghost use Rattle.program.specs.inner.Children.{overChildren};
 ghost use Rattle.fields.specs.inner.Scans.{found};
 ghost use Rattle.layout.specs.inner.Scans.{LineWords};
 ghost use Rattle.drawing.specs.inner.Finds.{treeFaultAt, shapeFaultAt, depthFaultAt};
-ghost use Rattle.forest.specs.inner.Climbs.{withUser, withUsers, usersOf, climbs};
-ghost use Rattle.forest.specs.inner.Climbs.{UsersInside};
+ghost use Rattle.forest.specs.inner.Climbs.{withUser, usersOf, climbs, UsersInside};
 
 // Each array of users has for each frame its user's number plus 1, or this.
 const NO_USER: u16 = 0;
 
 // The user of v is noted. A number after the last frame has none.
 fn note_user(users: &mut [u16; MOST_LINES], user: u16, v: u16)
-    ensures { λ r. ⌜ now (users .exit) ≡ withUser (now (users .entry)) user v ⌝ }
+    ensures { λ r. ⌜ now (users .exit) ≡ withUser user (now (users .entry)) v ⌝ }
 {
     let j = v as usize;
     if MOST_LINES <= j {
@@ -34,28 +33,13 @@ fn note_user(users: &mut [u16; MOST_LINES], user: u16, v: u16)
 }
 
 fn note_users(users: &mut [u16; MOST_LINES], user: u16, f: Frame)
-    ensures { λ r. ⌜ now (users .exit) ≡ withUsers (now (users .entry)) user (children f) ⌝ }
+    ensures { λ r. ⌜ now (users .exit)
+        ≡ overChildren (withUser user) (now (users .entry)) (children f) ⌝ }
 {
-    match children_of(f) {
-        Children::Nothing => {
-            return;
-        }
-        Children::One(k, a) => {
-            note_user(users, user, a);
-            return;
-        }
-        Children::Two(k, a, l, b) => {
-            note_user(users, user, a);
-            note_user(users, user, b);
-            return;
-        }
-        Children::Three(k, a, l, b, m, c) => {
-            note_user(users, user, a);
-            note_user(users, user, b);
-            note_user(users, user, c);
-            return;
-        }
-    }
+    let numbers = child_numbers(f);
+    note_user(users, user, numbers.a);
+    note_user(users, user, numbers.b);
+    note_user(users, user, numbers.c);
 }
 
 // In the array that is lent no user is noted yet.

@@ -20,7 +20,6 @@ mod cycle;
 mod depth;
 mod shape;
 mod tree;
-mod uses;
 
 // 21, 6 and 7. A pass may rely on those before it: the depths on there being trees of the right
 // shape. Each makes its own arrays, and none outlives its pass, so that they can share their place

@@ -1,5 +1,4 @@
 // The writer's refusal 6: the shape of the trees, whatever the order of frames.
-use crate::uses::count_uses;
 use fields::fault_search::FaultSearch;
 use fields::fault_search::lower;
 use language::frame::Frame;
@@ -8,6 +7,7 @@ use language::kind::class_of;
 use language::kind::is_module;
 use language::limit::MOST_LINES;
 use layout::in_order::is_left;
+use layout::uses::count_uses;
 use program::frames::Children;
 use program::frames::children_of;
 use program::frames::frame_at;

@@ -1,11 +1,11 @@
 // Refusal 21: children that form no trees.
 use crate::cycle::on_cycle;
-use crate::uses::TWICE;
-use crate::uses::count_uses;
 use fields::fault_search::FaultSearch;
 use fields::fault_search::lower;
 use language::frame::Frame;
 use language::limit::MOST_LINES;
+use layout::uses::TWICE;
+use layout::uses::count_uses;
 use program::frames::Children;
 use program::frames::children_of;
 use program::frames::frame_at;
@@ -18,10 +18,10 @@ ghost use Rattle.text.specs.Frames.{framesOf};
 ghost use Rattle.program.specs.Trees.{frameAt};
 ghost use Rattle.fields.specs.inner.Scans.{found, optionOf};
 ghost use Rattle.layout.specs.inner.Scans.{LineWords};
+ghost use Rattle.layout.specs.inner.Uses.{CountsUses};
 ghost use Rattle.drawing.specs.inner.Finds.{isBelow, treeFaultAt};
 ghost use Rattle.forest.specs.inner.FrameTests.{hasChildFrom, isUseFault};
 ghost use Rattle.forest.specs.inner.FrameTests.{isCycleFault, framesBefore};
-ghost use Rattle.forest.specs.inner.Uses.{CountsUses};
 ghost use Rattle.forest.specs.inner.Walks.{NoCycleBefore};
 
 // f names a child from frame n on. Where there are n frames, that is one that there is not.

@@ -15,13 +15,15 @@ use Rattle.language.specs.Kinds.{isModule, Child, children}
 use Rattle.language.specs.declared.kind.Kind.the-variants.{Module}
 use Rattle.language.specs.declared.frame.Frame.{Frame}
 use Rattle.program.specs.Trees.{frameAt}
+use Rattle.program.specs.inner.Children.{overChildren}
+use Rattle.program.proofs.ChildFolds.{fold-keeps}
 use Rattle.layout.specs.Depths.{Depth}
-use Rattle.layout.specs.inner.Passes.{given, raised, raisedAll, depthsDown}
+use Rattle.layout.specs.inner.Passes.{given, raised, depthsDown}
 use Rattle.layout.proofs.Trees.{is-module, Among, in-body}
 use Rattle.layout.proofs.Depths.{AtLeast, body-depth, child-depth}
 
 -- ---- what raising does to the array
-raised-length : (u : List ℕ) (v d : ℕ) → length (raised u d v) ≡ length u
+raised-length : (u : List ℕ) (v d : ℕ) → length (raised d u v) ≡ length u
 unfolding raised
 raised-length u v d = if-all (λ (x : List ℕ). length x ≡ length u) (ltb v 1024) _ _ (λ o. if-all (λ (x : List ℕ). length x ≡ length u) (ltb (getD u v 0) d) _ _ (λ h. length-set u v d) (λ h. refl)) (λ o. refl)
 
@@ -38,11 +40,11 @@ set-after u v d j l = go (eqb v j) refl
     go false e = After.kept (getD-set-other u v j d 0 (λ q. eqb-false v j e (sym q)))
 
 raised-after : (u : List ℕ) (v d j : ℕ) → v < length u
-    → After u d j (v ≡ j) (getD (raised u d v) j 0)
+    → After u d j (v ≡ j) (getD (raised d u v) j 0)
 unfolding raised
 raised-after u v d j l = if-all (λ (x : List ℕ). After u d j (v ≡ j) (getD x j 0)) (ltb v 1024) _ _ (λ o. if-all (λ (x : List ℕ). After u d j (v ≡ j) (getD x j 0)) (ltb (getD u v 0) d) _ _ (λ h. set-after u v d j l) (λ h. After.kept refl)) (λ o. After.kept refl)
 
-raised-up : (u : List ℕ) (v d j : ℕ) → v < length u → getD u j 0 ≤ getD (raised u d v) j 0
+raised-up : (u : List ℕ) (v d j : ℕ) → v < length u → getD u j 0 ≤ getD (raised d u v) j 0
 unfolding raised
 raised-up u v d j l = if-all (λ (x : List ℕ). getD u j 0 ≤ getD x j 0) (ltb v 1024) _ _ (λ o. if-all (λ (x : List ℕ). getD u j 0 ≤ getD x j 0) (ltb (getD u v 0) d) _ _ (λ h. go (ltb-true _ _ h) _ (set-after u v d j l)) (λ h. omega arith)) (λ o. omega arith)
   where
@@ -51,7 +53,7 @@ raised-up u v d j l = if-all (λ (x : List ℕ). getD u j 0 ≤ getD x j 0) (ltb
     go k x (After.lifted q e) =
         (let y : getD u v 0 ≡ getD u j 0 = ap (λ (n : ℕ). getD u n 0) q in omega arith)
 
-raised-there : (u : List ℕ) (v d : ℕ) → v < 1024 → v < length u → d ≤ getD (raised u d v) v 0
+raised-there : (u : List ℕ) (v d : ℕ) → v < 1024 → v < length u → d ≤ getD (raised d u v) v 0
 unfolding raised
 raised-there u v d k l = if-all (λ (x : List ℕ). d ≤ getD x v 0) (ltb v 1024) _ _ (λ o. if-all (λ (x : List ℕ). d ≤ getD x v 0) (ltb (getD u v 0) d) _ _ (λ h. (let e : getD (set u v d) v 0 ≡ d = getD-set-same u v d 0 l in omega arith)) (λ h. ltb-false _ _ h)) (λ o. absurd (let z = ltb-false v 1024 o in omega arith))
 
@@ -60,48 +62,49 @@ abbrev Fit : List ℕ → List Child → Type 0
 Fit u cs = (c : Child) → In c cs → (c .at < 1024) × (c .at < length u)
 
 fit-next : (u : List ℕ) (d : ℕ) (c : Child) (cs : List Child) → Fit u (c ∷ cs)
-    → Fit (raised u d (c .at)) cs
+    → Fit (raised d u (c .at)) cs
 fit-next u d c cs h x m =
     let a = h x (In.later m) in
     let b = raised-length u (c .at) d in
     let y = a .1 in
     (a .0, omega arith)
 
-all-length : (cs : List Child) (u : List ℕ) (d : ℕ) → length (raisedAll u d cs) ≡ length u
-unfolding raisedAll
-all-length [] u d = refl
-all-length (c ∷ cs) u d = all-length cs (raised u d (c .at)) d ∙ raised-length u (c .at) d
+all-length : (cs : List Child) (u : List ℕ) (d : ℕ)
+    → length (overChildren (raised d) u cs) ≡ length u
+all-length cs u d =
+    let same : List ℕ → Type 0 = λ x. length x ≡ length u in
+    fold-keeps (raised d) same (λ x v e. raised-length x v d ∙ e) cs u refl
 
 all-up : (cs : List Child) (u : List ℕ) (d j : ℕ) → Fit u cs
-    → getD u j 0 ≤ getD (raisedAll u d cs) j 0
-unfolding raisedAll
+    → getD u j 0 ≤ getD (overChildren (raised d) u cs) j 0
+unfolding overChildren
 all-up [] u d j h = omega arith
 all-up (c ∷ cs) u d j h =
     let a = raised-up u (c .at) d j (h c In.first .1) in
-    let b = all-up cs (raised u d (c .at)) d j (fit-next u d c cs h) in
+    let b = all-up cs (raised d u (c .at)) d j (fit-next u d c cs h) in
     omega arith
 
 all-there : (cs : List Child) (u : List ℕ) (d : ℕ) (c : Child) → Fit u cs → In c cs
-    → d ≤ getD (raisedAll u d cs) (c .at) 0
-unfolding raisedAll
+    → d ≤ getD (overChildren (raised d) u cs) (c .at) 0
+unfolding overChildren
 all-there (c ∷ cs) u d x h In.first =
     let a = raised-there u (c .at) d (h c In.first .0) (h c In.first .1) in
-    let b = all-up cs (raised u d (c .at)) d (c .at) (fit-next u d c cs h) in
+    let b = all-up cs (raised d u (c .at)) d (c .at) (fit-next u d c cs h) in
     omega arith
 all-there (c ∷ cs) u d x h (In.later m) =
-    all-there cs (raised u d (c .at)) d x (fit-next u d c cs h) m
+    all-there cs (raised d u (c .at)) d x (fit-next u d c cs h) m
 
 all-after : (cs : List Child) (u : List ℕ) (d j : ℕ) → Fit u cs
-    → After u d j (Among cs j) (getD (raisedAll u d cs) j 0)
-unfolding raisedAll
+    → After u d j (Among cs j) (getD (overChildren (raised d) u cs) j 0)
+unfolding overChildren
 all-after [] u d j h = After.kept refl
-all-after (c ∷ cs) u d j h = go _ (all-after cs (raised u d (c .at)) d j (fit-next u d c cs h))
+all-after (c ∷ cs) u d j h = go _ (all-after cs (raised d u (c .at)) d j (fit-next u d c cs h))
   where
     two : (x : ℕ) → After u d j (c .at ≡ j) x → After u d j (Among (c ∷ cs) j) x
     two x (After.kept e) = After.kept e
     two x (After.lifted q e) = After.lifted (record { child = c; among = In.first; at-it = q }) e
 
-    go : (x : ℕ) → After (raised u d (c .at)) d j (Among cs j) x → After u d j (Among (c ∷ cs) j) x
+    go : (x : ℕ) → After (raised d u (c .at)) d j (Among cs j) x → After u d j (Among (c ∷ cs) j) x
     go x (After.kept e) = rw e (two _ (raised-after u (c .at) d j (h c In.first .1)))
     go x (After.lifted a e) =
         After.lifted (record { child = a .child; among = In.later (a .among); at-it = a .at-it }) e
@@ -159,7 +162,7 @@ module _ (fs : List Frame) (below : (i : ℕ) (c : Child) → i < length fs → 
 
   module _ (n : ℕ) (u : List ℕ) (l : n < length fs) (t : Settled (suc n) u) where
     abbrev next : List ℕ
-    next = raisedAll u (given (frameAt fs n) (getD u n 0)) (children (frameAt fs n))
+    next = overChildren (raised (given (frameAt fs n) (getD u n 0))) u (children (frameAt fs n))
 
     fits : Fit u (children (frameAt fs n))
     fits c m =

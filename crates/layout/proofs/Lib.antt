@@ -14,6 +14,7 @@ pub mod SharedCells
 pub mod Users
 -- ---- the code: its passes over a text's lines find what Scans computes
 pub mod DisorderPass
+pub mod UseCounts
 pub mod LeftoverPass
 pub mod OrderPass
 pub mod Raises

@@ -1,4 +1,5 @@
 pub mod Order
+pub mod Uses
 pub mod Depths
 pub mod Faults
 pub mod LaidOut

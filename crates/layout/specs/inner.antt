@@ -1,4 +1,5 @@
 pub mod Scans
+pub mod Uses
 pub mod Passes
 pub mod Scope
 pub mod Layouts

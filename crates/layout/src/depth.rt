@@ -5,8 +5,7 @@ use language::frame::Frame;
 use language::kind::is_module;
 use language::limit::MOST_DEPTH;
 use language::limit::MOST_LINES;
-use program::frames::Children;
-use program::frames::children_of;
+use program::frames::child_numbers;
 use program::frames::frame_at;
 ghost use mathlib.Core.Path.{_≡_};
 ghost use mathlib.Core.Option.{none};
@@ -15,13 +14,14 @@ ghost use lib.ListN.{length};
 ghost use Rattle.language.specs.Kinds.{children};
 ghost use Rattle.language.specs.Limits.{mostLines};
 ghost use Rattle.text.specs.Frames.{framesOf};
+ghost use Rattle.program.specs.inner.Children.{overChildren};
 ghost use Rattle.fields.specs.inner.Scans.{found};
 ghost use Rattle.layout.specs.inner.Scans.{orderFault, depthFault, LineWords};
-ghost use Rattle.layout.specs.inner.Passes.{given, raised, raisedAll, depthsDown};
+ghost use Rattle.layout.specs.inner.Passes.{given, raised, depthsDown};
 
 // At v a depth of at least d. A number after the last frame raises nothing.
 fn raise(u: &mut [u8; MOST_LINES], d: u8, v: u16)
-    ensures { λ r. ⌜ now (u .exit) ≡ raised (now (u .entry)) d v ⌝ }
+    ensures { λ r. ⌜ now (u .exit) ≡ raised d (now (u .entry)) v ⌝ }
 {
     let j = v as usize;
     if MOST_LINES <= j {
@@ -34,28 +34,12 @@ fn raise(u: &mut [u8; MOST_LINES], d: u8, v: u16)
 }
 
 fn raise_frame(u: &mut [u8; MOST_LINES], d: u8, f: Frame)
-    ensures { λ r. ⌜ now (u .exit) ≡ raisedAll (now (u .entry)) d (children f) ⌝ }
+    ensures { λ r. ⌜ now (u .exit) ≡ overChildren (raised d) (now (u .entry)) (children f) ⌝ }
 {
-    match children_of(f) {
-        Children::Nothing => {
-            return;
-        }
-        Children::One(k, a) => {
-            raise(u, d, a);
-            return;
-        }
-        Children::Two(k, a, l, b) => {
-            raise(u, d, a);
-            raise(u, d, b);
-            return;
-        }
-        Children::Three(k, a, l, b, m, c) => {
-            raise(u, d, a);
-            raise(u, d, b);
-            raise(u, d, c);
-            return;
-        }
-    }
+    let numbers = child_numbers(f);
+    raise(u, d, numbers.a);
+    raise(u, d, numbers.b);
+    raise(u, d, numbers.c);
 }
 
 // Stands for every depth that is too deep.

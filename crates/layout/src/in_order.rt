@@ -1,4 +1,5 @@
 // Refusal 6: the order of frames.
+use crate::uses::count_uses;
 use fields::fault_search::FaultSearch;
 use fields::fault_search::lower;
 use language::frame::Frame;
@@ -28,8 +29,7 @@ ghost use Rattle.fields.specs.inner.Scans.{found};
 ghost use Rattle.layout.specs.Order.{hasClass, isMain};
 ghost use Rattle.layout.specs.inner.Scans.{rowFirst, firstDisorder, isAfterOther};
 ghost use Rattle.layout.specs.inner.Scans.{firstLeftover, noMain, orderFault, LineWords};
-ghost use Rattle.layout.specs.inner.Passes.{subtreeOf, told, Backward, marked, marks};
-ghost use Rattle.layout.specs.inner.Passes.{markAll};
+ghost use Rattle.layout.specs.inner.Passes.{subtreeOf, told, Backward};
 
 // The first frame of a subtree whose children stand in order, each of its class.
 enum Subtree {
@@ -184,62 +184,13 @@ fn is_late(k: Kind, other: bool) -> bool
     false
 }
 
-// Each array of marks has a 1 at the frames that some frame has as a child. A number after the
-// last frame marks nothing.
-fn mark(used: &mut [u8; MOST_LINES], v: u16)
-    ensures { λ r. ⌜ now (used .exit) ≡ marked (now (used .entry)) v ⌝ }
-{
-    let j = v as usize;
-    if MOST_LINES <= j {
-        return;
-    }
-    used[j] = 1;
-}
-
-fn mark_frame(used: &mut [u8; MOST_LINES], f: Frame)
-    ensures { λ r. ⌜ now (used .exit) ≡ marks (now (used .entry)) (children f) ⌝ }
-{
-    match children_of(f) {
-        Children::Nothing => {
-            return;
-        }
-        Children::One(k, a) => {
-            mark(used, a);
-            return;
-        }
-        Children::Two(k, a, l, b) => {
-            mark(used, a);
-            mark(used, b);
-            return;
-        }
-        Children::Three(k, a, l, b, m, c) => {
-            mark(used, a);
-            mark(used, b);
-            mark(used, c);
-            return;
-        }
-    }
-}
-
-fn mark_all(words: &[u64], used: &mut [u8; MOST_LINES])
-    ensures { λ r. ⌜ now (used .exit) ≡ markAll (now (used .entry)) (framesOf (now
-        (words .entry))) ⌝ }
-{
-    let mut i = 0;
-    while i < words.len() {
-        let f = frame_at(words, i);
-        mark_frame(used, f);
-        i += 1;
-    }
-}
-
-// A statement or an expression that is not marked, or not used.
-pub fn is_left(k: Class, mark: u8) -> bool
-    ensures { λ r. ⌜ r ≡ (hasClass k && eqb mark 0) ⌝ }
+// A statement or an expression that is not used: `count` says how often it is.
+pub fn is_left(k: Class, count: u8) -> bool
+    ensures { λ r. ⌜ r ≡ (hasClass k && eqb count 0) ⌝ }
 {
     match k {
-        Class::Statement => mark == 0,
-        Class::Expression => mark == 0,
+        Class::Statement => count == 0,
+        Class::Expression => count == 0,
         Class::Neither => false,
     }
 }
@@ -250,13 +201,13 @@ fn leftover(words: &[u64]) -> FaultSearch
     ensures { λ r. ⌜ r
         ≡ found (firstLeftover (framesOf (now (words .entry))) 0 (framesOf (now (words .entry)))) ⌝ }
 {
-    let mut used = [0u8; MOST_LINES];
-    mark_all(words, &mut used);
+    let mut counts = [0u8; MOST_LINES];
+    count_uses(words, &mut counts);
     let mut i = 0;
     while i < words.len() {
         let f = frame_at(words, i);
         let kind = f.kind;
-        if is_left(class_of(kind), used[i]) {
+        if is_left(class_of(kind), counts[i]) {
             return FaultSearch::At(i as u16);
         }
         i += 1;

@@ -21,6 +21,7 @@ ghost use Rattle.layout.specs.inner.Layouts.{laidAs, laidWords, layoutVe
 
 mod depth;
 pub mod in_order;
+pub mod uses;
 
 // What refusals 1 to 7 say of a text. One that passes is laid out; 8 to 13 may still refuse it.
 pub enum LayoutVerdict {

@@ -20,7 +20,9 @@ use Rattle.text.proofs.FrameWords.{frames-length, frame-at}
 use Rattle.program.specs.Trees.{noFrame, frameAt}
 use Rattle.program.specs.declared.frames.Children.{Children}
 use Rattle.program.specs.declared.frames.Children.the-variants.{Nothing, One, Two}
+use Rattle.program.specs.declared.frames.ChildNumbers.{ChildNumbers}
 use Rattle.program.specs.inner.Children.{childrenIn, listOf, childrenBy, childrenOf}
+use Rattle.program.specs.inner.Children.{numbersOf}
 
 -- ---- frames
 pub frame-read : (ws : List ℕ) (i : ℕ) (f : Frame) → f ≡ frameOfWord (getD ws i 0) → i < length ws
@@ -137,3 +139,8 @@ children-are f x v h e =
     ap listOf (sym e ∙ h)
     ∙ listed (few (uses (f .kind) .a) (f .a)) (few (uses (f .kind) .b) (f .b))
     (few (uses (f .kind) .c) (f .c))
+
+-- each arm of the match on them that gives their numbers
+pub numbers-are : (f : Frame) (x v : Children) (r : ChildNumbers) → x ≡ childrenOf f → x ≡ v
+    → r ≡ numbersOf (listOf v) → r ≡ numbersOf (children f)
+numbers-are f x v r h e q = q ∙ ap numbersOf (children-are f x v h e)

@@ -5,6 +5,7 @@ pub mod Decoding
 pub mod OneMore
 -- Frames taken apart: a frame of a text, the children in its fields, its node.
 pub mod FrameLaws
+pub mod ChildFolds
 pub mod NodeLaws
 pub mod NodeTrees
 -- Modules by number, main's body, the shared cells counted, their types.

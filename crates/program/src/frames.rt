@@ -9,11 +9,11 @@ use text::line::frame_of_word;
 ghost use mathlib.Core.Path.{_≡_};
 ghost use Prim.Native.Nat.{_<_};
 ghost use lib.ListN.{length};
-ghost use Rattle.language.specs.Kinds.{statementUses, expressionUses};
+ghost use Rattle.language.specs.Kinds.{statementUses, expressionUses, children};
 ghost use Rattle.language.specs.declared.kind.StatementKind.{StatementKind};
 ghost use Rattle.text.specs.Frames.{framesOf};
 ghost use Rattle.program.specs.Trees.{frameAt};
-ghost use Rattle.program.specs.inner.Children.{sameClass, childrenBy, childrenOf};
+ghost use Rattle.program.specs.inner.Children.{sameClass, childrenBy, childrenOf, numbersOf};
 
 // A frame's children, from the first to the last: of each, the class that it is to be of and its
 // frame's number.
@@ -23,6 +23,17 @@ pub enum Children {
     Two(Class, u16, Class, u16),
     Three(Class, u16, Class, u16, Class, u16),
 }
+
+// The numbers of the same children alone; where there are fewer than three, the rest are NO_CHILD.
+pub struct ChildNumbers {
+    pub a: u16,
+    pub b: u16,
+    pub c: u16,
+}
+
+// A number after every frame's: a pass that changes nothing there need not ask how many children a
+// frame has.
+pub const NO_CHILD: u16 = 0xFFFF;
 
 pub fn frame_at(words: &[u64], i: usize) -> Frame
     requires { ⌜ i < length (now words) ⌝ }
@@ -130,5 +141,24 @@ pub fn children_of(f: Frame) -> Children
         Kind::Statement(k) => statement_children(k, f),
         Kind::Expression(k) => expression_children(k, f),
         Kind::Unknown => Children::Nothing,
+    }
+}
+
+pub fn child_numbers(f: Frame) -> ChildNumbers
+    ensures { λ r. ⌜ r ≡ numbersOf (children f) ⌝ }
+{
+    match children_of(f) {
+        Children::Nothing => ChildNumbers {
+            a: NO_CHILD,
+            b: NO_CHILD,
+            c: NO_CHILD,
+        },
+        Children::One(k, a) => ChildNumbers {
+            a,
+            b: NO_CHILD,
+            c: NO_CHILD,
+        },
+        Children::Two(k, a, l, b) => ChildNumbers { a, b, c: NO_CHILD },
+        Children::Three(k, a, l, b, m, c) => ChildNumbers { a, b, c },
     }
 }

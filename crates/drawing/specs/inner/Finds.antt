@@ -21,7 +21,7 @@ use Rattle.program.specs.inner.Children.{sameClass}
 use Rattle.text.specs.Reading.{Reading, frames, refused}
 use Rattle.fields.specs.inner.Scans.{headerFault, fieldFault, rejectAt}
 use Rattle.layout.specs.Order.{hasChild, hasClass}
-use Rattle.drawing.specs.TreeFaults.{used}
+use Rattle.layout.specs.Uses.{used}
 use Rattle.drawing.specs.Writings.{Writing, asWriting, rewritten}
 
 -- ---- 21

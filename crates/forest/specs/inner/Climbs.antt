@@ -6,23 +6,21 @@ use Prim.Native.Nat.{ℕ, zero, suc, _<_, _≤_}
 use lib.Dec.{ltb}
 use lib.ListN.{getD, set, replicate}
 use Rattle.basics.specs.If.{if_then_else_}
-use Rattle.language.specs.Kinds.{Child, children}
+use Rattle.language.specs.Kinds.{children}
 use Rattle.language.specs.Limits.{mostLines}
 use Rattle.language.specs.declared.frame.Frame.{Frame}
+use Rattle.program.specs.inner.Children.{overChildren}
 
 -- for each frame the number of the frame that has it as a child, plus 1; 0 where none has. Here
 -- that of v becomes n
-unfoldable pub withUser : List ℕ → ℕ → ℕ → List ℕ
-withUser u n v = if ltb v mostLines then set u v n else u
-
-unfoldable pub withUsers : List ℕ → ℕ → List Child → List ℕ
-withUsers u n [] = u
-withUsers u n (c ∷ cs) = withUsers (withUser u n (c .at)) n cs
+unfoldable pub withUser : ℕ → List ℕ → ℕ → List ℕ
+withUser n u v = if ltb v mostLines then set u v n else u
 
 -- the list of frames stands from i on
 unfoldable pub usersFrom : List ℕ → ℕ → List Frame → List ℕ
 usersFrom u i [] = u
-usersFrom u i (f ∷ fs) = usersFrom (withUsers u (suc i) (children f)) (suc i) fs
+usersFrom u i (f ∷ fs) =
+    usersFrom (overChildren (withUser (suc i)) u (children f)) (suc i) fs
 
 unfoldable pub usersOf : List Frame → List ℕ
 usersOf fs = usersFrom (replicate mostLines 0) 0 fs

@@ -10,7 +10,7 @@ use Rattle.basics.specs.Members.{any}
 use Rattle.language.specs.Kinds.{isModule, classOf, Child, children}
 use Rattle.language.specs.declared.frame.Frame.{Frame}
 use Rattle.layout.specs.Order.{hasChild, hasClass}
-use Rattle.drawing.specs.TreeFaults.{used}
+use Rattle.layout.specs.Uses.{used}
 use Rattle.drawing.specs.inner.Finds.{isBelow, isModuleFrame, wrongClass}
 
 -- ---- 21, in two halves

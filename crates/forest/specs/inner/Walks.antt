@@ -7,7 +7,6 @@ use Prim.Native.Nat.{ℕ, zero, suc, _*_, _/_, _%_, _^_, _<_}
 use lib.Dec.{ltb, eqb}
 use lib.ListN.{length, getD, set}
 use Rattle.basics.specs.If.{if_then_else_}
-use Rattle.language.specs.Kinds.{Child}
 use Rattle.language.specs.Limits.{mostLines}
 use Rattle.language.specs.declared.frame.Frame.{Frame}
 use Rattle.drawing.specs.inner.Finds.{isBelow}
@@ -61,7 +60,3 @@ entered i n w v =
     (if getD (w .marks) v false then w else
     walk (set (w .marks) v true) (set (w .queue) (w .filled) v) (suc (w .filled)))
     else w)
-
-unfoldable pub enteredAll : ℕ → ℕ → Walk → List Child → Walk
-enteredAll i n w [] = w
-enteredAll i n w (c ∷ cs) = enteredAll i n (entered i n w (c .at)) cs

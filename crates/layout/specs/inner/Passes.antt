@@ -7,10 +7,11 @@ use lib.Dec.{ltb, eqb}
 use lib.ListN.{length, getD, set, replicate}
 use Rattle.basics.specs.If.{if_then_else_}
 use Rattle.basics.specs.inner.Searches.{lowest}
-use Rattle.language.specs.Kinds.{isModule, classOf, Child, children}
+use Rattle.language.specs.Kinds.{isModule, classOf, children}
 use Rattle.language.specs.declared.frame.Frame.{Frame}
 use Rattle.language.specs.Limits.{mostLines, mostDepth}
 use Rattle.program.specs.Trees.{frameAt}
+use Rattle.program.specs.inner.Children.{overChildren}
 use Rattle.layout.specs.declared.in_order.Subtree.{Subtree}
 use Rattle.layout.specs.declared.in_order.Subtree.the-variants.{From, OutOfOrder}
 use Rattle.layout.specs.inner.Scans.{Passed, passed}
@@ -30,35 +31,20 @@ told fs first (suc i) = passed (classOf (frameAt fs i .kind)) (getD first i 0) �
 abbrev pub Backward : List ℕ → ℕ → Type 0
 Backward first i = (j : ℕ) → j < i → getD first j 0 ≤ j
 
--- a 1 at each frame that some frame has as a child
-unfoldable pub marked : List ℕ → ℕ → List ℕ
-marked u v = if ltb v mostLines then set u v 1 else u
-
-unfoldable pub marks : List ℕ → List Child → List ℕ
-marks u [] = u
-marks u (c ∷ cs) = marks (marked u (c .at)) cs
-
-unfoldable pub markAll : List ℕ → List Frame → List ℕ
-markAll u [] = u
-markAll u (f ∷ fs) = markAll (marks u (children f)) fs
-
 -- ---- 7: the depth of each frame, 0 where it has none, 25 for every depth over 24
 unfoldable pub given : Frame → ℕ → ℕ
 given f d = if eqb d 0 then (if isModule (f .kind) then 1 else 0) else if ltb d (suc mostDepth) then suc d else suc mostDepth
 
 -- at v a depth of at least d
-unfoldable pub raised : List ℕ → ℕ → ℕ → List ℕ
-raised u d v = if ltb v mostLines then (if ltb (getD u v 0) d then set u v d else u) else u
-
-unfoldable pub raisedAll : List ℕ → ℕ → List Child → List ℕ
-raisedAll u d [] = u
-raisedAll u d (c ∷ cs) = raisedAll (raised u d (c .at)) d cs
+unfoldable pub raised : ℕ → List ℕ → ℕ → List ℕ
+raised d u v = if ltb v mostLines then (if ltb (getD u v 0) d then set u v d else u) else u
 
 -- by the frames below n, from the last to the first
 unfoldable pub depthsDown : ℕ → List Frame → List ℕ → List ℕ
 depthsDown zero fs u = u
 depthsDown (suc n) fs u =
-    depthsDown n fs (raisedAll u (given (frameAt fs n) (getD u n 0)) (children (frameAt fs n)))
+    let d = given (frameAt fs n) (getD u n 0) in
+    depthsDown n fs (overChildren (raised d) u (children (frameAt fs n)))
 
 -- the lowest frame over whose depth 24 is
 unfoldable pub firstOver : List Frame → Option ℕ

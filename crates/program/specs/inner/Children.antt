@@ -1,13 +1,15 @@
--- How the code reads the children of a frame. No reader has to believe it: proofs/FrameLaws ties it
--- to the list of them. Assumes nothing: definitions.
+-- How the code reads the children of a frame. No reader has to believe it: proofs/FrameLaws and
+-- proofs/ChildFolds tie it to the list of them. Assumes nothing: definitions.
 use mathlib.Core.Bool.{Bool, true, false}
 use mathlib.Core.List.{List, [], _∷_, _++_}
+use Prim.Native.Nat.{ℕ}
 use Rattle.language.specs.Kinds.{uses, Child, child, childIn}
 use Rattle.language.specs.declared.kind.Class.{Class}
 use Rattle.language.specs.declared.kind.Uses.{Uses}
 use Rattle.language.specs.declared.frame.Frame.{Frame}
 use Rattle.program.specs.declared.frames.Children.{Children}
 use Rattle.program.specs.declared.frames.Children.the-variants.{Nothing, One, Two, Three}
+use Rattle.program.specs.declared.frames.ChildNumbers.{ChildNumbers}
 
 -- a list of at most three children, and back
 abbrev pub childrenIn : List Child → Children
@@ -29,6 +31,25 @@ childrenBy us f =
 
 abbrev pub childrenOf : Frame → Children
 childrenOf f = childrenBy (uses (f .kind)) f
+
+-- stands for a child that there is not: a number after every frame's
+abbrev pub noChild : ℕ
+noChild = 65535
+
+abbrev pub childNumbers : ℕ → ℕ → ℕ → ChildNumbers
+childNumbers a b c = record { a = a; b = b; c = c }
+
+-- the numbers of at most three children
+abbrev pub numbersOf : List Child → ChildNumbers
+numbersOf [] = childNumbers noChild noChild noChild
+numbersOf (c ∷ []) = childNumbers (c .at) noChild noChild
+numbersOf (c ∷ d ∷ []) = childNumbers (c .at) (d .at) noChild
+numbersOf (c ∷ d ∷ e ∷ cs) = childNumbers (c .at) (d .at) (e .at)
+
+-- what g makes of u at the number of one child after the other
+unfoldable pub overChildren : {A : Type 0} → (A → ℕ → A) → A → List Child → A
+overChildren g u [] = u
+overChildren g u (c ∷ cs) = overChildren g (g u (c .at)) cs
 
 -- the class that a child is of is the class that it is to be of
 abbrev pub sameClass : Class → Class → Bool

@@ -10,13 +10,13 @@ use Rattle.layout.proofs.in_order.leftover.Statement.{statement}
 use Rattle.layout.proofs.in_order.leftover.Tie as tie
 
 abbrev Inv-loop : tie.InvT-loop
-Inv-loop words used i₀ i = (i ≤ length words) × SeekingLeftover (framesOf words) i
+Inv-loop words counts i₀ i = (i ≤ length words) × SeekingLeftover (framesOf words) i
 
 abbrev μ-loop : tie.MeasureT-loop
-μ-loop words used i₀ i = length words - i
+μ-loop words counts i₀ i = length words - i
 
-mark-all-requires : tie.Need-mark-all-requires Inv-loop μ-loop
-mark-all-requires c κs = search needs
+count-uses-requires : tie.Need-count-uses-requires Inv-loop μ-loop
+count-uses-requires c κs = search needs
 
 loop-holds : tie.Need-loop-holds Inv-loop μ-loop
 loop-holds c = (search needs, refl)
@@ -57,7 +57,7 @@ leftover-spec =
     (tie.spec
     Inv-loop
     μ-loop
-    mark-all-requires
+    count-uses-requires
     loop-holds
     frame-at-requires
     class-of-requires

@@ -1,8 +1,8 @@
 -- How the code counts the uses of each frame, and that its array then holds them. Assumes nothing.
 use mathlib.Core.Path.{_≡_, refl, sym, ap, ap₂, _∙_}
-use mathlib.Core.Bool.{Bool, true, false, _&&_}
+use mathlib.Core.Bool.{Bool, true, false, not, _&&_}
 use mathlib.Core.List.{List, [], _∷_}
-use Prim.Native.Nat.{ℕ, suc, min, _+_, _≤_, _<_}
+use Prim.Native.Nat.{ℕ, zero, suc, min, _+_, _≤_, _<_}
 use native.Mathlib.Nat.{min-eq-left, min-eq-right, min-le-left}
 use native.Mathlib.Omega.{arith}
 use lib.Dec.{eqb, leb, ltb}
@@ -11,19 +11,19 @@ use lib.Seq.{getD-set-same, getD-set-other}
 use borrow.Author.Tests.{lt-ltb, le-ltb, ltb-true, ltb-false, leb-true, leb-false, ne-eqb, eqb-true}
 use borrow.Author.Tests.{eqb-false}
 use Rattle.basics.specs.If.{if_then_else_}
+use Rattle.basics.specs.Members.{any}
 use Rattle.basics.proofs.Ifs.{yes, no, if-all, if-yes, if-no, and-true}
 use Rattle.language.specs.Kinds.{Child, children}
-use Rattle.language.specs.declared.kind.Class.{Class}
 use Rattle.language.specs.declared.frame.Frame.{Frame}
 use Rattle.text.specs.Frames.{framesOf}
 use Rattle.text.proofs.FrameWords.{frames-end}
 use Rattle.program.specs.Trees.{frameAt}
-use Rattle.program.specs.declared.frames.Children.{Children}
-use Rattle.program.specs.declared.frames.Children.the-variants.{Nothing, One, Two, Three}
-use Rattle.program.specs.inner.Children.{listOf, childrenOf}
-use Rattle.program.proofs.FrameLaws.{frames-next, children-are}
-use Rattle.drawing.specs.TreeFaults.{times, used}
-use Rattle.forest.specs.inner.Uses.{counted, countedAll, countedIn, CountsUses}
+use Rattle.program.specs.inner.Children.{overChildren}
+use Rattle.program.proofs.FrameLaws.{frames-next}
+use Rattle.program.proofs.ChildFolds.{fold-keeps}
+use Rattle.layout.specs.Order.{hasChild}
+use Rattle.layout.specs.Uses.{times, used}
+use Rattle.layout.specs.inner.Uses.{counted, countedIn, CountsUses}
 
 -- ---- one more use
 pub count-past : (u : List ℕ) (v : ℕ) → 1024 ≤ v → u ≡ counted u v
@@ -47,40 +47,6 @@ count-more u v h l =
     ap (set u v) s ∙ yes u few refl
 
 pub ruleset count-laws = (count-past, count-full, count-more)
-
--- ---- the children of a frame: each arm of the match on them
-module _ (u : List ℕ) (f : Frame) (x : Children) (h : x ≡ childrenOf f) where
-  pub none-counted : x ≡ Nothing → u ≡ countedAll u (children f)
-  none-counted e = end ∙ ap (countedAll u) (children-are f x Nothing h e)
-    where
-      end : u ≡ countedAll u []
-      end = unfold countedAll in refl
-
-  module _ (k : Class) (a : ℕ) (t : List ℕ) where
-    pub one-counted : x ≡ One k a → t ≡ counted u a → t ≡ countedAll u (children f)
-    one-counted e p = p ∙ end ∙ ap (countedAll u) (children-are f x (One k a) h e)
-      where
-        end : counted u a ≡ countedAll u (listOf (One k a))
-        end = unfold countedAll in refl
-
-    module _ (l : Class) (b : ℕ) (r : List ℕ) where
-      pub two-counted : x ≡ Two k a l b → t ≡ counted u a → r ≡ counted t b
-          → r ≡ countedAll u (children f)
-      two-counted e p q =
-          q ∙ ap (λ (s : List ℕ). counted s b) p ∙ end
-          ∙ ap (countedAll u) (children-are f x (Two k a l b) h e)
-        where
-          end : counted (counted u a) b ≡ countedAll u (listOf (Two k a l b))
-          end = unfold countedAll in refl
-
-      pub three-counted : (m : Class) (c : ℕ) (s : List ℕ) → x ≡ Three k a l b m c
-          → t ≡ counted u a → r ≡ counted t b → s ≡ counted r c → s ≡ countedAll u (children f)
-      three-counted m c s e p q w =
-          w ∙ ap (λ (y : List ℕ). counted y c) (q ∙ ap (λ (y : List ℕ). counted y b) p) ∙ end
-          ∙ ap (countedAll u) (children-are f x (Three k a l b m c) h e)
-        where
-          end : counted (counted (counted u a) b) c ≡ countedAll u (listOf (Three k a l b m c))
-          end = unfold countedAll in refl
 
 -- ---- what the counts say
 pub cap-full : (n : ℕ) → 2 ≤ n → min 2 n ≡ 2
@@ -172,14 +138,14 @@ module _ (u : List ℕ) (v j : ℕ) (o : j < 1024) (l : j < length u) (c : getD 
           go true e k = full-counted (ltb-false (getD u v 0) 2 k)
           go false e k = past (ltb-false v 1024 e)
 
-children-length : (cs : List Child) (u : List ℕ) → length (countedAll u cs) ≡ length u
-unfolding countedAll
-children-length [] u = refl
-children-length (c ∷ cs) u = children-length cs (counted u (c .at)) ∙ counted-length u (c .at)
+children-length : (cs : List Child) (u : List ℕ) → length (overChildren counted u cs) ≡ length u
+children-length cs u =
+    let same : List ℕ → Type 0 = λ x. length x ≡ length u in
+    fold-keeps counted same (λ x v e. counted-length x v ∙ e) cs u refl
 
 children-say : (cs : List Child) (u : List ℕ) (j : ℕ) → j < 1024 → j < length u → getD u j 0 ≤ 2
-    → getD (countedAll u cs) j 0 ≡ min 2 (times j cs + getD u j 0)
-unfolding countedAll times
+    → getD (overChildren counted u cs) j 0 ≡ min 2 (times j cs + getD u j 0)
+unfolding overChildren times
 children-say [] u j o l c =
     let w : 0 + getD u j 0 ≡ getD u j 0 = omega arith in
     sym (ap (min 2) w ∙ cap-few (getD u j 0) c)
@@ -205,7 +171,7 @@ frames-say (f ∷ fs) u j o l c =
     let m = min-le-left 2 (times j (children f) + getD u j 0) in
     let n = times j (children f) in
     let w : used j fs + (n + getD u j 0) ≡ n + used j fs + getD u j 0 = omega arith in
-    frames-say fs (countedAll u (children f)) j o (omega arith) (omega arith)
+    frames-say fs (overChildren counted u (children f)) j o (omega arith) (omega arith)
     ∙ ap (λ (n : ℕ). min 2 (used j fs + n)) s
     ∙ cap-cap (used j fs) (times j (children f) + getD u j 0) ∙ ap (min 2) w
 
@@ -217,21 +183,21 @@ pub counting-start : (fs : List Frame) (u : List ℕ) → u ≡ replicate 1024 0
 counting-start fs u e = ap (λ (x : List ℕ). countedIn x fs) e
 
 pub counting-next : (ws u t : List ℕ) (i : ℕ) (f : Frame) → f ≡ frameAt (framesOf ws) i
-    → t ≡ countedAll u (children f) → CountingUses (framesOf ws) u i → i < length ws
+    → t ≡ overChildren counted u (children f) → CountingUses (framesOf ws) u i → i < length ws
     → CountingUses (framesOf ws) t (i + 1)
 counting-next ws u t i f e q g l =
     let s : i + 1 ≡ suc i = omega arith in
-    let r : t ≡ countedAll u (children (frameAt (framesOf ws) i)) = q ∙ ap with-frame e in
+    let r : t ≡ overChildren counted u (children (frameAt (framesOf ws) i)) = q ∙ ap with-frame e in
     rw s (ap from r ∙ sym step ∙ sym (ap (countedIn u) (frames-next ws i l)) ∙ g)
   where
     with-frame : Frame → List ℕ
-    with-frame x = countedAll u (children x)
+    with-frame x = overChildren counted u (children x)
 
     from : List ℕ → List ℕ
     from x = countedIn x (drop (suc i) (framesOf ws))
 
     step : countedIn u (frameAt (framesOf ws) i ∷ drop (suc i) (framesOf ws))
-        ≡ countedIn (countedAll u (children (frameAt (framesOf ws) i))) (drop (suc i) (framesOf ws))
+        ≡ from (with-frame (frameAt (framesOf ws) i))
     step = unfold countedIn in refl
 
 pub counting-end : (ws u : List ℕ) (i : ℕ) → CountingUses (framesOf ws) u i → length ws ≤ i
@@ -246,3 +212,67 @@ counting-end ws u i g l j o =
   where
     end : u ≡ countedIn u []
     end = unfold countedIn in refl
+
+-- ---- a count of 0 is a frame that no frame has as a child
+times-zero : (j : ℕ) (cs : List Child)
+    → eqb (times j cs) 0 ≡ not (any (λ (c : Child). eqb (c .at) j) cs)
+unfolding times any
+times-zero j [] = refl
+times-zero j (c ∷ cs) = go (eqb (c .at) j) refl (times-zero j cs)
+  where
+    go : (b : Bool) → eqb (c .at) j ≡ b
+        → eqb (times j cs) 0 ≡ not (any (λ (x : Child). eqb (x .at) j) cs)
+        → eqb ((if eqb (c .at) j then 1 else 0) + times j cs) 0
+        ≡ not (elim b [ true ↦ true | false ↦ any (λ (x : Child). eqb (x .at) j) cs ])
+    go true e h =
+        let z = if-yes {A = ℕ} 1 0 e in
+        ne-eqb ((if eqb (c .at) j then 1 else 0) + times j cs) 0 (λ q. omega arith)
+    go false e h =
+        let z = if-no {A = ℕ} 1 0 e in
+        let w : (if eqb (c .at) j then 1 else 0) + times j cs ≡ times j cs = omega arith in
+        ap (λ (n : ℕ). eqb n 0) w ∙ h
+
+used-zero : (j : ℕ) (fs : List Frame) → eqb (used j fs) 0 ≡ not (any (hasChild j) fs)
+unfolding used any hasChild
+used-zero j [] = refl
+used-zero j (f ∷ fs) =
+    go (any (λ (c : Child). eqb (c .at) j) (children f)) (times-zero j (children f))
+    (used-zero j fs)
+  where
+    go : (b : Bool) → eqb (times j (children f)) 0 ≡ not b
+        → eqb (used j fs) 0 ≡ not (any (hasChild j) fs)
+        → eqb (times j (children f) + used j fs) 0
+        ≡ not (elim b [ true ↦ true | false ↦ any (hasChild j) fs ])
+    go true e h =
+        let d = eqb-false (times j (children f)) 0 e in
+        ne-eqb (times j (children f) + used j fs) 0 (λ q. d (omega arith))
+    go false e h =
+        let z = eqb-true (times j (children f)) 0 e in
+        let w : times j (children f) + used j fs ≡ used j fs = omega arith in
+        ap (λ (n : ℕ). eqb n 0) w ∙ h
+
+cap-none : (n : ℕ) → eqb (min 2 n) 0 ≡ eqb n 0
+cap-none zero = ap (λ (n : ℕ). eqb n 0) (cap-few 0 (omega arith))
+cap-none (suc zero) = ap (λ (n : ℕ). eqb n 0) (cap-few 1 (omega arith))
+cap-none (suc (suc n)) =
+    ap (λ (n : ℕ). eqb n 0) (cap-full (suc (suc n)) (omega arith))
+    ∙ sym (ne-eqb (suc (suc n)) 0 (λ q. omega arith))
+
+pub count-none : (fs : List Frame) (u : List ℕ) (j : ℕ) → CountsUses fs u → j < 1024
+    → eqb (getD u j 0) 0 ≡ not (any (hasChild j) fs)
+count-none fs u j h l =
+    ap (λ (n : ℕ). eqb n 0) (h j l) ∙ cap-none (used j fs) ∙ used-zero j fs
+
+-- a frame that another has as a child is used
+pub frame-some : (j : ℕ) (f : Frame) → hasChild j f ≡ true → 1 ≤ times j (children f)
+unfolding hasChild
+frame-some j f h =
+    let d = eqb-false (times j (children f)) 0 (times-zero j (children f) ∙ ap not h) in
+    omega arith
+
+pub used-some : (j : ℕ) (fs : List Frame) (i : ℕ) → i < length fs → hasChild j (frameAt fs i) ≡ true
+    → 1 ≤ used j fs
+unfolding used
+used-some j [] i l h = absurd (omega arith)
+used-some j (f ∷ fs) zero l h = let a = frame-some j f h in omega arith
+used-some j (f ∷ fs) (suc i) l h = let a = used-some j fs i (omega arith) h in omega arith

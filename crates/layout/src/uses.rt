@@ -1,19 +1,18 @@
 // How often each frame is used as a child.
 use language::frame::Frame;
 use language::limit::MOST_LINES;
-use program::frames::Children;
-use program::frames::children_of;
+use program::frames::child_numbers;
 use program::frames::frame_at;
 ghost use mathlib.Core.Path.{_≡_};
 ghost use lib.ListN.{replicate};
 ghost use Rattle.language.specs.Kinds.{children};
 ghost use Rattle.language.specs.Limits.{mostLines};
 ghost use Rattle.text.specs.Frames.{framesOf};
-ghost use Rattle.layout.specs.inner.Scans.{LineWords};
-ghost use Rattle.forest.specs.inner.Uses.{counted, countedAll, CountsUses};
+ghost use Rattle.program.specs.inner.Children.{overChildren};
+ghost use Rattle.layout.specs.inner.Uses.{counted, CountsUses};
 
 // Stands for every count from 2 on.
-pub(crate) const TWICE: u8 = 2;
+pub const TWICE: u8 = 2;
 
 // One more use of v. A number after the last frame counts for nothing.
 fn count(counts: &mut [u8; MOST_LINES], v: u16)
@@ -30,34 +29,19 @@ fn count(counts: &mut [u8; MOST_LINES], v: u16)
 }
 
 fn count_frame(counts: &mut [u8; MOST_LINES], f: Frame)
-    ensures { λ r. ⌜ now (counts .exit) ≡ countedAll (now (counts .entry)) (children f) ⌝ }
+    ensures { λ r. ⌜ now (counts .exit)
+        ≡ overChildren counted (now (counts .entry)) (children f) ⌝ }
 {
-    match children_of(f) {
-        Children::Nothing => {
-            return;
-        }
-        Children::One(k, a) => {
-            count(counts, a);
-            return;
-        }
-        Children::Two(k, a, l, b) => {
-            count(counts, a);
-            count(counts, b);
-            return;
-        }
-        Children::Three(k, a, l, b, m, c) => {
-            count(counts, a);
-            count(counts, b);
-            count(counts, c);
-            return;
-        }
-    }
+    let numbers = child_numbers(f);
+    count(counts, numbers.a);
+    count(counts, numbers.b);
+    count(counts, numbers.c);
 }
 
 // For each frame how often it is used, 2 standing for more. The caller lends the zeros, so that the
 // array is made in one place only.
-pub(crate) fn count_uses(words: &[u64], counts: &mut [u8; MOST_LINES])
-    requires { ⌜ LineWords (now words) × (now counts ≡ replicate mostLines 0) ⌝ }
+pub fn count_uses(words: &[u64], counts: &mut [u8; MOST_LINES])
+    requires { ⌜ now counts ≡ replicate mostLines 0 ⌝ }
     ensures { λ r. ⌜ CountsUses (framesOf (now (words .entry))) (now (counts .exit)) ⌝ }
 {
     let mut i: usize = 0;

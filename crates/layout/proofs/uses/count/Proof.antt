@@ -1,8 +1,8 @@
 -- `count` meets its contract. Assumes nothing.
 use borrow.Author.Needs.{needs}
-use Rattle.forest.proofs.UseCounts.{count-laws}
-use Rattle.forest.proofs.uses.count.Statement.{statement}
-use Rattle.forest.proofs.uses.count.Tie as tie
+use Rattle.layout.proofs.UseCounts.{count-laws}
+use Rattle.layout.proofs.uses.count.Statement.{statement}
+use Rattle.layout.proofs.uses.count.Tie as tie
 
 returns : tie.Need-returns
 returns c = search count-laws

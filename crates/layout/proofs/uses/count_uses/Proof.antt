@@ -3,10 +3,10 @@ use borrow.Author.Needs.{needs}
 use Prim.Native.Nat.{_≤_, _-_}
 use lib.ListN.{length}
 use Rattle.text.specs.Frames.{framesOf}
-use Rattle.forest.proofs.UseCounts.{CountingUses, counting-start, counting-next}
-use Rattle.forest.proofs.UseCounts.{counting-end}
-use Rattle.forest.proofs.uses.count_uses.Statement.{statement}
-use Rattle.forest.proofs.uses.count_uses.Tie as tie
+use Rattle.layout.proofs.UseCounts.{CountingUses, counting-start, counting-next}
+use Rattle.layout.proofs.UseCounts.{counting-end}
+use Rattle.layout.proofs.uses.count_uses.Statement.{statement}
+use Rattle.layout.proofs.uses.count_uses.Tie as tie
 
 abbrev Inv-loop : tie.InvT-loop
 Inv-loop words counts₀ i₀ counts i = (i ≤ length words) × CountingUses (framesOf words) counts i
