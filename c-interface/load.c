@@ -1,6 +1,6 @@
 /* A loader: reads prog.txt and steps it through the choices on the command line, in hexadecimal.
- * Prints the check's number and frame, then for each choice the choice, the answer and the acting
- * thread.
+ * Prints the check's number and frame, then for each choice the choice, the answer, the acting
+ * thread and how many cells the step read, stored in and made.
  *
  *   load FOLDER 02 03 03
  */
@@ -29,9 +29,10 @@ int main(int count, char **words)
         return 0;
     for (i = 2; i < count; i++) {
         uint64_t choice = strtoull(words[i], NULL, 16);
-        code = purkvaldi_step(text, length, state, PURKVALDI_STATE_WORDS, choice);
-        printf("%02X %02X %02X\n", (unsigned)choice, (unsigned)PURKVALDI_NUMBER(code),
-               (unsigned)PURKVALDI_DETAIL(code));
+        uint64_t answer = purkvaldi_step(text, length, state, PURKVALDI_STATE_WORDS, choice);
+        code = PURKVALDI_STEP_CODE(answer);
+        printf("%02X %02X %02X %04X\n", (unsigned)choice, (unsigned)PURKVALDI_NUMBER(code),
+               (unsigned)PURKVALDI_DETAIL(code), (unsigned)PURKVALDI_ACCESSES(answer));
     }
     return 0;
 }

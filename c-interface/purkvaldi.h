@@ -11,7 +11,7 @@
  * No two buffers overlap. A pointer whose length is 0 is not looked at and may be null. No pointer
  * is kept after the call.
  *
- * Stack, measured and not proved: at most 15,292 bytes below a call (purkvaldi_run on a file 24
+ * Stack, measured and not proved: at most 15,308 bytes below a call (purkvaldi_run on a file 24
  * deep); 16 KB are enough. */
 #ifndef PURKVALDI_H
 #define PURKVALDI_H
@@ -26,21 +26,26 @@ extern "C" {
 /* The words of a state, and the bytes of the longest listing, for buffers of fixed size;
  * purkvaldi_state_length() and purkvaldi_listing_length() give the same numbers. */
 #define PURKVALDI_STATE_WORDS 4818
-#define PURKVALDI_LISTING_BYTES 229389
+#define PURKVALDI_LISTING_BYTES 311309
 
 /* A code: the number of document 01 above 16 bits, 0 where nothing is refused; below them the frame
  * that a refusal of the text (1 to 13, 21) names, or, of a step, the acting thread (0: none). */
 #define PURKVALDI_NUMBER(code) ((code) >> 16)
 #define PURKVALDI_DETAIL(code) ((code) & 0xFFFFu)
 
+/* What a step gives: its code, and how many cells it read, stored in and made, in all at most 4
+ * hexadecimal digits; 0 of a choice that is refused, whatever it read before. */
+#define PURKVALDI_STEP_CODE(answer) ((uint32_t)((answer) & 0xFFFFFFFFu))
+#define PURKVALDI_ACCESSES(answer) ((uint32_t)((answer) >> 32))
+
 /* The check of a text: 0 where it is accepted, else the code of its refusal, 1 to 13. */
 uint32_t purkvaldi_check(const uint8_t *text, size_t length);
 
 /* The lines of a text whose frames after the header stand in any order, laid out into `out` as the
  * check wants them, the children renumbered: 0 where they are written, and `out` is as long as the
- * text. Else the code of a refusal 1 to 5, 21 (a child number without a frame, a frame used twice or
- * a circle of children), 6 (whatever the order) or 7, its frame by its number in `text`; else that
- * of 14 (out_length is not length). A refusal writes nothing. 8 to 13 are not looked at. */
+ * text. Else the code of a refusal 1 to 5, 21 (a child number without a frame, a frame used twice
+ * or a circle of children), 6 (whatever the order) or 7, its frame by its number in `text`; else
+ * that of 14 (out_length is not length). A refusal writes nothing. 8 to 13 are not looked at. */
 uint32_t purkvaldi_arrange(const uint8_t *text, size_t length, uint8_t *out, size_t out_length);
 
 /* How many words a state is: PURKVALDI_STATE_WORDS. */
@@ -51,20 +56,21 @@ size_t purkvaldi_state_length(void);
  * nothing. */
 uint32_t purkvaldi_fresh(const uint8_t *text, size_t length, uint64_t *state, size_t words);
 
-/* One choice: 2 to 9 a scheduler, 16 + t the unlinked thread t. Number 0 where it is done; else the
- * text's refusal 1 to 7, 14 (the words are no state of this file), 15 no such party, 16 nothing to
- * do, 17 or 18 spent, 19 foreign, 20 stuck. A refusal writes nothing. Of a text that the check
- * accepts, 19 and 20 never come from a state that began fresh. */
-uint32_t purkvaldi_step(const uint8_t *text, size_t length, uint64_t *state, size_t words,
+/* One choice: 2 to 9 a scheduler, 16 + t the unlinked thread t. In the low 32 bits its code: number
+ * 0 where it is done; else the text's refusal 1 to 7, 14 (the words are no state of this file), 15
+ * no such party, 16 nothing to do, 17 or 18 spent, 19 foreign, 20 stuck. A refusal writes nothing.
+ * Of a text that the check accepts, 19 and 20 never come from a state that began fresh. Above the
+ * code, its accesses (PURKVALDI_ACCESSES). */
+uint64_t purkvaldi_step(const uint8_t *text, size_t length, uint64_t *state, size_t words,
                         uint64_t choice);
 
 /* Many choices, a byte each, in one call: the text is read and the state validated once. 0 where
- * all are stepped, one after the other: then answers[i] is the code that purkvaldi_step would have
- * given for choices[i], and a choice that is refused leaves the state as it was, and the next one
- * follows. Else the code of the text's refusal 1 to 7, or of 14 (the words are no state of this
- * file, or there are not as many answers as choices), and nothing is written. */
+ * all are stepped, one after the other: then answers[i] is what purkvaldi_step would have given for
+ * choices[i], code and accesses, and a choice that is refused leaves the state as it was, and the
+ * next one follows. Else the code of the text's refusal 1 to 7, or of 14 (the words are no state of
+ * this file, or there are not as many answers as choices), and nothing is written. */
 uint32_t purkvaldi_steps(const uint8_t *text, size_t length, uint64_t *state, size_t words,
-                         const uint8_t *choices, size_t choices_length, uint32_t *answers,
+                         const uint8_t *choices, size_t choices_length, uint64_t *answers,
                          size_t answers_length);
 
 /* How many bytes a listing's buffer has: PURKVALDI_LISTING_BYTES. */

@@ -1,6 +1,6 @@
 /* A loader that steps all choices in one call: reads prog.txt and steps it through the choices on
  * the command line, in hexadecimal, at most 64 at a time. Prints the check's number and frame, then
- * for each choice the choice, the answer and the acting thread, as `load`.
+ * for each choice the choice, the answer, the acting thread and the accesses, as `load`.
  *
  *   steps FOLDER 02 03 03
  */
@@ -17,7 +17,7 @@ static uint64_t state[PURKVALDI_STATE_WORDS];
 int main(int count, char **words)
 {
     uint8_t choices[MANY];
-    uint32_t answers[MANY];
+    uint64_t answers[MANY];
     size_t length;
     int at = 2;
     if (count < 2) {
@@ -35,9 +35,11 @@ int main(int count, char **words)
         if (purkvaldi_steps(text, length, state, PURKVALDI_STATE_WORDS, choices, (size_t)n, answers,
                             (size_t)n) != 0)
             return 1;
-        for (i = 0; i < n; i++)
-            printf("%02X %02X %02X\n", choices[i], (unsigned)PURKVALDI_NUMBER(answers[i]),
-                   (unsigned)PURKVALDI_DETAIL(answers[i]));
+        for (i = 0; i < n; i++) {
+            uint32_t code = PURKVALDI_STEP_CODE(answers[i]);
+            printf("%02X %02X %02X %04X\n", choices[i], (unsigned)PURKVALDI_NUMBER(code),
+                   (unsigned)PURKVALDI_DETAIL(code), (unsigned)PURKVALDI_ACCESSES(answers[i]));
+        }
     }
     return 0;
 }

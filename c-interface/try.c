@@ -11,16 +11,22 @@ static const char three[] = "0001000000010000\n1000000000000000\n020000010000000
 /* The same, the module first; and with a frame that is its own child. */
 static const char drawn[] = "0001000000010000\n0200000200000000\n1000000000000000\n";
 static const char circle[] = "0001000000010000\n0200000200000000\n1202000200000000\n";
+/* main stores in a shared cell its content twice: two reads and a store */
+static const char twice[] = "0001000000010000\n0102000100000000\n2300000000000000\n"
+                            "2300000000000000\n2500000300000000\n2300000000000000\n"
+                            "2500000500000000\n2600000400060000\n1700000200070000\n"
+                            "0200000800000000\n";
 static uint64_t state[WORDS + 1];
 static uint64_t before[WORDS + 1];
 static uint8_t out[OUT + 1];
 static uint8_t out_before[OUT + 1];
 static int failures;
 
-static void expect(const char *what, uint32_t code, uint32_t wanted)
+static void expect(const char *what, uint64_t code, uint64_t wanted)
 {
     if (code != wanted) {
-        printf("%s: %06X, not %06X\n", what, (unsigned)code, (unsigned)wanted);
+        printf("%s: %09llX, not %09llX\n", what, (unsigned long long)code,
+               (unsigned long long)wanted);
         failures++;
     }
 }
@@ -76,7 +82,7 @@ static void unstepped(const char *what, const uint8_t *text, size_t length, size
                       size_t count, uint32_t wanted)
 {
     static const uint8_t choices[3] = {2, 2, 2};
-    uint32_t answers[4] = {7, 7, 7, 7};
+    uint64_t answers[4] = {7, 7, 7, 7};
     int i;
     memcpy(before, state, sizeof state);
     expect(what,
@@ -106,8 +112,8 @@ static void unwritten(const char *what, const char *text, size_t length, size_t 
 int main(void)
 {
     static const uint8_t many[6] = {2, 3, 2, 255, 2, 0};
-    static const uint32_t codes[6] = {0x000001, 0x0F0000, 0x000001, 0x0F0000, 0x100000, 0x0F0000};
-    uint32_t answers[7];
+    static const uint64_t codes[6] = {0x000001, 0x0F0000, 0x000001, 0x0F0000, 0x100000, 0x0F0000};
+    uint64_t answers[7];
     const uint8_t *text = (const uint8_t *)three;
     size_t length = sizeof three - 1;
     size_t i;
@@ -162,6 +168,22 @@ int main(void)
         state[i] = kept;
     }
 
+    /* a step says how many cells it read, stored in and made, alone and among many */
+    expect("fresh of a store",
+           purkvaldi_fresh((const uint8_t *)twice, sizeof twice - 1, state, WORDS), 0);
+    memcpy(before, state, sizeof state);
+    expect("a store of a sum",
+           purkvaldi_step((const uint8_t *)twice, sizeof twice - 1, state, WORDS, 2),
+           UINT64_C(0x300000001));
+    expect("choices of a store",
+           purkvaldi_steps((const uint8_t *)twice, sizeof twice - 1, before, WORDS, many, 3,
+                           answers, 3),
+           0);
+    expect("a store among many", answers[0], UINT64_C(0x300000001));
+    expect("no party among many", answers[1], 0x0F0000);
+    expect("an end among many", answers[2], 0x000001);
+    expect("fresh of three lines", purkvaldi_fresh(text, length, state, WORDS), 0);
+
     /* many choices in one call: what a call for each gives, whether it is done or refused */
     unstepped("choices with too few answers", text, length, WORDS, 2, 0x0E0000);
     unstepped("choices with too many answers", text, length, WORDS, 4, 0x0E0000);
@@ -191,7 +213,7 @@ int main(void)
     expect("a run in no buffer",
            PURKVALDI_CODE(purkvaldi_run(text, length, NULL, 0, NULL, 0, NULL, 0)), 0x0E0000);
     printed("a run", text, length, "02\n02\n02\n", WORDS, 0,
-            "00 0000\n02 00 01 0000\n02 00 01 0000\n02 10 00 0000\n0003\n");
+            "00 0000\n02 00 01 0000 0000\n02 00 01 0000 0000\n02 10 00 0000 0000\n0003\n");
     printed("a run of no text", NULL, 0, "", WORDS, 0x010000, "01 0000\n");
     printed("a run of no text on a shorter state", NULL, 0, "02\n", WORDS - 1, 0x010000,
             "01 0000\n");

@@ -16,7 +16,7 @@ use Rattle.layout.specs.Faults.{NoFault}
 use Rattle.layout.proofs.AfterLayout.{text-fine}
 use Rattle.checker.specs.Verdict.{HasVerdict}
 use Rattle.machine.specs.Accesses.{Access, Own}
-use Rattle.machine.specs.Turns.{StepResult}
+use Rattle.machine.specs.Turns.{StepResult, accessCount}
 use Rattle.machine.specs.Runs.{steps, stateAfter, answers}
 use Rattle.machine.specs.Fresh.{fresh}
 use Rattle.machine.specs.Words.{pack}
@@ -59,7 +59,7 @@ by-number : (P : ℕ → Type 0) (rs : List StepResult) → All (λ (r : StepRes
     → All (λ (r : TextResult). P (answerNumber (r .answer))) (map asTextResult (map asCalled rs))
 by-number P [] All.none = All.none
 by-number P (r ∷ rs) (All.more h hs) =
-    All.more (subst P (sym (number-back (r .answer) (r .thread))) h) (by-number P rs hs)
+    All.more (subst P (sym (number-back (r .answer) (r .thread) (accessCount r))) h) (by-number P rs hs)
 
 not-14 : {n : ℕ} → StepNumber n → n ≢ 14
 not-14 is-0 e = omega arith
@@ -133,7 +133,7 @@ module _ (bs : List ℕ) (read : Reads bs (frames (textFrames bs))) (fine : NoFa
     texts-safe safe sound = record {
       fresh =
           ap (λ (x : TextResult). x .answer) (fresh-is w)
-          ∙ ap (λ (r : CallResult). answerTo (r .answer) (r .thread)) (fresh-called fs w long)
+          ∙ ap (λ (r : CallResult). answerTo (r .answer) (r .thread) (r .accesses)) (fresh-called fs w long)
           ∙ sym done-0;
       accessed = subst (All Own) (sym (ap (λ (v : List ℕ). textAccessesFrom bs v cs) first ∙ accesses-are (freshCall fs w .words) cs)) (safe .accessed);
       answered = numbers Plain (plain-steps (steps (programOf fs) cs) (all-numbered (programOf fs) (fresh (programOf fs)) cs) sound);

@@ -58,7 +58,7 @@ plain-lines : (p : Program) (s : State) (cs : List ℕ)
 unfolding eachFrom choiceLines choiceLine
 plain-lines p s [] h = PlainLines.none
 plain-lines p s (c ∷ cs) (All.more h hs) =
-    PlainLines.more _ _ _ _ h (plain-lines p (step p s c .state) cs hs)
+    PlainLines.more _ _ _ _ _ h (plain-lines p (step p s c .state) cs hs)
 
 -- ---- the listing
 
@@ -97,21 +97,21 @@ module _ (bs : List ℕ) (read : Reads bs (frames (textFrames bs))) (fine : NoFa
       (sym (text-fine (λ n j. Rejected n j) (λ gs. rulesOf (programOf gs)) bs fs read fine))
       ∙ rules-run fs (some-frame read refl) fine
 
-  module _ (bytes w out : List ℕ) (e : length w ≡ 4818) (f : length out ≡ 229389) where
-    whole : listText bs bytes w out ≡ wholeListing (A.Done 0) (verdict bs) fs bytes w out
+  module _ (bytes w out : List ℕ) (e : length w ≡ 4818) (f : length out ≡ 311309) where
+    whole : listText bs bytes w out ≡ wholeListing (A.Done 0 0) (verdict bs) fs bytes w out
     unfolding listText
     whole =
         ap (byLayout bs bytes w out) (sym (layout-only {v = LayoutVerdict.LaidOut} (HasLayout.layout {v = LayoutVerdict.LaidOut} read fine)))
-        ∙ if-yes _ _ (and-both (eqb (length w) 4818) (eqb (length out) 229389)
-        (eq-eqb (length w) 4818 e) (eq-eqb (length out) 229389 f))
+        ∙ if-yes _ _ (and-both (eqb (length w) 4818) (eqb (length out) 311309)
+        (eq-eqb (length w) 4818 e) (eq-eqb (length out) 311309 f))
 
     module _ (cs : List ℕ) (few : length bytes ≤ 49152) (is : choicesFrom 0 bytes ≡ choices cs) where
       pub listed-is : listText bs bytes w out
-          ≡ listingOf (A.Done 0) (finalState (programOf fs) cs)
+          ≡ listingOf (A.Done 0 0) (finalState (programOf fs) cs)
           (checkLine (verdict bs) ++ runLines (programOf fs) cs) out
       listed-is =
           whole
-          ∙ ap₂ (λ (x : FinalState) (l : List ℕ). listingOf (A.Done 0) x l out)
+          ∙ ap₂ (λ (x : FinalState) (l : List ℕ). listingOf (A.Done 0 0) x l out)
           (goes-on (verdict bs) fs w bytes runs .0 ∙ after-is (programOf fs) bytes cs few is w)
           (goes-on (verdict bs) fs w bytes runs .1
           ∙ ap (λ (l : List ℕ). checkLine (verdict bs) ++ l) (lines-are (programOf fs) bytes cs few is))
@@ -128,7 +128,7 @@ module _ (bs : List ℕ) (read : Reads bs (frames (textFrames bs))) (fine : NoFa
 
 by-reading : {bs : List ℕ} {fs : List Frame} → Reads bs (frames fs) → NoFault fs
     → (bytes cs : List ℕ) → length bytes ≤ 49152 → choicesFrom 0 bytes ≡ choices cs
-    → (w out : List ℕ) → length w ≡ 4818 → length out ≡ 229389
+    → (w out : List ℕ) → length w ≡ 4818 → length out ≡ 311309
     → let used = usedOf (programOf fs) cs in
     (listText bs bytes w out .used ≡ used)
     × (listText bs bytes w out .words ≡ wordsLeft bs w (take used cs))
@@ -157,7 +157,7 @@ accepted-listing-safe bs (HasVerdict.accepted (Reads.whole a b c) h k) bytes cs 
       plain = plain-lines p (fresh p) used (plain-steps (steps p used) (all-numbered p (fresh p) used) (accepted-safe bs y used .answered));
       listed =
           listed-is bs (Reads.whole a b c) h bytes w out e f cs few is
-          ∙ ap₂ (λ (v : Verdict) (l : List ℕ). listingOf (A.Done 0) (finalState p cs) (checkLine v ++ l) out)
+          ∙ ap₂ (λ (v : Verdict) (l : List ℕ). listingOf (A.Done 0 0) (finalState p cs) (checkLine v ++ l) out)
           (sym (verdict-computes bs .only Accepted y)) (run-split p cs);
     }
 

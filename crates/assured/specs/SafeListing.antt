@@ -17,8 +17,9 @@ use Rattle.assured.specs.TextCalls.{Plain, wordsLeft, SafeTexts}
 -- or 12: never 13 (19, foreign) and never 14 (20, stuck)
 pub data PlainLines : List ℕ → List ℕ → Type 0 where
   none : PlainLines [] []
-  more : (c answer thread cells : ℕ) {cs lines : List ℕ} → Plain answer → PlainLines cs lines
-      → PlainLines (c ∷ cs) (choiceLineOf c answer thread cells ++ lines)
+  more : (c answer thread cells accesses : ℕ) {cs lines : List ℕ}
+      → Plain answer → PlainLines cs lines
+      → PlainLines (c ∷ cs) (choiceLineOf c answer thread cells accesses ++ lines)
 
 -- ---- of every text that passes refusals 1 to 7, accepted or not
 
@@ -42,7 +43,7 @@ pub record SafelyListed (bs bytes cs w out : List ℕ) : Type 0 where
   pub lines : List ℕ
   pub plain : PlainLines (take (usedOf (programOf (textFrames bs)) cs) cs) lines
   pub listed : listText bs bytes w out
-      ≡ listingOf (Done 0) (finalState (programOf (textFrames bs)) cs)
+      ≡ listingOf (Done 0 0) (finalState (programOf (textFrames bs)) cs)
       (checkLine Accepted ++ lines ++ lastLine (usedOf (programOf (textFrames bs)) cs)) out
 
 -- 'The choices that `run` uses on an accepted file are such a list too': for all bytes of

@@ -45,7 +45,7 @@ stateLeft bs w cs = stateOf (textFrames bs) (wordsLeft bs w cs)
 -- of a text, a lent buffer, a list of choices: a call of `fresh`, then one of `step` for each
 -- choice
 pub record SafeTexts (bs w cs : List ℕ) : Type 0 where
-  pub fresh : freshText bs w .answer ≡ Done 0
+  pub fresh : freshText bs w .answer ≡ Done 0 0
   -- every access under every choice or call was to a cell of the acting thread or of the scheduler
   -- on which it stood, 'those before a refusal too'
   pub accessed : All Own (textAccessesFrom bs (freshText bs w .words) cs)

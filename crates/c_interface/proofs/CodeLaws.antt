@@ -3,13 +3,18 @@ use mathlib.Core.Path.{_≡_, refl, sym, ap, _∙_}
 use Prim.Native.Nat.{ℕ, _+_, _*_}
 use native.Mathlib.Omega.{arith}
 use lib.Dec.{eqb}
-use borrow.Author.Tests.{eqb-true}
+use borrow.Author.Tests.{eqb-true, eqb-false, ne-eqb}
 use mathlib.Core.List.{List}
-use Rattle.basics.proofs.Ifs.{if-all}
+use mathlib.Core.Bool.{Bool, true, false}
+use Rattle.basics.proofs.Ifs.{if-all, if-no}
+use Rattle.language.specs.declared.frame.Frame.{Frame}
 use Rattle.language.specs.declared.verdict.Verdict.{Verdict}
 use Rattle.language.specs.declared.verdict.Verdict.the-variants.{Accepted, Rejected}
 use Rattle.checker.specs.Verdict.{verdict, Checked}
-use Rattle.machine.specs.Calls.{CallResult}
+use Rattle.machine.specs.Turns.{accessCount}
+use Rattle.machine.specs.inner.Ranges.{inRange}
+use Rattle.machine.specs.Calls.{CallResult, stepCall}
+use Rattle.machine.proofs.Calls.{programSchedulers, called-in, called-out}
 use Rattle.stepper.specs.declared.answer.Answer.{Answer}
 use Rattle.stepper.specs.declared.answer.Answer.the-variants as A
 use Rattle.stepper.specs.Answers.{answerTo, TextResult, textResult, asTextResult}
@@ -20,7 +25,7 @@ use Rattle.drawing.specs.Answers.{Answered}
 use Rattle.runs.specs.declared.printing.ListingAnswer.{ListingAnswer}
 use Rattle.c_interface.specs.Codes.{codeOf, CheckedCode, answerCode, coded, codedOf, codedOut}
 use Rattle.c_interface.specs.Codes.{codedBatchOf, listingCode, codedListingOf, codedWritingOf}
-use Rattle.c_interface.specs.Codes.{AnsweredCode}
+use Rattle.c_interface.specs.Codes.{AnsweredCode, stepAnswerCode, codedStepOf}
 
 pub code-accepted : (v : Verdict) → v ≡ Accepted → 0 ≡ codeOf v
 code-accepted v h = ap codeOf (sym h)
@@ -61,18 +66,39 @@ pub answer-coded : (w : List ℕ) (x : TextResult) (v : Answer) (r : ℕ) → te
     → r ≡ answerCode v → coded r w ≡ codedOf x
 answer-coded w x v r e h = ap (λ (n : ℕ). coded n w) h ∙ ap codedOf e
 
+-- ---- a step's
+pub step-coded : (w : List ℕ) (x : TextResult) (v : Answer) (r : ℕ) → textResult v w ≡ x
+    → r ≡ stepAnswerCode v → coded r w ≡ codedStepOf x
+step-coded w x v r e h = ap (λ (n : ℕ). coded n w) h ∙ ap codedStepOf e
+
+-- a refused step has no accesses
+refused-none : (fs : List Frame) (w : List ℕ) (c : ℕ) → (stepCall fs w c .answer ≡ 0 → ⊥)
+    → stepCall fs w c .accesses ≡ 0
+unfolding accessCount
+refused-none fs w c h = by (inRange fs (programSchedulers fs) w) refl
+  where
+    by : (b : Bool) → inRange fs (programSchedulers fs) w ≡ b → stepCall fs w c .accesses ≡ 0
+    by true e =
+        ap (λ (x : CallResult). x .accesses) (called-in fs w c e)
+        ∙ if-no _ _
+        (ne-eqb _ 0 (λ z. h (ap (λ (x : CallResult). x .answer) (called-in fs w c e) ∙ z)))
+    by false e = ap (λ (x : CallResult). x .accesses) (called-out fs w c e)
+
 -- ---- many choices
 pub batch-coded : (w out : List ℕ) (x : BatchResult) (v : Answer) (r : ℕ) → batchResult v w out ≡ x
     → r ≡ answerCode v → codedOut r w out ≡ codedBatchOf x
 batch-coded w out x v r e h = ap (λ (n : ℕ). codedOut n w out) h ∙ ap codedBatchOf e
 
 -- the answer to each is the number that a call with this choice alone gives
-pub answer-word-code : (r : CallResult) → answerWord r ≡ codedOf (asTextResult r) .code
+pub answer-word-code : (fs : List Frame) (w : List ℕ) (c : ℕ)
+    → answerWord (stepCall fs w c) ≡ codedStepOf (asTextResult (stepCall fs w c)) .code
 unfolding answerTo
-answer-word-code r =
-    if-all (λ (a : Answer). answerWord r ≡ answerCode a) (eqb (r .answer) 0) (A.Done (r .thread))
-    (A.Refused (r .answer) (r .thread))
-    (λ e. let z = eqb-true (r .answer) 0 e in omega arith) (λ _. refl)
+answer-word-code fs w c =
+    let r = stepCall fs w c in
+    if-all (λ (a : Answer). answerWord r ≡ stepAnswerCode a) (eqb (r .answer) 0)
+    (A.Done (r .thread) (r .accesses)) (A.Refused (r .answer) (r .thread))
+    (λ e. let z = eqb-true (r .answer) 0 e in omega arith)
+    (λ e. let z = refused-none fs w c (eqb-false (r .answer) 0 e) in omega arith)
 
 -- ---- a listing's answer and length
 pub listing-coded : (w out : List ℕ) (x : ListingResult) (l : ListingAnswer) (v : Answer) (n : ℕ)

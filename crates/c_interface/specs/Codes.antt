@@ -4,7 +4,7 @@ use Rattle.language.specs.{Verdicts.numberOf, Verdicts.frameOf, declared.verdic
 use Rattle.checker.specs.Verdict.{Checked}
 use Rattle.stepper.specs.declared.answer.Answer.{Answer}
 use Rattle.stepper.specs.declared.answer.Answer.the-variants.{Rejected, Refused, Done}
-use Rattle.stepper.specs.Answers.{TextResult, BatchResult}
+use Rattle.stepper.specs.Answers.{answerAccesses, TextResult, BatchResult}
 use Rattle.runs.specs.Listings.{ListingResult}
 use Rattle.drawing.specs.{Writings.Writing, Answers.Answered}
 
@@ -21,7 +21,12 @@ pub record CheckedCode (bs : List ℕ) (r : ℕ) : Type 0 where
 
 -- the code of a call's answer, with the acting thread where no frame is named
 abbrev pub answerCode : Answer → ℕ
-answerCode a = elim a [ Rejected n j ↦ n * 2 ^ 16 + j | Refused n t ↦ n * 2 ^ 16 + t | Done t ↦ t ]
+answerCode a =
+    elim a [ Rejected n j ↦ n * 2 ^ 16 + j | Refused n t ↦ n * 2 ^ 16 + t | Done t k ↦ t ]
+
+-- of a step, with how many accesses it made above 32 bits
+abbrev pub stepAnswerCode : Answer → ℕ
+stepAnswerCode a = answerAccesses a * 2 ^ 32 + answerCode a
 
 -- a call's number, and all lent words after it
 pub record Coded : Type 0 where
@@ -33,6 +38,9 @@ coded n w = record { code = n; words = w }
 
 abbrev pub codedOf : TextResult → Coded
 codedOf r = coded (answerCode (r .answer)) (r .words)
+
+abbrev pub codedStepOf : TextResult → Coded
+codedStepOf r = coded (stepAnswerCode (r .answer)) (r .words)
 
 -- of the writer
 abbrev pub codedWritingOf : Writing → Coded

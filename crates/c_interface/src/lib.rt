@@ -15,9 +15,11 @@ ghost use Rattle.language.specs.Limits.{mostListingBytes};
 ghost use Rattle.checker.specs.Verdict.{verdict};
 ghost use Rattle.drawing.specs.Answers.{writing};
 ghost use Rattle.machine.specs.Offsets.{stateLength};
-ghost use Rattle.stepper.specs.Answers.{freshText, stepText, stepsText};
+ghost use Rattle.stepper.specs.Answers.{answerAccesses, freshText, stepText};
+ghost use Rattle.stepper.specs.Answers.{stepsText};
 ghost use Rattle.runs.specs.Listings.{listText};
 ghost use Rattle.c_interface.specs.Codes.{codeOf, CheckedCode, answerCode, coded, codedOf};
+ghost use Rattle.c_interface.specs.Codes.{stepAnswerCode, codedStepOf};
 ghost use Rattle.c_interface.specs.Codes.{codedOut, codedBatchOf, listingCode};
 ghost use Rattle.c_interface.specs.Codes.{codedListingOf, codedWritingOf, AnsweredCode};
 
@@ -41,9 +43,9 @@ pub extern "C" fn purkvaldi_check(text: &[u8]) -> u32
     code_of(check(text))
 }
 
-// A text's lines laid out into `out`: 0 where they are written, else the number of the refusal above
-// 16 bits, the frame in them. A refusal writes nothing. It is the code of the one answer that the
-// rules give.
+// A text's lines laid out into `out`: 0 where they are written, else the number of the refusal
+// above 16 bits, the frame in them. A refusal writes nothing. It is the code of the one answer that
+// the rules give.
 #[no_mangle]
 pub extern "C" fn purkvaldi_arrange(text: &[u8], out: &mut [u8]) -> u32
     ensures computed { λ r. ⌜ coded r (now (out .exit))
@@ -54,15 +56,32 @@ pub extern "C" fn purkvaldi_arrange(text: &[u8], out: &mut [u8]) -> u32
     code_of(arrange(text, out))
 }
 
-// An answer as one number.
+// An answer as one number, without its accesses.
 fn answer_code(a: Answer) -> u32
     ensures { λ r. ⌜ r ≡ answerCode a ⌝ }
 {
     match a {
         Answer::Rejected(n, j) => n as u32 * 0x0001_0000 + j as u32,
         Answer::Refused(n, t) => n as u32 * 0x0001_0000 + t as u32,
-        Answer::Done(t) => t as u32,
+        Answer::Done(t, k) => t as u32,
     }
+}
+
+fn accesses_of(a: Answer) -> u16
+    ensures { λ r. ⌜ r ≡ answerAccesses a ⌝ }
+{
+    match a {
+        Answer::Rejected(n, j) => 0,
+        Answer::Refused(n, t) => 0,
+        Answer::Done(t, k) => k,
+    }
+}
+
+// A step's, with how many accesses it made above 32 bits.
+fn step_code(a: Answer) -> u64
+    ensures { λ r. ⌜ r ≡ stepAnswerCode a ⌝ }
+{
+    accesses_of(a) as u64 * 0x0000_0001_0000_0000 + answer_code(a) as u64
 }
 
 // How many words of 64 bits a state is.
@@ -83,15 +102,15 @@ pub extern "C" fn purkvaldi_fresh(text: &[u8], state: &mut [u64]) -> u32
     answer_code(fresh(text, state))
 }
 
-// One choice: the acting thread where it is done, 0 where none acts; else the number of the refusal
-// above 16 bits, and in them the frame of a refusal 1 to 7 or the acting thread of one above. A
-// refusal writes nothing.
+// One choice: the acting thread where it is done, 0 where none acts, and above 32 bits how many
+// cells it read, stored in and made; else the number of the refusal above 16 bits, and in them the
+// frame of a refusal 1 to 7 or the acting thread of one above. A refusal writes nothing.
 #[no_mangle]
-pub extern "C" fn purkvaldi_step(text: &[u8], state: &mut [u64], choice: u64) -> u32
+pub extern "C" fn purkvaldi_step(text: &[u8], state: &mut [u64], choice: u64) -> u64
     ensures { λ r. ⌜ coded r (now (state .exit))
-        ≡ codedOf (stepText (now (text .entry)) (now (state .entry)) choice) ⌝ }
+        ≡ codedStepOf (stepText (now (text .entry)) (now (state .entry)) choice) ⌝ }
 {
-    answer_code(step(text, state, choice))
+    step_code(step(text, state, choice))
 }
 
 // Many choices, a byte each: 0 where all are stepped, and the code of each, as `purkvaldi_step`
@@ -102,7 +121,7 @@ pub extern "C" fn purkvaldi_steps(
     text: &[u8],
     state: &mut [u64],
     choices: &[u8],
-    answers: &mut [u32],
+    answers: &mut [u64],
 ) -> u32
     ensures { λ r. ⌜ codedOut r (now (state .exit)) (now (answers .exit))
         ≡ codedBatchOf

@@ -14,7 +14,7 @@ use Rattle.language.specs.declared.Place.{Place}
 use Rattle.program.specs.Programs.{Program}
 use Rattle.program.specs.inner.Modules.{foundIn}
 use Rattle.program.specs.declared.module.ModuleFound.{ModuleFound}
-use Rattle.machine.specs.Calls.{CallResult, callResult}
+use Rattle.commits.specs.inner.Commits.{Committed, committed}
 use Rattle.states.specs.inner.Threads.{threadIn, putThread, blockOf, withOneMore}
 use Rattle.states.proofs.ThreadLaws.{in-wide, put-length}
 use Rattle.acts.specs.declared.act.Arguments.{Arguments}
@@ -67,9 +67,9 @@ module _ (p : Program) (w : List ℕ) (before c t : ℕ) (a : Action) (h : Commi
   place-there = place-is (threadIn w (t - 1)) (a .change)
 
   -- what a decision comes to
-  abbrev result : Decision → CallResult
+  abbrev result : Decision → Committed
   result (Refuse n) = refusesIn w before t n
-  result (Settle x) = callResult 0 t (followedIn words c t x)
+  result (Settle x) = committed 0 t (followedIn words c t x)
 
   joins-is : (q : Place) → result (decidedIn p w t a (Joins q))
       ≡ joinsIn w before c t turn (q .number)
@@ -77,19 +77,19 @@ module _ (p : Program) (w : List ℕ) (before c t : ℕ) (a : Action) (h : Commi
   joins-is q =
       if-all (λ (d : Decision). result d ≡ joinsIn w before c t turn (q .number))
       (roomIn w (q .number) 1) (Settle (Join q)) (Refuse 20)
-      (λ e. yes _ e (ap (callResult 0 t) (join-is words c t q))) (λ e. no _ e refl)
+      (λ e. yes _ e (ap (committed 0 t) (join-is words c t q))) (λ e. no _ e refl)
 
   -- `startsIn` of any module found, any place and any count of threads: where nothing stands in the
   -- way, and whole
-  abbrev goes : Arguments → Bool → ModuleFound → ℕ → ℕ → CallResult
+  abbrev goes : Arguments → Bool → ModuleFound → ℕ → ℕ → Committed
   goes args waits x i n =
       let new = newThreadWords i (args .count) (args .first) (args .second) t (x .body) in
       let entry = 128 * (n + 1) + t in
-      if not waits then callResult 0 t (joinedIn (withOneMore words new) i (n + 1)) else
+      if not waits then committed 0 t (joinedIn (withOneMore words new) i (n + 1)) else
       if not (roomIn w i 2) then refusesIn w before t 20 else
-      callResult 0 t (joinedIn (joinedIn (withOneMore (leftIn words c) new) i (n + 1)) i entry)
+      committed 0 t (joinedIn (joinedIn (withOneMore (leftIn words c) new) i (n + 1)) i entry)
 
-  abbrev starts : Arguments → Bool → ModuleFound → ℕ → ℕ → CallResult
+  abbrev starts : Arguments → Bool → ModuleFound → ℕ → ℕ → Committed
   starts args waits x i n =
       let no = obstacleIn w x i (args .count) in
       if not (eqb no 0) then refusesIn w before t no else goes args waits x i n
@@ -103,11 +103,11 @@ module _ (p : Program) (w : List ℕ) (before c t : ℕ) (a : Action) (h : Commi
     goes-is : (waits : Bool) → result (gone waits) ≡ goes args waits x (q .number) (getD words 0 0)
     goes-is false =
         ap result (if-no _ _ refl)
-        ∙ yes _ refl (ap (callResult 0 t) (start-is words c t q (x .body) args))
+        ∙ yes _ refl (ap (committed 0 t) (start-is words c t q (x .body) args))
     goes-is true =
         if-all (λ (d : Decision). result d ≡ goes args true x (q .number) (getD words 0 0))
         (not (roomIn w (q .number) 2)) _ _ (λ f. no _ refl (yes _ f refl))
-        (λ f. no _ refl (no _ f (ap (callResult 0 t) (wait-is words c t q (x .body) args long))))
+        (λ f. no _ refl (no _ f (ap (committed 0 t) (wait-is words c t q (x .body) args long))))
 
     tested-is : (waits : Bool) → result (startTested w args waits x q)
         ≡ starts args waits x (q .number) (getD words 0 0)
@@ -126,8 +126,8 @@ module _ (p : Program) (w : List ℕ) (before c t : ℕ) (a : Action) (h : Commi
 
   decided-is : (f : Transition) → result (decidedIn p w t a f) ≡ committedIn p w before c t turn f
   decided-is (Refused n) = refl
-  decided-is Stays = ap (callResult 0 t) (keeps-is words c Keep refl)
-  decided-is Leaves = ap (callResult 0 t) (leave-is words c t)
+  decided-is Stays = ap (committed 0 t) (keeps-is words c Keep refl)
+  decided-is Leaves = ap (committed 0 t) (leave-is words c t)
   decided-is (Joins q) = joins-is q
   decided-is (Starts waits m args) = starts-is waits m args
 
@@ -172,8 +172,8 @@ module _ (p : Program) (w : List ℕ) (before c t : ℕ) (a : Action) (h : Commi
     decided y g = ap result (sym g ∙ e) ∙ decided-is (a .transition)
 
     pub commit-refused : (n : ℕ) (v : List ℕ) → d ≡ Refuse n → v ≡ clearedIn w before
-        → callResult n t v ≡ committedIn p w before c t turn (a .transition)
-    commit-refused n v g f = ap (callResult n t) f ∙ decided (Refuse n) g
+        → committed n t v ≡ committedIn p w before c t turn (a .transition)
+    commit-refused n v g f = ap (committed n t) f ∙ decided (Refuse n) g
 
     module _ (x : Passed) (g : d ≡ Settle x) (v : List ℕ) (s : v ≡ staysIn w t turn) where
       pub commit-follows : Follows v x
@@ -182,8 +182,8 @@ module _ (p : Program) (w : List ℕ) (before c t : ℕ) (a : Action) (h : Commi
           (subst Sound (sym e ∙ g) (decided-sound (a .transition)))
 
       pub commit-settled : (u : List ℕ) → u ≡ followedIn v c t x
-          → callResult 0 t u ≡ committedIn p w before c t turn (a .transition)
+          → committed 0 t u ≡ committedIn p w before c t turn (a .transition)
       commit-settled u f =
-          ap (callResult 0 t) (f ∙ ap (λ (l : List ℕ). followedIn l c t x) s) ∙ decided (Settle x) g
+          ap (committed 0 t) (f ∙ ap (λ (l : List ℕ). followedIn l c t x) s) ∙ decided (Settle x) g
 
 pub ruleset commit-laws = (commit-refused, commit-settled)

@@ -17,8 +17,7 @@ ghost use Rattle.program.specs.Programs.{programOf};
 ghost use Rattle.machine.specs.Offsets.{stateLength};
 ghost use Rattle.commits.specs.inner.Commits.{CommitWords, turnResultIn, committedIn};
 ghost use Rattle.commits.specs.inner.Commits.{leavesList, unlistedIn, enlistedIn};
-ghost use Rattle.commits.specs.inner.Commits.{followedIn, Follows};
-ghost use Rattle.machine.specs.Calls.{callResult};
+ghost use Rattle.commits.specs.inner.Commits.{followedIn, Follows, committed};
 
 // Whether the thread leaves its list; a starter does where it waits.
 fn leaves(passed: Passed) -> bool
@@ -77,7 +76,7 @@ pub fn commit(
     a: Action,
 ) -> u8
     requires { ⌜ CommitWords (now state) t a ⌝ }
-    ensures { λ r. ⌜ callResult r t (now (state .exit))
+    ensures { λ r. ⌜ committed r t (now (state .exit))
         ≡ committedIn (programOf (framesOf (now (frames .entry)))) (now (state .entry)) before
         choice t (turnResultIn (now (state .entry)) t a) (a .transition) ⌝ }
 {

@@ -45,7 +45,7 @@ holds-length {cs = cs} h = ap length (h .words) ∙ cells-length cs
 
 -- ---- the cells that the first n words are
 module _ (n : ℕ) (ws : List ℕ) where
-  from-length : length (cellsFrom n ws) ≡ n
+  pub from-length : length (cellsFrom n ws) ≡ n
   unfolding cellsFrom
   from-length = tab-length n (λ c. wordCell (getD ws c 0)) 0
 

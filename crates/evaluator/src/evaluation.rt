@@ -26,7 +26,7 @@ ghost use Rattle.program.specs.inner.Nodes.{expressionNode};
 ghost use Rattle.operations.specs.inner.Lent.{Lent, lentVariables, lentRest, onLent};
 ghost use Rattle.operations.specs.inner.Results.{resultIn};
 ghost use Rattle.operations.specs.inner.ByWords.{leafIn};
-ghost use Rattle.evaluator.specs.inner.Results.{evaluatedBy, storedBy};
+ghost use Rattle.evaluator.specs.inner.Results.{evaluatedOn, storedOn};
 ghost use Rattle.evaluator.specs.inner.Results.{LentWords, FrameWords};
 ghost use Rattle.evaluator.specs.inner.ByWords.{evalIn, wantedIn, numberIn, truthIn};
 
@@ -156,7 +156,7 @@ fn truth_at(frames: &[u64], who: Who, state: &mut [u64], i: u16) -> Outcome
 pub fn evaluate(frames: &[u64], who: Who, state: &mut [u64], i: u16) -> Outcome
     requires { ⌜ FrameWords (now frames) i × LentWords who (now state) ⌝ }
     ensures found { λ r. ⌜ resultIn r (now (state .exit))
-        ≡ onLent (evaluatedBy who (expressionAt (framesOf (now (frames .entry))) i)) who
+        ≡ onLent (evaluatedOn who (expressionAt (framesOf (now (frames .entry))) i)) who
         (now (state .entry)) ⌝ }
     ensures rest { λ _. ⌜ lentRest (now (state .exit)) ≡ lentRest (now (state .entry)) ⌝ }
 {
@@ -169,7 +169,7 @@ pub fn store(frames: &[u64], who: Who, state: &mut [u64], a: u16, b: u16) -> Out
     requires { ⌜ FrameWords (now frames) a × FrameWords (now frames) b
         × LentWords who (now state) ⌝ }
     ensures found { λ r. ⌜ resultIn r (now (state .exit))
-        ≡ onLent (storedBy who (expressionAt (framesOf (now (frames .entry))) a)
+        ≡ onLent (storedOn who (expressionAt (framesOf (now (frames .entry))) a)
         (expressionAt (framesOf (now (frames .entry))) b)) who (now (state .entry)) ⌝ }
     ensures rest { λ _. ⌜ lentRest (now (state .exit)) ≡ lentRest (now (state .entry)) ⌝ }
 {

@@ -42,7 +42,7 @@ mostCells = 256
 abbrev pub mostItems : ℕ
 mostItems = 25
 
--- a run: the choices of the 49,152 bytes; the listing's lines of 14 bytes, its first and its last;
+-- a run: the choices of the 49,152 bytes; the listing's lines of 19 bytes, its first and its last;
 -- 02, change 1, of the header's allowance: 'A 0 shall mean 16,384.'
 abbrev pub mostChoices : ℕ
 mostChoices = 16384
@@ -51,7 +51,7 @@ abbrev pub mostChoiceBytes : ℕ
 mostChoiceBytes = 49152
 
 abbrev pub mostListingBytes : ℕ
-mostListingBytes = 229389
+mostListingBytes = 311309
 
 abbrev pub defaultAllowance : ℕ
 defaultAllowance = 16384

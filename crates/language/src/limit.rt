@@ -30,7 +30,7 @@ pub const MOST_CHOICE_BYTES: usize = 3 * MOST_CHOICES;
 // The lines of a listing: the check's, a choice's, the last.
 pub const CHECK_LINE: usize = 8;
 
-pub const CHOICE_LINE: usize = 14;
+pub const CHOICE_LINE: usize = 19;
 
 pub const LAST_LINE: usize = 5;
 

@@ -16,11 +16,14 @@ pub refusal-line : (n i : ℕ) (a b : List ℕ) → a ≡ twoDigits n → b ≡ 
     ≡ refusalLine n i
 refusal-line n i a b p q = rw (p, q)
 
-pub choice-line : (choice answer thread cells : ℕ) (c a t n : List ℕ) → c ≡ twoDigits choice
-    → a ≡ twoDigits answer → t ≡ twoDigits thread → n ≡ fourDigits cells
-    → getD c 0 0 ∷ getD c 1 0 ∷ 32 ∷ getD a 0 0 ∷ getD a 1 0 ∷ 32 ∷ getD t 0 0 ∷ getD t 1 0 ∷ 32 ∷ getD n 0 0 ∷ getD n 1 0 ∷ getD n 2 0 ∷ getD n 3 0 ∷ 10 ∷ []
-    ≡ choiceLineOf choice answer thread cells
-choice-line choice answer thread cells c a t n p q r s = rw (p, q, r, s)
+pub choice-line : (choice answer thread cells accesses : ℕ) (c a t n m : List ℕ)
+    → c ≡ twoDigits choice → a ≡ twoDigits answer → t ≡ twoDigits thread → n ≡ fourDigits cells
+    → m ≡ fourDigits accesses
+    → getD c 0 0 ∷ getD c 1 0 ∷ 32 ∷ getD a 0 0 ∷ getD a 1 0 ∷ 32 ∷ getD t 0 0 ∷ getD t 1 0 ∷ 32
+    ∷ getD n 0 0 ∷ getD n 1 0 ∷ getD n 2 0 ∷ getD n 3 0 ∷ 32
+    ∷ getD m 0 0 ∷ getD m 1 0 ∷ getD m 2 0 ∷ getD m 3 0 ∷ 10 ∷ []
+    ≡ choiceLineOf choice answer thread cells accesses
+choice-line choice answer thread cells accesses c a t n m p q r s z = rw (p, q, r, s, z)
 
 pub last-line : (used : ℕ) (n : List ℕ) → n ≡ fourDigits used
     → getD n 0 0 ∷ getD n 1 0 ∷ getD n 2 0 ∷ getD n 3 0 ∷ 10 ∷ [] ≡ lastLine used

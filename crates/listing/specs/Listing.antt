@@ -8,7 +8,7 @@ use Rattle.language.specs.{declared.verdict.Verdict.the-variants.Rejected, Limi
 use Rattle.language.specs.{Refusals.longText, Refusals.malformedText, Refusals.tooDeep}
 use Rattle.text.specs.Digits.{digit, digitByte, lineFeed}
 use Rattle.program.specs.Programs.{Program, programOf}
-use Rattle.machine.specs.{State.usedCells, Turns.StepResult, Runs.steps}
+use Rattle.machine.specs.{State.usedCells, Turns.StepResult, Turns.accessCount, Runs.steps}
 
 -- ---- numbers in digits
 
@@ -61,14 +61,16 @@ choicesFrom k (a ∷ b ∷ c ∷ rest) =
 -- ---- the run
 
 -- 'Per choice: choice, answer, acting thread (00 if none ..), cells in use, as 2, 2, 2 and 4
--- hexadecimal digits'
-abbrev pub choiceLineOf : ℕ → ℕ → ℕ → ℕ → List ℕ
-choiceLineOf choice answer thread cells =
+-- hexadecimal digits'; 02, change 4: '`run` prints it as a blank and four more digits after the
+-- cells in use'
+abbrev pub choiceLineOf : ℕ → ℕ → ℕ → ℕ → ℕ → List ℕ
+choiceLineOf choice answer thread cells accesses =
     twoDigits choice ++ space ∷ twoDigits answer ++ space ∷ twoDigits thread
-    ++ space ∷ fourDigits cells ++ lineFeed ∷ []
+    ++ space ∷ fourDigits cells ++ space ∷ fourDigits accesses ++ lineFeed ∷ []
 
 unfoldable pub choiceLine : ℕ → StepResult → List ℕ
-choiceLine c r = choiceLineOf c (r .answer) (r .thread) (usedCells (r .state .cells))
+choiceLine c r =
+    choiceLineOf c (r .answer) (r .thread) (usedCells (r .state .cells)) (accessCount r)
 
 unfoldable pub choiceLines : List ℕ → List StepResult → List ℕ
 choiceLines [] rs = []

@@ -11,7 +11,7 @@ use Rattle.language.specs.declared.frame.Frame.{Frame}
 use Rattle.program.specs.Programs.{programOf}
 use Rattle.machine.specs.State.{State}
 use Rattle.machine.specs.Fresh.{fresh}
-use Rattle.machine.specs.Turns.{StepResult}
+use Rattle.machine.specs.Turns.{StepResult, accessCount}
 use Rattle.machine.specs.Steps.{step}
 use Rattle.machine.specs.Runs.{stepsFrom, stateFrom, steps, stateAfter}
 use Rattle.machine.specs.Words.{pack, unpack}
@@ -25,13 +25,13 @@ use Rattle.machine.proofs.KeptShape.{FileFits, keeps-step, fresh-shaped
 
 -- what a call gives that is a step's
 abbrev pub asCalled : StepResult → CallResult
-asCalled r = record { answer = r .answer; thread = r .thread; words = pack (r .state) }
+asCalled r = callResult (r .answer) (r .thread) (accessCount r) (pack (r .state))
 
 pub fresh-called : (fs : List Frame) (w : List ℕ) → length w ≡ 4818
-    → freshCall fs w ≡ record { answer = 0; thread = 0; words = pack (fresh (programOf fs)) }
+    → freshCall fs w ≡ callResult 0 0 0 (pack (fresh (programOf fs)))
 unfolding freshCall
 fresh-called fs w e =
-    ap (λ (b : Bool). elim b [ true ↦ record { answer = 0; thread = 0; words = pack (fresh (programOf fs)) } | false ↦ callResult 14 0 w ]) (eq-eqb (length w) 4818 e)
+    ap (λ (b : Bool). elim b [ true ↦ callResult 0 0 0 (pack (fresh (programOf fs))) | false ↦ callResult 14 0 0 w ]) (eq-eqb (length w) 4818 e)
 
 module _ (fs : List Frame) (F : FileFits fs (programOf fs) (programSchedulers fs)) where
   pub call-is : (s : State) (c : ℕ) → Shaped fs (programSchedulers fs) s
@@ -39,6 +39,7 @@ module _ (fs : List Frame) (F : FileFits fs (programOf fs) (programSchedulers fs
   call-is s c z =
       path (ap (λ (x : CallResult). x .answer) (called-in fs (pack s) c e) ∙ ap (λ (x : State). step (programOf fs) x c .answer) u)
       (ap (λ (x : CallResult). x .thread) (called-in fs (pack s) c e) ∙ ap (λ (x : State). step (programOf fs) x c .thread) u)
+      (ap (λ (x : CallResult). x .accesses) (called-in fs (pack s) c e) ∙ ap (λ (x : State). accessCount (step (programOf fs) x c)) u)
       (step-packs fs (pack s) c e ∙ ap (λ (x : State). pack (step (programOf fs) x c .state)) u)
     where
       e : inRange fs (programSchedulers fs) (pack s) ≡ true
@@ -47,9 +48,9 @@ module _ (fs : List Frame) (F : FileFits fs (programOf fs) (programSchedulers fs
       u : unpack fs (programSchedulers fs) (pack s) ≡ s
       u = unpack-pack fs (programSchedulers fs) s z
 
-      path : {a b : CallResult} → a .answer ≡ b .answer → a .thread ≡ b .thread → a .words ≡ b .words
-          → a ≡ b
-      path p q r = λ i. record { answer = p i; thread = q i; words = r i }
+      path : {a b : CallResult} → a .answer ≡ b .answer → a .thread ≡ b .thread
+          → a .accesses ≡ b .accesses → a .words ≡ b .words → a ≡ b
+      path p q k r = λ i. record { answer = p i; thread = q i; accesses = k i; words = r i }
 
   calls-from : (s : State) (cs : List ℕ) → Shaped fs (programSchedulers fs) s
       → callsFrom fs (pack s) cs ≡ map asCalled (stepsFrom (programOf fs) s cs)

@@ -29,12 +29,12 @@ module _ (fs : List Frame) (w : List ℕ) (c : ℕ) where
       → stepCall fs w c ≡ asCall w (stepOf fs w c)
   unfolding stepCall
   called-in e =
-      ap (λ (b : Bool). elim b [ true ↦ asCall w (stepOf fs w c) | false ↦ callResult 14 0 w ]) e
+      ap (λ (b : Bool). elim b [ true ↦ asCall w (stepOf fs w c) | false ↦ callResult 14 0 0 w ]) e
 
-  pub called-out : inRange fs (programSchedulers fs) w ≡ false → stepCall fs w c ≡ callResult 14 0 w
+  pub called-out : inRange fs (programSchedulers fs) w ≡ false → stepCall fs w c ≡ callResult 14 0 0 w
   unfolding stepCall
   called-out e =
-      ap (λ (b : Bool). elim b [ true ↦ asCall w (stepOf fs w c) | false ↦ callResult 14 0 w ]) e
+      ap (λ (b : Bool). elim b [ true ↦ asCall w (stepOf fs w c) | false ↦ callResult 14 0 0 w ]) e
 
   -- words in range become the words of the step's state, refused or not
   pub step-packs : inRange fs (programSchedulers fs) w ≡ true

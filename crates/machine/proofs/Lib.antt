@@ -11,6 +11,9 @@ pub mod Families
 pub mod Owns
 pub mod Fair
 pub mod Numbers
+-- How many accesses an evaluation has, and how many cells it leaves.
+pub mod FewAccesses
+pub mod StepAccesses
 -- What a choice does to the threads: the acting one, by its top item, and one that it starts.
 pub mod Taken
 -- Why nothing is ever full (20) from a fresh state on: lists; continuations and variables; the

@@ -42,6 +42,11 @@ pub record StepResult : Type 0 where
   pub state : State
   pub accesses : List Access
 
+-- 02, change 4: 'For a choice that isn't refused it equals the length of the list of touches in the
+-- stepping rules. A refused choice counts 0, whatever it touched before its refusal.'
+unfoldable pub accessCount : StepResult → ℕ
+accessCount r = if eqb (r .answer) 0 then length (r .accesses) else 0
+
 -- a turn: the choice, the thread that acts, and that thread without its top item; `spaces` are the
 -- state's; `cells` and `accesses` are those of the step so far, `state` is the one it was given
 pub record Turn : Type 0 where

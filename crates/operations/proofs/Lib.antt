@@ -2,6 +2,7 @@
 -- operation after another, the operations, numbers and truths that are wanted.
 pub mod WordLaws
 pub mod Told
+pub mod HeapLaws
 pub mod InState
 pub mod Chains
 pub mod Operations

@@ -18,13 +18,15 @@ use Rattle.machine.specs.declared.value.Outcome.{Outcome}
 use Rattle.machine.specs.declared.value.Outcome.the-variants.{Is, Foreign, Spent, Stuck}
 use Rattle.operations.specs.declared.Who.{Who}
 use Rattle.operations.specs.inner.Lent.{lentCount, lentCells}
-use Rattle.operations.specs.inner.Results.{result, resultIn, thenBy}
+use Rattle.operations.specs.inner.Results.{Result, result, resultIn, andThenIn}
+use Rattle.operations.specs.inner.Heaps.{cellsIn, withAccess, withCell, accessed}
 use Rattle.operations.specs.inner.ByWords.{valueIn, ownerIn, contentIn, cellWordOf, ownIn}
 use Rattle.operations.specs.inner.ByWords.{newOwnerIn, variableIn, sharedIn, leafIn, makeIn}
-use Rattle.operations.specs.inner.ByWords.{accessIn, readIn, readingIn, putWordIn, storeIn}
-use Rattle.operations.proofs.InState.{cell-at, put-in, new-in}
+use Rattle.operations.specs.inner.ByWords.{accessIn, readIn, accessedBy, readingIn, putWordIn}
+use Rattle.operations.specs.inner.ByWords.{storeIn}
+use Rattle.operations.proofs.InState.{cell-at, put-in, new-in, counted-in, cells-kept}
 use Rattle.operations.proofs.Told.{IsRefusal, IsNoCell, a-cell}
-use Rattle.operations.proofs.Chains.{then-refused}
+use Rattle.operations.proofs.Chains.{then-refused, then-is}
 
 -- ---- owners: the thread's own cells, then its scheduler's; an unlinked thread has none of those
 pub own-thread : (who : Who) (o : ℕ) → o ≡ 16 + who .thread → true ≡ ownIn who o
@@ -120,29 +122,44 @@ module _ (who : Who) (s o : ℕ) (v : Value) (w : List ℕ) (b : Bool)
   own-new : {t : Bool} → b ≡ t → ownIn who (newOwnerIn who s) ≡ t
   own-new e = sym (eb ∙ ap (ownIn who) eo) ∙ e
 
-  -- m is the bound that the code tests, x the cell's word
-  pub make-is : (m x : ℕ) → let n = getD w cellCountAt 0 in
-      b ≡ true → n < m → m ≤ mostCells → x ≡ cellWordOf o v → length w ≡ stateLength
-      → resultIn (Is (Cell n)) (set (set w (cellsAt + n) x) cellCountAt (n + 1))
+  abbrev h : ℕ
+  h = getD w cellCountAt 0
+
+  -- n cells are in use, m is the bound that the code tests, x the cell's word, k the count after it
+  pub make-is : (m n x k : ℕ)
+      → b ≡ true → n ≡ cellsIn (getD w cellCountAt 0) → n < m → m ≤ mostCells → x ≡ cellWordOf o v
+      → k ≡ withCell (getD w cellCountAt 0) → length w ≡ stateLength
+      → resultIn (Is (Cell n)) (set (set w (cellsAt + n) x) cellCountAt k)
       ≡ makeIn who s v (lentCount w) (lentCells w)
   unfolding makeIn lentCount
-  make-is m x t l k e h =
-      let n : ℕ = getD w cellCountAt 0 in
-      new-in w n x (n + 1) (Is (Cell n)) h
+  make-is m n x k t en l g e ek z =
+      let few : cellsIn h < mostCells = omega arith in
+      new-in w n x k (Is (Cell n)) z
+      ∙ ap (λ (i : ℕ). result (Is (Cell i)) k (set (lentCells w) i x)) en
+      ∙ ap (λ (i : ℕ). result (Is (Cell (cellsIn h))) i (set (lentCells w) (cellsIn h) x)) ek
       ∙ yes _ (own-new t)
-      (yes _ (lt-ltb n mostCells (omega arith))
-      (ap (λ (y : ℕ). result (Is (Cell n)) (n + 1) (set (lentCells w) n y))
+      (yes _ (lt-ltb (cellsIn h) mostCells few)
+      (ap (λ (y : ℕ). result (Is (Cell (cellsIn h))) (withCell h) (set (lentCells w) (cellsIn h) y))
       (e ∙ ap (λ (y : ℕ). cellWordOf y v) eo)))
 
-  pub make-spent : (m : ℕ) → b ≡ true → m ≤ getD w cellCountAt 0 → mostCells ≤ m
-      → resultIn Spent w ≡ makeIn who s v (lentCount w) (lentCells w)
+  pub make-spent : (m n k : ℕ) → b ≡ true → n ≡ cellsIn (getD w cellCountAt 0) → m ≤ n
+      → mostCells ≤ m → k ≡ withAccess (getD w cellCountAt 0) → length w ≡ stateLength
+      → resultIn Spent (set w cellCountAt k) ≡ makeIn who s v (lentCount w) (lentCells w)
   unfolding makeIn lentCount
-  make-spent m t l k =
-      yes _ (own-new t) (no _ (le-ltb (getD w cellCountAt 0) mostCells (omega arith)) refl)
+  make-spent m n k t en l g ek z =
+      let many : mostCells ≤ cellsIn h = omega arith in
+      counted-in w Spent k z
+      ∙ ap (λ (i : ℕ). result Spent i (lentCells w)) ek
+      ∙ yes _ (own-new t) (no _ (le-ltb (cellsIn h) mostCells many) refl)
 
-  pub make-foreign : b ≡ false → resultIn Foreign w ≡ makeIn who s v (lentCount w) (lentCells w)
-  unfolding makeIn
-  make-foreign t = no _ (own-new t) refl
+  pub make-foreign : (k : ℕ) → b ≡ false → k ≡ withAccess (getD w cellCountAt 0)
+      → length w ≡ stateLength
+      → resultIn Foreign (set w cellCountAt k) ≡ makeIn who s v (lentCount w) (lentCells w)
+  unfolding makeIn lentCount
+  make-foreign k t ek z =
+      counted-in w Foreign k z
+      ∙ ap (λ (i : ℕ). result Foreign i (lentCells w)) ek
+      ∙ no _ (own-new t) refl
 
 -- ---- an access: n cells are in use, o is the owner in the cell's word w
 module _ (who : Who) (c n w : ℕ) (v : Value) where
@@ -162,55 +179,77 @@ module _ (who : Who) (c n w : ℕ) (v : Value) where
     unfolding accessIn
     access-is h t = no _ (lt-leb n c h) (no _ (owned t) refl)
 
--- ---- a cell read in the state's words w
-pub read-is : (who : Who) (v u : Value) (c : ℕ) (w : List ℕ) (r : Outcome) → v ≡ Cell c
-    → u ≡ contentIn (getD w (cellsAt + c) 0)
-    → r ≡ accessIn who c (getD w cellCountAt 0) (getD w (cellsAt + c) 0) u
-    → r ≡ readIn who v (lentCount w) (lentCells w)
-unfolding readIn lentCount
-read-is who v u c w r ev eu h =
-    let n : ℕ = getD w cellCountAt 0 in
-    h
-    ∙ ap (accessIn who c n (getD w (cellsAt + c) 0)) eu
-    ∙ ap (λ (x : ℕ). accessIn who c n x (contentIn x)) (cell-at w c)
-    ∙ ap (λ (x : Value). readIn who x n (lentCells w)) (sym ev)
+-- ---- an access to cell c in the state's words w, where n cells are in use: o is what it comes to,
+-- and k the count after it
+module _ (who : Who) (v u : Value) (c n k : ℕ) (w : List ℕ) (o : Outcome) (ev : v ≡ Cell c)
+    (en : n ≡ cellsIn (getD w cellCountAt 0)) (ek : k ≡ accessed o (getD w cellCountAt 0))
+    (eo : o ≡ accessIn who c n (getD w (cellsAt + c) 0) u) (long : length w ≡ stateLength) where
+  abbrev count : ℕ
+  count = getD w cellCountAt 0
 
-pub read-none : (who : Who) (v : Value) (n : ℕ) (ws : List ℕ) → IsNoCell v
-    → Stuck ≡ readIn who v n ws
-unfolding readIn
-read-none who (Number m) n ws h = refl
-read-none who (Truth b) n ws h = refl
-read-none who (Cell c) n ws h = absurd (a-cell c h)
+  outcome-is : o ≡ accessIn who c (cellsIn (getD w cellCountAt 0)) (getD (lentCells w) c 0) u
+  outcome-is =
+      eo
+      ∙ ap (λ (i : ℕ). accessIn who c i (getD w (cellsAt + c) 0) u) en
+      ∙ ap (λ (y : ℕ). accessIn who c (cellsIn count) y u) (cell-at w c)
 
-pub reading-is : (who : Who) (v : Value) (n : ℕ) (ws : List ℕ) (o : Outcome)
-    → o ≡ readIn who v n ws → result o n ws ≡ readingIn who v n ws
-reading-is who v n ws o e = ap (λ (p : Outcome). result p n ws) e
+  -- with the access counted
+  accessed-in : resultIn o (set w cellCountAt k) ≡ accessedBy o (lentCount w) (lentCells w)
+  unfolding lentCount
+  accessed-in = counted-in w o k long ∙ ap (λ (i : ℕ). result o i (lentCells w)) ek
 
--- ---- a cell stored in: o is what the access answers
-module _ (who : Who) (v u : Value) (c : ℕ) (w : List ℕ) (o : Outcome) (ev : v ≡ Cell c)
-    (eo : o ≡ accessIn who c (getD w cellCountAt 0) (getD w (cellsAt + c) 0) u) where
-  store-at : thenBy o (lentCount w) (lentCells w) (putWordIn c) ≡ storeIn who v u (lentCount w) (lentCells w)
+  -- ---- a cell read
+  pub read-is : u ≡ contentIn (getD w (cellsAt + c) 0)
+      → resultIn o (set w cellCountAt k) ≡ readingIn who v (lentCount w) (lentCells w)
+  unfolding readIn lentCount
+  read-is eu =
+      let at = getD (lentCells w) c 0 in
+      accessed-in
+      ∙ ap (λ (p : Outcome). accessedBy p (lentCount w) (lentCells w))
+      (outcome-is
+      ∙ ap (accessIn who c (cellsIn count) at) (eu ∙ ap contentIn (cell-at w c))
+      ∙ ap (λ (x : Value). readIn who x count (lentCells w)) (sym ev))
+
+  -- ---- a cell stored in
+  store-at : andThenIn (accessedBy o (lentCount w) (lentCells w)) (putWordIn c)
+      ≡ storeIn who v u (lentCount w) (lentCells w)
   unfolding storeIn lentCount
   store-at =
-      let n : ℕ = getD w cellCountAt 0 in
-      ap (λ (p : Outcome). thenBy p n (lentCells w) (putWordIn c))
-      (eo ∙ ap (λ (y : ℕ). accessIn who c n y u) (cell-at w c))
-      ∙ ap (λ (y : Value). storeIn who y u n (lentCells w)) (sym ev)
+      ap (λ (p : Outcome). andThenIn (accessedBy p count (lentCells w)) (putWordIn c)) outcome-is
+      ∙ ap (λ (y : Value). storeIn who y u count (lentCells w)) (sym ev)
 
-  -- a refusal changes nothing
-  pub store-refused : IsRefusal o → resultIn o w ≡ storeIn who v u (lentCount w) (lentCells w)
-  store-refused h = then-refused (resultIn o w) (putWordIn c) h ∙ store-at
+  -- a refusal changes no cell
+  pub store-refused : IsRefusal o
+      → resultIn o (set w cellCountAt k) ≡ storeIn who v u (lentCount w) (lentCells w)
+  store-refused h =
+      then-refused (resultIn o (set w cellCountAt k)) (putWordIn c) h
+      ∙ ap (λ (r : Result). andThenIn r (putWordIn c)) accessed-in
+      ∙ store-at
 
   -- y is the cell's word after the store
   pub store-is : (x : Value) (y : ℕ) → o ≡ Is x
       → y ≡ cellWordOf (ownerIn (getD w (cellsAt + c) 0)) x
-      → resultIn (Is x) (set w (cellsAt + c) y) ≡ storeIn who v u (lentCount w) (lentCells w)
+      → resultIn (Is x) (set (set w cellCountAt k) (cellsAt + c) y)
+      ≡ storeIn who v u (lentCount w) (lentCells w)
   store-is x y ex ey =
-      put-in w (Is x) c y
-      ∙ ap (λ (z : ℕ). result (Is x) (lentCount w) (set (lentCells w) c z))
-      (ey ∙ ap (λ (z : ℕ). cellWordOf (ownerIn z) x) (cell-at w c))
-      ∙ ap (λ (p : Outcome). thenBy p (lentCount w) (lentCells w) (putWordIn c)) (sym ex)
+      let v = set w cellCountAt k in
+      put-in v (Is x) c y
+      ∙ ap (λ (z : ℕ). result (Is x) (lentCount v) (set (lentCells v) c z))
+      (ey ∙ ap (λ (z : ℕ). cellWordOf (ownerIn z) x) (cell-at w c ∙ same))
+      ∙ then-is (resultIn o v) x (putWordIn c) _ ex refl
+      ∙ ap (λ (r : Result). andThenIn r (putWordIn c)) accessed-in
       ∙ store-at
+    where
+      -- the count is no cell
+      same : getD (lentCells w) c 0 ≡ getD (lentCells (set w cellCountAt k)) c 0
+      same = ap (λ (ws : List ℕ). getD ws c 0) (sym (cells-kept w k))
+
+pub read-none : (who : Who) (v : Value) (n : ℕ) (ws : List ℕ) → IsNoCell v
+    → result Stuck n ws ≡ readingIn who v n ws
+unfolding readIn
+read-none who (Number m) n ws h = refl
+read-none who (Truth b) n ws h = refl
+read-none who (Cell c) n ws h = absurd (a-cell c h)
 
 pub store-none : (who : Who) (v u : Value) (n : ℕ) (ws : List ℕ) → IsNoCell v
     → result Stuck n ws ≡ storeIn who v u n ws

@@ -1,3 +1,4 @@
 pub mod Lent
+pub mod Heaps
 pub mod Results
 pub mod ByWords

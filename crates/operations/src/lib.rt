@@ -3,6 +3,7 @@
 use language::Place;
 
 mod cell;
+pub mod heap;
 pub mod operand;
 pub mod operation;
 

@@ -4,6 +4,10 @@ use crate::cell::content_of;
 use crate::cell::owner_of;
 use crate::cell::value_of;
 use crate::cell::with_content;
+use crate::heap::after_access;
+use crate::heap::cells_in;
+use crate::heap::with_access;
+use crate::heap::with_cell;
 use language::Place;
 use language::limit::MOST_CELLS;
 use machine::offset::CELL_COUNT_AT;
@@ -22,7 +26,7 @@ ghost use Rattle.operations.specs.inner.Lent.{lentCount, lentCells, lent
 ghost use Rattle.operations.specs.inner.Results.{resultIn, andThenIn};
 ghost use Rattle.operations.specs.inner.ByWords.{ownIn, newOwnerIn, variableIn};
 ghost use Rattle.operations.specs.inner.ByWords.{sharedIn, leafIn, accessIn};
-ghost use Rattle.operations.specs.inner.ByWords.{readIn, readingIn, makeIn, usingIn};
+ghost use Rattle.operations.specs.inner.ByWords.{readingIn, makeIn, usingIn};
 ghost use Rattle.operations.specs.inner.ByWords.{storeIn};
 
 // The same number at the width of a new cell's owner.
@@ -94,15 +98,18 @@ fn make_cell(who: Who, s: Place, v: Value, state: &mut [u64]) -> Outcome
     ensures rest { λ _. ⌜ lentRest (now (state .exit)) ≡ lentRest (now (state .entry)) ⌝ }
 {
     let owner = new_owner(who, s);
+    let count = state[CELL_COUNT_AT];
     if is_own(who, owner as u64) {
-        let used = state[CELL_COUNT_AT] as usize;
+        let used = cells_in(count);
         if used < MOST_CELLS {
             state[CELLS_AT + used] = cell_word(owner, value_word(v));
-            state[CELL_COUNT_AT] = (used + 1) as u64;
+            state[CELL_COUNT_AT] = with_cell(count);
             return Outcome::Is(Value::Cell(used as u8));
         }
+        state[CELL_COUNT_AT] = with_access(count);
         return Outcome::Spent;
     }
+    state[CELL_COUNT_AT] = with_access(count);
     Outcome::Foreign
 }
 
@@ -120,18 +127,21 @@ fn access(who: Who, j: usize, used: usize, w: u64, v: Value) -> Outcome
 }
 
 // 25
-fn read_cell(who: Who, v: Value, state: &[u64]) -> Outcome
+fn read_cell(who: Who, v: Value, state: &mut [u64]) -> Outcome
     requires { ⌜ length (now state) ≡ stateLength ⌝ }
-    ensures { λ r. ⌜ r
-        ≡ readIn who v (lentCount (now (state .entry))) (lentCells (now (state .entry))) ⌝ }
+    ensures found { λ r. ⌜ resultIn r (now (state .exit))
+        ≡ readingIn who v (lentCount (now (state .entry))) (lentCells (now (state .entry))) ⌝ }
+    ensures rest { λ _. ⌜ lentRest (now (state .exit)) ≡ lentRest (now (state .entry)) ⌝ }
 {
     let Value::Cell(c) = v else {
         return Outcome::Stuck;
     };
     let j = c as usize;
-    let used = state[CELL_COUNT_AT] as usize;
+    let count = state[CELL_COUNT_AT];
     let w = state[CELLS_AT + j];
-    access(who, j, used, w, content_of(w))
+    let content = access(who, j, cells_in(count), w, content_of(w));
+    state[CELL_COUNT_AT] = after_access(content, count);
+    content
 }
 
 // 17: the cell takes any value and keeps its owner.
@@ -145,9 +155,10 @@ fn store_cell(who: Who, v: Value, u: Value, state: &mut [u64]) -> Outcome
         return Outcome::Stuck;
     };
     let i = c as usize;
-    let used = state[CELL_COUNT_AT] as usize;
+    let count = state[CELL_COUNT_AT];
     let w = state[CELLS_AT + i];
-    let o = access(who, i, used, w, u);
+    let o = access(who, i, cells_in(count), w, u);
+    state[CELL_COUNT_AT] = after_access(o, count);
     let Outcome::Is(x) = o else {
         return o;
     };
@@ -169,10 +180,11 @@ fn then_make(who: Who, s: Place, o: Outcome, state: &mut [u64]) -> Outcome
     make_cell(who, s, v, state)
 }
 
-fn then_read(who: Who, o: Outcome, state: &[u64]) -> Outcome
+fn then_read(who: Who, o: Outcome, state: &mut [u64]) -> Outcome
     requires { ⌜ length (now state) ≡ stateLength ⌝ }
-    ensures { λ r. ⌜ resultIn r (now (state .entry))
+    ensures found { λ r. ⌜ resultIn r (now (state .exit))
         ≡ andThenIn (resultIn o (now (state .entry))) (readingIn who) ⌝ }
+    ensures rest { λ _. ⌜ lentRest (now (state .exit)) ≡ lentRest (now (state .entry)) ⌝ }
 {
     let Outcome::Is(v) = o else {
         return o;

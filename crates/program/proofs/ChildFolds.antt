@@ -10,7 +10,7 @@ use Rattle.language.specs.declared.frame.Frame.{Frame}
 use Rattle.program.specs.declared.frames.Children.{Children}
 use Rattle.program.specs.declared.frames.Children.the-variants.{Nothing, One, Two, Three}
 use Rattle.program.specs.declared.frames.ChildNumbers.{ChildNumbers}
-use Rattle.program.specs.inner.Children.{listOf, childrenOf, noChild, numbersOf, overChildren}
+use Rattle.program.specs.inner.Children.{listOf, childrenOf, noChild, childNumbersOf, overChildren}
 use Rattle.program.proofs.FrameLaws.{children-are}
 
 -- what each step keeps, all of them keep
@@ -30,7 +30,7 @@ module _ {A : Type 0} (g : A → ℕ → A) (past : (u : A) (v : ℕ) → mostLi
   none : (u : A) → g u noChild ≡ u
   none u = sym (past u noChild (omega arith))
 
-  listed : (u : A) (x : Children) → atEach u (numbersOf (listOf x)) ≡ overChildren g u (listOf x)
+  listed : (u : A) (x : Children) → atEach u (childNumbersOf (listOf x)) ≡ overChildren g u (listOf x)
   unfolding overChildren
   listed u Nothing = none _ ∙ none _ ∙ none u
   listed u (One k a) = none _ ∙ none (g u a)
@@ -38,10 +38,10 @@ module _ {A : Type 0} (g : A → ℕ → A) (past : (u : A) (v : ℕ) → mostLi
   listed u (Three k a l b m c) = refl
 
   -- t, r and s are what the steps gave
-  pub child-fold : (u t r s : A) (f : Frame) (n : ChildNumbers) → n ≡ numbersOf (children f)
+  pub child-fold : (u t r s : A) (f : Frame) (n : ChildNumbers) → n ≡ childNumbersOf (children f)
       → t ≡ g u (n .a) → r ≡ g t (n .b) → s ≡ g r (n .c) → s ≡ overChildren g u (children f)
   child-fold u t r s f n h p q w =
       let e = children-are f (childrenOf f) (childrenOf f) refl refl in
       w ∙ ap (λ (x : A). g x (n .c)) (q ∙ ap (λ (x : A). g x (n .b)) p)
-      ∙ ap (atEach u) (h ∙ ap numbersOf (sym e)) ∙ listed u (childrenOf f)
+      ∙ ap (atEach u) (h ∙ ap childNumbersOf (sym e)) ∙ listed u (childrenOf f)
       ∙ ap (overChildren g u) e

@@ -22,7 +22,7 @@ use Rattle.program.specs.declared.frames.Children.{Children}
 use Rattle.program.specs.declared.frames.Children.the-variants.{Nothing, One, Two}
 use Rattle.program.specs.declared.frames.ChildNumbers.{ChildNumbers}
 use Rattle.program.specs.inner.Children.{childrenIn, listOf, childrenBy, childrenOf}
-use Rattle.program.specs.inner.Children.{numbersOf}
+use Rattle.program.specs.inner.Children.{childNumbersOf}
 
 -- ---- frames
 pub frame-read : (ws : List ℕ) (i : ℕ) (f : Frame) → f ≡ frameOfWord (getD ws i 0) → i < length ws
@@ -142,5 +142,5 @@ children-are f x v h e =
 
 -- each arm of the match on them that gives their numbers
 pub numbers-are : (f : Frame) (x v : Children) (r : ChildNumbers) → x ≡ childrenOf f → x ≡ v
-    → r ≡ numbersOf (listOf v) → r ≡ numbersOf (children f)
-numbers-are f x v r h e q = q ∙ ap numbersOf (children-are f x v h e)
+    → r ≡ childNumbersOf (listOf v) → r ≡ childNumbersOf (children f)
+numbers-are f x v r h e q = q ∙ ap childNumbersOf (children-are f x v h e)

@@ -3,3 +3,4 @@ pub mod Ordered
 pub mod Modules
 pub mod Shared
 pub mod Children
+pub mod Sizes

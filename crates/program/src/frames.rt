@@ -13,7 +13,7 @@ ghost use Rattle.language.specs.Kinds.{statementUses, expressionUses, children}
 ghost use Rattle.language.specs.declared.kind.StatementKind.{StatementKind};
 ghost use Rattle.text.specs.Frames.{framesOf};
 ghost use Rattle.program.specs.Trees.{frameAt};
-ghost use Rattle.program.specs.inner.Children.{sameClass, childrenBy, childrenOf, numbersOf};
+ghost use Rattle.program.specs.inner.Children.{sameClass, childrenBy, childrenOf, childNumbersOf};
 
 // A frame's children, from the first to the last: of each, the class that it is to be of and its
 // frame's number.
@@ -145,7 +145,7 @@ pub fn children_of(f: Frame) -> Children
 }
 
 pub fn child_numbers(f: Frame) -> ChildNumbers
-    ensures { λ r. ⌜ r ≡ numbersOf (children f) ⌝ }
+    ensures { λ r. ⌜ r ≡ childNumbersOf (children f) ⌝ }
 {
     match children_of(f) {
         Children::Nothing => ChildNumbers {

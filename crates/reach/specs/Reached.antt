@@ -4,8 +4,9 @@ use Rattle.language.specs.declared.frame.Frame.{Frame}
 use Rattle.text.specs.Reading.{Reads, frames}
 use Rattle.program.specs.Programs.{programOf}
 use Rattle.layout.specs.Faults.{NoFault}
-use Rattle.machine.specs.{Offsets.stateLength, Turns.endlessSpaces, Turns.StepResult, Steps.step}
-use Rattle.machine.specs.{Steps.stepWithin, Runs.steps, Runs.stateAfter, Words.pack}
+use Rattle.machine.specs.{Offsets.stateLength, Turns.endlessSpaces, Turns.StepResult}
+use Rattle.machine.specs.{Turns.accessCount, Steps.step, Steps.stepWithin, Runs.steps}
+use Rattle.machine.specs.{Runs.stateAfter, Words.pack}
 use Rattle.machine.specs.{inner.Ranges.inRange, Calls.freshCall, Calls.callsFrom, Calls.callResult}
 
 -- the frames fs are those of some text, and pass refusals 4 to 7
@@ -25,7 +26,8 @@ abbrev pub CallsAreSteps : Type 0
 CallsAreSteps =
     (bs : List ℕ) (fs : List Frame) → Passes bs fs → (w cs : List ℕ) → length w ≡ stateLength
     → callsFrom fs (freshCall fs w .words) cs
-    ≡ map (λ (r : StepResult). callResult (r .answer) (r .thread) (pack (r .state)))
+    ≡ map
+    (λ (r : StepResult). callResult (r .answer) (r .thread) (accessCount r) (pack (r .state)))
     (steps (programOf fs) cs)
 
 -- 'a full list, pile or variable space, which only a caller's own state can bring': in each state

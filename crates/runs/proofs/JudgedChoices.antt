@@ -28,7 +28,7 @@ use Rattle.runs.proofs.ListedRun.{listed-path}
 
 pub listed-refusal : (n i : ℕ) (w out line new : List ℕ) → line ≡ refusalLine n i
     → new ≡ paste out 8 line (length line)
-    → listingResult (A.Done 0) 16 0 w new ≡ listedAfter (notRun w) (refusalLine n i) out
+    → listingResult (A.Done 0 0) 16 0 w new ≡ listedAfter (notRun w) (refusalLine n i) out
 listed-refusal n i w out line new a b =
     listed-path refl refl refl (written-put out 8 line new b ∙ ap (written out 8) a)
 

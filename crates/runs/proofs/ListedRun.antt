@@ -39,7 +39,7 @@ module _ (p : Program) (cs : List ℕ) (file : File) (n k : ℕ) (e : file ≡ f
   unfolding stepLines runLines
   lines-are = ap (λ (i : ℕ). stepLines p (take i cs) ++ lastLine i) used
 
-  size-is : 13 + 14 * k ≡ 8 + length (runLines p cs)
+  size-is : 13 + 19 * k ≡ 8 + length (runLines p cs)
   size-is =
       let b = min-le-left n (file .allowance) in
       let t : length (take k cs) ≡ k = length-take-le k cs (omega arith) in
@@ -50,20 +50,20 @@ module _ (p : Program) (cs : List ℕ) (file : File) (n k : ℕ) (e : file ≡ f
 
   pub listed-run : (v out o line new : List ℕ) → v ≡ pack (stateAfter p (take k cs))
       → o ≡ written out 8 (stepLines p (take k cs)) → line ≡ lastLine k
-      → new ≡ paste o (8 + 14 * k) line (length line) → length out ≡ 229389
-      → listingResult (A.Done 0) (13 + 14 * k) k v new
+      → new ≡ paste o (8 + 19 * k) line (length line) → length out ≡ 311309
+      → listingResult (A.Done 0 0) (13 + 19 * k) k v new
       ≡ listedAfter (finalState p cs) (runLines p cs) out
   unfolding finalState
   listed-run v out o line new a b d f room =
       listed-path size-is used (a ∙ ap (λ (i : ℕ). pack (stateAfter p (take i cs))) used)
-      (written-put o (8 + 14 * k) line new f
+      (written-put o (8 + 19 * k) line new f
       ∙ ap₂ (λ (x : List ℕ) (i : ℕ). written x i line) b at-end
       ∙ ap
       (written (written out 8 (stepLines p (take k cs))) (8 + length (stepLines p (take k cs)))) d
       ∙ written-more out 8 (stepLines p (take k cs)) (lastLine k) (omega arith)
       ∙ ap (written out 8) lines-are)
     where
-      at-end : 8 + 14 * k ≡ 8 + length (stepLines p (take k cs))
+      at-end : 8 + 19 * k ≡ 8 + length (stepLines p (take k cs))
       at-end =
           let b = min-le-left n (file .allowance) in
           let t : length (take k cs) ≡ k = length-take-le k cs (omega arith) in

@@ -11,7 +11,7 @@ use Rattle.text.specs.Frames.{framesOf}
 use Rattle.program.specs.Programs.{Program, programOf}
 use Rattle.machine.specs.State.{State}
 use Rattle.machine.specs.Fresh.{fresh}
-use Rattle.machine.specs.Turns.{StepResult}
+use Rattle.machine.specs.Turns.{StepResult, accessCount}
 use Rattle.machine.specs.Steps.{step}
 use Rattle.machine.specs.Runs.{stepsFrom, stateFrom, steps, stateAfter}
 use Rattle.machine.specs.Words.{pack}
@@ -68,7 +68,7 @@ module _ (out : List ℕ) (at : ℕ) where
 -- ---- the lines
 module _ (p : Program) where
   lines-size : (s : State) (cs : List ℕ)
-      → length (choiceLines cs (stepsFrom p s cs)) ≡ 14 * length cs
+      → length (choiceLines cs (stepsFrom p s cs)) ≡ 19 * length cs
   unfolding choiceLines choiceLine eachFrom
   lines-size s [] = refl
   lines-size s (c ∷ cs) = let l = lines-size (step p s c .state) cs in omega arith
@@ -86,7 +86,7 @@ module _ (p : Program) where
   unfolding stepLines choiceLines eachFrom
   step-lines-none = refl
 
-  pub step-lines-size : (cs : List ℕ) → length (stepLines p cs) ≡ 14 * length cs
+  pub step-lines-size : (cs : List ℕ) → length (stepLines p cs) ≡ 19 * length cs
   unfolding stepLines
   step-lines-size cs = lines-size (fresh p) cs
 
@@ -170,27 +170,27 @@ module _ (frames : List ℕ) (file : File) (bytes : List ℕ) (n : ℕ) (old w b
         let q : getD v 1 0 ≡ length (stateAfter P (take (k + 1) cs) .cells) = ap (λ (x : List ℕ). getD x 1 0) beyond ∙ says-pack (stateAfter P (take (k + 1) cs)) .cells in
         omega arith
 
-    module _ (line new : List ℕ) (y : line ≡ choiceLineOf c (s .answer) (s .thread) (getD v 1 0)) (o : new ≡ paste out (8 + 14 * k) line (length line)) where
+    module _ (line new : List ℕ) (y : line ≡ choiceLineOf c (s .answer) (s .thread) (getD v 1 0) (s .accesses)) (o : new ≡ paste out (8 + 19 * k) line (length line)) where
       line-is : line ≡ choiceLine (getD cs k 0) next
       unfolding choiceLine
       line-is =
-          y ∙ ap (λ (i : ℕ). choiceLineOf i (s .answer) (s .thread) (getD v 1 0)) choice-is
-          ∙ ap (λ (x : CallResult). choiceLineOf (getD cs k 0) (x .answer) (x .thread) (getD v 1 0)) called
-          ∙ ap (choiceLineOf (getD cs k 0) (next .answer) (next .thread)) cells-in
+          y ∙ ap (λ (i : ℕ). choiceLineOf i (s .answer) (s .thread) (getD v 1 0) (s .accesses)) choice-is
+          ∙ ap (λ (x : CallResult). choiceLineOf (getD cs k 0) (x .answer) (x .thread) (getD v 1 0) (x .accesses)) called
+          ∙ ap (λ (i : ℕ). choiceLineOf (getD cs k 0) (next .answer) (next .thread) i (accessCount next)) cells-in
 
-      pub lining-more : length v ≡ length w → length new ≡ length out → 8 + 14 * n ≤ length before
+      pub lining-more : length v ≡ length w → length new ≡ length out → 8 + 19 * n ≤ length before
           → Lining frames bytes n old v before new (k + 1)
       lining-more l d room =
           let t : length (take k cs) ≡ k = length-take-le k cs (omega arith) in
           let u = step-lines-size P (take k cs) in
-          let i : 8 + 14 * k ≡ 8 + length (stepLines P (take k cs)) = omega arith in
+          let i : 8 + 19 * k ≡ 8 + length (stepLines P (take k cs)) = omega arith in
           record {
             few = omega arith;
             long = l ∙ r .long;
             wide = d ∙ r .wide;
             words = beyond;
             lines =
-                written-put out (8 + 14 * k) line new o
+                written-put out (8 + 19 * k) line new o
                 ∙ ap₂ (λ (x : List ℕ) (j : ℕ). written x j line) (r .lines) i
                 ∙ ap (written (written before 8 (stepLines P (take k cs))) (8 + length (stepLines P (take k cs)))) line-is
                 ∙ written-more before 8 (stepLines P (take k cs)) (choiceLine (getD cs k 0) next)

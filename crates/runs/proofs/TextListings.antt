@@ -70,13 +70,13 @@ module _ (frames : List ℕ) (g : FileWords frames) (v : Verdict) (e : v ≡ rul
       ≡ listedAfter (choicesRun (programOf (framesOf frames)) w bytes)
       (choicesListing (programOf (framesOf frames)) bytes) o
       → withBuffers x u new
-      ≡ wholeListing (A.Done 0) (rulesOf (programOf (framesOf frames)))
+      ≡ wholeListing (A.Done 0 0) (rulesOf (programOf (framesOf frames)))
       (framesOf frames) bytes w out
   listed-frames w bytes u new x h =
       let s = goes-on (rulesOf (programOf fs)) fs w bytes (rules-run fs (some-frame (g .laid-out)) (g .laid-out)) in
       h ∙ ap (listedAfter (choicesRun (programOf fs) w bytes) (choicesListing (programOf fs) bytes)) start
       ∙ listed-path (let l = length-append (checkLine (rulesOf (programOf fs))) (choicesListing (programOf fs) bytes) in omega arith) refl refl (written-more out 0 (checkLine (rulesOf (programOf fs))) (choicesListing (programOf fs) bytes) (omega arith))
-      ∙ ap₂ (λ (y : FinalState) (z : List ℕ). listingOf (A.Done 0) y z out) (sym (s .0))
+      ∙ ap₂ (λ (y : FinalState) (z : List ℕ). listingOf (A.Done 0 0) y z out) (sym (s .0))
       (sym (s .1))
     where
       start : o ≡ written out 0 (checkLine (rulesOf (programOf (framesOf frames))))
@@ -84,18 +84,18 @@ module _ (frames : List ℕ) (g : FileWords frames) (v : Verdict) (e : v ≡ rul
 
 -- ---- the whole: by what 1 to 7 say of the text
 module _ (n j : ℕ) (out : List ℕ) where
-  pub rejected-noListing : (length out ≡ 229389 → ⊥)
+  pub rejected-noListing : (length out ≡ 311309 → ⊥)
       → noListing (A.Rejected n j) [] out ≡ listedRejected n j [] out
   unfolding listedRejected
-  rejected-noListing f = sym (if-no _ _ (ne-eqb (length out) 229389 f))
+  rejected-noListing f = sym (if-no _ _ (ne-eqb (length out) 311309 f))
 
   pub rejected-listed : (line new : List ℕ) → line ≡ refusalLine n j
-      → new ≡ paste out 0 line (length line) → length out ≡ 229389
+      → new ≡ paste out 0 line (length line) → length out ≡ 311309
       → listingResult (A.Rejected n j) 8 0 [] new ≡ listedRejected n j [] out
   unfolding listedRejected
   rejected-listed line new a b room =
       listed-path refl refl refl (written-put out 0 line new b ∙ ap (written out 0) a)
-      ∙ sym (if-yes _ _ (eq-eqb (length out) 229389 room))
+      ∙ sym (if-yes _ _ (eq-eqb (length out) 311309 room))
 
   -- the listing of a text that 1 to 7 stop says nothing of the state: whichever is lent stays
   module _ (w : List ℕ) where
@@ -111,7 +111,7 @@ module _ (n j : ℕ) (out : List ℕ) where
     with-state : (x : ListingAnswer) (new : List ℕ) → withBuffers x [] new ≡ listedRejected n j [] out
         → withBuffers x w new ≡ listedRejected n j w out
     unfolding listedRejected
-    with-state x new k = ap withState k ∙ either (eqb (length out) 229389) _ _
+    with-state x new k = ap withState k ∙ either (eqb (length out) 311309) _ _
 
 module _ (bs bytes w out : List ℕ) (l : Laid) (ws : List ℕ) (e : laidAs l ws ≡ laidWords bs) where
   -- what the definition gives with that answer where no buffer hinders it
@@ -144,7 +144,7 @@ module _ (bs bytes w out : List ℕ) (l : Laid) (ws : List ℕ) (e : laidAs l ws
     rejected-is : listedRejected n j w out ≡ listText bs bytes w out
     unfolding listedRejected
     rejected-is =
-        ap (λ (x : ListingResult). if eqb (length out) 229389 then x else noListing (A.Rejected n j) w out) whole-rejected
+        ap (λ (x : ListingResult). if eqb (length out) 311309 then x else noListing (A.Rejected n j) w out) whole-rejected
         ∙ by-layout (LayoutVerdict.Rejected n j) refused
 
     pub list-rejected : (x : ListingAnswer) (new : List ℕ) → withBuffers x [] new ≡ listedRejected n j [] out
@@ -164,23 +164,23 @@ module _ (bs bytes w out : List ℕ) (l : Laid) (ws : List ℕ) (e : laidAs l ws
     pub list-short-state : (length w ≡ 4818 → ⊥)
         → noListing (A.Refused 14 0) w out ≡ listText bs bytes w out
     list-short-state f =
-        sym (if-no _ _ (ap (λ (b : Bool). b && eqb (length out) 229389) (ne-eqb (length w) 4818 f)))
+        sym (if-no _ _ (ap (λ (b : Bool). b && eqb (length out) 311309) (ne-eqb (length w) 4818 f)))
         ∙ laid-out
 
-    pub list-short-out : (length out ≡ 229389 → ⊥)
+    pub list-short-out : (length out ≡ 311309 → ⊥)
         → noListing (A.Refused 14 0) w out ≡ listText bs bytes w out
     list-short-out f =
-        sym (if-no _ _ (ap (λ (b : Bool). eqb (length w) 4818 && b) (ne-eqb (length out) 229389 f) ∙ and-off (eqb (length w) 4818)))
+        sym (if-no _ _ (ap (λ (b : Bool). eqb (length w) 4818 && b) (ne-eqb (length out) 311309 f) ∙ and-off (eqb (length w) 4818)))
         ∙ laid-out
 
-    pub list-laid-out : length w ≡ 4818 → length out ≡ 229389
+    pub list-laid-out : length w ≡ 4818 → length out ≡ 311309
         → (u new : List ℕ) (x : ListingAnswer)
         → withBuffers x u new
-        ≡ wholeListing (A.Done 0) (rulesOf (programOf (framesOf (take n ws))))
+        ≡ wholeListing (A.Done 0 0) (rulesOf (programOf (framesOf (take n ws))))
         (framesOf (take n ws)) bytes w out
         → withBuffers x u new ≡ listText bs bytes w out
     list-laid-out size room u new x k =
-        k ∙ ap₂ (λ (y : Verdict) (fs : List Frame). wholeListing (A.Done 0) y fs bytes w out)
+        k ∙ ap₂ (λ (y : Verdict) (fs : List Frame). wholeListing (A.Done 0 0) y fs bytes w out)
         rules-are frames-are
-        ∙ sym (if-yes _ _ (ap₂ (λ (b c : Bool). b && c) (eq-eqb (length w) 4818 size) (eq-eqb (length out) 229389 room)))
+        ∙ sym (if-yes _ _ (ap₂ (λ (b c : Bool). b && c) (eq-eqb (length w) 4818 size) (eq-eqb (length out) 311309 room)))
         ∙ laid-out

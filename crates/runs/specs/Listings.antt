@@ -89,10 +89,10 @@ noListing a w out = listingResult a 0 0 w out
 abbrev pub answerFor : LayoutVerdict → Bool → Answer
 answerFor (Rejected n j) fit = A.Rejected n j
 answerFor LaidOut false = A.Refused wrongState 0
-answerFor LaidOut true = A.Done 0
+answerFor LaidOut true = A.Done 0 0
 
 -- a listing that stops after 1 to 7 needs no state; any other needs one of its length. The longest
--- listing has 8 + 14 * 16,384 + 5 bytes
+-- listing has 8 + 19 * 16,384 + 5 bytes
 abbrev pub buffersFit : LayoutVerdict → List ℕ → List ℕ → Bool
 buffersFit (Rejected n j) w out = eqb (length out) mostListingBytes
 buffersFit LaidOut w out = eqb (length w) stateLength && eqb (length out) mostListingBytes

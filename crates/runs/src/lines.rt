@@ -44,7 +44,8 @@ pub(crate) fn step_lines(
     while k < n {
         let c = choice_at(&digits, bytes, k);
         let s = step_valid(frames, file, state, c as u64);
-        let line = choice_line(c, s.answer, s.thread, state[CELL_COUNT_AT] as u16);
+        let cells = state[CELL_COUNT_AT] as u16;
+        let line = choice_line(c, s.answer, s.thread, cells, s.accesses);
         put(out, CHECK_LINE + CHOICE_LINE * k, &line);
         k += 1;
     }

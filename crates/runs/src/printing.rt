@@ -86,7 +86,7 @@ fn list_run(
     let line = last_line(used as u16);
     put(out, CHECK_LINE + CHOICE_LINE * used, &line);
     ListingAnswer {
-        answer: Answer::Done(0),
+        answer: Answer::Done(0, 0),
         length: (ENDS + CHOICE_LINE * used) as u32,
         used,
     }
@@ -101,7 +101,7 @@ fn list_refusal(number: u8, line: u16, out: &mut [u8]) -> ListingAnswer
     let bytes = refusal_line(number, line);
     put(out, CHECK_LINE, &bytes);
     ListingAnswer {
-        answer: Answer::Done(0),
+        answer: Answer::Done(0, 0),
         length: TWO_LINES,
         used: 0,
     }
@@ -130,7 +130,7 @@ fn list_frames(frames: &[u64], bytes: &[u8], state: &mut [u64], out: &mut [u8]) 
     requires { ⌜ FileWords (now frames) × (length (now state) ≡ stateLength)
         × (length (now out) ≡ mostListingBytes) ⌝ }
     ensures { λ r. ⌜ withBuffers r (now (state .exit)) (now (out .exit))
-        ≡ wholeListing (Done 0) (rulesOf (programOf (framesOf (now (frames .entry)))))
+        ≡ wholeListing (Done 0 0) (rulesOf (programOf (framesOf (now (frames .entry)))))
         (framesOf (now (frames .entry))) (now (bytes .entry)) (now (state .entry))
         (now (out .entry)) ⌝ }
 {
@@ -162,7 +162,7 @@ fn list_rejected(n: u8, j: u16, out: &mut [u8]) -> ListingAnswer
 
 // The listing of any text and of the bytes of choices.txt, and the state after it. The answer is
 // the text's refusal 1 to 7 whatever the lengths, else 14 where a buffer has another length than
-// the listing needs, else 0. Where one has, nothing is written. The longest listing has 8 + 14 *
+// the listing needs, else 0. Where one has, nothing is written. The longest listing has 8 + 19 *
 // 16,384 + 5 bytes.
 pub fn run_listing(text: &[u8], choices: &[u8], state: &mut [u64], out: &mut [u8]) -> ListingAnswer
     ensures { λ r. ⌜ withBuffers r (now (state .exit)) (now (out .exit))

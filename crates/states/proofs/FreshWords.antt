@@ -192,11 +192,11 @@ fresh-words words w₀ w₁ w₂ w₃ b th e₁ e₂ eb et e₃ l =
 
 -- ---- as a call
 pub call-wrong : (words w : List ℕ) → (length w ≡ 4818 → ⊥)
-    → callResult 14 0 w ≡ freshCall (framesOf words) w
+    → callResult 14 0 0 w ≡ freshCall (framesOf words) w
 unfolding freshCall
-call-wrong words w h = sym (ap (λ (b : Bool). elim b [ true ↦ callResult 0 0 (pack (fresh (programOf (framesOf words)))) | false ↦ callResult 14 0 w ]) (ne-eqb (length w) 4818 h))
+call-wrong words w h = sym (ap (λ (b : Bool). elim b [ true ↦ callResult 0 0 0 (pack (fresh (programOf (framesOf words)))) | false ↦ callResult 14 0 0 w ]) (ne-eqb (length w) 4818 h))
 
 pub call-fresh : (words w v : List ℕ) → length w ≡ 4818
-    → v ≡ pack (fresh (programOf (framesOf words))) → callResult 0 0 v
+    → v ≡ pack (fresh (programOf (framesOf words))) → callResult 0 0 0 v
     ≡ freshCall (framesOf words) w
-call-fresh words w v l e = ap (callResult 0 0) e ∙ sym (fresh-called (framesOf words) w l)
+call-fresh words w v l e = ap (callResult 0 0 0) e ∙ sym (fresh-called (framesOf words) w l)

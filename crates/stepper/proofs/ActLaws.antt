@@ -1,6 +1,6 @@
 -- What `act_in` reads of a thread that is there, that this is what `act` asks, and what it gives.
 -- Assumes nothing.
-use Prim.Native.Nat.{ℕ, zero, suc, _+_, _-_, _*_, _<_, _≤_}
+use Prim.Native.Nat.{ℕ, zero, suc, _+_, _-_, _*_, _%_, _^_, _<_, _≤_}
 use mathlib.Core.Path.{_≡_, refl, sym, ap, ap₂, _∙_, subst}
 use mathlib.Core.List.{List, [], _∷_, map}
 use mathlib.Core.Bool.{Bool, true, false, false≢true}
@@ -9,7 +9,7 @@ use lib.ListN as list
 use lib.Dec.{ltb, eqb}
 use lib.ListN.{length, getD, set, take, length-set, length-map, length-drop}
 use lib.Seq.{ext-getD, length-take-le, getD-take, getD-drop, take-take}
-use lib.Seq.{getD-set-same, getD-set-other}
+use lib.Seq.{getD-set-same, getD-set-other, set-set}
 use borrow.Author.Tests.{ltb-true, ltb-false, eqb-true, eqb-false}
 use Rattle.basics.specs.Members.{All, more}
 use Rattle.language.specs.Places.{isPlace}
@@ -34,7 +34,9 @@ use Rattle.machine.proofs.Padded.{padded-at}
 use Rattle.operations.specs.declared.Who.{Who}
 use Rattle.operations.specs.inner.Lent.{Lent, variableCount, lentVariables, lentCount, lentCells}
 use Rattle.operations.specs.inner.Lent.{lentRest}
-use Rattle.evaluator.specs.inner.Results.{CellWords, ValueWords}
+use Rattle.operations.specs.inner.Heaps.{cellsIn, accessesIn}
+use Rattle.operations.proofs.HeapLaws.{few-cells, no-accesses}
+use Rattle.evaluator.specs.inner.Results.{CellWords, HeapWords, ValueWords}
 use Rattle.evaluator.proofs.Holding.{holds-words}
 use Rattle.states.specs.declared.thread.ThreadWords.{ThreadWords}
 use Rattle.states.specs.inner.Threads.{threadWordsOf, threadIn}
@@ -45,12 +47,14 @@ use Rattle.turns.specs.declared.counts.Counts.{Counts}
 use Rattle.turns.specs.inner.Actions.{actIn, turnAct}
 use Rattle.turns.specs.inner.Acts.{TurnOutcome, turnOutcome, turnIn, topIn, variablesIn, Seen}
 use Rattle.turns.specs.inner.Acts.{WholeTurn, TurnWords, ItemWord}
-use Rattle.turns.proofs.TurnLaws.{act-turns}
+use Rattle.turns.specs.inner.TurnCounts.{turnCount}
+use Rattle.turns.proofs.TurnLaws.{act-turns, act-counts}
 use Rattle.reach.proofs.Passed.{order, inside, some-frame}
-use Rattle.stepper.specs.inner.Files.{StepWords, stateIn, whoIn, turnOf, turnOn}
+use Rattle.stepper.specs.inner.Files.{StepWords, stateIn, whoIn, turnOf, turnLeft, turnAccesses}
 use Rattle.stepper.proofs.Variables.{variables-words}
 use Rattle.stepper.proofs.GoodWords.{shaped, says, step-long, threads-few, thread-read, fit}
 use Rattle.stepper.proofs.GoodWords.{place-in}
+use Rattle.stepper.proofs.Counted.{turn-few-accesses}
 
 -- ---- the place on which a thread stands
 pub number-is : (p : Place) (i : ℕ) → p ≡ record { number = i } → p .number ≡ i
@@ -227,6 +231,23 @@ module _
   unfolding lentCount
   count-is = says frames shared w h .cells
 
+  -- so the word counts the cells, and no access yet
+  few-used : usedCells (s .cells) ≤ 256
+  few-used = shaped frames shared w h .cells-room
+
+  cells-count : cellsIn (lentCount w) ≡ usedCells (s .cells)
+  cells-count = ap cellsIn count-is ∙ few-cells (usedCells (s .cells)) few-used
+
+  none-yet : accessesIn (lentCount w) ≡ 0
+  none-yet = ap accessesIn count-is ∙ no-accesses (usedCells (s .cells)) few-used
+
+  heap-in : HeapWords (lentCount w) (lentCells w)
+  heap-in =
+      record {
+        cells = rw (cells-count, cells-are) cells-in;
+        few = let e = none-yet in omega arith;
+      }
+
   -- words that are as before but for the cells and their count
   module _ (v : List ℕ) (e : lentRest v ≡ lentRest w) (l : length v ≡ length w) where
     rest-at : (u : List ℕ) (j : ℕ) → (j ≡ 1 → ⊥) → j < 4562 → getD (lentRest u) j 0 ≡ getD u j 0
@@ -312,33 +333,52 @@ module _
         state = record {
           lent = lent who refl;
           variables = subst ValueWords (sym (variables ∙ ap variablesIn read)) variables-in;
-          cells = rw (count-is, cells-are) cells-in;
+          heap = heap-in;
         };
       },
       subst (ItemWord frames) (sym (top ∙ ap topIn read)) top-word,
     )
 
-    -- the words after it are those before with its cells and their count
+    -- the words after it are those before with its cells and their count, with which the accesses
+    -- stand
     pub act-gives : (a : Action) (v' : List ℕ)
         → actIn a v'
         ≡ turnAct (framesOf frames) who counts item (lentVariables who w) (lentCount w)
         (lentCells w)
-        → lentRest v' ≡ lentRest w → length v' ≡ length w → turnOn a v' frames shared w t
+        → lentRest v' ≡ lentRest w → length v' ≡ length w → turnLeft a v' frames shared w t
     unfolding lentCount
     act-gives a v' e k l = record {
-      acted = ap (λ (y : TurnOutcome). y .acted) same;
-      words = whole v' k l
-          ∙ ap (λ (y : TurnOutcome). set (pasted w 4562 (y .cells) 256) 1 (y .acted .used)) same;
-      whole = ap length (sym cells-left) ∙ size v' l;
-      room = subst (λ (i : ℕ). HasRoom (a .change) (i - 1) (threadWordsOf x .values))
-          (sym (sees .items))
-          (subst (HasRoom (a .change) (counts .items - 1)) (sym (sees .variables)) (r .room));
+      turn = record {
+        acted =
+            ap (λ (i : ℕ). turned a i (popped (threadWordsOf x))) (getD-set-same v' 1 m 0 inside)
+            ∙ ap (λ (y : TurnOutcome). y .acted) same;
+        words =
+            ap (λ (u : List ℕ). set u 1 m) (whole v' k l)
+            ∙ set-set (pasted w 4562 (lentCells v') 256) 1 (lentCount v') m
+            ∙ ap (λ (y : TurnOutcome). set (pasted w 4562 (y .cells) 256) 1 (y .acted .used)) same;
+        whole = ap length (sym cells-left) ∙ size v' l;
+        room = subst (λ (i : ℕ). HasRoom (a .change) (i - 1) (threadWordsOf x .values))
+            (sym (sees .items))
+            (subst (HasRoom (a .change) (counts .items - 1)) (sym (sees .variables)) (r .room));
+      };
+      accesses = counted;
+      few = few-accesses;
     }
       where
-        r : WholeTurn a (lentCount v') (lentCells v') who counts item (lentVariables who w)
-            (λ y. turnIn (framesOf frames) who y (lentCount w) (lentCells w))
+        room-in : cellsIn (lentCount w) ≤ 256
+        room-in = let q = cells-count in let y = few-used in omega arith
+
+        m : ℕ
+        m = cellsIn (lentCount v')
+
+        inside : 1 < length v'
+        inside = let z = long in omega arith
+
+        r : WholeTurn a (cellsIn (lentCount v')) (lentCells v') who counts item
+            (lentVariables who w)
+            (λ y. turnIn (framesOf frames) who y (cellsIn (lentCount w)) (lentCells w))
         r = act-turns (framesOf frames) who counts item (lentVariables who w) (lentCount w)
-            (lentCells w) a (lentCount v') (lentCells v') e
+            (lentCells w) room-in a (lentCount v') (lentCells v') e
 
         who-is : who ≡ whoIn frames shared w t
         who-is = ap (λ (i : ℕ). whoAt (record { number = i })) (sym (sees .place))
@@ -346,13 +386,52 @@ module _
         turn-by : Who → ℕ → List ℕ → TurnOutcome
         turn-by y i ws = turnIn (framesOf frames) y (threadWordsOf x) i ws
 
-        same : turnOutcome (turned a (lentCount v') (popped (threadWordsOf x))) (lentCells v')
+        same : turnOutcome (turned a (cellsIn (lentCount v')) (popped (threadWordsOf x)))
+            (lentCells v')
             ≡ turnOf frames shared w t
         same =
             r .thread (threadWordsOf x) sees (sym (variables ∙ ap variablesIn read))
             (sym (top ∙ ap topIn read))
-            ∙ ap₂ (turn-by who) count-is cells-are
+            ∙ ap₂ (turn-by who) cells-count cells-are
             ∙ ap (λ (y : Who). turn-by y (usedCells (s .cells)) (cellWords (s .cells))) who-is
 
         cells-left : lentCells v' ≡ turnOf frames shared w t .cells
         cells-left = ap (λ (y : TurnOutcome). y .cells) same
+
+        count-by : Who → ℕ → ℕ → List ℕ → ℕ → List ℕ → ℕ
+        count-by y i j vs n ws = turnCount (framesOf frames) y i j vs n ws
+
+        -- the count, from what is seen of the thread
+        seen-count :
+            turnCount (framesOf frames) who (counts .items) item (lentVariables who w)
+            (cellsIn (lentCount w)) (lentCells w)
+            ≡ turnAccesses frames shared w t
+        seen-count =
+            ap (λ (i : ℕ).
+            count-by who i item (lentVariables who w) (cellsIn (lentCount w)) (lentCells w))
+            (sym (sees .items))
+            ∙ ap (λ (i : ℕ).
+            count-by who (threadWordsOf x .items) i (lentVariables who w) (cellsIn (lentCount w))
+            (lentCells w)) (top ∙ ap topIn read)
+            ∙ ap (λ (vs : List ℕ).
+            count-by who (threadWordsOf x .items) (topIn (threadWordsOf x)) vs
+            (cellsIn (lentCount w)) (lentCells w)) (variables ∙ ap variablesIn read)
+            ∙ ap₂ (count-by who (threadWordsOf x .items) (topIn (threadWordsOf x))
+            (variablesIn (threadWordsOf x))) cells-count cells-are
+            ∙ ap (λ (y : Who).
+            count-by y (threadWordsOf x .items) (topIn (threadWordsOf x))
+            (variablesIn (threadWordsOf x)) (usedCells (s .cells)) (cellWords (s .cells))) who-is
+
+        few-accesses : turnAccesses frames shared w t < 65536
+        few-accesses =
+            turn-few-accesses (h .file .laid-out) (rw length-map (h .file .few)) _ _ _ _ _ _
+
+        small : {i : ℕ} → i < 65536 → (0 + i) % 2 ^ 48 ≡ i
+        small q = omega arith
+
+        counted : accessesIn (lentCount v') ≡ turnAccesses frames shared w t
+        counted =
+            act-counts (framesOf frames) who counts item (lentVariables who w) (lentCount w)
+            (lentCells w) room-in (heap-in .few) a (lentCount v') (lentCells v') e
+            ∙ ap₂ (λ (i j : ℕ). (i + j) % 2 ^ 48) none-yet seen-count
+            ∙ small few-accesses

@@ -31,33 +31,33 @@ use Rattle.stepper.specs.Answers.{freshText, stepText}
 use Rattle.stepper.specs.inner.Files.{FileWords, StepWords, fileOf, steppedOn}
 
 -- ---- one answer
-module _ (n t : ℕ) where
-  pub answer-done : n ≡ 0 → A.Done t ≡ answerTo n t
+module _ (n t k : ℕ) where
+  pub answer-done : n ≡ 0 → A.Done t k ≡ answerTo n t k
   unfolding answerTo
   answer-done h = sym (if-yes _ _ (eq-eqb n 0 h))
 
-  pub answer-refused : (n ≡ 0 → ⊥) → A.Refused n t ≡ answerTo n t
+  pub answer-refused : (n ≡ 0 → ⊥) → A.Refused n t ≡ answerTo n t k
   unfolding answerTo
   answer-refused h = sym (if-no _ _ (ne-eqb n 0 h))
 
   -- the enum says 01's number, and the acting thread
-  pub number-back : answerNumber (answerTo n t) ≡ n
+  pub number-back : answerNumber (answerTo n t k) ≡ n
   unfolding answerTo
   number-back =
       if-all (λ (a : Answer). answerNumber a ≡ n) (eqb n 0) _ _ (λ e. sym (eqb-true n 0 e))
       (λ _. refl)
 
-  pub thread-back : answerThread (answerTo n t) ≡ t
+  pub thread-back : answerThread (answerTo n t k) ≡ t
   unfolding answerTo
   thread-back = if-all (λ (a : Answer). answerThread a ≡ t) (eqb n 0) _ _ (λ _. refl) (λ _. refl)
 
 pub ruleset answer-laws = (answer-done, answer-refused)
 
-pub refused-14 : A.Refused 14 0 ≡ answerTo 14 0
-refused-14 = answer-refused 14 0 (λ h. omega arith)
+pub refused-14 : A.Refused 14 0 ≡ answerTo 14 0 0
+refused-14 = answer-refused 14 0 0 (λ h. omega arith)
 
-pub done-0 : A.Done 0 ≡ answerTo 0 0
-done-0 = answer-done 0 0 refl
+pub done-0 : A.Done 0 0 ≡ answerTo 0 0 0
+done-0 = answer-done 0 0 0 refl
 
 -- ---- a step on frames: 14, or the step on words in range
 module _ (frames w : List ℕ) (file : File) (e : file ≡ fileOf (programOf (framesOf frames))) where
@@ -76,7 +76,7 @@ module _ (frames w : List ℕ) (file : File) (e : file ≡ fileOf (programOf (fr
   step-words x q h g = record { file = g; count = ap (λ (f : File). f .shared) e; range = sym (range-of x q) ∙ not-false x h }
 
 pub step-in : (s : StepAnswer) (r : Answer) (v : List ℕ) (k : CallResult) → steppedOn s v ≡ k
-    → r ≡ answerTo (s .answer) (s .thread) → textResult r v ≡ asTextResult k
+    → r ≡ answerTo (s .answer) (s .thread) (s .accesses) → textResult r v ≡ asTextResult k
 step-in s r v k e h = ap (λ (a : Answer). textResult a v) h ∙ ap asTextResult e
 
 -- ---- a text: a rejected one gives that refusal whatever the call (`text-refused`), one that is
@@ -110,7 +110,7 @@ module _ (bs : List ℕ) (l : Laid) (ws : List ℕ) (e : laidAs l ws ≡ laidWor
         ∙ ap asTextResult (call-wrong (take n ws) w f) ∙ by-call (λ fs. freshCall fs w) w
 
     pub fresh-done : (w u : List ℕ) → u ≡ pack (fresh (programOf (framesOf (take n ws))))
-        → length w ≡ 4818 → textResult (A.Done 0) u ≡ freshText bs w
+        → length w ≡ 4818 → textResult (A.Done 0 0) u ≡ freshText bs w
     unfolding freshText
     fresh-done w u z k =
         ap (λ (x : Answer). textResult x u) done-0

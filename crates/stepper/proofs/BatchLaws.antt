@@ -24,7 +24,7 @@ use Rattle.stepper.specs.declared.answer.Answer.{Answer}
 use Rattle.stepper.specs.declared.answer.Answer.the-variants as A
 use Rattle.stepper.specs.declared.file.File.{File}
 use Rattle.stepper.specs.declared.party.StepAnswer.{StepAnswer}
-use Rattle.stepper.specs.Answers.{answerWord, batchResult, stepsCall, stepsText}
+use Rattle.stepper.specs.Answers.{stepCode, answerWord, batchResult, stepsCall, stepsText}
 use Rattle.stepper.specs.inner.Files.{StepWords, stateIn, fileOf, steppedOn}
 use Rattle.stepper.proofs.GoodWords.{fits-in, shaped}
 
@@ -58,7 +58,7 @@ stepping-start frames shared cs w out h =
     record { few = omega arith; long = refl; wide = refl; good = h; words = refl; answers = refl }
 
 module _ (frames : List ℕ) (shared : ℕ) (cs old w before out : List ℕ) (k : ℕ) (r : Stepping frames shared cs old w before out k) where
-  module _ (room : length before ≡ length cs) (h : k < length cs) (s : StepAnswer) (v : List ℕ) (a : ℕ) (z : steppedOn s v ≡ stepCall (framesOf frames) w (getD cs k 0)) (e : a ≡ s .answer * 65536 + s .thread) where
+  module _ (room : length before ≡ length cs) (h : k < length cs) (s : StepAnswer) (v : List ℕ) (a : ℕ) (z : steppedOn s v ≡ stepCall (framesOf frames) w (getD cs k 0)) (e : a ≡ stepCode (s .answer) (s .thread) (s .accesses)) where
     abbrev next : CallResult
     next = stepCall (framesOf frames) w (getD cs k 0)
 
@@ -152,10 +152,10 @@ module _ (frames w cs out : List ℕ) where
 
   pub steps-in : (shared : ℕ) (v u : List ℕ) → StepWords frames shared w → length out ≡ length cs
       → v ≡ wordsFrom (framesOf frames) w cs → u ≡ map answerWord (callsFrom (framesOf frames) w cs)
-      → batchResult (A.Done 0) v u ≡ stepsCall (framesOf frames) w cs out
+      → batchResult (A.Done 0 0) v u ≡ stepsCall (framesOf frames) w cs out
   unfolding stepsCall
   steps-in shared v u g l a b =
-      ap₂ (batchResult (A.Done 0)) a b
+      ap₂ (batchResult (A.Done 0 0)) a b
       ∙ sym (if-yes _ _ (ap₂ _&&_ (eq-eqb (length out) (length cs) l) (g .range)))
 
 -- ---- on a text

@@ -19,7 +19,7 @@ use Rattle.machine.specs.Statements.{stepStore, stepIf, stepWhile, starting, st
 use Rattle.machine.specs.Statements.{withStarted, stepStatement}
 use Rattle.machine.specs.Words.{itemWord, valueWord, wordValue}
 use Rattle.machine.specs.inner.Blocks.{cellWords}
-use Rattle.machine.specs.Calls.{asCall}
+use Rattle.stepper.specs.inner.Files.{asCommitted}
 use Rattle.machine.specs.declared.value.Value.{Value}
 use Rattle.machine.specs.declared.value.Value.the-variants.{Number, Truth, Cell}
 use Rattle.machine.specs.declared.value.Outcome.{Outcome}
@@ -32,7 +32,7 @@ use Rattle.machine.proofs.KeptShape.{Parts, of-nothing, of-cooperate, of-seq, o
 use Rattle.machine.proofs.KeptShape.{of-wait, of-let, of-store, of-if, of-while}
 use Rattle.operations.specs.declared.Who.{Who}
 use Rattle.operations.specs.inner.Results.{Result}
-use Rattle.evaluator.specs.inner.Results.{hereOf, resultOf, onWords}
+use Rattle.evaluator.specs.inner.Results.{hereOf, cellsFrom, resultOf, onWords}
 use Rattle.evaluator.proofs.Holding.{Holds, holds-cells}
 use Rattle.states.specs.inner.Threads.{threadWordsOf}
 use Rattle.acts.specs.inner.Transitions.{TurnResult}
@@ -75,14 +75,19 @@ module _ {fs : List Frame} {P : Program} {n : ℕ} {w : List ℕ} {s : State} {c
       held : Holds (usedCells cs) (cellWords cs) cs
       held = record { count = refl; words = refl; room = C .room; each = λ j g. C .each j g .value }
 
+      pub evaluation-same : (m : Here → Evaluation)
+          → m (hereOf who (variablesIn (threadWordsOf x))) (cellsFrom (usedCells cs) (cellWords cs))
+          ≡ m (evaluator (turnAt A x cs acc)) cs
+      evaluation-same m =
+          ap (m (hereOf who (variablesIn (threadWordsOf x))))
+          (holds-cells (usedCells cs) (cellWords cs) cs held)
+          ∙ ap (λ (h : Here). m h cs) here-same
+
       pub evaluation-is : (m : Here → Evaluation)
           → onWords (m (hereOf who (variablesIn (threadWordsOf x)))) (usedCells cs) (cellWords cs)
           ≡ resultOf (m (evaluator (turnAt A x cs acc)) cs)
       unfolding onWords
-      evaluation-is m =
-          ap (λ (ds : List Stored). resultOf (m (hereOf who (variablesIn (threadWordsOf x))) ds))
-          (holds-cells (usedCells cs) (cellWords cs) cs held)
-          ∙ ap (λ (h : Here). resultOf (m h cs)) here-same
+      evaluation-is m = ap resultOf (evaluation-same m)
 
       pub eval-fits : (e : Expr) → ExprFits n e
           → EvalFits n (eval (evaluator (turnAt A x cs acc)) e cs)
@@ -92,18 +97,18 @@ module _ {fs : List Frame} {P : Program} {n : ℕ} {w : List ℕ} {s : State} {c
   module _ (cs : List Stored) (acc : List Access) (l : usedCells cs ≤ 256) where
     then-is : (o : Outcome) (K : Value → TurnResult) (F : Value → Turn → StepResult)
         → UnlessValue o (Grown (s .cells) cs)
-        → ((v : Value) → o ≡ Is v → commit A (K v) cs ≡ asCall w (F v (turnAt A x cs acc)))
+        → ((v : Value) → o ≡ Is v → commit A (K v) cs ≡ asCommitted w (F v (turnAt A x cs acc)))
         → commit A (thenActs o (threadWordsOf x) (usedCells cs) K) cs
-        ≡ asCall w (goOn (turnAt A x cs acc) o F)
+        ≡ asCommitted w (goOn (turnAt A x cs acc) o F)
     then-is (Is v) K F g f = f v refl
     then-is Foreign K F g f = refuse-is A x cs acc 19 (threadWordsOf x) g l refl
     then-is Spent K F g f = refuse-is A x cs acc 17 (threadWordsOf x) g l refl
     then-is Stuck K F g f = refuse-is A x cs acc 20 (threadWordsOf x) g l refl
 
     by-truth : (v : Value) (a b : TurnResult) (y z : StepResult) → Grown (s .cells) cs
-        → commit A a cs ≡ asCall w y → commit A b cs ≡ asCall w z
+        → commit A a cs ≡ asCommitted w y → commit A b cs ≡ asCommitted w z
         → commit A (byTruthIn v (threadWordsOf x) (usedCells cs) a b) cs
-        ≡ asCall w (byCondition (turnAt A x cs acc) v y z)
+        ≡ asCommitted w (byCondition (turnAt A x cs acc) v y z)
     by-truth (Truth true) a b y z g f h = f
     by-truth (Truth false) a b y z g f h = h
     by-truth (Number m) a b y z g f h = refuse-is A x cs acc 20 (threadWordsOf x) g l refl
@@ -128,9 +133,9 @@ module _ {fs : List Frame} {P : Program} {n : ℕ} {w : List ℕ} {s : State} {c
           → On (resultOf r)
           ≡ turnOutcome (thenActs (r .outcome) (threadWordsOf x) (usedCells (r .cells)) K)
           (cellWords (r .cells))
-          → ((v : Value) → OutcomeFits (Is v) → commit A (K v) (r .cells) ≡ asCall w (F v (afterEval u r)))
+          → ((v : Value) → OutcomeFits (Is v) → commit A (K v) (r .cells) ≡ asCommitted w (F v (afterEval u r)))
           → commitOn A (On (evaluatedIn who (threadWordsOf x) e (usedCells cs) (cellWords cs)))
-          ≡ asCall w (withValue u (λ h. eval h e) F)
+          ≡ asCommitted w (withValue u (λ h. eval h e) F)
       value-is On K F z f =
           ap (λ (q : Result). commitOn A (On q)) (evaluation-is cs acc C (λ h. eval h e))
           ∙ ap (commitOn A) z
@@ -140,7 +145,7 @@ module _ {fs : List Frame} {P : Program} {n : ℕ} {w : List ℕ} {s : State} {c
     -- ---- each kind of statement with expressions
     let-is : (e : Expr) (a : Stmt) → ExprFits n e
         → commitOn A (letsOn (threadWordsOf x) (rootS a) (evaluatedIn who (threadWordsOf x) e (usedCells cs) (cellWords cs)))
-        ≡ asCall w (stepLet u e a)
+        ≡ asCommitted w (stepLet u e a)
     unfolding stepLet
     let-is e a E =
         value-is e E (letsOn (threadWordsOf x) (rootS a)) _
@@ -149,7 +154,7 @@ module _ {fs : List Frame} {P : Program} {n : ℕ} {w : List ℕ} {s : State} {c
 
     if-is : (e : Expr) (a b : Stmt) → ExprFits n e
         → commitOn A (choosesOn (threadWordsOf x) (rootS a) (rootS b) (evaluatedIn who (threadWordsOf x) e (usedCells cs) (cellWords cs)))
-        ≡ asCall w (stepIf u e a b)
+        ≡ asCommitted w (stepIf u e a b)
     unfolding stepIf itemWord
     if-is e a b E =
         value-is e E (choosesOn (threadWordsOf x) (rootS a) (rootS b)) _ (λ v y. byCondition y v (stay y (run a ∷ continuation y) (variables y)) (stay y (run b ∷ continuation y) (variables y))) refl
@@ -159,7 +164,7 @@ module _ {fs : List Frame} {P : Program} {n : ℕ} {w : List ℕ} {s : State} {c
 
     while-is : (i : ℕ) (e : Expr) (a : Stmt) → ExprFits n e
         → commitOn A (loopsOn (threadWordsOf x) (rootS a) i (evaluatedIn who (threadWordsOf x) e (usedCells cs) (cellWords cs)))
-        ≡ asCall w (stepWhile u e a (while i e a))
+        ≡ asCommitted w (stepWhile u e a (while i e a))
     unfolding stepWhile itemWord
     while-is i e a E =
         value-is e E (loopsOn (threadWordsOf x) (rootS a) i) _ (λ v y. byCondition y v (stay y (run a ∷ run (while i e a) ∷ continuation y) (variables y)) (stay y (continuation y) (variables y))) refl
@@ -169,7 +174,7 @@ module _ {fs : List Frame} {P : Program} {n : ℕ} {w : List ℕ} {s : State} {c
 
     store-is : (d e : Expr) → ExprFits n d → ExprFits n e
         → commitOn A (storesOn (threadWordsOf x) (storedIn who (threadWordsOf x) d e (usedCells cs) (cellWords cs)))
-        ≡ asCall w (stepStore u d e)
+        ≡ asCommitted w (stepStore u d e)
     unfolding stepStore
     store-is d e D E =
         ap (λ (q : Result). commitOn A (storesOn (threadWordsOf x) q))
@@ -192,7 +197,7 @@ module _ {fs : List Frame} {P : Program} {n : ℕ} {w : List ℕ} {s : State} {c
     start-is : (waits : Bool) (args : List Value) → length args ≤ 2
         → (cs : List Stored) (acc : List Access) (g : Grown (s .cells) cs) (l : usedCells cs ≤ 256)
         → commit A (argued A x (X .place) cs acc g l waits m args) cs
-        ≡ asCall w (starting (turnAt A x cs acc) m args (next waits args (turnAt A x cs acc)))
+        ≡ asCommitted w (starting (turnAt A x cs acc) m args (next waits args (turnAt A x cs acc)))
     start-is true args h cs acc g l =
         start-commits A x (X .place) cs acc g l m args true (startedWait (turnAt A x cs acc) m args)
         (λ ob e r less. waits-is A x (X .place) cs acc g l m args (rw (length-map args valueWord) h) ob e less)
@@ -202,9 +207,9 @@ module _ {fs : List Frame} {P : Program} {n : ℕ} {w : List ℕ} {s : State} {c
 
     module _ (waits : Bool) (cs : List Stored) (acc : List Access) (C : CellsFit n cs) (g : Grown (s .cells) cs) where
       then-on : (o : Outcome) (K : Value → TurnOutcome) (F : Value → Turn → StepResult)
-          → ((v : Value) → o ≡ Is v → commitOn A (K v) ≡ asCall w (F v (turnAt A x cs acc)))
+          → ((v : Value) → o ≡ Is v → commitOn A (K v) ≡ asCommitted w (F v (turnAt A x cs acc)))
           → commitOn A (thenOn o (threadWordsOf x) (usedCells cs) (cellWords cs) K)
-          ≡ asCall w (goOn (turnAt A x cs acc) o F)
+          ≡ asCommitted w (goOn (turnAt A x cs acc) o F)
       then-on (Is v) K F f = f v refl
       then-on Foreign K F f = refuse-is A x cs acc 19 (threadWordsOf x) g (C .room) refl
       then-on Spent K F f = refuse-is A x cs acc 17 (threadWordsOf x) g (C .room) refl
@@ -213,7 +218,7 @@ module _ {fs : List Frame} {P : Program} {n : ℕ} {w : List ℕ} {s : State} {c
       -- the second of two, after the first one's value
       last-is : (e : Expr) → ExprFits n e → (v : Value)
           → commitOn A (lastArgument (request waits m) (threadWordsOf x) (valueWord v) (evaluatedIn who (threadWordsOf x) e (usedCells cs) (cellWords cs)))
-          ≡ asCall w (withValue (turnAt A x cs acc) (λ h. eval h e) (λ d z. starting z m (v ∷ d ∷ []) (next waits (v ∷ d ∷ []) z)))
+          ≡ asCommitted w (withValue (turnAt A x cs acc) (λ h. eval h e) (λ d z. starting z m (v ∷ d ∷ []) (next waits (v ∷ d ∷ []) z)))
       last-is e E v =
           value-is cs acc C g e E (lastArgument (request waits m) (threadWordsOf x) (valueWord v)) _ (λ d z. starting z m (v ∷ d ∷ []) (next waits (v ∷ d ∷ []) z)) refl
           (λ d _. start-is waits (v ∷ d ∷ []) (omega arith) (r cs acc C g e E .cells) (acc ++ r cs acc C g e E .accesses) (grown cs acc C g e E) (fits cs acc C g e E .cells .room))
@@ -222,7 +227,7 @@ module _ {fs : List Frame} {P : Program} {n : ℕ} {w : List ℕ} {s : State} {c
         → length xs ≤ 2 → All (ExprFits n) xs
         → commitOn A
         (startTurn who (request waits m) (threadWordsOf x) (usedCells cs) (cellWords cs) xs)
-        ≡ asCall w
+        ≡ asCommitted w
         (withValues (turnAt A x cs acc) xs (λ args z. starting z m args (next waits args z)))
     unfolding withValues
     starts-is waits cs acc C g [] h none = start-is waits [] (omega arith) cs acc g (C .room)
@@ -242,7 +247,7 @@ module _ {fs : List Frame} {P : Program} {n : ℕ} {w : List ℕ} {s : State} {c
   pub statement-is : (cs : List Stored) (acc : List Access) → CellsFit n cs → Grown (s .cells) cs
       → (st : Stmt) → Parts fs n st → FewArguments st
       → commitOn A (statementIn who (threadWordsOf x) (usedCells cs) (cellWords cs) st)
-      ≡ asCall w (stepStatement (turnAt A x cs acc) st)
+      ≡ asCommitted w (stepStatement (turnAt A x cs acc) st)
   unfolding stepNothing stepSeq stepStart stepStartWait itemWord
   statement-is cs acc C g st of-nothing h = stay-none A x X cs acc
   statement-is cs acc C g st of-cooperate h = cooperates-is A x X cs acc g (C .room)

@@ -10,6 +10,7 @@ pub mod Variables
 pub mod Items
 pub mod Uses
 pub mod Threads
+pub mod Counted
 -- What words in range give to each call of the code.
 pub mod GoodWords
 pub mod ActLaws

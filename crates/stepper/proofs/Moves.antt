@@ -22,7 +22,7 @@ use Rattle.machine.specs.Turns.{stateSpaces, StepResult, Turn, here, continuati
 use Rattle.machine.specs.Turns.{accept, selfAt, settled, leave, room, fits, stay, move, goTo}
 use Rattle.machine.specs.Statements.{drops, stepDo, stepCooperate}
 use Rattle.machine.specs.Words.{itemWord, valueWord}
-use Rattle.machine.specs.Calls.{asCall}
+use Rattle.stepper.specs.inner.Files.{asCommitted}
 use Rattle.machine.specs.declared.value.Value.{Value}
 use Rattle.machine.specs.declared.value.Value.the-variants.{Number}
 use Rattle.machine.specs.Shapes.{ThreadFits}
@@ -90,34 +90,34 @@ module _ {fs : List Frame} {P : Program} {n : ℕ} {w : List ℕ} {s : State} {c
   -- ---- the thread stays: with the items and variables that it has, with one item more, with two,
   -- with a variable more or less
   pub stay-none : commit A (actedIn Stays (threadWordsOf x) (usedCells cs)) cs
-      ≡ asCall w (stay u items vars)
+      ≡ asCommitted w (stay u items vars)
   stay-none =
       stays-is A x cs acc x
-      ∙ ap (asCall w)
+      ∙ ap (asCommitted w)
       (sym (stay-yes u items vars (fits-yes items vars (X .items-room) (X .variables-room))))
 
   module _ (g : Grown (s .cells) cs) (l : usedCells cs ≤ 256) where
     refused-20 : (th : ThreadWords)
-        → commit A (refusedIn 20 th (usedCells cs)) cs ≡ asCall w (refuse u 20)
+        → commit A (refusedIn 20 th (usedCells cs)) cs ≡ asCommitted w (refuse u 20)
     refused-20 th = refuse-is A x cs acc 20 th g l refl
 
     no-stay : (th : ThreadWords) (is : List Item) (vs : List Value) → fits stateSpaces is vs ≡ false
-        → commit A (refusedIn 20 th (usedCells cs)) cs ≡ asCall w (stay u is vs)
-    no-stay th is vs e = refused-20 th ∙ ap (asCall w) (sym (stay-no u is vs e))
+        → commit A (refusedIn 20 th (usedCells cs)) cs ≡ asCommitted w (stay u is vs)
+    no-stay th is vs e = refused-20 th ∙ ap (asCommitted w) (sym (stay-no u is vs e))
 
     yes-stay : (th : ThreadWords) (is : List Item) (vs : List Value) → fits stateSpaces is vs ≡ true
         → th ≡ threadWordsOf (self (x .place) is vs)
-        → commit A (actedIn Stays th (usedCells cs)) cs ≡ asCall w (stay u is vs)
+        → commit A (actedIn Stays th (usedCells cs)) cs ≡ asCommitted w (stay u is vs)
     yes-stay th is vs e q =
         ap (λ (y : ThreadWords). commit A (actedIn Stays y (usedCells cs)) cs) q
-        ∙ stays-is A x cs acc (self (x .place) is vs) ∙ ap (asCall w) (sym (stay-yes u is vs e))
+        ∙ stays-is A x cs acc (self (x .place) is vs) ∙ ap (asCommitted w) (sym (stay-yes u is vs e))
 
     pub stay-one : (i : Item)
         → commit A (oneIn (threadWordsOf x) (usedCells cs) (itemWord i)) cs
-        ≡ asCall w (stay u (i ∷ items) vars)
+        ≡ asCommitted w (stay u (i ∷ items) vars)
     unfolding oneIn
     stay-one i =
-        if-all (λ (a : TurnResult). commit A a cs ≡ asCall w (stay u (i ∷ items) vars))
+        if-all (λ (a : TurnResult). commit A a cs ≡ asCommitted w (stay u (i ∷ items) vars))
         (leb 25 (length items)) _ _
         (λ e. let h = leb-true 25 (length items) e in no-stay (threadWordsOf x) (i ∷ items) vars (fits-items (i ∷ items) vars (omega arith)))
         (λ e. let h = leb-false 25 (length items) e in
@@ -125,10 +125,10 @@ module _ {fs : List Frame} {P : Program} {n : ℕ} {w : List ℕ} {s : State} {c
 
     pub stay-two : (i j : Item)
         → commit A (twoIn (threadWordsOf x) (usedCells cs) (itemWord i) (itemWord j)) cs
-        ≡ asCall w (stay u (i ∷ j ∷ items) vars)
+        ≡ asCommitted w (stay u (i ∷ j ∷ items) vars)
     unfolding twoIn
     stay-two i j =
-        if-all (λ (a : TurnResult). commit A a cs ≡ asCall w (stay u (i ∷ j ∷ items) vars))
+        if-all (λ (a : TurnResult). commit A a cs ≡ asCommitted w (stay u (i ∷ j ∷ items) vars))
         (leb 24 (length items)) _ _
         (λ e. let h = leb-true 24 (length items) e in no-stay (threadWordsOf x) (i ∷ j ∷ items) vars (fits-items (i ∷ j ∷ items) vars (omega arith)))
         (λ e. let h = leb-false 24 (length items) e in
@@ -139,14 +139,14 @@ module _ {fs : List Frame} {P : Program} {n : ℕ} {w : List ℕ} {s : State} {c
     -- 16
     pub stay-let : (v : Value) (a : Stmt)
         → commit A (letsIn (threadWordsOf x) (usedCells cs) (valueWord v) (rootS a)) cs
-        ≡ asCall w (stay u (run a ∷ drop ∷ items) (vars ++ (v ∷ [])))
+        ≡ asCommitted w (stay u (run a ∷ drop ∷ items) (vars ++ (v ∷ [])))
     unfolding letsIn itemWord
     stay-let v a =
-        if-all (λ (y : TurnResult). commit A y cs ≡ asCall w (stay u (run a ∷ drop ∷ items) (vars ++ (v ∷ [])))) (leb 25 (length vars)) _ _
+        if-all (λ (y : TurnResult). commit A y cs ≡ asCommitted w (stay u (run a ∷ drop ∷ items) (vars ++ (v ∷ [])))) (leb 25 (length vars)) _ _
         (λ e. let h = leb-true 25 (length vars) e in let z = length-append vars (v ∷ []) in
         no-stay (threadWordsOf x) (run a ∷ drop ∷ items) (vars ++ (v ∷ [])) (fits-vars (run a ∷ drop ∷ items) (vars ++ (v ∷ [])) (omega arith)))
         (λ e. let h = leb-false 25 (length vars) e in let z = length-append vars (v ∷ []) in
-        if-all (λ (y : TurnResult). commit A y cs ≡ asCall w (stay u (run a ∷ drop ∷ items) (vars ++ (v ∷ [])))) (leb 24 (length items)) _ _
+        if-all (λ (y : TurnResult). commit A y cs ≡ asCommitted w (stay u (run a ∷ drop ∷ items) (vars ++ (v ∷ [])))) (leb 24 (length items)) _ _
         (λ f. let g = leb-true 24 (length items) f in
         no-stay (threadWordsOf x) (run a ∷ drop ∷ items) (vars ++ (v ∷ [])) (fits-items (run a ∷ drop ∷ items) (vars ++ (v ∷ [])) (omega arith)))
         (λ f. let g = leb-false 24 (length items) f in
@@ -159,7 +159,7 @@ module _ {fs : List Frame} {P : Program} {n : ℕ} {w : List ℕ} {s : State} {c
         ∙ push-item-is (self (x .place) (drop ∷ items) (vars ++ (v ∷ []))) (run a) (omega arith))))
 
     -- a drop
-    pub drops-is : commit A (dropsIn (threadWordsOf x) (usedCells cs)) cs ≡ asCall w (drops u)
+    pub drops-is : commit A (dropsIn (threadWordsOf x) (usedCells cs)) cs ≡ asCommitted w (drops u)
     unfolding drops dropsIn
     drops-is = go (eqb (length vars) 0) refl
       where
@@ -181,16 +181,16 @@ module _ {fs : List Frame} {P : Program} {n : ℕ} {w : List ℕ} {s : State} {c
 
         go : (b : Bool) → eqb (length vars) 0 ≡ b
             → commit A (if eqb (length vars) 0 then refusedIn 20 (threadWordsOf x) (usedCells cs) else actedIn Stays (popValue (threadWordsOf x)) (usedCells cs)) cs
-            ≡ asCall w (if eqb (length vars) 0 then refuse u 20 else stay u items (take (length vars - 1) vars))
+            ≡ asCommitted w (if eqb (length vars) 0 then refuse u 20 else stay u items (take (length vars - 1) vars))
         go true e =
             ap (λ (a : TurnResult). commit A a cs) (if-yes _ _ e) ∙ refused-20 (threadWordsOf x)
-            ∙ ap (asCall w) (sym (if-yes _ _ e))
+            ∙ ap (asCommitted w) (sym (if-yes _ _ e))
         go false e =
             let h = eqb-false (length vars) 0 e in let r = X .variables-room in let z = fewer in
             ap (λ (a : TurnResult). commit A a cs) (if-no _ _ e)
             ∙ yes-stay (popValue (threadWordsOf x)) items rest
             (fits-yes items rest (X .items-room) (omega arith)) (popped (omega arith))
-            ∙ ap (asCall w) (sym (if-no _ _ e))
+            ∙ ap (asCommitted w) (sym (if-no _ _ e))
 
     -- ---- moves
     move-fits : (q : ℕ) (is : List Item) → fits stateSpaces is vars ≡ true
@@ -212,7 +212,7 @@ module _ {fs : List Frame} {P : Program} {n : ℕ} {w : List ℕ} {s : State} {c
 
     pub goes-is : (q : ℕ) (is : List Item) → hasPlace n q ≡ true → length is ≤ 25
         → commit A (goesIn (x .place) (threadWordsOf (self (x .place) is vars)) (usedCells cs) q) cs
-        ≡ asCall w (goTo u q is)
+        ≡ asCommitted w (goTo u q is)
     unfolding goesIn goTo moveTo
     goes-is q is p h = go (eqb q (x .place)) (eqb q private) refl refl
       where
@@ -224,23 +224,23 @@ module _ {fs : List Frame} {P : Program} {n : ℕ} {w : List ℕ} {s : State} {c
 
         go : (b d : Bool) → eqb q (x .place) ≡ b → eqb q private ≡ d
             → commit A (if eqb q (x .place) then actedIn Stays th (usedCells cs) else if eqb q 1 then actedIn Leaves (moveTo q th) (usedCells cs) else actedIn (Joins (record { number = q })) (moveTo q th) (usedCells cs)) cs
-            ≡ asCall w (if eqb q (x .place) then stay u is vars else move u q is)
+            ≡ asCommitted w (if eqb q (x .place) then stay u is vars else move u q is)
         go true d e z =
             ap (λ (a : TurnResult). commit A a cs) (if-yes _ _ e) ∙ yes-stay th is vars f refl
-            ∙ ap (asCall w) (sym (if-yes _ _ e))
+            ∙ ap (asCommitted w) (sym (if-yes _ _ e))
         go false true e z =
             ap (λ (a : TurnResult). commit A a cs) (if-no _ _ e ∙ if-yes _ _ z)
             ∙ leaves-is A x cs acc (self q is vars)
-            ∙ ap (asCall w) (sym (if-no _ _ e ∙ move-fits q is f ∙ if-yes _ _ z))
+            ∙ ap (asCommitted w) (sym (if-no _ _ e ∙ move-fits q is f ∙ if-yes _ _ z))
         go false false e z =
             ap (λ (a : TurnResult). commit A a cs) (if-no _ _ e ∙ if-no _ _ z)
             ∙ joins-is A x cs acc (self q is vars) q (place-scheduler n q p z) g l
-            ∙ ap (asCall w) (sym (if-no _ _ e ∙ move-fits q is f ∙ if-no _ _ z))
+            ∙ ap (asCommitted w) (sym (if-no _ _ e ∙ move-fits q is f ∙ if-no _ _ z))
 
     -- 12
     pub does-is : (q : ℕ) (a : Stmt) → hasPlace n q ≡ true
         → commit A (doesIn (threadWordsOf x) (usedCells cs) q (rootS a)) cs
-        ≡ asCall w (stepDo u q a)
+        ≡ asCommitted w (stepDo u q a)
     unfolding doesIn stepDo itemWord
     does-is q a p = go (eqb (x .place) 1 && eqb q 1) (leb 24 (length items)) refl refl
       where
@@ -252,23 +252,23 @@ module _ {fs : List Frame} {P : Program} {n : ℕ} {w : List ℕ} {s : State} {c
 
         go : (b d : Bool) → (eqb (x .place) 1 && eqb q 1) ≡ b → leb 24 (length items) ≡ d
             → commit A (if eqb (x .place) 1 && eqb q 1 then refusedIn 20 (threadWordsOf x) (usedCells cs) else if leb 24 (length items) then refusedIn 20 (threadWordsOf x) (usedCells cs) else goesIn (x .place) th (usedCells cs) q) cs
-            ≡ asCall w (if eqb (x .place) 1 && eqb q 1 then refuse u 20 else goTo u q is)
+            ≡ asCommitted w (if eqb (x .place) 1 && eqb q 1 then refuse u 20 else goTo u q is)
         go true d e z =
             ap (λ (y : TurnResult). commit A y cs) (if-yes _ _ e) ∙ refused-20 (threadWordsOf x)
-            ∙ ap (asCall w) (sym (if-yes _ _ e))
+            ∙ ap (asCommitted w) (sym (if-yes _ _ e))
         go false true e z =
             let h = leb-true 24 (length items) z in
-            ap (λ (y : TurnResult). commit A y cs) (if-no _ _ e ∙ if-yes _ _ z) ∙ refused-20 (threadWordsOf x) ∙ ap (asCall w) (sym (if-no _ _ e ∙ go-full q is (fits-items is vars (omega arith))))
+            ap (λ (y : TurnResult). commit A y cs) (if-no _ _ e ∙ if-yes _ _ z) ∙ refused-20 (threadWordsOf x) ∙ ap (asCommitted w) (sym (if-no _ _ e ∙ go-full q is (fits-items is vars (omega arith))))
         go false false e z =
             let h = leb-false 24 (length items) z in
             ap (λ (y : TurnResult). commit A y cs) (if-no _ _ e ∙ if-no _ _ z)
             ∙ ap (λ (y : ThreadWords). commit A (goesIn (x .place) y (usedCells cs) q) cs)
             (ap (pushItem (rootS a)) (push-item-is x (back (x .place)) (omega arith)) ∙ push-item-is (self (x .place) (back (x .place) ∷ items) vars) (run a) (omega arith))
-            ∙ goes-is q is p (omega arith) ∙ ap (asCall w) (sym (if-no _ _ e))
+            ∙ goes-is q is p (omega arith) ∙ ap (asCommitted w) (sym (if-no _ _ e))
 
     -- 15
     pub cooperates-is : commit A (cooperatesIn (threadWordsOf x) (usedCells cs)) cs
-        ≡ asCall w (stepCooperate u)
+        ≡ asCommitted w (stepCooperate u)
     unfolding cooperatesIn stepCooperate
     cooperates-is = go (eqb (x .place) private) refl
       where
@@ -277,10 +277,10 @@ module _ {fs : List Frame} {P : Program} {n : ℕ} {w : List ℕ} {s : State} {c
 
         go : (b : Bool) → eqb (x .place) private ≡ b
             → commit A (if eqb (x .place) 1 then refusedIn 20 (threadWordsOf x) (usedCells cs) else actedIn (Joins (record { number = x .place })) (threadWordsOf x) (usedCells cs)) cs
-            ≡ asCall w (if eqb (x .place) private then refuse u 20 else next)
+            ≡ asCommitted w (if eqb (x .place) private then refuse u 20 else next)
         go true e =
             ap (λ (y : TurnResult). commit A y cs) (if-yes _ _ e) ∙ refused-20 (threadWordsOf x)
-            ∙ ap (asCall w) (sym (if-yes _ _ e))
+            ∙ ap (asCommitted w) (sym (if-yes _ _ e))
         go false e =
             ap (λ (y : TurnResult). commit A y cs) (if-no _ _ e) ∙ joins-is A x cs acc x (x .place)
-            (place-scheduler n (x .place) (X .place) e) g l ∙ ap (asCall w) (sym (if-no _ _ e))
+            (place-scheduler n (x .place) (X .place) e) g l ∙ ap (asCommitted w) (sym (if-no _ _ e))

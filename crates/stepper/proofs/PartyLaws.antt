@@ -18,7 +18,8 @@ use Rattle.text.specs.Frames.{framesOf}
 use Rattle.program.specs.Programs.{Program, programOf}
 use Rattle.machine.specs.State.{State, schedulerAt, withScheduler}
 use Rattle.machine.specs.Waits.{readyThreads, stillWaiting}
-use Rattle.machine.specs.Turns.{isSchedulerOf}
+use Rattle.basics.specs.If.{if_then_else_}
+use Rattle.machine.specs.Turns.{accessCount, isSchedulerOf}
 use Rattle.machine.specs.inner.Parts.{stepThread, stepScheduler}
 use Rattle.machine.specs.Steps.{turnInstant, endInstant, isUnlinked, step, stepWithin}
 use Rattle.machine.specs.Words.{pack, wordsAt}
@@ -33,6 +34,8 @@ use Rattle.lists.proofs.Instants.{instant-readies, instant-says, instant-none}
 use Rattle.states.specs.inner.Parties.{isUnlinkedWord}
 use Rattle.states.proofs.PartyLaws.{unlinked-low, unlinked-says}
 use Rattle.stepper.specs.declared.file.File.{File}
+use Rattle.stepper.specs.declared.party.StepAnswer.{StepAnswer}
+use Rattle.stepper.specs.inner.Files.{nobodyAnswers, steppedOn}
 use Rattle.stepper.specs.inner.Files.{StepWords, stateIn, TurnChoice, fileOf, actingIn}
 use Rattle.stepper.proofs.Transitions.{scheduler-there}
 use Rattle.stepper.proofs.GoodWords.{fits-in, shaped, says, step-long, threads-few}
@@ -103,11 +106,11 @@ module _ (frames : List ℕ) (shared : ℕ) (w : List ℕ) (h : StepWords frames
       pub turn-asks : (1 ≤ t) × (t ≤ 64)
       turn-asks = is-thread
 
-      pub turn-done : (v : List ℕ) (r : ℕ) → callResult r t v ≡ asCall w (stepThread P s c t)
-          → callResult r t v ≡ asCall w (stepScheduler P s c (schedulerAt s c .active))
-      turn-done v r k = by (schedulerAt s c .active) (first t q)
+      pub turn-done : (r : CallResult) → r ≡ asCall w (stepThread P s c t)
+          → r ≡ asCall w (stepScheduler P s c (schedulerAt s c .active))
+      turn-done r k = by (schedulerAt s c .active) (first t q)
         where
-          by : (ts : List ℕ) → t ≡ getD ts 0 0 → callResult r t v ≡ asCall w (stepScheduler P s c ts)
+          by : (ts : List ℕ) → t ≡ getD ts 0 0 → r ≡ asCall w (stepScheduler P s c ts)
           by [] z = absurd (some z)
           by (a ∷ ts) z = k ∙ ap (λ (i : ℕ). asCall w (stepThread P s c i)) z
 
@@ -130,15 +133,15 @@ module _ (frames : List ℕ) (shared : ℕ) (w : List ℕ) (h : StepWords frames
             ∙ instant-readies w s (says frames shared w h) few c in-lists (there .0)
             (fit .next-room) (fit .entries)
 
-        ended : callResult 0 0 v
-            ≡ callResult 0 0 (pack (withScheduler c (record { active = readyThreads (s .threads) (schedulerAt s c .next); next = stillWaiting (s .threads) (schedulerAt s c .next) }) s))
-        ended = ap (callResult 0 0) (out ∙ is-pack _ _ (instant-says w s (says frames shared w h) few c in-lists (there .0) (fit .next-room) (fit .entries) idle))
+        ended : callResult 0 0 0 v
+            ≡ callResult 0 0 0 (pack (withScheduler c (record { active = readyThreads (s .threads) (schedulerAt s c .next); next = stillWaiting (s .threads) (schedulerAt s c .next) }) s))
+        ended = ap (callResult 0 0 0) (out ∙ is-pack _ _ (instant-says w s (says frames shared w h) few c in-lists (there .0) (fit .next-room) (fit .entries) idle))
 
         pub instant-nothing : k ≡ 0
-            → callResult 16 0 v ≡ asCall w (stepScheduler P s c (schedulerAt s c .active))
-        unfolding endInstant
+            → callResult 16 0 0 v ≡ asCall w (stepScheduler P s c (schedulerAt s c .active))
+        unfolding endInstant accessCount if_then_else_
         instant-nothing z =
-            ap (callResult 16 0) (out ∙ instant-none w s (says frames shared w h) few c in-lists (there .0) (fit .next-room) (fit .entries) idle none-ready)
+            ap (callResult 16 0 0) (out ∙ instant-none w s (says frames shared w h) few c in-lists (there .0) (fit .next-room) (fit .entries) idle none-ready)
             ∙ ap (λ (ts : List ℕ). asCall w (turnInstant s c ts (stillWaiting (s .threads) (schedulerAt s c .next)))) (sym none-ready)
             ∙ ap (λ (ts : List ℕ). asCall w (stepScheduler P s c ts)) (sym idle)
           where
@@ -150,14 +153,14 @@ module _ (frames : List ℕ) (shared : ℕ) (w : List ℕ) (h : StepWords frames
                 by (a ∷ ts) y = absurd (omega arith)
 
         pub instant-done : (k ≡ 0 → ⊥)
-            → callResult 0 0 v ≡ asCall w (stepScheduler P s c (schedulerAt s c .active))
-        unfolding endInstant
+            → callResult 0 0 0 v ≡ asCall w (stepScheduler P s c (schedulerAt s c .active))
+        unfolding endInstant accessCount if_then_else_
         instant-done z =
             ended ∙ by (readyThreads (s .threads) (schedulerAt s c .next)) readies
             ∙ ap (λ (ts : List ℕ). asCall w (stepScheduler P s c ts)) (sym idle)
           where
             by : (ts : List ℕ) → k ≡ length ts
-                → callResult 0 0 (pack (withScheduler c (record { active = ts; next = stillWaiting (s .threads) (schedulerAt s c .next) }) s))
+                → callResult 0 0 0 (pack (withScheduler c (record { active = ts; next = stillWaiting (s .threads) (schedulerAt s c .next) }) s))
                 ≡ asCall w (turnInstant s c ts (stillWaiting (s .threads) (schedulerAt s c .next)))
             by [] y = absurd (z y)
             by (a ∷ ts) y = refl
@@ -208,8 +211,8 @@ module _ (frames : List ℕ) (shared : ℕ) (w : List ℕ) (h : StepWords frames
               k ∙ ap (asCall w) (sym (if-no _ _ not-scheduler ∙ if-yes _ _ (sym unlinked ∙ yes)))
               ∙ sym whole
 
-        pub no-party : d ≡ false → callResult 15 0 w ≡ stepCall (framesOf frames) w c
-        unfolding stepWithin
+        pub no-party : d ≡ false → callResult 15 0 0 w ≡ stepCall (framesOf frames) w c
+        unfolding stepWithin accessCount if_then_else_
         no-party e =
             ap (asCall w) (sym (if-no _ _ not-scheduler ∙ if-no _ _ (sym unlinked ∙ e)))
             ∙ sym whole
@@ -245,17 +248,17 @@ module _ (frames : List ℕ) (shared : ℕ) (w : List ℕ) (h : StepWords frames
       pub acting-byte : t < 256
       acting-byte = let k = acting-asks .1 in omega arith
 
-      pub acting-steps : (v : List ℕ) (r : ℕ) → callResult r t v ≡ asCall w (stepThread P s c t)
-          → callResult r t v ≡ stepCall (framesOf frames) w c
-      acting-steps v r k =
+      pub acting-steps : (r : CallResult) → r ≡ asCall w (stepThread P s c t)
+          → r ≡ stepCall (framesOf frames) w c
+      acting-steps r k =
           acting-cases
-          (λ e z. scheduler-steps has file f refl e _ (turn-done (is-scheduler has file f refl e) t z some v r k))
+          (λ e z. scheduler-steps has file f refl e _ (turn-done (is-scheduler has file f refl e) t z some r k))
           (λ e u z. thread-steps has file f refl e loose refl u _ (k ∙ ap (λ (i : ℕ). asCall w (stepThread P s c i)) z))
           (λ e u z. absurd (some z))
 
     -- where none acts
     module _ (none : t ≡ 0) (b : Bool) (q : b ≡ hasScheduler (file .schedulers) c) where
-      pub nobody-steps : not b ≡ true → callResult 15 0 w ≡ stepCall (framesOf frames) w c
+      pub nobody-steps : not b ≡ true → callResult 15 0 0 w ≡ stepCall (framesOf frames) w c
       nobody-steps m =
           acting-cases
           (λ e z. absurd (true≢false (sym e ∙ sym q ∙ not-true b m)))
@@ -283,12 +286,12 @@ module _ (frames : List ℕ) (shared : ℕ) (w : List ℕ) (h : StepWords frames
           idle-asks = instant-asks is p at
 
           module _ (v : List ℕ) (k : ℕ) (count : k ≡ length (readyWords w (wordsAt w (67 + 130 * (p .number - 2))))) (out : v ≡ withInstantEnded w (p .number - 2)) where
-            pub idle-nothing : k ≡ 0 → callResult 16 0 v ≡ stepCall (framesOf frames) w c
+            pub idle-nothing : k ≡ 0 → callResult 16 0 0 v ≡ stepCall (framesOf frames) w c
             idle-nothing z =
                 scheduler-steps has file f refl has-is _
                 (instant-nothing is t first-none none v k (count-at is p at k count) (ended-at is p at v out) z)
 
-            pub idle-done : (k ≡ 0 → ⊥) → callResult 0 0 v ≡ stepCall (framesOf frames) w c
+            pub idle-done : (k ≡ 0 → ⊥) → callResult 0 0 0 v ≡ stepCall (framesOf frames) w c
             idle-done z =
                 scheduler-steps has file f refl has-is _
                 (instant-done is t first-none none v k (count-at is p at k count) (ended-at is p at v out) z)
@@ -324,3 +327,8 @@ named-low w c d u e = by (leb c 16) refl
     by : (b : Bool) → leb c 16 ≡ b → 16 ≤ c
     by true k = absurd (true≢false (sym e ∙ u ∙ sym (unlinked-low w c (leb-true c 16 k))))
     by false k = let l = leb-false c 16 k in omega arith
+
+-- an answer in which no thread acts
+pub answered : (r : StepAnswer) (n : ℕ) (v : List ℕ) (k : CallResult) → r ≡ nobodyAnswers n
+    → callResult n 0 0 v ≡ k → steppedOn r v ≡ k
+answered r n v k e h = ap (λ (x : StepAnswer). steppedOn x v) e ∙ h

@@ -22,7 +22,8 @@ use Rattle.machine.specs.Turns.{StepResult, Turn, unlinkedHere, refuse, accept,
 use Rattle.machine.specs.Statements.{started, withStarted, starting, startedWait}
 use Rattle.machine.specs.Words.{itemWord, valueWord, entryWord}
 use Rattle.machine.specs.inner.Blocks.{padded}
-use Rattle.machine.specs.Calls.{asCall, callResult}
+use Rattle.stepper.specs.inner.Files.{asCommitted}
+use Rattle.commits.specs.inner.Commits.{committed}
 use Rattle.machine.specs.declared.value.Value.{Value}
 use Rattle.machine.proofs.WordLaws.{Says, is-pack}
 use Rattle.machine.proofs.Padded.{padded-length, padded-at}
@@ -166,7 +167,7 @@ module _ {fs : List Frame} {P : Program} {n : ℕ} {w : List ℕ} {s : State} {c
 
     module _ (waits : Bool) where
       refused : (i : ℕ) → obstacle ≡ i → eqb i 0 ≡ false
-          → commit A (argued waits m vs) cs ≡ asCall w (refuse u i)
+          → commit A (argued waits m vs) cs ≡ asCommitted w (refuse u i)
       unfolding startsIn
       refused i h e =
           if-yes _ _ (ap (λ (j : ℕ). not (eqb j 0)) h ∙ ap not e)
@@ -175,8 +176,8 @@ module _ {fs : List Frame} {P : Program} {n : ℕ} {w : List ℕ} {s : State} {c
 
       pub start-commits : (r : StepResult)
           → (obstacle ≡ 0 → unlinkedHere u ≡ false → room u 1 (x .place) ≡ true → length (s .threads) < 64
-          → commit A (argued waits m vs) cs ≡ asCall w r)
-          → commit A (argued waits m vs) cs ≡ asCall w (starting u m vs r)
+          → commit A (argued waits m vs) cs ≡ asCommitted w r)
+          → commit A (argued waits m vs) cs ≡ asCommitted w (starting u m vs r)
       unfolding starting
       start-commits r f =
           if-all G (unlinkedHere u) _ _ (λ e. refused 20 (no-list e) refl)
@@ -187,7 +188,7 @@ module _ {fs : List Frame} {P : Program} {n : ℕ} {w : List ℕ} {s : State} {c
           (λ e5. f (none linked known agrees e4 e5) linked (not-false (room u 1 (x .place)) e4) (leb-false 64 (length (s .threads)) e5))))))
         where
           G : StepResult → Type 0
-          G y = commit A (argued waits m vs) cs ≡ asCall w y
+          G y = commit A (argued waits m vs) cs ≡ asCommitted w y
 
   module _ (m : ℕ) (vs : List Value) (few : length (map valueWord vs) ≤ 2) (ob : obstacleIn v (foundIn P m) (x .place) (length vs) ≡ 0) (linked : unlinkedHere u ≡ false)
       (less : length (s .threads) < 64) where
@@ -198,25 +199,25 @@ module _ {fs : List Frame} {P : Program} {n : ℕ} {w : List ℕ} {s : State} {c
     next-new = ap (λ (i : ℕ). i + 1) count ∙ add-one (length (s .threads))
 
     plain-commit : commit A (argued false m vs) cs
-        ≡ callResult 0 (suc k)
+        ≡ committed 0 (suc k)
         (startedIn v (suc k) (argued false m vs) (argumentWords vs) (rootS (moduleAt P m .body)))
     unfolding startsIn foundIn
     plain-commit = if-no _ _ (ap (λ (j : ℕ). not (eqb j 0)) ob) ∙ if-yes _ _ refl
 
     waiting-commit : commit A (argued true m vs) cs
         ≡ (if not (roomIn v (x .place) 2) then refusesIn v (usedCells (s .cells)) (suc k) 20 else
-        callResult 0 (suc k)
+        committed 0 (suc k)
         (waitingIn v c (suc k) (argued true m vs) (argumentWords vs) (rootS (moduleAt P m .body))))
     unfolding startsIn foundIn
     waiting-commit = if-no _ _ (ap (λ (j : ℕ). not (eqb j 0)) ob) ∙ if-no _ _ refl
 
     -- ---- 13
     pub started-is : room u 1 (x .place) ≡ true
-        → commit A (argued false m vs) cs ≡ asCall w (accept u (withStarted u m vs (settled u x)))
+        → commit A (argued false m vs) cs ≡ asCommitted w (accept u (withStarted u m vs (settled u x)))
     unfolding entryWord
     started-is r =
         plain-commit
-        ∙ ap (callResult 0 (suc k))
+        ∙ ap (committed 0 (suc k))
         (ap₂ (λ (th : ThreadWords) (e : ℕ).
         joinedIn (withOneMore (settledIn v (suc k - 1) (threadWordsOf x)) th) (x .place) e)
         (new-is false m vs few) next-new
@@ -238,18 +239,18 @@ module _ {fs : List Frame} {P : Program} {n : ℕ} {w : List ℕ} {s : State} {c
             (let h = has-room fs P n (A .file) u 1 (x .place) refl r in omega arith)
 
     -- ---- 14
-    pub waits-is : commit A (argued true m vs) cs ≡ asCall w (startedWait u m vs)
+    pub waits-is : commit A (argued true m vs) cs ≡ asCommitted w (startedWait u m vs)
     unfolding startedWait entryWord
     waits-is =
         waiting-commit
         ∙ if-all (λ (y : StepResult).
         (if not (roomIn v (x .place) 2) then refusesIn v (usedCells (s .cells)) (suc k) 20 else
-        callResult 0 (suc k)
+        committed 0 (suc k)
         (waitingIn v c (suc k) (argued true m vs) (argumentWords vs) (rootS (moduleAt P m .body))))
-        ≡ asCall w y)
+        ≡ asCommitted w y)
         (room u 2 (x .place)) (accept u (enlist (x .place) (waiting (suc k) t) first)) (refuse u 20)
         (λ e. if-no _ _ (ap not (room-same 2 linked ∙ e))
-        ∙ ap (callResult 0 (suc k)) (ap₂ (λ (th : ThreadWords) (i : ℕ). joinedIn (joinedIn (withOneMore left th) (x .place) i) (x .place) (128 * i + suc k)) (new-is true m vs few) next-new ∙ is-pack _ _ (says e)))
+        ∙ ap (committed 0 (suc k)) (ap₂ (λ (th : ThreadWords) (i : ℕ). joinedIn (joinedIn (withOneMore left th) (x .place) i) (x .place) (128 * i + suc k)) (new-is true m vs few) next-new ∙ is-pack _ _ (says e)))
         (λ e. if-yes _ _ (ap not (room-same 2 linked ∙ e)) ∙ refuse-is A x cs acc 20 (threadWordsOf x) g l refl)
       where
         left : List ℕ

@@ -18,7 +18,7 @@ use Rattle.machine.specs.inner.Parts.{stepItems, stepThread}
 use Rattle.machine.specs.Steps.{stepThreadWithin}
 use Rattle.machine.specs.Words.{itemWord}
 use Rattle.machine.specs.inner.Blocks.{cellWords}
-use Rattle.machine.specs.Calls.{asCall}
+use Rattle.stepper.specs.inner.Files.{asCommitted}
 use Rattle.machine.specs.Shapes.{ItemFits, run-fits, back-fits, drop-fits, ThreadFits}
 use Rattle.machine.proofs.KeptCells.{CellsFit}
 use Rattle.machine.proofs.KeptShape.{parts-of}
@@ -99,7 +99,7 @@ module _ {fs : List Frame} {P : Program} {n : ℕ} {w : List ℕ} {s : State} {c
   -- ---- committed, it is the step
   item-is : (i : Item) (is : List Item) → ItemFits fs n i → All (ItemFits fs n) is → length is < 25
       → commitOn A (itemIn fs who (threadWordsOf (rest is)) used ws (itemWord i))
-      ≡ asCall w (stepItems P s c (suc k) (i ∷ is))
+      ≡ asCommitted w (stepItems P s c (suc k) (i ∷ is))
   unfolding itemWord goesBack
   item-is (run st) is (run-fits l q e) f h =
       ap (commitOn A) (in-run st is l e)
@@ -117,7 +117,7 @@ module _ {fs : List Frame} {P : Program} {n : ℕ} {w : List ℕ} {s : State} {c
   -- by the continuation: a thread without an item ends
   turn-from : (is : List Item) → All (ItemFits fs n) is → length is ≤ 25
       → commitOn A (turnIn fs who (threadWordsOf (rest is)) used ws)
-      ≡ asCall w (stepItems P s c (suc k) is)
+      ≡ asCommitted w (stepItems P s c (suc k) is)
   unfolding turnIn ends ended
   turn-from [] f h =
       ap (commitOn A) (if-yes _ _ refl)
@@ -126,7 +126,7 @@ module _ {fs : List Frame} {P : Program} {n : ℕ} {w : List ℕ} {s : State} {c
       ap (commitOn A) (in-items i is (omega arith)) ∙ item-is i is p f (omega arith)
 
   pub turn-is : commitOn A (turnIn fs who (threadWordsOf x) used ws)
-      ≡ asCall w (stepThread P s c (suc k))
+      ≡ asCommitted w (stepThread P s c (suc k))
   unfolding stepThreadWithin
   turn-is = turn-from (x .continuation) (X .items) (X .items-room)
 

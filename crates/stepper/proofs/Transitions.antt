@@ -20,7 +20,8 @@ use Rattle.machine.specs.Turns.{stateSpaces, StepResult, Turn, refuse, accept, 
 use Rattle.machine.specs.Turns.{leave, room}
 use Rattle.machine.specs.Words.{pack, entryWord}
 use Rattle.machine.specs.inner.Blocks.{pasted, cellWords}
-use Rattle.machine.specs.Calls.{CallResult, asCall, callResult}
+use Rattle.stepper.specs.inner.Files.{asCommitted}
+use Rattle.commits.specs.inner.Commits.{Committed, committed}
 use Rattle.machine.proofs.WordLaws.{Says, is-pack}
 use Rattle.machine.specs.Shapes.{Shaped}
 use Rattle.machine.proofs.KeptShape.{FileFits, scheduler-fits, leave-next}
@@ -81,12 +82,12 @@ module _ {fs : List Frame} {P : Program} {n : ℕ} {w : List ℕ} {s : State} {c
 
   -- what the turn has come to, committed on the words with its cells and their count; and where the
   -- cells are those
-  abbrev pub commitOn : TurnOutcome → CallResult
+  abbrev pub commitOn : TurnOutcome → Committed
   commitOn r =
       committedIn P (set (pasted w 4562 (r .cells) 256) 1 (r .acted .used)) (usedCells (s .cells)) c
       (suc k) (r .acted) (r .acted .transition)
 
-  abbrev pub commit : TurnResult → List Stored → CallResult
+  abbrev pub commit : TurnResult → List Stored → Committed
   commit a cs = commitOn (turnOutcome a (cellWords cs))
 
   -- ---- what holds of lists
@@ -111,10 +112,10 @@ module _ {fs : List Frame} {P : Program} {n : ℕ} {w : List ℕ} {s : State} {c
 
     -- ---- refused
     pub refuse-is : (m : ℕ) (th : ThreadWords) → Grown (s .cells) cs → usedCells cs ≤ 256
-        → eqb m 0 ≡ false → commit (refusedIn m th (usedCells cs)) cs ≡ asCall w (refuse u m)
+        → eqb m 0 ≡ false → commit (refusedIn m th (usedCells cs)) cs ≡ asCommitted w (refuse u m)
     refuse-is m th g l e =
-        ap (callResult m (suc k)) (cleared-is w s (A .says) cs g l)
-        ∙ ap (λ (b : Bool). callResult m (suc k) (elim b [ true ↦ pack s | false ↦ w ])) (sym e)
+        ap (committed m (suc k)) (cleared-is w s (A .says) cs g l)
+        ∙ ap (λ (b : Bool). committed m (suc k) (elim b [ true ↦ pack s | false ↦ w ])) (sym e)
 
     -- ---- the acting thread is y after the turn
     module _ (y : Thread) where
@@ -133,20 +134,20 @@ module _ {fs : List Frame} {P : Program} {n : ℕ} {w : List ℕ} {s : State} {c
       left-is = left-says _ after settled-is u (A .list) chosen-there (active-few c)
 
       pub stays-is : commit (actedIn Stays (threadWordsOf y) (usedCells cs)) cs
-          ≡ asCall w (accept u after)
-      stays-is = ap (callResult 0 (suc k)) (is-pack _ after settled-is)
+          ≡ asCommitted w (accept u after)
+      stays-is = ap (committed 0 (suc k)) (is-pack _ after settled-is)
 
       pub leaves-is : commit (actedIn Leaves (threadWordsOf y) (usedCells cs)) cs
-          ≡ asCall w (accept u (leave u after))
-      leaves-is = ap (callResult 0 (suc k)) (is-pack _ (leave u after) left-is)
+          ≡ asCommitted w (accept u (leave u after))
+      leaves-is = ap (committed 0 (suc k)) (is-pack _ (leave u after) left-is)
 
       pub joins-is : (q : ℕ) → hasScheduler n q ≡ true → Grown (s .cells) cs → usedCells cs ≤ 256
           → commit (actedIn (Joins (record { number = q })) (threadWordsOf y) (usedCells cs)) cs
-          ≡ asCall w (if room u 1 q then accept u (enlist q (plain (suc k)) (leave u after)) else refuse u 20)
+          ≡ asCommitted w (if room u 1 q then accept u (enlist q (plain (suc k)) (leave u after)) else refuse u 20)
       unfolding joinsIn room entryWord
       joins-is q e g l =
-          if-all (λ (r : StepResult). commit (actedIn (Joins (record { number = q })) (threadWordsOf y) (usedCells cs)) cs ≡ asCall w r) (leb (length (schedulerAt s q .next) + 1) 64) _ _
-          (λ b. if-yes _ _ (same ∙ b) ∙ ap (callResult 0 (suc k)) (is-pack _ _ (joined-says _ left left-is q (plain (suc k)) (z .1) (rw leave-count (z .0)) (short (leb-true _ 64 b)))))
+          if-all (λ (r : StepResult). commit (actedIn (Joins (record { number = q })) (threadWordsOf y) (usedCells cs)) cs ≡ asCommitted w r) (leb (length (schedulerAt s q .next) + 1) 64) _ _
+          (λ b. if-yes _ _ (same ∙ b) ∙ ap (committed 0 (suc k)) (is-pack _ _ (joined-says _ left left-is q (plain (suc k)) (z .1) (rw leave-count (z .0)) (short (leb-true _ 64 b)))))
           (λ b. if-no _ _ (same ∙ b) ∙ refuse-is 20 (threadWordsOf y) g l refl)
         where
           z : (q - 2 < length (s .schedulers)) × (isScheduler q ≡ true)

@@ -5,13 +5,17 @@ use mathlib.Core.Path.{_≡_, sym, ap, _∙_, subst}
 use mathlib.Core.List.{List, []}
 use mathlib.Core.Bool.{true}
 use native.Mathlib.Omega.{arith}
+use lib.Dec.{eqb}
+use Rattle.basics.specs.If.{if_then_else_}
+use Rattle.basics.proofs.Ifs.{if-yes, if-no}
+use borrow.Author.Tests.{eq-eqb, ne-eqb}
 use lib.ListN.{length, getD, set, length-set, List·getD-eq-default}
 use lib.Seq.{getD-set-other, set-out}
 use Rattle.language.specs.Places.{isPlace}
 use Rattle.text.specs.Frames.{framesOf}
 use Rattle.program.specs.Programs.{Program, programOf}
 use Rattle.machine.specs.State.{State, Thread, Item, noThread, nth, setNth, threadAt, usedCells}
-use Rattle.machine.specs.Turns.{Turn, isSchedulerOf, leave, settled}
+use Rattle.machine.specs.Turns.{StepResult, accessCount, Turn, isSchedulerOf, leave, settled}
 use Rattle.machine.specs.Statements.{ends}
 use Rattle.machine.specs.inner.Parts.{turn, stepItems, stepThread}
 use Rattle.machine.specs.Steps.{stepThreadWithin}
@@ -24,14 +28,19 @@ use Rattle.states.specs.declared.thread.ThreadWords.{ThreadWords}
 use Rattle.states.specs.inner.Threads.{threadWordsOf, threadIn}
 use Rattle.acts.specs.declared.act.Action.{Action}
 use Rattle.acts.specs.inner.Transitions.{TurnResult, popped, turned, HasRoom}
-use Rattle.turns.specs.inner.Acts.{TurnOutcome, turnIn}
+use Rattle.turns.specs.inner.Acts.{TurnOutcome, variablesIn, topIn, turnIn}
+use Rattle.turns.specs.inner.TurnCounts.{turnCount}
+use Rattle.operations.specs.inner.Heaps.{cellsIn, accessesIn}
 use Rattle.commits.specs.inner.Commits.{leftIn, turnResultIn, committedIn, CommitWords}
+use Rattle.commits.specs.inner.Commits.{Committed, committed}
 use Rattle.commits.proofs.ChangeLaws.{same-thread}
 use Rattle.stepper.specs.inner.Files.{StepWords, stateIn, TurnChoice, whoIn, turnOf, turnOn}
+use Rattle.stepper.specs.inner.Files.{turnLeft, turnAccesses, asCommitted}
 use Rattle.stepper.proofs.Commits.{left-says}
 use Rattle.stepper.proofs.Transitions.{scheduler-there, Acts}
 use Rattle.stepper.proofs.Items.{IsWho}
 use Rattle.stepper.proofs.Threads.{turn-is, turn-few}
+use Rattle.stepper.proofs.Counted.{turn-count}
 use Rattle.stepper.proofs.GoodWords.{fits-in, shaped, says, threads-few, index, in-list, fit}
 use Rattle.stepper.proofs.GoodWords.{place-in, thread-read}
 
@@ -77,7 +86,7 @@ module _ (frames : List ℕ) (shared : ℕ) (w : List ℕ) (h : StepWords frames
         ∙ thread-read frames shared w h t low high
 
     -- what the commit asks
-    pub commit-asks : (a : Action) (v : List ℕ) → turnOn a v frames shared w t → length v ≡ length w
+    commit-asks : (a : Action) (v : List ℕ) → turnOn a v frames shared w t → length v ≡ length w
         → CommitWords v t a
     commit-asks a v o l =
         let m = threads-few frames shared w h in
@@ -97,11 +106,19 @@ module _ (frames : List ℕ) (shared : ℕ) (w : List ℕ) (h : StepWords frames
               };
         }
 
+    -- u are the words without the accesses that stood with the count
+    pub commit-needs : (a : Action) (v u : List ℕ) → turnLeft a v frames shared w t
+        → u ≡ set v 1 (cellsIn (getD v 1 0)) → length u ≡ length v → length v ≡ length w
+        → CommitWords u t a
+    commit-needs a v u o e k l =
+        subst (λ (x : List ℕ). CommitWords x t a) (sym e)
+        (commit-asks a _ (o .turn) (ap length (sym e) ∙ k ∙ l))
+
     -- and gives
-    pub commit-gives : (a : Action) (v v' : List ℕ) (used r : ℕ) → turnOn a v frames shared w t
+    commit-gives : (a : Action) (v v' : List ℕ) (used r : ℕ) → turnOn a v frames shared w t
         → used ≡ getD w 1 0
-        → callResult r t v' ≡ committedIn P v used c t (turnResultIn v t a) (a .transition)
-        → callResult r t v' ≡ asCall w (stepThread P s c t)
+        → committed r t v' ≡ committedIn P v used c t (turnResultIn v t a) (a .transition)
+        → committed r t v' ≡ asCommitted w (stepThread P s c t)
     commit-gives a v v' used r o u e =
         e
         ∙ ap (λ (x : ThreadWords).
@@ -123,7 +140,52 @@ module _ (frames : List ℕ) (shared : ℕ) (w : List ℕ) (h : StepWords frames
         Goal i =
             committedIn P (on (turnFor i)) (usedCells (s .cells)) c i
             (turnFor i .acted) (turnFor i .acted .transition)
-            ≡ asCall w (stepThread P s c i)
+            ≡ asCommitted w (stepThread P s c i)
+
+    -- as many accesses as the rules list
+    pub count-is : turnAccesses frames shared w t ≡ length (stepThread P s c t .accesses)
+    count-is = subst Goal number-same (turn-count acts (whoIn frames shared w t) who-is)
+      where
+        Goal : ℕ → Type 0
+        Goal i =
+            let th = threadWordsOf (threadAt s i) in
+            turnCount (framesOf frames) (whoIn frames shared w t) (th .items) (topIn th)
+            (variablesIn th) (usedCells (s .cells)) (cellWords (s .cells))
+            ≡ length (stepThread P s c i .accesses)
+
+    -- what the turn gives with its accesses, which a refusal leaves out
+    pub turn-gives : (a : Action) (v u v' : List ℕ) (n used r k : ℕ)
+        → turnLeft a v frames shared w t → u ≡ set v 1 (cellsIn (getD v 1 0))
+        → n ≡ accessesIn (getD v 1 0) → used ≡ getD w 1 0
+        → committed r t v' ≡ committedIn P u used c t (turnResultIn u t a) (a .transition)
+        → k ≡ (if eqb r 0 then n else 0)
+        → callResult r t k v' ≡ asCall w (stepThread P s c t)
+    unfolding accessCount
+    turn-gives a v u v' n used r k o eu en z e q = λ i. callResult (answer i) (thread i) (count i) (words i)
+      where
+        R : StepResult
+        R = stepThread P s c t
+
+        g : committed r t v' ≡ asCommitted w (stepThread P s c t)
+        g =
+            commit-gives a (set v 1 (cellsIn (getD v 1 0))) v' used r (o .turn) z
+            (e
+            ∙ ap (λ (x : List ℕ). committedIn P x used c t (turnResultIn x t a) (a .transition)) eu)
+
+        answer : r ≡ stepThread P s c t .answer
+        answer = ap (λ (x : Committed). x .answer) g
+
+        thread : t ≡ stepThread P s c t .thread
+        thread = ap (λ (x : Committed). x .thread) g
+
+        words : v' ≡ asCommitted w (stepThread P s c t) .words
+        words = ap (λ (x : Committed). x .words) g
+
+        count : k ≡ (if eqb (stepThread P s c t .answer) 0 then length (stepThread P s c t .accesses) else 0)
+        count =
+            q
+            ∙ ap (λ (i : ℕ). if eqb i 0 then n else 0) answer
+            ∙ ap (λ (i : ℕ). if eqb (R .answer) 0 then i else 0) (en ∙ o .accesses ∙ count-is)
 
   -- ---- a thread that is not there has nothing to run: it ends, and no thread changes
   module _ (high : getD w 0 0 < t) where
@@ -151,9 +213,21 @@ module _ (frames : List ℕ) (shared : ℕ) (w : List ℕ) (h : StepWords frames
     unfolding isSchedulerOf
     chosen-there e = scheduler-there (fits-in frames shared w h) (shaped frames shared w h) c e .0
 
-    pub gone-is : (v : List ℕ) → v ≡ leftIn w c → callResult 0 t v ≡ asCall w (stepThread P s c t)
-    unfolding stepThreadWithin ends
+    pub gone-is : (v : List ℕ) → v ≡ leftIn w c
+        → callResult 0 t 0 v ≡ asCall w (stepThread P s c t)
+    unfolding stepThreadWithin ends accessCount if_then_else_
     gone-is v e =
-        ap (callResult 0 t) (e ∙ is-pack _ (leave gone s) (left-says w s (says frames shared w h) gone choice chosen-there (scheduler-fits (framesOf frames) _ _ (fits-in frames shared w h) s (shaped frames shared w h) c .active-room))
+        ap (callResult 0 t 0) (e ∙ is-pack _ (leave gone s) (left-says w s (says frames shared w h) gone choice chosen-there (scheduler-fits (framesOf frames) _ _ (fits-in frames shared w h) s (shaped frames shared w h) c .active-room))
         ∙ ap (λ (x : State). pack (leave gone x)) (sym (same-state _)))
         ∙ ap (λ (is : List Item). asCall w (stepItems P s c t is)) (sym empty)
+
+-- ---- the accesses taken out of the count, and those that are answered
+pub taken-words : (v : List ℕ) (m : ℕ) → m ≡ cellsIn (getD v 1 0)
+    → set v 1 m ≡ set v 1 (cellsIn (getD v 1 0))
+taken-words v m e = ap (set v 1) e
+
+pub counted-done : (answer n : ℕ) → answer ≡ 0 → n ≡ (if eqb answer 0 then n else 0)
+counted-done answer n e = sym (if-yes _ _ (eq-eqb answer 0 e))
+
+pub counted-none : (answer n : ℕ) → (answer ≡ 0 → ⊥) → 0 ≡ (if eqb answer 0 then n else 0)
+counted-none answer n d = sym (if-no _ _ (ne-eqb answer 0 d))

@@ -11,17 +11,21 @@ use Rattle.stepper.specs.declared.answer.Answer.the-variants as A
 
 -- 01's number of an answer, 0 where it is done; the frame that it names; the acting thread, 0: none
 abbrev pub answerNumber : Answer → ℕ
-answerNumber a = elim a [ A.Rejected n j ↦ n | A.Refused n t ↦ n | A.Done t ↦ 0 ]
+answerNumber a = elim a [ A.Rejected n j ↦ n | A.Refused n t ↦ n | A.Done t k ↦ 0 ]
 
 abbrev pub answerFrame : Answer → ℕ
-answerFrame a = elim a [ A.Rejected n j ↦ j | A.Refused n t ↦ 0 | A.Done t ↦ 0 ]
+answerFrame a = elim a [ A.Rejected n j ↦ j | A.Refused n t ↦ 0 | A.Done t k ↦ 0 ]
 
 abbrev pub answerThread : Answer → ℕ
-answerThread a = elim a [ A.Rejected n j ↦ 0 | A.Refused n t ↦ t | A.Done t ↦ t ]
+answerThread a = elim a [ A.Rejected n j ↦ 0 | A.Refused n t ↦ t | A.Done t k ↦ t ]
 
--- the answer with that number and that acting thread
-unfoldable pub answerTo : ℕ → ℕ → Answer
-answerTo n t = if eqb n 0 then A.Done t else A.Refused n t
+-- how many cells it read, stored in and made
+abbrev pub answerAccesses : Answer → ℕ
+answerAccesses a = elim a [ A.Rejected n j ↦ 0 | A.Refused n t ↦ 0 | A.Done t k ↦ k ]
+
+-- the answer with that number, that acting thread and so many accesses; a refusal has none
+unfoldable pub answerTo : ℕ → ℕ → ℕ → Answer
+answerTo n t k = if eqb n 0 then A.Done t k else A.Refused n t
 
 -- a call's answer, and all lent words after it
 pub record TextResult : Type 0 where
@@ -32,7 +36,7 @@ abbrev pub textResult : Answer → List ℕ → TextResult
 textResult a w = record { answer = a; words = w }
 
 abbrev pub asTextResult : CallResult → TextResult
-asTextResult r = textResult (answerTo (r .answer) (r .thread)) (r .words)
+asTextResult r = textResult (answerTo (r .answer) (r .thread) (r .accesses)) (r .words)
 
 -- 'after 1 to 7, in number order': the text's refusal, which changes no buffer; else what the call
 -- gives on its frames
@@ -50,10 +54,13 @@ stepText bs w c = onText bs w (λ fs. stepCall fs w c)
 
 -- ---- many choices in one call: one step after the other, as `step` called for each
 
--- the answer to one choice as a number: 01's above 16 bits, 0 where it is done; the acting thread,
--- 0 where none acts
+-- the answer to one choice as a number: its accesses above 32 bits; 01's number above 16 bits, 0
+-- where it is done; the acting thread, 0 where none acts
+abbrev pub stepCode : ℕ → ℕ → ℕ → ℕ
+stepCode n t k = k * 2 ^ 32 + n * 2 ^ 16 + t
+
 abbrev pub answerWord : CallResult → ℕ
-answerWord r = r .answer * 2 ^ 16 + r .thread
+answerWord r = stepCode (r .answer) (r .thread) (r .accesses)
 
 -- the answer to the whole call, the state's words after it, and an answer to each choice
 pub record BatchResult : Type 0 where
@@ -70,7 +77,7 @@ batchResult a w out = record { answer = a; words = w; answers = out }
 unfoldable pub stepsCall : List Frame → List ℕ → List ℕ → List ℕ → BatchResult
 stepsCall fs w cs out =
     if eqb (length out) (length cs) && inRange fs (programOf fs .schedulers) w
-    then batchResult (A.Done 0) (wordsFrom fs w cs) (map answerWord (callsFrom fs w cs))
+    then batchResult (A.Done 0 0) (wordsFrom fs w cs) (map answerWord (callsFrom fs w cs))
     else batchResult (A.Refused wrongState 0) w out
 
 -- 'after 1 to 7, in number order'

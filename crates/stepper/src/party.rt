@@ -8,12 +8,25 @@ ghost use Prim.Native.Nat.{_≤_};
 ghost use lib.ListN.{length, getD};
 ghost use Rattle.language.specs.Limits.{mostThreads};
 ghost use Rattle.machine.specs.Offsets.{stateLength, threadCountAt};
-ghost use Rattle.stepper.specs.inner.Files.{actingIn};
+ghost use Rattle.stepper.specs.inner.Files.{actingIn, nobodyAnswers};
 
-// The number of the answer, 0 where the step is done, and the acting thread, 0 where none acts.
+// The number of the answer, 0 where the step is done; the acting thread, 0 where none acts; and how
+// many cells the step read, stored in and made, 0 where it is refused.
 pub struct StepAnswer {
     pub answer: u8,
     pub thread: u8,
+    pub accesses: u16,
+}
+
+// No thread acts, and so there is no access.
+pub(crate) fn nobody(answer: u8) -> StepAnswer
+    ensures { λ r. ⌜ r ≡ nobodyAnswers answer ⌝ }
+{
+    StepAnswer {
+        answer,
+        thread: 0,
+        accesses: 0,
+    }
 }
 
 // The thread that acts at a choice: a scheduler's first active one, or the unlinked one that the

@@ -37,7 +37,7 @@ pub fn fresh(text: &[u8], state: &mut [u64]) -> Answer
                 return Answer::Refused(WRONG_STATE, 0);
             }
             write_fresh(&words[..n], state);
-            Answer::Done(0)
+            Answer::Done(0, 0)
         }
     }
 }
@@ -53,7 +53,7 @@ fn step_frames(frames: &[u64], state: &mut [u64], choice: u64) -> Answer
         return Answer::Refused(WRONG_STATE, 0);
     }
     let s = step_valid(frames, file, state, choice);
-    answer_of(s.answer, s.thread)
+    answer_of(s.answer, s.thread, s.accesses)
 }
 
 // One choice on any text, any words: 1 to 7, then 14, then 15 to 20, or the step. A refusal leaves

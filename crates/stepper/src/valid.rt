@@ -2,6 +2,7 @@
 use crate::file::File;
 use crate::party::StepAnswer;
 use crate::party::acting_thread;
+use crate::party::nobody;
 use crate::turn::turn;
 use language::Place;
 use language::refusal::NO_PARTY;
@@ -25,26 +26,13 @@ pub fn step_valid(frames: &[u64], file: File, state: &mut [u64], choice: u64) ->
 {
     let t = acting_thread(file.schedulers, state, choice);
     if t != 0 {
-        let answer = turn(frames, file.shared, state, choice, t);
-        return StepAnswer {
-            answer,
-            thread: t as u8,
-        };
+        return turn(frames, file.shared, state, choice, t);
     }
     if !Place::is_scheduler_in_file(choice, file.schedulers) {
-        return StepAnswer {
-            answer: NO_PARTY,
-            thread: 0,
-        };
+        return nobody(NO_PARTY);
     }
     if end_instant(state, Place::known(choice)) == 0 {
-        return StepAnswer {
-            answer: NOTHING_READY,
-            thread: 0,
-        };
+        return nobody(NOTHING_READY);
     }
-    StepAnswer {
-        answer: 0,
-        thread: 0,
-    }
+    nobody(0)
 }

@@ -7,6 +7,7 @@ pub mod OperandLaws
 pub mod StatementRows
 pub mod ItemRows
 -- The acts made in a thread are the turns of specs/Acts: single turns, and the whole turn.
+pub mod PlainLaws
 pub mod SeenLaws
 pub mod StayLaws
 pub mod MoveLaws

@@ -5,6 +5,7 @@ use mathlib.Core.List.{List}
 use Prim.Native.Nat.{ℕ}
 use Rattle.program.specs.Trees.{Expr}
 use Rattle.operations.specs.declared.Who.{Who}
+use Rattle.operations.specs.inner.Heaps.{cellsIn}
 use Rattle.evaluator.specs.inner.Results.{evaluatedBy, storedBy}
 use Rattle.states.specs.declared.thread.ThreadWords.{ThreadWords}
 use Rattle.acts.specs.declared.act.Transition.the-variants.{Stays}
@@ -41,7 +42,7 @@ refused-so who counts answer n = record { thread = λ th w. refl; room = tt }
 
 -- ---- with the words of the cells
 abbrev pub Turning : ActResult → Who → Counts → List ℕ → (ThreadWords → TurnOutcome) → Type 0
-Turning a who counts vs f = TurnsOn (a .acted) (a .used) (a .cells) who counts vs f
+Turning a who counts vs f = TurnsOn (a .acted) (cellsIn (a .used)) (a .cells) who counts vs f
 
 pub act-on : {a : Action} {n : ℕ} {us : List ℕ} {who : Who} {counts : Counts} {vs : List ℕ}
     {f : ThreadWords → TurnResult} {g : ThreadWords → TurnOutcome}

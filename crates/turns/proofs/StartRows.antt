@@ -15,7 +15,7 @@ use Rattle.machine.specs.declared.value.Outcome.the-variants.{Is, Foreign, Spen
 use Rattle.operations.specs.declared.Who.{Who}
 use Rattle.operations.specs.inner.Lent.{Lent, lentVariables, lentRest}
 use Rattle.operations.specs.inner.Results.{Result, result}
-use Rattle.evaluator.specs.inner.Results.{evaluatedBy, CellWords, ValueWords}
+use Rattle.evaluator.specs.inner.Results.{evaluatedOn, HeapWords, ValueWords}
 use Rattle.evaluator.proofs.Agreement.{eval-leaves}
 use Rattle.evaluator.proofs.InPlace.{variables-kept}
 use Rattle.acts.specs.declared.act.Action.{Action}
@@ -29,8 +29,8 @@ use Rattle.turns.proofs.AfterRows.{after-refused, after-is}
 -- after an evaluation the cells may be lent again
 pub cells-after : (fw vs : List ℕ) (who : Who) (i n : ℕ) (ws : List ℕ)
     (x : Outcome) (m : ℕ) (us : List ℕ)
-    → result x m us ≡ evaluatedBy who (expressionAt (framesOf fw) i) vs n ws
-    → ValueWords vs → CellWords n ws → CellWords m us
+    → result x m us ≡ evaluatedOn who (expressionAt (framesOf fw) i) vs n ws
+    → ValueWords vs → HeapWords n ws → HeapWords m us
 cells-after fw vs who i n ws x m us e h g = eval-leaves fw vs who i n ws (result x m us) h g e
 
 -- after an evaluation the thread's variables are as before
@@ -40,10 +40,10 @@ module _
   values-again h = subst ValueWords (sym (variables-kept who w v e l)) h
 
   pub variables-again : (x : Expr) (n : ℕ) (ws : List ℕ) (y : Result)
-      → y ≡ evaluatedBy who x (lentVariables who v) n ws
-      → y ≡ evaluatedBy who x (lentVariables who w) n ws
+      → y ≡ evaluatedOn who x (lentVariables who v) n ws
+      → y ≡ evaluatedOn who x (lentVariables who w) n ws
   variables-again x n ws y h =
-      h ∙ ap (λ (vs : List ℕ). evaluatedBy who x vs n ws) (variables-kept who w v e l)
+      h ∙ ap (λ (vs : List ℕ). evaluatedOn who x vs n ws) (variables-kept who w v e l)
 
 -- ---- the frames a and b as arguments, where 0 is none
 module _ (expr : ℕ → Expr) where
@@ -73,7 +73,7 @@ module _
 
   module _
       (x : Outcome) (m : ℕ) (us : List ℕ) (h : a ≡ 0 → ⊥)
-      (e : result x m us ≡ evaluatedBy who (expr a) vs n ws) where
+      (e : result x m us ≡ evaluatedOn who (expr a) vs n ws) where
     one : b ≡ 0
         → actAfter (result x m us) (startOne q) ≡ startAct who q (arguments expr a b) vs n ws
     one k =
@@ -92,7 +92,7 @@ module _
     starts-refused l z = ap (λ (y : Action). actResult y m us) z ∙ by (ℕ-discrete b 0)
       where
         rest : Value → ActResult
-        rest w = actAfter (evaluatedBy who (expr b) vs m us) (startTwo q (valueWord w))
+        rest w = actAfter (evaluatedOn who (expr b) vs m us) (startTwo q (valueWord w))
 
         first : (o : Outcome) → IsRefusal o
             → actResult (refusedWith (answerOf o)) m us ≡ firstThen o m us rest
@@ -118,7 +118,7 @@ module _
       -- y is the second argument's outcome, with p cells in use after it, whose words are ys
       module _
           (y : Outcome) (p : ℕ) (ys : List ℕ) (k : b ≡ 0 → ⊥)
-          (f : result y p ys ≡ evaluatedBy who (expr b) vs m us) where
+          (f : result y p ys ≡ evaluatedOn who (expr b) vs m us) where
         after-both : r ≡ afterValue y (startTwo q v) → Starts p ys
         after-both z =
             ap (λ (c : Action). actResult c p ys) z
@@ -128,7 +128,7 @@ module _
             ∙ both k
           where
             rest : Value → ActResult
-            rest u = actAfter (evaluatedBy who (expr b) vs m us) (startTwo q (valueWord u))
+            rest u = actAfter (evaluatedOn who (expr b) vs m us) (startTwo q (valueWord u))
 
         pub starts-second-refused : IsRefusal y → r ≡ refusedWith (answerOf y) → Starts p ys
         starts-second-refused l z = after-both (after-refused y (startTwo q v) r l z)

@@ -24,7 +24,7 @@ use Rattle.program.proofs.Roots.{statement-root}
 use Rattle.machine.specs.declared.value.Outcome.{Outcome}
 use Rattle.operations.specs.declared.Who.{Who}
 use Rattle.operations.specs.inner.Results.{Result, result}
-use Rattle.evaluator.specs.inner.Results.{evaluatedBy, storedBy}
+use Rattle.evaluator.specs.inner.Results.{evaluatedOn, storedOn}
 use Rattle.acts.specs.declared.act.Transition.the-variants.{Stays}
 use Rattle.acts.specs.declared.act.Change.the-variants.{Same}
 use Rattle.acts.specs.declared.act.Action.{Action}
@@ -45,7 +45,7 @@ module _
   stmt = statementAt (framesOf fw)
 
   abbrev value : ℕ → Result
-  value a = evaluatedBy who (expr a) vs n ws
+  value a = evaluatedOn who (expr a) vs n ws
 
   abbrev actBy : StatementNode → ActResult
   actBy Y.Nothing = actResult (action Stays Same) n ws
@@ -55,7 +55,7 @@ module _
   actBy (Y.Start m a b) = startAct who (request false m) (arguments expr a b) vs n ws
   actBy (Y.StartWait m a b) = startAct who (request true m) (arguments expr a b) vs n ws
   actBy (Y.LetIn a b) = actAfter (value a) (letAfter counts b)
-  actBy (Y.Store a b) = actAfter (storedBy who (expr a) (expr b) vs n ws) storeAfter
+  actBy (Y.Store a b) = actAfter (storedOn who (expr a) (expr b) vs n ws) storeAfter
   actBy (Y.IfElse a b c) = actAfter (value a) (chooseAfter counts b c)
   actBy (Y.While a b) = actAfter (value a) (loopAfter counts b i)
 
@@ -141,7 +141,7 @@ module _
           (act-is m us z ∙ ap (λ (y : Result). actAfter y (letAfter counts b)) q)
 
       pub acts-store : (a b : ℕ) → d ≡ Y.Store a b
-          → result x m us ≡ storedBy who (expr a) (expr b) vs n ws
+          → result x m us ≡ storedOn who (expr a) (expr b) vs n ws
           → r ≡ afterValue x storeAfter → Acts m us
       acts-store a b h q z =
           at (Y.Store a b) m us h (act-is m us z ∙ ap (λ (y : Result). actAfter y storeAfter) q)

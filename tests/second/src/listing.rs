@@ -8,6 +8,12 @@ use crate::step::Outcome;
 use crate::text::{self, DIGIT_BYTES};
 use crate::verdict::Verdict;
 
+/// Bytes of a choice's line: choice, answer, acting thread, cells in use and
+/// accesses, as 2, 2, 2, 4 and 4 digits, each with a blank or the line feed.
+const CHOICE_LINE: usize = 3 + 3 + 3 + 5 + 5;
+/// Bytes of the last line: 4 digits and the line feed.
+const COUNT_LINE: usize = 5;
+
 /// A file, as far as it can be read.
 pub enum Reading {
     /// Rejected with 1 to 7.
@@ -73,7 +79,7 @@ pub fn used<'c>(program: &Program, choices: &'c [u8]) -> &'c [u8] {
 
 fn run_lines(listing: &mut Vec<u8>, program: &Program, choices: &[u8]) {
     let used = used(program, choices);
-    listing.reserve(14 * used.len() + 5);
+    listing.reserve(CHOICE_LINE * used.len() + COUNT_LINE);
     let mut state = State::new(program);
     for &choice in used {
         let outcome = state.step(program, choice, &mut ());
@@ -89,6 +95,8 @@ fn choice_line(listing: &mut Vec<u8>, choice: u8, outcome: Outcome, cells: usize
         listing.push(b' ');
     }
     word(listing, cells as u16);
+    listing.push(b' ');
+    word(listing, outcome.accesses);
     listing.push(b'\n');
 }
 

@@ -13,6 +13,9 @@ pub struct Outcome {
     pub answer: u8,
     /// The acting thread, 0 if none.
     pub thread: u8,
+    /// Reads, creations and stores of the choice; 0 if it was refused, whatever
+    /// it accessed before (document 02, change 4: its "touch count").
+    pub accesses: u16,
 }
 
 impl Outcome {
@@ -21,7 +24,25 @@ impl Outcome {
     const INSTANT_ENDED: Outcome = Outcome::without_thread(0);
 
     const fn without_thread(answer: u8) -> Outcome {
-        Outcome { answer, thread: 0 }
+        Outcome {
+            answer,
+            thread: 0,
+            accesses: 0,
+        }
+    }
+}
+
+/// Counts the accesses that it tells the observer of. A step makes fewer than
+/// the file has frames: each is evaluated once at most.
+struct Counting<'o, O> {
+    observer: &'o mut O,
+    accesses: u16,
+}
+
+impl<O: Observer> Observer for Counting<'_, O> {
+    fn access(&mut self, actor: Actor, access: Access, owner: u8) {
+        self.accesses += 1;
+        self.observer.access(actor, access, owner);
     }
 }
 
@@ -73,15 +94,23 @@ impl State {
         observer: &mut O,
     ) -> Outcome {
         let cells = self.cells.len();
-        let answer = match self.take_item(program, thread, observer) {
-            Ok(()) => 0,
+        let mut counting = Counting {
+            observer,
+            accesses: 0,
+        };
+        let (answer, accesses) = match self.take_item(program, thread, &mut counting) {
+            Ok(()) => (0, counting.accesses),
             Err(fault) => {
                 // Takes back the cells made; nothing else was changed yet.
                 self.cells.truncate(cells);
-                fault.number()
+                (fault.number(), 0)
             }
         };
-        Outcome { answer, thread }
+        Outcome {
+            answer,
+            thread,
+            accesses,
+        }
     }
 
     fn take_item<O: Observer>(

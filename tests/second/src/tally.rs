@@ -23,12 +23,12 @@ impl Tally {
     pub fn add(&mut self, run: &[u8]) {
         self.cases += 1;
         let mut lines = run.split(|&byte| byte == b'\n');
-        let verdict = lines.next().map_or(0, |line| hexadecimal(&line[..2]));
+        let verdict = lines.next().map_or(0, |line| fields(line)[0]);
         self.verdicts[verdict] += 1;
         for line in lines {
-            match line.len() {
-                7 => self.lists_refused[hexadecimal(&line[..2]) - 2] += 1,
-                13 => self.answers[hexadecimal(&line[3..5])] += 1,
+            match fields(line)[..] {
+                [number, _line] => self.lists_refused[number - 2] += 1,
+                [_choice, answer, _thread, _cells, _accesses] => self.answers[answer] += 1,
                 _ => {}
             }
         }
@@ -65,6 +65,11 @@ impl fmt::Display for Arranged {
         }
         Ok(())
     }
+}
+
+/// The numbers of a listing's line.
+fn fields(line: &[u8]) -> Vec<usize> {
+    line.split(|&byte| byte == b' ').map(hexadecimal).collect()
 }
 
 fn hexadecimal(digits: &[u8]) -> usize {

@@ -5,8 +5,9 @@ use crate::verdict::Verdict;
 
 /// Bytes of a line of a program: 16 digits and a line feed.
 pub const LINE: usize = 17;
-/// 1,024 lines.
-pub const PROGRAM_LIMIT: usize = 17_408;
+/// Lines of a program, at most.
+pub const PROGRAM_LINES: usize = 1024;
+pub const PROGRAM_LIMIT: usize = LINE * PROGRAM_LINES;
 /// Bytes of a line of a list of choices: two digits and a line feed.
 pub const CHOICE_LINE: usize = 3;
 pub const CHOICES_LIMIT: usize = 49_152;

@@ -151,9 +151,9 @@ fn a_scoreboard_waits_for_the_flusher() {
     ];
     let mut expected = "00 0000\n".to_string();
     for thread in acted {
-        expected += &format!("02 00 {thread} 0000\n");
+        expected += &format!("02 00 {thread} 0000 0000\n");
     }
-    expected += "02 10 00 0000\n02 10 00 0000\n0012\n";
+    expected += "02 10 00 0000 0000\n02 10 00 0000 0000\n0012\n";
     assert_eq!(String::from_utf8(listing).unwrap(), expected);
 }
 
@@ -191,7 +191,7 @@ fn a_family_that_never_ends() {
     let listing = listing::run(text.as_bytes(), &b"02\n".repeat(16_384));
     let listing = String::from_utf8(listing).unwrap();
     assert_eq!(listing.lines().next(), Some("00 0000"));
-    assert_eq!(listing.matches("02 00 01 0000\n").count(), 1);
+    assert_eq!(listing.matches("02 00 01 0000 0000\n").count(), 1);
     assert_eq!(listing.lines().count(), 16_386);
 }
 

@@ -2,11 +2,13 @@
 
 mod literal;
 
-use std::collections::BTreeSet;
+use std::collections::{BTreeMap, BTreeSet};
 
 use literal::Waits;
+use second::evaluate::{Access, Actor, Observer};
 use second::generate;
 use second::listing::{self, Reading};
+use second::state::State;
 use second::tally::Tally;
 use second::text;
 
@@ -102,4 +104,64 @@ fn families_hold_up_waits() {
         assert!(waits.levels.contains_key(&levels), "{levels} levels below");
     }
     assert_eq!(waits.orders.len(), 6 + 24, "orders of 3 and 4 members");
+}
+
+/// The accesses of a step by their sorts, those before a refusal too.
+#[derive(Default)]
+struct Seen {
+    reads: usize,
+    stores: usize,
+    creations: usize,
+}
+
+impl Observer for Seen {
+    fn access(&mut self, _: Actor, access: Access, _: u8) {
+        match access {
+            Access::Read => self.reads += 1,
+            Access::Store => self.stores += 1,
+            Access::Creation => self.creations += 1,
+        }
+    }
+}
+
+/// Steps with many accesses and with accesses of every sort, and steps that are
+/// refused after several, with each answer that can come then.
+#[test]
+fn steps_access_many_cells() {
+    let mut counts: BTreeMap<u16, usize> = BTreeMap::new();
+    let mut refused: BTreeMap<u8, usize> = BTreeMap::new();
+    let mut of_every_sort = 0;
+    for index in 0..30_000 {
+        let case = generate::case(SEED, index);
+        let Reading::Readable(program, _) = Reading::new(&case.program) else {
+            continue;
+        };
+        let Ok(choices) = text::choices(&case.choices) else {
+            continue;
+        };
+        let mut state = State::new(&program);
+        for &party in listing::used(&program, &choices) {
+            let mut seen = Seen::default();
+            let outcome = state.step(&program, party, &mut seen);
+            *counts.entry(outcome.accesses).or_default() += 1;
+            // The one that is refused is seen as well.
+            if outcome.answer != 0 && seen.reads + seen.creations > 2 {
+                *refused.entry(outcome.answer).or_default() += 1;
+            }
+            if outcome.answer == 0 && seen.reads > 1 && seen.stores == 1 && seen.creations > 1 {
+                of_every_sort += 1;
+            }
+        }
+    }
+    println!("refused after accesses {refused:?}; of every sort {of_every_sort}");
+    println!("steps by count {counts:?}");
+    for count in 0..=40 {
+        assert!(counts.contains_key(&count), "no step of {count} accesses");
+    }
+    assert!(counts.range(256..).count() > 20, "counts of three digits");
+    assert!(of_every_sort > 500, "{of_every_sort}");
+    for answer in 17..=20 {
+        let times = refused.get(&answer).copied().unwrap_or(0);
+        assert!(times > 500, "{times} refused with {answer}");
+    }
 }

@@ -1,5 +1,5 @@
-//! The bench samples that 01 prints, the traps that it names, and the
-//! allowances of 02, change 1.
+//! The bench samples that 01 prints, in the form of 02, change 4, the traps
+//! that it names, and the allowances of change 1.
 
 use second::listing;
 
@@ -31,17 +31,44 @@ const CASE_R: [&str; 9] = [
     "0200000700000000",
 ];
 
+/// 01's listing with the accesses of 02, change 4, each worked out by hand.
 #[test]
 fn case_r() {
-    let expected = "0B 0007\n02 00 01 0001\n03 00 00 0001\n03 00 01 0001\n03 00 01 0001\n\
-                    03 00 00 0001\n03 13 02 0001\n0006\n";
+    let expected = [
+        "0B 0007",
+        "02 00 01 0001 0000", // 12: no expression; moves
+        "03 00 00 0001 0000", // the instant's end
+        "03 00 01 0001 0000", // 13 without arguments
+        "03 00 01 0001 0000", // back
+        "03 00 00 0001 0000", // the instant's end
+        "03 13 02 0001 0000", // 17: the store is foreign, so refused
+        "0006",
+    ];
     assert_eq!(
         run(&CASE_R, &["02", "03", "03", "03", "03", "03"]),
-        expected
+        expected.join("\n") + "\n"
     );
+}
+
+/// R with 1202 in frame 7: the store is done, which is one access.
+#[test]
+fn case_r_at_home() {
     let mut at_home = CASE_R;
     at_home[7] = "1202000600000000";
     assert_eq!(check(&at_home), "00 0000\n");
+    let expected = [
+        "00 0000",
+        "02 00 01 0001 0000", // 12
+        "02 00 01 0001 0000", // 13
+        "02 00 01 0001 0000", // back
+        "02 00 01 0001 0000", // the end of thread 1
+        "02 00 00 0001 0000", // the instant's end
+        "02 00 02 0001 0001", // 17: 23 and 20 access nothing, the store counts
+        "02 00 02 0001 0000", // the end of thread 2
+        "02 10 00 0001 0000",
+        "0008",
+    ];
+    assert_eq!(run(&at_home, &["02"; 8]), expected.join("\n") + "\n");
 }
 
 #[test]
@@ -67,7 +94,7 @@ fn type_words_of_a_parameter() {
 #[test]
 fn nothing_runs_to_its_end() {
     let frames = ["0001000000010000", "1000000000000000", "0200000100000000"];
-    let expected = "00 0000\n02 00 01 0000\n02 00 01 0000\n02 10 00 0000\n0003\n";
+    let expected = "00 0000\n02 00 01 0000 0000\n02 00 01 0000 0000\n02 10 00 0000 0000\n0003\n";
     assert_eq!(run(&frames, &["02", "02", "02"]), expected);
     assert_eq!(run(&frames, &[]), "00 0000\n0000\n");
 }
@@ -138,8 +165,8 @@ fn at_ones_own_place() {
         "1202000100000000",
         "0200000200000000",
     ];
-    let expected = "00 0000\n02 00 01 0000\n02 00 01 0000\n02 00 01 0000\n02 00 01 0000\n\
-                    02 10 00 0000\n0005\n";
+    let step = "02 00 01 0000 0000\n".repeat(4);
+    let expected = format!("00 0000\n{step}02 10 00 0000 0000\n0005\n");
     assert_eq!(run(&frames, &["02"; 5]), expected);
 }
 
@@ -158,7 +185,7 @@ fn refused_steps_make_no_cells() {
     ];
     assert_eq!(
         run(&frames, &["02", "02"]),
-        "09 0004\n02 14 01 0000\n02 14 01 0000\n0002\n"
+        "09 0004\n02 14 01 0000 0000\n02 14 01 0000 0000\n0002\n"
     );
 }
 
@@ -176,20 +203,20 @@ fn operands_run_before_kinds_are_tested() {
         "1600000500060000",
         "0200000700000000",
     ];
-    assert_eq!(run(&frames, &["02"]), "09 0005\n02 13 01 0001\n0001\n");
+    assert_eq!(run(&frames, &["02"]), "09 0005\n02 13 01 0001 0000\n0001\n");
 }
 
 #[test]
 fn lists_of_choices_are_judged_whole() {
     let program = lines(&["0001000100010000", "1000000000000000", "0200000100000000"]);
     let run = |choices: &[u8]| String::from_utf8(listing::run(&program, choices)).unwrap();
-    assert_eq!(run(b"02\n02\n"), "00 0000\n02 00 01 0000\n0001\n");
+    assert_eq!(run(b"02\n02\n"), "00 0000\n02 00 01 0000 0000\n0001\n");
     assert_eq!(run(b"02\n02\n0g\n"), "00 0000\n03 0002\n");
     assert_eq!(run(b"02\n02"), "00 0000\n03 0001\n");
     assert_eq!(run(&b"02\n".repeat(16_385)), "00 0000\n02 0000\n");
 }
 
-/// The lines of a run as choice, answer, thread and cells.
+/// The lines of a run as choice, answer, thread, cells and accesses.
 fn long_run(program: &[u8]) -> Vec<Vec<String>> {
     let listing = listing::run(program, &b"02\n".repeat(3000));
     let text = String::from_utf8(listing).unwrap();
@@ -197,7 +224,7 @@ fn long_run(program: &[u8]) -> Vec<Vec<String>> {
         .lines()
         .map(|line| line.split(' ').map(String::from).collect());
     fields
-        .filter(|line: &Vec<String>| line.len() == 4)
+        .filter(|line: &Vec<String>| line.len() == 5)
         .collect()
 }
 

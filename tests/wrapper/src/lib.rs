@@ -11,7 +11,7 @@ extern "C" {
         state: *mut u64,
         words: usize,
         choice: u64,
-    ) -> u32;
+    ) -> u64;
     fn purkvaldi_steps(
         text: *const u8,
         length: usize,
@@ -19,7 +19,7 @@ extern "C" {
         words: usize,
         choices: *const u8,
         choices_length: usize,
-        answers: *mut u32,
+        answers: *mut u64,
         answers_length: usize,
     ) -> u32;
     fn purkvaldi_listing_length() -> usize;
@@ -63,25 +63,36 @@ pub fn run<'o>(text: &[u8], choices: &[u8], state: &mut [u64], out: &'o mut [u8]
         )
     };
     Listing {
-        answer: Answer::of_code((result >> 32) as u32),
+        answer: Answer::of_code(result >> 32),
         bytes: &out[..result as u32 as usize],
     }
 }
 
-/// What a call of the stepper answers: the number, 0 where it is done; and the frame of a refusal 1
-/// to 7, else the acting thread.
+/// What a call of the stepper answers: the number, 0 where it is done; the frame of a refusal 1 to
+/// 7, else the acting thread; and how many cells a step read, stored in and made.
 #[derive(Clone, Copy, PartialEq, Eq, Debug)]
 pub struct Answer {
     pub number: u8,
     pub detail: u16,
+    pub accesses: u16,
 }
 
 impl Answer {
+    /// An answer without accesses, as every refusal is.
+    pub fn new(number: u8, detail: u16) -> Answer {
+        Answer {
+            number,
+            detail,
+            accesses: 0,
+        }
+    }
+
     /// The answer of a code, as `steps` writes it.
-    pub fn of_code(code: u32) -> Answer {
+    pub fn of_code(code: u64) -> Answer {
         Answer {
             number: (code >> 16) as u8,
             detail: code as u16,
+            accesses: (code >> 32) as u16,
         }
     }
 }
@@ -94,9 +105,9 @@ pub fn state_length() -> usize {
 /// Writes the fresh state of a text.
 pub fn fresh(text: &[u8], state: &mut [u64]) -> Answer {
     // Any bytes and any words may be lent.
-    Answer::of_code(unsafe {
-        purkvaldi_fresh(text.as_ptr(), text.len(), state.as_mut_ptr(), state.len())
-    })
+    let code =
+        unsafe { purkvaldi_fresh(text.as_ptr(), text.len(), state.as_mut_ptr(), state.len()) };
+    Answer::of_code(u64::from(code))
 }
 
 /// One choice on a state of any words.
@@ -114,8 +125,8 @@ pub fn step(text: &[u8], state: &mut [u64], choice: u64) -> Answer {
 
 /// Many choices on a state of any words, in one call; `answers` takes a code for each, which
 /// `Answer::of_code` reads.
-pub fn steps(text: &[u8], state: &mut [u64], choices: &[u8], answers: &mut [u32]) -> Answer {
-    Answer::of_code(unsafe {
+pub fn steps(text: &[u8], state: &mut [u64], choices: &[u8], answers: &mut [u64]) -> Answer {
+    let code = unsafe {
         purkvaldi_steps(
             text.as_ptr(),
             text.len(),
@@ -126,7 +137,8 @@ pub fn steps(text: &[u8], state: &mut [u64], choices: &[u8], answers: &mut [u32]
             answers.as_mut_ptr(),
             answers.len(),
         )
-    })
+    };
+    Answer::of_code(u64::from(code))
 }
 
 /// The number of the refusal and the frame; (0, 0) where the text is accepted.

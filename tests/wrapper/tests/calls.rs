@@ -7,7 +7,7 @@ use std::path::Path;
 const THREE: &[u8] = b"0001000000010000\n1000000000000000\n0200000100000000\n";
 
 fn answer(number: u8, detail: u16) -> Answer {
-    Answer { number, detail }
+    Answer::new(number, detail)
 }
 
 fn fresh() -> Vec<u64> {
@@ -148,7 +148,7 @@ fn waits_end_with_the_family_whatever_the_starters() {
 
 /// The answers of these choices in one call, from this state on.
 fn in_one_call(text: &[u8], state: &mut [u64], choices: &[u8]) -> Vec<Answer> {
-    let mut codes = vec![u32::MAX; choices.len()];
+    let mut codes = vec![u64::MAX; choices.len()];
     assert_eq!(
         purkvaldi::steps(text, state, choices, &mut codes),
         answer(0, 0)
@@ -195,6 +195,42 @@ fn garbage_states_are_14_for_many_choices_too() {
         }
         assert_eq!(changed, kept);
     }
+}
+
+/// The accesses that each choice of an example answers with, one by one and in one call.
+fn accesses_of(example: &str) -> Vec<(u8, u16)> {
+    let text = read(&format!("examples/{example}/prog.txt"));
+    let choices = [2; 8];
+    let mut state = vec![0; purkvaldi::state_length()];
+    assert_eq!(purkvaldi::fresh(&text, &mut state), answer(0, 0));
+    let mut at_once = state.clone();
+    let answers: Vec<Answer> = choices
+        .iter()
+        .map(|&choice| purkvaldi::step(&text, &mut state, u64::from(choice)))
+        .collect();
+    assert_eq!(in_one_call(&text, &mut at_once, &choices), answers);
+    answers.iter().map(|a| (a.number, a.accesses)).collect()
+}
+
+#[test]
+fn a_step_says_its_accesses_and_a_refused_one_none() {
+    assert_eq!(
+        accesses_of("counts"),
+        [2, 0, 2, 2, 3, 3, 0, 0].map(|count| (0, count))
+    );
+    assert_eq!(
+        accesses_of("counts-refused"),
+        [
+            (0, 2),
+            (0, 0),
+            (0, 2),
+            (0, 2),
+            (0, 3),
+            (19, 0),
+            (19, 0),
+            (19, 0)
+        ]
+    );
 }
 
 /// Many choices in one call are a call of `step` for each: every answer and every word, from the

@@ -13,7 +13,6 @@ use Rattle.language.specs.Limits.{mostVariables, mostThreads, mostCells, mostIt
 use Rattle.language.specs.Refusals.{threadsSpent, stuck}
 use Rattle.program.specs.Programs.{Program}
 use Rattle.machine.specs.inner.Blocks.{pasted, padded}
-use Rattle.machine.specs.Calls.{CallResult, callResult}
 use Rattle.states.specs.declared.thread.ThreadWords.{ThreadWords}
 use Rattle.states.specs.inner.Threads.{threadIn, putThread, withOneMore, ThreadSpace}
 use Rattle.lists.specs.inner.Lists.{withoutFirst, withLast}
@@ -60,10 +59,19 @@ roomIn w q more =
 unfoldable pub joinedIn : List ℕ → ℕ → ℕ → List ℕ
 joinedIn w q e = if isScheduler q then withLast w (q - home) e else w
 
+-- what a commit gives: the answer, the acting thread, and the words after it
+pub record Committed : Type 0 where
+  pub answer : ℕ
+  pub thread : ℕ
+  pub words : List ℕ
+
+abbrev pub committed : ℕ → ℕ → List ℕ → Committed
+committed n t w = record { answer = n; thread = t; words = w }
+
 -- ---- each transition, of thread t at choice c, where `before` cells were in use
 
-abbrev pub refusesIn : List ℕ → ℕ → ℕ → ℕ → CallResult
-refusesIn w before t n = callResult n t (clearedIn w before)
+abbrev pub refusesIn : List ℕ → ℕ → ℕ → ℕ → Committed
+refusesIn w before t n = committed n t (clearedIn w before)
 
 abbrev pub staysIn : List ℕ → ℕ → TurnResult → List ℕ
 staysIn w t a = settledIn w (t - 1) (a .thread)
@@ -71,10 +79,10 @@ staysIn w t a = settledIn w (t - 1) (a .thread)
 abbrev pub leavesIn : List ℕ → ℕ → ℕ → TurnResult → List ℕ
 leavesIn w c t a = leftIn (staysIn w t a) c
 
-unfoldable pub joinsIn : List ℕ → ℕ → ℕ → ℕ → TurnResult → ℕ → CallResult
+unfoldable pub joinsIn : List ℕ → ℕ → ℕ → ℕ → TurnResult → ℕ → Committed
 joinsIn w before c t a q =
     if roomIn w q 1
-    then callResult 0 t (joinedIn (leavesIn w c t a) q t)
+    then committed 0 t (joinedIn (leavesIn w c t a) q t)
     else refusesIn w before t stuck
 
 -- the new thread, at that place, with so many arguments
@@ -116,19 +124,19 @@ waitingIn w c t a args body =
     (waitingFactor * (getD w threadCountAt 0 + 1) + t)
 
 unfoldable pub startsIn : Program → List ℕ → ℕ → ℕ → ℕ → TurnResult → Bool → ℕ → Arguments
-    → CallResult
+    → Committed
 startsIn p w before c t a waits m args =
     let found = foundIn p m in
     let no = obstacleIn w found (a .thread .place) (args .count) in
     if not (eqb no 0) then refusesIn w before t no else
-    if not waits then callResult 0 t (startedIn w t a args (found .body)) else
+    if not waits then committed 0 t (startedIn w t a args (found .body)) else
     if not (roomIn w (a .thread .place) 2) then refusesIn w before t stuck else
-    callResult 0 t (waitingIn w c t a args (found .body))
+    committed 0 t (waitingIn w c t a args (found .body))
 
-abbrev pub committedIn : Program → List ℕ → ℕ → ℕ → ℕ → TurnResult → Transition → CallResult
+abbrev pub committedIn : Program → List ℕ → ℕ → ℕ → ℕ → TurnResult → Transition → Committed
 committedIn p w before c t a (Refused n) = refusesIn w before t n
-committedIn p w before c t a Stays = callResult 0 t (staysIn w t a)
-committedIn p w before c t a Leaves = callResult 0 t (leavesIn w c t a)
+committedIn p w before c t a Stays = committed 0 t (staysIn w t a)
+committedIn p w before c t a Leaves = committed 0 t (leavesIn w c t a)
 committedIn p w before c t a (Joins q) = joinsIn w before c t a (q .number)
 committedIn p w before c t a (Starts waits m args) = startsIn p w before c t a waits m args
 

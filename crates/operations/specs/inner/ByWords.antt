@@ -24,7 +24,8 @@ use Rattle.machine.specs.declared.value.Outcome.{Outcome}
 use Rattle.machine.specs.declared.value.Outcome.the-variants.{Is, Foreign, Spent, Stuck}
 use Rattle.operations.specs.declared.Who.{Who}
 use Rattle.operations.specs.declared.operand.Operand.{Operand}
-use Rattle.operations.specs.inner.Results.{Result, result, thenBy}
+use Rattle.operations.specs.inner.Results.{Result, result, andThenIn}
+use Rattle.operations.specs.inner.Heaps.{cellsIn, withAccess, withCell, accessed}
 
 -- ---- words
 
@@ -62,10 +63,12 @@ sharedIn who s = if ltb s (who .shared) then Is (Cell s) else Stuck
 
 unfoldable pub makeIn : Who → ℕ → Value → ℕ → List ℕ → Result
 makeIn who s v n ws =
+    let c = cellsIn n in
     if ownIn who (newOwnerIn who s) then
-    (if ltb n mostCells then result (Is (Cell n)) (n + 1) (set ws n (cellWordOf (newOwnerIn who s) v))
-    else result Spent n ws)
-    else result Foreign n ws
+    (if ltb c mostCells
+    then result (Is (Cell c)) (withCell n) (set ws c (cellWordOf (newOwnerIn who s) v))
+    else result Spent (withAccess n) ws)
+    else result Foreign (withAccess n) ws
 
 unfoldable pub leafIn : Who → List ℕ → Leaf → Outcome
 leafIn who vs (Leaf.Number m) = Is (Number m)
@@ -81,12 +84,16 @@ accessIn who c n w v =
     Is v
 
 unfoldable pub readIn : Who → Value → ℕ → List ℕ → Outcome
-readIn who (Cell c) n ws = accessIn who c n (getD ws c 0) (contentIn (getD ws c 0))
+readIn who (Cell c) n ws = accessIn who c (cellsIn n) (getD ws c 0) (contentIn (getD ws c 0))
 readIn who (Number m) n ws = Stuck
 readIn who (Truth b) n ws = Stuck
 
+-- an access that came to o
+abbrev pub accessedBy : Outcome → ℕ → List ℕ → Result
+accessedBy o n ws = result o (accessed o n) ws
+
 abbrev pub readingIn : Who → Value → ℕ → List ℕ → Result
-readingIn who v n ws = result (readIn who v n ws) n ws
+readingIn who v n ws = accessedBy (readIn who v n ws) n ws
 
 abbrev pub usingIn : Who → CellUse → Value → ℕ → List ℕ → Result
 usingIn who (Make s) = makeIn who (s .number)
@@ -98,7 +105,8 @@ putWordIn c v n ws = result (Is v) n (set ws c (cellWordOf (ownerIn (getD ws c 0
 
 -- only where the access is allowed: a refusal changes nothing
 unfoldable pub storeIn : Who → Value → Value → ℕ → List ℕ → Result
-storeIn who (Cell c) v n ws = thenBy (accessIn who c n (getD ws c 0) v) n ws (putWordIn c)
+storeIn who (Cell c) v n ws =
+    andThenIn (accessedBy (accessIn who c (cellsIn n) (getD ws c 0) v) n ws) (putWordIn c)
 storeIn who (Number m) v n ws = result Stuck n ws
 storeIn who (Truth b) v n ws = result Stuck n ws
 

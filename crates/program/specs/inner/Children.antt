@@ -40,11 +40,11 @@ abbrev pub childNumbers : ℕ → ℕ → ℕ → ChildNumbers
 childNumbers a b c = record { a = a; b = b; c = c }
 
 -- the numbers of at most three children
-abbrev pub numbersOf : List Child → ChildNumbers
-numbersOf [] = childNumbers noChild noChild noChild
-numbersOf (c ∷ []) = childNumbers (c .at) noChild noChild
-numbersOf (c ∷ d ∷ []) = childNumbers (c .at) (d .at) noChild
-numbersOf (c ∷ d ∷ e ∷ cs) = childNumbers (c .at) (d .at) (e .at)
+abbrev pub childNumbersOf : List Child → ChildNumbers
+childNumbersOf [] = childNumbers noChild noChild noChild
+childNumbersOf (c ∷ []) = childNumbers (c .at) noChild noChild
+childNumbersOf (c ∷ d ∷ []) = childNumbers (c .at) (d .at) noChild
+childNumbersOf (c ∷ d ∷ e ∷ cs) = childNumbers (c .at) (d .at) (e .at)
 
 -- what g makes of u at the number of one child after the other
 unfoldable pub overChildren : {A : Type 0} → (A → ℕ → A) → A → List Child → A

@@ -36,7 +36,7 @@ abbrev pub checkLength : ℕ
 checkLength = 8
 
 abbrev pub choiceLength : ℕ
-choiceLength = 14
+choiceLength = 19
 
 -- what a run starts from: a file that passes refusals 1 to 7, its numbers, its fresh state
 pub record RunStart (frames : List ℕ) (file : File) (w : List ℕ) : Type 0 where
@@ -47,7 +47,7 @@ pub record RunStart (frames : List ℕ) (file : File) (w : List ℕ) : Type 0 wh
 -- after the check's line
 abbrev pub listedAfter : FinalState → List ℕ → List ℕ → ListingResult
 listedAfter b listing out =
-    listingResult (A.Done 0) (checkLength + length listing) (b .used) (b .words)
+    listingResult (A.Done 0 0) (checkLength + length listing) (b .used) (b .words)
     (written out checkLength listing)
 
 -- of a text that refusal n at frame j stops

@@ -11,7 +11,6 @@ use Rattle.program.specs.Programs.{SharedCell}
 use Rattle.machine.specs.Offsets.{cellsAt}
 use Rattle.machine.specs.Fresh.{firstCell}
 use Rattle.machine.specs.inner.Blocks.{pasted, padded, cellWords}
-use Rattle.machine.specs.Calls.{CallResult, callResult}
 use Rattle.states.specs.declared.thread.ThreadWords.{ThreadWords}
 
 -- the words with the first contents of those cells, at most 256

@@ -23,7 +23,7 @@ use Rattle.machine.specs.declared.value.Outcome.the-variants.{Is, Foreign, Spen
 use Rattle.operations.specs.declared.Who.{Who}
 use Rattle.operations.specs.inner.Lent.{lentCount, lentCells}
 use Rattle.operations.specs.inner.Results.{Result}
-use Rattle.evaluator.specs.inner.Results.{evaluatedBy, storedBy}
+use Rattle.evaluator.specs.inner.Results.{evaluatedOn, storedOn}
 use Rattle.acts.specs.declared.act.Arguments.{Arguments}
 use Rattle.acts.specs.declared.act.Transition.the-variants.{Stays, Leaves, Joins, Starts}
 use Rattle.acts.specs.declared.act.Change.{Change}
@@ -156,12 +156,12 @@ firstThen Stuck n ws k = actResult (refusedWith (answerOf Stuck)) n ws
 abbrev pub bothArguments : Who → Request → List ℕ → Expr → Result → ActResult
 bothArguments who q vs y r =
     firstThen (r .outcome) (r .used) (r .words)
-    (λ x. actAfter (evaluatedBy who y vs (r .used) (r .words)) (startTwo q (valueWord x)))
+    (λ x. actAfter (evaluatedOn who y vs (r .used) (r .words)) (startTwo q (valueWord x)))
 
 abbrev pub startAct : Who → Request → List Expr → List ℕ → ℕ → List ℕ → ActResult
 startAct who q [] vs n ws = actResult (startWith q (argumentsOf 0 0 0)) n ws
-startAct who q (x ∷ []) vs n ws = actAfter (evaluatedBy who x vs n ws) (startOne q)
-startAct who q (x ∷ y ∷ ys) vs n ws = bothArguments who q vs y (evaluatedBy who x vs n ws)
+startAct who q (x ∷ []) vs n ws = actAfter (evaluatedOn who x vs n ws) (startOne q)
+startAct who q (x ∷ y ∷ ys) vs n ws = bothArguments who q vs y (evaluatedOn who x vs n ws)
 
 -- ---- the whole turn, from the top item on
 
@@ -174,12 +174,12 @@ statementAct who counts (start i m xs) vs n ws = startAct who (request false m) 
 statementAct who counts (startWait i m xs) vs n ws = startAct who (request true m) xs vs n ws
 statementAct who counts (cooperate i) vs n ws = actResult (cooperation (who .place)) n ws
 statementAct who counts (letIn i x a) vs n ws =
-    actAfter (evaluatedBy who x vs n ws) (letAfter counts (rootS a))
-statementAct who counts (store i x y) vs n ws = actAfter (storedBy who x y vs n ws) storeAfter
+    actAfter (evaluatedOn who x vs n ws) (letAfter counts (rootS a))
+statementAct who counts (store i x y) vs n ws = actAfter (storedOn who x y vs n ws) storeAfter
 statementAct who counts (ifElse i x a b) vs n ws =
-    actAfter (evaluatedBy who x vs n ws) (chooseAfter counts (rootS a) (rootS b))
+    actAfter (evaluatedOn who x vs n ws) (chooseAfter counts (rootS a) (rootS b))
 statementAct who counts (while i x a) vs n ws =
-    actAfter (evaluatedBy who x vs n ws) (loopAfter counts (rootS a) i)
+    actAfter (evaluatedOn who x vs n ws) (loopAfter counts (rootS a) i)
 
 -- the item that the word is; the counts are without it
 unfoldable pub itemAct : List Frame → Who → Counts → ℕ → List ℕ → ℕ → List ℕ → ActResult

@@ -1,5 +1,6 @@
 //! Random cases, named by a seed and an index so that each can be repeated.
 
+mod accesses;
 mod build;
 mod choices;
 mod drawn;
@@ -123,12 +124,15 @@ enum Sort {
     Families,
     /// The same in one long chain of starters; refused with 8.
     Chain,
+    /// Many accesses in one step.
+    Accesses,
 }
 
 impl Sort {
     fn random(random: &mut Random) -> Sort {
         match random.below(220) {
-            0..=84 => Sort::Clean,
+            0..=76 => Sort::Clean,
+            77..=84 => Sort::Accesses,
             85..=136 => Sort::Slipping,
             137..=139 => Sort::Nest,
             140..=149 => Sort::Soup,
@@ -151,7 +155,7 @@ impl Sort {
         match self {
             Sort::Soup | Sort::SpendCells | Sort::SpendThreads | Sort::Doubling => Flavour::Long,
             Sort::LongRun => Flavour::NearBound,
-            Sort::Families | Sort::Chain if !random.chance(8) => Flavour::Bursts,
+            Sort::Families | Sort::Chain | Sort::Accesses if !random.chance(8) => Flavour::Bursts,
             _ => Flavour::random(random),
         }
     }
@@ -171,6 +175,7 @@ fn program(random: &mut Random, sort: Sort) -> Vec<u8> {
         Sort::Full => text(&special::full_or_over(random)),
         Sort::Families => text(&families::levels(random)),
         Sort::Chain => text(&families::chain(random)),
+        Sort::Accesses => text(&accesses::frames(random)),
         Sort::DamagedFrames => {
             let frames = build::frames(random, Plan::roomy);
             text(&mutate::frames(random, frames))

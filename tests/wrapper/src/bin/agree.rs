@@ -19,19 +19,9 @@ fn run(case: &Case, state: &mut [u64], answers: &mut [u64; 21]) -> Option<()> {
     let fresh = purkvaldi::fresh(text, state);
     let Reading::Readable(program, _) = Reading::new(text) else {
         let (number, frame) = purkvaldi::second_check(text);
-        return (fresh
-            == (Answer {
-                number,
-                detail: frame,
-            }))
-        .then_some(());
+        return (fresh == Answer::new(number, frame)).then_some(());
     };
-    (fresh
-        == Answer {
-            number: 0,
-            detail: 0,
-        })
-    .then_some(())?;
+    (fresh == Answer::new(0, 0)).then_some(())?;
     let choices = choices_of(case);
     let mut theirs = State::new(&program);
     for &choice in used(&program, &choices).iter().take(200) {
@@ -39,7 +29,9 @@ fn run(case: &Case, state: &mut [u64], answers: &mut [u64; 21]) -> Option<()> {
         let ours = purkvaldi::step(text, state, u64::from(choice));
         let outcome = theirs.step(&program, choice, &mut ());
         answers[usize::from(outcome.answer)] += 1;
-        let same = ours.number == outcome.answer && ours.detail == u16::from(outcome.thread);
+        let same = ours.number == outcome.answer
+            && ours.detail == u16::from(outcome.thread)
+            && ours.accesses == outcome.accesses;
         let kept = ours.number == 0 || state == &before[..];
         (same && kept && state[1] == theirs.cells.len() as u64).then_some(())?;
     }
@@ -53,10 +45,10 @@ fn at_once(case: &Case, state: &mut [u64]) -> bool {
     choices.truncate(200);
     let refused = purkvaldi::fresh(text, state);
     let mut words = state.to_vec();
-    let mut codes = vec![u32::MAX; choices.len()];
+    let mut codes = vec![u64::MAX; choices.len()];
     let answer = purkvaldi::steps(text, &mut words, &choices, &mut codes);
     if refused.number != 0 {
-        return answer == refused && words == state && codes.iter().all(|&code| code == u32::MAX);
+        return answer == refused && words == state && codes.iter().all(|&code| code == u64::MAX);
     }
     let same = choices.iter().zip(codes).all(|(&choice, code)| {
         purkvaldi::step(text, state, u64::from(choice)) == Answer::of_code(code)
@@ -90,6 +82,10 @@ fn garbage(text: &[u8], state: &mut [u64], seed: u64) -> bool {
         trial(&mut changed, next() % 90);
     }
     fine
+}
+
+fn hexadecimal(digits: &[u8]) -> usize {
+    usize::from_str_radix(std::str::from_utf8(digits).unwrap(), 16).unwrap()
 }
 
 /// What a writer answers with an output of this length, and the output, full of a byte before.
@@ -128,6 +124,7 @@ fn main() {
     let mut verdicts = [0u64; 14];
     let mut answers = [0u64; 21];
     let mut listed = [0u64; 21];
+    let mut most = 0;
     let mut arranged = Arranged::default();
     let (mut cases, mut differences) = (0u64, 0u64);
     while Instant::now() < end {
@@ -140,7 +137,7 @@ fn main() {
             verdicts[usize::from(ours.0) % 14] += 1;
             // A listing answers the text's refusal 1 to 7; 8 to 13 stop none.
             let (number, detail) = if theirs.0 <= 7 { theirs } else { (0, 0) };
-            let answer = Answer { number, detail };
+            let answer = Answer::new(number, detail);
             if ours != theirs {
                 differences += 1;
                 println!("seed {seed} case {cases}: {ours:?}, the second program {theirs:?}");
@@ -151,9 +148,13 @@ fn main() {
                 differences += 1;
                 println!("seed {seed} case {cases}: another listing");
             }
-            for line in theirs.split(|b| *b == b'\n').filter(|l| l.len() == 13) {
-                let digits = std::str::from_utf8(&line[3..5]).unwrap();
-                listed[usize::from_str_radix(digits, 16).unwrap()] += 1;
+            for line in theirs.split(|b| *b == b'\n') {
+                let fields: Vec<&[u8]> = line.split(|b| *b == b' ').collect();
+                // Only a choice's line has five fields; the last is its accesses.
+                if let [_, answer, _, _, accesses] = fields[..] {
+                    listed[hexadecimal(answer)] += 1;
+                    most = most.max(hexadecimal(accesses));
+                }
             }
             let drawn = second::generate::drawn(seed, cases);
             arranged.add(&second::listing::arrange(&drawn.program));
@@ -184,7 +185,7 @@ fn main() {
     println!("{cases} texts, {differences} differences; verdicts 0 to 13: {verdicts:?}");
     println!("drawn files, {arranged}");
     println!(
-        "answers in the listings of runs, 0 and 15 to 20: {} {:?}",
+        "answers in the listings of runs, 0 and 15 to 20: {} {:?}; at most {most} accesses in a step",
         listed[0],
         &listed[15..]
     );

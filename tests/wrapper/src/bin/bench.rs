@@ -192,7 +192,7 @@ fn steps() {
             0
         );
     });
-    assert!(answers.iter().all(|code| code >> 16 == 0));
+    assert!(answers.iter().all(|code| (code >> 16) as u8 == 0));
     row("a step as one of many in a public call", batch, None);
 }
 

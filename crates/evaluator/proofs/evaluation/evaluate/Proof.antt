@@ -17,7 +17,7 @@ returns c =
     let one = c .before .before in
     let at = one .before .before .before .before in (
       eval-on (now (at .args .frames)) _ _ _ _ _ _ (at .pre .1 .variables)
-          (at .pre .1 .cells) (one .value-at .ensures .0),
+          (at .pre .1 .heap) (one .value-at .ensures .0),
       one .value-at .ensures .1,
     )
 

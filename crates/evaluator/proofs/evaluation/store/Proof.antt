@@ -52,7 +52,7 @@ returns c =
     let second =
     again-value fs _ _ w _ _
     (at .pre .2 .lent) (one .value-at .ensures .1) (two .value-at2 .ensures .0) in (
-      store-runs fs _ _ _ _ _ _ (at .pre .2 .variables) (at .pre .2 .cells) _ _ _ _
+      store-runs fs _ _ _ _ _ _ (at .pre .2 .variables) (at .pre .2 .heap) _ _ _ _
           (one .value-at .ensures .0) (arm .x .given .1) second (stored .then-store .ensures .0),
       stored .then-store .ensures .1 ∙ two .value-at2 .ensures .1 ∙ one .value-at .ensures .1,
     )
@@ -65,7 +65,7 @@ returns-2 c =
     let one = c .before .before .before .before in
     let at = one .before .before .before .before in (
       store-keeps (now (at .args .frames)) _ _ _ _ _ _ (at .pre .2 .variables)
-          (at .pre .2 .cells) (resultIn _ _) _
+          (at .pre .2 .heap) (resultIn _ _) _
           (one .value-at .ensures .0) (c .enum-told .given .1) tt,
       one .value-at .ensures .1,
     )
@@ -78,7 +78,7 @@ returns-3 c =
     let one = c .before .before .before .before in
     let at = one .before .before .before .before in (
       store-keeps (now (at .args .frames)) _ _ _ _ _ _ (at .pre .2 .variables)
-          (at .pre .2 .cells) (resultIn _ _) _
+          (at .pre .2 .heap) (resultIn _ _) _
           (one .value-at .ensures .0) (c .enum-told2 .given .1) tt,
       one .value-at .ensures .1,
     )
@@ -91,7 +91,7 @@ returns-4 c =
     let one = c .before .before .before .before in
     let at = one .before .before .before .before in (
       store-keeps (now (at .args .frames)) _ _ _ _ _ _ (at .pre .2 .variables)
-          (at .pre .2 .cells) (resultIn _ _) _
+          (at .pre .2 .heap) (resultIn _ _) _
           (one .value-at .ensures .0) (c .enum-told3 .given .1) tt,
       one .value-at .ensures .1,
     )

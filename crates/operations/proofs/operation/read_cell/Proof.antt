@@ -1,6 +1,8 @@
 -- `read_cell` meets its contract. Assumes nothing.
+use mathlib.Core.Path.{refl}
 use borrow.Author.Needs.{needs}
 use Rattle.operations.proofs.Operations.{read-none, read-is}
+use Rattle.operations.proofs.InState.{rest-kept}
 use Rattle.operations.proofs.operation.read_cell.Statement.{statement}
 use Rattle.operations.proofs.operation.read_cell.Tie as tie
 
@@ -8,13 +10,13 @@ enum-known-v : tie.Need-enum-known-v
 enum-known-v c = search needs
 
 returns : tie.Need-returns
-returns c = search read-none
+returns c = (search read-none, refl)
 
 cast-j : tie.Need-cast-j
 cast-j c = search needs
 
-shared-slice-read-used : tie.Need-shared-slice-read-used
-shared-slice-read-used c = search needs
+slice-read-count : tie.Need-slice-read-count
+slice-read-count c = search needs
 
 add-w : tie.Need-add-w
 add-w c = search needs
@@ -22,8 +24,11 @@ add-w c = search needs
 mul-w : tie.Need-mul-w
 mul-w c = search needs
 
-shared-slice-read-w : tie.Need-shared-slice-read-w
-shared-slice-read-w c = search needs
+slice-read-w : tie.Need-slice-read-w
+slice-read-w c = search needs
+
+cells-in-requires : tie.Need-cells-in-requires
+cells-in-requires c κs = search needs
 
 content-of-requires : tie.Need-content-of-requires
 content-of-requires c κs = search needs
@@ -31,8 +36,17 @@ content-of-requires c κs = search needs
 access-requires : tie.Need-access-requires
 access-requires c κs = search needs
 
+after-access-requires : tie.Need-after-access-requires
+after-access-requires c κs = search needs
+
+slice-write-state : tie.Need-slice-write-state
+slice-write-state c = search needs
+
+same-length : tie.Need-same-length
+same-length c = search needs
+
 returns-2 : tie.Need-returns-2
-returns-2 c = search read-is
+returns-2 c = (search (read-is, needs), search (rest-kept, needs))
 
 pub read-cell-spec : {M : Type 1} → statement M
 read-cell-spec =
@@ -41,10 +55,14 @@ read-cell-spec =
     enum-known-v
     returns
     cast-j
-    shared-slice-read-used
+    slice-read-count
     add-w
     mul-w
-    shared-slice-read-w
+    slice-read-w
+    cells-in-requires
     content-of-requires
     access-requires
+    after-access-requires
+    slice-write-state
+    same-length
     returns-2)

@@ -1,5 +1,4 @@
 -- `then_use` meets its contract. Assumes nothing.
-use mathlib.Core.Path.{refl}
 use borrow.Author.Needs.{needs}
 use Rattle.operations.proofs.Chains.{using-row}
 use Rattle.operations.proofs.operation.then_use.Statement.{statement}
@@ -27,7 +26,7 @@ same-length-2 : tie.Need-same-length-2
 same-length-2 c = search needs
 
 returns-2 : tie.Need-returns-2
-returns-2 c = (search using-row, refl)
+returns-2 c = (search using-row, search needs)
 
 pub then-use-spec : {M : Type 1} → statement M
 then-use-spec =

@@ -35,8 +35,8 @@ step-valid-requires c κs =
       start .numbers,
     )
 
-slice-read-choice-line : tie.Need-slice-read-choice-line Inv-loop μ-loop
-slice-read-choice-line c =
+slice-read-cells : tie.Need-slice-read-cells Inv-loop μ-loop
+slice-read-cells c =
     let step = c .before .before .before in
     let choice = step .before .before in
     let test = choice .before .before in
@@ -47,8 +47,8 @@ slice-read-choice-line c =
     (choice .choice-at .ensures) (p .1) (test .loop-test .taken) _ _ (step .step-valid .ensures) in
     omega arith
 
-cast-choice-line : tie.Need-cast-choice-line Inv-loop μ-loop
-cast-choice-line c =
+cast-cells : tie.Need-cast-cells Inv-loop μ-loop
+cast-cells c =
     let step = c .before .before .before in
     let choice = step .before .before in
     let test = choice .before .before in
@@ -114,8 +114,8 @@ step-lines-spec =
     choice-at-requires
     cast-step-valid
     step-valid-requires
-    slice-read-choice-line
-    cast-choice-line
+    slice-read-cells
+    cast-cells
     choice-line-requires
     mul-put
     add-put

@@ -1,8 +1,10 @@
 -- `step_valid` meets its contract. Assumes nothing.
+use mathlib.Core.Path.{ap, _∙_}
 use borrow.Author.Needs.{needs}
 use Rattle.stepper.proofs.GoodWords.{step-long, threads-few}
-use Rattle.stepper.proofs.PartyLaws.{acting-asks, acting-byte, acting-steps, nobody-steps}
-use Rattle.stepper.proofs.PartyLaws.{idle-place, idle-asks, idle-nothing, idle-done}
+use Rattle.stepper.proofs.PartyLaws.{acting-asks, acting-steps, nobody-steps, idle-place}
+use Rattle.stepper.proofs.PartyLaws.{idle-asks, idle-nothing, idle-done}
+use Rattle.stepper.proofs.PartyLaws.{answered}
 use Rattle.stepper.proofs.valid.step_valid.Statement.{statement}
 use Rattle.stepper.proofs.valid.step_valid.Tie as tie
 
@@ -12,59 +14,101 @@ acting-thread-requires c κs =
 
 turn-requires : tie.Need-turn-requires
 turn-requires c κs =
-    let p = c .before .before .before .before .before .before .pre in
-    let a = acting-asks _ _ _ (p .0) _ _ (p .1) _ (c .before .before .acting-thread .ensures) (c .before .if1 .taken) in
+    let test = c .before in
+    let acting = test .before in
+    let p = acting .before .before .before .before .pre in
+    let t = acting .acting-thread .ensures in
+    let a = acting-asks _ _ _ (p .0) _ _ (p .1) _ t (test .if1 .taken) in
     (p .0, a .0, a .1, a .2)
-
-cast-t12 : tie.Need-cast-t12
-cast-t12 c =
-    let p = c .before .before .before .before .before .before .before .before .before .pre in
-    record { fits = acting-byte _ _ _ (p .0) _ _ (p .1) _ (c .before .before .before .before .before .acting-thread .ensures) (c .before .before .before .before .if1 .taken) }
 
 same-length : tie.Need-same-length
 same-length c = search needs
 
 returns : tie.Need-returns
 returns c =
-    let p = c .before .before .before .before .before .before .before .before .before .pre in
-    acting-steps _ _ _ (p .0) _ _ (p .1) _ (c .before .before .before .before .before .acting-thread .ensures) (c .before .before .before .before .if1 .taken) _ _ (c .before .before .turn .ensures)
+    let turned = c .before .before in
+    let test = turned .before .before in
+    let acting = test .before in
+    let p = acting .before .before .before .before .pre in
+    acting-steps _ _ _ (p .0) _ _ (p .1) _ (acting .acting-thread .ensures) (test .if1 .taken)
+    _ (turned .turn .ensures)
 
 is-scheduler-in-file-requires : tie.Need-is-scheduler-in-file-requires
 is-scheduler-in-file-requires c κs = search needs
+
+nobody-requires : tie.Need-nobody-requires
+nobody-requires c κs = search needs
 
 same-length-2 : tie.Need-same-length-2
 same-length-2 c = search needs
 
 returns-2 : tie.Need-returns-2
 returns-2 c =
-    let p = c .before .before .before .before .before .before .before .pre in
-    nobody-steps _ _ _ (p .0) _ _ (p .1) _ (c .before .before .before .acting-thread .ensures) (c .before .before .if1 .left) _ (c .before .is-scheduler-in-file .ensures) (c .if2 .taken)
+    let asked = c .before .before in
+    let test = asked .before in
+    let acting = test .before in
+    let p = acting .before .before .before .before .pre in
+    answered _ _ _ _ (c .nobody .ensures)
+    (nobody-steps _ _ _ (p .0) _ _ (p .1) _ (acting .acting-thread .ensures) (test .if1 .left)
+    _ (asked .is-scheduler-in-file .ensures) (c .before .if2 .taken))
 
 known-requires : tie.Need-known-requires
 known-requires c κs =
-    let p = c .before .before .before .before .before .before .before .before .pre in
-    idle-place _ _ _ (p .0) _ _ (p .1) _ (c .before .before .before .before .acting-thread .ensures) (c .before .before .before .if1 .left) _ (c .before .before .is-scheduler-in-file .ensures) (c .before .if2 .left)
+    let asked = c .before .before in
+    let test = asked .before in
+    let acting = test .before in
+    let p = acting .before .before .before .before .pre in
+    idle-place _ _ _ (p .0) _ _ (p .1) _ (acting .acting-thread .ensures) (test .if1 .left)
+    _ (asked .is-scheduler-in-file .ensures) (c .before .if2 .left)
 
 end-instant-requires : tie.Need-end-instant-requires
 end-instant-requires c κs =
-    let p = c .before .before .before .before .before .before .before .before .before .pre in
-    idle-asks _ _ _ (p .0) _ _ (p .1) _ (c .before .before .before .before .before .acting-thread .ensures) (c .before .before .before .before .if1 .left) _ (c .before .before .before .is-scheduler-in-file .ensures) (c .before .before .if2 .left) _ (c .known .ensures)
+    let asked = c .before .before .before in
+    let test = asked .before in
+    let acting = test .before in
+    let p = acting .before .before .before .before .pre in
+    idle-asks _ _ _ (p .0) _ _ (p .1) _ (acting .acting-thread .ensures) (test .if1 .left)
+    _ (asked .is-scheduler-in-file .ensures) (c .before .before .if2 .left) _ (c .known .ensures)
+
+nobody-requires-2 : tie.Need-nobody-requires-2
+nobody-requires-2 c κs = search needs
 
 same-length-3 : tie.Need-same-length-3
 same-length-3 c = search needs
 
 returns-3 : tie.Need-returns-3
 returns-3 c =
-    let p = c .before .before .before .before .before .before .before .before .before .before .before .before .before .pre in
-    idle-nothing _ _ _ (p .0) _ _ (p .1) _ (c .before .before .before .before .before .before .before .before .before .acting-thread .ensures) (c .before .before .before .before .before .before .before .before .if1 .left) _ (c .before .before .before .before .before .before .before .is-scheduler-in-file .ensures) (c .before .before .before .before .before .before .if2 .left) _ (c .before .before .before .before .known .ensures) _ _ (c .before .before .before .end-instant .ensures .0) (c .before .before .before .end-instant .ensures .1) (c .if3 .taken)
+    let ended = c .before .before .before .before in
+    let place = ended .before in
+    let own = place .before .before in
+    let asked = own .before in
+    let test = asked .before in
+    let acting = test .before in
+    let p = acting .before .before .before .before .pre in
+    answered _ _ _ _ (c .nobody2 .ensures)
+    (idle-nothing _ _ _ (p .0) _ _ (p .1) _ (acting .acting-thread .ensures) (test .if1 .left)
+    _ (asked .is-scheduler-in-file .ensures) (own .if2 .left) _ (place .known .ensures)
+    _ _ (ended .end-instant .ensures .0) (ended .end-instant .ensures .1) (c .before .if3 .taken))
+
+nobody-requires-3 : tie.Need-nobody-requires-3
+nobody-requires-3 c κs = search needs
 
 same-length-4 : tie.Need-same-length-4
 same-length-4 c = search needs
 
 returns-4 : tie.Need-returns-4
 returns-4 c =
-    let p = c .before .before .before .before .before .before .before .before .before .before .before .before .before .pre in
-    idle-done _ _ _ (p .0) _ _ (p .1) _ (c .before .before .before .before .before .before .before .before .before .acting-thread .ensures) (c .before .before .before .before .before .before .before .before .if1 .left) _ (c .before .before .before .before .before .before .before .is-scheduler-in-file .ensures) (c .before .before .before .before .before .before .if2 .left) _ (c .before .before .before .before .known .ensures) _ _ (c .before .before .before .end-instant .ensures .0) (c .before .before .before .end-instant .ensures .1) (c .if3 .left)
+    let ended = c .before .before .before .before in
+    let place = ended .before in
+    let own = place .before .before in
+    let asked = own .before in
+    let test = asked .before in
+    let acting = test .before in
+    let p = acting .before .before .before .before .pre in
+    answered _ _ _ _ (c .nobody3 .ensures)
+    (idle-done _ _ _ (p .0) _ _ (p .1) _ (acting .acting-thread .ensures) (test .if1 .left)
+    _ (asked .is-scheduler-in-file .ensures) (own .if2 .left) _ (place .known .ensures)
+    _ _ (ended .end-instant .ensures .0) (ended .end-instant .ensures .1) (c .before .if3 .left))
 
 pub step-valid-spec : {M : Type 1} → statement M
 step-valid-spec =
@@ -72,15 +116,17 @@ step-valid-spec =
     (tie.spec
     acting-thread-requires
     turn-requires
-    cast-t12
     same-length
     returns
     is-scheduler-in-file-requires
+    nobody-requires
     same-length-2
     returns-2
     known-requires
     end-instant-requires
+    nobody-requires-2
     same-length-3
     returns-3
+    nobody-requires-3
     same-length-4
     returns-4)

@@ -52,7 +52,7 @@ evaluate-requires-2 c κs =
       record {
         lent = lent-again _ _ _ (words .lent) kept (first .kept .1 .1 .0);
         variables = values-again _ _ _ (words .lent) kept (words .variables);
-        cells = search cells-after;
+        heap = search cells-after;
       },
     )
 
