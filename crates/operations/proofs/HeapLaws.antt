@@ -1,11 +1,9 @@
 -- The word that counts cells and accesses: what the code's functions of it give, and what is left
 -- of either count after an access. Assumes nothing.
-use mathlib.Core.Path.{_≡_, refl, sym, ap, _∙_}
+use mathlib.Core.Path.{_≡_, refl}
 use Prim.Native.Nat.{ℕ, _+_, _*_, _/_, _%_, _^_, _<_, _≤_}
 use native.Mathlib.Omega.{arith}
-use Rattle.machine.specs.declared.value.Outcome.{Outcome}
 use Rattle.operations.specs.inner.Heaps.{cellsIn, accessesIn, heapWord, withAccess, withCell}
-use Rattle.operations.specs.inner.Heaps.{accessed}
 
 -- ---- as the code computes them
 pub cells-in : (h : ℕ) → h % 65536 ≡ cellsIn h
@@ -23,10 +21,6 @@ with-access h r e = e
 pub with-cell : (h r : ℕ) → r ≡ (h + 65537) % 2 ^ 64 → r ≡ withCell h
 unfolding withCell
 with-cell h r e = e
-
--- each arm of the match on an outcome
-pub access-row : (o p : Outcome) (h r : ℕ) → o ≡ p → r ≡ accessed p h → r ≡ accessed o h
-access-row o p h r e q = q ∙ ap (λ (x : Outcome). accessed x h) (sym e)
 
 -- ---- either count after an access
 pub access-cells : (h : ℕ) → cellsIn (withAccess h) ≡ cellsIn h

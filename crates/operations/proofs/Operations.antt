@@ -19,12 +19,12 @@ use Rattle.machine.specs.declared.value.Outcome.the-variants.{Is, Foreign, Spen
 use Rattle.operations.specs.declared.Who.{Who}
 use Rattle.operations.specs.inner.Lent.{lentCount, lentCells}
 use Rattle.operations.specs.inner.Results.{Result, result, resultIn, andThenIn}
-use Rattle.operations.specs.inner.Heaps.{cellsIn, withAccess, withCell, accessed}
+use Rattle.operations.specs.inner.Heaps.{cellsIn, withAccess, withCell}
 use Rattle.operations.specs.inner.ByWords.{valueIn, ownerIn, contentIn, cellWordOf, ownIn}
 use Rattle.operations.specs.inner.ByWords.{newOwnerIn, variableIn, sharedIn, leafIn, makeIn}
-use Rattle.operations.specs.inner.ByWords.{accessIn, readIn, accessedBy, readingIn, putWordIn}
-use Rattle.operations.specs.inner.ByWords.{storeIn}
-use Rattle.operations.proofs.InState.{cell-at, put-in, new-in, counted-in, cells-kept}
+use Rattle.operations.specs.inner.ByWords.{accessIn, readIn, accessedBy, accessingIn, readingIn}
+use Rattle.operations.specs.inner.ByWords.{putWordIn, storeIn}
+use Rattle.operations.proofs.InState.{cell-at, put-in, new-in, counted-in}
 use Rattle.operations.proofs.Told.{IsRefusal, IsNoCell, a-cell}
 use Rattle.operations.proofs.Chains.{then-refused, then-is}
 
@@ -161,88 +161,84 @@ module _ (who : Who) (s o : ℕ) (v : Value) (w : List ℕ) (b : Bool)
       ∙ ap (λ (i : ℕ). result Foreign i (lentCells w)) ek
       ∙ no _ (own-new t) refl
 
--- ---- an access: n cells are in use, o is the owner in the cell's word w
-module _ (who : Who) (c n w : ℕ) (v : Value) where
-  pub access-missing : n ≤ c → Stuck ≡ accessIn who c n w v
-  unfolding accessIn
-  access-missing h = yes _ (le-leb n c h) refl
-
-  module _ (o : ℕ) (own : Bool) (eo : o ≡ ownerIn w) (ew : own ≡ ownIn who o) where
-    owned : {b : Bool} → not own ≡ b → not (ownIn who (ownerIn w)) ≡ b
-    owned e = ap not (sym (ew ∙ ap (ownIn who) eo)) ∙ e
-
-    pub access-foreign : c < n → not own ≡ true → Foreign ≡ accessIn who c n w v
-    unfolding accessIn
-    access-foreign h t = no _ (lt-leb n c h) (yes _ (owned t) refl)
-
-    pub access-is : c < n → not own ≡ false → Is v ≡ accessIn who c n w v
-    unfolding accessIn
-    access-is h t = no _ (lt-leb n c h) (no _ (owned t) refl)
-
--- ---- an access to cell c in the state's words w, where n cells are in use: o is what it comes to,
--- and k the count after it
-module _ (who : Who) (v u : Value) (c n k : ℕ) (w : List ℕ) (o : Outcome) (ev : v ≡ Cell c)
-    (en : n ≡ cellsIn (getD w cellCountAt 0)) (ek : k ≡ accessed o (getD w cellCountAt 0))
-    (eo : o ≡ accessIn who c n (getD w (cellsAt + c) 0) u) (long : length w ≡ stateLength) where
+-- ---- an access to cell c in the state's words w, where n cells are in use
+module _ (who : Who) (c n : ℕ) (v : Value) (w : List ℕ)
+    (en : n ≡ cellsIn (getD w cellCountAt 0)) where
   abbrev count : ℕ
   count = getD w cellCountAt 0
 
-  outcome-is : o ≡ accessIn who c (cellsIn (getD w cellCountAt 0)) (getD (lentCells w) c 0) u
-  outcome-is =
-      eo
-      ∙ ap (λ (i : ℕ). accessIn who c i (getD w (cellsAt + c) 0) u) en
-      ∙ ap (λ (y : ℕ). accessIn who c (cellsIn count) y u) (cell-at w c)
+  abbrev word : ℕ
+  word = getD (lentCells w) c 0
 
-  -- with the access counted
-  accessed-in : resultIn o (set w cellCountAt k) ≡ accessedBy o (lentCount w) (lentCells w)
-  unfolding lentCount
-  accessed-in = counted-in w o k long ∙ ap (λ (i : ℕ). result o i (lentCells w)) ek
+  pub access-missing : n ≤ c → resultIn Stuck w ≡ accessingIn who c v (lentCount w) (lentCells w)
+  unfolding accessIn lentCount
+  access-missing h =
+      ap (λ (p : Outcome). accessedBy p count (lentCells w))
+      (yes _ (le-leb (cellsIn count) c (omega arith)) refl)
 
-  -- ---- a cell read
-  pub read-is : u ≡ contentIn (getD w (cellsAt + c) 0)
-      → resultIn o (set w cellCountAt k) ≡ readingIn who v (lentCount w) (lentCells w)
-  unfolding readIn lentCount
-  read-is eu =
-      let at = getD (lentCells w) c 0 in
-      accessed-in
-      ∙ ap (λ (p : Outcome). accessedBy p (lentCount w) (lentCells w))
-      (outcome-is
-      ∙ ap (accessIn who c (cellsIn count) at) (eu ∙ ap contentIn (cell-at w c))
-      ∙ ap (λ (x : Value). readIn who x count (lentCells w)) (sym ev))
+  -- o is the owner in the cell's word, k the count with the access
+  module _ (o k : ℕ) (own : Bool) (eo : o ≡ ownerIn (getD w (cellsAt + c) 0))
+      (ew : own ≡ ownIn who o) (ek : k ≡ withAccess (getD w cellCountAt 0))
+      (long : length w ≡ stateLength) (used : c < n) where
+    owned : {b : Bool} → not own ≡ b → not (ownIn who (ownerIn word)) ≡ b
+    owned e =
+        ap not (sym (ew ∙ ap (ownIn who) (eo ∙ ap ownerIn (cell-at w c)))) ∙ e
 
-  -- ---- a cell stored in
-  store-at : andThenIn (accessedBy o (lentCount w) (lentCells w)) (putWordIn c)
+    counted-as : (p : Outcome) → resultIn p (set w cellCountAt k)
+        ≡ result p (withAccess (getD w cellCountAt 0)) (lentCells w)
+    counted-as p = counted-in w p k long ∙ ap (λ (i : ℕ). result p i (lentCells w)) ek
+
+    pub access-foreign : not own ≡ true
+        → resultIn Foreign (set w cellCountAt k) ≡ accessingIn who c v (lentCount w) (lentCells w)
+    unfolding accessIn lentCount
+    access-foreign t =
+        counted-as Foreign
+        ∙ ap (λ (p : Outcome). accessedBy p count (lentCells w))
+        (no _ (lt-leb (cellsIn count) c (omega arith)) (yes _ (owned t) refl))
+
+    pub access-is : not own ≡ false
+        → resultIn (Is v) (set w cellCountAt k) ≡ accessingIn who c v (lentCount w) (lentCells w)
+    unfolding accessIn lentCount
+    access-is t =
+        counted-as (Is v)
+        ∙ ap (λ (p : Outcome). accessedBy p count (lentCells w))
+        (no _ (lt-leb (cellsIn count) c (omega arith)) (no _ (owned t) refl))
+
+-- ---- a cell read and stored in: r is what the access to cell c comes to
+module _ (who : Who) (v u : Value) (c : ℕ) (w : List ℕ) (ev : v ≡ Cell c) where
+  pub read-is : (r : Result) → u ≡ contentIn (getD w (cellsAt + c) 0)
+      → r ≡ accessingIn who c u (lentCount w) (lentCells w)
+      → r ≡ readingIn who v (lentCount w) (lentCells w)
+  unfolding readIn
+  read-is r eu er =
+      er
+      ∙ ap (λ (x : Value). accessingIn who c x (lentCount w) (lentCells w))
+      (eu ∙ ap contentIn (cell-at w c))
+      ∙ ap (λ (x : Value). readingIn who x (lentCount w) (lentCells w)) (sym ev)
+
+  store-at : andThenIn (accessingIn who c u (lentCount w) (lentCells w)) (putWordIn c)
       ≡ storeIn who v u (lentCount w) (lentCells w)
-  unfolding storeIn lentCount
-  store-at =
-      ap (λ (p : Outcome). andThenIn (accessedBy p count (lentCells w)) (putWordIn c)) outcome-is
-      ∙ ap (λ (y : Value). storeIn who y u count (lentCells w)) (sym ev)
+  unfolding storeIn
+  store-at = ap (λ (y : Value). storeIn who y u (lentCount w) (lentCells w)) (sym ev)
 
   -- a refusal changes no cell
-  pub store-refused : IsRefusal o
-      → resultIn o (set w cellCountAt k) ≡ storeIn who v u (lentCount w) (lentCells w)
-  store-refused h =
-      then-refused (resultIn o (set w cellCountAt k)) (putWordIn c) h
-      ∙ ap (λ (r : Result). andThenIn r (putWordIn c)) accessed-in
-      ∙ store-at
+  pub store-refused : (r : Result) → r ≡ accessingIn who c u (lentCount w) (lentCells w)
+      → IsRefusal (r .outcome) → r ≡ storeIn who v u (lentCount w) (lentCells w)
+  store-refused r er h =
+      then-refused r (putWordIn c) h ∙ ap (λ (x : Result). andThenIn x (putWordIn c)) er ∙ store-at
 
-  -- y is the cell's word after the store
-  pub store-is : (x : Value) (y : ℕ) → o ≡ Is x
-      → y ≡ cellWordOf (ownerIn (getD w (cellsAt + c) 0)) x
-      → resultIn (Is x) (set (set w cellCountAt k) (cellsAt + c) y)
-      ≡ storeIn who v u (lentCount w) (lentCells w)
-  store-is x y ex ey =
-      let v = set w cellCountAt k in
-      put-in v (Is x) c y
-      ∙ ap (λ (z : ℕ). result (Is x) (lentCount v) (set (lentCells v) c z))
-      (ey ∙ ap (λ (z : ℕ). cellWordOf (ownerIn z) x) (cell-at w c ∙ same))
-      ∙ then-is (resultIn o v) x (putWordIn c) _ ex refl
-      ∙ ap (λ (r : Result). andThenIn r (putWordIn c)) accessed-in
+  -- a are the words after the access, y is the cell's word after the store
+  pub store-is : (o : Outcome) (x : Value) (y : ℕ) (a : List ℕ)
+      → resultIn o a ≡ accessingIn who c u (lentCount w) (lentCells w) → o ≡ Is x
+      → y ≡ cellWordOf (ownerIn (getD a (cellsAt + c) 0)) x
+      → resultIn (Is x) (set a (cellsAt + c) y) ≡ storeIn who v u (lentCount w) (lentCells w)
+  store-is o x y a er ex ey =
+      put-in a (Is x) c y
+      ∙ ap (λ (z : ℕ). result (Is x) (lentCount a) (set (lentCells a) c z))
+      (ey ∙ ap (λ (z : ℕ). cellWordOf (ownerIn z) x) (cell-at a c))
+      ∙ then-is (resultIn o a) x (putWordIn c) _ ex refl
+      ∙ ap (λ (r : Result). andThenIn r (putWordIn c)) er
       ∙ store-at
-    where
-      -- the count is no cell
-      same : getD (lentCells w) c 0 ≡ getD (lentCells (set w cellCountAt k)) c 0
-      same = ap (λ (ws : List ℕ). getD ws c 0) (sym (cells-kept w k))
 
 pub read-none : (who : Who) (v : Value) (n : ℕ) (ws : List ℕ) → IsNoCell v
     → result Stuck n ws ≡ readingIn who v n ws

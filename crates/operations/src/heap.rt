@@ -1,10 +1,8 @@
 // The word that counts the cells. Within a turn it counts the accesses too, above its low 16 bits,
 // so that no other word is lent to an evaluation and its recursion passes nothing more on; whoever
 // ends the turn takes them out.
-use machine::value::Outcome;
 ghost use mathlib.Core.Path.{_≡_};
 ghost use Rattle.operations.specs.inner.Heaps.{cellsIn, accessesIn, withAccess, withCell};
-ghost use Rattle.operations.specs.inner.Heaps.{accessed};
 
 // What one access adds.
 const ACCESS: u64 = 0x0001_0000;
@@ -32,16 +30,4 @@ pub(crate) fn with_cell(count: u64) -> u64
     ensures { λ r. ⌜ r ≡ withCell count ⌝ }
 {
     std::num::wrapping_add_u64(count, ACCESS + 1)
-}
-
-// After an access that came to that: a cell that is not there is none.
-pub(crate) fn after_access(o: Outcome, count: u64) -> u64
-    ensures { λ r. ⌜ r ≡ accessed o count ⌝ }
-{
-    match o {
-        Outcome::Is(v) => with_access(count),
-        Outcome::Foreign => with_access(count),
-        Outcome::Spent => with_access(count),
-        Outcome::Stuck => count,
-    }
 }

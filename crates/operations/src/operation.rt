@@ -4,7 +4,6 @@ use crate::cell::content_of;
 use crate::cell::owner_of;
 use crate::cell::value_of;
 use crate::cell::with_content;
-use crate::heap::after_access;
 use crate::heap::cells_in;
 use crate::heap::with_access;
 use crate::heap::with_cell;
@@ -25,7 +24,7 @@ ghost use Rattle.machine.specs.Offsets.{stateLength};
 ghost use Rattle.operations.specs.inner.Lent.{lentCount, lentCells, lentRest};
 ghost use Rattle.operations.specs.inner.Results.{resultIn, andThenIn};
 ghost use Rattle.operations.specs.inner.ByWords.{ownIn, newOwnerIn, variableIn};
-ghost use Rattle.operations.specs.inner.ByWords.{sharedIn, leafIn, accessIn};
+ghost use Rattle.operations.specs.inner.ByWords.{sharedIn, leafIn, accessingIn};
 ghost use Rattle.operations.specs.inner.ByWords.{readingIn, makeIn, usingIn};
 ghost use Rattle.operations.specs.inner.ByWords.{storeIn};
 
@@ -113,13 +112,20 @@ fn make_cell(who: Who, s: Place, v: Value, state: &mut [u64]) -> Outcome
     Outcome::Foreign
 }
 
-// v where the cell is in use and one's own: 20 is tested before 19. w is the cell's word.
-fn access(who: Who, j: usize, used: usize, w: u64, v: Value) -> Outcome
-    ensures { λ r. ⌜ r ≡ accessIn who j used w v ⌝ }
+// An access to cell c, counted: v where the cell is in use and one's own. 20 is tested before 19.
+fn access(who: Who, c: u8, v: Value, state: &mut [u64]) -> Outcome
+    requires { ⌜ length (now state) ≡ stateLength ⌝ }
+    ensures found { λ r. ⌜ resultIn r (now (state .exit)) ≡ accessingIn who c v
+        (lentCount (now (state .entry))) (lentCells (now (state .entry))) ⌝ }
+    ensures rest { λ _. ⌜ lentRest (now (state .exit)) ≡ lentRest (now (state .entry)) ⌝ }
 {
-    if used <= j {
+    let j = c as usize;
+    let count = state[CELL_COUNT_AT];
+    if cells_in(count) <= j {
         return Outcome::Stuck;
     }
+    let w = state[CELLS_AT + j];
+    state[CELL_COUNT_AT] = with_access(count);
     if !is_own(who, owner_of(w)) {
         return Outcome::Foreign;
     }
@@ -136,12 +142,8 @@ fn read_cell(who: Who, v: Value, state: &mut [u64]) -> Outcome
     let Value::Cell(c) = v else {
         return Outcome::Stuck;
     };
-    let j = c as usize;
-    let count = state[CELL_COUNT_AT];
-    let w = state[CELLS_AT + j];
-    let content = access(who, j, cells_in(count), w, content_of(w));
-    state[CELL_COUNT_AT] = after_access(content, count);
-    content
+    let content = content_of(state[CELLS_AT + c as usize]);
+    access(who, c, content, state)
 }
 
 // 17: the cell takes any value and keeps its owner.
@@ -154,15 +156,13 @@ fn store_cell(who: Who, v: Value, u: Value, state: &mut [u64]) -> Outcome
     let Value::Cell(c) = v else {
         return Outcome::Stuck;
     };
-    let i = c as usize;
-    let count = state[CELL_COUNT_AT];
-    let w = state[CELLS_AT + i];
-    let o = access(who, i, cells_in(count), w, u);
-    state[CELL_COUNT_AT] = after_access(o, count);
+    let o = access(who, c, u, state);
     let Outcome::Is(x) = o else {
         return o;
     };
-    state[CELLS_AT + i] = with_content(w, x);
+    let i = CELLS_AT + c as usize;
+    let w = state[i];
+    state[i] = with_content(w, x);
     Outcome::Is(x)
 }
 

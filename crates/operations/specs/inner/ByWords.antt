@@ -92,6 +92,10 @@ readIn who (Truth b) n ws = Stuck
 abbrev pub accessedBy : Outcome → ℕ → List ℕ → Result
 accessedBy o n ws = result o (accessed o n) ws
 
+-- an access to cell c for the value v, counted
+abbrev pub accessingIn : Who → ℕ → Value → ℕ → List ℕ → Result
+accessingIn who c v n ws = accessedBy (accessIn who c (cellsIn n) (getD ws c 0) v) n ws
+
 abbrev pub readingIn : Who → Value → ℕ → List ℕ → Result
 readingIn who v n ws = accessedBy (readIn who v n ws) n ws
 
@@ -106,7 +110,7 @@ putWordIn c v n ws = result (Is v) n (set ws c (cellWordOf (ownerIn (getD ws c 0
 -- only where the access is allowed: a refusal changes nothing
 unfoldable pub storeIn : Who → Value → Value → ℕ → List ℕ → Result
 storeIn who (Cell c) v n ws =
-    andThenIn (accessedBy (accessIn who c (cellsIn n) (getD ws c 0) v) n ws) (putWordIn c)
+    andThenIn (accessingIn who c v n ws) (putWordIn c)
 storeIn who (Number m) v n ws = result Stuck n ws
 storeIn who (Truth b) v n ws = result Stuck n ws
 
