@@ -11,7 +11,7 @@
  * No two buffers overlap. A pointer whose length is 0 is not looked at and may be null. No pointer
  * is kept after the call.
  *
- * Stack, measured and not proved: at most 15,308 bytes below a call (purkvaldi_run on a file 24
+ * Stack, measured and not proved: at most 15,312 bytes below a call (purkvaldi_run on a file 24
  * deep); 16 KB are enough. */
 #ifndef PURKVALDI_H
 #define PURKVALDI_H
@@ -25,7 +25,7 @@ extern "C" {
 
 /* The words of a state, and the bytes of the longest listing, for buffers of fixed size;
  * purkvaldi_state_length() and purkvaldi_listing_length() give the same numbers. */
-#define PURKVALDI_STATE_WORDS 4818
+#define PURKVALDI_STATE_WORDS 4834
 #define PURKVALDI_LISTING_BYTES 311309
 
 /* A code: the number of document 01 above 16 bits, 0 where nothing is refused; below them the frame
@@ -34,7 +34,8 @@ extern "C" {
 #define PURKVALDI_DETAIL(code) ((code) & 0xFFFFu)
 
 /* What a step gives: its code, and how many cells it read, stored in and made, in all at most 4
- * hexadecimal digits; 0 of a choice that is refused, whatever it read before. */
+ * hexadecimal digits; 0 of a choice that is refused, whatever it read before. Generating or
+ * awaiting an event counts nothing. */
 #define PURKVALDI_STEP_CODE(answer) ((uint32_t)((answer) & 0xFFFFFFFFu))
 #define PURKVALDI_ACCESSES(answer) ((uint32_t)((answer) >> 32))
 

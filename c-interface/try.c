@@ -16,6 +16,11 @@ static const char twice[] = "0001000000010000\n0102000100000000\n230000000000000
                             "2300000000000000\n2500000300000000\n2300000000000000\n"
                             "2500000500000000\n2600000400060000\n1700000200070000\n"
                             "0200000800000000\n";
+/* main awaits home's one event, which nobody generates */
+static const char awaits[] = "0001000000010001\n0302000000000000\n1B00000000000000\n"
+                             "0200000200000000\n";
+/* The events' flags begin here (docs/STATE.md), and thread 1 awaits event 0 as such an entry. */
+enum { EVENTS = 4562, AWAITING = 16385 };
 static uint64_t state[WORDS + 1];
 static uint64_t before[WORDS + 1];
 static uint8_t out[OUT + 1];
@@ -183,6 +188,27 @@ int main(void)
     expect("no party among many", answers[1], 0x0F0000);
     expect("an end among many", answers[2], 0x000001);
     expect("fresh of three lines", purkvaldi_fresh(text, length, state, WORDS), 0);
+
+    /* an await: of an absent event, ready at the instant's end; then of a present one */
+    text = (const uint8_t *)awaits;
+    length = sizeof awaits - 1;
+    expect("check of an await", purkvaldi_check(text, length), 0);
+    expect("fresh of an await", purkvaldi_fresh(text, length, state, WORDS), 0);
+    expect("an await", purkvaldi_step(text, length, state, WORDS, 2), 0x000001);
+    expect("its entry, alone in the next list", state[67] == 1 ? state[68] : 0, AWAITING);
+    expect("an instant's end", purkvaldi_step(text, length, state, WORDS, 2), 0x000000);
+    state[EVENTS] = 2;
+    expect("a flag over 1", purkvaldi_step(text, length, state, WORDS, 2), 0x0E0000);
+    state[EVENTS] = 1;
+    state[EVENTS + 1] = 1;
+    expect("the flag of no event", purkvaldi_step(text, length, state, WORDS, 2), 0x0E0000);
+    state[EVENTS + 1] = 0;
+    expect("an await that passes", purkvaldi_step(text, length, state, WORDS, 2), 0x000001);
+    expect("its event stays present", state[EVENTS], 1);
+    expect("the end after an await", purkvaldi_step(text, length, state, WORDS, 2), 0x000001);
+    text = (const uint8_t *)three;
+    length = sizeof three - 1;
+    expect("fresh of three lines again", purkvaldi_fresh(text, length, state, WORDS), 0);
 
     /* many choices in one call: what a call for each gives, whether it is done or refused */
     unstepped("choices with too few answers", text, length, WORDS, 2, 0x0E0000);

@@ -12,13 +12,15 @@ pub struct Arguments {
 
 // What becomes of the thread: refused with that number; it stays first in its list; it leaves it
 // for none, since it has ended or is unlinked; it joins the next list of that scheduler; it starts
-// that module with those arguments, and waits for it or not.
+// that module with those arguments, and waits for it or not; it generates that event, or awaits it.
 pub enum Transition {
     Refused(u8),
     Stays,
     Leaves,
     Joins(Place),
     Starts(bool, u8, Arguments),
+    Generates(u8),
+    Awaits(u8),
 }
 
 // What else changes in the thread, once its top item is off its continuation: nothing; one item

@@ -15,7 +15,7 @@ use Rattle.program.specs.Programs.{programOf}
 use Rattle.layout.specs.Faults.{NoFault}
 use Rattle.layout.proofs.AfterLayout.{text-fine}
 use Rattle.checker.specs.Verdict.{HasVerdict}
-use Rattle.machine.specs.Accesses.{Access, Own}
+use Rattle.machine.specs.Accesses.{Own, OwnSignal}
 use Rattle.machine.specs.Turns.{StepResult, accessCount}
 use Rattle.machine.specs.Runs.{steps, stateAfter, answers}
 use Rattle.machine.specs.Fresh.{fresh}
@@ -25,14 +25,15 @@ use Rattle.machine.proofs.CallRuns.{asCalled, calls-are, fresh-called, words-ar
 use Rattle.machine.proofs.Lists.{all-imply}
 use Rattle.reach.proofs.Fits.{fits}
 use Rattle.safety.specs.Safety.{Sound, NoPrivateInPublic, Apart}
-use Rattle.safety.specs.Accepted.{stateOf, accessesUnder, accessesAlong}
-use Rattle.safety.specs.inner.Calls.{accessesFrom, SafeCalls}
+use Rattle.safety.specs.Accepted.{stateOf, under, along}
+use Rattle.safety.specs.inner.Calls.{SafeCalls}
 use Rattle.safety.proofs.Accepted.{accepted-safe, accepted-calls-safe}
 use Rattle.stepper.specs.declared.answer.Answer.the-variants as A
 use Rattle.stepper.specs.Answers.{answerNumber, answerTo, TextResult, textResult, asTextResult, freshText}
 use Rattle.stepper.specs.Answers.{stepText}
 use Rattle.stepper.proofs.AnswerLaws.{number-back, done-0}
 use Rattle.assured.specs.TextCalls.{Plain, textCallsFrom, textWordsFrom, textAccessesFrom}
+use Rattle.assured.specs.TextCalls.{textSignalsFrom}
 use Rattle.assured.specs.TextCalls.{SafeTexts, AcceptedTextsSafe, TextsNever14}
 use Rattle.machine.proofs.Numbers.{StepNumber, is-0, is-15, is-16, is-17, is-18, is-19, is-20}
 use Rattle.machine.proofs.Numbers.{Numbered, all-numbered}
@@ -97,15 +98,19 @@ module _ (bs : List ℕ) (read : Reads bs (frames (textFrames bs))) (fine : NoFa
       ap (λ (x : TextResult). textWordsFrom bs (x .words) cs) (step-is w c)
       ∙ words-are (stepCall fs w c .words) cs
 
-  accesses-are : (w cs : List ℕ) → textAccessesFrom bs w cs ≡ accessesFrom fs w cs
-  unfolding accessesAlong
-  accesses-are w [] = refl
-  accesses-are w (c ∷ cs) =
-      ap (λ (x : List Access). accessesUnder fs w c ++ x)
-      (ap (λ (x : TextResult). textAccessesFrom bs (x .words) cs) (step-is w c) ∙ accesses-are (stepCall fs w c .words) cs)
+  -- what was made under the calls, accesses to cells or to events
+  made-are : {A : Type 0} (made : StepResult → List A) (w cs : List ℕ)
+      → along made fs (λ v c. stepText bs v c .words) w cs
+      ≡ along made fs (λ v c. stepCall fs v c .words) w cs
+  unfolding along
+  made-are made w [] = refl
+  made-are {A} made w (c ∷ cs) =
+      ap (λ (x : List A). under made fs w c ++ x)
+      (ap (λ (x : TextResult). along made fs (λ v d. stepText bs v d .words) (x .words) cs)
+      (step-is w c) ∙ made-are made (stepCall fs w c .words) cs)
 
   -- from the fresh call on
-  module _ (w cs : List ℕ) (long : length w ≡ 4818) where
+  module _ (w cs : List ℕ) (long : length w ≡ 4834) where
     first : freshText bs w .words ≡ freshCall fs w .words
     first = ap (λ (x : TextResult). x .words) (fresh-is w)
 
@@ -135,7 +140,16 @@ module _ (bs : List ℕ) (read : Reads bs (frames (textFrames bs))) (fine : NoFa
           ap (λ (x : TextResult). x .answer) (fresh-is w)
           ∙ ap (λ (r : CallResult). answerTo (r .answer) (r .thread) (r .accesses)) (fresh-called fs w long)
           ∙ sym done-0;
-      accessed = subst (All Own) (sym (ap (λ (v : List ℕ). textAccessesFrom bs v cs) first ∙ accesses-are (freshCall fs w .words) cs)) (safe .accessed);
+      accessed =
+          subst (All Own)
+          (sym (ap (λ (v : List ℕ). textAccessesFrom bs v cs) first
+          ∙ made-are (λ (r : StepResult). r .accesses) (freshCall fs w .words) cs))
+          (safe .accessed);
+      signalled =
+          subst (All OwnSignal)
+          (sym (ap (λ (v : List ℕ). textSignalsFrom bs v cs) first
+          ∙ made-are (λ (r : StepResult). r .signals) (freshCall fs w .words) cs))
+          (safe .signalled);
       answered = numbers Plain (plain-steps (steps (programOf fs) cs) (all-numbered (programOf fs) (fresh (programOf fs)) cs) sound);
       words = subst (λ (v : List ℕ). v ≡ pack (stateOf fs v)) (sym left) (safe .words);
       public = subst (λ (v : List ℕ). NoPrivateInPublic (stateOf fs v)) (sym left) (safe .public);
@@ -149,7 +163,7 @@ accepted-texts-safe bs (HasVerdict.accepted (Reads.whole a b c) h k) w cs e =
     (accepted-safe bs v cs .answered)
 
 never-14 : {bs : List ℕ} {fs : List Frame} → Reads bs (frames fs) → NoFault fs → (w cs : List ℕ)
-    → length w ≡ 4818
+    → length w ≡ 4834
     → All (λ (r : TextResult). answerNumber (r .answer) ≢ 14)
     (textCallsFrom bs (freshText bs w .words) cs)
 never-14 {bs} (Reads.whole a b c) h w cs e =

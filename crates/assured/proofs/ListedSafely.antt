@@ -97,13 +97,13 @@ module _ (bs : List ℕ) (read : Reads bs (frames (textFrames bs))) (fine : NoFa
       (sym (text-fine (λ n j. Rejected n j) (λ gs. rulesOf (programOf gs)) bs fs read fine))
       ∙ rules-run fs (some-frame read refl) fine
 
-  module _ (bytes w out : List ℕ) (e : length w ≡ 4818) (f : length out ≡ 311309) where
+  module _ (bytes w out : List ℕ) (e : length w ≡ 4834) (f : length out ≡ 311309) where
     whole : listText bs bytes w out ≡ wholeListing (A.Done 0 0) (verdict bs) fs bytes w out
     unfolding listText
     whole =
         ap (byLayout bs bytes w out) (sym (layout-only {v = LayoutVerdict.LaidOut} (HasLayout.layout {v = LayoutVerdict.LaidOut} read fine)))
-        ∙ if-yes _ _ (and-both (eqb (length w) 4818) (eqb (length out) 311309)
-        (eq-eqb (length w) 4818 e) (eq-eqb (length out) 311309 f))
+        ∙ if-yes _ _ (and-both (eqb (length w) 4834) (eqb (length out) 311309)
+        (eq-eqb (length w) 4834 e) (eq-eqb (length out) 311309 f))
 
     module _ (cs : List ℕ) (few : length bytes ≤ 49152) (is : choicesFrom 0 bytes ≡ choices cs) where
       pub listed-is : listText bs bytes w out
@@ -128,7 +128,7 @@ module _ (bs : List ℕ) (read : Reads bs (frames (textFrames bs))) (fine : NoFa
 
 by-reading : {bs : List ℕ} {fs : List Frame} → Reads bs (frames fs) → NoFault fs
     → (bytes cs : List ℕ) → length bytes ≤ 49152 → choicesFrom 0 bytes ≡ choices cs
-    → (w out : List ℕ) → length w ≡ 4818 → length out ≡ 311309
+    → (w out : List ℕ) → length w ≡ 4834 → length out ≡ 311309
     → let used = usedOf (programOf fs) cs in
     (listText bs bytes w out .used ≡ used)
     × (listText bs bytes w out .words ≡ wordsLeft bs w (take used cs))

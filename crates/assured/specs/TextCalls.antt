@@ -7,13 +7,13 @@ use Rattle.language.specs.declared.verdict.Verdict.the-variants.{Accepted}
 use Rattle.language.specs.Refusals.{wrongState, noParty, nothingReady, cellsSpent, threadsSpent}
 use Rattle.text.specs.Frames.{textFrames}
 use Rattle.checker.specs.Verdict.{HasVerdict}
-use Rattle.machine.specs.{Offsets.stateLength, Accesses.Access, Accesses.Own, State.State}
-use Rattle.machine.specs.{Words.pack}
+use Rattle.machine.specs.{Offsets.stateLength, Accesses.Access, Accesses.Own, Accesses.Signal}
+use Rattle.machine.specs.{Accesses.OwnSignal, State.State, Words.pack}
 use Rattle.reach.specs.Reached.{Passes}
 use Rattle.stepper.specs.declared.answer.Answer.the-variants.{Done}
 use Rattle.stepper.specs.Answers.{answerNumber, TextResult, freshText, stepText}
 use Rattle.safety.specs.Safety.{NoPrivateInPublic, Apart}
-use Rattle.safety.specs.Accepted.{stateOf, accessesAlong}
+use Rattle.safety.specs.Accepted.{stateOf, accessesAlong, signalsAlong}
 
 -- an answer that is no refusal of the text (1 to 13), not 14, foreign (19) or stuck (20)
 pub data Plain : ℕ → Type 0 where
@@ -35,6 +35,9 @@ textWordsFrom bs w cs = lastFrom (stepText bs) (λ (r : TextResult). r .words) w
 abbrev pub textAccessesFrom : List ℕ → List ℕ → List ℕ → List Access
 textAccessesFrom bs w cs = accessesAlong (textFrames bs) (λ v c. stepText bs v c .words) w cs
 
+abbrev pub textSignalsFrom : List ℕ → List ℕ → List ℕ → List Signal
+textSignalsFrom bs w cs = signalsAlong (textFrames bs) (λ v c. stepText bs v c .words) w cs
+
 -- the words after a call of `fresh` on the buffer w and those calls, and the state that they are
 abbrev pub wordsLeft : List ℕ → List ℕ → List ℕ → List ℕ
 wordsLeft bs w cs = textWordsFrom bs (freshText bs w .words) cs
@@ -49,6 +52,9 @@ pub record SafeTexts (bs w cs : List ℕ) : Type 0 where
   -- every access under every choice or call was to a cell of the acting thread or of the scheduler
   -- on which it stood, 'those before a refusal too'
   pub accessed : All Own (textAccessesFrom bs (freshText bs w .words) cs)
+  -- 02, change 5: 'An accepted file touches an event only from its owner's scheduler, in every
+  -- run.'
+  pub signalled : All OwnSignal (textSignalsFrom bs (freshText bs w .words) cs)
   -- no call was 14, foreign or stuck, nor was the text refused
   pub answered : All (λ (r : TextResult). Plain (answerNumber (r .answer)))
       (textCallsFrom bs (freshText bs w .words) cs)

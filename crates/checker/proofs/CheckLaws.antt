@@ -38,7 +38,7 @@ module _ (ws : List ℕ) (t : SharedTypes) (e : t ≡ sharedTypes (framesOf ws))
 
   -- what the modules' rules say, for these types
   abbrev said : List ℕ → Verdict
-  said cells = modulesIn (settingIn cells) [] (modulesFrom (framesOf ws) 0 (framesOf ws))
+  said cells = modulesIn (settingIn ws cells) [] (modulesFrom (framesOf ws) 0 (framesOf ws))
 
   pub rules-are : (r : Verdict) → r ≡ said (take (t .count) (t .types))
       → r ≡ rulesOf (programOf (framesOf ws))

@@ -77,6 +77,8 @@ KidsS cs (Y.LetIn a b) = In (child Class.Expression a) cs × In (child Class.Sta
 KidsS cs (Y.Store a b) = In (child Class.Expression a) cs × In (child Class.Expression b) cs
 KidsS cs (Y.IfElse a b c) = In (child Class.Expression a) cs × In (child Class.Statement b) cs × In (child Class.Statement c) cs
 KidsS cs (Y.While a b) = In (child Class.Expression a) cs × In (child Class.Statement b) cs
+KidsS cs (Y.Generate s) = Unit {0}
+KidsS cs (Y.Await s) = Unit {0}
 
 first-argument : (a b : ℕ) → (a ≡ 0 → ⊥)
     → In (child Class.Expression a) (childIn Use.Argument a ++ childIn Use.Further b ++ [])
@@ -101,6 +103,8 @@ kids-statement f S.Let = (first, later first)
 kids-statement f S.Store = (first, later first)
 kids-statement f S.If = (first, later first, later (later first))
 kids-statement f S.While = (first, later first)
+kids-statement f S.Generate = tt
+kids-statement f S.Await = tt
 
 kids-kindS : (f : Frame) (k : Kind) → KidsS (childrenAs k f) (statementNodeIn k f)
 kids-kindS f Header = tt

@@ -22,15 +22,19 @@ use Rattle.language.specs.declared.kind.Kind.the-variants.{Expression, Unknown}
 use Rattle.language.specs.declared.frame.Frame.{Frame}
 use Rattle.text.specs.Frames.{framesOf}
 use Rattle.program.specs.Trees.{frameAt, expressionAt, arguments, statementOf, statementAt}
+use Rattle.program.specs.Programs.{programOf}
+use Rattle.program.specs.inner.Events.{eventIn}
+use Rattle.program.specs.declared.event.EventFound.{EventFound}
 use Rattle.program.proofs.Decoding.{statement-at}
 use Rattle.rules.specs.Rules.{Setting, Signature}
 use Rattle.rules.specs.inner.Checking.{Argued, argue, typesIn, isLinked, startRule, cooperateRule}
 use Rattle.rules.specs.inner.Checking.{seqRule, doRule, joinRule, letRule, storeRule, ifElseRule}
-use Rattle.rules.specs.inner.Checking.{whileRule, effectIn}
+use Rattle.rules.specs.inner.Checking.{whileRule, signalRule, signalOf, effectIn}
 use Rattle.rules.specs.inner.Standings.{standing}
 use Rattle.rules.specs.inner.Signatures.{noArguments, arguedOf, signatureOf}
 use Rattle.program.specs.inner.Nodes.{statementNodeOf, statementNodeIn}
 use Rattle.checker.specs.inner.Frames.{FrameIn}
+use Rattle.checker.specs.inner.Settings.{settingIn}
 use Rattle.rules.specs.declared.start.Arguments.{Arguments}
 use Rattle.rules.specs.declared.start.Arguments.the-variants as A
 use Rattle.program.specs.declared.node.StatementNode.{StatementNode}
@@ -97,21 +101,23 @@ further-in ws i a b g h n o = lower-in ws i b g (h n o)
 
 -- ---- the definition by nodes: what is found at frame i, where T, R and As say what is found of
 -- the expressions, the statements and the arguments at its children. The body of a let is asked
--- with a variable more, so `let-in` is a parameter of its own
+-- with a variable more, so `let-in` is a parameter of its own. os are the owners of the events
 abbrev effectBy : (ℕ → Typing) → (ℕ → List ℕ → Standing → StatementEffect) → (ℕ → ℕ → Argued)
-    → List Signature → List ℕ → Standing → ℕ → StatementNode → (ℕ → Typing → StatementEffect)
-    → StatementEffect
-effectBy T R As below Γ at i Y.Nothing let-in = Proper noEffect true
-effectBy T R As below Γ at i Y.Cooperate let-in = cooperateRule at i
-effectBy T R As below Γ at i (Y.Seq a b) let-in = seqRule (R a Γ at) (R b Γ at)
-effectBy T R As below Γ at i (Y.DoAt s a) let-in =
+    → List ℕ → List Signature → List ℕ → Standing → ℕ → StatementNode
+    → (ℕ → Typing → StatementEffect) → StatementEffect
+effectBy T R As os below Γ at i Y.Nothing let-in = Proper noEffect true
+effectBy T R As os below Γ at i Y.Cooperate let-in = cooperateRule at i
+effectBy T R As os below Γ at i (Y.Seq a b) let-in = seqRule (R a Γ at) (R b Γ at)
+effectBy T R As os below Γ at i (Y.DoAt s a) let-in =
     doRule at (s .number) i (R a Γ (standingAt (s .number)))
-effectBy T R As below Γ at i (Y.Start s a b) let-in = startRule true below at s i (As a b)
-effectBy T R As below Γ at i (Y.StartWait s a b) let-in = startRule false below at s i (As a b)
-effectBy T R As below Γ at i (Y.LetIn a b) let-in = let-in b (T a)
-effectBy T R As below Γ at i (Y.Store a b) let-in = storeRule i (T a) (T b)
-effectBy T R As below Γ at i (Y.IfElse a b c) let-in = ifElseRule i (T a) (R b Γ at) (R c Γ at)
-effectBy T R As below Γ at i (Y.While a b) let-in = whileRule i (T a) (R b Γ at)
+effectBy T R As os below Γ at i (Y.Start s a b) let-in = startRule true below at s i (As a b)
+effectBy T R As os below Γ at i (Y.StartWait s a b) let-in = startRule false below at s i (As a b)
+effectBy T R As os below Γ at i (Y.LetIn a b) let-in = let-in b (T a)
+effectBy T R As os below Γ at i (Y.Store a b) let-in = storeRule i (T a) (T b)
+effectBy T R As os below Γ at i (Y.IfElse a b c) let-in = ifElseRule i (T a) (R b Γ at) (R c Γ at)
+effectBy T R As os below Γ at i (Y.While a b) let-in = whileRule i (T a) (R b Γ at)
+effectBy T R As os below Γ at i (Y.Generate s) let-in = signalOf os s i
+effectBy T R As os below Γ at i (Y.Await s) let-in = signalOf os s i
 
 -- ---- at a frame of a laid-out file
 abbrev RunAt : Setting → List Signature → List ℕ → ℕ → List ℕ → Standing → StatementEffect
@@ -119,7 +125,7 @@ RunAt env below ws i Γ at = effectIn env below Γ at (statementAt (framesOf ws)
 
 module _ (env : Setting) (below : List Signature) (ws Γ : List ℕ) (at : Standing) (i : ℕ) where
   abbrev By : StatementNode → StatementEffect
-  By n = effectBy (TypeAt (env .cells) Γ ws) (RunAt env below ws) (ArgueAt (env .cells) Γ ws) below Γ at i n (λ b x. letRule (λ Δ. RunAt env below ws b Δ at) Γ x)
+  By n = effectBy (TypeAt (env .cells) Γ ws) (RunAt env below ws) (ArgueAt (env .cells) Γ ws) (env .events) below Γ at i n (λ b x. letRule (λ Δ. RunAt env below ws b Δ at) Γ x)
 
   by-statement : (f : Frame) (k : StatementKind)
       → effectIn env below Γ at (statementOf (λ j. expressionAt (framesOf ws) j) (λ j. statementAt (framesOf ws) j) i f (Statement k))
@@ -135,6 +141,8 @@ module _ (env : Setting) (below : List Signature) (ws Γ : List ℕ) (at : Stand
   by-statement f S.Store = refl
   by-statement f S.If = refl
   by-statement f S.While = refl
+  by-statement f S.Generate = refl
+  by-statement f S.Await = refl
 
   by-kind : (f : Frame) (k : Kind)
       → effectIn env below Γ at
@@ -270,3 +278,25 @@ module _ (env : Setting) (sigs ws Γ : List ℕ) (i : ℕ) (l : Bool) (f : Frame
       ∙ ap (joinRule e)
       (v ∙ ap (λ (Θ : List ℕ). RunAt env (map signatureOf sigs) ws b Θ (standing l)) d)
       ∙ let-by a b x (Typed t e) z u)
+
+-- 1A and 1B: x is what was found of event s among the frames
+module _ (cells sigs ws Γ : List ℕ) (i : ℕ) (l : Bool) (f : Frame) (n : StatementNode) where
+  signal-found : (s : ℕ) (x : EventFound) (r : StatementEffect)
+      → x ≡ eventIn (programOf (framesOf ws)) s → r ≡ signalRule (x .there) (x .owner) i
+      → r ≡ signalOf (settingIn ws cells .events) s i
+  unfolding eventIn programOf
+  signal-found s x r e z = z ∙ ap (λ (y : EventFound). signalRule (y .there) (y .owner) i) e
+
+  pub run-generate : (s : ℕ) (x : EventFound) (r : StatementEffect)
+      → AtStatement ws i f n (Y.Generate s) (x ≡ eventIn (programOf (framesOf ws)) s
+      → r ≡ signalRule (x .there) (x .owner) i
+      → r ≡ RunAt (settingIn ws cells) (map signatureOf sigs) ws i Γ (standing l))
+  run-generate s x r h k q g e z =
+      by-node (settingIn ws cells) sigs ws Γ i l f n (Y.Generate s) r h k q g (signal-found s x r e z)
+
+  pub run-await : (s : ℕ) (x : EventFound) (r : StatementEffect)
+      → AtStatement ws i f n (Y.Await s) (x ≡ eventIn (programOf (framesOf ws)) s
+      → r ≡ signalRule (x .there) (x .owner) i
+      → r ≡ RunAt (settingIn ws cells) (map signatureOf sigs) ws i Γ (standing l))
+  run-await s x r h k q g e z =
+      by-node (settingIn ws cells) sigs ws Γ i l f n (Y.Await s) r h k q g (signal-found s x r e z)

@@ -3,6 +3,7 @@ use crate::typing::type_of;
 use language::Place;
 use language::effect::Effect;
 use language::limit::MOST_VARIABLES;
+use program::event::event_at;
 use program::node::StatementNode;
 use program::node::statement_node;
 use rules::finding::StatementEffect;
@@ -16,6 +17,7 @@ use rules::statement::do_rule;
 use rules::statement::if_else_rule;
 use rules::statement::join_rule;
 use rules::statement::seq_rule;
+use rules::statement::signal_rule;
 use rules::statement::store_rule;
 use rules::statement::while_rule;
 use text::line::frame_of_word;
@@ -98,8 +100,8 @@ pub(crate) fn effect_of(
     requires { ⌜ FrameIn (now frames) i × Room (framesOf (now frames)) i n
         × (length (now scope) ≡ mostVariables) ⌝ }
     ensures found { λ r. ⌜ r
-        ≡ effectIn (settingIn (now (cells .entry))) (map signatureOf (now (below .entry)))
-        (take n (now (scope .entry))) (standing linked)
+        ≡ effectIn (settingIn (now (frames .entry)) (now (cells .entry)))
+        (map signatureOf (now (below .entry))) (take n (now (scope .entry))) (standing linked)
         (statementAt (framesOf (now (frames .entry))) i) ⌝ }
     ensures wide { λ _. ⌜ length (now (scope .exit)) ≡ mostVariables ⌝ }
     ensures leaves { λ _. ⌜ take n (now (scope .exit)) ≡ take n (now (scope .entry)) ⌝ }
@@ -144,5 +146,7 @@ pub(crate) fn effect_of(
             let x = type_in(frames, cells, scope, n, a);
             while_rule(i, x, effect_of(frames, cells, below, scope, n, linked, b))
         }
+        StatementNode::Generate(s) => signal_rule(event_at(frames, s), i),
+        StatementNode::Await(s) => signal_rule(event_at(frames, s), i),
     }
 }

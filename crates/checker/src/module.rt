@@ -55,8 +55,8 @@ pub(crate) fn module_effect(
     requires { ⌜ FrameIn (now frames) (f .a) × Room (framesOf (now frames)) (f .a) (f .s)
         × (f .s ≤ mostParameters) × (m ≤ mostModules) ⌝ }
     ensures { λ r. ⌜ r
-        ≡ effectIn (settingIn (now (cells .entry))) (map signatureOf (take m below))
-        (take (f .s) (f .b ∷ f .c ∷ [])) linked
+        ≡ effectIn (settingIn (now (frames .entry)) (now (cells .entry)))
+        (map signatureOf (take m below)) (take (f .s) (f .b ∷ f .c ∷ [])) linked
         (statementAt (framesOf (now (frames .entry))) (f .a)) ⌝ }
 {
     let mut scope = [0u16; MOST_VARIABLES];
@@ -89,7 +89,7 @@ fn module_signature(f: Frame, e: Effect) -> u64
 pub(crate) fn modules_rule(frames: &[u64], cells: &[u16]) -> Verdict
     requires { ⌜ FileIn (now frames) ⌝ }
     ensures { λ r. ⌜ r
-        ≡ modulesIn (settingIn (now (cells .entry))) []
+        ≡ modulesIn (settingIn (now (frames .entry)) (now (cells .entry))) []
         (modulesFrom (framesOf (now (frames .entry))) 0 (framesOf (now (frames .entry)))) ⌝ }
 {
     let mut below = [0u64; MOST_MODULES];

@@ -84,7 +84,7 @@ pub back-fits : (n : ℕ) → isPlace n ≡ true → 1024 + n < 2 ^ 64
 back-fits n h = let z = fits-byte n h in omega arith
 
 -- ---- each write, and two in a row
-module _ (w : List ℕ) (k : ℕ) (all : length w ≡ 4818) (room : k < 64) where
+module _ (w : List ℕ) (k : ℕ) (all : length w ≡ 4834) (room : k < 64) where
   pub taken-none : getD w (1042 + 55 * k + 3) 0 ≡ 0 → w ≡ putThread w k (popped (threadIn w k))
   unfolding popped
   taken-none e =
@@ -143,7 +143,7 @@ module _ (w : List ℕ) (k : ℕ) (all : length w ≡ 4818) (room : k < 64) wher
 
 -- ---- each arm of `change_thread`: the change that the match has found is the one asked for
 module _ (w : List ℕ) (k : ℕ) (c : Change) where
-  pub change-same : c ≡ Same → length w ≡ 4818 → k < 64
+  pub change-same : c ≡ Same → length w ≡ 4834 → k < 64
       → w ≡ putThread w k (changed c (threadIn w k))
   change-same e all room =
       sym (put-same w k all room)
@@ -181,8 +181,8 @@ module _ (c : Change) (i n : ℕ) where
 pub ruleset change-room = (room-item, room-items, room-let, room-value, room-drop, room-enter)
 
 -- ---- words that agree from the first thread's to the last one's have the same threads
-pub same-thread : (w v : List ℕ) (k : ℕ) → k < 64 → length w ≡ 4818 → length v ≡ 4818
-    → ((i : ℕ) → 1042 ≤ i → i < 4562 → getD v i 0 ≡ getD w i 0) → threadIn v k ≡ threadIn w k
+pub same-thread : (w v : List ℕ) (k : ℕ) → k < 64 → length w ≡ 4834 → length v ≡ 4834
+    → ((i : ℕ) → 1042 ≤ i → i < 4578 → getD v i 0 ≡ getD w i 0) → threadIn v k ≡ threadIn w k
 same-thread w v k l a b f = fields-path (threadIn v k) (threadIn w k)
     (f (1042 + 55 * k) (omega arith) (omega arith))
     (f (1042 + 55 * k + 1) (omega arith) (omega arith))
@@ -192,7 +192,7 @@ same-thread w v k l a b f = fields-path (threadIn v k) (threadIn w k)
     (f (1042 + 55 * k + 29) (omega arith) (omega arith))
     (run (1042 + 55 * k + 30) (omega arith) (omega arith))
   where
-    run : (at : ℕ) → 1042 ≤ at → at + 25 ≤ 4562 → part v at 25 ≡ part w at 25
+    run : (at : ℕ) → 1042 ≤ at → at + 25 ≤ 4578 → part v at 25 ≡ part w at 25
     run at d g = let p : length (part v at 25) ≡ 25 = part-length v at 25 (omega arith) in
         ext-getD 0 (part v at 25) (part w at 25) (p ∙ sym (part-length w at 25 (omega arith)))
         (λ j m. let q : j < 25 = rw p at m in part-at v at 25 j q ∙ f (at + j) (omega arith) (omega arith) ∙ sym (part-at w at 25 j q))

@@ -1,15 +1,19 @@
 -- A commit: what was decided, settled and followed is the answer and the words of the definition.
 -- Assumes nothing.
 use Prim.Native.Nat.{ℕ, _+_, _*_, _-_}
+use Prim.Native.Nat.{_<_, _≤_}
 use mathlib.Core.Path.{_≡_, refl, sym, ap, ap₂, _∙_, subst}
 use mathlib.Core.List.{List}
 use mathlib.Core.Bool.{Bool, true, false, _&&_, not}
 use native.Mathlib.Omega.{arith}
 use lib.ListN.{getD, length}
 use lib.Dec.{eqb}
+use lib.Dec.{leb}
 use borrow.Author.Tests.{eqb-true, not-false}
+use borrow.Author.Tests.{leb-true, ltb-true}
 use Rattle.basics.specs.If.{if_then_else_}
 use Rattle.basics.proofs.Ifs.{yes, no, if-no, if-all}
+use Rattle.basics.proofs.Ifs.{and-true}
 use Rattle.language.specs.declared.Place.{Place}
 use Rattle.program.specs.Programs.{Program}
 use Rattle.program.specs.inner.Modules.{foundIn}
@@ -17,27 +21,41 @@ use Rattle.program.specs.declared.module.ModuleFound.{ModuleFound}
 use Rattle.commits.specs.inner.Commits.{Committed, committed}
 use Rattle.states.specs.inner.Threads.{threadIn, putThread, blockOf, withOneMore}
 use Rattle.states.proofs.ThreadLaws.{in-wide, put-length}
+use Rattle.states.proofs.ThreadLaws.{wide-length}
 use Rattle.acts.specs.declared.act.Arguments.{Arguments}
 use Rattle.acts.specs.declared.act.Transition.{Transition}
 use Rattle.acts.specs.declared.act.Transition.the-variants.{Refused, Stays, Leaves, Joins, Starts}
+use Rattle.acts.specs.declared.act.Transition.the-variants.{Generates, Awaits}
 use Rattle.acts.specs.declared.act.Action.{Action}
 use Rattle.acts.specs.inner.Transitions.{TurnResult, popped}
 use Rattle.commits.specs.declared.decision.Passed.{Passed}
 use Rattle.commits.specs.declared.decision.Passed.the-variants.{Keep, Join, Start}
 use Rattle.commits.specs.declared.decision.Decision.{Decision}
 use Rattle.commits.specs.declared.decision.Decision.the-variants.{Refuse, Settle}
+use Rattle.commits.specs.declared.decision.Decision.the-variants.{Suspend}
 use Rattle.commits.specs.inner.Commits.{turnResultIn, clearedIn, settledIn, staysIn, leftIn}
 use Rattle.commits.specs.inner.Commits.{roomIn, joinedIn, joinsIn, newThreadWords, obstacleIn}
 use Rattle.commits.specs.inner.Commits.{refusesIn, startsIn, committedIn, placeAfter}
 use Rattle.commits.specs.inner.Commits.{startTested, startDecided, decidedIn, followedIn}
 use Rattle.commits.specs.inner.Commits.{CommitWords, StartWords, Follows}
+use Rattle.commits.specs.inner.Commits.{presentIn, generateObstacle, awaitObstacle}
+use Rattle.commits.specs.inner.Commits.{generatedIn, generatesIn, awaitingIn, awaitsIn}
+use Rattle.commits.specs.inner.Commits.{generateTested, awaitTested, WakeWords}
 use Rattle.commits.proofs.ChangeLaws.{popped-wide, changed-wide, place-is}
 use Rattle.commits.proofs.WritingLaws.{first-word, room-scheduler}
 use Rattle.commits.proofs.DecisionLaws.{free-count, free-scheduler}
 use Rattle.commits.proofs.FollowLaws.{keeps-is, leave-is, join-is, start-is, wait-is}
+use Rattle.commits.proofs.FollowLaws.{wake-is}
+use Rattle.language.specs.Places.{isScheduler}
+use Rattle.program.specs.inner.Events.{eventIn}
+use Rattle.program.specs.declared.event.EventFound.{EventFound}
+use Rattle.lists.specs.inner.Lists.{isAwaitingWord, activeWith}
+use Rattle.machine.proofs.WordLaws.{pasted-out}
+use Rattle.commits.proofs.SignalLaws.{generate-allowed, await-allowed, wake-room-is}
+use Rattle.commits.proofs.SignalLaws.{active-same}
 
 -- ---- the turn of thread t, on words w
-module _ (p : Program) (w : List ℕ) (before c t : ℕ) (a : Action) (h : CommitWords w t a) where
+module _ (p : Program) (w : List ℕ) (before c t : ℕ) (a : Action) (h : CommitWords p w t a) where
   abbrev turn : TurnResult
   turn = turnResultIn w t a
 
@@ -52,7 +70,7 @@ module _ (p : Program) (w : List ℕ) (before c t : ℕ) (a : Action) (h : Commi
       let l = h .settle .all in
       first-word w (1042 + 55 * (t - 1)) (blockOf (turn .thread)) 55 (omega arith) (omega arith)
 
-  long : length words ≡ 4818
+  long : length words ≡ 4834
   unfolding settledIn
   long =
       put-length w (t - 1) (h .settle .all) (h .settle .thread) (turn .thread)
@@ -70,6 +88,7 @@ module _ (p : Program) (w : List ℕ) (before c t : ℕ) (a : Action) (h : Commi
   abbrev result : Decision → Committed
   result (Refuse n) = refusesIn w before t n
   result (Settle x) = committed 0 t (followedIn words c t x)
+  result (Suspend q e) = committed 0 t (awaitingIn w c t (q .number) e)
 
   joins-is : (q : Place) → result (decidedIn p w t a (Joins q))
       ≡ joinsIn w before c t turn (q .number)
@@ -124,17 +143,56 @@ module _ (p : Program) (w : List ℕ) (before c t : ℕ) (a : Action) (h : Commi
       tested-is args (foundIn p m) place waits
       ∙ ap₂ (starts args waits (foundIn p m)) place-there count-kept
 
+  -- `generatesIn` and `awaitsIn` at any place
+  abbrev generated : ℕ → EventFound → ℕ → Committed
+  generated e x i =
+      let no = generateObstacle w x i e in
+      if not (eqb no 0) then refusesIn w before t no else
+      committed 0 t (generatedIn words i e)
+
+  generates-is : (e : ℕ)
+      → result (generateTested w (eventIn p e) place e) ≡ generatesIn p w before t turn e
+  unfolding generateTested generatesIn
+  generates-is e =
+      if-all (λ (d : Decision). result d ≡ generated e (eventIn p e) (place .number))
+      (not (eqb (generateObstacle w (eventIn p e) (place .number) e) 0)) _ _
+      (λ f. yes _ f refl) (λ f. no _ f (ap (committed 0 t) (wake-is words c t place e)))
+      ∙ ap (generated e (eventIn p e)) place-there
+
+  abbrev awaited : ℕ → EventFound → ℕ → Committed
+  awaited e x i =
+      let no = awaitObstacle w x i e in
+      if not (eqb no 0) then refusesIn w before t no else
+      if presentIn w e then committed 0 t words else
+      committed 0 t (awaitingIn w c t i e)
+
+  awaits-is : (e : ℕ)
+      → result (awaitTested w (eventIn p e) place e) ≡ awaitsIn p w before c t turn e
+  unfolding awaitTested awaitsIn
+  awaits-is e =
+      if-all (λ (d : Decision). result d ≡ awaited e (eventIn p e) (place .number))
+      (not (eqb (awaitObstacle w (eventIn p e) (place .number) e) 0)) _ _
+      (λ f. yes _ f refl)
+      (λ f. if-all (λ (d : Decision). result d ≡ awaited e (eventIn p e) (place .number))
+      (presentIn w e) (Settle Keep) (Suspend place e)
+      (λ g. no _ f (yes _ g (ap (committed 0 t) (keeps-is words c Keep refl))))
+      (λ g. no _ f (no _ g refl)))
+      ∙ ap (awaited e (eventIn p e)) place-there
+
   decided-is : (f : Transition) → result (decidedIn p w t a f) ≡ committedIn p w before c t turn f
   decided-is (Refused n) = refl
   decided-is Stays = ap (committed 0 t) (keeps-is words c Keep refl)
   decided-is Leaves = ap (committed 0 t) (leave-is words c t)
   decided-is (Joins q) = joins-is q
   decided-is (Starts waits m args) = starts-is waits m args
+  decided-is (Generates e) = generates-is e
+  decided-is (Awaits e) = awaits-is e
 
   -- what is let through has what its calls need
   abbrev Sound : Decision → Type 0
   Sound (Refuse n) = Unit {0}
   Sound (Settle x) = Follows words x
+  Sound (Suspend q e) = isScheduler (q .number) ≡ true
 
   free-words : (args : Arguments) (x : ModuleFound) (q : Place)
       → not (eqb (obstacleIn w x (q .number) (args .count)) 0) ≡ false → StartWords words q
@@ -159,12 +217,67 @@ module _ (p : Program) (w : List ℕ) (before c t : ℕ) (a : Action) (h : Commi
       if-all Sound (roomIn w (q .number) 1) (Settle (Join q)) (Refuse 20)
       (λ e. room-scheduler w (q .number) 1 (roomIn w (q .number) 1) refl (ap not e)) (λ _. tt)
 
+  -- settling leaves the lists
+  low-kept : (i : ℕ) → i < 1042 → getD words i 0 ≡ getD w i 0
+  unfolding settledIn putThread
+  low-kept i l =
+      let z = h .settle .all in
+      let k = h .settle .thread in
+      pasted-out w (1042 + 55 * (t - 1)) (blockOf (turn .thread)) 55 (omega arith) block
+      i (λ a b. omega arith)
+    where
+      block : 55 ≤ length (blockOf (turn .thread))
+      block =
+          let e = wide-length (turn .thread) (changed-wide (a .change) (popped (threadIn w (t - 1)))
+          (popped-wide (threadIn w (t - 1)) (in-wide w (t - 1) (h .settle .all) (h .settle .thread)))) in
+          omega arith
+
+  wake-sound : (e : ℕ) → generateObstacle w (eventIn p e) (place .number) e ≡ 0
+      → WakeWords words place e
+  unfolding eventIn
+  wake-sound e z =
+      let g = generate-allowed w (eventIn p e) (place .number) e z in
+      let q = place .number in
+      let y = g .1 in
+      let b = and-true (leb 2 q) (leb q 9) (y .scheduler) in
+      let lo = leb-true 2 q (b .0) in
+      let hi = leb-true q 9 (b .1) in
+      let few = h .lists .next (q - 2) (omega arith) in
+      let r = wake-room-is w (eventIn p e .owner) e (g .0) in
+      let same = active-same w words (q - 2) (omega arith) low-kept few (isAwaitingWord e) in
+      let n = ltb-true e (length (p .events)) (y .there) in
+      let m = h .events in
+      record {
+        scheduler = y .scheduler;
+        event = omega arith;
+        threads = rw count-kept (h .lists .threads);
+        next = rw (low-kept (67 + 130 * (q - 2)) (omega arith)) few;
+        room = rw same (subst (λ (i : ℕ). activeWith (isAwaitingWord e) w (i - 2) ≤ 64) (y .owner) r);
+      }
+
+  generate-sound : (e : ℕ) → Sound (generateTested w (eventIn p e) place e)
+  unfolding generateTested
+  generate-sound e =
+      let o = generateObstacle w (eventIn p e) (place .number) e in
+      if-all Sound (not (eqb o 0)) _ _ (λ _. tt)
+      (λ f. wake-sound e (eqb-true o 0 (not-false (eqb o 0) f)))
+
+  await-sound : (e : ℕ) → Sound (awaitTested w (eventIn p e) place e)
+  unfolding awaitTested
+  await-sound e =
+      let o = awaitObstacle w (eventIn p e) (place .number) e in
+      if-all Sound (not (eqb o 0)) _ _ (λ _. tt)
+      (λ f. if-all Sound (presentIn w e) (Settle Keep) (Suspend place e) (λ _. tt)
+      (λ _. await-allowed w (eventIn p e) (place .number) e (eqb-true o 0 (not-false (eqb o 0) f)) .scheduler))
+
   decided-sound : (f : Transition) → Sound (decidedIn p w t a f)
   decided-sound (Refused n) = tt
   decided-sound Stays = tt
   decided-sound Leaves = tt
   decided-sound (Joins q) = join-sound q
   decided-sound (Starts waits m args) = start-sound args waits (foundIn p m) place
+  decided-sound (Generates e) = generate-sound e
+  decided-sound (Awaits e) = await-sound e
 
   -- ---- the arms of `commit`, which has decided d
   module _ (d : Decision) (e : d ≡ decidedIn p w t a (a .transition)) where
@@ -186,4 +299,12 @@ module _ (p : Program) (w : List ℕ) (before c t : ℕ) (a : Action) (h : Commi
       commit-settled u f =
           ap (committed 0 t) (f ∙ ap (λ (l : List ℕ). followedIn l c t x) s) ∙ decided (Settle x) g
 
-pub ruleset commit-laws = (commit-refused, commit-settled)
+    module _ (q : Place) (s : ℕ) (g : d ≡ Suspend q s) where
+      pub commit-suspends : isScheduler (q .number) ≡ true
+      commit-suspends = subst Sound (sym e ∙ g) (decided-sound (a .transition))
+
+      pub commit-suspended : (v : List ℕ) → v ≡ awaitingIn w c t (q .number) s
+          → committed 0 t v ≡ committedIn p w before c t turn (a .transition)
+      commit-suspended v f = ap (committed 0 t) f ∙ decided (Suspend q s) g
+
+pub ruleset commit-laws = (commit-refused, commit-settled, commit-suspended)

@@ -18,12 +18,15 @@ use Rattle.acts.specs.declared.act.Arguments.{Arguments}
 use Rattle.acts.specs.declared.act.Action.{Action}
 use Rattle.acts.specs.declared.act.Transition.{Transition}
 use Rattle.acts.specs.declared.act.Transition.the-variants.{Refused, Stays, Leaves, Joins, Starts}
+use Rattle.acts.specs.declared.act.Transition.the-variants.{Generates, Awaits}
 use Rattle.commits.specs.declared.decision.Passed.the-variants.{Keep, Leave, Join, Start}
 use Rattle.commits.specs.declared.decision.Decision.{Decision}
 use Rattle.commits.specs.declared.decision.Decision.the-variants.{Refuse, Settle}
 use Rattle.commits.specs.inner.Commits.{placeAfter, roomIn, obstacleIn, startTested}
 use Rattle.commits.specs.inner.Commits.{startDecided, decidedIn}
+use Rattle.commits.specs.inner.Commits.{placeIn, generateTested, awaitTested}
 use Rattle.commits.proofs.WritingLaws.{room-scheduler}
+use Rattle.program.specs.inner.Events.{eventIn}
 
 -- ---- what stands in the way: why a start does not fit, 20, then a 65th thread, 18
 module _ (w : List ℕ) (x : ModuleFound) (p g : ℕ) (y : Bool) (z : y ≡ eqb p private) where
@@ -93,14 +96,13 @@ module _ (w : List ℕ) (x : ModuleFound) (p g : ℕ) (h : obstacleIn w x p g �
   pub free-scheduler : isScheduler p ≡ true
   free-scheduler = room-scheduler w p 1 (roomIn w p 1) refl (free h .0)
 
--- ---- a start: the module was found to be x, and the starter, who stood at o, stands at q
+-- ---- a start: the module was found to be x, and the starter stands at q
 module _ (p : Program) (w : List ℕ) (t : ℕ) (a : Action) (waits : Bool) (m : ℕ) (args : Arguments)
-    (x : ModuleFound) (n : ℕ) (o q : Place) (e : x ≡ foundIn p m) (z : q ≡ placeAfter (a .change) o)
-    (y : o ≡ record { number = getD w (1042 + 55 * (t - 1)) 0 })
+    (x : ModuleFound) (n : ℕ) (q : Place) (e : x ≡ foundIn p m) (z : q ≡ placeIn w t a)
     (f : n ≡ obstacleIn w x (q .number) (args .count)) where
   decided : (d : Decision) → d ≡ startTested w args waits x q
       → d ≡ startDecided p w t a waits m args
-  decided d h = h ∙ ap₂ (startTested w args waits) e (z ∙ ap (placeAfter (a .change)) y)
+  decided d h = h ∙ ap₂ (startTested w args waits) e z
 
   tested : (b : Bool) → eqb n 0 ≡ b → not (eqb (obstacleIn w x (q .number) (args .count)) 0) ≡ not b
   tested b h = ap (λ (i : ℕ). not (eqb i 0)) (sym f) ∙ ap not h
@@ -137,6 +139,11 @@ module _ (p : Program) (w : List ℕ) (t : ℕ) (a : Action) (waits : Bool) (m :
 
 pub ruleset start-laws = (start-refused, start-only, start-full, start-waits)
 
+-- where a thread that stood at o stands
+pub place-in : (w : List ℕ) (t : ℕ) (a : Action) (o q : Place) → q ≡ placeAfter (a .change) o
+    → o ≡ record { number = getD w (1042 + 55 * (t - 1)) 0 } → q ≡ placeIn w t a
+place-in w t a o q z y = z ∙ ap (placeAfter (a .change)) y
+
 -- ---- the row of each transition
 module _ (p : Program) (w : List ℕ) (t : ℕ) (a : Action) (x : Transition) where
   row : (f : Transition) (d : Decision) → x ≡ f → d ≡ decidedIn p w t a f → d ≡ decidedIn p w t a x
@@ -162,6 +169,16 @@ module _ (p : Program) (w : List ℕ) (t : ℕ) (a : Action) (x : Transition) wh
       → d ≡ startDecided p w t a b m args → d ≡ decidedIn p w t a x
   decide-starts b m args d e h = row (Starts b m args) d e h
 
+  pub decide-generate : (s : ℕ) (q : Place) (d : Decision) → x ≡ Generates s → q ≡ placeIn w t a
+      → d ≡ generateTested w (eventIn p s) q s → d ≡ decidedIn p w t a x
+  decide-generate s q d e z h =
+      row (Generates s) d e (h ∙ ap (λ (y : Place). generateTested w (eventIn p s) y s) z)
+
+  pub decide-await : (s : ℕ) (q : Place) (d : Decision) → x ≡ Awaits s → q ≡ placeIn w t a
+      → d ≡ awaitTested w (eventIn p s) q s → d ≡ decidedIn p w t a x
+  decide-await s q d e z h =
+      row (Awaits s) d e (h ∙ ap (λ (y : Place). awaitTested w (eventIn p s) y s) z)
+
 pub ruleset decide-laws = (
   decide-refused,
   decide-stays,
@@ -169,4 +186,6 @@ pub ruleset decide-laws = (
   decide-joins,
   decide-full,
   decide-starts,
+  decide-generate,
+  decide-await,
 )

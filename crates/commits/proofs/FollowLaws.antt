@@ -12,9 +12,11 @@ use Rattle.states.specs.inner.Threads.{withOneMore}
 use Rattle.acts.specs.declared.act.Arguments.{Arguments}
 use Rattle.commits.specs.declared.decision.Passed.{Passed}
 use Rattle.commits.specs.declared.decision.Passed.the-variants.{Keep, Leave, Join, Start}
+use Rattle.commits.specs.declared.decision.Passed.the-variants.{Wake}
 use Rattle.commits.specs.inner.Commits.{leftIn, joinedIn, newAt, startedOn, leavesList}
 use Rattle.commits.specs.inner.Commits.{unlistedIn, enlistedIn, followedIn, StartWords}
 use Rattle.commits.specs.inner.Commits.{Follows}
+use Rattle.commits.specs.inner.Commits.{generatedIn, WakeWords}
 use Rattle.commits.proofs.WritingLaws.{left-count}
 
 -- ---- `leaves`: a starter leaves its list where it waits
@@ -60,7 +62,11 @@ module _ (w : List ℕ) (t : ℕ) (x : Passed) where
       → x ≡ Start waits q body args → v ≡ startedOn w t q body waits args → v ≡ enlistedIn w t x
   enlist-start v waits q body args e h = row v (Start waits q body args) e h
 
-pub ruleset enlist-laws = (enlist-keep, enlist-leave, enlist-join, enlist-start)
+  pub enlist-wake : (v : List ℕ) (q : Place) (e : ℕ) → x ≡ Wake q e → v ≡ generatedIn w (q .number) e
+      → v ≡ enlistedIn w t x
+  enlist-wake v q e d h = row v (Wake q e) d h
+
+pub ruleset enlist-laws = (enlist-keep, enlist-leave, enlist-join, enlist-start, enlist-wake)
 
 -- what an arm's call needs
 module _ (w : List ℕ) (x : Passed) where
@@ -71,24 +77,30 @@ module _ (w : List ℕ) (x : Passed) where
       → x ≡ Start waits q body args → Follows w x → StartWords w q
   start-needs waits q body args e h = subst (Follows w) e h
 
+  pub wake-needs : (q : Place) (e : ℕ) → x ≡ Wake q e → Follows w x → WakeWords w q e
+  wake-needs q e d h = subst (Follows w) d h
+
 -- ---- `follow`
 module _ (w u : List ℕ) (c : ℕ) (x : Passed) (e : u ≡ unlistedIn w c x) where
-  count-kept : length w ≡ 4818 → getD u 0 0 ≡ getD w 0 0
+  count-kept : length w ≡ 4834 → getD u 0 0 ≡ getD w 0 0
   unfolding unlistedIn
   count-kept h =
       ap (λ (l : List ℕ). getD l 0 0) e
       ∙ if-all (λ (l : List ℕ). getD l 0 0 ≡ getD w 0 0) (leavesList x) (leftIn w c) w
       (λ _. left-count w c h) (λ _. refl)
 
-  follows : (y : Passed) → getD u 0 0 ≡ getD w 0 0 → Follows w y → Follows u y
-  follows Keep k h = tt
-  follows Leave k h = tt
-  follows (Join q) k h = h
-  follows (Start waits q body args) k h =
+  follows : (y : Passed) → x ≡ y → getD u 0 0 ≡ getD w 0 0 → Follows w y → Follows u y
+  follows Keep z k h = tt
+  follows Leave z k h = tt
+  follows (Join q) z k h = h
+  follows (Start waits q body args) z k h =
       record { scheduler = h .scheduler; count = rw k (h .count) }
+  -- who generates keeps its entry
+  follows (Wake q s) z k h =
+      subst (λ (l : List ℕ). WakeWords l q s) (sym (e ∙ keeps-is w c x (ap leavesList z))) h
 
-  pub still-follows : length w ≡ 4818 → Follows w x → Follows u x
-  still-follows h g = follows x (count-kept h) g
+  pub still-follows : length w ≡ 4834 → Follows w x → Follows u x
+  still-follows h g = follows x refl (count-kept h) g
 
   pub followed : (t : ℕ) (v : List ℕ) → v ≡ enlistedIn u t x → v ≡ followedIn w c t x
   followed t v f = f ∙ ap (λ (l : List ℕ). enlistedIn l t x) e
@@ -100,6 +112,9 @@ module _ (w : List ℕ) (c t : ℕ) where
 
   pub join-is : (q : Place) → followedIn w c t (Join q) ≡ joinedIn (leftIn w c) (q .number) t
   join-is q = ap (λ (l : List ℕ). joinedIn l (q .number) t) (leaves-is w c (Join q) refl)
+
+  pub wake-is : (q : Place) (e : ℕ) → followedIn w c t (Wake q e) ≡ generatedIn w (q .number) e
+  wake-is q e = ap (λ (l : List ℕ). generatedIn l (q .number) e) (keeps-is w c (Wake q e) refl)
 
   module _ (q : Place) (body : ℕ) (args : Arguments) where
     pub start-is : followedIn w c t (Start false q body args)
@@ -116,7 +131,7 @@ module _ (w : List ℕ) (c t : ℕ) where
         joinedIn (joinedIn (withOneMore (leftIn w c) (newAt args q t body)) (q .number) (n + 1))
         (q .number) (128 * (n + 1) + t)
 
-    pub wait-is : length w ≡ 4818
+    pub wait-is : length w ≡ 4834
         → followedIn w c t (Start true q body args) ≡ waiting (getD w 0 0)
     unfolding startedOn
     wait-is h =

@@ -33,22 +33,22 @@ use Rattle.commits.proofs.ChangeLaws.{popped-values, popped-place}
 
 -- the words of the cells from `from` on, of which so many are 0 already
 abbrev zeroed : List ℕ → ℕ → ℕ → ℕ → List ℕ
-zeroed w from upto n = pasted w (4562 + from) (replicate (upto - from) 0) n
+zeroed w from upto n = pasted w (4578 + from) (replicate (upto - from) 0) n
 
 pub cells-start : (w : List ℕ) (from upto : ℕ) → w ≡ zeroed w from upto (from - from)
 cells-start w from upto =
     let z : 0 ≡ from - from = omega arith in
-    pasted-zero w (4562 + from) (replicate (upto - from) 0) ∙ ap (zeroed w from upto) z
+    pasted-zero w (4578 + from) (replicate (upto - from) 0) ∙ ap (zeroed w from upto) z
 
 module _ (w v : List ℕ) (from upto j : ℕ) (e : v ≡ zeroed w from upto (j - from)) where
-  pub cells-more : length w ≡ 4818 → upto ≤ 256 → from ≤ j → j < upto
-      → set v (4562 + j) 0 ≡ zeroed w from upto (j + 1 - from)
+  pub cells-more : length w ≡ 4834 → upto ≤ 256 → from ≤ j → j < upto
+      → set v (4578 + j) 0 ≡ zeroed w from upto (j + 1 - from)
   cells-more l u f g =
       let m : j - from < upto - from = omega arith in
-      let y : 4562 + j ≡ 4562 + from + (j - from) = omega arith in
+      let y : 4578 + j ≡ 4578 + from + (j - from) = omega arith in
       let z : j - from + 1 ≡ j + 1 - from = omega arith in
       ap (λ (k : ℕ). set v k 0) y
-      ∙ pasted-more w (replicate (upto - from) 0) v (4562 + from) (j - from) 0 e
+      ∙ pasted-more w (replicate (upto - from) 0) v (4578 + from) (j - from) 0 e
       (sym (getD-replicate (upto - from) (j - from) 0 0 m)) (omega arith)
       (rw (length-replicate {A = ℕ} (upto - from) 0) m)
       ∙ ap (zeroed w from upto) z
@@ -126,7 +126,7 @@ first-word (x ∷ w) zero s n h g = absurd (omega arith)
 first-word (x ∷ w) (suc at) s n h g = refl
 
 -- how many threads there are stays
-pub left-count : (w : List ℕ) (c : ℕ) → length w ≡ 4818 → getD (leftIn w c) 0 0 ≡ getD w 0 0
+pub left-count : (w : List ℕ) (c : ℕ) → length w ≡ 4834 → getD (leftIn w c) 0 0 ≡ getD w 0 0
 unfolding leftIn withoutFirst
 left-count w c h =
     if-all Kept (isScheduler c) _ w

@@ -3,21 +3,27 @@ use crate::decision::Decision;
 use crate::decision::Passed;
 use crate::decision::decide;
 use crate::leave::leave;
+use crate::signal::generate;
 use crate::start::start;
 use crate::writing::clear_cells;
 use crate::writing::join;
 use crate::writing::settle;
 use acts::act::Action;
+use language::Place;
+use machine::offset::AWAITING_FROM;
+use machine::offset::WAITING_FACTOR;
 ghost use mathlib.Core.Path.{_≡_};
+ghost use mathlib.Core.Bool.{true};
 ghost use Prim.Native.Nat.{_≤_};
 ghost use lib.ListN.{length};
 ghost use Rattle.language.specs.Limits.{mostThreads};
+ghost use Rattle.language.specs.Places.{isScheduler};
 ghost use Rattle.text.specs.Frames.{framesOf};
 ghost use Rattle.program.specs.Programs.{programOf};
 ghost use Rattle.machine.specs.Offsets.{stateLength};
 ghost use Rattle.commits.specs.inner.Commits.{CommitWords, turnResultIn, committedIn};
 ghost use Rattle.commits.specs.inner.Commits.{leavesList, unlistedIn, enlistedIn};
-ghost use Rattle.commits.specs.inner.Commits.{followedIn, Follows, committed};
+ghost use Rattle.commits.specs.inner.Commits.{followedIn, awaitingIn, Follows, committed};
 
 // Whether the thread leaves its list; a starter does where it waits.
 fn leaves(passed: Passed) -> bool
@@ -28,6 +34,7 @@ fn leaves(passed: Passed) -> bool
         Passed::Leave => true,
         Passed::Join(q) => true,
         Passed::Start(waits, place, body, args) => waits,
+        Passed::Wake(q, e) => false,
     }
 }
 
@@ -41,7 +48,7 @@ fn unlist(state: &mut [u64], choice: u64, passed: Passed)
     }
 }
 
-// The next lists, where something joins one.
+// The other lists, where something joins one.
 fn enlist(state: &mut [u64], t: u64, passed: Passed)
     requires { ⌜ (length (now state) ≡ stateLength) × (t ≤ mostThreads)
         × Follows (now state) passed ⌝ }
@@ -52,6 +59,7 @@ fn enlist(state: &mut [u64], t: u64, passed: Passed)
         Passed::Leave => {}
         Passed::Join(q) => join(state, q, t),
         Passed::Start(waits, place, body, args) => start(state, t, place, body, waits, args),
+        Passed::Wake(q, e) => generate(state, q, e),
     }
 }
 
@@ -65,6 +73,17 @@ fn follow(state: &mut [u64], choice: u64, t: u64, passed: Passed)
     enlist(state, t, passed);
 }
 
+// Thread t awaits event e on that scheduler; its own words stay.
+fn suspend(state: &mut [u64], choice: u64, t: u64, q: Place, e: u8)
+    requires { ⌜ (length (now state) ≡ stateLength) × (t ≤ mostThreads)
+        × (isScheduler (q .number) ≡ true) ⌝ }
+    ensures { λ _. ⌜ now (state .exit)
+        ≡ awaitingIn (now (state .entry)) choice t (q .number) e ⌝ }
+{
+    leave(state, choice);
+    join(state, q, AWAITING_FROM + WAITING_FACTOR * e as u64 + t);
+}
+
 // The answer. The turn of thread t has changed the cells and their count; `before` cells were in
 // use. A refusal takes back the cells made.
 pub fn commit(
@@ -75,7 +94,7 @@ pub fn commit(
     t: u64,
     a: Action,
 ) -> u8
-    requires { ⌜ CommitWords (now state) t a ⌝ }
+    requires { ⌜ CommitWords (programOf (framesOf (now frames))) (now state) t a ⌝ }
     ensures { λ r. ⌜ committed r t (now (state .exit))
         ≡ committedIn (programOf (framesOf (now (frames .entry)))) (now (state .entry)) before
         choice t (turnResultIn (now (state .entry)) t a) (a .transition) ⌝ }
@@ -89,6 +108,10 @@ pub fn commit(
             let change = a.change;
             settle(state, (t - 1) as usize, change);
             follow(state, choice, t, passed);
+            0
+        },
+        Decision::Suspend(q, e) => {
+            suspend(state, choice, t, q, e);
             0
         },
     }

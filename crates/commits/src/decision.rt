@@ -1,6 +1,8 @@
 // What the transition of a turn comes to on the lent words: refused with a number, or passed.
 // Nothing is written before that is known.
 use crate::change::place_after;
+use crate::signal::decide_await;
+use crate::signal::decide_generate;
 use crate::writing::room_at;
 use acts::act::Action;
 use acts::act::Arguments;
@@ -15,26 +17,36 @@ use program::module::ModuleFound;
 use program::module::module_at;
 use states::thread::thread_count;
 ghost use mathlib.Core.Path.{_≡_};
+ghost use mathlib.Core.Bool.{true};
+ghost use Prim.Native.Nat.{_-_, _≤_};
 ghost use lib.ListN.{length};
+ghost use Rattle.language.specs.Places.{isPlace};
+ghost use Rattle.language.specs.Limits.{mostThreads};
 ghost use Rattle.text.specs.Frames.{framesOf};
 ghost use Rattle.program.specs.Programs.{programOf};
 ghost use Rattle.machine.specs.Offsets.{stateLength};
 ghost use Rattle.commits.specs.inner.Commits.{CommitWords, obstacleIn, startDecided};
-ghost use Rattle.commits.specs.inner.Commits.{decidedIn};
+ghost use Rattle.states.specs.inner.Threads.{threadIn};
+ghost use Rattle.commits.specs.inner.Commits.{placeIn, decidedIn};
 
 // What the lists do after a turn that nothing refuses. The thread keeps its entry; it leaves its
 // list; it leaves it and joins the next list of that scheduler. Or a thread of that body starts at
-// that scheduler with those arguments, and the starter waits for it or not.
+// that scheduler with those arguments, and the starter waits for it or not. Or the event of that
+// scheduler is present, and who awaits it is active.
 pub(crate) enum Passed {
     Keep,
     Leave,
     Join(Place),
     Start(bool, Place, u64, Arguments),
+    Wake(Place, u8),
 }
 
+// It is refused with that number; it is settled, and the lists follow; it awaits that event on that
+// scheduler, and its own words stay as they were.
 pub(crate) enum Decision {
     Refuse(u8),
     Settle(Passed),
+    Suspend(Place, u8),
 }
 
 // What stands in the way of a start, stuck before spent; 0 where nothing does.
@@ -70,16 +82,12 @@ fn decide_start(
     m: u8,
     args: Arguments,
 ) -> Decision
-    requires { ⌜ CommitWords (now state) t a ⌝ }
+    requires { ⌜ CommitWords (programOf (framesOf (now frames))) (now state) t a ⌝ }
     ensures { λ r. ⌜ r ≡ startDecided (programOf (framesOf (now (frames .entry))))
         (now (state .entry)) t a waits m args ⌝ }
 {
     let found = module_at(frames, m);
-    let change = a.change;
-    let place = place_after(
-        change,
-        Place::known(state[THREADS_AT + THREAD_LENGTH * (t - 1) as usize]),
-    );
+    let place = place_of(state, t, a);
     let no = obstacle(state, found, place, args.count);
     if no != 0 {
         return Decision::Refuse(no);
@@ -92,8 +100,21 @@ fn decide_start(
     Decision::Settle(Passed::Start(waits, place, found.body, args))
 }
 
+// Where thread t stands after its turn.
+fn place_of(state: &[u64], t: u64, a: Action) -> Place
+    requires { ⌜ (length (now state) ≡ stateLength) × (1 ≤ t) × (t ≤ mostThreads)
+        × (isPlace (threadIn (now state) (t - 1) .place) ≡ true) ⌝ }
+    ensures { λ r. ⌜ r ≡ placeIn (now (state .entry)) t a ⌝ }
+{
+    let change = a.change;
+    place_after(
+        change,
+        Place::known(state[THREADS_AT + THREAD_LENGTH * (t - 1) as usize]),
+    )
+}
+
 pub(crate) fn decide(frames: &[u64], state: &[u64], t: u64, a: Action) -> Decision
-    requires { ⌜ CommitWords (now state) t a ⌝ }
+    requires { ⌜ CommitWords (programOf (framesOf (now frames))) (now state) t a ⌝ }
     ensures { λ r. ⌜ r ≡ decidedIn (programOf (framesOf (now (frames .entry))))
         (now (state .entry)) t a (a .transition) ⌝ }
 {
@@ -109,5 +130,7 @@ pub(crate) fn decide(frames: &[u64], state: &[u64], t: u64, a: Action) -> Decisi
             Decision::Refuse(STUCK)
         },
         Transition::Starts(waits, m, args) => decide_start(frames, state, t, a, waits, m, args),
+        Transition::Generates(e) => decide_generate(frames, state, place_of(state, t, a), e),
+        Transition::Awaits(e) => decide_await(frames, state, place_of(state, t, a), e),
     }
 }

@@ -4,5 +4,6 @@ mod change;
 pub mod commit;
 mod decision;
 pub mod leave;
+mod signal;
 mod start;
 mod writing;

@@ -10,9 +10,9 @@ use native.Mathlib.Decide.{ℕ-discrete}
 use lib.Dec.{ltb}
 use lib.ListN.{length, length-append}
 use borrow.Author.Tests.{ltb-true, ltb-false}
-use Rattle.language.specs.Kinds.{kindOf, classOf, uses, childIn}
+use Rattle.language.specs.Kinds.{declarations, kindOf, classOf, uses, childIn}
 use Rattle.language.specs.declared.kind.Kind.{Kind}
-use Rattle.language.specs.declared.kind.DeclarationKind.the-variants.{Shared}
+use Rattle.language.specs.declared.kind.DeclarationKind.the-variants.{Shared, Event}
 use Rattle.language.specs.declared.kind.Kind.the-variants.{Header, Declared, Module, Statement}
 use Rattle.language.specs.declared.kind.Kind.the-variants.{Expression, Unknown}
 use Rattle.language.specs.declared.kind.Use.{Use}
@@ -20,7 +20,7 @@ use Rattle.language.specs.declared.frame.Frame.{Frame}
 use Rattle.text.specs.Frames.{framesOf}
 use Rattle.program.specs.Trees.{frameAt}
 use Rattle.drawing.specs.Drawings.{Drawn, Field, node, kept, child, size, sizeIn, rootFrom}
-use Rattle.drawing.specs.Drawings.{lined, linedAll, rank, ranks, declarations}
+use Rattle.drawing.specs.Drawings.{lined, linedAll, rank, ranks}
 use Rattle.drawing.proofs.Fields.{Names, class-rank}
 use Rattle.drawing.proofs.Back.{treeKind, treeRank, Fits, FitsIn, lined-length, root-inside}
 use Rattle.drawing.proofs.Back.{some-size}
@@ -42,6 +42,7 @@ plain-uses : (k : Kind) → rank k ≤ declarations
     → (childIn (uses k .a) 1 ≡ []) × (childIn (uses k .b) 1 ≡ []) × (childIn (uses k .c) 1 ≡ [])
 plain-uses Header l = (refl, refl, refl)
 plain-uses (Declared Shared) l = (refl, refl, refl)
+plain-uses (Declared Event) l = (refl, refl, refl)
 plain-uses Module l = absurd (omega arith)
 plain-uses (Statement k) l = absurd (omega arith)
 plain-uses (Expression k) l = absurd (omega arith)
@@ -110,18 +111,18 @@ module _ (ws : List ℕ) where
           ⊎-elim (λ q. (let s = root-is t n (begun-lies f b) in let w = ap (λ (i : ℕ). rankOf (frameAt Fs i)) q in omega arith)) (λ q. omega arith) (in-tree t n (begun-lies f b) p x (ltb-true p (n + size t) e))
       go false e rec = let w = rec (ltb-false p (n + size t) e) in omega arith
 
-  -- before a header or a shared cell stand only such
+  -- before a header or a declaration stand only such of its rank or a lower one
   pub before : {m n : ℕ} {ts : List Drawn} → Ranked m ts → Begun n ts → (i j : ℕ) → n ≤ i → i < j
       → j < n + sizes ts → rankOf (frameAt Fs j) ≤ declarations
-      → rankOf (frameAt Fs i) ≤ declarations
+      → rankOf (frameAt Fs i) ≤ rankOf (frameAt Fs j)
   unfolding sizes
   before Ranked.done b i j x y z r = absurd (omega arith)
   before {m} {n} (Ranked.more {t = t} {ts = ts} a c f k) b i j x y z r =
       go (ltb i (n + size t)) refl (ltb j (n + size t)) refl (λ u. before k (begun-next b) i j u y (omega arith) r)
     where
       go : (p : Bool) → ltb i (n + size t) ≡ p → (q : Bool) → ltb j (n + size t) ≡ q
-          → (n + size t ≤ i → rankOf (frameAt Fs i) ≤ declarations)
-          → rankOf (frameAt Fs i) ≤ declarations
+          → (n + size t ≤ i → rankOf (frameAt Fs i) ≤ rankOf (frameAt Fs j))
+          → rankOf (frameAt Fs i) ≤ rankOf (frameAt Fs j)
       go false e q d rec = rec (ltb-false i (n + size t) e)
       go true e false d rec =
           let l = begun-lies f b in

@@ -1,5 +1,6 @@
--- The lines laid out from a writable file have no fault 5: each has the kind and the fields of one
--- of the file's lines, and of shared cells and modules there are the same. Assumes nothing.
+-- The lines laid out from a writable file have no fault 4 or 5: the header is the same, each has the
+-- kind and the fields of one of the file's lines, and of shared cells, events and modules there are
+-- the same. Assumes nothing.
 use mathlib.Core.Path.{_≡_, refl, sym, ap, ap₂, subst, _∙_}
 use mathlib.Core.Bool.{Bool, true, false, not, _&&_, _||_, true≢false}
 use mathlib.Core.List.{List, [], _∷_, _++_, map}
@@ -13,9 +14,11 @@ use Rattle.basics.specs.Members.{In, All}
 use Rattle.basics.proofs.Ifs.{if-yes, if-no, and-true}
 use Rattle.language.specs.Places.{hasPlace, hasScheduler}
 use Rattle.language.specs.Types.{typeWord, contentWord}
-use Rattle.language.specs.Limits.{mostShared, mostModules, mostParameters}
-use Rattle.language.specs.Kinds.{isHeader, isShared, isModule, uses, childIn}
-use Rattle.language.specs.declared.kind.DeclarationKind.the-variants.{Shared}
+use Rattle.language.specs.Limits.{mostSchedulers, mostShared, mostEvents, mostModules}
+use Rattle.language.specs.Limits.{mostParameters}
+use Rattle.language.specs.Kinds.{declarationRank, isHeader, isShared, isEvent, isModule, uses}
+use Rattle.language.specs.Kinds.{childIn}
+use Rattle.language.specs.declared.kind.DeclarationKind.the-variants.{Shared, Event}
 use Rattle.language.specs.declared.kind.StatementKind.{StatementKind}
 use Rattle.language.specs.declared.kind.ExpressionKind.{ExpressionKind}
 use Rattle.language.specs.declared.kind.Kind.{Kind}
@@ -29,12 +32,12 @@ use Rattle.program.specs.Trees.{noFrame, frameAt}
 use Rattle.program.specs.Programs.{SharedCell, typeOfShared, cellOf, sharedOf, cellsOf}
 use Rattle.program.proofs.OneMore.{shared-yes, shared-no}
 use Rattle.fields.specs.Fields.{schedulersOf, firstContentFine, fieldFine, countOf, kindFine}
-use Rattle.fields.specs.Fields.{frameFine}
+use Rattle.fields.specs.Fields.{headerFine, frameFine}
 use Rattle.fields.proofs.Tallies.{count-cells, is-shared}
 use Rattle.layout.specs.Faults.{Fault}
 use Rattle.layout.proofs.Trees.{is-module}
 use Rattle.drawing.specs.Drawings.{headOf, Drawn, Field, node, kept, child, fieldWith}
-use Rattle.drawing.specs.Drawings.{nodeWith, declarationRank, moduleRank, rank, ranks}
+use Rattle.drawing.specs.Drawings.{nodeWith, moduleRank, rank, ranks}
 use Rattle.drawing.specs.Drawings.{drawing, laidOut}
 use Rattle.drawing.specs.Writings.{Writable}
 use Rattle.drawing.proofs.Lines.{frame-head}
@@ -49,6 +52,7 @@ use Rattle.drawing.proofs.Earlier.{few-all, few-before, Contents, conte
 header-test : (k : Kind) → isHeader k ≡ eqb (rank k) 0
 header-test Header = refl
 header-test (Declared Shared) = refl
+header-test (Declared Event) = refl
 header-test Module = refl
 header-test (Statement k) = refl
 header-test (Expression k) = refl
@@ -57,14 +61,25 @@ header-test Unknown = refl
 shared-test : (k : Kind) → isShared k ≡ eqb (rank k) (declarationRank Shared)
 shared-test Header = refl
 shared-test (Declared Shared) = refl
+shared-test (Declared Event) = refl
 shared-test Module = refl
 shared-test (Statement k) = refl
 shared-test (Expression k) = refl
 shared-test Unknown = refl
 
+event-test : (k : Kind) → isEvent k ≡ eqb (rank k) (declarationRank Event)
+event-test Header = refl
+event-test (Declared Shared) = refl
+event-test (Declared Event) = refl
+event-test Module = refl
+event-test (Statement k) = refl
+event-test (Expression k) = refl
+event-test Unknown = refl
+
 module-test : (k : Kind) → isModule k ≡ eqb (rank k) moduleRank
 module-test Header = refl
 module-test (Declared Shared) = refl
+module-test (Declared Event) = refl
 module-test Module = refl
 module-test (Statement k) = refl
 module-test (Expression k) = refl
@@ -178,6 +193,8 @@ of-statement StatementKind.Let = record { s = refl; a = refl; b = refl; c = refl
 of-statement StatementKind.Store = record { s = refl; a = refl; b = refl; c = refl }
 of-statement StatementKind.If = record { s = refl; a = refl; b = refl; c = refl }
 of-statement StatementKind.While = record { s = refl; a = refl; b = refl; c = refl }
+of-statement StatementKind.Generate = record { s = refl; a = refl; b = refl; c = refl }
+of-statement StatementKind.Await = record { s = refl; a = refl; b = refl; c = refl }
 
 of-expression : (k : ExpressionKind) → Firsts (Expression k)
 of-expression ExpressionKind.Number = record { s = refl; a = refl; b = refl; c = refl }
@@ -193,6 +210,7 @@ of-expression ExpressionKind.Choose = record { s = refl; a = refl; b = refl; c =
 firsts : (k : Kind) → Firsts k
 firsts Header = record { s = refl; a = refl; b = refl; c = refl }
 firsts (Declared Shared) = record { s = refl; a = refl; b = refl; c = refl }
+firsts (Declared Event) = record { s = refl; a = refl; b = refl; c = refl }
 firsts Module = record { s = refl; a = refl; b = refl; c = refl }
 firsts (Statement k) = of-statement k
 firsts (Expression k) = of-expression k
@@ -325,6 +343,13 @@ module _ (ws : List ℕ) (writable : Writable (framesOf ws)) (l : 0 < length ws)
   contents =
       subst (Contents []) (sym (same-shared Out ws same)) (contents-of [] Fs (λ j q e. (let k = is-shared (frameAt Fs j .kind) e in sym (ap (λ (x : Kind). fieldFine Fs j (frameAt Fs j) (uses x .b) (frameAt Fs j .b)) k) ∙ fine j q .b)))
 
+  -- the header is the same, and there are as many events
+  pub out-header-fine : headerFine Gs ≡ headerFine Fs
+  unfolding headerFine
+  out-header-fine =
+      ap₂ (λ (h : Frame) (n : ℕ). isHeader (h .kind) && eqb (h .s) 1 && leb 1 (h .b) && leb (h .b) mostSchedulers && leb (h .c) mostEvents && eqb n (h .c)) (out-header ws writable l)
+      (same-count isEvent (declarationRank Event) event-test Out ws (omega arith) same)
+
   -- the header stands first, so another one would be a second
   header-first : (p : ℕ) → p < length Gs → frameAt Gs p .kind ≡ Header → p ≡ 0
   header-first p q e =
@@ -339,6 +364,7 @@ module _ (ws : List ℕ) (writable : Writable (framesOf ws)) (l : 0 < length ws)
       let a = few-before isShared Gs p q (ap isShared e) in
       let b = cells in
       lt-ltb (countOf isShared (take p Gs)) mostShared (omega arith)
+  kind-kept p i (Declared Event) q r e d = refl
   kind-kept p i Module q r e d =
       let a = few-before isModule Gs p q (ap isModule e) in
       let b = modules in

@@ -11,7 +11,7 @@ use lib.ListN.{length, length-append, getD}
 use borrow.Author.Tests.{eqb-true, eqb-false, eq-eqb}
 use Rattle.basics.specs.If.{if_then_else_}
 use Rattle.basics.proofs.Ifs.{if-yes, if-no}
-use Rattle.language.specs.Kinds.{isModule}
+use Rattle.language.specs.Kinds.{declarations, isModule}
 use Rattle.language.specs.declared.kind.Kind.{Kind}
 use Rattle.language.specs.declared.kind.Kind.the-variants.{Header, Declared, Module, Statement}
 use Rattle.language.specs.declared.kind.Kind.the-variants.{Expression, Unknown}
@@ -22,7 +22,7 @@ use Rattle.program.specs.Trees.{noFrame, frameAt}
 use Rattle.layout.specs.Order.{isMain}
 use Rattle.drawing.specs.Drawings.{headOf, Drawn, size, drawn, rootFrom, lined, linedAll}
 use Rattle.drawing.specs.Drawings.{rank, ranks, levels, numbered, rootsTo, drawing, laidOut}
-use Rattle.drawing.specs.Drawings.{declarations, moduleRank}
+use Rattle.drawing.specs.Drawings.{moduleRank}
 use Rattle.drawing.specs.TreeFaults.{ShapeFault}
 use Rattle.drawing.specs.Writings.{Writable}
 use Rattle.drawing.proofs.Lines.{frame-head}

@@ -1,6 +1,6 @@
 -- What the writer promises of a text. Assumes nothing.
 use mathlib.Core.Path.{_≡_, refl, sym, ap, subst, _∙_}
-use mathlib.Core.Bool.{true, false, _||_, true≢false}
+use mathlib.Core.Bool.{true, false, true≢false}
 use mathlib.Core.List.{List, [], _∷_}
 use Prim.Native.Nat.{ℕ, zero, suc, _+_, _*_, _/_, _%_, _≤_, _<_}
 use native.Mathlib.Omega.{arith}
@@ -14,10 +14,12 @@ use Rattle.text.specs.Reading.{Reading, frames, refused, Reads, WrongAt}
 use Rattle.text.proofs.ReadLaws.{length-words}
 use Rattle.text.proofs.FrameWords.{frames-length}
 use Rattle.layout.specs.Faults.{Fault, NoFault, LayoutSays}
-use Rattle.language.specs.Kinds.{isHeader, isShared, classOf}
+use Rattle.language.specs.Kinds.{declarationRank, classOf}
+use Rattle.language.specs.declared.kind.DeclarationKind.{DeclarationKind}
+use Rattle.language.specs.declared.kind.Kind.the-variants.{Declared}
 use Rattle.program.specs.Trees.{frameAt}
-use Rattle.layout.specs.Order.{Tree, hasChild, hasClass, isMain}
-use Rattle.fields.specs.Fields.{headerFine, frameFine}
+use Rattle.layout.specs.Order.{Tree, fileRank, hasChild, hasClass, isMain}
+use Rattle.fields.specs.Fields.{frameFine}
 use Rattle.layout.specs.Depths.{Depth}
 use Rattle.layout.specs.LaidOut.{HasLayout}
 use Rattle.layout.specs.inner.Layouts.{layoutVerdict}
@@ -29,11 +31,10 @@ use Rattle.drawing.specs.Answers.{WellWritten, WritesWell, KeepsOrder}
 use Rattle.drawing.proofs.Whole.{in-order-same}
 use Rattle.drawing.proofs.Bytes.{Right, right-text, bytes-back, words-small}
 use Rattle.drawing.proofs.Counted.{nothing-lost}
-use Rattle.drawing.proofs.Writables.{same-drawing, out-small, out-spots, out-shared-first}
+use Rattle.drawing.proofs.Writables.{same-drawing, out-small, out-spots, out-in-place}
 use Rattle.drawing.proofs.Mains.{out-main}
-use Rattle.drawing.proofs.Headers.{out-header}
 use Rattle.drawing.proofs.Output.{Spot, no-order, no-leftover, depth-most}
-use Rattle.drawing.proofs.Kept.{out-fields}
+use Rattle.drawing.proofs.Kept.{out-header-fine, out-fields}
 use Rattle.drawing.proofs.Ordered.{in-order-writable}
 use Rattle.drawing.proofs.Rereads.{lines-back, bytes-read}
 
@@ -141,14 +142,13 @@ module _ {bs : List ℕ} {fs : List Frame} (r : Reads bs (frames fs)) (s : Writa
   pub out-depth : (j d : ℕ) → Depth (framesOf Out) j d → d ≤ 24
   out-depth = depth-most Out spot
 
-  -- no shared cell after another kind, and main is last
-  pub out-shared : (i j : ℕ) → i < j → j < length (framesOf Out)
-      → isShared (frameAt (framesOf Out) j .kind) ≡ true
-      → (isHeader (frameAt (framesOf Out) i .kind) || isShared (frameAt (framesOf Out) i .kind)) ≡ false
-      → ⊥
-  out-shared =
+  -- no declaration after a frame that it should precede, and main is last
+  pub out-misplaced : (i j : ℕ) (d : DeclarationKind) → i < j → j < length (framesOf Out)
+      → frameAt (framesOf Out) j .kind ≡ Declared d
+      → declarationRank d < fileRank (frameAt (framesOf Out) i .kind) → ⊥
+  out-misplaced =
       let l = lines-of r in
-      out-shared-first (linesIn bs) (writable-lines r s) (l .some) (l .most)
+      out-in-place (linesIn bs) (writable-lines r s) (l .some) (l .most)
 
   pub out-last : (j : ℕ) → suc j ≡ length (framesOf Out) → isMain (frameAt (framesOf Out) j) ≡ true
   out-last = let l = lines-of r in out-main (linesIn bs) (writable-lines r s) (l .some) (l .most)
@@ -161,10 +161,12 @@ module _ {bs : List ℕ} {fs : List Frame} (r : Reads bs (frames fs)) (s : Writa
   -- ---- so it passes 4 to 7
   pub out-fault : NoFault (framesOf Out)
   out-fault n j (Fault.header h) =
-      writable-lines r s .early 4 0 (omega arith) (Fault.header (ap headerFine (sym (out-header (linesIn bs) (writable-lines r s) (lines-of r .some))) ∙ h))
+      let l = lines-of r in
+      let w = writable-lines r s in
+      w .early 4 0 (omega arith) (Fault.header (sym (out-header-fine (linesIn bs) w (l .some) (l .most)) ∙ h))
   out-fault n j (Fault.field {j = k} l h) = true≢false (sym (out-right k l) ∙ h)
   out-fault n j (Fault.order {j = k} l h) = out-order k l h
-  out-fault n j (Fault.misplaced {i = i} {j = k} a b c d) = out-shared i k a b c d
+  out-fault n j (Fault.misplaced {i = i} {j = k} {d = d} a b c m) = out-misplaced i k d a b c m
   out-fault n j (Fault.leftover {j = k} a b c) = out-leftover k a b c
   out-fault n j (Fault.main {j = k} a b) = true≢false (sym (out-last k a) ∙ b)
   out-fault n j (Fault.depth {j = k} {d = d} a b) = let m = out-depth k d a in omega arith

@@ -1,6 +1,6 @@
 -- The roots of a file in order: by rank they come as they stand in the file. Assumes nothing.
 use mathlib.Core.Path.{_≡_, refl, sym, ap, ap₂, _∙_}
-use mathlib.Core.Bool.{Bool, true, false, _||_, true≢false}
+use mathlib.Core.Bool.{Bool, true, false}
 use mathlib.Core.List.{List, [], _∷_, _++_}
 use Prim.Native.Nat.{ℕ, zero, suc, _+_, _≤_, _<_}
 use native.Mathlib.Omega.{arith}
@@ -9,18 +9,18 @@ use lib.ListN.{length}
 use borrow.Author.Tests.{eq-eqb, ne-eqb, eqb-true, eqb-false, lt-ltb, le-ltb, ltb-true, ltb-false}
 use Rattle.basics.specs.If.{if_then_else_}
 use Rattle.basics.proofs.Ifs.{if-yes, if-no, and-true}
-use Rattle.language.specs.Kinds.{isHeader, isShared}
+use Rattle.language.specs.Kinds.{declarationRank, declarations}
 use Rattle.language.specs.declared.kind.Kind.{Kind}
 use Rattle.language.specs.declared.kind.DeclarationKind.{DeclarationKind}
-use Rattle.language.specs.declared.kind.DeclarationKind.the-variants.{Shared}
+use Rattle.language.specs.declared.kind.DeclarationKind.the-variants.{Shared, Event}
 use Rattle.language.specs.declared.kind.Kind.the-variants.{Header, Declared, Module, Statement}
 use Rattle.language.specs.declared.kind.Kind.the-variants.{Expression, Unknown}
 use Rattle.language.specs.declared.frame.Frame.{Frame}
 use Rattle.program.specs.Trees.{noFrame, frameAt}
 use Rattle.fields.specs.Fields.{frameFine, kindFine}
+use Rattle.layout.specs.Order.{fileRank}
 use Rattle.layout.specs.Faults.{Fault, NoFault}
-use Rattle.drawing.specs.Drawings.{rank, ranks, numbered, rootsTo, declarationRank}
-use Rattle.drawing.specs.Drawings.{declarations}
+use Rattle.drawing.specs.Drawings.{rank, ranks, numbered, rootsTo}
 
 abbrev pub rankOf : Frame → ℕ
 rankOf f = rank (f .kind)
@@ -28,6 +28,7 @@ rankOf f = rank (f .kind)
 -- no declaration comes after the last kind of them
 pub declared-rank : (d : DeclarationKind) → declarationRank d ≤ declarations
 declared-rank Shared = omega arith
+declared-rank Event = omega arith
 
 -- the numbers of the frames of the ranks below r, as they stand; the list stands from i on
 unfoldable pub below : ℕ → ℕ → List Frame → List ℕ
@@ -77,8 +78,25 @@ as-they-stand m (suc r) fs l s =
     ap (λ (t : List ℕ). t ++ numbered r 0 fs) (as-they-stand m r fs (omega arith) s)
     ∙ merge r m 0 fs (omega arith) s
 
--- ---- a file without fault stands by ranks. (Change 5 gives refusal 6 by rank: then this is its
--- rule)
+-- ---- where a file's rules want a frame, and where it is laid out: they differ only in that there
+-- a statement or an expression stands before its module
+pub file-rank : (k : Kind) → fileRank k ≤ rank k
+file-rank Header = omega arith
+file-rank (Declared d) = omega arith
+file-rank Module = omega arith
+file-rank (Statement k) = omega arith
+file-rank (Expression k) = omega arith
+file-rank Unknown = omega arith
+
+early-rank : (k : Kind) (n : ℕ) → fileRank k ≤ n → n ≤ declarations → rank k ≤ n
+early-rank Header n l m = omega arith
+early-rank (Declared d) n l m = l
+early-rank Module n l m = absurd (omega arith)
+early-rank (Statement k) n l m = absurd (omega arith)
+early-rank (Expression k) n l m = absurd (omega arith)
+early-rank Unknown n l m = absurd (omega arith)
+
+-- ---- a file without fault stands by ranks: refusal 6
 pub kind-fine : (fs : List Frame) → ((j : ℕ) → Fault fs 5 j → ⊥) → (j : ℕ) → j < length fs
     → kindFine fs j (frameAt fs j .kind) ≡ true
 unfolding frameFine
@@ -91,23 +109,19 @@ kind-fine fs h j l = go (frameFine fs j (frameAt fs j)) refl
 pub sorted : (fs : List Frame) → NoFault fs → Sorted ranks fs
 sorted fs h i j l k r = go (frameAt fs j .kind) refl
   where
-    of-shared : (x : Kind) → frameAt fs i .kind ≡ x → frameAt fs j .kind ≡ Declared Shared
-        → rank x ≤ declarationRank Shared
-    of-shared Header e s = omega arith
-    of-shared (Declared Shared) e s = omega arith
-    of-shared Module e s =
-        absurd (h 6 j (Fault.misplaced l k (ap isShared s) (ap (λ (y : Kind). isHeader y || isShared y) e)))
-    of-shared (Statement x) e s =
-        absurd (h 6 j (Fault.misplaced l k (ap isShared s) (ap (λ (y : Kind). isHeader y || isShared y) e)))
-    of-shared (Expression x) e s =
-        absurd (h 6 j (Fault.misplaced l k (ap isShared s) (ap (λ (y : Kind). isHeader y || isShared y) e)))
-    of-shared Unknown e s =
-        absurd (h 6 j (Fault.misplaced l k (ap isShared s) (ap (λ (y : Kind). isHeader y || isShared y) e)))
+    in-place : (d : DeclarationKind) → frameAt fs j .kind ≡ Declared d
+        → fileRank (frameAt fs i .kind) ≤ declarationRank d
+    in-place d e = by (ltb (declarationRank d) (fileRank (frameAt fs i .kind))) refl
+      where
+        by : (b : Bool) → ltb (declarationRank d) (fileRank (frameAt fs i .kind)) ≡ b
+            → fileRank (frameAt fs i .kind) ≤ declarationRank d
+        by true q = absurd (h 6 j (Fault.misplaced {d = d} l k e (ltb-true _ _ q)))
+        by false q = ltb-false _ _ q
 
     go : (x : Kind) → frameAt fs j .kind ≡ x → rankOf (frameAt fs i) ≤ rank (frameAt fs j .kind)
     go Header e =
         absurd (let z : eqb j 0 ≡ true = ap (kindFine fs j) (sym e) ∙ kind-fine fs (λ j f. h 5 j f) j k in let y = eqb-true j 0 z in omega arith)
-    go (Declared Shared) e = rw e (of-shared (frameAt fs i .kind) refl e)
+    go (Declared d) e = rw e (early-rank (frameAt fs i .kind) (declarationRank d) (in-place d e) (declared-rank d))
     go Module e = rw e (omega arith)
     go (Statement x) e = rw e (omega arith)
     go (Expression x) e = rw e (omega arith)

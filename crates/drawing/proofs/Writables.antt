@@ -2,7 +2,7 @@
 -- the file is. Assumes nothing.
 use mathlib.Core.Path.{_≡_, refl, sym, ap, ap₂, subst, _∙_}
 use mathlib.Core.Logic.{inr}
-use mathlib.Core.Bool.{Bool, true, false, _&&_, _||_, true≢false}
+use mathlib.Core.Bool.{Bool, true, false, true≢false}
 use mathlib.Core.List.{List, [], _∷_, _++_, map}
 use Prim.Native.Nat.{ℕ, zero, suc, _+_, _*_, _/_, _%_, _^_, _≤_, _<_, max}
 use native.Mathlib.Omega.{arith}
@@ -11,11 +11,11 @@ use lib.ListN.{length, getD}
 use borrow.Author.Tests.{eq-eqb, eqb-true, eqb-false, ltb-true, ltb-false, leb-true, leb-false}
 use Rattle.basics.specs.If.{if_then_else_}
 use Rattle.basics.specs.Members.{In, All}
-use Rattle.basics.proofs.Ifs.{if-yes, if-no, if-all, and-true}
-use Rattle.language.specs.Kinds.{isHeader, isShared, kindOf, classOf, uses, Child, childIn}
-use Rattle.language.specs.Kinds.{children}
+use Rattle.basics.proofs.Ifs.{if-yes, if-no}
+use Rattle.language.specs.Kinds.{declarationRank, isHeader, kindOf, classOf, uses, Child}
+use Rattle.language.specs.Kinds.{childIn, children}
 use Rattle.language.specs.declared.kind.Kind.{Kind}
-use Rattle.language.specs.declared.kind.DeclarationKind.the-variants.{Shared}
+use Rattle.language.specs.declared.kind.DeclarationKind.{DeclarationKind}
 use Rattle.language.specs.declared.kind.Kind.the-variants.{Header, Declared, Module, Statement}
 use Rattle.language.specs.declared.kind.Kind.the-variants.{Expression, Unknown}
 use Rattle.language.specs.declared.kind.Use.{Use}
@@ -25,11 +25,13 @@ use Rattle.text.specs.Frames.{frameOfWord, framesOf}
 use Rattle.text.proofs.FrameWords.{frames-length, frame-at}
 use Rattle.program.specs.Trees.{noFrame, frameAt}
 use Rattle.fields.specs.Fields.{headerFine}
+use Rattle.fields.proofs.FieldLaws.{fine-header}
+use Rattle.layout.specs.Order.{fileRank}
 use Rattle.layout.specs.Faults.{Fault}
 use Rattle.program.proofs.NodeLaws.{children-as}
 use Rattle.drawing.specs.Drawings.{headOf, Drawn, Field, node, kept, child, size, fieldWith}
 use Rattle.drawing.specs.Drawings.{nodeWith, drawn, linedAll, rank, ranks, levels, numbered}
-use Rattle.drawing.specs.Drawings.{rootsTo, drawing, laidOut, declarations, moduleRank}
+use Rattle.drawing.specs.Drawings.{rootsTo, drawing, laidOut, moduleRank}
 use Rattle.drawing.proofs.Heights.{height, heightIn}
 use Rattle.drawing.specs.TreeFaults.{ShapeFault}
 use Rattle.drawing.specs.Writings.{Writable}
@@ -39,7 +41,7 @@ use Rattle.drawing.proofs.Lines.{frameOf, frame-head, frame-fits}
 use Rattle.drawing.proofs.Fields.{Held, held, Few, few, Names}
 use Rattle.drawing.proofs.Back.{treeKind, treeRank, Fits, FitsIn}
 use Rattle.drawing.proofs.InOrder.{Within, within, in-left, in-right}
-use Rattle.drawing.proofs.Roots.{rankOf}
+use Rattle.drawing.proofs.Roots.{rankOf, declared-rank, file-rank}
 use Rattle.drawing.proofs.Stable.{as-frame}
 use Rattle.drawing.proofs.Sums.{sumOf, over}
 use Rattle.drawing.proofs.Counted.{right-class, lines-inside, roots-within, nothing-lost}
@@ -234,12 +236,10 @@ module _ (ws : List ℕ) (writable : Writable (framesOf ws)) where
 
   -- ---- the header comes first, and is one line
   pub first-kind : frameAt Fs 0 .kind ≡ Header
-  unfolding headerFine
-  first-kind = go (headerFine (frameAt Fs 0)) refl
+  first-kind = go (headerFine Fs) refl
     where
-      go : (b : Bool) → headerFine (frameAt Fs 0) ≡ b → frameAt Fs 0 .kind ≡ Header
-      go true e =
-          is-header (frameAt Fs 0 .kind) (and-true _ _ (and-true _ _ (and-true _ _ (and-true _ _ e .0) .0) .0) .0)
+      go : (b : Bool) → headerFine Fs ≡ b → frameAt Fs 0 .kind ≡ Header
+      go true e = is-header (frameAt Fs 0 .kind) (fine-header Fs e .kind)
       go false e = absurd (writable .early 4 0 (omega arith) (Fault.header e))
 
   pub record Begins (is : List ℕ) : Type 0 where
@@ -310,30 +310,14 @@ module _ (ws : List ℕ) (writable : Writable (framesOf ws)) where
       let c : length (linedAll 0 (map draw (rootsTo ranks Fs))) ≡ length ws = lost in
       all-small (t .ranked) 0 (omega arith)
 
-  -- no shared cell stands after another kind
-  shared-rank : (k : Kind) → isShared k ≡ true → rank k ≤ declarations
-  shared-rank Header h = absurd (true≢false (sym h))
-  shared-rank (Declared Shared) h = omega arith
-  shared-rank Module h = absurd (true≢false (sym h))
-  shared-rank (Statement k) h = absurd (true≢false (sym h))
-  shared-rank (Expression k) h = absurd (true≢false (sym h))
-  shared-rank Unknown h = absurd (true≢false (sym h))
-
-  early-kind : (k : Kind) → rank k ≤ declarations → (isHeader k || isShared k) ≡ true
-  early-kind Header l = refl
-  early-kind (Declared Shared) l = refl
-  early-kind Module l = absurd (omega arith)
-  early-kind (Statement k) l = absurd (omega arith)
-  early-kind (Expression k) l = absurd (omega arith)
-  early-kind Unknown l = absurd (omega arith)
-
-  pub out-shared-first : 0 < length ws → length ws ≤ 1024 → (i j : ℕ) → i < j
+  -- no declaration stands after a frame that it should precede
+  pub out-in-place : 0 < length ws → length ws ≤ 1024 → (i j : ℕ) (d : DeclarationKind) → i < j
       → j < length (framesOf (laidOut (drawing ws)))
-      → isShared (frameAt (framesOf (laidOut (drawing ws))) j .kind) ≡ true
-      → (isHeader (frameAt (framesOf (laidOut (drawing ws))) i .kind) || isShared (frameAt (framesOf (laidOut (drawing ws))) i .kind)) ≡ false
+      → frameAt (framesOf (laidOut (drawing ws))) j .kind ≡ Declared d
+      → declarationRank d < fileRank (frameAt (framesOf (laidOut (drawing ws))) i .kind)
       → ⊥
   unfolding drawing laidOut
-  out-shared-first l s i j q k h g =
+  out-in-place l s i j d q k h g =
       let n = frames-length ws in
       let ts : List Drawn = map draw (rootsTo ranks Fs) in
       let out : List ℕ = linedAll 0 ts in
@@ -344,6 +328,8 @@ module _ (ws : List ℕ) (writable : Writable (framesOf ws)) where
       let c : length (linedAll 0 (map draw (rootsTo ranks Fs))) ≡ length ws = lost in
       let o : length (framesOf (linedAll 0 (map draw (rootsTo ranks Fs)))) ≡ length (linedAll 0 (map draw (rootsTo ranks Fs))) = frames-length (linedAll 0 (map draw (rootsTo ranks Fs))) in
       let begun : Begun out 0 ts = record { pre = []; len = refl; same = refl; room = omega arith; first = inr (λ x us z. (let w : draw 0 ≡ x = cc in ap size (sym w) ∙ header-size l)) } in
-      let r = shared-rank (frameAt (framesOf out) j .kind) h in
+      let r : rankOf (frameAt (framesOf out) j) ≡ declarationRank d = ap rank h in
+      let m = declared-rank d in
       let f = before out (t .ranked) begun i j (omega arith) q (omega arith) (omega arith) in
-      true≢false (sym (early-kind (frameAt (framesOf out) i .kind) f) ∙ g)
+      let p = file-rank (frameAt (framesOf out) i .kind) in
+      omega arith

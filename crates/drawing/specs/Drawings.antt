@@ -2,8 +2,9 @@
 -- such trees. 'Read back, the lines give the same tree.'
 use Rattle.basics.specs.Prelude.{List, [], _∷_, _++_, map, ℕ, zero, suc, _+_, _*_, _/_, _%_, _^_}
 use Rattle.basics.specs.Prelude.{eqb, getD, if_then_else_}
-use Rattle.language.specs.{Kinds.uses, Kinds.Child, Kinds.childIn, Limits.mostDepth}
-use kind.{Kind.Kind, DeclarationKind.DeclarationKind, DeclarationKind.the-variants.Shared}
+use Rattle.language.specs.{Kinds.uses, Kinds.Child, Kinds.childIn, Kinds.declarationRank}
+use Rattle.language.specs.{Kinds.declarations, Limits.mostDepth}
+use kind.{Kind.Kind}
 use kind.Kind.the-variants.{Header, Declared, Module, Statement, Expression, Unknown}
 use Rattle.language.specs.declared.frame.Frame.{Frame}
 use Rattle.text.specs.Frames.{frameOfWord, framesOf}
@@ -94,14 +95,7 @@ linedAll n (t ∷ ts) = lined n t ++ linedAll (n + size t) ts
 -- ---- a whole file. 'Modules keep their relative order, as do shared cells and any declarations
 -- that later changes add': what is no child comes by its rank, and within a rank as it stood
 
--- the declarations come after the header, one kind after the other; the last kind's rank
-abbrev pub declarationRank : DeclarationKind → ℕ
-declarationRank Shared = 1
-
-abbrev pub declarations : ℕ
-declarations = 1
-
--- then the modules
+-- the header, the declarations, one kind after the other, then the modules
 abbrev pub moduleRank : ℕ
 moduleRank = suc declarations
 

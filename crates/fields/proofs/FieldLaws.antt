@@ -10,10 +10,10 @@ use lib.Dec.{leb, eqb}
 use lib.ListN.{length, getD, take, length-take}
 use lib.Seq.{getD-take}
 use borrow.Author.Tests.{lt-ltb, le-ltb, le-leb, lt-leb, leb-true, eq-eqb, ne-eqb, not-true}
-use borrow.Author.Tests.{not-false}
+use borrow.Author.Tests.{not-false, eqb-true}
 use Rattle.basics.specs.If.{if_then_else_}
-use Rattle.basics.proofs.Ifs.{yes, no, if-all, and-true}
-use Rattle.language.specs.Kinds.{isHeader}
+use Rattle.basics.proofs.Ifs.{yes, no, if-all, and-true, and-off}
+use Rattle.language.specs.Kinds.{isHeader, isEvent}
 use Rattle.language.specs.Places.{hasPlace, hasScheduler}
 use Rattle.language.specs.Types.{isCell, typeWord}
 use Rattle.language.specs.declared.frame.Frame.{Frame}
@@ -22,55 +22,93 @@ use Rattle.program.specs.Trees.{frameAt}
 use Rattle.fields.specs.declared.fault_search.FaultSearch.{FaultSearch}
 use Rattle.fields.specs.declared.fault_search.FaultSearch.the-variants.{At, Nowhere}
 use Rattle.fields.specs.declared.field.Tally.{Tally}
-use Rattle.fields.specs.Fields.{headerFine, schedulersOf, firstContentFine}
-use Rattle.fields.specs.inner.Scans.{headerFault, found}
+use Rattle.fields.specs.Fields.{countOf, headerFine, schedulersOf, eventCountOf}
+use Rattle.fields.specs.Fields.{firstContentFine}
+use Rattle.fields.specs.inner.Scans.{headerAlone, headerFault, found}
 
 -- ---- the header
 module _ (f : Frame) (x : Bool) (h : x ≡ isHeader (f .kind)) where
-  pub header-kind : not x ≡ true → false ≡ headerFine f
-  unfolding headerFine
+  pub header-kind : not x ≡ true → false ≡ headerAlone f
+  unfolding headerAlone
   header-kind n = rw (sym h ∙ not-true x n)
 
-  pub header-version : not x ≡ false → (f .s ≡ 1 → ⊥) → false ≡ headerFine f
-  unfolding headerFine
+  pub header-version : not x ≡ false → (f .s ≡ 1 → ⊥) → false ≡ headerAlone f
+  unfolding headerAlone
   header-version n s = rw (sym h ∙ not-false x n, ne-eqb (f .s) 1 s)
 
-  pub header-few : not x ≡ false → f .s ≡ 1 → f .b < 1 → false ≡ headerFine f
-  unfolding headerFine
+  pub header-few : not x ≡ false → f .s ≡ 1 → f .b < 1 → false ≡ headerAlone f
+  unfolding headerAlone
   header-few n s l = rw (sym h ∙ not-false x n, eq-eqb (f .s) 1 s, lt-leb 1 (f .b) l)
 
-  pub header-many : not x ≡ false → f .s ≡ 1 → 1 ≤ f .b → 8 < f .b → false ≡ headerFine f
-  unfolding headerFine
+  pub header-many : not x ≡ false → f .s ≡ 1 → 1 ≤ f .b → 8 < f .b → false ≡ headerAlone f
+  unfolding headerAlone
   header-many n s l m =
       rw (sym h ∙ not-false x n, eq-eqb (f .s) 1 s, le-leb 1 (f .b) l, lt-leb (f .b) 8 m)
 
-  pub header-right : not x ≡ false → f .s ≡ 1 → 1 ≤ f .b → f .b ≤ 8 → eqb (f .c) 0 ≡ headerFine f
-  unfolding headerFine
+  pub header-right : not x ≡ false → f .s ≡ 1 → 1 ≤ f .b → f .b ≤ 8
+      → leb (f .c) 16 ≡ headerAlone f
+  unfolding headerAlone
   header-right n s l m =
       rw (sym h ∙ not-false x n, eq-eqb (f .s) 1 s, le-leb 1 (f .b) l, le-leb (f .b) 8 m)
 
 pub ruleset header-laws = (header-kind, header-version, header-few, header-many, header-right)
 
-module _ (ws : List ℕ) (f : Frame) (b : Bool) (e : f ≡ frameAt (framesOf ws) 0) (h : b ≡ headerFine f) where
-  pub header-there : b ≡ true → Nowhere ≡ found (headerFault (framesOf ws))
+-- the number of events is asked last
+fine-split : (fs : List Frame) (b : Bool) → b ≡ headerAlone (frameAt fs 0)
+    → (b && eqb (countOf isEvent fs) (frameAt fs 0 .c)) ≡ headerFine fs
+unfolding headerFine headerAlone
+fine-split fs b h = ap (λ (x : Bool). x && eqb (countOf isEvent fs) (frameAt fs 0 .c)) h
+
+module _ (ws : List ℕ) (f : Frame) (b : Bool) (e : f ≡ frameAt (framesOf ws) 0) (h : b ≡ headerAlone f) where
+  fine-by : (t : Bool) → (b && eqb (countOf isEvent (framesOf ws)) (f .c)) ≡ t
+      → headerFine (framesOf ws) ≡ t
+  fine-by t q = sym (fine-split (framesOf ws) b (h ∙ ap headerAlone e)) ∙ ap (λ (g : Frame). b && eqb (countOf isEvent (framesOf ws)) (g .c)) (sym e) ∙ q
+
+  wrong : headerFine (framesOf ws) ≡ false → At 0 ≡ found (headerFault (framesOf ws))
   unfolding headerFault
-  header-there t = ap found (yes (some 0) (sym (h ∙ ap headerFine e) ∙ t) refl)
+  wrong t = ap found (no none t refl)
 
-  pub header-wrong : b ≡ false → At 0 ≡ found (headerFault (framesOf ws))
-  unfolding headerFault
-  header-wrong t = ap found (no none (sym (h ∙ ap headerFine e) ∙ t) refl)
+  pub header-wrong : not b ≡ true → At 0 ≡ found (headerFault (framesOf ws))
+  header-wrong t = wrong (fine-by false (rw (not-true b t)))
 
-pub ruleset header-faults = (header-there, header-wrong)
+  module _ (n : ℕ) (k : n ≡ countOf isEvent (framesOf ws)) where
+    pub header-count : (n ≡ f .c → ⊥) → At 0 ≡ found (headerFault (framesOf ws))
+    header-count o = wrong (fine-by false (rw (ne-eqb _ _ (λ (q : countOf isEvent (framesOf ws) ≡ f .c). o (k ∙ q))) (and-off b)))
 
--- a right header has at most 8 schedulers
-fine-few : (f : Frame) → headerFine f ≡ true → f .b ≤ 8
+    pub header-there : not b ≡ false → n ≡ f .c → Nowhere ≡ found (headerFault (framesOf ws))
+    unfolding headerFault
+    header-there t q = ap found (yes (some 0) (fine-by true (rw (not-false b t, eq-eqb _ _ (sym k ∙ q)))) refl)
+
+pub ruleset header-faults = (header-wrong, header-count, header-there)
+
+-- a right header has at most 8 schedulers and 16 events, and all events are counted
+pub record FineHeader (fs : List Frame) : Type 0 where
+  pub kind : isHeader (frameAt fs 0 .kind) ≡ true
+  pub some-schedulers : 1 ≤ schedulersOf fs
+  pub few-schedulers : schedulersOf fs ≤ 8
+  pub few-events : eventCountOf fs ≤ 16
+  pub all-events : countOf isEvent fs ≡ eventCountOf fs
+
+pub fine-header : (fs : List Frame) → headerFine fs ≡ true → FineHeader fs
 unfolding headerFine
-fine-few f t = leb-true (f .b) 8 (and-true (isHeader (f .kind) && eqb (f .s) 1 && leb 1 (f .b)) (leb (f .b) 8) (and-true (isHeader (f .kind) && eqb (f .s) 1 && leb 1 (f .b) && leb (f .b) 8) (eqb (f .c) 0) t .0) .1)
+fine-header fs h =
+    let a = and-true _ _ h in
+    let b = and-true _ _ (a .0) in
+    let c = and-true _ _ (b .0) in
+    let d = and-true _ _ (c .0) in
+    let g = and-true _ _ (d .0) in
+    record {
+      kind = g .0;
+      some-schedulers = leb-true _ _ (d .1);
+      few-schedulers = leb-true _ _ (c .1);
+      few-events = leb-true _ _ (b .1);
+      all-events = eqb-true _ _ (a .1);
+    }
 
 pub few-schedulers : (fs : List Frame) (x : FaultSearch) → x ≡ Nowhere → x ≡ found (headerFault fs)
     → schedulersOf fs ≤ 8
 unfolding headerFault
-few-schedulers fs x e h = if-all (λ (o : Option ℕ). found o ≡ Nowhere → schedulersOf fs ≤ 8) (headerFine (frameAt fs 0)) none (some 0) (λ t q. fine-few (frameAt fs 0) t) (λ t q. absurd (let z : _≡_ {A = ℕ} 0 1 = cc in omega arith)) (sym h ∙ e)
+few-schedulers fs x e h = if-all (λ (o : Option ℕ). found o ≡ Nowhere → schedulersOf fs ≤ 8) (headerFine fs) none (some 0) (λ t q. fine-header fs t .few-schedulers) (λ t q. absurd (let z : _≡_ {A = ℕ} 0 1 = cc in omega arith)) (sym h ∙ e)
 
 pub schedulers-are : (ws : List ℕ) (f : Frame) → f ≡ frameAt (framesOf ws) 0
     → schedulersOf (framesOf ws) ≤ 8 → f .b % 256 ≡ schedulersOf (framesOf ws)

@@ -9,8 +9,9 @@ use borrow.Author.Tests.{lt-ltb, le-ltb, le-leb, lt-leb, eq-eqb, ne-eqb, not-tru
 use Rattle.basics.specs.If.{if_then_else_}
 use Rattle.language.specs.Places.{hasPlace, hasScheduler}
 use Rattle.language.specs.Types.{typeWord, contentWord}
-use Rattle.language.specs.Kinds.{isShared, isModule, statementUses, expressionUses, uses}
-use Rattle.language.specs.declared.kind.DeclarationKind.the-variants.{Shared}
+use Rattle.language.specs.Kinds.{isShared, isModule, declarationUses, statementUses}
+use Rattle.language.specs.Kinds.{expressionUses, uses}
+use Rattle.language.specs.declared.kind.DeclarationKind.the-variants.{Shared, Event}
 use Rattle.language.specs.declared.kind.StatementKind.{StatementKind}
 use Rattle.language.specs.declared.kind.ExpressionKind.{ExpressionKind}
 use Rattle.language.specs.declared.kind.Kind.{Kind}
@@ -106,6 +107,15 @@ module _ (f : Frame) where
         → eqb (f .c) 0 ≡ fieldsFine fs 0 f (statementUses StatementKind.DoAt)
     placed-c n b = rw (sym h ∙ not-false x n, eq-eqb (f .b) 0 b)
 
+  module _ (fs : List Frame) (x : Bool) (h : x ≡ hasScheduler (schedulersOf fs) (f .s)) where
+    pub event-owner : not x ≡ true → false ≡ fieldsFine fs 0 f (declarationUses Event)
+    event-owner n = rw (sym h ∙ not-true x n)
+
+    pub event-right : (r : Bool) → not x ≡ false
+        → r ≡ fieldsFine [] 0 f (expressionUses ExpressionKind.Variable)
+        → r ≡ fieldsFine fs 0 f (declarationUses Event)
+    event-right r n q = q ∙ rw (sym h ∙ not-false x n)
+
 pub ruleset none-laws = (none-s, none-a, none-b, none-c)
 
 pub ruleset s-laws = (s-a, s-b, s-c)
@@ -119,6 +129,8 @@ pub ruleset truth-laws = (truth-over, truth-right)
 pub ruleset argument-laws = (arguments-wrong, arguments-right)
 
 pub ruleset placed-laws = (placed-s, placed-b, placed-c)
+
+pub ruleset event-laws = (event-owner, event-right)
 
 -- ---- each arm of the matches on kinds
 module _ (fs : List Frame) (f : Frame) (r : Bool) where
@@ -218,6 +230,10 @@ module _ (fs : List Frame) (i : ℕ) (f : Frame) (r : Bool) (e : f ≡ frameAt f
   frame-unknown k h = frame-here (h ∙ fine-as fs i f Unknown k)
 
   -- none of their fields asks for the frame's number
+  pub frame-event : f .kind ≡ Declared Event → r ≡ fieldsFine fs 0 f (declarationUses Event)
+      → r ≡ frameFine fs i (frameAt fs i)
+  frame-event k h = frame-here (h ∙ fine-as fs i f (Declared Event) k)
+
   pub frame-statement : (k : StatementKind) → f .kind ≡ Statement k
       → r ≡ fieldsFine fs 0 f (statementUses k) → r ≡ frameFine fs i (frameAt fs i)
   frame-statement k q h = frame-here (h ∙ go k ∙ fine-as fs i f (Statement k) q)
@@ -233,6 +249,8 @@ module _ (fs : List Frame) (i : ℕ) (f : Frame) (r : Bool) (e : f ≡ frameAt f
       go StatementKind.Store = refl
       go StatementKind.If = refl
       go StatementKind.While = refl
+      go StatementKind.Generate = refl
+      go StatementKind.Await = refl
 
   pub frame-expression : (k : ExpressionKind) → f .kind ≡ Expression k
       → r ≡ fieldsFine fs 0 f (expressionUses k) → r ≡ frameFine fs i (frameAt fs i)

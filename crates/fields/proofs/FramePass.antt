@@ -14,8 +14,7 @@ use Rattle.language.specs.Places.{isPlace, hasScheduler}
 use Rattle.language.specs.Types.{cellDepth, cellType, public, typeWord, contentWord, roomAround}
 use Rattle.language.specs.Kinds.{isShared, isModule, uses}
 use Rattle.language.specs.declared.kind.Kind.{Kind}
-use Rattle.language.specs.declared.kind.DeclarationKind.{DeclarationKind}
-use Rattle.language.specs.declared.kind.DeclarationKind.the-variants.{Shared}
+use Rattle.language.specs.declared.kind.DeclarationKind.the-variants.{Shared, Event}
 use Rattle.language.specs.declared.kind.Kind.the-variants.{Declared, Module}
 use Rattle.language.specs.declared.frame.Frame.{Frame}
 use Rattle.language.proofs.Words.{depth-3}
@@ -106,6 +105,10 @@ module _ (ws : List ℕ) (i : ℕ) (f : Frame) (t : Tally) (e : f ≡ frameAt (f
       tally-other (take i (framesOf ws)) f t h (ap isShared q ∙ s) (ap isModule q ∙ m)
       ∙ ap tallyOf (frames-more ws i f e l)
 
+  pub with-event : f .kind ≡ Declared Event → i < length ws
+      → t ≡ tallyOf (take (i + 1) (framesOf ws))
+  with-event q l = with-other (Declared Event) q refl refl l
+
   pub with-module : (r : Tally) → f .kind ≡ Module
       → r ≡ tally (t .cells) (t .modules + 1) (t .types) → i < length ws
       → r ≡ tallyOf (take (i + 1) (framesOf ws))
@@ -121,17 +124,7 @@ module _ (ws : List ℕ) (i : ℕ) (f : Frame) (t : Tally) (e : f ≡ frameAt (f
       ∙ tally-cell (take i (framesOf ws)) f t h (ap isShared q) (ap isModule q) (cell-room q)
       ∙ ap tallyOf (frames-more ws i f e l)
 
-pub ruleset counted-laws = (with-module, with-shared, with-other)
-
--- each arm of the match on a kind, of the kinds that a tally counts
-pub counted-row : (k v : Kind) (r : Bool) → k ≡ v → r ≡ (isShared v || isModule v)
-    → r ≡ (isShared k || isModule k)
-counted-row k v r e h = h ∙ ap (λ (w : Kind). isShared w || isModule w) (sym e)
-
--- there is one kind of declaration, so its match asks nothing
-pub counted-declared : (k : Kind) (d : DeclarationKind) → k ≡ Declared d
-    → true ≡ (isShared k || isModule k)
-counted-declared k Shared e = counted-row k (Declared Shared) true e refl
+pub ruleset counted-laws = (with-module, with-shared, with-event, with-other)
 
 -- a frame of another kind leaves the tally as it is
 pub tally-kept : (ws : List ℕ) (i : ℕ) (f : Frame) (t : Tally) (x : Bool)

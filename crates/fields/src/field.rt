@@ -7,6 +7,7 @@ use language::kind::ExpressionKind;
 use language::kind::Kind;
 use language::kind::StatementKind;
 use language::kind::is_header;
+use language::limit::MOST_EVENTS;
 use language::limit::MOST_MODULES;
 use language::limit::MOST_PARAMETERS;
 use language::limit::MOST_SCHEDULERS;
@@ -24,18 +25,20 @@ ghost use Prim.Native.Nat.{_+_, _<_, _≤_};
 ghost use lib.Dec.{ltb, leb, eqb};
 ghost use lib.ListN.{length, take, set};
 ghost use Rattle.basics.specs.If.{if_then_else_};
-ghost use Rattle.language.specs.declared.kind.DeclarationKind.the-variants.{Shared};
+ghost use Rattle.language.specs.declared.kind.DeclarationKind.the-variants.{Shared, Event};
 ghost use Rattle.language.specs.declared.kind.StatementKind.{StatementKind};
 ghost use Rattle.language.specs.declared.kind.ExpressionKind.{ExpressionKind};
 ghost use Rattle.language.specs.declared.kind.Kind.the-variants.{Declared, Module};
-ghost use Rattle.language.specs.Kinds.{statementUses, expressionUses, isShared, isModule};
+ghost use Rattle.language.specs.Kinds.{declarationUses, statementUses, expressionUses, isShared};
+ghost use Rattle.language.specs.Kinds.{isEvent, isModule};
 ghost use Rattle.language.specs.Places.{hasPlace, hasScheduler};
 ghost use Rattle.language.specs.Types.{typeWord};
 ghost use Rattle.language.specs.Limits.{mostLines, mostShared, mostModules};
-ghost use Rattle.text.specs.Frames.{framesOf};
-ghost use Rattle.fields.specs.Fields.{headerFine, schedulersOf, firstContentFine, frameFine};
-ghost use Rattle.fields.specs.inner.Scans.{headerFault, fieldFault, found, fieldsFine};
-ghost use Rattle.fields.specs.inner.Scans.{tallyOf, fineAt, HeaderWords, TallyWords};
+ghost use Rattle.text.specs.Frames.{frameOfWord, framesOf};
+ghost use Rattle.fields.specs.Fields.{countOf, schedulersOf, firstContentFine, frameFine};
+ghost use Rattle.fields.specs.inner.Scans.{headerAlone, headerFault, fieldFault, found};
+ghost use Rattle.fields.specs.inner.Scans.{fieldsFine, tallyOf, fineAt, HeaderWords};
+ghost use Rattle.fields.specs.inner.Scans.{TallyWords};
 
 // Of the frames passed: how many are shared cells, how many are modules, and the types of these
 // cells.
@@ -45,8 +48,9 @@ struct Tally {
     types: [u16; MOST_SHARED],
 }
 
+// Whether a header is right, but for the count of the events.
 fn header_fine(f: Frame) -> bool
-    ensures { λ r. ⌜ r ≡ headerFine f ⌝ }
+    ensures { λ r. ⌜ r ≡ headerAlone f ⌝ }
 {
     let kind = f.kind;
     if !is_header(kind) {
@@ -61,7 +65,30 @@ fn header_fine(f: Frame) -> bool
     if MOST_SCHEDULERS < f.b {
         return false;
     }
-    f.c == 0
+    f.c <= MOST_EVENTS
+}
+
+// Whether a line declares an event: K 03. By its number alone, since each line is asked.
+fn declares_event(line: u64) -> bool
+    ensures { λ r. ⌜ r ≡ isEvent (frameOfWord line .kind) ⌝ }
+{
+    line / 0x0100_0000_0000_0000 == 0x03
+}
+
+// How many events the file declares, bad and misplaced ones too.
+fn count_events(words: &[u64]) -> usize
+    ensures { λ r. ⌜ r ≡ countOf isEvent (framesOf (now (words .entry))) ⌝ }
+{
+    let mut n: usize = 0;
+    let mut i: usize = 0;
+    while i < words.len() {
+        let line = words[i];
+        i += 1;
+        if declares_event(line) {
+            n += 1;
+        }
+    }
+    n
 }
 
 // The frame with the fault 4, if there is one.
@@ -69,10 +96,14 @@ pub fn header(words: &[u64]) -> FaultSearch
     requires { ⌜ 0 < length (now words) ⌝ }
     ensures { λ r. ⌜ r ≡ found (headerFault (framesOf (now (words .entry)))) ⌝ }
 {
-    if header_fine(frame_at(words, 0)) {
-        return FaultSearch::Nowhere;
+    let f = frame_at(words, 0);
+    if !header_fine(f) {
+        return FaultSearch::At(0);
     }
-    FaultSearch::At(0)
+    if count_events(words) != f.c as usize {
+        return FaultSearch::At(0);
+    }
+    FaultSearch::Nowhere
 }
 
 // How many schedulers the file has.
@@ -245,6 +276,8 @@ fn statement_fine(words: &[u64], f: Frame, k: StatementKind) -> bool
         StatementKind::Store => a_b_used(f),
         StatementKind::If => a_b_c_used(f),
         StatementKind::While => a_b_used(f),
+        StatementKind::Generate => s_used(f),
+        StatementKind::Await => s_used(f),
     }
 }
 
@@ -293,6 +326,18 @@ fn shared_fine(words: &[u64], i: usize, f: Frame, t: Tally) -> bool
     f.c == 0
 }
 
+// The event f: its owner in S, and nothing more.
+fn event_fine(words: &[u64], f: Frame) -> bool
+    requires { ⌜ HeaderWords (now words) ⌝ }
+    ensures { λ r. ⌜ r
+        ≡ fieldsFine (framesOf (now (words .entry))) 0 f (declarationUses Event) ⌝ }
+{
+    if !scheduler_fine(words, f.s) {
+        return false;
+    }
+    s_used(f)
+}
+
 // The module f, which has the number i.
 fn module_fine(words: &[u64], i: usize, f: Frame, t: Tally) -> bool
     requires { ⌜ HeaderWords (now words) × (t ≡ tallyOf (take i (framesOf (now words))))
@@ -323,6 +368,7 @@ fn frame_fine(words: &[u64], i: usize, t: Tally) -> bool
         Kind::Header => i == 0,
         Kind::Declared(d) => match d {
             DeclarationKind::Shared => shared_fine(words, i, f, t),
+            DeclarationKind::Event => event_fine(words, f),
         },
         Kind::Module => module_fine(words, i, f, t),
         Kind::Statement(k) => statement_fine(words, f, k),
@@ -370,6 +416,7 @@ fn counted(words: &[u64], i: usize, t: Tally) -> Tally
         Kind::Header => t,
         Kind::Declared(d) => match d {
             DeclarationKind::Shared => with_cell(t, shared_type(f)),
+            DeclarationKind::Event => t,
         },
         Kind::Module => with_module(t),
         Kind::Statement(s) => t,
@@ -386,6 +433,7 @@ fn is_counted(k: Kind) -> bool
         Kind::Header => false,
         Kind::Declared(d) => match d {
             DeclarationKind::Shared => true,
+            DeclarationKind::Event => false,
         },
         Kind::Module => true,
         Kind::Statement(s) => false,

@@ -1,7 +1,7 @@
--- What `Effect::with_owner` and `Effect::within` compute, return by return, with the tests that
--- lead there as premises; what that means for the set is in Members. Assumes nothing.
+-- What `with_member`, `set_within` and `Effect::within` compute, return by return, with the tests
+-- that lead there as premises; what that means for the sets is in Members. Assumes nothing.
 use mathlib.Core.Path.{_≡_, refl, sym, ap, _∙_}
-use mathlib.Core.Bool.{Bool, true, false, not}
+use mathlib.Core.Bool.{Bool, true, false, not, _&&_}
 use Prim.Native.Nat.{ℕ, _-_, _*_, _%_, _^_, _<_}
 use native.Mathlib.Nat.{mod-eq-of-lt, one-mul}
 use native.Mathlib.Omega.{arith}
@@ -11,19 +11,20 @@ use lib.Bits.{bitOr}
 use borrow.Author.Tests.{eq-eqb, ne-eqb, not-true, not-false}
 use Rattle.basics.proofs.Ifs.{yes, no}
 use Rattle.language.specs.Places.{isScheduler}
-use Rattle.language.specs.Effects.{only, withOwner, within}
+use Rattle.language.specs.Effects.{only, withMember, withOwner, withEvent}
+use Rattle.language.specs.Effects.{setWithin, within}
 use Rattle.language.specs.declared.effect.Effect.{Effect}
 use Rattle.language.proofs.PlaceLaws.{test-bounds}
 
--- the effect of those bits
-abbrev set : ℕ → Effect
-set n = record { bits = n }
+-- the effect of those sets
+abbrev sets : ℕ → ℕ → Effect
+sets c e = record { cells = c; events = e }
 
 -- a scheduler's bit as the machine shifts it
 pub bit-small : (p : ℕ) → isScheduler p ≡ true → p - 2 < 8
 bit-small p h = let (a, b) = test-bounds 2 p h in omega arith
 
-pub bit-is : (p : ℕ) → isScheduler p ≡ true → 1 * 2 ^ (p - 2) % 256 ≡ only p .bits
+pub bit-is : (p : ℕ) → isScheduler p ≡ true → 1 * 2 ^ (p - 2) % 256 ≡ only p
 bit-is p h = rw one-mul (mod-eq-of-lt (pow-lt {j = 8} (bit-small p h)))
 
 -- what the test has found
@@ -31,30 +32,50 @@ pub scheduler-known : (o : ℕ) (b : Bool) → b ≡ isScheduler o → not b ≡
 scheduler-known o b t h = sym t ∙ not-false b h
 
 -- ---- with one owner added: it is a scheduler, or not
-module _ (o : ℕ) (e : Effect) (b : Bool) (t : b ≡ isScheduler o) where
-  pub owner-other : not b ≡ true → set (e .bits) ≡ withOwner o e
-  unfolding withOwner
+module _ (o s : ℕ) (b : Bool) (t : b ≡ isScheduler o) where
+  pub owner-other : not b ≡ true → s ≡ withMember o s
+  unfolding withMember
   owner-other h = no _ (sym t ∙ not-true b h) refl
 
-  pub owner-added : (n : ℕ) → not b ≡ false → n ≡ only o .bits
-      → set (bitOr (e .bits) n) ≡ withOwner o e
-  unfolding withOwner
-  owner-added n h k = yes _ (sym t ∙ not-false b h) (ap (λ (m : ℕ). set (bitOr (e .bits) m)) k)
+  pub owner-added : (n : ℕ) → not b ≡ false → n ≡ only o → bitOr s n ≡ withMember o s
+  unfolding withMember
+  owner-added n h k = yes _ (sym t ∙ not-false b h) (ap (bitOr s) k)
 
 pub ruleset with-owner-laws = (owner-other, owner-added)
 
--- ---- within a place
-pub within-empty : (p : ℕ) (e : Effect) → e .bits ≡ 0 → true ≡ within p e
-unfolding within
-within-empty p e h = rw (eq-eqb _ _ h)
+-- the effect with the changed set s
+pub owner-joins : (o s : ℕ) (e : Effect) → s ≡ withMember o (e .cells)
+    → sets s (e .events) ≡ withOwner o e
+owner-joins o s e h = ap (λ (x : ℕ). sets x (e .events)) h
 
-module _ (p : ℕ) (e : Effect) (some : e .bits ≡ 0 → ⊥) (b : Bool) (t : b ≡ isScheduler p) where
-  pub within-private : not b ≡ true → false ≡ within p e
-  unfolding within
+pub event-joins : (o s : ℕ) (e : Effect) → s ≡ withMember o (e .events)
+    → sets (e .cells) s ≡ withEvent o e
+event-joins o s e h = ap (sets (e .cells)) h
+
+-- ---- a set within a place
+pub within-empty : (p s : ℕ) → s ≡ 0 → true ≡ setWithin p s
+unfolding setWithin
+within-empty p s h = rw (eq-eqb _ _ h)
+
+module _ (p s : ℕ) (some : s ≡ 0 → ⊥) (b : Bool) (t : b ≡ isScheduler p) where
+  pub within-private : not b ≡ true → false ≡ setWithin p s
+  unfolding setWithin
   within-private h = rw (ne-eqb _ _ some, sym t ∙ not-true b h)
 
-  pub within-one : (n : ℕ) → not b ≡ false → n ≡ only p .bits → eqb (e .bits) n ≡ within p e
-  unfolding within
+  pub within-one : (n : ℕ) → not b ≡ false → n ≡ only p → eqb s n ≡ setWithin p s
+  unfolding setWithin
   within-one n h k = rw (ne-eqb _ _ some, sym t ∙ not-false b h, k)
 
 pub ruleset within-laws = (within-empty, within-private, within-one)
+
+-- ---- both sets: b and c are whether the cells' and the events' lie within
+module _ (p : ℕ) (e : Effect) (b c : Bool) (t : b ≡ setWithin p (e .cells)) where
+  pub cells-outside : not b ≡ true → false ≡ within p e
+  unfolding within
+  cells-outside h = rw (sym t ∙ not-true b h)
+
+  pub events-decide : not b ≡ false → c ≡ setWithin p (e .events) → c ≡ within p e
+  unfolding within
+  events-decide h k = rw (sym t ∙ not-false b h, sym k)
+
+pub ruleset both-within-laws = (cells-outside, events-decide)

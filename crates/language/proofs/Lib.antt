@@ -6,5 +6,3 @@ pub mod Cells
 -- Effects: what the functions compute, what that means for the sets.
 pub mod EffectLaws
 pub mod Members
--- Kinds.
-pub mod Rows

@@ -7,11 +7,12 @@ use native.Mathlib.Nat.{pow-suc}
 use native.Mathlib.Omega.{arith}
 use native.Mathlib.Decide.{ℕ-discrete}
 use lib.Dec.{leb, eqb}
+use lib.Bits.{bitOr}
 use borrow.Author.Tests.{le-leb, eq-eqb, ne-eqb, leb-true, eqb-true, eqb-false}
 use Rattle.basics.proofs.Ifs.{if-all, and-true, and-off, or-off}
 use Rattle.basics.proofs.Bits.{bit, bit-zero, bit-suc, no-bit, same-bit, other-bit, bit-or}
 use Rattle.language.specs.Places.{isScheduler}
-use Rattle.language.specs.Effects.{member, noEffect, only, _∪_, withOwner, within}
+use Rattle.language.specs.Effects.{member, only, withMember, setWithin, within}
 use Rattle.language.specs.declared.effect.Effect.{Effect}
 use Rattle.language.proofs.PlaceLaws.{from-home}
 
@@ -59,14 +60,11 @@ only-bit (suc p) n m f = go (only-bit p (n / 2)) (ℕ-discrete (n % 2) 1)
 -- ---- sets
 
 -- the empty set has no member
-pub member-none : (p : ℕ) → member p noEffect ≡ false
+pub member-none : (p : ℕ) → member p 0 ≡ false
 member-none p =
     ap (λ (b : Bool). leb 2 p && b)
     (ne-eqb (bit (p - 2) 0) 1 (λ e. let z = no-bit (p - 2) in omega arith))
     ∙ and-off (leb 2 p)
-
-bit-join : (q : ℕ) (e f : Effect) → bit q ((e ∪ f) .bits) ≡ max (bit q (e .bits)) (bit q (f .bits))
-bit-join q e f = bit-or q (e .bits) (f .bits)
 
 either : (x y z : ℕ) → x < 2 → y < 2 → z ≡ max x y → eqb z 1 ≡ (eqb x 1 || eqb y 1)
 either x y z a b e = go (eqb x 1) refl (eqb y 1) refl
@@ -82,11 +80,11 @@ and-or true x y = refl
 and-or false x y = refl
 
 -- 'A frame joins its children's effects': a member of the join is a member of one or of the other
-pub member-join : (p : ℕ) (e f : Effect) → member p (e ∪ f) ≡ (member p e || member p f)
-member-join p e f =
+pub member-join : (p s t : ℕ) → member p (bitOr s t) ≡ (member p s || member p t)
+member-join p s t =
     ap (λ (b : Bool). leb 2 p && b)
-    (either (bit (p - 2) (e .bits)) (bit (p - 2) (f .bits)) _ (omega arith) (omega arith) (bit-join (p - 2) e f))
-    ∙ and-or (leb 2 p) (eqb (bit (p - 2) (e .bits)) 1) (eqb (bit (p - 2) (f .bits)) 1)
+    (either (bit (p - 2) s) (bit (p - 2) t) _ (omega arith) (omega arith) (bit-or (p - 2) s t))
+    ∙ and-or (leb 2 p) (eqb (bit (p - 2) s) 1) (eqb (bit (p - 2) t) 1)
 
 -- the set of one scheduler
 member-only : (p o : ℕ) → 2 ≤ o → member p (only o) ≡ eqb p o
@@ -107,56 +105,72 @@ member-only p o l = go (ℕ-discrete p o)
     go (no d) = none d (leb 2 p) refl ∙ sym (ne-eqb p o d)
 
 -- '.. add the cell's owner if it is a scheduler'
-pub member-owner : (p o : ℕ) (e : Effect)
-    → member p (withOwner o e) ≡ (member p e || isScheduler o && eqb p o)
-unfolding withOwner
-member-owner p o e =
-    if-all (λ (f : Effect). member p f ≡ (member p e || isScheduler o && eqb p o)) (isScheduler o)
-    (e ∪ only o) e
-    (λ h. rw h (member-join p e (only o) ∙ ap (λ (b : Bool). member p e || b) (member-only p o (from-home o h))))
-    (λ h. rw h (or-off (member p e)))
+pub member-owner : (p o s : ℕ)
+    → member p (withMember o s) ≡ (member p s || isScheduler o && eqb p o)
+unfolding withMember
+member-owner p o s =
+    if-all (λ (t : ℕ). member p t ≡ (member p s || isScheduler o && eqb p o)) (isScheduler o)
+    (bitOr s (only o)) s
+    (λ h. rw h (member-join p s (only o) ∙ ap (λ (b : Bool). member p s || b) (member-only p o (from-home o h))))
+    (λ h. rw h (or-off (member p s)))
 
 -- 'within {S}, or empty when S is 1', of the members: each is p, which is a scheduler
-abbrev pub Within : ℕ → Effect → Type 0
-Within p e = (q : ℕ) → member q e ≡ true → (q ≡ p) × (isScheduler p ≡ true)
+abbrev pub SetWithin : ℕ → ℕ → Type 0
+SetWithin p s = (q : ℕ) → member q s ≡ true → (q ≡ p) × (isScheduler p ≡ true)
 
--- the test `within` says just that
-pub within-members : (p : ℕ) (e : Effect) → within p e ≡ true → Within p e
-unfolding within
-within-members p e h q m = go (eqb (e .bits) 0) refl h
+-- the test `setWithin` says just that
+pub within-members : (p s : ℕ) → setWithin p s ≡ true → SetWithin p s
+unfolding setWithin
+within-members p s h q m = go (eqb s 0) refl h
   where
-    has : bit (q - 2) (e .bits) ≡ 1
+    has : bit (q - 2) s ≡ 1
     has = eqb-true _ _ (and-true (leb 2 q) _ m .1)
 
-    go : (t : Bool) → eqb (e .bits) 0 ≡ t
-        → (t || isScheduler p && eqb (e .bits) (only p .bits)) ≡ true
+    go : (t : Bool) → eqb s 0 ≡ t
+        → (t || isScheduler p && eqb s (only p)) ≡ true
         → (q ≡ p) × (isScheduler p ≡ true)
     go true z k =
-        let n : bit (q - 2) (e .bits) ≡ 0 = ap (bit (q - 2)) (eqb-true _ _ z) ∙ no-bit (q - 2) in
+        let n : bit (q - 2) s ≡ 0 = ap (bit (q - 2)) (eqb-true _ _ z) ∙ no-bit (q - 2) in
         let o = has in
         absurd (omega arith)
     go false z k =
-        let r = and-true (isScheduler p) (eqb (e .bits) (only p .bits)) k in
-        (eqb-true _ _ (sym (member-only q p (from-home p (r .0))) ∙ ap (λ (b : ℕ). member q (record { bits = b })) (sym (eqb-true _ _ (r .1))) ∙ m), r .0)
+        let r = and-true (isScheduler p) (eqb s (only p)) k in
+        (eqb-true _ _ (sym (member-only q p (from-home p (r .0))) ∙ ap (member q) (sym (eqb-true _ _ (r .1))) ∙ m), r .0)
 
 -- a bit is a scheduler's
-bit-member : (q : ℕ) (e : Effect) → bit q (e .bits) ≡ 1 → member (2 + q) e ≡ true
-bit-member q e h =
+bit-member : (q s : ℕ) → bit q s ≡ 1 → member (2 + q) s ≡ true
+bit-member q s h =
     rw (le-leb 2 (2 + q) (omega arith))
-    (eq-eqb _ _ (ap (λ (k : ℕ). bit k (e .bits)) (let z : 2 + q - 2 ≡ q = omega arith in z) ∙ h))
+    (eq-eqb _ _ (ap (λ (k : ℕ). bit k s) (let z : 2 + q - 2 ≡ q = omega arith in z) ∙ h))
 
-pub members-within : (p : ℕ) (e : Effect) → Within p e → within p e ≡ true
-unfolding within
-members-within p e h = go (ℕ-discrete (e .bits) 0)
+pub members-within : (p s : ℕ) → SetWithin p s → setWithin p s ≡ true
+unfolding setWithin
+members-within p s h = go (ℕ-discrete s 0)
   where
-    below : (q : ℕ) → bit q (e .bits) ≡ 1 → q ≡ p - 2
-    below q k = let z = h (2 + q) (bit-member q e k) .0 in omega arith
+    below : (q : ℕ) → bit q s ≡ 1 → q ≡ p - 2
+    below q k = let z = h (2 + q) (bit-member q s k) .0 in omega arith
 
-    go : Dec (e .bits ≡ 0)
-        → (eqb (e .bits) 0 || isScheduler p && eqb (e .bits) (only p .bits)) ≡ true
+    go : Dec (s ≡ 0)
+        → (eqb s 0 || isScheduler p && eqb s (only p)) ≡ true
     go (yes z) = rw (eq-eqb _ _ z)
     go (no d) =
-        let b = some-bit (e .bits) (e .bits) (below-power (e .bits)) d in
-        let s = h (2 + b .0) (bit-member (b .0) e (b .1)) .1 in
-        let o = only-bit (p - 2) (e .bits) d below in
-        rw (ne-eqb _ _ d, s, eq-eqb _ _ o)
+        let b = some-bit s s (below-power s) d in
+        let k = h (2 + b .0) (bit-member (b .0) s (b .1)) .1 in
+        let o = only-bit (p - 2) s d below in
+        rw (ne-eqb _ _ d, k, eq-eqb _ _ o)
+
+-- ---- effects: both sets
+
+abbrev pub Within : ℕ → Effect → Type 0
+Within p e = SetWithin p (e .cells) × SetWithin p (e .events)
+
+-- the test `within` says just that
+pub within-sets : (p : ℕ) (e : Effect) → within p e ≡ true → Within p e
+unfolding within
+within-sets p e h =
+    let r = and-true (setWithin p (e .cells)) (setWithin p (e .events)) h in
+    (within-members p (e .cells) (r .0), within-members p (e .events) (r .1))
+
+pub sets-within : (p : ℕ) (e : Effect) → Within p e → within p e ≡ true
+unfolding within
+sets-within p e (h, k) = rw (members-within p (e .cells) h, members-within p (e .events) k)

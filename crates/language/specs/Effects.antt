@@ -1,30 +1,41 @@
--- 'An effect is a set of schedulers.' The set is a number below 256: the scheduler p is a member
--- where bit p - 2 is set. What they mean as sets is proved in proofs/Members.
+-- 'An effect is a set of schedulers.' 02, change 5, of K 1A and 1B: 'both have the owner as effect'.
+-- The schedulers whose cells are accessed and those whose events are, are kept apart: two sets.
+-- A set is a number below 256: the scheduler p is a member where bit p - 2 is set. What they mean
+-- as sets is proved in proofs/Members.
 use Rattle.basics.specs.Prelude.{Bool, _&&_, _||_, ℕ, _-_, _/_, _%_, _^_, leb, eqb, bitOr}
 use Rattle.basics.specs.Prelude.{if_then_else_}
 use Rattle.language.specs.{Places.home, Places.isScheduler, declared.effect.Effect.Effect}
 
--- the scheduler p is a member of e
-abbrev pub member : ℕ → Effect → Bool
-member p e = leb home p && eqb (e .bits / 2 ^ (p - home) % 2) 1
+-- the scheduler p is a member of the set s; the set {p}
+abbrev pub member : ℕ → ℕ → Bool
+member p s = leb home p && eqb (s / 2 ^ (p - home) % 2) 1
 
--- the empty set
+abbrev pub only : ℕ → ℕ
+only p = 2 ^ (p - home)
+
+-- both sets empty
 abbrev pub noEffect : Effect
-noEffect = record { bits = 0 }
-
--- the set {p}
-abbrev pub only : ℕ → Effect
-only p = record { bits = 2 ^ (p - home) }
+noEffect = record { cells = 0; events = 0 }
 
 infixl 60 _∪_
 -- 'A frame joins its children's effects.'
 abbrev pub _∪_ : Effect → Effect → Effect
-_∪_ e f = record { bits = bitOr (e .bits) (f .bits) }
+_∪_ e f =
+    record { cells = bitOr (e .cells) (f .cells); events = bitOr (e .events) (f .events) }
 
--- '.. add the cell's owner if it is a scheduler'
-unfoldable pub withOwner : ℕ → Effect → Effect
-withOwner o e = if isScheduler o then e ∪ only o else e
+-- '.. add the cell's owner if it is a scheduler', and that of an event
+unfoldable pub withMember : ℕ → ℕ → ℕ
+withMember o s = if isScheduler o then bitOr s (only o) else s
 
--- 'within {S}, or empty when S is 1'
+abbrev pub withOwner : ℕ → Effect → Effect
+withOwner o e = record { cells = withMember o (e .cells); events = e .events }
+
+abbrev pub withEvent : ℕ → Effect → Effect
+withEvent o e = record { cells = e .cells; events = withMember o (e .events) }
+
+-- 'within {S}, or empty when S is 1': of a set, and of an effect
+unfoldable pub setWithin : ℕ → ℕ → Bool
+setWithin p s = eqb s 0 || isScheduler p && eqb s (only p)
+
 unfoldable pub within : ℕ → Effect → Bool
-within p e = eqb (e .bits) 0 || isScheduler p && eqb (e .bits) (only p .bits)
+within p e = setWithin p (e .cells) && setWithin p (e .events)

@@ -3,9 +3,10 @@ use Rattle.basics.specs.Prelude.{List, [], _∷_, _++_, Bool, true, false, ℕ,
 use Rattle.basics.specs.Prelude.{if_then_else_}
 use Rattle.language.specs.declared.kind as kind
 use kind.{DeclarationKind.DeclarationKind, DeclarationKind.the-variants.Shared}
+use kind.DeclarationKind.the-variants.{Event}
 use kind.StatementKind.{StatementKind}
 use kind.StatementKind.the-variants.{Nothing, Then, DoAt, Start, StartWait, Cooperate, Let}
-use kind.StatementKind.the-variants.{Store, If, While}
+use kind.StatementKind.the-variants.{Store, If, While, Generate, Await}
 use kind.ExpressionKind.{ExpressionKind}
 use kind.ExpressionKind.the-variants.{Number, Truth, Variable, SharedCell, NewCell, Content}
 use kind.ExpressionKind.the-variants.{Sum, Less, Choose}
@@ -13,12 +14,13 @@ use kind.Kind.the-variants.{Header, Declared, Module, Statement, Expression, Unk
 use kind.{Kind.Kind, Class.Class, Use.Use, Uses.Uses}
 use Rattle.language.specs.declared.frame.Frame.{Frame}
 
--- the kind that a number names: 01's table, 'K and S above are hexadecimal'
+-- the kind that a number names: 01's table, 'K and S above are hexadecimal', and 02's change 5
 unfoldable pub kindOf : ℕ → Kind
 kindOf k =
     if eqb k 0x00 then Header else
     if eqb k 0x01 then Declared Shared else
     if eqb k 0x02 then Module else
+    if eqb k 0x03 then Declared Event else
     if eqb k 0x10 then Statement Nothing else
     if eqb k 0x11 then Statement Then else
     if eqb k 0x12 then Statement DoAt else
@@ -29,6 +31,8 @@ kindOf k =
     if eqb k 0x17 then Statement Store else
     if eqb k 0x18 then Statement If else
     if eqb k 0x19 then Statement While else
+    if eqb k 0x1A then Statement Generate else
+    if eqb k 0x1B then Statement Await else
     if eqb k 0x20 then Expression Number else
     if eqb k 0x21 then Expression Truth else
     if eqb k 0x22 then Expression Variable else
@@ -40,7 +44,7 @@ kindOf k =
     if eqb k 0x28 then Expression Choose else
     Unknown
 
--- ---- the kinds that stand outside the trees: 00 header, 01 shared cell, 02 module
+-- ---- the kinds that stand outside the trees: 00 header, 01 shared cell, 02 module, 03 event
 abbrev pub isHeader : Kind → Bool
 isHeader Header = true
 isHeader (Declared d) = false
@@ -52,10 +56,20 @@ isHeader Unknown = false
 abbrev pub isShared : Kind → Bool
 isShared Header = false
 isShared (Declared Shared) = true
+isShared (Declared Event) = false
 isShared Module = false
 isShared (Statement k) = false
 isShared (Expression k) = false
 isShared Unknown = false
+
+abbrev pub isEvent : Kind → Bool
+isEvent Header = false
+isEvent (Declared Shared) = false
+isEvent (Declared Event) = true
+isEvent Module = false
+isEvent (Statement k) = false
+isEvent (Expression k) = false
+isEvent Unknown = false
 
 abbrev pub isModule : Kind → Bool
 isModule Header = false
@@ -65,17 +79,29 @@ isModule (Statement k) = false
 isModule (Expression k) = false
 isModule Unknown = false
 
+-- ---- 'Frames stand as header, shared cells .., then the rest'; 02, change 5: 'K 03 .. stands after
+-- the shared cells'. The declarations come after the header, one kind after the other
+abbrev pub declarationRank : DeclarationKind → ℕ
+declarationRank Shared = 1
+declarationRank Event = 2
+
+-- the last of these ranks
+abbrev pub declarations : ℕ
+declarations = 2
+
 -- ---- what S, A, B and C hold. 'Unused fields are 0.'
 abbrev sabc : Use → Use → Use → Use → Uses
 sabc s a b c = record { s = s; a = a; b = b; c = c }
 
--- 01 shared cell: S owner (a scheduler), A content type, B first content
+-- 01 shared cell: S owner (a scheduler), A content type, B first content. 02, change 5: 'K 03
+-- declares an event with owner S, a scheduler'
 abbrev pub declarationUses : DeclarationKind → Uses
 declarationUses Shared = sabc Use.Scheduler Use.ContentType Use.FirstContent Use.Unused
+declarationUses Event = sabc Use.Scheduler Use.Unused Use.Unused Use.Unused
 
 -- 10 nothing; 11 A, then B; 12 do A at place S; 13 start module S with arguments A, B; 14 the same,
 -- then wait; 15 cooperate; 16 let the next variable be A, in B; 17 store B in cell A; 18 if A then
--- B else C; 19 while A do B
+-- B else C; 19 while A do B. 02, change 5: 'K 1A generates event S and K 1B awaits it'
 abbrev pub statementUses : StatementKind → Uses
 statementUses Nothing = sabc Use.Unused Use.Unused Use.Unused Use.Unused
 statementUses Then = sabc Use.Unused Use.Statement Use.Statement Use.Unused
@@ -87,6 +113,8 @@ statementUses Let = sabc Use.Unused Use.Expression Use.Statement Use.Unused
 statementUses Store = sabc Use.Unused Use.Expression Use.Expression Use.Unused
 statementUses If = sabc Use.Unused Use.Expression Use.Statement Use.Statement
 statementUses While = sabc Use.Unused Use.Expression Use.Statement Use.Unused
+statementUses Generate = sabc Use.Free Use.Unused Use.Unused Use.Unused
+statementUses Await = sabc Use.Free Use.Unused Use.Unused Use.Unused
 
 -- 20 number A; 21 truth S (0 or 1); 22 variable S; 23 shared cell S; 24 new cell, owner S, content
 -- A; 25 content of cell A; 26 sum of numbers A, B; 27 number A is less than number B; 28 if truth
@@ -113,7 +141,7 @@ uses (Expression k) = expressionUses k
 -- the kind is the fault
 uses Unknown = sabc Use.Free Use.Free Use.Free Use.Free
 
--- '10 to 19 are statements, 20 to 28 expressions.'
+-- '10 to 19 are statements, 20 to 28 expressions.' 02, change 5: 'Both statements', of 1A and 1B
 abbrev pub classOf : Kind → Class
 classOf Header = Class.Neither
 classOf (Declared d) = Class.Neither

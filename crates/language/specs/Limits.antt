@@ -22,6 +22,10 @@ mostShared = 16
 abbrev pub mostModules : ℕ
 mostModules = 16
 
+-- 02, change 5: 'the number of events, 0 to 16'
+abbrev pub mostEvents : ℕ
+mostEvents = 16
+
 abbrev pub mostParameters : ℕ
 mostParameters = 2
 

@@ -1,78 +1,115 @@
-// Effects: which schedulers' cells a statement or an expression may access.
+// Effects: which schedulers' cells and events a statement or an expression may access.
 use crate::Place;
 ghost use mathlib.Core.Path.{_≡_};
 ghost use mathlib.Core.Bool.{true};
 ghost use Rattle.language.specs.Places.{isScheduler};
-ghost use Rattle.language.specs.Effects.{noEffect, only, _∪_, withOwner, within};
+ghost use Rattle.language.specs.Effects.{only, withMember, setWithin};
+ghost use Rattle.language.specs.Effects.{noEffect, _∪_, withOwner, withEvent, within};
 
-// A set of schedulers, 2 to 9, a bit for each: scheduler p is a member where bit p - 2 is set. So
+// Two sets of schedulers, 2 to 9, a bit for each: scheduler p is a member where bit p - 2 is set. So
 // each number is a set of schedulers.
 pub struct Effect {
-    bits: u8,
+    cells: u8,
+    events: u8,
 }
 
 // The bit of a scheduler.
 fn bit_of(place: Place) -> u8
     requires { ⌜ isScheduler (place .number) ≡ true ⌝ }
-    ensures { λ r. ⌜ r ≡ only (place .number) .bits ⌝ }
+    ensures { λ r. ⌜ r ≡ only (place .number) ⌝ }
 {
     1u8 << (place.number - Place::HOME.number)
+}
+
+// The set with one owner added, if that is a scheduler.
+fn with_member(set: u8, owner: Place) -> u8
+    ensures { λ r. ⌜ r ≡ withMember (owner .number) set ⌝ }
+{
+    if !owner.is_scheduler() {
+        return set;
+    }
+    set | bit_of(owner)
+}
+
+// Whether nothing but the scheduler `place` is a member: of a private place, whether nothing is.
+fn set_within(set: u8, place: Place) -> bool
+    ensures { λ r. ⌜ r ≡ setWithin (place .number) set ⌝ }
+{
+    if set == 0 {
+        return true;
+    }
+    if !place.is_scheduler() {
+        return false;
+    }
+    set == bit_of(place)
 }
 
 impl Effect {
     pub fn none() -> Self
         ensures { λ r. ⌜ r ≡ noEffect ⌝ }
     {
-        Self { bits: 0 }
+        Self {
+            cells: 0,
+            events: 0,
+        }
     }
 
-    // The set as a number, and back: for an effect kept in a word.
-    pub fn number(self) -> u8
-        ensures { λ r. ⌜ r ≡ self .bits ⌝ }
+    // The two sets as numbers, and back: for an effect kept in a word.
+    pub fn cells(self) -> u8
+        ensures { λ r. ⌜ r ≡ self .cells ⌝ }
     {
-        self.bits
+        self.cells
     }
 
-    pub fn from_number(bits: u8) -> Self
-        ensures { λ r. ⌜ r ≡ record { bits = bits } ⌝ }
+    pub fn events(self) -> u8
+        ensures { λ r. ⌜ r ≡ self .events ⌝ }
     {
-        Self { bits }
+        self.events
     }
 
-    // Both sets together.
+    pub fn of_sets(cells: u8, events: u8) -> Self
+        ensures { λ r. ⌜ r ≡ record { cells = cells; events = events } ⌝ }
+    {
+        Self { cells, events }
+    }
+
+    // Both effects together.
     pub fn joined(self, other: Effect) -> Self
         ensures { λ r. ⌜ r ≡ self ∪ other ⌝ }
     {
         Self {
-            bits: self.bits | other.bits,
+            cells: self.cells | other.cells,
+            events: self.events | other.events,
         }
     }
 
-    // With one owner added, if that is a scheduler.
+    // With the owner of a cell added, if that is a scheduler.
     pub fn with_owner(self, owner: Place) -> Self
         ensures { λ r. ⌜ r ≡ withOwner (owner .number) self ⌝ }
     {
-        let bits = self.bits;
-        if !owner.is_scheduler() {
-            return Self { bits };
-        }
         Self {
-            bits: bits | bit_of(owner),
+            cells: with_member(self.cells, owner),
+            events: self.events,
         }
     }
 
-    // Whether nothing but the scheduler `place` is a member: of a private place, whether nothing
-    // is.
+    // With the owner of an event added.
+    pub fn with_event(self, owner: Place) -> Self
+        ensures { λ r. ⌜ r ≡ withEvent (owner .number) self ⌝ }
+    {
+        Self {
+            cells: self.cells,
+            events: with_member(self.events, owner),
+        }
+    }
+
+    // Whether nothing but the scheduler `place` is a member of either set.
     pub fn within(self, place: Place) -> bool
         ensures { λ r. ⌜ r ≡ within (place .number) self ⌝ }
     {
-        let bits = self.bits;
-        if bits == 0 {
-            return true;
-        }
-        if !place.is_scheduler() {
+        if !set_within(self.cells, place) {
             return false;
         }
-        bits == bit_of(place)
+        set_within(self.events, place)
     }
 }

@@ -1,13 +1,14 @@
 // Kinds of frames, and what each field of a kind holds.
 ghost use mathlib.Core.Path.{_≡_};
-ghost use Rattle.language.specs.Kinds.{kindOf, classOf, isHeader, isShared, isModule};
+ghost use Rattle.language.specs.Kinds.{kindOf, classOf, isHeader, isShared, isEvent, isModule};
 
-// Declarations that stand before the modules: a shared cell, K 01.
+// Declarations that stand before the modules: a shared cell, K 01; an event, K 03.
 pub enum DeclarationKind {
     Shared,
+    Event,
 }
 
-// Statements, K 10 to 19.
+// Statements, K 10 to 1B.
 pub enum StatementKind {
     Nothing,
     Then,
@@ -19,6 +20,8 @@ pub enum StatementKind {
     Store,
     If,
     While,
+    Generate,
+    Await,
 }
 
 // Expressions, K 20 to 28.
@@ -54,7 +57,8 @@ pub enum Class {
 pub enum Use {
     // Nothing: it is 0.
     Unused,
-    // Any number: of the header, a number, or the index of a variable, a shared cell or a module.
+    // Any number: of the header, a number, or the index of a variable, a shared cell, an event or
+    // a module.
     Free,
     // 0 or 1.
     Truth,
@@ -91,6 +95,7 @@ pub fn kind_of(k: u8) -> Kind
         0x00 => Kind::Header,
         0x01 => Kind::Declared(DeclarationKind::Shared),
         0x02 => Kind::Module,
+        0x03 => Kind::Declared(DeclarationKind::Event),
         0x10 => Kind::Statement(StatementKind::Nothing),
         0x11 => Kind::Statement(StatementKind::Then),
         0x12 => Kind::Statement(StatementKind::DoAt),
@@ -101,6 +106,8 @@ pub fn kind_of(k: u8) -> Kind
         0x17 => Kind::Statement(StatementKind::Store),
         0x18 => Kind::Statement(StatementKind::If),
         0x19 => Kind::Statement(StatementKind::While),
+        0x1A => Kind::Statement(StatementKind::Generate),
+        0x1B => Kind::Statement(StatementKind::Await),
         0x20 => Kind::Expression(ExpressionKind::Number),
         0x21 => Kind::Expression(ExpressionKind::Truth),
         0x22 => Kind::Expression(ExpressionKind::Variable),
@@ -134,6 +141,23 @@ pub fn is_shared(k: Kind) -> bool
         Kind::Header => false,
         Kind::Declared(d) => match d {
             DeclarationKind::Shared => true,
+            DeclarationKind::Event => false,
+        },
+        Kind::Module => false,
+        Kind::Statement(s) => false,
+        Kind::Expression(e) => false,
+        Kind::Unknown => false,
+    }
+}
+
+pub fn is_event(k: Kind) -> bool
+    ensures { λ r. ⌜ r ≡ isEvent k ⌝ }
+{
+    match k {
+        Kind::Header => false,
+        Kind::Declared(d) => match d {
+            DeclarationKind::Shared => false,
+            DeclarationKind::Event => true,
         },
         Kind::Module => false,
         Kind::Statement(s) => false,

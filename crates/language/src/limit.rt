@@ -11,6 +11,8 @@ pub const MOST_SHARED: usize = 16;
 
 pub const MOST_MODULES: usize = 16;
 
+pub const MOST_EVENTS: u16 = 16;
+
 pub const MOST_PARAMETERS: u8 = 2;
 
 pub const MOST_DEPTH: u8 = 24;

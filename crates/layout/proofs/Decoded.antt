@@ -5,7 +5,8 @@ use Prim.Native.Nat.{ℕ, zero, suc, _<_}
 use native.Mathlib.Omega.{arith}
 use Rattle.language.specs.declared.kind.StatementKind.the-variants.{Nothing, Then, DoAt, Start}
 use Rattle.language.specs.declared.kind.StatementKind.the-variants.{StartWait, Cooperate, Let}
-use Rattle.language.specs.declared.kind.StatementKind.the-variants.{Store, If, While}
+use Rattle.language.specs.declared.kind.StatementKind.the-variants.{Store, If, While, Generate}
+use Rattle.language.specs.declared.kind.StatementKind.the-variants.{Await}
 use Rattle.language.specs.declared.kind.ExpressionKind.the-variants.{Number, Truth, Variable}
 use Rattle.language.specs.declared.kind.ExpressionKind.the-variants.{SharedCell, NewCell, Content}
 use Rattle.language.specs.declared.kind.ExpressionKind.the-variants.{Sum, Less, Choose}
@@ -173,6 +174,8 @@ module _ (fs : List Frame) (rec : ℕ → Stmt) (roots : (j : ℕ) → rootS (re
   placed-s-of (Statement Store) r = s-store (f .a) (f .b) (two-of r)
   placed-s-of (Statement If) r = s-ifElse (f .a) (f .b) (f .c) (three-of r)
   placed-s-of (Statement While) r = s-with (f .a) (f .b) (λ p q l. PlacedS.while p q l) (two-of r)
+  placed-s-of (Statement Generate) r = PlacedS.generate (row-le r)
+  placed-s-of (Statement Await) r = PlacedS.await (row-le r)
 
 placed-s-to : (n : ℕ) (fs : List Frame) (i lo : ℕ) → i < n → Tree fs lo i
     → PlacedS lo (statementTo n fs i)

@@ -24,7 +24,7 @@ use Rattle.layout.proofs.Depths.{depth-low}
 
 -- what a fault 4 is, and a fault 5
 four : {fs : List Frame} {n j : ℕ} → Fault fs n j → n ≡ 4
-    → (j ≡ 0) × (headerFine (frameAt fs 0) ≡ false)
+    → (j ≡ 0) × (headerFine fs ≡ false)
 four (Fault.header h) e = (refl, h)
 four (Fault.field l h) e = absurd (omega arith)
 four (Fault.order l h) e = absurd (omega arith)
@@ -55,7 +55,7 @@ numbers (Fault.depth d h) = omega arith
 
 pub header-low : (fs : List Frame) → Lowest (Fault fs 4) (headerFault fs)
 unfolding headerFault
-header-low fs = if-all (Lowest (Fault fs 4)) (headerFine (frameAt fs 0)) _ _ (λ h. Lowest.nowhere (λ j f. true≢false (sym h ∙ four f refl .1))) (λ h. Lowest.lowest-at (Fault.header h) (λ k f. omega arith))
+header-low fs = if-all (Lowest (Fault fs 4)) (headerFine fs) _ _ (λ h. Lowest.nowhere (λ j f. true≢false (sym h ∙ four f refl .1))) (λ h. Lowest.lowest-at (Fault.header h) (λ k f. omega arith))
 
 pub field-low : (fs : List Frame) → Lowest (Fault fs 5) (fieldFault fs)
 unfolding fieldFault

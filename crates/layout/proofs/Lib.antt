@@ -11,6 +11,7 @@ pub mod Decoded
 pub mod Parts
 pub mod Scopes
 pub mod SharedCells
+pub mod Events
 pub mod Users
 -- ---- the code: its passes over a text's lines find what Scans computes
 pub mod DisorderPass

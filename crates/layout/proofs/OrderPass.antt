@@ -1,17 +1,20 @@
--- The code's other passes of refusal 6: shared cells after another kind, `main`, and the lowest
--- frame of all four passes. Assumes nothing.
+-- The code's other passes of refusal 6: misplaced declarations, `main`, and the lowest frame of all
+-- four passes. Assumes nothing.
 use mathlib.Core.Path.{_≡_, refl, sym, ap, ap₂, _∙_}
-use mathlib.Core.Bool.{Bool, true, false, not, _&&_, _||_}
-use mathlib.Core.List.{List, []}
+use mathlib.Core.Bool.{Bool, true, false, not}
+use mathlib.Core.List.{List, [], _∷_, _++_}
 use mathlib.Core.Option.{none, some}
-use Prim.Native.Nat.{ℕ, _+_, _-_, _≤_, _<_}
-use lib.Dec.{eqb}
+use Prim.Native.Nat.{ℕ, _+_, _-_, _≤_, _<_, max}
+use native.Mathlib.Omega.{arith}
+use lib.Dec.{ltb, eqb}
 use borrow.Author.Tests.{not-true, not-false}
 use lib.ListN.{length, take}
-use Rattle.basics.specs.Members.{any}
 use Rattle.basics.specs.inner.Searches.{lowest, earlier}
 use Rattle.basics.proofs.Ifs.{yes, no}
-use Rattle.language.specs.Kinds.{isHeader, isShared, isModule}
+use Rattle.language.specs.Kinds.{declarationRank, isModule}
+use Rattle.language.specs.declared.kind.DeclarationKind.{DeclarationKind}
+use Rattle.language.specs.declared.kind.Kind.{Kind}
+use Rattle.language.specs.declared.kind.Kind.the-variants.{Declared}
 use Rattle.language.specs.declared.frame.Frame.{Frame}
 use Rattle.text.specs.Frames.{framesOf}
 use Rattle.text.proofs.FrameWords.{frames-length}
@@ -22,65 +25,62 @@ use Rattle.fields.specs.declared.fault_search.FaultSearch.the-variants.{At, Now
 use Rattle.fields.specs.inner.Scans.{found, optionOf}
 use Rattle.fields.proofs.Finds.{option-found}
 use Rattle.fields.proofs.Seeking.{Seeking, seek-here, seek-next, seek-end}
-use Rattle.layout.specs.Order.{isMain}
-use Rattle.layout.specs.inner.Scans.{firstDisorder, isAfterOther, firstLeftover, noMain}
-use Rattle.layout.specs.inner.Scans.{orderFault}
-use Rattle.layout.proofs.Searches.{any-append}
-use Rattle.layout.proofs.Order.{isOther}
+use Rattle.layout.specs.Order.{fileRank, isMain}
+use Rattle.layout.specs.inner.Scans.{firstDisorder, highestRank, isLate, isMisplaced}
+use Rattle.layout.specs.inner.Scans.{firstLeftover, noMain, orderFault}
 
--- ---- shared cells after another kind: `other` says whether there was one before i
--- `isAfterOther`, as the contract writes it
-abbrev afterOtherTest : List Frame → ℕ → Frame → Bool
-afterOtherTest fs i f = isAfterOther fs i f
+-- ---- misplaced declarations: `top` is the highest rank before i
+-- `isMisplaced`, as the contract writes it
+abbrev misplacedTest : List Frame → ℕ → Frame → Bool
+misplacedTest fs i f = isMisplaced fs i f
 
-abbrev pub SeekingAfterOther : List Frame → ℕ → Type 0
-SeekingAfterOther fs i = Seeking (afterOtherTest fs) fs i
+abbrev pub SeekingMisplaced : List Frame → ℕ → Type 0
+SeekingMisplaced fs i = Seeking (misplacedTest fs) fs i
 
-abbrev pub Others : List Frame → Bool → ℕ → Type 0
-Others fs other i = other ≡ any isOther (take i fs)
+abbrev pub Highest : List Frame → ℕ → ℕ → Type 0
+Highest fs top i = top ≡ highestRank (take i fs)
 
-pub others-start : (fs : List Frame) → Others fs false 0
-unfolding any
-others-start fs = refl
+pub late-declared : (k : Kind) (d : DeclarationKind) (r n : ℕ) → k ≡ Declared d
+    → r ≡ declarationRank d → ltb r n ≡ isLate k n
+late-declared k d r n e h =
+    ap (λ (x : ℕ). ltb x n) h ∙ ap (λ (q : Kind). isLate q n) (sym e)
 
-pub others-next : (ws : List ℕ) (i : ℕ) (other : Bool) (f : Frame) (x y : Bool)
-    → f ≡ frameAt (framesOf ws) i → x ≡ not (isHeader (f .kind) || isShared (f .kind))
-    → y ≡ (other || x) → Others (framesOf ws) other i → i < length ws
-    → Others (framesOf ws) y (i + 1)
-others-next ws i other f x y e h j g l =
-    j ∙ ap₂ (λ (p r : Bool). p || r) g h ∙ sym (any-append isOther (take i (framesOf ws)) f)
-    ∙ ap (any isOther) (frames-more ws i f e l)
+pub highest-start : (fs : List Frame) → Highest fs 0 0
+unfolding highestRank
+highest-start fs = refl
 
-module _ (ws : List ℕ) (i : ℕ) (other : Bool) (f : Frame) (b : Bool) (e : f ≡ frameAt (framesOf ws) i) (q : b ≡ (isShared (f .kind) && other)) where
-  after-other-is : Others (framesOf ws) other i
-      → isAfterOther (framesOf ws) i (frameAt (framesOf ws) i) ≡ b
-  unfolding isAfterOther
-  after-other-is o =
-      go (isShared (frameAt (framesOf ws) i .kind))
-      ∙ sym (q ∙ ap₂ (λ (g : Frame) (x : Bool). isShared (g .kind) && x) e o)
-    where
-      go : (s : Bool)
-          → elim s [ true ↦ any isOther (take i (framesOf ws)) | false ↦ false ]
-          ≡ (s && any isOther (take i (framesOf ws)))
-      go true = refl
-      go false = refl
+rank-append : (gs : List Frame) (f : Frame)
+    → highestRank (gs ++ (f ∷ [])) ≡ max (highestRank gs) (fileRank (f .kind))
+unfolding highestRank
+rank-append [] f = omega arith
+rank-append (g ∷ gs) f = let h = rank-append gs f in omega arith
 
-  pub after-other-here : b ≡ true → Others (framesOf ws) other i → SeekingAfterOther (framesOf ws) i
+pub highest-next : (ws : List ℕ) (i top : ℕ) (f : Frame) (x y : ℕ)
+    → f ≡ frameAt (framesOf ws) i → x ≡ fileRank (f .kind) → y ≡ max top x
+    → Highest (framesOf ws) top i → i < length ws → Highest (framesOf ws) y (i + 1)
+highest-next ws i top f x y e h j g l =
+    j ∙ ap₂ max g h ∙ sym (rank-append (take i (framesOf ws)) f)
+    ∙ ap highestRank (frames-more ws i f e l)
+
+module _ (ws : List ℕ) (i top : ℕ) (f : Frame) (b : Bool) (e : f ≡ frameAt (framesOf ws) i) (q : b ≡ isLate (f .kind) top) where
+  misplaced-is : Highest (framesOf ws) top i
+      → isMisplaced (framesOf ws) i (frameAt (framesOf ws) i) ≡ b
+  unfolding isMisplaced
+  misplaced-is o = sym (q ∙ ap₂ (λ (g : Frame) (n : ℕ). isLate (g .kind) n) e o)
+
+  pub misplaced-here : b ≡ true → Highest (framesOf ws) top i → SeekingMisplaced (framesOf ws) i
       → i < length ws
       → At i
-      ≡ found (lowest (λ (j : ℕ) (g : Frame). isAfterOther (framesOf ws) j g) 0 (framesOf ws))
-  after-other-here t o g l =
-      seek-here (afterOtherTest (framesOf ws)) ws i g l (after-other-is o ∙ t)
+      ≡ found (lowest (λ (j : ℕ) (g : Frame). isMisplaced (framesOf ws) j g) 0 (framesOf ws))
+  misplaced-here t o g l = seek-here (misplacedTest (framesOf ws)) ws i g l (misplaced-is o ∙ t)
 
-  pub after-other-next : b ≡ false → Others (framesOf ws) other i
-      → SeekingAfterOther (framesOf ws) i → i < length ws → SeekingAfterOther (framesOf ws) (i + 1)
-  after-other-next t o g l =
-      seek-next (afterOtherTest (framesOf ws)) ws i g l (after-other-is o ∙ t)
+  pub misplaced-next : b ≡ false → Highest (framesOf ws) top i → SeekingMisplaced (framesOf ws) i
+      → i < length ws → SeekingMisplaced (framesOf ws) (i + 1)
+  misplaced-next t o g l = seek-next (misplacedTest (framesOf ws)) ws i g l (misplaced-is o ∙ t)
 
-pub after-other-end : (ws : List ℕ) (i : ℕ) → SeekingAfterOther (framesOf ws) i → length ws ≤ i
-    → Nowhere
-    ≡ found (lowest (λ (j : ℕ) (g : Frame). isAfterOther (framesOf ws) j g) 0 (framesOf ws))
-after-other-end ws i g l = seek-end (afterOtherTest (framesOf ws)) ws i g l
+pub misplaced-end : (ws : List ℕ) (i : ℕ) → SeekingMisplaced (framesOf ws) i → length ws ≤ i
+    → Nowhere ≡ found (lowest (λ (j : ℕ) (g : Frame). isMisplaced (framesOf ws) j g) 0 (framesOf ws))
+misplaced-end ws i g l = seek-end (misplacedTest (framesOf ws)) ws i g l
 
 -- ---- main
 pub main-not : (f : Frame) (x : Bool) → x ≡ isModule (f .kind) → not x ≡ true → false ≡ isMain f
@@ -112,7 +112,7 @@ pub ruleset no-main-laws = (main-there, main-missing)
 -- ---- the lowest of the four
 module _ (fs : List Frame) (d b l m x y r : FaultSearch) where
   pub order-is : d ≡ found (firstDisorder [] 0 fs)
-      → b ≡ found (lowest (λ (i : ℕ) (f : Frame). isAfterOther fs i f) 0 fs)
+      → b ≡ found (lowest (λ (i : ℕ) (f : Frame). isMisplaced fs i f) 0 fs)
       → l ≡ found (firstLeftover fs 0 fs) → m ≡ found (noMain fs)
       → x ≡ found (earlier (optionOf l) (optionOf m))
       → y ≡ found (earlier (optionOf b) (optionOf x))
@@ -120,5 +120,5 @@ module _ (fs : List Frame) (d b l m x y r : FaultSearch) where
   unfolding orderFault
   order-is hd hb hl hm hx hy hr =
       let a : optionOf x ≡ earlier (firstLeftover fs 0 fs) (noMain fs) = ap optionOf hx ∙ option-found _ ∙ ap₂ earlier (ap optionOf hl ∙ option-found _) (ap optionOf hm ∙ option-found _) in
-      let c : optionOf y ≡ earlier (lowest (afterOtherTest fs) 0 fs) (earlier (firstLeftover fs 0 fs) (noMain fs)) = ap optionOf hy ∙ option-found _ ∙ ap₂ earlier (ap optionOf hb ∙ option-found _) a in
+      let c : optionOf y ≡ earlier (lowest (misplacedTest fs) 0 fs) (earlier (firstLeftover fs 0 fs) (noMain fs)) = ap optionOf hy ∙ option-found _ ∙ ap₂ earlier (ap optionOf hb ∙ option-found _) a in
       hr ∙ ap found (ap₂ earlier (ap optionOf hd ∙ option-found _) c)

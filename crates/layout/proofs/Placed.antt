@@ -32,6 +32,8 @@ pub data PlacedEs : ℕ → List Expr → ℕ → Type 0 where
 pub data PlacedS : ℕ → Stmt → Type 0 where
   nothing : {lo i : ℕ} → lo ≤ i → PlacedS lo (Stmt.nothing i)
   cooperate : {lo i : ℕ} → lo ≤ i → PlacedS lo (Stmt.cooperate i)
+  generate : {lo i s : ℕ} → lo ≤ i → PlacedS lo (Stmt.generate i s)
+  await : {lo i s : ℕ} → lo ≤ i → PlacedS lo (Stmt.await i s)
   seq : {lo i : ℕ} {p q : Stmt} → PlacedS lo p → PlacedS (suc (rootS p)) q → rootS q < i
       → PlacedS lo (Stmt.seq i p q)
   do-at : {lo i s : ℕ} {p : Stmt} → PlacedS lo p → rootS p < i → PlacedS lo (Stmt.doAt i s p)

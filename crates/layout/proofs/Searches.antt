@@ -2,8 +2,8 @@
 -- Assumes nothing.
 use mathlib.Core.Path.{_≡_, refl, sym, ap, _∙_}
 use mathlib.Core.Logic.{_⊎_, inl, inr, ⊎-elim}
-use mathlib.Core.Bool.{Bool, true, false, _||_, true≢false}
-use mathlib.Core.List.{List, [], _∷_, _++_}
+use mathlib.Core.Bool.{Bool, true, false, true≢false}
+use mathlib.Core.List.{List, [], _∷_}
 use mathlib.Core.Option.{Option, none, some}
 use Prim.Native.Nat.{ℕ, zero, suc, _+_, _-_, _≤_, _<_}
 use native.Mathlib.Omega.{arith}
@@ -96,21 +96,6 @@ module _ {A : Type 0} (test : A → Bool) where
       go : (b : Bool) → elim b [ true ↦ true | false ↦ any test xs ] ≡ true
       go true = refl
       go false = h
-
-  pub any-append : (xs : List A) (x : A) → any test (xs ++ (x ∷ [])) ≡ (any test xs || test x)
-  unfolding any
-  any-append [] x = go (test x)
-    where
-      go : (b : Bool) → elim b [ true ↦ true | false ↦ false ] ≡ b
-      go true = refl
-      go false = refl
-  any-append (y ∷ xs) x = go (test y) (any-append xs x)
-    where
-      go : (b : Bool) → any test (xs ++ (x ∷ [])) ≡ (any test xs || test x)
-          → elim b [ true ↦ true | false ↦ any test (xs ++ (x ∷ [])) ]
-          ≡ (elim b [ true ↦ true | false ↦ any test xs ] || test x)
-      go true h = refl
-      go false h = h
 
 -- at an index
 module _ {A : Type 0} (d : A) (test : A → Bool) where

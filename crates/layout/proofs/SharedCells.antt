@@ -8,10 +8,10 @@ use native.Mathlib.Omega.{arith}
 use lib.ListN.{length, take, length-map}
 use lib.Seq.{take-suc, take-length}
 use borrow.Author.Tests.{eqb-true}
-use Rattle.basics.proofs.Ifs.{and-true}
 use Rattle.language.specs.Kinds.{isHeader, isShared}
 use Rattle.language.specs.Limits.{mostShared}
 use Rattle.language.specs.Refusals.{wrongHeader, wrongOrder}
+use Rattle.language.specs.declared.kind.DeclarationKind.the-variants.{Shared, Event}
 use Rattle.language.specs.declared.kind.Kind.{Kind}
 use Rattle.language.specs.declared.kind.Kind.the-variants.{Header, Declared, Module}
 use Rattle.language.specs.declared.kind.Kind.the-variants.{Statement, Expression, Unknown}
@@ -20,8 +20,10 @@ use Rattle.program.specs.Trees.{noFrame, frameAt}
 use Rattle.program.specs.Programs.{sharedOf, typeOfShared}
 use Rattle.program.specs.inner.Shared.{SharedFirst}
 use Rattle.fields.specs.Fields.{headerFine, countOf, kindFine}
+use Rattle.fields.proofs.FieldLaws.{fine-header}
 use Rattle.fields.proofs.Tallies.{is-shared, count-cells, counted-one, counted-none}
 use Rattle.fields.proofs.FramePass.{fine-parts, shared-few, owner-place, content-room}
+use Rattle.layout.specs.Order.{fileRank}
 use Rattle.layout.specs.Faults.{Fault, NoFault}
 use Rattle.layout.proofs.Scopes.{frame-right}
 
@@ -63,35 +65,35 @@ module _ (fs : List Frame) (fine : NoFault fs) where
       omega arith
 
   -- ---- where: 'Frames stand as header, shared cells .., then the rest'
-  header-there : headerFine (frameAt fs 0) ≡ true
-  header-there = go (headerFine (frameAt fs 0)) refl
+  pub header-there : headerFine fs ≡ true
+  header-there = go (headerFine fs) refl
     where
-      go : (b : Bool) → headerFine (frameAt fs 0) ≡ b → b ≡ true
+      go : (b : Bool) → headerFine fs ≡ b → b ≡ true
       go true e = refl
       go false e = absurd (fine wrongHeader 0 (Fault.header e))
 
   header-first : frameAt fs 0 .kind ≡ Header
-  unfolding headerFine
-  header-first =
-      let a = and-true _ _ header-there .0 in
-      let b = and-true _ _ a .0 in
-      let c = and-true _ _ b .0 in
-      is-header _ (and-true _ _ c .0)
+  header-first = is-header _ (fine-header fs header-there .kind)
 
   -- before a cell, and after frame 0, stand cells: 5 refuses another header, 6 all other kinds
   no-gap : (i j : ℕ) → 0 < i → i < j → j < length fs → isShared (frameAt fs j .kind) ≡ true
       → isShared (frameAt fs i .kind) ≡ true
-  no-gap i j p l m s =
-      go (isHeader (frameAt fs i .kind)) (isShared (frameAt fs i .kind)) refl refl
+  no-gap i j p l m s = go (frameAt fs i .kind) refl
     where
-      go : (a b : Bool) → isHeader (frameAt fs i .kind) ≡ a
-          → isShared (frameAt fs i .kind) ≡ b → b ≡ true
-      go a true e f = refl
-      go false false e f = absurd (fine wrongOrder j (Fault.misplaced l m s (rw (e, f))))
-      go true false e f =
-          let k = is-header (frameAt fs i .kind) e in
+      late : (k : Kind) → frameAt fs i .kind ≡ k → 1 < fileRank k → ⊥
+      late k e o =
+          fine wrongOrder j (Fault.misplaced {d = Shared} l m (is-shared _ s) (rw e o))
+
+      go : (k : Kind) → frameAt fs i .kind ≡ k → isShared (frameAt fs i .kind) ≡ true
+      go (Declared Shared) e = ap isShared e
+      go (Declared Event) e = absurd (late (Declared Event) e (omega arith))
+      go Module e = absurd (late Module e (omega arith))
+      go (Statement k) e = absurd (late (Statement k) e (omega arith))
+      go (Expression k) e = absurd (late (Expression k) e (omega arith))
+      go Unknown e = absurd (late Unknown e (omega arith))
+      go Header e =
           let g = fine-parts fs i (frameAt fs i) (frame-right fs fine i (omega arith)) .0 in
-          absurd (let z = eqb-true i 0 (sym (ap (kindFine fs i) k) ∙ g) in omega arith)
+          absurd (let z = eqb-true i 0 (sym (ap (kindFine fs i) e) ∙ g) in omega arith)
 
   pub shared-first : SharedFirst fs
   shared-first =

@@ -1,29 +1,31 @@
 -- Refusals 4 to 7: what each fault of the layout is, and which comes first. Nothing is computed
 -- here.
-use Rattle.basics.specs.Prelude.{List, true, false, _||_, ℕ, suc, _≤_, _<_, length, _≡_, _⊎_}
-use Rattle.language.specs.{Kinds.isHeader, Kinds.isShared, Kinds.classOf}
+use Rattle.basics.specs.Prelude.{List, true, false, ℕ, suc, _≤_, _<_, length, _≡_, _⊎_}
+use Rattle.language.specs.{Kinds.declarationRank, Kinds.classOf}
+use Rattle.language.specs.{declared.kind.DeclarationKind.DeclarationKind}
+use Rattle.language.specs.{declared.kind.Kind.the-variants.Declared}
 use Rattle.language.specs.{declared.frame.Frame.Frame, Refusals.wrongHeader, Refusals.wrongField}
 use Rattle.language.specs.{Refusals.wrongOrder, Refusals.tooDeep, Limits.mostDepth}
 use Rattle.program.specs.Trees.{frameAt}
 use Rattle.fields.specs.Fields.{headerFine, frameFine}
 use Rattle.layout.specs.declared.LayoutVerdict.{LayoutVerdict}
 use Rattle.layout.specs.declared.LayoutVerdict.the-variants.{LaidOut, Rejected}
-use Rattle.layout.specs.Order.{Tree, hasChild, hasClass, isMain}
+use Rattle.layout.specs.Order.{Tree, fileRank, hasChild, hasClass, isMain}
 use Rattle.layout.specs.Depths.{Depth}
 
 -- `Fault fs n j`: the frame j has the fault n
 pub data Fault (fs : List Frame) : ℕ → ℕ → Type 0 where
-  header : headerFine (frameAt fs 0) ≡ false → Fault fs wrongHeader 0
+  header : headerFine fs ≡ false → Fault fs wrongHeader 0
   -- 'kind (a later 00 too), field .., type word, owner, a 17th shared cell or module, or a place
   -- that the file lacks'
   field : {j : ℕ} → j < length fs → frameFine fs j (frameAt fs j) ≡ false → Fault fs wrongField j
   -- 'order, a child of the wrong class': no tree ends at j
   order : {j : ℕ} → j < length fs → ((lo : ℕ) → Tree fs lo j → ⊥) → Fault fs wrongOrder j
-  -- 'Frames stand as header, shared cells .., then the rest': the shared cell j is after another
-  -- kind
-  misplaced : {i j : ℕ}
-      → i < j → j < length fs → isShared (frameAt fs j .kind) ≡ true
-      → (isHeader (frameAt fs i .kind) || isShared (frameAt fs i .kind)) ≡ false
+  -- 'Frames stand as header, shared cells .., then the rest'; 02, change 5: 'Where a declaration or
+  -- a shared cell stands behind a frame that it should precede, 6 names it and not that frame.'
+  misplaced : {i j : ℕ} {d : DeclarationKind}
+      → i < j → j < length fs → frameAt fs j .kind ≡ Declared d
+      → declarationRank d < fileRank (frameAt fs i .kind)
       → Fault fs wrongOrder j
   -- 'a leftover frame (a statement or expression that no frame has as a child)'
   leftover : {j : ℕ}

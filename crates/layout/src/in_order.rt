@@ -4,30 +4,29 @@ use fields::fault_search::FaultSearch;
 use fields::fault_search::lower;
 use language::frame::Frame;
 use language::kind::Class;
+use language::kind::DeclarationKind;
 use language::kind::Kind;
 use language::kind::class_of;
-use language::kind::is_header;
 use language::kind::is_module;
-use language::kind::is_shared;
 use language::limit::MOST_LINES;
 use program::frames::Children;
 use program::frames::children_of;
 use program::frames::frame_at;
 use program::frames::same_class;
 ghost use mathlib.Core.Path.{_≡_};
-ghost use mathlib.Core.Bool.{not, _&&_, _||_};
+ghost use mathlib.Core.Bool.{_&&_};
 ghost use mathlib.Core.List.{[], _∷_, reverse};
-ghost use Prim.Native.Nat.{ℕ, _<_, _≤_};
+ghost use Prim.Native.Nat.{ℕ, _≤_, max};
 ghost use lib.Dec.{eqb};
 ghost use lib.ListN.{length};
 ghost use Rattle.basics.specs.inner.Searches.{lowest};
-ghost use Rattle.language.specs.Kinds.{isHeader, isShared, child, children};
+ghost use Rattle.language.specs.Kinds.{declarationRank, child, children};
 ghost use Rattle.language.specs.declared.frame.Frame.{Frame};
 ghost use Rattle.language.specs.Limits.{mostLines};
 ghost use Rattle.text.specs.Frames.{framesOf};
 ghost use Rattle.fields.specs.inner.Scans.{found};
-ghost use Rattle.layout.specs.Order.{hasClass, isMain};
-ghost use Rattle.layout.specs.inner.Scans.{rowFirst, firstDisorder, isAfterOther};
+ghost use Rattle.layout.specs.Order.{fileRank, hasClass, isMain};
+ghost use Rattle.layout.specs.inner.Scans.{rowFirst, firstDisorder, isLate, isMisplaced};
 ghost use Rattle.layout.specs.inner.Scans.{firstLeftover, noMain, orderFault, LineWords};
 ghost use Rattle.layout.specs.inner.Passes.{subtreeOf, told, Backward};
 
@@ -134,54 +133,75 @@ fn disorder(words: &[u64]) -> FaultSearch
     FaultSearch::Nowhere
 }
 
-fn either(a: bool, b: bool) -> bool
-    ensures { λ r. ⌜ r ≡ (a || b) ⌝ }
+// The declarations stand one kind after the other.
+pub fn declaration_rank(d: DeclarationKind) -> u8
+    ensures { λ r. ⌜ r ≡ declarationRank d ⌝ }
 {
-    if a {
-        return true;
+    match d {
+        DeclarationKind::Shared => 1,
+        DeclarationKind::Event => 2,
     }
-    b
 }
 
-// Neither a header nor a shared cell.
-fn is_other(k: Kind) -> bool
-    ensures { λ r. ⌜ r ≡ not (isHeader k || isShared k) ⌝ }
+// The rank of all that comes after the declarations.
+const LAST_RANK: u8 = 3;
+
+// In which order the kinds stand in a file.
+fn file_rank(k: Kind) -> u8
+    ensures { λ r. ⌜ r ≡ fileRank k ⌝ }
 {
-    if is_header(k) {
-        return false;
+    match k {
+        Kind::Header => 0,
+        Kind::Declared(d) => declaration_rank(d),
+        Kind::Module => LAST_RANK,
+        Kind::Statement(s) => LAST_RANK,
+        Kind::Expression(e) => LAST_RANK,
+        Kind::Unknown => LAST_RANK,
     }
-    !is_shared(k)
 }
 
-// The lowest shared cell after a frame of another kind.
-fn shared_after_other(words: &[u64]) -> FaultSearch
+fn higher(a: u8, b: u8) -> u8
+    ensures { λ r. ⌜ r ≡ max a b ⌝ }
+{
+    if a < b {
+        return b;
+    }
+    a
+}
+
+// A declaration, where a frame of a later rank was before: `top` is the highest.
+fn is_late(k: Kind, top: u8) -> bool
+    ensures { λ r. ⌜ r ≡ isLate k top ⌝ }
+{
+    match k {
+        Kind::Header => false,
+        Kind::Declared(d) => declaration_rank(d) < top,
+        Kind::Module => false,
+        Kind::Statement(s) => false,
+        Kind::Expression(e) => false,
+        Kind::Unknown => false,
+    }
+}
+
+// The lowest declaration after a frame that it should precede.
+fn misplaced(words: &[u64]) -> FaultSearch
     requires { ⌜ length (now words) ≤ mostLines ⌝ }
     ensures { λ r. ⌜ r
-        ≡ found (lowest (λ (i : ℕ) (f : Frame). isAfterOther (framesOf (now (words .entry))) i f) 0
+        ≡ found (lowest (λ (i : ℕ) (f : Frame). isMisplaced (framesOf (now (words .entry))) i f) 0
         (framesOf (now (words .entry)))) ⌝ }
 {
-    let mut other = false;
+    let mut top: u8 = 0;
     let mut i = 0;
     while i < words.len() {
         let f = frame_at(words, i);
         let kind = f.kind;
-        if is_late(kind, other) {
+        if is_late(kind, top) {
             return FaultSearch::At(i as u16);
         }
-        other = either(other, is_other(kind));
+        top = higher(top, file_rank(kind));
         i += 1;
     }
     FaultSearch::Nowhere
-}
-
-// A shared cell, where another kind was before.
-fn is_late(k: Kind, other: bool) -> bool
-    ensures { λ r. ⌜ r ≡ (isShared k && other) ⌝ }
-{
-    if is_shared(k) {
-        return other;
-    }
-    false
 }
 
 // A statement or an expression that is not used: `count` says how often it is.
@@ -243,8 +263,8 @@ pub(crate) fn order(words: &[u64]) -> FaultSearch
     ensures { λ r. ⌜ r ≡ found (orderFault (framesOf (now (words .entry)))) ⌝ }
 {
     let d = disorder(words);
-    let s = shared_after_other(words);
+    let p = misplaced(words);
     let l = leftover(words);
     let m = no_main(words);
-    lower(d, lower(s, lower(l, m)))
+    lower(d, lower(p, lower(l, m)))
 }

@@ -43,7 +43,7 @@ module _ (w : List ℕ) (s : State) (h : Says w s) (q : ℕ) (a : q - 2 < 8) (b 
   nextAt = 67 + 130 * (q - 2)
 
   -- words that differ from w in that block, and say y there
-  pub scheduler-put : (v : List ℕ) (y : Scheduler) → length v ≡ 4818
+  pub scheduler-put : (v : List ℕ) (y : Scheduler) → length v ≡ 4834
       → ((j : ℕ) → j < 130 → getD v (blockAt + j) 0 ≡ schedulerWord y j)
       → ((i : ℕ) → (blockAt ≤ i → i < blockAt + 130 → ⊥) → getD v i 0 ≡ getD w i 0)
       → Says v (withScheduler q y s)
@@ -132,10 +132,10 @@ module _ (w : List ℕ) (s : State) (h : Says w s) (q : ℕ) (a : q - 2 < 8) (b 
           v : List ℕ
           v = set u blockAt (getD w blockAt 0 - 1)
 
-          ul : length u ≡ 4818
+          ul : length u ≡ 4834
           ul = pasted-length w (blockAt + 1) B m hd hs ∙ h .all
 
-          long : length v ≡ 4818
+          long : length v ≡ 4834
           long = length-set u blockAt (getD w blockAt 0 - 1) ∙ ul
 
           out : (i : ℕ) → (i ≡ blockAt → ⊥)
@@ -222,10 +222,10 @@ module _ (w : List ℕ) (s : State) (h : Says w s) (q : ℕ) (a : q - 2 < 8) (b 
       v : List ℕ
       v = set u (nextAt) (getD w (nextAt) 0 + 1)
 
-      ul : length u ≡ 4818
+      ul : length u ≡ 4834
       ul = length-set w (nextAt + 1 + getD w (nextAt) 0) (entryWord e) ∙ h .all
 
-      long : length v ≡ 4818
+      long : length v ≡ 4834
       long = length-set u (nextAt) (getD w (nextAt) 0 + 1) ∙ ul
 
       out : (i : ℕ) → (i ≡ nextAt + 1 + getD w (nextAt) 0 → ⊥) → (i ≡ nextAt → ⊥)

@@ -66,19 +66,24 @@ pub ready-plain : (living e : ℕ) → e < 128 → true ≡ isReadyBy living e
 unfolding isReadyBy
 ready-plain living e h = yes _ (lt-ltb e 128 h) refl
 
-pub ready-waiting : (living e : ℕ) (r : Bool) → 128 ≤ e → r ≡ lacksThread living (e / 128)
-    → r ≡ isReadyBy living e
+pub ready-awaiting : (living e : ℕ) → 128 ≤ e → 16384 ≤ e → true ≡ isReadyBy living e
 unfolding isReadyBy
-ready-waiting living e r h q = no _ (le-ltb e 128 h) q
+ready-awaiting living e h g = no _ (le-ltb e 128 h) (no _ (le-ltb e 16384 g) refl)
 
-pub ruleset ready-laws = (ready-plain, ready-waiting)
+pub ready-waiting : (living e : ℕ) (r : Bool) → 128 ≤ e → e < 16384
+    → r ≡ lacksThread living (e / 128) → r ≡ isReadyBy living e
+unfolding isReadyBy
+ready-waiting living e r h g q = no _ (le-ltb e 128 h) (yes _ (lt-ltb e 16384 g) q)
+
+pub ruleset ready-laws = (ready-plain, ready-awaiting, ready-waiting)
 
 -- the set says of every entry what the words say
 pub ready-by : (w : List ℕ) (living : ℕ) → LivingFamilies w living → (e : ℕ)
     → isReadyBy living e ≡ isReadyWord w e
 unfolding isReadyBy isReadyWord lacksThread
 ready-by w living l e =
-    ap (λ (b : Bool). if ltb e 128 then true else b) (go (e / 128) (threadInRange (e / 128)) refl)
+    ap (λ (b : Bool). if ltb e 128 then true else if ltb e 16384 then b else true)
+    (go (e / 128) (threadInRange (e / 128)) refl)
   where
     twice : (b : Bool) → not (not b) ≡ b
     twice true = refl

@@ -3,6 +3,7 @@ use crate::wait::is_ready;
 use crate::wait::living_families;
 use language::Place;
 use language::limit::MOST_THREADS;
+use machine::offset::AWAITING_FROM;
 use machine::offset::LIST_LENGTH;
 use machine::offset::SCHEDULER_LENGTH;
 use machine::offset::SCHEDULERS_AT;
@@ -19,7 +20,9 @@ ghost use Rattle.machine.specs.Offsets.{listLength, nextListAt, threadsAt};
 ghost use Rattle.machine.specs.inner.Blocks.{part, pasted};
 ghost use Rattle.machine.specs.Words.{wordsAt};
 ghost use Rattle.lists.specs.inner.Lists.{shifted, withoutFirst, withLast, ListWords};
-ghost use Rattle.lists.specs.inner.Lists.{partitionedIn, withInstantEnded, readyWords};
+ghost use Rattle.lists.specs.inner.Lists.{isAwaitingWord, isWanted, wantedWords};
+ghost use Rattle.lists.specs.inner.Lists.{partitionedIn, withMoved, withInstantEnded};
+ghost use Rattle.lists.specs.inner.Lists.{readyWords, withWoken, activeWith};
 
 // Where the scheduler's active list begins: its count, then the space of 64 threads.
 fn active_list(q: Place) -> usize
@@ -110,28 +113,56 @@ pub fn append(state: &mut [u64], q: Place, entry: u64)
     state[at] = n + 1;
 }
 
+// The entries of a next list that become active: the ready ones, where that is the set of threads
+// in whose families some thread lives; or those that await the event.
+enum Wanted {
+    Ready(u64),
+    Awaiting(u8),
+}
+
+// The entry awaits the event.
+fn awaits(entry: u64, event: u8) -> bool
+    ensures { λ r. ⌜ r ≡ isAwaitingWord event entry ⌝ }
+{
+    if entry < AWAITING_FROM {
+        return false;
+    }
+    (entry - AWAITING_FROM) / WAITING_FACTOR == event as u64
+}
+
+fn is_wanted(wanted: Wanted, entry: u64) -> bool
+    ensures { λ r. ⌜ r ≡ isWanted wanted entry ⌝ }
+{
+    match wanted {
+        Wanted::Ready(living) => is_ready(living, entry),
+        Wanted::Awaiting(event) => awaits(entry, event),
+    }
+}
+
 // Partitions the entries of the next list after that active list, in place and in order: the
-// threads of the ready ones go to the active list, those that wait stay, without gaps, and 0 stands
-// in the words that they leave. How many are ready. Validation has found at most 64 threads, and a
-// list within its space.
-fn partition_entries(state: &mut [u64], active: usize) -> u64
+// threads of the wanted ones go to the active list, after its threads, the others stay, without
+// gaps, and 0 stands in the words that they leave. How many go. Each list is within its space.
+fn partition_entries(state: &mut [u64], active: usize, wanted: Wanted) -> u64
     requires { ⌜ ListWords (now state) (active + listLength)
-        × (active + schedulerLength ≤ threadsAt) ⌝ }
-    ensures count { λ r. ⌜ r ≡ length (readyWords (now (state .entry))
+        × (active + schedulerLength ≤ threadsAt)
+        × (getD (now state) active 0 + length (wantedWords (isWanted wanted)
+        (wordsAt (now state) (active + listLength))) ≤ mostThreads) ⌝ }
+    ensures count { λ r. ⌜ r ≡ length (wantedWords (isWanted wanted)
         (wordsAt (now (state .entry)) (active + listLength))) ⌝ }
-    ensures words { λ r. ⌜ now (state .exit) ≡ partitionedIn (now (state .entry)) active ⌝ }
+    ensures words { λ r. ⌜ now (state .exit) ≡ partitionedIn (isWanted wanted) (now (state .entry))
+        active (getD (now (state .entry)) active 0) ⌝ }
 {
     let next = active + LIST_LENGTH;
     let n = state[next] as usize;
-    let living = living_families(state);
+    let first = active + 1 + state[active] as usize;
     let mut r: usize = 0;
     let mut j: usize = 0;
     while j < n {
         let e = state[next + 1 + j];
-        let ready = is_ready(living, e);
+        let moves = is_wanted(wanted, e);
         state[next + 1 + j] = 0;
-        if ready {
-            state[active + 1 + r] = e % WAITING_FACTOR;
+        if moves {
+            state[first + r] = e % WAITING_FACTOR;
             r += 1;
             j += 1;
             continue;
@@ -142,21 +173,86 @@ fn partition_entries(state: &mut [u64], active: usize) -> u64
     r as u64
 }
 
+// The wanted entries become active: how many they are. Where there is none, nothing changes.
+fn move_entries(state: &mut [u64], q: Place, wanted: Wanted) -> u64
+    requires { ⌜ ListWords (now state) (nextListAt + schedulerLength * (q .number - home))
+        × (isScheduler (q .number) ≡ true)
+        × (activeWith (isWanted wanted) (now state) (q .number - home) ≤ mostThreads) ⌝ }
+    ensures count { λ r. ⌜ r ≡ length (wantedWords (isWanted wanted)
+        (wordsAt (now (state .entry)) (nextListAt + schedulerLength * (q .number - home)))) ⌝ }
+    ensures words { λ r. ⌜ now (state .exit)
+        ≡ withMoved (isWanted wanted) (now (state .entry)) (q .number - home) ⌝ }
+{
+    let active = active_list(q);
+    let next = active + LIST_LENGTH;
+    let m = state[active];
+    let n = state[next];
+    let r = partition_entries(state, active, wanted);
+    state[active] = m + r;
+    state[next] = n - r;
+    r
+}
+
 // The instant of a scheduler with no active thread ends: how many entries were ready. Where none
-// was, nothing changes.
+// was, nothing changes. Validation has found at most 64 threads, and a list within its space.
 pub fn end_instant(state: &mut [u64], q: Place) -> u64
     requires { ⌜ ListWords (now state) (nextListAt + schedulerLength * (q .number - home))
-        × (isScheduler (q .number) ≡ true) ⌝ }
+        × (isScheduler (q .number) ≡ true)
+        × (getD (now state) (schedulersAt + schedulerLength * (q .number - home)) 0 ≡ 0) ⌝ }
     ensures count { λ r. ⌜ r ≡ length (readyWords (now (state .entry))
         (wordsAt (now (state .entry)) (nextListAt + schedulerLength * (q .number - home)))) ⌝ }
     ensures words { λ r. ⌜ now (state .exit)
         ≡ withInstantEnded (now (state .entry)) (q .number - home) ⌝ }
 {
-    let active = active_list(q);
+    let living = living_families(state);
+    move_entries(state, q, Wanted::Ready(living))
+}
+
+// How many threads there are in that active list and, awaiting the event, in the next list after it.
+fn active_with(state: &[u64], active: usize, event: u8) -> u64
+    requires { ⌜ ListWords (now state) (active + listLength)
+        × (active + schedulerLength ≤ threadsAt)
+        × (getD (now state) active 0 ≤ mostThreads) ⌝ }
+    ensures { λ r. ⌜ r ≡ getD (now (state .entry)) active 0
+        + length (wantedWords (isAwaitingWord event)
+        (wordsAt (now (state .entry)) (active + listLength))) ⌝ }
+{
     let next = active + LIST_LENGTH;
-    let n = state[next];
-    let r = partition_entries(state, active);
-    state[active] = r;
-    state[next] = n - r;
-    r
+    let n = state[next] as usize;
+    let mut threads = state[active];
+    let mut j: usize = 0;
+    while j < n {
+        let e = state[next + 1 + j];
+        if !awaits(e, event) {
+            j += 1;
+            continue;
+        }
+        threads += 1;
+        j += 1;
+    }
+    threads
+}
+
+// The threads that await the event on that scheduler have room in its active list.
+pub fn has_room_to_wake(state: &[u64], q: Place, event: u8) -> bool
+    requires { ⌜ ListWords (now state) (nextListAt + schedulerLength * (q .number - home))
+        × (isScheduler (q .number) ≡ true)
+        × (getD (now state) (schedulersAt + schedulerLength * (q .number - home)) 0
+        ≤ mostThreads) ⌝ }
+    ensures { λ r. ⌜ r
+        ≡ leb (activeWith (isAwaitingWord event) (now (state .entry)) (q .number - home))
+        mostThreads ⌝ }
+{
+    active_with(state, active_list(q), event) <= MOST_THREADS as u64
+}
+
+// They go to the end of the active list, in the order of the next list.
+pub fn wake(state: &mut [u64], q: Place, event: u8)
+    requires { ⌜ ListWords (now state) (nextListAt + schedulerLength * (q .number - home))
+        × (isScheduler (q .number) ≡ true)
+        × (activeWith (isAwaitingWord event) (now state) (q .number - home) ≤ mostThreads) ⌝ }
+    ensures { λ _. ⌜ now (state .exit)
+        ≡ withWoken (now (state .entry)) (q .number - home) event ⌝ }
+{
+    let _moved = move_entries(state, q, Wanted::Awaiting(event));
 }

@@ -1,6 +1,7 @@
 // The ready test on the lent words, apart: the only place that says when a wait ends. An entry
 // waits for a family: for a thread, and for those that it began, directly or through others.
 use language::limit::MOST_THREADS;
+use machine::offset::AWAITING_FROM;
 use machine::offset::LIVES_FIELD;
 use machine::offset::STARTER_FIELD;
 use machine::offset::THREAD_COUNT_AT;
@@ -78,11 +79,14 @@ pub(crate) fn living_families(state: &[u64]) -> u64
 }
 
 // An entry of a next list is ready: it waits for nobody, or no thread lives in the family for which
-// it waits.
+// it waits, or it awaits an event, which it tries again.
 pub(crate) fn is_ready(living: u64, e: u64) -> bool
     ensures { λ r. ⌜ r ≡ isReadyBy living e ⌝ }
 {
     if e < WAITING_FACTOR {
+        return true;
+    }
+    if AWAITING_FROM <= e {
         return true;
     }
     lacks_thread(living, e / WAITING_FACTOR)

@@ -16,10 +16,11 @@ use Rattle.machine.specs.Words.{threadWord, schedulerWord, cellWord, pac
 use Rattle.machine.specs.inner.Blocks.{pasted, threadWords, schedulerWords, cellWords}
 use Rattle.machine.proofs.WordLaws.{pasted-length, pasted-in, pasted-out, Says, pack-length}
 use Rattle.machine.proofs.WordLaws.{word-0, word-1, word-scheduler, word-thread, word-cell}
+use Rattle.machine.proofs.WordLaws.{word-event}
 use Rattle.machine.proofs.WordLaws.{tab-length, tab-at}
 
 pub says-pack : (s : State) → Says (pack s) s
-says-pack s = record { all = pack-length s; threads = word-0 s; cells = word-1 s; scheduler = word-scheduler s; thread = word-thread s; cell = word-cell s }
+says-pack s = record { all = pack-length s; threads = word-0 s; cells = word-1 s; scheduler = word-scheduler s; thread = word-thread s; event = word-event s; cell = word-cell s }
 
 -- ---- the words of a thread, a scheduler, the cells
 
@@ -51,7 +52,7 @@ cells-at cs j h = tab-at 256 (λ i. cellWord (getD cs i noCell)) j 0 h
 
 -- ---- a block of the words replaced is a part of the state replaced
 module _ (w : List ℕ) (s : State) (h : Says w s) where
-  size : length w ≡ 4818
+  size : length w ≡ 4834
   size = h .all
 
   pub put-thread : (k : ℕ) (x : Thread) → k < 64 → k < length (s .threads)
@@ -62,7 +63,8 @@ module _ (w : List ℕ) (s : State) (h : Says w s) where
     cells = out 1 (λ p q. omega arith) ∙ h .cells;
     scheduler = λ i j f g. out (2 + 130 * i + j) (λ p q. omega arith) ∙ h .scheduler i j f g;
     thread = λ i j f g. go i j f g (ℕ-discrete i k);
-    cell = λ j g. out (4562 + j) (λ p q. omega arith) ∙ h .cell j g;
+    event = λ e g. out (4562 + e) (λ p q. omega arith) ∙ h .event e g;
+    cell = λ j g. out (4578 + j) (λ p q. omega arith) ∙ h .cell j g;
   }
     where
       at : ℕ
@@ -100,7 +102,8 @@ module _ (w : List ℕ) (s : State) (h : Says w s) where
     cells = out 1 (λ p r. omega arith) ∙ h .cells;
     scheduler = λ i j f g. go i j f g (ℕ-discrete i k);
     thread = λ i j f g. out (1042 + 55 * i + j) (λ p r. omega arith) ∙ h .thread i j f g;
-    cell = λ j g. out (4562 + j) (λ p r. omega arith) ∙ h .cell j g;
+    event = λ e g. out (4562 + e) (λ p r. omega arith) ∙ h .event e g;
+    cell = λ j g. out (4578 + j) (λ p r. omega arith) ∙ h .cell j g;
   }
     where
       k : ℕ
@@ -135,33 +138,34 @@ module _ (w : List ℕ) (s : State) (h : Says w s) where
 
   -- all cells; their count is stored apart
   pub put-cells : (cs : List Stored)
-      → Says (set (pasted w 4562 (cellWords cs) 256) 1 (usedCells cs)) (withCells cs s)
+      → Says (set (pasted w 4578 (cellWords cs) 256) 1 (usedCells cs)) (withCells cs s)
   put-cells cs = record {
-    all = length-set (pasted w 4562 (cellWords cs) 256) 1 (usedCells cs) ∙ pl ∙ size;
+    all = length-set (pasted w 4578 (cellWords cs) 256) 1 (usedCells cs) ∙ pl ∙ size;
     threads = other 0 (λ e. omega arith) ∙ out 0 (λ p q. omega arith) ∙ h .threads;
-    cells = getD-set-same (pasted w 4562 (cellWords cs) 256) 1 (usedCells cs) 0 (rw (pl, size) (omega arith));
+    cells = getD-set-same (pasted w 4578 (cellWords cs) 256) 1 (usedCells cs) 0 (rw (pl, size) (omega arith));
     scheduler = λ i j f g. other (2 + 130 * i + j) (λ e. omega arith) ∙ out (2 + 130 * i + j) (λ p q. omega arith) ∙ h .scheduler i j f g;
     thread = λ i j f g. other (1042 + 55 * i + j) (λ e. omega arith) ∙ out (1042 + 55 * i + j) (λ p q. omega arith) ∙ h .thread i j f g;
-    cell = λ j g. other (4562 + j) (λ e. omega arith) ∙ pasted-in w 4562 (cellWords cs) 256 hd hs j g ∙ cells-at cs j g;
+    event = λ e g. other (4562 + e) (λ z. omega arith) ∙ out (4562 + e) (λ p q. omega arith) ∙ h .event e g;
+    cell = λ j g. other (4578 + j) (λ e. omega arith) ∙ pasted-in w 4578 (cellWords cs) 256 hd hs j g ∙ cells-at cs j g;
   }
     where
-      hd : 4562 + 256 ≤ length w
+      hd : 4578 + 256 ≤ length w
       hd = rw size (omega arith)
 
       hs : 256 ≤ length (cellWords cs)
       hs = rw cells-length (omega arith)
 
-      pl : length (pasted w 4562 (cellWords cs) 256) ≡ length w
-      pl = pasted-length w 4562 (cellWords cs) 256 hd hs
+      pl : length (pasted w 4578 (cellWords cs) 256) ≡ length w
+      pl = pasted-length w 4578 (cellWords cs) 256 hd hs
 
-      out : (i : ℕ) → (4562 ≤ i → i < 4562 + 256 → ⊥)
-          → getD (pasted w 4562 (cellWords cs) 256) i 0 ≡ getD w i 0
-      out = pasted-out w 4562 (cellWords cs) 256 hd hs
+      out : (i : ℕ) → (4578 ≤ i → i < 4578 + 256 → ⊥)
+          → getD (pasted w 4578 (cellWords cs) 256) i 0 ≡ getD w i 0
+      out = pasted-out w 4578 (cellWords cs) 256 hd hs
 
       other : (i : ℕ) → (i ≡ 1 → ⊥)
-          → getD (set (pasted w 4562 (cellWords cs) 256) 1 (usedCells cs)) i 0
-          ≡ getD (pasted w 4562 (cellWords cs) 256) i 0
-      other i e = getD-set-other (pasted w 4562 (cellWords cs) 256) 1 i (usedCells cs) 0 e
+          → getD (set (pasted w 4578 (cellWords cs) 256) 1 (usedCells cs)) i 0
+          ≡ getD (pasted w 4578 (cellWords cs) 256) i 0
+      other i e = getD-set-other (pasted w 4578 (cellWords cs) 256) 1 i (usedCells cs) 0 e
 
 -- one more thread; the count of threads is stored apart
 pub put-new : (w : List ℕ) (s : State) → Says w s → (x : Thread) → length (s .threads) < 64
@@ -175,13 +179,14 @@ put-new w s h x l = record {
   cells = other 1 (λ e. omega arith) ∙ out 1 (λ p q. omega arith) ∙ h .cells;
   scheduler = λ i j f g. other (2 + 130 * i + j) (λ e. omega arith) ∙ out (2 + 130 * i + j) (λ p q. omega arith) ∙ h .scheduler i j f g;
   thread = λ i j f g. other (1042 + 55 * i + j) (λ e. omega arith) ∙ go i j f g (ℕ-discrete i m);
-  cell = λ j g. other (4562 + j) (λ e. omega arith) ∙ out (4562 + j) (λ p q. omega arith) ∙ h .cell j g;
+  event = λ e g. other (4562 + e) (λ z. omega arith) ∙ out (4562 + e) (λ p q. omega arith) ∙ h .event e g;
+  cell = λ j g. other (4578 + j) (λ e. omega arith) ∙ out (4578 + j) (λ p q. omega arith) ∙ h .cell j g;
 }
   where
     m : ℕ
     m = length (s .threads)
 
-    size : length w ≡ 4818
+    size : length w ≡ 4834
     size = h .all
 
     hd : 1042 + 55 * length (s .threads) + 55 ≤ length w

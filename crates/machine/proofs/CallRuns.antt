@@ -27,11 +27,11 @@ use Rattle.machine.proofs.KeptShape.{FileFits, keeps-step, fresh-shaped
 abbrev pub asCalled : StepResult → CallResult
 asCalled r = callResult (r .answer) (r .thread) (accessCount r) (pack (r .state))
 
-pub fresh-called : (fs : List Frame) (w : List ℕ) → length w ≡ 4818
+pub fresh-called : (fs : List Frame) (w : List ℕ) → length w ≡ 4834
     → freshCall fs w ≡ callResult 0 0 0 (pack (fresh (programOf fs)))
 unfolding freshCall
 fresh-called fs w e =
-    ap (λ (b : Bool). elim b [ true ↦ callResult 0 0 0 (pack (fresh (programOf fs))) | false ↦ callResult 14 0 0 w ]) (eq-eqb (length w) 4818 e)
+    ap (λ (b : Bool). elim b [ true ↦ callResult 0 0 0 (pack (fresh (programOf fs))) | false ↦ callResult 14 0 0 w ]) (eq-eqb (length w) 4834 e)
 
 module _ (fs : List Frame) (F : FileFits fs (programOf fs) (programSchedulers fs)) where
   pub call-is : (s : State) (c : ℕ) → Shaped fs (programSchedulers fs) s
@@ -61,7 +61,7 @@ module _ (fs : List Frame) (F : FileFits fs (programOf fs) (programSchedulers fs
       (ap (λ (x : CallResult). callsFrom fs (x .words) cs) (call-is s c z) ∙ calls-from (step (programOf fs) s c .state) cs (keeps-step fs (programOf fs) (programSchedulers fs) F s c z))
 
   -- 'States and answers are those that the calls give.'
-  pub calls-are : (w cs : List ℕ) → length w ≡ 4818
+  pub calls-are : (w cs : List ℕ) → length w ≡ 4834
       → callsFrom fs (freshCall fs w .words) cs ≡ map asCalled (steps (programOf fs) cs)
   calls-are w cs e =
       ap (λ (x : CallResult). callsFrom fs (x .words) cs) (fresh-called fs w e)
@@ -77,7 +77,7 @@ module _ (fs : List Frame) (F : FileFits fs (programOf fs) (programSchedulers fs
       ∙ words-from (step (programOf fs) s c .state) cs
       (keeps-step fs (programOf fs) (programSchedulers fs) F s c z)
 
-  pub words-are : (w cs : List ℕ) → length w ≡ 4818
+  pub words-are : (w cs : List ℕ) → length w ≡ 4834
       → wordsFrom fs (freshCall fs w .words) cs ≡ pack (stateAfter (programOf fs) cs)
   words-are w cs e =
       ap (λ (x : CallResult). wordsFrom fs (x .words) cs) (fresh-called fs w e)

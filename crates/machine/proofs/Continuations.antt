@@ -11,6 +11,7 @@ use lib.ListN.{length}
 use borrow.Author.Tests.{le-leb}
 use Rattle.program.specs.Trees.{Expr, Stmt, nothing, seq, doAt, start, startWait, cooperate, letIn}
 use Rattle.program.specs.Trees.{store, ifElse, while}
+use Rattle.program.specs.Trees.{generate, await}
 use Rattle.machine.proofs.Tests.{and-both}
 use Rattle.machine.specs.State.{Item, run, back, drop}
 use Rattle.machine.specs.Turns.{holds, Spaces, stateSpaces, fits}
@@ -30,6 +31,8 @@ height (letIn i x a) = 1 + height a
 height (store i x y) = 1
 height (ifElse i x a b) = max (height a) (height b)
 height (while i x a) = 1 + height a
+height (generate i e) = 1
+height (await i e) = 1
 
 -- how many variables: the lets around its innermost statement
 unfoldable pub lets : Stmt → ℕ
@@ -43,6 +46,8 @@ lets (letIn i x a) = 1 + lets a
 lets (store i x y) = 0
 lets (ifElse i x a b) = max (lets a) (lets b)
 lets (while i x a) = lets a
+lets (generate i e) = 0
+lets (await i e) = 0
 
 pub height-pos : (x : Stmt) → 1 ≤ height x
 unfolding height
@@ -56,6 +61,8 @@ height-pos (letIn i x a) = omega arith
 height-pos (store i x y) = omega arith
 height-pos (ifElse i x a b) = let g = height-pos a in omega arith
 height-pos (while i x a) = omega arith
+height-pos (generate i e) = omega arith
+height-pos (await i e) = omega arith
 
 -- ---- a continuation over n variables with all the room that it will take: for each statement in
 -- it, above what lies below

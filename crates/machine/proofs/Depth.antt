@@ -5,6 +5,7 @@ use native.Mathlib.Omega.{arith}
 use lib.ListN.{length}
 use Rattle.program.specs.Trees.{Stmt, nothing, seq, doAt, start, startWait, cooperate, letIn, store}
 use Rattle.program.specs.Trees.{ifElse, while}
+use Rattle.program.specs.Trees.{generate, await}
 use Rattle.program.specs.Programs.{Program, moduleAt}
 use Rattle.machine.proofs.Continuations.{height, lets}
 
@@ -20,6 +21,8 @@ deep (letIn i x a) = 1 + deep a
 deep (store i x y) = 1
 deep (ifElse i x a b) = 1 + max (deep a) (deep b)
 deep (while i x a) = 1 + deep a
+deep (generate i e) = 1
+deep (await i e) = 1
 
 -- each statement takes at most one item of the continuation, and at most one variable, for each
 -- level of depth
@@ -35,6 +38,8 @@ height-deep (letIn i x a) = let f = height-deep a in omega arith
 height-deep (store i x y) = omega arith
 height-deep (ifElse i x a b) = let f = height-deep a in let g = height-deep b in omega arith
 height-deep (while i x a) = let f = height-deep a in omega arith
+height-deep (generate i e) = omega arith
+height-deep (await i e) = omega arith
 
 pub lets-deep : (x : Stmt) → lets x < deep x
 unfolding lets deep
@@ -48,6 +53,8 @@ lets-deep (letIn i x a) = let f = lets-deep a in omega arith
 lets-deep (store i x y) = omega arith
 lets-deep (ifElse i x a b) = let f = lets-deep a in let g = lets-deep b in omega arith
 lets-deep (while i x a) = let f = lets-deep a in omega arith
+lets-deep (generate i e) = omega arith
+lets-deep (await i e) = omega arith
 
 -- beside two parameters at most
 pub deep-fits : (x : Stmt) (n : ℕ) → deep x ≤ 24 → n ≤ 2 → (height x ≤ 25) × (n + lets x ≤ 25)

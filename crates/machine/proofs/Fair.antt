@@ -6,19 +6,26 @@ use mathlib.Core.Logic.{_≢_}
 use mathlib.Core.List.{List, [], _∷_}
 use mathlib.Core.Bool.{Bool, true, false}
 use Prim.Native.Nat.{ℕ}
+use Prim.Native.Nat.{_≤_}
 use Rattle.basics.specs.If.{if_then_else_}
 use Rattle.basics.specs.Members.{All, none}
+use Rattle.basics.specs.Members.{more}
 use Rattle.basics.proofs.Ifs.{if-all}
+use Rattle.basics.proofs.Ifs.{and-true}
 use Rattle.program.specs.Trees.{Expr, Stmt, nothing, seq, doAt, start, startWait, cooperate, letIn}
 use Rattle.program.specs.Trees.{store, ifElse, while}
+use Rattle.program.specs.Trees.{generate, await}
 use Rattle.program.specs.Programs.{Program}
+use Rattle.program.specs.Programs.{ownerOfEvent}
 use Rattle.machine.specs.Accesses.{Own}
+use Rattle.machine.specs.Accesses.{OwnSignal}
 use Rattle.machine.specs.State.{State, Stored, Item, run, back, drop, Entry, schedulerAt}
 use Rattle.machine.specs.State.{threadAt}
 use Rattle.machine.specs.Waits.{readyThreads, stillWaiting}
 use Rattle.machine.specs.Evaluation.{Here, EvalResult, Evaluation, eval, storing}
 use Rattle.machine.specs.Turns.{StepResult, Turn, refuse, accept, afterEval, evaluator, goOn}
 use Rattle.machine.specs.Turns.{withValue, withValues, byCondition, stay, move, goTo}
+use Rattle.machine.specs.Turns.{here}
 use Rattle.machine.specs.inner.Parts.{stepItems, stepThread, turn, stepScheduler}
 use Rattle.machine.specs.Steps.{stepThreadWithin, nobody, turnInstant, endInstant, step}
 use Rattle.machine.specs.Steps.{stepWithin}
@@ -26,30 +33,35 @@ use Rattle.machine.specs.Statements.{ends, drops, goesBack, stepNothing,
 use Rattle.machine.specs.Statements.{starting, stepStart, startedWait, stepStartWait}
 use Rattle.machine.specs.Statements.{stepCooperate, stepLet, stepStore, stepIf, stepWhile}
 use Rattle.machine.specs.Statements.{stepStatement}
+use Rattle.machine.specs.Statements.{withSignal, isOwnEvent, signalling, stepGenerate}
+use Rattle.machine.specs.Statements.{stepAwait}
 use Rattle.machine.specs.declared.value.Value.{Value}
 use Rattle.machine.specs.declared.value.Value.the-variants.{Number, Truth, Cell}
 use Rattle.machine.specs.declared.value.Outcome.{Outcome}
 use Rattle.machine.specs.declared.value.Outcome.the-variants.{Is, Foreign, Spent, Stuck}
 use Rattle.machine.proofs.Lists.{all-append}
 use Rattle.machine.proofs.Owns.{IsForeign, Owns, owns-eval, owns-storing}
+use lib.Dec.{leb, eqb}
+use borrow.Author.Tests.{leb-true, eqb-true}
 
 -- what r says of a choice put to the state s: refused, it kept the state; not foreign, it accessed
--- only cells of its own
+-- only cells and events of its own
 pub record Fair (s : State) (r : StepResult) : Type 0 where
   pub kept : r .answer ≢ 0 → r .state ≡ s
   pub own : r .answer ≢ 19 → All Own (r .accesses)
+  pub heard : r .answer ≢ 19 → All OwnSignal (r .signals)
 
--- the accesses of the turn so far were to cells of its own
+-- the accesses of the turn so far were to cells and events of its own
 abbrev Owning : Turn → Type 0
-Owning u = All Own (u .accesses)
+Owning u = All Own (u .accesses) × All OwnSignal (u .signals)
 
 -- ---- the ways in which a turn goes on and ends
 
 fair-refuse : (u : Turn) (n : ℕ) → Owning u → Fair (u .state) (refuse u n)
-fair-refuse u n h = record { kept = λ _. refl; own = λ _. h }
+fair-refuse u n h = record { kept = λ _. refl; own = λ _. h .0; heard = λ _. h .1 }
 
 fair-accept : (u : Turn) (s : State) → Owning u → Fair (u .state) (accept u s)
-fair-accept u s h = record { kept = λ n. absurd (n refl); own = λ _. h }
+fair-accept u s h = record { kept = λ n. absurd (n refl); own = λ _. h .0; heard = λ _. h .1 }
 
 fair-if : (s : State) (b : Bool) (x y : StepResult) → Fair s x → Fair s y → Fair s (if b then x else y)
 fair-if s b x y f g = if-all (Fair s) b x y (λ _. f) (λ _. g)
@@ -57,7 +69,8 @@ fair-if s b x y f g = if-all (Fair s) b x y (λ _. f) (λ _. g)
 fair-goOn : (u : Turn) (o : Outcome) (k : Value → Turn → StepResult) → ((IsForeign o → ⊥) → Owning u)
     → ((v : Value) → Owning u → Fair (u .state) (k v u)) → Fair (u .state) (goOn u o k)
 fair-goOn u (Is v) k h g = g v (h (λ z. z))
-fair-goOn u Foreign k h g = record { kept = λ _. refl; own = λ n. absurd (n refl) }
+fair-goOn u Foreign k h g =
+    record { kept = λ _. refl; own = λ n. absurd (n refl); heard = λ n. absurd (n refl) }
 fair-goOn u Spent k h g = fair-refuse u 17 (h (λ z. z))
 fair-goOn u Stuck k h g = fair-refuse u 20 (h (λ z. z))
 
@@ -67,7 +80,8 @@ fair-value : (u : Turn) (m : Here → Evaluation) (k : Value → Turn → StepRe
     → Fair (u .state) (withValue u m k)
 fair-value u m k o h g =
     let r : EvalResult = m (evaluator u) (u .cells) in
-    fair-goOn (afterEval u r) (r .outcome) k (λ n. all-append h (o (evaluator u) (u .cells) n))
+    fair-goOn (afterEval u r) (r .outcome) k
+    (λ n. (all-append (h .0) (o (evaluator u) (u .cells) n), h .1))
     (λ v. g v (afterEval u r))
 
 fair-values : (u : Turn) (xs : List Expr) (k : List Value → Turn → StepResult) → Owning u
@@ -105,10 +119,28 @@ fair-starting u m vs r h g =
     let f = fair-refuse u 20 h in
     fair-if _ _ _ _ f (fair-if _ _ _ _ f (fair-if _ _ _ _ f (fair-if _ _ _ _ f (fair-if _ _ _ _ (fair-refuse u 18 h) g))))
 
+own-event : (u : Turn) (e : ℕ) → isOwnEvent u e ≡ true
+    → (2 ≤ here u) × (ownerOfEvent (u .program) e ≡ here u)
+unfolding isOwnEvent
+own-event u e h =
+    let o = ownerOfEvent (u .program) e in
+    let a = and-true (leb 2 (here u)) (eqb o (here u)) h in
+    (leb-true 2 (here u) (a .0), eqb-true o (here u) (a .1))
+
+fair-signalling : (u : Turn) (e : ℕ) (b : Bool) (r : Turn → StepResult) → Owning u
+    → (Owning (withSignal u e) → Fair (u .state) (r (withSignal u e)))
+    → Fair (u .state) (signalling u e b r)
+unfolding signalling
+fair-signalling u e b r h g =
+    fair-if _ _ _ _ (fair-refuse u 20 h) (fair-if _ _ _ _ (fair-refuse u 20 h)
+    (if-all (Fair (u .state)) (isOwnEvent u e) _ _
+    (λ q. g (h .0, all-append (h .1) (more (own-event u e q) none)))
+    (λ _. record { kept = λ _. refl; own = λ n. absurd (n refl); heard = λ n. absurd (n refl) })))
+
 -- ---- each statement, each item, each choice
 
 fair-statement : (u : Turn) (x : Stmt) → Owning u → Fair (u .state) (stepStatement u x)
-unfolding stepNothing stepSeq stepDo stepStart startedWait stepStartWait stepCooperate stepLet stepStore stepIf stepWhile
+unfolding stepNothing stepSeq stepDo stepStart startedWait stepStartWait stepCooperate stepLet stepStore stepIf stepWhile stepGenerate stepAwait
 fair-statement u (nothing i) h = fair-stay u _ _ h
 fair-statement u (seq i a b) h = fair-stay u _ _ h
 fair-statement u (doAt i q a) h = fair-if _ _ _ _ (fair-refuse u 20 h) (fair-goTo u q _ h)
@@ -123,31 +155,38 @@ fair-statement u (store i x y) h =
     fair-value u (λ e. storing e x y) _ (λ e. owns-storing e x y) h (λ v w j. fair-stay w _ _ j)
 fair-statement u (ifElse i x a b) h = fair-value u (λ e. eval e x) _ (λ e. owns-eval e x) h (λ v w j. fair-by w v _ _ j (fair-stay w _ _ j) (fair-stay w _ _ j))
 fair-statement u (while i x a) h = fair-value u (λ e. eval e x) _ (λ e. owns-eval e x) h (λ v w j. fair-by w v _ _ j (fair-stay w _ _ j) (fair-stay w _ _ j))
+fair-statement u (generate i e) h =
+    fair-signalling u e _ _ h (λ j. fair-accept (withSignal u e) _ j)
+fair-statement u (await i e) h =
+    fair-signalling u e _ _ h
+    (λ j. fair-if _ _ _ _ (fair-accept (withSignal u e) _ j) (fair-accept (withSignal u e) _ j))
 
 fair-items : (p : Program) (s : State) (c t : ℕ) (items : List Item)
     → Fair s (stepItems p s c t items)
 unfolding ends drops goesBack
-fair-items p s c t [] = fair-accept (turn p s c t []) _ none
-fair-items p s c t (run x ∷ items) = fair-statement (turn p s c t items) x none
-fair-items p s c t (back q ∷ items) = fair-goTo (turn p s c t items) q _ none
-fair-items p s c t (drop ∷ items) = fair-if _ _ _ _ (fair-refuse (turn p s c t items) 20 none) (fair-stay (turn p s c t items) _ _ none)
+fair-items p s c t [] = fair-accept (turn p s c t []) _ (none, none)
+fair-items p s c t (run x ∷ items) = fair-statement (turn p s c t items) x (none, none)
+fair-items p s c t (back q ∷ items) = fair-goTo (turn p s c t items) q _ (none, none)
+fair-items p s c t (drop ∷ items) = fair-if _ _ _ _ (fair-refuse (turn p s c t items) 20 (none, none)) (fair-stay (turn p s c t items) _ _ (none, none))
 
 fair-thread : (p : Program) (s : State) (c t : ℕ) → Fair s (stepThread p s c t)
 unfolding stepThreadWithin
 fair-thread p s c t = fair-items p s c t (threadAt s t .continuation)
 
 fair-nobody : (n : ℕ) (s : State) → Fair s (nobody n s)
-fair-nobody n s = record { kept = λ _. refl; own = λ _. none }
+fair-nobody n s = record { kept = λ _. refl; own = λ _. none; heard = λ _. none }
 
-fair-instant : (s : State) (c : ℕ) (ts : List ℕ) (es : List Entry) → Fair s (turnInstant s c ts es)
-fair-instant s c [] es = fair-nobody 16 s
-fair-instant s c (t ∷ ts) es = record { kept = λ n. absurd (n refl); own = λ _. none }
+fair-instant : (p : Program) (s : State) (c : ℕ) (ts : List ℕ) (es : List Entry)
+    → Fair s (turnInstant p s c ts es)
+fair-instant p s c [] es = fair-nobody 16 s
+fair-instant p s c (t ∷ ts) es =
+    record { kept = λ n. absurd (n refl); own = λ _. none; heard = λ _. none }
 
 fair-scheduler : (p : Program) (s : State) (c : ℕ) (ts : List ℕ) → Fair s (stepScheduler p s c ts)
 unfolding endInstant
 fair-scheduler p s c [] =
     let es = schedulerAt s c .next in
-    fair-instant s c (readyThreads (s .threads) es) (stillWaiting (s .threads) es)
+    fair-instant p s c (readyThreads (s .threads) es) (stillWaiting (s .threads) es)
 fair-scheduler p s c (t ∷ ts) = fair-thread p s c t
 
 pub fair : (p : Program) (s : State) (c : ℕ) → Fair s (step p s c)

@@ -13,8 +13,10 @@ use borrow.Author.Tests.{eq-eqb, eqb-true, ltb-true, ltb-false}
 use Rattle.basics.proofs.Ifs.{and-true}
 use Rattle.basics.proofs.Closures.{Still, closed}
 use Rattle.machine.specs.State.{Thread, Entry, plain, waiting, noThread, nth, starterOf}
+use Rattle.machine.specs.State.{awaiting}
 use Rattle.machine.specs.Waits.{Family, itself, begun, Ready, no-wait, all-ended}
 use Rattle.machine.specs.Waits.{ReadyComputes}
+use Rattle.machine.specs.Waits.{tries-again}
 use Rattle.machine.specs.inner.Families.{familyTo, familySteps, inFamily, endedFrom, isReady}
 use Rattle.machine.proofs.Tests.{or-true, or-left, or-right, and-both}
 use Rattle.machine.proofs.AllBelow.{same-test}
@@ -135,6 +137,7 @@ no-starter ts (suc t) l =
 pub ready-computes : ReadyComputes
 unfolding isReady inFamily
 ready-computes ts (plain t) = (λ e. no-wait, λ r. refl)
+ready-computes ts (awaiting t d) = (λ e. tries-again, λ r. refl)
 ready-computes ts (waiting t u) = (λ e. all-ended (ended e), λ r. found r)
   where
     -- a member that is a thread has ended, by the test; no other number is a living thread's

@@ -7,7 +7,7 @@ use mathlib.Core.Bool.{Bool, true, false, not}
 use native.Mathlib.Omega.{arith}
 use native.Mathlib.Nat.{add-zero}
 use lib.ListN.{getD, length, length-map, length-reverse, List·getD-eq-default}
-use lib.Dec.{ltb, leb}
+use lib.Dec.{ltb, leb, eqb}
 use borrow.Author.Tests.{ltb-true, lt-ltb, le-ltb, leb-true, le-leb}
 use Rattle.basics.specs.Members.{All}
 use Rattle.basics.proofs.Ifs.{if-yes, if-no, and-true}
@@ -16,20 +16,21 @@ use Rattle.language.specs.declared.frame.Frame.{Frame}
 use Rattle.program.specs.Trees.{frameAt, statementAt, rootS}
 use Rattle.program.proofs.Roots.{statement-root}
 use Rattle.machine.specs.State.{State, Stored, Item, run, back, drop, Thread, Entry, plain}
-use Rattle.machine.specs.State.{waiting, Scheduler, noThread, noScheduler, noCell}
+use Rattle.machine.specs.State.{waiting, awaiting, Scheduler, noThread, noScheduler, noCell}
+use Rattle.machine.specs.State.{isPresent}
 use Rattle.machine.specs.declared.value.Value.{Value}
 use Rattle.machine.specs.declared.value.Value.the-variants.{Number, Truth, Cell}
 use Rattle.machine.specs.Words.{bit, valueWord, wordValue, itemWord, wordItem, entryWord}
 use Rattle.machine.specs.Words.{wordEntry, cellWord, wordCell, listWord, threadWord}
 use Rattle.machine.specs.Words.{schedulerWord, wordsAt, threadFrom, schedulerFrom, unpack}
-use Rattle.machine.specs.Words.{pack}
+use Rattle.machine.specs.Words.{pack, tabulate}
 use Rattle.machine.specs.inner.Ranges.{itemInRange, valueInRange, entryInRange, threadInRange}
 use Rattle.machine.specs.inner.Ranges.{cellInRange, threadWordInRange, schedulerInRange}
 use Rattle.machine.specs.inner.Ranges.{inRange}
 use Rattle.machine.specs.Shapes.{isStatement, ownerInRange, ValueFits, number, truth, cell}
 use Rattle.machine.specs.Shapes.{ItemFits, run-fits, back-fits, drop-fits, EntryFits}
 use Rattle.machine.specs.Shapes.{plain-fits, waiting-fits, IsThread, ThreadFits}
-use Rattle.machine.specs.Shapes.{SchedulerFits, CellFits, Shaped}
+use Rattle.machine.specs.Shapes.{awaiting-fits, SchedulerFits, CellFits, Shaped}
 use Rattle.machine.proofs.Tests.{and-both}
 use Rattle.machine.proofs.Lists.{all-getD, all-imply, all-map, all-reverse}
 use Rattle.machine.proofs.Regions.{by-thread-word, by-scheduler-word}
@@ -75,16 +76,25 @@ item-in fs n (back q) (back-fits h k) =
     ∙ if-yes _ _ (lt-ltb (1024 + q) 2048 (omega arith)) ∙ ap (hasPlace n) a ∙ k
 item-in fs n drop drop-fits = if-no _ _ refl ∙ if-no _ _ refl
 
-entry-in : (e : Entry) → EntryFits e → entryInRange (entryWord e) ≡ true
+entry-in : (m : ℕ) (e : Entry) → EntryFits m e → entryInRange m (entryWord e) ≡ true
 unfolding entryInRange entryWord
-entry-in (plain t) (plain-fits h) =
+entry-in m (plain t) (plain-fits h) =
     let l = h .1 in if-yes _ _ (lt-ltb t 128 (omega arith)) ∙ thread-in t h
-entry-in (waiting t u) (waiting-fits h g) =
+entry-in m (awaiting t e) (awaiting-fits h g) =
     let l = h .1 in
-    let m = g .0 in
+    let a : (16384 + 128 * e + t) % 128 ≡ t = omega arith in
+    let b : (16384 + 128 * e + t - 16384) / 128 ≡ e = omega arith in
+    if-no _ _ (le-ltb (16384 + 128 * e + t) 128 (omega arith))
+    ∙ if-no _ _ (le-ltb (16384 + 128 * e + t) 16384 (omega arith))
+    ∙ and-both _ _ (ap threadInRange a ∙ thread-in t h) (ap (λ (x : ℕ). ltb x m) b ∙ lt-ltb e m g)
+entry-in m (waiting t u) (waiting-fits h g) =
+    let l = h .1 in
+    let k = g .0 in
+    let j = g .1 in
     let a : (128 * u + t) % 128 ≡ t = omega arith in
     let b : (128 * u + t) / 128 ≡ u = omega arith in
     if-no _ _ (le-ltb (128 * u + t) 128 (omega arith))
+    ∙ if-yes _ _ (lt-ltb (128 * u + t) 16384 (omega arith))
     ∙ and-both _ _ (ap threadInRange a ∙ thread-in t h) (ap threadInRange b ∙ thread-in u g)
 
 cell-in : (n : ℕ) (x : Stored) → CellFits n x → cellInRange n (cellWord x) ≡ true
@@ -138,17 +148,24 @@ in-item fs n v h = first (ltb v 1024) refl
         (ap (statementAt fs) r))
     first false e = second e (ltb v 2048) refl
 
-in-entry : (v : ℕ) → entryInRange v ≡ true → EntryFits (wordEntry v)
+in-entry : (m v : ℕ) → entryInRange m v ≡ true → EntryFits m (wordEntry v)
 unfolding entryInRange wordEntry
-in-entry v h = first (ltb v 128) refl
+in-entry m v h = first (ltb v 128) refl
   where
-    first : (b : Bool) → ltb v 128 ≡ b → EntryFits (wordEntry v)
-    first true e =
-        subst EntryFits (sym (if-yes _ _ e)) (plain-fits (in-thread v (sym (if-yes _ _ e) ∙ h)))
-    first false e =
-        let p = and-true (threadInRange (v % 128)) (threadInRange (v / 128)) (sym (if-no _ _ e) ∙ h) in
-        subst EntryFits (sym (if-no _ _ e))
+    second : ltb v 128 ≡ false → (b : Bool) → ltb v 16384 ≡ b → EntryFits m (wordEntry v)
+    second l true e =
+        let p = and-true (threadInRange (v % 128)) (threadInRange (v / 128)) (sym (if-no _ _ l ∙ if-yes _ _ e) ∙ h) in
+        subst (EntryFits m) (sym (if-no _ _ l ∙ if-yes _ _ e))
         (waiting-fits (in-thread (v % 128) (p .0)) (in-thread (v / 128) (p .1)))
+    second l false e =
+        let p = and-true (threadInRange (v % 128)) (ltb ((v - 16384) / 128) m) (sym (if-no _ _ l ∙ if-no _ _ e) ∙ h) in
+        subst (EntryFits m) (sym (if-no _ _ l ∙ if-no _ _ e))
+        (awaiting-fits (in-thread (v % 128) (p .0)) (ltb-true ((v - 16384) / 128) m (p .1)))
+
+    first : (b : Bool) → ltb v 128 ≡ b → EntryFits m (wordEntry v)
+    first true e =
+        subst (EntryFits m) (sym (if-yes _ _ e)) (plain-fits (in-thread v (sym (if-yes _ _ e) ∙ h)))
+    first false e = second e (ltb v 16384) refl
 
 in-cell : (n v : ℕ) → cellInRange n v ≡ true → CellFits n (wordCell v)
 unfolding cellInRange wordCell
@@ -171,6 +188,10 @@ list-space test w i m ws says fits all =
   where
     long : getD w i 0 ≡ length ws
     long = ap (λ (k : ℕ). getD w k 0) (sym (add-zero i)) ∙ says 0 (omega arith)
+
+bit-le : (b : Bool) → bit b ≤ 1
+bit-le true = omega arith
+bit-le false = omega arith
 
 -- ---- the words of a state in shape
 module _ (fs : List Frame) (n : ℕ) (w : List ℕ) (s : State) (h : Says w s) (z : Shaped fs n s) where
@@ -203,10 +224,6 @@ module _ (fs : List Frame) (n : ℕ) (w : List ℕ) (s : State) (h : Says w s) (
           (rw (length-map (x .variables) valueWord) (f .variables-room))
           (all-map ValueFits (λ (v : ℕ). valueInRange v ≡ true) valueWord value-in (x .variables) (f .values))
 
-      bit-le : (b : Bool) → bit b ≤ 1
-      bit-le true = omega arith
-      bit-le false = omega arith
-
       lives : getD w (1042 + 55 * k + 2) 0 ≤ 1
       lives = rw (thread-says h k 2 (1042 + 55 * k + 2) a (omega arith) refl ∙ thread-2 x) (bit-le (not (x .ended)))
 
@@ -214,12 +231,13 @@ module _ (fs : List Frame) (n : ℕ) (w : List ℕ) (s : State) (h : Says w s) (
       starts =
           rw (thread-says h k 1 (1042 + 55 * k + 1) a (omega arith) refl ∙ thread-1 x) (f .starter)
 
-  scheduler-range : (k j : ℕ) → k < 8 → j < 130 → SchedulerFits (getD (s .schedulers) k noScheduler)
-      → schedulerInRange w (2 + 130 * k) j ≡ true
+  scheduler-range : (k j : ℕ) → k < 8 → j < 130
+      → SchedulerFits (frameAt fs 0 .c) (getD (s .schedulers) k noScheduler)
+      → schedulerInRange (frameAt fs 0 .c) w (2 + 130 * k) j ≡ true
   scheduler-range k j a b f =
-      by-scheduler-word (λ (i : ℕ). schedulerInRange w (2 + 130 * k) i ≡ true)
-      (λ i g. range-active w (2 + 130 * k) i g ∙ of-space threadInRange w (2 + 130 * k) 64 active i g)
-      (λ i g. range-next w (2 + 130 * k) i g ∙ of-space entryInRange w (2 + 130 * k + 65) 64 next i g) j b
+      by-scheduler-word (λ (i : ℕ). schedulerInRange (frameAt fs 0 .c) w (2 + 130 * k) i ≡ true)
+      (λ i g. range-active (frameAt fs 0 .c) w (2 + 130 * k) i g ∙ of-space threadInRange w (2 + 130 * k) 64 active i g)
+      (λ i g. range-next (frameAt fs 0 .c) w (2 + 130 * k) i g ∙ of-space (entryInRange (frameAt fs 0 .c)) w (2 + 130 * k + 65) 64 next i g) j b
     where
       x : Scheduler
       x = getD (s .schedulers) k noScheduler
@@ -230,12 +248,12 @@ module _ (fs : List Frame) (n : ℕ) (w : List ℕ) (s : State) (h : Says w s) (
           (λ i g. scheduler-says h k i (2 + 130 * k + i) a (omega arith) refl ∙ scheduler-active x i (omega arith)) (f .active-room)
           (all-imply thread-in (f .threads))
 
-      next : Space entryInRange w (2 + 130 * k + 65) 64
+      next : Space (entryInRange (frameAt fs 0 .c)) w (2 + 130 * k + 65) 64
       next =
-          list-space entryInRange w (2 + 130 * k + 65) 64 (map entryWord (x .next))
+          list-space (entryInRange (frameAt fs 0 .c)) w (2 + 130 * k + 65) 64 (map entryWord (x .next))
           (λ i g. scheduler-says h k (65 + i) (2 + 130 * k + 65 + i) a (omega arith) (omega arith) ∙ scheduler-next x i (omega arith))
           (rw (length-map (x .next) entryWord) (f .next-room))
-          (all-map EntryFits (λ (v : ℕ). entryInRange v ≡ true) entryWord entry-in (x .next) (f .entries))
+          (all-map (EntryFits (frameAt fs 0 .c)) (λ (v : ℕ). entryInRange (frameAt fs 0 .c) v ≡ true) entryWord (entry-in (frameAt fs 0 .c)) (x .next) (f .entries))
 
   says-range : InRange fs n w
   says-range =
@@ -253,6 +271,8 @@ module _ (fs : List Frame) (n : ℕ) (w : List ℕ) (s : State) (h : Says w s) (
             h .thread k j a b ∙ ap (λ (x : Thread). threadWord x j)
             (List·getD-eq-default (s .threads) noThread {n = k} (rw (← h .threads) c))
             ∙ sym (no-thread-word j b);
+        event = λ e a l. rw (h .event e a) (bit-le (isPresent s e));
+        no-event = λ e a l. h .event e a ∙ ap bit (List·getD-eq-default (s .present) false {n = e} (rw (z .events) l));
         cell = λ c l.
             let g : c < length (s .cells) = rw (← h .cells) l in
             let m = z .cells-room in
@@ -290,47 +310,53 @@ module _ (fs : List Frame) (n : ℕ) (w : List ℕ) (h : InRange fs n w) where
       values : List ℕ
       values = wordsAt w (1042 + 55 * k + 29)
 
-  scheduler-shape : (k : ℕ) → k < 8 → k < n → SchedulerFits (schedulerFrom w k)
+  scheduler-shape : (k : ℕ) → k < 8 → k < n
+      → SchedulerFits (frameAt fs 0 .c) (schedulerFrom w k)
   unfolding schedulerFrom
   scheduler-shape k l a =
       record {
         active-room = rw (tab-length (getD w (2 + 130 * k) 0) (λ j. getD w j 0) (suc (2 + 130 * k))) (active-space fs n w h k l a .room);
         next-room = rw (length-map next wordEntry ∙ tab-length (getD w (67 + 130 * k) 0) (λ j. getD w j 0) (suc (67 + 130 * k))) (next-space fs n w h k l a .room);
         threads = all-imply in-thread (list-all threadInRange w (2 + 130 * k) 64 (active-space fs n w h k l a));
-        entries = all-map (λ (v : ℕ). entryInRange v ≡ true) EntryFits wordEntry in-entry next (list-all entryInRange w (67 + 130 * k) 64 (next-space fs n w h k l a));
+        entries = all-map (λ (v : ℕ). entryInRange (frameAt fs 0 .c) v ≡ true) (EntryFits (frameAt fs 0 .c)) wordEntry (in-entry (frameAt fs 0 .c)) next (list-all (entryInRange (frameAt fs 0 .c)) w (67 + 130 * k) 64 (next-space fs n w h k l a));
       }
     where
       next : List ℕ
       next = wordsAt w (67 + 130 * k)
 
-  range-shaped : n ≤ 8 → Shaped fs n (unpack fs n w)
+  range-shaped : n ≤ 8 → frameAt fs 0 .c ≤ 16 → Shaped fs n (unpack fs n w)
   unfolding unpack
-  range-shaped m =
+  range-shaped m few =
       record {
         threads-room = rw (tab-length (getD w 0 0) (threadFrom fs w) 0) (h .threads-room);
         schedulers-room = rw (tab-length n (schedulerFrom w) 0) m;
         cells-room =
-            rw (tab-length (getD w 1 0) (λ c. wordCell (getD w (4562 + c) 0)) 0) (h .cells-room);
+            rw (tab-length (getD w 1 0) (λ c. wordCell (getD w (4578 + c) 0)) 0) (h .cells-room);
+        events-room = rw present few;
         count = tab-length n (schedulerFrom w) 0;
+        events = present;
         threads = λ k g.
             let l : k < getD w 0 0 = rw (tab-length (getD w 0 0) (threadFrom fs w) 0) at g in
             subst (ThreadFits fs n) (sym (tab-at (getD w 0 0) (threadFrom fs w) k noThread l)) (thread-shape k l);
         schedulers = λ k g.
             let l : k < n = rw (tab-length n (schedulerFrom w) 0) at g in
-            subst SchedulerFits (sym (tab-at n (schedulerFrom w) k noScheduler l)) (scheduler-shape k (omega arith) l);
+            subst (SchedulerFits (frameAt fs 0 .c)) (sym (tab-at n (schedulerFrom w) k noScheduler l)) (scheduler-shape k (omega arith) l);
         cells = λ c g.
-            let l : c < getD w 1 0 = rw (tab-length (getD w 1 0) (λ i. wordCell (getD w (4562 + i) 0)) 0) at g in
-            subst (CellFits n) (sym (tab-at (getD w 1 0) (λ i. wordCell (getD w (4562 + i) 0)) c noCell l)) (in-cell n (getD w (4562 + c) 0) (h .cell c l));
+            let l : c < getD w 1 0 = rw (tab-length (getD w 1 0) (λ i. wordCell (getD w (4578 + i) 0)) 0) at g in
+            subst (CellFits n) (sym (tab-at (getD w 1 0) (λ i. wordCell (getD w (4578 + i) 0)) c noCell l)) (in-cell n (getD w (4578 + c) 0) (h .cell c l));
       }
+    where
+      present : length (tabulate (frameAt fs 0 .c) (λ e. eqb (getD w (4562 + e) 0) 1) 0) ≡ frameAt fs 0 .c
+      present = tab-length (frameAt fs 0 .c) (λ e. eqb (getD w (4562 + e) 0) 1) 0
 
 -- words in range say a state in shape
-pub in-range-shaped : (fs : List Frame) (n : ℕ) (w : List ℕ) → n ≤ 8 → inRange fs n w ≡ true
-    → Shaped fs n (unpack fs n w)
-in-range-shaped fs n w m e = range-shaped fs n w (in-range fs n w e) m
+pub in-range-shaped : (fs : List Frame) (n : ℕ) (w : List ℕ) → n ≤ 8 → frameAt fs 0 .c ≤ 16
+    → inRange fs n w ≡ true → Shaped fs n (unpack fs n w)
+in-range-shaped fs n w m k e = range-shaped fs n w (in-range fs n w e) m k
 
 -- ---- 14: words are in range exactly where they are those of a state in shape
 pub in-range-computes : InRangeComputes
-in-range-computes fs n m w = (
-  λ e. record { state = unpack fs n w; shaped = in-range-shaped fs n w m e; words = packed fs n w e },
+in-range-computes fs n m k w = (
+  λ e. record { state = unpack fs n w; shaped = in-range-shaped fs n w m k e; words = packed fs n w e },
   λ z. ap (inRange fs n) (z .words) ∙ shaped-in-range fs n (z .state) (z .shaped),
 )

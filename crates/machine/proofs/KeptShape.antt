@@ -4,6 +4,7 @@ use Prim.Native.Nat.{ℕ, suc, zero, _+_, _-_, _<_, _≤_}
 use mathlib.Core.Path.{_≡_, refl, sym, ap, _∙_, subst}
 use mathlib.Core.List.{List, [], _∷_, map}
 use mathlib.Core.Bool.{Bool, true, false, not, _&&_}
+use mathlib.Core.Bool.{true≢false, _||_}
 use native.Mathlib.Omega.{arith}
 use lib.ListN.{getD, length, set, replicate, length-set, length-append, length-map}
 use lib.ListN.{length-replicate, List·getD-eq-default}
@@ -18,12 +19,15 @@ use Rattle.language.proofs.PlaceLaws.{has-place}
 use Rattle.program.specs.Trees.{Expr, Stmt, nothing, seq, doAt, start, startWait, cooperate, letIn}
 use Rattle.program.specs.Trees.{store, ifElse, while, frameAt, statementAt, rootS}
 use Rattle.program.specs.Programs.{Program, SharedCell, moduleAt, mainOf}
+use Rattle.program.specs.Programs.{ownerOfEvent}
 use Rattle.machine.specs.State.{State, Item, run, back, drop, Thread, Entry, plain, waiting}
 use Rattle.machine.specs.State.{Scheduler, noThread, noScheduler, noCell, threadAt, setNth}
 use Rattle.machine.specs.State.{schedulerAt, withScheduler, withNew, enlist}
+use Rattle.machine.specs.State.{awaiting, isPresent, withPresent}
 use Rattle.machine.specs.Fresh.{fresh, firstCell, mainThread, homeScheduler}
 use Rattle.basics.specs.If.{keepIf}
 use Rattle.machine.specs.Waits.{entryThread, readyThreads, stillWaiting}
+use Rattle.machine.specs.Waits.{threadsWhere, entriesExcept, isAwaiting}
 use Rattle.machine.specs.inner.Families.{isReady}
 use Rattle.machine.specs.Evaluation.{Here, EvalResult, Evaluation, eval, storing}
 use Rattle.machine.specs.Turns.{Spaces, holds, stateSpaces, StepResult, Turn, here, continuation}
@@ -34,21 +38,26 @@ use Rattle.machine.specs.Statements.{ends, drops, goesBack, stepNothing,
 use Rattle.machine.specs.Statements.{started, newThread, withStarted, starting, stepStart}
 use Rattle.machine.specs.Statements.{startedWait, stepStartWait, stepCooperate, stepLet}
 use Rattle.machine.specs.Statements.{stepStore, stepIf, stepWhile, stepStatement}
+use Rattle.machine.specs.Statements.{withSignal, isOwnEvent, signalling, wake, roomToWake}
+use Rattle.machine.specs.Statements.{stepGenerate, stepAwait}
 use Rattle.machine.specs.inner.Parts.{turn, stepItems, stepThread, stepScheduler}
 use Rattle.machine.specs.Steps.{stepThreadWithin, turnInstant, endInstant, isUnlinked, step}
 use Rattle.machine.specs.Steps.{stepWithin}
+use Rattle.machine.specs.Steps.{withoutEventsOf}
 use Rattle.machine.specs.Runs.{stateFrom, stateAfter}
 use Rattle.machine.specs.Words.{pack}
 use Rattle.machine.specs.inner.Ranges.{inRange}
 use Rattle.machine.specs.Shapes.{isStatement, ValueFits, ItemFits, run-fits, back-fits}
 use Rattle.machine.specs.Shapes.{drop-fits, IsThread, EntryFits, plain-fits, waiting-fits}
 use Rattle.machine.specs.Shapes.{ThreadFits, SchedulerFits, CellFits, Shaped}
+use Rattle.machine.specs.Shapes.{awaiting-fits}
 use Rattle.machine.specs.declared.value.Value.{Value}
 use Rattle.machine.specs.declared.value.Value.the-variants.{Number, Truth, Cell}
 use Rattle.machine.specs.declared.value.Outcome.{Outcome}
 use Rattle.machine.specs.declared.value.Outcome.the-variants.{Is, Foreign, Spent, Stuck}
 use Rattle.machine.proofs.Lists.{all-getD, all-map, all-append, all-take}
 use Rattle.machine.proofs.Space.{leave-threads, nth-length, parted}
+use Rattle.machine.proofs.Space.{own-linked}
 use Rattle.machine.proofs.InShape.{shaped-in-range}
 use Rattle.machine.proofs.KeptCells.{each-set, each-snoc, CellsFit, HereFits, ExprFits}
 use Rattle.machine.proofs.KeptCells.{OutcomeFits, is-value, EvalFits, fit-eval, fit-storing}
@@ -59,6 +68,8 @@ use Rattle.machine.proofs.KeptCells.{OutcomeFits, is-value, EvalFits, f
 pub data Parts (fs : List Frame) (n : ℕ) : Stmt → Type 0 where
   of-nothing : {i : ℕ} → Parts fs n (Stmt.nothing i)
   of-cooperate : {i : ℕ} → Parts fs n (Stmt.cooperate i)
+  of-generate : {i e : ℕ} → Parts fs n (Stmt.generate i e)
+  of-await : {i e : ℕ} → Parts fs n (Stmt.await i e)
   of-seq : {i : ℕ} {a b : Stmt} → ItemFits fs n (run a) → ItemFits fs n (run b)
       → Parts fs n (Stmt.seq i a b)
   of-do : {i q : ℕ} {a : Stmt} → hasPlace n q ≡ true → ItemFits fs n (run a)
@@ -81,6 +92,8 @@ pub record FileFits (fs : List Frame) (P : Program) (n : ℕ) : Type 0 where
   pub most-schedulers : n ≤ 8
   pub shared-room : length (P .shared) ≤ 256
   pub shared : All (λ (x : SharedCell). CellFits n (firstCell x)) (P .shared)
+  pub few-events : length (P .events) ≤ 16
+  pub events : length (P .events) ≡ frameAt fs 0 .c
   pub some-module : 1 ≤ length (P .modules)
   pub bodies : (m : ℕ) → m < length (P .modules)
       → ItemFits fs n (run (moduleAt P m .body)) × (length (moduleAt P m .types) ≤ 25)
@@ -115,33 +128,37 @@ module _ (fs : List Frame) (P : Program) (n : ℕ) (F : FileFits fs P n) where
 
   -- ---- the parts of a state in shape, and the changes of them that a step makes
 
-  none-fits : SchedulerFits noScheduler
+  none-fits : SchedulerFits (frameAt fs 0 .c) noScheduler
   none-fits =
       record { active-room = omega arith; next-room = omega arith; threads = none; entries = none }
 
-  pub scheduler-fits : (s : State) → Shaped fs n s → (q : ℕ) → SchedulerFits (schedulerAt s q)
+  pub scheduler-fits : (s : State) → Shaped fs n s → (q : ℕ)
+      → SchedulerFits (frameAt fs 0 .c) (schedulerAt s q)
   scheduler-fits s z q = go (ltb (q - 2) (length (s .schedulers))) refl
     where
-      go : (b : Bool) → ltb (q - 2) (length (s .schedulers)) ≡ b → SchedulerFits (schedulerAt s q)
+      go : (b : Bool) → ltb (q - 2) (length (s .schedulers)) ≡ b
+          → SchedulerFits (frameAt fs 0 .c) (schedulerAt s q)
       go true e = z .schedulers (q - 2) (ltb-true (q - 2) (length (s .schedulers)) e)
-      go false e = subst SchedulerFits (sym (List·getD-eq-default (s .schedulers) noScheduler {n = q - 2} (ltb-false (q - 2) (length (s .schedulers)) e))) none-fits
+      go false e = subst (SchedulerFits (frameAt fs 0 .c)) (sym (List·getD-eq-default (s .schedulers) noScheduler {n = q - 2} (ltb-false (q - 2) (length (s .schedulers)) e))) none-fits
 
-  with-scheduler : (s : State) (q : ℕ) (y : Scheduler) → Shaped fs n s → SchedulerFits y
-      → Shaped fs n (withScheduler q y s)
+  with-scheduler : (s : State) (q : ℕ) (y : Scheduler) → Shaped fs n s
+      → SchedulerFits (frameAt fs 0 .c) y → Shaped fs n (withScheduler q y s)
   with-scheduler s q y z f =
       let l = length-set (s .schedulers) (q - 2) y in
       record {
         threads-room = z .threads-room;
         schedulers-room = rw l (z .schedulers-room);
         cells-room = z .cells-room;
+        events-room = z .events-room;
+        events = z .events;
         count = l ∙ z .count;
         threads = z .threads;
         schedulers =
-            each-set SchedulerFits (s .schedulers) (q - 2) y noScheduler (z .schedulers) (λ _. f);
+            each-set (SchedulerFits (frameAt fs 0 .c)) (s .schedulers) (q - 2) y noScheduler (z .schedulers) (λ _. f);
         cells = z .cells;
       }
 
-  enlist-fits : (s : State) (q : ℕ) (e : Entry) → Shaped fs n s → EntryFits e
+  enlist-fits : (s : State) (q : ℕ) (e : Entry) → Shaped fs n s → EntryFits (frameAt fs 0 .c) e
       → length (schedulerAt s q .next) + 1 ≤ 64 → Shaped fs n (enlist q e s)
   unfolding enlist
   enlist-fits s q e z f r =
@@ -158,6 +175,8 @@ module _ (fs : List Frame) (P : Program) (n : ℕ) (F : FileFits fs P n) where
         threads-room = omega arith;
         schedulers-room = z .schedulers-room;
         cells-room = z .cells-room;
+        events-room = z .events-room;
+        events = z .events;
         count = z .count;
         threads = each-snoc (ThreadFits fs n) (s .threads) x noThread (z .threads) f;
         schedulers = z .schedulers;
@@ -185,6 +204,8 @@ module _ (fs : List Frame) (P : Program) (n : ℕ) (F : FileFits fs P n) where
     threads-room = at (u .thread) (λ (l : List Thread). length l ≤ 64) (z .threads-room) (λ i q. rw (length-set (u .state .threads) i x) (z .threads-room));
     schedulers-room = z .schedulers-room;
     cells-room = c .room;
+    events-room = z .events-room;
+    events = z .events;
     count = z .count;
     threads = at (u .thread) (λ (l : List Thread). (k : ℕ) → k < length l → ThreadFits fs n (getD l k noThread)) (z .threads)
         (λ i q. each-set (ThreadFits fs n) (u .state .threads) i x noThread (z .threads) (f i q));
@@ -405,6 +426,131 @@ module _ (fs : List Frame) (P : Program) (n : ℕ) (F : FileFits fs P n) where
           let f = enlist-next (withNew (started u (moduleAt (u .program) m) vs) (leave u (settled u (u .self)))) (here u) (plain (newThread u)) in
           omega arith
 
+  -- ---- entries that pass a test, and those that do not
+
+  chosen-fit : (test : Entry → Bool) (es : List Entry) → All (EntryFits (frameAt fs 0 .c)) es
+      → All IsThread (threadsWhere test es)
+  unfolding threadsWhere
+  chosen-fit test [] none = none
+  chosen-fit test (e ∷ es) (more f fs) = go (test e) (of e f) (chosen-fit test es fs)
+    where
+      of : {m : ℕ} (e : Entry) → EntryFits m e → IsThread (entryThread e)
+      of (plain t) (plain-fits h) = h
+      of (waiting t u) (waiting-fits h g) = h
+      of (awaiting t e) (awaiting-fits h g) = h
+
+      go : {t : ℕ} {l : List ℕ} (b : Bool) → IsThread t → All IsThread l
+          → All IsThread (keepIf b t l)
+      go true p ps = more p ps
+      go false p ps = ps
+
+  others-fit : (test : Entry → Bool) (es : List Entry) → All (EntryFits (frameAt fs 0 .c)) es
+      → All (EntryFits (frameAt fs 0 .c)) (entriesExcept test es)
+  unfolding entriesExcept
+  others-fit test [] none = none
+  others-fit test (e ∷ es) (more f fs) = go (not (test e)) f (others-fit test es fs)
+    where
+      go : {m : ℕ} {e : Entry} {l : List Entry} (b : Bool) → EntryFits m e → All (EntryFits m) l
+          → All (EntryFits m) (keepIf b e l)
+      go true p ps = more p ps
+      go false p ps = ps
+
+  -- ---- events
+
+  with-present : (s : State) (l : List Bool) → Shaped fs n s → length l ≡ length (s .present)
+      → Shaped fs n (withPresent l s)
+  with-present s l z e =
+      record {
+        threads-room = z .threads-room;
+        schedulers-room = z .schedulers-room;
+        cells-room = z .cells-room;
+        events-room = rw e (z .events-room);
+        events = e ∙ z .events;
+        count = z .count;
+        threads = z .threads;
+        schedulers = z .schedulers;
+        cells = z .cells;
+      }
+
+  wake-fits : (s : State) (q e : ℕ) → Shaped fs n s
+      → length (schedulerAt s q .active) + length (threadsWhere (isAwaiting e) (schedulerAt s q .next)) ≤ 64
+      → Shaped fs n (wake q e s)
+  unfolding wake
+  wake-fits s q e z r =
+      let x = scheduler-fits s z q in
+      let es = schedulerAt s q .next in
+      let l = length-append (schedulerAt s q .active) (threadsWhere (isAwaiting e) es) in
+      let p = parted (isAwaiting e) es in
+      let m = x .next-room in
+      with-scheduler s q _ z
+      (record { active-room = omega arith; next-room = omega arith; threads = all-append (x .threads) (chosen-fit (isAwaiting e) es (x .entries)); entries = others-fit (isAwaiting e) es (x .entries) })
+
+  wake-present : (q e : ℕ) (s : State) → wake q e s .present ≡ s .present
+  unfolding wake
+  wake-present q e s = refl
+
+  pub awake-room : (u : Turn) (e : ℕ) → u .spaces ≡ stateSpaces → roomToWake u e ≡ true
+      → length (schedulerAt (u .state) (ownerOfEvent (u .program) e) .active)
+      + length (threadsWhere (isAwaiting e) (schedulerAt (u .state) (ownerOfEvent (u .program) e) .next)) ≤ 64
+  unfolding roomToWake
+  awake-room u e s h =
+      let x = schedulerAt (u .state) (ownerOfEvent (u .program) e) in
+      let l = length (x .active) + length (threadsWhere (isAwaiting e) (x .next)) in
+      let g = leb-true l _ (sym (ap (λ (z : Spaces). holds (z .entries) l) s) ∙ h) in
+      omega arith
+
+  keeps-signalling : (u : Turn) (e : ℕ) (b : Bool) (r : Turn → StepResult) → TurnFits u
+      → (e < length (u .program .events) → b ≡ true → unlinkedHere u ≡ false → Keeps (r (withSignal u e)))
+      → Keeps (signalling u e b r)
+  unfolding signalling
+  keeps-signalling u e b r k g =
+      if-all Keeps (leb (length (u .program .events)) e) _ _ (λ _. k .before)
+      (λ a. if-all Keeps (not b) _ _ (λ _. k .before)
+      (λ c. if-all Keeps (isOwnEvent u e) _ _
+      (λ q. g (leb-false (length (u .program .events)) e a) (not-false b c) (own-linked u e q))
+      (λ _. k .before)))
+
+  keeps-generate : (u : Turn) (e : ℕ) → TurnFits u → Keeps (stepGenerate u e)
+  unfolding stepGenerate
+  keeps-generate u e k =
+      let q = ownerOfEvent (u .program) e in
+      let s = settled u (u .self) in
+      keeps-signalling u e (roomToWake u e) _ k
+      (λ l r j. with-present (wake q e s) (set (u .state .present) e true)
+      (wake-fits s q e (keeps-settled u (u .self) k (k .self)) (awake-room u e (k .spaces) r))
+      (length-set (u .state .present) e true ∙ ap length (sym (wake-present q e s))))
+
+  keeps-await : (u : Turn) (e : ℕ) → TurnFits u → Keeps (stepAwait u e)
+  unfolding stepAwait
+  keeps-await u e k =
+      keeps-signalling u e (isPresent (u .state) e || unlinkedHere u || room u 1 (here u)) _ k
+      (λ l r j. if-all Keeps (isPresent (u .state) e) _ _
+      (λ _. keeps-settled u (u .self) k (k .self))
+      (λ f. absent l (roomy (isPresent (u .state) e) (unlinkedHere u) (room u 1 (here u)) f j r)))
+    where
+      roomy : (a l b : Bool) → a ≡ false → l ≡ false → (a || l || b) ≡ true → b ≡ true
+      roomy false false b e f h = h
+      roomy false true b e f h = absurd (true≢false f)
+      roomy true l b e f h = absurd (true≢false e)
+
+      absent : e < length (u .program .events) → room u 1 (here u) ≡ true
+          → Shaped fs n (enlist (here u) (awaiting (u .thread) e) (leave (withSignal u e) (settled (withSignal u e) (threadAt (u .state) (u .thread)))))
+      absent l r =
+          let v = withSignal u e in
+          let y = threadAt (u .state) (u .thread) in
+          let z = settled-fits u y (k .before) (k .cells) (λ i q l. subst (λ (t : ℕ). ThreadFits fs n (threadAt (u .state) t)) (sym q) (k .before .threads i l)) in
+          let g = has-room u 1 (here u) (k .spaces) r in
+          let d = leave-next v (settled v y) (here u) in
+          let m : e < frameAt fs 0 .c = subst (λ (i : ℕ). e < i) (F .events) (subst (λ (p : Program). e < length (p .events)) (k .program) l) in
+          enlist-fits (leave v (settled v y)) (here u) (awaiting (u .thread) e) (leave-fits v (settled v y) z) (awaiting-fits (k .thread) m) (omega arith)
+
+  cleared-length : (c : ℕ) (os : List ℕ) (bs : List Bool)
+      → length (withoutEventsOf c os bs) ≡ length bs
+  unfolding withoutEventsOf
+  cleared-length c [] bs = refl
+  cleared-length c (o ∷ os) [] = refl
+  cleared-length c (o ∷ os) (b ∷ bs) = ap suc (cleared-length c os bs)
+
   -- ---- each statement, each item, each thread
 
   keeps-statement : (u : Turn) (x : Stmt) → TurnFits u → ItemFits fs n (run x) → Parts fs n x
@@ -428,6 +574,8 @@ module _ (fs : List Frame) (P : Program) (n : ℕ) (F : FileFits fs P n) where
       (λ r. let e = leave-next u (settled u (u .self)) (here u) in let g = has-room u 1 (here u) (k .spaces) r in
       enlist-fits (leave u (settled u (u .self))) (here u) (plain (u .thread)) (leave-fits u (settled u (u .self)) (keeps-settled u (u .self) k (k .self))) (plain-fits (k .thread)) (omega arith))
       (λ _. k .before))
+  keeps-statement u x k i (of-generate {e = e}) = keeps-generate u e k
+  keeps-statement u x k i (of-await {e = e}) = keeps-await u e k
   keeps-statement u x k i (of-let {x = y} e a) =
       keeps-value u (λ h. eval h y) _ k
       (fit-eval (evaluator u) (u .cells) (here-fits u k) (k .cells) e)
@@ -498,37 +646,14 @@ module _ (fs : List Frame) (P : Program) (n : ℕ) (F : FileFits fs P n) where
 
   -- ---- the end of an instant
 
-  ready-fits : (ts : List Thread) (es : List Entry) → All EntryFits es
-      → All IsThread (readyThreads ts es)
-  unfolding readyThreads
-  ready-fits ts [] none = none
-  ready-fits ts (e ∷ es) (more f fs) = go (isReady ts e) (of e f) (ready-fits ts es fs)
-    where
-      of : (e : Entry) → EntryFits e → IsThread (entryThread e)
-      of (plain t) (plain-fits h) = h
-      of (waiting t u) (waiting-fits h g) = h
-
-      go : {t : ℕ} {l : List ℕ} (b : Bool) → IsThread t → All IsThread l
-          → All IsThread (keepIf b t l)
-      go true p ps = more p ps
-      go false p ps = ps
-
-  waiting-still : (ts : List Thread) (es : List Entry) → All EntryFits es
-      → All EntryFits (stillWaiting ts es)
-  unfolding stillWaiting
-  waiting-still ts [] none = none
-  waiting-still ts (e ∷ es) (more f fs) = go (not (isReady ts e)) f (waiting-still ts es fs)
-    where
-      go : {e : Entry} {l : List Entry} (b : Bool) → EntryFits e → All EntryFits l
-          → All EntryFits (keepIf b e l)
-      go true p ps = more p ps
-      go false p ps = ps
-
   keeps-instant : (s : State) (c : ℕ) (ts : List ℕ) (es : List Entry) → Shaped fs n s
-      → All IsThread ts → All EntryFits es → length ts + length es ≤ 64
-      → Keeps (turnInstant s c ts es)
+      → All IsThread ts → All (EntryFits (frameAt fs 0 .c)) es → length ts + length es ≤ 64
+      → Keeps (turnInstant P s c ts es)
   keeps-instant s c [] es z a b l = z
-  keeps-instant s c (t ∷ ts) es z a b l = with-scheduler s c _ z (record { active-room = omega arith; next-room = omega arith; threads = a; entries = b })
+  keeps-instant s c (t ∷ ts) es z a b l =
+      with-present (withScheduler c _ s) _
+      (with-scheduler s c _ z (record { active-room = omega arith; next-room = omega arith; threads = a; entries = b }))
+      (cleared-length c (P .events) (s .present))
 
   keeps-scheduler : (s : State) (c : ℕ) (ts : List ℕ) → Shaped fs n s → All IsThread ts
       → Keeps (stepScheduler P s c ts)
@@ -536,9 +661,10 @@ module _ (fs : List Frame) (P : Program) (n : ℕ) (F : FileFits fs P n) where
   keeps-scheduler s c [] z a =
       let es = schedulerAt s c .next in
       let x = scheduler-fits s z c in
-      let l = parted (s .threads) es in
+      let l = parted (isReady (s .threads)) es in
       let m = x .next-room in
-      keeps-instant s c (readyThreads (s .threads) es) (stillWaiting (s .threads) es) z (ready-fits (s .threads) es (x .entries)) (waiting-still (s .threads) es (x .entries)) (omega arith)
+      keeps-instant s c (readyThreads (s .threads) es) (stillWaiting (s .threads) es) z
+      (chosen-fit (isReady (s .threads)) es (x .entries)) (others-fit (isReady (s .threads)) es (x .entries)) (omega arith)
   keeps-scheduler s c (t ∷ ts) z (more h a) = keeps-thread s c t z h
 
   pub unlinked-is : (s : State) (c : ℕ) → Shaped fs n s → isUnlinked s c ≡ true → IsThread (c - 16)
@@ -579,6 +705,8 @@ module _ (fs : List Frame) (P : Program) (n : ℕ) (F : FileFits fs P n) where
         threads-room = omega arith;
         schedulers-room = omega arith;
         cells-room = rw (length-map (P .shared) firstCell) (F .shared-room);
+        events-room = rw (length-replicate (length (P .events)) false) (F .few-events);
+        events = length-replicate (length (P .events)) false ∙ F .events;
         count = omega arith;
         threads = λ k g. main k g (b .0);
         schedulers = λ k g. lists k (P .schedulers - 1);
@@ -593,13 +721,13 @@ module _ (fs : List Frame) (P : Program) (n : ℕ) (F : FileFits fs P n) where
       main zero g i = record { place = home-fits; starter = omega arith; items-room = omega arith; variables-room = omega arith; items = more i none; values = none }
       main (suc k) g i = absurd (omega arith)
 
-      idle : (j k : ℕ) → SchedulerFits (getD (replicate k noScheduler) j noScheduler)
+      idle : (j k : ℕ) → SchedulerFits (frameAt fs 0 .c) (getD (replicate k noScheduler) j noScheduler)
       idle j zero = none-fits
       idle zero (suc k) = none-fits
       idle (suc j) (suc k) = idle j k
 
       lists : (j k : ℕ)
-          → SchedulerFits (getD (homeScheduler ∷ replicate k noScheduler) j noScheduler)
+          → SchedulerFits (frameAt fs 0 .c) (getD (homeScheduler ∷ replicate k noScheduler) j noScheduler)
       lists zero k = record { active-room = omega arith; next-room = omega arith; threads = more {x = 1} (omega arith, omega arith) none; entries = none }
       lists (suc j) k = idle j k
 

@@ -5,6 +5,7 @@ use mathlib.Core.Path.{_≡_, refl, sym, ap, subst}
 use mathlib.Core.Logic.{inl, inr}
 use mathlib.Core.List.{List, [], _∷_, _++_}
 use mathlib.Core.Bool.{Bool, true, false, not, true≢false}
+use mathlib.Core.Bool.{_||_}
 use Prim.Native.Nat.{ℕ, zero, suc, _+_, _-_, _≤_, _<_}
 use native.Mathlib.Omega.{arith}
 use lib.Dec.{leb, eqb}
@@ -15,9 +16,11 @@ use Rattle.basics.specs.If.{if_then_else_}
 use Rattle.basics.specs.Chains.{lastFrom}
 use Rattle.program.specs.Trees.{Expr, number, Stmt, nothing, seq, doAt, start, startWait, cooperate}
 use Rattle.program.specs.Trees.{letIn, store, ifElse, while}
+use Rattle.program.specs.Trees.{generate, await}
 use Rattle.program.specs.Programs.{Program, moduleAt, mainOf}
 use Rattle.machine.specs.State.{State, Item, run, back, drop, Thread, Entry, plain, noThread}
 use Rattle.machine.specs.State.{nth, setNth, schedulerAt, threadAt, enlist}
+use Rattle.machine.specs.State.{isPresent}
 use Rattle.machine.specs.Waits.{readyThreads, stillWaiting}
 use Rattle.machine.specs.Fresh.{fresh}
 use Rattle.machine.specs.Evaluation.{Here, EvalResult, Evaluation, eval, storing}
@@ -29,6 +32,8 @@ use Rattle.machine.specs.Statements.{ends, drops, goesBack, stepNothing,
 use Rattle.machine.specs.Statements.{started, starting, stepStart, startedWait, stepStartWait}
 use Rattle.machine.specs.Statements.{stepCooperate, stepLet, stepStore, stepIf, stepWhile}
 use Rattle.machine.specs.Statements.{stepStatement}
+use Rattle.machine.specs.Statements.{withSignal, isOwnEvent, signalling, wake, roomToWake}
+use Rattle.machine.specs.Statements.{stepGenerate, stepAwait}
 use Rattle.machine.specs.inner.Parts.{turn, stepItems, stepThread, stepScheduler}
 use Rattle.machine.specs.Steps.{stepItemsWithin, stepThreadWithin, turnInstant, endInstant}
 use Rattle.machine.specs.Steps.{stepSchedulerWithin, isUnlinked, step, stepWithin}
@@ -40,6 +45,7 @@ use Rattle.machine.specs.declared.value.Outcome.the-variants.{Is, Foreig
 use Rattle.machine.proofs.Space.{Counted, Acting, room-one, room-two, leave-threads}
 use Rattle.machine.proofs.Space.{acting-with, free-same, unlinked-free, counted-step}
 use Rattle.machine.proofs.Space.{fresh-counted}
+use Rattle.machine.proofs.Space.{room-awake}
 use Rattle.machine.proofs.Continuations.{height, lets, Roomy, no-items, run-item, roomy-fits}
 use Rattle.machine.proofs.Continuations.{fits-true, roomy-seq, roomy-do, roomy-let}
 use Rattle.machine.proofs.Continuations.{roomy-while, roomy-then, roomy-else, below-run}
@@ -109,6 +115,7 @@ endlessly u =
       self = u .self;
       cells = u .cells;
       accesses = u .accesses;
+      signals = u .signals;
       spaces = endlessSpaces;
     }
 
@@ -243,11 +250,33 @@ started-roomy u m vs r l e =
     let y = b .1 in
     body-roomy (length vs) (moduleAt (u .program) m .body) (b .0) (omega arith)
 
+-- ---- events
+
+endless-awake : (u : Turn) (e : ℕ) → roomToWake (endlessly u) e ≡ true
+unfolding roomToWake
+endless-awake u e = refl
+
+either-room : (a b c : Bool) → c ≡ true → (a || b || c) ≡ true
+either-room true b c e = refl
+either-room false true c e = refl
+either-room false false c e = e
+
+never-signalling : {i : Item} (u : Turn) (e : ℕ) (b d : Bool) (k l : Turn → StepResult) → Ready i u
+    → b ≡ true → d ≡ true → Never (k (withSignal u e)) (l (withSignal (endlessly u) e))
+    → Never (signalling u e b k) (signalling (endlessly u) e d l)
+unfolding signalling isOwnEvent
+never-signalling u e b d k l r f g h =
+    let no = never-refuse u 20 r in
+    never-if (leb (length (u .program .events)) e) _ _ _ _ (λ _. no)
+    (λ _. never-no b d _ _ _ _ f g
+    (never-if (isOwnEvent u e) _ _ _ _ (λ _. h)
+    (λ _. record { same = refl; roomy = r .before })))
+
 -- ---- each statement, each item, each choice
 
 never-statement : (u : Turn) (x : Stmt) → Ready (run x) u
     → Never (stepStatement u x) (stepStatement (endlessly u) x)
-unfolding stepNothing stepSeq stepDo stepStart startedWait stepStartWait stepCooperate stepLet stepStore stepIf stepWhile enlist leave
+unfolding stepNothing stepSeq stepDo stepStart startedWait stepStartWait stepCooperate stepLet stepStore stepIf stepWhile stepGenerate stepAwait enlist leave wake
 never-statement u (nothing i) r = never-stay u _ _ r (below-run (r .top))
 never-statement u (seq i a b) r = never-stay u _ _ r (roomy-seq (r .top))
 never-statement u (doAt i q a) r = never-if _ _ _ _ _ (λ _. never-refuse u 20 r) (λ _. never-goTo u q _ r (roomy-do (here u) (r .top)))
@@ -272,6 +301,18 @@ never-statement u (ifElse i x a b) r =
     never-value u (λ h. eval h x) _ r (λ v w j. never-by w v _ _ _ _ j (never-stay w _ _ j (roomy-then (j .top))) (never-stay w _ _ j (roomy-else (j .top))))
 never-statement u (while i x a) r =
     never-value u (λ h. eval h x) _ r (λ v w j. never-by w v _ _ _ _ j (never-stay w _ _ j (roomy-while (j .top))) (never-stay w _ _ j (below-run (j .top))))
+never-statement u (generate i e) r =
+    never-signalling u e (roomToWake u e) (roomToWake (endlessly u) e) _ _ r
+    (room-awake u (r .acting) e) (endless-awake u e)
+    (never-accept (withSignal u e) _ (with-roomy (u .state .threads) (u .thread) (u .self) (r .before) (below-run (r .top))))
+never-statement u (await i e) r =
+    let y = threadAt (u .state) (u .thread) in
+    never-signalling u e _ _ _ _ r
+    (either-room (isPresent (u .state) e) (unlinkedHere u) _ (room-one u (r .acting) (here u)))
+    (either-room (isPresent (u .state) e) (unlinkedHere u) _ (endless-room u 1 (here u)))
+    (never-if (isPresent (u .state) e) _ _ _ _
+    (λ _. never-accept (withSignal u e) _ (with-roomy (u .state .threads) (u .thread) (u .self) (r .before) (below-run (r .top))))
+    (λ _. never-accept (withSignal u e) _ (left-roomy u (settled u y) (with-roomy (u .state .threads) (u .thread) y (r .before) (r .before (u .thread))))))
 
 -- a drop finds its variable, and leaves the others
 dropped : {n : ℕ} {l : List Item} → Roomy n (drop ∷ l) → Roomy (n - 1) l
@@ -311,7 +352,7 @@ module _ (p : Program) (bodies : BodiesFit p) (s : State) (c : ℕ) (before : Ro
   never-thread t a = never-items t (threadAt s t .continuation) a (before t)
 
   never-instant : (ts : List ℕ) (es : List Entry)
-      → Never (turnInstant s c ts es) (turnInstant s c ts es)
+      → Never (turnInstant p s c ts es) (turnInstant p s c ts es)
   never-instant [] es = record { same = refl; roomy = before }
   never-instant (t ∷ ts) es = record { same = refl; roomy = before }
 
@@ -366,7 +407,7 @@ module _ (p : Program) (bodies : BodiesFit p) where
 
 -- a program of one scheduler, and a state of one thread, active there
 abbrev plainProgram : Program
-plainProgram = record { allowance = 1; schedulers = 1; shared = []; modules = [] }
+plainProgram = record { allowance = 1; schedulers = 1; shared = []; events = []; modules = [] }
 
 abbrev ownState : List Item → List Value → List Entry → State
 ownState items vars entries =
@@ -374,6 +415,7 @@ ownState items vars entries =
       threads = record { place = 2; continuation = items; variables = vars; starter = 0; ended = false } ∷ [];
       schedulers = record { active = 1 ∷ []; next = entries } ∷ [];
       cells = [];
+      present = [];
     }
 
 abbrev Differs : State → Type 0

@@ -8,6 +8,7 @@ use Rattle.basics.proofs.Ifs.{if-all}
 use Rattle.basics.specs.Chains.{eachFrom}
 use Rattle.program.specs.Trees.{Expr, Stmt, nothing, seq, doAt, start, startWait, cooperate, letIn}
 use Rattle.program.specs.Trees.{store, ifElse, while}
+use Rattle.program.specs.Trees.{generate, await}
 use Rattle.program.specs.Programs.{Program}
 use Rattle.machine.specs.State.{State, Item, run, back, drop, Entry, schedulerAt, threadAt}
 use Rattle.machine.specs.Waits.{readyThreads, stillWaiting}
@@ -20,6 +21,7 @@ use Rattle.machine.specs.Statements.{ends, drops, goesBack, stepNothing,
 use Rattle.machine.specs.Statements.{starting, stepStart, startedWait, stepStartWait}
 use Rattle.machine.specs.Statements.{stepCooperate, stepLet, stepStore, stepIf, stepWhile}
 use Rattle.machine.specs.Statements.{stepStatement}
+use Rattle.machine.specs.Statements.{withSignal, signalling, stepGenerate, stepAwait}
 use Rattle.machine.specs.Runs.{stepsFrom}
 use Rattle.machine.specs.declared.value.Value.{Value}
 use Rattle.machine.specs.declared.value.Value.the-variants.{Number, Truth, Cell}
@@ -88,10 +90,16 @@ number-starting : (u : Turn) (m : ℕ) (vs : List Value) (r : StepResult) → Nu
 unfolding starting
 number-starting u m vs r g = number-if _ _ _ is-20 (number-if _ _ _ is-20 (number-if _ _ _ is-20 (number-if _ _ _ is-20 (number-if _ _ _ is-18 g))))
 
+number-signalling : (u : Turn) (e : ℕ) (b : Bool) (r : Turn → StepResult)
+    → Numbered (r (withSignal u e)) → Numbered (signalling u e b r)
+unfolding signalling
+number-signalling u e b r g =
+    number-if _ _ _ is-20 (number-if _ _ _ is-20 (number-if _ _ _ g is-19))
+
 -- ---- each statement, each item, each choice
 
 number-statement : (u : Turn) (x : Stmt) → Numbered (stepStatement u x)
-unfolding stepNothing stepSeq stepDo stepStart startedWait stepStartWait stepCooperate stepLet stepStore stepIf stepWhile
+unfolding stepNothing stepSeq stepDo stepStart startedWait stepStartWait stepCooperate stepLet stepStore stepIf stepWhile stepGenerate stepAwait
 number-statement u (nothing i) = number-stay u _ _
 number-statement u (seq i a b) = number-stay u _ _
 number-statement u (doAt i q a) = number-if _ _ _ is-20 (number-goTo u q _)
@@ -103,6 +111,8 @@ number-statement u (letIn i x a) = number-value u (λ e. eval e x) _ (λ v w. nu
 number-statement u (store i x y) = number-value u (λ e. storing e x y) _ (λ v w. number-stay w _ _)
 number-statement u (ifElse i x a b) = number-value u (λ e. eval e x) _ (λ v w. number-by w v _ _ (number-stay w _ _) (number-stay w _ _))
 number-statement u (while i x a) = number-value u (λ e. eval e x) _ (λ v w. number-by w v _ _ (number-stay w _ _) (number-stay w _ _))
+number-statement u (generate i e) = number-signalling u e _ _ is-0
+number-statement u (await i e) = number-signalling u e _ _ (number-if _ _ _ is-0 is-0)
 
 number-items : (p : Program) (s : State) (c t : ℕ) (items : List Item)
     → Numbered (stepItems p s c t items)
@@ -116,17 +126,17 @@ number-thread : (p : Program) (s : State) (c t : ℕ) → Numbered (stepThread p
 unfolding stepThreadWithin
 number-thread p s c t = number-items p s c t (threadAt s t .continuation)
 
-number-instant : (s : State) (c : ℕ) (ts : List ℕ) (es : List Entry)
-    → Numbered (turnInstant s c ts es)
-number-instant s c [] es = is-16
-number-instant s c (t ∷ ts) es = is-0
+number-instant : (p : Program) (s : State) (c : ℕ) (ts : List ℕ) (es : List Entry)
+    → Numbered (turnInstant p s c ts es)
+number-instant p s c [] es = is-16
+number-instant p s c (t ∷ ts) es = is-0
 
 number-scheduler : (p : Program) (s : State) (c : ℕ) (ts : List ℕ)
     → Numbered (stepScheduler p s c ts)
 unfolding endInstant
 number-scheduler p s c [] =
     let es = schedulerAt s c .next in
-    number-instant s c (readyThreads (s .threads) es) (stillWaiting (s .threads) es)
+    number-instant p s c (readyThreads (s .threads) es) (stillWaiting (s .threads) es)
 number-scheduler p s c (t ∷ ts) = number-thread p s c t
 
 pub numbered : (p : Program) (s : State) (c : ℕ) → Numbered (step p s c)

@@ -14,6 +14,7 @@ use Rattle.basics.specs.If.{if_then_else_}
 use Rattle.basics.proofs.Ifs.{if-all, if-yes, if-no, and-true}
 use Rattle.language.specs.Places.{hasPlace}
 use Rattle.language.specs.declared.frame.Frame.{Frame}
+use Rattle.program.specs.Trees.{frameAt}
 use Rattle.machine.specs.inner.Ranges.{threadInRange, valueInRange, itemInRange, entryInRange}
 use Rattle.machine.specs.inner.Ranges.{cellInRange, listInRange, schedulerInRange}
 use Rattle.machine.specs.inner.Ranges.{threadWordInRange, wordInRange, allBelow, inRange}
@@ -50,7 +51,7 @@ module _ (fs : List Frame) (n : ℕ) (w : List ℕ) where
   range-1 = if-no _ _ (ne-eqb 1 0 (λ e. omega arith)) ∙ if-yes _ _ (eq-eqb 1 1 refl)
 
   range-scheduler : (k j : ℕ) → k < 8 → j < 130 → k < n
-      → wordInRange fs n w (2 + 130 * k + j) ≡ schedulerInRange w (2 + 130 * k) j
+      → wordInRange fs n w (2 + 130 * k + j) ≡ schedulerInRange (frameAt fs 0 .c) w (2 + 130 * k) j
   unfolding wordInRange
   range-scheduler k j h g l =
       let i : ℕ = 2 + 130 * k + j in
@@ -59,7 +60,7 @@ module _ (fs : List Frame) (n : ℕ) (w : List ℕ) where
       if-no _ _ (ne-eqb i 0 (λ e. omega arith)) ∙ if-no _ _ (ne-eqb i 1 (λ e. omega arith))
       ∙ if-yes _ _ (lt-ltb i 1042 (omega arith))
       ∙ if-yes _ _ (lt-ltb ((i - 2) / 130) n (omega arith))
-      ∙ ap₂ (λ (x y : ℕ). schedulerInRange w (2 + 130 * x) y) a b
+      ∙ ap₂ (λ (x y : ℕ). schedulerInRange (frameAt fs 0 .c) w (2 + 130 * x) y) a b
 
   range-no-scheduler : (k j : ℕ) → k < 8 → j < 130 → n ≤ k
       → wordInRange fs n w (2 + 130 * k + j) ≡ eqb (getD w (2 + 130 * k + j) 0) 0
@@ -93,52 +94,70 @@ module _ (fs : List Frame) (n : ℕ) (w : List ℕ) where
       ∙ if-no _ _ (le-ltb i 1042 (omega arith)) ∙ if-yes _ _ (lt-ltb i 4562 (omega arith))
       ∙ if-no _ _ (le-ltb ((i - 1042) / 55) (getD w 0 0) (omega arith))
 
+  range-events : (e : ℕ) → e < 16
+      → wordInRange fs n w (4562 + e)
+      ≡ (if ltb e (frameAt fs 0 .c) then leb (getD w (4562 + e) 0) 1 else eqb (getD w (4562 + e) 0) 0)
+  unfolding wordInRange
+  range-events e g =
+      let i : ℕ = 4562 + e in
+      let a : i - 4562 ≡ e = omega arith in
+      if-no _ _ (ne-eqb i 0 (λ z. omega arith)) ∙ if-no _ _ (ne-eqb i 1 (λ z. omega arith))
+      ∙ if-no _ _ (le-ltb i 1042 (omega arith)) ∙ if-no _ _ (le-ltb i 4562 (omega arith))
+      ∙ if-yes _ _ (lt-ltb i 4578 (omega arith))
+      ∙ ap (λ (x : ℕ). if ltb x (frameAt fs 0 .c) then leb (getD w (4562 + e) 0) 1 else eqb (getD w (4562 + e) 0) 0) a
+
   range-cells : (c : ℕ) → c < 256
-      → wordInRange fs n w (4562 + c)
-      ≡ (if ltb c (getD w 1 0) then cellInRange n (getD w (4562 + c) 0) else eqb (getD w (4562 + c) 0) 0)
+      → wordInRange fs n w (4578 + c)
+      ≡ (if ltb c (getD w 1 0) then cellInRange n (getD w (4578 + c) 0) else eqb (getD w (4578 + c) 0) 0)
   unfolding wordInRange
   range-cells c g =
-      let i : ℕ = 4562 + c in
-      let a : i - 4562 ≡ c = omega arith in
+      let i : ℕ = 4578 + c in
+      let a : i - 4578 ≡ c = omega arith in
       if-no _ _ (ne-eqb i 0 (λ e. omega arith)) ∙ if-no _ _ (ne-eqb i 1 (λ e. omega arith))
       ∙ if-no _ _ (le-ltb i 1042 (omega arith)) ∙ if-no _ _ (le-ltb i 4562 (omega arith))
-      ∙ ap (λ (x : ℕ). if ltb x (getD w 1 0) then cellInRange n (getD w (4562 + c) 0) else eqb (getD w (4562 + c) 0) 0) a
+      ∙ if-no _ _ (le-ltb i 4578 (omega arith))
+      ∙ ap (λ (x : ℕ). if ltb x (getD w 1 0) then cellInRange n (getD w (4578 + c) 0) else eqb (getD w (4578 + c) 0) 0) a
 
--- the words are as many as they have to be; each scheduler, thread and cell that there is has its
--- words in range; the rest is 0
+-- the words are as many as they have to be; each scheduler, thread, event and cell that there is has
+-- its words in range; the rest is 0
 pub record InRange (fs : List Frame) (n : ℕ) (w : List ℕ) : Type 0 where
-  pub all : length w ≡ 4818
+  pub all : length w ≡ 4834
   pub threads-room : getD w 0 0 ≤ 64
   pub cells-room : getD w 1 0 ≤ 256
-  pub scheduler : (k j : ℕ) → k < 8 → j < 130 → k < n → schedulerInRange w (2 + 130 * k) j ≡ true
+  pub scheduler : (k j : ℕ) → k < 8 → j < 130 → k < n
+      → schedulerInRange (frameAt fs 0 .c) w (2 + 130 * k) j ≡ true
   pub no-scheduler : (k j : ℕ) → k < 8 → j < 130 → n ≤ k → getD w (2 + 130 * k + j) 0 ≡ 0
   pub thread : (k j : ℕ) → j < 55 → k < getD w 0 0
       → threadWordInRange fs n w (1042 + 55 * k) j ≡ true
   pub no-thread : (k j : ℕ) → k < 64 → j < 55 → getD w 0 0 ≤ k → getD w (1042 + 55 * k + j) 0 ≡ 0
-  pub cell : (c : ℕ) → c < getD w 1 0 → cellInRange n (getD w (4562 + c) 0) ≡ true
-  pub no-cell : (c : ℕ) → c < 256 → getD w 1 0 ≤ c → getD w (4562 + c) 0 ≡ 0
+  pub event : (e : ℕ) → e < 16 → e < frameAt fs 0 .c → getD w (4562 + e) 0 ≤ 1
+  pub no-event : (e : ℕ) → e < 16 → frameAt fs 0 .c ≤ e → getD w (4562 + e) 0 ≡ 0
+  pub cell : (c : ℕ) → c < getD w 1 0 → cellInRange n (getD w (4578 + c) 0) ≡ true
+  pub no-cell : (c : ℕ) → c < 256 → getD w 1 0 ≤ c → getD w (4578 + c) 0 ≡ 0
 
 module _ (fs : List Frame) (n : ℕ) (w : List ℕ) where
   pub in-range : inRange fs n w ≡ true → InRange fs n w
   unfolding inRange
   in-range e =
       record {
-        all = eqb-true (length w) 4818 (p .0);
+        all = eqb-true (length w) 4834 (p .0);
         threads-room = most;
         cells-room = more;
         scheduler = λ k j a b c. sym (range-scheduler fs n w k j a b c) ∙ each (2 + 130 * k + j) (omega arith);
         no-scheduler = λ k j a b c. eqb-true (getD w (2 + 130 * k + j) 0) 0 (sym (range-no-scheduler fs n w k j a b c) ∙ each (2 + 130 * k + j) (omega arith));
         thread = λ k j b c. let f = most in sym (range-thread fs n w k j (omega arith) b c) ∙ each (1042 + 55 * k + j) (omega arith);
         no-thread = λ k j a b c. eqb-true (getD w (1042 + 55 * k + j) 0) 0 (sym (range-no-thread fs n w k j a b c) ∙ each (1042 + 55 * k + j) (omega arith));
-        cell = λ c l. let f = more in sym (if-yes _ _ (lt-ltb c (getD w 1 0) l)) ∙ sym (range-cells fs n w c (omega arith)) ∙ each (4562 + c) (omega arith);
-        no-cell = λ c a l. eqb-true (getD w (4562 + c) 0) 0 (sym (if-no _ _ (le-ltb c (getD w 1 0) l)) ∙ sym (range-cells fs n w c a) ∙ each (4562 + c) (omega arith));
+        event = λ e a l. leb-true (getD w (4562 + e) 0) 1 (sym (if-yes _ _ (lt-ltb e (frameAt fs 0 .c) l)) ∙ sym (range-events fs n w e a) ∙ each (4562 + e) (omega arith));
+        no-event = λ e a l. eqb-true (getD w (4562 + e) 0) 0 (sym (if-no _ _ (le-ltb e (frameAt fs 0 .c) l)) ∙ sym (range-events fs n w e a) ∙ each (4562 + e) (omega arith));
+        cell = λ c l. let f = more in sym (if-yes _ _ (lt-ltb c (getD w 1 0) l)) ∙ sym (range-cells fs n w c (omega arith)) ∙ each (4578 + c) (omega arith);
+        no-cell = λ c a l. eqb-true (getD w (4578 + c) 0) 0 (sym (if-no _ _ (le-ltb c (getD w 1 0) l)) ∙ sym (range-cells fs n w c a) ∙ each (4578 + c) (omega arith));
       }
     where
-      p : (eqb (length w) 4818 ≡ true) × (allBelow 4818 (wordInRange fs n w) ≡ true)
-      p = and-true (eqb (length w) 4818) (allBelow 4818 (wordInRange fs n w)) e
+      p : (eqb (length w) 4834 ≡ true) × (allBelow 4834 (wordInRange fs n w) ≡ true)
+      p = and-true (eqb (length w) 4834) (allBelow 4834 (wordInRange fs n w)) e
 
-      each : (i : ℕ) → i < 4818 → wordInRange fs n w i ≡ true
-      each = below-each 4818 (wordInRange fs n w) (p .1)
+      each : (i : ℕ) → i < 4834 → wordInRange fs n w i ≡ true
+      each = below-each 4834 (wordInRange fs n w) (p .1)
 
       most : getD w 0 0 ≤ 64
       most = leb-true (getD w 0 0) 64 (sym (range-0 fs n w) ∙ each 0 (omega arith))
@@ -149,11 +168,11 @@ module _ (fs : List Frame) (n : ℕ) (w : List ℕ) where
   pub range-in : InRange fs n w → inRange fs n w ≡ true
   unfolding inRange
   range-in h =
-      and-both (eqb (length w) 4818) (allBelow 4818 (wordInRange fs n w))
-      (eq-eqb (length w) 4818 (h .all))
-      (all-below 4818 (wordInRange fs n w)
+      and-both (eqb (length w) 4834) (allBelow 4834 (wordInRange fs n w))
+      (eq-eqb (length w) 4834 (h .all))
+      (all-below 4834 (wordInRange fs n w)
       (by-region (λ (i : ℕ). wordInRange fs n w i ≡ true) (range-0 fs n w ∙ le-leb (getD w 0 0) 64 (h .threads-room)) (range-1 fs n w ∙ le-leb (getD w 1 0) 256 (h .cells-room))
-      (λ k j a b. scheduler k j a b (decLt k n)) (λ k j a b. thread k j a b (decLt k (getD w 0 0))) (λ c a. range-cells fs n w c a ∙ cell c a)))
+      (λ k j a b. scheduler k j a b (decLt k n)) (λ k j a b. thread k j a b (decLt k (getD w 0 0))) (λ e a. range-events fs n w e a ∙ event e a) (λ c a. range-cells fs n w c a ∙ cell c a)))
     where
       scheduler : (k j : ℕ) → k < 8 → j < 130 → Dec (k < n)
           → wordInRange fs n w (2 + 130 * k + j) ≡ true
@@ -169,8 +188,16 @@ module _ (fs : List Frame) (n : ℕ) (w : List ℕ) where
           let l : getD w 0 0 ≤ k = omega (arith, m) in
           range-no-thread fs n w k j a b l ∙ eq-eqb _ 0 (h .no-thread k j a b l)
 
+      event : (e : ℕ) → e < 16
+          → (if ltb e (frameAt fs 0 .c) then leb (getD w (4562 + e) 0) 1 else eqb (getD w (4562 + e) 0) 0)
+          ≡ true
+      event e a =
+          if-all (λ (b : Bool). b ≡ true) (ltb e (frameAt fs 0 .c)) _ _
+          (λ q. le-leb _ 1 (h .event e a (ltb-true e (frameAt fs 0 .c) q)))
+          (λ q. eq-eqb _ 0 (h .no-event e a (ltb-false e (frameAt fs 0 .c) q)))
+
       cell : (c : ℕ) → c < 256
-          → (if ltb c (getD w 1 0) then cellInRange n (getD w (4562 + c) 0) else eqb (getD w (4562 + c) 0) 0)
+          → (if ltb c (getD w 1 0) then cellInRange n (getD w (4578 + c) 0) else eqb (getD w (4578 + c) 0) 0)
           ≡ true
       cell c a =
           if-all (λ (b : Bool). b ≡ true) (ltb c (getD w 1 0)) _ _
@@ -212,17 +239,17 @@ range-variables fs n w i j h =
     (ne-eqb (29 + j) 1 (λ e. omega arith)) ∙ if-no _ _ (ne-eqb (29 + j) 2 (λ e. omega arith))
     ∙ if-no _ _ (le-ltb (29 + j) 29 (omega arith)) ∙ ap (listInRange valueInRange 25 w (i + 29)) a
 
-pub range-active : (w : List ℕ) (i j : ℕ) → j < 65
-    → schedulerInRange w i j ≡ listInRange threadInRange 64 w i j
+pub range-active : (m : ℕ) (w : List ℕ) (i j : ℕ) → j < 65
+    → schedulerInRange m w i j ≡ listInRange threadInRange 64 w i j
 unfolding schedulerInRange
-range-active w i j h = if-yes _ _ (lt-ltb j 65 h)
+range-active m w i j h = if-yes _ _ (lt-ltb j 65 h)
 
-pub range-next : (w : List ℕ) (i j : ℕ) → j < 65
-    → schedulerInRange w i (65 + j) ≡ listInRange entryInRange 64 w (i + 65) j
+pub range-next : (m : ℕ) (w : List ℕ) (i j : ℕ) → j < 65
+    → schedulerInRange m w i (65 + j) ≡ listInRange (entryInRange m) 64 w (i + 65) j
 unfolding schedulerInRange
-range-next w i j h =
+range-next m w i j h =
     let a : 65 + j - 65 ≡ j = omega arith in
-    if-no _ _ (le-ltb (65 + j) 65 (omega arith)) ∙ ap (listInRange entryInRange 64 w (i + 65)) a
+    if-no _ _ (le-ltb (65 + j) 65 (omega arith)) ∙ ap (listInRange (entryInRange m) 64 w (i + 65)) a
 
 -- ---- a list's space: its length, its members, 0 in the rest
 pub record Space (test : ℕ → Bool) (w : List ℕ) (i most : ℕ) : Type 0 where

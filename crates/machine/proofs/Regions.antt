@@ -1,26 +1,33 @@
 -- Where a word stands, so that what is to be shown of each word is shown region by region: of the
--- 4,818 words, of a thread's 55, of a scheduler's 130. Assumes nothing.
+-- 4,834 words, of a thread's 55, of a scheduler's 130. Assumes nothing.
 use Prim.Native.Nat.{ℕ, zero, suc, _+_, _*_, _-_, _/_, _%_, _<_, _≤_}
 use mathlib.Core.Path.{_≡_, sym, subst}
 use native.Mathlib.Omega.{arith}
 use native.Mathlib.Decide.{decLt, ℕ-discrete}
 
--- the two counts, the schedulers, the threads, the cells
+-- the two counts, the schedulers, the threads, the events, the cells
 pub by-region : (Q : ℕ → Type 0) → Q 0 → Q 1 → ((k j : ℕ) → k < 8 → j < 130 → Q (2 + 130 * k + j))
     → ((k j : ℕ) → k < 64 → j < 55 → Q (1042 + 55 * k + j))
-    → ((c : ℕ) → c < 256 → Q (4562 + c)) → (i : ℕ) → i < 4818 → Q i
-by-region Q threads cells scheduler thread cell i g = count (ℕ-discrete i 0) (ℕ-discrete i 1)
+    → ((e : ℕ) → e < 16 → Q (4562 + e)) → ((c : ℕ) → c < 256 → Q (4578 + c))
+    → (i : ℕ) → i < 4834 → Q i
+by-region Q threads cells scheduler thread event cell i g = count (ℕ-discrete i 0) (ℕ-discrete i 1)
   where
+    behind : Dec (i < 4578) → 4562 ≤ i → Q i
+    behind (yes l) m =
+        let e : 4562 + (i - 4562) ≡ i = omega arith in
+        subst Q e (event (i - 4562) (omega arith))
+    behind (no n) m =
+        let l : 4578 ≤ i = omega (arith, n) in
+        let e : 4578 + (i - 4578) ≡ i = omega arith in
+        subst Q e (cell (i - 4578) (omega arith))
+
     beyond : Dec (i < 4562) → 1042 ≤ i → Q i
     beyond (yes l) m =
         let k : ℕ = (i - 1042) / 55 in
         let j : ℕ = (i - 1042) % 55 in
         let e : 1042 + 55 * k + j ≡ i = omega arith in
         subst Q e (thread k j (omega arith) (omega arith))
-    beyond (no n) m =
-        let l : 4562 ≤ i = omega (arith, n) in
-        let e : 4562 + (i - 4562) ≡ i = omega arith in
-        subst Q e (cell (i - 4562) (omega arith))
+    beyond (no n) m = behind (decLt i 4578) (omega (arith, n))
 
     lists : Dec (i < 1042) → 2 ≤ i → Q i
     lists (yes l) m =

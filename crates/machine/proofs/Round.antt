@@ -11,9 +11,9 @@ use borrow.Author.Tests.{lt-ltb, le-ltb, ne-eqb}
 use Rattle.basics.specs.Members.{All, none, more}
 use Rattle.basics.proofs.Ifs.{if-yes, if-no}
 use Rattle.language.specs.declared.frame.Frame.{Frame}
-use Rattle.program.specs.Trees.{rootS}
+use Rattle.program.specs.Trees.{rootS, frameAt}
 use Rattle.machine.specs.State.{State, Stored, Item, run, back, drop, Thread, Entry, plain}
-use Rattle.machine.specs.State.{waiting, Scheduler, noThread, noScheduler, noCell}
+use Rattle.machine.specs.State.{waiting, awaiting, Scheduler, noThread, noScheduler, noCell}
 use Rattle.machine.specs.declared.value.Value.{Value}
 use Rattle.machine.specs.declared.value.Value.the-variants.{Number, Truth, Cell}
 use Rattle.machine.specs.Words.{bit, valueWord, wordValue, itemWord, wordItem, entryWord}
@@ -23,7 +23,7 @@ use Rattle.machine.specs.Words.{unpack, pack}
 use Rattle.machine.proofs.WordLaws.{tab-length, tab-at, Says, thread-says, scheduler-says}
 use Rattle.machine.specs.Shapes.{ValueFits, number, truth, cell, ItemFits, run-fits}
 use Rattle.machine.specs.Shapes.{back-fits, drop-fits, EntryFits, plain-fits, waiting-fits}
-use Rattle.machine.specs.Shapes.{ThreadFits, SchedulerFits, Shaped}
+use Rattle.machine.specs.Shapes.{awaiting-fits, ThreadFits, SchedulerFits, Shaped}
 use Rattle.machine.proofs.Blocks.{says-pack}
 
 -- ---- single words: `x-back` says that the word of x says x
@@ -48,14 +48,21 @@ item-back fs n (back q) (back-fits h k) =
     ∙ if-yes _ _ (lt-ltb (1024 + q) 2048 (omega arith)) ∙ ap back a
 item-back fs n drop drop-fits = if-no _ _ refl ∙ if-no _ _ refl
 
-pub entry-back : (e : Entry) → EntryFits e → wordEntry (entryWord e) ≡ e
+pub entry-back : (m : ℕ) (e : Entry) → EntryFits m e → wordEntry (entryWord e) ≡ e
 unfolding entryWord wordEntry
-entry-back (plain t) (plain-fits h) = let l = h .1 in if-yes _ _ (lt-ltb t 128 (omega arith))
-entry-back (waiting t u) (waiting-fits h g) =
-    let l = h .1 in let m = g .0 in
+entry-back m (plain t) (plain-fits h) = let l = h .1 in if-yes _ _ (lt-ltb t 128 (omega arith))
+entry-back m (waiting t u) (waiting-fits h g) =
+    let l = h .1 in let k = g .0 in let j = g .1 in
     let a : (128 * u + t) % 128 ≡ t = omega arith in
     let b : (128 * u + t) / 128 ≡ u = omega arith in
-    if-no _ _ (le-ltb (128 * u + t) 128 (omega arith)) ∙ ap₂ waiting a b
+    if-no _ _ (le-ltb (128 * u + t) 128 (omega arith))
+    ∙ if-yes _ _ (lt-ltb (128 * u + t) 16384 (omega arith)) ∙ ap₂ waiting a b
+entry-back m (awaiting t e) (awaiting-fits h g) =
+    let l = h .1 in
+    let a : (16384 + 128 * e + t) % 128 ≡ t = omega arith in
+    let b : (16384 + 128 * e + t - 16384) / 128 ≡ e = omega arith in
+    if-no _ _ (le-ltb (16384 + 128 * e + t) 128 (omega arith))
+    ∙ if-no _ _ (le-ltb (16384 + 128 * e + t) 16384 (omega arith)) ∙ ap₂ awaiting a b
 
 pub value-below : (v : Value) → ValueFits v → valueWord v < 2 ^ 34
 unfolding valueWord
@@ -186,12 +193,12 @@ module _ (fs : List Frame) (n : ℕ) (w : List ℕ) (s : State) (h : Says w s) w
           (λ j g. let r : length (x .variables) ≤ 25 = f .variables-room in let m : j < length (x .variables) = rw (length-map (x .variables) valueWord) at g in
           thread-says h k (29 + suc j) (1042 + 55 * k + 29 + suc j) a (omega arith) (omega arith) ∙ thread-variables x (suc j) (omega arith))
 
-  pub scheduler-back : (k : ℕ) → k < 8 → SchedulerFits (getD (s .schedulers) k noScheduler)
+  pub scheduler-back : (m k : ℕ) → k < 8 → SchedulerFits m (getD (s .schedulers) k noScheduler)
       → schedulerFrom w k ≡ getD (s .schedulers) k noScheduler
   unfolding schedulerFrom
-  scheduler-back k a f =
+  scheduler-back m k a f =
       ap₂ (λ (p : List ℕ) (q : List Entry). record { active = p; next = q }) active
-      (ap (map wordEntry) next ∙ map-back EntryFits entryWord wordEntry entry-back (x .next) (f .entries))
+      (ap (map wordEntry) next ∙ map-back (EntryFits m) entryWord wordEntry (entry-back m) (x .next) (f .entries))
     where
       x : Scheduler
       x = getD (s .schedulers) k noScheduler
@@ -209,8 +216,14 @@ module _ (fs : List Frame) (n : ℕ) (w : List ℕ) (s : State) (h : Says w s) w
           scheduler-says h k (65 + suc j) (67 + 130 * k + suc j) a (omega arith) (omega arith) ∙ scheduler-next x (suc j) (omega arith))
 
   state-path : (a b : State) → a .threads ≡ b .threads → a .schedulers ≡ b .schedulers
-      → a .cells ≡ b .cells → a ≡ b
-  state-path a b p q r = λ i. record { threads = p i; schedulers = q i; cells = r i }
+      → a .cells ≡ b .cells → a .present ≡ b .present → a ≡ b
+  state-path a b p q r e =
+      λ i. record { threads = p i; schedulers = q i; cells = r i; present = e i }
+
+  -- an event's word tells whether it is present
+  present-back : (b : Bool) → eqb (bit b) 1 ≡ b
+  present-back true = refl
+  present-back false = refl
 
   table-back : {A : Type 0} (m : ℕ) (f : ℕ → A) (l : List A) (d : A) → m ≡ length l
       → ((k : ℕ) → k < length l → f k ≡ getD l k d) → tabulate m f 0 ≡ l
@@ -222,9 +235,11 @@ module _ (fs : List Frame) (n : ℕ) (w : List ℕ) (s : State) (h : Says w s) w
   unfolding unpack
   unpack-says z = state-path _ s
       (table-back (getD w 0 0) (threadFrom fs w) (s .threads) noThread (h .threads) (λ k g. thread-back k (let r : length (s .threads) ≤ 64 = z .threads-room in omega arith) (z .threads k g)))
-      (table-back n (schedulerFrom w) (s .schedulers) noScheduler (sym (z .count)) (λ k g. scheduler-back k (let r : length (s .schedulers) ≤ 8 = z .schedulers-room in omega arith) (z .schedulers k g)))
-      (table-back (getD w 1 0) (λ c. wordCell (getD w (4562 + c) 0)) (s .cells) noCell (h .cells)
+      (table-back n (schedulerFrom w) (s .schedulers) noScheduler (sym (z .count)) (λ k g. scheduler-back (frameAt fs 0 .c) k (let r : length (s .schedulers) ≤ 8 = z .schedulers-room in omega arith) (z .schedulers k g)))
+      (table-back (getD w 1 0) (λ c. wordCell (getD w (4578 + c) 0)) (s .cells) noCell (h .cells)
       (λ k g. ap wordCell (h .cell k (let r : length (s .cells) ≤ 256 = z .cells-room in omega arith)) ∙ cell-back (getD (s .cells) k noCell) (z .cells k g .value)))
+      (table-back (frameAt fs 0 .c) (λ e. eqb (getD w (4562 + e) 0) 1) (s .present) false (sym (z .events))
+      (λ k g. let r : length (s .present) ≤ 16 = z .events-room in ap (λ (m : ℕ). eqb m 1) (h .event k (omega arith)) ∙ present-back (getD (s .present) k false)))
 
 pub unpack-pack : (fs : List Frame) (n : ℕ) (s : State) → Shaped fs n s → unpack fs n (pack s) ≡ s
 unpack-pack fs n s z = unpack-says fs n (pack s) s (says-pack s) z

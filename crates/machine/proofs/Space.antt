@@ -10,17 +10,22 @@ use native.Mathlib.Omega.{arith}
 use lib.Dec.{leb, eqb}
 use lib.ListN.{length, getD, set, length-set, length-append, replicate}
 use borrow.Author.Tests.{leb-false, le-leb}
+use borrow.Author.Tests.{leb-true, ne-eqb}
 use Rattle.basics.specs.If.{if_then_else_}
 use Rattle.basics.proofs.Ifs.{if-all, and-true}
 use Rattle.program.specs.Trees.{Expr, Stmt, nothing, seq, doAt, start, startWait, cooperate, letIn}
 use Rattle.program.specs.Trees.{store, ifElse, while}
+use Rattle.program.specs.Trees.{generate, await}
 use Rattle.program.specs.Programs.{Program, moduleAt}
+use Rattle.program.specs.Programs.{ownerOfEvent}
 use Rattle.machine.specs.State.{State, Item, run, back, drop, Thread, Scheduler, Entry, plain}
 use Rattle.machine.specs.State.{noThread, noScheduler, nth, setNth, schedulerAt, threadAt}
 use Rattle.machine.specs.State.{withNew, enlist}
+use Rattle.machine.specs.State.{withPresent}
 use Rattle.machine.specs.Words.{bit}
 use Rattle.basics.specs.If.{keepIf}
 use Rattle.machine.specs.Waits.{entryThread, readyThreads, stillWaiting}
+use Rattle.machine.specs.Waits.{threadsWhere, entriesExcept, isAwaiting}
 use Rattle.machine.specs.inner.Families.{isReady}
 use Rattle.machine.specs.Fresh.{fresh}
 use Rattle.machine.specs.Evaluation.{Here, EvalResult, Evaluation, eval, storing}
@@ -35,6 +40,8 @@ use Rattle.machine.specs.Statements.{ends, drops, goesBack, stepNothing,
 use Rattle.machine.specs.Statements.{started, starting, stepStart, startedWait, stepStartWait}
 use Rattle.machine.specs.Statements.{stepCooperate, stepLet, stepStore, stepIf, stepWhile}
 use Rattle.machine.specs.Statements.{stepStatement}
+use Rattle.machine.specs.Statements.{withSignal, isOwnEvent, signalling, wake, roomToWake}
+use Rattle.machine.specs.Statements.{stepGenerate, stepAwait}
 use Rattle.machine.specs.declared.value.Value.{Value}
 use Rattle.machine.specs.declared.value.Value.the-variants.{Number, Truth, Cell}
 use Rattle.machine.specs.declared.value.Outcome.{Outcome}
@@ -398,8 +405,77 @@ kept-starting u m vs r a g =
     kept-if _ _ _ (λ _. f) (λ l. kept-if _ _ _ (λ _. f) (λ _. kept-if _ _ _ (λ _. f) (λ _. kept-if _ _ _ (λ _. f)
     (λ _. kept-if (leb 64 (length (u .state .threads))) _ _ (λ _. f) (λ e. g l (leb-false 64 (length (u .state .threads)) e))))))
 
+-- entries that pass a test and those that do not: none is lost, none is doubled
+pub parted : (test : Entry → Bool) (es : List Entry)
+    → length (threadsWhere test es) + length (entriesExcept test es) ≡ length es
+unfolding threadsWhere entriesExcept
+parted test [] = omega arith
+parted test (e ∷ es) = go (test e) (parted test es)
+  where
+    go : (b : Bool) → length (threadsWhere test es) + length (entriesExcept test es) ≡ length es
+        → length (keepIf b (entryThread e) (threadsWhere test es)) + length
+        (keepIf (not b) e (entriesExcept test es))
+        ≡ suc (length es)
+    go true h = omega arith
+    go false h = omega arith
+
+-- a generation moves entries of one scheduler between its lists
+wake-total : (q e : ℕ) (s : State) → total (wake q e s .schedulers) ≤ total (s .schedulers) + 0
+unfolding wake weight
+wake-total q e s =
+    let x = schedulerAt s q in
+    total-set-le (s .schedulers) (q - 2) 0 _
+    (let g = parted (isAwaiting e) (x .next) in
+    let l = length-append (x .active) (threadsWhere (isAwaiting e) (x .next)) in
+    omega arith)
+
+wake-threads : (q e : ℕ) (s : State) → wake q e s .threads ≡ s .threads
+unfolding wake
+wake-threads q e s = refl
+
+woken-counted : (q e : ℕ) (l : List Bool) (s : State) → Counted s
+    → Counted (withPresent l (wake q e s))
+woken-counted q e l s h =
+    let g = wake-total q e s in
+    let t = ap (length {A = Thread}) (wake-threads q e s) in
+    let m = ap unlinkedCount (wake-threads q e s) in
+    let a = h .count in
+    let b = h .most in
+    record { most = omega arith; count = omega arith }
+
+-- the threads that a generation wakes have room
+pub room-awake : (u : Turn) → Acting u → (e : ℕ) → roomToWake u e ≡ true
+unfolding roomToWake
+room-awake u a e =
+    let q = ownerOfEvent (u .program) e in
+    let x = schedulerAt (u .state) q in
+    let g = both-le (u .state .schedulers) (q - 2) (q - 2) in
+    let l = parted (isAwaiting e) (x .next) in
+    let c = a .counted .count in
+    let m = a .counted .most in
+    in-entries u a (length (x .active) + length (threadsWhere (isAwaiting e) (x .next))) (omega arith)
+
+pub signal-acting : (u : Turn) (e : ℕ) → Acting u → Acting (withSignal u e)
+signal-acting u e a =
+    record { counted = a .counted; stands = a .stands; same = a .same; spaces = a .spaces }
+
+pub own-linked : (u : Turn) (e : ℕ) → isOwnEvent u e ≡ true → unlinkedHere u ≡ false
+unfolding isOwnEvent
+own-linked u e h =
+    let a = leb-true 2 (here u) (and-true (leb 2 (here u)) (eqb (ownerOfEvent (u .program) e) (here u)) h .0) in
+    ne-eqb (here u) 1 (λ z. omega arith)
+
+-- the thread stands on its scheduler, since an event's owner is one
+kept-signalling : (u : Turn) (e : ℕ) (b : Bool) (r : Turn → StepResult) → Acting u
+    → (isOwnEvent u e ≡ true → Acting (withSignal u e) → Kept (r (withSignal u e)))
+    → Kept (signalling u e b r)
+unfolding signalling
+kept-signalling u e b r a g =
+    kept-if _ _ _ (λ _. a .counted) (λ _. kept-if _ _ _ (λ _. a .counted)
+    (λ _. kept-if _ _ _ (λ q. g q (signal-acting u e a)) (λ _. a .counted)))
+
 kept-statement : (u : Turn) (x : Stmt) → Acting u → Kept (stepStatement u x)
-unfolding stepNothing stepSeq stepDo stepStart startedWait stepStartWait stepCooperate stepLet stepStore stepIf stepWhile
+unfolding stepNothing stepSeq stepDo stepStart startedWait stepStartWait stepCooperate stepLet stepStore stepIf stepWhile stepGenerate stepAwait
 kept-statement u (nothing i) h = kept-stay u _ _ h
 kept-statement u (seq i a b) h = kept-stay u _ _ h
 kept-statement u (doAt i q a) h = kept-if _ _ _ (λ _. h .counted) (λ _. kept-goTo u q _ h)
@@ -415,6 +491,12 @@ kept-statement u (store i x y) h =
     kept-value u (λ e. storing e x y) _ h (λ v w j. kept-stay w _ _ j)
 kept-statement u (ifElse i x a b) h = kept-value u (λ e. eval e x) _ h (λ v w j. kept-by w v _ _ j (kept-stay w _ _ j) (kept-stay w _ _ j))
 kept-statement u (while i x a) h = kept-value u (λ e. eval e x) _ h (λ v w j. kept-by w v _ _ j (kept-stay w _ _ j) (kept-stay w _ _ j))
+kept-statement u (generate i e) h = kept-signalling u e _ _ h
+    (λ q j. woken-counted _ e _ _ (stay-counted (withSignal u e) j (u .self) refl))
+kept-statement u (await i e) h = kept-signalling u e _ _ h
+    (λ q j. kept-if _ _ _ (λ _. stay-counted (withSignal u e) j (u .self) refl)
+    (λ _. enlisted-counted (withSignal u e) j (threadAt (u .state) (u .thread)) _ _
+    (sym (h .same) ∙ not-free (u .self) (own-linked u e q))))
 
 pub free-same : (p : Program) (s : State) (c t : ℕ)
     → free (turn p s c t [] .self) ≡ free (threadAt s t)
@@ -442,30 +524,16 @@ kept-thread : (p : Program) (s : State) (c t : ℕ) → Acting (turn p s c t [])
 unfolding stepThreadWithin
 kept-thread p s c t a = kept-items p s c t (threadAt s t .continuation) a
 
--- ready entries become active, waiting ones stay: none is lost, none is doubled
-pub parted : (ts : List Thread) (es : List Entry)
-    → length (readyThreads ts es) + length (stillWaiting ts es) ≡ length es
-unfolding readyThreads stillWaiting
-parted ts [] = omega arith
-parted ts (e ∷ es) = go (isReady ts e) (parted ts es)
-  where
-    go : (b : Bool) → length (readyThreads ts es) + length (stillWaiting ts es) ≡ length es
-        → length (keepIf b (entryThread e) (readyThreads ts es)) + length
-        (keepIf (not b) e (stillWaiting ts es))
-        ≡ suc (length es)
-    go true h = omega arith
-    go false h = omega arith
-
 weighs : (s : State) (c : ℕ) (ts : List ℕ) (es : List Entry)
     → length ts + length es ≤ weight (schedulerAt s c)
     → weight (record { active = ts; next = es }) ≤ weight (schedulerAt s c) + 0
 unfolding weight
 weighs s c ts es h = omega arith
 
-kept-instant : (s : State) (c : ℕ) (ts : List ℕ) (es : List Entry) → Counted s
-    → length ts + length es ≤ weight (schedulerAt s c) → Kept (turnInstant s c ts es)
-kept-instant s c [] es h l = h
-kept-instant s c (t ∷ ts) es h l =
+kept-instant : (p : Program) (s : State) (c : ℕ) (ts : List ℕ) (es : List Entry) → Counted s
+    → length ts + length es ≤ weight (schedulerAt s c) → Kept (turnInstant p s c ts es)
+kept-instant p s c [] es h l = h
+kept-instant p s c (t ∷ ts) es h l =
     let g = total-set-le (s .schedulers) (c - 2) 0 (record { active = t ∷ ts; next = es }) (weighs s c (t ∷ ts) es l) in
     let n = h .count in
     record { most = h .most; count = omega arith }
@@ -475,8 +543,8 @@ kept-scheduler : (p : Program) (s : State) (c : ℕ) (ts : List ℕ) → Counted
 unfolding endInstant weight
 kept-scheduler p s c [] h i e =
     let es = schedulerAt s c .next in
-    let q = parted (s .threads) es in
-    kept-instant s c (readyThreads (s .threads) es) (stillWaiting (s .threads) es) h (omega arith)
+    let q = parted (isReady (s .threads)) es in
+    kept-instant p s c (readyThreads (s .threads) es) (stillWaiting (s .threads) es) h (omega arith)
 kept-scheduler p s c (t ∷ ts) h i e =
     let n = ap (length {A = ℕ}) e in
     kept-thread p s c t (record { counted = h; stands = inl (i, omega arith); same = free-same p s c t; spaces = refl })

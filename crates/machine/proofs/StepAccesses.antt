@@ -12,6 +12,7 @@ use Rattle.program.specs.Programs.{moduleAt}
 use Rattle.machine.specs.Accesses.{Access}
 use Rattle.machine.specs.Values.{Value, Number, Truth, Cell, Outcome, Is, Foreign, Spent, Stuck}
 use Rattle.machine.specs.State.{Item}
+use Rattle.machine.specs.State.{isPresent}
 use Rattle.machine.specs.Evaluation.{Here, EvalResult, Evaluation, eval, storing}
 use Rattle.machine.specs.Turns.{StepResult, Turn, here, variables, unlinkedHere, refuse, accept}
 use Rattle.machine.specs.Turns.{evaluator, afterEval, goOn, withValue, withValues, byCondition}
@@ -20,6 +21,8 @@ use Rattle.machine.specs.Statements.{ends, drops, goesBack, stepNothing,
 use Rattle.machine.specs.Statements.{withStarted, starting, stepStart, startedWait}
 use Rattle.machine.specs.Statements.{stepStartWait, stepCooperate, stepLet, stepStore, stepIf}
 use Rattle.machine.specs.Statements.{stepWhile}
+use Rattle.machine.specs.Statements.{withSignal, isOwnEvent, signalling, stepGenerate}
+use Rattle.machine.specs.Statements.{stepAwait}
 
 -- r has the accesses of the turn so far, and no more
 abbrev Keeps : Turn → StepResult → Type 0
@@ -75,6 +78,24 @@ module _ (u : Turn) where
   cooperate-keeps =
       if-all (Keeps u) (unlinkedHere u) _ _ (λ _. refl)
       (λ _. if-all (Keeps u) (room u 1 (here u)) _ _ (λ _. refl) (λ _. refl))
+
+  signalling-keeps : (e : ℕ) (b : Bool) (r : Turn → StepResult)
+      → r (withSignal u e) .accesses ≡ u .accesses → signalling u e b r .accesses ≡ u .accesses
+  unfolding signalling
+  signalling-keeps e b r h =
+      if-all (Keeps u) (leb (length (u .program .events)) e) _ _ (λ _. refl)
+      (λ _. if-all (Keeps u) (not b) _ _ (λ _. refl)
+      (λ _. if-all (Keeps u) (isOwnEvent u e) _ _ (λ _. h) (λ _. refl)))
+
+  pub generate-keeps : (e : ℕ) → stepGenerate u e .accesses ≡ u .accesses
+  unfolding stepGenerate
+  generate-keeps e = signalling-keeps e _ _ refl
+
+  pub await-keeps : (e : ℕ) → stepAwait u e .accesses ≡ u .accesses
+  unfolding stepAwait
+  await-keeps e =
+      signalling-keeps e _ _
+      (if-all (Keeps u) (isPresent (u .state) e) _ _ (λ _. refl) (λ _. refl))
 
   starting-keeps : (m : ℕ) (vs : List Value) (r : StepResult) → r .accesses ≡ u .accesses
       → starting u m vs r .accesses ≡ u .accesses

@@ -4,6 +4,7 @@
 use mathlib.Core.Path.{_≡_, refl, ap, subst, _∙_}
 use mathlib.Core.List.{List, [], _∷_, _++_}
 use mathlib.Core.Bool.{true, false, not, _&&_}
+use mathlib.Core.Bool.{Bool}
 use Prim.Native.Nat.{ℕ, _<_}
 use native.Mathlib.Omega.{arith}
 use lib.Dec.{leb, eqb}
@@ -15,9 +16,11 @@ use Rattle.language.specs.Refusals.{cellsSpent, threadsSpent, foreign, stuck}
 use Rattle.language.specs.Places.{private}
 use Rattle.program.specs.Trees.{Expr, Stmt, nothing, seq, doAt, start, startWait, cooperate}
 use Rattle.program.specs.Trees.{letIn, store, ifElse, while}
+use Rattle.program.specs.Trees.{generate, await}
 use Rattle.program.specs.Programs.{Program, moduleAt}
 use Rattle.machine.specs.State.{State, Item, run, back, drop, Thread, Entry, threadAt}
 use Rattle.machine.specs.State.{schedulerAt, setNth}
+use Rattle.machine.specs.State.{nth, isPresent}
 use Rattle.machine.specs.Waits.{readyThreads, stillWaiting}
 use Rattle.machine.specs.Evaluation.{Here, EvalResult, Evaluation, eval, storing}
 use Rattle.machine.specs.Turns.{Spaces, StepResult, Turn, here, continuation, variables, refuse}
@@ -27,6 +30,8 @@ use Rattle.machine.specs.Statements.{ends, drops, goesBack, stepNothing,
 use Rattle.machine.specs.Statements.{started, starting, stepStart, startedWait, stepStartWait}
 use Rattle.machine.specs.Statements.{stepCooperate, stepLet, stepStore, stepIf, stepWhile}
 use Rattle.machine.specs.Statements.{stepStatement}
+use Rattle.machine.specs.Statements.{withSignal, isOwnEvent, signalling, wake, stepGenerate}
+use Rattle.machine.specs.Statements.{stepAwait}
 use Rattle.machine.specs.Steps.{turnWithin, stepItemsWithin, stepThreadWithin, turnInstant}
 use Rattle.machine.specs.Steps.{endInstant, stepSchedulerWithin, isUnlinked, stepWithin}
 use Rattle.machine.specs.declared.value.Value.{Value}
@@ -50,6 +55,8 @@ pub data Goes : Item → List Item → Type 0 where
   g-again : {i : ℕ} {x : Expr} {a : Stmt}
       → Goes (run (while i x a)) (run a ∷ run (while i x a) ∷ [])
   g-out : {i : ℕ} {x : Expr} {a : Stmt} → Goes (run (while i x a)) []
+  g-generate : {i e : ℕ} → Goes (run (generate i e)) []
+  g-await : {i e : ℕ} → Goes (run (await i e)) []
   g-back : {q : ℕ} → Goes (back q) []
   g-drop : Goes drop []
 
@@ -72,13 +79,16 @@ module _ (P : Program) where
         → Become ts t x us
 
   -- what r says of the turn of thread t, whose top item was i above l: refused, and the threads
-  -- stay; or the rest lies under what the item leaves; or the thread pauses, the rest left
+  -- stay; or the rest lies under what the item leaves; or the thread pauses, the rest left; or it
+  -- awaits an event and is as it was
   pub data Did (ts : List Thread) (t : ℕ) (i : Item) (l : List Item) (r : StepResult) : Type 0 where
     refused : r .thread ≡ t → r .state .threads ≡ ts → (r .answer ≡ 0 → ⊥) → Did ts t i l r
     went : r .thread ≡ t → r .answer ≡ 0 → (top : List Item) (x : Thread) → Goes i top
         → x .continuation ≡ top ++ l → Become ts t x (r .state .threads) → Did ts t i l r
     paused : r .thread ≡ t → r .answer ≡ 0 → (x : Thread) → Pauses i
         → x .continuation ≡ l → Become ts t x (r .state .threads) → Did ts t i l r
+    awaits : {j e : ℕ} → r .thread ≡ t → r .answer ≡ 0 → i ≡ run (await j e)
+        → Become ts t (nth ts t) (r .state .threads) → Did ts t i l r
 
   -- what r says of a choice on s
   pub data Chose (s : State) (r : StepResult) : Type 0 where
@@ -234,6 +244,31 @@ module _ (P : Program) where
       ∙ ap (λ (ts : List Thread). ts ++ (new ∷ [])) (leave-threads y _ ∙ same-threads s _ refl))))
       (λ _. did-refuse u y _ stuck s (λ e. omega (arith, e)))))
 
+  -- ---- events
+
+  did-signalling : (u : Turn) (i : Item) (e : ℕ) (b : Bool) (r : Turn → StepResult)
+      → DidIn u i (r (withSignal u e)) → DidIn u i (signalling u e b r)
+  unfolding signalling
+  did-signalling u i e b r h =
+      if-all (DidIn u i) (leb (length (u .program .events)) e) _ _ (λ _. did-stuck u i)
+      (λ _. if-all (DidIn u i) (not b) _ _ (λ _. did-stuck u i)
+      (λ _. if-all (DidIn u i) (isOwnEvent u e) _ _ (λ _. h)
+      (λ _. refused refl refl (λ z. omega (arith, z)))))
+
+  did-generate : (u : Turn) (i e : ℕ) → DidIn u (run (generate i e)) (stepGenerate u e)
+  unfolding stepGenerate wake
+  did-generate u i e =
+      did-signalling u _ e _ _ (went refl refl [] (u .self) g-generate refl (only refl))
+
+  did-await : (u : Turn) (i e : ℕ) → DidIn u (run (await i e)) (stepAwait u e)
+  unfolding stepAwait
+  did-await u i e =
+      did-signalling u _ e _ _
+      (if-all (DidIn u (run (await i e))) (isPresent (u .state) e) _ _
+      (λ _. went refl refl [] (u .self) g-await refl (only refl))
+      (λ _. awaits refl refl refl
+      (only (enlist-threads _ _ _ ∙ leave-threads (withSignal u e) _))))
+
   -- ---- each statement, each item
 
   did-statement : (u : Turn) (x : Stmt) → u .program ≡ P → DidIn u (run x) (stepStatement u x)
@@ -266,6 +301,8 @@ module _ (P : Program) where
       (λ e w. did-by (afterEval u e) _ w _ _
       (did-stay (afterEval u e) _ (run a ∷ run (while i x a) ∷ []) _ g-again)
       (did-stay (afterEval u e) _ [] _ g-out))
+  did-statement u (generate i e) p = did-generate u i e
+  did-statement u (await i e) p = did-await u i e
 
   -- ---- each choice, in a state of the spaces z
 
@@ -292,7 +329,7 @@ module _ (P : Program) where
     chose-thread s c t = chose-items s c t (threadAt s t .continuation) refl
 
     chose-instant : (s : State) (c : ℕ) (ts : List ℕ) (es : List Entry)
-        → Chose s (turnInstant s c ts es)
+        → Chose s (turnInstant P s c ts es)
     chose-instant s c [] es = nobody-acts refl refl
     chose-instant s c (t ∷ ts) es = nobody-acts refl refl
 

@@ -13,6 +13,7 @@ use Rattle.basics.specs.Members.{All, none, more}
 use Rattle.basics.proofs.Ifs.{if-yes, if-no, and-true}
 use Rattle.language.specs.declared.frame.Frame.{Frame}
 use Rattle.program.proofs.Roots.{statement-root}
+use Rattle.program.specs.Trees.{frameAt}
 use Rattle.machine.specs.State.{Stored, Thread, Scheduler, noThread, noScheduler, noCell}
 use Rattle.machine.specs.Words.{bit, valueWord, wordValue, itemWord, wordItem, entryWord}
 use Rattle.machine.specs.Words.{wordEntry, cellWord, wordCell, listWord, threadWord}
@@ -82,10 +83,17 @@ entry-there v = first (ltb v 128) refl
   where
     first : (b : Bool) → ltb v 128 ≡ b → entryWord (wordEntry v) ≡ v
     first true e = ap entryWord (if-yes _ _ e)
-    first false e = ap entryWord (if-no _ _ e) ∙ both v
+    first false e = second (ltb v 16384) refl
       where
         both : (v : ℕ) → 128 * (v / 128) + v % 128 ≡ v
         both v = omega arith
+
+        above : 16384 ≤ v → 16384 + 128 * ((v - 16384) / 128) + v % 128 ≡ v
+        above l = omega arith
+
+        second : (c : Bool) → ltb v 16384 ≡ c → entryWord (wordEntry v) ≡ v
+        second true q = ap entryWord (if-no _ _ e ∙ if-yes _ _ q) ∙ both v
+        second false q = ap entryWord (if-no _ _ e ∙ if-no _ _ q) ∙ above (ltb-false v 16384 q)
 
 pub cell-there : (n v : ℕ) → cellInRange n v ≡ true → cellWord (wordCell v) ≡ v
 unfolding cellWord wordCell cellInRange
@@ -150,6 +158,11 @@ bit-there zero h = refl
 bit-there (suc zero) h = refl
 bit-there (suc (suc v)) h = absurd (omega arith)
 
+present-there : (v : ℕ) → v ≤ 1 → v ≡ bit (eqb v 1)
+present-there zero h = refl
+present-there (suc zero) h = refl
+present-there (suc (suc v)) h = absurd (omega arith)
+
 -- ---- the words of what is not there are 0
 
 pub no-thread-word : (j : ℕ) → j < 55 → 0 ≡ threadWord noThread j
@@ -182,10 +195,11 @@ module _ (fs : List Frame) (n : ℕ) (w : List ℕ) (h : InRange fs n w) where
   values-space k a = space-of valueInRange w (1042 + 55 * k + 29) 25 (λ j g. sym (range-variables fs n w (1042 + 55 * k) j (omega arith)) ∙ h .thread k (29 + j) (omega arith) a)
 
   pub active-space : (k : ℕ) → k < 8 → k < n → Space threadInRange w (2 + 130 * k) 64
-  active-space k l a = space-of threadInRange w (2 + 130 * k) 64 (λ j g. sym (range-active w (2 + 130 * k) j (omega arith)) ∙ h .scheduler k j l (omega arith) a)
+  active-space k l a = space-of threadInRange w (2 + 130 * k) 64 (λ j g. sym (range-active (frameAt fs 0 .c) w (2 + 130 * k) j (omega arith)) ∙ h .scheduler k j l (omega arith) a)
 
-  pub next-space : (k : ℕ) → k < 8 → k < n → Space entryInRange w (67 + 130 * k) 64
-  next-space k l a = subst (λ (i : ℕ). Space entryInRange w i 64) (swap k) (space-of entryInRange w (2 + 130 * k + 65) 64 (λ j g. sym (range-next w (2 + 130 * k) j (omega arith)) ∙ h .scheduler k (65 + j) l (omega arith) a))
+  pub next-space : (k : ℕ) → k < 8 → k < n
+      → Space (entryInRange (frameAt fs 0 .c)) w (67 + 130 * k) 64
+  next-space k l a = subst (λ (i : ℕ). Space (entryInRange (frameAt fs 0 .c)) w i 64) (swap k) (space-of (entryInRange (frameAt fs 0 .c)) w (2 + 130 * k + 65) 64 (λ j g. sym (range-next (frameAt fs 0 .c) w (2 + 130 * k) j (omega arith)) ∙ h .scheduler k (65 + j) l (omega arith) a))
     where
       swap : (k : ℕ) → 2 + 130 * k + 65 ≡ 67 + 130 * k
       swap k = omega arith
@@ -224,24 +238,26 @@ module _ (fs : List Frame) (n : ℕ) (w : List ℕ) (h : InRange fs n w) where
   scheduler-there k j l a g = scheduler-cases (schedulerFrom w k) (λ i. getD w (2 + 130 * k + i) 0)
       (λ i q. list-says threadInRange w (2 + 130 * k) 64 (active-space k l a) i (omega arith))
       (λ i q. let z : 2 + 130 * k + (65 + i) ≡ 67 + 130 * k + i = omega arith in
-      ap (λ (m : ℕ). getD w m 0) z ∙ list-says entryInRange w (67 + 130 * k) 64 (next-space k l a) i (omega arith) ∙ ap (λ (l : List ℕ). listWord l i) (sym entries))
+      ap (λ (m : ℕ). getD w m 0) z ∙ list-says (entryInRange (frameAt fs 0 .c)) w (67 + 130 * k) 64 (next-space k l a) i (omega arith) ∙ ap (λ (l : List ℕ). listWord l i) (sym entries))
       j g
     where
       entries : map entryWord (map wordEntry (wordsAt w (67 + 130 * k))) ≡ wordsAt w (67 + 130 * k)
-      entries = map-back (λ (v : ℕ). entryInRange v ≡ true) wordEntry entryWord (λ v _. entry-there v) (wordsAt w (67 + 130 * k)) (list-all entryInRange w (67 + 130 * k) 64 (next-space k l a))
+      entries = map-back (λ (v : ℕ). entryInRange (frameAt fs 0 .c) v ≡ true) wordEntry entryWord (λ v _. entry-there v) (wordsAt w (67 + 130 * k)) (list-all (entryInRange (frameAt fs 0 .c)) w (67 + 130 * k) 64 (next-space k l a))
 
   pub says-unpack : Says w (unpack fs n w)
   unfolding unpack
   says-unpack = record {
     all = h .all;
     threads = sym (tab-length (getD w 0 0) (threadFrom fs w) 0);
-    cells = sym (tab-length (getD w 1 0) (λ c. wordCell (getD w (4562 + c) 0)) 0);
+    cells = sym (tab-length (getD w 1 0) (λ c. wordCell (getD w (4578 + c) 0)) 0);
     scheduler = λ k j a g. table-there n k (schedulerFrom w) noScheduler (λ (x : Scheduler). getD w (2 + 130 * k + j) 0 ≡ schedulerWord x j)
         (λ q. scheduler-there k j a q g) (λ q. h .no-scheduler k j a g q ∙ no-scheduler-word j g);
     thread = λ k j a g. table-there (getD w 0 0) k (threadFrom fs w) noThread (λ (x : Thread). getD w (1042 + 55 * k + j) 0 ≡ threadWord x j)
         (λ q. thread-there k j q g) (λ q. h .no-thread k j a g q ∙ no-thread-word j g);
-    cell = λ c g. table-there (getD w 1 0) c (λ i. wordCell (getD w (4562 + i) 0)) noCell (λ (x : Stored). getD w (4562 + c) 0 ≡ cellWord x)
-        (λ q. sym (cell-there n (getD w (4562 + c) 0) (h .cell c q))) (λ q. h .no-cell c g q ∙ no-cell-word);
+    event = λ e g. table-there (frameAt fs 0 .c) e (λ i. eqb (getD w (4562 + i) 0) 1) false (λ (b : Bool). getD w (4562 + e) 0 ≡ bit b)
+        (λ q. present-there (getD w (4562 + e) 0) (h .event e g q)) (λ q. h .no-event e g q);
+    cell = λ c g. table-there (getD w 1 0) c (λ i. wordCell (getD w (4578 + i) 0)) noCell (λ (x : Stored). getD w (4578 + c) 0 ≡ cellWord x)
+        (λ q. sym (cell-there n (getD w (4578 + c) 0) (h .cell c q))) (λ q. h .no-cell c g q ∙ no-cell-word);
   }
 
 -- words in range are those of the state that they say

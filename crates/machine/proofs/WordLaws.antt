@@ -13,8 +13,9 @@ use lib.Seq.{getD-append-add, paste-zero, paste-suc}
 use lib.Dec.{ltb}
 use borrow.Author.Tests.{ltb-true, ltb-false, lt-ltb, le-ltb, eq-eqb, ne-eqb}
 use Rattle.basics.proofs.Ifs.{if-yes, if-no}
-use Rattle.machine.specs.State.{State, noThread, noScheduler, noCell, usedCells}
-use Rattle.machine.specs.Words.{tabulate, threadWord, schedulerWord, cellWord, wordOf, pack}
+use Rattle.machine.specs.State.{State, noThread, noScheduler, noCell, isPresent, usedCells}
+use Rattle.machine.specs.Words.{bit, tabulate, threadWord, schedulerWord, cellWord, wordOf}
+use Rattle.machine.specs.Words.{pack}
 use Rattle.machine.specs.inner.Blocks.{part, pasted}
 use Rattle.machine.proofs.Regions.{by-region}
 
@@ -101,13 +102,13 @@ module _ (d : List ℕ) (at : ℕ) (s : List ℕ) (n : ℕ) (hd : at + n ≤ len
           over false q g = let l : at + n ≤ i = ltb-false i (at + n) q in omega arith
 
 -- ---- the words of a state
-pub pack-length : (s : State) → length (pack s) ≡ 4818
+pub pack-length : (s : State) → length (pack s) ≡ 4834
 unfolding pack
-pack-length s = tab-length 4818 (wordOf s) 0
+pack-length s = tab-length 4834 (wordOf s) 0
 
-pack-at : (s : State) (i : ℕ) → i < 4818 → getD (pack s) i 0 ≡ wordOf s i
+pack-at : (s : State) (i : ℕ) → i < 4834 → getD (pack s) i 0 ≡ wordOf s i
 unfolding pack
-pack-at s i h = tab-at 4818 (wordOf s) i 0 h
+pack-at s i h = tab-at 4834 (wordOf s) i 0 h
 
 pub word-0 : (s : State) → getD (pack s) 0 0 ≡ length (s .threads)
 unfolding wordOf
@@ -143,28 +144,39 @@ word-thread s k j h g =
     ∙ if-no _ _ (le-ltb i 1042 (omega arith)) ∙ if-yes _ _ (lt-ltb i 4562 (omega arith))
     ∙ ap₂ (λ (x y : ℕ). threadWord (getD (s .threads) x noThread) y) a b
 
-pub word-cell : (s : State) (j : ℕ) → j < 256
-    → getD (pack s) (4562 + j) 0 ≡ cellWord (getD (s .cells) j noCell)
+pub word-event : (s : State) (e : ℕ) → e < 16 → getD (pack s) (4562 + e) 0 ≡ bit (isPresent s e)
 unfolding wordOf
-word-cell s j g =
-    let i : ℕ = 4562 + j in
-    let a : i - 4562 ≡ j = omega arith in
+word-event s e g =
+    let i : ℕ = 4562 + e in
+    let a : i - 4562 ≡ e = omega arith in
     pack-at s i (omega arith) ∙ if-no _ _ (ne-eqb i 0 (λ e. omega arith))
     ∙ if-no _ _ (ne-eqb i 1 (λ e. omega arith))
     ∙ if-no _ _ (le-ltb i 1042 (omega arith)) ∙ if-no _ _ (le-ltb i 4562 (omega arith))
-    ∙ ap (λ (x : ℕ). cellWord (getD (s .cells) x noCell)) a
+    ∙ if-yes _ _ (lt-ltb i 4578 (omega arith)) ∙ ap (λ (x : ℕ). bit (isPresent s x)) a
+
+pub word-cell : (s : State) (j : ℕ) → j < 256
+    → getD (pack s) (4578 + j) 0 ≡ cellWord (getD (s .cells) j noCell)
+unfolding wordOf
+word-cell s j g =
+    let i : ℕ = 4578 + j in
+    let a : i - 4578 ≡ j = omega arith in
+    pack-at s i (omega arith) ∙ if-no _ _ (ne-eqb i 0 (λ e. omega arith))
+    ∙ if-no _ _ (ne-eqb i 1 (λ e. omega arith))
+    ∙ if-no _ _ (le-ltb i 1042 (omega arith)) ∙ if-no _ _ (le-ltb i 4562 (omega arith))
+    ∙ if-no _ _ (le-ltb i 4578 (omega arith)) ∙ ap (λ (x : ℕ). cellWord (getD (s .cells) x noCell)) a
 
 -- each spot of w says what it says of the state s: the laws about changed words are stated of this,
 -- and come to `pack` only at the end, by `is-pack`
 pub record Says (w : List ℕ) (s : State) : Type 0 where
-  pub all : length w ≡ 4818
+  pub all : length w ≡ 4834
   pub threads : getD w 0 0 ≡ length (s .threads)
   pub cells : getD w 1 0 ≡ usedCells (s .cells)
   pub scheduler : (k j : ℕ) → k < 8 → j < 130
       → getD w (2 + 130 * k + j) 0 ≡ schedulerWord (getD (s .schedulers) k noScheduler) j
   pub thread : (k j : ℕ) → k < 64 → j < 55
       → getD w (1042 + 55 * k + j) 0 ≡ threadWord (getD (s .threads) k noThread) j
-  pub cell : (j : ℕ) → j < 256 → getD w (4562 + j) 0 ≡ cellWord (getD (s .cells) j noCell)
+  pub event : (e : ℕ) → e < 16 → getD w (4562 + e) 0 ≡ bit (isPresent s e)
+  pub cell : (j : ℕ) → j < 256 → getD w (4578 + j) 0 ≡ cellWord (getD (s .cells) j noCell)
 
 -- the same at an index i that is not written as a block's first and an offset
 module _ {w : List ℕ} {s : State} (h : Says w s) where
@@ -183,4 +195,4 @@ is-pack w s h =
     (λ i g. by-region (λ (i : ℕ). getD w i 0 ≡ getD (pack s) i 0) (h .threads ∙ sym (word-0 s)) (h .cells ∙ sym (word-1 s))
     (λ k j a b. h .scheduler k j a b ∙ sym (word-scheduler s k j a b))
     (λ k j a b. h .thread k j a b ∙ sym (word-thread s k j a b))
-    (λ c a. h .cell c a ∙ sym (word-cell s c a)) i (rw (h .all) at g))
+    (λ e a. h .event e a ∙ sym (word-event s e a)) (λ c a. h .cell c a ∙ sym (word-cell s c a)) i (rw (h .all) at g))

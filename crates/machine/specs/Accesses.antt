@@ -1,4 +1,4 @@
--- Accesses to cells.
+-- Accesses to cells and to events.
 use Rattle.basics.specs.Prelude.{ℕ, _≤_, _≡_, _⊎_}
 use Rattle.language.specs.Places.{home}
 use Rattle.machine.specs.State.{threadOwner}
@@ -15,3 +15,14 @@ pub record Access : Type 0 where
 -- access is foreign
 abbrev pub Own : Access → Type 0
 Own x = (x .owner ≡ threadOwner (x .thread)) ⊎ ((home ≤ x .place) × (x .owner ≡ x .place))
+
+-- a generation or an await of an event: its owner, and which thread acted, on which place
+pub record Signal : Type 0 where
+  pub event : ℕ
+  pub owner : ℕ
+  pub thread : ℕ
+  pub place : ℕ
+
+-- 02, change 5: 'only from its owner's scheduler'
+abbrev pub OwnSignal : Signal → Type 0
+OwnSignal x = (home ≤ x .place) × (x .owner ≡ x .place)

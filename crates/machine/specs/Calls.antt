@@ -2,7 +2,8 @@
 use Rattle.basics.specs.Prelude.{List, true, false, ℕ, _≤_, eqb, length, _≡_}
 use Rattle.basics.specs.Chains.{eachFrom, lastFrom}
 use Rattle.language.specs.{declared.frame.Frame.Frame, Refusals.wrongState, Limits.mostSchedulers}
-use Rattle.program.specs.Programs.{programOf}
+use Rattle.language.specs.{Limits.mostEvents}
+use Rattle.program.specs.{Trees.frameAt, Programs.programOf}
 use Rattle.machine.specs.{Offsets.stateLength, Turns.StepResult, Turns.accessCount}
 use Rattle.machine.specs.{Fresh.fresh, Steps.step}
 use Rattle.machine.specs.{Words.pack, Words.unpack, inner.Ranges.inRange, Shapes.StateWords}
@@ -10,7 +11,7 @@ use Rattle.machine.specs.{Words.pack, Words.unpack, inner.Ranges.inRange
 -- what 14 means: the test says whether words are those of a state in shape (proofs/InShape)
 abbrev pub InRangeComputes : Type 0
 InRangeComputes =
-    (fs : List Frame) (n : ℕ) → n ≤ mostSchedulers → (w : List ℕ)
+    (fs : List Frame) (n : ℕ) → n ≤ mostSchedulers → frameAt fs 0 .c ≤ mostEvents → (w : List ℕ)
     → (inRange fs n w ≡ true → StateWords fs n w)
     × (StateWords fs n w → inRange fs n w ≡ true)
 

@@ -1,5 +1,5 @@
 -- The fresh state of a program.
-use Rattle.basics.specs.Prelude.{[], _∷_, map, false, _-_, replicate}
+use Rattle.basics.specs.Prelude.{[], _∷_, map, false, _-_, length, replicate}
 use Rattle.language.specs.Places.{home}
 use Rattle.program.specs.Programs.{Program, SharedCell, mainOf}
 use Rattle.machine.specs.Values.{firstContent}
@@ -25,4 +25,5 @@ fresh p =
       threads = mainThread p ∷ [];
       schedulers = homeScheduler ∷ others;
       cells = map firstCell (p .shared);
+      present = replicate (length (p .events)) false;
     }

@@ -4,7 +4,7 @@ use Rattle.basics.specs.Prelude.{ℕ, _*_, _^_}
 
 -- all words; the count of threads and of cells in use
 abbrev pub stateLength : ℕ
-stateLength = 4818
+stateLength = 4834
 
 abbrev pub threadCountAt : ℕ
 threadCountAt = 0
@@ -48,9 +48,12 @@ itemsField = 3
 abbrev pub variablesField : ℕ
 variablesField = 29
 
--- 256 cells, a word each
+-- 16 events, a word each: 1 while it is present; 256 cells, a word each
+abbrev pub eventsAt : ℕ
+eventsAt = 4562
+
 abbrev pub cellsAt : ℕ
-cellsAt = 4562
+cellsAt = 4578
 
 -- an item: a statement is its frame's number; from here on a back, by its place; a drop
 abbrev pub backFrom : ℕ
@@ -59,9 +62,13 @@ backFrom = 1024
 abbrev pub dropWord : ℕ
 dropWord = 2048
 
--- an entry of a next list: a thread; one that waits for thread u has this many times u added
+-- an entry of a next list: a thread; one that waits for thread u has this many times u added; from
+-- here on one that awaits event e, with as many times e added
 abbrev pub waitingFactor : ℕ
 waitingFactor = 128
+
+abbrev pub awaitingFrom : ℕ
+awaitingFrom = 16384
 
 -- a value: a number is itself; from here on a truth; from here on a cell
 abbrev pub truthFrom : ℕ

@@ -2,7 +2,8 @@
 use Rattle.basics.specs.Prelude.{List, [], _∷_, _++_, map, ℕ}
 use Rattle.basics.specs.Chains.{eachFrom, lastFrom}
 use Rattle.program.specs.Programs.{Program}
-use Rattle.machine.specs.{Accesses.Access, State.State, Fresh.fresh, Turns.StepResult}
+use Rattle.machine.specs.{Accesses.Access, Accesses.Signal, State.State, Fresh.fresh}
+use Rattle.machine.specs.{Turns.StepResult}
 use Rattle.machine.specs.{Steps.step}
 
 -- what each choice gives, in order
@@ -29,3 +30,11 @@ allAccesses (r ∷ rs) = r .accesses ++ allAccesses rs
 -- the accesses of all of them, in order: 'those before a refusal too'
 abbrev pub accessesOf : Program → List ℕ → List Access
 accessesOf p cs = allAccesses (steps p cs)
+
+-- and those to events
+unfoldable pub allSignals : List StepResult → List Signal
+allSignals [] = []
+allSignals (r ∷ rs) = r .signals ++ allSignals rs
+
+abbrev pub signalsOf : Program → List ℕ → List Signal
+signalsOf p cs = allSignals (steps p cs)

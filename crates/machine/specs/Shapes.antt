@@ -8,10 +8,12 @@ use Rattle.language.specs.Places.{hasPlace, hasScheduler}
 use Rattle.language.specs.{Kinds.classOf, declared.kind.Kind.Kind, declared.frame.Frame.Frame}
 use Rattle.language.specs.declared.kind.Class.the-variants.{Statement, Expression, Neither}
 use Rattle.language.specs.Limits.{mostSchedulers, mostVariables, mostThreads, mostCells, mostItems}
+use Rattle.language.specs.Limits.{mostEvents}
 use Rattle.program.specs.Trees.{Stmt, statementAt, frameAt, rootS}
 use Rattle.machine.specs.{Offsets.backFrom, Offsets.truthFrom, State.State, State.Stored}
 use Rattle.machine.specs.{State.Item, State.run, State.back, State.drop, State.Thread}
-use Rattle.machine.specs.{State.Entry, State.plain, State.waiting, State.Scheduler}
+use Rattle.machine.specs.{State.Entry, State.plain, State.waiting, State.awaiting}
+use Rattle.machine.specs.{State.Scheduler}
 use Rattle.machine.specs.{State.noThread, State.noScheduler, State.noCell, State.threadOwner}
 use Rattle.machine.specs.{Words.pack, Values.Value, Values.Number, Values.Truth, Values.Cell}
 
@@ -41,9 +43,11 @@ pub data ItemFits (fs : List Frame) (n : ℕ) : Item → Type 0 where
 abbrev pub IsThread : ℕ → Type 0
 IsThread t = (1 ≤ t) × (t ≤ mostThreads)
 
-pub data EntryFits : Entry → Type 0 where
-  plain-fits : {t : ℕ} → IsThread t → EntryFits (plain t)
-  waiting-fits : {t u : ℕ} → IsThread t → IsThread u → EntryFits (waiting t u)
+-- an entry, in a file of m events
+pub data EntryFits (m : ℕ) : Entry → Type 0 where
+  plain-fits : {t : ℕ} → IsThread t → EntryFits m (plain t)
+  waiting-fits : {t u : ℕ} → IsThread t → IsThread u → EntryFits m (waiting t u)
+  awaiting-fits : {t e : ℕ} → IsThread t → e < m → EntryFits m (awaiting t e)
 
 -- ---- threads, schedulers, cells
 pub record ThreadFits (fs : List Frame) (n : ℕ) (x : Thread) : Type 0 where
@@ -54,11 +58,11 @@ pub record ThreadFits (fs : List Frame) (n : ℕ) (x : Thread) : Type 0 where
   pub items : All (ItemFits fs n) (x .continuation)
   pub values : All ValueFits (x .variables)
 
-pub record SchedulerFits (x : Scheduler) : Type 0 where
+pub record SchedulerFits (m : ℕ) (x : Scheduler) : Type 0 where
   pub active-room : length (x .active) ≤ mostThreads
   pub next-room : length (x .next) ≤ mostThreads
   pub threads : All IsThread (x .active)
-  pub entries : All EntryFits (x .next)
+  pub entries : All (EntryFits m) (x .next)
 
 pub record CellFits (n : ℕ) (x : Stored) : Type 0 where
   pub owner : ownerInRange n (x .owner) ≡ true
@@ -69,10 +73,13 @@ pub record Shaped (fs : List Frame) (n : ℕ) (s : State) : Type 0 where
   pub threads-room : length (s .threads) ≤ mostThreads
   pub schedulers-room : length (s .schedulers) ≤ mostSchedulers
   pub cells-room : length (s .cells) ≤ mostCells
+  pub events-room : length (s .present) ≤ mostEvents
   pub count : length (s .schedulers) ≡ n
+  -- 'Header field C gives the number of events'
+  pub events : length (s .present) ≡ frameAt fs 0 .c
   pub threads : (k : ℕ) → k < length (s .threads) → ThreadFits fs n (getD (s .threads) k noThread)
   pub schedulers : (k : ℕ) → k < length (s .schedulers)
-      → SchedulerFits (getD (s .schedulers) k noScheduler)
+      → SchedulerFits (frameAt fs 0 .c) (getD (s .schedulers) k noScheduler)
   pub cells : (k : ℕ) → k < length (s .cells) → CellFits n (getD (s .cells) k noCell)
 
 -- the words are those of a state in shape

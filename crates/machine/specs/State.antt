@@ -1,6 +1,6 @@
--- The state that the stepper keeps: the threads, schedulers and cells that there are.
-use Rattle.basics.specs.Prelude.{List, [], _∷_, _++_, Bool, true, ℕ, zero, suc, _+_, _-_, ltb}
-use Rattle.basics.specs.Prelude.{length, getD, set}
+-- The state that the stepper keeps: the threads, schedulers, cells and events that there are.
+use Rattle.basics.specs.Prelude.{List, [], _∷_, _++_, Bool, true, false, ℕ, zero, suc, _+_, _-_}
+use Rattle.basics.specs.Prelude.{ltb, length, getD, set}
 use Rattle.language.specs.Places.{home}
 use Rattle.program.specs.Trees.{Stmt}
 use Rattle.machine.specs.{Offsets.threadOwnerFrom, Values.Value, Values.Number}
@@ -30,21 +30,24 @@ pub record Thread : Type 0 where
   pub starter : ℕ
   pub ended : Bool
 
--- an entry of a next list: thread t; or thread t, waiting for the thread u that it started
+-- an entry of a next list: thread t; thread t, waiting for the thread u that it started; thread t,
+-- awaiting event e
 pub data Entry : Type 0 where
   plain : ℕ → Entry
-  waiting : ℕ → ℕ → Entry
+  waiting awaiting : ℕ → ℕ → Entry
 
 -- 'Each scheduler has an active list and a next list.'
 pub record Scheduler : Type 0 where
   pub active : List ℕ
   pub next : List Entry
 
--- threads count from 1, schedulers from 2, cells from 0
+-- threads count from 1, schedulers from 2, cells and events from 0; of each event, whether it is
+-- present
 pub record State : Type 0 where
   pub threads : List Thread
   pub schedulers : List Scheduler
   pub cells : List Stored
+  pub present : List Bool
 
 -- ---- what stands where there is none
 abbrev pub noThread : Thread
@@ -79,6 +82,10 @@ schedulerAt s q = getD (s .schedulers) (q - home) noScheduler
 abbrev pub cellAt : List Stored → ℕ → Stored
 cellAt cs c = getD cs c noCell
 
+-- event e is present
+abbrev pub isPresent : State → ℕ → Bool
+isPresent s e = getD (s .present) e false
+
 -- ---- the cells in use: whether c is one; a new one's number; how many they are; with a new one
 abbrev pub isUsed : List Stored → ℕ → Bool
 isUsed cs c = ltb c (length cs)
@@ -92,22 +99,26 @@ usedCells cs = length cs
 abbrev pub withNewCell : List Stored → Stored → List Stored
 withNewCell cs x = cs ++ (x ∷ [])
 
--- ---- a state with another thread t, another scheduler q, other cells, one more thread (the last)
+-- ---- a state with another thread t, another scheduler q, other cells, one more thread (the last),
+-- other events present
+abbrev stateOf : List Thread → List Scheduler → List Stored → List Bool → State
+stateOf ts qs cs es = record { threads = ts; schedulers = qs; cells = cs; present = es }
+
 abbrev pub withThread : ℕ → Thread → State → State
-withThread t x s =
-    record { threads = setNth (s .threads) t x; schedulers = s .schedulers; cells = s .cells }
+withThread t x s = stateOf (setNth (s .threads) t x) (s .schedulers) (s .cells) (s .present)
 
 abbrev pub withScheduler : ℕ → Scheduler → State → State
 withScheduler q x s =
-    let xs = set (s .schedulers) (q - home) x in
-    record { threads = s .threads; schedulers = xs; cells = s .cells }
+    stateOf (s .threads) (set (s .schedulers) (q - home) x) (s .cells) (s .present)
 
 abbrev pub withCells : List Stored → State → State
-withCells cs s = record { threads = s .threads; schedulers = s .schedulers; cells = cs }
+withCells cs s = stateOf (s .threads) (s .schedulers) cs (s .present)
 
 abbrev pub withNew : Thread → State → State
-withNew x s =
-    record { threads = s .threads ++ (x ∷ []); schedulers = s .schedulers; cells = s .cells }
+withNew x s = stateOf (s .threads ++ (x ∷ [])) (s .schedulers) (s .cells) (s .present)
+
+abbrev pub withPresent : List Bool → State → State
+withPresent es s = stateOf (s .threads) (s .schedulers) (s .cells) es
 
 -- entry e 'at the end of this next list', that of scheduler q
 unfoldable pub enlist : ℕ → Entry → State → State

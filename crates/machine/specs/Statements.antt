@@ -1,17 +1,19 @@
 -- 'A thread's step takes its top pile item': one definition for each item.
-use Rattle.basics.specs.Prelude.{List, [], _∷_, _++_, true, false, not, _&&_, ℕ, suc, _-_, leb, eqb}
-use Rattle.basics.specs.Prelude.{length, take, if_then_else_}
-use Rattle.language.specs.{Places.private, Limits.mostThreads, Refusals.threadsSpent}
-use Rattle.language.specs.{Refusals.stuck}
+use Rattle.basics.specs.Prelude.{List, [], _∷_, _++_, Bool, true, false, not, _&&_, _||_, ℕ, suc}
+use Rattle.basics.specs.Prelude.{_+_, _-_, leb, eqb, length, take, set, if_then_else_}
+use Rattle.language.specs.{Places.private, Places.home, Limits.mostThreads}
+use Rattle.language.specs.{Refusals.threadsSpent, Refusals.foreign, Refusals.stuck}
 use Rattle.program.specs.Trees.{Expr, Stmt, nothing, seq, doAt, start, startWait, cooperate, letIn}
-use Rattle.program.specs.Trees.{store, ifElse, while}
-use Rattle.program.specs.Programs.{Part, moduleAt}
-use Rattle.machine.specs.State.{run, back, drop, Thread, plain, waiting, State, withNew}
-use Rattle.machine.specs.State.{enlist}
+use Rattle.program.specs.Trees.{store, ifElse, while, generate, await}
+use Rattle.program.specs.Programs.{Part, moduleAt, ownerOfEvent}
+use Rattle.machine.specs.State.{run, back, drop, Thread, plain, waiting, awaiting, State}
+use Rattle.machine.specs.State.{isPresent, schedulerAt, threadAt, withScheduler, withNew}
+use Rattle.machine.specs.{State.withPresent, State.enlist, Accesses.Signal}
+use Rattle.machine.specs.Waits.{threadsWhere, entriesExcept, isAwaiting}
 use Rattle.machine.specs.Evaluation.{eval, storing}
 use Rattle.machine.specs.Turns.{StepResult, Turn, here, continuation, variables, unlinkedHere}
 use Rattle.machine.specs.Turns.{refuse, accept, withValue, withValues, byCondition, settled}
-use Rattle.machine.specs.Turns.{leave, room, stay, goTo}
+use Rattle.machine.specs.Turns.{leave, holds, room, stay, goTo, turnSoFar}
 use Rattle.machine.specs.Values.{Value}
 
 -- 'none: the thread ends and leaves'
@@ -137,6 +139,59 @@ stepWhile u x a loop =
     (stay w (run a ∷ run loop ∷ continuation w) (variables w))
     (stay w (continuation w) (variables w)))
 
+-- ---- 1A, 1B: 02, change 5
+
+-- the turn with its access to event e
+abbrev pub withSignal : Turn → ℕ → Turn
+withSignal u e =
+    let o = ownerOfEvent (u .program) e in
+    let signal : Signal = record { event = e; owner = o; thread = u .thread; place = here u } in
+    turnSoFar u (u .cells) (u .accesses) (u .signals ++ (signal ∷ []))
+
+-- the thread stands on the event's owner; any other access is foreign
+unfoldable pub isOwnEvent : Turn → ℕ → Bool
+isOwnEvent u e = leb home (here u) && eqb (ownerOfEvent (u .program) e) (here u)
+
+-- what stands in the way of an access to event e: 'when running, a missing one is 20 and another
+-- owner's 19', a full list, where it has no room, 20 too; else r, of the turn with the access
+unfoldable pub signalling : Turn → ℕ → Bool → (Turn → StepResult) → StepResult
+signalling u e hasRoom r =
+    if leb (length (u .program .events)) e then refuse u stuck else
+    if not hasRoom then refuse u stuck else
+    if isOwnEvent u e then r (withSignal u e) else refuse (withSignal u e) foreign
+
+-- 'A generation moves the threads awaiting the event on its scheduler's next list, in list order,
+-- to the end of the active list.'
+unfoldable pub wake : ℕ → ℕ → State → State
+wake q e s =
+    let x = schedulerAt s q in
+    let woken = threadsWhere (isAwaiting e) (x .next) in
+    let others = entriesExcept (isAwaiting e) (x .next) in
+    withScheduler q (record { active = x .active ++ woken; next = others }) s
+
+-- they have room there
+unfoldable pub roomToWake : Turn → ℕ → Bool
+roomToWake u e =
+    let x = schedulerAt (u .state) (ownerOfEvent (u .program) e) in
+    holds (u .spaces .entries) (length (x .active) + length (threadsWhere (isAwaiting e) (x .next)))
+
+-- 1A: 'An event is present from its generation'
+unfoldable pub stepGenerate : Turn → ℕ → StepResult
+stepGenerate u e =
+    signalling u e (roomToWake u e)
+    (λ v. accept v
+    (withPresent (set (v .state .present) e true)
+    (wake (ownerOfEvent (v .program) e) e (settled v (v .self)))))
+
+-- 1B: 'Awaiting a present event passes on in that step. Otherwise the thread goes to the end of the
+-- next list .. and tries again when it is active': it is left as it was, the statement on top
+unfoldable pub stepAwait : Turn → ℕ → StepResult
+stepAwait u e =
+    signalling u e (isPresent (u .state) e || unlinkedHere u || room u 1 (here u))
+    (λ v. if isPresent (v .state) e then accept v (settled v (v .self)) else
+    accept v
+    (enlist (here v) (awaiting (v .thread) e) (leave v (settled v (threadAt (v .state) (v .thread))))))
+
 abbrev pub stepStatement : Turn → Stmt → StepResult
 stepStatement u (nothing i) = stepNothing u
 stepStatement u (seq i a b) = stepSeq u a b
@@ -148,3 +203,5 @@ stepStatement u (letIn i x a) = stepLet u x a
 stepStatement u (store i x y) = stepStore u x y
 stepStatement u (ifElse i x a b) = stepIf u x a b
 stepStatement u (while i x a) = stepWhile u x a (while i x a)
+stepStatement u (generate i e) = stepGenerate u e
+stepStatement u (await i e) = stepAwait u e

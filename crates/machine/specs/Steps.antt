@@ -5,7 +5,7 @@ use Rattle.language.specs.{Places.private, Refusals.noParty, Refusals.nothingRe
 use Rattle.program.specs.Programs.{Program}
 use Rattle.machine.specs.Offsets.{threadOwnerFrom}
 use Rattle.machine.specs.State.{State, Item, run, back, drop, Entry, threadAt, schedulerAt}
-use Rattle.machine.specs.State.{withScheduler, threadOwner}
+use Rattle.machine.specs.State.{withScheduler, withPresent, threadOwner}
 use Rattle.machine.specs.Waits.{readyThreads, stillWaiting}
 use Rattle.machine.specs.Turns.{StepResult, Spaces, stateSpaces, Turn, isSchedulerOf}
 use Rattle.machine.specs.Statements.{ends, drops, goesBack, stepStatement}
@@ -28,6 +28,7 @@ turnWithin z p s c t items =
       };
       cells = s .cells;
       accesses = [];
+      signals = [];
       spaces = z;
     }
 
@@ -43,22 +44,32 @@ stepThreadWithin z p s c t = stepItemsWithin z p s c t (threadAt s t .continuati
 
 -- an answer in which no thread acts
 abbrev pub nobody : ℕ → State → StepResult
-nobody n s = record { answer = n; thread = 0; state = s; accesses = [] }
+nobody n s = record { answer = n; thread = 0; state = s; accesses = []; signals = [] }
+
+-- 02, change 5: 'An event is present .. to the end of its scheduler's instant': of the
+-- events, which have the owners os, those of c no longer are
+unfoldable pub withoutEventsOf : ℕ → List ℕ → List Bool → List Bool
+withoutEventsOf c [] bs = bs
+withoutEventsOf c (o ∷ os) [] = []
+withoutEventsOf c (o ∷ os) (b ∷ bs) = (b && not (eqb o c)) ∷ withoutEventsOf c os bs
 
 -- 'ready entries of the next list become active in order, waiting ones stay'; '16 'nothing': no
--- active thread there and no ready one in its next list'
-abbrev pub turnInstant : State → ℕ → List ℕ → List Entry → StepResult
-turnInstant s c [] es = nobody nothingReady s
-turnInstant s c (t ∷ ts) es = nobody 0 (withScheduler c (record { active = t ∷ ts; next = es }) s)
+-- active thread there and no ready one in its next list', which ends no instant
+abbrev pub turnInstant : Program → State → ℕ → List ℕ → List Entry → StepResult
+turnInstant p s c [] es = nobody nothingReady s
+turnInstant p s c (t ∷ ts) es =
+    nobody 0
+    (withPresent (withoutEventsOf c (p .events) (s .present))
+    (withScheduler c (record { active = t ∷ ts; next = es }) s))
 
-unfoldable pub endInstant : State → ℕ → StepResult
-endInstant s c =
+unfoldable pub endInstant : Program → State → ℕ → StepResult
+endInstant p s c =
     let es = schedulerAt s c .next in
-    turnInstant s c (readyThreads (s .threads) es) (stillWaiting (s .threads) es)
+    turnInstant p s c (readyThreads (s .threads) es) (stillWaiting (s .threads) es)
 
 -- 'Choosing a scheduler steps its first active thread; with none active, an instant ends'
 abbrev pub stepSchedulerWithin : Spaces → Program → State → ℕ → List ℕ → StepResult
-stepSchedulerWithin z p s c [] = endInstant s c
+stepSchedulerWithin z p s c [] = endInstant p s c
 stepSchedulerWithin z p s c (t ∷ ts) = stepThreadWithin z p s c t
 
 -- the thread that a choice names where it is no scheduler: '16+t the loose thread t'

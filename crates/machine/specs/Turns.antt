@@ -6,7 +6,7 @@ use Rattle.language.specs.{Limits.mostThreads, Limits.mostItems, Refusals.stuck
 use Rattle.program.specs.{Trees.Expr, Programs.Program}
 use Rattle.machine.specs.Values.{answerOf, Value, Number, Truth, Cell, Outcome, Is, Foreign}
 use Rattle.machine.specs.Values.{Spent, Stuck}
-use Rattle.machine.specs.Accesses.{Access}
+use Rattle.machine.specs.Accesses.{Access, Signal}
 use Rattle.machine.specs.State.{Stored, Item, Thread, plain, State, schedulerAt, withThread}
 use Rattle.machine.specs.State.{withScheduler, withCells, enlist}
 use Rattle.machine.specs.Evaluation.{Here, EvalResult, Evaluation, eval}
@@ -20,7 +20,7 @@ pub data Space : Type 0 where
 abbrev pub holds : Space → ℕ → Bool
 holds s n = elim s [ atMost m ↦ leb n m | endless ↦ true ]
 
--- the spaces of a state: of each next list, of each continuation, of the variables of each thread
+-- the spaces of a state: of each list, of each continuation, of the variables of each thread
 pub record Spaces : Type 0 where
   pub entries : Space
   pub items : Space
@@ -35,12 +35,14 @@ stateSpaces =
 abbrev pub endlessSpaces : Spaces
 endlessSpaces = record { entries = endless; items = endless; values = endless }
 
--- what a choice gives: the answer, the acting thread (0: none), the state, the accesses
+-- what a choice gives: the answer, the acting thread (0: none), the state, the accesses to cells
+-- and to events
 pub record StepResult : Type 0 where
   pub answer : ℕ
   pub thread : ℕ
   pub state : State
   pub accesses : List Access
+  pub signals : List Signal
 
 -- 02, change 4: 'For a choice that isn't refused it equals the length of the list of touches in the
 -- stepping rules. A refused choice counts 0, whatever it touched before its refusal.'
@@ -48,7 +50,8 @@ unfoldable pub accessCount : StepResult → ℕ
 accessCount r = if eqb (r .answer) 0 then length (r .accesses) else 0
 
 -- a turn: the choice, the thread that acts, and that thread without its top item; `spaces` are the
--- state's; `cells` and `accesses` are those of the step so far, `state` is the one it was given
+-- state's; `cells`, `accesses` and `signals` are those of the step so far, `state` is the one it
+-- was given
 pub record Turn : Type 0 where
   pub program : Program
   pub state : State
@@ -57,6 +60,7 @@ pub record Turn : Type 0 where
   pub self : Thread
   pub cells : List Stored
   pub accesses : List Access
+  pub signals : List Signal
   pub spaces : Spaces
 
 abbrev pub here : Turn → ℕ
@@ -72,12 +76,22 @@ variables u = u .self .variables
 abbrev pub unlinkedHere : Turn → Bool
 unlinkedHere u = eqb (here u) private
 
+abbrev answered : Turn → ℕ → State → StepResult
+answered u n s =
+    record {
+      answer = n;
+      thread = u .thread;
+      state = s;
+      accesses = u .accesses;
+      signals = u .signals;
+    }
+
 -- a refusal leaves the state as it was, cells made in the step too
 abbrev pub refuse : Turn → ℕ → StepResult
-refuse u n = record { answer = n; thread = u .thread; state = u .state; accesses = u .accesses }
+refuse u n = answered u n (u .state)
 
 abbrev pub accept : Turn → State → StepResult
-accept u s = record { answer = 0; thread = u .thread; state = s; accesses = u .accesses }
+accept u s = answered u 0 s
 
 -- ---- expressions
 
@@ -86,19 +100,24 @@ evaluator u =
     let n = length (u .program .shared) in
     record { thread = u .thread; place = here u; variables = variables u; shared = n }
 
--- the turn after an evaluation
-abbrev pub afterEval : Turn → EvalResult → Turn
-afterEval u r =
+-- the turn, which has come so far: these cells, these accesses to cells and to events
+abbrev pub turnSoFar : Turn → List Stored → List Access → List Signal → Turn
+turnSoFar u cells accesses signals =
     record {
       program = u .program;
       state = u .state;
       choice = u .choice;
       thread = u .thread;
       self = u .self;
-      cells = r .cells;
-      accesses = u .accesses ++ r .accesses;
+      cells = cells;
+      accesses = accesses;
+      signals = signals;
       spaces = u .spaces;
     }
+
+-- the turn after an evaluation
+abbrev pub afterEval : Turn → EvalResult → Turn
+afterEval u r = turnSoFar u (r .cells) (u .accesses ++ r .accesses) (u .signals)
 
 -- go on with the value, or answer the evaluation's refusal
 abbrev pub goOn : Turn → Outcome → (Value → Turn → StepResult) → StepResult

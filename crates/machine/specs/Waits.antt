@@ -2,8 +2,8 @@
 -- and all threads begun by it, directly or through others, have ended, as source document 001 has
 -- it.' 001, section 2: 'termination of thread t and of all its descendants (threads transitively
 -- created by t) is required'.
-use Rattle.basics.specs.Prelude.{List, [], _∷_, true, not, ℕ, keepIf, _≡_}
-use Rattle.machine.specs.State.{Thread, Entry, plain, waiting, nth, starterOf}
+use Rattle.basics.specs.Prelude.{List, [], _∷_, Bool, true, false, not, ℕ, eqb, keepIf, _≡_}
+use Rattle.machine.specs.State.{Thread, Entry, plain, waiting, awaiting, nth, starterOf}
 use Rattle.machine.specs.inner.Families.{isReady}
 
 -- `Family f u t`, where f tells by which thread each was begun: t is u, or was begun by one of the
@@ -17,6 +17,8 @@ pub data Ready (ts : List Thread) : Entry → Type 0 where
   no-wait : {t : ℕ} → Ready ts (plain t)
   all-ended : {t u : ℕ} → ((x : ℕ) → Family (starterOf ts) u x → nth ts x .ended ≡ true)
       → Ready ts (waiting t u)
+  -- 02, change 5: 'counts as ready and tries again when it is active'
+  tries-again : {t e : ℕ} → Ready ts (awaiting t e)
 
 -- `isReady` computes it, whatever the threads, circles of starters included; proved in
 -- proofs/Families
@@ -27,14 +29,25 @@ ReadyComputes =
 
 -- the thread of an entry
 abbrev pub entryThread : Entry → ℕ
-entryThread e = elim e [ plain t ↦ t | waiting t u ↦ t ]
+entryThread e = elim e [ plain t ↦ t | waiting t u ↦ t | awaiting t d ↦ t ]
+
+-- the threads of the entries that pass the test, in order; and the entries that do not
+unfoldable pub threadsWhere : (Entry → Bool) → List Entry → List ℕ
+threadsWhere test [] = []
+threadsWhere test (e ∷ es) = keepIf (test e) (entryThread e) (threadsWhere test es)
+
+unfoldable pub entriesExcept : (Entry → Bool) → List Entry → List Entry
+entriesExcept test [] = []
+entriesExcept test (e ∷ es) = keepIf (not (test e)) e (entriesExcept test es)
 
 -- 'ready entries of the next list become active in order': their threads
-unfoldable pub readyThreads : List Thread → List Entry → List ℕ
-readyThreads ts [] = []
-readyThreads ts (e ∷ es) = keepIf (isReady ts e) (entryThread e) (readyThreads ts es)
+abbrev pub readyThreads : List Thread → List Entry → List ℕ
+readyThreads ts es = threadsWhere (isReady ts) es
 
 -- 'waiting ones stay'
-unfoldable pub stillWaiting : List Thread → List Entry → List Entry
-stillWaiting ts [] = []
-stillWaiting ts (e ∷ es) = keepIf (not (isReady ts e)) e (stillWaiting ts es)
+abbrev pub stillWaiting : List Thread → List Entry → List Entry
+stillWaiting ts es = entriesExcept (isReady ts) es
+
+-- the entry awaits event e
+abbrev pub isAwaiting : ℕ → Entry → Bool
+isAwaiting e x = elim x [ plain t ↦ false | waiting t u ↦ false | awaiting t d ↦ eqb d e ]

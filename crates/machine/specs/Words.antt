@@ -1,21 +1,24 @@
--- A state as the 4,818 words that a caller lends. A word of unused space is 0.
+-- A state as the 4,834 words that a caller lends. A word of unused space is 0.
 --   0, 1      how many threads and cells there are
 --   2 ..      8 schedulers of 130 words: the active list, 1 + 64, then the next list, 1 + 64
 --   1042 ..   64 threads of 55 words: place, starter, 1 while it lives, the continuation from the
 -- bottom, 1 + 25, then the variables, 1 + 25
---   4562 ..   256 cells, a word each
+--   4562 ..   16 events, 1 where it is present
+--   4578 ..   256 cells, a word each
 -- A list stands as its length, then its members.
 use Rattle.basics.specs.Prelude.{List, [], _∷_, map, reverse, Bool, true, false, not, ℕ, zero, suc}
 use Rattle.basics.specs.Prelude.{_+_, _-_, _*_, _/_, _%_, ltb, eqb, length, getD, if_then_else_}
 use Rattle.language.specs.{Places.home, declared.frame.Frame.Frame}
-use Rattle.program.specs.Trees.{rootS, statementAt}
+use Rattle.program.specs.Trees.{rootS, statementAt, frameAt}
 use Rattle.machine.specs.Offsets.{stateLength, threadCountAt, cellCountAt, schedulersAt}
 use Rattle.machine.specs.Offsets.{schedulerLength, listLength, nextListAt, threadsAt}
 use Rattle.machine.specs.Offsets.{threadLength, placeField, starterField, livesField}
-use Rattle.machine.specs.Offsets.{itemsField, variablesField, cellsAt, backFrom, dropWord}
-use Rattle.machine.specs.Offsets.{waitingFactor, truthFrom, cellFrom, ownerFactor}
+use Rattle.machine.specs.Offsets.{itemsField, variablesField, eventsAt, cellsAt, backFrom}
+use Rattle.machine.specs.Offsets.{dropWord, waitingFactor, awaitingFrom, truthFrom, cellFrom}
+use Rattle.machine.specs.Offsets.{ownerFactor}
 use Rattle.machine.specs.State.{State, Stored, Item, run, back, drop, Thread, Entry, plain}
-use Rattle.machine.specs.State.{waiting, Scheduler, cellAt, usedCells, nth, schedulerAt}
+use Rattle.machine.specs.State.{waiting, awaiting, Scheduler, cellAt, isPresent, usedCells}
+use Rattle.machine.specs.State.{nth, schedulerAt}
 use Rattle.machine.specs.Values.{Value, Number, Truth, Cell}
 
 abbrev pub bit : Bool → ℕ
@@ -41,13 +44,21 @@ wordItem fs w =
     let x = run (statementAt fs w) in
     if ltb w backFrom then x else if ltb w dropWord then back (w - backFrom) else drop
 
--- a thread is itself; one that waits for thread u has 128 u added
+-- a thread is itself; one that waits for thread u has 128 u added, one that awaits event e 16,384
+-- and 128 e
 unfoldable pub entryWord : Entry → ℕ
-entryWord e = elim e [ plain t ↦ t | waiting t u ↦ waitingFactor * u + t ]
+entryWord x =
+    elim x [
+      | plain t ↦ t
+      | waiting t u ↦ waitingFactor * u + t
+      | awaiting t e ↦ awaitingFrom + waitingFactor * e + t
+    ]
 
 unfoldable pub wordEntry : ℕ → Entry
 wordEntry w =
-    if ltb w waitingFactor then plain w else waiting (w % waitingFactor) (w / waitingFactor)
+    if ltb w waitingFactor then plain w else
+    if ltb w awaitingFrom then waiting (w % waitingFactor) (w / waitingFactor) else
+    awaiting (w % waitingFactor) ((w - awaitingFrom) / waitingFactor)
 
 -- the owner 2^34 times, and the content
 unfoldable pub cellWord : Stored → ℕ
@@ -84,9 +95,10 @@ wordOf s i =
     if ltb i threadsAt
     then (let j = i - schedulersAt in
     schedulerWord (schedulerAt s (home + j / schedulerLength)) (j % schedulerLength)) else
-    if ltb i cellsAt
+    if ltb i eventsAt
     then (let j = i - threadsAt in
     threadWord (nth (s .threads) (suc (j / threadLength))) (j % threadLength)) else
+    if ltb i cellsAt then bit (isPresent s (i - eventsAt)) else
     cellWord (cellAt (s .cells) (i - cellsAt))
 
 -- f i, f (i + 1), .. , n of them
@@ -126,4 +138,5 @@ unpack fs n w =
       threads = tabulate (getD w threadCountAt 0) (threadFrom fs w) 0;
       schedulers = tabulate n (schedulerFrom w) 0;
       cells = tabulate (getD w cellCountAt 0) (λ c. wordCell (getD w (cellsAt + c) 0)) 0;
+      present = tabulate (frameAt fs 0 .c) (λ e. eqb (getD w (eventsAt + e) 0) 1) 0;
     }

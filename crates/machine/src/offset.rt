@@ -1,6 +1,7 @@
 // Where each part of a state lies in the lent words, and how parts are told apart in a word.
 // specs/Offsets has the same numbers for the definitions.
 use language::limit::MOST_CELLS;
+use language::limit::MOST_EVENTS;
 use language::limit::MOST_ITEMS;
 use language::limit::MOST_SCHEDULERS;
 use language::limit::MOST_THREADS;
@@ -33,7 +34,10 @@ pub const VARIABLES_FIELD: usize = ITEMS_FIELD + 1 + MOST_ITEMS;
 
 pub const THREAD_LENGTH: usize = VARIABLES_FIELD + 1 + MOST_VARIABLES;
 
-pub const CELLS_AT: usize = THREADS_AT + MOST_THREADS * THREAD_LENGTH;
+// Of each event, 1 while it is present.
+pub const EVENTS_AT: usize = THREADS_AT + MOST_THREADS * THREAD_LENGTH;
+
+pub const CELLS_AT: usize = EVENTS_AT + MOST_EVENTS as usize;
 
 pub const STATE_LENGTH: usize = CELLS_AT + MOST_CELLS;
 
@@ -41,8 +45,11 @@ pub const STATE_LENGTH: usize = CELLS_AT + MOST_CELLS;
 pub const BACK_FROM: u64 = 1024;
 
 pub const DROP_WORD: u64 = 2048;
-// An entry of a next list: a thread; one that waits for thread u has this many times u added.
+// An entry of a next list: a thread; one that waits for thread u has this many times u added; from
+// AWAITING_FROM on one that awaits event e, with as many times e added.
 pub const WAITING_FACTOR: u64 = 128;
+
+pub const AWAITING_FROM: u64 = WAITING_FACTOR * WAITING_FACTOR;
 // A value: a number is itself; then a truth; then a cell.
 pub const TRUTH_FROM: u64 = 0x0001_0000_0000;
 

@@ -11,7 +11,8 @@ use Rattle.language.specs.Kinds.{Child, children, childIn, uses}
 use Rattle.language.specs.declared.kind.StatementKind.{StatementKind}
 use Rattle.language.specs.declared.kind.StatementKind.the-variants.{Nothing, Then, DoAt, Start}
 use Rattle.language.specs.declared.kind.StatementKind.the-variants.{StartWait, Cooperate, Let}
-use Rattle.language.specs.declared.kind.StatementKind.the-variants.{Store, If, While}
+use Rattle.language.specs.declared.kind.StatementKind.the-variants.{Store, If, While, Generate}
+use Rattle.language.specs.declared.kind.StatementKind.the-variants.{Await}
 use Rattle.language.specs.declared.kind.ExpressionKind.{ExpressionKind}
 use Rattle.language.specs.declared.kind.ExpressionKind.the-variants.{Number, Truth, Variable}
 use Rattle.language.specs.declared.kind.ExpressionKind.the-variants.{SharedCell, NewCell, Content}
@@ -122,6 +123,8 @@ statement-with-agrees x g h n i f b e k q = go k (below-as n f _ q b)
     go If (All.more y (All.more z (All.more w _))) =
         ap₂ (Stmt.ifElse i (x (f .a))) (e (f .b) z) (e (f .c) w)
     go While (All.more y (All.more z _)) = ap (Stmt.while i (x (f .a))) (e (f .b) z)
+    go Generate y = refl
+    go Await y = refl
 
 statement-of-agrees : (x : ℕ → Expr) (g h : ℕ → Stmt) (n i : ℕ) (f : Frame) → Below n f
     → ((j : ℕ) → j < n → g j ≡ h j) → (k : Kind) → f .kind ≡ k

@@ -6,8 +6,6 @@ use native.Mathlib.Omega.{arith}
 use lib.ListN.{length, getD, take, drop}
 use lib.Seq.{take-suc, drop-cons}
 use Rattle.language.specs.Kinds.{statementUses, expressionUses, uses, Child, childIn, children}
-use Rattle.language.specs.declared.kind.DeclarationKind.{DeclarationKind}
-use Rattle.language.specs.declared.kind.DeclarationKind.the-variants.{Shared}
 use Rattle.language.specs.declared.kind.StatementKind.{StatementKind}
 use Rattle.language.specs.declared.kind.ExpressionKind.{ExpressionKind}
 use Rattle.language.specs.declared.kind.Kind.{Kind}
@@ -92,11 +90,6 @@ module _ (f : Frame) (r : Children) where
 
   pub kind-children : (k : Kind) → f .kind ≡ k → r ≡ childrenBy (uses k) f → r ≡ childrenOf f
   kind-children k e h = h ∙ ap (λ (w : Kind). childrenBy (uses w) f) (sym e)
-
-  -- there is one kind of declaration, so its match asks nothing
-  pub shared-children : (d : DeclarationKind) → f .kind ≡ Declared d → r ≡ Nothing
-      → r ≡ childrenOf f
-  shared-children Shared e h = kind-children (Declared Shared) e h
 
 -- a field names at most one child, so a frame has at most three
 data Few : List Child → Type 0 where

@@ -11,5 +11,6 @@ pub mod NodeTrees
 -- Modules by number, main's body, the shared cells counted, their types.
 pub mod MainLaws
 pub mod ModuleLaws
+pub mod EventLaws
 pub mod SharedLaws
 pub mod SharedTypeLaws

@@ -5,7 +5,7 @@ use mathlib.Core.Bool.{true, false, true≢false}
 use Prim.Native.Nat.{ℕ}
 use Rattle.language.specs.Kinds.{isShared, isModule}
 use Rattle.language.specs.declared.kind.Kind.{Kind}
-use Rattle.language.specs.declared.kind.DeclarationKind.the-variants.{Shared}
+use Rattle.language.specs.declared.kind.DeclarationKind.the-variants.{Shared, Event}
 use Rattle.language.specs.declared.kind.Kind.the-variants.{Header, Declared, Module, Statement}
 use Rattle.language.specs.declared.kind.Kind.the-variants.{Expression, Unknown}
 use Rattle.language.specs.declared.frame.Frame.{Frame}
@@ -17,6 +17,7 @@ use Rattle.program.specs.inner.Modules.{withPart}
 -- the cell that a frame of the kind k is, if it is one
 abbrev pub cellIn : Frame → Kind → List SharedCell
 cellIn f (Declared Shared) = cellOf f ∷ []
+cellIn f (Declared Event) = []
 cellIn f Header = []
 cellIn f Module = []
 cellIn f (Statement k) = []
@@ -32,6 +33,7 @@ shared-more f fs = go (f .kind)
         → sharedOf (record { kind = k; s = f .s; a = f .a; b = f .b; c = f .c } ∷ fs)
         ≡ cellIn f k ++ sharedOf fs
     go (Declared Shared) = refl
+    go (Declared Event) = refl
     go Header = refl
     go Module = refl
     go (Statement k) = refl
@@ -40,6 +42,7 @@ shared-more f fs = go (f .kind)
 
 cell-none : (f : Frame) (k : Kind) → isShared k ≡ false → cellIn f k ≡ []
 cell-none f (Declared Shared) e = absurd (true≢false e)
+cell-none f (Declared Event) e = refl
 cell-none f Header e = refl
 cell-none f Module e = refl
 cell-none f (Statement k) e = refl
@@ -48,6 +51,7 @@ cell-none f Unknown e = refl
 
 cell-one : (f : Frame) (k : Kind) → isShared k ≡ true → cellIn f k ≡ cellOf f ∷ []
 cell-one f (Declared Shared) e = refl
+cell-one f (Declared Event) e = absurd (true≢false (sym e))
 cell-one f Header e = absurd (true≢false (sym e))
 cell-one f Module e = absurd (true≢false (sym e))
 cell-one f (Statement k) e = absurd (true≢false (sym e))

@@ -4,7 +4,8 @@ use mathlib.Core.List.{List}
 use Prim.Native.Nat.{ℕ, zero, suc}
 use Rattle.language.specs.declared.kind.StatementKind.the-variants.{Nothing, Then, DoAt, Start}
 use Rattle.language.specs.declared.kind.StatementKind.the-variants.{StartWait, Cooperate, Let}
-use Rattle.language.specs.declared.kind.StatementKind.the-variants.{Store, If, While}
+use Rattle.language.specs.declared.kind.StatementKind.the-variants.{Store, If, While, Generate}
+use Rattle.language.specs.declared.kind.StatementKind.the-variants.{Await}
 use Rattle.language.specs.declared.kind.ExpressionKind.the-variants.{Number, Truth, Variable}
 use Rattle.language.specs.declared.kind.ExpressionKind.the-variants.{SharedCell, NewCell, Content}
 use Rattle.language.specs.declared.kind.ExpressionKind.the-variants.{Sum, Less, Choose}
@@ -61,6 +62,8 @@ statement-root-of expr rec i f (Statement Let) = refl
 statement-root-of expr rec i f (Statement Store) = refl
 statement-root-of expr rec i f (Statement If) = refl
 statement-root-of expr rec i f (Statement While) = refl
+statement-root-of expr rec i f (Statement Generate) = refl
+statement-root-of expr rec i f (Statement Await) = refl
 
 pub statement-root-to : (n : ℕ) (fs : List Frame) (i : ℕ) → rootS (statementTo n fs i) ≡ i
 unfolding statementTo

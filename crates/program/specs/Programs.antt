@@ -1,7 +1,7 @@
--- A file as a program: its header, its shared cells, its modules.
+-- A file as a program: its header, its shared cells, its events, its modules.
 use Rattle.basics.specs.Prelude.{List, [], _∷_, map, ℕ, suc, _-_, eqb, length, getD, take}
 use Rattle.basics.specs.Prelude.{if_then_else_, keepIf}
-use Rattle.language.specs.{Types.cellType, Kinds.isShared, Kinds.isModule}
+use Rattle.language.specs.{Types.cellType, Kinds.isShared, Kinds.isEvent, Kinds.isModule}
 use Rattle.language.specs.{declared.frame.Frame.Frame, Limits.defaultAllowance}
 use Rattle.program.specs.Trees.{Stmt, nothing, frameAt, statementAt}
 
@@ -17,11 +17,13 @@ pub record Part : Type 0 where
   pub types : List ℕ
   pub body : Stmt
 
--- 'A step allowance .., B schedulers', 'Modules and shared cells count from 0.'
+-- 'A step allowance .., B schedulers', 'Modules and shared cells count from 0.' 02, change 5:
+-- 'Events count from 0. K 03 declares an event with owner S': of each event, its owner
 pub record Program : Type 0 where
   pub allowance : ℕ
   pub schedulers : ℕ
   pub shared : List SharedCell
+  pub events : List ℕ
   pub modules : List Part
 
 -- the type of a shared cell: a cell of its owner around its content type
@@ -40,6 +42,11 @@ sharedOf (f ∷ fs) = keepIf (isShared (f .kind)) (cellOf f) (sharedOf fs)
 -- and their types
 abbrev pub cellsOf : List Frame → List ℕ
 cellsOf fs = map typeOfShared (sharedOf fs)
+
+-- the owners of the events among those frames
+unfoldable pub eventsOf : List Frame → List ℕ
+eventsOf [] = []
+eventsOf (f ∷ fs) = keepIf (isEvent (f .kind)) (f .s) (eventsOf fs)
 
 abbrev pub partOf : List Frame → ℕ → Frame → Part
 partOf fs i f =
@@ -61,12 +68,17 @@ programOf fs =
       allowance = allowanceOf (frameAt fs 0 .a);
       schedulers = frameAt fs 0 .b;
       shared = sharedOf fs;
+      events = eventsOf fs;
       modules = modulesFrom fs 0 fs;
     }
 
 -- the types of a program's shared cells
 abbrev pub cells : Program → List ℕ
 cells p = map typeOfShared (p .shared)
+
+-- whose event e is
+abbrev pub ownerOfEvent : Program → ℕ → ℕ
+ownerOfEvent p e = getD (p .events) e 0
 
 abbrev pub noModule : Part
 noModule = record { frame = 0; types = []; body = nothing 0 }

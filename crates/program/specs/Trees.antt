@@ -4,7 +4,7 @@ use Rattle.basics.specs.Prelude.{List, [], _∷_, ℕ, zero, suc, getD}
 use Rattle.language.specs.declared.frame.Frame.{Frame}
 use kind.{StatementKind.StatementKind, ExpressionKind.ExpressionKind, Kind.Kind}
 use kind.StatementKind.the-variants.{Nothing, Then, DoAt, Start, StartWait, Cooperate, Let, Store}
-use kind.StatementKind.the-variants.{If, While}
+use kind.StatementKind.the-variants.{If, While, Generate, Await}
 use kind.ExpressionKind.the-variants.{Number, Truth, Variable, SharedCell, NewCell, Content, Sum}
 use kind.ExpressionKind.the-variants.{Less, Choose}
 use kind.Kind.the-variants.{Header, Declared, Module, Statement, Expression, Unknown}
@@ -19,7 +19,8 @@ pub data Expr : Type 0 where
   sum less : ℕ → Expr → Expr → Expr
   choose : ℕ → Expr → Expr → Expr → Expr
 
--- K 10 to 19. The second number of doAt is the place, of start and startWait the module
+-- K 10 to 1B. The second number of doAt is the place, of start and startWait the module, of
+-- generate and await the event
 pub data Stmt : Type 0 where
   nothing cooperate : ℕ → Stmt
   seq : ℕ → Stmt → Stmt → Stmt
@@ -29,6 +30,7 @@ pub data Stmt : Type 0 where
   store : ℕ → Expr → Expr → Stmt
   ifElse : ℕ → Expr → Stmt → Stmt → Stmt
   while : ℕ → Expr → Stmt → Stmt
+  generate await : ℕ → ℕ → Stmt
 
 -- the root's frame
 abbrev pub rootE : Expr → ℕ
@@ -53,6 +55,8 @@ rootS (letIn i x p) = i
 rootS (store i x y) = i
 rootS (ifElse i x p q) = i
 rootS (while i x p) = i
+rootS (generate i s) = i
+rootS (await i s) = i
 
 -- ---- from frames to trees. After refusals 1 to 7 every child is of its class and below its parent
 -- (elsewhere a wrong one reads as number 0 or as nothing)
@@ -111,6 +115,8 @@ statementWith expr rec i f Let = letIn i (expr (f .a)) (rec (f .b))
 statementWith expr rec i f Store = store i (expr (f .a)) (expr (f .b))
 statementWith expr rec i f If = ifElse i (expr (f .a)) (rec (f .b)) (rec (f .c))
 statementWith expr rec i f While = while i (expr (f .a)) (rec (f .b))
+statementWith expr rec i f Generate = generate i (f .s)
+statementWith expr rec i f Await = await i (f .s)
 
 abbrev pub statementOf : (ℕ → Expr) → (ℕ → Stmt) → ℕ → Frame → Kind → Stmt
 statementOf expr rec i f (Statement k) = statementWith expr rec i f k

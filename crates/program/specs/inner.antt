@@ -1,6 +1,7 @@
 pub mod Nodes
 pub mod Ordered
 pub mod Modules
+pub mod Events
 pub mod Shared
 pub mod Children
 pub mod Sizes

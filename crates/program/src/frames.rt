@@ -101,6 +101,8 @@ fn statement_children(k: StatementKind, f: Frame) -> Children
             f.c,
         ),
         StatementKind::While => Children::Two(Class::Expression, f.a, Class::Statement, f.b),
+        StatementKind::Generate => Children::Nothing,
+        StatementKind::Await => Children::Nothing,
     }
 }
 
@@ -136,6 +138,7 @@ pub fn children_of(f: Frame) -> Children
         Kind::Header => Children::Nothing,
         Kind::Declared(d) => match d {
             DeclarationKind::Shared => Children::Nothing,
+            DeclarationKind::Event => Children::Nothing,
         },
         Kind::Module => Children::One(Class::Statement, f.a),
         Kind::Statement(k) => statement_children(k, f),

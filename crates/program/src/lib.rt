@@ -1,4 +1,5 @@
 // Programs: the trees of statements and expressions that frames are, and frames taken apart.
+pub mod event;
 pub mod frames;
 pub mod module;
 pub mod node;

@@ -57,6 +57,8 @@ pub enum StatementNode {
     Store(u16, u16),
     IfElse(u16, u16, u16),
     While(u16, u16),
+    Generate(u8),
+    Await(u8),
 }
 
 fn expression_of(k: ExpressionKind, s: u8, a: u16, b: u16, c: u16) -> ExpressionNode
@@ -110,6 +112,8 @@ fn statement_of(k: StatementKind, s: u8, a: u16, b: u16, c: u16) -> StatementNod
         StatementKind::Store => StatementNode::Store(a, b),
         StatementKind::If => StatementNode::IfElse(a, b, c),
         StatementKind::While => StatementNode::While(a, b),
+        StatementKind::Generate => StatementNode::Generate(s),
+        StatementKind::Await => StatementNode::Await(s),
     }
 }
 

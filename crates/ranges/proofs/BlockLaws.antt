@@ -10,9 +10,10 @@ use lib.ListN.{getD, length}
 use lib.Dec.{ltb}
 use borrow.Author.Tests.{lt-ltb, le-ltb, le-leb, leb-true, ltb-true, ltb-false, eq-eqb, eqb-true}
 use borrow.Author.Tests.{not-true, not-false}
-use Rattle.basics.proofs.Ifs.{if-yes, if-no, yes, no}
+use Rattle.basics.proofs.Ifs.{if-all, if-yes, if-no, yes, no}
 use Rattle.language.specs.Places.{hasPlace}
 use Rattle.language.specs.declared.frame.Frame.{Frame}
+use Rattle.program.specs.Trees.{frameAt}
 use Rattle.machine.specs.inner.Ranges.{threadInRange, valueInRange, itemInRange, entryInRange}
 use Rattle.machine.specs.inner.Ranges.{cellInRange, listInRange, schedulerInRange}
 use Rattle.machine.specs.inner.Ranges.{threadWordInRange, allBelow, inRange}
@@ -20,6 +21,7 @@ use Rattle.machine.proofs.Ranges.{below-each, all-below, InRange, in-range, ran
 use Rattle.machine.proofs.Ranges.{space-of, of-space, range-place, range-starter, range-lives}
 use Rattle.machine.proofs.Ranges.{range-items, range-variables, range-active, range-next}
 use Rattle.ranges.specs.inner.Passes.{isZero, wordPasses, schedulerBlock, threadBlock}
+use Rattle.ranges.specs.inner.Passes.{eventInRange, eventPasses}
 use Rattle.machine.proofs.AllBelow.{cannot, same-test}
 use Rattle.machine.proofs.BlockParts.{scheduler-parts, thread-parts}
 
@@ -100,30 +102,40 @@ module _ (test : ℕ → Bool) (most : ℕ) (w : List ℕ) (i : ℕ) where
 pub ruleset list-laws = (list-over, list-wrong, list-rest)
 
 -- ---- a scheduler
-module _ (w : List ℕ) (i : ℕ) where
+module _ (m : ℕ) (w : List ℕ) (i : ℕ) where
   pub scheduler-wrong : (t : Bool) → t ≡ allBelow 65 (listInRange threadInRange 64 w i)
-      → not t ≡ true → false ≡ allBelow 130 (schedulerInRange w i)
-  scheduler-wrong t e f = cannot _ (λ q. clash t f (e ∙ all-below 65 (listInRange threadInRange 64 w i) (λ j g. sym (range-active w i j g) ∙ below-each 130 (schedulerInRange w i) q j (omega arith))))
+      → not t ≡ true → false ≡ allBelow 130 (schedulerInRange m w i)
+  scheduler-wrong t e f = cannot _ (λ q. clash t f
+      (e ∙ all-below 65 (listInRange threadInRange 64 w i)
+      (λ j g. sym (range-active m w i j g)
+      ∙ below-each 130 (schedulerInRange m w i) q j (omega arith))))
 
   pub scheduler-rest : (t r : Bool) → t ≡ allBelow 65 (listInRange threadInRange 64 w i)
-      → not t ≡ false → r ≡ allBelow 65 (listInRange entryInRange 64 w (i + 65))
-      → r ≡ allBelow 130 (schedulerInRange w i)
+      → not t ≡ false → r ≡ allBelow 65 (listInRange (entryInRange m) 64 w (i + 65))
+      → r ≡ allBelow 130 (schedulerInRange m w i)
   scheduler-rest t r e f g = g ∙ same-test _ _
-      (λ q. all-below 130 (schedulerInRange w i) (scheduler-parts (λ j. schedulerInRange w i j ≡ true)
-      (λ j l. range-active w i j l ∙ below-each 65 (listInRange threadInRange 64 w i) (sym e ∙ not-false t f) j l) (λ j l. range-next w i j l ∙ below-each 65 (listInRange entryInRange 64 w (i + 65)) q j l)))
-      (λ q. all-below 65 (listInRange entryInRange 64 w (i + 65)) (λ j h. sym (range-next w i j h) ∙ below-each 130 (schedulerInRange w i) q (65 + j) (omega arith)))
+      (λ q. all-below 130 (schedulerInRange m w i)
+      (scheduler-parts (λ j. schedulerInRange m w i j ≡ true)
+      (λ j l. range-active m w i j l
+      ∙ below-each 65 (listInRange threadInRange 64 w i) (sym e ∙ not-false t f) j l)
+      (λ j l. range-next m w i j l
+      ∙ below-each 65 (listInRange (entryInRange m) 64 w (i + 65)) q j l)))
+      (λ q. all-below 65 (listInRange (entryInRange m) 64 w (i + 65))
+      (λ j h. sym (range-next m w i j h)
+      ∙ below-each 130 (schedulerInRange m w i) q (65 + j) (omega arith)))
 
 pub ruleset scheduler-laws = (scheduler-wrong, scheduler-rest)
 
-pub scheduler-there : (n k : ℕ) (w : List ℕ) (r : Bool) → k < n
-    → r ≡ allBelow 130 (schedulerInRange w (2 + 130 * k)) → r ≡ schedulerBlock n w k
+pub scheduler-there : (fs : List Frame) (n k : ℕ) (w : List ℕ) (r : Bool) → k < n
+    → r ≡ allBelow 130 (schedulerInRange (frameAt fs 0 .c) w (2 + 130 * k))
+    → r ≡ schedulerBlock fs n w k
 unfolding schedulerBlock
-scheduler-there n k w r h e = yes _ (lt-ltb k n h) e
+scheduler-there fs n k w r h e = yes _ (lt-ltb k n h) e
 
-pub scheduler-none : (n k : ℕ) (w : List ℕ) (r : Bool) → n ≤ k
-    → r ≡ allBelow 130 (wordPasses isZero w (2 + 130 * k)) → r ≡ schedulerBlock n w k
+pub scheduler-none : (fs : List Frame) (n k : ℕ) (w : List ℕ) (r : Bool) → n ≤ k
+    → r ≡ allBelow 130 (wordPasses isZero w (2 + 130 * k)) → r ≡ schedulerBlock fs n w k
 unfolding schedulerBlock
-scheduler-none n k w r h e = no _ (le-ltb k n h) e
+scheduler-none fs n k w r h e = no _ (le-ltb k n h) e
 
 pub ruleset scheduler-block-laws = (scheduler-there, scheduler-none)
 
@@ -177,14 +189,14 @@ pub ruleset thread-block-laws = (thread-there, thread-none)
 
 -- ---- the whole
 module _ (fs : List Frame) (n : ℕ) (w : List ℕ) where
-  scheduler-blocks : InRange fs n w → allBelow 8 (schedulerBlock n w) ≡ true
+  scheduler-blocks : InRange fs n w → allBelow 8 (schedulerBlock fs n w) ≡ true
   unfolding schedulerBlock
-  scheduler-blocks h = all-below 8 (schedulerBlock n w) (λ k g. by k g (ltb k n) refl)
+  scheduler-blocks h = all-below 8 (schedulerBlock fs n w) (λ k g. by k g (ltb k n) refl)
     where
-      by : (k : ℕ) → k < 8 → (b : Bool) → ltb k n ≡ b → schedulerBlock n w k ≡ true
+      by : (k : ℕ) → k < 8 → (b : Bool) → ltb k n ≡ b → schedulerBlock fs n w k ≡ true
       by k g true e =
           if-yes _ _ e
-          ∙ all-below 130 (schedulerInRange w (2 + 130 * k))
+          ∙ all-below 130 (schedulerInRange (frameAt fs 0 .c) w (2 + 130 * k))
           (λ j l. h .scheduler k j g l (ltb-true k n e))
       by k g false e =
           if-no _ _ e
@@ -203,7 +215,15 @@ module _ (fs : List Frame) (n : ℕ) (w : List ℕ) where
           if-no _ _ e
           ∙ at-zero w (1042 + 55 * k) 55 (λ j l. h .no-thread k j g l (ltb-false k (getD w 0 0) e))
 
-  pub whole-length : (length w ≡ 4818 → ⊥) → false ≡ inRange fs n w
+  event-words : InRange fs n w → allBelow 16 (eventPasses fs w) ≡ true
+  unfolding eventPasses eventInRange
+  event-words h =
+      all-below 16 (eventPasses fs w)
+      (λ e g. if-all (λ (b : Bool). b ≡ true) (ltb e (frameAt fs 0 .c)) _ _
+      (λ q. le-leb _ 1 (h .event e g (ltb-true e (frameAt fs 0 .c) q)))
+      (λ q. eq-eqb _ 0 (h .no-event e g (ltb-false e (frameAt fs 0 .c) q))))
+
+  pub whole-length : (length w ≡ 4834 → ⊥) → false ≡ inRange fs n w
   whole-length h = cannot _ (λ q. h (in-range fs n w q .all))
 
   pub whole-threads : 64 < getD w 0 0 → false ≡ inRange fs n w
@@ -212,7 +232,7 @@ module _ (fs : List Frame) (n : ℕ) (w : List ℕ) where
   pub whole-cells : 256 < getD w 1 0 → false ≡ inRange fs n w
   whole-cells h = cannot _ (λ q. let l = in-range fs n w q .cells-room in omega arith)
 
-  pub whole-scheduler : (t : Bool) → t ≡ allBelow 8 (schedulerBlock n w) → not t ≡ true
+  pub whole-scheduler : (t : Bool) → t ≡ allBelow 8 (schedulerBlock fs n w) → not t ≡ true
       → false ≡ inRange fs n w
   whole-scheduler t e f = cannot _ (λ q. clash t f (e ∙ scheduler-blocks (in-range fs n w q)))
 
@@ -220,40 +240,67 @@ module _ (fs : List Frame) (n : ℕ) (w : List ℕ) where
       → false ≡ inRange fs n w
   whole-thread t e f = cannot _ (λ q. clash t f (e ∙ thread-blocks (in-range fs n w q)))
 
-  pub whole-cell : (t : Bool) → t ≡ allBelow (getD w 1 0) (wordPasses (cellInRange n) w 4562)
-      → not t ≡ true → false ≡ inRange fs n w
-  whole-cell t e f = cannot _ (λ q. clash t f (e ∙ at-pass (cellInRange n) w 4562 (getD w 1 0) (in-range fs n w q .cell)))
+  pub whole-event : (t : Bool) → t ≡ allBelow 16 (eventPasses fs w) → not t ≡ true
+      → false ≡ inRange fs n w
+  whole-event t e f = cannot _ (λ q. clash t f (e ∙ event-words (in-range fs n w q)))
 
-  pub whole-rest : (t u v r : Bool) → length w ≡ 4818 → getD w 0 0 ≤ 64 → getD w 1 0 ≤ 256
-      → t ≡ allBelow 8 (schedulerBlock n w) → not t ≡ false
+  pub whole-cell : (t : Bool) → t ≡ allBelow (getD w 1 0) (wordPasses (cellInRange n) w 4578)
+      → not t ≡ true → false ≡ inRange fs n w
+  whole-cell t e f = cannot _ (λ q. clash t f
+      (e ∙ at-pass (cellInRange n) w 4578 (getD w 1 0) (in-range fs n w q .cell)))
+
+  pub whole-rest : (t u e v r : Bool) → length w ≡ 4834 → getD w 0 0 ≤ 64 → getD w 1 0 ≤ 256
+      → t ≡ allBelow 8 (schedulerBlock fs n w) → not t ≡ false
       → u ≡ allBelow 64 (threadBlock fs n w) → not u ≡ false
-      → v ≡ allBelow (getD w 1 0) (wordPasses (cellInRange n) w 4562) → not v ≡ false
-      → r ≡ allBelow (256 - getD w 1 0) (wordPasses isZero w (4562 + getD w 1 0))
+      → e ≡ allBelow 16 (eventPasses fs w) → not e ≡ false
+      → v ≡ allBelow (getD w 1 0) (wordPasses (cellInRange n) w 4578) → not v ≡ false
+      → r ≡ allBelow (256 - getD w 1 0) (wordPasses isZero w (4578 + getD w 1 0))
       → r ≡ inRange fs n w
-  unfolding schedulerBlock threadBlock
-  whole-rest t u v r a b c dt ft du fu dv fv dr = dr ∙ same-test _ _ there
-      (λ q. at-zero w (4562 + getD w 1 0) (256 - getD w 1 0) (λ j g. let z : 4562 + getD w 1 0 + j ≡ 4562 + (getD w 1 0 + j) = omega arith in
-      ap (λ (k : ℕ). getD w k 0) z ∙ in-range fs n w q .no-cell (getD w 1 0 + j) (omega arith) (omega arith)))
+  unfolding schedulerBlock threadBlock eventPasses eventInRange
+  whole-rest t u e v r a b c dt ft du fu de fe dv fv dr = dr ∙ same-test _ _ there
+      (λ q. at-zero w (4578 + getD w 1 0) (256 - getD w 1 0)
+      (λ j g. let z : 4578 + getD w 1 0 + j ≡ 4578 + (getD w 1 0 + j) = omega arith in
+      ap (λ (k : ℕ). getD w k 0) z
+      ∙ in-range fs n w q .no-cell (getD w 1 0 + j) (omega arith) (omega arith)))
     where
-      scheduler-passes : (k : ℕ) → k < 8 → schedulerBlock n w k ≡ true
-      scheduler-passes = below-each 8 (schedulerBlock n w) (sym dt ∙ not-false t ft)
+      scheduler-passes : (k : ℕ) → k < 8 → schedulerBlock fs n w k ≡ true
+      scheduler-passes = below-each 8 (schedulerBlock fs n w) (sym dt ∙ not-false t ft)
 
       thread-passes : (k : ℕ) → k < 64 → threadBlock fs n w k ≡ true
       thread-passes = below-each 64 (threadBlock fs n w) (sym du ∙ not-false u fu)
 
-      there : allBelow (256 - getD w 1 0) (wordPasses isZero w (4562 + getD w 1 0)) ≡ true
+      event-passes : (k : ℕ) → k < 16 → eventPasses fs w k ≡ true
+      event-passes = below-each 16 (eventPasses fs w) (sym de ∙ not-false e fe)
+
+      there : allBelow (256 - getD w 1 0) (wordPasses isZero w (4578 + getD w 1 0)) ≡ true
           → inRange fs n w ≡ true
       there q = range-in fs n w (record {
         all = a;
         threads-room = b;
         cells-room = c;
-        scheduler = λ k j f g h. below-each 130 (schedulerInRange w (2 + 130 * k)) (sym (if-yes _ _ (lt-ltb k n h)) ∙ scheduler-passes k f) j g;
+        scheduler = λ k j f g h. below-each 130
+            (schedulerInRange (frameAt fs 0 .c) w (2 + 130 * k))
+            (sym (if-yes _ _ (lt-ltb k n h)) ∙ scheduler-passes k f) j g;
         no-scheduler = λ k j f g h. zero-at w (2 + 130 * k) 130 (sym (if-no _ _ (le-ltb k n h)) ∙ scheduler-passes k f) j g;
         thread = λ k j g h. below-each 55 (threadWordInRange fs n w (1042 + 55 * k)) (sym (if-yes _ _ (lt-ltb k (getD w 0 0) h)) ∙ thread-passes k (omega arith)) j g;
         no-thread = λ k j f g h. zero-at w (1042 + 55 * k) 55 (sym (if-no _ _ (le-ltb k (getD w 0 0) h)) ∙ thread-passes k f) j g;
-        cell = λ k h. pass-at (cellInRange n) w 4562 (getD w 1 0) (sym dv ∙ not-false v fv) k h;
-        no-cell = λ k f h. let z : 4562 + k ≡ 4562 + getD w 1 0 + (k - getD w 1 0) = omega arith in
-            ap (λ (m : ℕ). getD w m 0) z ∙ zero-at w (4562 + getD w 1 0) (256 - getD w 1 0) q (k - getD w 1 0) (omega arith);
+        event = λ k f h. leb-true _ 1
+            (sym (if-yes _ _ (lt-ltb k (frameAt fs 0 .c) h)) ∙ event-passes k f);
+        no-event = λ k f h. eqb-true _ 0
+            (sym (if-no _ _ (le-ltb k (frameAt fs 0 .c) h)) ∙ event-passes k f);
+        cell = λ k h. pass-at (cellInRange n) w 4578 (getD w 1 0) (sym dv ∙ not-false v fv) k h;
+        no-cell = λ k f h. let z : 4578 + k ≡ 4578 + getD w 1 0 + (k - getD w 1 0) = omega arith in
+            ap (λ (m : ℕ). getD w m 0) z
+            ∙ zero-at w (4578 + getD w 1 0) (256 - getD w 1 0) q (k - getD w 1 0) (omega arith);
       })
 
-pub ruleset whole-laws = (whole-length, whole-threads, whole-cells, whole-scheduler, whole-thread, whole-cell, whole-rest)
+pub ruleset whole-laws = (
+  whole-length,
+  whole-threads,
+  whole-cells,
+  whole-scheduler,
+  whole-thread,
+  whole-event,
+  whole-cell,
+  whole-rest,
+)

@@ -8,9 +8,9 @@ use native.Mathlib.Omega.{arith}
 use native.Mathlib.Numerals.{add-one}
 use lib.Bits.{bitAnd, bitOr, or-add-and, and-le-l, and-le-r}
 use lib.ListN.{getD, length, List·getD-eq-default}
-use lib.Dec.{leb, eqb}
+use lib.Dec.{ltb, leb, eqb}
 use borrow.Author.Tests.{lt-ltb, le-ltb, le-leb, lt-leb, eq-eqb, eqb-true, not-true, not-false}
-use Rattle.basics.proofs.Ifs.{yes, no, leb-same, and-true}
+use Rattle.basics.proofs.Ifs.{yes, no, if-all, leb-same, and-true}
 use Rattle.language.specs.Places.{hasPlace, hasScheduler}
 use Rattle.language.specs.declared.kind.Kind.{Kind}
 use Rattle.language.specs.declared.frame.Frame.{Frame}
@@ -20,7 +20,8 @@ use Rattle.program.specs.Trees.{frameAt, noFrame}
 use Rattle.machine.specs.inner.Ranges.{threadInRange, valueInRange, itemInRange, entryInRange}
 use Rattle.machine.specs.inner.Ranges.{cellInRange, allBelow}
 use Rattle.machine.specs.Shapes.{isStatement, ownerInRange}
-use Rattle.ranges.specs.inner.Passes.{isZero, memberInRange, wordPasses}
+use Rattle.ranges.specs.inner.Passes.{isZero, memberInRange, wordPasses, eventInRange}
+use Rattle.ranges.specs.inner.Passes.{eventPasses}
 use Rattle.ranges.specs.declared.range.Member.{Member}
 use Rattle.machine.proofs.Tests.{and-both}
 use Rattle.machine.proofs.AllBelow.{same-test, answer-more, answer-wrong}
@@ -79,22 +80,44 @@ item-drop fs n w a h = no _ (le-ltb _ _ a) (no _ (le-ltb _ _ h) refl)
 
 pub ruleset item-laws = (item-statement, item-back, item-drop)
 
+-- ---- the header's count of events
+pub no-header : (words : List ℕ) → length words ≡ 0 → 0 ≡ frameAt (framesOf words) 0 .c
+no-header words h =
+    ap (λ (f : Frame). f .c)
+    (sym (List·getD-eq-default (framesOf words) noFrame {n = 0}
+    (rw (frames-length words, h) (omega arith))))
+
+pub header-count : (words : List ℕ) (f : Frame) → (length words ≡ 0 → ⊥)
+    → f ≡ frameOfWord (getD words 0 0) → f .c ≡ frameAt (framesOf words) 0 .c
+header-count words f h e =
+    ap (λ (g : Frame). g .c) (e ∙ sym (frame-at words 0 noFrame (omega (arith, h))))
+
+pub ruleset header-laws = (no-header, header-count)
+
 -- ---- entries, owners, cells
-pub entry-plain : (w : ℕ) (r : Bool) → w < 128 → r ≡ threadInRange w → r ≡ entryInRange w
+pub entry-plain : (m w : ℕ) (r : Bool) → w < 128 → r ≡ threadInRange w → r ≡ entryInRange m w
 unfolding entryInRange
-entry-plain w r h e = yes _ (lt-ltb _ _ h) e
+entry-plain m w r h e = yes _ (lt-ltb _ _ h) e
 
-pub entry-wrong : (w : ℕ) (t : Bool) → 128 ≤ w → t ≡ threadInRange (w % 128) → not t ≡ true
-    → false ≡ entryInRange w
+pub entry-wrong : (m w : ℕ) (t : Bool) → 128 ≤ w → t ≡ threadInRange (w % 128) → not t ≡ true
+    → false ≡ entryInRange m w
 unfolding entryInRange
-entry-wrong w t h e f = no _ (le-ltb _ _ h) (rw (sym e ∙ not-true t f))
+entry-wrong m w t h e f = no _ (le-ltb _ _ h) (if-all (λ (b : Bool). false ≡ b) (ltb w 16384) _ _
+    (λ q. rw (sym e ∙ not-true t f)) (λ q. rw (sym e ∙ not-true t f)))
 
-pub entry-waiting : (w : ℕ) (t r : Bool) → 128 ≤ w → t ≡ threadInRange (w % 128) → not t ≡ false
-    → r ≡ threadInRange (w / 128) → r ≡ entryInRange w
+pub entry-waiting : (m w : ℕ) (t r : Bool) → 128 ≤ w → t ≡ threadInRange (w % 128) → not t ≡ false
+    → w < 16384 → r ≡ threadInRange (w / 128) → r ≡ entryInRange m w
 unfolding entryInRange
-entry-waiting w t r h e f g = no _ (le-ltb _ _ h) (rw (sym e ∙ not-false t f) g)
+entry-waiting m w t r h e f l g =
+    no _ (le-ltb _ _ h) (yes _ (lt-ltb _ _ l) (rw (sym e ∙ not-false t f) g))
 
-pub ruleset entry-laws = (entry-plain, entry-wrong, entry-waiting)
+pub entry-awaiting : (m w : ℕ) (t : Bool) → 128 ≤ w → t ≡ threadInRange (w % 128) → not t ≡ false
+    → 16384 ≤ w → ltb ((w - 16384) / 128) m ≡ entryInRange m w
+unfolding entryInRange
+entry-awaiting m w t h e f l =
+    no _ (le-ltb _ _ h) (no _ (le-ltb _ _ l) (rw (sym e ∙ not-false t f)))
+
+pub ruleset entry-laws = (entry-plain, entry-wrong, entry-waiting, entry-awaiting)
 
 pub owner-scheduler : (n o : ℕ) (t : Bool) → t ≡ hasScheduler n o → t ≡ true
     → true ≡ ownerInRange n o
@@ -127,6 +150,17 @@ unfolding cellInRange
 cell-rest n w t r e h g = rw (sym e ∙ not-false t h) g
 
 pub ruleset cell-laws = (cell-unowned, cell-rest)
+
+-- ---- events
+pub event-there : (m e v : ℕ) → e < m → leb v 1 ≡ eventInRange m e v
+unfolding eventInRange
+event-there m e v h = yes _ (lt-ltb e m h) refl
+
+pub event-none : (m e v : ℕ) → m ≤ e → eqb v 0 ≡ eventInRange m e v
+unfolding eventInRange
+event-none m e v h = no _ (le-ltb e m h) refl
+
+pub ruleset event-laws = (event-there, event-none)
 
 -- ---- a loop over words
 -- a | b is 0 exactly where both are
@@ -178,3 +212,26 @@ module _ (w : List ℕ) (at count j : ℕ) where
 pub member-row : (fs : List Frame) (n w : ℕ) (k v : Member) (r : Bool) → k ≡ v
     → r ≡ memberInRange fs n v w → r ≡ memberInRange fs n k w
 member-row fs n w k v r e h = h ∙ ap (λ (x : Member). memberInRange fs n x w) (sym e)
+
+-- an entry's test has the number of events, which another call has answered
+pub member-entry : (fs : List Frame) (n w m : ℕ) (k : Member) (r : Bool) → k ≡ Member.Entry
+    → m ≡ frameAt fs 0 .c → r ≡ entryInRange m w → r ≡ memberInRange fs n k w
+member-entry fs n w m k r e c h =
+    member-row fs n w k Member.Entry r e (h ∙ ap (λ (x : ℕ). entryInRange x w) c)
+
+-- ---- a loop over the events
+module _ (fs : List Frame) (w : List ℕ) (m e : ℕ) (t : Bool) where
+  pub event-wrong : m ≡ frameAt fs 0 .c → t ≡ eventInRange m e (getD w (4562 + e) 0)
+      → not t ≡ true → e < 16 → false ≡ allBelow 16 (eventPasses fs w)
+  unfolding eventPasses
+  event-wrong c a f h =
+      answer-wrong (eventPasses fs w) e 16 t
+      (a ∙ ap (λ (x : ℕ). eventInRange x e (getD w (4562 + e) 0)) c) f h
+
+  pub event-more : m ≡ frameAt fs 0 .c → allBelow e (eventPasses fs w) ≡ true
+      → t ≡ eventInRange m e (getD w (4562 + e) 0) → not t ≡ false
+      → allBelow (e + 1) (eventPasses fs w) ≡ true
+  unfolding eventPasses
+  event-more c h a f =
+      answer-more (eventPasses fs w) e t h
+      (a ∙ ap (λ (x : ℕ). eventInRange x e (getD w (4562 + e) 0)) c) f

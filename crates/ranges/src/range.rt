@@ -2,15 +2,18 @@
 use language::Place;
 use language::kind::Kind;
 use language::limit::MOST_CELLS;
+use language::limit::MOST_EVENTS;
 use language::limit::MOST_ITEMS;
 use language::limit::MOST_SCHEDULERS;
 use language::limit::MOST_THREADS;
 use language::limit::MOST_VARIABLES;
+use machine::offset::AWAITING_FROM;
 use machine::offset::BACK_FROM;
 use machine::offset::CELL_COUNT_AT;
 use machine::offset::CELL_FROM;
 use machine::offset::CELLS_AT;
 use machine::offset::DROP_WORD;
+use machine::offset::EVENTS_AT;
 use machine::offset::ITEMS_FIELD;
 use machine::offset::LIST_LENGTH;
 use machine::offset::LIVES_FIELD;
@@ -30,7 +33,7 @@ use text::line::frame_of_word;
 ghost use mathlib.Core.Path.{_≡_};
 ghost use Prim.Native.Nat.{_+_, _*_, _≤_, _<_};
 ghost use lib.ListN.{length};
-ghost use Rattle.language.specs.Limits.{mostSchedulers, mostThreads};
+ghost use Rattle.language.specs.Limits.{mostSchedulers, mostThreads, mostEvents};
 ghost use Rattle.text.specs.Frames.{framesOf};
 ghost use Rattle.program.specs.Trees.{frameAt};
 ghost use Rattle.machine.specs.Offsets.{stateLength, schedulerLength, threadLength};
@@ -40,15 +43,18 @@ ghost use Rattle.machine.specs.inner.Ranges.{schedulerInRange, threadWordInRang
 ghost use Rattle.machine.specs.inner.Ranges.{inRange};
 ghost use Rattle.machine.specs.Shapes.{isStatement, ownerInRange};
 ghost use Rattle.ranges.specs.inner.Passes.{isZero, memberInRange, wordPasses};
-ghost use Rattle.ranges.specs.inner.Passes.{schedulerBlock, threadBlock};
+ghost use Rattle.ranges.specs.inner.Passes.{schedulerBlock, threadBlock, eventInRange};
+ghost use Rattle.ranges.specs.inner.Passes.{eventPasses};
 
 // The greatest words of a truth and of a cell.
 const LAST_TRUTH: u64 = TRUTH_FROM + 1;
 
 const LAST_CELL: u64 = CELL_FROM + MOST_CELLS as u64 - 1;
 
-// As an index.
+// As indices.
 const SCHEDULERS: usize = MOST_SCHEDULERS as usize;
+
+const EVENTS: usize = MOST_EVENTS as usize;
 
 // What the words of a list or of a block are.
 enum Member {
@@ -116,8 +122,18 @@ fn item_in_range(frames: &[u64], schedulers: u8, w: u64) -> bool
     w == DROP_WORD
 }
 
-fn entry_in_range(w: u64) -> bool
-    ensures { λ r. ⌜ r ≡ entryInRange w ⌝ }
+// How many events the header counts: 0 where there is no header.
+fn event_count(frames: &[u64]) -> u16
+    ensures { λ r. ⌜ r ≡ frameAt (framesOf (now (frames .entry))) 0 .c ⌝ }
+{
+    if frames.len() == 0 {
+        return 0;
+    }
+    frame_of_word(frames[0]).c
+}
+
+fn entry_in_range(events: u16, w: u64) -> bool
+    ensures { λ r. ⌜ r ≡ entryInRange events w ⌝ }
 {
     if w < WAITING_FACTOR {
         return thread_in_range(w);
@@ -125,7 +141,10 @@ fn entry_in_range(w: u64) -> bool
     if !thread_in_range(w % WAITING_FACTOR) {
         return false;
     }
-    thread_in_range(w / WAITING_FACTOR)
+    if w < AWAITING_FROM {
+        return thread_in_range(w / WAITING_FACTOR);
+    }
+    (w - AWAITING_FROM) / WAITING_FACTOR < events as u64
 }
 
 fn owner_in_range(schedulers: u8, o: u64) -> bool
@@ -154,7 +173,7 @@ fn member_in_range(frames: &[u64], schedulers: u8, member: Member, w: u64) -> bo
 {
     match member {
         Member::Thread => thread_in_range(w),
-        Member::Entry => entry_in_range(w),
+        Member::Entry => entry_in_range(event_count(frames), w),
         Member::Item => item_in_range(frames, schedulers, w),
         Member::Value => value_in_range(w),
         Member::Cell => cell_in_range(schedulers, w),
@@ -228,7 +247,9 @@ fn list_in_range(
 
 fn scheduler_in_range(frames: &[u64], schedulers: u8, state: &[u64], at: usize) -> bool
     requires { ⌜ at + schedulerLength ≤ length (now state) ⌝ }
-    ensures { λ r. ⌜ r ≡ allBelow schedulerLength (schedulerInRange (now (state .entry)) at) ⌝ }
+    ensures { λ r. ⌜ r ≡ allBelow schedulerLength
+        (schedulerInRange (frameAt (framesOf (now (frames .entry))) 0 .c)
+        (now (state .entry)) at) ⌝ }
 {
     if !list_in_range(frames, schedulers, Member::Thread, state, at, MOST_THREADS) {
         return false;
@@ -245,7 +266,8 @@ fn scheduler_in_range(frames: &[u64], schedulers: u8, state: &[u64], at: usize) 
 
 fn scheduler_block_in_range(frames: &[u64], schedulers: u8, state: &[u64], k: usize) -> bool
     requires { ⌜ (length (now state) ≡ stateLength) × (k < mostSchedulers) ⌝ }
-    ensures { λ r. ⌜ r ≡ schedulerBlock schedulers (now (state .entry)) k ⌝ }
+    ensures { λ r. ⌜ r
+        ≡ schedulerBlock (framesOf (now (frames .entry))) schedulers (now (state .entry)) k ⌝ }
 {
     let at = SCHEDULERS_AT + SCHEDULER_LENGTH * k;
     if k < schedulers as usize {
@@ -256,8 +278,8 @@ fn scheduler_block_in_range(frames: &[u64], schedulers: u8, state: &[u64], k: us
 
 fn schedulers_in_range(frames: &[u64], schedulers: u8, state: &[u64]) -> bool
     requires { ⌜ length (now state) ≡ stateLength ⌝ }
-    ensures { λ r. ⌜ r
-        ≡ allBelow mostSchedulers (schedulerBlock schedulers (now (state .entry))) ⌝ }
+    ensures { λ r. ⌜ r ≡ allBelow mostSchedulers
+        (schedulerBlock (framesOf (now (frames .entry))) schedulers (now (state .entry))) ⌝ }
 {
     let mut k: usize = 0;
     while k < SCHEDULERS {
@@ -330,6 +352,33 @@ fn threads_in_range(frames: &[u64], schedulers: u8, state: &[u64]) -> bool
     true
 }
 
+// Word w of event e, in a file of that many events.
+fn event_in_range(events: u16, e: usize, w: u64) -> bool
+    ensures { λ r. ⌜ r ≡ eventInRange events e w ⌝ }
+{
+    if e < events as usize {
+        return w <= 1;
+    }
+    w == 0
+}
+
+// The word of each event that the file has, and 0 in the rest of their space.
+fn events_in_range(frames: &[u64], state: &[u64]) -> bool
+    requires { ⌜ length (now state) ≡ stateLength ⌝ }
+    ensures { λ r. ⌜ r ≡ allBelow mostEvents
+        (eventPasses (framesOf (now (frames .entry))) (now (state .entry))) ⌝ }
+{
+    let events = event_count(frames);
+    let mut e: usize = 0;
+    while e < EVENTS {
+        if !event_in_range(events, e, state[EVENTS_AT + e]) {
+            return false;
+        }
+        e += 1;
+    }
+    true
+}
+
 // The lent words are as many as they have to be, and each is in its range; a word of unused space
 // is 0.
 pub fn in_range(frames: &[u64], schedulers: u8, state: &[u64]) -> bool
@@ -349,6 +398,9 @@ pub fn in_range(frames: &[u64], schedulers: u8, state: &[u64]) -> bool
         return false;
     }
     if !threads_in_range(frames, schedulers, state) {
+        return false;
+    }
+    if !events_in_range(frames, state) {
         return false;
     }
     let cells = state[CELL_COUNT_AT] as usize;

@@ -15,7 +15,7 @@ use Rattle.language.specs.Kinds.{classOf, Child}
 use Rattle.language.specs.declared.kind.Class.{Class}
 use Rattle.language.specs.declared.kind.StatementKind.the-variants.{Nothing, Then, DoAt, Start}
 use Rattle.language.specs.declared.kind.StatementKind.the-variants.{StartWait, Cooperate, Let}
-use Rattle.language.specs.declared.kind.StatementKind.the-variants.{Store, If, While}
+use Rattle.language.specs.declared.kind.StatementKind.the-variants.{Store, If, While, Generate, Await}
 use Rattle.language.specs.declared.kind.Kind.{Kind}
 use Rattle.language.specs.declared.kind.Kind.the-variants.{Header, Declared, Module, Statement}
 use Rattle.language.specs.declared.kind.Kind.the-variants.{Expression, Unknown}
@@ -28,6 +28,7 @@ use Rattle.fields.specs.Fields.{schedulersOf, firstContentFine}
 use Rattle.layout.specs.Order.{Row, hasClass}
 use Rattle.layout.specs.Faults.{NoFault}
 use Rattle.layout.proofs.Trees.{row-le}
+use Rattle.layout.proofs.Events.{events-count, events-few}
 use Rattle.machine.specs.State.{run}
 use Rattle.machine.specs.Fresh.{firstCell}
 use Rattle.machine.specs.Values.{firstContent}
@@ -36,8 +37,8 @@ use Rattle.machine.proofs.Lists.{all-getD, all-imply}
 use Rattle.machine.proofs.KeptCells.{ExprFits, a-number, a-truth, a-variable, a-shared, a-new}
 use Rattle.machine.proofs.KeptCells.{a-content, a-sum, a-less, a-choice}
 use Rattle.machine.proofs.KeptShape.{Parts, of-nothing, of-cooperate, of-seq, of-do, of-start}
-use Rattle.machine.proofs.KeptShape.{of-wait, of-let, of-store, of-if, of-while, FileFits}
-use Rattle.machine.proofs.KeptShape.{reached-in-range}
+use Rattle.machine.proofs.KeptShape.{of-wait, of-let, of-store, of-if, of-while, of-generate}
+use Rattle.machine.proofs.KeptShape.{of-await, FileFits, reached-in-range}
 use Rattle.machine.proofs.CallRuns.{calls-are}
 use Rattle.reach.specs.Reached.{Passes, ReachedInRange, CallsAreSteps}
 use Rattle.reach.proofs.Passed.{schedulers-range, fields, row-at, order, inside}
@@ -147,6 +148,8 @@ module _ {fs : List Frame} (size : Sized fs) (fine : NoFault fs) where
         (child-fits r (In.later (In.later In.first)) refl)
     of-kind (Statement While) s q =
         of-while (e-fits _) (child-fits (row-at fine j l _ q) (In.later In.first) refl)
+    of-kind (Statement Generate) s q = of-generate
+    of-kind (Statement Await) s q = of-await
 
   has-class : (k : Kind) → isStatement k ≡ true → hasClass (classOf k) ≡ true
   has-class (Statement k) s = refl
@@ -181,6 +184,8 @@ module _ {fs : List Frame} (size : Sized fs) (fine : NoFault fs) where
         most-schedulers = b .1;
         shared-room = (let k = cells-few c (omega arith) in omega arith);
         shared = cells-fit c;
+        few-events = (let k = events-count fs fine in let l = events-few fs fine in omega arith);
+        events = events-count fs fine;
         some-module = some-module fine;
         bodies = λ m l. (let h = all-getD (IsPart fs) (modulesFrom fs 0 fs) noModule m (parts fs) l in body-fits _ h);
         statements = λ j _ s. statement-fits j s;

@@ -9,7 +9,7 @@ use Rattle.basics.specs.Members.{In, All}
 use Rattle.language.specs.Places.{hasPlace}
 use Rattle.language.specs.declared.kind.StatementKind.the-variants.{Nothing, Then, DoAt, Start}
 use Rattle.language.specs.declared.kind.StatementKind.the-variants.{StartWait, Cooperate, Let}
-use Rattle.language.specs.declared.kind.StatementKind.the-variants.{Store, If, While}
+use Rattle.language.specs.declared.kind.StatementKind.the-variants.{Store, If, While, Generate, Await}
 use Rattle.language.specs.declared.kind.ExpressionKind.the-variants.{Number, Truth, Variable}
 use Rattle.language.specs.declared.kind.ExpressionKind.the-variants.{SharedCell, NewCell, Content}
 use Rattle.language.specs.declared.kind.ExpressionKind.the-variants.{Sum, Less, Choose}
@@ -59,6 +59,8 @@ pub data LaidS (Q : ℕ → Type 0) (n : ℕ) : ℕ → Stmt → Type 0 where
       → LaidS Q n (suc d) (Stmt.ifElse i x a b)
   while : {d i : ℕ} {x : Expr} {a : Stmt} → LaidE Q n x → LaidS Q n d a
       → LaidS Q n (suc d) (Stmt.while i x a)
+  generate : {d i e : ℕ} → LaidS Q n (suc d) (Stmt.generate i e)
+  await : {d i e : ℕ} → LaidS Q n (suc d) (Stmt.await i e)
 
 -- 24 at most, by `laid-stmt`
 pub laid-deep : {Q : ℕ → Type 0} {n d : ℕ} {x : Stmt} → LaidS Q n d x → deep x ≤ d
@@ -73,6 +75,8 @@ laid-deep (LaidS.letIn x p) = let a = laid-deep p in omega arith
 laid-deep (LaidS.store x y) = omega arith
 laid-deep (LaidS.ifElse x p q) = let a = laid-deep p in let b = laid-deep q in omega arith
 laid-deep (LaidS.while x p) = let a = laid-deep p in omega arith
+laid-deep LaidS.generate = omega arith
+laid-deep LaidS.await = omega arith
 
 module _ (Q : ℕ → Type 0) {fs : List Frame} (fine : NoFault fs) (none : Q 0) (each : (j : ℕ) → Q (frameAt fs j .a)) where
   abbrev Fine : Expr → Type 0
@@ -157,6 +161,8 @@ module _ (Q : ℕ → Type 0) {fs : List Frame} (fine : NoFault fs) (none : Q 0)
     s-kind (Statement If) q = LaidS.ifElse (laid-expr _) (rec _ (child-depth (Statement If) q at (In.later In.first))) (rec _ (child-depth (Statement If) q at (In.later (In.later In.first))))
     s-kind (Statement While) q =
         LaidS.while (laid-expr _) (rec _ (child-depth (Statement While) q at (In.later In.first)))
+    s-kind (Statement Generate) q = LaidS.generate
+    s-kind (Statement Await) q = LaidS.await
 
   pub laid-stmt : (d j e : ℕ) → e + d ≡ 25 → Depth fs j e
       → LaidS Q (schedulersOf fs) d (statementAt fs j)

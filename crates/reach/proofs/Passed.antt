@@ -1,28 +1,30 @@
 -- What refusals 4 to 7 leave of each frame. Assumes nothing.
 use mathlib.Core.Path.{_≡_, refl, sym, ap, subst, _∙_}
-use mathlib.Core.Bool.{Bool, true, false, _&&_, true≢false}
+use mathlib.Core.Bool.{Bool, true, false, true≢false}
 use mathlib.Core.List.{List}
 use Prim.Native.Nat.{ℕ, suc, _-_, _≤_, _<_}
 use native.Mathlib.Omega.{arith}
 use native.Mathlib.Decide.{decLt}
-use lib.Dec.{leb, eqb}
-use borrow.Author.Tests.{leb-true, eqb-true}
+use lib.Dec.{eqb}
+use borrow.Author.Tests.{eqb-true}
 use lib.ListN.{length, List·getD-eq-default}
 use Rattle.basics.specs.Members.{In}
 use Rattle.basics.proofs.Ifs.{and-true}
-use Rattle.language.specs.Kinds.{isHeader, uses, classOf, Child, children}
+use Rattle.language.specs.Kinds.{uses, classOf, Child, children}
 use Rattle.language.specs.declared.kind.Kind.{Kind}
 use Rattle.language.specs.declared.kind.Kind.the-variants.{Module}
 use Rattle.language.specs.declared.frame.Frame.{Frame}
 use Rattle.program.specs.Trees.{frameAt, noFrame}
 use Rattle.program.specs.inner.Ordered.{Ordered}
 use Rattle.program.proofs.NodeLaws.{childrenAs}
-use Rattle.fields.specs.Fields.{headerFine, schedulersOf, fieldFine, kindFine, frameFine}
+use Rattle.fields.specs.Fields.{schedulersOf, fieldFine, kindFine, frameFine}
+use Rattle.fields.proofs.FieldLaws.{fine-header}
 use Rattle.layout.specs.Order.{Row, hasClass, isMain}
 use Rattle.layout.specs.Depths.{Depth}
 use Rattle.layout.specs.Faults.{Fault, NoFault}
 use Rattle.layout.proofs.Trees.{HasTree, row-of, is-module}
 use Rattle.layout.proofs.Order.{all-trees, is-ordered}
+use Rattle.layout.proofs.SharedCells.{header-there}
 
 pub not-wrong : (b : Bool) → (b ≡ false → ⊥) → b ≡ true
 not-wrong true h = refl
@@ -44,17 +46,10 @@ child-depth {fs} {j} {c =
     c} k e h m = Depth.child h (subst (λ (q : Kind). In c (childrenAs q (frameAt fs j))) (sym e) m)
 
 module _ {fs : List Frame} (fine : NoFault fs) where
-  header-fine : headerFine (frameAt fs 0) ≡ true
-  header-fine = not-wrong _ (λ e. fine 4 0 (Fault.header e))
-
   -- 'B schedulers, 1 to 8'
   pub schedulers-range : (1 ≤ schedulersOf fs) × (schedulersOf fs ≤ 8)
-  unfolding headerFine
   schedulers-range =
-      let c = and-true _ (eqb (frameAt fs 0 .c) 0) header-fine .0 in
-      let m = and-true _ (leb (frameAt fs 0 .b) 8) c in
-      let l = and-true (isHeader (frameAt fs 0 .kind) && eqb (frameAt fs 0 .s) 1) (leb 1 (frameAt fs 0 .b)) (m .0) in
-      (leb-true 1 _ (l .1), leb-true _ 8 (m .1))
+      let h = fine-header fs (header-there fs fine) in (h .some-schedulers, h .few-schedulers)
 
   pub some-frame : 0 < length fs
   some-frame = go (decLt 0 (length fs))

@@ -32,7 +32,7 @@ CallsAreSteps =
 
 -- 'a full list, pile or variable space, which only a caller's own state can bring': in each state
 -- reached from the fresh one, each choice gives what it would give if no list, continuation or
--- variable space had an end: the same answer, state and accesses
+-- variable space had an end: the same answer, state, accesses and signals
 abbrev pub NeverFull : Type 0
 NeverFull =
     (bs : List ℕ) (fs : List Frame) → Passes bs fs → (cs : List ℕ) (c : ℕ)

@@ -5,8 +5,8 @@ use mathlib.Core.Bool.{Bool, true, false, not, _&&_, true≢false}
 use mathlib.Core.List.{List}
 use Prim.Native.Nat.{ℕ, _≤_, _<_}
 use native.Mathlib.Omega.{arith}
-use lib.Dec.{leb, eqb}
-use borrow.Author.Tests.{eqb-true, not-false, le-leb}
+use lib.Dec.{ltb, leb, eqb}
+use borrow.Author.Tests.{eqb-true, not-false, le-leb, le-ltb}
 use lib.ListN.{length}
 use Rattle.basics.specs.inner.Searches.{every, sameNumbers}
 use Rattle.basics.specs.Members.{In}
@@ -24,11 +24,11 @@ use Rattle.rules.specs.declared.finding.Typing.the-variants.{Typed, Unty
 use Rattle.rules.specs.declared.finding.StatementEffect.{StatementEffect}
 use Rattle.rules.specs.declared.finding.StatementEffect.the-variants.{Proper, Faulty}
 use Rattle.rules.specs.Rules.{Setting, Signature, signatureAt, AllPublic}
-use Rattle.rules.specs.Breaks.{BreaksS, Starts}
+use Rattle.rules.specs.Breaks.{BreaksS, Starts, Signals}
 use Rattle.rules.specs.Broken.{BrokenE, Operand, ChildS, BrokenS}
 use Rattle.rules.specs.inner.Checking.{Argued, argue, typesIn, startRule, cooperateRule}
 use Rattle.rules.specs.inner.Checking.{seqRule, doRule, joinRule, letRule, storeRule}
-use Rattle.rules.specs.inner.Checking.{ifElseRule, whileRule, effectIn}
+use Rattle.rules.specs.inner.Checking.{ifElseRule, whileRule, signalRule, signalOf, effectIn}
 use Rattle.rules.proofs.Sooner.{Sooner, exactly, smaller}
 use Rattle.rules.proofs.Lists.{same-true, all-true}
 use Rattle.rules.proofs.Expressions.{complete}
@@ -223,6 +223,14 @@ unfolding whileRule
 own-body i f (BeforeE.typed {t = t}) = if-all (Sooner Faulty instantLoop i) (not (eqb t truthType)) _ _ (λ p. smaller {m = illTyped} (omega arith)) (λ p. if-all (Sooner Faulty instantLoop i) true _ _ (λ k. exactly) (λ k. absurd (true≢false k)))
 own-body i f (BeforeE.before l) = Sooner.sooner (inl l)
 
+own-event : (owners : List ℕ) (s i : ℕ) → length owners ≤ s
+    → Sooner Faulty unbound i (signalOf owners s i)
+unfolding signalRule
+own-event owners s i h =
+    if-all (Sooner Faulty unbound i) (ltb s (length owners)) _ _
+    (λ l. absurd (true≢false (sym l ∙ le-ltb _ _ h)))
+    (λ l. exactly)
+
 ownS : {env : Setting} {below : List Signature} {Γ : List ℕ} {at : Standing} {lo n : ℕ} {p : Stmt}
     → BreaksS env below Γ at p n → PlacedS lo p
     → Sooner Faulty n (rootS p) (effectIn env below Γ at p)
@@ -231,6 +239,8 @@ ownS (BreaksS.start-module Starts.start h) (PlacedS.start p) =
     own-module _ _ _ _ _ (beforeEs _ _ p) h
 ownS (BreaksS.start-module Starts.start-wait h) (PlacedS.start-wait p) =
     own-module _ _ _ _ _ (beforeEs _ _ p) h
+ownS {env = env} (BreaksS.event Signals.generate h) p = own-event (env .events) _ _ h
+ownS {env = env} (BreaksS.event Signals.await h) p = own-event (env .events) _ _ h
 ownS (BreaksS.start-types Starts.start h xs z) (PlacedS.start p) =
     rw (completeEs xs) (own-types _ _ _ _ _ _ _ h z)
 ownS (BreaksS.start-types Starts.start-wait h xs z) (PlacedS.start-wait p) =

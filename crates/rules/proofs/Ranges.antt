@@ -31,6 +31,8 @@ end-aboveEs (PlacedEs.more p q) = let a = root-aboveE p in let b = end-aboveEs q
 pub root-aboveS : {lo : ℕ} {p : Stmt} → PlacedS lo p → lo ≤ rootS p
 root-aboveS (PlacedS.nothing h) = h
 root-aboveS (PlacedS.cooperate h) = h
+root-aboveS (PlacedS.generate h) = h
+root-aboveS (PlacedS.await h) = h
 root-aboveS (PlacedS.seq p q e) = let a = root-aboveS p in let b = root-aboveS q in omega arith
 root-aboveS (PlacedS.do-at p e) = let a = root-aboveS p in omega arith
 root-aboveS (PlacedS.start p) = end-aboveEs p

@@ -13,7 +13,7 @@ use Rattle.language.specs.Places.{isPlace, isScheduler}
 use Rattle.language.specs.inner.Reads.{placeRead, cellRead}
 use Rattle.language.specs.Types.{numberType, truthType, isCell, cellType, ownerOf, contentOf}
 use Rattle.language.specs.Types.{roomAround, public}
-use Rattle.language.specs.Effects.{noEffect, _∪_, withOwner, within}
+use Rattle.language.specs.Effects.{noEffect, _∪_, withMember, withOwner, withEvent, within}
 use Rattle.language.specs.declared.Place.{Place}
 use Rattle.language.specs.declared.PlaceRead.{PlaceRead}
 use Rattle.language.specs.declared.PlaceRead.the-variants.{At, NoPlace}
@@ -28,7 +28,7 @@ use Rattle.program.specs.declared.node.CellUse.{CellUse}
 use Rattle.program.specs.declared.node.Operator.{Operator}
 use Rattle.rules.specs.inner.Checking.{namedRule, newRule, contentRule, numbersRule}
 use Rattle.rules.specs.inner.Checking.{chooseRule, cooperateRule, seqRule, doRule, joinRule}
-use Rattle.rules.specs.inner.Checking.{storeRule, ifElseRule, whileRule}
+use Rattle.rules.specs.inner.Checking.{storeRule, ifElseRule, whileRule, signalRule}
 use Rattle.rules.specs.inner.NodeRules.{leafRule, OwnerPlaced, cellRule, madeBy, bothTyped}
 use Rattle.rules.specs.inner.Standings.{standing}
 use Rattle.rules.specs.declared.finding.Typing.{Typing}
@@ -172,10 +172,11 @@ module _ (t : ℕ) (e : Effect) (p : PlaceRead)
       k ∙ ap (λ (o : ℕ). withOwner o e) n
 
   pub owner-none : p ≡ NoPlace → e ≡ withOwner (ownerOf t) e
-  unfolding withOwner
+  unfolding withMember
   owner-none h =
       let n = read-none (isPlace (ownerOf t)) (ownerOf t) (sym r ∙ h) in
-      no _ (no-scheduler (ownerOf t) (isScheduler (ownerOf t)) refl n) refl
+      ap (λ (s : ℕ). record { cells = s; events = e .events })
+      (no _ (no-scheduler (ownerOf t) (isScheduler (ownerOf t)) refl n) refl)
 
 pub ruleset owner-laws = (owner-there, owner-none)
 
@@ -567,3 +568,34 @@ module _ (i : ℕ) (x : Typing) (y : StatementEffect) where
   while-row t e f b r h k q = q ∙ while-by (Typed t e) (Proper f b) h k
 
 pub ruleset while-laws = (while-fault, while-fault-2, while-row)
+
+-- ---- 1A and 1B, an event
+
+-- its owner is the effect, if that is a scheduler
+module _ (o : ℕ) (p : PlaceRead) (r : p ≡ placeRead (isScheduler o) o)
+    (e : Effect) (z : e ≡ noEffect) where
+  pub event-there : (q : Place) (f : Effect) → p ≡ At q → f ≡ withEvent (q .number) e
+      → f ≡ withEvent o noEffect
+  event-there q f h k =
+      let n = read-at (isScheduler o) o q (sym r ∙ h) .1 in
+      k ∙ ap (λ (m : ℕ). withEvent m e) n ∙ ap (withEvent o) z
+
+  pub event-none : p ≡ NoPlace → e ≡ withEvent o noEffect
+  unfolding withMember
+  event-none h =
+      let n = read-none (isScheduler o) o (sym r ∙ h) in
+      z ∙ ap (λ (s : ℕ). record { cells = 0; events = s }) (no _ n refl)
+
+pub ruleset event-laws = (event-there, event-none)
+
+module _ (there : Bool) (o i : ℕ) where
+  pub signal-missing : not there ≡ true → Faulty unbound i ≡ signalRule there o i
+  unfolding signalRule
+  signal-missing h = no _ (not-true there h) refl
+
+  pub signal-there : (e : Effect) → not there ≡ false → e ≡ withEvent o noEffect
+      → Proper e true ≡ signalRule there o i
+  unfolding signalRule
+  signal-there e h z = yes _ (not-false there h) (ap (λ (f : Effect). Proper f true) z)
+
+pub ruleset signal-laws = (signal-missing, signal-there)

@@ -29,6 +29,10 @@ use Rattle.rules.specs.declared.finding.TypingPair.the-variants.{Both, F
 use Rattle.rules.specs.declared.finding.StatementEffect.{StatementEffect}
 use Rattle.rules.specs.declared.finding.StatementEffect.the-variants.{Proper, Faulty}
 
+-- the effect of those sets
+abbrev sets : ℕ → ℕ → Effect
+sets c e = record { cells = c; events = e }
+
 -- ---- arguments
 
 -- one form of each in the code, so that a contract of `arguedOf` fixes the result
@@ -48,7 +52,7 @@ pub argued-once : (x y : Arguments) → arguedOf x ≡ arguedOf y → x ≡ y
 argued-once x y h = sym (one-form x) ∙ ap form h ∙ one-form y
 
 with-none : (e : Effect) → e ∪ noEffect ≡ e
-with-none e = ap (λ (b : ℕ). record { bits = b }) (or-zero-r (e .bits))
+with-none e = ap₂ sets (or-zero-r (e .cells)) (or-zero-r (e .events))
 
 module _ (x : Typing) where
   pub one-fault : (n j : ℕ) → x ≡ Untyped n j → arguedOf (Fault n j) ≡ argue x noArguments
@@ -90,29 +94,31 @@ module _ (x y : Typing) (p : TypingPair) (o : p ≡ bothTyped x y) where
 pub ruleset two-laws = (two-fault, two-typed)
 
 -- ---- a signature's word
-record-is : (m n : ℕ) (a b c d : ℕ) (e : Effect) (f : ℕ) → m ≡ n → a ≡ c → b ≡ d → f ≡ e .bits
-    → signatureWith m a b (record { bits = f }) ≡ signatureWith n c d e
-record-is m n a b c d e f h k l q =
-    ap₂ (λ (o : ℕ) (p : ℕ). signatureWith o p b (record { bits = f })) h k
-    ∙ ap₂ (λ (o : ℕ) (p : ℕ). signatureWith n c o (record { bits = p })) l q
+record-is : (m n : ℕ) (a b c d : ℕ) (e : Effect) (f g : ℕ) → m ≡ n → a ≡ c → b ≡ d → f ≡ e .cells
+    → g ≡ e .events
+    → signatureWith m a b (sets f g) ≡ signatureWith n c d e
+record-is m n a b c d e f g h k l q r =
+    ap₂ (λ (o : ℕ) (p : ℕ). signatureWith o p b (sets f g)) h k
+    ∙ ap₂ (λ (o : ℕ) (p : ℕ). signatureWith n c o (sets p g)) l q
+    ∙ ap (λ (o : ℕ). signatureWith n c d (sets (e .cells) o)) r
 
 -- the code's sum
-pub word-of : (count first second f : ℕ) (e : Effect) → f ≡ e .bits
-    → (count * 65536 + f) * 4294967296 + (second * 65536 + first)
+pub word-of : (count first second f g : ℕ) (e : Effect) → f ≡ e .cells → g ≡ e .events
+    → (count * 65536 + (g * 256 + f)) * 4294967296 + (second * 65536 + first)
     ≡ signatureWord count first second e
 unfolding signatureWord
-word-of count first second f e h = omega arith
+word-of count first second f g e h k = omega arith
 
 -- such a word reads back
 pub word-says : (count first second : ℕ) (e : Effect) (w : ℕ)
     → w ≡ signatureWord count first second e
-    → count ≤ 2 → first < 2 ^ 16 → second < 2 ^ 16 → e .bits < 2 ^ 8
+    → count ≤ 2 → first < 2 ^ 16 → second < 2 ^ 16 → e .cells < 2 ^ 8 → e .events < 2 ^ 8
     → signatureOf w ≡ signatureWith count first second e
 unfolding signatureOf signatureWord
-word-says count first second e w h a b c d =
+word-says count first second e w h a b c d f =
     record-is (w / 2 ^ 48 % 3) count (w % 2 ^ 16) (w / 2 ^ 16 % 2 ^ 16) first second
-    e (w / 2 ^ 32 % 2 ^ 8)
-    (omega arith) (omega arith) (omega arith) (omega arith)
+    e (w / 2 ^ 32 % 2 ^ 8) (w / 2 ^ 40 % 2 ^ 8)
+    (omega arith) (omega arith) (omega arith) (omega arith) (omega arith)
 
 -- ---- the first n of two types
 data UpToTwo : ℕ → Type 0 where
@@ -256,9 +262,11 @@ module _ (n t u : ℕ) (l : n ≤ 2) where
 pub ruleset public-laws = (public-none, public-first, public-one, public-two)
 
 pub effect-of : (w : ℕ) (r : Effect)
-    → r ≡ record { bits = w / 2 ^ 32 % 2 ^ 8 } → r ≡ signatureOf w .effect
+    → r ≡ sets (w / 2 ^ 32 % 2 ^ 8) (w / 2 ^ 32 / 2 ^ 8 % 2 ^ 8) → r ≡ signatureOf w .effect
 unfolding signatureOf
-effect-of w r h = h
+effect-of w r h =
+    let e : w / 2 ^ 32 / 2 ^ 8 % 2 ^ 8 ≡ w / 2 ^ 40 % 2 ^ 8 = omega arith in
+    h ∙ ap (sets (w / 2 ^ 32 % 2 ^ 8)) e
 
 -- ---- the start
 at-word : (ws : List ℕ) (s : ℕ) → signatureAt (map signatureOf ws) s ≡ signatureOf (getD ws s 0)

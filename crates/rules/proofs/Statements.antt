@@ -4,17 +4,17 @@ use mathlib.Core.Path.{_≡_, refl, sym, _∙_}
 use mathlib.Core.Bool.{Bool, true, false, not, _&&_, true≢false}
 use mathlib.Core.List.{List, [], _∷_, _++_}
 use Prim.Native.Nat.{ℕ, _<_}
-use lib.Dec.{leb, eqb}
+use lib.Dec.{ltb, leb, eqb}
 use borrow.Author.Tests.{leb-true, leb-false, eqb-true, eqb-false, not-true, not-false, lt-leb}
-use borrow.Author.Tests.{eq-eqb, ne-eqb}
-use lib.ListN.{length}
+use borrow.Author.Tests.{eq-eqb, ne-eqb, ltb-true, ltb-false, lt-ltb}
+use lib.ListN.{length, getD}
 use Rattle.basics.specs.If.{if_then_else_}
 use Rattle.basics.specs.inner.Searches.{every, sameNumbers}
 use Rattle.basics.specs.Members.{In}
 use Rattle.basics.proofs.Ifs.{if-all, and-true, and-false, if-yes, if-no, and-off}
 use Rattle.language.specs.Places.{private, Standing, linked, unlinked, standingAt}
 use Rattle.language.specs.Types.{truthType, isCell, public, contentOf}
-use Rattle.language.specs.Effects.{noEffect, _∪_, within}
+use Rattle.language.specs.Effects.{noEffect, _∪_, withEvent, within}
 use Rattle.language.specs.declared.effect.Effect.{Effect}
 use Rattle.language.specs.Refusals.{whileUnlinked, instantLoop}
 use Rattle.program.specs.Trees.{Expr, Stmt, rootS}
@@ -24,11 +24,12 @@ use Rattle.rules.specs.declared.finding.StatementEffect.{StatementEffect
 use Rattle.rules.specs.declared.finding.StatementEffect.the-variants.{Proper, Faulty}
 use Rattle.rules.specs.Rules.{Setting, HasType, Signature, signatureAt, HaveTypes, AllPublic}
 use Rattle.rules.specs.Rules.{HasEffect}
-use Rattle.rules.specs.Breaks.{BreaksS, Starts}
+use Rattle.rules.specs.Breaks.{BreaksS, Starts, Signals}
 use Rattle.rules.specs.Broken.{BrokenE, Operand, ChildS, BrokenS}
 use Rattle.rules.specs.inner.Checking.{typeIn, Argued, argue, typesIn, isLinked, startRule}
 use Rattle.rules.specs.inner.Checking.{cooperateRule, seqRule, doRule, joinRule, letRule}
-use Rattle.rules.specs.inner.Checking.{storeRule, ifElseRule, whileRule, effectIn}
+use Rattle.rules.specs.inner.Checking.{storeRule, ifElseRule, whileRule, signalRule, signalOf}
+use Rattle.rules.specs.inner.Checking.{effectIn}
 use Rattle.rules.proofs.Lists.{same-true, same-refl, same-eq, all-true, all-every}
 use Rattle.rules.proofs.Expressions.{complete, FoundE, soundE, retype}
 
@@ -50,7 +51,7 @@ completeEs (HaveTypes.more x xs) = rw (complete x, completeEs xs)
 
 pub completeS : {env : Setting} {below : List Signature} {Γ : List ℕ} {at : Standing} {p : Stmt} {e : Effect} {b : Bool}
     → HasEffect env below Γ at p e b → effectIn env below Γ at p ≡ Proper e b
-unfolding effectIn startRule cooperateRule seqRule doRule joinRule storeRule ifElseRule whileRule if_then_else_
+unfolding effectIn startRule cooperateRule seqRule doRule joinRule storeRule ifElseRule whileRule signalRule if_then_else_
 completeS HasEffect.nothing = refl
 completeS (HasEffect.seq p q) = rw (completeS p, completeS q)
 completeS (HasEffect.do-unlinked p h) = rw stands-unlinked (simp (completeS p, h))
@@ -65,6 +66,8 @@ completeS (HasEffect.store {t =
     t} x h y) = simp (complete x, complete y, h, eq-eqb (contentOf t) (contentOf t) refl)
 completeS (HasEffect.ifElse x p q) = rw (complete x, completeS p, completeS q)
 completeS (HasEffect.while x p) = rw (complete x, completeS p)
+completeS (HasEffect.generate h) = simp (lt-ltb _ _ h)
+completeS (HasEffect.await h) = simp (lt-ltb _ _ h)
 
 -- ---- whatever is found holds: first of arguments, then of a statement
 
@@ -235,6 +238,17 @@ module _ (env : Setting) (below : List Signature) (Γ : List ℕ) where
   found-while at i x p (Typed t e) (Faulty n j) h k = BrokenS.under ChildS.while k
   found-while at i x p (Untyped n j) s h k = BrokenS.operand Operand.while h
 
+  -- 1A and 1B: p generates or awaits event s
+  found-signal : (at : Standing) (p : Stmt) (s : ℕ) → Signals p s
+      → (s < length (env .events)
+      → HasEffect env below Γ at p (withEvent (getD (env .events) s 0) noEffect) true)
+      → FoundS env below Γ at p (signalOf (env .events) s (rootS p))
+  unfolding signalRule
+  found-signal at p s st runs =
+      if-all (FoundS env below Γ at p) (ltb s (length (env .events))) _ _
+      (λ l. runs (ltb-true _ _ l))
+      (λ l. BrokenS.here (BreaksS.event st (ltb-false _ _ l)))
+
 pub soundS : (env : Setting) (below : List Signature) (Γ : List ℕ) (at : Standing) (p : Stmt)
     → FoundS env below Γ at p (effectIn env below Γ at p)
 unfolding effectIn
@@ -252,3 +266,7 @@ soundS env below Γ at (Stmt.store i x y) =
 soundS env below Γ at (Stmt.ifElse i x p q) = found-ifElse env below Γ at i x p q _ _ _ (soundE (env .cells) Γ x) (soundS env below Γ at p) (soundS env below Γ at q)
 soundS env below Γ at (Stmt.while i x p) =
     found-while env below Γ at i x p _ _ (soundE (env .cells) Γ x) (soundS env below Γ at p)
+soundS env below Γ at (Stmt.generate i s) =
+    found-signal env below Γ at (Stmt.generate i s) s Signals.generate (λ l. HasEffect.generate l)
+soundS env below Γ at (Stmt.await i s) =
+    found-signal env below Γ at (Stmt.await i s) s Signals.await (λ l. HasEffect.await l)

@@ -43,12 +43,21 @@ pub data Starts : Stmt → ℕ → List Expr → Type 0 where
   start : {i s : ℕ} {xs : List Expr} → Starts (Stmt.start i s xs) s xs
   start-wait : {i s : ℕ} {xs : List Expr} → Starts (Stmt.startWait i s xs) s xs
 
+-- `Signals p s`: the statement p, a 1A or a 1B, generates or awaits event s
+pub data Signals : Stmt → ℕ → Type 0 where
+  generate : {i s : ℕ} → Signals (Stmt.generate i s) s
+  await : {i s : ℕ} → Signals (Stmt.await i s) s
+
 -- `BreaksS env below Γ at p n`: the root of the statement p breaks rule n
 pub data BreaksS (env : Setting) (below : List Signature)
     : List ℕ → Standing → Stmt → ℕ → Type 0 where
   -- 8 'a module not below the one it stands in'
   start-module : {Γ : List ℕ} {at : Standing} {p : Stmt} {s : ℕ} {xs : List Expr}
       → Starts p s xs → length below ≤ s
+      → BreaksS env below Γ at p unbound
+  -- 02, change 5: 'a missing event is 8'
+  event : {Γ : List ℕ} {at : Standing} {p : Stmt} {s : ℕ}
+      → Signals p s → length (env .events) ≤ s
       → BreaksS env below Γ at p unbound
   -- 9 'types or the count of arguments'
   start-types : {Γ : List ℕ} {at : Standing} {p : Stmt} {s : ℕ} {xs : List Expr}

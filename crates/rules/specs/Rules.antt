@@ -5,17 +5,19 @@ use Rattle.basics.specs.Prelude.{getD, _≡_, All}
 use Rattle.language.specs.Places.{home, private, Standing, linked, unlinked}
 use Rattle.language.specs.Types.{numberType, truthType, isCell, cellType, ownerOf, contentOf}
 use Rattle.language.specs.Types.{roomAround, public}
-use Rattle.language.specs.Effects.{noEffect, _∪_, withOwner, within}
+use Rattle.language.specs.Effects.{noEffect, _∪_, withOwner, withEvent, within}
 use Rattle.language.specs.declared.effect.Effect.{Effect}
 use Rattle.program.specs.Trees.{Expr, Stmt}
 use Rattle.program.specs.Programs.{Part, Program, cells as cellTypes}
 
--- what the rules know of a file beside its modules: the types of its shared cells
+-- what the rules know of a file beside its modules: the types of its shared cells, the owners of
+-- its events
 pub record Setting : Type 0 where
   pub cells : List ℕ
+  pub events : List ℕ
 
 abbrev pub settingOf : Program → Setting
-settingOf file = record { cells = cellTypes file }
+settingOf file = record { cells = cellTypes file; events = file .events }
 
 -- what is known of a module: its parameters' types and its effect
 pub record Signature : Type 0 where
@@ -137,6 +139,15 @@ pub data HasEffect (env : Setting) (below : List Signature)
   while : {Γ : List ℕ} {at : Standing} {i : ℕ} {x : Expr} {p : Stmt} {e f : Effect}
       → HasType (env .cells) Γ x truthType e → HasEffect env below Γ at p f false
       → HasEffect env below Γ at (Stmt.while i x p) (e ∪ f) true
+  -- 1A generate event S, 1B await it. 02, change 5: 'both have the owner as effect', 'Both
+  -- statements can end at once.'
+  generate : {Γ : List ℕ} {at : Standing} {i s : ℕ}
+      → s < length (env .events)
+      → HasEffect env below Γ at (Stmt.generate i s) (withEvent (getD (env .events) s 0) noEffect)
+      true
+  await : {Γ : List ℕ} {at : Standing} {i s : ℕ}
+      → s < length (env .events)
+      → HasEffect env below Γ at (Stmt.await i s) (withEvent (getD (env .events) s 0) noEffect) true
 
 -- `Modules env below ms`: in a file of that setting, after modules with the signatures `below`,
 -- the modules ms keep the rules; the last of them is main, and 'main has an effect within {2}'

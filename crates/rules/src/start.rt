@@ -48,14 +48,14 @@ pub fn two_arguments(x: Typing, y: Typing) -> Arguments
 }
 
 // A word that keeps what is known of a module has fields of 16 bits, from the right: two types, the
-// effect, how many parameters. As multipliers: one field, two, three.
+// two sets of the effect, how many parameters. As multipliers: one field, two, three.
 const FIELD: u64 = 0x0001_0000;
 
 const TWO_FIELDS: u64 = 0x0001_0000_0000;
 
 const THREE_FIELDS: u64 = 0x0001_0000_0000_0000;
-// An effect's number has 8 bits, a number of parameters is one of three.
-const EFFECTS: u64 = 0x0100;
+// A set of schedulers has 8 bits, a number of parameters is one of three.
+const SETS: u64 = 0x0100;
 
 const COUNTS: u64 = 3;
 
@@ -64,7 +64,8 @@ pub fn signature_word(count: u8, first: u16, second: u16, effect: Effect) -> u64
     ensures { λ r. ⌜ r ≡ signatureWord count first second effect ⌝ }
 {
     let low = (second as u64) * FIELD + (first as u64);
-    let high = (count as u64) * FIELD + (effect.number() as u64);
+    let sets = (effect.events() as u64) * SETS + (effect.cells() as u64);
+    let high = (count as u64) * FIELD + sets;
     high * TWO_FIELDS + low
 }
 
@@ -109,7 +110,8 @@ fn all_public(n: u8, t: u16, u: u16) -> bool
 fn signature_effect(w: u64) -> Effect
     ensures { λ r. ⌜ r ≡ signatureOf w .effect ⌝ }
 {
-    Effect::from_number((w / TWO_FIELDS % EFFECTS) as u8)
+    let sets = w / TWO_FIELDS;
+    Effect::of_sets((sets % SETS) as u8, (sets / SETS % SETS) as u8)
 }
 
 // A start with the first n of two types.

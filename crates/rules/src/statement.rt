@@ -6,17 +6,21 @@ use crate::finding::StatementEffect;
 use crate::finding::Typing;
 use crate::finding::TypingPair;
 use language::Place;
+use language::PlaceRead;
 use language::effect::Effect;
 use language::refusal::ILL_TYPED;
 use language::refusal::INSTANT_LOOP;
+use language::refusal::UNBOUND;
 use language::refusal::WHILE_UNLINKED;
 use language::refusal::WRONG_EFFECT;
 use language::type_word::TRUTH;
 use language::type_word::content_of;
 use language::type_word::is_cell;
+use program::event::EventFound;
 ghost use mathlib.Core.Path.{_≡_};
+ghost use Rattle.language.specs.Effects.{noEffect, withEvent};
 ghost use Rattle.rules.specs.inner.Checking.{cooperateRule, seqRule, doRule, joinRule};
-ghost use Rattle.rules.specs.inner.Checking.{storeRule, ifElseRule, whileRule};
+ghost use Rattle.rules.specs.inner.Checking.{storeRule, ifElseRule, whileRule, signalRule};
 ghost use Rattle.rules.specs.inner.Standings.{standing};
 ghost use Rattle.rules.specs.declared.finding.Typing.the-variants.{Typed};
 ghost use Rattle.rules.specs.declared.finding.StatementEffect.the-variants.{Proper};
@@ -149,4 +153,24 @@ pub fn while_rule(i: u16, x: Typing, y: StatementEffect) -> StatementEffect
             StatementEffect::Proper(f, b) => while_typed(i, t, e, f, b),
         },
     }
+}
+
+// The effect of what is done with an event of that owner. In a laid-out file it is a scheduler.
+fn event_effect(owner: u8) -> Effect
+    ensures { λ r. ⌜ r ≡ withEvent owner noEffect ⌝ }
+{
+    match Place::scheduler(owner as u64) {
+        PlaceRead::At(p) => Effect::none().with_event(p),
+        PlaceRead::NoPlace => Effect::none(),
+    }
+}
+
+// 1A and 1B, by what was found of the event.
+pub fn signal_rule(event: EventFound, i: u16) -> StatementEffect
+    ensures { λ r. ⌜ r ≡ signalRule (event .there) (event .owner) i ⌝ }
+{
+    if !event.there {
+        return StatementEffect::Faulty(UNBOUND, i);
+    }
+    StatementEffect::Proper(event_effect(event.owner), true)
 }

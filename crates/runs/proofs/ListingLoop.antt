@@ -161,7 +161,7 @@ module _ (frames : List ℕ) (file : File) (bytes : List ℕ) (n : ℕ) (old w b
     cells-in : getD v 1 0 ≡ length (next .state .cells)
     cells-in = ap (λ (x : CallResult). getD (x .words) 1 0) called ∙ says-pack (next .state) .cells
 
-    pub lining-long : length v ≡ 4818
+    pub lining-long : length v ≡ 4834
     lining-long = ap (λ (x : CallResult). length (x .words)) called ∙ says-pack (next .state) .all
 
     pub lining-cells : getD v 1 0 < 2 ^ 16

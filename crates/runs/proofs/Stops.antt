@@ -69,6 +69,7 @@ at-expression (BreaksE.new-escapes a b c) = omega arith
 at-statement : {env : Setting} {below : List Signature} {Γ : List ℕ} {at : Standing} {p : Stmt} {n : ℕ}
     → BreaksS env below Γ at p n → 7 < n
 at-statement (BreaksS.start-module a b) = omega arith
+at-statement (BreaksS.event a b) = omega arith
 at-statement (BreaksS.start-types a b c d) = omega arith
 at-statement (BreaksS.store a b c) = omega arith
 at-statement (BreaksS.ifElse a b) = omega arith

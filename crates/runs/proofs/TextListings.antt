@@ -161,19 +161,19 @@ module _ (bs bytes w out : List ℕ) (l : Laid) (ws : List ℕ) (e : laidAs l ws
     laid-out : byVerdict LayoutVerdict.LaidOut ≡ listText bs bytes w out
     laid-out = by-layout LayoutVerdict.LaidOut (verdict-lines bs l ws e n a)
 
-    pub list-short-state : (length w ≡ 4818 → ⊥)
+    pub list-short-state : (length w ≡ 4834 → ⊥)
         → noListing (A.Refused 14 0) w out ≡ listText bs bytes w out
     list-short-state f =
-        sym (if-no _ _ (ap (λ (b : Bool). b && eqb (length out) 311309) (ne-eqb (length w) 4818 f)))
+        sym (if-no _ _ (ap (λ (b : Bool). b && eqb (length out) 311309) (ne-eqb (length w) 4834 f)))
         ∙ laid-out
 
     pub list-short-out : (length out ≡ 311309 → ⊥)
         → noListing (A.Refused 14 0) w out ≡ listText bs bytes w out
     list-short-out f =
-        sym (if-no _ _ (ap (λ (b : Bool). eqb (length w) 4818 && b) (ne-eqb (length out) 311309 f) ∙ and-off (eqb (length w) 4818)))
+        sym (if-no _ _ (ap (λ (b : Bool). eqb (length w) 4834 && b) (ne-eqb (length out) 311309 f) ∙ and-off (eqb (length w) 4834)))
         ∙ laid-out
 
-    pub list-laid-out : length w ≡ 4818 → length out ≡ 311309
+    pub list-laid-out : length w ≡ 4834 → length out ≡ 311309
         → (u new : List ℕ) (x : ListingAnswer)
         → withBuffers x u new
         ≡ wholeListing (A.Done 0 0) (rulesOf (programOf (framesOf (take n ws))))
@@ -182,5 +182,5 @@ module _ (bs bytes w out : List ℕ) (l : Laid) (ws : List ℕ) (e : laidAs l ws
     list-laid-out size room u new x k =
         k ∙ ap₂ (λ (y : Verdict) (fs : List Frame). wholeListing (A.Done 0 0) y fs bytes w out)
         rules-are frames-are
-        ∙ sym (if-yes _ _ (ap₂ (λ (b c : Bool). b && c) (eq-eqb (length w) 4818 size) (eq-eqb (length out) 311309 room)))
+        ∙ sym (if-yes _ _ (ap₂ (λ (b c : Bool). b && c) (eq-eqb (length w) 4834 size) (eq-eqb (length out) 311309 room)))
         ∙ laid-out

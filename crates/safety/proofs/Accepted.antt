@@ -1,6 +1,6 @@
 -- Demand 3: every accepted text is safe under every list of choices, as a list of steps
 -- (`accepted-safe`) and as a list of calls (`accepted-calls-safe`). Assumes nothing.
-use mathlib.Core.Path.{_≡_, refl, sym, ap, ap₂, subst, _∙_}
+use mathlib.Core.Path.{_≡_, sym, ap, ap₂, subst, _∙_}
 use mathlib.Core.Bool.{Bool, true, false}
 use mathlib.Core.List.{List, [], _∷_, _++_, map}
 use Prim.Native.Nat.{ℕ}
@@ -13,14 +13,14 @@ use Rattle.program.specs.Programs.{Program, programOf}
 use Rattle.layout.specs.Faults.{NoFault}
 use Rattle.rules.specs.Rules.{Keeps}
 use Rattle.checker.specs.Verdict.{HasVerdict}
-use Rattle.machine.specs.Accesses.{Access, Own}
+use Rattle.machine.specs.Accesses.{Own, OwnSignal}
 use Rattle.machine.specs.State.{State}
 use Rattle.machine.specs.Fresh.{fresh}
 use Rattle.machine.specs.Turns.{StepResult}
 use Rattle.machine.specs.Steps.{step}
-use Rattle.machine.specs.Runs.{stepsFrom, stateAfter, steps, allAccesses}
+use Rattle.machine.specs.Runs.{stepsFrom, stateAfter, steps}
 use Rattle.machine.specs.Words.{pack, unpack}
-use Rattle.machine.specs.Calls.{CallResult, freshCall, wordsFrom}
+use Rattle.machine.specs.Calls.{CallResult, freshCall, stepCall, wordsFrom}
 use Rattle.machine.specs.Shapes.{Shaped}
 use Rattle.machine.proofs.InShape.{shaped-in-range}
 use Rattle.machine.proofs.Round.{unpack-pack}
@@ -29,8 +29,9 @@ use Rattle.machine.proofs.CallRuns.{asCalled, fresh-called, call-is, calls-are,
 use Rattle.reach.proofs.Sizes.{sized}
 use Rattle.reach.proofs.Fits.{file-fits}
 use Rattle.safety.specs.Safety.{Sound, Safe, Safety, NoPrivateInPublic, Apart}
-use Rattle.safety.specs.Accepted.{AcceptedSafe, stateOf, accessesUnder, accessesAlong}
-use Rattle.safety.specs.inner.Calls.{accessesFrom, SafeCalls, AcceptedCallsSafe}
+use Rattle.safety.specs.Accepted.{AcceptedSafe, stateOf, under, along}
+use Rattle.safety.specs.inner.Calls.{SafeCalls, AcceptedCallsSafe}
+use Rattle.safety.proofs.Accesses.{Gathers, accesses-gathered, signals-gathered}
 use Rattle.safety.proofs.Demand3.{demand-3}
 use Rattle.safety.proofs.TypedFiles.{typed}
 
@@ -55,36 +56,48 @@ module _ (fs : List Frame) (F : FileFits fs (programOf fs) (programOf fs .schedu
   abbrev n : ℕ
   n = programOf fs .schedulers
 
-  under-is : (s : State) (c : ℕ) → Shaped fs n s
-      → accessesUnder fs (pack s) c ≡ step P s c .accesses
-  unfolding accessesUnder
-  under-is s c z =
-      ap (λ (b : Bool). elim b [ true ↦ step P (unpack fs n (pack s)) c .accesses | false ↦ [] ])
-      (shaped-in-range fs n s z)
-      ∙ ap (λ (x : State). step P x c .accesses) (unpack-pack fs n s z)
+  -- what is `made` under the calls, which step from the words of a state in shape
+  module _ {A : Type 0} {made : StepResult → List A} {all : List StepResult → List A} (g : Gathers made all) where
+    under-is : (s : State) (c : ℕ) → Shaped fs n s → under made fs (pack s) c ≡ made (step P s c)
+    unfolding under
+    under-is s c z =
+        ap (λ (b : Bool). elim b [ true ↦ made (step P (unpack fs n (pack s)) c) | false ↦ [] ])
+        (shaped-in-range fs n s z)
+        ∙ ap (λ (x : State). made (step P x c)) (unpack-pack fs n s z)
 
-  accesses-are : (s : State) (cs : List ℕ) → Shaped fs n s
-      → accessesFrom fs (pack s) cs ≡ allAccesses (stepsFrom P s cs)
-  unfolding accessesAlong eachFrom allAccesses
-  accesses-are s [] z = refl
-  accesses-are s (c ∷ cs) z =
-      ap₂ (λ (x : List Access) (y : List Access). x ++ y) (under-is s c z)
-      (ap (λ (x : CallResult). accessesFrom fs (x .words) cs) (call-is fs F s c z) ∙ accesses-are (step P s c .state) cs (keeps-step fs P n F s c z))
+    abbrev from : List ℕ → List ℕ → List A
+    from w cs = along made fs (λ v c. stepCall fs v c .words) w cs
+
+    along-is : (s : State) (cs : List ℕ) → Shaped fs n s
+        → from (pack s) cs ≡ all (stepsFrom P s cs)
+    unfolding along eachFrom
+    along-is s [] z = sym (g .at-end)
+    along-is s (c ∷ cs) z =
+        ap₂ (λ (x : List A) (y : List A). x ++ y) (under-is s c z)
+        (ap (λ (x : CallResult). from (x .words) cs) (call-is fs F s c z) ∙ along-is (step P s c .state) cs (keeps-step fs P n F s c z))
+        ∙ sym (g .at-step (step P s c) _)
+
+    -- from the fresh call on
+    pub from-fresh : (w cs : List ℕ) → length w ≡ 4834
+        → from (freshCall fs w .words) cs ≡ all (steps P cs)
+    from-fresh w cs e =
+        ap (λ (x : CallResult). from (x .words) cs) (fresh-called fs w e)
+        ∙ along-is (fresh P) cs (fresh-shaped fs P n F)
 
   sound-calls : (rs : List StepResult) → All Sound (map (λ (r : StepResult). r .answer) rs)
       → All (λ (r : CallResult). Sound (r .answer)) (map asCalled rs)
   sound-calls [] All.none = All.none
   sound-calls (r ∷ rs) (All.more h hs) = All.more h (sound-calls rs hs)
 
-  calls-safe : (w cs : List ℕ) → length w ≡ 4818 → Safe P cs → SafeCalls fs w cs
+  calls-safe : (w cs : List ℕ) → length w ≡ 4834 → Safe P cs → SafeCalls fs w cs
   calls-safe w cs e s =
       let f = fresh-called fs w e in
-      let z = fresh-shaped fs P n F in
       let q : wordsFrom fs (freshCall fs w .words) cs ≡ pack (stateAfter P cs) = words-are fs F w cs e in
       let u : stateOf fs (wordsFrom fs (freshCall fs w .words) cs) ≡ stateAfter P cs = ap (stateOf fs) q ∙ unpack-pack fs n (stateAfter P cs) (reached-shaped fs P n F cs) in
       record {
         fresh = ap (λ (x : CallResult). x .answer) f;
-        accessed = subst (All Own) (sym (ap (λ (x : CallResult). accessesFrom fs (x .words) cs) f ∙ accesses-are (fresh P) cs z)) (s .accessed);
+        accessed = subst (All Own) (sym (from-fresh accesses-gathered w cs e)) (s .accessed);
+        signalled = subst (All OwnSignal) (sym (from-fresh signals-gathered w cs e)) (s .signalled);
         answered = subst (All (λ (r : CallResult). Sound (r .answer))) (sym (calls-are fs F w cs e)) (sound-calls (steps P cs) (s .answered));
         words = q ∙ ap pack (sym u);
         public = subst NoPrivateInPublic (sym u) (s .public);

@@ -24,7 +24,7 @@ use Rattle.safety.specs.Safety.{Reaches, BelongsToThread, BelongsToSched
 use Rattle.safety.specs.Safety.{Safety}
 use Rattle.safety.proofs.Typing.{Ty, Pub, CellTyping, Store, TypedS}
 use Rattle.language.specs.declared.frame.Frame.{Frame}
-use Rattle.safety.proofs.Accesses.{accessed}
+use Rattle.safety.proofs.Accesses.{accessed, signalled}
 use Rattle.safety.proofs.Heap.{Val, is-cell, Held, by-thread, by-place, GoodCells, Vals}
 use Rattle.safety.proofs.Heap.{none, more, SharedOk, storeOf, held-val}
 use Rattle.safety.proofs.Threads.{nil, cons, each-nth}
@@ -123,6 +123,7 @@ module _ (P : Program) (T : Typed P) where
       let g = good-from (fresh P) cs fresh-good (fresh-counted P) in
       record {
         accessed = accessed P cs a;
+        signalled = signalled P cs a;
         public = public (g .1 .cells);
         apart = λ t. let x = each-nth t (g .1 .threads) (no-thread P (T .sh) (g .0) t) in apart (g .1 .cells) t (x .vars);
         answered = a;

@@ -1,17 +1,18 @@
 -- The premise can be met: document 01's case R with `1202` in frame 7 is accepted, so it is safe
--- under every list of choices. Assumes nothing.
+-- under every list of choices. So is a file with an event, which a run accesses. Assumes nothing.
 use mathlib.Core.Path.{_≡_, refl, subst}
-use mathlib.Core.List.{List, [], _∷_}
+use mathlib.Core.List.{List, [], _∷_, map}
 use Prim.Native.Nat.{ℕ}
 use Prim.Native.Char.{code}
 use Prim.Native.String.{String}
 use Rattle.basics.specs.If.{if_then_else_}
 use Rattle.basics.specs.Members.{any}
 use Rattle.basics.specs.inner.Searches.{every, sameNumbers, lowest, earlier}
+use Rattle.basics.specs.Chains.{eachFrom}
 use Rattle.language.specs.Types.{typeWord, ownerDigit, cellDepth, cellType, ownerOf, contentOf}
 use Rattle.language.specs.Types.{public, contentWord}
 use Rattle.language.specs.Kinds.{kindOf, children}
-use Rattle.language.specs.Effects.{within, withOwner}
+use Rattle.language.specs.Effects.{withMember, setWithin, within}
 use Rattle.language.specs.Places.{standingAt}
 use Rattle.language.specs.declared.verdict.Verdict.the-variants.{Accepted}
 use Rattle.text.specs.Digits.{digit}
@@ -19,19 +20,28 @@ use Rattle.text.specs.Frames.{hexadecimal, lineWord, frameOfWord, wordsOf, text
 use Rattle.text.specs.Reading.{rightAt}
 use Rattle.text.specs.inner.Reading.{firstWrong, reading}
 use Rattle.program.specs.Trees.{expressionTo, expressionAt, statementTo, statementAt}
-use Rattle.program.specs.Programs.{sharedOf, modulesFrom, allowanceOf, programOf}
+use Rattle.program.specs.Programs.{sharedOf, eventsOf, modulesFrom, allowanceOf, programOf}
 use Rattle.fields.specs.Fields.{headerFine, firstContentFine, countOf, frameFine}
 use Rattle.fields.specs.inner.Scans.{headerFault, fieldFault}
 use Rattle.layout.specs.Order.{hasChild}
-use Rattle.layout.specs.inner.Scans.{rowFirst, firstDisorder, isAfterOther, isLeftover, firstLeftover}
-use Rattle.layout.specs.inner.Scans.{noMain, orderFault, lowestChild, deepTo, firstDeep, depthFault}
-use Rattle.layout.specs.inner.Scans.{layoutOf}
+use Rattle.layout.specs.inner.Scans.{rowFirst, firstDisorder, highestRank, isMisplaced, isLeftover}
+use Rattle.layout.specs.inner.Scans.{firstLeftover, noMain, orderFault, lowestChild, deepTo, firstDeep}
+use Rattle.layout.specs.inner.Scans.{depthFault, layoutOf}
 use Rattle.rules.specs.inner.Checking.{namedRule, newRule, contentRule, numbersRule, chooseRule}
 use Rattle.rules.specs.inner.Checking.{typeIn, argue, typesIn, startRule, cooperateRule, seqRule}
 use Rattle.rules.specs.inner.Checking.{doRule, joinRule, storeRule, ifElseRule, whileRule, effectIn}
-use Rattle.rules.specs.inner.Checking.{modulesIn, rulesOf}
+use Rattle.rules.specs.inner.Checking.{signalRule, modulesIn, rulesOf}
 use Rattle.checker.specs.Verdict.{HasVerdict, verdict}
 use Rattle.checker.proofs.Whole.{verdict-computes}
+use Rattle.machine.specs.State.{enlist}
+use Rattle.machine.specs.Fresh.{fresh}
+use Rattle.machine.specs.Waits.{threadsWhere, entriesExcept}
+use Rattle.machine.specs.inner.Families.{isReady}
+use Rattle.machine.specs.Turns.{isSchedulerOf, leave, fits, room, move, goTo}
+use Rattle.machine.specs.Statements.{stepDo, isOwnEvent, signalling, stepAwait}
+use Rattle.machine.specs.Steps.{stepThreadWithin, withoutEventsOf, endInstant, isUnlinked}
+use Rattle.machine.specs.Steps.{stepWithin}
+use Rattle.machine.specs.Runs.{allSignals, signalsOf}
 use Rattle.safety.specs.Safety.{Safe}
 use Rattle.safety.proofs.Accepted.{accepted-safe}
 
@@ -44,13 +54,34 @@ unfoldable pub text : List ℕ
 unfolding bytes
 text = bytes "0001000000020000\n0102000100000000\n2300000000000000\n2000000100000000\n1700000200030000\n0200000400000000\n1300000000000000\n1202000600000000\n0200000700000000\n"
 
--- by computing the definition of the check on this text
-computed : verdict text ≡ Accepted
-unfolding text bytes verdict reading firstWrong rightAt digit textFrames wordsOf lineWord hexadecimal frameOfWord kindOf children if_then_else_ any every sameNumbers lowest earlier typeWord ownerDigit cellDepth cellType ownerOf contentOf public contentWord within withOwner standingAt expressionTo expressionAt statementTo statementAt sharedOf modulesFrom allowanceOf programOf headerFine firstContentFine countOf frameFine hasChild headerFault fieldFault rowFirst firstDisorder isAfterOther isLeftover firstLeftover noMain orderFault lowestChild deepTo firstDeep depthFault layoutOf namedRule newRule contentRule numbersRule chooseRule typeIn argue typesIn startRule cooperateRule seqRule doRule joinRule storeRule ifElseRule whileRule effectIn modulesIn rulesOf
+-- main goes to scheduler 3, and awaits there an event of 3
+unfoldable pub eventText : List ℕ
+unfolding bytes
+eventText = bytes "0001000000020001\n0303000000000000\n1B00000000000000\n1203000200000000\n0200000300000000\n"
+
+-- by computing the definition of the check on these texts
+computed : map verdict (text ∷ eventText ∷ []) ≡ Accepted ∷ Accepted ∷ []
+unfolding text eventText bytes verdict reading firstWrong rightAt digit textFrames wordsOf lineWord hexadecimal frameOfWord kindOf children if_then_else_ any every sameNumbers lowest earlier typeWord ownerDigit cellDepth cellType ownerOf contentOf public contentWord withMember setWithin within standingAt expressionTo expressionAt statementTo statementAt sharedOf eventsOf modulesFrom allowanceOf programOf headerFine firstContentFine countOf frameFine hasChild headerFault fieldFault rowFirst firstDisorder highestRank isMisplaced isLeftover firstLeftover noMain orderFault lowestChild deepTo firstDeep depthFault layoutOf namedRule newRule contentRule numbersRule chooseRule typeIn argue typesIn startRule cooperateRule seqRule doRule joinRule storeRule ifElseRule whileRule signalRule effectIn modulesIn rulesOf
 computed = refl
 
-accepted : HasVerdict text Accepted
-accepted = subst (HasVerdict text) computed (verdict-computes text .says)
+accepted : (bs : List ℕ) → verdict bs ≡ Accepted → HasVerdict bs Accepted
+accepted bs e = subst (HasVerdict bs) e (verdict-computes bs .says)
+
+-- of two lists that are equal, the members
+first : {A : Type 0} {x y : A} {xs ys : List A} → x ∷ xs ≡ y ∷ ys → x ≡ y
+first h = cc
+
+rest : {A : Type 0} {x y : A} {xs ys : List A} → x ∷ xs ≡ y ∷ ys → xs ≡ ys
+rest h = cc
 
 pub case-r-safe : (cs : List ℕ) → Safe (programOf (textFrames text)) cs
-case-r-safe cs = accepted-safe text accepted cs
+case-r-safe cs = accepted-safe text (accepted text (first computed)) cs
+
+pub event-safe : (cs : List ℕ) → Safe (programOf (textFrames eventText)) cs
+event-safe cs = accepted-safe eventText (accepted eventText (first (rest computed))) cs
+
+-- so `signalled` of demand 3 says something: thread 1 moves to 3, whose instant ends, and awaits
+pub event-awaited : signalsOf (programOf (textFrames eventText)) (2 ∷ 3 ∷ 3 ∷ [])
+    ≡ record { event = 0; owner = 3; thread = 1; place = 3 } ∷ []
+unfolding eventText bytes textFrames wordsOf lineWord digit hexadecimal frameOfWord kindOf children if_then_else_ expressionTo expressionAt statementTo statementAt sharedOf eventsOf modulesFrom allowanceOf programOf fresh isReady threadsWhere entriesExcept enlist isSchedulerOf leave fits room move goTo stepDo isOwnEvent signalling stepAwait stepThreadWithin withoutEventsOf endInstant isUnlinked stepWithin eachFrom allSignals
+event-awaited = refl

@@ -10,7 +10,7 @@ pub mod Invariant
 pub mod Evaluates
 pub mod Preservation
 -- 3. Demand 3 of every typed program, by induction on the list of choices. That no access is to
--- another's cell follows from no choice being foreign.
+-- another's cell or event follows from no choice being foreign.
 pub mod Accesses
 pub mod Demand3
 -- 4. What the rules give. Well-formed type words; the rules' typing as typing at a place, the heart

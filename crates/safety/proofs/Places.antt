@@ -4,10 +4,11 @@ use mathlib.Core.Path.{_≡_, refl, sym, ap, subst, _∙_}
 use mathlib.Core.Logic.{inl, inr}
 use mathlib.Core.Bool.{Bool, true, _||_, _&&_}
 use mathlib.Core.List.{List, [], _∷_, _++_, map, append-assoc, map-append}
-use Prim.Native.Nat.{ℕ, zero, suc, _+_, _-_, _≤_, _<_}
+use Prim.Native.Nat.{ℕ, zero, suc, _-_, _≤_, _<_}
 use native.Mathlib.Omega.{arith}
 use native.Mathlib.Decide.{decLt, ℕ-discrete}
 use lib.Dec.{leb, eqb}
+use lib.Bits.{bitOr}
 use borrow.Author.Tests.{leb-true, le-leb, eq-eqb, ltb-true}
 use lib.ListN.{length, getD, length-append, length-map, List·getD-append}
 use lib.Seq.{getD-at}
@@ -16,11 +17,11 @@ use Rattle.basics.proofs.Ifs.{and-true, or-on}
 use Rattle.language.specs.Places.{hasPlace, isScheduler, Standing, linked, unlinked}
 use Rattle.language.proofs.PlaceLaws.{test-bounds, has-place}
 use Rattle.language.specs.Types.{numberType, truthType, cellType, ownerOf}
-use Rattle.language.specs.Effects.{_∪_, withOwner, member}
+use Rattle.language.specs.Effects.{member, noEffect, _∪_, withMember, withOwner, withEvent}
 use Rattle.language.specs.declared.effect.Effect.{Effect}
-use Rattle.language.proofs.Members.{member-join, member-owner, Within, within-members}
+use Rattle.language.proofs.Members.{member-join, member-owner, SetWithin, Within, within-sets}
 use Rattle.program.specs.Trees.{Expr, Stmt}
-use Rattle.program.specs.Programs.{Part, Program, noModule, moduleAt, mainOf}
+use Rattle.program.specs.Programs.{Part, Program, ownerOfEvent, noModule, moduleAt, mainOf}
 use Rattle.rules.specs.Rules.{Setting, Signature, noSignature, signatureAt, signature, HasType}
 use Rattle.rules.specs.Rules.{HaveTypes, AllPublic, HasEffect, Modules}
 use Rattle.machine.proofs.Lists.{all-getD, all-append}
@@ -28,23 +29,46 @@ use Rattle.reach.proofs.Laid.{LaidE, LaidS}
 use Rattle.reach.proofs.Modules.{LastPlain}
 use Rattle.safety.proofs.Typing.{Ty, num, tru, cell, Pub, CellTyping, At, here, there}
 use Rattle.safety.proofs.Typing.{Allowed, TypedE, t-number, t-truth, t-variable, t-shared}
-use Rattle.safety.proofs.Typing.{t-new, t-content, t-sum, t-less, t-choose, Args, TypedS}
-use Rattle.safety.proofs.Typing.{s-nothing, s-seq, s-do, s-start, s-start-wait, s-cooperate}
-use Rattle.safety.proofs.Typing.{s-let, s-store, s-if, s-while}
+use Rattle.safety.proofs.Typing.{t-new, t-content, t-sum, t-less, t-choose, Args, OwnEvent}
+use Rattle.safety.proofs.Typing.{TypedS, s-nothing, s-seq, s-do, s-start, s-start-wait}
+use Rattle.safety.proofs.Typing.{s-cooperate, s-let, s-store, s-if, s-while, s-generate}
+use Rattle.safety.proofs.Typing.{s-await}
 use Rattle.safety.proofs.TypeWords.{tyOf, ty-number, ty-truth, ty-cell, Formed, formed-cell}
 use Rattle.safety.proofs.TypeWords.{formed-public}
 
--- ---- effects within a place: each part of one is within it too
+-- ---- sets within a place: each part of one is within it too
+module _ (p s t : ℕ) (h : SetWithin p (bitOr s t)) where
+  left-within : SetWithin p s
+  left-within q m = h q (member-join q s t ∙ ap (λ (b : Bool). b || member q t) m)
+
+  right-within : SetWithin p t
+  right-within q m =
+      h q (member-join q s t ∙ ap (λ (b : Bool). member q s || b) m ∙ or-on (member q s))
+
+module _ (p o s : ℕ) (h : SetWithin p (withMember o s)) where
+  rest-within : SetWithin p s
+  rest-within q m = h q (member-owner q o s ∙ ap (λ (b : Bool). b || isScheduler o && eqb q o) m)
+
+  -- a scheduler added is p
+  added : 2 ≤ o → o ≤ 9 → (2 ≤ p) × (o ≡ p)
+  added l k =
+      let a : (isScheduler o && eqb o o) ≡ true = rw (le-leb 2 o l, le-leb o 9 k, eq-eqb o o refl) in
+      let r = h o (member-owner o o s ∙ ap (λ (b : Bool). member o s || b) a ∙ or-on (member o s)) in
+      (leb-true 2 p (and-true (leb 2 p) (leb p 9) (r .1) .0), r .0)
+
+-- ---- so of effects
 module _ (p : ℕ) (e f : Effect) (h : Within p (e ∪ f)) where
   in-left : Within p e
-  in-left q m = h q (member-join q e f ∙ ap (λ (b : Bool). b || member q f) m)
+  in-left =
+      (left-within p (e .cells) (f .cells) (h .0), left-within p (e .events) (f .events) (h .1))
 
   in-right : Within p f
-  in-right q m = h q (member-join q e f ∙ ap (λ (b : Bool). member q e || b) m ∙ or-on (member q e))
+  in-right =
+      (right-within p (e .cells) (f .cells) (h .0), right-within p (e .events) (f .events) (h .1))
 
 module _ (p o : ℕ) (e : Effect) (h : Within p (withOwner o e)) where
   in-owned : Within p e
-  in-owned q m = h q (member-owner q o e ∙ ap (λ (b : Bool). b || isScheduler o && eqb q o) m)
+  in-owned = (rest-within p o (e .cells) (h .0), h .1)
 
   -- an owner added is allowed on p: it is p, where it is a scheduler
   allowed : 1 ≤ o → o ≤ 9 → Allowed p o
@@ -52,10 +76,7 @@ module _ (p o : ℕ) (e : Effect) (h : Within p (withOwner o e)) where
     where
       go : Dec (o ≡ 1) → Allowed p o
       go (yes q) = inl q
-      go (no n) =
-          let a : (isScheduler o && eqb o o) ≡ true = rw (le-leb 2 o (omega (arith, n)), le-leb o 9 k, eq-eqb o o refl) in
-          let r = h o (member-owner o o e ∙ ap (λ (b : Bool). member o e || b) a ∙ or-on (member o e)) in
-          inr (leb-true 2 p (and-true (leb 2 p) (leb p 9) (r .1) .0), r .0)
+      go (no n) = inr (added p o (e .cells) (h .0) (omega (arith, n)) k)
 
 -- p is a place at which a thread stands so
 data Stands : Standing → ℕ → Type 0 where
@@ -81,9 +102,16 @@ pub record SharedIs (sh : List CellTyping) (cells : List ℕ) (s : ℕ) : Type 0
   pub same : tyOf (getD cells s 0) ≡ cell (typing .own) (typing .ty)
   pub formed : Formed (getD cells s 0)
 
+-- event s: whose it is to the rules, and to the program, is the same scheduler
+pub record EventIs (P : Program) (events : List ℕ) (s : ℕ) : Type 0 where
+  pub there : s < length (P .events)
+  pub same : ownerOfEvent P s ≡ getD events s 0
+  pub low : 2 ≤ getD events s 0
+  pub high : getD events s 0 ≤ 9
+
 -- P is laid out as reach/proofs/Laid says (Q, n); its shared cells are, to the rules, of the type
--- words in `env`, and sh types them
-module _ (P : Program) (sh : List CellTyping) (env : Setting) (Q : ℕ → Type 0) (n : ℕ) (shared : (s : ℕ) → s < length (env .cells) → SharedIs sh (env .cells) s) where
+-- words in `env`, and sh types them; its events are to the rules those in `env`
+module _ (P : Program) (sh : List CellTyping) (env : Setting) (Q : ℕ → Type 0) (n : ℕ) (shared : (s : ℕ) → s < length (env .cells) → SharedIs sh (env .cells) s) (events : (s : ℕ) → s < length (env .events) → EventIs P (env .events) s) where
   place-range : (o : ℕ) → hasPlace n o ≡ true → (1 ≤ o) × (o ≤ 9)
   place-range o h = test-bounds 1 o (has-place n o h .0)
 
@@ -190,6 +218,16 @@ module _ (P : Program) (sh : List CellTyping) (env : Setting) (Q : ℕ → Type 
         body = y .typed (r .formed) p l m (in-right p e (f .effect) w);
       }
 
+  -- ---- events
+
+  -- 'both have the owner as effect': where that is within p, the owner is p
+  own-event : (p s : ℕ) → s < length (env .events)
+      → Within p (withEvent (getD (env .events) s 0) noEffect) → OwnEvent P p s
+  own-event p s l w =
+      let x = events s l in
+      let r = added p (getD (env .events) s 0) 0 (w .1) (x .low) (x .high) in
+      record { scheduler = r .0; there = x .there; owner = x .same ∙ r .1 }
+
   -- ---- statements
 
   st-typed : {below : List Signature} {Γ : List ℕ} {at : Standing} {x : Stmt} {e : Effect} {b : Bool} {d : ℕ} (p : ℕ)
@@ -197,11 +235,11 @@ module _ (P : Program) (sh : List CellTyping) (env : Setting) (Q : ℕ → Type 
       → HasEffect env below Γ at x e b → TypedS P sh (map tyOf Γ) p x
   st-typed p k s g a w HasEffect.nothing = s-nothing
   st-typed p k s g (LaidS.seq a b) w (HasEffect.seq {e = e} {f = f} c d) = s-seq (st-typed p k s g a (in-left p e f w) c) (st-typed p k s g b (in-right p e f w) d)
-  st-typed p k (on l m) g (LaidS.do-at h a) w (HasEffect.do-unlinked {e = e} r v) = s-do {p = p} {q = 1} (λ z _. omega (arith, l, z)) (st-typed 1 k off g a (within-members 1 e v) r)
+  st-typed p k (on l m) g (LaidS.do-at h a) w (HasEffect.do-unlinked {e = e} r v) = s-do {p = p} {q = 1} (λ z _. omega (arith, l, z)) (st-typed 1 k off g a (within-sets 1 e v) r)
   st-typed p k s g (LaidS.do-at {q = q} h a) w (HasEffect.do-linked {e = e} z r v) =
       let b = place-range q h in
       s-do {p = p} {q = q} (λ _ y. z y)
-      (st-typed q k (on (two q z (b .0)) (b .1)) g a (within-members q e v) r)
+      (st-typed q k (on (two q z (b .0)) (b .1)) g a (within-sets q e v) r)
     where
       two : (q : ℕ) → (q ≡ 1 → ⊥) → 1 ≤ q → 2 ≤ q
       two q z l = omega (arith, z)
@@ -223,6 +261,8 @@ module _ (P : Program) (sh : List CellTyping) (env : Setting) (Q : ℕ → Type 
   st-typed p k s g (LaidS.while x a) w (HasEffect.while {e = e} {f = f} c d) =
       s-while (a-truth (ex-typed p (most s) g x (in-left p e f w) c))
       (st-typed p k s g a (in-right p e f w) d)
+  st-typed p k s g a w (HasEffect.generate {s = x} l) = s-generate (own-event p x l w)
+  st-typed p k s g a w (HasEffect.await {s = x} l) = s-await (own-event p x l w)
 
   -- ---- modules: those below are typed first
 
@@ -264,7 +304,7 @@ module _ (P : Program) (sh : List CellTyping) (env : Setting) (Q : ℕ → Type 
       let h = module-here before m [] (length (P .modules) - 1) e (let x = ap length e in let y = length-append before (m ∷ []) in omega arith) in
       subst (λ (x : Part). TypedS P sh [] 2 (x .body)) (sym (h .1))
       (subst (λ (Γ : List ℕ). TypedS P sh (map tyOf Γ) 2 (m .body)) t
-      (st-typed 2 k (on (omega arith) (omega arith)) (subst (All Formed) (sym t) All.none) a (within-members 2 f w) r))
+      (st-typed 2 k (on (omega arith) (omega arith)) (subst (All Formed) (sym t) All.none) a (within-sets 2 f w) r))
   main-typed {below} before (m ∷ n' ∷ ms) e l k (All.more a rest) (LastPlain.later p) (Modules.more {e = f} r rs) =
       let h = module-here before m (n' ∷ ms) (length below) e l in
       main-typed (before ++ (m ∷ [])) (n' ∷ ms) (e ∙ sym (append-assoc before (m ∷ []) (n' ∷ ms)))

@@ -3,18 +3,19 @@
 use mathlib.Core.Path.{_≡_, refl, sym, ap, subst, _∙_}
 use mathlib.Core.Logic.{inl, inr, _≢_}
 use mathlib.Core.List.{List, [], _∷_, _++_}
-use mathlib.Core.Bool.{true, false, not, _&&_}
+use mathlib.Core.Bool.{Bool, true, false, not, _&&_, _||_}
 use Prim.Native.Nat.{ℕ, suc, _-_, _≤_, _<_}
 use native.Mathlib.Omega.{arith}
 use lib.Dec.{leb, eqb}
 use lib.ListN.{length, take, length-append}
 use lib.Seq.{length-take-le}
-use borrow.Author.Tests.{lt-leb, leb-false, eqb-true, eq-eqb, ne-eqb}
+use borrow.Author.Tests.{le-leb, lt-leb, leb-false, eqb-true, eq-eqb, ne-eqb}
 use Rattle.basics.specs.Members.{All}
-use Rattle.basics.proofs.Ifs.{if-all}
+use Rattle.basics.proofs.Ifs.{if-all, or-on}
 use Rattle.program.specs.Trees.{Expr, Stmt}
-use Rattle.program.specs.Programs.{Program, moduleAt}
+use Rattle.program.specs.Programs.{Program, ownerOfEvent, moduleAt}
 use Rattle.machine.specs.State.{State, Item, run, back, drop, Thread, Entry, threadAt, schedulerAt}
+use Rattle.machine.specs.State.{isPresent}
 use Rattle.machine.specs.Waits.{readyThreads, stillWaiting}
 use Rattle.machine.specs.Evaluation.{Here, EvalResult, Evaluation, eval, storing}
 use Rattle.machine.specs.Turns.{StepResult, Turn, here, continuation, variables, refuse, accept}
@@ -27,21 +28,23 @@ use Rattle.machine.specs.inner.Parts.{stepItems, stepThread, turn, stepSchedule
 use Rattle.machine.specs.Statements.{ends, drops, goesBack, stepNothing, stepSeq, stepDo, started}
 use Rattle.machine.specs.Statements.{newThread, starting, stepStart, startedWait, stepStartWait}
 use Rattle.machine.specs.Statements.{stepCooperate, stepLet, stepStore, stepIf, stepWhile}
-use Rattle.machine.specs.Statements.{stepStatement}
+use Rattle.machine.specs.Statements.{withSignal, isOwnEvent, signalling, wake, stepGenerate}
+use Rattle.machine.specs.Statements.{stepAwait, stepStatement}
 use Rattle.machine.specs.declared.value.Value.{Value}
 use Rattle.machine.specs.declared.value.Outcome.{Outcome}
 use Rattle.machine.specs.declared.value.Outcome.the-variants.{Is, Spent}
 use Rattle.machine.proofs.Tests.{not-both, taken, passed}
 use Rattle.machine.proofs.Space.{Counted, acting-with, free-same, unlinked-free, Acting, room-one}
-use Rattle.machine.proofs.Space.{room-two, leave-threads, nth-length}
+use Rattle.machine.proofs.Space.{room-two, room-awake, signal-acting, leave-threads, nth-length}
 use Rattle.machine.proofs.Continuations.{Roomy, no-items, run-item, fits-true, roomy-seq, roomy-do}
 use Rattle.machine.proofs.Continuations.{roomy-let, roomy-while, roomy-then, roomy-else, below-run}
 use Rattle.machine.proofs.Continuations.{below-back, below-drop, drop-finds}
 use Rattle.machine.proofs.Depth.{BodiesFit}
 use Rattle.safety.specs.Safety.{Sound}
-use Rattle.safety.proofs.Typing.{Ty, tru, Pub, CellTyping, Store, TypedE, Args, TypedS}
-use Rattle.safety.proofs.Typing.{s-nothing, s-seq, s-do, s-start, s-start-wait, s-cooperate}
-use Rattle.safety.proofs.Typing.{s-let, s-store, s-if, s-while}
+use Rattle.safety.proofs.Typing.{Ty, tru, Pub, CellTyping, Store, TypedE, Args, OwnEvent}
+use Rattle.safety.proofs.Typing.{TypedS, s-nothing, s-seq, s-do, s-start, s-start-wait}
+use Rattle.safety.proofs.Typing.{s-cooperate, s-let, s-store, s-if, s-while, s-generate}
+use Rattle.safety.proofs.Typing.{s-await}
 use Rattle.safety.proofs.Heap.{Val, is-tru, GoodCells, More, Vals, none, more, val-more}
 use Rattle.safety.proofs.Heap.{vals-more, shared-more, vals-public, vals-length, vals-snoc}
 use Rattle.safety.proofs.Heap.{vals-take}
@@ -217,12 +220,36 @@ module _ (P : Program) (sh : List CellTyping) where
           roomy = subst (λ (t : Thread). Roomy (length (t .variables)) (t .continuation)) (sym e) o;
         }
 
+    -- nothing stands in the way of an access to an event of the scheduler on which the thread
+    -- stands, where the lists have room
+    ok-signalling : {Γ : List Ty} (u : Turn) (e : ℕ) (b : Bool) (k : Turn → StepResult) (r : Ready Γ u)
+        → OwnEvent P (here u) e → b ≡ true
+        → (Ready Γ (withSignal u e) → Okay (k (withSignal u e))) → Okay (signalling u e b k)
+    unfolding signalling isOwnEvent
+    ok-signalling u e b k r o h f =
+        passed Okay (leb (length (u .program .events)) e) _ _
+        (lt-leb (length (u .program .events)) e (subst (λ (p : Program). e < length (p .events)) (sym (r .program)) (o .there)))
+        (passed Okay (not b) _ _ (ap not h)
+        (taken Okay (leb 2 (here u) && eqb (ownerOfEvent (u .program) e) (here u)) _ _ own
+        (f (record { before = r .before; acting = signal-acting u e (r .acting); typing = r .typing; now = r .now; vars = r .vars; program = r .program }))))
+      where
+        own : (leb 2 (here u) && eqb (ownerOfEvent (u .program) e) (here u)) ≡ true
+        own = rw (le-leb 2 (here u) (o .scheduler), eq-eqb (ownerOfEvent (u .program) e) (here u) (ap (λ (p : Program). ownerOfEvent p e) (r .program) ∙ o .owner))
+
+    -- the same thread after an access to an event, which changes neither threads nor cells
+    past-signal : {Γ : List Ty} (u : Turn) (e : ℕ) (q : Ready Γ (withSignal u e))
+        → TypedItems P sh Γ (here u) (continuation u)
+        → Roomy (length (variables u)) (continuation u)
+        → Good P sh (settled (withSignal u e) (u .self))
+    past-signal u e q p o =
+        (q .typing, settled-good P sh (withSignal u e) (u .self) (q .now) (self-good u (withSignal u e) q refl p o))
+
     -- ---- each statement
 
     ok-statement : {Γ : List Ty} (u : Turn) (x : Stmt) (r : Ready Γ u) → TypedS P sh Γ (here u) x
         → TypedItems P sh Γ (here u) (continuation u)
         → Roomy (length (variables u)) (run x ∷ continuation u) → Okay (stepStatement u x)
-    unfolding stepNothing stepSeq stepDo stepStart startedWait stepStartWait stepCooperate stepLet stepStore stepIf stepWhile
+    unfolding stepNothing stepSeq stepDo stepStart startedWait stepStartWait stepCooperate stepLet stepStore stepIf stepWhile wake stepGenerate stepAwait
     ok-statement {Γ} u x r s-nothing p o =
         ok-stay u (continuation u) (variables u) Γ r (r .vars) p (below-run o)
     ok-statement {Γ} u x r (s-seq a b) p o =
@@ -280,6 +307,16 @@ module _ (P : Program) (sh : List CellTyping) where
         (λ e v q m z. ok-by (afterEval u e) _ _ z
         (ok-stay (afterEval u e) _ (variables u) Γ q (q .vars) (p-run b (p-run (s-while d b) p)) (roomy-while o))
         (ok-stay (afterEval u e) _ (variables u) Γ q (q .vars) p (below-run o)))
+    -- 1A: only lists and the event change
+    ok-statement {Γ} u x r (s-generate {e = e} y) p o =
+        ok-signalling u e _ _ r y (room-awake u (r .acting) e)
+        (λ q. ok-accept (withSignal u e) _ (past-signal u e q p (below-run o)))
+    -- 1B: the same where the event is present; else the thread stays as it was
+    ok-statement {Γ} u x r (s-await {e = e} y) p o =
+        ok-signalling u e _ _ r y (rw (room-one u (r .acting) (here u)) (or-on (isPresent (u .state) e || unlinkedHere u)))
+        (λ q. if-all Okay (isPresent (u .state) e) _ _
+        (λ _. ok-accept (withSignal u e) _ (past-signal u e q p (below-run o)))
+        (λ _. ok-accept (withSignal u e) _ (enlisted-good P sh _ _ _ (q .typing, left-good P sh (withSignal u e) (threadAt (u .state) (u .thread)) (q .now) (each-nth (u .thread) (q .now .threads) (no-thread P sh (q .typing) (u .thread)))))))
 
     -- ---- each item: the acting thread, whose variables are of types Γ, takes the top of that
     -- continuation
@@ -326,9 +363,9 @@ module _ (P : Program) (sh : List CellTyping) where
     ok-nobody : (k : ℕ) (s : State) → Good P sh s → Sound k → Okay (nobody k s)
     ok-nobody k s g h = record { good = g; sound = h }
 
-    -- the end of an instant: only lists change
+    -- the end of an instant: only lists and events change
     ok-instant : (s : State) (c : ℕ) (ts : List ℕ) (es : List Entry) → Good P sh s
-        → Okay (turnInstant s c ts es)
+        → Okay (turnInstant P s c ts es)
     ok-instant s c [] es g = ok-nobody 16 s g (λ e. omega (arith, e), λ e. omega (arith, e))
     ok-instant s c (t ∷ ts) es g = ok-nobody 0 _ g (λ e. omega (arith, e), λ e. omega (arith, e))
 

@@ -7,7 +7,7 @@ use mathlib.Core.Option.{Option}
 use Prim.Native.Nat.{ℕ, zero, suc, _≤_, _<_}
 use lib.ListN.{length}
 use Rattle.program.specs.Trees.{Expr, Stmt}
-use Rattle.program.specs.Programs.{Program, moduleAt}
+use Rattle.program.specs.Programs.{Program, ownerOfEvent, moduleAt}
 
 -- types, as the type words say them: a number, a truth, a cell of that owner around a type
 pub data Ty : Type 0 where
@@ -63,6 +63,12 @@ pub data Args (sh : List CellTyping) (Γ : List Ty) (p : ℕ) : List Expr → Li
   more : {x : Expr} {xs : List Expr} {τ : Ty} {τs : List Ty} → TypedE sh Γ p x τ → Pub τ
       → Args sh Γ p xs τs → Args sh Γ p (x ∷ xs) (τ ∷ τs)
 
+-- event e is there, and p is the scheduler that owns it
+pub record OwnEvent (P : Program) (p e : ℕ) : Type 0 where
+  pub scheduler : 2 ≤ p
+  pub there : e < length (P .events)
+  pub owner : ownerOfEvent P e ≡ p
+
 -- the statement keeps the rules on p, over variables Γ: its effect is within p, and p is 1 where it
 -- is unlinked
 pub data TypedS (P : Program) (sh : List CellTyping) : List Ty → ℕ → Stmt → Type 0 where
@@ -86,3 +92,5 @@ pub data TypedS (P : Program) (sh : List CellTyping) : List Ty → ℕ → Stmt 
       → TypedS P sh Γ p b → TypedS P sh Γ p (Stmt.ifElse i x a b)
   s-while : {Γ : List Ty} {p i : ℕ} {x : Expr} {a : Stmt} → TypedE sh Γ p x tru → TypedS P sh Γ p a
       → TypedS P sh Γ p (Stmt.while i x a)
+  s-generate : {Γ : List Ty} {p i e : ℕ} → OwnEvent P p e → TypedS P sh Γ p (Stmt.generate i e)
+  s-await : {Γ : List Ty} {p i e : ℕ} → OwnEvent P p e → TypedS P sh Γ p (Stmt.await i e)

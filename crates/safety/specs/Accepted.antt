@@ -7,8 +7,8 @@ use Rattle.language.specs.declared.verdict.Verdict.the-variants.{Accepted}
 use Rattle.text.specs.Frames.{textFrames}
 use Rattle.program.specs.Programs.{programOf}
 use Rattle.checker.specs.Verdict.{HasVerdict}
-use Rattle.machine.specs.{Accesses.Access, State.State, Steps.step, Words.unpack}
-use Rattle.machine.specs.{inner.Ranges.inRange}
+use Rattle.machine.specs.{Accesses.Access, Accesses.Signal, State.State, Turns.StepResult}
+use Rattle.machine.specs.{Steps.step, Words.unpack, inner.Ranges.inRange}
 use Rattle.safety.specs.Safety.{Safe}
 
 -- for every text that the check accepts, and every list of choices, of any length and content
@@ -22,14 +22,28 @@ AcceptedSafe =
 abbrev pub stateOf : List Frame → List ℕ → State
 stateOf fs w = unpack fs (programOf fs .schedulers) w
 
--- the accesses under a call on words w: 'those that the stepping rules make on the state it was
+-- what was `made` under a call on words w: 'those that the stepping rules make on the state it was
 -- given, those before a refusal too'; words out of range say no state
-unfoldable pub accessesUnder : List Frame → List ℕ → ℕ → List Access
-accessesUnder fs w c =
+unfoldable pub under : {A : Type 0} → (StepResult → List A) → List Frame → List ℕ → ℕ → List A
+under made fs w c =
     elim (inRange fs (programOf fs .schedulers) w)
-    [ true ↦ step (programOf fs) (stateOf fs w) c .accesses | false ↦ [] ]
+    [ true ↦ made (step (programOf fs) (stateOf fs w) c) | false ↦ [] ]
 
--- of one call after the other, each on the words that `next` says the one before left
-unfoldable pub accessesAlong : List Frame → (List ℕ → ℕ → List ℕ) → List ℕ → List ℕ → List Access
-accessesAlong fs next w [] = []
-accessesAlong fs next w (c ∷ cs) = accessesUnder fs w c ++ accessesAlong fs next (next w c) cs
+-- under one call after the other, each on the words that `next` says the one before left
+unfoldable pub along : {A : Type 0} → (StepResult → List A) → List Frame
+    → (List ℕ → ℕ → List ℕ) → List ℕ → List ℕ → List A
+along made fs next w [] = []
+along made fs next w (c ∷ cs) = under made fs w c ++ along made fs next (next w c) cs
+
+-- so of accesses to cells, and of those to events
+abbrev pub accessesUnder : List Frame → List ℕ → ℕ → List Access
+accessesUnder fs w c = under (λ (r : StepResult). r .accesses) fs w c
+
+abbrev pub accessesAlong : List Frame → (List ℕ → ℕ → List ℕ) → List ℕ → List ℕ → List Access
+accessesAlong fs next w cs = along (λ (r : StepResult). r .accesses) fs next w cs
+
+abbrev pub signalsUnder : List Frame → List ℕ → ℕ → List Signal
+signalsUnder fs w c = under (λ (r : StepResult). r .signals) fs w c
+
+abbrev pub signalsAlong : List Frame → (List ℕ → ℕ → List ℕ) → List ℕ → List ℕ → List Signal
+signalsAlong fs next w cs = along (λ (r : StepResult). r .signals) fs next w cs

@@ -3,8 +3,9 @@ use Rattle.basics.specs.Prelude.{List, ℕ, _≤_, _≡_, _≢_, All}
 use Rattle.language.specs.{Places.home, Places.lastScheduler, declared.frame.Frame.Frame}
 use Rattle.language.specs.{Refusals.foreign, Refusals.stuck}
 use Rattle.program.specs.Programs.{Program, programOf}
-use Rattle.machine.specs.{Accesses.Own, State.State, State.Stored, State.cellAt, State.threadAt}
-use Rattle.machine.specs.{State.threadOwner, Runs.stateAfter, Runs.answers, Runs.accessesOf}
+use Rattle.machine.specs.{Accesses.Own, Accesses.OwnSignal, State.State, State.Stored}
+use Rattle.machine.specs.{State.cellAt, State.threadAt, State.threadOwner, Runs.stateAfter}
+use Rattle.machine.specs.{Runs.answers, Runs.accessesOf, Runs.signalsOf}
 use Rattle.machine.specs.{declared.value.Value.Value, declared.value.Value.the-variants.Cell}
 
 -- ---- ownership and reachability
@@ -48,6 +49,9 @@ pub record Safe (p : Program) (cs : List ℕ) : Type 0 where
   -- every access under every choice or call was to a cell of the acting thread or of the scheduler
   -- on which it stood, 'those before a refusal too'
   pub accessed : All Own (accessesOf p cs)
+  -- 02, change 5: 'An accepted file touches an event only from its owner's scheduler, in every
+  -- run.'
+  pub signalled : All OwnSignal (signalsOf p cs)
   pub public : NoPrivateInPublic (stateAfter p cs)
   pub apart : Apart (stateAfter p cs)
   -- no choice was foreign or stuck

@@ -10,7 +10,7 @@ use Rattle.basics.specs.Chains.{eachFrom}
 use Rattle.language.specs.Types.{typeWord, ownerDigit, cellDepth, cellType, ownerOf, contentOf}
 use Rattle.language.specs.Types.{public, contentWord}
 use Rattle.language.specs.Kinds.{kindOf, children}
-use Rattle.language.specs.Effects.{within, withOwner}
+use Rattle.language.specs.Effects.{withMember, setWithin, within}
 use Rattle.language.specs.Places.{standingAt}
 use Rattle.language.specs.declared.verdict.Verdict.{Verdict}
 use Rattle.text.specs.Digits.{digit}
@@ -18,13 +18,13 @@ use Rattle.text.specs.Frames.{hexadecimal, lineWord, frameOfWord, wordsOf, text
 use Rattle.text.specs.Reading.{rightAt}
 use Rattle.text.specs.inner.Reading.{firstWrong, reading}
 use Rattle.program.specs.Trees.{expressionTo, expressionAt, statementTo, statementAt}
-use Rattle.program.specs.Programs.{sharedOf, modulesFrom, allowanceOf, programOf}
+use Rattle.program.specs.Programs.{sharedOf, eventsOf, modulesFrom, allowanceOf, programOf}
 use Rattle.fields.specs.Fields.{headerFine, firstContentFine, countOf, frameFine}
 use Rattle.fields.specs.inner.Scans.{headerFault, fieldFault}
 use Rattle.layout.specs.Order.{hasChild}
-use Rattle.layout.specs.inner.Scans.{rowFirst, firstDisorder, isAfterOther, isLeftover, firstLeftover}
-use Rattle.layout.specs.inner.Scans.{noMain, orderFault, lowestChild, deepTo, firstDeep, depthFault}
-use Rattle.layout.specs.inner.Scans.{layoutOf}
+use Rattle.layout.specs.inner.Scans.{rowFirst, firstDisorder, highestRank, isMisplaced, isLeftover}
+use Rattle.layout.specs.inner.Scans.{firstLeftover, noMain, orderFault, lowestChild, deepTo, firstDeep}
+use Rattle.layout.specs.inner.Scans.{depthFault, layoutOf}
 use Rattle.rules.specs.inner.Checking.{namedRule, newRule, contentRule, numbersRule, chooseRule}
 use Rattle.rules.specs.inner.Checking.{typeIn, argue, typesIn, startRule, cooperateRule, seqRule}
 use Rattle.rules.specs.inner.Checking.{doRule, joinRule, storeRule, ifElseRule, whileRule, effectIn}
@@ -34,12 +34,13 @@ use Rattle.checker.proofs.Whole.{verdict-computes}
 use Rattle.machine.specs.Values.{firstContent}
 use Rattle.machine.specs.State.{enlist}
 use Rattle.machine.specs.Fresh.{fresh}
-use Rattle.machine.specs.Waits.{readyThreads, stillWaiting}
+use Rattle.machine.specs.Waits.{threadsWhere, entriesExcept}
 use Rattle.machine.specs.inner.Families.{isReady}
 use Rattle.machine.specs.Turns.{isSchedulerOf, leave, fits, stay}
 use Rattle.machine.specs.Statements.{ends, stepNothing}
-use Rattle.machine.specs.Steps.{stepThreadWithin, endInstant, isUnlinked, stepWithin}
-use Rattle.machine.specs.Runs.{stepsFrom, answers}
+use Rattle.machine.specs.Steps.{stepThreadWithin, withoutEventsOf, endInstant, isUnlinked}
+use Rattle.machine.specs.Steps.{stepWithin}
+use Rattle.machine.specs.Runs.{answers}
 use Rattle.samples.specs.inner.Bytes.{bytes}
 use Rattle.samples.specs.inner.Samples.{Sample, samples}
 
@@ -56,7 +57,7 @@ said x = record { verdict-of = x .verdict; answers-of = x .answers }
 
 -- the whole table, computed at once
 pub table : map computed samples ≡ map said samples
-unfolding bytes if_then_else_ any every sameNumbers lowest earlier standingAt cellDepth cellType ownerOf contentOf public ownerDigit typeWord contentWord withOwner within kindOf children digit hexadecimal lineWord frameOfWord wordsOf textFrames rightAt firstWrong reading expressionTo expressionAt statementTo statementAt sharedOf modulesFrom allowanceOf programOf headerFine firstContentFine countOf frameFine hasChild headerFault fieldFault rowFirst firstDisorder isAfterOther isLeftover firstLeftover noMain orderFault lowestChild deepTo firstDeep depthFault layoutOf namedRule newRule contentRule numbersRule chooseRule typeIn argue typesIn startRule cooperateRule seqRule doRule joinRule storeRule ifElseRule whileRule effectIn modulesIn rulesOf verdict firstContent enlist fresh isReady readyThreads stillWaiting isSchedulerOf leave fits stay ends stepNothing stepThreadWithin endInstant isUnlinked stepWithin eachFrom
+unfolding bytes if_then_else_ any every sameNumbers lowest earlier standingAt cellDepth cellType ownerOf contentOf public ownerDigit typeWord contentWord withMember setWithin within kindOf children digit hexadecimal lineWord frameOfWord wordsOf textFrames rightAt firstWrong reading expressionTo expressionAt statementTo statementAt sharedOf eventsOf modulesFrom allowanceOf programOf headerFine firstContentFine countOf frameFine hasChild headerFault fieldFault rowFirst firstDisorder highestRank isMisplaced isLeftover firstLeftover noMain orderFault lowestChild deepTo firstDeep depthFault layoutOf namedRule newRule contentRule numbersRule chooseRule typeIn argue typesIn startRule cooperateRule seqRule doRule joinRule storeRule ifElseRule whileRule effectIn modulesIn rulesOf verdict firstContent enlist fresh isReady threadsWhere entriesExcept isSchedulerOf leave fits stay ends stepNothing stepThreadWithin withoutEventsOf endInstant isUnlinked stepWithin eachFrom
 table = refl
 
 -- ---- each row: the verdict is the one that the rules give, and the answers are those of the steps

@@ -17,6 +17,7 @@ use Rattle.machine.specs.State.{State, Stored, Scheduler, noScheduler, noCell, 
 use Rattle.machine.specs.State.{withScheduler}
 use Rattle.machine.specs.Fresh.{firstCell, mainThread, homeScheduler, fresh}
 use Rattle.machine.specs.Words.{itemWord, listWord, schedulerWord, cellWord, pack}
+use Rattle.machine.specs.Words.{bit}
 use Rattle.machine.specs.inner.Blocks.{pasted, cellWords}
 use Rattle.machine.specs.Calls.{callResult, freshCall}
 use Rattle.machine.proofs.WordLaws.{Says, is-pack, pasted-length, pasted-in, pasted-out}
@@ -40,34 +41,41 @@ replicate-at {A} n i x = by (ltb i n) refl
     by true e = getD-replicate n i x x (ltb-true i n e)
     by false e = List·getD-eq-default (replicate n x) x {n = i} (let l : n ≤ i = ltb-false i n e in rw (length-replicate {A = A} n x) l)
 
-zero-word : (w : List ℕ) (i : ℕ) → w ≡ replicate 4818 0 → getD w i 0 ≡ 0
-zero-word w i e = ap (λ (l : List ℕ). getD l i 0) e ∙ replicate-at 4818 i 0
+zero-word : (w : List ℕ) (i : ℕ) → w ≡ replicate 4834 0 → getD w i 0 ≡ 0
+zero-word w i e = ap (λ (l : List ℕ). getD l i 0) e ∙ replicate-at 4834 i 0
 
 none-at : (m k : ℕ) → getD (noScheduler ∷ replicate m noScheduler) k noScheduler ≡ noScheduler
 none-at m zero = refl
 none-at m (suc k) = replicate-at m k noScheduler
 
--- no thread, no cell, nobody in a list
-abbrev bare : ℕ → State
-bare m = record { threads = []; schedulers = noScheduler ∷ replicate m noScheduler; cells = [] }
-
-zeros-say : (w : List ℕ) (m : ℕ) → w ≡ replicate 4818 0 → Says w (bare m)
-zeros-say w m e =
+-- no thread, no cell, nobody in a list, no event present
+abbrev bare : ℕ → ℕ → State
+bare m n =
     record {
-      all = ap length e ∙ length-replicate {A = ℕ} 4818 0;
+      threads = [];
+      schedulers = noScheduler ∷ replicate m noScheduler;
+      cells = [];
+      present = replicate n false;
+    }
+
+zeros-say : (w : List ℕ) (m n : ℕ) → w ≡ replicate 4834 0 → Says w (bare m n)
+zeros-say w m n e =
+    record {
+      all = ap length e ∙ length-replicate {A = ℕ} 4834 0;
       threads = at 0;
       cells = at 1;
       scheduler = λ k j a g. at (2 + 130 * k + j) ∙ no-scheduler-word j g ∙ ap (λ (x : Scheduler). schedulerWord x j) (sym (none-at m k));
       thread = λ k j a g. at (1042 + 55 * k + j) ∙ no-thread-word j g;
-      cell = λ j g. at (4562 + j) ∙ no-cell-word;
+      event = λ k g. at (4562 + k) ∙ ap bit (sym (replicate-at n k false));
+      cell = λ j g. at (4578 + j) ∙ no-cell-word;
     }
   where
     at : (i : ℕ) → getD w i 0 ≡ 0
     at i = zero-word w i e
 
 -- ---- the shared cells: after them the words are 0, as they were
-all-cells : (w : List ℕ) (xs : List SharedCell) → w ≡ replicate 4818 0
-    → withShared w xs ≡ pasted w 4562 (cellWords (map firstCell xs)) 256
+all-cells : (w : List ℕ) (xs : List SharedCell) → w ≡ replicate 4834 0
+    → withShared w xs ≡ pasted w 4578 (cellWords (map firstCell xs)) 256
 unfolding withShared
 all-cells w xs e = by (leb (length xs) 256) refl
   where
@@ -77,36 +85,36 @@ all-cells w xs e = by (leb (length xs) 256) refl
     B : List ℕ
     B = cellWords (map firstCell xs)
 
-    long : length w ≡ 4818
-    long = ap length e ∙ length-replicate {A = ℕ} 4818 0
+    long : length w ≡ 4834
+    long = ap length e ∙ length-replicate {A = ℕ} 4834 0
 
     by : (b : Bool) → leb (length xs) 256 ≡ b
-        → withShared w xs ≡ pasted w 4562 (cellWords (map firstCell xs)) 256
-    by false q = ap (pasted w 4562 B) (if-no _ _ q)
+        → withShared w xs ≡ pasted w 4578 (cellWords (map firstCell xs)) 256
+    by false q = ap (pasted w 4578 B) (if-no _ _ q)
     by true q =
-        ap (pasted w 4562 B) (if-yes _ _ q)
-        ∙ same-pasted w (pasted w 4562 B (length xs)) 4562 B 256 (rw long (omega arith))
-        (rw (cells-length cs) (omega arith)) (pasted-length w 4562 B (length xs) hd hs)
+        ap (pasted w 4578 B) (if-yes _ _ q)
+        ∙ same-pasted w (pasted w 4578 B (length xs)) 4578 B 256 (rw long (omega arith))
+        (rw (cells-length cs) (omega arith)) (pasted-length w 4578 B (length xs) hd hs)
         (λ j g. inside j g (ltb j (length xs)) refl)
-        (λ i f. pasted-out w 4562 B (length xs) hd hs i (λ p r. let m = l in f p (omega arith)))
+        (λ i f. pasted-out w 4578 B (length xs) hd hs i (λ p r. let m = l in f p (omega arith)))
       where
         l : length xs ≤ 256
         l = leb-true (length xs) 256 q
 
-        hd : 4562 + length xs ≤ length w
+        hd : 4578 + length xs ≤ length w
         hd = let m = l in rw long (omega arith)
 
         hs : length xs ≤ length (cellWords (map firstCell xs))
         hs = rw (cells-length cs) l
 
         inside : (j : ℕ) → j < 256 → (b : Bool) → ltb j (length xs) ≡ b
-            → getD (pasted w 4562 (cellWords (map firstCell xs)) (length xs)) (4562 + j) 0
+            → getD (pasted w 4578 (cellWords (map firstCell xs)) (length xs)) (4578 + j) 0
             ≡ getD (cellWords (map firstCell xs)) j 0
-        inside j g true c = pasted-in w 4562 B (length xs) hd hs j (ltb-true j (length xs) c)
+        inside j g true c = pasted-in w 4578 B (length xs) hd hs j (ltb-true j (length xs) c)
         inside j g false c =
             let m : length xs ≤ j = ltb-false j (length xs) c in
-            pasted-out w 4562 B (length xs) hd hs (4562 + j) (λ p r. omega arith)
-            ∙ zero-word w (4562 + j) e ∙ no-cell-word
+            pasted-out w 4578 B (length xs) hd hs (4578 + j) (λ p r. omega arith)
+            ∙ zero-word w (4578 + j) e ∙ no-cell-word
             ∙ ap cellWord (sym (List·getD-eq-default (map firstCell xs) noCell {n = j} (rw (length-map xs firstCell) m)))
             ∙ sym (cells-at cs j g)
 
@@ -158,30 +166,31 @@ abbrev programIn : List ℕ → Program
 programIn words = programOf (framesOf words)
 
 abbrev bareIn : List ℕ → State
-bareIn words = bare (programOf (framesOf words) .schedulers - 1)
+bareIn words =
+    bare (programOf (framesOf words) .schedulers - 1) (length (programOf (framesOf words) .events))
 
 -- w₀ the lent words, w₁ cleared, w₂ with the shared cells, w₃ with main's thread
 pub fresh-words : (words w₀ w₁ w₂ w₃ : List ℕ) (b : ℕ) (th : ThreadWords)
     → w₁ ≡ replicate (length w₀) 0
     → w₂ ≡ set (withShared w₁ (sharedOf (framesOf words))) 1 (length (sharedOf (framesOf words)))
     → b ≡ rootS (mainOf (programOf (framesOf words)) .body) → th ≡ mainWords b
-    → w₃ ≡ withOneMore w₂ th → length w₀ ≡ 4818
+    → w₃ ≡ withOneMore w₂ th → length w₀ ≡ 4834
     → set (set w₃ 2 1) 3 1 ≡ pack (fresh (programOf (framesOf words)))
 unfolding fresh programOf
 fresh-words words w₀ w₁ w₂ w₃ b th e₁ e₂ eb et e₃ l =
     is-pack (set (set w₃ 2 1) 3 1) (fresh (programIn words)) with-home
   where
-    zeros : w₁ ≡ replicate 4818 0
+    zeros : w₁ ≡ replicate 4834 0
     zeros = e₁ ∙ ap (λ (k : ℕ). replicate k 0) l
 
-    cells : w₂ ≡ set (pasted w₁ 4562 (cellWords (cellsIn words)) 256) 1 (length (cellsIn words))
+    cells : w₂ ≡ set (pasted w₁ 4578 (cellWords (cellsIn words)) 256) 1 (length (cellsIn words))
     cells =
         e₂
         ∙ ap₂ (λ (u : List ℕ) (k : ℕ). set u 1 k) (all-cells w₁ (sharedIn words) zeros)
         (sym (length-map (sharedIn words) firstCell))
 
     with-cells : Says w₂ (withCells (cellsIn words) (bareIn words))
-    with-cells = subst (λ (u : List ℕ). Says u (withCells (cellsIn words) (bareIn words))) (sym cells) (put-cells w₁ (bareIn words) (zeros-say w₁ (programIn words .schedulers - 1) zeros) (cellsIn words))
+    with-cells = subst (λ (u : List ℕ). Says u (withCells (cellsIn words) (bareIn words))) (sym cells) (put-cells w₁ (bareIn words) (zeros-say w₁ (programIn words .schedulers - 1) (length (programIn words .events)) zeros) (cellsIn words))
 
     with-main : Says w₃ (withNew (mainThread (programIn words)) (withCells (cellsIn words) (bareIn words)))
     with-main = subst (λ (u : List ℕ). Says u (withNew (mainThread (programIn words)) (withCells (cellsIn words) (bareIn words))))
@@ -191,12 +200,12 @@ fresh-words words w₀ w₁ w₂ w₃ b th e₁ e₂ eb et e₃ l =
     with-home = home-says w₃ (withNew (mainThread (programIn words)) (withCells (cellsIn words) (bareIn words))) with-main (omega arith) refl
 
 -- ---- as a call
-pub call-wrong : (words w : List ℕ) → (length w ≡ 4818 → ⊥)
+pub call-wrong : (words w : List ℕ) → (length w ≡ 4834 → ⊥)
     → callResult 14 0 0 w ≡ freshCall (framesOf words) w
 unfolding freshCall
-call-wrong words w h = sym (ap (λ (b : Bool). elim b [ true ↦ callResult 0 0 0 (pack (fresh (programOf (framesOf words)))) | false ↦ callResult 14 0 0 w ]) (ne-eqb (length w) 4818 h))
+call-wrong words w h = sym (ap (λ (b : Bool). elim b [ true ↦ callResult 0 0 0 (pack (fresh (programOf (framesOf words)))) | false ↦ callResult 14 0 0 w ]) (ne-eqb (length w) 4834 h))
 
-pub call-fresh : (words w v : List ℕ) → length w ≡ 4818
+pub call-fresh : (words w v : List ℕ) → length w ≡ 4834
     → v ≡ pack (fresh (programOf (framesOf words))) → callResult 0 0 0 v
     ≡ freshCall (framesOf words) w
 call-fresh words w v l e = ap (callResult 0 0 0) e ∙ sym (fresh-called (framesOf words) w l)

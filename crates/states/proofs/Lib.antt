@@ -4,6 +4,8 @@ pub mod ThreadSays
 pub mod ThreadLaws
 pub mod StackLaws
 pub mod StackWords
+-- Events.
+pub mod EventLaws
 -- Unlinked threads.
 pub mod PartyLaws
 -- The fresh state: its parts, and the whole.

@@ -136,7 +136,7 @@ unfolding poppedAt
 popped-at w at = refl
 
 -- ---- what each function of `stack` writes
-module _ (w : List ℕ) (k : ℕ) (all : length w ≡ 4818) (room : k < 64) where
+module _ (w : List ℕ) (k : ℕ) (all : length w ≡ 4834) (room : k < 64) where
   one-word : (y : ThreadWords) (i j v : ℕ) → i ≡ 1042 + 55 * k + j → j < 55
       → set (blockOf (threadIn w k)) j v ≡ blockOf y → set w i v ≡ putThread w k y
   one-word y i j v z l e =

@@ -24,7 +24,7 @@ pub record Wide (x : ThreadWords) : Type 0 where
 pub wide-length : (x : ThreadWords) → Wide x → length (blockOf x) ≡ 55
 wide-length x h = block-length x (h .continuation) (h .variables)
 
-module _ (w : List ℕ) (k : ℕ) (all : length w ≡ 4818) (room : k < 64) where
+module _ (w : List ℕ) (k : ℕ) (all : length w ≡ 4834) (room : k < 64) where
   pub in-wide : Wide (threadIn w k)
   in-wide = record {
     continuation = part-length w (1042 + 55 * k + 4) 25 (omega arith);
@@ -38,7 +38,7 @@ module _ (w : List ℕ) (k : ℕ) (all : length w ≡ 4818) (room : k < 64) wher
     long : 55 ≤ length (blockOf x)
     long = let l : length (blockOf x) ≡ 55 = wide-length x h in omega arith
 
-    pub put-length : length (putThread w k x) ≡ 4818
+    pub put-length : length (putThread w k x) ≡ 4834
     unfolding putThread
     put-length = pasted-length w (1042 + 55 * k) (blockOf x) 55 end long ∙ all
 

@@ -36,7 +36,7 @@ module _ (w : List ℕ) (s : State) (h : Says w s) (k : ℕ) (l : k < 64) where
       → getD w i 0 ≡ threadWord (getD (s .threads) k noThread) j
   word j i b e = ap (λ (m : ℕ). getD w m 0) e ∙ h .thread k j l b
 
-  run-is : (i : ℕ) (ws : List ℕ) → i + 25 ≤ 4818
+  run-is : (i : ℕ) (ws : List ℕ) → i + 25 ≤ 4834
       → ((j : ℕ) → j < 25 → getD w (i + j) 0 ≡ getD ws j 0) → part w i 25 ≡ padded 25 ws
   run-is i ws g f = ext-getD 0 (part w i 25) (padded 25 ws) (pl ∙ sym (padded-length 25 ws))
       (λ j q. let m : j < 25 = rw pl at q in part-at w i 25 j m ∙ f j m ∙ sym (padded-at 25 ws j m))

@@ -2,3 +2,4 @@ pub mod Threads
 pub mod Starts
 pub mod Stacks
 pub mod Parties
+pub mod Events

@@ -1,4 +1,5 @@
 // Threads in the lent words: the fresh state, and what a step reads and writes of a thread.
+pub mod event;
 pub mod fresh;
 pub mod party;
 pub mod stack;

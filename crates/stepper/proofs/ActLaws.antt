@@ -63,7 +63,7 @@ number-is p i e = ap (λ (q : Place). q .number) e
 -- ---- where the words lie that are read
 pub act-bounds : {frames : List ℕ} {shared : ℕ} {w : List ℕ} {t : ℕ}
     → StepWords frames shared w × (1 ≤ t) × (t ≤ getD w 0 0)
-    → (length w ≡ 4818) × (1 ≤ t) × (t ≤ 64)
+    → (length w ≡ 4834) × (1 ≤ t) × (t ≤ 64)
 act-bounds {frames} {shared} {w} p =
     let m = threads-few frames shared w (p .0) in
     let a = p .1 in
@@ -91,7 +91,7 @@ module _
   fits : ThreadFits (framesOf frames) n x
   fits = fit frames shared w h t low high
 
-  long : length w ≡ 4818
+  long : length w ≡ 4834
   long = step-long frames shared w h
 
   -- ---- the place and the counts
@@ -201,13 +201,13 @@ module _
           (subst (ItemWord frames) (sym (top-item-is (withContinuation is x) i (omega arith)))
           (item-word i p))
 
-  -- ---- the cells: the words from 4562 on
+  -- ---- the cells: the words from 4578 on
   size : (v : List ℕ) → length v ≡ length w → length (lentCells v) ≡ 256
   unfolding lentCells
   size v l =
       let z = long in
-      let r : length v - 4562 ≡ 256 = omega arith in
-      length-drop 4562 v ∙ r
+      let r : length v - 4578 ≡ 256 = omega arith in
+      length-drop 4578 v ∙ r
 
   cells-are : lentCells w ≡ cellWords (s .cells)
   unfolding lentCells
@@ -215,7 +215,7 @@ module _
       ext-getD 0 (lentCells w) (cellWords (s .cells)) (size w refl ∙ sym (cells-length (s .cells)))
       (λ j g.
       let l : j < 256 = rw (size w refl) at g in
-      getD-drop 4562 w j 0 ∙ says frames shared w h .cell j l ∙ sym (cells-at (s .cells) j l))
+      getD-drop 4578 w j 0 ∙ says frames shared w h .cell j l ∙ sym (cells-at (s .cells) j l))
 
   cells-in : CellWords (usedCells (s .cells)) (cellWords (s .cells))
   cells-in = holds-words (usedCells (s .cells)) (cellWords (s .cells)) (s .cells)
@@ -250,23 +250,23 @@ module _
 
   -- words that are as before but for the cells and their count
   module _ (v : List ℕ) (e : lentRest v ≡ lentRest w) (l : length v ≡ length w) where
-    rest-at : (u : List ℕ) (j : ℕ) → (j ≡ 1 → ⊥) → j < 4562 → getD (lentRest u) j 0 ≡ getD u j 0
+    rest-at : (u : List ℕ) (j : ℕ) → (j ≡ 1 → ⊥) → j < 4578 → getD (lentRest u) j 0 ≡ getD u j 0
     unfolding lentRest
-    rest-at u j d m = getD-set-other (take 4562 u) 1 j 0 0 d ∙ getD-take 4562 u j 0 m
+    rest-at u j d m = getD-set-other (take 4578 u) 1 j 0 0 d ∙ getD-take 4578 u j 0 m
 
     abbrev put : List ℕ
-    put = pasted w 4562 (lentCells v) 256
+    put = pasted w 4578 (lentCells v) 256
 
-    words-room : 4562 + 256 ≤ length w
+    words-room : 4578 + 256 ≤ length w
     words-room = let z = long in omega arith
 
     cells-room : 256 ≤ length (lentCells v)
     cells-room = rw (size v l) (omega arith)
 
     put-length : length put ≡ length w
-    put-length = pasted-length w 4562 (lentCells v) 256 words-room cells-room
+    put-length = pasted-length w 4578 (lentCells v) 256 words-room cells-room
 
-    word : (j : ℕ) → j < 4818 → (a b : Bool) → eqb j 1 ≡ a → ltb j 4562 ≡ b
+    word : (j : ℕ) → j < 4834 → (a b : Bool) → eqb j 1 ≡ a → ltb j 4578 ≡ b
         → getD v j 0 ≡ getD (set put 1 (lentCount v)) j 0
     unfolding lentCount lentCells
     word j m true b p q =
@@ -278,29 +278,29 @@ module _
         ∙ ap (λ (k : ℕ). getD (set put 1 (lentCount v)) k 0) (sym i)
     word j m false true p q =
         let d = eqb-false j 1 p in
-        let i : j < 4562 = ltb-true j 4562 q in
+        let i : j < 4578 = ltb-true j 4578 q in
         sym (rest-at v j d i)
         ∙ ap (λ (u : List ℕ). getD u j 0) e
         ∙ rest-at w j d i
-        ∙ sym (pasted-out w 4562 (lentCells v) 256 words-room cells-room j (λ a b. omega arith))
+        ∙ sym (pasted-out w 4578 (lentCells v) 256 words-room cells-room j (λ a b. omega arith))
         ∙ sym (getD-set-other put 1 j (lentCount v) 0 d)
     word j m false false p q =
         let d = eqb-false j 1 p in
-        let i : 4562 ≤ j = ltb-false j 4562 q in
-        let y : 4562 + (j - 4562) ≡ j = omega arith in
+        let i : 4578 ≤ j = ltb-false j 4578 q in
+        let y : 4578 + (j - 4578) ≡ j = omega arith in
         ap (λ (k : ℕ). getD v k 0) (sym y)
-        ∙ sym (getD-drop 4562 v (j - 4562) 0)
-        ∙ sym (pasted-in w 4562 (lentCells v) 256 words-room cells-room (j - 4562) (omega arith))
+        ∙ sym (getD-drop 4578 v (j - 4578) 0)
+        ∙ sym (pasted-in w 4578 (lentCells v) 256 words-room cells-room (j - 4578) (omega arith))
         ∙ ap (λ (k : ℕ). getD put k 0) y
         ∙ sym (getD-set-other put 1 j (lentCount v) 0 d)
 
-    whole : v ≡ set (pasted w 4562 (lentCells v) 256) 1 (lentCount v)
+    whole : v ≡ set (pasted w 4578 (lentCells v) 256) 1 (lentCount v)
     whole =
         ext-getD 0 v (set put 1 (lentCount v))
         (l ∙ sym (length-set put 1 (lentCount v) ∙ put-length))
         (λ j g.
         let z = long in
-        word j (omega arith) (eqb j 1) (ltb j 4562) refl refl)
+        word j (omega arith) (eqb j 1) (ltb j 4578) refl refl)
 
   -- ---- `act`, on what is seen of the thread, its top item, its variables and the cells
   abbrev whoAt : Place → Who
@@ -354,8 +354,8 @@ module _
             ∙ ap (λ (y : TurnOutcome). y .acted) same;
         words =
             ap (λ (u : List ℕ). set u 1 m) (whole v' k l)
-            ∙ set-set (pasted w 4562 (lentCells v') 256) 1 (lentCount v') m
-            ∙ ap (λ (y : TurnOutcome). set (pasted w 4562 (y .cells) 256) 1 (y .acted .used)) same;
+            ∙ set-set (pasted w 4578 (lentCells v') 256) 1 (lentCount v') m
+            ∙ ap (λ (y : TurnOutcome). set (pasted w 4578 (y .cells) 256) 1 (y .acted .used)) same;
         whole = ap length (sym cells-left) ∙ size v' l;
         room = subst (λ (i : ℕ). HasRoom (a .change) (i - 1) (threadWordsOf x .values))
             (sym (sees .items))

@@ -102,7 +102,7 @@ module _ (bs : List ℕ) (l : Laid) (ws : List ℕ) (e : laidAs l ws ≡ laidWor
         text-passed (λ n j. textResult (A.Rejected n j) w) (λ fs. asTextResult (call fs)) bs
         l ws e n a
 
-    pub fresh-wrong : (w : List ℕ) → (length w ≡ 4818 → ⊥)
+    pub fresh-wrong : (w : List ℕ) → (length w ≡ 4834 → ⊥)
         → textResult (A.Refused 14 0) w ≡ freshText bs w
     unfolding freshText
     fresh-wrong w f =
@@ -110,7 +110,7 @@ module _ (bs : List ℕ) (l : Laid) (ws : List ℕ) (e : laidAs l ws ≡ laidWor
         ∙ ap asTextResult (call-wrong (take n ws) w f) ∙ by-call (λ fs. freshCall fs w) w
 
     pub fresh-done : (w u : List ℕ) → u ≡ pack (fresh (programOf (framesOf (take n ws))))
-        → length w ≡ 4818 → textResult (A.Done 0 0) u ≡ freshText bs w
+        → length w ≡ 4834 → textResult (A.Done 0 0) u ≡ freshText bs w
     unfolding freshText
     fresh-done w u z k =
         ap (λ (x : Answer). textResult x u) done-0

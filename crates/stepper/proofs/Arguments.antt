@@ -12,6 +12,7 @@ use Rattle.language.specs.declared.frame.Frame.{Frame}
 use Rattle.program.specs.Trees.{Expr, Stmt, nothing, seq, doAt, start, startWait, cooperate, letIn}
 use Rattle.program.specs.Trees.{store, ifElse, while, frameAt, arguments, statementWith}
 use Rattle.program.specs.Trees.{statementOf, statementTo, statementAt, expressionAt}
+use Rattle.program.specs.Trees.{generate, await}
 
 abbrev pub FewArguments : Stmt → Type 0
 FewArguments (start i m xs) = length xs ≤ 2
@@ -24,6 +25,8 @@ FewArguments (letIn i x a) = Unit {0}
 FewArguments (store i x y) = Unit {0}
 FewArguments (ifElse i x a b) = Unit {0}
 FewArguments (while i x a) = Unit {0}
+FewArguments (generate i e) = Unit {0}
+FewArguments (await i e) = Unit {0}
 
 few-arguments : (f : ℕ → Expr) (a b : ℕ) → length (arguments f a b) ≤ 2
 few-arguments f zero b = omega arith
@@ -47,6 +50,8 @@ few-arguments-at fs i = of (frameAt fs i .kind)
     by K.Store = tt
     by K.If = tt
     by K.While = tt
+    by K.Generate = tt
+    by K.Await = tt
 
     of : (k : Kind)
         → FewArguments

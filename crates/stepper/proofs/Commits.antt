@@ -49,43 +49,43 @@ module _ (v : List ℕ) (s : State) (h : Says v s) where
 
 -- ---- words whose cells, with their count, a turn has changed already
 abbrev pub withCellWords : List ℕ → List Stored → List ℕ
-withCellWords w cs = set (pasted w 4562 (cellWords cs) 256) 1 (usedCells cs)
+withCellWords w cs = set (pasted w 4578 (cellWords cs) 256) 1 (usedCells cs)
 
 module _ (w : List ℕ) (s : State) (h : Says w s) where
   module _ (cs : List Stored) where
-    words-room : 4562 + 256 ≤ length w
+    words-room : 4578 + 256 ≤ length w
     words-room = rw (h .all) (omega arith)
 
     cells-room : 256 ≤ length (cellWords cs)
     cells-room = rw cells-length (omega arith)
 
-    pasted-all : length (pasted w 4562 (cellWords cs) 256) ≡ 4818
-    pasted-all = pasted-length w 4562 (cellWords cs) 256 words-room cells-room ∙ h .all
+    pasted-all : length (pasted w 4578 (cellWords cs) 256) ≡ 4834
+    pasted-all = pasted-length w 4578 (cellWords cs) 256 words-room cells-room ∙ h .all
 
-    cells-all : length (withCellWords w cs) ≡ 4818
-    cells-all = length-set (pasted w 4562 (cellWords cs) 256) 1 (usedCells cs) ∙ pasted-all
+    cells-all : length (withCellWords w cs) ≡ 4834
+    cells-all = length-set (pasted w 4578 (cellWords cs) 256) 1 (usedCells cs) ∙ pasted-all
 
     counted : getD (withCellWords w cs) 1 0 ≡ usedCells cs
     counted =
         let l = pasted-all in
-        getD-set-same (pasted w 4562 (cellWords cs) 256) 1 (usedCells cs) 0 (omega arith)
+        getD-set-same (pasted w 4578 (cellWords cs) 256) 1 (usedCells cs) 0 (omega arith)
 
     -- all but the count
     not-counted : (i : ℕ) → (i ≡ 1 → ⊥)
-        → getD (withCellWords w cs) i 0 ≡ getD (pasted w 4562 (cellWords cs) 256) i 0
-    not-counted i d = getD-set-other (pasted w 4562 (cellWords cs) 256) 1 i (usedCells cs) 0 d
+        → getD (withCellWords w cs) i 0 ≡ getD (pasted w 4578 (cellWords cs) 256) i 0
+    not-counted i d = getD-set-other (pasted w 4578 (cellWords cs) 256) 1 i (usedCells cs) 0 d
 
-    pub cells-out : (i : ℕ) → (i ≡ 1 → ⊥) → i < 4562
+    pub cells-out : (i : ℕ) → (i ≡ 1 → ⊥) → i < 4578
         → getD (withCellWords w cs) i 0 ≡ getD w i 0
     cells-out i d l =
         not-counted i d
-        ∙ pasted-out w 4562 (cellWords cs) 256 words-room cells-room i (λ p q. omega arith)
+        ∙ pasted-out w 4578 (cellWords cs) 256 words-room cells-room i (λ p q. omega arith)
 
     cells-in : (j : ℕ) → j < 256
-        → getD (withCellWords w cs) (4562 + j) 0 ≡ cellWord (getD cs j noCell)
+        → getD (withCellWords w cs) (4578 + j) 0 ≡ cellWord (getD cs j noCell)
     cells-in j l =
-        not-counted (4562 + j) (λ e. omega arith)
-        ∙ pasted-in w 4562 (cellWords cs) 256 words-room cells-room j l
+        not-counted (4578 + j) (λ e. omega arith)
+        ∙ pasted-in w 4578 (cellWords cs) 256 words-room cells-room j l
         ∙ cells-at cs j l
 
     pub settled-says : (k : ℕ) (x : Thread) → k < 64 → k < length (s .threads)
@@ -122,7 +122,7 @@ module _ (w : List ℕ) (s : State) (h : Says w s) where
 
     -- the new cells' words are 0; then as many are in use as before
     abbrev blank : List ℕ
-    blank = pasted made (4562 + old) zeros (all - old)
+    blank = pasted made (4578 + old) zeros (all - old)
 
     abbrev cleared : List ℕ
     cleared = set blank 1 old
@@ -130,49 +130,49 @@ module _ (w : List ℕ) (s : State) (h : Says w s) where
     count : all ≡ old + length ds
     count = length-append (s .cells) ds
 
-    long : length made ≡ 4818
+    long : length made ≡ 4834
     long = cells-all (s .cells ++ ds)
 
-    room : 4562 + old + (all - old) ≤ length made
+    room : 4578 + old + (all - old) ≤ length made
     room = let c = count in rw long (omega arith)
 
     size : all - old ≤ length zeros
     size = rw (length-replicate {A = ℕ} (all - old) 0) (omega arith)
 
-    blank-all : length blank ≡ 4818
-    blank-all = pasted-length made (4562 + old) zeros (all - old) room size ∙ long
+    blank-all : length blank ≡ 4834
+    blank-all = pasted-length made (4578 + old) zeros (all - old) room size ∙ long
 
     -- all but the count
     uncounted : (i : ℕ) → (i ≡ 1 → ⊥) → getD cleared i 0 ≡ getD blank i 0
     uncounted i d = getD-set-other blank 1 i old 0 d
 
-    out : (i : ℕ) → (i ≡ 1 → ⊥) → i < 4562 → getD cleared i 0 ≡ getD w i 0
+    out : (i : ℕ) → (i ≡ 1 → ⊥) → i < 4578 → getD cleared i 0 ≡ getD w i 0
     out i d l =
         uncounted i d
-        ∙ pasted-out made (4562 + old) zeros (all - old) room size i (λ p q. omega arith)
+        ∙ pasted-out made (4578 + old) zeros (all - old) room size i (λ p q. omega arith)
         ∙ cells-out (s .cells ++ ds) i d l
 
     -- an old cell, one that the turn has made, an unused one
     cell : (j : ℕ) → j < 256 → (a b : Bool) → ltb j old ≡ a → ltb j all ≡ b
-        → getD blank (4562 + j) 0 ≡ cellWord (getD (s .cells) j noCell)
+        → getD blank (4578 + j) 0 ≡ cellWord (getD (s .cells) j noCell)
     cell j l true b e f =
         let m : j < old = ltb-true j old e in
-        pasted-out made (4562 + old) zeros (all - old) room size (4562 + j) (λ p q. omega arith)
+        pasted-out made (4578 + old) zeros (all - old) room size (4578 + j) (λ p q. omega arith)
         ∙ cells-in (s .cells ++ ds) j l
         ∙ ap cellWord (List·getD-append (s .cells) ds noCell j m)
     cell j l false true e f =
         let m : old ≤ j = ltb-false j old e in
         let k : j < all = ltb-true j all f in
-        let y : 4562 + j ≡ 4562 + old + (j - old) = omega arith in
+        let y : 4578 + j ≡ 4578 + old + (j - old) = omega arith in
         ap (λ (i : ℕ). getD blank i 0) y
-        ∙ pasted-in made (4562 + old) zeros (all - old) room size (j - old) (omega arith)
+        ∙ pasted-in made (4578 + old) zeros (all - old) room size (j - old) (omega arith)
         ∙ getD-replicate (all - old) (j - old) 0 0 (omega arith)
         ∙ no-cell-word ∙ ap cellWord (sym (List·getD-eq-default (s .cells) noCell {n = j} m))
     cell j l false false e f =
         let m : old ≤ j = ltb-false j old e in
         let k : all ≤ j = ltb-false j all f in
         let c = count in
-        pasted-out made (4562 + old) zeros (all - old) room size (4562 + j) (λ p q. omega arith)
+        pasted-out made (4578 + old) zeros (all - old) room size (4578 + j) (λ p q. omega arith)
         ∙ cells-in (s .cells ++ ds) j l
         ∙ ap cellWord (List·getD-eq-default (s .cells ++ ds) noCell {n = j} k ∙ sym (List·getD-eq-default (s .cells) noCell {n = j} m))
 
@@ -185,16 +185,17 @@ module _ (w : List ℕ) (s : State) (h : Says w s) where
           λ k j a b. out (2 + 130 * k + j) (λ e. omega arith) (omega arith) ∙ h .scheduler k j a b;
       thread =
           λ k j a b. out (1042 + 55 * k + j) (λ e. omega arith) (omega arith) ∙ h .thread k j a b;
+      event = λ e l. out (4562 + e) (λ z. omega arith) (omega arith) ∙ h .event e l;
       cell =
           λ j l.
-          uncounted (4562 + j) (λ e. omega arith)
+          uncounted (4578 + j) (λ e. omega arith)
           ∙ cell j l (ltb j old) (ltb j all) refl refl;
     }
 
     cleared-back : clearedIn made old ≡ w
     unfolding clearedIn
     cleared-back =
-        ap (λ (n : ℕ). set (pasted made (4562 + old) (replicate (n - old) 0) (n - old)) 1 old)
+        ap (λ (n : ℕ). set (pasted made (4578 + old) (replicate (n - old) 0) (n - old)) 1 old)
         (counted (s .cells ++ ds))
         ∙ is-pack cleared s cleared-says
         ∙ sym (is-pack w s h)

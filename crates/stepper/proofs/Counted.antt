@@ -42,6 +42,7 @@ use Rattle.machine.proofs.KeptCells.{CellsFit}
 use Rattle.machine.proofs.KeptCells.{ExprFits}
 use Rattle.machine.proofs.KeptShape.{Parts, of-nothing, of-cooperate, of-seq, of-do, of-start}
 use Rattle.machine.proofs.KeptShape.{of-wait, of-let, of-store, of-if, of-while, parts-of}
+use Rattle.machine.proofs.KeptShape.{of-generate, of-await}
 use Rattle.operations.specs.declared.Who.{Who}
 use Rattle.operations.specs.inner.Results.{Result}
 use Rattle.evaluator.specs.inner.Results.{hereOf, cellsFrom, evaluatedBy}
@@ -126,6 +127,10 @@ module _ {fs : List Frame} {P : Program} {n : ℕ} {w : List ℕ} {s : State} {c
       ap length (sym (rules.nothing-keeps (turnAt A x cs [])))
   statement-count cs C st of-cooperate h =
       ap length (sym (rules.cooperate-keeps (turnAt A x cs [])))
+  statement-count cs C st (of-generate {e = e}) h =
+      ap length (sym (rules.generate-keeps (turnAt A x cs []) e))
+  statement-count cs C st (of-await {e = e}) h =
+      ap length (sym (rules.await-keeps (turnAt A x cs []) e))
   statement-count cs C st (of-seq {a = a} {b = b} i j) h =
       ap length (sym (rules.seq-keeps (turnAt A x cs []) a b))
   statement-count cs C st (of-do {q = q} {a = a} p i) h =
@@ -274,6 +279,8 @@ module _ {fs : List Frame} (fine : NoFault fs) (few : length fs ≤ 1024) (who :
       by K.Store = stored-few (f .a) (f .b) m ws
       by K.If = one (f .a)
       by K.While = one (f .a)
+      by K.Generate = omega arith
+      by K.Await = omega arith
 
       of : (k : Kind)
           → statementCount who

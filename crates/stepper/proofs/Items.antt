@@ -30,6 +30,7 @@ use Rattle.machine.proofs.KeptCells.{CellsFit, HereFits, ExprFits, OutcomeFits,
 use Rattle.machine.proofs.KeptCells.{fit-storing}
 use Rattle.machine.proofs.KeptShape.{Parts, of-nothing, of-cooperate, of-seq, of-do, of-start}
 use Rattle.machine.proofs.KeptShape.{of-wait, of-let, of-store, of-if, of-while}
+use Rattle.machine.proofs.KeptShape.{of-generate, of-await}
 use Rattle.operations.specs.declared.Who.{Who}
 use Rattle.operations.specs.inner.Results.{Result}
 use Rattle.evaluator.specs.inner.Results.{hereOf, cellsFrom, resultOf, onWords}
@@ -47,6 +48,7 @@ use Rattle.stepper.proofs.Variables.{variables-words}
 use Rattle.stepper.proofs.StartTransitions.{argued, start-commits, started-is, waits-is}
 use Rattle.stepper.proofs.Moves.{stay-none, stay-one, stay-two, stay-let, does-is}
 use Rattle.stepper.proofs.Moves.{cooperates-is}
+use Rattle.stepper.proofs.Signals.{generates-is, awaits-is}
 
 -- who evaluates is thread k + 1, which is x
 pub record IsWho (P : Program) (k : ℕ) (x : Thread) (who : Who) : Type 0 where
@@ -260,4 +262,6 @@ module _ {fs : List Frame} {P : Program} {n : ℕ} {w : List ℕ} {s : State} {c
   statement-is cs acc C g st (of-let {x = e} {a = a} E i) h = let-is cs acc C g e a E
   statement-is cs acc C g st (of-store {x = d} {y = e} D E) h = store-is cs acc C g d e D E
   statement-is cs acc C g st (of-if {x = e} {a = a} {b = b} E i j) h = if-is cs acc C g e a b E
+  statement-is cs acc C g st (of-generate {e = e}) h = generates-is A x X cs acc g (C .room) e
+  statement-is cs acc C g st (of-await {e = e}) h = awaits-is A x X cs acc g (C .room) e
   statement-is cs acc C g st (of-while {i = i} {x = e} {a = a} E j) h = while-is cs acc C g i e a E

@@ -3,6 +3,7 @@ pub mod Grows
 pub mod Commits
 pub mod Transitions
 pub mod StartTransitions
+pub mod Signals
 -- The turn: by the kind of its top item, then whole (`turn-is`).
 pub mod Moves
 pub mod Arguments

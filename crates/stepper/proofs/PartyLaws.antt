@@ -16,21 +16,26 @@ use Rattle.language.specs.declared.Place.{Place}
 use Rattle.language.proofs.PlaceLaws.{test-bounds, scheduler-place, has-scheduler}
 use Rattle.text.specs.Frames.{framesOf}
 use Rattle.program.specs.Programs.{Program, programOf}
+use Rattle.program.specs.Programs.{eventsOf}
 use Rattle.machine.specs.State.{State, schedulerAt, withScheduler}
+use Rattle.machine.specs.State.{withPresent}
 use Rattle.machine.specs.Waits.{readyThreads, stillWaiting}
 use Rattle.basics.specs.If.{if_then_else_}
 use Rattle.machine.specs.Turns.{accessCount, isSchedulerOf}
 use Rattle.machine.specs.inner.Parts.{stepThread, stepScheduler}
 use Rattle.machine.specs.Steps.{turnInstant, endInstant, isUnlinked, step, stepWithin}
+use Rattle.machine.specs.Steps.{withoutEventsOf}
 use Rattle.machine.specs.Words.{pack, wordsAt}
 use Rattle.machine.specs.Calls.{CallResult, asCall, stepCall, callResult}
 use Rattle.machine.specs.Shapes.{IsThread, SchedulerFits}
 use Rattle.machine.proofs.WordLaws.{is-pack}
+use Rattle.machine.proofs.WordLaws.{Says}
 use Rattle.machine.proofs.Calls.{called-in}
 use Rattle.machine.proofs.KeptShape.{scheduler-fits, unlinked-is}
 use Rattle.lists.specs.inner.Lists.{readyWords, withInstantEnded, ListWords}
 use Rattle.lists.proofs.SchedulerSays.{first-says, room-says}
 use Rattle.lists.proofs.Instants.{instant-readies, instant-says, instant-none}
+use Rattle.lists.proofs.Instants.{no-active}
 use Rattle.states.specs.inner.Parties.{isUnlinkedWord}
 use Rattle.states.proofs.PartyLaws.{unlinked-low, unlinked-says}
 use Rattle.stepper.specs.declared.file.File.{File}
@@ -39,6 +44,10 @@ use Rattle.stepper.specs.inner.Files.{nobodyAnswers, steppedOn}
 use Rattle.stepper.specs.inner.Files.{StepWords, stateIn, TurnChoice, fileOf, actingIn}
 use Rattle.stepper.proofs.Transitions.{scheduler-there}
 use Rattle.stepper.proofs.GoodWords.{fits-in, shaped, says, step-long, threads-few}
+use Rattle.stepper.proofs.GoodWords.{few-events}
+use Rattle.program.specs.Trees.{frameAt}
+use Rattle.states.specs.inner.Events.{withoutEvents}
+use Rattle.states.proofs.EventLaws.{clear-says}
 
 module _ (frames : List ℕ) (shared : ℕ) (w : List ℕ) (h : StepWords frames shared w) (c : ℕ) where
   abbrev P : Program
@@ -47,7 +56,7 @@ module _ (frames : List ℕ) (shared : ℕ) (w : List ℕ) (h : StepWords frames
   abbrev s : State
   s = stateIn frames w
 
-  fit : SchedulerFits (schedulerAt s c)
+  fit : SchedulerFits (frameAt (framesOf frames) 0 .c) (schedulerAt s c)
   fit = scheduler-fits (framesOf frames) P _ (fits-in frames shared w h) s (shaped frames shared w h) c
 
   -- ---- a scheduler of the file
@@ -70,12 +79,14 @@ module _ (frames : List ℕ) (shared : ℕ) (w : List ℕ) (h : StepWords frames
 
     -- ---- the scheduler as a place
     module _ (p : Place) (at : p ≡ record { number = c }) where
-      pub list-asks : (length w ≡ 4818) × (isScheduler (p .number) ≡ true)
+      pub list-asks : (length w ≡ 4834) × (isScheduler (p .number) ≡ true)
       list-asks =
           (step-long frames shared w h, ap (λ (q : Place). isScheduler (q .number)) at ∙ there .1)
 
-      pub instant-asks : ListWords w (67 + 130 * (p .number - 2)) × (isScheduler (p .number) ≡ true)
-      instant-asks = (
+      pub instant-asks : getD w (2 + 130 * (c - 2)) 0 ≡ 0
+          → ListWords w (67 + 130 * (p .number - 2)) × (isScheduler (p .number) ≡ true)
+          × (getD w (2 + 130 * (p .number - 2)) 0 ≡ 0)
+      instant-asks z = (
         (
           list-asks .0,
           threads-few frames shared w h,
@@ -83,6 +94,7 @@ module _ (frames : List ℕ) (shared : ℕ) (w : List ℕ) (h : StepWords frames
               (rw (room-says w s (says frames shared w h) c in-lists (there .0)) (fit .next-room)),
         ),
         list-asks .1,
+        subst (λ (q : Place). getD w (2 + 130 * (q .number - 2)) 0 ≡ 0) (sym at) z,
       )
 
       pub count-at : (k : ℕ) → k ≡ length (readyWords w (wordsAt w (67 + 130 * (p .number - 2))))
@@ -123,26 +135,38 @@ module _ (frames : List ℕ) (shared : ℕ) (w : List ℕ) (h : StepWords frames
           by [] z f = refl
           by (a ∷ ts) z (more f fs) = absurd (let y = f .0 in omega arith)
 
-      module _ (v : List ℕ) (k : ℕ) (count : k ≡ length (readyWords w (wordsAt w (67 + 130 * (c - 2))))) (out : v ≡ withInstantEnded w (c - 2)) where
-        few : length (s .threads) ≤ 64
-        few = shaped frames shared w h .threads-room
+      few : length (s .threads) ≤ 64
+      few = shaped frames shared w h .threads-room
 
+      pub none-active : getD w (2 + 130 * (c - 2)) 0 ≡ 0
+      none-active =
+          no-active (frameAt (framesOf frames) 0 .c) w s (says frames shared w h) few c in-lists
+          (there .0) (fit .next-room) (fit .entries) idle
+
+      module _ (v : List ℕ) (k : ℕ) (count : k ≡ length (readyWords w (wordsAt w (67 + 130 * (c - 2))))) (out : v ≡ withInstantEnded w (c - 2)) where
         readies : k ≡ length (readyThreads (s .threads) (schedulerAt s c .next))
         readies =
             count
-            ∙ instant-readies w s (says frames shared w h) few c in-lists (there .0)
+            ∙ instant-readies (frameAt (framesOf frames) 0 .c) w s (says frames shared w h) few c in-lists (there .0)
             (fit .next-room) (fit .entries)
 
-        ended : callResult 0 0 0 v
-            ≡ callResult 0 0 0 (pack (withScheduler c (record { active = readyThreads (s .threads) (schedulerAt s c .next); next = stillWaiting (s .threads) (schedulerAt s c .next) }) s))
-        ended = ap (callResult 0 0 0) (out ∙ is-pack _ _ (instant-says w s (says frames shared w h) few c in-lists (there .0) (fit .next-room) (fit .entries) idle))
+        ended-says : Says v (withScheduler c (record { active = readyThreads (s .threads) (schedulerAt s c .next); next = stillWaiting (s .threads) (schedulerAt s c .next) }) s)
+        ended-says = subst (λ (l : List ℕ). Says l (withScheduler c (record { active = readyThreads (s .threads) (schedulerAt s c .next); next = stillWaiting (s .threads) (schedulerAt s c .next) }) s)) (sym out) (instant-says (frameAt (framesOf frames) 0 .c) w s (says frames shared w h) few c in-lists (there .0) (fit .next-room) (fit .entries) idle)
+
+        -- the scheduler's events are cleared too
+        cleared-says : Says (withoutEvents c (P .events) v (frameAt (framesOf frames) 0 .c))
+            (withPresent (withoutEventsOf c (P .events) (s .present)) (withScheduler c (record { active = readyThreads (s .threads) (schedulerAt s c .next); next = stillWaiting (s .threads) (schedulerAt s c .next) }) s))
+        cleared-says =
+            clear-says c (frameAt (framesOf frames) 0 .c) (P .events) v _ ended-says
+            (fits-in frames shared w h .events) (shaped frames shared w h .events)
+            (few-events frames shared w h)
 
         pub instant-nothing : k ≡ 0
             → callResult 16 0 0 v ≡ asCall w (stepScheduler P s c (schedulerAt s c .active))
         unfolding endInstant accessCount if_then_else_
         instant-nothing z =
-            ap (callResult 16 0 0) (out ∙ instant-none w s (says frames shared w h) few c in-lists (there .0) (fit .next-room) (fit .entries) idle none-ready)
-            ∙ ap (λ (ts : List ℕ). asCall w (turnInstant s c ts (stillWaiting (s .threads) (schedulerAt s c .next)))) (sym none-ready)
+            ap (callResult 16 0 0) (out ∙ instant-none (frameAt (framesOf frames) 0 .c) w s (says frames shared w h) few c in-lists (there .0) (fit .next-room) (fit .entries) idle none-ready)
+            ∙ ap (λ (ts : List ℕ). asCall w (turnInstant P s c ts (stillWaiting (s .threads) (schedulerAt s c .next)))) (sym none-ready)
             ∙ ap (λ (ts : List ℕ). asCall w (stepScheduler P s c ts)) (sym idle)
           where
             none-ready : readyThreads (s .threads) (schedulerAt s c .next) ≡ []
@@ -152,18 +176,27 @@ module _ (frames : List ℕ) (shared : ℕ) (w : List ℕ) (h : StepWords frames
                 by [] y = refl
                 by (a ∷ ts) y = absurd (omega arith)
 
-        pub instant-done : (k ≡ 0 → ⊥)
-            → callResult 0 0 0 v ≡ asCall w (stepScheduler P s c (schedulerAt s c .active))
+        pub instant-done : (k ≡ 0 → ⊥) → (y : List ℕ)
+            → y ≡ withoutEvents c (P .events) v (frameAt (framesOf frames) 0 .c)
+            → callResult 0 0 0 y ≡ asCall w (stepScheduler P s c (schedulerAt s c .active))
         unfolding endInstant accessCount if_then_else_
-        instant-done z =
-            ended ∙ by (readyThreads (s .threads) (schedulerAt s c .next)) readies
+        instant-done z y e =
+            ap (callResult 0 0 0) (e ∙ is-pack _ _ cleared-says) ∙ by (readyThreads (s .threads) (schedulerAt s c .next)) readies
             ∙ ap (λ (ts : List ℕ). asCall w (stepScheduler P s c ts)) (sym idle)
           where
             by : (ts : List ℕ) → k ≡ length ts
-                → callResult 0 0 0 (pack (withScheduler c (record { active = ts; next = stillWaiting (s .threads) (schedulerAt s c .next) }) s))
-                ≡ asCall w (turnInstant s c ts (stillWaiting (s .threads) (schedulerAt s c .next)))
+                → callResult 0 0 0 (pack (withPresent (withoutEventsOf c (P .events) (s .present)) (withScheduler c (record { active = ts; next = stillWaiting (s .threads) (schedulerAt s c .next) }) s)))
+                ≡ asCall w (turnInstant P s c ts (stillWaiting (s .threads) (schedulerAt s c .next)))
             by [] y = absurd (z y)
             by (a ∷ ts) y = refl
+
+  -- the file's events are its program's, and the place is the choice
+  same-events : (p : Place) → p ≡ record { number = c } → (v : List ℕ)
+      → withoutEvents (p .number) (eventsOf (framesOf frames)) v (frameAt (framesOf frames) 0 .c)
+      ≡ withoutEvents c (P .events) v (frameAt (framesOf frames) 0 .c)
+  unfolding programOf
+  same-events p at v =
+      ap (λ (q : Place). withoutEvents (q .number) (eventsOf (framesOf frames)) v (frameAt (framesOf frames) 0 .c)) at
 
   -- ---- the whole choice, by the tests of `step_valid`
   module _ (b : Bool) (file : File) (f : file ≡ fileOf P) (q : b ≡ hasScheduler (file .schedulers) c) where
@@ -282,8 +315,8 @@ module _ (frames : List ℕ) (shared : ℕ) (w : List ℕ) (h : StepWords frames
 
         module _ (p : Place) (at : p ≡ record { number = c }) where
           pub idle-asks : ListWords w (67 + 130 * (p .number - 2))
-              × (isScheduler (p .number) ≡ true)
-          idle-asks = instant-asks is p at
+              × (isScheduler (p .number) ≡ true) × (getD w (2 + 130 * (p .number - 2)) 0 ≡ 0)
+          idle-asks = instant-asks is p at (none-active is t first-none none)
 
           module _ (v : List ℕ) (k : ℕ) (count : k ≡ length (readyWords w (wordsAt w (67 + 130 * (p .number - 2))))) (out : v ≡ withInstantEnded w (p .number - 2)) where
             pub idle-nothing : k ≡ 0 → callResult 16 0 0 v ≡ stepCall (framesOf frames) w c
@@ -291,10 +324,13 @@ module _ (frames : List ℕ) (shared : ℕ) (w : List ℕ) (h : StepWords frames
                 scheduler-steps has file f refl has-is _
                 (instant-nothing is t first-none none v k (count-at is p at k count) (ended-at is p at v out) z)
 
-            pub idle-done : (k ≡ 0 → ⊥) → callResult 0 0 0 v ≡ stepCall (framesOf frames) w c
-            idle-done z =
+            pub idle-done : (k ≡ 0 → ⊥) → (y : List ℕ)
+                → y ≡ withoutEvents (p .number) (eventsOf (framesOf frames)) v (frameAt (framesOf frames) 0 .c)
+                → callResult 0 0 0 y ≡ stepCall (framesOf frames) w c
+            idle-done z y d =
                 scheduler-steps has file f refl has-is _
-                (instant-done is t first-none none v k (count-at is p at k count) (ended-at is p at v out) z)
+                (instant-done is t first-none none v k (count-at is p at k count) (ended-at is p at v out) z y
+                (d ∙ same-events p at v))
 
 -- ---- the acting thread, as the code finds it
 module _ (n : ℕ) (w : List ℕ) (c : ℕ) (b : Bool) (q : b ≡ hasScheduler n c) where

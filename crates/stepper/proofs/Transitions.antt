@@ -2,7 +2,7 @@
 -- nothing.
 use Prim.Native.Nat.{ℕ, suc, _+_, _-_, _<_, _≤_}
 use mathlib.Core.Path.{_≡_, refl, sym, ap, _∙_, subst}
-use mathlib.Core.List.{List}
+use mathlib.Core.List.{List, []}
 use mathlib.Core.Bool.{Bool, true, false}
 use native.Mathlib.Omega.{arith}
 use lib.Dec.{leb, eqb}
@@ -13,7 +13,7 @@ use Rattle.basics.proofs.Ifs.{if-all, if-yes, if-no}
 use Rattle.language.specs.Places.{private, hasPlace, hasScheduler, isScheduler}
 use Rattle.language.specs.declared.frame.Frame.{Frame}
 use Rattle.language.proofs.PlaceLaws.{from-home, has-scheduler, place-scheduler as file-scheduler}
-use Rattle.program.specs.Programs.{Program}
+use Rattle.program.specs.Programs.{Program, ownerOfEvent}
 use Rattle.machine.specs.Accesses.{Access}
 use Rattle.machine.specs.State.{State, Stored, Thread, Entry, plain, schedulerAt, enlist, usedCells}
 use Rattle.machine.specs.Turns.{stateSpaces, StepResult, Turn, refuse, accept, settled, isSchedulerOf}
@@ -74,17 +74,18 @@ pub record Acts (fs : List Frame) (P : Program) (n : ℕ) (w : List ℕ) (s : St
   pub shape : Shaped fs n s
   pub there : k < length (s .threads)
   pub list : isSchedulerOf P c ≡ isScheduler c
+  pub owners : (e : ℕ) → e < length (P .events) → hasScheduler n (ownerOfEvent P e) ≡ true
 
 module _ {fs : List Frame} {P : Program} {n : ℕ} {w : List ℕ} {s : State} {c k : ℕ} (A : Acts fs P n w s c k) where
   -- the turn of that thread, with those cells and accesses so far
   abbrev pub turnAt : Thread → List Stored → List Access → Turn
-  turnAt x cs acc = record { program = P; state = s; choice = c; thread = suc k; self = x; cells = cs; accesses = acc; spaces = stateSpaces }
+  turnAt x cs acc = record { program = P; state = s; choice = c; thread = suc k; self = x; cells = cs; accesses = acc; signals = []; spaces = stateSpaces }
 
   -- what the turn has come to, committed on the words with its cells and their count; and where the
   -- cells are those
   abbrev pub commitOn : TurnOutcome → Committed
   commitOn r =
-      committedIn P (set (pasted w 4562 (r .cells) 256) 1 (r .acted .used)) (usedCells (s .cells)) c
+      committedIn P (set (pasted w 4578 (r .cells) 256) 1 (r .acted .used)) (usedCells (s .cells)) c
       (suc k) (r .acted) (r .acted .transition)
 
   abbrev pub commit : TurnResult → List Stored → Committed
@@ -98,12 +99,12 @@ module _ {fs : List Frame} {P : Program} {n : ℕ} {w : List ℕ} {s : State} {c
       → (q - 2 < length (s .schedulers)) × (isScheduler q ≡ true)
   list-there q e = scheduler-there (A .file) (A .shape) q e
 
-  chosen-there : isSchedulerOf P c ≡ true → c - 2 < length (s .schedulers)
+  pub chosen-there : isSchedulerOf P c ≡ true → c - 2 < length (s .schedulers)
   unfolding isSchedulerOf
   chosen-there e =
       list-there c (subst (λ (m : ℕ). hasScheduler m c ≡ true) (A .file .schedulers) e) .0
 
-  active-few : (q : ℕ) → length (schedulerAt s q .active) ≤ 64
+  pub active-few : (q : ℕ) → length (schedulerAt s q .active) ≤ 64
   active-few q = scheduler-fits fs P n (A .file) s (A .shape) q .active-room
 
   module _ (x : Thread) (cs : List Stored) (acc : List Access) where

@@ -1,6 +1,7 @@
 -- The turn of thread t on words in range: what its commit asks and gives, and the turn of a thread
 -- that is not there. Assumes nothing.
 use Prim.Native.Nat.{ℕ, zero, suc, _-_, _<_, _≤_}
+use Prim.Native.Nat.{_+_, _*_}
 use mathlib.Core.Path.{_≡_, sym, ap, _∙_, subst}
 use mathlib.Core.List.{List, []}
 use mathlib.Core.Bool.{true}
@@ -43,6 +44,7 @@ use Rattle.stepper.proofs.Threads.{turn-is, turn-few}
 use Rattle.stepper.proofs.Counted.{turn-count}
 use Rattle.stepper.proofs.GoodWords.{fits-in, shaped, says, threads-few, index, in-list, fit}
 use Rattle.stepper.proofs.GoodWords.{place-in, thread-read}
+use Rattle.stepper.proofs.GoodWords.{owners-in, active-short, next-short}
 
 module _ (frames : List ℕ) (shared : ℕ) (w : List ℕ) (h : StepWords frames shared w) (t : ℕ) (low : 1 ≤ t) (c : ℕ) (choice : TurnChoice frames c) where
   abbrev P : Program
@@ -55,7 +57,7 @@ module _ (frames : List ℕ) (shared : ℕ) (w : List ℕ) (h : StepWords frames
   module _ (high : t ≤ getD w 0 0) where
     acts : Acts (framesOf frames) P (P .schedulers) w s c (t - 1)
     acts =
-        record { file = fits-in frames shared w h; says = says frames shared w h; shape = shaped frames shared w h; there = in-list frames shared w h t low high; list = choice }
+        record { file = fits-in frames shared w h; says = says frames shared w h; shape = shaped frames shared w h; there = in-list frames shared w h t low high; list = choice; owners = owners-in frames shared w h }
 
     number-same : suc (t - 1) ≡ t
     number-same = index frames shared w h t low high
@@ -67,7 +69,18 @@ module _ (frames : List ℕ) (shared : ℕ) (w : List ℕ) (h : StepWords frames
     abbrev turnFor : ℕ → TurnOutcome
     turnFor i = turnIn (framesOf frames) (whoIn frames shared w t) (threadWordsOf (threadAt s i)) (usedCells (s .cells)) (cellWords (s .cells))
 
-    -- the turn has changed the cells and their count alone: the thread's words are as before
+    -- the turn has changed the cells and their count alone
+    low-same : (a : Action) (v : List ℕ) → turnOn a v frames shared w t → (i : ℕ) → (i ≡ 1 → ⊥)
+        → i < 4578 → getD v i 0 ≡ getD w i 0
+    low-same a v o i d g =
+        let z = says frames shared w h .all in
+        let l = o .whole in
+        let y = turnOf frames shared w t in
+        ap (λ (u : List ℕ). getD u i 0) (o .words)
+        ∙ getD-set-other (pasted w 4578 (y .cells) 256) 1 i (y .acted .used) 0 d
+        ∙ pasted-out w 4578 (y .cells) 256 (omega arith) (omega arith) i (λ a b. omega arith)
+
+    -- so the thread's words are as before
     kept : (a : Action) (v : List ℕ) → turnOn a v frames shared w t
         → threadIn v (t - 1) ≡ threadWordsOf (threadAt s t)
     kept a v o =
@@ -75,19 +88,16 @@ module _ (frames : List ℕ) (shared : ℕ) (w : List ℕ) (h : StepWords frames
         let m = threads-few frames shared w h in
         let l = o .whole in
         let y = turnOf frames shared w t in
-        let p = pasted w 4562 (y .cells) 256 in
+        let p = pasted w 4578 (y .cells) 256 in
         same-thread w v (t - 1) (omega arith) z
         (ap length (o .words) ∙ length-set p 1 (y .acted .used)
-        ∙ pasted-length w 4562 (y .cells) 256 (omega arith) (omega arith) ∙ z)
-        (λ i d g.
-        ap (λ (u : List ℕ). getD u i 0) (o .words)
-        ∙ getD-set-other p 1 i (y .acted .used) 0 (λ e. omega arith)
-        ∙ pasted-out w 4562 (y .cells) 256 (omega arith) (omega arith) i (λ a b. omega arith))
+        ∙ pasted-length w 4578 (y .cells) 256 (omega arith) (omega arith) ∙ z)
+        (λ i d g. low-same a v o i (λ e. omega arith) (omega arith))
         ∙ thread-read frames shared w h t low high
 
     -- what the commit asks
     commit-asks : (a : Action) (v : List ℕ) → turnOn a v frames shared w t → length v ≡ length w
-        → CommitWords v t a
+        → CommitWords P v t a
     commit-asks a v o l =
         let m = threads-few frames shared w h in
         record {
@@ -104,14 +114,20 @@ module _ (frames : List ℕ) (shared : ℕ) (w : List ℕ) (h : StepWords frames
                 values = subst (λ (x : ThreadWords). x .values ≤ 25) (sym (kept a v o)) (fit frames shared w h t low high .variables-room);
                 room = subst (λ (x : ThreadWords). HasRoom (a .change) (x .items - 1) (x .values)) (sym (kept a v o)) (o .room);
               };
+          events = fits-in frames shared w h .few-events;
+          lists = record {
+            threads = rw (low-same a v o 0 (λ z. omega arith) (omega arith)) m;
+            active = λ k g. rw (low-same a v o (2 + 130 * k) (λ z. omega arith) (omega arith)) (active-short frames shared w h k g);
+            next = λ k g. rw (low-same a v o (67 + 130 * k) (λ z. omega arith) (omega arith)) (next-short frames shared w h k g);
+          };
         }
 
     -- u are the words without the accesses that stood with the count
     pub commit-needs : (a : Action) (v u : List ℕ) → turnLeft a v frames shared w t
         → u ≡ set v 1 (cellsIn (getD v 1 0)) → length u ≡ length v → length v ≡ length w
-        → CommitWords u t a
+        → CommitWords P u t a
     commit-needs a v u o e k l =
-        subst (λ (x : List ℕ). CommitWords x t a) (sym e)
+        subst (λ (x : List ℕ). CommitWords P x t a) (sym e)
         (commit-asks a _ (o .turn) (ap length (sym e) ∙ k ∙ l))
 
     -- and gives
@@ -134,7 +150,7 @@ module _ (frames : List ℕ) (shared : ℕ) (w : List ℕ) (h : StepWords frames
 
         -- the words with the cells of that turn and their count
         on : TurnOutcome → List ℕ
-        on r = set (pasted w 4562 (r .cells) 256) 1 (r .acted .used)
+        on r = set (pasted w 4578 (r .cells) 256) 1 (r .acted .used)
 
         Goal : ℕ → Type 0
         Goal i =
@@ -207,7 +223,7 @@ module _ (frames : List ℕ) (shared : ℕ) (w : List ℕ) (h : StepWords frames
         go (suc i) l g = set-out (s .threads) i x (omega arith)
 
     same-state : (x : Thread) → settled gone x ≡ s
-    same-state x = ap (λ (ts : List Thread). record { threads = ts; schedulers = s .schedulers; cells = s .cells }) (same-threads x)
+    same-state x = ap (λ (ts : List Thread). record { threads = ts; schedulers = s .schedulers; cells = s .cells; present = s .present }) (same-threads x)
 
     chosen-there : isSchedulerOf P c ≡ true → c - 2 < length (s .schedulers)
     unfolding isSchedulerOf

@@ -23,6 +23,7 @@ use Rattle.machine.specs.Shapes.{ThreadFits}
 use Rattle.machine.proofs.KeptCells.{CellsFit, ExprFits, EvalFits, fit-storing}
 use Rattle.machine.proofs.KeptShape.{Parts, of-nothing, of-cooperate, of-seq, of-do, of-start}
 use Rattle.machine.proofs.KeptShape.{of-wait, of-let, of-store, of-if, of-while}
+use Rattle.machine.proofs.KeptShape.{of-generate, of-await}
 use Rattle.operations.specs.declared.Who.{Who}
 use Rattle.operations.specs.inner.Results.{Result}
 use Rattle.evaluator.specs.inner.Results.{resultOf}
@@ -132,6 +133,8 @@ module _ {fs : List Frame} {P : Program} {n : ℕ} {w : List ℕ} {s : State} {c
   pub statement-few : (cs : List Stored) → CellsFit n cs → (st : Stmt) → Parts fs n st
       → statementIn who (threadWordsOf x) (usedCells cs) (cellWords cs) st .acted .used ≤ 256
   statement-few cs C st of-nothing = C .room
+  statement-few cs C st (of-generate {e = e}) = C .room
+  statement-few cs C st (of-await {e = e}) = C .room
   statement-few cs C st of-cooperate = cooperates-few (usedCells cs) (C .room) th
   statement-few cs C st (of-seq {a =
       a} {b = b} i j) = two-few (usedCells cs) (C .room) th (rootS a) (rootS b)

@@ -8,6 +8,7 @@ use language::Place;
 use language::refusal::NO_PARTY;
 use language::refusal::NOTHING_READY;
 use lists::list::end_instant;
+use states::event::clear_events;
 ghost use mathlib.Core.Path.{_≡_};
 ghost use Rattle.text.specs.Frames.{framesOf};
 ghost use Rattle.program.specs.Programs.{programOf};
@@ -31,8 +32,10 @@ pub fn step_valid(frames: &[u64], file: File, state: &mut [u64], choice: u64) ->
     if !Place::is_scheduler_in_file(choice, file.schedulers) {
         return nobody(NO_PARTY);
     }
-    if end_instant(state, Place::known(choice)) == 0 {
+    let q = Place::known(choice);
+    if end_instant(state, q) == 0 {
         return nobody(NOTHING_READY);
     }
+    clear_events(frames, state, q);
     nobody(0)
 }

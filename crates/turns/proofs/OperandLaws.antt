@@ -40,6 +40,8 @@ Under m (Y.LetIn a b) = a < m
 Under m (Y.Store a b) = (a < m) × (b < m)
 Under m (Y.IfElse a b c) = a < m
 Under m (Y.While a b) = a < m
+Under m (Y.Generate e) = Unit {0}
+Under m (Y.Await e) = Unit {0}
 
 -- ---- children stand before frame i
 module _ (m i : ℕ) (l : i < m) where
@@ -64,6 +66,8 @@ module _ (m i : ℕ) (l : i < m) where
   under-statement f S.Store (All.more x (All.more y h)) = (omega arith, omega arith)
   under-statement f S.If (All.more x h) = omega arith
   under-statement f S.While (All.more x h) = omega arith
+  under-statement f S.Generate h = tt
+  under-statement f S.Await h = tt
 
   under-kind : (f : Frame) (k : Kind) → All (λ (c : Child). c .at < i) (childrenAs k f)
       → Under m (statementNodeIn k f)

@@ -16,6 +16,7 @@ use Rattle.turns.specs.declared.counts.Counts.{Counts}
 use Rattle.turns.specs.inner.Acts.{TurnOutcome, turnOutcome, variablesIn, evaluatedIn, storedIn}
 use Rattle.turns.specs.inner.Acts.{Seen}
 use Rattle.turns.specs.inner.Actions.{ActResult}
+use Rattle.acts.specs.declared.act.Transition.{Transition}
 
 -- the act, its change made in such a thread without its top item, is with n cells in use that turn;
 -- and there is room for the change
@@ -35,6 +36,11 @@ pub record TurnsOn (a : Action) (n : ℕ) (us : List ℕ) (who : Who) (counts : 
 pub stays-so : (who : Who) (counts : Counts) (n : ℕ)
     → Turns (action Stays Same) n who counts (λ th. actedIn Stays th n)
 stays-so who counts n = record { thread = λ th w. refl; room = tt }
+
+-- the thread as it is, whatever becomes of it
+pub as-it-is : (who : Who) (counts : Counts) (n : ℕ) (f : Transition)
+    → Turns (action f Same) n who counts (λ th. actedIn f th n)
+as-it-is who counts n f = record { thread = λ th w. refl; room = tt }
 
 pub refused-so : (who : Who) (counts : Counts) (answer n : ℕ)
     → Turns (refusedWith answer) n who counts (λ th. refusedIn answer th n)

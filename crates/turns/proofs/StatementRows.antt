@@ -26,6 +26,7 @@ use Rattle.operations.specs.declared.Who.{Who}
 use Rattle.operations.specs.inner.Results.{Result, result}
 use Rattle.evaluator.specs.inner.Results.{evaluatedOn, storedOn}
 use Rattle.acts.specs.declared.act.Transition.the-variants.{Stays}
+use Rattle.acts.specs.declared.act.Transition.the-variants.{Generates, Awaits}
 use Rattle.acts.specs.declared.act.Change.the-variants.{Same}
 use Rattle.acts.specs.declared.act.Action.{Action}
 use Rattle.acts.specs.inner.Transitions.{action}
@@ -58,6 +59,8 @@ module _
   actBy (Y.Store a b) = actAfter (storedOn who (expr a) (expr b) vs n ws) storeAfter
   actBy (Y.IfElse a b c) = actAfter (value a) (chooseAfter counts b c)
   actBy (Y.While a b) = actAfter (value a) (loopAfter counts b i)
+  actBy (Y.Generate e) = actResult (action (Generates e) Same) n ws
+  actBy (Y.Await e) = actResult (action (Awaits e) Same) n ws
 
   root : (j : ℕ) → rootS (stmt j) ≡ j
   root = statement-root (framesOf fw)
@@ -80,6 +83,8 @@ module _
       (root (f .c))
   by-statement f S.While =
       ap (λ (x : ℕ). actAfter (value (f .a)) (loopAfter counts x i)) (root (f .b))
+  by-statement f S.Generate = refl
+  by-statement f S.Await = refl
 
   by-kind : (f : Frame) (k : Kind)
       → statementAct who counts (statementOf expr stmt i f k) vs n ws ≡ actBy (statementNodeIn k f)
@@ -116,6 +121,12 @@ module _
 
     pub acts-cooperate : d ≡ Y.Cooperate → r ≡ cooperation (who .place) → Acts n ws
     acts-cooperate h z = at Y.Cooperate n ws h (act-is n ws z)
+
+    pub acts-generate : (s : ℕ) → d ≡ Y.Generate s → r ≡ action (Generates s) Same → Acts n ws
+    acts-generate s h z = at (Y.Generate s) n ws h (act-is n ws z)
+
+    pub acts-await : (s : ℕ) → d ≡ Y.Await s → r ≡ action (Awaits s) Same → Acts n ws
+    acts-await s h z = at (Y.Await s) n ws h (act-is n ws z)
 
     pub acts-seq : (a b : ℕ) → d ≡ Y.Seq a b → r ≡ twoMore counts a b → Acts n ws
     acts-seq a b h z = at (Y.Seq a b) n ws h (act-is n ws z)

@@ -10,6 +10,7 @@ use Rattle.basics.proofs.Ifs.{if-all, if-yes, if-no, yes, no}
 use Rattle.language.specs.declared.frame.Frame.{Frame}
 use Rattle.program.specs.Trees.{Expr, Stmt, nothing, seq, doAt, start, startWait, cooperate, letIn, store}
 use Rattle.program.specs.Trees.{ifElse, while, rootS, statementAt}
+use Rattle.program.specs.Trees.{generate, await}
 use Rattle.machine.specs.Words.{valueWord}
 use Rattle.machine.specs.declared.value.Value.{Value}
 use Rattle.machine.specs.declared.value.Outcome.{Outcome}
@@ -22,6 +23,7 @@ use Rattle.evaluator.specs.inner.Results.{evaluatedOn, storedOn}
 use Rattle.states.specs.declared.thread.ThreadWords.{ThreadWords}
 use Rattle.states.specs.inner.Stacks.{popItem}
 use Rattle.acts.specs.declared.act.Transition.the-variants.{Stays, Leaves}
+use Rattle.acts.specs.declared.act.Transition.the-variants.{Generates, Awaits}
 use Rattle.acts.specs.declared.act.Change.the-variants.{End}
 use Rattle.acts.specs.declared.act.Action.{Action}
 use Rattle.acts.specs.inner.Transitions.{TurnResult, actedIn, action, popped, turned}
@@ -38,6 +40,7 @@ use Rattle.turns.specs.inner.Actions.{startAct}
 use Rattle.turns.specs.inner.Actions.{statementAct, itemAct, below, turnAct}
 use Rattle.turns.proofs.SeenLaws.{Turns, Turning, stays-so, act-on, act-on-as, in-thread}
 use Rattle.turns.proofs.SeenLaws.{stored-in}
+use Rattle.turns.proofs.SeenLaws.{as-it-is}
 use Rattle.turns.proofs.PlainLaws.{plain, plain-eval, plain-store, eval-counts, eval-room}
 use Rattle.turns.proofs.PlainLaws.{store-counts}
 use Rattle.turns.proofs.StayLaws.{one-turns, two-turns, lets-turns, drops-turns}
@@ -122,6 +125,8 @@ module _
   statement-turns (while i x a) =
       act-on-as (loop-turns who counts vs (rootS a) i (evaluatedOn who x vs h ws))
       (λ th e. ap (loopsOn th (rootS a) i) (value-in th e x))
+  statement-turns (generate i e) = act-on (as-it-is who counts n (Generates e)) (λ th e. refl)
+  statement-turns (await i e) = act-on (as-it-is who counts n (Awaits e)) (λ th e. refl)
 
   -- ---- the top item
   item-turns : (fs : List Frame) (item : ℕ)
@@ -273,6 +278,8 @@ module _
     statement-counts k (store i x y) = store-counts h ws room who vs x y
     statement-counts k (ifElse i x a b) = eval-counts h ws room who vs x
     statement-counts k (while i x a) = eval-counts h ws room who vs x
+    statement-counts k (generate i e) = none-counts
+    statement-counts k (await i e) = none-counts
 
     item-counts : (k : Counts)
         → Counts-to (itemAct fs who k item vs h ws .used) (itemCount fs who item vs (cellsIn h) ws)

@@ -77,5 +77,7 @@ pub(crate) fn act_statement(
             let x = evaluate(frames, who, state, a);
             loops_after(x, counts, b as u64, i as u64)
         },
+        StatementNode::Generate(e) => comes_to(Transition::Generates(e), Change::Same),
+        StatementNode::Await(e) => comes_to(Transition::Awaits(e), Change::Same),
     }
 }

@@ -9,14 +9,13 @@ use borrow.Author.Tests.{ne-eqb}
 use Rattle.basics.specs.If.{if_then_else_}
 use Rattle.basics.specs.Members.{In}
 use Rattle.basics.proofs.Ifs.{if-yes, if-no}
-use Rattle.language.specs.Kinds.{statementUses, expressionUses, uses, childIn}
+use Rattle.language.specs.Kinds.{declarationUses, statementUses, expressionUses, uses, childIn}
 use Rattle.language.specs.Kinds as kinds
 use Rattle.language.specs.declared.kind.Class.{Class}
 use Rattle.language.specs.declared.kind.Use.{Use}
 use Rattle.language.specs.declared.kind.Kind.{Kind}
 use Rattle.language.specs.declared.kind.Kind.the-variants.{Declared}
 use Rattle.language.specs.declared.kind.DeclarationKind.{DeclarationKind}
-use Rattle.language.specs.declared.kind.DeclarationKind.the-variants.{Shared}
 use Rattle.language.specs.declared.kind.StatementKind.{StatementKind}
 use Rattle.language.specs.declared.kind.ExpressionKind.{ExpressionKind}
 use Rattle.drawing.specs.Drawings.{Drawn, kept, child, fieldWith}
@@ -88,9 +87,11 @@ pub kind-row : (k v : Kind) (r : ChildFields) → k ≡ v → r ≡ childFields 
     → r ≡ childFields (uses k)
 kind-row k v r e h = h ∙ ap (λ (x : Kind). childFields (uses x)) (sym e)
 
-pub shared-row : (k : Kind) (d : DeclarationKind) (r : ChildFields) → k ≡ Declared d
-    → r ≡ childFields (uses (Declared Shared)) → r ≡ childFields (uses k)
-shared-row k Shared r e h = h ∙ ap (λ (x : Kind). childFields (uses x)) (sym e)
+pub declaration-row : (k : Kind) (d v : DeclarationKind) (r : ChildFields) → k ≡ Declared d → d ≡ v
+    → r ≡ childFields (declarationUses v) → r ≡ childFields (uses k)
+declaration-row k d v r e q h =
+    kind-row k (Declared d) r e
+    (h ∙ ap (λ (x : DeclarationKind). childFields (declarationUses x)) (sym q))
 
 pub names-row : (h k : Holds) (v : ℕ) (r : Bool) → h ≡ k → r ≡ namesChild k v → r ≡ namesChild h v
 names-row h k v r e q = q ∙ ap (λ (x : Holds). namesChild x v) (sym e)

@@ -8,10 +8,6 @@ use lib.Seq.{drop-cons}
 use borrow.Author.Tests.{eq-eqb, ne-eqb}
 use Rattle.basics.proofs.Ifs.{if-yes, if-no}
 use Rattle.language.specs.declared.frame.Frame.{Frame}
-use Rattle.language.specs.declared.kind.Kind.{Kind}
-use Rattle.language.specs.declared.kind.Kind.the-variants.{Declared}
-use Rattle.language.specs.declared.kind.DeclarationKind.{DeclarationKind}
-use Rattle.language.specs.declared.kind.DeclarationKind.the-variants.{Shared}
 use Rattle.text.specs.Frames.{framesOf}
 use Rattle.text.proofs.FrameWords.{frames-length, frames-end}
 use Rattle.program.specs.Trees.{noFrame, frameAt}
@@ -27,11 +23,6 @@ use Rattle.drawing.proofs.Counted.{roots-within, nothing-lost}
 use Rattle.writer.specs.inner.Placing.{withLines, LineRoom, HasTree, linesAt, rootAt}
 use Rattle.writer.proofs.Buffers.{lines-none, lines-length, lines-more, lines-next}
 use Rattle.writer.proofs.Buffers.{lines-all}
-
--- there is one kind of declaration, so its match asks nothing
-pub rank-row : (k : Kind) (d : DeclarationKind) (r : ℕ) → k ≡ Declared d
-    → r ≡ rank (Declared Shared) → r ≡ rank k
-rank-row k Shared r e h = h ∙ ap rank (sym e)
 
 -- ---- the lines of several trees
 module _ (ws : List ℕ) where

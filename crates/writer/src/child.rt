@@ -41,6 +41,8 @@ fn statement_fields(k: StatementKind) -> ChildFields
         StatementKind::Store => holding(Holds::Child, Holds::Child, Holds::Kept),
         StatementKind::If => holding(Holds::Child, Holds::Child, Holds::Child),
         StatementKind::While => holding(Holds::Child, Holds::Child, Holds::Kept),
+        StatementKind::Generate => holding(Holds::Kept, Holds::Kept, Holds::Kept),
+        StatementKind::Await => holding(Holds::Kept, Holds::Kept, Holds::Kept),
     }
 }
 
@@ -67,6 +69,7 @@ pub(crate) fn child_fields(kind: Kind) -> ChildFields
         Kind::Header => holding(Holds::Kept, Holds::Kept, Holds::Kept),
         Kind::Declared(d) => match d {
             DeclarationKind::Shared => holding(Holds::Kept, Holds::Kept, Holds::Kept),
+            DeclarationKind::Event => holding(Holds::Kept, Holds::Kept, Holds::Kept),
         },
         Kind::Module => holding(Holds::Child, Holds::Kept, Holds::Kept),
         Kind::Statement(k) => statement_fields(k),

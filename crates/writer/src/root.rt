@@ -1,8 +1,8 @@
 // A whole file: the trees of its header, its declarations and its modules.
 use crate::emit::emit;
-use language::kind::DeclarationKind;
 use language::kind::Kind;
 use language::limit::MOST_DEPTH;
+use layout::in_order::declaration_rank;
 use program::frames::frame_at;
 ghost use mathlib.Core.Path.{_≡_};
 ghost use Prim.Native.Nat.{_+_, _*_, _<_, _≤_};
@@ -17,9 +17,8 @@ ghost use Rattle.writer.specs.inner.Placing.{withLines, LineRoom, linesA
 
 const HEADER_RANK: u8 = 0;
 
-const SHARED_RANK: u8 = 1;
-
-const MODULE_RANK: u8 = 2;
+// After the declarations.
+const MODULE_RANK: u8 = 3;
 
 const RANKS: u8 = MODULE_RANK + 1;
 
@@ -32,9 +31,7 @@ fn rank_of(kind: Kind) -> u8
 {
     match kind {
         Kind::Header => HEADER_RANK,
-        Kind::Declared(d) => match d {
-            DeclarationKind::Shared => SHARED_RANK,
-        },
+        Kind::Declared(d) => declaration_rank(d),
         Kind::Module => MODULE_RANK,
         Kind::Statement(k) => RANKS,
         Kind::Expression(k) => RANKS,

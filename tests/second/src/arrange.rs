@@ -41,11 +41,16 @@ fn refuse(number: u8, found: [Option<usize>; 2]) -> Result<(), Verdict> {
     lowest.map_or(Ok(()), |f| Err(Verdict::rejected(number, f)))
 }
 
-/// What stands before the modules: the header and the shared cells.
+/// What stands before the modules: the header, the shared cells, the events,
+/// each kind as it was given.
 fn declared(frames: &[Frame]) -> impl Iterator<Item = u16> + '_ {
-    let is_declared = |frame: &Frame| frame.kind < kind::MODULE;
-    (0..frames.len())
-        .filter(move |&f| is_declared(&frames[f]))
+    let of_kind = move |kind: u8| {
+        let is_of_kind = move |&f: &usize| frames[f].kind == kind;
+        (0..frames.len()).filter(is_of_kind)
+    };
+    [kind::HEADER, kind::SHARED_CELL, kind::EVENT]
+        .into_iter()
+        .flat_map(of_kind)
         .map(|f| f as u16)
 }
 

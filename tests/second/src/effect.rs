@@ -1,4 +1,4 @@
-//! Effects: sets of schedulers.
+//! Effects: sets of schedulers, those of cells apart from those of events.
 
 use crate::place::HOME;
 
@@ -29,5 +29,43 @@ impl Effect {
     /// An access to a private cell has no effect, so `PRIVATE` is in every set.
     pub fn covers(self, owner: u8) -> bool {
         Effect::of(owner).within(self)
+    }
+}
+
+/// The owners of the cells that a frame accesses and, apart from them, of the
+/// events that it generates or awaits.
+#[derive(Clone, Copy, PartialEq, Eq, Debug, Default)]
+pub struct Effects {
+    pub cells: Effect,
+    pub events: Effect,
+}
+
+impl Effects {
+    pub const EMPTY: Effects = Effects {
+        cells: Effect::EMPTY,
+        events: Effect::EMPTY,
+    };
+
+    /// Of an access to a cell of this owner.
+    pub fn of_cell(owner: u8) -> Effects {
+        Effects {
+            cells: Effect::of(owner),
+            ..Effects::EMPTY
+        }
+    }
+
+    /// Of a generation or an await of an event of this owner.
+    pub fn of_event(owner: u8) -> Effects {
+        Effects {
+            events: Effect::of(owner),
+            ..Effects::EMPTY
+        }
+    }
+
+    pub fn joined(self, other: Effects) -> Effects {
+        Effects {
+            cells: self.cells.joined(other.cells),
+            events: self.events.joined(other.events),
+        }
     }
 }

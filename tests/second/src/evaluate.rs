@@ -12,7 +12,8 @@ pub enum Fault {
     CellsSpent,
     /// Spent: a 65th thread.
     ThreadsSpent,
-    /// An access to a cell of neither the thread nor its scheduler.
+    /// An access to a cell of neither the thread nor its scheduler, or a use
+    /// of another scheduler's event.
     Foreign,
     Stuck,
 }
@@ -36,16 +37,27 @@ pub enum Access {
     Creation,
 }
 
-/// Is told of every access, before it is tested or done, so of foreign ones
-/// and of those in a step that is refused later.
+/// What a statement does to an event. It is no access: those are to cells.
+#[derive(Clone, Copy, PartialEq, Eq, Debug)]
+pub enum EventUse {
+    Generation,
+    Await,
+}
+
+/// Is told of every access and of every use of an event that is there, before
+/// it is tested or done, so of foreign ones and of those in a step that is
+/// refused later.
 pub trait Observer {
     fn access(&mut self, actor: Actor, access: Access, owner: u8);
+    fn event(&mut self, actor: Actor, event_use: EventUse, owner: u8);
 }
 
 /// Plain runs are not observed.
 impl Observer for () {
     #[inline(always)]
     fn access(&mut self, _: Actor, _: Access, _: u8) {}
+    #[inline(always)]
+    fn event(&mut self, _: Actor, _: EventUse, _: u8) {}
 }
 
 /// Who acts: the thread, and the place where it stands.

@@ -10,11 +10,12 @@ pub struct Frame {
     pub c: u16,
 }
 
-/// The kinds, by their numbers in 01.
+/// The kinds, by their numbers in 01 and, for events, in 02.
 pub mod kind {
     pub const HEADER: u8 = 0x00;
     pub const SHARED_CELL: u8 = 0x01;
     pub const MODULE: u8 = 0x02;
+    pub const EVENT: u8 = 0x03;
     pub const NOTHING: u8 = 0x10;
     pub const SEQUENCE: u8 = 0x11;
     pub const AT_PLACE: u8 = 0x12;
@@ -25,6 +26,8 @@ pub mod kind {
     pub const STORE: u8 = 0x17;
     pub const IF: u8 = 0x18;
     pub const WHILE: u8 = 0x19;
+    pub const GENERATE: u8 = 0x1A;
+    pub const AWAIT: u8 = 0x1B;
     pub const NUMBER: u8 = 0x20;
     pub const TRUTH: u8 = 0x21;
     pub const VARIABLE: u8 = 0x22;
@@ -90,16 +93,17 @@ impl Use {
     }
 }
 
-/// The shapes of all 256 kinds; none where 01 has no such kind.
+/// The shapes of all 256 kinds; none where the papers have no such kind.
 static SHAPES: [Option<Shape>; 256] = shapes();
 
 const fn shapes() -> [Option<Shape>; 256] {
     use kind::*;
     use Use::*;
     let mut table = [None; 256];
-    table[HEADER as usize] = Shape::new(true, Data, Data, Unused);
+    table[HEADER as usize] = Shape::new(true, Data, Data, Data);
     table[SHARED_CELL as usize] = Shape::new(true, Data, Data, Unused);
     table[MODULE as usize] = Shape::new(true, Statement, Data, Data);
+    table[EVENT as usize] = Shape::new(true, Unused, Unused, Unused);
     table[NOTHING as usize] = Shape::new(false, Unused, Unused, Unused);
     table[SEQUENCE as usize] = Shape::new(false, Statement, Statement, Unused);
     table[AT_PLACE as usize] = Shape::new(true, Statement, Unused, Unused);
@@ -110,6 +114,8 @@ const fn shapes() -> [Option<Shape>; 256] {
     table[STORE as usize] = Shape::new(false, Expression, Expression, Unused);
     table[IF as usize] = Shape::new(false, Expression, Statement, Statement);
     table[WHILE as usize] = Shape::new(false, Expression, Statement, Unused);
+    table[GENERATE as usize] = Shape::new(true, Unused, Unused, Unused);
+    table[AWAIT as usize] = Shape::new(true, Unused, Unused, Unused);
     table[NUMBER as usize] = Shape::new(false, Data, Unused, Unused);
     table[TRUTH as usize] = Shape::new(true, Unused, Unused, Unused);
     table[VARIABLE as usize] = Shape::new(true, Unused, Unused, Unused);

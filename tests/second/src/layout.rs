@@ -5,7 +5,7 @@ use crate::place::{HOME, PRIVATE, SCHEDULERS};
 use crate::types::Type;
 use crate::verdict::Verdict;
 
-/// Shared cells, and modules, at most.
+/// Shared cells, modules, and events, at most.
 pub const DECLARATIONS: usize = 16;
 /// Depth of a tree, at most; a body stands at depth 1.
 pub const DEPTH: u16 = 24;
@@ -19,6 +19,7 @@ pub struct Program {
     /// Frame numbers of the modules; `main` is the last.
     pub modules: Vec<u16>,
     pub shared_cells: usize,
+    pub events: usize,
     /// The last scheduler's place.
     pub last_place: u8,
     /// Choices that a run uses, at most.
@@ -33,6 +34,7 @@ impl Program {
         Ok(Program {
             modules: modules(&frames),
             shared_cells: shared_cells(&frames),
+            events: usize::from(header.c),
             last_place: last_place(&header),
             allowance: match header.a {
                 0 => DEFAULT_ALLOWANCE,
@@ -45,6 +47,22 @@ impl Program {
     /// The shared cell's frame.
     pub fn shared_cell(&self, number: usize) -> Option<&Frame> {
         (number < self.shared_cells).then(|| &self.frames[1 + number])
+    }
+
+    /// The scheduler that the event belongs to.
+    pub fn event_owner(&self, number: u8) -> Option<u8> {
+        let number = usize::from(number);
+        (number < self.events).then(|| self.frames[self.after_shared_cells() + number].s)
+    }
+
+    /// The first frame after the shared cells.
+    fn after_shared_cells(&self) -> usize {
+        1 + self.shared_cells
+    }
+
+    /// The first frame after all declarations but the modules.
+    pub fn first_of_modules(&self) -> usize {
+        self.after_shared_cells() + self.events
     }
 
     /// The module's frame.
@@ -74,8 +92,16 @@ fn header(frames: &[Frame]) -> Option<Frame> {
     (header.kind == kind::HEADER
         && header.s == 1
         && schedulers.contains(&header.b)
-        && header.c == 0)
-        .then_some(header)
+        && counts_events(&header, frames))
+    .then_some(header)
+}
+
+/// C is the number of all events in the file, bad or misplaced ones too, as
+/// refusal 4 is found before 5 and 6. So there is no 17th event for 5 to name.
+fn counts_events(header: &Frame, frames: &[Frame]) -> bool {
+    let is_event = |frame: &&Frame| frame.kind == kind::EVENT;
+    let count = usize::from(header.c);
+    count <= DECLARATIONS && frames.iter().filter(is_event).count() == count
 }
 
 /// What the frames so far have declared. Misplaced declarations count too:
@@ -102,6 +128,7 @@ impl Declared {
             && match frame.kind {
                 kind::HEADER => false,
                 kind::SHARED_CELL => self.shared_cell_fits(frame),
+                kind::EVENT => self.is_scheduler(frame.s),
                 kind::MODULE => self.module_fits(frame),
                 kind::AT_PLACE | kind::NEW_CELL => (PRIVATE..=self.last_place).contains(&frame.s),
                 kind::START | kind::START_AND_WAIT => frame.a != 0 || frame.b == 0,
@@ -110,9 +137,13 @@ impl Declared {
             }
     }
 
+    fn is_scheduler(&self, place: u8) -> bool {
+        (HOME..=self.last_place).contains(&place)
+    }
+
     fn shared_cell_fits(&mut self, frame: &Frame) -> bool {
         let content = Type(frame.a);
-        let fits = (HOME..=self.last_place).contains(&frame.s)
+        let fits = self.is_scheduler(frame.s)
             && content.is_well_formed(self.last_place)
             && content.is_public()
             && content.cells() <= 2
@@ -189,9 +220,22 @@ fn first_of_subtree(frames: &[Frame], first: &[usize], f: usize) -> Option<usize
     Some(start)
 }
 
-/// A shared cell after another kind.
+/// A shared cell or an event after a kind that it should precede. The frame
+/// before it decides: if an earlier one is of such a kind, then the first that
+/// stands wrongly behind that is lower and is found before.
 fn is_misplaced(frames: &[Frame], f: usize) -> bool {
-    frames[f].kind == kind::SHARED_CELL && frames[f - 1].kind > kind::SHARED_CELL
+    let is_declared_first = matches!(frames[f].kind, kind::SHARED_CELL | kind::EVENT);
+    is_declared_first && part(&frames[f - 1]) > part(&frames[f])
+}
+
+/// The parts of a file in their order: header, shared cells, events, the rest.
+fn part(frame: &Frame) -> u8 {
+    match frame.kind {
+        kind::HEADER => 0,
+        kind::SHARED_CELL => 1,
+        kind::EVENT => 2,
+        _ => 3,
+    }
 }
 
 pub(crate) fn is_leftover(frame: &Frame, has_parent: bool) -> bool {

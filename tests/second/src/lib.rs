@@ -1,5 +1,5 @@
 //! The second program: an independent checker and stepper of document 01 with
-//! changes 1 to 4 of document 02.
+//! changes 1 to 5 of document 02.
 //!
 //! It shares no line with the proved implementation and serves as its test
 //! oracle and speed baseline. The path of a file through the modules is

@@ -1,6 +1,7 @@
-//! Demand 3, tested on the second program's own runs of accepted files.
+//! Demand 3, and what 02 promises of events, tested on the second program's
+//! own runs of accepted files.
 
-use crate::evaluate::{Access, Actor, Observer};
+use crate::evaluate::{Access, Actor, EventUse, Observer};
 use crate::layout::Program;
 use crate::place::{of_thread, HOME, PRIVATE};
 use crate::state::{Cell, State, Value};
@@ -12,6 +13,8 @@ pub enum Broken {
     Refused(u8),
     /// A cell accessed by neither its owner nor a thread on it.
     Accessed(Access),
+    /// An event used from elsewhere than its owner's scheduler.
+    Event(EventUse),
     /// A cell of a scheduler holds a cell of a thread.
     Held,
     /// A thread's variables reach a private cell of another thread
@@ -59,6 +62,12 @@ impl Observer for Watch {
         let here = actor.place != PRIVATE && owner == actor.place;
         if !own && !here {
             self.broken.get_or_insert(Broken::Accessed(access));
+        }
+    }
+
+    fn event(&mut self, actor: Actor, event_use: EventUse, owner: u8) {
+        if actor.place != owner {
+            self.broken.get_or_insert(Broken::Event(event_use));
         }
     }
 }
@@ -157,14 +166,19 @@ mod tests {
 
     fails_without! {
         breaks_without_start_effect: StartEffect,
+        breaks_without_start_events: StartEvents,
         breaks_without_new_cell_effect: NewCellEffect,
         breaks_without_content_effect: ContentEffect,
         breaks_without_store_effect: StoreEffect,
+        breaks_without_generate_effect: GenerateEffect,
+        breaks_without_await_effect: AwaitEffect,
         breaks_without_public_content: PublicContent,
         breaks_without_public_argument: PublicArgument,
         breaks_without_while_unlinked: WhileUnlinked,
         breaks_without_main_effect: MainEffect,
+        breaks_without_main_events: MainEvents,
         breaks_without_place_effect: PlaceEffect,
+        breaks_without_place_events: PlaceEvents,
         breaks_without_stored_type: StoredType,
         breaks_without_arguments: Arguments,
         breaks_without_operands: Operands,

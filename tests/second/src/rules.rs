@@ -5,7 +5,7 @@
 //! forwards hands types and effects up. The forward pass stops at the first
 //! bad frame, so whatever a frame needs is known when it is reached.
 
-use crate::effect::Effect;
+use crate::effect::{Effect, Effects};
 use crate::frame::{kind, Frame};
 use crate::layout::Program;
 use crate::place::{HOME, PRIVATE};
@@ -16,18 +16,26 @@ use crate::verdict::Verdict;
 /// rests on it then fails.
 #[derive(Clone, Copy, PartialEq, Eq, Debug)]
 pub(crate) enum Rule {
-    /// A start adds the started module's effect.
+    /// A start adds the started module's effect on cells.
     StartEffect,
+    /// And that on events.
+    StartEvents,
     NewCellEffect,
     ContentEffect,
     StoreEffect,
+    GenerateEffect,
+    AwaitEffect,
     /// No private cell in a public new cell.
     PublicContent,
     PublicArgument,
     /// No start, cooperation or move to place 1 while unlinked.
     WhileUnlinked,
+    /// The cells that `main` accesses are home's, and its events too.
     MainEffect,
+    MainEvents,
+    /// The cells accessed at a place are that one's, and the events too.
     PlaceEffect,
+    PlaceEvents,
     StoredType,
     /// Count and types of arguments.
     Arguments,
@@ -71,7 +79,7 @@ pub fn check(program: &Program) -> Verdict {
 
 pub(crate) fn check_with(program: &Program, strictness: impl Strictness) -> Verdict {
     let mut checker = Checker::new(program, strictness);
-    for f in 1 + program.shared_cells..program.frames.len() {
+    for f in program.first_of_modules()..program.frames.len() {
         match checker.facts_of(f) {
             Ok(facts) => checker.enter(f, facts),
             Err(number) => return Verdict::rejected(number, f),
@@ -94,7 +102,7 @@ struct Context {
 struct Facts {
     /// Of an expression; statements have `NO_TYPE`.
     type_: Type,
-    effect: Effect,
+    effects: Effects,
     /// Of a statement: it can end at once.
     at_once: bool,
 }
@@ -109,14 +117,14 @@ struct Checker<'p, S> {
     /// Types of the variables in scope.
     scope: Vec<Type>,
     /// Effects of the modules below the one being checked.
-    module_effects: Vec<Effect>,
+    module_effects: Vec<Effects>,
 }
 
 impl<'p, S: Strictness> Checker<'p, S> {
     fn new(program: &'p Program, strictness: S) -> Self {
         let nothing = Facts {
             type_: NO_TYPE,
-            effect: Effect::EMPTY,
+            effects: Effects::EMPTY,
             at_once: true,
         };
         let mut checker = Checker {
@@ -147,7 +155,7 @@ impl<'p, S: Strictness> Checker<'p, S> {
                 self.scope.pop();
             }
             kind::MODULE => {
-                self.module_effects.push(facts.effect);
+                self.module_effects.push(facts.effects);
                 self.enter_module(self.module_effects.len());
             }
             _ => {}
@@ -171,19 +179,19 @@ impl<'p, S: Strictness> Checker<'p, S> {
         self.facts[usize::from(f)].type_
     }
 
-    fn effect_of(&self, f: u16) -> Effect {
-        self.facts[usize::from(f)].effect
+    fn effects_of(&self, f: u16) -> Effects {
+        self.facts[usize::from(f)].effects
     }
 
     fn ends_at_once(&self, f: u16) -> bool {
         self.facts[usize::from(f)].at_once
     }
 
-    fn children_effect(&self, frame: &Frame) -> Effect {
+    fn children_effects(&self, frame: &Frame) -> Effects {
         frame
             .children()
-            .map(|child| self.effect_of(child))
-            .fold(Effect::EMPTY, Effect::joined)
+            .map(|child| self.effects_of(child))
+            .fold(Effects::EMPTY, Effects::joined)
     }
 
     /// Refusal `number` where the condition fails, unless `rule` is left out.
@@ -196,28 +204,37 @@ impl<'p, S: Strictness> Checker<'p, S> {
     }
 
     /// The effect that `rule` adds, empty if the rule is left out.
-    fn added(&self, rule: Rule, effect: Effect) -> Effect {
+    fn added(&self, rule: Rule, effects: Effects) -> Effects {
         if self.strictness.applies(rule) {
-            effect
+            effects
         } else {
-            Effect::EMPTY
+            Effects::EMPTY
         }
     }
 
+    /// Refusal 11: cells and events are tested one by one, by a rule each.
+    fn within(&self, effects: Effects, place: u8, rules: [Rule; 2]) -> Result<(), u8> {
+        let allowed = Effect::of(place);
+        self.require(rules[0], effects.cells.within(allowed), 11)?;
+        self.require(rules[1], effects.events.within(allowed), 11)
+    }
+
     fn expression(&self, frame: &Frame) -> Result<Facts, u8> {
-        let mut effect = self.children_effect(frame);
+        let mut effects = self.children_effects(frame);
         let type_ = match frame.kind {
             kind::NUMBER => Type::NUMBER,
             kind::TRUTH => Type::TRUTH,
             kind::VARIABLE => *self.scope.get(usize::from(frame.s)).ok_or(8)?,
             kind::SHARED => self.shared_cell(frame)?,
             kind::NEW_CELL => {
-                effect = effect.joined(self.added(Rule::NewCellEffect, Effect::of(frame.s)));
+                let own = Effects::of_cell(frame.s);
+                effects = effects.joined(self.added(Rule::NewCellEffect, own));
                 self.new_cell(frame)?
             }
             kind::CONTENT => {
                 let cell = self.cell_type(frame.a)?;
-                effect = effect.joined(self.added(Rule::ContentEffect, Effect::of(cell.owner())));
+                let own = Effects::of_cell(cell.owner());
+                effects = effects.joined(self.added(Rule::ContentEffect, own));
                 cell.content()
             }
             kind::SUM => self.operands(&[frame.a, frame.b], Type::NUMBER)?,
@@ -232,7 +249,7 @@ impl<'p, S: Strictness> Checker<'p, S> {
         };
         Ok(Facts {
             type_,
-            effect,
+            effects,
             at_once: true,
         })
     }
@@ -264,17 +281,16 @@ impl<'p, S: Strictness> Checker<'p, S> {
     }
 
     fn statement(&self, frame: &Frame, f: usize) -> Result<Facts, u8> {
-        let mut effect = self.children_effect(frame);
+        let mut effects = self.children_effects(frame);
         let at_once = match frame.kind {
             kind::SEQUENCE => self.ends_at_once(frame.a) && self.ends_at_once(frame.b),
             kind::AT_PLACE => {
                 self.at_place(frame, f)?;
-                effect = Effect::EMPTY;
+                effects = Effects::EMPTY;
                 self.ends_at_once(frame.a)
             }
             kind::START | kind::START_AND_WAIT => {
-                let started = self.start(frame, f)?;
-                effect = effect.joined(self.added(Rule::StartEffect, started));
+                effects = effects.joined(self.start(frame, f)?);
                 frame.kind == kind::START
             }
             kind::COOPERATE => {
@@ -283,8 +299,8 @@ impl<'p, S: Strictness> Checker<'p, S> {
             }
             kind::LET => self.ends_at_once(frame.b),
             kind::STORE => {
-                let owner = self.store(frame)?;
-                effect = effect.joined(self.added(Rule::StoreEffect, Effect::of(owner)));
+                let own = Effects::of_cell(self.store(frame)?);
+                effects = effects.joined(self.added(Rule::StoreEffect, own));
                 true
             }
             kind::IF => {
@@ -296,22 +312,31 @@ impl<'p, S: Strictness> Checker<'p, S> {
                 self.require(Rule::LoopBody, !self.ends_at_once(frame.b), 13)?;
                 true
             }
+            kind::GENERATE => {
+                effects = self.added(Rule::GenerateEffect, self.event(frame)?);
+                true
+            }
+            // It ends at once where the event is present.
+            kind::AWAIT => {
+                effects = self.added(Rule::AwaitEffect, self.event(frame)?);
+                true
+            }
             kind::MODULE => {
-                self.module(f, effect)?;
+                self.module(f, effects)?;
                 true
             }
             _ => true,
         };
         Ok(Facts {
             type_: NO_TYPE,
-            effect,
+            effects,
             at_once,
         })
     }
 
     fn at_place(&self, frame: &Frame, f: usize) -> Result<(), u8> {
-        let fits = self.effect_of(frame.a).within(Effect::of(frame.s));
-        self.require(Rule::PlaceEffect, fits, 11)?;
+        let rules = [Rule::PlaceEffect, Rule::PlaceEvents];
+        self.within(self.effects_of(frame.a), frame.s, rules)?;
         if frame.s == PRIVATE {
             self.linked(f)?;
         }
@@ -324,7 +349,7 @@ impl<'p, S: Strictness> Checker<'p, S> {
     }
 
     /// The effect of the started module.
-    fn start(&self, frame: &Frame, f: usize) -> Result<Effect, u8> {
+    fn start(&self, frame: &Frame, f: usize) -> Result<Effects, u8> {
         let number = usize::from(frame.s);
         let module = self.program.module(number).ok_or(8)?;
         let below = self.module_effects.get(number);
@@ -335,7 +360,17 @@ impl<'p, S: Strictness> Checker<'p, S> {
         let public = arguments().all(Type::is_public);
         self.require(Rule::PublicArgument, public, 10)?;
         self.linked(f)?;
-        Ok(below.copied().unwrap_or(Effect::EMPTY))
+        let Effects { cells, events } = below.copied().unwrap_or(Effects::EMPTY);
+        let on_cells = Effects {
+            cells,
+            ..Effects::EMPTY
+        };
+        let on_events = Effects {
+            events,
+            ..Effects::EMPTY
+        };
+        let on_cells = self.added(Rule::StartEffect, on_cells);
+        Ok(on_cells.joined(self.added(Rule::StartEvents, on_events)))
     }
 
     /// The owner of the cell that is stored to.
@@ -346,11 +381,18 @@ impl<'p, S: Strictness> Checker<'p, S> {
         Ok(cell.owner())
     }
 
+    /// The effect of generating or awaiting the event.
+    fn event(&self, frame: &Frame) -> Result<Effects, u8> {
+        let owner = self.program.event_owner(frame.s).ok_or(8)?;
+        Ok(Effects::of_event(owner))
+    }
+
     /// Only `main`, the last frame, is bound to a scheduler.
-    fn module(&self, f: usize, effect: Effect) -> Result<(), u8> {
-        let is_main = f + 1 == self.program.frames.len();
-        let fits = !is_main || effect.within(Effect::of(HOME));
-        self.require(Rule::MainEffect, fits, 11)
+    fn module(&self, f: usize, effects: Effects) -> Result<(), u8> {
+        if f + 1 < self.program.frames.len() {
+            return Ok(());
+        }
+        self.within(effects, HOME, [Rule::MainEffect, Rule::MainEvents])
     }
 }
 

@@ -20,7 +20,7 @@ pub enum Value {
     Cell(u8),
 }
 
-#[derive(Clone, Copy, Debug)]
+#[derive(Clone, Copy, PartialEq, Eq, Debug)]
 pub struct Cell {
     /// A scheduler, or `place::of_thread` of the thread that made it.
     pub owner: u8,
@@ -28,7 +28,7 @@ pub struct Cell {
 }
 
 /// An entry of a continuation.
-#[derive(Clone, Copy, Debug)]
+#[derive(Clone, Copy, PartialEq, Eq, Debug)]
 pub enum Item {
     /// Run this statement.
     Run(u16),
@@ -38,7 +38,7 @@ pub enum Item {
     Drop,
 }
 
-#[derive(Clone, Debug)]
+#[derive(Clone, PartialEq, Eq, Debug)]
 pub struct Thread {
     /// What is left to do, the next item last (01: the "pile").
     pub continuation: Vec<Item>,
@@ -56,27 +56,41 @@ pub struct Thread {
     unfinished: u8,
 }
 
-/// An entry of a next list.
-#[derive(Clone, Copy, Debug)]
-pub struct Entry {
-    pub thread: u8,
-    /// The thread it waits for; a ready entry has none.
-    pub awaits: Option<u8>,
+/// What an entry of a next list stands there for.
+#[derive(Clone, Copy, PartialEq, Eq, Debug)]
+pub enum Until {
+    /// The end of the instant.
+    Instant,
+    /// An instant's end after that of this thread's family.
+    Family(u8),
+    /// The generation of this event, or else the end of the instant: then the
+    /// thread tries again.
+    Event(u8),
 }
 
-#[derive(Clone, Debug, Default)]
+/// An entry of a next list.
+#[derive(Clone, Copy, PartialEq, Eq, Debug)]
+pub struct Entry {
+    pub thread: u8,
+    pub until: Until,
+}
+
+#[derive(Clone, PartialEq, Eq, Debug, Default)]
 pub struct Scheduler {
     pub active: VecDeque<u8>,
     pub next: Vec<Entry>,
 }
 
-#[derive(Clone, Debug)]
+#[derive(Clone, PartialEq, Eq, Debug)]
 pub struct State {
     pub cells: Vec<Cell>,
     /// Thread `t` stands at `t - 1`.
     pub threads: Vec<Thread>,
     /// The scheduler of place `p` stands at `p - HOME`.
     pub schedulers: Vec<Scheduler>,
+    /// For each event: it was generated in the instant of its scheduler that
+    /// has not ended yet.
+    pub present: Vec<bool>,
 }
 
 impl Thread {
@@ -116,6 +130,7 @@ impl State {
                 .into_iter()
                 .collect(),
             schedulers,
+            present: vec![false; program.events],
         }
     }
 

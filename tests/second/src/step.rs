@@ -1,10 +1,10 @@
 //! The stepper: one choice at a time, answers 0 and 15 to 20.
 
-use crate::evaluate::{Access, Actor, Evaluator, Fault, Observer};
+use crate::evaluate::{Access, Actor, Evaluator, EventUse, Fault, Observer};
 use crate::frame::{kind, Frame};
 use crate::layout::Program;
-use crate::place::{thread_of, PRIVATE};
-use crate::state::{Entry, Item, Scheduler, State, Thread, Value, THREADS};
+use crate::place::{thread_of, HOME, PRIVATE};
+use crate::state::{Entry, Item, Scheduler, State, Thread, Until, Value, THREADS};
 
 /// What a choice came to.
 #[derive(Clone, Copy, PartialEq, Eq, Debug)]
@@ -32,8 +32,8 @@ impl Outcome {
     }
 }
 
-/// Counts the accesses that it tells the observer of. A step makes fewer than
-/// the file has frames: each is evaluated once at most.
+/// Counts the accesses that it tells the observer of, and no uses of events. A
+/// step makes fewer than the file has frames: each is evaluated once at most.
 struct Counting<'o, O> {
     observer: &'o mut O,
     accesses: u16,
@@ -44,6 +44,10 @@ impl<O: Observer> Observer for Counting<'_, O> {
         self.accesses += 1;
         self.observer.access(actor, access, owner);
     }
+
+    fn event(&mut self, actor: Actor, event_use: EventUse, owner: u8) {
+        self.observer.event(actor, event_use, owner);
+    }
 }
 
 impl State {
@@ -52,7 +56,7 @@ impl State {
         if let Some(index) = self.scheduler_index(party) {
             match self.schedulers[index].active.front() {
                 Some(&thread) => self.step_thread(program, thread, observer),
-                None => self.end_instant(index),
+                None => self.end_instant(program, index),
             }
         } else {
             match thread_of(party).filter(|&thread| self.is_unlinked(thread)) {
@@ -67,23 +71,32 @@ impl State {
         known.is_some_and(Thread::is_unlinked)
     }
 
-    /// Ready entries of the next list become active, waiting ones stay.
-    fn end_instant(&mut self, index: usize) -> Outcome {
+    /// Ready entries of the next list become active, waiting ones stay. One
+    /// that awaits an event is ready. Where nothing is, no instant ends.
+    fn end_instant(&mut self, program: &Program, index: usize) -> Outcome {
         let threads = &self.threads;
         let Scheduler { active, next } = &mut self.schedulers[index];
         next.retain(|entry| {
-            let waits = entry
-                .awaits
-                .is_some_and(|awaited| !threads[usize::from(awaited) - 1].family_ended());
+            let waits = match entry.until {
+                Until::Family(root) => !threads[usize::from(root) - 1].family_ended(),
+                Until::Instant | Until::Event(_) => false,
+            };
             if !waits {
                 active.push_back(entry.thread);
             }
             waits
         });
         if active.is_empty() {
-            Outcome::NOTHING
-        } else {
-            Outcome::INSTANT_ENDED
+            return Outcome::NOTHING;
+        }
+        self.end_presence(program, HOME + index as u8);
+        Outcome::INSTANT_ENDED
+    }
+
+    /// The scheduler's events are present no more.
+    fn end_presence(&mut self, program: &Program, place: u8) {
+        for (number, present) in (0..).zip(&mut self.present) {
+            *present &= program.event_owner(number) != Some(place);
         }
     }
 
@@ -161,15 +174,15 @@ impl State {
     /// Going to one's own place is no move.
     fn go(&mut self, thread: u8, place: u8) {
         if self.thread(thread).place != place {
-            self.requeue(thread, place, None);
+            self.requeue(thread, place, Until::Instant);
         }
     }
 
     /// To the end of that next list; an unlinked thread is in no list.
-    fn requeue(&mut self, thread: u8, place: u8, awaits: Option<u8>) {
+    fn requeue(&mut self, thread: u8, place: u8, until: Until) {
         self.leave(thread);
         self.thread_mut(thread).place = place;
-        self.append(place, Entry { thread, awaits });
+        self.append(place, Entry { thread, until });
     }
 
     fn run<O: Observer>(
@@ -207,7 +220,7 @@ impl State {
             kind::COOPERATE => {
                 linked(place)?;
                 self.replace(thread, &[]);
-                self.requeue(thread, place, None);
+                self.requeue(thread, place, Until::Instant);
             }
             kind::LET => {
                 let value = evaluator.value(frame.a)?;
@@ -222,6 +235,20 @@ impl State {
                 let truth = evaluator.condition(frame.a)?;
                 let branch = if truth { frame.b } else { frame.c };
                 self.replace(thread, &[Item::Run(branch)]);
+            }
+            kind::GENERATE => {
+                event(&mut evaluator, frame, EventUse::Generation)?;
+                self.replace(thread, &[]);
+                self.generate(frame.s, place);
+            }
+            kind::AWAIT => {
+                event(&mut evaluator, frame, EventUse::Await)?;
+                if self.present[usize::from(frame.s)] {
+                    self.replace(thread, &[]);
+                } else {
+                    // The statement stays: the thread takes it again.
+                    self.requeue(thread, place, Until::Event(frame.s));
+                }
             }
             _ => {
                 // The loop stays whole: its body goes above it.
@@ -253,14 +280,31 @@ impl State {
         let started = self.add_thread(Thread::new(module, arguments, place, Some(thread)));
         let entry = Entry {
             thread: started,
-            awaits: None,
+            until: Until::Instant,
         };
         self.append(place, entry);
         self.replace(thread, &[]);
         if frame.kind == kind::START_AND_WAIT {
-            self.requeue(thread, place, Some(started));
+            self.requeue(thread, place, Until::Family(started));
         }
         Ok(())
+    }
+
+    /// The event is present, and the threads of its scheduler's next list that
+    /// await it become active, behind those that are.
+    fn generate(&mut self, event: u8, place: u8) {
+        self.present[usize::from(event)] = true;
+        let Some(index) = self.scheduler_index(place) else {
+            return;
+        };
+        let Scheduler { active, next } = &mut self.schedulers[index];
+        next.retain(|entry| {
+            let awaits = entry.until == Until::Event(event);
+            if awaits {
+                active.push_back(entry.thread);
+            }
+            !awaits
+        });
     }
 }
 
@@ -291,4 +335,20 @@ fn store<O: Observer>(evaluator: &mut Evaluator<O>, frame: &Frame) -> Result<(),
     let number = evaluator.accessed(cell, Access::Store)?;
     evaluator.cells[number].content = value;
     Ok(())
+}
+
+/// A missing event is stuck, then another scheduler's is foreign; an unlinked
+/// thread stands at place 1, which owns no event.
+fn event<O: Observer>(
+    evaluator: &mut Evaluator<O>,
+    frame: &Frame,
+    event_use: EventUse,
+) -> Result<(), Fault> {
+    let owner = evaluator.program.event_owner(frame.s).ok_or(Fault::Stuck)?;
+    evaluator.observer.event(evaluator.actor, event_use, owner);
+    if owner == evaluator.actor.place {
+        Ok(())
+    } else {
+        Err(Fault::Foreign)
+    }
 }

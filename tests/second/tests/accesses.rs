@@ -2,7 +2,7 @@
 //! counts 0. Cases by hand, then generated runs against the list of accesses
 //! that the paper's words give when taken literally.
 
-use second::evaluate::{Access, Actor, Observer};
+use second::evaluate::{Access, Actor, EventUse, Observer};
 use second::frame::kind;
 use second::generate;
 use second::layout::{Program, DEPTH};
@@ -431,6 +431,8 @@ impl Observer for Seen {
     fn access(&mut self, _: Actor, access: Access, owner: u8) {
         self.0.push((access, owner));
     }
+
+    fn event(&mut self, _: Actor, _: EventUse, _: u8) {}
 }
 
 /// A step that is not refused, taken literally: an expression has a value and

@@ -56,6 +56,75 @@ fn modules_and_shared_cells_keep_their_order() {
     );
 }
 
+/// The header counts the events.
+fn printed_with(events: u16, frames: &[&str]) -> String {
+    let header = format!("000100000002{events:04X}");
+    let frames = [&[header.as_str()], frames].concat();
+    String::from_utf8(listing::arrange(&lines(&frames))).unwrap()
+}
+
+const HOME_EVENT: &str = "0302000000000000";
+const OTHER_EVENT: &str = "0303000000000000";
+
+/// Behind the shared cells and before the modules, as they were given.
+#[test]
+fn events_keep_their_order() {
+    let drawn = [
+        "1A01000000000000",
+        OTHER_EVENT,
+        "0200000100000000",
+        CELL,
+        HOME_EVENT,
+        "0200000800000000",
+        "0103000100000000",
+        "1B00000000000000",
+        OTHER_EVENT,
+    ];
+    let laid_out = [
+        "0001000000020003",
+        CELL,
+        "0103000100000000",
+        OTHER_EVENT,
+        HOME_EVENT,
+        OTHER_EVENT,
+        "1A01000000000000",
+        "0200000600000000",
+        "1B00000000000000",
+        "0200000800000000",
+    ];
+    assert_eq!(printed_with(3, &drawn).as_bytes(), lines(&laid_out));
+    assert_eq!(listing::arrange(&lines(&laid_out)), lines(&laid_out));
+}
+
+/// 4 and 5 are the check's own, order is no reason, and an event is no child.
+#[test]
+fn refusals_of_events() {
+    let behind = [NOTHING, "0200000100000000", HOME_EVENT];
+    assert_eq!(printed_with(0, &behind), "04 0000\n");
+    assert_eq!(printed_with(2, &behind), "04 0000\n");
+    assert!(printed_with(1, &behind).starts_with("0001"));
+    let bad = [NOTHING, "0200000100000000", "0301000000000000"];
+    assert_eq!(printed_with(1, &bad), "05 0003\n");
+    assert_eq!(
+        printed_with(1, &[HOME_EVENT, "0200000100000000"]),
+        "06 0002\n"
+    );
+    let twice = [HOME_EVENT, "1100000100010000", "0200000200000000"];
+    assert_eq!(printed_with(1, &twice), "15 0001\n");
+    assert_eq!(printed_with(2, &[HOME_EVENT, HOME_EVENT]), "06 0002\n");
+    let leftover = ["1A00000000000000", HOME_EVENT, NOTHING, "0200000300000000"];
+    assert_eq!(printed_with(1, &leftover), "06 0001\n");
+    // 8 and 11 are none of the writer's.
+    let missing = ["1A09000000000000", "0200000100000000"];
+    assert!(printed_with(0, &missing).starts_with("0001"));
+    // So are 16 events, and not a 17th.
+    let main = [NOTHING, "0200000100000000"];
+    let full = [&main[..], &[HOME_EVENT; 16]].concat();
+    assert!(printed_with(16, &full).starts_with("0001"));
+    let over = [&main[..], &[HOME_EVENT; 17]].concat();
+    assert_eq!(printed_with(17, &over), "04 0000\n");
+}
+
 /// Children come in the order of the fields, whatever their numbers.
 #[test]
 fn children_come_in_order() {
@@ -304,7 +373,7 @@ fn first_tangled(frames: &[Frame]) -> Option<usize> {
 }
 
 fn first_misfit(frames: &[Frame]) -> Option<usize> {
-    let statement = |f: usize| (0x10..=0x19).contains(&frames[f].kind);
+    let statement = |f: usize| matches!(frames[f].kind, 0x10..=0x19 | 0x1A | 0x1B);
     let expression = |f: usize| (0x20..=0x28).contains(&frames[f].kind);
     let used = |f: usize| frames.iter().flat_map(children).any(|child| child == f);
     let last_module = of_kind(frames, kind::MODULE).last();
@@ -354,6 +423,7 @@ fn literally(text: &[u8]) -> Vec<u8> {
     }
     let mut order = vec![(0, 0)];
     order.extend(of_kind(&frames, kind::SHARED_CELL).map(|f| (f, 0)));
+    order.extend(of_kind(&frames, kind::EVENT).map(|f| (f, 0)));
     for module in of_kind(&frames, kind::MODULE) {
         tree(&frames, module, 0, &mut order);
     }
@@ -437,6 +507,7 @@ fn reasons(frames: &[Frame], number: usize, f: usize) -> Vec<&'static str> {
             users.len() > 1 && frames[f].kind == 1,
             "shared cell used twice",
         );
+        note(users.len() > 1 && frames[f].kind == 3, "event used twice");
         note(circle == Some(1), "circle of one");
         note(circle == Some(2), "circle of two");
         note(circle.is_some_and(|length| length > 2), "circle of many");
@@ -456,6 +527,10 @@ fn reasons(frames: &[Frame], number: usize, f: usize) -> Vec<&'static str> {
         note(
             own.iter().any(|child| kind_of(child) == Some(1)),
             "a shared cell as child",
+        );
+        note(
+            own.iter().any(|child| kind_of(child) == Some(3)),
+            "an event as child",
         );
         let classes = frames[f].shape().unwrap().fields;
         let mut fields = own.iter().zip(classes);
@@ -503,7 +578,7 @@ fn as_the_paper_says() {
     for number in 1..=4 {
         assert!(answers.0[number] > 20, "{answers}");
     }
-    assert_eq!(seen.len(), 20, "{seen:#?}");
+    assert_eq!(seen.len(), 22, "{seen:#?}");
     assert!(seen.values().all(|&count| count > 10), "{seen:#?}");
 }
 
@@ -539,10 +614,10 @@ fn shape(frames: &[Frame], f: usize) -> String {
     )
 }
 
-/// Header, shared cells and the trees of the modules, in their order.
+/// Header, shared cells, events and the trees of the modules, in their order.
 fn meaning(text: &[u8]) -> Vec<String> {
     let frames = text::frames(text).unwrap();
-    let kinds = [kind::HEADER, kind::SHARED_CELL, kind::MODULE];
+    let kinds = [kind::HEADER, kind::SHARED_CELL, kind::EVENT, kind::MODULE];
     kinds
         .into_iter()
         .flat_map(|kind| of_kind(&frames, kind))

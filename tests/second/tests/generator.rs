@@ -1,11 +1,13 @@
 //! What the generator reaches.
 
 mod literal;
+mod literal_events;
 
 use std::collections::{BTreeMap, BTreeSet};
 
 use literal::Waits;
-use second::evaluate::{Access, Actor, Observer};
+use literal_events::Uses;
+use second::evaluate::{Access, Actor, EventUse, Observer};
 use second::generate;
 use second::listing::{self, Reading};
 use second::state::State;
@@ -122,6 +124,8 @@ impl Observer for Seen {
             Access::Creation => self.creations += 1,
         }
     }
+
+    fn event(&mut self, _: Actor, _: EventUse, _: u8) {}
 }
 
 /// Steps with many accesses and with accesses of every sort, and steps that are
@@ -164,4 +168,109 @@ fn steps_access_many_cells() {
         let times = refused.get(&answer).copied().unwrap_or(0);
         assert!(times > 500, "{times} refused with {answer}");
     }
+}
+
+/// A good half of the files have no events, most of the others are accepted,
+/// and their runs use events in every way that the paper tells of.
+#[test]
+fn events_are_generated_and_awaited() {
+    let mut uses = Uses::default();
+    let (mut without, mut accepted, mut rejected) = (0, 0, 0);
+    let mut waking = 0;
+    const CASES: usize = 30_000;
+    for index in 0..CASES {
+        let case = generate::case(SEED, index as u64);
+        let Ok(frames) = text::frames(&case.program) else {
+            continue;
+        };
+        let has_events = frames[0].c != 0 || frames.iter().any(|frame| frame.kind == 0x03);
+        without += usize::from(!has_events);
+        let Reading::Readable(program, verdict) = Reading::new(&case.program) else {
+            continue;
+        };
+        accepted += usize::from(has_events && verdict.number == 0);
+        rejected += usize::from(has_events && verdict.number != 0);
+        if let Ok(choices) = text::choices(&case.choices) {
+            let before = woken(&uses);
+            uses.add(&program, listing::used(&program, &choices));
+            waking += usize::from(woken(&uses) > before);
+        }
+    }
+    println!(
+        "without events {without}, with: accepted {accepted}, rejected with 8 to 13 {rejected}"
+    );
+    println!("cases in which threads are woken {waking}\n{uses}");
+    assert!(without > CASES / 2, "{without} without events");
+    assert!(
+        accepted > rejected && accepted > CASES / 7,
+        "{accepted} accepted"
+    );
+    assert!(waking > 1_000, "{waking}");
+    assert!(woken(&uses) > 2_000, "{uses}");
+    for count in (1..=40).chain(55..=63) {
+        assert!(uses.woken.contains_key(&count), "{count} woken");
+    }
+    let often = [
+        uses.again,
+        uses.others_left,
+        uses.bystanders_left,
+        uses.ended_present,
+        uses.kept_present,
+        uses.nothing_while_present,
+        uses.missing,
+        uses.unlinked,
+        uses.elsewhere,
+    ];
+    assert!(often.iter().all(|&times| times > 500), "{uses}");
+}
+
+/// Generations that woke a thread.
+fn woken(uses: &Uses) -> usize {
+    uses.woken.range(1..).map(|(_, times)| times).sum()
+}
+
+/// Damaged declarations of every sort, by what the check says at the frame.
+#[test]
+fn declarations_are_damaged() {
+    let mut seen: BTreeMap<&str, usize> = BTreeMap::new();
+    for index in 0..60_000 {
+        let case = generate::case(SEED, index);
+        let Ok(frames) = text::frames(&case.program) else {
+            continue;
+        };
+        let verdict = Reading::new(&case.program).verdict();
+        let events = frames.iter().filter(|frame| frame.kind == 0x03).count();
+        let count = usize::from(frames[0].c);
+        let last = 1 + u32::from(frames[0].b);
+        let frame = frames[usize::from(verdict.frame)];
+        let before = usize::from(verdict.frame)
+            .checked_sub(1)
+            .map(|f| frames[f].kind);
+        let header_is_fine = (frames[0].kind, frames[0].s) == (0, 1) && (2..=9).contains(&last);
+        let damage = match (verdict.number, frame.kind) {
+            (4, _) if !header_is_fine => continue,
+            (4, _) if count == 17 && events == 17 => "17 events, all counted",
+            (4, _) if count > 16 => "C over 16",
+            (4, _) if count > events => "C over the number of events",
+            (4, _) => "C under the number of events",
+            (5, 0x03) if frame.s == 1 => "private owner",
+            (5, 0x03) if u32::from(frame.s) > last => "owner that the file lacks",
+            (5, 0x03) if frame.s == 0 => "owner 0",
+            (5, 0x03) => "field that is not 0",
+            (5, 0x1A | 0x1B) => "field of a use that is not 0",
+            (5, 0x04 | 0x1C) => "kind just past those of events",
+            (6, 0x03) if before == Some(0x02) => "event behind a module",
+            (6, 0x03) => "event behind a statement or expression",
+            (6, 0x01) if before == Some(0x03) => "shared cell behind an event",
+            (8, 0x1A | 0x1B) => "missing event",
+            (11, 0x12) if frame.s == 1 && events > 0 => "11 at place 1",
+            (11, 0x12) if events > 0 => "11 at a scheduler",
+            (11, 0x02) if events > 0 => "11 at main",
+            _ => continue,
+        };
+        *seen.entry(damage).or_default() += 1;
+    }
+    println!("{seen:#?}");
+    assert_eq!(seen.len(), 17, "{seen:#?}");
+    assert!(seen.values().all(|&times| times > 5), "{seen:#?}");
 }

@@ -1,8 +1,11 @@
-//! The wrapper tried on wrong lengths, empty buffers and garbage states; the end of an instant tried
-//! on states of a caller's own; demand 3 tried on the accepted vectors; the writer tried on drawn
-//! files.
+//! The wrapper tried on wrong lengths, empty buffers and garbage states; the end of an instant
+//! tried on states of a caller's own (events.rs has those with events); demand 3 tried on the
+//! accepted vectors; the writer tried on drawn files.
 use purkvaldi::{Answer, Listing};
 use std::path::Path;
+
+/// How many words a state is (docs/STATE.md).
+const WORDS: usize = 4834;
 
 const THREE: &[u8] = b"0001000000010000\n1000000000000000\n0200000100000000\n";
 
@@ -27,7 +30,7 @@ fn the_three_line_file_answers_0_0_16() {
 
 #[test]
 fn a_buffer_of_another_length_is_14_and_stays() {
-    for words in [0, 1, 4817, 4819] {
+    for words in [0, 1, WORDS - 1, WORDS + 1] {
         let mut state = vec![7; words];
         assert_eq!(purkvaldi::fresh(THREE, &mut state), answer(14, 0));
         assert_eq!(purkvaldi::step(THREE, &mut state, 2), answer(14, 0));
@@ -44,12 +47,12 @@ fn the_texts_refusals_come_first() {
 #[test]
 fn garbage_states_are_14_and_stay() {
     for word in [u64::MAX, 1 << 63, 300] {
-        let mut state = vec![word; 4818];
+        let mut state = vec![word; WORDS];
         assert_eq!(purkvaldi::step(THREE, &mut state, 2), answer(14, 0));
-        assert_eq!(state, vec![word; 4818]);
+        assert_eq!(state, vec![word; WORDS]);
     }
     let state = fresh();
-    for at in 0..4818 {
+    for at in 0..WORDS {
         let mut changed = state.clone();
         changed[at] = u64::MAX;
         let kept = changed.clone();
@@ -71,8 +74,8 @@ fn below(seed: &mut u64, most: u64) -> u64 {
 }
 
 /// In a caller's own state anybody may have begun anybody: families are gathered from the starters
-/// until nothing is new, and an entry is ready where all of the awaited family have ended. (Document
-/// 02, change 3; docs/STATE.md has the words.)
+/// until nothing is new, and an entry is ready where all of the awaited family have ended.
+/// (Document 02, change 3; docs/STATE.md has the words.)
 #[test]
 fn waits_end_with_the_family_whatever_the_starters() {
     const ACTIVE: usize = 2;
@@ -159,12 +162,12 @@ fn in_one_call(text: &[u8], state: &mut [u64], choices: &[u8]) -> Vec<Answer> {
 #[test]
 fn choices_that_cannot_be_stepped_write_nothing() {
     for (text, words, count, wanted) in [
-        (THREE, 4818, 2, answer(14, 0)),
-        (THREE, 4818, 4, answer(14, 0)),
-        (THREE, 4818, 0, answer(14, 0)),
-        (THREE, 4817, 3, answer(14, 0)),
+        (THREE, WORDS, 2, answer(14, 0)),
+        (THREE, WORDS, 4, answer(14, 0)),
+        (THREE, WORDS, 0, answer(14, 0)),
+        (THREE, WORDS - 1, 3, answer(14, 0)),
         (THREE, 0, 3, answer(14, 0)),
-        (&THREE[..40], 4818, 2, answer(3, 2)),
+        (&THREE[..40], WORDS, 2, answer(3, 2)),
         (&[], 0, 0, answer(1, 0)),
     ] {
         let mut state = fresh();
@@ -183,7 +186,7 @@ fn choices_that_cannot_be_stepped_write_nothing() {
 #[test]
 fn garbage_states_are_14_for_many_choices_too() {
     let state = fresh();
-    for at in 0..4818 {
+    for at in 0..WORDS {
         let mut changed = state.clone();
         changed[at] = u64::MAX;
         let kept = changed.clone();
@@ -281,12 +284,12 @@ fn a_listing_is_that_of_the_second_program() {
 fn a_listing_in_a_buffer_of_another_length_is_refused() {
     let length = purkvaldi::listing_length();
     for (words, bytes) in [
-        (4818, 0),
-        (4818, 8),
-        (4818, length - 1),
-        (4818, length + 1),
-        (4817, length),
-        (4819, length),
+        (WORDS, 0),
+        (WORDS, 8),
+        (WORDS, length - 1),
+        (WORDS, length + 1),
+        (WORDS - 1, length),
+        (WORDS + 1, length),
         (0, 0),
     ] {
         let mut state = vec![3; words];
@@ -315,7 +318,7 @@ fn a_text_refused_with_1_to_7_comes_before_the_buffers() {
         (b"1000000000000000\n", 4, 0),
     ] {
         let line = format!("{number:02X} {frame:04X}\n");
-        for words in [0, 4817, 4818] {
+        for words in [0, WORDS - 1, WORDS] {
             for (bytes, written) in [(length, line.as_bytes()), (8, b""), (length - 1, b"")] {
                 let mut state = vec![3; words];
                 let mut out = vec![7; bytes];

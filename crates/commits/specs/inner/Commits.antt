@@ -2,23 +2,25 @@
 -- of the rules. Assumes nothing: definitions.
 use mathlib.Core.Path.{_≡_}
 use mathlib.Core.List.{List, [], _∷_}
-use mathlib.Core.Bool.{Bool, true, false, _&&_, not}
+use mathlib.Core.Bool.{Bool, true, false, _&&_, _||_, not}
 use Prim.Native.Nat.{ℕ, _+_, _-_, _*_, _<_, _≤_}
 use lib.Dec.{leb, eqb}
 use lib.ListN.{length, getD, set, replicate}
 use Rattle.basics.specs.If.{if_then_else_}
 use Rattle.language.specs.Places.{private, home, isPlace, isScheduler}
 use Rattle.language.specs.declared.Place.{Place}
-use Rattle.language.specs.Limits.{mostVariables, mostThreads, mostCells, mostItems}
-use Rattle.language.specs.Refusals.{threadsSpent, stuck}
+use Rattle.language.specs.Limits.{mostVariables, mostThreads, mostCells, mostItems, mostEvents}
+use Rattle.language.specs.Limits.{mostSchedulers}
+use Rattle.language.specs.Refusals.{threadsSpent, foreign, stuck}
 use Rattle.program.specs.Programs.{Program}
 use Rattle.machine.specs.inner.Blocks.{pasted, padded}
 use Rattle.states.specs.declared.thread.ThreadWords.{ThreadWords}
 use Rattle.states.specs.inner.Threads.{threadIn, putThread, withOneMore, ThreadSpace}
-use Rattle.lists.specs.inner.Lists.{withoutFirst, withLast}
+use Rattle.lists.specs.inner.Lists.{withoutFirst, withLast, isAwaitingWord, activeWith, withWoken}
 use Rattle.acts.specs.declared.act.Arguments.{Arguments}
 use Rattle.acts.specs.declared.act.Transition.{Transition}
 use Rattle.acts.specs.declared.act.Transition.the-variants.{Refused, Stays, Leaves, Joins, Starts}
+use Rattle.acts.specs.declared.act.Transition.the-variants.{Generates, Awaits}
 use Rattle.acts.specs.declared.act.Change.{Change}
 use Rattle.acts.specs.declared.act.Change.the-variants.{Same, Item, Items, Let, Drop, Move, Enter}
 use Rattle.acts.specs.declared.act.Change.the-variants.{End}
@@ -26,12 +28,15 @@ use Rattle.acts.specs.declared.act.Action.{Action}
 use Rattle.acts.specs.inner.Transitions.{TurnResult, popped, turned, HasRoom}
 use Rattle.program.specs.declared.module.ModuleFound.{ModuleFound}
 use Rattle.program.specs.inner.Modules.{foundIn}
+use Rattle.program.specs.declared.event.EventFound.{EventFound}
+use Rattle.program.specs.inner.Events.{eventIn}
 use Rattle.commits.specs.declared.decision.Passed.{Passed}
-use Rattle.commits.specs.declared.decision.Passed.the-variants.{Keep, Leave, Join, Start}
+use Rattle.commits.specs.declared.decision.Passed.the-variants.{Keep, Leave, Join, Start, Wake}
 use Rattle.commits.specs.declared.decision.Decision.{Decision}
-use Rattle.commits.specs.declared.decision.Decision.the-variants.{Refuse, Settle}
+use Rattle.commits.specs.declared.decision.Decision.the-variants.{Refuse, Settle, Suspend}
 use Rattle.machine.specs.Offsets.{stateLength, threadCountAt, cellCountAt, schedulerLength}
-use Rattle.machine.specs.Offsets.{nextListAt, cellsAt, waitingFactor}
+use Rattle.machine.specs.Offsets.{schedulersAt, nextListAt, eventsAt, cellsAt, waitingFactor}
+use Rattle.machine.specs.Offsets.{awaitingFrom}
 
 -- how many cells are in use
 abbrev pub countIn : List ℕ → ℕ
@@ -133,12 +138,66 @@ startsIn p w before c t a waits m args =
     if not (roomIn w (a .thread .place) 2) then refusesIn w before t stuck else
     committed 0 t (waitingIn w c t a args (found .body))
 
+-- ---- events
+
+-- a thread at that place stands on the event's owner
+abbrev pub ownsEvent : ℕ → ℕ → Bool
+ownsEvent place owner = isScheduler place && eqb owner place
+
+-- those that await event e have room in the owner's active list; only a scheduler has one
+unfoldable pub wakeRoomIn : List ℕ → ℕ → ℕ → Bool
+wakeRoomIn w owner e =
+    isScheduler owner && leb (activeWith (isAwaitingWord e) w (owner - home)) mostThreads
+
+-- event e is present
+abbrev pub presentIn : List ℕ → ℕ → Bool
+presentIn w e = eqb (getD w (eventsAt + e) 0) 1
+
+-- what stands in the way of a generation of the event so found, and of an await, at that place: a
+-- missing event and a list without room are 20, another's event is 19; 0 is neither
+unfoldable pub generateObstacle : List ℕ → EventFound → ℕ → ℕ → ℕ
+generateObstacle w event place e =
+    if not (event .there) then stuck else
+    if not (wakeRoomIn w (event .owner) e) then stuck else
+    if not (ownsEvent place (event .owner)) then foreign else
+    0
+
+unfoldable pub awaitObstacle : List ℕ → EventFound → ℕ → ℕ → ℕ
+awaitObstacle w event place e =
+    if not (event .there) then stuck else
+    if not (presentIn w e || eqb place private || roomIn w place 1) then stuck else
+    if not (ownsEvent place (event .owner)) then foreign else
+    0
+
+-- event e of scheduler q is present, and who awaits it is active
+unfoldable pub generatedIn : List ℕ → ℕ → ℕ → List ℕ
+generatedIn w q e = set (withWoken w (q - home) e) (eventsAt + e) 1
+
+unfoldable pub generatesIn : Program → List ℕ → ℕ → ℕ → TurnResult → ℕ → Committed
+generatesIn p w before t a e =
+    let no = generateObstacle w (eventIn p e) (a .thread .place) e in
+    if not (eqb no 0) then refusesIn w before t no else
+    committed 0 t (generatedIn (staysIn w t a) (a .thread .place) e)
+
+-- thread t awaits event e on scheduler q, its own words as they were
+unfoldable pub awaitingIn : List ℕ → ℕ → ℕ → ℕ → ℕ → List ℕ
+awaitingIn w c t q e = joinedIn (leftIn w c) q (awaitingFrom + waitingFactor * e + t)
+
+unfoldable pub awaitsIn : Program → List ℕ → ℕ → ℕ → ℕ → TurnResult → ℕ → Committed
+awaitsIn p w before c t a e =
+    let no = awaitObstacle w (eventIn p e) (a .thread .place) e in
+    if not (eqb no 0) then refusesIn w before t no else
+    if presentIn w e then committed 0 t (staysIn w t a) else
+    committed 0 t (awaitingIn w c t (a .thread .place) e)
+
 abbrev pub committedIn : Program → List ℕ → ℕ → ℕ → ℕ → TurnResult → Transition → Committed
 committedIn p w before c t a (Refused n) = refusesIn w before t n
 committedIn p w before c t a Stays = committed 0 t (staysIn w t a)
 committedIn p w before c t a Leaves = committed 0 t (leavesIn w c t a)
 committedIn p w before c t a (Joins q) = joinsIn w before c t a (q .number)
 committedIn p w before c t a (Starts waits m args) = startsIn p w before c t a waits m args
+committedIn p w before c t a (Generates e) = generatesIn p w before t a e
+committedIn p w before c t a (Awaits e) = awaitsIn p w before c t a e
 
 -- ---- the act as it is committed
 
@@ -173,12 +232,29 @@ startDecided p w t a waits m args =
     startTested w args waits (foundIn p m)
     (placeAfter (a .change) (record { number = threadIn w (t - 1) .place }))
 
+-- where thread t stands after its turn
+abbrev pub placeIn : List ℕ → ℕ → Action → Place
+placeIn w t a = placeAfter (a .change) (record { number = threadIn w (t - 1) .place })
+
+unfoldable pub generateTested : List ℕ → EventFound → Place → ℕ → Decision
+generateTested w event q e =
+    let no = generateObstacle w event (q .number) e in
+    if not (eqb no 0) then Refuse no else Settle (Wake q e)
+
+unfoldable pub awaitTested : List ℕ → EventFound → Place → ℕ → Decision
+awaitTested w event q e =
+    let no = awaitObstacle w event (q .number) e in
+    if not (eqb no 0) then Refuse no else
+    if presentIn w e then Settle Keep else Suspend q e
+
 abbrev pub decidedIn : Program → List ℕ → ℕ → Action → Transition → Decision
 decidedIn p w t a (Refused n) = Refuse n
 decidedIn p w t a Stays = Settle Keep
 decidedIn p w t a Leaves = Settle Leave
 decidedIn p w t a (Joins q) = if roomIn w (q .number) 1 then Settle (Join q) else Refuse stuck
 decidedIn p w t a (Starts waits m args) = startDecided p w t a waits m args
+decidedIn p w t a (Generates e) = generateTested w (eventIn p e) (placeIn w t a) e
+decidedIn p w t a (Awaits e) = awaitTested w (eventIn p e) (placeIn w t a) e
 
 -- the new thread of a starter that stands at q
 abbrev pub newAt : Arguments → Place → ℕ → ℕ → ThreadWords
@@ -199,16 +275,18 @@ leavesList Keep = false
 leavesList Leave = true
 leavesList (Join q) = true
 leavesList (Start waits q body args) = waits
+leavesList (Wake q e) = false
 
 unfoldable pub unlistedIn : List ℕ → ℕ → Passed → List ℕ
 unlistedIn w c x = if leavesList x then leftIn w c else w
 
--- then what joins a next list
+-- then what joins a next list or an active one
 abbrev pub enlistedIn : List ℕ → ℕ → Passed → List ℕ
 enlistedIn w t Keep = w
 enlistedIn w t Leave = w
 enlistedIn w t (Join q) = joinedIn w (q .number) t
 enlistedIn w t (Start waits q body args) = startedOn w t q body waits args
+enlistedIn w t (Wake q e) = generatedIn w (q .number) e
 
 abbrev pub followedIn : List ℕ → ℕ → ℕ → Passed → List ℕ
 followedIn w c t x = enlistedIn (unlistedIn w c x) t x
@@ -238,15 +316,35 @@ pub record StartWords (w : List ℕ) (q : Place) : Type 0 where
   pub scheduler : isScheduler (q .number) ≡ true
   pub count : getD w threadCountAt 0 < mostThreads
 
+-- the lists are within their spaces, and there are no more threads than there may be
+pub record ListsFit (w : List ℕ) : Type 0 where
+  pub threads : getD w threadCountAt 0 ≤ mostThreads
+  pub active : (k : ℕ) → k < mostSchedulers
+      → getD w (schedulersAt + schedulerLength * k) 0 ≤ mostThreads
+  pub next : (k : ℕ) → k < mostSchedulers
+      → getD w (nextListAt + schedulerLength * k) 0 ≤ mostThreads
+
+-- q has lists, which are within their spaces, and who awaits event e has room
+pub record WakeWords (w : List ℕ) (q : Place) (e : ℕ) : Type 0 where
+  pub scheduler : isScheduler (q .number) ≡ true
+  pub event : e < mostEvents
+  pub threads : getD w threadCountAt 0 ≤ mostThreads
+  pub next : getD w (nextListAt + schedulerLength * (q .number - home)) 0 ≤ mostThreads
+  pub room : activeWith (isAwaitingWord e) w (q .number - home) ≤ mostThreads
+
 -- what the lists need to follow
 abbrev pub Follows : List ℕ → Passed → Type 0
 Follows w Keep = Unit {0}
 Follows w Leave = Unit {0}
 Follows w (Join q) = isScheduler (q .number) ≡ true
 Follows w (Start waits q body args) = StartWords w q
+Follows w (Wake q e) = WakeWords w q e
 
-pub record CommitWords (w : List ℕ) (t : ℕ) (a : Action) : Type 0 where
+pub record CommitWords (p : Program) (w : List ℕ) (t : ℕ) (a : Action) : Type 0 where
   pub first : 1 ≤ t
   pub last : t ≤ mostThreads
   pub cells : countIn w ≤ mostCells
   pub settle : SettleWords w (t - 1) (a .change)
+  -- a file that passes refusals 1 to 7 has no more events, and words that pass 14 such lists
+  pub events : length (p .events) ≤ mostEvents
+  pub lists : ListsFit w

@@ -6,11 +6,12 @@ use mathlib.Core.Bool.{Bool, not, _&&_}
 use mathlib.Core.List.{List}
 use mathlib.Core.Option.{Option, none, some}
 use Prim.Native.Nat.{ℕ, _<_, _≤_}
+use lib.Dec.{leb, eqb}
 use lib.ListN.{length, take}
 use Rattle.basics.specs.If.{if_then_else_}
 use Rattle.basics.specs.inner.Searches.{lowest}
-use Rattle.language.specs.Kinds.{isShared, isModule}
-use Rattle.language.specs.Limits.{mostSchedulers}
+use Rattle.language.specs.Kinds.{isHeader, isShared, isModule}
+use Rattle.language.specs.Limits.{mostSchedulers, mostEvents}
 use Rattle.language.specs.declared.kind.Uses.{Uses}
 use Rattle.language.specs.declared.frame.Frame.{Frame}
 use Rattle.text.specs.Frames.{framesOf}
@@ -22,9 +23,15 @@ use Rattle.fields.specs.declared.fault_search.FaultSearch.{FaultSearch}
 use Rattle.fields.specs.declared.fault_search.FaultSearch.the-variants.{At, Nowhere}
 use Rattle.fields.specs.declared.field.Tally.{Tally}
 
+-- ---- 4: what can be seen of the header alone; the count of the events is left
+unfoldable pub headerAlone : Frame → Bool
+headerAlone f =
+    isHeader (f .kind) && eqb (f .s) 1 && leb 1 (f .b) && leb (f .b) mostSchedulers
+    && leb (f .c) mostEvents
+
 -- ---- the lowest frame with the fault 4, and with 5
 unfoldable pub headerFault : List Frame → Option ℕ
-headerFault fs = if headerFine (frameAt fs 0) then none else some 0
+headerFault fs = if headerFine fs then none else some 0
 
 unfoldable pub fieldFault : List Frame → Option ℕ
 fieldFault fs = lowest (λ (i : ℕ) (f : Frame). not (frameFine fs i f)) 0 fs

@@ -3,13 +3,16 @@
 use mathlib.Core.Bool.{Bool, true, false, not, _&&_, _||_}
 use mathlib.Core.List.{List, [], _∷_, reverse}
 use mathlib.Core.Option.{Option, none, some}
-use Prim.Native.Nat.{ℕ, zero, suc, _-_, _<_, _≤_}
+use Prim.Native.Nat.{ℕ, zero, suc, _-_, _<_, _≤_, max}
 use lib.Dec.{ltb, eqb}
 use lib.ListN.{length, getD, take}
 use Rattle.basics.specs.If.{if_then_else_}
 use Rattle.basics.specs.Members.{any}
 use Rattle.basics.specs.inner.Searches.{lowest, earlier}
-use Rattle.language.specs.Kinds.{isHeader, isShared, isModule, classOf, Child, children}
+use Rattle.language.specs.Kinds.{declarationRank, isModule, classOf, Child, children}
+use Rattle.language.specs.declared.kind.Kind.{Kind}
+use Rattle.language.specs.declared.kind.Kind.the-variants.{Header, Declared, Module, Statement}
+use Rattle.language.specs.declared.kind.Kind.the-variants.{Expression, Unknown}
 use Rattle.language.specs.declared.kind.Class.{Class}
 use Rattle.language.specs.declared.frame.Frame.{Frame}
 use Rattle.language.specs.Refusals.{wrongHeader, wrongField, wrongOrder, tooDeep}
@@ -19,7 +22,7 @@ use Rattle.program.specs.inner.Children.{sameClass}
 use Rattle.fields.specs.inner.Scans.{headerFault, fieldFault, rejectAt}
 use Rattle.layout.specs.declared.LayoutVerdict.{LayoutVerdict}
 use Rattle.layout.specs.declared.LayoutVerdict.the-variants.{LaidOut, Rejected}
-use Rattle.layout.specs.Order.{hasChild, hasClass, isMain}
+use Rattle.layout.specs.Order.{fileRank, hasChild, hasClass, isMain}
 
 -- what a caller has to show: there is a line, and no more than a file may have
 abbrev pub LineWords : List ℕ → Type 0
@@ -53,13 +56,22 @@ firstDisorder ps i (f ∷ fs) =
       | some first ↦ firstDisorder (passed (classOf (f .kind)) first ∷ ps) (suc i) fs
     ]
 
--- a shared cell after another kind
-unfoldable pub isAfterOther : List Frame → ℕ → Frame → Bool
-isAfterOther fs i f =
-    elim (isShared (f .kind)) [
-      | true ↦ any (λ (g : Frame). not (isHeader (g .kind) || isShared (g .kind))) (take i fs)
-      | false ↦ false
-    ]
+-- the highest rank among the frames; 0 where there is none
+unfoldable pub highestRank : List Frame → ℕ
+highestRank [] = 0
+highestRank (f ∷ fs) = max (fileRank (f .kind)) (highestRank fs)
+
+-- a declaration after a frame of a rank that comes later: n is the highest rank before it
+abbrev pub isLate : Kind → ℕ → Bool
+isLate Header n = false
+isLate (Declared d) n = ltb (declarationRank d) n
+isLate Module n = false
+isLate (Statement k) n = false
+isLate (Expression k) n = false
+isLate Unknown n = false
+
+unfoldable pub isMisplaced : List Frame → ℕ → Frame → Bool
+isMisplaced fs i f = isLate (f .kind) (highestRank (take i fs))
 
 -- a leftover frame: the later frames, `rest`, are asked first, since in a good file one of them has
 -- it as a child
@@ -84,7 +96,7 @@ noMain fs = if isMain (frameAt fs (length fs - 1)) then none else some (length f
 unfoldable pub orderFault : List Frame → Option ℕ
 orderFault fs =
     earlier (firstDisorder [] 0 fs)
-    (earlier (lowest (λ (i : ℕ) (f : Frame). isAfterOther fs i f) 0 fs)
+    (earlier (lowest (λ (i : ℕ) (f : Frame). isMisplaced fs i f) 0 fs)
     (earlier (firstLeftover fs 0 fs) (noMain fs)))
 
 -- ---- 7

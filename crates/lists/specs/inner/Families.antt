@@ -10,7 +10,7 @@ use lib.ListN.{getD}
 use Rattle.basics.specs.If.{if_then_else_}
 use Rattle.language.specs.Limits.{mostThreads}
 use Rattle.machine.specs.Offsets.{threadCountAt, threadsAt, threadLength, starterField, livesField}
-use Rattle.machine.specs.Offsets.{waitingFactor}
+use Rattle.machine.specs.Offsets.{waitingFactor, awaitingFrom}
 use Rattle.machine.specs.Shapes.{IsThread}
 use Rattle.machine.specs.inner.Families.{familyTo, familySteps}
 use Rattle.machine.specs.inner.Ranges.{allBelow, threadInRange}
@@ -40,8 +40,10 @@ noneAwaited w u n = allBelow n (λ k. not (isAwaited w u k))
 unfoldable pub isReadyWord : List ℕ → ℕ → Bool
 isReadyWord w e =
     if ltb e waitingFactor then true else
-    threadInRange (e / waitingFactor)
-    && noneAwaited w (e / waitingFactor) (getD w threadCountAt 0)
+    if ltb e awaitingFrom
+    then threadInRange (e / waitingFactor)
+    && noneAwaited w (e / waitingFactor) (getD w threadCountAt 0) else
+    true
 
 -- ---- by sets
 
@@ -79,4 +81,6 @@ LivingFamilies w set = LivingTo w (getD w threadCountAt 0) set
 -- the entry e is ready, where `living` is that set
 unfoldable pub isReadyBy : ℕ → ℕ → Bool
 isReadyBy living e =
-    if ltb e waitingFactor then true else lacksThread living (e / waitingFactor)
+    if ltb e waitingFactor then true else
+    if ltb e awaitingFrom then lacksThread living (e / waitingFactor) else
+    true

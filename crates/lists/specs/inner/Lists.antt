@@ -3,18 +3,20 @@
 -- Scheduler k counts from 0. Assumes nothing: definitions.
 use mathlib.Core.Path.{_≡_}
 use mathlib.Core.List.{List, [], _∷_, _++_}
-use mathlib.Core.Bool.{not}
-use Prim.Native.Nat.{ℕ, _+_, _-_, _*_, _%_, _≤_}
+use mathlib.Core.Bool.{Bool, false, not}
+use Prim.Native.Nat.{ℕ, _+_, _-_, _*_, _/_, _%_, _≤_}
 use lib.Dec.{ltb, eqb}
 use lib.ListN.{length, getD, set, drop}
 use Rattle.basics.specs.If.{if_then_else_}
 use Rattle.language.specs.Limits.{mostThreads}
 use Rattle.machine.specs.Offsets.{stateLength, threadCountAt, schedulersAt, schedulerLength}
-use Rattle.machine.specs.Offsets.{listLength, nextListAt, waitingFactor}
+use Rattle.machine.specs.Offsets.{listLength, nextListAt, waitingFactor, awaitingFrom}
 use Rattle.basics.specs.If.{keepIf}
 use Rattle.machine.specs.Words.{wordsAt}
 use Rattle.machine.specs.inner.Blocks.{part, pasted, padded}
-use Rattle.lists.specs.inner.Families.{isReadyWord}
+use Rattle.lists.specs.inner.Families.{isReadyWord, isReadyBy}
+use Rattle.lists.specs.declared.list.Wanted.{Wanted}
+use Rattle.lists.specs.declared.list.Wanted.the-variants.{Ready, Awaiting}
 
 -- the words without the first, then 0
 unfoldable pub shifted : List ℕ → List ℕ
@@ -37,33 +39,62 @@ withLast w k e =
     then set (set w (at + 1 + getD w at 0) e) at (getD w at 0 + 1)
     else w
 
--- ---- the end of an instant
+-- ---- entries that become active
 
--- of the entries, the threads of the ready ones, and those that wait
-unfoldable pub readyWords : List ℕ → List ℕ → List ℕ
-readyWords w [] = []
-readyWords w (e ∷ es) = keepIf (isReadyWord w e) (e % waitingFactor) (readyWords w es)
+-- the entry x awaits event e
+unfoldable pub isAwaitingWord : ℕ → ℕ → Bool
+isAwaitingWord e x =
+    if ltb x awaitingFrom then false else eqb ((x - awaitingFrom) / waitingFactor) e
 
-unfoldable pub waitingWords : List ℕ → List ℕ → List ℕ
-waitingWords w [] = []
-waitingWords w (e ∷ es) = keepIf (not (isReadyWord w e)) e (waitingWords w es)
+-- those that the code is told to move
+abbrev pub isWanted : Wanted → ℕ → Bool
+isWanted (Ready living) x = isReadyBy living x
+isWanted (Awaiting e) x = isAwaitingWord e x
 
--- the entries of the next list after the active list at that place, partitioned: the threads of the
--- ready ones in the active list's space, and in their own those that wait, then 0
-unfoldable pub partitionedIn : List ℕ → ℕ → List ℕ
-partitionedIn w at =
+-- of the entries, the threads of those that pass the test, and the others
+unfoldable pub wantedWords : (ℕ → Bool) → List ℕ → List ℕ
+wantedWords test [] = []
+wantedWords test (x ∷ xs) = keepIf (test x) (x % waitingFactor) (wantedWords test xs)
+
+unfoldable pub otherWords : (ℕ → Bool) → List ℕ → List ℕ
+otherWords test [] = []
+otherWords test (x ∷ xs) = keepIf (not (test x)) x (otherWords test xs)
+
+-- the entries of the next list after the active list at that place, partitioned: the threads of
+-- those that pass the test after its n threads, and in their own space the others, then 0
+unfoldable pub partitionedIn : (ℕ → Bool) → List ℕ → ℕ → ℕ → List ℕ
+partitionedIn test w at n =
     let es = wordsAt w (at + listLength) in
-    let n = getD w (at + listLength) 0 in
-    pasted (pasted w (at + 1) (readyWords w es) (length (readyWords w es)))
-    (at + listLength + 1) (padded n (waitingWords w es)) n
+    let m = getD w (at + listLength) 0 in
+    pasted (pasted w (at + 1 + n) (wantedWords test es) (length (wantedWords test es)))
+    (at + listLength + 1) (padded m (otherWords test es)) m
 
--- scheduler k's ready entries have become active, the others stay; it had no active thread
-unfoldable pub withInstantEnded : List ℕ → ℕ → List ℕ
-withInstantEnded w k =
+-- scheduler k's entries that pass the test have become active, after those that were; the others
+-- stay
+unfoldable pub withMoved : (ℕ → Bool) → List ℕ → ℕ → List ℕ
+withMoved test w k =
     let at = schedulersAt + schedulerLength * k in
+    let n = getD w at 0 in
     let es = wordsAt w (nextListAt + schedulerLength * k) in
-    set (set (partitionedIn w at) at (length (readyWords w es)))
-    (nextListAt + schedulerLength * k) (length (waitingWords w es))
+    set (set (partitionedIn test w at n) at (n + length (wantedWords test es)))
+    (nextListAt + schedulerLength * k) (length (otherWords test es))
+
+-- the ready ones, where an instant ends
+abbrev pub readyWords : List ℕ → List ℕ → List ℕ
+readyWords w es = wantedWords (isReadyWord w) es
+
+abbrev pub withInstantEnded : List ℕ → ℕ → List ℕ
+withInstantEnded w k = withMoved (isReadyWord w) w k
+
+-- those that await event e, where it is generated
+abbrev pub withWoken : List ℕ → ℕ → ℕ → List ℕ
+withWoken w k e = withMoved (isAwaitingWord e) w k
+
+-- how many threads are active where scheduler k's entries that pass the test have become so
+abbrev pub activeWith : (ℕ → Bool) → List ℕ → ℕ → ℕ
+activeWith test w k =
+    getD w (schedulersAt + schedulerLength * k) 0
+    + length (wantedWords test (wordsAt w (nextListAt + schedulerLength * k)))
 
 -- what a caller has to show: a state's words, with no more threads than there may be, and the list
 -- at that place within its space

@@ -5,7 +5,7 @@ use mathlib.Core.Bool.{Bool, true, not, _&&_, _||_}
 use Prim.Native.Nat.{ℕ, zero, suc}
 use lib.Dec.{eqb}
 use lib.ListN.{length}
-use Rattle.machine.specs.State.{Thread, Entry, plain, waiting, starterOf}
+use Rattle.machine.specs.State.{Thread, Entry, plain, waiting, awaiting, starterOf}
 
 -- thread t is u, or one comes from t to u over at most k starters; f tells by whom each was begun
 unfoldable pub familyTo : ℕ → (ℕ → ℕ) → ℕ → ℕ → Bool
@@ -28,3 +28,4 @@ endedFrom test t (x ∷ xs) = (x .ended || not (test t)) && endedFrom test (suc 
 unfoldable pub isReady : List Thread → Entry → Bool
 isReady ts (plain t) = true
 isReady ts (waiting t u) = endedFrom (inFamily ts u) 1 ts
+isReady ts (awaiting t e) = true

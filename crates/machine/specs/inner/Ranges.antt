@@ -15,8 +15,9 @@ use Rattle.program.specs.Trees.{frameAt}
 use Rattle.machine.specs.Offsets.{stateLength, threadCountAt, cellCountAt, schedulersAt}
 use Rattle.machine.specs.Offsets.{schedulerLength, listLength, threadsAt, threadLength}
 use Rattle.machine.specs.Offsets.{placeField, starterField, livesField, itemsField}
-use Rattle.machine.specs.Offsets.{variablesField, cellsAt, backFrom, dropWord, waitingFactor}
-use Rattle.machine.specs.Offsets.{truthFrom, cellFrom, ownerFactor}
+use Rattle.machine.specs.Offsets.{variablesField, eventsAt, cellsAt, backFrom, dropWord}
+use Rattle.machine.specs.Offsets.{waitingFactor, awaitingFrom, truthFrom, cellFrom}
+use Rattle.machine.specs.Offsets.{ownerFactor}
 use Rattle.machine.specs.Shapes.{isStatement, ownerInRange}
 
 -- ---- single words, in a file of those frames and n schedulers
@@ -36,9 +37,13 @@ itemInRange fs n w =
     if ltb w dropWord then hasPlace n (w - backFrom) else
     eqb w dropWord
 
--- a thread, or a thread that waits for another
-unfoldable pub entryInRange : ℕ → Bool
-entryInRange w = if ltb w waitingFactor then threadInRange w else threadInRange (w % waitingFactor) && threadInRange (w / waitingFactor)
+-- a thread, a thread that waits for another, a thread that awaits one of m events
+unfoldable pub entryInRange : ℕ → ℕ → Bool
+entryInRange m w =
+    if ltb w waitingFactor then threadInRange w else
+    if ltb w awaitingFrom
+    then threadInRange (w % waitingFactor) && threadInRange (w / waitingFactor) else
+    threadInRange (w % waitingFactor) && ltb ((w - awaitingFrom) / waitingFactor) m
 
 unfoldable pub cellInRange : ℕ → ℕ → Bool
 cellInRange n w = ownerInRange n (w / ownerFactor) && valueInRange (w % ownerFactor)
@@ -52,11 +57,11 @@ listInRange test most w i zero = leb (getD w i 0) most
 listInRange test most w i (suc j) =
     if ltb j (getD w i 0) then test (getD w (i + suc j) 0) else eqb (getD w (i + suc j) 0) 0
 
--- word j of the scheduler whose words begin at i
-unfoldable pub schedulerInRange : List ℕ → ℕ → ℕ → Bool
-schedulerInRange w i j =
+-- word j of the scheduler whose words begin at i, in a file of m events
+unfoldable pub schedulerInRange : ℕ → List ℕ → ℕ → ℕ → Bool
+schedulerInRange m w i j =
     if ltb j listLength then listInRange threadInRange mostThreads w i j else
-    listInRange entryInRange mostThreads w (i + listLength) (j - listLength)
+    listInRange (entryInRange m) mostThreads w (i + listLength) (j - listLength)
 
 -- word j of the thread whose words begin at i: its place, its starter (0: none), whether it lives,
 -- its continuation, its variables
@@ -70,19 +75,21 @@ threadWordInRange fs n w i j =
 
 -- ---- the words of a state
 
--- word i: of a scheduler, a thread or a cell that there is, or 0
+-- word i: of a scheduler, a thread, an event or a cell that there is, or 0
 unfoldable pub wordInRange : List Frame → ℕ → List ℕ → ℕ → Bool
 wordInRange fs n w i =
     if eqb i threadCountAt then leb (getD w threadCountAt 0) mostThreads else
     if eqb i cellCountAt then leb (getD w cellCountAt 0) mostCells else
     if ltb i threadsAt then
     (if ltb ((i - schedulersAt) / schedulerLength) n
-    then schedulerInRange w (schedulersAt + schedulerLength * ((i - schedulersAt) / schedulerLength)) ((i - schedulersAt) % schedulerLength)
+    then schedulerInRange (frameAt fs 0 .c) w (schedulersAt + schedulerLength * ((i - schedulersAt) / schedulerLength)) ((i - schedulersAt) % schedulerLength)
     else eqb (getD w i 0) 0) else
-    if ltb i cellsAt then
+    if ltb i eventsAt then
     (if ltb ((i - threadsAt) / threadLength) (getD w threadCountAt 0)
     then threadWordInRange fs n w (threadsAt + threadLength * ((i - threadsAt) / threadLength)) ((i - threadsAt) % threadLength)
     else eqb (getD w i 0) 0) else
+    if ltb i cellsAt then
+    (if ltb (i - eventsAt) (frameAt fs 0 .c) then leb (getD w i 0) 1 else eqb (getD w i 0) 0) else
     if ltb (i - cellsAt) (getD w cellCountAt 0) then cellInRange n (getD w i 0) else eqb (getD w i 0) 0
 
 -- the test passes at every number below n

@@ -50,6 +50,8 @@ statementNodeOf S.Let s a b c = StatementNode.LetIn a b
 statementNodeOf S.Store s a b c = StatementNode.Store a b
 statementNodeOf S.If s a b c = StatementNode.IfElse a b c
 statementNodeOf S.While s a b c = StatementNode.While a b
+statementNodeOf S.Generate s a b c = StatementNode.Generate s
+statementNodeOf S.Await s a b c = StatementNode.Await s
 
 abbrev pub statementNodeIn : Kind → Frame → StatementNode
 statementNodeIn Header f = StatementNode.Nothing

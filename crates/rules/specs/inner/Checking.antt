@@ -11,7 +11,7 @@ use Rattle.basics.specs.inner.Searches.{every, sameNumbers}
 use Rattle.language.specs.Places.{home, private, Standing, linked, unlinked, standingAt}
 use Rattle.language.specs.Types.{numberType, truthType, isCell, cellType, ownerOf}
 use Rattle.language.specs.Types.{contentOf, roomAround, public}
-use Rattle.language.specs.Effects.{noEffect, _∪_, withOwner, within}
+use Rattle.language.specs.Effects.{noEffect, _∪_, withOwner, withEvent, within}
 use Rattle.language.specs.declared.effect.Effect.{Effect}
 use Rattle.language.specs.declared.verdict.Verdict.{Verdict}
 use Rattle.language.specs.declared.verdict.Verdict.the-variants.{Accepted, Rejected}
@@ -19,7 +19,7 @@ use Rattle.language.specs.Refusals.{unbound, illTyped, escaping}
 use Rattle.language.specs.Refusals.{wrongEffect, whileUnlinked, instantLoop}
 use Rattle.program.specs.Trees.{Expr, number, truth, variable, shared, new, content}
 use Rattle.program.specs.Trees.{sum, less, choose, Stmt, nothing, cooperate, seq, doAt}
-use Rattle.program.specs.Trees.{start, startWait, letIn, store, ifElse, while}
+use Rattle.program.specs.Trees.{start, startWait, letIn, store, ifElse, while, generate, await}
 use Rattle.program.specs.Programs.{Part, Program}
 use Rattle.rules.specs.declared.finding.Typing.{Typing}
 use Rattle.rules.specs.declared.finding.Typing.the-variants.{Typed, Untyped}
@@ -168,6 +168,16 @@ whileRule i (Typed t e) (Proper f b) =
 whileRule i (Typed t e) (Faulty n j) = Faulty n j
 whileRule i (Untyped n j) y = Faulty n j
 
+-- 1A and 1B: `there` says whether the file has the event
+unfoldable pub signalRule : Bool → ℕ → ℕ → StatementEffect
+signalRule there owner i =
+    if there then Proper (withEvent owner noEffect) true else
+    Faulty unbound i
+
+-- the event s, where the events have these owners
+abbrev pub signalOf : List ℕ → ℕ → ℕ → StatementEffect
+signalOf owners s i = signalRule (ltb s (length owners)) (getD owners s 0) i
+
 -- what a statement is found to be, or the first fault in it
 unfoldable pub effectIn : Setting → List Signature → List ℕ → Standing → Stmt → StatementEffect
 effectIn env below Γ at (nothing i) = Proper noEffect true
@@ -182,6 +192,8 @@ effectIn env below Γ at (store i x y) = storeRule i (typeIn (env .cells) Γ x) 
 effectIn env below Γ at (ifElse i x p q) =
     ifElseRule i (typeIn (env .cells) Γ x) (effectIn env below Γ at p) (effectIn env below Γ at q)
 effectIn env below Γ at (while i x p) = whileRule i (typeIn (env .cells) Γ x) (effectIn env below Γ at p)
+effectIn env below Γ at (generate i s) = signalOf (env .events) s i
+effectIn env below Γ at (await i s) = signalOf (env .events) s i
 
 -- ---- modules
 

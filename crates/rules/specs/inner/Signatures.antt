@@ -23,13 +23,14 @@ arguedOf (Fault n j) = Argued.fail n j
 abbrev pub signatureWith : ℕ → ℕ → ℕ → Effect → Signature
 signatureWith count first second e = record { types = take count (first ∷ second ∷ []); effect = e }
 
--- a module's signature in one word, from the right: its parameters' types, 16 bits each, its
--- effect, 8 bits with room for 16, and how many parameters
+-- a module's signature in one word, from the right: its parameters' types, 16 bits each, the two
+-- sets of its effect, 8 bits each, and how many parameters
 unfoldable pub signatureWord : ℕ → ℕ → ℕ → Effect → ℕ
-signatureWord count first second e = first + second * 2 ^ 16 + e .bits * 2 ^ 32 + count * 2 ^ 48
+signatureWord count first second e =
+    first + second * 2 ^ 16 + e .cells * 2 ^ 32 + e .events * 2 ^ 40 + count * 2 ^ 48
 
 -- what a word of that layout says: it reads back (proofs/StartLaws, `word-says`)
 unfoldable pub signatureOf : ℕ → Signature
 signatureOf w =
     signatureWith (w / 2 ^ 48 % 3) (w % 2 ^ 16) (w / 2 ^ 16 % 2 ^ 16)
-    (record { bits = w / 2 ^ 32 % 2 ^ 8 })
+    (record { cells = w / 2 ^ 32 % 2 ^ 8; events = w / 2 ^ 40 % 2 ^ 8 })

@@ -10,15 +10,18 @@ use Rattle.language.specs.declared.verdict.Verdict.the-variants.{Accepted}
 use Rattle.text.specs.Frames.{textFrames}
 use Rattle.checker.specs.Verdict.{HasVerdict}
 use Rattle.machine.specs.Offsets.{stateLength}
-use Rattle.machine.specs.Accesses.{Access, Own}
+use Rattle.machine.specs.Accesses.{Access, Own, Signal, OwnSignal}
 use Rattle.machine.specs.Words.{pack}
 use Rattle.machine.specs.Calls.{CallResult, freshCall, stepCall, callsFrom, wordsFrom}
 use Rattle.safety.specs.Safety.{NoPrivateInPublic, Apart, Sound}
-use Rattle.safety.specs.Accepted.{stateOf, accessesAlong}
+use Rattle.safety.specs.Accepted.{stateOf, accessesAlong, signalsAlong}
 
 -- the accesses of one call after the other, each on the words that the one before left
 abbrev pub accessesFrom : List Frame → List ℕ → List ℕ → List Access
 accessesFrom fs w cs = accessesAlong fs (λ v c. stepCall fs v c .words) w cs
+
+abbrev pub signalsFrom : List Frame → List ℕ → List ℕ → List Signal
+signalsFrom fs w cs = signalsAlong fs (λ v c. stepCall fs v c .words) w cs
 
 -- of a file, a lent buffer w and a list of choices: the fresh call writes the buffer, then each
 -- choice is a call
@@ -27,6 +30,8 @@ pub record SafeCalls (fs : List Frame) (w cs : List ℕ) : Type 0 where
   -- every access under every call was to a cell of the acting thread or of the scheduler on which
   -- it stood
   pub accessed : All Own (accessesFrom fs (freshCall fs w .words) cs)
+  -- and every access to an event was made on its owner's scheduler
+  pub signalled : All OwnSignal (signalsFrom fs (freshCall fs w .words) cs)
   -- no call was foreign or stuck
   pub answered : All (λ (r : CallResult). Sound (r .answer)) (callsFrom fs (freshCall fs w .words) cs)
   -- the words after the list are those of a state, in which no scheduler's cell holds a thread's,

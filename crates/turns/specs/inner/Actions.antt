@@ -13,6 +13,7 @@ use Rattle.language.specs.Limits.{mostVariables, mostItems}
 use Rattle.language.specs.Refusals.{stuck}
 use Rattle.program.specs.Trees.{Expr, Stmt, nothing, seq, doAt, start, startWait, cooperate, letIn}
 use Rattle.program.specs.Trees.{store, ifElse, while, rootS, statementAt}
+use Rattle.program.specs.Trees.{generate, await}
 use Rattle.machine.specs.Offsets.{backFrom, dropWord}
 use Rattle.machine.specs.Values.{answerOf}
 use Rattle.machine.specs.Words.{valueWord}
@@ -26,6 +27,7 @@ use Rattle.operations.specs.inner.Results.{Result}
 use Rattle.evaluator.specs.inner.Results.{evaluatedOn, storedOn}
 use Rattle.acts.specs.declared.act.Arguments.{Arguments}
 use Rattle.acts.specs.declared.act.Transition.the-variants.{Stays, Leaves, Joins, Starts}
+use Rattle.acts.specs.declared.act.Transition.the-variants.{Generates, Awaits}
 use Rattle.acts.specs.declared.act.Change.{Change}
 use Rattle.acts.specs.declared.act.Change.the-variants.{Same, Item, Items, Let, Drop, Move, Enter}
 use Rattle.acts.specs.declared.act.Change.the-variants.{End}
@@ -180,6 +182,8 @@ statementAct who counts (ifElse i x a b) vs n ws =
     actAfter (evaluatedOn who x vs n ws) (chooseAfter counts (rootS a) (rootS b))
 statementAct who counts (while i x a) vs n ws =
     actAfter (evaluatedOn who x vs n ws) (loopAfter counts (rootS a) i)
+statementAct who counts (generate i e) vs n ws = actResult (action (Generates e) Same) n ws
+statementAct who counts (await i e) vs n ws = actResult (action (Awaits e) Same) n ws
 
 -- the item that the word is; the counts are without it
 unfoldable pub itemAct : List Frame → Who → Counts → ℕ → List ℕ → ℕ → List ℕ → ActResult

@@ -14,6 +14,7 @@ use Rattle.language.specs.Refusals.{cellsSpent, foreign, stuck}
 use Rattle.text.specs.Frames.{framesOf}
 use Rattle.program.specs.Trees.{Expr, Stmt, nothing, seq, doAt, start, startWait, cooperate, letIn}
 use Rattle.program.specs.Trees.{store, ifElse, while, rootS, statementAt}
+use Rattle.program.specs.Trees.{generate, await}
 use Rattle.program.specs.inner.Ordered.{Ordered, Placed}
 use Rattle.machine.specs.Offsets.{backFrom, dropWord}
 use Rattle.machine.specs.Words.{valueWord}
@@ -29,6 +30,7 @@ use Rattle.states.specs.declared.thread.ThreadWords.{ThreadWords}
 use Rattle.states.specs.inner.Stacks.{pushItem, popItem, pushValue, popValue, moveTo, ended}
 use Rattle.acts.specs.declared.act.Arguments.{Arguments}
 use Rattle.acts.specs.declared.act.Transition.the-variants.{Stays, Leaves, Joins, Starts}
+use Rattle.acts.specs.declared.act.Transition.the-variants.{Generates, Awaits}
 use Rattle.acts.specs.declared.act.Action.{Action}
 use Rattle.acts.specs.inner.Transitions.{argumentsOf, TurnResult, actedIn, refusedIn}
 use Rattle.acts.specs.inner.Transitions.{popped, turned, HasRoom}
@@ -185,6 +187,8 @@ statementIn who th n ws (store i x y) = storesOn th (storedIn who th x y n ws)
 statementIn who th n ws (ifElse i x a b) =
     choosesOn th (rootS a) (rootS b) (evaluatedIn who th x n ws)
 statementIn who th n ws (while i x a) = loopsOn th (rootS a) i (evaluatedIn who th x n ws)
+statementIn who th n ws (generate i e) = turnOutcome (actedIn (Generates e) th n) ws
+statementIn who th n ws (await i e) = turnOutcome (actedIn (Awaits e) th n) ws
 
 -- the item that the word is, on top of a continuation that no longer has it
 unfoldable pub itemIn : List Frame → Who → ThreadWords → ℕ → List ℕ → ℕ → TurnOutcome

@@ -8,6 +8,7 @@ use Rattle.basics.specs.If.{if_then_else_}
 use Rattle.language.specs.declared.frame.Frame.{Frame}
 use Rattle.program.specs.Trees.{Expr, Stmt, nothing, seq, doAt, start, startWait, cooperate, letIn}
 use Rattle.program.specs.Trees.{store, ifElse, while, statementAt}
+use Rattle.program.specs.Trees.{generate, await}
 use Rattle.machine.specs.Offsets.{backFrom}
 use Rattle.machine.specs.Evaluation.{eval, storing}
 use Rattle.machine.specs.declared.value.Outcome.{Outcome}
@@ -47,6 +48,8 @@ statementCount who (letIn i x a) vs n ws = evalCount who x vs n ws
 statementCount who (store i x y) vs n ws = storeCount who x y vs n ws
 statementCount who (ifElse i x a b) vs n ws = evalCount who x vs n ws
 statementCount who (while i x a) vs n ws = evalCount who x vs n ws
+statementCount who (generate i e) vs n ws = 0
+statementCount who (await i e) vs n ws = 0
 
 -- of the top item's word
 unfoldable pub itemCount : List Frame → Who → ℕ → List ℕ → ℕ → List ℕ → ℕ

@@ -20,6 +20,7 @@ pub fn frames(random: &mut Random, plan: fn(&mut Random) -> Plan) -> Vec<Frame> 
         last_place: PRIVATE + plan.schedulers,
         random,
         shared: Vec::new(),
+        events: Vec::new(),
         modules: Vec::new(),
         scope: Vec::new(),
         size: 0,
@@ -28,6 +29,9 @@ pub fn frames(random: &mut Random, plan: fn(&mut Random) -> Plan) -> Vec<Frame> 
     };
     for _ in 0..plan.shared_cells {
         builder.shared_cell();
+    }
+    for _ in 0..plan.events {
+        builder.event();
     }
     for number in 0..=plan.modules {
         builder.size = plan.size * (number + 1) / (plan.modules + 1);
@@ -47,15 +51,19 @@ fn allowance(random: &mut Random) -> u16 {
 
 pub(super) struct Signature {
     pub(super) parameters: Vec<Type>,
-    /// The effect lies within this one.
+    /// The effect on cells lies within this one.
     pub(super) effect: Effect,
+    /// And that on events within this one.
+    pub(super) events: Effect,
 }
 
 /// Where a frame stands and what is asked of it.
 #[derive(Clone, Copy)]
 pub(super) struct Site {
-    /// Its effect must lie within this one.
+    /// Its effect on cells must lie within this one.
     pub(super) allowed: Effect,
+    /// And that on events within this one.
+    pub(super) events: Effect,
     pub(super) unlinked: bool,
     /// Levels left, its own included.
     pub(super) room: u16,
@@ -82,6 +90,8 @@ pub(super) struct Builder<'r> {
     pub(super) last_place: u8,
     /// Types of the shared cells, their own cell included.
     pub(super) shared: Vec<Type>,
+    /// Owners of the events.
+    pub(super) events: Vec<u8>,
     pub(super) modules: Vec<Signature>,
     pub(super) scope: Vec<Type>,
     /// Frames after which only leaves are added.
@@ -130,6 +140,12 @@ impl Builder<'_> {
         self.shared.extend(content.around(owner));
     }
 
+    fn event(&mut self) {
+        let owner = self.scheduler();
+        self.lines.event(owner);
+        self.events.push(owner);
+    }
+
     /// One that may stand in another shared cell.
     fn earlier_shared_cell(&mut self) -> Option<usize> {
         let depth = match self.slips(Slip::SharedCellDepth) {
@@ -151,12 +167,13 @@ impl Builder<'_> {
     }
 
     fn module(&mut self, depth: u16, is_main: bool) {
-        let allowed = self.module_effect(is_main);
+        let [allowed, events] = self.module_effects(is_main);
         let count = if is_main { 0 } else { self.random.below(3) };
         let parameters: Vec<Type> = (0..count).map(|_| self.parameter()).collect();
         self.scope.clone_from(&parameters);
         let body = self.statement(Site {
             allowed,
+            events,
             unlinked: false,
             room: depth,
             waits: false,
@@ -167,18 +184,28 @@ impl Builder<'_> {
         self.modules.push(Signature {
             parameters,
             effect: allowed,
+            events,
         });
     }
 
-    /// A module other than `main` is free, but one with two schedulers cannot
-    /// be started from an accepted `main`.
-    fn module_effect(&mut self, is_main: bool) -> Effect {
+    /// Those on cells and on events, mostly alike: a module other than `main`
+    /// is free, but one with two schedulers cannot be started from an accepted
+    /// `main`.
+    fn module_effects(&mut self, is_main: bool) -> [Effect; 2] {
         if is_main {
-            return match self.slips(Slip::MainEffect) {
+            return [Slip::MainEffect, Slip::MainEvents].map(|slip| match self.slips(slip) {
                 true => self.everywhere(),
                 false => Effect::of(HOME),
-            };
+            });
         }
+        let allowed = self.module_effect();
+        match self.random.chance(8) {
+            true => [allowed, self.module_effect()],
+            false => [allowed; 2],
+        }
+    }
+
+    fn module_effect(&mut self) -> Effect {
         match self.random.below(12) {
             0 => self.everywhere(),
             1..=2 => Effect::EMPTY,

@@ -1,6 +1,7 @@
 //! Files as an editor keeps them, for the writer of change 2: the frames after
 //! the header in any order, whole or damaged.
 
+use super::mutate::{child_mut, insert, renumber};
 use super::random::Random;
 use super::{build, mutate, soup, special, Plan};
 use crate::frame::{kind, Frame};
@@ -56,6 +57,9 @@ fn base(random: &mut Random) -> Vec<Frame> {
 /// Modules of statements one in the other; the deepest stands at this depth.
 fn chain(random: &mut Random, depth: usize) -> Vec<Frame> {
     let mut lines = super::lines::Lines::new(0, 1);
+    for _ in 0..random.below(8).saturating_sub(4) {
+        lines.event(HOME);
+    }
     for deepest in [random.between(1, depth), depth, random.between(1, depth)] {
         let mut body = lines.leaf(kind::NOTHING, 0);
         for _ in 1..deepest {
@@ -121,11 +125,11 @@ fn permutation(random: &mut Random, count: usize) -> Vec<usize> {
 }
 
 /// The frames after the header in another order, children renumbered. If
-/// `kept`, modules and shared cells keep theirs.
+/// `kept`, modules, shared cells and events keep theirs.
 pub fn shuffled(random: &mut Random, frames: &[Frame], kept: bool) -> Vec<Frame> {
     let mut order = permutation(random, frames.len() - 1);
     if kept {
-        for kind in [kind::SHARED_CELL, kind::MODULE] {
+        for kind in [kind::SHARED_CELL, kind::MODULE, kind::EVENT] {
             let is_of_kind = |&f: &usize| frames[f].kind == kind;
             let sorted: Vec<usize> = (1..frames.len()).filter(is_of_kind).collect();
             let places = order.iter_mut().filter(|f| is_of_kind(f));
@@ -144,23 +148,6 @@ pub fn shuffled(random: &mut Random, frames: &[Frame], kept: bool) -> Vec<Frame>
         numbers.get(usize::from(child)).copied().unwrap_or(child)
     });
     moved
-}
-
-fn renumber(frames: &mut [Frame], number: impl Fn(u16) -> u16) {
-    for frame in frames {
-        for field in 0..frame.child_count() {
-            let child = child_mut(frame, field);
-            *child = number(*child);
-        }
-    }
-}
-
-fn child_mut(frame: &mut Frame, field: usize) -> &mut u16 {
-    match field {
-        0 => &mut frame.a,
-        1 => &mut frame.b,
-        _ => &mut frame.c,
-    }
 }
 
 /// A child field: its frame, and 0 to 2 for A to C.
@@ -184,7 +171,7 @@ fn set_child(frames: &mut [Frame], (f, field): Slot, number: usize) {
 /// One change, often a fatal one.
 fn damage(random: &mut Random, frames: &mut Vec<Frame>) {
     let at = random.between(1, frames.len());
-    match random.below(24) {
+    match random.below(28) {
         0 => insert(frames, at, mutate::leaf(random)),
         1 => remove(frames, at.min(frames.len() - 1)),
         2 => without_modules(random, frames),
@@ -195,6 +182,10 @@ fn damage(random: &mut Random, frames: &mut Vec<Frame>) {
         7 => other_class(random, frames),
         8 => only_declarations(random, frames),
         9..=10 => circle(random, frames),
+        11 => more_events(random, frames),
+        12 => mutate::event_count(random, frames),
+        13 => mutate::event_fields(random, frames),
+        14 => mutate::event_use_fields(random, frames),
         _ => {
             if let Some(slot) = random.pick(&slots(frames)) {
                 child_field(random, frames, slot);
@@ -303,18 +294,12 @@ fn circle(random: &mut Random, frames: &mut [Frame]) {
     }
 }
 
-/// The numbers from `at` on go up by one.
-fn insert(frames: &mut Vec<Frame>, at: usize, frame: Frame) {
-    renumber(frames, |child| {
-        child.saturating_add(u16::from(usize::from(child) >= at))
-    });
-    frames.insert(at, frame);
-}
-
-/// The numbers after `at` go down by one; its users get what follows it.
+/// The numbers after `at` go down by one; its users get what follows it. The
+/// header still counts the events.
 fn remove(frames: &mut Vec<Frame>, at: usize) {
     if at > 0 {
-        frames.remove(at);
+        let removed = frames.remove(at);
+        frames[0].c -= u16::from(removed.kind == kind::EVENT).min(frames[0].c);
         renumber(frames, |child| child - u16::from(usize::from(child) > at));
     }
 }
@@ -348,6 +333,15 @@ fn more_shared_cells(random: &mut Random, frames: &mut Vec<Frame>) {
     while of_kind(frames, kind::SHARED_CELL) < wanted {
         let at = random.between(1, frames.len());
         insert(frames, at, mutate::shared_cell());
+    }
+}
+
+/// 15 to 18 of them in all, at any place; the header has no more than 16.
+fn more_events(random: &mut Random, frames: &mut Vec<Frame>) {
+    let wanted = random.between(15, 18);
+    while of_kind(frames, kind::EVENT) < wanted {
+        let at = random.between(1, frames.len());
+        insert(frames, at, mutate::event());
     }
 }
 
@@ -396,11 +390,15 @@ fn other_class(random: &mut Random, frames: &mut [Frame]) {
     };
 }
 
-/// The header and shared cells alone, at times not even those.
+/// The header, shared cells and events alone, at times not even those.
 fn only_declarations(random: &mut Random, frames: &mut Vec<Frame>) {
     match random.chance(2) {
         true => frames.truncate(1),
-        false => frames.retain(|frame| frame.kind <= kind::SHARED_CELL),
+        false => frames
+            .retain(|frame| matches!(frame.kind, kind::HEADER | kind::SHARED_CELL | kind::EVENT)),
+    }
+    if let (0, Some(header)) = (of_kind(frames, kind::EVENT), frames.first_mut()) {
+        header.c = 0;
     }
     if frames.is_empty() {
         frames.push(Frame::default());

@@ -48,6 +48,8 @@ struct Families<'r> {
     last_place: u8,
     /// Owners of the shared cells, which hold numbers.
     owners: Vec<u8>,
+    /// Owners of the events; most files have none.
+    events: Vec<u8>,
     modules: u8,
     /// Of the module in the making: none, or a number.
     parameters: u8,
@@ -60,6 +62,7 @@ impl<'r> Families<'r> {
             lines: Lines::new(0, schedulers),
             last_place: PRIVATE + schedulers,
             owners: Vec::new(),
+            events: Vec::new(),
             modules: 0,
             parameters: 0,
             random,
@@ -68,6 +71,13 @@ impl<'r> Families<'r> {
             let owner = families.scheduler();
             families.lines.add(kind::SHARED_CELL, owner, [1, 0, 0]);
             families.owners.push(owner);
+        }
+        if families.random.chance(5) {
+            for _ in 0..families.random.between(1, 3) {
+                let owner = families.scheduler();
+                families.lines.event(owner);
+                families.events.push(owner);
+            }
         }
         families
     }
@@ -185,6 +195,9 @@ impl<'r> Families<'r> {
 
     /// Takes a while, seldom for ever, and starts nothing.
     fn work(&mut self) -> u16 {
+        if !self.events.is_empty() && self.random.chance(4) {
+            return self.event_use();
+        }
         match self.random.below(120) {
             0 => self.lines.forever(|lines| lines.leaf(kind::NOTHING, 0)),
             1..=34 => self.lines.leaf(kind::NOTHING, 0),
@@ -199,6 +212,19 @@ impl<'r> Families<'r> {
                 self.here_or_elsewhere(count)
             }
         }
+    }
+
+    /// Generates or awaits an event, at its owner. What nobody generates keeps
+    /// a family alive, so most generate.
+    fn event_use(&mut self) -> u16 {
+        let number = self.random.below(self.events.len());
+        let kind = match self.random.chance(3) {
+            true => kind::AWAIT,
+            false => kind::GENERATE,
+        };
+        let event_use = self.lines.leaf(kind, number as u8);
+        let owner = self.events[number];
+        self.lines.add(kind::AT_PLACE, owner, [event_use, 0, 0])
     }
 
     /// Some leaves of one kind, one after the other.

@@ -23,6 +23,12 @@ impl Lines {
         self.add(kind, s, [0; 3])
     }
 
+    /// Declares an event, which the header counts. Shared cells stand before.
+    pub fn event(&mut self, owner: u8) {
+        self.leaf(kind::EVENT, owner);
+        self.0[0].c += 1;
+    }
+
     /// Closes a module without parameters.
     pub fn module(&mut self, body: u16) {
         self.add(kind::MODULE, 0, [body, 0, 0]);

@@ -4,6 +4,7 @@ mod accesses;
 mod build;
 mod choices;
 mod drawn;
+mod events;
 mod expressions;
 mod families;
 mod lines;
@@ -78,7 +79,7 @@ pub fn drawn(seed: u64, index: u64) -> Case {
 }
 
 /// A file that passes refusals 1 to 7, and the same drawn in another order,
-/// the modules and shared cells in theirs.
+/// the modules, shared cells and events in theirs.
 pub fn laid_out_and_drawn(seed: u64, index: u64) -> [Vec<u8>; 2] {
     let random = &mut Random::of_case(seed, index);
     let frames = drawn::laid_out(random);
@@ -92,7 +93,8 @@ pub fn circles() -> [Vec<u8>; 2] {
     [text(&drawn::one_circle()), text(&drawn::tail_and_knot())]
 }
 
-/// The frames of a text in any order, but modules and shared cells in theirs.
+/// The frames of a text in any order, but modules, shared cells and events in
+/// theirs.
 pub fn shuffled(seed: u64, program: &[u8]) -> Result<Vec<u8>, Verdict> {
     let frames = crate::text::frames(program)?;
     let random = &mut Random::of_case(seed, 0);
@@ -126,27 +128,36 @@ enum Sort {
     Chain,
     /// Many accesses in one step.
     Accesses,
+    /// Threads that generate and await events.
+    Events,
+    /// Up to 63 threads that await some.
+    Crowd,
+    /// A missing event, or another scheduler's.
+    EventFault,
 }
 
 impl Sort {
     fn random(random: &mut Random) -> Sort {
-        match random.below(220) {
+        match random.below(256) {
             0..=76 => Sort::Clean,
-            77..=84 => Sort::Accesses,
-            85..=136 => Sort::Slipping,
-            137..=139 => Sort::Nest,
-            140..=149 => Sort::Soup,
-            150..=154 => Sort::Deep,
-            155..=158 => Sort::SpendCells,
-            159..=162 => Sort::SpendThreads,
+            77..=88 => Sort::Accesses,
+            89..=140 => Sort::Slipping,
+            141..=143 => Sort::Nest,
+            144..=153 => Sort::Soup,
+            154..=158 => Sort::Deep,
+            159..=162 => Sort::SpendCells,
+            163..=166 => Sort::SpendThreads,
             // About as rare as an over-long list: these take their time.
-            163 if random.chance(4) => Sort::LongRun,
-            163 => Sort::Doubling,
-            164 => Sort::Full,
-            165..=189 => Sort::DamagedFrames,
-            190..=199 => Sort::DamagedText,
-            200..=217 => Sort::Families,
-            _ => Sort::Chain,
+            167 if random.chance(4) => Sort::LongRun,
+            167 => Sort::Doubling,
+            168 => Sort::Full,
+            169..=193 => Sort::DamagedFrames,
+            194..=203 => Sort::DamagedText,
+            204..=222 => Sort::Families,
+            223..=225 => Sort::Chain,
+            226..=241 => Sort::Events,
+            242..=247 => Sort::Crowd,
+            _ => Sort::EventFault,
         }
     }
 
@@ -154,8 +165,13 @@ impl Sort {
     fn flavour(self, random: &mut Random) -> Flavour {
         match self {
             Sort::Soup | Sort::SpendCells | Sort::SpendThreads | Sort::Doubling => Flavour::Long,
+            Sort::Crowd => Flavour::Long,
             Sort::LongRun => Flavour::NearBound,
-            Sort::Families | Sort::Chain | Sort::Accesses if !random.chance(8) => Flavour::Bursts,
+            Sort::Families | Sort::Chain | Sort::Accesses | Sort::Events | Sort::EventFault
+                if !random.chance(8) =>
+            {
+                Flavour::Bursts
+            }
             _ => Flavour::random(random),
         }
     }
@@ -176,6 +192,9 @@ fn program(random: &mut Random, sort: Sort) -> Vec<u8> {
         Sort::Families => text(&families::levels(random)),
         Sort::Chain => text(&families::chain(random)),
         Sort::Accesses => text(&accesses::frames(random)),
+        Sort::Events => text(&events::exchange(random)),
+        Sort::Crowd => text(&events::crowd(random)),
+        Sort::EventFault => text(&events::faulty(random)),
         Sort::DamagedFrames => {
             let frames = build::frames(random, Plan::roomy);
             text(&mutate::frames(random, frames))

@@ -14,7 +14,7 @@ const TYPE_WORDS: [u16; 14] = [
 /// The frames with one change, often a fatal one.
 pub fn frames(random: &mut Random, mut frames: Vec<Frame>) -> Vec<Frame> {
     let at = random.below(frames.len());
-    match random.below(27) {
+    match random.below(38) {
         0 | 1 => header(random, &mut frames[0]),
         2 => frames[at].kind = random.byte(),
         3 => frames[at].s = random.byte(),
@@ -35,7 +35,15 @@ pub fn frames(random: &mut Random, mut frames: Vec<Frame>) -> Vec<Frame> {
         18 => shared_cell_late(random, &mut frames),
         19 => swap_children(&mut frames[at]),
         20..=22 => other_place(random, &mut frames),
-        _ => just_outside(random, &mut frames),
+        23..=26 => just_outside(random, &mut frames),
+        27 => event_count(random, &mut frames),
+        28..=29 => event_fields(random, &mut frames),
+        30..=31 => event_late(random, &mut frames),
+        32 => shared_cell_after_event(random, &mut frames),
+        33 => more_events(random, &mut frames),
+        34 => event_use_fields(random, &mut frames),
+        35 => kind_past_events(random, &mut frames),
+        _ => missing_event(random, &mut frames),
     }
     if frames.is_empty() {
         frames.push(Frame::default());
@@ -48,7 +56,7 @@ fn header(random: &mut Random, header: &mut Frame) {
         0 => header.kind = random.place(0, 2),
         1 => header.s = random.place(0, 2),
         2 => header.b = random.below(12) as u16,
-        3 => header.c = 1,
+        3 => header.c = header.c.wrapping_add([1, 2, 16, 0xFFFF][random.below(4)]),
         _ => header.a = random.word(),
     }
 }
@@ -95,15 +103,25 @@ fn type_word(random: &mut Random, frames: &mut [Frame]) {
 
 fn place(random: &mut Random, frames: &mut [Frame]) {
     let place = random.place(0, PRIVATE + SCHEDULERS + 1);
-    let kinds = [kind::AT_PLACE, kind::NEW_CELL, kind::SHARED_CELL];
+    let kinds = [
+        kind::AT_PLACE,
+        kind::NEW_CELL,
+        kind::SHARED_CELL,
+        kind::EVENT,
+    ];
     if let Some(frame) = of_kind(random, frames, &kinds) {
         frame.s = place;
     }
 }
 
+/// Of a file whose header may be damaged already.
+fn last_place(frames: &[Frame]) -> u8 {
+    PRIVATE + (frames[0].b as u8).clamp(1, SCHEDULERS)
+}
+
 /// A place of the file, half the time the private one: the layout stays good.
 fn other_place(random: &mut Random, frames: &mut [Frame]) {
-    let last = PRIVATE + frames[0].b as u8;
+    let last = last_place(frames);
     let place = match random.chance(2) {
         true => PRIVATE,
         false => random.place(HOME, last),
@@ -116,10 +134,11 @@ fn other_place(random: &mut Random, frames: &mut [Frame]) {
 /// S of a declaration or a constant, at the first number that is too low or
 /// too high.
 fn just_outside(random: &mut Random, frames: &mut [Frame]) {
-    let beyond = PRIVATE + frames[0].b as u8 + 1;
+    let beyond = last_place(frames) + 1;
     let low = random.chance(2);
     let kinds = [
         kind::SHARED_CELL,
+        kind::EVENT,
         kind::MODULE,
         kind::TRUTH,
         kind::AT_PLACE,
@@ -128,7 +147,7 @@ fn just_outside(random: &mut Random, frames: &mut [Frame]) {
     let chosen = kinds[random.below(kinds.len())];
     if let Some(frame) = of_kind(random, frames, &[chosen]) {
         frame.s = match chosen {
-            kind::SHARED_CELL if low => PRIVATE,
+            kind::SHARED_CELL | kind::EVENT if low => PRIVATE,
             kind::MODULE => 3,
             kind::TRUTH => 2,
             _ if low => 0,
@@ -218,6 +237,150 @@ fn main_with_parameter(frames: &mut [Frame]) {
 fn shared_cell_late(random: &mut Random, frames: &mut Vec<Frame>) {
     let at = random.between(1, frames.len());
     frames.insert(at, shared_cell());
+}
+
+fn events(frames: &[Frame]) -> usize {
+    let is_event = |frame: &&Frame| frame.kind == kind::EVENT;
+    frames.iter().filter(is_event).count()
+}
+
+/// The frame goes in at `at`, and what stood there goes up by one. An event is
+/// counted by the header.
+pub(super) fn insert(frames: &mut Vec<Frame>, at: usize, frame: Frame) {
+    renumber(frames, |child| {
+        child.saturating_add(u16::from(usize::from(child) >= at))
+    });
+    frames.insert(at, frame);
+    if frame.kind == kind::EVENT {
+        frames[0].c = frames[0].c.wrapping_add(1);
+    }
+}
+
+pub(super) fn renumber(frames: &mut [Frame], number: impl Fn(u16) -> u16) {
+    for frame in frames {
+        for field in 0..frame.child_count() {
+            let child = child_mut(frame, field);
+            *child = number(*child);
+        }
+    }
+}
+
+pub(super) fn child_mut(frame: &mut Frame, field: usize) -> &mut u16 {
+    match field {
+        0 => &mut frame.a,
+        1 => &mut frame.b,
+        _ => &mut frame.c,
+    }
+}
+
+pub(super) fn event() -> Frame {
+    Frame {
+        kind: kind::EVENT,
+        s: HOME,
+        ..Frame::default()
+    }
+}
+
+/// The first frame that is no header, shared cell or event.
+fn after_declarations(frames: &[Frame]) -> usize {
+    let is_declared =
+        |frame: &&Frame| matches!(frame.kind, kind::HEADER | kind::SHARED_CELL | kind::EVENT);
+    frames.iter().take_while(is_declared).count().max(1)
+}
+
+/// Adds one where events stand, if there is none.
+fn with_event(frames: &mut Vec<Frame>) {
+    if events(frames) == 0 {
+        let at = after_declarations(frames);
+        insert(frames, at, event());
+    }
+}
+
+/// Another number than that of the events, or a 17th, in the header.
+pub(super) fn event_count(random: &mut Random, frames: &mut Vec<Frame>) {
+    if random.chance(2) {
+        with_event(frames);
+    }
+    let count = events(frames) as u16;
+    let wrong = [
+        0,
+        16,
+        17,
+        count + 1,
+        count.wrapping_sub(1),
+        count | 0x0100,
+        random.word(),
+    ];
+    frames[0].c = wrong[random.below(wrong.len())];
+}
+
+/// A private owner, one that the file lacks, or a field that is not 0.
+pub(super) fn event_fields(random: &mut Random, frames: &mut Vec<Frame>) {
+    with_event(frames);
+    let last = last_place(frames);
+    let owners = [0, PRIVATE, last + 1, PRIVATE + SCHEDULERS + 1, 0xFF];
+    let owner = owners[random.below(owners.len())];
+    if let Some(event) = of_kind(random, frames, &[kind::EVENT]) {
+        match random.chance(2) {
+            true => event.s = owner,
+            false => *field(random, event) = random.between(1, 3) as u16,
+        }
+    }
+}
+
+/// Behind a frame that it should precede, or just where it should be.
+fn event_late(random: &mut Random, frames: &mut Vec<Frame>) {
+    let at = random.between(after_declarations(frames), frames.len());
+    insert(frames, at, event());
+}
+
+fn shared_cell_after_event(random: &mut Random, frames: &mut Vec<Frame>) {
+    with_event(frames);
+    let behind = after_declarations(frames);
+    let at = behind - random.below(2).min(behind - 1);
+    insert(frames, at.max(1), shared_cell());
+}
+
+/// Up to 15 to 18 in all, at the front, mostly.
+fn more_events(random: &mut Random, frames: &mut Vec<Frame>) {
+    let wanted = random.between(15, 18);
+    while events(frames) < wanted {
+        let at = match random.chance(20) {
+            true => random.between(1, frames.len()),
+            false => after_declarations(frames),
+        };
+        insert(frames, at, event());
+    }
+}
+
+/// Statements without children.
+const LEAVES: [u8; 4] = [kind::NOTHING, kind::COOPERATE, kind::GENERATE, kind::AWAIT];
+
+/// A statement that uses the first event that is not there.
+fn missing_event(random: &mut Random, frames: &mut [Frame]) {
+    let count = events(frames) as u8;
+    if let Some(leaf) = of_kind(random, frames, &LEAVES) {
+        leaf.kind = [kind::GENERATE, kind::AWAIT][random.below(2)];
+        leaf.s = count;
+    }
+}
+
+/// A use with a field that is not 0; S is free.
+pub(super) fn event_use_fields(random: &mut Random, frames: &mut [Frame]) {
+    if let Some(leaf) = of_kind(random, frames, &LEAVES) {
+        leaf.kind = [kind::GENERATE, kind::AWAIT][random.below(2)];
+        leaf.s = random.byte();
+        *field(random, leaf) = random.between(0, 2) as u16;
+    }
+}
+
+/// The first kinds that are not there, next to those of events.
+fn kind_past_events(random: &mut Random, frames: &mut [Frame]) {
+    let past = random.chance(2);
+    let kinds = if past { &LEAVES[..] } else { &[kind::EVENT] };
+    if let Some(frame) = of_kind(random, frames, kinds) {
+        frame.kind = if past { 0x1C } else { 0x04 };
+    }
 }
 
 fn swap_children(frame: &mut Frame) {

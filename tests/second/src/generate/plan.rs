@@ -8,6 +8,7 @@ use crate::layout::{DECLARATIONS, DEPTH};
 pub enum Slip {
     MissingVariable,
     MissingSharedCell,
+    MissingEvent,
     ModuleBelow,
     Arguments,
     StoredType,
@@ -17,18 +18,24 @@ pub enum Slip {
     PrivateContent,
     PrivateArgument,
     StartEffect,
+    StartEvents,
     NewCellEffect,
     ContentEffect,
     StoreEffect,
+    GenerateEffect,
+    AwaitEffect,
     PlaceEffect,
+    PlaceEvents,
     MainEffect,
+    MainEvents,
     WhileUnlinked,
     LoopBody,
 }
 
-const SLIPS: [Slip; 18] = [
+const SLIPS: [Slip; 24] = [
     Slip::MissingVariable,
     Slip::MissingSharedCell,
+    Slip::MissingEvent,
     Slip::ModuleBelow,
     Slip::Arguments,
     Slip::StoredType,
@@ -38,17 +45,22 @@ const SLIPS: [Slip; 18] = [
     Slip::PrivateContent,
     Slip::PrivateArgument,
     Slip::StartEffect,
+    Slip::StartEvents,
     Slip::NewCellEffect,
     Slip::ContentEffect,
     Slip::StoreEffect,
+    Slip::GenerateEffect,
+    Slip::AwaitEffect,
     Slip::PlaceEffect,
+    Slip::PlaceEvents,
     Slip::MainEffect,
+    Slip::MainEvents,
     Slip::WhileUnlinked,
     Slip::LoopBody,
 ];
 
 /// Slips that can meet in one frame or one step.
-const PAIRS: [[Slip; 2]; 9] = [
+const PAIRS: [[Slip; 2]; 11] = [
     [Slip::WhileUnlinked, Slip::Arguments],
     [Slip::WhileUnlinked, Slip::PrivateArgument],
     [Slip::WhileUnlinked, Slip::ModuleBelow],
@@ -58,6 +70,18 @@ const PAIRS: [[Slip; 2]; 9] = [
     [Slip::Operand, Slip::LoopBody],
     [Slip::Operand, Slip::ContentEffect],
     [Slip::StoredType, Slip::StoreEffect],
+    [Slip::WhileUnlinked, Slip::PlaceEvents],
+    [Slip::MissingEvent, Slip::AwaitEffect],
+];
+
+/// Those that need an event to show.
+const OF_EVENTS: [Slip; 6] = [
+    Slip::MissingEvent,
+    Slip::StartEvents,
+    Slip::GenerateEffect,
+    Slip::AwaitEffect,
+    Slip::PlaceEvents,
+    Slip::MainEvents,
 ];
 
 impl Slip {
@@ -74,6 +98,7 @@ impl Slip {
 pub struct Plan {
     pub schedulers: u8,
     pub shared_cells: usize,
+    pub events: usize,
     /// Besides `main`.
     pub modules: usize,
     /// Frames after which only leaves are added.
@@ -89,6 +114,7 @@ impl Plan {
         Plan {
             schedulers: random.between(1, 3) as u8,
             shared_cells: random.below(5),
+            events: some_events(random),
             modules: random.below(4),
             size: random.between(5, 60),
             depth: random.between(2, 9) as u16,
@@ -126,6 +152,7 @@ impl Plan {
         Plan {
             schedulers: random.between(2, 4) as u8,
             shared_cells: random.between(1, 5),
+            events: some_events(random),
             modules: random.between(1, 4),
             size: random.between(20, 100),
             depth: random.between(4, 10) as u16,
@@ -141,6 +168,9 @@ impl Plan {
             // Only a row of cells, each in the next, gets that deep.
             plan.shared_cells = DECLARATIONS;
         }
+        if plan.slips.iter().any(|slip| OF_EVENTS.contains(slip)) {
+            plan.events = random.between(1, 4);
+        }
         plan
     }
 
@@ -151,5 +181,15 @@ impl Plan {
             chain: true,
             ..Plan::small(random)
         }
+    }
+}
+
+/// Most files have none, so that what was there before events is tested as
+/// often as it was.
+pub(super) fn some_events(random: &mut Random) -> usize {
+    match random.below(20) {
+        0..=13 => 0,
+        14..=18 => random.between(1, 4),
+        _ => random.between(1, DECLARATIONS),
     }
 }

@@ -2,6 +2,7 @@
 //! meet in one frame or one step, which shows the order they are tested in.
 
 use super::lines::Lines;
+use super::plan;
 use super::random::Random;
 use crate::frame::{kind, Frame};
 use crate::place::{HOME, PRIVATE};
@@ -11,6 +12,7 @@ struct Soup<'r> {
     lines: Lines,
     last_place: u8,
     shared_cells: usize,
+    events: usize,
 }
 
 /// Modules that each do something at some place, all started by `main`. A
@@ -22,10 +24,15 @@ pub fn frames(random: &mut Random) -> Vec<Frame> {
         lines: Lines::new(0, schedulers),
         last_place: PRIVATE + schedulers,
         shared_cells: random.between(1, 4),
+        events: plan::some_events(random),
         random,
     };
     for number in 0..soup.shared_cells {
         soup.shared_cell(number);
+    }
+    for _ in 0..soup.events {
+        let owner = soup.random.place(HOME, soup.last_place);
+        soup.lines.event(owner);
     }
     let mut counts = Vec::new();
     for _ in 0..soup.random.below(6) {
@@ -94,7 +101,7 @@ impl Soup<'_> {
             return self.lines.leaf(kinds[self.random.below(2)], 0);
         }
         let below = depth - 1;
-        match self.random.below(13) {
+        match self.random.below(15) {
             0 => self.lines.leaf(kind::COOPERATE, 0),
             1 => {
                 let fields = [self.statement(below), self.statement(below), 0];
@@ -125,11 +132,22 @@ impl Soup<'_> {
                 let fields = [a, self.statement(below), self.statement(below)];
                 self.lines.add(kind::IF, 0, fields)
             }
+            12..=13 => self.event_use(),
             _ => {
                 let fields = [self.expression(depth), self.statement(below), 0];
                 self.lines.add(kind::WHILE, 0, fields)
             }
         }
+    }
+
+    /// Of any event, seldom of one that is not there.
+    fn event_use(&mut self) -> u16 {
+        let kind = [kind::GENERATE, kind::AWAIT][self.random.below(2)];
+        let event = match self.events == 0 || self.random.chance(10) {
+            true => self.events,
+            false => self.random.below(self.events),
+        };
+        self.lines.leaf(kind, event as u8)
     }
 
     fn expression(&mut self, depth: usize) -> u16 {

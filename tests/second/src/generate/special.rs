@@ -143,9 +143,17 @@ pub fn nest(random: &mut Random) -> Vec<Frame> {
     let mut lines = Lines::new(0, 2);
     let owner = random.place(HOME, HOME + 1);
     lines.add(kind::SHARED_CELL, owner, [1, 0, 0]);
+    let has_event = random.chance(3);
+    if has_event {
+        lines.event(random.place(HOME, HOME + 1));
+    }
     let nothing = lines.leaf(kind::NOTHING, 0);
     lines.module(nothing);
     let mut body = match random.below(6) {
+        _ if has_event => {
+            let kind = [kind::GENERATE, kind::AWAIT][random.below(2)];
+            lines.leaf(kind, 0)
+        }
         0 => lines.leaf(kind::NOTHING, 0),
         1 => lines.leaf(kind::COOPERATE, 0),
         2 => lines.leaf(kind::START, 0),

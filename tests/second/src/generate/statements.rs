@@ -35,7 +35,7 @@ impl Builder<'_> {
     fn compound(&mut self, site: Site) -> Option<u16> {
         let choice = match self.chain {
             true => self.random.below(34),
-            false => self.random.below(100),
+            false => self.random.below(108),
         };
         match choice {
             0..=13 => self.at_place(site),
@@ -44,6 +44,7 @@ impl Builder<'_> {
             36..=45 => self.if_(site),
             46..=57 => self.start(site),
             58..=73 => self.store(site),
+            74..=81 => self.event_use(site),
             _ => self.sequence(site),
         }
     }
@@ -64,12 +65,14 @@ impl Builder<'_> {
         if place == PRIVATE && site.unlinked {
             return None;
         }
-        let allowed = match self.slips(Slip::PlaceEffect) {
-            true => self.everywhere(),
-            false => Effect::of(place),
-        };
+        let [allowed, events] =
+            [Slip::PlaceEffect, Slip::PlaceEvents].map(|slip| match self.slips(slip) {
+                true => self.everywhere(),
+                false => Effect::of(place),
+            });
         let inside = Site {
             allowed,
+            events,
             unlinked: place == PRIVATE && !self.slips(Slip::WhileUnlinked),
             ..site
         };
@@ -167,6 +170,27 @@ impl Builder<'_> {
         Some(self.lines.add(kind::WHILE, 0, [a, b, 0]))
     }
 
+    /// Both kinds of use can end at once.
+    fn event_use(&mut self, site: Site) -> Option<u16> {
+        if site.waits {
+            return None;
+        }
+        let (kind, slip) = match self.random.chance(2) {
+            true => (kind::GENERATE, Slip::GenerateEffect),
+            false => (kind::AWAIT, Slip::AwaitEffect),
+        };
+        if self.slips(Slip::MissingEvent) {
+            let number = self.events.len() + self.random.below(3);
+            return Some(self.lines.leaf(kind, number as u8));
+        }
+        let any_owner = self.slips(slip);
+        let fitting: Vec<usize> = (0..self.events.len())
+            .filter(|&number| any_owner || site.events.covers(self.events[number]))
+            .collect();
+        let number = self.random.pick(&fitting)?;
+        Some(self.lines.leaf(kind, number as u8))
+    }
+
     fn start(&mut self, site: Site) -> Option<u16> {
         if site.unlinked {
             return None;
@@ -198,12 +222,14 @@ impl Builder<'_> {
     /// A module that may be started here, and the types of its arguments.
     fn startable(&mut self, site: Site) -> Option<(usize, Vec<Type>)> {
         let any_effect = self.slips(Slip::StartEffect);
+        let any_events = self.slips(Slip::StartEvents);
         let any_owner = self.slips(Slip::PrivateArgument);
         let room = site.room - 1;
         let fitting: Vec<usize> = (0..self.modules.len())
             .filter(|&number| {
                 let module = &self.modules[number];
                 (any_effect || module.effect.within(site.allowed))
+                    && (any_events || module.events.within(site.events))
                     && module.parameters.iter().all(|&type_| {
                         (any_owner || type_.is_public()) && self.fits(type_, Site { room, ..site })
                     })

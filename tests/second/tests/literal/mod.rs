@@ -7,7 +7,7 @@ use std::fmt;
 
 use second::layout::Program;
 use second::place::{thread_of, HOME};
-use second::state::{State, THREADS};
+use second::state::{State, Until, THREADS};
 
 /// A set of threads, by their numbers.
 type Threads = [bool; THREADS + 1];
@@ -121,10 +121,11 @@ impl Waits {
     ) {
         let (mut ready, mut waiting) = (Vec::new(), Vec::new());
         for entry in &state.schedulers[index].next {
-            let ends = match entry.awaits.map(usize::from) {
-                None => true,
-                Some(awaited) => {
-                    let thread = usize::from(entry.thread);
+            let ends = match entry.until {
+                // One that awaits an event counts as ready.
+                Until::Instant | Until::Event(_) => true,
+                Until::Family(awaited) => {
+                    let (thread, awaited) = (usize::from(entry.thread), usize::from(awaited));
                     assert_eq!(record.last_started(thread), Some(awaited));
                     self.wait_ends(record, awaited)
                 }

@@ -2,19 +2,100 @@
 //! on random texts and choices, on drawn files, and on lent words that are garbage. Not 0 on a
 //! difference.
 use purkvaldi::Answer;
+use second::evaluate::{Access, Actor, EventUse, Observer};
 use second::generate::Case;
 use second::listing::{used, Reading};
-use second::state::State;
+use second::state::{Item, State, Until, Value};
 use second::tally::Arranged;
 use std::time::{Duration, Instant};
+
+/// A list as it stands in a state: its length, then its members.
+fn put_list(words: &mut [u64], at: usize, members: impl Iterator<Item = u64>) {
+    for member in members {
+        words[at] += 1;
+        words[at + words[at] as usize] = member;
+    }
+}
+
+fn value_word(value: Value) -> u64 {
+    match value {
+        Value::Number(number) => u64::from(number),
+        Value::Truth(truth) => (1 << 32) + u64::from(truth),
+        Value::Cell(cell) => (2 << 32) + u64::from(cell),
+    }
+}
+
+fn item_word(item: Item) -> u64 {
+    match item {
+        Item::Run(frame) => u64::from(frame),
+        Item::Back(place) => 1024 + u64::from(place),
+        Item::Drop => 2048,
+    }
+}
+
+/// The second program's state in the words that docs/STATE.md describes.
+fn words_of(state: &State, length: usize) -> Vec<u64> {
+    let mut words = vec![0; length];
+    words[0] = state.threads.len() as u64;
+    words[1] = state.cells.len() as u64;
+    for (k, lists) in state.schedulers.iter().enumerate() {
+        let at = 2 + 130 * k;
+        put_list(&mut words, at, lists.active.iter().map(|&t| u64::from(t)));
+        let entries = lists.next.iter().map(|entry| {
+            u64::from(entry.thread)
+                + match entry.until {
+                    Until::Instant => 0,
+                    Until::Family(root) => 128 * u64::from(root),
+                    Until::Event(event) => 16384 + 128 * u64::from(event),
+                }
+        });
+        put_list(&mut words, at + 65, entries);
+    }
+    for (k, thread) in state.threads.iter().enumerate() {
+        let at = 1042 + 55 * k;
+        words[at] = u64::from(thread.place);
+        words[at + 1] = thread.starter.map_or(0, u64::from);
+        words[at + 2] = u64::from(!thread.ended);
+        let items = thread.continuation.iter().map(|&item| item_word(item));
+        put_list(&mut words, at + 3, items);
+        let variables = thread.variables.iter().map(|&value| value_word(value));
+        put_list(&mut words, at + 29, variables);
+    }
+    for (flag, &present) in words[4562..].iter_mut().zip(&state.present) {
+        *flag = u64::from(present);
+    }
+    for (word, cell) in words[4578..].iter_mut().zip(&state.cells) {
+        *word = (u64::from(cell.owner) << 34) + value_word(cell.content);
+    }
+    words
+}
 
 /// The choices of a case whose choices.txt is well formed.
 fn choices_of(case: &Case) -> Vec<u8> {
     second::text::choices(&case.choices).unwrap_or_default()
 }
 
-/// Steps both through at most 200 choices; counts the answers. None where the first difference is.
-fn run(case: &Case, state: &mut [u64], answers: &mut [u64; 21]) -> Option<()> {
+/// Counts the generations and the awaits, to see that the texts have some.
+#[derive(Default)]
+struct Uses {
+    generations: u64,
+    awaits: u64,
+}
+
+impl Observer for Uses {
+    fn access(&mut self, _: Actor, _: Access, _: u8) {}
+
+    fn event(&mut self, _: Actor, event_use: EventUse, _: u8) {
+        match event_use {
+            EventUse::Generation => self.generations += 1,
+            EventUse::Await => self.awaits += 1,
+        }
+    }
+}
+
+/// Steps both through at most 200 choices, and compares every word of the states; counts the
+/// answers and the uses of events. None where the first difference is.
+fn run(case: &Case, state: &mut [u64], answers: &mut [u64; 21], uses: &mut Uses) -> Option<()> {
     let text = &case.program;
     let fresh = purkvaldi::fresh(text, state);
     let Reading::Readable(program, _) = Reading::new(text) else {
@@ -27,13 +108,13 @@ fn run(case: &Case, state: &mut [u64], answers: &mut [u64; 21]) -> Option<()> {
     for &choice in used(&program, &choices).iter().take(200) {
         let before = state.to_vec();
         let ours = purkvaldi::step(text, state, u64::from(choice));
-        let outcome = theirs.step(&program, choice, &mut ());
+        let outcome = theirs.step(&program, choice, uses);
         answers[usize::from(outcome.answer)] += 1;
         let same = ours.number == outcome.answer
             && ours.detail == u16::from(outcome.thread)
             && ours.accesses == outcome.accesses;
         let kept = ours.number == 0 || state == &before[..];
-        (same && kept && state[1] == theirs.cells.len() as u64).then_some(())?;
+        (same && kept && state == words_of(&theirs, state.len())).then_some(())?;
     }
     Some(())
 }
@@ -72,12 +153,18 @@ fn garbage(text: &[u8], state: &mut [u64], seed: u64) -> bool {
         fine &= answer.number == 0 || words == &before[..];
     };
     trial(&mut [], next() % 90);
-    trial(&mut vec![u64::MAX; 4818], next() % 90);
-    trial(&mut vec![0; 4818], next() % 90);
-    trial(&mut vec![0; 4817], next());
-    let at = next() as usize % 4818;
+    let length = state.len();
+    trial(&mut vec![u64::MAX; length], next() % 90);
+    trial(&mut vec![0; length], next() % 90);
+    trial(&mut vec![0; length - 1], next());
+    let at = next() as usize % length;
     let mut changed = state.to_vec();
-    changed[at] = if next() % 2 == 0 { next() } else { next() % 80 };
+    changed[at] = match next() % 3 {
+        0 => next(),
+        1 => next() % 80,
+        // an entry that awaits an event
+        _ => 16384 + next() % 2200,
+    };
     for _ in 0..4 {
         trial(&mut changed, next() % 90);
     }
@@ -123,6 +210,7 @@ fn main() {
     let mut out = vec![0u8; purkvaldi::listing_length()];
     let mut verdicts = [0u64; 14];
     let mut answers = [0u64; 21];
+    let mut uses = Uses::default();
     let mut listed = [0u64; 21];
     let mut most = 0;
     let mut arranged = Arranged::default();
@@ -166,7 +254,7 @@ fn main() {
             }
             // Each public step reads and validates anew, so the stepper sees one case in ten.
             if cases % 10 == 0 {
-                if run(&case, &mut state, &mut answers).is_none() {
+                if run(&case, &mut state, &mut answers, &mut uses).is_none() {
                     differences += 1;
                     println!("seed {seed} case {cases}: a step differs");
                 }
@@ -185,15 +273,21 @@ fn main() {
     println!("{cases} texts, {differences} differences; verdicts 0 to 13: {verdicts:?}");
     println!("drawn files, {arranged}");
     println!(
-        "answers in the listings of runs, 0 and 15 to 20: {} {:?}; at most {most} accesses in a step",
+        "answers in the listings of runs, 0 and 15 to 20: {} {:?}",
         listed[0],
         &listed[15..]
     );
+    println!("at most {most} accesses in a step");
     println!(
         "answers of steps 0 and 15 to 20: {} {:?}",
         answers[0],
         &answers[15..]
     );
+    let Uses {
+        generations,
+        awaits,
+    } = uses;
+    println!("in those steps {generations} generations and {awaits} awaits of an event");
     if differences > 0 {
         std::process::exit(1);
     }

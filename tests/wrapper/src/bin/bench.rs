@@ -1,6 +1,8 @@
-//! bench: times of the check, of steps and instants and of the writer, proved and second side by
-//! side, how the check grows, and the stack below each call, as one table whose rows keep their
-//! names, so that two runs can be compared line by line.
+//! bench: times of the check, of steps, instants and events and of the writer, proved and second
+//! side by side, how the check grows, and the stack below each call, as one table whose rows keep
+//! their names, so that two runs can be compared line by line.
+use second::listing::Reading;
+use second::state::State;
 use std::time::Instant;
 
 /// An accepted file of n lines: modules whose bodies nest, each with lets, stores, loops and
@@ -262,26 +264,201 @@ fn crowd() -> Vec<u8> {
     ])
 }
 
-/// Choices of scheduler 2 where the end of an instant has much to do: of three choices in the chain
-/// one ends an instant, and 63 of 64 entries wait; in the crowd none waits.
-fn instants() {
+/// A row for the choices of scheduler 2 in a run, with their lines; the state after our run.
+fn row_of_run(name: &str, text: &[u8]) -> Vec<u64> {
     let choices = b"02\n".repeat(STEPS);
     let mut state = vec![0; purkvaldi::state_length()];
     let mut out = vec![0; purkvaldi::listing_length()];
+    let ours = best_step(|| {
+        let run = purkvaldi::run(text, &choices, &mut state, &mut out);
+        assert_eq!(run.answer.number, 0);
+    });
+    let theirs = best_step(|| {
+        std::hint::black_box(second::listing::run(text, &choices));
+    });
+    row(name, ours, Some(theirs));
+    state
+}
+
+/// Choices of scheduler 2 where the end of an instant has much to do: of three choices in the chain
+/// one ends an instant, and 63 of 64 entries wait; in the crowd none waits.
+fn instants() {
     for (name, text) in [
         ("a choice, 63 of 64 threads wait in a chain", chain()),
         ("a choice, 64 threads cooperate", crowd()),
     ] {
-        let ours = best_step(|| {
-            let run = purkvaldi::run(&text, &choices, &mut state, &mut out);
-            assert_eq!(run.answer.number, 0);
-        });
-        assert_eq!(state[0], 64);
-        let theirs = best_step(|| {
-            std::hint::black_box(second::listing::run(&text, &choices));
-        });
-        row(name, ours, Some(theirs));
+        assert_eq!(row_of_run(name, &text)[0], 64);
     }
+}
+
+/// A thread that cooperates for ever, in a file of so many events of its scheduler: of three
+/// choices one ends an instant, which ends the presence of each event.
+fn cooperating(events: usize) -> Vec<u8> {
+    let header = format!("0001FFFF0001{events:04X}");
+    let each = format!("1900{:04X}{:04X}0000", events + 1, events + 2);
+    let main = format!("0200{:04X}00000000", events + 3);
+    let mut frames = vec![header.as_str()];
+    frames.extend(vec!["0302000000000000"; events]);
+    frames.extend([
+        "2101000000000000", // true
+        "1500000000000000", // cooperate
+        &each,              // while
+        &main,
+    ]);
+    lines(&frames)
+}
+
+/// A thread that generates each of 16 events of its scheduler, and cooperates.
+fn generating() -> Vec<u8> {
+    let mut frames = vec!["0001FFFF00010010".into()];
+    frames.extend(vec!["0302000000000000".into(); 16]);
+    frames.extend((0..16).map(|event| format!("1A{event:02X}000000000000")));
+    frames.push("1500000000000000".into());
+    // One after the other: the generations are frames 17 to 32, the cooperation is 33.
+    for (i, rest) in (17..33).rev().zip(33..) {
+        frames.push(format!("1100{i:04X}{rest:04X}0000"));
+    }
+    frames.push("0200003100000000".into());
+    lines(&frames.iter().map(String::as_str).collect::<Vec<_>>())
+}
+
+/// A thread that generates an event and then does the statement for ever, in the same instant,
+/// which the check refuses (13) and the stepper does not: of two choices one does the statement.
+fn generated_then(statement: &str) -> Vec<u8> {
+    lines(&[
+        "0001FFFF00010001", // 0 header
+        "0302000000000000", // 1 event 0, owner 2
+        "1A00000000000000", // 2 generate event 0
+        "2101000000000000", // 3 true
+        statement,          // 4
+        "1900000300040000", // 5 while
+        "1100000200050000", // 6 then
+        "0200000600000000", // 7 main
+    ])
+}
+
+/// 64 threads: main starts 63 in one instant, as in the crowd, which all await event 0; then it
+/// generates event 1, which nobody awaits, and then event 0.
+fn audience() -> Vec<u8> {
+    lines(&[
+        "0001FFFF00010002", // 0 header
+        "0102000100000000", // 1 shared cell, owner 2, a number: how many were started
+        "0302000000000000", // 2 event 0, owner 2
+        "0302000000000000", // 3 event 1, owner 2
+        "1B00000000000000", // 4 await event 0
+        "0200000400000000", // 5 module 0
+        "2300000000000000", // 6 shared cell 0
+        "2500000600000000", // 7 its content
+        "2000003F00000000", // 8 number 63
+        "2700000700080000", // 9 less
+        "2300000000000000", // 10 shared cell 0
+        "2300000000000000", // 11 shared cell 0
+        "2500000B00000000", // 12 its content
+        "2000000100000000", // 13 number 1
+        "2600000C000D0000", // 14 sum
+        "1700000A000E0000", // 15 store
+        "1300000000000000", // 16 start module 0
+        "1100000F00100000", // 17 then
+        "1900000900110000", // 18 while
+        "1500000000000000", // 19 cooperate
+        "1A01000000000000", // 20 generate event 1
+        "1A00000000000000", // 21 generate event 0
+        "1100001400150000", // 22 then
+        "1100001300160000", // 23 then
+        "1100001200170000", // 24 then
+        "0200001800000000", // 25 main
+    ])
+}
+
+/// The time of one choice alone, made from the same state again and again. Each round takes back
+/// what the last one did, so the time of a choice that only finds that it names no party (15) is
+/// taken off: of ours that of a public call's reading and validation too, beside which less than 20
+/// ns say nothing. The two take turns, so that both are measured under the same conditions.
+fn best_single(mut round: impl FnMut(u8)) -> f64 {
+    let mut best = [f64::INFINITY; 2];
+    for _ in 0..40 {
+        for (best, choice) in best.iter_mut().zip([2, 255]) {
+            let start = Instant::now();
+            for _ in 0..STEPS {
+                round(choice);
+            }
+            *best = best.min(start.elapsed().as_nanos() as f64 / STEPS as f64);
+        }
+    }
+    best[0] - best[1]
+}
+
+/// A row for one choice of scheduler 2 alone, in the first state of a run that is as wanted, where
+/// thread 1 acts or an instant ends.
+fn row_of_choice(name: &str, text: &[u8], is_wanted: impl Fn(&[u64]) -> bool) {
+    // The words that the choice changes, from where on and how many: scheduler 2's lists, thread
+    // 1's continuation, the events. To take back all words would take far longer than the choice.
+    const CHANGED: [(usize, usize); 3] = [(2, 130), (1045, 26), (4562, 16)];
+    let Reading::Readable(program, _) = Reading::new(text) else {
+        panic!("the text is laid out");
+    };
+    let mut ours = vec![0; purkvaldi::state_length()];
+    assert_eq!(purkvaldi::fresh(text, &mut ours).number, 0);
+    let mut theirs = State::new(&program);
+    while !is_wanted(&ours) {
+        assert_eq!(purkvaldi::step(text, &mut ours, 2).number, 0);
+        assert_eq!(theirs.step(&program, 2, &mut ()).answer, 0);
+    }
+    let mut state = ours.clone();
+    let our_time = best_single(|choice| {
+        for (at, words) in CHANGED {
+            state[at..at + words].copy_from_slice(&ours[at..at + words]);
+        }
+        std::hint::black_box(purkvaldi::step(text, &mut state, u64::from(choice)));
+    });
+    assert_eq!(state, ours);
+    let mut state = theirs.clone();
+    let their_time = best_single(|choice| {
+        let (lists, before) = (&mut state.schedulers[0], &theirs.schedulers[0]);
+        lists.active.clone_from(&before.active);
+        lists.next.clone_from(&before.next);
+        let (main, before) = (&mut state.threads[0], &theirs.threads[0]);
+        main.continuation.clone_from(&before.continuation);
+        state.present.clone_from(&theirs.present);
+        std::hint::black_box(state.step(&program, choice, &mut ()));
+    });
+    assert_eq!(state, theirs);
+    row(name, our_time, Some(their_time));
+}
+
+/// Choices of scheduler 2 with events. In runs: what each event takes of the end of an instant
+/// though none is present, what an await that passes takes beside a statement that does nothing.
+/// Alone: the end of an instant in which each was generated, and generations.
+fn events() {
+    for (name, text) in [
+        ("a choice, 1 of 3 ends an instant, no event", cooperating(0)),
+        ("a choice, 1 of 3 ends one, 16 events", cooperating(16)),
+        (
+            "a choice, 1 of 2 does nothing",
+            generated_then("1000000000000000"),
+        ),
+        (
+            "a choice, 1 of 2 is an await that passes",
+            generated_then("1B00000000000000"),
+        ),
+    ] {
+        row_of_run(name, &text);
+    }
+    row_of_choice(
+        "an instant's end, 16 events are present",
+        &generating(),
+        |state| state[2] == 0 && state[4562..4578] == [1; 16],
+    );
+    // All 64 threads are there, thread 1 is the one active, and that frame is on top.
+    let generates = |state: &[u64], frame| {
+        state[..4] == [64, 1, 1, 1] && state[1045 + state[1045] as usize] == frame
+    };
+    row_of_choice("a generation that nobody awaits", &audience(), |state| {
+        generates(state, 20)
+    });
+    row_of_choice("a generation that 63 threads await", &audience(), |state| {
+        generates(state, 21)
+    });
 }
 
 /// A writer's time on a text, the best of five rounds; its answer is known.
@@ -397,6 +574,7 @@ fn main() {
     checks();
     steps();
     instants();
+    events();
     writers();
     if std::env::args().nth(1).as_deref() != Some("times") {
         stacks();

@@ -15,6 +15,7 @@ use Rattle.checker.proofs.DescentLaws.{wait-second, room-holds}
 use Rattle.checker.proofs.EffectLaws.{run-nothing, run-cooperate, run-seq, run-do}
 use Rattle.checker.proofs.EffectLaws.{run-start, run-wait, run-let-fault, run-let}
 use Rattle.checker.proofs.EffectLaws.{run-store, run-if, run-while, let-scope, let-leaves}
+use Rattle.checker.proofs.EffectLaws.{run-generate, run-await}
 use Prim.Native.Nat.{ℕ, _<_}
 use borrow.Fn.Kinds.{In}
 use borrow.Fn.PlainCycle.{Measures, is, falls, and}
@@ -25,6 +26,7 @@ use Rattle.checker.proofs.effect.arguments_of.Reads as arguments-of-rea
 use Rattle.checker.proofs.effect.is_linked.Reads as is-linked-reads
 use Rattle.checker.proofs.effect.type_in.Reads as type-in-reads
 use Rattle.language.proofs.effect.Effect.none.Reads as none-reads
+use Rattle.program.proofs.event.event_at.Reads as event-at-reads
 use Rattle.program.proofs.node.statement_node.Reads as statement-node-reads
 use Rattle.rules.proofs.start.start_rule.Reads as start-rule-reads
 use Rattle.rules.proofs.statement.cooperate_rule.Reads as cooperate-rule-reads
@@ -32,6 +34,7 @@ use Rattle.rules.proofs.statement.do_rule.Reads as do-rule-reads
 use Rattle.rules.proofs.statement.if_else_rule.Reads as if-else-rule-reads
 use Rattle.rules.proofs.statement.join_rule.Reads as join-rule-reads
 use Rattle.rules.proofs.statement.seq_rule.Reads as seq-rule-reads
+use Rattle.rules.proofs.statement.signal_rule.Reads as signal-rule-reads
 use Rattle.rules.proofs.statement.store_rule.Reads as store-rule-reads
 use Rattle.rules.proofs.statement.while_rule.Reads as while-rule-reads
 use Rattle.text.proofs.line.frame_of_word.Reads as frame-of-word-reads
@@ -50,7 +53,7 @@ effect-of-below t =
     and 4 effect-of-kinds.ps (falls 4 effect-of-kinds.ps _<_ μ-effect-of t) effect-of.Pre
 
 abbrev effect-of-calls : ℕ → effect-of-lts.Claims
-effect-of-calls t = (frame-of-word-reads.Asked, frame-of-word-reads.Learnt, statement-node-reads.Asked, statement-node-reads.Learnt, none-reads.Asked, none-reads.Learnt, cooperate-rule-reads.Asked, cooperate-rule-reads.Learnt, effect-of-below t, effect-of.Post, seq-rule-reads.Asked, seq-rule-reads.Learnt, is-linked-reads.Asked, is-linked-reads.Learnt, do-rule-reads.Asked, do-rule-reads.Learnt, arguments-of-reads.Asked, arguments-of-reads.Learnt, start-rule-reads.Asked, start-rule-reads.Learnt, type-in-reads.Asked, type-in-reads.Learnt, join-rule-reads.Asked, join-rule-reads.Learnt, store-rule-reads.Asked, store-rule-reads.Learnt, if-else-rule-reads.Asked, if-else-rule-reads.Learnt, while-rule-reads.Asked, while-rule-reads.Learnt)
+effect-of-calls t = (frame-of-word-reads.Asked, frame-of-word-reads.Learnt, statement-node-reads.Asked, statement-node-reads.Learnt, none-reads.Asked, none-reads.Learnt, cooperate-rule-reads.Asked, cooperate-rule-reads.Learnt, effect-of-below t, effect-of.Post, seq-rule-reads.Asked, seq-rule-reads.Learnt, is-linked-reads.Asked, is-linked-reads.Learnt, do-rule-reads.Asked, do-rule-reads.Learnt, arguments-of-reads.Asked, arguments-of-reads.Learnt, start-rule-reads.Asked, start-rule-reads.Learnt, type-in-reads.Asked, type-in-reads.Learnt, join-rule-reads.Asked, join-rule-reads.Learnt, store-rule-reads.Asked, store-rule-reads.Learnt, if-else-rule-reads.Asked, if-else-rule-reads.Learnt, while-rule-reads.Asked, while-rule-reads.Learnt, event-at-reads.Asked, event-at-reads.Learnt, signal-rule-reads.Asked, signal-rule-reads.Learnt)
 
 effect-of-mul-frame-of-word : (t : ℕ)
     → effect-of-lts.Need-mul-frame-of-word (effect-of-calls t) (effect-of-at t) effect-of.Post
@@ -237,6 +240,30 @@ effect-of-while-rule-requires : (t : ℕ)
     → effect-of-lts.Need-while-rule-requires (effect-of-calls t) (effect-of-at t) effect-of.Post
 effect-of-while-rule-requires t c = λ κs. search needs
 
+effect-of-enum-known-s-4 : (t : ℕ)
+    → effect-of-lts.Need-enum-known-s-4 (effect-of-calls t) (effect-of-at t) effect-of.Post
+effect-of-enum-known-s-4 t c = search needs
+
+effect-of-event-at-requires : (t : ℕ)
+    → effect-of-lts.Need-event-at-requires (effect-of-calls t) (effect-of-at t) effect-of.Post
+effect-of-event-at-requires t c = λ κs. search needs
+
+effect-of-signal-rule-requires : (t : ℕ)
+    → effect-of-lts.Need-signal-rule-requires (effect-of-calls t) (effect-of-at t) effect-of.Post
+effect-of-signal-rule-requires t c = λ κs. search needs
+
+effect-of-enum-known-s-5 : (t : ℕ)
+    → effect-of-lts.Need-enum-known-s-5 (effect-of-calls t) (effect-of-at t) effect-of.Post
+effect-of-enum-known-s-5 t c = search needs
+
+effect-of-event-at-requires-2 : (t : ℕ)
+    → effect-of-lts.Need-event-at-requires-2 (effect-of-calls t) (effect-of-at t) effect-of.Post
+effect-of-event-at-requires-2 t c = λ κs. search needs
+
+effect-of-signal-rule-requires-2 : (t : ℕ)
+    → effect-of-lts.Need-signal-rule-requires-2 (effect-of-calls t) (effect-of-at t) effect-of.Post
+effect-of-signal-rule-requires-2 t c = λ κs. search needs
+
 effect-of-returns : (t : ℕ)
     → effect-of-lts.Need-returns (effect-of-calls t) (effect-of-at t) effect-of.Post
 effect-of-returns t c = (search run-nothing, (search needs, search needs))
@@ -317,6 +344,14 @@ effect-of-returns-11 : (t : ℕ)
     → effect-of-lts.Need-returns-11 (effect-of-calls t) (effect-of-at t) effect-of.Post
 effect-of-returns-11 t c = (search run-while, (search needs, search needs))
 
+effect-of-returns-12 : (t : ℕ)
+    → effect-of-lts.Need-returns-12 (effect-of-calls t) (effect-of-at t) effect-of.Post
+effect-of-returns-12 t c = (search run-generate, (search needs, search needs))
+
+effect-of-returns-13 : (t : ℕ)
+    → effect-of-lts.Need-returns-13 (effect-of-calls t) (effect-of-at t) effect-of.Post
+effect-of-returns-13 t c = (search run-await, (search needs, search needs))
+
 pub +effect-of-spec : {M : Type 1} → statement M
 +effect-of-spec = close μ-effect-of λ t. effect-of-lts.spec (effect-of-calls t)
     (effect-of-at t)
@@ -365,6 +400,12 @@ pub +effect-of-spec : {M : Type 1} → statement M
     (effect-of-type-in-requires-5 t)
     (effect-of-effect-of-requires-7 t)
     (effect-of-while-rule-requires t)
+    (effect-of-enum-known-s-4 t)
+    (effect-of-event-at-requires t)
+    (effect-of-signal-rule-requires t)
+    (effect-of-enum-known-s-5 t)
+    (effect-of-event-at-requires-2 t)
+    (effect-of-signal-rule-requires-2 t)
     (effect-of-returns t)
     (effect-of-returns-2 t)
     (effect-of-returns-3 t)
@@ -376,3 +417,5 @@ pub +effect-of-spec : {M : Type 1} → statement M
     (effect-of-returns-9 t)
     (effect-of-returns-10 t)
     (effect-of-returns-11 t)
+    (effect-of-returns-12 t)
+    (effect-of-returns-13 t)

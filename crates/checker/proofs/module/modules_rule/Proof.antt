@@ -11,7 +11,7 @@ use Rattle.checker.proofs.module.modules_rule.Statement.{statement}
 use Rattle.checker.proofs.module.modules_rule.Tie as tie
 
 abbrev Inv-loop : tie.InvT-loop
-Inv-loop frames cells below₀ m₀ i₀ below m i = Judging (settingIn cells) frames below m i
+Inv-loop frames cells below₀ m₀ i₀ below m i = Judging (settingIn frames cells) frames below m i
 
 abbrev μ-loop : tie.MeasureT-loop
 μ-loop frames cells below₀ m₀ i₀ below m i = length frames - i

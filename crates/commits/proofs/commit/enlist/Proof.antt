@@ -1,6 +1,6 @@
 -- `enlist` meets its contract. Assumes nothing.
-use Rattle.commits.proofs.FollowLaws.{enlist-laws, join-needs, start-needs}
 use borrow.Author.Needs.{needs}
+use Rattle.commits.proofs.FollowLaws.{enlist-laws, join-needs, start-needs, wake-needs}
 use Rattle.commits.proofs.commit.enlist.Statement.{statement}
 use Rattle.commits.proofs.commit.enlist.Tie as tie
 
@@ -22,11 +22,17 @@ enum-known-passed-2 c = search needs
 start-requires : tie.Need-start-requires
 start-requires c κs = (search needs, search needs, search start-needs)
 
+enum-known-passed-3 : tie.Need-enum-known-passed-3
+enum-known-passed-3 c = search needs
+
+generate-requires : tie.Need-generate-requires
+generate-requires c κs = (search needs, search wake-needs)
+
 returns : tie.Need-returns
-returns c = search enlist-laws
+returns c = search needs
 
 returns-2 : tie.Need-returns-2
-returns-2 c = search enlist-laws
+returns-2 c = search needs
 
 same-length : tie.Need-same-length
 same-length c = search needs
@@ -40,6 +46,12 @@ same-length-2 c = search needs
 returns-4 : tie.Need-returns-4
 returns-4 c = search enlist-laws
 
+same-length-3 : tie.Need-same-length-3
+same-length-3 c = search needs
+
+returns-5 : tie.Need-returns-5
+returns-5 c = search enlist-laws
+
 pub enlist-spec : {M : Type 1} → statement M
 enlist-spec =
     tie.close
@@ -50,9 +62,13 @@ enlist-spec =
     join-requires
     enum-known-passed-2
     start-requires
+    enum-known-passed-3
+    generate-requires
     returns
     returns-2
     same-length
     returns-3
     same-length-2
-    returns-4)
+    returns-4
+    same-length-3
+    returns-5)

@@ -1,6 +1,6 @@
 -- `leaves` meets its contract. Assumes nothing.
-use Rattle.commits.proofs.FollowLaws.{leaves-start}
 use borrow.Author.Needs.{needs}
+use Rattle.commits.proofs.FollowLaws.{leaves-start}
 use Rattle.commits.proofs.commit.leaves.Statement.{statement}
 use Rattle.commits.proofs.commit.leaves.Tie as tie
 
@@ -16,6 +16,9 @@ enum-known-passed c = search needs
 enum-known-passed-2 : tie.Need-enum-known-passed-2
 enum-known-passed-2 c = search needs
 
+enum-known-passed-3 : tie.Need-enum-known-passed-3
+enum-known-passed-3 c = search needs
+
 returns : tie.Need-returns
 returns c = search needs
 
@@ -28,6 +31,9 @@ returns-3 c = search needs
 returns-4 : tie.Need-returns-4
 returns-4 c = search leaves-start
 
+returns-5 : tie.Need-returns-5
+returns-5 c = search needs
+
 pub leaves-spec : {M : Type 1} → statement M
 leaves-spec =
     tie.close
@@ -36,7 +42,9 @@ leaves-spec =
     enum-told-2
     enum-known-passed
     enum-known-passed-2
+    enum-known-passed-3
     returns
     returns-2
     returns-3
-    returns-4)
+    returns-4
+    returns-5)

@@ -12,8 +12,8 @@ use Rattle.commits.proofs.writing.clear_cells.Tie as tie
 abbrev Inv-loop : tie.InvT-loop
 Inv-loop state₀ from upto j₀ state j =
     (from ≤ j) × (j - from ≤ upto - from) × (upto ≤ 256) × (upto ≡ getD state₀ 1 0)
-    × (length state₀ ≡ 4818) × (length state ≡ 4818)
-    × (state ≡ pasted state₀ (4562 + from) (replicate (upto - from) 0) (j - from))
+    × (length state₀ ≡ 4834) × (length state ≡ 4834)
+    × (state ≡ pasted state₀ (4578 + from) (replicate (upto - from) 0) (j - from))
 
 abbrev μ-loop : tie.MeasureT-loop
 μ-loop state₀ from upto j₀ state j = upto - j

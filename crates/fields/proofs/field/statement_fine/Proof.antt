@@ -64,6 +64,18 @@ enum-told-10 c = search needs
 a-b-used-requires-4 : tie.Need-a-b-used-requires-4
 a-b-used-requires-4 c κs = search needs
 
+enum-told-11 : tie.Need-enum-told-11
+enum-told-11 c = search needs
+
+s-used-requires : tie.Need-s-used-requires
+s-used-requires c κs = search needs
+
+enum-told-12 : tie.Need-enum-told-12
+enum-told-12 c = search needs
+
+s-used-requires-2 : tie.Need-s-used-requires-2
+s-used-requires-2 c κs = search needs
+
 returns : tie.Need-returns
 returns c = search statement-row
 
@@ -94,6 +106,12 @@ returns-9 c = search statement-row
 returns-10 : tie.Need-returns-10
 returns-10 c = search statement-row
 
+returns-11 : tie.Need-returns-11
+returns-11 c = search statement-row
+
+returns-12 : tie.Need-returns-12
+returns-12 c = search statement-row
+
 pub statement-fine-spec : {M : Type 1} → statement M
 statement-fine-spec =
     tie.close
@@ -118,6 +136,10 @@ statement-fine-spec =
     a-b-c-used-requires
     enum-told-10
     a-b-used-requires-4
+    enum-told-11
+    s-used-requires
+    enum-told-12
+    s-used-requires-2
     returns
     returns-2
     returns-3
@@ -127,4 +149,6 @@ statement-fine-spec =
     returns-7
     returns-8
     returns-9
-    returns-10)
+    returns-10
+    returns-11
+    returns-12)

@@ -95,10 +95,25 @@ returns-22 : tie.Need-returns-22
 unfolding kindOf if_then_else_
 returns-22 c = sym (ap kindOf (c .match .keys22))
 
--- the last arm: each of the 22 tests is false, the first arm's first
 returns-23 : tie.Need-returns-23
 unfolding kindOf if_then_else_
-returns-23 c = simp (
+returns-23 c = sym (ap kindOf (c .match .keys23))
+
+returns-24 : tie.Need-returns-24
+unfolding kindOf if_then_else_
+returns-24 c = sym (ap kindOf (c .match .keys24))
+
+returns-25 : tie.Need-returns-25
+unfolding kindOf if_then_else_
+returns-25 c = sym (ap kindOf (c .match .keys25))
+
+-- the last arm: each of the 25 tests is false, the first arm's first
+returns-26 : tie.Need-returns-26
+unfolding kindOf if_then_else_
+returns-26 c = simp (
+  ne-eqb _ _ (c .match .rest .0 .0 .0 .0 .0 .0 .0 .0 .0 .0 .0 .0 .0 .0 .0 .0 .0 .0 .0 .0 .0 .0 .0 .0 .1),
+  ne-eqb _ _ (c .match .rest .0 .0 .0 .0 .0 .0 .0 .0 .0 .0 .0 .0 .0 .0 .0 .0 .0 .0 .0 .0 .0 .0 .0 .1),
+  ne-eqb _ _ (c .match .rest .0 .0 .0 .0 .0 .0 .0 .0 .0 .0 .0 .0 .0 .0 .0 .0 .0 .0 .0 .0 .0 .0 .1),
   ne-eqb _ _ (c .match .rest .0 .0 .0 .0 .0 .0 .0 .0 .0 .0 .0 .0 .0 .0 .0 .0 .0 .0 .0 .0 .0 .1),
   ne-eqb _ _ (c .match .rest .0 .0 .0 .0 .0 .0 .0 .0 .0 .0 .0 .0 .0 .0 .0 .0 .0 .0 .0 .0 .1),
   ne-eqb _ _ (c .match .rest .0 .0 .0 .0 .0 .0 .0 .0 .0 .0 .0 .0 .0 .0 .0 .0 .0 .0 .0 .1),
@@ -149,4 +164,7 @@ kind-of-spec =
     returns-20
     returns-21
     returns-22
-    returns-23)
+    returns-23
+    returns-24
+    returns-25
+    returns-26)

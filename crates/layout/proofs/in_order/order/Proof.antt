@@ -7,8 +7,8 @@ use Rattle.layout.proofs.in_order.order.Tie as tie
 disorder-requires : tie.Need-disorder-requires
 disorder-requires c κs = search needs
 
-shared-after-other-requires : tie.Need-shared-after-other-requires
-shared-after-other-requires c κs = search needs
+misplaced-requires : tie.Need-misplaced-requires
+misplaced-requires c κs = search needs
 
 leftover-requires : tie.Need-leftover-requires
 leftover-requires c κs = search needs
@@ -33,7 +33,7 @@ order-spec =
     tie.close
     (tie.spec
     disorder-requires
-    shared-after-other-requires
+    misplaced-requires
     leftover-requires
     no-main-requires
     lower-requires

@@ -1,10 +1,10 @@
 -- `partition_entries` meets its contract. Assumes nothing.
 use borrow.Author.Needs.{needs}
 use Prim.Native.Nat.{_≤_, _-_}
-use mathlib.Core.Path.{_≡_, refl, _∙_}
-use lib.ListN.{length, length-set}
+use mathlib.Core.Path.{_≡_, refl}
+use lib.ListN.{length, length-set, getD}
 use native.Mathlib.Omega.{arith}
-use Rattle.lists.proofs.WaitLaws.{ready-by}
+use Rattle.lists.specs.inner.Lists.{isWanted}
 use Rattle.lists.proofs.PartitionLaws.{Partitioning, partition-start}
 use Rattle.lists.proofs.PartitionLaws.{partition-ready, partition-waiting}
 use Rattle.lists.proofs.PartitionLaws.{partition-count, partition-end}
@@ -12,11 +12,12 @@ use Rattle.lists.proofs.list.partition_entries.Statement.{statement}
 use Rattle.lists.proofs.list.partition_entries.Tie as tie
 
 abbrev Inv-loop : tie.InvT-loop
-Inv-loop state₀ active next n living r₀ j₀ state r j =
-    (r ≤ j) × (j ≤ n) × (length state ≡ length state₀) × Partitioning state₀ active state r j
+Inv-loop state₀ active wanted next n first r₀ j₀ state r j =
+    (r ≤ j) × (j ≤ n) × (length state ≡ length state₀)
+    × Partitioning (isWanted wanted) state₀ active (getD state₀ active 0) state r j
 
 abbrev μ-loop : tie.MeasureT-loop
-μ-loop state₀ active next n living r₀ j₀ state r j = n - j
+μ-loop state₀ active wanted next n first r₀ j₀ state r j = n - j
 
 add-next : tie.Need-add-next Inv-loop μ-loop
 add-next c = search needs
@@ -27,11 +28,20 @@ mul-n c = search needs
 slice-read-n : tie.Need-slice-read-n Inv-loop μ-loop
 slice-read-n c = search needs
 
-living-families-requires : tie.Need-living-families-requires Inv-loop μ-loop
-living-families-requires c κs = search needs
+add-first : tie.Need-add-first Inv-loop μ-loop
+add-first c = search needs
+
+mul-first : tie.Need-mul-first Inv-loop μ-loop
+mul-first c = search needs
+
+slice-read-first : tie.Need-slice-read-first Inv-loop μ-loop
+slice-read-first c = search needs
+
+add-first-2 : tie.Need-add-first-2 Inv-loop μ-loop
+add-first-2 c = search needs
 
 loop-holds : tie.Need-loop-holds Inv-loop μ-loop
-loop-holds c = (search needs, search needs, refl, partition-start _ _)
+loop-holds c = (search needs, search needs, refl, partition-start _ _ _ _)
 
 add-e : tie.Need-add-e Inv-loop μ-loop
 add-e c = search needs
@@ -45,8 +55,8 @@ mul-e c = search needs
 slice-read-e : tie.Need-slice-read-e Inv-loop μ-loop
 slice-read-e c = search needs
 
-is-ready-requires : tie.Need-is-ready-requires Inv-loop μ-loop
-is-ready-requires c κs = search needs
+is-wanted-requires : tie.Need-is-wanted-requires Inv-loop μ-loop
+is-wanted-requires c κs = search needs
 
 add-state : tie.Need-add-state Inv-loop μ-loop
 add-state c = search needs
@@ -62,9 +72,6 @@ slice-write-state c = search needs
 
 add-state-3 : tie.Need-add-state-3 Inv-loop μ-loop
 add-state-3 c = search needs
-
-add-state-4 : tie.Need-add-state-4 Inv-loop μ-loop
-add-state-4 c = search needs
 
 mul-state-2 : tie.Need-mul-state-2 Inv-loop μ-loop
 mul-state-2 c = search needs
@@ -82,27 +89,16 @@ loop-less : tie.Need-loop-less Inv-loop μ-loop
 loop-less c = search needs
 
 loop-again : tie.Need-loop-again Inv-loop μ-loop
-loop-again c =
-    let top = c .before .before .before .before in
-    let pre = top .before .before .before .before .before .pre in
-    let living = top .before .living-families .ensures in (
-      search needs,
-      search needs,
-      simp length-set (omega arith),
-      partition-ready _ _ _ _ _ _ (top .loop .inv .3)
-          (c .before .before .before .loop-test .taken)
-          (pre .0 .2) (pre .1) (pre .0 .0) refl _
-          (c .before .is-ready .ensures ∙ ready-by _ _ living _) (c .if1 .taken),
-    )
+loop-again c = (search needs, search needs, simp length-set (omega arith), search partition-ready)
 
-add-state-5 : tie.Need-add-state-5 Inv-loop μ-loop
-add-state-5 c = search needs
+add-state-4 : tie.Need-add-state-4 Inv-loop μ-loop
+add-state-4 c = search needs
 
 sub-state : tie.Need-sub-state Inv-loop μ-loop
 sub-state c = search needs
 
-add-state-6 : tie.Need-add-state-6 Inv-loop μ-loop
-add-state-6 c = search needs
+add-state-5 : tie.Need-add-state-5 Inv-loop μ-loop
+add-state-5 c = search needs
 
 mul-state-3 : tie.Need-mul-state-3 Inv-loop μ-loop
 mul-state-3 c = search needs
@@ -117,18 +113,7 @@ loop-less-2 : tie.Need-loop-less-2 Inv-loop μ-loop
 loop-less-2 c = search needs
 
 loop-again-2 : tie.Need-loop-again-2 Inv-loop μ-loop
-loop-again-2 c =
-    let top = c .before .before .before .before in
-    let pre = top .before .before .before .before .before .pre in
-    let living = top .before .living-families .ensures in (
-      search needs,
-      search needs,
-      simp length-set (omega arith),
-      partition-waiting _ _ _ _ _ _ (top .loop .inv .3)
-          (c .before .before .before .loop-test .taken)
-          (pre .0 .2) (pre .1) (pre .0 .0) refl _
-          (c .before .is-ready .ensures ∙ ready-by _ _ living _) (c .if1 .left),
-    )
+loop-again-2 c = (search needs, search needs, simp length-set (omega arith), search partition-waiting)
 
 same-length : tie.Need-same-length Inv-loop μ-loop
 same-length c = search needs
@@ -145,28 +130,30 @@ partition-entries-spec =
     add-next
     mul-n
     slice-read-n
-    living-families-requires
+    add-first
+    mul-first
+    slice-read-first
+    add-first-2
     loop-holds
     add-e
     add-e-2
     mul-e
     slice-read-e
-    is-ready-requires
+    is-wanted-requires
     add-state
     add-state-2
     mul-state
     slice-write-state
     add-state-3
-    add-state-4
     mul-state-2
     slice-write-state-2
     add-r
     add-j
     loop-less
     loop-again
-    add-state-5
+    add-state-4
     sub-state
-    add-state-6
+    add-state-5
     mul-state-3
     slice-write-state-3
     add-j-2

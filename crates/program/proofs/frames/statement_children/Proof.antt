@@ -40,6 +40,12 @@ enum-told-9 c = search needs
 enum-told-10 : tie.Need-enum-told-10
 enum-told-10 c = search needs
 
+enum-told-11 : tie.Need-enum-told-11
+enum-told-11 c = search needs
+
+enum-told-12 : tie.Need-enum-told-12
+enum-told-12 c = search needs
+
 returns : tie.Need-returns
 returns c = search needs
 
@@ -70,6 +76,12 @@ returns-9 c = search statement-children
 returns-10 : tie.Need-returns-10
 returns-10 c = search statement-children
 
+returns-11 : tie.Need-returns-11
+returns-11 c = search needs
+
+returns-12 : tie.Need-returns-12
+returns-12 c = search needs
+
 pub statement-children-spec : {M : Type 1} → statement M
 statement-children-spec =
     tie.close
@@ -86,6 +98,8 @@ statement-children-spec =
     enum-told-8
     enum-told-9
     enum-told-10
+    enum-told-11
+    enum-told-12
     returns
     returns-2
     returns-3
@@ -95,4 +109,6 @@ statement-children-spec =
     returns-7
     returns-8
     returns-9
-    returns-10)
+    returns-10
+    returns-11
+    returns-12)

@@ -37,6 +37,12 @@ enum-told-9 c = search needs
 enum-told-10 : tie.Need-enum-told-10
 enum-told-10 c = search needs
 
+enum-told-11 : tie.Need-enum-told-11
+enum-told-11 c = search needs
+
+enum-told-12 : tie.Need-enum-told-12
+enum-told-12 c = search needs
+
 returns : tie.Need-returns
 returns c = search needs
 
@@ -67,6 +73,12 @@ returns-9 c = search statement-row
 returns-10 : tie.Need-returns-10
 returns-10 c = search statement-row
 
+returns-11 : tie.Need-returns-11
+returns-11 c = search statement-row
+
+returns-12 : tie.Need-returns-12
+returns-12 c = search statement-row
+
 pub statement-of-spec : {M : Type 1} → statement M
 statement-of-spec =
     tie.close
@@ -82,6 +94,8 @@ statement-of-spec =
     enum-told-8
     enum-told-9
     enum-told-10
+    enum-told-11
+    enum-told-12
     returns
     returns-2
     returns-3
@@ -91,4 +105,6 @@ statement-of-spec =
     returns-7
     returns-8
     returns-9
-    returns-10)
+    returns-10
+    returns-11
+    returns-12)

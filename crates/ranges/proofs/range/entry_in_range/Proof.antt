@@ -22,6 +22,9 @@ thread-in-range-requires-3 c κs = search needs
 returns-3 : tie.Need-returns-3
 returns-3 c = search entry-laws
 
+returns-4 : tie.Need-returns-4
+returns-4 c = search entry-laws
+
 pub entry-in-range-spec : {M : Type 1} → statement M
 entry-in-range-spec =
     tie.close
@@ -31,4 +34,5 @@ entry-in-range-spec =
     thread-in-range-requires-2
     returns-2
     thread-in-range-requires-3
-    returns-3)
+    returns-3
+    returns-4)

@@ -31,14 +31,20 @@ threads-in-range-requires c κs = search needs
 returns-5 : tie.Need-returns-5
 returns-5 c = search whole-laws
 
+events-in-range-requires : tie.Need-events-in-range-requires
+events-in-range-requires c κs = search needs
+
+returns-6 : tie.Need-returns-6
+returns-6 c = search whole-laws
+
 shared-slice-read-cells : tie.Need-shared-slice-read-cells
 shared-slice-read-cells c = search needs
 
 members-in-range-requires : tie.Need-members-in-range-requires
 members-in-range-requires c κs = search needs
 
-returns-6 : tie.Need-returns-6
-returns-6 c = search whole-laws
+returns-7 : tie.Need-returns-7
+returns-7 c = search whole-laws
 
 add-zeros : tie.Need-add-zeros
 add-zeros c = search needs
@@ -49,8 +55,8 @@ sub-zeros c = search needs
 zeros-requires : tie.Need-zeros-requires
 zeros-requires c κs = search needs
 
-returns-7 : tie.Need-returns-7
-returns-7 c = search whole-laws
+returns-8 : tie.Need-returns-8
+returns-8 c = search whole-laws
 
 pub in-range-spec : {M : Type 1} → statement M
 in-range-spec =
@@ -65,10 +71,12 @@ in-range-spec =
     returns-4
     threads-in-range-requires
     returns-5
+    events-in-range-requires
+    returns-6
     shared-slice-read-cells
     members-in-range-requires
-    returns-6
+    returns-7
     add-zeros
     sub-zeros
     zeros-requires
-    returns-7)
+    returns-8)

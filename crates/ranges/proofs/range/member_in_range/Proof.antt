@@ -1,6 +1,6 @@
 -- `member_in_range` meets its contract. Assumes nothing.
 use borrow.Author.Needs.{needs}
-use Rattle.ranges.proofs.RangeLaws.{member-row}
+use Rattle.ranges.proofs.RangeLaws.{member-row, member-entry}
 use Rattle.ranges.proofs.range.member_in_range.Statement.{statement}
 use Rattle.ranges.proofs.range.member_in_range.Tie as tie
 
@@ -12,6 +12,9 @@ thread-in-range-requires c κs = search needs
 
 enum-told-2 : tie.Need-enum-told-2
 enum-told-2 c = search needs
+
+event-count-requires : tie.Need-event-count-requires
+event-count-requires c κs = search needs
 
 entry-in-range-requires : tie.Need-entry-in-range-requires
 entry-in-range-requires c κs = search needs
@@ -38,7 +41,7 @@ returns : tie.Need-returns
 returns c = search member-row
 
 returns-2 : tie.Need-returns-2
-returns-2 c = search member-row
+returns-2 c = search member-entry
 
 returns-3 : tie.Need-returns-3
 returns-3 c = search member-row
@@ -56,6 +59,7 @@ member-in-range-spec =
     enum-told
     thread-in-range-requires
     enum-told-2
+    event-count-requires
     entry-in-range-requires
     enum-told-3
     item-in-range-requires

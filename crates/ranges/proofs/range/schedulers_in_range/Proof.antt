@@ -6,12 +6,13 @@ use mathlib.Core.Bool.{true}
 use Rattle.machine.proofs.AllBelow.{all-none, all-end, answer-wrong, answer-more}
 use Rattle.ranges.specs.inner.Passes.{schedulerBlock}
 use Rattle.machine.specs.inner.Ranges.{allBelow}
+use Rattle.text.specs.Frames.{framesOf}
 use Rattle.ranges.proofs.range.schedulers_in_range.Statement.{statement}
 use Rattle.ranges.proofs.range.schedulers_in_range.Tie as tie
 
 abbrev Inv-loop : tie.InvT-loop
 Inv-loop frames schedulers state k₀ k =
-    (k ≤ 8) × (allBelow k (schedulerBlock schedulers state) ≡ true)
+    (k ≤ 8) × (allBelow k (schedulerBlock (framesOf frames) schedulers state) ≡ true)
 
 abbrev μ-loop : tie.MeasureT-loop
 μ-loop frames schedulers state k₀ k = 8 - k

@@ -4,14 +4,17 @@ use Rattle.rules.proofs.StartLaws.{effect-of}
 use Rattle.rules.proofs.start.signature_effect.Statement.{statement}
 use Rattle.rules.proofs.start.signature_effect.Tie as tie
 
-cast-from-number : tie.Need-cast-from-number
-cast-from-number c = search needs
+cast-of-sets : tie.Need-cast-of-sets
+cast-of-sets c = search needs
 
-from-number-requires : tie.Need-from-number-requires
-from-number-requires c κs = search needs
+cast-of-sets-2 : tie.Need-cast-of-sets-2
+cast-of-sets-2 c = search needs
+
+of-sets-requires : tie.Need-of-sets-requires
+of-sets-requires c κs = search needs
 
 returns : tie.Need-returns
 returns c = search effect-of
 
 pub signature-effect-spec : {M : Type 1} → statement M
-signature-effect-spec = tie.close (tie.spec cast-from-number from-number-requires returns)
+signature-effect-spec = tie.close (tie.spec cast-of-sets cast-of-sets-2 of-sets-requires returns)

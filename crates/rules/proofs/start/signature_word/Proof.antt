@@ -10,14 +10,26 @@ mul-low c = search needs
 add-low : tie.Need-add-low
 add-low c = search needs
 
+events-requires : tie.Need-events-requires
+events-requires c κs = search needs
+
+cast-sets : tie.Need-cast-sets
+cast-sets c = search needs
+
+mul-sets : tie.Need-mul-sets
+mul-sets c = search needs
+
+cells-requires : tie.Need-cells-requires
+cells-requires c κs = search needs
+
+cast-sets-2 : tie.Need-cast-sets-2
+cast-sets-2 c = search needs
+
+add-sets : tie.Need-add-sets
+add-sets c = search needs
+
 mul-high : tie.Need-mul-high
 mul-high c = search needs
-
-number-requires : tie.Need-number-requires
-number-requires c κs = search needs
-
-cast-high : tie.Need-cast-high
-cast-high c = search needs
 
 add-high : tie.Need-add-high
 add-high c = search needs
@@ -37,9 +49,13 @@ signature-word-spec =
     (tie.spec
     mul-low
     add-low
+    events-requires
+    cast-sets
+    mul-sets
+    cells-requires
+    cast-sets-2
+    add-sets
     mul-high
-    number-requires
-    cast-high
     add-high
     mul-result
     add-result

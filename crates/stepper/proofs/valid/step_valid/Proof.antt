@@ -1,7 +1,8 @@
 -- `step_valid` meets its contract. Assumes nothing.
 use mathlib.Core.Path.{ap, _∙_}
 use borrow.Author.Needs.{needs}
-use Rattle.stepper.proofs.GoodWords.{step-long, threads-few}
+use Rattle.stepper.proofs.GoodWords.{step-long, threads-few, few-events}
+use Rattle.stepper.proofs.FileLaws.{file-some}
 use Rattle.stepper.proofs.PartyLaws.{acting-asks, acting-steps, nobody-steps, idle-place}
 use Rattle.stepper.proofs.PartyLaws.{idle-asks, idle-nothing, idle-done}
 use Rattle.stepper.proofs.PartyLaws.{answered}
@@ -54,21 +55,23 @@ returns-2 c =
 
 known-requires : tie.Need-known-requires
 known-requires c κs =
-    let asked = c .before .before in
+    let asked = c .before in
     let test = asked .before in
     let acting = test .before in
     let p = acting .before .before .before .before .pre in
     idle-place _ _ _ (p .0) _ _ (p .1) _ (acting .acting-thread .ensures) (test .if1 .left)
-    _ (asked .is-scheduler-in-file .ensures) (c .before .if2 .left)
+    _ (asked .is-scheduler-in-file .ensures) (c .if2 .left)
 
 end-instant-requires : tie.Need-end-instant-requires
 end-instant-requires c κs =
-    let asked = c .before .before .before in
+    let place = c .before in
+    let own = place .before in
+    let asked = own .before in
     let test = asked .before in
     let acting = test .before in
     let p = acting .before .before .before .before .pre in
     idle-asks _ _ _ (p .0) _ _ (p .1) _ (acting .acting-thread .ensures) (test .if1 .left)
-    _ (asked .is-scheduler-in-file .ensures) (c .before .before .if2 .left) _ (c .known .ensures)
+    _ (asked .is-scheduler-in-file .ensures) (own .if2 .left) _ (place .known .ensures)
 
 nobody-requires-2 : tie.Need-nobody-requires-2
 nobody-requires-2 c κs = search needs
@@ -79,8 +82,8 @@ same-length-3 c = search needs
 returns-3 : tie.Need-returns-3
 returns-3 c =
     let ended = c .before .before .before .before in
-    let place = ended .before in
-    let own = place .before .before in
+    let place = ended .before .before in
+    let own = place .before in
     let asked = own .before in
     let test = asked .before in
     let acting = test .before in
@@ -90,6 +93,16 @@ returns-3 c =
     _ (asked .is-scheduler-in-file .ensures) (own .if2 .left) _ (place .known .ensures)
     _ _ (ended .end-instant .ensures .0) (ended .end-instant .ensures .1) (c .before .if3 .taken))
 
+clear-events-requires : tie.Need-clear-events-requires
+clear-events-requires c κs =
+    let ended = c .before .before .before .before in
+    let acting = ended .before .before .before .before .before .before in
+    let p = acting .before .before .before .before .pre in (
+      ended .end-instant .kept .0 ∙ step-long _ _ _ (p .0),
+      file-some _ (p .0 .file),
+      few-events _ _ _ (p .0),
+    )
+
 nobody-requires-3 : tie.Need-nobody-requires-3
 nobody-requires-3 c κs = search needs
 
@@ -98,9 +111,11 @@ same-length-4 c = search needs
 
 returns-4 : tie.Need-returns-4
 returns-4 c =
-    let ended = c .before .before .before .before in
-    let place = ended .before in
-    let own = place .before .before in
+    let cleared = c .before .before .before in
+    let more = cleared .before .before in
+    let ended = more .before .before .before in
+    let place = ended .before .before in
+    let own = place .before in
     let asked = own .before in
     let test = asked .before in
     let acting = test .before in
@@ -108,7 +123,8 @@ returns-4 c =
     answered _ _ _ _ (c .nobody3 .ensures)
     (idle-done _ _ _ (p .0) _ _ (p .1) _ (acting .acting-thread .ensures) (test .if1 .left)
     _ (asked .is-scheduler-in-file .ensures) (own .if2 .left) _ (place .known .ensures)
-    _ _ (ended .end-instant .ensures .0) (ended .end-instant .ensures .1) (c .before .if3 .left))
+    _ _ (ended .end-instant .ensures .0) (ended .end-instant .ensures .1) (more .if3 .left)
+    _ (cleared .clear-events .ensures))
 
 pub step-valid-spec : {M : Type 1} → statement M
 step-valid-spec =
@@ -127,6 +143,7 @@ step-valid-spec =
     nobody-requires-2
     same-length-3
     returns-3
+    clear-events-requires
     nobody-requires-3
     same-length-4
     returns-4)

@@ -1,9 +1,10 @@
--- `act_statement` meets its contract. In a need, `at` is the function's entry. Assumes nothing.
+-- `act_statement` meets its contract. Assumes nothing.
 use borrow.Author.Needs.{needs}
 use Rattle.turns.proofs.OperandLaws.{statement-named, under-laws}
 use Rattle.turns.proofs.StatementRows.{acts-nothing, acts-cooperate, acts-seq, acts-do}
 use Rattle.turns.proofs.StatementRows.{acts-start, acts-wait, acts-let, acts-store, acts-if}
 use Rattle.turns.proofs.StatementRows.{acts-while}
+use Rattle.turns.proofs.StatementRows.{acts-generate, acts-await}
 use Rattle.turns.proofs.statement.act_statement.Statement.{statement}
 use Rattle.turns.proofs.statement.act_statement.Tie as tie
 
@@ -126,6 +127,18 @@ cast-loops-after c = search needs
 loops-after-requires : tie.Need-loops-after-requires
 loops-after-requires c κs = search needs
 
+enum-known-e : tie.Need-enum-known-e
+enum-known-e c = search needs
+
+comes-to-requires-2 : tie.Need-comes-to-requires-2
+comes-to-requires-2 c κs = search needs
+
+enum-known-e-2 : tie.Need-enum-known-e-2
+enum-known-e-2 c = search needs
+
+comes-to-requires-3 : tie.Need-comes-to-requires-3
+comes-to-requires-3 c κs = search needs
+
 returns : tie.Need-returns
 returns c = (search acts-nothing, search needs)
 
@@ -174,6 +187,12 @@ same-length-6 c = search needs
 returns-10 : tie.Need-returns-10
 returns-10 c = (search acts-while, search needs)
 
+returns-11 : tie.Need-returns-11
+returns-11 c = (search acts-generate, search needs)
+
+returns-12 : tie.Need-returns-12
+returns-12 c = (search acts-await, search needs)
+
 pub act-statement-spec : {M : Type 1} → statement M
 act-statement-spec =
     tie.close
@@ -213,6 +232,10 @@ act-statement-spec =
     evaluate-requires-3
     cast-loops-after
     loops-after-requires
+    enum-known-e
+    comes-to-requires-2
+    enum-known-e-2
+    comes-to-requires-3
     returns
     returns-2
     returns-3
@@ -228,4 +251,6 @@ act-statement-spec =
     same-length-5
     returns-9
     same-length-6
-    returns-10)
+    returns-10
+    returns-11
+    returns-12)

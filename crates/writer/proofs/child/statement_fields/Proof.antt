@@ -1,6 +1,6 @@
 -- `statement_fields` meets its contract. Assumes nothing.
-use Rattle.writer.proofs.FieldLaws.{statement-row}
 use borrow.Author.Needs.{needs}
+use Rattle.writer.proofs.FieldLaws.{statement-row}
 use Rattle.writer.proofs.child.statement_fields.Statement.{statement}
 use Rattle.writer.proofs.child.statement_fields.Tie as tie
 
@@ -64,6 +64,18 @@ enum-told-10 c = search needs
 holding-requires-10 : tie.Need-holding-requires-10
 holding-requires-10 c κs = search needs
 
+enum-told-11 : tie.Need-enum-told-11
+enum-told-11 c = search needs
+
+holding-requires-11 : tie.Need-holding-requires-11
+holding-requires-11 c κs = search needs
+
+enum-told-12 : tie.Need-enum-told-12
+enum-told-12 c = search needs
+
+holding-requires-12 : tie.Need-holding-requires-12
+holding-requires-12 c κs = search needs
+
 returns : tie.Need-returns
 returns c = search statement-row
 
@@ -94,6 +106,12 @@ returns-9 c = search statement-row
 returns-10 : tie.Need-returns-10
 returns-10 c = search statement-row
 
+returns-11 : tie.Need-returns-11
+returns-11 c = search statement-row
+
+returns-12 : tie.Need-returns-12
+returns-12 c = search statement-row
+
 pub statement-fields-spec : {M : Type 1} → statement M
 statement-fields-spec =
     tie.close
@@ -118,6 +136,10 @@ statement-fields-spec =
     holding-requires-9
     enum-told-10
     holding-requires-10
+    enum-told-11
+    holding-requires-11
+    enum-told-12
+    holding-requires-12
     returns
     returns-2
     returns-3
@@ -127,4 +149,6 @@ statement-fields-spec =
     returns-7
     returns-8
     returns-9
-    returns-10)
+    returns-10
+    returns-11
+    returns-12)

@@ -1,20 +1,14 @@
 -- `Effect::with_owner` meets its contract. Assumes nothing.
 use borrow.Author.Needs.{needs}
-use Rattle.language.proofs.EffectLaws.{scheduler-known, with-owner-laws}
+use Rattle.language.proofs.EffectLaws.{owner-joins}
 use Rattle.language.proofs.effect.Effect.with_owner.Statement.{statement}
 use Rattle.language.proofs.effect.Effect.with_owner.Tie as tie
 
-is-scheduler-requires : tie.Need-is-scheduler-requires
-is-scheduler-requires c κs = search needs
+with-member-requires : tie.Need-with-member-requires
+with-member-requires c κs = search needs
 
 returns : tie.Need-returns
-returns c = search with-owner-laws
-
-bit-of-requires : tie.Need-bit-of-requires
-bit-of-requires c κs = search scheduler-known
-
-returns-2 : tie.Need-returns-2
-returns-2 c = search with-owner-laws
+returns c = search owner-joins
 
 pub with-owner-spec : {M : Type 1} → statement M
-with-owner-spec = tie.close (tie.spec is-scheduler-requires returns bit-of-requires returns-2)
+with-owner-spec = tie.close (tie.spec with-member-requires returns)

@@ -1,24 +1,20 @@
 -- `Effect::within` meets its contract. Assumes nothing.
 use borrow.Author.Needs.{needs}
-use Rattle.language.proofs.EffectLaws.{scheduler-known, within-laws}
+use Rattle.language.proofs.EffectLaws.{both-within-laws}
 use Rattle.language.proofs.effect.Effect.within.Statement.{statement}
 use Rattle.language.proofs.effect.Effect.within.Tie as tie
 
-returns : tie.Need-returns
-returns c = search within-laws
+set-within-requires : tie.Need-set-within-requires
+set-within-requires c κs = search needs
 
-is-scheduler-requires : tie.Need-is-scheduler-requires
-is-scheduler-requires c κs = search needs
+returns : tie.Need-returns
+returns c = search both-within-laws
+
+set-within-requires-2 : tie.Need-set-within-requires-2
+set-within-requires-2 c κs = search needs
 
 returns-2 : tie.Need-returns-2
-returns-2 c = search within-laws
-
-bit-of-requires : tie.Need-bit-of-requires
-bit-of-requires c κs = search scheduler-known
-
-returns-3 : tie.Need-returns-3
-returns-3 c = search within-laws
+returns-2 c = search both-within-laws
 
 pub within-spec : {M : Type 1} → statement M
-within-spec =
-    tie.close (tie.spec returns is-scheduler-requires returns-2 bit-of-requires returns-3)
+within-spec = tie.close (tie.spec set-within-requires returns set-within-requires-2 returns-2)

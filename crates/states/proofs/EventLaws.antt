@@ -1,0 +1,240 @@
+-- The events' words: one set, those of a scheduler cleared, and what the state is then. Assumes
+-- nothing.
+use Prim.Native.Nat.{ℕ, zero, suc, _+_, _-_, _<_, _≤_}
+use Prim.Native.Nat.{_*_}
+use Prim.Native.Nat.{_%_}
+use mathlib.Core.Path.{_≡_, refl, sym, ap, ap₂, _∙_, subst}
+use mathlib.Core.List.{List, [], _∷_}
+use mathlib.Core.Bool.{Bool, true, false, not, _&&_}
+use native.Mathlib.Omega.{arith}
+use native.Mathlib.Numerals.{add-one}
+use native.Mathlib.Decide.{ℕ-discrete}
+use lib.ListN.{getD, length, set, length-set, List·getD-eq-default}
+use lib.Seq.{getD-set-same, getD-set-other, set-getD}
+use lib.Dec.{eqb, ltb}
+use borrow.Author.Tests.{eq-eqb, ne-eqb, ltb-true, ltb-false}
+use Rattle.basics.proofs.Ifs.{if-yes, if-no}
+use Rattle.basics.proofs.Ifs.{if-all}
+use Rattle.machine.specs.State.{State, isPresent, withPresent}
+use Rattle.machine.specs.Steps.{withoutEventsOf}
+use Rattle.machine.specs.Words.{bit}
+use Rattle.machine.proofs.WordLaws.{Says}
+use Rattle.states.specs.inner.Events.{withoutEvent, withoutEvents}
+use Rattle.basics.specs.If.{if_then_else_}
+use Rattle.language.specs.declared.frame.Frame.{Frame}
+use Rattle.program.specs.Programs.{eventsOf, programOf}
+use Rattle.program.specs.inner.Events.{eventIn}
+use Rattle.program.specs.declared.event.EventFound.{EventFound}
+use Rattle.program.specs.Trees.{frameAt}
+
+-- ---- as the code computes them
+module _ (c : ℕ) (os w : List ℕ) (e : ℕ) where
+  -- one that is not present stays so
+  pub absent-stays : getD w (4562 + e) 0 ≡ 0 → w ≡ withoutEvent c os w e
+  unfolding withoutEvent
+  absent-stays z =
+      if-all (λ (v : List ℕ). w ≡ v) (eqb (getD os e 0) c) _ _
+      (λ _. sym (ap (set w (4562 + e)) (sym z) ∙ set-getD w (4562 + e) 0)) (λ _. refl)
+
+  pub event-length : length (withoutEvent c os w e) ≡ length w
+  unfolding withoutEvent
+  event-length =
+      if-all (λ (v : List ℕ). length v ≡ length w) (eqb (getD os e 0) c) _ _
+      (λ _. length-set w (4562 + e) 0) (λ _. refl)
+
+-- by the owner that was found; n is the scheduler
+module _ (fs : List Frame) (w : List ℕ) (e c n : ℕ) (x : EventFound)
+    (q : x ≡ eventIn (programOf fs) e) (k : n ≡ c) where
+  owner-found : x .owner ≡ getD (eventsOf fs) e 0
+  unfolding eventIn programOf
+  owner-found = ap (λ (y : EventFound). y .owner) q
+
+  pub other-stays : (x .owner ≡ n → ⊥) → w ≡ withoutEvent c (eventsOf fs) w e
+  unfolding withoutEvent
+  other-stays d =
+      sym (if-no _ _ (ne-eqb (getD (eventsOf fs) e 0) c (λ z. d (owner-found ∙ z ∙ sym k))))
+
+  pub own-cleared : x .owner ≡ n → set w (4562 + e) 0 ≡ withoutEvent c (eventsOf fs) w e
+  unfolding withoutEvent
+  own-cleared d =
+      sym (if-yes _ _ (eq-eqb (getD (eventsOf fs) e 0) c (sym owner-found ∙ d ∙ k)))
+
+pub clear-start : (c : ℕ) (os w : List ℕ) → w ≡ withoutEvents c os w 0
+unfolding withoutEvents
+clear-start c os w = refl
+
+pub clear-more : (c : ℕ) (os w u v : List ℕ) (n e : ℕ) → u ≡ withoutEvents c os w n
+    → e ≡ n → v ≡ withoutEvent c os u e → v ≡ withoutEvents c os w (n + 1)
+unfolding withoutEvents
+clear-more c os w u v n e h q k =
+    k ∙ ap₂ (λ (x : List ℕ) (i : ℕ). withoutEvent c os x i) h q
+    ∙ ap (withoutEvents c os w) (sym (add-one n))
+
+pub clear-end : (c : ℕ) (os w v : List ℕ) (n m k : ℕ) → v ≡ withoutEvents c os w n → n ≤ m
+    → m ≤ n → m ≡ k → v ≡ withoutEvents c os w k
+clear-end c os w v n m k h a b q = h ∙ ap (withoutEvents c os w) (omega arith)
+
+pub events-are : (fs : List Frame) (f : Frame) → f ≡ frameAt fs 0 → frameAt fs 0 .c ≤ 16
+    → f .c % 256 ≡ frameAt fs 0 .c
+events-are fs f e l = let z = ap (λ (g : Frame). g .c) e in omega arith
+
+pub cleared-length : (c : ℕ) (os w : List ℕ) (n : ℕ) → length (withoutEvents c os w n) ≡ length w
+unfolding withoutEvents
+cleared-length c os w zero = refl
+cleared-length c os w (suc n) =
+    event-length c os (withoutEvents c os w n) n ∙ cleared-length c os w n
+
+-- ---- what they say
+
+-- a word of no event
+module _ (c : ℕ) (os w : List ℕ) where
+  one-out : (e i : ℕ) → (i ≡ 4562 + e → ⊥) → getD (withoutEvent c os w e) i 0 ≡ getD w i 0
+  unfolding withoutEvent
+  one-out e i f =
+      if-all (λ (v : List ℕ). getD v i 0 ≡ getD w i 0) (eqb (getD os e 0) c) _ _
+      (λ _. getD-set-other w (4562 + e) i 0 0 f) (λ _. refl)
+
+cleared-out : (c : ℕ) (os w : List ℕ) (n i : ℕ) → (4562 ≤ i → i < 4562 + n → ⊥)
+    → getD (withoutEvents c os w n) i 0 ≡ getD w i 0
+unfolding withoutEvents
+cleared-out c os w zero i f = refl
+cleared-out c os w (suc n) i f =
+    one-out c os (withoutEvents c os w n) n i (λ z. f (omega arith) (omega arith))
+    ∙ cleared-out c os w n i (λ a b. f a (omega arith))
+
+-- of event e
+unfoldable clearedWord : ℕ → List ℕ → ℕ → ℕ → ℕ
+clearedWord c os e x = if eqb (getD os e 0) c then 0 else x
+
+one-in : (c : ℕ) (os w : List ℕ) (e : ℕ) → 4562 + e < length w
+    → getD (withoutEvent c os w e) (4562 + e) 0 ≡ clearedWord c os e (getD w (4562 + e) 0)
+unfolding withoutEvent clearedWord if_then_else_
+one-in c os w e l = by (eqb (getD os e 0) c)
+  where
+    by : (b : Bool)
+        → getD (if b then set w (4562 + e) 0 else w) (4562 + e) 0
+        ≡ (if b then 0 else getD w (4562 + e) 0)
+    by true = getD-set-same w (4562 + e) 0 0 l
+    by false = refl
+
+cleared-in : (c : ℕ) (os w : List ℕ) (n e : ℕ) → e < n → 4562 + n ≤ length w
+    → getD (withoutEvents c os w n) (4562 + e) 0 ≡ clearedWord c os e (getD w (4562 + e) 0)
+unfolding withoutEvents
+cleared-in c os w zero e l h = absurd (omega arith)
+cleared-in c os w (suc n) e l h =
+    by (ℕ-discrete e n) (λ k. cleared-in c os w n e k (omega arith))
+  where
+    by : Dec (e ≡ n)
+        → (e < n → getD (withoutEvents c os w n) (4562 + e) 0 ≡ clearedWord c os e (getD w (4562 + e) 0))
+        → getD (withoutEvent c os (withoutEvents c os w n) n) (4562 + e) 0
+        ≡ clearedWord c os e (getD w (4562 + e) 0)
+    by (yes q) r =
+        ap (λ (i : ℕ). getD (withoutEvent c os (withoutEvents c os w n) n) (4562 + i) 0) q
+        ∙ one-in c os (withoutEvents c os w n) n (rw (cleared-length c os w n) (omega arith))
+        ∙ ap (clearedWord c os n)
+        (cleared-out c os w n (4562 + n) (λ a b. omega arith))
+        ∙ ap (λ (i : ℕ). clearedWord c os i (getD w (4562 + i) 0)) (sym q)
+    by (no q) r =
+        one-out c os (withoutEvents c os w n) n (4562 + e) (λ z. q (omega arith))
+        ∙ r (omega (arith, q))
+
+-- in the state: the same of each event that there is
+without-at : (c : ℕ) (os : List ℕ) (bs : List Bool) (e : ℕ) → length os ≡ length bs
+    → e < length bs
+    → getD (withoutEventsOf c os bs) e false ≡ (getD bs e false && not (eqb (getD os e 0) c))
+unfolding withoutEventsOf
+without-at c [] [] e q l = absurd (omega arith)
+without-at c [] (b ∷ bs) e q l = absurd (omega arith)
+without-at c (o ∷ os) [] e q l = absurd (omega arith)
+without-at c (o ∷ os) (b ∷ bs) zero q l = refl
+without-at c (o ∷ os) (b ∷ bs) (suc e) q l = without-at c os bs e (omega arith) (omega arith)
+
+without-length : (c : ℕ) (os : List ℕ) (bs : List Bool)
+    → length (withoutEventsOf c os bs) ≡ length bs
+unfolding withoutEventsOf
+without-length c [] bs = refl
+without-length c (o ∷ os) [] = refl
+without-length c (o ∷ os) (b ∷ bs) = ap suc (without-length c os bs)
+
+cleared-bit : (c : ℕ) (os : List ℕ) (e : ℕ) (b : Bool)
+    → clearedWord c os e (bit b) ≡ bit (b && not (eqb (getD os e 0) c))
+unfolding clearedWord if_then_else_
+cleared-bit c os e b = by (eqb (getD os e 0) c) b
+  where
+    by : (d b : Bool) → (if d then 0 else bit b) ≡ bit (b && not d)
+    by true true = refl
+    by true false = refl
+    by false true = refl
+    by false false = refl
+
+-- words that say other events present and the rest as it was
+other-events : (w v : List ℕ) (s : State) (bs : List Bool) → Says w s → length v ≡ length w
+    → ((i : ℕ) → (4562 ≤ i → i < 4578 → ⊥) → getD v i 0 ≡ getD w i 0)
+    → ((e : ℕ) → e < 16 → getD v (4562 + e) 0 ≡ bit (getD bs e false))
+    → Says v (withPresent bs s)
+other-events w v s bs h l out is =
+    record {
+      all = l ∙ h .all;
+      threads = out 0 (λ a b. omega arith) ∙ h .threads;
+      cells = out 1 (λ a b. omega arith) ∙ h .cells;
+      scheduler = λ k j a b. out (2 + 130 * k + j) (λ p q. omega arith) ∙ h .scheduler k j a b;
+      thread = λ k j a b. out (1042 + 55 * k + j) (λ p q. omega arith) ∙ h .thread k j a b;
+      event = is;
+      cell = λ j a. out (4578 + j) (λ p q. omega arith) ∙ h .cell j a;
+    }
+
+-- `clear_events`, of n events
+pub clear-says : (c n : ℕ) (os w : List ℕ) (s : State) → Says w s → length os ≡ n
+    → length (s .present) ≡ n → n ≤ 16
+    → Says (withoutEvents c os w n) (withPresent (withoutEventsOf c os (s .present)) s)
+clear-says c n os w s h lo lp few =
+    other-events w (withoutEvents c os w n) s (withoutEventsOf c os (s .present)) h
+    (cleared-length c os w n)
+    (λ i f. cleared-out c os w n i (λ a b. f a (omega arith)))
+    (λ e l. at e l (ltb e n) refl)
+  where
+    at : (e : ℕ) → e < 16 → (b : Bool) → ltb e n ≡ b
+        → getD (withoutEvents c os w n) (4562 + e) 0
+        ≡ bit (getD (withoutEventsOf c os (s .present)) e false)
+    at e l true q =
+        let k = ltb-true e n q in
+        let z = h .all in
+        cleared-in c os w n e k (omega arith) ∙ ap (clearedWord c os e) (h .event e l)
+        ∙ cleared-bit c os e (isPresent s e)
+        ∙ ap bit (sym (without-at c os (s .present) e (lo ∙ sym lp) (omega arith)))
+    at e l false q =
+        let k = ltb-false e n q in
+        let z = without-length c os (s .present) in
+        cleared-out c os w n (4562 + e) (λ a b. omega arith) ∙ h .event e l
+        ∙ ap bit (List·getD-eq-default (s .present) false {n = e} (omega arith))
+        ∙ ap bit (sym (List·getD-eq-default (withoutEventsOf c os (s .present)) false {n = e} (omega arith)))
+
+-- `set_present`
+pub set-says : (e : ℕ) (w : List ℕ) (s : State) → Says w s → e < length (s .present)
+    → length (s .present) ≤ 16
+    → Says (set w (4562 + e) 1) (withPresent (set (s .present) e true) s)
+set-says e w s h l few =
+    other-events w (set w (4562 + e) 1) s (set (s .present) e true) h (length-set w (4562 + e) 1)
+    (λ i f. getD-set-other w (4562 + e) i 1 0 (λ z. f (omega arith) (omega arith)))
+    (λ i k. at i k (ℕ-discrete i e))
+  where
+    at : (i : ℕ) → i < 16 → Dec (i ≡ e)
+        → getD (set w (4562 + e) 1) (4562 + i) 0 ≡ bit (getD (set (s .present) e true) i false)
+    at i k (yes q) =
+        let z = h .all in
+        ap (λ (j : ℕ). getD (set w (4562 + e) 1) (4562 + j) 0) q
+        ∙ getD-set-same w (4562 + e) 1 0 (omega arith)
+        ∙ ap bit (sym (getD-set-same (s .present) e true false l))
+        ∙ ap (λ (j : ℕ). bit (getD (set (s .present) e true) j false)) (sym q)
+    at i k (no q) =
+        getD-set-other w (4562 + e) (4562 + i) 1 0 (λ z. q (omega arith)) ∙ h .event i k
+        ∙ ap bit (sym (getD-set-other (s .present) e i true false q))
+
+-- `is_present`
+pub present-says : (e : ℕ) (w : List ℕ) (s : State) → Says w s → e < 16
+    → eqb (getD w (4562 + e) 0) 1 ≡ isPresent s e
+present-says e w s h l = ap (λ (n : ℕ). eqb n 1) (h .event e l) ∙ by (isPresent s e)
+  where
+    by : (b : Bool) → eqb (bit b) 1 ≡ b
+    by true = refl
+    by false = refl

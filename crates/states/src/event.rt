@@ -1,0 +1,71 @@
+// The events in the lent words: 1 where one is present.
+use language::Place;
+use machine::offset::EVENTS_AT;
+use program::event::event_at;
+use program::frames::frame_at;
+ghost use mathlib.Core.Path.{_≡_};
+ghost use Prim.Native.Nat.{_+_, _<_, _≤_};
+ghost use lib.Dec.{eqb};
+ghost use lib.ListN.{length, getD, set};
+ghost use Rattle.language.specs.Limits.{mostEvents};
+ghost use Rattle.text.specs.Frames.{framesOf};
+ghost use Rattle.program.specs.Trees.{frameAt};
+ghost use Rattle.program.specs.Programs.{eventsOf};
+ghost use Rattle.machine.specs.Offsets.{stateLength, eventsAt};
+ghost use Rattle.states.specs.inner.Events.{withoutEvent, withoutEvents};
+
+pub fn is_present(state: &[u64], e: u8) -> bool
+    requires { ⌜ (length (now state) ≡ stateLength) × (e < mostEvents) ⌝ }
+    ensures { λ r. ⌜ r ≡ eqb (getD (now (state .entry)) (eventsAt + e) 0) 1 ⌝ }
+{
+    state[EVENTS_AT + e as usize] == 1
+}
+
+pub fn set_present(state: &mut [u64], e: u8)
+    requires { ⌜ (length (now state) ≡ stateLength) × (e < mostEvents) ⌝ }
+    ensures { λ _. ⌜ now (state .exit) ≡ set (now (state .entry)) (eventsAt + e) 1 ⌝ }
+{
+    state[EVENTS_AT + e as usize] = 1;
+}
+
+// Whose event e is, is asked only where it is present.
+fn clear_event(frames: &[u64], state: &mut [u64], q: Place, e: u8)
+    requires { ⌜ (length (now state) ≡ stateLength) × (e < mostEvents) ⌝ }
+    ensures { λ _. ⌜ now (state .exit) ≡ withoutEvent (q .number)
+        (eventsOf (framesOf (now (frames .entry)))) (now (state .entry)) e ⌝ }
+{
+    let at = EVENTS_AT + e as usize;
+    if state[at] == 0 {
+        return;
+    }
+    let event = event_at(frames, e);
+    if event.owner != q.number() {
+        return;
+    }
+    state[at] = 0;
+}
+
+// The header's C. A file that passes refusals 1 to 7 has at most 16 events.
+fn event_count(frames: &[u64]) -> u8
+    requires { ⌜ (0 < length (now frames))
+        × (frameAt (framesOf (now frames)) 0 .c ≤ mostEvents) ⌝ }
+    ensures { λ r. ⌜ r ≡ frameAt (framesOf (now (frames .entry))) 0 .c ⌝ }
+{
+    (frame_at(frames, 0).c % 256) as u8
+}
+
+// The scheduler's events are no longer present.
+pub fn clear_events(frames: &[u64], state: &mut [u64], q: Place)
+    requires { ⌜ (length (now state) ≡ stateLength) × (0 < length (now frames))
+        × (frameAt (framesOf (now frames)) 0 .c ≤ mostEvents) ⌝ }
+    ensures { λ _. ⌜ now (state .exit) ≡ withoutEvents (q .number)
+        (eventsOf (framesOf (now (frames .entry)))) (now (state .entry))
+        (frameAt (framesOf (now (frames .entry))) 0 .c) ⌝ }
+{
+    let events = event_count(frames);
+    let mut e: u8 = 0;
+    while e < events {
+        clear_event(frames, state, q, e);
+        e += 1;
+    }
+}
