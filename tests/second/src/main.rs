@@ -11,10 +11,10 @@ use std::process::ExitCode;
 use std::time::{Duration, Instant};
 
 use second::generate::{self, Case};
-use second::listing::{self, Reading};
+use second::listing;
 use second::property;
 use second::tally::Tally;
-use second::text::{self, CHOICES_LIMIT, PROGRAM_LIMIT};
+use second::text::{CHOICES_LIMIT, PROGRAM_LIMIT};
 
 const USAGE: &str = "usage: second check FOLDER
        second run FOLDER
@@ -104,12 +104,9 @@ fn test_self(seconds: &str, seed: &str) -> Outcome {
 }
 
 fn keeps_property(case: &Case) -> Result<(), String> {
-    let Reading::Readable(program, verdict) = Reading::new(&case.program) else {
-        return Ok(());
-    };
-    match text::choices(&case.choices) {
-        Ok(choices) if verdict.number == 0 => {
-            property::examine(&program, listing::used(&program, &choices))
+    match case.readable() {
+        Some(readable) if readable.verdict.number == 0 => {
+            property::examine(&readable.program, &readable.choices)
                 .map_err(|violation| format!("{violation:?}"))
         }
         _ => Ok(()),

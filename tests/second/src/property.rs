@@ -108,9 +108,7 @@ fn reached(state: &State, value: Value) -> impl Iterator<Item = &Cell> {
 mod tests {
     use super::*;
     use crate::generate;
-    use crate::listing;
     use crate::rules::{self, Rule, Without};
-    use crate::text;
     use crate::verdict::Verdict;
 
     const SEED: u64 = 20070101;
@@ -123,17 +121,14 @@ mod tests {
     ) -> (Option<(u64, Violation)>, u64) {
         let mut accepted = 0;
         for index in 0..cases {
-            let case = generate::case(SEED, index);
-            let readable = text::frames(&case.program).and_then(Program::new);
-            let (Ok(program), Ok(choices)) = (readable, text::choices(&case.choices)) else {
+            let Some(case) = generate::case(SEED, index).readable() else {
                 continue;
             };
-            if check(&program) != Verdict::ACCEPTED {
+            if check(&case.program) != Verdict::ACCEPTED {
                 continue;
             }
             accepted += 1;
-            let used = listing::used(&program, &choices);
-            if let Err(violation) = examine(&program, used) {
+            if let Err(violation) = examine(&case.program, &case.choices) {
                 return (Some((index, violation)), accepted);
             }
         }

@@ -12,8 +12,8 @@ use crate::place::{HOME, PRIVATE};
 use crate::types::Type;
 use crate::verdict::Verdict;
 
-/// A rule that tests leave out of the check, to see that the property which
-/// rests on it then fails.
+/// A rule that the generator breaks now and then, and that tests leave out of
+/// the check, to see that the property which rests on it then fails.
 #[derive(Clone, Copy, PartialEq, Eq, Debug)]
 pub(crate) enum Rule {
     /// A start adds the started module's effect on cells.

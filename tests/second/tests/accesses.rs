@@ -2,116 +2,33 @@
 //! counts 0. Cases by hand, then generated runs against the list of accesses
 //! that the paper's words give when taken literally.
 
+mod acting;
+mod trees;
+
+use acting::acting;
 use second::evaluate::{Access, Actor, EventUse, Observer};
 use second::frame::kind;
-use second::generate;
 use second::layout::{Program, DEPTH};
-use second::listing::{self, Reading};
-use second::place::{of_thread, thread_of, HOME, PRIVATE};
+use second::listing;
+use second::place::{of_thread, HOME, PRIVATE};
 use second::state::{Cell, Item, State, Value};
 use second::text::{self, PROGRAM_LINES};
+use trees::*;
 
-/// A frame with its children; a number's value stands in `data`.
-#[derive(Clone)]
-struct Node {
-    kind: u8,
-    s: u8,
-    data: u16,
-    children: Vec<Node>,
-}
-
-fn node(kind: u8, s: u8, children: &[Node]) -> Node {
-    Node {
-        kind,
-        s,
-        data: 0,
-        children: children.to_vec(),
-    }
-}
-
-fn number(data: u16) -> Node {
-    Node {
-        data,
-        ..node(kind::NUMBER, 0, &[])
-    }
-}
-
-fn truth(s: u8) -> Node {
-    node(kind::TRUTH, s, &[])
-}
-
-fn variable(s: u8) -> Node {
-    node(kind::VARIABLE, s, &[])
-}
-
-fn shared(s: u8) -> Node {
-    node(kind::SHARED, s, &[])
-}
-
-fn new(owner: u8, content: Node) -> Node {
-    node(kind::NEW_CELL, owner, &[content])
-}
-
-fn content(cell: Node) -> Node {
-    node(kind::CONTENT, 0, &[cell])
-}
-
-fn sum(a: Node, b: Node) -> Node {
-    node(kind::SUM, 0, &[a, b])
-}
-
-fn less(a: Node, b: Node) -> Node {
-    node(kind::LESS, 0, &[a, b])
-}
-
-fn choose(a: Node, b: Node, c: Node) -> Node {
-    node(kind::CHOOSE, 0, &[a, b, c])
-}
-
-fn nothing() -> Node {
-    node(kind::NOTHING, 0, &[])
-}
-
-fn cooperate() -> Node {
-    node(kind::COOPERATE, 0, &[])
-}
-
-fn row(a: Node, b: Node) -> Node {
-    node(kind::SEQUENCE, 0, &[a, b])
-}
-
-fn at(place: u8, body: Node) -> Node {
-    node(kind::AT_PLACE, place, &[body])
-}
-
-fn let_(value: Node, body: Node) -> Node {
-    node(kind::LET, 0, &[value, body])
-}
-
-fn store(cell: Node, value: Node) -> Node {
-    node(kind::STORE, 0, &[cell, value])
-}
-
-/// Adds the frames, children first; hands back the last one's number.
-fn add(lines: &mut Vec<String>, node: &Node) -> usize {
-    let mut fields = [usize::from(node.data), 0, 0];
-    for (field, child) in fields.iter_mut().zip(&node.children) {
-        *field = add(lines, child);
-    }
-    let [a, b, c] = fields;
-    let (kind, s) = (node.kind, node.s);
-    lines.push(format!("{kind:02X}{s:02X}{a:04X}{b:04X}{c:04X}"));
-    lines.len() - 1
-}
+/// The type of a number.
+const NUMBER: u16 = 0x0001;
 
 /// The shared cells of the cases: one of home with the number 7, one around
 /// it, one around that one, and one of scheduler 3.
-const SHARED: [&str; 4] = [
-    "0102000100070000",
-    "0102002100000000",
-    "0102022100010000",
-    "0103000100000000",
-];
+fn shared_cells() -> Vec<Node> {
+    vec![
+        shared_cell(HOME, 0x0001, 7),
+        shared_cell(HOME, 0x0021, 0),
+        shared_cell(HOME, 0x0221, 1),
+        shared_cell(HOME + 1, 0x0001, 0),
+    ]
+}
+
 /// The last three by their numbers.
 const AROUND: u8 = 1;
 const AROUND_BOTH: u8 = 2;
@@ -120,27 +37,22 @@ const FOREIGN: u8 = 3;
 /// A file with two schedulers, these shared cells, and a module of one and one
 /// of two parameters, which do nothing, before `main`.
 fn file(body: &Node) -> Vec<u8> {
-    let mut lines = vec!["0001000000020000".to_string()];
-    lines.extend(SHARED.map(String::from));
-    for (count, types) in [("01", "00010000"), ("02", "00010001")] {
-        let body = add(&mut lines, &nothing());
-        lines.push(format!("02{count}{body:04X}{types}"));
-    }
-    let body = add(&mut lines, body);
-    lines.push(format!("0200{body:04X}00000000"));
-    (lines.join("\n") + "\n").into_bytes()
-}
-
-fn readable(text: &[u8]) -> Program {
-    match Reading::new(text) {
-        Reading::Readable(program, _) => program,
-        Reading::Unreadable(verdict) => panic!("{verdict:?}"),
-    }
+    let file = File {
+        schedulers: 2,
+        cells: shared_cells(),
+        events: Vec::new(),
+        modules: vec![
+            module(&[NUMBER], nothing()),
+            module(&[NUMBER; 2], nothing()),
+            module(&[], body.clone()),
+        ],
+    };
+    file.text()
 }
 
 /// Answers and counts of `main`, chosen so often at home.
 fn counts(body: &Node, choices: usize) -> Vec<(u8, u16)> {
-    let program = readable(&file(body));
+    let (program, _) = readable(&file(body));
     let mut state = State::new(&program);
     let step = |_| {
         let outcome = state.step(&program, HOME, &mut ());
@@ -218,7 +130,7 @@ fn unchosen_parts() {
 #[test]
 fn each_statement_without_expressions() {
     // The row, nothing, the do, nothing, back, the end.
-    let body = row(nothing(), at(HOME, nothing()));
+    let body = row(&[nothing(), at(HOME, nothing())]);
     assert_eq!(
         counts(&body, 7),
         [[(0, 0); 6].as_slice(), &[(16, 0)]].concat()
@@ -235,7 +147,7 @@ fn let_and_drop() {
     let body = let_(new(PRIVATE, read()), nothing());
     let expected = [(0, 2), (0, 0), (0, 0), (0, 0), (16, 0)];
     assert_eq!(counts(&body, 5), expected);
-    let program = readable(&file(&body));
+    let (program, _) = readable(&file(&body));
     let mut state = State::new(&program);
     for party in [0, of_thread(1)] {
         let outcome = state.step(&program, party, &mut ());
@@ -315,7 +227,7 @@ fn a_refused_choice_counts_0() {
 /// are spent; 4 cells are shared and one thread is `main`.
 #[test]
 fn spent_after_accesses_counts_0() {
-    let forever = |body| node(kind::WHILE, 0, &[truth(1), row(body, cooperate())]);
+    let forever = |body| forever(row(&[body, cooperate()]));
     let created = sum(read(), content(new(PRIVATE, number(1))));
     let cells = counts(&forever(let_(created, nothing())), 3000);
     let threads = forever(node(kind::START, 0, &[sum(read(), read())]));
@@ -336,7 +248,7 @@ fn spent_after_accesses_counts_0() {
 #[test]
 fn an_unlinked_thread() {
     let body = at(PRIVATE, let_(content(new(PRIVATE, number(1))), nothing()));
-    let program = readable(&file(&body));
+    let (program, _) = readable(&file(&body));
     let mut state = State::new(&program);
     let mut step = |party| {
         let outcome = state.step(&program, party, &mut ());
@@ -385,16 +297,17 @@ fn full_sum(leaves: usize, depth: usize, fewer: usize) -> Node {
 /// A module with one parameter whose body is the step, then `main`, which
 /// starts it with some cells around a number.
 fn greatest(nested: usize) -> Vec<u8> {
-    let mut lines = vec!["0001000000010000".to_string()];
-    lines.push("0102000100000000".to_string());
     let [cell, value] = LEAVES;
     let body = store(new(PRIVATE, full_sum(cell, 3, 0)), full_sum(value, 2, 6));
-    let body = add(&mut lines, &body);
-    lines.push(format!("0201{body:04X}00010000"));
     let argument = (0..nested).fold(number(1), |content, _| new(HOME, content));
-    let start = add(&mut lines, &node(kind::START, 0, &[argument]));
-    lines.push(format!("0200{start:04X}00000000"));
-    (lines.join("\n") + "\n").into_bytes()
+    let start = node(kind::START, 0, &[argument]);
+    let file = File {
+        schedulers: 1,
+        cells: vec![number_cell(HOME)],
+        events: Vec::new(),
+        modules: vec![module(&[NUMBER], body), module(&[], start)],
+    };
+    file.text()
 }
 
 /// 900 accesses in one step of a file of 1,024 frames; README says why none
@@ -526,14 +439,6 @@ fn as_number(value: Value) -> u32 {
     }
 }
 
-/// The thread that acts under this choice, if one does.
-fn acting(state: &State, party: u8) -> Option<u8> {
-    match state.scheduler_index(party) {
-        Some(index) => state.schedulers[index].active.front().copied(),
-        None => thread_of(party).filter(|&thread| usize::from(thread) <= state.threads.len()),
-    }
-}
-
 /// Counts of one or several runs.
 #[derive(Default, Debug)]
 struct Totals {
@@ -593,13 +498,8 @@ fn list(program: &Program, state: &State, thread: u8) -> Vec<Touch> {
 fn generated_runs_follow_the_papers_words() {
     const SEED: u64 = 4;
     let mut totals = Totals::default();
-    for index in 0..20_000 {
-        let case = generate::case(SEED, index);
-        let readable = Reading::new(&case.program);
-        let choices = text::choices(&case.choices);
-        if let (Reading::Readable(program, _), Ok(choices)) = (readable, choices) {
-            totals.add(&program, listing::used(&program, &choices));
-        }
+    for case in second::generate::readable(SEED, 0..20_000) {
+        totals.add(&case.program, &case.choices);
     }
     println!("{totals:?}");
     assert!(totals.accesses > 100_000, "{totals:?}");

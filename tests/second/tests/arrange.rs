@@ -373,7 +373,7 @@ fn first_tangled(frames: &[Frame]) -> Option<usize> {
 }
 
 fn first_misfit(frames: &[Frame]) -> Option<usize> {
-    let statement = |f: usize| matches!(frames[f].kind, 0x10..=0x19 | 0x1A | 0x1B);
+    let statement = |f: usize| matches!(frames[f].kind, 0x10..=0x1B);
     let expression = |f: usize| (0x20..=0x28).contains(&frames[f].kind);
     let used = |f: usize| frames.iter().flat_map(children).any(|child| child == f);
     let last_module = of_kind(frames, kind::MODULE).last();

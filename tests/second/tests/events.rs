@@ -2,16 +2,18 @@
 //! read has a case by hand; then generated runs against the paper's words taken
 //! literally.
 
+mod acting;
 mod literal_events;
+mod trees;
+
+use std::slice::from_ref;
 
 use literal_events::Uses;
-use second::generate;
-use second::layout::Program;
 use second::listing::{self, Reading};
 use second::place::{of_thread, HOME, PRIVATE};
-use second::state::{Entry, Item, State, Until};
+use second::state::{Entry, Item, Until};
 use second::text;
-use Statement::*;
+use trees::*;
 
 // Texts line by line, for the layout.
 
@@ -40,7 +42,7 @@ fn main_after(frames: usize) -> [String; 2] {
     ]
 }
 
-/// These declarations and a smallest `main`.
+/// These frames, most often declarations, and a smallest `main`.
 fn declared(events: u16, frames: &[&str]) -> String {
     let main = main_after(frames.len());
     let main = main.each_ref().map(String::as_str);
@@ -133,32 +135,14 @@ fn a_misplaced_declaration_names_itself() {
     // Behind a statement that is used, and behind a module.
     let behind_statement = [NOTHING, EVENT, "0200000100000000"];
     assert_eq!(check_with(1, &behind_statement), "06 0002\n");
-    let behind_module = [
-        NOTHING,
-        "0200000100000000",
-        EVENT,
-        NOTHING,
-        "0200000400000000",
-    ];
-    assert_eq!(check_with(1, &behind_module), "06 0003\n");
-    let cell_behind_module = [
-        NOTHING,
-        "0200000100000000",
-        CELL,
-        NOTHING,
-        "0200000400000000",
-    ];
-    assert_eq!(check_with(0, &cell_behind_module), "06 0003\n");
+    let behind_module = |events, declarations: &[&str]| {
+        let module = [NOTHING, "0200000100000000"];
+        declared(events, &[&module, declarations].concat())
+    };
+    assert_eq!(behind_module(1, &[EVENT]), "06 0003\n");
+    assert_eq!(behind_module(0, &[CELL]), "06 0003\n");
     // The first of several.
-    let several = [
-        NOTHING,
-        "0200000100000000",
-        EVENT,
-        CELL,
-        NOTHING,
-        "0200000500000000",
-    ];
-    assert_eq!(check_with(1, &several), "06 0003\n");
+    assert_eq!(behind_module(1, &[EVENT, CELL]), "06 0003\n");
     assert_eq!(declared(2, &[EVENT, CELL, CELL, EVENT]), "06 0002\n");
     // The last frame.
     assert_eq!(
@@ -219,121 +203,9 @@ fn uses_have_a_depth() {
     }
 }
 
-// Files from statements, for the rules and for running.
-
-/// What these cases need of the statements; modules take no arguments.
-#[derive(Clone)]
-enum Statement {
-    Nothing,
-    Cooperate,
-    Generate(u8),
-    Await(u8),
-    Start(u8),
-    StartAndWait(u8),
-    At(u8, Box<Statement>),
-    Row(Vec<Statement>),
-    Forever(Box<Statement>),
-    /// One of two; the condition is true.
-    Either(Box<[Statement; 2]>),
-    /// Stores in a shared cell, which holds a number.
-    Store(u8),
-}
-
-fn at(place: u8, statement: Statement) -> Statement {
-    At(place, Box::new(statement))
-}
-
-fn forever(body: Statement) -> Statement {
-    Forever(Box::new(body))
-}
-
-fn row(statements: &[Statement]) -> Statement {
-    Row(statements.to_vec())
-}
-
-const CONDITION: &str = "2101000000000000";
-
-/// Adds the statement's frames, children first; hands back its number.
-fn add(lines: &mut Vec<String>, statement: &Statement) -> usize {
-    let leaf = |kind: &str, s: u8| format!("{kind}{s:02X}000000000000");
-    let line = match statement {
-        Nothing => leaf("10", 0),
-        Cooperate => leaf("15", 0),
-        Generate(event) => leaf("1A", *event),
-        Await(event) => leaf("1B", *event),
-        Start(module) => leaf("13", *module),
-        StartAndWait(module) => leaf("14", *module),
-        At(place, body) => format!("12{place:02X}{:04X}00000000", add(lines, body)),
-        Row(row) => {
-            let (last, before) = row.split_last().expect("a row of statements");
-            if before.is_empty() {
-                return add(lines, last);
-            }
-            let before = add(lines, &Row(before.to_vec()));
-            format!("1100{before:04X}{:04X}0000", add(lines, last))
-        }
-        Forever(body) => {
-            lines.push(CONDITION.to_string());
-            let condition = lines.len() - 1;
-            format!("1900{condition:04X}{:04X}0000", add(lines, body))
-        }
-        Either(branches) => {
-            lines.push(CONDITION.to_string());
-            let condition = lines.len() - 1;
-            let [b, c] = [&branches[0], &branches[1]].map(|branch| add(lines, branch));
-            format!("1800{condition:04X}{b:04X}{c:04X}")
-        }
-        Store(cell) => {
-            lines.push(leaf("23", *cell));
-            lines.push("2000000700000000".to_string());
-            format!("1700{:04X}{:04X}0000", lines.len() - 2, lines.len() - 1)
-        }
-    };
-    lines.push(line);
-    lines.len() - 1
-}
-
-/// Declarations and modules, `main` last.
-#[derive(Clone, Default)]
-struct File {
-    schedulers: u8,
-    /// Owners of the shared cells, which hold numbers.
-    cells: Vec<u8>,
-    /// Owners of the events.
-    events: Vec<u8>,
-    modules: Vec<Statement>,
-}
-
-fn file(schedulers: u8, events: &[u8], modules: &[Statement]) -> File {
-    File {
-        schedulers,
-        cells: Vec::new(),
-        events: events.to_vec(),
-        modules: modules.to_vec(),
-    }
-}
+// Files from trees, for the rules and for running.
 
 impl File {
-    fn text(&self) -> Vec<u8> {
-        let (schedulers, events) = (self.schedulers, self.events.len());
-        let mut lines = vec![format!("00010000{schedulers:04X}{events:04X}")];
-        lines.extend(
-            self.cells
-                .iter()
-                .map(|owner| format!("01{owner:02X}000100000000")),
-        );
-        lines.extend(
-            self.events
-                .iter()
-                .map(|owner| format!("03{owner:02X}000000000000")),
-        );
-        for body in &self.modules {
-            let body = add(&mut lines, body);
-            lines.push(format!("0200{body:04X}00000000"));
-        }
-        (lines.join("\n") + "\n").into_bytes()
-    }
-
     /// What the check says: the number and the kind of the frame.
     fn verdict(&self) -> (u8, u8) {
         let text = self.text();
@@ -344,15 +216,20 @@ impl File {
 }
 
 /// The verdict on a `main` of two schedulers.
-fn verdict(events: &[u8], main: &Statement) -> (u8, u8) {
-    file(2, events, &[main.clone()]).verdict()
+fn verdict(events: &[u8], main: &Node) -> (u8, u8) {
+    file(2, events, from_ref(main)).verdict()
 }
 
 const FINE: (u8, u8) = (0, 0);
 
+/// In shared cell 0, which holds a number.
+fn stores() -> Node {
+    store(shared(0), number(7))
+}
+
 #[test]
 fn a_missing_event_is_8() {
-    for (event_use, kind) in [(Generate as fn(u8) -> Statement, 0x1A), (Await, 0x1B)] {
+    for (event_use, kind) in [(generate as fn(u8) -> Node, 0x1A), (await_event, 0x1B)] {
         assert_eq!(verdict(&[2, 2], &event_use(1)), FINE);
         assert_eq!(verdict(&[2, 2], &event_use(2)), (8, kind));
         assert_eq!(verdict(&[], &event_use(0)), (8, kind));
@@ -364,65 +241,68 @@ fn a_missing_event_is_8() {
 /// Shared cells do not shift them.
 #[test]
 fn events_count_from_0() {
-    let mut file = file(2, &[3, 2], &[Generate(1)]);
-    file.cells = vec![3, 3];
+    let mut file = file(2, &[3, 2], &[generate(1)]);
+    file.cells = vec![number_cell(3); 2];
     assert_eq!(file.verdict(), FINE);
-    file.modules = vec![Generate(0)];
+    file.modules = vec![module(&[], generate(0))];
     assert_eq!(file.verdict(), (11, 0x02));
 }
 
 #[test]
 fn both_have_the_owner_as_effect() {
-    for event_use in [Generate as fn(u8) -> Statement, Await] {
+    for event_use in [generate as fn(u8) -> Node, await_event] {
         assert_eq!(verdict(&[2], &event_use(0)), FINE);
         assert_eq!(verdict(&[3], &event_use(0)), (11, 0x02));
         assert_eq!(verdict(&[3], &at(3, event_use(0))), FINE);
         assert_eq!(verdict(&[2], &at(3, event_use(0))), (11, 0x12));
         // In a row, in a loop, in a branch.
-        let in_row = row(&[Nothing, event_use(0)]);
+        let in_row = row(&[nothing(), event_use(0)]);
         assert_eq!(verdict(&[2], &at(3, in_row)), (11, 0x12));
-        let in_loop = forever(row(&[event_use(0), Cooperate]));
+        let in_loop = forever(row(&[event_use(0), cooperate()]));
         assert_eq!(verdict(&[2], &at(3, in_loop)), (11, 0x12));
-        let in_branch = Either(Box::new([Nothing, event_use(0)]));
+        let in_branch = either(nothing(), event_use(0));
         assert_eq!(verdict(&[2], &at(3, in_branch)), (11, 0x12));
     }
 }
 
 #[test]
 fn starts_pass_the_effect_on() {
-    for event_use in [Generate(0), Await(0)] {
-        for start in [Start(0), StartAndWait(0)] {
+    for event_use in [generate(0), await_event(0)] {
+        for by in [start(0), wait_for(0)] {
             let started = |place| {
-                let main = at(place, start.clone());
+                let main = at(place, by.clone());
                 file(2, &[2], &[event_use.clone(), main]).verdict()
             };
             assert_eq!(started(2), FINE);
             assert_eq!(started(3), (11, 0x12));
-            let through = [event_use.clone(), start.clone(), at(3, Start(1))];
+            let through = [event_use.clone(), by.clone(), at(3, start(1))];
             assert_eq!(file(2, &[2], &through).verdict(), (11, 0x12));
-            let by_main = [event_use.clone(), start.clone()];
+            let by_main = [event_use.clone(), by.clone()];
             assert_eq!(file(2, &[3], &by_main).verdict(), (11, 0x02));
         }
         // A module that nobody starts is free.
-        assert_eq!(file(2, &[3], &[event_use.clone(), Nothing]).verdict(), FINE);
+        assert_eq!(
+            file(2, &[3], &[event_use.clone(), nothing()]).verdict(),
+            FINE
+        );
     }
 }
 
 #[test]
 fn a_12_has_no_effect() {
-    for event_use in [Generate(0), Await(0)] {
+    for event_use in [generate(0), await_event(0)] {
         let there = at(3, event_use);
         assert_eq!(verdict(&[3], &there), FINE);
         assert_eq!(verdict(&[3], &at(2, there.clone())), FINE);
         assert_eq!(verdict(&[3], &at(PRIVATE, there.clone())), FINE);
-        assert_eq!(file(2, &[3], &[there, Start(0)]).verdict(), FINE);
+        assert_eq!(file(2, &[3], &[there, start(0)]).verdict(), FINE);
     }
 }
 
 /// 11 at the 12, and not 12; a scheduler inside makes it fine.
 #[test]
 fn while_unlinked_it_is_11_at_the_12() {
-    for event_use in [Generate(0), Await(0)] {
+    for event_use in [generate(0), await_event(0)] {
         let unlinked = at(PRIVATE, event_use.clone());
         assert_eq!(verdict(&[2], &unlinked), (11, 0x12));
         // The inner 12 breaks two rules; 11 is the smaller number.
@@ -435,13 +315,13 @@ fn while_unlinked_it_is_11_at_the_12() {
 /// The cells' effect and the events' are tested each.
 #[test]
 fn cells_and_events_are_both_tested() {
-    let with = |cell: u8, event: u8, main: Statement| {
+    let with = |cell: u8, event: u8, main: Node| {
         let mut file = file(2, &[event], &[main]);
-        file.cells = vec![cell];
+        file.cells = vec![number_cell(cell)];
         file.verdict()
     };
-    for event_use in [Generate(0), Await(0)] {
-        let both = row(&[Store(0), event_use]);
+    for event_use in [generate(0), await_event(0)] {
+        let both = row(&[stores(), event_use]);
         assert_eq!(with(3, 3, at(3, both.clone())), FINE);
         assert_eq!(with(2, 3, at(3, both.clone())), (11, 0x12));
         assert_eq!(with(3, 2, at(3, both.clone())), (11, 0x12));
@@ -453,46 +333,19 @@ fn cells_and_events_are_both_tested() {
 
 #[test]
 fn both_can_end_at_once() {
-    for event_use in [Generate(0), Await(0)] {
+    for event_use in [generate(0), await_event(0)] {
         assert_eq!(verdict(&[2], &forever(event_use.clone())), (13, 0x19));
-        let with_cooperate = forever(row(&[event_use.clone(), Cooperate]));
+        let with_cooperate = forever(row(&[event_use.clone(), cooperate()]));
         assert_eq!(verdict(&[2], &with_cooperate), FINE);
-        let with_nothing = forever(row(&[event_use.clone(), Nothing]));
+        let with_nothing = forever(row(&[event_use.clone(), nothing()]));
         assert_eq!(verdict(&[2], &with_nothing), (13, 0x19));
-        let in_a_branch = forever(Either(Box::new([event_use.clone(), Cooperate])));
+        let in_a_branch = forever(either(event_use.clone(), cooperate()));
         assert_eq!(verdict(&[2], &in_a_branch), (13, 0x19));
         assert_eq!(verdict(&[2], &forever(at(2, event_use))), (13, 0x19));
     }
 }
 
-/// A run, choice by choice.
-struct Run {
-    program: Program,
-    state: State,
-}
-
 impl Run {
-    /// Of a file that the check says this of.
-    fn of(file: &File, number: u8) -> Run {
-        let Reading::Readable(program, verdict) = Reading::new(&file.text()) else {
-            panic!("unreadable");
-        };
-        assert_eq!(verdict.number, number);
-        let state = State::new(&program);
-        Run { program, state }
-    }
-
-    fn new(schedulers: u8, events: &[u8], modules: &[Statement]) -> Run {
-        Run::of(&file(schedulers, events, modules), 0)
-    }
-
-    /// The answer and the acting thread, 0 if none; no access is counted.
-    fn choose(&mut self, party: u8) -> (u8, u8) {
-        let outcome = self.state.step(&self.program, party, &mut ());
-        assert_eq!(outcome.accesses, 0);
-        (outcome.answer, outcome.thread)
-    }
-
     /// Under choices of this party these threads act, 0 for an instant's end.
     fn acts(&mut self, party: u8, threads: &[u8]) {
         for (at, &thread) in threads.iter().enumerate() {
@@ -535,6 +388,18 @@ impl Run {
             _ => false,
         }
     }
+
+    /// Thread 2 has the await on top, but came to the next list without it: a
+    /// generation by this thread, which ends then, does not move it. It awaits
+    /// in the next instant.
+    fn generates_without_2(&mut self, generator: u8) {
+        assert!(self.is_at(2, 0x1B));
+        self.acts(2, &[generator]);
+        assert_eq!(self.active(2), [generator]);
+        assert_eq!(self.next(2), [ready(2)]);
+        self.acts(2, &[generator, 0, 2]);
+        assert_eq!(self.next(2), [awaiting(2, 0)]);
+    }
 }
 
 fn ready(thread: u8) -> Entry {
@@ -549,7 +414,7 @@ fn awaiting(thread: u8, event: u8) -> Entry {
 
 #[test]
 fn awaiting_a_present_event_passes_on_in_that_step() {
-    let mut run = Run::new(1, &[2], &[row(&[Generate(0), Await(0), Nothing])]);
+    let mut run = Run::new(1, &[2], &[row(&[generate(0), await_event(0), nothing()])]);
     run.acts(2, &[1, 1]); // the rows
     assert_eq!((run.items(1), &run.state.present), (3, &vec![false]));
     run.acts(2, &[1]); // generates
@@ -564,7 +429,11 @@ fn awaiting_a_present_event_passes_on_in_that_step() {
 /// thread is behind those that are on the next list already.
 #[test]
 fn awaiting_an_absent_event_goes_to_the_end_of_the_next_list() {
-    let mut run = Run::new(1, &[2], &[Nothing, row(&[Start(0), Start(0), Await(0)])]);
+    let mut run = Run::new(
+        1,
+        &[2],
+        &[nothing(), row(&[start(0), start(0), await_event(0)])],
+    );
     run.acts(2, &[1, 1, 1, 1]);
     assert_eq!((run.items(1), run.active(2)), (1, vec![1]));
     run.acts(2, &[1]);
@@ -576,7 +445,10 @@ fn awaiting_an_absent_event_goes_to_the_end_of_the_next_list() {
 /// It counts as ready, becomes active in its turn and takes the statement anew.
 #[test]
 fn it_tries_again_when_it_is_active() {
-    let modules = [row(&[Cooperate, Cooperate]), row(&[Start(0), Await(0)])];
+    let modules = [
+        row(&[cooperate(), cooperate()]),
+        row(&[start(0), await_event(0)]),
+    ];
     let mut run = Run::new(1, &[2], &modules);
     run.acts(2, &[1, 1, 1, 0]);
     assert_eq!((run.active(2), run.next(2)), (vec![2, 1], vec![]));
@@ -587,7 +459,11 @@ fn it_tries_again_when_it_is_active() {
 
 #[test]
 fn a_scheduler_with_only_awaiters_never_answers_16() {
-    let mut run = Run::new(1, &[2, 2], &[Await(1), row(&[Start(0), Await(0)])]);
+    let mut run = Run::new(
+        1,
+        &[2, 2],
+        &[await_event(1), row(&[start(0), await_event(0)])],
+    );
     run.acts(2, &[1, 1, 1]);
     for _ in 0..500 {
         run.acts(2, &[0, 2, 1]);
@@ -600,17 +476,17 @@ fn a_scheduler_with_only_awaiters_never_answers_16() {
 #[test]
 fn a_generation_moves_awaiters_to_the_end_of_the_active_list() {
     let modules = [
-        Await(0),
-        row(&[Nothing, Nothing]),
+        await_event(0),
+        row(&[nothing(), nothing()]),
         row(&[
-            Start(0),
-            Start(0),
-            Start(0),
-            Cooperate,
-            Start(1),
-            Cooperate,
-            Generate(0),
-            Nothing,
+            start(0),
+            start(0),
+            start(0),
+            cooperate(),
+            start(1),
+            cooperate(),
+            generate(0),
+            nothing(),
         ]),
     ];
     let mut run = Run::new(1, &[2], &modules);
@@ -640,8 +516,13 @@ fn a_generation_moves_awaiters_to_the_end_of_the_active_list() {
 /// Behind threads that are active too, not before them.
 #[test]
 fn awaiters_come_behind_those_that_are_active() {
-    let main = row(&[Start(0), Start(1), Start(2), Start(2)]);
-    let modules = [Await(0), Generate(0), row(&[Nothing, Nothing]), main];
+    let main = row(&[start(0), start(1), start(2), start(2)]);
+    let modules = [
+        await_event(0),
+        generate(0),
+        row(&[nothing(), nothing()]),
+        main,
+    ];
     let mut run = Run::new(1, &[2], &modules);
     run.acts(2, &[1; 8]);
     run.acts(2, &[0, 2]);
@@ -658,9 +539,9 @@ fn awaiters_come_behind_those_that_are_active() {
 /// Awaiters of one event among those of another: only they move, in list order.
 #[test]
 fn a_generation_moves_the_awaiters_of_its_event_alone() {
-    let starts = [0, 1, 0, 2, 1, 0].map(Start);
-    let main = row(&[row(&starts), Cooperate, Generate(0), Generate(2)]);
-    let modules = [Await(0), Await(1), Await(2), main];
+    let starts = [0, 1, 0, 2, 1, 0].map(start);
+    let main = row(&[row(&starts), cooperate(), generate(0), generate(2)]);
+    let modules = [await_event(0), await_event(1), await_event(2), main];
     let mut run = Run::new(1, &[2, 2, 2], &modules);
     run.acts(2, &[1; 3 + 5 + 6 + 1]);
     run.acts(2, &[0, 2, 3, 4, 5, 6, 7]);
@@ -687,10 +568,10 @@ fn a_generation_moves_the_awaiters_of_its_event_alone() {
 #[test]
 fn a_chain_of_signals_in_one_instant() {
     let modules = [
-        row(&[Await(0), Generate(1)]),
-        row(&[Await(1), Generate(2)]),
-        Await(2),
-        row(&[Start(0), Start(1), Start(2), Cooperate, Generate(0)]),
+        row(&[await_event(0), generate(1)]),
+        row(&[await_event(1), generate(2)]),
+        await_event(2),
+        row(&[start(0), start(1), start(2), cooperate(), generate(0)]),
     ];
     let mut run = Run::new(1, &[2, 2, 2], &modules);
     run.acts(2, &[1; 8]);
@@ -703,11 +584,11 @@ fn a_chain_of_signals_in_one_instant() {
 /// All 63 others await; one generation, all in order.
 #[test]
 fn one_generation_moves_63_awaiters() {
-    let mut starts = vec![Start(0); 7];
-    starts.extend([Cooperate, Generate(0)]);
-    let group = vec![Row(vec![Start(0); 7]); 8];
-    let main = Row([group, starts].concat());
-    let mut run = Run::new(1, &[2], &[Await(0), main]);
+    let mut starts = vec![start(0); 7];
+    starts.extend([cooperate(), generate(0)]);
+    let group = vec![row(&vec![start(0); 7]); 8];
+    let main = row(&[group, starts].concat());
+    let mut run = Run::new(1, &[2], &[await_event(0), main]);
     while run.next(2).len() < 64 {
         assert_eq!(run.choose(2), (0, 1));
     }
@@ -727,7 +608,7 @@ fn one_generation_moves_63_awaiters() {
 
 #[test]
 fn an_event_is_present_to_the_end_of_its_schedulers_instant() {
-    let main = row(&[Generate(0), Await(0), Cooperate, Await(0)]);
+    let main = row(&[generate(0), await_event(0), cooperate(), await_event(0)]);
     let mut run = Run::new(1, &[2], &[main]);
     run.acts(2, &[1, 1, 1, 1, 1, 1]);
     assert_eq!(run.state.present, [true]);
@@ -741,8 +622,8 @@ fn an_event_is_present_to_the_end_of_its_schedulers_instant() {
 /// there.
 #[test]
 fn only_the_owners_instant_ends_its_presence() {
-    let there = row(&[Generate(1), Cooperate, Await(1)]);
-    let main = row(&[Start(0), Generate(0), Cooperate, Nothing]);
+    let there = row(&[generate(1), cooperate(), await_event(1)]);
+    let main = row(&[start(0), generate(0), cooperate(), nothing()]);
     let mut run = Run::new(2, &[2, 3], &[at(3, there), main]);
     run.acts(2, &[1, 1, 1, 1, 1, 1]); // starts, generates, cooperates
     assert_eq!(run.state.present, [true, false]);
@@ -756,8 +637,8 @@ fn only_the_owners_instant_ends_its_presence() {
     run.acts(3, &[0]);
     assert_eq!(run.state.present, [false, false]);
     // Both present, then an instant's end at each.
-    let pair = |place, event| at(place, row(&[Generate(event), Cooperate]));
-    let mut run = Run::new(2, &[2, 3], &[pair(3, 1), row(&[Start(0), pair(2, 0)])]);
+    let pair = |place, event| at(place, row(&[generate(event), cooperate()]));
+    let mut run = Run::new(2, &[2, 3], &[pair(3, 1), row(&[start(0), pair(2, 0)])]);
     run.acts(2, &[1, 1, 1, 1, 1]); // the row, the start, the do, its row, generates
     run.acts(2, &[1]); // cooperates
     run.acts(2, &[0, 2]); // so event 0 is gone when 2 leaves
@@ -772,7 +653,7 @@ fn only_the_owners_instant_ends_its_presence() {
 /// instant does not end, nor does the presence.
 #[test]
 fn a_16_ends_no_presence() {
-    let visit = at(3, Generate(0));
+    let visit = at(3, generate(0));
     let mut run = Run::new(2, &[3], &[row(&[visit.clone(), visit])]);
     run.acts(2, &[1, 1]);
     run.acts(3, &[0, 1]);
@@ -791,15 +672,15 @@ fn a_16_ends_no_presence() {
 /// The same where a waiting thread is on the next list.
 #[test]
 fn a_16_with_a_waiting_thread_ends_no_presence() {
-    let modules = [at(PRIVATE, Nothing), row(&[Generate(0), StartAndWait(0)])];
+    let modules = [at(PRIVATE, nothing()), row(&[generate(0), wait_for(0)])];
     let mut run = Run::new(1, &[2], &modules);
     run.acts(2, &[1, 1, 1]);
     assert_eq!(run.state.present, [true]);
     run.acts(2, &[0]); // the started thread is ready
     assert_eq!(run.state.present, [false]);
     let again = [
-        at(PRIVATE, row(&[Nothing, at(2, Generate(0))])),
-        row(&[StartAndWait(0)]),
+        at(PRIVATE, row(&[nothing(), at(2, generate(0))])),
+        row(&[wait_for(0)]),
     ];
     let mut run = Run::new(1, &[2], &again);
     run.acts(2, &[1, 0, 2]);
@@ -813,7 +694,7 @@ fn a_16_with_a_waiting_thread_ends_no_presence() {
 
 #[test]
 fn generating_a_present_event_is_fine() {
-    let main = row(&[Generate(0), Generate(0), Await(0), Generate(0)]);
+    let main = row(&[generate(0), generate(0), await_event(0), generate(0)]);
     let mut run = Run::new(1, &[2], &[main]);
     run.acts(2, &[1; 3 + 4 + 1]);
     assert_eq!(run.state.present, [true]);
@@ -822,7 +703,7 @@ fn generating_a_present_event_is_fine() {
 
 #[test]
 fn generating_where_nobody_awaits() {
-    let main = row(&[Generate(0), Cooperate, Await(0)]);
+    let main = row(&[generate(0), cooperate(), await_event(0)]);
     let mut run = Run::new(1, &[2], &[main]);
     run.acts(2, &[1; 4]);
     assert_eq!((run.active(2), run.next(2)), (vec![], vec![ready(1)]));
@@ -833,20 +714,16 @@ fn generating_where_nobody_awaits() {
 /// A started thread whose first statement is the await has not awaited yet.
 #[test]
 fn a_thread_that_came_by_13_does_not_await() {
-    let mut run = Run::new(1, &[2], &[Await(0), row(&[Start(0), Generate(0)])]);
+    let mut run = Run::new(1, &[2], &[await_event(0), row(&[start(0), generate(0)])]);
     run.acts(2, &[1, 1]);
-    assert!(run.is_at(2, 0x1B));
-    run.acts(2, &[1]);
-    assert_eq!((run.active(2), run.next(2)), (vec![1], vec![ready(2)]));
-    run.acts(2, &[1, 0, 2]);
-    assert_eq!(run.next(2), [awaiting(2, 0)]);
+    run.generates_without_2(1);
 }
 
 /// By 14 the same, and the starter, which waits with an await on top.
 #[test]
 fn a_thread_that_waits_does_not_await() {
-    let main = row(&[StartAndWait(0), Await(0)]);
-    let modules = [row(&[Generate(0), Cooperate]), main];
+    let main = row(&[wait_for(0), await_event(0)]);
+    let modules = [row(&[generate(0), cooperate()]), main];
     let mut run = Run::new(1, &[2], &modules);
     run.acts(2, &[1, 1]);
     assert!(run.is_at(1, 0x1B));
@@ -861,36 +738,28 @@ fn a_thread_that_waits_does_not_await() {
 #[test]
 fn a_thread_that_came_by_15_does_not_await() {
     let modules = [
-        row(&[Cooperate, Await(0)]),
-        Generate(0),
-        row(&[Start(0), Start(1)]),
+        row(&[cooperate(), await_event(0)]),
+        generate(0),
+        row(&[start(0), start(1)]),
     ];
     let mut run = Run::new(1, &[2], &modules);
     run.acts(2, &[1, 1, 1, 1, 0, 2, 2]);
-    assert!(run.is_at(2, 0x1B));
-    run.acts(2, &[3]);
-    assert_eq!((run.active(2), run.next(2)), (vec![3], vec![ready(2)]));
-    run.acts(2, &[3, 0, 2]);
-    assert_eq!(run.next(2), [awaiting(2, 0)]);
+    run.generates_without_2(3);
 }
 
 /// From another scheduler, and from being unlinked.
 #[test]
 fn a_thread_that_came_by_a_move_does_not_await() {
     for place in [PRIVATE, 3] {
-        let mover = at(place, at(2, Await(0)));
-        let main = row(&[Start(0), Cooperate, Generate(0)]);
+        let mover = at(place, at(2, await_event(0)));
+        let main = row(&[start(0), cooperate(), generate(0)]);
         let mut run = Run::new(2, &[2], &[mover, main]);
         run.acts(2, &[1, 1, 1, 1, 0, 2]);
         match place {
             PRIVATE => run.acts(of_thread(2), &[2]),
             _ => run.acts(3, &[0, 2]),
         }
-        assert!(run.is_at(2, 0x1B));
-        run.acts(2, &[1]);
-        assert_eq!((run.active(2), run.next(2)), (vec![1], vec![ready(2)]));
-        run.acts(2, &[1, 0, 2]);
-        assert_eq!(run.next(2), [awaiting(2, 0)]);
+        run.generates_without_2(1);
     }
 }
 
@@ -898,8 +767,8 @@ fn a_thread_that_came_by_a_move_does_not_await() {
 /// passes on in its turn, ahead of those that are woken.
 #[test]
 fn a_thread_that_is_active_again_does_not_await() {
-    let main = row(&[Start(0), Cooperate, Cooperate, Generate(0)]);
-    let mut run = Run::new(1, &[2], &[Await(0), main]);
+    let main = row(&[start(0), cooperate(), cooperate(), generate(0)]);
+    let mut run = Run::new(1, &[2], &[await_event(0), main]);
     run.acts(2, &[1, 1, 1, 1, 1, 0, 2, 1]);
     assert_eq!(run.next(2), [awaiting(2, 0), ready(1)]);
     run.acts(2, &[0]);
@@ -914,8 +783,12 @@ fn a_thread_that_is_active_again_does_not_await() {
 /// A family ends only after the event: the wait goes on until then.
 #[test]
 fn a_wait_for_a_thread_that_awaits() {
-    let main = row(&[Start(1), StartAndWait(0)]);
-    let modules = [Await(0), row(&[Cooperate, Cooperate, Generate(0)]), main];
+    let main = row(&[start(1), wait_for(0)]);
+    let modules = [
+        await_event(0),
+        row(&[cooperate(), cooperate(), generate(0)]),
+        main,
+    ];
     let mut run = Run::new(1, &[2], &modules);
     run.acts(2, &[1, 1, 1, 0]);
     run.acts(2, &[2, 2, 2, 3, 0]);
@@ -928,8 +801,8 @@ fn a_wait_for_a_thread_that_awaits() {
 /// Awaiters of events of two schedulers do not mix.
 #[test]
 fn events_of_two_schedulers() {
-    let main = row(&[Start(0), at(3, Start(1)), Generate(0), at(3, Generate(1))]);
-    let mut run = Run::new(2, &[2, 3], &[Await(0), Await(1), main]);
+    let main = row(&[start(0), at(3, start(1)), generate(0), at(3, generate(1))]);
+    let mut run = Run::new(2, &[2, 3], &[await_event(0), await_event(1), main]);
     run.acts(2, &[1, 1, 1, 1, 1]); // 2 is started, 1 goes to 3
     run.acts(3, &[0, 1, 1]); // 3 is started there, 1 goes back
     run.acts(2, &[0, 2]);
@@ -952,12 +825,12 @@ fn events_of_two_schedulers() {
 /// In a loop an instant apart: each turn waits for its own generation.
 #[test]
 fn a_signal_in_each_instant() {
-    let ticker = forever(row(&[Generate(0), Cooperate]));
-    let driver = forever(row(&[Await(0), Cooperate]));
+    let ticker = forever(row(&[generate(0), cooperate()]));
+    let driver = forever(row(&[await_event(0), cooperate()]));
     let mut run = Run::new(
         1,
         &[2],
-        &[driver, ticker.clone(), row(&[Start(0), Start(1)])],
+        &[driver, ticker.clone(), row(&[start(0), start(1)])],
     );
     run.acts(2, &[1, 1, 1, 1]);
     // The driver is first and awaits; the ticker wakes it, and it cooperates.
@@ -970,20 +843,20 @@ fn a_signal_in_each_instant() {
 
 #[test]
 fn a_missing_event_is_20_when_running() {
-    for event_use in [Generate(1), Await(1), Generate(255), Await(16)] {
-        let mut run = Run::of(&file(1, &[2], &[event_use]), 8);
+    for event_use in [generate(1), await_event(1), generate(255), await_event(16)] {
+        let mut run = Run::of(&file(1, &[2], &[event_use]).text(), 8);
         run.refused(2, 20, 1);
     }
-    let mut run = Run::of(&file(1, &[], &[Await(0)]), 8);
+    let mut run = Run::of(&file(1, &[], &[await_event(0)]).text(), 8);
     run.refused(2, 20, 1);
 }
 
 #[test]
 fn another_owners_event_is_19_when_running() {
-    for event_use in [Generate(0), Await(0)] {
-        let mut run = Run::of(&file(2, &[3], &[event_use.clone()]), 11);
+    for event_use in [generate(0), await_event(0)] {
+        let mut run = Run::of(&file(2, &[3], from_ref(&event_use)).text(), 11);
         run.refused(2, 19, 1);
-        let mut run = Run::of(&file(2, &[2], &[at(3, event_use)]), 11);
+        let mut run = Run::of(&file(2, &[2], &[at(3, event_use)]).text(), 11);
         run.acts(2, &[1]);
         run.acts(3, &[0]);
         run.refused(3, 19, 1);
@@ -993,8 +866,8 @@ fn another_owners_event_is_19_when_running() {
 /// Also where the event is present, and by a thread that is no `main`.
 #[test]
 fn a_present_event_of_another_owner_is_19_too() {
-    let main = row(&[Start(0), Cooperate, Generate(0)]);
-    let mut run = Run::of(&file(2, &[2], &[at(3, Await(0)), main]), 11);
+    let main = row(&[start(0), cooperate(), generate(0)]);
+    let mut run = Run::of(&file(2, &[2], &[at(3, await_event(0)), main]).text(), 11);
     run.acts(2, &[1, 1, 1, 1, 0, 2, 1]);
     assert_eq!(run.state.present, [true]);
     run.acts(3, &[0]);
@@ -1004,8 +877,8 @@ fn a_present_event_of_another_owner_is_19_too() {
 /// 19, not 20: nothing is added to refusal 12's condition.
 #[test]
 fn an_unlinked_thread_gets_19() {
-    for event_use in [Generate(0), Await(0)] {
-        let mut run = Run::of(&file(1, &[2], &[at(PRIVATE, event_use)]), 11);
+    for event_use in [generate(0), await_event(0)] {
+        let mut run = Run::of(&file(1, &[2], &[at(PRIVATE, event_use)]).text(), 11);
         run.acts(2, &[1]);
         run.refused(of_thread(1), 19, 1);
     }
@@ -1013,11 +886,11 @@ fn an_unlinked_thread_gets_19() {
 
 #[test]
 fn missing_comes_before_another_owner() {
-    for event_use in [Generate(1), Await(1)] {
-        let mut run = Run::of(&file(1, &[2], &[at(PRIVATE, event_use.clone())]), 8);
+    for event_use in [generate(1), await_event(1)] {
+        let mut run = Run::of(&file(1, &[2], &[at(PRIVATE, event_use.clone())]).text(), 8);
         run.acts(2, &[1]);
         run.refused(of_thread(1), 20, 1);
-        let mut run = Run::of(&file(2, &[2], &[at(3, event_use)]), 8);
+        let mut run = Run::of(&file(2, &[2], &[at(3, event_use)]).text(), 8);
         run.acts(2, &[1]);
         run.acts(3, &[0]);
         run.refused(3, 20, 1);
@@ -1027,9 +900,10 @@ fn missing_comes_before_another_owner() {
 /// Change 4: they are no accesses; a store beside them counts 1.
 #[test]
 fn uses_count_no_accesses() {
-    let mut file = file(1, &[2], &[row(&[Await(0), Store(0)]), Nothing]);
-    file.cells = vec![2];
-    file.modules[1] = row(&[Start(0), Cooperate, Generate(0), Store(0)]);
+    let awaiter = row(&[await_event(0), stores()]);
+    let main = row(&[start(0), cooperate(), generate(0), stores()]);
+    let mut file = file(1, &[2], &[awaiter, main]);
+    file.cells = vec![number_cell(2)];
     let printed = listing::run(&file.text(), &b"02\n".repeat(14));
     let expected = [
         "00 0000",
@@ -1062,16 +936,8 @@ fn generated_runs_follow_the_papers_words() {
     const SEED: u64 = 5;
     const RUNS: usize = 20_000;
     let mut uses = Uses::default();
-    let mut cases = (0..).map(|index| generate::case(SEED, index));
-    let mut runs = 0;
-    while runs < RUNS {
-        let case = cases.next().expect("no end of cases");
-        let readable = Reading::new(&case.program);
-        let choices = text::choices(&case.choices);
-        if let (Reading::Readable(program, _), Ok(choices)) = (readable, choices) {
-            uses.add(&program, listing::used(&program, &choices));
-            runs += 1;
-        }
+    for case in second::generate::readable(SEED, 0..).take(RUNS) {
+        uses.add(&case.program, &case.choices);
     }
     println!("{uses}");
     assert!(uses.generations > 10_000, "{uses}");

@@ -2,95 +2,25 @@
 //! or through others, have ended. Cases by hand, then generated runs against
 //! the paper's words taken literally.
 
+mod acting;
 mod literal;
+mod trees;
 
 use literal::Waits;
 use second::generate;
-use second::layout::Program;
-use second::listing::{self, Reading};
+use second::listing;
 use second::place::{of_thread, PRIVATE};
-use second::state::State;
-use second::text;
-use Statement::*;
+use trees::{at, cooperate, file, nothing, row, start, wait_for, Node, Run};
 
-/// What these cases need of the statements; 13 and 14 start a module by its
-/// number, without arguments.
-#[derive(Clone)]
-enum Statement {
-    Nothing,
-    Cooperate,
-    Start(u8),
-    StartAndWait(u8),
-    At(u8, Box<Statement>),
-    Row(Vec<Statement>),
+fn unlinked() -> Node {
+    at(PRIVATE, nothing())
 }
 
-fn at(place: u8, statement: Statement) -> Statement {
-    At(place, Box::new(statement))
-}
-
-fn unlinked() -> Statement {
-    at(PRIVATE, Nothing)
-}
-
-fn cooperates(count: usize) -> Statement {
-    Row(vec![Cooperate; count])
-}
-
-/// Adds the statement's frames, children first; hands back its number.
-fn add(lines: &mut Vec<String>, statement: &Statement) -> usize {
-    let line = match statement {
-        Nothing => "1000000000000000".to_string(),
-        Cooperate => "1500000000000000".to_string(),
-        Start(module) => format!("13{module:02X}000000000000"),
-        StartAndWait(module) => format!("14{module:02X}000000000000"),
-        At(place, body) => format!("12{place:02X}{:04X}00000000", add(lines, body)),
-        Row(row) => {
-            let (last, before) = row.split_last().expect("a row of statements");
-            if before.is_empty() {
-                return add(lines, last);
-            }
-            let before = add(lines, &Row(before.to_vec()));
-            format!("1100{before:04X}{:04X}0000", add(lines, last))
-        }
-    };
-    lines.push(line);
-    lines.len() - 1
-}
-
-/// A file of these modules, `main` last.
-fn file(schedulers: u8, modules: &[Statement]) -> Vec<u8> {
-    let mut lines = vec![format!("00010000{schedulers:04X}0000")];
-    for body in modules {
-        let body = add(&mut lines, body);
-        lines.push(format!("0200{body:04X}00000000"));
-    }
-    (lines.join("\n") + "\n").into_bytes()
-}
-
-/// A run, choice by choice.
-struct Run {
-    program: Program,
-    state: State,
+fn cooperates(count: usize) -> Node {
+    row(&vec![cooperate(); count])
 }
 
 impl Run {
-    /// Of a file that is accepted.
-    fn new(schedulers: u8, modules: &[Statement]) -> Run {
-        let Reading::Readable(program, verdict) = Reading::new(&file(schedulers, modules)) else {
-            panic!("unreadable");
-        };
-        assert_eq!(verdict.number, 0);
-        let state = State::new(&program);
-        Run { program, state }
-    }
-
-    /// The answer and the acting thread, 0 if none.
-    fn choose(&mut self, party: u8) -> (u8, u8) {
-        let outcome = self.state.step(&self.program, party, &mut ());
-        (outcome.answer, outcome.thread)
-    }
-
     /// Chooses the scheduler until it has nothing to do, as it must soon. Hands
     /// back who acted, 0 for the end of an instant.
     fn settle(&mut self, scheduler: u8) -> Vec<u8> {
@@ -128,9 +58,9 @@ impl Run {
 /// which starts logger 3, which starts flusher 4.
 #[test]
 fn a_scoreboard_waits_for_the_flusher() {
-    let flusher = Row(vec![Cooperate, Cooperate]);
-    let modules = [flusher, Start(0), Start(1), StartAndWait(2)];
-    let listing = listing::run(&file(1, &modules), &b"02\n".repeat(18));
+    let flusher = row(&[cooperate(), cooperate()]);
+    let modules = [flusher, start(0), start(1), wait_for(2)];
+    let listing = listing::run(&file(1, &[], &modules).text(), &b"02\n".repeat(18));
     let acted = [
         "01", // starts the monitor and waits
         "00", //
@@ -160,8 +90,8 @@ fn a_scoreboard_waits_for_the_flusher() {
 /// The same with a flusher that goes on long after the others have ended.
 #[test]
 fn monitor_and_logger_ended_long_before() {
-    let modules = [cooperates(22), Start(0), Start(1), StartAndWait(2)];
-    let mut run = Run::new(1, &modules);
+    let modules = [cooperates(22), start(0), start(1), wait_for(2)];
+    let mut run = Run::new(1, &[], &modules);
     let acted = run.settle(2);
     let last = |thread| acted.iter().rposition(|&acting| acting == thread).unwrap();
     let instants = |range: &[u8]| range.iter().filter(|&&acting| acting == 0).count();
@@ -250,14 +180,15 @@ fn end_in_order(starters: &[usize], order: &[usize]) {
     let count = order.len();
     // Member m is module count - 1 - m, so that its children are below it.
     let module_of = |member: usize| (count - 1 - member) as u8;
-    let mut modules: Vec<Statement> = Vec::new();
+    let mut modules: Vec<Node> = Vec::new();
     for member in (0..count).rev() {
         let children = (1..count).filter(|&child| starters[child - 1] == member);
-        let starts = children.map(|child| Start(module_of(child)));
-        modules.push(Row(starts.chain([unlinked()]).collect()));
+        let starts = children.map(|child| start(module_of(child)));
+        let body: Vec<Node> = starts.chain([unlinked()]).collect();
+        modules.push(row(&body));
     }
-    modules.push(StartAndWait(module_of(0)));
-    let mut run = Run::new(1, &modules);
+    modules.push(wait_for(module_of(0)));
+    let mut run = Run::new(1, &[], &modules);
     run.settle(2);
     let threads = threads_of_members(&run, starters);
     for (ended, &member) in order.iter().enumerate() {
@@ -300,8 +231,8 @@ fn four_members_end_in_every_order() {
 /// A grandchild that has gone to scheduler 3; only that one's instants move it.
 #[test]
 fn a_member_on_another_scheduler() {
-    let modules = [at(3, Cooperate), Start(0), Start(1), StartAndWait(2)];
-    let mut run = Run::new(2, &modules);
+    let modules = [at(3, cooperate()), start(0), start(1), wait_for(2)];
+    let mut run = Run::new(2, &[], &modules);
     assert_eq!(run.settle(2), [1, 0, 2, 2, 0, 3, 3, 0, 4]);
     assert_eq!(run.choose(3), (0, 0));
     assert_eq!(run.choose(3), (0, 4));
@@ -315,8 +246,8 @@ fn a_member_on_another_scheduler() {
 /// of the waiter's instant, not of that one.
 #[test]
 fn a_member_that_ends_on_another_scheduler() {
-    let modules = [Nothing, at(3, Start(0)), Start(1), StartAndWait(2)];
-    let mut run = Run::new(2, &modules);
+    let modules = [nothing(), at(3, start(0)), start(1), wait_for(2)];
+    let mut run = Run::new(2, &[], &modules);
     assert_eq!(run.settle(2), [1, 0, 2, 2, 0, 3]);
     // The logger starts the flusher at 3 and leaves; the flusher stays.
     assert_eq!(run.choose(3), (0, 0));
@@ -333,8 +264,8 @@ fn a_member_that_ends_on_another_scheduler() {
 /// A grandchild that is unlinked; its own choices alone move it.
 #[test]
 fn an_unlinked_member() {
-    let modules = [unlinked(), Start(0), Start(1), StartAndWait(2)];
-    let mut run = Run::new(1, &modules);
+    let modules = [unlinked(), start(0), start(1), wait_for(2)];
+    let mut run = Run::new(1, &[], &modules);
     assert_eq!(run.settle(2), [1, 0, 2, 2, 0, 3, 3, 0, 4]);
     assert_eq!(run.choose(of_thread(4)), (0, 4));
     assert_eq!(run.settle(2), []);
@@ -346,8 +277,8 @@ fn an_unlinked_member() {
 /// at home holds it up there.
 #[test]
 fn a_waiter_on_another_scheduler() {
-    let modules = [unlinked(), at(2, Start(0)), at(3, StartAndWait(1))];
-    let mut run = Run::new(2, &modules);
+    let modules = [unlinked(), at(2, start(0)), at(3, wait_for(1))];
+    let mut run = Run::new(2, &[], &modules);
     assert_eq!(run.settle(2), [1]);
     assert_eq!(run.settle(3), [0, 1, 0, 2]);
     assert_eq!(run.settle(2), [0, 2, 2, 0, 3]);
@@ -364,8 +295,8 @@ fn a_waiter_on_another_scheduler() {
 /// the inner wait ends an instant before the outer one.
 #[test]
 fn a_waiter_whose_child_waits_too() {
-    let modules = [unlinked(), Start(0), StartAndWait(1), StartAndWait(2)];
-    let mut run = Run::new(1, &modules);
+    let modules = [unlinked(), start(0), wait_for(1), wait_for(2)];
+    let mut run = Run::new(1, &[], &modules);
     assert_eq!(run.settle(2), [1, 0, 2, 0, 3, 3, 0, 4]);
     assert_eq!(run.release(4), [0, 4, 0, 2, 0, 1]);
 }
@@ -374,10 +305,10 @@ fn a_waiter_whose_child_waits_too() {
 /// 6 and 7. Each holds up its own waiter only.
 #[test]
 fn two_waiters_with_disjoint_families() {
-    let waiters = Row(vec![Start(2), Start(2)]);
-    let modules = [unlinked(), Start(0), StartAndWait(1), waiters];
+    let waiters = row(&[start(2), start(2)]);
+    let modules = [unlinked(), start(0), wait_for(1), waiters];
     for (first, second) in [(6, 7), (7, 6)] {
-        let mut run = Run::new(1, &modules);
+        let mut run = Run::new(1, &[], &modules);
         run.settle(2);
         let ended = |run: &Run| [1, 2, 3, 4, 5, 6, 7].map(|thread| run.has_ended(thread));
         assert_eq!(ended(&run), [true, false, false, true, true, false, false]);
@@ -391,9 +322,9 @@ fn two_waiters_with_disjoint_families() {
 /// of the next list.
 #[test]
 fn two_waits_that_end_together() {
-    let waiters = Row(vec![Start(2), Start(2)]);
-    let modules = [unlinked(), Start(0), StartAndWait(1), waiters];
-    let mut run = Run::new(1, &modules);
+    let waiters = row(&[start(2), start(2)]);
+    let modules = [unlinked(), start(0), wait_for(1), waiters];
+    let mut run = Run::new(1, &[], &modules);
     run.settle(2);
     for thread in [7, 6] {
         for _ in 0..2 {
@@ -407,8 +338,8 @@ fn two_waits_that_end_together() {
 /// are ready then, in the order of the list.
 #[test]
 fn a_wait_that_ends_keeps_its_place() {
-    let main = Row(vec![Start(1), StartAndWait(0)]);
-    let mut run = Run::new(1, &[Nothing, cooperates(2), main]);
+    let main = row(&[start(1), wait_for(0)]);
+    let mut run = Run::new(1, &[], &[nothing(), cooperates(2), main]);
     assert_eq!(run.settle(2), [1, 1, 1, 0, 2, 2, 3, 3, 0, 1, 2, 0, 2]);
 }
 
@@ -417,16 +348,16 @@ fn a_wait_that_ends_keeps_its_place() {
 /// both hold up 1.
 #[test]
 fn sibling_families() {
-    let siblings = Row(vec![Start(1), StartAndWait(1)]);
-    let modules = [unlinked(), Start(0), siblings, StartAndWait(2)];
+    let siblings = row(&[start(1), wait_for(1)]);
+    let modules = [unlinked(), start(0), siblings, wait_for(2)];
 
-    let mut run = Run::new(1, &modules);
+    let mut run = Run::new(1, &[], &modules);
     run.settle(2);
     assert_eq!([5, 6].map(|thread| run.starter(thread)), [3, 4]);
     assert_eq!(run.release(6), [0, 6, 0, 2]);
     assert_eq!(run.release(5), [0, 5, 0, 1]);
 
-    let mut run = Run::new(1, &modules);
+    let mut run = Run::new(1, &[], &modules);
     run.settle(2);
     assert_eq!(run.release(5), [0, 5]);
     assert_eq!(run.release(6), [0, 6, 0, 2, 0, 1]);
@@ -436,9 +367,9 @@ fn sibling_families() {
 /// before the wait do not hold it up. Nor is the waiter itself.
 #[test]
 fn the_waiters_other_children_live_on() {
-    let main = Row(vec![Start(1), StartAndWait(1), StartAndWait(1), Cooperate]);
-    let modules = [unlinked(), Start(0), main];
-    let mut run = Run::new(1, &modules);
+    let main = row(&[start(1), wait_for(1), wait_for(1), cooperate()]);
+    let modules = [unlinked(), start(0), main];
+    let mut run = Run::new(1, &[], &modules);
     run.settle(2);
     // 2 is not awaited, 3 is; both have ended.
     assert_eq!([2, 3].map(|thread| run.has_ended(thread)), [true; 2]);
@@ -454,9 +385,9 @@ fn the_waiters_other_children_live_on() {
 /// grows while its wait is on, and holds it up anew.
 #[test]
 fn a_family_grows_while_it_is_awaited() {
-    let late = Row(vec![unlinked(), Start(0), unlinked(), Start(0)]);
-    let modules = [unlinked(), late, Start(1), StartAndWait(2)];
-    let mut run = Run::new(1, &modules);
+    let late = row(&[unlinked(), start(0), unlinked(), start(0)]);
+    let modules = [unlinked(), late, start(1), wait_for(2)];
+    let mut run = Run::new(1, &[], &modules);
     assert_eq!(run.settle(2).last(), Some(&3));
     let acted = run.release(3);
     assert!(!acted.contains(&1) && run.state.threads.len() == 4);
@@ -491,19 +422,15 @@ fn chain(start: &str) -> Vec<u8> {
 }
 
 /// The acting threads under home's choices until it has nothing to do.
-fn acted_in(program: &[u8]) -> Vec<u8> {
-    let Reading::Readable(program, _) = Reading::new(program) else {
-        panic!("unreadable");
-    };
-    let state = State::new(&program);
-    Run { program, state }.settle(2)
+fn acted_in_chain(start: &str) -> Vec<u8> {
+    Run::of(&chain(start), 8).settle(2)
 }
 
 /// 63 waits, one in the other, end one instant after the other, the innermost
 /// first.
 #[test]
 fn waits_in_a_chain_of_64_threads() {
-    let acted = acted_in(&chain("14"));
+    let acted = acted_in_chain("14");
     let last = acted.iter().position(|&thread| thread == 64).unwrap();
     let mut expected = vec![64, 64, 0, 64];
     for thread in (1..64).rev() {
@@ -515,7 +442,7 @@ fn waits_in_a_chain_of_64_threads() {
 /// Without waits each ends at once but the last, which holds up `main`.
 #[test]
 fn one_wait_for_a_chain_of_63_threads() {
-    let acted = acted_in(&chain("13"));
+    let acted = acted_in_chain("13");
     let last = acted.iter().position(|&thread| thread == 64).unwrap();
     assert_eq!(acted[last..], [64, 64, 0, 64, 0, 1]);
 }
@@ -527,16 +454,8 @@ fn generated_runs_follow_the_papers_words() {
     const SEED: u64 = 3;
     const RUNS: usize = 20_000;
     let mut waits = Waits::default();
-    let mut runs = 0;
-    let mut cases = (0..).map(|index| generate::case(SEED, index));
-    while runs < RUNS {
-        let case = cases.next().expect("no end of cases");
-        let readable = Reading::new(&case.program);
-        let choices = text::choices(&case.choices);
-        if let (Reading::Readable(program, _), Ok(choices)) = (readable, choices) {
-            waits.add(&program, listing::used(&program, &choices));
-            runs += 1;
-        }
+    for case in generate::readable(SEED, 0..).take(RUNS) {
+        waits.add(&case.program, &case.choices);
     }
     println!("{waits}");
     assert!(waits.entries > 100_000, "{waits}");

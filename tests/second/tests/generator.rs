@@ -1,5 +1,6 @@
 //! What the generator reaches.
 
+mod acting;
 mod literal;
 mod literal_events;
 
@@ -83,18 +84,11 @@ fn allowances_meet_long_lists() {
 fn families_hold_up_waits() {
     let mut waits = Waits::default();
     let (mut differing, mut accepted, mut held_up_and_ended) = (0, 0, 0);
-    for index in 0..30_000 {
-        let case = generate::case(SEED, index);
-        let Reading::Readable(program, verdict) = Reading::new(&case.program) else {
-            continue;
-        };
-        let Ok(choices) = text::choices(&case.choices) else {
-            continue;
-        };
+    for case in generate::readable(SEED, 0..30_000) {
         let before = (waits.differing, waits.held_up_and_ended);
-        waits.add(&program, listing::used(&program, &choices));
+        waits.add(&case.program, &case.choices);
         differing += usize::from(waits.differing > before.0);
-        accepted += usize::from(waits.differing > before.0 && verdict.number == 0);
+        accepted += usize::from(waits.differing > before.0 && case.verdict.number == 0);
         held_up_and_ended += usize::from(waits.held_up_and_ended > before.1);
     }
     println!("{waits}\ncases that differ {differing}, accepted ones {accepted}");
@@ -135,18 +129,11 @@ fn steps_access_many_cells() {
     let mut counts: BTreeMap<u16, usize> = BTreeMap::new();
     let mut refused: BTreeMap<u8, usize> = BTreeMap::new();
     let mut of_every_sort = 0;
-    for index in 0..30_000 {
-        let case = generate::case(SEED, index);
-        let Reading::Readable(program, _) = Reading::new(&case.program) else {
-            continue;
-        };
-        let Ok(choices) = text::choices(&case.choices) else {
-            continue;
-        };
-        let mut state = State::new(&program);
-        for &party in listing::used(&program, &choices) {
+    for case in generate::readable(SEED, 0..30_000) {
+        let mut state = State::new(&case.program);
+        for &party in &case.choices {
             let mut seen = Seen::default();
-            let outcome = state.step(&program, party, &mut seen);
+            let outcome = state.step(&case.program, party, &mut seen);
             *counts.entry(outcome.accesses).or_default() += 1;
             // The one that is refused is seen as well.
             if outcome.answer != 0 && seen.reads + seen.creations > 2 {
@@ -185,14 +172,12 @@ fn events_are_generated_and_awaited() {
         };
         let has_events = frames[0].c != 0 || frames.iter().any(|frame| frame.kind == 0x03);
         without += usize::from(!has_events);
-        let Reading::Readable(program, verdict) = Reading::new(&case.program) else {
-            continue;
-        };
-        accepted += usize::from(has_events && verdict.number == 0);
-        rejected += usize::from(has_events && verdict.number != 0);
-        if let Ok(choices) = text::choices(&case.choices) {
+        let number = Reading::new(&case.program).verdict().number;
+        accepted += usize::from(has_events && number == 0);
+        rejected += usize::from(has_events && number > 7);
+        if let Some(case) = case.readable() {
             let before = woken(&uses);
-            uses.add(&program, listing::used(&program, &choices));
+            uses.add(&case.program, &case.choices);
             waking += usize::from(woken(&uses) > before);
         }
     }

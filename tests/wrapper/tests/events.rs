@@ -449,7 +449,7 @@ fn modelled(state: &[u64], choice: usize, seen: &mut Seen) -> (Answer, Vec<u64>)
     }
     let place = state[thread_at(thread)] as usize;
     let statement = state[thread_at(thread) + 4] as usize - FIRST;
-    let (generates, event) = (statement % 2 == 0, statement / 2);
+    let (generates, event) = (statement.is_multiple_of(2), statement / 2);
     let Some(&owner) = OWNERS.get(event) else {
         seen.missing += 1;
         return (answer(20, detail), after);

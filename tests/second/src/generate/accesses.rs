@@ -144,12 +144,8 @@ impl Accesses<'_> {
         let condition = self.lines.add(kind::LESS, 0, [content, bound, 0]);
         self.lines.turn(condition, |lines| {
             let target = lines.leaf(kind::SHARED, 0);
-            let sum = lines.tree(kind::SUM, 2, &mut |lines| {
-                let cell = lines.leaf(kind::SHARED, 0);
-                let content = lines.add(kind::CONTENT, 0, [cell, 0, 0]);
-                let one = lines.add(kind::NUMBER, 0, [1, 0, 0]);
-                lines.add(kind::SUM, 0, [content, one, 0])
-            });
+            let one_more = &mut |lines: &mut Lines| lines.one_more(kind::SHARED, 0);
+            let sum = lines.tree(kind::SUM, 2, one_more);
             lines.add(kind::STORE, 0, [target, sum, 0])
         })
     }

@@ -10,6 +10,7 @@ use super::random::Random;
 use crate::effect::Effect;
 use crate::frame::{kind, Frame};
 use crate::place::{HOME, PRIVATE};
+use crate::rules::Rule;
 use crate::types::Type;
 
 /// The frames of a file built by some plan.
@@ -101,8 +102,8 @@ pub(super) struct Builder<'r> {
 }
 
 impl Builder<'_> {
-    pub(super) fn slips(&mut self, slip: Slip) -> bool {
-        self.slips.contains(&slip) && !self.random.chance(3)
+    pub(super) fn slips(&mut self, slip: impl Into<Slip>) -> bool {
+        self.slips.contains(&slip.into()) && !self.random.chance(3)
     }
 
     pub(super) fn scheduler(&mut self) -> u8 {
@@ -193,7 +194,7 @@ impl Builder<'_> {
     /// `main`.
     fn module_effects(&mut self, is_main: bool) -> [Effect; 2] {
         if is_main {
-            return [Slip::MainEffect, Slip::MainEvents].map(|slip| match self.slips(slip) {
+            return [Rule::MainEffect, Rule::MainEvents].map(|rule| match self.slips(rule) {
                 true => self.everywhere(),
                 false => Effect::of(HOME),
             });
@@ -216,7 +217,7 @@ impl Builder<'_> {
 
     fn parameter(&mut self) -> Type {
         let everywhere = self.everywhere();
-        if self.slips(Slip::PrivateArgument) || self.random.chance(12) {
+        if self.slips(Rule::PublicArgument) || self.random.chance(12) {
             let content = self.some_type(everywhere);
             return content.around(PRIVATE).unwrap_or(content);
         }

@@ -36,17 +36,17 @@ pub enum Flavour {
 
 impl Flavour {
     pub fn random(random: &mut Random) -> Flavour {
-        match random.below(1000) {
-            0..=29 => Flavour::Empty,
-            30..=179 => Flavour::RoundRobin,
-            180..=299 => Flavour::Schedulers,
-            300..=449 => Flavour::Threads,
-            450..=919 => Flavour::Valid,
-            920..=924 => Flavour::Long,
-            925..=969 => Flavour::Garbage,
-            970..=998 => Flavour::Malformed,
-            _ => Flavour::OverLong,
-        }
+        random.weighted(&[
+            (30, Flavour::Empty),
+            (150, Flavour::RoundRobin),
+            (120, Flavour::Schedulers),
+            (150, Flavour::Threads),
+            (470, Flavour::Valid),
+            (5, Flavour::Long),
+            (45, Flavour::Garbage),
+            (29, Flavour::Malformed),
+            (1, Flavour::OverLong),
+        ])
     }
 }
 

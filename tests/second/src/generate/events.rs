@@ -110,11 +110,7 @@ impl<'r> Events<'r> {
             events.cells.push(owner);
         }
         // With few events generations meet awaits.
-        let most = match events.random.below(8) {
-            0 => DECLARATIONS,
-            1..=2 => 4,
-            _ => 2,
-        };
+        let most = events.random.weighted(&[(1, DECLARATIONS), (2, 4), (5, 2)]);
         events.declare(1, most);
         events
     }
@@ -348,26 +344,12 @@ impl<'r> Events<'r> {
     fn counted(&mut self, statement: impl FnOnce(&mut Self) -> u16) -> u16 {
         let turns = self.random.between(2, 9) as u16;
         let variable = self.variables;
-        let content = |lines: &mut Lines| {
-            let cell = lines.leaf(kind::VARIABLE, variable);
-            lines.add(kind::CONTENT, 0, [cell, 0, 0])
-        };
-        let lines = &mut self.lines;
-        let zero = lines.leaf(kind::NUMBER, 0);
-        let cell = lines.add(kind::NEW_CELL, PRIVATE, [zero, 0, 0]);
-        let number = content(lines);
-        let bound = lines.add(kind::NUMBER, 0, [turns, 0, 0]);
-        let condition = lines.add(kind::LESS, 0, [number, bound, 0]);
+        let [cell, condition] = self.lines.counter(variable, turns);
         self.variables += 1;
         let count = self.turn(condition, |events| {
             let statement = statement(events);
-            let lines = &mut events.lines;
-            let target = lines.leaf(kind::VARIABLE, variable);
-            let number = content(lines);
-            let one = lines.add(kind::NUMBER, 0, [1, 0, 0]);
-            let sum = lines.add(kind::SUM, 0, [number, one, 0]);
-            let store = lines.add(kind::STORE, 0, [target, sum, 0]);
-            lines.add(kind::SEQUENCE, 0, [statement, store, 0])
+            let store = events.lines.count_up(kind::VARIABLE, variable);
+            events.lines.add(kind::SEQUENCE, 0, [statement, store, 0])
         });
         self.variables -= 1;
         self.lines.add(kind::LET, 0, [cell, count, 0])

@@ -5,6 +5,7 @@ use super::plan::Slip;
 use crate::effect::Effect;
 use crate::frame::kind;
 use crate::place::PRIVATE;
+use crate::rules::Rule;
 use crate::types::Type;
 
 /// More levels than any tree has: what cannot be made at all.
@@ -84,13 +85,13 @@ impl Builder<'_> {
     fn operands(&mut self, types: &[Type], site: Site) -> [u16; 3] {
         let mut fields = [0; 3];
         for (field, &type_) in fields.iter_mut().zip(types) {
-            *field = self.operand(type_, site, Slip::Operand);
+            *field = self.operand(type_, site, Rule::Operands);
         }
         fields
     }
 
-    pub(super) fn operand(&mut self, wanted: Type, site: Site, slip: Slip) -> u16 {
-        let slipped = match self.slips(slip) {
+    pub(super) fn operand(&mut self, wanted: Type, site: Site, rule: Rule) -> u16 {
+        let slipped = match self.slips(rule) {
             true => self.some_type(site.allowed),
             false => wanted,
         };
@@ -102,7 +103,7 @@ impl Builder<'_> {
 
     /// The content of a cell at hand, or of a new one.
     fn content(&mut self, wanted: Type, below: Site) -> Option<u16> {
-        let allowed = match self.slips(Slip::ContentEffect) {
+        let allowed = match self.slips(Rule::ContentEffect) {
             true => self.everywhere(),
             false => below.allowed,
         };
@@ -121,7 +122,7 @@ impl Builder<'_> {
         if !self.fits(cell, below) {
             return None;
         }
-        let cell = self.operand(cell, below, Slip::Operand);
+        let cell = self.operand(cell, below, Rule::Operands);
         Some(self.lines.add(kind::CONTENT, 0, [cell, 0, 0]))
     }
 

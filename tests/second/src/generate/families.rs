@@ -267,23 +267,9 @@ impl<'r> Families<'r> {
     fn count(&mut self) -> u16 {
         let turns = self.random.between(2, 12) as u16;
         let variable = self.parameters;
-        let content = |lines: &mut Lines| {
-            let cell = lines.leaf(kind::VARIABLE, variable);
-            lines.add(kind::CONTENT, 0, [cell, 0, 0])
-        };
         let lines = &mut self.lines;
-        let zero = lines.leaf(kind::NUMBER, 0);
-        let cell = lines.add(kind::NEW_CELL, PRIVATE, [zero, 0, 0]);
-        let number = content(lines);
-        let bound = lines.add(kind::NUMBER, 0, [turns, 0, 0]);
-        let condition = lines.add(kind::LESS, 0, [number, bound, 0]);
-        let count = lines.turn(condition, |lines| {
-            let target = lines.leaf(kind::VARIABLE, variable);
-            let number = content(lines);
-            let one = lines.add(kind::NUMBER, 0, [1, 0, 0]);
-            let sum = lines.add(kind::SUM, 0, [number, one, 0]);
-            lines.add(kind::STORE, 0, [target, sum, 0])
-        });
+        let [cell, condition] = lines.counter(variable, turns);
+        let count = lines.turn(condition, |lines| lines.count_up(kind::VARIABLE, variable));
         lines.add(kind::LET, 0, [cell, count, 0])
     }
 }

@@ -23,7 +23,8 @@ use plan::Plan;
 use random::Random;
 
 use crate::frame::Frame;
-use crate::listing;
+use crate::layout::Program;
+use crate::listing::{self, Reading};
 use crate::verdict::Verdict;
 
 /// The contents of `prog.txt` and `choices.txt`.
@@ -48,6 +49,34 @@ impl Case {
         }
         Ok(())
     }
+
+    /// What there is to step, where both files can be read.
+    pub fn readable(&self) -> Option<Readable> {
+        let Reading::Readable(program, verdict) = Reading::new(&self.program) else {
+            return None;
+        };
+        let mut choices = crate::text::choices(&self.choices).ok()?;
+        choices.truncate(listing::used(&program, &choices).len());
+        Some(Readable {
+            program,
+            verdict,
+            choices,
+        })
+    }
+}
+
+/// A case that can be stepped.
+pub struct Readable {
+    pub program: Program,
+    /// Accepted, or rejected with 8 to 13.
+    pub verdict: Verdict,
+    /// Those that a run uses.
+    pub choices: Vec<u8>,
+}
+
+/// Those of a seed's cases that can be stepped.
+pub fn readable(seed: u64, indices: impl Iterator<Item = u64>) -> impl Iterator<Item = Readable> {
+    indices.filter_map(move |index| case(seed, index).readable())
 }
 
 /// The case of this name.
@@ -138,26 +167,29 @@ enum Sort {
 
 impl Sort {
     fn random(random: &mut Random) -> Sort {
-        match random.below(256) {
-            0..=76 => Sort::Clean,
-            77..=88 => Sort::Accesses,
-            89..=140 => Sort::Slipping,
-            141..=143 => Sort::Nest,
-            144..=153 => Sort::Soup,
-            154..=158 => Sort::Deep,
-            159..=162 => Sort::SpendCells,
-            163..=166 => Sort::SpendThreads,
+        let sort = random.weighted(&[
+            (77, Sort::Clean),
+            (12, Sort::Accesses),
+            (52, Sort::Slipping),
+            (3, Sort::Nest),
+            (10, Sort::Soup),
+            (5, Sort::Deep),
+            (4, Sort::SpendCells),
+            (4, Sort::SpendThreads),
+            (1, Sort::Doubling),
+            (1, Sort::Full),
+            (25, Sort::DamagedFrames),
+            (10, Sort::DamagedText),
+            (19, Sort::Families),
+            (3, Sort::Chain),
+            (16, Sort::Events),
+            (6, Sort::Crowd),
+            (8, Sort::EventFault),
+        ]);
+        match sort {
             // About as rare as an over-long list: these take their time.
-            167 if random.chance(4) => Sort::LongRun,
-            167 => Sort::Doubling,
-            168 => Sort::Full,
-            169..=193 => Sort::DamagedFrames,
-            194..=203 => Sort::DamagedText,
-            204..=222 => Sort::Families,
-            223..=225 => Sort::Chain,
-            226..=241 => Sort::Events,
-            242..=247 => Sort::Crowd,
-            _ => Sort::EventFault,
+            Sort::Doubling if random.chance(4) => Sort::LongRun,
+            _ => sort,
         }
     }
 
@@ -178,32 +210,36 @@ impl Sort {
 }
 
 fn program(random: &mut Random, sort: Sort) -> Vec<u8> {
+    let mut text = text(&frames(random, sort));
+    if sort == Sort::DamagedText {
+        mutate::text(random, &mut text);
+    }
+    text
+}
+
+fn frames(random: &mut Random, sort: Sort) -> Vec<Frame> {
     match sort {
-        Sort::Clean => text(&build::frames(random, Plan::random)),
-        Sort::Slipping => text(&build::frames(random, Plan::slipping)),
-        Sort::Soup => text(&soup::frames(random)),
-        Sort::Deep => text(&build::frames(random, Plan::deep)),
-        Sort::SpendCells => text(&special::spend_cells(random)),
-        Sort::SpendThreads => text(&special::spend_threads(random)),
-        Sort::Nest => text(&special::nest(random)),
-        Sort::Doubling => text(&special::doubling(random)),
-        Sort::LongRun => text(&special::long_run(random)),
-        Sort::Full => text(&special::full_or_over(random)),
-        Sort::Families => text(&families::levels(random)),
-        Sort::Chain => text(&families::chain(random)),
-        Sort::Accesses => text(&accesses::frames(random)),
-        Sort::Events => text(&events::exchange(random)),
-        Sort::Crowd => text(&events::crowd(random)),
-        Sort::EventFault => text(&events::faulty(random)),
+        Sort::Clean => build::frames(random, Plan::random),
+        Sort::Slipping => build::frames(random, Plan::slipping),
+        Sort::Soup => soup::frames(random),
+        Sort::Deep => build::frames(random, Plan::deep),
+        Sort::SpendCells => special::spend_cells(random),
+        Sort::SpendThreads => special::spend_threads(random),
+        Sort::Nest => special::nest(random),
+        Sort::Doubling => special::doubling(random),
+        Sort::LongRun => special::long_run(random),
+        Sort::Full => special::full_or_over(random),
+        Sort::Families => families::levels(random),
+        Sort::Chain => families::chain(random),
+        Sort::Accesses => accesses::frames(random),
+        Sort::Events => events::exchange(random),
+        Sort::Crowd => events::crowd(random),
+        Sort::EventFault => events::faulty(random),
         Sort::DamagedFrames => {
             let frames = build::frames(random, Plan::roomy);
-            text(&mutate::frames(random, frames))
+            mutate::frames(random, frames)
         }
-        Sort::DamagedText => {
-            let mut text = text(&build::frames(random, Plan::small));
-            mutate::text(random, &mut text);
-            text
-        }
+        Sort::DamagedText => build::frames(random, Plan::small),
     }
 }
 

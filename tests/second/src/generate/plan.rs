@@ -2,86 +2,78 @@
 
 use super::random::Random;
 use crate::layout::{DECLARATIONS, DEPTH};
+use crate::rules::Rule::{self, *};
+use Slip::*;
 
-/// A rule that the builder breaks now and then.
+/// What the builder gets wrong now and then.
 #[derive(Clone, Copy, PartialEq, Eq, Debug)]
-pub enum Slip {
+pub(super) enum Slip {
+    /// What a rule of the check forbids.
+    Against(Rule),
     MissingVariable,
     MissingSharedCell,
     MissingEvent,
-    ModuleBelow,
-    Arguments,
-    StoredType,
-    Operand,
+    /// A cell around three others.
     FourthCell,
     SharedCellDepth,
-    PrivateContent,
-    PrivateArgument,
-    StartEffect,
-    StartEvents,
-    NewCellEffect,
-    ContentEffect,
-    StoreEffect,
-    GenerateEffect,
-    AwaitEffect,
-    PlaceEffect,
-    PlaceEvents,
-    MainEffect,
-    MainEvents,
-    WhileUnlinked,
-    LoopBody,
+}
+
+impl From<Rule> for Slip {
+    fn from(rule: Rule) -> Slip {
+        Against(rule)
+    }
 }
 
 const SLIPS: [Slip; 24] = [
-    Slip::MissingVariable,
-    Slip::MissingSharedCell,
-    Slip::MissingEvent,
-    Slip::ModuleBelow,
-    Slip::Arguments,
-    Slip::StoredType,
-    Slip::Operand,
-    Slip::FourthCell,
-    Slip::SharedCellDepth,
-    Slip::PrivateContent,
-    Slip::PrivateArgument,
-    Slip::StartEffect,
-    Slip::StartEvents,
-    Slip::NewCellEffect,
-    Slip::ContentEffect,
-    Slip::StoreEffect,
-    Slip::GenerateEffect,
-    Slip::AwaitEffect,
-    Slip::PlaceEffect,
-    Slip::PlaceEvents,
-    Slip::MainEffect,
-    Slip::MainEvents,
-    Slip::WhileUnlinked,
-    Slip::LoopBody,
+    MissingVariable,
+    MissingSharedCell,
+    MissingEvent,
+    Against(ModuleBelow),
+    Against(Arguments),
+    Against(StoredType),
+    Against(Operands),
+    FourthCell,
+    SharedCellDepth,
+    Against(PublicContent),
+    Against(PublicArgument),
+    Against(StartEffect),
+    Against(StartEvents),
+    Against(NewCellEffect),
+    Against(ContentEffect),
+    Against(StoreEffect),
+    Against(GenerateEffect),
+    Against(AwaitEffect),
+    Against(PlaceEffect),
+    Against(PlaceEvents),
+    Against(MainEffect),
+    Against(MainEvents),
+    Against(WhileUnlinked),
+    Against(LoopBody),
 ];
 
 /// Slips that can meet in one frame or one step.
 const PAIRS: [[Slip; 2]; 11] = [
-    [Slip::WhileUnlinked, Slip::Arguments],
-    [Slip::WhileUnlinked, Slip::PrivateArgument],
-    [Slip::WhileUnlinked, Slip::ModuleBelow],
-    [Slip::WhileUnlinked, Slip::PlaceEffect],
-    [Slip::Arguments, Slip::PrivateArgument],
-    [Slip::PrivateContent, Slip::FourthCell],
-    [Slip::Operand, Slip::LoopBody],
-    [Slip::Operand, Slip::ContentEffect],
-    [Slip::StoredType, Slip::StoreEffect],
-    [Slip::WhileUnlinked, Slip::PlaceEvents],
-    [Slip::MissingEvent, Slip::AwaitEffect],
+    [Against(WhileUnlinked), Against(Arguments)],
+    [Against(WhileUnlinked), Against(PublicArgument)],
+    [Against(WhileUnlinked), Against(ModuleBelow)],
+    [Against(WhileUnlinked), Against(PlaceEffect)],
+    [Against(Arguments), Against(PublicArgument)],
+    [Against(PublicContent), FourthCell],
+    [Against(Operands), Against(LoopBody)],
+    [Against(Operands), Against(ContentEffect)],
+    [Against(StoredType), Against(StoreEffect)],
+    [Against(WhileUnlinked), Against(PlaceEvents)],
+    [MissingEvent, Against(AwaitEffect)],
 ];
 
 /// Those that need an event to show.
 const OF_EVENTS: [Slip; 6] = [
-    Slip::MissingEvent,
-    Slip::StartEvents,
-    Slip::GenerateEffect,
-    Slip::AwaitEffect,
-    Slip::PlaceEvents,
-    Slip::MainEvents,
+    MissingEvent,
+    Against(StartEvents),
+    Against(GenerateEffect),
+    Against(AwaitEffect),
+    Against(PlaceEvents),
+    Against(MainEvents),
 ];
 
 impl Slip {
@@ -164,7 +156,7 @@ impl Plan {
     pub fn slipping(random: &mut Random) -> Plan {
         let mut plan = Plan::roomy(random);
         plan.slips = Slip::some(random);
-        if plan.slips.contains(&Slip::SharedCellDepth) {
+        if plan.slips.contains(&SharedCellDepth) {
             // Only a row of cells, each in the next, gets that deep.
             plan.shared_cells = DECLARATIONS;
         }
@@ -187,9 +179,8 @@ impl Plan {
 /// Most files have none, so that what was there before events is tested as
 /// often as it was.
 pub(super) fn some_events(random: &mut Random) -> usize {
-    match random.below(20) {
-        0..=13 => 0,
-        14..=18 => random.between(1, 4),
-        _ => random.between(1, DECLARATIONS),
+    match random.weighted(&[(14, 0), (5, 4), (1, DECLARATIONS)]) {
+        0 => 0,
+        most => random.between(1, most),
     }
 }

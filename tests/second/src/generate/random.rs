@@ -49,4 +49,17 @@ impl Random {
             count => Some(items[self.below(count)]),
         }
     }
+
+    /// One of the values, each as often as the weight before it says.
+    pub fn weighted<T: Copy>(&mut self, values: &[(usize, T)]) -> T {
+        let total = values.iter().map(|(weight, _)| weight).sum();
+        let mut number = self.below(total);
+        for &(weight, value) in values {
+            if number < weight {
+                return value;
+            }
+            number -= weight;
+        }
+        unreachable!("the number is below the sum of the weights")
+    }
 }

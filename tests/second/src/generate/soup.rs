@@ -191,10 +191,7 @@ impl Soup<'_> {
                 self.lines.leaf(kind::VARIABLE, variable)
             }
             6 => self.lines.leaf(kind::SHARED, shared as u8),
-            _ => {
-                let cell = self.lines.leaf(kind::SHARED, shared as u8);
-                self.lines.add(kind::CONTENT, 0, [cell, 0, 0])
-            }
+            _ => self.lines.content(kind::SHARED, shared as u8),
         }
     }
 }

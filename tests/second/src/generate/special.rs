@@ -180,16 +180,12 @@ pub fn doubling(random: &mut Random) -> Vec<Frame> {
     let mut lines = Lines::new(0, 1);
     let first = random.between(1, 0xFFFF) as u16;
     lines.add(kind::SHARED_CELL, HOME, [1, first, 0]);
-    let content = |lines: &mut Lines| {
-        let cell = lines.leaf(kind::SHARED, 0);
-        lines.add(kind::CONTENT, 0, [cell, 0, 0])
-    };
     let zero = lines.leaf(kind::NUMBER, 0);
-    let number = content(&mut lines);
+    let number = lines.content(kind::SHARED, 0);
     let condition = lines.add(kind::LESS, 0, [zero, number, 0]);
     let body = lines.turn(condition, |lines| {
         let cell = lines.leaf(kind::SHARED, 0);
-        let sum = lines.tree(kind::SUM, 2, &mut |lines| content(lines));
+        let sum = lines.tree(kind::SUM, 2, &mut |lines| lines.content(kind::SHARED, 0));
         lines.add(kind::STORE, 0, [cell, sum, 0])
     });
     lines.module(body);
@@ -201,14 +197,7 @@ pub fn doubling(random: &mut Random) -> Vec<Frame> {
 pub fn long_run(random: &mut Random) -> Vec<Frame> {
     let mut lines = Lines::new(ALLOWANCES[random.below(ALLOWANCES.len())], 2);
     lines.add(kind::SHARED_CELL, HOME, [1, 0, 0]);
-    let body = lines.forever(|lines| {
-        let target = lines.leaf(kind::SHARED, 0);
-        let cell = lines.leaf(kind::SHARED, 0);
-        let content = lines.add(kind::CONTENT, 0, [cell, 0, 0]);
-        let one = lines.add(kind::NUMBER, 0, [1, 0, 0]);
-        let sum = lines.add(kind::SUM, 0, [content, one, 0]);
-        lines.add(kind::STORE, 0, [target, sum, 0])
-    });
+    let body = lines.forever(|lines| lines.count_up(kind::SHARED, 0));
     lines.module(body);
     lines.with_intruder(|lines| lines.forever(|lines| lines.leaf(kind::NOTHING, 0)))
 }

@@ -5,6 +5,7 @@ use super::plan::Slip;
 use crate::effect::Effect;
 use crate::frame::kind;
 use crate::place::{HOME, PRIVATE};
+use crate::rules::Rule;
 use crate::types::Type;
 
 impl Builder<'_> {
@@ -66,14 +67,14 @@ impl Builder<'_> {
             return None;
         }
         let [allowed, events] =
-            [Slip::PlaceEffect, Slip::PlaceEvents].map(|slip| match self.slips(slip) {
+            [Rule::PlaceEffect, Rule::PlaceEvents].map(|rule| match self.slips(rule) {
                 true => self.everywhere(),
                 false => Effect::of(place),
             });
         let inside = Site {
             allowed,
             events,
-            unlinked: place == PRIVATE && !self.slips(Slip::WhileUnlinked),
+            unlinked: place == PRIVATE && !self.slips(Rule::WhileUnlinked),
             ..site
         };
         let body = inside.below()?;
@@ -105,9 +106,9 @@ impl Builder<'_> {
 
     /// A new cell that no rule allows.
     fn slipped_value(&mut self, site: Site) -> Option<(u16, Type)> {
-        let (content, owner) = if self.slips(Slip::NewCellEffect) {
+        let (content, owner) = if self.slips(Rule::NewCellEffect) {
             (Type::NUMBER, self.scheduler())
-        } else if self.slips(Slip::PrivateContent) {
+        } else if self.slips(Rule::PublicContent) {
             let owner = self.owner_within(site.allowed).max(HOME);
             (self.private_type(), owner)
         } else if self.slips(Slip::FourthCell) {
@@ -131,7 +132,7 @@ impl Builder<'_> {
         if site.waits {
             return None;
         }
-        let allowed = match self.slips(Slip::StoreEffect) {
+        let allowed = match self.slips(Rule::StoreEffect) {
             true => self.everywhere(),
             false => site.allowed,
         };
@@ -146,14 +147,14 @@ impl Builder<'_> {
         if !self.fits(cell, below) {
             return None;
         }
-        let a = self.operand(cell, below, Slip::Operand);
-        let b = self.operand(cell.content(), below, Slip::StoredType);
+        let a = self.operand(cell, below, Rule::Operands);
+        let b = self.operand(cell.content(), below, Rule::StoredType);
         Some(self.lines.add(kind::STORE, 0, [a, b, 0]))
     }
 
     fn if_(&mut self, site: Site) -> Option<u16> {
         let below = site.below()?;
-        let a = self.operand(Type::TRUTH, below.waiting(false), Slip::Operand);
+        let a = self.operand(Type::TRUTH, below.waiting(false), Rule::Operands);
         let b = self.statement(below);
         let c = self.statement(below);
         Some(self.lines.add(kind::IF, 0, [a, b, c]))
@@ -163,9 +164,9 @@ impl Builder<'_> {
         if site.waits {
             return None;
         }
-        let waits = !self.slips(Slip::LoopBody);
+        let waits = !self.slips(Rule::LoopBody);
         let below = site.waiting(waits).below()?;
-        let a = self.operand(Type::TRUTH, below.waiting(false), Slip::Operand);
+        let a = self.operand(Type::TRUTH, below.waiting(false), Rule::Operands);
         let b = self.statement(below);
         Some(self.lines.add(kind::WHILE, 0, [a, b, 0]))
     }
@@ -175,15 +176,15 @@ impl Builder<'_> {
         if site.waits {
             return None;
         }
-        let (kind, slip) = match self.random.chance(2) {
-            true => (kind::GENERATE, Slip::GenerateEffect),
-            false => (kind::AWAIT, Slip::AwaitEffect),
+        let (kind, rule) = match self.random.chance(2) {
+            true => (kind::GENERATE, Rule::GenerateEffect),
+            false => (kind::AWAIT, Rule::AwaitEffect),
         };
         if self.slips(Slip::MissingEvent) {
             let number = self.events.len() + self.random.below(3);
             return Some(self.lines.leaf(kind, number as u8));
         }
-        let any_owner = self.slips(slip);
+        let any_owner = self.slips(rule);
         let fitting: Vec<usize> = (0..self.events.len())
             .filter(|&number| any_owner || site.events.covers(self.events[number]))
             .collect();
@@ -199,7 +200,7 @@ impl Builder<'_> {
             true => kind::START_AND_WAIT,
             false => kind::START,
         };
-        let (number, types) = match self.slips(Slip::ModuleBelow) {
+        let (number, types) = match self.slips(Rule::ModuleBelow) {
             true => self.module_not_below(),
             false => self.startable(site)?,
         };
@@ -207,7 +208,7 @@ impl Builder<'_> {
         if !types.is_empty() {
             let below = site.waiting(false).below()?;
             for (field, &type_) in fields.iter_mut().zip(&types) {
-                *field = self.operand(type_, below, Slip::Arguments);
+                *field = self.operand(type_, below, Rule::Arguments);
             }
         }
         Some(self.lines.add(kind, number as u8, fields))
@@ -221,9 +222,9 @@ impl Builder<'_> {
 
     /// A module that may be started here, and the types of its arguments.
     fn startable(&mut self, site: Site) -> Option<(usize, Vec<Type>)> {
-        let any_effect = self.slips(Slip::StartEffect);
-        let any_events = self.slips(Slip::StartEvents);
-        let any_owner = self.slips(Slip::PrivateArgument);
+        let any_effect = self.slips(Rule::StartEffect);
+        let any_events = self.slips(Rule::StartEvents);
+        let any_owner = self.slips(Rule::PublicArgument);
         let room = site.room - 1;
         let fitting: Vec<usize> = (0..self.modules.len())
             .filter(|&number| {
@@ -237,7 +238,7 @@ impl Builder<'_> {
             .collect();
         let number = self.random.pick(&fitting)?;
         let mut types = self.modules[number].parameters.clone();
-        if self.slips(Slip::Arguments) {
+        if self.slips(Rule::Arguments) {
             types = vec![Type::NUMBER; self.random.below(3)];
         }
         Some((number, types))

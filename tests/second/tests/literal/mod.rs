@@ -5,8 +5,9 @@
 use std::collections::{BTreeMap, BTreeSet};
 use std::fmt;
 
+use crate::acting::acting;
 use second::layout::Program;
-use second::place::{thread_of, HOME};
+use second::place::HOME;
 use second::state::{State, Until, THREADS};
 
 /// A set of threads, by their numbers.
@@ -80,6 +81,38 @@ impl Record {
     }
 }
 
+struct Run<'p> {
+    program: &'p Program,
+    state: State,
+    record: Record,
+}
+
+impl Run<'_> {
+    /// The scheduler whose instant ends under this choice, if one does.
+    fn ending_instant(&self, party: u8) -> Option<usize> {
+        let index = self.state.scheduler_index(party)?;
+        let active = &self.state.schedulers[index].active;
+        active.is_empty().then_some(index)
+    }
+
+    /// A thread with nothing left to do ends; under a choice that begins a
+    /// thread the acting one is its starter.
+    fn step_thread(&mut self, party: u8) {
+        let Run { state, record, .. } = self;
+        let is_done =
+            acting(state, party).is_some_and(|thread| state.thread(thread).continuation.is_empty());
+        let outcome = state.step(self.program, party, &mut ());
+        let thread = usize::from(outcome.thread);
+        if is_done && thread != 0 {
+            record.ended[thread] = true;
+            record.ends.push(thread);
+        }
+        if state.threads.len() == record.starters.len() {
+            record.starters.push(Some(thread));
+        }
+    }
+}
+
 /// Waiting entries at the instants' ends of some runs.
 #[derive(Default)]
 pub struct Waits {
@@ -102,23 +135,25 @@ impl Waits {
     /// Steps the choices and demands of each instant's end that those entries
     /// become active that are ready by the paper's words, and no others.
     pub fn add(&mut self, program: &Program, choices: &[u8]) {
-        let mut state = State::new(program);
-        let mut record = Record::new();
+        let mut run = Run {
+            program,
+            state: State::new(program),
+            record: Record::new(),
+        };
         for &party in choices {
-            match ending_instant(&state, party) {
-                Some(index) => self.end_instant(program, &mut state, &mut record, index),
-                None => step_thread(program, &mut state, &mut record, party),
+            match run.ending_instant(party) {
+                Some(index) => self.end_instant(&mut run, index),
+                None => run.step_thread(party),
             }
         }
     }
 
-    fn end_instant(
-        &mut self,
-        program: &Program,
-        state: &mut State,
-        record: &mut Record,
-        index: usize,
-    ) {
+    fn end_instant(&mut self, run: &mut Run, index: usize) {
+        let Run {
+            program,
+            state,
+            record,
+        } = run;
         let (mut ready, mut waiting) = (Vec::new(), Vec::new());
         for entry in &state.schedulers[index].next {
             let ends = match entry.until {
@@ -173,31 +208,6 @@ impl Waits {
             let order = record.ends.iter().filter_map(|&thread| place(thread));
             self.orders.insert(order.collect());
         }
-    }
-}
-
-/// The scheduler whose instant ends under this choice, if one does.
-fn ending_instant(state: &State, party: u8) -> Option<usize> {
-    let index = state.scheduler_index(party)?;
-    state.schedulers[index].active.is_empty().then_some(index)
-}
-
-/// A thread with nothing left to do ends; under a choice that begins a thread
-/// the acting one is its starter.
-fn step_thread(program: &Program, state: &mut State, record: &mut Record, party: u8) {
-    let acting = match state.scheduler_index(party) {
-        Some(index) => state.schedulers[index].active.front().copied(),
-        None => thread_of(party).filter(|&thread| usize::from(thread) <= state.threads.len()),
-    };
-    let is_done = acting.is_some_and(|thread| state.thread(thread).continuation.is_empty());
-    let outcome = state.step(program, party, &mut ());
-    let thread = usize::from(outcome.thread);
-    if is_done && thread != 0 {
-        record.ended[thread] = true;
-        record.ends.push(thread);
-    }
-    if state.threads.len() == record.starters.len() {
-        record.starters.push(Some(thread));
     }
 }
 

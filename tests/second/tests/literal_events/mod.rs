@@ -7,11 +7,11 @@
 use std::collections::BTreeMap;
 use std::fmt;
 
+use crate::acting::acting;
 use second::frame::{kind, Frame};
 use second::layout::Program;
-use second::place::{thread_of, HOME, PRIVATE};
+use second::place::{HOME, PRIVATE};
 use second::state::{Entry, Item, State, Until, THREADS};
-use second::step::Outcome;
 
 /// What a run has shown so far.
 struct Record {
@@ -76,6 +76,20 @@ impl Record {
     }
 }
 
+struct Run<'p> {
+    program: &'p Program,
+    state: State,
+    record: Record,
+}
+
+impl Run<'_> {
+    /// Takes the choice: answer, acting thread and accesses.
+    fn answered(&mut self, party: u8) -> (u8, u8, u16) {
+        let outcome = self.state.step(self.program, party, &mut ());
+        (outcome.answer, outcome.thread, outcome.accesses)
+    }
+}
+
 /// Uses of events in some runs.
 #[derive(Default, Debug)]
 pub struct Uses {
@@ -108,29 +122,27 @@ pub struct Uses {
 impl Uses {
     /// Steps the choices and demands of each what the paper's words give.
     pub fn add(&mut self, program: &Program, choices: &[u8]) {
-        let mut state = State::new(program);
-        let mut record = Record::new(program);
-        record.agrees(&state);
+        let mut run = Run {
+            program,
+            state: State::new(program),
+            record: Record::new(program),
+        };
+        run.record.agrees(&run.state);
         for &party in choices {
-            record.moment += 1;
-            match (acting(&state, party), state.scheduler_index(party)) {
-                (Some(thread), _) => self.step(program, &mut state, &mut record, party, thread),
-                (None, Some(index)) => self.end_instant(program, &mut state, &mut record, index),
+            run.record.moment += 1;
+            match (acting(&run.state, party), run.state.scheduler_index(party)) {
+                (Some(thread), _) => self.step(&mut run, party, thread),
+                (None, Some(index)) => self.end_instant(&mut run, index),
                 (None, None) => {
-                    state.step(program, party, &mut ());
+                    run.answered(party);
                 }
             }
-            record.agrees(&state);
+            run.record.agrees(&run.state);
         }
     }
 
-    fn end_instant(
-        &mut self,
-        program: &Program,
-        state: &mut State,
-        record: &mut Record,
-        index: usize,
-    ) {
+    fn end_instant(&mut self, run: &mut Run, index: usize) {
+        let Run { state, record, .. } = run;
         let place = HOME + index as u8;
         let own_present = (0..record.owners.len())
             .any(|event| record.owners[event] == place && record.is_present(event));
@@ -143,8 +155,8 @@ impl Uses {
             });
         let mut expected = state.clone();
         if ready.is_empty() {
-            assert_eq!(answered(state, program, place), (16, 0, 0));
-            assert_eq!(*state, expected, "a 16 changes nothing");
+            assert_eq!(run.answered(place), (16, 0, 0));
+            assert_eq!(run.state, expected, "a 16 changes nothing");
             self.nothing_while_present += usize::from(own_present);
             return;
         }
@@ -161,25 +173,18 @@ impl Uses {
         }
         self.ended_present += usize::from(own_present);
         self.kept_present += usize::from(expected.present.contains(&true));
-        assert_eq!(answered(state, program, place), (0, 0, 0));
-        assert_eq!(*state, expected, "an instant's end");
+        assert_eq!(run.answered(place), (0, 0, 0));
+        assert_eq!(run.state, expected, "an instant's end");
     }
 
-    fn step(
-        &mut self,
-        program: &Program,
-        state: &mut State,
-        record: &mut Record,
-        party: u8,
-        thread: u8,
-    ) {
-        let Some(frame) = event_use(program, state, thread) else {
-            state.step(program, party, &mut ());
+    fn step(&mut self, run: &mut Run, party: u8, thread: u8) {
+        let Some(frame) = event_use(run.program, &run.state, thread) else {
+            run.answered(party);
             return;
         };
-        let mut expected = state.clone();
-        let place = state.thread(thread).place;
-        let answer = match record.owners.get(usize::from(frame.s)) {
+        let mut expected = run.state.clone();
+        let place = expected.thread(thread).place;
+        let answer = match run.record.owners.get(usize::from(frame.s)) {
             None => 20,
             Some(&owner) if owner != place => 19,
             Some(_) => 0,
@@ -188,23 +193,17 @@ impl Uses {
             (20, _) => self.missing += 1,
             (19, _) if place == PRIVATE => self.unlinked += 1,
             (19, _) => self.elsewhere += 1,
-            (_, kind::GENERATE) => self.generation(program, &mut expected, record, thread, frame.s),
-            _ => self.await_(&mut expected, record, thread, frame.s),
+            (_, kind::GENERATE) => self.generation(run, &mut expected, thread, frame.s),
+            _ => self.await_(&mut run.record, &mut expected, thread, frame.s),
         }
-        assert_eq!(answered(state, program, party), (answer, thread, 0));
-        assert_eq!(*state, expected, "thread {thread}, {frame:?}");
+        assert_eq!(run.answered(party), (answer, thread, 0));
+        assert_eq!(run.state, expected, "thread {thread}, {frame:?}");
     }
 
     /// The threads that await the event go from its scheduler's next list, in
     /// list order, to the end of the active list.
-    fn generation(
-        &mut self,
-        program: &Program,
-        expected: &mut State,
-        record: &mut Record,
-        thread: u8,
-        event: u8,
-    ) {
+    fn generation(&mut self, run: &mut Run, expected: &mut State, thread: u8, event: u8) {
+        let record = &mut run.record;
         self.generations += 1;
         self.again += usize::from(record.is_present(usize::from(event)));
         record.generated[usize::from(event)] = Some(record.moment);
@@ -228,14 +227,14 @@ impl Uses {
         let awaits_other = |entry: &Entry| record.awaits(entry.thread).is_some();
         self.others_left += usize::from(left.iter().any(awaits_other));
         let is_bystander = |entry: &Entry| {
-            let top = event_use(program, expected, entry.thread);
+            let top = event_use(run.program, expected, entry.thread);
             top.is_some_and(|frame| frame.kind == kind::AWAIT && frame.s == event)
         };
         self.bystanders_left += usize::from(left.iter().any(is_bystander));
     }
 
     /// Passes on, or goes to the end of the next list with its statement.
-    fn await_(&mut self, expected: &mut State, record: &mut Record, thread: u8, event: u8) {
+    fn await_(&mut self, record: &mut Record, expected: &mut State, thread: u8, event: u8) {
         if record.is_present(usize::from(event)) {
             self.awaits_present += 1;
             expected.thread_mut(thread).continuation.pop();
@@ -258,24 +257,6 @@ fn event_use(program: &Program, state: &State, thread: u8) -> Option<Frame> {
             .filter(|frame| matches!(frame.kind, kind::GENERATE | kind::AWAIT)),
         _ => None,
     }
-}
-
-/// The thread that acts under this choice, if one does.
-fn acting(state: &State, party: u8) -> Option<u8> {
-    match state.scheduler_index(party) {
-        Some(index) => state.schedulers[index].active.front().copied(),
-        None => {
-            let thread = thread_of(party)?;
-            let known = state.threads.get(usize::from(thread) - 1)?;
-            known.is_unlinked().then_some(thread)
-        }
-    }
-}
-
-/// Answer, acting thread and accesses.
-fn answered(state: &mut State, program: &Program, party: u8) -> (u8, u8, u16) {
-    let outcome: Outcome = state.step(program, party, &mut ());
-    (outcome.answer, outcome.thread, outcome.accesses)
 }
 
 impl fmt::Display for Uses {

@@ -164,21 +164,7 @@ fn checks() {
 fn steps() {
     let text = looping();
     assert_eq!(purkvaldi::check(&text), (0, 0));
-    let choices = b"02\n".repeat(STEPS);
-    let mut state = vec![0; purkvaldi::state_length()];
-    let mut out = vec![0; purkvaldi::listing_length()];
-    let inside = best_step(|| {
-        assert_eq!(
-            purkvaldi::run(&text, &choices, &mut state, &mut out)
-                .answer
-                .number,
-            0
-        );
-    });
-    let theirs = best_step(|| {
-        std::hint::black_box(second::listing::run(&text, &choices));
-    });
-    row("a step in a run, with its line", inside, Some(theirs));
+    let mut state = row_of_run("a step in a run, with its line", &text);
     assert_eq!(purkvaldi::fresh(&text, &mut state).number, 0);
     let public = best_step(|| {
         for _ in 0..STEPS {
@@ -205,22 +191,37 @@ fn lines(frames: &[&str]) -> Vec<u8> {
     text
 }
 
+/// A text of frames around ten that count in shared cell 0, a number: the fourth asks whether it is
+/// below a bound, the last stores one more.
+fn counting(before: &[&str], bound: usize, after: &[&str]) -> Vec<u8> {
+    let first = before.len();
+    let shared = "2300000000000000";
+    let content = |cell: usize| format!("2500{cell:04X}00000000");
+    let number = |number: usize| format!("2000{number:04X}00000000");
+    let of_two = |kind: &str, a: usize, b: usize| format!("{kind}00{a:04X}{b:04X}0000");
+    let counting = [
+        shared,
+        &content(first),
+        &number(bound),
+        &of_two("27", first + 1, first + 2), // less
+        shared,
+        shared,
+        &content(first + 5),
+        &number(1),
+        &of_two("26", first + 6, first + 7), // sum
+        &of_two("17", first + 4, first + 8), // store
+    ];
+    lines(&[before, &counting, after].concat())
+}
+
 /// 64 threads in one chain: each starts the next and waits, and the last one cooperates for ever. A
 /// module starts itself, which the check refuses (8) and the stepper does not.
 fn chain() -> Vec<u8> {
-    lines(&[
+    let before = [
         "0001FFFF00010000", // 0 header
         "0102000100000000", // 1 shared cell, owner 2, a number: how many were started
-        "2300000000000000", // 2 shared cell 0
-        "2500000200000000", // 3 its content
-        "2000003E00000000", // 4 number 62
-        "2700000300040000", // 5 less
-        "2300000000000000", // 6 shared cell 0
-        "2300000000000000", // 7 shared cell 0
-        "2500000700000000", // 8 its content
-        "2000000100000000", // 9 number 1
-        "2600000800090000", // 10 sum
-        "17000006000A0000", // 11 store
+    ];
+    let after = [
         "1400000000000000", // 12 start module 0, and wait
         "1100000B000C0000", // 13 then
         "2101000000000000", // 14 true
@@ -230,38 +231,40 @@ fn chain() -> Vec<u8> {
         "0200001100000000", // 18 module 0
         "1400000000000000", // 19 start module 0, and wait
         "0200001300000000", // 20 main
-    ])
+    ];
+    counting(&before, 62, &after)
 }
 
-/// 64 threads that cooperate for ever. Main's first loop starts 63 in one instant, which the check
-/// refuses (13) and the stepper does not.
+/// 64 threads: main's first loop starts module 0 until there are 63 more, in one instant, which the
+/// check refuses (13) and the stepper does not. Before it stand a shared cell of owner 2, which
+/// counts them, and module 0, after it what main does then.
+fn starting_63(before: [&str; 6], after: &[&str]) -> Vec<u8> {
+    let starting = [
+        "1300000000000000", // 16 start module 0
+        "1100000F00100000", // 17 then
+        "1900000900110000", // 18 while
+    ];
+    counting(&before, 63, &[&starting, after].concat())
+}
+
+/// 64 threads that cooperate for ever.
 fn crowd() -> Vec<u8> {
-    lines(&[
+    let before = [
         "0001FFFF00010000", // 0 header
         "0102000100000000", // 1 shared cell, owner 2, a number: how many were started
         "2101000000000000", // 2 true
         "1500000000000000", // 3 cooperate
         "1900000200030000", // 4 while
         "0200000400000000", // 5 module 0
-        "2300000000000000", // 6 shared cell 0
-        "2500000600000000", // 7 its content
-        "2000003F00000000", // 8 number 63
-        "2700000700080000", // 9 less
-        "2300000000000000", // 10 shared cell 0
-        "2300000000000000", // 11 shared cell 0
-        "2500000B00000000", // 12 its content
-        "2000000100000000", // 13 number 1
-        "2600000C000D0000", // 14 sum
-        "1700000A000E0000", // 15 store
-        "1300000000000000", // 16 start module 0
-        "1100000F00100000", // 17 then
-        "1900000900110000", // 18 while
+    ];
+    let after = [
         "2101000000000000", // 19 true
         "1500000000000000", // 20 cooperate
         "1900001300140000", // 21 while
         "1100001200150000", // 22 then
         "0200001600000000", // 23 main
-    ])
+    ];
+    starting_63(before, &after)
 }
 
 /// A row for the choices of scheduler 2 in a run, with their lines; the state after our run.
@@ -337,29 +340,18 @@ fn generated_then(statement: &str) -> Vec<u8> {
     ])
 }
 
-/// 64 threads: main starts 63 in one instant, as in the crowd, which all await event 0; then it
-/// generates event 1, which nobody awaits, and then event 0.
+/// 63 threads that all await event 0; then main generates event 1, which nobody awaits, and then
+/// event 0.
 fn audience() -> Vec<u8> {
-    lines(&[
+    let before = [
         "0001FFFF00010002", // 0 header
         "0102000100000000", // 1 shared cell, owner 2, a number: how many were started
         "0302000000000000", // 2 event 0, owner 2
         "0302000000000000", // 3 event 1, owner 2
         "1B00000000000000", // 4 await event 0
         "0200000400000000", // 5 module 0
-        "2300000000000000", // 6 shared cell 0
-        "2500000600000000", // 7 its content
-        "2000003F00000000", // 8 number 63
-        "2700000700080000", // 9 less
-        "2300000000000000", // 10 shared cell 0
-        "2300000000000000", // 11 shared cell 0
-        "2500000B00000000", // 12 its content
-        "2000000100000000", // 13 number 1
-        "2600000C000D0000", // 14 sum
-        "1700000A000E0000", // 15 store
-        "1300000000000000", // 16 start module 0
-        "1100000F00100000", // 17 then
-        "1900000900110000", // 18 while
+    ];
+    let after = [
         "1500000000000000", // 19 cooperate
         "1A01000000000000", // 20 generate event 1
         "1A00000000000000", // 21 generate event 0
@@ -367,7 +359,8 @@ fn audience() -> Vec<u8> {
         "1100001300160000", // 23 then
         "1100001200170000", // 24 then
         "0200001800000000", // 25 main
-    ])
+    ];
+    starting_63(before, &after)
 }
 
 /// The time of one choice alone, made from the same state again and again. Each round takes back
