@@ -1,5 +1,5 @@
 -- What nearly every definition takes from the libraries. It defines nothing.
-pub use mathlib.Core.List.{List, [], _∷_, _++_, map, reverse}
+pub use mathlib.Core.List.{List, [], _∷_, _++_, map, flatMap, reverse}
 pub use mathlib.Core.Bool.{Bool, true, false, not, _&&_, _||_}
 pub use mathlib.Core.Path.{_≡_}
 pub use mathlib.Core.Logic.{_≢_, _⊎_}

@@ -1,5 +1,5 @@
 -- A list of choices: each is put to the state that the one before returned or left.
-use Rattle.basics.specs.Prelude.{List, [], _∷_, _++_, map, ℕ}
+use Rattle.basics.specs.Prelude.{List, map, flatMap, ℕ}
 use Rattle.basics.specs.Chains.{eachFrom, lastFrom}
 use Rattle.program.specs.Programs.{Program}
 use Rattle.machine.specs.{Accesses.Access, Accesses.Signal, State.State, Fresh.fresh}
@@ -23,18 +23,10 @@ stateAfter p cs = stateFrom p (fresh p) cs
 abbrev pub answers : Program → List ℕ → List ℕ
 answers p cs = map (λ (r : StepResult). r .answer) (steps p cs)
 
-unfoldable pub allAccesses : List StepResult → List Access
-allAccesses [] = []
-allAccesses (r ∷ rs) = r .accesses ++ allAccesses rs
-
 -- the accesses of all of them, in order: 'those before a refusal too'
 abbrev pub accessesOf : Program → List ℕ → List Access
-accessesOf p cs = allAccesses (steps p cs)
+accessesOf p cs = flatMap (λ (r : StepResult). r .accesses) (steps p cs)
 
 -- and those to events
-unfoldable pub allSignals : List StepResult → List Signal
-allSignals [] = []
-allSignals (r ∷ rs) = r .signals ++ allSignals rs
-
 abbrev pub signalsOf : Program → List ℕ → List Signal
-signalsOf p cs = allSignals (steps p cs)
+signalsOf p cs = flatMap (λ (r : StepResult). r .signals) (steps p cs)

@@ -1,8 +1,8 @@
 -- Demand 3: every accepted text is safe under every list of choices, as a list of steps
 -- (`accepted-safe`) and as a list of calls (`accepted-calls-safe`). Assumes nothing.
-use mathlib.Core.Path.{_≡_, sym, ap, ap₂, subst, _∙_}
+use mathlib.Core.Path.{_≡_, refl, sym, ap, ap₂, subst, _∙_}
 use mathlib.Core.Bool.{Bool, true, false}
-use mathlib.Core.List.{List, [], _∷_, _++_, map}
+use mathlib.Core.List.{List, [], _∷_, _++_, map, flatMap}
 use Prim.Native.Nat.{ℕ}
 use lib.ListN.{length}
 use Rattle.basics.specs.Members.{All}
@@ -31,7 +31,6 @@ use Rattle.reach.proofs.Fits.{file-fits}
 use Rattle.safety.specs.Safety.{Sound, Safe, Safety, NoPrivateInPublic, Apart}
 use Rattle.safety.specs.Accepted.{AcceptedSafe, stateOf, under, along}
 use Rattle.safety.specs.inner.Calls.{SafeCalls, AcceptedCallsSafe}
-use Rattle.safety.proofs.Accesses.{Gathers, accesses-gathered, signals-gathered}
 use Rattle.safety.proofs.Demand3.{demand-3}
 use Rattle.safety.proofs.TypedFiles.{typed}
 
@@ -57,7 +56,7 @@ module _ (fs : List Frame) (F : FileFits fs (programOf fs) (programOf fs .schedu
   n = programOf fs .schedulers
 
   -- what is `made` under the calls, which step from the words of a state in shape
-  module _ {A : Type 0} {made : StepResult → List A} {all : List StepResult → List A} (g : Gathers made all) where
+  module _ {A : Type 0} (made : StepResult → List A) where
     under-is : (s : State) (c : ℕ) → Shaped fs n s → under made fs (pack s) c ≡ made (step P s c)
     unfolding under
     under-is s c z =
@@ -69,17 +68,16 @@ module _ (fs : List Frame) (F : FileFits fs (programOf fs) (programOf fs .schedu
     from w cs = along made fs (λ v c. stepCall fs v c .words) w cs
 
     along-is : (s : State) (cs : List ℕ) → Shaped fs n s
-        → from (pack s) cs ≡ all (stepsFrom P s cs)
-    unfolding along eachFrom
-    along-is s [] z = sym (g .at-end)
+        → from (pack s) cs ≡ flatMap made (stepsFrom P s cs)
+    unfolding along eachFrom flatMap
+    along-is s [] z = refl
     along-is s (c ∷ cs) z =
         ap₂ (λ (x : List A) (y : List A). x ++ y) (under-is s c z)
         (ap (λ (x : CallResult). from (x .words) cs) (call-is fs F s c z) ∙ along-is (step P s c .state) cs (keeps-step fs P n F s c z))
-        ∙ sym (g .at-step (step P s c) _)
 
     -- from the fresh call on
     pub from-fresh : (w cs : List ℕ) → length w ≡ 4834
-        → from (freshCall fs w .words) cs ≡ all (steps P cs)
+        → from (freshCall fs w .words) cs ≡ flatMap made (steps P cs)
     from-fresh w cs e =
         ap (λ (x : CallResult). from (x .words) cs) (fresh-called fs w e)
         ∙ along-is (fresh P) cs (fresh-shaped fs P n F)
@@ -96,8 +94,8 @@ module _ (fs : List Frame) (F : FileFits fs (programOf fs) (programOf fs .schedu
       let u : stateOf fs (wordsFrom fs (freshCall fs w .words) cs) ≡ stateAfter P cs = ap (stateOf fs) q ∙ unpack-pack fs n (stateAfter P cs) (reached-shaped fs P n F cs) in
       record {
         fresh = ap (λ (x : CallResult). x .answer) f;
-        accessed = subst (All Own) (sym (from-fresh accesses-gathered w cs e)) (s .accessed);
-        signalled = subst (All OwnSignal) (sym (from-fresh signals-gathered w cs e)) (s .signalled);
+        accessed = subst (All Own) (sym (from-fresh (λ (r : StepResult). r .accesses) w cs e)) (s .accessed);
+        signalled = subst (All OwnSignal) (sym (from-fresh (λ (r : StepResult). r .signals) w cs e)) (s .signalled);
         answered = subst (All (λ (r : CallResult). Sound (r .answer))) (sym (calls-are fs F w cs e)) (sound-calls (steps P cs) (s .answered));
         words = q ∙ ap pack (sym u);
         public = subst NoPrivateInPublic (sym u) (s .public);

@@ -1,7 +1,7 @@
 -- The premise can be met: document 01's case R with `1202` in frame 7 is accepted, so it is safe
 -- under every list of choices. So is a file with an event, which a run accesses. Assumes nothing.
 use mathlib.Core.Path.{_≡_, refl, subst}
-use mathlib.Core.List.{List, [], _∷_, map}
+use mathlib.Core.List.{List, [], _∷_, map, flatMap}
 use Prim.Native.Nat.{ℕ}
 use Prim.Native.Char.{code}
 use Prim.Native.String.{String}
@@ -41,7 +41,7 @@ use Rattle.machine.specs.Turns.{isSchedulerOf, leave, fits, room, move, goTo}
 use Rattle.machine.specs.Statements.{stepDo, isOwnEvent, signalling, stepAwait}
 use Rattle.machine.specs.Steps.{stepThreadWithin, withoutEventsOf, endInstant, isUnlinked}
 use Rattle.machine.specs.Steps.{stepWithin}
-use Rattle.machine.specs.Runs.{allSignals, signalsOf}
+use Rattle.machine.specs.Runs.{signalsOf}
 use Rattle.safety.specs.Safety.{Safe}
 use Rattle.safety.proofs.Accepted.{accepted-safe}
 
@@ -83,5 +83,5 @@ event-safe cs = accepted-safe eventText (accepted eventText (first (rest compute
 -- so `signalled` of demand 3 says something: thread 1 moves to 3, whose instant ends, and awaits
 pub event-awaited : signalsOf (programOf (textFrames eventText)) (2 ∷ 3 ∷ 3 ∷ [])
     ≡ record { event = 0; owner = 3; thread = 1; place = 3 } ∷ []
-unfolding eventText bytes textFrames wordsOf lineWord digit hexadecimal frameOfWord kindOf children if_then_else_ expressionTo expressionAt statementTo statementAt sharedOf eventsOf modulesFrom allowanceOf programOf fresh isReady threadsWhere entriesExcept enlist isSchedulerOf leave fits room move goTo stepDo isOwnEvent signalling stepAwait stepThreadWithin withoutEventsOf endInstant isUnlinked stepWithin eachFrom allSignals
+unfolding eventText bytes textFrames wordsOf lineWord digit hexadecimal frameOfWord kindOf children if_then_else_ expressionTo expressionAt statementTo statementAt sharedOf eventsOf modulesFrom allowanceOf programOf fresh isReady threadsWhere entriesExcept enlist isSchedulerOf leave fits room move goTo stepDo isOwnEvent signalling stepAwait stepThreadWithin withoutEventsOf endInstant isUnlinked stepWithin eachFrom flatMap
 event-awaited = refl
