@@ -11,7 +11,7 @@ use lib.ListN.{length, take}
 use borrow.Author.Tests.{eq-eqb, le-ltb}
 use Rattle.basics.specs.Members.{All}
 use Rattle.basics.specs.If.{if_then_else_}
-use Rattle.basics.proofs.Ifs.{if-yes}
+use Rattle.basics.proofs.Ifs.{if-yes, and-both}
 use Rattle.basics.specs.Chains.{eachFrom}
 use Rattle.language.specs.declared.frame.Frame.{Frame}
 use Rattle.language.specs.declared.verdict.Verdict.{Verdict}
@@ -33,7 +33,6 @@ use Rattle.machine.specs.Turns.{StepResult}
 use Rattle.machine.specs.Steps.{step}
 use Rattle.machine.specs.Fresh.{fresh}
 use Rattle.machine.specs.Runs.{stepsFrom, steps}
-use Rattle.machine.proofs.Tests.{and-both}
 use Rattle.machine.proofs.Numbers.{all-numbered}
 use Rattle.stepper.specs.declared.answer.Answer.the-variants as A
 use Rattle.safety.proofs.Accepted.{accepted-safe}

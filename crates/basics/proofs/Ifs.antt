@@ -1,6 +1,7 @@
 -- Laws of the conditional, of the connectives and of equal tests, so that no proof unfolds them.
 -- Assumes nothing.
-use mathlib.Core.Path.{_≡_, refl, sym, _∙_}
+use mathlib.Core.Path.{_≡_, refl, sym, ap, _∙_}
+use mathlib.Core.Logic.{_⊎_, inl, inr}
 use mathlib.Core.Bool.{Bool, true, false, _&&_, _||_, true≢false}
 use Prim.Native.Nat.{ℕ, _≤_}
 use lib.Dec.{leb}
@@ -39,6 +40,10 @@ pub and-false : (a b : Bool) → (a && b) ≡ false → a ≡ true → b ≡ tru
 and-false true b h p q = true≢false (sym q ∙ h)
 and-false false b h p q = true≢false (sym p)
 
+pub and-both : (a b : Bool) → a ≡ true → b ≡ true → (a && b) ≡ true
+and-both true b e f = f
+and-both false b e f = absurd (true≢false (sym e))
+
 pub and-off : (a : Bool) → (a && false) ≡ false
 and-off true = refl
 and-off false = refl
@@ -46,6 +51,16 @@ and-off false = refl
 pub or-on : (a : Bool) → (a || true) ≡ true
 or-on true = refl
 or-on false = refl
+
+pub or-true : (a b : Bool) → (a || b) ≡ true → (a ≡ true) ⊎ (b ≡ true)
+or-true true b e = inl refl
+or-true false b e = inr e
+
+pub or-left : (a b : Bool) → a ≡ true → (a || b) ≡ true
+or-left a b e = ap (λ (x : Bool). x || b) e
+
+pub or-right : (a b : Bool) → b ≡ true → (a || b) ≡ true
+or-right a b e = ap (λ (x : Bool). a || x) e ∙ or-on a
 
 pub or-off : (b : Bool) → b ≡ (b || false)
 or-off true = refl

@@ -19,21 +19,11 @@ use Rattle.layout.proofs.Trees.{Among, none-in}
 use Rattle.layout.proofs.Users.{among-children}
 use Rattle.drawing.specs.TreeFaults.{Below}
 use Rattle.drawing.specs.inner.Finds.{belowTo, isBelow}
+use Rattle.basics.proofs.Ifs.{or-true, or-left, or-right}
 use Rattle.basics.proofs.Closures.{count, count-most, fewer, Still, closed}
 use Rattle.drawing.proofs.InOrder.{Within, within}
 
--- ---- connectives, and a test of some member
-pub or-true : (a b : Bool) → (a || b) ≡ true → (a ≡ true) ⊎ (b ≡ true)
-or-true true b e = inl refl
-or-true false b e = inr e
-
-pub or-left : {a : Bool} (b : Bool) → a ≡ true → (a || b) ≡ true
-or-left b e = ap (λ (x : Bool). x || b) e
-
-pub or-right : (a : Bool) {b : Bool} → b ≡ true → (a || b) ≡ true
-or-right true e = refl
-or-right false e = e
-
+-- ---- a test of some member
 pub record Member {A : Type 0} (test : A → Bool) (xs : List A) : Type 0 where
   pub member : A
   pub among : In member xs
@@ -99,9 +89,9 @@ module _ (fs : List Frame) (j : ℕ) where
 
   more : (k i : ℕ) → belowTo k fs j i ≡ true → belowTo (suc k) fs j i ≡ true
   unfolding belowTo
-  more zero i e = or-left _ e
+  more zero i e = or-left _ _ e
   more (suc k) i e =
-      ⊎-elim (λ h. or-left _ h) (λ h. (let m = in-any _ (children (frameAt fs i)) h in or-right (hasChild j (frameAt fs i)) (any-in (λ (c : Child). belowTo (suc k) fs j (c .at)) (m .among) (more k (m .member .at) (m .passes))))) (or-true (hasChild j (frameAt fs i)) _ e)
+      ⊎-elim (λ h. or-left _ _ h) (λ h. (let m = in-any _ (children (frameAt fs i)) h in or-right (hasChild j (frameAt fs i)) _ (any-in (λ (c : Child). belowTo (suc k) fs j (c .at)) (m .among) (more k (m .member .at) (m .passes))))) (or-true (hasChild j (frameAt fs i)) _ e)
 
   nowhere : (k i : ℕ) → belowTo k fs j i ≡ true → i < length fs
   nowhere k i e = below-inside (found-below k i e)
@@ -110,14 +100,14 @@ module _ (fs : List Frame) (j : ℕ) where
       → Still (λ k i. belowTo k fs j i) (length fs) (suc k)
   unfolding belowTo
   still-on k h i l e =
-      ⊎-elim (λ a. or-left _ a) (λ a. (let m = in-any _ (children (frameAt fs i)) a in or-right (hasChild j (frameAt fs i)) (any-in (λ (c : Child). belowTo k fs j (c .at)) (m .among) (h (m .member .at) (nowhere (suc k) (m .member .at) (m .passes)) (m .passes))))) (or-true (hasChild j (frameAt fs i)) _ e)
+      ⊎-elim (λ a. or-left _ _ a) (λ a. (let m = in-any _ (children (frameAt fs i)) a in or-right (hasChild j (frameAt fs i)) _ (any-in (λ (c : Child). belowTo k fs j (c .at)) (m .among) (h (m .member .at) (nowhere (suc k) (m .member .at) (m .passes)) (m .passes))))) (or-true (hasChild j (frameAt fs i)) _ e)
 
 pub below-found : (fs : List Frame) {i j : ℕ} → Below fs i j → (k : ℕ) × (belowTo k fs j i ≡ true)
 unfolding belowTo
 below-found fs (Below.child {i = i} m) = (0, has-child (frameAt fs i) m)
 below-found fs (Below.further {i = i} {j = j} m b) =
     let r = below-found fs b in
-    (suc (r .0), or-right (hasChild j (frameAt fs i)) (any-in (λ (c : Child). belowTo (r .0) fs j (c .at)) m (r .1)))
+    (suc (r .0), or-right (hasChild j (frameAt fs i)) _ (any-in (λ (c : Child). belowTo (r .0) fs j (c .at)) m (r .1)))
 
 -- the test is the relation
 pub is-below : (fs : List Frame) (i j : ℕ) → isBelow fs j i ≡ true → Below fs i j

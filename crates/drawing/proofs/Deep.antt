@@ -11,7 +11,7 @@ use lib.ListN.{length}
 use borrow.Author.Tests.{eq-eqb, eqb-true, ltb-true, lt-ltb}
 use Rattle.basics.specs.Members.{In}
 use Rattle.basics.specs.Members.{any}
-use Rattle.basics.proofs.Ifs.{and-true}
+use Rattle.basics.proofs.Ifs.{and-true, and-both, or-true, or-left, or-right}
 use Rattle.language.specs.Kinds.{isModule, Child, children}
 use Rattle.language.specs.declared.kind.Kind.the-variants.{Module}
 use Rattle.language.specs.declared.frame.Frame.{Frame}
@@ -21,22 +21,11 @@ use Rattle.language.specs.Limits.{mostDepth}
 use Rattle.layout.specs.Faults.{Fault}
 use Rattle.layout.proofs.Searches.{Lowest, same-low, lowest-all, any-true, any-some}
 use Rattle.layout.proofs.Trees.{is-module, in-body}
-use Rattle.layout.proofs.Depths.{AtLeast, seven}
+use Rattle.layout.proofs.Depths.{AtLeast, Reach, reach-on, seven}
 use Rattle.drawing.specs.TreeFaults.{Below}
 use Rattle.drawing.specs.inner.Finds.{deeperTo, isDeep, depthFaultAt}
 use Rattle.drawing.proofs.InOrder.{Within, within}
-use Rattle.drawing.proofs.Cycles.{or-true, or-left, or-right, in-any, any-in, within-all}
-
--- ---- from frame i at the depth d down to frame j at the depth e
-data Reach (fs : List Frame) : ℕ → ℕ → ℕ → ℕ → Type 0 where
-  here : {i d : ℕ} → Reach fs i d i d
-  down : {i d j e : ℕ} {c : Child} → In c (children (frameAt fs i)) → Reach fs (c .at) (suc d) j e
-      → Reach fs i d j e
-
-reach-on : {fs : List Frame} {i d j e : ℕ} {c : Child} → Reach fs i d j e
-    → In c (children (frameAt fs j)) → Reach fs i d (c .at) (suc e)
-reach-on Reach.here m = Reach.down m Reach.here
-reach-on (Reach.down n r) m = Reach.down n (reach-on r m)
+use Rattle.drawing.proofs.Cycles.{in-any, any-in, within-all}
 
 -- every depth is one below the body of a module
 record Under (fs : List Frame) (j e : ℕ) : Type 0 where
@@ -51,17 +40,14 @@ under (Depth.child d m) =
     let u = under d in
     record { at = u .at; inside = u .inside; kind = u .kind; reach = reach-on (u .reach) m }
 
-and-both : {a b : Bool} → a ≡ true → b ≡ true → (a && b) ≡ true
-and-both {a} {b} p q = ap (λ (x : Bool). x && b) p ∙ q
-
 module _ (fs : List Frame) where
   deep-found : {i d j e : ℕ} → Reach fs i d j e → (n : ℕ) → Within fs n i → mostDepth < e
       → deeperTo n fs j d i ≡ true
   unfolding deeperTo
   deep-found (Reach.here {i = i} {d = d}) n (within g) l =
-      or-left _ (and-both (lt-ltb mostDepth d l) (eq-eqb i i refl))
+      or-left _ _ (and-both _ _ (lt-ltb mostDepth d l) (eq-eqb i i refl))
   deep-found (Reach.down {i = i} {d = d} {j = j} {c = c} m r) n (within {d = k} g) l =
-      or-right (ltb mostDepth d && eqb i j) (any-in (λ (c : Child). deeperTo k fs j (suc d) (c .at)) m (deep-found r k (g c m) l))
+      or-right (ltb mostDepth d && eqb i j) _ (any-in (λ (c : Child). deeperTo k fs j (suc d) (c .at)) m (deep-found r k (g c m) l))
 
   found-deep : (n i d j : ℕ) → Depth fs i d → deeperTo n fs j d i ≡ true → AtLeast fs j 25
   unfolding deeperTo
@@ -91,7 +77,7 @@ module _ (fs : List Frame) where
         let u = under (a .is) in
         let b = inside (u .at) _ (in-body (frameAt fs (u .at)) (u .kind)) in
         let q = deep-found (u .reach) (suc (length fs)) (within-all fs inside trees (frameAt fs (u .at) .a)) (a .least) in
-        (reach-inside (u .reach) b, any-some noFrame (λ (g : Frame). isModule (g .kind) && deeperTo (suc (length fs)) fs j 1 (g .a)) fs (u .at) (u .inside) (and-both (ap isModule (u .kind)) q))
+        (reach-inside (u .reach) b, any-some noFrame (λ (g : Frame). isModule (g .kind) && deeperTo (suc (length fs)) fs j 1 (g .a)) fs (u .at) (u .inside) (and-both _ _ (ap isModule (u .kind)) q))
 
     pub depth-low : Lowest (Fault fs 7) (depthFaultAt fs)
     unfolding depthFaultAt

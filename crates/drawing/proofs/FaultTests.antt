@@ -15,7 +15,7 @@ use borrow.Author.Tests.{not-true, not-false}
 use Rattle.basics.specs.Members.{In}
 use Rattle.basics.specs.Members.{any}
 use Rattle.basics.specs.inner.Searches.{lowest}
-use Rattle.basics.proofs.Ifs.{and-true}
+use Rattle.basics.proofs.Ifs.{and-true, and-both, or-true, or-left, or-right}
 use Rattle.language.specs.Kinds.{isModule, classOf, Child, children}
 use Rattle.language.specs.declared.kind.Class.{Class}
 use Rattle.language.specs.declared.frame.Frame.{Frame}
@@ -27,7 +27,7 @@ use Rattle.layout.proofs.Searches.{Lowest, same-low, lowest-all, any-none, any-
 use Rattle.drawing.specs.TreeFaults.{Below, TreeFault, ShapeFault}
 use Rattle.drawing.specs.inner.Finds.{isBelow, isTreeFault, treeFaultAt, isModuleFrame, isShapeFault}
 use Rattle.drawing.specs.inner.Finds.{shapeFaultAt}
-use Rattle.drawing.proofs.Cycles.{or-true, or-left, or-right, in-any, any-in, is-below}
+use Rattle.drawing.proofs.Cycles.{in-any, any-in, is-below}
 use Rattle.drawing.proofs.Cycles.{below-is}
 
 -- ---- 21
@@ -43,11 +43,11 @@ tree-is : (fs : List Frame) {j : ℕ} → TreeFault fs j
     → (j < length fs) × (isTreeFault fs j (frameAt fs j) ≡ true)
 unfolding isTreeFault
 tree-is fs (TreeFault.missing l m h) =
-    (l, or-left _ (any-in (λ (c : Child). leb (length fs) (c .at)) m (le-leb _ _ h)))
+    (l, or-left _ _ (any-in (λ (c : Child). leb (length fs) (c .at)) m (le-leb _ _ h)))
 tree-is fs (TreeFault.twice {j = j} l h) =
-    (l, or-right (any _ (children (frameAt fs j))) (or-left _ (le-leb 2 (used j fs) h)))
+    (l, or-right (any _ (children (frameAt fs j))) _ (or-left _ _ (le-leb 2 (used j fs) h)))
 tree-is fs (TreeFault.cycle {j = j} l b) =
-    (l, or-right (any _ (children (frameAt fs j))) (or-right (leb 2 (used j fs)) (below-is fs j j l b)))
+    (l, or-right (any _ (children (frameAt fs j))) _ (or-right (leb 2 (used j fs)) _ (below-is fs j j l b)))
 
 pub tree-low : (fs : List Frame) → Lowest (TreeFault fs) (treeFaultAt fs)
 unfolding treeFaultAt
@@ -133,20 +133,17 @@ shape-test fs j l h =
         let a = and-true _ _ e in
         ShapeFault.no-module (eqb-true _ _ (a .0)) (λ k q. any-false noFrame isModuleFrame fs (not-true _ (a .1)) k q)
 
-and-both : {a b : Bool} → a ≡ true → b ≡ true → (a && b) ≡ true
-and-both {a} {b} p q = ap (λ (x : Bool). x && b) p ∙ q
-
 shape-is : (fs : List Frame) {j : ℕ} → ShapeFault fs j
     → (j < length fs) × (isShapeFault fs j (frameAt fs j) ≡ true)
 unfolding isShapeFault
 shape-is fs (ShapeFault.class {i = i} {c = c} l m h) =
-    (l, or-left _ (any-in (λ (c : Child). not (sameClass (classOf (frameAt fs (c .at) .kind)) (c .class))) m (class-differs _ _ h)))
+    (l, or-left _ _ (any-in (λ (c : Child). not (sameClass (classOf (frameAt fs (c .at) .kind)) (c .class))) m (class-differs _ _ h)))
 shape-is fs (ShapeFault.leftover {j = j} l k h) =
-    (l, or-right (C6 fs (frameAt fs j)) (or-left _ (and-both k (ap not (any-none noFrame (hasChild j) fs h)))))
+    (l, or-right (C6 fs (frameAt fs j)) _ (or-left _ _ (and-both _ _ k (ap not (any-none noFrame (hasChild j) fs h)))))
 shape-is fs (ShapeFault.main {j = j} l k h s) =
-    (l, or-right (C6 fs (frameAt fs j)) (or-right (L6 fs j (frameAt fs j)) (or-left _ (and-both (and-both k (ap not (from-none fs (suc j) h))) (ap not (ne-eqb (frameAt fs j .s) 0 s))))))
+    (l, or-right (C6 fs (frameAt fs j)) _ (or-right (L6 fs j (frameAt fs j)) _ (or-left _ _ (and-both _ _ (and-both _ _ k (ap not (from-none fs (suc j) h))) (ap not (ne-eqb (frameAt fs j .s) 0 s))))))
 shape-is fs (ShapeFault.no-module {j = j} e h) =
-    (omega arith, or-right (C6 fs (frameAt fs j)) (or-right (L6 fs j (frameAt fs j)) (or-right (M6 fs j (frameAt fs j)) (and-both (eq-eqb _ _ e) (ap not (any-none noFrame isModuleFrame fs h))))))
+    (omega arith, or-right (C6 fs (frameAt fs j)) _ (or-right (L6 fs j (frameAt fs j)) _ (or-right (M6 fs j (frameAt fs j)) _ (and-both _ _ (eq-eqb _ _ e) (ap not (any-none noFrame isModuleFrame fs h))))))
 
 pub shape-low : (fs : List Frame) → Lowest (ShapeFault fs) (shapeFaultAt fs)
 unfolding shapeFaultAt

@@ -11,7 +11,7 @@ use lib.ListN.{length, getD, take}
 use borrow.Author.Tests.{eqb-true, eqb-false, eq-eqb, ne-eqb, ltb-true, lt-ltb}
 use Rattle.basics.specs.If.{if_then_else_}
 use Rattle.basics.specs.Members.{In, All}
-use Rattle.basics.proofs.Ifs.{if-yes, if-no, and-true}
+use Rattle.basics.proofs.Ifs.{if-yes, if-no, and-true, or-on}
 use Rattle.language.specs.Places.{hasPlace, hasScheduler}
 use Rattle.language.specs.Types.{typeWord, contentWord}
 use Rattle.language.specs.Limits.{mostSchedulers, mostShared, mostEvents, mostModules}
@@ -227,11 +227,7 @@ further-again v w x y p q h = go (eqb v 0) refl (eqb x 0) refl
     go false e false g =
         let z = eqb-false x 0 g in
         let u = p (omega (arith, z)) in
-        rw (ne-eqb y 0 (λ i. omega arith)) (or-true (eqb w 0))
-      where
-        or-true : (b : Bool) → (b || true) ≡ true
-        or-true true = refl
-        or-true false = refl
+        rw (ne-eqb y 0 (λ i. omega arith)) (or-on (eqb w 0))
 
 module _ (fs gs : List Frame) (i j : ℕ) (f g : Frame) (same : frameAt gs 0 ≡ frameAt fs 0) (s-same : g .s ≡ f .s) (some : 0 < f .a → 0 < g .a) where
   schedulers : schedulersOf gs ≡ schedulersOf fs

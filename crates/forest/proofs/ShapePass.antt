@@ -13,7 +13,7 @@ use lib.Seq.{getD-drop}
 use borrow.Author.Tests.{eq-eqb, ne-eqb, eqb-true, eqb-false, ltb-true, ltb-false, not-true}
 use Rattle.basics.specs.Members.{any}
 use Rattle.basics.specs.inner.Searches.{lowest, earlier}
-use Rattle.basics.proofs.Ifs.{and-true}
+use Rattle.basics.proofs.Ifs.{and-true, and-both, or-true, or-left, or-right}
 use Rattle.language.specs.Kinds.{isModule, classOf}
 use Rattle.language.specs.declared.frame.Frame.{Frame}
 use Rattle.text.specs.Frames.{framesOf}
@@ -29,7 +29,6 @@ use Rattle.layout.specs.Order.{hasChild, hasClass}
 use Rattle.layout.specs.inner.Uses.{CountsUses}
 use Rattle.layout.proofs.Searches.{Lowest, either, same-low, lowest-one, lowest-all, any-false}
 use Rattle.drawing.specs.inner.Finds.{isModuleFrame, isShapeFault, shapeFaultAt}
-use Rattle.drawing.proofs.Cycles.{or-true, or-left, or-right}
 use Rattle.forest.specs.inner.FrameTests.{hasWrongChild, hasClassFault, isMainFault}
 use Rattle.forest.proofs.ShapeTests.{class-fault-is}
 
@@ -133,21 +132,18 @@ hit-is fs j h =
     ⊎-elim (λ e. inl (last-is fs j e)) (λ e. inr (none-is fs j e))
     (or-true (lastTest fs j (frameAt fs j)) (noneTest fs j) h)
 
-and-both : {a b : Bool} → a ≡ true → b ≡ true → (a && b) ≡ true
-and-both {a} {b} p q = ap (λ (x : Bool). x && b) p ∙ q
-
 last-hit : (fs : List Frame) (j : ℕ) → isModule (frameAt fs j .kind) ≡ true
     → NoModuleFrom fs (suc j) → (frameAt fs j .s ≡ 0 → ⊥) → isMainFault fs j (frameAt fs j) ≡ true
 unfolding isMainFault
 last-hit fs j k h s =
-    or-left (noneTest fs j)
-    (and-both (and-both k (ap not h)) (ap not (ne-eqb (frameAt fs j .s) 0 s)))
+    or-left _ (noneTest fs j)
+    (and-both _ _ (and-both _ _ k (ap not h)) (ap not (ne-eqb (frameAt fs j .s) 0 s)))
 
 none-hit : (fs : List Frame) (j : ℕ) → suc j ≡ length fs → NoModuleFrom fs 0
     → isMainFault fs j (frameAt fs j) ≡ true
 unfolding isMainFault
 none-hit fs j e h =
-    or-right (lastTest fs j (frameAt fs j)) (and-both (eq-eqb (suc j) (length fs) e) (ap not h))
+    or-right (lastTest fs j (frameAt fs j)) _ (and-both _ _ (eq-eqb (suc j) (length fs) e) (ap not h))
 
 -- k is the last module: it alone may stand in the way
 module _ (fs : List Frame) (k : ℕ) (l : k < length fs)
@@ -256,8 +252,8 @@ shape-earlier fs =
     to : (j : ℕ) → Hit (hasClassFault fs) j ⊎ Hit (isMainFault fs) j → Hit (isShapeFault fs) j
     to j =
         let f = frameAt fs j in
-        ⊎-elim (λ h. (h .0, halves fs j f ∙ or-left (isMainFault fs j f) (h .1)))
-        (λ h. (h .0, halves fs j f ∙ or-right (hasClassFault fs j f) (h .1)))
+        ⊎-elim (λ h. (h .0, halves fs j f ∙ or-left _ (isMainFault fs j f) (h .1)))
+        (λ h. (h .0, halves fs j f ∙ or-right (hasClassFault fs j f) _ (h .1)))
 
     back : (j : ℕ) → Hit (isShapeFault fs) j → Hit (hasClassFault fs) j ⊎ Hit (isMainFault fs) j
     back j h =

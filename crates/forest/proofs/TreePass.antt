@@ -11,6 +11,7 @@ use lib.Dec.{eqb, leb, ltb}
 use lib.ListN.{getD, length, take}
 use lib.Seq.{length-take-le}
 use borrow.Author.Tests.{eq-eqb, ne-eqb, leb-true, leb-false, ltb-true, ltb-false}
+use Rattle.basics.proofs.Ifs.{or-true, or-left, or-right}
 use Rattle.basics.specs.inner.Searches.{lowest, earlier}
 use Rattle.language.specs.declared.frame.Frame.{Frame}
 use Rattle.text.specs.Frames.{framesOf}
@@ -26,7 +27,6 @@ use Rattle.layout.specs.inner.Uses.{CountsUses}
 use Rattle.layout.proofs.Searches.{Lowest, either, lowest-one, lowest-all}
 use Rattle.layout.proofs.UseCounts.{cap-full, cap-few}
 use Rattle.drawing.specs.inner.Finds.{isBelow, isTreeFault, treeFaultAt}
-use Rattle.drawing.proofs.Cycles.{or-true, or-left, or-right}
 use Rattle.forest.specs.inner.FrameTests.{hasChildFrom, isUseFault, isCycleFault}
 use Rattle.forest.specs.inner.FrameTests.{framesBefore}
 use Rattle.forest.specs.inner.Walks.{NoCycleBefore}
@@ -52,7 +52,7 @@ module _ (ws : List ℕ) (i : ℕ) (f : Frame) (x : Bool)
 
   pub use-missing : x ≡ true → true ≡ isUseFault (framesOf ws) i (frameAt (framesOf ws) i)
   unfolding isUseFault
-  use-missing t = sym (or-left _ (missing-is ∙ t))
+  use-missing t = sym (or-left _ _ (missing-is ∙ t))
 
   pub use-twice : (u : List ℕ) → x ≡ false → CountsUses (framesOf ws) u → i < length ws
       → length ws ≤ 1024
@@ -201,10 +201,10 @@ module _ (fs : List Frame) (n : ℕ)
       to : (j : ℕ) → EitherHit fs n j → TreeHit fs j
       to j =
           let f = frameAt fs j in
-          ⊎-elim (λ h. (h .0, halves fs j f ∙ or-left (isBelow fs j j) (h .1)))
+          ⊎-elim (λ h. (h .0, halves fs j f ∙ or-left _ (isBelow fs j j) (h .1)))
           (λ h. (
             let l = h .0 in let s = size in let m = inside in omega arith,
-            halves fs j f ∙ or-right (isUseFault fs j f) (h .1),
+            halves fs j f ∙ or-right (isUseFault fs j f) _ (h .1),
           ))
 
       -- a cycle that was not looked for comes after the frame that was found

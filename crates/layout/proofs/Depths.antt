@@ -58,12 +58,12 @@ seven (Fault.depth {d = d} h l) e = record { depth = d; is = h; least = l }
 
 -- ---- from a frame down
 -- from frame i at the depth d one comes down to frame j at the depth e
-data Reach (fs : List Frame) : ℕ → ℕ → ℕ → ℕ → Type 0 where
+pub data Reach (fs : List Frame) : ℕ → ℕ → ℕ → ℕ → Type 0 where
   here : {i d : ℕ} → Reach fs i d i d
   down : {i d j e : ℕ} {c : Child} → In c (children (frameAt fs i)) → Reach fs (c .at) (suc d) j e
       → Reach fs i d j e
 
-reach-on : {fs : List Frame} {i d j e : ℕ} {c : Child} → Reach fs i d j e
+pub reach-on : {fs : List Frame} {i d j e : ℕ} {c : Child} → Reach fs i d j e
     → In c (children (frameAt fs j)) → Reach fs i d (c .at) (suc e)
 reach-on Reach.here m = Reach.down m Reach.here
 reach-on (Reach.down n r) m = Reach.down n (reach-on r m)

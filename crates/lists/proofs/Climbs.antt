@@ -11,11 +11,10 @@ use lib.Bits.{bitOr}
 use lib.Dec.{ltb}
 use lib.ListN.{getD}
 use borrow.Author.Tests.{lt-ltb, le-ltb, ltb-true, ltb-false}
-use Rattle.basics.proofs.Ifs.{if-yes, if-no}
+use Rattle.basics.proofs.Ifs.{if-yes, if-no, or-true, or-left, or-right}
 use Rattle.machine.specs.Waits.{Family, itself, begun}
 use Rattle.machine.specs.Shapes.{IsThread}
 use Rattle.machine.specs.inner.Ranges.{threadInRange}
-use Rattle.machine.proofs.Tests.{or-true, or-left, or-right}
 use Rattle.machine.proofs.Families.{family-found, family-is, begun-by}
 use Rattle.machine.proofs.AllBelow.{same-test}
 use Rattle.lists.specs.inner.Families.{starterIn, isOfFamily, hasThread, lacksThread}

@@ -8,12 +8,11 @@ use native.Mathlib.Decide.{ℕ-discrete}
 use lib.Dec.{leb, eqb}
 use lib.Bits.{bitAnd, bitOr, and-mask}
 use borrow.Author.Tests.{le-leb, lt-leb, leb-true, eq-eqb, ne-eqb, eqb-true}
-use Rattle.basics.proofs.Ifs.{and-true}
+use Rattle.basics.proofs.Ifs.{and-true, and-both}
 use Rattle.basics.proofs.Bits.{bit, no-bit, set-bit, kept-bit}
 use Rattle.basics.proofs.Closures.{count, fewer}
 use Rattle.machine.specs.Shapes.{IsThread}
 use Rattle.machine.specs.inner.Ranges.{threadInRange}
-use Rattle.machine.proofs.Tests.{and-both}
 use Rattle.lists.specs.inner.Families.{hasThread, lacksThread}
 
 -- ---- numbers of threads

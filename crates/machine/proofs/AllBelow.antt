@@ -6,8 +6,8 @@ use mathlib.Core.Bool.{Bool, true, false, not, true≢false}
 use native.Mathlib.Omega.{arith}
 use native.Mathlib.Numerals.{add-one}
 use borrow.Author.Tests.{not-true, not-false}
+use Rattle.basics.proofs.Ifs.{and-both}
 use Rattle.machine.specs.inner.Ranges.{allBelow}
-use Rattle.machine.proofs.Tests.{and-both}
 use Rattle.machine.proofs.Ranges.{below-each}
 
 -- ---- tests by their facts

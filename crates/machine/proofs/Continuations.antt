@@ -9,10 +9,10 @@ use native.Mathlib.Omega.{arith}
 use lib.Dec.{leb}
 use lib.ListN.{length}
 use borrow.Author.Tests.{le-leb}
+use Rattle.basics.proofs.Ifs.{and-both}
 use Rattle.program.specs.Trees.{Expr, Stmt, nothing, seq, doAt, start, startWait, cooperate, letIn}
 use Rattle.program.specs.Trees.{store, ifElse, while}
 use Rattle.program.specs.Trees.{generate, await}
-use Rattle.machine.proofs.Tests.{and-both}
 use Rattle.machine.specs.State.{Item, run, back, drop}
 use Rattle.machine.specs.Turns.{holds, Spaces, stateSpaces, fits}
 use Rattle.machine.specs.declared.value.Value.{Value}

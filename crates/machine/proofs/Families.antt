@@ -10,7 +10,7 @@ use native.Mathlib.Nat.{add-zero}
 use lib.Dec.{eqb, ltb}
 use lib.ListN.{length, getD, List·getD-eq-default}
 use borrow.Author.Tests.{eq-eqb, eqb-true, ltb-true, ltb-false}
-use Rattle.basics.proofs.Ifs.{and-true}
+use Rattle.basics.proofs.Ifs.{and-true, or-true, or-left, or-right, and-both}
 use Rattle.basics.proofs.Closures.{Still, closed}
 use Rattle.machine.specs.State.{Thread, Entry, plain, waiting, noThread, nth, starterOf}
 use Rattle.machine.specs.State.{awaiting}
@@ -18,7 +18,6 @@ use Rattle.machine.specs.Waits.{Family, itself, begun, Ready, no-wait, a
 use Rattle.machine.specs.Waits.{ReadyComputes}
 use Rattle.machine.specs.Waits.{tries-again}
 use Rattle.machine.specs.inner.Families.{familyTo, familySteps, inFamily, endedFrom, isReady}
-use Rattle.machine.proofs.Tests.{or-true, or-left, or-right, and-both}
 use Rattle.machine.proofs.AllBelow.{same-test}
 
 -- ---- the family by steps

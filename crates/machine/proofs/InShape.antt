@@ -10,7 +10,7 @@ use lib.ListN.{getD, length, length-map, length-reverse, List·getD-eq-default}
 use lib.Dec.{ltb, leb, eqb}
 use borrow.Author.Tests.{ltb-true, lt-ltb, le-ltb, leb-true, le-leb}
 use Rattle.basics.specs.Members.{All}
-use Rattle.basics.proofs.Ifs.{if-yes, if-no, and-true}
+use Rattle.basics.proofs.Ifs.{if-yes, if-no, and-true, and-both}
 use Rattle.language.specs.Places.{hasPlace}
 use Rattle.language.specs.declared.frame.Frame.{Frame}
 use Rattle.program.specs.Trees.{frameAt, statementAt, rootS}
@@ -31,7 +31,6 @@ use Rattle.machine.specs.Shapes.{isStatement, ownerInRange, ValueFits, n
 use Rattle.machine.specs.Shapes.{ItemFits, run-fits, back-fits, drop-fits, EntryFits}
 use Rattle.machine.specs.Shapes.{plain-fits, waiting-fits, IsThread, ThreadFits}
 use Rattle.machine.specs.Shapes.{awaiting-fits, SchedulerFits, CellFits, Shaped}
-use Rattle.machine.proofs.Tests.{and-both}
 use Rattle.machine.proofs.Lists.{all-getD, all-imply, all-map, all-reverse}
 use Rattle.machine.proofs.Regions.{by-thread-word, by-scheduler-word}
 use Rattle.machine.proofs.WordLaws.{tab-length, tab-at, Says, thread-says, scheduler-says}

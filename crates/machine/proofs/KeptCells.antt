@@ -10,7 +10,7 @@ use lib.Seq.{getD-set-same, getD-set-other, getD-at}
 use lib.Dec.{ltb, leb, eqb}
 use borrow.Author.Tests.{ltb-true, ltb-false, eqb-false, leb-true, le-leb}
 use Rattle.basics.specs.Members.{All}
-use Rattle.basics.proofs.Ifs.{if-all, and-true}
+use Rattle.basics.proofs.Ifs.{if-all, and-true, and-both, or-left, or-right}
 use Rattle.language.specs.Places.{hasPlace, hasScheduler}
 use Rattle.language.proofs.PlaceLaws.{place-scheduler}
 use Rattle.program.specs.Trees.{Expr}
@@ -28,7 +28,6 @@ use Rattle.machine.specs.declared.value.Value.{Value}
 use Rattle.machine.specs.declared.value.Value.the-variants.{Number, Truth, Cell}
 use Rattle.machine.specs.declared.value.Outcome.{Outcome}
 use Rattle.machine.specs.declared.value.Outcome.the-variants.{Is, Foreign, Spent, Stuck}
-use Rattle.machine.proofs.Tests.{and-both, or-left, or-right}
 use Rattle.machine.proofs.Lists.{all-getD}
 
 -- ---- a list with a member replaced, and with one more, where Q holds of each by its index

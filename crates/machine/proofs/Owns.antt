@@ -8,7 +8,7 @@ use Prim.Native.Nat.{ℕ}
 use lib.Dec.{leb, eqb}
 use borrow.Author.Tests.{leb-true, eqb-true}
 use Rattle.basics.specs.Members.{All, none, more}
-use Rattle.basics.proofs.Ifs.{if-all, and-true}
+use Rattle.basics.proofs.Ifs.{if-all, and-true, or-true}
 use Rattle.program.specs.Trees.{Expr, number, truth, variable, shared, new, content, sum, less}
 use Rattle.program.specs.Trees.{choose}
 use Rattle.machine.specs.Accesses.{Access, Own}
@@ -22,7 +22,6 @@ use Rattle.machine.specs.declared.value.Value.{Value}
 use Rattle.machine.specs.declared.value.Value.the-variants.{Number, Truth, Cell}
 use Rattle.machine.specs.declared.value.Outcome.{Outcome}
 use Rattle.machine.specs.declared.value.Outcome.the-variants.{Is, Foreign, Spent, Stuck}
-use Rattle.machine.proofs.Tests.{or-true}
 use Rattle.machine.proofs.Lists.{all-append}
 
 -- ---- what is claimed, and that it holds of one evaluation after the other

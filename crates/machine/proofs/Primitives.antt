@@ -9,7 +9,7 @@ use mathlib.Core.Bool.{Bool, true, false, _||_, true≢false}
 use Prim.Native.Nat.{ℕ, _≤_, _<_}
 use lib.Dec.{ltb, eqb}
 use borrow.Author.Tests.{le-leb, eq-eqb, ltb-true, ltb-false}
-use Rattle.basics.proofs.Ifs.{if-all}
+use Rattle.basics.proofs.Ifs.{if-all, or-on}
 use Rattle.language.specs.Places.{home}
 use Rattle.language.specs.Limits.{mostCells}
 use Rattle.machine.specs.Accesses.{Access, Own}
@@ -71,17 +71,13 @@ module _ (h : Here) where
 
   -- ---- that it is so
 
-  or-right : (a : Bool) → (a || true) ≡ true
-  or-right true = refl
-  or-right false = refl
-
   -- the test for one's own cells is exact
   own-passes : (c o : ℕ) → Own (accessOf h c o) → isOwn h o ≡ true
   unfolding isOwn
   own-passes c o (inl e) = rw (eq-eqb o (threadOwner (h .thread)) e) refl
   own-passes c o (inr (l, e)) =
       rw (le-leb home (h .place) l, eq-eqb o (h .place) e)
-      (or-right (eqb o (threadOwner (h .thread))))
+      (or-on (eqb o (threadOwner (h .thread))))
 
   not-own : (c o : ℕ) → isOwn h o ≡ false → Own (accessOf h c o) → ⊥
   not-own c o e own = true≢false (sym (own-passes c o own) ∙ e)

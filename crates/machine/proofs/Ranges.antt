@@ -11,14 +11,13 @@ use lib.Dec.{ltb, leb, eqb}
 use borrow.Author.Tests.{ltb-true, ltb-false, lt-ltb, le-ltb, eq-eqb, ne-eqb, eqb-true, leb-true}
 use borrow.Author.Tests.{le-leb}
 use Rattle.basics.specs.If.{if_then_else_}
-use Rattle.basics.proofs.Ifs.{if-all, if-yes, if-no, and-true}
+use Rattle.basics.proofs.Ifs.{if-all, if-yes, if-no, and-true, and-both}
 use Rattle.language.specs.Places.{hasPlace}
 use Rattle.language.specs.declared.frame.Frame.{Frame}
 use Rattle.program.specs.Trees.{frameAt}
 use Rattle.machine.specs.inner.Ranges.{threadInRange, valueInRange, itemInRange, entryInRange}
 use Rattle.machine.specs.inner.Ranges.{cellInRange, listInRange, schedulerInRange}
 use Rattle.machine.specs.inner.Ranges.{threadWordInRange, wordInRange, allBelow, inRange}
-use Rattle.machine.proofs.Tests.{and-both}
 use Rattle.machine.proofs.Regions.{by-region}
 
 -- ---- a test at every number below n: what it says of each of them, and from each of them

@@ -5,20 +5,6 @@ use mathlib.Core.Bool.{Bool, true, false, _&&_, _||_, true≢false}
 use Rattle.basics.specs.If.{if_then_else_}
 use Rattle.basics.proofs.Ifs.{if-all, or-on}
 
-pub or-true : (a b : Bool) → (a || b) ≡ true → (a ≡ true) ⊎ (b ≡ true)
-or-true true b e = inl refl
-or-true false b e = inr e
-
-pub or-left : (a b : Bool) → a ≡ true → (a || b) ≡ true
-or-left a b e = ap (λ (x : Bool). x || b) e
-
-pub or-right : (a b : Bool) → b ≡ true → (a || b) ≡ true
-or-right a b e = ap (λ (x : Bool). a || x) e ∙ or-on a
-
-pub and-both : (a b : Bool) → a ≡ true → b ≡ true → (a && b) ≡ true
-and-both true b e f = f
-and-both false b e f = absurd (true≢false (sym e))
-
 pub not-both : (a b : Bool) → (a ≡ true → b ≡ true → ⊥) → (a && b) ≡ false
 not-both true true f = absurd (f refl refl)
 not-both true false f = refl

@@ -10,7 +10,7 @@ use lib.Bits.{bitAnd, bitOr, or-add-and, and-le-l, and-le-r}
 use lib.ListN.{getD, length, List·getD-eq-default}
 use lib.Dec.{ltb, leb, eqb}
 use borrow.Author.Tests.{lt-ltb, le-ltb, le-leb, lt-leb, eq-eqb, eqb-true, not-true, not-false}
-use Rattle.basics.proofs.Ifs.{yes, no, if-all, leb-same, and-true}
+use Rattle.basics.proofs.Ifs.{yes, no, if-all, leb-same, and-true, and-both}
 use Rattle.language.specs.Places.{hasPlace, hasScheduler}
 use Rattle.language.specs.declared.kind.Kind.{Kind}
 use Rattle.language.specs.declared.frame.Frame.{Frame}
@@ -23,7 +23,6 @@ use Rattle.machine.specs.Shapes.{isStatement, ownerInRange}
 use Rattle.ranges.specs.inner.Passes.{isZero, memberInRange, wordPasses, eventInRange}
 use Rattle.ranges.specs.inner.Passes.{eventPasses}
 use Rattle.ranges.specs.declared.range.Member.{Member}
-use Rattle.machine.proofs.Tests.{and-both}
 use Rattle.machine.proofs.AllBelow.{same-test, answer-more, answer-wrong}
 
 -- ---- numbers of threads, values

@@ -10,7 +10,7 @@ use native.Mathlib.Omega.{arith}
 use lib.Dec.{leb, ltb, eqb}
 use lib.ListN.{length}
 use borrow.Author.Tests.{lt-ltb, le-leb, eq-eqb, eqb-true, eqb-false}
-use Rattle.basics.proofs.Ifs.{if-all}
+use Rattle.basics.proofs.Ifs.{if-all, and-both, or-left, or-right}
 use Rattle.program.specs.Trees.{Expr}
 use Rattle.machine.specs.State.{Stored, cellAt, isUsed, freeNumber, usedCells, threadOwner}
 use Rattle.machine.specs.Evaluation.{Here, EvalResult, Evaluation, gives, withAccesses, andThen, _>>=_}
@@ -20,7 +20,7 @@ use Rattle.machine.specs.Evaluation.{byTruth, aNumber, plus, lessThan, eval, st
 use Rattle.machine.specs.declared.value.Value.{Value}
 use Rattle.machine.specs.declared.value.Outcome.{Outcome}
 use Rattle.machine.specs.declared.value.Outcome.the-variants.{Is, Foreign, Spent}
-use Rattle.machine.proofs.Tests.{taken, and-both, or-left, or-right}
+use Rattle.machine.proofs.Tests.{taken}
 use Rattle.safety.proofs.Typing.{Ty, num, tru, cell, Pub, CellTyping, Store, Allowed, TypedE}
 use Rattle.safety.proofs.Typing.{t-number, t-truth, t-variable, t-shared, t-new, t-content}
 use Rattle.safety.proofs.Typing.{t-sum, t-less, t-choose}
