@@ -8,8 +8,9 @@ pub mod FrameLaws
 pub mod ChildFolds
 pub mod NodeLaws
 pub mod NodeTrees
--- Modules by number, main's body, the shared cells counted, their types.
+-- Modules and events by number, main's body, the shared cells counted, their types.
 pub mod MainLaws
+pub mod NumberedLaws
 pub mod ModuleLaws
 pub mod EventLaws
 pub mod SharedLaws

@@ -1,5 +1,6 @@
 pub mod Nodes
 pub mod Ordered
+pub mod Numbered
 pub mod Modules
 pub mod Events
 pub mod Shared

@@ -1,6 +1,7 @@
 // Events by their number.
-use language::kind::is_event;
-use text::line::frame_of_word;
+use crate::numbered::FrameFound;
+use crate::numbered::Numbered;
+use crate::numbered::frame_numbered;
 ghost use mathlib.Core.Path.{_≡_};
 ghost use Rattle.text.specs.Frames.{framesOf};
 ghost use Rattle.program.specs.Programs.{programOf};
@@ -12,30 +13,17 @@ pub struct EventFound {
     pub owner: u8,
 }
 
-// Events stand before the modules, so that one that is there is found among the first frames.
 pub fn event_at(frames: &[u64], e: u8) -> EventFound
     ensures { λ r. ⌜ r ≡ eventIn (programOf (framesOf (now (frames .entry)))) e ⌝ }
 {
-    let mut i: usize = 0;
-    let mut left = e;
-    while i < frames.len() {
-        let f = frame_of_word(frames[i]);
-        let k = f.kind;
-        if !is_event(k) {
-            i += 1;
-            continue;
-        }
-        if left == 0 {
-            return EventFound {
-                there: true,
-                owner: f.s,
-            };
-        }
-        i += 1;
-        left -= 1;
-    }
-    EventFound {
-        there: false,
-        owner: 0,
+    match frame_numbered(frames, Numbered::Event, e) {
+        FrameFound::At(f) => EventFound {
+            there: true,
+            owner: f.s,
+        },
+        FrameFound::Nowhere => EventFound {
+            there: false,
+            owner: 0,
+        },
     }
 }

@@ -3,4 +3,5 @@ pub mod event;
 pub mod frames;
 pub mod module;
 pub mod node;
+mod numbered;
 pub mod shared;

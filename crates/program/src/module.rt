@@ -1,4 +1,7 @@
 // Modules by their number, and main, the last.
+use crate::numbered::FrameFound;
+use crate::numbered::Numbered;
+use crate::numbered::frame_numbered;
 use language::kind::is_module;
 use language::limit::MOST_PARAMETERS;
 use text::line::frame_of_word;
@@ -28,29 +31,17 @@ fn parameters_of(s: u8) -> u64
 pub fn module_at(frames: &[u64], m: u8) -> ModuleFound
     ensures { λ r. ⌜ r ≡ foundIn (programOf (framesOf (now (frames .entry)))) m ⌝ }
 {
-    let mut i: usize = 0;
-    let mut left = m;
-    while i < frames.len() {
-        let f = frame_of_word(frames[i]);
-        let k = f.kind;
-        if !is_module(k) {
-            i += 1;
-            continue;
-        }
-        if left == 0 {
-            return ModuleFound {
-                there: true,
-                parameters: parameters_of(f.s),
-                body: f.a as u64,
-            };
-        }
-        i += 1;
-        left -= 1;
-    }
-    ModuleFound {
-        there: false,
-        parameters: 0,
-        body: 0,
+    match frame_numbered(frames, Numbered::Module, m) {
+        FrameFound::At(f) => ModuleFound {
+            there: true,
+            parameters: parameters_of(f.s),
+            body: f.a as u64,
+        },
+        FrameFound::Nowhere => ModuleFound {
+            there: false,
+            parameters: 0,
+            body: 0,
+        },
     }
 }
 
