@@ -12,22 +12,22 @@ pub by-region : (Q : ℕ → Type 0) → Q 0 → Q 1 → ((k j : ℕ) → k < 8 
     → (i : ℕ) → i < 4834 → Q i
 by-region Q threads cells scheduler thread event cell i g = count (ℕ-discrete i 0) (ℕ-discrete i 1)
   where
-    behind : Dec (i < 4578) → 4562 ≤ i → Q i
-    behind (yes l) m =
+    from-events : Dec (i < 4578) → 4562 ≤ i → Q i
+    from-events (yes l) m =
         let e : 4562 + (i - 4562) ≡ i = omega arith in
         subst Q e (event (i - 4562) (omega arith))
-    behind (no n) m =
+    from-events (no n) m =
         let l : 4578 ≤ i = omega (arith, n) in
         let e : 4578 + (i - 4578) ≡ i = omega arith in
         subst Q e (cell (i - 4578) (omega arith))
 
-    beyond : Dec (i < 4562) → 1042 ≤ i → Q i
-    beyond (yes l) m =
+    from-threads : Dec (i < 4562) → 1042 ≤ i → Q i
+    from-threads (yes l) m =
         let k : ℕ = (i - 1042) / 55 in
         let j : ℕ = (i - 1042) % 55 in
         let e : 1042 + 55 * k + j ≡ i = omega arith in
         subst Q e (thread k j (omega arith) (omega arith))
-    beyond (no n) m = behind (decLt i 4578) (omega (arith, n))
+    from-threads (no n) m = from-events (decLt i 4578) (omega (arith, n))
 
     lists : Dec (i < 1042) → 2 ≤ i → Q i
     lists (yes l) m =
@@ -35,7 +35,7 @@ by-region Q threads cells scheduler thread event cell i g = count (ℕ-discrete 
         let j : ℕ = (i - 2) % 130 in
         let e : 2 + 130 * k + j ≡ i = omega arith in
         subst Q e (scheduler k j (omega arith) (omega arith))
-    lists (no n) m = beyond (decLt i 4562) (omega (arith, n))
+    lists (no n) m = from-threads (decLt i 4562) (omega (arith, n))
 
     count : Dec (i ≡ 0) → Dec (i ≡ 1) → Q i
     count (yes e) b = subst Q (sym e) threads

@@ -255,16 +255,16 @@ module _ (frames : List ℕ) (shared : ℕ) (w : List ℕ) (h : StepWords frames
     abbrev has : Bool
     has = hasScheduler (file .schedulers) c
 
-    abbrev loose : Bool
-    loose = isUnlinkedWord w c
+    abbrev unlinked-word : Bool
+    unlinked-word = isUnlinkedWord w c
 
     acting-cases : {Q : Type 0} → (has ≡ true → t ≡ getD w (3 + 130 * (c - 2)) 0 → Q)
-        → (has ≡ false → loose ≡ true → t ≡ c - 16 → Q)
-        → (has ≡ false → loose ≡ false → t ≡ 0 → Q) → Q
+        → (has ≡ false → unlinked-word ≡ true → t ≡ c - 16 → Q)
+        → (has ≡ false → unlinked-word ≡ false → t ≡ 0 → Q) → Q
     unfolding actingIn
-    acting-cases {Q} first-active named nobody = by has refl loose refl
+    acting-cases {Q} first-active named nobody = by has refl unlinked-word refl
       where
-        by : (b : Bool) → has ≡ b → (d : Bool) → loose ≡ d → Q
+        by : (b : Bool) → has ≡ b → (d : Bool) → unlinked-word ≡ d → Q
         by true e d u = first-active e (a ∙ if-yes _ _ e)
         by false e true u = named e u (a ∙ if-no _ _ e ∙ if-yes _ _ u)
         by false e false u = nobody e u (a ∙ if-no _ _ e ∙ if-no _ _ u)
@@ -275,7 +275,7 @@ module _ (frames : List ℕ) (shared : ℕ) (w : List ℕ) (h : StepWords frames
       acting-asks =
           acting-cases
           (λ e z. let i = is-scheduler has file f refl e in let k = turn-asks i t z some in (k .0, k .1, turn-choice i))
-          (λ e u z. subst (λ (i : ℕ). (1 ≤ i) × (i ≤ 64) × TurnChoice frames c) (sym z) (thread-asks has file f refl e loose refl u))
+          (λ e u z. subst (λ (i : ℕ). (1 ≤ i) × (i ≤ 64) × TurnChoice frames c) (sym z) (thread-asks has file f refl e unlinked-word refl u))
           (λ e u z. absurd (some z))
 
       pub acting-byte : t < 256
@@ -286,7 +286,7 @@ module _ (frames : List ℕ) (shared : ℕ) (w : List ℕ) (h : StepWords frames
       acting-steps r k =
           acting-cases
           (λ e z. scheduler-steps has file f refl e _ (turn-done (is-scheduler has file f refl e) t z some r k))
-          (λ e u z. thread-steps has file f refl e loose refl u _ (k ∙ ap (λ (i : ℕ). asCall w (stepThread P s c i)) z))
+          (λ e u z. thread-steps has file f refl e unlinked-word refl u _ (k ∙ ap (λ (i : ℕ). asCall w (stepThread P s c i)) z))
           (λ e u z. absurd (some z))
 
     -- where none acts
@@ -295,8 +295,8 @@ module _ (frames : List ℕ) (shared : ℕ) (w : List ℕ) (h : StepWords frames
       nobody-steps m =
           acting-cases
           (λ e z. absurd (true≢false (sym e ∙ sym q ∙ not-true b m)))
-          (λ e u z. absurd (let k = thread-asks has file f refl e loose refl u .0 in omega arith))
-          (λ e u z. no-party has file f refl e loose refl u)
+          (λ e u z. absurd (let k = thread-asks has file f refl e unlinked-word refl u .0 in omega arith))
+          (λ e u z. no-party has file f refl e unlinked-word refl u)
 
       module _ (yes : not b ≡ false) where
         has-is : has ≡ true
