@@ -48,6 +48,12 @@ pub and-off : (a : Bool) → (a && false) ≡ false
 and-off true = refl
 and-off false = refl
 
+pub and-swap : (a b : Bool) → (a && b) ≡ (b && a)
+and-swap true true = refl
+and-swap true false = refl
+and-swap false true = refl
+and-swap false false = refl
+
 pub or-on : (a : Bool) → (a || true) ≡ true
 or-on true = refl
 or-on false = refl

@@ -7,7 +7,6 @@ use listing::line::choice_line;
 use machine::offset::CELL_COUNT_AT;
 use stepper::file::File;
 use stepper::valid::step_valid;
-use text::digit::digit_table;
 ghost use mathlib.Core.Path.{_≡_};
 ghost use Prim.Native.Nat.{_+_, _*_, _≤_};
 ghost use lib.ListN.{length, take};
@@ -39,10 +38,9 @@ pub(crate) fn step_lines(
         (stepLines (programOf (framesOf (now (frames .entry)))) (take n (choicesOf (now
         (bytes .entry))))) ⌝ }
 {
-    let digits = digit_table();
     let mut k: usize = 0;
     while k < n {
-        let c = choice_at(&digits, bytes, k);
+        let c = choice_at(bytes, k);
         let s = step_valid(frames, file, state, c as u64);
         let cells = state[CELL_COUNT_AT] as u16;
         let line = choice_line(c, s.answer, s.thread, cells, s.accesses);

@@ -1,5 +1,5 @@
--- The digit table.
-pub mod Table
+-- Digits.
+pub mod DigitLaws
 -- The definition of a reading, and the function that computes it.
 pub mod Readings
 -- The code: a line, a line as a step of the scan, the whole text, the frame of an index.

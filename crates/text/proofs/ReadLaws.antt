@@ -51,7 +51,7 @@ length-frames bs =
     length-map (wordsOf (length bs / 17) bs) frameOfWord ∙ length-words (length bs / 17) bs
 
 -- ---- a part of a slice that goes to its end, as the code has it
-part-all : (bs : List ℕ) (at : ℕ) → take (length bs - at) (drop at bs) ≡ drop at bs
+pub part-all : (bs : List ℕ) (at : ℕ) → take (length bs - at) (drop at bs) ≡ drop at bs
 part-all bs at = take-all (length bs - at) (drop at bs) (rw length-drop (omega arith))
 
 -- l is the line that is read in the part from `at` on

@@ -1,5 +1,7 @@
 -- 'Digits are read through a table of 256 numbers, one for each byte: the digit's value, or 255.'
-use Rattle.basics.specs.Prelude.{List, [], _∷_, ℕ, zero, suc, _+_, _-_, ltb, if_then_else_}
+-- 02, change 6: 'Read digits by formula. The table's rule, and all that stands on it, holds
+-- unchanged.'
+use Rattle.basics.specs.Prelude.{ℕ, _+_, _-_, ltb, if_then_else_}
 
 -- the value of a byte that is one of 0-9, A-F, or 255
 unfoldable pub digit : ℕ → ℕ
@@ -8,15 +10,6 @@ digit b =
     if ltb b 58 then b - 48 else
     if ltb b 65 then 255 else
     if ltb b 71 then b - 55 else 255
-
--- the digits of the n bytes from k on
-abbrev pub digitsFrom : ℕ → ℕ → List ℕ
-digitsFrom k zero = []
-digitsFrom k (suc n) = digit k ∷ digitsFrom (suc k) n
-
--- 'a table of 256 numbers, one for each byte'
-unfoldable pub digitTable : List ℕ
-digitTable = digitsFrom 0 256
 
 -- and back: the byte of a digit of value n, 0 to 15
 unfoldable pub digitByte : ℕ → ℕ

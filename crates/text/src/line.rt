@@ -1,12 +1,10 @@
 // Lines, and the frames that they are.
 use crate::digit::digit;
-use crate::digit::digit_table;
 use language::frame::Frame;
 use language::kind::kind_of;
 use language::limit::LINE_LENGTH;
 use language::limit::MOST_LINES;
 ghost use mathlib.Core.Path.{_≡_};
-ghost use Rattle.text.specs.Digits.{digitTable};
 ghost use Rattle.text.specs.Frames.{frameOfWord};
 ghost use Rattle.text.specs.inner.Lines.{lineRead, frameOfLine, frameRead};
 
@@ -27,11 +25,9 @@ pub enum FrameRead {
     NoFrame,
 }
 
-// The line with which the bytes begin, by the table of digits that the caller has: who reads many
-// lines makes it once. The loop has no exit, so that it is unrolled: `bits` puts all values
-// together, and is 16 or more exactly where one of them is no digit.
-pub(crate) fn read_line(digits: &[u8; 256], bytes: &[u8]) -> Line
-    requires { ⌜ now digits ≡ digitTable ⌝ }
+// The line with which the bytes begin. The loop has no exit, so that it is unrolled: `bits` puts all
+// values together, and is 16 or more exactly where one of them is no digit.
+pub(crate) fn read_line(bytes: &[u8]) -> Line
     ensures { λ r. ⌜ r ≡ lineRead (now (bytes .entry)) ⌝ }
 {
     if bytes.len() < LINE_LENGTH {
@@ -41,7 +37,7 @@ pub(crate) fn read_line(digits: &[u8; 256], bytes: &[u8]) -> Line
     let mut bits: u8 = 0;
     let mut k: usize = 0;
     while k < LINE_DIGITS {
-        let d = digit(digits, bytes[k]);
+        let d = digit(bytes[k]);
         bits |= d;
         w = w * 16 + (d % 16) as u64;
         k += 1;
@@ -89,6 +85,5 @@ pub fn frame_at(text: &[u8], i: usize) -> FrameRead
     if text.len() < at {
         return FrameRead::NoFrame;
     }
-    let digits = digit_table();
-    frame_of_line(read_line(&digits, &text[at..]))
+    frame_of_line(read_line(&text[at..]))
 }

@@ -1,6 +1,5 @@
 // Whether a text is such lines: refusals 1 to 3; and its lines as numbers, which the passes over a
 // file work on.
-use crate::digit::digit_table;
 use crate::line::Line;
 use crate::line::read_line;
 use language::limit::LINE_LENGTH;
@@ -32,11 +31,10 @@ pub fn read_into(text: &[u8], words: &mut [u64]) -> TextRead
     if MOST_BYTES < n {
         return TextRead::Refused(LONG_TEXT, 0);
     }
-    let digits = digit_table();
     let mut i: usize = 0;
     let mut at: usize = 0;
     while at < n {
-        match read_line(&digits, &text[at..]) {
+        match read_line(&text[at..]) {
             Line::Word(w) => {
                 words[i] = w;
                 at += LINE_LENGTH;

@@ -1,6 +1,6 @@
-//! bench: times of the check, of steps, instants and events and of the writer, proved and second
-//! side by side, how the check grows, and the stack below each call, as one table whose rows keep
-//! their names, so that two runs can be compared line by line.
+//! bench: times of the check, of steps, of reading choices, of instants and events and of the
+//! writer, proved and second side by side, how the check grows, and the stack below each call, as
+//! one table whose rows keep their names, so that two runs can be compared line by line.
 use second::listing::Reading;
 use second::state::State;
 use std::time::Instant;
@@ -84,15 +84,20 @@ fn looping() -> Vec<u8> {
 
 const STEPS: usize = 16_384;
 
-/// The best of twenty rounds, for each step.
-fn best_step(mut round: impl FnMut()) -> f64 {
-    (0..20)
+/// The best of so many rounds.
+fn best_round(rounds: usize, mut round: impl FnMut()) -> f64 {
+    (0..rounds)
         .map(|_| {
             let start = Instant::now();
             round();
-            start.elapsed().as_nanos() as f64 / STEPS as f64
+            start.elapsed().as_nanos() as f64
         })
         .fold(f64::INFINITY, f64::min)
+}
+
+/// The best of twenty rounds, for each step.
+fn best_step(round: impl FnMut()) -> f64 {
+    best_round(20, round) / STEPS as f64
 }
 
 /// A row of the table: ours, the second program's where it does the same, and the ratio.
@@ -281,6 +286,27 @@ fn row_of_run(name: &str, text: &[u8]) -> Vec<u64> {
     });
     row(name, ours, Some(theirs));
     state
+}
+
+/// The longest choices.txt, all bytes in turn, in a run whose allowance is one choice: so the time is
+/// that of reading it.
+fn reading() {
+    let text = lines(&[
+        "0001000100010000", // 0 header
+        "1000000000000000", // 1 nothing
+        "0200000100000000", // 2 main
+    ]);
+    let choices: String = (0..STEPS).map(|i| format!("{:02X}\n", i % 256)).collect();
+    let mut state = vec![0; purkvaldi::state_length()];
+    let mut out = vec![0; purkvaldi::listing_length()];
+    let ours = best_round(2_000, || {
+        let run = purkvaldi::run(&text, choices.as_bytes(), &mut state, &mut out);
+        assert_eq!((run.answer.number, run.bytes.len()), (0, 8 + 19 + 5));
+    });
+    let theirs = best_round(2_000, || {
+        std::hint::black_box(second::listing::run(&text, choices.as_bytes()));
+    });
+    row("16,384 choices read, one stepped", ours, Some(theirs));
 }
 
 /// Choices of scheduler 2 where the end of an instant has much to do: of three choices in the chain
@@ -566,6 +592,7 @@ fn main() {
     );
     checks();
     steps();
+    reading();
     instants();
     events();
     writers();

@@ -8,17 +8,14 @@ use Rattle.runs.proofs.lines.step_lines.Statement.{statement}
 use Rattle.runs.proofs.lines.step_lines.Tie as tie
 
 abbrev Inv-loop : tie.InvT-loop
-Inv-loop frames file bytes n state₀ out₀ digits k₀ state out k =
+Inv-loop frames file bytes n state₀ out₀ k₀ state out k =
     Lining frames bytes n state₀ state out₀ out k
 
 abbrev μ-loop : tie.MeasureT-loop
-μ-loop frames file bytes n state₀ out₀ digits k₀ state out k = n - k
-
-digit-table-requires : tie.Need-digit-table-requires Inv-loop μ-loop
-digit-table-requires c κs = search needs
+μ-loop frames file bytes n state₀ out₀ k₀ state out k = n - k
 
 loop-holds : tie.Need-loop-holds Inv-loop μ-loop
-loop-holds c = lining-start _ _ _ _ _ (c .before .before .before .before .before .pre .0 .words)
+loop-holds c = lining-start _ _ _ _ _ (c .before .before .before .before .pre .0 .words)
 
 choice-at-requires : tie.Need-choice-at-requires Inv-loop μ-loop
 choice-at-requires c κs = search needs
@@ -28,8 +25,8 @@ cast-step-valid c = search needs
 
 step-valid-requires : tie.Need-step-valid-requires Inv-loop μ-loop
 step-valid-requires c κs =
-    let turn = c .before .before .before .before in
-    let p = turn .before .before .before .before .before .before .pre in
+    let turn = c .before .before .before in
+    let p = turn .before .before .before .before .before .pre in
     let start = p .0 in (
       lining-asks _ _ _ _ _ _ _ _ _ (start .laid-out) (start .numbers) (turn .loop .inv),
       start .numbers,
@@ -39,9 +36,9 @@ slice-read-cells : tie.Need-slice-read-cells Inv-loop μ-loop
 slice-read-cells c =
     let step = c .before .before .before in
     let choice = step .before .before in
-    let test = choice .before .before in
+    let test = choice .before in
     let turn = test .before in
-    let p = turn .before .before .before .before .before .before .pre in
+    let p = turn .before .before .before .before .before .pre in
     let start = p .0 in
     let l = lining-long _ _ _ _ _ _ _ _ _ (start .laid-out) (start .numbers) (turn .loop .inv) _
     (choice .choice-at .ensures) (p .1) (test .loop-test .taken) _ _ (step .step-valid .ensures) in
@@ -51,9 +48,9 @@ cast-cells : tie.Need-cast-cells Inv-loop μ-loop
 cast-cells c =
     let step = c .before .before .before in
     let choice = step .before .before in
-    let test = choice .before .before in
+    let test = choice .before in
     let turn = test .before in
-    let p = turn .before .before .before .before .before .before .pre in
+    let p = turn .before .before .before .before .before .pre in
     let start = p .0 in
     let l = lining-cells _ _ _ _ _ _ _ _ _ (start .laid-out) (start .numbers) (turn .loop .inv) _
     (choice .choice-at .ensures) (p .1) (test .loop-test .taken) _ _ (step .step-valid .ensures) in
@@ -86,9 +83,9 @@ loop-again c =
     let line = put .before .before .before in
     let step = line .before .before .before .before in
     let choice = step .before .before in
-    let test = choice .before .before in
+    let test = choice .before in
     let turn = test .before in
-    let p = turn .before .before .before .before .before .before .pre in
+    let p = turn .before .before .before .before .before .pre in
     let start = p .0 in
     lining-more _ _ _ _ _ _ _ _ _ (start .laid-out) (start .numbers) (turn .loop .inv) _
     (choice .choice-at .ensures) (p .1) (test .loop-test .taken) _ _ (step .step-valid .ensures) _ _
@@ -109,7 +106,6 @@ step-lines-spec =
     (tie.spec
     Inv-loop
     μ-loop
-    digit-table-requires
     loop-holds
     choice-at-requires
     cast-step-valid

@@ -1,6 +1,6 @@
 -- `digit_byte` meets its contract. Assumes nothing.
 use borrow.Author.Needs.{needs}
-use Rattle.text.proofs.Table.{digit-laws}
+use Rattle.text.proofs.DigitLaws.{digit-laws}
 use Rattle.text.proofs.digit.digit_byte.Statement.{statement}
 use Rattle.text.proofs.digit.digit_byte.Tie as tie
 

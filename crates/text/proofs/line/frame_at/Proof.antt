@@ -13,9 +13,6 @@ mul-at c = search needs
 returns-2 : tie.Need-returns-2
 returns-2 c = search frame-laws
 
-digit-table-requires : tie.Need-digit-table-requires
-digit-table-requires c κs = search needs
-
 sub-read-line : tie.Need-sub-read-line
 sub-read-line c = search needs
 
@@ -41,7 +38,6 @@ frame-at-spec =
     returns
     mul-at
     returns-2
-    digit-table-requires
     sub-read-line
     part-read-line-start
     part-read-line-end

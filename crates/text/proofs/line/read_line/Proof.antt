@@ -7,10 +7,10 @@ use Rattle.text.proofs.line.read_line.Statement.{statement}
 use Rattle.text.proofs.line.read_line.Tie as tie
 
 abbrev Inv-loop : tie.InvT-loop
-Inv-loop digits bytes w₀ bits₀ k₀ w bits k = (k ≤ 16) × Taking bytes w bits k
+Inv-loop bytes w₀ bits₀ k₀ w bits k = (k ≤ 16) × Taking bytes w bits k
 
 abbrev μ-loop : tie.MeasureT-loop
-μ-loop digits bytes w₀ bits₀ k₀ w bits k = 16 - k
+μ-loop bytes w₀ bits₀ k₀ w bits k = 16 - k
 
 returns : tie.Need-returns Inv-loop μ-loop
 returns c = search line-laws

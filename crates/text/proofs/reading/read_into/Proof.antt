@@ -9,19 +9,16 @@ use Rattle.text.proofs.reading.read_into.Statement.{statement}
 use Rattle.text.proofs.reading.read_into.Tie as tie
 
 abbrev Inv-loop : tie.InvT-loop
-Inv-loop text words₀ n digits i₀ at₀ words i at = Reader text words i at × (length words ≡ 1024)
+Inv-loop text words₀ n i₀ at₀ words i at = Reader text words i at × (length words ≡ 1024)
 
 abbrev μ-loop : tie.MeasureT-loop
-μ-loop text words₀ n digits i₀ at₀ words i at = length text - at
+μ-loop text words₀ n i₀ at₀ words i at = length text - at
 
 returns : tie.Need-returns Inv-loop μ-loop
 returns c = search words-laws
 
 returns-2 : tie.Need-returns-2 Inv-loop μ-loop
 returns-2 c = search words-laws
-
-digit-table-requires : tie.Need-digit-table-requires Inv-loop μ-loop
-digit-table-requires c κs = search needs
 
 loop-holds : tie.Need-loop-holds Inv-loop μ-loop
 loop-holds c = (reader-start _ _ (search needs), search zeros-length)
@@ -62,8 +59,8 @@ loop-again c = (search reader-more, search needs)
 enum-told : tie.Need-enum-told Inv-loop μ-loop
 enum-told c = search needs
 
-cast-t19 : tie.Need-cast-t19 Inv-loop μ-loop
-cast-t19 c = search (reader-index, reader-length, needs)
+cast-t16 : tie.Need-cast-t16 Inv-loop μ-loop
+cast-t16 c = search (reader-index, reader-length, needs)
 
 same-length : tie.Need-same-length Inv-loop μ-loop
 same-length c = search (zeros-length, needs)
@@ -71,8 +68,8 @@ same-length c = search (zeros-length, needs)
 returns-3 : tie.Need-returns-3 Inv-loop μ-loop
 returns-3 c = search words-laws
 
-cast-t20 : tie.Need-cast-t20 Inv-loop μ-loop
-cast-t20 c = search (reader-index, reader-length, needs)
+cast-t17 : tie.Need-cast-t17 Inv-loop μ-loop
+cast-t17 c = search (reader-index, reader-length, needs)
 
 same-length-2 : tie.Need-same-length-2 Inv-loop μ-loop
 same-length-2 c = search (zeros-length, needs)
@@ -88,7 +85,6 @@ read-into-spec =
     μ-loop
     returns
     returns-2
-    digit-table-requires
     loop-holds
     sub-read-line
     part-read-line-start
@@ -102,9 +98,9 @@ read-into-spec =
     loop-less
     loop-again
     enum-told
-    cast-t19
+    cast-t16
     same-length
     returns-3
-    cast-t20
+    cast-t17
     same-length-2
     returns-4)
