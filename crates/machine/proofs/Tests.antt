@@ -1,9 +1,8 @@
--- Laws of tests: of `and` and `or`, and of a conditional whose test is known. Assumes nothing.
-use mathlib.Core.Path.{_≡_, refl, sym, ap, _∙_}
-use mathlib.Core.Logic.{_⊎_, inl, inr}
-use mathlib.Core.Bool.{Bool, true, false, _&&_, _||_, true≢false}
+-- Laws of tests: of `and`, and of a conditional whose test is known. Assumes nothing.
+use mathlib.Core.Path.{_≡_, refl, sym, _∙_}
+use mathlib.Core.Bool.{Bool, true, false, _&&_, true≢false}
 use Rattle.basics.specs.If.{if_then_else_}
-use Rattle.basics.proofs.Ifs.{if-all, or-on}
+use Rattle.basics.proofs.Ifs.{if-all}
 
 pub not-both : (a b : Bool) → (a ≡ true → b ≡ true → ⊥) → (a && b) ≡ false
 not-both true true f = absurd (f refl refl)

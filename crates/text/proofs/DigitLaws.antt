@@ -1,8 +1,8 @@
 -- The digit of a byte, and the byte of a digit, as the code computes them. Assumes nothing.
-use mathlib.Core.Path.{_≡_, refl, _∙_}
+use mathlib.Core.Path.{_≡_, refl}
 use Prim.Native.Nat.{ℕ, _+_, _-_, _%_, _^_, _<_, _≤_}
 use native.Mathlib.Omega.{arith}
-use borrow.Author.Tests.{lt-ltb, le-ltb, ltb-true, ltb-false}
+use borrow.Author.Tests.{lt-ltb, le-ltb, ltb-false}
 use Rattle.basics.proofs.Ifs.{if-all, yes, no}
 use Rattle.text.specs.Digits.{digit, digitByte}
 
