@@ -6,6 +6,7 @@ pub mod Accesses
 pub mod Evaluation
 pub mod Waits
 pub mod Turns
+pub mod Groups
 pub mod Statements
 pub mod Steps
 pub mod Runs

@@ -8,7 +8,8 @@ use native.Mathlib.Omega.{arith}
 use lib.Dec.{ltb, leb, eqb}
 use borrow.Author.Tests.{eqb-true, not-false, le-leb, le-ltb}
 use lib.ListN.{length}
-use Rattle.basics.specs.inner.Searches.{every, sameNumbers}
+use Rattle.basics.specs.Members.{every}
+use Rattle.basics.specs.inner.Searches.{sameNumbers}
 use Rattle.basics.specs.Members.{In}
 use Rattle.basics.proofs.Ifs.{if-all, and-true}
 use Rattle.language.specs.Places.{private, Standing, unlinked}

@@ -9,7 +9,8 @@ use borrow.Author.Tests.{leb-true, leb-false, eqb-true, eqb-false, not-true, not
 use borrow.Author.Tests.{eq-eqb, ne-eqb, ltb-true, ltb-false, lt-ltb}
 use lib.ListN.{length, getD}
 use Rattle.basics.specs.If.{if_then_else_}
-use Rattle.basics.specs.inner.Searches.{every, sameNumbers}
+use Rattle.basics.specs.Members.{every}
+use Rattle.basics.specs.inner.Searches.{sameNumbers}
 use Rattle.basics.specs.Members.{In}
 use Rattle.basics.proofs.Ifs.{if-all, and-true, and-false, if-yes, if-no, and-off}
 use Rattle.language.specs.Places.{private, Standing, linked, unlinked, standingAt}

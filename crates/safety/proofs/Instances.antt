@@ -7,7 +7,8 @@ use Prim.Native.Char.{code}
 use Prim.Native.String.{String}
 use Rattle.basics.specs.If.{if_then_else_}
 use Rattle.basics.specs.Members.{any}
-use Rattle.basics.specs.inner.Searches.{every, sameNumbers, lowest, earlier}
+use Rattle.basics.specs.Members.{every}
+use Rattle.basics.specs.inner.Searches.{sameNumbers, lowest, earlier}
 use Rattle.basics.specs.Chains.{eachFrom}
 use Rattle.language.specs.Types.{typeWord, ownerDigit, cellDepth, cellType, ownerOf, contentOf}
 use Rattle.language.specs.Types.{public, contentWord}

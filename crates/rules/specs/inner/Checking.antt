@@ -7,7 +7,8 @@ use Prim.Native.Nat.{ℕ}
 use lib.Dec.{ltb, leb, eqb}
 use lib.ListN.{length, getD}
 use Rattle.basics.specs.If.{if_then_else_}
-use Rattle.basics.specs.inner.Searches.{every, sameNumbers}
+use Rattle.basics.specs.Members.{every}
+use Rattle.basics.specs.inner.Searches.{sameNumbers}
 use Rattle.language.specs.Places.{home, private, Standing, linked, unlinked, standingAt}
 use Rattle.language.specs.Types.{numberType, truthType, isCell, cellType, ownerOf}
 use Rattle.language.specs.Types.{contentOf, roomAround, public}
