@@ -6,6 +6,8 @@ pub mod UsedCells
 pub mod Primitives
 -- The ready test finds the whole family.
 pub mod Families
+-- What is done on each member of a group.
+pub mod GroupLaws
 -- Whose cells are accessed: by an evaluation, by a choice; and that a refused choice leaves the
 -- state. What a choice can answer.
 pub mod Owns
