@@ -233,30 +233,6 @@ unfolding wakeRoomIn
 wake-room-is w o e h =
     leb-true _ 64 (and-true (isScheduler o) (leb (activeWith (isAwaitingWord e) w (o - 2)) 64) h .1)
 
--- ---- lists in other words: the same where the words before the threads are
-table-same : (n : ℕ) (f g : ℕ → ℕ) (i : ℕ) → ((j : ℕ) → j < n → f (i + j) ≡ g (i + j))
-    → tabulate n f i ≡ tabulate n g i
-unfolding tabulate
-table-same zero f g i h = refl
-table-same (suc n) f g i h =
-    let z : i + 0 ≡ i = omega arith in
-    ap₂ (λ (x : ℕ) (xs : List ℕ). x ∷ xs) (subst (λ (k : ℕ). f k ≡ g k) z (h 0 (omega arith)))
-    (table-same n f g (suc i)
-    (λ j l. let y : i + suc j ≡ suc i + j = omega arith in
-    subst (λ (k : ℕ). f k ≡ g k) y (h (suc j) (omega arith))))
-
-module _ (w v : List ℕ) (k : ℕ) (l : k < 8) (same : (i : ℕ) → i < 1042 → getD v i 0 ≡ getD w i 0)
-    (few : getD w (67 + 130 * k) 0 ≤ 64) where
-  entries-same : wordsAt v (67 + 130 * k) ≡ wordsAt w (67 + 130 * k)
-  entries-same =
-      ap (λ (n : ℕ). tabulate n (λ j. getD v j 0) (suc (67 + 130 * k))) (same (67 + 130 * k) (omega arith))
-      ∙ table-same (getD w (67 + 130 * k) 0) _ _ (suc (67 + 130 * k))
-      (λ j g. same (suc (67 + 130 * k) + j) (omega arith))
-
-  pub active-same : (test : ℕ → Bool) → activeWith test v k ≡ activeWith test w k
-  active-same test =
-      ap₂ _+_ (same (2 + 130 * k) (omega arith)) (ap (λ (es : List ℕ). length (wantedWords test es)) entries-same)
-
 -- one that is awaited is there
 pub awaited-small : (fs : List Frame) (w : List ℕ) (e n : ℕ) (p : Place) (x : EventFound)
     → x ≡ eventIn (programOf fs) e → length (eventsOf fs) ≤ 16

@@ -14,8 +14,12 @@ use Rattle.basics.specs.If.{if_then_else_}
 use Rattle.basics.proofs.Ifs.{yes, no, if-yes, if-no, and-both}
 use Rattle.language.specs.Places.{isScheduler}
 use Rattle.language.specs.Effects.{withMember, setFrom}
-use Rattle.language.specs.inner.Labels.{labelAt, sameLabel, withLabel, relabelled}
-use Rattle.language.proofs.PlaceLaws.{test-bounds}
+use Rattle.language.specs.inner.Labels.{labelAt, sameLabel, inGroup, withLabel, relabelled}
+use Rattle.language.specs.inner.Reads.{placeRead}
+use Rattle.language.specs.declared.Place.{Place}
+use Rattle.language.specs.declared.PlaceRead.{PlaceRead}
+use Rattle.language.specs.declared.PlaceRead.the-variants.{At, NoPlace}
+use Rattle.language.proofs.PlaceLaws.{test-bounds, read-at, read-none}
 
 -- ---- `with_label`
 pub label-old : (x old new : ℕ) → x ≡ old → new ≡ withLabel old new x
@@ -125,6 +129,21 @@ gather-end labels p own s k i h e j l =
 -- ---- reads of a label
 pub index-small : (p i : ℕ) → i ≡ p - 2 → isScheduler p ≡ true → i < 8
 index-small p i e h = let (a, b) = test-bounds 2 p h in omega arith
+
+-- ---- `is_member`: x is the place that the number was read as
+module _ (labels : List ℕ) (p n : ℕ) (x : PlaceRead) (r : x ≡ placeRead (isScheduler n) n) where
+  pub no-member : x ≡ NoPlace → false ≡ inGroup labels p n
+  no-member h = rw (read-none (isScheduler n) n (sym r ∙ h))
+
+  module _ (q : Place) (h : x ≡ At q) where
+    there : (isScheduler n ≡ true) × (q .number ≡ n)
+    there = read-at (isScheduler n) n q (sym r ∙ h)
+
+    pub read-scheduler : isScheduler (q .number) ≡ true
+    read-scheduler = ap isScheduler (there .1) ∙ there .0
+
+    pub member-by : (b : Bool) → b ≡ sameLabel labels p (q .number) → b ≡ inGroup labels p n
+    member-by b k = k ∙ ap (sameLabel labels p) (there .1) ∙ sym (rw (there .0))
 
 pub step-by-labels : (labels : List ℕ) (p q i j : ℕ) → i ≡ p - 2 → j ≡ q - 2
     → eqb (getD labels i 0) (getD labels j 0) ≡ sameLabel labels p q

@@ -1,5 +1,6 @@
 // Schedulers in step: the labels of the eight, 2 to 9, in order. Those with one label are in step.
 use crate::Place;
+use crate::PlaceRead;
 use crate::limit::MOST_SCHEDULERS;
 ghost use mathlib.Core.Path.{_≡_};
 ghost use mathlib.Core.Bool.{true};
@@ -9,7 +10,7 @@ ghost use Rattle.language.specs.Places.{home, isScheduler};
 ghost use Rattle.language.specs.Limits.{mostSchedulers};
 ghost use Rattle.language.specs.Effects.{setFrom};
 ghost use Rattle.language.specs.inner.Labels.{labelsOf, labelAt, sameLabel, withLabel};
-ghost use Rattle.language.specs.inner.Labels.{relabelled};
+ghost use Rattle.language.specs.inner.Labels.{inGroup, relabelled};
 
 pub const LABELS: usize = MOST_SCHEDULERS as usize;
 
@@ -52,6 +53,17 @@ pub fn in_step(labels: &[u8; LABELS], p: Place, q: Place) -> bool
     ensures { λ r. ⌜ r ≡ sameLabel (now (labels .entry)) (p .number) (q .number) ⌝ }
 {
     labels[p.index()] == labels[q.index()]
+}
+
+// Whether a number names a scheduler in step with p.
+pub fn is_member(labels: &[u8; LABELS], p: Place, n: u8) -> bool
+    requires { ⌜ (length (now labels) ≡ mostSchedulers) × (isScheduler (p .number) ≡ true) ⌝ }
+    ensures { λ r. ⌜ r ≡ inGroup (now (labels .entry)) (p .number) n ⌝ }
+{
+    match Place::scheduler(n as u64) {
+        PlaceRead::At(q) => in_step(labels, p, q),
+        PlaceRead::NoPlace => false,
+    }
 }
 
 // The set of those in step with a scheduler, a bit for each: bit p - 2 is scheduler p's.

@@ -17,6 +17,7 @@ use Rattle.machine.specs.inner.Blocks.{pasted, padded}
 use Rattle.states.specs.declared.thread.ThreadWords.{ThreadWords}
 use Rattle.states.specs.inner.Threads.{threadIn, putThread, withOneMore, ThreadSpace}
 use Rattle.lists.specs.inner.Lists.{withoutFirst, withLast, isAwaitingWord, activeWith, withWoken}
+use Rattle.lists.specs.inner.Lists.{ListsFit}
 use Rattle.acts.specs.declared.act.Arguments.{Arguments}
 use Rattle.acts.specs.declared.act.Transition.{Transition}
 use Rattle.acts.specs.declared.act.Transition.the-variants.{Refused, Stays, Leaves, Joins, Starts}
@@ -315,14 +316,6 @@ ChangeSpace w k c =
 pub record StartWords (w : List ℕ) (q : Place) : Type 0 where
   pub scheduler : isScheduler (q .number) ≡ true
   pub count : getD w threadCountAt 0 < mostThreads
-
--- the lists are within their spaces, and there are no more threads than there may be
-pub record ListsFit (w : List ℕ) : Type 0 where
-  pub threads : getD w threadCountAt 0 ≤ mostThreads
-  pub active : (k : ℕ) → k < mostSchedulers
-      → getD w (schedulersAt + schedulerLength * k) 0 ≤ mostThreads
-  pub next : (k : ℕ) → k < mostSchedulers
-      → getD w (nextListAt + schedulerLength * k) 0 ≤ mostThreads
 
 -- q has lists, which are within their spaces, and who awaits event e has room
 pub record WakeWords (w : List ℕ) (q : Place) (e : ℕ) : Type 0 where

@@ -28,6 +28,10 @@ labelAt labels p = getD labels (p - home) 0
 abbrev pub sameLabel : List ℕ → ℕ → ℕ → Bool
 sameLabel labels p q = eqb (labelAt labels p) (labelAt labels q)
 
+-- n is a scheduler, with p's label
+abbrev pub inGroup : List ℕ → ℕ → ℕ → Bool
+inGroup labels p n = isScheduler n && sameLabel labels p n
+
 -- the one label is now the other
 abbrev pub withLabel : ℕ → ℕ → ℕ → ℕ
 withLabel old new x = if eqb x old then new else x
