@@ -146,7 +146,7 @@ none-left test (e ∷ es) = go (test e) refl (none-left test es)
         ap (λ (b : Bool). keepIf b (entryThread e) (threadsWhere test (entriesExcept test es))) t ∙ h
 
 -- they are as many before as after, there and on every other scheduler
-woken-load : (q e : ℕ) (s : State) (k : ℕ)
+pub woken-load : (q e : ℕ) (s : State) (k : ℕ)
     → awakeOn e (schedulerAt (wake q e s) k) ≡ awakeOn e (schedulerAt s k)
 unfolding wake
 woken-load q e s k =
