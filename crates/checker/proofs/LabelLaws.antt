@@ -1,5 +1,5 @@
--- The labels that the check lends: made from a laid-out file's links, they say who is in step. Assumes
--- nothing.
+-- The labels that the check lends: made from a laid-out file's links, they say who is in step.
+-- Assumes nothing.
 use mathlib.Core.Path.{_≡_, refl, ap, _∙_}
 use mathlib.Core.List.{List}
 use Prim.Native.Nat.{ℕ}
