@@ -27,7 +27,8 @@ use Rattle.rules.specs.Rules.{Setting, Signature, signatureAt, AllPublic
 use Rattle.rules.specs.Breaks.{BreaksS, Starts, Signals}
 use Rattle.rules.specs.Broken.{BrokenE, Operand, ChildS, BrokenS}
 use Rattle.rules.specs.inner.Checking.{Argued, argue, typesIn, startRule, cooperateRule}
-use Rattle.rules.specs.inner.Checking.{seqRule, EffectTest, doRule, joinRule, letRule, storeRule}
+use Rattle.rules.specs.inner.Checking.{EffectTest}
+use Rattle.rules.specs.inner.Checking.{seqRule, doRule, joinRule, letRule, storeRule}
 use Rattle.rules.specs.inner.Checking.{ifElseRule, whileRule, signalRule, signalOf, effectIn}
 use Rattle.rules.proofs.Sooner.{Sooner, exactly, smaller}
 use Rattle.rules.proofs.Lists.{same-true, all-true}

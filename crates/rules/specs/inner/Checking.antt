@@ -125,7 +125,8 @@ seqRule (Proper e a) (Proper f b) = Proper (e ∪ f) (a && b)
 seqRule (Proper e a) (Faulty n j) = Faulty n j
 seqRule (Faulty n j) y = Faulty n j
 
--- whether a place allows an effect: `within` of the file's links, or of the labels that the code keeps
+-- whether a place allows an effect: `within` of the file's links, and of the labels that the code
+-- keeps
 abbrev pub EffectTest : Type 0
 EffectTest = ℕ → Effect → Bool
 
