@@ -9,6 +9,7 @@ pub mod Turns
 pub mod Groups
 pub mod Statements
 pub mod Steps
+pub mod Alone
 pub mod Runs
 pub mod Words
 pub mod Shapes
