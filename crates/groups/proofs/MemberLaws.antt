@@ -2,8 +2,9 @@
 use Prim.Native.Nat.{ℕ, zero, suc, _+_, _*_, _-_, _^_, _<_, _≤_}
 use mathlib.Core.Path.{_≡_, refl, sym, ap, ap₂, _∙_, subst}
 use mathlib.Core.List.{List, [], _∷_}
-use mathlib.Core.Bool.{Bool, true, false, not}
+use mathlib.Core.Bool.{Bool, true, false, not, true≢false}
 use native.Mathlib.Omega.{arith}
+use native.Mathlib.Decide.{ℕ-discrete}
 use lib.Dec.{leb, eqb}
 use lib.ListN.{length, getD}
 use borrow.Author.Tests.{eq-eqb, ne-eqb, le-leb, leb-true, not-true, not-false}
@@ -545,3 +546,33 @@ module _ (labels w₀ w : List ℕ) (p n m ready k : ℕ) (t : Ending labels w�
   pub ending-words : w ≡ endedOn (membersIn labels n p) w₀
   unfolding endedOn
   ending-words = walk-end labels p n m (λ qs. endedOn qs w) _ k (t .walk) l
+
+-- ---- what `room_on_each` has found, of each member
+pub room-each : (test : ℕ → Bool) (e : ℕ) (w : List ℕ) (k n : ℕ)
+    → every (roomOn e w) (schedulersWhere test k n) ≡ true → Each test (HasRoomOn e w) k (k + n)
+unfolding every schedulersWhere
+room-each test e w k zero h j a b t = absurd (omega arith)
+room-each test e w k (suc n) h j a b t =
+    go (test k) refl h (λ f c. room-each test e w (suc k) n f j c (omega arith) t)
+  where
+    tail : List ℕ
+    tail = schedulersWhere test (suc k) n
+
+    here : elim (roomOn e w k) [ true ↦ every (roomOn e w) tail | false ↦ false ] ≡ true
+        → HasRoomOn e w k × (every (roomOn e w) tail ≡ true)
+    here f = by (roomOn e w k) refl f
+      where
+        by : (d : Bool) → roomOn e w k ≡ d → elim d [ true ↦ every (roomOn e w) tail | false ↦ false ] ≡ true
+            → HasRoomOn e w k × (every (roomOn e w) tail ≡ true)
+        by true q f = (leb-true _ 64 q, f)
+        by false q f = absurd (true≢false (sym f))
+
+    go : (d : Bool) → test k ≡ d → every (roomOn e w) (keepIf d k tail) ≡ true
+        → (every (roomOn e w) tail ≡ true → suc k ≤ j → HasRoomOn e w j) → HasRoomOn e w j
+    go false q f rec =
+        rec f (let x : k ≡ j → ⊥ = λ z. true≢false (sym t ∙ ap test (sym z) ∙ q) in omega (arith, x))
+    go true q f rec = pick (ℕ-discrete k j) (here f)
+      where
+        pick : Dec (k ≡ j) → HasRoomOn e w k × (every (roomOn e w) tail ≡ true) → HasRoomOn e w j
+        pick (yes z) r = subst (HasRoomOn e w) z (r .0)
+        pick (no z) r = rec (r .1) (omega (arith, z))
