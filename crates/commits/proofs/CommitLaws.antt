@@ -267,7 +267,7 @@ module _ (p : Program) (G : Grouping) (w : List ℕ) (before c t : ℕ) (a : Act
       room-kept j a b r =
           let few = h .groups .few in
           let same = active-same w words (j - 2) (λ i f l. low-kept i (omega arith))
-                (h .lists .next (j - 2) (omega arith)) (isAwaitingWord e) in
+          (h .lists .next (j - 2) (omega arith)) (isAwaitingWord e) in
           omega arith
 
   generate-sound : (e : ℕ) → Sound (generateTested G w (eventIn p e) place e)

@@ -44,13 +44,7 @@ fn owns(labels: &[u8; LABELS], schedulers: u8, place: Place, owner: u8) -> bool
 }
 
 // Who awaits the event has room in the active list of each member of the owner's group.
-fn has_wake_room(
-    labels: &[u8; LABELS],
-    schedulers: u8,
-    state: &[u64],
-    owner: u8,
-    e: u8,
-) -> bool
+fn has_wake_room(labels: &[u8; LABELS], schedulers: u8, state: &[u64], owner: u8, e: u8) -> bool
     requires { ⌜ GroupingFits (grouping (now labels) schedulers)
         × (length (now state) ≡ stateLength) × ListsFit (now state) ⌝ }
     ensures { λ r. ⌜ r ≡ wakeRoomIn (grouping (now (labels .entry)) schedulers)
@@ -181,13 +175,7 @@ pub(crate) fn decide_await(
 }
 
 // The event is present, and who awaits it on a member of that scheduler's group is active.
-pub(crate) fn generate(
-    labels: &[u8; LABELS],
-    schedulers: u8,
-    state: &mut [u64],
-    q: Place,
-    e: u8,
-)
+pub(crate) fn generate(labels: &[u8; LABELS], schedulers: u8, state: &mut [u64], q: Place, e: u8)
     requires { ⌜ (length (now state) ≡ stateLength)
         × WakeWords (grouping (now labels) schedulers) (now state) q e ⌝ }
     ensures { λ _. ⌜ now (state .exit) ≡ generatedIn (grouping (now (labels .entry)) schedulers)

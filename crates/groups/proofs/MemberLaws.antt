@@ -425,8 +425,8 @@ module _ (labels w₀ w : List ℕ) (p n m e k : ℕ) (t : Waking labels w₀ p 
           let low = t .walk .at .low in
           let few = g .few in
           let same = active-same w (withWoken w (k - 2) e) (a - 2)
-                (λ o x y. moved-other (isAwaitingWord e) w (k - 2) block (t .words .all) small room-here o (λ f h. omega arith))
-                (t .words .lists .next (a - 2) (omega arith)) (isAwaitingWord e) in
+          (λ o x y. moved-other (isAwaitingWord e) w (k - 2) block (t .words .all) small room-here o (λ f h. omega arith))
+          (t .words .lists .next (a - 2) (omega arith)) (isAwaitingWord e) in
           let z = t .room a (omega arith) c d in
           omega arith
 

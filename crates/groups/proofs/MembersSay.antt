@@ -275,8 +275,8 @@ ready-says m test k (suc n) w s h few f i =
     go false e rec = rec w s h few f (idle-skip test k n s i)
     go true e rec =
         let r = rec (withInstantEnded w (k - 2)) (endOn k s)
-              (ended-one m k w s h few t (f k) (i .idle k (omega arith) (omega arith) e))
-              (few-still k s few) (end-shaped m k s f) (idle-next test k n s i) in
+        (ended-one m k w s h few t (f k) (i .idle k (omega arith) (omega arith) e))
+        (few-still k s few) (end-shaped m k s f) (idle-next test k n s i) in
         ap₂ (λ (b c : Bool). elim b [ true ↦ true | false ↦ c ])
         (ready-count s k ∙ ap (λ (n : ℕ). not (eqb n 0)) (sym (instant-readies m w s h few k (t .0) (t .1) (f k .room) (f k .entries))))
         (any-same (hasReady s) (hasReady (endOn k s)) test (suc k) n (λ j a. sym (ready-other k s j (i .low) (omega arith))) ∙ r)
@@ -306,6 +306,6 @@ none-ended m test k (suc n) w s h few f i z =
     go true e rec y =
         let a = instant-readies m w s h few k (t .0) (t .1) (f k .room) (f k .entries) in
         let same = instant-none m w s h few k (t .0) (t .1) (f k .room) (f k .entries)
-              (i .idle k (omega arith) (omega arith) e) (nothing _ (omega arith)) in
+        (i .idle k (omega arith) (omega arith) e) (nothing _ (omega arith)) in
         ap (endedOn (schedulersWhere test (suc k) n)) same
         ∙ rec (let b = ap (readyOn (schedulersWhere test (suc k) n)) same in omega arith)

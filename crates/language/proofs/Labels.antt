@@ -6,7 +6,7 @@ use mathlib.Core.List.{List, [], _∷_, map}
 use Prim.Native.Nat.{ℕ, zero, suc, _+_, _-_, _<_, _≤_}
 use native.Mathlib.Omega.{arith}
 use lib.Dec.{eqb}
-use lib.ListN.{getD}
+use lib.ListN.{getD, length}
 use borrow.Author.Tests.{eq-eqb, eqb-true, le-leb}
 use Rattle.basics.specs.If.{if_then_else_}
 use Rattle.basics.specs.Members.{In}
@@ -35,9 +35,9 @@ to-label [] p = InStep.itself
 to-label (l ∷ ls) p =
     if-all (InStep (l ∷ ls) p) (eqb (label ls p) (label ls (l .upper))) (label ls (l .lower)) (label ls p)
     (λ e.
-      InStep.through (more (subst (InStep ls p) (eqb-true _ _ e) (to-label ls p)))
-      (InStep.through (InStep.back (more (to-label ls (l .upper))))
-      (InStep.through (InStep.linked In.first) (more (to-label ls (l .lower))))))
+    InStep.through (more (subst (InStep ls p) (eqb-true _ _ e) (to-label ls p)))
+    (InStep.through (InStep.back (more (to-label ls (l .upper))))
+    (InStep.through (InStep.linked In.first) (more (to-label ls (l .lower))))))
     (λ e. more (to-label ls p))
 
 pub same-label : (ls : List Link) (p q : ℕ) → label ls p ≡ label ls q → InStep ls p q
@@ -82,6 +82,11 @@ label-at ls p zero i l = absurd (omega arith)
 label-at ls p (suc n) zero l = ap (label ls) (omega arith)
 label-at ls p (suc n) (suc i) l =
     label-at ls (suc p) n i (omega arith) ∙ ap (label ls) (omega arith)
+
+pub labels-length : (ls : List Link) (p n : ℕ) → length (labelsFrom ls p n) ≡ n
+unfolding labelsFrom
+labels-length ls p zero = refl
+labels-length ls p (suc n) = ap suc (labels-length ls (suc p) n)
 
 pub label-is : (ls : List Link) (p : ℕ) → isScheduler p ≡ true → labelAt (labelsOf ls) p ≡ label ls p
 label-is ls p h =

@@ -217,7 +217,7 @@ bits-same zero a b l m h = omega arith
 bits-same (suc k) a b l m h =
     let e = pow-suc 2 k in
     let r = bits-same k (a / 2) (b / 2) (omega arith) (omega arith)
-          (λ q. sym (bit-suc q a) ∙ h (suc q) ∙ bit-suc q b) in
+    (λ q. sym (bit-suc q a) ∙ h (suc q) ∙ bit-suc q b) in
     let z = sym (bit-zero a) ∙ h 0 ∙ bit-zero b in
     omega arith
 
@@ -226,11 +226,11 @@ unfolding groupOf
 within-group ls p s h q m =
     if-all
     (λ (g : ℕ). member q g ≡ true
-      → InStep ls q p × (isScheduler q ≡ true) × (isScheduler p ≡ true))
+    → InStep ls q p × (isScheduler q ≡ true) × (isScheduler p ≡ true))
     (isScheduler p) (setFrom (inStep ls p) 2 8) 0
     (λ t k.
-      let r = in-set (inStep ls p) q 2 8 k in
-      (InStep.back (in-step-computes ls p q .0 (r .0)), r .1, t))
+    let r = in-set (inStep ls p) q 2 8 k in
+    (InStep.back (in-step-computes ls p q .0 (r .0)), r .1, t))
     (λ t k. absurd (true≢false (sym k ∙ member-none q)))
     (ap (member q) (sym (eqb-true _ _ h)) ∙ member-join q s (groupOf ls p) ∙ or-left (member q s) _ m)
 
@@ -249,8 +249,8 @@ group-within ls p s h = eq-eqb _ _ (bits-same (bitOr s g + g) (bitOr s g) g (ome
         let (i, t, u) = h (2 + q) (bit-member q s k) in
         let (a, b) = test-bounds 2 (2 + q) t in
         let m : member (2 + q) g ≡ true =
-              ap (member (2 + q)) (if-yes _ _ u)
-              ∙ to-set (inStep ls p) (2 + q) 2 8 (omega arith) (omega arith) t (in-step-computes ls p (2 + q) .1 (InStep.back i)) in
+        ap (member (2 + q)) (if-yes _ _ u)
+        ∙ to-set (inStep ls p) (2 + q) 2 8 (omega arith) (omega arith) t (in-step-computes ls p (2 + q) .1 (InStep.back i)) in
         ap (λ (k : ℕ). bit k g) (omega arith) ∙ eqb-true _ _ (and-true (leb 2 (2 + q)) _ m .1)
 
     same : (q : ℕ) → bit q (bitOr s g) ≡ bit q g

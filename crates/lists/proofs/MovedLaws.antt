@@ -99,8 +99,8 @@ module _ (test : ℕ → Bool) (w : List ℕ) (k : ℕ) (l : k < 8) (long : leng
   pub moved-next : getD (withMoved test w k) (67 + 130 * k) 0 ≤ 64
   moved-next =
       let e = ap (λ (x : List ℕ). getD x nextAt 0) (sym moved-is)
-            ∙ getD-set-same (set u blockAt (n + length rs)) nextAt (length ws) 0
-            (rw (length-set u blockAt (n + length rs) ∙ ul) (omega arith)) in
+      ∙ getD-set-same (set u blockAt (n + length rs)) nextAt (length ws) 0
+      (rw (length-set u blockAt (n + length rs) ∙ ul) (omega arith)) in
       let s = size in
       omega arith
 

@@ -17,9 +17,9 @@ use Rattle.language.specs.declared.frame.Frame.{Frame}
 use Rattle.language.specs.declared.kind.DeclarationKind.{DeclarationKind}
 use Rattle.language.specs.declared.kind.DeclarationKind.the-variants.{Shared, Event, Link as Links}
 use Rattle.language.specs.declared.kind.Kind.{Kind}
-use Rattle.language.specs.inner.Labels.{labelsFrom, labelsOf, labelAt, relabelled}
+use Rattle.language.specs.inner.Labels.{labelsOf, labelAt, relabelled}
 use Rattle.language.proofs.PlaceLaws.{scheduler-place}
-use Rattle.language.proofs.Labels.{labels-more}
+use Rattle.language.proofs.Labels.{labels-length, labels-more}
 use Rattle.text.specs.Frames.{frameOfWord, framesOf}
 use Rattle.text.proofs.FrameWords.{next-frame, frames-end, frame-at, frames-length}
 use Rattle.program.specs.Trees.{frameAt, noFrame}
@@ -140,11 +140,6 @@ pub taken-start : (ws labels : List ℕ) → labels ≡ labelsOf [] → Taken ws
 unfolding linksOf
 taken-start ws labels h =
     h ∙ ap (λ (fs : List Frame). labelsOf (linksOf fs)) (sym (frames-end ws (length ws) (omega arith)))
-
-labels-length : (ls : List Link) (p n : ℕ) → length (labelsFrom ls p n) ≡ n
-unfolding labelsFrom
-labels-length ls p zero = refl
-labels-length ls p (suc n) = ap suc (labels-length ls (suc p) n)
 
 pub taken-length : (ws labels : List ℕ) (i : ℕ) → Taken ws labels i → length labels ≡ 8
 taken-length ws labels i t = ap length t ∙ labels-length (linksOf (drop i (framesOf ws))) 2 8

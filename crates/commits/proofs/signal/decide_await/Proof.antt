@@ -9,10 +9,10 @@ event-at-requires c κs = search needs
 
 await-obstacle-requires : tie.Need-await-obstacle-requires
 await-obstacle-requires c κs = (
-      search needs,
-      search needs,
-      λ h. event-small _ _ _ (c .event-at .ensures) (c .before .before .before .pre .2) h,
-    )
+  search needs,
+  search needs,
+  λ h. event-small _ _ _ (c .event-at .ensures) (c .before .before .before .pre .2) h,
+)
 
 returns : tie.Need-returns
 returns c = search decide-await-laws
