@@ -1,5 +1,7 @@
 -- Places.
 pub mod PlaceLaws
+-- Kinds.
+pub mod KindLaws
 -- Type words: what the functions compute, what a cell's type means.
 pub mod Words
 pub mod Cells

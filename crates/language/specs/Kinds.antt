@@ -44,41 +44,6 @@ kindOf k =
     if eqb k 0x28 then Expression Choose else
     Unknown
 
--- ---- the kinds that stand outside the trees: 00 header, 01 shared cell, 02 module, 03 event
-abbrev pub isHeader : Kind → Bool
-isHeader Header = true
-isHeader (Declared d) = false
-isHeader Module = false
-isHeader (Statement k) = false
-isHeader (Expression k) = false
-isHeader Unknown = false
-
-abbrev pub isShared : Kind → Bool
-isShared Header = false
-isShared (Declared Shared) = true
-isShared (Declared Event) = false
-isShared Module = false
-isShared (Statement k) = false
-isShared (Expression k) = false
-isShared Unknown = false
-
-abbrev pub isEvent : Kind → Bool
-isEvent Header = false
-isEvent (Declared Shared) = false
-isEvent (Declared Event) = true
-isEvent Module = false
-isEvent (Statement k) = false
-isEvent (Expression k) = false
-isEvent Unknown = false
-
-abbrev pub isModule : Kind → Bool
-isModule Header = false
-isModule (Declared d) = false
-isModule Module = true
-isModule (Statement k) = false
-isModule (Expression k) = false
-isModule Unknown = false
-
 -- ---- 'Frames stand as header, shared cells .., then the rest'; 02, change 5: 'K 03 .. stands after
 -- the shared cells'. The declarations come after the header, one kind after the other
 abbrev pub declarationRank : DeclarationKind → ℕ
@@ -88,6 +53,38 @@ declarationRank Event = 2
 -- the last of these ranks
 abbrev pub declarations : ℕ
 declarations = 2
+
+-- ---- the kinds that stand outside the trees: 00 header, 01 shared cell, 02 module, 03 event
+abbrev pub isHeader : Kind → Bool
+isHeader Header = true
+isHeader (Declared d) = false
+isHeader Module = false
+isHeader (Statement k) = false
+isHeader (Expression k) = false
+isHeader Unknown = false
+
+-- of a declaration: it is one of that sort
+abbrev pub declares : DeclarationKind → Kind → Bool
+declares d Header = false
+declares d (Declared e) = eqb (declarationRank e) (declarationRank d)
+declares d Module = false
+declares d (Statement k) = false
+declares d (Expression k) = false
+declares d Unknown = false
+
+abbrev pub isShared : Kind → Bool
+isShared k = declares Shared k
+
+abbrev pub isEvent : Kind → Bool
+isEvent k = declares Event k
+
+abbrev pub isModule : Kind → Bool
+isModule Header = false
+isModule (Declared d) = false
+isModule Module = true
+isModule (Statement k) = false
+isModule (Expression k) = false
+isModule Unknown = false
 
 -- ---- what S, A, B and C hold. 'Unused fields are 0.'
 abbrev sabc : Use → Use → Use → Use → Uses

@@ -1,6 +1,7 @@
 // Kinds of frames, and what each field of a kind holds.
 ghost use mathlib.Core.Path.{_≡_};
-ghost use Rattle.language.specs.Kinds.{kindOf, classOf, isHeader, isShared, isEvent, isModule};
+ghost use Rattle.language.specs.Kinds.{kindOf, classOf, isHeader, isModule};
+ghost use Rattle.language.specs.Kinds.{declarationRank, declares};
 
 // Declarations that stand before the modules: a shared cell, K 01; an event, K 03.
 pub enum DeclarationKind {
@@ -134,31 +135,23 @@ pub fn is_header(k: Kind) -> bool
     }
 }
 
-pub fn is_shared(k: Kind) -> bool
-    ensures { λ r. ⌜ r ≡ isShared k ⌝ }
+// The declarations stand one kind after the other.
+pub fn declaration_rank(d: DeclarationKind) -> u8
+    ensures { λ r. ⌜ r ≡ declarationRank d ⌝ }
 {
-    match k {
-        Kind::Header => false,
-        Kind::Declared(d) => match d {
-            DeclarationKind::Shared => true,
-            DeclarationKind::Event => false,
-        },
-        Kind::Module => false,
-        Kind::Statement(s) => false,
-        Kind::Expression(e) => false,
-        Kind::Unknown => false,
+    match d {
+        DeclarationKind::Shared => 1,
+        DeclarationKind::Event => 2,
     }
 }
 
-pub fn is_event(k: Kind) -> bool
-    ensures { λ r. ⌜ r ≡ isEvent k ⌝ }
+// Whether a kind is that declaration.
+pub fn declares(d: DeclarationKind, k: Kind) -> bool
+    ensures { λ r. ⌜ r ≡ declares d k ⌝ }
 {
     match k {
         Kind::Header => false,
-        Kind::Declared(d) => match d {
-            DeclarationKind::Shared => false,
-            DeclarationKind::Event => true,
-        },
+        Kind::Declared(e) => declaration_rank(e) == declaration_rank(d),
         Kind::Module => false,
         Kind::Statement(s) => false,
         Kind::Expression(e) => false,

@@ -4,9 +4,9 @@ use fields::fault_search::FaultSearch;
 use fields::fault_search::lower;
 use language::frame::Frame;
 use language::kind::Class;
-use language::kind::DeclarationKind;
 use language::kind::Kind;
 use language::kind::class_of;
+use language::kind::declaration_rank;
 use language::kind::is_module;
 use language::limit::MOST_LINES;
 use program::frames::Children;
@@ -20,7 +20,7 @@ ghost use Prim.Native.Nat.{ℕ, _≤_, max};
 ghost use lib.Dec.{eqb};
 ghost use lib.ListN.{length};
 ghost use Rattle.basics.specs.inner.Searches.{lowest};
-ghost use Rattle.language.specs.Kinds.{declarationRank, child, children};
+ghost use Rattle.language.specs.Kinds.{child, children};
 ghost use Rattle.language.specs.declared.frame.Frame.{Frame};
 ghost use Rattle.language.specs.Limits.{mostLines};
 ghost use Rattle.text.specs.Frames.{framesOf};
@@ -131,16 +131,6 @@ fn disorder(words: &[u64]) -> FaultSearch
         i += 1;
     }
     FaultSearch::Nowhere
-}
-
-// The declarations stand one kind after the other.
-pub fn declaration_rank(d: DeclarationKind) -> u8
-    ensures { λ r. ⌜ r ≡ declarationRank d ⌝ }
-{
-    match d {
-        DeclarationKind::Shared => 1,
-        DeclarationKind::Event => 2,
-    }
 }
 
 // The rank of all that comes after the declarations.

@@ -10,7 +10,9 @@ use lib.Dec.{ltb, leb·suc-suc}
 use borrow.Author.Tests.{lt-ltb, le-ltb, ltb-false, not-true, not-false}
 use Rattle.basics.specs.If.{if_then_else_, keepIf}
 use Rattle.basics.proofs.Ifs.{if-all, yes, no}
+use Rattle.language.specs.Kinds.{isEvent}
 use Rattle.language.specs.declared.frame.Frame.{Frame}
+use Rattle.language.specs.declared.kind.Kind.{Kind}
 use Rattle.text.specs.Frames.{frameOfWord, framesOf}
 use Rattle.text.proofs.FrameWords.{next-frame, frames-end}
 use Rattle.program.specs.Trees.{noFrame, frameAt}
@@ -18,6 +20,11 @@ use Rattle.program.specs.inner.Numbered.{isNumbered, numberedOf, foundAt
 use Rattle.program.specs.declared.numbered.Numbered.{Numbered}
 use Rattle.program.specs.declared.numbered.FrameFound.{FrameFound}
 use Rattle.program.specs.declared.numbered.FrameFound.the-variants.{At, Nowhere}
+
+-- ---- `is_numbered`
+pub numbered-event : (what : Numbered) (k : Kind) (b : Bool) → what ≡ Numbered.Event → b ≡ isEvent k
+    → b ≡ isNumbered what k
+numbered-event what k b e h = h ∙ ap (λ (w : Numbered). isNumbered w k) (sym e)
 
 -- ---- the loop
 

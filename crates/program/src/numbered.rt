@@ -1,7 +1,8 @@
 // What a file counts from 0: the frame of an event or of a module by its number.
 use language::frame::Frame;
+use language::kind::DeclarationKind;
 use language::kind::Kind;
-use language::kind::is_event;
+use language::kind::declares;
 use language::kind::is_module;
 use text::line::frame_of_word;
 ghost use mathlib.Core.Path.{_≡_};
@@ -22,7 +23,7 @@ fn is_numbered(what: Numbered, kind: Kind) -> bool
     ensures { λ r. ⌜ r ≡ isNumbered what kind ⌝ }
 {
     match what {
-        Numbered::Event => is_event(kind),
+        Numbered::Event => declares(DeclarationKind::Event, kind),
         Numbered::Module => is_module(kind),
     }
 }

@@ -3,7 +3,8 @@
 use crate::frames::frame_at;
 use language::Place;
 use language::frame::Frame;
-use language::kind::is_shared;
+use language::kind::DeclarationKind;
+use language::kind::declares;
 use language::limit::MOST_SHARED;
 use language::type_word::CellRead;
 use language::type_word::cell_type;
@@ -31,7 +32,7 @@ pub fn next_shared(frames: &[u64], i: usize) -> usize
     while k < frames.len() {
         let f = frame_of_word(frames[k]);
         let kind = f.kind;
-        if is_shared(kind) {
+        if declares(DeclarationKind::Shared, kind) {
             return k;
         }
         k += 1;
@@ -74,7 +75,7 @@ pub fn shared_types(frames: &[u64]) -> SharedTypes
     while count + 1 < frames.len() {
         let f = frame_at(frames, count + 1);
         let kind = f.kind;
-        if !is_shared(kind) {
+        if !declares(DeclarationKind::Shared, kind) {
             return SharedTypes { count, types };
         }
         types[count] = shared_type(f);

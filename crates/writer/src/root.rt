@@ -1,8 +1,8 @@
 // A whole file: the trees of its header, its declarations and its modules.
 use crate::emit::emit;
 use language::kind::Kind;
+use language::kind::declaration_rank;
 use language::limit::MOST_DEPTH;
-use layout::in_order::declaration_rank;
 use program::frames::frame_at;
 ghost use mathlib.Core.Path.{_≡_};
 ghost use Prim.Native.Nat.{_+_, _*_, _<_, _≤_};

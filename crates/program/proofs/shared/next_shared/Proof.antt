@@ -24,8 +24,8 @@ shared-slice-read-frame-of-word c = search needs
 frame-of-word-requires : tie.Need-frame-of-word-requires Inv-loop μ-loop
 frame-of-word-requires c κs = search needs
 
-is-shared-requires : tie.Need-is-shared-requires Inv-loop μ-loop
-is-shared-requires c κs = search needs
+declares-requires : tie.Need-declares-requires Inv-loop μ-loop
+declares-requires c κs = search needs
 
 returns : tie.Need-returns Inv-loop μ-loop
 returns c = search seek-here
@@ -52,7 +52,7 @@ next-shared-spec =
     mul-frame-of-word
     shared-slice-read-frame-of-word
     frame-of-word-requires
-    is-shared-requires
+    declares-requires
     returns
     add-k
     loop-less

@@ -30,8 +30,8 @@ add-frame-at c = search needs
 frame-at-requires : tie.Need-frame-at-requires Inv-loop μ-loop
 frame-at-requires c κs = search needs
 
-is-shared-requires : tie.Need-is-shared-requires Inv-loop μ-loop
-is-shared-requires c κs = search needs
+declares-requires : tie.Need-declares-requires Inv-loop μ-loop
+declares-requires c κs = search needs
 
 returns : tie.Need-returns Inv-loop μ-loop
 returns c = search collect-stop
@@ -67,7 +67,7 @@ shared-types-spec =
     add-loop
     add-frame-at
     frame-at-requires
-    is-shared-requires
+    declares-requires
     returns
     shared-type-requires
     mul-types
