@@ -243,7 +243,7 @@ fn is_misplaced(frames: &[Frame], f: usize) -> bool {
 
 /// The parts of a file in their order, the header first, modules and what is
 /// in them last.
-fn part(frame: &Frame) -> u8 {
+pub(crate) fn part(frame: &Frame) -> u8 {
     match frame.kind {
         kind::HEADER => 0,
         kind::SHARED_CELL => 1,

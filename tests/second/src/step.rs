@@ -76,7 +76,11 @@ impl State {
     /// none of them has an active thread and one of them has a ready entry.
     fn end_instant(&mut self, program: &Program, place: u8) -> Outcome {
         let group = program.groups.of(place);
-        let is_idle = |member| self.schedulers[usize::from(member - HOME)].active.is_empty();
+        let is_idle = |member| {
+            self.schedulers[usize::from(member - HOME)]
+                .active
+                .is_empty()
+        };
         if !group.schedulers().all(is_idle) {
             return Outcome::NOTHING;
         }

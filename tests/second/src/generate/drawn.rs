@@ -112,9 +112,7 @@ fn permutation(random: &mut Random, count: usize) -> Vec<usize> {
             random.below(2)
         }
         _ => {
-            for at in (1..count).rev() {
-                order.swap(at, random.below(at + 1));
-            }
+            random.shuffle(&mut order);
             0
         }
     };
@@ -125,11 +123,11 @@ fn permutation(random: &mut Random, count: usize) -> Vec<usize> {
 }
 
 /// The frames after the header in another order, children renumbered. If
-/// `kept`, modules, shared cells and events keep theirs.
+/// `kept`, modules, shared cells, events and links keep theirs.
 pub fn shuffled(random: &mut Random, frames: &[Frame], kept: bool) -> Vec<Frame> {
     let mut order = permutation(random, frames.len() - 1);
     if kept {
-        for kind in [kind::SHARED_CELL, kind::MODULE, kind::EVENT] {
+        for kind in [kind::SHARED_CELL, kind::MODULE, kind::EVENT, kind::LINK] {
             let is_of_kind = |&f: &usize| frames[f].kind == kind;
             let sorted: Vec<usize> = (1..frames.len()).filter(is_of_kind).collect();
             let places = order.iter_mut().filter(|f| is_of_kind(f));
@@ -171,7 +169,7 @@ fn set_child(frames: &mut [Frame], (f, field): Slot, number: usize) {
 /// One change, often a fatal one.
 fn damage(random: &mut Random, frames: &mut Vec<Frame>) {
     let at = random.between(1, frames.len());
-    match random.below(28) {
+    match random.below(34) {
         0 => insert(frames, at, mutate::leaf(random)),
         1 => remove(frames, at.min(frames.len() - 1)),
         2 => without_modules(random, frames),
@@ -186,6 +184,8 @@ fn damage(random: &mut Random, frames: &mut Vec<Frame>) {
         12 => mutate::event_count(random, frames),
         13 => mutate::event_fields(random, frames),
         14 => mutate::event_use_fields(random, frames),
+        15..=18 => mutate::link_fields(random, frames),
+        19..=20 => link_anywhere(random, frames),
         _ => {
             if let Some(slot) = random.pick(&slots(frames)) {
                 child_field(random, frames, slot);
@@ -345,6 +345,15 @@ fn more_events(random: &mut Random, frames: &mut Vec<Frame>) {
     }
 }
 
+/// A good one, wherever it is drawn; at times the same again.
+fn link_anywhere(random: &mut Random, frames: &mut Vec<Frame>) {
+    let link = mutate::link(random, frames);
+    for _ in 0..random.between(1, 2) {
+        let at = random.between(1, frames.len());
+        insert(frames, at, link);
+    }
+}
+
 /// 15 to 18 of them in all, at any place, each with its body.
 fn more_modules(random: &mut Random, frames: &mut Vec<Frame>) {
     let wanted = random.between(15, 18);
@@ -390,12 +399,11 @@ fn other_class(random: &mut Random, frames: &mut [Frame]) {
     };
 }
 
-/// The header, shared cells and events alone, at times not even those.
+/// The header, shared cells, events and links alone, at times not even those.
 fn only_declarations(random: &mut Random, frames: &mut Vec<Frame>) {
     match random.chance(2) {
         true => frames.truncate(1),
-        false => frames
-            .retain(|frame| matches!(frame.kind, kind::HEADER | kind::SHARED_CELL | kind::EVENT)),
+        false => frames.retain(mutate::is_declared_first),
     }
     if let (0, Some(header)) = (of_kind(frames, kind::EVENT), frames.first_mut()) {
         header.c = 0;
