@@ -1,6 +1,7 @@
 //! What the generator reaches.
 
 mod acting;
+mod in_step;
 mod literal;
 mod literal_events;
 
@@ -243,7 +244,7 @@ fn declarations_are_damaged() {
             (5, 0x03) if frame.s == 0 => "owner 0",
             (5, 0x03) => "field that is not 0",
             (5, 0x1A | 0x1B) => "field of a use that is not 0",
-            (5, 0x04 | 0x1C) => "kind just past those of events",
+            (5, 0x05 | 0x1C) => "kind just past those of events and links",
             (6, 0x03) if before == Some(0x02) => "event behind a module",
             (6, 0x03) => "event behind a statement or expression",
             (6, 0x01) if before == Some(0x03) => "shared cell behind an event",

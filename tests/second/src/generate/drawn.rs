@@ -3,7 +3,7 @@
 
 use super::mutate::{child_mut, insert, renumber};
 use super::random::Random;
-use super::{build, mutate, soup, special, Plan};
+use super::{build, events, mutate, soup, special, Plan};
 use crate::frame::{kind, Frame};
 use crate::place::HOME;
 
@@ -35,7 +35,8 @@ pub fn laid_out(random: &mut Random) -> Vec<Frame> {
         0 => special::full(random, 1024),
         1..=3 => soup::frames(random),
         4..=5 => chain(random, 24),
-        6..=20 => build::frames(random, Plan::small),
+        6..=17 => build::frames(random, Plan::small),
+        18..=22 => events::exchange(random, true),
         _ => build::frames(random, Plan::random),
     }
 }
@@ -198,7 +199,7 @@ fn damage(random: &mut Random, frames: &mut Vec<Frame>) {
 fn child_field(random: &mut Random, frames: &mut [Frame], slot: Slot) {
     let count = frames.len();
     let other = random.pick(&slots(frames)).unwrap_or(slot);
-    match random.below(13) {
+    match random.below(14) {
         0 => set_child(frames, slot, 0),
         1 => {
             set_child(frames, slot, 0);
@@ -222,21 +223,30 @@ fn child_field(random: &mut Random, frames: &mut [Frame], slot: Slot) {
             let number = child(frames, (slot.0, within));
             set_child(frames, slot, usize::from(number));
         }
-        8 => {
-            let declared: Vec<usize> = (0..count).filter(|&f| frames[f].kind < 16).collect();
-            let number = random.pick(&declared).unwrap_or(0);
+        8..=9 => {
+            let number = declaration(random, frames);
             set_child(frames, slot, number);
             if random.chance(2) {
                 set_child(frames, other, number);
             }
         }
-        9..=10 => exchange(frames, slot, other),
+        10..=11 => exchange(frames, slot, other),
         _ => {
             let below = slots_below(frames, child(frames, slot));
             let other = random.pick(&below).unwrap_or(other);
             exchange(frames, slot, other);
         }
     }
+}
+
+/// A header, shared cell, module, event or link, each about as often.
+fn declaration(random: &mut Random, frames: &[Frame]) -> usize {
+    let declared: Vec<usize> = (0..frames.len()).filter(|&f| frames[f].kind < 16).collect();
+    let kind = random.place(kind::HEADER, kind::LINK);
+    let of_kind = |&f: &usize| frames[f].kind == kind;
+    let wanted: Vec<usize> = declared.iter().copied().filter(of_kind).collect();
+    let any = random.pick(&declared).unwrap_or(0);
+    random.pick(&wanted).unwrap_or(any)
 }
 
 /// Each frame keeps its number of users. Where one field stands below the

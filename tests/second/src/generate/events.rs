@@ -57,10 +57,11 @@ pub fn crowd(random: &mut Random, linked: bool) -> Vec<Frame> {
     let mut events = Events::empty(random, schedulers);
     events.declare(1, 4);
     events.link(linked);
-    for _ in 0..events.random.between(1, 4) {
-        let home = match linked || events.random.chance(4) {
+    let modules = if linked { [2, 6] } else { [1, 4] };
+    for _ in 0..events.random.between(modules[0], modules[1]) {
+        let home = match events.random.chance(4) {
             true => events.scheduler(),
-            false => HOME,
+            false => events.partner(HOME),
         };
         let body = events.member(home);
         events.module(home, body);
@@ -91,6 +92,7 @@ struct Events<'r> {
     cells: Vec<u8>,
     /// Owners of the events.
     owners: Vec<u8>,
+    has_links: bool,
     groups: Groups,
     /// Where each module is started, so that it needs no move to use the
     /// events of that place.
@@ -111,6 +113,7 @@ impl<'r> Events<'r> {
             last_place: PRIVATE + schedulers,
             cells: Vec::new(),
             owners: Vec::new(),
+            has_links: false,
             groups: Groups::new(&[]),
             homes: Vec::new(),
             tickers: 0,
@@ -142,6 +145,7 @@ impl<'r> Events<'r> {
 
     /// Puts some schedulers in step, if there are several.
     fn link(&mut self, linked: bool) {
+        self.has_links = linked;
         if linked {
             self.groups = links::declare(self.random, &mut self.lines, self.last_place);
         }
@@ -181,7 +185,7 @@ impl<'r> Events<'r> {
         let condition = self.lines.leaf(kind::TRUTH, 1);
         let body = self.turn(condition, |events| {
             let before = match events.random.below(3) {
-                0 => events.lines.leaf(kind::NOTHING, 0),
+                0 => events.pause(),
                 1 => events.cooperates(),
                 _ => events.unlinked(0),
             };
@@ -304,8 +308,23 @@ impl<'r> Events<'r> {
         if self.groups.in_step(here, owner) && !self.random.chance(6) {
             return here;
         }
-        let members: Vec<u8> = self.groups.of(owner).schedulers().collect();
-        self.random.pick(&members).unwrap_or(owner)
+        self.partner(owner)
+    }
+
+    /// A scheduler in step with this one, or itself.
+    fn partner(&mut self, place: u8) -> u8 {
+        let members: Vec<u8> = self.groups.of(place).schedulers().collect();
+        self.random.pick(&members).unwrap_or(place)
+    }
+
+    /// Nothing for some steps, where partners may come to their awaits
+    /// meanwhile.
+    fn pause(&mut self) -> u16 {
+        let count = match self.has_links {
+            true => self.random.between(1, 16),
+            false => 1,
+        };
+        self.row(count, |events| events.lines.leaf(kind::NOTHING, 0))
     }
 
     /// Of one of the events of this place's group, if it has any, or of any.
@@ -452,7 +471,11 @@ impl<'r> Events<'r> {
 
     /// Some instants later, an event, at times at once again.
     fn signal(&mut self) -> u16 {
-        let event = self.event_use(HOME, kind::GENERATE);
+        let pause = self.has_links.then(|| self.pause());
+        let mut event = self.event_use(HOME, kind::GENERATE);
+        if let Some(pause) = pause {
+            event = self.lines.add(kind::SEQUENCE, 0, [pause, event, 0]);
+        }
         match self.random.chance(4) {
             true => event,
             false => {

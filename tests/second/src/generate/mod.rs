@@ -193,7 +193,7 @@ impl Sort {
             (6, Sort::Crowd),
             (8, Sort::EventFault),
             (12, Sort::Groups),
-            (4, Sort::GroupCrowd),
+            (6, Sort::GroupCrowd),
             (8, Sort::GroupFault),
             (9, Sort::DamagedLinks),
         ]);
