@@ -355,12 +355,16 @@ fn more_events(random: &mut Random, frames: &mut Vec<Frame>) {
     }
 }
 
-/// A good one, wherever it is drawn; at times the same again.
+/// A good one, wherever it is drawn, seldom as a child; at times the same again.
 fn link_anywhere(random: &mut Random, frames: &mut Vec<Frame>) {
     let link = mutate::link(random, frames);
     for _ in 0..random.between(1, 2) {
         let at = random.between(1, frames.len());
         insert(frames, at, link);
+        match random.pick(&slots(frames)) {
+            Some(slot) if random.chance(8) => set_child(frames, slot, at),
+            _ => {}
+        }
     }
 }
 
