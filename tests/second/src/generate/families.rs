@@ -80,7 +80,7 @@ impl<'r> Families<'r> {
                 families.events.push(owner);
             }
         }
-        if families.random.chance(5) {
+        if families.random.chance(8) {
             links::declare(families.random, &mut families.lines, families.last_place);
         }
         families

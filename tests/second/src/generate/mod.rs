@@ -187,7 +187,7 @@ impl Sort {
             (1, Sort::Full),
             (25, Sort::DamagedFrames),
             (10, Sort::DamagedText),
-            (19, Sort::Families),
+            (25, Sort::Families),
             (3, Sort::Chain),
             (16, Sort::Events),
             (6, Sort::Crowd),
@@ -199,7 +199,7 @@ impl Sort {
         ]);
         match sort {
             // About as rare as an over-long list: these take their time.
-            Sort::Doubling if random.chance(4) => Sort::LongRun,
+            Sort::Doubling if random.chance(3) => Sort::LongRun,
             _ => sort,
         }
     }

@@ -418,13 +418,13 @@ pub(super) fn link_fields(random: &mut Random, frames: &mut Vec<Frame>) {
     let Some(link) = of_kind(random, frames, &[kind::LINK]) else {
         return;
     };
-    match random.below(6) {
+    match random.below(7) {
         0 => link.s = [0, PRIVATE, HOME, beyond, PRIVATE + SCHEDULERS + 1, 0xFF][random.below(6)],
         1 => link.a = u16::from([0, PRIVATE, beyond, PRIVATE + SCHEDULERS + 1][random.below(4)]),
         2 => link.a = u16::from(link.s),
         3 => (link.s, link.a) = (link.a as u8, u16::from(link.s)),
         4 => link.a |= [0x0100, 0x1000, 0xFF00][random.below(3)],
-        _ if random.chance(2) => link.b = random.between(1, 3) as u16,
+        5 => link.b = random.between(1, 3) as u16,
         _ => link.c = random.between(1, 3) as u16,
     }
 }
@@ -435,7 +435,12 @@ fn link_out_of_order(random: &mut Random, frames: &mut Vec<Frame>) {
     let link = link(random, frames);
     match random.below(4) {
         0 => {
-            let at = random.between(after_declarations(frames), frames.len());
+            let behind_module = |&at: &usize| frames[at - 1].kind == kind::MODULE;
+            let modules: Vec<usize> = (1..=frames.len()).filter(behind_module).collect();
+            let at = match random.pick(&modules) {
+                Some(at) if random.chance(2) => at,
+                _ => random.between(after_declarations(frames), frames.len()),
+            };
             insert(frames, at, link);
         }
         1 => {
