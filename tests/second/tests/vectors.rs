@@ -34,12 +34,12 @@ fn printed_alike(name: &str, at_least: usize, command: Command) {
 
 #[test]
 fn check_prints_every_vector() {
-    printed_alike("check.txt", 578, |text, _| listing::check(text));
+    printed_alike("check.txt", 579, |text, _| listing::check(text));
 }
 
 #[test]
 fn run_prints_every_vector() {
-    printed_alike("run.txt", 576, listing::run);
+    printed_alike("run.txt", 577, listing::run);
 }
 
 #[test]

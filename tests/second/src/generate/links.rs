@@ -4,6 +4,7 @@ use super::lines::Lines;
 use super::random::Random;
 use crate::frame::kind;
 use crate::group::Groups;
+use crate::layout::DECLARATIONS;
 use crate::place::HOME;
 
 /// Declares some links between the schedulers of a file and hands back the
@@ -17,7 +18,8 @@ pub fn declare(random: &mut Random, lines: &mut Lines, last_place: u8) -> Groups
     Groups::new(&lines.0[first..])
 }
 
-/// Pairs of schedulers, in any order, at times one of them twice.
+/// Pairs of schedulers, in any order, at times one of them twice, seldom more
+/// of them than a file may have of other declarations.
 fn some(random: &mut Random, last_place: u8) -> Vec<[u8; 2]> {
     let mut places: Vec<u8> = (HOME..=last_place).collect();
     let count = places.len();
@@ -35,7 +37,12 @@ fn some(random: &mut Random, last_place: u8) -> Vec<[u8; 2]> {
         }
         _ => any(random, &places),
     };
-    if random.chance(3) {
+    let count = match random.below(24) {
+        0 => random.between(DECLARATIONS - 1, 2 * DECLARATIONS),
+        1..=8 => pairs.len() + 1,
+        _ => pairs.len(),
+    };
+    while pairs.len() < count {
         pairs.push(pairs[random.below(pairs.len())]);
     }
     random.shuffle(&mut pairs);
