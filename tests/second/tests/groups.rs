@@ -564,6 +564,18 @@ fn a_move_to_a_partner_is_a_move() {
     assert_eq!((run.active(3), run.next(3)), (vec![1], vec![ready(2)]));
     run.acts(3, &[1]);
     assert_eq!(run.next(3), [ready(2), ready(3)]);
+    // Between partners neither of which is home.
+    let mut run = Run::of(
+        &linked(3, &[(4, 3)], &[], &[at(3, at(4, nothing()))]).text(),
+        0,
+    );
+    run.acts(2, &[1]);
+    run.acts(4, &[0]);
+    run.acts(3, &[1]);
+    assert_eq!((run.active(3), run.next(4)), (vec![], vec![ready(1)]));
+    run.acts(3, &[0]);
+    run.acts(4, &[1, 1]);
+    assert_eq!((run.active(4), run.next(3)), (vec![], vec![ready(1)]));
 }
 
 // Events of a group.
