@@ -298,7 +298,7 @@ fn the_private_place_is_in_no_group() {
         let unlinked = at(PRIVATE, event_use.clone());
         let links = [(3, 2), (4, 3)];
         assert_eq!(
-            linked(3, &links, &[2], &[unlinked.clone()]).verdict(),
+            linked(3, &links, &[2], from_ref(&unlinked)).verdict(),
             (11, 0x12)
         );
         let inside = at(PRIVATE, at(3, event_use));
