@@ -24,7 +24,8 @@ ghost use Rattle.program.specs.Programs.{programOf};
 ghost use Rattle.machine.specs.Offsets.{stateLength};
 ghost use Rattle.commits.specs.inner.Commits.{CommitWords, turnResultIn, committedIn};
 ghost use Rattle.commits.specs.inner.Commits.{leavesList, unlistedIn, enlistedIn};
-ghost use Rattle.commits.specs.inner.Commits.{followedIn, awaitingIn, Follows, committed, grouping};
+ghost use Rattle.commits.specs.inner.Commits.{followedIn, awaitingIn, Follows, committed};
+ghost use Rattle.commits.specs.inner.Commits.{grouping};
 
 // Whether the thread leaves its list; a starter does where it waits.
 fn leaves(passed: Passed) -> bool
@@ -110,7 +111,8 @@ pub fn commit(
         (now state) t a ⌝ }
     ensures { λ r. ⌜ committed r t (now (state .exit))
         ≡ committedIn (programOf (framesOf (now (frames .entry))))
-        (grouping (now (labels .entry)) schedulers) (now (state .entry)) before choice t (turnResultIn (now (state .entry)) t a) (a .transition) ⌝ }
+        (grouping (now (labels .entry)) schedulers) (now (state .entry)) before choice t
+        (turnResultIn (now (state .entry)) t a) (a .transition) ⌝ }
 {
     match decide(frames, labels, schedulers, state, t, a) {
         Decision::Refuse(n) => {

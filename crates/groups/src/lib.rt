@@ -1,5 +1,5 @@
-// What is done on each member of a group, the schedulers of a file that are in step with one of them,
-// by number, in the lent words.
+// What is done on each member of a group, the schedulers of a file that are in step with one of
+// them, by number, in the lent words.
 use language::Place;
 use language::group::LABELS;
 use lists::list::end_instant;
@@ -79,7 +79,8 @@ pub fn wake_on_each(labels: &[u8; LABELS], schedulers: u8, q: Place, state: &mut
         × Each (sameLabel (now labels) (q .number)) (HasRoomOn e (now state)) home
         (home + schedulers) ⌝ }
     ensures { λ _. ⌜ now (state .exit)
-        ≡ wokenOn (membersIn (now (labels .entry)) schedulers (q .number)) e (now (state .entry)) ⌝ }
+        ≡ wokenOn (membersIn (now (labels .entry)) schedulers (q .number)) e
+        (now (state .entry)) ⌝ }
 {
     let end = HOME + schedulers;
     let mut k = next_member(labels, schedulers, q, HOME);

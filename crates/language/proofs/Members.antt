@@ -1,8 +1,8 @@
 -- What effects mean as sets of schedulers: membership in the empty set, in a join, with one owner
 -- added, and what it is to lie within a place and its group. Assumes nothing.
-use mathlib.Core.Path.{_≡_, refl, sym, ap, _∙_}
+use mathlib.Core.Path.{_≡_, refl, sym, ap, subst, _∙_}
 use mathlib.Core.Bool.{Bool, true, false, _&&_, _||_, true≢false}
-use mathlib.Core.List.{List}
+use mathlib.Core.List.{List, []}
 use mathlib.Core.Logic.{_⊎_, inl, inr}
 use Prim.Native.Nat.{ℕ, zero, suc, _+_, _-_, _/_, _%_, _^_, _<_, _≤_, max}
 use native.Mathlib.Nat.{pow-suc}
@@ -15,12 +15,12 @@ use Rattle.basics.proofs.Ifs.{if-all, if-yes, and-true, and-both, and-off, or-o
 use Rattle.basics.proofs.Ifs.{or-right}
 use Rattle.basics.proofs.Bits.{bit, bit-zero, bit-suc, no-bit, same-bit, other-bit, bit-or}
 use Rattle.language.specs.Places.{isScheduler}
-use Rattle.language.specs.Groups.{Link, InStep, inStep}
+use Rattle.language.specs.Groups.{Link, InStep, label, inStep}
 use Rattle.language.specs.Effects.{member, only, withMember, setWithin, setFrom, groupOf}
 use Rattle.language.specs.Effects.{subset, within}
 use Rattle.language.specs.declared.effect.Effect.{Effect}
 use Rattle.language.proofs.PlaceLaws.{from-home, test-bounds}
-use Rattle.language.proofs.Labels.{in-step-computes}
+use Rattle.language.proofs.Labels.{in-step-computes, step-label}
 
 -- ---- bits
 -- a bit of the half is one of the whole
@@ -280,3 +280,31 @@ pub sets-within : (ls : List Link) (p : ℕ) (e : Effect) → Within ls p e → 
 unfolding within
 sets-within ls p e (h, k) =
     and-both _ _ (members-within p (e .cells) h) (group-within ls p (e .events) k)
+
+-- without links the events' set is asked as the cells' is: the check of such a file is as it was
+-- before change 7
+pub within-alone : (p : ℕ) (e : Effect)
+    → within [] p e ≡ (setWithin p (e .cells) && setWithin p (e .events))
+unfolding within label
+within-alone p e =
+    ap (λ (b : Bool). setWithin p (e .cells) && b)
+    (same (subset s (groupOf [] p)) (setWithin p s) to from)
+  where
+    s : ℕ
+    s = e .events
+
+    same : (a b : Bool) → (a ≡ true → b ≡ true) → (b ≡ true → a ≡ true) → a ≡ b
+    same true b f g = sym (f refl)
+    same false true f g = g refl
+    same false false f g = refl
+
+    to : subset s (groupOf [] p) ≡ true → setWithin p s ≡ true
+    to h =
+        members-within p s
+        (λ q m. let (i, t, u) = within-group [] p s h q m in (step-label [] i, u))
+
+    from : setWithin p s ≡ true → subset s (groupOf [] p) ≡ true
+    from h =
+        group-within [] p s
+        (λ q m. let (i, u) = within-members p s h q m in
+        (subst (λ (r : ℕ). InStep [] r p) (sym i) InStep.itself, ap isScheduler i ∙ u, u))

@@ -3,8 +3,8 @@ ghost use mathlib.Core.Path.{_≡_};
 ghost use Rattle.language.specs.Kinds.{kindOf, classOf, isHeader, isModule};
 ghost use Rattle.language.specs.Kinds.{declarationRank, declares};
 
-// Declarations that stand before the modules: a shared cell, K 01; an event, K 03; two schedulers in
-// step, K 04.
+// Declarations that stand before the modules: a shared cell, K 01; an event, K 03; two schedulers
+// in step, K 04.
 pub enum DeclarationKind {
     Shared,
     Event,

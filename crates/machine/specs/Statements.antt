@@ -149,9 +149,9 @@ withSignal u e =
     let signal : Signal = record { event = e; owner = o; thread = u .thread; place = here u } in
     turnSoFar u (u .cells) (u .accesses) (u .signals ++ (signal ∷ []))
 
--- the thread stands on the event's owner, or, 02, change 7, on a scheduler in step with it: 'at K 12
--- and at `main` an event's owner must be the place or in step with it, and in a run likewise'; any
--- other access is foreign
+-- the thread stands on the event's owner, or, 02, change 7, on a scheduler in step with it: 'an
+-- event's owner must be the place or in step with it, and in a run likewise'; any other access is
+-- foreign
 unfoldable pub isOwnEvent : Turn → ℕ → Bool
 isOwnEvent u e =
     leb home (here u) && inStep (u .program .links) (ownerOfEvent (u .program) e) (here u)

@@ -48,9 +48,9 @@ stepThreadWithin z p s c t = stepItemsWithin z p s c t (threadAt s t .continuati
 abbrev pub nobody : ℕ → State → StepResult
 nobody n s = record { answer = n; thread = 0; state = s; accesses = []; signals = [] }
 
--- 02, change 5: 'An event is present .. to the end of its scheduler's instant', change 7: 'until the
--- group's instant ends': of the events, which have the owners os, those whose owner passes the test
--- no longer are
+-- 02, change 5: 'An event is present .. to the end of its scheduler's instant', change 7: 'until
+-- the group's instant ends': of the events, which have the owners os, those whose owner passes the
+-- test no longer are
 unfoldable pub withoutEventsOf : (ℕ → Bool) → List ℕ → List Bool → List Bool
 withoutEventsOf test [] bs = bs
 withoutEventsOf test (o ∷ os) [] = []
@@ -77,8 +77,8 @@ hasReady s q = any (isReady (s .threads)) (schedulerAt s q .next)
 
 -- '16 'nothing': no active thread there and no ready one in its next list', which ends no instant.
 -- 02, change 7: 'An instant of a group ends only when no member has an active thread, in one step,
--- for all of them. A chosen member without active threads answers 16 while another has some, or when
--- no member has a ready thread.'
+-- for all of them. A chosen member without active threads answers 16 while another has some, or
+-- when no member has a ready thread.'
 unfoldable pub endInstant : Program → State → ℕ → StepResult
 endInstant p s c =
     let qs = members p c in

@@ -103,8 +103,8 @@ pub data HasEffect (env : Setting) (below : List Signature)
       → HasEffect env below Γ at p e a → HasEffect env below Γ at q f b
       → HasEffect env below Γ at (Stmt.seq i p q) (e ∪ f) (a && b)
   -- 12 do A at place S: '12 needs the effect of A within {S}, or empty when S is 1, and itself has
-  -- none'; with S 1 never while unlinked. 02, change 7: 'at K 12 and at `main` an event's owner must
-  -- be the place or in step with it'
+  -- none'; with S 1 never while unlinked. 02, change 7: 'at K 12 and at `main` an event's owner
+  -- must be the place or in step with it'
   do-unlinked : {Γ : List ℕ} {i : ℕ} {p : Stmt} {e : Effect} {a : Bool}
       → HasEffect env below Γ unlinked p e a → within (env .links) private e ≡ true
       → HasEffect env below Γ linked (Stmt.doAt i private p) noEffect a

@@ -1,5 +1,5 @@
--- Schedulers in step as the code keeps them: the labels of 2 to 9, in order. No reader has to believe
--- it: proofs/Labels shows that those of a file's links say who is in step. Assumes nothing:
+-- Schedulers in step as the code keeps them: the labels of 2 to 9, in order. No reader has to
+-- believe it: proofs/Labels shows that those of a file's links say who is in step. Assumes nothing:
 -- definitions.
 use mathlib.Core.Bool.{Bool, _&&_}
 use mathlib.Core.List.{List, [], _∷_, map}

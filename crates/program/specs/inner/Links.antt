@@ -1,6 +1,6 @@
 -- The lines that declare something, told by their first two digits, and what the code asks of the
--- links. No reader has to believe it: proofs/LinkLaws ties the labels to the program's links. Assumes
--- nothing: definitions.
+-- links. No reader has to believe it: proofs/LinkLaws ties the labels to the program's links.
+-- Assumes nothing: definitions.
 use mathlib.Core.Path.{_≡_}
 use mathlib.Core.Bool.{true}
 use mathlib.Core.List.{List}
