@@ -24,7 +24,7 @@ use Rattle.commits.specs.declared.decision.Decision.{Decision}
 use Rattle.commits.specs.declared.decision.Decision.the-variants.{Refuse, Settle, Suspend}
 use Rattle.commits.specs.inner.Commits.{roomIn, ownsEvent, wakeRoomIn, presentIn}
 use Rattle.commits.specs.inner.Commits.{generateObstacle, awaitObstacle, generateTested}
-use Rattle.commits.specs.inner.Commits.{awaitTested, Grouping, grouping, groupIn}
+use Rattle.commits.specs.inner.Commits.{awaitTested, Grouping, grouping, membersBy}
 use Rattle.commits.specs.inner.Commits.{GroupingFits}
 use Rattle.commits.specs.inner.Commits.{leftIn, joinedIn, generatedIn, awaitingIn}
 use Rattle.commits.specs.inner.Commits.{CommitWords}
@@ -57,10 +57,10 @@ module _ (G : Grouping) (w : List ℕ) (o e : ℕ) (x : PlaceRead) (r : x ≡ pl
     there : (isScheduler o ≡ true) × (q .number ≡ o)
     there = read-at (isScheduler o) o q (sym r ∙ h)
 
-    pub wake-room : (y : Bool) → y ≡ roomOnEach (groupIn G (q .number)) e w → y ≡ wakeRoomIn G w o e
+    pub wake-room : (y : Bool) → y ≡ roomOnEach (membersBy G (q .number)) e w → y ≡ wakeRoomIn G w o e
     unfolding wakeRoomIn
     wake-room y k =
-        k ∙ ap (λ (n : ℕ). roomOnEach (groupIn G n) e w) (there .1) ∙ sym (rw (there .0))
+        k ∙ ap (λ (n : ℕ). roomOnEach (membersBy G n) e w) (there .1) ∙ sym (rw (there .0))
 
 pub owner-group : (labels : List ℕ) (n o : ℕ) (x : PlaceRead) (q : Place)
     → x ≡ placeRead (isScheduler o) o → x ≡ At q → GroupingFits (grouping labels n)
@@ -231,7 +231,7 @@ pub wake-room-is : (G : Grouping) (w : List ℕ) (o e : ℕ) → wakeRoomIn G w 
 unfolding wakeRoomIn
 wake-room-is G w o e h =
     room-each (sameLabel (G .labels) o) e w 2 (G .schedulers)
-    (and-true (isScheduler o) (roomOnEach (groupIn G o) e w) h .1)
+    (and-true (isScheduler o) (roomOnEach (membersBy G o) e w) h .1)
 
 -- who is in step with p is in step with o, where these two are
 pub same-group : (labels : List ℕ) (p o j : ℕ) → sameLabel labels p o ≡ true
@@ -249,7 +249,7 @@ awaited-small G fs w e n p x q l f z =
     event-small fs e x q l (await-allowed G w x (p .number) e (sym f ∙ z) .there)
 
 -- ---- `generate`, `suspend`
-pub generated-is : (G : Grouping) (w u v : List ℕ) (q e : ℕ) → u ≡ wokenOn (groupIn G q) e w
+pub generated-is : (G : Grouping) (w u v : List ℕ) (q e : ℕ) → u ≡ wokenOn (membersBy G q) e w
     → v ≡ set u (4562 + e) 1 → v ≡ generatedIn G w q e
 unfolding generatedIn
 generated-is G w u v q e h k = k ∙ ap (λ (l : List ℕ). set l (4562 + e) 1) h

@@ -1,5 +1,5 @@
 -- What a file without fault has of links: each names two schedulers of the file. Assumes nothing.
-use mathlib.Core.Path.{_≡_, refl, sym, ap, _∙_}
+use mathlib.Core.Path.{_≡_, refl, sym, ap, subst, _∙_}
 use mathlib.Core.Bool.{Bool, true, false, true≢false}
 use mathlib.Core.List.{List, [], _∷_}
 use Prim.Native.Nat.{ℕ, suc, _<_}
@@ -19,10 +19,11 @@ use Rattle.language.specs.declared.frame.Frame.{Frame}
 use Rattle.language.proofs.PlaceLaws.{has-scheduler}
 use Rattle.program.specs.Trees.{frameAt}
 use Rattle.program.specs.Programs.{linkOf, linksOf}
-use Rattle.program.specs.inner.Links.{LinksPlaced}
+use Rattle.program.specs.inner.Links.{isEarly, LinksPlaced}
 use Rattle.fields.specs.Fields.{schedulersOf, fieldFine}
 use Rattle.fields.proofs.FramePass.{fine-parts}
-use Rattle.layout.specs.Faults.{NoFault}
+use Rattle.layout.specs.Faults.{Fault, NoFault}
+use Rattle.layout.specs.Order.{fileRank}
 use Rattle.layout.proofs.Scopes.{frame-right}
 
 pub is-link : (k : Kind) → isLink k ≡ true → k ≡ Declared Links
@@ -66,11 +67,33 @@ module _ (fs : List Frame) (fine : NoFault fs) where
       let asked-a : Kind → Bool = λ (k : Kind). fieldFine fs i f (uses k .a) (f .a) in
       (sym (ap asked-s e) ∙ parts .1, and-true _ _ (sym (ap asked-a e) ∙ parts .2) .0)
 
+  -- nothing stands before a link but the header and declarations
+  links-early : (i j : ℕ) → i < j → j < length fs → isLink (frameAt fs j .kind) ≡ true
+      → isEarly (frameAt fs i .kind) ≡ true
+  links-early i j l k t = go (frameAt fs i .kind) refl
+    where
+      late : (x : Kind) → frameAt fs i .kind ≡ x → 3 < fileRank x → isEarly x ≡ true
+      late x e r =
+          absurd (fine 6 j (Fault.misplaced {d = Links} l k (is-link (frameAt fs j .kind) t)
+          (subst (λ (y : Kind). 3 < fileRank y) (sym e) r)))
+
+      go : (x : Kind) → frameAt fs i .kind ≡ x → isEarly (frameAt fs i .kind) ≡ true
+      go Header e = ap isEarly e
+      go (Declared d) e = ap isEarly e
+      go Module e = ap isEarly e ∙ late Module e (omega arith)
+      go (Statement x) e = ap isEarly e ∙ late (Statement x) e (omega arith)
+      go (Expression x) e = ap isEarly e ∙ late (Expression x) e (omega arith)
+      go Unknown e = ap isEarly e ∙ late Unknown e (omega arith)
+
   pub links-placed : LinksPlaced fs
-  links-placed i l t =
-      let z = links-in-file i l t in
-      let b = schedulersOf fs in
-      (has-scheduler b (frameAt fs i .s) (z .0) .0, has-scheduler b (frameAt fs i .a) (z .1) .0)
+  links-placed =
+      record {
+        ends = λ i l t.
+            let z = links-in-file i l t in
+            let b = schedulersOf fs in
+            (has-scheduler b (frameAt fs i .s) (z .0) .0, has-scheduler b (frameAt fs i .a) (z .1) .0);
+        early = links-early;
+      }
 
   -- the same of the program's links
   pub link-ends

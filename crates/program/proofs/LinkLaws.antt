@@ -1,12 +1,13 @@
 -- A line told by its K, and the labels of a file's links, link by link. Assumes nothing.
 use mathlib.Core.Path.{_≡_, refl, sym, ap, ap₂, subst, _∙_}
-use mathlib.Core.Bool.{Bool, true, false, not}
+use mathlib.Core.Bool.{Bool, true, false, not, true≢false}
 use mathlib.Core.List.{List, [], _∷_}
 use Prim.Native.Nat.{ℕ, zero, suc, _+_, _-_, _/_, _%_, _^_, _<_, _≤_}
 use native.Mathlib.Omega.{arith}
-use lib.Dec.{eqb}
-use lib.ListN.{length, getD, drop}
-use borrow.Author.Tests.{eqb-true, not-true, not-false}
+use lib.Dec.{eqb, leb}
+use lib.ListN.{length, getD, drop, length-drop}
+use lib.Seq.{getD-drop}
+use borrow.Author.Tests.{eqb-true, ne-eqb, leb-true, not-true, not-false}
 use Rattle.basics.specs.If.{if_then_else_, keepIf}
 use Rattle.basics.proofs.Ifs.{if-all, if-no, yes, no}
 use Rattle.language.specs.Kinds.{declares, isLink, kindOf}
@@ -17,6 +18,8 @@ use Rattle.language.specs.declared.frame.Frame.{Frame}
 use Rattle.language.specs.declared.kind.DeclarationKind.{DeclarationKind}
 use Rattle.language.specs.declared.kind.DeclarationKind.the-variants.{Shared, Event, Link as Links}
 use Rattle.language.specs.declared.kind.Kind.{Kind}
+use Rattle.language.specs.declared.kind.Kind.the-variants.{Header, Declared, Module, Statement}
+use Rattle.language.specs.declared.kind.Kind.the-variants.{Expression, Unknown}
 use Rattle.language.specs.inner.Labels.{labelsOf, labelAt, relabelled}
 use Rattle.language.proofs.PlaceLaws.{scheduler-place}
 use Rattle.language.proofs.Labels.{labels-length, labels-more}
@@ -24,7 +27,8 @@ use Rattle.text.specs.Frames.{frameOfWord, framesOf}
 use Rattle.text.proofs.FrameWords.{next-frame, frames-end, frame-at, frames-length}
 use Rattle.program.specs.Trees.{frameAt, noFrame}
 use Rattle.program.specs.Programs.{linkOf, linksOf}
-use Rattle.program.specs.inner.Links.{kindNumber, LinkPlaced, LinksPlaced, withLine}
+use Rattle.program.specs.inner.Links.{kindNumber, LinkPlaced, isEarly, LinksPlaced}
+use Rattle.program.specs.inner.Links.{withLine}
 
 -- ---- each declaration has one number
 
@@ -132,14 +136,86 @@ module _ (labels : List ℕ) (w : ℕ) (b : Bool) (d : b ≡ isLink (frameOfWord
         (m ∙ ap₂ (λ (x y : Place). relabelled (labelAt labels (x .number)) (labelAt labels (y .number)) labels) k l
         ∙ ap (λ (x : Frame). relabelled (labelAt labels (x .s)) (labelAt labels (x .a)) labels) e)
 
+-- ---- `declarations_end`
+past-early : (b : Bool) (x y : Kind) → isEarly x ≡ false → isEarly y ≡ false
+    → isEarly (if b then x else y) ≡ false
+past-early b x y e f = if-all (λ (k : Kind). isEarly k ≡ false) b x y (λ _. e) (λ _. f)
+
+-- K from 10 on is neither the header's nor a declaration's
+late-number : (k : ℕ) → 16 ≤ k → isEarly (kindOf k) ≡ false
+unfolding kindOf
+late-number k l =
+    ap isEarly (if-no _ _ (ne-eqb k 0 (λ z. omega arith)))
+    ∙ ap isEarly (if-no _ _ (ne-eqb k 1 (λ z. omega arith)))
+    ∙ past-early _ _ _ refl
+    (ap isEarly (if-no _ _ (ne-eqb k 3 (λ z. omega arith)))
+    ∙ ap isEarly (if-no _ _ (ne-eqb k 4 (λ z. omega arith)))
+    ∙ (
+    past-early _ _ _ refl (past-early _ _ _ refl (past-early _ _ _ refl (past-early _ _ _ refl (
+    past-early _ _ _ refl (past-early _ _ _ refl (past-early _ _ _ refl (past-early _ _ _ refl (
+    past-early _ _ _ refl (past-early _ _ _ refl (past-early _ _ _ refl (past-early _ _ _ refl (
+    past-early _ _ _ refl (past-early _ _ _ refl (past-early _ _ _ refl (past-early _ _ _ refl (
+    past-early _ _ _ refl (past-early _ _ _ refl (past-early _ _ _ refl (past-early _ _ _ refl (
+    past-early _ _ _ refl (refl)))))))))))))))))))))))
+
+pub late-line : (w : ℕ) → w < 2 ^ 64 → leb 0x1000000000000000 w ≡ true
+    → isEarly (frameOfWord w .kind) ≡ false
+unfolding frameOfWord
+late-line w l h =
+    let m = leb-true 0x1000000000000000 w h in late-number (w / 16 ^ 14 % 16 ^ 2) (omega arith)
+
+-- frames none of which is a link
+no-links : (gs : List Frame) → ((j : ℕ) → j < length gs → isLink (frameAt gs j .kind) ≡ false)
+    → linksOf gs ≡ []
+unfolding linksOf
+no-links [] h = refl
+no-links (f ∷ gs) h =
+    ap (λ (b : Bool). keepIf b (linkOf f) (linksOf gs)) (h 0 (omega arith))
+    ∙ no-links gs (λ j l. h (suc j) (omega arith))
+
+link-early : (k : Kind) → isEarly k ≡ false → isLink k ≡ false
+link-early Header e = refl
+link-early (Declared d) e = absurd (true≢false e)
+link-early Module e = refl
+link-early (Statement k) e = refl
+link-early (Expression k) e = refl
+link-early Unknown e = refl
+
+pub ends-here : (ws : List ℕ) (i : ℕ) (b : Bool) → LinksPlaced (framesOf ws)
+    → (b ≡ true → isEarly (frameOfWord (getD ws i 0) .kind) ≡ false) → b ≡ true → i < length ws
+    → linksOf (drop i (framesOf ws)) ≡ []
+ends-here ws i b h f t l =
+    no-links (drop i (framesOf ws)) (λ j a.
+    let z = length-drop i (framesOf ws) in
+    ap (λ (f : Frame). isLink (f .kind)) (getD-drop i (framesOf ws) j noFrame)
+    ∙ by j (omega arith) (isLink (frameAt (framesOf ws) (i + j) .kind)) refl)
+  where
+    late : isEarly (frameAt (framesOf ws) i .kind) ≡ false
+    late =
+        ap (λ (f : Frame). isEarly (f .kind)) (frame-at ws i noFrame l)
+        ∙ f t
+
+    by : (j : ℕ) → i + j < length (framesOf ws) → (b : Bool)
+        → isLink (frameAt (framesOf ws) (i + j) .kind) ≡ b
+        → isLink (frameAt (framesOf ws) (i + j) .kind) ≡ false
+    by j a false e = e
+    by zero a true e =
+        let z : i + 0 ≡ i = omega arith in
+        link-early (frameAt (framesOf ws) (i + 0) .kind) (ap (λ (k : ℕ). isEarly (frameAt (framesOf ws) k .kind)) z ∙ late)
+    by (suc j) a true e =
+        absurd (true≢false (sym (h .early i (i + suc j) (omega arith) a e) ∙ late))
+
+pub ends-after : (ws : List ℕ) (i : ℕ) → length ws ≤ i → linksOf (drop i (framesOf ws)) ≡ []
+unfolding linksOf
+ends-after ws i l = ap linksOf (frames-end ws i l)
+
 -- ---- `labels_of`: the links from line i on are taken
 abbrev pub Taken : List ℕ → List ℕ → ℕ → Type 0
 Taken ws labels i = labels ≡ labelsOf (linksOf (drop i (framesOf ws)))
 
-pub taken-start : (ws labels : List ℕ) → labels ≡ labelsOf [] → Taken ws labels (length ws)
-unfolding linksOf
-taken-start ws labels h =
-    h ∙ ap (λ (fs : List Frame). labelsOf (linksOf fs)) (sym (frames-end ws (length ws) (omega arith)))
+pub taken-start : (ws labels : List ℕ) (i : ℕ) → labels ≡ labelsOf []
+    → linksOf (drop i (framesOf ws)) ≡ [] → Taken ws labels i
+taken-start ws labels i h e = h ∙ ap labelsOf (sym e)
 
 pub taken-length : (ws labels : List ℕ) (i : ℕ) → Taken ws labels i → length labels ≡ 8
 taken-length ws labels i t = ap length t ∙ labels-length (linksOf (drop i (framesOf ws))) 2 8
@@ -160,7 +236,7 @@ module _ (ws : List ℕ) (i : ℕ) (l : 0 < i) (m : i ≤ length ws) (h : LinksP
   pub line-placed : LinkPlaced (frameOfWord (getD ws (i - 1) 0))
   line-placed =
       subst LinkPlaced (frame-at ws (i - 1) noFrame (omega arith))
-      (h (i - 1) (let z = frames-length ws in omega arith))
+      (h .ends (i - 1) (let z = frames-length ws in omega arith))
 
   one-more : (labels : List ℕ) → Taken ws labels i → (b : Bool) → isLink (f .kind) ≡ b
       → (if b then relabelled (labelAt labels (f .s)) (labelAt labels (f .a)) labels else labels)

@@ -45,7 +45,7 @@ use Rattle.acts.specs.inner.Transitions.{TurnResult, actedIn}
 use Rattle.commits.specs.inner.Commits.{Committed, committed, refusesIn, staysIn, leftIn, roomIn}
 use Rattle.commits.specs.inner.Commits.{joinedIn, settledIn, ownsEvent, wakeRoomIn, presentIn}
 use Rattle.commits.specs.inner.Commits.{generateObstacle, awaitObstacle, generatedIn, generatesIn}
-use Rattle.commits.specs.inner.Commits.{awaitingIn, awaitsIn, Grouping, groupIn}
+use Rattle.commits.specs.inner.Commits.{awaitingIn, awaitsIn, Grouping, membersBy}
 use Rattle.stepper.specs.inner.Files.{asCommitted, groupingOf}
 use Rattle.stepper.proofs.Grows.{Grown}
 use Rattle.stepper.proofs.Groups.{members-same, members-there, group-same, eqb-swap, in-group}
@@ -111,7 +111,7 @@ module _ {fs : List Frame} {P : Program} {n : ℕ} {w : List ℕ} {s : State} {c
           in-group (P .links) (x .place) o (scheduler-test n (x .place) (X .place) ∙ q) (owner-there h .1)
           ∙ eqb-swap (label (P .links) (x .place)) (label (P .links) o)
 
-  members-in : (q : ℕ) → isScheduler q ≡ true → groupIn G q ≡ members P q
+  members-in : (q : ℕ) → isScheduler q ≡ true → membersBy G q ≡ members P q
   members-in q h = members-same (P .links) (P .schedulers) q most h
 
   group-there : (q : ℕ) → All (There s) (members P q)
@@ -181,7 +181,7 @@ module _ {fs : List Frame} {P : Program} {n : ℕ} {w : List ℕ} {s : State} {c
       let t = wakeOnEach (members P o) e (settled u x) in
       let d = staysIn v (suc k) (actedIn (Generates e) (threadWordsOf x) (usedCells cs)) in
       let same = members-in (x .place) (z .0) ∙ group-same (P .links) (P .schedulers) (x .place) o (z .1) in
-      subst (λ (bs : List Bool). Says (set (wokenOn (groupIn G (x .place)) e d) (4562 + e) 1) (withPresent (set bs e true) t)) (woken-present (members P o) e (settled u x))
+      subst (λ (bs : List Bool). Says (set (wokenOn (membersBy G (x .place)) e d) (4562 + e) 1) (withPresent (set bs e true) t)) (woken-present (members P o) e (settled u x))
       (set-says e _ t
       (subst (λ (qs : List ℕ). Says (wokenOn qs e d) t) (sym same)
       (woken-says (frameAt fs 0 .c) e (members P o) _ (settled u x) (settled-is A x cs acc x) lists-shaped (group-there o) (rooms r)))

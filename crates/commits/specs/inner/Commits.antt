@@ -151,8 +151,8 @@ abbrev pub grouping : List ℕ → ℕ → Grouping
 grouping labels n = record { labels = labels; schedulers = n }
 
 -- the members of q's group
-abbrev pub groupIn : Grouping → ℕ → List ℕ
-groupIn g q = membersIn (g .labels) (g .schedulers) q
+abbrev pub membersBy : Grouping → ℕ → List ℕ
+membersBy g q = membersIn (g .labels) (g .schedulers) q
 
 -- a thread at that place stands on a scheduler in step with the event's owner
 abbrev pub ownsEvent : Grouping → ℕ → ℕ → Bool
@@ -161,7 +161,7 @@ ownsEvent g place owner = isScheduler place && inGroup (g .labels) place owner
 -- those that await event e have room in the active list of each member of the owner's group; only a
 -- scheduler has one
 unfoldable pub wakeRoomIn : Grouping → List ℕ → ℕ → ℕ → Bool
-wakeRoomIn g w owner e = isScheduler owner && roomOnEach (groupIn g owner) e w
+wakeRoomIn g w owner e = isScheduler owner && roomOnEach (membersBy g owner) e w
 
 -- event e is present
 abbrev pub presentIn : List ℕ → ℕ → Bool
@@ -185,7 +185,7 @@ awaitObstacle g w event place e =
 
 -- event e is present, and who awaits it on a member of q's group is active
 unfoldable pub generatedIn : Grouping → List ℕ → ℕ → ℕ → List ℕ
-generatedIn g w q e = set (wokenOn (groupIn g q) e w) (eventsAt + e) 1
+generatedIn g w q e = set (wokenOn (membersBy g q) e w) (eventsAt + e) 1
 
 unfoldable pub generatesIn : Program → Grouping → List ℕ → ℕ → ℕ → TurnResult → ℕ → Committed
 generatesIn p g w before t a e =

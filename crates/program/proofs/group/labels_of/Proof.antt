@@ -16,6 +16,9 @@ abbrev μ-loop : tie.MeasureT-loop
 own-labels-requires : tie.Need-own-labels-requires Inv-loop μ-loop
 own-labels-requires c κs = search needs
 
+declarations-end-requires : tie.Need-declarations-end-requires Inv-loop μ-loop
+declarations-end-requires c κs = search needs
+
 loop-holds : tie.Need-loop-holds Inv-loop μ-loop
 loop-holds c = (search needs, search taken-start)
 
@@ -47,6 +50,7 @@ labels-of-spec =
     Inv-loop
     μ-loop
     own-labels-requires
+    declarations-end-requires
     loop-holds
     sub-i
     mul-take-link
