@@ -289,8 +289,8 @@ fn row_of_run(name: &str, text: &[u8]) -> Vec<u64> {
     state
 }
 
-/// The longest choices.txt, all bytes in turn, in a run whose allowance is one choice: so the time is
-/// that of reading it.
+/// The longest choices.txt, all bytes in turn, in a run whose allowance is one choice: so the time
+/// is that of reading it.
 fn reading() {
     let text = lines(&[
         "0001000100010000", // 0 header

@@ -133,8 +133,10 @@ impl Model<'_> {
             .map(|&member| self.next(member).into_iter().partition(waits))
             .collect();
         if lists.iter().all(|(_, ready)| ready.is_empty()) {
-            let alone = group.len() == 1;
-            self.saw(if alone { "16, alone" } else { "16 of a group" });
+            self.saw(match group.len() {
+                1 => "16 of one",
+                _ => "16 of a group",
+            });
             return answer(16, 0);
         }
         self.saw(match (group.len(), lists[0].1.is_empty()) {
@@ -154,15 +156,16 @@ impl Model<'_> {
     /// 'The event is present until the group's instant ends.'
     fn end_presence(&mut self, group: &[usize]) {
         for (event, owner) in self.file.owners.iter().enumerate() {
-            let flag = &mut self.after[EVENTS + event];
-            match (*flag, group.iter().position(|member| member == owner)) {
-                (1, Some(0)) => self.saw("an own event ends"),
-                (1, Some(_)) => self.saw("a partner's event ends"),
-                (1, None) => self.saw("another's event stays"),
-                _ => {}
-            }
+            let present = self.after[EVENTS + event] == 1;
             if group.contains(owner) {
                 self.after[EVENTS + event] = 0;
+            }
+            if present {
+                self.saw(match group.contains(owner) {
+                    true if *owner == self.choice => "an own event ends",
+                    true => "a partner's event ends",
+                    false => "another's event stays",
+                });
             }
         }
     }
@@ -200,13 +203,13 @@ impl Model<'_> {
         let statement = self.file.statements[frame as usize - self.file.first_frame()];
         let (Statement::Generate(event) | Statement::Await(event)) = statement;
         let number = match (self.file.owners.get(event), statement) {
-            (None, _) => 20,
+            (None, _) => {
+                self.saw("20, a missing event");
+                20
+            }
             (Some(&owner), Statement::Generate(_)) => self.generate(thread, place, event, owner),
             (Some(&owner), Statement::Await(_)) => self.await_event(thread, place, event, owner),
         };
-        if number == 20 && event >= self.file.owners.len() {
-            self.saw("20, a missing event");
-        }
         answer(number, thread as u16)
     }
 
@@ -220,59 +223,58 @@ impl Model<'_> {
 
     /// 19 where the owner is neither the place nor in step with it.
     fn foreign(&mut self, place: usize, owner: usize) -> bool {
-        let foreign = !self.file.group(owner).contains(&place);
-        if foreign {
-            let unlinked = place == 1;
-            self.saw(if unlinked {
-                "19, unlinked"
-            } else {
-                "19 elsewhere"
-            });
+        if self.file.group(owner).contains(&place) {
+            return false;
         }
-        foreign
+        self.saw(match place {
+            1 => "19, unlinked",
+            _ => "19, elsewhere",
+        });
+        true
+    }
+
+    /// What a generation makes of a scheduler's lists: the active one and the next one.
+    fn awakened(&self, scheduler: usize, event: usize) -> (Vec<u64>, Vec<u64>) {
+        let marks = awaiting(event as u64, 0)..awaiting(event as u64 + 1, 0);
+        let (awaiters, kept): (Vec<u64>, Vec<u64>) = self
+            .next(scheduler)
+            .into_iter()
+            .partition(|entry| marks.contains(entry));
+        let woken = awaiters.iter().map(|entry| entry % 128).collect();
+        ([self.active(scheduler), woken].concat(), kept)
     }
 
     /// 'A generation wakes its awaiters on each member, by number, into that member's active
     /// list': 20 where one has no room for them, then 19.
     fn generate(&mut self, thread: usize, place: usize, event: usize, owner: usize) -> u8 {
-        let marks = awaiting(event as u64, 0)..awaiting(event as u64 + 1, 0);
-        let mut woken = Vec::new();
-        for member in self.file.group(owner) {
-            let (awaiters, kept): (Vec<u64>, Vec<u64>) = self
-                .next(member)
-                .into_iter()
-                .partition(|entry| marks.contains(entry));
-            let mut active = self.active(member);
-            active.extend(awaiters.iter().map(|entry| entry % 128));
-            if active.len() > MOST {
-                let owners = member == owner;
-                self.saw(if owners {
-                    "20 at the owner"
-                } else {
-                    "20 at a partner"
-                });
-                return 20;
+        let group = self.file.group(owner);
+        let full = |member: &&usize| self.awakened(**member, event).0.len() > MOST;
+        match group.iter().find(full) {
+            Some(&member) if member == owner => self.saw("20 at the owner"),
+            Some(_) => self.saw("20 at a partner"),
+            None if self.foreign(place, owner) => return 19,
+            None => {
+                for member in group {
+                    self.wake(member, event, place);
+                }
+                self.after[EVENTS + event] = 1;
+                take_item(&mut self.after, thread);
+                return 0;
             }
-            woken.push((member, active, kept));
         }
-        if self.foreign(place, owner) {
-            return 19;
+        20
+    }
+
+    fn wake(&mut self, member: usize, event: usize, place: usize) {
+        let (active, kept) = self.awakened(member, event);
+        if kept != self.next(member) {
+            self.saw(match member == place {
+                true => "woken at the place",
+                false => "woken at a partner",
+            });
         }
-        for (member, active, kept) in woken {
-            if kept.len() < self.next(member).len() {
-                let own = member == place;
-                self.saw(if own {
-                    "woken at the place"
-                } else {
-                    "woken at a partner"
-                });
-            }
-            put_list(&mut self.after, active_at(member), &active);
-            put_list(&mut self.after, next_at(member), &kept);
-        }
-        self.after[EVENTS + event] = 1;
-        take_item(&mut self.after, thread);
-        0
+        put_list(&mut self.after, active_at(member), &active);
+        put_list(&mut self.after, next_at(member), &kept);
     }
 
     /// 'Awaiting a present event passes on in that step. Otherwise the thread goes to the end of
@@ -296,11 +298,8 @@ impl Model<'_> {
             take_item(&mut self.after, thread);
         } else {
             self.leave();
-            let next = [
-                self.next(place),
-                vec![awaiting(event as u64, thread as u64)],
-            ]
-            .concat();
+            let mut next = self.next(place);
+            next.push(awaiting(event as u64, thread as u64));
             put_list(&mut self.after, next_at(place), &next);
         }
         0
