@@ -130,7 +130,13 @@ gather-end labels p own s k i h e j l =
 pub index-small : (p i : ℕ) → i ≡ p - 2 → isScheduler p ≡ true → i < 8
 index-small p i e h = let (a, b) = test-bounds 2 p h in omega arith
 
--- ---- `is_member`: x is the place that the number was read as
+-- ---- `is_member`: of p itself
+pub member-self : (labels : List ℕ) (p n m : ℕ) → n ≡ m → m ≡ p → isScheduler p ≡ true
+    → true ≡ inGroup labels p n
+member-self labels p n m e h k =
+    sym (ap (inGroup labels p) (e ∙ h) ∙ and-both _ _ k (eq-eqb (labelAt labels p) (labelAt labels p) refl))
+
+-- x is the place that the number was read as
 module _ (labels : List ℕ) (p n : ℕ) (x : PlaceRead) (r : x ≡ placeRead (isScheduler n) n) where
   pub no-member : x ≡ NoPlace → false ≡ inGroup labels p n
   no-member h = rw (read-none (isScheduler n) n (sym r ∙ h))

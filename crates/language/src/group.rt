@@ -55,11 +55,14 @@ pub fn in_step(labels: &[u8; LABELS], p: Place, q: Place) -> bool
     labels[p.index()] == labels[q.index()]
 }
 
-// Whether a number names a scheduler in step with p.
+// Whether a number names a scheduler in step with p. Without links that is p itself, told first.
 pub fn is_member(labels: &[u8; LABELS], p: Place, n: u8) -> bool
     requires { ⌜ (length (now labels) ≡ mostSchedulers) × (isScheduler (p .number) ≡ true) ⌝ }
     ensures { λ r. ⌜ r ≡ inGroup (now (labels .entry)) (p .number) n ⌝ }
 {
+    if n == p.number() {
+        return true;
+    }
     match Place::scheduler(n as u64) {
         PlaceRead::At(q) => in_step(labels, p, q),
         PlaceRead::NoPlace => false,
