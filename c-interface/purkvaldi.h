@@ -11,7 +11,7 @@
  * No two buffers overlap. A pointer whose length is 0 is not looked at and may be null. No pointer
  * is kept after the call.
  *
- * Stack, measured and not proved: at most 15,312 bytes below a call (purkvaldi_run on a file 24
+ * Stack, measured and not proved: at most 15,836 bytes below a call (purkvaldi_run on a file 24
  * deep); 16 KB are enough. */
 #ifndef PURKVALDI_H
 #define PURKVALDI_H
@@ -59,9 +59,10 @@ uint32_t purkvaldi_fresh(const uint8_t *text, size_t length, uint64_t *state, si
 
 /* One choice: 2 to 9 a scheduler, 16 + t the unlinked thread t. In the low 32 bits its code: number
  * 0 where it is done; else the text's refusal 1 to 7, 14 (the words are no state of this file), 15
- * no such party, 16 nothing to do, 17 or 18 spent, 19 foreign, 20 stuck. A refusal writes nothing.
- * Of a text that the check accepts, 19 and 20 never come from a state that began fresh. Above the
- * code, its accesses (PURKVALDI_ACCESSES). */
+ * no such party, 16 nothing to do (or not yet: a scheduler in step has an active thread), 17 or 18
+ * spent, 19 foreign, 20 stuck. A refusal writes nothing. Of a text that the check accepts, 19 and
+ * 20 never come from a state that began fresh. Above the code, its accesses
+ * (PURKVALDI_ACCESSES). */
 uint64_t purkvaldi_step(const uint8_t *text, size_t length, uint64_t *state, size_t words,
                         uint64_t choice);
 

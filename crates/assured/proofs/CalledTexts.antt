@@ -146,7 +146,7 @@ module _ (bs : List ℕ) (read : Reads bs (frames (textFrames bs))) (fine : NoFa
           ∙ made-are (λ (r : StepResult). r .accesses) (freshCall fs w .words) cs))
           (safe .accessed);
       signalled =
-          subst (All OwnSignal)
+          subst (All (OwnSignal (programOf fs .links)))
           (sym (ap (λ (v : List ℕ). textSignalsFrom bs v cs) first
           ∙ made-are (λ (r : StepResult). r .signals) (freshCall fs w .words) cs))
           (safe .signalled);

@@ -6,6 +6,7 @@ use Rattle.language.specs.declared.frame.Frame.{Frame}
 use Rattle.language.specs.declared.verdict.Verdict.the-variants.{Accepted}
 use Rattle.language.specs.Refusals.{wrongState, noParty, nothingReady, cellsSpent, threadsSpent}
 use Rattle.text.specs.Frames.{textFrames}
+use Rattle.program.specs.Programs.{programOf}
 use Rattle.checker.specs.Verdict.{HasVerdict}
 use Rattle.machine.specs.{Offsets.stateLength, Accesses.Access, Accesses.Own, Accesses.Signal}
 use Rattle.machine.specs.{Accesses.OwnSignal, State.State, Words.pack}
@@ -52,9 +53,10 @@ pub record SafeTexts (bs w cs : List ℕ) : Type 0 where
   -- every access under every choice or call was to a cell of the acting thread or of the scheduler
   -- on which it stood, 'those before a refusal too'
   pub accessed : All Own (textAccessesFrom bs (freshText bs w .words) cs)
-  -- 02, change 5: 'An accepted file touches an event only from its owner's scheduler, in every
-  -- run.'
-  pub signalled : All OwnSignal (textSignalsFrom bs (freshText bs w .words) cs)
+  -- 02, change 7: 'An accepted file then touches an event only from its owner's scheduler or one in
+  -- step with it, in every run.'
+  pub signalled : All (OwnSignal (programOf (textFrames bs) .links))
+      (textSignalsFrom bs (freshText bs w .words) cs)
   -- no call was 14, foreign or stuck, nor was the text refused
   pub answered : All (λ (r : TextResult). Plain (answerNumber (r .answer)))
       (textCallsFrom bs (freshText bs w .words) cs)

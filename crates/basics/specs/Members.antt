@@ -12,6 +12,11 @@ pub data All {A : Type 0} (P : A → Type 0) : List A → Type 0 where
   none : All P []
   more : {x : A} {xs : List A} → P x → All P xs → All P (x ∷ xs)
 
+-- every member passes the test
+unfoldable pub every : {A : Type 0} → (A → Bool) → List A → Bool
+every test [] = true
+every test (x ∷ xs) = elim (test x) [ true ↦ every test xs | false ↦ false ]
+
 -- some member passes the test
 unfoldable pub any : {A : Type 0} → (A → Bool) → List A → Bool
 any test [] = false

@@ -9,4 +9,4 @@ pub use lib.ListN.{length, getD, set, take, drop, replicate}
 pub use lib.Seq.{paste}
 pub use lib.Bits.{bitOr}
 pub use Rattle.basics.specs.If.{if_then_else_, keepIf}
-pub use Rattle.basics.specs.Members.{In, All, any}
+pub use Rattle.basics.specs.Members.{In, All, every, any}

@@ -11,7 +11,8 @@ use lib.Seq.{take-suc-set, take-set-le, take-take}
 use lib.Dec.{eqb}
 use Rattle.basics.proofs.Ifs.{if-all}
 use Rattle.language.specs.Places.{Standing, linked, unlinked, standingAt}
-use Rattle.language.specs.Effects.{noEffect}
+use Rattle.language.specs.Effects.{noEffect, within}
+use Rattle.language.specs.inner.Labels.{withinIn}
 use Rattle.language.specs.declared.Place.{Place}
 use Rattle.language.specs.declared.effect.Effect.{Effect}
 use Rattle.language.specs.declared.kind.StatementKind.{StatementKind}
@@ -29,12 +30,12 @@ use Rattle.program.proofs.Decoding.{statement-at}
 use Rattle.rules.specs.Rules.{Setting, Signature}
 use Rattle.rules.specs.inner.Checking.{Argued, argue, typesIn, isLinked, startRule, cooperateRule}
 use Rattle.rules.specs.inner.Checking.{seqRule, doRule, joinRule, letRule, storeRule, ifElseRule}
-use Rattle.rules.specs.inner.Checking.{whileRule, signalRule, signalOf, effectIn}
+use Rattle.rules.specs.inner.Checking.{whileRule, signalRule, signalOf, effectIn, EffectTest}
 use Rattle.rules.specs.inner.Standings.{standing}
 use Rattle.rules.specs.inner.Signatures.{noArguments, arguedOf, signatureOf}
 use Rattle.program.specs.inner.Nodes.{statementNodeOf, statementNodeIn}
 use Rattle.checker.specs.inner.Frames.{FrameIn}
-use Rattle.checker.specs.inner.Settings.{settingIn}
+use Rattle.checker.specs.inner.Settings.{settingIn, LabelsOf}
 use Rattle.rules.specs.declared.start.Arguments.{Arguments}
 use Rattle.rules.specs.declared.start.Arguments.the-variants as A
 use Rattle.program.specs.declared.node.StatementNode.{StatementNode}
@@ -46,6 +47,7 @@ use Rattle.rules.specs.declared.finding.StatementEffect.the-variants.{Proper, F
 use Rattle.checker.proofs.NodeLaws.{ordered, AtStatement, statement-here}
 use Rattle.checker.proofs.TypingLaws.{TypeAt}
 use Rattle.checker.proofs.DescentLaws.{lower-in}
+use Rattle.checker.proofs.LabelLaws.{same-test}
 
 -- ---- where a statement stands
 pub linked-at : (s : ℕ) (x : Bool) → x ≡ eqb s 1 → not x ≡ isLinked (standingAt s)
@@ -100,24 +102,25 @@ pub further-in : (ws : List ℕ) (i a b : ℕ) → FrameIn ws i → ((a ≡ 0 �
 further-in ws i a b g h n o = lower-in ws i b g (h n o)
 
 -- ---- the definition by nodes: what is found at frame i, where T, R and As say what is found of
--- the expressions, the statements and the arguments at its children. The body of a let is asked
--- with a variable more, so `let-in` is a parameter of its own. os are the owners of the events
-abbrev effectBy : (ℕ → Typing) → (ℕ → List ℕ → Standing → StatementEffect) → (ℕ → ℕ → Argued)
-    → List ℕ → List Signature → List ℕ → Standing → ℕ → StatementNode
+-- the expressions, the statements and the arguments at its children, and `allows` is the test of 12.
+-- The body of a let is asked with a variable more, so `let-in` is a parameter of its own. os are the
+-- owners of the events
+abbrev effectBy : EffectTest → (ℕ → Typing) → (ℕ → List ℕ → Standing → StatementEffect)
+    → (ℕ → ℕ → Argued) → List ℕ → List Signature → List ℕ → Standing → ℕ → StatementNode
     → (ℕ → Typing → StatementEffect) → StatementEffect
-effectBy T R As os below Γ at i Y.Nothing let-in = Proper noEffect true
-effectBy T R As os below Γ at i Y.Cooperate let-in = cooperateRule at i
-effectBy T R As os below Γ at i (Y.Seq a b) let-in = seqRule (R a Γ at) (R b Γ at)
-effectBy T R As os below Γ at i (Y.DoAt s a) let-in =
-    doRule at (s .number) i (R a Γ (standingAt (s .number)))
-effectBy T R As os below Γ at i (Y.Start s a b) let-in = startRule true below at s i (As a b)
-effectBy T R As os below Γ at i (Y.StartWait s a b) let-in = startRule false below at s i (As a b)
-effectBy T R As os below Γ at i (Y.LetIn a b) let-in = let-in b (T a)
-effectBy T R As os below Γ at i (Y.Store a b) let-in = storeRule i (T a) (T b)
-effectBy T R As os below Γ at i (Y.IfElse a b c) let-in = ifElseRule i (T a) (R b Γ at) (R c Γ at)
-effectBy T R As os below Γ at i (Y.While a b) let-in = whileRule i (T a) (R b Γ at)
-effectBy T R As os below Γ at i (Y.Generate s) let-in = signalOf os s i
-effectBy T R As os below Γ at i (Y.Await s) let-in = signalOf os s i
+effectBy allows T R As os below Γ at i Y.Nothing let-in = Proper noEffect true
+effectBy allows T R As os below Γ at i Y.Cooperate let-in = cooperateRule at i
+effectBy allows T R As os below Γ at i (Y.Seq a b) let-in = seqRule (R a Γ at) (R b Γ at)
+effectBy allows T R As os below Γ at i (Y.DoAt s a) let-in =
+    doRule allows at (s .number) i (R a Γ (standingAt (s .number)))
+effectBy allows T R As os below Γ at i (Y.Start s a b) let-in = startRule true below at s i (As a b)
+effectBy allows T R As os below Γ at i (Y.StartWait s a b) let-in = startRule false below at s i (As a b)
+effectBy allows T R As os below Γ at i (Y.LetIn a b) let-in = let-in b (T a)
+effectBy allows T R As os below Γ at i (Y.Store a b) let-in = storeRule i (T a) (T b)
+effectBy allows T R As os below Γ at i (Y.IfElse a b c) let-in = ifElseRule i (T a) (R b Γ at) (R c Γ at)
+effectBy allows T R As os below Γ at i (Y.While a b) let-in = whileRule i (T a) (R b Γ at)
+effectBy allows T R As os below Γ at i (Y.Generate s) let-in = signalOf os s i
+effectBy allows T R As os below Γ at i (Y.Await s) let-in = signalOf os s i
 
 -- ---- at a frame of a laid-out file
 abbrev RunAt : Setting → List Signature → List ℕ → ℕ → List ℕ → Standing → StatementEffect
@@ -125,7 +128,7 @@ RunAt env below ws i Γ at = effectIn env below Γ at (statementAt (framesOf ws)
 
 module _ (env : Setting) (below : List Signature) (ws Γ : List ℕ) (at : Standing) (i : ℕ) where
   abbrev By : StatementNode → StatementEffect
-  By n = effectBy (TypeAt (env .cells) Γ ws) (RunAt env below ws) (ArgueAt (env .cells) Γ ws) (env .events) below Γ at i n (λ b x. letRule (λ Δ. RunAt env below ws b Δ at) Γ x)
+  By n = effectBy (within (env .links)) (TypeAt (env .cells) Γ ws) (RunAt env below ws) (ArgueAt (env .cells) Γ ws) (env .events) below Γ at i n (λ b x. letRule (λ Δ. RunAt env below ws b Δ at) Γ x)
 
   by-statement : (f : Frame) (k : StatementKind)
       → effectIn env below Γ at (statementOf (λ j. expressionAt (framesOf ws) j) (λ j. statementAt (framesOf ws) j) i f (Statement k))
@@ -219,16 +222,6 @@ module _ (env : Setting) (sigs ws Γ : List ℕ) (i : ℕ) (l : Bool) (f : Frame
       by-node (Y.Seq a b) r h k q g
       (z ∙ ap (λ (c : StatementEffect). seqRule c y) u ∙ ap (seqRule (found a)) (same-found b y Δ d v))
 
-  pub run-do : (s : Place) (a : ℕ) (o : Bool) (x r : StatementEffect)
-      → Where (Y.DoAt s a) (o ≡ isLinked (standingAt (s .number))
-      → x ≡ RunAt env (map signatureOf sigs) ws a Γ (standing o)
-      → r ≡ doRule (standing l) (s .number) i x → R i r)
-  run-do s a o x r h k q g d u z =
-      let e = ap standing d ∙ standing-is (standingAt (s .number)) in
-      by-node (Y.DoAt s a) r h k q g
-      (z ∙ ap (doRule (standing l) (s .number) i)
-      (u ∙ ap (RunAt env (map signatureOf sigs) ws a Γ) e))
-
   pub run-start : (s a b : ℕ) (x : Arguments) (r : StatementEffect)
       → Where (Y.Start s a b) (arguedOf x ≡ ArgueAt (env .cells) Γ ws a b → r ≡ startRule true (map signatureOf sigs) (standing l) s i (arguedOf x) → R i r)
   run-start s a b x r h k q g d z = by-node (Y.Start s a b) r h k q g (z ∙ ap (startRule true (map signatureOf sigs) (standing l) s i) d)
@@ -279,8 +272,24 @@ module _ (env : Setting) (sigs ws Γ : List ℕ) (i : ℕ) (l : Bool) (f : Frame
       (v ∙ ap (λ (Θ : List ℕ). RunAt env (map signatureOf sigs) ws b Θ (standing l)) d)
       ∙ let-by a b x (Typed t e) z u)
 
--- 1A and 1B: x is what was found of event s among the frames
+-- what is asked of the file beside its shared cells
 module _ (cells sigs ws Γ : List ℕ) (i : ℕ) (l : Bool) (f : Frame) (n : StatementNode) where
+  -- 12: the test is by the labels
+  pub run-do : (s : Place) (a : ℕ) (o : Bool) (x r : StatementEffect) (labels : List ℕ)
+      → AtStatement ws i f n (Y.DoAt s a) (o ≡ isLinked (standingAt (s .number))
+      → x ≡ RunAt (settingIn ws cells) (map signatureOf sigs) ws a Γ (standing o)
+      → r ≡ doRule (withinIn labels) (standing l) (s .number) i x → LabelsOf ws labels
+      → r ≡ RunAt (settingIn ws cells) (map signatureOf sigs) ws i Γ (standing l))
+  run-do s a o x r labels h k q g d u z m =
+      let env = settingIn ws cells in
+      let e = ap standing d ∙ standing-is (standingAt (s .number)) in
+      by-node env sigs ws Γ i l f n (Y.DoAt s a) r h k q g
+      (z
+      ∙ ap (λ (test : EffectTest). doRule test (standing l) (s .number) i x) (same-test ws labels m)
+      ∙ ap (doRule (within (env .links)) (standing l) (s .number) i)
+      (u ∙ ap (RunAt env (map signatureOf sigs) ws a Γ) e))
+
+  -- 1A and 1B: x is what was found of event s among the frames
   signal-found : (s : ℕ) (x : EventFound) (r : StatementEffect)
       → x ≡ eventIn (programOf (framesOf ws)) s → r ≡ signalRule (x .there) (x .owner) i
       → r ≡ signalOf (settingIn ws cells .events) s i

@@ -14,6 +14,7 @@ use Rattle.basics.proofs.Ifs.{if-yes, if-no, yes, no}
 use Rattle.language.specs.Places.{linked}
 use Rattle.language.specs.Kinds.{isModule, child}
 use Rattle.language.specs.Effects.{within}
+use Rattle.language.specs.inner.Labels.{withinIn}
 use Rattle.language.specs.declared.effect.Effect.{Effect}
 use Rattle.language.specs.declared.verdict.Verdict.{Verdict}
 use Rattle.language.specs.declared.verdict.Verdict.the-variants.{Accepted, Rejected}
@@ -34,22 +35,24 @@ use Rattle.layout.proofs.Scopes.{in-a, room-body, child-below, main-last}
 use Rattle.fields.proofs.Tallies.{counted-one, counted-none}
 use Rattle.layout.proofs.Trees.{is-module}
 use Rattle.rules.specs.Rules.{Setting, Signature, signature}
-use Rattle.rules.specs.inner.Checking.{effectIn, mainRule, afterModule, modulesIn}
+use Rattle.rules.specs.inner.Checking.{EffectTest, effectIn, mainRule, afterModule, modulesIn}
 use Rattle.rules.specs.inner.Signatures.{signatureOf, signatureWith}
 use Rattle.checker.specs.inner.Frames.{FrameIn, FileIn}
+use Rattle.checker.specs.inner.Settings.{settingIn, LabelsOf}
 use Rattle.checker.specs.inner.Modules.{nextModule}
 use Rattle.rules.specs.declared.finding.StatementEffect.{StatementEffect}
 use Rattle.rules.specs.declared.finding.StatementEffect.the-variants.{Proper, Faulty}
 use Rattle.checker.proofs.FineFrames.{few-modules, few-parameters}
+use Rattle.checker.proofs.LabelLaws.{same-test}
 
 -- ---- 'main has an effect within {2}'
-pub main-within : (i : ℕ) (e : Effect) (x : Bool) → x ≡ within 2 e → x ≡ true
-    → Accepted ≡ mainRule i e
-main-within i e x h k = yes (Rejected wrongEffect i) (sym h ∙ k) refl
+pub main-within : (allows : EffectTest) (i : ℕ) (e : Effect) (x : Bool) → x ≡ allows 2 e → x ≡ true
+    → Accepted ≡ mainRule allows i e
+main-within allows i e x h k = yes (Rejected wrongEffect i) (sym h ∙ k) refl
 
-pub main-outside : (i : ℕ) (e : Effect) (x : Bool) → x ≡ within 2 e → x ≡ false
-    → Rejected wrongEffect i ≡ mainRule i e
-main-outside i e x h k = no Accepted (sym h ∙ k) refl
+pub main-outside : (allows : EffectTest) (i : ℕ) (e : Effect) (x : Bool) → x ≡ allows 2 e → x ≡ false
+    → Rejected wrongEffect i ≡ mainRule allows i e
+main-outside allows i e x h k = no Accepted (sym h ∙ k) refl
 
 pub ruleset main-laws = (main-within, main-outside)
 
@@ -210,18 +213,18 @@ effect-is env below ws f m r h e =
 -- ---- the loop over modules
 
 -- what a module leaves to be said, by what its body was found to be
-module _ (rest : List Signature → Verdict) (below : List Signature) (p : Part) where
-  after-fails : (ms : List Part) (n j : ℕ) → afterModule rest below p ms (Faulty n j) ≡ Rejected n j
+module _ (allows : EffectTest) (rest : List Signature → Verdict) (below : List Signature) (p : Part) where
+  after-fails : (ms : List Part) (n j : ℕ) → afterModule allows rest below p ms (Faulty n j) ≡ Rejected n j
   after-fails [] n j = refl
   after-fails (q ∷ qs) n j = refl
 
   after-last : {ms : List Part} (e : Effect) (b : Bool) → ms ≡ []
-      → afterModule rest below p ms (Proper e b) ≡ mainRule (p .frame) e
-  after-last e b h = ap (λ (ns : List Part). afterModule rest below p ns (Proper e b)) h
+      → afterModule allows rest below p ms (Proper e b) ≡ mainRule allows (p .frame) e
+  after-last e b h = ap (λ (ns : List Part). afterModule allows rest below p ns (Proper e b)) h
 
   after-earlier : {q : Part} {ms qs : List Part} (e : Effect) (b : Bool) → ms ≡ q ∷ qs
-      → afterModule rest below p ms (Proper e b) ≡ rest (below ++ (signature p e ∷ []))
-  after-earlier e b h = ap (λ (ns : List Part). afterModule rest below p ns (Proper e b)) h
+      → afterModule allows rest below p ms (Proper e b) ≡ rest (below ++ (signature p e ∷ []))
+  after-earlier e b h = ap (λ (ns : List Part). afterModule allows rest below p ns (Proper e b)) h
 
 -- what the rules say of all modules of the file
 abbrev allModules : Setting → List ℕ → Verdict
@@ -302,11 +305,11 @@ module _ (env : Setting) (ws below : List ℕ) (m i : ℕ) (j : Judging env ws b
 
   module _ (f : Frame) (c : StatementEffect) (q : f ≡ frameAt (framesOf ws) i) (k : c ≡ effectIn env (map signatureOf (take m below)) (take (f .s) (f .b ∷ f .c ∷ [])) linked (statementAt (framesOf ws) (f .a))) where
     by-body : (v : StatementEffect) → c ≡ v
-        → afterModule (λ sigs. modulesIn env sigs later) known (partOf (framesOf ws) i f) later v
+        → afterModule (within (env .links)) (λ sigs. modulesIn env sigs later) known (partOf (framesOf ws) i f) later v
         ≡ allModules env ws
     unfolding modulesIn
     by-body v h =
-        ap (afterModule (λ sigs. modulesIn env sigs later) known (partOf (framesOf ws) i f) later)
+        ap (afterModule (within (env .links)) (λ sigs. modulesIn env sigs later) known (partOf (framesOf ws) i f) later)
         (sym h ∙ k)
         ∙ ap (λ (g : Frame). modulesIn env known (partOf (framesOf ws) i g ∷ later)) q
         ∙ ap (modulesIn env known) (sym (part-at (framesOf ws) i inside-fs (j .module-at)))
@@ -314,15 +317,15 @@ module _ (env : Setting) (ws below : List ℕ) (m i : ℕ) (j : Judging env ws b
 
     pub judge-fails : (n o : ℕ) → c ≡ Faulty n o → Rejected n o ≡ allModules env ws
     judge-fails n o h =
-        sym (after-fails (λ sigs. modulesIn env sigs later) known (partOf (framesOf ws) i f) later n o)
+        sym (after-fails (within (env .links)) (λ sigs. modulesIn env sigs later) known (partOf (framesOf ws) i f) later n o)
         ∙ by-body (Faulty n o) h
 
-    pub judge-main : (e : Effect) (b : Bool) (r : Verdict) → c ≡ Proper e b → length ws ≤ i + 1
-        → r ≡ mainRule i e → r ≡ allModules env ws
+    main-judged : (e : Effect) (b : Bool) (r : Verdict) → c ≡ Proper e b → length ws ≤ i + 1
+        → r ≡ mainRule (within (env .links)) i e → r ≡ allModules env ws
     unfolding modulesFrom
-    judge-main e b r h l d =
+    main-judged e b r h l d =
         let z : later ≡ [] = ap (modulesFrom (framesOf ws) (suc i)) (drop-of-length-le (framesOf ws) {i = suc i} (rw length-map (omega arith))) in
-        d ∙ sym (after-last (λ sigs. modulesIn env sigs later) known (partOf (framesOf ws) i f) e b z) ∙ by-body (Proper e b) h
+        d ∙ sym (after-last (within (env .links)) (λ sigs. modulesIn env sigs later) known (partOf (framesOf ws) i f) e b z) ∙ by-body (Proper e b) h
 
     pub judge-more : (e : Effect) (b : Bool) (w r : ℕ) → c ≡ Proper e b
         → signatureOf w ≡ signatureWith (f .s) (f .b) (f .c) e
@@ -348,10 +351,21 @@ module _ (env : Setting) (ws below : List ℕ) (m i : ℕ) (j : Judging env ws b
           wide = length-set below m w ∙ j .wide;
           rest =
               ap₂ (modulesIn env) sigs (sym next)
-              ∙ sym (after-earlier (λ sigs. modulesIn env sigs later) known (partOf (framesOf ws) i f) e b head)
+              ∙ sym (after-earlier (within (env .links)) (λ sigs. modulesIn env sigs later) known (partOf (framesOf ws) i f) e b head)
               ∙ by-body (Proper e b) h;
         }
 
   pub judge-falls : (r : ℕ) → r ≡ nextFrom ws (i + 1) → i + 1 < length ws
       → length ws - r < length ws - i
   judge-falls r e h = let o = next-is ws (i + 1) r e (judge-next h) .onward in omega arith
+
+-- the last module, by the labels
+pub judge-main : (cells ws below labels : List ℕ) (m i : ℕ) → Judging (settingIn ws cells) ws below m i
+    → (f : Frame) (c : StatementEffect) → f ≡ frameAt (framesOf ws) i
+    → c
+    ≡ effectIn (settingIn ws cells) (map signatureOf (take m below)) (take (f .s) (f .b ∷ f .c ∷ [])) linked (statementAt (framesOf ws) (f .a))
+    → (e : Effect) (b : Bool) (r : Verdict) → c ≡ Proper e b → length ws ≤ i + 1
+    → r ≡ mainRule (withinIn labels) i e → LabelsOf ws labels → r ≡ allModules (settingIn ws cells) ws
+judge-main cells ws below labels m i j f c q k e b r h l d g =
+    main-judged (settingIn ws cells) ws below m i j f c q k e b r h l
+    (d ∙ ap (λ (test : EffectTest). mainRule test i e) (same-test ws labels g))

@@ -4,6 +4,7 @@ use language::limit::MOST_LINES;
 use language::verdict::Verdict;
 use layout::Laid;
 use layout::lay_into;
+use program::group::labels_of;
 use program::shared::shared_types;
 ghost use mathlib.Core.Path.{_≡_};
 ghost use Rattle.text.specs.Frames.{framesOf};
@@ -17,10 +18,11 @@ pub fn rules_of(frames: &[u64]) -> Verdict
     requires { ⌜ FileIn (now frames) ⌝ }
     ensures { λ r. ⌜ r ≡ rulesOf (programOf (framesOf (now (frames .entry)))) ⌝ }
 {
+    let labels = labels_of(frames);
     let t = shared_types(frames);
     let n = t.count;
     let types = t.types;
-    modules_rule(frames, &types[..n])
+    modules_rule(frames, &types[..n], &labels)
 }
 
 // What document 01 says of any bytes: the one verdict that the rules give, and no other.

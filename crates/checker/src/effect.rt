@@ -2,6 +2,7 @@
 use crate::typing::type_of;
 use language::Place;
 use language::effect::Effect;
+use language::group::LABELS;
 use language::limit::MOST_VARIABLES;
 use program::event::event_at;
 use program::node::StatementNode;
@@ -33,7 +34,7 @@ ghost use Rattle.layout.specs.inner.Scope.{Room};
 ghost use Rattle.rules.specs.inner.Checking.{typeIn, typesIn, isLinked, effectIn};
 ghost use Rattle.rules.specs.inner.Standings.{standing};
 ghost use Rattle.rules.specs.inner.Signatures.{arguedOf, signatureOf};
-ghost use Rattle.checker.specs.inner.Settings.{settingIn};
+ghost use Rattle.checker.specs.inner.Settings.{settingIn, LabelsOf};
 ghost use Rattle.checker.specs.inner.Frames.{FrameIn};
 
 // The variables in scope are the first n of an array, which is room enough for a laid-out file. It
@@ -84,13 +85,15 @@ fn arguments_of(
 }
 
 // What the statement at frame i is found to be: with the types `cells` of the shared cells, the
-// signatures `below` of the modules before its own, the first n of `scope` as the types of the
-// variables, and `linked` where it stands at a scheduler. The frames are laid out, so that a
-// child's number is below its parent's and there is room for every variable: a let lays its type
-// after those in use, which stay as they are for what comes after the let.
+// `labels` of the schedulers, the signatures `below` of the modules before its own, the first n of
+// `scope` as the types of the variables, and `linked` where it stands at a scheduler. The frames
+// are laid out, so that a child's number is below its parent's and there is room for every
+// variable: a let lays its type after those in use, which stay as they are for what comes after the
+// let.
 pub(crate) fn effect_of(
     frames: &[u64],
     cells: &[u16],
+    labels: &[u8; LABELS],
     below: &[u64],
     scope: &mut [u16; MOST_VARIABLES],
     n: usize,
@@ -98,7 +101,7 @@ pub(crate) fn effect_of(
     i: u16,
 ) -> StatementEffect
     requires { ⌜ FrameIn (now frames) i × Room (framesOf (now frames)) i n
-        × (length (now scope) ≡ mostVariables) ⌝ }
+        × (length (now scope) ≡ mostVariables) × LabelsOf (now frames) (now labels) ⌝ }
     ensures found { λ r. ⌜ r
         ≡ effectIn (settingIn (now (frames .entry)) (now (cells .entry)))
         (map signatureOf (now (below .entry))) (take n (now (scope .entry))) (standing linked)
@@ -110,12 +113,13 @@ pub(crate) fn effect_of(
         StatementNode::Nothing => StatementEffect::Proper(Effect::none(), true),
         StatementNode::Cooperate => cooperate_rule(linked, i),
         StatementNode::Seq(a, b) => {
-            let x = effect_of(frames, cells, below, scope, n, linked, a);
-            seq_rule(x, effect_of(frames, cells, below, scope, n, linked, b))
+            let x = effect_of(frames, cells, labels, below, scope, n, linked, a);
+            let y = effect_of(frames, cells, labels, below, scope, n, linked, b);
+            seq_rule(x, y)
         }
         StatementNode::DoAt(s, a) => {
-            let x = effect_of(frames, cells, below, scope, n, is_linked(s), a);
-            do_rule(linked, s, i, x)
+            let x = effect_of(frames, cells, labels, below, scope, n, is_linked(s), a);
+            do_rule(labels, linked, s, i, x)
         }
         StatementNode::Start(s, a, b) => {
             let args = arguments_of(frames, cells, scope, n, i, a, b);
@@ -129,7 +133,8 @@ pub(crate) fn effect_of(
             Typing::Untyped(m, j) => StatementEffect::Faulty(m, j),
             Typing::Typed(t, e) => {
                 scope[n] = t;
-                join_rule(e, effect_of(frames, cells, below, scope, n + 1, linked, b))
+                let y = effect_of(frames, cells, labels, below, scope, n + 1, linked, b);
+                join_rule(e, y)
             }
         },
         StatementNode::Store(a, b) => {
@@ -138,13 +143,14 @@ pub(crate) fn effect_of(
         }
         StatementNode::IfElse(a, b, c) => {
             let x = type_in(frames, cells, scope, n, a);
-            let y = effect_of(frames, cells, below, scope, n, linked, b);
-            let z = effect_of(frames, cells, below, scope, n, linked, c);
+            let y = effect_of(frames, cells, labels, below, scope, n, linked, b);
+            let z = effect_of(frames, cells, labels, below, scope, n, linked, c);
             if_else_rule(i, x, y, z)
         }
         StatementNode::While(a, b) => {
             let x = type_in(frames, cells, scope, n, a);
-            while_rule(i, x, effect_of(frames, cells, below, scope, n, linked, b))
+            let y = effect_of(frames, cells, labels, below, scope, n, linked, b);
+            while_rule(i, x, y)
         }
         StatementNode::Generate(s) => signal_rule(event_at(frames, s), i),
         StatementNode::Await(s) => signal_rule(event_at(frames, s), i),

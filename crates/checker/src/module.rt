@@ -3,6 +3,7 @@ use crate::effect::effect_of;
 use language::Place;
 use language::effect::Effect;
 use language::frame::Frame;
+use language::group::LABELS;
 use language::kind::is_module;
 use language::limit::MOST_MODULES;
 use language::limit::MOST_VARIABLES;
@@ -14,16 +15,17 @@ use rules::start::signature_word;
 ghost use mathlib.Core.Path.{_≡_};
 ghost use mathlib.Core.List.{[], _∷_, map};
 ghost use Prim.Native.Nat.{_<_, _≤_};
-ghost use lib.ListN.{take, drop};
-ghost use Rattle.language.specs.Limits.{mostModules, mostParameters};
+ghost use lib.ListN.{length, take, drop};
+ghost use Rattle.language.specs.Limits.{mostModules, mostParameters, mostSchedulers};
 ghost use Rattle.language.specs.Places.{linked};
+ghost use Rattle.language.specs.inner.Labels.{withinIn};
 ghost use Rattle.text.specs.Frames.{framesOf};
 ghost use Rattle.program.specs.Trees.{statementAt};
 ghost use Rattle.program.specs.Programs.{modulesFrom};
 ghost use Rattle.layout.specs.inner.Scope.{Room};
 ghost use Rattle.rules.specs.inner.Checking.{effectIn, mainRule, modulesIn};
 ghost use Rattle.rules.specs.inner.Signatures.{signatureOf, signatureWith, signatureWord};
-ghost use Rattle.checker.specs.inner.Settings.{settingIn};
+ghost use Rattle.checker.specs.inner.Settings.{settingIn, LabelsOf};
 ghost use Rattle.checker.specs.inner.Frames.{FrameIn, FileIn};
 ghost use Rattle.checker.specs.inner.Modules.{nextModule};
 
@@ -48,12 +50,13 @@ pub(crate) fn next_module(frames: &[u64], i: usize) -> usize
 pub(crate) fn module_effect(
     frames: &[u64],
     cells: &[u16],
+    labels: &[u8; LABELS],
     below: [u64; MOST_MODULES],
     m: usize,
     f: Frame,
 ) -> StatementEffect
     requires { ⌜ FrameIn (now frames) (f .a) × Room (framesOf (now frames)) (f .a) (f .s)
-        × (f .s ≤ mostParameters) × (m ≤ mostModules) ⌝ }
+        × (f .s ≤ mostParameters) × (m ≤ mostModules) × LabelsOf (now frames) (now labels) ⌝ }
     ensures { λ r. ⌜ r
         ≡ effectIn (settingIn (now (frames .entry)) (now (cells .entry)))
         (map signatureOf (take m below)) (take (f .s) (f .b ∷ f .c ∷ [])) linked
@@ -63,14 +66,15 @@ pub(crate) fn module_effect(
     scope[0] = f.b;
     scope[1] = f.c;
     let n = f.s as usize;
-    effect_of(frames, cells, &below[..m], &mut scope, n, true, f.a)
+    effect_of(frames, cells, labels, &below[..m], &mut scope, n, true, f.a)
 }
 
-// 'main has an effect within {2}'.
-pub(crate) fn main_rule(i: u16, e: Effect) -> Verdict
-    ensures { λ r. ⌜ r ≡ mainRule i e ⌝ }
+// 'main has an effect within {2}'; an event's owner may be in step with 2.
+pub(crate) fn main_rule(labels: &[u8; LABELS], i: u16, e: Effect) -> Verdict
+    requires { ⌜ length (now labels) ≡ mostSchedulers ⌝ }
+    ensures { λ r. ⌜ r ≡ mainRule (withinIn (now (labels .entry))) i e ⌝ }
 {
-    if e.within(Place::HOME) {
+    if e.within(labels, Place::HOME) {
         return Verdict::Accepted;
     }
     Verdict::Rejected(WRONG_EFFECT, i)
@@ -86,8 +90,8 @@ fn module_signature(f: Frame, e: Effect) -> u64
 }
 
 // The first broken rule of a laid-out file, module after module; the last is main.
-pub(crate) fn modules_rule(frames: &[u64], cells: &[u16]) -> Verdict
-    requires { ⌜ FileIn (now frames) ⌝ }
+pub(crate) fn modules_rule(frames: &[u64], cells: &[u16], labels: &[u8; LABELS]) -> Verdict
+    requires { ⌜ FileIn (now frames) × LabelsOf (now frames) (now labels) ⌝ }
     ensures { λ r. ⌜ r
         ≡ modulesIn (settingIn (now (frames .entry)) (now (cells .entry))) []
         (modulesFrom (framesOf (now (frames .entry))) 0 (framesOf (now (frames .entry)))) ⌝ }
@@ -97,7 +101,7 @@ pub(crate) fn modules_rule(frames: &[u64], cells: &[u16]) -> Verdict
     let mut i = next_module(frames, 0);
     while i + 1 < frames.len() {
         let f = frame_at(frames, i);
-        match module_effect(frames, cells, below, m, f) {
+        match module_effect(frames, cells, labels, below, m, f) {
             StatementEffect::Faulty(k, j) => {
                 return Verdict::Rejected(k, j);
             }
@@ -109,8 +113,8 @@ pub(crate) fn modules_rule(frames: &[u64], cells: &[u16]) -> Verdict
         }
     }
     let f = frame_at(frames, i);
-    match module_effect(frames, cells, below, m, f) {
+    match module_effect(frames, cells, labels, below, m, f) {
         StatementEffect::Faulty(k, j) => Verdict::Rejected(k, j),
-        StatementEffect::Proper(e, b) => main_rule(i as u16, e),
+        StatementEffect::Proper(e, b) => main_rule(labels, i as u16, e),
     }
 }

@@ -37,7 +37,7 @@ use Rattle.commits.specs.inner.Commits.{turnResultIn, clearedIn, settled
 use Rattle.commits.specs.inner.Commits.{roomIn, joinedIn, joinsIn, newThreadWords, obstacleIn}
 use Rattle.commits.specs.inner.Commits.{refusesIn, startsIn, committedIn, placeAfter}
 use Rattle.commits.specs.inner.Commits.{startTested, startDecided, decidedIn, followedIn}
-use Rattle.commits.specs.inner.Commits.{CommitWords, StartWords, Follows}
+use Rattle.commits.specs.inner.Commits.{CommitWords, StartWords, Follows, Grouping}
 use Rattle.commits.specs.inner.Commits.{presentIn, generateObstacle, awaitObstacle}
 use Rattle.commits.specs.inner.Commits.{generatedIn, generatesIn, awaitingIn, awaitsIn}
 use Rattle.commits.specs.inner.Commits.{generateTested, awaitTested, WakeWords}
@@ -52,10 +52,14 @@ use Rattle.program.specs.declared.event.EventFound.{EventFound}
 use Rattle.lists.specs.inner.Lists.{isAwaitingWord, activeWith}
 use Rattle.machine.proofs.WordLaws.{pasted-out}
 use Rattle.commits.proofs.SignalLaws.{generate-allowed, await-allowed, wake-room-is}
-use Rattle.commits.proofs.SignalLaws.{active-same}
+use Rattle.commits.proofs.SignalLaws.{same-group}
+use Rattle.lists.proofs.MovedLaws.{active-same}
+use Rattle.lists.specs.inner.Lists.{ListsFit}
+use Rattle.groups.specs.inner.Members.{HasRoomOn}
 
 -- ---- the turn of thread t, on words w
-module _ (p : Program) (w : List ℕ) (before c t : ℕ) (a : Action) (h : CommitWords p w t a) where
+module _ (p : Program) (G : Grouping) (w : List ℕ) (before c t : ℕ) (a : Action)
+    (h : CommitWords p G w t a) where
   abbrev turn : TurnResult
   turn = turnResultIn w t a
 
@@ -87,16 +91,16 @@ module _ (p : Program) (w : List ℕ) (before c t : ℕ) (a : Action) (h : Commi
   -- what a decision comes to
   abbrev result : Decision → Committed
   result (Refuse n) = refusesIn w before t n
-  result (Settle x) = committed 0 t (followedIn words c t x)
+  result (Settle x) = committed 0 t (followedIn G words c t x)
   result (Suspend q e) = committed 0 t (awaitingIn w c t (q .number) e)
 
-  joins-is : (q : Place) → result (decidedIn p w t a (Joins q))
+  joins-is : (q : Place) → result (decidedIn p G w t a (Joins q))
       ≡ joinsIn w before c t turn (q .number)
   unfolding joinsIn
   joins-is q =
       if-all (λ (d : Decision). result d ≡ joinsIn w before c t turn (q .number))
       (roomIn w (q .number) 1) (Settle (Join q)) (Refuse 20)
-      (λ e. yes _ e (ap (committed 0 t) (join-is words c t q))) (λ e. no _ e refl)
+      (λ e. yes _ e (ap (committed 0 t) (join-is G words c t q))) (λ e. no _ e refl)
 
   -- `startsIn` of any module found, any place and any count of threads: where nothing stands in the
   -- way, and whole
@@ -122,11 +126,11 @@ module _ (p : Program) (w : List ℕ) (before c t : ℕ) (a : Action) (h : Commi
     goes-is : (waits : Bool) → result (gone waits) ≡ goes args waits x (q .number) (getD words 0 0)
     goes-is false =
         ap result (if-no _ _ refl)
-        ∙ yes _ refl (ap (committed 0 t) (start-is words c t q (x .body) args))
+        ∙ yes _ refl (ap (committed 0 t) (start-is G words c t q (x .body) args))
     goes-is true =
         if-all (λ (d : Decision). result d ≡ goes args true x (q .number) (getD words 0 0))
         (not (roomIn w (q .number) 2)) _ _ (λ f. no _ refl (yes _ f refl))
-        (λ f. no _ refl (no _ f (ap (committed 0 t) (wait-is words c t q (x .body) args long))))
+        (λ f. no _ refl (no _ f (ap (committed 0 t) (wait-is G words c t q (x .body) args long))))
 
     tested-is : (waits : Bool) → result (startTested w args waits x q)
         ≡ starts args waits x (q .number) (getD words 0 0)
@@ -146,32 +150,32 @@ module _ (p : Program) (w : List ℕ) (before c t : ℕ) (a : Action) (h : Commi
   -- `generatesIn` and `awaitsIn` at any place
   abbrev generated : ℕ → EventFound → ℕ → Committed
   generated e x i =
-      let no = generateObstacle w x i e in
+      let no = generateObstacle G w x i e in
       if not (eqb no 0) then refusesIn w before t no else
-      committed 0 t (generatedIn words i e)
+      committed 0 t (generatedIn G words i e)
 
   generates-is : (e : ℕ)
-      → result (generateTested w (eventIn p e) place e) ≡ generatesIn p w before t turn e
+      → result (generateTested G w (eventIn p e) place e) ≡ generatesIn p G w before t turn e
   unfolding generateTested generatesIn
   generates-is e =
       if-all (λ (d : Decision). result d ≡ generated e (eventIn p e) (place .number))
-      (not (eqb (generateObstacle w (eventIn p e) (place .number) e) 0)) _ _
-      (λ f. yes _ f refl) (λ f. no _ f (ap (committed 0 t) (wake-is words c t place e)))
+      (not (eqb (generateObstacle G w (eventIn p e) (place .number) e) 0)) _ _
+      (λ f. yes _ f refl) (λ f. no _ f (ap (committed 0 t) (wake-is G words c t place e)))
       ∙ ap (generated e (eventIn p e)) place-there
 
   abbrev awaited : ℕ → EventFound → ℕ → Committed
   awaited e x i =
-      let no = awaitObstacle w x i e in
+      let no = awaitObstacle G w x i e in
       if not (eqb no 0) then refusesIn w before t no else
       if presentIn w e then committed 0 t words else
       committed 0 t (awaitingIn w c t i e)
 
   awaits-is : (e : ℕ)
-      → result (awaitTested w (eventIn p e) place e) ≡ awaitsIn p w before c t turn e
+      → result (awaitTested G w (eventIn p e) place e) ≡ awaitsIn p G w before c t turn e
   unfolding awaitTested awaitsIn
   awaits-is e =
       if-all (λ (d : Decision). result d ≡ awaited e (eventIn p e) (place .number))
-      (not (eqb (awaitObstacle w (eventIn p e) (place .number) e) 0)) _ _
+      (not (eqb (awaitObstacle G w (eventIn p e) (place .number) e) 0)) _ _
       (λ f. yes _ f refl)
       (λ f. if-all (λ (d : Decision). result d ≡ awaited e (eventIn p e) (place .number))
       (presentIn w e) (Settle Keep) (Suspend place e)
@@ -179,10 +183,10 @@ module _ (p : Program) (w : List ℕ) (before c t : ℕ) (a : Action) (h : Commi
       (λ g. no _ f (no _ g refl)))
       ∙ ap (awaited e (eventIn p e)) place-there
 
-  decided-is : (f : Transition) → result (decidedIn p w t a f) ≡ committedIn p w before c t turn f
+  decided-is : (f : Transition) → result (decidedIn p G w t a f) ≡ committedIn p G w before c t turn f
   decided-is (Refused n) = refl
   decided-is Stays = ap (committed 0 t) (keeps-is words c Keep refl)
-  decided-is Leaves = ap (committed 0 t) (leave-is words c t)
+  decided-is Leaves = ap (committed 0 t) (leave-is G words c t)
   decided-is (Joins q) = joins-is q
   decided-is (Starts waits m args) = starts-is waits m args
   decided-is (Generates e) = generates-is e
@@ -191,7 +195,7 @@ module _ (p : Program) (w : List ℕ) (before c t : ℕ) (a : Action) (h : Commi
   -- what is let through has what its calls need
   abbrev Sound : Decision → Type 0
   Sound (Refuse n) = Unit {0}
-  Sound (Settle x) = Follows words x
+  Sound (Settle x) = Follows G words x
   Sound (Suspend q e) = isScheduler (q .number) ≡ true
 
   free-words : (args : Arguments) (x : ModuleFound) (q : Place)
@@ -212,7 +216,7 @@ module _ (p : Program) (w : List ℕ) (before c t : ℕ) (a : Action) (h : Commi
       (λ e. if-all Sound (waits && not (roomIn w (q .number) 2)) _ _ (λ _. tt)
       (λ _. free-words args x q e))
 
-  join-sound : (q : Place) → Sound (decidedIn p w t a (Joins q))
+  join-sound : (q : Place) → Sound (decidedIn p G w t a (Joins q))
   join-sound q =
       if-all Sound (roomIn w (q .number) 1) (Settle (Join q)) (Refuse 20)
       (λ e. room-scheduler w (q .number) 1 (roomIn w (q .number) 1) refl (ap not e)) (λ _. tt)
@@ -232,45 +236,56 @@ module _ (p : Program) (w : List ℕ) (before c t : ℕ) (a : Action) (h : Commi
           (popped-wide (threadIn w (t - 1)) (in-wide w (t - 1) (h .settle .all) (h .settle .thread)))) in
           omega arith
 
-  wake-sound : (e : ℕ) → generateObstacle w (eventIn p e) (place .number) e ≡ 0
-      → WakeWords words place e
+  -- the lists are as they were
+  lists-kept : ListsFit words
+  lists-kept =
+      record {
+        threads = rw count-kept (h .lists .threads);
+        active = λ k l. rw (low-kept (2 + 130 * k) (omega arith)) (h .lists .active k l);
+        next = λ k l. rw (low-kept (67 + 130 * k) (omega arith)) (h .lists .next k l);
+      }
+
+  wake-sound : (e : ℕ) → generateObstacle G w (eventIn p e) (place .number) e ≡ 0
+      → WakeWords G words place e
   unfolding eventIn
   wake-sound e z =
-      let g = generate-allowed w (eventIn p e) (place .number) e z in
-      let q = place .number in
+      let g = generate-allowed G w (eventIn p e) (place .number) e z in
       let y = g .1 in
-      let b = and-true (leb 2 q) (leb q 9) (y .scheduler) in
-      let lo = leb-true 2 q (b .0) in
-      let hi = leb-true q 9 (b .1) in
-      let few = h .lists .next (q - 2) (omega arith) in
-      let r = wake-room-is w (eventIn p e .owner) e (g .0) in
-      let same = active-same w words (q - 2) (omega arith) low-kept few (isAwaitingWord e) in
       let n = ltb-true e (length (p .events)) (y .there) in
       let m = h .events in
       record {
+        groups = h .groups;
         scheduler = y .scheduler;
         event = omega arith;
-        threads = rw count-kept (h .lists .threads);
-        next = rw (low-kept (67 + 130 * (q - 2)) (omega arith)) few;
-        room = rw same (subst (λ (i : ℕ). activeWith (isAwaitingWord e) w (i - 2) ≤ 64) (y .owner) r);
+        lists = lists-kept;
+        room = λ j a b t. room-kept j a b
+            (wake-room-is G w (eventIn p e .owner) e (g .0) j a b
+            (same-group (G .labels) (place .number) (eventIn p e .owner) j (y .owner) t));
       }
+    where
+      room-kept : (j : ℕ) → 2 ≤ j → j < 2 + G .schedulers → HasRoomOn e w j → HasRoomOn e words j
+      room-kept j a b r =
+          let few = h .groups .few in
+          let same = active-same w words (j - 2) (λ i f l. low-kept i (omega arith))
+          (h .lists .next (j - 2) (omega arith)) (isAwaitingWord e) in
+          omega arith
 
-  generate-sound : (e : ℕ) → Sound (generateTested w (eventIn p e) place e)
+  generate-sound : (e : ℕ) → Sound (generateTested G w (eventIn p e) place e)
   unfolding generateTested
   generate-sound e =
-      let o = generateObstacle w (eventIn p e) (place .number) e in
+      let o = generateObstacle G w (eventIn p e) (place .number) e in
       if-all Sound (not (eqb o 0)) _ _ (λ _. tt)
       (λ f. wake-sound e (eqb-true o 0 (not-false (eqb o 0) f)))
 
-  await-sound : (e : ℕ) → Sound (awaitTested w (eventIn p e) place e)
+  await-sound : (e : ℕ) → Sound (awaitTested G w (eventIn p e) place e)
   unfolding awaitTested
   await-sound e =
-      let o = awaitObstacle w (eventIn p e) (place .number) e in
+      let o = awaitObstacle G w (eventIn p e) (place .number) e in
       if-all Sound (not (eqb o 0)) _ _ (λ _. tt)
       (λ f. if-all Sound (presentIn w e) (Settle Keep) (Suspend place e) (λ _. tt)
-      (λ _. await-allowed w (eventIn p e) (place .number) e (eqb-true o 0 (not-false (eqb o 0) f)) .scheduler))
+      (λ _. await-allowed G w (eventIn p e) (place .number) e (eqb-true o 0 (not-false (eqb o 0) f)) .scheduler))
 
-  decided-sound : (f : Transition) → Sound (decidedIn p w t a f)
+  decided-sound : (f : Transition) → Sound (decidedIn p G w t a f)
   decided-sound (Refused n) = tt
   decided-sound Stays = tt
   decided-sound Leaves = tt
@@ -280,31 +295,31 @@ module _ (p : Program) (w : List ℕ) (before c t : ℕ) (a : Action) (h : Commi
   decided-sound (Awaits e) = await-sound e
 
   -- ---- the arms of `commit`, which has decided d
-  module _ (d : Decision) (e : d ≡ decidedIn p w t a (a .transition)) where
-    decided : (y : Decision) → d ≡ y → result y ≡ committedIn p w before c t turn (a .transition)
+  module _ (d : Decision) (e : d ≡ decidedIn p G w t a (a .transition)) where
+    decided : (y : Decision) → d ≡ y → result y ≡ committedIn p G w before c t turn (a .transition)
     decided y g = ap result (sym g ∙ e) ∙ decided-is (a .transition)
 
     pub commit-refused : (n : ℕ) (v : List ℕ) → d ≡ Refuse n → v ≡ clearedIn w before
-        → committed n t v ≡ committedIn p w before c t turn (a .transition)
+        → committed n t v ≡ committedIn p G w before c t turn (a .transition)
     commit-refused n v g f = ap (committed n t) f ∙ decided (Refuse n) g
 
     module _ (x : Passed) (g : d ≡ Settle x) (v : List ℕ) (s : v ≡ staysIn w t turn) where
-      pub commit-follows : Follows v x
+      pub commit-follows : Follows G v x
       commit-follows =
-          subst (λ (l : List ℕ). Follows l x) (sym s)
+          subst (λ (l : List ℕ). Follows G l x) (sym s)
           (subst Sound (sym e ∙ g) (decided-sound (a .transition)))
 
-      pub commit-settled : (u : List ℕ) → u ≡ followedIn v c t x
-          → committed 0 t u ≡ committedIn p w before c t turn (a .transition)
+      pub commit-settled : (u : List ℕ) → u ≡ followedIn G v c t x
+          → committed 0 t u ≡ committedIn p G w before c t turn (a .transition)
       commit-settled u f =
-          ap (committed 0 t) (f ∙ ap (λ (l : List ℕ). followedIn l c t x) s) ∙ decided (Settle x) g
+          ap (committed 0 t) (f ∙ ap (λ (l : List ℕ). followedIn G l c t x) s) ∙ decided (Settle x) g
 
     module _ (q : Place) (s : ℕ) (g : d ≡ Suspend q s) where
       pub commit-suspends : isScheduler (q .number) ≡ true
       commit-suspends = subst Sound (sym e ∙ g) (decided-sound (a .transition))
 
       pub commit-suspended : (v : List ℕ) → v ≡ awaitingIn w c t (q .number) s
-          → committed 0 t v ≡ committedIn p w before c t turn (a .transition)
+          → committed 0 t v ≡ committedIn p G w before c t turn (a .transition)
       commit-suspended v f = ap (committed 0 t) f ∙ decided (Suspend q s) g
 
 pub ruleset commit-laws = (commit-refused, commit-settled, commit-suspended)

@@ -24,7 +24,7 @@ use Rattle.commits.specs.declared.decision.Decision.{Decision}
 use Rattle.commits.specs.declared.decision.Decision.the-variants.{Refuse, Settle}
 use Rattle.commits.specs.inner.Commits.{placeAfter, roomIn, obstacleIn, startTested}
 use Rattle.commits.specs.inner.Commits.{startDecided, decidedIn}
-use Rattle.commits.specs.inner.Commits.{placeIn, generateTested, awaitTested}
+use Rattle.commits.specs.inner.Commits.{placeIn, generateTested, awaitTested, Grouping}
 use Rattle.commits.proofs.WritingLaws.{room-scheduler}
 use Rattle.program.specs.inner.Events.{eventIn}
 
@@ -145,39 +145,39 @@ pub place-in : (w : List ℕ) (t : ℕ) (a : Action) (o q : Place) → q ≡ pla
 place-in w t a o q z y = z ∙ ap (placeAfter (a .change)) y
 
 -- ---- the row of each transition
-module _ (p : Program) (w : List ℕ) (t : ℕ) (a : Action) (x : Transition) where
-  row : (f : Transition) (d : Decision) → x ≡ f → d ≡ decidedIn p w t a f → d ≡ decidedIn p w t a x
-  row f d e h = h ∙ ap (decidedIn p w t a) (sym e)
+module _ (p : Program) (G : Grouping) (w : List ℕ) (t : ℕ) (a : Action) (x : Transition) where
+  row : (f : Transition) (d : Decision) → x ≡ f → d ≡ decidedIn p G w t a f → d ≡ decidedIn p G w t a x
+  row f d e h = h ∙ ap (decidedIn p G w t a) (sym e)
 
-  pub decide-refused : (n : ℕ) → x ≡ Refused n → Refuse n ≡ decidedIn p w t a x
+  pub decide-refused : (n : ℕ) → x ≡ Refused n → Refuse n ≡ decidedIn p G w t a x
   decide-refused n e = row (Refused n) _ e refl
 
-  pub decide-stays : x ≡ Stays → Settle Keep ≡ decidedIn p w t a x
+  pub decide-stays : x ≡ Stays → Settle Keep ≡ decidedIn p G w t a x
   decide-stays e = row Stays _ e refl
 
-  pub decide-leaves : x ≡ Leaves → Settle Leave ≡ decidedIn p w t a x
+  pub decide-leaves : x ≡ Leaves → Settle Leave ≡ decidedIn p G w t a x
   decide-leaves e = row Leaves _ e refl
 
   module _ (q : Place) (e : x ≡ Joins q) (r : Bool) (f : r ≡ roomIn w (q .number) 1) where
-    pub decide-joins : r ≡ true → Settle (Join q) ≡ decidedIn p w t a x
+    pub decide-joins : r ≡ true → Settle (Join q) ≡ decidedIn p G w t a x
     decide-joins h = row (Joins q) _ e (yes _ (sym f ∙ h) refl)
 
-    pub decide-full : r ≡ false → Refuse 20 ≡ decidedIn p w t a x
+    pub decide-full : r ≡ false → Refuse 20 ≡ decidedIn p G w t a x
     decide-full h = row (Joins q) _ e (no _ (sym f ∙ h) refl)
 
   pub decide-starts : (b : Bool) (m : ℕ) (args : Arguments) (d : Decision) → x ≡ Starts b m args
-      → d ≡ startDecided p w t a b m args → d ≡ decidedIn p w t a x
+      → d ≡ startDecided p w t a b m args → d ≡ decidedIn p G w t a x
   decide-starts b m args d e h = row (Starts b m args) d e h
 
   pub decide-generate : (s : ℕ) (q : Place) (d : Decision) → x ≡ Generates s → q ≡ placeIn w t a
-      → d ≡ generateTested w (eventIn p s) q s → d ≡ decidedIn p w t a x
+      → d ≡ generateTested G w (eventIn p s) q s → d ≡ decidedIn p G w t a x
   decide-generate s q d e z h =
-      row (Generates s) d e (h ∙ ap (λ (y : Place). generateTested w (eventIn p s) y s) z)
+      row (Generates s) d e (h ∙ ap (λ (y : Place). generateTested G w (eventIn p s) y s) z)
 
   pub decide-await : (s : ℕ) (q : Place) (d : Decision) → x ≡ Awaits s → q ≡ placeIn w t a
-      → d ≡ awaitTested w (eventIn p s) q s → d ≡ decidedIn p w t a x
+      → d ≡ awaitTested G w (eventIn p s) q s → d ≡ decidedIn p G w t a x
   decide-await s q d e z h =
-      row (Awaits s) d e (h ∙ ap (λ (y : Place). awaitTested w (eventIn p s) y s) z)
+      row (Awaits s) d e (h ∙ ap (λ (y : Place). awaitTested G w (eventIn p s) y s) z)
 
 pub ruleset decide-laws = (
   decide-refused,

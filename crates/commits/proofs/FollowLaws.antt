@@ -16,7 +16,7 @@ use Rattle.commits.specs.declared.decision.Passed.the-variants.{Wake}
 use Rattle.commits.specs.inner.Commits.{leftIn, joinedIn, newAt, startedOn, leavesList}
 use Rattle.commits.specs.inner.Commits.{unlistedIn, enlistedIn, followedIn, StartWords}
 use Rattle.commits.specs.inner.Commits.{Follows}
-use Rattle.commits.specs.inner.Commits.{generatedIn, WakeWords}
+use Rattle.commits.specs.inner.Commits.{generatedIn, WakeWords, Grouping}
 use Rattle.commits.proofs.WritingLaws.{left-count}
 
 -- ---- `leaves`: a starter leaves its list where it waits
@@ -44,44 +44,44 @@ module _ (w : List ℕ) (c : ℕ) (x : Passed) where
 pub ruleset unlist-laws = (unlist-leaves, unlist-keeps)
 
 -- ---- `enlist`: what the match has found is what was asked for
-module _ (w : List ℕ) (t : ℕ) (x : Passed) where
-  row : (v : List ℕ) (y : Passed) → x ≡ y → v ≡ enlistedIn w t y → v ≡ enlistedIn w t x
-  row v y e h = h ∙ ap (enlistedIn w t) (sym e)
+module _ (G : Grouping) (w : List ℕ) (t : ℕ) (x : Passed) where
+  row : (v : List ℕ) (y : Passed) → x ≡ y → v ≡ enlistedIn G w t y → v ≡ enlistedIn G w t x
+  row v y e h = h ∙ ap (enlistedIn G w t) (sym e)
 
-  pub enlist-keep : x ≡ Keep → w ≡ enlistedIn w t x
+  pub enlist-keep : x ≡ Keep → w ≡ enlistedIn G w t x
   enlist-keep e = row w Keep e refl
 
-  pub enlist-leave : x ≡ Leave → w ≡ enlistedIn w t x
+  pub enlist-leave : x ≡ Leave → w ≡ enlistedIn G w t x
   enlist-leave e = row w Leave e refl
 
   pub enlist-join : (v : List ℕ) (q : Place) → x ≡ Join q → v ≡ joinedIn w (q .number) t
-      → v ≡ enlistedIn w t x
+      → v ≡ enlistedIn G w t x
   enlist-join v q e h = row v (Join q) e h
 
   pub enlist-start : (v : List ℕ) (waits : Bool) (q : Place) (body : ℕ) (args : Arguments)
-      → x ≡ Start waits q body args → v ≡ startedOn w t q body waits args → v ≡ enlistedIn w t x
+      → x ≡ Start waits q body args → v ≡ startedOn w t q body waits args → v ≡ enlistedIn G w t x
   enlist-start v waits q body args e h = row v (Start waits q body args) e h
 
-  pub enlist-wake : (v : List ℕ) (q : Place) (e : ℕ) → x ≡ Wake q e → v ≡ generatedIn w (q .number) e
-      → v ≡ enlistedIn w t x
+  pub enlist-wake : (v : List ℕ) (q : Place) (e : ℕ) → x ≡ Wake q e → v ≡ generatedIn G w (q .number) e
+      → v ≡ enlistedIn G w t x
   enlist-wake v q e d h = row v (Wake q e) d h
 
 pub ruleset enlist-laws = (enlist-keep, enlist-leave, enlist-join, enlist-start, enlist-wake)
 
 -- what an arm's call needs
-module _ (w : List ℕ) (x : Passed) where
-  pub join-needs : (q : Place) → x ≡ Join q → Follows w x → isScheduler (q .number) ≡ true
-  join-needs q e h = subst (Follows w) e h
+module _ (G : Grouping) (w : List ℕ) (x : Passed) where
+  pub join-needs : (q : Place) → x ≡ Join q → Follows G w x → isScheduler (q .number) ≡ true
+  join-needs q e h = subst (Follows G w) e h
 
   pub start-needs : (waits : Bool) (q : Place) (body : ℕ) (args : Arguments)
-      → x ≡ Start waits q body args → Follows w x → StartWords w q
-  start-needs waits q body args e h = subst (Follows w) e h
+      → x ≡ Start waits q body args → Follows G w x → StartWords w q
+  start-needs waits q body args e h = subst (Follows G w) e h
 
-  pub wake-needs : (q : Place) (e : ℕ) → x ≡ Wake q e → Follows w x → WakeWords w q e
-  wake-needs q e d h = subst (Follows w) d h
+  pub wake-needs : (q : Place) (e : ℕ) → x ≡ Wake q e → Follows G w x → WakeWords G w q e
+  wake-needs q e d h = subst (Follows G w) d h
 
 -- ---- `follow`
-module _ (w u : List ℕ) (c : ℕ) (x : Passed) (e : u ≡ unlistedIn w c x) where
+module _ (G : Grouping) (w u : List ℕ) (c : ℕ) (x : Passed) (e : u ≡ unlistedIn w c x) where
   count-kept : length w ≡ 4834 → getD u 0 0 ≡ getD w 0 0
   unfolding unlistedIn
   count-kept h =
@@ -89,7 +89,7 @@ module _ (w u : List ℕ) (c : ℕ) (x : Passed) (e : u ≡ unlistedIn w c x) wh
       ∙ if-all (λ (l : List ℕ). getD l 0 0 ≡ getD w 0 0) (leavesList x) (leftIn w c) w
       (λ _. left-count w c h) (λ _. refl)
 
-  follows : (y : Passed) → x ≡ y → getD u 0 0 ≡ getD w 0 0 → Follows w y → Follows u y
+  follows : (y : Passed) → x ≡ y → getD u 0 0 ≡ getD w 0 0 → Follows G w y → Follows G u y
   follows Keep z k h = tt
   follows Leave z k h = tt
   follows (Join q) z k h = h
@@ -97,27 +97,27 @@ module _ (w u : List ℕ) (c : ℕ) (x : Passed) (e : u ≡ unlistedIn w c x) wh
       record { scheduler = h .scheduler; count = rw k (h .count) }
   -- who generates keeps its entry
   follows (Wake q s) z k h =
-      subst (λ (l : List ℕ). WakeWords l q s) (sym (e ∙ keeps-is w c x (ap leavesList z))) h
+      subst (λ (l : List ℕ). WakeWords G l q s) (sym (e ∙ keeps-is w c x (ap leavesList z))) h
 
-  pub still-follows : length w ≡ 4834 → Follows w x → Follows u x
+  pub still-follows : length w ≡ 4834 → Follows G w x → Follows G u x
   still-follows h g = follows x refl (count-kept h) g
 
-  pub followed : (t : ℕ) (v : List ℕ) → v ≡ enlistedIn u t x → v ≡ followedIn w c t x
-  followed t v f = f ∙ ap (λ (l : List ℕ). enlistedIn l t x) e
+  pub followed : (t : ℕ) (v : List ℕ) → v ≡ enlistedIn G u t x → v ≡ followedIn G w c t x
+  followed t v f = f ∙ ap (λ (l : List ℕ). enlistedIn G l t x) e
 
 -- ---- the words after each
-module _ (w : List ℕ) (c t : ℕ) where
-  pub leave-is : followedIn w c t Leave ≡ leftIn w c
+module _ (G : Grouping) (w : List ℕ) (c t : ℕ) where
+  pub leave-is : followedIn G w c t Leave ≡ leftIn w c
   leave-is = leaves-is w c Leave refl
 
-  pub join-is : (q : Place) → followedIn w c t (Join q) ≡ joinedIn (leftIn w c) (q .number) t
+  pub join-is : (q : Place) → followedIn G w c t (Join q) ≡ joinedIn (leftIn w c) (q .number) t
   join-is q = ap (λ (l : List ℕ). joinedIn l (q .number) t) (leaves-is w c (Join q) refl)
 
-  pub wake-is : (q : Place) (e : ℕ) → followedIn w c t (Wake q e) ≡ generatedIn w (q .number) e
-  wake-is q e = ap (λ (l : List ℕ). generatedIn l (q .number) e) (keeps-is w c (Wake q e) refl)
+  pub wake-is : (q : Place) (e : ℕ) → followedIn G w c t (Wake q e) ≡ generatedIn G w (q .number) e
+  wake-is q e = ap (λ (l : List ℕ). generatedIn G l (q .number) e) (keeps-is w c (Wake q e) refl)
 
   module _ (q : Place) (body : ℕ) (args : Arguments) where
-    pub start-is : followedIn w c t (Start false q body args)
+    pub start-is : followedIn G w c t (Start false q body args)
         ≡ joinedIn (withOneMore w (newAt args q t body)) (q .number) (getD w 0 0 + 1)
     unfolding startedOn
     start-is =
@@ -132,7 +132,7 @@ module _ (w : List ℕ) (c t : ℕ) where
         (q .number) (128 * (n + 1) + t)
 
     pub wait-is : length w ≡ 4834
-        → followedIn w c t (Start true q body args) ≡ waiting (getD w 0 0)
+        → followedIn G w c t (Start true q body args) ≡ waiting (getD w 0 0)
     unfolding startedOn
     wait-is h =
         ap (λ (l : List ℕ). startedOn l t q body true args)

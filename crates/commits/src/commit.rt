@@ -10,6 +10,7 @@ use crate::writing::join;
 use crate::writing::settle;
 use acts::act::Action;
 use language::Place;
+use language::group::LABELS;
 use machine::offset::AWAITING_FROM;
 use machine::offset::WAITING_FACTOR;
 ghost use mathlib.Core.Path.{_≡_};
@@ -24,6 +25,7 @@ ghost use Rattle.machine.specs.Offsets.{stateLength};
 ghost use Rattle.commits.specs.inner.Commits.{CommitWords, turnResultIn, committedIn};
 ghost use Rattle.commits.specs.inner.Commits.{leavesList, unlistedIn, enlistedIn};
 ghost use Rattle.commits.specs.inner.Commits.{followedIn, awaitingIn, Follows, committed};
+ghost use Rattle.commits.specs.inner.Commits.{grouping};
 
 // Whether the thread leaves its list; a starter does where it waits.
 fn leaves(passed: Passed) -> bool
@@ -49,28 +51,37 @@ fn unlist(state: &mut [u64], choice: u64, passed: Passed)
 }
 
 // The other lists, where something joins one.
-fn enlist(state: &mut [u64], t: u64, passed: Passed)
+fn enlist(labels: &[u8; LABELS], schedulers: u8, state: &mut [u64], t: u64, passed: Passed)
     requires { ⌜ (length (now state) ≡ stateLength) × (t ≤ mostThreads)
-        × Follows (now state) passed ⌝ }
-    ensures { λ _. ⌜ now (state .exit) ≡ enlistedIn (now (state .entry)) t passed ⌝ }
+        × Follows (grouping (now labels) schedulers) (now state) passed ⌝ }
+    ensures { λ _. ⌜ now (state .exit) ≡ enlistedIn (grouping (now (labels .entry)) schedulers)
+        (now (state .entry)) t passed ⌝ }
 {
     match passed {
         Passed::Keep => {}
         Passed::Leave => {}
         Passed::Join(q) => join(state, q, t),
         Passed::Start(waits, place, body, args) => start(state, t, place, body, waits, args),
-        Passed::Wake(q, e) => generate(state, q, e),
+        Passed::Wake(q, e) => generate(labels, schedulers, state, q, e),
     }
 }
 
 // The lists after a turn that is settled.
-fn follow(state: &mut [u64], choice: u64, t: u64, passed: Passed)
+fn follow(
+    labels: &[u8; LABELS],
+    schedulers: u8,
+    state: &mut [u64],
+    choice: u64,
+    t: u64,
+    passed: Passed,
+)
     requires { ⌜ (length (now state) ≡ stateLength) × (t ≤ mostThreads)
-        × Follows (now state) passed ⌝ }
-    ensures { λ _. ⌜ now (state .exit) ≡ followedIn (now (state .entry)) choice t passed ⌝ }
+        × Follows (grouping (now labels) schedulers) (now state) passed ⌝ }
+    ensures { λ _. ⌜ now (state .exit) ≡ followedIn (grouping (now (labels .entry)) schedulers)
+        (now (state .entry)) choice t passed ⌝ }
 {
     unlist(state, choice, passed);
-    enlist(state, t, passed);
+    enlist(labels, schedulers, state, t, passed);
 }
 
 // Thread t awaits event e on that scheduler; its own words stay.
@@ -88,18 +99,22 @@ fn suspend(state: &mut [u64], choice: u64, t: u64, q: Place, e: u8)
 // use. A refusal takes back the cells made.
 pub fn commit(
     frames: &[u64],
+    labels: &[u8; LABELS],
+    schedulers: u8,
     state: &mut [u64],
     before: usize,
     choice: u64,
     t: u64,
     a: Action,
 ) -> u8
-    requires { ⌜ CommitWords (programOf (framesOf (now frames))) (now state) t a ⌝ }
+    requires { ⌜ CommitWords (programOf (framesOf (now frames))) (grouping (now labels) schedulers)
+        (now state) t a ⌝ }
     ensures { λ r. ⌜ committed r t (now (state .exit))
-        ≡ committedIn (programOf (framesOf (now (frames .entry)))) (now (state .entry)) before
-        choice t (turnResultIn (now (state .entry)) t a) (a .transition) ⌝ }
+        ≡ committedIn (programOf (framesOf (now (frames .entry))))
+        (grouping (now (labels .entry)) schedulers) (now (state .entry)) before choice t
+        (turnResultIn (now (state .entry)) t a) (a .transition) ⌝ }
 {
-    match decide(frames, state, t, a) {
+    match decide(frames, labels, schedulers, state, t, a) {
         Decision::Refuse(n) => {
             clear_cells(state, before);
             n
@@ -107,7 +122,7 @@ pub fn commit(
         Decision::Settle(passed) => {
             let change = a.change;
             settle(state, (t - 1) as usize, change);
-            follow(state, choice, t, passed);
+            follow(labels, schedulers, state, choice, t, passed);
             0
         },
         Decision::Suspend(q, e) => {

@@ -8,6 +8,7 @@ use acts::act::Action;
 use acts::act::Arguments;
 use acts::act::Transition;
 use language::Place;
+use language::group::LABELS;
 use language::limit::MOST_THREADS;
 use language::refusal::STUCK;
 use language::refusal::THREADS_SPENT;
@@ -25,9 +26,9 @@ ghost use Rattle.language.specs.Limits.{mostThreads};
 ghost use Rattle.text.specs.Frames.{framesOf};
 ghost use Rattle.program.specs.Programs.{programOf};
 ghost use Rattle.machine.specs.Offsets.{stateLength};
-ghost use Rattle.commits.specs.inner.Commits.{CommitWords, obstacleIn, startDecided};
+ghost use Rattle.commits.specs.inner.Commits.{CommitWords, SettleWords, grouping, obstacleIn};
 ghost use Rattle.states.specs.inner.Threads.{threadIn};
-ghost use Rattle.commits.specs.inner.Commits.{placeIn, decidedIn};
+ghost use Rattle.commits.specs.inner.Commits.{placeIn, startDecided, decidedIn};
 
 // What the lists do after a turn that nothing refuses. The thread keeps its entry; it leaves its
 // list; it leaves it and joins the next list of that scheduler. Or a thread of that body starts at
@@ -82,7 +83,7 @@ fn decide_start(
     m: u8,
     args: Arguments,
 ) -> Decision
-    requires { ⌜ CommitWords (programOf (framesOf (now frames))) (now state) t a ⌝ }
+    requires { ⌜ (1 ≤ t) × (t ≤ mostThreads) × SettleWords (now state) (t - 1) (a .change) ⌝ }
     ensures { λ r. ⌜ r ≡ startDecided (programOf (framesOf (now (frames .entry))))
         (now (state .entry)) t a waits m args ⌝ }
 {
@@ -113,10 +114,18 @@ fn place_of(state: &[u64], t: u64, a: Action) -> Place
     )
 }
 
-pub(crate) fn decide(frames: &[u64], state: &[u64], t: u64, a: Action) -> Decision
-    requires { ⌜ CommitWords (programOf (framesOf (now frames))) (now state) t a ⌝ }
+pub(crate) fn decide(
+    frames: &[u64],
+    labels: &[u8; LABELS],
+    schedulers: u8,
+    state: &[u64],
+    t: u64,
+    a: Action,
+) -> Decision
+    requires { ⌜ CommitWords (programOf (framesOf (now frames))) (grouping (now labels) schedulers)
+        (now state) t a ⌝ }
     ensures { λ r. ⌜ r ≡ decidedIn (programOf (framesOf (now (frames .entry))))
-        (now (state .entry)) t a (a .transition) ⌝ }
+        (grouping (now (labels .entry)) schedulers) (now (state .entry)) t a (a .transition) ⌝ }
 {
     let transition = a.transition;
     match transition {
@@ -130,7 +139,11 @@ pub(crate) fn decide(frames: &[u64], state: &[u64], t: u64, a: Action) -> Decisi
             Decision::Refuse(STUCK)
         },
         Transition::Starts(waits, m, args) => decide_start(frames, state, t, a, waits, m, args),
-        Transition::Generates(e) => decide_generate(frames, state, place_of(state, t, a), e),
-        Transition::Awaits(e) => decide_await(frames, state, place_of(state, t, a), e),
+        Transition::Generates(e) => {
+            decide_generate(frames, labels, schedulers, state, place_of(state, t, a), e)
+        },
+        Transition::Awaits(e) => {
+            decide_await(frames, labels, schedulers, state, place_of(state, t, a), e)
+        },
     }
 }

@@ -2,12 +2,14 @@
 use crate::decision::Decision;
 use crate::decision::Passed;
 use crate::writing::room_at;
+use groups::room_on_each;
+use groups::wake_on_each;
 use language::Place;
 use language::PlaceRead;
+use language::group::LABELS;
+use language::group::is_member;
 use language::refusal::FOREIGN;
 use language::refusal::STUCK;
-use lists::list::has_room_to_wake;
-use lists::list::wake;
 use program::event::EventFound;
 use program::event::event_at;
 use states::event::is_present;
@@ -26,54 +28,77 @@ ghost use Rattle.machine.specs.Offsets.{stateLength};
 ghost use Rattle.commits.specs.inner.Commits.{ownsEvent, wakeRoomIn, presentIn, roomIn};
 ghost use Rattle.commits.specs.inner.Commits.{generateObstacle, awaitObstacle, generatedIn};
 ghost use Rattle.commits.specs.inner.Commits.{generateTested, awaitTested};
-ghost use Rattle.commits.specs.inner.Commits.{ListsFit, WakeWords};
+ghost use Rattle.commits.specs.inner.Commits.{grouping, GroupingFits, WakeWords};
+ghost use Rattle.lists.specs.inner.Lists.{ListsFit};
 
-// A thread at that place stands on the event's owner.
-fn owns(place: Place, owner: u8) -> bool
-    ensures { λ r. ⌜ r ≡ ownsEvent (place .number) owner ⌝ }
+// A thread at that place stands on a scheduler in step with the event's owner.
+fn owns(labels: &[u8; LABELS], schedulers: u8, place: Place, owner: u8) -> bool
+    requires { ⌜ GroupingFits (grouping (now labels) schedulers) ⌝ }
+    ensures { λ r. ⌜ r
+        ≡ ownsEvent (grouping (now (labels .entry)) schedulers) (place .number) owner ⌝ }
 {
     if !place.is_scheduler() {
         return false;
     }
-    owner == place.number()
+    is_member(labels, place, owner)
 }
 
-// Who awaits the event has room in the owner's active list.
-fn has_wake_room(state: &[u64], owner: u8, e: u8) -> bool
-    requires { ⌜ (length (now state) ≡ stateLength) × ListsFit (now state) ⌝ }
-    ensures { λ r. ⌜ r ≡ wakeRoomIn (now (state .entry)) owner e ⌝ }
+// Who awaits the event has room in the active list of each member of the owner's group.
+fn has_wake_room(labels: &[u8; LABELS], schedulers: u8, state: &[u64], owner: u8, e: u8) -> bool
+    requires { ⌜ GroupingFits (grouping (now labels) schedulers)
+        × (length (now state) ≡ stateLength) × ListsFit (now state) ⌝ }
+    ensures { λ r. ⌜ r ≡ wakeRoomIn (grouping (now (labels .entry)) schedulers)
+        (now (state .entry)) owner e ⌝ }
 {
     match Place::scheduler(owner as u64) {
-        PlaceRead::At(q) => has_room_to_wake(state, q, e),
+        PlaceRead::At(q) => room_on_each(labels, schedulers, q, state, e),
         PlaceRead::NoPlace => false,
     }
 }
 
 // What stands in the way of a generation, missing before foreign; 0 where nothing does.
-fn generate_obstacle(state: &[u64], event: EventFound, place: Place, e: u8) -> u8
-    requires { ⌜ (length (now state) ≡ stateLength) × ListsFit (now state) ⌝ }
-    ensures { λ r. ⌜ r ≡ generateObstacle (now (state .entry)) event (place .number) e ⌝ }
+fn generate_obstacle(
+    labels: &[u8; LABELS],
+    schedulers: u8,
+    state: &[u64],
+    event: EventFound,
+    place: Place,
+    e: u8,
+) -> u8
+    requires { ⌜ GroupingFits (grouping (now labels) schedulers)
+        × (length (now state) ≡ stateLength) × ListsFit (now state) ⌝ }
+    ensures { λ r. ⌜ r ≡ generateObstacle (grouping (now (labels .entry)) schedulers)
+        (now (state .entry)) event (place .number) e ⌝ }
 {
     if !event.there {
         return STUCK;
     }
-    if !has_wake_room(state, event.owner, e) {
+    if !has_wake_room(labels, schedulers, state, event.owner, e) {
         return STUCK;
     }
-    if !owns(place, event.owner) {
+    if !owns(labels, schedulers, place, event.owner) {
         return FOREIGN;
     }
     0
 }
 
 // 1A, by a thread that stands at that place.
-pub(crate) fn decide_generate(frames: &[u64], state: &[u64], place: Place, e: u8) -> Decision
-    requires { ⌜ (length (now state) ≡ stateLength) × ListsFit (now state) ⌝ }
-    ensures { λ r. ⌜ r ≡ generateTested (now (state .entry))
+pub(crate) fn decide_generate(
+    frames: &[u64],
+    labels: &[u8; LABELS],
+    schedulers: u8,
+    state: &[u64],
+    place: Place,
+    e: u8,
+) -> Decision
+    requires { ⌜ GroupingFits (grouping (now labels) schedulers)
+        × (length (now state) ≡ stateLength) × ListsFit (now state) ⌝ }
+    ensures { λ r. ⌜ r ≡ generateTested (grouping (now (labels .entry)) schedulers)
+        (now (state .entry))
         (eventIn (programOf (framesOf (now (frames .entry)))) e) place e ⌝ }
 {
     let event = event_at(frames, e);
-    let no = generate_obstacle(state, event, place, e);
+    let no = generate_obstacle(labels, schedulers, state, event, place, e);
     if no != 0 {
         return Decision::Refuse(no);
     }
@@ -97,9 +122,18 @@ fn has_await_room(state: &[u64], place: Place, present: bool) -> bool
 }
 
 // What stands in the way of an await; an event that is there is one of 16.
-fn await_obstacle(state: &[u64], event: EventFound, place: Place, e: u8) -> u8
-    requires { ⌜ (length (now state) ≡ stateLength) × (event .there ≡ true → e < mostEvents) ⌝ }
-    ensures { λ r. ⌜ r ≡ awaitObstacle (now (state .entry)) event (place .number) e ⌝ }
+fn await_obstacle(
+    labels: &[u8; LABELS],
+    schedulers: u8,
+    state: &[u64],
+    event: EventFound,
+    place: Place,
+    e: u8,
+) -> u8
+    requires { ⌜ GroupingFits (grouping (now labels) schedulers)
+        × (length (now state) ≡ stateLength) × (event .there ≡ true → e < mostEvents) ⌝ }
+    ensures { λ r. ⌜ r ≡ awaitObstacle (grouping (now (labels .entry)) schedulers)
+        (now (state .entry)) event (place .number) e ⌝ }
 {
     if !event.there {
         return STUCK;
@@ -107,21 +141,30 @@ fn await_obstacle(state: &[u64], event: EventFound, place: Place, e: u8) -> u8
     if !has_await_room(state, place, is_present(state, e)) {
         return STUCK;
     }
-    if !owns(place, event.owner) {
+    if !owns(labels, schedulers, place, event.owner) {
         return FOREIGN;
     }
     0
 }
 
 // 1B, by a thread that stands at that place.
-pub(crate) fn decide_await(frames: &[u64], state: &[u64], place: Place, e: u8) -> Decision
-    requires { ⌜ (length (now state) ≡ stateLength)
+pub(crate) fn decide_await(
+    frames: &[u64],
+    labels: &[u8; LABELS],
+    schedulers: u8,
+    state: &[u64],
+    place: Place,
+    e: u8,
+) -> Decision
+    requires { ⌜ GroupingFits (grouping (now labels) schedulers)
+        × (length (now state) ≡ stateLength)
         × (length (eventsOf (framesOf (now frames))) ≤ mostEvents) ⌝ }
-    ensures { λ r. ⌜ r ≡ awaitTested (now (state .entry))
+    ensures { λ r. ⌜ r ≡ awaitTested (grouping (now (labels .entry)) schedulers)
+        (now (state .entry))
         (eventIn (programOf (framesOf (now (frames .entry)))) e) place e ⌝ }
 {
     let event = event_at(frames, e);
-    let no = await_obstacle(state, event, place, e);
+    let no = await_obstacle(labels, schedulers, state, event, place, e);
     if no != 0 {
         return Decision::Refuse(no);
     }
@@ -131,11 +174,13 @@ pub(crate) fn decide_await(frames: &[u64], state: &[u64], place: Place, e: u8) -
     Decision::Suspend(place, e)
 }
 
-// The event of that scheduler is present, and who awaits it is active.
-pub(crate) fn generate(state: &mut [u64], q: Place, e: u8)
-    requires { ⌜ (length (now state) ≡ stateLength) × WakeWords (now state) q e ⌝ }
-    ensures { λ _. ⌜ now (state .exit) ≡ generatedIn (now (state .entry)) (q .number) e ⌝ }
+// The event is present, and who awaits it on a member of that scheduler's group is active.
+pub(crate) fn generate(labels: &[u8; LABELS], schedulers: u8, state: &mut [u64], q: Place, e: u8)
+    requires { ⌜ (length (now state) ≡ stateLength)
+        × WakeWords (grouping (now labels) schedulers) (now state) q e ⌝ }
+    ensures { λ _. ⌜ now (state .exit) ≡ generatedIn (grouping (now (labels .entry)) schedulers)
+        (now (state .entry)) (q .number) e ⌝ }
 {
-    wake(state, q, e);
+    wake_on_each(labels, schedulers, q, state, e);
     set_present(state, e);
 }

@@ -12,7 +12,7 @@ use lib.ListN.{length, length-append}
 use borrow.Author.Tests.{ltb-true, ltb-false}
 use Rattle.language.specs.Kinds.{declarations, kindOf, classOf, uses, childIn}
 use Rattle.language.specs.declared.kind.Kind.{Kind}
-use Rattle.language.specs.declared.kind.DeclarationKind.the-variants.{Shared, Event}
+use Rattle.language.specs.declared.kind.DeclarationKind.the-variants.{Shared, Event, Link}
 use Rattle.language.specs.declared.kind.Kind.the-variants.{Header, Declared, Module, Statement}
 use Rattle.language.specs.declared.kind.Kind.the-variants.{Expression, Unknown}
 use Rattle.language.specs.declared.kind.Use.{Use}
@@ -43,6 +43,7 @@ plain-uses : (k : Kind) → rank k ≤ declarations
 plain-uses Header l = (refl, refl, refl)
 plain-uses (Declared Shared) l = (refl, refl, refl)
 plain-uses (Declared Event) l = (refl, refl, refl)
+plain-uses (Declared Link) l = (refl, refl, refl)
 plain-uses Module l = absurd (omega arith)
 plain-uses (Statement k) l = absurd (omega arith)
 plain-uses (Expression k) l = absurd (omega arith)

@@ -18,7 +18,7 @@ use Rattle.language.specs.Limits.{mostSchedulers, mostShared, mostEvents, mostM
 use Rattle.language.specs.Limits.{mostParameters}
 use Rattle.language.specs.Kinds.{declarationRank, isHeader, isShared, isEvent, isModule, uses}
 use Rattle.language.specs.Kinds.{childIn}
-use Rattle.language.specs.declared.kind.DeclarationKind.the-variants.{Shared, Event}
+use Rattle.language.specs.declared.kind.DeclarationKind.the-variants.{Shared, Event, Link}
 use Rattle.language.specs.declared.kind.StatementKind.{StatementKind}
 use Rattle.language.specs.declared.kind.ExpressionKind.{ExpressionKind}
 use Rattle.language.specs.declared.kind.Kind.{Kind}
@@ -53,6 +53,7 @@ header-test : (k : Kind) → isHeader k ≡ eqb (rank k) 0
 header-test Header = refl
 header-test (Declared Shared) = refl
 header-test (Declared Event) = refl
+header-test (Declared Link) = refl
 header-test Module = refl
 header-test (Statement k) = refl
 header-test (Expression k) = refl
@@ -62,6 +63,7 @@ shared-test : (k : Kind) → isShared k ≡ eqb (rank k) (declarationRank Shared
 shared-test Header = refl
 shared-test (Declared Shared) = refl
 shared-test (Declared Event) = refl
+shared-test (Declared Link) = refl
 shared-test Module = refl
 shared-test (Statement k) = refl
 shared-test (Expression k) = refl
@@ -71,6 +73,7 @@ event-test : (k : Kind) → isEvent k ≡ eqb (rank k) (declarationRank Event)
 event-test Header = refl
 event-test (Declared Shared) = refl
 event-test (Declared Event) = refl
+event-test (Declared Link) = refl
 event-test Module = refl
 event-test (Statement k) = refl
 event-test (Expression k) = refl
@@ -80,6 +83,7 @@ module-test : (k : Kind) → isModule k ≡ eqb (rank k) moduleRank
 module-test Header = refl
 module-test (Declared Shared) = refl
 module-test (Declared Event) = refl
+module-test (Declared Link) = refl
 module-test Module = refl
 module-test (Statement k) = refl
 module-test (Expression k) = refl
@@ -166,6 +170,7 @@ isFirst Use.Free = false
 isFirst Use.Truth = false
 isFirst Use.Place = false
 isFirst Use.Scheduler = false
+isFirst Use.Lower = false
 isFirst Use.Statement = false
 isFirst Use.Expression = false
 isFirst Use.Argument = false
@@ -211,6 +216,7 @@ firsts : (k : Kind) → Firsts k
 firsts Header = record { s = refl; a = refl; b = refl; c = refl }
 firsts (Declared Shared) = record { s = refl; a = refl; b = refl; c = refl }
 firsts (Declared Event) = record { s = refl; a = refl; b = refl; c = refl }
+firsts (Declared Link) = record { s = refl; a = refl; b = refl; c = refl }
 firsts Module = record { s = refl; a = refl; b = refl; c = refl }
 firsts (Statement k) = of-statement k
 firsts (Expression k) = of-expression k
@@ -240,6 +246,7 @@ module _ (fs gs : List Frame) (i j : ℕ) (f g : Frame) (same : frameAt gs 0 ≡
   field-again Use.Truth v w k n h = rw (k refl) h
   field-again Use.Place v w k n h = rw (k refl, schedulers) h
   field-again Use.Scheduler v w k n h = rw (k refl, schedulers) h
+  field-again Use.Lower v w k n h = rw (k refl, schedulers, s-same) h
   field-again Use.Statement v w k n h = refl
   field-again Use.Expression v w k n h = refl
   field-again Use.Argument v w k n h = refl
@@ -361,6 +368,7 @@ module _ (ws : List ℕ) (writable : Writable (framesOf ws)) (l : 0 < length ws)
       let b = cells in
       lt-ltb (countOf isShared (take p Gs)) mostShared (omega arith)
   kind-kept p i (Declared Event) q r e d = refl
+  kind-kept p i (Declared Link) q r e d = refl
   kind-kept p i Module q r e d =
       let a = few-before isModule Gs p q (ap isModule e) in
       let b = modules in

@@ -12,7 +12,7 @@ use Rattle.basics.proofs.Ifs.{if-yes, if-no, and-true}
 use Rattle.language.specs.Kinds.{declarationRank, declarations}
 use Rattle.language.specs.declared.kind.Kind.{Kind}
 use Rattle.language.specs.declared.kind.DeclarationKind.{DeclarationKind}
-use Rattle.language.specs.declared.kind.DeclarationKind.the-variants.{Shared, Event}
+use Rattle.language.specs.declared.kind.DeclarationKind.the-variants.{Shared, Event, Link}
 use Rattle.language.specs.declared.kind.Kind.the-variants.{Header, Declared, Module, Statement}
 use Rattle.language.specs.declared.kind.Kind.the-variants.{Expression, Unknown}
 use Rattle.language.specs.declared.frame.Frame.{Frame}
@@ -29,6 +29,7 @@ rankOf f = rank (f .kind)
 pub declared-rank : (d : DeclarationKind) → declarationRank d ≤ declarations
 declared-rank Shared = omega arith
 declared-rank Event = omega arith
+declared-rank Link = omega arith
 
 -- the numbers of the frames of the ranks below r, as they stand; the list stands from i on
 unfoldable pub below : ℕ → ℕ → List Frame → List ℕ

@@ -6,7 +6,7 @@ use mathlib.Core.List.{List}
 use mathlib.Core.Option.{Option, none, some}
 use Prim.Native.Nat.{ℕ, _%_, _≤_, _<_}
 use native.Mathlib.Omega.{arith}
-use lib.Dec.{leb, eqb}
+use lib.Dec.{ltb, leb, eqb}
 use lib.ListN.{length, getD, take, length-take}
 use lib.Seq.{getD-take}
 use borrow.Author.Tests.{lt-ltb, le-ltb, le-leb, lt-leb, leb-true, eq-eqb, ne-eqb, not-true}
@@ -122,6 +122,16 @@ module _ (fs : List Frame) (v b : ℕ) (r : Bool) (e : b ≡ schedulersOf fs) wh
 
   pub scheduler-as : r ≡ hasScheduler b v → r ≡ hasScheduler (schedulersOf fs) v
   scheduler-as h = h ∙ ap (λ (n : ℕ). hasScheduler n v) e
+
+-- ---- a scheduler below s
+module _ (fs : List Frame) (s v b : ℕ) (x : Bool) (e : b ≡ schedulersOf fs) (h : x ≡ hasScheduler b v) where
+  pub lower-none : not x ≡ true → false ≡ (hasScheduler (schedulersOf fs) v && ltb v s)
+  lower-none n = rw (sym (scheduler-as fs v b x e h) ∙ not-true x n)
+
+  pub lower-some : not x ≡ false → ltb v s ≡ (hasScheduler (schedulersOf fs) v && ltb v s)
+  lower-some n = rw (sym (scheduler-as fs v b x e h) ∙ not-false x n)
+
+pub ruleset lower-laws = (lower-none, lower-some)
 
 -- ---- the other fields
 pub further-none : (a v : ℕ) → v ≡ 0 → true ≡ (eqb v 0 || not (eqb a 0))

@@ -11,7 +11,7 @@ use Rattle.language.specs.Places.{hasPlace, hasScheduler}
 use Rattle.language.specs.Types.{typeWord, contentWord}
 use Rattle.language.specs.Kinds.{isShared, isModule, declarationUses, statementUses}
 use Rattle.language.specs.Kinds.{expressionUses, uses}
-use Rattle.language.specs.declared.kind.DeclarationKind.the-variants.{Shared, Event}
+use Rattle.language.specs.declared.kind.DeclarationKind.the-variants.{Shared, Event, Link}
 use Rattle.language.specs.declared.kind.StatementKind.{StatementKind}
 use Rattle.language.specs.declared.kind.ExpressionKind.{ExpressionKind}
 use Rattle.language.specs.declared.kind.Kind.{Kind}
@@ -116,6 +116,22 @@ module _ (f : Frame) where
         → r ≡ fieldsFine fs 0 f (declarationUses Event)
     event-right r n q = q ∙ rw (sym h ∙ not-false x n)
 
+    pub link-upper : not x ≡ true → false ≡ fieldsFine fs 0 f (declarationUses Link)
+    link-upper n = rw (sym h ∙ not-true x n)
+
+    module _ (y : Bool) (l : y ≡ (hasScheduler (schedulersOf fs) (f .a) && ltb (f .a) (f .s)))
+        (n : not x ≡ false) where
+      pub link-lower : not y ≡ true → false ≡ fieldsFine fs 0 f (declarationUses Link)
+      link-lower m = rw (sym h ∙ not-false x n, sym l ∙ not-true y m)
+
+      pub link-b : not y ≡ false → (f .b ≡ 0 → ⊥)
+          → false ≡ fieldsFine fs 0 f (declarationUses Link)
+      link-b m b = rw (sym h ∙ not-false x n, sym l ∙ not-false y m, ne-eqb (f .b) 0 b)
+
+      pub link-c : not y ≡ false → f .b ≡ 0
+          → eqb (f .c) 0 ≡ fieldsFine fs 0 f (declarationUses Link)
+      link-c m b = rw (sym h ∙ not-false x n, sym l ∙ not-false y m, eq-eqb (f .b) 0 b)
+
 pub ruleset none-laws = (none-s, none-a, none-b, none-c)
 
 pub ruleset s-laws = (s-a, s-b, s-c)
@@ -131,6 +147,8 @@ pub ruleset argument-laws = (arguments-wrong, arguments-right)
 pub ruleset placed-laws = (placed-s, placed-b, placed-c)
 
 pub ruleset event-laws = (event-owner, event-right)
+
+pub ruleset link-laws = (link-upper, link-lower, link-b, link-c)
 
 -- ---- each arm of the matches on kinds
 module _ (fs : List Frame) (f : Frame) (r : Bool) where
@@ -233,6 +251,10 @@ module _ (fs : List Frame) (i : ℕ) (f : Frame) (r : Bool) (e : f ≡ frameAt f
   pub frame-event : f .kind ≡ Declared Event → r ≡ fieldsFine fs 0 f (declarationUses Event)
       → r ≡ frameFine fs i (frameAt fs i)
   frame-event k h = frame-here (h ∙ fine-as fs i f (Declared Event) k)
+
+  pub frame-link : f .kind ≡ Declared Link → r ≡ fieldsFine fs 0 f (declarationUses Link)
+      → r ≡ frameFine fs i (frameAt fs i)
+  frame-link k h = frame-here (h ∙ fine-as fs i f (Declared Link) k)
 
   pub frame-statement : (k : StatementKind) → f .kind ≡ Statement k
       → r ≡ fieldsFine fs 0 f (statementUses k) → r ≡ frameFine fs i (frameAt fs i)

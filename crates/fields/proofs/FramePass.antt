@@ -14,7 +14,7 @@ use Rattle.language.specs.Places.{isPlace, hasScheduler}
 use Rattle.language.specs.Types.{cellDepth, cellType, public, typeWord, contentWord, roomAround}
 use Rattle.language.specs.Kinds.{isShared, isModule, uses}
 use Rattle.language.specs.declared.kind.Kind.{Kind}
-use Rattle.language.specs.declared.kind.DeclarationKind.the-variants.{Shared, Event}
+use Rattle.language.specs.declared.kind.DeclarationKind.the-variants.{Shared, Event, Link}
 use Rattle.language.specs.declared.kind.Kind.the-variants.{Declared, Module}
 use Rattle.language.specs.declared.frame.Frame.{Frame}
 use Rattle.language.proofs.Words.{depth-3}
@@ -109,6 +109,10 @@ module _ (ws : List ℕ) (i : ℕ) (f : Frame) (t : Tally) (e : f ≡ frameAt (f
       → t ≡ tallyOf (take (i + 1) (framesOf ws))
   with-event q l = with-other (Declared Event) q refl refl l
 
+  pub with-link : f .kind ≡ Declared Link → i < length ws
+      → t ≡ tallyOf (take (i + 1) (framesOf ws))
+  with-link q l = with-other (Declared Link) q refl refl l
+
   pub with-module : (r : Tally) → f .kind ≡ Module
       → r ≡ tally (t .cells) (t .modules + 1) (t .types) → i < length ws
       → r ≡ tallyOf (take (i + 1) (framesOf ws))
@@ -124,7 +128,7 @@ module _ (ws : List ℕ) (i : ℕ) (f : Frame) (t : Tally) (e : f ≡ frameAt (f
       ∙ tally-cell (take i (framesOf ws)) f t h (ap isShared q) (ap isModule q) (cell-room q)
       ∙ ap tallyOf (frames-more ws i f e l)
 
-pub ruleset counted-laws = (with-module, with-shared, with-event, with-other)
+pub ruleset counted-laws = (with-module, with-shared, with-event, with-link, with-other)
 
 -- a frame of another kind leaves the tally as it is
 pub tally-kept : (ws : List ℕ) (i : ℕ) (f : Frame) (t : Tally) (x : Bool)

@@ -12,7 +12,7 @@ use Rattle.language.specs.Kinds.{isShared, isModule}
 use Rattle.language.specs.Types.{cellType}
 use Rattle.language.specs.declared.kind.Kind.{Kind}
 use Rattle.language.specs.declared.kind.DeclarationKind.{DeclarationKind}
-use Rattle.language.specs.declared.kind.DeclarationKind.the-variants.{Shared, Event}
+use Rattle.language.specs.declared.kind.DeclarationKind.the-variants.{Shared, Event, Link}
 use Rattle.language.specs.declared.kind.Kind.the-variants.{Header, Declared, Module, Statement}
 use Rattle.language.specs.declared.kind.Kind.the-variants.{Expression, Unknown}
 use Rattle.language.specs.declared.frame.Frame.{Frame}
@@ -32,6 +32,7 @@ declared-as k d v e h = e ∙ ap Declared h
 pub is-shared : (k : Kind) → isShared k ≡ true → k ≡ Declared Shared
 is-shared (Declared Shared) h = refl
 is-shared (Declared Event) h = absurd (true≢false (sym h))
+is-shared (Declared Link) h = absurd (true≢false (sym h))
 is-shared Header h = absurd (true≢false (sym h))
 is-shared Module h = absurd (true≢false (sym h))
 is-shared (Statement k) h = absurd (true≢false (sym h))

@@ -8,7 +8,7 @@ use Rattle.language.specs.declared.frame.Frame.{Frame}
 use Rattle.language.specs.Limits.{mostSchedulers, mostShared, mostEvents, mostModules}
 use Rattle.language.specs.Limits.{mostParameters}
 use kind.{Kind.Kind, DeclarationKind.the-variants.Shared, Use.Use}
-use kind.{DeclarationKind.the-variants.Event}
+use kind.DeclarationKind.the-variants.{Event, Link}
 use kind.Kind.the-variants.{Header, Declared, Module, Statement, Expression, Unknown}
 use Rattle.program.specs.{Trees.frameAt, Programs.cellsOf}
 use Rattle.language.specs.declared.kind as kind
@@ -52,6 +52,8 @@ fieldFine fs i f Use.Free v = true
 fieldFine fs i f Use.Truth v = leb v 1
 fieldFine fs i f Use.Place v = hasPlace (schedulersOf fs) v
 fieldFine fs i f Use.Scheduler v = hasScheduler (schedulersOf fs) v
+-- 02, change 7: 'its A names a lower one'
+fieldFine fs i f Use.Lower v = hasScheduler (schedulersOf fs) v && ltb v (f .s)
 fieldFine fs i f Use.Statement v = true
 fieldFine fs i f Use.Expression v = true
 fieldFine fs i f Use.Argument v = true
@@ -69,6 +71,8 @@ kindFine fs i Header = eqb i 0
 kindFine fs i (Declared Shared) = ltb (countOf isShared (take i fs)) mostShared
 -- the header's C has their number
 kindFine fs i (Declared Event) = true
+-- 02, change 7, sets no bound
+kindFine fs i (Declared Link) = true
 kindFine fs i Module = ltb (countOf isModule (take i fs)) mostModules
 kindFine fs i (Statement k) = true
 kindFine fs i (Expression k) = true

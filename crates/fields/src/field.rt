@@ -17,15 +17,16 @@ use language::type_word::is_cell;
 use language::type_word::is_content_word;
 use language::type_word::is_type_word;
 use program::frames::frame_at;
+use program::group::line_declares;
 use program::shared::shared_type;
 ghost use mathlib.Core.Path.{_≡_};
-ghost use mathlib.Core.Bool.{true, not, _||_};
+ghost use mathlib.Core.Bool.{true, not, _&&_, _||_};
 ghost use mathlib.Core.List.{[]};
 ghost use Prim.Native.Nat.{_+_, _<_, _≤_};
 ghost use lib.Dec.{ltb, leb, eqb};
 ghost use lib.ListN.{length, take, set};
 ghost use Rattle.basics.specs.If.{if_then_else_};
-ghost use Rattle.language.specs.declared.kind.DeclarationKind.the-variants.{Shared, Event};
+ghost use Rattle.language.specs.declared.kind.DeclarationKind.the-variants.{Shared, Event, Link};
 ghost use Rattle.language.specs.declared.kind.StatementKind.{StatementKind};
 ghost use Rattle.language.specs.declared.kind.ExpressionKind.{ExpressionKind};
 ghost use Rattle.language.specs.declared.kind.Kind.the-variants.{Declared, Module};
@@ -34,7 +35,7 @@ ghost use Rattle.language.specs.Kinds.{isEvent, isModule};
 ghost use Rattle.language.specs.Places.{hasPlace, hasScheduler};
 ghost use Rattle.language.specs.Types.{typeWord};
 ghost use Rattle.language.specs.Limits.{mostLines, mostShared, mostModules};
-ghost use Rattle.text.specs.Frames.{frameOfWord, framesOf};
+ghost use Rattle.text.specs.Frames.{framesOf};
 ghost use Rattle.fields.specs.Fields.{countOf, schedulersOf, firstContentFine, frameFine};
 ghost use Rattle.fields.specs.inner.Scans.{headerAlone, headerFault, fieldFault, found};
 ghost use Rattle.fields.specs.inner.Scans.{fieldsFine, tallyOf, fineAt, HeaderWords};
@@ -68,13 +69,6 @@ fn header_fine(f: Frame) -> bool
     f.c <= MOST_EVENTS
 }
 
-// Whether a line declares an event: K 03. By its number alone, since each line is asked.
-fn declares_event(line: u64) -> bool
-    ensures { λ r. ⌜ r ≡ isEvent (frameOfWord line .kind) ⌝ }
-{
-    line / 0x0100_0000_0000_0000 == 0x03
-}
-
 // How many events the file declares, bad and misplaced ones too.
 fn count_events(words: &[u64]) -> usize
     ensures { λ r. ⌜ r ≡ countOf isEvent (framesOf (now (words .entry))) ⌝ }
@@ -84,7 +78,7 @@ fn count_events(words: &[u64]) -> usize
     while i < words.len() {
         let line = words[i];
         i += 1;
-        if declares_event(line) {
+        if line_declares(DeclarationKind::Event, line) {
             n += 1;
         }
     }
@@ -127,6 +121,18 @@ fn scheduler_fine(words: &[u64], v: u8) -> bool
     ensures { λ r. ⌜ r ≡ hasScheduler (schedulersOf (framesOf (now (words .entry)))) v ⌝ }
 {
     Place::is_scheduler_in_file(v as u64, schedulers_in(words))
+}
+
+// A scheduler below s.
+fn lower_fine(words: &[u64], s: u8, v: u16) -> bool
+    requires { ⌜ HeaderWords (now words) ⌝ }
+    ensures { λ r. ⌜ r
+        ≡ (hasScheduler (schedulersOf (framesOf (now (words .entry)))) v && ltb v s) ⌝ }
+{
+    if !Place::is_scheduler_in_file(v as u64, schedulers_in(words)) {
+        return false;
+    }
+    v < s as u16
 }
 
 // The second argument needs the first.
@@ -338,6 +344,23 @@ fn event_fine(words: &[u64], f: Frame) -> bool
     s_used(f)
 }
 
+// The link f: a scheduler in S, a lower one in A, and nothing more.
+fn link_fine(words: &[u64], f: Frame) -> bool
+    requires { ⌜ HeaderWords (now words) ⌝ }
+    ensures { λ r. ⌜ r ≡ fieldsFine (framesOf (now (words .entry))) 0 f (declarationUses Link) ⌝ }
+{
+    if !scheduler_fine(words, f.s) {
+        return false;
+    }
+    if !lower_fine(words, f.s, f.a) {
+        return false;
+    }
+    if f.b != 0 {
+        return false;
+    }
+    f.c == 0
+}
+
 // The module f, which has the number i.
 fn module_fine(words: &[u64], i: usize, f: Frame, t: Tally) -> bool
     requires { ⌜ HeaderWords (now words) × (t ≡ tallyOf (take i (framesOf (now words))))
@@ -369,6 +392,7 @@ fn frame_fine(words: &[u64], i: usize, t: Tally) -> bool
         Kind::Declared(d) => match d {
             DeclarationKind::Shared => shared_fine(words, i, f, t),
             DeclarationKind::Event => event_fine(words, f),
+            DeclarationKind::Link => link_fine(words, f),
         },
         Kind::Module => module_fine(words, i, f, t),
         Kind::Statement(k) => statement_fine(words, f, k),
@@ -417,6 +441,7 @@ fn counted(words: &[u64], i: usize, t: Tally) -> Tally
         Kind::Declared(d) => match d {
             DeclarationKind::Shared => with_cell(t, shared_type(f)),
             DeclarationKind::Event => t,
+            DeclarationKind::Link => t,
         },
         Kind::Module => with_module(t),
         Kind::Statement(s) => t,
@@ -434,6 +459,7 @@ fn is_counted(k: Kind) -> bool
         Kind::Declared(d) => match d {
             DeclarationKind::Shared => true,
             DeclarationKind::Event => false,
+            DeclarationKind::Link => false,
         },
         Kind::Module => true,
         Kind::Statement(s) => false,

@@ -2,17 +2,19 @@
 -- that lead there as premises; what that means for the sets is in Members. Assumes nothing.
 use mathlib.Core.Path.{_≡_, refl, sym, ap, _∙_}
 use mathlib.Core.Bool.{Bool, true, false, not, _&&_}
+use mathlib.Core.List.{List}
 use Prim.Native.Nat.{ℕ, _-_, _*_, _%_, _^_, _<_}
 use native.Mathlib.Nat.{mod-eq-of-lt, one-mul}
 use native.Mathlib.Omega.{arith}
 use lib.Pow.{pow-lt}
 use lib.Dec.{eqb}
-use lib.Bits.{bitOr}
+use lib.Bits.{bitOr, or-zero-l, or-zero-r}
 use borrow.Author.Tests.{eq-eqb, ne-eqb, not-true, not-false}
-use Rattle.basics.proofs.Ifs.{yes, no}
+use Rattle.basics.proofs.Ifs.{yes, no, if-no}
 use Rattle.language.specs.Places.{isScheduler}
 use Rattle.language.specs.Effects.{only, withMember, withOwner, withEvent}
-use Rattle.language.specs.Effects.{setWithin, within}
+use Rattle.language.specs.Effects.{setWithin, setFrom, subset}
+use Rattle.language.specs.inner.Labels.{sameLabel, groupIn, withinIn}
 use Rattle.language.specs.declared.effect.Effect.{Effect}
 use Rattle.language.proofs.PlaceLaws.{test-bounds}
 
@@ -68,14 +70,33 @@ module _ (p s : ℕ) (some : s ≡ 0 → ⊥) (b : Bool) (t : b ≡ isScheduler 
 
 pub ruleset within-laws = (within-empty, within-private, within-one)
 
+-- ---- a set within a group: b is whether the place is a scheduler, g its group
+pub group-empty : (p s : ℕ) (labels : List ℕ) → s ≡ 0 → true ≡ subset s (groupIn labels p)
+group-empty p s labels h = sym (eq-eqb _ _ (ap (λ (n : ℕ). bitOr n (groupIn labels p)) h ∙ or-zero-l (groupIn labels p)))
+
+module _ (p s : ℕ) (labels : List ℕ) (some : s ≡ 0 → ⊥) (b : Bool) (t : b ≡ isScheduler p) where
+  pub group-private : not b ≡ true → false ≡ subset s (groupIn labels p)
+  unfolding groupIn
+  group-private h =
+      let g : groupIn labels p ≡ 0 = if-no _ _ (sym t ∙ not-true b h) in
+      sym (ap (subset s) g ∙ ne-eqb _ _ (λ z. some (sym (or-zero-r s) ∙ z)))
+
+  pub group-one : (g : ℕ) → not b ≡ false → g ≡ setFrom (sameLabel labels p) 2 8
+      → eqb (bitOr s g) g ≡ subset s (groupIn labels p)
+  unfolding groupIn
+  group-one g h k = ap (subset s) (yes _ (sym t ∙ not-false b h) k)
+
+pub ruleset group-laws = (group-empty, group-private, group-one)
+
 -- ---- both sets: b and c are whether the cells' and the events' lie within
-module _ (p : ℕ) (e : Effect) (b c : Bool) (t : b ≡ setWithin p (e .cells)) where
-  pub cells-outside : not b ≡ true → false ≡ within p e
-  unfolding within
+module _ (labels : List ℕ) (p : ℕ) (e : Effect) (b c : Bool) (t : b ≡ setWithin p (e .cells)) where
+  pub cells-outside : not b ≡ true → false ≡ withinIn labels p e
+  unfolding withinIn
   cells-outside h = rw (sym t ∙ not-true b h)
 
-  pub events-decide : not b ≡ false → c ≡ setWithin p (e .events) → c ≡ within p e
-  unfolding within
+  pub events-decide : not b ≡ false → c ≡ subset (e .events) (groupIn labels p)
+      → c ≡ withinIn labels p e
+  unfolding withinIn
   events-decide h k = rw (sym t ∙ not-false b h, sym k)
 
 pub ruleset both-within-laws = (cells-outside, events-decide)

@@ -2,9 +2,10 @@
 -- The schedulers whose cells are accessed and those whose events are, are kept apart: two sets.
 -- A set is a number below 256: the scheduler p is a member where bit p - 2 is set. What they mean
 -- as sets is proved in proofs/Members.
-use Rattle.basics.specs.Prelude.{Bool, _&&_, _||_, ℕ, _-_, _/_, _%_, _^_, leb, eqb, bitOr}
-use Rattle.basics.specs.Prelude.{if_then_else_}
-use Rattle.language.specs.{Places.home, Places.isScheduler, declared.effect.Effect.Effect}
+use Rattle.basics.specs.Prelude.{List, Bool, _&&_, _||_, ℕ, zero, suc, _-_, _/_, _%_, _^_, leb}
+use Rattle.basics.specs.Prelude.{eqb, bitOr, if_then_else_}
+use Rattle.language.specs.{Places.home, Places.isScheduler, Limits.mostSchedulers}
+use Rattle.language.specs.{Groups.Link, Groups.inStep, declared.effect.Effect.Effect}
 
 -- the scheduler p is a member of the set s; the set {p}
 abbrev pub member : ℕ → ℕ → Bool
@@ -33,9 +34,25 @@ withOwner o e = record { cells = withMember o (e .cells); events = e .events }
 abbrev pub withEvent : ℕ → Effect → Effect
 withEvent o e = record { cells = e .cells; events = withMember o (e .events) }
 
--- 'within {S}, or empty when S is 1': of a set, and of an effect
+-- 'within {S}, or empty when S is 1': of the set of cells' owners
 unfoldable pub setWithin : ℕ → ℕ → Bool
 setWithin p s = eqb s 0 || isScheduler p && eqb s (only p)
 
-unfoldable pub within : ℕ → Effect → Bool
-within p e = setWithin p (e .cells) && setWithin p (e .events)
+-- of n schedulers from q on, the set of those that pass the test
+unfoldable pub setFrom : (ℕ → Bool) → ℕ → ℕ → ℕ
+setFrom test q zero = 0
+setFrom test q (suc n) =
+    if test q then withMember q (setFrom test (suc q) n) else setFrom test (suc q) n
+
+-- the schedulers in step with p; none where it is no scheduler
+unfoldable pub groupOf : List Link → ℕ → ℕ
+groupOf ls p = if isScheduler p then setFrom (inStep ls p) home mostSchedulers else 0
+
+-- each member of the set s is one of g
+abbrev pub subset : ℕ → ℕ → Bool
+subset s g = eqb (bitOr s g) g
+
+-- 02, change 7: 'Event effects are now counted apart from cell effects: at K 12 and at `main` an
+-- event's owner must be the place or in step with it'
+unfoldable pub within : List Link → ℕ → Effect → Bool
+within ls p e = setWithin p (e .cells) && subset (e .events) (groupOf ls p)

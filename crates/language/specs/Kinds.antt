@@ -3,7 +3,7 @@ use Rattle.basics.specs.Prelude.{List, [], _∷_, _++_, Bool, true, false, ℕ,
 use Rattle.basics.specs.Prelude.{if_then_else_}
 use Rattle.language.specs.declared.kind as kind
 use kind.{DeclarationKind.DeclarationKind, DeclarationKind.the-variants.Shared}
-use kind.DeclarationKind.the-variants.{Event}
+use kind.DeclarationKind.the-variants.{Event, Link}
 use kind.StatementKind.{StatementKind}
 use kind.StatementKind.the-variants.{Nothing, Then, DoAt, Start, StartWait, Cooperate, Let}
 use kind.StatementKind.the-variants.{Store, If, While, Generate, Await}
@@ -14,13 +14,15 @@ use kind.Kind.the-variants.{Header, Declared, Module, Statement, Expression, Unk
 use kind.{Kind.Kind, Class.Class, Use.Use, Uses.Uses}
 use Rattle.language.specs.declared.frame.Frame.{Frame}
 
--- the kind that a number names: 01's table, 'K and S above are hexadecimal', and 02's change 5
+-- the kind that a number names: 01's table, 'K and S above are hexadecimal', and 02's changes 5
+-- and 7
 unfoldable pub kindOf : ℕ → Kind
 kindOf k =
     if eqb k 0x00 then Header else
     if eqb k 0x01 then Declared Shared else
     if eqb k 0x02 then Module else
     if eqb k 0x03 then Declared Event else
+    if eqb k 0x04 then Declared Link else
     if eqb k 0x10 then Statement Nothing else
     if eqb k 0x11 then Statement Then else
     if eqb k 0x12 then Statement DoAt else
@@ -45,16 +47,19 @@ kindOf k =
     Unknown
 
 -- ---- 'Frames stand as header, shared cells .., then the rest'; 02, change 5: 'K 03 .. stands after
--- the shared cells'. The declarations come after the header, one kind after the other
+-- the shared cells', change 7: 'K 04, which stands after the events'. The declarations come after
+-- the header, one kind after the other
 abbrev pub declarationRank : DeclarationKind → ℕ
 declarationRank Shared = 1
 declarationRank Event = 2
+declarationRank Link = 3
 
 -- the last of these ranks
 abbrev pub declarations : ℕ
-declarations = 2
+declarations = 3
 
--- ---- the kinds that stand outside the trees: 00 header, 01 shared cell, 02 module, 03 event
+-- ---- the kinds that stand outside the trees: 00 header, 01 shared cell, 02 module, 03 event, 04
+-- two schedulers in step
 abbrev pub isHeader : Kind → Bool
 isHeader Header = true
 isHeader (Declared d) = false
@@ -78,6 +83,9 @@ isShared k = declares Shared k
 abbrev pub isEvent : Kind → Bool
 isEvent k = declares Event k
 
+abbrev pub isLink : Kind → Bool
+isLink k = declares Link k
+
 abbrev pub isModule : Kind → Bool
 isModule Header = false
 isModule (Declared d) = false
@@ -91,10 +99,12 @@ abbrev sabc : Use → Use → Use → Use → Uses
 sabc s a b c = record { s = s; a = a; b = b; c = c }
 
 -- 01 shared cell: S owner (a scheduler), A content type, B first content. 02, change 5: 'K 03
--- declares an event with owner S, a scheduler'
+-- declares an event with owner S, a scheduler'; change 7: 'The S byte of K 04 .. names a scheduler,
+-- and its A names a lower one'
 abbrev pub declarationUses : DeclarationKind → Uses
 declarationUses Shared = sabc Use.Scheduler Use.ContentType Use.FirstContent Use.Unused
 declarationUses Event = sabc Use.Scheduler Use.Unused Use.Unused Use.Unused
+declarationUses Link = sabc Use.Scheduler Use.Lower Use.Unused Use.Unused
 
 -- 10 nothing; 11 A, then B; 12 do A at place S; 13 start module S with arguments A, B; 14 the same,
 -- then wait; 15 cooperate; 16 let the next variable be A, in B; 17 store B in cell A; 18 if A then
@@ -169,6 +179,7 @@ childIn Use.Free n = []
 childIn Use.Truth n = []
 childIn Use.Place n = []
 childIn Use.Scheduler n = []
+childIn Use.Lower n = []
 childIn Use.ContentType n = []
 childIn Use.FirstContent n = []
 childIn Use.Parameters n = []

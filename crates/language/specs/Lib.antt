@@ -1,5 +1,6 @@
 pub mod Places
 pub mod Types
+pub mod Groups
 pub mod Effects
 pub mod Kinds
 pub mod Verdicts

@@ -1,10 +1,15 @@
 // Effects: which schedulers' cells and events a statement or an expression may access.
 use crate::Place;
+use crate::group::LABELS;
+use crate::group::group_set;
 ghost use mathlib.Core.Path.{_≡_};
 ghost use mathlib.Core.Bool.{true};
 ghost use Rattle.language.specs.Places.{isScheduler};
-ghost use Rattle.language.specs.Effects.{only, withMember, setWithin};
-ghost use Rattle.language.specs.Effects.{noEffect, _∪_, withOwner, withEvent, within};
+ghost use lib.ListN.{length};
+ghost use Rattle.language.specs.Limits.{mostSchedulers};
+ghost use Rattle.language.specs.Effects.{only, withMember, setWithin, subset};
+ghost use Rattle.language.specs.Effects.{noEffect, _∪_, withOwner, withEvent};
+ghost use Rattle.language.specs.inner.Labels.{groupIn, withinIn};
 
 // Two sets of schedulers, 2 to 9, a bit for each: scheduler p is a member where bit p - 2 is set. So
 // each number is a set of schedulers.
@@ -42,6 +47,22 @@ fn set_within(set: u8, place: Place) -> bool
         return false;
     }
     set == bit_of(place)
+}
+
+// Whether each member is in step with the scheduler `place`: of a private place, whether there is
+// none.
+fn in_group(set: u8, labels: &[u8; LABELS], place: Place) -> bool
+    requires { ⌜ length (now labels) ≡ mostSchedulers ⌝ }
+    ensures { λ r. ⌜ r ≡ subset set (groupIn (now (labels .entry)) (place .number)) ⌝ }
+{
+    if set == 0 {
+        return true;
+    }
+    if !place.is_scheduler() {
+        return false;
+    }
+    let group = group_set(labels, place);
+    set | group == group
 }
 
 impl Effect {
@@ -103,13 +124,15 @@ impl Effect {
         }
     }
 
-    // Whether nothing but the scheduler `place` is a member of either set.
-    pub fn within(self, place: Place) -> bool
-        ensures { λ r. ⌜ r ≡ within (place .number) self ⌝ }
+    // Whether nothing but the scheduler `place` is a member of the cells' set, and nothing but
+    // schedulers in step with it of the events'.
+    pub fn within(self, labels: &[u8; LABELS], place: Place) -> bool
+        requires { ⌜ length (now labels) ≡ mostSchedulers ⌝ }
+        ensures { λ r. ⌜ r ≡ withinIn (now (labels .entry)) (place .number) self ⌝ }
     {
         if !set_within(self.cells, place) {
             return false;
         }
-        set_within(self.events, place)
+        in_group(self.events, labels, place)
     }
 }

@@ -3,10 +3,12 @@ ghost use mathlib.Core.Path.{_≡_};
 ghost use Rattle.language.specs.Kinds.{kindOf, classOf, isHeader, isModule};
 ghost use Rattle.language.specs.Kinds.{declarationRank, declares};
 
-// Declarations that stand before the modules: a shared cell, K 01; an event, K 03.
+// Declarations that stand before the modules: a shared cell, K 01; an event, K 03; two schedulers
+// in step, K 04.
 pub enum DeclarationKind {
     Shared,
     Event,
+    Link,
 }
 
 // Statements, K 10 to 1B.
@@ -66,6 +68,8 @@ pub enum Use {
     // A place of the file, private among them; a scheduler of the file.
     Place,
     Scheduler,
+    // A scheduler of the file below the one that S names.
+    Lower,
     // A child of that class.
     Statement,
     Expression,
@@ -97,6 +101,7 @@ pub fn kind_of(k: u8) -> Kind
         0x01 => Kind::Declared(DeclarationKind::Shared),
         0x02 => Kind::Module,
         0x03 => Kind::Declared(DeclarationKind::Event),
+        0x04 => Kind::Declared(DeclarationKind::Link),
         0x10 => Kind::Statement(StatementKind::Nothing),
         0x11 => Kind::Statement(StatementKind::Then),
         0x12 => Kind::Statement(StatementKind::DoAt),
@@ -142,6 +147,7 @@ pub fn declaration_rank(d: DeclarationKind) -> u8
     match d {
         DeclarationKind::Shared => 1,
         DeclarationKind::Event => 2,
+        DeclarationKind::Link => 3,
     }
 }
 

@@ -1,5 +1,5 @@
-// The words of the language: places here, and type words, effects, kinds of frames, frames and
-// verdicts in modules.
+// The words of the language: places here, and type words, effects, schedulers in step, kinds of
+// frames, frames and verdicts in modules.
 ghost use mathlib.Core.Path.{_≡_};
 ghost use mathlib.Core.Bool.{true};
 ghost use Prim.Native.Nat.{_-_};
@@ -10,6 +10,7 @@ ghost use Rattle.language.specs.inner.Reads.{placeRead};
 
 pub mod effect;
 pub mod frame;
+pub mod group;
 pub mod kind;
 pub mod limit;
 pub mod refusal;

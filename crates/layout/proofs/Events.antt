@@ -9,7 +9,7 @@ use lib.ListN.{length, getD}
 use Rattle.basics.specs.If.{if_then_else_, keepIf}
 use Rattle.language.specs.Kinds.{isEvent, uses}
 use Rattle.language.specs.Places.{hasScheduler}
-use Rattle.language.specs.declared.kind.DeclarationKind.the-variants.{Shared, Event}
+use Rattle.language.specs.declared.kind.DeclarationKind.the-variants.{Shared, Event, Link}
 use Rattle.language.specs.declared.kind.Kind.{Kind}
 use Rattle.language.specs.declared.kind.Kind.the-variants.{Header, Declared, Module, Statement}
 use Rattle.language.specs.declared.kind.Kind.the-variants.{Expression, Unknown}
@@ -26,6 +26,7 @@ use Rattle.layout.proofs.SharedCells.{header-there}
 pub is-event : (k : Kind) → isEvent k ≡ true → k ≡ Declared Event
 is-event (Declared Event) h = refl
 is-event (Declared Shared) h = absurd (true≢false (sym h))
+is-event (Declared Link) h = absurd (true≢false (sym h))
 is-event Header h = absurd (true≢false (sym h))
 is-event Module h = absurd (true≢false (sym h))
 is-event (Statement k) h = absurd (true≢false (sym h))

@@ -12,6 +12,7 @@ pub mod Parts
 pub mod Scopes
 pub mod SharedCells
 pub mod Events
+pub mod Links
 pub mod Users
 -- ---- the code: its passes over a text's lines find what Scans computes
 pub mod DisorderPass

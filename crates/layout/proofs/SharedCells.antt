@@ -11,7 +11,7 @@ use borrow.Author.Tests.{eqb-true}
 use Rattle.language.specs.Kinds.{isHeader, isShared}
 use Rattle.language.specs.Limits.{mostShared}
 use Rattle.language.specs.Refusals.{wrongHeader, wrongOrder}
-use Rattle.language.specs.declared.kind.DeclarationKind.the-variants.{Shared, Event}
+use Rattle.language.specs.declared.kind.DeclarationKind.the-variants.{Shared, Event, Link}
 use Rattle.language.specs.declared.kind.Kind.{Kind}
 use Rattle.language.specs.declared.kind.Kind.the-variants.{Header, Declared, Module}
 use Rattle.language.specs.declared.kind.Kind.the-variants.{Statement, Expression, Unknown}
@@ -87,6 +87,7 @@ module _ (fs : List Frame) (fine : NoFault fs) where
       go : (k : Kind) → frameAt fs i .kind ≡ k → isShared (frameAt fs i .kind) ≡ true
       go (Declared Shared) e = ap isShared e
       go (Declared Event) e = absurd (late (Declared Event) e (omega arith))
+      go (Declared Link) e = absurd (late (Declared Link) e (omega arith))
       go Module e = absurd (late Module e (omega arith))
       go (Statement k) e = absurd (late (Statement k) e (omega arith))
       go (Expression k) e = absurd (late (Expression k) e (omega arith))

@@ -10,7 +10,7 @@ use lib.ListN.{length}
 use borrow.Author.Tests.{ltb-true, ltb-false, leb-true, leb-false, eqb-true, eqb-false}
 use Rattle.basics.specs.Members.{In, any}
 use Rattle.language.specs.Kinds.{classOf, Child, children}
-use Rattle.language.specs.declared.kind.DeclarationKind.the-variants.{Shared, Event}
+use Rattle.language.specs.declared.kind.DeclarationKind.the-variants.{Shared, Event, Link}
 use Rattle.language.specs.declared.kind.Kind.{Kind}
 use Rattle.language.specs.declared.kind.Kind.the-variants.{Header, Declared, Module, Statement}
 use Rattle.language.specs.declared.kind.Kind.the-variants.{Expression, Unknown}
@@ -150,6 +150,7 @@ parent f c m = go (f .kind) refl
     go Header e = absurd (none-in (as-kind f Header e m))
     go (Declared Shared) e = absurd (none-in (as-kind f (Declared Shared) e m))
     go (Declared Event) e = absurd (none-in (as-kind f (Declared Event) e m))
+    go (Declared Link) e = absurd (none-in (as-kind f (Declared Link) e m))
     go Unknown e = absurd (none-in (as-kind f Unknown e m))
 
 module _ (fs : List Frame) (fine : NoFault fs) where

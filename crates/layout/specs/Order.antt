@@ -24,7 +24,8 @@ mutual
         → Row fs (suc (c .at)) stop cs
         → Row fs lo stop (c ∷ cs)
 
--- in which order the kinds stand: 'header, shared cells .., then the rest', and 02's events between
+-- in which order the kinds stand: 'header, shared cells .., then the rest', and 02's events and
+-- links between
 abbrev pub fileRank : Kind → ℕ
 fileRank Header = 0
 fileRank (Declared d) = declarationRank d

@@ -134,7 +134,7 @@ fn disorder(words: &[u64]) -> FaultSearch
 }
 
 // The rank of all that comes after the declarations.
-const LAST_RANK: u8 = 3;
+const LAST_RANK: u8 = 4;
 
 // In which order the kinds stand in a file.
 fn file_rank(k: Kind) -> u8

@@ -5,6 +5,7 @@ pub mod Climbs
 pub mod WaitLaws
 pub mod ListLaws
 pub mod PartitionLaws
+pub mod MovedLaws
 -- The same of the state that the words say: lists, and the end of an instant.
 pub mod SchedulerSays
 pub mod Instants

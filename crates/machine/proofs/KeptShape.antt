@@ -2,7 +2,7 @@
 -- as refusals 1 to 7 leave it, `FileFits`, which crate reach proves of them. Assumes nothing.
 use Prim.Native.Nat.{ℕ, suc, zero, _+_, _-_, _<_, _≤_}
 use mathlib.Core.Path.{_≡_, refl, sym, ap, _∙_, subst}
-use mathlib.Core.List.{List, [], _∷_, map}
+use mathlib.Core.List.{List, [], _∷_, _++_, map}
 use mathlib.Core.Bool.{Bool, true, false, not, _&&_}
 use mathlib.Core.Bool.{true≢false, _||_}
 use native.Mathlib.Omega.{arith}
@@ -38,10 +38,15 @@ use Rattle.machine.specs.Statements.{ends, drops, goesBack, stepNothing,
 use Rattle.machine.specs.Statements.{started, newThread, withStarted, starting, stepStart}
 use Rattle.machine.specs.Statements.{startedWait, stepStartWait, stepCooperate, stepLet}
 use Rattle.machine.specs.Statements.{stepStore, stepIf, stepWhile, stepStatement}
-use Rattle.machine.specs.Statements.{withSignal, isOwnEvent, signalling, wake, roomToWake}
+use Rattle.machine.specs.Statements.{withSignal, isOwnEvent, signalling, wake, wakeOnEach}
+use Rattle.machine.specs.Statements.{eventGroup, roomToWakeOn, roomToWake}
 use Rattle.machine.specs.Statements.{stepGenerate, stepAwait}
 use Rattle.machine.specs.inner.Parts.{turn, stepItems, stepThread, stepScheduler}
-use Rattle.machine.specs.Steps.{stepThreadWithin, turnInstant, endInstant, isUnlinked, step}
+use Rattle.machine.specs.Steps.{stepThreadWithin, endOn, endOnEach, endInstant, isUnlinked}
+use Rattle.machine.specs.Steps.{step}
+use Rattle.machine.specs.Groups.{members}
+use Rattle.machine.proofs.GroupLaws.{every-each, woken-present, ended-present}
+use Rattle.language.specs.Groups.{inStep}
 use Rattle.machine.specs.Steps.{stepWithin}
 use Rattle.machine.specs.Steps.{withoutEventsOf}
 use Rattle.machine.specs.Runs.{stateFrom, stateAfter}
@@ -55,7 +60,7 @@ use Rattle.machine.specs.declared.value.Value.{Value}
 use Rattle.machine.specs.declared.value.Value.the-variants.{Number, Truth, Cell}
 use Rattle.machine.specs.declared.value.Outcome.{Outcome}
 use Rattle.machine.specs.declared.value.Outcome.the-variants.{Is, Foreign, Spent, Stuck}
-use Rattle.machine.proofs.Lists.{all-getD, all-map, all-append, all-take}
+use Rattle.machine.proofs.Lists.{all-getD, all-map, all-imply, all-append, all-take}
 use Rattle.machine.proofs.Space.{leave-threads, nth-length, parted}
 use Rattle.machine.proofs.Space.{own-linked}
 use Rattle.machine.proofs.InShape.{shaped-in-range}
@@ -102,14 +107,20 @@ pub record FileFits (fs : List Frame) (P : Program) (n : ℕ) : Type 0 where
 
 -- ---- how many entries next lists have, when a scheduler is replaced
 
+-- what is measured of a scheduler, when one is replaced by one that measures as much
+measured : (f : Scheduler → ℕ) (xs : List Scheduler) (i j : ℕ) (y : Scheduler)
+    → f y ≡ f (getD xs i noScheduler)
+    → f (getD (set xs i y) j noScheduler) ≡ f (getD xs j noScheduler)
+measured f [] i j y e = refl
+measured f (x ∷ xs) zero zero y e = e
+measured f (x ∷ xs) zero (suc j) y e = refl
+measured f (x ∷ xs) (suc i) zero y e = refl
+measured f (x ∷ xs) (suc i) (suc j) y e = measured f xs i j y e
+
 next-same : (xs : List Scheduler) (i j : ℕ) (y : Scheduler)
     → length (y .next) ≡ length (getD xs i noScheduler .next)
     → length (getD (set xs i y) j noScheduler .next) ≡ length (getD xs j noScheduler .next)
-next-same [] i j y e = refl
-next-same (x ∷ xs) zero zero y e = e
-next-same (x ∷ xs) zero (suc j) y e = refl
-next-same (x ∷ xs) (suc i) zero y e = refl
-next-same (x ∷ xs) (suc i) (suc j) y e = next-same xs i j y e
+next-same = measured (λ (x : Scheduler). length (x .next))
 
 next-more : (xs : List Scheduler) (i : ℕ) (y : Scheduler)
     → length (y .next) ≡ length (getD xs i noScheduler .next) + 1
@@ -117,6 +128,34 @@ next-more : (xs : List Scheduler) (i : ℕ) (y : Scheduler)
 next-more [] i y e = omega arith
 next-more (x ∷ xs) zero y e = omega arith
 next-more (x ∷ xs) (suc i) y e = next-more xs i y e
+
+-- ---- how many threads are active once those that await event e are
+abbrev pub awakeOn : ℕ → Scheduler → ℕ
+awakeOn e x = length (x .active) + length (threadsWhere (isAwaiting e) (x .next))
+
+-- the entries that stay do not pass
+none-left : (test : Entry → Bool) (es : List Entry) → threadsWhere test (entriesExcept test es) ≡ []
+unfolding threadsWhere entriesExcept
+none-left test [] = refl
+none-left test (e ∷ es) = go (test e) refl (none-left test es)
+  where
+    go : (b : Bool) → test e ≡ b → threadsWhere test (entriesExcept test es) ≡ []
+        → threadsWhere test (keepIf (not b) e (entriesExcept test es)) ≡ []
+    go true t h = h
+    go false t h =
+        ap (λ (b : Bool). keepIf b (entryThread e) (threadsWhere test (entriesExcept test es))) t ∙ h
+
+-- they are as many before as after, there and on every other scheduler
+pub woken-load : (q e : ℕ) (s : State) (k : ℕ)
+    → awakeOn e (schedulerAt (wake q e s) k) ≡ awakeOn e (schedulerAt s k)
+unfolding wake
+woken-load q e s k =
+    let x = schedulerAt s q in
+    let l = length-append (x .active) (threadsWhere (isAwaiting e) (x .next)) in
+    let m = ap length (none-left (isAwaiting e) (x .next)) in
+    measured (awakeOn e) (s .schedulers) (q - 2) (k - 2)
+    (record { active = x .active ++ threadsWhere (isAwaiting e) (x .next); next = entriesExcept (isAwaiting e) (x .next) })
+    (omega arith)
 
 module _ (fs : List Frame) (P : Program) (n : ℕ) (F : FileFits fs P n) where
   -- a place's number fits the word of a 'back'
@@ -485,19 +524,23 @@ module _ (fs : List Frame) (P : Program) (n : ℕ) (F : FileFits fs P n) where
       with-scheduler s q _ z
       (record { active-room = omega arith; next-room = omega arith; threads = all-append (x .threads) (chosen-fit (isAwaiting e) es (x .entries)); entries = others-fit (isAwaiting e) es (x .entries) })
 
-  wake-present : (q e : ℕ) (s : State) → wake q e s .present ≡ s .present
-  unfolding wake
-  wake-present q e s = refl
-
-  pub awake-room : (u : Turn) (e : ℕ) → u .spaces ≡ stateSpaces → roomToWake u e ≡ true
-      → length (schedulerAt (u .state) (ownerOfEvent (u .program) e) .active)
-      + length (threadsWhere (isAwaiting e) (schedulerAt (u .state) (ownerOfEvent (u .program) e) .next)) ≤ 64
-  unfolding roomToWake
-  awake-room u e s h =
-      let x = schedulerAt (u .state) (ownerOfEvent (u .program) e) in
-      let l = length (x .active) + length (threadsWhere (isAwaiting e) (x .next)) in
+  pub awake-room-on : (u : Turn) (e q : ℕ) → u .spaces ≡ stateSpaces → roomToWakeOn u e q ≡ true
+      → awakeOn e (schedulerAt (u .state) q) ≤ 64
+  unfolding roomToWakeOn
+  awake-room-on u e q s h =
+      let l = awakeOn e (schedulerAt (u .state) q) in
       let g = leb-true l _ (sym (ap (λ (z : Spaces). holds (z .entries) l) s) ∙ h) in
       omega arith
+
+  -- each member has room, and has it still when others were woken
+  woken-fits : (qs : List ℕ) (e : ℕ) (s : State) → Shaped fs n s
+      → All (λ (q : ℕ). awakeOn e (schedulerAt s q) ≤ 64) qs → Shaped fs n (wakeOnEach qs e s)
+  unfolding wakeOnEach
+  woken-fits [] e s z none = z
+  woken-fits (q ∷ qs) e s z (more r a) =
+      woken-fits qs e (wake q e s) (wake-fits s q e z r)
+      (all-imply {Q = λ (k : ℕ). awakeOn e (schedulerAt (wake q e s) k) ≤ 64}
+      (λ k l. subst (λ (m : ℕ). m ≤ 64) (sym (woken-load q e s k)) l) a)
 
   keeps-signalling : (u : Turn) (e : ℕ) (b : Bool) (r : Turn → StepResult) → TurnFits u
       → (e < length (u .program .events) → b ≡ true → unlinkedHere u ≡ false → Keeps (r (withSignal u e)))
@@ -511,14 +554,21 @@ module _ (fs : List Frame) (P : Program) (n : ℕ) (F : FileFits fs P n) where
       (λ _. k .before)))
 
   keeps-generate : (u : Turn) (e : ℕ) → TurnFits u → Keeps (stepGenerate u e)
-  unfolding stepGenerate
+  unfolding stepGenerate roomToWake
   keeps-generate u e k =
-      let q = ownerOfEvent (u .program) e in
+      let qs = eventGroup (u .program) e in
       let s = settled u (u .self) in
       keeps-signalling u e (roomToWake u e) _ k
-      (λ l r j. with-present (wake q e s) (set (u .state .present) e true)
-      (wake-fits s q e (keeps-settled u (u .self) k (k .self)) (awake-room u e (k .spaces) r))
-      (length-set (u .state .present) e true ∙ ap length (sym (wake-present q e s))))
+      (λ l r j. with-present (wakeOnEach qs e s) (set (u .state .present) e true)
+      (woken-fits qs e s (keeps-settled u (u .self) k (k .self)) (rooms r))
+      (length-set (u .state .present) e true ∙ ap length (sym (woken-present qs e s))))
+    where
+      rooms : roomToWake u e ≡ true
+          → All (λ (q : ℕ). awakeOn e (schedulerAt (u .state) q) ≤ 64) (eventGroup (u .program) e)
+      rooms r =
+          all-imply {Q = λ (q : ℕ). awakeOn e (schedulerAt (u .state) q) ≤ 64}
+          (λ q h. awake-room-on u e q (k .spaces) h)
+          (every-each (roomToWakeOn u e) (eventGroup (u .program) e) r)
 
   keeps-await : (u : Turn) (e : ℕ) → TurnFits u → Keeps (stepAwait u e)
   unfolding stepAwait
@@ -544,7 +594,7 @@ module _ (fs : List Frame) (P : Program) (n : ℕ) (F : FileFits fs P n) where
           let m : e < frameAt fs 0 .c = subst (λ (i : ℕ). e < i) (F .events) (subst (λ (p : Program). e < length (p .events)) (k .program) l) in
           enlist-fits (leave v (settled v y)) (here u) (awaiting (u .thread) e) (leave-fits v (settled v y) z) (awaiting-fits (k .thread) m) (omega arith)
 
-  cleared-length : (c : ℕ) (os : List ℕ) (bs : List Bool)
+  cleared-length : (c : ℕ → Bool) (os : List ℕ) (bs : List Bool)
       → length (withoutEventsOf c os bs) ≡ length bs
   unfolding withoutEventsOf
   cleared-length c [] bs = refl
@@ -646,25 +696,29 @@ module _ (fs : List Frame) (P : Program) (n : ℕ) (F : FileFits fs P n) where
 
   -- ---- the end of an instant
 
-  keeps-instant : (s : State) (c : ℕ) (ts : List ℕ) (es : List Entry) → Shaped fs n s
-      → All IsThread ts → All (EntryFits (frameAt fs 0 .c)) es → length ts + length es ≤ 64
-      → Keeps (turnInstant P s c ts es)
-  keeps-instant s c [] es z a b l = z
-  keeps-instant s c (t ∷ ts) es z a b l =
-      with-present (withScheduler c _ s) _
-      (with-scheduler s c _ z (record { active-room = omega arith; next-room = omega arith; threads = a; entries = b }))
-      (cleared-length c (P .events) (s .present))
+  end-fits : (q : ℕ) (s : State) → Shaped fs n s → Shaped fs n (endOn q s)
+  unfolding endOn
+  end-fits q s z =
+      let es = schedulerAt s q .next in
+      let x = scheduler-fits s z q in
+      let l = parted (isReady (s .threads)) es in
+      let m = x .next-room in
+      with-scheduler s q _ z
+      (record { active-room = omega arith; next-room = omega arith; threads = chosen-fit (isReady (s .threads)) es (x .entries); entries = others-fit (isReady (s .threads)) es (x .entries) })
+
+  ended-fits : (qs : List ℕ) (s : State) → Shaped fs n s → Shaped fs n (endOnEach qs s)
+  unfolding endOnEach
+  ended-fits [] s z = z
+  ended-fits (q ∷ qs) s z = ended-fits qs (endOn q s) (end-fits q s z)
 
   keeps-scheduler : (s : State) (c : ℕ) (ts : List ℕ) → Shaped fs n s → All IsThread ts
       → Keeps (stepScheduler P s c ts)
   unfolding endInstant
   keeps-scheduler s c [] z a =
-      let es = schedulerAt s c .next in
-      let x = scheduler-fits s z c in
-      let l = parted (isReady (s .threads)) es in
-      let m = x .next-room in
-      keeps-instant s c (readyThreads (s .threads) es) (stillWaiting (s .threads) es) z
-      (chosen-fit (isReady (s .threads)) es (x .entries)) (others-fit (isReady (s .threads)) es (x .entries)) (omega arith)
+      let qs = members P c in
+      if-all Keeps _ _ _ (λ _. z) (λ _. if-all Keeps _ _ _ (λ _. z)
+      (λ _. with-present (endOnEach qs s) _ (ended-fits qs s z)
+      (cleared-length (inStep (P .links) c) (P .events) (s .present) ∙ ap length (sym (ended-present qs s)))))
   keeps-scheduler s c (t ∷ ts) z (more h a) = keeps-thread s c t z h
 
   pub unlinked-is : (s : State) (c : ℕ) → Shaped fs n s → isUnlinked s c ≡ true → IsThread (c - 16)

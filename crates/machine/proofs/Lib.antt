@@ -6,6 +6,10 @@ pub mod UsedCells
 pub mod Primitives
 -- The ready test finds the whole family.
 pub mod Families
+-- What is done on each member of a group.
+pub mod GroupLaws
+-- Without links each choice gives what it gave before change 7.
+pub mod Alone
 -- Whose cells are accessed: by an evaluation, by a choice; and that a refused choice leaves the
 -- state. What a choice can answer.
 pub mod Owns

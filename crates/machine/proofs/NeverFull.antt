@@ -32,10 +32,11 @@ use Rattle.machine.specs.Statements.{ends, drops, goesBack, stepNothing,
 use Rattle.machine.specs.Statements.{started, starting, stepStart, startedWait, stepStartWait}
 use Rattle.machine.specs.Statements.{stepCooperate, stepLet, stepStore, stepIf, stepWhile}
 use Rattle.machine.specs.Statements.{stepStatement}
-use Rattle.machine.specs.Statements.{withSignal, isOwnEvent, signalling, wake, roomToWake}
+use Rattle.machine.specs.Statements.{withSignal, isOwnEvent, signalling, eventGroup}
+use Rattle.machine.specs.Statements.{roomToWakeOn, roomToWake}
 use Rattle.machine.specs.Statements.{stepGenerate, stepAwait}
 use Rattle.machine.specs.inner.Parts.{turn, stepItems, stepThread, stepScheduler}
-use Rattle.machine.specs.Steps.{stepItemsWithin, stepThreadWithin, turnInstant, endInstant}
+use Rattle.machine.specs.Steps.{stepItemsWithin, stepThreadWithin}
 use Rattle.machine.specs.Steps.{stepSchedulerWithin, isUnlinked, step, stepWithin}
 use Rattle.machine.specs.Runs.{stateFrom, stateAfter}
 use Rattle.machine.specs.declared.value.Value.{Value}
@@ -46,6 +47,7 @@ use Rattle.machine.proofs.Space.{Counted, Acting, room-one, room-two, l
 use Rattle.machine.proofs.Space.{acting-with, free-same, unlinked-free, counted-step}
 use Rattle.machine.proofs.Space.{fresh-counted}
 use Rattle.machine.proofs.Space.{room-awake}
+use Rattle.machine.proofs.GroupLaws.{every-all, woken-threads, instant-threads}
 use Rattle.machine.proofs.Continuations.{height, lets, Roomy, no-items, run-item, roomy-fits}
 use Rattle.machine.proofs.Continuations.{fits-true, roomy-seq, roomy-do, roomy-let}
 use Rattle.machine.proofs.Continuations.{roomy-while, roomy-then, roomy-else, below-run}
@@ -252,9 +254,14 @@ started-roomy u m vs r l e =
 
 -- ---- events
 
+endless-awake-on : (u : Turn) (e q : ℕ) → roomToWakeOn (endlessly u) e q ≡ true
+unfolding roomToWakeOn
+endless-awake-on u e q = refl
+
 endless-awake : (u : Turn) (e : ℕ) → roomToWake (endlessly u) e ≡ true
 unfolding roomToWake
-endless-awake u e = refl
+endless-awake u e =
+    every-all (roomToWakeOn (endlessly u) e) (eventGroup (u .program) e) (endless-awake-on u e)
 
 either-room : (a b c : Bool) → c ≡ true → (a || b || c) ≡ true
 either-room true b c e = refl
@@ -276,7 +283,7 @@ never-signalling u e b d k l r f g h =
 
 never-statement : (u : Turn) (x : Stmt) → Ready (run x) u
     → Never (stepStatement u x) (stepStatement (endlessly u) x)
-unfolding stepNothing stepSeq stepDo stepStart startedWait stepStartWait stepCooperate stepLet stepStore stepIf stepWhile stepGenerate stepAwait enlist leave wake
+unfolding stepNothing stepSeq stepDo stepStart startedWait stepStartWait stepCooperate stepLet stepStore stepIf stepWhile stepGenerate stepAwait enlist leave
 never-statement u (nothing i) r = never-stay u _ _ r (below-run (r .top))
 never-statement u (seq i a b) r = never-stay u _ _ r (roomy-seq (r .top))
 never-statement u (doAt i q a) r = never-if _ _ _ _ _ (λ _. never-refuse u 20 r) (λ _. never-goTo u q _ r (roomy-do (here u) (r .top)))
@@ -304,7 +311,9 @@ never-statement u (while i x a) r =
 never-statement u (generate i e) r =
     never-signalling u e (roomToWake u e) (roomToWake (endlessly u) e) _ _ r
     (room-awake u (r .acting) e) (endless-awake u e)
-    (never-accept (withSignal u e) _ (with-roomy (u .state .threads) (u .thread) (u .self) (r .before) (below-run (r .top))))
+    (never-accept (withSignal u e) _
+    (subst RoomyThreads (sym (woken-threads (eventGroup (u .program) e) e (settled u (u .self))))
+    (with-roomy (u .state .threads) (u .thread) (u .self) (r .before) (below-run (r .top)))))
 never-statement u (await i e) r =
     let y = threadAt (u .state) (u .thread) in
     never-signalling u e _ _ _ _ r
@@ -351,18 +360,11 @@ module _ (p : Program) (bodies : BodiesFit p) (s : State) (c : ℕ) (before : Ro
   unfolding stepThreadWithin
   never-thread t a = never-items t (threadAt s t .continuation) a (before t)
 
-  never-instant : (ts : List ℕ) (es : List Entry)
-      → Never (turnInstant p s c ts es) (turnInstant p s c ts es)
-  never-instant [] es = record { same = refl; roomy = before }
-  never-instant (t ∷ ts) es = record { same = refl; roomy = before }
-
   never-scheduler : (ts : List ℕ) → Counted s → isSchedulerOf p c ≡ true
       → ts ≡ schedulerAt s c .active
       → Never (stepScheduler p s c ts) (stepSchedulerWithin endlessSpaces p s c ts)
-  unfolding endInstant
   never-scheduler [] h i e =
-      let es = schedulerAt s c .next in
-      never-instant (readyThreads (s .threads) es) (stillWaiting (s .threads) es)
+      record { same = refl; roomy = subst RoomyThreads (sym (instant-threads p s c)) before }
   never-scheduler (t ∷ ts) h i e =
       let n = ap (length {A = ℕ}) e in
       never-thread t (record { counted = h; stands = inl (i, omega arith); same = free-same p s c t; spaces = refl })
@@ -407,7 +409,8 @@ module _ (p : Program) (bodies : BodiesFit p) where
 
 -- a program of one scheduler, and a state of one thread, active there
 abbrev plainProgram : Program
-plainProgram = record { allowance = 1; schedulers = 1; shared = []; events = []; modules = [] }
+plainProgram =
+    record { allowance = 1; schedulers = 1; shared = []; events = []; links = []; modules = [] }
 
 abbrev ownState : List Item → List Value → List Entry → State
 ownState items vars entries =

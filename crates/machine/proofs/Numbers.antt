@@ -16,7 +16,7 @@ use Rattle.machine.specs.Evaluation.{Here, EvalResult, Evaluation, eval,
 use Rattle.machine.specs.Turns.{StepResult, Turn, afterEval, evaluator, goOn, withValue, withValues}
 use Rattle.machine.specs.Turns.{byCondition, stay, move, goTo}
 use Rattle.machine.specs.inner.Parts.{stepItems, stepThread, turn, stepScheduler}
-use Rattle.machine.specs.Steps.{stepThreadWithin, turnInstant, endInstant, step, stepWithin}
+use Rattle.machine.specs.Steps.{stepThreadWithin, endInstant, step, stepWithin}
 use Rattle.machine.specs.Statements.{ends, drops, goesBack, stepNothing, stepSeq, stepDo}
 use Rattle.machine.specs.Statements.{starting, stepStart, startedWait, stepStartWait}
 use Rattle.machine.specs.Statements.{stepCooperate, stepLet, stepStore, stepIf, stepWhile}
@@ -126,17 +126,10 @@ number-thread : (p : Program) (s : State) (c t : ℕ) → Numbered (stepThread p
 unfolding stepThreadWithin
 number-thread p s c t = number-items p s c t (threadAt s t .continuation)
 
-number-instant : (p : Program) (s : State) (c : ℕ) (ts : List ℕ) (es : List Entry)
-    → Numbered (turnInstant p s c ts es)
-number-instant p s c [] es = is-16
-number-instant p s c (t ∷ ts) es = is-0
-
 number-scheduler : (p : Program) (s : State) (c : ℕ) (ts : List ℕ)
     → Numbered (stepScheduler p s c ts)
 unfolding endInstant
-number-scheduler p s c [] =
-    let es = schedulerAt s c .next in
-    number-instant p s c (readyThreads (s .threads) es) (stillWaiting (s .threads) es)
+number-scheduler p s c [] = number-if _ _ _ is-16 (number-if _ _ _ is-16 is-0)
 number-scheduler p s c (t ∷ ts) = number-thread p s c t
 
 pub numbered : (p : Program) (s : State) (c : ℕ) → Numbered (step p s c)

@@ -33,14 +33,19 @@ use Rattle.machine.specs.Turns.{Spaces, holds, stateSpaces, StepResult, 
 use Rattle.machine.specs.Turns.{afterEval, evaluator, goOn, withValue, withValues, byCondition}
 use Rattle.machine.specs.Turns.{selfAt, settled, afterFirst, isSchedulerOf, leave, room}
 use Rattle.machine.specs.Turns.{unlinkedHere, stay, move, goTo}
-use Rattle.machine.specs.Steps.{isUnlinked, stepThreadWithin, turnInstant, endInstant, step}
+use Rattle.machine.specs.Steps.{isUnlinked, stepThreadWithin, endOn, endOnEach, endInstant}
+use Rattle.machine.specs.Steps.{step}
+use Rattle.machine.specs.Groups.{members}
+use Rattle.machine.proofs.GroupLaws.{every-all, woken-threads, ended-threads}
+use Rattle.language.specs.Groups.{inStep}
 use Rattle.machine.specs.Steps.{stepWithin}
 use Rattle.machine.specs.inner.Parts.{stepItems, stepThread, turn, stepScheduler}
 use Rattle.machine.specs.Statements.{ends, drops, goesBack, stepNothing, stepSeq, stepDo}
 use Rattle.machine.specs.Statements.{started, starting, stepStart, startedWait, stepStartWait}
 use Rattle.machine.specs.Statements.{stepCooperate, stepLet, stepStore, stepIf, stepWhile}
 use Rattle.machine.specs.Statements.{stepStatement}
-use Rattle.machine.specs.Statements.{withSignal, isOwnEvent, signalling, wake, roomToWake}
+use Rattle.machine.specs.Statements.{withSignal, isOwnEvent, signalling, wake, wakeOnEach}
+use Rattle.machine.specs.Statements.{eventGroup, roomToWakeOn, roomToWake}
 use Rattle.machine.specs.Statements.{stepGenerate, stepAwait}
 use Rattle.machine.specs.declared.value.Value.{Value}
 use Rattle.machine.specs.declared.value.Value.the-variants.{Number, Truth, Cell}
@@ -429,31 +434,39 @@ wake-total q e s =
     let l = length-append (x .active) (threadsWhere (isAwaiting e) (x .next)) in
     omega arith)
 
-wake-threads : (q e : ℕ) (s : State) → wake q e s .threads ≡ s .threads
-unfolding wake
-wake-threads q e s = refl
+-- and so on each member
+woken-total : (qs : List ℕ) (e : ℕ) (s : State)
+    → total (wakeOnEach qs e s .schedulers) ≤ total (s .schedulers)
+unfolding wakeOnEach
+woken-total [] e s = omega arith
+woken-total (q ∷ qs) e s =
+    let a = woken-total qs e (wake q e s) in let b = wake-total q e s in omega arith
 
-woken-counted : (q e : ℕ) (l : List Bool) (s : State) → Counted s
-    → Counted (withPresent l (wake q e s))
-woken-counted q e l s h =
-    let g = wake-total q e s in
-    let t = ap (length {A = Thread}) (wake-threads q e s) in
-    let m = ap unlinkedCount (wake-threads q e s) in
+woken-counted : (qs : List ℕ) (e : ℕ) (l : List Bool) (s : State) → Counted s
+    → Counted (withPresent l (wakeOnEach qs e s))
+woken-counted qs e l s h =
+    let g = woken-total qs e s in
+    let t = ap (length {A = Thread}) (woken-threads qs e s) in
+    let m = ap unlinkedCount (woken-threads qs e s) in
     let a = h .count in
     let b = h .most in
     record { most = omega arith; count = omega arith }
 
 -- the threads that a generation wakes have room
-pub room-awake : (u : Turn) → Acting u → (e : ℕ) → roomToWake u e ≡ true
-unfolding roomToWake
-room-awake u a e =
-    let q = ownerOfEvent (u .program) e in
+room-awake-on : (u : Turn) → Acting u → (e q : ℕ) → roomToWakeOn u e q ≡ true
+unfolding roomToWakeOn
+room-awake-on u a e q =
     let x = schedulerAt (u .state) q in
     let g = both-le (u .state .schedulers) (q - 2) (q - 2) in
     let l = parted (isAwaiting e) (x .next) in
     let c = a .counted .count in
     let m = a .counted .most in
     in-entries u a (length (x .active) + length (threadsWhere (isAwaiting e) (x .next))) (omega arith)
+
+pub room-awake : (u : Turn) → Acting u → (e : ℕ) → roomToWake u e ≡ true
+unfolding roomToWake
+room-awake u a e =
+    every-all (roomToWakeOn u e) (eventGroup (u .program) e) (room-awake-on u a e)
 
 pub signal-acting : (u : Turn) (e : ℕ) → Acting u → Acting (withSignal u e)
 signal-acting u e a =
@@ -462,7 +475,7 @@ signal-acting u e a =
 pub own-linked : (u : Turn) (e : ℕ) → isOwnEvent u e ≡ true → unlinkedHere u ≡ false
 unfolding isOwnEvent
 own-linked u e h =
-    let a = leb-true 2 (here u) (and-true (leb 2 (here u)) (eqb (ownerOfEvent (u .program) e) (here u)) h .0) in
+    let a = leb-true 2 (here u) (and-true (leb 2 (here u)) (inStep (u .program .links) (ownerOfEvent (u .program) e) (here u)) h .0) in
     ne-eqb (here u) 1 (λ z. omega arith)
 
 -- the thread stands on its scheduler, since an event's owner is one
@@ -524,27 +537,35 @@ kept-thread : (p : Program) (s : State) (c t : ℕ) → Acting (turn p s c t [])
 unfolding stepThreadWithin
 kept-thread p s c t a = kept-items p s c t (threadAt s t .continuation) a
 
-weighs : (s : State) (c : ℕ) (ts : List ℕ) (es : List Entry)
-    → length ts + length es ≤ weight (schedulerAt s c)
-    → weight (record { active = ts; next = es }) ≤ weight (schedulerAt s c) + 0
-unfolding weight
-weighs s c ts es h = omega arith
+-- the end of an instant moves entries of each member between its lists
+end-total : (q : ℕ) (s : State) → total (endOn q s .schedulers) ≤ total (s .schedulers) + 0
+unfolding endOn weight
+end-total q s =
+    let es = schedulerAt s q .next in
+    total-set-le (s .schedulers) (q - 2) 0 _
+    (let g = parted (isReady (s .threads)) es in omega arith)
 
-kept-instant : (p : Program) (s : State) (c : ℕ) (ts : List ℕ) (es : List Entry) → Counted s
-    → length ts + length es ≤ weight (schedulerAt s c) → Kept (turnInstant p s c ts es)
-kept-instant p s c [] es h l = h
-kept-instant p s c (t ∷ ts) es h l =
-    let g = total-set-le (s .schedulers) (c - 2) 0 (record { active = t ∷ ts; next = es }) (weighs s c (t ∷ ts) es l) in
-    let n = h .count in
-    record { most = h .most; count = omega arith }
+ended-total : (qs : List ℕ) (s : State)
+    → total (endOnEach qs s .schedulers) ≤ total (s .schedulers)
+unfolding endOnEach
+ended-total [] s = omega arith
+ended-total (q ∷ qs) s = let a = ended-total qs (endOn q s) in let b = end-total q s in omega arith
+
+ended-counted : (qs : List ℕ) (l : List Bool) (s : State) → Counted s
+    → Counted (withPresent l (endOnEach qs s))
+ended-counted qs l s h =
+    let g = ended-total qs s in
+    let t = ap (length {A = Thread}) (ended-threads qs s) in
+    let m = ap unlinkedCount (ended-threads qs s) in
+    let a = h .count in
+    let b = h .most in
+    record { most = omega arith; count = omega arith }
 
 kept-scheduler : (p : Program) (s : State) (c : ℕ) (ts : List ℕ) → Counted s
     → isSchedulerOf p c ≡ true → ts ≡ schedulerAt s c .active → Kept (stepScheduler p s c ts)
-unfolding endInstant weight
+unfolding endInstant
 kept-scheduler p s c [] h i e =
-    let es = schedulerAt s c .next in
-    let q = parted (isReady (s .threads)) es in
-    kept-instant p s c (readyThreads (s .threads) es) (stillWaiting (s .threads) es) h (omega arith)
+    kept-if _ _ _ (λ _. h) (λ _. kept-if _ _ _ (λ _. h) (λ _. ended-counted (members p c) _ s h))
 kept-scheduler p s c (t ∷ ts) h i e =
     let n = ap (length {A = ℕ}) e in
     kept-thread p s c t (record { counted = h; stands = inl (i, omega arith); same = free-same p s c t; spaces = refl })

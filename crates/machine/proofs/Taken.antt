@@ -25,14 +25,17 @@ use Rattle.machine.specs.Waits.{readyThreads, stillWaiting}
 use Rattle.machine.specs.Evaluation.{Here, EvalResult, Evaluation, eval, storing}
 use Rattle.machine.specs.Turns.{Spaces, StepResult, Turn, here, continuation, variables, refuse}
 use Rattle.machine.specs.Turns.{afterEval, evaluator, goOn, withValue, withValues, byCondition}
-use Rattle.machine.specs.Turns.{isSchedulerOf, room, fits, unlinkedHere, stay, move, goTo}
+use Rattle.machine.specs.Turns.{isSchedulerOf, settled, room, fits, unlinkedHere, stay, move}
+use Rattle.machine.specs.Turns.{goTo}
 use Rattle.machine.specs.Statements.{ends, drops, goesBack, stepNothing, stepSeq, stepDo}
 use Rattle.machine.specs.Statements.{started, starting, stepStart, startedWait, stepStartWait}
 use Rattle.machine.specs.Statements.{stepCooperate, stepLet, stepStore, stepIf, stepWhile}
 use Rattle.machine.specs.Statements.{stepStatement}
-use Rattle.machine.specs.Statements.{withSignal, isOwnEvent, signalling, wake, stepGenerate}
+use Rattle.machine.specs.Statements.{withSignal, isOwnEvent, signalling, eventGroup}
+use Rattle.machine.specs.Statements.{stepGenerate}
 use Rattle.machine.specs.Statements.{stepAwait}
-use Rattle.machine.specs.Steps.{turnWithin, stepItemsWithin, stepThreadWithin, turnInstant}
+use Rattle.machine.specs.Steps.{turnWithin, stepItemsWithin, stepThreadWithin}
+use Rattle.machine.proofs.GroupLaws.{woken-threads, ended-threads}
 use Rattle.machine.specs.Steps.{endInstant, stepSchedulerWithin, isUnlinked, stepWithin}
 use Rattle.machine.specs.declared.value.Value.{Value}
 use Rattle.machine.specs.declared.value.Value.the-variants.{Number, Truth, Cell}
@@ -256,9 +259,11 @@ module _ (P : Program) where
       (λ _. refused refl refl (λ z. omega (arith, z)))))
 
   did-generate : (u : Turn) (i e : ℕ) → DidIn u (run (generate i e)) (stepGenerate u e)
-  unfolding stepGenerate wake
+  unfolding stepGenerate
   did-generate u i e =
-      did-signalling u _ e _ _ (went refl refl [] (u .self) g-generate refl (only refl))
+      did-signalling u _ e _ _
+      (went refl refl [] (u .self) g-generate refl
+      (only (woken-threads (eventGroup (u .program) e) e (settled u (u .self)))))
 
   did-await : (u : Turn) (i e : ℕ) → DidIn u (run (await i e)) (stepAwait u e)
   unfolding stepAwait
@@ -328,16 +333,12 @@ module _ (P : Program) where
     unfolding stepThreadWithin
     chose-thread s c t = chose-items s c t (threadAt s t .continuation) refl
 
-    chose-instant : (s : State) (c : ℕ) (ts : List ℕ) (es : List Entry)
-        → Chose s (turnInstant P s c ts es)
-    chose-instant s c [] es = nobody-acts refl refl
-    chose-instant s c (t ∷ ts) es = nobody-acts refl refl
-
     chose-scheduler : (s : State) (c : ℕ) (ts : List ℕ) → Chose s (stepSchedulerWithin z P s c ts)
     unfolding endInstant
     chose-scheduler s c [] =
-        let es = schedulerAt s c .next in
-        chose-instant s c (readyThreads (s .threads) es) (stillWaiting (s .threads) es)
+        if-all (Chose s) _ _ _ (λ _. nobody-acts refl refl)
+        (λ _. if-all (Chose s) _ _ _ (λ _. nobody-acts refl refl)
+        (λ _. nobody-acts refl (ended-threads _ s)))
     chose-scheduler s c (t ∷ ts) = chose-thread s c t
 
     pub chose : (s : State) (c : ℕ) → Chose s (stepWithin z P s c)

@@ -1,6 +1,6 @@
 -- Accesses to cells and to events.
-use Rattle.basics.specs.Prelude.{ℕ, _≤_, _≡_, _⊎_}
-use Rattle.language.specs.Places.{home}
+use Rattle.basics.specs.Prelude.{List, ℕ, _≤_, _≡_, _⊎_}
+use Rattle.language.specs.{Places.home, Groups.Link, Groups.InStep}
 use Rattle.machine.specs.State.{threadOwner}
 
 -- 01's touch, 'read, store or creation' of a cell: its owner at that time, and which thread acted,
@@ -23,6 +23,6 @@ pub record Signal : Type 0 where
   pub thread : ℕ
   pub place : ℕ
 
--- 02, change 5: 'only from its owner's scheduler'
-abbrev pub OwnSignal : Signal → Type 0
-OwnSignal x = (home ≤ x .place) × (x .owner ≡ x .place)
+-- 02, change 7: 'only from its owner's scheduler or one in step with it'
+abbrev pub OwnSignal : List Link → Signal → Type 0
+OwnSignal ls x = (home ≤ x .place) × InStep ls (x .owner) (x .place)

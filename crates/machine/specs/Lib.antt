@@ -6,8 +6,10 @@ pub mod Accesses
 pub mod Evaluation
 pub mod Waits
 pub mod Turns
+pub mod Groups
 pub mod Statements
 pub mod Steps
+pub mod Alone
 pub mod Runs
 pub mod Words
 pub mod Shapes

@@ -1,11 +1,12 @@
 -- 'A thread's step takes its top pile item': one definition for each item.
 use Rattle.basics.specs.Prelude.{List, [], _∷_, _++_, Bool, true, false, not, _&&_, _||_, ℕ, suc}
-use Rattle.basics.specs.Prelude.{_+_, _-_, leb, eqb, length, take, set, if_then_else_}
-use Rattle.language.specs.{Places.private, Places.home, Limits.mostThreads}
+use Rattle.basics.specs.Prelude.{_+_, _-_, leb, eqb, length, take, set, if_then_else_, every}
+use Rattle.language.specs.{Places.private, Places.home, Limits.mostThreads, Groups.inStep}
 use Rattle.language.specs.{Refusals.threadsSpent, Refusals.foreign, Refusals.stuck}
 use Rattle.program.specs.Trees.{Expr, Stmt, nothing, seq, doAt, start, startWait, cooperate, letIn}
 use Rattle.program.specs.Trees.{store, ifElse, while, generate, await}
-use Rattle.program.specs.Programs.{Part, moduleAt, ownerOfEvent}
+use Rattle.program.specs.Programs.{Part, Program, moduleAt, ownerOfEvent}
+use Rattle.machine.specs.Groups.{members}
 use Rattle.machine.specs.State.{run, back, drop, Thread, plain, waiting, awaiting, State}
 use Rattle.machine.specs.State.{isPresent, schedulerAt, threadAt, withScheduler, withNew}
 use Rattle.machine.specs.{State.withPresent, State.enlist, Accesses.Signal}
@@ -148,9 +149,12 @@ withSignal u e =
     let signal : Signal = record { event = e; owner = o; thread = u .thread; place = here u } in
     turnSoFar u (u .cells) (u .accesses) (u .signals ++ (signal ∷ []))
 
--- the thread stands on the event's owner; any other access is foreign
+-- the thread stands on the event's owner, or, 02, change 7, on a scheduler in step with it: 'an
+-- event's owner must be the place or in step with it, and in a run likewise'; any other access is
+-- foreign
 unfoldable pub isOwnEvent : Turn → ℕ → Bool
-isOwnEvent u e = leb home (here u) && eqb (ownerOfEvent (u .program) e) (here u)
+isOwnEvent u e =
+    leb home (here u) && inStep (u .program .links) (ownerOfEvent (u .program) e) (here u)
 
 -- what stands in the way of an access to event e: 'when running, a missing one is 20 and another
 -- owner's 19', a full list, where it has no room, 20 too; else r, of the turn with the access
@@ -169,11 +173,25 @@ wake q e s =
     let others = entriesExcept (isAwaiting e) (x .next) in
     withScheduler q (record { active = x .active ++ woken; next = others }) s
 
--- they have room there
-unfoldable pub roomToWake : Turn → ℕ → Bool
-roomToWake u e =
-    let x = schedulerAt (u .state) (ownerOfEvent (u .program) e) in
+-- 02, change 7: 'A generation wakes its awaiters on each member, by number, into that member's
+-- active list': on those schedulers
+unfoldable pub wakeOnEach : List ℕ → ℕ → State → State
+wakeOnEach [] e s = s
+wakeOnEach (q ∷ qs) e s = wakeOnEach qs e (wake q e s)
+
+-- the members of the group of event e's owner
+abbrev pub eventGroup : Program → ℕ → List ℕ
+eventGroup p e = members p (ownerOfEvent p e)
+
+-- those that it wakes on scheduler q have room there
+unfoldable pub roomToWakeOn : Turn → ℕ → ℕ → Bool
+roomToWakeOn u e q =
+    let x = schedulerAt (u .state) q in
     holds (u .spaces .entries) (length (x .active) + length (threadsWhere (isAwaiting e) (x .next)))
+
+-- and on each member
+unfoldable pub roomToWake : Turn → ℕ → Bool
+roomToWake u e = every (roomToWakeOn u e) (eventGroup (u .program) e)
 
 -- 1A: 'An event is present from its generation'
 unfoldable pub stepGenerate : Turn → ℕ → StepResult
@@ -181,7 +199,7 @@ stepGenerate u e =
     signalling u e (roomToWake u e)
     (λ v. accept v
     (withPresent (set (v .state .present) e true)
-    (wake (ownerOfEvent (v .program) e) e (settled v (v .self)))))
+    (wakeOnEach (eventGroup (v .program) e) e (settled v (v .self)))))
 
 -- 1B: 'Awaiting a present event passes on in that step. Otherwise the thread goes to the end of the
 -- next list .. and tries again when it is active': it is left as it was, the statement on top

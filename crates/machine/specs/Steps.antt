@@ -1,12 +1,14 @@
 -- One choice: what it answers, and the state and the accesses it makes.
-use Rattle.basics.specs.Prelude.{List, [], _∷_, Bool, not, _&&_, ℕ, _-_, leb, eqb, length}
-use Rattle.basics.specs.Prelude.{if_then_else_}
-use Rattle.language.specs.{Places.private, Refusals.noParty, Refusals.nothingReady}
+use Rattle.basics.specs.Prelude.{List, [], _∷_, Bool, true, false, not, _&&_, ℕ, _-_, leb, eqb}
+use Rattle.basics.specs.Prelude.{length, if_then_else_, any}
+use Rattle.language.specs.{Places.private, Refusals.noParty, Refusals.nothingReady, Groups.inStep}
 use Rattle.program.specs.Programs.{Program}
 use Rattle.machine.specs.Offsets.{threadOwnerFrom}
-use Rattle.machine.specs.State.{State, Item, run, back, drop, Entry, threadAt, schedulerAt}
+use Rattle.machine.specs.State.{State, Item, run, back, drop, threadAt, schedulerAt}
 use Rattle.machine.specs.State.{withScheduler, withPresent, threadOwner}
 use Rattle.machine.specs.Waits.{readyThreads, stillWaiting}
+use Rattle.machine.specs.inner.Families.{isReady}
+use Rattle.machine.specs.Groups.{members}
 use Rattle.machine.specs.Turns.{StepResult, Spaces, stateSpaces, Turn, isSchedulerOf}
 use Rattle.machine.specs.Statements.{ends, drops, goesBack, stepStatement}
 
@@ -46,26 +48,44 @@ stepThreadWithin z p s c t = stepItemsWithin z p s c t (threadAt s t .continuati
 abbrev pub nobody : ℕ → State → StepResult
 nobody n s = record { answer = n; thread = 0; state = s; accesses = []; signals = [] }
 
--- 02, change 5: 'An event is present .. to the end of its scheduler's instant': of the
--- events, which have the owners os, those of c no longer are
-unfoldable pub withoutEventsOf : ℕ → List ℕ → List Bool → List Bool
-withoutEventsOf c [] bs = bs
-withoutEventsOf c (o ∷ os) [] = []
-withoutEventsOf c (o ∷ os) (b ∷ bs) = (b && not (eqb o c)) ∷ withoutEventsOf c os bs
+-- 02, change 5: 'An event is present .. to the end of its scheduler's instant', change 7: 'until
+-- the group's instant ends': of the events, which have the owners os, those whose owner passes the
+-- test no longer are
+unfoldable pub withoutEventsOf : (ℕ → Bool) → List ℕ → List Bool → List Bool
+withoutEventsOf test [] bs = bs
+withoutEventsOf test (o ∷ os) [] = []
+withoutEventsOf test (o ∷ os) (b ∷ bs) = (b && not (test o)) ∷ withoutEventsOf test os bs
 
--- 'ready entries of the next list become active in order, waiting ones stay'; '16 'nothing': no
--- active thread there and no ready one in its next list', which ends no instant
-abbrev pub turnInstant : Program → State → ℕ → List ℕ → List Entry → StepResult
-turnInstant p s c [] es = nobody nothingReady s
-turnInstant p s c (t ∷ ts) es =
-    nobody 0
-    (withPresent (withoutEventsOf c (p .events) (s .present))
-    (withScheduler c (record { active = t ∷ ts; next = es }) s))
+-- 'ready entries of the next list become active in order, waiting ones stay': on scheduler q
+unfoldable pub endOn : ℕ → State → State
+endOn q s =
+    let es = schedulerAt s q .next in
+    let ready = readyThreads (s .threads) es in
+    withScheduler q (record { active = ready; next = stillWaiting (s .threads) es }) s
 
+-- and on each of those schedulers
+unfoldable pub endOnEach : List ℕ → State → State
+endOnEach [] s = s
+endOnEach (q ∷ qs) s = endOnEach qs (endOn q s)
+
+-- scheduler q has an active thread; a ready one
+abbrev pub hasActive : State → ℕ → Bool
+hasActive s q = elim (schedulerAt s q .active) [ [] ↦ false | t ∷ ts ↦ true ]
+
+abbrev pub hasReady : State → ℕ → Bool
+hasReady s q = any (isReady (s .threads)) (schedulerAt s q .next)
+
+-- '16 'nothing': no active thread there and no ready one in its next list', which ends no instant.
+-- 02, change 7: 'An instant of a group ends only when no member has an active thread, in one step,
+-- for all of them. A chosen member without active threads answers 16 while another has some, or
+-- when no member has a ready thread.'
 unfoldable pub endInstant : Program → State → ℕ → StepResult
 endInstant p s c =
-    let es = schedulerAt s c .next in
-    turnInstant p s c (readyThreads (s .threads) es) (stillWaiting (s .threads) es)
+    let qs = members p c in
+    let present = withoutEventsOf (inStep (p .links) c) (p .events) (s .present) in
+    if any (hasActive s) qs then nobody nothingReady s else
+    if not (any (hasReady s) qs) then nobody nothingReady s else
+    nobody 0 (withPresent present (endOnEach qs s))
 
 -- 'Choosing a scheduler steps its first active thread; with none active, an instant ends'
 abbrev pub stepSchedulerWithin : Spaces → Program → State → ℕ → List ℕ → StepResult

@@ -108,6 +108,7 @@ few Use.Free v = Few.no-child
 few Use.Truth v = Few.no-child
 few Use.Place v = Few.no-child
 few Use.Scheduler v = Few.no-child
+few Use.Lower v = Few.no-child
 few Use.ContentType v = Few.no-child
 few Use.FirstContent v = Few.no-child
 few Use.Parameters v = Few.no-child

@@ -15,3 +15,5 @@ pub mod ModuleLaws
 pub mod EventLaws
 pub mod SharedLaws
 pub mod SharedTypeLaws
+-- Declarations told by their K, and schedulers in step.
+pub mod LinkLaws

@@ -10,7 +10,7 @@ use lib.Dec.{ltb, leb·suc-suc}
 use borrow.Author.Tests.{lt-ltb, le-ltb, ltb-false, not-true, not-false}
 use Rattle.basics.specs.If.{if_then_else_, keepIf}
 use Rattle.basics.proofs.Ifs.{if-all, yes, no}
-use Rattle.language.specs.Kinds.{isEvent}
+use Rattle.language.specs.Kinds.{isEvent, isModule}
 use Rattle.language.specs.declared.frame.Frame.{Frame}
 use Rattle.language.specs.declared.kind.Kind.{Kind}
 use Rattle.text.specs.Frames.{frameOfWord, framesOf}
@@ -26,6 +26,12 @@ pub numbered-event : (what : Numbered) (k : Kind) (b : Bool) → what ≡ Number
     → b ≡ isNumbered what k
 numbered-event what k b e h = h ∙ ap (λ (w : Numbered). isNumbered w k) (sym e)
 
+pub numbered-module : (what : Numbered) (w : ℕ) (f : Frame) (b : Bool) → what ≡ Numbered.Module
+    → f ≡ frameOfWord w → b ≡ isModule (f .kind) → b ≡ isNumbered what (frameOfWord w .kind)
+numbered-module what w f b e d h =
+    h ∙ ap (λ (g : Frame). isModule (g .kind)) d
+    ∙ ap (λ (x : Numbered). isNumbered x (frameOfWord w .kind)) (sym e)
+
 -- ---- the loop
 
 -- i frames are read: what is looked for is number `left` of those from there
@@ -35,9 +41,12 @@ pub record Finding (words : List ℕ) (what : Numbered) (n i left : ℕ) : Type 
 pub finding-start : (words : List ℕ) (what : Numbered) (n : ℕ) → Finding words what n 0 n
 finding-start words what n = record { same = refl }
 
-module _ (words : List ℕ) (what : Numbered) (n i left : ℕ) (f : Frame) (t : Bool)
-    (d : f ≡ frameOfWord (getD words i 0)) (q : t ≡ isNumbered what (f .kind))
+module _ (words : List ℕ) (what : Numbered) (n i left : ℕ) (t : Bool)
+    (q : t ≡ isNumbered what (frameOfWord (getD words i 0) .kind))
     (s : Finding words what n i left) (l : i < length words) where
+  abbrev f : Frame
+  f = frameOfWord (getD words i 0)
+
   -- those among the frames after this one
   abbrev rest : List Frame
   rest = numberedOf what (drop (i + 1) (framesOf words))
@@ -47,7 +56,7 @@ module _ (words : List ℕ) (what : Numbered) (n i left : ℕ) (f : Frame) (t : 
   unfolding numberedOf
   from-here k =
       ap (λ (b : Bool). foundAt (keepIf b f rest) left) (sym k)
-      ∙ ap (λ (fs : List Frame). numberedIn what fs left) (sym (next-frame words i f l d)) ∙ s .same
+      ∙ ap (λ (fs : List Frame). numberedIn what fs left) (sym (next-frame words i f l refl)) ∙ s .same
 
   pub finding-other : not t ≡ true → Finding words what n (i + 1) left
   finding-other h = record { same = from-here (sym q ∙ not-true t h) }
@@ -63,9 +72,10 @@ module _ (words : List ℕ) (what : Numbered) (n i left : ℕ) (f : Frame) (t : 
           ∙ ap (λ (b : Bool). if b then At (frameAt fs n) else Nowhere)
           (sym (leb·suc-suc (suc n) (length fs)))
 
-  pub found-here : not t ≡ false → left ≡ 0 → At f ≡ numberedIn what (framesOf words) n
-  found-here h z =
-      yes Nowhere (lt-ltb 0 (suc (length rest)) (omega arith)) refl
+  pub found-here : (g : Frame) → g ≡ frameOfWord (getD words i 0) → not t ≡ false → left ≡ 0
+      → At g ≡ numberedIn what (framesOf words) n
+  found-here g d h z =
+      ap At d ∙ yes Nowhere (lt-ltb 0 (suc (length rest)) (omega arith)) refl
       ∙ ap (foundAt (f ∷ rest)) (sym z) ∙ from-here (sym q ∙ not-false t h)
 
 pub found-none : (words : List ℕ) (what : Numbered) (n i left : ℕ) → Finding words what n i left

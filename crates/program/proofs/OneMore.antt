@@ -5,7 +5,7 @@ use mathlib.Core.Bool.{true, false, true≢false}
 use Prim.Native.Nat.{ℕ}
 use Rattle.language.specs.Kinds.{isShared, isModule}
 use Rattle.language.specs.declared.kind.Kind.{Kind}
-use Rattle.language.specs.declared.kind.DeclarationKind.the-variants.{Shared, Event}
+use Rattle.language.specs.declared.kind.DeclarationKind.the-variants.{Shared, Event, Link}
 use Rattle.language.specs.declared.kind.Kind.the-variants.{Header, Declared, Module, Statement}
 use Rattle.language.specs.declared.kind.Kind.the-variants.{Expression, Unknown}
 use Rattle.language.specs.declared.frame.Frame.{Frame}
@@ -18,6 +18,7 @@ use Rattle.program.specs.inner.Modules.{withPart}
 abbrev pub cellIn : Frame → Kind → List SharedCell
 cellIn f (Declared Shared) = cellOf f ∷ []
 cellIn f (Declared Event) = []
+cellIn f (Declared Link) = []
 cellIn f Header = []
 cellIn f Module = []
 cellIn f (Statement k) = []
@@ -34,6 +35,7 @@ shared-more f fs = go (f .kind)
         ≡ cellIn f k ++ sharedOf fs
     go (Declared Shared) = refl
     go (Declared Event) = refl
+    go (Declared Link) = refl
     go Header = refl
     go Module = refl
     go (Statement k) = refl
@@ -43,6 +45,7 @@ shared-more f fs = go (f .kind)
 cell-none : (f : Frame) (k : Kind) → isShared k ≡ false → cellIn f k ≡ []
 cell-none f (Declared Shared) e = absurd (true≢false e)
 cell-none f (Declared Event) e = refl
+cell-none f (Declared Link) e = refl
 cell-none f Header e = refl
 cell-none f Module e = refl
 cell-none f (Statement k) e = refl
@@ -52,6 +55,7 @@ cell-none f Unknown e = refl
 cell-one : (f : Frame) (k : Kind) → isShared k ≡ true → cellIn f k ≡ cellOf f ∷ []
 cell-one f (Declared Shared) e = refl
 cell-one f (Declared Event) e = absurd (true≢false (sym e))
+cell-one f (Declared Link) e = absurd (true≢false (sym e))
 cell-one f Header e = absurd (true≢false (sym e))
 cell-one f Module e = absurd (true≢false (sym e))
 cell-one f (Statement k) e = absurd (true≢false (sym e))

@@ -1,7 +1,8 @@
--- A file as a program: its header, its shared cells, its events, its modules.
+-- A file as a program: its header, its shared cells, its events, its links, its modules.
 use Rattle.basics.specs.Prelude.{List, [], _∷_, map, ℕ, suc, _-_, eqb, length, getD, take}
 use Rattle.basics.specs.Prelude.{if_then_else_, keepIf}
-use Rattle.language.specs.{Types.cellType, Kinds.isShared, Kinds.isEvent, Kinds.isModule}
+use Rattle.language.specs.{Types.cellType, Kinds.isShared, Kinds.isEvent, Kinds.isLink}
+use Rattle.language.specs.{Kinds.isModule, Groups.Link}
 use Rattle.language.specs.{declared.frame.Frame.Frame, Limits.defaultAllowance}
 use Rattle.program.specs.Trees.{Stmt, nothing, frameAt, statementAt}
 
@@ -18,12 +19,14 @@ pub record Part : Type 0 where
   pub body : Stmt
 
 -- 'A step allowance .., B schedulers', 'Modules and shared cells count from 0.' 02, change 5:
--- 'Events count from 0. K 03 declares an event with owner S': of each event, its owner
+-- 'Events count from 0. K 03 declares an event with owner S': of each event, its owner. Change 7:
+-- the schedulers that K 04 puts in step, two by two
 pub record Program : Type 0 where
   pub allowance : ℕ
   pub schedulers : ℕ
   pub shared : List SharedCell
   pub events : List ℕ
+  pub links : List Link
   pub modules : List Part
 
 -- the type of a shared cell: a cell of its owner around its content type
@@ -48,6 +51,15 @@ unfoldable pub eventsOf : List Frame → List ℕ
 eventsOf [] = []
 eventsOf (f ∷ fs) = keepIf (isEvent (f .kind)) (f .s) (eventsOf fs)
 
+-- 'The S byte of K 04 .. names a scheduler, and its A names a lower one with which it is in step'
+abbrev pub linkOf : Frame → Link
+linkOf f = record { upper = f .s; lower = f .a }
+
+-- the links among those frames
+unfoldable pub linksOf : List Frame → List Link
+linksOf [] = []
+linksOf (f ∷ fs) = keepIf (isLink (f .kind)) (linkOf f) (linksOf fs)
+
 abbrev pub partOf : List Frame → ℕ → Frame → Part
 partOf fs i f =
     record { frame = i; types = take (f .s) (f .b ∷ f .c ∷ []); body = statementAt fs (f .a) }
@@ -69,6 +81,7 @@ programOf fs =
       schedulers = frameAt fs 0 .b;
       shared = sharedOf fs;
       events = eventsOf fs;
+      links = linksOf fs;
       modules = modulesFrom fs 0 fs;
     }
 

@@ -6,3 +6,4 @@ pub mod Events
 pub mod Shared
 pub mod Children
 pub mod Sizes
+pub mod Links

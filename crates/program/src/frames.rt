@@ -139,6 +139,7 @@ pub fn children_of(f: Frame) -> Children
         Kind::Declared(d) => match d {
             DeclarationKind::Shared => Children::Nothing,
             DeclarationKind::Event => Children::Nothing,
+            DeclarationKind::Link => Children::Nothing,
         },
         Kind::Module => Children::One(Class::Statement, f.a),
         Kind::Statement(k) => statement_children(k, f),

@@ -1,12 +1,11 @@
 // What a file counts from 0: the frame of an event or of a module by its number.
+use crate::group::line_declares;
 use language::frame::Frame;
 use language::kind::DeclarationKind;
-use language::kind::Kind;
-use language::kind::declares;
 use language::kind::is_module;
 use text::line::frame_of_word;
 ghost use mathlib.Core.Path.{_≡_};
-ghost use Rattle.text.specs.Frames.{framesOf};
+ghost use Rattle.text.specs.Frames.{frameOfWord, framesOf};
 ghost use Rattle.program.specs.inner.Numbered.{isNumbered, numberedIn};
 
 pub(crate) enum Numbered {
@@ -19,12 +18,17 @@ pub(crate) enum FrameFound {
     Nowhere,
 }
 
-fn is_numbered(what: Numbered, kind: Kind) -> bool
-    ensures { λ r. ⌜ r ≡ isNumbered what kind ⌝ }
+// An event is told by its line's K alone: an instant's end asks many lines for several events.
+fn is_numbered(what: Numbered, line: u64) -> bool
+    ensures { λ r. ⌜ r ≡ isNumbered what (frameOfWord line .kind) ⌝ }
 {
     match what {
-        Numbered::Event => declares(DeclarationKind::Event, kind),
-        Numbered::Module => is_module(kind),
+        Numbered::Event => line_declares(DeclarationKind::Event, line),
+        Numbered::Module => {
+            let f = frame_of_word(line);
+            let kind = f.kind;
+            is_module(kind)
+        },
     }
 }
 
@@ -35,14 +39,13 @@ pub(crate) fn frame_numbered(frames: &[u64], what: Numbered, n: u8) -> FrameFoun
     let mut i: usize = 0;
     let mut left = n;
     while i < frames.len() {
-        let f = frame_of_word(frames[i]);
-        let kind = f.kind;
-        if !is_numbered(what, kind) {
+        let line = frames[i];
+        if !is_numbered(what, line) {
             i += 1;
             continue;
         }
         if left == 0 {
-            return FrameFound::At(f);
+            return FrameFound::At(frame_of_word(line));
         }
         i += 1;
         left -= 1;

@@ -12,7 +12,7 @@ use Rattle.language.specs.Kinds.{isShared}
 use Rattle.language.specs.Places.{hasScheduler}
 use Rattle.language.specs.Types.{contentWord}
 use Rattle.language.specs.declared.kind.Kind.{Kind}
-use Rattle.language.specs.declared.kind.DeclarationKind.the-variants.{Shared, Event}
+use Rattle.language.specs.declared.kind.DeclarationKind.the-variants.{Shared, Event, Link}
 use Rattle.language.specs.declared.kind.Kind.the-variants.{Header, Declared, Module, Statement}
 use Rattle.language.specs.declared.kind.Kind.the-variants.{Expression, Unknown}
 use Rattle.language.specs.declared.frame.Frame.{Frame}
@@ -115,6 +115,7 @@ module _ (Q : ℕ → Type 0) {fs : List Frame} (fine : NoFault fs) (each : (j :
           → CellsFine Q (schedulersOf fs) (sharedOf before) (cellIn f k ++ sharedOf tail)
       go (Declared Shared) q r = CellsFine.more (cell-fine before f inside here upto q) r
       go (Declared Event) q r = on r
+      go (Declared Link) q r = on r
       go Header q r = on r
       go Module q r = on r
       go (Statement k) q r = on r

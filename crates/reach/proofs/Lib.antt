@@ -11,3 +11,5 @@ pub mod Modules
 pub mod Fits
 -- So no list, continuation or variable space is ever full.
 pub mod NeverFull
+-- Without links it runs as before change 7.
+pub mod Alone

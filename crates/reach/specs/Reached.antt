@@ -1,12 +1,12 @@
 -- What holds of every file that passes refusals 1 to 7, accepted or not, with no further premise.
-use Rattle.basics.specs.Prelude.{List, map, true, ℕ, length, _≡_}
+use Rattle.basics.specs.Prelude.{List, [], map, true, ℕ, length, _≡_}
 use Rattle.language.specs.declared.frame.Frame.{Frame}
 use Rattle.text.specs.Reading.{Reads, frames}
-use Rattle.program.specs.Programs.{programOf}
+use Rattle.program.specs.Programs.{programOf, linksOf}
 use Rattle.layout.specs.Faults.{NoFault}
 use Rattle.machine.specs.{Offsets.stateLength, Turns.endlessSpaces, Turns.StepResult}
 use Rattle.machine.specs.{Turns.accessCount, Steps.step, Steps.stepWithin, Runs.steps}
-use Rattle.machine.specs.{Runs.stateAfter, Words.pack}
+use Rattle.machine.specs.{Runs.stateAfter, Words.pack, State.State, Alone.stepAlone}
 use Rattle.machine.specs.{inner.Ranges.inRange, Calls.freshCall, Calls.callsFrom, Calls.callResult}
 
 -- the frames fs are those of some text, and pass refusals 4 to 7
@@ -38,3 +38,10 @@ NeverFull =
     (bs : List ℕ) (fs : List Frame) → Passes bs fs → (cs : List ℕ) (c : ℕ)
     → let p = programOf fs in let s = stateAfter p cs in
     step p s c ≡ stepWithin endlessSpaces p s c
+
+-- 02, change 7: 'Files without K 04 run as they did': on every state, fresh or not, each choice
+-- gives what the rules before that change give
+abbrev pub AsBefore : Type 0
+AsBefore =
+    (fs : List Frame) → NoFault fs → linksOf fs ≡ [] → (s : State) (c : ℕ)
+    → step (programOf fs) s c ≡ stepAlone (programOf fs) s c

@@ -8,12 +8,12 @@ use native.Mathlib.Omega.{arith}
 use lib.Dec.{ltb, leb, eqb}
 use borrow.Author.Tests.{eqb-true, not-false, le-leb, le-ltb}
 use lib.ListN.{length}
-use Rattle.basics.specs.inner.Searches.{every, sameNumbers}
+use Rattle.basics.specs.Members.{every}
+use Rattle.basics.specs.inner.Searches.{sameNumbers}
 use Rattle.basics.specs.Members.{In}
 use Rattle.basics.proofs.Ifs.{if-all, and-true}
 use Rattle.language.specs.Places.{private, Standing, unlinked}
 use Rattle.language.specs.Types.{truthType, isCell, public, contentOf}
-use Rattle.language.specs.Effects.{within}
 use Rattle.language.specs.declared.effect.Effect.{Effect}
 use Rattle.language.specs.Refusals.{unbound, illTyped, escaping, wrongEffect, whileUnlinked}
 use Rattle.language.specs.Refusals.{instantLoop}
@@ -27,6 +27,7 @@ use Rattle.rules.specs.Rules.{Setting, Signature, signatureAt, AllPublic
 use Rattle.rules.specs.Breaks.{BreaksS, Starts, Signals}
 use Rattle.rules.specs.Broken.{BrokenE, Operand, ChildS, BrokenS}
 use Rattle.rules.specs.inner.Checking.{Argued, argue, typesIn, startRule, cooperateRule}
+use Rattle.rules.specs.inner.Checking.{EffectTest}
 use Rattle.rules.specs.inner.Checking.{seqRule, doRule, joinRule, letRule, storeRule}
 use Rattle.rules.specs.inner.Checking.{ifElseRule, whileRule, signalRule, signalOf, effectIn}
 use Rattle.rules.proofs.Sooner.{Sooner, exactly, smaller}
@@ -90,10 +91,10 @@ module _ {n j : ℕ} where
   under-seq-b BeforeS.runs (Sooner.sooner h) = Sooner.sooner h
   under-seq-b (BeforeS.before l) (Sooner.sooner h) = Sooner.sooner (inl l)
 
-  under-do : (at : Standing) (s i : ℕ) {r : StatementEffect} → Sooner Faulty n j r
-      → Sooner Faulty n j (doRule at s i r)
+  under-do : (allows : EffectTest) (at : Standing) (s i : ℕ) {r : StatementEffect}
+      → Sooner Faulty n j r → Sooner Faulty n j (doRule allows at s i r)
   unfolding doRule
-  under-do at s i (Sooner.sooner h) = Sooner.sooner h
+  under-do allows at s i (Sooner.sooner h) = Sooner.sooner h
 
   under-join : (e : Effect) {r : StatementEffect} → Sooner Faulty n j r → Sooner Faulty n j (joinRule e r)
   unfolding joinRule
@@ -188,16 +189,16 @@ own-unlinked once below s i (BeforeA.are {ts = ts}) =
     (λ o. if-all (Sooner Faulty whileUnlinked i) true _ _ (λ k. exactly) (λ k. absurd (true≢false k)))))
 own-unlinked once below s i (BeforeA.before l) = Sooner.sooner (inl l)
 
-own-effect : (at : Standing) (s i : ℕ) (e : Effect) (a : Bool) → within s e ≡ false
-    → Sooner Faulty wrongEffect i (doRule at s i (Proper e a))
+own-effect : (allows : EffectTest) (at : Standing) (s i : ℕ) (e : Effect) (a : Bool)
+    → allows s e ≡ false → Sooner Faulty wrongEffect i (doRule allows at s i (Proper e a))
 unfolding doRule
-own-effect at s i e a h = if-all (Sooner Faulty wrongEffect i) (not (within s e)) _ _ (λ l. exactly) (λ l. absurd (true≢false (sym (not-false _ l) ∙ h)))
+own-effect allows at s i e a h = if-all (Sooner Faulty wrongEffect i) (not (allows s e)) _ _ (λ l. exactly) (λ l. absurd (true≢false (sym (not-false _ l) ∙ h)))
 
-own-do-unlinked : (i : ℕ) {r : StatementEffect} → BeforeS i r
-    → Sooner Faulty whileUnlinked i (doRule unlinked private i r)
+own-do-unlinked : (allows : EffectTest) (i : ℕ) {r : StatementEffect} → BeforeS i r
+    → Sooner Faulty whileUnlinked i (doRule allows unlinked private i r)
 unfolding doRule
-own-do-unlinked i (BeforeS.runs {e = e}) = if-all (Sooner Faulty whileUnlinked i) (not (within private e)) _ _ (λ l. smaller {m = wrongEffect} (omega arith)) (λ l. if-all (Sooner Faulty whileUnlinked i) true _ _ (λ k. exactly) (λ k. absurd (true≢false k)))
-own-do-unlinked i (BeforeS.before l) = Sooner.sooner (inl l)
+own-do-unlinked allows i (BeforeS.runs {e = e}) = if-all (Sooner Faulty whileUnlinked i) (not (allows private e)) _ _ (λ l. smaller {m = wrongEffect} (omega arith)) (λ l. if-all (Sooner Faulty whileUnlinked i) true _ _ (λ k. exactly) (λ k. absurd (true≢false k)))
+own-do-unlinked allows i (BeforeS.before l) = Sooner.sooner (inl l)
 
 own-store : (i t u : ℕ) (e f : Effect) → ((isCell t ≡ true) × (u ≡ contentOf t) → ⊥)
     → Sooner Faulty illTyped i (storeRule i (Typed t e) (Typed u f))
@@ -257,12 +258,12 @@ ownS (BreaksS.start-escapes Starts.start xs z) (PlacedS.start p) =
     rw (completeEs xs) (own-escapes _ _ _ _ _ _ _ z)
 ownS (BreaksS.start-escapes Starts.start-wait xs z) (PlacedS.start-wait p) =
     rw (completeEs xs) (own-escapes _ _ _ _ _ _ _ z)
-ownS (BreaksS.do-effect r h) (PlacedS.do-at p e) = rw (completeS r) (own-effect _ _ _ _ _ h)
+ownS (BreaksS.do-effect r h) (PlacedS.do-at p e) = rw (completeS r) (own-effect _ _ _ _ _ _ h)
 ownS (BreaksS.start-unlinked Starts.start) (PlacedS.start p) = own-unlinked _ _ _ _ (beforeEs _ _ p)
 ownS (BreaksS.start-unlinked Starts.start-wait) (PlacedS.start-wait p) =
     own-unlinked _ _ _ _ (beforeEs _ _ p)
 ownS BreaksS.cooperate-unlinked p = exactly
-ownS BreaksS.do-unlinked (PlacedS.do-at p e) = own-do-unlinked _ (beforeS _ _ _ _ p e)
+ownS BreaksS.do-unlinked (PlacedS.do-at p e) = own-do-unlinked _ _ (beforeS _ _ _ _ p e)
 ownS (BreaksS.while-body r) (PlacedS.while p q e) =
     let a = root-aboveS q in rw (completeS r) (own-body _ _ (beforeE _ _ p (omega arith)))
 
@@ -285,7 +286,7 @@ leastS (BrokenS.operand Operand.while b) (PlacedS.while p q e) = under-while-a _
 leastS (BrokenS.under ChildS.seq-a b) (PlacedS.seq p q e) = under-seq-a _ (leastS b p)
 leastS (BrokenS.under ChildS.seq-b b) (PlacedS.seq p q e) =
     let a = rangeS b q in under-seq-b (beforeS _ _ _ _ p (omega arith)) (leastS b q)
-leastS (BrokenS.under ChildS.do-at b) (PlacedS.do-at p e) = under-do _ _ _ (leastS b p)
+leastS (BrokenS.under ChildS.do-at b) (PlacedS.do-at p e) = under-do _ _ _ _ (leastS b p)
 leastS (BrokenS.under (ChildS.letIn h) b) (PlacedS.letIn p q e) =
     rw (complete h) (under-join _ (leastS b q))
 leastS (BrokenS.under ChildS.ifElse-b b) (PlacedS.ifElse p q r e) =

@@ -20,7 +20,8 @@ use Rattle.layout.proofs.Placed.{PlacedM}
 use Rattle.layout.proofs.Parts.{NonEmpty}
 use Rattle.rules.specs.Rules.{Setting, settingOf, Signature, signature, Modules}
 use Rattle.rules.specs.Broken.{BrokenM, Broken, NoLater, RulesSay}
-use Rattle.rules.specs.inner.Checking.{effectIn, mainRule, afterModule, modulesIn, rulesOf}
+use Rattle.rules.specs.inner.Checking.{EffectTest, effectIn, mainRule, afterModule}
+use Rattle.rules.specs.inner.Checking.{modulesIn, rulesOf}
 use Rattle.basics.proofs.Ifs.{if-all}
 use Rattle.rules.proofs.Sooner.{Sooner, exactly}
 use Rattle.rules.proofs.Statements.{completeS, FoundS, soundS}
@@ -41,14 +42,14 @@ FoundM env below ms (Rejected n j) = BrokenM env below ms n j
 module _ (env : Setting) (below : List Signature) (m : Part) where
   found-main : (rest : List Signature → Verdict) (r : StatementEffect)
       → FoundS env below (m .types) linked (m .body) r
-      → FoundM env below (m ∷ []) (afterModule rest below m [] r)
-  found-main rest (Proper e b) h = if-all (FoundM env below (m ∷ [])) (within home e) _ _ (λ l. Modules.main h l) (λ l. BrokenM.main h l)
+      → FoundM env below (m ∷ []) (afterModule (within (env .links)) rest below m [] r)
+  found-main rest (Proper e b) h = if-all (FoundM env below (m ∷ [])) (within (env .links) home e) _ _ (λ l. Modules.main h l) (λ l. BrokenM.main h l)
   found-main rest (Faulty n j) h = BrokenM.body h
 
   found-more : (n : Part) (ms : List Part) (rest : List Signature → Verdict)
       → ((sigs : List Signature) → FoundM env sigs (n ∷ ms) (rest sigs)) → (r : StatementEffect)
       → FoundS env below (m .types) linked (m .body) r
-      → FoundM env below (m ∷ n ∷ ms) (afterModule rest below m (n ∷ ms) r)
+      → FoundM env below (m ∷ n ∷ ms) (afterModule (within (env .links)) rest below m (n ∷ ms) r)
   found-more n ms rest g (Proper e b) h =
       go (rest (below ++ (signature m e ∷ []))) (g (below ++ (signature m e ∷ [])))
     where
@@ -65,26 +66,27 @@ soundM env [] below m = found-main env below m (λ sigs. modulesIn env sigs []) 
 soundM env (n ∷ ms) below m = found-more env below m n ms (λ sigs. modulesIn env sigs (n ∷ ms)) (λ sigs. soundM env ms sigs n) (effectIn env below (m .types) linked (m .body)) (soundS env below (m .types) linked (m .body))
 
 -- ---- whatever is broken, the finding is a fault no later
-under-body : {n j : ℕ} (rest : List Signature → Verdict) (below : List Signature) (m : Part) (ms : List Part) {r : StatementEffect}
-    → Sooner Faulty n j r → Sooner Rejected n j (afterModule rest below m ms r)
-under-body rest below m ms (Sooner.sooner h) = Sooner.sooner h
+under-body : {n j : ℕ} (allows : EffectTest) (rest : List Signature → Verdict) (below : List Signature) (m : Part) (ms : List Part) {r : StatementEffect}
+    → Sooner Faulty n j r → Sooner Rejected n j (afterModule allows rest below m ms r)
+under-body allows rest below m ms (Sooner.sooner h) = Sooner.sooner h
 
-own-main : (i : ℕ) (e : Effect) → within home e ≡ false
-    → Sooner Rejected wrongEffect i (mainRule i e)
-own-main i e h = if-all (Sooner Rejected wrongEffect i) (within home e) _ _ (λ l. absurd (true≢false (sym l ∙ h))) (λ l. exactly)
+own-main : (allows : EffectTest) (i : ℕ) (e : Effect) → allows home e ≡ false
+    → Sooner Rejected wrongEffect i (mainRule allows i e)
+own-main allows i e h = if-all (Sooner Rejected wrongEffect i) (allows home e) _ _ (λ l. absurd (true≢false (sym l ∙ h))) (λ l. exactly)
 
 -- the case within `later` shows that a module follows, so that this one is not main
 pub leastM : {env : Setting} {below : List Signature} {ms : List Part} {n j : ℕ}
     → BrokenM env below ms n j → PlacedM ms → Sooner Rejected n j (modulesIn env below ms)
 unfolding modulesIn
-leastM (BrokenM.body b) (PlacedM.more p q) = under-body _ _ _ _ (leastS b p)
+leastM (BrokenM.body b) (PlacedM.more p q) = under-body _ _ _ _ _ (leastS b p)
 leastM (BrokenM.later r (BrokenM.body b)) (PlacedM.more p q) =
     rw (completeS r) (leastM (BrokenM.body b) q)
 leastM (BrokenM.later r (BrokenM.later s b)) (PlacedM.more p q) =
     rw (completeS r) (leastM (BrokenM.later s b) q)
 leastM (BrokenM.later r (BrokenM.main s h)) (PlacedM.more p q) =
     rw (completeS r) (leastM (BrokenM.main s h) q)
-leastM (BrokenM.main r h) (PlacedM.more p q) = rw (completeS r) (own-main _ _ h)
+leastM {env = env} (BrokenM.main {e = e} r h) (PlacedM.more p q) =
+    rw (completeS r) (own-main (within (env .links)) _ e h)
 
 -- ---- a whole program
 same-place : (n j m k : ℕ) → NoLater n j m k → NoLater m k n j → (n ≡ m) × (j ≡ k)

@@ -13,7 +13,7 @@ use Rattle.language.specs.Places.{isPlace, isScheduler}
 use Rattle.language.specs.inner.Reads.{placeRead, cellRead}
 use Rattle.language.specs.Types.{numberType, truthType, isCell, cellType, ownerOf, contentOf}
 use Rattle.language.specs.Types.{roomAround, public}
-use Rattle.language.specs.Effects.{noEffect, _∪_, withMember, withOwner, withEvent, within}
+use Rattle.language.specs.Effects.{noEffect, _∪_, withMember, withOwner, withEvent}
 use Rattle.language.specs.declared.Place.{Place}
 use Rattle.language.specs.declared.PlaceRead.{PlaceRead}
 use Rattle.language.specs.declared.PlaceRead.the-variants.{At, NoPlace}
@@ -27,7 +27,7 @@ use Rattle.program.specs.declared.node.Leaf.{Leaf}
 use Rattle.program.specs.declared.node.CellUse.{CellUse}
 use Rattle.program.specs.declared.node.Operator.{Operator}
 use Rattle.rules.specs.inner.Checking.{namedRule, newRule, contentRule, numbersRule}
-use Rattle.rules.specs.inner.Checking.{chooseRule, cooperateRule, seqRule, doRule, joinRule}
+use Rattle.rules.specs.inner.Checking.{chooseRule, cooperateRule, seqRule, EffectTest, doRule, joinRule}
 use Rattle.rules.specs.inner.Checking.{storeRule, ifElseRule, whileRule, signalRule}
 use Rattle.rules.specs.inner.NodeRules.{leafRule, OwnerPlaced, cellRule, madeBy, bothTyped}
 use Rattle.rules.specs.inner.Standings.{standing}
@@ -376,27 +376,27 @@ module _ (x y : StatementEffect) where
 pub ruleset seq-laws = (seq-fault, seq-fault-2, seq-first, seq-never)
 
 -- ---- 12, at a place
-module _ (l : Bool) (s i : ℕ) (x : StatementEffect) where
+module _ (allows : EffectTest) (l : Bool) (s i : ℕ) (x : StatementEffect) where
   do-by : (c : StatementEffect) (m : Bool) → x ≡ c → l ≡ m
-      → doRule (standing m) s i c ≡ doRule (standing l) s i x
+      → doRule allows (standing m) s i c ≡ doRule allows (standing l) s i x
   do-by c m h k =
-      sym (ap (λ (w : StatementEffect). doRule (standing l) s i w) h
-      ∙ ap (λ (b : Bool). doRule (standing b) s i c) k)
+      sym (ap (λ (w : StatementEffect). doRule allows (standing l) s i w) h
+      ∙ ap (λ (b : Bool). doRule allows (standing b) s i c) k)
 
-  pub do-fault : (n j : ℕ) → x ≡ Faulty n j → Faulty n j ≡ doRule (standing l) s i x
+  pub do-fault : (n j : ℕ) → x ≡ Faulty n j → Faulty n j ≡ doRule allows (standing l) s i x
   unfolding doRule
   do-fault n j h = do-by (Faulty n j) l h refl
 
-  module _ (e : Effect) (a : Bool) (h : x ≡ Proper e a) (w : Bool) (q : w ≡ within s e) where
-    pub do-effect : not w ≡ true → Faulty wrongEffect i ≡ doRule (standing l) s i x
+  module _ (e : Effect) (a : Bool) (h : x ≡ Proper e a) (w : Bool) (q : w ≡ allows s e) where
+    pub do-effect : not w ≡ true → Faulty wrongEffect i ≡ doRule allows (standing l) s i x
     unfolding doRule
     do-effect n = yes _ (ap not (sym q) ∙ n) refl ∙ do-by (Proper e a) l h refl
 
     module _ (f : Effect) (z : f ≡ noEffect) (n : not w ≡ false) where
-      inside : not (within s e) ≡ false
+      inside : not (allows s e) ≡ false
       inside = ap not (sym q) ∙ n
 
-      pub do-linked : l ≡ true → Proper f a ≡ doRule (standing l) s i x
+      pub do-linked : l ≡ true → Proper f a ≡ doRule allows (standing l) s i x
       unfolding doRule
       do-linked k =
           no (Faulty wrongEffect i) inside
@@ -404,7 +404,7 @@ module _ (l : Bool) (s i : ℕ) (x : StatementEffect) where
           ∙ do-by (Proper e a) true h k
 
       pub do-elsewhere : l ≡ false → (y : Bool) → y ≡ eqb s 1 → y ≡ false
-          → Proper f a ≡ doRule (standing l) s i x
+          → Proper f a ≡ doRule allows (standing l) s i x
       unfolding doRule
       do-elsewhere k y d v =
           no (Faulty wrongEffect i) inside
@@ -412,7 +412,7 @@ module _ (l : Bool) (s i : ℕ) (x : StatementEffect) where
           ∙ do-by (Proper e a) false h k
 
     pub do-twice : not w ≡ false → l ≡ false → (y : Bool) → y ≡ eqb s 1 → y ≡ true
-        → Faulty whileUnlinked i ≡ doRule (standing l) s i x
+        → Faulty whileUnlinked i ≡ doRule allows (standing l) s i x
     unfolding doRule
     do-twice n k y d v =
         no (Faulty wrongEffect i) (ap not (sym q) ∙ n) (yes (Proper noEffect a) (sym d ∙ v) refl)

@@ -8,7 +8,8 @@ use lib.Bits.{or-zero-r}
 use lib.Dec.{leb, eqb}
 use lib.ListN.{length, getD, take, length-map, List·getD-map}
 use borrow.Author.Tests.{le-leb, lt-leb, eq-eqb, ne-eqb, not-true, not-false}
-use Rattle.basics.specs.inner.Searches.{every, sameNumbers}
+use Rattle.basics.specs.Members.{every}
+use Rattle.basics.specs.inner.Searches.{sameNumbers}
 use Rattle.basics.proofs.Ifs.{yes, no}
 use Rattle.language.specs.Types.{public}
 use Rattle.language.specs.Effects.{noEffect, _∪_}

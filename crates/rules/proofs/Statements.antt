@@ -9,7 +9,8 @@ use borrow.Author.Tests.{leb-true, leb-false, eqb-true, eqb-false, not-true, not
 use borrow.Author.Tests.{eq-eqb, ne-eqb, ltb-true, ltb-false, lt-ltb}
 use lib.ListN.{length, getD}
 use Rattle.basics.specs.If.{if_then_else_}
-use Rattle.basics.specs.inner.Searches.{every, sameNumbers}
+use Rattle.basics.specs.Members.{every}
+use Rattle.basics.specs.inner.Searches.{sameNumbers}
 use Rattle.basics.specs.Members.{In}
 use Rattle.basics.proofs.Ifs.{if-all, and-true, and-false, if-yes, if-no, and-off}
 use Rattle.language.specs.Places.{private, Standing, linked, unlinked, standingAt}
@@ -152,19 +153,19 @@ module _ (env : Setting) (below : List Signature) (Γ : List ℕ) where
   do-breaks i s p e = rw e BreaksS.do-unlinked
 
   do-unlinked : (i s : ℕ) (p : Stmt) (e : Effect) (a : Bool) → s ≡ private
-      → HasEffect env below Γ (standingAt s) p e a → within s e ≡ true
+      → HasEffect env below Γ (standingAt s) p e a → within (env .links) s e ≡ true
       → HasEffect env below Γ linked (Stmt.doAt i s p) noEffect a
   do-unlinked i s p e a z r h =
       rw z (HasEffect.do-unlinked (rw stands-unlinked at (rw z at r)) (rw z at h))
 
   do-linked : (at : Standing) (i s : ℕ) (p : Stmt) (e : Effect) (a : Bool) → (s ≡ private → ⊥)
-      → HasEffect env below Γ (standingAt s) p e a → within s e ≡ true
+      → HasEffect env below Γ (standingAt s) p e a → within (env .links) s e ≡ true
       → HasEffect env below Γ at (Stmt.doAt i s p) noEffect a
   do-linked at i s p e a z r h = HasEffect.do-linked z (rw (stands-linked s z) at r) h
 
   -- 12, where the effect lies within the place
   do-rest : (i s : ℕ) (p : Stmt) (e : Effect) (a : Bool) → HasEffect env below Γ (standingAt s) p e a
-      → within s e ≡ true → (at : Standing) (b : Bool) → eqb s private ≡ b
+      → within (env .links) s e ≡ true → (at : Standing) (b : Bool) → eqb s private ≡ b
       → FoundS env below Γ at (Stmt.doAt i s p)
       (if not (isLinked at) && b then Faulty whileUnlinked i else Proper noEffect a)
   unfolding if_then_else_
@@ -175,11 +176,11 @@ module _ (env : Setting) (below : List Signature) (Γ : List ℕ) where
 
   found-do : (at : Standing) (i s : ℕ) (p : Stmt) (r : StatementEffect)
       → FoundS env below Γ (standingAt s) p r
-      → FoundS env below Γ at (Stmt.doAt i s p) (doRule at s i r)
+      → FoundS env below Γ at (Stmt.doAt i s p) (doRule (within (env .links)) at s i r)
   unfolding doRule
   found-do at i s p (Faulty n j) b = BrokenS.under ChildS.do-at b
   found-do at i s p (Proper e a) h =
-      if-all (FoundS env below Γ at (Stmt.doAt i s p)) (not (within s e)) _ _
+      if-all (FoundS env below Γ at (Stmt.doAt i s p)) (not (within (env .links) s e)) _ _
       (λ l. BrokenS.here (BreaksS.do-effect h (not-true _ l)))
       (λ l. do-rest i s p e a h (not-false _ l) at (eqb s private) refl)
 

@@ -82,7 +82,7 @@ pub data BreaksS (env : Setting) (below : List Signature)
       → BreaksS env below Γ at p escaping
   -- 11 'effect, at the 12'
   do-effect : {Γ : List ℕ} {at : Standing} {i s : ℕ} {p : Stmt} {e : Effect} {a : Bool}
-      → HasEffect env below Γ (standingAt s) p e a → within s e ≡ false
+      → HasEffect env below Γ (standingAt s) p e a → within (env .links) s e ≡ false
       → BreaksS env below Γ at (Stmt.doAt i s p) wrongEffect
   -- 12 'while loose, a 13, 14, 15 or a 12 with S 1'
   start-unlinked : {Γ : List ℕ} {p : Stmt} {s : ℕ} {xs : List Expr}

@@ -81,7 +81,7 @@ pub data BrokenM (env : Setting) : List Signature → List Part → ℕ → ℕ 
       → BrokenM env below (m ∷ ms) n j
   -- 11 'effect, .. at main': main is the last
   main : {below : List Signature} {m : Part} {e : Effect} {b : Bool}
-      → HasEffect env below (m .types) linked (m .body) e b → within home e ≡ false
+      → HasEffect env below (m .types) linked (m .body) e b → within (env .links) home e ≡ false
       → BrokenM env below (m ∷ []) wrongEffect (m .frame)
 
 -- in the program, frame j breaks rule n

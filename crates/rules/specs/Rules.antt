@@ -5,19 +5,21 @@ use Rattle.basics.specs.Prelude.{getD, _≡_, All}
 use Rattle.language.specs.Places.{home, private, Standing, linked, unlinked}
 use Rattle.language.specs.Types.{numberType, truthType, isCell, cellType, ownerOf, contentOf}
 use Rattle.language.specs.Types.{roomAround, public}
+use Rattle.language.specs.Groups.{Link}
 use Rattle.language.specs.Effects.{noEffect, _∪_, withOwner, withEvent, within}
 use Rattle.language.specs.declared.effect.Effect.{Effect}
 use Rattle.program.specs.Trees.{Expr, Stmt}
 use Rattle.program.specs.Programs.{Part, Program, cells as cellTypes}
 
 -- what the rules know of a file beside its modules: the types of its shared cells, the owners of
--- its events
+-- its events, which schedulers are in step
 pub record Setting : Type 0 where
   pub cells : List ℕ
   pub events : List ℕ
+  pub links : List Link
 
 abbrev pub settingOf : Program → Setting
-settingOf file = record { cells = cellTypes file; events = file .events }
+settingOf file = record { cells = cellTypes file; events = file .events; links = file .links }
 
 -- what is known of a module: its parameters' types and its effect
 pub record Signature : Type 0 where
@@ -101,12 +103,13 @@ pub data HasEffect (env : Setting) (below : List Signature)
       → HasEffect env below Γ at p e a → HasEffect env below Γ at q f b
       → HasEffect env below Γ at (Stmt.seq i p q) (e ∪ f) (a && b)
   -- 12 do A at place S: '12 needs the effect of A within {S}, or empty when S is 1, and itself has
-  -- none'; with S 1 never while unlinked
+  -- none'; with S 1 never while unlinked. 02, change 7: 'at K 12 and at `main` an event's owner
+  -- must be the place or in step with it'
   do-unlinked : {Γ : List ℕ} {i : ℕ} {p : Stmt} {e : Effect} {a : Bool}
-      → HasEffect env below Γ unlinked p e a → within private e ≡ true
+      → HasEffect env below Γ unlinked p e a → within (env .links) private e ≡ true
       → HasEffect env below Γ linked (Stmt.doAt i private p) noEffect a
   do-linked : {Γ : List ℕ} {at : Standing} {i s : ℕ} {p : Stmt} {e : Effect} {a : Bool}
-      → (s ≡ private → ⊥) → HasEffect env below Γ linked p e a → within s e ≡ true
+      → (s ≡ private → ⊥) → HasEffect env below Γ linked p e a → within (env .links) s e ≡ true
       → HasEffect env below Γ at (Stmt.doAt i s p) noEffect a
   -- 13 start module S: 'Arguments agree with parameters in count and type, and are public', '13 and
   -- 14 add the started module's effect'; never while unlinked
@@ -153,7 +156,7 @@ pub data HasEffect (env : Setting) (below : List Signature)
 -- the modules ms keep the rules; the last of them is main, and 'main has an effect within {2}'
 pub data Modules (env : Setting) : List Signature → List Part → Type 0 where
   main : {below : List Signature} {m : Part} {e : Effect} {b : Bool}
-      → HasEffect env below (m .types) linked (m .body) e b → within home e ≡ true
+      → HasEffect env below (m .types) linked (m .body) e b → within (env .links) home e ≡ true
       → Modules env below (m ∷ [])
   more : {below : List Signature} {m n : Part} {ms : List Part} {e : Effect} {b : Bool}
       → HasEffect env below (m .types) linked (m .body) e b

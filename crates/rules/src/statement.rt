@@ -8,6 +8,7 @@ use crate::finding::TypingPair;
 use language::Place;
 use language::PlaceRead;
 use language::effect::Effect;
+use language::group::LABELS;
 use language::refusal::ILL_TYPED;
 use language::refusal::INSTANT_LOOP;
 use language::refusal::UNBOUND;
@@ -18,7 +19,10 @@ use language::type_word::content_of;
 use language::type_word::is_cell;
 use program::event::EventFound;
 ghost use mathlib.Core.Path.{_≡_};
+ghost use lib.ListN.{length};
+ghost use Rattle.language.specs.Limits.{mostSchedulers};
 ghost use Rattle.language.specs.Effects.{noEffect, withEvent};
+ghost use Rattle.language.specs.inner.Labels.{withinIn};
 ghost use Rattle.rules.specs.inner.Checking.{cooperateRule, seqRule, doRule, joinRule};
 ghost use Rattle.rules.specs.inner.Checking.{storeRule, ifElseRule, whileRule, signalRule};
 ghost use Rattle.rules.specs.inner.Standings.{standing};
@@ -54,13 +58,21 @@ pub fn seq_rule(x: StatementEffect, y: StatementEffect) -> StatementEffect
 }
 
 // 12
-pub fn do_rule(linked: bool, s: Place, i: u16, x: StatementEffect) -> StatementEffect
-    ensures { λ r. ⌜ r ≡ doRule (standing linked) (s .number) i x ⌝ }
+pub fn do_rule(
+    labels: &[u8; LABELS],
+    linked: bool,
+    s: Place,
+    i: u16,
+    x: StatementEffect,
+) -> StatementEffect
+    requires { ⌜ length (now labels) ≡ mostSchedulers ⌝ }
+    ensures { λ r. ⌜ r
+        ≡ doRule (withinIn (now (labels .entry))) (standing linked) (s .number) i x ⌝ }
 {
     match x {
         StatementEffect::Faulty(n, j) => StatementEffect::Faulty(n, j),
         StatementEffect::Proper(e, a) => {
-            if !e.within(s) {
+            if !e.within(labels, s) {
                 return StatementEffect::Faulty(WRONG_EFFECT, i);
             }
             if linked {

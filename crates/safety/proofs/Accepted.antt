@@ -95,7 +95,7 @@ module _ (fs : List Frame) (F : FileFits fs (programOf fs) (programOf fs .schedu
       record {
         fresh = ap (λ (x : CallResult). x .answer) f;
         accessed = subst (All Own) (sym (from-fresh (λ (r : StepResult). r .accesses) w cs e)) (s .accessed);
-        signalled = subst (All OwnSignal) (sym (from-fresh (λ (r : StepResult). r .signals) w cs e)) (s .signalled);
+        signalled = subst (All (OwnSignal (P .links))) (sym (from-fresh (λ (r : StepResult). r .signals) w cs e)) (s .signalled);
         answered = subst (All (λ (r : CallResult). Sound (r .answer))) (sym (calls-are fs F w cs e)) (sound-calls (steps P cs) (s .answered));
         words = q ∙ ap pack (sym u);
         public = subst NoPrivateInPublic (sym u) (s .public);

@@ -1,6 +1,6 @@
 -- Of demand 3, `accessed` and `signalled` follow from `answered`: where no choice is foreign, every
 -- access is to a cell of the acting thread or of its scheduler, and every one to an event is to one
--- of its scheduler. Assumes nothing.
+-- of its scheduler or of one in step with it. Assumes nothing.
 use mathlib.Core.Logic.{_≢_}
 use mathlib.Core.List.{List, [], _∷_, map, flatMap}
 use Prim.Native.Nat.{ℕ}
@@ -33,6 +33,7 @@ accessed p cs h =
     all-from (λ (r : StepResult). r .accesses) Own p (λ s c. fair p s c .own) (fresh p) cs h
 
 pub signalled : (p : Program) (cs : List ℕ) → All Sound (answers p cs)
-    → All OwnSignal (signalsOf p cs)
+    → All (OwnSignal (p .links)) (signalsOf p cs)
 signalled p cs h =
-    all-from (λ (r : StepResult). r .signals) OwnSignal p (λ s c. fair p s c .heard) (fresh p) cs h
+    all-from (λ (r : StepResult). r .signals) (OwnSignal (p .links)) p (λ s c. fair p s c .heard)
+    (fresh p) cs h

@@ -12,7 +12,10 @@ use Rattle.program.specs.Programs.{Program}
 use Rattle.machine.specs.State.{State, Stored, Item, run, back, drop, Thread, Entry, noThread}
 use Rattle.machine.specs.State.{withNew, enlist}
 use Rattle.machine.specs.Turns.{Turn, settled, isSchedulerOf, leave}
+use Rattle.machine.specs.Statements.{wakeOnEach}
+use Rattle.machine.specs.Steps.{endOnEach}
 use Rattle.machine.proofs.Space.{leave-threads}
+use Rattle.machine.proofs.GroupLaws.{woken-threads, woken-cells, ended-threads, ended-cells}
 use Rattle.machine.proofs.Continuations.{Roomy, no-items}
 use Rattle.safety.proofs.Typing.{Ty, Pub, CellTyping, Store, TypedS}
 use Rattle.safety.proofs.Heap.{GoodCells, More, Vals, none, SharedOk, vals-more}
@@ -83,6 +86,22 @@ module _ (P : Program) (sh : List CellTyping) where
   pub enlisted-good : (q : ℕ) (e : Entry) (s : State) → Good s → Good (enlist q e s)
   unfolding enlist
   enlisted-good q e s g = g
+
+  -- other lists of schedulers: those of each member of a group after a generation, and after an
+  -- instant
+  lists-good : (r s : State) → r .threads ≡ s .threads → r .cells ≡ s .cells → Good s → Good r
+  lists-good r s e f (Σ, g) = (
+    Σ,
+    subst (λ (ts : List Thread). GoodIn Σ ts (r .cells)) (sym e)
+        (subst (GoodIn Σ (s .threads)) (sym f) g),
+  )
+
+  pub woken-good : (qs : List ℕ) (e : ℕ) (s : State) → Good s → Good (wakeOnEach qs e s)
+  woken-good qs e s g =
+      lists-good (wakeOnEach qs e s) s (woken-threads qs e s) (woken-cells qs e s) g
+
+  pub ended-good : (qs : List ℕ) (s : State) → Good s → Good (endOnEach qs s)
+  ended-good qs s g = lists-good (endOnEach qs s) s (ended-threads qs s) (ended-cells qs s) g
 
   -- one more thread
   pub started-good : (Σ : Store) (t : ℕ) (x : Thread) (s : State) → t ≡ suc (length (s .threads))

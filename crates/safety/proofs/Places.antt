@@ -7,19 +7,20 @@ use mathlib.Core.List.{List, [], _∷_, _++_, map, append-assoc, map-append}
 use Prim.Native.Nat.{ℕ, zero, suc, _-_, _≤_, _<_}
 use native.Mathlib.Omega.{arith}
 use native.Mathlib.Decide.{decLt, ℕ-discrete}
-use lib.Dec.{leb, eqb}
+use lib.Dec.{eqb}
 use lib.Bits.{bitOr}
-use borrow.Author.Tests.{leb-true, le-leb, eq-eqb, ltb-true}
+use borrow.Author.Tests.{le-leb, eq-eqb, ltb-true}
 use lib.ListN.{length, getD, length-append, length-map, List·getD-append}
 use lib.Seq.{getD-at}
 use Rattle.basics.specs.Members.{All}
-use Rattle.basics.proofs.Ifs.{and-true, or-on}
+use Rattle.basics.proofs.Ifs.{or-on}
 use Rattle.language.specs.Places.{hasPlace, isScheduler, Standing, linked, unlinked}
-use Rattle.language.proofs.PlaceLaws.{test-bounds, has-place}
+use Rattle.language.proofs.PlaceLaws.{from-home, test-bounds, has-place}
 use Rattle.language.specs.Types.{numberType, truthType, cellType, ownerOf}
 use Rattle.language.specs.Effects.{member, noEffect, _∪_, withMember, withOwner, withEvent}
+use Rattle.language.specs.Groups.{Link, InStep}
 use Rattle.language.specs.declared.effect.Effect.{Effect}
-use Rattle.language.proofs.Members.{member-join, member-owner, SetWithin, Within, within-sets}
+use Rattle.language.proofs.Members.{member-join, member-owner, Within, within-sets}
 use Rattle.program.specs.Trees.{Expr, Stmt}
 use Rattle.program.specs.Programs.{Part, Program, ownerOfEvent, noModule, moduleAt, mainOf}
 use Rattle.rules.specs.Rules.{Setting, Signature, noSignature, signatureAt, signature, HasType}
@@ -36,39 +37,54 @@ use Rattle.safety.proofs.Typing.{s-await}
 use Rattle.safety.proofs.TypeWords.{tyOf, ty-number, ty-truth, ty-cell, Formed, formed-cell}
 use Rattle.safety.proofs.TypeWords.{formed-public}
 
--- ---- sets within a place: each part of one is within it too
-module _ (p s t : ℕ) (h : SetWithin p (bitOr s t)) where
-  left-within : SetWithin p s
+-- ---- sets within a place or its group: each part of one is within it too
+
+-- P holds of each member of the set s; of a join, then, of the members of each part
+abbrev OfEach : (ℕ → Type 0) → ℕ → Type 0
+OfEach P s = (q : ℕ) → member q s ≡ true → P q
+
+module _ (P : ℕ → Type 0) (s t : ℕ) (h : OfEach P (bitOr s t)) where
+  left-within : OfEach P s
   left-within q m = h q (member-join q s t ∙ ap (λ (b : Bool). b || member q t) m)
 
-  right-within : SetWithin p t
+  right-within : OfEach P t
   right-within q m =
       h q (member-join q s t ∙ ap (λ (b : Bool). member q s || b) m ∙ or-on (member q s))
 
-module _ (p o s : ℕ) (h : SetWithin p (withMember o s)) where
-  rest-within : SetWithin p s
+module _ (P : ℕ → Type 0) (o s : ℕ) (h : OfEach P (withMember o s)) where
+  rest-within : OfEach P s
   rest-within q m = h q (member-owner q o s ∙ ap (λ (b : Bool). b || isScheduler o && eqb q o) m)
 
-  -- a scheduler added is p
-  added : 2 ≤ o → o ≤ 9 → (2 ≤ p) × (o ≡ p)
+  -- and of a scheduler added
+  added : 2 ≤ o → o ≤ 9 → P o
   added l k =
       let a : (isScheduler o && eqb o o) ≡ true = rw (le-leb 2 o l, le-leb o 9 k, eq-eqb o o refl) in
-      let r = h o (member-owner o o s ∙ ap (λ (b : Bool). member o s || b) a ∙ or-on (member o s)) in
-      (leb-true 2 p (and-true (leb 2 p) (leb p 9) (r .1) .0), r .0)
+      h o (member-owner o o s ∙ ap (λ (b : Bool). member o s || b) a ∙ or-on (member o s))
+
+-- what `SetWithin` and `GroupWithin` say of each member
+abbrev IsPlace : ℕ → ℕ → Type 0
+IsPlace p q = (q ≡ p) × (isScheduler p ≡ true)
+
+abbrev IsPartner : List Link → ℕ → ℕ → Type 0
+IsPartner ls p q = InStep ls q p × (isScheduler q ≡ true) × (isScheduler p ≡ true)
 
 -- ---- so of effects
-module _ (p : ℕ) (e f : Effect) (h : Within p (e ∪ f)) where
-  in-left : Within p e
-  in-left =
-      (left-within p (e .cells) (f .cells) (h .0), left-within p (e .events) (f .events) (h .1))
+module _ {ls : List Link} (p : ℕ) (e f : Effect) (h : Within ls p (e ∪ f)) where
+  in-left : Within ls p e
+  in-left = (
+    left-within (IsPlace p) (e .cells) (f .cells) (h .0),
+    left-within (IsPartner ls p) (e .events) (f .events) (h .1),
+  )
 
-  in-right : Within p f
-  in-right =
-      (right-within p (e .cells) (f .cells) (h .0), right-within p (e .events) (f .events) (h .1))
+  in-right : Within ls p f
+  in-right = (
+    right-within (IsPlace p) (e .cells) (f .cells) (h .0),
+    right-within (IsPartner ls p) (e .events) (f .events) (h .1),
+  )
 
-module _ (p o : ℕ) (e : Effect) (h : Within p (withOwner o e)) where
-  in-owned : Within p e
-  in-owned = (rest-within p o (e .cells) (h .0), h .1)
+module _ {ls : List Link} (p o : ℕ) (e : Effect) (h : Within ls p (withOwner o e)) where
+  in-owned : Within ls p e
+  in-owned = (rest-within (IsPlace p) o (e .cells) (h .0), h .1)
 
   -- an owner added is allowed on p: it is p, where it is a scheduler
   allowed : 1 ≤ o → o ≤ 9 → Allowed p o
@@ -76,7 +92,9 @@ module _ (p o : ℕ) (e : Effect) (h : Within p (withOwner o e)) where
     where
       go : Dec (o ≡ 1) → Allowed p o
       go (yes q) = inl q
-      go (no n) = inr (added p o (e .cells) (h .0) (omega (arith, n)) k)
+      go (no n) =
+          let r = added (IsPlace p) o (e .cells) (h .0) (omega (arith, n)) k in
+          inr (from-home p (r .1), r .0)
 
 -- p is a place at which a thread stands so
 data Stands : Standing → ℕ → Type 0 where
@@ -110,8 +128,8 @@ pub record EventIs (P : Program) (events : List ℕ) (s : ℕ) : Type 0 where
   pub high : getD events s 0 ≤ 9
 
 -- P is laid out as reach/proofs/Laid says (Q, n); its shared cells are, to the rules, of the type
--- words in `env`, and sh types them; its events are to the rules those in `env`
-module _ (P : Program) (sh : List CellTyping) (env : Setting) (Q : ℕ → Type 0) (n : ℕ) (shared : (s : ℕ) → s < length (env .cells) → SharedIs sh (env .cells) s) (events : (s : ℕ) → s < length (env .events) → EventIs P (env .events) s) where
+-- words in `env`, and sh types them; its events and links are to the rules those in `env`
+module _ (P : Program) (sh : List CellTyping) (env : Setting) (Q : ℕ → Type 0) (n : ℕ) (shared : (s : ℕ) → s < length (env .cells) → SharedIs sh (env .cells) s) (events : (s : ℕ) → s < length (env .events) → EventIs P (env .events) s) (links : P .links ≡ env .links) where
   place-range : (o : ℕ) → hasPlace n o ≡ true → (1 ≤ o) × (o ≤ 9)
   place-range o h = test-bounds 1 o (has-place n o h .0)
 
@@ -145,7 +163,7 @@ module _ (P : Program) (sh : List CellTyping) (env : Setting) (Q : ℕ → Type 
       record { typed = rw (ty-cell o t (b .0) (b .1) r) (t-new k l q (x .typed)); formed = Formed.around-of (b .0) (b .1) r q (x .formed) }
 
   ex-typed : {Γ : List ℕ} {x : Expr} {t : ℕ} {e : Effect} (p : ℕ) → p ≤ 9 → All Formed Γ
-      → LaidE Q n x → Within p e → HasType (env .cells) Γ x t e → HasEx Γ p x t
+      → LaidE Q n x → Within (env .links) p e → HasType (env .cells) Γ x t e → HasEx Γ p x t
   ex-typed p l g a w HasType.number = has-number t-number
   ex-typed p l g a w HasType.truth = has-truth t-truth
   ex-typed {Γ} p l g a w (HasType.variable {s =
@@ -176,7 +194,7 @@ module _ (P : Program) (sh : List CellTyping) (env : Setting) (Q : ℕ → Type 
     formed : All Formed ts
 
   args-typed : {Γ : List ℕ} {xs : List Expr} {ts : List ℕ} {e : Effect} (p : ℕ) → p ≤ 9
-      → All Formed Γ → All (LaidE Q n) xs → Within p e → AllPublic ts
+      → All Formed Γ → All (LaidE Q n) xs → Within (env .links) p e → AllPublic ts
       → HaveTypes (env .cells) Γ xs ts e → HasArgs Γ p xs ts
   args-typed p l g a w k HaveTypes.none = record { typed = Args.none; formed = All.none }
   args-typed p l g (All.more a rest) w (All.more k ks) (HaveTypes.more {e = e} {f = f} d ds) =
@@ -191,7 +209,7 @@ module _ (P : Program) (sh : List CellTyping) (env : Setting) (Q : ℕ → Type 
   pub record Known (g : Signature) (s : ℕ) : Type 0 where
     pub inside : s < length (P .modules)
     pub types : length (g .types) ≡ length (moduleAt P s .types)
-    pub typed : All Formed (g .types) → (q : ℕ) → 2 ≤ q → q ≤ 9 → Within q (g .effect)
+    pub typed : All Formed (g .types) → (q : ℕ) → 2 ≤ q → q ≤ 9 → Within (env .links) q (g .effect)
         → TypedS P sh (map tyOf (g .types)) q (moduleAt P s .body)
 
   abbrev pub KnownBelow : List Signature → Type 0
@@ -206,7 +224,7 @@ module _ (P : Program) (sh : List CellTyping) (env : Setting) (Q : ℕ → Type 
     body : TypedS P sh types p (moduleAt P s .body)
 
   started : {Γ : List ℕ} {xs : List Expr} (p s : ℕ) (e : Effect) (f : Signature) → Known f s → 2 ≤ p
-      → p ≤ 9 → All Formed Γ → All (LaidE Q n) xs → Within p (e ∪ f .effect)
+      → p ≤ 9 → All Formed Γ → All (LaidE Q n) xs → Within (env .links) p (e ∪ f .effect)
       → HaveTypes (env .cells) Γ xs (f .types) e → AllPublic (f .types) → Startable Γ p s xs
   started p s e f y l m g a w ds ps =
       let r = args-typed p m g a (in-left p e (f .effect) w) ps ds in
@@ -220,26 +238,33 @@ module _ (P : Program) (sh : List CellTyping) (env : Setting) (Q : ℕ → Type 
 
   -- ---- events
 
-  -- 'both have the owner as effect': where that is within p, the owner is p
+  -- 'both have the owner as effect': where that is within the group of p, the owner is p or in step
+  -- with it
   own-event : (p s : ℕ) → s < length (env .events)
-      → Within p (withEvent (getD (env .events) s 0) noEffect) → OwnEvent P p s
+      → Within (env .links) p (withEvent (getD (env .events) s 0) noEffect) → OwnEvent P p s
   own-event p s l w =
       let x = events s l in
-      let r = added p (getD (env .events) s 0) 0 (w .1) (x .low) (x .high) in
-      record { scheduler = r .0; there = x .there; owner = x .same ∙ r .1 }
+      let o = getD (env .events) s 0 in
+      let (i, _, j) = added (IsPartner (env .links) p) o 0 (w .1) (x .low) (x .high) in
+      record {
+        scheduler = from-home p j;
+        there = x .there;
+        owner = subst (λ (ls : List Link). InStep ls (ownerOfEvent P s) p) (sym links)
+            (subst (λ (q : ℕ). InStep (env .links) q p) (sym (x .same)) i);
+      }
 
   -- ---- statements
 
   st-typed : {below : List Signature} {Γ : List ℕ} {at : Standing} {x : Stmt} {e : Effect} {b : Bool} {d : ℕ} (p : ℕ)
-      → KnownBelow below → Stands at p → All Formed Γ → LaidS Q n d x → Within p e
+      → KnownBelow below → Stands at p → All Formed Γ → LaidS Q n d x → Within (env .links) p e
       → HasEffect env below Γ at x e b → TypedS P sh (map tyOf Γ) p x
   st-typed p k s g a w HasEffect.nothing = s-nothing
   st-typed p k s g (LaidS.seq a b) w (HasEffect.seq {e = e} {f = f} c d) = s-seq (st-typed p k s g a (in-left p e f w) c) (st-typed p k s g b (in-right p e f w) d)
-  st-typed p k (on l m) g (LaidS.do-at h a) w (HasEffect.do-unlinked {e = e} r v) = s-do {p = p} {q = 1} (λ z _. omega (arith, l, z)) (st-typed 1 k off g a (within-sets 1 e v) r)
+  st-typed p k (on l m) g (LaidS.do-at h a) w (HasEffect.do-unlinked {e = e} r v) = s-do {p = p} {q = 1} (λ z _. omega (arith, l, z)) (st-typed 1 k off g a (within-sets (env .links) 1 e v) r)
   st-typed p k s g (LaidS.do-at {q = q} h a) w (HasEffect.do-linked {e = e} z r v) =
       let b = place-range q h in
       s-do {p = p} {q = q} (λ _ y. z y)
-      (st-typed q k (on (two q z (b .0)) (b .1)) g a (within-sets q e v) r)
+      (st-typed q k (on (two q z (b .0)) (b .1)) g a (within-sets (env .links) q e v) r)
     where
       two : (q : ℕ) → (q ≡ 1 → ⊥) → 1 ≤ q → 2 ≤ q
       two q z l = omega (arith, z)
@@ -304,7 +329,7 @@ module _ (P : Program) (sh : List CellTyping) (env : Setting) (Q : ℕ → Type 
       let h = module-here before m [] (length (P .modules) - 1) e (let x = ap length e in let y = length-append before (m ∷ []) in omega arith) in
       subst (λ (x : Part). TypedS P sh [] 2 (x .body)) (sym (h .1))
       (subst (λ (Γ : List ℕ). TypedS P sh (map tyOf Γ) 2 (m .body)) t
-      (st-typed 2 k (on (omega arith) (omega arith)) (subst (All Formed) (sym t) All.none) a (within-sets 2 f w) r))
+      (st-typed 2 k (on (omega arith) (omega arith)) (subst (All Formed) (sym t) All.none) a (within-sets (env .links) 2 f w) r))
   main-typed {below} before (m ∷ n' ∷ ms) e l k (All.more a rest) (LastPlain.later p) (Modules.more {e = f} r rs) =
       let h = module-here before m (n' ∷ ms) (length below) e l in
       main-typed (before ++ (m ∷ [])) (n' ∷ ms) (e ∙ sym (append-assoc before (m ∷ []) (n' ∷ ms)))

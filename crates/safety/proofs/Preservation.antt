@@ -1,6 +1,6 @@
 -- Each choice on a good state is neither foreign nor stuck, and leaves a good state: one case for
 -- each statement. Assumes nothing.
-use mathlib.Core.Path.{_≡_, refl, sym, ap, subst, _∙_}
+use mathlib.Core.Path.{_≡_, refl, sym, ap, ap₂, subst, _∙_}
 use mathlib.Core.Logic.{inl, inr, _≢_}
 use mathlib.Core.List.{List, [], _∷_, _++_}
 use mathlib.Core.Bool.{Bool, true, false, not, _&&_, _||_}
@@ -12,23 +12,24 @@ use lib.Seq.{length-take-le}
 use borrow.Author.Tests.{le-leb, lt-leb, leb-false, eqb-true, eq-eqb, ne-eqb}
 use Rattle.basics.specs.Members.{All}
 use Rattle.basics.proofs.Ifs.{if-all, or-on}
+use Rattle.language.specs.Groups.{InStep}
+use Rattle.language.proofs.Labels.{in-step-computes}
 use Rattle.program.specs.Trees.{Expr, Stmt}
 use Rattle.program.specs.Programs.{Program, ownerOfEvent, moduleAt}
-use Rattle.machine.specs.State.{State, Item, run, back, drop, Thread, Entry, threadAt, schedulerAt}
+use Rattle.machine.specs.State.{State, Item, run, back, drop, Thread, threadAt, schedulerAt}
 use Rattle.machine.specs.State.{isPresent}
-use Rattle.machine.specs.Waits.{readyThreads, stillWaiting}
 use Rattle.machine.specs.Evaluation.{Here, EvalResult, Evaluation, eval, storing}
 use Rattle.machine.specs.Turns.{StepResult, Turn, here, continuation, variables, refuse, accept}
 use Rattle.machine.specs.Turns.{afterEval, evaluator, goOn, withValue, withValues, byCondition, selfAt}
 use Rattle.machine.specs.Turns.{settled, isSchedulerOf, leave, room, fits, unlinkedHere, stay, move}
 use Rattle.machine.specs.Turns.{goTo}
-use Rattle.machine.specs.Steps.{isUnlinked, stepThreadWithin, nobody, turnInstant, endInstant, step}
+use Rattle.machine.specs.Steps.{isUnlinked, stepThreadWithin, nobody, endInstant, step}
 use Rattle.machine.specs.Steps.{stepWithin}
 use Rattle.machine.specs.inner.Parts.{stepItems, stepThread, turn, stepScheduler}
 use Rattle.machine.specs.Statements.{ends, drops, goesBack, stepNothing, stepSeq, stepDo, started}
 use Rattle.machine.specs.Statements.{newThread, starting, stepStart, startedWait, stepStartWait}
 use Rattle.machine.specs.Statements.{stepCooperate, stepLet, stepStore, stepIf, stepWhile}
-use Rattle.machine.specs.Statements.{withSignal, isOwnEvent, signalling, wake, stepGenerate}
+use Rattle.machine.specs.Statements.{withSignal, isOwnEvent, signalling, stepGenerate}
 use Rattle.machine.specs.Statements.{stepAwait, stepStatement}
 use Rattle.machine.specs.declared.value.Value.{Value}
 use Rattle.machine.specs.declared.value.Outcome.{Outcome}
@@ -52,7 +53,8 @@ use Rattle.safety.proofs.Evaluates.{FineO, well, spent, Fine, fine-eval
 use Rattle.safety.proofs.Threads.{each-nth, each-map}
 use Rattle.safety.proofs.Invariant.{TypedItems, p-empty, p-run, p-back, p-drop, GoodThread}
 use Rattle.safety.proofs.Invariant.{GoodIn, Good, no-thread, thread-more, settled-good}
-use Rattle.safety.proofs.Invariant.{left-good, enlisted-good, started-good}
+use Rattle.safety.proofs.Invariant.{left-good, enlisted-good, woken-good, ended-good}
+use Rattle.safety.proofs.Invariant.{started-good}
 
 module _ (P : Program) (sh : List CellTyping) where
   -- what a choice gives on a good state
@@ -221,7 +223,7 @@ module _ (P : Program) (sh : List CellTyping) where
         }
 
     -- nothing stands in the way of an access to an event of the scheduler on which the thread
-    -- stands, where the lists have room
+    -- stands, or of one in step with that, where the lists have room
     ok-signalling : {Γ : List Ty} (u : Turn) (e : ℕ) (b : Bool) (k : Turn → StepResult) (r : Ready Γ u)
         → OwnEvent P (here u) e → b ≡ true
         → (Ready Γ (withSignal u e) → Okay (k (withSignal u e))) → Okay (signalling u e b k)
@@ -230,11 +232,15 @@ module _ (P : Program) (sh : List CellTyping) where
         passed Okay (leb (length (u .program .events)) e) _ _
         (lt-leb (length (u .program .events)) e (subst (λ (p : Program). e < length (p .events)) (sym (r .program)) (o .there)))
         (passed Okay (not b) _ _ (ap not h)
-        (taken Okay (leb 2 (here u) && eqb (ownerOfEvent (u .program) e) (here u)) _ _ own
+        (taken Okay (isOwnEvent u e) _ _ own
         (f (record { before = r .before; acting = signal-acting u e (r .acting); typing = r .typing; now = r .now; vars = r .vars; program = r .program }))))
       where
-        own : (leb 2 (here u) && eqb (ownerOfEvent (u .program) e) (here u)) ≡ true
-        own = rw (le-leb 2 (here u) (o .scheduler), eq-eqb (ownerOfEvent (u .program) e) (here u) (ap (λ (p : Program). ownerOfEvent p e) (r .program) ∙ o .owner))
+        own : isOwnEvent u e ≡ true
+        own =
+            let stands : Program → Type 0 = λ p. InStep (p .links) (ownerOfEvent p e) (here u) in
+            ap₂ _&&_ (le-leb 2 (here u) (o .scheduler))
+            (in-step-computes (u .program .links) (ownerOfEvent (u .program) e) (here u) .1
+            (subst stands (sym (r .program)) (o .owner)))
 
     -- the same thread after an access to an event, which changes neither threads nor cells
     past-signal : {Γ : List Ty} (u : Turn) (e : ℕ) (q : Ready Γ (withSignal u e))
@@ -249,7 +255,7 @@ module _ (P : Program) (sh : List CellTyping) where
     ok-statement : {Γ : List Ty} (u : Turn) (x : Stmt) (r : Ready Γ u) → TypedS P sh Γ (here u) x
         → TypedItems P sh Γ (here u) (continuation u)
         → Roomy (length (variables u)) (run x ∷ continuation u) → Okay (stepStatement u x)
-    unfolding stepNothing stepSeq stepDo stepStart startedWait stepStartWait stepCooperate stepLet stepStore stepIf stepWhile wake stepGenerate stepAwait
+    unfolding stepNothing stepSeq stepDo stepStart startedWait stepStartWait stepCooperate stepLet stepStore stepIf stepWhile stepGenerate stepAwait
     ok-statement {Γ} u x r s-nothing p o =
         ok-stay u (continuation u) (variables u) Γ r (r .vars) p (below-run o)
     ok-statement {Γ} u x r (s-seq a b) p o =
@@ -310,7 +316,9 @@ module _ (P : Program) (sh : List CellTyping) where
     -- 1A: only lists and the event change
     ok-statement {Γ} u x r (s-generate {e = e} y) p o =
         ok-signalling u e _ _ r y (room-awake u (r .acting) e)
-        (λ q. ok-accept (withSignal u e) _ (past-signal u e q p (below-run o)))
+        (λ q.
+        let g = past-signal u e q p (below-run o) in
+        ok-accept (withSignal u e) _ (woken-good P sh _ e _ g))
     -- 1B: the same where the event is present; else the thread stays as it was
     ok-statement {Γ} u x r (s-await {e = e} y) p o =
         ok-signalling u e _ _ r y (rw (room-one u (r .acting) (here u)) (or-on (isPresent (u .state) e || unlinkedHere u)))
@@ -364,17 +372,18 @@ module _ (P : Program) (sh : List CellTyping) where
     ok-nobody k s g h = record { good = g; sound = h }
 
     -- the end of an instant: only lists and events change
-    ok-instant : (s : State) (c : ℕ) (ts : List ℕ) (es : List Entry) → Good P sh s
-        → Okay (turnInstant P s c ts es)
-    ok-instant s c [] es g = ok-nobody 16 s g (λ e. omega (arith, e), λ e. omega (arith, e))
-    ok-instant s c (t ∷ ts) es g = ok-nobody 0 _ g (λ e. omega (arith, e), λ e. omega (arith, e))
+    ok-instant : (s : State) (c : ℕ) → Good P sh s → Okay (endInstant P s c)
+    unfolding endInstant
+    ok-instant s c g =
+        if-all Okay _ _ _ (λ _. nothing) (λ _. if-all Okay _ _ _ (λ _. nothing)
+        (λ _. ok-nobody 0 _ (ended-good P sh _ s g) (λ e. omega (arith, e), λ e. omega (arith, e))))
+      where
+        nothing : Okay (nobody 16 s)
+        nothing = ok-nobody 16 s g (λ e. omega (arith, e), λ e. omega (arith, e))
 
     ok-scheduler : (s : State) (c : ℕ) (ts : List ℕ) → Good P sh s → Counted s
         → isSchedulerOf P c ≡ true → ts ≡ schedulerAt s c .active → Okay (stepScheduler P s c ts)
-    unfolding endInstant
-    ok-scheduler s c [] g h i e =
-        let es = schedulerAt s c .next in
-        ok-instant s c (readyThreads (s .threads) es) (stillWaiting (s .threads) es) g
+    ok-scheduler s c [] g h i e = ok-instant s c g
     ok-scheduler s c (t ∷ ts) g h i e =
         let k = ap (length {A = ℕ}) e in
         ok-thread s c t g (record { counted = h; stands = inl (i, omega arith); same = free-same P s c t; spaces = refl })

@@ -46,7 +46,7 @@ module _ {fs : List Frame} (fine : NoFault fs) where
         owners = shared-owners xs wells;
         first = first-good xs cells;
         some = some-module fine;
-        main = main-typed (programOf fs) (map typingOf xs) (settingOf (programOf fs)) Any (schedulersOf fs) (shared-is xs wells) events [] (modulesFrom fs 0 fs) refl refl
+        main = main-typed (programOf fs) (map typingOf xs) (settingOf (programOf fs)) Any (schedulersOf fs) (shared-is xs wells) events refl [] (modulesFrom fs 0 fs) refl refl
             (λ s l. absurd (omega arith)) (all-imply (laid fine) (parts fs)) (main-plain fine) rules;
         bodies = bodies fine;
       }

@@ -6,6 +6,7 @@ use mathlib.Core.List.{List, [], _∷_, _++_}
 use mathlib.Core.Option.{Option}
 use Prim.Native.Nat.{ℕ, zero, suc, _≤_, _<_}
 use lib.ListN.{length}
+use Rattle.language.specs.Groups.{InStep}
 use Rattle.program.specs.Trees.{Expr, Stmt}
 use Rattle.program.specs.Programs.{Program, ownerOfEvent, moduleAt}
 
@@ -63,11 +64,11 @@ pub data Args (sh : List CellTyping) (Γ : List Ty) (p : ℕ) : List Expr → Li
   more : {x : Expr} {xs : List Expr} {τ : Ty} {τs : List Ty} → TypedE sh Γ p x τ → Pub τ
       → Args sh Γ p xs τs → Args sh Γ p (x ∷ xs) (τ ∷ τs)
 
--- event e is there, and p is the scheduler that owns it
+-- event e is there, and p is the scheduler that owns it, or one in step with that
 pub record OwnEvent (P : Program) (p e : ℕ) : Type 0 where
   pub scheduler : 2 ≤ p
   pub there : e < length (P .events)
-  pub owner : ownerOfEvent P e ≡ p
+  pub owner : InStep (P .links) (ownerOfEvent P e) p
 
 -- the statement keeps the rules on p, over variables Γ: its effect is within p, and p is 1 where it
 -- is unlinked

@@ -49,9 +49,9 @@ pub record Safe (p : Program) (cs : List ℕ) : Type 0 where
   -- every access under every choice or call was to a cell of the acting thread or of the scheduler
   -- on which it stood, 'those before a refusal too'
   pub accessed : All Own (accessesOf p cs)
-  -- 02, change 5: 'An accepted file touches an event only from its owner's scheduler, in every
-  -- run.'
-  pub signalled : All OwnSignal (signalsOf p cs)
+  -- 02, change 7: 'An accepted file then touches an event only from its owner's scheduler or one in
+  -- step with it, in every run.'
+  pub signalled : All (OwnSignal (p .links)) (signalsOf p cs)
   pub public : NoPrivateInPublic (stateAfter p cs)
   pub apart : Apart (stateAfter p cs)
   -- no choice was foreign or stuck

@@ -4,13 +4,14 @@ use mathlib.Core.Path.{_≡_, refl, ap, subst}
 use mathlib.Core.List.{List, [], _∷_, map}
 use Prim.Native.Nat.{ℕ}
 use Rattle.basics.specs.If.{if_then_else_}
-use Rattle.basics.specs.Members.{All, any}
-use Rattle.basics.specs.inner.Searches.{every, sameNumbers, lowest, earlier}
+use Rattle.basics.specs.Members.{All, any, every}
+use Rattle.basics.specs.inner.Searches.{sameNumbers, lowest, earlier}
 use Rattle.basics.specs.Chains.{eachFrom}
 use Rattle.language.specs.Types.{typeWord, ownerDigit, cellDepth, cellType, ownerOf, contentOf}
 use Rattle.language.specs.Types.{public, contentWord}
 use Rattle.language.specs.Kinds.{kindOf, children}
-use Rattle.language.specs.Effects.{withMember, setWithin, within}
+use Rattle.language.specs.Groups.{label}
+use Rattle.language.specs.Effects.{withMember, setWithin, setFrom, groupOf, within}
 use Rattle.language.specs.Places.{standingAt}
 use Rattle.language.specs.declared.verdict.Verdict.{Verdict}
 use Rattle.text.specs.Digits.{digit}
@@ -18,7 +19,8 @@ use Rattle.text.specs.Frames.{hexadecimal, lineWord, frameOfWord, wordsOf, text
 use Rattle.text.specs.Reading.{rightAt}
 use Rattle.text.specs.inner.Reading.{firstWrong, reading}
 use Rattle.program.specs.Trees.{expressionTo, expressionAt, statementTo, statementAt}
-use Rattle.program.specs.Programs.{sharedOf, eventsOf, modulesFrom, allowanceOf, programOf}
+use Rattle.program.specs.Programs.{sharedOf, eventsOf, linksOf, modulesFrom, allowanceOf}
+use Rattle.program.specs.Programs.{programOf}
 use Rattle.fields.specs.Fields.{headerFine, firstContentFine, countOf, frameFine}
 use Rattle.fields.specs.inner.Scans.{headerFault, fieldFault}
 use Rattle.layout.specs.Order.{hasChild}
@@ -38,8 +40,9 @@ use Rattle.machine.specs.Waits.{threadsWhere, entriesExcept}
 use Rattle.machine.specs.inner.Families.{isReady}
 use Rattle.machine.specs.Turns.{isSchedulerOf, leave, fits, stay}
 use Rattle.machine.specs.Statements.{ends, stepNothing}
-use Rattle.machine.specs.Steps.{stepThreadWithin, withoutEventsOf, endInstant, isUnlinked}
-use Rattle.machine.specs.Steps.{stepWithin}
+use Rattle.machine.specs.Groups.{schedulersWhere}
+use Rattle.machine.specs.Steps.{stepThreadWithin, withoutEventsOf, endOn, endOnEach, endInstant}
+use Rattle.machine.specs.Steps.{isUnlinked, stepWithin}
 use Rattle.machine.specs.Runs.{answers}
 use Rattle.samples.specs.inner.Bytes.{bytes}
 use Rattle.samples.specs.inner.Samples.{Sample, samples}
@@ -57,7 +60,7 @@ said x = record { verdict-of = x .verdict; answers-of = x .answers }
 
 -- the whole table, computed at once
 pub table : map computed samples ≡ map said samples
-unfolding bytes if_then_else_ any every sameNumbers lowest earlier standingAt cellDepth cellType ownerOf contentOf public ownerDigit typeWord contentWord withMember setWithin within kindOf children digit hexadecimal lineWord frameOfWord wordsOf textFrames rightAt firstWrong reading expressionTo expressionAt statementTo statementAt sharedOf eventsOf modulesFrom allowanceOf programOf headerFine firstContentFine countOf frameFine hasChild headerFault fieldFault rowFirst firstDisorder highestRank isMisplaced isLeftover firstLeftover noMain orderFault lowestChild deepTo firstDeep depthFault layoutOf namedRule newRule contentRule numbersRule chooseRule typeIn argue typesIn startRule cooperateRule seqRule doRule joinRule storeRule ifElseRule whileRule effectIn modulesIn rulesOf verdict firstContent enlist fresh isReady threadsWhere entriesExcept isSchedulerOf leave fits stay ends stepNothing stepThreadWithin withoutEventsOf endInstant isUnlinked stepWithin eachFrom
+unfolding bytes if_then_else_ any every sameNumbers lowest earlier standingAt cellDepth cellType ownerOf contentOf public ownerDigit typeWord contentWord label withMember setWithin setFrom groupOf within kindOf children digit hexadecimal lineWord frameOfWord wordsOf textFrames rightAt firstWrong reading expressionTo expressionAt statementTo statementAt sharedOf eventsOf linksOf modulesFrom allowanceOf programOf headerFine firstContentFine countOf frameFine hasChild headerFault fieldFault rowFirst firstDisorder highestRank isMisplaced isLeftover firstLeftover noMain orderFault lowestChild deepTo firstDeep depthFault layoutOf namedRule newRule contentRule numbersRule chooseRule typeIn argue typesIn startRule cooperateRule seqRule doRule joinRule storeRule ifElseRule whileRule effectIn modulesIn rulesOf verdict firstContent enlist fresh isReady threadsWhere entriesExcept isSchedulerOf leave fits stay ends stepNothing stepThreadWithin schedulersWhere withoutEventsOf endOn endOnEach endInstant isUnlinked stepWithin eachFrom
 table = refl
 
 -- ---- each row: the verdict is the one that the rules give, and the answers are those of the steps

@@ -1,4 +1,4 @@
--- The events' words: one set, those of a scheduler cleared, and what the state is then. Assumes
+-- The events' words: one set, those of a group cleared, and what the state is then. Assumes
 -- nothing.
 use Prim.Native.Nat.{ℕ, zero, suc, _+_, _-_, _<_, _≤_}
 use Prim.Native.Nat.{_*_}
@@ -12,7 +12,8 @@ use native.Mathlib.Decide.{ℕ-discrete}
 use lib.ListN.{getD, length, set, length-set, List·getD-eq-default}
 use lib.Seq.{getD-set-same, getD-set-other, set-getD}
 use lib.Dec.{eqb, ltb}
-use borrow.Author.Tests.{eq-eqb, ne-eqb, ltb-true, ltb-false}
+use borrow.Author.Tests.{ltb-true, ltb-false, not-true, not-false}
+use Rattle.language.specs.inner.Labels.{inGroup}
 use Rattle.basics.proofs.Ifs.{if-yes, if-no}
 use Rattle.basics.proofs.Ifs.{if-all}
 use Rattle.machine.specs.State.{State, isPresent, withPresent}
@@ -28,49 +29,51 @@ use Rattle.program.specs.declared.event.EventFound.{EventFound}
 use Rattle.program.specs.Trees.{frameAt}
 
 -- ---- as the code computes them
-module _ (c : ℕ) (os w : List ℕ) (e : ℕ) where
+module _ (c : ℕ → Bool) (os w : List ℕ) (e : ℕ) where
   -- one that is not present stays so
   pub absent-stays : getD w (4562 + e) 0 ≡ 0 → w ≡ withoutEvent c os w e
   unfolding withoutEvent
   absent-stays z =
-      if-all (λ (v : List ℕ). w ≡ v) (eqb (getD os e 0) c) _ _
+      if-all (λ (v : List ℕ). w ≡ v) (c (getD os e 0)) _ _
       (λ _. sym (ap (set w (4562 + e)) (sym z) ∙ set-getD w (4562 + e) 0)) (λ _. refl)
 
   pub event-length : length (withoutEvent c os w e) ≡ length w
   unfolding withoutEvent
   event-length =
-      if-all (λ (v : List ℕ). length v ≡ length w) (eqb (getD os e 0) c) _ _
+      if-all (λ (v : List ℕ). length v ≡ length w) (c (getD os e 0)) _ _
       (λ _. length-set w (4562 + e) 0) (λ _. refl)
 
--- by the owner that was found; n is the scheduler
-module _ (fs : List Frame) (w : List ℕ) (e c n : ℕ) (x : EventFound)
-    (q : x ≡ eventIn (programOf fs) e) (k : n ≡ c) where
+-- by the owner that was found; b is whether it is in step with p
+module _ (fs : List Frame) (w : List ℕ) (e : ℕ) (labels : List ℕ) (p : ℕ) (x : EventFound) (b : Bool)
+    (q : x ≡ eventIn (programOf fs) e) (k : b ≡ inGroup labels p (x .owner)) where
   owner-found : x .owner ≡ getD (eventsOf fs) e 0
   unfolding eventIn programOf
   owner-found = ap (λ (y : EventFound). y .owner) q
 
-  pub other-stays : (x .owner ≡ n → ⊥) → w ≡ withoutEvent c (eventsOf fs) w e
-  unfolding withoutEvent
-  other-stays d =
-      sym (if-no _ _ (ne-eqb (getD (eventsOf fs) e 0) c (λ z. d (owner-found ∙ z ∙ sym k))))
+  test-is : inGroup labels p (getD (eventsOf fs) e 0) ≡ b
+  test-is = ap (inGroup labels p) (sym owner-found) ∙ sym k
 
-  pub own-cleared : x .owner ≡ n → set w (4562 + e) 0 ≡ withoutEvent c (eventsOf fs) w e
+  pub other-stays : not b ≡ true → w ≡ withoutEvent (inGroup labels p) (eventsOf fs) w e
   unfolding withoutEvent
-  own-cleared d =
-      sym (if-yes _ _ (eq-eqb (getD (eventsOf fs) e 0) c (sym owner-found ∙ d ∙ k)))
+  other-stays d = sym (if-no _ _ (test-is ∙ not-true b d))
 
-pub clear-start : (c : ℕ) (os w : List ℕ) → w ≡ withoutEvents c os w 0
+  pub own-cleared : not b ≡ false
+      → set w (4562 + e) 0 ≡ withoutEvent (inGroup labels p) (eventsOf fs) w e
+  unfolding withoutEvent
+  own-cleared d = sym (if-yes _ _ (test-is ∙ not-false b d))
+
+pub clear-start : (c : ℕ → Bool) (os w : List ℕ) → w ≡ withoutEvents c os w 0
 unfolding withoutEvents
 clear-start c os w = refl
 
-pub clear-more : (c : ℕ) (os w u v : List ℕ) (n e : ℕ) → u ≡ withoutEvents c os w n
+pub clear-more : (c : ℕ → Bool) (os w u v : List ℕ) (n e : ℕ) → u ≡ withoutEvents c os w n
     → e ≡ n → v ≡ withoutEvent c os u e → v ≡ withoutEvents c os w (n + 1)
 unfolding withoutEvents
 clear-more c os w u v n e h q k =
     k ∙ ap₂ (λ (x : List ℕ) (i : ℕ). withoutEvent c os x i) h q
     ∙ ap (withoutEvents c os w) (sym (add-one n))
 
-pub clear-end : (c : ℕ) (os w v : List ℕ) (n m k : ℕ) → v ≡ withoutEvents c os w n → n ≤ m
+pub clear-end : (c : ℕ → Bool) (os w v : List ℕ) (n m k : ℕ) → v ≡ withoutEvents c os w n → n ≤ m
     → m ≤ n → m ≡ k → v ≡ withoutEvents c os w k
 clear-end c os w v n m k h a b q = h ∙ ap (withoutEvents c os w) (omega arith)
 
@@ -78,7 +81,7 @@ pub events-are : (fs : List Frame) (f : Frame) → f ≡ frameAt fs 0 → frameA
     → f .c % 256 ≡ frameAt fs 0 .c
 events-are fs f e l = let z = ap (λ (g : Frame). g .c) e in omega arith
 
-pub cleared-length : (c : ℕ) (os w : List ℕ) (n : ℕ) → length (withoutEvents c os w n) ≡ length w
+pub cleared-length : (c : ℕ → Bool) (os w : List ℕ) (n : ℕ) → length (withoutEvents c os w n) ≡ length w
 unfolding withoutEvents
 cleared-length c os w zero = refl
 cleared-length c os w (suc n) =
@@ -87,14 +90,14 @@ cleared-length c os w (suc n) =
 -- ---- what they say
 
 -- a word of no event
-module _ (c : ℕ) (os w : List ℕ) where
+module _ (c : ℕ → Bool) (os w : List ℕ) where
   one-out : (e i : ℕ) → (i ≡ 4562 + e → ⊥) → getD (withoutEvent c os w e) i 0 ≡ getD w i 0
   unfolding withoutEvent
   one-out e i f =
-      if-all (λ (v : List ℕ). getD v i 0 ≡ getD w i 0) (eqb (getD os e 0) c) _ _
+      if-all (λ (v : List ℕ). getD v i 0 ≡ getD w i 0) (c (getD os e 0)) _ _
       (λ _. getD-set-other w (4562 + e) i 0 0 f) (λ _. refl)
 
-cleared-out : (c : ℕ) (os w : List ℕ) (n i : ℕ) → (4562 ≤ i → i < 4562 + n → ⊥)
+cleared-out : (c : ℕ → Bool) (os w : List ℕ) (n i : ℕ) → (4562 ≤ i → i < 4562 + n → ⊥)
     → getD (withoutEvents c os w n) i 0 ≡ getD w i 0
 unfolding withoutEvents
 cleared-out c os w zero i f = refl
@@ -103,13 +106,13 @@ cleared-out c os w (suc n) i f =
     ∙ cleared-out c os w n i (λ a b. f a (omega arith))
 
 -- of event e
-unfoldable clearedWord : ℕ → List ℕ → ℕ → ℕ → ℕ
-clearedWord c os e x = if eqb (getD os e 0) c then 0 else x
+unfoldable clearedWord : (ℕ → Bool) → List ℕ → ℕ → ℕ → ℕ
+clearedWord c os e x = if c (getD os e 0) then 0 else x
 
-one-in : (c : ℕ) (os w : List ℕ) (e : ℕ) → 4562 + e < length w
+one-in : (c : ℕ → Bool) (os w : List ℕ) (e : ℕ) → 4562 + e < length w
     → getD (withoutEvent c os w e) (4562 + e) 0 ≡ clearedWord c os e (getD w (4562 + e) 0)
 unfolding withoutEvent clearedWord if_then_else_
-one-in c os w e l = by (eqb (getD os e 0) c)
+one-in c os w e l = by (c (getD os e 0))
   where
     by : (b : Bool)
         → getD (if b then set w (4562 + e) 0 else w) (4562 + e) 0
@@ -117,7 +120,7 @@ one-in c os w e l = by (eqb (getD os e 0) c)
     by true = getD-set-same w (4562 + e) 0 0 l
     by false = refl
 
-cleared-in : (c : ℕ) (os w : List ℕ) (n e : ℕ) → e < n → 4562 + n ≤ length w
+cleared-in : (c : ℕ → Bool) (os w : List ℕ) (n e : ℕ) → e < n → 4562 + n ≤ length w
     → getD (withoutEvents c os w n) (4562 + e) 0 ≡ clearedWord c os e (getD w (4562 + e) 0)
 unfolding withoutEvents
 cleared-in c os w zero e l h = absurd (omega arith)
@@ -139,9 +142,9 @@ cleared-in c os w (suc n) e l h =
         ∙ r (omega (arith, q))
 
 -- in the state: the same of each event that there is
-without-at : (c : ℕ) (os : List ℕ) (bs : List Bool) (e : ℕ) → length os ≡ length bs
+without-at : (c : ℕ → Bool) (os : List ℕ) (bs : List Bool) (e : ℕ) → length os ≡ length bs
     → e < length bs
-    → getD (withoutEventsOf c os bs) e false ≡ (getD bs e false && not (eqb (getD os e 0) c))
+    → getD (withoutEventsOf c os bs) e false ≡ (getD bs e false && not (c (getD os e 0)))
 unfolding withoutEventsOf
 without-at c [] [] e q l = absurd (omega arith)
 without-at c [] (b ∷ bs) e q l = absurd (omega arith)
@@ -149,17 +152,17 @@ without-at c (o ∷ os) [] e q l = absurd (omega arith)
 without-at c (o ∷ os) (b ∷ bs) zero q l = refl
 without-at c (o ∷ os) (b ∷ bs) (suc e) q l = without-at c os bs e (omega arith) (omega arith)
 
-without-length : (c : ℕ) (os : List ℕ) (bs : List Bool)
+without-length : (c : ℕ → Bool) (os : List ℕ) (bs : List Bool)
     → length (withoutEventsOf c os bs) ≡ length bs
 unfolding withoutEventsOf
 without-length c [] bs = refl
 without-length c (o ∷ os) [] = refl
 without-length c (o ∷ os) (b ∷ bs) = ap suc (without-length c os bs)
 
-cleared-bit : (c : ℕ) (os : List ℕ) (e : ℕ) (b : Bool)
-    → clearedWord c os e (bit b) ≡ bit (b && not (eqb (getD os e 0) c))
+cleared-bit : (c : ℕ → Bool) (os : List ℕ) (e : ℕ) (b : Bool)
+    → clearedWord c os e (bit b) ≡ bit (b && not (c (getD os e 0)))
 unfolding clearedWord if_then_else_
-cleared-bit c os e b = by (eqb (getD os e 0) c) b
+cleared-bit c os e b = by (c (getD os e 0)) b
   where
     by : (d b : Bool) → (if d then 0 else bit b) ≡ bit (b && not d)
     by true true = refl
@@ -184,7 +187,7 @@ other-events w v s bs h l out is =
     }
 
 -- `clear_events`, of n events
-pub clear-says : (c n : ℕ) (os w : List ℕ) (s : State) → Says w s → length os ≡ n
+pub clear-says : (c : ℕ → Bool) (n : ℕ) (os w : List ℕ) (s : State) → Says w s → length os ≡ n
     → length (s .present) ≡ n → n ≤ 16
     → Says (withoutEvents c os w n) (withPresent (withoutEventsOf c os (s .present)) s)
 clear-says c n os w s h lo lp few =

@@ -1,5 +1,7 @@
 // The events in the lent words: 1 where one is present.
 use language::Place;
+use language::group::LABELS;
+use language::group::is_member;
 use machine::offset::EVENTS_AT;
 use program::event::event_at;
 use program::frames::frame_at;
@@ -7,7 +9,10 @@ ghost use mathlib.Core.Path.{_≡_};
 ghost use Prim.Native.Nat.{_+_, _<_, _≤_};
 ghost use lib.Dec.{eqb};
 ghost use lib.ListN.{length, getD, set};
-ghost use Rattle.language.specs.Limits.{mostEvents};
+ghost use mathlib.Core.Bool.{true};
+ghost use Rattle.language.specs.Limits.{mostSchedulers, mostEvents};
+ghost use Rattle.language.specs.Places.{isScheduler};
+ghost use Rattle.language.specs.inner.Labels.{inGroup};
 ghost use Rattle.text.specs.Frames.{framesOf};
 ghost use Rattle.program.specs.Trees.{frameAt};
 ghost use Rattle.program.specs.Programs.{eventsOf};
@@ -29,9 +34,10 @@ pub fn set_present(state: &mut [u64], e: u8)
 }
 
 // Whose event e is, is asked only where it is present.
-fn clear_event(frames: &[u64], state: &mut [u64], q: Place, e: u8)
-    requires { ⌜ (length (now state) ≡ stateLength) × (e < mostEvents) ⌝ }
-    ensures { λ _. ⌜ now (state .exit) ≡ withoutEvent (q .number)
+fn clear_event(frames: &[u64], labels: &[u8; LABELS], state: &mut [u64], q: Place, e: u8)
+    requires { ⌜ (length (now state) ≡ stateLength) × (e < mostEvents)
+        × (length (now labels) ≡ mostSchedulers) × (isScheduler (q .number) ≡ true) ⌝ }
+    ensures { λ _. ⌜ now (state .exit) ≡ withoutEvent (inGroup (now (labels .entry)) (q .number))
         (eventsOf (framesOf (now (frames .entry)))) (now (state .entry)) e ⌝ }
 {
     let at = EVENTS_AT + e as usize;
@@ -39,7 +45,7 @@ fn clear_event(frames: &[u64], state: &mut [u64], q: Place, e: u8)
         return;
     }
     let event = event_at(frames, e);
-    if event.owner != q.number() {
+    if !is_member(labels, q, event.owner) {
         return;
     }
     state[at] = 0;
@@ -54,18 +60,19 @@ fn event_count(frames: &[u64]) -> u8
     (frame_at(frames, 0).c % 256) as u8
 }
 
-// The scheduler's events are no longer present.
-pub fn clear_events(frames: &[u64], state: &mut [u64], q: Place)
+// The events of the scheduler and of those in step with it are no longer present.
+pub fn clear_events(frames: &[u64], labels: &[u8; LABELS], state: &mut [u64], q: Place)
     requires { ⌜ (length (now state) ≡ stateLength) × (0 < length (now frames))
-        × (frameAt (framesOf (now frames)) 0 .c ≤ mostEvents) ⌝ }
-    ensures { λ _. ⌜ now (state .exit) ≡ withoutEvents (q .number)
+        × (frameAt (framesOf (now frames)) 0 .c ≤ mostEvents)
+        × (length (now labels) ≡ mostSchedulers) × (isScheduler (q .number) ≡ true) ⌝ }
+    ensures { λ _. ⌜ now (state .exit) ≡ withoutEvents (inGroup (now (labels .entry)) (q .number))
         (eventsOf (framesOf (now (frames .entry)))) (now (state .entry))
         (frameAt (framesOf (now (frames .entry))) 0 .c) ⌝ }
 {
     let events = event_count(frames);
     let mut e: u8 = 0;
     while e < events {
-        clear_event(frames, state, q, e);
+        clear_event(frames, labels, state, q, e);
         e += 1;
     }
 }

@@ -11,7 +11,10 @@ use Rattle.language.specs.Limits.{defaultAllowance}
 use Rattle.text.specs.Frames.{frameOfWord, framesOf}
 use Rattle.text.proofs.FrameWords.{frames-length, frame-at}
 use Rattle.program.specs.Trees.{noFrame}
-use Rattle.program.specs.Programs.{sharedOf, allowanceOf, programOf}
+use Rattle.language.specs.inner.Labels.{labelsOf}
+use Rattle.program.specs.Programs.{sharedOf, linksOf, allowanceOf, programOf}
+use Rattle.program.specs.inner.Links.{LinksPlaced}
+use Rattle.layout.proofs.Links.{links-placed}
 use Rattle.reach.proofs.Passed.{schedulers-range, some-frame}
 use Rattle.stepper.specs.declared.file.File.{File}
 use Rattle.stepper.specs.inner.Files.{FileWords, fileOf}
@@ -43,12 +46,17 @@ file-fits words f e g =
     let z = ap (λ (x : Frame). x .b) (file-header words g f e) in
     omega arith
 
-pub file-is : (words : List ℕ) (f : Frame) (n a : ℕ) → f ≡ frameOfWord (getD words 0 0)
-    → n ≡ length (sharedOf (framesOf words)) → a ≡ allowanceOf (f .a) → FileWords words
-    → _≡_ {A = File} (record { schedulers = f .b; shared = n; allowance = a })
+-- each link names two schedulers
+pub file-links : (words : List ℕ) → FileWords words → LinksPlaced (framesOf words)
+file-links words g = links-placed (framesOf words) (g .laid-out)
+
+pub file-is : (words : List ℕ) (f : Frame) (n a : ℕ) (labels : List ℕ)
+    → f ≡ frameOfWord (getD words 0 0) → n ≡ length (sharedOf (framesOf words)) → a ≡ allowanceOf (f .a)
+    → labels ≡ labelsOf (linksOf (framesOf words)) → FileWords words
+    → _≡_ {A = File} (record { schedulers = f .b; shared = n; allowance = a; labels = labels })
     (fileOf (programOf (framesOf words)))
 unfolding programOf
-file-is words f n a e h k g = let z = file-header words g f e in
-    ap (λ (x : Frame). record { schedulers = x .b; shared = n; allowance = a }) z
-    ∙ ap (λ (m : ℕ). record { schedulers = getD (framesOf words) 0 noFrame .b; shared = m; allowance = a }) h
-    ∙ ap (λ (b : ℕ). record { schedulers = getD (framesOf words) 0 noFrame .b; shared = length (sharedOf (framesOf words)); allowance = b }) (k ∙ ap (λ (x : Frame). allowanceOf (x .a)) z)
+file-is words f n a labels e h k l g =
+    let z = file-header words g f e in
+    let y = k ∙ ap (λ (x : Frame). allowanceOf (x .a)) z in
+    λ i. record { schedulers = z i .b; shared = h i; allowance = y i; labels = l i }

@@ -3,6 +3,7 @@ pub mod Grows
 pub mod Commits
 pub mod Transitions
 pub mod StartTransitions
+pub mod Groups
 pub mod Signals
 -- The turn: by the kind of its top item, then whole (`turn-is`).
 pub mod Moves
@@ -16,6 +17,7 @@ pub mod Counted
 pub mod GoodWords
 pub mod ActLaws
 pub mod TurnLaws
+pub mod InstantLaws
 pub mod PartyLaws
 -- The public calls: the file, the answer, many choices in one call.
 pub mod FileLaws

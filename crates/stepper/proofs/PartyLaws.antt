@@ -16,38 +16,26 @@ use Rattle.language.specs.declared.Place.{Place}
 use Rattle.language.proofs.PlaceLaws.{test-bounds, scheduler-place, has-scheduler}
 use Rattle.text.specs.Frames.{framesOf}
 use Rattle.program.specs.Programs.{Program, programOf}
-use Rattle.program.specs.Programs.{eventsOf}
-use Rattle.machine.specs.State.{State, schedulerAt, withScheduler}
-use Rattle.machine.specs.State.{withPresent}
-use Rattle.machine.specs.Waits.{readyThreads, stillWaiting}
+use Rattle.machine.specs.State.{State, schedulerAt}
 use Rattle.basics.specs.If.{if_then_else_}
 use Rattle.machine.specs.Turns.{accessCount, isSchedulerOf}
 use Rattle.machine.specs.inner.Parts.{stepThread, stepScheduler}
-use Rattle.machine.specs.Steps.{turnInstant, endInstant, isUnlinked, step, stepWithin}
-use Rattle.machine.specs.Steps.{withoutEventsOf}
-use Rattle.machine.specs.Words.{pack, wordsAt}
+use Rattle.machine.specs.Steps.{endInstant, isUnlinked, step, stepWithin}
 use Rattle.machine.specs.Calls.{CallResult, asCall, stepCall, callResult}
 use Rattle.machine.specs.Shapes.{IsThread, SchedulerFits}
-use Rattle.machine.proofs.WordLaws.{is-pack}
-use Rattle.machine.proofs.WordLaws.{Says}
 use Rattle.machine.proofs.Calls.{called-in}
 use Rattle.machine.proofs.KeptShape.{scheduler-fits, unlinked-is}
-use Rattle.lists.specs.inner.Lists.{readyWords, withInstantEnded, ListWords}
-use Rattle.lists.proofs.SchedulerSays.{first-says, room-says}
-use Rattle.lists.proofs.Instants.{instant-readies, instant-says, instant-none}
-use Rattle.lists.proofs.Instants.{no-active}
+use Rattle.lists.proofs.SchedulerSays.{first-says}
 use Rattle.states.specs.inner.Parties.{isUnlinkedWord}
 use Rattle.states.proofs.PartyLaws.{unlinked-low, unlinked-says}
 use Rattle.stepper.specs.declared.file.File.{File}
 use Rattle.stepper.specs.declared.party.StepAnswer.{StepAnswer}
-use Rattle.stepper.specs.inner.Files.{nobodyAnswers, steppedOn}
+use Rattle.commits.specs.inner.Commits.{grouping}
+use Rattle.stepper.specs.inner.Files.{nobodyAnswers, steppedOn, InstantWords}
 use Rattle.stepper.specs.inner.Files.{StepWords, stateIn, TurnChoice, fileOf, actingIn}
 use Rattle.stepper.proofs.Transitions.{scheduler-there}
-use Rattle.stepper.proofs.GoodWords.{fits-in, shaped, says, step-long, threads-few}
-use Rattle.stepper.proofs.GoodWords.{few-events}
+use Rattle.stepper.proofs.GoodWords.{fits-in, shaped, says, step-long}
 use Rattle.program.specs.Trees.{frameAt}
-use Rattle.states.specs.inner.Events.{withoutEvents}
-use Rattle.states.proofs.EventLaws.{clear-says}
 
 module _ (frames : List ℕ) (shared : ℕ) (w : List ℕ) (h : StepWords frames shared w) (c : ℕ) where
   abbrev P : Program
@@ -83,29 +71,6 @@ module _ (frames : List ℕ) (shared : ℕ) (w : List ℕ) (h : StepWords frames
       list-asks =
           (step-long frames shared w h, ap (λ (q : Place). isScheduler (q .number)) at ∙ there .1)
 
-      pub instant-asks : getD w (2 + 130 * (c - 2)) 0 ≡ 0
-          → ListWords w (67 + 130 * (p .number - 2)) × (isScheduler (p .number) ≡ true)
-          × (getD w (2 + 130 * (p .number - 2)) 0 ≡ 0)
-      instant-asks z = (
-        (
-          list-asks .0,
-          threads-few frames shared w h,
-          subst (λ (q : Place). getD w (67 + 130 * (q .number - 2)) 0 ≤ 64) (sym at)
-              (rw (room-says w s (says frames shared w h) c in-lists (there .0)) (fit .next-room)),
-        ),
-        list-asks .1,
-        subst (λ (q : Place). getD w (2 + 130 * (q .number - 2)) 0 ≡ 0) (sym at) z,
-      )
-
-      pub count-at : (k : ℕ) → k ≡ length (readyWords w (wordsAt w (67 + 130 * (p .number - 2))))
-          → k ≡ length (readyWords w (wordsAt w (67 + 130 * (c - 2))))
-      count-at k e =
-          e ∙ ap (λ (q : Place). length (readyWords w (wordsAt w (67 + 130 * (q .number - 2))))) at
-
-      pub ended-at : (v : List ℕ) → v ≡ withInstantEnded w (p .number - 2)
-          → v ≡ withInstantEnded w (c - 2)
-      ended-at v e = e ∙ ap (λ (q : Place). withInstantEnded w (q .number - 2)) at
-
     -- ---- with a first active thread
     module _ (t : ℕ) (q : t ≡ getD w (3 + 130 * (c - 2)) 0) (some : t ≡ 0 → ⊥) where
       is-thread : IsThread t
@@ -135,68 +100,9 @@ module _ (frames : List ℕ) (shared : ℕ) (w : List ℕ) (h : StepWords frames
           by [] z f = refl
           by (a ∷ ts) z (more f fs) = absurd (let y = f .0 in omega arith)
 
-      few : length (s .threads) ≤ 64
-      few = shaped frames shared w h .threads-room
-
-      pub none-active : getD w (2 + 130 * (c - 2)) 0 ≡ 0
-      none-active =
-          no-active (frameAt (framesOf frames) 0 .c) w s (says frames shared w h) few c in-lists
-          (there .0) (fit .next-room) (fit .entries) idle
-
-      module _ (v : List ℕ) (k : ℕ) (count : k ≡ length (readyWords w (wordsAt w (67 + 130 * (c - 2))))) (out : v ≡ withInstantEnded w (c - 2)) where
-        readies : k ≡ length (readyThreads (s .threads) (schedulerAt s c .next))
-        readies =
-            count
-            ∙ instant-readies (frameAt (framesOf frames) 0 .c) w s (says frames shared w h) few c in-lists (there .0)
-            (fit .next-room) (fit .entries)
-
-        ended-says : Says v (withScheduler c (record { active = readyThreads (s .threads) (schedulerAt s c .next); next = stillWaiting (s .threads) (schedulerAt s c .next) }) s)
-        ended-says = subst (λ (l : List ℕ). Says l (withScheduler c (record { active = readyThreads (s .threads) (schedulerAt s c .next); next = stillWaiting (s .threads) (schedulerAt s c .next) }) s)) (sym out) (instant-says (frameAt (framesOf frames) 0 .c) w s (says frames shared w h) few c in-lists (there .0) (fit .next-room) (fit .entries) idle)
-
-        -- the scheduler's events are cleared too
-        cleared-says : Says (withoutEvents c (P .events) v (frameAt (framesOf frames) 0 .c))
-            (withPresent (withoutEventsOf c (P .events) (s .present)) (withScheduler c (record { active = readyThreads (s .threads) (schedulerAt s c .next); next = stillWaiting (s .threads) (schedulerAt s c .next) }) s))
-        cleared-says =
-            clear-says c (frameAt (framesOf frames) 0 .c) (P .events) v _ ended-says
-            (fits-in frames shared w h .events) (shaped frames shared w h .events)
-            (few-events frames shared w h)
-
-        pub instant-nothing : k ≡ 0
-            → callResult 16 0 0 v ≡ asCall w (stepScheduler P s c (schedulerAt s c .active))
-        unfolding endInstant accessCount if_then_else_
-        instant-nothing z =
-            ap (callResult 16 0 0) (out ∙ instant-none (frameAt (framesOf frames) 0 .c) w s (says frames shared w h) few c in-lists (there .0) (fit .next-room) (fit .entries) idle none-ready)
-            ∙ ap (λ (ts : List ℕ). asCall w (turnInstant P s c ts (stillWaiting (s .threads) (schedulerAt s c .next)))) (sym none-ready)
-            ∙ ap (λ (ts : List ℕ). asCall w (stepScheduler P s c ts)) (sym idle)
-          where
-            none-ready : readyThreads (s .threads) (schedulerAt s c .next) ≡ []
-            none-ready = by (readyThreads (s .threads) (schedulerAt s c .next)) (sym z ∙ readies)
-              where
-                by : (ts : List ℕ) → 0 ≡ length ts → ts ≡ []
-                by [] y = refl
-                by (a ∷ ts) y = absurd (omega arith)
-
-        pub instant-done : (k ≡ 0 → ⊥) → (y : List ℕ)
-            → y ≡ withoutEvents c (P .events) v (frameAt (framesOf frames) 0 .c)
-            → callResult 0 0 0 y ≡ asCall w (stepScheduler P s c (schedulerAt s c .active))
-        unfolding endInstant accessCount if_then_else_
-        instant-done z y e =
-            ap (callResult 0 0 0) (e ∙ is-pack _ _ cleared-says) ∙ by (readyThreads (s .threads) (schedulerAt s c .next)) readies
-            ∙ ap (λ (ts : List ℕ). asCall w (stepScheduler P s c ts)) (sym idle)
-          where
-            by : (ts : List ℕ) → k ≡ length ts
-                → callResult 0 0 0 (pack (withPresent (withoutEventsOf c (P .events) (s .present)) (withScheduler c (record { active = ts; next = stillWaiting (s .threads) (schedulerAt s c .next) }) s)))
-                ≡ asCall w (turnInstant P s c ts (stillWaiting (s .threads) (schedulerAt s c .next)))
-            by [] y = absurd (z y)
-            by (a ∷ ts) y = refl
-
-  -- the file's events are its program's, and the place is the choice
-  same-events : (p : Place) → p ≡ record { number = c } → (v : List ℕ)
-      → withoutEvents (p .number) (eventsOf (framesOf frames)) v (frameAt (framesOf frames) 0 .c)
-      ≡ withoutEvents c (P .events) v (frameAt (framesOf frames) 0 .c)
-  unfolding programOf
-  same-events p at v =
-      ap (λ (q : Place). withoutEvents (q .number) (eventsOf (framesOf frames)) v (frameAt (framesOf frames) 0 .c)) at
+      pub instant-ends : (r : CallResult) → r ≡ asCall w (endInstant P s c)
+          → r ≡ asCall w (stepScheduler P s c (schedulerAt s c .active))
+      instant-ends r k = k ∙ ap (λ (ts : List ℕ). asCall w (stepScheduler P s c ts)) (sym idle)
 
   -- ---- the whole choice, by the tests of `step_valid`
   module _ (b : Bool) (file : File) (f : file ≡ fileOf P) (q : b ≡ hasScheduler (file .schedulers) c) where
@@ -314,23 +220,21 @@ module _ (frames : List ℕ) (shared : ℕ) (w : List ℕ) (h : StepWords frames
             (λ e u z. absurd (true≢false (sym has-is ∙ e)))
 
         module _ (p : Place) (at : p ≡ record { number = c }) where
-          pub idle-asks : ListWords w (67 + 130 * (p .number - 2))
-              × (isScheduler (p .number) ≡ true) × (getD w (2 + 130 * (p .number - 2)) 0 ≡ 0)
-          idle-asks = instant-asks is p at (none-active is t first-none none)
+          pub idle-asks : (labels : List ℕ) (n : ℕ) → labels ≡ file .labels → n ≡ file .schedulers
+              → InstantWords frames (grouping labels n) w (p .number)
+          idle-asks labels n k l =
+              record {
+                shared = shared;
+                step = h;
+                groups = ap₂ grouping (k ∙ ap (λ (x : File). x .labels) f) (l ∙ ap (λ (x : File). x .schedulers) f);
+                party = ap (λ (x : Place). isSchedulerOf P (x .number)) at ∙ is;
+              }
 
-          module _ (v : List ℕ) (k : ℕ) (count : k ≡ length (readyWords w (wordsAt w (67 + 130 * (p .number - 2))))) (out : v ≡ withInstantEnded w (p .number - 2)) where
-            pub idle-nothing : k ≡ 0 → callResult 16 0 0 v ≡ stepCall (framesOf frames) w c
-            idle-nothing z =
-                scheduler-steps has file f refl has-is _
-                (instant-nothing is t first-none none v k (count-at is p at k count) (ended-at is p at v out) z)
-
-            pub idle-done : (k ≡ 0 → ⊥) → (y : List ℕ)
-                → y ≡ withoutEvents (p .number) (eventsOf (framesOf frames)) v (frameAt (framesOf frames) 0 .c)
-                → callResult 0 0 0 y ≡ stepCall (framesOf frames) w c
-            idle-done z y d =
-                scheduler-steps has file f refl has-is _
-                (instant-done is t first-none none v k (count-at is p at k count) (ended-at is p at v out) z y
-                (d ∙ same-events p at v))
+          pub idle-steps : (r : CallResult) → r ≡ asCall w (endInstant P s (p .number))
+              → r ≡ stepCall (framesOf frames) w c
+          idle-steps r k =
+              scheduler-steps has file f refl has-is _
+              (instant-ends is t first-none none r (k ∙ ap (λ (x : Place). asCall w (endInstant P s (x .number))) at))
 
 -- ---- the acting thread, as the code finds it
 module _ (n : ℕ) (w : List ℕ) (c : ℕ) (b : Bool) (q : b ≡ hasScheduler n c) where

@@ -21,8 +21,15 @@ use Rattle.machine.specs.Accesses.{Access}
 use Rattle.machine.specs.State.{State, Stored, Thread, awaiting, noThread, threadAt, schedulerAt}
 use Rattle.machine.specs.State.{isPresent, withCells, withPresent, withThread, enlist, usedCells}
 use Rattle.machine.specs.Turns.{StepResult, Turn, unlinkedHere, refuse, accept, settled, leave, room}
-use Rattle.machine.specs.Waits.{threadsWhere, isAwaiting}
-use Rattle.machine.specs.Statements.{withSignal, isOwnEvent, signalling, wake, roomToWake}
+use Rattle.machine.specs.Statements.{withSignal, isOwnEvent, signalling, wakeOnEach, eventGroup}
+use Rattle.machine.specs.Statements.{roomToWakeOn, roomToWake}
+use Rattle.machine.specs.Groups.{members}
+use Rattle.basics.specs.Members.{All}
+use Rattle.language.specs.Groups.{label, inStep}
+use Rattle.language.specs.inner.Labels.{labelsOf, inGroup}
+use Rattle.machine.proofs.GroupLaws.{every-each, woken-present}
+use Rattle.machine.proofs.Lists.{all-imply}
+use Rattle.machine.proofs.KeptShape.{awakeOn}
 use Rattle.machine.specs.Statements.{stepGenerate, stepAwait}
 use Rattle.machine.specs.Words.{entryWord}
 use Rattle.machine.specs.Shapes.{ThreadFits, SchedulerFits}
@@ -31,16 +38,17 @@ use Rattle.machine.proofs.Blocks.{put-cells}
 use Rattle.machine.proofs.KeptShape.{scheduler-fits, leave-next}
 use Rattle.states.specs.inner.Threads.{threadWordsOf}
 use Rattle.states.proofs.EventLaws.{set-says, present-says}
-use Rattle.lists.proofs.Instants.{woken-count, wake-says}
+use Rattle.groups.specs.inner.Members.{roomOnEach, wokenOn}
+use Rattle.groups.proofs.MembersSay.{There, ListsShaped, room-says, woken-says}
 use Rattle.acts.specs.declared.act.Transition.the-variants.{Generates, Awaits}
 use Rattle.acts.specs.inner.Transitions.{TurnResult, actedIn}
 use Rattle.commits.specs.inner.Commits.{Committed, committed, refusesIn, staysIn, leftIn, roomIn}
 use Rattle.commits.specs.inner.Commits.{joinedIn, settledIn, ownsEvent, wakeRoomIn, presentIn}
 use Rattle.commits.specs.inner.Commits.{generateObstacle, awaitObstacle, generatedIn, generatesIn}
-use Rattle.commits.specs.inner.Commits.{awaitingIn, awaitsIn}
-use Rattle.commits.proofs.WritingLaws.{list-block}
-use Rattle.stepper.specs.inner.Files.{asCommitted}
+use Rattle.commits.specs.inner.Commits.{awaitingIn, awaitsIn, Grouping, membersBy}
+use Rattle.stepper.specs.inner.Files.{asCommitted, groupingOf}
 use Rattle.stepper.proofs.Grows.{Grown}
+use Rattle.stepper.proofs.Groups.{members-same, members-there, group-same, eqb-swap, in-group}
 use Rattle.stepper.proofs.Commits.{withCellWords, left-says, joined-says, room-is}
 use Rattle.stepper.proofs.Transitions.{Acts, turnAt, commit, list-there, chosen-there}
 use Rattle.stepper.proofs.Transitions.{active-few, refuse-is, stays-is, settled-is}
@@ -81,18 +89,43 @@ module _ {fs : List Frame} {P : Program} {n : ℕ} {w : List ℕ} {s : State} {c
   owner-there h = list-there A o (A .owners e h)
 
   -- ---- the tests are the same
-  own-same : ownsEvent (x .place) o ≡ isOwnEvent u e
-  unfolding isOwnEvent
-  own-same = ap (λ (b : Bool). b && eqb o (x .place)) (scheduler-test n (x .place) (X .place))
+  abbrev G : Grouping
+  G = groupingOf P
 
-  room-same : e < length (P .events) → wakeRoomIn v o e ≡ roomToWake u e
-  unfolding wakeRoomIn roomToWake
+  most : P .schedulers ≤ 8
+  most = let l = A .file .most-schedulers in let q = A .file .schedulers in omega arith
+
+  count : length (s .schedulers) ≡ P .schedulers
+  count = A .shape .count ∙ sym (A .file .schedulers)
+
+  own-same : e < length (P .events) → ownsEvent G (x .place) o ≡ isOwnEvent u e
+  unfolding isOwnEvent
+  own-same h =
+      ap (λ (b : Bool). b && inGroup (labelsOf (P .links)) (x .place) o)
+      (scheduler-test n (x .place) (X .place)) ∙ by (leb 2 (x .place)) refl
+    where
+      by : (b : Bool) → leb 2 (x .place) ≡ b
+          → (b && inGroup (labelsOf (P .links)) (x .place) o) ≡ (b && inStep (P .links) o (x .place))
+      by false q = refl
+      by true q =
+          in-group (P .links) (x .place) o (scheduler-test n (x .place) (X .place) ∙ q) (owner-there h .1)
+          ∙ eqb-swap (label (P .links) (x .place)) (label (P .links) o)
+
+  members-in : (q : ℕ) → isScheduler q ≡ true → membersBy G q ≡ members P q
+  members-in q h = members-same (P .links) (P .schedulers) q most h
+
+  group-there : (q : ℕ) → All (There s) (members P q)
+  group-there q = members-there s (inStep (P .links) q) (P .schedulers) count most
+
+  lists-shaped : ListsShaped (frameAt fs 0 .c) s
+  lists-shaped q = let f = lists-fit q in record { room = f .next-room; entries = f .entries }
+
+  room-same : e < length (P .events) → wakeRoomIn G v o e ≡ roomToWake u e
+  unfolding wakeRoomIn roomToWake roomToWakeOn
   room-same h =
       let z = owner-there h in
-      let f = lists-fit o in
-      ap₂ (λ (b : Bool) (m : ℕ). b && leb m 64) (z .1)
-      (woken-count (frameAt fs 0 .c) e v (withCells cs s) cells-say o (list-block o (z .1) .1)
-      (z .0) (f .next-room) (f .entries))
+      ap₂ (λ (b : Bool) (qs : List ℕ). b && roomOnEach qs e v) (z .1) (members-in o (z .1))
+      ∙ room-says (frameAt fs 0 .c) e (members P o) v (withCells cs s) cells-say lists-shaped (group-there o)
 
   few-events : length (s .present) ≤ 16
   few-events = A .shape .events-room
@@ -124,24 +157,36 @@ module _ {fs : List Frame} {P : Program} {n : ℕ} {w : List ℕ} {s : State} {c
   found : ltb e (length (P .events)) ≡ true → leb (length (P .events)) e ≡ false
   found q = lt-leb (length (P .events)) e (ltb-true e (length (P .events)) q)
 
-  -- one's own: the thread stands on the owner
-  owner-here : isOwnEvent u e ≡ true → o ≡ x .place
+  -- one's own: the thread stands on a scheduler in step with the owner
+  in-step-here : isOwnEvent u e ≡ true → (isScheduler (x .place) ≡ true) × (inStep (P .links) o (x .place) ≡ true)
   unfolding isOwnEvent
-  owner-here h = eqb-true o (x .place) (and-true (leb 2 (x .place)) (eqb o (x .place)) h .1)
+  in-step-here h =
+      let a = and-true (leb 2 (x .place)) (inStep (P .links) o (x .place)) h in
+      (scheduler-test n (x .place) (X .place) ∙ a .0, a .1)
 
   -- ---- 1A
-  generated-says : e < length (P .events) → roomToWake u e ≡ true → o ≡ x .place
-      → Says (generatedIn (staysIn v (suc k) (actedIn (Generates e) (threadWordsOf x) (usedCells cs))) (x .place) e)
-      (withPresent (set (s .present) e true) (wake o e (settled u x)))
-  unfolding generatedIn roomToWake wake
+  rooms : roomToWake u e ≡ true
+      → All (λ (q : ℕ). awakeOn e (schedulerAt s q) ≤ 64) (members P o)
+  unfolding roomToWake roomToWakeOn
+  rooms r =
+      all-imply {Q = λ (q : ℕ). awakeOn e (schedulerAt s q) ≤ 64} (λ q h. leb-true _ 64 h)
+      (every-each (λ (q : ℕ). leb (awakeOn e (schedulerAt s q)) 64) (members P o) r)
+
+  generated-says : e < length (P .events) → roomToWake u e ≡ true → isOwnEvent u e ≡ true
+      → Says (generatedIn G (staysIn v (suc k) (actedIn (Generates e) (threadWordsOf x) (usedCells cs))) (x .place) e)
+      (withPresent (set (s .present) e true) (wakeOnEach (eventGroup P e) e (settled u x)))
+  unfolding generatedIn
   generated-says h r q =
-      let z = owner-there h in
-      let f = lists-fit o in
-      subst (λ (p : ℕ). Says (generatedIn (staysIn v (suc k) (actedIn (Generates e) (threadWordsOf x) (usedCells cs))) p e) (withPresent (set (s .present) e true) (wake o e (settled u x)))) q
-      (set-says e _ (wake o e (settled u x))
-      (wake-says (frameAt fs 0 .c) e _ (settled u x) (settled-is A x cs acc x) o (list-block o (z .1) .1) (z .0)
-      (f .next-room) (f .entries) (leb-true _ 64 r))
-      (event-fits h) few-events)
+      let z = in-step-here q in
+      let t = wakeOnEach (members P o) e (settled u x) in
+      let d = staysIn v (suc k) (actedIn (Generates e) (threadWordsOf x) (usedCells cs)) in
+      let same = members-in (x .place) (z .0) ∙ group-same (P .links) (P .schedulers) (x .place) o (z .1) in
+      subst (λ (bs : List Bool). Says (set (wokenOn (membersBy G (x .place)) e d) (4562 + e) 1) (withPresent (set bs e true) t)) (woken-present (members P o) e (settled u x))
+      (set-says e _ t
+      (subst (λ (qs : List ℕ). Says (wokenOn qs e d) t) (sym same)
+      (woken-says (frameAt fs 0 .c) e (members P o) _ (settled u x) (settled-is A x cs acc x) lists-shaped (group-there o) (rooms r)))
+      (rw (woken-present (members P o) e (settled u x)) (event-fits h))
+      (rw (woken-present (members P o) e (settled u x)) few-events))
 
   pub generates-is : commit A (actedIn (Generates e) (threadWordsOf x) (usedCells cs)) cs
       ≡ asCommitted w (stepGenerate u e)
@@ -149,7 +194,7 @@ module _ {fs : List Frame} {P : Program} {n : ℕ} {w : List ℕ} {s : State} {c
   generates-is = by-there (ltb e (length (P .events))) refl
     where
       r : Committed
-      r = committed 0 (suc k) (generatedIn (staysIn v (suc k) (actedIn (Generates e) (threadWordsOf x) (usedCells cs))) (x .place) e)
+      r = committed 0 (suc k) (generatedIn G (staysIn v (suc k) (actedIn (Generates e) (threadWordsOf x) (usedCells cs))) (x .place) e)
 
       by-own : ltb e (length (P .events)) ≡ true → roomToWake u e ≡ true
           → (d : Bool) → isOwnEvent u e ≡ d
@@ -158,15 +203,15 @@ module _ {fs : List Frame} {P : Program} {n : ℕ} {w : List ℕ} {s : State} {c
       by-own q h false z =
           let y = ltb-true e (length (P .events)) q in
           ap (λ (m : ℕ). by-obstacle m r)
-          (if-no _ _ (ap not q) ∙ if-no _ _ (ap not (room-same y ∙ h)) ∙ if-yes _ _ (ap not (own-same ∙ z)))
+          (if-no _ _ (ap not q) ∙ if-no _ _ (ap not (room-same y ∙ h)) ∙ if-yes _ _ (ap not (own-same y ∙ z)))
           ∙ stopped 19 r refl
           ∙ ap (asCommitted w) (sym (if-no _ _ (found q) ∙ if-no _ _ (ap not h) ∙ if-no _ _ z))
       by-own q h true z =
           let y = ltb-true e (length (P .events)) q in
           ap (λ (m : ℕ). by-obstacle m r)
-          (if-no _ _ (ap not q) ∙ if-no _ _ (ap not (room-same y ∙ h)) ∙ if-no _ _ (ap not (own-same ∙ z)))
+          (if-no _ _ (ap not q) ∙ if-no _ _ (ap not (room-same y ∙ h)) ∙ if-no _ _ (ap not (own-same y ∙ z)))
           ∙ passed r
-          ∙ ap (committed 0 (suc k)) (is-pack _ _ (generated-says y h (owner-here z)))
+          ∙ ap (committed 0 (suc k)) (is-pack _ _ (generated-says y h z))
           ∙ ap (asCommitted w) (sym (if-no _ _ (found q) ∙ if-no _ _ (ap not h) ∙ if-yes _ _ z))
 
       by-room : ltb e (length (P .events)) ≡ true → (b : Bool) → roomToWake u e ≡ b
@@ -302,13 +347,13 @@ module _ {fs : List Frame} {P : Program} {n : ℕ} {w : List ℕ} {s : State} {c
       by-own q h false z =
           let y = ltb-true e (length (P .events)) q in
           ap (λ (m : ℕ). by-obstacle m r)
-          (if-no _ _ (ap not q) ∙ if-no _ _ (ap not (await-room-same y ∙ h)) ∙ if-yes _ _ (ap not (own-same ∙ z)))
+          (if-no _ _ (ap not q) ∙ if-no _ _ (ap not (await-room-same y ∙ h)) ∙ if-yes _ _ (ap not (own-same y ∙ z)))
           ∙ stopped 19 r refl
           ∙ ap (asCommitted w) (sym (if-no _ _ (found q) ∙ if-no _ _ (ap not h) ∙ if-no _ _ z))
       by-own q h true z =
           let y = ltb-true e (length (P .events)) q in
           ap (λ (m : ℕ). by-obstacle m r)
-          (if-no _ _ (ap not q) ∙ if-no _ _ (ap not (await-room-same y ∙ h)) ∙ if-no _ _ (ap not (own-same ∙ z)))
+          (if-no _ _ (ap not q) ∙ if-no _ _ (ap not (await-room-same y ∙ h)) ∙ if-no _ _ (ap not (own-same y ∙ z)))
           ∙ passed r ∙ by-present q h z (isPresent s e) refl
           ∙ ap (asCommitted w)
           (sym (if-no _ _ (found q) ∙ if-no _ _ (ap not h) ∙ if-yes awaited _ z))

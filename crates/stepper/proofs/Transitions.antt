@@ -20,7 +20,7 @@ use Rattle.machine.specs.Turns.{stateSpaces, StepResult, Turn, refuse, accept, 
 use Rattle.machine.specs.Turns.{leave, room}
 use Rattle.machine.specs.Words.{pack, entryWord}
 use Rattle.machine.specs.inner.Blocks.{pasted, cellWords}
-use Rattle.stepper.specs.inner.Files.{asCommitted}
+use Rattle.stepper.specs.inner.Files.{asCommitted, groupingOf}
 use Rattle.commits.specs.inner.Commits.{Committed, committed}
 use Rattle.machine.proofs.WordLaws.{Says, is-pack}
 use Rattle.machine.specs.Shapes.{Shaped}
@@ -85,7 +85,7 @@ module _ {fs : List Frame} {P : Program} {n : ℕ} {w : List ℕ} {s : State} {c
   -- cells are those
   abbrev pub commitOn : TurnOutcome → Committed
   commitOn r =
-      committedIn P (set (pasted w 4578 (r .cells) 256) 1 (r .acted .used)) (usedCells (s .cells)) c
+      committedIn P (groupingOf P) (set (pasted w 4578 (r .cells) 256) 1 (r .acted .used)) (usedCells (s .cells)) c
       (suc k) (r .acted) (r .acted .transition)
 
   abbrev pub commit : TurnResult → List Stored → Committed

@@ -33,10 +33,11 @@ use Rattle.turns.specs.inner.Acts.{TurnOutcome, variablesIn, topIn, turnIn}
 use Rattle.turns.specs.inner.TurnCounts.{turnCount}
 use Rattle.operations.specs.inner.Heaps.{cellsIn, accessesIn}
 use Rattle.commits.specs.inner.Commits.{leftIn, turnResultIn, committedIn, CommitWords}
-use Rattle.commits.specs.inner.Commits.{Committed, committed}
+use Rattle.commits.specs.inner.Commits.{Committed, committed, Grouping}
+use Rattle.language.proofs.Labels.{labels-length}
 use Rattle.commits.proofs.ChangeLaws.{same-thread}
 use Rattle.stepper.specs.inner.Files.{StepWords, stateIn, TurnChoice, whoIn, turnOf, turnOn}
-use Rattle.stepper.specs.inner.Files.{turnLeft, turnAccesses, asCommitted}
+use Rattle.stepper.specs.inner.Files.{turnLeft, turnAccesses, asCommitted, groupingOf}
 use Rattle.stepper.proofs.Commits.{left-says}
 use Rattle.stepper.proofs.Transitions.{scheduler-there, Acts}
 use Rattle.stepper.proofs.Items.{IsWho}
@@ -97,7 +98,7 @@ module _ (frames : List ℕ) (shared : ℕ) (w : List ℕ) (h : StepWords frames
 
     -- what the commit asks
     commit-asks : (a : Action) (v : List ℕ) → turnOn a v frames shared w t → length v ≡ length w
-        → CommitWords P v t a
+        → CommitWords P (groupingOf P) v t a
     commit-asks a v o l =
         let m = threads-few frames shared w h in
         record {
@@ -115,6 +116,10 @@ module _ (frames : List ℕ) (shared : ℕ) (w : List ℕ) (h : StepWords frames
                 room = subst (λ (x : ThreadWords). HasRoom (a .change) (x .items - 1) (x .values)) (sym (kept a v o)) (o .room);
               };
           events = fits-in frames shared w h .few-events;
+          groups = record {
+            labelled = labels-length (P .links) 2 8;
+            few = fits-in frames shared w h .most-schedulers;
+          };
           lists = record {
             threads = rw (low-same a v o 0 (λ z. omega arith) (omega arith)) m;
             active = λ k g. rw (low-same a v o (2 + 130 * k) (λ z. omega arith) (omega arith)) (active-short frames shared w h k g);
@@ -123,25 +128,27 @@ module _ (frames : List ℕ) (shared : ℕ) (w : List ℕ) (h : StepWords frames
         }
 
     -- u are the words without the accesses that stood with the count
-    pub commit-needs : (a : Action) (v u : List ℕ) → turnLeft a v frames shared w t
+    pub commit-needs : (a : Action) (v u : List ℕ) (G : Grouping) → G ≡ groupingOf P
+        → turnLeft a v frames shared w t
         → u ≡ set v 1 (cellsIn (getD v 1 0)) → length u ≡ length v → length v ≡ length w
-        → CommitWords P u t a
-    commit-needs a v u o e k l =
-        subst (λ (x : List ℕ). CommitWords P x t a) (sym e)
-        (commit-asks a _ (o .turn) (ap length (sym e) ∙ k ∙ l))
+        → CommitWords P G u t a
+    commit-needs a v u G same o e k l =
+        subst (λ (x : Grouping). CommitWords P x u t a) (sym same)
+        (subst (λ (x : List ℕ). CommitWords P (groupingOf P) x t a) (sym e)
+        (commit-asks a _ (o .turn) (ap length (sym e) ∙ k ∙ l)))
 
     -- and gives
     commit-gives : (a : Action) (v v' : List ℕ) (used r : ℕ) → turnOn a v frames shared w t
         → used ≡ getD w 1 0
-        → committed r t v' ≡ committedIn P v used c t (turnResultIn v t a) (a .transition)
+        → committed r t v' ≡ committedIn P (groupingOf P) v used c t (turnResultIn v t a) (a .transition)
         → committed r t v' ≡ asCommitted w (stepThread P s c t)
     commit-gives a v v' used r o u e =
         e
         ∙ ap (λ (x : ThreadWords).
-        committedIn P v used c t (turned a (getD v 1 0) (popped x)) (a .transition)) (kept a v o)
-        ∙ ap (λ (x : TurnResult). committedIn P v used c t x (x .transition)) (o .acted)
-        ∙ ap (λ (x : List ℕ). committedIn P x used c t (y .acted) (y .acted .transition)) (o .words)
-        ∙ ap (λ (i : ℕ). committedIn P (on y) i c t (y .acted) (y .acted .transition))
+        committedIn P (groupingOf P) v used c t (turned a (getD v 1 0) (popped x)) (a .transition)) (kept a v o)
+        ∙ ap (λ (x : TurnResult). committedIn P (groupingOf P) v used c t x (x .transition)) (o .acted)
+        ∙ ap (λ (x : List ℕ). committedIn P (groupingOf P) x used c t (y .acted) (y .acted .transition)) (o .words)
+        ∙ ap (λ (i : ℕ). committedIn P (groupingOf P) (on y) i c t (y .acted) (y .acted .transition))
         (u ∙ says frames shared w h .cells)
         ∙ subst Goal number-same (turn-is acts (whoIn frames shared w t) who-is)
       where
@@ -154,7 +161,7 @@ module _ (frames : List ℕ) (shared : ℕ) (w : List ℕ) (h : StepWords frames
 
         Goal : ℕ → Type 0
         Goal i =
-            committedIn P (on (turnFor i)) (usedCells (s .cells)) c i
+            committedIn P (groupingOf P) (on (turnFor i)) (usedCells (s .cells)) c i
             (turnFor i .acted) (turnFor i .acted .transition)
             ≡ asCommitted w (stepThread P s c i)
 
@@ -170,14 +177,14 @@ module _ (frames : List ℕ) (shared : ℕ) (w : List ℕ) (h : StepWords frames
             ≡ length (stepThread P s c i .accesses)
 
     -- what the turn gives with its accesses, which a refusal leaves out
-    pub turn-gives : (a : Action) (v u v' : List ℕ) (n used r k : ℕ)
-        → turnLeft a v frames shared w t → u ≡ set v 1 (cellsIn (getD v 1 0))
+    pub turn-gives : (a : Action) (v u v' : List ℕ) (n used r k : ℕ) (G : Grouping)
+        → G ≡ groupingOf P → turnLeft a v frames shared w t → u ≡ set v 1 (cellsIn (getD v 1 0))
         → n ≡ accessesIn (getD v 1 0) → used ≡ getD w 1 0
-        → committed r t v' ≡ committedIn P u used c t (turnResultIn u t a) (a .transition)
+        → committed r t v' ≡ committedIn P G u used c t (turnResultIn u t a) (a .transition)
         → k ≡ (if eqb r 0 then n else 0)
         → callResult r t k v' ≡ asCall w (stepThread P s c t)
     unfolding accessCount
-    turn-gives a v u v' n used r k o eu en z e q = λ i. callResult (answer i) (thread i) (count i) (words i)
+    turn-gives a v u v' n used r k G same o eu en z e q = λ i. callResult (answer i) (thread i) (count i) (words i)
       where
         R : StepResult
         R = stepThread P s c t
@@ -186,7 +193,8 @@ module _ (frames : List ℕ) (shared : ℕ) (w : List ℕ) (h : StepWords frames
         g =
             commit-gives a (set v 1 (cellsIn (getD v 1 0))) v' used r (o .turn) z
             (e
-            ∙ ap (λ (x : List ℕ). committedIn P x used c t (turnResultIn x t a) (a .transition)) eu)
+            ∙ ap (λ (x : Grouping). committedIn P x u used c t (turnResultIn u t a) (a .transition)) same
+            ∙ ap (λ (x : List ℕ). committedIn P (groupingOf P) x used c t (turnResultIn x t a) (a .transition)) eu)
 
         answer : r ≡ stepThread P s c t .answer
         answer = ap (λ (x : Committed). x .answer) g

@@ -2,6 +2,7 @@
 pub mod answer;
 pub mod batch;
 pub mod file;
+mod instant;
 mod party;
 pub mod step;
 mod turn;

@@ -4,6 +4,7 @@ use acts::act::Action;
 use commits::commit::commit;
 use commits::leave::leave;
 use language::Place;
+use language::group::LABELS;
 use machine::offset::CELL_COUNT_AT;
 use machine::offset::ITEMS_FIELD;
 use machine::offset::THREAD_LENGTH;
@@ -29,7 +30,8 @@ ghost use Rattle.machine.specs.Calls.{asCall};
 ghost use Rattle.basics.specs.If.{if_then_else_};
 ghost use Rattle.operations.specs.inner.Heaps.{cellsIn, accessesIn};
 ghost use Rattle.stepper.specs.inner.Files.{StepWords, stateIn, turnLeft, TurnChoice};
-ghost use Rattle.stepper.specs.inner.Files.{steppedOn, mostCounted};
+ghost use Rattle.stepper.specs.inner.Files.{steppedOn, mostCounted, groupingOf};
+ghost use Rattle.commits.specs.inner.Commits.{grouping};
 
 // What the turn of a thread that is there comes to. Of the words, only those of the cells and of
 // their count are written; the count has the accesses too.
@@ -82,13 +84,16 @@ fn counted(answer: u8, accesses: u64) -> u16
 // leaves the list.
 pub(crate) fn turn(
     frames: &[u64],
+    labels: &[u8; LABELS],
+    schedulers: u8,
     shared: usize,
     state: &mut [u64],
     choice: u64,
     t: u64,
 ) -> StepAnswer
     requires { ⌜ StepWords (now frames) shared (now state) × (1 ≤ t) × (t ≤ mostThreads)
-        × TurnChoice (now frames) choice ⌝ }
+        × TurnChoice (now frames) choice
+        × (grouping (now labels) schedulers ≡ groupingOf (programOf (framesOf (now frames)))) ⌝ }
     ensures { λ r. ⌜ steppedOn r (now (state .exit))
         ≡ asCall (now (state .entry))
         (stepThread (programOf (framesOf (now (frames .entry)))) (stateIn (now (frames .entry)) (now
@@ -106,7 +111,7 @@ pub(crate) fn turn(
     let before = state[CELL_COUNT_AT] as usize;
     let a = act_in(frames, shared, state, t);
     let accesses = take_accesses(state);
-    let answer = commit(frames, state, before, choice, t, a);
+    let answer = commit(frames, labels, schedulers, state, before, choice, t, a);
     StepAnswer {
         answer,
         thread,

@@ -1,14 +1,12 @@
 // A step on a file and a state that are known to be good: nothing is validated again.
 use crate::file::File;
+use crate::instant::end_instant;
 use crate::party::StepAnswer;
 use crate::party::acting_thread;
 use crate::party::nobody;
 use crate::turn::turn;
 use language::Place;
 use language::refusal::NO_PARTY;
-use language::refusal::NOTHING_READY;
-use lists::list::end_instant;
-use states::event::clear_events;
 ghost use mathlib.Core.Path.{_≡_};
 ghost use Rattle.text.specs.Frames.{framesOf};
 ghost use Rattle.program.specs.Programs.{programOf};
@@ -26,16 +24,26 @@ pub fn step_valid(frames: &[u64], file: File, state: &mut [u64], choice: u64) ->
         ≡ stepCall (framesOf (now (frames .entry))) (now (state .entry)) choice ⌝ }
 {
     let t = acting_thread(file.schedulers, state, choice);
+    let labels = file.labels;
     if t != 0 {
-        return turn(frames, file.shared, state, choice, t);
+        return turn(
+            frames,
+            &labels,
+            file.schedulers,
+            file.shared,
+            state,
+            choice,
+            t,
+        );
     }
     if !Place::is_scheduler_in_file(choice, file.schedulers) {
         return nobody(NO_PARTY);
     }
-    let q = Place::known(choice);
-    if end_instant(state, q) == 0 {
-        return nobody(NOTHING_READY);
-    }
-    clear_events(frames, state, q);
-    nobody(0)
+    end_instant(
+        frames,
+        &labels,
+        file.schedulers,
+        state,
+        Place::known(choice),
+    )
 }

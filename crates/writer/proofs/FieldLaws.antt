@@ -44,6 +44,7 @@ tells Use.Free v = Tells.keeps refl refl
 tells Use.Truth v = Tells.keeps refl refl
 tells Use.Place v = Tells.keeps refl refl
 tells Use.Scheduler v = Tells.keeps refl refl
+tells Use.Lower v = Tells.keeps refl refl
 tells Use.ContentType v = Tells.keeps refl refl
 tells Use.FirstContent v = Tells.keeps refl refl
 tells Use.Parameters v = Tells.keeps refl refl

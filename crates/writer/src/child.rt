@@ -70,6 +70,7 @@ pub(crate) fn child_fields(kind: Kind) -> ChildFields
         Kind::Declared(d) => match d {
             DeclarationKind::Shared => holding(Holds::Kept, Holds::Kept, Holds::Kept),
             DeclarationKind::Event => holding(Holds::Kept, Holds::Kept, Holds::Kept),
+            DeclarationKind::Link => holding(Holds::Kept, Holds::Kept, Holds::Kept),
         },
         Kind::Module => holding(Holds::Child, Holds::Kept, Holds::Kept),
         Kind::Statement(k) => statement_fields(k),

@@ -18,7 +18,7 @@ ghost use Rattle.writer.specs.inner.Placing.{withLines, LineRoom, linesA
 const HEADER_RANK: u8 = 0;
 
 // After the declarations.
-const MODULE_RANK: u8 = 3;
+const MODULE_RANK: u8 = 4;
 
 const RANKS: u8 = MODULE_RANK + 1;
 

@@ -42,13 +42,13 @@ fn refuse(number: u8, found: [Option<usize>; 2]) -> Result<(), Verdict> {
 }
 
 /// What stands before the modules: the header, the shared cells, the events,
-/// each kind as it was given.
+/// the links, each kind as it was given.
 fn declared(frames: &[Frame]) -> impl Iterator<Item = u16> + '_ {
     let of_kind = move |kind: u8| {
         let is_of_kind = move |&f: &usize| frames[f].kind == kind;
         (0..frames.len()).filter(is_of_kind)
     };
-    [kind::HEADER, kind::SHARED_CELL, kind::EVENT]
+    [kind::HEADER, kind::SHARED_CELL, kind::EVENT, kind::LINK]
         .into_iter()
         .flat_map(of_kind)
         .map(|f| f as u16)

@@ -26,6 +26,13 @@ impl Effect {
         self.0 & !other.0 == 0
     }
 
+    /// The members, by number.
+    pub fn schedulers(self) -> impl Iterator<Item = u8> {
+        let rest = |&set: &u8| Some(set & (set - 1)).filter(|&set| set != 0);
+        std::iter::successors(Some(self.0).filter(|&set| set != 0), rest)
+            .map(|set| HOME + set.trailing_zeros() as u8)
+    }
+
     /// An access to a private cell has no effect, so `PRIVATE` is in every set.
     pub fn covers(self, owner: u8) -> bool {
         Effect::of(owner).within(self)

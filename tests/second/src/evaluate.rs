@@ -13,7 +13,7 @@ pub enum Fault {
     /// Spent: a 65th thread.
     ThreadsSpent,
     /// An access to a cell of neither the thread nor its scheduler, or a use
-    /// of another scheduler's event.
+    /// of an event whose owner is not in step with that one.
     Foreign,
     Stuck,
 }

@@ -10,12 +10,13 @@ pub struct Frame {
     pub c: u16,
 }
 
-/// The kinds, by their numbers in 01 and, for events, in 02.
+/// The kinds, by their numbers in 01 and, for events and links, in 02.
 pub mod kind {
     pub const HEADER: u8 = 0x00;
     pub const SHARED_CELL: u8 = 0x01;
     pub const MODULE: u8 = 0x02;
     pub const EVENT: u8 = 0x03;
+    pub const LINK: u8 = 0x04;
     pub const NOTHING: u8 = 0x10;
     pub const SEQUENCE: u8 = 0x11;
     pub const AT_PLACE: u8 = 0x12;
@@ -44,7 +45,7 @@ pub mod kind {
 pub enum Use {
     /// Must be 0.
     Unused,
-    /// A number or a type word.
+    /// A number, a type word or, of a link, a scheduler.
     Data,
     /// A child, always there.
     Statement,
@@ -104,6 +105,7 @@ const fn shapes() -> [Option<Shape>; 256] {
     table[SHARED_CELL as usize] = Shape::new(true, Data, Data, Unused);
     table[MODULE as usize] = Shape::new(true, Statement, Data, Data);
     table[EVENT as usize] = Shape::new(true, Unused, Unused, Unused);
+    table[LINK as usize] = Shape::new(true, Data, Unused, Unused);
     table[NOTHING as usize] = Shape::new(false, Unused, Unused, Unused);
     table[SEQUENCE as usize] = Shape::new(false, Statement, Statement, Unused);
     table[AT_PLACE as usize] = Shape::new(true, Statement, Unused, Unused);

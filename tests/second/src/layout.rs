@@ -1,6 +1,7 @@
 //! The layout of a file: refusals 4 to 7, smallest number first.
 
 use crate::frame::{kind, Frame};
+use crate::group::Groups;
 use crate::place::{HOME, PRIVATE, SCHEDULERS};
 use crate::types::Type;
 use crate::verdict::Verdict;
@@ -20,6 +21,9 @@ pub struct Program {
     pub modules: Vec<u16>,
     pub shared_cells: usize,
     pub events: usize,
+    /// Declarations of schedulers in step, and what they come to.
+    pub links: usize,
+    pub groups: Groups,
     /// The last scheduler's place.
     pub last_place: u8,
     /// Choices that a run uses, at most.
@@ -31,10 +35,13 @@ impl Program {
         let header = well_formed(&frames)?;
         first_out_of_order(&frames).map_or(Ok(()), |f| Err(Verdict::rejected(6, f)))?;
         first_too_deep(&frames).map_or(Ok(()), |f| Err(Verdict::rejected(7, f)))?;
+        let links = links(&frames);
         Ok(Program {
             modules: modules(&frames),
             shared_cells: shared_cells(&frames),
             events: usize::from(header.c),
+            links: links.len(),
+            groups: Groups::new(links),
             last_place: last_place(&header),
             allowance: match header.a {
                 0 => DEFAULT_ALLOWANCE,
@@ -62,7 +69,7 @@ impl Program {
 
     /// The first frame after all declarations but the modules.
     pub fn first_of_modules(&self) -> usize {
-        self.after_shared_cells() + self.events
+        self.after_shared_cells() + self.events + self.links
     }
 
     /// The module's frame.
@@ -129,6 +136,7 @@ impl Declared {
                 kind::HEADER => false,
                 kind::SHARED_CELL => self.shared_cell_fits(frame),
                 kind::EVENT => self.is_scheduler(frame.s),
+                kind::LINK => self.link_fits(frame),
                 kind::MODULE => self.module_fits(frame),
                 kind::AT_PLACE | kind::NEW_CELL => (PRIVATE..=self.last_place).contains(&frame.s),
                 kind::START | kind::START_AND_WAIT => frame.a != 0 || frame.b == 0,
@@ -139,6 +147,12 @@ impl Declared {
 
     fn is_scheduler(&self, place: u8) -> bool {
         (HOME..=self.last_place).contains(&place)
+    }
+
+    /// A, all four digits of it, is a scheduler below S.
+    fn link_fits(&self, frame: &Frame) -> bool {
+        let below = u16::from(HOME)..u16::from(frame.s);
+        self.is_scheduler(frame.s) && below.contains(&frame.a)
     }
 
     fn shared_cell_fits(&mut self, frame: &Frame) -> bool {
@@ -220,21 +234,22 @@ fn first_of_subtree(frames: &[Frame], first: &[usize], f: usize) -> Option<usize
     Some(start)
 }
 
-/// A shared cell or an event after a kind that it should precede. The frame
-/// before it decides: if an earlier one is of such a kind, then the first that
-/// stands wrongly behind that is lower and is found before.
+/// A shared cell, an event or a link after a kind that it should precede. The
+/// frame before it decides: if an earlier one is of such a kind, then the first
+/// that stands wrongly behind that is lower and is found before.
 fn is_misplaced(frames: &[Frame], f: usize) -> bool {
-    let is_declared_first = matches!(frames[f].kind, kind::SHARED_CELL | kind::EVENT);
-    is_declared_first && part(&frames[f - 1]) > part(&frames[f])
+    f > 0 && part(&frames[f - 1]) > part(&frames[f])
 }
 
-/// The parts of a file in their order: header, shared cells, events, the rest.
-fn part(frame: &Frame) -> u8 {
+/// The parts of a file in their order, the header first, modules and what is
+/// in them last.
+pub(crate) fn part(frame: &Frame) -> u8 {
     match frame.kind {
         kind::HEADER => 0,
         kind::SHARED_CELL => 1,
         kind::EVENT => 2,
-        _ => 3,
+        kind::LINK => 3,
+        _ => 4,
     }
 }
 
@@ -271,4 +286,12 @@ fn modules(frames: &[Frame]) -> Vec<u16> {
 fn shared_cells(frames: &[Frame]) -> usize {
     let is_shared_cell = |frame: &&Frame| frame.kind == kind::SHARED_CELL;
     frames[1..].iter().take_while(is_shared_cell).count()
+}
+
+/// The links, which stand in a row.
+fn links(frames: &[Frame]) -> &[Frame] {
+    let is_link = |frame: &Frame| frame.kind == kind::LINK;
+    let first = frames.iter().position(is_link).unwrap_or(0);
+    let count = frames[first..].iter().take_while(|&frame| is_link(frame));
+    &frames[first..first + count.count()]
 }

@@ -1,5 +1,5 @@
 //! The second program: an independent checker and stepper of document 01 with
-//! changes 1 to 5 of document 02.
+//! changes 1 to 7 of document 02.
 //!
 //! It shares no line with the proved implementation and serves as its test
 //! oracle and speed baseline. The path of a file through the modules is
@@ -12,6 +12,7 @@ pub mod effect;
 pub mod evaluate;
 pub mod frame;
 pub mod generate;
+pub mod group;
 pub mod layout;
 pub mod listing;
 pub mod place;

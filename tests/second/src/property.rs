@@ -1,9 +1,11 @@
 //! Demand 3, and what 02 promises of events, tested on the second program's
-//! own runs of accepted files.
+//! own runs of accepted files. Which schedulers are in step is found here from
+//! the file's links alone.
 
 use crate::evaluate::{Access, Actor, EventUse, Observer};
+use crate::frame::kind;
 use crate::layout::Program;
-use crate::place::{of_thread, HOME, PRIVATE};
+use crate::place::{of_thread, HOME, PRIVATE, SCHEDULERS};
 use crate::state::{Cell, State, Value};
 
 /// What an accepted file must not come to.
@@ -13,7 +15,8 @@ pub enum Broken {
     Refused(u8),
     /// A cell accessed by neither its owner nor a thread on it.
     Accessed(Access),
-    /// An event used from elsewhere than its owner's scheduler.
+    /// An event used from elsewhere than its owner's scheduler or one in step
+    /// with that.
     Event(EventUse),
     /// A cell of a scheduler holds a cell of a thread.
     Held,
@@ -32,15 +35,24 @@ pub struct Violation {
 /// Steps the choices from the fresh state and looks after each.
 pub fn examine(program: &Program, choices: &[u8]) -> Result<(), Violation> {
     let mut state = State::new(program);
+    let in_step = in_step(program);
     for (choice, &party) in choices.iter().enumerate() {
-        examine_choice(program, &mut state, party)
+        examine_choice(program, &in_step, &mut state, party)
             .map_err(|broken| Violation { choice, broken })?;
     }
     Ok(())
 }
 
-fn examine_choice(program: &Program, state: &mut State, party: u8) -> Result<(), Broken> {
-    let mut watch = Watch { broken: None };
+fn examine_choice(
+    program: &Program,
+    in_step: &InStep,
+    state: &mut State,
+    party: u8,
+) -> Result<(), Broken> {
+    let mut watch = Watch {
+        in_step,
+        broken: None,
+    };
     let outcome = state.step(program, party, &mut watch);
     watch.broken.map_or(Ok(()), Err)?;
     match outcome.answer {
@@ -51,12 +63,41 @@ fn examine_choice(program: &Program, state: &mut State, party: u8) -> Result<(),
     }
 }
 
-/// Keeps the first access that the property forbids.
-struct Watch {
+/// For each two places: are they schedulers in step?
+type InStep = [[bool; PLACES]; PLACES];
+
+/// Place 0, which there is none of, the private one and the schedulers.
+const PLACES: usize = (HOME + SCHEDULERS) as usize;
+
+/// The least equivalence over the schedulers that has the file's links:
+/// reflexive, symmetric, and closed under chains by Warshall's rule.
+fn in_step(program: &Program) -> InStep {
+    let mut related = [[false; PLACES]; PLACES];
+    for (place, row) in related.iter_mut().enumerate().skip(usize::from(HOME)) {
+        row[place] = true;
+    }
+    for link in program.frames.iter().filter(|f| f.kind == kind::LINK) {
+        let (one, other) = (usize::from(link.s), usize::from(link.a));
+        related[one][other] = true;
+        related[other][one] = true;
+    }
+    for through in 0..PLACES {
+        for one in 0..PLACES {
+            for other in 0..PLACES {
+                related[one][other] |= related[one][through] && related[through][other];
+            }
+        }
+    }
+    related
+}
+
+/// Keeps the first access or use that the property forbids.
+struct Watch<'i> {
+    in_step: &'i InStep,
     broken: Option<Broken>,
 }
 
-impl Observer for Watch {
+impl Observer for Watch<'_> {
     fn access(&mut self, actor: Actor, access: Access, owner: u8) {
         let own = owner == of_thread(actor.thread);
         let here = actor.place != PRIVATE && owner == actor.place;
@@ -66,7 +107,7 @@ impl Observer for Watch {
     }
 
     fn event(&mut self, actor: Actor, event_use: EventUse, owner: u8) {
-        if actor.place != owner {
+        if !self.in_step[usize::from(actor.place)][usize::from(owner)] {
             self.broken.get_or_insert(Broken::Event(event_use));
         }
     }
@@ -174,6 +215,7 @@ mod tests {
         breaks_without_main_events: MainEvents,
         breaks_without_place_effect: PlaceEffect,
         breaks_without_place_events: PlaceEvents,
+        breaks_without_own_cells: OwnCells,
         breaks_without_stored_type: StoredType,
         breaks_without_arguments: Arguments,
         breaks_without_operands: Operands,

@@ -30,12 +30,16 @@ pub(crate) enum Rule {
     PublicArgument,
     /// No start, cooperation or move to place 1 while unlinked.
     WhileUnlinked,
-    /// The cells that `main` accesses are home's, and its events too.
+    /// The cells that `main` accesses are home's, and its events those of
+    /// home's group.
     MainEffect,
     MainEvents,
-    /// The cells accessed at a place are that one's, and the events too.
+    /// The cells accessed at a place are that one's, and the events those of
+    /// its group.
     PlaceEffect,
     PlaceEvents,
+    /// A group shares its events, but no cells.
+    OwnCells,
     StoredType,
     /// Count and types of arguments.
     Arguments,
@@ -212,11 +216,16 @@ impl<'p, S: Strictness> Checker<'p, S> {
         }
     }
 
-    /// Refusal 11: cells and events are tested one by one, by a rule each.
+    /// Refusal 11: cells and events are tested one by one, by a rule each. The
+    /// private place owns nothing and is in step with nobody.
     fn within(&self, effects: Effects, place: u8, rules: [Rule; 2]) -> Result<(), u8> {
-        let allowed = Effect::of(place);
-        self.require(rules[0], effects.cells.within(allowed), 11)?;
-        self.require(rules[1], effects.events.within(allowed), 11)
+        let group = self.program.groups.of(place);
+        let own = match self.strictness.applies(Rule::OwnCells) {
+            true => Effect::of(place),
+            false => group,
+        };
+        self.require(rules[0], effects.cells.within(own), 11)?;
+        self.require(rules[1], effects.events.within(group), 11)
     }
 
     fn expression(&self, frame: &Frame) -> Result<Facts, u8> {

@@ -88,8 +88,8 @@ pub struct State {
     pub threads: Vec<Thread>,
     /// The scheduler of place `p` stands at `p - HOME`.
     pub schedulers: Vec<Scheduler>,
-    /// For each event: it was generated in the instant of its scheduler that
-    /// has not ended yet.
+    /// For each event: it was generated in the instant of its scheduler's
+    /// group that has not ended yet.
     pub present: Vec<bool>,
 }
 

@@ -1,5 +1,6 @@
 //! The stepper: one choice at a time, answers 0 and 15 to 20.
 
+use crate::effect::Effect;
 use crate::evaluate::{Access, Actor, Evaluator, EventUse, Fault, Observer};
 use crate::frame::{kind, Frame};
 use crate::layout::Program;
@@ -56,7 +57,7 @@ impl State {
         if let Some(index) = self.scheduler_index(party) {
             match self.schedulers[index].active.front() {
                 Some(&thread) => self.step_thread(program, thread, observer),
-                None => self.end_instant(program, index),
+                None => self.end_instant(program, party),
             }
         } else {
             match thread_of(party).filter(|&thread| self.is_unlinked(thread)) {
@@ -71,9 +72,32 @@ impl State {
         known.is_some_and(Thread::is_unlinked)
     }
 
+    /// The instant of a scheduler's group ends, for all members at once, where
+    /// none of them has an active thread and one of them has a ready entry.
+    fn end_instant(&mut self, program: &Program, place: u8) -> Outcome {
+        let group = program.groups.of(place);
+        let is_idle = |member| {
+            self.schedulers[usize::from(member - HOME)]
+                .active
+                .is_empty()
+        };
+        if !group.schedulers().all(is_idle) {
+            return Outcome::NOTHING;
+        }
+        let mut ended = false;
+        for member in group.schedulers() {
+            ended |= self.activate(usize::from(member - HOME));
+        }
+        if !ended {
+            return Outcome::NOTHING;
+        }
+        self.end_presence(program, group);
+        Outcome::INSTANT_ENDED
+    }
+
     /// Ready entries of the next list become active, waiting ones stay. One
-    /// that awaits an event is ready. Where nothing is, no instant ends.
-    fn end_instant(&mut self, program: &Program, index: usize) -> Outcome {
+    /// that awaits an event is ready. Is any?
+    fn activate(&mut self, index: usize) -> bool {
         let threads = &self.threads;
         let Scheduler { active, next } = &mut self.schedulers[index];
         next.retain(|entry| {
@@ -86,17 +110,14 @@ impl State {
             }
             waits
         });
-        if active.is_empty() {
-            return Outcome::NOTHING;
-        }
-        self.end_presence(program, HOME + index as u8);
-        Outcome::INSTANT_ENDED
+        !active.is_empty()
     }
 
-    /// The scheduler's events are present no more.
-    fn end_presence(&mut self, program: &Program, place: u8) {
+    /// The events of the group's members are present no more.
+    fn end_presence(&mut self, program: &Program, group: Effect) {
         for (number, present) in (0..).zip(&mut self.present) {
-            *present &= program.event_owner(number) != Some(place);
+            let owner = program.event_owner(number);
+            *present &= !owner.is_some_and(|owner| group.covers(owner));
         }
     }
 
@@ -239,7 +260,8 @@ impl State {
             kind::GENERATE => {
                 event(&mut evaluator, frame, EventUse::Generation)?;
                 self.replace(thread, &[]);
-                self.generate(frame.s, place);
+                // The owner's group, since the owner is in step with the place.
+                self.generate(frame.s, program.groups.of(place));
             }
             kind::AWAIT => {
                 event(&mut evaluator, frame, EventUse::Await)?;
@@ -290,21 +312,20 @@ impl State {
         Ok(())
     }
 
-    /// The event is present, and the threads of its scheduler's next list that
-    /// await it become active, behind those that are.
-    fn generate(&mut self, event: u8, place: u8) {
+    /// The event is present, and the threads of each member's next list that
+    /// await it become active there, behind those that are.
+    fn generate(&mut self, event: u8, group: Effect) {
         self.present[usize::from(event)] = true;
-        let Some(index) = self.scheduler_index(place) else {
-            return;
-        };
-        let Scheduler { active, next } = &mut self.schedulers[index];
-        next.retain(|entry| {
-            let awaits = entry.until == Until::Event(event);
-            if awaits {
-                active.push_back(entry.thread);
-            }
-            !awaits
-        });
+        for member in group.schedulers() {
+            let Scheduler { active, next } = &mut self.schedulers[usize::from(member - HOME)];
+            next.retain(|entry| {
+                let awaits = entry.until == Until::Event(event);
+                if awaits {
+                    active.push_back(entry.thread);
+                }
+                !awaits
+            });
+        }
     }
 }
 
@@ -337,8 +358,8 @@ fn store<O: Observer>(evaluator: &mut Evaluator<O>, frame: &Frame) -> Result<(),
     Ok(())
 }
 
-/// A missing event is stuck, then another scheduler's is foreign; an unlinked
-/// thread stands at place 1, which owns no event.
+/// A missing event is stuck, then one whose owner is not in step with the place
+/// is foreign; an unlinked thread stands at place 1, in step with nobody.
 fn event<O: Observer>(
     evaluator: &mut Evaluator<O>,
     frame: &Frame,
@@ -346,7 +367,8 @@ fn event<O: Observer>(
 ) -> Result<(), Fault> {
     let owner = evaluator.program.event_owner(frame.s).ok_or(Fault::Stuck)?;
     evaluator.observer.event(evaluator.actor, event_use, owner);
-    if owner == evaluator.actor.place {
+    let groups = &evaluator.program.groups;
+    if groups.in_step(evaluator.actor.place, owner) {
         Ok(())
     } else {
         Err(Fault::Foreign)

@@ -41,6 +41,7 @@ fn file(body: &Node) -> Vec<u8> {
         schedulers: 2,
         cells: shared_cells(),
         events: Vec::new(),
+        links: Vec::new(),
         modules: vec![
             module(&[NUMBER], nothing()),
             module(&[NUMBER; 2], nothing()),
@@ -305,6 +306,7 @@ fn greatest(nested: usize) -> Vec<u8> {
         schedulers: 1,
         cells: vec![number_cell(HOME)],
         events: Vec::new(),
+        links: Vec::new(),
         modules: vec![module(&[NUMBER], body), module(&[], start)],
     };
     file.text()

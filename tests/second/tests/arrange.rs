@@ -125,6 +125,62 @@ fn refusals_of_events() {
     assert_eq!(printed_with(17, &over), "04 0000\n");
 }
 
+const LINK: &str = "0403000200000000";
+
+/// Behind the events and before the modules, as they were given, the same one
+/// twice too.
+#[test]
+fn links_keep_their_order() {
+    let header = "0001000000030001";
+    let drawn = [
+        header,
+        "0404000300000000",
+        "0200000700000000",
+        LINK,
+        CELL,
+        "0404000300000000",
+        HOME_EVENT,
+        NOTHING,
+        "0404000200000000",
+    ];
+    let laid_out = [
+        header,
+        CELL,
+        HOME_EVENT,
+        "0404000300000000",
+        LINK,
+        "0404000300000000",
+        "0404000200000000",
+        NOTHING,
+        "0200000700000000",
+    ];
+    assert_eq!(listing::arrange(&lines(&drawn)), lines(&laid_out));
+    assert_eq!(listing::arrange(&lines(&laid_out)), lines(&laid_out));
+}
+
+/// 5 is the check's own, order is no reason, and a link is no child.
+#[test]
+fn refusals_of_links() {
+    let main = [NOTHING, "0200000100000000"];
+    let behind = |link| printed_with(0, &[&main[..], &[link]].concat());
+    assert!(behind(LINK).starts_with("0001"));
+    for bad in [
+        "0402000200000000",
+        "0402000300000000",
+        "0404000200000000",
+        "0403000100000000",
+        "0403010200000000",
+        "0403000200010000",
+        "0403000200000001",
+    ] {
+        assert_eq!(behind(bad), "05 0003\n", "{bad}");
+    }
+    assert_eq!(printed_with(0, &[LINK, "0200000100000000"]), "06 0002\n");
+    let twice = [LINK, "1100000100010000", "0200000200000000"];
+    assert_eq!(printed_with(0, &twice), "15 0001\n");
+    assert_eq!(printed_with(0, &[LINK, LINK]), "06 0002\n");
+}
+
 /// Children come in the order of the fields, whatever their numbers.
 #[test]
 fn children_come_in_order() {
@@ -424,6 +480,7 @@ fn literally(text: &[u8]) -> Vec<u8> {
     let mut order = vec![(0, 0)];
     order.extend(of_kind(&frames, kind::SHARED_CELL).map(|f| (f, 0)));
     order.extend(of_kind(&frames, kind::EVENT).map(|f| (f, 0)));
+    order.extend(of_kind(&frames, kind::LINK).map(|f| (f, 0)));
     for module in of_kind(&frames, kind::MODULE) {
         tree(&frames, module, 0, &mut order);
     }
@@ -508,6 +565,7 @@ fn reasons(frames: &[Frame], number: usize, f: usize) -> Vec<&'static str> {
             "shared cell used twice",
         );
         note(users.len() > 1 && frames[f].kind == 3, "event used twice");
+        note(users.len() > 1 && frames[f].kind == 4, "link used twice");
         note(circle == Some(1), "circle of one");
         note(circle == Some(2), "circle of two");
         note(circle.is_some_and(|length| length > 2), "circle of many");
@@ -531,6 +589,10 @@ fn reasons(frames: &[Frame], number: usize, f: usize) -> Vec<&'static str> {
         note(
             own.iter().any(|child| kind_of(child) == Some(3)),
             "an event as child",
+        );
+        note(
+            own.iter().any(|child| kind_of(child) == Some(4)),
+            "a link as child",
         );
         let classes = frames[f].shape().unwrap().fields;
         let mut fields = own.iter().zip(classes);
@@ -578,7 +640,7 @@ fn as_the_paper_says() {
     for number in 1..=4 {
         assert!(answers.0[number] > 20, "{answers}");
     }
-    assert_eq!(seen.len(), 22, "{seen:#?}");
+    assert_eq!(seen.len(), 24, "{seen:#?}");
     assert!(seen.values().all(|&count| count > 10), "{seen:#?}");
 }
 
@@ -614,10 +676,12 @@ fn shape(frames: &[Frame], f: usize) -> String {
     )
 }
 
-/// Header, shared cells, events and the trees of the modules, in their order.
+/// Header, shared cells, events, links and the trees of the modules, in their
+/// order.
 fn meaning(text: &[u8]) -> Vec<String> {
     let frames = text::frames(text).unwrap();
-    let kinds = [kind::HEADER, kind::SHARED_CELL, kind::EVENT, kind::MODULE];
+    let declared = [kind::HEADER, kind::SHARED_CELL, kind::EVENT, kind::LINK];
+    let kinds = declared.into_iter().chain([kind::MODULE]);
     kinds
         .into_iter()
         .flat_map(|kind| of_kind(&frames, kind))

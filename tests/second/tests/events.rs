@@ -3,16 +3,16 @@
 //! literally.
 
 mod acting;
+mod in_step;
 mod literal_events;
 mod trees;
 
 use std::slice::from_ref;
 
 use literal_events::Uses;
-use second::listing::{self, Reading};
-use second::place::{of_thread, HOME, PRIVATE};
-use second::state::{Entry, Item, Until};
-use second::text;
+use second::listing;
+use second::place::{of_thread, PRIVATE};
+use second::state::{Item, Until};
 use trees::*;
 
 // Texts line by line, for the layout.
@@ -90,8 +90,8 @@ fn all_events_of_the_file_count() {
     assert_eq!(check_with(1, &late), "06 0003\n");
     assert_eq!(check_with(0, &late), "04 0000\n");
     // An unknown kind in front: it is 5, but the count is 4.
-    assert_eq!(declared(1, &["0400000000000000"]), "04 0000\n");
-    assert_eq!(declared(1, &["0400000000000000", EVENT]), "05 0001\n");
+    assert_eq!(declared(1, &["0500000000000000"]), "04 0000\n");
+    assert_eq!(declared(1, &["0500000000000000", EVENT]), "05 0001\n");
 }
 
 #[test]
@@ -205,26 +205,9 @@ fn uses_have_a_depth() {
 
 // Files from trees, for the rules and for running.
 
-impl File {
-    /// What the check says: the number and the kind of the frame.
-    fn verdict(&self) -> (u8, u8) {
-        let text = self.text();
-        let verdict = Reading::new(&text).verdict();
-        let frames = text::frames(&text).unwrap();
-        (verdict.number, frames[usize::from(verdict.frame)].kind)
-    }
-}
-
 /// The verdict on a `main` of two schedulers.
 fn verdict(events: &[u8], main: &Node) -> (u8, u8) {
     file(2, events, from_ref(main)).verdict()
-}
-
-const FINE: (u8, u8) = (0, 0);
-
-/// In shared cell 0, which holds a number.
-fn stores() -> Node {
-    store(shared(0), number(7))
 }
 
 #[test]
@@ -346,41 +329,6 @@ fn both_can_end_at_once() {
 }
 
 impl Run {
-    /// Under choices of this party these threads act, 0 for an instant's end.
-    fn acts(&mut self, party: u8, threads: &[u8]) {
-        for (at, &thread) in threads.iter().enumerate() {
-            assert_eq!(
-                self.choose(party),
-                (0, thread),
-                "choice {at} of {threads:?}"
-            );
-        }
-    }
-
-    /// A refused choice leaves the state as it was.
-    fn refused(&mut self, party: u8, answer: u8, thread: u8) {
-        let before = self.state.clone();
-        for _ in 0..2 {
-            assert_eq!(self.choose(party), (answer, thread));
-            assert_eq!(self.state, before);
-        }
-    }
-
-    fn active(&self, place: u8) -> Vec<u8> {
-        let scheduler = &self.state.schedulers[usize::from(place - HOME)];
-        scheduler.active.iter().copied().collect()
-    }
-
-    fn next(&self, place: u8) -> Vec<Entry> {
-        self.state.schedulers[usize::from(place - HOME)]
-            .next
-            .clone()
-    }
-
-    fn items(&self, thread: u8) -> usize {
-        self.state.thread(thread).continuation.len()
-    }
-
     /// Is this the kind of the statement that the thread takes next?
     fn is_at(&self, thread: u8, kind: u8) -> bool {
         match self.state.thread(thread).continuation.last() {
@@ -400,16 +348,6 @@ impl Run {
         self.acts(2, &[generator, 0, 2]);
         assert_eq!(self.next(2), [awaiting(2, 0)]);
     }
-}
-
-fn ready(thread: u8) -> Entry {
-    let until = Until::Instant;
-    Entry { thread, until }
-}
-
-fn awaiting(thread: u8, event: u8) -> Entry {
-    let until = Until::Event(event);
-    Entry { thread, until }
 }
 
 #[test]

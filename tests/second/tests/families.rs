@@ -3,6 +3,7 @@
 //! the paper's words taken literally.
 
 mod acting;
+mod in_step;
 mod literal;
 mod trees;
 

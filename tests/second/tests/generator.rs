@@ -1,6 +1,7 @@
 //! What the generator reaches.
 
 mod acting;
+mod in_step;
 mod literal;
 mod literal_events;
 
@@ -8,12 +9,16 @@ use std::collections::{BTreeMap, BTreeSet};
 
 use literal::Waits;
 use literal_events::Uses;
+use second::arrange::arrange;
 use second::evaluate::{Access, Actor, EventUse, Observer};
+use second::frame::Frame;
 use second::generate;
+use second::layout::Program;
 use second::listing::{self, Reading};
 use second::state::State;
 use second::tally::Tally;
 use second::text;
+use second::verdict::Verdict;
 
 const SEED: u64 = 1;
 
@@ -243,7 +248,7 @@ fn declarations_are_damaged() {
             (5, 0x03) if frame.s == 0 => "owner 0",
             (5, 0x03) => "field that is not 0",
             (5, 0x1A | 0x1B) => "field of a use that is not 0",
-            (5, 0x04 | 0x1C) => "kind just past those of events",
+            (5, 0x05 | 0x1C) => "kind just past those of events and links",
             (6, 0x03) if before == Some(0x02) => "event behind a module",
             (6, 0x03) => "event behind a statement or expression",
             (6, 0x01) if before == Some(0x03) => "shared cell behind an event",
@@ -258,4 +263,141 @@ fn declarations_are_damaged() {
     println!("{seen:#?}");
     assert_eq!(seen.len(), 17, "{seen:#?}");
     assert!(seen.values().all(|&times| times > 5), "{seen:#?}");
+}
+
+/// Is this frame a link that 5 names, and why?
+fn bad_link(link: &Frame, last: u16) -> &'static str {
+    let s = u16::from(link.s);
+    if !(2..=last).contains(&s) {
+        "S that the file lacks"
+    } else if link.a > 0xFF {
+        "A with a high byte"
+    } else if !(2..=last).contains(&link.a) {
+        "A that the file lacks"
+    } else if link.a >= s {
+        "A not below S"
+    } else if link.b != 0 {
+        "B not 0"
+    } else {
+        "C not 0"
+    }
+}
+
+/// What a file with links comes to at the check.
+fn of_links(frames: &[Frame], verdict: Verdict) -> &'static str {
+    let at = usize::from(verdict.frame);
+    let before = at.checked_sub(1).map(|f| frames[f].kind);
+    let links: Vec<[u16; 2]> = frames
+        .iter()
+        .filter(|frame| frame.kind == 0x04)
+        .map(|link| [u16::from(link.s), link.a])
+        .collect();
+    let pairs: BTreeSet<&[u16; 2]> = links.iter().collect();
+    match (verdict.number, frames[at].kind) {
+        (0, _) if links.len() > 16 => "accepted, over 16 links",
+        (0, _) if pairs.len() < links.len() => "accepted, a pair twice",
+        (0, _) => "accepted",
+        (5, 0x04) => bad_link(&frames[at], 1 + frames[0].b),
+        (6, 0x04) if before == Some(0x02) => "link behind a module",
+        (6, 0x04) => "link behind a statement or expression",
+        (6, 0x03) if before == Some(0x04) => "event behind a link",
+        (6, 0x01) if before == Some(0x04) => "shared cell behind a link",
+        (11, 0x12) if frames[at].s == 1 => "11 at place 1",
+        (11, 0x12) => "11 at a scheduler",
+        (11, _) => "11 at main",
+        _ => "another refusal",
+    }
+}
+
+/// Those for which 11 comes of a cell or an event of a scheduler that is not
+/// the place: a partner's cell, or an event of one that is not in step.
+fn foreign(program: &Program, choices: &[u8]) -> BTreeSet<&'static str> {
+    let mut watch = Foreign {
+        program,
+        seen: BTreeSet::new(),
+    };
+    let mut state = State::new(program);
+    for &party in choices {
+        state.step(program, party, &mut watch);
+    }
+    watch.seen
+}
+
+struct Foreign<'p> {
+    program: &'p Program,
+    seen: BTreeSet<&'static str>,
+}
+
+impl Observer for Foreign<'_> {
+    fn access(&mut self, actor: Actor, _: Access, owner: u8) {
+        let partners = in_step::members(self.program, actor.place);
+        if owner != actor.place && partners.contains(&owner) {
+            self.seen.insert("a run accesses a partner's cell");
+        }
+    }
+
+    fn event(&mut self, actor: Actor, _: EventUse, owner: u8) {
+        let partners = in_step::members(self.program, actor.place);
+        self.seen.insert(match partners.contains(&owner) {
+            true if owner == actor.place => "a run uses its own scheduler's event",
+            true => "a run uses a partner's event",
+            false => "a run uses the event of one not in step",
+        });
+    }
+}
+
+/// What drawn files with links come to, besides refusals of other frames.
+const DRAWN: [&str; 9] = [
+    "put in order",
+    "accepted",
+    "accepted, a pair twice",
+    "S that the file lacks",
+    "A with a high byte",
+    "A that the file lacks",
+    "A not below S",
+    "B not 0",
+    "C not 0",
+];
+
+/// Files with links are accepted or have each fault, often.
+#[test]
+fn links_are_declared_and_damaged() {
+    let mut cases: BTreeMap<&str, usize> = BTreeMap::new();
+    let mut drawn: BTreeMap<&str, usize> = BTreeMap::new();
+    for index in 0..20_000 {
+        let case = generate::case(SEED, index);
+        if let Some(frames) = frames_with_links(&case.program) {
+            let verdict = Reading::new(&case.program).verdict();
+            *cases.entry(of_links(&frames, verdict)).or_default() += 1;
+            if let Some(case) = case.readable() {
+                for seen in foreign(&case.program, &case.choices) {
+                    *cases.entry(seen).or_default() += 1;
+                }
+            }
+        }
+        let text = generate::drawn(SEED, index).program;
+        if let Some(frames) = frames_with_links(&text) {
+            let mut out = vec![0; text.len()];
+            let verdict = arrange(&text, &mut out);
+            let is_moved = verdict == Verdict::ACCEPTED && out != text;
+            let sort = if is_moved {
+                "put in order"
+            } else {
+                of_links(&frames, verdict)
+            };
+            *drawn.entry(sort).or_default() += 1;
+        }
+    }
+    println!("cases {cases:#?}\ndrawn files {drawn:#?}");
+    assert_eq!(cases.len(), 21, "{cases:#?}");
+    assert!(cases.values().all(|&times| times > 25), "{cases:#?}");
+    for sort in DRAWN {
+        assert!(drawn.get(sort) > Some(&50), "{sort}: {drawn:#?}");
+    }
+}
+
+fn frames_with_links(program: &[u8]) -> Option<Vec<Frame>> {
+    let frames = text::frames(program).ok()?;
+    let is_link = |frame: &Frame| frame.kind == 0x04;
+    frames.iter().any(is_link).then_some(frames)
 }

@@ -34,15 +34,15 @@ fn printed_alike(name: &str, at_least: usize, command: Command) {
 
 #[test]
 fn check_prints_every_vector() {
-    printed_alike("check.txt", 489, |text, _| listing::check(text));
+    printed_alike("check.txt", 579, |text, _| listing::check(text));
 }
 
 #[test]
 fn run_prints_every_vector() {
-    printed_alike("run.txt", 489, listing::run);
+    printed_alike("run.txt", 577, listing::run);
 }
 
 #[test]
 fn arrange_prints_every_vector() {
-    printed_alike("arrange.txt", 60, |text, _| listing::arrange(text));
+    printed_alike("arrange.txt", 62, |text, _| listing::arrange(text));
 }

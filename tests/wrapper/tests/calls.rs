@@ -1,6 +1,6 @@
 //! The wrapper tried on wrong lengths, empty buffers and garbage states; the end of an instant
-//! tried on states of a caller's own (events.rs has those with events); demand 3 tried on the
-//! accepted vectors; the writer tried on drawn files.
+//! tried on states of a caller's own (events.rs has those with events, groups.rs those with links);
+//! demand 3 tried on the accepted vectors; the writer tried on drawn files.
 use purkvaldi::{Answer, Listing};
 use std::path::Path;
 

@@ -7,11 +7,6 @@ use Prim.Native.Nat.{ℕ, suc}
 use lib.Dec.{leb, eqb}
 use Rattle.basics.specs.If.{if_then_else_}
 
--- every member passes the test
-unfoldable pub every : {A : Type 0} → (A → Bool) → List A → Bool
-every test [] = true
-every test (x ∷ xs) = elim (test x) [ true ↦ every test xs | false ↦ false ]
-
 -- the same numbers in the same order
 unfoldable pub sameNumbers : List ℕ → List ℕ → Bool
 sameNumbers [] [] = true

@@ -16,7 +16,9 @@ use Rattle.program.specs.Programs.{Program}
 use Rattle.machine.specs.inner.Blocks.{pasted, padded}
 use Rattle.states.specs.declared.thread.ThreadWords.{ThreadWords}
 use Rattle.states.specs.inner.Threads.{threadIn, putThread, withOneMore, ThreadSpace}
-use Rattle.lists.specs.inner.Lists.{withoutFirst, withLast, isAwaitingWord, activeWith, withWoken}
+use Rattle.lists.specs.inner.Lists.{withoutFirst, withLast, ListsFit}
+use Rattle.groups.specs.inner.Members.{membersIn, roomOnEach, wokenOn, Each, HasRoomOn}
+use Rattle.language.specs.inner.Labels.{sameLabel, inGroup}
 use Rattle.acts.specs.declared.act.Arguments.{Arguments}
 use Rattle.acts.specs.declared.act.Transition.{Transition}
 use Rattle.acts.specs.declared.act.Transition.the-variants.{Refused, Stays, Leaves, Joins, Starts}
@@ -140,14 +142,26 @@ startsIn p w before c t a waits m args =
 
 -- ---- events
 
--- a thread at that place stands on the event's owner
-abbrev pub ownsEvent : ℕ → ℕ → Bool
-ownsEvent place owner = isScheduler place && eqb owner place
+-- what is known of a file's groups: the labels of the schedulers, of which it has so many
+pub record Grouping : Type 0 where
+  pub labels : List ℕ
+  pub schedulers : ℕ
 
--- those that await event e have room in the owner's active list; only a scheduler has one
-unfoldable pub wakeRoomIn : List ℕ → ℕ → ℕ → Bool
-wakeRoomIn w owner e =
-    isScheduler owner && leb (activeWith (isAwaitingWord e) w (owner - home)) mostThreads
+abbrev pub grouping : List ℕ → ℕ → Grouping
+grouping labels n = record { labels = labels; schedulers = n }
+
+-- the members of q's group
+abbrev pub membersBy : Grouping → ℕ → List ℕ
+membersBy g q = membersIn (g .labels) (g .schedulers) q
+
+-- a thread at that place stands on a scheduler in step with the event's owner
+abbrev pub ownsEvent : Grouping → ℕ → ℕ → Bool
+ownsEvent g place owner = isScheduler place && inGroup (g .labels) place owner
+
+-- those that await event e have room in the active list of each member of the owner's group; only a
+-- scheduler has one
+unfoldable pub wakeRoomIn : Grouping → List ℕ → ℕ → ℕ → Bool
+wakeRoomIn g w owner e = isScheduler owner && roomOnEach (membersBy g owner) e w
 
 -- event e is present
 abbrev pub presentIn : List ℕ → ℕ → Bool
@@ -155,49 +169,50 @@ presentIn w e = eqb (getD w (eventsAt + e) 0) 1
 
 -- what stands in the way of a generation of the event so found, and of an await, at that place: a
 -- missing event and a list without room are 20, another's event is 19; 0 is neither
-unfoldable pub generateObstacle : List ℕ → EventFound → ℕ → ℕ → ℕ
-generateObstacle w event place e =
+unfoldable pub generateObstacle : Grouping → List ℕ → EventFound → ℕ → ℕ → ℕ
+generateObstacle g w event place e =
     if not (event .there) then stuck else
-    if not (wakeRoomIn w (event .owner) e) then stuck else
-    if not (ownsEvent place (event .owner)) then foreign else
+    if not (wakeRoomIn g w (event .owner) e) then stuck else
+    if not (ownsEvent g place (event .owner)) then foreign else
     0
 
-unfoldable pub awaitObstacle : List ℕ → EventFound → ℕ → ℕ → ℕ
-awaitObstacle w event place e =
+unfoldable pub awaitObstacle : Grouping → List ℕ → EventFound → ℕ → ℕ → ℕ
+awaitObstacle g w event place e =
     if not (event .there) then stuck else
     if not (presentIn w e || eqb place private || roomIn w place 1) then stuck else
-    if not (ownsEvent place (event .owner)) then foreign else
+    if not (ownsEvent g place (event .owner)) then foreign else
     0
 
--- event e of scheduler q is present, and who awaits it is active
-unfoldable pub generatedIn : List ℕ → ℕ → ℕ → List ℕ
-generatedIn w q e = set (withWoken w (q - home) e) (eventsAt + e) 1
+-- event e is present, and who awaits it on a member of q's group is active
+unfoldable pub generatedIn : Grouping → List ℕ → ℕ → ℕ → List ℕ
+generatedIn g w q e = set (wokenOn (membersBy g q) e w) (eventsAt + e) 1
 
-unfoldable pub generatesIn : Program → List ℕ → ℕ → ℕ → TurnResult → ℕ → Committed
-generatesIn p w before t a e =
-    let no = generateObstacle w (eventIn p e) (a .thread .place) e in
+unfoldable pub generatesIn : Program → Grouping → List ℕ → ℕ → ℕ → TurnResult → ℕ → Committed
+generatesIn p g w before t a e =
+    let no = generateObstacle g w (eventIn p e) (a .thread .place) e in
     if not (eqb no 0) then refusesIn w before t no else
-    committed 0 t (generatedIn (staysIn w t a) (a .thread .place) e)
+    committed 0 t (generatedIn g (staysIn w t a) (a .thread .place) e)
 
 -- thread t awaits event e on scheduler q, its own words as they were
 unfoldable pub awaitingIn : List ℕ → ℕ → ℕ → ℕ → ℕ → List ℕ
 awaitingIn w c t q e = joinedIn (leftIn w c) q (awaitingFrom + waitingFactor * e + t)
 
-unfoldable pub awaitsIn : Program → List ℕ → ℕ → ℕ → ℕ → TurnResult → ℕ → Committed
-awaitsIn p w before c t a e =
-    let no = awaitObstacle w (eventIn p e) (a .thread .place) e in
+unfoldable pub awaitsIn : Program → Grouping → List ℕ → ℕ → ℕ → ℕ → TurnResult → ℕ → Committed
+awaitsIn p g w before c t a e =
+    let no = awaitObstacle g w (eventIn p e) (a .thread .place) e in
     if not (eqb no 0) then refusesIn w before t no else
     if presentIn w e then committed 0 t (staysIn w t a) else
     committed 0 t (awaitingIn w c t (a .thread .place) e)
 
-abbrev pub committedIn : Program → List ℕ → ℕ → ℕ → ℕ → TurnResult → Transition → Committed
-committedIn p w before c t a (Refused n) = refusesIn w before t n
-committedIn p w before c t a Stays = committed 0 t (staysIn w t a)
-committedIn p w before c t a Leaves = committed 0 t (leavesIn w c t a)
-committedIn p w before c t a (Joins q) = joinsIn w before c t a (q .number)
-committedIn p w before c t a (Starts waits m args) = startsIn p w before c t a waits m args
-committedIn p w before c t a (Generates e) = generatesIn p w before t a e
-committedIn p w before c t a (Awaits e) = awaitsIn p w before c t a e
+abbrev pub committedIn : Program → Grouping → List ℕ → ℕ → ℕ → ℕ → TurnResult → Transition
+    → Committed
+committedIn p g w before c t a (Refused n) = refusesIn w before t n
+committedIn p g w before c t a Stays = committed 0 t (staysIn w t a)
+committedIn p g w before c t a Leaves = committed 0 t (leavesIn w c t a)
+committedIn p g w before c t a (Joins q) = joinsIn w before c t a (q .number)
+committedIn p g w before c t a (Starts waits m args) = startsIn p w before c t a waits m args
+committedIn p g w before c t a (Generates e) = generatesIn p g w before t a e
+committedIn p g w before c t a (Awaits e) = awaitsIn p g w before c t a e
 
 -- ---- the act as it is committed
 
@@ -236,25 +251,25 @@ startDecided p w t a waits m args =
 abbrev pub placeIn : List ℕ → ℕ → Action → Place
 placeIn w t a = placeAfter (a .change) (record { number = threadIn w (t - 1) .place })
 
-unfoldable pub generateTested : List ℕ → EventFound → Place → ℕ → Decision
-generateTested w event q e =
-    let no = generateObstacle w event (q .number) e in
+unfoldable pub generateTested : Grouping → List ℕ → EventFound → Place → ℕ → Decision
+generateTested g w event q e =
+    let no = generateObstacle g w event (q .number) e in
     if not (eqb no 0) then Refuse no else Settle (Wake q e)
 
-unfoldable pub awaitTested : List ℕ → EventFound → Place → ℕ → Decision
-awaitTested w event q e =
-    let no = awaitObstacle w event (q .number) e in
+unfoldable pub awaitTested : Grouping → List ℕ → EventFound → Place → ℕ → Decision
+awaitTested g w event q e =
+    let no = awaitObstacle g w event (q .number) e in
     if not (eqb no 0) then Refuse no else
     if presentIn w e then Settle Keep else Suspend q e
 
-abbrev pub decidedIn : Program → List ℕ → ℕ → Action → Transition → Decision
-decidedIn p w t a (Refused n) = Refuse n
-decidedIn p w t a Stays = Settle Keep
-decidedIn p w t a Leaves = Settle Leave
-decidedIn p w t a (Joins q) = if roomIn w (q .number) 1 then Settle (Join q) else Refuse stuck
-decidedIn p w t a (Starts waits m args) = startDecided p w t a waits m args
-decidedIn p w t a (Generates e) = generateTested w (eventIn p e) (placeIn w t a) e
-decidedIn p w t a (Awaits e) = awaitTested w (eventIn p e) (placeIn w t a) e
+abbrev pub decidedIn : Program → Grouping → List ℕ → ℕ → Action → Transition → Decision
+decidedIn p g w t a (Refused n) = Refuse n
+decidedIn p g w t a Stays = Settle Keep
+decidedIn p g w t a Leaves = Settle Leave
+decidedIn p g w t a (Joins q) = if roomIn w (q .number) 1 then Settle (Join q) else Refuse stuck
+decidedIn p g w t a (Starts waits m args) = startDecided p w t a waits m args
+decidedIn p g w t a (Generates e) = generateTested g w (eventIn p e) (placeIn w t a) e
+decidedIn p g w t a (Awaits e) = awaitTested g w (eventIn p e) (placeIn w t a) e
 
 -- the new thread of a starter that stands at q
 abbrev pub newAt : Arguments → Place → ℕ → ℕ → ThreadWords
@@ -281,15 +296,15 @@ unfoldable pub unlistedIn : List ℕ → ℕ → Passed → List ℕ
 unlistedIn w c x = if leavesList x then leftIn w c else w
 
 -- then what joins a next list or an active one
-abbrev pub enlistedIn : List ℕ → ℕ → Passed → List ℕ
-enlistedIn w t Keep = w
-enlistedIn w t Leave = w
-enlistedIn w t (Join q) = joinedIn w (q .number) t
-enlistedIn w t (Start waits q body args) = startedOn w t q body waits args
-enlistedIn w t (Wake q e) = generatedIn w (q .number) e
+abbrev pub enlistedIn : Grouping → List ℕ → ℕ → Passed → List ℕ
+enlistedIn g w t Keep = w
+enlistedIn g w t Leave = w
+enlistedIn g w t (Join q) = joinedIn w (q .number) t
+enlistedIn g w t (Start waits q body args) = startedOn w t q body waits args
+enlistedIn g w t (Wake q e) = generatedIn g w (q .number) e
 
-abbrev pub followedIn : List ℕ → ℕ → ℕ → Passed → List ℕ
-followedIn w c t x = enlistedIn (unlistedIn w c x) t x
+abbrev pub followedIn : Grouping → List ℕ → ℕ → ℕ → Passed → List ℕ
+followedIn g w c t x = enlistedIn g (unlistedIn w c x) t x
 
 -- ---- what a caller has to show
 
@@ -316,31 +331,29 @@ pub record StartWords (w : List ℕ) (q : Place) : Type 0 where
   pub scheduler : isScheduler (q .number) ≡ true
   pub count : getD w threadCountAt 0 < mostThreads
 
--- the lists are within their spaces, and there are no more threads than there may be
-pub record ListsFit (w : List ℕ) : Type 0 where
-  pub threads : getD w threadCountAt 0 ≤ mostThreads
-  pub active : (k : ℕ) → k < mostSchedulers
-      → getD w (schedulersAt + schedulerLength * k) 0 ≤ mostThreads
-  pub next : (k : ℕ) → k < mostSchedulers
-      → getD w (nextListAt + schedulerLength * k) 0 ≤ mostThreads
+-- the labels of eight schedulers, of which the file has at most as many
+pub record GroupingFits (g : Grouping) : Type 0 where
+  pub labelled : length (g .labels) ≡ mostSchedulers
+  pub few : g .schedulers ≤ mostSchedulers
 
--- q has lists, which are within their spaces, and who awaits event e has room
-pub record WakeWords (w : List ℕ) (q : Place) (e : ℕ) : Type 0 where
+-- q has lists, which are within their spaces, and who awaits event e has room on each member of its
+-- group
+pub record WakeWords (g : Grouping) (w : List ℕ) (q : Place) (e : ℕ) : Type 0 where
+  pub groups : GroupingFits g
   pub scheduler : isScheduler (q .number) ≡ true
   pub event : e < mostEvents
-  pub threads : getD w threadCountAt 0 ≤ mostThreads
-  pub next : getD w (nextListAt + schedulerLength * (q .number - home)) 0 ≤ mostThreads
-  pub room : activeWith (isAwaitingWord e) w (q .number - home) ≤ mostThreads
+  pub lists : ListsFit w
+  pub room : Each (sameLabel (g .labels) (q .number)) (HasRoomOn e w) home (home + g .schedulers)
 
 -- what the lists need to follow
-abbrev pub Follows : List ℕ → Passed → Type 0
-Follows w Keep = Unit {0}
-Follows w Leave = Unit {0}
-Follows w (Join q) = isScheduler (q .number) ≡ true
-Follows w (Start waits q body args) = StartWords w q
-Follows w (Wake q e) = WakeWords w q e
+abbrev pub Follows : Grouping → List ℕ → Passed → Type 0
+Follows g w Keep = Unit {0}
+Follows g w Leave = Unit {0}
+Follows g w (Join q) = isScheduler (q .number) ≡ true
+Follows g w (Start waits q body args) = StartWords w q
+Follows g w (Wake q e) = WakeWords g w q e
 
-pub record CommitWords (p : Program) (w : List ℕ) (t : ℕ) (a : Action) : Type 0 where
+pub record CommitWords (p : Program) (g : Grouping) (w : List ℕ) (t : ℕ) (a : Action) : Type 0 where
   pub first : 1 ≤ t
   pub last : t ≤ mostThreads
   pub cells : countIn w ≤ mostCells
@@ -348,3 +361,4 @@ pub record CommitWords (p : Program) (w : List ℕ) (t : ℕ) (a : Action) : Typ
   -- a file that passes refusals 1 to 7 has no more events, and words that pass 14 such lists
   pub events : length (p .events) ≤ mostEvents
   pub lists : ListsFit w
+  pub groups : GroupingFits g

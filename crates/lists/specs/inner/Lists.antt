@@ -4,11 +4,11 @@
 use mathlib.Core.Path.{_≡_}
 use mathlib.Core.List.{List, [], _∷_, _++_}
 use mathlib.Core.Bool.{Bool, false, not}
-use Prim.Native.Nat.{ℕ, _+_, _-_, _*_, _/_, _%_, _≤_}
+use Prim.Native.Nat.{ℕ, _+_, _-_, _*_, _/_, _%_, _<_, _≤_}
 use lib.Dec.{ltb, eqb}
 use lib.ListN.{length, getD, set, drop}
 use Rattle.basics.specs.If.{if_then_else_}
-use Rattle.language.specs.Limits.{mostThreads}
+use Rattle.language.specs.Limits.{mostSchedulers, mostThreads}
 use Rattle.machine.specs.Offsets.{stateLength, threadCountAt, schedulersAt, schedulerLength}
 use Rattle.machine.specs.Offsets.{listLength, nextListAt, waitingFactor, awaitingFrom}
 use Rattle.basics.specs.If.{keepIf}
@@ -101,3 +101,11 @@ activeWith test w k =
 abbrev pub ListWords : List ℕ → ℕ → Type 0
 ListWords w at =
     (length w ≡ stateLength) × (getD w threadCountAt 0 ≤ mostThreads) × (getD w at 0 ≤ mostThreads)
+
+-- the lists are within their spaces, and there are no more threads than there may be
+pub record ListsFit (w : List ℕ) : Type 0 where
+  pub threads : getD w threadCountAt 0 ≤ mostThreads
+  pub active : (k : ℕ) → k < mostSchedulers
+      → getD w (schedulersAt + schedulerLength * k) 0 ≤ mostThreads
+  pub next : (k : ℕ) → k < mostSchedulers
+      → getD w (nextListAt + schedulerLength * k) 0 ≤ mostThreads

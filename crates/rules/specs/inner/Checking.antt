@@ -7,7 +7,8 @@ use Prim.Native.Nat.{ℕ}
 use lib.Dec.{ltb, leb, eqb}
 use lib.ListN.{length, getD}
 use Rattle.basics.specs.If.{if_then_else_}
-use Rattle.basics.specs.inner.Searches.{every, sameNumbers}
+use Rattle.basics.specs.Members.{every}
+use Rattle.basics.specs.inner.Searches.{sameNumbers}
 use Rattle.language.specs.Places.{home, private, Standing, linked, unlinked, standingAt}
 use Rattle.language.specs.Types.{numberType, truthType, isCell, cellType, ownerOf}
 use Rattle.language.specs.Types.{contentOf, roomAround, public}
@@ -124,13 +125,18 @@ seqRule (Proper e a) (Proper f b) = Proper (e ∪ f) (a && b)
 seqRule (Proper e a) (Faulty n j) = Faulty n j
 seqRule (Faulty n j) y = Faulty n j
 
+-- whether a place allows an effect: `within` of the file's links, and of the labels that the code
+-- keeps
+abbrev pub EffectTest : Type 0
+EffectTest = ℕ → Effect → Bool
+
 -- 12
-unfoldable pub doRule : Standing → ℕ → ℕ → StatementEffect → StatementEffect
-doRule at s i (Proper e a) =
-    if not (within s e) then Faulty wrongEffect i else
+unfoldable pub doRule : EffectTest → Standing → ℕ → ℕ → StatementEffect → StatementEffect
+doRule allows at s i (Proper e a) =
+    if not (allows s e) then Faulty wrongEffect i else
     if not (isLinked at) && eqb s private then Faulty whileUnlinked i else
     Proper noEffect a
-doRule at s i (Faulty n j) = Faulty n j
+doRule allows at s i (Faulty n j) = Faulty n j
 
 -- 16: the effect of what the variable is, joined to the body's
 unfoldable pub joinRule : Effect → StatementEffect → StatementEffect
@@ -183,7 +189,8 @@ unfoldable pub effectIn : Setting → List Signature → List ℕ → Standing �
 effectIn env below Γ at (nothing i) = Proper noEffect true
 effectIn env below Γ at (cooperate i) = cooperateRule at i
 effectIn env below Γ at (seq i p q) = seqRule (effectIn env below Γ at p) (effectIn env below Γ at q)
-effectIn env below Γ at (doAt i s p) = doRule at s i (effectIn env below Γ (standingAt s) p)
+effectIn env below Γ at (doAt i s p) =
+    doRule (within (env .links)) at s i (effectIn env below Γ (standingAt s) p)
 effectIn env below Γ at (start i s xs) = startRule true below at s i (typesIn (env .cells) Γ xs)
 effectIn env below Γ at (startWait i s xs) = startRule false below at s i (typesIn (env .cells) Γ xs)
 effectIn env below Γ at (letIn i x p) =
@@ -198,22 +205,22 @@ effectIn env below Γ at (await i s) = signalOf (env .events) s i
 -- ---- modules
 
 -- main is the last: its effect is within {2}
-abbrev pub mainRule : ℕ → Effect → Verdict
-mainRule i e = if within home e then Accepted else Rejected wrongEffect i
+abbrev pub mainRule : EffectTest → ℕ → Effect → Verdict
+mainRule allows i e = if allows home e then Accepted else Rejected wrongEffect i
 
 -- module m was found to be so; `rest` gives the verdict on the later modules ms, from the
 -- signatures before them
-abbrev pub afterModule : (List Signature → Verdict) → List Signature → Part → List Part → StatementEffect
-    → Verdict
-afterModule rest below m [] (Proper e b) = mainRule (m .frame) e
-afterModule rest below m (n ∷ ms) (Proper e b) = rest (below ++ (signature m e ∷ []))
-afterModule rest below m ms (Faulty n j) = Rejected n j
+abbrev pub afterModule : EffectTest → (List Signature → Verdict) → List Signature → Part → List Part
+    → StatementEffect → Verdict
+afterModule allows rest below m [] (Proper e b) = mainRule allows (m .frame) e
+afterModule allows rest below m (n ∷ ms) (Proper e b) = rest (below ++ (signature m e ∷ []))
+afterModule allows rest below m ms (Faulty n j) = Rejected n j
 
 -- the modules ms after modules with the signatures `below`
 unfoldable pub modulesIn : Setting → List Signature → List Part → Verdict
 modulesIn env below [] = Accepted
 modulesIn env below (m ∷ ms) =
-    afterModule (λ sigs. modulesIn env sigs ms) below m ms
+    afterModule (within (env .links)) (λ sigs. modulesIn env sigs ms) below m ms
     (effectIn env below (m .types) linked (m .body))
 
 -- the first broken rule of a program

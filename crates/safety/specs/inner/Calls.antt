@@ -8,6 +8,7 @@ use Rattle.basics.specs.Members.{All}
 use Rattle.language.specs.declared.frame.Frame.{Frame}
 use Rattle.language.specs.declared.verdict.Verdict.the-variants.{Accepted}
 use Rattle.text.specs.Frames.{textFrames}
+use Rattle.program.specs.Programs.{programOf}
 use Rattle.checker.specs.Verdict.{HasVerdict}
 use Rattle.machine.specs.Offsets.{stateLength}
 use Rattle.machine.specs.Accesses.{Access, Own, Signal, OwnSignal}
@@ -30,8 +31,8 @@ pub record SafeCalls (fs : List Frame) (w cs : List ℕ) : Type 0 where
   -- every access under every call was to a cell of the acting thread or of the scheduler on which
   -- it stood
   pub accessed : All Own (accessesFrom fs (freshCall fs w .words) cs)
-  -- and every access to an event was made on its owner's scheduler
-  pub signalled : All OwnSignal (signalsFrom fs (freshCall fs w .words) cs)
+  -- and every access to an event was made on its owner's scheduler or on one in step with it
+  pub signalled : All (OwnSignal (programOf fs .links)) (signalsFrom fs (freshCall fs w .words) cs)
   -- no call was foreign or stuck
   pub answered : All (λ (r : CallResult). Sound (r .answer)) (callsFrom fs (freshCall fs w .words) cs)
   -- the words after the list are those of a state, in which no scheduler's cell holds a thread's,

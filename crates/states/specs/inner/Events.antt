@@ -1,17 +1,17 @@
 -- What the code does to the events' words. No reader has to believe it: on words that say a state it
 -- is what the rules do to the state (proofs/EventLaws). Assumes nothing: definitions.
+use mathlib.Core.Bool.{Bool}
 use mathlib.Core.List.{List}
 use Prim.Native.Nat.{ℕ, zero, suc, _+_}
-use lib.Dec.{eqb}
 use lib.ListN.{getD, set}
 use Rattle.basics.specs.If.{if_then_else_}
 use Rattle.machine.specs.Offsets.{eventsAt}
 
--- event e, of the owners os, is not present if it is scheduler c's
-unfoldable pub withoutEvent : ℕ → List ℕ → List ℕ → ℕ → List ℕ
-withoutEvent c os w e = if eqb (getD os e 0) c then set w (eventsAt + e) 0 else w
+-- event e, of the owners os, is not present if its owner passes the test
+unfoldable pub withoutEvent : (ℕ → Bool) → List ℕ → List ℕ → ℕ → List ℕ
+withoutEvent test os w e = if test (getD os e 0) then set w (eventsAt + e) 0 else w
 
 -- the first n events
-unfoldable pub withoutEvents : ℕ → List ℕ → List ℕ → ℕ → List ℕ
-withoutEvents c os w zero = w
-withoutEvents c os w (suc n) = withoutEvent c os (withoutEvents c os w n) n
+unfoldable pub withoutEvents : (ℕ → Bool) → List ℕ → List ℕ → ℕ → List ℕ
+withoutEvents test os w zero = w
+withoutEvents test os w (suc n) = withoutEvent test os (withoutEvents test os w n) n

@@ -28,13 +28,23 @@ use Rattle.acts.specs.declared.act.Action.{Action}
 use Rattle.acts.specs.inner.Transitions.{popped, turned, HasRoom}
 use Rattle.turns.specs.inner.Acts.{TurnOutcome, variablesIn, topIn, turnIn}
 use Rattle.turns.specs.inner.TurnCounts.{turnCount}
-use Rattle.commits.specs.inner.Commits.{Committed, committed}
+use Rattle.commits.specs.inner.Commits.{Committed, committed, Grouping, grouping}
+use Rattle.language.specs.inner.Labels.{labelsOf}
 use Rattle.stepper.specs.declared.file.File.{File}
 use Rattle.stepper.specs.declared.party.StepAnswer.{StepAnswer}
 
 abbrev pub fileOf : Program → File
 fileOf p =
-    record { schedulers = p .schedulers; shared = length (p .shared); allowance = p .allowance }
+    record {
+      schedulers = p .schedulers;
+      shared = length (p .shared);
+      allowance = p .allowance;
+      labels = labelsOf (p .links);
+    }
+
+-- what a step knows of its groups
+abbrev pub groupingOf : Program → Grouping
+groupingOf p = grouping (labelsOf (p .links)) (p .schedulers)
 
 abbrev pub steppedOn : StepAnswer → List ℕ → CallResult
 steppedOn r w = callResult (r .answer) (r .thread) (r .accesses) w
@@ -62,6 +72,13 @@ pub record StepWords (frames : List ℕ) (shared : ℕ) (w : List ℕ) : Type 0 
   pub file : FileWords frames
   pub count : shared ≡ length (programOf (framesOf frames) .shared)
   pub range : inRange (framesOf frames) (programOf (framesOf frames) .schedulers) w ≡ true
+
+-- such a file and its groups, words that are not refused with 14, and a scheduler of the file
+pub record InstantWords (frames : List ℕ) (g : Grouping) (w : List ℕ) (q : ℕ) : Type 0 where
+  pub shared : ℕ
+  pub step : StepWords frames shared w
+  pub groups : g ≡ groupingOf (programOf (framesOf frames))
+  pub party : isSchedulerOf (programOf (framesOf frames)) q ≡ true
 
 -- the choice of a turn: a scheduler of the file, or none at all
 abbrev pub TurnChoice : List ℕ → ℕ → Type 0

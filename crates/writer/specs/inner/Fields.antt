@@ -21,6 +21,7 @@ holdsOf Use.Free = Holds.Kept
 holdsOf Use.Truth = Holds.Kept
 holdsOf Use.Place = Holds.Kept
 holdsOf Use.Scheduler = Holds.Kept
+holdsOf Use.Lower = Holds.Kept
 holdsOf Use.ContentType = Holds.Kept
 holdsOf Use.FirstContent = Holds.Kept
 holdsOf Use.Parameters = Holds.Kept

@@ -5,10 +5,12 @@
 //! possible is decided before its first frame is added.
 
 use super::lines::Lines;
+use super::links;
 use super::plan::{Plan, Slip};
 use super::random::Random;
 use crate::effect::Effect;
 use crate::frame::{kind, Frame};
+use crate::group::Groups;
 use crate::place::{HOME, PRIVATE};
 use crate::rules::Rule;
 use crate::types::Type;
@@ -22,6 +24,7 @@ pub fn frames(random: &mut Random, plan: fn(&mut Random) -> Plan) -> Vec<Frame> 
         random,
         shared: Vec::new(),
         events: Vec::new(),
+        groups: Groups::new(&[]),
         modules: Vec::new(),
         scope: Vec::new(),
         size: 0,
@@ -33,6 +36,9 @@ pub fn frames(random: &mut Random, plan: fn(&mut Random) -> Plan) -> Vec<Frame> 
     }
     for _ in 0..plan.events {
         builder.event();
+    }
+    if plan.linked {
+        builder.groups = links::declare(builder.random, &mut builder.lines, builder.last_place);
     }
     for number in 0..=plan.modules {
         builder.size = plan.size * (number + 1) / (plan.modules + 1);
@@ -93,6 +99,7 @@ pub(super) struct Builder<'r> {
     pub(super) shared: Vec<Type>,
     /// Owners of the events.
     pub(super) events: Vec<u8>,
+    pub(super) groups: Groups,
     pub(super) modules: Vec<Signature>,
     pub(super) scope: Vec<Type>,
     /// Frames after which only leaves are added.
@@ -190,20 +197,35 @@ impl Builder<'_> {
     }
 
     /// Those on cells and on events, mostly alike: a module other than `main`
-    /// is free, but one with two schedulers cannot be started from an accepted
-    /// `main`.
+    /// is free, but one with cells of two schedulers cannot be started from an
+    /// accepted `main`.
     fn module_effects(&mut self, is_main: bool) -> [Effect; 2] {
         if is_main {
-            return [Rule::MainEffect, Rule::MainEvents].map(|rule| match self.slips(rule) {
-                true => self.everywhere(),
-                false => Effect::of(HOME),
-            });
+            return self.effects_at(HOME, [Rule::MainEffect, Rule::MainEvents]);
         }
         let allowed = self.module_effect();
-        match self.random.chance(8) {
-            true => [allowed, self.module_effect()],
-            false => [allowed; 2],
-        }
+        let events = match self.random.chance(8) {
+            true => self.module_effect(),
+            false => allowed,
+        };
+        [allowed, self.in_step_with(events)]
+    }
+
+    /// What may be done to cells and to events at a place, unless it slips.
+    pub(super) fn effects_at(&mut self, place: u8, rules: [Rule; 2]) -> [Effect; 2] {
+        let group = self.groups.of(place);
+        let own = match self.slips(Rule::OwnCells) {
+            true => group,
+            false => Effect::of(place),
+        };
+        let [cells, events] = rules.map(|rule| self.slips(rule).then(|| self.everywhere()));
+        [cells.unwrap_or(own), events.unwrap_or(group)]
+    }
+
+    /// All schedulers of the groups that these are in.
+    fn in_step_with(&self, schedulers: Effect) -> Effect {
+        let groups = schedulers.schedulers().map(|place| self.groups.of(place));
+        groups.fold(Effect::EMPTY, Effect::joined)
     }
 
     fn module_effect(&mut self) -> Effect {

@@ -107,8 +107,12 @@ fn valid(random: &mut Random, program: &Program, flavour: Flavour, count: usize)
     };
     let mut burst = Burst::default();
     while chosen.len() < count {
-        let busy = busy(&state);
+        let busy = busy(program, &state);
         let party = match flavour {
+            // One that is in step may have to wait for another.
+            _ if program.links > 0 && random.chance(16) => {
+                Some(random.place(HOME, program.last_place))
+            }
             Flavour::Bursts => burst.party(random, &busy),
             _ => random.pick(&busy),
         };
@@ -148,11 +152,18 @@ impl Burst {
     }
 }
 
-fn busy(state: &State) -> Vec<u8> {
-    let schedulers = (HOME..).zip(&state.schedulers);
-    let mut parties: Vec<u8> = schedulers
-        .filter(|(_, scheduler)| !scheduler.active.is_empty() || !scheduler.next.is_empty())
-        .map(|(place, _)| place)
+/// Schedulers with an active thread, or in a group that may end its instant,
+/// also if they have nothing in their lists; and unlinked threads.
+fn busy(program: &Program, state: &State) -> Vec<u8> {
+    let scheduler = |place: u8| &state.schedulers[usize::from(place - HOME)];
+    let may_end = |place: u8| {
+        let group = program.groups.of(place);
+        let is_idle = |member| scheduler(member).active.is_empty();
+        let has_next = |member| !scheduler(member).next.is_empty();
+        group.schedulers().all(is_idle) && group.schedulers().any(has_next)
+    };
+    let mut parties: Vec<u8> = (HOME..=program.last_place)
+        .filter(|&place| !scheduler(place).active.is_empty() || may_end(place))
         .collect();
     let threads = (1..).zip(&state.threads);
     parties.extend(

@@ -3,7 +3,7 @@
 
 use super::mutate::{child_mut, insert, renumber};
 use super::random::Random;
-use super::{build, mutate, soup, special, Plan};
+use super::{build, events, mutate, soup, special, Plan};
 use crate::frame::{kind, Frame};
 use crate::place::HOME;
 
@@ -35,7 +35,8 @@ pub fn laid_out(random: &mut Random) -> Vec<Frame> {
         0 => special::full(random, 1024),
         1..=3 => soup::frames(random),
         4..=5 => chain(random, 24),
-        6..=20 => build::frames(random, Plan::small),
+        6..=17 => build::frames(random, Plan::small),
+        18..=22 => events::exchange(random, true),
         _ => build::frames(random, Plan::random),
     }
 }
@@ -112,9 +113,7 @@ fn permutation(random: &mut Random, count: usize) -> Vec<usize> {
             random.below(2)
         }
         _ => {
-            for at in (1..count).rev() {
-                order.swap(at, random.below(at + 1));
-            }
+            random.shuffle(&mut order);
             0
         }
     };
@@ -125,11 +124,11 @@ fn permutation(random: &mut Random, count: usize) -> Vec<usize> {
 }
 
 /// The frames after the header in another order, children renumbered. If
-/// `kept`, modules, shared cells and events keep theirs.
+/// `kept`, modules, shared cells, events and links keep theirs.
 pub fn shuffled(random: &mut Random, frames: &[Frame], kept: bool) -> Vec<Frame> {
     let mut order = permutation(random, frames.len() - 1);
     if kept {
-        for kind in [kind::SHARED_CELL, kind::MODULE, kind::EVENT] {
+        for kind in [kind::SHARED_CELL, kind::MODULE, kind::EVENT, kind::LINK] {
             let is_of_kind = |&f: &usize| frames[f].kind == kind;
             let sorted: Vec<usize> = (1..frames.len()).filter(is_of_kind).collect();
             let places = order.iter_mut().filter(|f| is_of_kind(f));
@@ -171,7 +170,7 @@ fn set_child(frames: &mut [Frame], (f, field): Slot, number: usize) {
 /// One change, often a fatal one.
 fn damage(random: &mut Random, frames: &mut Vec<Frame>) {
     let at = random.between(1, frames.len());
-    match random.below(28) {
+    match random.below(34) {
         0 => insert(frames, at, mutate::leaf(random)),
         1 => remove(frames, at.min(frames.len() - 1)),
         2 => without_modules(random, frames),
@@ -186,6 +185,8 @@ fn damage(random: &mut Random, frames: &mut Vec<Frame>) {
         12 => mutate::event_count(random, frames),
         13 => mutate::event_fields(random, frames),
         14 => mutate::event_use_fields(random, frames),
+        15..=18 => mutate::link_fields(random, frames),
+        19..=20 => link_anywhere(random, frames),
         _ => {
             if let Some(slot) = random.pick(&slots(frames)) {
                 child_field(random, frames, slot);
@@ -198,7 +199,7 @@ fn damage(random: &mut Random, frames: &mut Vec<Frame>) {
 fn child_field(random: &mut Random, frames: &mut [Frame], slot: Slot) {
     let count = frames.len();
     let other = random.pick(&slots(frames)).unwrap_or(slot);
-    match random.below(13) {
+    match random.below(14) {
         0 => set_child(frames, slot, 0),
         1 => {
             set_child(frames, slot, 0);
@@ -222,21 +223,30 @@ fn child_field(random: &mut Random, frames: &mut [Frame], slot: Slot) {
             let number = child(frames, (slot.0, within));
             set_child(frames, slot, usize::from(number));
         }
-        8 => {
-            let declared: Vec<usize> = (0..count).filter(|&f| frames[f].kind < 16).collect();
-            let number = random.pick(&declared).unwrap_or(0);
+        8..=9 => {
+            let number = declaration(random, frames);
             set_child(frames, slot, number);
             if random.chance(2) {
                 set_child(frames, other, number);
             }
         }
-        9..=10 => exchange(frames, slot, other),
+        10..=11 => exchange(frames, slot, other),
         _ => {
             let below = slots_below(frames, child(frames, slot));
             let other = random.pick(&below).unwrap_or(other);
             exchange(frames, slot, other);
         }
     }
+}
+
+/// A header, shared cell, module, event or link, each about as often.
+fn declaration(random: &mut Random, frames: &[Frame]) -> usize {
+    let declared: Vec<usize> = (0..frames.len()).filter(|&f| frames[f].kind < 16).collect();
+    let kind = random.place(kind::HEADER, kind::LINK);
+    let of_kind = |&f: &usize| frames[f].kind == kind;
+    let wanted: Vec<usize> = declared.iter().copied().filter(of_kind).collect();
+    let any = random.pick(&declared).unwrap_or(0);
+    random.pick(&wanted).unwrap_or(any)
 }
 
 /// Each frame keeps its number of users. Where one field stands below the
@@ -345,6 +355,19 @@ fn more_events(random: &mut Random, frames: &mut Vec<Frame>) {
     }
 }
 
+/// A good one, wherever it is drawn, seldom as a child; at times the same again.
+fn link_anywhere(random: &mut Random, frames: &mut Vec<Frame>) {
+    let link = mutate::link(random, frames);
+    for _ in 0..random.between(1, 2) {
+        let at = random.between(1, frames.len());
+        insert(frames, at, link);
+        match random.pick(&slots(frames)) {
+            Some(slot) if random.chance(8) => set_child(frames, slot, at),
+            _ => {}
+        }
+    }
+}
+
 /// 15 to 18 of them in all, at any place, each with its body.
 fn more_modules(random: &mut Random, frames: &mut Vec<Frame>) {
     let wanted = random.between(15, 18);
@@ -390,12 +413,11 @@ fn other_class(random: &mut Random, frames: &mut [Frame]) {
     };
 }
 
-/// The header, shared cells and events alone, at times not even those.
+/// The header, shared cells, events and links alone, at times not even those.
 fn only_declarations(random: &mut Random, frames: &mut Vec<Frame>) {
     match random.chance(2) {
         true => frames.truncate(1),
-        false => frames
-            .retain(|frame| matches!(frame.kind, kind::HEADER | kind::SHARED_CELL | kind::EVENT)),
+        false => frames.retain(mutate::is_declared_first),
     }
     if let (0, Some(header)) = (of_kind(frames, kind::EVENT), frames.first_mut()) {
         header.c = 0;

@@ -1,9 +1,12 @@
 //! Files whose threads generate and await events, alone or in a crowd, while
-//! they also move, wait, cooperate and run unlinked (document 02, change 5).
+//! they also move, wait, cooperate and run unlinked (document 02, change 5), in
+//! files with schedulers in step too (change 7).
 
 use super::lines::Lines;
 use super::random::Random;
+use super::{links, mutate};
 use crate::frame::{kind, Frame};
+use crate::group::Groups;
 use crate::layout::DECLARATIONS;
 use crate::place::{HOME, PRIVATE};
 use crate::state::THREADS;
@@ -11,18 +14,25 @@ use crate::state::THREADS;
 /// Kinds that use an event.
 const USES: [u8; 2] = [kind::GENERATE, kind::AWAIT];
 
-/// Modules that each use some events, all started by `main`.
-pub fn exchange(random: &mut Random) -> Vec<Frame> {
-    let mut events = Events::new(random);
+/// Modules that each use some events, all started by `main`. If `linked`, some
+/// schedulers are in step.
+pub fn exchange(random: &mut Random, linked: bool) -> Vec<Frame> {
+    let mut events = Events::new(random, linked);
     events.modules();
     let body = events.main();
     events.lines.module(body);
     events.lines.0
 }
 
-/// The same with one statement that no rule allows.
-pub fn faulty(random: &mut Random) -> Vec<Frame> {
-    let mut events = Events::new(random);
+/// The same with one statement that no rule allows, or without a link that some
+/// statement needs, mostly.
+pub fn faulty(random: &mut Random, linked: bool) -> Vec<Frame> {
+    if linked && random.chance(3) {
+        let mut frames = exchange(random, linked);
+        mutate::without_a_link(random, &mut frames);
+        return frames;
+    }
+    let mut events = Events::new(random, linked);
     events.modules();
     let fault = events.fault(HOME);
     if events.random.chance(2) {
@@ -38,15 +48,20 @@ pub fn faulty(random: &mut Random) -> Vec<Frame> {
 }
 
 /// Up to 63 threads that await events of one scheduler, or of two, which
-/// `main` then generates.
-pub fn crowd(random: &mut Random) -> Vec<Frame> {
-    let schedulers = random.between(1, 2) as u8;
+/// `main` then generates. If `linked`, they are on several that are in step.
+pub fn crowd(random: &mut Random, linked: bool) -> Vec<Frame> {
+    let schedulers = match linked {
+        true => random.weighted(&LINKED_SCHEDULERS),
+        false => random.between(1, 2) as u8,
+    };
     let mut events = Events::empty(random, schedulers);
     events.declare(1, 4);
-    for _ in 0..events.random.between(1, 4) {
+    events.link(linked);
+    let modules = if linked { [2, 6] } else { [1, 4] };
+    for _ in 0..events.random.between(modules[0], modules[1]) {
         let home = match events.random.chance(4) {
             true => events.scheduler(),
-            false => HOME,
+            false => events.partner(HOME),
         };
         let body = events.member(home);
         events.module(home, body);
@@ -55,13 +70,19 @@ pub fn crowd(random: &mut Random) -> Vec<Frame> {
         true => events.random.between(2, 30),
         false => events.random.between(50, THREADS - 1),
     };
-    let crowd = events.row(starts, Events::start_without_wait);
+    let crowd = match linked {
+        true => events.start_in_parts(starts),
+        false => events.row(starts, Events::start_without_wait),
+    };
     let count = events.random.between(3, 8);
     let signals = events.row(count, Events::signal);
     let body = events.lines.add(kind::SEQUENCE, 0, [crowd, signals, 0]);
     events.lines.module(body);
     events.lines.0
 }
+
+/// How many schedulers a file with links has.
+const LINKED_SCHEDULERS: [(usize, u8); 5] = [(4, 2), (4, 3), (2, 4), (2, 5), (3, 8)];
 
 struct Events<'r> {
     random: &'r mut Random,
@@ -71,6 +92,8 @@ struct Events<'r> {
     cells: Vec<u8>,
     /// Owners of the events.
     owners: Vec<u8>,
+    has_links: bool,
+    groups: Groups,
     /// Where each module is started, so that it needs no move to use the
     /// events of that place.
     homes: Vec<u8>,
@@ -90,6 +113,8 @@ impl<'r> Events<'r> {
             last_place: PRIVATE + schedulers,
             cells: Vec::new(),
             owners: Vec::new(),
+            has_links: false,
+            groups: Groups::new(&[]),
             homes: Vec::new(),
             tickers: 0,
             variables: 0,
@@ -98,13 +123,15 @@ impl<'r> Events<'r> {
         }
     }
 
-    fn new(random: &'r mut Random) -> Events<'r> {
+    fn new(random: &'r mut Random, linked: bool) -> Events<'r> {
         let schedulers = match random.chance(8) {
-            true => random.between(1, 8),
-            false => random.between(1, 3),
+            _ if linked => random.weighted(&LINKED_SCHEDULERS),
+            true => random.between(1, 8) as u8,
+            false => random.between(1, 3) as u8,
         };
-        let mut events = Events::empty(random, schedulers as u8);
-        for _ in 0..events.random.below(3) {
+        let mut events = Events::empty(random, schedulers);
+        let most_cells = events.random.below(3);
+        for _ in 0..most_cells.max(usize::from(linked)) {
             let owner = events.scheduler();
             events.lines.add(kind::SHARED_CELL, owner, [1, 0, 0]);
             events.cells.push(owner);
@@ -112,7 +139,16 @@ impl<'r> Events<'r> {
         // With few events generations meet awaits.
         let most = events.random.weighted(&[(1, DECLARATIONS), (2, 4), (5, 2)]);
         events.declare(1, most);
+        events.link(linked);
         events
+    }
+
+    /// Puts some schedulers in step, if there are several.
+    fn link(&mut self, linked: bool) {
+        self.has_links = linked;
+        if linked {
+            self.groups = links::declare(self.random, &mut self.lines, self.last_place);
+        }
     }
 
     fn declare(&mut self, least: usize, most: usize) {
@@ -149,12 +185,13 @@ impl<'r> Events<'r> {
         let condition = self.lines.leaf(kind::TRUTH, 1);
         let body = self.turn(condition, |events| {
             let before = match events.random.below(3) {
-                0 => events.lines.leaf(kind::NOTHING, 0),
+                0 => events.pause(),
                 1 => events.cooperates(),
                 _ => events.unlinked(0),
             };
             let event = events.lines.leaf(kind::GENERATE, number);
-            let event = events.at(home, owner, event);
+            let place = events.place_for(home, owner);
+            let event = events.at(home, place, event);
             events.lines.add(kind::SEQUENCE, 0, [before, event, 0])
         });
         self.module(home, body);
@@ -265,10 +302,35 @@ impl<'r> Events<'r> {
         }
     }
 
-    /// Of one of this place's events, if it has any, or of any, at its owner.
+    /// A place where events of this owner may be used: mostly here, if this is
+    /// one, or else any scheduler in step with the owner.
+    fn place_for(&mut self, here: u8, owner: u8) -> u8 {
+        if self.groups.in_step(here, owner) && !self.random.chance(6) {
+            return here;
+        }
+        self.partner(owner)
+    }
+
+    /// A scheduler in step with this one, or itself.
+    fn partner(&mut self, place: u8) -> u8 {
+        let members: Vec<u8> = self.groups.of(place).schedulers().collect();
+        self.random.pick(&members).unwrap_or(place)
+    }
+
+    /// Nothing for some steps, where partners may come to their awaits
+    /// meanwhile.
+    fn pause(&mut self) -> u16 {
+        let count = match self.has_links {
+            true => self.random.between(1, 16),
+            false => 1,
+        };
+        self.row(count, |events| events.lines.leaf(kind::NOTHING, 0))
+    }
+
+    /// Of one of the events of this place's group, if it has any, or of any.
     fn event_use(&mut self, here: u8, kind: u8) -> u16 {
         let own: Vec<usize> = (0..self.owners.len())
-            .filter(|&number| self.owners[number] == here)
+            .filter(|&number| self.groups.in_step(here, self.owners[number]))
             .collect();
         // The first one more often, so that they meet.
         let number = match own.first() {
@@ -277,7 +339,8 @@ impl<'r> Events<'r> {
             _ => self.random.below(self.owners.len()),
         };
         let event_use = self.lines.leaf(kind, number as u8);
-        self.at(here, self.owners[number], event_use)
+        let place = self.place_for(here, self.owners[number]);
+        self.at(here, place, event_use)
     }
 
     fn cooperates(&mut self) -> u16 {
@@ -301,16 +364,47 @@ impl<'r> Events<'r> {
         self.start(HOME, kind::START)
     }
 
+    /// About so many starts of all modules, those of each in a row at its home.
+    fn start_in_parts(&mut self, starts: usize) -> u16 {
+        let modules = self.homes.len();
+        let mut body = self.lines.leaf(kind::NOTHING, 0);
+        for number in 0..modules {
+            let count = (starts / modules).max(1);
+            let part = self.row(count, |events| events.lines.leaf(kind::START, number as u8));
+            let part = self.at(HOME, self.homes[number], part);
+            body = self.lines.add(kind::SEQUENCE, 0, [body, part, 0]);
+        }
+        body
+    }
+
     /// In a shared cell, at its owner.
     fn store(&mut self, here: u8) -> u16 {
         let cells: Vec<usize> = (0..self.cells.len()).collect();
         let Some(number) = self.random.pick(&cells) else {
             return self.lines.leaf(kind::NOTHING, 0);
         };
+        let store = self.store_in(number);
+        self.at(here, self.cells[number], store)
+    }
+
+    fn store_in(&mut self, number: usize) -> u16 {
         let cell = self.lines.leaf(kind::SHARED, number as u8);
         let value = self.lines.leaf(kind::NUMBER, 0);
-        let store = self.lines.add(kind::STORE, 0, [cell, value, 0]);
-        self.at(here, self.cells[number], store)
+        self.lines.add(kind::STORE, 0, [cell, value, 0])
+    }
+
+    /// Stores in a cell of a scheduler that is in step with the place, but not
+    /// the place. None if there is no such cell.
+    fn store_in_partners_cell(&mut self) -> Option<u16> {
+        let mut pairs = Vec::new();
+        for (number, &owner) in self.cells.iter().enumerate() {
+            let partners = self.groups.of(owner).schedulers();
+            let others = partners.filter(|&place| place != owner);
+            pairs.extend(others.map(|place| (number, place)));
+        }
+        let (number, place) = self.random.pick(&pairs)?;
+        let store = self.store_in(number);
+        Some(self.at(HOME, place, store))
     }
 
     /// A stretch on no scheduler, often with a stop at one.
@@ -377,7 +471,11 @@ impl<'r> Events<'r> {
 
     /// Some instants later, an event, at times at once again.
     fn signal(&mut self) -> u16 {
-        let event = self.event_use(HOME, kind::GENERATE);
+        let pause = self.has_links.then(|| self.pause());
+        let mut event = self.event_use(HOME, kind::GENERATE);
+        if let Some(pause) = pause {
+            event = self.lines.add(kind::SEQUENCE, 0, [pause, event, 0]);
+        }
         match self.random.chance(4) {
             true => event,
             false => {
@@ -387,9 +485,15 @@ impl<'r> Events<'r> {
         }
     }
 
-    /// For a thread at `here`: an event that is missing or another
-    /// scheduler's, or a loop that awaits and does no more.
+    /// For a thread at `here`, home: an event that is missing or whose owner is
+    /// not in step with the place, a loop that awaits and does no more, or a
+    /// partner's cell.
     fn fault(&mut self, here: u8) -> u16 {
+        if self.random.chance(3) {
+            if let Some(store) = self.store_in_partners_cell() {
+                return store;
+            }
+        }
         let kind = USES[self.random.below(2)];
         let count = self.owners.len();
         let number = self.random.below(count);
@@ -413,9 +517,9 @@ impl<'r> Events<'r> {
             _ => {
                 let event_use = self.lines.leaf(kind, number as u8);
                 let others: Vec<u8> = (HOME..=self.last_place)
-                    .filter(|&place| place != owner)
+                    .filter(|&place| !self.groups.in_step(place, owner))
                     .collect();
-                // With one scheduler only place 1 is elsewhere.
+                // With one group only place 1 is elsewhere.
                 let place = self.random.pick(&others).unwrap_or(PRIVATE);
                 match place == here {
                     true => event_use,
@@ -442,16 +546,17 @@ mod tests {
     #[test]
     fn accepted_unless_a_fault_is_built_in() {
         let mut faults = [0; 14];
-        for index in 0..5_000 {
+        for index in 0..10_000 {
             let random = &mut Random::of_case(5, index);
-            assert_eq!(verdict(exchange(random)), 0, "index {index}");
-            assert_eq!(verdict(crowd(random)), 0, "index {index}");
-            faults[usize::from(verdict(faulty(random)))] += 1;
+            let linked = index % 2 == 1;
+            assert_eq!(verdict(exchange(random, linked)), 0, "index {index}");
+            assert_eq!(verdict(crowd(random, linked)), 0, "index {index}");
+            faults[usize::from(verdict(faulty(random, linked)))] += 1;
         }
         println!("refused {faults:?}");
         // Another owner's event in a module that nobody starts passes: only
-        // `main` is bound to a scheduler.
-        assert!(faults[8] > 500 && faults[11] > 1000 && faults[13] > 500);
-        assert_eq!(faults[0] + faults[8] + faults[11] + faults[13], 5_000);
+        // `main` is bound to a scheduler. So does a link that nothing needs.
+        assert!(faults[8] > 1000 && faults[11] > 2000 && faults[13] > 1000);
+        assert_eq!(faults[0] + faults[8] + faults[11] + faults[13], 10_000);
     }
 }

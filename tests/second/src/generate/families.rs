@@ -3,6 +3,7 @@
 //! the awaited thread hold up its wait (document 02, change 3).
 
 use super::lines::Lines;
+use super::links;
 use super::random::Random;
 use crate::frame::{kind, Frame};
 use crate::place::{HOME, PRIVATE};
@@ -78,6 +79,9 @@ impl<'r> Families<'r> {
                 families.lines.event(owner);
                 families.events.push(owner);
             }
+        }
+        if families.random.chance(8) {
+            links::declare(families.random, &mut families.lines, families.last_place);
         }
         families
     }

@@ -8,6 +8,7 @@ mod events;
 mod expressions;
 mod families;
 mod lines;
+mod links;
 mod mutate;
 mod plan;
 mod random;
@@ -108,7 +109,7 @@ pub fn drawn(seed: u64, index: u64) -> Case {
 }
 
 /// A file that passes refusals 1 to 7, and the same drawn in another order,
-/// the modules, shared cells and events in theirs.
+/// the modules, shared cells, events and links in theirs.
 pub fn laid_out_and_drawn(seed: u64, index: u64) -> [Vec<u8>; 2] {
     let random = &mut Random::of_case(seed, index);
     let frames = drawn::laid_out(random);
@@ -122,8 +123,8 @@ pub fn circles() -> [Vec<u8>; 2] {
     [text(&drawn::one_circle()), text(&drawn::tail_and_knot())]
 }
 
-/// The frames of a text in any order, but modules, shared cells and events in
-/// theirs.
+/// The frames of a text in any order, but modules, shared cells, events and
+/// links in theirs.
 pub fn shuffled(seed: u64, program: &[u8]) -> Result<Vec<u8>, Verdict> {
     let frames = crate::text::frames(program)?;
     let random = &mut Random::of_case(seed, 0);
@@ -163,6 +164,12 @@ enum Sort {
     Crowd,
     /// A missing event, or another scheduler's.
     EventFault,
+    /// The last three with schedulers in step; partners' cells among the faults.
+    Groups,
+    GroupCrowd,
+    GroupFault,
+    /// Such a file with a damaged or misplaced link: refusals 5 and 6.
+    DamagedLinks,
 }
 
 impl Sort {
@@ -180,15 +187,19 @@ impl Sort {
             (1, Sort::Full),
             (25, Sort::DamagedFrames),
             (10, Sort::DamagedText),
-            (19, Sort::Families),
+            (25, Sort::Families),
             (3, Sort::Chain),
             (16, Sort::Events),
             (6, Sort::Crowd),
             (8, Sort::EventFault),
+            (12, Sort::Groups),
+            (6, Sort::GroupCrowd),
+            (8, Sort::GroupFault),
+            (9, Sort::DamagedLinks),
         ]);
         match sort {
             // About as rare as an over-long list: these take their time.
-            Sort::Doubling if random.chance(4) => Sort::LongRun,
+            Sort::Doubling if random.chance(3) => Sort::LongRun,
             _ => sort,
         }
     }
@@ -197,13 +208,17 @@ impl Sort {
     fn flavour(self, random: &mut Random) -> Flavour {
         match self {
             Sort::Soup | Sort::SpendCells | Sort::SpendThreads | Sort::Doubling => Flavour::Long,
-            Sort::Crowd => Flavour::Long,
+            Sort::Crowd | Sort::GroupCrowd => Flavour::Long,
             Sort::LongRun => Flavour::NearBound,
             Sort::Families | Sort::Chain | Sort::Accesses | Sort::Events | Sort::EventFault
                 if !random.chance(8) =>
             {
                 Flavour::Bursts
             }
+            Sort::Groups | Sort::GroupFault if !random.chance(8) => match random.chance(2) {
+                true => Flavour::Bursts,
+                false => Flavour::Long,
+            },
             _ => Flavour::random(random),
         }
     }
@@ -232,9 +247,17 @@ fn frames(random: &mut Random, sort: Sort) -> Vec<Frame> {
         Sort::Families => families::levels(random),
         Sort::Chain => families::chain(random),
         Sort::Accesses => accesses::frames(random),
-        Sort::Events => events::exchange(random),
-        Sort::Crowd => events::crowd(random),
-        Sort::EventFault => events::faulty(random),
+        Sort::Events => events::exchange(random, false),
+        Sort::Crowd => events::crowd(random, false),
+        Sort::EventFault => events::faulty(random, false),
+        Sort::Groups => events::exchange(random, true),
+        Sort::GroupCrowd => events::crowd(random, true),
+        Sort::GroupFault => events::faulty(random, true),
+        Sort::DamagedLinks => {
+            let mut frames = events::exchange(random, true);
+            mutate::links(random, &mut frames);
+            frames
+        }
         Sort::DamagedFrames => {
             let frames = build::frames(random, Plan::roomy);
             mutate::frames(random, frames)

@@ -3,6 +3,7 @@
 
 use super::random::Random;
 use crate::frame::{kind, Frame};
+use crate::layout::part;
 use crate::place::{HOME, PRIVATE, SCHEDULERS};
 use crate::text::{DIGIT_BYTES, LINE, PROGRAM_LIMIT};
 
@@ -14,7 +15,7 @@ const TYPE_WORDS: [u16; 14] = [
 /// The frames with one change, often a fatal one.
 pub fn frames(random: &mut Random, mut frames: Vec<Frame>) -> Vec<Frame> {
     let at = random.below(frames.len());
-    match random.below(38) {
+    match random.below(46) {
         0 | 1 => header(random, &mut frames[0]),
         2 => frames[at].kind = random.byte(),
         3 => frames[at].s = random.byte(),
@@ -42,7 +43,9 @@ pub fn frames(random: &mut Random, mut frames: Vec<Frame>) -> Vec<Frame> {
         32 => shared_cell_after_event(random, &mut frames),
         33 => more_events(random, &mut frames),
         34 => event_use_fields(random, &mut frames),
-        35 => kind_past_events(random, &mut frames),
+        35 => kind_past_those(random, &mut frames),
+        38..=41 => link_fields(random, &mut frames),
+        42..=45 => link_out_of_order(random, &mut frames),
         _ => missing_event(random, &mut frames),
     }
     if frames.is_empty() {
@@ -281,18 +284,32 @@ pub(super) fn event() -> Frame {
     }
 }
 
-/// The first frame that is no header, shared cell or event.
+/// A header, shared cell, event or link.
+pub(super) fn is_declared_first(frame: &Frame) -> bool {
+    part(frame)
+        < part(&Frame {
+            kind: kind::MODULE,
+            ..Frame::default()
+        })
+}
+
+/// Where a frame of this kind may go in last: behind those of the same kind and
+/// of the kinds that precede it.
+fn end_of_part(frames: &[Frame], frame: &Frame) -> usize {
+    let not_later = |other: &&Frame| part(other) <= part(frame);
+    frames.iter().take_while(not_later).count().max(1)
+}
+
+/// The first frame that is no header, shared cell, event or link.
 fn after_declarations(frames: &[Frame]) -> usize {
-    let is_declared =
-        |frame: &&Frame| matches!(frame.kind, kind::HEADER | kind::SHARED_CELL | kind::EVENT);
-    frames.iter().take_while(is_declared).count().max(1)
+    let declared = frames.iter().take_while(|&frame| is_declared_first(frame));
+    declared.count().max(1)
 }
 
 /// Adds one where events stand, if there is none.
 fn with_event(frames: &mut Vec<Frame>) {
     if events(frames) == 0 {
-        let at = after_declarations(frames);
-        insert(frames, at, event());
+        insert(frames, end_of_part(frames, &event()), event());
     }
 }
 
@@ -336,7 +353,7 @@ fn event_late(random: &mut Random, frames: &mut Vec<Frame>) {
 
 fn shared_cell_after_event(random: &mut Random, frames: &mut Vec<Frame>) {
     with_event(frames);
-    let behind = after_declarations(frames);
+    let behind = end_of_part(frames, &event());
     let at = behind - random.below(2).min(behind - 1);
     insert(frames, at.max(1), shared_cell());
 }
@@ -347,7 +364,7 @@ fn more_events(random: &mut Random, frames: &mut Vec<Frame>) {
     while events(frames) < wanted {
         let at = match random.chance(20) {
             true => random.between(1, frames.len()),
-            false => after_declarations(frames),
+            false => end_of_part(frames, &event()),
         };
         insert(frames, at, event());
     }
@@ -374,12 +391,101 @@ pub(super) fn event_use_fields(random: &mut Random, frames: &mut [Frame]) {
     }
 }
 
-/// The first kinds that are not there, next to those of events.
-fn kind_past_events(random: &mut Random, frames: &mut [Frame]) {
+/// A link that the file may have, or could have with a second scheduler.
+pub(super) fn link(random: &mut Random, frames: &[Frame]) -> Frame {
+    let s = random.place(HOME + 1, last_place(frames).max(HOME + 1));
+    Frame {
+        kind: kind::LINK,
+        s,
+        a: u16::from(random.place(HOME, s - 1)),
+        ..Frame::default()
+    }
+}
+
+/// Adds one where links stand, if there is none.
+fn with_link(random: &mut Random, frames: &mut Vec<Frame>) {
+    if !frames.iter().any(|frame| frame.kind == kind::LINK) {
+        let link = link(random, frames);
+        insert(frames, end_of_part(frames, &link), link);
+    }
+}
+
+/// A link with an S or an A that the file lacks, an A that is not below S or
+/// has a digit too many, or a field that is not 0.
+pub(super) fn link_fields(random: &mut Random, frames: &mut Vec<Frame>) {
+    with_link(random, frames);
+    let beyond = last_place(frames) + 1;
+    let Some(link) = of_kind(random, frames, &[kind::LINK]) else {
+        return;
+    };
+    match random.below(7) {
+        0 => link.s = [0, PRIVATE, HOME, beyond, PRIVATE + SCHEDULERS + 1, 0xFF][random.below(6)],
+        1 => link.a = u16::from([0, PRIVATE, beyond, PRIVATE + SCHEDULERS + 1][random.below(4)]),
+        2 => link.a = u16::from(link.s),
+        3 => (link.s, link.a) = (link.a as u8, u16::from(link.s)),
+        4 => link.a |= [0x0100, 0x1000, 0xFF00][random.below(3)],
+        5 => link.b = random.between(1, 3) as u16,
+        _ => link.c = random.between(1, 3) as u16,
+    }
+}
+
+/// A link behind a frame that it should precede, or before one that should
+/// precede it: an event, a shared cell.
+fn link_out_of_order(random: &mut Random, frames: &mut Vec<Frame>) {
+    let link = link(random, frames);
+    match random.below(4) {
+        0 => {
+            let behind_module = |&at: &usize| frames[at - 1].kind == kind::MODULE;
+            let modules: Vec<usize> = (1..=frames.len()).filter(behind_module).collect();
+            let at = match random.pick(&modules) {
+                Some(at) if random.chance(2) => at,
+                _ => random.between(after_declarations(frames), frames.len()),
+            };
+            insert(frames, at, link);
+        }
+        1 => {
+            with_event(frames);
+            let at = end_of_part(frames, &event()) - 1;
+            insert(frames, at.max(1), link);
+        }
+        2 => {
+            with_link(random, frames);
+            insert(frames, end_of_part(frames, &link), event());
+        }
+        _ => {
+            with_link(random, frames);
+            insert(frames, end_of_part(frames, &link), shared_cell());
+        }
+    }
+}
+
+/// One change to the links.
+pub(super) fn links(random: &mut Random, frames: &mut Vec<Frame>) {
+    match random.chance(2) {
+        true => link_fields(random, frames),
+        false => link_out_of_order(random, frames),
+    }
+}
+
+/// Takes out a link: what was in step by it may be no more.
+pub(super) fn without_a_link(random: &mut Random, frames: &mut Vec<Frame>) {
+    let is_link = |&f: &usize| frames[f].kind == kind::LINK;
+    let links: Vec<usize> = (0..frames.len()).filter(is_link).collect();
+    if let Some(at) = random.pick(&links) {
+        frames.remove(at);
+        renumber(frames, |child| child - u16::from(usize::from(child) > at));
+    }
+}
+
+/// The first kinds that are not there, next to those of links and events.
+fn kind_past_those(random: &mut Random, frames: &mut [Frame]) {
     let past = random.chance(2);
-    let kinds = if past { &LEAVES[..] } else { &[kind::EVENT] };
+    let kinds = match past {
+        true => &LEAVES[..],
+        false => &[kind::SHARED_CELL, kind::LINK],
+    };
     if let Some(frame) = of_kind(random, frames, kinds) {
-        frame.kind = if past { 0x1C } else { 0x04 };
+        frame.kind = if past { 0x1C } else { 0x05 };
     }
 }
 

@@ -24,7 +24,7 @@ impl From<Rule> for Slip {
     }
 }
 
-const SLIPS: [Slip; 24] = [
+const SLIPS: [Slip; 25] = [
     MissingVariable,
     MissingSharedCell,
     MissingEvent,
@@ -47,6 +47,7 @@ const SLIPS: [Slip; 24] = [
     Against(PlaceEvents),
     Against(MainEffect),
     Against(MainEvents),
+    Against(OwnCells),
     Against(WhileUnlinked),
     Against(LoopBody),
 ];
@@ -91,6 +92,8 @@ pub struct Plan {
     pub schedulers: u8,
     pub shared_cells: usize,
     pub events: usize,
+    /// Some schedulers are in step.
+    pub linked: bool,
     /// Besides `main`.
     pub modules: usize,
     /// Frames after which only leaves are added.
@@ -107,6 +110,7 @@ impl Plan {
             schedulers: random.between(1, 3) as u8,
             shared_cells: random.below(5),
             events: some_events(random),
+            linked: random.chance(4),
             modules: random.below(4),
             size: random.between(5, 60),
             depth: random.between(2, 9) as u16,
@@ -145,6 +149,7 @@ impl Plan {
             schedulers: random.between(2, 4) as u8,
             shared_cells: random.between(1, 5),
             events: some_events(random),
+            linked: random.chance(4),
             modules: random.between(1, 4),
             size: random.between(20, 100),
             depth: random.between(4, 10) as u16,
@@ -163,6 +168,7 @@ impl Plan {
         if plan.slips.iter().any(|slip| OF_EVENTS.contains(slip)) {
             plan.events = random.between(1, 4);
         }
+        plan.linked |= plan.slips.contains(&Against(OwnCells));
         plan
     }
 

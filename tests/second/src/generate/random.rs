@@ -43,6 +43,12 @@ impl Random {
         self.between(usize::from(first), usize::from(last)) as u8
     }
 
+    pub fn shuffle<T>(&mut self, items: &mut [T]) {
+        for at in (1..items.len()).rev() {
+            items.swap(at, self.below(at + 1));
+        }
+    }
+
     pub fn pick<T: Copy>(&mut self, items: &[T]) -> Option<T> {
         match items.len() {
             0 => None,

@@ -2,6 +2,7 @@
 //! meet in one frame or one step, which shows the order they are tested in.
 
 use super::lines::Lines;
+use super::links;
 use super::plan;
 use super::random::Random;
 use crate::frame::{kind, Frame};
@@ -33,6 +34,9 @@ pub fn frames(random: &mut Random) -> Vec<Frame> {
     for _ in 0..soup.events {
         let owner = soup.random.place(HOME, soup.last_place);
         soup.lines.event(owner);
+    }
+    if soup.random.chance(4) {
+        links::declare(soup.random, &mut soup.lines, soup.last_place);
     }
     let mut counts = Vec::new();
     for _ in 0..soup.random.below(6) {

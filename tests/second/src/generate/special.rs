@@ -4,6 +4,7 @@
 
 use super::build;
 use super::lines::Lines;
+use super::links;
 use super::plan::Plan;
 use super::random::Random;
 use crate::frame::{kind, Frame};
@@ -146,6 +147,9 @@ pub fn nest(random: &mut Random) -> Vec<Frame> {
     let has_event = random.chance(3);
     if has_event {
         lines.event(random.place(HOME, HOME + 1));
+    }
+    if random.chance(3) {
+        links::declare(random, &mut lines, HOME + 1);
     }
     let nothing = lines.leaf(kind::NOTHING, 0);
     lines.module(nothing);

@@ -2,7 +2,6 @@
 
 use super::build::{Builder, Site};
 use super::plan::Slip;
-use crate::effect::Effect;
 use crate::frame::kind;
 use crate::place::{HOME, PRIVATE};
 use crate::rules::Rule;
@@ -66,11 +65,8 @@ impl Builder<'_> {
         if place == PRIVATE && site.unlinked {
             return None;
         }
-        let [allowed, events] =
-            [Rule::PlaceEffect, Rule::PlaceEvents].map(|rule| match self.slips(rule) {
-                true => self.everywhere(),
-                false => Effect::of(place),
-            });
+        let rules = [Rule::PlaceEffect, Rule::PlaceEvents];
+        let [allowed, events] = self.effects_at(place, rules);
         let inside = Site {
             allowed,
             events,

@@ -1,11 +1,13 @@
 //! Change 3 taken literally: at each instant's end the awaited families are
 //! gathered anew from who started whom. That, and who has ended, is kept from
-//! the choices and their answers; the program's counts are not looked at.
+//! the choices and their answers; the program's counts are not looked at. An
+//! instant ends for all schedulers in step (change 7).
 
 use std::collections::{BTreeMap, BTreeSet};
 use std::fmt;
 
 use crate::acting::acting;
+use crate::in_step::members;
 use second::layout::Program;
 use second::place::HOME;
 use second::state::{State, Until, THREADS};
@@ -88,11 +90,14 @@ struct Run<'p> {
 }
 
 impl Run<'_> {
-    /// The scheduler whose instant ends under this choice, if one does.
-    fn ending_instant(&self, party: u8) -> Option<usize> {
-        let index = self.state.scheduler_index(party)?;
-        let active = &self.state.schedulers[index].active;
-        active.is_empty().then_some(index)
+    fn has_active(&self, place: u8) -> bool {
+        let index = self.state.scheduler_index(place);
+        index.is_some_and(|index| !self.state.schedulers[index].active.is_empty())
+    }
+
+    /// Does an instant of this party end, if none of its partners hinders it?
+    fn asks_for_end(&self, party: u8) -> bool {
+        self.state.scheduler_index(party).is_some() && !self.has_active(party)
     }
 
     /// A thread with nothing left to do ends; under a choice that begins a
@@ -141,21 +146,44 @@ impl Waits {
             record: Record::new(),
         };
         for &party in choices {
-            match run.ending_instant(party) {
-                Some(index) => self.end_instant(&mut run, index),
-                None => run.step_thread(party),
+            match run.asks_for_end(party) {
+                true => self.end_instant(&mut run, party),
+                false => run.step_thread(party),
             }
         }
     }
 
-    fn end_instant(&mut self, run: &mut Run, index: usize) {
-        let Run {
-            program,
-            state,
-            record,
-        } = run;
+    fn end_instant(&mut self, run: &mut Run, party: u8) {
+        let members = members(run.program, party);
+        let before = run.state.clone();
+        if members.iter().any(|&member| run.has_active(member)) {
+            let outcome = run.state.step(run.program, party, &mut ());
+            assert_eq!((outcome.answer, &run.state), (16, &before));
+            return;
+        }
+        let lists: Vec<[Vec<u8>; 2]> = members
+            .iter()
+            .map(|&member| self.ready_and_waiting(run, member))
+            .collect();
+        for thread in 1..run.record.starters.len() {
+            let literally = run.record.have_ended(&run.record.family(thread));
+            assert_eq!(run.state.thread(thread as u8).family_ended(), literally);
+        }
+        let outcome = run.state.step(run.program, party, &mut ());
+        let ends = lists.iter().any(|[ready, _]| !ready.is_empty());
+        assert_eq!(outcome.answer, if ends { 0 } else { 16 });
+        for (member, [ready, waiting]) in members.into_iter().zip(lists) {
+            let scheduler = &run.state.schedulers[usize::from(member - HOME)];
+            let next: Vec<u8> = scheduler.next.iter().map(|entry| entry.thread).collect();
+            assert_eq!((&scheduler.active, &next), (&ready.into(), &waiting));
+        }
+    }
+
+    /// The threads of the scheduler's next list by the paper's words.
+    fn ready_and_waiting(&mut self, run: &mut Run, place: u8) -> [Vec<u8>; 2] {
+        let Run { state, record, .. } = run;
         let (mut ready, mut waiting) = (Vec::new(), Vec::new());
-        for entry in &state.schedulers[index].next {
+        for entry in &state.schedulers[usize::from(place - HOME)].next {
             let ends = match entry.until {
                 // One that awaits an event counts as ready.
                 Until::Instant | Until::Event(_) => true,
@@ -168,15 +196,7 @@ impl Waits {
             let list = if ends { &mut ready } else { &mut waiting };
             list.push(entry.thread);
         }
-        for thread in 1..record.starters.len() {
-            let literally = record.have_ended(&record.family(thread));
-            assert_eq!(state.thread(thread as u8).family_ended(), literally);
-        }
-        let outcome = state.step(program, HOME + index as u8, &mut ());
-        assert_eq!(outcome.answer, if ready.is_empty() { 16 } else { 0 });
-        let scheduler = &state.schedulers[index];
-        let next: Vec<u8> = scheduler.next.iter().map(|entry| entry.thread).collect();
-        assert_eq!((&scheduler.active, &next), (&ready.into(), &waiting));
+        [ready, waiting]
     }
 
     /// Counts the entry and says whether its wait ends.

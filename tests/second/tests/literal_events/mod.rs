@@ -1,17 +1,19 @@
-//! Change 5 taken literally. When each event was generated, when each
-//! scheduler's instants ended, and which thread awaits what is kept from the
-//! choices and the frames; what the program notes of it must agree, and each
-//! step that uses an event and each instant's end must leave the state that the
-//! paper's words give.
+//! Changes 5 and 7 taken literally. When each event was generated, when each
+//! scheduler's instants ended, which schedulers are in step and which thread
+//! awaits what is kept from the choices and the frames; what the program notes
+//! of it must agree, and each step that uses an event and each choice of a
+//! scheduler without active threads must leave the state that the papers' words
+//! give.
 
 use std::collections::BTreeMap;
 use std::fmt;
 
 use crate::acting::acting;
+use crate::in_step::members;
 use second::frame::{kind, Frame};
 use second::layout::Program;
 use second::place::{HOME, PRIVATE};
-use second::state::{Entry, Item, State, Until, THREADS};
+use second::state::{Entry, Item, Scheduler, State, Until, THREADS};
 
 /// What a run has shown so far.
 struct Record {
@@ -19,6 +21,8 @@ struct Record {
     moment: usize,
     /// The owner of each event: the K 03 frames in file order.
     owners: Vec<u8>,
+    /// The schedulers in step with each scheduler, itself included.
+    groups: Vec<Vec<u8>>,
     /// When each event was generated last.
     generated: Vec<Option<usize>>,
     /// When an instant of each scheduler ended last.
@@ -31,17 +35,20 @@ impl Record {
     fn new(program: &Program) -> Record {
         let events = program.frames.iter().filter(|frame| frame.kind == 0x03);
         let owners: Vec<u8> = events.map(|frame| frame.s).collect();
+        let schedulers = HOME..=program.last_place;
         Record {
             moment: 0,
             generated: vec![None; owners.len()],
-            ended: vec![None; usize::from(program.last_place - PRIVATE)],
+            ended: vec![None; schedulers.clone().count()],
+            groups: schedulers.map(|place| members(program, place)).collect(),
             awaited: [None; THREADS + 1],
             owners,
         }
     }
 
-    /// "From its generation to the end of its scheduler's instant": an instant
-    /// that ended later ended the presence, one that ended before did not.
+    /// "From its generation to the end of its scheduler's instant", which is its
+    /// group's: an instant that ended later ended the presence, one that ended
+    /// before did not.
     fn is_present(&self, event: usize) -> bool {
         let ended = self.ended[usize::from(self.owners[event] - HOME)];
         match (self.generated[event], ended) {
@@ -49,6 +56,12 @@ impl Record {
             (generated, None) => generated.is_some(),
             (None, _) => false,
         }
+    }
+
+    /// The schedulers in step with a place; none where it is private.
+    fn group(&self, place: u8) -> &[u8] {
+        let index = place.checked_sub(HOME).map(usize::from);
+        index.map_or(&[], |index| &self.groups[index])
     }
 
     fn awaits(&self, thread: u8) -> Option<u8> {
@@ -117,6 +130,34 @@ pub struct Uses {
     pub missing: usize,
     pub unlinked: usize,
     pub elsewhere: usize,
+    pub in_step: InStep,
+}
+
+/// What only schedulers in step show.
+#[derive(Default, Debug)]
+pub struct InStep {
+    /// Instants' ends by how many schedulers they were for, from two up.
+    pub ended: BTreeMap<usize, usize>,
+    /// Those chosen at a member with nothing in its lists.
+    pub ended_by_empty: usize,
+    /// Those that ended the presence of an event of a partner of the chosen one.
+    pub ended_partners_event: usize,
+    /// Choices answered with 16 as another member has an active thread, and
+    /// among them those where the chosen one has a ready entry.
+    pub held_up: usize,
+    pub held_up_ready: usize,
+    /// Choices answered with 16 as no member has a ready thread.
+    pub nothing_ready: usize,
+    /// Uses of a partner's event: generations, awaits that pass, others.
+    pub generations: usize,
+    pub awaits_present: usize,
+    pub awaits_absent: usize,
+    /// Generations by the number of schedulers on which they woke threads.
+    pub woken_on: BTreeMap<usize, usize>,
+    /// Those that woke some on the generator's scheduler and on another.
+    pub woken_here_and_there: usize,
+    /// Uses that were refused though the place is in step with another one.
+    pub elsewhere: usize,
 }
 
 impl Uses {
@@ -132,7 +173,7 @@ impl Uses {
             run.record.moment += 1;
             match (acting(&run.state, party), run.state.scheduler_index(party)) {
                 (Some(thread), _) => self.step(&mut run, party, thread),
-                (None, Some(index)) => self.end_instant(&mut run, index),
+                (None, Some(_)) => self.without_active(&mut run, party),
                 (None, None) => {
                     run.answered(party);
                 }
@@ -141,40 +182,65 @@ impl Uses {
         }
     }
 
-    fn end_instant(&mut self, run: &mut Run, index: usize) {
-        let Run { state, record, .. } = run;
-        let place = HOME + index as u8;
-        let own_present = (0..record.owners.len())
-            .any(|event| record.owners[event] == place && record.is_present(event));
-        let (ready, waiting): (Vec<Entry>, Vec<Entry>) = state.schedulers[index]
-            .next
-            .iter()
-            .partition(|entry| match entry.until {
-                Until::Family(root) => state.thread(root).family_ended(),
-                _ => true,
-            });
-        let mut expected = state.clone();
-        if ready.is_empty() {
-            assert_eq!(run.answered(place), (16, 0, 0));
-            assert_eq!(run.state, expected, "a 16 changes nothing");
-            self.nothing_while_present += usize::from(own_present);
-            return;
+    /// A scheduler without active threads: 16 while a partner has some, or when
+    /// no member has a ready thread, or else the end of the group's instant.
+    fn without_active(&mut self, run: &mut Run, place: u8) {
+        let group = run.record.group(place).to_vec();
+        let state = &run.state;
+        let is_ready = |member: &u8| !ready_and_waiting(state, *member)[0].is_empty();
+        let is_active = |member: &u8| !scheduler(state, *member).active.is_empty();
+        let (active, ready) = (group.iter().any(is_active), group.iter().any(is_ready));
+        if !active && ready {
+            return self.end_instant(run, place, &group);
         }
-        let scheduler = &mut expected.schedulers[index];
-        scheduler.active = ready.iter().map(|entry| entry.thread).collect();
-        scheduler.next = waiting;
-        record.ended[index] = Some(record.moment);
-        for entry in &ready {
-            self.retried += usize::from(record.awaits(entry.thread).is_some());
-            record.awaited[usize::from(entry.thread)] = None;
+        self.in_step.held_up += usize::from(active);
+        self.in_step.held_up_ready += usize::from(active && is_ready(&place));
+        self.in_step.nothing_ready += usize::from(!active && group.len() > 1);
+        self.nothing_while_present += usize::from(self.is_owner_present(run, &group));
+        let before = run.state.clone();
+        assert_eq!(run.answered(place), (16, 0, 0));
+        assert_eq!(run.state, before, "a 16 changes nothing");
+    }
+
+    /// Is an event of one of these schedulers present?
+    fn is_owner_present(&self, run: &Run, owners: &[u8]) -> bool {
+        let record = &run.record;
+        let mut events = 0..record.owners.len();
+        events.any(|event| owners.contains(&record.owners[event]) && record.is_present(event))
+    }
+
+    fn end_instant(&mut self, run: &mut Run, place: u8, group: &[u8]) {
+        self.count_end(run, place, group);
+        let Run { state, record, .. } = run;
+        let mut expected = state.clone();
+        for &member in group {
+            let [ready, waiting] = ready_and_waiting(state, member);
+            for entry in &ready {
+                self.retried += usize::from(record.awaits(entry.thread).is_some());
+                record.awaited[usize::from(entry.thread)] = None;
+            }
+            let scheduler = scheduler_mut(&mut expected, member);
+            scheduler.active = ready.iter().map(|entry| entry.thread).collect();
+            scheduler.next = waiting;
+            record.ended[usize::from(member - HOME)] = Some(record.moment);
         }
         for event in 0..record.owners.len() {
             expected.present[event] = record.is_present(event);
         }
-        self.ended_present += usize::from(own_present);
         self.kept_present += usize::from(expected.present.contains(&true));
         assert_eq!(run.answered(place), (0, 0, 0));
         assert_eq!(run.state, expected, "an instant's end");
+    }
+
+    fn count_end(&mut self, run: &Run, place: u8, group: &[u8]) {
+        self.ended_present += usize::from(self.is_owner_present(run, group));
+        if group.len() > 1 {
+            *self.in_step.ended.entry(group.len()).or_default() += 1;
+            let is_empty = scheduler(&run.state, place).next.is_empty();
+            self.in_step.ended_by_empty += usize::from(is_empty);
+            let partners: Vec<u8> = group.iter().copied().filter(|&m| m != place).collect();
+            self.in_step.ended_partners_event += usize::from(self.is_owner_present(run, &partners));
+        }
     }
 
     fn step(&mut self, run: &mut Run, party: u8, thread: u8) {
@@ -186,13 +252,17 @@ impl Uses {
         let place = expected.thread(thread).place;
         let answer = match run.record.owners.get(usize::from(frame.s)) {
             None => 20,
-            Some(&owner) if owner != place => 19,
+            Some(owner) if !run.record.group(place).contains(owner) => 19,
             Some(_) => 0,
         };
         match (answer, frame.kind) {
             (20, _) => self.missing += 1,
             (19, _) if place == PRIVATE => self.unlinked += 1,
-            (19, _) => self.elsewhere += 1,
+            (19, _) => {
+                self.elsewhere += 1;
+                let has_partners = run.record.group(place).len() > 1;
+                self.in_step.elsewhere += usize::from(has_partners);
+            }
             (_, kind::GENERATE) => self.generation(run, &mut expected, thread, frame.s),
             _ => self.await_(&mut run.record, &mut expected, thread, frame.s),
         }
@@ -200,8 +270,8 @@ impl Uses {
         assert_eq!(run.state, expected, "thread {thread}, {frame:?}");
     }
 
-    /// The threads that await the event go from its scheduler's next list, in
-    /// list order, to the end of the active list.
+    /// The threads that await the event go from the next list of each scheduler
+    /// in step with its owner, in list order, to the end of that active list.
     fn generation(&mut self, run: &mut Run, expected: &mut State, thread: u8, event: u8) {
         let record = &mut run.record;
         self.generations += 1;
@@ -210,20 +280,27 @@ impl Uses {
         expected.present[usize::from(event)] = true;
         expected.thread_mut(thread).continuation.pop();
         let owner = record.owners[usize::from(event)];
-        let scheduler = &mut expected.schedulers[usize::from(owner - HOME)];
+        let place = expected.thread(thread).place;
         let mut left = Vec::new();
-        let mut woken = 0;
-        for entry in scheduler.next.clone() {
-            if record.awaits(entry.thread) == Some(event) {
-                record.awaited[usize::from(entry.thread)] = None;
-                scheduler.active.push_back(entry.thread);
-                woken += 1;
-            } else {
-                left.push(entry);
+        let mut woken: BTreeMap<u8, usize> = BTreeMap::new();
+        for member in record.group(owner).to_vec() {
+            let scheduler = scheduler_mut(expected, member);
+            for entry in std::mem::take(&mut scheduler.next) {
+                if record.awaits(entry.thread) == Some(event) {
+                    record.awaited[usize::from(entry.thread)] = None;
+                    scheduler.active.push_back(entry.thread);
+                    *woken.entry(member).or_default() += 1;
+                } else {
+                    scheduler.next.push(entry);
+                    left.push(entry);
+                }
             }
         }
-        scheduler.next.clone_from(&left);
-        *self.woken.entry(woken).or_default() += 1;
+        *self.woken.entry(woken.values().sum()).or_default() += 1;
+        self.in_step.generations += usize::from(place != owner);
+        *self.in_step.woken_on.entry(woken.len()).or_default() += 1;
+        let here_and_there = woken.contains_key(&place) && woken.len() > 1;
+        self.in_step.woken_here_and_there += usize::from(here_and_there);
         let awaits_other = |entry: &Entry| record.awaits(entry.thread).is_some();
         self.others_left += usize::from(left.iter().any(awaits_other));
         let is_bystander = |entry: &Entry| {
@@ -233,21 +310,44 @@ impl Uses {
         self.bystanders_left += usize::from(left.iter().any(is_bystander));
     }
 
-    /// Passes on, or goes to the end of the next list with its statement.
+    /// Passes on, or goes to the end of its own scheduler's next list with its
+    /// statement.
     fn await_(&mut self, record: &mut Record, expected: &mut State, thread: u8, event: u8) {
+        let owner = record.owners[usize::from(event)];
+        let place = expected.thread(thread).place;
+        let is_partners = usize::from(place != owner);
         if record.is_present(usize::from(event)) {
             self.awaits_present += 1;
+            self.in_step.awaits_present += is_partners;
             expected.thread_mut(thread).continuation.pop();
             return;
         }
         self.awaits_absent += 1;
+        self.in_step.awaits_absent += is_partners;
         record.awaited[usize::from(thread)] = Some(event);
-        let owner = record.owners[usize::from(event)];
-        let scheduler = &mut expected.schedulers[usize::from(owner - HOME)];
+        let scheduler = scheduler_mut(expected, place);
         assert_eq!(scheduler.active.pop_front(), Some(thread));
         let until = Until::Event(event);
         scheduler.next.push(Entry { thread, until });
     }
+}
+
+fn scheduler(state: &State, place: u8) -> &Scheduler {
+    &state.schedulers[usize::from(place - HOME)]
+}
+
+fn scheduler_mut(state: &mut State, place: u8) -> &mut Scheduler {
+    &mut state.schedulers[usize::from(place - HOME)]
+}
+
+/// The entries of the scheduler's next list; one that awaits an event is ready.
+fn ready_and_waiting(state: &State, place: u8) -> [Vec<Entry>; 2] {
+    let entries = scheduler(state, place).next.iter();
+    let (ready, waiting) = entries.partition(|entry| match entry.until {
+        Until::Family(root) => state.thread(root).family_ended(),
+        _ => true,
+    });
+    [ready, waiting]
 }
 
 /// The statement that the thread takes next, if it uses an event.

@@ -5,7 +5,9 @@
 use second::frame::kind;
 use second::layout::Program;
 use second::listing::Reading;
-use second::state::State;
+use second::place::HOME;
+use second::state::{Entry, State, Until};
+use second::text;
 use second::verdict::Verdict;
 
 /// A frame with its children, whose numbers stand in its first fields; the
@@ -48,6 +50,14 @@ pub fn number_cell(owner: u8) -> Node {
 
 pub fn event(owner: u8) -> Node {
     leaf(kind::EVENT, owner)
+}
+
+/// Puts two schedulers in step.
+pub fn link(scheduler: u8, lower: u8) -> Node {
+    Node {
+        fields: [u16::from(lower), 0, 0],
+        ..leaf(kind::LINK, scheduler)
+    }
 }
 
 pub fn module(parameters: &[u16], body: Node) -> Node {
@@ -144,6 +154,11 @@ pub fn store(cell: Node, value: Node) -> Node {
     node(kind::STORE, 0, &[cell, value])
 }
 
+/// In shared cell 0, which holds a number.
+pub fn stores() -> Node {
+    store(shared(0), number(7))
+}
+
 pub fn forever(body: Node) -> Node {
     node(kind::WHILE, 0, &[truth(1), body])
 }
@@ -160,6 +175,7 @@ pub struct File {
     pub schedulers: u8,
     pub cells: Vec<Node>,
     pub events: Vec<Node>,
+    pub links: Vec<Node>,
     pub modules: Vec<Node>,
 }
 
@@ -171,11 +187,18 @@ pub fn file(schedulers: u8, owners: &[u8], bodies: &[Node]) -> File {
         schedulers,
         cells: Vec::new(),
         events: owners.iter().map(|&owner| event(owner)).collect(),
+        links: Vec::new(),
         modules: bodies.map(|body| module(&[], body)).collect(),
     }
 }
 
 impl File {
+    /// With these links: a scheduler and a lower one each.
+    pub fn linked(mut self, links: &[(u8, u8)]) -> File {
+        self.links = links.iter().map(|&(s, a)| link(s, a)).collect();
+        self
+    }
+
     pub fn text(&self) -> Vec<u8> {
         let header = Node {
             fields: [0, u16::from(self.schedulers), self.events.len() as u16],
@@ -183,13 +206,26 @@ impl File {
         };
         let mut lines = Vec::new();
         add(&mut lines, &header);
-        for node in [&self.cells, &self.events, &self.modules]
-            .into_iter()
-            .flatten()
-        {
+        let parts = [&self.cells, &self.events, &self.links, &self.modules];
+        for node in parts.into_iter().flatten() {
             add(&mut lines, node);
         }
         (lines.join("\n") + "\n").into_bytes()
+    }
+}
+
+// Verdicts.
+
+/// Accepted: number and kind of the frame.
+pub const FINE: (u8, u8) = (0, 0);
+
+impl File {
+    /// What the check says: the number and the kind of the frame.
+    pub fn verdict(&self) -> (u8, u8) {
+        let text = self.text();
+        let verdict = Reading::new(&text).verdict();
+        let frames = text::frames(&text).unwrap();
+        (verdict.number, frames[usize::from(verdict.frame)].kind)
     }
 }
 
@@ -241,4 +277,51 @@ impl Run {
         assert_eq!(outcome.accesses, 0);
         (outcome.answer, outcome.thread)
     }
+
+    /// Under choices of this party these threads act, 0 for an instant's end.
+    pub fn acts(&mut self, party: u8, threads: &[u8]) {
+        for (at, &thread) in threads.iter().enumerate() {
+            assert_eq!(
+                self.choose(party),
+                (0, thread),
+                "choice {at} of {threads:?}"
+            );
+        }
+    }
+
+    /// A refused choice leaves the state as it was.
+    pub fn refused(&mut self, party: u8, answer: u8, thread: u8) {
+        let before = self.state.clone();
+        for _ in 0..2 {
+            assert_eq!(self.choose(party), (answer, thread));
+            assert_eq!(self.state, before);
+        }
+    }
+
+    pub fn active(&self, place: u8) -> Vec<u8> {
+        let scheduler = &self.state.schedulers[usize::from(place - HOME)];
+        scheduler.active.iter().copied().collect()
+    }
+
+    pub fn next(&self, place: u8) -> Vec<Entry> {
+        self.state.schedulers[usize::from(place - HOME)]
+            .next
+            .clone()
+    }
+
+    pub fn items(&self, thread: u8) -> usize {
+        self.state.thread(thread).continuation.len()
+    }
+}
+
+/// An entry of a next list that is there for the instant's end.
+pub fn ready(thread: u8) -> Entry {
+    let until = Until::Instant;
+    Entry { thread, until }
+}
+
+/// One that awaits this event.
+pub fn awaiting(thread: u8, event: u8) -> Entry {
+    let until = Until::Event(event);
+    Entry { thread, until }
 }

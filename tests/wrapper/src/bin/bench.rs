@@ -1,6 +1,7 @@
-//! bench: times of the check, of steps, of reading choices, of instants and events and of the
+//! bench: times of the check, of steps, of reading choices, of instants, events, groups and of the
 //! writer, proved and second side by side, how the check grows, and the stack below each call, as
 //! one table whose rows keep their names, so that two runs can be compared line by line.
+use second::layout::Program;
 use second::listing::Reading;
 use second::state::State;
 use std::time::Instant;
@@ -288,8 +289,8 @@ fn row_of_run(name: &str, text: &[u8]) -> Vec<u64> {
     state
 }
 
-/// The longest choices.txt, all bytes in turn, in a run whose allowance is one choice: so the time is
-/// that of reading it.
+/// The longest choices.txt, all bytes in turn, in a run whose allowance is one choice: so the time
+/// is that of reading it.
 fn reading() {
     let text = lines(&[
         "0001000100010000", // 0 header
@@ -337,16 +338,24 @@ fn cooperating(events: usize) -> Vec<u8> {
     lines(&frames)
 }
 
+/// Adds frames that do these statements, the last of which is the last frame, in sequence; the last
+/// frame then.
+fn in_sequence(frames: &mut Vec<String>, statements: &[usize]) -> usize {
+    for i in statements.iter().rev().skip(1) {
+        let rest = frames.len() - 1;
+        frames.push(format!("1100{i:04X}{rest:04X}0000"));
+    }
+    frames.len() - 1
+}
+
 /// A thread that generates each of 16 events of its scheduler, and cooperates.
 fn generating() -> Vec<u8> {
     let mut frames = vec!["0001FFFF00010010".into()];
     frames.extend(vec!["0302000000000000".into(); 16]);
     frames.extend((0..16).map(|event| format!("1A{event:02X}000000000000")));
     frames.push("1500000000000000".into());
-    // One after the other: the generations are frames 17 to 32, the cooperation is 33.
-    for (i, rest) in (17..33).rev().zip(33..) {
-        frames.push(format!("1100{i:04X}{rest:04X}0000"));
-    }
+    // The generations are frames 17 to 32, the cooperation is 33.
+    in_sequence(&mut frames, &Vec::from_iter(17..=33));
     frames.push("0200003100000000".into());
     lines(&frames.iter().map(String::as_str).collect::<Vec<_>>())
 }
@@ -389,6 +398,30 @@ fn audience() -> Vec<u8> {
     starting_63(before, &after)
 }
 
+/// Eight schedulers in one group: main goes from one to the other and starts eight threads on each,
+/// at home the last seven, that await home's event 0. Then it cooperates, which puts it behind
+/// those seven, and generates the event.
+fn audience_of_eight() -> Vec<u8> {
+    let mut frames = vec!["0001FFFF00080001".into(), "0302000000000000".into()];
+    frames.extend((3..=9).map(|upper| format!("04{upper:02X}{:04X}00000000", upper - 1)));
+    frames.push("1B00000000000000".into()); // 9 await event 0
+    frames.push("0200000900000000".into()); // 10 module 0
+    let mut visits = Vec::new();
+    for place in [3, 4, 5, 6, 7, 8, 9, 2] {
+        let first = frames.len();
+        let starts = if place == 2 { 7 } else { 8 };
+        frames.extend(vec!["1300000000000000".into(); starts]);
+        let last = in_sequence(&mut frames, &Vec::from_iter(first..first + starts));
+        frames.push(format!("12{place:02X}{last:04X}00000000"));
+        visits.push(last + 1);
+    }
+    frames.extend(["1500000000000000".into(), "1A00000000000000".into()]);
+    visits.extend([frames.len() - 2, frames.len() - 1]);
+    let last = in_sequence(&mut frames, &visits);
+    frames.push(format!("0200{last:04X}00000000"));
+    lines(&frames.iter().map(String::as_str).collect::<Vec<_>>())
+}
+
 /// The time of one choice alone, made from the same state again and again. Each round takes back
 /// what the last one did, so the time of a choice that only finds that it names no party (15) is
 /// taken off: of ours that of a public call's reading and validation too, beside which less than 20
@@ -407,25 +440,39 @@ fn best_single(mut round: impl FnMut(u8)) -> f64 {
     best[0] - best[1]
 }
 
+/// The first state of a run that is as wanted, ours and the second program's. Home is chosen where
+/// no other scheduler has an active thread.
+fn wanted_states(
+    text: &[u8],
+    program: &Program,
+    is_wanted: impl Fn(&[u64]) -> bool,
+) -> (Vec<u64>, State) {
+    let mut ours = vec![0; purkvaldi::state_length()];
+    assert_eq!(purkvaldi::fresh(text, &mut ours).number, 0);
+    let mut theirs = State::new(program);
+    while !is_wanted(&ours) {
+        let is_active = |scheduler: &u8| ours[2 + 130 * usize::from(scheduler - 2)] > 0;
+        let choice = (2..=9).rev().find(is_active).unwrap_or(2);
+        assert_eq!(purkvaldi::step(text, &mut ours, choice.into()).number, 0);
+        assert_eq!(theirs.step(program, choice, &mut ()).answer, 0);
+    }
+    (ours, theirs)
+}
+
 /// A row for one choice of scheduler 2 alone, in the first state of a run that is as wanted, where
 /// thread 1 acts or an instant ends.
 fn row_of_choice(name: &str, text: &[u8], is_wanted: impl Fn(&[u64]) -> bool) {
-    // The words that the choice changes, from where on and how many: scheduler 2's lists, thread
-    // 1's continuation, the events. To take back all words would take far longer than the choice.
-    const CHANGED: [(usize, usize); 3] = [(2, 130), (1045, 26), (4562, 16)];
     let Reading::Readable(program, _) = Reading::new(text) else {
         panic!("the text is laid out");
     };
-    let mut ours = vec![0; purkvaldi::state_length()];
-    assert_eq!(purkvaldi::fresh(text, &mut ours).number, 0);
-    let mut theirs = State::new(&program);
-    while !is_wanted(&ours) {
-        assert_eq!(purkvaldi::step(text, &mut ours, 2).number, 0);
-        assert_eq!(theirs.step(&program, 2, &mut ()).answer, 0);
-    }
+    let (ours, theirs) = wanted_states(text, &program, is_wanted);
+    // The words that the choice changes, from where on and how many: the schedulers' lists, thread
+    // 1's continuation, the events. To take back all words would take far longer than the choice.
+    let lists = 130 * theirs.schedulers.len();
+    let changed = [(2, lists), (1045, 26), (4562, 16)];
     let mut state = ours.clone();
     let our_time = best_single(|choice| {
-        for (at, words) in CHANGED {
+        for (at, words) in changed {
             state[at..at + words].copy_from_slice(&ours[at..at + words]);
         }
         std::hint::black_box(purkvaldi::step(text, &mut state, u64::from(choice)));
@@ -433,9 +480,10 @@ fn row_of_choice(name: &str, text: &[u8], is_wanted: impl Fn(&[u64]) -> bool) {
     assert_eq!(state, ours);
     let mut state = theirs.clone();
     let their_time = best_single(|choice| {
-        let (lists, before) = (&mut state.schedulers[0], &theirs.schedulers[0]);
-        lists.active.clone_from(&before.active);
-        lists.next.clone_from(&before.next);
+        for (lists, before) in state.schedulers.iter_mut().zip(&theirs.schedulers) {
+            lists.active.clone_from(&before.active);
+            lists.next.clone_from(&before.next);
+        }
         let (main, before) = (&mut state.threads[0], &theirs.threads[0]);
         main.continuation.clone_from(&before.continuation);
         state.present.clone_from(&theirs.present);
@@ -477,6 +525,32 @@ fn events() {
     });
     row_of_choice("a generation that 63 threads await", &audience(), |state| {
         generates(state, 21)
+    });
+}
+
+/// Choices of scheduler 2 in a group of eight, with the same 64 threads: the end of an instant in
+/// which all are ready, eight on each, and the generation that 63 of them await.
+fn groups() {
+    let text = audience_of_eight();
+    if purkvaldi::check(&text) != (0, 0) {
+        println!("no groups: this archive is from before change 7");
+        return;
+    }
+    let lengths = |state: &[u64], from: usize| -> [u64; 8] {
+        std::array::from_fn(|scheduler| state[from + 130 * scheduler])
+    };
+    row_of_choice(
+        "an instant's end of a group of 8, 64 ready",
+        &text,
+        |state| (lengths(state, 2), lengths(state, 67)) == ([0; 8], [8; 8]),
+    );
+    // Thread 1, whose top item is the generation, is the one active; all others await.
+    let is_generation = |line: &[u8]| line.starts_with(b"1A");
+    let generation = text.chunks(17).position(is_generation).expect("its line") as u64;
+    row_of_choice("a generation that 63 await on 8 members", &text, |state| {
+        state[1045 + state[1045] as usize] == generation
+            && (state[3], lengths(state, 2)) == (1, [1, 0, 0, 0, 0, 0, 0, 0])
+            && lengths(state, 67) == [7, 8, 8, 8, 8, 8, 8, 8]
     });
 }
 
@@ -595,6 +669,7 @@ fn main() {
     reading();
     instants();
     events();
+    groups();
     writers();
     if std::env::args().nth(1).as_deref() != Some("times") {
         stacks();

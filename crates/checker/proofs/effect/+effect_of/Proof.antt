@@ -4,6 +4,7 @@ use mathlib.Core.Path.{_∙_}
 use denote.Ref.{now}
 use borrow.Author.Needs.{needs}
 use Rattle.checker.proofs.FineFrames.{names-place}
+use Rattle.checker.proofs.LabelLaws.{labels-wide}
 use Rattle.checker.proofs.DescentLaws.{seq-a-falls, seq-a-in, seq-a-room, seq-b-falls}
 use Rattle.checker.proofs.DescentLaws.{seq-b-in, seq-b-room, do-a-falls, do-a-in, do-a-room}
 use Rattle.checker.proofs.DescentLaws.{let-a-in, let-b-falls, let-b-in, let-b-room, let-fits}
@@ -41,16 +42,16 @@ use Rattle.text.proofs.line.frame_of_word.Reads as frame-of-word-reads
 use Rattle.checker.proofs.effect.+effect_of.{statement}
 use Rattle.checker.proofs.effect.+effect_of.Tie.{close}
 
-abbrev μ-effect-of : Measures 4 effect-of-kinds.ps ℕ
-μ-effect-of κs a = a .1 .1 .1 .1 .1 .1 .0
+abbrev μ-effect-of : Measures 5 effect-of-kinds.ps ℕ
+μ-effect-of κs a = a .1 .1 .1 .1 .1 .1 .1 .0
 
-abbrev effect-of-at : ℕ → In 4 effect-of-kinds.ps
+abbrev effect-of-at : ℕ → In 5 effect-of-kinds.ps
 effect-of-at t =
-    and 4 effect-of-kinds.ps (is 4 effect-of-kinds.ps μ-effect-of t) effect-of.Pre
+    and 5 effect-of-kinds.ps (is 5 effect-of-kinds.ps μ-effect-of t) effect-of.Pre
 
-abbrev effect-of-below : ℕ → In 4 effect-of-kinds.ps
+abbrev effect-of-below : ℕ → In 5 effect-of-kinds.ps
 effect-of-below t =
-    and 4 effect-of-kinds.ps (falls 4 effect-of-kinds.ps _<_ μ-effect-of t) effect-of.Pre
+    and 5 effect-of-kinds.ps (falls 5 effect-of-kinds.ps _<_ μ-effect-of t) effect-of.Pre
 
 abbrev effect-of-calls : ℕ → effect-of-lts.Claims
 effect-of-calls t = (frame-of-word-reads.Asked, frame-of-word-reads.Learnt, statement-node-reads.Asked, statement-node-reads.Learnt, none-reads.Asked, none-reads.Learnt, cooperate-rule-reads.Asked, cooperate-rule-reads.Learnt, effect-of-below t, effect-of.Post, seq-rule-reads.Asked, seq-rule-reads.Learnt, is-linked-reads.Asked, is-linked-reads.Learnt, do-rule-reads.Asked, do-rule-reads.Learnt, arguments-of-reads.Asked, arguments-of-reads.Learnt, start-rule-reads.Asked, start-rule-reads.Learnt, type-in-reads.Asked, type-in-reads.Learnt, join-rule-reads.Asked, join-rule-reads.Learnt, store-rule-reads.Asked, store-rule-reads.Learnt, if-else-rule-reads.Asked, if-else-rule-reads.Learnt, while-rule-reads.Asked, while-rule-reads.Learnt, event-at-reads.Asked, event-at-reads.Learnt, signal-rule-reads.Asked, signal-rule-reads.Learnt)
@@ -94,12 +95,12 @@ effect-of-enum-known-a t c = search needs
 effect-of-effect-of-requires : (t : ℕ)
     → effect-of-lts.Need-effect-of-requires (effect-of-calls t) (effect-of-at t) effect-of.Post
 effect-of-effect-of-requires t c =
-    λ κs. (search seq-a-falls, (search seq-a-in, search seq-a-room, search needs))
+    λ κs. (search seq-a-falls, (search seq-a-in, search seq-a-room, search needs, search needs))
 
 effect-of-effect-of-requires-2 : (t : ℕ)
     → effect-of-lts.Need-effect-of-requires-2 (effect-of-calls t) (effect-of-at t) effect-of.Post
 effect-of-effect-of-requires-2 t c =
-    λ κs. (search seq-b-falls, (search seq-b-in, search seq-b-room, search needs))
+    λ κs. (search seq-b-falls, (search seq-b-in, search seq-b-room, search needs, search needs))
 
 effect-of-seq-rule-requires : (t : ℕ)
     → effect-of-lts.Need-seq-rule-requires (effect-of-calls t) (effect-of-at t) effect-of.Post
@@ -116,11 +117,11 @@ effect-of-is-linked-requires t c = λ κs. search needs
 effect-of-effect-of-requires-3 : (t : ℕ)
     → effect-of-lts.Need-effect-of-requires-3 (effect-of-calls t) (effect-of-at t) effect-of.Post
 effect-of-effect-of-requires-3 t c =
-    λ κs. (search do-a-falls, (search do-a-in, search do-a-room, search needs))
+    λ κs. (search do-a-falls, (search do-a-in, search do-a-room, search needs, search needs))
 
 effect-of-do-rule-requires : (t : ℕ)
     → effect-of-lts.Need-do-rule-requires (effect-of-calls t) (effect-of-at t) effect-of.Post
-effect-of-do-rule-requires t c = λ κs. search needs
+effect-of-do-rule-requires t c = λ κs. search labels-wide
 
 effect-of-enum-known-s-2 : (t : ℕ)
     → effect-of-lts.Need-enum-known-s-2 (effect-of-calls t) (effect-of-at t) effect-of.Post
@@ -179,7 +180,7 @@ effect-of-add-effect-of t c = record { fits = search let-adds }
 effect-of-effect-of-requires-4 : (t : ℕ)
     → effect-of-lts.Need-effect-of-requires-4 (effect-of-calls t) (effect-of-at t) effect-of.Post
 effect-of-effect-of-requires-4 t c =
-    λ κs. (search let-b-falls, (search let-b-in, search let-b-room, search needs))
+    λ κs. (search let-b-falls, (search let-b-in, search let-b-room, search needs, search needs))
 
 effect-of-join-rule-requires : (t : ℕ)
     → effect-of-lts.Need-join-rule-requires (effect-of-calls t) (effect-of-at t) effect-of.Post
@@ -212,12 +213,12 @@ effect-of-type-in-requires-4 t c = λ κs. (search if-a-in, search room-holds)
 effect-of-effect-of-requires-5 : (t : ℕ)
     → effect-of-lts.Need-effect-of-requires-5 (effect-of-calls t) (effect-of-at t) effect-of.Post
 effect-of-effect-of-requires-5 t c =
-    λ κs. (search if-b-falls, (search if-b-in, search if-b-room, search needs))
+    λ κs. (search if-b-falls, (search if-b-in, search if-b-room, search needs, search needs))
 
 effect-of-effect-of-requires-6 : (t : ℕ)
     → effect-of-lts.Need-effect-of-requires-6 (effect-of-calls t) (effect-of-at t) effect-of.Post
 effect-of-effect-of-requires-6 t c =
-    λ κs. (search if-c-falls, (search if-c-in, search if-c-room, search needs))
+    λ κs. (search if-c-falls, (search if-c-in, search if-c-room, search needs, search needs))
 
 effect-of-if-else-rule-requires : (t : ℕ)
     → effect-of-lts.Need-if-else-rule-requires (effect-of-calls t) (effect-of-at t) effect-of.Post
@@ -234,7 +235,7 @@ effect-of-type-in-requires-5 t c = λ κs. (search while-a-in, search room-holds
 effect-of-effect-of-requires-7 : (t : ℕ)
     → effect-of-lts.Need-effect-of-requires-7 (effect-of-calls t) (effect-of-at t) effect-of.Post
 effect-of-effect-of-requires-7 t c =
-    λ κs. (search while-b-falls, (search while-b-in, search while-b-room, search needs))
+    λ κs. (search while-b-falls, (search while-b-in, search while-b-room, search needs, search needs))
 
 effect-of-while-rule-requires : (t : ℕ)
     → effect-of-lts.Need-while-rule-requires (effect-of-calls t) (effect-of-at t) effect-of.Post

@@ -22,8 +22,8 @@ array-share-prefix-below c = search needs
 slice-aggregate-effect-of : tie.Need-slice-aggregate-effect-of
 slice-aggregate-effect-of c =
     let at = c .before .before .before .before in
-    let wide : length (at .args .t3) ≡ 16 = search needs in
-    prefix-length (at .args .t3) (at .args .m) wide (at .pre .3)
+    let wide : length (at .args .t4) ≡ 16 = search needs in
+    prefix-length (at .args .t4) (at .args .m) wide (at .pre .3)
 
 effect-of-requires : tie.Need-effect-of-requires
 effect-of-requires c κs = search needs

@@ -3,6 +3,7 @@ use Prim.Native.Nat.{_-_}
 use lib.ListN.{length}
 use borrow.Author.Needs.{needs}
 use Rattle.checker.specs.inner.Settings.{settingIn}
+use Rattle.checker.proofs.LabelLaws.{labels-wide}
 use Rattle.checker.proofs.ModuleLaws.{Judging, judge-start, judge-index, judge-few}
 use Rattle.checker.proofs.ModuleLaws.{judge-most, judge-fits, judge-parameters, judge-body}
 use Rattle.checker.proofs.ModuleLaws.{judge-room, judge-next, judge-fails, judge-main}
@@ -11,10 +12,10 @@ use Rattle.checker.proofs.module.modules_rule.Statement.{statement}
 use Rattle.checker.proofs.module.modules_rule.Tie as tie
 
 abbrev Inv-loop : tie.InvT-loop
-Inv-loop frames cells below₀ m₀ i₀ below m i = Judging (settingIn frames cells) frames below m i
+Inv-loop frames cells labels below₀ m₀ i₀ below m i = Judging (settingIn frames cells) frames below m i
 
 abbrev μ-loop : tie.MeasureT-loop
-μ-loop frames cells below₀ m₀ i₀ below m i = length frames - i
+μ-loop frames cells labels below₀ m₀ i₀ below m i = length frames - i
 
 next-module-requires : tie.Need-next-module-requires Inv-loop μ-loop
 next-module-requires c κs = search file-first
@@ -30,7 +31,7 @@ frame-at-requires c κs = search judge-index
 
 module-effect-requires : tie.Need-module-effect-requires Inv-loop μ-loop
 module-effect-requires c κs =
-    (search judge-body, search judge-room, search judge-parameters, search judge-most)
+    (search judge-body, search judge-room, search judge-parameters, search judge-most, search needs)
 
 enum-known-k : tie.Need-enum-known-k Inv-loop μ-loop
 enum-known-k c = search (judge-few, judge-index, needs)
@@ -70,7 +71,7 @@ frame-at-requires-2 c κs = search judge-index
 
 module-effect-requires-2 : tie.Need-module-effect-requires-2 Inv-loop μ-loop
 module-effect-requires-2 c κs =
-    (search judge-body, search judge-room, search judge-parameters, search judge-most)
+    (search judge-body, search judge-room, search judge-parameters, search judge-most, search needs)
 
 enum-known-k-2 : tie.Need-enum-known-k-2 Inv-loop μ-loop
 enum-known-k-2 c = search (judge-few, judge-index, needs)
@@ -82,7 +83,7 @@ cast-main-rule : tie.Need-cast-main-rule Inv-loop μ-loop
 cast-main-rule c = record { fits = search judge-fits }
 
 main-rule-requires : tie.Need-main-rule-requires Inv-loop μ-loop
-main-rule-requires c κs = search needs
+main-rule-requires c κs = search labels-wide
 
 returns-2 : tie.Need-returns-2 Inv-loop μ-loop
 returns-2 c = search judge-fails

@@ -45,7 +45,7 @@ place-of-requires-2 : tie.Need-place-of-requires-2
 place-of-requires-2 c κs = search needs
 
 decide-await-requires : tie.Need-decide-await-requires
-decide-await-requires c κs = (search needs, search few-events)
+decide-await-requires c κs = (search needs, search needs, search few-events)
 
 returns-2 : tie.Need-returns-2
 returns-2 c = search decide-laws

@@ -8,7 +8,11 @@ event-at-requires : tie.Need-event-at-requires
 event-at-requires c κs = search needs
 
 await-obstacle-requires : tie.Need-await-obstacle-requires
-await-obstacle-requires c κs = (search needs, λ h. event-small _ _ _ (c .event-at .ensures) (c .before .before .before .pre .1) h)
+await-obstacle-requires c κs = (
+  search needs,
+  search needs,
+  λ h. event-small _ _ _ (c .event-at .ensures) (c .before .before .before .pre .2) h,
+)
 
 returns : tie.Need-returns
 returns c = search decide-await-laws

@@ -1,7 +1,6 @@
 -- `has_wake_room` meets its contract. Assumes nothing.
 use borrow.Author.Needs.{needs}
-use Rattle.commits.proofs.SignalLaws.{lists-next, lists-active, owner-scheduler}
-use Rattle.commits.proofs.SignalLaws.{wake-none, wake-room}
+use Rattle.commits.proofs.SignalLaws.{wake-none, wake-room, owner-group}
 use Rattle.commits.proofs.signal.has_wake_room.Statement.{statement}
 use Rattle.commits.proofs.signal.has_wake_room.Tie as tie
 
@@ -11,9 +10,8 @@ scheduler-requires c κs = search needs
 enum-known-q : tie.Need-enum-known-q
 enum-known-q c = search needs
 
-has-room-to-wake-requires : tie.Need-has-room-to-wake-requires
-has-room-to-wake-requires c κs =
-    ((search needs, search needs, search lists-next), search owner-scheduler, search lists-active)
+room-on-each-requires : tie.Need-room-on-each-requires
+room-on-each-requires c κs = (search owner-group, search needs)
 
 enum-told : tie.Need-enum-told
 enum-told c = search needs
@@ -30,7 +28,7 @@ has-wake-room-spec =
     (tie.spec
     scheduler-requires
     enum-known-q
-    has-room-to-wake-requires
+    room-on-each-requires
     enum-told
     returns
     returns-2)

@@ -1,6 +1,6 @@
 -- `owns` meets its contract. Assumes nothing.
 use borrow.Author.Needs.{needs}
-use Rattle.commits.proofs.SignalLaws.{owns-laws}
+use Rattle.commits.proofs.SignalLaws.{owns-laws, owns-scheduler}
 use Rattle.commits.proofs.signal.owns.Statement.{statement}
 use Rattle.commits.proofs.signal.owns.Tie as tie
 
@@ -10,11 +10,11 @@ is-scheduler-requires c κs = search needs
 returns : tie.Need-returns
 returns c = search owns-laws
 
-number-requires : tie.Need-number-requires
-number-requires c κs = search needs
+is-member-requires : tie.Need-is-member-requires
+is-member-requires c κs = (search needs, search owns-scheduler)
 
 returns-2 : tie.Need-returns-2
 returns-2 c = search owns-laws
 
 pub owns-spec : {M : Type 1} → statement M
-owns-spec = tie.close (tie.spec is-scheduler-requires returns number-requires returns-2)
+owns-spec = tie.close (tie.spec is-scheduler-requires returns is-member-requires returns-2)

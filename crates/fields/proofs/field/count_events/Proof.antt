@@ -24,8 +24,8 @@ shared-slice-read-line c = search needs
 add-i : tie.Need-add-i Inv-loop μ-loop
 add-i c = search needs
 
-declares-event-requires : tie.Need-declares-event-requires Inv-loop μ-loop
-declares-event-requires c κs = search needs
+line-declares-requires : tie.Need-line-declares-requires Inv-loop μ-loop
+line-declares-requires c κs = search needs
 
 add-n : tie.Need-add-n Inv-loop μ-loop
 add-n c = search needs
@@ -55,7 +55,7 @@ count-events-spec =
     mul-line
     shared-slice-read-line
     add-i
-    declares-event-requires
+    line-declares-requires
     add-n
     loop-less
     loop-again

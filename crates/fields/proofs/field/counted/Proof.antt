@@ -30,6 +30,9 @@ enum-told-3 c = search needs
 enum-told-4 : tie.Need-enum-told-4
 enum-told-4 c = search needs
 
+enum-told-5 : tie.Need-enum-told-5
+enum-told-5 c = search needs
+
 with-module-requires : tie.Need-with-module-requires
 with-module-requires c κs = search module-room
 
@@ -39,8 +42,8 @@ enum-known-kind-2 c = search needs
 enum-known-kind-3 : tie.Need-enum-known-kind-3
 enum-known-kind-3 c = search needs
 
-enum-told-5 : tie.Need-enum-told-5
-enum-told-5 c = search needs
+enum-told-6 : tie.Need-enum-told-6
+enum-told-6 c = search needs
 
 returns : tie.Need-returns
 returns c = search counted-laws
@@ -52,7 +55,7 @@ returns-3 : tie.Need-returns-3
 returns-3 c = search (counted-laws, declared-as)
 
 returns-4 : tie.Need-returns-4
-returns-4 c = search counted-laws
+returns-4 c = search (counted-laws, declared-as)
 
 returns-5 : tie.Need-returns-5
 returns-5 c = search counted-laws
@@ -62,6 +65,9 @@ returns-6 c = search counted-laws
 
 returns-7 : tie.Need-returns-7
 returns-7 c = search counted-laws
+
+returns-8 : tie.Need-returns-8
+returns-8 c = search counted-laws
 
 pub counted-spec : {M : Type 1} → statement M
 counted-spec =
@@ -75,14 +81,16 @@ counted-spec =
     with-cell-requires
     enum-told-3
     enum-told-4
+    enum-told-5
     with-module-requires
     enum-known-kind-2
     enum-known-kind-3
-    enum-told-5
+    enum-told-6
     returns
     returns-2
     returns-3
     returns-4
     returns-5
     returns-6
-    returns-7)
+    returns-7
+    returns-8)

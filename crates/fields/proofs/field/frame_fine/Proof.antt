@@ -2,7 +2,8 @@
 use borrow.Author.Needs.{needs}
 use Rattle.fields.proofs.Tallies.{declared-as}
 use Rattle.fields.proofs.FieldsByKind.{frame-here, frame-header, frame-unknown}
-use Rattle.fields.proofs.FieldsByKind.{frame-event, frame-statement, frame-expression}
+use Rattle.fields.proofs.FieldsByKind.{frame-event, frame-link, frame-statement}
+use Rattle.fields.proofs.FieldsByKind.{frame-expression}
 use Rattle.fields.proofs.field.frame_fine.Statement.{statement}
 use Rattle.fields.proofs.field.frame_fine.Tie as tie
 
@@ -30,6 +31,12 @@ event-fine-requires c κs = search needs
 enum-told-4 : tie.Need-enum-told-4
 enum-told-4 c = search needs
 
+link-fine-requires : tie.Need-link-fine-requires
+link-fine-requires c κs = search needs
+
+enum-told-5 : tie.Need-enum-told-5
+enum-told-5 c = search needs
+
 module-fine-requires : tie.Need-module-fine-requires
 module-fine-requires c κs = search needs
 
@@ -45,8 +52,8 @@ enum-known-kind-3 c = search needs
 expression-fine-requires : tie.Need-expression-fine-requires
 expression-fine-requires c κs = search needs
 
-enum-told-5 : tie.Need-enum-told-5
-enum-told-5 c = search needs
+enum-told-6 : tie.Need-enum-told-6
+enum-told-6 c = search needs
 
 returns : tie.Need-returns
 returns c = search frame-header
@@ -58,16 +65,19 @@ returns-3 : tie.Need-returns-3
 returns-3 c = search (frame-event, declared-as)
 
 returns-4 : tie.Need-returns-4
-returns-4 c = search frame-here
+returns-4 c = search (frame-link, declared-as)
 
 returns-5 : tie.Need-returns-5
-returns-5 c = search frame-statement
+returns-5 c = search frame-here
 
 returns-6 : tie.Need-returns-6
-returns-6 c = search frame-expression
+returns-6 c = search frame-statement
 
 returns-7 : tie.Need-returns-7
-returns-7 c = search frame-unknown
+returns-7 c = search frame-expression
+
+returns-8 : tie.Need-returns-8
+returns-8 c = search frame-unknown
 
 pub frame-fine-spec : {M : Type 1} → statement M
 frame-fine-spec =
@@ -81,16 +91,19 @@ frame-fine-spec =
     enum-told-3
     event-fine-requires
     enum-told-4
+    link-fine-requires
+    enum-told-5
     module-fine-requires
     enum-known-kind-2
     statement-fine-requires
     enum-known-kind-3
     expression-fine-requires
-    enum-told-5
+    enum-told-6
     returns
     returns-2
     returns-3
     returns-4
     returns-5
     returns-6
-    returns-7)
+    returns-7
+    returns-8)

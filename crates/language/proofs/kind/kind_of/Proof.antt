@@ -107,10 +107,15 @@ returns-25 : tie.Need-returns-25
 unfolding kindOf if_then_else_
 returns-25 c = sym (ap kindOf (c .match .keys25))
 
--- the last arm: each of the 25 tests is false, the first arm's first
 returns-26 : tie.Need-returns-26
 unfolding kindOf if_then_else_
-returns-26 c = simp (
+returns-26 c = sym (ap kindOf (c .match .keys26))
+
+-- the last arm: each of the 26 tests is false, the first arm's first
+returns-27 : tie.Need-returns-27
+unfolding kindOf if_then_else_
+returns-27 c = simp (
+  ne-eqb _ _ (c .match .rest .0 .0 .0 .0 .0 .0 .0 .0 .0 .0 .0 .0 .0 .0 .0 .0 .0 .0 .0 .0 .0 .0 .0 .0 .0 .1),
   ne-eqb _ _ (c .match .rest .0 .0 .0 .0 .0 .0 .0 .0 .0 .0 .0 .0 .0 .0 .0 .0 .0 .0 .0 .0 .0 .0 .0 .0 .1),
   ne-eqb _ _ (c .match .rest .0 .0 .0 .0 .0 .0 .0 .0 .0 .0 .0 .0 .0 .0 .0 .0 .0 .0 .0 .0 .0 .0 .0 .1),
   ne-eqb _ _ (c .match .rest .0 .0 .0 .0 .0 .0 .0 .0 .0 .0 .0 .0 .0 .0 .0 .0 .0 .0 .0 .0 .0 .0 .1),
@@ -167,4 +172,5 @@ kind-of-spec =
     returns-23
     returns-24
     returns-25
-    returns-26)
+    returns-26
+    returns-27)

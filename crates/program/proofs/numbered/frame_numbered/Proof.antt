@@ -16,14 +16,11 @@ abbrev μ-loop : tie.MeasureT-loop
 loop-holds : tie.Need-loop-holds Inv-loop μ-loop
 loop-holds c = (search needs, finding-start _ _ _)
 
-mul-frame-of-word : tie.Need-mul-frame-of-word Inv-loop μ-loop
-mul-frame-of-word c = search needs
+mul-line : tie.Need-mul-line Inv-loop μ-loop
+mul-line c = search needs
 
-shared-slice-read-frame-of-word : tie.Need-shared-slice-read-frame-of-word Inv-loop μ-loop
-shared-slice-read-frame-of-word c = search needs
-
-frame-of-word-requires : tie.Need-frame-of-word-requires Inv-loop μ-loop
-frame-of-word-requires c κs = search needs
+shared-slice-read-line : tie.Need-shared-slice-read-line Inv-loop μ-loop
+shared-slice-read-line c = search needs
 
 is-numbered-requires : tie.Need-is-numbered-requires Inv-loop μ-loop
 is-numbered-requires c κs = search needs
@@ -36,6 +33,9 @@ loop-less c = search needs
 
 loop-again : tie.Need-loop-again Inv-loop μ-loop
 loop-again c = (search needs, search finding-other)
+
+frame-of-word-requires : tie.Need-frame-of-word-requires Inv-loop μ-loop
+frame-of-word-requires c κs = search needs
 
 returns : tie.Need-returns Inv-loop μ-loop
 returns c = search found-here
@@ -50,9 +50,7 @@ loop-less-2 : tie.Need-loop-less-2 Inv-loop μ-loop
 loop-less-2 c = search needs
 
 loop-again-2 : tie.Need-loop-again-2 Inv-loop μ-loop
-loop-again-2 c =
-    let s = c .before .before .before .before .before .before .loop .inv .1 in
-    (search needs, search (finding-one, s))
+loop-again-2 c = (search needs, search finding-one)
 
 returns-2 : tie.Need-returns-2 Inv-loop μ-loop
 returns-2 c = search found-none
@@ -64,13 +62,13 @@ frame-numbered-spec =
     Inv-loop
     μ-loop
     loop-holds
-    mul-frame-of-word
-    shared-slice-read-frame-of-word
-    frame-of-word-requires
+    mul-line
+    shared-slice-read-line
     is-numbered-requires
     add-i
     loop-less
     loop-again
+    frame-of-word-requires
     returns
     add-i-2
     sub-left

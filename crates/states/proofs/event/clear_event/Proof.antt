@@ -19,8 +19,8 @@ returns c = search (absent-stays, other-stays, own-cleared)
 event-at-requires : tie.Need-event-at-requires
 event-at-requires c κs = search needs
 
-number-requires : tie.Need-number-requires
-number-requires c κs = search needs
+is-member-requires : tie.Need-is-member-requires
+is-member-requires c κs = search needs
 
 returns-2 : tie.Need-returns-2
 returns-2 c = search (absent-stays, other-stays, own-cleared)
@@ -46,7 +46,7 @@ clear-event-spec =
     slice-read-if1
     returns
     event-at-requires
-    number-requires
+    is-member-requires
     returns-2
     mul-state
     slice-write-state

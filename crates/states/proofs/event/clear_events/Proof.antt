@@ -5,18 +5,19 @@ use mathlib.Core.Path.{_≡_, refl, ap, _∙_}
 use lib.ListN.{length}
 use Rattle.text.specs.Frames.{framesOf}
 use Rattle.program.specs.Programs.{eventsOf}
+use Rattle.language.specs.inner.Labels.{inGroup}
 use Rattle.states.specs.inner.Events.{withoutEvents}
 use Rattle.states.proofs.EventLaws.{clear-start, clear-more, clear-end, event-length}
 use Rattle.states.proofs.event.clear_events.Statement.{statement}
 use Rattle.states.proofs.event.clear_events.Tie as tie
 
 abbrev Inv-loop : tie.InvT-loop
-Inv-loop frames state₀ q events e₀ state e =
+Inv-loop frames labels state₀ q events e₀ state e =
     (e ≤ events) × (length state ≡ length state₀)
-    × (state ≡ withoutEvents (q .number) (eventsOf (framesOf frames)) state₀ e)
+    × (state ≡ withoutEvents (inGroup labels (q .number)) (eventsOf (framesOf frames)) state₀ e)
 
 abbrev μ-loop : tie.MeasureT-loop
-μ-loop frames state₀ q events e₀ state e = events - e
+μ-loop frames labels state₀ q events e₀ state e = events - e
 
 event-count-requires : tie.Need-event-count-requires Inv-loop μ-loop
 event-count-requires c κs = search needs

@@ -1,6 +1,6 @@
 -- `file_of` meets its contract. Assumes nothing.
 use borrow.Author.Needs.{needs}
-use Rattle.stepper.proofs.FileLaws.{file-some, file-fits, file-is}
+use Rattle.stepper.proofs.FileLaws.{file-some, file-fits, file-links, file-is}
 use Rattle.stepper.proofs.file.file_of.Statement.{statement}
 use Rattle.stepper.proofs.file.file_of.Tie as tie
 
@@ -19,6 +19,9 @@ count-shared-requires c κs = search needs
 allowance-in-requires : tie.Need-allowance-in-requires
 allowance-in-requires c κs = search needs
 
+labels-of-requires : tie.Need-labels-of-requires
+labels-of-requires c κs = search file-links
+
 returns : tie.Need-returns
 returns c = search file-is
 
@@ -31,4 +34,5 @@ file-of-spec =
     cast-t5
     count-shared-requires
     allowance-in-requires
+    labels-of-requires
     returns)

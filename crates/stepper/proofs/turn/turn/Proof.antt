@@ -54,7 +54,7 @@ commit-requires c κs =
     let p = count .before .before .before .before .pre in
     let e = count .thread-count .ensures in
     let q = test .if1 .left in
-    commit-needs _ _ _ (p .0) _ (p .1) _ (p .3) (omega arith) _ _ _ (acted .act-in .ensures)
+    commit-needs _ _ _ (p .0) _ (p .1) _ (p .3) (omega arith) _ _ _ _ (p .4) (acted .act-in .ensures)
     (taken .take-accesses .ensures .1) (taken .take-accesses .kept .0)
     (acted .act-in .kept .1 .1 .0)
 
@@ -79,7 +79,7 @@ returns-2 c =
     let p = count .before .before .before .before .pre in
     let e = count .thread-count .ensures in
     let q = test .if1 .left in
-    turn-gives _ _ _ (p .0) _ (p .1) _ (p .3) (omega arith) _ _ _ _ _ _ _ _
+    turn-gives _ _ _ (p .0) _ (p .1) _ (p .3) (omega arith) _ _ _ _ _ _ _ _ _ (p .4)
     (acted .act-in .ensures) (taken .take-accesses .ensures .1) (taken .take-accesses .ensures .0)
     refl (done .commit .ensures) (c .counted .ensures)
 

@@ -1,11 +1,11 @@
 -- `step_valid` meets its contract. Assumes nothing.
-use mathlib.Core.Path.{ap, _∙_}
 use borrow.Author.Needs.{needs}
-use Rattle.stepper.proofs.GoodWords.{step-long, threads-few, few-events}
-use Rattle.stepper.proofs.FileLaws.{file-some}
+use mathlib.Core.Path.{refl, ap}
+use Rattle.commits.specs.inner.Commits.{grouping}
+use Rattle.stepper.proofs.GoodWords.{step-long, threads-few}
 use Rattle.stepper.proofs.PartyLaws.{acting-asks, acting-steps, nobody-steps, idle-place}
-use Rattle.stepper.proofs.PartyLaws.{idle-asks, idle-nothing, idle-done}
-use Rattle.stepper.proofs.PartyLaws.{answered}
+use Rattle.stepper.proofs.PartyLaws.{idle-asks, idle-steps, answered}
+use Rattle.stepper.specs.declared.file.File.{File}
 use Rattle.stepper.proofs.valid.step_valid.Statement.{statement}
 use Rattle.stepper.proofs.valid.step_valid.Tie as tie
 
@@ -15,12 +15,12 @@ acting-thread-requires c κs =
 
 turn-requires : tie.Need-turn-requires
 turn-requires c κs =
-    let test = c .before in
-    let acting = test .before in
+    let test = c .before .before in
+    let acting = test .before .before in
     let p = acting .before .before .before .before .pre in
     let t = acting .acting-thread .ensures in
     let a = acting-asks _ _ _ (p .0) _ _ (p .1) _ t (test .if1 .taken) in
-    (p .0, a .0, a .1, a .2)
+    (p .0, a .0, a .1, a .2, ap (λ (x : File). grouping (x .labels) (x .schedulers)) (p .1))
 
 same-length : tie.Need-same-length
 same-length c = search needs
@@ -28,8 +28,8 @@ same-length c = search needs
 returns : tie.Need-returns
 returns c =
     let turned = c .before .before in
-    let test = turned .before .before in
-    let acting = test .before in
+    let test = turned .before .before .before in
+    let acting = test .before .before in
     let p = acting .before .before .before .before .pre in
     acting-steps _ _ _ (p .0) _ _ (p .1) _ (acting .acting-thread .ensures) (test .if1 .taken)
     _ (turned .turn .ensures)
@@ -47,7 +47,7 @@ returns-2 : tie.Need-returns-2
 returns-2 c =
     let asked = c .before .before in
     let test = asked .before in
-    let acting = test .before in
+    let acting = test .before .before in
     let p = acting .before .before .before .before .pre in
     answered _ _ _ _ (c .nobody .ensures)
     (nobody-steps _ _ _ (p .0) _ _ (p .1) _ (acting .acting-thread .ensures) (test .if1 .left)
@@ -55,76 +55,39 @@ returns-2 c =
 
 known-requires : tie.Need-known-requires
 known-requires c κs =
-    let asked = c .before in
+    let own = c .before .before in
+    let asked = own .before in
     let test = asked .before in
-    let acting = test .before in
+    let acting = test .before .before in
     let p = acting .before .before .before .before .pre in
     idle-place _ _ _ (p .0) _ _ (p .1) _ (acting .acting-thread .ensures) (test .if1 .left)
-    _ (asked .is-scheduler-in-file .ensures) (c .if2 .left)
+    _ (asked .is-scheduler-in-file .ensures) (own .if2 .left)
 
 end-instant-requires : tie.Need-end-instant-requires
 end-instant-requires c κs =
-    let place = c .before in
-    let own = place .before in
+    let own = c .before .before .before in
     let asked = own .before in
     let test = asked .before in
-    let acting = test .before in
+    let acting = test .before .before in
     let p = acting .before .before .before .before .pre in
     idle-asks _ _ _ (p .0) _ _ (p .1) _ (acting .acting-thread .ensures) (test .if1 .left)
-    _ (asked .is-scheduler-in-file .ensures) (own .if2 .left) _ (place .known .ensures)
-
-nobody-requires-2 : tie.Need-nobody-requires-2
-nobody-requires-2 c κs = search needs
+    _ (asked .is-scheduler-in-file .ensures) (own .if2 .left) _ (c .known .ensures) _ _ refl refl
 
 same-length-3 : tie.Need-same-length-3
 same-length-3 c = search needs
 
 returns-3 : tie.Need-returns-3
 returns-3 c =
-    let ended = c .before .before .before .before in
-    let place = ended .before .before in
-    let own = place .before in
+    let ended = c .before .before in
+    let place = ended .before in
+    let own = place .before .before .before in
     let asked = own .before in
     let test = asked .before in
-    let acting = test .before in
+    let acting = test .before .before in
     let p = acting .before .before .before .before .pre in
-    answered _ _ _ _ (c .nobody2 .ensures)
-    (idle-nothing _ _ _ (p .0) _ _ (p .1) _ (acting .acting-thread .ensures) (test .if1 .left)
+    idle-steps _ _ _ (p .0) _ _ (p .1) _ (acting .acting-thread .ensures) (test .if1 .left)
     _ (asked .is-scheduler-in-file .ensures) (own .if2 .left) _ (place .known .ensures)
-    _ _ (ended .end-instant .ensures .0) (ended .end-instant .ensures .1) (c .before .if3 .taken))
-
-clear-events-requires : tie.Need-clear-events-requires
-clear-events-requires c κs =
-    let ended = c .before .before .before .before in
-    let acting = ended .before .before .before .before .before .before in
-    let p = acting .before .before .before .before .pre in (
-      ended .end-instant .kept .0 ∙ step-long _ _ _ (p .0),
-      file-some _ (p .0 .file),
-      few-events _ _ _ (p .0),
-    )
-
-nobody-requires-3 : tie.Need-nobody-requires-3
-nobody-requires-3 c κs = search needs
-
-same-length-4 : tie.Need-same-length-4
-same-length-4 c = search needs
-
-returns-4 : tie.Need-returns-4
-returns-4 c =
-    let cleared = c .before .before .before in
-    let more = cleared .before .before in
-    let ended = more .before .before .before in
-    let place = ended .before .before in
-    let own = place .before in
-    let asked = own .before in
-    let test = asked .before in
-    let acting = test .before in
-    let p = acting .before .before .before .before .pre in
-    answered _ _ _ _ (c .nobody3 .ensures)
-    (idle-done _ _ _ (p .0) _ _ (p .1) _ (acting .acting-thread .ensures) (test .if1 .left)
-    _ (asked .is-scheduler-in-file .ensures) (own .if2 .left) _ (place .known .ensures)
-    _ _ (ended .end-instant .ensures .0) (ended .end-instant .ensures .1) (more .if3 .left)
-    _ (cleared .clear-events .ensures))
+    _ (ended .end-instant .ensures)
 
 pub step-valid-spec : {M : Type 1} → statement M
 step-valid-spec =
@@ -140,10 +103,5 @@ step-valid-spec =
     returns-2
     known-requires
     end-instant-requires
-    nobody-requires-2
     same-length-3
-    returns-3
-    clear-events-requires
-    nobody-requires-3
-    same-length-4
-    returns-4)
+    returns-3)

@@ -31,6 +31,12 @@ enum-told-4 c = search needs
 holding-requires-4 : tie.Need-holding-requires-4
 holding-requires-4 c κs = search needs
 
+enum-told-5 : tie.Need-enum-told-5
+enum-told-5 c = search needs
+
+holding-requires-5 : tie.Need-holding-requires-5
+holding-requires-5 c κs = search needs
+
 enum-known-kind-2 : tie.Need-enum-known-kind-2
 enum-known-kind-2 c = search needs
 
@@ -43,11 +49,11 @@ enum-known-kind-3 c = search needs
 expression-fields-requires : tie.Need-expression-fields-requires
 expression-fields-requires c κs = search needs
 
-enum-told-5 : tie.Need-enum-told-5
-enum-told-5 c = search needs
+enum-told-6 : tie.Need-enum-told-6
+enum-told-6 c = search needs
 
-holding-requires-5 : tie.Need-holding-requires-5
-holding-requires-5 c κs = search needs
+holding-requires-6 : tie.Need-holding-requires-6
+holding-requires-6 c κs = search needs
 
 returns : tie.Need-returns
 returns c = search kind-row
@@ -59,7 +65,7 @@ returns-3 : tie.Need-returns-3
 returns-3 c = search declaration-row
 
 returns-4 : tie.Need-returns-4
-returns-4 c = search kind-row
+returns-4 c = search declaration-row
 
 returns-5 : tie.Need-returns-5
 returns-5 c = search kind-row
@@ -69,6 +75,9 @@ returns-6 c = search kind-row
 
 returns-7 : tie.Need-returns-7
 returns-7 c = search kind-row
+
+returns-8 : tie.Need-returns-8
+returns-8 c = search kind-row
 
 pub child-fields-spec : {M : Type 1} → statement M
 child-fields-spec =
@@ -83,16 +92,19 @@ child-fields-spec =
     holding-requires-3
     enum-told-4
     holding-requires-4
+    enum-told-5
+    holding-requires-5
     enum-known-kind-2
     statement-fields-requires
     enum-known-kind-3
     expression-fields-requires
-    enum-told-5
-    holding-requires-5
+    enum-told-6
+    holding-requires-6
     returns
     returns-2
     returns-3
     returns-4
     returns-5
     returns-6
-    returns-7)
+    returns-7
+    returns-8)

@@ -10,11 +10,11 @@ set-within-requires c κs = search needs
 returns : tie.Need-returns
 returns c = search both-within-laws
 
-set-within-requires-2 : tie.Need-set-within-requires-2
-set-within-requires-2 c κs = search needs
+in-group-requires : tie.Need-in-group-requires
+in-group-requires c κs = search needs
 
 returns-2 : tie.Need-returns-2
 returns-2 c = search both-within-laws
 
 pub within-spec : {M : Type 1} → statement M
-within-spec = tie.close (tie.spec set-within-requires returns set-within-requires-2 returns-2)
+within-spec = tie.close (tie.spec set-within-requires returns in-group-requires returns-2)
