@@ -9,8 +9,8 @@ use mathlib.Core.Bool.{Bool, true, false, not, _&&_}
 use native.Mathlib.Omega.{arith}
 use native.Mathlib.Numerals.{add-one}
 use native.Mathlib.Decide.{ℕ-discrete}
-use lib.ListN.{getD, length, set, length-set, List·getD-eq-default}
-use lib.Seq.{getD-set-same, getD-set-other, set-getD}
+use lib.ListN.{getD, length, set, drop, length-set, length-drop, List·getD-eq-default}
+use lib.Seq.{getD-set-same, getD-set-other, set-getD, getD-drop}
 use lib.Dec.{eqb, ltb}
 use borrow.Author.Tests.{ltb-true, ltb-false, not-true, not-false}
 use Rattle.language.specs.inner.Labels.{inGroup}
@@ -20,62 +20,48 @@ use Rattle.machine.specs.State.{State, isPresent, withPresent}
 use Rattle.machine.specs.Steps.{withoutEventsOf}
 use Rattle.machine.specs.Words.{bit}
 use Rattle.machine.proofs.WordLaws.{Says}
-use Rattle.states.specs.inner.Events.{withoutEvent, withoutEvents}
-use Rattle.basics.specs.If.{if_then_else_}
+use Rattle.states.specs.inner.Events.{withoutOwned, withoutEvent, withoutEvents}
+use Rattle.basics.specs.If.{if_then_else_, keepIf}
+use Rattle.language.specs.Kinds.{isEvent}
+use Rattle.text.specs.Frames.{frameOfWord, framesOf}
+use Rattle.text.proofs.FrameWords.{next-frame, frames-end}
 use Rattle.language.specs.declared.frame.Frame.{Frame}
-use Rattle.program.specs.Programs.{eventsOf, programOf}
-use Rattle.program.specs.inner.Events.{eventIn}
-use Rattle.program.specs.declared.event.EventFound.{EventFound}
+use Rattle.program.specs.Programs.{eventsOf}
 use Rattle.program.specs.Trees.{frameAt}
 
 -- ---- as the code computes them
-module _ (c : ℕ → Bool) (os w : List ℕ) (e : ℕ) where
+module _ (labels : List ℕ) (p o : ℕ) (w : List ℕ) (e : ℕ) where
   -- one that is not present stays so
-  pub absent-stays : getD w (4562 + e) 0 ≡ 0 → w ≡ withoutEvent c os w e
-  unfolding withoutEvent
+  pub absent-stays : getD w (4562 + e) 0 ≡ 0 → w ≡ withoutOwned (inGroup labels p) o w e
+  unfolding withoutOwned
   absent-stays z =
-      if-all (λ (v : List ℕ). w ≡ v) (c (getD os e 0)) _ _
+      if-all (λ (v : List ℕ). w ≡ v) (inGroup labels p o) _ _
       (λ _. sym (ap (set w (4562 + e)) (sym z) ∙ set-getD w (4562 + e) 0)) (λ _. refl)
 
-  pub event-length : length (withoutEvent c os w e) ≡ length w
-  unfolding withoutEvent
-  event-length =
-      if-all (λ (v : List ℕ). length v ≡ length w) (c (getD os e 0)) _ _
-      (λ _. length-set w (4562 + e) 0) (λ _. refl)
+  -- b is whether the owner is in step with p
+  module _ (b : Bool) (k : b ≡ inGroup labels p o) where
+    pub other-stays : not b ≡ true → w ≡ withoutOwned (inGroup labels p) o w e
+    unfolding withoutOwned
+    other-stays d = sym (if-no _ _ (sym k ∙ not-true b d))
 
--- by the owner that was found; b is whether it is in step with p
-module _ (fs : List Frame) (w : List ℕ) (e : ℕ) (labels : List ℕ) (p : ℕ) (x : EventFound) (b : Bool)
-    (q : x ≡ eventIn (programOf fs) e) (k : b ≡ inGroup labels p (x .owner)) where
-  owner-found : x .owner ≡ getD (eventsOf fs) e 0
-  unfolding eventIn programOf
-  owner-found = ap (λ (y : EventFound). y .owner) q
+    pub own-cleared : not b ≡ false → set w (4562 + e) 0 ≡ withoutOwned (inGroup labels p) o w e
+    unfolding withoutOwned
+    own-cleared d = sym (if-yes _ _ (sym k ∙ not-false b d))
 
-  test-is : inGroup labels p (getD (eventsOf fs) e 0) ≡ b
-  test-is = ap (inGroup labels p) (sym owner-found) ∙ sym k
+pub event-length : (c : ℕ → Bool) (os w : List ℕ) (e : ℕ) → length (withoutEvent c os w e) ≡ length w
+unfolding withoutOwned
+event-length c os w e =
+    if-all (λ (v : List ℕ). length v ≡ length w) (c (getD os e 0)) _ _
+    (λ _. length-set w (4562 + e) 0) (λ _. refl)
 
-  pub other-stays : not b ≡ true → w ≡ withoutEvent (inGroup labels p) (eventsOf fs) w e
-  unfolding withoutEvent
-  other-stays d = sym (if-no _ _ (test-is ∙ not-true b d))
-
-  pub own-cleared : not b ≡ false
-      → set w (4562 + e) 0 ≡ withoutEvent (inGroup labels p) (eventsOf fs) w e
-  unfolding withoutEvent
-  own-cleared d = sym (if-yes _ _ (test-is ∙ not-false b d))
-
-pub clear-start : (c : ℕ → Bool) (os w : List ℕ) → w ≡ withoutEvents c os w 0
-unfolding withoutEvents
-clear-start c os w = refl
-
-pub clear-more : (c : ℕ → Bool) (os w u v : List ℕ) (n e : ℕ) → u ≡ withoutEvents c os w n
-    → e ≡ n → v ≡ withoutEvent c os u e → v ≡ withoutEvents c os w (n + 1)
-unfolding withoutEvents
-clear-more c os w u v n e h q k =
-    k ∙ ap₂ (λ (x : List ℕ) (i : ℕ). withoutEvent c os x i) h q
-    ∙ ap (withoutEvents c os w) (sym (add-one n))
-
-pub clear-end : (c : ℕ → Bool) (os w v : List ℕ) (n m k : ℕ) → v ≡ withoutEvents c os w n → n ≤ m
-    → m ≤ n → m ≡ k → v ≡ withoutEvents c os w k
-clear-end c os w v n m k h a b q = h ∙ ap (withoutEvents c os w) (omega arith)
+-- ---- the pass over the lines: e events were met before line i, those from there on are the others,
+-- and the words are without the first e
+pub record Clearing (frames labels w : List ℕ) (p n e i : ℕ) (v : List ℕ) : Type 0 where
+  pub few : e ≤ n
+  pub short : i ≤ length frames
+  pub others : eventsOf (drop i (framesOf frames)) ≡ drop e (eventsOf (framesOf frames))
+  pub words : v ≡ withoutEvents (inGroup labels p) (eventsOf (framesOf frames)) w e
+  pub long : length v ≡ length w
 
 pub events-are : (fs : List Frame) (f : Frame) → f ≡ frameAt fs 0 → frameAt fs 0 .c ≤ 16
     → f .c % 256 ≡ frameAt fs 0 .c
@@ -87,12 +73,106 @@ cleared-length c os w zero = refl
 cleared-length c os w (suc n) =
     event-length c os (withoutEvents c os w n) n ∙ cleared-length c os w n
 
+-- one more of a list is passed
+drop-more : (xs : List ℕ) (e y : ℕ) (ys : List ℕ) → drop e xs ≡ y ∷ ys → drop (suc e) xs ≡ ys
+drop-more [] zero y ys h = absurd (no-list h)
+  where
+    no-list : {z : ℕ} {zs : List ℕ} → [] ≡ z ∷ zs → ⊥
+    no-list q = let n : _≡_ {A = ℕ} 0 1 = cc in omega arith
+drop-more [] (suc e) y ys h = absurd (no-list h)
+  where
+    no-list : {z : ℕ} {zs : List ℕ} → [] ≡ z ∷ zs → ⊥
+    no-list q = let n : _≡_ {A = ℕ} 0 1 = cc in omega arith
+drop-more (x ∷ xs) zero y ys h = cc
+drop-more (x ∷ xs) (suc e) y ys h = drop-more xs e y ys h
+
+-- events after the last one: no scheduler is number 0
+none-owned : (labels : List ℕ) (p : ℕ) (w : List ℕ) (e : ℕ) → withoutOwned (inGroup labels p) 0 w e ≡ w
+unfolding withoutOwned
+none-owned labels p w e = if-no _ _ refl
+
+past-last : (labels : List ℕ) (p : ℕ) (os w : List ℕ) (e d : ℕ) → length os ≤ e
+    → withoutEvents (inGroup labels p) os w (d + e) ≡ withoutEvents (inGroup labels p) os w e
+unfolding withoutEvents
+past-last labels p os w e zero l =
+    let z : 0 + e ≡ e = omega arith in ap (withoutEvents (inGroup labels p) os w) z
+past-last labels p os w e (suc d) l =
+    let z : suc d + e ≡ suc (d + e) = omega arith in
+    ap (withoutEvents (inGroup labels p) os w) z
+    ∙ ap (λ (o : ℕ). withoutOwned (inGroup labels p) o (withoutEvents (inGroup labels p) os w (d + e)) (d + e))
+    (List·getD-eq-default os 0 {n = d + e} (omega arith))
+    ∙ none-owned labels p _ (d + e) ∙ past-last labels p os w e d l
+
+module _ (frames labels w : List ℕ) (p n : ℕ) where
+  abbrev os : List ℕ
+  os = eventsOf (framesOf frames)
+
+  pub clearing-start : Clearing frames labels w p n 0 0 w
+  unfolding withoutEvents
+  clearing-start =
+      record { few = omega arith; short = omega arith; others = refl; words = refl; long = refl }
+
+  module _ (e i : ℕ) (v : List ℕ) (t : Clearing frames labels w p n e i v) where
+    module _ (l : i < length frames) (b : Bool)
+        (k : b ≡ isEvent (frameOfWord (getD frames i 0) .kind)) where
+      abbrev f : Frame
+      f = frameOfWord (getD frames i 0)
+
+      here : {d : Bool} → b ≡ d → keepIf d (f .s) (eventsOf (drop (i + 1) (framesOf frames))) ≡ drop e os
+      unfolding eventsOf
+      here h =
+          ap (λ (d : Bool). keepIf d (f .s) (eventsOf (drop (i + 1) (framesOf frames)))) (sym (sym k ∙ h))
+          ∙ ap eventsOf (sym (next-frame frames i f l refl)) ∙ t .others
+
+      pub clearing-other : b ≡ false → Clearing frames labels w p n e (i + 1) v
+      clearing-other h =
+          record { few = t .few; short = omega arith; others = here h; words = t .words; long = t .long }
+
+      pub clearing-event : (g : Frame) (u : List ℕ) → g ≡ frameOfWord (getD frames i 0) → b ≡ true → e < n
+          → u ≡ withoutOwned (inGroup labels p) (g .s) v e → Clearing frames labels w p n (e + 1) (i + 1) u
+      unfolding withoutEvents
+      clearing-event g u d h m q =
+          record {
+            few = omega arith;
+            short = omega arith;
+            others = sym (ap (λ (x : ℕ). drop x os) (add-one e) ∙ drop-more os e (f .s) _ (sym (here h)));
+            words = now-is ∙ ap (withoutEvents (inGroup labels p) os w) (sym (add-one e));
+            long = ap length now-is ∙ cleared-length (inGroup labels p) os w (suc e);
+          }
+        where
+          owner-is : f .s ≡ getD os e 0
+          owner-is =
+              let z : e + 0 ≡ e = omega arith in
+              ap (λ (xs : List ℕ). getD xs 0 0) (here h) ∙ getD-drop e os 0 0
+              ∙ ap (λ (x : ℕ). getD os x 0) z
+
+          now-is : u ≡ withoutEvents (inGroup labels p) os w (suc e)
+          now-is =
+              q ∙ ap₂ (λ (o : ℕ) (x : List ℕ). withoutOwned (inGroup labels p) o x e)
+              (ap (λ (x : Frame). x .s) d ∙ owner-is) (t .words)
+
+    pub clearing-done : (m : ℕ) → n ≡ m → n ≤ e → v ≡ withoutEvents (inGroup labels p) os w m
+    clearing-done m q l =
+        let a = t .few in
+        let z : e ≡ m = omega arith in
+        t .words ∙ ap (withoutEvents (inGroup labels p) os w) z
+
+    pub clearing-end : (m : ℕ) → n ≡ m → length frames ≤ i → v ≡ withoutEvents (inGroup labels p) os w m
+    unfolding eventsOf
+    clearing-end m q l =
+        let a = t .few in
+        let z : m - e + e ≡ m = omega arith in
+        let c = ap length (sym (ap eventsOf (frames-end frames i l)) ∙ t .others) in
+        let d = length-drop e os in
+        t .words ∙ sym (past-last labels p os w e (m - e) (omega arith))
+        ∙ ap (withoutEvents (inGroup labels p) os w) z
+
 -- ---- what they say
 
 -- a word of no event
 module _ (c : ℕ → Bool) (os w : List ℕ) where
   one-out : (e i : ℕ) → (i ≡ 4562 + e → ⊥) → getD (withoutEvent c os w e) i 0 ≡ getD w i 0
-  unfolding withoutEvent
+  unfolding withoutOwned
   one-out e i f =
       if-all (λ (v : List ℕ). getD v i 0 ≡ getD w i 0) (c (getD os e 0)) _ _
       (λ _. getD-set-other w (4562 + e) i 0 0 f) (λ _. refl)
@@ -111,7 +191,7 @@ clearedWord c os e x = if c (getD os e 0) then 0 else x
 
 one-in : (c : ℕ → Bool) (os w : List ℕ) (e : ℕ) → 4562 + e < length w
     → getD (withoutEvent c os w e) (4562 + e) 0 ≡ clearedWord c os e (getD w (4562 + e) 0)
-unfolding withoutEvent clearedWord if_then_else_
+unfolding withoutOwned clearedWord if_then_else_
 one-in c os w e l = by (c (getD os e 0))
   where
     by : (b : Bool)

@@ -2,9 +2,11 @@
 use language::Place;
 use language::group::LABELS;
 use language::group::is_member;
+use language::kind::DeclarationKind;
 use machine::offset::EVENTS_AT;
-use program::event::event_at;
 use program::frames::frame_at;
+use program::group::line_declares;
+use text::line::frame_of_word;
 ghost use mathlib.Core.Path.{_≡_};
 ghost use Prim.Native.Nat.{_+_, _<_, _≤_};
 ghost use lib.Dec.{eqb};
@@ -17,7 +19,7 @@ ghost use Rattle.text.specs.Frames.{framesOf};
 ghost use Rattle.program.specs.Trees.{frameAt};
 ghost use Rattle.program.specs.Programs.{eventsOf};
 ghost use Rattle.machine.specs.Offsets.{stateLength, eventsAt};
-ghost use Rattle.states.specs.inner.Events.{withoutEvent, withoutEvents};
+ghost use Rattle.states.specs.inner.Events.{withoutOwned, withoutEvents};
 
 pub fn is_present(state: &[u64], e: u8) -> bool
     requires { ⌜ (length (now state) ≡ stateLength) × (e < mostEvents) ⌝ }
@@ -33,19 +35,18 @@ pub fn set_present(state: &mut [u64], e: u8)
     state[EVENTS_AT + e as usize] = 1;
 }
 
-// Whose event e is, is asked only where it is present.
-fn clear_event(frames: &[u64], labels: &[u8; LABELS], state: &mut [u64], q: Place, e: u8)
+// Event e of that owner is no longer present, if the owner is in step with the scheduler.
+fn clear_event(labels: &[u8; LABELS], state: &mut [u64], q: Place, owner: u8, e: u8)
     requires { ⌜ (length (now state) ≡ stateLength) × (e < mostEvents)
         × (length (now labels) ≡ mostSchedulers) × (isScheduler (q .number) ≡ true) ⌝ }
-    ensures { λ _. ⌜ now (state .exit) ≡ withoutEvent (inGroup (now (labels .entry)) (q .number))
-        (eventsOf (framesOf (now (frames .entry)))) (now (state .entry)) e ⌝ }
+    ensures { λ _. ⌜ now (state .exit) ≡ withoutOwned (inGroup (now (labels .entry)) (q .number))
+        owner (now (state .entry)) e ⌝ }
 {
     let at = EVENTS_AT + e as usize;
     if state[at] == 0 {
         return;
     }
-    let event = event_at(frames, e);
-    if !is_member(labels, q, event.owner) {
+    if !is_member(labels, q, owner) {
         return;
     }
     state[at] = 0;
@@ -60,7 +61,8 @@ fn event_count(frames: &[u64]) -> u8
     (frame_at(frames, 0).c % 256) as u8
 }
 
-// The events of the scheduler and of those in step with it are no longer present.
+// The events of the scheduler and of those in step with it are no longer present: one pass over the
+// lines up to the last event.
 pub fn clear_events(frames: &[u64], labels: &[u8; LABELS], state: &mut [u64], q: Place)
     requires { ⌜ (length (now state) ≡ stateLength) × (0 < length (now frames))
         × (frameAt (framesOf (now frames)) 0 .c ≤ mostEvents)
@@ -71,8 +73,17 @@ pub fn clear_events(frames: &[u64], labels: &[u8; LABELS], state: &mut [u64], q:
 {
     let events = event_count(frames);
     let mut e: u8 = 0;
-    while e < events {
-        clear_event(frames, labels, state, q, e);
-        e += 1;
+    let mut i: usize = 0;
+    while i < frames.len() {
+        if events <= e {
+            return;
+        }
+        let line = frames[i];
+        i += 1;
+        if line_declares(DeclarationKind::Event, line) {
+            let f = frame_of_word(line);
+            clear_event(labels, state, q, f.s, e);
+            e += 1;
+        }
     }
 }

@@ -7,9 +7,13 @@ use lib.ListN.{getD, set}
 use Rattle.basics.specs.If.{if_then_else_}
 use Rattle.machine.specs.Offsets.{eventsAt}
 
--- event e, of the owners os, is not present if its owner passes the test
-unfoldable pub withoutEvent : (ℕ → Bool) → List ℕ → List ℕ → ℕ → List ℕ
-withoutEvent test os w e = if test (getD os e 0) then set w (eventsAt + e) 0 else w
+-- event e, of the owner o, is not present if o passes the test
+unfoldable pub withoutOwned : (ℕ → Bool) → ℕ → List ℕ → ℕ → List ℕ
+withoutOwned test o w e = if test o then set w (eventsAt + e) 0 else w
+
+-- event e, of the owners os
+abbrev pub withoutEvent : (ℕ → Bool) → List ℕ → List ℕ → ℕ → List ℕ
+withoutEvent test os w e = withoutOwned test (getD os e 0) w e
 
 -- the first n events
 unfoldable pub withoutEvents : (ℕ → Bool) → List ℕ → List ℕ → ℕ → List ℕ

@@ -14,16 +14,13 @@ slice-read-if1 : tie.Need-slice-read-if1
 slice-read-if1 c = search needs
 
 returns : tie.Need-returns
-returns c = search (absent-stays, other-stays, own-cleared)
-
-event-at-requires : tie.Need-event-at-requires
-event-at-requires c κs = search needs
+returns c = search absent-stays
 
 is-member-requires : tie.Need-is-member-requires
 is-member-requires c κs = search needs
 
 returns-2 : tie.Need-returns-2
-returns-2 c = search (absent-stays, other-stays, own-cleared)
+returns-2 c = search other-stays
 
 mul-state : tie.Need-mul-state
 mul-state c = search needs
@@ -35,7 +32,7 @@ same-length : tie.Need-same-length
 same-length c = search needs
 
 returns-3 : tie.Need-returns-3
-returns-3 c = search (absent-stays, other-stays, own-cleared)
+returns-3 c = search own-cleared
 
 pub clear-event-spec : {M : Type 1} → statement M
 clear-event-spec =
@@ -45,7 +42,6 @@ clear-event-spec =
     mul-if1
     slice-read-if1
     returns
-    event-at-requires
     is-member-requires
     returns-2
     mul-state
