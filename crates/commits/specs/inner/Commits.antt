@@ -172,8 +172,8 @@ presentIn w e = eqb (getD w (eventsAt + e) 0) 1
 abbrev pub awaitRoomIn : List ℕ → ℕ → ℕ → Bool
 awaitRoomIn w place e = presentIn w e || eqb place private || roomIn w place 1
 
--- what stands in the way of a generation or an await of the event so found, at that place: a missing
--- event and a list without room are 20, another's event is 19; 0 is neither
+-- what stands in the way of a generation or an await of the event so found, at that place: a
+-- missing event and a list without room are 20, another's event is 19; 0 is neither
 unfoldable pub signalObstacle : Grouping → Bool → EventFound → ℕ → ℕ
 signalObstacle g room event place =
     if not (event .there) then stuck else
