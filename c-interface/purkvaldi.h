@@ -28,8 +28,9 @@ extern "C" {
 #define PURKVALDI_STATE_WORDS 4834
 #define PURKVALDI_LISTING_BYTES 311309
 
-/* A code: the number of document 01 above 16 bits, 0 where nothing is refused; below them the frame
- * that a refusal of the text (1 to 13, 21) names, or, of a step, the acting thread (0: none). */
+/* A code: the refusal's number (documents 01 and 02) above 16 bits, 0 where nothing is refused; in
+ * them the frame that a refusal of the text (1 to 13, 21) names, or, of a step, the acting thread
+ * (0: none). */
 #define PURKVALDI_NUMBER(code) ((code) >> 16)
 #define PURKVALDI_DETAIL(code) ((code) & 0xFFFFu)
 
@@ -60,8 +61,8 @@ uint32_t purkvaldi_fresh(const uint8_t *text, size_t length, uint64_t *state, si
 /* One choice: 2 to 9 a scheduler, 16 + t the unlinked thread t. In the low 32 bits its code: number
  * 0 where it is done; else the text's refusal 1 to 7, 14 (the words are no state of this file), 15
  * no such party, 16 nothing to do (or not yet: a scheduler in step has an active thread), 17 or 18
- * spent, 19 foreign, 20 stuck. A refusal writes nothing. Of a text that the check accepts, 19 and
- * 20 never come from a state that began fresh. Above the code, its accesses
+ * spent, 19 foreign, 20 stuck. A refusal leaves every word as it was. Of a text that the check
+ * accepts, 19 and 20 never come from a state that began fresh. Above the code, its accesses
  * (PURKVALDI_ACCESSES). */
 uint64_t purkvaldi_step(const uint8_t *text, size_t length, uint64_t *state, size_t words,
                         uint64_t choice);
@@ -87,8 +88,9 @@ size_t purkvaldi_listing_length(void);
  * code is that of the text's refusal 1 to 7, whatever the buffers' lengths; else that of 14 where
  * `state` or `out` has another length than the listing needs; else 0. Where a needed length is
  * wrong, nothing is written and the size is 0. The listing begins with the check's line; after a
- * refusal 1 to 7 it has no other, and needs only `out`: `state` may have any length. Where choices
- * were stepped, `state` is the fresh state stepped through those used, else it is as it was. */
+ * refusal 1 to 7 it has no other, and needs only `out`: `state` may have any length. Where its last
+ * line counts the choices used, `state` is the fresh state stepped through these, be there none;
+ * else it is as it was. */
 uint64_t purkvaldi_run(const uint8_t *text, size_t length, const uint8_t *choices,
                        size_t choices_length, uint64_t *state, size_t words, uint8_t *out,
                        size_t out_length);

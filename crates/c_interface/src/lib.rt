@@ -104,7 +104,8 @@ pub extern "C" fn purkvaldi_fresh(text: &[u8], state: &mut [u64]) -> u32
 
 // One choice: the acting thread where it is done, 0 where none acts, and above 32 bits how many
 // cells it read, stored in and made; else the number of the refusal above 16 bits, and in them the
-// frame of a refusal 1 to 7 or the acting thread of one above. A refusal writes nothing.
+// frame of a refusal 1 to 7 or the acting thread of one above. A refusal leaves every word as it
+// was.
 #[no_mangle]
 pub extern "C" fn purkvaldi_step(text: &[u8], state: &mut [u64], choice: u64) -> u64
     ensures { λ r. ⌜ coded r (now (state .exit))
@@ -149,8 +150,8 @@ fn listing_code(a: Answer, length: u32) -> u64
 // The listing of a run, in the first bytes of `out`: in the low 32 bits how many they are, 0 where
 // nothing is written; above them the code of the text's refusal 1 to 7, whatever the lengths, else
 // of 14 where a buffer has another length than the listing needs, else 0. The line of a refusal 1
-// to 7 is in `out` where `out` has its length. `choices` are the bytes of choices.txt; the state
-// after the run is in `state` where choices were stepped.
+// to 7 is in `out` where `out` has its length. `choices` are the bytes of choices.txt; where
+// the listing's last line counts those used, `state` is the state after them, be there none.
 #[no_mangle]
 pub extern "C" fn purkvaldi_run(
     text: &[u8],

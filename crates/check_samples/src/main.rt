@@ -1,4 +1,4 @@
-// The check on many files: the bench samples of document 01 that concern it, and the vectors. For
+// The check on many files: the bench samples of document 01 that concern it, and its vectors. For
 // each of data/000 to data/297 it prints the file's name and the check's line; the report is
 // compared with the stored one.
 use files::print;

@@ -9,8 +9,8 @@ use Rattle.program.specs.Programs.{programOf}
 use Rattle.layout.specs.{Faults.NoFault, Faults.FirstFault, LaidOut.afterReading}
 use Rattle.rules.specs.{Rules.Keeps, Broken.FirstBroken, inner.Checking.rulesOf}
 
--- `HasVerdict bs v`: what document 01 says of the text bs. No checker is named here: 'The check's
--- promise is the rules themselves, written without the checker.'
+-- `HasVerdict bs v`: what documents 01 and 02 say of the text bs. No checker is named here: 'The
+-- check's promise is the rules themselves, written without the checker.'
 pub data HasVerdict : List ℕ → Verdict → Type 0 where
   -- 1 to 3
   text : {bs : List ℕ} {n j : ℕ} → Reads bs (refused n j) → HasVerdict bs (Rejected n j)

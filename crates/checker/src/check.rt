@@ -25,7 +25,7 @@ pub fn rules_of(frames: &[u64]) -> Verdict
     modules_rule(frames, &types[..n], &labels)
 }
 
-// What document 01 says of any bytes: the one verdict that the rules give, and no other.
+// What documents 01 and 02 say of any bytes: the one verdict that the rules give, and no other.
 pub fn check(text: &[u8]) -> Verdict
     ensures computed { λ r. ⌜ r ≡ verdict (now (text .entry)) ⌝ }
     ensures promised { λ r. ⌜ Checked (now (text .entry)) r ⌝ }

@@ -8,12 +8,10 @@ use mathlib.Core.Bool.{Bool, true, false, _&&_, not}
 use native.Mathlib.Omega.{arith}
 use lib.ListN.{getD, length}
 use lib.Dec.{eqb}
-use lib.Dec.{leb}
 use borrow.Author.Tests.{eqb-true, not-false}
-use borrow.Author.Tests.{leb-true, ltb-true}
+use borrow.Author.Tests.{ltb-true}
 use Rattle.basics.specs.If.{if_then_else_}
 use Rattle.basics.proofs.Ifs.{yes, no, if-no, if-all}
-use Rattle.basics.proofs.Ifs.{and-true}
 use Rattle.language.specs.declared.Place.{Place}
 use Rattle.program.specs.Programs.{Program}
 use Rattle.program.specs.inner.Modules.{foundIn}
@@ -38,7 +36,8 @@ use Rattle.commits.specs.inner.Commits.{roomIn, joinedIn, joinsIn, newTh
 use Rattle.commits.specs.inner.Commits.{refusesIn, startsIn, committedIn, placeAfter}
 use Rattle.commits.specs.inner.Commits.{startTested, startDecided, decidedIn, followedIn}
 use Rattle.commits.specs.inner.Commits.{CommitWords, StartWords, Follows, Grouping}
-use Rattle.commits.specs.inner.Commits.{presentIn, generateObstacle, awaitObstacle}
+use Rattle.commits.specs.inner.Commits.{presentIn, wakeRoomIn, awaitRoomIn}
+use Rattle.commits.specs.inner.Commits.{generateObstacle, awaitObstacle}
 use Rattle.commits.specs.inner.Commits.{generatedIn, generatesIn, awaitingIn, awaitsIn}
 use Rattle.commits.specs.inner.Commits.{generateTested, awaitTested, WakeWords}
 use Rattle.commits.proofs.ChangeLaws.{popped-wide, changed-wide, place-is}
@@ -49,9 +48,9 @@ use Rattle.commits.proofs.FollowLaws.{wake-is}
 use Rattle.language.specs.Places.{isScheduler}
 use Rattle.program.specs.inner.Events.{eventIn}
 use Rattle.program.specs.declared.event.EventFound.{EventFound}
-use Rattle.lists.specs.inner.Lists.{isAwaitingWord, activeWith}
+use Rattle.lists.specs.inner.Lists.{isAwaitingWord}
 use Rattle.machine.proofs.WordLaws.{pasted-out}
-use Rattle.commits.proofs.SignalLaws.{generate-allowed, await-allowed, wake-room-is}
+use Rattle.commits.proofs.SignalLaws.{signal-allowed, wake-room-is}
 use Rattle.commits.proofs.SignalLaws.{same-group}
 use Rattle.lists.proofs.MovedLaws.{active-same}
 use Rattle.lists.specs.inner.Lists.{ListsFit}
@@ -249,7 +248,8 @@ module _ (p : Program) (G : Grouping) (w : List ℕ) (before c t : ℕ) (a : Act
       → WakeWords G words place e
   unfolding eventIn
   wake-sound e z =
-      let g = generate-allowed G w (eventIn p e) (place .number) e z in
+      let x = eventIn p e in
+      let g = signal-allowed G (wakeRoomIn G w (x .owner) e) x (place .number) z in
       let y = g .1 in
       let n = ltb-true e (length (p .events)) (y .there) in
       let m = h .events in
@@ -283,7 +283,8 @@ module _ (p : Program) (G : Grouping) (w : List ℕ) (before c t : ℕ) (a : Act
       let o = awaitObstacle G w (eventIn p e) (place .number) e in
       if-all Sound (not (eqb o 0)) _ _ (λ _. tt)
       (λ f. if-all Sound (presentIn w e) (Settle Keep) (Suspend place e) (λ _. tt)
-      (λ _. await-allowed G w (eventIn p e) (place .number) e (eqb-true o 0 (not-false (eqb o 0) f)) .scheduler))
+      (λ _. signal-allowed G (awaitRoomIn w (place .number) e) (eventIn p e) (place .number)
+      (eqb-true o 0 (not-false (eqb o 0) f)) .1 .scheduler))
 
   decided-sound : (f : Transition) → Sound (decidedIn p G w t a f)
   decided-sound (Refused n) = tt

@@ -1,19 +1,20 @@
 -- Events: what stands in the way of a generation and of an await, test by test, and what follows
 -- where nothing does. Assumes nothing.
-use Prim.Native.Nat.{ℕ, zero, suc, _+_, _*_, _-_, _<_, _≤_}
-use mathlib.Core.Path.{_≡_, refl, sym, ap, ap₂, _∙_, subst}
-use mathlib.Core.List.{List, [], _∷_}
+use Prim.Native.Nat.{ℕ, _+_, _*_, _-_, _<_, _≤_}
+use mathlib.Core.Path.{_≡_, refl, sym, ap, ap₂, _∙_}
+use mathlib.Core.List.{List}
 use mathlib.Core.Bool.{Bool, true, false, _&&_, _||_, not}
 use native.Mathlib.Omega.{arith}
-use lib.ListN.{getD, length}
+use lib.ListN.{length}
 use lib.ListN.{set}
-use lib.Dec.{leb, eqb, ltb}
-use borrow.Author.Tests.{leb-true, eqb-true, eq-eqb, ne-eqb, not-true, not-false, ltb-true}
+use lib.Dec.{eqb, ltb}
+use borrow.Author.Tests.{eqb-true, eq-eqb, ne-eqb, not-true, not-false, ltb-true}
+use Rattle.basics.specs.If.{if_then_else_}
 use Rattle.basics.proofs.Ifs.{yes, no, if-all, and-true}
-use Rattle.language.specs.Places.{private, home, isScheduler}
+use Rattle.language.specs.Places.{private, isScheduler}
 use Rattle.language.specs.declared.Place.{Place}
 use Rattle.language.specs.declared.frame.Frame.{Frame}
-use Rattle.program.specs.Programs.{Program, programOf, eventsOf}
+use Rattle.program.specs.Programs.{programOf, eventsOf}
 use Rattle.program.specs.inner.Events.{eventIn}
 use Rattle.program.specs.declared.event.EventFound.{EventFound}
 use Rattle.language.specs.inner.Labels.{labelAt, sameLabel, inGroup}
@@ -23,7 +24,8 @@ use Rattle.commits.specs.declared.decision.Passed.the-variants.{Keep, Wa
 use Rattle.commits.specs.declared.decision.Decision.{Decision}
 use Rattle.commits.specs.declared.decision.Decision.the-variants.{Refuse, Settle, Suspend}
 use Rattle.commits.specs.inner.Commits.{roomIn, ownsEvent, wakeRoomIn, presentIn}
-use Rattle.commits.specs.inner.Commits.{generateObstacle, awaitObstacle, generateTested}
+use Rattle.commits.specs.inner.Commits.{awaitRoomIn, signalObstacle, generateObstacle}
+use Rattle.commits.specs.inner.Commits.{awaitObstacle, generateTested}
 use Rattle.commits.specs.inner.Commits.{awaitTested, Grouping, grouping, membersBy}
 use Rattle.commits.specs.inner.Commits.{GroupingFits}
 use Rattle.commits.specs.inner.Commits.{leftIn, joinedIn, generatedIn, awaitingIn}
@@ -69,82 +71,81 @@ owner-group labels n o x q r h f =
     let z = read-at (isScheduler o) o q (sym r ∙ h) in
     record { labelled = f .labelled; scheduler = ap isScheduler (z .1) ∙ z .0; few = f .few }
 
--- ---- `generate_obstacle`: r is whether there is room, o whether the event is one's own
-module _ (G : Grouping) (w : List ℕ) (x : EventFound) (p e : ℕ) where
-  pub generate-missing : not (x .there) ≡ true → 20 ≡ generateObstacle G w x p e
-  unfolding generateObstacle
-  generate-missing h = yes _ h refl
+-- ---- `signal_obstacle`: r is whether there is room, o whether the event is one's own
+module _ (G : Grouping) (r : Bool) (x : EventFound) (p : ℕ) where
+  pub signal-missing : not (x .there) ≡ true → 20 ≡ signalObstacle G r x p
+  unfolding signalObstacle
+  signal-missing h = yes _ h refl
 
-  module _ (r : Bool) (k : r ≡ wakeRoomIn G w (x .owner) e) (h : not (x .there) ≡ false) where
-    pub generate-full : not r ≡ true → 20 ≡ generateObstacle G w x p e
-    unfolding generateObstacle
-    generate-full a = no _ h (yes _ (ap not (sym k) ∙ a) refl)
-
-    module _ (o : Bool) (g : o ≡ ownsEvent G p (x .owner)) (a : not r ≡ false) where
-      pub generate-foreign : not o ≡ true → 19 ≡ generateObstacle G w x p e
-      unfolding generateObstacle
-      generate-foreign b = no _ h (no _ (ap not (sym k) ∙ a) (yes _ (ap not (sym g) ∙ b) refl))
-
-      pub generate-free : not o ≡ false → 0 ≡ generateObstacle G w x p e
-      unfolding generateObstacle
-      generate-free b = no _ h (no _ (ap not (sym k) ∙ a) (no _ (ap not (sym g) ∙ b) refl))
-
-pub ruleset generate-laws = (generate-missing, generate-full, generate-foreign, generate-free)
-
--- ---- `has_await_room`
-module _ (w : List ℕ) (p : ℕ) (b : Bool) where
-  pub await-present : b ≡ true → true ≡ (b || eqb p private || roomIn w p 1)
-  await-present h = rw h
-
-  module _ (y : Bool) (z : y ≡ eqb p private) (h : b ≡ false) where
-    pub await-unlinked : y ≡ true → true ≡ (b || eqb p private || roomIn w p 1)
-    await-unlinked a = rw (h, sym z ∙ a)
-
-    pub await-list : (r : Bool) → y ≡ false → r ≡ roomIn w p 1
-        → r ≡ (b || eqb p private || roomIn w p 1)
-    await-list r a k = rw (h, sym z ∙ a) k
-
-pub ruleset await-room-laws = (await-present, await-unlinked, await-list)
-
--- ---- `await_obstacle`
-module _ (G : Grouping) (w : List ℕ) (x : EventFound) (p e : ℕ) where
-  pub await-missing : not (x .there) ≡ true → 20 ≡ awaitObstacle G w x p e
-  unfolding awaitObstacle
-  await-missing h = yes _ h refl
-
-  module _ (b r : Bool) (q : b ≡ presentIn w e) (k : r ≡ (b || eqb p private || roomIn w p 1))
-      (h : not (x .there) ≡ false) where
-    room-as : {c : Bool} → not r ≡ c
-        → not (presentIn w e || eqb p private || roomIn w p 1) ≡ c
-    room-as a = ap (λ (d : Bool). not (d || eqb p private || roomIn w p 1)) (sym q) ∙ ap not (sym k) ∙ a
-
-    pub await-full : not r ≡ true → 20 ≡ awaitObstacle G w x p e
-    unfolding awaitObstacle
-    await-full a = no _ h (yes _ (room-as a) refl)
+  module _ (h : not (x .there) ≡ false) where
+    pub signal-full : not r ≡ true → 20 ≡ signalObstacle G r x p
+    unfolding signalObstacle
+    signal-full a = no _ h (yes _ a refl)
 
     module _ (o : Bool) (g : o ≡ ownsEvent G p (x .owner)) (a : not r ≡ false) where
-      pub await-foreign : not o ≡ true → 19 ≡ awaitObstacle G w x p e
-      unfolding awaitObstacle
-      await-foreign b = no _ h (no _ (room-as a) (yes _ (ap not (sym g) ∙ b) refl))
+      pub signal-foreign : not o ≡ true → 19 ≡ signalObstacle G r x p
+      unfolding signalObstacle
+      signal-foreign b = no _ h (no _ a (yes _ (ap not (sym g) ∙ b) refl))
 
-      pub await-free : not o ≡ false → 0 ≡ awaitObstacle G w x p e
-      unfolding awaitObstacle
-      await-free b = no _ h (no _ (room-as a) (no _ (ap not (sym g) ∙ b) refl))
+      pub signal-free : not o ≡ false → 0 ≡ signalObstacle G r x p
+      unfolding signalObstacle
+      signal-free b = no _ h (no _ a (no _ (ap not (sym g) ∙ b) refl))
 
-pub ruleset await-laws = (await-missing, await-full, await-foreign, await-free)
+  -- whether there is room does not matter where the event is missing
+  room-there : signalObstacle G (x .there && r) x p ≡ signalObstacle G r x p
+  unfolding signalObstacle if_then_else_
+  room-there = by (x .there) (if not (ownsEvent G p (x .owner)) then 19 else 0)
+    where
+      by : (t : Bool) (n : ℕ)
+          → (if not t then 20 else if not (t && r) then 20 else n)
+          ≡ (if not t then 20 else if not r then 20 else n)
+      by true n = refl
+      by false n = refl
 
--- ---- what is decided; n is what stands in the way
-module _ (G : Grouping) (w : List ℕ) (x y : EventFound) (q : Place) (e n : ℕ) (found : x ≡ y)
-    (f : n ≡ generateObstacle G w x (q .number) e) where
+pub ruleset signal-laws = (signal-missing, signal-full, signal-foreign, signal-free)
+
+-- ---- `has_await_room`: b is whether the event is present
+module _ (w : List ℕ) (x : EventFound) (p e : ℕ) where
+  pub await-missing : not (x .there) ≡ true → false ≡ (x .there && awaitRoomIn w p e)
+  await-missing h = rw (not-true (x .there) h)
+
+  module _ (b : Bool) (h : not (x .there) ≡ false) (k : b ≡ presentIn w e) where
+    await-there : {r : Bool} → r ≡ (b || eqb p private || roomIn w p 1)
+        → r ≡ (x .there && awaitRoomIn w p e)
+    await-there q =
+        q ∙ ap₂ (λ (t c : Bool). t && (c || eqb p private || roomIn w p 1))
+        (sym (not-false (x .there) h)) k
+
+    pub await-present : b ≡ true → true ≡ (x .there && awaitRoomIn w p e)
+    await-present a = await-there (rw a)
+
+    module _ (y : Bool) (z : y ≡ eqb p private) (a : b ≡ false) where
+      pub await-unlinked : y ≡ true → true ≡ (x .there && awaitRoomIn w p e)
+      await-unlinked c = await-there (rw (a, sym z ∙ c))
+
+      pub await-list : (r : Bool) → y ≡ false → r ≡ roomIn w p 1
+          → r ≡ (x .there && awaitRoomIn w p e)
+      await-list r c d = await-there (rw (a, sym z ∙ c) d)
+
+pub ruleset await-room-laws = (await-missing, await-present, await-unlinked, await-list)
+
+-- ---- what is decided; r is whether there is room, n is what stands in the way
+module _ (G : Grouping) (w : List ℕ) (x y : EventFound) (q : Place) (e n : ℕ) (r : Bool)
+    (found : x ≡ y) (k : r ≡ wakeRoomIn G w (x .owner) e)
+    (f : n ≡ signalObstacle G r x (q .number)) where
+  generate-no : n ≡ generateObstacle G w x (q .number) e
+  generate-no = f ∙ ap (λ (b : Bool). signalObstacle G b x (q .number)) k
+
   generate-as : (c : Bool) → eqb n 0 ≡ c → not (eqb (generateObstacle G w x (q .number) e) 0) ≡ not c
-  generate-as c h = ap (λ (i : ℕ). not (eqb i 0)) (sym f) ∙ ap not h
+  generate-as c h = ap (λ (i : ℕ). not (eqb i 0)) (sym generate-no) ∙ ap not h
 
   generate-for : (d : Decision) → d ≡ generateTested G w x q e → d ≡ generateTested G w y q e
   generate-for d h = h ∙ ap (λ (z : EventFound). generateTested G w z q e) found
 
   pub decide-no-generate : (n ≡ 0 → ⊥) → Refuse n ≡ generateTested G w y q e
   unfolding generateTested
-  decide-no-generate h = generate-for _ (yes _ (generate-as false (ne-eqb n 0 h)) (ap Refuse f))
+  decide-no-generate h =
+      generate-for _ (yes _ (generate-as false (ne-eqb n 0 h)) (ap Refuse generate-no))
 
   pub decide-generates : n ≡ 0 → Settle (Wake q e) ≡ generateTested G w y q e
   unfolding generateTested
@@ -152,26 +153,32 @@ module _ (G : Grouping) (w : List ℕ) (x y : EventFound) (q : Place) (e n : ℕ
 
 pub ruleset decide-generate-laws = (decide-no-generate, decide-generates)
 
-module _ (G : Grouping) (w : List ℕ) (x y : EventFound) (q : Place) (e n : ℕ) (found : x ≡ y)
-    (f : n ≡ awaitObstacle G w x (q .number) e) where
+module _ (G : Grouping) (w : List ℕ) (x y : EventFound) (q : Place) (e n : ℕ) (r : Bool)
+    (found : x ≡ y) (k : r ≡ (x .there && awaitRoomIn w (q .number) e))
+    (f : n ≡ signalObstacle G r x (q .number)) where
+  await-no : n ≡ awaitObstacle G w x (q .number) e
+  await-no =
+      f ∙ ap (λ (b : Bool). signalObstacle G b x (q .number)) k
+      ∙ room-there G (awaitRoomIn w (q .number) e) x (q .number)
+
   await-as : (c : Bool) → eqb n 0 ≡ c → not (eqb (awaitObstacle G w x (q .number) e) 0) ≡ not c
-  await-as c h = ap (λ (i : ℕ). not (eqb i 0)) (sym f) ∙ ap not h
+  await-as c h = ap (λ (i : ℕ). not (eqb i 0)) (sym await-no) ∙ ap not h
 
   await-for : (d : Decision) → d ≡ awaitTested G w x q e → d ≡ awaitTested G w y q e
   await-for d h = h ∙ ap (λ (z : EventFound). awaitTested G w z q e) found
 
   pub decide-no-await : (n ≡ 0 → ⊥) → Refuse n ≡ awaitTested G w y q e
   unfolding awaitTested
-  decide-no-await h = await-for _ (yes _ (await-as false (ne-eqb n 0 h)) (ap Refuse f))
+  decide-no-await h = await-for _ (yes _ (await-as false (ne-eqb n 0 h)) (ap Refuse await-no))
 
-  module _ (b : Bool) (k : b ≡ presentIn w e) (h : n ≡ 0) where
+  module _ (b : Bool) (j : b ≡ presentIn w e) (h : n ≡ 0) where
     pub decide-passes : b ≡ true → Settle Keep ≡ awaitTested G w y q e
     unfolding awaitTested
-    decide-passes a = await-for _ (no _ (await-as true (eq-eqb n 0 h)) (yes _ (sym k ∙ a) refl))
+    decide-passes a = await-for _ (no _ (await-as true (eq-eqb n 0 h)) (yes _ (sym j ∙ a) refl))
 
     pub decide-suspends : b ≡ false → Suspend q e ≡ awaitTested G w y q e
     unfolding awaitTested
-    decide-suspends a = await-for _ (no _ (await-as true (eq-eqb n 0 h)) (no _ (sym k ∙ a) refl))
+    decide-suspends a = await-for _ (no _ (await-as true (eq-eqb n 0 h)) (no _ (sym j ∙ a) refl))
 
 pub ruleset decide-await-laws = (decide-no-await, decide-passes, decide-suspends)
 
@@ -188,8 +195,8 @@ pub found-small : (e : ℕ) (x : EventFound) → (x .there ≡ true → e < 16)
     → not (x .there) ≡ false → e < 16
 found-small e x h n = h (not-false (x .there) n)
 
--- ---- where nothing stands in the way
-module _ (G : Grouping) (w : List ℕ) (x : EventFound) (p e : ℕ) where
+-- ---- where nothing stands in the way; r is whether there is room
+module _ (G : Grouping) (r : Bool) (x : EventFound) (p : ℕ) where
   pub record Allowed : Type 0 where
     pub there : x .there ≡ true
     pub scheduler : isScheduler p ≡ true
@@ -202,28 +209,15 @@ module _ (G : Grouping) (w : List ℕ) (x : EventFound) (p e : ℕ) where
       record { there = t; scheduler = a .0; owner = b .1 }
 
   abbrev Frees : ℕ → Type 0
-  Frees n = n ≡ 0 → (wakeRoomIn G w (x .owner) e ≡ true) × Allowed
+  Frees n = n ≡ 0 → (r ≡ true) × Allowed
 
-  pub generate-allowed : generateObstacle G w x p e ≡ 0
-      → (wakeRoomIn G w (x .owner) e ≡ true) × Allowed
-  unfolding generateObstacle
-  generate-allowed =
+  pub signal-allowed : signalObstacle G r x p ≡ 0 → (r ≡ true) × Allowed
+  unfolding signalObstacle
+  signal-allowed =
       if-all Frees (not (x .there)) 20 _ (λ _ z. absurd (omega arith))
-      (λ a. if-all Frees (not (wakeRoomIn G w (x .owner) e)) 20 _ (λ _ z. absurd (omega arith))
+      (λ a. if-all Frees (not r) 20 _ (λ _ z. absurd (omega arith))
       (λ b. if-all Frees (not (ownsEvent G p (x .owner))) 19 0 (λ _ z. absurd (omega arith))
       (λ c z. (not-false _ b, owns-is (not-false _ a) (not-false _ c)))))
-
-  abbrev Lets : ℕ → Type 0
-  Lets n = n ≡ 0 → Allowed
-
-  pub await-allowed : awaitObstacle G w x p e ≡ 0 → Allowed
-  unfolding awaitObstacle
-  await-allowed =
-      if-all Lets (not (x .there)) 20 _ (λ _ z. absurd (omega arith))
-      (λ a. if-all Lets (not (presentIn w e || eqb p private || roomIn w p 1)) 20 _
-      (λ _ z. absurd (omega arith))
-      (λ b. if-all Lets (not (ownsEvent G p (x .owner))) 19 0 (λ _ z. absurd (omega arith))
-      (λ c z. owns-is (not-false _ a) (not-false _ c))))
 
 -- the room that was found, on each member of the owner's group
 pub wake-room-is : (G : Grouping) (w : List ℕ) (o e : ℕ) → wakeRoomIn G w o e ≡ true
@@ -242,11 +236,11 @@ same-group labels p o j h k =
     ∙ eqb-true (labelAt labels p) (labelAt labels j) k)
 
 -- one that is awaited is there
-pub awaited-small : (G : Grouping) (fs : List Frame) (w : List ℕ) (e n : ℕ) (p : Place) (x : EventFound)
+pub awaited-small : (G : Grouping) (fs : List Frame) (e n : ℕ) (p : Place) (r : Bool) (x : EventFound)
     → x ≡ eventIn (programOf fs) e → length (eventsOf fs) ≤ 16
-    → n ≡ awaitObstacle G w x (p .number) e → n ≡ 0 → e < 16
-awaited-small G fs w e n p x q l f z =
-    event-small fs e x q l (await-allowed G w x (p .number) e (sym f ∙ z) .there)
+    → n ≡ signalObstacle G r x (p .number) → n ≡ 0 → e < 16
+awaited-small G fs e n p r x q l f z =
+    event-small fs e x q l (signal-allowed G r x (p .number) (sym f ∙ z) .1 .there)
 
 -- ---- `generate`, `suspend`
 pub generated-is : (G : Grouping) (w u v : List ℕ) (q e : ℕ) → u ≡ wokenOn (membersBy G q) e w

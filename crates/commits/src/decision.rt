@@ -32,8 +32,8 @@ ghost use Rattle.commits.specs.inner.Commits.{placeIn, startDecided, dec
 
 // What the lists do after a turn that nothing refuses. The thread keeps its entry; it leaves its
 // list; it leaves it and joins the next list of that scheduler. Or a thread of that body starts at
-// that scheduler with those arguments, and the starter waits for it or not. Or the event of that
-// scheduler is present, and who awaits it is active.
+// that scheduler with those arguments, and the starter waits for it or not. Or an event of that
+// scheduler's group is present, and who awaits it on a member is active.
 pub(crate) enum Passed {
     Keep,
     Leave,

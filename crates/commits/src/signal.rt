@@ -15,18 +15,16 @@ use program::event::event_at;
 use states::event::is_present;
 use states::event::set_present;
 ghost use mathlib.Core.Path.{_≡_};
-ghost use mathlib.Core.Bool.{true, _||_};
+ghost use mathlib.Core.Bool.{true, _&&_};
 ghost use Prim.Native.Nat.{_≤_, _<_};
-ghost use lib.Dec.{eqb};
 ghost use lib.ListN.{length};
-ghost use Rattle.language.specs.Places.{private};
 ghost use Rattle.language.specs.Limits.{mostEvents};
 ghost use Rattle.text.specs.Frames.{framesOf};
 ghost use Rattle.program.specs.Programs.{programOf, eventsOf};
 ghost use Rattle.program.specs.inner.Events.{eventIn};
 ghost use Rattle.machine.specs.Offsets.{stateLength};
-ghost use Rattle.commits.specs.inner.Commits.{ownsEvent, wakeRoomIn, presentIn, roomIn};
-ghost use Rattle.commits.specs.inner.Commits.{generateObstacle, awaitObstacle, generatedIn};
+ghost use Rattle.commits.specs.inner.Commits.{ownsEvent, wakeRoomIn, awaitRoomIn};
+ghost use Rattle.commits.specs.inner.Commits.{signalObstacle, generatedIn};
 ghost use Rattle.commits.specs.inner.Commits.{generateTested, awaitTested};
 ghost use Rattle.commits.specs.inner.Commits.{grouping, GroupingFits, WakeWords};
 ghost use Rattle.lists.specs.inner.Lists.{ListsFit};
@@ -56,24 +54,22 @@ fn has_wake_room(labels: &[u8; LABELS], schedulers: u8, state: &[u64], owner: u8
     }
 }
 
-// What stands in the way of a generation, missing before foreign; 0 where nothing does.
-fn generate_obstacle(
+// What stands in the way of a generation or an await, missing before foreign; 0 where nothing does.
+fn signal_obstacle(
     labels: &[u8; LABELS],
     schedulers: u8,
-    state: &[u64],
     event: EventFound,
     place: Place,
-    e: u8,
+    room: bool,
 ) -> u8
-    requires { ⌜ GroupingFits (grouping (now labels) schedulers)
-        × (length (now state) ≡ stateLength) × ListsFit (now state) ⌝ }
-    ensures { λ r. ⌜ r ≡ generateObstacle (grouping (now (labels .entry)) schedulers)
-        (now (state .entry)) event (place .number) e ⌝ }
+    requires { ⌜ GroupingFits (grouping (now labels) schedulers) ⌝ }
+    ensures { λ r. ⌜ r ≡ signalObstacle (grouping (now (labels .entry)) schedulers) room event
+        (place .number) ⌝ }
 {
     if !event.there {
         return STUCK;
     }
-    if !has_wake_room(labels, schedulers, state, event.owner, e) {
+    if !room {
         return STUCK;
     }
     if !owns(labels, schedulers, place, event.owner) {
@@ -98,53 +94,31 @@ pub(crate) fn decide_generate(
         (eventIn (programOf (framesOf (now (frames .entry)))) e) place e ⌝ }
 {
     let event = event_at(frames, e);
-    let no = generate_obstacle(labels, schedulers, state, event, place, e);
+    let room = has_wake_room(labels, schedulers, state, event.owner, e);
+    let no = signal_obstacle(labels, schedulers, event, place, room);
     if no != 0 {
         return Decision::Refuse(no);
     }
     Decision::Settle(Passed::Wake(place, e))
 }
 
-// A present event needs no room; an unlinked thread has no list, and is foreign.
-fn has_await_room(state: &[u64], place: Place, present: bool) -> bool
-    requires { ⌜ length (now state) ≡ stateLength ⌝ }
+// There is such an event, which is one of 16, and its await has room: of a present event none is
+// needed, and an unlinked thread, which has no list, is foreign.
+fn has_await_room(state: &[u64], event: EventFound, place: Place, e: u8) -> bool
+    requires { ⌜ (length (now state) ≡ stateLength) × (event .there ≡ true → e < mostEvents) ⌝ }
     ensures { λ r. ⌜ r
-        ≡ (present || eqb (place .number) private || roomIn (now (state .entry)) (place .number) 1)
-        ⌝ }
+        ≡ (event .there && awaitRoomIn (now (state .entry)) (place .number) e) ⌝ }
 {
-    if present {
+    if !event.there {
+        return false;
+    }
+    if is_present(state, e) {
         return true;
     }
     if place.is_private() {
         return true;
     }
     room_at(state, place, 1)
-}
-
-// What stands in the way of an await; an event that is there is one of 16.
-fn await_obstacle(
-    labels: &[u8; LABELS],
-    schedulers: u8,
-    state: &[u64],
-    event: EventFound,
-    place: Place,
-    e: u8,
-) -> u8
-    requires { ⌜ GroupingFits (grouping (now labels) schedulers)
-        × (length (now state) ≡ stateLength) × (event .there ≡ true → e < mostEvents) ⌝ }
-    ensures { λ r. ⌜ r ≡ awaitObstacle (grouping (now (labels .entry)) schedulers)
-        (now (state .entry)) event (place .number) e ⌝ }
-{
-    if !event.there {
-        return STUCK;
-    }
-    if !has_await_room(state, place, is_present(state, e)) {
-        return STUCK;
-    }
-    if !owns(labels, schedulers, place, event.owner) {
-        return FOREIGN;
-    }
-    0
 }
 
 // 1B, by a thread that stands at that place.
@@ -164,7 +138,8 @@ pub(crate) fn decide_await(
         (eventIn (programOf (framesOf (now (frames .entry)))) e) place e ⌝ }
 {
     let event = event_at(frames, e);
-    let no = await_obstacle(labels, schedulers, state, event, place, e);
+    let room = has_await_room(state, event, place, e);
+    let no = signal_obstacle(labels, schedulers, event, place, room);
     if no != 0 {
         return Decision::Refuse(no);
     }

@@ -1,11 +1,11 @@
 -- The writer's answer: the function gives one that `HasWriting` allows, and it is the only one.
 -- Assumes nothing.
-use mathlib.Core.Path.{_≡_, refl, sym, ap, subst, _∙_}
+use mathlib.Core.Path.{_≡_, refl, sym, ap, _∙_}
 use mathlib.Core.Logic.{_⊎_, inl, inr}
-use mathlib.Core.Bool.{Bool, true, false, true≢false}
+use mathlib.Core.Bool.{Bool, true, false}
 use mathlib.Core.List.{List}
 use mathlib.Core.Option.{Option, none, some}
-use Prim.Native.Nat.{ℕ, zero, suc, _≤_, _<_}
+use Prim.Native.Nat.{ℕ, suc, _≤_, _<_}
 use native.Mathlib.Omega.{arith}
 use native.Mathlib.Decide.{ℕ-discrete}
 use lib.Dec.{eqb, ltb}
@@ -26,7 +26,7 @@ use Rattle.layout.specs.Faults.{Fault, FirstFault}
 use Rattle.fields.specs.inner.Scans.{headerFault, fieldFault, rejectAt}
 use Rattle.layout.proofs.Searches.{Lowest, lowest-one}
 use Rattle.layout.proofs.Layouts.{header-low, field-low}
-use Rattle.drawing.specs.TreeFaults.{Below, TreeFault, ShapeFault}
+use Rattle.drawing.specs.TreeFaults.{Below, TreeFault}
 use Rattle.drawing.specs.Writings.{Writing, asWriting, LowestAt, NoneAt}
 use Rattle.drawing.specs.Writings.{NoEarly, Writable, rewritten, HasWriting}
 use Rattle.drawing.specs.inner.Finds.{treeFaultAt, shapeFaultAt, depthFaultAt, drawingVerdict}

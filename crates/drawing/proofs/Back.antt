@@ -1,18 +1,18 @@
 -- The lines of a tree, wherever they stand, are drawn as the tree. Assumes nothing.
-use mathlib.Core.Path.{_≡_, refl, sym, ap, ap₂, subst, _∙_}
+use mathlib.Core.Path.{_≡_, refl, ap, ap₂, _∙_}
 use mathlib.Core.List.{List, [], _∷_, _++_, append-assoc}
-use Prim.Native.Nat.{ℕ, zero, suc, _+_, _*_, _/_, _%_, _^_, _≤_, _<_, max}
+use Prim.Native.Nat.{ℕ, zero, suc, _+_, _/_, _^_, _≤_, _<_}
 use native.Mathlib.Omega.{arith}
 use lib.ListN.{length, length-append, getD}
 use lib.Seq.{getD-at}
-use Rattle.language.specs.Kinds.{kindOf, classOf, uses, Child, childIn}
+use Rattle.language.specs.Kinds.{kindOf, classOf, uses, childIn}
 use Rattle.language.specs.declared.kind.Kind.{Kind}
 use Rattle.language.specs.declared.kind.Use.{Use}
 use Rattle.language.specs.declared.frame.Frame.{Frame}
 use Rattle.text.specs.Frames.{frameOfWord}
-use Rattle.drawing.specs.Drawings.{lineFrom, headOf, Drawn, Field, node, kept, child, size}
+use Rattle.drawing.specs.Drawings.{headOf, Drawn, Field, node, kept, child, size}
 use Rattle.drawing.specs.Drawings.{sizeIn, fieldWith, nodeWith, drawn, rootFrom, valueFrom}
-use Rattle.drawing.specs.Drawings.{rootLine, lined, linedIn, rank, ranks}
+use Rattle.drawing.specs.Drawings.{rootLine, lined, linedIn, rank}
 use Rattle.drawing.proofs.Heights.{height, heightIn}
 use Rattle.drawing.proofs.Lines.{frameOf, word-head, word-frame}
 use Rattle.drawing.proofs.Fields.{Names}

@@ -1,10 +1,10 @@
 -- In lines laid out from trees by rank no declaration stands after a frame of a later kind.
 -- Assumes nothing.
-use mathlib.Core.Path.{_≡_, refl, sym, ap, ap₂, subst, _∙_}
+use mathlib.Core.Path.{_≡_, refl, ap, _∙_}
 use mathlib.Core.Logic.{_⊎_, inl, inr, ⊎-elim}
 use mathlib.Core.Bool.{Bool, true, false}
 use mathlib.Core.List.{List, [], _∷_, _++_, append-assoc}
-use Prim.Native.Nat.{ℕ, zero, suc, _+_, _/_, _^_, _≤_, _<_}
+use Prim.Native.Nat.{ℕ, _+_, _/_, _^_, _≤_, _<_}
 use native.Mathlib.Omega.{arith}
 use native.Mathlib.Decide.{ℕ-discrete}
 use lib.Dec.{ltb}
@@ -19,10 +19,10 @@ use Rattle.language.specs.declared.kind.Use.{Use}
 use Rattle.language.specs.declared.frame.Frame.{Frame}
 use Rattle.text.specs.Frames.{framesOf}
 use Rattle.program.specs.Trees.{frameAt}
-use Rattle.drawing.specs.Drawings.{Drawn, Field, node, kept, child, size, sizeIn, rootFrom}
+use Rattle.drawing.specs.Drawings.{Drawn, Field, kept, child, size, sizeIn, rootFrom}
 use Rattle.drawing.specs.Drawings.{lined, linedAll, rank, ranks}
 use Rattle.drawing.proofs.Fields.{Names, class-rank}
-use Rattle.drawing.proofs.Back.{treeKind, treeRank, Fits, FitsIn, lined-length, root-inside}
+use Rattle.drawing.proofs.Back.{treeRank, Fits, FitsIn, lined-length, root-inside}
 use Rattle.drawing.proofs.Back.{some-size}
 use Rattle.drawing.proofs.Roots.{rankOf}
 use Rattle.drawing.proofs.Tiles.{tree-class}

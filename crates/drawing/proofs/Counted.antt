@@ -1,6 +1,6 @@
 -- Nothing is lost: the lines laid out from a writable file are as many as its own. Assumes nothing.
-use mathlib.Core.Path.{_≡_, refl, sym, ap, ap₂, subst, _∙_}
-use mathlib.Core.Bool.{Bool, true, false, true≢false}
+use mathlib.Core.Path.{_≡_, refl, sym, ap, _∙_}
+use mathlib.Core.Bool.{Bool, true, false}
 use mathlib.Core.List.{List, [], _∷_, _++_, map}
 use Prim.Native.Nat.{ℕ, suc, _+_, _*_, _<_, _≤_}
 use native.Mathlib.Omega.{arith}
@@ -10,9 +10,8 @@ use lib.ListN.{length, getD, length-append}
 use borrow.Author.Tests.{eqb-true, ltb-true, ltb-false, leb-true, leb-false}
 use Rattle.basics.specs.If.{if_then_else_}
 use Rattle.basics.specs.Members.{In}
-use Rattle.basics.specs.Members.{any}
 use Rattle.basics.proofs.Ifs.{if-yes, if-no}
-use Rattle.language.specs.Kinds.{classOf, uses, Child, childIn, children}
+use Rattle.language.specs.Kinds.{uses, Child, childIn, children}
 use Rattle.language.specs.declared.frame.Frame.{Frame}
 use Rattle.text.specs.Frames.{frameOfWord, framesOf}
 use Rattle.text.proofs.FrameWords.{frames-length, frame-at}
@@ -23,10 +22,10 @@ use Rattle.layout.specs.Faults.{Fault}
 use Rattle.layout.specs.Order.{hasChild, hasClass}
 use Rattle.layout.specs.Uses.{times, used}
 use Rattle.layout.proofs.UseCounts.{used-some}
-use Rattle.drawing.specs.Drawings.{headOf, Drawn, Field, node, size, sizeIn, fieldWith}
+use Rattle.drawing.specs.Drawings.{headOf, Drawn, node, size, sizeIn, fieldWith}
 use Rattle.drawing.specs.Drawings.{nodeWith, drawn, linedAll, ranks, levels, rootsTo, drawing}
 use Rattle.drawing.specs.Drawings.{laidOut}
-use Rattle.drawing.specs.TreeFaults.{Below, TreeFault, ShapeFault}
+use Rattle.drawing.specs.TreeFaults.{TreeFault, ShapeFault}
 use Rattle.drawing.specs.Writings.{Writable}
 use Rattle.drawing.proofs.Fields.{Few, few, all-classed, all-in}
 use Rattle.drawing.proofs.Back.{lined-length}
@@ -34,7 +33,7 @@ use Rattle.drawing.proofs.InOrder.{Within, within}
 use Rattle.drawing.proofs.Roots.{rankOf, kind-fine}
 use Rattle.drawing.proofs.Tiles.{root-class, rest-class}
 use Rattle.drawing.proofs.Depths.{root-within}
-use Rattle.drawing.proofs.Cycles.{within-all, has-child}
+use Rattle.drawing.proofs.Cycles.{within-all}
 use Rattle.drawing.proofs.Answers.{all-inside, no-cycle}
 use Rattle.drawing.proofs.Stable.{drawn-same}
 use Rattle.drawing.proofs.Sums.{unit, total, over, over-append, sumOf, total-same}

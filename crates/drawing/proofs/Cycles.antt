@@ -1,21 +1,21 @@
 -- What is below a frame is found in as many steps as there are frames; and where there is no
 -- circle, no path of children is longer than that. Assumes nothing.
-use mathlib.Core.Path.{_≡_, refl, sym, ap, subst, _∙_}
+use mathlib.Core.Path.{_≡_, refl, sym, ap, subst}
 use mathlib.Core.Logic.{_⊎_, ⊎-elim}
 use mathlib.Core.Bool.{Bool, true, false, true≢false}
 use mathlib.Core.List.{List, [], _∷_}
-use Prim.Native.Nat.{ℕ, zero, suc, _+_, _≤_, _<_}
+use Prim.Native.Nat.{ℕ, zero, suc, _≤_, _<_}
 use native.Mathlib.Omega.{arith}
 use lib.Dec.{eqb, ltb}
-use lib.ListN.{length, getD}
-use borrow.Author.Tests.{eq-eqb, eqb-true, ltb-true, ltb-false}
+use lib.ListN.{length}
+use borrow.Author.Tests.{eq-eqb, ltb-true, ltb-false}
 use Rattle.basics.specs.Members.{In}
 use Rattle.basics.specs.Members.{any}
 use Rattle.language.specs.Kinds.{Child, children}
 use Rattle.language.specs.declared.frame.Frame.{Frame}
 use Rattle.program.specs.Trees.{noFrame, frameAt}
 use Rattle.layout.specs.Order.{hasChild}
-use Rattle.layout.proofs.Trees.{Among, none-in}
+use Rattle.layout.proofs.Trees.{none-in}
 use Rattle.layout.proofs.Users.{among-children}
 use Rattle.drawing.specs.TreeFaults.{Below}
 use Rattle.drawing.specs.inner.Finds.{belowTo, isBelow}

@@ -1,18 +1,17 @@
 -- The computed frames are the lowest with a fault of the trees and the lowest with a fault of the
 -- shape. Assumes nothing.
-use mathlib.Core.Path.{_≡_, refl, sym, ap, subst, _∙_}
-use mathlib.Core.Logic.{_⊎_, inl, inr, ⊎-elim}
-use mathlib.Core.Bool.{Bool, true, false, not, _&&_, _||_, true≢false}
-use mathlib.Core.List.{List, [], _∷_}
-use mathlib.Core.Option.{Option, none, some}
-use Prim.Native.Nat.{ℕ, zero, suc, _+_, _-_, _≤_, _<_}
+use mathlib.Core.Path.{_≡_, refl, sym, ap, _∙_}
+use mathlib.Core.Logic.{_⊎_, ⊎-elim}
+use mathlib.Core.Bool.{Bool, true, false, not, _&&_, true≢false}
+use mathlib.Core.List.{List}
+use mathlib.Core.Option.{none}
+use Prim.Native.Nat.{ℕ, suc, _+_, _-_, _≤_, _<_}
 use native.Mathlib.Omega.{arith}
-use lib.Dec.{eqb, ltb, leb}
+use lib.Dec.{eqb, leb}
 use lib.ListN.{length, getD, drop, length-drop}
 use lib.Seq.{getD-drop}
-use borrow.Author.Tests.{eq-eqb, ne-eqb, eqb-true, eqb-false, ltb-true, ltb-false, leb-true, le-leb}
-use borrow.Author.Tests.{not-true, not-false}
-use Rattle.basics.specs.Members.{In}
+use borrow.Author.Tests.{eq-eqb, ne-eqb, eqb-true, eqb-false, leb-true, le-leb}
+use borrow.Author.Tests.{not-true}
 use Rattle.basics.specs.Members.{any}
 use Rattle.basics.specs.inner.Searches.{lowest}
 use Rattle.basics.proofs.Ifs.{and-true, and-both, or-true, or-left, or-right}
@@ -24,8 +23,8 @@ use Rattle.layout.specs.Order.{hasChild, hasClass}
 use Rattle.layout.specs.Uses.{used}
 use Rattle.program.specs.inner.Children.{sameClass}
 use Rattle.layout.proofs.Searches.{Lowest, same-low, lowest-all, any-none, any-false}
-use Rattle.drawing.specs.TreeFaults.{Below, TreeFault, ShapeFault}
-use Rattle.drawing.specs.inner.Finds.{isBelow, isTreeFault, treeFaultAt, isModuleFrame, isShapeFault}
+use Rattle.drawing.specs.TreeFaults.{TreeFault, ShapeFault}
+use Rattle.drawing.specs.inner.Finds.{isTreeFault, treeFaultAt, isModuleFrame, isShapeFault}
 use Rattle.drawing.specs.inner.Finds.{shapeFaultAt}
 use Rattle.drawing.proofs.Cycles.{in-any, any-in, is-below}
 use Rattle.drawing.proofs.Cycles.{below-is}

@@ -1,20 +1,20 @@
 -- Lines that stand in order, drawn and laid out, are these lines: tree by tree. Assumes nothing.
 use mathlib.Core.Path.{_≡_, refl, sym, ap, ap₂, subst, _∙_}
-use mathlib.Core.List.{List, [], _∷_, _++_, append-assoc}
-use Prim.Native.Nat.{ℕ, zero, suc, _+_, _*_, _^_, _≤_, _<_}
+use mathlib.Core.List.{List, [], _∷_, _++_}
+use Prim.Native.Nat.{ℕ, zero, suc, _+_, _^_, _≤_, _<_}
 use native.Mathlib.Omega.{arith}
 use lib.ListN.{length, getD}
 use Rattle.basics.specs.Members.{In}
 use Rattle.language.specs.Kinds.{uses, Child, childIn, children}
 use Rattle.language.specs.declared.frame.Frame.{Frame}
 use Rattle.text.specs.Frames.{frameOfWord, framesOf}
-use Rattle.text.proofs.FrameWords.{frames-length, frame-at}
+use Rattle.text.proofs.FrameWords.{frame-at}
 use Rattle.program.specs.Trees.{noFrame, frameAt}
 use Rattle.layout.specs.Order.{Tree, Row}
 use Rattle.layout.proofs.Trees.{tree-in}
 pub use Rattle.drawing.specs.inner.Heights.{Within, within}
-use Rattle.drawing.specs.Drawings.{lineFrom, headOf, Drawn, Field, node, kept, child, size}
-use Rattle.drawing.specs.Drawings.{sizeIn, fieldWith, nodeWith, drawn, rootFrom, valueFrom}
+use Rattle.drawing.specs.Drawings.{lineFrom, headOf, Drawn, Field, node, child, size}
+use Rattle.drawing.specs.Drawings.{sizeIn, fieldWith, drawn, rootFrom, valueFrom}
 use Rattle.drawing.specs.Drawings.{rootLine, lined, linedIn}
 use Rattle.drawing.proofs.Lines.{frame-word}
 use Rattle.drawing.proofs.Fields.{Few, few}

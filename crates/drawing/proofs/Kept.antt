@@ -3,8 +3,8 @@
 -- the same. Assumes nothing.
 use mathlib.Core.Path.{_≡_, refl, sym, ap, ap₂, subst, _∙_}
 use mathlib.Core.Bool.{Bool, true, false, not, _&&_, _||_, true≢false}
-use mathlib.Core.List.{List, [], _∷_, _++_, map}
-use Prim.Native.Nat.{ℕ, zero, suc, _+_, _/_, _%_, _^_, _≤_, _<_}
+use mathlib.Core.List.{List, [], _∷_, _++_}
+use Prim.Native.Nat.{ℕ, zero, suc, _+_, _%_, _^_, _≤_, _<_}
 use native.Mathlib.Omega.{arith}
 use lib.Dec.{ltb, leb, eqb}
 use lib.ListN.{length, getD, take}
@@ -12,10 +12,7 @@ use borrow.Author.Tests.{eqb-true, eqb-false, eq-eqb, ne-eqb, ltb-true, lt-ltb}
 use Rattle.basics.specs.If.{if_then_else_}
 use Rattle.basics.specs.Members.{In, All}
 use Rattle.basics.proofs.Ifs.{if-yes, if-no, and-true, or-on}
-use Rattle.language.specs.Places.{hasPlace, hasScheduler}
-use Rattle.language.specs.Types.{typeWord, contentWord}
 use Rattle.language.specs.Limits.{mostSchedulers, mostShared, mostEvents, mostModules}
-use Rattle.language.specs.Limits.{mostParameters}
 use Rattle.language.specs.Kinds.{declarationRank, isHeader, isShared, isEvent, isModule, uses}
 use Rattle.language.specs.Kinds.{childIn}
 use Rattle.language.specs.declared.kind.DeclarationKind.the-variants.{Shared, Event, Link}
@@ -29,11 +26,11 @@ use Rattle.language.specs.declared.frame.Frame.{Frame}
 use Rattle.text.specs.Frames.{frameOfWord, framesOf}
 use Rattle.text.proofs.FrameWords.{frames-length, frame-at}
 use Rattle.program.specs.Trees.{noFrame, frameAt}
-use Rattle.program.specs.Programs.{SharedCell, typeOfShared, cellOf, sharedOf, cellsOf}
+use Rattle.program.specs.Programs.{SharedCell, cellOf, sharedOf}
 use Rattle.program.proofs.OneMore.{shared-yes, shared-no}
-use Rattle.fields.specs.Fields.{schedulersOf, firstContentFine, fieldFine, countOf, kindFine}
+use Rattle.fields.specs.Fields.{schedulersOf, fieldFine, countOf, kindFine}
 use Rattle.fields.specs.Fields.{headerFine, frameFine}
-use Rattle.fields.proofs.Tallies.{count-cells, is-shared}
+use Rattle.fields.proofs.Tallies.{is-shared}
 use Rattle.layout.specs.Faults.{Fault}
 use Rattle.layout.proofs.Trees.{is-module}
 use Rattle.drawing.specs.Drawings.{headOf, Drawn, Field, node, kept, child, fieldWith}
@@ -44,7 +41,7 @@ use Rattle.drawing.proofs.Lines.{frame-head}
 use Rattle.drawing.proofs.Roots.{rankOf}
 use Rattle.drawing.proofs.Writables.{same-drawing, is-header, first-kind}
 use Rattle.drawing.proofs.Headers.{out-header}
-use Rattle.drawing.proofs.Origins.{Like, LineOf, out-lines}
+use Rattle.drawing.proofs.Origins.{Like, out-lines}
 use Rattle.drawing.proofs.Picks.{pickTrees, pickFrames, picked}
 use Rattle.drawing.proofs.Earlier.{few-all, few-before, Contents, contents-of, contents-at}
 

@@ -1,10 +1,10 @@
 -- The last line that is laid out from a writable file is main: the last module, with S 0. Assumes
 -- nothing.
-use mathlib.Core.Path.{_≡_, refl, sym, ap, ap₂, subst, _∙_}
+use mathlib.Core.Path.{_≡_, refl, sym, ap, ap₂, _∙_}
 use mathlib.Core.Logic.{_⊎_, inl, inr, ⊎-elim}
-use mathlib.Core.Bool.{Bool, true, false, _&&_, true≢false}
-use mathlib.Core.List.{List, [], _∷_, _++_, append-assoc, append-nil, map}
-use Prim.Native.Nat.{ℕ, zero, suc, _+_, _-_, _/_, _%_, _^_, _≤_, _<_}
+use mathlib.Core.Bool.{Bool, true, false, _&&_}
+use mathlib.Core.List.{List, [], _∷_, _++_, append-assoc, map}
+use Prim.Native.Nat.{ℕ, zero, suc, _+_, _-_, _≤_, _<_}
 use native.Mathlib.Omega.{arith}
 use lib.Dec.{eqb}
 use lib.ListN.{length, length-append, getD}
@@ -16,11 +16,11 @@ use Rattle.language.specs.declared.kind.Kind.{Kind}
 use Rattle.language.specs.declared.kind.Kind.the-variants.{Header, Declared, Module, Statement}
 use Rattle.language.specs.declared.kind.Kind.the-variants.{Expression, Unknown}
 use Rattle.language.specs.declared.frame.Frame.{Frame}
-use Rattle.text.specs.Frames.{frameOfWord, framesOf}
+use Rattle.text.specs.Frames.{framesOf}
 use Rattle.text.proofs.FrameWords.{frames-length, frame-at}
 use Rattle.program.specs.Trees.{noFrame, frameAt}
 use Rattle.layout.specs.Order.{isMain}
-use Rattle.drawing.specs.Drawings.{headOf, Drawn, size, drawn, rootFrom, lined, linedAll}
+use Rattle.drawing.specs.Drawings.{Drawn, size, drawn, rootFrom, lined, linedAll}
 use Rattle.drawing.specs.Drawings.{rank, ranks, levels, numbered, rootsTo, drawing, laidOut}
 use Rattle.drawing.specs.Drawings.{moduleRank}
 use Rattle.drawing.specs.TreeFaults.{ShapeFault}

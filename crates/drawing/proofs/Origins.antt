@@ -3,7 +3,7 @@
 use mathlib.Core.Path.{_≡_, refl, sym, ap, subst, _∙_}
 use mathlib.Core.Bool.{Bool, true, false}
 use mathlib.Core.List.{List, [], _∷_, _++_, map}
-use Prim.Native.Nat.{ℕ, zero, suc, _+_, _*_, _/_, _%_, _^_, _≤_, _<_}
+use Prim.Native.Nat.{ℕ, zero, suc, _+_, _/_, _%_, _^_, _≤_, _<_}
 use native.Mathlib.Omega.{arith}
 use lib.Dec.{eqb}
 use lib.ListN.{length, getD}
@@ -18,7 +18,7 @@ use Rattle.text.specs.Frames.{frameOfWord, framesOf}
 use Rattle.text.proofs.FrameWords.{frames-length, frame-at}
 use Rattle.program.specs.Trees.{noFrame, frameAt}
 use Rattle.drawing.specs.Drawings.{headOf, Drawn, Field, node, kept, child, size, sizeIn}
-use Rattle.drawing.specs.Drawings.{fieldWith, nodeWith, drawn, rootFrom, valueFrom, rootLine}
+use Rattle.drawing.specs.Drawings.{fieldWith, nodeWith, drawn, valueFrom, rootLine}
 use Rattle.drawing.specs.Drawings.{lined, linedIn, linedAll, moduleRank, ranks, levels}
 use Rattle.drawing.specs.Drawings.{numbered, rootsTo, drawing, laidOut}
 use Rattle.drawing.specs.Writings.{Writable}

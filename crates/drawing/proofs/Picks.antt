@@ -3,21 +3,20 @@
 use mathlib.Core.Path.{_≡_, refl, sym, ap, ap₂, _∙_}
 use mathlib.Core.Bool.{Bool, true, false}
 use mathlib.Core.List.{List, [], _∷_, _++_, map, append-nil}
-use Prim.Native.Nat.{ℕ, zero, suc, _+_, _/_, _%_, _^_, _≤_, _<_}
+use Prim.Native.Nat.{ℕ, zero, suc, _+_, _≤_, _<_}
 use native.Mathlib.Omega.{arith}
 use native.Mathlib.Decide.{ℕ-discrete}
 use lib.Dec.{eqb}
-use lib.ListN.{length, getD}
-use borrow.Author.Tests.{eqb-true, eqb-false, eq-eqb, ne-eqb}
+use lib.ListN.{getD}
+use borrow.Author.Tests.{eqb-true, eq-eqb, ne-eqb}
 use Rattle.basics.specs.If.{if_then_else_}
 use Rattle.basics.proofs.Ifs.{if-yes, if-no}
-use Rattle.language.specs.declared.kind.Kind.{Kind}
 use Rattle.language.specs.declared.frame.Frame.{Frame}
 use Rattle.text.specs.Frames.{frameOfWord, framesOf}
 use Rattle.drawing.specs.Drawings.{headOf, Drawn, nodeWith, drawn, rank, ranks, levels}
 use Rattle.drawing.specs.Drawings.{numbered, rootsTo, drawing}
 use Rattle.drawing.proofs.Lines.{frame-head}
-use Rattle.drawing.proofs.Back.{treeKind, treeRank}
+use Rattle.drawing.proofs.Back.{treeRank}
 use Rattle.drawing.proofs.Roots.{rankOf}
 use Rattle.drawing.proofs.Writables.{map-append}
 

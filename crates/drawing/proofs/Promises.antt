@@ -2,23 +2,23 @@
 use mathlib.Core.Path.{_≡_, refl, sym, ap, subst, _∙_}
 use mathlib.Core.Bool.{true, false, true≢false}
 use mathlib.Core.List.{List, [], _∷_}
-use Prim.Native.Nat.{ℕ, zero, suc, _+_, _*_, _/_, _%_, _≤_, _<_}
+use Prim.Native.Nat.{ℕ, zero, suc, _+_, _*_, _/_, _≤_, _<_}
 use native.Mathlib.Omega.{arith}
 use lib.ListN.{length}
 use Rattle.language.specs.declared.frame.Frame.{Frame}
 use Rattle.language.specs.declared.verdict.Verdict.the-variants.{Accepted, Rejected}
 use Rattle.layout.specs.declared.LayoutVerdict.{LayoutVerdict}
 use Rattle.layout.specs.declared.LayoutVerdict.the-variants.{LaidOut, Rejected}
-use Rattle.text.specs.Frames.{wordsOf, framesOf, textFrames}
-use Rattle.text.specs.Reading.{Reading, frames, refused, Reads, WrongAt}
+use Rattle.text.specs.Frames.{framesOf, textFrames}
+use Rattle.text.specs.Reading.{Reading, frames, Reads}
 use Rattle.text.proofs.ReadLaws.{length-words}
 use Rattle.text.proofs.FrameWords.{frames-length}
 use Rattle.layout.specs.Faults.{Fault, NoFault, LayoutSays}
-use Rattle.language.specs.Kinds.{declarationRank, classOf}
+use Rattle.language.specs.Kinds.{declarationRank, fileRank, classOf}
 use Rattle.language.specs.declared.kind.DeclarationKind.{DeclarationKind}
 use Rattle.language.specs.declared.kind.Kind.the-variants.{Declared}
 use Rattle.program.specs.Trees.{frameAt}
-use Rattle.layout.specs.Order.{Tree, fileRank, hasChild, hasClass, isMain}
+use Rattle.layout.specs.Order.{Tree, hasChild, hasClass, isMain}
 use Rattle.fields.specs.Fields.{frameFine}
 use Rattle.layout.specs.Depths.{Depth}
 use Rattle.layout.specs.LaidOut.{HasLayout}
@@ -170,10 +170,6 @@ module _ {bs : List ℕ} {fs : List Frame} (r : Reads bs (frames fs)) (s : Writa
   out-fault n j (Fault.leftover {j = k} a b c) = out-leftover k a b c
   out-fault n j (Fault.main {j = k} a b) = true≢false (sym (out-last k a) ∙ b)
   out-fault n j (Fault.depth {j = k} {d = d} a b) = let m = out-depth k d a in omega arith
-
-  -- ---- 'lays them out as that paper wants': the output passes 1 to 7
-  pub laid-out-after : layoutVerdict (rewritten bs) ≡ LaidOut
-  laid-out-after = sym (layout-only (HasLayout.layout {v = LaidOut} reads-back out-fault))
 
 -- ---- so of every text that is written
 no-refusal : {m j : ℕ} {a b : List ℕ} → asWriting (Rejected m j) a ≡ asWriting Accepted b → ⊥

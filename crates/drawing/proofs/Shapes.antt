@@ -1,28 +1,28 @@
 -- The roots among the lines of trees are the trees' roots. Assumes nothing.
-use mathlib.Core.Path.{_≡_, refl, sym, ap, ap₂, subst, _∙_}
+use mathlib.Core.Path.{_≡_, refl, sym, ap, ap₂, _∙_}
 use mathlib.Core.Bool.{Bool, true, false}
 use mathlib.Core.List.{List, [], _∷_, _++_, append-assoc, append-nil, map}
-use Prim.Native.Nat.{ℕ, zero, suc, _+_, _*_, _/_, _^_, _≤_, _<_, max}
+use Prim.Native.Nat.{ℕ, zero, suc, _+_, _/_, _^_, _≤_, _<_}
 use native.Mathlib.Omega.{arith}
 use lib.Dec.{eqb, ltb}
-use lib.ListN.{length, length-append, length-map, getD}
-use borrow.Author.Tests.{eq-eqb, ne-eqb, eqb-true, eqb-false, lt-ltb, le-ltb, ltb-true, ltb-false}
+use lib.ListN.{length, length-append}
+use borrow.Author.Tests.{ne-eqb, eqb-true, eqb-false, lt-ltb, le-ltb, ltb-true, ltb-false}
 use Rattle.basics.specs.If.{if_then_else_}
 use Rattle.basics.specs.Members.{All}
 use Rattle.basics.proofs.Ifs.{if-yes, if-no}
-use Rattle.language.specs.Kinds.{kindOf, uses}
+use Rattle.language.specs.Kinds.{kindOf}
 use Rattle.language.specs.declared.kind.Use.{Use}
 use Rattle.language.specs.declared.frame.Frame.{Frame}
 use Rattle.text.specs.Frames.{frameOfWord, framesOf}
 use Rattle.text.proofs.FrameWords.{frames-length}
-use Rattle.drawing.specs.Drawings.{Drawn, Field, node, kept, child, size, sizeIn, rootFrom}
-use Rattle.drawing.specs.Drawings.{valueFrom, rootLine, lined, linedIn, linedAll, drawn, rank}
+use Rattle.drawing.specs.Drawings.{Drawn, Field, size, sizeIn, rootFrom}
+use Rattle.drawing.specs.Drawings.{rootLine, lined, linedIn, linedAll, drawn, rank}
 use Rattle.drawing.specs.Drawings.{ranks, levels, numbered, rootsTo, drawing, laidOut}
 use Rattle.drawing.proofs.Heights.{height}
 use Rattle.drawing.proofs.Lines.{frameOf, word-frame}
-use Rattle.drawing.proofs.Fields.{Names, class-rank, names-class}
+use Rattle.drawing.proofs.Fields.{class-rank, names-class}
 use Rattle.drawing.proofs.Back.{treeKind, treeRank, Fits, FitsIn, lined-length}
-use Rattle.drawing.proofs.Back.{linedIn-length, value-fits, some-size, read-back}
+use Rattle.drawing.proofs.Back.{linedIn-length, value-fits, read-back}
 use Rattle.drawing.proofs.Roots.{rankOf}
 
 pub numbered-append : (r i : ℕ) (xs ys : List Frame)

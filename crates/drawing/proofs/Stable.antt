@@ -1,8 +1,7 @@
 -- A tree that is at most d deep is the same drawn to d levels or to more. Assumes nothing.
-use mathlib.Core.Path.{_≡_, refl, sym, ap, ap₂, subst, _∙_}
+use mathlib.Core.Path.{_≡_, refl, sym, ap, subst}
 use mathlib.Core.List.{List, [], _∷_, _++_}
-use Prim.Native.Nat.{ℕ, zero, suc, _+_, _<_}
-use native.Mathlib.Omega.{arith}
+use Prim.Native.Nat.{ℕ, _+_, _<_}
 use lib.ListN.{length, getD}
 use Rattle.basics.specs.Members.{In}
 use Rattle.language.specs.Kinds.{uses, Child, childIn, children}
@@ -10,7 +9,7 @@ use Rattle.language.specs.declared.frame.Frame.{Frame}
 use Rattle.text.specs.Frames.{frameOfWord, framesOf}
 use Rattle.text.proofs.FrameWords.{frame-at}
 use Rattle.program.specs.Trees.{noFrame, frameAt}
-use Rattle.drawing.specs.Drawings.{headOf, Drawn, Field, node, kept, child, fieldWith}
+use Rattle.drawing.specs.Drawings.{headOf, Drawn, node, child, fieldWith}
 use Rattle.drawing.specs.Drawings.{nodeWith, drawn}
 use Rattle.drawing.proofs.Back.{node-same}
 use Rattle.drawing.proofs.InOrder.{Within, within, in-left, in-right}

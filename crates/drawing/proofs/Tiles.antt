@@ -1,23 +1,23 @@
 -- In a file without fault the trees of its roots touch: each begins where the one before it ended,
 -- and the last one ends the file. Assumes nothing.
-use mathlib.Core.Path.{_≡_, refl, sym, ap, ap₂, _∙_}
-use mathlib.Core.Bool.{Bool, true, false, _&&_, true≢false}
+use mathlib.Core.Path.{_≡_, refl, sym, ap, _∙_}
+use mathlib.Core.Bool.{Bool, true, false, true≢false}
 use mathlib.Core.List.{List, [], _∷_, _++_}
-use Prim.Native.Nat.{ℕ, zero, suc, _+_, _-_, _≤_, _<_}
+use Prim.Native.Nat.{ℕ, suc, _+_, _-_, _≤_, _<_}
 use native.Mathlib.Omega.{arith}
 use lib.Dec.{eqb, ltb, leb}
 use lib.ListN.{length}
 use borrow.Author.Tests.{eqb-true, eqb-false, ltb-true, ltb-false, leb-true, leb-false}
 use Rattle.basics.specs.If.{if_then_else_}
-use Rattle.basics.specs.Members.{In, All}
-use Rattle.basics.proofs.Ifs.{if-yes, if-no, and-true}
-use Rattle.language.specs.Kinds.{classOf, Child, children}
+use Rattle.basics.specs.Members.{All}
+use Rattle.basics.proofs.Ifs.{if-yes, if-no}
+use Rattle.language.specs.Kinds.{classOf, Child}
 use Rattle.language.specs.declared.kind.Class.{Class}
 use Rattle.language.specs.declared.kind.Kind.{Kind}
 use Rattle.language.specs.declared.kind.Kind.the-variants.{Header, Declared, Module, Statement}
 use Rattle.language.specs.declared.kind.Kind.the-variants.{Expression, Unknown}
 use Rattle.language.specs.declared.frame.Frame.{Frame}
-use Rattle.program.specs.Trees.{noFrame, frameAt}
+use Rattle.program.specs.Trees.{frameAt}
 use Rattle.fields.specs.Fields.{kindFine}
 use Rattle.layout.specs.Order.{Tree, Row, hasClass}
 use Rattle.layout.specs.Faults.{Fault, NoFault}
@@ -25,7 +25,7 @@ use Rattle.layout.proofs.Trees.{tree-le, tree-in, From, from-next, from-start}
 use Rattle.layout.proofs.Order.{all-trees}
 use Rattle.layout.proofs.Users.{within-tree, tree-from, one-user}
 use Rattle.layout.proofs.Scopes.{main-last}
-use Rattle.drawing.specs.Drawings.{rank, ranks, numbered, rootsTo}
+use Rattle.drawing.specs.Drawings.{rank, ranks}
 use Rattle.drawing.proofs.Fields.{all-classed}
 use Rattle.drawing.proofs.Roots.{rankOf, below, kind-fine, declared-rank}
 

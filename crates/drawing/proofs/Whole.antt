@@ -1,19 +1,17 @@
 -- A file that is in order, drawn and laid out, is the file. Assumes nothing.
 use mathlib.Core.Path.{_≡_, refl, sym, ap, ap₂, _∙_}
-use mathlib.Core.List.{List, [], _∷_, _++_, map}
-use Prim.Native.Nat.{ℕ, zero, suc, _+_, _^_, _≤_, _<_}
+use mathlib.Core.List.{List, _++_, map}
+use Prim.Native.Nat.{ℕ, _+_, _^_, _≤_, _<_}
 use native.Mathlib.Omega.{arith}
 use lib.ListN.{length, getD}
-use Rattle.language.specs.declared.frame.Frame.{Frame}
 use Rattle.text.specs.Frames.{framesOf}
 use Rattle.text.proofs.FrameWords.{frames-length}
-use Rattle.program.specs.Trees.{frameAt}
 use Rattle.layout.specs.Faults.{NoFault}
 use Rattle.layout.proofs.Scopes.{depth-most}
 use Rattle.drawing.specs.Drawings.{Drawn, size, drawn, linedAll, lined, ranks, levels}
-use Rattle.drawing.specs.Drawings.{rootsTo, drawing, laidOut}
-use Rattle.drawing.proofs.InOrder.{Within, part, part-more, part-whole, Same, in-order}
-use Rattle.drawing.proofs.Roots.{below, as-they-stand, sorted}
+use Rattle.drawing.specs.Drawings.{drawing, laidOut}
+use Rattle.drawing.proofs.InOrder.{part, part-more, part-whole, Same, in-order}
+use Rattle.drawing.proofs.Roots.{as-they-stand, sorted}
 use Rattle.drawing.proofs.Tiles.{Tiles, done, next, tiles}
 use Rattle.drawing.proofs.Depths.{root-within}
 

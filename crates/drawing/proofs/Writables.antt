@@ -1,19 +1,19 @@
 -- 'Read back, the lines give the same tree': the lines laid out from a writable file are drawn as
 -- the file is. Assumes nothing.
-use mathlib.Core.Path.{_≡_, refl, sym, ap, ap₂, subst, _∙_}
+use mathlib.Core.Path.{_≡_, refl, sym, ap, subst, _∙_}
 use mathlib.Core.Logic.{inr}
 use mathlib.Core.Bool.{Bool, true, false, true≢false}
 use mathlib.Core.List.{List, [], _∷_, _++_, map}
-use Prim.Native.Nat.{ℕ, zero, suc, _+_, _*_, _/_, _%_, _^_, _≤_, _<_, max}
+use Prim.Native.Nat.{ℕ, zero, suc, _+_, _/_, _^_, _≤_, _<_}
 use native.Mathlib.Omega.{arith}
-use lib.Dec.{eqb, ltb, leb}
+use lib.Dec.{eqb}
 use lib.ListN.{length, getD}
-use borrow.Author.Tests.{eq-eqb, eqb-true, eqb-false, ltb-true, ltb-false, leb-true, leb-false}
+use borrow.Author.Tests.{eq-eqb, eqb-true}
 use Rattle.basics.specs.If.{if_then_else_}
 use Rattle.basics.specs.Members.{In, All}
 use Rattle.basics.proofs.Ifs.{if-yes, if-no}
 use Rattle.language.specs.Kinds.{declarationRank, isHeader, kindOf, classOf, uses, Child}
-use Rattle.language.specs.Kinds.{childIn, children}
+use Rattle.language.specs.Kinds.{fileRank, childIn, children}
 use Rattle.language.specs.declared.kind.Kind.{Kind}
 use Rattle.language.specs.declared.kind.DeclarationKind.{DeclarationKind}
 use Rattle.language.specs.declared.kind.Kind.the-variants.{Header, Declared, Module, Statement}
@@ -26,10 +26,9 @@ use Rattle.text.proofs.FrameWords.{frames-length, frame-at}
 use Rattle.program.specs.Trees.{noFrame, frameAt}
 use Rattle.fields.specs.Fields.{headerFine}
 use Rattle.fields.proofs.FieldLaws.{fine-header}
-use Rattle.layout.specs.Order.{fileRank}
 use Rattle.layout.specs.Faults.{Fault}
 use Rattle.program.proofs.NodeLaws.{children-as}
-use Rattle.drawing.specs.Drawings.{headOf, Drawn, Field, node, kept, child, size, fieldWith}
+use Rattle.drawing.specs.Drawings.{headOf, Drawn, node, child, size, fieldWith}
 use Rattle.drawing.specs.Drawings.{nodeWith, drawn, linedAll, rank, ranks, levels, numbered}
 use Rattle.drawing.specs.Drawings.{rootsTo, drawing, laidOut, moduleRank}
 use Rattle.drawing.proofs.Heights.{height, heightIn}
@@ -38,14 +37,14 @@ use Rattle.drawing.specs.Writings.{Writable}
 use Rattle.program.specs.inner.Children.{sameClass}
 use Rattle.drawing.proofs.FaultTests.{class-same, class-refl}
 use Rattle.drawing.proofs.Lines.{frameOf, frame-head, frame-fits}
-use Rattle.drawing.proofs.Fields.{Held, held, Few, few, Names}
+use Rattle.drawing.proofs.Fields.{Held, held}
 use Rattle.drawing.proofs.Back.{treeKind, treeRank, Fits, FitsIn}
 use Rattle.drawing.proofs.InOrder.{Within, within, in-left, in-right}
 use Rattle.drawing.proofs.Roots.{rankOf, declared-rank, file-rank}
 use Rattle.drawing.proofs.Stable.{as-frame}
-use Rattle.drawing.proofs.Sums.{sumOf, over}
-use Rattle.drawing.proofs.Counted.{right-class, lines-inside, roots-within, nothing-lost}
-use Rattle.drawing.proofs.Counted.{node-size, all-length}
+use Rattle.drawing.proofs.Sums.{over}
+use Rattle.drawing.proofs.Counted.{lines-inside, roots-within, nothing-lost}
+use Rattle.drawing.proofs.Counted.{node-size}
 use Rattle.drawing.proofs.Shapes.{Ranked, sizes, all-lined, all-small, drawing-back}
 use Rattle.drawing.proofs.Output.{Spot, whole-spots}
 use Rattle.drawing.proofs.ByRank.{Begun, before}

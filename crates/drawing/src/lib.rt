@@ -1,2 +1,2 @@
 // Files as their trees: what a drawn file is, and the file that is laid out from it. Definitions
-// only.
+// and laws, no code.

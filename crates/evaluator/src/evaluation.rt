@@ -151,8 +151,9 @@ fn truth_at(frames: &[u64], who: Who, state: &mut [u64], i: u16) -> Outcome
 
 // The value of frame i of a file, on the state that the words are: the acting thread's variables
 // are read where they lie, and nothing but the cells and their count is written. Each `requires`
-// is what refusals 3, 6 and 14 leave: the words of cells and of values are in range, the thread's
-// variables fit their space, children stand before their parents, and frame i is there.
+// is what refusals 3, 5, 6 and 14 leave: the words of cells and of values are in range, the
+// thread's variables fit their space, children stand before their parents, an owner is a place,
+// and frame i is there.
 pub fn evaluate(frames: &[u64], who: Who, state: &mut [u64], i: u16) -> Outcome
     requires { ⌜ FrameWords (now frames) i × LentWords who (now state) ⌝ }
     ensures found { λ r. ⌜ resultIn r (now (state .exit))

@@ -8,7 +8,7 @@ use native.Mathlib.Decide.{ℕ-discrete}
 use lib.Dec.{leb, eqb}
 use lib.ListN.{length, getD}
 use borrow.Author.Tests.{eq-eqb, ne-eqb, le-leb, leb-true, not-true, not-false}
-use Rattle.basics.specs.If.{if_then_else_, keepIf}
+use Rattle.basics.specs.If.{keepIf}
 use Rattle.basics.specs.Members.{any, every}
 use Rattle.basics.proofs.Ifs.{if-all, if-yes, if-no, and-both}
 use Rattle.language.specs.Places.{isPlace, isScheduler}
@@ -19,7 +19,7 @@ use Rattle.machine.specs.Groups.{schedulersWhere}
 use Rattle.machine.specs.Words.{wordsAt}
 use Rattle.lists.specs.inner.Lists.{isAwaitingWord, activeWith, withWoken, readyWords}
 use Rattle.lists.specs.inner.Families.{isReadyWord}
-use Rattle.lists.specs.inner.Lists.{withInstantEnded, ListWords, ListsFit}
+use Rattle.lists.specs.inner.Lists.{withInstantEnded, ListWords}
 use Rattle.lists.proofs.PartitionLaws.{idle-room}
 use Rattle.lists.proofs.MovedLaws.{moved-long, moved-other, moved-fits, active-same}
 use Rattle.groups.specs.inner.Members.{membersIn, firstWhere, activeOn, anyActiveOn, roomOn}

@@ -2,15 +2,15 @@
 -- state. Assumes nothing.
 use Prim.Native.Nat.{ℕ, zero, suc, _+_, _*_, _-_, _<_, _≤_}
 use mathlib.Core.Path.{_≡_, refl, sym, ap, ap₂, _∙_, subst}
-use mathlib.Core.List.{List, [], _∷_, _++_}
-use mathlib.Core.Bool.{Bool, true, false, not, true≢false}
+use mathlib.Core.List.{List, [], _∷_}
+use mathlib.Core.Bool.{Bool, true, false, not}
 use native.Mathlib.Omega.{arith}
 use lib.Dec.{leb, eqb}
 use lib.ListN.{length, getD, set, length-set}
-use borrow.Author.Tests.{eq-eqb, ne-eqb, eqb-true, eqb-false}
+use borrow.Author.Tests.{ne-eqb, eqb-true, eqb-false}
 use Rattle.basics.specs.If.{keepIf}
 use Rattle.basics.specs.Members.{All, none, more, any, every}
-use Rattle.machine.specs.State.{State, Scheduler, Entry, noScheduler, schedulerAt, withScheduler}
+use Rattle.machine.specs.State.{State, Scheduler, Entry, noScheduler, schedulerAt}
 use Rattle.machine.specs.Groups.{schedulersWhere}
 use Rattle.machine.specs.Waits.{threadsWhere, entriesExcept, isAwaiting, readyThreads, entryThread}
 use Rattle.machine.specs.inner.Families.{isReady}
@@ -22,10 +22,10 @@ use Rattle.machine.proofs.WordLaws.{Says}
 use Rattle.machine.proofs.Space.{parted}
 use Rattle.machine.proofs.Lists.{all-imply}
 use Rattle.machine.proofs.KeptShape.{awakeOn, woken-load}
-use Rattle.lists.specs.inner.Lists.{isAwaitingWord, withWoken, readyWords, withInstantEnded}
+use Rattle.lists.specs.inner.Lists.{withWoken, readyWords, withInstantEnded}
 use Rattle.lists.proofs.SchedulerSays.{first-says}
 use Rattle.lists.proofs.Instants.{woken-count, wake-says, instant-readies, instant-says, instant-none}
-use Rattle.groups.specs.inner.Members.{activeOn, anyActiveOn, roomOn, roomOnEach, wokenOn}
+use Rattle.groups.specs.inner.Members.{anyActiveOn, roomOn, roomOnEach, wokenOn}
 use Rattle.groups.specs.inner.Members.{endedOn, readyOn}
 
 -- ---- what is known of the state: m events, each next list within its space and in shape

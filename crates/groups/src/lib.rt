@@ -7,7 +7,7 @@ use lists::list::first_active;
 use lists::list::has_room_to_wake;
 use lists::list::wake;
 ghost use mathlib.Core.Path.{_≡_};
-ghost use Prim.Native.Nat.{ℕ, _+_, _-_, _≤_};
+ghost use Prim.Native.Nat.{_+_, _-_, _≤_};
 ghost use lib.ListN.{length};
 ghost use Rattle.language.specs.Places.{home};
 ghost use Rattle.language.specs.inner.Labels.{sameLabel};

@@ -10,8 +10,7 @@ use lib.Dec.{eqb}
 use lib.Bits.{bitOr}
 use lib.ListN.{getD, set, length}
 use borrow.Author.Tests.{eq-eqb, ne-eqb, le-leb}
-use Rattle.basics.specs.If.{if_then_else_}
-use Rattle.basics.proofs.Ifs.{yes, no, if-yes, if-no, and-both}
+use Rattle.basics.proofs.Ifs.{yes, no, and-both}
 use Rattle.language.specs.Places.{isScheduler}
 use Rattle.language.specs.Effects.{withMember, setFrom}
 use Rattle.language.specs.inner.Labels.{labelAt, sameLabel, inGroup, withLabel, relabelled}

@@ -1,7 +1,7 @@
--- 'An effect is a set of schedulers.' 02, change 5, of K 1A and 1B: 'both have the owner as effect'.
--- The schedulers whose cells are accessed and those whose events are, are kept apart: two sets.
--- A set is a number below 256: the scheduler p is a member where bit p - 2 is set. What they mean
--- as sets is proved in proofs/Members.
+-- 'An effect is a set of schedulers.' 02, change 5, of K 1A and 1B: 'both have the owner as
+-- effect'. The schedulers whose cells are accessed and those whose events are, are kept apart: two
+-- sets. A set is a number below 256: the scheduler p is a member where bit p - 2 is set. What they
+-- mean as sets is proved in proofs/Members.
 use Rattle.basics.specs.Prelude.{List, Bool, _&&_, _||_, ℕ, zero, suc, _-_, _/_, _%_, _^_, leb}
 use Rattle.basics.specs.Prelude.{eqb, bitOr, if_then_else_}
 use Rattle.language.specs.{Places.home, Places.isScheduler, Limits.mostSchedulers}

@@ -46,9 +46,9 @@ kindOf k =
     if eqb k 0x28 then Expression Choose else
     Unknown
 
--- ---- 'Frames stand as header, shared cells .., then the rest'; 02, change 5: 'K 03 .. stands after
--- the shared cells', change 7: 'K 04, which stands after the events'. The declarations come after
--- the header, one kind after the other
+-- ---- 'Frames stand as header, shared cells .., then the rest'; 02, change 5: 'K 03 .. stands
+-- after the shared cells', change 7: 'K 04, which stands after the events'. The declarations come
+-- after the header, one kind after the other
 abbrev pub declarationRank : DeclarationKind → ℕ
 declarationRank Shared = 1
 declarationRank Event = 2
@@ -57,6 +57,15 @@ declarationRank Link = 3
 -- the last of these ranks
 abbrev pub declarations : ℕ
 declarations = 3
+
+-- in which order the kinds stand
+abbrev pub fileRank : Kind → ℕ
+fileRank Header = 0
+fileRank (Declared d) = declarationRank d
+fileRank Module = suc declarations
+fileRank (Statement k) = suc declarations
+fileRank (Expression k) = suc declarations
+fileRank Unknown = suc declarations
 
 -- ---- the kinds that stand outside the trees: 00 header, 01 shared cell, 02 module, 03 event, 04
 -- two schedulers in step

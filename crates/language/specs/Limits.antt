@@ -1,4 +1,5 @@
--- How much a text, a file, a state and a run hold at most: each of 01's figures is named here once.
+-- How much a text, a file, a state and a run hold at most: each figure of 01 and 02 is named here
+-- once.
 use Rattle.basics.specs.Prelude.{ℕ}
 
 -- a line is '16 digits .., then a line feed'; 'at most 1,024 lines', hence 'over 17,408 bytes'

@@ -59,8 +59,9 @@ impl Place {
         Place::new(n)
     }
 
-    // The place of a number that has been found to be one: S of a frame that passes refusal 5, a
-    // word of a state in range. So no answer is needed for the others: the contract refuses them.
+    // The place of a number that has been found to be one: a field of a frame that passes refusal
+    // 5, a word of a state in range, a choice or a member that is a scheduler. So no answer is
+    // needed for the others: the contract refuses them.
     pub fn known(n: u64) -> Self
         requires { ⌜ isPlace n ≡ true ⌝ }
         ensures { λ r. ⌜ r ≡ record { number = n } ⌝ }

@@ -1,15 +1,16 @@
 -- What a file without fault has of links: each names two schedulers of the file. Assumes nothing.
-use mathlib.Core.Path.{_≡_, refl, sym, ap, subst, _∙_}
+use mathlib.Core.Path.{_≡_, refl, sym, ap, _∙_}
 use mathlib.Core.Bool.{Bool, true, false, true≢false}
 use mathlib.Core.List.{List, [], _∷_}
 use Prim.Native.Nat.{ℕ, suc, _<_}
 use native.Mathlib.Omega.{arith}
+use borrow.Author.Tests.{leb-false}
 use lib.ListN.{length}
 use Rattle.basics.specs.If.{keepIf}
 use Rattle.basics.specs.Members.{All}
 use Rattle.basics.proofs.Ifs.{and-true}
 use Rattle.language.specs.Groups.{Link}
-use Rattle.language.specs.Kinds.{isLink, uses}
+use Rattle.language.specs.Kinds.{declarations, fileRank, isLink, uses}
 use Rattle.language.specs.Places.{hasScheduler}
 use Rattle.language.specs.declared.kind.DeclarationKind.the-variants.{Shared, Event, Link as Links}
 use Rattle.language.specs.declared.kind.Kind.{Kind}
@@ -23,7 +24,6 @@ use Rattle.program.specs.inner.Links.{isEarly, LinksPlaced}
 use Rattle.fields.specs.Fields.{schedulersOf, fieldFine}
 use Rattle.fields.proofs.FramePass.{fine-parts}
 use Rattle.layout.specs.Faults.{Fault, NoFault}
-use Rattle.layout.specs.Order.{fileRank}
 use Rattle.layout.proofs.Scopes.{frame-right}
 
 pub is-link : (k : Kind) → isLink k ≡ true → k ≡ Declared Links
@@ -70,20 +70,13 @@ module _ (fs : List Frame) (fine : NoFault fs) where
   -- nothing stands before a link but the header and declarations
   links-early : (i j : ℕ) → i < j → j < length fs → isLink (frameAt fs j .kind) ≡ true
       → isEarly (frameAt fs i .kind) ≡ true
-  links-early i j l k t = go (frameAt fs i .kind) refl
+  links-early i j l k t = go (isEarly (frameAt fs i .kind)) refl
     where
-      late : (x : Kind) → frameAt fs i .kind ≡ x → 3 < fileRank x → isEarly x ≡ true
-      late x e r =
+      go : (b : Bool) → isEarly (frameAt fs i .kind) ≡ b → isEarly (frameAt fs i .kind) ≡ true
+      go true e = e
+      go false e =
           absurd (fine 6 j (Fault.misplaced {d = Links} l k (is-link (frameAt fs j .kind) t)
-          (subst (λ (y : Kind). 3 < fileRank y) (sym e) r)))
-
-      go : (x : Kind) → frameAt fs i .kind ≡ x → isEarly (frameAt fs i .kind) ≡ true
-      go Header e = ap isEarly e
-      go (Declared d) e = ap isEarly e
-      go Module e = ap isEarly e ∙ late Module e (omega arith)
-      go (Statement x) e = ap isEarly e ∙ late (Statement x) e (omega arith)
-      go (Expression x) e = ap isEarly e ∙ late (Expression x) e (omega arith)
-      go Unknown e = ap isEarly e ∙ late Unknown e (omega arith)
+          (leb-false (fileRank (frameAt fs i .kind)) declarations e)))
 
   pub links-placed : LinksPlaced fs
   links-placed =

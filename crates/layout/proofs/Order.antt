@@ -13,7 +13,7 @@ use borrow.Author.Tests.{not-true, ltb-true, ltb-false, lt-ltb}
 use Rattle.basics.specs.Members.{All, any}
 use Rattle.basics.specs.inner.Searches.{lowest}
 use Rattle.basics.proofs.Ifs.{and-true, if-all}
-use Rattle.language.specs.Kinds.{declarationRank, classOf, Child, children}
+use Rattle.language.specs.Kinds.{declarationRank, fileRank, classOf, Child, children}
 use Rattle.language.specs.declared.kind.DeclarationKind.{DeclarationKind}
 use Rattle.language.specs.declared.kind.Kind.{Kind}
 use Rattle.language.specs.declared.kind.Kind.the-variants.{Header, Declared, Module, Statement}
@@ -24,7 +24,7 @@ use Rattle.program.specs.inner.Ordered.{Ordered}
 use Rattle.layout.proofs.Searches.{Lowest, either, same-low, lowest-all, any-more, any-none}
 use Rattle.layout.proofs.Searches.{any-false}
 use Rattle.layout.specs.Faults.{Fault}
-use Rattle.layout.specs.Order.{fileRank, hasChild, hasClass, isMain, Tree, Row}
+use Rattle.layout.specs.Order.{hasChild, hasClass, isMain, Tree, Row}
 use Rattle.layout.specs.inner.Scans.{highestRank, isLate, isMisplaced, isLeftover}
 use Rattle.layout.specs.inner.Scans.{firstLeftover, noMain, orderFault}
 use Rattle.layout.proofs.Trees.{HasTree, row-le}

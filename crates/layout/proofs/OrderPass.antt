@@ -11,7 +11,7 @@ use borrow.Author.Tests.{not-true, not-false}
 use lib.ListN.{length, take}
 use Rattle.basics.specs.inner.Searches.{lowest, earlier}
 use Rattle.basics.proofs.Ifs.{yes, no}
-use Rattle.language.specs.Kinds.{declarationRank, isModule}
+use Rattle.language.specs.Kinds.{declarationRank, fileRank, isModule}
 use Rattle.language.specs.declared.kind.DeclarationKind.{DeclarationKind}
 use Rattle.language.specs.declared.kind.Kind.{Kind}
 use Rattle.language.specs.declared.kind.Kind.the-variants.{Declared}
@@ -25,7 +25,7 @@ use Rattle.fields.specs.declared.fault_search.FaultSearch.the-variants.{At, Now
 use Rattle.fields.specs.inner.Scans.{found, optionOf}
 use Rattle.fields.proofs.Finds.{option-found}
 use Rattle.fields.proofs.Seeking.{Seeking, seek-here, seek-next, seek-end}
-use Rattle.layout.specs.Order.{fileRank, isMain}
+use Rattle.layout.specs.Order.{isMain}
 use Rattle.layout.specs.inner.Scans.{firstDisorder, highestRank, isLate, isMisplaced}
 use Rattle.layout.specs.inner.Scans.{firstLeftover, noMain, orderFault}
 

@@ -8,7 +8,7 @@ use native.Mathlib.Omega.{arith}
 use lib.ListN.{length, take, length-map}
 use lib.Seq.{take-suc, take-length}
 use borrow.Author.Tests.{eqb-true}
-use Rattle.language.specs.Kinds.{isHeader, isShared}
+use Rattle.language.specs.Kinds.{fileRank, isHeader, isShared}
 use Rattle.language.specs.Limits.{mostShared}
 use Rattle.language.specs.Refusals.{wrongHeader, wrongOrder}
 use Rattle.language.specs.declared.kind.DeclarationKind.the-variants.{Shared, Event, Link}
@@ -23,7 +23,6 @@ use Rattle.fields.specs.Fields.{headerFine, countOf, kindFine}
 use Rattle.fields.proofs.FieldLaws.{fine-header}
 use Rattle.fields.proofs.Tallies.{is-shared, count-cells, counted-one, counted-none}
 use Rattle.fields.proofs.FramePass.{fine-parts, shared-few, owner-place, content-room}
-use Rattle.layout.specs.Order.{fileRank}
 use Rattle.layout.specs.Faults.{Fault, NoFault}
 use Rattle.layout.proofs.Scopes.{frame-right}
 

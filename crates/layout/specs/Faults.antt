@@ -1,7 +1,7 @@
 -- Refusals 4 to 7: what each fault of the layout is, and which comes first. Nothing is computed
 -- here.
 use Rattle.basics.specs.Prelude.{List, true, false, ℕ, suc, _≤_, _<_, length, _≡_, _⊎_}
-use Rattle.language.specs.{Kinds.declarationRank, Kinds.classOf}
+use Rattle.language.specs.{Kinds.declarationRank, Kinds.fileRank, Kinds.classOf}
 use Rattle.language.specs.{declared.kind.DeclarationKind.DeclarationKind}
 use Rattle.language.specs.{declared.kind.Kind.the-variants.Declared}
 use Rattle.language.specs.{declared.frame.Frame.Frame, Refusals.wrongHeader, Refusals.wrongField}
@@ -10,7 +10,7 @@ use Rattle.program.specs.Trees.{frameAt}
 use Rattle.fields.specs.Fields.{headerFine, frameFine}
 use Rattle.layout.specs.declared.LayoutVerdict.{LayoutVerdict}
 use Rattle.layout.specs.declared.LayoutVerdict.the-variants.{LaidOut, Rejected}
-use Rattle.layout.specs.Order.{Tree, fileRank, hasChild, hasClass, isMain}
+use Rattle.layout.specs.Order.{Tree, hasChild, hasClass, isMain}
 use Rattle.layout.specs.Depths.{Depth}
 
 -- `Fault fs n j`: the frame j has the fault n

@@ -1,10 +1,6 @@
 -- Refusal 6: the order of frames.
 use Rattle.basics.specs.Prelude.{List, [], _∷_, Bool, true, false, _&&_, ℕ, suc, eqb, _≡_, any}
 use Rattle.language.specs.{Kinds.isModule, Kinds.classOf, Kinds.Child, Kinds.children}
-use Rattle.language.specs.{Kinds.declarationRank, Kinds.declarations}
-use Rattle.language.specs.{declared.kind.Kind.Kind}
-use Rattle.language.specs.declared.kind.Kind.the-variants.{Header, Declared, Module, Statement}
-use Rattle.language.specs.declared.kind.Kind.the-variants.{Expression, Unknown}
 use Rattle.language.specs.{declared.kind.Class.Class, declared.frame.Frame.Frame}
 use Rattle.program.specs.Trees.{frameAt}
 
@@ -23,16 +19,6 @@ mutual
         → Tree fs lo (c .at) → classOf (frameAt fs (c .at) .kind) ≡ c .class
         → Row fs (suc (c .at)) stop cs
         → Row fs lo stop (c ∷ cs)
-
--- in which order the kinds stand: 'header, shared cells .., then the rest', and 02's events and
--- links between
-abbrev pub fileRank : Kind → ℕ
-fileRank Header = 0
-fileRank (Declared d) = declarationRank d
-fileRank Module = suc declarations
-fileRank (Statement k) = suc declarations
-fileRank (Expression k) = suc declarations
-fileRank Unknown = suc declarations
 
 -- 'a statement or expression that no frame has as a child': frame f has the frame j as a child
 unfoldable pub hasChild : ℕ → Frame → Bool

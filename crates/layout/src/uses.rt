@@ -39,7 +39,7 @@ fn count_frame(counts: &mut [u8; MOST_LINES], f: Frame)
 }
 
 // For each frame how often it is used, 2 standing for more. The caller lends the zeros, so that the
-// array is made in one place only.
+// array is not copied.
 pub fn count_uses(words: &[u64], counts: &mut [u8; MOST_LINES])
     requires { ⌜ now counts ≡ replicate mostLines 0 ⌝ }
     ensures { λ r. ⌜ CountsUses (framesOf (now (words .entry))) (now (counts .exit)) ⌝ }

@@ -1,6 +1,6 @@
 -- What `check` and `run` print, as bytes.
 use Rattle.basics.specs.Prelude.{List, [], _∷_, _++_, Bool, true, false, _&&_, ℕ, suc, _+_, _*_}
-use Rattle.basics.specs.Prelude.{_/_, _%_, min, ltb, leb, eqb, length, take, if_then_else_}
+use Rattle.basics.specs.Prelude.{_/_, _%_, min, ltb, leb, eqb, length, take}
 use Rattle.language.specs.{declared.frame.Frame.Frame, Verdicts.numberOf, Verdicts.frameOf}
 use Rattle.language.specs.{declared.verdict.Verdict.Verdict}
 use Rattle.language.specs.{declared.verdict.Verdict.the-variants.Accepted}

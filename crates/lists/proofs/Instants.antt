@@ -402,11 +402,6 @@ module _ (n : ℕ) (w : List ℕ) (s : State) (h : Says w s) (few : length (s .t
         let y = parted (isReady (s .threads)) (schedulerAt s q .next) in
         omega arith
 
-    pub no-active : getD w (2 + 130 * (q - 2)) 0 ≡ 0
-    no-active =
-        active-count n (isReadyWord w) (isReady (s .threads)) (ready-says w s h few n) w s h q a b room fit
-        ∙ ap length idle
-
     -- `end_instant`
     pub instant-says : Says (withInstantEnded w (q - 2)) (withScheduler q (record { active = readyThreads (s .threads) (schedulerAt s q .next); next = stillWaiting (s .threads) (schedulerAt s q .next) }) s)
     instant-says =

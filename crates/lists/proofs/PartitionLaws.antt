@@ -505,13 +505,6 @@ module _ (test : ℕ → Bool) (w : List ℕ) (at : ℕ) where
         let y = counted-as b q ∙ ap (λ (c : Bool). length (wantedWords test (take j (wordsAt w at))) + length (keepIf c (e % 128) [])) (not-true b t) in
         record { counted = omega arith }
 
-  pub counting-few : (m threads j : ℕ) → Counting m threads j → threads ≤ m + j
-  counting-few m threads j s =
-      let a = s .counted in
-      let b = all-partitioned test w (take j (wordsAt w at)) in
-      let c = length-take j (wordsAt w at) in
-      omega arith
-
   pub counting-end : (m threads j : ℕ) → Counting m threads j → getD w at 0 ≤ j
       → threads ≡ m + length (wantedWords test (wordsAt w at))
   counting-end m threads j s l =

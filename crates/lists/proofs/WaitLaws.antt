@@ -11,7 +11,6 @@ use lib.Dec.{eqb, ltb}
 use borrow.Author.Tests.{lt-ltb, le-ltb, eq-eqb, ne-eqb}
 use Rattle.basics.specs.If.{if_then_else_}
 use Rattle.basics.proofs.Ifs.{yes, no, or-off}
-use Rattle.machine.specs.Shapes.{IsThread}
 use Rattle.machine.specs.inner.Ranges.{allBelow, threadInRange}
 use Rattle.machine.proofs.AllBelow.{all-none}
 use Rattle.lists.specs.inner.Families.{isOfFamily, isAwaited, noneAwaited, isReadyWord}

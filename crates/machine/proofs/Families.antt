@@ -12,7 +12,7 @@ use lib.ListN.{length, getD, List·getD-eq-default}
 use borrow.Author.Tests.{eq-eqb, eqb-true, ltb-true, ltb-false}
 use Rattle.basics.proofs.Ifs.{and-true, or-true, or-left, or-right, and-both}
 use Rattle.basics.proofs.Closures.{Still, closed}
-use Rattle.machine.specs.State.{Thread, Entry, plain, waiting, noThread, nth, starterOf}
+use Rattle.machine.specs.State.{Thread, plain, waiting, noThread, nth, starterOf}
 use Rattle.machine.specs.State.{awaiting}
 use Rattle.machine.specs.Waits.{Family, itself, begun, Ready, no-wait, all-ended}
 use Rattle.machine.specs.Waits.{ReadyComputes}

@@ -8,9 +8,9 @@ use native.Mathlib.Decide.{ℕ-discrete}
 use lib.ListN.{getD, length, set, length-set, length-append, List·getD-append}
 use lib.Seq.{getD-set-same, getD-set-other, getD-at}
 use lib.Dec.{ltb, leb, eqb}
-use borrow.Author.Tests.{ltb-true, ltb-false, eqb-false, leb-true, le-leb}
+use borrow.Author.Tests.{ltb-true, ltb-false, eqb-false, le-leb}
 use Rattle.basics.specs.Members.{All}
-use Rattle.basics.proofs.Ifs.{if-all, and-true, and-both, or-left, or-right}
+use Rattle.basics.proofs.Ifs.{if-all, and-both, or-left, or-right}
 use Rattle.language.specs.Places.{hasPlace, hasScheduler}
 use Rattle.language.proofs.PlaceLaws.{place-scheduler}
 use Rattle.program.specs.Trees.{Expr}

@@ -19,14 +19,13 @@ use Rattle.language.proofs.PlaceLaws.{has-place}
 use Rattle.program.specs.Trees.{Expr, Stmt, nothing, seq, doAt, start, startWait, cooperate, letIn}
 use Rattle.program.specs.Trees.{store, ifElse, while, frameAt, statementAt, rootS}
 use Rattle.program.specs.Programs.{Program, SharedCell, moduleAt, mainOf}
-use Rattle.program.specs.Programs.{ownerOfEvent}
 use Rattle.machine.specs.State.{State, Item, run, back, drop, Thread, Entry, plain, waiting}
 use Rattle.machine.specs.State.{Scheduler, noThread, noScheduler, noCell, threadAt, setNth}
 use Rattle.machine.specs.State.{schedulerAt, withScheduler, withNew, enlist}
 use Rattle.machine.specs.State.{awaiting, isPresent, withPresent}
 use Rattle.machine.specs.Fresh.{fresh, firstCell, mainThread, homeScheduler}
 use Rattle.basics.specs.If.{keepIf}
-use Rattle.machine.specs.Waits.{entryThread, readyThreads, stillWaiting}
+use Rattle.machine.specs.Waits.{entryThread}
 use Rattle.machine.specs.Waits.{threadsWhere, entriesExcept, isAwaiting}
 use Rattle.machine.specs.inner.Families.{isReady}
 use Rattle.machine.specs.Evaluation.{Here, EvalResult, Evaluation, eval, storing}

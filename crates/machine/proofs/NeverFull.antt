@@ -21,7 +21,6 @@ use Rattle.program.specs.Programs.{Program, moduleAt, mainOf}
 use Rattle.machine.specs.State.{State, Item, run, back, drop, Thread, Entry, plain, noThread}
 use Rattle.machine.specs.State.{nth, setNth, schedulerAt, threadAt, enlist}
 use Rattle.machine.specs.State.{isPresent}
-use Rattle.machine.specs.Waits.{readyThreads, stillWaiting}
 use Rattle.machine.specs.Fresh.{fresh}
 use Rattle.machine.specs.Evaluation.{Here, EvalResult, Evaluation, eval, storing}
 use Rattle.machine.specs.Turns.{endlessSpaces, StepResult, Turn, here, continuation, variables}

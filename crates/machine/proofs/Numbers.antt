@@ -10,8 +10,7 @@ use Rattle.program.specs.Trees.{Expr, Stmt, nothing, seq, doAt, start, startWai
 use Rattle.program.specs.Trees.{store, ifElse, while}
 use Rattle.program.specs.Trees.{generate, await}
 use Rattle.program.specs.Programs.{Program}
-use Rattle.machine.specs.State.{State, Item, run, back, drop, Entry, schedulerAt, threadAt}
-use Rattle.machine.specs.Waits.{readyThreads, stillWaiting}
+use Rattle.machine.specs.State.{State, Item, run, back, drop, schedulerAt, threadAt}
 use Rattle.machine.specs.Evaluation.{Here, EvalResult, Evaluation, eval, storing}
 use Rattle.machine.specs.Turns.{StepResult, Turn, afterEval, evaluator, goOn, withValue, withValues}
 use Rattle.machine.specs.Turns.{byCondition, stay, move, goTo}

@@ -24,7 +24,7 @@ use Rattle.machine.specs.State.{withNew, enlist}
 use Rattle.machine.specs.State.{withPresent}
 use Rattle.machine.specs.Words.{bit}
 use Rattle.basics.specs.If.{keepIf}
-use Rattle.machine.specs.Waits.{entryThread, readyThreads, stillWaiting}
+use Rattle.machine.specs.Waits.{entryThread}
 use Rattle.machine.specs.Waits.{threadsWhere, entriesExcept, isAwaiting}
 use Rattle.machine.specs.inner.Families.{isReady}
 use Rattle.machine.specs.Fresh.{fresh}

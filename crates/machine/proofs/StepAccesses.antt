@@ -14,11 +14,11 @@ use Rattle.machine.specs.Values.{Value, Number, Truth, Cell, Outcome, Is
 use Rattle.machine.specs.State.{Item}
 use Rattle.machine.specs.State.{isPresent}
 use Rattle.machine.specs.Evaluation.{Here, EvalResult, Evaluation, eval, storing}
-use Rattle.machine.specs.Turns.{StepResult, Turn, here, variables, unlinkedHere, refuse, accept}
+use Rattle.machine.specs.Turns.{StepResult, Turn, here, variables, unlinkedHere}
 use Rattle.machine.specs.Turns.{evaluator, afterEval, goOn, withValue, withValues, byCondition}
-use Rattle.machine.specs.Turns.{fits, room, stay, move, goTo, settled}
+use Rattle.machine.specs.Turns.{fits, room, stay, move, goTo}
 use Rattle.machine.specs.Statements.{ends, drops, goesBack, stepNothing, stepSeq, stepDo}
-use Rattle.machine.specs.Statements.{withStarted, starting, stepStart, startedWait}
+use Rattle.machine.specs.Statements.{starting, stepStart, startedWait}
 use Rattle.machine.specs.Statements.{stepStartWait, stepCooperate, stepLet, stepStore, stepIf}
 use Rattle.machine.specs.Statements.{stepWhile}
 use Rattle.machine.specs.Statements.{withSignal, isOwnEvent, signalling, stepGenerate}

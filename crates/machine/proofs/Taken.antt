@@ -18,10 +18,9 @@ use Rattle.program.specs.Trees.{Expr, Stmt, nothing, seq, doAt, start, startWai
 use Rattle.program.specs.Trees.{letIn, store, ifElse, while}
 use Rattle.program.specs.Trees.{generate, await}
 use Rattle.program.specs.Programs.{Program, moduleAt}
-use Rattle.machine.specs.State.{State, Item, run, back, drop, Thread, Entry, threadAt}
+use Rattle.machine.specs.State.{State, Item, run, back, drop, Thread, threadAt}
 use Rattle.machine.specs.State.{schedulerAt, setNth}
 use Rattle.machine.specs.State.{nth, isPresent}
-use Rattle.machine.specs.Waits.{readyThreads, stillWaiting}
 use Rattle.machine.specs.Evaluation.{Here, EvalResult, Evaluation, eval, storing}
 use Rattle.machine.specs.Turns.{Spaces, StepResult, Turn, here, continuation, variables, refuse}
 use Rattle.machine.specs.Turns.{afterEval, evaluator, goOn, withValue, withValues, byCondition}

@@ -3,11 +3,11 @@
 use mathlib.Core.Path.{_≡_, refl, sym, ap, _∙_}
 use mathlib.Core.List.{List, [], _∷_, _++_}
 use mathlib.Core.Bool.{Bool, true, false}
-use Prim.Native.Nat.{ℕ, _+_, _≤_, _<_}
+use Prim.Native.Nat.{ℕ, _+_}
 use native.Mathlib.Omega.{arith}
 use lib.Dec.{ltb}
 use lib.ListN.{length, getD, set, length-append, length-set, List·getD-append, List·getD-eq-default}
-use lib.Seq.{getD-set-same, getD-set-other, getD-append-seam}
+use lib.Seq.{getD-set-same, getD-append-seam}
 use borrow.Author.Tests.{ltb-true, ltb-false, lt-ltb, le-ltb}
 use Rattle.machine.specs.State.{Stored, noCell, cellAt, isUsed, freeNumber, usedCells}
 use Rattle.machine.specs.State.{withNewCell}
@@ -44,10 +44,6 @@ new-other cs x c n = go (ltb c (length cs)) refl
         List·getD-eq-default (cs ++ (x ∷ [])) noCell {n = c} (omega (arith, n, k, l))
         ∙ sym (List·getD-eq-default cs noCell {n = c} l)
 
-pub new-used : (cs : List Stored) (x : Stored) → isUsed (withNewCell cs x) (freeNumber cs) ≡ true
-new-used cs x =
-    let k = length-append cs (x ∷ []) in lt-ltb (length cs) (length (cs ++ (x ∷ []))) (omega arith)
-
 -- which are in use beside it
 pub new-used-other : (cs : List Stored) (x : Stored) (c : ℕ) → (c ≡ freeNumber cs → ⊥)
     → isUsed (withNewCell cs x) c ≡ isUsed cs c
@@ -74,10 +70,6 @@ put cs c v = set cs c (record { owner = cellAt cs c .owner; content = v })
 pub put-at : (cs : List Stored) (c : ℕ) (v : Value) → isUsed cs c ≡ true
     → cellAt (put cs c v) c ≡ record { owner = cellAt cs c .owner; content = v }
 put-at cs c v e = getD-set-same cs c _ noCell (ltb-true c (length cs) e)
-
-pub put-other : (cs : List Stored) (c : ℕ) (v : Value) (d : ℕ) → (d ≡ c → ⊥)
-    → cellAt (put cs c v) d ≡ cellAt cs d
-put-other cs c v d n = getD-set-other cs c d _ noCell n
 
 pub put-used : (cs : List Stored) (c : ℕ) (v : Value) (d : ℕ) → isUsed (put cs c v) d ≡ isUsed cs d
 put-used cs c v d = ap (ltb d) (length-set cs c _)

@@ -208,7 +208,8 @@ stepAwait u e =
     signalling u e (isPresent (u .state) e || unlinkedHere u || room u 1 (here u))
     (λ v. if isPresent (v .state) e then accept v (settled v (v .self)) else
     accept v
-    (enlist (here v) (awaiting (v .thread) e) (leave v (settled v (threadAt (v .state) (v .thread))))))
+    (enlist (here v) (awaiting (v .thread) e)
+    (leave v (settled v (threadAt (v .state) (v .thread))))))
 
 abbrev pub stepStatement : Turn → Stmt → StepResult
 stepStatement u (nothing i) = stepNothing u

@@ -1,7 +1,7 @@
 -- The word that counts cells and accesses: what the code's functions of it give, and what is left
 -- of either count after an access. Assumes nothing.
 use mathlib.Core.Path.{_≡_, refl}
-use Prim.Native.Nat.{ℕ, _+_, _*_, _/_, _%_, _^_, _<_, _≤_}
+use Prim.Native.Nat.{ℕ, _+_, _/_, _%_, _^_, _<_, _≤_}
 use native.Mathlib.Omega.{arith}
 use Rattle.operations.specs.inner.Heaps.{cellsIn, accessesIn, heapWord, withAccess, withCell}
 

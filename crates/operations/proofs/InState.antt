@@ -2,7 +2,7 @@
 -- read finds, and what a write leaves of each part. Assumes nothing.
 use mathlib.Core.Path.{_≡_, sym, ap, _∙_}
 use mathlib.Core.List.{List}
-use Prim.Native.Nat.{ℕ, _+_, _<_}
+use Prim.Native.Nat.{ℕ, _+_}
 use native.Mathlib.Omega.{arith}
 use lib.ListN.{length, getD, set, take, length-set}
 use lib.Seq.{getD-drop, getD-set-same, getD-set-other, set-set}
@@ -58,15 +58,6 @@ module _ (w : List ℕ) where
   counted-in o n l =
       ap (λ (m : ℕ). result o m (lentCells (set w cellCountAt n))) (count-set n l)
       ∙ ap (result o n) (cells-kept n)
-
-  -- then another word of a cell
-  pub counted-room : (i n : ℕ) → i < 256 → length w ≡ stateLength
-      → cellsAt + i < length (set w cellCountAt n)
-  counted-room i n l e = (let z = length-set w cellCountAt n in omega arith)
-
-pub rest-counted : (w : List ℕ) (i n x : ℕ)
-    → lentRest (set (set w cellCountAt n) (cellsAt + i) x) ≡ lentRest w
-rest-counted w i n x = rest-put (set w cellCountAt n) i x ∙ rest-kept w n
 
 -- ---- one more cell: its word, then the count
 module _ (w : List ℕ) (i x n : ℕ) where

@@ -77,10 +77,6 @@ no-truth (Number n) h = refl
 no-truth (Truth b) h = absurd (a-truth b h)
 no-truth (Cell c) h = refl
 
-pub only-is : (o : Outcome) (k : Value → Outcome) (v : Value) (r : Outcome) → o ≡ Is v → r ≡ k v
-    → r ≡ onlyBy o k
-only-is o k v r e h = h ∙ sym (ap (λ (x : Outcome). onlyBy x k) e)
-
 pub only-refused : (o : Outcome) (k : Value → Outcome) → IsRefusal o → o ≡ onlyBy o k
 only-refused (Is v) k h = absurd (no-refusal v h)
 only-refused Foreign k h = refl

@@ -175,7 +175,9 @@ no-links (f ∷ gs) h =
 
 link-early : (k : Kind) → isEarly k ≡ false → isLink k ≡ false
 link-early Header e = refl
-link-early (Declared d) e = absurd (true≢false e)
+link-early (Declared Shared) e = refl
+link-early (Declared Event) e = refl
+link-early (Declared Links) e = absurd (true≢false e)
 link-early Module e = refl
 link-early (Statement k) e = refl
 link-early (Expression k) e = refl

@@ -1,7 +1,7 @@
 -- The frames that declare shared cells, sought one after the other and counted. Assumes nothing.
 use mathlib.Core.Path.{_≡_, refl, sym, ap, subst, _∙_}
 use mathlib.Core.List.{List, [], _∷_}
-use mathlib.Core.Bool.{Bool, true, false, not}
+use mathlib.Core.Bool.{Bool, true, false}
 use Prim.Native.Nat.{ℕ, zero, suc, _+_, _-_, _<_, _≤_}
 use native.Mathlib.Omega.{arith}
 use native.Mathlib.Numerals.{add-one}
@@ -14,7 +14,7 @@ use Rattle.language.specs.Kinds.{isShared}
 use Rattle.language.specs.declared.frame.Frame.{Frame}
 use Rattle.text.specs.Frames.{frameOfWord, framesOf}
 use Rattle.text.proofs.FrameWords.{next-frame, frames-end}
-use Rattle.program.specs.Programs.{SharedCell, sharedOf, cellOf}
+use Rattle.program.specs.Programs.{sharedOf, cellOf}
 use Rattle.program.specs.inner.Shared.{nextShared}
 use Rattle.program.proofs.OneMore.{shared-no, shared-yes}
 

@@ -18,7 +18,7 @@ pub(crate) enum FrameFound {
     Nowhere,
 }
 
-// An event is told by its line's K alone: an instant's end asks many lines for several events.
+// An event is told by its line's K alone: a generation and an await ask every line up to it.
 fn is_numbered(what: Numbered, line: u64) -> bool
     ensures { λ r. ⌜ r ≡ isNumbered what (frameOfWord line .kind) ⌝ }
 {

@@ -15,8 +15,7 @@ use Rattle.language.specs.declared.kind.Kind.the-variants.{Header, Declared, Mo
 use Rattle.language.specs.declared.kind.Kind.the-variants.{Expression, Unknown}
 use Rattle.language.specs.declared.frame.Frame.{Frame}
 use Rattle.program.specs.Trees.{Expr, noFrame, frameAt, expressionOf, expressionTo, expressionAt}
-use Rattle.program.specs.Trees.{arguments}
-use Rattle.program.specs.inner.Sizes.{exprSize, exprSizes}
+use Rattle.program.specs.inner.Sizes.{exprSize}
 use Rattle.layout.specs.Order.{Tree}
 use Rattle.layout.specs.Faults.{NoFault}
 use Rattle.layout.proofs.Trees.{tree-le, row-of, One, Two, Three, one-of, two-of, three-of}
@@ -109,17 +108,3 @@ module _ {fs : List Frame} (fine : NoFault fs) where
         go : Dec (i < length fs) → exprSize (expressionAt fs i) ≤ 1024
         go (yes l) = let p = nodes-few i l in omega arith
         go (no n) = let p = past-nodes fs i (omega (arith, n)) in omega arith
-
-    pub store-most : (i : ℕ) → frameAt fs i .kind ≡ Statement StatementKind.Store
-        → exprSize (expressionAt fs (frameAt fs i .a))
-        + exprSize (expressionAt fs (frameAt fs i .b)) + 1
-        ≤ 1024
-    store-most i e = let l = inside fine i _ e refl in let p = store-nodes i e in omega arith
-
-    -- 13 and 14 have at most two
-    pub argument-nodes : (a b : ℕ) → exprSizes (arguments (λ j. expressionAt fs j) a b) ≤ 2048
-    unfolding exprSizes
-    argument-nodes zero b = omega arith
-    argument-nodes (suc a) zero = let p = nodes-most (suc a) in omega arith
-    argument-nodes (suc a) (suc b) =
-        let p = nodes-most (suc a) in let q = nodes-most (suc b) in omega arith

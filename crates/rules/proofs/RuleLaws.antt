@@ -25,11 +25,10 @@ use Rattle.language.specs.Refusals.{instantLoop}
 use Rattle.language.proofs.PlaceLaws.{read-at, read-none, scheduler-place}
 use Rattle.program.specs.declared.node.Leaf.{Leaf}
 use Rattle.program.specs.declared.node.CellUse.{CellUse}
-use Rattle.program.specs.declared.node.Operator.{Operator}
 use Rattle.rules.specs.inner.Checking.{namedRule, newRule, contentRule, numbersRule}
 use Rattle.rules.specs.inner.Checking.{chooseRule, cooperateRule, seqRule, EffectTest, doRule, joinRule}
 use Rattle.rules.specs.inner.Checking.{storeRule, ifElseRule, whileRule, signalRule}
-use Rattle.rules.specs.inner.NodeRules.{leafRule, OwnerPlaced, cellRule, madeBy, bothTyped}
+use Rattle.rules.specs.inner.NodeRules.{leafRule, OwnerPlaced, cellRule, bothTyped}
 use Rattle.rules.specs.inner.Standings.{standing}
 use Rattle.rules.specs.declared.finding.Typing.{Typing}
 use Rattle.rules.specs.declared.finding.Typing.the-variants.{Typed, Untyped}
@@ -110,10 +109,6 @@ module _ (u : CellUse) where
   cell-read i x r h z = z ∙ ap (λ (v : CellUse). cellRule v i x) (sym h)
 
 pub ruleset cell-laws = (cell-made, cell-read)
-
--- ---- 26 and 27, the type of what an operator makes
-pub made-row : (op v : Operator) (r : ℕ) → op ≡ v → r ≡ madeBy v → r ≡ madeBy op
-made-row op v r h z = z ∙ ap madeBy (sym h)
 
 -- ---- 24, a new cell
 module _ (s i t : ℕ) (e : Effect) (c : CellRead) (d : c ≡ cellRead s t) where

@@ -1,6 +1,6 @@
 // Reads prog.txt and choices.txt in the folder it runs in, an absent file as empty, and prints the
 // listing of the run: the check's line, a line for each choice used, and how many were used. Where
-// one of the two cannot be read, nothing.
+// one that is needed cannot be read, nothing.
 use files::FileRead;
 use files::print;
 use files::read_file;

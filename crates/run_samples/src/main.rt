@@ -1,4 +1,4 @@
-// Runs of many files: the bench samples of document 01 that concern running, the vectors, and long
+// Runs of many files: the bench samples of document 01 that concern running, its vectors, and long
 // runs under several allowances. For each sample i it reads the text in data/iiip and the choices
 // in data/iiic, and prints the sample's name and the listing; the report is compared with the
 // stored one.

@@ -1,6 +1,6 @@
 -- One choice more of a run, on the words of the state that those before it reach. Assumes nothing.
-use Prim.Native.Nat.{ℕ, suc, _+_, _<_, _≤_}
-use mathlib.Core.Path.{_≡_, refl, sym, ap, _∙_}
+use Prim.Native.Nat.{ℕ, suc, _+_, _<_}
+use mathlib.Core.Path.{_≡_, refl, ap, _∙_}
 use mathlib.Core.List.{List, [], _∷_, _++_}
 use native.Mathlib.Omega.{arith}
 use lib.ListN.{length, getD, take}
@@ -13,7 +13,7 @@ use Rattle.machine.specs.Fresh.{fresh}
 use Rattle.machine.specs.Steps.{step}
 use Rattle.machine.specs.Runs.{stateFrom, stateAfter}
 use Rattle.machine.specs.Words.{pack}
-use Rattle.machine.specs.Calls.{CallResult, stepCall}
+use Rattle.machine.specs.Calls.{stepCall}
 use Rattle.machine.proofs.KeptShape.{FileFits, reached-shaped, reached-in-range}
 use Rattle.machine.proofs.CallRuns.{asCalled, call-is}
 use Rattle.stepper.specs.declared.file.File.{File}

@@ -162,8 +162,8 @@ fn list_rejected(n: u8, j: u16, out: &mut [u8]) -> ListingAnswer
 
 // The listing of any text and of the bytes of choices.txt, and the state after it. The answer is
 // the text's refusal 1 to 7 whatever the lengths, else 14 where a buffer has another length than
-// the listing needs, else 0. Where one has, nothing is written. The longest listing has 8 + 19 *
-// 16,384 + 5 bytes.
+// the listing needs, else 0. With 14 nothing is written, nor for a refused text where `out` has
+// another length. The longest listing has 8 + 19 * 16,384 + 5 bytes.
 pub fn run_listing(text: &[u8], choices: &[u8], state: &mut [u64], out: &mut [u8]) -> ListingAnswer
     ensures { λ r. ⌜ withBuffers r (now (state .exit)) (now (out .exit))
         ≡ listText (now (text .entry)) (now (choices .entry)) (now (state .entry))

@@ -3,13 +3,11 @@
 use Prim.Native.Nat.{ℕ, zero, suc, _+_, _<_, _≤_}
 use mathlib.Core.Path.{_≡_, refl, sym, ap, ap₂, _∙_, subst}
 use mathlib.Core.List.{List, [], _∷_, _++_}
-use mathlib.Core.Bool.{Bool, true, false}
 use native.Mathlib.Omega.{arith}
-use lib.ListN.{length, length-append, length-map}
+use lib.ListN.{length, length-append}
 use lib.Dec.{ltb, eqb}
 use borrow.Author.Tests.{lt-ltb, le-ltb, ne-eqb}
 use Rattle.basics.specs.Members.{All, more, none}
-use Rattle.basics.specs.If.{if_then_else_}
 use Rattle.basics.proofs.Ifs.{if-all, if-yes, if-no}
 use Rattle.language.specs.declared.kind.StatementKind.{StatementKind}
 use Rattle.language.specs.declared.kind.StatementKind.the-variants as K
@@ -17,16 +15,15 @@ use Rattle.language.specs.declared.kind.Kind.{Kind}
 use Rattle.language.specs.declared.kind.Kind.the-variants.{Header, Declared, Module, Statement}
 use Rattle.language.specs.declared.kind.Kind.the-variants.{Expression, Unknown}
 use Rattle.language.specs.declared.frame.Frame.{Frame}
-use Rattle.program.specs.Trees.{Expr, Stmt, nothing, seq, doAt, start, startWait, cooperate, letIn}
-use Rattle.program.specs.Trees.{store, ifElse, while, frameAt, rootS, arguments, statementWith}
+use Rattle.program.specs.Trees.{Expr, Stmt, nothing, seq, start, cooperate}
+use Rattle.program.specs.Trees.{store, while, frameAt, rootS, arguments, statementWith}
 use Rattle.program.specs.Trees.{statementOf, statementTo, statementAt, expressionAt}
 use Rattle.program.specs.Programs.{Program}
-use Rattle.program.specs.inner.Sizes.{exprSize}
 use Rattle.layout.specs.Faults.{NoFault}
 use Rattle.machine.specs.Accesses.{Access}
 use Rattle.machine.specs.State.{State, Stored, Thread, Item, run, back, drop, threadAt, usedCells}
 use Rattle.machine.specs.Evaluation.{EvalResult, eval, storing}
-use Rattle.machine.specs.Turns.{StepResult, Turn, evaluator, afterEval}
+use Rattle.machine.specs.Turns.{Turn, evaluator}
 use Rattle.machine.specs.Statements.{stepStatement}
 use Rattle.machine.specs.inner.Parts.{turn, stepItems, stepThread}
 use Rattle.machine.specs.Steps.{stepThreadWithin}

@@ -1,6 +1,6 @@
 -- The end of an instant of a group, on words in range: what each call asks, and what the end gives.
 -- Assumes nothing.
-use Prim.Native.Nat.{ℕ, zero, suc, _+_, _-_, _*_, _<_, _≤_}
+use Prim.Native.Nat.{ℕ, zero, suc, _+_, _-_, _<_, _≤_}
 use mathlib.Core.Path.{_≡_, refl, sym, ap, ap₂, _∙_, subst}
 use mathlib.Core.List.{List, [], _∷_}
 use mathlib.Core.Bool.{Bool, true, false, not, true≢false}
@@ -13,21 +13,20 @@ use Rattle.basics.specs.If.{if_then_else_, keepIf}
 use Rattle.basics.specs.Members.{All, any}
 use Rattle.basics.proofs.Ifs.{if-yes, if-no}
 use Rattle.language.specs.Groups.{inStep}
-use Rattle.language.specs.Places.{isScheduler, hasScheduler}
-use Rattle.language.specs.declared.Place.{Place}
+use Rattle.language.specs.Places.{isScheduler}
 use Rattle.language.specs.inner.Labels.{labelsOf, sameLabel, inGroup}
 use Rattle.language.proofs.Labels.{labels-length, same-in-step}
-use Rattle.language.proofs.PlaceLaws.{test-bounds, has-scheduler}
+use Rattle.language.proofs.PlaceLaws.{has-scheduler}
 use Rattle.text.specs.Frames.{framesOf}
 use Rattle.program.specs.Trees.{frameAt}
 use Rattle.program.specs.Programs.{Program, programOf, eventsOf, ownerOfEvent}
-use Rattle.machine.specs.State.{State, Scheduler, noScheduler, schedulerAt, withPresent}
+use Rattle.machine.specs.State.{State, Scheduler, schedulerAt, withPresent}
 use Rattle.machine.specs.Groups.{schedulersWhere, members}
 use Rattle.machine.specs.Turns.{accessCount, isSchedulerOf}
 use Rattle.machine.specs.Steps.{withoutEventsOf, endOnEach, hasActive, hasReady, endInstant}
 use Rattle.machine.specs.Words.{pack}
-use Rattle.machine.specs.Calls.{CallResult, asCall, callResult}
-use Rattle.machine.specs.Shapes.{IsThread, SchedulerFits}
+use Rattle.machine.specs.Calls.{asCall, callResult}
+use Rattle.machine.specs.Shapes.{SchedulerFits}
 use Rattle.machine.proofs.WordLaws.{Says, is-pack}
 use Rattle.machine.proofs.GroupLaws.{ended-present}
 use Rattle.machine.proofs.KeptShape.{scheduler-fits}
@@ -40,7 +39,7 @@ use Rattle.groups.specs.inner.Members.{Each, IdleOn}
 use Rattle.groups.proofs.MembersSay.{ListsShaped, Idle, active-says, ended-says, ready-says}
 use Rattle.groups.proofs.MembersSay.{none-ended}
 use Rattle.commits.specs.inner.Commits.{Grouping, grouping}
-use Rattle.stepper.specs.inner.Files.{StepWords, InstantWords, groupingOf, stateIn}
+use Rattle.stepper.specs.inner.Files.{StepWords, InstantWords, stateIn}
 use Rattle.stepper.proofs.Transitions.{scheduler-there}
 use Rattle.stepper.proofs.GoodWords.{fits-in, shaped, says, step-long, threads-few, few-events}
 use Rattle.stepper.proofs.GoodWords.{owners-in, active-short, next-short}

@@ -34,7 +34,7 @@ use Rattle.commits.specs.inner.Commits.{grouping}
 use Rattle.stepper.specs.inner.Files.{nobodyAnswers, steppedOn, InstantWords}
 use Rattle.stepper.specs.inner.Files.{StepWords, stateIn, TurnChoice, fileOf, actingIn}
 use Rattle.stepper.proofs.Transitions.{scheduler-there}
-use Rattle.stepper.proofs.GoodWords.{fits-in, shaped, says, step-long}
+use Rattle.stepper.proofs.GoodWords.{fits-in, shaped, says}
 use Rattle.program.specs.Trees.{frameAt}
 
 module _ (frames : List ℕ) (shared : ℕ) (w : List ℕ) (h : StepWords frames shared w) (c : ℕ) where
@@ -64,12 +64,6 @@ module _ (frames : List ℕ) (shared : ℕ) (w : List ℕ) (h : StepWords frames
 
     first : (t : ℕ) → t ≡ getD w (3 + 130 * (c - 2)) 0 → t ≡ getD (schedulerAt s c .active) 0 0
     first t q = q ∙ first-says w s (says frames shared w h) c in-lists (there .0)
-
-    -- ---- the scheduler as a place
-    module _ (p : Place) (at : p ≡ record { number = c }) where
-      pub list-asks : (length w ≡ 4834) × (isScheduler (p .number) ≡ true)
-      list-asks =
-          (step-long frames shared w h, ap (λ (q : Place). isScheduler (q .number)) at ∙ there .1)
 
     -- ---- with a first active thread
     module _ (t : ℕ) (q : t ≡ getD w (3 + 130 * (c - 2)) 0) (some : t ≡ 0 → ⊥) where
@@ -183,9 +177,6 @@ module _ (frames : List ℕ) (shared : ℕ) (w : List ℕ) (h : StepWords frames
           (λ e z. let i = is-scheduler has file f refl e in let k = turn-asks i t z some in (k .0, k .1, turn-choice i))
           (λ e u z. subst (λ (i : ℕ). (1 ≤ i) × (i ≤ 64) × TurnChoice frames c) (sym z) (thread-asks has file f refl e unlinked-word refl u))
           (λ e u z. absurd (some z))
-
-      pub acting-byte : t < 256
-      acting-byte = let k = acting-asks .1 in omega arith
 
       pub acting-steps : (r : CallResult) → r ≡ asCall w (stepThread P s c t)
           → r ≡ stepCall (framesOf frames) w c

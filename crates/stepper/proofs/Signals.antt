@@ -1,6 +1,6 @@
 -- 1A and 1B: a generation and an await, committed on the words, are what the rules make of the
 -- state. Assumes nothing.
-use Prim.Native.Nat.{ℕ, suc, _+_, _*_, _-_, _<_, _≤_}
+use Prim.Native.Nat.{ℕ, suc, _+_, _-_, _<_, _≤_}
 use mathlib.Core.Path.{_≡_, refl, sym, ap, ap₂, _∙_, subst}
 use mathlib.Core.List.{List}
 use mathlib.Core.Bool.{Bool, true, false, not, _&&_, _||_}
@@ -8,7 +8,7 @@ use native.Mathlib.Omega.{arith}
 use lib.Dec.{leb, ltb, eqb}
 use lib.ListN.{length, getD, set}
 use lib.Seq.{set-getD}
-use borrow.Author.Tests.{le-leb, lt-leb, ltb-true, ltb-false, leb-true, eqb-true}
+use borrow.Author.Tests.{le-leb, lt-leb, ltb-true, ltb-false, leb-true}
 use Rattle.basics.specs.If.{if_then_else_}
 use Rattle.basics.proofs.Ifs.{if-yes, if-no, and-true}
 use Rattle.language.specs.Places.{private, isScheduler, hasPlace}
@@ -19,7 +19,7 @@ use Rattle.program.specs.Programs.{Program, ownerOfEvent}
 use Rattle.program.specs.inner.Events.{eventIn}
 use Rattle.machine.specs.Accesses.{Access}
 use Rattle.machine.specs.State.{State, Stored, Thread, awaiting, noThread, threadAt, schedulerAt}
-use Rattle.machine.specs.State.{isPresent, withCells, withPresent, withThread, enlist, usedCells}
+use Rattle.machine.specs.State.{isPresent, withCells, withPresent, enlist, usedCells}
 use Rattle.machine.specs.Turns.{StepResult, Turn, unlinkedHere, refuse, accept, settled, leave, room}
 use Rattle.machine.specs.Statements.{withSignal, isOwnEvent, signalling, wakeOnEach, eventGroup}
 use Rattle.machine.specs.Statements.{roomToWakeOn, roomToWake}
@@ -41,10 +41,10 @@ use Rattle.states.proofs.EventLaws.{set-says, present-says}
 use Rattle.groups.specs.inner.Members.{roomOnEach, wokenOn}
 use Rattle.groups.proofs.MembersSay.{There, ListsShaped, room-says, woken-says}
 use Rattle.acts.specs.declared.act.Transition.the-variants.{Generates, Awaits}
-use Rattle.acts.specs.inner.Transitions.{TurnResult, actedIn}
+use Rattle.acts.specs.inner.Transitions.{actedIn}
 use Rattle.commits.specs.inner.Commits.{Committed, committed, refusesIn, staysIn, leftIn, roomIn}
-use Rattle.commits.specs.inner.Commits.{joinedIn, settledIn, ownsEvent, wakeRoomIn, presentIn}
-use Rattle.commits.specs.inner.Commits.{generateObstacle, awaitObstacle, generatedIn, generatesIn}
+use Rattle.commits.specs.inner.Commits.{ownsEvent, wakeRoomIn, presentIn}
+use Rattle.commits.specs.inner.Commits.{awaitRoomIn, signalObstacle, generatedIn, generatesIn}
 use Rattle.commits.specs.inner.Commits.{awaitingIn, awaitsIn, Grouping, membersBy}
 use Rattle.stepper.specs.inner.Files.{asCommitted, groupingOf}
 use Rattle.stepper.proofs.Grows.{Grown}
@@ -190,7 +190,7 @@ module _ {fs : List Frame} {P : Program} {n : ℕ} {w : List ℕ} {s : State} {c
 
   pub generates-is : commit A (actedIn (Generates e) (threadWordsOf x) (usedCells cs)) cs
       ≡ asCommitted w (stepGenerate u e)
-  unfolding generatesIn generateObstacle eventIn stepGenerate signalling
+  unfolding generatesIn signalObstacle eventIn stepGenerate signalling
   generates-is = by-there (ltb e (length (P .events))) refl
     where
       r : Committed
@@ -236,7 +236,7 @@ module _ {fs : List Frame} {P : Program} {n : ℕ} {w : List ℕ} {s : State} {c
   -- ---- 1B
   -- a thread at a scheduler has a list; one at none needs no room
   await-room-same : e < length (P .events)
-      → (presentIn v e || eqb (x .place) private || roomIn v (x .place) 1)
+      → awaitRoomIn v (x .place) e
       ≡ (isPresent s e || unlinkedHere u || room u 1 (x .place))
   unfolding room
   await-room-same h =
@@ -308,7 +308,7 @@ module _ {fs : List Frame} {P : Program} {n : ℕ} {w : List ℕ} {s : State} {c
 
   pub awaits-is : commit A (actedIn (Awaits e) (threadWordsOf x) (usedCells cs)) cs
       ≡ asCommitted w (stepAwait u e)
-  unfolding awaitsIn awaitObstacle eventIn stepAwait signalling
+  unfolding awaitsIn signalObstacle eventIn stepAwait signalling
   awaits-is = by-there (ltb e (length (P .events))) refl
     where
       r : Committed

@@ -4,7 +4,6 @@ use mathlib.Core.Path.{sym, subst}
 use mathlib.Core.List.{List, [], _∷_}
 use mathlib.Core.Bool.{Bool, true, false, _&&_}
 use lib.Dec.{leb, eqb}
-use lib.ListN.{length}
 use Rattle.basics.specs.Members.{All, more}
 use Rattle.basics.proofs.Ifs.{if-all}
 use Rattle.language.specs.declared.frame.Frame.{Frame}

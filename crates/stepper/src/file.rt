@@ -27,8 +27,8 @@ fn allowance_in(a: u16) -> u16
     a
 }
 
-// The header's fields. The frames are those of a file that passes refusals 1 to 7: its header has 1
-// to 8 schedulers.
+// The header's fields, the count of the shared cells, the labels. The frames are those of a file
+// that passes refusals 1 to 7: its header has 1 to 8 schedulers.
 pub fn file_of(frames: &[u64]) -> File
     requires { ⌜ FileWords (now frames) ⌝ }
     ensures { λ r. ⌜ r ≡ fileOf (programOf (framesOf (now (frames .entry)))) ⌝ }

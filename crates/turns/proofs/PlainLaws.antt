@@ -1,8 +1,8 @@
 -- What an evaluation leaves, without the accesses that are counted with its cells: the evaluation
 -- on the cells alone; and the accesses counted. Assumes nothing.
-use mathlib.Core.Path.{_≡_, ap, _∙_, subst, sym}
+use mathlib.Core.Path.{_≡_, ap, subst, sym}
 use mathlib.Core.List.{List}
-use Prim.Native.Nat.{ℕ, _+_, _%_, _^_, _≤_, _<_}
+use Prim.Native.Nat.{ℕ, _+_, _%_, _^_, _≤_}
 use native.Mathlib.Omega.{arith}
 use lib.ListN.{length}
 use Rattle.program.specs.Trees.{Expr}
@@ -11,10 +11,10 @@ use Rattle.machine.specs.Evaluation.{EvalResult, Evaluation, eval, storing}
 use Rattle.machine.specs.inner.Blocks.{cellWords}
 use Rattle.machine.proofs.FewAccesses.{cells-few, storing-cells-few}
 use Rattle.operations.specs.declared.Who.{Who}
-use Rattle.operations.specs.inner.Heaps.{cellsIn, accessesIn, heapWord}
+use Rattle.operations.specs.inner.Heaps.{cellsIn, accessesIn}
 use Rattle.operations.specs.inner.Results.{Result, result}
 use Rattle.operations.proofs.HeapLaws.{heap-cells, heap-accesses}
-use Rattle.evaluator.specs.inner.Results.{hereOf, resultOf, onWords, onHeap, evaluatedBy, storedBy}
+use Rattle.evaluator.specs.inner.Results.{hereOf, onWords, onHeap, evaluatedBy, storedBy}
 use Rattle.evaluator.specs.inner.Results.{evaluatedOn, storedOn, cellsFrom}
 use Rattle.evaluator.proofs.Holding.{from-length}
 use Rattle.turns.specs.inner.TurnCounts.{evalCount, storeCount}

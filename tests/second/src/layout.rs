@@ -236,7 +236,7 @@ fn first_of_subtree(frames: &[Frame], first: &[usize], f: usize) -> Option<usize
 
 /// A shared cell, an event or a link after a kind that it should precede. The
 /// frame before it decides: if an earlier one is of such a kind, then the first
-/// that stands wrongly behind that is lower and is found before.
+/// that stands wrongly after that is lower and is found before.
 fn is_misplaced(frames: &[Frame], f: usize) -> bool {
     f > 0 && part(&frames[f - 1]) > part(&frames[f])
 }

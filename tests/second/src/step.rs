@@ -313,7 +313,7 @@ impl State {
     }
 
     /// The event is present, and the threads of each member's next list that
-    /// await it become active there, behind those that are.
+    /// await it become active there, after those that are.
     fn generate(&mut self, event: u8, group: Effect) {
         self.present[usize::from(event)] = true;
         for member in group.schedulers() {

@@ -66,7 +66,7 @@ fn printed_with(events: u16, frames: &[&str]) -> String {
 const HOME_EVENT: &str = "0302000000000000";
 const OTHER_EVENT: &str = "0303000000000000";
 
-/// Behind the shared cells and before the modules, as they were given.
+/// After the shared cells and before the modules, as they were given.
 #[test]
 fn events_keep_their_order() {
     let drawn = [
@@ -99,10 +99,10 @@ fn events_keep_their_order() {
 /// 4 and 5 are the check's own, order is no reason, and an event is no child.
 #[test]
 fn refusals_of_events() {
-    let behind = [NOTHING, "0200000100000000", HOME_EVENT];
-    assert_eq!(printed_with(0, &behind), "04 0000\n");
-    assert_eq!(printed_with(2, &behind), "04 0000\n");
-    assert!(printed_with(1, &behind).starts_with("0001"));
+    let after = [NOTHING, "0200000100000000", HOME_EVENT];
+    assert_eq!(printed_with(0, &after), "04 0000\n");
+    assert_eq!(printed_with(2, &after), "04 0000\n");
+    assert!(printed_with(1, &after).starts_with("0001"));
     let bad = [NOTHING, "0200000100000000", "0301000000000000"];
     assert_eq!(printed_with(1, &bad), "05 0003\n");
     assert_eq!(
@@ -127,7 +127,7 @@ fn refusals_of_events() {
 
 const LINK: &str = "0403000200000000";
 
-/// Behind the events and before the modules, as they were given, the same one
+/// After the events and before the modules, as they were given, the same one
 /// twice too.
 #[test]
 fn links_keep_their_order() {
@@ -162,8 +162,8 @@ fn links_keep_their_order() {
 #[test]
 fn refusals_of_links() {
     let main = [NOTHING, "0200000100000000"];
-    let behind = |link| printed_with(0, &[&main[..], &[link]].concat());
-    assert!(behind(LINK).starts_with("0001"));
+    let after = |link| printed_with(0, &[&main[..], &[link]].concat());
+    assert!(after(LINK).starts_with("0001"));
     for bad in [
         "0402000200000000",
         "0402000300000000",
@@ -173,7 +173,7 @@ fn refusals_of_links() {
         "0403000200010000",
         "0403000200000001",
     ] {
-        assert_eq!(behind(bad), "05 0003\n", "{bad}");
+        assert_eq!(after(bad), "05 0003\n", "{bad}");
     }
     assert_eq!(printed_with(0, &[LINK, "0200000100000000"]), "06 0002\n");
     let twice = [LINK, "1100000100010000", "0200000200000000"];

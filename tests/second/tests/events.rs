@@ -22,7 +22,7 @@ fn check(lines: &[&str]) -> String {
     String::from_utf8(listing::check(text.as_bytes())).unwrap()
 }
 
-/// What the check prints on these frames behind a header with two schedulers
+/// What the check prints on these frames after a header with two schedulers
 /// and this number of events.
 fn check_with(events: u16, frames: &[&str]) -> String {
     let header = format!("000100000002{events:04X}");
@@ -132,17 +132,17 @@ fn events_stand_after_the_shared_cells() {
 /// Not the frame before it, nor one after it.
 #[test]
 fn a_misplaced_declaration_names_itself() {
-    // Behind a statement that is used, and behind a module.
-    let behind_statement = [NOTHING, EVENT, "0200000100000000"];
-    assert_eq!(check_with(1, &behind_statement), "06 0002\n");
-    let behind_module = |events, declarations: &[&str]| {
+    // After a statement that is used, and after a module.
+    let after_statement = [NOTHING, EVENT, "0200000100000000"];
+    assert_eq!(check_with(1, &after_statement), "06 0002\n");
+    let after_module = |events, declarations: &[&str]| {
         let module = [NOTHING, "0200000100000000"];
         declared(events, &[&module, declarations].concat())
     };
-    assert_eq!(behind_module(1, &[EVENT]), "06 0003\n");
-    assert_eq!(behind_module(0, &[CELL]), "06 0003\n");
+    assert_eq!(after_module(1, &[EVENT]), "06 0003\n");
+    assert_eq!(after_module(0, &[CELL]), "06 0003\n");
     // The first of several.
-    assert_eq!(behind_module(1, &[EVENT, CELL]), "06 0003\n");
+    assert_eq!(after_module(1, &[EVENT, CELL]), "06 0003\n");
     assert_eq!(declared(2, &[EVENT, CELL, CELL, EVENT]), "06 0002\n");
     // The last frame.
     assert_eq!(
@@ -364,7 +364,7 @@ fn awaiting_a_present_event_passes_on_in_that_step() {
 }
 
 /// The step succeeds and names the thread, the statement stays on top, and the
-/// thread is behind those that are on the next list already.
+/// thread is after those that are on the next list already.
 #[test]
 fn awaiting_an_absent_event_goes_to_the_end_of_the_next_list() {
     let mut run = Run::new(
@@ -410,7 +410,7 @@ fn a_scheduler_with_only_awaiters_never_answers_16() {
 }
 
 /// The generator's statement is used up and it stays first; those that await
-/// come in list order behind all that are active, each with its own step.
+/// come in list order after all that are active, each with its own step.
 #[test]
 fn a_generation_moves_awaiters_to_the_end_of_the_active_list() {
     let modules = [
@@ -451,9 +451,9 @@ fn a_generation_moves_awaiters_to_the_end_of_the_active_list() {
     run.refused(2, 16, 0);
 }
 
-/// Behind threads that are active too, not before them.
+/// After threads that are active too, not before them.
 #[test]
-fn awaiters_come_behind_those_that_are_active() {
+fn awaiters_come_after_those_that_are_active() {
     let main = row(&[start(0), start(1), start(2), start(2)]);
     let modules = [
         await_event(0),
@@ -710,7 +710,7 @@ fn a_thread_that_is_active_again_does_not_await() {
     run.acts(2, &[1, 1, 1, 1, 1, 0, 2, 1]);
     assert_eq!(run.next(2), [awaiting(2, 0), ready(1)]);
     run.acts(2, &[0]);
-    // 1 acts before 2 if 2 is put behind it.
+    // 1 acts before 2 if 2 is put after it.
     run.state.schedulers[0].active.swap(0, 1);
     run.acts(2, &[1]);
     assert_eq!((run.active(2), run.next(2)), (vec![1, 2], vec![]));
@@ -731,7 +731,7 @@ fn a_wait_for_a_thread_that_awaits() {
     run.acts(2, &[1, 1, 1, 0]);
     run.acts(2, &[2, 2, 2, 3, 0]);
     run.acts(2, &[2, 3, 0]);
-    // 2 generates; 3, behind it, passes and ends, and so does the wait.
+    // 2 generates; 3, after it, passes and ends, and so does the wait.
     run.acts(2, &[2, 2, 3, 3, 0, 1]);
     run.refused(2, 16, 0);
 }

@@ -25,7 +25,7 @@ const LINK: &str = "0403000200000000";
 const NOTHING: &str = "1000000000000000";
 const ACCEPTED: &str = "00 0000\n";
 
-/// What the check prints on these frames behind a header with so many
+/// What the check prints on these frames after a header with so many
 /// schedulers and the right number of events.
 fn check_with(schedulers: u8, frames: &[&str]) -> String {
     let events = frames
@@ -143,9 +143,9 @@ fn links_stand_after_the_events_and_before_the_rest() {
 #[test]
 fn a_late_link_names_itself() {
     let module = [NOTHING, "0200000100000000"];
-    let behind = |frames: &[&str]| declared(2, &[&module, frames].concat());
-    assert_eq!(behind(&[LINK]), "06 0003\n");
-    assert_eq!(behind(&[LINK, LINK, EVENT]), "06 0003\n");
+    let after = |frames: &[&str]| declared(2, &[&module, frames].concat());
+    assert_eq!(after(&[LINK]), "06 0003\n");
+    assert_eq!(after(&[LINK, LINK, EVENT]), "06 0003\n");
     assert_eq!(
         check_with(2, &[NOTHING, LINK, "0200000100000000"]),
         "06 0002\n"
@@ -606,7 +606,7 @@ fn awaiters(owner: u8) -> Run {
 }
 
 /// Each into its own member's active list, whoever the owner is; at the
-/// generator's own behind it. All pass in the same instant.
+/// generator's own after it. All pass in the same instant.
 #[test]
 fn a_generation_wakes_awaiters_on_each_member() {
     for owner in [2, 3, 4] {
@@ -633,7 +633,7 @@ fn a_generation_wakes_awaiters_on_each_member() {
     }
 }
 
-/// Behind those that are active there, in list order; awaiters of another
+/// After those that are active there, in list order; awaiters of another
 /// event and threads that do not await stay.
 #[test]
 fn a_generation_moves_the_awaiters_of_its_event_alone() {

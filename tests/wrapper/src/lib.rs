@@ -1,4 +1,4 @@
-//! The proved archive behind safe functions.
+//! The proved archive, called by safe functions.
 
 extern "C" {
     fn purkvaldi_check(text: *const u8, length: usize) -> u32;

@@ -99,7 +99,7 @@ fn entries_between_waits_and_events_are_14() {
     }
 }
 
-/// A generation moves those that await its event, in the order of the next list, behind the active
+/// A generation moves those that await its event, in the order of the next list, after the active
 /// ones: 20 exactly where these would be more than 64, which only a caller's own state can bring.
 #[test]
 fn a_generation_without_room_in_the_active_list_is_20() {

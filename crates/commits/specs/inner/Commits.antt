@@ -37,7 +37,7 @@ use Rattle.commits.specs.declared.decision.Passed.the-variants.{Keep, Le
 use Rattle.commits.specs.declared.decision.Decision.{Decision}
 use Rattle.commits.specs.declared.decision.Decision.the-variants.{Refuse, Settle, Suspend}
 use Rattle.machine.specs.Offsets.{stateLength, threadCountAt, cellCountAt, schedulerLength}
-use Rattle.machine.specs.Offsets.{schedulersAt, nextListAt, eventsAt, cellsAt, waitingFactor}
+use Rattle.machine.specs.Offsets.{nextListAt, eventsAt, cellsAt, waitingFactor}
 use Rattle.machine.specs.Offsets.{awaitingFrom}
 
 -- how many cells are in use
@@ -167,21 +167,26 @@ wakeRoomIn g w owner e = isScheduler owner && roomOnEach (membersBy g owner) e w
 abbrev pub presentIn : List ℕ → ℕ → Bool
 presentIn w e = eqb (getD w (eventsAt + e) 0) 1
 
--- what stands in the way of a generation of the event so found, and of an await, at that place: a
+-- an await of event e at that place has room: of a present event none is needed, and a thread on no
+-- scheduler has no list
+abbrev pub awaitRoomIn : List ℕ → ℕ → ℕ → Bool
+awaitRoomIn w place e = presentIn w e || eqb place private || roomIn w place 1
+
+-- what stands in the way of a generation or an await of the event so found, at that place: a
 -- missing event and a list without room are 20, another's event is 19; 0 is neither
-unfoldable pub generateObstacle : Grouping → List ℕ → EventFound → ℕ → ℕ → ℕ
-generateObstacle g w event place e =
+unfoldable pub signalObstacle : Grouping → Bool → EventFound → ℕ → ℕ
+signalObstacle g room event place =
     if not (event .there) then stuck else
-    if not (wakeRoomIn g w (event .owner) e) then stuck else
+    if not room then stuck else
     if not (ownsEvent g place (event .owner)) then foreign else
     0
 
-unfoldable pub awaitObstacle : Grouping → List ℕ → EventFound → ℕ → ℕ → ℕ
-awaitObstacle g w event place e =
-    if not (event .there) then stuck else
-    if not (presentIn w e || eqb place private || roomIn w place 1) then stuck else
-    if not (ownsEvent g place (event .owner)) then foreign else
-    0
+abbrev pub generateObstacle : Grouping → List ℕ → EventFound → ℕ → ℕ → ℕ
+generateObstacle g w event place e =
+    signalObstacle g (wakeRoomIn g w (event .owner) e) event place
+
+abbrev pub awaitObstacle : Grouping → List ℕ → EventFound → ℕ → ℕ → ℕ
+awaitObstacle g w event place e = signalObstacle g (awaitRoomIn w place e) event place
 
 -- event e is present, and who awaits it on a member of q's group is active
 unfoldable pub generatedIn : Grouping → List ℕ → ℕ → ℕ → List ℕ

@@ -1,7 +1,6 @@
 -- `next_member` meets its contract. Assumes nothing.
 use borrow.Author.Needs.{needs}
-use Prim.Native.Nat.{_+_, _-_, _≤_}
-use mathlib.Core.Path.{_≡_}
+use Prim.Native.Nat.{_-_}
 use Rattle.groups.proofs.MemberLaws.{Seeking, seek-start, seek-next, seek-here, seek-none}
 use Rattle.groups.proofs.MemberLaws.{index-in, own-in}
 use Rattle.groups.proofs.next_member.Statement.{statement}

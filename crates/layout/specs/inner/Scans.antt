@@ -1,6 +1,6 @@
 -- The first fault of the layout, as functions that compute; proofs/Layouts shows that they find it.
 -- Assumes nothing: definitions.
-use mathlib.Core.Bool.{Bool, true, false, not, _&&_, _||_}
+use mathlib.Core.Bool.{Bool, true, false, not, _&&_}
 use mathlib.Core.List.{List, [], _∷_, reverse}
 use mathlib.Core.Option.{Option, none, some}
 use Prim.Native.Nat.{ℕ, zero, suc, _-_, _<_, _≤_, max}
@@ -9,7 +9,7 @@ use lib.ListN.{length, getD, take}
 use Rattle.basics.specs.If.{if_then_else_}
 use Rattle.basics.specs.Members.{any}
 use Rattle.basics.specs.inner.Searches.{lowest, earlier}
-use Rattle.language.specs.Kinds.{declarationRank, isModule, classOf, Child, children}
+use Rattle.language.specs.Kinds.{declarationRank, fileRank, isModule, classOf, Child, children}
 use Rattle.language.specs.declared.kind.Kind.{Kind}
 use Rattle.language.specs.declared.kind.Kind.the-variants.{Header, Declared, Module, Statement}
 use Rattle.language.specs.declared.kind.Kind.the-variants.{Expression, Unknown}
@@ -22,7 +22,7 @@ use Rattle.program.specs.inner.Children.{sameClass}
 use Rattle.fields.specs.inner.Scans.{headerFault, fieldFault, rejectAt}
 use Rattle.layout.specs.declared.LayoutVerdict.{LayoutVerdict}
 use Rattle.layout.specs.declared.LayoutVerdict.the-variants.{LaidOut, Rejected}
-use Rattle.layout.specs.Order.{fileRank, hasChild, hasClass, isMain}
+use Rattle.layout.specs.Order.{hasChild, hasClass, isMain}
 
 -- what a caller has to show: there is a line, and no more than a file may have
 abbrev pub LineWords : List ℕ → Type 0

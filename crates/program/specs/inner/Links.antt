@@ -2,17 +2,16 @@
 -- links. No reader has to believe it: proofs/LinkLaws ties the labels to the program's links.
 -- Assumes nothing: definitions.
 use mathlib.Core.Path.{_≡_}
-use mathlib.Core.Bool.{Bool, true, false}
+use mathlib.Core.Bool.{Bool, true}
 use mathlib.Core.List.{List}
 use Prim.Native.Nat.{ℕ, _<_}
+use lib.Dec.{leb}
 use lib.ListN.{length}
 use Rattle.basics.specs.If.{if_then_else_}
-use Rattle.language.specs.Kinds.{isLink}
+use Rattle.language.specs.Kinds.{isLink, fileRank, declarations}
 use Rattle.language.specs.Places.{isScheduler}
 use Rattle.language.specs.declared.frame.Frame.{Frame}
 use Rattle.language.specs.declared.kind.Kind.{Kind}
-use Rattle.language.specs.declared.kind.Kind.the-variants.{Header, Declared, Module, Statement}
-use Rattle.language.specs.declared.kind.Kind.the-variants.{Expression, Unknown}
 use Rattle.language.specs.declared.kind.DeclarationKind.{DeclarationKind}
 use Rattle.language.specs.declared.kind.DeclarationKind.the-variants.{Shared, Event, Link}
 use Rattle.language.specs.inner.Labels.{labelAt, relabelled}
@@ -29,14 +28,9 @@ abbrev pub LinkPlaced : Frame → Type 0
 LinkPlaced f =
     isLink (f .kind) ≡ true → (isScheduler (f .s) ≡ true) × (isScheduler (f .a) ≡ true)
 
--- of a kind: it stands before the statements and expressions
+-- of a kind: it stands before the modules, statements and expressions
 abbrev pub isEarly : Kind → Bool
-isEarly Header = true
-isEarly (Declared d) = true
-isEarly Module = false
-isEarly (Statement k) = false
-isEarly (Expression k) = false
-isEarly Unknown = false
+isEarly k = leb (fileRank k) declarations
 
 -- each link names two schedulers, and nothing stands before it but the header and declarations: 5
 -- and 6 refuse any other file

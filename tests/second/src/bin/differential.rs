@@ -19,7 +19,7 @@ use second::generate::{self, Case};
 use second::listing;
 use second::tally::{Arranged, Tally};
 
-/// A program that is silent for longer is taken to hang.
+/// A program that takes longer is taken to hang.
 const PATIENCE: Duration = Duration::from_secs(10);
 /// After this many differences the comparison stops.
 const DIFFERENCES: usize = 20;

@@ -174,7 +174,7 @@ impl<'r> Events<'r> {
         self.tickers = self.homes.len();
     }
 
-    /// Comes from elsewhere each time, mostly: then it is behind those that
+    /// Comes from elsewhere each time, mostly: then it is after those that
     /// await, and wakes them.
     fn ticker(&mut self, number: u8) {
         let owner = self.owners[usize::from(number)];
@@ -222,7 +222,7 @@ impl<'r> Events<'r> {
     }
 
     /// Starts the modules that generate and, before or after them, others, which
-    /// come behind or before them in each instant then.
+    /// come after or before them in each instant then.
     fn main(&mut self) -> u16 {
         let parts: [fn(&mut Self) -> u16; 2] = match self.random.chance(3) {
             true => [Events::start_tickers, Events::start_some],

@@ -189,7 +189,7 @@ pub(super) fn shared_cell() -> Frame {
     }
 }
 
-/// Behind all others, well formed; the 17th is one too many.
+/// After all others, well formed; the 17th is one too many.
 fn more_modules(random: &mut Random, frames: &mut Vec<Frame>) {
     for _ in 0..random.between(12, 17) {
         frames.push(Frame {
@@ -293,7 +293,7 @@ pub(super) fn is_declared_first(frame: &Frame) -> bool {
         })
 }
 
-/// Where a frame of this kind may go in last: behind those of the same kind and
+/// Where a frame of this kind may go in last: after those of the same kind and
 /// of the kinds that precede it.
 fn end_of_part(frames: &[Frame], frame: &Frame) -> usize {
     let not_later = |other: &&Frame| part(other) <= part(frame);
@@ -345,7 +345,7 @@ pub(super) fn event_fields(random: &mut Random, frames: &mut Vec<Frame>) {
     }
 }
 
-/// Behind a frame that it should precede, or just where it should be.
+/// After a frame that it should precede, or just where it should be.
 fn event_late(random: &mut Random, frames: &mut Vec<Frame>) {
     let at = random.between(after_declarations(frames), frames.len());
     insert(frames, at, event());
@@ -353,8 +353,8 @@ fn event_late(random: &mut Random, frames: &mut Vec<Frame>) {
 
 fn shared_cell_after_event(random: &mut Random, frames: &mut Vec<Frame>) {
     with_event(frames);
-    let behind = end_of_part(frames, &event());
-    let at = behind - random.below(2).min(behind - 1);
+    let end = end_of_part(frames, &event());
+    let at = end - random.below(2).min(end - 1);
     insert(frames, at.max(1), shared_cell());
 }
 
@@ -429,14 +429,14 @@ pub(super) fn link_fields(random: &mut Random, frames: &mut Vec<Frame>) {
     }
 }
 
-/// A link behind a frame that it should precede, or before one that should
+/// A link after a frame that it should precede, or before one that should
 /// precede it: an event, a shared cell.
 fn link_out_of_order(random: &mut Random, frames: &mut Vec<Frame>) {
     let link = link(random, frames);
     match random.below(4) {
         0 => {
-            let behind_module = |&at: &usize| frames[at - 1].kind == kind::MODULE;
-            let modules: Vec<usize> = (1..=frames.len()).filter(behind_module).collect();
+            let after_module = |&at: &usize| frames[at - 1].kind == kind::MODULE;
+            let modules: Vec<usize> = (1..=frames.len()).filter(after_module).collect();
             let at = match random.pick(&modules) {
                 Some(at) if random.chance(2) => at,
                 _ => random.between(after_declarations(frames), frames.len()),

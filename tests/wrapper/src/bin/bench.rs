@@ -6,8 +6,7 @@ use second::listing::Reading;
 use second::state::State;
 use std::time::Instant;
 
-/// An accepted file of n lines: modules whose bodies nest, each with lets, stores, loops and
-/// starts.
+/// An accepted file of n lines: one module, whose body is a row of stores.
 fn accepted(lines: usize) -> Vec<u8> {
     let mut frames: Vec<String> = vec!["0001000000020000".into(), "0102000100000000".into()];
     // One body: a balanced sequence of stores of a sum into the shared cell, depth below 24.
@@ -399,7 +398,7 @@ fn audience() -> Vec<u8> {
 }
 
 /// Eight schedulers in one group: main goes from one to the other and starts eight threads on each,
-/// at home the last seven, that await home's event 0. Then it cooperates, which puts it behind
+/// at home the last seven, that await home's event 0. Then it cooperates, which puts it after
 /// those seven, and generates the event.
 fn audience_of_eight() -> Vec<u8> {
     let mut frames = vec!["0001FFFF00080001".into(), "0302000000000000".into()];

@@ -7,12 +7,12 @@ use Rattle.commits.proofs.signal.decide_await.Tie as tie
 event-at-requires : tie.Need-event-at-requires
 event-at-requires c κs = search needs
 
-await-obstacle-requires : tie.Need-await-obstacle-requires
-await-obstacle-requires c κs = (
-  search needs,
-  search needs,
-  λ h. event-small _ _ _ (c .event-at .ensures) (c .before .before .before .pre .2) h,
-)
+has-await-room-requires : tie.Need-has-await-room-requires
+has-await-room-requires c κs =
+    (search needs, λ h. event-small _ _ _ (c .event-at .ensures) (c .before .before .before .pre .2) h)
+
+signal-obstacle-requires : tie.Need-signal-obstacle-requires
+signal-obstacle-requires c κs = search needs
 
 returns : tie.Need-returns
 returns c = search decide-await-laws
@@ -31,7 +31,8 @@ decide-await-spec =
     tie.close
     (tie.spec
     event-at-requires
-    await-obstacle-requires
+    has-await-room-requires
+    signal-obstacle-requires
     returns
     is-present-requires
     returns-2

@@ -7,8 +7,11 @@ use Rattle.commits.proofs.signal.decide_generate.Tie as tie
 event-at-requires : tie.Need-event-at-requires
 event-at-requires c κs = search needs
 
-generate-obstacle-requires : tie.Need-generate-obstacle-requires
-generate-obstacle-requires c κs = search needs
+has-wake-room-requires : tie.Need-has-wake-room-requires
+has-wake-room-requires c κs = search needs
+
+signal-obstacle-requires : tie.Need-signal-obstacle-requires
+signal-obstacle-requires c κs = search needs
 
 returns : tie.Need-returns
 returns c = search decide-generate-laws
@@ -18,4 +21,5 @@ returns-2 c = search decide-generate-laws
 
 pub decide-generate-spec : {M : Type 1} → statement M
 decide-generate-spec =
-    tie.close (tie.spec event-at-requires generate-obstacle-requires returns returns-2)
+    tie.close
+    (tie.spec event-at-requires has-wake-room-requires signal-obstacle-requires returns returns-2)

@@ -1,8 +1,6 @@
 -- `group_set` meets its contract. Assumes nothing.
 use borrow.Author.Needs.{needs}
-use Prim.Native.Nat.{_+_, _-_, _≤_}
-use mathlib.Core.Path.{_≡_}
-use native.Mathlib.Omega.{arith}
+use Prim.Native.Nat.{_-_, _≤_}
 use Rattle.language.proofs.LabelLaws.{index-small, Gathered, gather-start, gather-one}
 use Rattle.language.proofs.LabelLaws.{gather-other, gather-end}
 use Rattle.language.proofs.group.group_set.Statement.{statement}

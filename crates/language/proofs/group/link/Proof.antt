@@ -1,9 +1,8 @@
 -- `link` meets its contract. Assumes nothing.
 use borrow.Author.Needs.{needs}
 use Prim.Native.Nat.{_≤_, _-_}
-use mathlib.Core.Path.{_≡_, refl}
+use mathlib.Core.Path.{_≡_}
 use lib.ListN.{length, length-set}
-use native.Mathlib.Omega.{arith}
 use Rattle.language.specs.inner.Labels.{withLabel}
 use Rattle.language.proofs.LabelLaws.{index-small, mapTo, map-start, map-more, map-end}
 use Rattle.language.proofs.group.link.Statement.{statement}

@@ -1,7 +1,6 @@
 -- `with_ancestors` meets its contract. Assumes nothing.
 use borrow.Author.Needs.{needs}
 use mathlib.Core.Path.{sym, _∙_}
-use native.Mathlib.Omega.{arith}
 use Rattle.basics.proofs.Closures.{count}
 use Rattle.lists.specs.inner.Families.{lacksThread}
 use Rattle.lists.proofs.ThreadSets.{lacks-taken, climb-less}

@@ -1,5 +1,4 @@
 -- `make_cell` meets its contract. Assumes nothing.
-use mathlib.Core.Path.{refl}
 use borrow.Author.Needs.{needs}
 use Rattle.machine.proofs.ValueWords.{cell-made}
 use Rattle.operations.proofs.Operations.{make-is, make-spent, make-foreign}
