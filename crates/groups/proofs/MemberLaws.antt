@@ -18,10 +18,10 @@ use Rattle.language.proofs.PlaceLaws.{test-bounds}
 use Rattle.machine.specs.Groups.{schedulersWhere}
 use Rattle.machine.specs.Words.{wordsAt}
 use Rattle.lists.specs.inner.Lists.{isAwaitingWord, activeWith, withWoken, readyWords}
-use Rattle.lists.specs.inner.Families.{isReadyWord}
+use Rattle.lists.specs.inner.Families.{isReadyWord, LivingFamilies}
 use Rattle.lists.specs.inner.Lists.{withInstantEnded, ListWords}
 use Rattle.lists.proofs.PartitionLaws.{idle-room}
-use Rattle.lists.proofs.MovedLaws.{moved-long, moved-other, moved-fits, active-same}
+use Rattle.lists.proofs.MovedLaws.{moved-long, moved-other, moved-fits, moved-living, active-same}
 use Rattle.groups.specs.inner.Members.{membersIn, firstWhere, activeOn, anyActiveOn, roomOn}
 use Rattle.groups.specs.inner.Members.{roomOnEach, wokenOn, endedOn, readyOn, GroupOf}
 use Rattle.groups.specs.inner.Members.{GroupWords, Each, HasRoomOn, IdleOn}
@@ -340,6 +340,9 @@ module _ (labels w : List ℕ) (p n m k e : ℕ)
   room-all l = walk-end labels p n m (λ qs. roomOnEach qs e w) _ k t l
 
 -- what the lists of a member are asked for
+pub words-few : (w : List ℕ) → GroupWords w → getD w 0 0 ≤ 64
+words-few w h = h .lists .threads
+
 pub list-words : (w : List ℕ) (q : ℕ) → GroupWords w → isScheduler q ≡ true
     → ListWords w (67 + 130 * (q - 2))
 list-words w q h s =
@@ -436,27 +439,31 @@ unfolding wokenOn
 waking-end labels w₀ w p n m e k t l = walk-end labels p n m (λ qs. wokenOn qs e w) _ k (t .walk) l
 
 -- ---- `end_on_each`: the instant has ended on the members before k, those from k on are idle
-pub record Ending (labels w₀ : List ℕ) (p n m : ℕ) (w : List ℕ) (ready k : ℕ) : Type 0 where
+pub record Ending (labels w₀ : List ℕ) (p n m living : ℕ) (w : List ℕ) (ready k : ℕ) : Type 0 where
   pub walk : Walk (λ qs. endedOn qs w) (endedOn (membersIn labels n p) w₀) labels p n m k
   pub count : ready + readyOn (membersFrom labels p n k) w ≡ readyOn (membersIn labels n p) w₀
   pub few : ready ≤ 64 * k
   pub words : GroupWords w
   pub idle : Each (sameLabel labels p) (IdleOn w) k (2 + n)
+  pub families : LivingFamilies w living
 
-pub ending-start : (labels w : List ℕ) (p n m r : ℕ)
+pub ending-start : (labels w : List ℕ) (p n m living r : ℕ)
     → r ≡ firstWhere (sameLabel labels p) 2 (2 + n - 2) → m ≡ 2 + n → GroupWords w
-    → Each (sameLabel labels p) (IdleOn w) 2 (2 + n) → Ending labels w p n m w 0 r
-ending-start labels w p n m r i h g f =
+    → Each (sameLabel labels p) (IdleOn w) 2 (2 + n) → LivingFamilies w living
+    → Ending labels w p n m living w 0 r
+ending-start labels w p n m living r i h g f s =
     record {
       walk = walk-start labels p n m (λ qs. endedOn qs w) r i h;
       count = let e = ap (λ (qs : List ℕ). readyOn qs w) (start-same labels p n r i) in omega arith;
       few = omega arith;
       words = g;
       idle = λ j a b t. f j (let x = at-start labels p n r i .low in omega arith) b t;
+      families = s;
     }
 
-module _ (labels w₀ w : List ℕ) (p n m ready k : ℕ) (t : Ending labels w₀ p n m w ready k) (l : k < m)
-    (g : GroupOf labels n p) (q : Place) (i : q ≡ record { number = k }) where
+module _ (labels w₀ w : List ℕ) (p n m living ready k : ℕ)
+    (t : Ending labels w₀ p n m living w ready k) (l : k < m) (g : GroupOf labels n p)
+    (q : Place) (i : q ≡ record { number = k }) where
   pub ending-scheduler : isScheduler (q .number) ≡ true
   ending-scheduler = walk-scheduler _ _ labels p n m k (t .walk) l g q i
 
@@ -468,6 +475,9 @@ module _ (labels w₀ w : List ℕ) (p n m ready k : ℕ) (t : Ending labels w�
       let z = t .walk .end in
       ap (λ (r : Place). getD w (2 + 130 * (r .number - 2)) 0) i
       ∙ t .idle k (omega arith) (omega arith) (t .walk .at .is (omega arith))
+
+  pub ending-families : LivingFamilies w living
+  ending-families = t .families
 
   at-number : q .number ≡ k
   at-number = ap (λ (r : Place). r .number) i
@@ -500,10 +510,10 @@ module _ (labels w₀ w : List ℕ) (p n m ready k : ℕ) (t : Ending labels w�
       → x ≡ length (readyWords w (wordsAt w (67 + 130 * (q .number - 2))))
       → v ≡ withInstantEnded w (q .number - 2)
       → r ≡ firstWhere (sameLabel labels p) (k + 1) (2 + n - (k + 1))
-      → Ending labels w₀ p n m v (ready + x) r
+      → Ending labels w₀ p n m living v (ready + x) r
   unfolding endedOn readyOn
   ending-next v x r c h j =
-      subst (λ (y : List ℕ). Ending labels w₀ p n m y (ready + x) r)
+      subst (λ (y : List ℕ). Ending labels w₀ p n m living y (ready + x) r)
       (sym (h ∙ ap (λ (a : ℕ). withInstantEnded w (a - 2)) at-number))
       (record {
         walk = record {
@@ -522,6 +532,9 @@ module _ (labels w₀ w : List ℕ) (p n m ready k : ℕ) (t : Ending labels w�
           lists = moved-fits (isReadyWord w) w (k - 2) ending-block (t .words .all) next-small idle-here (t .words .lists);
         };
         idle = λ a b c d. later a (let y = next-more labels p n k (t .walk .at) inside r j in omega arith) c d;
+        families =
+            moved-living (isReadyWord w) w (k - 2) ending-block (t .words .all) next-small idle-here living
+            (t .families);
       })
     where
       inside : k < 2 + n
@@ -534,7 +547,8 @@ module _ (labels w₀ w : List ℕ) (p n m ready k : ℕ) (t : Ending labels w�
           moved-other (isReadyWord w) w (k - 2) ending-block (t .words .all) next-small idle-here (2 + 130 * (a - 2)) (λ f h. omega arith)
           ∙ t .idle a (omega arith) c d
 
-module _ (labels w₀ w : List ℕ) (p n m ready k : ℕ) (t : Ending labels w₀ p n m w ready k) (l : m ≤ k) where
+module _ (labels w₀ w : List ℕ) (p n m living ready k : ℕ)
+    (t : Ending labels w₀ p n m living w ready k) (l : m ≤ k) where
   pub ending-count : ready ≡ readyOn (membersIn labels n p) w₀
   unfolding readyOn
   ending-count =

@@ -6,6 +6,7 @@ use lists::list::end_instant;
 use lists::list::first_active;
 use lists::list::has_room_to_wake;
 use lists::list::wake;
+use lists::wait::living_families;
 ghost use mathlib.Core.Path.{_≡_};
 ghost use Prim.Native.Nat.{_+_, _-_, _≤_};
 ghost use lib.ListN.{length};
@@ -101,10 +102,11 @@ pub fn end_on_each(labels: &[u8; LABELS], schedulers: u8, q: Place, state: &mut 
         ≡ endedOn (membersIn (now (labels .entry)) schedulers (q .number)) (now (state .entry)) ⌝ }
 {
     let end = HOME + schedulers;
+    let living = living_families(state);
     let mut ready: u64 = 0;
     let mut k = next_member(labels, schedulers, q, HOME);
     while k < end {
-        ready += end_instant(state, Place::known(k as u64));
+        ready += end_instant(state, Place::known(k as u64), living);
         k = next_member(labels, schedulers, q, k + 1);
     }
     ready

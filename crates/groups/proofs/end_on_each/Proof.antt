@@ -2,22 +2,25 @@
 use borrow.Author.Needs.{needs}
 use Prim.Native.Nat.{_-_}
 use Rattle.groups.proofs.MemberLaws.{walk-place, walk-low, walk-high, walk-small, walk-less}
-use Rattle.groups.proofs.MemberLaws.{end-small}
+use Rattle.groups.proofs.MemberLaws.{end-small, words-few}
 use Rattle.groups.proofs.MemberLaws.{Ending, ending-start, ending-list, ending-scheduler}
 use Rattle.groups.proofs.MemberLaws.{ending-idle, ending-small, ending-next, ending-count}
-use Rattle.groups.proofs.MemberLaws.{ending-words}
+use Rattle.groups.proofs.MemberLaws.{ending-families, ending-words}
 use Rattle.groups.proofs.end_on_each.Statement.{statement}
 use Rattle.groups.proofs.end_on_each.Tie as tie
 
 abbrev Inv-loop : tie.InvT-loop
-Inv-loop labels schedulers q state₀ end ready₀ k₀ state ready k =
-    Ending labels state₀ (q .number) schedulers end state ready k
+Inv-loop labels schedulers q state₀ end living ready₀ k₀ state ready k =
+    Ending labels state₀ (q .number) schedulers end living state ready k
 
 abbrev μ-loop : tie.MeasureT-loop
-μ-loop labels schedulers q state₀ end ready₀ k₀ state ready k = end - k
+μ-loop labels schedulers q state₀ end living ready₀ k₀ state ready k = end - k
 
 add-end : tie.Need-add-end Inv-loop μ-loop
 add-end c = search end-small
+
+living-families-requires : tie.Need-living-families-requires Inv-loop μ-loop
+living-families-requires c κs = (search needs, search words-few)
 
 next-member-requires : tie.Need-next-member-requires Inv-loop μ-loop
 next-member-requires c κs = (search needs, search needs, search needs)
@@ -32,7 +35,8 @@ known-requires : tie.Need-known-requires Inv-loop μ-loop
 known-requires c κs = search walk-place
 
 end-instant-requires : tie.Need-end-instant-requires Inv-loop μ-loop
-end-instant-requires c κs = (search ending-list, search ending-scheduler, search ending-idle)
+end-instant-requires c κs =
+    (search ending-list, search ending-scheduler, search ending-idle, search ending-families)
 
 add-ready : tie.Need-add-ready Inv-loop μ-loop
 add-ready c = record { fits = search ending-small }
@@ -62,6 +66,7 @@ end-on-each-spec =
     Inv-loop
     μ-loop
     add-end
+    living-families-requires
     next-member-requires
     loop-holds
     cast-known
