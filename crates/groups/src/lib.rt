@@ -2,41 +2,24 @@
 // them, by number, in the lent words.
 use language::Place;
 use language::group::LABELS;
+use language::group::in_step;
 use lists::list::end_instant;
 use lists::list::first_active;
 use lists::list::has_room_to_wake;
 use lists::list::wake;
+use lists::wait::living_families;
 ghost use mathlib.Core.Path.{_≡_};
-ghost use Prim.Native.Nat.{_+_, _-_, _≤_};
+ghost use Prim.Native.Nat.{_+_};
 ghost use lib.ListN.{length};
 ghost use Rattle.language.specs.Places.{home};
 ghost use Rattle.language.specs.inner.Labels.{sameLabel};
 ghost use Rattle.machine.specs.Offsets.{stateLength};
-ghost use Rattle.groups.specs.inner.Members.{membersIn, firstWhere, anyActiveOn, roomOnEach};
+ghost use Rattle.groups.specs.inner.Members.{membersIn, anyActiveOn, roomOnEach};
 ghost use Rattle.groups.specs.inner.Members.{wokenOn, endedOn, readyOn, GroupOf, GroupWords};
 ghost use Rattle.groups.specs.inner.Members.{Each, HasRoomOn, IdleOn};
 
 // The number of the first scheduler.
 const HOME: u8 = 2;
-
-// The first member from that number on; the number after the file's schedulers where there is none.
-fn next_member(labels: &[u8; LABELS], schedulers: u8, q: Place, from: u8) -> u8
-    requires { ⌜ GroupOf (now labels) schedulers (q .number) × (home ≤ from)
-        × (from ≤ home + schedulers) ⌝ }
-    ensures { λ r. ⌜ r ≡ firstWhere (sameLabel (now (labels .entry)) (q .number)) from
-        (home + schedulers - from) ⌝ }
-{
-    let own = labels[q.index()];
-    let end = HOME + schedulers;
-    let mut k = from;
-    while k < end {
-        if own == labels[(k - HOME) as usize] {
-            return k;
-        }
-        k += 1;
-    }
-    k
-}
 
 // Whether some member has an active thread.
 pub fn any_active(labels: &[u8; LABELS], schedulers: u8, q: Place, state: &[u64]) -> bool
@@ -46,12 +29,17 @@ pub fn any_active(labels: &[u8; LABELS], schedulers: u8, q: Place, state: &[u64]
         (now (state .entry)) ⌝ }
 {
     let end = HOME + schedulers;
-    let mut k = next_member(labels, schedulers, q, HOME);
+    let mut k = HOME;
     while k < end {
-        if first_active(state, Place::known(k as u64)) != 0 {
+        let member = Place::known(k as u64);
+        if !in_step(labels, q, member) {
+            k += 1;
+            continue;
+        }
+        if first_active(state, member) != 0 {
             return true;
         }
-        k = next_member(labels, schedulers, q, k + 1);
+        k += 1;
     }
     false
 }
@@ -63,12 +51,17 @@ pub fn room_on_each(labels: &[u8; LABELS], schedulers: u8, q: Place, state: &[u6
         (now (state .entry)) ⌝ }
 {
     let end = HOME + schedulers;
-    let mut k = next_member(labels, schedulers, q, HOME);
+    let mut k = HOME;
     while k < end {
-        if !has_room_to_wake(state, Place::known(k as u64), e) {
+        let member = Place::known(k as u64);
+        if !in_step(labels, q, member) {
+            k += 1;
+            continue;
+        }
+        if !has_room_to_wake(state, member, e) {
             return false;
         }
-        k = next_member(labels, schedulers, q, k + 1);
+        k += 1;
     }
     true
 }
@@ -83,10 +76,15 @@ pub fn wake_on_each(labels: &[u8; LABELS], schedulers: u8, q: Place, state: &mut
         (now (state .entry)) ⌝ }
 {
     let end = HOME + schedulers;
-    let mut k = next_member(labels, schedulers, q, HOME);
+    let mut k = HOME;
     while k < end {
-        wake(state, Place::known(k as u64), e);
-        k = next_member(labels, schedulers, q, k + 1);
+        let member = Place::known(k as u64);
+        if !in_step(labels, q, member) {
+            k += 1;
+            continue;
+        }
+        wake(state, member, e);
+        k += 1;
     }
 }
 
@@ -101,11 +99,17 @@ pub fn end_on_each(labels: &[u8; LABELS], schedulers: u8, q: Place, state: &mut 
         ≡ endedOn (membersIn (now (labels .entry)) schedulers (q .number)) (now (state .entry)) ⌝ }
 {
     let end = HOME + schedulers;
+    let living = living_families(state);
     let mut ready: u64 = 0;
-    let mut k = next_member(labels, schedulers, q, HOME);
+    let mut k = HOME;
     while k < end {
-        ready += end_instant(state, Place::known(k as u64));
-        k = next_member(labels, schedulers, q, k + 1);
+        let member = Place::known(k as u64);
+        if !in_step(labels, q, member) {
+            k += 1;
+            continue;
+        }
+        ready += end_instant(state, member, living);
+        k += 1;
     }
     ready
 }

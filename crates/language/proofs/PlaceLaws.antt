@@ -81,25 +81,27 @@ module _ (n : ℕ) where
 
 pub ruleset is-scheduler-laws = (scheduler-under, scheduler-up-to)
 
--- ---- the places of a file (`low` is 1) and its schedulers (`low` is 2)
-module _ (low b n : ℕ) (x : PlaceRead) (e : x ≡ placeRead (leb low n && leb n 9) n) where
-  pub file-has-not : x ≡ NoPlace → false ≡ (leb low n && leb n 9 && leb n (1 + b))
-  file-has-not h = rw (read-none (leb low n && leb n 9) n (sym e ∙ h))
+-- ---- the places of a file and its schedulers
+module _ (b n : ℕ) where
+  pub file-below : n < 1 → false ≡ hasPlace b n
+  file-below h = rw (lt-leb 1 n h)
 
-  module _ (p : Place) (h : x ≡ At p) (l : 1 ≤ low) where
-    there : ((leb low n && leb n 9) ≡ true) × (p .number ≡ n)
-    there = read-at (leb low n && leb n 9) n p (sym e ∙ h)
+  pub file-above : 1 ≤ n → 9 < n → false ≡ hasPlace b n
+  file-above h k = rw (le-leb 1 n h, lt-leb n 9 k)
 
-    pub file-some : 1 ≤ p .number
-    file-some =
-        let a = test-bounds low n (there .0) in let q = there .1 in let (c, d) = a in omega arith
+  pub file-inside : 1 ≤ n → n ≤ 9 → leb (n - 1) b ≡ hasPlace b n
+  file-inside h k =
+      rw (le-leb 1 n h, le-leb n 9 k)
+      (leb-same (n - 1) b n (1 + b) (λ l. omega arith) (λ l. omega arith))
 
-    pub file-has : leb (p .number - 1) b ≡ (leb low n && leb n 9 && leb n (1 + b))
-    file-has =
-        let q = there .1 in
-        let s = file-some in
-        rw (there .0)
-        (leb-same (p .number - 1) b n (1 + b) (λ k. omega arith) (λ k. omega arith))
+  pub home-below : n < 2 → false ≡ hasScheduler b n
+  home-below h = rw (lt-leb 2 n h)
+
+  -- r is whether it is a place of the file
+  pub home-on : (r : Bool) → 2 ≤ n → r ≡ hasPlace b n → r ≡ hasScheduler b n
+  home-on r h e =
+      e ∙ ap (λ (t : Bool). t && leb n 9 && leb n (1 + b))
+      (le-leb 1 n (omega arith) ∙ sym (le-leb 2 n h))
 
 -- ---- what is known of a place and of a scheduler of a file
 pub has-place : (b n : ℕ) → hasPlace b n ≡ true → (isPlace n ≡ true) × (n ≤ 1 + b)

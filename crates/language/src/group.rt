@@ -47,7 +47,7 @@ pub fn link(labels: &mut [u8; LABELS], upper: Place, lower: Place)
     }
 }
 
-fn in_step(labels: &[u8; LABELS], p: Place, q: Place) -> bool
+pub fn in_step(labels: &[u8; LABELS], p: Place, q: Place) -> bool
     requires { ⌜ (length (now labels) ≡ mostSchedulers) × (isScheduler (p .number) ≡ true)
         × (isScheduler (q .number) ≡ true) ⌝ }
     ensures { λ r. ⌜ r ≡ sameLabel (now (labels .entry)) (p .number) (q .number) ⌝ }

@@ -115,19 +115,22 @@ impl Place {
     pub fn is_in_file(n: u64, schedulers: u8) -> bool
         ensures { λ r. ⌜ r ≡ hasPlace schedulers n ⌝ }
     {
-        match Place::new(n) {
-            PlaceRead::At(p) => p.number - Place::PRIVATE.number <= schedulers,
-            PlaceRead::NoPlace => false,
+        if n < Place::PRIVATE.number as u64 {
+            return false;
         }
+        if (Place::LAST_SCHEDULER.number as u64) < n {
+            return false;
+        }
+        n - Place::PRIVATE.number as u64 <= schedulers as u64
     }
 
     // Whether the number names a scheduler of a file with so many.
     pub fn is_scheduler_in_file(n: u64, schedulers: u8) -> bool
         ensures { λ r. ⌜ r ≡ hasScheduler schedulers n ⌝ }
     {
-        match Place::scheduler(n) {
-            PlaceRead::At(p) => p.number - Place::PRIVATE.number <= schedulers,
-            PlaceRead::NoPlace => false,
+        if n < Place::HOME.number as u64 {
+            return false;
         }
+        Place::is_in_file(n, schedulers)
     }
 }

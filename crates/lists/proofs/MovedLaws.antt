@@ -1,17 +1,22 @@
 -- Entries that become active change the words of their scheduler alone, and leave its lists within
--- their spaces. Assumes nothing.
+-- their spaces, and the same threads alive. Assumes nothing.
 use Prim.Native.Nat.{ℕ, zero, suc, _+_, _*_, _-_, _<_, _≤_}
 use mathlib.Core.Path.{_≡_, refl, sym, ap, ap₂, _∙_, subst}
 use mathlib.Core.List.{List, _∷_}
-use mathlib.Core.Bool.{Bool}
+use mathlib.Core.Bool.{Bool, not, _&&_}
 use native.Mathlib.Omega.{arith}
 use native.Mathlib.Decide.{ℕ-discrete}
+use lib.Dec.{ltb, eqb}
 use lib.ListN.{getD, length, set, length-set}
 use lib.Seq.{getD-set-same, getD-set-other}
+use Rattle.basics.specs.If.{if_then_else_}
+use Rattle.machine.specs.inner.Families.{familyTo, familySteps}
+use Rattle.machine.specs.inner.Ranges.{allBelow}
 use Rattle.machine.specs.Words.{tabulate, wordsAt}
 use Rattle.machine.specs.inner.Blocks.{pasted, padded}
 use Rattle.machine.proofs.WordLaws.{tab-length, pasted-length, pasted-out}
 use Rattle.machine.proofs.Padded.{padded-length}
+use Rattle.lists.specs.inner.Families.{starterIn, isAwaited, noneAwaited, LivingFamilies}
 use Rattle.lists.specs.inner.Lists.{wantedWords, otherWords, partitionedIn, withMoved}
 use Rattle.lists.specs.inner.Lists.{activeWith, ListsFit}
 use Rattle.lists.proofs.PartitionLaws.{all-partitioned}
@@ -130,6 +135,28 @@ module _ (test : ℕ → Bool) (w : List ℕ) (k : ℕ) (l : k < 8) (long : leng
           let a = moved-other (67 + 130 * j) (λ p r. e (omega arith)) in
           let c = h .next j b in
           omega arith
+
+  -- the same threads live, of the same families
+  pub moved-living : (set : ℕ) → LivingFamilies w set → LivingFamilies (withMoved test w k) set
+  unfolding starterIn isAwaited noneAwaited
+  moved-living set h u t = h u t ∙ ap not (sym none-same)
+    where
+      starter-same : (i : ℕ) → starterIn (withMoved test w k) i ≡ starterIn w i
+      starter-same zero = refl
+      starter-same (suc i) =
+          ap (λ (x : ℕ). if ltb i 64 then x else 0)
+          (moved-other (1042 + 55 * i + 1) (λ p r. omega arith))
+
+      awaited-same : (i : ℕ) → isAwaited (withMoved test w k) u i ≡ isAwaited w u i
+      awaited-same i =
+          ap₂ (λ (x : ℕ) (f : ℕ → ℕ). not (eqb x 0) && familyTo (familySteps 64) f u (suc i))
+          (moved-other (1042 + 55 * i + 2) (λ p r. omega arith)) (λ j a. starter-same a j)
+
+      none-same : noneAwaited (withMoved test w k) u (getD (withMoved test w k) 0 0)
+          ≡ noneAwaited w u (getD w 0 0)
+      none-same =
+          ap₂ (λ (x : ℕ) (f : ℕ → Bool). allBelow x (λ i. not (f i)))
+          (moved-other 0 (λ p r. omega arith)) (λ j i. awaited-same i j)
 
 -- ---- the lists of a scheduler in other words: the same where its words are
 table-same : (n : ℕ) (f g : ℕ → ℕ) (i : ℕ) → ((j : ℕ) → j < n → f (i + j) ≡ g (i + j))

@@ -9,7 +9,7 @@ use native.Mathlib.Omega.{arith}
 use native.Mathlib.Numerals.{add-one}
 use native.Mathlib.Decide.{ℕ-discrete}
 use borrow.Author.Tests.{ltb-true, ltb-false}
-use borrow.Author.Tests.{lt-ltb, le-ltb}
+use borrow.Author.Tests.{lt-ltb, le-ltb, le-leb}
 use borrow.Author.Tests.{not-true, not-false}
 use lib.Dec.{ltb}
 use lib.Dec.{eqb}
@@ -402,6 +402,10 @@ module _ (w : List ℕ) (k at : ℕ) (z : at ≡ 2 + 130 * k) where
   pub active-short : getD w (2 + 130 * k) 0 ≤ 64 → getD w at 0 ≤ 64
   active-short h = rw z h
 
+  pub both-small : getD w (2 + 130 * k) 0 ≤ 64 → getD w (67 + 130 * k) 0 ≤ 64
+      → getD w at 0 + getD w (at + 65) 0 < 2 ^ 64
+  both-small g h = let a = active-short g in let b = next-short h in omega arith
+
 module _ (test : ℕ → Bool) (w : List ℕ) (k at : ℕ) (z : at ≡ 2 + 130 * k) where
   next-at : at + 65 ≡ 67 + 130 * k
   next-at = omega arith
@@ -416,6 +420,13 @@ module _ (test : ℕ → Bool) (w : List ℕ) (k at : ℕ) (z : at ≡ 2 + 130 *
       → leb r 64 ≡ leb (activeWith test w k) 64
   room-is r e = ap (λ (n : ℕ). leb n 64)
       (e ∙ ap₂ (λ (a b : ℕ). getD w a 0 + length (wantedWords test (wordsAt w b))) z next-at)
+
+  -- where all entries have room, those that pass do
+  pub room-for-all : getD w at 0 + getD w (at + 65) 0 ≤ 64 → true ≡ leb (activeWith test w k) 64
+  room-for-all h =
+      let n = length (wantedWords test (wordsAt w (at + 65))) in
+      let a = wanted-few test w (at + 65) n refl in
+      sym (le-leb (getD w at 0 + n) 64 (omega arith)) ∙ room-is (getD w at 0 + n) refl
 
   pub moved-small : (r : ℕ) → activeWith test w k ≤ 64
       → r ≡ length (wantedWords test (wordsAt w (at + 65))) → getD w at 0 + r < 2 ^ 64

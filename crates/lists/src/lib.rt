@@ -1,3 +1,3 @@
 // The schedulers' lists in the words that a caller lends: read, changed, and an instant's end.
 pub mod list;
-mod wait;
+pub mod wait;

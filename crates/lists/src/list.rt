@@ -1,6 +1,5 @@
 // A scheduler's active list and next list in the lent words.
 use crate::wait::is_ready;
-use crate::wait::living_families;
 use language::Place;
 use language::limit::MOST_THREADS;
 use machine::offset::AWAITING_FROM;
@@ -19,6 +18,7 @@ ghost use Rattle.machine.specs.Offsets.{stateLength, schedulersAt, schedulerLen
 ghost use Rattle.machine.specs.Offsets.{listLength, nextListAt, threadsAt};
 ghost use Rattle.machine.specs.inner.Blocks.{part, pasted};
 ghost use Rattle.machine.specs.Words.{wordsAt};
+ghost use Rattle.lists.specs.inner.Families.{LivingFamilies};
 ghost use Rattle.lists.specs.inner.Lists.{shifted, withoutFirst, withLast, ListWords};
 ghost use Rattle.lists.specs.inner.Lists.{isAwaitingWord, isWanted, wantedWords};
 ghost use Rattle.lists.specs.inner.Lists.{partitionedIn, withMoved, withInstantEnded};
@@ -193,18 +193,19 @@ fn move_entries(state: &mut [u64], q: Place, wanted: Wanted) -> u64
     r
 }
 
-// The instant of a scheduler with no active thread ends: how many entries were ready. Where none
-// was, nothing changes. Validation has found at most 64 threads, and a list within its space.
-pub fn end_instant(state: &mut [u64], q: Place) -> u64
+// The instant of a scheduler with no active thread ends: how many entries were ready, where that is
+// the set of threads in whose families some thread lives. Where none was, nothing changes.
+// Validation has found at most 64 threads, and a list within its space.
+pub fn end_instant(state: &mut [u64], q: Place, living: u64) -> u64
     requires { ⌜ ListWords (now state) (nextListAt + schedulerLength * (q .number - home))
         × (isScheduler (q .number) ≡ true)
-        × (getD (now state) (schedulersAt + schedulerLength * (q .number - home)) 0 ≡ 0) ⌝ }
+        × (getD (now state) (schedulersAt + schedulerLength * (q .number - home)) 0 ≡ 0)
+        × LivingFamilies (now state) living ⌝ }
     ensures count { λ r. ⌜ r ≡ length (readyWords (now (state .entry))
         (wordsAt (now (state .entry)) (nextListAt + schedulerLength * (q .number - home)))) ⌝ }
     ensures words { λ r. ⌜ now (state .exit)
         ≡ withInstantEnded (now (state .entry)) (q .number - home) ⌝ }
 {
-    let living = living_families(state);
     move_entries(state, q, Wanted::Ready(living))
 }
 
@@ -243,7 +244,13 @@ pub fn has_room_to_wake(state: &[u64], q: Place, event: u8) -> bool
         ≡ leb (activeWith (isAwaitingWord event) (now (state .entry)) (q .number - home))
         mostThreads ⌝ }
 {
-    active_with(state, active_list(q), event) <= MOST_THREADS as u64
+    let active = active_list(q);
+    let entries = state[active + LIST_LENGTH];
+    // Where all entries have room, none has to be asked.
+    if state[active] + entries <= MOST_THREADS as u64 {
+        return true;
+    }
+    active_with(state, active, event) <= MOST_THREADS as u64
 }
 
 // They go to the end of the active list, in the order of the next list.

@@ -63,7 +63,7 @@ fn with_awaiting(state: &[u64], set: u64, k: usize) -> u64
 
 // The threads in whose families some thread lives, found in one climb over all of them. Validation
 // has found at most 64 threads.
-pub(crate) fn living_families(state: &[u64]) -> u64
+pub fn living_families(state: &[u64]) -> u64
     requires { ⌜ (length (now state) ≡ stateLength)
         × (getD (now state) threadCountAt 0 ≤ mostThreads) ⌝ }
     ensures { λ r. ⌜ LivingFamilies (now (state .entry)) r ⌝ }

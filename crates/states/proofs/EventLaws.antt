@@ -12,15 +12,17 @@ use native.Mathlib.Decide.{ℕ-discrete}
 use lib.ListN.{getD, length, set, drop, length-set, length-drop, List·getD-eq-default}
 use lib.Seq.{getD-set-same, getD-set-other, set-getD, getD-drop}
 use lib.Dec.{eqb, ltb}
-use borrow.Author.Tests.{ltb-true, ltb-false, not-true, not-false}
+use borrow.Author.Tests.{ltb-true, ltb-false, eqb-true, eq-eqb, ne-eqb, not-true, not-false}
 use Rattle.language.specs.inner.Labels.{inGroup}
 use Rattle.basics.proofs.Ifs.{if-yes, if-no}
-use Rattle.basics.proofs.Ifs.{if-all}
+use Rattle.basics.proofs.Ifs.{if-all, and-true}
 use Rattle.machine.specs.State.{State, isPresent, withPresent}
 use Rattle.machine.specs.Steps.{withoutEventsOf}
 use Rattle.machine.specs.Words.{bit}
+use Rattle.machine.specs.inner.Ranges.{allBelow}
+use Rattle.machine.proofs.AllBelow.{all-more, all-wrong}
 use Rattle.machine.proofs.WordLaws.{Says}
-use Rattle.states.specs.inner.Events.{withoutOwned, withoutEvent, withoutEvents}
+use Rattle.states.specs.inner.Events.{isAbsent, withoutOwned, withoutEvent, withoutEvents}
 use Rattle.basics.specs.If.{if_then_else_, keepIf}
 use Rattle.language.specs.Kinds.{isEvent}
 use Rattle.text.specs.Frames.{frameOfWord, framesOf}
@@ -47,6 +49,33 @@ module _ (labels : List ℕ) (p o : ℕ) (w : List ℕ) (e : ℕ) where
     pub own-cleared : not b ≡ false → set w (4562 + e) 0 ≡ withoutOwned (inGroup labels p) o w e
     unfolding withoutOwned
     own-cleared d = sym (if-yes _ _ (sym k ∙ not-false b d))
+
+-- ---- `none_present`
+module _ (w : List ℕ) (e : ℕ) where
+  pub present-found : (n : ℕ) → (getD w (4562 + e) 0 ≡ 0 → ⊥) → e < n
+      → false ≡ allBelow n (isAbsent w)
+  present-found n h l = all-wrong (isAbsent w) e n (ne-eqb (getD w (4562 + e) 0) 0 h) l
+
+  pub absent-more : getD w (4562 + e) 0 ≡ 0 → allBelow e (isAbsent w) ≡ true
+      → allBelow (e + 1) (isAbsent w) ≡ true
+  absent-more h a = all-more (isAbsent w) e a (eq-eqb (getD w (4562 + e) 0) 0 h)
+
+-- where none is present, none is cleared
+pub none-stay : (labels : List ℕ) (p : ℕ) (os w : List ℕ) (n : ℕ) → allBelow n (isAbsent w) ≡ true
+    → w ≡ withoutEvents (inGroup labels p) os w n
+unfolding withoutEvents allBelow
+none-stay labels p os w zero h = refl
+none-stay labels p os w (suc n) h =
+    let z = and-true (isAbsent w n) (allBelow n (isAbsent w)) h in
+    absent-stays labels p (getD os n 0) w n (eqb-true (getD w (4562 + n) 0) 0 (z .0))
+    ∙ ap (λ (v : List ℕ). withoutOwned (inGroup labels p) (getD os n 0) v n)
+    (none-stay labels p os w n (z .1))
+
+-- b is what `none_present` has answered of the header's count
+pub clearing-none : (labels : List ℕ) (p : ℕ) (os w : List ℕ) (n m : ℕ) (b : Bool)
+    → b ≡ allBelow n (isAbsent w) → b ≡ true → n ≡ m → w ≡ withoutEvents (inGroup labels p) os w m
+clearing-none labels p os w n m b k h z =
+    none-stay labels p os w n (sym k ∙ h) ∙ ap (withoutEvents (inGroup labels p) os w) z
 
 pub event-length : (c : ℕ → Bool) (os w : List ℕ) (e : ℕ) → length (withoutEvent c os w e) ≡ length w
 unfolding withoutOwned

@@ -19,7 +19,8 @@ ghost use Rattle.text.specs.Frames.{framesOf};
 ghost use Rattle.program.specs.Trees.{frameAt};
 ghost use Rattle.program.specs.Programs.{eventsOf};
 ghost use Rattle.machine.specs.Offsets.{stateLength, eventsAt};
-ghost use Rattle.states.specs.inner.Events.{withoutOwned, withoutEvents};
+ghost use Rattle.machine.specs.inner.Ranges.{allBelow};
+ghost use Rattle.states.specs.inner.Events.{isAbsent, withoutOwned, withoutEvents};
 
 pub fn is_present(state: &[u64], e: u8) -> bool
     requires { ⌜ (length (now state) ≡ stateLength) × (e < mostEvents) ⌝ }
@@ -61,8 +62,23 @@ fn event_count(frames: &[u64]) -> u8
     (frame_at(frames, 0).c % 256) as u8
 }
 
-// The events of the scheduler and of those in step with it are no longer present: one pass over the
-// lines up to the last event.
+// None of the first n events is present.
+fn none_present(state: &[u64], n: u8) -> bool
+    requires { ⌜ (length (now state) ≡ stateLength) × (n ≤ mostEvents) ⌝ }
+    ensures { λ r. ⌜ r ≡ allBelow n (isAbsent (now (state .entry))) ⌝ }
+{
+    let mut e: u8 = 0;
+    while e < n {
+        if state[EVENTS_AT + e as usize] != 0 {
+            return false;
+        }
+        e += 1;
+    }
+    true
+}
+
+// The events of the scheduler and of those in step with it are no longer present: where some event
+// is, one pass over the lines up to the last one.
 pub fn clear_events(frames: &[u64], labels: &[u8; LABELS], state: &mut [u64], q: Place)
     requires { ⌜ (length (now state) ≡ stateLength) × (0 < length (now frames))
         × (frameAt (framesOf (now frames)) 0 .c ≤ mostEvents)
@@ -72,6 +88,9 @@ pub fn clear_events(frames: &[u64], labels: &[u8; LABELS], state: &mut [u64], q:
         (frameAt (framesOf (now (frames .entry))) 0 .c) ⌝ }
 {
     let events = event_count(frames);
+    if none_present(state, events) {
+        return;
+    }
     let mut e: u8 = 0;
     let mut i: usize = 0;
     while i < frames.len() {

@@ -1,24 +1,22 @@
 -- `wake_on_each` meets its contract. Assumes nothing.
 use borrow.Author.Needs.{needs}
 use Prim.Native.Nat.{_-_}
-use Rattle.groups.proofs.MemberLaws.{walk-place, walk-low, walk-high, walk-small, walk-less}
-use Rattle.groups.proofs.MemberLaws.{end-small}
-use Rattle.groups.proofs.MemberLaws.{Waking, waking-start, waking-list, waking-scheduler}
-use Rattle.groups.proofs.MemberLaws.{waking-room, waking-next, waking-end}
+use Rattle.groups.proofs.MemberLaws.{walk-place, walk-scheduler, walk-small, end-small}
+use Rattle.groups.proofs.MemberLaws.{labels-long, own-scheduler, Waking, waking-start}
+use Rattle.groups.proofs.MemberLaws.{waking-skip, waking-list, waking-scheduler, waking-room}
+use Rattle.groups.proofs.MemberLaws.{waking-next, waking-end}
 use Rattle.groups.proofs.wake_on_each.Statement.{statement}
 use Rattle.groups.proofs.wake_on_each.Tie as tie
 
 abbrev Inv-loop : tie.InvT-loop
-Inv-loop labels schedulers q state₀ e end k₀ state k = Waking labels state₀ (q .number) schedulers end e state k
+Inv-loop labels schedulers q state₀ e end k₀ state k =
+    Waking labels state₀ (q .number) schedulers end e state k
 
 abbrev μ-loop : tie.MeasureT-loop
 μ-loop labels schedulers q state₀ e end k₀ state k = end - k
 
 add-end : tie.Need-add-end Inv-loop μ-loop
 add-end c = search end-small
-
-next-member-requires : tie.Need-next-member-requires Inv-loop μ-loop
-next-member-requires c κs = (search needs, search needs, search needs)
 
 loop-holds : tie.Need-loop-holds Inv-loop μ-loop
 loop-holds c = search waking-start
@@ -29,20 +27,29 @@ cast-known c = search needs
 known-requires : tie.Need-known-requires Inv-loop μ-loop
 known-requires c κs = search walk-place
 
+in-step-requires : tie.Need-in-step-requires Inv-loop μ-loop
+in-step-requires c κs = (search labels-long, search own-scheduler, search walk-scheduler)
+
+add-k : tie.Need-add-k Inv-loop μ-loop
+add-k c = search walk-small
+
+loop-less : tie.Need-loop-less Inv-loop μ-loop
+loop-less c = search needs
+
+loop-again : tie.Need-loop-again Inv-loop μ-loop
+loop-again c = search waking-skip
+
 wake-requires : tie.Need-wake-requires Inv-loop μ-loop
 wake-requires c κs = (search waking-list, search waking-scheduler, search waking-room)
 
-add-next-member : tie.Need-add-next-member Inv-loop μ-loop
-add-next-member c = search walk-small
+add-k-2 : tie.Need-add-k-2 Inv-loop μ-loop
+add-k-2 c = search walk-small
 
-next-member-requires-2 : tie.Need-next-member-requires-2 Inv-loop μ-loop
-next-member-requires-2 c κs = (search needs, search walk-low, search walk-high)
+loop-less-2 : tie.Need-loop-less-2 Inv-loop μ-loop
+loop-less-2 c = search needs
 
-loop-less : tie.Need-loop-less Inv-loop μ-loop
-loop-less c = search walk-less
-
-loop-again : tie.Need-loop-again Inv-loop μ-loop
-loop-again c = search waking-next
+loop-again-2 : tie.Need-loop-again-2 Inv-loop μ-loop
+loop-again-2 c = search waking-next
 
 same-length : tie.Need-same-length Inv-loop μ-loop
 same-length c = search needs
@@ -57,14 +64,16 @@ wake-on-each-spec =
     Inv-loop
     μ-loop
     add-end
-    next-member-requires
     loop-holds
     cast-known
     known-requires
-    wake-requires
-    add-next-member
-    next-member-requires-2
+    in-step-requires
+    add-k
     loop-less
     loop-again
+    wake-requires
+    add-k-2
+    loop-less-2
+    loop-again-2
     same-length
     returns)

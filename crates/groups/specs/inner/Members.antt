@@ -7,7 +7,6 @@ use mathlib.Core.Bool.{Bool, true, not}
 use Prim.Native.Nat.{ℕ, zero, suc, _+_, _-_, _*_, _<_, _≤_}
 use lib.Dec.{leb, eqb}
 use lib.ListN.{length, getD}
-use Rattle.basics.specs.If.{if_then_else_}
 use Rattle.basics.specs.Members.{any, every}
 use Rattle.language.specs.Places.{home, isScheduler}
 use Rattle.language.specs.Limits.{mostSchedulers, mostThreads}
@@ -21,11 +20,6 @@ use Rattle.lists.specs.inner.Lists.{withInstantEnded, ListsFit}
 -- the members of q's group, of a file with n schedulers
 abbrev pub membersIn : List ℕ → ℕ → ℕ → List ℕ
 membersIn labels n q = schedulersWhere (sameLabel labels q) home n
-
--- the first of n numbers from k on that passes the test; the number after them where none does
-unfoldable pub firstWhere : (ℕ → Bool) → ℕ → ℕ → ℕ
-firstWhere test k zero = k
-firstWhere test k (suc n) = if test k then k else firstWhere test (suc k) n
 
 -- scheduler q has an active thread
 abbrev pub activeOn : List ℕ → ℕ → Bool

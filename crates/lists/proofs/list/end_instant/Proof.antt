@@ -4,9 +4,6 @@ use Rattle.lists.proofs.PartitionLaws.{idle-room, instant-count, instan
 use Rattle.lists.proofs.list.end_instant.Statement.{statement}
 use Rattle.lists.proofs.list.end_instant.Tie as tie
 
-living-families-requires : tie.Need-living-families-requires
-living-families-requires c κs = search needs
-
 move-entries-requires : tie.Need-move-entries-requires
 move-entries-requires c κs = (search needs, search needs, search idle-room)
 
@@ -17,5 +14,4 @@ returns : tie.Need-returns
 returns c = (search instant-count, search instant-words)
 
 pub end-instant-spec : {M : Type 1} → statement M
-end-instant-spec =
-    tie.close (tie.spec living-families-requires move-entries-requires same-length returns)
+end-instant-spec = tie.close (tie.spec move-entries-requires same-length returns)

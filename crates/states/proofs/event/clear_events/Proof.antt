@@ -2,8 +2,8 @@
 use borrow.Author.Needs.{needs}
 use Prim.Native.Nat.{_-_}
 use lib.ListN.{length}
-use Rattle.states.proofs.EventLaws.{Clearing, clearing-start, clearing-other, clearing-event}
-use Rattle.states.proofs.EventLaws.{clearing-done, clearing-end}
+use Rattle.states.proofs.EventLaws.{Clearing, clearing-none, clearing-start, clearing-other}
+use Rattle.states.proofs.EventLaws.{clearing-event, clearing-done, clearing-end}
 use Rattle.states.proofs.event.clear_events.Statement.{statement}
 use Rattle.states.proofs.event.clear_events.Tie as tie
 
@@ -17,14 +17,23 @@ abbrev μ-loop : tie.MeasureT-loop
 event-count-requires : tie.Need-event-count-requires Inv-loop μ-loop
 event-count-requires c κs = search needs
 
-loop-holds : tie.Need-loop-holds Inv-loop μ-loop
-loop-holds c = search clearing-start
+none-present-requires : tie.Need-none-present-requires Inv-loop μ-loop
+none-present-requires c κs = search needs
 
 same-length : tie.Need-same-length Inv-loop μ-loop
 same-length c = search needs
 
 returns : tie.Need-returns Inv-loop μ-loop
-returns c = search clearing-done
+returns c = search clearing-none
+
+loop-holds : tie.Need-loop-holds Inv-loop μ-loop
+loop-holds c = search clearing-start
+
+same-length-2 : tie.Need-same-length-2 Inv-loop μ-loop
+same-length-2 c = search needs
+
+returns-2 : tie.Need-returns-2 Inv-loop μ-loop
+returns-2 c = search clearing-done
 
 mul-line : tie.Need-mul-line Inv-loop μ-loop
 mul-line c = search needs
@@ -59,11 +68,11 @@ loop-less-2 c = search needs
 loop-again-2 : tie.Need-loop-again-2 Inv-loop μ-loop
 loop-again-2 c = search clearing-other
 
-same-length-2 : tie.Need-same-length-2 Inv-loop μ-loop
-same-length-2 c = search needs
+same-length-3 : tie.Need-same-length-3 Inv-loop μ-loop
+same-length-3 c = search needs
 
-returns-2 : tie.Need-returns-2 Inv-loop μ-loop
-returns-2 c = search clearing-end
+returns-3 : tie.Need-returns-3 Inv-loop μ-loop
+returns-3 c = search clearing-end
 
 pub clear-events-spec : {M : Type 1} → statement M
 clear-events-spec =
@@ -72,9 +81,12 @@ clear-events-spec =
     Inv-loop
     μ-loop
     event-count-requires
-    loop-holds
+    none-present-requires
     same-length
     returns
+    loop-holds
+    same-length-2
+    returns-2
     mul-line
     shared-slice-read-line
     add-i
@@ -86,5 +98,5 @@ clear-events-spec =
     loop-again
     loop-less-2
     loop-again-2
-    same-length-2
-    returns-2)
+    same-length-3
+    returns-3)
