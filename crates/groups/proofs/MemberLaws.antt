@@ -1,19 +1,19 @@
 -- The loops over the members of a group, turn by turn. Assumes nothing.
 use Prim.Native.Nat.{ℕ, zero, suc, _+_, _*_, _-_, _^_, _<_, _≤_}
-use mathlib.Core.Path.{_≡_, refl, sym, ap, ap₂, _∙_, subst}
+use mathlib.Core.Path.{_≡_, refl, sym, ap, _∙_, subst}
 use mathlib.Core.List.{List, [], _∷_}
-use mathlib.Core.Bool.{Bool, true, false, not, true≢false}
+use mathlib.Core.Bool.{Bool, true, false, not, _&&_, true≢false}
 use native.Mathlib.Omega.{arith}
 use native.Mathlib.Decide.{ℕ-discrete}
 use lib.Dec.{leb, eqb}
 use lib.ListN.{length, getD}
-use borrow.Author.Tests.{eq-eqb, ne-eqb, le-leb, leb-true, not-true, not-false}
+use borrow.Author.Tests.{le-leb, leb-true, not-true, not-false}
 use Rattle.basics.specs.If.{keepIf}
 use Rattle.basics.specs.Members.{any, every}
-use Rattle.basics.proofs.Ifs.{if-all, if-yes, if-no, and-both}
+use Rattle.basics.proofs.Ifs.{if-all, if-yes, if-no, and-both, and-true}
 use Rattle.language.specs.Places.{isPlace, isScheduler}
 use Rattle.language.specs.declared.Place.{Place}
-use Rattle.language.specs.inner.Labels.{labelAt, sameLabel}
+use Rattle.language.specs.inner.Labels.{sameLabel}
 use Rattle.language.proofs.PlaceLaws.{test-bounds}
 use Rattle.machine.specs.Groups.{schedulersWhere}
 use Rattle.machine.specs.Words.{wordsAt}
@@ -22,9 +22,10 @@ use Rattle.lists.specs.inner.Families.{isReadyWord, LivingFamilies}
 use Rattle.lists.specs.inner.Lists.{withInstantEnded, ListWords}
 use Rattle.lists.proofs.PartitionLaws.{idle-room}
 use Rattle.lists.proofs.MovedLaws.{moved-long, moved-other, moved-fits, moved-living, active-same}
-use Rattle.groups.specs.inner.Members.{membersIn, activeOn, anyActiveOn, roomOn}
-use Rattle.groups.specs.inner.Members.{roomOnEach, wokenOn, endedOn, readyOn, GroupOf}
-use Rattle.groups.specs.inner.Members.{GroupWords, Each, HasRoomOn, IdleOn}
+use Rattle.groups.specs.inner.Members.{membersIn, activeOn, isActiveMember, anyActiveOn}
+use Rattle.groups.specs.inner.Members.{roomOn, lacksRoom, roomOnEach, wokenIf, wokenOn, endedIf}
+use Rattle.groups.specs.inner.Members.{readyIf, endedOn, readyOn, GroupOf, PairOf, GroupWords}
+use Rattle.groups.specs.inner.Members.{Each, HasRoomOn, IdleOn, RoomIf, IdleIf}
 
 -- ---- the schedulers from k on that pass
 module _ (test : ℕ → Bool) where
@@ -121,31 +122,41 @@ module _ {X : Type 0} (F : List ℕ → X) (whole : X) (labels : List ℕ) (p n 
 pub end-small : (labels : List ℕ) (n p : ℕ) → GroupOf labels n p → 2 + n < 256
 end-small labels n p g = let f = g .few in omega arith
 
-pub labels-long : (labels : List ℕ) (n p : ℕ) → GroupOf labels n p → length labels ≡ 8
-labels-long labels n p g = g .labelled
+-- a scheduler of the loop beside p
+pub walk-pair : {X : Type 0} (F : List ℕ → X) (whole : X) (labels : List ℕ) (p n m k : ℕ) (q : Place)
+    → Walk F whole labels p n m k → k < m → GroupOf labels n p → q ≡ record { number = k }
+    → PairOf labels p (q .number)
+walk-pair F whole labels p n m k q t l g i =
+    record {
+      labelled = g .labelled;
+      own = g .scheduler;
+      other = walk-scheduler F whole labels p n m k t l g q i;
+    }
 
-pub own-scheduler : (labels : List ℕ) (n p : ℕ) → GroupOf labels n p → isScheduler p ≡ true
-own-scheduler labels n p g = g .scheduler
+pub pair-labels : (labels : List ℕ) (p k : ℕ) → PairOf labels p k → length labels ≡ 8
+pair-labels labels p k h = h .labelled
 
--- r is what `in_step` has answered of k
-module _ (labels : List ℕ) (p k : ℕ) (q : Place) (i : q ≡ record { number = k }) (r : Bool)
-    (s : r ≡ sameLabel labels p (q .number)) where
-  answer-is : sameLabel labels p k ≡ r
-  answer-is = ap (λ (x : Place). sameLabel labels p (x .number)) (sym i) ∙ sym s
+pub pair-own : (labels : List ℕ) (p k : ℕ) → PairOf labels p k → isScheduler p ≡ true
+pair-own labels p k h = h .own
 
-  is-other : not r ≡ true → sameLabel labels p k ≡ false
-  is-other h = answer-is ∙ not-true r h
+pub pair-other : (labels : List ℕ) (p k : ℕ) → PairOf labels p k → isScheduler k ≡ true
+pair-other labels p k h = h .other
 
-  is-member : not r ≡ false → sameLabel labels p k ≡ true
-  is-member h = answer-is ∙ not-false r h
+-- ---- `is_active_member`, `lacks_room`: r is what `in_step` has answered
+pub no-member : (b r : Bool) → r ≡ b → not r ≡ true → (c : Bool) → false ≡ (b && c)
+no-member b r e h c = sym (ap (λ (d : Bool). d && c) (sym e ∙ not-true r h))
 
--- one that is no member is passed over
-pub walk-skip : {X : Type 0} (F : List ℕ → X) (whole : X) (labels : List ℕ) (p n m k : ℕ)
-    (q : Place) (r : Bool) → Walk F whole labels p n m k → k < m → q ≡ record { number = k }
-    → r ≡ sameLabel labels p (q .number) → not r ≡ true → Walk F whole labels p n m (k + 1)
-walk-skip F whole labels p n m k q r t l i s h =
-    walk-on F F whole labels p n m k t
-    (walk-other labels p n m F whole k t l (is-other labels p k q i r s h))
+pub of-member : (b r : Bool) → r ≡ b → not r ≡ false → (x c : Bool) → x ≡ c → x ≡ (b && c)
+of-member b r e h x c d = d ∙ sym (ap (λ (y : Bool). y && c) (sym e ∙ not-false r h))
+
+pub active-of : (b r : Bool) (w : List ℕ) (k y : ℕ) → r ≡ b → not r ≡ false
+    → y ≡ getD w (3 + 130 * (k - 2)) 0 → not (eqb y 0) ≡ (b && activeOn w k)
+active-of b r w k y e h d =
+    of-member b r e h _ _ (ap (λ (x : ℕ). not (eqb x 0)) d)
+
+pub room-of : (b r : Bool) (w : List ℕ) (k e : ℕ) (x : Bool) → r ≡ b → not r ≡ false
+    → x ≡ leb (activeWith (isAwaitingWord e) w (k - 2)) 64 → not x ≡ (b && not (roomOn e w k))
+room-of b r w k e x f h d = of-member b r f h _ _ (ap not d)
 
 -- ---- `any_active`
 pub active-start : (labels w : List ℕ) (p n m : ℕ) → m ≡ 2 + n
@@ -154,35 +165,34 @@ active-start labels w p n m h = walk-start labels p n m (λ qs. anyActiveOn qs w
 
 module _ (labels w : List ℕ) (p n m k : ℕ)
     (t : Walk (λ qs. anyActiveOn qs w) (anyActiveOn (membersIn labels n p) w) labels p n m k) where
-  active-as : (x : ℕ) (q : Place) → q ≡ record { number = k } → x ≡ getD w (3 + 130 * (q .number - 2)) 0
-      → (b : Bool) → eqb x 0 ≡ b → activeOn w k ≡ not b
-  active-as x q e h b f =
-      ap (λ (y : ℕ). not (eqb y 0))
-      (ap (λ (r : Place). getD w (3 + 130 * (r .number - 2)) 0) (sym e) ∙ sym h) ∙ ap not f
+  module _ (l : k < m) (q : Place) (i : q ≡ record { number = k }) (x : Bool)
+      (h : x ≡ isActiveMember labels p w (q .number)) where
+    active-is : isActiveMember labels p w k ≡ x
+    active-is = ap (λ (y : Place). isActiveMember labels p w (y .number)) (sym i) ∙ sym h
 
-  module _ (l : k < m) (q : Place) (i : q ≡ record { number = k }) (r : Bool)
-      (s : r ≡ sameLabel labels p (q .number)) (here : not r ≡ false) (x : ℕ)
-      (h : x ≡ getD w (3 + 130 * (q .number - 2)) 0) where
-    active-one : anyActiveOn (k ∷ membersFrom labels p n (k + 1)) w
+    active-one : sameLabel labels p k ≡ true → {b : Bool} → activeOn w k ≡ b
+        → elim b [ true ↦ true | false ↦ any (activeOn w) (membersFrom labels p n (k + 1)) ]
         ≡ anyActiveOn (membersIn labels n p) w
-    active-one =
-        walk-member labels p n m (λ qs. anyActiveOn qs w) _ k t l (is-member labels p k q i r s here)
-
-    pub active-found : (x ≡ 0 → ⊥) → true ≡ anyActiveOn (membersIn labels n p) w
     unfolding any
-    active-found f =
+    active-one s e =
         ap (λ (b : Bool). elim b [ true ↦ true | false ↦ any (activeOn w) (membersFrom labels p n (k + 1)) ])
-        (sym (active-as x q i h false (ne-eqb x 0 f)))
-        ∙ active-one
+        (sym e)
+        ∙ walk-member labels p n m (λ qs. anyActiveOn qs w) _ k t l s
 
-    pub active-next : x ≡ 0
+    pub active-found : x ≡ true → true ≡ anyActiveOn (membersIn labels n p) w
+    active-found f =
+        let z = and-true (sameLabel labels p k) (activeOn w k) (active-is ∙ f) in
+        active-one (z .0) (z .1)
+
+    pub active-next : x ≡ false
         → Walk (λ qs. anyActiveOn qs w) (anyActiveOn (membersIn labels n p) w) labels p n m (k + 1)
-    unfolding any
-    active-next f =
-        walk-on _ (λ qs. anyActiveOn qs w) _ labels p n m k t
-        (ap (λ (b : Bool). elim b [ true ↦ true | false ↦ any (activeOn w) (membersFrom labels p n (k + 1)) ])
-        (sym (active-as x q i h true (eq-eqb x 0 f)))
-        ∙ active-one)
+    active-next f = walk-on _ (λ qs. anyActiveOn qs w) _ labels p n m k t (by (sameLabel labels p k) refl)
+      where
+        by : (b : Bool) → sameLabel labels p k ≡ b
+            → anyActiveOn (membersFrom labels p n (k + 1)) w ≡ anyActiveOn (membersIn labels n p) w
+        by false s = walk-other labels p n m (λ qs. anyActiveOn qs w) _ k t l s
+        by true s =
+            active-one s (sym (ap (λ (b : Bool). b && activeOn w k) s) ∙ active-is ∙ f)
 
   pub active-none : m ≤ k → false ≡ anyActiveOn (membersIn labels n p) w
   unfolding any
@@ -195,33 +205,35 @@ room-start labels w p n m e h = walk-start labels p n m (λ qs. roomOnEach qs e 
 
 module _ (labels w : List ℕ) (p n m k e : ℕ)
     (t : Walk (λ qs. roomOnEach qs e w) (roomOnEach (membersIn labels n p) e w) labels p n m k) where
-  module _ (l : k < m) (q : Place) (i : q ≡ record { number = k }) (r : Bool)
-      (s : r ≡ sameLabel labels p (q .number)) (here : not r ≡ false) (x : Bool)
-      (h : x ≡ leb (activeWith (isAwaitingWord e) w (q .number - 2)) 64) where
-    room-as : roomOn e w k ≡ x
-    room-as =
-        ap (λ (y : Place). leb (activeWith (isAwaitingWord e) w (y .number - 2)) 64) (sym i) ∙ sym h
+  module _ (l : k < m) (q : Place) (i : q ≡ record { number = k }) (x : Bool)
+      (h : x ≡ lacksRoom labels p e w (q .number)) where
+    room-is : lacksRoom labels p e w k ≡ x
+    room-is = ap (λ (y : Place). lacksRoom labels p e w (y .number)) (sym i) ∙ sym h
 
-    room-one : roomOnEach (k ∷ membersFrom labels p n (k + 1)) e w
+    room-one : sameLabel labels p k ≡ true → {b : Bool} → roomOn e w k ≡ b
+        → elim b [ true ↦ every (roomOn e w) (membersFrom labels p n (k + 1)) | false ↦ false ]
         ≡ roomOnEach (membersIn labels n p) e w
-    room-one =
-        walk-member labels p n m (λ qs. roomOnEach qs e w) _ k t l (is-member labels p k q i r s here)
-
-    pub room-missing : not x ≡ true → false ≡ roomOnEach (membersIn labels n p) e w
     unfolding every
-    room-missing f =
+    room-one s f =
         ap (λ (b : Bool). elim b [ true ↦ every (roomOn e w) (membersFrom labels p n (k + 1)) | false ↦ false ])
-        (sym (room-as ∙ not-true x f))
-        ∙ room-one
+        (sym f)
+        ∙ walk-member labels p n m (λ qs. roomOnEach qs e w) _ k t l s
 
-    pub room-next : not x ≡ false
+    pub room-missing : x ≡ true → false ≡ roomOnEach (membersIn labels n p) e w
+    room-missing f =
+        let z = and-true (sameLabel labels p k) (not (roomOn e w k)) (room-is ∙ f) in
+        room-one (z .0) (not-true (roomOn e w k) (z .1))
+
+    pub room-next : x ≡ false
         → Walk (λ qs. roomOnEach qs e w) (roomOnEach (membersIn labels n p) e w) labels p n m (k + 1)
-    unfolding every
-    room-next f =
-        walk-on _ (λ qs. roomOnEach qs e w) _ labels p n m k t
-        (ap (λ (b : Bool). elim b [ true ↦ every (roomOn e w) (membersFrom labels p n (k + 1)) | false ↦ false ])
-        (sym (room-as ∙ not-false x f))
-        ∙ room-one)
+    room-next f = walk-on _ (λ qs. roomOnEach qs e w) _ labels p n m k t (by (sameLabel labels p k) refl)
+      where
+        by : (b : Bool) → sameLabel labels p k ≡ b
+            → roomOnEach (membersFrom labels p n (k + 1)) e w ≡ roomOnEach (membersIn labels n p) e w
+        by false s = walk-other labels p n m (λ qs. roomOnEach qs e w) _ k t l s
+        by true s =
+            room-one s
+            (not-false (roomOn e w k) (sym (ap (λ (b : Bool). b && not (roomOn e w k)) s) ∙ room-is ∙ f))
 
   pub room-all : m ≤ k → true ≡ roomOnEach (membersIn labels n p) e w
   unfolding every
@@ -242,6 +254,40 @@ pub active-fits : (w : List ℕ) (q : ℕ) → GroupWords w → isScheduler q �
 active-fits w q h s =
     let (a, b) = test-bounds 2 q s in h .lists .active (q - 2) (omega arith)
 
+-- ---- `wake_if_member`, `end_if_member`: r is what `in_step` has answered
+module _ (labels w : List ℕ) (p k : ℕ) (r : Bool) (s : r ≡ sameLabel labels p k) where
+  pub wakes-none : (e : ℕ) → not r ≡ true → w ≡ wokenIf labels p e w k
+  unfolding wokenIf
+  wakes-none e h = sym (if-no _ _ (sym s ∙ not-true r h))
+
+  pub ends-none : not r ≡ true → w ≡ endedIf labels p w k
+  unfolding endedIf
+  ends-none h = sym (if-no _ _ (sym s ∙ not-true r h))
+
+  pub none-ready-here : not r ≡ true → 0 ≡ readyIf labels p w k
+  unfolding readyIf
+  none-ready-here h = sym (if-no _ _ (sym s ∙ not-true r h))
+
+  module _ (h : not r ≡ false) where
+    pub wakes-here : (e : ℕ) (v : List ℕ) → v ≡ withWoken w (k - 2) e → v ≡ wokenIf labels p e w k
+    unfolding wokenIf
+    wakes-here e v f = f ∙ sym (if-yes _ _ (sym s ∙ not-false r h))
+
+    pub ends-here : (v : List ℕ) → v ≡ withInstantEnded w (k - 2) → v ≡ endedIf labels p w k
+    unfolding endedIf
+    ends-here v f = f ∙ sym (if-yes _ _ (sym s ∙ not-false r h))
+
+    pub ready-here : (x : ℕ) → x ≡ length (readyWords w (wordsAt w (67 + 130 * (k - 2))))
+        → x ≡ readyIf labels p w k
+    unfolding readyIf
+    ready-here x f = f ∙ sym (if-yes _ _ (sym s ∙ not-false r h))
+
+    pub has-room-here : (e : ℕ) → RoomIf labels p e w k → activeWith (isAwaitingWord e) w (k - 2) ≤ 64
+    has-room-here e f = f .room (sym s ∙ not-false r h)
+
+    pub is-idle-here : IdleIf labels p w k → getD w (2 + 130 * (k - 2)) 0 ≡ 0
+    is-idle-here f = f .idle (sym s ∙ not-false r h)
+
 -- ---- `wake_on_each`: the members before k are woken, those from k on have room
 pub record Waking (labels w₀ : List ℕ) (p n m e : ℕ) (w : List ℕ) (k : ℕ) : Type 0 where
   pub walk : Walk (λ qs. wokenOn qs e w) (wokenOn (membersIn labels n p) e w₀) labels p n m k
@@ -253,63 +299,38 @@ pub waking-start : (labels w : List ℕ) (p n m e : ℕ) → m ≡ 2 + n → Gro
 waking-start labels w p n m e h g f =
     record { walk = walk-start labels p n m (λ qs. wokenOn qs e w) h; words = g; room = f }
 
-pub waking-skip : (labels w₀ w : List ℕ) (p n m e k : ℕ) (q : Place) (r : Bool)
-    → Waking labels w₀ p n m e w k → k < m → q ≡ record { number = k }
-    → r ≡ sameLabel labels p (q .number) → not r ≡ true → Waking labels w₀ p n m e w (k + 1)
-waking-skip labels w₀ w p n m e k q r t l i s h =
-    record {
-      walk = walk-skip _ _ labels p n m k q r (t .walk) l i s h;
-      words = t .words;
-      room = λ j a b c. t .room j (omega arith) b c;
-    }
+pub waking-words : (labels w₀ w : List ℕ) (p n m e k : ℕ) → Waking labels w₀ p n m e w k → GroupWords w
+waking-words labels w₀ w p n m e k t = t .words
 
 module _ (labels w₀ w : List ℕ) (p n m e k : ℕ) (t : Waking labels w₀ p n m e w k) (l : k < m)
-    (g : GroupOf labels n p) (q : Place) (i : q ≡ record { number = k }) (r : Bool)
-    (s : r ≡ sameLabel labels p (q .number)) (member : not r ≡ false) where
-  here-scheduler : isScheduler (q .number) ≡ true
-  here-scheduler = walk-scheduler _ _ labels p n m k (t .walk) l g q i
+    (g : GroupOf labels n p) where
+  room-now : sameLabel labels p k ≡ true → activeWith (isAwaitingWord e) w (k - 2) ≤ 64
+  room-now h = let z = t .walk .end in t .room k (omega arith) (omega arith) h
 
-  pub waking-room : activeWith (isAwaitingWord e) w (q .number - 2) ≤ 64
-  waking-room =
-      let z = t .walk .end in
-      subst (λ (r : Place). activeWith (isAwaitingWord e) w (r .number - 2) ≤ 64) (sym i)
-      (t .room k (omega arith) (omega arith) (is-member labels p k q i r s member))
-
-  pub waking-scheduler : isScheduler (q .number) ≡ true
-  waking-scheduler = here-scheduler
-
-  pub waking-list : ListWords w (67 + 130 * (q .number - 2))
-  waking-list = list-words w (q .number) (t .words) here-scheduler
-
-  at-block : q .number ≡ k
-  at-block = ap (λ (r : Place). r .number) i
+  pub waking-room : (q : Place) → q ≡ record { number = k } → RoomIf labels p e w (q .number)
+  waking-room q i =
+      subst (λ (y : Place). RoomIf labels p e w (y .number)) (sym i) (record { room = room-now })
 
   block : k - 2 < 8
-  block = let (a, b) = test-bounds 2 (q .number) here-scheduler in let z = at-block in omega arith
+  block = let z = t .walk .end in let f = g .few in let a = t .walk .low in omega arith
 
   small : getD w (67 + 130 * (k - 2)) 0 ≤ 64
   small = t .words .lists .next (k - 2) block
 
-  room-here : activeWith (isAwaitingWord e) w (k - 2) ≤ 64
-  room-here = subst (λ (j : ℕ). activeWith (isAwaitingWord e) w (j - 2) ≤ 64) at-block waking-room
-
-  pub waking-next : (v : List ℕ) → v ≡ withWoken w (q .number - 2) e
-      → Waking labels w₀ p n m e v (k + 1)
+  -- of a member, and of another
+  woken-next : sameLabel labels p k ≡ true → Waking labels w₀ p n m e (withWoken w (k - 2) e) (k + 1)
   unfolding wokenOn
-  waking-next v h =
-      subst (λ (x : List ℕ). Waking labels w₀ p n m e x (k + 1))
-      (sym (h ∙ ap (λ (a : ℕ). withWoken w (a - 2) e) at-block))
-      (record {
+  woken-next here =
+      record {
         walk =
             walk-on _ (λ qs. wokenOn qs e (withWoken w (k - 2) e)) _ labels p n m k (t .walk)
-            (walk-member labels p n m (λ qs. wokenOn qs e w) _ k (t .walk) l
-            (is-member labels p k q i r s member));
+            (walk-member labels p n m (λ qs. wokenOn qs e w) _ k (t .walk) l here);
         words = record {
-          all = moved-long (isAwaitingWord e) w (k - 2) block (t .words .all) small room-here;
-          lists = moved-fits (isAwaitingWord e) w (k - 2) block (t .words .all) small room-here (t .words .lists);
+          all = moved-long (isAwaitingWord e) w (k - 2) block (t .words .all) small (room-now here);
+          lists = moved-fits (isAwaitingWord e) w (k - 2) block (t .words .all) small (room-now here) (t .words .lists);
         };
         room = λ a b c d. later a (omega arith) c d;
-      })
+      }
     where
       later : (a : ℕ) → k < a → a < 2 + n → sameLabel labels p a ≡ true
           → HasRoomOn e (withWoken w (k - 2) e) a
@@ -317,10 +338,29 @@ module _ (labels w₀ w : List ℕ) (p n m e k : ℕ) (t : Waking labels w₀ p 
           let low = t .walk .low in
           let few = g .few in
           let same = active-same w (withWoken w (k - 2) e) (a - 2)
-          (λ o x y. moved-other (isAwaitingWord e) w (k - 2) block (t .words .all) small room-here o (λ f h. omega arith))
+          (λ o x y. moved-other (isAwaitingWord e) w (k - 2) block (t .words .all) small (room-now here) o (λ f h. omega arith))
           (t .words .lists .next (a - 2) (omega arith)) (isAwaitingWord e) in
           let z = t .room a (omega arith) c d in
           omega arith
+
+  passed-next : sameLabel labels p k ≡ false → Waking labels w₀ p n m e w (k + 1)
+  passed-next other =
+      record {
+        walk =
+            walk-on _ (λ qs. wokenOn qs e w) _ labels p n m k (t .walk)
+            (walk-other labels p n m (λ qs. wokenOn qs e w) _ k (t .walk) l other);
+        words = t .words;
+        room = λ a b c d. t .room a (omega arith) c d;
+      }
+
+  pub waking-next : (q : Place) (v : List ℕ) → q ≡ record { number = k }
+      → v ≡ wokenIf labels p e w (q .number) → Waking labels w₀ p n m e v (k + 1)
+  unfolding wokenIf
+  waking-next q v i h =
+      subst (λ (x : List ℕ). Waking labels w₀ p n m e x (k + 1))
+      (sym (h ∙ ap (λ (y : Place). wokenIf labels p e w (y .number)) i))
+      (if-all (λ (x : List ℕ). Waking labels w₀ p n m e x (k + 1)) (sameLabel labels p k) _ _
+      woken-next passed-next)
 
 pub waking-end : (labels w₀ w : List ℕ) (p n m e k : ℕ) → Waking labels w₀ p n m e w k → m ≤ k
     → w ≡ wokenOn (membersIn labels n p) e w₀
@@ -349,124 +389,130 @@ ending-start labels w p n m living h g f s =
       families = s;
     }
 
-pub ending-skip : (labels w₀ w : List ℕ) (p n m living ready k : ℕ) (q : Place) (r : Bool)
-    → Ending labels w₀ p n m living w ready k → k < m → q ≡ record { number = k }
-    → r ≡ sameLabel labels p (q .number) → not r ≡ true
-    → Ending labels w₀ p n m living w ready (k + 1)
-ending-skip labels w₀ w p n m living ready k q r t l i s h =
-    record {
-      walk = walk-skip _ _ labels p n m k q r (t .walk) l i s h;
-      count =
-          ap (λ (qs : List ℕ). ready + readyOn qs w)
-          (sym (members-later (sameLabel labels p) k (2 + n) (let z = t .walk .end in omega arith)
-          (is-other labels p k q i r s h)))
-          ∙ t .count;
-      few = let a = t .few in omega arith;
-      words = t .words;
-      idle = λ j a b c. t .idle j (omega arith) b c;
-      families = t .families;
-    }
-
 module _ (labels w₀ w : List ℕ) (p n m living ready k : ℕ)
-    (t : Ending labels w₀ p n m living w ready k) (l : k < m) (g : GroupOf labels n p)
-    (q : Place) (i : q ≡ record { number = k }) (r : Bool)
-    (s : r ≡ sameLabel labels p (q .number)) (member : not r ≡ false) where
-  pub ending-scheduler : isScheduler (q .number) ≡ true
-  ending-scheduler = walk-scheduler _ _ labels p n m k (t .walk) l g q i
-
-  pub ending-list : ListWords w (67 + 130 * (q .number - 2))
-  ending-list = list-words w (q .number) (t .words) ending-scheduler
-
-  pub ending-idle : getD w (2 + 130 * (q .number - 2)) 0 ≡ 0
-  ending-idle =
-      let z = t .walk .end in
-      ap (λ (r : Place). getD w (2 + 130 * (r .number - 2)) 0) i
-      ∙ t .idle k (omega arith) (omega arith) (is-member labels p k q i r s member)
+    (t : Ending labels w₀ p n m living w ready k) where
+  pub ending-words-fit : GroupWords w
+  ending-words-fit = t .words
 
   pub ending-families : LivingFamilies w living
   ending-families = t .families
 
-  at-number : q .number ≡ k
-  at-number = ap (λ (r : Place). r .number) i
+  module _ (l : k < m) (g : GroupOf labels n p) where
+    idle-now : sameLabel labels p k ≡ true → getD w (2 + 130 * (k - 2)) 0 ≡ 0
+    idle-now h = let z = t .walk .end in t .idle k (omega arith) (omega arith) h
 
-  ending-block : k - 2 < 8
-  ending-block =
-      let (a, b) = test-bounds 2 (q .number) ending-scheduler in let z = at-number in omega arith
+    pub ending-idle : (q : Place) → q ≡ record { number = k } → IdleIf labels p w (q .number)
+    ending-idle q i =
+        subst (λ (y : Place). IdleIf labels p w (y .number)) (sym i) (record { idle = idle-now })
 
-  next-small : getD w (67 + 130 * (k - 2)) 0 ≤ 64
-  next-small = t .words .lists .next (k - 2) ending-block
+    ending-block : k - 2 < 8
+    ending-block = let z = t .walk .end in let f = g .few in let a = t .walk .low in omega arith
 
-  idle-here : activeWith (isReadyWord w) w (k - 2) ≤ 64
-  idle-here =
-      idle-room (isReadyWord w) w (k - 2)
-      (ap (λ (a : ℕ). getD w (2 + 130 * (a - 2)) 0) (sym at-number) ∙ ending-idle) next-small
+    next-small : getD w (67 + 130 * (k - 2)) 0 ≤ 64
+    next-small = t .words .lists .next (k - 2) ending-block
 
-  count-few : (x : ℕ) → x ≡ length (readyWords w (wordsAt w (67 + 130 * (q .number - 2)))) → x ≤ 64
-  count-few x h =
-      let z = ap (λ (a : ℕ). length (readyWords w (wordsAt w (67 + 130 * (a - 2))))) at-number in
-      let y = idle-here in
-      omega arith
+    room-idle : sameLabel labels p k ≡ true → activeWith (isReadyWord w) w (k - 2) ≤ 64
+    room-idle h = idle-room (isReadyWord w) w (k - 2) (idle-now h) next-small
 
-  pub ending-small : (x : ℕ) → x ≡ length (readyWords w (wordsAt w (67 + 130 * (q .number - 2))))
-      → ready + x < 2 ^ 64
-  ending-small x h =
-      let a = count-few x h in let b = t .few in let z = t .walk .end in let f = g .few in
-      omega arith
+    count-few : readyIf labels p w k ≤ 64
+    unfolding readyIf
+    count-few =
+        if-all (λ (x : ℕ). x ≤ 64) (sameLabel labels p k) _ 0
+        (λ h. let y = room-idle h in omega arith) (λ _. omega arith)
 
-  pub ending-next : (v : List ℕ) (x : ℕ)
-      → x ≡ length (readyWords w (wordsAt w (67 + 130 * (q .number - 2))))
-      → v ≡ withInstantEnded w (q .number - 2)
-      → Ending labels w₀ p n m living v (ready + x) (k + 1)
-  unfolding endedOn readyOn
-  ending-next v x c h =
-      subst (λ (y : List ℕ). Ending labels w₀ p n m living y (ready + x) (k + 1))
-      (sym (h ∙ ap (λ (a : ℕ). withInstantEnded w (a - 2)) at-number))
-      (record {
-        walk =
-            walk-on _ (λ qs. endedOn qs (withInstantEnded w (k - 2))) _ labels p n m k (t .walk)
-            (walk-member labels p n m (λ qs. endedOn qs w) _ k (t .walk) l here);
-        count =
-            let a = t .count in
-            let b = ap (λ (qs : List ℕ). readyOn qs w) (members-first (sameLabel labels p) k (2 + n) inside-file here) in
-            let d = c ∙ ap (λ (a : ℕ). length (readyWords w (wordsAt w (67 + 130 * (a - 2))))) at-number in
-            omega arith;
-        few = let a = count-few x c in let b = t .few in omega arith;
-        words = record {
-          all = moved-long (isReadyWord w) w (k - 2) ending-block (t .words .all) next-small idle-here;
-          lists = moved-fits (isReadyWord w) w (k - 2) ending-block (t .words .all) next-small idle-here (t .words .lists);
-        };
-        idle = λ a b c d. later a (omega arith) c d;
-        families =
-            moved-living (isReadyWord w) w (k - 2) ending-block (t .words .all) next-small idle-here living
-            (t .families);
-      })
-    where
-      here : sameLabel labels p k ≡ true
-      here = is-member labels p k q i r s member
+    count-at : (q : Place) (x : ℕ) → q ≡ record { number = k } → x ≡ readyIf labels p w (q .number)
+        → x ≡ readyIf labels p w k
+    count-at q x i h = h ∙ ap (λ (y : Place). readyIf labels p w (y .number)) i
 
-      inside-file : k < 2 + n
-      inside-file = let z = t .walk .end in omega arith
+    pub ending-small : (q : Place) (x : ℕ) → q ≡ record { number = k }
+        → x ≡ readyIf labels p w (q .number) → ready + x < 2 ^ 64
+    ending-small q x i h =
+        let a = count-at q x i h in let c = count-few in let b = t .few in
+        let z = t .walk .end in let f = g .few in
+        omega arith
 
-      later : (a : ℕ) → k < a → a < 2 + n → sameLabel labels p a ≡ true
-          → IdleOn (withInstantEnded w (k - 2)) a
-      later a b c d =
-          let low = t .walk .low in
-          moved-other (isReadyWord w) w (k - 2) ending-block (t .words .all) next-small idle-here (2 + 130 * (a - 2)) (λ f h. omega arith)
-          ∙ t .idle a (omega arith) c d
+    inside-file : k < 2 + n
+    inside-file = let z = t .walk .end in omega arith
 
-module _ (labels w₀ w : List ℕ) (p n m living ready k : ℕ)
-    (t : Ending labels w₀ p n m living w ready k) (l : m ≤ k) where
-  pub ending-count : ready ≡ readyOn (membersIn labels n p) w₀
-  unfolding readyOn
-  ending-count =
-      let z = t .walk .end in
-      let a = t .count in
-      let b = ap (λ (qs : List ℕ). readyOn qs w) (members-end (sameLabel labels p) k (2 + n) (omega arith)) in
-      omega arith
+    -- of a member, and of another
+    abbrev After : List ℕ → ℕ → Type 0
+    After v x = Ending labels w₀ p n m living v (ready + x) (k + 1)
 
-  pub ending-words : w ≡ endedOn (membersIn labels n p) w₀
-  unfolding endedOn
-  ending-words = walk-end labels p n m (λ qs. endedOn qs w) _ k (t .walk) l
+    ended-next : sameLabel labels p k ≡ true
+        → After (withInstantEnded w (k - 2)) (length (readyWords w (wordsAt w (67 + 130 * (k - 2)))))
+    unfolding endedOn readyOn
+    ended-next here =
+        record {
+          walk =
+              walk-on _ (λ qs. endedOn qs (withInstantEnded w (k - 2))) _ labels p n m k (t .walk)
+              (walk-member labels p n m (λ qs. endedOn qs w) _ k (t .walk) l here);
+          count =
+              let a = t .count in
+              let b = ap (λ (qs : List ℕ). readyOn qs w) (members-first (sameLabel labels p) k (2 + n) inside-file here) in
+              omega arith;
+          few = let a = room-idle here in let b = t .few in omega arith;
+          words = record {
+            all = moved-long (isReadyWord w) w (k - 2) ending-block (t .words .all) next-small (room-idle here);
+            lists = moved-fits (isReadyWord w) w (k - 2) ending-block (t .words .all) next-small (room-idle here) (t .words .lists);
+          };
+          idle = λ a b c d. later a (omega arith) c d;
+          families =
+              moved-living (isReadyWord w) w (k - 2) ending-block (t .words .all) next-small (room-idle here) living
+              (t .families);
+        }
+      where
+        later : (a : ℕ) → k < a → a < 2 + n → sameLabel labels p a ≡ true
+            → IdleOn (withInstantEnded w (k - 2)) a
+        later a b c d =
+            let low = t .walk .low in
+            moved-other (isReadyWord w) w (k - 2) ending-block (t .words .all) next-small (room-idle here) (2 + 130 * (a - 2)) (λ f h. omega arith)
+            ∙ t .idle a (omega arith) c d
+
+    kept-next : sameLabel labels p k ≡ false → After w 0
+    kept-next other =
+        record {
+          walk =
+              walk-on _ (λ qs. endedOn qs w) _ labels p n m k (t .walk)
+              (walk-other labels p n m (λ qs. endedOn qs w) _ k (t .walk) l other);
+          count =
+              let a = t .count in
+              let b = ap (λ (qs : List ℕ). readyOn qs w) (members-later (sameLabel labels p) k (2 + n) inside-file other) in
+              omega arith;
+          few = let a = t .few in omega arith;
+          words = t .words;
+          idle = λ a b c d. t .idle a (omega arith) c d;
+          families = t .families;
+        }
+
+    pub ending-next : (q : Place) (v : List ℕ) (x : ℕ) → q ≡ record { number = k }
+        → x ≡ readyIf labels p w (q .number) → v ≡ endedIf labels p w (q .number)
+        → Ending labels w₀ p n m living v (ready + x) (k + 1)
+    unfolding readyIf endedIf
+    ending-next q v x i c h = by (sameLabel labels p k) refl
+      where
+        words-at : v ≡ endedIf labels p w k
+        words-at = h ∙ ap (λ (y : Place). endedIf labels p w (y .number)) i
+
+        by : (b : Bool) → sameLabel labels p k ≡ b → After v x
+        by true s =
+            subst (λ (y : List ℕ). After y x) (sym (words-at ∙ if-yes _ _ s))
+            (subst (After (withInstantEnded w (k - 2))) (sym (count-at q x i c ∙ if-yes _ _ s)) (ended-next s))
+        by false s =
+            subst (λ (y : List ℕ). After y x) (sym (words-at ∙ if-no _ _ s))
+            (subst (After w) (sym (count-at q x i c ∙ if-no _ _ s)) (kept-next s))
+
+  module _ (l : m ≤ k) where
+    pub ending-count : ready ≡ readyOn (membersIn labels n p) w₀
+    unfolding readyOn
+    ending-count =
+        let z = t .walk .end in
+        let a = t .count in
+        let b = ap (λ (qs : List ℕ). readyOn qs w) (members-end (sameLabel labels p) k (2 + n) (omega arith)) in
+        omega arith
+
+    pub ending-words : w ≡ endedOn (membersIn labels n p) w₀
+    unfolding endedOn
+    ending-words = walk-end labels p n m (λ qs. endedOn qs w) _ k (t .walk) l
 
 -- ---- what `room_on_each` has found, of each member
 pub room-each : (test : ℕ → Bool) (e : ℕ) (w : List ℕ) (k n : ℕ)

@@ -2,9 +2,8 @@
 use borrow.Author.Needs.{needs}
 use Prim.Native.Nat.{_-_}
 use Rattle.groups.specs.inner.Members.{membersIn, anyActiveOn}
-use Rattle.groups.proofs.MemberLaws.{Walk, walk-place, walk-scheduler, walk-small, end-small}
-use Rattle.groups.proofs.MemberLaws.{labels-long, own-scheduler, walk-skip, active-start}
-use Rattle.groups.proofs.MemberLaws.{active-found, active-next, active-none}
+use Rattle.groups.proofs.MemberLaws.{Walk, walk-place, walk-pair, walk-small, end-small}
+use Rattle.groups.proofs.MemberLaws.{active-start, active-found, active-next, active-none}
 use Rattle.groups.proofs.any_active.Statement.{statement}
 use Rattle.groups.proofs.any_active.Tie as tie
 
@@ -28,8 +27,11 @@ cast-known c = search needs
 known-requires : tie.Need-known-requires Inv-loop μ-loop
 known-requires c κs = search walk-place
 
-in-step-requires : tie.Need-in-step-requires Inv-loop μ-loop
-in-step-requires c κs = (search labels-long, search own-scheduler, search walk-scheduler)
+is-active-member-requires : tie.Need-is-active-member-requires Inv-loop μ-loop
+is-active-member-requires c κs = (search walk-pair, search needs)
+
+returns : tie.Need-returns Inv-loop μ-loop
+returns c = search active-found
 
 add-k : tie.Need-add-k Inv-loop μ-loop
 add-k c = search walk-small
@@ -38,22 +40,7 @@ loop-less : tie.Need-loop-less Inv-loop μ-loop
 loop-less c = search needs
 
 loop-again : tie.Need-loop-again Inv-loop μ-loop
-loop-again c = search walk-skip
-
-first-active-requires : tie.Need-first-active-requires Inv-loop μ-loop
-first-active-requires c κs = (search needs, search walk-scheduler)
-
-returns : tie.Need-returns Inv-loop μ-loop
-returns c = search active-found
-
-add-k-2 : tie.Need-add-k-2 Inv-loop μ-loop
-add-k-2 c = search walk-small
-
-loop-less-2 : tie.Need-loop-less-2 Inv-loop μ-loop
-loop-less-2 c = search needs
-
-loop-again-2 : tie.Need-loop-again-2 Inv-loop μ-loop
-loop-again-2 c = search active-next
+loop-again c = search active-next
 
 returns-2 : tie.Need-returns-2 Inv-loop μ-loop
 returns-2 c = search active-none
@@ -68,13 +55,9 @@ any-active-spec =
     loop-holds
     cast-known
     known-requires
-    in-step-requires
+    is-active-member-requires
+    returns
     add-k
     loop-less
     loop-again
-    first-active-requires
-    returns
-    add-k-2
-    loop-less-2
-    loop-again-2
     returns-2)

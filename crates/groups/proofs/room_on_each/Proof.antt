@@ -2,10 +2,8 @@
 use borrow.Author.Needs.{needs}
 use Prim.Native.Nat.{_-_}
 use Rattle.groups.specs.inner.Members.{membersIn, roomOnEach}
-use Rattle.groups.proofs.MemberLaws.{Walk, walk-place, walk-scheduler, walk-small, end-small}
-use Rattle.groups.proofs.MemberLaws.{labels-long, own-scheduler, walk-skip, list-words}
-use Rattle.groups.proofs.MemberLaws.{active-fits, room-start, room-missing, room-next}
-use Rattle.groups.proofs.MemberLaws.{room-all}
+use Rattle.groups.proofs.MemberLaws.{Walk, walk-place, walk-pair, walk-small, end-small}
+use Rattle.groups.proofs.MemberLaws.{room-start, room-missing, room-next, room-all}
 use Rattle.groups.proofs.room_on_each.Statement.{statement}
 use Rattle.groups.proofs.room_on_each.Tie as tie
 
@@ -29,8 +27,11 @@ cast-known c = search needs
 known-requires : tie.Need-known-requires Inv-loop μ-loop
 known-requires c κs = search walk-place
 
-in-step-requires : tie.Need-in-step-requires Inv-loop μ-loop
-in-step-requires c κs = (search labels-long, search own-scheduler, search walk-scheduler)
+lacks-room-requires : tie.Need-lacks-room-requires Inv-loop μ-loop
+lacks-room-requires c κs = (search walk-pair, search needs)
+
+returns : tie.Need-returns Inv-loop μ-loop
+returns c = search room-missing
 
 add-k : tie.Need-add-k Inv-loop μ-loop
 add-k c = search walk-small
@@ -39,23 +40,7 @@ loop-less : tie.Need-loop-less Inv-loop μ-loop
 loop-less c = search needs
 
 loop-again : tie.Need-loop-again Inv-loop μ-loop
-loop-again c = search walk-skip
-
-has-room-to-wake-requires : tie.Need-has-room-to-wake-requires Inv-loop μ-loop
-has-room-to-wake-requires c κs =
-    (search (list-words, walk-scheduler), search walk-scheduler, search (active-fits, walk-scheduler))
-
-returns : tie.Need-returns Inv-loop μ-loop
-returns c = search room-missing
-
-add-k-2 : tie.Need-add-k-2 Inv-loop μ-loop
-add-k-2 c = search walk-small
-
-loop-less-2 : tie.Need-loop-less-2 Inv-loop μ-loop
-loop-less-2 c = search needs
-
-loop-again-2 : tie.Need-loop-again-2 Inv-loop μ-loop
-loop-again-2 c = search room-next
+loop-again c = search room-next
 
 returns-2 : tie.Need-returns-2 Inv-loop μ-loop
 returns-2 c = search room-all
@@ -70,13 +55,9 @@ room-on-each-spec =
     loop-holds
     cast-known
     known-requires
-    in-step-requires
+    lacks-room-requires
+    returns
     add-k
     loop-less
     loop-again
-    has-room-to-wake-requires
-    returns
-    add-k-2
-    loop-less-2
-    loop-again-2
     returns-2)

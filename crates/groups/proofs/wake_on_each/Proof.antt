@@ -1,10 +1,9 @@
 -- `wake_on_each` meets its contract. Assumes nothing.
 use borrow.Author.Needs.{needs}
 use Prim.Native.Nat.{_-_}
-use Rattle.groups.proofs.MemberLaws.{walk-place, walk-scheduler, walk-small, end-small}
-use Rattle.groups.proofs.MemberLaws.{labels-long, own-scheduler, Waking, waking-start}
-use Rattle.groups.proofs.MemberLaws.{waking-skip, waking-list, waking-scheduler, waking-room}
-use Rattle.groups.proofs.MemberLaws.{waking-next, waking-end}
+use Rattle.groups.proofs.MemberLaws.{walk-place, walk-pair, walk-small, end-small, Waking}
+use Rattle.groups.proofs.MemberLaws.{waking-start, waking-words, waking-room, waking-next}
+use Rattle.groups.proofs.MemberLaws.{waking-end}
 use Rattle.groups.proofs.wake_on_each.Statement.{statement}
 use Rattle.groups.proofs.wake_on_each.Tie as tie
 
@@ -27,8 +26,8 @@ cast-known c = search needs
 known-requires : tie.Need-known-requires Inv-loop μ-loop
 known-requires c κs = search walk-place
 
-in-step-requires : tie.Need-in-step-requires Inv-loop μ-loop
-in-step-requires c κs = (search labels-long, search own-scheduler, search walk-scheduler)
+wake-if-member-requires : tie.Need-wake-if-member-requires Inv-loop μ-loop
+wake-if-member-requires c κs = (search walk-pair, search waking-words, search waking-room)
 
 add-k : tie.Need-add-k Inv-loop μ-loop
 add-k c = search walk-small
@@ -37,19 +36,7 @@ loop-less : tie.Need-loop-less Inv-loop μ-loop
 loop-less c = search needs
 
 loop-again : tie.Need-loop-again Inv-loop μ-loop
-loop-again c = search waking-skip
-
-wake-requires : tie.Need-wake-requires Inv-loop μ-loop
-wake-requires c κs = (search waking-list, search waking-scheduler, search waking-room)
-
-add-k-2 : tie.Need-add-k-2 Inv-loop μ-loop
-add-k-2 c = search walk-small
-
-loop-less-2 : tie.Need-loop-less-2 Inv-loop μ-loop
-loop-less-2 c = search needs
-
-loop-again-2 : tie.Need-loop-again-2 Inv-loop μ-loop
-loop-again-2 c = search waking-next
+loop-again c = search waking-next
 
 same-length : tie.Need-same-length Inv-loop μ-loop
 same-length c = search needs
@@ -67,13 +54,9 @@ wake-on-each-spec =
     loop-holds
     cast-known
     known-requires
-    in-step-requires
+    wake-if-member-requires
     add-k
     loop-less
     loop-again
-    wake-requires
-    add-k-2
-    loop-less-2
-    loop-again-2
     same-length
     returns)

@@ -3,10 +3,11 @@
 -- definitions.
 use mathlib.Core.Path.{_≡_}
 use mathlib.Core.List.{List, [], _∷_}
-use mathlib.Core.Bool.{Bool, true, not}
-use Prim.Native.Nat.{ℕ, zero, suc, _+_, _-_, _*_, _<_, _≤_}
+use mathlib.Core.Bool.{Bool, true, not, _&&_}
+use Prim.Native.Nat.{ℕ, _+_, _-_, _*_, _<_, _≤_}
 use lib.Dec.{leb, eqb}
 use lib.ListN.{length, getD}
+use Rattle.basics.specs.If.{if_then_else_}
 use Rattle.basics.specs.Members.{any, every}
 use Rattle.language.specs.Places.{home, isScheduler}
 use Rattle.language.specs.Limits.{mostSchedulers, mostThreads}
@@ -25,6 +26,10 @@ membersIn labels n q = schedulersWhere (sameLabel labels q) home n
 abbrev pub activeOn : List ℕ → ℕ → Bool
 activeOn w q = not (eqb (getD w (schedulersAt + 1 + schedulerLength * (q - home)) 0) 0)
 
+-- scheduler s is a member of q's group, and has one
+abbrev pub isActiveMember : List ℕ → ℕ → List ℕ → ℕ → Bool
+isActiveMember labels q w s = sameLabel labels q s && activeOn w s
+
 -- some of those schedulers has one
 abbrev pub anyActiveOn : List ℕ → List ℕ → Bool
 anyActiveOn qs w = any (activeOn w) qs
@@ -33,13 +38,31 @@ anyActiveOn qs w = any (activeOn w) qs
 abbrev pub roomOn : ℕ → List ℕ → ℕ → Bool
 roomOn e w q = leb (activeWith (isAwaitingWord e) w (q - home)) mostThreads
 
+-- s is a member, and they have none there
+abbrev pub lacksRoom : List ℕ → ℕ → ℕ → List ℕ → ℕ → Bool
+lacksRoom labels q e w s = sameLabel labels q s && not (roomOn e w s)
+
 abbrev pub roomOnEach : List ℕ → ℕ → List ℕ → Bool
 roomOnEach qs e w = every (roomOn e w) qs
+
+-- if s is a member, they are active there
+unfoldable pub wokenIf : List ℕ → ℕ → ℕ → List ℕ → ℕ → List ℕ
+wokenIf labels q e w s = if sameLabel labels q s then withWoken w (s - home) e else w
 
 -- they are active
 unfoldable pub wokenOn : List ℕ → ℕ → List ℕ → List ℕ
 wokenOn [] e w = w
 wokenOn (q ∷ qs) e w = wokenOn qs e (withWoken w (q - home) e)
+
+-- if s is a member, its instant has ended; how many entries were ready there
+unfoldable pub endedIf : List ℕ → ℕ → List ℕ → ℕ → List ℕ
+endedIf labels q w s = if sameLabel labels q s then withInstantEnded w (s - home) else w
+
+unfoldable pub readyIf : List ℕ → ℕ → List ℕ → ℕ → ℕ
+readyIf labels q w s =
+    if sameLabel labels q s
+    then length (readyWords w (wordsAt w (nextListAt + schedulerLength * (s - home))))
+    else 0
 
 -- the instant has ended on each of those schedulers; how many entries were ready
 unfoldable pub endedOn : List ℕ → List ℕ → List ℕ
@@ -60,6 +83,12 @@ pub record GroupOf (labels : List ℕ) (n q : ℕ) : Type 0 where
   pub scheduler : isScheduler q ≡ true
   pub few : n ≤ mostSchedulers
 
+-- the labels, and two of the eight
+pub record PairOf (labels : List ℕ) (q s : ℕ) : Type 0 where
+  pub labelled : length labels ≡ mostSchedulers
+  pub own : isScheduler q ≡ true
+  pub other : isScheduler s ≡ true
+
 -- P holds of each number from k to below m that passes the test
 abbrev pub Each : (ℕ → Bool) → (ℕ → Type 0) → ℕ → ℕ → Type 0
 Each test P k m = (j : ℕ) → k ≤ j → j < m → test j ≡ true → P j
@@ -75,3 +104,10 @@ HasRoomOn e w q = activeWith (isAwaitingWord e) w (q - home) ≤ mostThreads
 
 abbrev pub IdleOn : List ℕ → ℕ → Type 0
 IdleOn w q = getD w (schedulersAt + schedulerLength * (q - home)) 0 ≡ 0
+
+-- the same of scheduler s, if it is a member of q's group
+pub record RoomIf (labels : List ℕ) (q e : ℕ) (w : List ℕ) (s : ℕ) : Type 0 where
+  pub room : sameLabel labels q s ≡ true → HasRoomOn e w s
+
+pub record IdleIf (labels : List ℕ) (q : ℕ) (w : List ℕ) (s : ℕ) : Type 0 where
+  pub idle : sameLabel labels q s ≡ true → IdleOn w s
