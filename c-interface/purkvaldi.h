@@ -1,5 +1,5 @@
 /* Purkvaldi: the check, the writer and the stepper, for a loader in C. Link
- * target/staticlib/libc_interface.a, which `rt staticlib c_interface` writes.
+ * crates/c_interface/out/libc_interface.a, which `scripts/archive` proves and builds.
  *
  * Every function takes any bytes and any words and has a defined answer. The one thing asked is C's
  * own rule for each pointer, which comes with its length:

@@ -5,7 +5,7 @@ ghost use Rattle.acts.specs.Inner.Transitions.{action, refused_with};
 use language::Place;
 
 // The arguments of a start: how many, and their words, 0 for one that is not there.
-#[derive(Drop)]
+#[derive(Clone, Copy)]
 pub struct Arguments {
     pub count: u64,
     pub first: u64,
@@ -15,7 +15,7 @@ pub struct Arguments {
 // What becomes of the thread: refused with that number; it stays first in its list; it leaves it
 // for none, since it has ended or is unlinked; it joins the next list of that scheduler; it starts
 // that module with those arguments, and waits for it or not; it generates that event, or awaits it.
-#[derive(Drop)]
+#[derive(Clone, Copy)]
 pub enum Transition {
     Refused(u8),
     Stays,
@@ -30,7 +30,7 @@ pub enum Transition {
 // more; two, the top one first; one variable more, with its body above a drop of it; one variable
 // less; another place; that place, with the body above 'back to here'; it ends. A turn changes a
 // few of the thread's words, so it names the change, and its commit makes it where the words lie.
-#[derive(Drop)]
+#[derive(Clone, Copy)]
 pub enum Change {
     Same,
     Item(u64),
@@ -42,7 +42,7 @@ pub enum Change {
     End,
 }
 
-#[derive(Drop)]
+#[derive(Clone, Copy)]
 pub struct Action {
     pub transition: Transition,
     pub change: Change,

@@ -1,6 +1,8 @@
 // Reads prog.txt in the folder it runs in, an absent file as empty, and prints its lines laid out,
 // or, where they cannot be, the number of the refusal and the frame, as `check` does. Of a file
 // that cannot be read, nothing.
+#![tactic(auto)]
+
 use files::{print, read_file};
 use language::limit::MOST_BYTES;
 use language::verdict::Verdict;
@@ -18,9 +20,9 @@ fn lay_into(text: &[u8], out: &mut [u8]) -> Verdict {
 }
 
 // Both buffers have one byte more than the longest text, so that a longer one is seen to be longer.
-fn main() {
+fn main(rt: HostRuntime) {
     let mut text = [0u8; MOST_BYTES + 1];
-    let file = read_file(b"prog.txt", &mut text);
+    let file = read_file(&rt, b"prog.txt", &mut text);
     if !file.readable {
         return;
     }
@@ -28,11 +30,11 @@ fn main() {
     let mut out = [0u8; MOST_BYTES + 1];
     match lay_into(&text[..n], &mut out) {
         Verdict::Accepted => {
-            print(&out, n as u32);
+            print(&rt, &out, n as u32);
         }
         Verdict::Rejected(number, frame) => {
             let line = refusal_line(number, frame);
-            print(&line, 8);
+            print(&rt, &line, 8);
         }
     }
 }

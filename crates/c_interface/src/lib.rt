@@ -1,5 +1,7 @@
 // The interface for C and Rust: functions on numbers and on pointers with lengths. None has a
 // `requires`.
+#![tactic(auto)]
+
 ghost use Rattle.std.specs.Prelude.{◌≡◌};
 ghost use Rattle.language.specs.Limits.{most_listing_bytes};
 ghost use Rattle.checker.specs.Verdict.{verdict};

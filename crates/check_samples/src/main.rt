@@ -1,7 +1,10 @@
 // The check on many files: the bench samples of document 01 that concern it, and its vectors. For
 // each of data/000 to data/297 it prints the file's name and the check's line; the report is
 // compared with the stored one.
+#![tactic(auto)]
+
 use files::{print, read_file};
+use std::rt::Files;
 
 // The name of the sample: its number in three digits.
 fn name(i: usize) -> [u8; 3] {
@@ -11,22 +14,22 @@ fn name(i: usize) -> [u8; 3] {
     [48 + a, 48 + b, 48 + c]
 }
 
-fn report(i: usize) {
+fn report(rt: &(impl Files + Print + Eprint), i: usize) {
     let path = name(i);
     let mut text = [0u8; 17426];
-    let file = read_file(&path, &mut text);
+    let file = read_file(rt, &path, &mut text);
     if !file.readable {
         return;
     }
     let n = file.count;
     let line = listing::check_line(checker::check::check(&text[..n]));
-    print(&path, 3);
-    print(b" ", 1);
-    print(&line, 8);
+    print(rt, &path, 3);
+    print(rt, b" ", 1);
+    print(rt, &line, 8);
 }
 
-fn main() {
+fn main(rt: HostRuntime) {
     for i in 0..298 {
-        report(i);
+        report(&rt, i);
     }
 }

@@ -26,7 +26,7 @@ use states::thread::thread_count;
 // list; it leaves it and joins the next list of that scheduler. Or a thread of that body starts at
 // that scheduler with those arguments, and the starter waits for it or not. Or an event of that
 // scheduler's group is present, and who awaits it on a member is active.
-#[derive(Drop)]
+#[derive(Clone, Copy)]
 pub(crate) enum Passed {
     Keep,
     Leave,
@@ -37,7 +37,7 @@ pub(crate) enum Passed {
 
 // It is refused with that number; it is settled, and the lists follow; it awaits that event on that
 // scheduler, and its own words stay as they were.
-#[derive(Drop)]
+#[derive(Clone, Copy)]
 pub(crate) enum Decision {
     Refuse(u8),
     Settle(Passed),

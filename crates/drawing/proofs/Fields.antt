@@ -33,12 +33,18 @@ expression_names : Names Use.Expression
 expression_names = record { class = Class.Expression; names = λ v l. refl }
 
 argument_names : Names Use.Argument
-argument_names =
-    record { class = Class.Expression; names = λ v. elim v [ zero ↦ λ l. absurd (omega arith) | suc n ↦ λ l. refl ] }
+argument_names = record { class = Class.Expression; names = by }
+  where
+    by : (v : ℕ) → 0 < v → child_in Use.Argument v ≡ child Class.Expression v ∷ []
+    by zero l = absurd (omega arith)
+    by (suc n) l = refl
 
 further_names : Names Use.Further
-further_names =
-    record { class = Class.Expression; names = λ v. elim v [ zero ↦ λ l. absurd (omega arith) | suc n ↦ λ l. refl ] }
+further_names = record { class = Class.Expression; names = by }
+  where
+    by : (v : ℕ) → 0 < v → child_in Use.Further v ≡ child Class.Expression v ∷ []
+    by zero l = absurd (omega arith)
+    by (suc n) l = refl
 
 pub held : (u : Use) (v : ℕ) → Held u v
 unfolding statement_names expression_names argument_names further_names
@@ -104,6 +110,7 @@ all_classed f =
 pub all_in : {P : Child → Type 0} {cs : List Child} {c : Child} → All P cs → In c cs → P c
 all_in (All.more p a) In.first = p
 all_in (All.more p a) (In.later m) = all_in a m
+all_in {P = P} {c = c} Rattle.basics.specs.Members.none x3 = elim x3 [ ]
 
 -- ---- the class that a use names is one, and what is of it has no rank
 pub names_class : {u : Use} (n : Names u) → has_class n.class ≡ true

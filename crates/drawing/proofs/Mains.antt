@@ -78,7 +78,7 @@ last_of r i (f ∷ fs) = go (last_of r (suc i) fs) (eqb (rank_of f) r) refl
           inside = omega arith;
           is = l.is;
           after =
-              λ k. elim k [ zero ↦ λ a b e. absurd (omega arith) | suc k ↦ λ a b e. l.after k (omega arith) (omega arith) e ];
+              λ k. elim k as (λ k. suc l.at < k → k < length (f ∷ fs) → rank_of (frame_at (f ∷ fs) k) ≡ r → ⊥) [ zero ↦ λ a b e. absurd (omega arith) | suc k ↦ λ a b e. l.after k (omega arith) (omega arith) e ];
         }
 
     go : NoneOf r fs ⊎ LastOf r (suc i) fs → (b : Bool) → eqb (rank_of f) r ≡ b
@@ -86,9 +86,9 @@ last_of r i (f ∷ fs) = go (last_of r (suc i) fs) (eqb (rank_of f) r) refl
     go (inr l) b e = inr (later l)
     go (inl h) true e =
         let z : i ≡ i + 0 = omega arith in
-        inr (record { front = []; at = 0; same = ap₂ (λ (x y : List ℕ). x ++ y) (if_yes (i ∷ []) [] e) (none_numbered r (suc i) fs h) ∙ ap (λ (k : ℕ). k ∷ []) z; inside = omega arith; is = eqb-true (rank_of f) r e; after = λ k. elim k [ zero ↦ λ a b e. absurd (omega arith) | suc k ↦ λ a b e. h k (omega arith) e ] })
+        inr (record { front = []; at = 0; same = ap₂ (λ (x y : List ℕ). x ++ y) (if_yes (i ∷ []) [] e) (none_numbered r (suc i) fs h) ∙ ap (λ (k : ℕ). k ∷ []) z; inside = omega arith; is = eqb-true (rank_of f) r e; after = λ k. elim k as (λ k. 0 < k → k < length (f ∷ fs) → rank_of (frame_at (f ∷ fs) k) ≡ r → ⊥) [ zero ↦ λ a b e. absurd (omega arith) | suc k ↦ λ a b e. h k (omega arith) e ] })
     go (inl h) false e =
-        inl (λ q. elim q [ zero ↦ λ l w. eqb-false (rank_of f) r e w | suc q ↦ λ l w. h q (omega arith) w ])
+        inl (λ q. elim q as (λ q. q < length (f ∷ fs) → rank_of (frame_at (f ∷ fs) q) ≡ r → ⊥) [ zero ↦ λ l w. eqb-false (rank_of f) r e w | suc q ↦ λ l w. h q (omega arith) w ])
 
 -- ---- modules
 rank_module : (k : Kind) → (rank k ≡ module_rank → ⊥) → is_module k ≡ false

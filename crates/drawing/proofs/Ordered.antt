@@ -33,6 +33,7 @@ row_right : {fs : List Frame} {lo stop : ℕ} {cs : List Child} {c : Child} → 
     → In c cs → class_of (frame_at fs c.at).kind ≡ c.class
 row_right (Row.more t e r) In.first = e
 row_right (Row.more t e r) (In.later m) = row_right r m
+row_right {fs = fs} {c = c} (Rattle.layout.specs.Order.none {stop = stop}) x5 = elim x5 [ ]
 
 tree_right : {fs : List Frame} {lo i : ℕ} {c : Child} → Tree fs lo i
     → In c (children (frame_at fs i)) → class_of (frame_at fs c.at).kind ≡ c.class

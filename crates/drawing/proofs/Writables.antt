@@ -104,17 +104,17 @@ node_height draw k d f h =
     omega arith
 
 -- ---- ranks of a list of trees
-ranked_only : (m r : ℕ) {ys : List Drawn} → All (λ (t : Drawn). (tree_rank t ≡ r) × Fits t) ys
+ranked_only : (r m : ℕ) {ys : List Drawn} → All (λ (t : Drawn). (tree_rank t ≡ r) × Fits t) ys
     → m ≤ r → r < ranks → Ranked m ys
-ranked_only m r All.none l k = Ranked.done
-ranked_only m r (All.more {x = t} h hs) l k =
+ranked_only r m All.none l k = Ranked.done
+ranked_only r m (All.more {x = t} h hs) l k =
     let e = h.0 in
-    Ranked.more {m = m} {t = t} (omega arith) (omega arith) h.1 (ranked_only (tree_rank t) r hs (omega arith) k)
+    Ranked.more {m = m} {t = t} (omega arith) (omega arith) h.1 (ranked_only r (tree_rank t) hs (omega arith) k)
 
 ranked_on : {m : ℕ} {xs : List Drawn} (r : ℕ) {ys : List Drawn} → Ranked m xs
     → All (λ (t : Drawn). tree_rank t ≤ r) xs → All (λ (t : Drawn). (tree_rank t ≡ r) × Fits t) ys
     → m ≤ r → r < ranks → Ranked m (xs ++ ys)
-ranked_on r (Ranked.done {m = m}) h ys l k = ranked_only m r ys l k
+ranked_on r (Ranked.done {m = m}) h ys l k = ranked_only r m ys l k
 ranked_on r (Ranked.more {t = t} a b f q) (All.more x xs) ys l k =
     Ranked.more a b f (ranked_on r q xs ys x k)
 

@@ -4,7 +4,7 @@ ghost use Rattle.basics.specs.Inner.Searches.{earlier};
 ghost use Rattle.fields.specs.Inner.Scans.{found, option_of};
 
 // The lowest frame that has a fault, if one has it.
-#[derive(Drop)]
+#[derive(Clone, Copy)]
 pub enum FaultSearch {
     At(u16),
     Nowhere,

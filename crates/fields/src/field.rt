@@ -28,7 +28,7 @@ use program::shared::shared_type;
 
 // Of the frames passed: how many are shared cells, how many are modules, and the types of these
 // cells.
-#[derive(Drop)]
+#[derive(Clone, Copy)]
 struct Tally {
     cells: usize,
     modules: usize,

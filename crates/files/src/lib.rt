@@ -1,70 +1,86 @@
 // Files for the programs: a whole file into a buffer, and the first bytes of a buffer printed. What
 // the system refuses is said on standard error, in a line that names the file and the reason; that
 // such a line is not written can be told to nobody.
-ghost use Rattle.std.specs.Prelude.{◌≡◌, false, ltb, length};
+#![tactic(auto)]
+
+ghost use Rattle.std.specs.Prelude.{◌≡◌, false, ltb, length, IfOk};
 ghost use Rattle.io.specs.Counts.{IsPrefixLen};
 ghost use Rattle.files.specs.Printed.{too_few};
 
-use libc::STDOUT_FILENO;
+use std::io::{ErrorKind, Read};
+use std::rt::Files;
+use std::{fs, io, str};
 
 // Whether a file was read, and how many bytes of the buffer it is: 0 where it was not.
-#[derive(Drop)]
+#[derive(Clone, Copy)]
 pub struct FileRead {
     pub readable: bool,
     pub count: usize,
 }
 
-fn unread(path: &[u8]) -> FileRead
+fn unread(rt: &impl Eprint, path: &[u8], reason: io::Error) -> FileRead
     ensures { (result.readable ≡ false) × (result.count ≡ 0) }
 {
-    os::fail(path);
+    let _ = eprintln!(rt; "{}: {reason}", path.escape_ascii());
     FileRead {
         readable: false,
         count: 0,
     }
 }
 
-// Whether the input ends after what was read of it. `io::read_full` stops both there and at a read
-// that fails; the next read tells the two apart, since one that failed has not moved on.
-fn at_end(fd: i32) -> bool {
-    let mut next = [0u8; 1];
-    libc::read(fd, &mut next) == 0
+// Reads until the buffer is full or the input ends, and returns how many bytes it put at the start
+// of the buffer.
+fn read_full(file: &mut impl Read, buffer: &mut [u8]) -> io::Result<usize>
+    ensures { IfOk result (λ n. IsPrefixLen n buffer.new) }
+{
+    let mut done = 0;
+    while done < buffer.len() {
+        let n = file.read(&mut buffer[done..])?;
+        if n == 0 {
+            break;
+        }
+        done += n;
+    }
+    Ok(done)
 }
 
 // As much of a file as the buffer takes; an absent file reads as empty. Any other that cannot be
 // opened or read to its end, as a directory or one without permission, is not readable: that is
-// said, and none of its bytes count.
-pub fn read_file(path: &[u8], buffer: &mut [u8]) -> FileRead
+// said, and none of its bytes count. Nor is one whose path is not UTF-8, which std does not open.
+pub fn read_file(rt: &(impl Files + Eprint), path: &[u8], buffer: &mut [u8]) -> FileRead
     ensures counts { IsPrefixLen result.count buffer.new }
     ensures refused { result.readable ≡ false → result.count ≡ 0 }
 {
-    let fd = os::open_read(path);
-    if fd < 0 {
-        if os::errno() != libc::ENOENT {
-            return unread(path);
+    let name = match str::from_utf8(path) {
+        Ok(name) => name,
+        Err(_) => {
+            let reason = io::Error::new(ErrorKind::InvalidInput, "the path is not UTF-8");
+            return unread(rt, path, reason);
         }
-        return FileRead {
+    };
+    let mut file = match fs::open(rt, name) {
+        Ok(file) => file,
+        Err(reason) => {
+            if reason.kind() != ErrorKind::NotFound {
+                return unread(rt, path, reason);
+            }
+            return FileRead {
+                readable: true,
+                count: 0,
+            };
+        }
+    };
+    match read_full(&mut file, buffer) {
+        Ok(count) => FileRead {
             readable: true,
-            count: 0,
-        };
-    }
-    let count = io::read_full(fd, buffer);
-    if count < buffer.len() {
-        if !at_end(fd) {
-            let none = unread(path);
-            libc::close(fd);
-            return none;
-        }
-    }
-    libc::close(fd);
-    FileRead {
-        readable: true,
-        count,
+            count,
+        },
+        Err(reason) => unread(rt, path, reason),
     }
 }
 
 // What became of bytes that were to be printed.
-#[derive(Drop)]
+#[derive(Clone, Copy)]
 pub enum Printed {
     Whole,
     // The system took only some of them, or none.
@@ -75,15 +91,15 @@ pub enum Printed {
 
 // Prints the first n bytes. Where the system does not take them all, that is said. What it does
 // with them is outside the logic.
-pub fn print(bytes: &[u8], n: u32) -> Printed
+pub fn print(rt: &(impl Print + Eprint), bytes: &[u8], n: u32) -> Printed
     ensures { too_few result ≡ ltb (length bytes.now) n }
 {
     let count = n as usize;
     if bytes.len() < count {
         return Printed::TooFew;
     }
-    if !io::write_all(STDOUT_FILENO, &bytes[..count]) {
-        os::fail(b"standard output");
+    if let Err(reason) = rt.write_all(&bytes[..count]) {
+        let _ = eprintln!(rt; "standard output: {reason}");
         return Printed::Failed;
     }
     Printed::Whole

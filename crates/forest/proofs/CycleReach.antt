@@ -204,6 +204,7 @@ module _ (fs : List Frame) (i : ℕ) (few : length fs ≤ 1024) where
   all_marked (c ∷ cs) w r h x (In.later m) o l =
       let a = entered_step w r c.at (h c In.first) in
       all_marked cs (entered i (length fs) w c.at) a.reached (λ d n. h d (In.later n)) x m o l
+  all_marked [] w r h x x6 o l = elim x6 [ ]
 
 -- ---- the loop: the children of i and of the first k frames of the queue are marked, and none of
 -- these is i

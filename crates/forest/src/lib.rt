@@ -1,4 +1,6 @@
 // The faults of frames in any order: refusals 4, 5, 21, the writer's 6, and 7.
+#![tactic(auto)]
+
 ghost use Rattle.std.specs.Prelude.{◌≡◌};
 ghost use Rattle.text.specs.Frames.{frames_of};
 ghost use Rattle.layout.specs.Inner.Scans.{LineWords};

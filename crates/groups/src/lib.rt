@@ -1,5 +1,7 @@
 // What is done on each member of a group, the schedulers of a file that are in step with one of
 // them, by number, in the lent words.
+#![tactic(auto)]
+
 ghost use Rattle.std.specs.Prelude.{◌≡◌, ◌+◌, length};
 ghost use Rattle.language.specs.Places.{home};
 ghost use Rattle.language.specs.Inner.Labels.{same_label};

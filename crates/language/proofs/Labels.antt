@@ -58,6 +58,7 @@ link_label (m ∷ ls) l In.first =
     ∙ if_all (λ (n : ℕ). label ls l.lower ≡ n) (eqb (label ls l.lower) (label ls l.upper)) _ _
     (λ _. refl) (λ _. refl)
 link_label (m ∷ ls) l (In.later i) = kept m ls l.upper l.lower (link_label ls l i)
+link_label [] l x' = elim x' [ ]
 
 pub step_label : (ls : List Link) {p q : ℕ} → InStep ls p q → label ls p ≡ label ls q
 step_label ls InStep.itself = refl

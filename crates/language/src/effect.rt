@@ -11,7 +11,7 @@ use crate::group::{LABELS, group_set};
 
 // Two sets of schedulers, 2 to 9, a bit for each: scheduler p is a member where bit p - 2 is set. So
 // each number is a set of schedulers.
-#[derive(Drop)]
+#[derive(Clone, Copy)]
 pub struct Effect {
     cells: u8,
     events: u8,

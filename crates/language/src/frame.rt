@@ -2,7 +2,7 @@
 use crate::kind::Kind;
 
 // K, S, A, B and C of a line.
-#[derive(Drop)]
+#[derive(Clone, Copy)]
 pub struct Frame {
     pub kind: Kind,
     pub s: u8,

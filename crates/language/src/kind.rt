@@ -5,7 +5,7 @@ ghost use Rattle.language.specs.Kinds.{declaration_rank, declares};
 
 // Declarations that stand before the modules: a shared cell, K 01; an event, K 03; two schedulers
 // in step, K 04.
-#[derive(Drop)]
+#[derive(Clone, Copy)]
 pub enum DeclarationKind {
     Shared,
     Event,
@@ -13,7 +13,7 @@ pub enum DeclarationKind {
 }
 
 // Statements, K 10 to 1B.
-#[derive(Drop)]
+#[derive(Clone, Copy)]
 pub enum StatementKind {
     Nothing,
     Then,
@@ -30,7 +30,7 @@ pub enum StatementKind {
 }
 
 // Expressions, K 20 to 28.
-#[derive(Drop)]
+#[derive(Clone, Copy)]
 pub enum ExpressionKind {
     Number,
     Truth,
@@ -43,7 +43,7 @@ pub enum ExpressionKind {
     Choose,
 }
 
-#[derive(Drop)]
+#[derive(Clone, Copy)]
 pub enum Kind {
     Header,
     Declared(DeclarationKind),
@@ -54,7 +54,7 @@ pub enum Kind {
 }
 
 // What a frame is, as a child.
-#[derive(Drop)]
+#[derive(Clone, Copy)]
 pub enum Class {
     Statement,
     Expression,
@@ -62,7 +62,7 @@ pub enum Class {
 }
 
 // What a field holds.
-#[derive(Drop)]
+#[derive(Clone, Copy)]
 pub enum Use {
     // Nothing: it is 0.
     Unused,
@@ -91,7 +91,7 @@ pub enum Use {
     SecondType,
 }
 
-#[derive(Drop)]
+#[derive(Clone, Copy)]
 pub struct Uses {
     pub s: Use,
     pub a: Use,

@@ -1,5 +1,7 @@
 // The words of the language: places here, and type words, effects, schedulers in step, kinds of
 // frames, frames and verdicts in modules.
+#![tactic(auto)]
+
 ghost use Rattle.std.specs.Prelude.{◌≡◌, true, ◌-◌, eqb};
 ghost use Rattle.language.specs.Places.{private, home, is_place, is_scheduler, has_place};
 ghost use Rattle.language.specs.Places.{has_scheduler};
@@ -16,13 +18,13 @@ pub mod verdict;
 
 // A place: where a thread stands, and who owns a cell. Private (1), or one of the schedulers, 2 to
 // 9: only the constructors make one.
-#[derive(Drop)]
+#[derive(Clone, Copy)]
 pub struct Place {
     number: u8,
 }
 
 // What a constructor answers: the place, or that the number names none.
-#[derive(Drop)]
+#[derive(Clone, Copy)]
 pub enum PlaceRead {
     At(Place),
     NoPlace,

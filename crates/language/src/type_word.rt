@@ -23,7 +23,7 @@ const UNIT_3: u16 = 0x1000;
 
 // A cell's type around another: its word, or that there is none, since there are three cells
 // already or the owner is no place.
-#[derive(Drop)]
+#[derive(Clone, Copy)]
 pub enum CellRead {
     Word(u16),
     TooDeep,

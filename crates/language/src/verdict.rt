@@ -1,6 +1,6 @@
 // What the check answers on a text.
 
-#[derive(Drop)]
+#[derive(Clone, Copy)]
 pub enum Verdict {
     Accepted,
     // The number of the refusal, and the frame that it names.

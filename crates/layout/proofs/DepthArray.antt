@@ -93,6 +93,7 @@ all_there (c ∷ cs) u d x h In.first =
     omega arith
 all_there (c ∷ cs) u d x h (In.later m) =
     all_there cs (raised d u c.at) d x (fit_next u d c cs h) m
+all_there [] u d x h x3 = elim x3 [ ]
 
 all_after : (cs : List Child) (u : List ℕ) (d j : ℕ) → Fit u cs
     → After u d j (Among cs j) (get_or (over_children (raised d) u cs) j 0)

@@ -50,6 +50,7 @@ row_in : {fs : List Frame} {lo stop : ℕ} {cs : List Child} {c : Child} → Row
     → c.at < stop
 row_in (Row.more t e r) In.first = row_le r
 row_in (Row.more t e r) (In.later m) = row_in r m
+row_in {fs = fs} {c = c} (Rattle.layout.specs.Order.none {stop = stop}) x5 = elim x5 [ ]
 
 pub tree_in : {fs : List Frame} {lo i : ℕ} {c : Child} → Tree fs lo i
     → In c (children (frame_at fs i)) → c.at < i

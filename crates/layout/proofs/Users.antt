@@ -60,10 +60,12 @@ module _ {fs : List Frame} where
       → (i start : ℕ) → c.at < i → i < stop → Tree fs start i → c.at < start
   after_child (Row.more u e r) In.first i start a b t = within_row r i start a b t
   after_child (Row.more u e r) (In.later m) i start a b t = after_child r m i start a b t
+  after_child {c = c} (Rattle.layout.specs.Order.none {stop = stop}) x17 i start a b t = elim x17 [ ]
 
   pub row_from : {lo stop : ℕ} {cs : List Child} {c : Child} → Row fs lo stop cs → In c cs → lo ≤ c.at
   row_from (Row.more u e r) In.first = tree_le u
   row_from (Row.more u e r) (In.later m) = let a = tree_le u in let b = row_from r m in omega arith
+  row_from {c = c} (Rattle.layout.specs.Order.none {stop = stop}) x5 = elim x5 [ ]
 
   pub tree_from : {lo i : ℕ} {c : Child} → Tree fs lo i → In c (children (frame_at fs i)) → lo ≤ c.at
   tree_from (Tree.root r) m = row_from r m

@@ -19,7 +19,7 @@ use language::limit::MOST_LINES;
 use program::frames::{Children, children_of, frame_at, same_class};
 
 // The first frame of a subtree whose children stand in order, each of its class.
-#[derive(Drop)]
+#[derive(Clone, Copy)]
 enum Subtree {
     From(u16),
     OutOfOrder,

@@ -1,4 +1,6 @@
 // The layout check, refusals 4 to 7: passes over a text's lines, which the reader keeps as numbers.
+#![tactic(auto)]
+
 ghost use Rattle.std.specs.Prelude.{◌≡◌, replicate};
 ghost use Rattle.language.specs.Limits.{most_lines};
 ghost use Rattle.text.specs.Frames.{frames_of};
@@ -19,7 +21,7 @@ pub mod in_order;
 pub mod uses;
 
 // What refusals 1 to 7 say of a text. One that passes is laid out; 8 to 13 may still refuse it.
-#[derive(Drop)]
+#[derive(Clone, Copy)]
 pub enum LayoutVerdict {
     LaidOut,
     // The number of the refusal, and the frame that it names.
@@ -27,7 +29,7 @@ pub enum LayoutVerdict {
 }
 
 // The same, where the lines of the text are kept.
-#[derive(Drop)]
+#[derive(Clone, Copy)]
 pub enum Laid {
     // It is laid out, and has so many lines.
     Lines(usize),

@@ -2,36 +2,38 @@
 // up, each number in four digits: how many lines from the start on are frames, up to the first that
 // is none; then, where the first line is one, A and B of that frame, in a header the allowance and
 // the schedulers. Of a file that cannot be read, nothing.
+#![tactic(auto)]
+
 use files::{print, read_file};
 use language::frame::Frame;
 use language::limit::MOST_BYTES;
 use listing::digits::four_digits;
 use text::line::FrameRead;
 
-fn print_number(n: u16) {
+fn print_number(rt: &(impl Print + Eprint), n: u16) {
     let digits = four_digits(n);
-    print(&digits, 4);
+    print(rt, &digits, 4);
 }
 
-fn print_first(first: Frame) {
-    print(b" ", 1);
-    print_number(first.a);
-    print(b" ", 1);
-    print_number(first.b);
+fn print_first(rt: &(impl Print + Eprint), first: Frame) {
+    print(rt, b" ", 1);
+    print_number(rt, first.a);
+    print(rt, b" ", 1);
+    print_number(rt, first.b);
 }
 
-fn main() {
+fn main(rt: HostRuntime) {
     let mut text = [0u8; MOST_BYTES];
-    let file = read_file(b"prog.txt", &mut text);
+    let file = read_file(&rt, b"prog.txt", &mut text);
     if !file.readable {
         return;
     }
     let n = file.count;
     let frames = lines::leading_frames(&text[..n]);
-    print_number((frames % 65536) as u16);
+    print_number(&rt, (frames % 65536) as u16);
     match lines::first_frame(&text[..n]) {
-        FrameRead::Read(first) => print_first(first),
+        FrameRead::Read(first) => print_first(&rt, first),
         FrameRead::NoFrame => {}
     }
-    print(b"\n", 1);
+    print(&rt, b"\n", 1);
 }

@@ -1,6 +1,8 @@
 // A reader of a text's lines: it holds the caller's text and the number of the next line. What has
 // a reader in it is proved by a walk by hand, so each such function is thin, and the work is in
 // covered functions on the text and the number.
+#![tactic(auto)]
+
 ghost use Rattle.std.specs.Prelude.{◌≡◌};
 ghost use Rattle.text.specs.Inner.Lines.{frame_read};
 ghost use Rattle.lines.specs.Readers.{line_after, is_read, frames_from, opened, frame_here};

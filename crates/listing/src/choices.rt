@@ -18,7 +18,7 @@ const BLOCK: u16 = 16;
 const BLOCK_BYTES: usize = CHOICE_BYTES * BLOCK as usize;
 
 // How many choices the bytes are, or why they are none.
-#[derive(Drop)]
+#[derive(Clone, Copy)]
 pub enum ChoicesRead {
     TooLong,
     // The first malformed line, from 0.

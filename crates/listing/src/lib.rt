@@ -1,4 +1,6 @@
 // What the programs print, and choices.txt, which `run` reads.
+#![tactic(auto)]
+
 pub mod buffer;
 pub mod choices;
 pub mod digits;

@@ -110,7 +110,7 @@ pub fn append(state: &mut [u64], q: Place, entry: u64)
 
 // The entries of a next list that become active: the ready ones, where that is the set of threads
 // in whose families some thread lives; or those that await the event.
-#[derive(Drop)]
+#[derive(Clone, Copy)]
 enum Wanted {
     Ready(u64),
     Awaiting(u8),

@@ -132,17 +132,17 @@ owns_eval h (number i n) cs = λ _. none
 owns_eval h (truth i b) cs = λ _. none
 owns_eval h (variable i s) cs = owns_variable h s cs
 owns_eval h (shared i s) cs = owns_shared h s cs
-owns_eval h (new i s x) cs = owns_then (eval h x) _ (owns_eval h x) (owns_make h s) cs
-owns_eval h (content i x) cs = owns_then (eval h x) _ (owns_eval h x) (owns_content h) cs
+owns_eval h (new i s x) cs = owns_then (eval h x) (make_cell h s) (owns_eval h x) (owns_make h s) cs
+owns_eval h (content i x) cs = owns_then (eval h x) (read_cell h) (owns_eval h x) (owns_content h) cs
 owns_eval h (sum i x y) cs =
-    owns_then (eval h x) _ (owns_eval h x)
-    (λ v. owns_then (eval h y) _ (owns_eval h y) (owns_numbers plus v)) cs
+    owns_then (eval h x) (λ v. eval h y >>= of_numbers plus v) (owns_eval h x)
+    (λ v. owns_then (eval h y) (of_numbers plus v) (owns_eval h y) (owns_numbers plus v)) cs
 owns_eval h (less i x y) cs =
-    owns_then (eval h x) _ (owns_eval h x)
-    (λ v. owns_then (eval h y) _ (owns_eval h y) (owns_numbers less_than v)) cs
+    owns_then (eval h x) (λ v. eval h y >>= of_numbers less_than v) (owns_eval h x)
+    (λ v. owns_then (eval h y) (of_numbers less_than v) (owns_eval h y) (owns_numbers less_than v)) cs
 owns_eval h (choose i x y z) cs =
-    owns_then (eval h x) _ (owns_eval h x)
-    (λ v. owns_then (by_truth v (eval h y) (eval h z)) _ (owns_by v (eval h y) (eval h z) (owns_eval h y) (owns_eval h z)) owns_number) cs
+    owns_then (eval h x) (λ v. by_truth v (eval h y) (eval h z) >>= a_number) (owns_eval h x)
+    (λ v. owns_then (by_truth v (eval h y) (eval h z)) a_number (owns_by v (eval h y) (eval h z) (owns_eval h y) (owns_eval h z)) owns_number) cs
 
 pub owns_storing : (h : Here) (x y : Expr) (cs : List Stored) → Owns (storing h x y cs)
-owns_storing h x y = owns_then (eval h x) _ (owns_eval h x) (λ v. owns_then (eval h y) _ (owns_eval h y) (owns_store h v))
+owns_storing h x y = owns_then (eval h x) (λ v. eval h y >>= store_cell h v) (owns_eval h x) (λ v. owns_then (eval h y) (store_cell h v) (owns_eval h y) (owns_store h v))

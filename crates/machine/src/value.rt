@@ -1,7 +1,7 @@
 // Values, and the answers of an evaluation.
 
 // A value is a number, a truth or a cell, by its number.
-#[derive(Drop)]
+#[derive(Clone, Copy)]
 pub enum Value {
     Number(u32),
     Truth(bool),
@@ -11,7 +11,7 @@ pub enum Value {
 // What an evaluation answers: a value; or foreign (19), a cell that is neither the acting thread's
 // nor its scheduler's; spent (17), no cell is left; stuck (20), a wrong kind of value or something
 // missing.
-#[derive(Drop)]
+#[derive(Clone, Copy)]
 pub enum Outcome {
     Is(Value),
     Foreign,

@@ -2,6 +2,7 @@
 use Rattle.std.proofs.Common.{ℕ, Bool, [], ◌∷◌, inl, inr, arith}
 use denote.Enum.Declared.{tag_of}
 use types.Run.{OneOf}
+use borrow.Enum.Refused.{Among, opened}
 use Rattle.machine.specs.declared.value.Value.{Value}
 use Rattle.machine.specs.declared.value.Value.TheVariants.{Number, Truth, Cell}
 use Rattle.machine.specs.declared.value.Outcome.{Outcome}
@@ -13,41 +14,56 @@ use Rattle.operations.specs.contracts.operand.Operand as operand
 
 -- ---- no value: Foreign, Spent or Stuck
 abbrev pub IsRefusal : Outcome → Type 0
-IsRefusal o = OneOf (1 ∷ 2 ∷ 3 ∷ []) (tag_of outcome.the_type o)
+IsRefusal o = Among (1 ∷ 2 ∷ 3 ∷ []) (tag_of outcome.the_type o)
+
+no_refusal_of : (v : Value) → OneOf (1 ∷ 2 ∷ 3 ∷ []) (tag_of outcome.the_type (Is v)) → ⊥
+no_refusal_of v (inl e) = omega arith
+no_refusal_of v (inr (inl e)) = omega arith
+no_refusal_of v (inr (inr e)) = omega arith
 
 pub no_refusal : (v : Value) → IsRefusal (Is v) → ⊥
-no_refusal v (inl e) = omega arith
-no_refusal v (inr (inl e)) = omega arith
-no_refusal v (inr (inr e)) = omega arith
+no_refusal v h = no_refusal_of v (opened h)
 
 -- ---- a value of another kind
 abbrev pub IsNoNumber : Value → Type 0
-IsNoNumber v = OneOf (1 ∷ 2 ∷ []) (tag_of value.the_type v)
+IsNoNumber v = Among (1 ∷ 2 ∷ []) (tag_of value.the_type v)
+
+a_number_of : (n : ℕ) → OneOf (1 ∷ 2 ∷ []) (tag_of value.the_type (Number n)) → ⊥
+a_number_of n (inl e) = omega arith
+a_number_of n (inr e) = omega arith
 
 pub a_number : (n : ℕ) → IsNoNumber (Number n) → ⊥
-a_number n (inl e) = omega arith
-a_number n (inr e) = omega arith
+a_number n h = a_number_of n (opened h)
 
 abbrev pub IsNoTruth : Value → Type 0
-IsNoTruth v = OneOf (0 ∷ 2 ∷ []) (tag_of value.the_type v)
+IsNoTruth v = Among (0 ∷ 2 ∷ []) (tag_of value.the_type v)
+
+a_truth_of : (b : Bool) → OneOf (0 ∷ 2 ∷ []) (tag_of value.the_type (Truth b)) → ⊥
+a_truth_of b (inl e) = omega arith
+a_truth_of b (inr e) = omega arith
 
 pub a_truth_lem : (b : Bool) → IsNoTruth (Truth b) → ⊥
-a_truth_lem b (inl e) = omega arith
-a_truth_lem b (inr e) = omega arith
+a_truth_lem b h = a_truth_of b (opened h)
 
 abbrev pub IsNoCell : Value → Type 0
-IsNoCell v = OneOf (0 ∷ 1 ∷ []) (tag_of value.the_type v)
+IsNoCell v = Among (0 ∷ 1 ∷ []) (tag_of value.the_type v)
+
+a_cell_of : (c : ℕ) → OneOf (0 ∷ 1 ∷ []) (tag_of value.the_type (Cell c)) → ⊥
+a_cell_of c (inl e) = omega arith
+a_cell_of c (inr e) = omega arith
 
 pub a_cell : (c : ℕ) → IsNoCell (Cell c) → ⊥
-a_cell c (inl e) = omega arith
-a_cell c (inr e) = omega arith
+a_cell c h = a_cell_of c (opened h)
 
 -- ---- no number where one is wanted
 abbrev pub IsNoOperand : Operand → Type 0
-IsNoOperand p = OneOf (1 ∷ 2 ∷ 3 ∷ 4 ∷ []) (tag_of operand.the_type p)
+IsNoOperand p = Among (1 ∷ 2 ∷ 3 ∷ 4 ∷ []) (tag_of operand.the_type p)
+
+an_operand_of : (n : ℕ) → OneOf (1 ∷ 2 ∷ 3 ∷ 4 ∷ []) (tag_of operand.the_type (Operand.Number n)) → ⊥
+an_operand_of n (inl e) = omega arith
+an_operand_of n (inr (inl e)) = omega arith
+an_operand_of n (inr (inr (inl e))) = omega arith
+an_operand_of n (inr (inr (inr e))) = omega arith
 
 pub an_operand : (n : ℕ) → IsNoOperand (Operand.Number n) → ⊥
-an_operand n (inl e) = omega arith
-an_operand n (inr (inl e)) = omega arith
-an_operand n (inr (inr (inl e))) = omega arith
-an_operand n (inr (inr (inr e))) = omega arith
+an_operand n h = an_operand_of n (opened h)

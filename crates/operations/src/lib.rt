@@ -1,5 +1,7 @@
 // What one operation does on the lent words of a state, a word for each cell: a leaf, a cell made,
 // read or stored in, a sum, a comparison, a choice.
+#![tactic(auto)]
+
 use language::Place;
 
 mod cell;
@@ -8,7 +10,7 @@ pub mod operand;
 pub mod operation;
 
 // Who evaluates: the acting thread, the place on which it stands, and how many cells are shared.
-#[derive(Drop)]
+#[derive(Clone, Copy)]
 pub struct Who {
     pub thread: u8,
     pub place: Place,

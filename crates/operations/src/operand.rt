@@ -11,7 +11,7 @@ use program::node::Operator;
 
 // What a frame comes to where a number is wanted of it. `Other` is a value of another kind: 20, but
 // after all expressions of the frame that wants the number.
-#[derive(Drop)]
+#[derive(Clone, Copy)]
 pub enum Operand {
     Number(u32),
     Other,

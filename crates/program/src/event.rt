@@ -7,7 +7,7 @@ ghost use Rattle.program.specs.Inner.Events.{event_in};
 use crate::numbered::{FrameFound, Numbered, frame_numbered};
 
 // Whether the file has the event, and its owner.
-#[derive(Drop)]
+#[derive(Clone, Copy)]
 pub struct EventFound {
     pub there: bool,
     pub owner: u8,

@@ -12,7 +12,7 @@ use text::line::frame_of_word;
 
 // A frame's children, from the first to the last: of each, the class that it is to be of and its
 // frame's number.
-#[derive(Drop)]
+#[derive(Clone, Copy)]
 pub enum Children {
     Nothing,
     One(Class, u16),
@@ -21,7 +21,7 @@ pub enum Children {
 }
 
 // The numbers of the same children alone; where there are fewer than three, the rest are NO_CHILD.
-#[derive(Drop)]
+#[derive(Clone, Copy)]
 pub struct ChildNumbers {
     pub a: u16,
     pub b: u16,

@@ -1,4 +1,6 @@
 // Programs: the trees of statements and expressions that frames are, and frames taken apart.
+#![tactic(auto)]
+
 pub mod event;
 pub mod frames;
 pub mod group;

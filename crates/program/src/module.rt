@@ -11,7 +11,7 @@ use language::limit::MOST_PARAMETERS;
 use text::line::frame_of_word;
 
 // Whether the file has the module; how many parameters it has, and its body's frame.
-#[derive(Drop)]
+#[derive(Clone, Copy)]
 pub struct ModuleFound {
     pub there: bool,
     pub parameters: u64,

@@ -14,7 +14,7 @@ use language::kind::{ExpressionKind, Kind, StatementKind};
 
 // An expression without operands, K 20 to 23: the number, the truth, the index of a variable or of
 // a shared cell.
-#[derive(Drop)]
+#[derive(Clone, Copy)]
 pub enum Leaf {
     Number(u16),
     Truth(u8),
@@ -24,14 +24,14 @@ pub enum Leaf {
 
 // What becomes of a value, K 24 and 25: the content of a new cell of that owner, or the cell whose
 // content is read.
-#[derive(Drop)]
+#[derive(Clone, Copy)]
 pub enum CellUse {
     Make(Place),
     Read,
 }
 
 // What becomes of two numbers, K 26 and 27.
-#[derive(Drop)]
+#[derive(Clone, Copy)]
 pub enum Operator {
     Sum,
     Less,
@@ -39,7 +39,7 @@ pub enum Operator {
 
 // An expression by its operands: none, a value, two numbers, a truth and two numbers. Another frame
 // reads as the number 0.
-#[derive(Drop)]
+#[derive(Clone, Copy)]
 pub enum ExpressionNode {
     Plain(Leaf),
     OfValue(CellUse, u16),
@@ -48,7 +48,7 @@ pub enum ExpressionNode {
 }
 
 // A statement, or another frame, which reads as nothing.
-#[derive(Drop)]
+#[derive(Clone, Copy)]
 pub enum StatementNode {
     Nothing,
     Cooperate,

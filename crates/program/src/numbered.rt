@@ -8,13 +8,13 @@ use language::frame::Frame;
 use language::kind::{DeclarationKind, is_module};
 use text::line::frame_of_word;
 
-#[derive(Drop)]
+#[derive(Clone, Copy)]
 pub(crate) enum Numbered {
     Event,
     Module,
 }
 
-#[derive(Drop)]
+#[derive(Clone, Copy)]
 pub(crate) enum FrameFound {
     At(Frame),
     Nowhere,

@@ -16,7 +16,7 @@ use language::type_word::{CellRead, cell_type};
 use text::line::frame_of_word;
 
 // The types of the shared cells, in order: how many there are, and the first so many of the array.
-#[derive(Drop)]
+#[derive(Clone, Copy)]
 pub struct SharedTypes {
     pub count: usize,
     pub types: [u16; MOST_SHARED],

@@ -37,7 +37,7 @@ const SCHEDULERS: usize = MOST_SCHEDULERS as usize;
 const EVENTS: usize = MOST_EVENTS as usize;
 
 // What the words of a list or of a block are.
-#[derive(Drop)]
+#[derive(Clone, Copy)]
 enum Member {
     Thread,
     Entry,

@@ -121,6 +121,7 @@ module _ {fs : List Frame} (size : Sized fs) (fine : NoFault fs) where
         → c.class ≡ Class.Statement → ItemFits fs n (run (statement_at fs c.at))
     child_fits (Row.more t e r) In.first q = let k = row_le r in item_fits _ (omega arith) (e ∙ q)
     child_fits (Row.more t e r) (In.later m) q = child_fits r m q
+    child_fits {c = c} Rattle.layout.specs.Order.none x9 q = elim x9 [ ]
 
     of_kind : (k : Kind) → is_statement k ≡ true → (frame_at fs j).kind ≡ k
         → Parts fs n

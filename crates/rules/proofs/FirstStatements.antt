@@ -145,7 +145,7 @@ module _ {n j : ℕ} where
   under_while_b i (BeforeE.before l) (Sooner.sooner h) = Sooner.sooner (inl l)
 
 -- whatever is broken in one of the arguments
-least_es : {cells Γ : List ℕ} {lo stop n j : ℕ} {x : Expr} {xs : List Expr} → In x xs
+least_es : {cells Γ : List ℕ} {x : Expr} {lo stop n j : ℕ} {xs : List Expr} → In x xs
     → BrokenE cells Γ x n j → PlacedEs lo xs stop → Sooner Argued.fail n j (types_in cells Γ xs)
 unfolding types_in
 least_es In.first b (PlacedEs.more p q) = under_argue_a _ (least_e b p)
@@ -276,7 +276,8 @@ least_s (BrokenS.operand (Operand.argument Starts.start i) b) (PlacedS.start p) 
     under_start _ _ _ _ _ (least_es i b p)
 least_s (BrokenS.operand (Operand.argument Starts.start_wait i) b) (PlacedS.start_wait p) =
     under_start _ _ _ _ _ (least_es i b p)
-least_s (BrokenS.operand Operand.let_in b) (PlacedS.let_in p q e) = under_let _ _ (least_e b p)
+least_s {env = env} {below = below} {Γ = Γ} {at = at} (BrokenS.operand Operand.let_in b) (PlacedS.let_in {p = s} p q e) =
+    under_let (λ Γ. effect_in env below Γ at s) Γ (least_e b p)
 least_s (BrokenS.operand Operand.store_a b) (PlacedS.store p q e) = under_store_a _ _ (least_e b p)
 least_s (BrokenS.operand Operand.store_b b) (PlacedS.store p q e) =
     let a = range_e b q in under_store_b _ (before_e _ _ p (omega arith)) (least_e b q)

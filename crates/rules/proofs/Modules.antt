@@ -78,7 +78,8 @@ own_main allows i e h = if_all (Sooner Rejected wrong_effect i) (allows home e) 
 pub least_m : {env : Setting} {below : List Signature} {ms : List Part} {n j : ℕ}
     → BrokenM env below ms n j → PlacedM ms → Sooner Rejected n j (modules_in env below ms)
 unfolding modules_in
-least_m (BrokenM.body b) (PlacedM.more p q) = under_body _ _ _ _ _ (least_s b p)
+least_m {env = env} {below = below} (BrokenM.body b) (PlacedM.more {m = m} {ms = ms} p q) =
+    under_body (within env.links) (λ sigs. modules_in env sigs ms) below m ms (least_s b p)
 least_m (BrokenM.later r (BrokenM.body b)) (PlacedM.more p q) =
     rw (complete_s r) (least_m (BrokenM.body b) q)
 least_m (BrokenM.later r (BrokenM.later s b)) (PlacedM.more p q) =

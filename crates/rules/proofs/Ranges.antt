@@ -64,7 +64,7 @@ range_e (BrokenE.under ChildE.choose_b b) (PlacedE.choose p q r e) =
 range_e (BrokenE.under ChildE.choose_c b) (PlacedE.choose p q r e) =
     let a = range_e b r in let l = root_above_e p in let m = root_above_e q in omega arith
 
-pub range_es : {cells Γ : List ℕ} {lo stop n j : ℕ} {x : Expr} {xs : List Expr} → In x xs
+pub range_es : {cells Γ : List ℕ} {x : Expr} {lo stop n j : ℕ} {xs : List Expr} → In x xs
     → BrokenE cells Γ x n j → PlacedEs lo xs stop → (lo ≤ j) × (j < stop)
 range_es In.first b (PlacedEs.more p q) = let a = range_e b p in let c = end_above_es q in omega arith
 range_es (In.later i) b (PlacedEs.more p q) =

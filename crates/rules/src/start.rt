@@ -16,7 +16,7 @@ use language::type_word::is_public;
 
 // What the arguments of a start are found to be: their types and their effect, or the first fault
 // in them.
-#[derive(Drop)]
+#[derive(Clone, Copy)]
 pub enum Arguments {
     Nothing,
     One(u16, Effect),

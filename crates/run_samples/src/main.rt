@@ -2,10 +2,13 @@
 // runs under several allowances. For each sample i it reads the text in data/iiip and the choices
 // in data/iiic, and prints the sample's name and the listing; the report is compared with the
 // stored one.
+#![tactic(auto)]
+
 use files::{print, read_file};
 use language::limit::{MOST_BYTES, MOST_CHOICE_BYTES, MOST_LISTING_BYTES};
 use machine::offset::STATE_LENGTH;
 use runs::printing::run_listing;
+use std::rt::Files;
 
 // The number of the sample in three digits, and which of its two files.
 fn name(i: usize, which: u8) -> [u8; 4] {
@@ -15,14 +18,14 @@ fn name(i: usize, which: u8) -> [u8; 4] {
     [48 + a, 48 + b, 48 + c, which]
 }
 
-fn report(i: usize) {
+fn report(rt: &(impl Files + Print + Eprint), i: usize) {
     let mut text = [0u8; MOST_BYTES + 1];
-    let program = read_file(&name(i, b'p'), &mut text);
+    let program = read_file(rt, &name(i, b'p'), &mut text);
     if !program.readable {
         return;
     }
     let mut choices = [0u8; MOST_CHOICE_BYTES + 1];
-    let list = read_file(&name(i, b'c'), &mut choices);
+    let list = read_file(rt, &name(i, b'c'), &mut choices);
     if !list.readable {
         return;
     }
@@ -31,12 +34,12 @@ fn report(i: usize) {
     let mut state = [0u64; STATE_LENGTH];
     let mut out = [0u8; MOST_LISTING_BYTES];
     let l = run_listing(&text[..n], &choices[..m], &mut state, &mut out);
-    print(&name(i, b'\n'), 4);
-    print(&out, l.length);
+    print(rt, &name(i, b'\n'), 4);
+    print(rt, &out, l.length);
 }
 
-fn main() {
+fn main(rt: HostRuntime) {
     for i in 0..298 {
-        report(i);
+        report(&rt, i);
     }
 }

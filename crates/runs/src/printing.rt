@@ -29,7 +29,7 @@ use stepper::file::file_of;
 
 // The answer: the text's refusal 1 to 7, else 14, else 0; how many bytes of the buffer hold the
 // listing; how many choices were used.
-#[derive(Drop)]
+#[derive(Clone, Copy)]
 pub struct ListingAnswer {
     pub answer: Answer,
     pub length: u32,

@@ -75,7 +75,7 @@ module _ {Σ : Store} {cs : List Stored} (g : GoodCells Σ cs) where
       held_public c t (omega (arith, h.1, q.0)) q.1 e f
 
   -- no variable of t reaches another thread's cell
-  apart : {vs : List Value} {Γ : List Ty} (t : ℕ) → Vals Σ t vs Γ
+  apart : (t : ℕ) {vs : List Value} {Γ : List Ty} → Vals Σ t vs Γ
       → All (λ (v : Value). (c o : ℕ) → Reaches cs v c → BelongsToThread cs c o → o ≡ t) vs
   apart t none = All.none
   apart t (more w ws) = All.more (λ c o l e. sees t o l w e) (apart t ws)

@@ -53,6 +53,8 @@ fine_and_then : {Σ : Store} {t : ℕ} {τ σ : Ty} (k : Value → Evaluation) (
 fine_and_then k r (Is v) e (well Σ' m g w) h = widen m (h Σ' v r.cells m g w)
 fine_and_then {Σ} {t} {τ} {σ} k r Spent e spent h =
     subst (λ (x : Outcome). FineO Σ t σ r.cells x) (sym e) spent
+fine_and_then {Σ = Σ} {t = t} {τ = τ} {σ = σ} k r Foreign e x3 h = elim x3 [ ]
+fine_and_then {Σ = Σ} {t = t} {τ = τ} {σ = σ} k r Rattle.machine.specs.declared.value.Outcome.TheVariants.Stuck e x4 h = elim x4 [ ]
 
 pub fine_then : {Σ : Store} {t : ℕ} {τ σ : Ty} (m : Evaluation) (k : Value → Evaluation) (cs : List Stored)
     → Fine Σ t τ (m cs)
@@ -154,38 +156,38 @@ fine_make {Σ} {τ} {v} h o cs a l p g w =
 
 -- ---- expressions, and 17's store
 
-pub fine_eval : {Σ : Store} {sh : List CellTyping} {Γ : List Ty} {x : Expr} {τ : Ty} (h : Here) (cs : List Stored)
+pub fine_eval : {sh : List CellTyping} {Γ : List Ty} (h : Here) {Σ : Store} {x : Expr} {τ : Ty} (cs : List Stored)
     → length sh ≡ h.shared → SharedOk Σ sh → Vals Σ h.thread h.variables Γ
     → GoodCells Σ cs → TypedE sh Γ h.place x τ → Fine Σ h.thread τ (eval h x cs)
 unfolding eval read_variable shared_cell of_numbers a_number
-fine_eval {Σ} h cs n s vs g t_number = well Σ (λ _ _ a. a) g is_num
-fine_eval {Σ} h cs n s vs g t_truth = well Σ (λ _ _ a. a) g is_tru
-fine_eval {Σ} h cs n s vs g (t_variable {s = i} {τ = τ} a) =
+fine_eval h {Σ = Σ} cs n s vs g t_number = well Σ (λ _ _ a. a) g is_num
+fine_eval h {Σ = Σ} cs n s vs g t_truth = well Σ (λ _ _ a. a) g is_tru
+fine_eval h {Σ = Σ} cs n s vs g (t_variable {s = i} {τ = τ} a) =
     let q = vals_at vs a in
     taken (λ (m : Evaluation). Fine Σ h.thread τ (m cs)) _ _ _
     (lt-ltb i (length h.variables) q.0) (well Σ (λ _ _ b. b) g q.1)
-fine_eval {Σ} {sh} h cs n s vs g (t_shared {s = i} {k = k} a) =
+fine_eval {sh = sh} h {Σ = Σ} cs n s vs g (t_shared {s = i} {k = k} a) =
     let q = at_below a in let b = s i k a in
     taken (λ (m : Evaluation). Fine Σ h.thread (cell k.own k.ty) (m cs)) _ _ _
     (lt-ltb i h.shared (omega arith))
     (well Σ (λ _ _ c. c) g (is_a_cell b.0 (inr (b.1, b.2, refl))))
 fine_eval h cs n s vs g (t_new {o = o} {x = x} r l p d) =
-    fine_then (eval h x) _ cs (fine_eval h cs n s vs g d)
+    fine_then (eval h x) (make_cell h o) cs (fine_eval h cs n s vs g d)
     (λ Σ' v ds m gd w. fine_make h o ds r l p gd w)
 fine_eval h cs n s vs g (t_content {o = o} {x = x} r d) =
-    fine_then (eval h x) _ cs (fine_eval h cs n s vs g d)
+    fine_then (eval h x) (read_cell h) cs (fine_eval h cs n s vs g d)
     (λ Σ' v ds m gd w. fine_content h o ds r gd w)
 fine_eval h cs n s vs g (t_sum {x = x} {y = y} d e) =
-    fine_then (eval h x) _ cs (fine_eval h cs n s vs g d)
-    (λ Σ' v ds m gd w. fine_then (eval h y) _ ds (fine_eval h ds n (shared_more m s) (vals_more m vs) gd e)
+    fine_then (eval h x) (λ v. eval h y >>= of_numbers plus v) cs (fine_eval h cs n s vs g d)
+    (λ Σ' v ds m gd w. fine_then (eval h y) (of_numbers plus v) ds (fine_eval h ds n (shared_more m s) (vals_more m vs) gd e)
     (λ Σ'' u es m' ge z. fine_numbers h plus es (λ _ _. is_num) ge (val_more m' w) z))
 fine_eval h cs n s vs g (t_less {x = x} {y = y} d e) =
-    fine_then (eval h x) _ cs (fine_eval h cs n s vs g d)
-    (λ Σ' v ds m gd w. fine_then (eval h y) _ ds (fine_eval h ds n (shared_more m s) (vals_more m vs) gd e)
+    fine_then (eval h x) (λ v. eval h y >>= of_numbers less_than v) cs (fine_eval h cs n s vs g d)
+    (λ Σ' v ds m gd w. fine_then (eval h y) (of_numbers less_than v) ds (fine_eval h ds n (shared_more m s) (vals_more m vs) gd e)
     (λ Σ'' u es m' ge z. fine_numbers h less_than es (λ _ _. is_tru) ge (val_more m' w) z))
 fine_eval h cs n s vs g (t_choose {x = x} {y = y} {z = z} d e f) =
-    fine_then (eval h x) _ cs (fine_eval h cs n s vs g d)
-    (λ Σ' v ds m gd w. fine_then (by_truth v (eval h y) (eval h z)) _ ds
+    fine_then (eval h x) (λ v. by_truth v (eval h y) (eval h z) >>= a_number) cs (fine_eval h cs n s vs g d)
+    (λ Σ' v ds m gd w. fine_then (by_truth v (eval h y) (eval h z)) a_number ds
     (fine_by h (eval h y) (eval h z) ds w (fine_eval h ds n (shared_more m s) (vals_more m vs) gd e) (fine_eval h ds n (shared_more m s) (vals_more m vs) gd f))
     (λ Σ'' u es m' ge q. fine_number h es ge q))
 
@@ -195,6 +197,6 @@ pub fine_storing : {Σ : Store} {sh : List CellTyping} {Γ : List Ty} {x y : Exp
     → TypedE sh Γ h.place x (cell o τ) → TypedE sh Γ h.place y τ
     → Fine Σ h.thread τ (storing h x y cs)
 fine_storing {x = x} {y = y} {o = o} h cs n s vs g r d e =
-    fine_then (eval h x) _ cs (fine_eval h cs n s vs g d)
-    (λ Σ' v ds m gd w. fine_then (eval h y) _ ds (fine_eval h ds n (shared_more m s) (vals_more m vs) gd e)
+    fine_then (eval h x) (λ v. eval h y >>= store_cell h v) cs (fine_eval h cs n s vs g d)
+    (λ Σ' v ds m gd w. fine_then (eval h y) (store_cell h v) ds (fine_eval h ds n (shared_more m s) (vals_more m vs) gd e)
     (λ Σ'' u es m' ge z. fine_store h o es r ge (val_more m' w) z))

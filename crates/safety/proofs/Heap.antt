@@ -177,6 +177,7 @@ pub vals_at : {Σ : Store} {t i : ℕ} {vs : List Value} {Γ : List Ty} {τ : Ty
     → At Γ i τ → (i < length vs) × Val Σ t (get_or vs i (Number 0)) τ
 vals_at (more v vs) here = (omega arith, v)
 vals_at (more v vs) (there a) = let g = vals_at vs a in (omega (arith, g.0), g.1)
+vals_at {Σ = Σ} {t = t} {i = i} {τ = τ} none x4 = elim x4 [ ]
 
 pub vals_snoc : {Σ : Store} {t : ℕ} {vs : List Value} {Γ : List Ty} {v : Value} {τ : Ty}
     → Vals Σ t vs Γ → Val Σ t v τ → Vals Σ t (vs ++ (v ∷ [])) (Γ ++ (τ ∷ []))

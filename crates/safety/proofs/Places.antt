@@ -335,3 +335,5 @@ module _ (P : Program) (sh : List CellTyping) (env : Setting) (Q : ℕ → Type 
       main_typed (before ++ (m ∷ [])) (n' ∷ ms) (e ∙ sym (append_assoc before (m ∷ []) (n' ∷ ms)))
       (let x = length-append before (m ∷ []) in let y = length-append below (signature m f ∷ []) in omega arith)
       (known_snoc below (signature m f) k (known_module (length below) h.0 h.1 k a r)) rest p rs
+  main_typed {below = below} before [] e l k _ x7 _ = elim x7 [ ]
+  main_typed {below = below} before (m ∷ []) e l k (Rattle.basics.specs.Members.more a rest) (Rattle.reach.proofs.Modules.later p) _ = elim p [ ]

@@ -130,6 +130,8 @@ module _ (P : Program) (sh : List CellTyping) where
   ok_go_on u e (Is v) k r (well Σ m g w) h = h v (after_ready u e r Σ m g) m w
   ok_go_on u e Spent k r spent h =
       record { good = r.before; sound = (λ x. omega (arith, x), λ x. omega (arith, x)) }
+  ok_go_on {Γ = Γ} {τ = τ} u e Rattle.machine.specs.declared.value.Outcome.TheVariants.Foreign k r x'' h = elim x'' [ ]
+  ok_go_on {Γ = Γ} {τ = τ} u e Rattle.machine.specs.declared.value.Outcome.TheVariants.Stuck k r x3 h = elim x3 [ ]
 
   ok_value : {Γ : List Ty} {τ : Ty} (u : Turn) (m : Here → Evaluation) (k : Value → Turn → StepResult) (r : Ready Γ u)
       → Fine r.typing u.thread τ (m (evaluator u) u.cells)
@@ -143,7 +145,7 @@ module _ (P : Program) (sh : List CellTyping) where
   ok_by u a b (is_tru {b = true}) f g = f
   ok_by u a b (is_tru {b = false}) f g = g
 
-  args_public : {Γ Δ : List Ty} {p : ℕ} {xs : List Expr} → Args sh Γ p xs Δ → All Pub Δ
+  args_public : {p : ℕ} {Γ Δ : List Ty} {xs : List Expr} → Args sh Γ p xs Δ → All Pub Δ
   args_public Args.none = All.none
   args_public (Args.more d p ds) = All.more p (args_public ds)
 

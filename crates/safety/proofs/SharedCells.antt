@@ -66,10 +66,21 @@ shared_is (x ∷ xs) (All.more h g) (suc s) l =
     let r = shared_is xs g s (omega arith) in
     record { typing = r.typing; at = there r.at; same = r.same; formed = r.formed }
 
+abbrev IsOwned : CellTyping → Type 0
+IsOwned k = (2 ≤ k.own) × (k.own ≤ 9)
+
+owners : (xs : List SharedCell) → All Well xs → All IsOwned (map typing_of xs)
+owners [] g = All.none
+owners (x ∷ xs) (All.more h g) = All.more (h.low, h.high) (owners xs g)
+
+at_all : {P : CellTyping → Type 0} {l : List CellTyping} {s : ℕ} {k : CellTyping} → All P l → At l s k → P k
+at_all (All.more p ps) here = p
+at_all (All.more p ps) (there a) = at_all ps a
+at_all All.none a = elim a [ ]
+
 owner_of : {s : ℕ} {k : CellTyping} (xs : List SharedCell) → All Well xs → At (map typing_of xs) s k
     → (2 ≤ k.own) × (k.own ≤ 9)
-owner_of (x ∷ xs) (All.more h g) here = (h.low, h.high)
-owner_of (x ∷ xs) (All.more h g) (there a) = owner_of xs g a
+owner_of xs g a = at_all (owners xs g) a
 
 pub shared_owners : (xs : List SharedCell) → All Well xs
     → SharedOk (store_of (map typing_of xs)) (map typing_of xs)
@@ -117,6 +128,7 @@ module _ (all : List SharedCell) (wells : All Well all) where
   held before (x ∷ xs) e (CellsFine.more f r) (All.more w ws) zero k here = (refl, by_place w.low w.high w.word.public (first_typed before (x ∷ xs) x e f w.word.formed))
   held before (x ∷ xs) e (CellsFine.more f r) (All.more w ws) (suc c) k (there a) =
       held (before ++ (x ∷ [])) xs (e ∙ sym (append_assoc before (x ∷ []) xs)) r ws c k a
+  held {Q = Q} {n = n} before [] e _ _ c k x6 = elim x6 [ ]
 
 pub first_good : {Q : ℕ → Type 0} {n : ℕ} (xs : List SharedCell) → CellsFine Q n [] xs
     → GoodCells (store_of (map typing_of xs)) (map first_cell xs)

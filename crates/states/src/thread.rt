@@ -18,7 +18,7 @@ const FIRST_VARIABLE: usize = VARIABLES_FIELD + 1;
 
 // Where it stands, which thread started it, 1 while it lives; its continuation from the bottom and
 // its variables from the first, each after its length and with 0 after its members.
-#[derive(Drop)]
+#[derive(Clone, Copy)]
 pub struct ThreadWords {
     pub place: u64,
     pub starter: u64,

@@ -96,17 +96,18 @@ grows_eval h (truth i n) cs = grown_same cs
 grows_eval h (variable i s) cs = if_all (λ (m : Evaluation). Grows cs (m cs)) (ltb s (length h.variables)) _ _ (λ _. grown_same cs) (λ _. grown_same cs)
 grows_eval h (shared i s) cs = if_all (λ (m : Evaluation). Grows cs (m cs)) (ltb s h.shared) _ _ (λ _. grown_same cs) (λ _. grown_same cs)
 grows_eval h (new i s x) cs =
-    grows_then (eval h x) _ cs (grows_eval h x cs) (λ v ds. grows_make h s v ds)
+    grows_then (eval h x) (make_cell h s) cs (grows_eval h x cs) (λ v ds. grows_make h s v ds)
 grows_eval h (content i x) cs =
-    grows_then (eval h x) _ cs (grows_eval h x cs) (λ v ds. grows_read h v ds)
+    grows_then (eval h x) (read_cell h) cs (grows_eval h x cs) (λ v ds. grows_read h v ds)
 grows_eval h (sum i x y) cs =
-    grows_then (eval h x) _ cs (grows_eval h x cs)
-    (λ v ds. grows_then (eval h y) _ ds (grows_eval h y ds) (λ w es. grows_numbers plus v w es))
+    grows_then (eval h x) (λ v. eval h y >>= of_numbers plus v) cs (grows_eval h x cs)
+    (λ v ds. grows_then (eval h y) (of_numbers plus v) ds (grows_eval h y ds) (λ w es. grows_numbers plus v w es))
 grows_eval h (less i x y) cs =
-    grows_then (eval h x) _ cs (grows_eval h x cs) (λ v ds. grows_then (eval h y) _ ds (grows_eval h y ds) (λ w es. grows_numbers less_than v w es))
+    grows_then (eval h x) (λ v. eval h y >>= of_numbers less_than v) cs (grows_eval h x cs)
+    (λ v ds. grows_then (eval h y) (of_numbers less_than v) ds (grows_eval h y ds) (λ w es. grows_numbers less_than v w es))
 grows_eval h (choose i x y z) cs =
-    grows_then (eval h x) _ cs (grows_eval h x cs)
-    (λ v ds. grows_then (by_truth v (eval h y) (eval h z)) _ ds (grows_by v (eval h y) (eval h z) ds (grows_eval h y ds) (grows_eval h z ds)) (λ w es. grows_number w es))
+    grows_then (eval h x) (λ v. by_truth v (eval h y) (eval h z) >>= a_number) cs (grows_eval h x cs)
+    (λ v ds. grows_then (by_truth v (eval h y) (eval h z)) a_number ds (grows_by v (eval h y) (eval h z) ds (grows_eval h y ds) (grows_eval h z ds)) (λ w es. grows_number w es))
 
 -- ---- 17's store changes an old cell only where it gives a value: unless it does, the cells have
 -- only grown
@@ -153,5 +154,5 @@ unless_store h (Truth b) w cs = grown_same cs
 pub grows_storing : (h : Here) (x y : Expr) (cs : List Stored)
     → UnlessValue (storing h x y cs).outcome (Grown cs (storing h x y cs).cells)
 grows_storing h x y cs =
-    unless_and_then cs _ (eval h x cs) (eval h x cs).outcome refl (grows_eval h x cs)
-    (λ v ds. unless_and_then ds _ (eval h y ds) (eval h y ds).outcome refl (grows_eval h y ds) (λ w es. unless_store h v w es))
+    unless_and_then cs (λ v. eval h y >>= store_cell h v) (eval h x cs) (eval h x cs).outcome refl (grows_eval h x cs)
+    (λ v ds. unless_and_then ds (store_cell h v) (eval h y ds) (eval h y ds).outcome refl (grows_eval h y ds) (λ w es. unless_store h v w es))

@@ -5,7 +5,7 @@ ghost use Rattle.stepper.specs.Answers.{answer_to};
 // The text is refused, with 1 to 7 and a frame; the call is refused, with 14 to 20 and the acting
 // thread, 0 where none acts; or it is done, with the acting thread, 0 at the end of an instant and
 // for a fresh state, and with how many cells it read, stored in and made.
-#[derive(Drop)]
+#[derive(Clone, Copy)]
 pub enum Answer {
     Rejected(u8, u16),
     Refused(u8, u8),

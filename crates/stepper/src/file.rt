@@ -12,7 +12,7 @@ use text::line::frame_of_word;
 
 // How many schedulers it has, how many shared cells, how many choices a run may use, and the labels
 // of the schedulers: those with one label are in step.
-#[derive(Drop)]
+#[derive(Clone, Copy)]
 pub struct File {
     pub schedulers: u8,
     pub shared: usize,

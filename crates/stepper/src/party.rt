@@ -11,7 +11,7 @@ use states::party::is_unlinked;
 
 // The number of the answer, 0 where the step is done; the acting thread, 0 where none acts; and how
 // many cells the step read, stored in and made, 0 where it is refused.
-#[derive(Drop)]
+#[derive(Clone, Copy)]
 pub struct StepAnswer {
     pub answer: u8,
     pub thread: u8,

@@ -14,14 +14,14 @@ pub const LINE_DIGITS: usize = LINE_LENGTH - 1;
 pub const LINE_FEED: u8 = b'\n';
 
 // What stands at the start of some bytes: a line, as one number of 16 digits, or no line.
-#[derive(Drop)]
+#[derive(Clone, Copy)]
 pub(crate) enum Line {
     Word(u64),
     Malformed,
 }
 
 // What stands at an index of a text.
-#[derive(Drop)]
+#[derive(Clone, Copy)]
 pub enum FrameRead {
     Read(Frame),
     NoFrame,

@@ -9,7 +9,7 @@ use language::limit::{LINE_LENGTH, MOST_BYTES};
 use language::refusal::{EMPTY_TEXT, LONG_TEXT, MALFORMED_TEXT};
 
 // How many frames a text has, or the number of its refusal and the frame that it names.
-#[derive(Drop)]
+#[derive(Clone, Copy)]
 pub enum TextRead {
     Frames(u16),
     Refused(u8, u16),

@@ -10,7 +10,7 @@ pub(crate) const VARIABLE_SPACE: u64 = MOST_VARIABLES as u64;
 pub(crate) const ONE_ITEM_LEFT: u64 = ITEM_SPACE - 1;
 
 // How many items a thread's continuation has, and how many variables there are.
-#[derive(Drop)]
+#[derive(Clone, Copy)]
 pub struct Counts {
     pub items: u64,
     pub variables: u64,

@@ -15,7 +15,7 @@ use machine::word::value_word;
 use operations::Who;
 
 // Which module is started, and whether the starter waits.
-#[derive(Drop)]
+#[derive(Clone, Copy)]
 pub(crate) struct Request {
     pub waits: bool,
     pub target: u8,

@@ -5,7 +5,7 @@ ghost use Rattle.writer.specs.Inner.Fields.{holding, child_fields, names_child};
 
 use language::kind::{DeclarationKind, ExpressionKind, Kind, StatementKind};
 
-#[derive(Drop)]
+#[derive(Clone, Copy)]
 pub(crate) enum Holds {
     // A number that means itself.
     Kept,
@@ -14,7 +14,7 @@ pub(crate) enum Holds {
     Argument,
 }
 
-#[derive(Drop)]
+#[derive(Clone, Copy)]
 pub(crate) struct ChildFields {
     pub a: Holds,
     pub b: Holds,

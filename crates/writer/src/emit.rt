@@ -10,7 +10,7 @@ use text::line::frame_of_word;
 
 // Of a field whose child has been written: what the new line holds in it, and the next line's
 // number.
-#[derive(Drop)]
+#[derive(Clone, Copy)]
 pub(crate) struct Placed {
     pub value: u16,
     pub next: usize,

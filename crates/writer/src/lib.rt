@@ -1,4 +1,6 @@
 // The writer: frames in any order, laid out as the check wants them.
+#![tactic(auto)]
+
 ghost use Rattle.std.specs.Prelude.{◌≡◌};
 ghost use Rattle.drawing.specs.Writings.{as_writing};
 ghost use Rattle.drawing.specs.Answers.{writing, Answered};

@@ -1,0 +1,6 @@
+-- `suspend` meets its contract.
+use Rattle.commits.proofs.SignalLaws.{suspended_is}
+use Rattle.commits.proofs.commit.suspend.Goals as goal
+
+pub returns : goal.returns
+returns c = search suspended_is

@@ -1,0 +1,13 @@
+-- `has_wake_room` meets its contract.
+use borrow.Author.Rules.{rules}
+use Rattle.commits.proofs.SignalLaws.{wake_none, wake_room, owner_group}
+use Rattle.commits.proofs.signal.has_wake_room.Goals as goal
+
+pub room_on_each-requires : goal.room_on_each-requires
+room_on_each-requires c = (search owner_group, search rules)
+
+pub returns-in-At : goal.returns-in-At
+returns-in-At c = search (wake_none, wake_room)
+
+pub returns-in-NoPlace : goal.returns-in-NoPlace
+returns-in-NoPlace c = search (wake_none, wake_room)

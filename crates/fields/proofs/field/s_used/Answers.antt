@@ -1,0 +1,12 @@
+-- `s_used` meets its contract.
+use Rattle.fields.proofs.FieldsByKind.{s_laws}
+use Rattle.fields.proofs.field.s_used.Goals as goal
+
+pub returns-then-f-ne0 : goal.returns-then-f-ne0
+returns-then-f-ne0 c = search s_laws
+
+pub returns-then-f-ne0-2 : goal.returns-then-f-ne0-2
+returns-then-f-ne0-2 c = search s_laws
+
+pub returns : goal.returns
+returns c = search s_laws

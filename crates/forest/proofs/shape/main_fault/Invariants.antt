@@ -1,0 +1,11 @@
+use Prim.Native.Nat.{◌≤◌}
+use lib.ListN.{length}
+use Rattle.text.specs.Frames.{frames_of}
+use Rattle.forest.proofs.ShapePass.{NoModuleFrom}
+use Rattle.forest.proofs.shape.main_fault.Given as goal
+
+abbrev pub invariant-loop-n : goal.invariant-loop-n
+invariant-loop-n l = (l.n ≤ length l.words) × NoModuleFrom (frames_of l.words) l.n
+
+abbrev pub decreases-loop-n : goal.decreases-loop-n
+decreases-loop-n l = l.n

@@ -1,0 +1,9 @@
+-- `with_label` meets its contract.
+use Rattle.language.proofs.LabelLaws.{label_laws}
+use Rattle.language.proofs.group.with_label.Goals as goal
+
+pub returns-then-label-old : goal.returns-then-label-old
+returns-then-label-old c = search label_laws
+
+pub returns : goal.returns
+returns c = search label_laws

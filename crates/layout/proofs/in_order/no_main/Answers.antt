@@ -1,0 +1,9 @@
+-- `no_main` meets its contract.
+use Rattle.layout.proofs.OrderPass.{no_main_laws}
+use Rattle.layout.proofs.in_order.no_main.Goals as goal
+
+pub returns-then-is_main : goal.returns-then-is_main
+returns-then-is_main c = search no_main_laws
+
+pub returns : goal.returns
+returns c = search no_main_laws

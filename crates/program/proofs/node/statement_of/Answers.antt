@@ -1,0 +1,36 @@
+-- `statement_of` meets its contract.
+use Rattle.program.proofs.NodeLaws.{statement_row, target_named}
+use Rattle.program.proofs.node.statement_of.Goals as goal
+
+pub known-requires : goal.known-requires
+known-requires c = search target_named
+
+pub returns-in-Then : goal.returns-in-Then
+returns-in-Then c = search statement_row
+
+pub returns-in-DoAt : goal.returns-in-DoAt
+returns-in-DoAt c = search statement_row
+
+pub returns-in-Start : goal.returns-in-Start
+returns-in-Start c = search statement_row
+
+pub returns-in-StartWait : goal.returns-in-StartWait
+returns-in-StartWait c = search statement_row
+
+pub returns-in-Let : goal.returns-in-Let
+returns-in-Let c = search statement_row
+
+pub returns-in-Store : goal.returns-in-Store
+returns-in-Store c = search statement_row
+
+pub returns-in-If : goal.returns-in-If
+returns-in-If c = search statement_row
+
+pub returns-in-While : goal.returns-in-While
+returns-in-While c = search statement_row
+
+pub returns-in-Generate : goal.returns-in-Generate
+returns-in-Generate c = search statement_row
+
+pub returns-in-Await : goal.returns-in-Await
+returns-in-Await c = search statement_row

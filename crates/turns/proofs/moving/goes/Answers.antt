@@ -1,0 +1,12 @@
+-- `goes` meets its contract.
+use Rattle.turns.proofs.MoveRows.{goes_rows}
+use Rattle.turns.proofs.moving.goes.Goals as goal
+
+pub returns-then-is_same : goal.returns-then-is_same
+returns-then-is_same c = search goes_rows
+
+pub returns-then-is_private : goal.returns-then-is_private
+returns-then-is_private c = search goes_rows
+
+pub returns : goal.returns
+returns c = search goes_rows
