@@ -1,5 +1,6 @@
 -- What a reader owns gives what a function on its text and its line's number is passed, and is
--- kept, since the struct is Copy. For the walks of functions that take a reader. Assumes nothing.
+-- kept, since the struct is Copy. For proofs that walk a function that takes a reader. Assumes
+-- nothing.
 use mathlib.Core.Path.{◌≡◌, refl}
 use Prim.Native.Nat.{◌<◌, ◌^◌}
 use mathlib.Core.List.{List, [], ◌∷◌}

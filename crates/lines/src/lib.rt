@@ -1,6 +1,5 @@
-// A reader of a text's lines: it holds the caller's text and the number of the next line. What has
-// a reader in it is proved by a walk by hand, so each such function is thin, and the work is in
-// covered functions on the text and the number.
+// A reader of a text's lines: it holds the caller's text and the number of the next line. Each
+// function on a reader is thin: the work is in functions on the text and the number.
 #![tactic(auto)]
 
 ghost use Rattle.std.specs.Prelude.{◌≡◌};
@@ -75,8 +74,7 @@ pub fn frames_ahead<'a>(r: LineReader<'a>) -> usize
     frames_from(r.text, r.next)
 }
 
-// How many lines of a text are frames, up to the first that is none. Its parameter is plain, so no
-// caller needs a walk.
+// How many lines of a text are frames, up to the first that is none.
 pub fn leading_frames(text: &[u8]) -> usize
     ensures { result ≡ frames_from text.now 0 }
 {
