@@ -152,7 +152,7 @@ module _ (bs : List ℕ) (t : TextRead) (ws : List ℕ) (h : read_as t ws ≡ te
       pub laid_lines : v ≡ LaidOut → laid_as (Laid.Lines n) ws ≡ laid_words bs
       laid_lines z = ap (λ (x : LayoutVerdict). laid_as (laid_for x n) ws) (sym z) ∙ laid_whole
 
-pub ruleset LaidLaws = (laid_refused, laid_rejected, laid_lines)
+pub ruleset laid_laws = (laid_refused, laid_rejected, laid_lines)
 
 -- ---- from the answer: l is what `lay_into` answered, ws what the lent words hold
 module _ (bs : List ℕ) (l : Laid) (ws : List ℕ) (e : laid_as l ws ≡ laid_words bs) where

@@ -1,4 +1,4 @@
--- What the test `inRange` says of the words, region by region (`InRange`), and that this is enough
+-- What the test `in_range` says of the words, region by region (`InRange`), and that this is enough
 -- for it to pass. Assumes nothing.
 use Prim.Native.Nat.{ℕ, suc, zero, ◌+◌, ◌*◌, ◌-◌, ◌/◌, ◌%◌, ◌<◌, ◌≤◌}
 use mathlib.Core.Path.{◌≡◌, refl, sym, ap, ap₂, ◌∙◌}

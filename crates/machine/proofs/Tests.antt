@@ -1,4 +1,4 @@
--- Laws of tests: of `and`, and of a conditional whose test is known. Assumes nothing.
+-- Laws of tests: of `&&`, and of a conditional whose test is known. Assumes nothing.
 use mathlib.Core.Path.{◌≡◌, refl, sym, ◌∙◌}
 use mathlib.Core.Bool.{Bool, true, false, ◌&&◌, true≢false}
 use Rattle.basics.specs.If.{when◌then◌else◌}

@@ -1,6 +1,6 @@
 -- `lay_into` meets its contract.
 use borrow.Author.Rules.{rules}
-use Rattle.layout.proofs.Answers.{lines_fit, lines_count, lines_some, lines_few, LaidLaws}
+use Rattle.layout.proofs.Answers.{lines_fit, lines_count, lines_some, lines_few, laid_laws}
 use Rattle.layout.proofs.Judged.{judged_laws}
 use Rattle.layout.proofs.lay_into.Goals as goal
 
@@ -14,10 +14,10 @@ pub layout_of-requires : goal.layout_of-requires
 layout_of-requires c = (search lines_some, search lines_few)
 
 pub returns-in-Refused : goal.returns-in-Refused
-returns-in-Refused c = record { computed = search LaidLaws; promised = search judged_laws }
+returns-in-Refused c = record { computed = search laid_laws; promised = search judged_laws }
 
 pub returns-in-Rejected : goal.returns-in-Rejected
-returns-in-Rejected c = record { computed = search LaidLaws; promised = search judged_laws }
+returns-in-Rejected c = record { computed = search laid_laws; promised = search judged_laws }
 
 pub returns-in-LaidOut : goal.returns-in-LaidOut
-returns-in-LaidOut c = record { computed = search LaidLaws; promised = search judged_laws }
+returns-in-LaidOut c = record { computed = search laid_laws; promised = search judged_laws }

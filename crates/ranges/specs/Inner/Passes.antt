@@ -1,5 +1,5 @@
 -- The range test by blocks, as the code passes over the words: which test each word of a block has
--- to pass. No reader has to believe it: together the passes are `inRange` (proofs/BlockLaws).
+-- to pass. No reader has to believe it: together the passes are `in_range` (proofs/BlockLaws).
 -- Assumes nothing: definitions.
 use Rattle.std.specs.Prelude.{List, Bool, ℕ, ◌+◌, ◌*◌, ltb, leb, eqb, get_or}
 use Rattle.basics.specs.If.{when◌then◌else◌}

@@ -1,7 +1,5 @@
--- `value_at`, `number_at` and `truth_at` meet their contracts: one proof for the cycle. In a need,
--- `at` is the function's entry, with the frames fs and the words w; `node` is where the frame's
--- node has been read, `arm` where its operands have been, `one` and `two` where an operand has been
--- evaluated. Assumes nothing.
+-- `value_at`, `number_at` and `truth_at` meet their contracts: one proof for the cycle. Assumes
+-- nothing.
 use mathlib.Core.Path.{refl, sym, ◌∙◌}
 use Rattle.evaluator.proofs.Nodes.{operands_below, branch_below}
 use Rattle.evaluator.proofs.Cases.{case_plain, case_cells, case_first, first_as_number}

@@ -1,5 +1,4 @@
--- `store` meets its contract. In a need, `at` is the function's entry, `one` and `two` are where an
--- operand has been evaluated.
+-- `store` meets its contract.
 use mathlib.Core.Path.{◌∙◌}
 use Rattle.operations.specs.Inner.Results.{result_in}
 use Rattle.evaluator.proofs.Agreement.{store_runs, store_keeps}

@@ -1,4 +1,4 @@
--- `act_in` meets its contract. In a need, `at` is the function's entry.
+-- `act_in` meets its contract.
 use native.Mathlib.Omega.{arith}
 use mathlib.Core.Path.{refl, sym}
 use Rattle.stepper.proofs.ActLaws.{act_bounds, place_read, items_read, number_is}

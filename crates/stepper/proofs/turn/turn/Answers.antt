@@ -1,6 +1,4 @@
--- `turn` meets its contract. In a need, `count` and `test` are where the threads are counted and
--- the count is tested, `acted`, `taken` and `done` where the turn is acted, its accesses are taken
--- and it is committed.
+-- `turn` meets its contract.
 use native.Mathlib.Omega.{arith}
 use mathlib.Core.Path.{refl, ◌∙◌}
 use Rattle.stepper.proofs.GoodWords.{step_long}

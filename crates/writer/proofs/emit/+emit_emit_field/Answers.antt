@@ -1,6 +1,4 @@
--- `emit` and `emit_field` meet their contracts: one proof for the cycle. In a need, `at` is the
--- function's entry, `frame` and `holds` are where the line's frame and its fields have been read,
--- `one`, `two`, `three` where a field has been written. Assumes nothing.
+-- `emit` and `emit_field` meet their contracts: one proof for the cycle. Assumes nothing.
 use mathlib.Core.Path.{refl}
 use borrow.Author.Rules.{rules}
 use Rattle.writer.proofs.TreeLines.{field_falls, tree_falls, some_levels}
