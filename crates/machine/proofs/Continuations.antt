@@ -91,7 +91,7 @@ fits-true z e l vs r =
 
 -- ---- it stays so when a statement is taken apart
 
--- run-item with its data given, from which omega knows what to show
+-- run_item with its data given, from which omega knows what to show
 run_above : (n : ℕ) (x : Stmt) (l : List Item) → length l + height x ≤ 25 → n + lets x ≤ 25
     → Roomy n l → Roomy n (run x ∷ l)
 run_above n x l h g r = run_item h g r

@@ -26,7 +26,7 @@ use Rattle.machine.specs.Shapes.{back_fits, drop_fits, EntryFits, plain_fits, wa
 use Rattle.machine.specs.Shapes.{awaiting_fits, ThreadFits, SchedulerFits, Shaped}
 use Rattle.machine.proofs.Blocks.{says_pack}
 
--- ---- single words: `x-back` says that the word of x says x
+-- ---- single words: `x_back` says that the word of x says x
 
 pub value_back : (v : Value) → ValueFits v → word_value (value_word v) ≡ v
 unfolding value_word word_value

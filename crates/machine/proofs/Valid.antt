@@ -30,7 +30,7 @@ use Rattle.machine.proofs.Round.{thread_variables, scheduler_active, scheduler_n
 use Rattle.machine.proofs.Ranges.{InRange, Space, space_of, range_items, range_variables}
 use Rattle.machine.proofs.Ranges.{range_active, range_next, range_lives, in_range_lem}
 
--- ---- single words: `x-there` says that the word of what a word says is that word
+-- ---- single words: `x_there` says that the word of what a word says is that word
 
 pub item_there : (fs : List Frame) (n v : ℕ) → item_in_range fs n v ≡ true
     → item_word (word_item fs v) ≡ v
