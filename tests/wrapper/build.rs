@@ -1,4 +1,4 @@
-// Links the archive that `rt lib` writes in crates/c_interface, or the one in the folder
+// Links the archive that `rt lib` writes in crates/c_interface/out, or the one in the folder
 // PURKVALDI_ARCHIVE.
 fn main() {
     println!("cargo:rerun-if-env-changed=PURKVALDI_ARCHIVE");
