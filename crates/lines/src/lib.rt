@@ -10,7 +10,7 @@ ghost use Rattle.lines.specs.Readers.{moved, frames_ahead};
 use language::limit::{LINE_LENGTH, MOST_LINES};
 use text::line::{FrameRead, frame_at};
 
-#[derive(Drop)]
+#[derive(Clone, Copy)]
 pub struct LineReader<'a> {
     pub text: &'a [u8],
     pub next: usize,
