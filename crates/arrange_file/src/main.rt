@@ -5,7 +5,7 @@
 
 use files::{print, read_file};
 use language::limit::MOST_BYTES;
-use language::verdict::Verdict;
+use language::refusal::Verdict;
 use listing::refusal_line;
 use writer::arrange;
 
@@ -29,11 +29,11 @@ fn main(rt: HostRuntime) {
     let n = file.count;
     let mut out = [0u8; MOST_BYTES + 1];
     match lay_into(&text[..n], &mut out) {
-        Verdict::Accepted => {
+        Ok(()) => {
             print(&rt, &out, n as u32);
         }
-        Verdict::Rejected(number, frame) => {
-            let line = refusal_line(number, frame);
+        Err(refusal) => {
+            let line = refusal_line(refusal.number, refusal.frame);
             print(&rt, &line, 8);
         }
     }

@@ -14,13 +14,13 @@ use Rattle.basics.specs.If.{when◌then◌else◌}
 use Rattle.basics.proofs.Ifs.{if_yes, and_both}
 use Rattle.basics.specs.Chains.{each_from}
 use Rattle.language.specs.declared.frame.Frame.{Frame}
-use Rattle.language.specs.declared.verdict.Verdict.{Verdict}
-use Rattle.language.specs.declared.verdict.Verdict.TheVariants.{Accepted, Rejected}
+use Rattle.language.specs.Verdicts.{Verdict}
+use Rattle.language.specs.Verdicts.{Accepted, Rejected}
 use Rattle.text.specs.Frames.{text_frames}
 use Rattle.text.specs.Reading.{Reads, frames}
 use Rattle.text.proofs.Readings.{some_frame}
 use Rattle.program.specs.Programs.{Program, program_of}
-use Rattle.layout.specs.declared.LayoutVerdict.{LayoutVerdict}
+use Rattle.layout.specs.Verdicts.{LayoutVerdict, LaidOut}
 use Rattle.layout.specs.LaidOut.{HasLayout}
 use Rattle.layout.specs.Faults.{NoFault}
 use Rattle.layout.proofs.Judged.{layout_only}
@@ -100,7 +100,7 @@ module _ (bs : List ℕ) (read : Reads bs (frames (text_frames bs))) (fine : NoF
     whole : list_text bs bytes w out ≡ whole_listing (A.Done 0 0) (verdict bs) fs bytes w out
     unfolding list_text
     whole =
-        ap (by_layout bs bytes w out) (sym (layout_only {v = LayoutVerdict.LaidOut} (HasLayout.layout {v = LayoutVerdict.LaidOut} read fine)))
+        ap (by_layout bs bytes w out) (sym (layout_only {v = LaidOut} (HasLayout.layout {v = LaidOut} read fine)))
         ∙ if_yes _ _ (and_both (eqb (length w) 4834) (eqb (length out) 311309)
         (eq-eqb (length w) 4834 e) (eq-eqb (length out) 311309 f))
 

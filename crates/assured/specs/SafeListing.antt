@@ -2,7 +2,7 @@
 use Rattle.std.specs.Prelude.{◌∷◌, ◌++◌, ◌≤◌, ◌≡◌}
 use Rattle.basics.specs.Prelude.{List, [], ℕ, length, take}
 use Rattle.language.specs.declared.frame.Frame.{Frame}
-use Rattle.language.specs.declared.verdict.Verdict.TheVariants.{Accepted}
+use Rattle.language.specs.Verdicts.{Accepted}
 use Rattle.language.specs.Limits.{most_choice_bytes, most_listing_bytes}
 use Rattle.text.specs.Frames.{text_frames}
 use Rattle.program.specs.Programs.{program_of}

@@ -4,7 +4,7 @@ use Rattle.std.specs.Prelude.{◌≡◌, ◌≢◌}
 use Rattle.basics.specs.Prelude.{List, ℕ, length, All}
 use Rattle.basics.specs.Chains.{each_from, last_from}
 use Rattle.language.specs.declared.frame.Frame.{Frame}
-use Rattle.language.specs.declared.verdict.Verdict.TheVariants.{Accepted}
+use Rattle.language.specs.Verdicts.{Accepted}
 use Rattle.language.specs.Refusals.{wrong_state, no_party, nothing_ready, cells_spent, threads_spent}
 use Rattle.text.specs.Frames.{text_frames}
 use Rattle.program.specs.Programs.{program_of}

@@ -1,4 +1,6 @@
 -- What the functions of the interface compute. Assumes nothing.
+use Rattle.std.specs.Prelude.{Err}
+use Rattle.language.specs.declared.refusal.Refusal.{Refusal}
 use mathlib.Core.Path.{◌≡◌, refl, sym, ap, ◌∙◌}
 use Prim.Native.Nat.{ℕ, ◌+◌, ◌*◌}
 use native.Mathlib.Omega.{arith}
@@ -8,8 +10,8 @@ use mathlib.Core.List.{List}
 use mathlib.Core.Bool.{Bool, true, false}
 use Rattle.basics.proofs.Ifs.{if_all, if_no}
 use Rattle.language.specs.declared.frame.Frame.{Frame}
-use Rattle.language.specs.declared.verdict.Verdict.{Verdict}
-use Rattle.language.specs.declared.verdict.Verdict.TheVariants.{Accepted, Rejected}
+use Rattle.language.specs.Verdicts.{Verdict}
+use Rattle.language.specs.Verdicts.{Accepted, Rejected}
 use Rattle.checker.specs.Verdict.{verdict, Checked}
 use Rattle.machine.specs.Turns.{access_count}
 use Rattle.machine.specs.Inner.Ranges.{in_range}
@@ -30,8 +32,9 @@ use Rattle.c_interface.specs.Codes.{AnsweredCode, step_answer_code, coded_step_o
 pub code_accepted : (v : Verdict) → v ≡ Accepted → 0 ≡ code_of v
 code_accepted v h = ap code_of (sym h)
 
-pub code_rejected : (v : Verdict) (n j : ℕ) → v ≡ Rejected n j → n * 65536 + j ≡ code_of v
-code_rejected v n j h = ap code_of (sym h)
+pub code_rejected : (v : Verdict) (a : Refusal) → v ≡ Err a
+    → a.number * 65536 + a.frame ≡ code_of v
+code_rejected v a h = ap code_of (sym h)
 
 pub ruleset code_laws = (code_accepted, code_rejected)
 

@@ -1,7 +1,7 @@
 -- Verdicts and answers as one number.
 use Rattle.std.specs.Prelude.{◌+◌, ◌*◌, ◌^◌, ◌≡◌}
 use Rattle.basics.specs.Prelude.{List, ℕ}
-use Rattle.language.specs.{Verdicts.number_of, Verdicts.frame_of, declared.verdict.Verdict.Verdict}
+use Rattle.language.specs.{Verdicts.number_of, Verdicts.frame_of, Verdicts.Verdict}
 use Rattle.checker.specs.Verdict.{Checked}
 use Rattle.stepper.specs.declared.answer.Answer.{Answer}
 use Rattle.stepper.specs.declared.answer.Answer.TheVariants.{Rejected, Refused, Done}

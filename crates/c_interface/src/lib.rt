@@ -17,7 +17,7 @@ ghost use Rattle.c_interface.specs.Codes.{coded_listing_of, coded_writing_of, An
 
 use checker::check::check;
 use language::limit::MOST_LISTING_BYTES;
-use language::verdict::Verdict;
+use language::refusal::Verdict;
 use runs::printing::run_listing;
 use stepper::answer::Answer;
 use stepper::batch::steps;
@@ -29,8 +29,8 @@ fn code_of(v: Verdict) -> u32
     ensures { result ≡ code_of v }
 {
     match v {
-        Verdict::Accepted => 0,
-        Verdict::Rejected(n, j) => n as u32 * 0x0001_0000 + j as u32,
+        Ok(()) => 0,
+        Err(refusal) => refusal.number as u32 * 0x0001_0000 + refusal.frame as u32,
     }
 }
 

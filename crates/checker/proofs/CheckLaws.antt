@@ -5,8 +5,8 @@ use mathlib.Core.List.{List, []}
 use Prim.Native.Nat.{ℕ, ◌≤◌}
 use native.Mathlib.Omega.{arith}
 use lib.ListN.{length, take, length-map, length-take}
-use Rattle.language.specs.declared.verdict.Verdict.{Verdict}
-use Rattle.language.specs.declared.verdict.Verdict.TheVariants.{Rejected}
+use Rattle.language.specs.Verdicts.{Verdict}
+use Rattle.language.specs.Verdicts.{Rejected}
 use Rattle.text.specs.Frames.{frame_of_word, frames_of}
 use Rattle.program.specs.Programs.{program_of, modules_from}
 use Rattle.program.specs.Inner.Shared.{SharedFirst, shared_types}
@@ -14,7 +14,9 @@ use Rattle.program.specs.declared.shared.SharedTypes.{SharedTypes}
 use Rattle.program.proofs.SharedTypeLaws.{types_room, types_taken}
 use Rattle.layout.specs.Faults.{NoFault}
 use Rattle.layout.specs.Inner.Layouts.{laid_as, laid_words}
-use Rattle.layout.specs.declared.Laid.{Laid}
+use Rattle.std.specs.Prelude.{Err}
+use Rattle.language.specs.declared.refusal.Refusal.{Refusal}
+use Rattle.layout.specs.Inner.Laid.{Laid, Lines}
 use Rattle.layout.proofs.Judged.{Passed, laid_passed}
 use Rattle.layout.proofs.AfterLayout.{text_refused, text_passed}
 use Rattle.layout.proofs.SharedCells.{shared_first}
@@ -51,12 +53,12 @@ promise bs r e = subst (Checked bs) (sym e) (verdict_computes bs)
 
 -- l is what `lay_into` answered, ws what the lent words hold
 module _ (bs : List ℕ) (l : Laid) (ws : List ℕ) (e : laid_as l ws ≡ laid_words bs) where
-  pub check_rejected : (n j : ℕ) → l ≡ Laid.Rejected n j → Rejected n j ≡ verdict bs
+  pub check_rejected : (a : Refusal) → l ≡ Err a → Err a ≡ verdict bs
   unfolding verdict
-  check_rejected n j z =
-      text_refused (λ n j. Rejected n j) (λ fs. rules_of (program_of fs)) bs l ws e n j z
+  check_rejected a z =
+      text_refused (λ n j. Rejected n j) (λ fs. rules_of (program_of fs)) bs l ws e a z
 
-  module _ (n : ℕ) (a : l ≡ Laid.Lines n) where
+  module _ (n : ℕ) (a : l ≡ Lines n) where
     right : Passed bs n ws
     right = laid_passed bs l ws e n a
 
@@ -88,10 +90,10 @@ module _ (bs : List ℕ) (l : Laid) (ws : List ℕ) (e : laid_as l ws ≡ laid_w
         z ∙ text_passed (λ n j. Rejected n j) (λ fs. rules_of (program_of fs)) bs l ws e n a
 
 pub promised_rejected : (bs : List ℕ) (l : Laid) (ws : List ℕ) → laid_as l ws ≡ laid_words bs
-    → (n j : ℕ) → l ≡ Laid.Rejected n j → Checked bs (Rejected n j)
-promised_rejected bs l ws e n j z = promise bs (Rejected n j) (check_rejected bs l ws e n j z)
+    → (a : Refusal) → l ≡ Err a → Checked bs (Err a)
+promised_rejected bs l ws e a z = promise bs (Err a) (check_rejected bs l ws e a z)
 
 pub promised_rules : (bs : List ℕ) (l : Laid) (ws : List ℕ) → laid_as l ws ≡ laid_words bs
-    → (n : ℕ) → l ≡ Laid.Lines n → (r : Verdict)
+    → (n : ℕ) → l ≡ Lines n → (r : Verdict)
     → r ≡ rules_of (program_of (frames_of (take n ws))) → Checked bs r
 promised_rules bs l ws e n a r z = promise bs r (check_rules bs l ws e n a r z)

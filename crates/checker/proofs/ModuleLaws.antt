@@ -16,8 +16,8 @@ use Rattle.language.specs.Kinds.{is_module, child}
 use Rattle.language.specs.Effects.{within}
 use Rattle.language.specs.Inner.Labels.{within_in}
 use Rattle.language.specs.declared.effect.Effect.{Effect}
-use Rattle.language.specs.declared.verdict.Verdict.{Verdict}
-use Rattle.language.specs.declared.verdict.Verdict.TheVariants.{Accepted, Rejected}
+use Rattle.language.specs.Verdicts.{Verdict}
+use Rattle.language.specs.Verdicts.{Accepted, Rejected}
 use Rattle.language.specs.declared.kind.Class.{Class}
 use Rattle.language.specs.declared.kind.Kind.{Kind}
 use Rattle.language.specs.declared.kind.Kind.TheVariants.{Header, Declared, Module, Statement}

@@ -1,17 +1,18 @@
 -- The theorem: the computed verdict is the one that the rules give, and the only one. Assumes
 -- nothing.
+use Rattle.std.specs.Prelude.{Err}
 use mathlib.Core.Path.{◌≡◌, refl, sym, ap, ◌∙◌}
 use mathlib.Core.List.{List}
 use Prim.Native.Nat.{ℕ, ◌<◌}
 use lib.ListN.{length}
 use Rattle.language.specs.declared.frame.Frame.{Frame}
-use Rattle.language.specs.declared.verdict.Verdict.{Verdict}
-use Rattle.language.specs.declared.verdict.Verdict.TheVariants.{Accepted, Rejected}
+use Rattle.language.specs.Verdicts.{Verdict}
+use Rattle.language.specs.Verdicts.{Accepted, Rejected}
 use Rattle.text.specs.Reading.{Reading, frames, refused, Reads}
 use Rattle.text.specs.Inner.Reading.{reading}
 use Rattle.text.proofs.Readings.{reads, reads_one, some_frame}
 use Rattle.program.specs.Programs.{program_of}
-use Rattle.layout.specs.declared.LayoutVerdict.{LayoutVerdict}
+use Rattle.layout.specs.Verdicts.{LayoutVerdict, LaidOut}
 use Rattle.layout.specs.Faults.{NoFault, LayoutSays}
 use Rattle.layout.specs.Inner.Scans.{layout_of}
 use Rattle.layout.specs.LaidOut.{after_layout, after_reading}
@@ -45,12 +46,12 @@ verdict_read r = after_reading (λ n j. Rejected n j) (λ fs. rules_of (program_
 says_rules : {bs : List ℕ} (fs : List Frame) → Reads bs (frames fs) → NoFault fs → (r : Verdict)
     → RulesSay (program_of fs) r → HasVerdict bs r
 says_rules fs h n Accepted k = HasVerdict.accepted h n k
-says_rules fs h n (Rejected m j) k = HasVerdict.rules h n k
+says_rules fs h n (Err r) k = HasVerdict.rules h n k
 
 says_layout : {bs : List ℕ} (fs : List Frame) → Reads bs (frames fs) → (r : LayoutVerdict)
     → LayoutSays fs r → HasVerdict bs (verdict_of fs r)
-says_layout fs h LayoutVerdict.LaidOut n = says_rules fs h n _ (rules_hold fs (some_frame h refl) n)
-says_layout fs h (LayoutVerdict.Rejected n j) f = HasVerdict.layout h f
+says_layout fs h LaidOut n = says_rules fs h n _ (rules_hold fs (some_frame h refl) n)
+says_layout fs h (Err d) f = HasVerdict.layout h f
 
 says_reading : {bs : List ℕ} (r : Reading) → Reads bs r → HasVerdict bs (verdict_read r)
 says_reading (frames fs) h = says_layout fs h (layout_of fs) (layout_says fs (some_frame h refl))
@@ -70,12 +71,12 @@ by_layout {fs =
 only_reading : {bs : List ℕ} (r : Reading) → Reads bs r → (other : Verdict) → HasVerdict bs other
     → other ≡ verdict_read r
 only_reading r h _ (HasVerdict.text g) = ap verdict_read (reads_one g h)
-only_reading r h (Rejected n j) (HasVerdict.layout g f) =
-    by_layout r h g (LayoutVerdict.Rejected n j) f
-only_reading r h (Rejected n j) (HasVerdict.rules {fs =
-    fs} g m f) = rules_alone fs (some_frame g refl) m (Rejected n j) f ∙ by_layout r h g LayoutVerdict.LaidOut m
+only_reading r h (Err s) (HasVerdict.layout g f) =
+    by_layout r h g (Rejected s.number s.frame) f
+only_reading r h (Err s) (HasVerdict.rules {fs =
+    fs} g m f) = rules_alone fs (some_frame g refl) m (Rejected s.number s.frame) f ∙ by_layout r h g LaidOut m
 only_reading r h Accepted (HasVerdict.accepted {fs =
-    fs} g m f) = rules_alone fs (some_frame g refl) m Accepted f ∙ by_layout r h g LayoutVerdict.LaidOut m
+    fs} g m f) = rules_alone fs (some_frame g refl) m Accepted f ∙ by_layout r h g LaidOut m
 
 pub verdict_computes : VerdictComputes
 unfolding verdict

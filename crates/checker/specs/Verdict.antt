@@ -3,8 +3,8 @@
 use Rattle.std.specs.Prelude.{◌≡◌}
 use Rattle.basics.specs.Prelude.{List, ℕ}
 use Rattle.language.specs.declared.frame.Frame.{Frame}
-use Rattle.language.specs.declared.verdict.Verdict.{Verdict}
-use Rattle.language.specs.declared.verdict.Verdict.TheVariants.{Accepted, Rejected}
+use Rattle.language.specs.Verdicts.{Verdict}
+use Rattle.language.specs.Verdicts.{Accepted, Rejected}
 use Rattle.text.specs.{Reading.frames, Reading.refused, Reading.Reads, Inner.Reading.reading}
 use Rattle.program.specs.Programs.{program_of}
 use Rattle.layout.specs.{Faults.NoFault, Faults.FirstFault, LaidOut.after_reading}

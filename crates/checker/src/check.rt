@@ -8,8 +8,8 @@ ghost use Rattle.checker.specs.Inner.Frames.{FileIn};
 
 use crate::module::modules_rule;
 use language::limit::MOST_LINES;
-use language::verdict::Verdict;
-use layout::{Laid, lay_into};
+use language::refusal::Verdict;
+use layout::lay_into;
 use program::group::labels_of;
 use program::shared::shared_types;
 
@@ -31,8 +31,6 @@ pub fn check(text: &[u8]) -> Verdict
     ensures promised { Checked text.now result }
 {
     let mut words = [0u64; MOST_LINES];
-    match lay_into(text, &mut words) {
-        Laid::Rejected(n, j) => Verdict::Rejected(n, j),
-        Laid::Lines(n) => rules_of(&words[..n]),
-    }
+    let n = lay_into(text, &mut words)?;
+    rules_of(&words[..n])
 }

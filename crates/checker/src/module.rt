@@ -18,10 +18,8 @@ use language::Place;
 use language::effect::Effect;
 use language::frame::Frame;
 use language::group::LABELS;
-use language::kind::is_module;
 use language::limit::{MOST_MODULES, MOST_VARIABLES};
-use language::refusal::WRONG_EFFECT;
-use language::verdict::Verdict;
+use language::refusal::{Refusal, Verdict, WRONG_EFFECT};
 use program::frames::frame_at;
 use rules::finding::StatementEffect;
 use rules::start::signature_word;
@@ -35,7 +33,7 @@ pub(crate) fn next_module(frames: &[u64], i: usize) -> usize
     while k + 1 < frames.len() {
         let f = frame_at(frames, k);
         let kind = f.kind;
-        if is_module(kind) {
+        if kind.is_module() {
             return k;
         }
         k += 1;
@@ -72,9 +70,12 @@ pub(crate) fn main_rule(labels: &[u8; LABELS], i: u16, e: Effect) -> Verdict
     ensures { result ≡ main_rule (within_in labels.now) i e }
 {
     if e.within(labels, Place::HOME) {
-        return Verdict::Accepted;
+        return Ok(());
     }
-    Verdict::Rejected(WRONG_EFFECT, i)
+    Err(Refusal {
+        number: WRONG_EFFECT,
+        frame: i,
+    })
 }
 
 // What is known of a module whose body has that effect.
@@ -99,8 +100,8 @@ pub(crate) fn modules_rule(frames: &[u64], cells: &[u16], labels: &[u8; LABELS])
     while i + 1 < frames.len() {
         let f = frame_at(frames, i);
         match module_effect(frames, cells, labels, below, m, f) {
-            StatementEffect::Faulty(k, j) => {
-                return Verdict::Rejected(k, j);
+            StatementEffect::Faulty(number, frame) => {
+                return Err(Refusal { number, frame });
             }
             StatementEffect::Proper(e, b) => {
                 below[m] = module_signature(f, e);
@@ -111,7 +112,7 @@ pub(crate) fn modules_rule(frames: &[u64], cells: &[u16], labels: &[u8; LABELS])
     }
     let f = frame_at(frames, i);
     match module_effect(frames, cells, labels, below, m, f) {
-        StatementEffect::Faulty(k, j) => Verdict::Rejected(k, j),
+        StatementEffect::Faulty(number, frame) => Err(Refusal { number, frame }),
         StatementEffect::Proper(e, b) => main_rule(labels, i as u16, e),
     }
 }

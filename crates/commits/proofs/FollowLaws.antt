@@ -20,10 +20,6 @@ use Rattle.commits.specs.Inner.Commits.{generated_in, WakeWords, Grouping}
 use Rattle.commits.proofs.WritingLaws.{left_count}
 
 -- ---- `leaves`: a starter leaves its list where it waits
-pub leaves_start : (x : Passed) (waits : Bool) (q : Place) (body : ℕ) (args : Arguments)
-    → x ≡ Start waits q body args → waits ≡ leaves_list x
-leaves_start x waits q body args e = ap leaves_list (sym e)
-
 -- ---- `unlist`
 module _ (w : List ℕ) (c : ℕ) (x : Passed) where
   leaves_is : leaves_list x ≡ true → unlisted_in w c x ≡ left_in w c

@@ -1,17 +1,18 @@
 -- Events: what stands in the way of a generation and of an await, test by test, and what follows
 -- where nothing does. Assumes nothing.
-use Prim.Native.Nat.{ℕ, ◌+◌, ◌*◌, ◌-◌, ◌<◌, ◌≤◌}
-use mathlib.Core.Path.{◌≡◌, refl, sym, ap, ap₂, ◌∙◌}
+use Rattle.std.specs.Prelude.{Option, Some, None}
+use Prim.Native.Nat.{ℕ, ◌+◌, ◌*◌, ◌<◌, ◌≤◌}
+use mathlib.Core.Path.{◌≡◌, refl, sym, ap, ◌∙◌}
 use mathlib.Core.List.{List}
-use mathlib.Core.Bool.{Bool, true, false, ◌&&◌, ◌||◌, not}
+use mathlib.Core.Bool.{Bool, true, false, ◌&&◌, not}
 use native.Mathlib.Omega.{arith}
 use lib.ListN.{length}
 use lib.ListN.{set}
-use lib.Dec.{eqb, ltb}
-use borrow.Author.Tests.{eqb-true, eq-eqb, ne_eqb, not-true, not-false, ltb-true}
+use lib.Dec.{eqb}
+use borrow.Author.Tests.{eqb-true, eq-eqb, ne_eqb, not-false, ltb-true}
 use Rattle.basics.specs.If.{when◌then◌else◌}
 use Rattle.basics.proofs.Ifs.{yes, no, if_all, and_true}
-use Rattle.language.specs.Places.{private, is_scheduler}
+use Rattle.language.specs.Places.{is_scheduler}
 use Rattle.language.specs.declared.Place.{Place}
 use Rattle.language.specs.declared.frame.Frame.{Frame}
 use Rattle.program.specs.Programs.{program_of, events_of}
@@ -23,7 +24,7 @@ use Rattle.groups.proofs.MemberLaws.{room_each}
 use Rattle.commits.specs.declared.decision.Passed.TheVariants.{Keep, Wake}
 use Rattle.commits.specs.declared.decision.Decision.{Decision}
 use Rattle.commits.specs.declared.decision.Decision.TheVariants.{Refuse, Settle, Suspend}
-use Rattle.commits.specs.Inner.Commits.{room_in, owns_event, wake_room_in, present_in}
+use Rattle.commits.specs.Inner.Commits.{owns_event, wake_room_in, present_in}
 use Rattle.commits.specs.Inner.Commits.{await_room_in, signal_obstacle, generate_obstacle}
 use Rattle.commits.specs.Inner.Commits.{await_obstacle, generate_tested}
 use Rattle.commits.specs.Inner.Commits.{await_tested, Grouping, grouping, members_by}
@@ -31,31 +32,20 @@ use Rattle.commits.specs.Inner.Commits.{GroupingFits}
 use Rattle.commits.specs.Inner.Commits.{left_in, joined_in, generated_in, awaiting_in}
 use Rattle.commits.specs.Inner.Commits.{CommitWords}
 use Rattle.language.specs.Inner.Reads.{place_read}
-use Rattle.language.specs.declared.PlaceRead.{PlaceRead}
-use Rattle.language.specs.declared.PlaceRead.TheVariants.{At, NoPlace}
 use Rattle.language.proofs.PlaceLaws.{read_none, read_at}
 use Rattle.acts.specs.declared.act.Action.{Action}
 
--- ---- `owns`: b is whether the place is a scheduler
-module _ (G : Grouping) (p o : ℕ) (b : Bool) (e : b ≡ is_scheduler p) where
-  pub owns_none : not b ≡ true → false ≡ owns_event G p o
-  owns_none h = rw (sym e ∙ not-true b h)
+-- ---- `has_wake_room`: x is the place that m, the owner's number, was read as
+scheduler_read : (o m : ℕ) (x : Option Place) → x ≡ place_read (is_scheduler m) m → m ≡ o
+    → x ≡ place_read (is_scheduler o) o
+scheduler_read o m x s v = s ∙ ap (λ (k : ℕ). place_read (is_scheduler k) k) v
 
-  pub owns_own : (n : Bool) → not b ≡ false → n ≡ in_group G.labels p o → n ≡ owns_event G p o
-  owns_own n h k = k ∙ sym (rw (sym e ∙ not-false b h))
-
-  pub owns_scheduler : not b ≡ false → is_scheduler p ≡ true
-  owns_scheduler h = sym e ∙ not-false b h
-
-pub ruleset owns_laws = (owns_none, owns_own)
-
--- ---- `has_wake_room`: x is the place that the owner's number was read as
-module _ (G : Grouping) (w : List ℕ) (o e : ℕ) (x : PlaceRead) (r : x ≡ place_read (is_scheduler o) o) where
-  pub wake_none : x ≡ NoPlace → false ≡ wake_room_in G w o e
+module _ (G : Grouping) (w : List ℕ) (o e : ℕ) (x : Option Place) (r : x ≡ place_read (is_scheduler o) o) where
+  pub wake_none : x ≡ None → false ≡ wake_room_in G w o e
   unfolding wake_room_in
   wake_none h = rw (read_none (is_scheduler o) o (sym r ∙ h))
 
-  module _ (q : Place) (h : x ≡ At q) where
+  module _ (q : Place) (h : x ≡ Some q) where
     there : (is_scheduler o ≡ true) × (q.number ≡ o)
     there = read_at (is_scheduler o) o q (sym r ∙ h)
 
@@ -64,11 +54,11 @@ module _ (G : Grouping) (w : List ℕ) (o e : ℕ) (x : PlaceRead) (r : x ≡ pl
     wake_room y k =
         k ∙ ap (λ (n : ℕ). room_on_each (members_by G n) e w) there.1 ∙ sym (rw there.0)
 
-pub owner_group : (labels : List ℕ) (n o : ℕ) (x : PlaceRead) (q : Place)
-    → x ≡ place_read (is_scheduler o) o → x ≡ At q → GroupingFits (grouping labels n)
+pub owner_group : (labels : List ℕ) (n o m : ℕ) (x : Option Place) (q : Place)
+    → x ≡ place_read (is_scheduler m) m → m ≡ o → x ≡ Some q → GroupingFits (grouping labels n)
     → GroupOf labels n q.number
-owner_group labels n o x q r h f =
-    let z = read_at (is_scheduler o) o q (sym r ∙ h) in
+owner_group labels n o m x q s v h f =
+    let z = read_at (is_scheduler o) o q (sym (scheduler_read o m x s v) ∙ h) in
     record { labelled = f.labelled; scheduler = ap is_scheduler z.1 ∙ z.0; few = f.few }
 
 -- ---- `signal_obstacle`: r is whether there is room, o whether the event is one's own
@@ -103,31 +93,6 @@ module _ (G : Grouping) (r : Bool) (x : EventFound) (p : ℕ) where
       by false n = refl
 
 pub ruleset signal_laws = (signal_missing, signal_full, signal_foreign, signal_free)
-
--- ---- `has_await_room`: b is whether the event is present
-module _ (w : List ℕ) (x : EventFound) (p e : ℕ) where
-  pub await_missing : not x.there ≡ true → false ≡ (x.there && await_room_in w p e)
-  await_missing h = rw (not-true x.there h)
-
-  module _ (b : Bool) (h : not x.there ≡ false) (k : b ≡ present_in w e) where
-    await_there : {r : Bool} → r ≡ (b || eqb p private || room_in w p 1)
-        → r ≡ (x.there && await_room_in w p e)
-    await_there q =
-        q ∙ ap₂ (λ (t c : Bool). t && (c || eqb p private || room_in w p 1))
-        (sym (not-false x.there h)) k
-
-    pub await_present : b ≡ true → true ≡ (x.there && await_room_in w p e)
-    await_present a = await_there (rw a)
-
-    module _ (y : Bool) (z : y ≡ eqb p private) (a : b ≡ false) where
-      pub await_unlinked : y ≡ true → true ≡ (x.there && await_room_in w p e)
-      await_unlinked c = await_there (rw (a, sym z ∙ c))
-
-      pub await_list : (r : Bool) → y ≡ false → r ≡ room_in w p 1
-          → r ≡ (x.there && await_room_in w p e)
-      await_list r c d = await_there (rw (a, sym z ∙ c) d)
-
-pub ruleset await_room_laws = (await_missing, await_present, await_unlinked, await_list)
 
 -- ---- what is decided; r is whether there is room, n is what stands in the way
 module _ (G : Grouping) (w : List ℕ) (x y : EventFound) (q : Place) (e n : ℕ) (r : Bool)
@@ -189,11 +154,6 @@ unfolding event_in program_of
 event_small fs e x q l h =
     let a = ltb-true e (length (events_of fs)) (sym (ap (λ (y : EventFound). y.there) q) ∙ h) in
     omega arith
-
--- where it was not found missing
-pub found_small : (e : ℕ) (x : EventFound) → (x.there ≡ true → e < 16)
-    → not x.there ≡ false → e < 16
-found_small e x h n = h (not-false x.there n)
 
 -- ---- where nothing stands in the way; r is whether there is room
 module _ (G : Grouping) (r : Bool) (x : EventFound) (p : ℕ) where

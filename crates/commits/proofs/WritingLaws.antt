@@ -1,23 +1,22 @@
 -- The single writes that a commit is made of: cells cleared, a thread settled, a scheduler's list
 -- left or joined, and the test of room before it. Assumes nothing.
+use Rattle.std.specs.Prelude.{Option, Some, None}
 use Prim.Native.Nat.{ℕ, zero, suc, ◌+◌, ◌*◌, ◌-◌, ◌<◌, ◌≤◌}
 use mathlib.Core.Path.{◌≡◌, refl, sym, ap, ◌∙◌}
 use mathlib.Core.List.{List, [], ◌∷◌}
 use mathlib.Core.Bool.{Bool, true, false, not}
 use native.Mathlib.Omega.{arith}
-use lib.ListN.{get_or, length, set, replicate, length-replicate, get_or-replicate}
+use lib.ListN.{get_or, length, set, replicate}
 use lib.Seq.{get_or-set_other}
 use lib.Dec.{leb, ltb, eqb}
-use borrow.Author.Tests.{not-true, not-false}
+use borrow.Author.Tests.{not-false}
 use Rattle.basics.proofs.Ifs.{yes, no, if_all, and_true}
 use Rattle.language.specs.Places.{home, is_place, is_scheduler}
 use Rattle.language.specs.Inner.Reads.{place_read}
 use Rattle.language.specs.declared.Place.{Place}
-use Rattle.language.specs.declared.PlaceRead.{PlaceRead}
-use Rattle.language.specs.declared.PlaceRead.TheVariants.{At, NoPlace}
 use Rattle.language.proofs.PlaceLaws.{read_at, read_none, test_bounds}
 use Rattle.machine.specs.Inner.Blocks.{part, pasted}
-use Rattle.machine.proofs.WordLaws.{pasted_zero, pasted_more}
+use Rattle.machine.proofs.WordLaws.{pasted_zero}
 use Rattle.lists.specs.Inner.Lists.{shifted, without_first, with_last}
 use Rattle.states.specs.declared.thread.ThreadWords.{ThreadWords}
 use Rattle.states.specs.Inner.Threads.{thread_in, put_thread}
@@ -29,37 +28,26 @@ use Rattle.commits.specs.Inner.Commits.{SettleWords}
 use Rattle.commits.proofs.ChangeLaws.{popped_wide, changed_wide, popped_items}
 use Rattle.commits.proofs.ChangeLaws.{popped_values, popped_place}
 
--- ---- cells cleared: before the loop, a turn of it, and the count written after it
+-- ---- cells cleared: none there, and some; the count is written after that
 
--- the words of the cells from `from` on, of which so many are 0 already
+-- the words of the cells from `from` on, of which so many are 0
 abbrev zeroed : List ℕ → ℕ → ℕ → ℕ → List ℕ
 zeroed w from upto n = pasted w (4578 + from) (replicate (upto - from) 0) n
 
-pub cells_start : (w : List ℕ) (from upto : ℕ) → w ≡ zeroed w from upto (from - from)
-cells_start w from upto =
-    let z : 0 ≡ from - from = omega arith in
-    pasted_zero w (4578 + from) (replicate (upto - from) 0) ∙ ap (zeroed w from upto) z
+pub cells_none : (w : List ℕ) (from : ℕ) → get_or w 1 0 ≤ from → set w 1 from ≡ cleared_in w from
+unfolding cleared_in
+cells_none w from l =
+    let z : 0 ≡ get_or w 1 0 - from = omega arith in
+    ap (λ (v : List ℕ). set v 1 from)
+    (pasted_zero w (4578 + from) (replicate (get_or w 1 0 - from) 0)
+    ∙ ap (zeroed w from (get_or w 1 0)) z)
 
-module _ (w v : List ℕ) (from upto j : ℕ) (e : v ≡ zeroed w from upto (j - from)) where
-  pub cells_more : length w ≡ 4834 → upto ≤ 256 → from ≤ j → j < upto
-      → set v (4578 + j) 0 ≡ zeroed w from upto (j + 1 - from)
-  cells_more l u f g =
-      let m : j - from < upto - from = omega arith in
-      let y : 4578 + j ≡ 4578 + from + (j - from) = omega arith in
-      let z : j - from + 1 ≡ j + 1 - from = omega arith in
-      ap (λ (k : ℕ). set v k 0) y
-      ∙ pasted_more w (replicate (upto - from) 0) v (4578 + from) (j - from) 0 e
-      (sym (get_or-replicate (upto - from) (j - from) 0 0 m)) (omega arith)
-      (rw (length-replicate {A = ℕ} (upto - from) 0) m)
-      ∙ ap (zeroed w from upto) z
-
-  pub cells_end : upto ≡ get_or w 1 0 → j - from ≤ upto - from → upto ≤ j
-      → set v 1 from ≡ cleared_in w from
-  unfolding cleared_in
-  cells_end n a b =
-      let z : j - from ≡ upto - from = omega arith in
-      ap (λ (l : List ℕ). set l 1 from) (e ∙ ap (zeroed w from upto) z)
-      ∙ ap (λ (k : ℕ). set (zeroed w from k (k - from)) 1 from) n
+pub cells_filled : (w v : List ℕ) (from k : ℕ) → k ≡ get_or w 1 0 - from
+    → v ≡ pasted w (4578 + from) (replicate k 0) k → set v 1 from ≡ cleared_in w from
+unfolding cleared_in
+cells_filled w v from k e h =
+    ap (λ (u : List ℕ). set u 1 from)
+    (h ∙ ap (λ (m : ℕ). pasted w (4578 + from) (replicate m 0) m) e)
 
 -- ---- a thread settled: its top item is taken off, then the change made
 module _ (w : List ℕ) (k : ℕ) (c : Change) (h : SettleWords w k c) (v : List ℕ)
@@ -99,12 +87,12 @@ module _ (w : List ℕ) (k : ℕ) (c : Change) (h : SettleWords w k c) (v : List
 pub list_block : (q : ℕ) → is_scheduler q ≡ true → (2 ≤ q) × (q - 2 < 8)
 list_block q e = let (low, high) = test_bounds 2 q e in (low, omega arith)
 
-module _ (w : List ℕ) (c : ℕ) (x : PlaceRead) (e : x ≡ place_read (is_scheduler c) c) where
-  pub left_none : x ≡ NoPlace → w ≡ left_in w c
+module _ (w : List ℕ) (c : ℕ) (x : Option Place) (e : x ≡ place_read (is_scheduler c) c) where
+  pub left_none : x ≡ None → w ≡ left_in w c
   unfolding left_in
   left_none h = no _ (read_none (is_scheduler c) c (sym e ∙ h)) refl
 
-  module _ (q : Place) (h : x ≡ At q) where
+  module _ (q : Place) (h : x ≡ Some q) where
     there : (is_scheduler c ≡ true) × (q.number ≡ c)
     there = read_at (is_scheduler c) c q (sym e ∙ h)
 
@@ -154,24 +142,9 @@ module _ (w : List ℕ) (q n : ℕ) where
   unfolding joined_in
   joined v e f = yes _ e f
 
-  module _ (b : Bool) (e : b ≡ is_scheduler q) where
-    pub room_none : not b ≡ true → false ≡ room_in w q n
-    unfolding room_in
-    room_none h = rw (sym e ∙ not-true b h)
-
-    pub room_list : (r : Bool) → r ≡ leb (get_or w (67 + 130 * (q - home)) 0 + n) 64 → not b ≡ false
-        → r ≡ room_in w q n
-    unfolding room_in
-    room_list r f h = rw (sym e ∙ not-false b h) f
-
-    pub tested_scheduler : not b ≡ false → is_scheduler q ≡ true
-    tested_scheduler h = sym e ∙ not-false b h
-
   -- where there is room, there is a list
   pub room_scheduler : (r : Bool) → r ≡ room_in w q n → not r ≡ false → is_scheduler q ≡ true
   unfolding room_in
   room_scheduler r e h =
       let fits = leb (get_or w (67 + 130 * (q - home)) 0 + n) 64 in
       (and_true (is_scheduler q) fits (sym e ∙ not-false r h)).0
-
-pub ruleset room_laws = (room_none, room_list)

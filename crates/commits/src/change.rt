@@ -13,15 +13,15 @@ use machine::offset::{BACK_FROM, DROP_WORD, ITEMS_FIELD, THREAD_LENGTH, THREADS_
 use states::stack::{end_thread, move_to, pop_item, pop_value, push_item, push_value};
 
 // The top item off the continuation; where there is none, nothing changes.
+#[tactic(auto, using(crate::proofs::ChangeLaws::taken_none, crate::proofs::ChangeLaws::taken))]
 pub(crate) fn take_item(state: &mut [u64], k: usize)
     requires { ThreadSpace state.old k × ((thread_in state.old k).items ≤ most_items) }
     ensures { state.new
         ≡ put_thread state.old k (popped (thread_in state.old k)) }
 {
-    if state[THREADS_AT + THREAD_LENGTH * k + ITEMS_FIELD] == 0 {
-        return;
+    if state[THREADS_AT + THREAD_LENGTH * k + ITEMS_FIELD] != 0 {
+        pop_item(state, k);
     }
-    pop_item(state, k);
 }
 
 fn push_two(state: &mut [u64], k: usize, top: u64, below: u64)
@@ -77,13 +77,7 @@ pub(crate) fn place_after(change: Change, place: Place) -> Place
     ensures { result ≡ place_after change place }
 {
     match change {
-        Change::Same => place,
-        Change::Item(a) => place,
-        Change::Items(top, below) => place,
-        Change::Let(value, body) => place,
-        Change::Drop => place,
-        Change::Move(q) => q,
-        Change::Enter(q, body) => q,
-        Change::End => place,
+        Change::Move(q) | Change::Enter(q, _) => q,
+        _ => place,
     }
 }

@@ -24,13 +24,10 @@ use machine::offset::{AWAITING_FROM, WAITING_FACTOR};
 fn leaves(passed: Passed) -> bool
     ensures { result ≡ leaves_list passed }
 {
-    match passed {
-        Passed::Keep => false,
-        Passed::Leave => true,
-        Passed::Join(q) => true,
-        Passed::Start(waits, place, body, args) => waits,
-        Passed::Wake(q, e) => false,
-    }
+    matches!(
+        passed,
+        Passed::Leave | Passed::Join(_) | Passed::Start(true, _, _, _)
+    )
 }
 
 // The active list, where the thread leaves it.
@@ -51,8 +48,7 @@ fn enlist(labels: &[u8; LABELS], schedulers: u8, state: &mut [u64], t: u64, pass
         state.old t passed }
 {
     match passed {
-        Passed::Keep => {}
-        Passed::Leave => {}
+        Passed::Keep | Passed::Leave => {}
         Passed::Join(q) => join(state, q, t),
         Passed::Start(waits, place, body, args) => start(state, t, place, body, waits, args),
         Passed::Wake(q, e) => generate(labels, schedulers, state, q, e),
@@ -85,7 +81,7 @@ fn suspend(state: &mut [u64], choice: u64, t: u64, q: Place, e: u8)
         ≡ awaiting_in state.old choice t q.number e }
 {
     leave(state, choice);
-    join(state, q, AWAITING_FROM + WAITING_FACTOR * e as u64 + t);
+    join(state, q, AWAITING_FROM + WAITING_FACTOR * u64::from(e) + t);
 }
 
 // The answer. The turn of thread t has changed the cells and their count; `before` cells were in

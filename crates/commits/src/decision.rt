@@ -45,20 +45,16 @@ pub(crate) enum Decision {
 }
 
 // What stands in the way of a start, stuck before spent; 0 where nothing does.
+#[tactic(auto, using(crate::proofs::DecisionLaws::obstacle_laws))]
 fn obstacle(state: &[u64], found: ModuleFound, place: Place, given: u64) -> u8
     requires { length state.now ≡ state_length }
     ensures { result ≡ obstacle_in state.now found place.number given }
 {
-    if place.is_private() {
-        return STUCK;
-    }
-    if !found.there {
-        return STUCK;
-    }
-    if found.parameters != given {
-        return STUCK;
-    }
-    if !room_at(state, place, 1) {
+    if place.is_private()
+        || !found.there
+        || found.parameters != given
+        || !room_at(state, place, 1)
+    {
         return STUCK;
     }
     if MOST_THREADS as u64 <= thread_count(state) {
@@ -68,6 +64,7 @@ fn obstacle(state: &[u64], found: ModuleFound, place: Place, given: u64) -> u8
 }
 
 // The room for a starter that waits is tested last.
+#[tactic(auto, using(crate::proofs::DecisionLaws::start_laws))]
 fn decide_start(
     frames: &[u64],
     state: &[u64],
@@ -87,10 +84,8 @@ fn decide_start(
     if no != 0 {
         return Decision::Refuse(no);
     }
-    if waits {
-        if !room_at(state, place, 2) {
-            return Decision::Refuse(STUCK);
-        }
+    if waits && !room_at(state, place, 2) {
+        return Decision::Refuse(STUCK);
     }
     Decision::Settle(Passed::Start(waits, place, found.body, args))
 }

@@ -14,9 +14,9 @@ ghost use Rattle.lists.specs.Inner.Lists.{ListsFit};
 use crate::decision::{Decision, Passed};
 use crate::writing::room_at;
 use groups::{room_on_each, wake_on_each};
+use language::Place;
 use language::group::{LABELS, is_member};
 use language::refusal::{FOREIGN, STUCK};
-use language::{Place, PlaceRead};
 use program::event::{EventFound, event_at};
 use states::event::{is_present, set_present};
 
@@ -26,10 +26,7 @@ fn owns(labels: &[u8; LABELS], schedulers: u8, place: Place, owner: u8) -> bool
     ensures { result
         ≡ owns_event (grouping labels.now schedulers) place.number owner }
 {
-    if !place.is_scheduler() {
-        return false;
-    }
-    is_member(labels, place, owner)
+    place.is_scheduler() && is_member(labels, place, owner)
 }
 
 // Who awaits the event has room in the active list of each member of the owner's group.
@@ -39,13 +36,14 @@ fn has_wake_room(labels: &[u8; LABELS], schedulers: u8, state: &[u64], owner: u8
     ensures { result ≡ wake_room_in (grouping labels.now schedulers)
         state.now owner e }
 {
-    match Place::scheduler(owner as u64) {
-        PlaceRead::At(q) => room_on_each(labels, schedulers, q, state, e),
-        PlaceRead::NoPlace => false,
+    match Place::scheduler(u64::from(owner)) {
+        Some(q) => room_on_each(labels, schedulers, q, state, e),
+        None => false,
     }
 }
 
 // What stands in the way of a generation or an await, missing before foreign; 0 where nothing does.
+#[tactic(auto, using(crate::proofs::SignalLaws::signal_laws))]
 fn signal_obstacle(
     labels: &[u8; LABELS],
     schedulers: u8,
@@ -57,10 +55,7 @@ fn signal_obstacle(
     ensures { result ≡ signal_obstacle (grouping labels.now schedulers) room event
         place.number }
 {
-    if !event.there {
-        return STUCK;
-    }
-    if !room {
+    if !event.there || !room {
         return STUCK;
     }
     if !owns(labels, schedulers, place, event.owner) {
@@ -100,16 +95,7 @@ fn has_await_room(state: &[u64], event: EventFound, place: Place, e: u8) -> bool
     ensures { result
         ≡ (event.there && await_room_in state.now place.number e) }
 {
-    if !event.there {
-        return false;
-    }
-    if is_present(state, e) {
-        return true;
-    }
-    if place.is_private() {
-        return true;
-    }
-    room_at(state, place, 1)
+    event.there && (is_present(state, e) || place.is_private() || room_at(state, place, 1))
 }
 
 // 1B, by a thread that stands at that place.

@@ -20,10 +20,8 @@ pub(crate) fn clear_cells(state: &mut [u64], from: usize)
     ensures { state.new ≡ cleared_in state.old from }
 {
     let upto = state[CELL_COUNT_AT] as usize;
-    let mut j = from;
-    while j < upto {
-        state[CELLS_AT + j] = 0;
-        j += 1;
+    if from < upto {
+        state[CELLS_AT + from..CELLS_AT + upto].fill(0);
     }
     state[CELL_COUNT_AT] = from as u64;
 }
@@ -40,14 +38,12 @@ pub(crate) fn settle(state: &mut [u64], k: usize, change: Change)
 }
 
 // So many more entries have room in the next list of q; only a scheduler has one.
+#[tactic(auto, unfolding(crate::specs::Inner::Commits::room_in))]
 pub(crate) fn room_at(state: &[u64], q: Place, more: u8) -> bool
     requires { length state.now ≡ state_length }
     ensures { result ≡ room_in state.now q.number more }
 {
-    if !q.is_scheduler() {
-        return false;
-    }
-    has_room(state, q, more)
+    q.is_scheduler() && has_room(state, q, more)
 }
 
 // The entry is the last of the next list of q.

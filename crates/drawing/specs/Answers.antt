@@ -1,9 +1,9 @@
 -- The writer's promise: its answer by the rules and as a function, and that both are one.
 use Rattle.std.specs.Prelude.{◌≡◌}
 use Rattle.basics.specs.Prelude.{List, ℕ, length}
-use Rattle.language.specs.declared.verdict.Verdict.TheVariants.{Accepted}
+use Rattle.language.specs.Verdicts.{Accepted}
 use Rattle.text.specs.Inner.Reading.{reading}
-use Rattle.layout.specs.{LaidOut.HasLayout, declared.LayoutVerdict.TheVariants.LaidOut}
+use Rattle.layout.specs.{LaidOut.HasLayout, Verdicts.LaidOut}
 use Rattle.drawing.specs.{Drawings.drawing, Texts.lines_in}
 use Rattle.drawing.specs.Writings.{Writing, as_writing, HasWriting}
 use Rattle.drawing.specs.Inner.Finds.{writing_read}

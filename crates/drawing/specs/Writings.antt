@@ -2,8 +2,8 @@
 -- Nothing is computed here.
 use Rattle.std.specs.Prelude.{◌≤◌, ◌≡◌}
 use Rattle.basics.specs.Prelude.{List, ℕ, length}
-use Rattle.language.specs.{declared.frame.Frame.Frame, declared.verdict.Verdict.Verdict}
-use Rattle.language.specs.declared.verdict.Verdict.TheVariants.{Accepted, Rejected}
+use Rattle.language.specs.{declared.frame.Frame.Frame, Verdicts.Verdict}
+use Rattle.language.specs.Verdicts.{Accepted, Rejected}
 use Rattle.language.specs.Refusals.{wrong_field, wrong_tree, wrong_order, too_deep, wrong_state}
 use Rattle.text.specs.Reading.{Reads, frames, refused}
 use Rattle.layout.specs.Faults.{Fault, FirstFault}

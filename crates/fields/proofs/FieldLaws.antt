@@ -1,7 +1,7 @@
 -- How the code tests the header and the values of fields: places, types, first contents. Assumes
 -- nothing.
 use mathlib.Core.Path.{◌≡◌, refl, sym, ap, ◌∙◌}
-use mathlib.Core.Bool.{Bool, true, false, not, ◌&&◌, ◌||◌}
+use mathlib.Core.Bool.{Bool, true, false, not, ◌&&◌}
 use mathlib.Core.List.{List}
 use mathlib.Core.Option.{Option, none, some}
 use Prim.Native.Nat.{ℕ, ◌%◌, ◌≤◌, ◌<◌}
@@ -27,32 +27,6 @@ use Rattle.fields.specs.Fields.{first_content_fine}
 use Rattle.fields.specs.Inner.Scans.{header_alone, header_fault, found}
 
 -- ---- the header
-module _ (f : Frame) (x : Bool) (h : x ≡ is_header f.kind) where
-  pub header_kind : not x ≡ true → false ≡ header_alone f
-  unfolding header_alone
-  header_kind n = rw (sym h ∙ not-true x n)
-
-  pub header_version : not x ≡ false → (f.s ≡ 1 → ⊥) → false ≡ header_alone f
-  unfolding header_alone
-  header_version n s = rw (sym h ∙ not-false x n, ne_eqb f.s 1 s)
-
-  pub header_few : not x ≡ false → f.s ≡ 1 → f.b < 1 → false ≡ header_alone f
-  unfolding header_alone
-  header_few n s l = rw (sym h ∙ not-false x n, eq-eqb f.s 1 s, lt-leb 1 f.b l)
-
-  pub header_many : not x ≡ false → f.s ≡ 1 → 1 ≤ f.b → 8 < f.b → false ≡ header_alone f
-  unfolding header_alone
-  header_many n s l m =
-      rw (sym h ∙ not-false x n, eq-eqb f.s 1 s, le-leb 1 f.b l, lt-leb f.b 8 m)
-
-  pub header_right : not x ≡ false → f.s ≡ 1 → 1 ≤ f.b → f.b ≤ 8
-      → leb f.c 16 ≡ header_alone f
-  unfolding header_alone
-  header_right n s l m =
-      rw (sym h ∙ not-false x n, eq-eqb f.s 1 s, le-leb 1 f.b l, le-leb f.b 8 m)
-
-pub ruleset header_laws = (header_kind, header_version, header_few, header_many, header_right)
-
 -- the number of events is asked last
 fine_split : (fs : List Frame) (b : Bool) → b ≡ header_alone (frame_at fs 0)
     → (b && eqb (count_of is_event fs) (frame_at fs 0).c) ≡ header_fine fs
@@ -134,14 +108,6 @@ module _ (fs : List Frame) (s v b : ℕ) (x : Bool) (e : b ≡ schedulers_of fs)
 pub ruleset lower_laws = (lower_none, lower_some)
 
 -- ---- the other fields
-pub further_none : (a v : ℕ) → v ≡ 0 → true ≡ (eqb v 0 || not (eqb a 0))
-further_none a v e = rw (eq-eqb v 0 e)
-
-pub further_some : (a v : ℕ) → (v ≡ 0 → ⊥) → not (eqb a 0) ≡ (eqb v 0 || not (eqb a 0))
-further_some a v n = rw (ne_eqb v 0 n)
-
-pub ruleset further_laws = (further_none, further_some)
-
 module _ (b n s v : ℕ) where
   pub type_unused : s < n → eqb v 0 ≡ (when leb n s then type_word b v else eqb v 0)
   type_unused l = no _ (lt-leb n s l) refl

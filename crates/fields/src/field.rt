@@ -19,7 +19,7 @@ ghost use Rattle.fields.specs.Inner.Scans.{TallyWords};
 use crate::fault_search::FaultSearch;
 use language::Place;
 use language::frame::Frame;
-use language::kind::{DeclarationKind, ExpressionKind, Kind, StatementKind, is_header};
+use language::kind::{DeclarationKind, ExpressionKind, Kind, StatementKind};
 use language::limit::{MOST_EVENTS, MOST_MODULES, MOST_PARAMETERS, MOST_SCHEDULERS, MOST_SHARED};
 use language::type_word::{TRUTH, is_cell, is_content_word, is_type_word};
 use program::frames::frame_at;
@@ -36,23 +36,11 @@ struct Tally {
 }
 
 // Whether a header is right, but for the count of the events.
+#[tactic(auto, unfolding(crate::specs::Inner::Scans::header_alone))]
 fn header_fine(f: Frame) -> bool
     ensures { result ≡ header_alone f }
 {
-    let kind = f.kind;
-    if !is_header(kind) {
-        return false;
-    }
-    if f.s != 1 {
-        return false;
-    }
-    if f.b < 1 {
-        return false;
-    }
-    if MOST_SCHEDULERS < f.b {
-        return false;
-    }
-    f.c <= MOST_EVENTS
+    f.kind.is_header() && f.s == 1 && 1 <= f.b && f.b <= MOST_SCHEDULERS && f.c <= MOST_EVENTS
 }
 
 // How many events the file declares, bad and misplaced ones too.
@@ -60,11 +48,8 @@ fn count_events(words: &[u64]) -> usize
     ensures { result ≡ count_of is_event (frames_of words.now) }
 {
     let mut n: usize = 0;
-    let mut i: usize = 0;
-    while i < words.len() {
-        let line = words[i];
-        i += 1;
-        if line_declares(DeclarationKind::Event, line) {
+    for line in words {
+        if line_declares(DeclarationKind::Event, *line) {
             n += 1;
         }
     }
@@ -110,25 +95,20 @@ fn scheduler_fine(words: &[u64], v: u8) -> bool
 }
 
 // A scheduler below s.
+#[tactic(auto, using(crate::proofs::FieldLaws::lower_laws))]
 fn lower_fine(words: &[u64], s: u8, v: u16) -> bool
     requires { HeaderWords words.now }
     ensures { result
         ≡ (has_scheduler (schedulers_of (frames_of words.now)) v && ltb v s) }
 {
-    if !Place::is_scheduler_in_file(v as u64, schedulers_in(words)) {
-        return false;
-    }
-    v < s as u16
+    Place::is_scheduler_in_file(v as u64, schedulers_in(words)) && v < s as u16
 }
 
 // The second argument needs the first.
 fn further_fine(a: u16, v: u16) -> bool
     ensures { result ≡ (eqb v 0 || not (eqb a 0)) }
 {
-    if v == 0 {
-        return true;
-    }
-    a != 0
+    v == 0 || a != 0
 }
 
 // The type of the parameter `n`, of s parameters.
@@ -144,21 +124,16 @@ fn type_fine(words: &[u64], n: u8, s: u8, v: u16) -> bool
 }
 
 // Of the content type k, v is a first content.
+#[tactic(auto, using(crate::proofs::FieldLaws::content_laws))]
 fn first_content_fine(t: Tally, k: u16, v: u16) -> bool
     requires { (t.cells ≤ most_shared) × (length t.types ≡ most_shared) }
     ensures { result ≡ first_content_fine (take t.cells t.types) k v }
 {
     if is_cell(k) {
         let j = v as usize;
-        if t.cells <= j {
-            return false;
-        }
-        return t.types[j] == k;
+        return j < t.cells && t.types[j] == k;
     }
-    if k != TRUTH {
-        return true;
-    }
-    v <= 1
+    k != TRUTH || v <= 1
 }
 
 // Which fields of a statement or of an expression are in use: the others are 0. Each contract names
@@ -166,49 +141,25 @@ fn first_content_fine(t: Tally, k: u16, v: u16) -> bool
 fn none_used(f: Frame) -> bool
     ensures { result ≡ fields_fine [] 0 f (statement_uses StatementKind.Nothing) }
 {
-    if f.s != 0 {
-        return false;
-    }
-    if f.a != 0 {
-        return false;
-    }
-    if f.b != 0 {
-        return false;
-    }
-    f.c == 0
+    f.s == 0 && f.a == 0 && f.b == 0 && f.c == 0
 }
 
 fn s_used(f: Frame) -> bool
     ensures { result ≡ fields_fine [] 0 f (expression_uses ExpressionKind.Variable) }
 {
-    if f.a != 0 {
-        return false;
-    }
-    if f.b != 0 {
-        return false;
-    }
-    f.c == 0
+    f.a == 0 && f.b == 0 && f.c == 0
 }
 
 fn a_used(f: Frame) -> bool
     ensures { result ≡ fields_fine [] 0 f (expression_uses ExpressionKind.Number) }
 {
-    if f.s != 0 {
-        return false;
-    }
-    if f.b != 0 {
-        return false;
-    }
-    f.c == 0
+    f.s == 0 && f.b == 0 && f.c == 0
 }
 
 fn a_b_used(f: Frame) -> bool
     ensures { result ≡ fields_fine [] 0 f (statement_uses StatementKind.Then) }
 {
-    if f.s != 0 {
-        return false;
-    }
-    f.c == 0
+    f.s == 0 && f.c == 0
 }
 
 fn a_b_c_used(f: Frame) -> bool
@@ -221,20 +172,14 @@ fn a_b_c_used(f: Frame) -> bool
 fn truth_fine(f: Frame) -> bool
     ensures { result ≡ fields_fine [] 0 f (expression_uses ExpressionKind.Truth) }
 {
-    if 1 < f.s {
-        return false;
-    }
-    s_used(f)
+    f.s <= 1 && s_used(f)
 }
 
 // The arguments of a start.
 fn arguments_fine(f: Frame) -> bool
     ensures { result ≡ fields_fine [] 0 f (statement_uses StatementKind.Start) }
 {
-    if !further_fine(f.a, f.b) {
-        return false;
-    }
-    f.c == 0
+    further_fine(f.a, f.b) && f.c == 0
 }
 
 // A place in S, a child in A.
@@ -243,13 +188,7 @@ fn placed_fine(words: &[u64], f: Frame) -> bool
     ensures { result
         ≡ fields_fine (frames_of words.now) 0 f (statement_uses StatementKind.DoAt) }
 {
-    if !place_fine(words, f.s) {
-        return false;
-    }
-    if f.b != 0 {
-        return false;
-    }
-    f.c == 0
+    place_fine(words, f.s) && f.b == 0 && f.c == 0
 }
 
 // No field of a statement or of an expression asks for the frame's number: it is 0 here.
@@ -303,19 +242,11 @@ fn shared_fine(words: &[u64], i: usize, f: Frame, t: Tally) -> bool
         × (t.cells ≤ most_shared) × (f.kind ≡ Declared Shared) }
     ensures { result ≡ frame_fine (frames_of words.now) i f }
 {
-    if !room_for_cell(t.cells) {
-        return false;
-    }
-    if !scheduler_fine(words, f.s) {
-        return false;
-    }
-    if !is_content_word(schedulers_in(words), f.a) {
-        return false;
-    }
-    if !first_content_fine(t, f.a, f.b) {
-        return false;
-    }
-    f.c == 0
+    room_for_cell(t.cells)
+        && scheduler_fine(words, f.s)
+        && is_content_word(schedulers_in(words), f.a)
+        && first_content_fine(t, f.a, f.b)
+        && f.c == 0
 }
 
 // The event f: its owner in S, and nothing more.
@@ -324,10 +255,7 @@ fn event_fine(words: &[u64], f: Frame) -> bool
     ensures { result
         ≡ fields_fine (frames_of words.now) 0 f (declaration_uses Event) }
 {
-    if !scheduler_fine(words, f.s) {
-        return false;
-    }
-    s_used(f)
+    scheduler_fine(words, f.s) && s_used(f)
 }
 
 // The link f: a scheduler in S, a lower one in A, and nothing more.
@@ -335,16 +263,7 @@ fn link_fine(words: &[u64], f: Frame) -> bool
     requires { HeaderWords words.now }
     ensures { result ≡ fields_fine (frames_of words.now) 0 f (declaration_uses Link) }
 {
-    if !scheduler_fine(words, f.s) {
-        return false;
-    }
-    if !lower_fine(words, f.s, f.a) {
-        return false;
-    }
-    if f.b != 0 {
-        return false;
-    }
-    f.c == 0
+    scheduler_fine(words, f.s) && lower_fine(words, f.s, f.a) && f.b == 0 && f.c == 0
 }
 
 // The module f, which has the number i.
@@ -353,16 +272,10 @@ fn module_fine(words: &[u64], i: usize, f: Frame, t: Tally) -> bool
         × (f.kind ≡ Module) }
     ensures { result ≡ frame_fine (frames_of words.now) i f }
 {
-    if MOST_MODULES <= t.modules {
-        return false;
-    }
-    if MOST_PARAMETERS < f.s {
-        return false;
-    }
-    if !type_fine(words, 1, f.s, f.b) {
-        return false;
-    }
-    type_fine(words, 2, f.s, f.c)
+    t.modules < MOST_MODULES
+        && f.s <= MOST_PARAMETERS
+        && type_fine(words, 1, f.s, f.b)
+        && type_fine(words, 2, f.s, f.c)
 }
 
 // Whether 5 does not name frame i: no later header, no 17th shared cell or module, and the fields
@@ -439,18 +352,7 @@ fn counted(words: &[u64], i: usize, t: Tally) -> Tally
 fn is_counted(k: Kind) -> bool
     ensures { result ≡ (is_shared k || is_module k) }
 {
-    match k {
-        Kind::Header => false,
-        Kind::Declared(d) => match d {
-            DeclarationKind::Shared => true,
-            DeclarationKind::Event => false,
-            DeclarationKind::Link => false,
-        },
-        Kind::Module => true,
-        Kind::Statement(s) => false,
-        Kind::Expression(e) => false,
-        Kind::Unknown => false,
-    }
+    matches!(k, Kind::Declared(DeclarationKind::Shared) | Kind::Module)
 }
 
 // The lowest frame with the fault 5. It stops there, so that no 17th cell is counted. With a right
@@ -464,17 +366,12 @@ pub fn fields(words: &[u64]) -> FaultSearch
         modules: 0,
         types: [0u16; MOST_SHARED],
     };
-    let mut i = 0;
-    while i < words.len() {
+    for i in 0..words.len() {
         if !frame_fine(words, i, t) {
             return FaultSearch::At(i as u16);
         }
-        let f = frame_at(words, i);
-        let kind = f.kind;
-        let here = i;
-        i += 1;
-        if is_counted(kind) {
-            t = counted(words, here, t);
+        if is_counted(frame_at(words, i).kind) {
+            t = counted(words, i, t);
         }
     }
     FaultSearch::Nowhere

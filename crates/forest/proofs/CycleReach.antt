@@ -9,7 +9,7 @@ use native.Mathlib.Omega.{arith}
 use lib.Dec.{ltb, leb, eqb}
 use borrow.Author.Tests.{ltb-true, ltb-false, eqb-true, eqb-false}
 use borrow.Author.Tests.{le-leb, not-true}
-use lib.ListN.{get_or, length, set, replicate, length-set}
+use lib.ListN.{get_or, length, replicate, length-set}
 use lib.Seq.{get_or-set_same, get_or-set_other}
 use Rattle.basics.specs.Members.{In}
 use Rattle.language.specs.Kinds.{Child, children}

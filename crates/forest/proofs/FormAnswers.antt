@@ -4,8 +4,8 @@ use mathlib.Core.Path.{◌≡◌}
 use mathlib.Core.List.{List}
 use Prim.Native.Nat.{ℕ}
 use Rattle.language.specs.declared.frame.Frame.{Frame}
-use Rattle.language.specs.declared.verdict.Verdict.{Verdict}
-use Rattle.language.specs.declared.verdict.Verdict.TheVariants.{Accepted, Rejected}
+use Rattle.language.specs.Verdicts.{Verdict}
+use Rattle.language.specs.Verdicts.{Accepted, Rejected}
 use Rattle.fields.specs.declared.fault_search.FaultSearch.{FaultSearch}
 use Rattle.fields.specs.declared.fault_search.FaultSearch.TheVariants.{At, Nowhere}
 use Rattle.fields.specs.Inner.Scans.{header_fault, field_fault, found}

@@ -44,11 +44,9 @@ fn users_of(words: &[u64], users: &mut [u16; MOST_LINES])
     requires { (length words.now ≤ most_lines) × (users.old ≡ replicate most_lines 0) }
     ensures { users.new ≡ users_of (frames_of words.now) }
 {
-    let mut i: usize = 0;
-    while i < words.len() {
+    for i in 0..words.len() {
         let f = frame_at(words, i);
         note_users(users, (i + 1) as u16, f);
-        i += 1;
     }
 }
 
@@ -80,12 +78,10 @@ pub(crate) fn depth_fault(words: &[u64]) -> FaultSearch
 {
     let mut users = [NO_USER; MOST_LINES];
     users_of(words, &mut users);
-    let mut i = 0;
-    while i < words.len() {
+    for i in 0..words.len() {
         if is_deep(&users, i) {
             return FaultSearch::At(i as u16);
         }
-        i += 1;
     }
     FaultSearch::Nowhere
 }

@@ -11,8 +11,9 @@ use crate::shape::shape_fault;
 use crate::tree::tree_fault;
 use fields::fault_search::FaultSearch;
 use fields::field::{fields, header};
-use language::refusal::{TOO_DEEP, WRONG_FIELD, WRONG_HEADER, WRONG_ORDER, WRONG_TREE};
-use language::verdict::Verdict;
+use language::refusal::{
+    Refusal, TOO_DEEP, Verdict, WRONG_FIELD, WRONG_HEADER, WRONG_ORDER, WRONG_TREE,
+};
 
 mod cycle;
 mod depth;
@@ -27,12 +28,21 @@ fn form_of(words: &[u64]) -> Verdict
     ensures { result ≡ form_verdict (frames_of words.now) }
 {
     match tree_fault(words) {
-        FaultSearch::At(j) => Verdict::Rejected(WRONG_TREE, j),
+        FaultSearch::At(frame) => Err(Refusal {
+            number: WRONG_TREE,
+            frame,
+        }),
         FaultSearch::Nowhere => match shape_fault(words) {
-            FaultSearch::At(j) => Verdict::Rejected(WRONG_ORDER, j),
+            FaultSearch::At(frame) => Err(Refusal {
+                number: WRONG_ORDER,
+                frame,
+            }),
             FaultSearch::Nowhere => match depth_fault(words) {
-                FaultSearch::At(j) => Verdict::Rejected(TOO_DEEP, j),
-                FaultSearch::Nowhere => Verdict::Accepted,
+                FaultSearch::At(frame) => Err(Refusal {
+                    number: TOO_DEEP,
+                    frame,
+                }),
+                FaultSearch::Nowhere => Ok(()),
             },
         },
     }
@@ -44,9 +54,15 @@ pub fn drawing_verdict(words: &[u64]) -> Verdict
     ensures { result ≡ drawing_verdict (frames_of words.now) }
 {
     match header(words) {
-        FaultSearch::At(j) => Verdict::Rejected(WRONG_HEADER, j),
+        FaultSearch::At(frame) => Err(Refusal {
+            number: WRONG_HEADER,
+            frame,
+        }),
         FaultSearch::Nowhere => match fields(words) {
-            FaultSearch::At(j) => Verdict::Rejected(WRONG_FIELD, j),
+            FaultSearch::At(frame) => Err(Refusal {
+                number: WRONG_FIELD,
+                frame,
+            }),
             FaultSearch::Nowhere => form_of(words),
         },
     }

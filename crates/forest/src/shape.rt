@@ -12,7 +12,7 @@ ghost use Rattle.forest.specs.Inner.FrameTests.{has_wrong_child, has_class_fault
 
 use fields::fault_search::{FaultSearch, lower};
 use language::frame::Frame;
-use language::kind::{Class, class_of, is_module};
+use language::kind::Class;
 use language::limit::MOST_LINES;
 use layout::in_order::is_left;
 use layout::uses::count_uses;
@@ -28,7 +28,7 @@ fn class_at(words: &[u64], v: u16) -> Class
     }
     let f = frame_at(words, j);
     let kind = f.kind;
-    class_of(kind)
+    kind.class()
 }
 
 // The child v, which is to be of the class k, is of another.
@@ -72,7 +72,7 @@ fn has_class_fault(words: &[u64], f: Frame, count: u8) -> bool
         return true;
     }
     let kind = f.kind;
-    is_left(class_of(kind), count)
+    is_left(kind.class(), count)
 }
 
 // The lowest frame with a child of a wrong class or left over.
@@ -84,12 +84,10 @@ fn class_fault(words: &[u64]) -> FaultSearch
 {
     let mut counts = [0u8; MOST_LINES];
     count_uses(words, &mut counts);
-    let mut i = 0;
-    while i < words.len() {
+    for i in 0..words.len() {
         if has_class_fault(words, frame_at(words, i), counts[i]) {
             return FaultSearch::At(i as u16);
         }
-        i += 1;
     }
     FaultSearch::Nowhere
 }
@@ -106,7 +104,7 @@ fn main_fault(words: &[u64]) -> FaultSearch
         n -= 1;
         let f = frame_at(words, n);
         let kind = f.kind;
-        if is_module(kind) {
+        if kind.is_module() {
             if f.s == 0 {
                 return FaultSearch::Nowhere;
             }

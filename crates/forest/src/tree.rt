@@ -66,12 +66,10 @@ fn use_fault(words: &[u64]) -> FaultSearch
 {
     let mut counts = [0u8; MOST_LINES];
     count_uses(words, &mut counts);
-    let mut i = 0;
-    while i < words.len() {
+    for i in 0..words.len() {
         if is_use_fault(words, &counts, i) {
             return FaultSearch::At(i as u16);
         }
-        i += 1;
     }
     FaultSearch::Nowhere
 }
@@ -98,12 +96,10 @@ fn cycle_fault(words: &[u64], n: usize) -> FaultSearch
         (take n (frames_of words.now))) }
 {
     let mut queue = [0u16; MOST_LINES];
-    let mut i = 0;
-    while i < n {
+    for i in 0..n {
         if is_cycle_fault(words, i, &mut queue) {
             return FaultSearch::At(i as u16);
         }
-        i += 1;
     }
     FaultSearch::Nowhere
 }

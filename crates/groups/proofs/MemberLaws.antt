@@ -2,15 +2,16 @@
 use Prim.Native.Nat.{ℕ, zero, suc, ◌+◌, ◌*◌, ◌-◌, ◌^◌, ◌<◌, ◌≤◌}
 use mathlib.Core.Path.{◌≡◌, refl, sym, ap, ◌∙◌, subst}
 use mathlib.Core.List.{List, [], ◌∷◌}
-use mathlib.Core.Bool.{Bool, true, false, not, ◌&&◌, true≢false}
+use mathlib.Core.Bool.{Bool, true, false, not, ◌&&◌, ◌||◌, true≢false}
+use native.Mathlib.Numerals.{add-one}
+use Rattle.std.specs.List.{list_any, range_with_len}
 use native.Mathlib.Omega.{arith}
 use native.Mathlib.Decide.{ℕ_discrete}
-use lib.Dec.{leb, eqb}
 use lib.ListN.{length, get_or}
-use borrow.Author.Tests.{le-leb, leb-true, not-true, not-false}
+use borrow.Author.Tests.{le-leb, leb-true}
 use Rattle.basics.specs.If.{keep_if}
 use Rattle.basics.specs.Members.{any, every}
-use Rattle.basics.proofs.Ifs.{if_all, if_yes, if_no, and_both, and_true}
+use Rattle.basics.proofs.Ifs.{if_all, if_yes, if_no, and_both}
 use Rattle.language.specs.Places.{is_place, is_scheduler}
 use Rattle.language.specs.declared.Place.{Place}
 use Rattle.language.specs.Inner.Labels.{same_label}
@@ -22,8 +23,8 @@ use Rattle.lists.specs.Inner.Families.{is_ready_word, LivingFamilies}
 use Rattle.lists.specs.Inner.Lists.{with_instant_ended, ListWords}
 use Rattle.lists.proofs.PartitionLaws.{idle_room}
 use Rattle.lists.proofs.MovedLaws.{moved_long, moved_other, moved_fits, moved_living, active_same}
-use Rattle.groups.specs.Inner.Members.{members_in, active_on, is_active_member, any_active_on}
-use Rattle.groups.specs.Inner.Members.{room_on, lacks_room, room_on_each, woken_if, woken_on, ended_if}
+use Rattle.groups.specs.Inner.Members.{members_in}
+use Rattle.groups.specs.Inner.Members.{room_on, woken_if, woken_on, ended_if}
 use Rattle.groups.specs.Inner.Members.{ready_if, ended_on, ready_on, GroupOf, PairOf, GroupWords}
 use Rattle.groups.specs.Inner.Members.{Each, HasRoomOn, IdleOn, RoomIf, IdleIf}
 
@@ -116,9 +117,6 @@ module _ {X : Type 0} (F : List ℕ → X) (whole : X) (labels : List ℕ) (p n 
       ap (λ (x : Place). is_scheduler x.number) e
       ∙ and_both _ _ (le-leb 2 k (omega arith)) (le-leb k 9 (omega arith))
 
-  pub walk_small : k + 1 < 256
-  walk_small = let z = t.end in let f = g.few in omega arith
-
 pub end_small : (labels : List ℕ) (n p : ℕ) → GroupOf labels n p → 2 + n < 256
 end_small labels n p g = let f = g.few in omega arith
 
@@ -133,111 +131,49 @@ walk_pair F whole labels p n m k q t l g i =
       other = walk_scheduler F whole labels p n m k t l g q i;
     }
 
-pub pair_labels : (labels : List ℕ) (p k : ℕ) → PairOf labels p k → length labels ≡ 8
-pair_labels labels p k h = h.labelled
-
-pub pair_own : (labels : List ℕ) (p k : ℕ) → PairOf labels p k → is_scheduler p ≡ true
-pair_own labels p k h = h.own
-
 pub pair_other : (labels : List ℕ) (p k : ℕ) → PairOf labels p k → is_scheduler k ≡ true
 pair_other labels p k h = h.other
 
--- ---- `is_active_member`, `lacks_room`: r is what `in_step` has answered
-pub no_member : (b r : Bool) → r ≡ b → not r ≡ true → (c : Bool) → false ≡ (b && c)
-no_member b r e h c = sym (ap (λ (d : Bool). d && c) (sym e ∙ not-true r h))
+-- ---- what `any` answers over the schedulers' numbers: some member passes; not every member does
+module _ (same test : ℕ → Bool) where
+  pub any-members : (k n : ℕ)
+      → list_any (λ j. same j && test j) (range_with_len k n) ≡ any test (schedulers_where same k n)
+  unfolding any schedulers_where
+  any-members k zero = refl
+  any-members k (suc n) =
+      go (same k) (test k) refl
+      (any-members (k + 1) n ∙ ap (λ (j : ℕ). any test (schedulers_where same j n)) (add-one k))
+    where
+      rest : Bool
+      rest = list_any (λ j. same j && test j) (range_with_len (k + 1) n)
 
-pub of_member : (b r : Bool) → r ≡ b → not r ≡ false → (x c : Bool) → x ≡ c → x ≡ (b && c)
-of_member b r e h x c d = d ∙ sym (ap (λ (y : Bool). y && c) (sym e ∙ not-false r h))
+      tail : List ℕ
+      tail = schedulers_where same (suc k) n
 
-pub active_of : (b r : Bool) (w : List ℕ) (k y : ℕ) → r ≡ b → not r ≡ false
-    → y ≡ get_or w (3 + 130 * (k - 2)) 0 → not (eqb y 0) ≡ (b && active_on w k)
-active_of b r w k y e h d =
-    of_member b r e h _ _ (ap (λ (x : ℕ). not (eqb x 0)) d)
+      go : (a b : Bool) → test k ≡ b → rest ≡ any test tail → (a && b || rest) ≡ any test (keep_if a k tail)
+      go true true e h = sym (ap (λ (b : Bool). elim b [ true ↦ true | false ↦ any test tail ]) e)
+      go true false e h = h ∙ sym (ap (λ (b : Bool). elim b [ true ↦ true | false ↦ any test tail ]) e)
+      go false b e h = h
 
-pub room_of : (b r : Bool) (w : List ℕ) (k e : ℕ) (x : Bool) → r ≡ b → not r ≡ false
-    → x ≡ leb (active_with (is_awaiting_word e) w (k - 2)) 64 → not x ≡ (b && not (room_on e w k))
-room_of b r w k e x f h d = of_member b r f h _ _ (ap not d)
+  pub none-members : (k n : ℕ)
+      → not (list_any (λ j. same j && not (test j)) (range_with_len k n)) ≡ every test (schedulers_where same k n)
+  unfolding every schedulers_where
+  none-members k zero = refl
+  none-members k (suc n) =
+      go (same k) (test k) refl
+      (none-members (k + 1) n ∙ ap (λ (j : ℕ). every test (schedulers_where same j n)) (add-one k))
+    where
+      rest : Bool
+      rest = list_any (λ j. same j && not (test j)) (range_with_len (k + 1) n)
 
--- ---- `any_active`
-pub active_start : (labels w : List ℕ) (p n m : ℕ) → m ≡ 2 + n
-    → Walk (λ qs. any_active_on qs w) (any_active_on (members_in labels n p) w) labels p n m 2
-active_start labels w p n m h = walk_start labels p n m (λ qs. any_active_on qs w) h
+      tail : List ℕ
+      tail = schedulers_where same (suc k) n
 
-module _ (labels w : List ℕ) (p n m k : ℕ)
-    (t : Walk (λ qs. any_active_on qs w) (any_active_on (members_in labels n p) w) labels p n m k) where
-  module _ (l : k < m) (q : Place) (i : q ≡ record { number = k }) (x : Bool)
-      (h : x ≡ is_active_member labels p w q.number) where
-    active_is : is_active_member labels p w k ≡ x
-    active_is = ap (λ (y : Place). is_active_member labels p w y.number) (sym i) ∙ sym h
-
-    active_one : same_label labels p k ≡ true → {b : Bool} → active_on w k ≡ b
-        → elim b [ true ↦ true | false ↦ any (active_on w) (members_from labels p n (k + 1)) ]
-        ≡ any_active_on (members_in labels n p) w
-    unfolding any
-    active_one s e =
-        ap (λ (b : Bool). elim b [ true ↦ true | false ↦ any (active_on w) (members_from labels p n (k + 1)) ])
-        (sym e)
-        ∙ walk_member labels p n m (λ qs. any_active_on qs w) _ k t l s
-
-    pub active_found : x ≡ true → true ≡ any_active_on (members_in labels n p) w
-    active_found f =
-        let z = and_true (same_label labels p k) (active_on w k) (active_is ∙ f) in
-        active_one z.0 z.1
-
-    pub active_next : x ≡ false
-        → Walk (λ qs. any_active_on qs w) (any_active_on (members_in labels n p) w) labels p n m (k + 1)
-    active_next f = walk_on _ (λ qs. any_active_on qs w) _ labels p n m k t (by (same_label labels p k) refl)
-      where
-        by : (b : Bool) → same_label labels p k ≡ b
-            → any_active_on (members_from labels p n (k + 1)) w ≡ any_active_on (members_in labels n p) w
-        by false s = walk_other labels p n m (λ qs. any_active_on qs w) _ k t l s
-        by true s =
-            active_one s (sym (ap (λ (b : Bool). b && active_on w k) s) ∙ active_is ∙ f)
-
-  pub active_none : m ≤ k → false ≡ any_active_on (members_in labels n p) w
-  unfolding any
-  active_none l = walk_end labels p n m (λ qs. any_active_on qs w) _ k t l
-
--- ---- `room_on_each`
-pub room_start : (labels w : List ℕ) (p n m e : ℕ) → m ≡ 2 + n
-    → Walk (λ qs. room_on_each qs e w) (room_on_each (members_in labels n p) e w) labels p n m 2
-room_start labels w p n m e h = walk_start labels p n m (λ qs. room_on_each qs e w) h
-
-module _ (labels w : List ℕ) (p n m k e : ℕ)
-    (t : Walk (λ qs. room_on_each qs e w) (room_on_each (members_in labels n p) e w) labels p n m k) where
-  module _ (l : k < m) (q : Place) (i : q ≡ record { number = k }) (x : Bool)
-      (h : x ≡ lacks_room labels p e w q.number) where
-    room_is : lacks_room labels p e w k ≡ x
-    room_is = ap (λ (y : Place). lacks_room labels p e w y.number) (sym i) ∙ sym h
-
-    room_one : same_label labels p k ≡ true → {b : Bool} → room_on e w k ≡ b
-        → elim b [ true ↦ every (room_on e w) (members_from labels p n (k + 1)) | false ↦ false ]
-        ≡ room_on_each (members_in labels n p) e w
-    unfolding every
-    room_one s f =
-        ap (λ (b : Bool). elim b [ true ↦ every (room_on e w) (members_from labels p n (k + 1)) | false ↦ false ])
-        (sym f)
-        ∙ walk_member labels p n m (λ qs. room_on_each qs e w) _ k t l s
-
-    pub room_missing : x ≡ true → false ≡ room_on_each (members_in labels n p) e w
-    room_missing f =
-        let z = and_true (same_label labels p k) (not (room_on e w k)) (room_is ∙ f) in
-        room_one z.0 (not-true (room_on e w k) z.1)
-
-    pub room_next : x ≡ false
-        → Walk (λ qs. room_on_each qs e w) (room_on_each (members_in labels n p) e w) labels p n m (k + 1)
-    room_next f = walk_on _ (λ qs. room_on_each qs e w) _ labels p n m k t (by (same_label labels p k) refl)
-      where
-        by : (b : Bool) → same_label labels p k ≡ b
-            → room_on_each (members_from labels p n (k + 1)) e w ≡ room_on_each (members_in labels n p) e w
-        by false s = walk_other labels p n m (λ qs. room_on_each qs e w) _ k t l s
-        by true s =
-            room_one s
-            (not-false (room_on e w k) (sym (ap (λ (b : Bool). b && not (room_on e w k)) s) ∙ room_is ∙ f))
-
-  pub room_all : m ≤ k → true ≡ room_on_each (members_in labels n p) e w
-  unfolding every
-  room_all l = walk_end labels p n m (λ qs. room_on_each qs e w) _ k t l
+      go : (a b : Bool) → test k ≡ b → not rest ≡ every test tail
+          → not (a && not b || rest) ≡ every test (keep_if a k tail)
+      go true true e h = h ∙ sym (ap (λ (b : Bool). elim b [ true ↦ every test tail | false ↦ false ]) e)
+      go true false e h = sym (ap (λ (b : Bool). elim b [ true ↦ every test tail | false ↦ false ]) e)
+      go false b e h = h
 
 -- what the lists of a member are asked for
 pub words_few : (w : List ℕ) → GroupWords w → get_or w 0 0 ≤ 64
@@ -249,44 +185,39 @@ list_words w q h s =
     let (a, b) = test_bounds 2 q s in
     (h.all, h.lists.threads, h.lists.next (q - 2) (omega arith))
 
-pub active_fits : (w : List ℕ) (q : ℕ) → GroupWords w → is_scheduler q ≡ true
-    → get_or w (2 + 130 * (q - 2)) 0 ≤ 64
-active_fits w q h s =
-    let (a, b) = test_bounds 2 q s in h.lists.active (q - 2) (omega arith)
-
 -- ---- `wake_if_member`, `end_if_member`: r is what `in_step` has answered
 module _ (labels w : List ℕ) (p k : ℕ) (r : Bool) (s : r ≡ same_label labels p k) where
-  pub wakes_none : (e : ℕ) → not r ≡ true → w ≡ woken_if labels p e w k
+  pub wakes_none : (e : ℕ) → r ≡ false → w ≡ woken_if labels p e w k
   unfolding woken_if
-  wakes_none e h = sym (if_no _ _ (sym s ∙ not-true r h))
+  wakes_none e h = sym (if_no _ _ (sym s ∙ h))
 
-  pub ends_none : not r ≡ true → w ≡ ended_if labels p w k
+  pub ends_none : r ≡ false → w ≡ ended_if labels p w k
   unfolding ended_if
-  ends_none h = sym (if_no _ _ (sym s ∙ not-true r h))
+  ends_none h = sym (if_no _ _ (sym s ∙ h))
 
-  pub none_ready_here : not r ≡ true → 0 ≡ ready_if labels p w k
+  pub none_ready_here : r ≡ false → 0 ≡ ready_if labels p w k
   unfolding ready_if
-  none_ready_here h = sym (if_no _ _ (sym s ∙ not-true r h))
+  none_ready_here h = sym (if_no _ _ (sym s ∙ h))
 
-  module _ (h : not r ≡ false) where
+  module _ (h : r ≡ true) where
     pub wakes_here : (e : ℕ) (v : List ℕ) → v ≡ with_woken w (k - 2) e → v ≡ woken_if labels p e w k
     unfolding woken_if
-    wakes_here e v f = f ∙ sym (if_yes _ _ (sym s ∙ not-false r h))
+    wakes_here e v f = f ∙ sym (if_yes _ _ (sym s ∙ h))
 
     pub ends_here : (v : List ℕ) → v ≡ with_instant_ended w (k - 2) → v ≡ ended_if labels p w k
     unfolding ended_if
-    ends_here v f = f ∙ sym (if_yes _ _ (sym s ∙ not-false r h))
+    ends_here v f = f ∙ sym (if_yes _ _ (sym s ∙ h))
 
     pub ready_here : (x : ℕ) → x ≡ length (ready_words w (words_at w (67 + 130 * (k - 2))))
         → x ≡ ready_if labels p w k
     unfolding ready_if
-    ready_here x f = f ∙ sym (if_yes _ _ (sym s ∙ not-false r h))
+    ready_here x f = f ∙ sym (if_yes _ _ (sym s ∙ h))
 
     pub has_room_here : (e : ℕ) → RoomIf labels p e w k → active_with (is_awaiting_word e) w (k - 2) ≤ 64
-    has_room_here e f = f.room (sym s ∙ not-false r h)
+    has_room_here e f = f.room (sym s ∙ h)
 
     pub is_idle_here : IdleIf labels p w k → get_or w (2 + 130 * (k - 2)) 0 ≡ 0
-    is_idle_here f = f.idle (sym s ∙ not-false r h)
+    is_idle_here f = f.idle (sym s ∙ h)
 
 -- ---- `wake_on_each`: the members before k are woken, those from k on have room
 pub record Waking (labels w₀ : List ℕ) (p n m e : ℕ) (w : List ℕ) (k : ℕ) : Type 0 where

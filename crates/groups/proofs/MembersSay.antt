@@ -25,7 +25,7 @@ use Rattle.machine.proofs.KeptShape.{awake_on, woken_load}
 use Rattle.lists.specs.Inner.Lists.{with_woken, ready_words, with_instant_ended}
 use Rattle.lists.proofs.SchedulerSays.{first_says}
 use Rattle.lists.proofs.Instants.{woken_count, wake_says, instant_readies, instant_says, instant_none}
-use Rattle.groups.specs.Inner.Members.{any_active_on, room_on, room_on_each, woken_on}
+use Rattle.groups.specs.Inner.Members.{any_active_on, room_on_each, woken_on}
 use Rattle.groups.specs.Inner.Members.{ended_on, ready_on}
 
 -- ---- what is known of the state: m events, each next list within its space and in shape

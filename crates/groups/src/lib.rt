@@ -28,10 +28,7 @@ fn is_active_member(labels: &[u8; LABELS], q: Place, s: Place, state: &[u64]) ->
     ensures { result
         ≡ is_active_member labels.now q.number state.now s.number }
 {
-    if !in_step(labels, q, s) {
-        return false;
-    }
-    first_active(state, s) != 0
+    in_step(labels, q, s) && first_active(state, s) != 0
 }
 
 // Whether some member has an active thread.
@@ -41,15 +38,10 @@ pub fn any_active(labels: &[u8; LABELS], schedulers: u8, q: Place, state: &[u64]
     ensures { result ≡ any_active_on (members_in labels.now schedulers q.number)
         state.now }
 {
-    let end = HOME + schedulers;
-    let mut k = HOME;
-    while k < end {
-        if is_active_member(labels, q, Place::known(k as u64), state) {
-            return true;
-        }
-        k += 1;
-    }
-    false
+    (HOME..HOME + schedulers).any(|k| {
+        let s = Place::known(u64::from(k));
+        is_active_member(labels, q, s, state)
+    })
 }
 
 // Whether s is a member in whose active list those that await the event have no room.
@@ -58,10 +50,7 @@ fn lacks_room(labels: &[u8; LABELS], q: Place, s: Place, state: &[u64], e: u8) -
     ensures { result
         ≡ lacks_room labels.now q.number e state.now s.number }
 {
-    if !in_step(labels, q, s) {
-        return false;
-    }
-    !has_room_to_wake(state, s, e)
+    in_step(labels, q, s) && !has_room_to_wake(state, s, e)
 }
 
 // Whether those that await the event have room in the active list of each member.
@@ -70,15 +59,10 @@ pub fn room_on_each(labels: &[u8; LABELS], schedulers: u8, q: Place, state: &[u6
     ensures { result ≡ room_on_each (members_in labels.now schedulers q.number) e
         state.now }
 {
-    let end = HOME + schedulers;
-    let mut k = HOME;
-    while k < end {
-        if lacks_room(labels, q, Place::known(k as u64), state, e) {
-            return false;
-        }
-        k += 1;
-    }
-    true
+    !(HOME..HOME + schedulers).any(|k| {
+        let s = Place::known(u64::from(k));
+        lacks_room(labels, q, s, state, e)
+    })
 }
 
 // They become active there, if s is a member, where they have room then.
@@ -88,10 +72,9 @@ fn wake_if_member(labels: &[u8; LABELS], q: Place, s: Place, state: &mut [u64], 
     ensures { state.new
         ≡ woken_if labels.now q.number e state.old s.number }
 {
-    if !in_step(labels, q, s) {
-        return;
+    if in_step(labels, q, s) {
+        wake(state, s, e);
     }
-    wake(state, s, e);
 }
 
 // They become active on each member.
@@ -103,11 +86,8 @@ pub fn wake_on_each(labels: &[u8; LABELS], schedulers: u8, q: Place, state: &mut
         ≡ woken_on (members_in labels.now schedulers q.number) e
         state.old }
 {
-    let end = HOME + schedulers;
-    let mut k = HOME;
-    while k < end {
-        wake_if_member(labels, q, Place::known(k as u64), state, e);
-        k += 1;
+    for k in HOME..HOME + schedulers {
+        wake_if_member(labels, q, Place::known(u64::from(k)), state, e);
     }
 }
 
@@ -138,13 +118,10 @@ pub fn end_on_each(labels: &[u8; LABELS], schedulers: u8, q: Place, state: &mut 
     ensures words { state.new
         ≡ ended_on (members_in labels.now schedulers q.number) state.old }
 {
-    let end = HOME + schedulers;
     let living = living_families(state);
     let mut ready: u64 = 0;
-    let mut k = HOME;
-    while k < end {
-        ready += end_if_member(labels, q, Place::known(k as u64), state, living);
-        k += 1;
+    for k in HOME..HOME + schedulers {
+        ready += end_if_member(labels, q, Place::known(u64::from(k)), state, living);
     }
     ready
 }

@@ -1,4 +1,5 @@
 -- What the functions on labels compute, turn by turn of their loops. Assumes nothing.
+use Rattle.std.specs.Prelude.{Option, Some, None}
 use mathlib.Core.Path.{◌≡◌, refl, sym, ap, ap₂, ◌∙◌}
 use mathlib.Core.Bool.{Bool, true, false}
 use mathlib.Core.List.{List, [], ◌∷◌, map}
@@ -16,8 +17,6 @@ use Rattle.language.specs.Effects.{with_member, set_from}
 use Rattle.language.specs.Inner.Labels.{label_at, same_label, in_group, with_label, relabelled}
 use Rattle.language.specs.Inner.Reads.{place_read}
 use Rattle.language.specs.declared.Place.{Place}
-use Rattle.language.specs.declared.PlaceRead.{PlaceRead}
-use Rattle.language.specs.declared.PlaceRead.TheVariants.{At, NoPlace}
 use Rattle.language.proofs.PlaceLaws.{test_bounds, read_at, read_none}
 
 -- ---- `with_label`
@@ -135,12 +134,16 @@ pub member_self : (labels : List ℕ) (p n m : ℕ) → n ≡ m → m ≡ p → 
 member_self labels p n m e h k =
     sym (ap (in_group labels p) (e ∙ h) ∙ and_both _ _ k (eq-eqb (label_at labels p) (label_at labels p) refl))
 
--- x is the place that the number was read as
-module _ (labels : List ℕ) (p n : ℕ) (x : PlaceRead) (r : x ≡ place_read (is_scheduler n) n) where
-  pub no_member : x ≡ NoPlace → false ≡ in_group labels p n
+-- x is the place that m, which is n, was read as
+module _ (labels : List ℕ) (p n m : ℕ) (x : Option Place) (s : x ≡ place_read (is_scheduler m) m)
+    (w : m ≡ n) where
+  r : x ≡ place_read (is_scheduler n) n
+  r = s ∙ ap (λ (k : ℕ). place_read (is_scheduler k) k) w
+
+  pub no_member : x ≡ None → false ≡ in_group labels p n
   no_member h = rw (read_none (is_scheduler n) n (sym r ∙ h))
 
-  module _ (q : Place) (h : x ≡ At q) where
+  module _ (q : Place) (h : x ≡ Some q) where
     there : (is_scheduler n ≡ true) × (q.number ≡ n)
     there = read_at (is_scheduler n) n q (sym r ∙ h)
 

@@ -1,7 +1,5 @@
 -- Places.
 pub mod PlaceLaws
--- Kinds.
-pub mod KindLaws
 -- Type words: what the functions compute, what a cell's type means.
 pub mod Words
 pub mod Cells
@@ -11,3 +9,5 @@ pub mod LabelLaws
 -- Effects: what the functions compute, what that means for the sets.
 pub mod EffectLaws
 pub mod Members
+-- Refusals.
+pub mod VerdictLaws

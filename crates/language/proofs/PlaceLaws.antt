@@ -1,57 +1,25 @@
 -- What the constructors and the tests of `Place` compute, return by return, with the tests that
 -- lead there as premises. Assumes nothing.
+use Rattle.std.specs.Prelude.{Some, None}
 use mathlib.Core.Path.{◌≡◌, refl, sym, ap, ◌∙◌}
 use mathlib.Core.Bool.{Bool, true, false, ◌&&◌}
 use Prim.Native.Nat.{ℕ, ◌+◌, ◌-◌, ◌≤◌, ◌<◌}
 use native.Mathlib.Omega.{arith}
 use lib.Dec.{leb}
 use borrow.Author.Tests.{lt-leb, le-leb, leb-true}
-use Rattle.basics.specs.If.{when◌then◌else◌}
-use Rattle.basics.proofs.Ifs.{yes, no, and_true, leb_same}
+use Rattle.basics.proofs.Ifs.{and_true, leb_same}
 use Rattle.language.specs.Places.{is_place, is_scheduler, has_place, has_scheduler}
 use Rattle.language.specs.Inner.Reads.{place_read}
 use Rattle.language.specs.declared.Place.{Place}
-use Rattle.language.specs.declared.PlaceRead.{PlaceRead}
-use Rattle.language.specs.declared.PlaceRead.TheVariants.{At, NoPlace}
-
--- ---- the constructors: the number is too low, too high, or right
-by_low : (low n : ℕ) → n < low → NoPlace ≡ place_read (leb low n && leb n 9) n
-unfolding place_read
-by_low low n h = no _ (rw (lt-leb low n h)) refl
-
-pub place_low : (n : ℕ) → n < 1 → NoPlace ≡ place_read (is_place n) n
-place_low = by_low 1
-
-pub place_high : (n : ℕ) → 1 ≤ n → 9 < n → NoPlace ≡ place_read (is_place n) n
-unfolding place_read
-place_high n l h = no _ (rw (le-leb 1 n l, lt-leb n 9 h)) refl
-
-pub place_right : (n : ℕ) → 1 ≤ n → n ≤ 9 → At (record { number = n }) ≡ place_read (is_place n) n
-unfolding place_read
-place_right n l h = yes _ (rw (le-leb 1 n l, le-leb n 9 h)) refl
-
-pub ruleset place_laws = (place_low, place_high, place_right)
-
-pub scheduler_low : (n : ℕ) → n < 2 → NoPlace ≡ place_read (is_scheduler n) n
-scheduler_low = by_low 2
-
--- from home on a scheduler is a place; r is what the constructor of places answers
-pub scheduler_read : (n : ℕ) (r : PlaceRead) → 2 ≤ n → r ≡ place_read (is_place n) n
-    → r ≡ place_read (is_scheduler n) n
-scheduler_read n r h e =
-    e ∙ ap (λ (t : Bool). place_read (t && leb n 9) n)
-    (le-leb 1 n (omega arith) ∙ sym (le-leb 2 n h))
-
-pub ruleset scheduler_laws = (scheduler_low, scheduler_read)
 
 -- ---- what a constructor's answer says of the number: a place is that number's, and its test holds
-pub read_at : (t : Bool) (n : ℕ) (p : Place) → place_read t n ≡ At p → (t ≡ true) × (p.number ≡ n)
-unfolding place_read when◌then◌else◌
+pub read_at : (t : Bool) (n : ℕ) (p : Place) → place_read t n ≡ Some p → (t ≡ true) × (p.number ≡ n)
+unfolding place_read
 read_at true n p e = (refl, cc)
 read_at false n p e = absurd (let z : ◌≡◌ {A = ℕ} 0 1 = cc in omega arith)
 
-pub read_none : (t : Bool) (n : ℕ) → place_read t n ≡ NoPlace → t ≡ false
-unfolding place_read when◌then◌else◌
+pub read_none : (t : Bool) (n : ℕ) → place_read t n ≡ None → t ≡ false
+unfolding place_read
 read_none true n e = absurd (let z : ◌≡◌ {A = ℕ} 0 1 = cc in omega arith)
 read_none false n e = refl
 

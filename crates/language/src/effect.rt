@@ -11,7 +11,7 @@ use crate::group::{LABELS, group_set};
 
 // Two sets of schedulers, 2 to 9, a bit for each: scheduler p is a member where bit p - 2 is set. So
 // each number is a set of schedulers.
-#[derive(Clone, Copy)]
+#[derive(Clone, Copy, Debug, PartialEq, Eq)]
 pub struct Effect {
     cells: u8,
     events: u8,
@@ -29,23 +29,25 @@ fn bit_of(place: Place) -> u8
 fn with_member(set: u8, owner: Place) -> u8
     ensures { result ≡ with_member owner.number set }
 {
-    if !owner.is_scheduler() {
-        return set;
+    if owner.is_scheduler() {
+        set | bit_of(owner)
+    } else {
+        set
     }
-    set | bit_of(owner)
 }
 
 // Whether nothing but the scheduler `place` is a member: of a private place, whether nothing is.
+#[tactic(auto, unfolding(crate::specs::Effects::set_within))]
 fn set_within(set: u8, place: Place) -> bool
     ensures { result ≡ set_within place.number set }
 {
-    if set == 0 {
-        return true;
-    }
-    if !place.is_scheduler() {
-        return false;
-    }
-    set == bit_of(place)
+    set == 0 || place.is_scheduler() && set == bit_of(place)
+}
+
+fn is_subset(set: u8, whole: u8) -> bool
+    ensures { result ≡ subset set whole }
+{
+    set | whole == whole
 }
 
 // Whether each member is in step with the scheduler `place`: of a private place, whether there is
@@ -54,14 +56,7 @@ fn in_group(set: u8, labels: &[u8; LABELS], place: Place) -> bool
     requires { length labels.now ≡ most_schedulers }
     ensures { result ≡ subset set (group_in labels.now place.number) }
 {
-    if set == 0 {
-        return true;
-    }
-    if !place.is_scheduler() {
-        return false;
-    }
-    let group = group_set(labels, place);
-    set | group == group
+    set == 0 || place.is_scheduler() && is_subset(set, group_set(labels, place))
 }
 
 impl Effect {
@@ -125,13 +120,11 @@ impl Effect {
 
     // Whether nothing but the scheduler `place` is a member of the cells' set, and nothing but
     // schedulers in step with it of the events'.
+    #[tactic(auto, unfolding(crate::specs::Inner::Labels::within_in))]
     pub fn within(self, labels: &[u8; LABELS], place: Place) -> bool
         requires { length labels.now ≡ most_schedulers }
         ensures { result ≡ within_in labels.now place.number self }
     {
-        if !set_within(self.cells, place) {
-            return false;
-        }
-        in_group(self.events, labels, place)
+        set_within(self.cells, place) && in_group(self.events, labels, place)
     }
 }

@@ -1,8 +1,8 @@
-// Frames: the lines of a text.
+//! Frames: the lines of a text.
 use crate::kind::Kind;
 
-// K, S, A, B and C of a line.
-#[derive(Clone, Copy)]
+/// K, S, A, B and C of a line.
+#[derive(Clone, Copy, Debug, PartialEq, Eq)]
 pub struct Frame {
     pub kind: Kind,
     pub s: u8,

@@ -6,8 +6,8 @@ ghost use Rattle.language.specs.Effects.{set_from};
 ghost use Rattle.language.specs.Inner.Labels.{labels_of, label_at, same_label, with_label};
 ghost use Rattle.language.specs.Inner.Labels.{in_group, relabelled};
 
+use crate::Place;
 use crate::limit::MOST_SCHEDULERS;
-use crate::{Place, PlaceRead};
 
 pub const LABELS: usize = MOST_SCHEDULERS as usize;
 
@@ -21,10 +21,7 @@ pub fn own_labels() -> [u8; LABELS]
 fn with_label(label: u8, old: u8, new: u8) -> u8
     ensures { result ≡ with_label old new label }
 {
-    if label == old {
-        return new;
-    }
-    label
+    if label == old { new } else { label }
 }
 
 // Two are linked: those in step with the upper one take the label of the lower one.
@@ -37,10 +34,8 @@ pub fn link(labels: &mut [u8; LABELS], upper: Place, lower: Place)
 {
     let old = labels[upper.index()];
     let new = labels[lower.index()];
-    let mut k: usize = 0;
-    while k < LABELS {
+    for k in 0..LABELS {
         labels[k] = with_label(labels[k], old, new);
-        k += 1;
     }
 }
 
@@ -60,9 +55,9 @@ pub fn is_member(labels: &[u8; LABELS], p: Place, n: u8) -> bool
     if n == p.number() {
         return true;
     }
-    match Place::scheduler(n as u64) {
-        PlaceRead::At(q) => in_step(labels, p, q),
-        PlaceRead::NoPlace => false,
+    match Place::scheduler(u64::from(n)) {
+        Some(q) => in_step(labels, p, q),
+        None => false,
     }
 }
 
@@ -74,9 +69,7 @@ pub(crate) fn group_set(labels: &[u8; LABELS], place: Place) -> u8
 {
     let own = labels[place.index()];
     let mut set: u8 = 0;
-    let mut k = LABELS;
-    while 0 < k {
-        k -= 1;
+    for k in (0..LABELS).rev() {
         if labels[k] == own {
             set |= 1u8 << k;
         }

@@ -1,19 +1,19 @@
-// Kinds of frames, and what each field of a kind holds.
+//! Kinds of frames, and what each field of a kind holds.
 ghost use Rattle.std.specs.Prelude.{◌≡◌};
 ghost use Rattle.language.specs.Kinds.{kind_of, class_of, is_header, is_module};
 ghost use Rattle.language.specs.Kinds.{declaration_rank, declares};
 
-// Declarations that stand before the modules: a shared cell, K 01; an event, K 03; two schedulers
-// in step, K 04.
-#[derive(Clone, Copy)]
+/// Declarations that stand before the modules: a shared cell, K 01; an event, K 03; two schedulers
+/// in step, K 04.
+#[derive(Clone, Copy, Debug, PartialEq, Eq)]
 pub enum DeclarationKind {
     Shared,
     Event,
     Link,
 }
 
-// Statements, K 10 to 1B.
-#[derive(Clone, Copy)]
+/// Statements, K 10 to 1B.
+#[derive(Clone, Copy, Debug, PartialEq, Eq)]
 pub enum StatementKind {
     Nothing,
     Then,
@@ -29,8 +29,8 @@ pub enum StatementKind {
     Await,
 }
 
-// Expressions, K 20 to 28.
-#[derive(Clone, Copy)]
+/// Expressions, K 20 to 28.
+#[derive(Clone, Copy, Debug, PartialEq, Eq)]
 pub enum ExpressionKind {
     Number,
     Truth,
@@ -43,7 +43,8 @@ pub enum ExpressionKind {
     Choose,
 }
 
-#[derive(Clone, Copy)]
+/// What kind a frame is of; no other number names one.
+#[derive(Clone, Copy, Debug, PartialEq, Eq)]
 pub enum Kind {
     Header,
     Declared(DeclarationKind),
@@ -53,45 +54,46 @@ pub enum Kind {
     Unknown,
 }
 
-// What a frame is, as a child.
-#[derive(Clone, Copy)]
+/// What a frame is, as a child.
+#[derive(Clone, Copy, Debug, PartialEq, Eq)]
 pub enum Class {
     Statement,
     Expression,
     Neither,
 }
 
-// What a field holds.
-#[derive(Clone, Copy)]
+/// What a field holds.
+#[derive(Clone, Copy, Debug, PartialEq, Eq)]
 pub enum Use {
-    // Nothing: it is 0.
+    /// Nothing: it is 0.
     Unused,
-    // Any number: of the header, a number, or the index of a variable, a shared cell, an event or
-    // a module.
+    /// Any number: of the header, a number, or the index of a variable, a shared cell, an event or
+    /// a module.
     Free,
-    // 0 or 1.
+    /// 0 or 1.
     Truth,
-    // A place of the file, private among them; a scheduler of the file.
+    /// A place of the file, private among them; a scheduler of the file.
     Place,
     Scheduler,
-    // A scheduler of the file below the one that S names.
+    /// A scheduler of the file below the one that S names.
     Lower,
-    // A child of that class.
+    /// A child of that class.
     Statement,
     Expression,
-    // An expression, or 0 for no argument; the further one needs the first.
+    /// An expression, or 0 for no argument; the further one needs the first.
     Argument,
     Further,
-    // Of a shared cell: its content type and its first content.
+    /// Of a shared cell: its content type and its first content.
     ContentType,
     FirstContent,
-    // Of a module: how many parameters, and the types of the first and of the second.
+    /// Of a module: how many parameters, and the types of the first and of the second.
     Parameters,
     FirstType,
     SecondType,
 }
 
-#[derive(Clone, Copy)]
+/// What each of the fields S, A, B and C of a frame holds.
+#[derive(Clone, Copy, Debug, PartialEq, Eq)]
 pub struct Uses {
     pub s: Use,
     pub a: Use,
@@ -99,7 +101,7 @@ pub struct Uses {
     pub c: Use,
 }
 
-// The kind that a number names.
+/// The kind that a number names.
 pub fn kind_of(k: u8) -> Kind
     ensures { result ≡ kind_of k }
 {
@@ -134,66 +136,42 @@ pub fn kind_of(k: u8) -> Kind
     }
 }
 
-pub fn is_header(k: Kind) -> bool
-    ensures { result ≡ is_header k }
-{
-    match k {
-        Kind::Header => true,
-        Kind::Declared(d) => false,
-        Kind::Module => false,
-        Kind::Statement(s) => false,
-        Kind::Expression(e) => false,
-        Kind::Unknown => false,
+impl Kind {
+    pub fn is_header(self) -> bool
+        ensures { result ≡ is_header self }
+    {
+        self == Kind::Header
+    }
+
+    pub fn is_module(self) -> bool
+        ensures { result ≡ is_module self }
+    {
+        self == Kind::Module
+    }
+
+    /// Whether it is that declaration.
+    pub fn declares(self, declaration: DeclarationKind) -> bool
+        ensures { result ≡ declares declaration self }
+    {
+        self == Kind::Declared(declaration)
+    }
+
+    pub fn class(self) -> Class
+        ensures { result ≡ class_of self }
+    {
+        match self {
+            Kind::Statement(_) => Class::Statement,
+            Kind::Expression(_) => Class::Expression,
+            _ => Class::Neither,
+        }
     }
 }
 
-// The declarations stand one kind after the other.
-pub fn declaration_rank(d: DeclarationKind) -> u8
-    ensures { result ≡ declaration_rank d }
-{
-    match d {
-        DeclarationKind::Shared => 1,
-        DeclarationKind::Event => 2,
-        DeclarationKind::Link => 3,
-    }
-}
-
-// Whether a kind is that declaration.
-pub fn declares(d: DeclarationKind, k: Kind) -> bool
-    ensures { result ≡ declares d k }
-{
-    match k {
-        Kind::Header => false,
-        Kind::Declared(e) => declaration_rank(e) == declaration_rank(d),
-        Kind::Module => false,
-        Kind::Statement(s) => false,
-        Kind::Expression(e) => false,
-        Kind::Unknown => false,
-    }
-}
-
-pub fn is_module(k: Kind) -> bool
-    ensures { result ≡ is_module k }
-{
-    match k {
-        Kind::Header => false,
-        Kind::Declared(d) => false,
-        Kind::Module => true,
-        Kind::Statement(s) => false,
-        Kind::Expression(e) => false,
-        Kind::Unknown => false,
-    }
-}
-
-pub fn class_of(k: Kind) -> Class
-    ensures { result ≡ class_of k }
-{
-    match k {
-        Kind::Header => Class::Neither,
-        Kind::Declared(d) => Class::Neither,
-        Kind::Module => Class::Neither,
-        Kind::Statement(_) => Class::Statement,
-        Kind::Expression(_) => Class::Expression,
-        Kind::Unknown => Class::Neither,
+impl DeclarationKind {
+    /// The declarations stand one kind after the other: 1 to 3.
+    pub fn rank(self) -> u8
+        ensures { result ≡ declaration_rank self }
+    {
+        self as u8 + 1
     }
 }

@@ -5,7 +5,7 @@
 ghost use Rattle.std.specs.Prelude.{◌≡◌, true, ◌-◌, eqb};
 ghost use Rattle.language.specs.Places.{private, home, is_place, is_scheduler, has_place};
 ghost use Rattle.language.specs.Places.{has_scheduler};
-ghost use Rattle.language.specs.Inner.Reads.{place_read};
+ghost use Rattle.language.specs.Inner.Reads.{Reads, place_read};
 
 pub mod effect;
 pub mod frame;
@@ -14,20 +14,36 @@ pub mod kind;
 pub mod limit;
 pub mod refusal;
 pub mod type_word;
-pub mod verdict;
 
 // A place: where a thread stands, and who owns a cell. Private (1), or one of the schedulers, 2 to
 // 9: only the constructors make one.
-#[derive(Clone, Copy)]
+#[derive(Clone, Copy, Debug, PartialEq, Eq)]
 pub struct Place {
     number: u8,
 }
 
-// What a constructor answers: the place, or that the number names none.
-#[derive(Clone, Copy)]
-pub enum PlaceRead {
-    At(Place),
-    NoPlace,
+/// A number that names no place.
+#[derive(Clone, Copy, Debug, PartialEq, Eq)]
+pub struct NoPlace {
+    pub number: u64,
+}
+
+impl TryFrom<u64> for Place {
+    type Error = NoPlace;
+
+    ghost try_from_gives = { Reads };
+
+    fn try_from(number: u64) -> Result<Self, NoPlace> {
+        let first = u64::from(Place::PRIVATE.number);
+        let last = u64::from(Place::LAST_SCHEDULER.number);
+        if first <= number && number <= last {
+            Ok(Place {
+                number: number as u8,
+            })
+        } else {
+            Err(NoPlace { number })
+        }
+    }
 }
 
 impl Place {
@@ -37,27 +53,14 @@ impl Place {
 
     pub const LAST_SCHEDULER: Place = Place { number: 9 };
 
-    // The place of that number.
-    pub fn new(n: u64) -> PlaceRead
-        ensures { result ≡ place_read (is_place n) n }
+    /// The scheduler of that number; `None` where it names none.
+    #[tactic(auto, unfolding(crate::specs::Inner::Reads::place_read))]
+    pub fn scheduler(number: u64) -> Option<Self>
+        ensures { result ≡ place_read (is_scheduler number) number }
     {
-        if n < Place::PRIVATE.number as u64 {
-            return PlaceRead::NoPlace;
-        }
-        if (Place::LAST_SCHEDULER.number as u64) < n {
-            return PlaceRead::NoPlace;
-        }
-        PlaceRead::At(Place { number: n as u8 })
-    }
-
-    // The scheduler of that number: a place from home on.
-    pub fn scheduler(n: u64) -> PlaceRead
-        ensures { result ≡ place_read (is_scheduler n) n }
-    {
-        if n < Place::HOME.number as u64 {
-            return PlaceRead::NoPlace;
-        }
-        Place::new(n)
+        Place::try_from(number)
+            .ok()
+            .filter(|place| place.is_scheduler())
     }
 
     // The place of a number that has been found to be one: a field of a frame that passes refusal
@@ -80,28 +83,26 @@ impl Place {
     pub fn word(self) -> u64
         ensures { result ≡ self.number }
     {
-        self.number as u64
+        u64::from(self.number)
     }
 
     pub fn is_private(self) -> bool
         ensures { result ≡ eqb self.number private }
     {
-        self.number == Place::PRIVATE.number
+        self == Place::PRIVATE
     }
 
-    pub fn is_same(self, other: Place) -> bool
-        ensures { result ≡ eqb self.number other.number }
+    // Only the constructors make a place, so each is one; but no type says so.
+    fn is_place(self) -> bool
+        ensures { result ≡ is_place self.number }
     {
-        self.number == other.number
+        Place::PRIVATE.number <= self.number && self.number <= Place::LAST_SCHEDULER.number
     }
 
     pub fn is_scheduler(self) -> bool
         ensures { result ≡ is_scheduler self.number }
     {
-        if self.number < Place::HOME.number {
-            return false;
-        }
-        self.number <= Place::LAST_SCHEDULER.number
+        Place::HOME.number <= self.number && self.number <= Place::LAST_SCHEDULER.number
     }
 
     // Which of the schedulers it is, from 0.
@@ -109,29 +110,23 @@ impl Place {
         requires { is_scheduler self.number ≡ true }
         ensures { result ≡ self.number - home }
     {
-        (self.number - Place::HOME.number) as usize
+        usize::from(self.number - Place::HOME.number)
     }
 
     // Whether the number names a place of a file with so many schedulers.
     pub fn is_in_file(n: u64, schedulers: u8) -> bool
         ensures { result ≡ has_place schedulers n }
     {
-        if n < Place::PRIVATE.number as u64 {
-            return false;
-        }
-        if (Place::LAST_SCHEDULER.number as u64) < n {
-            return false;
-        }
-        n - Place::PRIVATE.number as u64 <= schedulers as u64
+        let private = u64::from(Place::PRIVATE.number);
+        private <= n
+            && n <= u64::from(Place::LAST_SCHEDULER.number)
+            && n - private <= u64::from(schedulers)
     }
 
     // Whether the number names a scheduler of a file with so many.
     pub fn is_scheduler_in_file(n: u64, schedulers: u8) -> bool
         ensures { result ≡ has_scheduler schedulers n }
     {
-        if n < Place::HOME.number as u64 {
-            return false;
-        }
-        Place::is_in_file(n, schedulers)
+        u64::from(Place::HOME.number) <= n && Place::is_in_file(n, schedulers)
     }
 }

@@ -1,4 +1,15 @@
-// The numbers of the refusals. specs/Refusals says in the documents' words what each is.
+//! The numbers of the refusals. specs/Refusals says in the documents' words what each is.
+
+/// What is refused: the number of the rule, and the frame that it names.
+#[derive(Clone, Copy, Debug, PartialEq, Eq)]
+pub struct Refusal {
+    pub number: u8,
+    pub frame: u16,
+}
+
+/// Of a text: nothing is refused, or what is.
+pub type Verdict = Result<(), Refusal>;
+
 pub const EMPTY_TEXT: u8 = 1;
 
 pub const LONG_TEXT: u8 = 2;

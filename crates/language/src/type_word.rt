@@ -6,7 +6,7 @@ ghost use Rattle.language.specs.Inner.Reads.{place_read, cell_read};
 ghost use Rattle.language.specs.Types.{cell_depth, is_cell, owner_of, content_of, public};
 ghost use Rattle.language.specs.Types.{owner_digit, type_word, content_word};
 
-use crate::{Place, PlaceRead};
+use crate::Place;
 
 pub const NUMBER: u16 = 0x0001;
 
@@ -21,28 +21,19 @@ const UNIT_2: u16 = 0x0100;
 
 const UNIT_3: u16 = 0x1000;
 
-// A cell's type around another: its word, or that there is none, since there are three cells
-// already or the owner is no place.
-#[derive(Clone, Copy)]
-pub enum CellRead {
-    Word(u16),
-    TooDeep,
-}
-
 // The unit of a word's leftmost digit.
 fn leftmost_unit(t: u16) -> u16
     ensures { result ≡ 16 ^ cell_depth t }
 {
     if t < UNIT_1 {
-        return UNIT_0;
+        UNIT_0
+    } else if t < UNIT_2 {
+        UNIT_1
+    } else if t < UNIT_3 {
+        UNIT_2
+    } else {
+        UNIT_3
     }
-    if t < UNIT_2 {
-        return UNIT_1;
-    }
-    if t < UNIT_3 {
-        return UNIT_2;
-    }
-    UNIT_3
 }
 
 pub fn is_cell(t: u16) -> bool
@@ -55,17 +46,15 @@ pub fn is_cell(t: u16) -> bool
 fn owner_digit(t: u16) -> u16
     ensures { result ≡ owner_of t }
 {
-    if t < UNIT_1 {
-        return 0;
-    }
-    t / leftmost_unit(t)
+    if is_cell(t) { t / leftmost_unit(t) } else { 0 }
 }
 
-// The outermost owner of a cell's type; a number and a truth have none.
-pub fn owner_of(t: u16) -> PlaceRead
+/// The outermost owner of a cell's type; a number and a truth have none.
+#[tactic(auto, unfolding(crate::specs::Inner::Reads::place_read))]
+pub fn owner_of(t: u16) -> Option<Place>
     ensures { result ≡ place_read (is_place (owner_of t)) (owner_of t) }
 {
-    Place::new(owner_digit(t) as u64)
+    Place::try_from(u64::from(owner_digit(t))).ok()
 }
 
 // The type of what a cell of that type holds.
@@ -75,30 +64,25 @@ pub fn content_of(t: u16) -> u16
     t % leftmost_unit(t)
 }
 
+#[tactic(auto, unfolding(crate::specs::Types::public))]
 pub fn is_public(t: u16) -> bool
     ensures { result ≡ public t }
 {
-    match owner_of(t) {
-        PlaceRead::At(owner) => !owner.is_private(),
-        PlaceRead::NoPlace => true,
-    }
+    owner_digit(t) != u16::from(Place::PRIVATE.number)
 }
 
-// The type of a cell of that owner around a type.
-pub fn cell_type(owner: Place, t: u16) -> CellRead
+/// The type of a cell of that owner around a type; `None` where there are three cells already or
+/// the owner is no place.
+pub fn cell_type(owner: Place, t: u16) -> Option<u16>
     ensures { result ≡ cell_read owner.number t }
 {
-    let o = owner.number;
-    if o < Place::PRIVATE.number {
-        return CellRead::TooDeep;
-    }
-    if Place::LAST_SCHEDULER.number < o {
-        return CellRead::TooDeep;
+    if !owner.is_place() {
+        return None;
     }
     if UNIT_3 <= t {
-        return CellRead::TooDeep;
+        return None;
     }
-    CellRead::Word((o as u16) * (16 * leftmost_unit(t)) + t)
+    Some(u16::from(owner.number) * (16 * leftmost_unit(t)) + t)
 }
 
 // Whether `o` may be an owner's digit with `left` to its left.
@@ -108,44 +92,26 @@ fn is_owner_digit(schedulers: u8, left: u16, o: u16) -> bool
     if o == 0 {
         return left == 0;
     }
-    if !Place::is_in_file(o as u64, schedulers) {
-        return false;
-    }
-    if o == Place::PRIVATE.number as u16 {
-        return left <= Place::PRIVATE.number as u16;
-    }
-    true
+    let private = u16::from(Place::PRIVATE.number);
+    Place::is_in_file(u64::from(o), schedulers) && (o != private || left <= private)
 }
 
-// Whether t is a type word of a file with so many schedulers.
+/// Whether t is a type word of a file with so many schedulers.
+#[tactic(auto, unfolding(crate::specs::Types::type_word))]
 pub fn is_type_word(schedulers: u8, t: u16) -> bool
     ensures { result ≡ type_word schedulers t }
 {
     let last = t % 16;
-    if last < NUMBER {
-        return false;
-    }
-    if TRUTH < last {
-        return false;
-    }
-    if !is_owner_digit(schedulers, t / UNIT_2 % 16, t / UNIT_1 % 16) {
-        return false;
-    }
-    if !is_owner_digit(schedulers, t / UNIT_3 % 16, t / UNIT_2 % 16) {
-        return false;
-    }
-    is_owner_digit(schedulers, 0, t / UNIT_3 % 16)
+    (last == NUMBER || last == TRUTH)
+        && is_owner_digit(schedulers, t / UNIT_2 % 16, t / UNIT_1 % 16)
+        && is_owner_digit(schedulers, t / UNIT_3 % 16, t / UNIT_2 % 16)
+        && is_owner_digit(schedulers, 0, t / UNIT_3 % 16)
 }
 
-// Whether t may be the type of a shared cell's content.
+/// Whether t may be the type of a shared cell's content.
+#[tactic(auto, unfolding(crate::specs::Types::content_word), using(crate::proofs::Words::depth_room))]
 pub fn is_content_word(schedulers: u8, t: u16) -> bool
     ensures { result ≡ content_word schedulers t }
 {
-    if !is_type_word(schedulers, t) {
-        return false;
-    }
-    if !is_public(t) {
-        return false;
-    }
-    t < UNIT_3
+    is_type_word(schedulers, t) && is_public(t) && t < UNIT_3
 }

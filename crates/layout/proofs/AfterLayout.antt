@@ -10,8 +10,10 @@ use Rattle.text.specs.Frames.{frames_of, text_frames}
 use Rattle.text.specs.Reading.{Reading, frames, refused, Reads}
 use Rattle.text.specs.Inner.Reading.{reading}
 use Rattle.text.proofs.Readings.{reads, reads_one, some_frame}
-use Rattle.layout.specs.declared.LayoutVerdict.TheVariants.{Rejected}
-use Rattle.layout.specs.declared.Laid.{Laid}
+use Rattle.language.specs.declared.refusal.Refusal.{Refusal}
+use Rattle.std.specs.Prelude.{Err}
+use Rattle.layout.specs.Verdicts.{LayoutVerdict, Rejected}
+use Rattle.layout.specs.Inner.Laid.{Laid, Lines}
 use Rattle.layout.specs.Faults.{NoFault}
 use Rattle.layout.specs.Inner.Scans.{layout_of}
 use Rattle.layout.specs.Inner.Layouts.{layout_read, layout_verdict, laid_as, laid_words}
@@ -29,21 +31,21 @@ module _ {A : Type 0} (refusal : ℕ → ℕ → A) (passed : List Frame → A) 
       ∙ ap (after_layout refusal (passed fs)) (no_fault_laid_out fs (some_frame h refl) f))
 
   module _ (l : Laid) (ws : List ℕ) (e : laid_as l ws ≡ laid_words bs) where
-    by_reading : (r : Reading) → reading bs ≡ r → (n j : ℕ) → l ≡ Laid.Rejected n j
-        → refusal n j ≡ after_reading refusal passed r
+    by_reading : (r : Reading) → reading bs ≡ r → (a : Refusal) → l ≡ Err a
+        → refusal a.number a.frame ≡ after_reading refusal passed r
     unfolding layout_verdict
-    by_reading (refused m k) q n j z =
-        let y : Rejected n j ≡ Rejected m k = verdict_rejected bs l ws e n j z ∙ ap layout_read q in
+    by_reading (refused m k) q a z =
+        let y : ◌≡◌ {A = LayoutVerdict} (Err a) (Rejected m k) = verdict_rejected bs l ws e a z ∙ ap layout_read q in
         ap (after_layout refusal (passed (text_frames bs))) y
-    by_reading (frames fs) q n j z =
-        let y : Rejected n j ≡ layout_of fs = verdict_rejected bs l ws e n j z ∙ ap layout_read q in
+    by_reading (frames fs) q a z =
+        let y : Err a ≡ layout_of fs = verdict_rejected bs l ws e a z ∙ ap layout_read q in
         ap (after_layout refusal (passed fs)) y
 
-    pub text_refused : (n j : ℕ) → l ≡ Laid.Rejected n j
-        → refusal n j ≡ after_reading refusal passed (reading bs)
-    text_refused n j z = by_reading (reading bs) refl n j z
+    pub text_refused : (a : Refusal) → l ≡ Err a
+        → refusal a.number a.frame ≡ after_reading refusal passed (reading bs)
+    text_refused a z = by_reading (reading bs) refl a z
 
-    pub text_passed : (n : ℕ) → l ≡ Laid.Lines n
+    pub text_passed : (n : ℕ) → l ≡ Lines n
         → passed (frames_of (take n ws)) ≡ after_reading refusal passed (reading bs)
     text_passed n z =
         let r = laid_passed bs l ws e n z in

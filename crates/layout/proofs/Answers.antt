@@ -1,4 +1,5 @@
 -- What the layout check answers on a text, from what its passes find. Assumes nothing.
+use Rattle.std.specs.Prelude.{Err}
 use mathlib.Core.Path.{◌≡◌, refl, sym, ap, ap₂, ◌∙◌}
 use mathlib.Core.List.{List}
 use Prim.Native.Nat.{ℕ, ◌-◌, ◌≤◌, ◌<◌}
@@ -10,17 +11,19 @@ use Rattle.text.specs.Frames.{words_of, frames_of, text_frames}
 use Rattle.text.specs.Reading.{Reading, frames, refused, Reads}
 use Rattle.text.specs.Inner.Reading.{reading, text_read, lines_read, word_array, TextWords, read_as}
 use Rattle.text.specs.Inner.Reading.{text_words}
-use Rattle.text.specs.declared.reading.TextRead.{TextRead}
-use Rattle.text.specs.declared.reading.TextRead.TheVariants.{Frames, Refused}
+use Rattle.language.proofs.VerdictLaws.{number_in, frame_in}
+use Rattle.text.specs.Inner.Reads.{TextRead}
+use Rattle.text.specs.Inner.Reads.{Frames}
+use Rattle.language.specs.declared.refusal.Refusal.{Refusal}
 use Rattle.text.proofs.Readings.{reads, some_frame}
 use Rattle.text.proofs.ReadLaws.{length_frames, array_length, read_field, length_words}
 use Rattle.fields.specs.declared.fault_search.FaultSearch.{FaultSearch}
 use Rattle.fields.specs.declared.fault_search.FaultSearch.TheVariants.{At, Nowhere}
 use Rattle.fields.specs.Inner.Scans.{header_fault, field_fault, found}
 use Rattle.fields.proofs.Finds.{found_none, found_some}
-use Rattle.layout.specs.declared.LayoutVerdict.{LayoutVerdict}
-use Rattle.layout.specs.declared.LayoutVerdict.TheVariants.{LaidOut, Rejected}
-use Rattle.layout.specs.declared.Laid.{Laid}
+use Rattle.layout.specs.Verdicts.{LayoutVerdict}
+use Rattle.layout.specs.Verdicts.{LaidOut, Rejected}
+use Rattle.layout.specs.Inner.Laid.{Laid, Lines}
 use Rattle.layout.specs.Inner.Scans.{order_fault, depth_fault, layout_of}
 use Rattle.layout.specs.Inner.Layouts.{layout_read, layout_verdict, laid_for, verdict_of}
 use Rattle.layout.specs.Inner.Layouts.{LaidWords, laid_as, laid_words}
@@ -98,13 +101,13 @@ module _ (bs : List ℕ) (t : TextRead) (ws : List ℕ) (h : read_as t ws ≡ te
       ap (λ (s : Reading). answer s ws) (sym e)
       ∙ ap (λ (x : TextWords). answer (reading bs) x.words) h
 
-  pub laid_refused : (n j : ℕ) → t ≡ Refused n j → laid_as (Laid.Rejected n j) ws ≡ laid_words bs
-  laid_refused n j e =
-      by_reading (refused n j) (go (reading bs) (sym (read_field bs (read_as t ws) h) ∙ e))
+  pub laid_refused : (a : Refusal) → t ≡ Err a → laid_as (Err a) ws ≡ laid_words bs
+  laid_refused a e =
+      by_reading (refused a.number a.frame) (go (reading bs) (sym (read_field bs (read_as t ws) h) ∙ e))
     where
-      go : (r : Reading) → text_read r ≡ Refused n j → r ≡ refused n j
+      go : (r : Reading) → text_read r ≡ Err a → r ≡ refused a.number a.frame
       go (frames fs) q = absurd (let z : ◌≡◌ {A = ℕ} 0 1 = cc in omega arith)
-      go (refused m k) q = (let a : m ≡ n = cc in let b : k ≡ j = cc in ap₂ refused a b)
+      go (refused m k) q = ap₂ refused (ap number_in q) (ap frame_in q)
 
   module _ (n : ℕ) (e : t ≡ Frames n) where
     w : Whole bs n
@@ -145,11 +148,10 @@ module _ (bs : List ℕ) (t : TextRead) (ws : List ℕ) (h : read_as t ws ≡ te
           ∙ ap (λ (k : ℕ). laid_as (laid_for (layout_of (text_frames bs)) k) ws) (sym w.count)
           ∙ by_reading (frames (text_frames bs)) w.is
 
-      pub laid_rejected : (m j : ℕ) → v ≡ Rejected m j
-          → laid_as (Laid.Rejected m j) ws ≡ laid_words bs
-      laid_rejected m j z = ap (λ (x : LayoutVerdict). laid_as (laid_for x n) ws) (sym z) ∙ laid_whole
+      pub laid_rejected : (a : Refusal) → v ≡ Err a → laid_as (Err a) ws ≡ laid_words bs
+      laid_rejected a z = ap (λ (x : LayoutVerdict). laid_as (laid_for x n) ws) (sym z) ∙ laid_whole
 
-      pub laid_lines : v ≡ LaidOut → laid_as (Laid.Lines n) ws ≡ laid_words bs
+      pub laid_lines : v ≡ LaidOut → laid_as (Lines n) ws ≡ laid_words bs
       laid_lines z = ap (λ (x : LayoutVerdict). laid_as (laid_for x n) ws) (sym z) ∙ laid_whole
 
 pub ruleset laid_laws = (laid_refused, laid_rejected, laid_lines)
@@ -169,12 +171,12 @@ module _ (bs : List ℕ) (l : Laid) (ws : List ℕ) (e : laid_as l ws ≡ laid_w
     where
       back : (v : LayoutVerdict) → verdict_of (laid_for v (lines_read (reading bs))) ≡ v
       back LaidOut = refl
-      back (Rejected n j) = refl
+      back (Err r) = refl
 
-  pub lines_are : (n : ℕ) → l ≡ Laid.Lines n → lines_read (reading bs) ≡ n
+  pub lines_are : (n : ℕ) → l ≡ Lines n → lines_read (reading bs) ≡ n
   lines_are n z = go (layout_verdict bs) (sym laid_is ∙ z)
     where
-      go : (v : LayoutVerdict) → laid_for v (lines_read (reading bs)) ≡ Laid.Lines n
+      go : (v : LayoutVerdict) → laid_for v (lines_read (reading bs)) ≡ Lines n
           → lines_read (reading bs) ≡ n
       go LaidOut q = cc
-      go (Rejected m j) q = absurd (let z : ◌≡◌ {A = ℕ} 0 1 = cc in omega arith)
+      go (Err r) q = absurd (let z : ◌≡◌ {A = ℕ} 0 1 = cc in omega arith)

@@ -8,13 +8,15 @@ use lib.ListN.{length, take}
 use Rattle.text.specs.Frames.{frames_of, text_frames}
 use Rattle.text.specs.Reading.{Reading, frames, refused, Reads}
 use Rattle.text.specs.Inner.Reading.{reading, text_read, lines_read, read_as, text_words}
-use Rattle.text.specs.declared.reading.TextRead.{TextRead}
-use Rattle.text.specs.declared.reading.TextRead.TheVariants.{Frames, Refused}
+use Rattle.text.specs.Inner.Reads.{TextRead}
+use Rattle.text.specs.Inner.Reads.{Frames}
+use Rattle.language.specs.declared.refusal.Refusal.{Refusal}
+use Rattle.std.specs.Prelude.{Err}
 use Rattle.text.proofs.Readings.{reads, reads_one, some_frame}
 use Rattle.text.proofs.ReadLaws.{read_field}
-use Rattle.layout.specs.declared.LayoutVerdict.{LayoutVerdict}
-use Rattle.layout.specs.declared.LayoutVerdict.TheVariants.{LaidOut, Rejected}
-use Rattle.layout.specs.declared.Laid.{Laid}
+use Rattle.layout.specs.Verdicts.{LayoutVerdict}
+use Rattle.layout.specs.Verdicts.{LaidOut}
+use Rattle.layout.specs.Inner.Laid.{Laid, Lines}
 use Rattle.layout.specs.Faults.{NoFault}
 use Rattle.layout.specs.Inner.Scans.{layout_of}
 use Rattle.layout.specs.LaidOut.{HasLayout, Judged}
@@ -49,7 +51,7 @@ unfolding layout_verdict
 frames_laid_out bs n w e = ap layout_read (sym w.is) ∙ e
 
 pub laid_passed : (bs : List ℕ) (l : Laid) (ws : List ℕ) → laid_as l ws ≡ laid_words bs → (n : ℕ)
-    → l ≡ Laid.Lines n → Passed bs n ws
+    → l ≡ Lines n → Passed bs n ws
 laid_passed bs l ws e n z =
     let a : layout_verdict bs ≡ LaidOut = sym (verdict_is bs l ws e) ∙ ap verdict_of z in
     let w = laid_reads bs a in
@@ -94,24 +96,23 @@ answer_judged bs l ws e = judged bs (verdict_of l) (verdict_is bs l ws e)
 
 -- of each answer of `lay_into`
 module _ (bs : List ℕ) (t : TextRead) (ws : List ℕ) (h : read_as t ws ≡ text_words bs) where
-  pub judged_refused : (n j : ℕ) → t ≡ Refused n j → Judged bs (Rejected n j)
-  judged_refused n j e = answer_judged bs (Laid.Rejected n j) ws (laid_refused bs t ws h n j e)
+  pub judged_refused : (a : Refusal) → t ≡ Err a → Judged bs (Err a)
+  judged_refused a e = answer_judged bs (Err a) ws (laid_refused bs t ws h a e)
 
   module _ (n : ℕ) (e : t ≡ Frames n) (v : LayoutVerdict)
       (q : v ≡ layout_of (frames_of (take n ws))) where
-    pub judged_rejected : (m j : ℕ) → v ≡ Rejected m j → Judged bs (Rejected m j)
-    judged_rejected m j z =
-        answer_judged bs (Laid.Rejected m j) ws (laid_rejected bs t ws h n e v q m j z)
+    pub judged_rejected : (a : Refusal) → v ≡ Err a → Judged bs (Err a)
+    judged_rejected a z = answer_judged bs (Err a) ws (laid_rejected bs t ws h n e v q a z)
 
     pub judged_lines : v ≡ LaidOut → Judged bs LaidOut
-    judged_lines z = answer_judged bs (Laid.Lines n) ws (laid_lines bs t ws h n e v q z)
+    judged_lines z = answer_judged bs (Lines n) ws (laid_lines bs t ws h n e v q z)
 
 pub ruleset judged_laws = (judged_refused, judged_rejected, judged_lines)
 
 -- the verdict alone
 module _ (bs : List ℕ) (l : Laid) (ws : List ℕ) (e : laid_as l ws ≡ laid_words bs) where
-  pub verdict_rejected : (n j : ℕ) → l ≡ Laid.Rejected n j → Rejected n j ≡ layout_verdict bs
-  verdict_rejected n j z = sym (ap verdict_of z) ∙ verdict_is bs l ws e
+  pub verdict_rejected : (a : Refusal) → l ≡ Err a → Err a ≡ layout_verdict bs
+  verdict_rejected a z = sym (ap verdict_of z) ∙ verdict_is bs l ws e
 
-  pub verdict_lines : (n : ℕ) → l ≡ Laid.Lines n → LaidOut ≡ layout_verdict bs
+  pub verdict_lines : (n : ℕ) → l ≡ Lines n → LaidOut ≡ layout_verdict bs
   verdict_lines n z = sym (ap verdict_of z) ∙ verdict_is bs l ws e

@@ -1,4 +1,5 @@
 -- Refusals 4 to 7: `layout_of` gives the first fault, and there is only one first. Assumes nothing.
+use Rattle.std.specs.Prelude.{Err}
 use mathlib.Core.Path.{◌≡◌, refl, sym, ap, ◌∙◌}
 use mathlib.Core.Logic.{◌⊎◌, inl, inr}
 use mathlib.Core.Bool.{Bool, true, false, not, true≢false}
@@ -14,8 +15,8 @@ use Rattle.language.specs.declared.frame.Frame.{Frame}
 use Rattle.program.specs.Trees.{no_frame, frame_at}
 use Rattle.fields.specs.Fields.{header_fine, frame_fine}
 use Rattle.fields.specs.Inner.Scans.{header_fault, field_fault, reject_at}
-use Rattle.layout.specs.declared.LayoutVerdict.{LayoutVerdict}
-use Rattle.layout.specs.declared.LayoutVerdict.TheVariants.{LaidOut, Rejected}
+use Rattle.layout.specs.Verdicts.{LayoutVerdict}
+use Rattle.layout.specs.Verdicts.{LaidOut, Rejected}
 use Rattle.layout.specs.Faults.{Fault, LayoutSays}
 use Rattle.layout.specs.Inner.Scans.{order_fault, depth_fault, layout_of}
 use Rattle.layout.proofs.Searches.{Lowest, same_low, lowest_all}
@@ -99,14 +100,14 @@ layout_says fs l =
 -- there is only one
 pub layout_one : (fs : List Frame) (r s : LayoutVerdict) → LayoutSays fs r → LayoutSays fs s → r ≡ s
 layout_one fs LaidOut LaidOut h g = refl
-layout_one fs LaidOut (Rejected n j) h g = absurd (h n j g.fault)
-layout_one fs (Rejected n j) LaidOut h g = absurd (g n j h.fault)
-layout_one fs (Rejected n j) (Rejected m k) h g =
-    go (h.least m k g.fault) (g.least n j h.fault)
+layout_one fs LaidOut (Err r) h g = absurd (h r.number r.frame g.fault)
+layout_one fs (Err r) LaidOut h g = absurd (g r.number r.frame h.fault)
+layout_one fs (Err r) (Err s) h g =
+    go (h.least s.number s.frame g.fault) (g.least r.number r.frame h.fault)
   where
-    go : (n < m) ⊎ ((n ≡ m) × (j ≤ k)) → (m < n) ⊎ ((m ≡ n) × (k ≤ j)) → Rejected n j ≡ Rejected m k
+    go : (r.number < s.number) ⊎ ((r.number ≡ s.number) × (r.frame ≤ s.frame)) → (s.number < r.number) ⊎ ((s.number ≡ r.number) × (s.frame ≤ r.frame)) → Rejected r.number r.frame ≡ Rejected s.number s.frame
     go (inl a) (inl b) = absurd (omega arith)
     go (inl a) (inr b) = absurd (let z = b.0 in omega arith)
     go (inr a) (inl b) = absurd (let z = a.0 in omega arith)
     go (inr a) (inr b) =
-        (let y : n ≡ m = a.0 in let p = a.1 in let q = b.1 in let z : j ≡ k = omega arith in cc)
+        (let y : r.number ≡ s.number = a.0 in let p = a.1 in let q = b.1 in let z : r.frame ≡ s.frame = omega arith in cc)

@@ -1,20 +1,15 @@
 -- The code's other passes of refusal 6: misplaced declarations, `main`, and the lowest frame of all
 -- four passes. Assumes nothing.
 use mathlib.Core.Path.{◌≡◌, refl, sym, ap, ap₂, ◌∙◌}
-use mathlib.Core.Bool.{Bool, true, false, not}
+use mathlib.Core.Bool.{Bool, true, false}
 use mathlib.Core.List.{List, [], ◌∷◌, ◌++◌}
 use mathlib.Core.Option.{none, some}
 use Prim.Native.Nat.{ℕ, ◌+◌, ◌-◌, ◌≤◌, ◌<◌, max}
 use native.Mathlib.Omega.{arith}
-use lib.Dec.{ltb, eqb}
-use borrow.Author.Tests.{not-true, not-false}
 use lib.ListN.{length, take}
 use Rattle.basics.specs.Inner.Searches.{lowest, earlier}
 use Rattle.basics.proofs.Ifs.{yes, no}
-use Rattle.language.specs.Kinds.{declaration_rank, file_rank, is_module}
-use Rattle.language.specs.declared.kind.DeclarationKind.{DeclarationKind}
-use Rattle.language.specs.declared.kind.Kind.{Kind}
-use Rattle.language.specs.declared.kind.Kind.TheVariants.{Declared}
+use Rattle.language.specs.Kinds.{file_rank}
 use Rattle.language.specs.declared.frame.Frame.{Frame}
 use Rattle.text.specs.Frames.{frames_of}
 use Rattle.text.proofs.FrameWords.{frames_length}
@@ -39,11 +34,6 @@ SeekingMisplaced fs i = Seeking (misplaced_test fs) fs i
 
 abbrev pub Highest : List Frame → ℕ → ℕ → Type 0
 Highest fs top i = top ≡ highest_rank (take i fs)
-
-pub late_declared : (k : Kind) (d : DeclarationKind) (r n : ℕ) → k ≡ Declared d
-    → r ≡ declaration_rank d → ltb r n ≡ is_late k n
-late_declared k d r n e h =
-    ap (λ (x : ℕ). ltb x n) h ∙ ap (λ (q : Kind). is_late q n) (sym e)
 
 pub highest_start : (fs : List Frame) → Highest fs 0 0
 unfolding highest_rank
@@ -83,15 +73,6 @@ pub misplaced_end : (ws : List ℕ) (i : ℕ) → SeekingMisplaced (frames_of ws
 misplaced_end ws i g l = seek_end (misplaced_test (frames_of ws)) ws i g l
 
 -- ---- main
-pub main_not : (f : Frame) (x : Bool) → x ≡ is_module f.kind → not x ≡ true → false ≡ is_main f
-main_not f x e n = rw (sym e ∙ not-true x n)
-
-pub main_by : (f : Frame) (x : Bool) → x ≡ is_module f.kind → not x ≡ false
-    → eqb f.s 0 ≡ is_main f
-main_by f x e n = rw (sym e ∙ not-false x n)
-
-pub ruleset main_laws = (main_not, main_by)
-
 module _ (ws : List ℕ) (f : Frame) (b : Bool) (e : f ≡ frame_at (frames_of ws) (length ws - 1)) (h : b ≡ is_main f) where
   main_is : is_main (frame_at (frames_of ws) (length (frames_of ws) - 1)) ≡ b
   main_is =

@@ -23,7 +23,7 @@ use Rattle.program.specs.Inner.Ordered.{Placed}
 use Rattle.program.proofs.NodeLaws.{children_as, children_as_lem}
 use Rattle.fields.specs.Fields.{schedulers_of, field_fine, frame_fine}
 use Rattle.fields.proofs.FramePass.{fine_parts}
-use Rattle.layout.specs.declared.LayoutVerdict.TheVariants.{LaidOut}
+use Rattle.layout.specs.Verdicts.{LaidOut}
 use Rattle.layout.specs.Order.{is_main}
 use Rattle.layout.specs.Depths.{Depth}
 use Rattle.layout.specs.Faults.{Fault, NoFault, LayoutSays}

@@ -1,5 +1,6 @@
 -- Refusals 4 to 7: what each fault of the layout is, and which comes first. Nothing is computed
 -- here.
+use Rattle.std.specs.Prelude.{Err}
 use Rattle.std.specs.Prelude.{◌≤◌, ◌<◌, ◌≡◌, ◌⊎◌}
 use Rattle.basics.specs.Prelude.{List, true, false, ℕ, suc, length}
 use Rattle.language.specs.{Kinds.declaration_rank, Kinds.file_rank, Kinds.class_of}
@@ -9,8 +10,8 @@ use Rattle.language.specs.{declared.frame.Frame.Frame, Refusals.wrong_header, Re
 use Rattle.language.specs.{Refusals.wrong_order, Refusals.too_deep, Limits.most_depth}
 use Rattle.program.specs.Trees.{frame_at}
 use Rattle.fields.specs.Fields.{header_fine, frame_fine}
-use Rattle.layout.specs.declared.LayoutVerdict.{LayoutVerdict}
-use Rattle.layout.specs.declared.LayoutVerdict.TheVariants.{LaidOut, Rejected}
+use Rattle.layout.specs.Verdicts.{LayoutVerdict}
+use Rattle.layout.specs.Verdicts.{LaidOut, Rejected}
 use Rattle.layout.specs.Order.{Tree, has_child, has_class, is_main}
 use Rattle.layout.specs.Depths.{Depth}
 
@@ -50,4 +51,4 @@ pub record FirstFault (fs : List Frame) (n j : ℕ) : Type 0 where
 -- what refusals 4 to 7 say of the frames
 abbrev pub LayoutSays : List Frame → LayoutVerdict → Type 0
 LayoutSays fs LaidOut = NoFault fs
-LayoutSays fs (Rejected n j) = FirstFault fs n j
+LayoutSays fs (Err r) = FirstFault fs r.number r.frame

@@ -1,3 +1,4 @@
+pub mod Laid
 pub mod Scans
 pub mod Uses
 pub mod Passes

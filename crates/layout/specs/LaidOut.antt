@@ -1,10 +1,11 @@
 -- Refusals 1 to 7 on a text.
+use Rattle.std.specs.Prelude.{Err}
 use Rattle.std.specs.Prelude.{◌≡◌}
 use Rattle.basics.specs.Prelude.{List, ℕ}
 use Rattle.language.specs.declared.frame.Frame.{Frame}
 use Rattle.text.specs.Reading.{Reading, frames, refused, Reads}
-use Rattle.layout.specs.declared.LayoutVerdict.{LayoutVerdict}
-use Rattle.layout.specs.declared.LayoutVerdict.TheVariants.{LaidOut, Rejected}
+use Rattle.layout.specs.Verdicts.{LayoutVerdict}
+use Rattle.layout.specs.Verdicts.{LaidOut, Rejected}
 use Rattle.layout.specs.Faults.{LayoutSays}
 use Rattle.layout.specs.Inner.Scans.{layout_of}
 
@@ -24,7 +25,7 @@ pub record Judged (bs : List ℕ) (v : LayoutVerdict) : Type 0 where
 
 abbrev pub after_layout : {A : Type 0} → (ℕ → ℕ → A) → A → LayoutVerdict → A
 after_layout refusal passed LaidOut = passed
-after_layout refusal passed (Rejected n j) = refusal n j
+after_layout refusal passed (Err r) = refusal r.number r.frame
 
 abbrev pub after_reading : {A : Type 0} → (ℕ → ℕ → A) → (List Frame → A) → Reading → A
 after_reading refusal passed (frames fs) = after_layout refusal (passed fs) (layout_of fs)

@@ -1,3 +1,4 @@
+pub mod Verdicts
 pub mod Order
 pub mod Uses
 pub mod Depths

@@ -12,22 +12,18 @@ ghost use Rattle.layout.specs.Inner.Passes.{given, raised, depths_down};
 
 use fields::fault_search::FaultSearch;
 use language::frame::Frame;
-use language::kind::is_module;
 use language::limit::{MOST_DEPTH, MOST_LINES};
 use program::frames::{child_numbers, frame_at};
 
 // At v a depth of at least d. A number after the last frame raises nothing.
+#[tactic(auto, using(crate::proofs::Raises::raise_laws))]
 fn raise(u: &mut [u8; MOST_LINES], d: u8, v: u16)
     ensures { u.new ≡ raised d u.old v }
 {
     let j = v as usize;
-    if MOST_LINES <= j {
-        return;
+    if j < MOST_LINES && u[j] < d {
+        u[j] = d;
     }
-    if d <= u[j] {
-        return;
-    }
-    u[j] = d;
 }
 
 fn raise_frame(u: &mut [u8; MOST_LINES], d: u8, f: Frame)
@@ -48,7 +44,7 @@ fn given_by(f: Frame, d: u8) -> u8
 {
     let kind = f.kind;
     if d == 0 {
-        if is_module(kind) {
+        if kind.is_module() {
             return 1;
         }
         return 0;
@@ -81,12 +77,10 @@ pub(crate) fn depth(words: &[u64]) -> FaultSearch
 {
     let mut u = [0u8; MOST_LINES];
     depths_down(words, &mut u);
-    let mut i = 0;
-    while i < words.len() {
+    for i in 0..words.len() {
         if u[i] > MOST_DEPTH {
             return FaultSearch::At(i as u16);
         }
-        i += 1;
     }
     FaultSearch::Nowhere
 }

@@ -14,7 +14,7 @@ ghost use Rattle.layout.specs.Inner.Passes.{subtree_of, told, Backward};
 use crate::uses::count_uses;
 use fields::fault_search::{FaultSearch, lower};
 use language::frame::Frame;
-use language::kind::{Class, Kind, class_of, declaration_rank, is_module};
+use language::kind::{Class, Kind};
 use language::limit::MOST_LINES;
 use program::frames::{Children, children_of, frame_at, same_class};
 
@@ -50,7 +50,7 @@ fn child_first(
     }
     let f = frame_at(words, j);
     let kind = f.kind;
-    if !same_class(class_of(kind), class) {
+    if !same_class(kind.class(), class) {
         return Subtree::OutOfOrder;
     }
     Subtree::From(first[j])
@@ -106,8 +106,7 @@ fn disorder(words: &[u64]) -> FaultSearch
     ensures { result ≡ found (first_disorder [] 0 (frames_of words.now)) }
 {
     let mut first = [0u16; MOST_LINES];
-    let mut i = 0;
-    while i < words.len() {
+    for i in 0..words.len() {
         let f = frame_at(words, i);
         match row_first(words, &first, i, f) {
             Subtree::OutOfOrder => {
@@ -117,7 +116,6 @@ fn disorder(words: &[u64]) -> FaultSearch
                 first[i] = lo;
             }
         }
-        i += 1;
     }
     FaultSearch::Nowhere
 }
@@ -131,11 +129,8 @@ fn file_rank(k: Kind) -> u8
 {
     match k {
         Kind::Header => 0,
-        Kind::Declared(d) => declaration_rank(d),
-        Kind::Module => LAST_RANK,
-        Kind::Statement(s) => LAST_RANK,
-        Kind::Expression(e) => LAST_RANK,
-        Kind::Unknown => LAST_RANK,
+        Kind::Declared(d) => d.rank(),
+        _ => LAST_RANK,
     }
 }
 
@@ -149,16 +144,13 @@ fn higher(a: u8, b: u8) -> u8
 }
 
 // A declaration, where a frame of a later rank was before: `top` is the highest.
+#[tactic(auto, unfolding(crate::specs::Inner::Scans::is_late))]
 fn is_late(k: Kind, top: u8) -> bool
     ensures { result ≡ is_late k top }
 {
     match k {
-        Kind::Header => false,
-        Kind::Declared(d) => declaration_rank(d) < top,
-        Kind::Module => false,
-        Kind::Statement(s) => false,
-        Kind::Expression(e) => false,
-        Kind::Unknown => false,
+        Kind::Declared(d) => d.rank() < top,
+        _ => false,
     }
 }
 
@@ -170,15 +162,12 @@ fn misplaced(words: &[u64]) -> FaultSearch
         (frames_of words.now)) }
 {
     let mut top: u8 = 0;
-    let mut i = 0;
-    while i < words.len() {
-        let f = frame_at(words, i);
-        let kind = f.kind;
+    for i in 0..words.len() {
+        let kind = frame_at(words, i).kind;
         if is_late(kind, top) {
             return FaultSearch::At(i as u16);
         }
         top = higher(top, file_rank(kind));
-        i += 1;
     }
     FaultSearch::Nowhere
 }
@@ -202,26 +191,20 @@ fn leftover(words: &[u64]) -> FaultSearch
 {
     let mut counts = [0u8; MOST_LINES];
     count_uses(words, &mut counts);
-    let mut i = 0;
-    while i < words.len() {
-        let f = frame_at(words, i);
-        let kind = f.kind;
-        if is_left(class_of(kind), counts[i]) {
+    for i in 0..words.len() {
+        let kind = frame_at(words, i).kind;
+        if is_left(kind.class(), counts[i]) {
             return FaultSearch::At(i as u16);
         }
-        i += 1;
     }
     FaultSearch::Nowhere
 }
 
+#[tactic(auto, unfolding(crate::specs::Order::is_main))]
 fn is_main(f: Frame) -> bool
     ensures { result ≡ is_main f }
 {
-    let kind = f.kind;
-    if !is_module(kind) {
-        return false;
-    }
-    f.s == 0
+    f.kind.is_module() && f.s == 0
 }
 
 // The last frame, if it is not `main`.

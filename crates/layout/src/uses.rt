@@ -14,17 +14,14 @@ use program::frames::{child_numbers, frame_at};
 pub const TWICE: u8 = 2;
 
 // One more use of v. A number after the last frame counts for nothing.
+#[tactic(auto, using(crate::proofs::UseCounts::count_laws))]
 fn count(counts: &mut [u8; MOST_LINES], v: u16)
     ensures { counts.new ≡ counted counts.old v }
 {
     let j = v as usize;
-    if MOST_LINES <= j {
-        return;
+    if j < MOST_LINES && counts[j] < TWICE {
+        counts[j] += 1;
     }
-    if TWICE <= counts[j] {
-        return;
-    }
-    counts[j] = counts[j] + 1;
 }
 
 fn count_frame(counts: &mut [u8; MOST_LINES], f: Frame)
@@ -43,9 +40,7 @@ pub fn count_uses(words: &[u64], counts: &mut [u8; MOST_LINES])
     requires { counts.old ≡ replicate most_lines 0 }
     ensures { CountsUses (frames_of words.now) counts.new }
 {
-    let mut i: usize = 0;
-    while i < words.len() {
+    for i in 0..words.len() {
         count_frame(counts, frame_at(words, i));
-        i += 1;
     }
 }

@@ -8,7 +8,6 @@ use files::{print, read_file};
 use language::frame::Frame;
 use language::limit::MOST_BYTES;
 use listing::digits::four_digits;
-use text::line::FrameRead;
 
 fn print_number(rt: &(impl Print + Eprint), n: u16) {
     let digits = four_digits(n);
@@ -31,9 +30,8 @@ fn main(rt: HostRuntime) {
     let n = file.count;
     let frames = lines::leading_frames(&text[..n]);
     print_number(&rt, (frames % 65536) as u16);
-    match lines::first_frame(&text[..n]) {
-        FrameRead::Read(first) => print_first(&rt, first),
-        FrameRead::NoFrame => {}
+    if let Some(first) = lines::first_frame(&text[..n]) {
+        print_first(&rt, first);
     }
     print(&rt, b"\n", 1);
 }

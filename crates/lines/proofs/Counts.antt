@@ -1,5 +1,6 @@
 -- The count of frames: it is what its words say, each line that it counts is a frame and the line
 -- after them is none; and laws of the loop of `frames_from`, which counts them. Assumes nothing.
+use Rattle.std.specs.Prelude.{Option}
 use mathlib.Core.Path.{◌≡◌, refl, sym, ap, ◌∙◌}
 use mathlib.Core.Bool.{Bool, true, false, not}
 use mathlib.Core.List.{List}
@@ -8,8 +9,8 @@ use native.Mathlib.Numerals.{add-one}
 use native.Mathlib.Omega.{arith}
 use borrow.Author.Tests.{not-true, not-false}
 use Rattle.basics.proofs.Ifs.{if_yes, if_no}
+use Rattle.language.specs.declared.frame.Frame.{Frame}
 use Rattle.text.specs.Inner.Lines.{frame_read}
-use Rattle.text.specs.declared.line.FrameRead.{FrameRead}
 use Rattle.text.proofs.FrameLaws.{frame_over}
 use Rattle.lines.specs.Readers.{is_read, frames_of_next, frames_from}
 
@@ -103,16 +104,16 @@ module _ (bs : List ℕ) (n at : ℕ) (t : Counting bs n at) where
   pub count_ends : 1024 ≤ at → at - n ≡ frames_from bs n
   count_ends h = let z = from_end bs at h in let r = t.rest in omega arith
 
-  module _ (f : FrameRead) (b : Bool) (e : f ≡ frame_read bs at) (d : b ≡ is_read f) (h : at < 1024) where
-    pub count_stops : not b ≡ true → at - n ≡ frames_from bs n
+  module _ (f : Option Frame) (b : Bool) (e : f ≡ frame_read bs at) (d : is_read f ≡ not b) (h : at < 1024) where
+    pub count_stops : b ≡ true → at - n ≡ frames_from bs n
     count_stops g =
-        let z = from_none bs at h (ap is_read (sym e) ∙ sym d ∙ not-true b g) in
+        let z = from_none bs at h (ap is_read (sym e) ∙ d ∙ ap not g) in
         let r = t.rest in
         omega arith
 
-    pub counting_more : not b ≡ false → Counting bs n (at + 1)
+    pub counting_more : b ≡ false → Counting bs n (at + 1)
     counting_more g =
-        let z = from_frame bs at h (ap is_read (sym e) ∙ sym d ∙ not-false b g) in
+        let z = from_frame bs at h (ap is_read (sym e) ∙ d ∙ ap not g) in
         let r = t.rest in
         let l = t.begun in
         record { begun = omega arith; rest = rw add-one (omega arith) }

@@ -1,12 +1,11 @@
 -- A reader of a text's lines, of 17 bytes each.
-use Rattle.std.specs.Prelude.{◌-◌, ◌/◌}
+use Rattle.std.specs.Prelude.{◌-◌, ◌/◌, Option, is_some}
+use Rattle.language.specs.declared.frame.Frame.{Frame}
 use Rattle.basics.specs.Prelude.{List, Bool, true, false, ℕ, zero, suc, ltb, length}
 use Rattle.basics.specs.Prelude.{when◌then◌else◌}
 use Rattle.std.specs.Borrow.{Bor}
 use Rattle.language.specs.Limits.{line_length, most_lines}
 use Rattle.text.specs.Inner.Lines.{frame_read}
-use Rattle.text.specs.declared.line.FrameRead.{FrameRead}
-use Rattle.text.specs.declared.line.FrameRead.TheVariants.{Read, NoFrame}
 use Rattle.lines.specs.declared.LineReader.{LineReader}
 
 -- ---- on a text and the number of a line
@@ -15,8 +14,8 @@ use Rattle.lines.specs.declared.LineReader.{LineReader}
 unfoldable pub line_after : List ℕ → ℕ → ℕ
 line_after bs n = when ltb n (length bs / line_length) then suc n else n
 
-abbrev pub is_read : FrameRead → Bool
-is_read r = elim r [ Read f ↦ true | NoFrame ↦ false ]
+abbrev pub is_read : Option Frame → Bool
+is_read r = is_some r
 
 -- how many of the k lines from line n on are frames, up to the first that is none
 unfoldable pub frames_of_next : ℕ → List ℕ → ℕ → ℕ
@@ -35,7 +34,7 @@ frames_from bs n = frames_of_next (most_lines - n) bs n
 abbrev pub opened : Bor (List ℕ) → LineReader
 opened text = record { text = text; next = 0 }
 
-abbrev pub frame_here : LineReader → FrameRead
+abbrev pub frame_here : LineReader → Option Frame
 frame_here r = frame_read r.text.now r.next
 
 abbrev pub moved : LineReader → LineReader

@@ -4,11 +4,12 @@
 
 ghost use Rattle.std.specs.Prelude.{◌≡◌};
 ghost use Rattle.text.specs.Inner.Lines.{frame_read};
-ghost use Rattle.lines.specs.Readers.{line_after, is_read, frames_from, opened, frame_here};
+ghost use Rattle.lines.specs.Readers.{line_after, frames_from, opened, frame_here};
 ghost use Rattle.lines.specs.Readers.{moved, frames_ahead};
 
+use language::frame::Frame;
 use language::limit::{LINE_LENGTH, MOST_LINES};
-use text::line::{FrameRead, frame_at};
+use text::line::frame_at;
 
 #[derive(Clone, Copy)]
 pub struct LineReader<'a> {
@@ -27,22 +28,13 @@ fn line_after(text: &[u8], n: usize) -> usize
     n + 1
 }
 
-fn is_read(f: FrameRead) -> bool
-    ensures { result ≡ is_read f }
-{
-    match f {
-        FrameRead::Read(frame) => true,
-        FrameRead::NoFrame => false,
-    }
-}
-
 // How many lines from line n on are frames, up to the first that is none.
 fn frames_from(text: &[u8], n: usize) -> usize
     ensures { result ≡ frames_from text.now n }
 {
     let mut at = n;
     while at < MOST_LINES {
-        if !is_read(frame_at(text, at)) {
+        if frame_at(text, at).is_none() {
             return at - n;
         }
         at += 1;
@@ -58,7 +50,7 @@ pub fn open<'a>(text: &'a [u8]) -> LineReader<'a>
 }
 
 // The frame of the reader's line, if that line is one, and the reader goes to the next line.
-pub fn next_frame<'s, 'a>(r: &'s mut LineReader<'a>) -> FrameRead
+pub fn next_frame<'s, 'a>(r: &'s mut LineReader<'a>) -> Option<Frame>
     ensures { (result ≡ frame_here r.old) × (r.new ≡ moved r.old) }
 {
     let text = r.text;
@@ -82,7 +74,7 @@ pub fn leading_frames(text: &[u8]) -> usize
 }
 
 // The frame of a text's first line, if that line is one.
-pub fn first_frame(text: &[u8]) -> FrameRead
+pub fn first_frame(text: &[u8]) -> Option<Frame>
     ensures { result ≡ frame_read text.now 0 }
 {
     let mut r = open(text);

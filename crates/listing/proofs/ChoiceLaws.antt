@@ -10,7 +10,7 @@ use lib.ListN.{length, get_or, take, drop, length-drop, drop_of_length-le}
 use lib.Seq.{drop-drop}
 use borrow.Author.Tests.{lt-ltb, le-ltb, eq-eqb, ne_eqb, leb-true, le-leb, lt-leb}
 use Rattle.basics.specs.If.{when◌then◌else◌}
-use Rattle.basics.proofs.Ifs.{if_all, yes, no, and_true, and_swap, and_off}
+use Rattle.basics.proofs.Ifs.{if_all, yes, no, and_true, and_swap}
 use Rattle.text.specs.Digits.{digit}
 use Rattle.text.proofs.ReadLaws.{part_all}
 use Rattle.machine.specs.Inner.Ranges.{all_below}
@@ -65,34 +65,6 @@ module _ (bytes : List ℕ) where
       h ∙ ap (λ (j : ℕ). all_below j (is_right bytes)) e
       ∙ sym (ap (λ (t : Bool). t && all_below 48 (is_right bytes)) (le-leb 48 (length bytes) l))
 
-  -- ---- one choice, return by return
-  pub choice_short : length bytes < 3 → false ≡ starts_choice bytes
-  unfolding starts_choice
-  choice_short h = sym (rw (lt-leb 3 (length bytes) h) refl)
-
-  malformed_first : is_choice (get_or bytes 0 0) (get_or bytes 1 0) (get_or bytes 2 0) ≡ false
-      → false ≡ starts_choice bytes
-  unfolding starts_choice
-  malformed_first e =
-      sym (ap (λ (t : Bool). leb 3 (length bytes) && t) e ∙ and_off (leb 3 (length bytes)))
-
-  module _ (a : ℕ) (first : a ≡ digit (get_or bytes 0 0)) where
-    pub choice_first : 16 ≤ a → false ≡ starts_choice bytes
-    unfolding is_choice
-    choice_first h =
-        malformed_first (rw (le-ltb (digit (get_or bytes 0 0)) 16 (omega arith)) refl)
-
-    module _ (b : ℕ) (second : b ≡ digit (get_or bytes 1 0)) (low : a < 16) where
-      pub choice_second : 16 ≤ b → false ≡ starts_choice bytes
-      unfolding is_choice
-      choice_second h =
-          malformed_first (rw (lt-ltb (digit (get_or bytes 0 0)) 16 (omega arith), le-ltb (digit (get_or bytes 1 0)) 16 (omega arith)) refl)
-
-      pub choice_feed : b < 16 → 3 ≤ length bytes → eqb (get_or bytes 2 0) 10 ≡ starts_choice bytes
-      unfolding starts_choice is_choice
-      choice_feed h l =
-          sym (rw (le-leb 3 (length bytes) l, lt-ltb (digit (get_or bytes 0 0)) 16 (omega arith), lt-ltb (digit (get_or bytes 1 0)) 16 (omega arith)) refl)
-
   -- ---- how many choices are ahead, return by return
   module _ (s : Bool) (block : s ≡ starts_block bytes) where
     pub ahead_block : s ≡ true → 16 ≡ choices_ahead bytes
@@ -107,8 +79,6 @@ module _ (bytes : List ℕ) where
       pub ahead_none : s ≡ false → t ≡ false → 0 ≡ choices_ahead bytes
       unfolding choices_ahead
       ahead_none e f = no _ (sym block ∙ e) (no _ (sym one ∙ f) refl)
-
-pub ruleset starts_laws = (choice_short, choice_first, choice_second, choice_feed)
 
 pub ruleset ahead_laws = (ahead_block, ahead_one, ahead_none)
 

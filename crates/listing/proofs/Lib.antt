@@ -5,5 +5,3 @@ pub mod ChoicesAt
 pub mod ChoiceLaws
 -- How many choices a run uses.
 pub mod Allowances
--- The buffer.
-pub mod BufferLaws

@@ -3,7 +3,7 @@ use mathlib.Core.Path.{◌≡◌, sym, ap, ◌∙◌}
 use mathlib.Core.List.{List, [], ◌∷◌}
 use Prim.Native.Nat.{ℕ}
 use lib.ListN.{get_or}
-use Rattle.language.specs.declared.verdict.Verdict.{Verdict}
+use Rattle.language.specs.Verdicts.{Verdict}
 use Rattle.listing.specs.Listing.{two_digits, four_digits, refusal_line, check_line}
 use Rattle.listing.specs.Listing.{choice_line_of, last_line}
 

@@ -1,12 +1,13 @@
 -- What `check` and `run` print, as bytes.
+use Rattle.std.specs.Prelude.{Err}
 use Rattle.std.specs.Prelude.{◌∷◌, ◌++◌, ◌&&◌, ◌+◌, ◌*◌}
 use Rattle.basics.specs.Prelude.{List, [], Bool, true, false, ℕ, suc}
 use Rattle.std.specs.Prelude.{◌/◌, ◌%◌}
 use Rattle.basics.specs.Prelude.{min, ltb, leb, eqb, length, take}
 use Rattle.language.specs.{declared.frame.Frame.Frame, Verdicts.number_of, Verdicts.frame_of}
-use Rattle.language.specs.{declared.verdict.Verdict.Verdict}
-use Rattle.language.specs.{declared.verdict.Verdict.TheVariants.Accepted}
-use Rattle.language.specs.{declared.verdict.Verdict.TheVariants.Rejected, Limits.most_choice_bytes}
+use Rattle.language.specs.{Verdicts.Verdict}
+use Rattle.language.specs.{Verdicts.Accepted}
+use Rattle.language.specs.{Verdicts.Rejected, Limits.most_choice_bytes}
 use Rattle.language.specs.{Refusals.long_text, Refusals.malformed_text, Refusals.too_deep}
 use Rattle.text.specs.Digits.{digit, digit_byte, line_feed}
 use Rattle.program.specs.Programs.{Program, program_of}
@@ -35,7 +36,7 @@ check_line v = refusal_line (number_of v) (frame_of v)
 
 -- '`run` prints that line, then after 1 to 7 stops.'
 abbrev pub stops : Verdict → Bool
-stops v = elim v [ Accepted ↦ false | Rejected n i ↦ leb n too_deep ]
+stops v = elim v [ Accepted ↦ false | Err r ↦ leb r.number too_deep ]
 
 -- ---- choices.txt
 

@@ -8,9 +8,5 @@ pub fn put(out: &mut [u8], at: usize, line: &[u8])
     ensures { out.new
         ≡ paste out.old at line.now (length line.now) }
 {
-    let mut k = 0;
-    while k < line.len() {
-        out[at + k] = line[k];
-        k += 1;
-    }
+    out[at..at + line.len()].copy_from_slice(line);
 }

@@ -27,13 +27,14 @@ pub enum ChoicesRead {
 }
 
 // Whether a byte is right at that position: a digit, or where a line ends a line feed.
+#[tactic(auto, using(crate::proofs::ChoiceLaws::byte_laws))]
 fn is_right(position: usize, b: u8) -> bool
     ensures { result ≡ right_byte position b }
 {
-    if position % CHOICE_BYTES != FEED_AT {
-        return digit(b) < 16;
+    if position % CHOICE_BYTES == FEED_AT {
+        return b == LINE_FEED;
     }
-    b == LINE_FEED
+    digit(b) < 16
 }
 
 // Whether the bytes begin with a block of choices. The loop has no exit, so that the compiler takes
@@ -45,28 +46,21 @@ fn starts_block(bytes: &[u8]) -> bool
         return false;
     }
     let mut right = true;
-    let mut k: usize = 0;
-    while k < BLOCK_BYTES {
+    for k in 0..BLOCK_BYTES {
         right &= is_right(k, bytes[k]);
-        k += 1;
     }
     right
 }
 
 // Whether the bytes begin with a choice.
+#[tactic(auto, unfolding(crate::specs::Inner::Choices::starts_choice, crate::specs::Listing::is_choice))]
 fn starts_choice(bytes: &[u8]) -> bool
     ensures { result ≡ starts_choice bytes.now }
 {
-    if bytes.len() < CHOICE_BYTES {
-        return false;
-    }
-    if 16 <= digit(bytes[0]) {
-        return false;
-    }
-    if 16 <= digit(bytes[1]) {
-        return false;
-    }
-    bytes[FEED_AT] == LINE_FEED
+    CHOICE_BYTES <= bytes.len()
+        && digit(bytes[0]) < 16
+        && digit(bytes[1]) < 16
+        && bytes[FEED_AT] == LINE_FEED
 }
 
 // How many choices the bytes are seen to begin with: a block, one, or none.

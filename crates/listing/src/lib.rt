@@ -10,7 +10,7 @@ ghost use Rattle.std.specs.Prelude.{◌≡◌};
 ghost use Rattle.listing.specs.Listing.{refusal_line, check_line};
 
 use crate::digits::{four_digits, two_digits};
-use language::verdict::Verdict;
+use language::refusal::Verdict;
 
 // A number and a frame, in two and in four digits.
 pub fn refusal_line(n: u8, i: u16) -> [u8; 8]
@@ -26,7 +26,7 @@ pub fn check_line(v: Verdict) -> [u8; 8]
     ensures { result ≡ check_line v }
 {
     match v {
-        Verdict::Accepted => refusal_line(0, 0),
-        Verdict::Rejected(n, i) => refusal_line(n, i),
+        Ok(()) => refusal_line(0, 0),
+        Err(refusal) => refusal_line(refusal.number, refusal.frame),
     }
 }

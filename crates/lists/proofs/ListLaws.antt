@@ -2,10 +2,12 @@
 -- turn of a loop and each return of the code. Assumes nothing.
 use Prim.Native.Nat.{ℕ, ◌+◌, ◌*◌, ◌-◌, ◌<◌, ◌≤◌}
 use mathlib.Core.Path.{◌≡◌, refl, sym, ap, ◌∙◌}
-use mathlib.Core.List.{List, [], ◌∷◌}
+use mathlib.Core.List.{List, [], ◌∷◌, ◌++◌}
 use mathlib.Core.Bool.{true, false}
 use native.Mathlib.Omega.{arith}
-use lib.ListN.{get_or, length, set, drop, length-append, length-drop, get_or-append}
+use Rattle.std.specs.List.{copy_within}
+use Rattle.std.proofs.lemmas.List.{get_or-take, length-take-le, ext_get_or}
+use lib.ListN.{get_or, length, set, take, drop, length-append, length-drop, get_or-append}
 use lib.Seq.{get_or-drop, get_or_at}
 use lib.Dec.{leb, ltb, eqb}
 use borrow.Author.Tests.{lt-ltb, le-ltb, lt-leb, eq-eqb, ne_eqb}
@@ -14,19 +16,12 @@ use Rattle.basics.proofs.Ifs.{yes, no}
 use Rattle.language.specs.Places.{is_scheduler}
 use Rattle.language.proofs.PlaceLaws.{test_bounds}
 use Rattle.machine.specs.Inner.Blocks.{part, pasted}
-use Rattle.machine.proofs.WordLaws.{pasted_more, pasted_out, part_at, part_length}
+use Rattle.machine.proofs.WordLaws.{pasted_more, part_at, part_length}
 use Rattle.lists.specs.Inner.Lists.{shifted, without_first, with_last}
 
 -- ---- where the lists of a scheduler begin; k is which of the schedulers it is, from 0
-pub active_place : (n k : ℕ) → k ≡ n - 2 → 2 + 130 * k ≡ 2 + 130 * (n - 2)
-active_place n k e = ap (λ (i : ℕ). 2 + 130 * i) e
-
 pub active_space : (n k : ℕ) → k ≡ n - 2 → is_scheduler n ≡ true → 2 + 130 * k + 130 ≤ 1042
 active_space n k e h = let (a, b) = test_bounds 2 n h in omega arith
-
-pub first_read : (w : List ℕ) (at k : ℕ) → at ≡ 2 + 130 * k
-    → get_or w (at + 1) 0 ≡ get_or w (3 + 130 * k) 0
-first_read w at k e = let z : at + 1 ≡ 3 + 130 * k = omega arith in ap (λ (i : ℕ). get_or w i 0) z
 
 -- ---- the end of a next list
 module _ (w : List ℕ) (at i m : ℕ) (z : at ≡ i) where
@@ -74,8 +69,7 @@ module _ (ws : List ℕ) (n : ℕ) (some : 1 ≤ n) (h : length ws ≡ n) where
   unfolding shifted
   shifted_last = get_or_at (drop 1 ws) 0 [] 0 (n - 1) tail_length
 
-module _ (w v : List ℕ) (at n j : ℕ) (e : v ≡ pasted w at (shifted (part w at n)) j)
-    (some : 1 ≤ n) (h : at + n ≤ length w) where
+module _ (w : List ℕ) (at n : ℕ) (some : 1 ≤ n) (h : at + n ≤ length w) where
   abbrev B : List ℕ
   B = shifted (part w at n)
 
@@ -85,29 +79,33 @@ module _ (w v : List ℕ) (at n j : ℕ) (e : v ≡ pasted w at (shifted (part w
   long : length (shifted (part w at n)) ≡ n
   long = shifted-length (part w at n) n some block
 
-  pub shift_more : j < n - 1
-      → set v (at + j) (get_or v (at + j + 1) 0) ≡ pasted w at (shifted (part w at n)) (j + 1)
-  shift_more g =
-      pasted_more w B v at j (get_or v (at + j + 1) 0) e read (omega arith)
-      (let l = long in omega arith)
+  -- the same words are copied, whether they are taken from all words or from the part
+  same : (m : ℕ) → m ≡ n - 1 → take m (drop (at + 1) w) ≡ take m (shifted (part w at n))
+  same m e =
+      ext_get_or 0 _ _
+      (length-take-le m (drop (at + 1) w) (rw (length-drop (at + 1) w) (omega arith))
+      ∙ sym (length-take-le m B (let l = long in omega arith)))
+      (λ i g. let k : i < m = rw (length-take-le m (drop (at + 1) w) (rw (length-drop (at + 1) w) (omega arith))) at g in
+      get_or-take m (drop (at + 1) w) i 0 k ∙ get_or-drop (at + 1) w i 0
+      ∙ ap (λ (j : ℕ). get_or w j 0) (next i)
+      ∙ sym (part_at w at n (1 + i) (omega arith))
+      ∙ sym (shifted_at (part w at n) n some block i (omega arith))
+      ∙ sym (get_or-take m B i 0 k))
     where
-      z : at + j + 1 ≡ at + (1 + j)
-      z = omega arith
+      next : (i : ℕ) → at + 1 + i ≡ at + (1 + i)
+      next i = omega arith
 
-      read : get_or v (at + j + 1) 0 ≡ get_or (shifted (part w at n)) j 0
-      read =
-          ap (λ (l : List ℕ). get_or l (at + j + 1) 0) e
-          ∙ pasted_out w at B j (omega arith) (let l = long in omega arith) (at + j + 1)
-          (λ p q. omega arith)
-          ∙ ap (λ (i : ℕ). get_or w i 0) z ∙ sym (part_at w at n (1 + j) (omega arith))
-          ∙ sym (shifted_at (part w at n) n some block j g)
-
-  pub shift_end : j ≤ n - 1 → n - 1 ≤ j
-      → set v (at + (n - 1)) 0 ≡ pasted w at (shifted (part w at n)) n
-  shift_end a b =
-      let z : j ≡ n - 1 = omega arith in
+  pub shift_copied : (v : List ℕ) → v ≡ copy_within w (at + 1) (at + n) at
+      → set v (at + n - 1) 0 ≡ pasted w at (shifted (part w at n)) n
+  unfolding pasted
+  shift_copied v e =
+      let m : ℕ = at + n - (at + 1) in
+      let z : at + n - 1 ≡ at + (n - 1) = omega arith in
+      let x : m ≡ n - 1 = omega arith in
       let y : n - 1 + 1 ≡ n = omega arith in
-      pasted_more w B v at (n - 1) 0 (e ∙ ap (pasted w at B) z)
+      ap (λ (k : ℕ). set v k 0) z
+      ∙ pasted_more w B v at (n - 1) 0
+      (e ∙ ap (λ (l : List ℕ). take at w ++ l ++ drop (at + m) w) (same m x) ∙ ap (pasted w at B) x)
       (sym (shifted_last (part w at n) n some block)) (omega arith) (let l = long in omega arith)
       ∙ ap (pasted w at B) y
 

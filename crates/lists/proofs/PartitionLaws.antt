@@ -10,12 +10,11 @@ use native.Mathlib.Numerals.{add-one}
 use native.Mathlib.Decide.{ℕ_discrete}
 use borrow.Author.Tests.{ltb-true, ltb-false}
 use borrow.Author.Tests.{lt-ltb, le-ltb, le-leb}
-use borrow.Author.Tests.{not-true, not-false}
 use lib.Dec.{ltb}
 use lib.Dec.{eqb}
 use lib.Dec.{leb}
 use lib.ListN.{get_or, length, set, take, length-set, length-append, get_or-append}
-use lib.ListN.{get_or-eq_default, length-take}
+use lib.ListN.{get_or-eq_default}
 use lib.Seq.{take-suc, take_all, length-take-le, get_or_at, get_or-set_same, get_or-set_other}
 use Rattle.basics.specs.If.{keep_if}
 use Rattle.machine.specs.Words.{words_at}
@@ -26,10 +25,9 @@ use Rattle.machine.proofs.PastedLaws.{same_pasted}
 use Rattle.lists.specs.Inner.Families.{is_ready_word, is_ready_by, LivingFamilies}
 use Rattle.lists.specs.Inner.Lists.{wanted_words, other_words, partitioned_in, with_moved}
 use Rattle.lists.specs.Inner.Lists.{ready_words, with_instant_ended, active_with}
-use Rattle.lists.specs.Inner.Lists.{is_awaiting_word, is_wanted}
+use Rattle.lists.specs.Inner.Lists.{is_awaiting_word}
 use Rattle.lists.proofs.WaitLaws.{ready_by}
 use Rattle.basics.proofs.Ifs.{if_yes, if_no}
-use Rattle.lists.specs.declared.list.Wanted.{Wanted}
 
 -- ---- the tests
 pub awaits_none : (e x : ℕ) → x < 16384 → false ≡ is_awaiting_word e x
@@ -39,9 +37,6 @@ awaits_none e x h = sym (if_yes _ _ (lt-ltb x 16384 h))
 pub awaits_event : (e x : ℕ) → 16384 ≤ x → eqb ((x - 16384) / 128) e ≡ is_awaiting_word e x
 unfolding is_awaiting_word
 awaits_event e x h = sym (if_no _ _ (le-ltb x 16384 h))
-
-pub wanted_row : (v v' : Wanted) (x : ℕ) (r : Bool) → v ≡ v' → r ≡ is_wanted v' x → r ≡ is_wanted v x
-wanted_row v v' x r e h = h ∙ ap (λ (y : Wanted). is_wanted y x) (sym e)
 
 -- ---- one entry more
 keep_true : {A : Type 0} {b : Bool} (x : A) (xs : List A) → b ≡ true → keep_if b x xs ≡ x ∷ xs
@@ -402,10 +397,6 @@ module _ (w : List ℕ) (k at : ℕ) (z : at ≡ 2 + 130 * k) where
   pub active_short : get_or w (2 + 130 * k) 0 ≤ 64 → get_or w at 0 ≤ 64
   active_short h = rw z h
 
-  pub both_small : get_or w (2 + 130 * k) 0 ≤ 64 → get_or w (67 + 130 * k) 0 ≤ 64
-      → get_or w at 0 + get_or w (at + 65) 0 < 2 ^ 64
-  both_small g h = let a = active_short g in let b = next_short h in omega arith
-
 module _ (test : ℕ → Bool) (w : List ℕ) (k at : ℕ) (z : at ≡ 2 + 130 * k) where
   next_at : at + 65 ≡ 67 + 130 * k
   next_at = omega arith
@@ -504,16 +495,16 @@ module _ (test : ℕ → Bool) (w : List ℕ) (at : ℕ) where
         ∙ length-append (wanted_words test (take j (words_at w at))) _
         ∙ ap (λ (c : Bool). length (wanted_words test (take j (words_at w at))) + length (keep_if c (e % 128) [])) (sym q)
 
-    pub counting_one : (b : Bool) → b ≡ test e → not b ≡ false → Counting m (threads + 1) (j + 1)
+    pub counting_one : (b : Bool) → b ≡ test e → b ≡ true → Counting m (threads + 1) (j + 1)
     counting_one b q t =
         let x = s.counted in
-        let y = counted_as b q ∙ ap (λ (c : Bool). length (wanted_words test (take j (words_at w at))) + length (keep_if c (e % 128) [])) (not-false b t) in
+        let y = counted_as b q ∙ ap (λ (c : Bool). length (wanted_words test (take j (words_at w at))) + length (keep_if c (e % 128) [])) t in
         record { counted = omega arith }
 
-    pub counting_none : (b : Bool) → b ≡ test e → not b ≡ true → Counting m threads (j + 1)
+    pub counting_none : (b : Bool) → b ≡ test e → b ≡ false → Counting m threads (j + 1)
     counting_none b q t =
         let x = s.counted in
-        let y = counted_as b q ∙ ap (λ (c : Bool). length (wanted_words test (take j (words_at w at))) + length (keep_if c (e % 128) [])) (not-true b t) in
+        let y = counted_as b q ∙ ap (λ (c : Bool). length (wanted_words test (take j (words_at w at))) + length (keep_if c (e % 128) [])) t in
         record { counted = omega arith }
 
   pub counting_end : (m threads j : ℕ) → Counting m threads j → get_or w at 0 ≤ j

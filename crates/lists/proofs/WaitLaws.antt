@@ -1,13 +1,12 @@
 -- The ready test on the words: the set of threads in whose families one lives, thread by thread, and
 -- an entry asked by it. Assumes nothing.
 use Prim.Native.Nat.{ℕ, suc, ◌+◌, ◌*◌, ◌/◌, ◌<◌, ◌≤◌}
-use mathlib.Core.Path.{◌≡◌, refl, sym, ap, subst, ◌∙◌}
+use mathlib.Core.Path.{◌≡◌, refl, sym, ap, ◌∙◌}
 use mathlib.Core.List.{List}
 use mathlib.Core.Bool.{Bool, true, false, not, ◌&&◌, ◌||◌, true≢false}
-use native.Mathlib.Omega.{arith}
 use native.Mathlib.Numerals.{add-one}
 use lib.ListN.{get_or}
-use lib.Dec.{eqb, ltb}
+use lib.Dec.{ltb}
 use borrow.Author.Tests.{lt-ltb, le-ltb, eq-eqb, ne_eqb}
 use Rattle.basics.specs.If.{when◌then◌else◌}
 use Rattle.basics.proofs.Ifs.{yes, no, or_off}
@@ -55,10 +54,6 @@ module _ (w : List ℕ) where
       either true false = refl
       either false true = refl
       either false false = refl
-
-  pub living_end : (j n set : ℕ) → LivingTo w j set → n ≡ get_or w 0 0 → j ≤ n → n ≤ j
-      → LivingFamilies w set
-  living_end j n set l e a b = subst (λ (k : ℕ). LivingTo w k set) (omega arith) l
 
 -- ---- an entry
 pub ready_plain : (living e : ℕ) → e < 128 → true ≡ is_ready_by living e

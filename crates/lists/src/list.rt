@@ -47,6 +47,7 @@ pub fn first_active(state: &[u64], q: Place) -> u64
 }
 
 // So many more entries have room in the next list.
+#[tactic(auto, using(crate::proofs::ListLaws::room_laws))]
 pub fn has_room(state: &[u64], q: Place, more: u8) -> bool
     requires { (length state.now ≡ state_length) × (is_scheduler q.number ≡ true) }
     ensures { result
@@ -55,39 +56,31 @@ pub fn has_room(state: &[u64], q: Place, more: u8) -> bool
         most_threads }
 {
     let n = state[next_list(q)];
-    if (MOST_THREADS as u64) < n {
-        return false;
-    }
-    n + more as u64 <= MOST_THREADS as u64
+    n <= MOST_THREADS as u64 && n + u64::from(more) <= MOST_THREADS as u64
 }
 
 // Each of the n words at that place moves to the index below it; the last is 0.
+#[tactic(auto, using(crate::proofs::ListLaws::shift_copied))]
 fn shift(state: &mut [u64], at: usize, n: usize)
     requires { (1 ≤ n) × (at + n ≤ length state.old) }
     ensures { state.new ≡ pasted state.old at
         (shifted (part state.old at n)) n }
 {
-    let last = n - 1;
-    let mut j: usize = 0;
-    while j < last {
-        state[at + j] = state[at + j + 1];
-        j += 1;
-    }
-    state[at + last] = 0;
+    let last = at + n - 1;
+    state.copy_within(at + 1..at + n, at);
+    state[last] = 0;
 }
 
 // The first active thread leaves the list, each other to the index below it; an empty list stays,
 // and so does a count that is none of a list.
+#[tactic(auto, using(crate::proofs::ListLaws::first_laws))]
 pub fn drop_first(state: &mut [u64], q: Place)
     requires { (length state.old ≡ state_length) × (is_scheduler q.number ≡ true) }
     ensures { state.new ≡ without_first state.old (q.number - home) }
 {
     let at = active_list(q);
     let n = state[at];
-    if n == 0 {
-        return;
-    }
-    if (MOST_THREADS as u64) < n {
+    if n == 0 || n > MOST_THREADS as u64 {
         return;
     }
     shift(state, at + 1, n as usize);
@@ -117,13 +110,11 @@ enum Wanted {
 }
 
 // The entry awaits the event.
+#[tactic(auto, using(crate::proofs::PartitionLaws::awaits_none, crate::proofs::PartitionLaws::awaits_event))]
 fn awaits(entry: u64, event: u8) -> bool
     ensures { result ≡ is_awaiting_word event entry }
 {
-    if entry < AWAITING_FROM {
-        return false;
-    }
-    (entry - AWAITING_FROM) / WAITING_FACTOR == event as u64
+    AWAITING_FROM <= entry && (entry - AWAITING_FROM) / WAITING_FACTOR == u64::from(event)
 }
 
 fn is_wanted(wanted: Wanted, entry: u64) -> bool
@@ -152,19 +143,16 @@ fn partition_entries(state: &mut [u64], active: usize, wanted: Wanted) -> u64
     let n = state[next] as usize;
     let first = active + 1 + state[active] as usize;
     let mut r: usize = 0;
-    let mut j: usize = 0;
-    while j < n {
+    for j in 0..n {
         let e = state[next + 1 + j];
         let moves = is_wanted(wanted, e);
         state[next + 1 + j] = 0;
         if moves {
             state[first + r] = e % WAITING_FACTOR;
             r += 1;
-            j += 1;
-            continue;
+        } else {
+            state[next + 1 + (j - r)] = e;
         }
-        state[next + 1 + (j - r)] = e;
-        j += 1;
     }
     r as u64
 }
@@ -217,20 +205,16 @@ fn active_with(state: &[u64], active: usize, event: u8) -> u64
     let next = active + LIST_LENGTH;
     let n = state[next] as usize;
     let mut threads = state[active];
-    let mut j: usize = 0;
-    while j < n {
-        let e = state[next + 1 + j];
-        if !awaits(e, event) {
-            j += 1;
-            continue;
+    for j in 0..n {
+        if awaits(state[next + 1 + j], event) {
+            threads += 1;
         }
-        threads += 1;
-        j += 1;
     }
     threads
 }
 
 // The threads that await the event on that scheduler have room in its active list.
+#[tactic(auto, using(crate::proofs::PartitionLaws::room_for_all, crate::proofs::PartitionLaws::room_is))]
 pub fn has_room_to_wake(state: &[u64], q: Place, event: u8) -> bool
     requires { ListWords state.now (next_list_at + scheduler_length * (q.number - home))
         × (is_scheduler q.number ≡ true)
@@ -243,10 +227,8 @@ pub fn has_room_to_wake(state: &[u64], q: Place, event: u8) -> bool
     let active = active_list(q);
     let entries = state[active + LIST_LENGTH];
     // Where all entries have room, none has to be asked.
-    if state[active] + entries <= MOST_THREADS as u64 {
-        return true;
-    }
-    active_with(state, active, event) <= MOST_THREADS as u64
+    state[active] + entries <= MOST_THREADS as u64
+        || active_with(state, active, event) <= MOST_THREADS as u64
 }
 
 // They go to the end of the active list, in the order of the next list.

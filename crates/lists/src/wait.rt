@@ -15,16 +15,11 @@ use machine::offset::{
 
 // A set of threads is a number: bit t - 1 is set where thread t is a member. Here t is a thread's
 // number, and no member.
+#[tactic(auto, using(crate::proofs::ThreadSets::lacks_laws))]
 fn lacks_thread(set: u64, t: u64) -> bool
     ensures { result ≡ lacks_thread set t }
 {
-    if t == 0 {
-        return false;
-    }
-    if (MOST_THREADS as u64) < t {
-        return false;
-    }
-    (set >> (t - 1)) & 1 == 0
+    t != 0 && t <= MOST_THREADS as u64 && (set >> (t - 1)) & 1 == 0
 }
 
 // The set with thread t and the threads of whose families it is: the one that began it, the one
@@ -66,24 +61,17 @@ pub fn living_families(state: &[u64]) -> u64
 {
     let n = state[THREAD_COUNT_AT] as usize;
     let mut living: u64 = 0;
-    let mut k: usize = 0;
-    while k < n {
+    for k in 0..n {
         living = with_awaiting(state, living, k);
-        k += 1;
     }
     living
 }
 
 // An entry of a next list is ready: it waits for nobody, or no thread lives in the family for which
 // it waits, or it awaits an event, which it tries again.
+#[tactic(auto, using(crate::proofs::WaitLaws::ready_laws))]
 pub(crate) fn is_ready(living: u64, e: u64) -> bool
     ensures { result ≡ is_ready_by living e }
 {
-    if e < WAITING_FACTOR {
-        return true;
-    }
-    if AWAITING_FROM <= e {
-        return true;
-    }
-    lacks_thread(living, e / WAITING_FACTOR)
+    e < WAITING_FACTOR || AWAITING_FROM <= e || lacks_thread(living, e / WAITING_FACTOR)
 }

@@ -16,8 +16,8 @@ use Rattle.basics.specs.Chains.{last_from}
 use Rattle.language.specs.Places.{has_place}
 use Rattle.language.specs.declared.frame.Frame.{Frame}
 use Rattle.language.proofs.PlaceLaws.{has_place_lem}
-use Rattle.program.specs.Trees.{Expr, Stmt, nothing, seq, do_at, start, start_wait, cooperate, let_in}
-use Rattle.program.specs.Trees.{store, if_else, while, frame_at, statement_at, root_s}
+use Rattle.program.specs.Trees.{Expr, Stmt}
+use Rattle.program.specs.Trees.{frame_at, statement_at, root_s}
 use Rattle.program.specs.Programs.{Program, SharedCell, module_at, main_of}
 use Rattle.machine.specs.State.{State, Item, run, back, drop, Thread, Entry, plain, waiting}
 use Rattle.machine.specs.State.{Scheduler, no_thread, no_scheduler, no_cell, thread_at, set_nth}
@@ -29,7 +29,7 @@ use Rattle.machine.specs.Waits.{entry_thread}
 use Rattle.machine.specs.Waits.{threads_where, entries_except, is_awaiting}
 use Rattle.machine.specs.Inner.Families.{is_ready}
 use Rattle.machine.specs.Evaluation.{Here, EvalResult, Evaluation, eval, storing}
-use Rattle.machine.specs.Turns.{Spaces, holds, state_spaces, StepResult, Turn, here, continuation}
+use Rattle.machine.specs.Turns.{Spaces, holds, state_spaces, StepResult, Turn, here}
 use Rattle.machine.specs.Turns.{variables, unlinked_here, evaluator, after_eval, go_on, with_value}
 use Rattle.machine.specs.Turns.{with_values, by_condition, self_at, settled, is_scheduler_of}
 use Rattle.machine.specs.Turns.{after_first, leave, room, fits, stay, move, go_to}

@@ -38,6 +38,7 @@ pub mod ValueWords
 pub mod Round
 pub mod Ranges
 pub mod AllBelow
+pub mod Alls
 pub mod BlockParts
 pub mod Valid
 pub mod InShape

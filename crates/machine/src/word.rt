@@ -10,34 +10,35 @@ use crate::value::Value;
 pub const TRUE_WORD: u64 = TRUTH_FROM + 1;
 
 // The words of a number, of a truth and of a cell's number: an owner has room above each.
+#[tactic(auto, unfolding(crate::specs::Words::value_word))]
 pub fn number_word(n: u32) -> u64
     ensures { (result ≡ value_word (Number n)) × (result < owner_factor) }
 {
-    n as u64
+    u64::from(n)
 }
 
+#[tactic(auto, unfolding(crate::specs::Words::value_word))]
 pub fn truth_word(t: bool) -> u64
     ensures { (result ≡ value_word (Truth t)) × (result < owner_factor) }
 {
-    if t {
-        return TRUE_WORD;
-    }
-    TRUTH_FROM
+    if t { TRUE_WORD } else { TRUTH_FROM }
 }
 
+#[tactic(auto, unfolding(crate::specs::Words::value_word))]
 pub fn reference_word(c: u16) -> u64
     ensures { (result ≡ value_word (Cell c)) × (result < owner_factor) }
 {
-    CELL_FROM + c as u64
+    CELL_FROM + u64::from(c)
 }
 
+#[tactic(auto, using(crate::proofs::ValueWords::word_at))]
 pub fn value_word(v: Value) -> u64
     ensures { (result ≡ value_word v) × (result < owner_factor) }
 {
     match v {
         Value::Number(n) => number_word(n),
         Value::Truth(t) => truth_word(t),
-        Value::Cell(c) => reference_word(c as u16),
+        Value::Cell(c) => reference_word(u16::from(c)),
     }
 }
 
@@ -47,5 +48,5 @@ pub fn cell_word(owner: u16, content: u64) -> u64
     requires { content < owner_factor }
     ensures { result ≡ owner * owner_factor + content }
 {
-    owner as u64 * OWNER_FACTOR + content
+    u64::from(owner) * OWNER_FACTOR + content
 }

@@ -10,7 +10,7 @@ use Rattle.machine.specs.declared.value.Outcome.{Outcome}
 use Rattle.machine.specs.declared.value.Outcome.TheVariants.{Is, Foreign, Spent, Stuck}
 use Rattle.operations.specs.declared.operand.Operand.{Operand}
 use Rattle.operations.specs.Inner.ByWords.{operation, first_by, both_by, number_or, outcome_of}
-use Rattle.operations.specs.Inner.ByWords.{a_truth, outcome_stops, chosen, chosen_by}
+use Rattle.operations.specs.Inner.ByWords.{a_truth, chosen}
 use Rattle.operations.specs.Inner.Results.{only_by}
 use Rattle.operations.proofs.Told.{IsRefusal, no_refusal, IsNoNumber, a_number}
 use Rattle.operations.proofs.Told.{IsNoTruth, a_truth_lem, IsNoOperand, an_operand}
@@ -81,12 +81,6 @@ only_refused Spent k h = refl
 only_refused Stuck k h = refl
 
 -- ---- whether an evaluation stops
-pub refused_stops : (o : Outcome) → IsRefusal o → true ≡ outcome_stops o
-refused_stops (Is v) h = absurd (no_refusal v h)
-refused_stops Foreign h = refl
-refused_stops Spent h = refl
-refused_stops Stuck h = refl
-
 -- ---- which of two frames a truth chooses
 pub chosen_first : (v : Value) (t : Bool) (b c : ℕ) → v ≡ Truth t → t ≡ true → b ≡ chosen v b c
 chosen_first v t b c e h = yes _ h refl ∙ ap (λ (x : Value). chosen x b c) (sym e)
@@ -98,13 +92,3 @@ pub chosen_none : (v : Value) (b c : ℕ) → IsNoTruth v → c ≡ chosen v b c
 chosen_none (Number n) b c h = refl
 chosen_none (Truth t) b c h = absurd (a_truth_lem t h)
 chosen_none (Cell j) b c h = refl
-
-pub chosen_by_is : (o : Outcome) (v : Value) (b c r : ℕ) → o ≡ Is v → r ≡ chosen v b c
-    → r ≡ chosen_by o b c
-chosen_by_is o v b c r e h = h ∙ sym (ap (λ (x : Outcome). chosen_by x b c) e)
-
-pub chosen_by_refused : (o : Outcome) (b c : ℕ) → IsRefusal o → c ≡ chosen_by o b c
-chosen_by_refused (Is v) b c h = absurd (no_refusal v h)
-chosen_by_refused Foreign b c h = refl
-chosen_by_refused Spent b c h = refl
-chosen_by_refused Stuck b c h = refl

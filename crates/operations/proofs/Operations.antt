@@ -1,5 +1,5 @@
 -- The operations of operation.rt: a law for each return of each function. Assumes nothing.
-use Rattle.std.proofs.Common.{◌≡◌, ℕ, ◌+◌, ◌<◌, ◌≤◌, Bool, true, false, not, ◌&&◌, ◌||◌, eqb, ltb, leb, List, length, get_or, set, sym, refl, ap, ◌∙◌, arith, le-ltb, lt-ltb, eq-eqb, ne_eqb, le-leb}
+use Rattle.std.proofs.Common.{◌≡◌, ℕ, ◌+◌, ◌<◌, ◌≤◌, Bool, true, false, not, eqb, List, length, get_or, set, sym, refl, ap, ◌∙◌, arith, le-ltb, lt-ltb, le-leb}
 use borrow.Author.Tests.{lt-leb}
 use Rattle.basics.proofs.Ifs.{yes, no}
 use Rattle.language.specs.Places.{private}
@@ -22,39 +22,7 @@ use Rattle.operations.proofs.InState.{cell_at, put_in, new_in, counted_in}
 use Rattle.operations.proofs.Told.{IsRefusal, IsNoCell, a_cell}
 use Rattle.operations.proofs.Chains.{then_refused, then_is}
 
--- ---- owners: the thread's own cells, then its scheduler's; an unlinked thread has none of those
-pub own_thread : (who : Who) (o : ℕ) → o ≡ 16 + who.thread → true ≡ own_in who o
-unfolding own_in
-own_thread who o e =
-    ap (λ (b : Bool). b || leb 2 who.place.number && eqb o who.place.number)
-    (sym (eq-eqb o (16 + who.thread) e))
-
-other_thread : (who : Who) (o : ℕ) (b : Bool) → (o ≡ 16 + who.thread → ⊥)
-    → b ≡ (leb 2 who.place.number && eqb o who.place.number) → b ≡ own_in who o
-unfolding own_in
-other_thread who o b e q =
-    q
-    ∙ ap (λ (x : Bool). x || leb 2 who.place.number && eqb o who.place.number)
-    (sym (ne_eqb o (16 + who.thread) e))
-
--- k is the number of home
-pub own_unlinked : (who : Who) (o p k : ℕ) → (o ≡ 16 + who.thread → ⊥)
-    → p ≡ who.place.number → k ≡ 2 → p < k → false ≡ own_in who o
-own_unlinked who o p k e z y l =
-    other_thread who o false e
-    (ap (λ (x : Bool). x && eqb o who.place.number)
-    (sym (lt-leb 2 who.place.number (omega arith))))
-
-pub own_place : (who : Who) (o p k : ℕ) → (o ≡ 16 + who.thread → ⊥)
-    → p ≡ who.place.number → k ≡ 2 → k ≤ p → eqb o p ≡ own_in who o
-own_place who o p k e z y l =
-    let q = who.place.number in
-    other_thread who o (eqb o p) e
-    (ap (eqb o) z ∙ ap (λ (x : Bool). x && eqb o q) (sym (le-leb 2 q (omega arith))))
-
-pub ruleset own_laws = (own_thread, own_unlinked, own_place)
-
--- b is whether S is private
+-- ---- the owner of a new cell; b is whether S is private
 pub owner_private : (who : Who) (s : ℕ) (b : Bool)
     → b ≡ eqb s private → b ≡ true → 16 + who.thread ≡ new_owner_in who s
 unfolding new_owner_in

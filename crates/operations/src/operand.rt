@@ -88,22 +88,13 @@ pub fn as_answer(p: Operand) -> Outcome
 pub fn number_stops(p: Operand) -> bool
     ensures { result ≡ operand_stops p }
 {
-    match p {
-        Operand::Number(n) => false,
-        Operand::Other => false,
-        Operand::Foreign => true,
-        Operand::Spent => true,
-        Operand::Stuck => true,
-    }
+    !matches!(p, Operand::Number(_) | Operand::Other)
 }
 
 pub fn stops(o: Outcome) -> bool
     ensures { result ≡ outcome_stops o }
 {
-    let Outcome::Is(v) = o else {
-        return true;
-    };
-    false
+    !matches!(o, Outcome::Is(_))
 }
 
 // Only a truth goes on: 28's condition.
@@ -143,8 +134,8 @@ fn branch_of(v: Value, b: u16, c: u16) -> u16
 pub fn branch(o: Outcome, b: u16, c: u16) -> u16
     ensures { result ≡ chosen_by o b c }
 {
-    let Outcome::Is(v) = o else {
-        return c;
-    };
-    branch_of(v, b, c)
+    match o {
+        Outcome::Is(v) => branch_of(v, b, c),
+        _ => c,
+    }
 }

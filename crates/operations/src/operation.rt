@@ -22,17 +22,12 @@ use program::node::{CellUse, Leaf};
 const NEW_THREAD_OWNER: u16 = THREAD_OWNER_FROM as u16;
 
 // Whether an access to a cell of that owner is not foreign: the thread's own, or its scheduler's.
+#[tactic(auto, unfolding(crate::specs::Inner::ByWords::own_in))]
 fn is_own(who: Who, owner: u64) -> bool
     ensures { result ≡ own_in who owner }
 {
-    if owner == THREAD_OWNER_FROM + who.thread as u64 {
-        return true;
-    }
     let p = who.place.word();
-    if p < Place::HOME.word() {
-        return false;
-    }
-    owner == p
+    owner == THREAD_OWNER_FROM + u64::from(who.thread) || Place::HOME.word() <= p && owner == p
 }
 
 // The owner of a new cell: S, or the thread itself where S is private.

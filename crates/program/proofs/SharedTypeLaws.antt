@@ -1,5 +1,6 @@
 -- The types of the shared cells: of one, in an array, and of all, read from after the header on.
 -- Assumes nothing.
+use Rattle.std.specs.Prelude.{Option, Some, None}
 use mathlib.Core.Path.{◌≡◌, refl, sym, ap, ap₂, subst, ◌∙◌}
 use mathlib.Core.Bool.{Bool, true, false, true≢false, not, ◌&&◌}
 use mathlib.Core.List.{List, [], ◌∷◌, ◌++◌, map, append_assoc, append-nil}
@@ -17,8 +18,6 @@ use Rattle.language.specs.Places.{is_place}
 use Rattle.language.specs.Types.{cell_type, room_around}
 use Rattle.language.specs.Inner.Reads.{cell_read}
 use Rattle.language.specs.declared.Place.{Place}
-use Rattle.language.specs.declared.type_word.CellRead.{CellRead}
-use Rattle.language.specs.declared.type_word.CellRead.TheVariants.{Word, TooDeep}
 use Rattle.language.specs.declared.frame.Frame.{Frame}
 use Rattle.text.specs.Frames.{frames_of}
 use Rattle.text.proofs.FrameWords.{frames_length, frame_at_lem, frames_end}
@@ -30,26 +29,15 @@ use Rattle.program.proofs.OneMore.{shared_no, shared_yes}
 use Rattle.program.proofs.FrameLaws.{frames_next}
 use Rattle.program.proofs.SharedLaws.{next_from, found_next, next_end}
 
--- ---- of one: its owner is a place and there is room around its content, so the arm that answers 0
--- is never met
-module _ (f : Frame) (q : Place) (y : CellRead)
-    (h : is_place f.s ≡ true) (m : room_around f.a ≡ true) where
-  cell_word : q ≡ record { number = f.s } → y ≡ cell_read q.number f.a
-      → y ≡ Word (cell_type f.s f.a)
-  unfolding cell_read
-  cell_word e g =
-      let t : (is_place f.s && room_around f.a) ≡ true = (rw (h, m)) in
-      g ∙ ap (λ (p : Place). cell_read p.number f.a) e ∙ if_yes _ _ t
-
-  pub type_deep : q ≡ record { number = f.s } → y ≡ cell_read q.number f.a
-      → y ≡ TooDeep → 0 ≡ cell_type f.s f.a
-  type_deep e g d = absurd (let w = cell_word e g in let z : ◌≡◌ {A = ℕ} 0 1 = cc in omega arith)
-
-  pub type_word : (w : ℕ) → q ≡ record { number = f.s } → y ≡ cell_read q.number f.a
-      → y ≡ Word w → w ≡ cell_type f.s f.a
-  type_word w e g d = let v = cell_word e g in cc
-
-pub ruleset type_laws = (type_deep, type_word)
+-- ---- of one: its owner is a place and there is room around its content, so there is such a type
+pub type_there : (f : Frame) (n : ℕ) (q : Place) (y : Option ℕ) → is_place f.s ≡ true
+    → room_around f.a ≡ true → q ≡ record { number = n } → n ≡ f.s → y ≡ cell_read q.number f.a
+    → y ≡ Some (cell_type f.s f.a)
+unfolding cell_read
+type_there f n q y h m e v g =
+    let t : (is_place f.s && room_around f.a) ≡ true = (rw (h, m)) in
+    g ∙ ap (λ (p : Place). cell_read p.number f.a) e ∙ ap (λ (k : ℕ). cell_read k f.a) v
+    ∙ if_yes _ _ t
 
 -- ---- in an array: one type more takes the place of the first 0
 pub padded_more : (ts : List ℕ) (w : ℕ) → length ts < most_shared

@@ -12,7 +12,7 @@ use text::line::frame_of_word;
 
 // A frame's children, from the first to the last: of each, the class that it is to be of and its
 // frame's number.
-#[derive(Clone, Copy)]
+#[derive(Clone, Copy, Debug, PartialEq, Eq)]
 pub enum Children {
     Nothing,
     One(Class, u16),
@@ -21,7 +21,7 @@ pub enum Children {
 }
 
 // The numbers of the same children alone; where there are fewer than three, the rest are NO_CHILD.
-#[derive(Clone, Copy)]
+#[derive(Clone, Copy, Debug, PartialEq, Eq)]
 pub struct ChildNumbers {
     pub a: u16,
     pub b: u16,
@@ -42,23 +42,7 @@ pub fn frame_at(words: &[u64], i: usize) -> Frame
 pub fn same_class(a: Class, b: Class) -> bool
     ensures { result ≡ same_class a b }
 {
-    match a {
-        Class::Statement => match b {
-            Class::Statement => true,
-            Class::Expression => false,
-            Class::Neither => false,
-        },
-        Class::Expression => match b {
-            Class::Statement => false,
-            Class::Expression => true,
-            Class::Neither => false,
-        },
-        Class::Neither => match b {
-            Class::Statement => false,
-            Class::Expression => false,
-            Class::Neither => true,
-        },
-    }
+    a == b
 }
 
 // The arguments of a start: 0 is none.

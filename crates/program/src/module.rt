@@ -6,7 +6,6 @@ ghost use Rattle.program.specs.Programs.{program_of, main_of};
 ghost use Rattle.program.specs.Inner.Modules.{found_in, parameters_in};
 
 use crate::numbered::{FrameFound, Numbered, frame_numbered};
-use language::kind::is_module;
 use language::limit::MOST_PARAMETERS;
 use text::line::frame_of_word;
 
@@ -54,7 +53,7 @@ pub fn main_body(frames: &[u64]) -> u64
         i -= 1;
         let f = frame_of_word(frames[i]);
         let k = f.kind;
-        if is_module(k) {
+        if k.is_module() {
             return f.a as u64;
         }
     }

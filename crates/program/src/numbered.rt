@@ -5,7 +5,7 @@ ghost use Rattle.program.specs.Inner.Numbered.{is_numbered, numbered_in};
 
 use crate::group::line_declares;
 use language::frame::Frame;
-use language::kind::{DeclarationKind, is_module};
+use language::kind::DeclarationKind;
 use text::line::frame_of_word;
 
 #[derive(Clone, Copy)]
@@ -29,7 +29,7 @@ fn is_numbered(what: Numbered, line: u64) -> bool
         Numbered::Module => {
             let f = frame_of_word(line);
             let kind = f.kind;
-            is_module(kind)
+            kind.is_module()
         },
     }
 }

@@ -10,9 +10,9 @@ ghost use Rattle.program.specs.Inner.Shared.{next_shared, SharedFirst, shared_ty
 use crate::frames::frame_at;
 use language::Place;
 use language::frame::Frame;
-use language::kind::{DeclarationKind, declares};
+use language::kind::DeclarationKind;
 use language::limit::MOST_SHARED;
-use language::type_word::{CellRead, cell_type};
+use language::type_word::cell_type;
 use text::line::frame_of_word;
 
 // The types of the shared cells, in order: how many there are, and the first so many of the array.
@@ -30,7 +30,7 @@ pub fn next_shared(frames: &[u64], i: usize) -> usize
     while k < frames.len() {
         let f = frame_of_word(frames[k]);
         let kind = f.kind;
-        if declares(DeclarationKind::Shared, kind) {
+        if kind.declares(DeclarationKind::Shared) {
             return k;
         }
         k += 1;
@@ -56,10 +56,7 @@ pub fn shared_type(f: Frame) -> u16
     requires { (is_place f.s ≡ true) × (room_around f.a ≡ true) }
     ensures { result ≡ cell_type f.s f.a }
 {
-    match cell_type(Place::known(f.s as u64), f.a) {
-        CellRead::TooDeep => 0,
-        CellRead::Word(w) => w,
-    }
+    cell_type(Place::known(u64::from(f.s)), f.a).unwrap_or(0)
 }
 
 // The types of all shared cells of a laid-out file. The cells stand right after the header, so
@@ -73,7 +70,7 @@ pub fn shared_types(frames: &[u64]) -> SharedTypes
     while count + 1 < frames.len() {
         let f = frame_at(frames, count + 1);
         let kind = f.kind;
-        if !declares(DeclarationKind::Shared, kind) {
+        if !kind.declares(DeclarationKind::Shared) {
             return SharedTypes { count, types };
         }
         types[count] = shared_type(f);

@@ -1,16 +1,15 @@
 -- The range test split into blocks, as the passes over the words go: of a list, a scheduler, a
--- thread, and the whole, one law for each return of the code. Assumes nothing.
+-- thread, and the whole. Assumes nothing.
 use Prim.Native.Nat.{ℕ, suc, ◌+◌, ◌*◌, ◌-◌, ◌<◌, ◌≤◌}
 use mathlib.Core.Path.{◌≡◌, refl, sym, ap, ◌∙◌}
 use mathlib.Core.List.{List}
-use mathlib.Core.Bool.{Bool, true, false, not, true≢false}
+use mathlib.Core.Bool.{Bool, true, false, ◌&&◌}
 use native.Mathlib.Omega.{arith}
 use native.Mathlib.Numerals.{add-one}
 use lib.ListN.{get_or, length}
-use lib.Dec.{ltb}
+use lib.Dec.{ltb, leb, eqb}
 use borrow.Author.Tests.{lt-ltb, le-ltb, le-leb, leb-true, ltb-true, ltb-false, eq-eqb, eqb-true}
-use borrow.Author.Tests.{not-true, not-false}
-use Rattle.basics.proofs.Ifs.{if_all, if_yes, if_no, yes, no}
+use Rattle.basics.proofs.Ifs.{if_all, if_yes, if_no, yes, no, and_true, and_both}
 use Rattle.language.specs.Places.{has_place}
 use Rattle.language.specs.declared.frame.Frame.{Frame}
 use Rattle.program.specs.Trees.{frame_at}
@@ -21,13 +20,9 @@ use Rattle.machine.proofs.Ranges.{below_each, all_below_lem, InRange, in_range_l
 use Rattle.machine.proofs.Ranges.{space_of, of_space, range_place, range_starter, range_lives}
 use Rattle.machine.proofs.Ranges.{range_items, range_variables, range_active, range_next}
 use Rattle.ranges.specs.Inner.Passes.{is_zero, word_passes, scheduler_block, thread_block}
-use Rattle.ranges.specs.Inner.Passes.{event_in_range, event_passes}
+use Rattle.ranges.specs.Inner.Passes.{event_in_range, event_passes, cells_pass}
 use Rattle.machine.proofs.AllBelow.{cannot, same_test}
 use Rattle.machine.proofs.BlockParts.{scheduler_parts, thread_parts}
-
--- an answer t that is not as the test says it
-clash : (t : Bool) → not t ≡ true → t ≡ true → ⊥
-clash t f e = true≢false (sym e ∙ not-true t f)
 
 -- ---- words that pass
 pub pass_at : (test : ℕ → Bool) (w : List ℕ) (i n : ℕ) → all_below n (word_passes test w i) ≡ true
@@ -58,19 +53,12 @@ module _ (test : ℕ → Bool) (most : ℕ) (w : List ℕ) (i : ℕ) where
   pub list_over : most < get_or w i 0 → false ≡ all_below (most + 1) (list_in_range test most w i)
   list_over h = cannot _ (λ e. let r = (listed e).room in omega arith)
 
-  pub list_wrong : (t : Bool) → get_or w i 0 ≤ most
-      → t ≡ all_below (get_or w i 0) (word_passes test w (i + 1)) → not t ≡ true
-      → false ≡ all_below (most + 1) (list_in_range test most w i)
-  list_wrong t l e f = cannot _ (λ q. clash t f (e ∙ at_pass test w (i + 1) (get_or w i 0) (λ j g. ap (λ (k : ℕ). test (get_or w k 0)) (next j) ∙ (listed q).used j g)))
-    where
-      next : (j : ℕ) → i + 1 + j ≡ i + suc j
-      next j = omega arith
-
-  pub list_rest : (t r : Bool) → get_or w i 0 ≤ most
-      → t ≡ all_below (get_or w i 0) (word_passes test w (i + 1)) → not t ≡ false
-      → r ≡ all_below (most - get_or w i 0) (word_passes is_zero w (i + 1 + get_or w i 0))
-      → r ≡ all_below (most + 1) (list_in_range test most w i)
-  list_rest t r l e f z = z ∙ same_test _ _ there back
+  -- its members pass, and the rest is 0
+  pub list_split : get_or w i 0 ≤ most
+      → all_below (most + 1) (list_in_range test most w i)
+      ≡ (all_below (get_or w i 0) (word_passes test w (i + 1))
+      && all_below (most - get_or w i 0) (word_passes is_zero w (i + 1 + get_or w i 0)))
+  list_split l = same_test _ _ there back
     where
       n : ℕ
       n = get_or w i 0
@@ -81,50 +69,52 @@ module _ (test : ℕ → Bool) (most : ℕ) (w : List ℕ) (i : ℕ) where
       over : (j : ℕ) → get_or w i 0 ≤ j → i + suc j ≡ i + 1 + get_or w i 0 + (j - get_or w i 0)
       over j g = omega arith
 
-      there : all_below (most - get_or w i 0) (word_passes is_zero w (i + 1 + get_or w i 0)) ≡ true
+      under : (j : ℕ) → i + 1 + get_or w i 0 + j ≡ i + suc (get_or w i 0 + j)
+      under j = omega arith
+
+      split : (all_below n (word_passes test w (i + 1)) && all_below (most - n) (word_passes is_zero w (i + 1 + n))) ≡ true
+          → (all_below n (word_passes test w (i + 1)) ≡ true) × (all_below (most - n) (word_passes is_zero w (i + 1 + n)) ≡ true)
+      split q = and_true (all_below n (word_passes test w (i + 1))) (all_below (most - n) (word_passes is_zero w (i + 1 + n))) q
+
+      there : all_below (most + 1) (list_in_range test most w i) ≡ true
+          → (all_below n (word_passes test w (i + 1)) && all_below (most - n) (word_passes is_zero w (i + 1 + n))) ≡ true
+      there q = and_both _ _
+          (at_pass test w (i + 1) n (λ j g. ap (λ (k : ℕ). test (get_or w k 0)) (sym (next j)) ∙ (listed q).used j g))
+          (at_zero w (i + 1 + n) (most - n) (λ j g. ap (λ (k : ℕ). get_or w k 0) (under j) ∙ (listed q).unused (get_or w i 0 + j) (omega arith) (omega arith)))
+
+      back : (all_below n (word_passes test w (i + 1)) && all_below (most - n) (word_passes is_zero w (i + 1 + n))) ≡ true
           → all_below (most + 1) (list_in_range test most w i) ≡ true
-      there q = all_below_lem (most + 1) (list_in_range test most w i) (λ j g. of_space test w i most space j (rw (add-one most) at g))
+      back q = all_below_lem (most + 1) (list_in_range test most w i) (λ j g. of_space test w i most space j (rw (add-one most) at g))
         where
           space : Space test w i most
           space = record {
             room = l;
-            used = λ j g. ap (λ (k : ℕ). test (get_or w k 0)) (next j) ∙ pass_at test w (i + 1) n (sym e ∙ not-false t f) j g;
-            unused = λ j a b. ap (λ (k : ℕ). get_or w k 0) (over j a) ∙ zero_at w (i + 1 + n) (most - n) q (j - n) (omega arith);
+            used = λ j g. ap (λ (k : ℕ). test (get_or w k 0)) (next j) ∙ pass_at test w (i + 1) n (split q).0 j g;
+            unused = λ j a b. ap (λ (k : ℕ). get_or w k 0) (over j a) ∙ zero_at w (i + 1 + n) (most - n) (split q).1 (j - n) (omega arith);
           }
 
-      back : all_below (most + 1) (list_in_range test most w i) ≡ true
-          → all_below (most - get_or w i 0) (word_passes is_zero w (i + 1 + get_or w i 0)) ≡ true
-      back q = at_zero w (i + 1 + n) (most - n) (λ j g. ap (λ (k : ℕ). get_or w k 0) (under j) ∙ (listed q).unused (get_or w i 0 + j) (omega arith) (omega arith))
-        where
-          under : (j : ℕ) → i + 1 + get_or w i 0 + j ≡ i + suc (get_or w i 0 + j)
-          under j = omega arith
-
-pub ruleset list_laws = (list_over, list_wrong, list_rest)
+pub ruleset list_laws = (list_over, list_split)
 
 -- ---- a scheduler
 module _ (m : ℕ) (w : List ℕ) (i : ℕ) where
-  pub scheduler_wrong : (t : Bool) → t ≡ all_below 65 (list_in_range thread_in_range 64 w i)
-      → not t ≡ true → false ≡ all_below 130 (scheduler_in_range m w i)
-  scheduler_wrong t e f = cannot _ (λ q. clash t f
-      (e ∙ all_below_lem 65 (list_in_range thread_in_range 64 w i)
+  -- its active list, and its next list
+  pub scheduler_split : all_below 130 (scheduler_in_range m w i)
+      ≡ (all_below 65 (list_in_range thread_in_range 64 w i)
+      && all_below 65 (list_in_range (entry_in_range m) 64 w (i + 65)))
+  scheduler_split = same_test _ _
+      (λ q. and_both _ _
+      (all_below_lem 65 (list_in_range thread_in_range 64 w i)
       (λ j g. sym (range_active m w i j g)
-      ∙ below_each 130 (scheduler_in_range m w i) q j (omega arith))))
-
-  pub scheduler_rest : (t r : Bool) → t ≡ all_below 65 (list_in_range thread_in_range 64 w i)
-      → not t ≡ false → r ≡ all_below 65 (list_in_range (entry_in_range m) 64 w (i + 65))
-      → r ≡ all_below 130 (scheduler_in_range m w i)
-  scheduler_rest t r e f g = g ∙ same_test _ _
+      ∙ below_each 130 (scheduler_in_range m w i) q j (omega arith)))
+      (all_below_lem 65 (list_in_range (entry_in_range m) 64 w (i + 65))
+      (λ j h. sym (range_next m w i j h)
+      ∙ below_each 130 (scheduler_in_range m w i) q (65 + j) (omega arith))))
       (λ q. all_below_lem 130 (scheduler_in_range m w i)
       (scheduler_parts (λ j. scheduler_in_range m w i j ≡ true)
       (λ j l. range_active m w i j l
-      ∙ below_each 65 (list_in_range thread_in_range 64 w i) (sym e ∙ not-false t f) j l)
+      ∙ below_each 65 (list_in_range thread_in_range 64 w i) (and_true _ _ q).0 j l)
       (λ j l. range_next m w i j l
-      ∙ below_each 65 (list_in_range (entry_in_range m) 64 w (i + 65)) q j l)))
-      (λ q. all_below_lem 65 (list_in_range (entry_in_range m) 64 w (i + 65))
-      (λ j h. sym (range_next m w i j h)
-      ∙ below_each 130 (scheduler_in_range m w i) q (65 + j) (omega arith)))
-
-pub ruleset scheduler_laws = (scheduler_wrong, scheduler_rest)
+      ∙ below_each 65 (list_in_range (entry_in_range m) 64 w (i + 65)) (and_true _ _ q).1 j l)))
 
 pub scheduler_there : (fs : List Frame) (n k : ℕ) (w : List ℕ) (r : Bool) → k < n
     → r ≡ all_below 130 (scheduler_in_range (frame_at fs 0).c w (2 + 130 * k))
@@ -145,35 +135,26 @@ module _ (fs : List Frame) (n : ℕ) (w : List ℕ) (i : ℕ) where
       → thread_word_in_range fs n w i j ≡ true
   word_in q = below_each 55 (thread_word_in_range fs n w i) q
 
-  pub thread_place : (t : Bool) → t ≡ has_place n (get_or w i 0) → not t ≡ true
-      → false ≡ all_below 55 (thread_word_in_range fs n w i)
-  thread_place t e f =
-      cannot _ (λ q. clash t f (e ∙ sym (range_place fs n w i) ∙ word_in q 0 (omega arith)))
-
-  pub thread_starter : 64 < get_or w (i + 1) 0 → false ≡ all_below 55 (thread_word_in_range fs n w i)
-  thread_starter h = cannot _ (λ q. let l = leb-true (get_or w (i + 1) 0) 64 (sym (range_starter fs n w i) ∙ word_in q 1 (omega arith)) in omega arith)
-
-  pub thread_lives : 1 < get_or w (i + 2) 0 → false ≡ all_below 55 (thread_word_in_range fs n w i)
-  thread_lives h = cannot _ (λ q. let l = leb-true (get_or w (i + 2) 0) 1 (sym (range_lives fs n w i) ∙ word_in q 2 (omega arith)) in omega arith)
-
-  pub thread_items : (t : Bool) → t ≡ all_below 26 (list_in_range (item_in_range fs n) 25 w (i + 3))
-      → not t ≡ true → false ≡ all_below 55 (thread_word_in_range fs n w i)
-  thread_items t e f = cannot _ (λ q. clash t f (e ∙ all_below_lem 26 (list_in_range (item_in_range fs n) 25 w (i + 3)) (λ j g. sym (range_items fs n w i j g) ∙ word_in q (3 + j) (omega arith))))
-
-  pub thread_rest : (t u r : Bool) → t ≡ has_place n (get_or w i 0) → not t ≡ false
-      → get_or w (i + 1) 0 ≤ 64 → get_or w (i + 2) 0 ≤ 1
-      → u ≡ all_below 26 (list_in_range (item_in_range fs n) 25 w (i + 3)) → not u ≡ false
-      → r ≡ all_below 26 (list_in_range value_in_range 25 w (i + 29))
-      → r ≡ all_below 55 (thread_word_in_range fs n w i)
-  thread_rest t u r a b c d e f g = g ∙ same_test _ _
-      (λ q. all_below_lem 55 (thread_word_in_range fs n w i) (thread_parts (λ j. thread_word_in_range fs n w i j ≡ true)
-      (range_place fs n w i ∙ sym a ∙ not-false t b) (range_starter fs n w i ∙ le-leb _ 64 c)
-      (range_lives fs n w i ∙ le-leb _ 1 d)
-      (λ j l. range_items fs n w i j l ∙ below_each 26 (list_in_range (item_in_range fs n) 25 w (i + 3)) (sym e ∙ not-false u f) j l)
-      (λ j l. range_variables fs n w i j l ∙ below_each 26 (list_in_range value_in_range 25 w (i + 29)) q j l)))
-      (λ q. all_below_lem 26 (list_in_range value_in_range 25 w (i + 29)) (λ j h. sym (range_variables fs n w i j h) ∙ word_in q (29 + j) (omega arith)))
-
-pub ruleset thread_laws = (thread_place, thread_starter, thread_lives, thread_items, thread_rest)
+  -- its place, its starter, whether it lives, its continuation, its variables
+  pub thread_split : all_below 55 (thread_word_in_range fs n w i)
+      ≡ (has_place n (get_or w i 0) && leb (get_or w (i + 1) 0) 64 && leb (get_or w (i + 2) 0) 1
+      && all_below 26 (list_in_range (item_in_range fs n) 25 w (i + 3))
+      && all_below 26 (list_in_range value_in_range 25 w (i + 29)))
+  thread_split = same_test _ _
+      (λ q. and_both _ _ (and_both _ _ (and_both _ _ (and_both _ _
+      (sym (range_place fs n w i) ∙ word_in q 0 (omega arith))
+      (sym (range_starter fs n w i) ∙ word_in q 1 (omega arith)))
+      (sym (range_lives fs n w i) ∙ word_in q 2 (omega arith)))
+      (all_below_lem 26 (list_in_range (item_in_range fs n) 25 w (i + 3)) (λ j g. sym (range_items fs n w i j g) ∙ word_in q (3 + j) (omega arith))))
+      (all_below_lem 26 (list_in_range value_in_range 25 w (i + 29)) (λ j h. sym (range_variables fs n w i j h) ∙ word_in q (29 + j) (omega arith))))
+      (λ q. let e = and_true _ (all_below 26 (list_in_range value_in_range 25 w (i + 29))) q in
+      let d = and_true _ (all_below 26 (list_in_range (item_in_range fs n) 25 w (i + 3))) e.0 in
+      let b = and_true _ (leb (get_or w (i + 2) 0) 1) d.0 in
+      let a = and_true (has_place n (get_or w i 0)) (leb (get_or w (i + 1) 0) 64) b.0 in
+      all_below_lem 55 (thread_word_in_range fs n w i) (thread_parts (λ j. thread_word_in_range fs n w i j ≡ true)
+      (range_place fs n w i ∙ a.0) (range_starter fs n w i ∙ a.1) (range_lives fs n w i ∙ b.1)
+      (λ j l. range_items fs n w i j l ∙ below_each 26 (list_in_range (item_in_range fs n) 25 w (i + 3)) d.1 j l)
+      (λ j l. range_variables fs n w i j l ∙ below_each 26 (list_in_range value_in_range 25 w (i + 29)) e.1 j l)))
 
 pub thread_there : (fs : List Frame) (n k : ℕ) (w : List ℕ) (r : Bool) → k < get_or w 0 0
     → r ≡ all_below 55 (thread_word_in_range fs n w (1042 + 55 * k)) → r ≡ thread_block fs n w k
@@ -223,84 +204,59 @@ module _ (fs : List Frame) (n : ℕ) (w : List ℕ) where
       (λ q. le-leb _ 1 (h.event e g (ltb-true e (frame_at fs 0).c q)))
       (λ q. eq-eqb _ 0 (h.no_event e g (ltb-false e (frame_at fs 0).c q))))
 
-  pub whole_length : (length w ≡ 4834 → ⊥) → false ≡ in_range fs n w
-  whole_length h = cannot _ (λ q. h (in_range_lem fs n w q).all)
-
-  pub whole_threads : 64 < get_or w 0 0 → false ≡ in_range fs n w
-  whole_threads h = cannot _ (λ q. let l = (in_range_lem fs n w q).threads_room in omega arith)
-
-  pub whole_cells : 256 < get_or w 1 0 → false ≡ in_range fs n w
-  whole_cells h = cannot _ (λ q. let l = (in_range_lem fs n w q).cells_room in omega arith)
-
-  pub whole_scheduler : (t : Bool) → t ≡ all_below 8 (scheduler_block fs n w) → not t ≡ true
-      → false ≡ in_range fs n w
-  whole_scheduler t e f = cannot _ (λ q. clash t f (e ∙ scheduler_blocks (in_range_lem fs n w q)))
-
-  pub whole_thread : (t : Bool) → t ≡ all_below 64 (thread_block fs n w) → not t ≡ true
-      → false ≡ in_range fs n w
-  whole_thread t e f = cannot _ (λ q. clash t f (e ∙ thread_blocks (in_range_lem fs n w q)))
-
-  pub whole_event : (t : Bool) → t ≡ all_below 16 (event_passes fs w) → not t ≡ true
-      → false ≡ in_range fs n w
-  whole_event t e f = cannot _ (λ q. clash t f (e ∙ event_words (in_range_lem fs n w q)))
-
-  pub whole_cell : (t : Bool) → t ≡ all_below (get_or w 1 0) (word_passes (cell_in_range n) w 4578)
-      → not t ≡ true → false ≡ in_range fs n w
-  whole_cell t e f = cannot _ (λ q. clash t f
-      (e ∙ at_pass (cell_in_range n) w 4578 (get_or w 1 0) (in_range_lem fs n w q).cell))
-
-  pub whole_rest : (t u e v r : Bool) → length w ≡ 4834 → get_or w 0 0 ≤ 64 → get_or w 1 0 ≤ 256
-      → t ≡ all_below 8 (scheduler_block fs n w) → not t ≡ false
-      → u ≡ all_below 64 (thread_block fs n w) → not u ≡ false
-      → e ≡ all_below 16 (event_passes fs w) → not e ≡ false
-      → v ≡ all_below (get_or w 1 0) (word_passes (cell_in_range n) w 4578) → not v ≡ false
-      → r ≡ all_below (256 - get_or w 1 0) (word_passes is_zero w (4578 + get_or w 1 0))
-      → r ≡ in_range fs n w
+  pub whole_split : in_range fs n w
+      ≡ (eqb (length w) 4834 && leb (get_or w 0 0) 64 && leb (get_or w 1 0) 256
+      && all_below 8 (scheduler_block fs n w) && all_below 64 (thread_block fs n w)
+      && all_below 16 (event_passes fs w) && cells_pass n w)
   unfolding scheduler_block thread_block event_passes event_in_range
-  whole_rest t u e v r a b c dt ft du fu de fe dv fv dr = dr ∙ same_test _ _ there
-      (λ q. at_zero w (4578 + get_or w 1 0) (256 - get_or w 1 0)
+  whole_split = same_test _ _
+      (λ q. let r = in_range_lem fs n w q in
+      and_both _ _ (and_both _ _ (and_both _ _ (and_both _ _ (and_both _ _ (and_both _ _
+      (eq-eqb (length w) 4834 r.all)
+      (le-leb _ 64 r.threads_room))
+      (le-leb _ 256 r.cells_room))
+      (scheduler_blocks r))
+      (thread_blocks r))
+      (event_words r))
+      (and_both _ _ (at_pass (cell_in_range n) w 4578 (get_or w 1 0) r.cell)
+      (at_zero w (4578 + get_or w 1 0) (256 - get_or w 1 0)
       (λ j g. let z : 4578 + get_or w 1 0 + j ≡ 4578 + (get_or w 1 0 + j) = omega arith in
       ap (λ (k : ℕ). get_or w k 0) z
-      ∙ (in_range_lem fs n w q).no_cell (get_or w 1 0 + j) (omega arith) (omega arith)))
+      ∙ r.no_cell (get_or w 1 0 + j) (omega arith) (omega arith)))))
+      (λ q. let g = and_true _ (cells_pass n w) q in
+      let z = and_true (all_below (get_or w 1 0) (word_passes (cell_in_range n) w 4578)) _ g.1 in
+      let f = and_true _ (all_below 16 (event_passes fs w)) g.0 in
+      let e = and_true _ (all_below 64 (thread_block fs n w)) f.0 in
+      let d = and_true _ (all_below 8 (scheduler_block fs n w)) e.0 in
+      let b = and_true _ (leb (get_or w 1 0) 256) d.0 in
+      let a = and_true (eqb (length w) 4834) (leb (get_or w 0 0) 64) b.0 in
+      there (eqb-true _ _ a.0) (leb-true _ _ a.1) (leb-true _ _ b.1)
+      (below_each 8 (scheduler_block fs n w) d.1) (below_each 64 (thread_block fs n w) e.1)
+      (below_each 16 (event_passes fs w) f.1) z.0 z.1)
     where
-      scheduler_passes : (k : ℕ) → k < 8 → scheduler_block fs n w k ≡ true
-      scheduler_passes = below_each 8 (scheduler_block fs n w) (sym dt ∙ not-false t ft)
-
-      thread_passes : (k : ℕ) → k < 64 → thread_block fs n w k ≡ true
-      thread_passes = below_each 64 (thread_block fs n w) (sym du ∙ not-false u fu)
-
-      event_passes_lem : (k : ℕ) → k < 16 → event_passes fs w k ≡ true
-      event_passes_lem = below_each 16 (event_passes fs w) (sym de ∙ not-false e fe)
-
-      there : all_below (256 - get_or w 1 0) (word_passes is_zero w (4578 + get_or w 1 0)) ≡ true
+      there : length w ≡ 4834 → get_or w 0 0 ≤ 64 → get_or w 1 0 ≤ 256
+          → ((k : ℕ) → k < 8 → scheduler_block fs n w k ≡ true)
+          → ((k : ℕ) → k < 64 → thread_block fs n w k ≡ true)
+          → ((k : ℕ) → k < 16 → event_passes fs w k ≡ true)
+          → all_below (get_or w 1 0) (word_passes (cell_in_range n) w 4578) ≡ true
+          → all_below (256 - get_or w 1 0) (word_passes is_zero w (4578 + get_or w 1 0)) ≡ true
           → in_range fs n w ≡ true
-      there q = range_in fs n w (record {
+      there a b c schedulers threads events v q = range_in fs n w (record {
         all = a;
         threads_room = b;
         cells_room = c;
         scheduler = λ k j f g h. below_each 130
             (scheduler_in_range (frame_at fs 0).c w (2 + 130 * k))
-            (sym (if_yes _ _ (lt-ltb k n h)) ∙ scheduler_passes k f) j g;
-        no_scheduler = λ k j f g h. zero_at w (2 + 130 * k) 130 (sym (if_no _ _ (le-ltb k n h)) ∙ scheduler_passes k f) j g;
-        thread = λ k j g h. below_each 55 (thread_word_in_range fs n w (1042 + 55 * k)) (sym (if_yes _ _ (lt-ltb k (get_or w 0 0) h)) ∙ thread_passes k (omega arith)) j g;
-        no_thread = λ k j f g h. zero_at w (1042 + 55 * k) 55 (sym (if_no _ _ (le-ltb k (get_or w 0 0) h)) ∙ thread_passes k f) j g;
+            (sym (if_yes _ _ (lt-ltb k n h)) ∙ schedulers k f) j g;
+        no_scheduler = λ k j f g h. zero_at w (2 + 130 * k) 130 (sym (if_no _ _ (le-ltb k n h)) ∙ schedulers k f) j g;
+        thread = λ k j g h. below_each 55 (thread_word_in_range fs n w (1042 + 55 * k)) (sym (if_yes _ _ (lt-ltb k (get_or w 0 0) h)) ∙ threads k (omega arith)) j g;
+        no_thread = λ k j f g h. zero_at w (1042 + 55 * k) 55 (sym (if_no _ _ (le-ltb k (get_or w 0 0) h)) ∙ threads k f) j g;
         event = λ k f h. leb-true _ 1
-            (sym (if_yes _ _ (lt-ltb k (frame_at fs 0).c h)) ∙ event_passes_lem k f);
+            (sym (if_yes _ _ (lt-ltb k (frame_at fs 0).c h)) ∙ events k f);
         no_event = λ k f h. eqb-true _ 0
-            (sym (if_no _ _ (le-ltb k (frame_at fs 0).c h)) ∙ event_passes_lem k f);
-        cell = λ k h. pass_at (cell_in_range n) w 4578 (get_or w 1 0) (sym dv ∙ not-false v fv) k h;
+            (sym (if_no _ _ (le-ltb k (frame_at fs 0).c h)) ∙ events k f);
+        cell = λ k h. pass_at (cell_in_range n) w 4578 (get_or w 1 0) v k h;
         no_cell = λ k f h. let z : 4578 + k ≡ 4578 + get_or w 1 0 + (k - get_or w 1 0) = omega arith in
             ap (λ (m : ℕ). get_or w m 0) z
             ∙ zero_at w (4578 + get_or w 1 0) (256 - get_or w 1 0) q (k - get_or w 1 0) (omega arith);
       })
-
-pub ruleset whole_laws = (
-  whole_length,
-  whole_threads,
-  whole_cells,
-  whole_scheduler,
-  whole_thread,
-  whole_event,
-  whole_cell,
-  whole_rest,
-)

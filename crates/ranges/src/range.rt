@@ -1,9 +1,9 @@
 // Whether lent words are a state of the file (answer 14): by words, lists and blocks.
-ghost use Rattle.std.specs.Prelude.{◌≡◌, ◌+◌, ◌*◌, ◌≤◌, ◌<◌, length};
-ghost use Rattle.language.specs.Limits.{most_schedulers, most_threads, most_events};
+ghost use Rattle.std.specs.Prelude.{◌≡◌, ◌+◌, ◌*◌, ◌≤◌, ◌<◌, length, slice_index};
+ghost use Rattle.language.specs.Limits.{most_schedulers, most_threads, most_events, most_cells};
 ghost use Rattle.text.specs.Frames.{frames_of};
 ghost use Rattle.program.specs.Trees.{frame_at};
-ghost use Rattle.machine.specs.Offsets.{state_length, scheduler_length, thread_length};
+ghost use Rattle.machine.specs.Offsets.{state_length, cell_count_at, scheduler_length, thread_length};
 ghost use Rattle.machine.specs.Inner.Ranges.{thread_in_range, value_in_range, item_in_range};
 ghost use Rattle.machine.specs.Inner.Ranges.{entry_in_range, cell_in_range, list_in_range};
 ghost use Rattle.machine.specs.Inner.Ranges.{scheduler_in_range, thread_word_in_range, all_below};
@@ -11,7 +11,7 @@ ghost use Rattle.machine.specs.Inner.Ranges.{in_range};
 ghost use Rattle.machine.specs.Shapes.{is_statement, owner_in_range};
 ghost use Rattle.ranges.specs.Inner.Passes.{is_zero, member_in_range, word_passes};
 ghost use Rattle.ranges.specs.Inner.Passes.{scheduler_block, thread_block, event_in_range};
-ghost use Rattle.ranges.specs.Inner.Passes.{event_passes};
+ghost use Rattle.ranges.specs.Inner.Passes.{event_passes, cells_pass};
 
 use language::Place;
 use language::kind::Kind;
@@ -46,15 +46,14 @@ enum Member {
     Cell,
 }
 
+#[tactic(auto, unfolding(machine::specs::Inner::Ranges::thread_in_range))]
 fn thread_in_range(t: u64) -> bool
     ensures { result ≡ thread_in_range t }
 {
-    if t < 1 {
-        return false;
-    }
-    t <= MOST_THREADS as u64
+    1 <= t && t <= MOST_THREADS as u64
 }
 
+#[tactic(auto, using(crate::proofs::RangeLaws::value_laws))]
 fn value_in_range(w: u64) -> bool
     ensures { result ≡ value_in_range w }
 {
@@ -70,27 +69,17 @@ fn value_in_range(w: u64) -> bool
 fn is_statement(k: Kind) -> bool
     ensures { result ≡ is_statement k }
 {
-    match k {
-        Kind::Header => false,
-        Kind::Declared(d) => false,
-        Kind::Module => false,
-        Kind::Statement(s) => true,
-        Kind::Expression(e) => false,
-        Kind::Unknown => false,
-    }
+    matches!(k, Kind::Statement(_))
 }
 
 // A frame past the end is none.
 fn statement_at(frames: &[u64], i: usize) -> bool
     ensures { result ≡ is_statement (frame_at (frames_of frames.now) i).kind }
 {
-    if frames.len() <= i {
-        return false;
-    }
-    let k = frame_of_word(frames[i]).kind;
-    is_statement(k)
+    i < frames.len() && is_statement(frame_of_word(frames[i]).kind)
 }
 
+#[tactic(auto, using(crate::proofs::RangeLaws::item_laws))]
 fn item_in_range(frames: &[u64], schedulers: u8, w: u64) -> bool
     ensures { result ≡ item_in_range (frames_of frames.now) schedulers w }
 {
@@ -113,40 +102,32 @@ fn event_count(frames: &[u64]) -> u16
     frame_of_word(frames[0]).c
 }
 
+#[tactic(auto, using(crate::proofs::RangeLaws::entry_laws))]
 fn entry_in_range(events: u16, w: u64) -> bool
     ensures { result ≡ entry_in_range events w }
 {
     if w < WAITING_FACTOR {
         return thread_in_range(w);
     }
-    if !thread_in_range(w % WAITING_FACTOR) {
-        return false;
-    }
     if w < AWAITING_FROM {
-        return thread_in_range(w / WAITING_FACTOR);
+        return thread_in_range(w % WAITING_FACTOR) && thread_in_range(w / WAITING_FACTOR);
     }
-    (w - AWAITING_FROM) / WAITING_FACTOR < events as u64
+    thread_in_range(w % WAITING_FACTOR) && (w - AWAITING_FROM) / WAITING_FACTOR < u64::from(events)
 }
 
+#[tactic(auto, unfolding(machine::specs::Shapes::owner_in_range, machine::specs::Inner::Ranges::thread_in_range))]
 fn owner_in_range(schedulers: u8, o: u64) -> bool
     ensures { result ≡ owner_in_range schedulers o }
 {
-    if Place::is_scheduler_in_file(o, schedulers) {
-        return true;
-    }
-    if o < THREAD_OWNER_FROM {
-        return false;
-    }
-    thread_in_range(o - THREAD_OWNER_FROM)
+    Place::is_scheduler_in_file(o, schedulers)
+        || THREAD_OWNER_FROM <= o && thread_in_range(o - THREAD_OWNER_FROM)
 }
 
+#[tactic(auto, unfolding(machine::specs::Inner::Ranges::cell_in_range))]
 fn cell_in_range(schedulers: u8, w: u64) -> bool
     ensures { result ≡ cell_in_range schedulers w }
 {
-    if !owner_in_range(schedulers, w / OWNER_FACTOR) {
-        return false;
-    }
-    value_in_range(w % OWNER_FACTOR)
+    owner_in_range(schedulers, w / OWNER_FACTOR) && value_in_range(w % OWNER_FACTOR)
 }
 
 fn member_in_range(frames: &[u64], schedulers: u8, member: Member, w: u64) -> bool
@@ -176,14 +157,9 @@ fn members_in_range(
         (word_passes (member_in_range (frames_of frames.now) schedulers member)
         state.now at) }
 {
-    let mut j: usize = 0;
-    while j < count {
-        if !member_in_range(frames, schedulers, member, state[at + j]) {
-            return false;
-        }
-        j += 1;
-    }
-    true
+    state[at..at + count]
+        .iter()
+        .all(|w| member_in_range(frames, schedulers, member, *w))
 }
 
 // Count words from that place on are 0. All are looked at, whatever the first is: a loop without an
@@ -192,16 +168,11 @@ fn zeros(state: &[u64], at: usize, count: usize) -> bool
     requires { at + count ≤ length state.now }
     ensures { result ≡ all_below count (word_passes is_zero state.now at) }
 {
-    let mut bits: u64 = 0;
-    let mut j: usize = 0;
-    while j < count {
-        bits |= state[at + j];
-        j += 1;
-    }
-    bits == 0
+    state[at..at + count].iter().fold(0, |bits, w| bits | *w) == 0
 }
 
 // A list at that place: its length, its members, and 0 in the rest of its space.
+#[tactic(auto, using(crate::proofs::BlockLaws::list_laws))]
 fn list_in_range(
     frames: &[u64],
     schedulers: u8,
@@ -220,38 +191,30 @@ fn list_in_range(
         return false;
     }
     let used = count as usize;
-    if !members_in_range(frames, schedulers, member, state, at + 1, used) {
-        return false;
-    }
-    zeros(state, at + 1 + used, most - used)
+    members_in_range(frames, schedulers, member, state, at + 1, used)
+        && zeros(state, at + 1 + used, most - used)
 }
 
+#[tactic(auto, using(crate::proofs::BlockLaws::scheduler_split))]
 fn scheduler_in_range(frames: &[u64], schedulers: u8, state: &[u64], at: usize) -> bool
     requires { at + scheduler_length ≤ length state.now }
     ensures { result ≡ all_below scheduler_length
         (scheduler_in_range (frame_at (frames_of frames.now) 0).c
         state.now at) }
 {
-    if !list_in_range(frames, schedulers, Member::Thread, state, at, MOST_THREADS) {
-        return false;
-    }
-    list_in_range(
-        frames,
-        schedulers,
-        Member::Entry,
-        state,
-        at + LIST_LENGTH,
-        MOST_THREADS,
-    )
+    let next = at + LIST_LENGTH;
+    list_in_range(frames, schedulers, Member::Thread, state, at, MOST_THREADS)
+        && list_in_range(frames, schedulers, Member::Entry, state, next, MOST_THREADS)
 }
 
+#[tactic(auto, using(crate::proofs::BlockLaws::scheduler_block_laws))]
 fn scheduler_block_in_range(frames: &[u64], schedulers: u8, state: &[u64], k: usize) -> bool
     requires { (length state.now ≡ state_length) × (k < most_schedulers) }
     ensures { result
         ≡ scheduler_block (frames_of frames.now) schedulers state.now k }
 {
     let at = SCHEDULERS_AT + SCHEDULER_LENGTH * k;
-    if k < schedulers as usize {
+    if k < usize::from(schedulers) {
         return scheduler_in_range(frames, schedulers, state, at);
     }
     zeros(state, at, SCHEDULER_LENGTH)
@@ -262,50 +225,32 @@ fn schedulers_in_range(frames: &[u64], schedulers: u8, state: &[u64]) -> bool
     ensures { result ≡ all_below most_schedulers
         (scheduler_block (frames_of frames.now) schedulers state.now) }
 {
-    let mut k: usize = 0;
-    while k < SCHEDULERS {
-        if !scheduler_block_in_range(frames, schedulers, state, k) {
-            return false;
-        }
-        k += 1;
-    }
-    true
+    (0..SCHEDULERS).all(|k| scheduler_block_in_range(frames, schedulers, state, k))
 }
 
+#[tactic(auto, using(crate::proofs::BlockLaws::thread_split))]
 fn thread_words_in_range(frames: &[u64], schedulers: u8, state: &[u64], at: usize) -> bool
     requires { at + thread_length ≤ length state.now }
     ensures { result ≡ all_below thread_length
         (thread_word_in_range (frames_of frames.now) schedulers state.now at) }
 {
-    if !Place::is_in_file(state[at], schedulers) {
-        return false;
-    }
-    if (MOST_THREADS as u64) < state[at + STARTER_FIELD] {
-        return false;
-    }
-    if 1 < state[at + LIVES_FIELD] {
-        return false;
-    }
-    if !list_in_range(
-        frames,
-        schedulers,
-        Member::Item,
-        state,
-        at + ITEMS_FIELD,
-        MOST_ITEMS,
-    ) {
-        return false;
-    }
-    list_in_range(
-        frames,
-        schedulers,
-        Member::Value,
-        state,
-        at + VARIABLES_FIELD,
-        MOST_VARIABLES,
-    )
+    let items = at + ITEMS_FIELD;
+    let variables = at + VARIABLES_FIELD;
+    Place::is_in_file(state[at], schedulers)
+        && state[at + STARTER_FIELD] <= MOST_THREADS as u64
+        && state[at + LIVES_FIELD] <= 1
+        && list_in_range(frames, schedulers, Member::Item, state, items, MOST_ITEMS)
+        && list_in_range(
+            frames,
+            schedulers,
+            Member::Value,
+            state,
+            variables,
+            MOST_VARIABLES,
+        )
 }
 
+#[tactic(auto, using(crate::proofs::BlockLaws::thread_block_laws))]
 fn thread_block_in_range(frames: &[u64], schedulers: u8, state: &[u64], k: usize) -> bool
     requires { (length state.now ≡ state_length) × (k < most_threads) }
     ensures { result
@@ -323,21 +268,15 @@ fn threads_in_range(frames: &[u64], schedulers: u8, state: &[u64]) -> bool
     ensures { result ≡ all_below most_threads
         (thread_block (frames_of frames.now) schedulers state.now) }
 {
-    let mut k: usize = 0;
-    while k < MOST_THREADS {
-        if !thread_block_in_range(frames, schedulers, state, k) {
-            return false;
-        }
-        k += 1;
-    }
-    true
+    (0..MOST_THREADS).all(|k| thread_block_in_range(frames, schedulers, state, k))
 }
 
 // Word w of event e, in a file of that many events.
+#[tactic(auto, using(crate::proofs::RangeLaws::event_laws))]
 fn event_in_range(events: u16, e: usize, w: u64) -> bool
     ensures { result ≡ event_in_range events e w }
 {
-    if e < events as usize {
+    if e < usize::from(events) {
         return w <= 1;
     }
     w == 0
@@ -350,43 +289,31 @@ fn events_in_range(frames: &[u64], state: &[u64]) -> bool
         (event_passes (frames_of frames.now) state.now) }
 {
     let events = event_count(frames);
-    let mut e: usize = 0;
-    while e < EVENTS {
-        if !event_in_range(events, e, state[EVENTS_AT + e]) {
-            return false;
-        }
-        e += 1;
-    }
-    true
+    (0..EVENTS).all(|e| event_in_range(events, e, state[EVENTS_AT + e]))
+}
+
+// The cells that there are, and 0 in the rest of their space.
+fn cells_in_range(frames: &[u64], schedulers: u8, state: &[u64]) -> bool
+    requires { (length state.now ≡ state_length) × (slice_index state.now cell_count_at ≤ most_cells) }
+    ensures { result ≡ cells_pass schedulers state.now }
+{
+    let cells = state[CELL_COUNT_AT] as usize;
+    members_in_range(frames, schedulers, Member::Cell, state, CELLS_AT, cells)
+        && zeros(state, CELLS_AT + cells, MOST_CELLS - cells)
 }
 
 // The lent words are as many as they have to be, and each is in its range; a word of unused space
 // is 0.
+#[tactic(auto, using(crate::proofs::BlockLaws::whole_split))]
 pub fn in_range(frames: &[u64], schedulers: u8, state: &[u64]) -> bool
     ensures { result
         ≡ in_range (frames_of frames.now) schedulers state.now }
 {
-    if state.len() != STATE_LENGTH {
-        return false;
-    }
-    if (MOST_THREADS as u64) < state[THREAD_COUNT_AT] {
-        return false;
-    }
-    if (MOST_CELLS as u64) < state[CELL_COUNT_AT] {
-        return false;
-    }
-    if !schedulers_in_range(frames, schedulers, state) {
-        return false;
-    }
-    if !threads_in_range(frames, schedulers, state) {
-        return false;
-    }
-    if !events_in_range(frames, state) {
-        return false;
-    }
-    let cells = state[CELL_COUNT_AT] as usize;
-    if !members_in_range(frames, schedulers, Member::Cell, state, CELLS_AT, cells) {
-        return false;
-    }
-    zeros(state, CELLS_AT + cells, MOST_CELLS - cells)
+    state.len() == STATE_LENGTH
+        && state[THREAD_COUNT_AT] <= MOST_THREADS as u64
+        && state[CELL_COUNT_AT] <= MOST_CELLS as u64
+        && schedulers_in_range(frames, schedulers, state)
+        && threads_in_range(frames, schedulers, state)
+        && events_in_range(frames, state)
+        && cells_in_range(frames, schedulers, state)
 }

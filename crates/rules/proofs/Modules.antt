@@ -1,6 +1,7 @@
 -- Modules and whole programs: the computed answer is the one that the rules give, and the only one.
 -- Assumes nothing.
-use mathlib.Core.Path.{◌≡◌, refl, sym, ◌∙◌}
+use Rattle.std.specs.Prelude.{Err}
+use mathlib.Core.Path.{◌≡◌, ap₂, refl, sym, ◌∙◌}
 use mathlib.Core.Logic.{inl, inr}
 use mathlib.Core.Bool.{false, true≢false}
 use mathlib.Core.List.{List, [], ◌∷◌, ◌++◌}
@@ -10,8 +11,8 @@ use Rattle.language.specs.declared.effect.Effect.{Effect}
 use Rattle.language.specs.Refusals.{wrong_effect}
 use Rattle.rules.specs.declared.finding.StatementEffect.{StatementEffect}
 use Rattle.rules.specs.declared.finding.StatementEffect.TheVariants.{Proper, Faulty}
-use Rattle.language.specs.declared.verdict.Verdict.{Verdict}
-use Rattle.language.specs.declared.verdict.Verdict.TheVariants.{Accepted, Rejected}
+use Rattle.language.specs.Verdicts.{Verdict}
+use Rattle.language.specs.Verdicts.{Accepted, Rejected}
 use Rattle.basics.specs.If.{when◌then◌else◌}
 use Rattle.language.specs.Places.{home, linked}
 use Rattle.language.specs.Effects.{within}
@@ -37,7 +38,7 @@ complete_m (Modules.more r ms) = rw (complete_s r) (complete_m ms)
 -- ---- whatever is found holds
 abbrev pub FoundM : Setting → List Signature → List Part → Verdict → Type 0
 FoundM env below ms Accepted = Modules env below ms
-FoundM env below ms (Rejected n j) = BrokenM env below ms n j
+FoundM env below ms (Err r) = BrokenM env below ms r.number r.frame
 
 module _ (env : Setting) (below : List Signature) (m : Part) where
   found_main : (rest : List Signature → Verdict) (r : StatementEffect)
@@ -56,7 +57,7 @@ module _ (env : Setting) (below : List Signature) (m : Part) where
       go : (a : Verdict) → FoundM env (below ++ (signature m e ∷ [])) (n ∷ ms) a
           → FoundM env below (m ∷ n ∷ ms) a
       go Accepted k = Modules.more h k
-      go (Rejected i j) k = BrokenM.later h k
+      go (Err r) k = BrokenM.later h k
   found_more n ms rest g (Faulty i j) h = BrokenM.body h
 
 pub sound_m : (env : Setting) (ms : List Part) (below : List Signature) (m : Part)
@@ -121,19 +122,17 @@ module _ (file : Program) (some : NonEmpty file.modules) (placed : PlacedM file.
       go : (r : Verdict) → found ≡ r → FoundM (setting_of file) [] file.modules r
           → RulesSay file r
       go Accepted q h = h
-      go (Rejected n j) q b = record { broken = b; least = λ i k c. later_than (found_sooner q c) }
+      go (Err r) q b = record { broken = b; least = λ i k c. later_than (found_sooner q c) }
 
   -- and nothing else is
   pub rules_only : (r : Verdict) → RulesSay file r → r ≡ rules_of file
   unfolding rules_of
   rules_only Accepted h = sym (complete_m h)
-  rules_only (Rejected n j) f = go found refl found_sound
+  rules_only (Err r) f = go found refl found_sound
     where
-      go : (r : Verdict) → found ≡ r → FoundM (setting_of file) [] file.modules r
-          → Rejected n j ≡ found
+      go : (v : Verdict) → found ≡ v → FoundM (setting_of file) [] file.modules v
+          → Rejected r.number r.frame ≡ found
       go Accepted q h = absurd (not_accepted (found_sooner q f.broken))
-      go (Rejected i k) q b =
-          let s = same_place n j i k (f.least i k b) (later_than (found_sooner q f.broken)) in
-          let g : n ≡ i = s.0 in
-          let h : j ≡ k = s.1 in
-          cc
+      go (Err a) q b =
+          let s = same_place r.number r.frame a.number a.frame (f.least a.number a.frame b) (later_than (found_sooner q f.broken)) in
+          ap₂ Rejected s.0 s.1 ∙ sym q

@@ -1,4 +1,5 @@
 -- What each rule's function computes, one law for each of its returns. Assumes nothing.
+use Rattle.std.specs.Prelude.{Option, Some, None}
 use mathlib.Core.Path.{◌≡◌, refl, sym, ap, subst, ◌∙◌}
 use mathlib.Core.Bool.{Bool, true, false, not, ◌&&◌, ◌||◌, true≢false}
 use mathlib.Core.List.{List}
@@ -15,10 +16,6 @@ use Rattle.language.specs.Types.{number_type, truth_type, is_cell, cell_type, ow
 use Rattle.language.specs.Types.{room_around, public}
 use Rattle.language.specs.Effects.{no_effect, ◌∪◌, with_member, with_owner, with_event}
 use Rattle.language.specs.declared.Place.{Place}
-use Rattle.language.specs.declared.PlaceRead.{PlaceRead}
-use Rattle.language.specs.declared.PlaceRead.TheVariants.{At, NoPlace}
-use Rattle.language.specs.declared.type_word.CellRead.{CellRead}
-use Rattle.language.specs.declared.type_word.CellRead.TheVariants.{Word, TooDeep}
 use Rattle.language.specs.declared.effect.Effect.{Effect}
 use Rattle.language.specs.Refusals.{unbound, ill_typed, escaping, wrong_effect, while_unlinked}
 use Rattle.language.specs.Refusals.{instant_loop}
@@ -44,18 +41,18 @@ use Rattle.rules.specs.declared.finding.StatementEffect.TheVariants.{Proper, Fau
 -- pair.
 
 -- ---- what the constructor of a cell's type answered
-read_word : (o t w : ℕ) → cell_read o t ≡ Word w → (room_around t ≡ true) × (w ≡ cell_type o t)
+read_word : (o t w : ℕ) → cell_read o t ≡ Some w → (room_around t ≡ true) × (w ≡ cell_type o t)
 unfolding cell_read
 read_word o t w =
-    if_all (λ (r : CellRead). r ≡ Word w → (room_around t ≡ true) × (w ≡ cell_type o t))
+    if_all (λ (r : Option ℕ). r ≡ Some w → (room_around t ≡ true) × (w ≡ cell_type o t))
     (is_place o && room_around t) _ _
     (λ k e. ((and_true (is_place o) (room_around t) k).1, cc))
     (λ k e. absurd (let z : ◌≡◌ {A = ℕ} 0 1 = cc in omega arith))
 
-read_deep : (o t : ℕ) → is_place o ≡ true → cell_read o t ≡ TooDeep → room_around t ≡ false
+read_deep : (o t : ℕ) → is_place o ≡ true → cell_read o t ≡ None → room_around t ≡ false
 unfolding cell_read
 read_deep o t p =
-    if_all (λ (r : CellRead). r ≡ TooDeep → room_around t ≡ false) (is_place o && room_around t) _ _
+    if_all (λ (r : Option ℕ). r ≡ None → room_around t ≡ false) (is_place o && room_around t) _ _
     (λ k e. absurd (let z : ◌≡◌ {A = ℕ} 0 1 = cc in omega arith))
     (λ k e. sym (ap (λ (x : Bool). x && room_around t) p) ∙ k)
 
@@ -111,12 +108,12 @@ module _ (u : CellUse) where
 pub ruleset cell_laws = (cell_made, cell_read_lem)
 
 -- ---- 24, a new cell
-module _ (s i t : ℕ) (e : Effect) (c : CellRead) (d : c ≡ cell_read s t) where
-  pub new_deep : c ≡ TooDeep → is_place s ≡ true → Untyped ill_typed i ≡ new_rule s i (Typed t e)
+module _ (s i t : ℕ) (e : Effect) (c : Option ℕ) (d : c ≡ cell_read s t) where
+  pub new_deep : c ≡ None → is_place s ≡ true → Untyped ill_typed i ≡ new_rule s i (Typed t e)
   unfolding new_rule
   new_deep h p = yes _ (ap not (read_deep s t p (sym d ∙ h))) refl
 
-  module _ (w : ℕ) (h : c ≡ Word w) where
+  module _ (w : ℕ) (h : c ≡ Some w) where
     room : not (room_around t) ≡ false
     room = ap not (read_word s t w (sym d ∙ h)).0
 
@@ -158,15 +155,15 @@ no_scheduler : (n : ℕ) (b : Bool) → is_scheduler n ≡ b → is_place n ≡ 
 no_scheduler n true e h = absurd (true≢false (sym (scheduler_place n e) ∙ h))
 no_scheduler n false e h = e
 
-module _ (t : ℕ) (e : Effect) (p : PlaceRead)
+module _ (t : ℕ) (e : Effect) (p : Option Place)
     (r : p ≡ place_read (is_place (owner_of t)) (owner_of t)) where
-  pub owner_there : (q : Place) (f : Effect) → p ≡ At q → f ≡ with_owner q.number e
+  pub owner_there : (q : Place) (f : Effect) → p ≡ Some q → f ≡ with_owner q.number e
       → f ≡ with_owner (owner_of t) e
   owner_there q f h k =
       let n = (read_at (is_place (owner_of t)) (owner_of t) q (sym r ∙ h)).1 in
       k ∙ ap (λ (o : ℕ). with_owner o e) n
 
-  pub owner_none : p ≡ NoPlace → e ≡ with_owner (owner_of t) e
+  pub owner_none : p ≡ None → e ≡ with_owner (owner_of t) e
   unfolding with_member
   owner_none h =
       let n = read_none (is_place (owner_of t)) (owner_of t) (sym r ∙ h) in
@@ -567,15 +564,18 @@ pub ruleset while_laws = (while_fault, while_fault_2, while_row)
 -- ---- 1A and 1B, an event
 
 -- its owner is the effect, if that is a scheduler
-module _ (o : ℕ) (p : PlaceRead) (r : p ≡ place_read (is_scheduler o) o)
+module _ (o m : ℕ) (p : Option Place) (s : p ≡ place_read (is_scheduler m) m) (v : m ≡ o)
     (e : Effect) (z : e ≡ no_effect) where
-  pub event_there : (q : Place) (f : Effect) → p ≡ At q → f ≡ with_event q.number e
+  r : p ≡ place_read (is_scheduler o) o
+  r = s ∙ ap (λ (k : ℕ). place_read (is_scheduler k) k) v
+
+  pub event_there : (q : Place) (f : Effect) → p ≡ Some q → f ≡ with_event q.number e
       → f ≡ with_event o no_effect
   event_there q f h k =
       let n = (read_at (is_scheduler o) o q (sym r ∙ h)).1 in
       k ∙ ap (λ (m : ℕ). with_event m e) n ∙ ap (with_event o) z
 
-  pub event_none : p ≡ NoPlace → e ≡ with_event o no_effect
+  pub event_none : p ≡ None → e ≡ with_event o no_effect
   unfolding with_member
   event_none h =
       let n = read_none (is_scheduler o) o (sym r ∙ h) in

@@ -1,11 +1,12 @@
 -- Which rule a program breaks first: refusals 8 to 13 over a whole file. Nothing is computed here.
+use Rattle.std.specs.Prelude.{Err}
 use Rattle.std.specs.Prelude.{◌∷◌, ◌++◌, ◌≤◌, ◌<◌, ◌≡◌, ◌⊎◌}
 use Rattle.basics.specs.Prelude.{List, [], Bool, false, ℕ, In}
 use Rattle.language.specs.{Places.home, Places.Standing, Places.linked, Places.standing_at}
 use Rattle.language.specs.{Effects.within, declared.effect.Effect.Effect}
-use Rattle.language.specs.{declared.verdict.Verdict.Verdict}
-use Rattle.language.specs.{declared.verdict.Verdict.TheVariants.Accepted}
-use Rattle.language.specs.{declared.verdict.Verdict.TheVariants.Rejected, Refusals.wrong_effect}
+use Rattle.language.specs.{Verdicts.Verdict}
+use Rattle.language.specs.{Verdicts.Accepted}
+use Rattle.language.specs.{Verdicts.Rejected, Refusals.wrong_effect}
 use Rattle.program.specs.Trees.{Expr, Stmt, root_e, root_s}
 use Rattle.program.specs.Programs.{Part, Program}
 use Rattle.rules.specs.Rules.{Setting, setting_of, Signature, signature, HasType, HasEffect}
@@ -102,4 +103,4 @@ pub record FirstBroken (file : Program) (n j : ℕ) : Type 0 where
 -- what refusals 8 to 13 say of the program
 abbrev pub RulesSay : Program → Verdict → Type 0
 RulesSay file Accepted = Keeps file
-RulesSay file (Rejected n j) = FirstBroken file n j
+RulesSay file (Err r) = FirstBroken file r.number r.frame

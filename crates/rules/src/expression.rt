@@ -11,12 +11,10 @@ ghost use Rattle.rules.specs.Inner.NodeRules.{both_typed};
 ghost use Rattle.rules.specs.declared.finding.Typing.TheVariants.{Typed};
 
 use crate::finding::{Typing, TypingPair};
+use language::Place;
 use language::effect::Effect;
 use language::refusal::{ESCAPING, ILL_TYPED, UNBOUND};
-use language::type_word::{
-    CellRead, NUMBER, TRUTH, cell_type, content_of, is_cell, is_public, owner_of,
-};
-use language::{Place, PlaceRead};
+use language::type_word::{NUMBER, TRUTH, cell_type, content_of, is_cell, is_public, owner_of};
 use program::node::{CellUse, Leaf, Operator};
 
 // 22 and 23: a variable or a shared cell, by its index in the types of those there are.
@@ -48,18 +46,16 @@ fn new_typed(owner: Place, i: u16, t: u16, e: Effect) -> Typing
     requires { is_place owner.number ≡ true }
     ensures { result ≡ new_rule owner.number i (Typed t e) }
 {
-    match cell_type(owner, t) {
-        CellRead::TooDeep => Typing::Untyped(ILL_TYPED, i),
-        CellRead::Word(w) => {
-            if owner.is_private() {
-                return Typing::Typed(w, e);
-            }
-            if is_public(t) {
-                return Typing::Typed(w, e.with_owner(owner));
-            }
-            Typing::Untyped(ESCAPING, i)
-        }
+    let Some(w) = cell_type(owner, t) else {
+        return Typing::Untyped(ILL_TYPED, i);
+    };
+    if owner.is_private() {
+        return Typing::Typed(w, e);
     }
+    if is_public(t) {
+        return Typing::Typed(w, e.with_owner(owner));
+    }
+    Typing::Untyped(ESCAPING, i)
 }
 
 fn new_rule(owner: Place, i: u16, x: Typing) -> Typing
@@ -77,8 +73,8 @@ pub(crate) fn with_owner_of(e: Effect, t: u16) -> Effect
     ensures { result ≡ with_owner (owner_of t) e }
 {
     match owner_of(t) {
-        PlaceRead::At(owner) => e.with_owner(owner),
-        PlaceRead::NoPlace => e,
+        Some(owner) => e.with_owner(owner),
+        None => e,
     }
 }
 

@@ -12,11 +12,11 @@ ghost use Rattle.rules.specs.declared.finding.StatementEffect.TheVariants.{Prope
 
 use crate::expression::{both_typed, with_owner_of};
 use crate::finding::{StatementEffect, Typing, TypingPair};
+use language::Place;
 use language::effect::Effect;
 use language::group::LABELS;
 use language::refusal::{ILL_TYPED, INSTANT_LOOP, UNBOUND, WHILE_UNLINKED, WRONG_EFFECT};
 use language::type_word::{TRUTH, content_of, is_cell};
-use language::{Place, PlaceRead};
 use program::event::EventFound;
 
 // 15
@@ -161,9 +161,9 @@ pub fn while_rule(i: u16, x: Typing, y: StatementEffect) -> StatementEffect
 fn event_effect(owner: u8) -> Effect
     ensures { result ≡ with_event owner no_effect }
 {
-    match Place::scheduler(owner as u64) {
-        PlaceRead::At(p) => Effect::none().with_event(p),
-        PlaceRead::NoPlace => Effect::none(),
+    match Place::scheduler(u64::from(owner)) {
+        Some(p) => Effect::none().with_event(p),
+        None => Effect::none(),
     }
 }
 

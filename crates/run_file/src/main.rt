@@ -7,7 +7,7 @@ ghost use Rattle.io.specs.Counts.{IsPrefixLen};
 
 use files::{FileRead, print, read_file};
 use language::limit::{MOST_BYTES, MOST_CHOICE_BYTES, MOST_LISTING_BYTES};
-use layout::{LayoutVerdict, layout_verdict};
+use layout::layout_verdict;
 use machine::offset::STATE_LENGTH;
 use runs::printing::run_listing;
 use std::rt::Files;
@@ -18,11 +18,11 @@ fn choices_for(rt: &(impl Files + Eprint), text: &[u8], choices: &mut [u8]) -> F
     ensures { IsPrefixLen result.count choices.new }
 {
     match layout_verdict(text) {
-        LayoutVerdict::Rejected(n, j) => FileRead {
+        Err(_) => FileRead {
             readable: true,
             count: 0,
         },
-        LayoutVerdict::LaidOut => read_file(rt, b"choices.txt", choices),
+        Ok(()) => read_file(rt, b"choices.txt", choices),
     }
 }
 

@@ -1,7 +1,9 @@
 -- The listing stops after the check's line after 1 to 7, which are the layout's, and goes on after
 -- 8 to 13, which are the rules'. Assumes nothing.
+use Rattle.std.specs.Prelude.{Err}
 use Prim.Native.Nat.{ℕ, ◌<◌, ◌≤◌}
-use mathlib.Core.Path.{◌≡◌, refl, ◌∙◌, subst}
+use mathlib.Core.Path.{◌≡◌, refl, ◌∙◌, subst, ap, ap₂}
+use Rattle.language.proofs.VerdictLaws.{number_in, frame_in}
 use mathlib.Core.List.{List}
 use mathlib.Core.Bool.{true, false}
 use native.Mathlib.Omega.{arith}
@@ -9,14 +11,14 @@ use lib.ListN.{length}
 use borrow.Author.Tests.{le-leb, lt-leb}
 use Rattle.language.specs.Places.{Standing}
 use Rattle.language.specs.declared.frame.Frame.{Frame}
-use Rattle.language.specs.declared.verdict.Verdict.{Verdict}
-use Rattle.language.specs.declared.verdict.Verdict.TheVariants.{Accepted, Rejected}
+use Rattle.language.specs.Verdicts.{Verdict}
+use Rattle.language.specs.Verdicts.{Accepted, Rejected}
 use Rattle.text.specs.Reading.{Reading, frames, refused, Reads}
 use Rattle.text.specs.Inner.Reading.{reading}
 use Rattle.text.proofs.Readings.{reads, some_frame}
 use Rattle.program.specs.Trees.{Expr, Stmt}
 use Rattle.program.specs.Programs.{Part, program_of}
-use Rattle.layout.specs.declared.LayoutVerdict.{LayoutVerdict}
+use Rattle.layout.specs.Verdicts.{LayoutVerdict}
 use Rattle.layout.specs.Faults.{Fault, NoFault, LayoutSays}
 use Rattle.layout.specs.Inner.Layouts.{layout_read, layout_verdict}
 use Rattle.layout.proofs.Layouts.{layout_says}
@@ -44,14 +46,14 @@ fault_number (Fault.leftover a b c) = omega arith
 fault_number (Fault.main a b) = omega arith
 fault_number (Fault.depth d h) = omega arith
 
-pub layout_stops : (bs : List ℕ) (n j : ℕ) → layout_verdict bs ≡ LayoutVerdict.Rejected n j
+pub layout_stops : (bs : List ℕ) (n j : ℕ) → layout_verdict bs ≡ Rejected n j
     → stops (Rejected n j) ≡ true
 unfolding layout_verdict
 layout_stops bs n j e = le-leb n 7 (go (reading bs) refl e)
   where
-    go : (r : Reading) → reading bs ≡ r → layout_read r ≡ LayoutVerdict.Rejected n j → n ≤ 7
+    go : (r : Reading) → reading bs ≡ r → layout_read r ≡ Rejected n j → n ≤ 7
     go (refused m k) q z =
-        text_number (reads bs) n j (let a : m ≡ n = cc in let b : k ≡ j = cc in q ∙ cc)
+        text_number (reads bs) n j (q ∙ ap₂ refused (ap number_in z) (ap frame_in z))
     go (frames fs) q z =
         fault_number (subst (LayoutSays fs) z (layout_says fs (some_frame (reads bs) q))).fault
 
@@ -103,4 +105,4 @@ module _ (fs : List Frame) (some : 0 < length fs) (fine : NoFault fs) where
     where
       go : (v : Verdict) → RulesSay (program_of fs) v → stops v ≡ false
       go Accepted h = refl
-      go (Rejected n j) h = lt-leb n 7 (in_modules h.broken)
+      go (Err r) h = lt-leb r.number 7 (in_modules h.broken)

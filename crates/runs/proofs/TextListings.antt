@@ -12,13 +12,15 @@ use borrow.Author.Tests.{eq-eqb, ne_eqb}
 use Rattle.basics.specs.If.{when◌then◌else◌}
 use Rattle.basics.proofs.Ifs.{if_yes, if_no, and_off}
 use Rattle.language.specs.declared.frame.Frame.{Frame}
-use Rattle.language.specs.declared.verdict.Verdict.{Verdict}
-use Rattle.language.specs.declared.verdict.Verdict.TheVariants.{Rejected}
+use Rattle.language.specs.Verdicts.{Verdict}
+use Rattle.language.specs.Verdicts.{Rejected}
 use Rattle.text.specs.Frames.{frames_of, text_frames}
 use Rattle.program.specs.Programs.{program_of}
-use Rattle.layout.specs.declared.LayoutVerdict.{LayoutVerdict}
+use Rattle.layout.specs.Verdicts.{LayoutVerdict, LaidOut}
 use Rattle.layout.specs.Inner.Layouts.{layout_verdict, laid_as, laid_words}
-use Rattle.layout.specs.declared.Laid.{Laid}
+use Rattle.std.specs.Prelude.{Err}
+use Rattle.language.specs.declared.refusal.Refusal.{Refusal}
+use Rattle.layout.specs.Inner.Laid.{Laid, Lines}
 use Rattle.layout.proofs.Judged.{laid_passed, verdict_rejected, verdict_lines}
 use Rattle.rules.specs.Inner.Checking.{rules_of}
 use Rattle.checker.specs.Verdict.{verdict}
@@ -127,39 +129,39 @@ module _ (bs bytes w out : List ℕ) (l : Laid) (ws : List ℕ) (e : laid_as l w
   unfolding list_text
   by_layout x z = ap by_verdict z
 
-  module _ (n j : ℕ) (z : l ≡ Laid.Rejected n j) where
+  module _ (d : Refusal) (z : l ≡ Err d) where
     abbrev refusal : Answer
-    refusal = A.Rejected n j
+    refusal = A.Rejected d.number d.frame
 
-    refused : LayoutVerdict.Rejected n j ≡ layout_verdict bs
-    refused = verdict_rejected bs l ws e n j z
+    refused : Rejected d.number d.frame ≡ layout_verdict bs
+    refused = verdict_rejected bs l ws e d z
 
-    whole_rejected : listing_of refusal (not_run w) (refusal_line n j) out ≡ whole refusal
+    whole_rejected : listing_of refusal (not_run w) (refusal_line d.number d.frame) out ≡ whole refusal
     whole_rejected =
-        let s = ends (Rejected n j) (text_frames bs) w bytes (layout_stops bs n j (sym refused)) in
+        let s = ends (Rejected d.number d.frame) (text_frames bs) w bytes (layout_stops bs d.number d.frame (sym refused)) in
         ap₂ (λ (y : FinalState) (t : List ℕ). listing_of refusal y t out) (sym s.0) (sym s.1)
         ∙ ap (λ (x : Verdict). whole_listing refusal x (text_frames bs) bytes w out)
-        (check_rejected bs l ws e n j z)
+        (check_rejected bs l ws e d z)
 
-    rejected_is : listed_rejected n j w out ≡ list_text bs bytes w out
+    rejected_is : listed_rejected d.number d.frame w out ≡ list_text bs bytes w out
     unfolding listed_rejected
     rejected_is =
-        ap (λ (x : ListingResult). when eqb (length out) 311309 then x else no_listing (A.Rejected n j) w out) whole_rejected
-        ∙ by_layout (LayoutVerdict.Rejected n j) refused
+        ap (λ (x : ListingResult). when eqb (length out) 311309 then x else no_listing (A.Rejected d.number d.frame) w out) whole_rejected
+        ∙ by_layout (Rejected d.number d.frame) refused
 
-    pub list_rejected : (x : ListingAnswer) (new : List ℕ) → with_buffers x [] new ≡ listed_rejected n j [] out
+    pub list_rejected : (x : ListingAnswer) (new : List ℕ) → with_buffers x [] new ≡ listed_rejected d.number d.frame [] out
         → with_buffers x w new ≡ list_text bs bytes w out
-    list_rejected x new k = with_state_lem n j out w x new k ∙ rejected_is
+    list_rejected x new k = with_state_lem d.number d.frame out w x new k ∙ rejected_is
 
-  module _ (n : ℕ) (a : l ≡ Laid.Lines n) where
+  module _ (n : ℕ) (a : l ≡ Lines n) where
     frames_are : frames_of (take n ws) ≡ text_frames bs
     frames_are = (laid_passed bs l ws e n a).lines
 
     rules_are : rules_of (program_of (frames_of (take n ws))) ≡ verdict bs
     rules_are = check_rules bs l ws e n a _ refl
 
-    laid_out : by_verdict LayoutVerdict.LaidOut ≡ list_text bs bytes w out
-    laid_out = by_layout LayoutVerdict.LaidOut (verdict_lines bs l ws e n a)
+    laid_out : by_verdict LaidOut ≡ list_text bs bytes w out
+    laid_out = by_layout LaidOut (verdict_lines bs l ws e n a)
 
     pub list_short_state : (length w ≡ 4834 → ⊥)
         → no_listing (A.Refused 14 0) w out ≡ list_text bs bytes w out

@@ -1,13 +1,14 @@
 -- What `run_listing` leaves in the lent buffers: a run's whole listing, and its state.
+use Rattle.std.specs.Prelude.{Err}
 use Rattle.std.specs.Prelude.{◌&&◌}
 use Rattle.basics.specs.Prelude.{List, Bool, true, false, ℕ, ltb, eqb, length, take, paste}
 use Rattle.basics.specs.Prelude.{when◌then◌else◌}
-use Rattle.language.specs.{declared.frame.Frame.Frame, declared.verdict.Verdict.Verdict}
+use Rattle.language.specs.{declared.frame.Frame.Frame, Verdicts.Verdict}
 use Rattle.language.specs.{Limits.most_choice_bytes, Limits.most_listing_bytes, Refusals.wrong_state}
 use Rattle.text.specs.Frames.{text_frames}
 use Rattle.program.specs.Programs.{Program, program_of}
-use Rattle.layout.specs.declared.LayoutVerdict.{LayoutVerdict}
-use Rattle.layout.specs.declared.LayoutVerdict.TheVariants.{LaidOut, Rejected}
+use Rattle.layout.specs.Verdicts.{LayoutVerdict}
+use Rattle.layout.specs.Verdicts.{LaidOut, Rejected}
 use Rattle.layout.specs.Inner.Layouts.{layout_verdict}
 use Rattle.checker.specs.Verdict.{verdict}
 use Rattle.machine.specs.{Offsets.state_length, Runs.state_after, Words.pack}
@@ -88,14 +89,14 @@ no_listing a w out = listing_result a 0 0 w out
 -- whether the buffers have the lengths that the listing needs: the text's refusal 1 to 7; else 14,
 -- 'after 1 to 7 .. a lent buffer of the wrong length'; else it is done
 abbrev pub answer_for : LayoutVerdict → Bool → Answer
-answer_for (Rejected n j) fit = A.Rejected n j
+answer_for (Err r) fit = A.Rejected r.number r.frame
 answer_for LaidOut false = A.Refused wrong_state 0
 answer_for LaidOut true = A.Done 0 0
 
 -- a listing that stops after 1 to 7 needs no state; any other needs one of its length. The longest
 -- listing has 8 + 19 * 16,384 + 5 bytes
 abbrev pub buffers_fit : LayoutVerdict → List ℕ → List ℕ → Bool
-buffers_fit (Rejected n j) w out = eqb (length out) most_listing_bytes
+buffers_fit (Err r) w out = eqb (length out) most_listing_bytes
 buffers_fit LaidOut w out = eqb (length w) state_length && eqb (length out) most_listing_bytes
 
 -- of any text, any bytes of choices.txt and any buffers

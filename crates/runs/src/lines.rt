@@ -34,13 +34,11 @@ pub(crate) fn step_lines(
         ≡ written out.old check_length
         (step_lines (program_of (frames_of frames.now)) (take n (choices_of bytes.now))) }
 {
-    let mut k: usize = 0;
-    while k < n {
+    for k in 0..n {
         let c = choice_at(bytes, k);
         let s = step_valid(frames, file, state, c as u64);
         let cells = state[CELL_COUNT_AT] as u16;
         let line = choice_line(c, s.answer, s.thread, cells, s.accesses);
         put(out, CHECK_LINE + CHOICE_LINE * k, &line);
-        k += 1;
     }
 }

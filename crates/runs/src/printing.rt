@@ -17,7 +17,7 @@ use crate::lines::step_lines;
 use checker::check::rules_of;
 use language::limit::{CHECK_LINE, CHOICE_LINE, LAST_LINE, MOST_LINES, MOST_LISTING_BYTES};
 use language::refusal::{LONG_TEXT, MALFORMED_TEXT, WRONG_STATE};
-use layout::{Laid, lay_into};
+use layout::lay_into;
 use listing::buffer::put;
 use listing::choices::{ChoicesRead, judge};
 use listing::line::last_line;
@@ -47,10 +47,7 @@ const TWO_LINES: u32 = 2 * CHECK_LINE as u32;
 fn used_of(n: usize, allowance: u16) -> usize
     ensures { result ≡ min n allowance }
 {
-    if n <= allowance as usize {
-        return n;
-    }
-    allowance as usize
+    n.min(usize::from(allowance))
 }
 
 // The n choices of choices.txt, as far as the allowance goes: a line for each, and the last.
@@ -159,8 +156,8 @@ pub fn run_listing(text: &[u8], choices: &[u8], state: &mut [u64], out: &mut [u8
 {
     let mut words = [0u64; MOST_LINES];
     match lay_into(text, &mut words) {
-        Laid::Rejected(n, j) => list_rejected(n, j, out),
-        Laid::Lines(n) => {
+        Err(refusal) => list_rejected(refusal.number, refusal.frame, out),
+        Ok(n) => {
             if state.len() != STATE_LENGTH {
                 return ListingAnswer {
                     answer: Answer::Refused(WRONG_STATE, 0),

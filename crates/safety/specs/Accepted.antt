@@ -4,7 +4,7 @@
 use Rattle.std.specs.Prelude.{◌∷◌, ◌++◌}
 use Rattle.basics.specs.Prelude.{List, [], true, false, ℕ}
 use Rattle.language.specs.declared.frame.Frame.{Frame}
-use Rattle.language.specs.declared.verdict.Verdict.TheVariants.{Accepted}
+use Rattle.language.specs.Verdicts.{Accepted}
 use Rattle.text.specs.Frames.{text_frames}
 use Rattle.program.specs.Programs.{program_of}
 use Rattle.checker.specs.Verdict.{HasVerdict}

@@ -13,7 +13,7 @@ use Rattle.language.specs.Kinds.{kind_of, children}
 use Rattle.language.specs.Groups.{label}
 use Rattle.language.specs.Effects.{with_member, set_within, set_from, group_of, within}
 use Rattle.language.specs.Places.{standing_at}
-use Rattle.language.specs.declared.verdict.Verdict.{Verdict}
+use Rattle.language.specs.Verdicts.{Verdict}
 use Rattle.text.specs.Digits.{digit}
 use Rattle.text.specs.Frames.{hexadecimal, line_word, frame_of_word, words_of, text_frames}
 use Rattle.text.specs.Reading.{right_at}

@@ -12,7 +12,7 @@ use native.Mathlib.Decide.{ℕ_discrete}
 use lib.ListN.{get_or, length, set, drop, length-set, length-drop, get_or-eq_default}
 use lib.Seq.{get_or-set_same, get_or-set_other, set-get_or, get_or-drop}
 use lib.Dec.{eqb, ltb}
-use borrow.Author.Tests.{ltb-true, ltb-false, eqb-true, eq-eqb, ne_eqb, not-true, not-false}
+use borrow.Author.Tests.{ltb-true, ltb-false, eqb-true}
 use Rattle.language.specs.Inner.Labels.{in_group}
 use Rattle.basics.proofs.Ifs.{if_yes, if_no}
 use Rattle.basics.proofs.Ifs.{if_all, and_true}
@@ -20,7 +20,6 @@ use Rattle.machine.specs.State.{State, is_present, with_present}
 use Rattle.machine.specs.Steps.{without_events_of}
 use Rattle.machine.specs.Words.{bit}
 use Rattle.machine.specs.Inner.Ranges.{all_below}
-use Rattle.machine.proofs.AllBelow.{all_more, all_wrong}
 use Rattle.machine.proofs.WordLaws.{Says}
 use Rattle.states.specs.Inner.Events.{is_absent, without_owned, without_event, without_events}
 use Rattle.basics.specs.If.{when◌then◌else◌, keep_if}
@@ -42,23 +41,13 @@ module _ (labels : List ℕ) (p o : ℕ) (w : List ℕ) (e : ℕ) where
 
   -- b is whether the owner is in step with p
   module _ (b : Bool) (k : b ≡ in_group labels p o) where
-    pub other_stays : not b ≡ true → w ≡ without_owned (in_group labels p) o w e
+    pub other_stays : b ≡ false → w ≡ without_owned (in_group labels p) o w e
     unfolding without_owned
-    other_stays d = sym (if_no _ _ (sym k ∙ not-true b d))
+    other_stays d = sym (if_no _ _ (sym k ∙ d))
 
-    pub own_cleared : not b ≡ false → set w (4562 + e) 0 ≡ without_owned (in_group labels p) o w e
+    pub own_cleared : b ≡ true → set w (4562 + e) 0 ≡ without_owned (in_group labels p) o w e
     unfolding without_owned
-    own_cleared d = sym (if_yes _ _ (sym k ∙ not-false b d))
-
--- ---- `none_present`
-module _ (w : List ℕ) (e : ℕ) where
-  pub present_found : (n : ℕ) → (get_or w (4562 + e) 0 ≡ 0 → ⊥) → e < n
-      → false ≡ all_below n (is_absent w)
-  present_found n h l = all_wrong (is_absent w) e n (ne_eqb (get_or w (4562 + e) 0) 0 h) l
-
-  pub absent_more : get_or w (4562 + e) 0 ≡ 0 → all_below e (is_absent w) ≡ true
-      → all_below (e + 1) (is_absent w) ≡ true
-  absent_more h a = all_more (is_absent w) e a (eq-eqb (get_or w (4562 + e) 0) 0 h)
+    own_cleared d = sym (if_yes _ _ (sym k ∙ d))
 
 -- where none is present, none is cleared
 pub none_stay : (labels : List ℕ) (p : ℕ) (os w : List ℕ) (n : ℕ) → all_below n (is_absent w) ≡ true
@@ -91,10 +80,6 @@ pub record Clearing (frames labels w : List ℕ) (p n e i : ℕ) (v : List ℕ) 
   pub others : events_of (drop i (frames_of frames)) ≡ drop e (events_of (frames_of frames))
   pub words : v ≡ without_events (in_group labels p) (events_of (frames_of frames)) w e
   pub long : length v ≡ length w
-
-pub events_are : (fs : List Frame) (f : Frame) → f ≡ frame_at fs 0 → (frame_at fs 0).c ≤ 16
-    → f.c % 256 ≡ (frame_at fs 0).c
-events_are fs f e l = let z = ap (λ (g : Frame). g.c) e in omega arith
 
 pub cleared_length : (c : ℕ → Bool) (os w : List ℕ) (n : ℕ) → length (without_events c os w n) ≡ length w
 unfolding without_events

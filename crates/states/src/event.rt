@@ -22,31 +22,28 @@ pub fn is_present(state: &[u64], e: u8) -> bool
     requires { (length state.now ≡ state_length) × (e < most_events) }
     ensures { result ≡ eqb (get_or state.now (events_at + e) 0) 1 }
 {
-    state[EVENTS_AT + e as usize] == 1
+    state[EVENTS_AT + usize::from(e)] == 1
 }
 
 pub fn set_present(state: &mut [u64], e: u8)
     requires { (length state.old ≡ state_length) × (e < most_events) }
     ensures { state.new ≡ set state.old (events_at + e) 1 }
 {
-    state[EVENTS_AT + e as usize] = 1;
+    state[EVENTS_AT + usize::from(e)] = 1;
 }
 
 // Event e of that owner is no longer present, if the owner is in step with the scheduler.
+#[tactic(auto, using(crate::proofs::EventLaws::absent_stays, crate::proofs::EventLaws::other_stays, crate::proofs::EventLaws::own_cleared))]
 fn clear_event(labels: &[u8; LABELS], state: &mut [u64], q: Place, owner: u8, e: u8)
     requires { (length state.old ≡ state_length) × (e < most_events)
         × (length labels.now ≡ most_schedulers) × (is_scheduler q.number ≡ true) }
     ensures { state.new ≡ without_owned (in_group labels.now q.number)
         owner state.old e }
 {
-    let at = EVENTS_AT + e as usize;
-    if state[at] == 0 {
-        return;
+    let at = EVENTS_AT + usize::from(e);
+    if state[at] != 0 && is_member(labels, q, owner) {
+        state[at] = 0;
     }
-    if !is_member(labels, q, owner) {
-        return;
-    }
-    state[at] = 0;
 }
 
 // The header's C. A file that passes refusals 1 to 7 has at most 16 events.
@@ -63,14 +60,9 @@ fn none_present(state: &[u64], n: u8) -> bool
     requires { (length state.now ≡ state_length) × (n ≤ most_events) }
     ensures { result ≡ all_below n (is_absent state.now) }
 {
-    let mut e: u8 = 0;
-    while e < n {
-        if state[EVENTS_AT + e as usize] != 0 {
-            return false;
-        }
-        e += 1;
-    }
-    true
+    state[EVENTS_AT..EVENTS_AT + usize::from(n)]
+        .iter()
+        .all(|w| *w == 0)
 }
 
 // The events of the scheduler and of those in step with it are no longer present: where some event
@@ -88,15 +80,12 @@ pub fn clear_events(frames: &[u64], labels: &[u8; LABELS], state: &mut [u64], q:
         return;
     }
     let mut e: u8 = 0;
-    let mut i: usize = 0;
-    while i < frames.len() {
+    for line in frames {
         if events <= e {
             return;
         }
-        let line = frames[i];
-        i += 1;
-        if line_declares(DeclarationKind::Event, line) {
-            let f = frame_of_word(line);
+        if line_declares(DeclarationKind::Event, *line) {
+            let f = frame_of_word(*line);
             clear_event(labels, state, q, f.s, e);
             e += 1;
         }

@@ -23,6 +23,7 @@ use text::line::frame_of_word;
 const FIRST_ACTIVE: usize = SCHEDULERS_AT + 1;
 
 // The word of a first content: a cell, a number, or a truth, by its type.
+#[tactic(auto, using(crate::proofs::FreshLaws::content_laws))]
 fn first_content_word(content: u16, first: u16) -> u64
     ensures { (result ≡ value_word (first_content content first)) × (result < owner_factor) }
 {
@@ -30,7 +31,7 @@ fn first_content_word(content: u16, first: u16) -> u64
         return reference_word(first);
     }
     if content == NUMBER {
-        return number_word(first as u32);
+        return number_word(u32::from(first));
     }
     truth_word(first == 1)
 }
@@ -38,17 +39,13 @@ fn first_content_word(content: u16, first: u16) -> u64
 fn first_cell_word(f: Frame) -> u64
     ensures { result ≡ cell_word (first_cell (cell_of f)) }
 {
-    cell_word(f.s as u16, first_content_word(f.a, f.b))
+    cell_word(u16::from(f.s), first_content_word(f.a, f.b))
 }
 
 fn clear(state: &mut [u64])
     ensures { state.new ≡ replicate (length state.old) 0 }
 {
-    let mut i: usize = 0;
-    while i < state.len() {
-        state[i] = 0;
-        i += 1;
-    }
+    state.fill(0);
 }
 
 // The first contents of the shared cells, as far as there is space, and how many there are.
@@ -61,12 +58,9 @@ fn write_shared(frames: &[u64], state: &mut [u64]) -> u64
     let mut i = next_shared(frames, 0);
     let mut c: usize = 0;
     while i < frames.len() {
-        if MOST_CELLS <= c {
-            c += 1;
-            i = next_shared(frames, i + 1);
-            continue;
+        if c < MOST_CELLS {
+            state[CELLS_AT + c] = first_cell_word(frame_of_word(frames[i]));
         }
-        state[CELLS_AT + c] = first_cell_word(frame_of_word(frames[i]));
         c += 1;
         i = next_shared(frames, i + 1);
     }

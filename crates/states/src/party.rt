@@ -8,6 +8,7 @@ use language::Place;
 use machine::offset::{LIVES_FIELD, THREAD_COUNT_AT, THREAD_LENGTH, THREAD_OWNER_FROM, THREADS_AT};
 
 // The choice names a thread, which is private and has not ended. Validation has found at most 64.
+#[tactic(auto, using(crate::proofs::PartyLaws::unlinked_laws))]
 pub fn is_unlinked(state: &[u64], choice: u64) -> bool
     requires { (length state.now ≡ state_length)
         × (get_or state.now thread_count_at 0 ≤ most_threads) }
@@ -21,8 +22,5 @@ pub fn is_unlinked(state: &[u64], choice: u64) -> bool
         return false;
     }
     let at = THREADS_AT + THREAD_LENGTH * (t - 1) as usize;
-    if state[at] != Place::PRIVATE.word() {
-        return false;
-    }
-    state[at + LIVES_FIELD] != 0
+    state[at] == Place::PRIVATE.word() && state[at + LIVES_FIELD] != 0
 }

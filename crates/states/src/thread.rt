@@ -35,11 +35,7 @@ fn store_run(w: &mut [u64], at: usize, a: [u64; MOST_ITEMS])
     requires { at + most_items ≤ length w.old }
     ensures { w.new ≡ pasted w.old at a most_items }
 {
-    let mut j = 0;
-    while j < MOST_ITEMS {
-        w[at + j] = a[j];
-        j += 1;
-    }
+    w[at..at + MOST_ITEMS].copy_from_slice(&a);
 }
 
 fn store_thread(state: &mut [u64], k: usize, th: ThreadWords)

@@ -13,7 +13,9 @@ use Rattle.language.specs.declared.frame.Frame.{Frame}
 use Rattle.text.specs.Frames.{frames_of}
 use Rattle.program.specs.Programs.{program_of}
 use Rattle.layout.specs.Inner.Layouts.{laid_as, laid_words}
-use Rattle.layout.specs.declared.Laid.{Laid}
+use Rattle.std.specs.Prelude.{Err}
+use Rattle.language.specs.declared.refusal.Refusal.{Refusal}
+use Rattle.layout.specs.Inner.Laid.{Laid, Lines}
 use Rattle.layout.proofs.AfterLayout.{text_refused, text_passed}
 use Rattle.checker.proofs.CheckLaws.{check_file}
 use Rattle.machine.specs.Fresh.{fresh}
@@ -82,16 +84,16 @@ step_in s r v k e h = ap (λ (a : Answer). text_result a v) h ∙ ap as_text_res
 -- ---- a text: a rejected one gives that refusal whatever the call (`text_refused`), one that is
 -- laid out what the call gives (`by_call`)
 module _ (bs : List ℕ) (l : Laid) (ws : List ℕ) (e : laid_as l ws ≡ laid_words bs) where
-  module _ (n j : ℕ) (z : l ≡ Laid.Rejected n j) where
-    pub fresh_rejected : (w : List ℕ) → text_result (A.Rejected n j) w ≡ fresh_text bs w
+  module _ (d : Refusal) (z : l ≡ Err d) where
+    pub fresh_rejected : (w : List ℕ) → text_result (A.Rejected d.number d.frame) w ≡ fresh_text bs w
     unfolding fresh_text
-    fresh_rejected w = text_refused _ _ bs l ws e n j z
+    fresh_rejected w = text_refused _ _ bs l ws e d z
 
-    pub step_rejected : (w : List ℕ) (c : ℕ) → text_result (A.Rejected n j) w ≡ step_text bs w c
+    pub step_rejected : (w : List ℕ) (c : ℕ) → text_result (A.Rejected d.number d.frame) w ≡ step_text bs w c
     unfolding step_text
-    step_rejected w c = text_refused _ _ bs l ws e n j z
+    step_rejected w c = text_refused _ _ bs l ws e d z
 
-  module _ (n : ℕ) (a : l ≡ Laid.Lines n) where
+  module _ (n : ℕ) (a : l ≡ Lines n) where
     pub text_file : FileWords (take n ws)
     text_file =
         let g = check_file bs l ws e n a in record { laid_out = g.laid_out; few = g.few }

@@ -13,7 +13,9 @@ use Rattle.basics.specs.Chains.{each_from, last_from}
 use Rattle.text.specs.Frames.{frames_of}
 use Rattle.program.specs.Programs.{program_of}
 use Rattle.layout.specs.Inner.Layouts.{laid_as, laid_words}
-use Rattle.layout.specs.declared.Laid.{Laid}
+use Rattle.std.specs.Prelude.{Err}
+use Rattle.language.specs.declared.refusal.Refusal.{Refusal}
+use Rattle.layout.specs.Inner.Laid.{Laid, Lines}
 use Rattle.layout.proofs.AfterLayout.{text_refused, text_passed}
 use Rattle.machine.specs.Inner.Ranges.{in_range}
 use Rattle.machine.specs.Calls.{CallResult, step_call, calls_from, words_from}
@@ -161,12 +163,12 @@ module _ (frames w cs out : List ℕ) where
 -- ---- on a text
 module _ (bs : List ℕ) (l : Laid) (ws : List ℕ) (e : laid_as l ws ≡ laid_words bs)
     (w cs out : List ℕ) where
-  pub steps_rejected : (n j : ℕ) → l ≡ Laid.Rejected n j
-      → batch_result (A.Rejected n j) w out ≡ steps_text bs w cs out
+  pub steps_rejected : (d : Refusal) → l ≡ Err d
+      → batch_result (A.Rejected d.number d.frame) w out ≡ steps_text bs w cs out
   unfolding steps_text
-  steps_rejected n j z = text_refused _ _ bs l ws e n j z
+  steps_rejected d z = text_refused _ _ bs l ws e d z
 
-  pub steps_done : (n : ℕ) → l ≡ Laid.Lines n → (r : Answer) (u o : List ℕ)
+  pub steps_done : (n : ℕ) → l ≡ Lines n → (r : Answer) (u o : List ℕ)
       → batch_result r u o ≡ steps_call (frames_of (take n ws)) w cs out
       → batch_result r u o ≡ steps_text bs w cs out
   unfolding steps_text

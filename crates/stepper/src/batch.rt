@@ -13,7 +13,7 @@ use crate::party::StepAnswer;
 use crate::valid::step_valid;
 use language::limit::MOST_LINES;
 use language::refusal::WRONG_STATE;
-use layout::{Laid, lay_into};
+use layout::lay_into;
 use ranges::range::in_range;
 
 // The answer to one choice as a number: its accesses above 32 bits, 01's number above 16, and below
@@ -72,7 +72,7 @@ pub fn steps(text: &[u8], state: &mut [u64], choices: &[u8], answers: &mut [u64]
 {
     let mut words = [0u64; MOST_LINES];
     match lay_into(text, &mut words) {
-        Laid::Rejected(n, j) => Answer::Rejected(n, j),
-        Laid::Lines(n) => steps_frames(&words[..n], state, choices, answers),
+        Err(refusal) => Answer::Rejected(refusal.number, refusal.frame),
+        Ok(n) => steps_frames(&words[..n], state, choices, answers),
     }
 }

@@ -11,7 +11,7 @@ use crate::file::file_of;
 use crate::valid::step_valid;
 use language::limit::MOST_LINES;
 use language::refusal::WRONG_STATE;
-use layout::{Laid, lay_into};
+use layout::lay_into;
 use machine::offset::STATE_LENGTH;
 use ranges::range::in_range;
 use states::fresh::write_fresh;
@@ -30,8 +30,8 @@ pub fn fresh(text: &[u8], state: &mut [u64]) -> Answer
 {
     let mut words = [0u64; MOST_LINES];
     match lay_into(text, &mut words) {
-        Laid::Rejected(n, j) => Answer::Rejected(n, j),
-        Laid::Lines(n) => {
+        Err(refusal) => Answer::Rejected(refusal.number, refusal.frame),
+        Ok(n) => {
             if state.len() != STATE_LENGTH {
                 return Answer::Refused(WRONG_STATE, 0);
             }
@@ -63,7 +63,7 @@ pub fn step(text: &[u8], state: &mut [u64], choice: u64) -> Answer
 {
     let mut words = [0u64; MOST_LINES];
     match lay_into(text, &mut words) {
-        Laid::Rejected(n, j) => Answer::Rejected(n, j),
-        Laid::Lines(n) => step_frames(&words[..n], state, choice),
+        Err(refusal) => Answer::Rejected(refusal.number, refusal.frame),
+        Ok(n) => step_frames(&words[..n], state, choice),
     }
 }

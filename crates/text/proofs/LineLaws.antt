@@ -1,5 +1,6 @@
 -- Laws of the loop of `read_line`, which takes all digits of a line without an exit: what it keeps,
 -- and what each return of the function gives. Assumes nothing.
+use Rattle.std.specs.Prelude.{Some, None}
 use Rattle.std.proofs.Common.{◌≡◌, ℕ, suc, ◌+◌, ◌*◌, ◌%◌, ◌^◌, ◌<◌, ◌≤◌, Bool, true, false, ◌&&◌, eqb, ltb, leb, List, [], ◌∷◌, ◌++◌, length, get_or, take, sym, refl, ap, ◌∙◌, ap₂, pow-suc, add-one, arith, take-suc, ltb-false, ltb-true, le-ltb, lt-ltb, eq-eqb, ne_eqb, le-leb}
 use native.Mathlib.Nat.{pow-le-pow_right}
 use lib.Bits.{bit_or, or_lt, or_add_and, and_le_l, and_le_r}
@@ -8,7 +9,6 @@ use Rattle.basics.proofs.Ifs.{yes, no, and_off}
 use Rattle.text.specs.Digits.{digit}
 use Rattle.text.specs.Frames.{hexadecimal, line_word}
 use Rattle.text.specs.Inner.Lines.{all_digits, starts_line, line_read}
-use Rattle.text.specs.declared.line.Line.TheVariants.{Word, Malformed}
 
 -- ---- bits of values put together: none is lost, and 16 is reached only where one value reaches it
 or_left : (a b : ℕ) → a ≤ bit_or a b
@@ -73,13 +73,13 @@ module _ (bytes : List ℕ) (w bits k : ℕ) (t : Taking bytes w bits k) where
   pub times_fits : k < 16 → w * 16 < 2 ^ 64
   times_fits l = let f = t.fits in let p = power l in omega arith
 
-  -- d is the value
-  pub word_fits : (d : ℕ) → k < 16 → w * 16 + d % 16 < 2 ^ 64
-  word_fits d l = let f = t.fits in let p = power l in omega arith
+  -- d is the value, v its digit
+  pub word_fits : (d v : ℕ) → k < 16 → v ≡ d % 16 → w * 16 + v < 2 ^ 64
+  word_fits d v l e = let f = t.fits in let p = power l in omega arith
 
-  pub taking_more : (d : ℕ) → d ≡ digit (get_or bytes k 0) → k < 16 → 17 ≤ length bytes
-      → Taking bytes (w * 16 + d % 16) (bit_or bits d) (k + 1)
-  taking_more d e h m =
+  pub taking_more : (d v : ℕ) → d ≡ digit (get_or bytes k 0) → v ≡ d % 16 → k < 16 → 17 ≤ length bytes
+      → Taking bytes (w * 16 + v) (bit_or bits d) (k + 1)
+  taking_more d v e y h m =
       let b = get_or bytes k 0 in
       let s = sym (take-suc bytes k 0 (omega arith)) in
       rw add-one (record {
@@ -91,7 +91,7 @@ module _ (bytes : List ℕ) (w bits k : ℕ) (t : Taking bytes w bits k) where
             let o = or_left bits d in
             let q = or_right bits d in
             let i : w ≡ hexadecimal 0 (take k bytes) = t.word (omega arith) in
-            let j : d % 16 ≡ digit b = omega arith in
+            let j : v ≡ digit b = omega arith in
             ap₂ (λ (x y : ℕ). x * 16 + y) i j ∙ sym (hexadecimal_more (take k bytes) b 0)
             ∙ ap (hexadecimal 0) s;
         fits = let p = pow-suc 16 k in let f = t.fits in omega arith;
@@ -99,15 +99,15 @@ module _ (bytes : List ℕ) (w bits k : ℕ) (t : Taking bytes w bits k) where
 
 -- ---- the returns
 module _ (bytes : List ℕ) where
-  malformed : starts_line bytes ≡ false → Malformed ≡ line_read bytes
+  malformed : starts_line bytes ≡ false → None ≡ line_read bytes
   unfolding line_read
   malformed e = no _ e refl
 
-  pub line_short : length bytes < 17 → Malformed ≡ line_read bytes
+  pub line_short : length bytes < 17 → None ≡ line_read bytes
   unfolding starts_line
   line_short h = malformed (rw (lt-leb 17 (length bytes) h) refl)
 
-  pub line_feed_wrong : (get_or bytes 16 0 ≡ 10 → ⊥) → Malformed ≡ line_read bytes
+  pub line_feed_wrong : (get_or bytes 16 0 ≡ 10 → ⊥) → None ≡ line_read bytes
   unfolding starts_line
   line_feed_wrong n =
       malformed
@@ -120,7 +120,7 @@ module _ (bytes : List ℕ) where
     beyond : Taking bytes w bits 16
     beyond = let e : k ≡ 16 = omega arith in rw e at t
 
-    pub line_digit_wrong : 16 ≤ bits → Malformed ≡ line_read bytes
+    pub line_digit_wrong : 16 ≤ bits → None ≡ line_read bytes
     unfolding starts_line
     line_digit_wrong h =
         malformed
@@ -129,7 +129,7 @@ module _ (bytes : List ℕ) where
         ∙ ap (λ (t : Bool). t && eqb (get_or bytes 16 0) 10) (and_off (leb 17 (length bytes))))
 
     pub line_done : 17 ≤ length bytes → bits < 16 → get_or bytes 16 0 ≡ 10
-        → Word w ≡ line_read bytes
+        → Some w ≡ line_read bytes
     unfolding line_read starts_line line_word
     line_done m h n =
         yes _
@@ -138,6 +138,6 @@ module _ (bytes : List ℕ) where
           sym beyond.tested ∙ lt-ltb bits 16 h,
           eq-eqb (get_or bytes 16 0) 10 n,
         ) refl)
-        (ap Word (beyond.word h))
+        (ap Some (beyond.word h))
 
 pub ruleset line_laws = (line_short, line_digit_wrong, line_feed_wrong, line_done)

@@ -1,5 +1,6 @@
 -- A line that is read is a step of the scan for the first wrong byte: the scan stops in a malformed
 -- line, and goes on 17 bytes later after a right one. Assumes nothing.
+use Rattle.std.specs.Prelude.{Option, Some, None}
 use Rattle.std.proofs.Common.{◌≡◌, ℕ, zero, suc, ◌+◌, ◌%◌, ◌<◌, ◌≤◌, Bool, true, false, ◌&&◌, eqb, ltb, leb, List, [], ◌∷◌, length, get_or, take, drop, sym, refl, ap, ◌∙◌, subst, true≢false, add-suc, arith, drop-cons, ltb-true, lt-ltb, eq-eqb, ne_eqb, leb-false, leb-true}
 use mathlib.Core.Option.{none, some}
 use Rattle.basics.specs.If.{when◌then◌else◌}
@@ -9,8 +10,6 @@ use Rattle.text.specs.Frames.{line_word}
 use Rattle.text.specs.Reading.{right_at}
 use Rattle.text.specs.Inner.Reading.{first_wrong}
 use Rattle.text.specs.Inner.Lines.{all_digits, starts_line, line_read}
-use Rattle.text.specs.declared.line.Line.{Line}
-use Rattle.text.specs.declared.line.Line.TheVariants.{Word, Malformed}
 
 -- ---- the scan, a byte at a time
 module _ (p b : ℕ) (bs : List ℕ) where
@@ -117,12 +116,12 @@ module _ (bs : List ℕ) (p : ℕ) (z : p % 17 ≡ 0) (some_left : 0 < length bs
       ∙ scan_wrong (p + 16) (get_or bs 16 0) (drop 17 bs) (right_feed (p + 16) _ (omega arith) ∙ f)
 
   -- what the scan does, by the line that is read
-  data Scanned : Line → Type 0 where
-    stop : {j : ℕ} → j ≤ 16 → first_wrong p bs ≡ some (p + j) → Scanned Malformed
+  data Scanned : Option ℕ → Type 0 where
+    stop : {j : ℕ} → j ≤ 16 → first_wrong p bs ≡ some (p + j) → Scanned None
     pass : {w : ℕ} → 17 ≤ length bs → first_wrong p bs ≡ first_wrong (p + 17) (drop 17 bs)
-        → w ≡ line_word bs → Scanned (Word w)
+        → w ≡ line_word bs → Scanned (Some w)
 
-  stops : Stops p 0 bs → Scanned Malformed
+  stops : Stops p 0 bs → Scanned None
   stops r = stop r.1 (ap (λ (n : ℕ). first_wrong n bs) (omega arith) ∙ r.2)
 
   scanned : Scanned (line_read bs)
@@ -131,7 +130,7 @@ module _ (bs : List ℕ) (p : ℕ) (z : p % 17 ≡ 0) (some_left : 0 < length bs
     where
       by : (s t u : Bool) → leb 17 (length bs) ≡ s → all_digits (take 16 bs) ≡ t
           → eqb (get_or bs 16 0) 10 ≡ u
-          → Scanned (when s && t && u then Word (line_word bs) else Malformed)
+          → Scanned (when s && t && u then Some (line_word bs) else None)
       by false t u a b c =
           let l = leb-false 17 (length bs) a in
           stops (line_ends p z bs 0 (omega arith) (omega arith))
@@ -143,17 +142,17 @@ module _ (bs : List ℕ) (p : ℕ) (z : p % 17 ≡ 0) (some_left : 0 < length bs
           let l = leb-true 17 (length bs) a in
           pass l (feed_right l b c) refl
 
-  pub line_wrong : Malformed ≡ line_read bs
+  pub line_wrong : None ≡ line_read bs
       → (j : ℕ) × (j ≤ 16) × (first_wrong p bs ≡ some (p + j))
   line_wrong e = go (subst Scanned (sym e) scanned)
     where
-      go : Scanned Malformed → (j : ℕ) × (j ≤ 16) × (first_wrong p bs ≡ some (p + j))
+      go : Scanned None → (j : ℕ) × (j ≤ 16) × (first_wrong p bs ≡ some (p + j))
       go (stop {j = j} l f) = (j, l, f)
 
-  pub line_word_lem : (w : ℕ) → Word w ≡ line_read bs
+  pub line_word_lem : (w : ℕ) → Some w ≡ line_read bs
       → (17 ≤ length bs) × (first_wrong p bs ≡ first_wrong (p + 17) (drop 17 bs)) × (w ≡ line_word bs)
   line_word_lem w e = go (subst Scanned (sym e) scanned)
     where
-      go : Scanned (Word w) → (17 ≤ length bs)
+      go : Scanned (Some w) → (17 ≤ length bs)
           × (first_wrong p bs ≡ first_wrong (p + 17) (drop 17 bs)) × (w ≡ line_word bs)
       go (pass l f v) = (l, f, v)

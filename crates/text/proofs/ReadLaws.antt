@@ -1,6 +1,7 @@
 -- Laws of the loop of `read_into`, which reads a text's lines one after the other: where the scan
 -- for the first wrong byte is, what the lent words hold, and what each return of the function
 -- gives. Assumes nothing.
+use Rattle.std.specs.Prelude.{Option, Some, None}
 use Rattle.std.proofs.Common.{◌≡◌, ℕ, zero, suc, ◌+◌, ◌-◌, ◌*◌, ◌/◌, ◌%◌, ◌<◌, ◌≤◌, Bool, true, false, List, [], ◌∷◌, ◌++◌, length, take, drop, set, replicate, sym, refl, ap, ◌∙◌, append_assoc, add-one, arith, length-append, length-drop, drop_of_length-le, take_all, drop-drop, le-ltb, lt-ltb}
 use mathlib.Core.Option.{none, some}
 use lib.ListN.{length-map, length-replicate}
@@ -10,9 +11,7 @@ use Rattle.text.specs.Inner.Reading.{first_wrong, read_lines, reading, lines_rea
 use Rattle.text.specs.Inner.Reading.{text_read, TextWords, read_as, text_words}
 use Rattle.text.specs.Reading.{Reading, frames, refused}
 use Rattle.text.specs.Inner.Lines.{line_read}
-use Rattle.text.specs.declared.line.Line.{Line}
-use Rattle.text.specs.declared.line.Line.TheVariants.{Word, Malformed}
-use Rattle.text.specs.declared.reading.TextRead.TheVariants.{Frames, Refused}
+use Rattle.text.specs.Inner.Reads.{Frames, Refused}
 use Rattle.text.proofs.LineScan.{scan_whole, line_wrong, line_word_lem}
 
 -- ---- the reading, by the text's length and by the scan
@@ -48,10 +47,10 @@ pub part_all : (bs : List ℕ) (at : ℕ) → take (length bs - at) (drop at bs)
 part_all bs at = take_all (length bs - at) (drop at bs) (rw length-drop (omega arith))
 
 -- l is the line that is read in the part from `at` on
-abbrev pub LineAt : List ℕ → ℕ → Line → Type 0
+abbrev pub LineAt : List ℕ → ℕ → Option ℕ → Type 0
 LineAt bs at l = l ≡ line_read (take (length bs - at) (drop at bs))
 
-pub line_at : (bs : List ℕ) (at : ℕ) (l : Line) → LineAt bs at l → l ≡ line_read (drop at bs)
+pub line_at : (bs : List ℕ) (at : ℕ) (l : Option ℕ) → LineAt bs at l → l ≡ line_read (drop at bs)
 line_at bs at l e = e ∙ ap line_read (part_all bs at)
 
 -- ---- the loop over lines: i of them are read, as far as `at`, and from there the scan goes on as
@@ -73,16 +72,16 @@ module _ (bs : List ℕ) (i at : ℕ) (s : Scanning bs i at) where
     some_left : 0 < length (drop at bs)
     some_left = rw length-drop (omega arith)
 
-    pub here_wrong : Malformed ≡ line_read (drop at bs)
+    pub here_wrong : None ≡ line_read (drop at bs)
         → (j : ℕ) × (j ≤ 16) × (first_wrong 0 bs ≡ some (at + j))
     here_wrong e =
         let r = line_wrong (drop at bs) at whole_lines some_left e in
         (r.0, r.1, sym s.rest ∙ r.2)
 
-    pub here_word : (w : ℕ) → Word w ≡ line_read (drop at bs) → w ≡ line_word (drop at bs)
+    pub here_word : (w : ℕ) → Some w ≡ line_read (drop at bs) → w ≡ line_word (drop at bs)
     here_word w e = (line_word_lem (drop at bs) at whole_lines some_left w e).2
 
-    pub scanning_more : (w : ℕ) → Word w ≡ line_read (drop at bs) → Scanning bs (suc i) (at + 17)
+    pub scanning_more : (w : ℕ) → Some w ≡ line_read (drop at bs) → Scanning bs (suc i) (at + 17)
     scanning_more w e =
         let r = line_word_lem (drop at bs) at whole_lines some_left w e in
         let q = s.lines in
@@ -92,7 +91,7 @@ module _ (bs : List ℕ) (i at : ℕ) (s : Scanning bs i at) where
           rest = ap (first_wrong (at + 17)) (sym (drop-drop 17 at bs)) ∙ sym r.1 ∙ s.rest;
         }
 
-    read_wrong : Malformed ≡ line_read (drop at bs) → length bs ≤ 17408 → reading bs ≡ refused 3 i
+    read_wrong : None ≡ line_read (drop at bs) → length bs ≤ 17408 → reading bs ≡ refused 3 i
     read_wrong e m =
         let r = here_wrong e in
         let q = s.lines in
@@ -175,12 +174,12 @@ module _ (bs words : List ℕ) (i at : ℕ) (d : Reader bs words i at) where
   reader_length m h =
       ap length d.kept ∙ array_length i bs (let k = reader_index m h in omega arith)
 
-  pub reader_more : (l : Line) (w : ℕ) → LineAt bs at l → l ≡ Word w → at < length bs
+  pub reader_more : (l : Option ℕ) (w : ℕ) → LineAt bs at l → l ≡ Some w → at < length bs
       → length bs ≤ 17408 → Reader bs (set words i w) (i + 1) (at + 17)
   reader_more l w e f h m =
       let s = d.scan in
       let k = reader_index m h in
-      let q : Word w ≡ line_read (drop at bs) = sym f ∙ line_at bs at l e in
+      let q : Some w ≡ line_read (drop at bs) = sym f ∙ line_at bs at l e in
       rw add-one (record {
         scan = scanning_more bs i at s h w q;
         kept =
@@ -190,7 +189,7 @@ module _ (bs words : List ℕ) (i at : ℕ) (d : Reader bs words i at) where
             ∙ array_more i bs k;
       })
 
-  pub words_wrong : (l : Line) → LineAt bs at l → l ≡ Malformed → at < length bs
+  pub words_wrong : (l : Option ℕ) → LineAt bs at l → l ≡ None → at < length bs
       → length bs ≤ 17408 → read_as (Refused 3 i) words ≡ text_words bs
   words_wrong l e f h m =
       let r = read_wrong bs i at d.scan h (sym f ∙ line_at bs at l e) m in

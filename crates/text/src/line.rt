@@ -13,44 +13,28 @@ pub const LINE_DIGITS: usize = LINE_LENGTH - 1;
 
 pub const LINE_FEED: u8 = b'\n';
 
-// What stands at the start of some bytes: a line, as one number of 16 digits, or no line.
-#[derive(Clone, Copy)]
-pub(crate) enum Line {
-    Word(u64),
-    Malformed,
-}
-
-// What stands at an index of a text.
-#[derive(Clone, Copy)]
-pub enum FrameRead {
-    Read(Frame),
-    NoFrame,
-}
-
-// The line with which the bytes begin. The loop has no exit, so that it is unrolled: `bits` puts all
+// The line with which the bytes begin, as one number of 16 digits. The loop has no exit, so that it is unrolled: `bits` puts all
 // values together, and is 16 or more exactly where one of them is no digit.
-pub(crate) fn read_line(bytes: &[u8]) -> Line
+pub(crate) fn read_line(bytes: &[u8]) -> Option<u64>
     ensures { result ≡ line_read bytes.now }
 {
     if bytes.len() < LINE_LENGTH {
-        return Line::Malformed;
+        return None;
     }
     let mut w: u64 = 0;
     let mut bits: u8 = 0;
-    let mut k: usize = 0;
-    while k < LINE_DIGITS {
+    for k in 0..LINE_DIGITS {
         let d = digit(bytes[k]);
         bits |= d;
-        w = w * 16 + (d % 16) as u64;
-        k += 1;
+        w = w * 16 + u64::from(d % 16);
     }
     if 16 <= bits {
-        return Line::Malformed;
+        return None;
     }
     if bytes[LINE_DIGITS] != LINE_FEED {
-        return Line::Malformed;
+        return None;
     }
-    Line::Word(w)
+    Some(w)
 }
 
 // The frame that a line's number is.
@@ -67,25 +51,22 @@ pub fn frame_of_word(w: u64) -> Frame
     }
 }
 
-fn frame_of_line(line: Line) -> FrameRead
+fn frame_of_line(line: Option<u64>) -> Option<Frame>
     ensures { result ≡ frame_of_line line }
 {
-    match line {
-        Line::Word(w) => FrameRead::Read(frame_of_word(w)),
-        Line::Malformed => FrameRead::NoFrame,
-    }
+    line.map(frame_of_word)
 }
 
-// The frame of that index in a text, if its line is whole.
-pub fn frame_at(text: &[u8], i: usize) -> FrameRead
+/// The frame of that index in a text, if its line is whole.
+pub fn frame_at(text: &[u8], i: usize) -> Option<Frame>
     ensures { result ≡ frame_read text.now i }
 {
     if MOST_LINES <= i {
-        return FrameRead::NoFrame;
+        return None;
     }
     let at = i * LINE_LENGTH;
     if text.len() < at {
-        return FrameRead::NoFrame;
+        return None;
     }
     frame_of_line(read_line(&text[at..]))
 }

@@ -15,7 +15,7 @@ use machine::offset::BACK_FROM;
 fn goes(from: Place, q: Place, same: Change, moved: Change) -> Action
     ensures { result ≡ go_to_act from q same moved }
 {
-    if q.is_same(from) {
+    if q == from {
         return comes_to(Transition::Stays, same);
     }
     if q.is_private() {

@@ -1,4 +1,5 @@
 -- The writer's answer, from what its functions find. Assumes nothing.
+use Rattle.std.specs.Prelude.{Err}
 use mathlib.Core.Path.{◌≡◌, refl, sym, ap, ap₂, subst, ◌∙◌}
 use mathlib.Core.List.{List}
 use Prim.Native.Nat.{ℕ, ◌*◌, ◌/◌}
@@ -8,13 +9,15 @@ use lib.ListN.{length, take}
 use borrow.Author.Tests.{eq-eqb, ne_eqb}
 use Rattle.basics.specs.If.{when◌then◌else◌}
 use Rattle.basics.proofs.Ifs.{yes, no}
-use Rattle.language.specs.declared.verdict.Verdict.{Verdict}
-use Rattle.language.specs.declared.verdict.Verdict.TheVariants.{Accepted, Rejected}
+use Rattle.language.specs.Verdicts.{Verdict}
+use Rattle.language.specs.Verdicts.{Accepted, Rejected}
 use Rattle.text.specs.Frames.{words_of, frames_of, text_frames}
 use Rattle.text.specs.Reading.{Reading, frames, refused, Reads}
 use Rattle.text.specs.Inner.Reading.{reading, text_read, read_as, text_words}
-use Rattle.text.specs.declared.reading.TextRead.{TextRead}
-use Rattle.text.specs.declared.reading.TextRead.TheVariants.{Frames, Refused}
+use Rattle.text.specs.Inner.Reads.{TextRead}
+use Rattle.text.specs.Inner.Reads.{Frames}
+use Rattle.language.specs.declared.refusal.Refusal.{Refusal}
+use Rattle.language.proofs.VerdictLaws.{number_in, frame_in}
 use Rattle.text.proofs.Readings.{reads}
 use Rattle.text.proofs.ReadLaws.{length_frames, length_words, read_field}
 use Rattle.layout.proofs.Answers.{Whole, whole, lines_taken}
@@ -29,9 +32,9 @@ use Rattle.writer.specs.Inner.Placing.{arranged_after, arranged}
 
 -- ---- of lines
 module _ (ws out : List ℕ) (v : Verdict) (ev : v ≡ drawing_verdict (frames_of ws)) where
-  pub refused_lines : (n j : ℕ) → v ≡ Rejected n j → as_writing (Rejected n j) out ≡ arranged ws out
+  pub refused_lines : (a : Refusal) → v ≡ Err a → as_writing (Err a) out ≡ arranged ws out
   unfolding arranged
-  refused_lines n j e = ap (arranged_after ws out) (sym e ∙ ev)
+  refused_lines a e = ap (arranged_after ws out) (sym e ∙ ev)
 
   module _ (e : v ≡ Accepted) where
     pub writable_lines : Writable (frames_of ws)
@@ -55,17 +58,15 @@ module _ (ws out : List ℕ) (v : Verdict) (ev : v ≡ drawing_verdict (frames_o
 
 -- ---- of a text: t is what the reader answered, ws what the lent words hold
 module _ (bs out : List ℕ) (t : TextRead) (ws : List ℕ) (h : read_as t ws ≡ text_words bs) where
-  pub refused_text : (n j : ℕ) → t ≡ Refused n j → as_writing (Rejected n j) out ≡ writing bs out
+  pub refused_text : (a : Refusal) → t ≡ Err a → as_writing (Err a) out ≡ writing bs out
   unfolding writing
-  refused_text n j e = go (reading bs) (sym (read_field bs (read_as t ws) h) ∙ e)
+  refused_text a e = go (reading bs) (sym (read_field bs (read_as t ws) h) ∙ e)
     where
-      go : (r : Reading) → text_read r ≡ Refused n j
-          → as_writing (Rejected n j) out ≡ writing_read bs out r
+      go : (r : Reading) → text_read r ≡ Err a → as_writing (Err a) out ≡ writing_read bs out r
       go (frames fs) q = absurd (let z : ◌≡◌ {A = ℕ} 0 1 = cc in omega arith)
       go (refused m k) q =
-          let a : n ≡ m = cc in
-          let b : j ≡ k = cc in
-          ap₂ (λ (x y : ℕ). as_writing (Rejected x y) out) a b
+          ap₂ (λ (x y : ℕ). as_writing (Rejected x y) out)
+          (sym (ap number_in q)) (sym (ap frame_in q))
 
   module _ (n : ℕ) (e : t ≡ Frames n) where
     w : Whole bs n
@@ -89,7 +90,7 @@ module _ (bs out : List ℕ) (t : TextRead) (ws : List ℕ) (h : read_as t ws �
         then as_writing Accepted (rewritten bs)
         else as_writing (Rejected 14 0) out)
         size
-    same_after (Rejected m j) = refl
+    same_after (Err r) = refl
 
     same : arranged (lines_in bs) out ≡ writing bs out
     unfolding arranged writing writing_of text_frames
@@ -106,10 +107,8 @@ answered : (bs out : List ℕ) (a : Writing) → a ≡ writing bs out → Answer
 answered bs out a e = subst (Answered bs out) (sym e) (writing_computes bs out)
 
 module _ (bs out : List ℕ) (t : TextRead) (ws : List ℕ) (h : read_as t ws ≡ text_words bs) where
-  pub refused_answered : (n j : ℕ) → t ≡ Refused n j
-      → Answered bs out (as_writing (Rejected n j) out)
-  refused_answered n j e =
-      answered bs out (as_writing (Rejected n j) out) (refused_text bs out t ws h n j e)
+  pub refused_answered : (a : Refusal) → t ≡ Err a → Answered bs out (as_writing (Err a) out)
+  refused_answered a e = answered bs out (as_writing (Err a) out) (refused_text bs out t ws h a e)
 
   pub whole_answered : (n : ℕ) → t ≡ Frames n → (v : Verdict) (new : List ℕ)
       → as_writing v new ≡ arranged (take n ws) out → Answered bs out (as_writing v new)

@@ -10,9 +10,8 @@ ghost use Rattle.writer.specs.Inner.Placing.{arranged};
 use crate::root::lay_all;
 use forest::drawing_verdict;
 use language::limit::{LINE_LENGTH, MOST_LINES};
-use language::refusal::WRONG_STATE;
-use language::verdict::Verdict;
-use text::reading::{TextRead, read_into};
+use language::refusal::{Refusal, Verdict, WRONG_STATE};
+use text::reading::read_into;
 
 mod child;
 mod emit;
@@ -25,16 +24,15 @@ fn arrange_lines(words: &[u64], out: &mut [u8]) -> Verdict
     ensures { as_writing result out.new
         ≡ arranged words.now out.old }
 {
-    match drawing_verdict(words) {
-        Verdict::Rejected(n, j) => Verdict::Rejected(n, j),
-        Verdict::Accepted => {
-            if out.len() != LINE_LENGTH * words.len() {
-                return Verdict::Rejected(WRONG_STATE, 0);
-            }
-            lay_all(words, out);
-            Verdict::Accepted
-        }
+    drawing_verdict(words)?;
+    if out.len() != LINE_LENGTH * words.len() {
+        return Err(Refusal {
+            number: WRONG_STATE,
+            frame: 0,
+        });
     }
+    lay_all(words, out);
+    Ok(())
 }
 
 // The text's lines laid out into a buffer of the text's length: children before parents and just
@@ -48,12 +46,6 @@ pub fn arrange(text: &[u8], out: &mut [u8]) -> Verdict
         (as_writing result out.new) }
 {
     let mut words = [0u64; MOST_LINES];
-    let read = read_into(text, &mut words);
-    match read {
-        TextRead::Refused(n, j) => Verdict::Rejected(n, j),
-        TextRead::Frames(n) => {
-            let count = n as usize;
-            arrange_lines(&words[..count], out)
-        }
-    }
+    let count = usize::from(read_into(text, &mut words)?);
+    arrange_lines(&words[..count], out)
 }

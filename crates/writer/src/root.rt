@@ -9,7 +9,7 @@ ghost use Rattle.drawing.specs.Writings.{Writable};
 ghost use Rattle.writer.specs.Inner.Placing.{with_lines, LineRoom, lines_at, root_at};
 
 use crate::emit::emit;
-use language::kind::{Kind, declaration_rank};
+use language::kind::Kind;
 use language::limit::MOST_DEPTH;
 use program::frames::frame_at;
 
@@ -29,7 +29,7 @@ fn rank_of(kind: Kind) -> u8
 {
     match kind {
         Kind::Header => HEADER_RANK,
-        Kind::Declared(d) => declaration_rank(d),
+        Kind::Declared(d) => d.rank(),
         Kind::Module => MODULE_RANK,
         Kind::Statement(k) => RANKS,
         Kind::Expression(k) => RANKS,
@@ -71,10 +71,8 @@ fn lay_rank(words: &[u64], rank: u8, n: usize, out: &mut [u8]) -> usize
         (lines_at words.now n (numbered rank 0 (frames_of words.now))) }
 {
     let mut next = n;
-    let mut i = 0;
-    while i < words.len() {
+    for i in 0..words.len() {
         next = lay_root(words, i, rank, next, out);
-        i += 1;
     }
     next
 }
@@ -86,9 +84,7 @@ pub(crate) fn lay_all(words: &[u64], out: &mut [u8])
     ensures { out.new ≡ bytes_of (laid_out (drawing words.now)) }
 {
     let mut next: usize = 0;
-    let mut rank = HEADER_RANK;
-    while rank < RANKS {
+    for rank in HEADER_RANK..RANKS {
         next = lay_rank(words, rank, next, out);
-        rank += 1;
     }
 }

@@ -1,5 +1,6 @@
 -- What the writer refuses, as functions that compute. No reader has to believe it: proofs/Answers
 -- shows that they give what `HasWriting` allows. Assumes nothing: definitions.
+use Rattle.std.specs.Prelude.{Err}
 use Rattle.std.specs.Prelude.{Bool, false, not, ◌&&◌, ◌||◌, List, ℕ, zero, suc, leb, ltb, eqb, length, drop}
 use Rattle.std.proofs.Math.Option.{Option}
 use Rattle.basics.specs.If.{when◌then◌else◌}
@@ -10,8 +11,8 @@ use Rattle.language.specs.Limits.{most_depth}
 use Rattle.language.specs.Refusals.{wrong_header, wrong_field, wrong_tree, wrong_order, too_deep}
 use Rattle.language.specs.Refusals.{wrong_state}
 use Rattle.language.specs.declared.frame.Frame.{Frame}
-use Rattle.language.specs.declared.verdict.Verdict.{Verdict}
-use Rattle.language.specs.declared.verdict.Verdict.TheVariants.{Accepted, Rejected}
+use Rattle.language.specs.Verdicts.{Verdict}
+use Rattle.language.specs.Verdicts.{Accepted, Rejected}
 use Rattle.program.specs.Trees.{frame_at}
 use Rattle.program.specs.Inner.Children.{same_class}
 use Rattle.text.specs.Reading.{Reading, frames, refused}
@@ -93,7 +94,7 @@ abbrev pub writing_after : List ℕ → List ℕ → Verdict → Writing
 writing_after bs out Accepted =
     when eqb (length out) (length bs) then as_writing Accepted (rewritten bs) else
     as_writing (Rejected wrong_state 0) out
-writing_after bs out (Rejected m j) = as_writing (Rejected m j) out
+writing_after bs out (Err r) = as_writing (Rejected r.number r.frame) out
 
 unfoldable pub writing_of : List ℕ → List ℕ → List Frame → Writing
 writing_of bs out fs = writing_after bs out (drawing_verdict fs)

@@ -1,30 +1,15 @@
 -- `any_active` meets its contract.
-use borrow.Author.Rules.{rules}
-use Prim.Native.Nat.{◌-◌}
-use Rattle.groups.proofs.MemberLaws.{walk_place, walk_pair, walk_small, end_small}
-use Rattle.groups.proofs.MemberLaws.{active_start, active_found, active_next, active_none}
+use Rattle.std.proofs.Common.{ℕ, Bool, rules, arith, refl, ◌+◌, ◌∙◌}
+use Rattle.std.proofs.lemmas.Iterator.{YieldsList-from_range}
+use Rattle.std.proofs.lemmas.Iterator.Search.{any_from_yields_List}
+use Rattle.language.specs.Inner.Labels.{same_label}
+use Rattle.groups.specs.Inner.Members.{is_active_member, active_on}
+use Rattle.groups.proofs.MemberLaws.{any-members}
 use Rattle.groups.proofs.any_active.Goals as goal
 
-pub overflow_add-end : goal.overflow_add-end
-overflow_add-end c = search end_small
-
-pub loop-k-init : goal.loop-k-init
-loop-k-init c = search active_start
-
-pub known-requires : goal.known-requires
-known-requires c = search walk_place
-
-pub is_active_member-requires : goal.is_active_member-requires
-is_active_member-requires c = (search walk_pair, search rules)
-
-pub returns-then-is_active_member : goal.returns-then-is_active_member
-returns-then-is_active_member c = search active_found
-
-pub overflow_add-k : goal.overflow_add-k
-overflow_add-k c = search walk_small
-
-pub loop-k-preserved : goal.loop-k-preserved
-loop-k-preserved c = search active_next
-
 pub returns : goal.returns
-returns c = search active_none
+returns c =
+    let n : ℕ = c.args.schedulers in
+    let test : ℕ → Bool = is_active_member c.args.labels.now c.args.q.number c.args.state.now in
+    any_from_yields_List test _ _ _ c.any.ensures.ran (YieldsList-from_range 2 (2 + n) n refl (omega arith)) (λ x b q k. search rules)
+    ∙ any-members (same_label c.args.labels.now c.args.q.number) (active_on c.args.state.now) 2 n

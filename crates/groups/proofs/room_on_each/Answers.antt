@@ -1,30 +1,15 @@
 -- `room_on_each` meets its contract.
-use borrow.Author.Rules.{rules}
-use Prim.Native.Nat.{◌-◌}
-use Rattle.groups.proofs.MemberLaws.{walk_place, walk_pair, walk_small, end_small}
-use Rattle.groups.proofs.MemberLaws.{room_start, room_missing, room_next, room_all}
+use Rattle.std.proofs.Common.{ℕ, Bool, not, rules, arith, refl, ap, ◌+◌, ◌∙◌}
+use Rattle.std.proofs.lemmas.Iterator.{YieldsList-from_range}
+use Rattle.std.proofs.lemmas.Iterator.Search.{any_from_yields_List}
+use Rattle.language.specs.Inner.Labels.{same_label}
+use Rattle.groups.specs.Inner.Members.{lacks_room, room_on}
+use Rattle.groups.proofs.MemberLaws.{none-members}
 use Rattle.groups.proofs.room_on_each.Goals as goal
 
-pub overflow_add-end : goal.overflow_add-end
-overflow_add-end c = search end_small
-
-pub loop-k-init : goal.loop-k-init
-loop-k-init c = search room_start
-
-pub known-requires : goal.known-requires
-known-requires c = search walk_place
-
-pub lacks_room-requires : goal.lacks_room-requires
-lacks_room-requires c = (search walk_pair, search rules)
-
-pub returns-then-lacks_room : goal.returns-then-lacks_room
-returns-then-lacks_room c = search room_missing
-
-pub overflow_add-k : goal.overflow_add-k
-overflow_add-k c = search walk_small
-
-pub loop-k-preserved : goal.loop-k-preserved
-loop-k-preserved c = search room_next
-
 pub returns : goal.returns
-returns c = search room_all
+returns c =
+    let n : ℕ = c.args.schedulers in
+    let test : ℕ → Bool = lacks_room c.args.labels.now c.args.q.number c.args.e c.args.state.now in
+    ap not (any_from_yields_List test _ _ _ c.any.ensures.ran (YieldsList-from_range 2 (2 + n) n refl (omega arith)) (λ x b q k. search rules))
+    ∙ none-members (same_label c.args.labels.now c.args.q.number) (room_on c.args.e c.args.state.now) 2 n

@@ -1,11 +1,12 @@
 -- Refusals 1 to 7 by functions that compute. No reader has to believe it: proofs/Judged shows
 -- that `layout_verdict` gives the one v that `HasLayout` allows. Assumes nothing: definitions.
+use Rattle.std.specs.Prelude.{Err}
 use Rattle.std.specs.Prelude.{List, ℕ}
 use Rattle.text.specs.Reading.{Reading, frames, refused}
 use Rattle.text.specs.Inner.Reading.{reading, lines_read, text_words}
-use Rattle.layout.specs.declared.LayoutVerdict.{LayoutVerdict}
-use Rattle.layout.specs.declared.LayoutVerdict.TheVariants.{LaidOut, Rejected}
-use Rattle.layout.specs.declared.Laid.{Laid}
+use Rattle.layout.specs.Verdicts.{LayoutVerdict}
+use Rattle.layout.specs.Verdicts.{LaidOut, Rejected}
+use Rattle.layout.specs.Inner.Laid.{Laid, Lines, Unlaid}
 use Rattle.layout.specs.Inner.Scans.{layout_of}
 
 -- 1 to 3, then 4 to 7
@@ -19,12 +20,12 @@ layout_verdict bs = layout_read (reading bs)
 
 -- the answer of the code: the verdict, and beside `LaidOut` how many lines there are
 abbrev pub laid_for : LayoutVerdict → ℕ → Laid
-laid_for LaidOut n = Laid.Lines n
-laid_for (Rejected m j) n = Laid.Rejected m j
+laid_for LaidOut n = Lines n
+laid_for (Err r) n = Unlaid r.number r.frame
 
 abbrev pub verdict_of : Laid → LayoutVerdict
-verdict_of (Laid.Lines n) = LaidOut
-verdict_of (Laid.Rejected n j) = Rejected n j
+verdict_of (Lines n) = LaidOut
+verdict_of (Err r) = Rejected r.number r.frame
 
 -- with what its lent words hold: the lines that were read
 pub record LaidWords : Type 0 where

@@ -16,8 +16,8 @@ use Rattle.language.specs.Limits.{most_lines, most_depth}
 use Rattle.program.specs.Trees.{frame_at}
 use Rattle.program.specs.Inner.Children.{same_class}
 use Rattle.fields.specs.Inner.Scans.{header_fault, field_fault, reject_at}
-use Rattle.layout.specs.declared.LayoutVerdict.{LayoutVerdict}
-use Rattle.layout.specs.declared.LayoutVerdict.TheVariants.{LaidOut, Rejected}
+use Rattle.layout.specs.Verdicts.{LayoutVerdict}
+use Rattle.layout.specs.Verdicts.{LaidOut, Rejected}
 use Rattle.layout.specs.Order.{has_child, has_class, is_main}
 
 -- what a caller has to show: there is a line, and no more than a file may have

@@ -6,8 +6,8 @@ use Rattle.lines.proofs.frames_from.Goals as goal
 pub loop-at-init : goal.loop-at-init
 loop-at-init c = counting_start _ _
 
-pub returns-then-not-is_read : goal.returns-then-not-is_read
-returns-then-not-is_read c = search count_laws
+pub returns-then-is_none : goal.returns-then-is_none
+returns-then-is_none c = search count_laws
 
 pub loop-at-preserved : goal.loop-at-preserved
 loop-at-preserved c = search counting_more

@@ -1,12 +1,13 @@
 -- The range test by blocks, as the code passes over the words: which test each word of a block has
 -- to pass. No reader has to believe it: together the passes are `in_range` (proofs/BlockLaws).
 -- Assumes nothing: definitions.
-use Rattle.std.specs.Prelude.{List, Bool, ℕ, ◌+◌, ◌*◌, ltb, leb, eqb, get_or}
+use Rattle.std.specs.Prelude.{List, Bool, ℕ, ◌+◌, ◌*◌, ◌-◌, ◌&&◌, ltb, leb, eqb, get_or}
 use Rattle.basics.specs.If.{when◌then◌else◌}
+use Rattle.language.specs.Limits.{most_cells}
 use Rattle.language.specs.declared.frame.Frame.{Frame}
 use Rattle.program.specs.Trees.{frame_at}
 use Rattle.machine.specs.Offsets.{thread_count_at, schedulers_at, scheduler_length, threads_at}
-use Rattle.machine.specs.Offsets.{thread_length, events_at}
+use Rattle.machine.specs.Offsets.{thread_length, events_at, cell_count_at, cells_at}
 use Rattle.machine.specs.Inner.Ranges.{thread_in_range, value_in_range, item_in_range, entry_in_range}
 use Rattle.machine.specs.Inner.Ranges.{cell_in_range, scheduler_in_range, thread_word_in_range, all_below}
 use Rattle.ranges.specs.declared.range.Member.{Member}
@@ -48,3 +49,10 @@ event_in_range m e v = when ltb e m then leb v 1 else eqb v 0
 
 unfoldable pub event_passes : List Frame → List ℕ → ℕ → Bool
 event_passes fs w e = event_in_range (frame_at fs 0).c e (get_or w (events_at + e) 0)
+
+-- the words of the cells: in range where there is one, 0 elsewhere
+abbrev pub cells_pass : ℕ → List ℕ → Bool
+cells_pass n w =
+    all_below (get_or w cell_count_at 0) (word_passes (cell_in_range n) w cells_at)
+    && all_below (most_cells - get_or w cell_count_at 0)
+    (word_passes is_zero w (cells_at + get_or w cell_count_at 0))

@@ -10,8 +10,8 @@ use Rattle.language.specs.Types.{number_type, truth_type, is_cell, cell_type, ow
 use Rattle.language.specs.Types.{content_of, room_around, public}
 use Rattle.language.specs.Effects.{no_effect, ◌∪◌, with_owner, with_event, within}
 use Rattle.language.specs.declared.effect.Effect.{Effect}
-use Rattle.language.specs.declared.verdict.Verdict.{Verdict}
-use Rattle.language.specs.declared.verdict.Verdict.TheVariants.{Accepted, Rejected}
+use Rattle.language.specs.Verdicts.{Verdict}
+use Rattle.language.specs.Verdicts.{Accepted, Rejected}
 use Rattle.language.specs.Refusals.{unbound, ill_typed, escaping}
 use Rattle.language.specs.Refusals.{wrong_effect, while_unlinked, instant_loop}
 use Rattle.program.specs.Trees.{Expr, number, truth, variable, shared, new, content}

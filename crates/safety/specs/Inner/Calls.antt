@@ -3,7 +3,7 @@
 use Rattle.std.specs.Prelude.{◌≡◌, List, ℕ, length}
 use Rattle.basics.specs.Members.{All}
 use Rattle.language.specs.declared.frame.Frame.{Frame}
-use Rattle.language.specs.declared.verdict.Verdict.TheVariants.{Accepted}
+use Rattle.language.specs.Verdicts.{Accepted}
 use Rattle.text.specs.Frames.{text_frames}
 use Rattle.program.specs.Programs.{program_of}
 use Rattle.checker.specs.Verdict.{HasVerdict}

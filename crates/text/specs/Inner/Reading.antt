@@ -7,8 +7,8 @@ use Rattle.basics.specs.If.{when◌then◌else◌}
 use Rattle.language.specs.Limits.{line_length, most_lines, most_bytes}
 use Rattle.language.specs.Refusals.{empty_text, long_text, malformed_text}
 use Rattle.text.specs.Frames.{words_of, text_frames}
-use Rattle.text.specs.declared.reading.TextRead.{TextRead}
-use Rattle.text.specs.declared.reading.TextRead.TheVariants.{Frames, Refused}
+use Rattle.text.specs.Inner.Reads.{TextRead}
+use Rattle.text.specs.Inner.Reads.{Frames, Refused}
 use Rattle.text.specs.Reading.{right_at, Reading, frames, refused}
 
 -- the position of the first wrong or missing byte; the list stands from p on

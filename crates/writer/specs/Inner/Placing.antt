@@ -1,13 +1,14 @@
 -- Lines in the lent buffer, and what the writer's functions rely on. No reader has to believe it.
 -- Assumes nothing: definitions.
+use Rattle.std.specs.Prelude.{Err}
 use Rattle.std.specs.Prelude.{◌≡◌, true, List, [], ◌∷◌, map, ℕ, ◌+◌, ◌*◌, ◌<◌, ◌≤◌, eqb, length}
 use Rattle.std.proofs.Math.Seq.{paste}
 use Rattle.basics.specs.If.{when◌then◌else◌}
 use Rattle.language.specs.Limits.{line_length, most_lines}
 use Rattle.language.specs.Refusals.{wrong_state}
 use Rattle.language.specs.declared.frame.Frame.{Frame}
-use Rattle.language.specs.declared.verdict.Verdict.{Verdict}
-use Rattle.language.specs.declared.verdict.Verdict.TheVariants.{Accepted, Rejected}
+use Rattle.language.specs.Verdicts.{Verdict}
+use Rattle.language.specs.Verdicts.{Accepted, Rejected}
 use Rattle.text.specs.Frames.{frames_of}
 use Rattle.drawing.specs.Drawings.{drawn, lined_all, rank, levels, drawing, laid_out}
 use Rattle.drawing.specs.Texts.{bytes_of}
@@ -56,7 +57,7 @@ arranged_after ws out Accepted =
     when eqb (length out) (line_length * length ws)
     then as_writing Accepted (bytes_of (laid_out (drawing ws)))
     else as_writing (Rejected wrong_state 0) out
-arranged_after ws out (Rejected m j) = as_writing (Rejected m j) out
+arranged_after ws out (Err r) = as_writing (Rejected r.number r.frame) out
 
 unfoldable pub arranged : List ℕ → List ℕ → Writing
 arranged ws out = arranged_after ws out (drawing_verdict (frames_of ws))

@@ -6,8 +6,8 @@ use Rattle.commits.proofs.leave.leave.Goals as goal
 pub drop_first-requires : goal.drop_first-requires
 drop_first-requires c = (search rules, search chosen_scheduler)
 
-pub returns-in-At : goal.returns-in-At
-returns-in-At c = search left_laws
+pub returns-in-Some : goal.returns-in-Some
+returns-in-Some c = search left_laws
 
-pub returns-in-NoPlace : goal.returns-in-NoPlace
-returns-in-NoPlace c = search left_laws
+pub returns-in_default : goal.returns-in_default
+returns-in_default c = search left_laws

@@ -6,8 +6,12 @@ use Rattle.commits.proofs.signal.has_wake_room.Goals as goal
 pub room_on_each-requires : goal.room_on_each-requires
 room_on_each-requires c = (search owner_group, search rules)
 
-pub returns-in-At : goal.returns-in-At
-returns-in-At c = search (wake_none, wake_room)
+pub returns-in-Some : goal.returns-in-Some
+returns-in-Some c =
+    let read = rw c.from.ensures at c.scheduler.ensures in
+    search (wake_none, wake_room)
 
-pub returns-in-NoPlace : goal.returns-in-NoPlace
-returns-in-NoPlace c = search (wake_none, wake_room)
+pub returns-in-None : goal.returns-in-None
+returns-in-None c =
+    let read = rw c.from.ensures at c.scheduler.ensures in
+    search (wake_none, wake_room)

@@ -1,15 +1,15 @@
 -- `module_fine` meets its contract.
-use Rattle.fields.proofs.FieldsByKind.{module_laws}
+use Rattle.std.proofs.Common.{arith}
+use Rattle.text.specs.Frames.{frames_of}
+use Rattle.fields.proofs.FieldsByKind.{module_split}
 use Rattle.fields.proofs.field.module_fine.Goals as goal
 
-pub returns-then-t-ge-MOST_MODULES : goal.returns-then-t-ge-MOST_MODULES
-returns-then-t-ge-MOST_MODULES c = search module_laws
+pub returns-then-type_fine : goal.returns-then-type_fine
+returns-then-type_fine c =
+    let split = module_split (frames_of c.args.words.now) c.args.i c.args.f c.args.t c.requires.1 c.requires.2 in
+    grind (arith, split)
 
-pub returns-then-f-gt-MOST_PARAMETERS : goal.returns-then-f-gt-MOST_PARAMETERS
-returns-then-f-gt-MOST_PARAMETERS c = search module_laws
-
-pub returns-then-not-type_fine : goal.returns-then-not-type_fine
-returns-then-not-type_fine c = search module_laws
-
-pub returns : goal.returns
-returns c = search module_laws
+pub returns-else-type_fine : goal.returns-else-type_fine
+returns-else-type_fine c =
+    let split = module_split (frames_of c.args.words.now) c.args.i c.args.f c.args.t c.requires.1 c.requires.2 in
+    grind (arith, split)

@@ -1,5 +1,4 @@
 -- `on_cycle` meets its contract.
-use Prim.Native.Nat.{◌-◌}
 use borrow.Author.Rules.{rules}
 use Rattle.forest.proofs.CycleWalk.{room_zeros, all_most}
 use Rattle.forest.proofs.CycleReach.{look_start, look_room, look_inside}

@@ -1,6 +1,5 @@
 -- `is_deep` meets its contract.
 use mathlib.Core.Path.{refl}
-use Prim.Native.Nat.{◌-◌}
 use borrow.Author.Rules.{rules}
 use Rattle.forest.proofs.Climbing.{climb_stop, climb_fits, climb_next}
 use Rattle.forest.proofs.Climbing.{climb_inside, climb_end}

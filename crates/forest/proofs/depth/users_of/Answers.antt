@@ -1,14 +1,12 @@
 -- `users_of` meets its contract.
-use Prim.Native.Nat.{◌-◌}
-use borrow.Author.Rules.{rules}
 use Rattle.forest.proofs.UserArray.{noting_start, noting_next, noting_end}
 use Rattle.forest.proofs.depth.users_of.Goals as goal
 
 pub loop-i-init : goal.loop-i-init
-loop-i-init c = (search rules, search noting_start)
+loop-i-init c = search noting_start
 
 pub loop-i-preserved : goal.loop-i-preserved
-loop-i-preserved c = (search rules, search noting_next)
+loop-i-preserved c = search noting_next
 
 pub returns : goal.returns
 returns c = search noting_end

@@ -1,5 +1,4 @@
 use mathlib.Core.Path.{◌≡◌}
-use Prim.Native.Nat.{◌≤◌, ◌-◌}
 use lib.ListN.{length}
 use Rattle.text.specs.Frames.{frames_of}
 use Rattle.forest.specs.Inner.Walks.{NoCycleBefore}
@@ -7,7 +6,4 @@ use Rattle.forest.proofs.tree.cycle_fault.Given as goal
 
 abbrev pub invariant-loop-i : goal.invariant-loop-i
 invariant-loop-i l =
-    (l.i ≤ l.n) × (length l.queue ≡ 1024) × NoCycleBefore (frames_of l.words) l.i
-
-abbrev pub decreases-loop-i : goal.decreases-loop-i
-decreases-loop-i l = l.n - l.i
+    (length l.queue ≡ 1024) × NoCycleBefore (frames_of l.words) l.i

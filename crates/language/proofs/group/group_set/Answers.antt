@@ -1,12 +1,7 @@
 -- `group_set` meets its contract.
-use borrow.Author.Rules.{rules}
-use Prim.Native.Nat.{◌-◌}
-use Rattle.language.proofs.LabelLaws.{index_small, gather_start, gather_one}
-use Rattle.language.proofs.LabelLaws.{gather_other, gather_end}
+use Rattle.std.proofs.Common.{rules}
+use Rattle.language.proofs.LabelLaws.{gather_start, gather_one, gather_other, gather_end}
 use Rattle.language.proofs.group.group_set.Goals as goal
-
-pub bounds-labels-index : goal.bounds-labels-index
-bounds-labels-index c = search index_small
 
 pub loop-k-init : goal.loop-k-init
 loop-k-init c = (search rules, search gather_start)

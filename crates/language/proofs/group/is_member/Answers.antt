@@ -9,8 +9,8 @@ returns-then-n-number c = search member_self
 pub in_step-requires : goal.in_step-requires
 in_step-requires c = (search rules, search rules, search read_scheduler)
 
-pub returns-in-At : goal.returns-in-At
-returns-in-At c = search member_by
+pub returns-in-Some : goal.returns-in-Some
+returns-in-Some c = search member_by
 
-pub returns-in-NoPlace : goal.returns-in-NoPlace
-returns-in-NoPlace c = search no_member
+pub returns-in-None : goal.returns-in-None
+returns-in-None c = search no_member

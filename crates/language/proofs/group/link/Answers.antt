@@ -1,15 +1,8 @@
 -- `link` meets its contract.
-use borrow.Author.Rules.{rules}
-use Prim.Native.Nat.{◌-◌}
+use Rattle.std.proofs.Common.{rules}
 use lib.ListN.{length-set}
-use Rattle.language.proofs.LabelLaws.{index_small, map_start, map_more, map_end}
+use Rattle.language.proofs.LabelLaws.{map_start, map_more, map_end}
 use Rattle.language.proofs.group.link.Goals as goal
-
-pub bounds-labels-index : goal.bounds-labels-index
-bounds-labels-index c = search index_small
-
-pub bounds-labels-index-2 : goal.bounds-labels-index-2
-bounds-labels-index-2 c = search index_small
 
 pub loop-k-init : goal.loop-k-init
 loop-k-init c = (search rules, search rules, search map_start)

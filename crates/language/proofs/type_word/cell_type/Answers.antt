@@ -2,11 +2,8 @@
 use Rattle.language.proofs.Words.{cell_type_laws, fit_laws}
 use Rattle.language.proofs.type_word.cell_type.Goals as goal
 
-pub returns-then-o : goal.returns-then-o
-returns-then-o c = search cell_type_laws
-
-pub returns-then-o-2 : goal.returns-then-o-2
-returns-then-o-2 c = search cell_type_laws
+pub returns-then-not-is_place : goal.returns-then-not-is_place
+returns-then-not-is_place c = search cell_type_laws
 
 pub returns-then-t-ge-UNIT_3 : goal.returns-then-t-ge-UNIT_3
 returns-then-t-ge-UNIT_3 c = search cell_type_laws

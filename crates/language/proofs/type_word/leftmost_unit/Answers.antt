@@ -11,5 +11,5 @@ returns-then-t-lt-UNIT_2 c = search unit_laws
 pub returns-then-t-lt-UNIT_3 : goal.returns-then-t-lt-UNIT_3
 returns-then-t-lt-UNIT_3 c = search unit_laws
 
-pub returns : goal.returns
-returns c = search unit_laws
+pub returns-else-t-lt-UNIT_3 : goal.returns-else-t-lt-UNIT_3
+returns-else-t-lt-UNIT_3 c = search unit_laws

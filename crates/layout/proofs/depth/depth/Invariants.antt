@@ -1,11 +1,6 @@
-use Prim.Native.Nat.{◌≤◌, ◌-◌}
-use lib.ListN.{length}
 use Rattle.text.specs.Frames.{frames_of}
 use Rattle.layout.proofs.DepthPass.{SeekingOver}
 use Rattle.layout.proofs.depth.depth.Given as goal
 
 abbrev pub invariant-loop-i : goal.invariant-loop-i
-invariant-loop-i l = (l.i ≤ length l.words) × SeekingOver (frames_of l.words) l.i
-
-abbrev pub decreases-loop-i : goal.decreases-loop-i
-decreases-loop-i l = length l.words - l.i
+invariant-loop-i l = SeekingOver (frames_of l.words) l.i

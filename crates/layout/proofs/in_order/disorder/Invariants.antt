@@ -1,4 +1,3 @@
-use Prim.Native.Nat.{◌≤◌, ◌-◌}
 use mathlib.Core.Path.{◌≡◌}
 use lib.ListN.{length}
 use Rattle.text.specs.Frames.{frames_of}
@@ -7,7 +6,4 @@ use Rattle.layout.proofs.DisorderPass.{SeekingDisorder}
 use Rattle.layout.proofs.in_order.disorder.Given as goal
 
 abbrev pub invariant-loop-i : goal.invariant-loop-i
-invariant-loop-i l = (l.i ≤ length l.words) × (length l.first ≡ 1024) × Backward l.first l.i × SeekingDisorder (frames_of l.words) l.first l.i
-
-abbrev pub decreases-loop-i : goal.decreases-loop-i
-decreases-loop-i l = length l.words - l.i
+invariant-loop-i l = (length l.first ≡ 1024) × Backward l.first l.i × SeekingDisorder (frames_of l.words) l.first l.i

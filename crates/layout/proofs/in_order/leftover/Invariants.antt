@@ -1,11 +1,6 @@
-use Prim.Native.Nat.{◌≤◌, ◌-◌}
-use lib.ListN.{length}
 use Rattle.text.specs.Frames.{frames_of}
 use Rattle.layout.proofs.LeftoverPass.{SeekingLeftover}
 use Rattle.layout.proofs.in_order.leftover.Given as goal
 
 abbrev pub invariant-loop-i : goal.invariant-loop-i
-invariant-loop-i l = (l.i ≤ length l.words) × SeekingLeftover (frames_of l.words) l.i
-
-abbrev pub decreases-loop-i : goal.decreases-loop-i
-decreases-loop-i l = length l.words - l.i
+invariant-loop-i l = SeekingLeftover (frames_of l.words) l.i

@@ -1,15 +1,13 @@
 -- `count_uses` meets its contract.
-use borrow.Author.Rules.{rules}
-use Prim.Native.Nat.{◌-◌}
 use Rattle.layout.proofs.UseCounts.{counting_start, counting_next}
 use Rattle.layout.proofs.UseCounts.{counting_end}
 use Rattle.layout.proofs.uses.count_uses.Goals as goal
 
 pub loop-i-init : goal.loop-i-init
-loop-i-init c = (search rules, search counting_start)
+loop-i-init c = search counting_start
 
 pub loop-i-preserved : goal.loop-i-preserved
-loop-i-preserved c = (search rules, search counting_next)
+loop-i-preserved c = search counting_next
 
 pub returns : goal.returns
 returns c = search counting_end

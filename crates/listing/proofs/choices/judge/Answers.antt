@@ -1,5 +1,4 @@
 -- `judge` meets its contract.
-use Prim.Native.Nat.{◌-◌}
 use Rattle.listing.proofs.ChoiceLaws.{judging_start, judging_more, judged_over}
 use Rattle.listing.proofs.ChoiceLaws.{judged_none, judged_all, at_fits, count_fits}
 use Rattle.listing.proofs.ChoiceLaws.{less_left}

@@ -1,6 +1,5 @@
 -- `partition_entries` meets its contract.
 use borrow.Author.Rules.{rules}
-use Prim.Native.Nat.{◌-◌}
 use mathlib.Core.Path.{refl}
 use lib.ListN.{length-set}
 use native.Mathlib.Omega.{arith}
@@ -8,21 +7,19 @@ use Rattle.lists.proofs.PartitionLaws.{partition_start}
 use Rattle.lists.proofs.PartitionLaws.{partition_ready, partition_waiting}
 use Rattle.lists.proofs.PartitionLaws.{partition_count, partition_end}
 use Rattle.lists.proofs.list.partition_entries.Goals as goal
+use Rattle.lists.proofs.list.partition_entries.Goals.{then-moves, else-moves}
 
 pub loop-j-init : goal.loop-j-init
-loop-j-init c = (search rules, search rules, refl, partition_start _ _ _ _)
+loop-j-init c = (search rules, refl, partition_start _ _ _ _)
 
 pub bounds-state-first : goal.bounds-state-first
 bounds-state-first c = simp length-set (omega arith)
 
-pub loop-j-preserved-then-moves : goal.loop-j-preserved-then-moves
-loop-j-preserved-then-moves c = (search rules, search rules, simp length-set (omega arith), search partition_ready)
-
-pub bounds-state-next-in-loop-j-3 : goal.bounds-state-next-in-loop-j-3
-bounds-state-next-in-loop-j-3 c = simp length-set (omega arith)
-
 pub loop-j-preserved : goal.loop-j-preserved
-loop-j-preserved c = (search rules, search rules, simp length-set (omega arith), search partition_waiting)
+loop-j-preserved c = elim c.if-moves.branch [
+  | then-moves w ↦ rw (w.state-is, w.r-is) (search rules, simp length-set (omega arith), search partition_ready)
+  | else-moves w ↦ rw (w.state-is, w.r-is) (search rules, simp length-set (omega arith), search partition_waiting)
+]
 
 pub returns : goal.returns
 returns c = record { count = search partition_count; words = search partition_end }

@@ -1,4 +1,4 @@
-use Prim.Native.Nat.{◌≤◌, ◌-◌}
+use Prim.Native.Nat.{◌≤◌}
 use mathlib.Core.Path.{◌≡◌}
 use lib.ListN.{length, get_or}
 use Rattle.lists.specs.Inner.Lists.{is_wanted}
@@ -7,8 +7,5 @@ use Rattle.lists.proofs.list.partition_entries.Given as goal
 
 abbrev pub invariant-loop-j : goal.invariant-loop-j
 invariant-loop-j l =
-    (l.r ≤ l.j) × (l.j ≤ l.n) × (length l.state ≡ length l.initial.state)
+    (l.r ≤ l.j) × (length l.state ≡ length l.initial.state)
     × Partitioning (is_wanted l.wanted) l.initial.state l.active (get_or l.initial.state l.active 0) l.state l.r l.j
-
-abbrev pub decreases-loop-j : goal.decreases-loop-j
-decreases-loop-j l = l.n - l.j

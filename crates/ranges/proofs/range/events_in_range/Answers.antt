@@ -1,18 +1,15 @@
 -- `events_in_range` meets its contract.
-use borrow.Author.Rules.{rules}
-use Prim.Native.Nat.{◌-◌}
-use Rattle.machine.proofs.AllBelow.{all_none, all_end}
-use Rattle.ranges.proofs.RangeLaws.{event_wrong, event_more}
+use Rattle.std.proofs.Common.{arith, refl, ◌∙◌}
+use Rattle.std.proofs.lemmas.Iterator.{YieldsList-from_range}
+use Rattle.std.proofs.lemmas.Iterator.Search.{all_from_yields_List}
+use Rattle.text.specs.Frames.{frames_of}
+use Rattle.ranges.specs.Inner.Passes.{event_passes}
+use Rattle.machine.proofs.Alls.{list_all-range}
 use Rattle.ranges.proofs.range.events_in_range.Goals as goal
 
-pub loop-e-init : goal.loop-e-init
-loop-e-init c = (search rules, all_none _)
-
-pub returns-then-not-event_in_range : goal.returns-then-not-event_in_range
-returns-then-not-event_in_range c = search event_wrong
-
-pub loop-e-preserved : goal.loop-e-preserved
-loop-e-preserved c = (search rules, search event_more)
-
 pub returns : goal.returns
-returns c = search all_end
+unfolding event_passes
+returns c =
+    let test = event_passes (frames_of c.args.frames.now) c.args.state.now in
+    all_from_yields_List test _ _ _ c.all.ensures.ran (YieldsList-from_range 0 16 16 refl refl) (λ x b q k. grind (arith, c.event_count-events.ensures))
+    ∙ list_all-range test 16

@@ -1,18 +1,14 @@
 -- `members_in_range` meets its contract.
-use borrow.Author.Rules.{rules}
-use Prim.Native.Nat.{◌-◌}
-use Rattle.machine.proofs.AllBelow.{all_none, all_end}
-use Rattle.ranges.proofs.RangeLaws.{member_wrong, member_more}
+use Rattle.std.proofs.Common.{rules, arith, ◌∙◌}
+use Rattle.std.proofs.lemmas.Iterator.{YieldsList-from_slice}
+use Rattle.std.proofs.lemmas.Iterator.Search.{all_from_yields_List}
+use Rattle.text.specs.Frames.{frames_of}
+use Rattle.ranges.specs.Inner.Passes.{member_in_range}
+use Rattle.ranges.proofs.RangeLaws.{list_all-part}
 use Rattle.ranges.proofs.range.members_in_range.Goals as goal
 
-pub loop-j-init : goal.loop-j-init
-loop-j-init c = (search rules, all_none _)
-
-pub returns-then-not-member_in_range : goal.returns-then-not-member_in_range
-returns-then-not-member_in_range c = search member_wrong
-
-pub loop-j-preserved : goal.loop-j-preserved
-loop-j-preserved c = (search rules, search member_more)
-
 pub returns : goal.returns
-returns c = search all_end
+returns c =
+    let test = member_in_range (frames_of c.args.frames.now) c.args.schedulers c.args.member in
+    all_from_yields_List test _ _ _ c.all.ensures.ran (YieldsList-from_slice _ c.iter.ensures.rest) (λ x b q k. search rules)
+    ∙ list_all-part test c.args.state.now c.args.at c.args.count _ (omega arith) c.requires

@@ -1,17 +1,14 @@
 -- `schedulers_in_range` meets its contract.
-use borrow.Author.Rules.{rules}
-use Prim.Native.Nat.{◌-◌}
-use Rattle.machine.proofs.AllBelow.{all_none, all_end, answer_wrong, answer_more}
+use Rattle.std.proofs.Common.{rules, refl, ◌∙◌}
+use Rattle.std.proofs.lemmas.Iterator.{YieldsList-from_range}
+use Rattle.std.proofs.lemmas.Iterator.Search.{all_from_yields_List}
+use Rattle.text.specs.Frames.{frames_of}
+use Rattle.ranges.specs.Inner.Passes.{scheduler_block}
+use Rattle.machine.proofs.Alls.{list_all-range}
 use Rattle.ranges.proofs.range.schedulers_in_range.Goals as goal
 
-pub loop-k-init : goal.loop-k-init
-loop-k-init c = (search rules, all_none _)
-
-pub returns-then-not-scheduler_block_in_range : goal.returns-then-not-scheduler_block_in_range
-returns-then-not-scheduler_block_in_range c = search answer_wrong
-
-pub loop-k-preserved : goal.loop-k-preserved
-loop-k-preserved c = (search rules, search answer_more)
-
 pub returns : goal.returns
-returns c = search all_end
+returns c =
+    let test = scheduler_block (frames_of c.args.frames.now) c.args.schedulers c.args.state.now in
+    all_from_yields_List test _ _ _ c.all.ensures.ran (YieldsList-from_range 0 8 8 refl refl) (λ x b q k. search rules)
+    ∙ list_all-range test 8

@@ -8,8 +8,8 @@ returns-then-is_private c = search new_typed_laws
 pub returns-then-is_public : goal.returns-then-is_public
 returns-then-is_public c = search new_typed_laws
 
-pub returns-in-TooDeep : goal.returns-in-TooDeep
-returns-in-TooDeep c = search new_typed_laws
+pub returns-in_default : goal.returns-in_default
+returns-in_default c = search new_typed_laws
 
-pub returns-else-is_public : goal.returns-else-is_public
-returns-else-is_public c = search new_typed_laws
+pub returns : goal.returns
+returns c = search new_typed_laws

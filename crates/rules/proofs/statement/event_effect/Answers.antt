@@ -2,8 +2,8 @@
 use Rattle.rules.proofs.RuleLaws.{event_laws}
 use Rattle.rules.proofs.statement.event_effect.Goals as goal
 
-pub returns-in-At : goal.returns-in-At
-returns-in-At c = search event_laws
+pub returns-in-Some : goal.returns-in-Some
+returns-in-Some c = search event_laws
 
-pub returns-in-NoPlace : goal.returns-in-NoPlace
-returns-in-NoPlace c = search event_laws
+pub returns-in-None : goal.returns-in-None
+returns-in-None c = search event_laws

@@ -1,7 +1,6 @@
 -- `step_lines` meets its contract.
 use borrow.Author.Rules.{rules}
 use native.Mathlib.Omega.{arith}
-use Prim.Native.Nat.{◌-◌}
 use Rattle.runs.proofs.ListingLoop.{lining_start, lining_asks, lining_long}
 use Rattle.runs.proofs.ListingLoop.{lining_cells, lining_more, lining_words, lining_lines}
 use Rattle.runs.proofs.lines.step_lines.Goals as goal

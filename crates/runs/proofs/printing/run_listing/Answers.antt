@@ -21,8 +21,8 @@ slice_bounds-list_frames-end c = search check_length
 pub list_frames-requires : goal.list_frames-requires
 list_frames-requires c = (search text_file, search rules, search rules)
 
-pub returns-in-Rejected : goal.returns-in-Rejected
-returns-in-Rejected c = search list_rejected
+pub returns-in-Err : goal.returns-in-Err
+returns-in-Err c = search list_rejected
 
 pub returns-else-out-ne-MOST_LISTING_BYTES : goal.returns-else-out-ne-MOST_LISTING_BYTES
 returns-else-out-ne-MOST_LISTING_BYTES c = search list_laid_out

@@ -1,18 +1,12 @@
 -- `none_present` meets its contract.
-use borrow.Author.Rules.{rules}
-use Prim.Native.Nat.{◌-◌}
-use Rattle.machine.proofs.AllBelow.{all_none, all_end}
-use Rattle.states.proofs.EventLaws.{present_found, absent_more}
+use Rattle.std.proofs.Common.{ℕ, Bool, eqb, rules, arith, ◌∙◌}
+use Rattle.std.proofs.lemmas.Iterator.{YieldsList-from_slice}
+use Rattle.std.proofs.lemmas.Iterator.Search.{all_from_yields_List}
+use Rattle.machine.proofs.Alls.{list_all-words}
 use Rattle.states.proofs.event.none_present.Goals as goal
 
-pub loop-e-init : goal.loop-e-init
-loop-e-init c = (search rules, all_none _)
-
-pub returns-then-state-e-ne0 : goal.returns-then-state-e-ne0
-returns-then-state-e-ne0 c = search present_found
-
-pub loop-e-preserved : goal.loop-e-preserved
-loop-e-preserved c = (search rules, search absent_more)
-
 pub returns : goal.returns
-returns c = search all_end
+returns c =
+    let test : ℕ → Bool = λ w. eqb w 0 in
+    all_from_yields_List test _ _ _ c.all.ensures.ran (YieldsList-from_slice _ c.iter.ensures.rest) (λ x b q k. search rules)
+    ∙ list_all-words test c.args.state.now 4562 c.args.n _ (omega arith) (omega arith)

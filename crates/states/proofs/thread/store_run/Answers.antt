@@ -1,18 +1,9 @@
--- `thread::store_run` meets its contract.
-use Rattle.machine.proofs.WordLaws.{pasted_zero, pasted_more}
-use Rattle.machine.proofs.PastedLaws.{pasted_end}
-use Prim.Native.Nat.{◌-◌}
-use lib.ListN.{length-set}
-use borrow.Author.Rules.{rules}
-use native.Mathlib.Omega.{arith}
-use mathlib.Core.Path.{refl}
+-- `store_run` meets its contract.
+use Rattle.std.proofs.Common.{arith, ◌+◌, ◌-◌}
+use Rattle.std.proofs.lemmas.Slice.{put_mid-paste}
+use Rattle.machine.specs.Inner.Blocks.{pasted}
 use Rattle.states.proofs.thread.store_run.Goals as goal
 
-pub loop-j-init : goal.loop-j-init
-loop-j-init c = (omega arith, refl, search rules, pasted_zero _ _ _)
-
-pub loop-j-preserved : goal.loop-j-preserved
-loop-j-preserved c = (omega arith, simp length-set (omega arith), omega arith, pasted_more _ _ _ _ _ _ c.loop-j.invariant.3 refl (omega arith) (omega arith))
-
 pub returns : goal.returns
-returns c = search pasted_end
+unfolding pasted
+returns c = put_mid-paste _ (c.args.at + 25 - c.args.at) _ _ c.args.a 25 c.copy_from_slice.ensures.after (omega arith) (omega arith)

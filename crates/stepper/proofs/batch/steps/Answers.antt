@@ -13,8 +13,8 @@ slice_bounds-steps_frames-end c = search check_length
 pub steps_frames-requires : goal.steps_frames-requires
 steps_frames-requires c = search text_file
 
-pub returns-in-Rejected : goal.returns-in-Rejected
-returns-in-Rejected c = search steps_rejected
+pub returns-in-Err : goal.returns-in-Err
+returns-in-Err c = search steps_rejected
 
-pub returns-in-Lines : goal.returns-in-Lines
-returns-in-Lines c = search steps_done
+pub returns-in-Ok : goal.returns-in-Ok
+returns-in-Ok c = search steps_done

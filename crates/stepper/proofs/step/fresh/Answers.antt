@@ -12,8 +12,8 @@ slice_bounds-words-end c = search check_room
 pub slice_bounds-write_fresh-end : goal.slice_bounds-write_fresh-end
 slice_bounds-write_fresh-end c = search check_length
 
-pub returns-in-Rejected : goal.returns-in-Rejected
-returns-in-Rejected c = search fresh_rejected
+pub returns-in-Err : goal.returns-in-Err
+returns-in-Err c = search fresh_rejected
 
 pub returns-else-state-ne-STATE_LENGTH : goal.returns-else-state-ne-STATE_LENGTH
 returns-else-state-ne-STATE_LENGTH c = search fresh_done

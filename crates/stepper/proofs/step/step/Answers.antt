@@ -12,8 +12,8 @@ slice_bounds-step_frames-end c = search check_length
 pub step_frames-requires : goal.step_frames-requires
 step_frames-requires c = search text_file
 
-pub returns-in-Rejected : goal.returns-in-Rejected
-returns-in-Rejected c = search step_rejected
+pub returns-in-Err : goal.returns-in-Err
+returns-in-Err c = search step_rejected
 
-pub returns-in-Lines : goal.returns-in-Lines
-returns-in-Lines c = search step_done
+pub returns-in-Ok : goal.returns-in-Ok
+returns-in-Ok c = search step_done

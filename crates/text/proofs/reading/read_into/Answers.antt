@@ -37,8 +37,8 @@ loop-at-preserved c = (search reader_more, search rules)
 pub overflow_cast-result : goal.overflow_cast-result
 overflow_cast-result c = search (reader_index, reader_length, rules)
 
-pub returns-in-Malformed : goal.returns-in-Malformed
-returns-in-Malformed c = search words_laws
+pub returns-in_default : goal.returns-in_default
+returns-in_default c = search words_laws
 
 pub overflow_cast-result-2 : goal.overflow_cast-result-2
 overflow_cast-result-2 c = search (reader_index, reader_length, rules)

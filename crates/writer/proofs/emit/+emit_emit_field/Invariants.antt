@@ -1,5 +1,5 @@
 use Prim.Native.Nat.{◌+◌, ◌*◌}
-use Prim.Native.Nat.{◌+◌, ◌*◌, ◌-◌}
+use Prim.Native.Nat.{◌+◌, ◌*◌}
 use Rattle.writer.proofs.emit.+emit_emit_field.Given as goal
 
 abbrev pub decreases-emit : goal.decreases-emit

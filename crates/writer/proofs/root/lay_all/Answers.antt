@@ -1,5 +1,4 @@
 -- `lay_all` meets its contract.
-use Prim.Native.Nat.{◌-◌}
 use Rattle.writer.proofs.Roots.{laid_start, laid_room, laid_more, laid_end}
 use borrow.Author.Rules.{rules}
 use Rattle.writer.proofs.root.lay_all.Goals as goal

@@ -1,5 +1,4 @@
 -- `lay_rank` meets its contract.
-use Prim.Native.Nat.{◌-◌}
 use Rattle.writer.proofs.Roots.{laying_start, laying_room, laying_more, laying_end}
 use Rattle.writer.proofs.Roots.{laying_next}
 use borrow.Author.Rules.{rules}
