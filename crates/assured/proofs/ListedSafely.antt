@@ -34,11 +34,12 @@ use Rattle.machine.specs.Steps.{step}
 use Rattle.machine.specs.Fresh.{fresh}
 use Rattle.machine.specs.Runs.{steps_from, steps}
 use Rattle.machine.proofs.Numbers.{all_numbered}
-use Rattle.stepper.specs.declared.answer.Answer.TheVariants as A
+use Rattle.stepper.specs.Answers.{done}
 use Rattle.safety.proofs.Accepted.{accepted_safe}
 use Rattle.text.specs.Digits.{digit_byte}
 use Rattle.listing.specs.Listing.{two_digits, refusal_line, check_line, choices}
-use Rattle.listing.specs.Listing.{choices_from, stops, choice_line, choice_lines, used_of, last_line}
+use Rattle.listing.specs.Listing.{choices_from, stops, choice_line, choice_lines, used_of}
+use Rattle.listing.specs.Listing.{last_line}
 use Rattle.listing.specs.Listing.{run_lines, lines_of, choices_listing}
 use Rattle.runs.specs.Listings.{FinalState, final_state}
 use Rattle.runs.specs.Listings.{not_run, run_of, choices_run, ListingResult, listing_of}
@@ -97,7 +98,7 @@ module _ (bs : List ℕ) (read : Reads bs (frames (text_frames bs))) (fine : NoF
       ∙ rules_run fs (some_frame read refl) fine
 
   module _ (bytes w out : List ℕ) (e : length w ≡ 4834) (f : length out ≡ 311309) where
-    whole : list_text bs bytes w out ≡ whole_listing (A.Done 0 0) (verdict bs) fs bytes w out
+    whole : list_text bs bytes w out ≡ whole_listing (done 0 0) (verdict bs) fs bytes w out
     unfolding list_text
     whole =
         ap (by_layout bs bytes w out) (sym (layout_only {v = LaidOut} (HasLayout.layout {v = LaidOut} read fine)))
@@ -106,11 +107,11 @@ module _ (bs : List ℕ) (read : Reads bs (frames (text_frames bs))) (fine : NoF
 
     module _ (cs : List ℕ) (few : length bytes ≤ 49152) (is : choices_from 0 bytes ≡ choices cs) where
       pub listed_is : list_text bs bytes w out
-          ≡ listing_of (A.Done 0 0) (final_state (program_of fs) cs)
+          ≡ listing_of (done 0 0) (final_state (program_of fs) cs)
           (check_line (verdict bs) ++ run_lines (program_of fs) cs) out
       listed_is =
           whole
-          ∙ ap₂ (λ (x : FinalState) (l : List ℕ). listing_of (A.Done 0 0) x l out)
+          ∙ ap₂ (λ (x : FinalState) (l : List ℕ). listing_of (done 0 0) x l out)
           ((goes_on (verdict bs) fs w bytes runs).0 ∙ after_is (program_of fs) bytes cs few is w)
           ((goes_on (verdict bs) fs w bytes runs).1
           ∙ ap (λ (l : List ℕ). check_line (verdict bs) ++ l) (lines_are (program_of fs) bytes cs few is))
@@ -156,7 +157,7 @@ accepted_listing_safe bs (HasVerdict.accepted (Reads.whole a b c) h k) bytes cs 
       plain = plain_lines p (fresh p) used (plain_steps (steps p used) (all_numbered p (fresh p) used) (accepted_safe bs y used).answered);
       listed =
           listed_is bs (Reads.whole a b c) h bytes w out e f cs few is
-          ∙ ap₂ (λ (v : Verdict) (l : List ℕ). listing_of (A.Done 0 0) (final_state p cs) (check_line v ++ l) out)
+          ∙ ap₂ (λ (v : Verdict) (l : List ℕ). listing_of (done 0 0) (final_state p cs) (check_line v ++ l) out)
           (sym ((verdict_computes bs).only Accepted y)) (run_split p cs);
     }
 

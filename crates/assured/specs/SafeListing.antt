@@ -9,8 +9,9 @@ use Rattle.program.specs.Programs.{program_of}
 use Rattle.checker.specs.Verdict.{HasVerdict}
 use Rattle.machine.specs.Offsets.{state_length}
 use Rattle.reach.specs.Reached.{Passes}
-use Rattle.stepper.specs.declared.answer.Answer.TheVariants.{Done}
-use Rattle.listing.specs.Listing.{check_line, choices, choices_from, choice_line_of, used_of, last_line}
+use Rattle.stepper.specs.Answers.{done}
+use Rattle.listing.specs.Listing.{check_line, choices, choices_from, choice_line_of, used_of}
+use Rattle.listing.specs.Listing.{last_line}
 use Rattle.runs.specs.{Listings.final_state, Listings.listing_of, Listings.list_text}
 use Rattle.assured.specs.TextCalls.{Plain, words_left, SafeTexts}
 
@@ -44,7 +45,7 @@ pub record SafelyListed (bs bytes cs w out : List ℕ) : Type 0 where
   pub lines : List ℕ
   pub plain : PlainLines (take (used_of (program_of (text_frames bs)) cs) cs) lines
   pub listed : list_text bs bytes w out
-      ≡ listing_of (Done 0 0) (final_state (program_of (text_frames bs)) cs)
+      ≡ listing_of (done 0 0) (final_state (program_of (text_frames bs)) cs)
       (check_line Accepted ++ lines ++ last_line (used_of (program_of (text_frames bs)) cs)) out
 
 -- 'The choices that `run` uses on an accepted file are such a list too': for all bytes of

@@ -3,9 +3,10 @@ use Rattle.std.specs.Prelude.{◌+◌, ◌*◌, ◌^◌, ◌≡◌}
 use Rattle.basics.specs.Prelude.{List, ℕ}
 use Rattle.language.specs.{Verdicts.number_of, Verdicts.frame_of, Verdicts.Verdict}
 use Rattle.checker.specs.Verdict.{Checked}
-use Rattle.stepper.specs.declared.answer.Answer.{Answer}
-use Rattle.stepper.specs.declared.answer.Answer.TheVariants.{Rejected, Refused, Done}
-use Rattle.stepper.specs.Answers.{answer_accesses, TextResult, BatchResult}
+use Rattle.std.specs.Prelude.{Ok, Err}
+use Rattle.language.specs.Refusals.{rule_number}
+use Rattle.stepper.specs.declared.answer.CallRefusal.TheVariants.{Text, Call}
+use Rattle.stepper.specs.Answers.{Answer, answer_accesses, TextResult, BatchResult}
 use Rattle.runs.specs.Listings.{ListingResult}
 use Rattle.drawing.specs.{Writings.Writing, Answers.Answered}
 
@@ -22,8 +23,9 @@ pub record CheckedCode (bs : List ℕ) (r : ℕ) : Type 0 where
 
 -- the code of a call's answer, with the acting thread where no frame is named
 abbrev pub answer_code : Answer → ℕ
-answer_code a =
-    elim a [ Rejected n j ↦ n * 2 ^ 16 + j | Refused n t ↦ n * 2 ^ 16 + t | Done t k ↦ t ]
+answer_code (Ok d) = d.thread
+answer_code (Err (Text r)) = rule_number r.rule * 2 ^ 16 + r.frame
+answer_code (Err (Call r t)) = rule_number r * 2 ^ 16 + t
 
 -- of a step, with how many accesses it made above 32 bits
 abbrev pub step_answer_code : Answer → ℕ

@@ -1,8 +1,8 @@
-// The interface for C and Rust: functions on numbers and on pointers with lengths. None has a
-// `requires`.
+//! The interface for C and Rust: functions on numbers and on pointers with lengths. None has a
+//! `requires`.
 #![tactic(auto)]
 
-ghost use Rattle.std.specs.Prelude.{◌≡◌};
+ghost use Rattle.std.specs.Prelude.{◌≡◌, Err};
 ghost use Rattle.language.specs.Limits.{most_listing_bytes};
 ghost use Rattle.checker.specs.Verdict.{verdict};
 ghost use Rattle.drawing.specs.Answers.{writing};
@@ -19,23 +19,25 @@ use checker::check::check;
 use language::limit::MOST_LISTING_BYTES;
 use language::refusal::Verdict;
 use runs::printing::run_listing;
-use stepper::answer::Answer;
+use stepper::answer::{Answer, CallRefusal};
 use stepper::batch::steps;
 use stepper::step::{fresh, state_length, step};
 use writer::arrange;
 
+// The codes are functions and no `From`: verdicts, answers and numbers are types of other crates.
+
 // A verdict as one number.
-fn code_of(v: Verdict) -> u32
-    ensures { result ≡ code_of v }
+fn code_of(verdict: Verdict) -> u32
+    ensures { result ≡ code_of verdict }
 {
-    match v {
+    match verdict {
         Ok(()) => 0,
-        Err(refusal) => refusal.number as u32 * 0x0001_0000 + refusal.frame as u32,
+        Err(refusal) => u32::from(refusal.rule.number()) * 0x0001_0000 + u32::from(refusal.frame),
     }
 }
 
-// What the check answers on `length` bytes: the number of the refusal above 16 bits, the frame in
-// them; 0 where it accepts. It is the code of the one verdict that the rules give.
+/// What the check answers on `length` bytes: the number of the refusal above 16 bits, the frame in
+/// them; 0 where it accepts. It is the code of the one verdict that the rules give.
 #[unsafe(no_mangle)]
 pub extern "C" fn purkvaldi_check(text: &[u8]) -> u32
     ensures computed { result ≡ code_of (verdict text.now) }
@@ -44,9 +46,9 @@ pub extern "C" fn purkvaldi_check(text: &[u8]) -> u32
     code_of(check(text))
 }
 
-// A text's lines laid out into `out`: 0 where they are written, else the number of the refusal
-// above 16 bits, the frame in them. A refusal writes nothing. It is the code of the one answer that
-// the rules give.
+/// A text's lines laid out into `out`: 0 where they are written, else the number of the refusal
+/// above 16 bits, the frame in them. A refusal writes nothing. It is the code of the one answer
+/// that the rules give.
 #[unsafe(no_mangle)]
 pub extern "C" fn purkvaldi_arrange(text: &[u8], out: &mut [u8]) -> u32
     ensures computed { coded result out.new
@@ -57,35 +59,45 @@ pub extern "C" fn purkvaldi_arrange(text: &[u8], out: &mut [u8]) -> u32
     code_of(arrange(text, out))
 }
 
-// An answer as one number, without its accesses.
-fn answer_code(a: Answer) -> u32
-    ensures { result ≡ answer_code a }
+// What refuses a call as one number.
+fn refusal_code(refusal: CallRefusal) -> u32
+    ensures { result ≡ answer_code (Err refusal) }
 {
-    match a {
-        Answer::Rejected(n, j) => n as u32 * 0x0001_0000 + j as u32,
-        Answer::Refused(n, t) => n as u32 * 0x0001_0000 + t as u32,
-        Answer::Done(t, k) => t as u32,
+    match refusal {
+        CallRefusal::Text(refusal) => code_of(Err(refusal)),
+        CallRefusal::Call { rule, thread } => {
+            u32::from(rule.number()) * 0x0001_0000 + u32::from(thread)
+        }
     }
 }
 
-fn accesses_of(a: Answer) -> u16
-    ensures { result ≡ answer_accesses a }
+// An answer as one number, without its accesses.
+fn answer_code(answer: Answer) -> u32
+    ensures { result ≡ answer_code answer }
 {
-    match a {
-        Answer::Rejected(n, j) => 0,
-        Answer::Refused(n, t) => 0,
-        Answer::Done(t, k) => k,
+    match answer {
+        Ok(done) => u32::from(done.thread),
+        Err(refusal) => refusal_code(refusal),
+    }
+}
+
+fn accesses_of(answer: Answer) -> u16
+    ensures { result ≡ answer_accesses answer }
+{
+    match answer {
+        Ok(done) => done.accesses,
+        Err(_) => 0,
     }
 }
 
 // A step's, with how many accesses it made above 32 bits.
-fn step_code(a: Answer) -> u64
-    ensures { result ≡ step_answer_code a }
+fn step_code(answer: Answer) -> u64
+    ensures { result ≡ step_answer_code answer }
 {
-    accesses_of(a) as u64 * 0x0000_0001_0000_0000 + answer_code(a) as u64
+    u64::from(accesses_of(answer)) * 0x0000_0001_0000_0000 + u64::from(answer_code(answer))
 }
 
-// How many words of 64 bits a state is.
+/// How many words of 64 bits a state is.
 #[unsafe(no_mangle)]
 pub extern "C" fn purkvaldi_state_length() -> usize
     ensures { result ≡ state_length }
@@ -93,8 +105,8 @@ pub extern "C" fn purkvaldi_state_length() -> usize
     state_length()
 }
 
-// The fresh state of a text: 0, or the number of the refusal above 16 bits, the frame of a refusal
-// 1 to 7 in them. A refusal writes nothing.
+/// The fresh state of a text: 0, or the number of the refusal above 16 bits, the frame of a refusal
+/// 1 to 7 in them. A refusal writes nothing.
 #[unsafe(no_mangle)]
 pub extern "C" fn purkvaldi_fresh(text: &[u8], state: &mut [u64]) -> u32
     ensures { coded result state.new
@@ -103,10 +115,10 @@ pub extern "C" fn purkvaldi_fresh(text: &[u8], state: &mut [u64]) -> u32
     answer_code(fresh(text, state))
 }
 
-// One choice: the acting thread where it is done, 0 where none acts, and above 32 bits how many
-// cells it read, stored in and made; else the number of the refusal above 16 bits, and in them the
-// frame of a refusal 1 to 7 or the acting thread of one above. A refusal leaves every word as it
-// was.
+/// One choice: the acting thread where it is done, 0 where none acts, and above 32 bits how many
+/// cells it read, stored in and made; else the number of the refusal above 16 bits, and in them the
+/// frame of a refusal 1 to 7 or the acting thread of one above. A refusal leaves every word as it
+/// was.
 #[unsafe(no_mangle)]
 pub extern "C" fn purkvaldi_step(text: &[u8], state: &mut [u64], choice: u64) -> u64
     ensures { coded result state.new
@@ -115,9 +127,9 @@ pub extern "C" fn purkvaldi_step(text: &[u8], state: &mut [u64], choice: u64) ->
     step_code(step(text, state, choice))
 }
 
-// Many choices, a byte each: 0 where all are stepped, and the code of each, as `purkvaldi_step`
-// gives it, is in its place in `answers`; else the code of the text's refusal 1 to 7, or of 14, and
-// nothing is written.
+/// Many choices, a byte each: 0 where all are stepped, and the code of each, as `purkvaldi_step`
+/// gives it, is in its place in `answers`; else the code of the text's refusal 1 to 7, or of 14,
+/// and nothing is written.
 #[unsafe(no_mangle)]
 pub extern "C" fn purkvaldi_steps(
     text: &[u8],
@@ -132,7 +144,7 @@ pub extern "C" fn purkvaldi_steps(
     answer_code(steps(text, state, choices, answers))
 }
 
-// How many bytes a listing's buffer has: the longest listing.
+/// How many bytes a listing's buffer has: the longest listing.
 #[unsafe(no_mangle)]
 pub extern "C" fn purkvaldi_listing_length() -> usize
     ensures { result ≡ most_listing_bytes }
@@ -141,17 +153,17 @@ pub extern "C" fn purkvaldi_listing_length() -> usize
 }
 
 // A listing's answer above 32 bits, its length in them.
-fn listing_code(a: Answer, length: u32) -> u64
-    ensures { result ≡ listing_code a length }
+fn listing_code(answer: Answer, length: u32) -> u64
+    ensures { result ≡ listing_code answer length }
 {
-    answer_code(a) as u64 * 0x0000_0001_0000_0000 + length as u64
+    u64::from(answer_code(answer)) * 0x0000_0001_0000_0000 + u64::from(length)
 }
 
-// The listing of a run, in the first bytes of `out`: in the low 32 bits how many they are, 0 where
-// nothing is written; above them the code of the text's refusal 1 to 7, whatever the lengths, else
-// of 14 where a buffer has another length than the listing needs, else 0. The line of a refusal 1
-// to 7 is in `out` where `out` has its length. `choices` are the bytes of choices.txt; where
-// the listing's last line counts those used, `state` is the state after them, be there none.
+/// The listing of a run, in the first bytes of `out`: in the low 32 bits how many they are, 0 where
+/// nothing is written; above them the code of the text's refusal 1 to 7, whatever the lengths, else
+/// of 14 where a buffer has another length than the listing needs, else 0. The line of a refusal 1
+/// to 7 is in `out` where `out` has its length. `choices` are the bytes of choices.txt; where
+/// the listing's last line counts those used, `state` is the state after them, be there none.
 #[unsafe(no_mangle)]
 pub extern "C" fn purkvaldi_run(
     text: &[u8],
@@ -163,7 +175,6 @@ pub extern "C" fn purkvaldi_run(
         ≡ coded_listing_of
         (list_text text.now choices.now state.old out.old) }
 {
-    let l = run_listing(text, choices, state, out);
-    let a = l.answer;
-    listing_code(a, l.length)
+    let listing = run_listing(text, choices, state, out);
+    listing_code(listing.answer, listing.length)
 }

@@ -2,7 +2,7 @@
 -- the file, and there is room for its variables. Assumes nothing.
 use mathlib.Core.Path.{◌≡◌, refl, sym, subst}
 use mathlib.Core.List.{List, [], ◌++◌}
-use Prim.Native.Nat.{ℕ, zero, suc, ◌+◌, ◌*◌, ◌^◌, ◌≤◌, ◌<◌}
+use Prim.Native.Nat.{ℕ, zero, suc, ◌+◌, ◌≤◌, ◌<◌}
 use native.Mathlib.Numerals.{add-one}
 use native.Mathlib.Omega.{arith}
 use lib.ListN.{length, length-map}
@@ -24,7 +24,7 @@ use Rattle.program.proofs.NodeLaws.{children_as}
 use Rattle.program.proofs.NodeTrees.{Below, operands_below}
 use Rattle.layout.proofs.Scopes.{child_below, room_more, room_child, room_most}
 use Rattle.program.specs.Inner.Nodes.{statement_node_of, statement_node_in, statement_node}
-use Rattle.checker.specs.Inner.Frames.{FrameIn}
+use Rattle.checker.specs.Inner.Frames.{FileIn}
 use Rattle.program.specs.declared.node.CellUse.{CellUse}
 use Rattle.program.specs.declared.node.Operator.{Operator}
 use Rattle.program.specs.declared.node.ExpressionNode.{ExpressionNode}
@@ -37,31 +37,26 @@ use Rattle.checker.proofs.NodeLaws.{statement_here}
 -- ---- a child of frame i
 
 -- what stands before a frame of the file is one too
-pub lower_in : (ws : List ℕ) (i a : ℕ) → FrameIn ws i → a < i → FrameIn ws a
-lower_in ws i a g h =
-    record { laid_out = g.laid_out; there = let t = g.there in omega arith; few = g.few }
+pub lower_in : (ws : List ℕ) (i a : ℕ) → i < length ws → a < i → a < length ws
+lower_in ws i a l h = omega arith
 
 -- t is the measure of the call: the number of its own frame
 lower_falls : {i a : ℕ} → a < i → (t : ℕ) → i ≡ t → a < t
 lower_falls {i} {a} h t e = subst (λ (m : ℕ). a < m) e h
 
-module _ {ws : List ℕ} {i : ℕ} (g : FrameIn ws i) {k : Class} {a : ℕ} (c : In (child k a) (children (frame_at (frames_of ws) i))) where
+module _ {ws : List ℕ} {i : ℕ} (g : FileIn ws) (l : i < length ws) {k : Class} {a : ℕ}
+    (c : In (child k a) (children (frame_at (frames_of ws) i))) where
   child_lower : a < i
-  child_lower = child_below (frames_of ws) g.laid_out {c = child k a} (rw length-map g.there) c
+  child_lower = child_below (frames_of ws) g.laid_out {c = child k a} (rw length-map l) c
 
-  child_in_lem : FrameIn ws a
-  child_in_lem = lower_in ws i a g child_lower
+  child_in_lem : a < length ws
+  child_in_lem = lower_in ws i a l child_lower
 
   child_falls : (t : ℕ) → i ≡ t → a < t
   child_falls = lower_falls child_lower
 
-pub room_fits : (ws : List ℕ) (i n : ℕ) → FrameIn ws i → Room (frames_of ws) i n → n ≤ 25
+pub room_fits : (ws : List ℕ) (i n : ℕ) → FileIn ws → Room (frames_of ws) i n → n ≤ 25
 room_fits ws i n g r = room_most (frames_of ws) g.laid_out r
-
--- words enough for the variables hold those in use
-pub room_holds : (scope ws : List ℕ) (i n : ℕ) → FrameIn ws i → Room (frames_of ws) i n
-    → length scope ≡ 25 → n ≤ length scope
-room_holds scope ws i n g r h = let s = room_fits ws i n g r in omega arith
 
 -- ---- the numbers in a statement's node are its frame's children
 
@@ -71,11 +66,14 @@ KidsS cs Y.Nothing = Unit {0}
 KidsS cs Y.Cooperate = Unit {0}
 KidsS cs (Y.Seq a b) = In (child Class.Statement a) cs × In (child Class.Statement b) cs
 KidsS cs (Y.DoAt s a) = In (child Class.Statement a) cs
-KidsS cs (Y.Start s a b) = ((a ≡ 0 → ⊥) → In (child Class.Expression a) cs) × ((a ≡ 0 → ⊥) → (b ≡ 0 → ⊥) → In (child Class.Expression b) cs)
-KidsS cs (Y.StartWait s a b) = ((a ≡ 0 → ⊥) → In (child Class.Expression a) cs) × ((a ≡ 0 → ⊥) → (b ≡ 0 → ⊥) → In (child Class.Expression b) cs)
+KidsS cs (Y.Start s a b) = ((a ≡ 0 → ⊥) → In (child Class.Expression a) cs) ×
+    ((a ≡ 0 → ⊥) → (b ≡ 0 → ⊥) → In (child Class.Expression b) cs)
+KidsS cs (Y.StartWait s a b) = ((a ≡ 0 → ⊥) → In (child Class.Expression a) cs) ×
+    ((a ≡ 0 → ⊥) → (b ≡ 0 → ⊥) → In (child Class.Expression b) cs)
 KidsS cs (Y.LetIn a b) = In (child Class.Expression a) cs × In (child Class.Statement b) cs
 KidsS cs (Y.Store a b) = In (child Class.Expression a) cs × In (child Class.Expression b) cs
-KidsS cs (Y.IfElse a b c) = In (child Class.Expression a) cs × In (child Class.Statement b) cs × In (child Class.Statement c) cs
+KidsS cs (Y.IfElse a b c) = In (child Class.Expression a) cs × In (child Class.Statement b) cs × In
+    (child Class.Statement c) cs
 KidsS cs (Y.While a b) = In (child Class.Expression a) cs × In (child Class.Statement b) cs
 KidsS cs (Y.Generate s) = Unit {0}
 KidsS cs (Y.Await s) = Unit {0}
@@ -124,47 +122,47 @@ module _ (ws : List ℕ) (i : ℕ) (f : Frame) (n : ExpressionNode) where
   WhereE v C = AtExpression ws i f n v C
 
   lower : {v : ExpressionNode} → WhereE v (Below i v)
-  lower {v} h k e g =
-      operands_below (frames_of ws) i v (ordered ws i g) (rw length-map g.there)
-      (sym (expression_here ws i f n v h k e g))
+  lower {v} h k e g l =
+      operands_below (frames_of ws) i v (ordered ws g) (rw length-map l)
+      (sym (expression_here ws i f n v h k e g l))
 
   pub value_falls : (t : ℕ) (u : CellUse) (a : ℕ) → WhereE (OfValue u a) (i ≡ t → a < t)
-  value_falls t u a h k e g = lower_falls (lower h k e g) t
+  value_falls t u a h k e g l = lower_falls (lower h k e g l) t
 
-  pub value_in : (u : CellUse) (a : ℕ) → WhereE (OfValue u a) (FrameIn ws a)
-  value_in u a h k e g = lower_in ws i a g (lower h k e g)
+  pub value_in : (u : CellUse) (a : ℕ) → WhereE (OfValue u a) (a < length ws)
+  value_in u a h k e g l = lower_in ws i a l (lower h k e g l)
 
   module _ (op : Operator) (a b : ℕ) where
     pub numbers_a_falls : (t : ℕ) → WhereE (OfNumbers op a b) (i ≡ t → a < t)
-    numbers_a_falls t h k e g = lower_falls (lower h k e g).0 t
+    numbers_a_falls t h k e g l = lower_falls (lower h k e g l).0 t
 
-    pub numbers_a_in : WhereE (OfNumbers op a b) (FrameIn ws a)
-    numbers_a_in h k e g = lower_in ws i a g (lower h k e g).0
+    pub numbers_a_in : WhereE (OfNumbers op a b) (a < length ws)
+    numbers_a_in h k e g l = lower_in ws i a l (lower h k e g l).0
 
     pub numbers_b_falls : (t : ℕ) → WhereE (OfNumbers op a b) (i ≡ t → b < t)
-    numbers_b_falls t h k e g = lower_falls (lower h k e g).1 t
+    numbers_b_falls t h k e g l = lower_falls (lower h k e g l).1 t
 
-    pub numbers_b_in : WhereE (OfNumbers op a b) (FrameIn ws b)
-    numbers_b_in h k e g = lower_in ws i b g (lower h k e g).1
+    pub numbers_b_in : WhereE (OfNumbers op a b) (b < length ws)
+    numbers_b_in h k e g l = lower_in ws i b l (lower h k e g l).1
 
   module _ (a b c : ℕ) where
     pub choose_a_falls : (t : ℕ) → WhereE (Choose a b c) (i ≡ t → a < t)
-    choose_a_falls t h k e g = lower_falls (lower h k e g).0 t
+    choose_a_falls t h k e g l = lower_falls (lower h k e g l).0 t
 
-    pub choose_a_in : WhereE (Choose a b c) (FrameIn ws a)
-    choose_a_in h k e g = lower_in ws i a g (lower h k e g).0
+    pub choose_a_in : WhereE (Choose a b c) (a < length ws)
+    choose_a_in h k e g l = lower_in ws i a l (lower h k e g l).0
 
     pub choose_b_falls : (t : ℕ) → WhereE (Choose a b c) (i ≡ t → b < t)
-    choose_b_falls t h k e g = lower_falls (lower h k e g).1 t
+    choose_b_falls t h k e g l = lower_falls (lower h k e g l).1 t
 
-    pub choose_b_in : WhereE (Choose a b c) (FrameIn ws b)
-    choose_b_in h k e g = lower_in ws i b g (lower h k e g).1
+    pub choose_b_in : WhereE (Choose a b c) (b < length ws)
+    choose_b_in h k e g l = lower_in ws i b l (lower h k e g l).1
 
     pub choose_c_falls : (t : ℕ) → WhereE (Choose a b c) (i ≡ t → c < t)
-    choose_c_falls t h k e g = lower_falls (lower h k e g).2 t
+    choose_c_falls t h k e g l = lower_falls (lower h k e g l).2 t
 
-    pub choose_c_in : WhereE (Choose a b c) (FrameIn ws c)
-    choose_c_in h k e g = lower_in ws i c g (lower h k e g).2
+    pub choose_c_in : WhereE (Choose a b c) (c < length ws)
+    choose_c_in h k e g l = lower_in ws i c l (lower h k e g l).2
 
 -- ---- statements
 module _ (ws : List ℕ) (i : ℕ) (f : Frame) (n : StatementNode) where
@@ -172,111 +170,107 @@ module _ (ws : List ℕ) (i : ℕ) (f : Frame) (n : StatementNode) where
   WhereS v C = AtStatement ws i f n v C
 
   its_kids_s : {v : StatementNode} → WhereS v (KidsS (children (frame_at (frames_of ws) i)) v)
-  its_kids_s {v} h k e g = subst (KidsS (children (frame_at (frames_of ws) i))) (statement_here ws i f n v h k e g) (kids_s (frame_at (frames_of ws) i))
+  its_kids_s {v} h k e g l = subst (KidsS (children (frame_at (frames_of ws) i)))
+      (statement_here ws i f n v h k e g l) (kids_s (frame_at (frames_of ws) i))
 
   pub seq_a_falls : (t a b : ℕ) → WhereS (Y.Seq a b) (i ≡ t → a < t)
-  seq_a_falls t a b h k e g = child_falls g (its_kids_s h k e g).0 t
+  seq_a_falls t a b h k e g l = child_falls g l (its_kids_s h k e g l).0 t
 
-  pub seq_a_in : (a b : ℕ) → WhereS (Y.Seq a b) (FrameIn ws a)
-  seq_a_in a b h k e g = child_in_lem g (its_kids_s h k e g).0
+  pub seq_a_in : (a b : ℕ) → WhereS (Y.Seq a b) (a < length ws)
+  seq_a_in a b h k e g l = child_in_lem g l (its_kids_s h k e g l).0
 
   pub seq_a_room : (m a b : ℕ)
       → WhereS (Y.Seq a b) (Room (frames_of ws) i m → Room (frames_of ws) a m)
-  seq_a_room m a b h k e g r = room_child r (its_kids_s h k e g).0
+  seq_a_room m a b h k e g l r = room_child r (its_kids_s h k e g l).0
 
   pub seq_b_falls : (t a b : ℕ) → WhereS (Y.Seq a b) (i ≡ t → b < t)
-  seq_b_falls t a b h k e g = child_falls g (its_kids_s h k e g).1 t
+  seq_b_falls t a b h k e g l = child_falls g l (its_kids_s h k e g l).1 t
 
-  pub seq_b_in : (a b : ℕ) → WhereS (Y.Seq a b) (FrameIn ws b)
-  seq_b_in a b h k e g = child_in_lem g (its_kids_s h k e g).1
+  pub seq_b_in : (a b : ℕ) → WhereS (Y.Seq a b) (b < length ws)
+  seq_b_in a b h k e g l = child_in_lem g l (its_kids_s h k e g l).1
 
   pub seq_b_room : (m a b : ℕ)
       → WhereS (Y.Seq a b) (Room (frames_of ws) i m → Room (frames_of ws) b m)
-  seq_b_room m a b h k e g r = room_child r (its_kids_s h k e g).1
+  seq_b_room m a b h k e g l r = room_child r (its_kids_s h k e g l).1
 
   pub do_a_falls : (t : ℕ) (s : Place) (a : ℕ) → WhereS (Y.DoAt s a) (i ≡ t → a < t)
-  do_a_falls t s a h k e g = child_falls g (its_kids_s h k e g) t
+  do_a_falls t s a h k e g l = child_falls g l (its_kids_s h k e g l) t
 
-  pub do_a_in : (s : Place) (a : ℕ) → WhereS (Y.DoAt s a) (FrameIn ws a)
-  do_a_in s a h k e g = child_in_lem g (its_kids_s h k e g)
+  pub do_a_in : (s : Place) (a : ℕ) → WhereS (Y.DoAt s a) (a < length ws)
+  do_a_in s a h k e g l = child_in_lem g l (its_kids_s h k e g l)
 
   pub do_a_room : (m : ℕ) (s : Place) (a : ℕ)
       → WhereS (Y.DoAt s a) (Room (frames_of ws) i m → Room (frames_of ws) a m)
-  do_a_room m s a h k e g r = room_child r (its_kids_s h k e g)
+  do_a_room m s a h k e g l r = room_child r (its_kids_s h k e g l)
 
-  pub let_a_in : (a b : ℕ) → WhereS (Y.LetIn a b) (FrameIn ws a)
-  let_a_in a b h k e g = child_in_lem g (its_kids_s h k e g).0
+  pub let_a_in : (a b : ℕ) → WhereS (Y.LetIn a b) (a < length ws)
+  let_a_in a b h k e g l = child_in_lem g l (its_kids_s h k e g l).0
 
   pub let_b_falls : (t a b : ℕ) → WhereS (Y.LetIn a b) (i ≡ t → b < t)
-  let_b_falls t a b h k e g = child_falls g (its_kids_s h k e g).1 t
+  let_b_falls t a b h k e g l = child_falls g l (its_kids_s h k e g l).1 t
 
-  pub let_b_in : (a b : ℕ) → WhereS (Y.LetIn a b) (FrameIn ws b)
-  let_b_in a b h k e g = child_in_lem g (its_kids_s h k e g).1
+  pub let_b_in : (a b : ℕ) → WhereS (Y.LetIn a b) (b < length ws)
+  let_b_in a b h k e g l = child_in_lem g l (its_kids_s h k e g l).1
 
   pub let_b_room : (m a b : ℕ)
       → WhereS (Y.LetIn a b) (Room (frames_of ws) i m → Room (frames_of ws) b (m + 1))
-  let_b_room m a b h k e g r = rw add-one (room_more r (its_kids_s h k e g).1)
+  let_b_room m a b h k e g l r = rw add-one (room_more r (its_kids_s h k e g l).1)
 
   -- the variable of a let finds room
   pub let_fits : (m a b : ℕ) → WhereS (Y.LetIn a b) (Room (frames_of ws) i m → m < 25)
-  let_fits m a b h k e g r = let s = room_fits ws b (suc m) (let_b_in a b h k e g) (room_more r (its_kids_s h k e g).1) in omega arith
+  let_fits m a b h k e g l r = let s = room_fits ws b (suc m) g
+      (room_more r (its_kids_s h k e g l).1) in omega arith
 
-  pub let_scales : (m a b : ℕ) → WhereS (Y.LetIn a b) (Room (frames_of ws) i m → m * 2 < 2 ^ 64)
-  let_scales m a b h k e g r = let s = let_fits m a b h k e g r in omega arith
+  pub store_a_in : (a b : ℕ) → WhereS (Y.Store a b) (a < length ws)
+  store_a_in a b h k e g l = child_in_lem g l (its_kids_s h k e g l).0
 
-  pub let_adds : (m a b : ℕ) → WhereS (Y.LetIn a b) (Room (frames_of ws) i m → m + 1 < 2 ^ 64)
-  let_adds m a b h k e g r = let s = let_fits m a b h k e g r in omega arith
+  pub store_b_in : (a b : ℕ) → WhereS (Y.Store a b) (b < length ws)
+  store_b_in a b h k e g l = child_in_lem g l (its_kids_s h k e g l).1
 
-  pub store_a_in : (a b : ℕ) → WhereS (Y.Store a b) (FrameIn ws a)
-  store_a_in a b h k e g = child_in_lem g (its_kids_s h k e g).0
-
-  pub store_b_in : (a b : ℕ) → WhereS (Y.Store a b) (FrameIn ws b)
-  store_b_in a b h k e g = child_in_lem g (its_kids_s h k e g).1
-
-  pub if_a_in : (a b c : ℕ) → WhereS (Y.IfElse a b c) (FrameIn ws a)
-  if_a_in a b c h k e g = child_in_lem g (its_kids_s h k e g).0
+  pub if_a_in : (a b c : ℕ) → WhereS (Y.IfElse a b c) (a < length ws)
+  if_a_in a b c h k e g l = child_in_lem g l (its_kids_s h k e g l).0
 
   pub if_b_falls : (t a b c : ℕ) → WhereS (Y.IfElse a b c) (i ≡ t → b < t)
-  if_b_falls t a b c h k e g = child_falls g (its_kids_s h k e g).1 t
+  if_b_falls t a b c h k e g l = child_falls g l (its_kids_s h k e g l).1 t
 
-  pub if_b_in : (a b c : ℕ) → WhereS (Y.IfElse a b c) (FrameIn ws b)
-  if_b_in a b c h k e g = child_in_lem g (its_kids_s h k e g).1
+  pub if_b_in : (a b c : ℕ) → WhereS (Y.IfElse a b c) (b < length ws)
+  if_b_in a b c h k e g l = child_in_lem g l (its_kids_s h k e g l).1
 
   pub if_b_room : (m a b c : ℕ)
       → WhereS (Y.IfElse a b c) (Room (frames_of ws) i m → Room (frames_of ws) b m)
-  if_b_room m a b c h k e g r = room_child r (its_kids_s h k e g).1
+  if_b_room m a b c h k e g l r = room_child r (its_kids_s h k e g l).1
 
   pub if_c_falls : (t a b c : ℕ) → WhereS (Y.IfElse a b c) (i ≡ t → c < t)
-  if_c_falls t a b c h k e g = child_falls g (its_kids_s h k e g).2 t
+  if_c_falls t a b c h k e g l = child_falls g l (its_kids_s h k e g l).2 t
 
-  pub if_c_in : (a b c : ℕ) → WhereS (Y.IfElse a b c) (FrameIn ws c)
-  if_c_in a b c h k e g = child_in_lem g (its_kids_s h k e g).2
+  pub if_c_in : (a b c : ℕ) → WhereS (Y.IfElse a b c) (c < length ws)
+  if_c_in a b c h k e g l = child_in_lem g l (its_kids_s h k e g l).2
 
   pub if_c_room : (m a b c : ℕ)
       → WhereS (Y.IfElse a b c) (Room (frames_of ws) i m → Room (frames_of ws) c m)
-  if_c_room m a b c h k e g r = room_child r (its_kids_s h k e g).2
+  if_c_room m a b c h k e g l r = room_child r (its_kids_s h k e g l).2
 
-  pub while_a_in : (a b : ℕ) → WhereS (Y.While a b) (FrameIn ws a)
-  while_a_in a b h k e g = child_in_lem g (its_kids_s h k e g).0
+  pub while_a_in : (a b : ℕ) → WhereS (Y.While a b) (a < length ws)
+  while_a_in a b h k e g l = child_in_lem g l (its_kids_s h k e g l).0
 
   pub while_b_falls : (t a b : ℕ) → WhereS (Y.While a b) (i ≡ t → b < t)
-  while_b_falls t a b h k e g = child_falls g (its_kids_s h k e g).1 t
+  while_b_falls t a b h k e g l = child_falls g l (its_kids_s h k e g l).1 t
 
-  pub while_b_in : (a b : ℕ) → WhereS (Y.While a b) (FrameIn ws b)
-  while_b_in a b h k e g = child_in_lem g (its_kids_s h k e g).1
+  pub while_b_in : (a b : ℕ) → WhereS (Y.While a b) (b < length ws)
+  while_b_in a b h k e g l = child_in_lem g l (its_kids_s h k e g l).1
 
   pub while_b_room : (m a b : ℕ)
       → WhereS (Y.While a b) (Room (frames_of ws) i m → Room (frames_of ws) b m)
-  while_b_room m a b h k e g r = room_child r (its_kids_s h k e g).1
+  while_b_room m a b h k e g l r = room_child r (its_kids_s h k e g l).1
 
   pub start_first : (s a b : ℕ) → WhereS (Y.Start s a b) ((a ≡ 0 → ⊥) → a < i)
-  start_first s a b h k e g o = child_lower g ((its_kids_s h k e g).0 o)
+  start_first s a b h k e g l o = child_lower g l ((its_kids_s h k e g l).0 o)
 
   pub start_second : (s a b : ℕ) → WhereS (Y.Start s a b) ((a ≡ 0 → ⊥) → (b ≡ 0 → ⊥) → b < i)
-  start_second s a b h k e g o p = child_lower g ((its_kids_s h k e g).1 o p)
+  start_second s a b h k e g l o p = child_lower g l ((its_kids_s h k e g l).1 o p)
 
   pub wait_first : (s a b : ℕ) → WhereS (Y.StartWait s a b) ((a ≡ 0 → ⊥) → a < i)
-  wait_first s a b h k e g o = child_lower g ((its_kids_s h k e g).0 o)
+  wait_first s a b h k e g l o = child_lower g l ((its_kids_s h k e g l).0 o)
 
   pub wait_second : (s a b : ℕ) → WhereS (Y.StartWait s a b) ((a ≡ 0 → ⊥) → (b ≡ 0 → ⊥) → b < i)
-  wait_second s a b h k e g o p = child_lower g ((its_kids_s h k e g).1 o p)
+  wait_second s a b h k e g l o p = child_lower g l ((its_kids_s h k e g l).1 o p)

@@ -23,7 +23,7 @@ use Rattle.fields.proofs.FramePass.{fine_parts}
 use Rattle.layout.specs.Faults.{NoFault}
 use Rattle.layout.proofs.Scopes.{frame_right, placed}
 use Rattle.rules.specs.Inner.NodeRules.{OwnerPlaced}
-use Rattle.checker.specs.Inner.Frames.{FrameIn}
+use Rattle.checker.specs.Inner.Frames.{FileIn}
 use Rattle.checker.proofs.NodeLaws.{AtExpression}
 
 module _ (fs : List Frame) (clean : NoFault fs) where
@@ -42,10 +42,10 @@ module _ (fs : List Frame) (clean : NoFault fs) where
 
 -- ---- places: the code took the word at i for the frame f
 pub names_place : (ws : List ℕ) (i : ℕ) (f : Frame)
-    → f ≡ frame_of_word (get_or ws i 0) → FrameIn ws i → NamesPlace f
-names_place ws i f e g =
-    subst NamesPlace (frame_at_lem ws i no_frame g.there ∙ sym e)
-    (placed (frames_of ws) g.laid_out i (rw length-map g.there))
+    → f ≡ frame_of_word (get_or ws i 0) → FileIn ws → i < length ws → NamesPlace f
+names_place ws i f e g l =
+    subst NamesPlace (frame_at_lem ws i no_frame l ∙ sym e)
+    (placed (frames_of ws) g.laid_out i (rw length-map l))
 
 -- the owner of a new cell is a place
 owned_use : (u : CellUse) (a : ℕ) → Owned (OfValue u a) → OwnerPlaced u
@@ -54,5 +54,5 @@ owned_use CellUse.Read a h = tt
 
 pub owner_place : (ws : List ℕ) (i : ℕ) (f : Frame) (n : ExpressionNode) (u : CellUse) (a : ℕ)
     → AtExpression ws i f n (OfValue u a) (OwnerPlaced u)
-owner_place ws i f n u a h k e g =
-    owned_use u a (owner_placed f (OfValue u a) (names_place ws i f e g) (sym h ∙ k))
+owner_place ws i f n u a h k e g l =
+    owned_use u a (owner_placed f (OfValue u a) (names_place ws i f e g l) (sym h ∙ k))

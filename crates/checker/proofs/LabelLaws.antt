@@ -1,12 +1,10 @@
 -- The labels that the check lends: made from a laid_out file's links, they say who is in step.
 -- Assumes nothing.
-use mathlib.Core.Path.{◌≡◌, refl, ap, ◌∙◌}
+use mathlib.Core.Path.{◌≡◌, ap, ◌∙◌}
 use mathlib.Core.List.{List}
 use Prim.Native.Nat.{ℕ}
-use lib.ListN.{length}
-use Rattle.language.specs.Groups.{Link}
 use Rattle.language.specs.Effects.{within}
-use Rattle.language.specs.Inner.Labels.{labels_from, labels_of, within_in}
+use Rattle.language.specs.Inner.Labels.{labels_of, within_in}
 use Rattle.language.proofs.Labels.{within_is}
 use Rattle.text.specs.Frames.{frames_of}
 use Rattle.program.specs.Programs.{links_of}
@@ -18,15 +16,9 @@ use Rattle.checker.specs.Inner.Settings.{LabelsOf}
 pub file_links : (ws : List ℕ) → FileIn ws → LinksPlaced (frames_of ws)
 file_links ws g = links_placed (frames_of ws) g.laid_out
 
-pub labels_made : (ws labels : List ℕ) → labels ≡ labels_of (links_of (frames_of ws)) → LabelsOf ws labels
+pub labels_made : (ws labels : List ℕ) → labels ≡ labels_of (links_of (frames_of ws))
+    → LabelsOf ws labels
 labels_made ws labels e = record { same = e }
-
-labels_length : (ls : List Link) → length (labels_of ls) ≡ 8
-unfolding labels_from
-labels_length ls = refl
-
-pub labels_wide : (ws labels : List ℕ) → LabelsOf ws labels → length labels ≡ 8
-labels_wide ws labels l = ap length l.same ∙ labels_length (links_of (frames_of ws))
 
 -- by the labels and by the links a place allows the same effects
 pub same_test : (ws labels : List ℕ) → LabelsOf ws labels

@@ -6,6 +6,7 @@ use mathlib.Core.List.{List}
 use Prim.Native.Nat.{ℕ, ◌<◌}
 use lib.ListN.{length}
 use Rattle.language.specs.declared.frame.Frame.{Frame}
+use Rattle.language.specs.declared.refusal.Rule.TheVariants.{WrongOrder}
 use Rattle.language.specs.Verdicts.{Verdict}
 use Rattle.language.specs.Verdicts.{Accepted, Rejected}
 use Rattle.text.specs.Reading.{Reading, frames, refused, Reads}
@@ -28,11 +29,13 @@ use Rattle.checker.specs.Verdict.{HasVerdict, verdict, VerdictComputes}
 module _ (fs : List Frame) (some : 0 < length fs) (fine : NoFault fs) where
   pub rules_hold : RulesSay (program_of fs) (rules_of (program_of fs))
   unfolding program_of
-  rules_hold = rules_say (program_of fs) (has_main fs some (fine 6)) (placed_modules fs (all_trees fs (fine 6)))
+  rules_hold = rules_say (program_of fs) (has_main fs some (fine WrongOrder))
+      (placed_modules fs (all_trees fs (fine WrongOrder)))
 
   rules_alone : (r : Verdict) → RulesSay (program_of fs) r → r ≡ rules_of (program_of fs)
   unfolding program_of
-  rules_alone = rules_only (program_of fs) (has_main fs some (fine 6)) (placed_modules fs (all_trees fs (fine 6)))
+  rules_alone = rules_only (program_of fs) (has_main fs some (fine WrongOrder))
+      (placed_modules fs (all_trees fs (fine WrongOrder)))
 
 -- ---- the computed verdict is a verdict
 
@@ -72,12 +75,14 @@ only_reading : {bs : List ℕ} (r : Reading) → Reads bs r → (other : Verdict
     → other ≡ verdict_read r
 only_reading r h _ (HasVerdict.text g) = ap verdict_read (reads_one g h)
 only_reading r h (Err s) (HasVerdict.layout g f) =
-    by_layout r h g (Rejected s.number s.frame) f
+    by_layout r h g (Rejected s.rule s.frame) f
 only_reading r h (Err s) (HasVerdict.rules {fs =
-    fs} g m f) = rules_alone fs (some_frame g refl) m (Rejected s.number s.frame) f ∙ by_layout r h g LaidOut m
+    fs} g m f) = rules_alone fs (some_frame g refl) m (Rejected s.rule s.frame) f
+    ∙ by_layout r h g LaidOut m
 only_reading r h Accepted (HasVerdict.accepted {fs =
     fs} g m f) = rules_alone fs (some_frame g refl) m Accepted f ∙ by_layout r h g LaidOut m
 
 pub verdict_computes : VerdictComputes
 unfolding verdict
-verdict_computes bs = record { says = says_reading (reading bs) (reads bs); only = only_reading (reading bs) (reads bs) }
+verdict_computes bs = record
+    { says = says_reading (reading bs) (reads bs); only = only_reading (reading bs) (reads bs) }

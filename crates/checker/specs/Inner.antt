@@ -1,3 +1,2 @@
 pub mod Frames
 pub mod Settings
-pub mod Modules

@@ -3,6 +3,7 @@
 use Rattle.std.specs.Prelude.{◌≡◌}
 use Rattle.basics.specs.Prelude.{List, ℕ}
 use Rattle.language.specs.declared.frame.Frame.{Frame}
+use Rattle.language.specs.declared.refusal.Rule.{Rule}
 use Rattle.language.specs.Verdicts.{Verdict}
 use Rattle.language.specs.Verdicts.{Accepted, Rejected}
 use Rattle.text.specs.{Reading.frames, Reading.refused, Reading.Reads, Inner.Reading.reading}
@@ -14,13 +15,15 @@ use Rattle.rules.specs.{Rules.Keeps, Broken.FirstBroken, Inner.Checking.rules_of
 -- check's promise is the rules themselves, written without the checker.'
 pub data HasVerdict : List ℕ → Verdict → Type 0 where
   -- 1 to 3
-  text : {bs : List ℕ} {n j : ℕ} → Reads bs (refused n j) → HasVerdict bs (Rejected n j)
+  text : {bs : List ℕ} {n : Rule} {j : ℕ}
+      → Reads bs (refused n j)
+      → HasVerdict bs (Rejected n j)
   -- 4 to 7
-  layout : {bs : List ℕ} {fs : List Frame} {n j : ℕ}
+  layout : {bs : List ℕ} {fs : List Frame} {n : Rule} {j : ℕ}
       → Reads bs (frames fs) → FirstFault fs n j
       → HasVerdict bs (Rejected n j)
   -- 8 to 13
-  rules : {bs : List ℕ} {fs : List Frame} {n j : ℕ}
+  rules : {bs : List ℕ} {fs : List Frame} {n : Rule} {j : ℕ}
       → Reads bs (frames fs) → NoFault fs → FirstBroken (program_of fs) n j
       → HasVerdict bs (Rejected n j)
   -- 'Accepted: the check refuses nothing.'

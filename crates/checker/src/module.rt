@@ -1,6 +1,6 @@
-// The modules of a laid-out file in order, each with what is known of those before it.
+//! The modules of a laid-out file in order, each with what is known of those before it.
 ghost use Rattle.std.specs.Prelude.{◌≡◌, [], ◌∷◌, map, ◌<◌, ◌≤◌, length, take, drop};
-ghost use Rattle.language.specs.Limits.{most_modules, most_parameters, most_schedulers};
+ghost use Rattle.language.specs.Limits.{most_parameters};
 ghost use Rattle.language.specs.Places.{linked};
 ghost use Rattle.language.specs.Inner.Labels.{within_in};
 ghost use Rattle.text.specs.Frames.{frames_of};
@@ -10,72 +10,42 @@ ghost use Rattle.layout.specs.Inner.Scope.{Room};
 ghost use Rattle.rules.specs.Inner.Checking.{effect_in, main_rule, modules_in};
 ghost use Rattle.rules.specs.Inner.Signatures.{signature_of, signature_with, signature_word};
 ghost use Rattle.checker.specs.Inner.Settings.{setting_in, LabelsOf};
-ghost use Rattle.checker.specs.Inner.Frames.{FrameIn, FileIn};
-ghost use Rattle.checker.specs.Inner.Modules.{next_module};
+ghost use Rattle.checker.specs.Inner.Frames.{FileIn};
 
 use crate::effect::effect_of;
+use crate::scope::Scope;
+use crate::setting::Setting;
 use language::Place;
 use language::effect::Effect;
 use language::frame::Frame;
-use language::group::LABELS;
-use language::limit::{MOST_MODULES, MOST_VARIABLES};
-use language::refusal::{Refusal, Verdict, WRONG_EFFECT};
+use language::group::Labels;
+use language::limit::MOST_MODULES;
+use language::refusal::{Rule, Verdict};
 use program::frames::frame_at;
-use rules::finding::StatementEffect;
+use rules::finding::{StatementEffect, refused};
 use rules::start::signature_word;
 
-// The first module at frame i or after it: the last frame is one.
-pub(crate) fn next_module(frames: &[u64], i: usize) -> usize
-    requires { FrameIn frames.now i }
-    ensures { result ≡ next_module i (drop i (frames_of frames.now)) }
-{
-    let mut k = i;
-    while k + 1 < frames.len() {
-        let f = frame_at(frames, k);
-        let kind = f.kind;
-        if kind.is_module() {
-            return k;
-        }
-        k += 1;
-    }
-    k
-}
-
-// What the body of a module is found to be, after the first m modules.
-pub(crate) fn module_effect(
-    frames: &[u64],
-    cells: &[u16],
-    labels: &[u8; LABELS],
-    below: [u64; MOST_MODULES],
-    m: usize,
-    f: Frame,
-) -> StatementEffect
-    requires { FrameIn frames.now f.a × Room (frames_of frames.now) f.a f.s
-        × (f.s ≤ most_parameters) × (m ≤ most_modules) × LabelsOf frames.now labels.now }
+/// What the body of the module f is found to be.
+pub(crate) fn module_effect(setting: &Setting, f: Frame) -> StatementEffect
+    requires { (f.a < length setting.now.frames.now)
+        × Room (frames_of setting.now.frames.now) f.a f.s × (f.s ≤ most_parameters) }
     ensures { result
-        ≡ effect_in (setting_in frames.now cells.now)
-        (map signature_of (take m below)) (take f.s (f.b ∷ f.c ∷ [])) linked
-        (statement_at (frames_of frames.now) f.a) }
+        ≡ effect_in (setting_in setting.now.frames.now setting.now.cells.now)
+        (map signature_of setting.now.below.now) (take f.s (f.b ∷ f.c ∷ [])) linked
+        (statement_at (frames_of setting.now.frames.now) f.a) }
 {
-    let mut scope = [0u16; MOST_VARIABLES];
-    scope[0] = f.b;
-    scope[1] = f.c;
-    let n = f.s as usize;
-    effect_of(frames, cells, labels, &below[..m], &mut scope, n, true, f.a)
+    let mut scope = Scope::of(f.b, f.c, f.s);
+    effect_of(setting, &mut scope, true, f.a)
 }
 
 // 'main has an effect within {2}'; an event's owner may be in step with 2.
-pub(crate) fn main_rule(labels: &[u8; LABELS], i: u16, e: Effect) -> Verdict
-    requires { length labels.now ≡ most_schedulers }
-    ensures { result ≡ main_rule (within_in labels.now) i e }
+pub(crate) fn main_rule(labels: &Labels, frame: u16, effect: Effect) -> Verdict
+    ensures { result ≡ main_rule (within_in labels.now) frame effect }
 {
-    if e.within(labels, Place::HOME) {
-        return Ok(());
+    if !effect.within(labels, Place::HOME) {
+        return refused(Rule::WrongEffect, frame);
     }
-    Err(Refusal {
-        number: WRONG_EFFECT,
-        frame: i,
-    })
+    Ok(())
 }
 
 // What is known of a module whose body has that effect.
@@ -88,31 +58,39 @@ fn module_signature(f: Frame, e: Effect) -> u64
 }
 
 // The first broken rule of a laid-out file, module after module; the last is main.
-pub(crate) fn modules_rule(frames: &[u64], cells: &[u16], labels: &[u8; LABELS]) -> Verdict
+pub(crate) fn modules_rule(frames: &[u64], cells: &[u16], labels: &Labels) -> Verdict
     requires { FileIn frames.now × LabelsOf frames.now labels.now }
     ensures { result
         ≡ modules_in (setting_in frames.now cells.now) []
         (modules_from (frames_of frames.now) 0 (frames_of frames.now)) }
 {
+    // An array and a count: they are filled and lent in this function alone, so that a list type
+    // would be no plainer.
     let mut below = [0u64; MOST_MODULES];
     let mut m: usize = 0;
-    let mut i = next_module(frames, 0);
-    while i + 1 < frames.len() {
+    let last = frames.len() - 1;
+    for i in 0..last {
         let f = frame_at(frames, i);
-        match module_effect(frames, cells, labels, below, m, f) {
-            StatementEffect::Faulty(number, frame) => {
-                return Err(Refusal { number, frame });
-            }
-            StatementEffect::Proper(e, b) => {
-                below[m] = module_signature(f, e);
-                m += 1;
-                i = next_module(frames, i + 1);
-            }
+        if !f.kind.is_module() {
+            continue;
         }
+        let setting = Setting {
+            frames,
+            cells,
+            labels,
+            below: &below[..m],
+        };
+        let x = module_effect(&setting, f)?;
+        below[m] = module_signature(f, x.effect);
+        m += 1;
     }
-    let f = frame_at(frames, i);
-    match module_effect(frames, cells, labels, below, m, f) {
-        StatementEffect::Faulty(number, frame) => Err(Refusal { number, frame }),
-        StatementEffect::Proper(e, b) => main_rule(labels, i as u16, e),
-    }
+    let f = frame_at(frames, last);
+    let setting = Setting {
+        frames,
+        cells,
+        labels,
+        below: &below[..m],
+    };
+    let x = module_effect(&setting, f)?;
+    main_rule(labels, last as u16, x.effect)
 }

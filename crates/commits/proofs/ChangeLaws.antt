@@ -25,7 +25,7 @@ use Rattle.states.proofs.StackWords.{move_wide, ended_wide}
 use Rattle.acts.specs.declared.act.Change.{Change}
 use Rattle.acts.specs.declared.act.Change.TheVariants.{Same, Item, Items, Let, Drop, Move, Enter}
 use Rattle.acts.specs.declared.act.Change.TheVariants.{End}
-use Rattle.acts.specs.Inner.Transitions.{changed, popped, HasRoom}
+use Rattle.acts.specs.Inner.Transitions.{changed, popped, RoomFor}
 use Rattle.commits.specs.Inner.Commits.{place_after}
 
 -- ---- the thread without its top item, and the changed one: their spaces stay full, the counts and
@@ -157,25 +157,25 @@ pub ruleset change_laws = (change_same, change_made)
 
 -- what the room for a change is, for the arm's call
 module _ (c : Change) (i n : ℕ) where
-  room : (d : Change) → c ≡ d → HasRoom c i n → HasRoom d i n
-  room d e h = subst (λ (b : Change). HasRoom b i n) e h
+  room : (d : Change) → c ≡ d → RoomFor c i n → RoomFor d i n
+  room d e h = subst (λ (b : Change). RoomFor b i n) e h
 
-  pub room_item : (a : ℕ) → c ≡ Item a → HasRoom c i n → i < 25
+  pub room_item : (a : ℕ) → c ≡ Item a → RoomFor c i n → i < 25
   room_item a e h = room (Item a) e h
 
-  pub room_items : (a b : ℕ) → c ≡ Items a b → HasRoom c i n → i < 24
+  pub room_items : (a b : ℕ) → c ≡ Items a b → RoomFor c i n → i < 24
   room_items a b e h = room (Items a b) e h
 
-  pub room_let : (a b : ℕ) → c ≡ Let a b → HasRoom c i n → i < 24
+  pub room_let : (a b : ℕ) → c ≡ Let a b → RoomFor c i n → i < 24
   room_let a b e h = (room (Let a b) e h).0
 
-  pub room_value : (a b : ℕ) → c ≡ Let a b → HasRoom c i n → n < 25
+  pub room_value : (a b : ℕ) → c ≡ Let a b → RoomFor c i n → n < 25
   room_value a b e h = (room (Let a b) e h).1
 
-  pub room_drop : c ≡ Drop → HasRoom c i n → 0 < n
+  pub room_drop : c ≡ Drop → RoomFor c i n → 0 < n
   room_drop e h = room Drop e h
 
-  pub room_enter : (a : Place) (b : ℕ) → c ≡ Enter a b → HasRoom c i n → i < 24
+  pub room_enter : (a : Place) (b : ℕ) → c ≡ Enter a b → RoomFor c i n → i < 24
   room_enter a b e h = room (Enter a b) e h
 
 pub ruleset change_room = (room_item, room_items, room_let, room_value, room_drop, room_enter)

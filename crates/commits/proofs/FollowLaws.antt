@@ -8,6 +8,7 @@ use lib.ListN.{length, get_or}
 use Rattle.basics.proofs.Ifs.{if_yes, if_no, if_all}
 use Rattle.language.specs.Places.{is_scheduler}
 use Rattle.language.specs.declared.Place.{Place}
+use Rattle.language.specs.declared.group.Schedulers.{Schedulers}
 use Rattle.states.specs.Inner.Threads.{with_one_more}
 use Rattle.acts.specs.declared.act.Arguments.{Arguments}
 use Rattle.commits.specs.declared.decision.Passed.{Passed}
@@ -16,7 +17,7 @@ use Rattle.commits.specs.declared.decision.Passed.TheVariants.{Wake}
 use Rattle.commits.specs.Inner.Commits.{left_in, joined_in, new_at, started_on, leaves_list}
 use Rattle.commits.specs.Inner.Commits.{unlisted_in, enlisted_in, followed_in, StartWords}
 use Rattle.commits.specs.Inner.Commits.{Follows}
-use Rattle.commits.specs.Inner.Commits.{generated_in, WakeWords, Grouping}
+use Rattle.commits.specs.Inner.Commits.{generated_in, WakeWords}
 use Rattle.commits.proofs.WritingLaws.{left_count}
 
 -- ---- `leaves`: a starter leaves its list where it waits
@@ -40,7 +41,7 @@ module _ (w : List ℕ) (c : ℕ) (x : Passed) where
 pub ruleset unlist_laws = (unlist_leaves, unlist_keeps)
 
 -- ---- `enlist`: what the match has found is what was asked for
-module _ (G : Grouping) (w : List ℕ) (t : ℕ) (x : Passed) where
+module _ (G : Schedulers) (w : List ℕ) (t : ℕ) (x : Passed) where
   row : (v : List ℕ) (y : Passed) → x ≡ y → v ≡ enlisted_in G w t y → v ≡ enlisted_in G w t x
   row v y e h = h ∙ ap (enlisted_in G w t) (sym e)
 
@@ -65,7 +66,7 @@ module _ (G : Grouping) (w : List ℕ) (t : ℕ) (x : Passed) where
 pub ruleset enlist_laws = (enlist_keep, enlist_leave, enlist_join, enlist_start, enlist_wake)
 
 -- what an arm's call needs
-module _ (G : Grouping) (w : List ℕ) (x : Passed) where
+module _ (G : Schedulers) (w : List ℕ) (x : Passed) where
   pub join_needs : (q : Place) → x ≡ Join q → Follows G w x → is_scheduler q.number ≡ true
   join_needs q e h = subst (Follows G w) e h
 
@@ -77,7 +78,7 @@ module _ (G : Grouping) (w : List ℕ) (x : Passed) where
   wake_needs q e d h = subst (Follows G w) d h
 
 -- ---- `follow`
-module _ (G : Grouping) (w u : List ℕ) (c : ℕ) (x : Passed) (e : u ≡ unlisted_in w c x) where
+module _ (G : Schedulers) (w u : List ℕ) (c : ℕ) (x : Passed) (e : u ≡ unlisted_in w c x) where
   count_kept : length w ≡ 4834 → get_or u 0 0 ≡ get_or w 0 0
   unfolding unlisted_in
   count_kept h =
@@ -102,7 +103,7 @@ module _ (G : Grouping) (w u : List ℕ) (c : ℕ) (x : Passed) (e : u ≡ unlis
   followed t v f = f ∙ ap (λ (l : List ℕ). enlisted_in G l t x) e
 
 -- ---- the words after each
-module _ (G : Grouping) (w : List ℕ) (c t : ℕ) where
+module _ (G : Schedulers) (w : List ℕ) (c t : ℕ) where
   pub leave_is : followed_in G w c t Leave ≡ left_in w c
   leave_is = leaves_is w c Leave refl
 

@@ -22,7 +22,7 @@ use Rattle.states.specs.declared.thread.ThreadWords.{ThreadWords}
 use Rattle.states.specs.Inner.Threads.{thread_in, put_thread}
 use Rattle.states.proofs.ThreadLaws.{Wide, in_wide, put_read, put_then}
 use Rattle.acts.specs.declared.act.Change.{Change}
-use Rattle.acts.specs.Inner.Transitions.{changed, popped, HasRoom}
+use Rattle.acts.specs.Inner.Transitions.{changed, popped, RoomFor}
 use Rattle.commits.specs.Inner.Commits.{cleared_in, settled_in, left_in, room_in, joined_in}
 use Rattle.commits.specs.Inner.Commits.{SettleWords}
 use Rattle.commits.proofs.ChangeLaws.{popped_wide, changed_wide, popped_items}
@@ -73,7 +73,7 @@ module _ (w : List ℕ) (k : ℕ) (c : Change) (h : SettleWords w k c) (v : List
   settle_place =
       rw (ap (λ (x : ThreadWords). x.place) here ∙ popped_place (thread_in w k)) h.place
 
-  pub settle_room : HasRoom c (thread_in v k).items (thread_in v k).values
+  pub settle_room : RoomFor c (thread_in v k).items (thread_in v k).values
   settle_room = rw (items_here, values_here) h.room
 
   pub settled : (u : List ℕ) → u ≡ put_thread v k (changed c (thread_in v k))

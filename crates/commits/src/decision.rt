@@ -1,98 +1,92 @@
-// What the transition of a turn comes to on the lent words: refused with a number, or passed.
-// Nothing is written before that is known.
+//! What a turn comes to on the lent words: it is refused, or passed. Nothing is written before that
+//! is known.
 ghost use Rattle.std.specs.Prelude.{◌≡◌, true, ◌-◌, ◌≤◌, length};
 ghost use Rattle.language.specs.Places.{is_place};
 ghost use Rattle.language.specs.Limits.{most_threads};
 ghost use Rattle.text.specs.Frames.{frames_of};
 ghost use Rattle.program.specs.Programs.{program_of};
-ghost use Rattle.machine.specs.Offsets.{state_length};
-ghost use Rattle.commits.specs.Inner.Commits.{CommitWords, SettleWords, grouping, obstacle_in};
+ghost use Rattle.commits.specs.Inner.Commits.{CommitWords, SettleWords, obstacle_in};
 ghost use Rattle.states.specs.Inner.Threads.{thread_in};
 ghost use Rattle.commits.specs.Inner.Commits.{place_in, start_decided, decided_in};
 
 use crate::change::place_after;
 use crate::signal::{decide_await, decide_generate};
 use crate::writing::room_at;
-use acts::act::{Action, Arguments, Transition};
+use acts::act::{Action, Arguments, Change, Transition};
 use language::Place;
-use language::group::LABELS;
+use language::group::Schedulers;
 use language::limit::MOST_THREADS;
-use language::refusal::{STUCK, THREADS_SPENT};
-use machine::offset::{THREAD_LENGTH, THREADS_AT};
-use program::module::{ModuleFound, module_at};
+use language::refusal::Rule;
+use machine::offset::{State, THREAD_LENGTH, THREADS_AT};
+use program::module::{Module, module_at};
 use states::thread::thread_count;
 
-// What the lists do after a turn that nothing refuses. The thread keeps its entry; it leaves its
-// list; it leaves it and joins the next list of that scheduler. Or a thread of that body starts at
-// that scheduler with those arguments, and the starter waits for it or not. Or an event of that
-// scheduler's group is present, and who awaits it on a member is active.
-#[derive(Clone, Copy)]
+/// What the lists do after a turn that nothing refuses.
+#[derive(Clone, Copy, Debug, PartialEq, Eq)]
 pub(crate) enum Passed {
+    /// The thread keeps its entry.
     Keep,
+    /// It leaves its list.
     Leave,
+    /// It leaves it and joins the next list of that scheduler.
     Join(Place),
+    /// A thread of that body starts at that scheduler with those arguments, and the starter waits
+    /// for it or not.
     Start(bool, Place, u64, Arguments),
+    /// An event of that scheduler's group is present, and who awaits it on a member is active.
     Wake(Place, u8),
 }
 
-// It is refused with that number; it is settled, and the lists follow; it awaits that event on that
-// scheduler, and its own words stay as they were.
-#[derive(Clone, Copy)]
+/// What becomes of a turn that nothing refuses.
+#[derive(Clone, Copy, Debug, PartialEq, Eq)]
 pub(crate) enum Decision {
-    Refuse(u8),
-    Settle(Passed),
+    /// It is settled with that change, and the lists follow.
+    Settle(Change, Passed),
+    /// It awaits that event on that scheduler, and its own words stay as they were.
     Suspend(Place, u8),
 }
 
-// What stands in the way of a start, stuck before spent; 0 where nothing does.
+/// What stands in the way of a start of that module, stuck before spent.
 #[tactic(auto, using(crate::proofs::DecisionLaws::obstacle_laws))]
-fn obstacle(state: &[u64], found: ModuleFound, place: Place, given: u64) -> u8
-    requires { length state.now ≡ state_length }
+fn obstacle(state: &State, found: Module, place: Place, given: u64) -> Result<(), Rule>
     ensures { result ≡ obstacle_in state.now found place.number given }
 {
-    if place.is_private()
-        || !found.there
-        || found.parameters != given
-        || !room_at(state, place, 1)
-    {
-        return STUCK;
+    if place.is_private() || found.parameters != given || !room_at(state, place, 1) {
+        return Err(Rule::Stuck);
     }
     if MOST_THREADS as u64 <= thread_count(state) {
-        return THREADS_SPENT;
+        return Err(Rule::ThreadsSpent);
     }
-    0
+    Ok(())
 }
 
-// The room for a starter that waits is tested last.
-#[tactic(auto, using(crate::proofs::DecisionLaws::start_laws))]
+/// The room for a starter that waits is tested last.
 fn decide_start(
     frames: &[u64],
-    state: &[u64],
+    state: &State,
     t: u64,
     a: Action,
     waits: bool,
     m: u8,
     args: Arguments,
-) -> Decision
+) -> Result<Decision, Rule>
     requires { (1 ≤ t) × (t ≤ most_threads) × SettleWords state.now (t - 1) a.change }
     ensures { result ≡ start_decided (program_of (frames_of frames.now))
         state.now t a waits m args }
 {
-    let found = module_at(frames, m);
+    let found = module_at(frames, m).ok_or(Rule::Stuck)?;
     let place = place_of(state, t, a);
-    let no = obstacle(state, found, place, args.count);
-    if no != 0 {
-        return Decision::Refuse(no);
-    }
+    obstacle(state, found, place, args.count)?;
     if waits && !room_at(state, place, 2) {
-        return Decision::Refuse(STUCK);
+        return Err(Rule::Stuck);
     }
-    Decision::Settle(Passed::Start(waits, place, found.body, args))
+    let passed = Passed::Start(waits, place, found.body, args);
+    Ok(Decision::Settle(a.change, passed))
 }
 
-// Where thread t stands after its turn.
-fn place_of(state: &[u64], t: u64, a: Action) -> Place
-    requires { (length state.now ≡ state_length) × (1 ≤ t) × (t ≤ most_threads)
+/// Where thread t stands after its turn.
+fn place_of(state: &State, t: u64, a: Action) -> Place
+    requires { (1 ≤ t) × (t ≤ most_threads)
         × (is_place (thread_in state.now (t - 1)).place ≡ true) }
     ensures { result ≡ place_in state.now t a }
 {
@@ -103,36 +97,36 @@ fn place_of(state: &[u64], t: u64, a: Action) -> Place
     )
 }
 
+/// What becomes of the turn of thread t: the rule that refused it, or that refuses its transition.
 pub(crate) fn decide(
     frames: &[u64],
-    labels: &[u8; LABELS],
-    schedulers: u8,
-    state: &[u64],
+    schedulers: &Schedulers,
+    state: &State,
     t: u64,
-    a: Action,
-) -> Decision
-    requires { CommitWords (program_of (frames_of frames.now)) (grouping labels.now schedulers)
-        state.now t a }
+    turn: Result<Action, Rule>,
+) -> Result<Decision, Rule>
+    requires { CommitWords (program_of (frames_of frames.now)) schedulers.now
+        state.now t turn }
     ensures { result ≡ decided_in (program_of (frames_of frames.now))
-        (grouping labels.now schedulers) state.now t a a.transition }
+        schedulers.now state.now t turn }
 {
-    let transition = a.transition;
-    match transition {
-        Transition::Refused(n) => Decision::Refuse(n),
-        Transition::Stays => Decision::Settle(Passed::Keep),
-        Transition::Leaves => Decision::Settle(Passed::Leave),
+    let a = turn?;
+    let change = a.change;
+    match a.transition {
+        Transition::Stays => Ok(Decision::Settle(change, Passed::Keep)),
+        Transition::Leaves => Ok(Decision::Settle(change, Passed::Leave)),
         Transition::Joins(q) => {
-            if room_at(state, q, 1) {
-                return Decision::Settle(Passed::Join(q));
+            if !room_at(state, q, 1) {
+                return Err(Rule::Stuck);
             }
-            Decision::Refuse(STUCK)
+            Ok(Decision::Settle(change, Passed::Join(q)))
         },
         Transition::Starts(waits, m, args) => decide_start(frames, state, t, a, waits, m, args),
         Transition::Generates(e) => {
-            decide_generate(frames, labels, schedulers, state, place_of(state, t, a), e)
+            decide_generate(frames, schedulers, state, a, place_of(state, t, a), e)
         },
         Transition::Awaits(e) => {
-            decide_await(frames, labels, schedulers, state, place_of(state, t, a), e)
+            decide_await(frames, schedulers, state, a, place_of(state, t, a), e)
         },
     }
 }

@@ -1,5 +1,5 @@
-// A turn committed to the lent words: the thread, the lists, the events, the cells made; or,
-// refused, the words as they were.
+//! A turn committed to the lent words: the thread, the lists, the events, the cells made; or,
+//! refused, the words as they were.
 #![tactic(auto)]
 
 mod change;

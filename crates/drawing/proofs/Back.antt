@@ -14,7 +14,7 @@ use Rattle.drawing.specs.Drawings.{head_of, Drawn, Field, node, kept, child, siz
 use Rattle.drawing.specs.Drawings.{size_in, field_with, node_with, drawn, root_from, value_from}
 use Rattle.drawing.specs.Drawings.{root_line, lined, lined_in, rank}
 use Rattle.drawing.proofs.Heights.{height, height_in}
-use Rattle.drawing.proofs.Lines.{frame_of, word_head, word_frame}
+use Rattle.drawing.proofs.Lines.{word_head, word_frame}
 use Rattle.drawing.proofs.Fields.{Names}
 
 -- the kind of a tree's root, and its rank

@@ -19,7 +19,7 @@ use Rattle.language.specs.declared.kind.Use.{Use}
 use Rattle.language.specs.declared.frame.Frame.{Frame}
 use Rattle.text.specs.Frames.{frames_of}
 use Rattle.program.specs.Trees.{frame_at}
-use Rattle.drawing.specs.Drawings.{Drawn, Field, kept, child, size, size_in, root_from}
+use Rattle.drawing.specs.Drawings.{Drawn, Field, size, size_in, root_from}
 use Rattle.drawing.specs.Drawings.{lined, lined_all, rank, ranks}
 use Rattle.drawing.proofs.Fields.{Names, class_rank}
 use Rattle.drawing.proofs.Back.{tree_rank, Fits, FitsIn, lined-length, root_inside}

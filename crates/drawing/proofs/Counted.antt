@@ -11,6 +11,7 @@ use borrow.Author.Tests.{eqb-true, ltb-true, ltb-false, leb-true, leb-false}
 use Rattle.basics.specs.If.{when◌then◌else◌}
 use Rattle.basics.specs.Members.{In}
 use Rattle.basics.proofs.Ifs.{if_yes, if_no}
+use Rattle.language.specs.declared.refusal.Rule.TheVariants.{WrongField}
 use Rattle.language.specs.Kinds.{uses, Child, child_in, children}
 use Rattle.language.specs.declared.frame.Frame.{Frame}
 use Rattle.text.specs.Frames.{frame_of_word, frames_of}
@@ -22,7 +23,7 @@ use Rattle.layout.specs.Faults.{Fault}
 use Rattle.layout.specs.Order.{has_child, has_class}
 use Rattle.layout.specs.Uses.{times, used}
 use Rattle.layout.proofs.UseCounts.{used_some}
-use Rattle.drawing.specs.Drawings.{head_of, Drawn, node, size, size_in, field_with}
+use Rattle.drawing.specs.Drawings.{head_of, Drawn, size, size_in, field_with}
 use Rattle.drawing.specs.Drawings.{node_with, drawn, lined_all, ranks, levels, roots_to, drawing}
 use Rattle.drawing.specs.Drawings.{laid_out}
 use Rattle.drawing.specs.TreeFaults.{TreeFault, ShapeFault}
@@ -36,7 +37,7 @@ use Rattle.drawing.proofs.Depths.{root_within}
 use Rattle.drawing.proofs.Cycles.{within_all}
 use Rattle.drawing.proofs.Answers.{all_inside, no_cycle}
 use Rattle.drawing.proofs.Stable.{drawn_same}
-use Rattle.drawing.proofs.Sums.{unit, total, over, over_append, sum_of, total_same}
+use Rattle.drawing.proofs.Sums.{unit, over, over_append, sum_of, total_same}
 use Rattle.drawing.proofs.Sums.{all_counted, roots_sum}
 
 -- ---- sizes
@@ -138,7 +139,7 @@ module _ (fs : List Frame) (writable : Writable fs) where
           by true e = leb-true 1 (used j fs) e
           by false e =
               let z = leb-false 1 (used j fs) e in
-              let k = rest_class fs j (frame_at fs j).kind r (kind_fine_lem fs (λ i f. writable.early 5 i (omega arith) f) j l) in
+              let k = rest_class fs j (frame_at fs j).kind r (kind_fine_lem fs (λ i f. writable.early WrongField i (omega arith) f) j l) in
               absurd (writable.shaped j (ShapeFault.leftover l k (λ i q. unused z i q (has_child j (frame_at fs i)) refl)))
 
       go : (b : Bool) → ltb (rank_of (frame_at fs j)) ranks ≡ b

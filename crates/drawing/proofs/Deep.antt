@@ -1,16 +1,16 @@
 -- The computed frame is the lowest that is too deep, where no child is missing and there is no
 -- circle. Assumes nothing.
 use mathlib.Core.Path.{◌≡◌, refl, sym, ap, subst}
-use mathlib.Core.Logic.{◌⊎◌, ⊎_elim}
-use mathlib.Core.Bool.{true, false, ◌&&◌, true≢false}
+use mathlib.Core.Logic.{⊎_elim}
+use mathlib.Core.Bool.{true, ◌&&◌, true≢false}
 use mathlib.Core.List.{List}
 use Prim.Native.Nat.{ℕ, zero, suc, ◌<◌}
 use lib.Dec.{eqb, ltb}
 use lib.ListN.{length}
 use borrow.Author.Tests.{eq-eqb, eqb-true, ltb-true, lt-ltb}
 use Rattle.basics.specs.Members.{In}
-use Rattle.basics.specs.Members.{any}
 use Rattle.basics.proofs.Ifs.{and_true, and_both, or_true, or_left, or_right}
+use Rattle.language.specs.declared.refusal.Rule.TheVariants.{TooDeep}
 use Rattle.language.specs.Kinds.{is_module, Child, children}
 use Rattle.language.specs.declared.kind.Kind.TheVariants.{Module}
 use Rattle.language.specs.declared.frame.Frame.{Frame}
@@ -56,7 +56,7 @@ module _ (fs : List Frame) where
       (λ q. (let m = in_any (λ (c : Child). deeper_to n fs j (suc d) c.at) (children (frame_at fs i)) q in found_deep n m.member.at (suc d) j (Depth.child h m.among) m.passes))
       (or_true (ltb most_depth d && eqb i j) _ e)
 
-  deep_test : (j : ℕ) → is_deep fs j (frame_at fs j) ≡ true → Fault fs 7 j
+  deep_test : (j : ℕ) → is_deep fs j (frame_at fs j) ≡ true → Fault fs TooDeep j
   unfolding is_deep
   deep_test j e =
       let p = any-true no_frame (λ (g : Frame). is_module g.kind && deeper_to (suc (length fs)) fs j 1 g.a) fs e in
@@ -69,7 +69,7 @@ module _ (fs : List Frame) where
     reach_inside Reach.here l = l
     reach_inside (Reach.down {i = i} {c = c} m r) l = reach_inside r (inside i c m)
 
-    deep_is : (j : ℕ) → Fault fs 7 j → (j < length fs) × (is_deep fs j (frame_at fs j) ≡ true)
+    deep_is : (j : ℕ) → Fault fs TooDeep j → (j < length fs) × (is_deep fs j (frame_at fs j) ≡ true)
     unfolding is_deep
     deep_is j f =
         let a = seven f refl in
@@ -78,7 +78,7 @@ module _ (fs : List Frame) where
         let q = deep_found u.reach (suc (length fs)) (within_all fs inside trees (frame_at fs u.at).a) a.least in
         (reach_inside u.reach b, any_some no_frame (λ (g : Frame). is_module g.kind && deeper_to (suc (length fs)) fs j 1 g.a) fs u.at u.inside (and_both _ _ (ap is_module u.kind) q))
 
-    pub depth_low : Lowest (Fault fs 7) (depth_fault_at fs)
+    pub depth_low : Lowest (Fault fs TooDeep) (depth_fault_at fs)
     unfolding depth_fault_at
     depth_low =
         same_low (λ j h. deep_test j h.1) (λ j f. deep_is j f) (lowest_all no_frame (is_deep fs) fs)

@@ -12,7 +12,7 @@ use Rattle.layout.specs.Depths.{Depth}
 use Rattle.language.specs.Limits.{most_depth}
 use Rattle.layout.proofs.Depths.{body_depth, child_depth}
 use Rattle.layout.proofs.Users.{Parent, parent}
-use Rattle.drawing.specs.Drawings.{rank, ranks, levels}
+use Rattle.drawing.specs.Drawings.{ranks, levels}
 use Rattle.drawing.proofs.Roots.{rank_of}
 use Rattle.drawing.proofs.Tiles.{root_class}
 use Rattle.drawing.proofs.InOrder.{Within, within}

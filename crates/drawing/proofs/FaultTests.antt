@@ -1,19 +1,17 @@
 -- The computed frames are the lowest with a fault of the trees and the lowest with a fault of the
 -- shape. Assumes nothing.
 use mathlib.Core.Path.{◌≡◌, refl, sym, ap, ◌∙◌}
-use mathlib.Core.Logic.{◌⊎◌, ⊎_elim}
+use mathlib.Core.Logic.{⊎_elim}
 use mathlib.Core.Bool.{Bool, true, false, not, ◌&&◌, true≢false}
 use mathlib.Core.List.{List}
-use mathlib.Core.Option.{none}
 use Prim.Native.Nat.{ℕ, suc, ◌+◌, ◌-◌, ◌≤◌, ◌<◌}
 use native.Mathlib.Omega.{arith}
 use lib.Dec.{eqb, leb}
-use lib.ListN.{length, get_or, drop, length-drop}
+use lib.ListN.{length, drop, length-drop}
 use lib.Seq.{get_or-drop}
 use borrow.Author.Tests.{eq-eqb, ne_eqb, eqb-true, eqb-false, leb-true, le-leb}
 use borrow.Author.Tests.{not-true}
 use Rattle.basics.specs.Members.{any}
-use Rattle.basics.specs.Inner.Searches.{lowest}
 use Rattle.basics.proofs.Ifs.{and_true, and_both, or_true, or_left, or_right}
 use Rattle.language.specs.Kinds.{is_module, class_of, Child, children}
 use Rattle.language.specs.declared.kind.Class.{Class}

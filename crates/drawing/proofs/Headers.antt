@@ -16,7 +16,7 @@ use Rattle.drawing.specs.Drawings.{head_of, Drawn, node, kept, size, size_in, fi
 use Rattle.drawing.specs.Drawings.{value_from, lined, lined_all, rank, ranks, levels, roots_to}
 use Rattle.drawing.specs.Drawings.{drawing, laid_out, module_rank}
 use Rattle.drawing.specs.Writings.{Writable}
-use Rattle.drawing.proofs.Lines.{frame_of, frame_head}
+use Rattle.drawing.proofs.Lines.{frame_head}
 use Rattle.drawing.proofs.Back.{Fits, node_same}
 use Rattle.drawing.proofs.Roots.{rank_of}
 use Rattle.drawing.proofs.Counted.{roots_within}

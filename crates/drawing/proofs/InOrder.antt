@@ -13,7 +13,7 @@ use Rattle.program.specs.Trees.{no_frame, frame_at}
 use Rattle.layout.specs.Order.{Tree, Row}
 use Rattle.layout.proofs.Trees.{tree_in}
 pub use Rattle.drawing.specs.Inner.Heights.{Within, within}
-use Rattle.drawing.specs.Drawings.{line_from, head_of, Drawn, Field, node, child, size}
+use Rattle.drawing.specs.Drawings.{line_from, head_of, Drawn, Field, node, size}
 use Rattle.drawing.specs.Drawings.{size_in, field_with, drawn, root_from, value_from}
 use Rattle.drawing.specs.Drawings.{root_line, lined, lined_in}
 use Rattle.drawing.proofs.Lines.{frame_word}

@@ -6,12 +6,13 @@ use mathlib.Core.Bool.{Bool, true, false, not, ◌&&◌, ◌||◌, true≢false}
 use mathlib.Core.List.{List, [], ◌∷◌, ◌++◌}
 use Prim.Native.Nat.{ℕ, zero, suc, ◌+◌, ◌%◌, ◌^◌, ◌≤◌, ◌<◌}
 use native.Mathlib.Omega.{arith}
-use lib.Dec.{ltb, leb, eqb}
+use lib.Dec.{leb, eqb}
 use lib.ListN.{length, get_or, take}
 use borrow.Author.Tests.{eqb-true, eqb-false, eq-eqb, ne_eqb, ltb-true, lt-ltb}
 use Rattle.basics.specs.If.{when◌then◌else◌}
-use Rattle.basics.specs.Members.{In, All}
+use Rattle.basics.specs.Members.{All}
 use Rattle.basics.proofs.Ifs.{if_yes, if_no, and_true, or_on}
+use Rattle.language.specs.declared.refusal.Rule.TheVariants.{WrongField}
 use Rattle.language.specs.Limits.{most_schedulers, most_shared, most_events, most_modules}
 use Rattle.language.specs.Kinds.{declaration_rank, is_header, is_shared, is_event, is_module, uses}
 use Rattle.language.specs.Kinds.{child_in}
@@ -312,7 +313,7 @@ module _ (ws : List ℕ) (writable : Writable (frames_of ws)) (l : 0 < length ws
     where
       go : (b : Bool) → frame_fine Fs i (frame_at Fs i) ≡ b → frame_fine Fs i (frame_at Fs i) ≡ true
       go true e = e
-      go false e = absurd (writable.early 5 i (omega arith) (Fault.field k e))
+      go false e = absurd (writable.early WrongField i (omega arith) (Fault.field k e))
 
   same : drawing Out ≡ drawing ws
   same = same_drawing ws writable l most

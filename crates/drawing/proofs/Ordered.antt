@@ -12,8 +12,8 @@ use borrow.Author.Tests.{eqb-true}
 use Rattle.basics.specs.If.{when◌then◌else◌}
 use Rattle.basics.specs.Members.{In}
 use Rattle.basics.proofs.Ifs.{if_yes, if_no}
+use Rattle.language.specs.declared.refusal.Rule.TheVariants.{TooDeep, WrongOrder}
 use Rattle.language.specs.Kinds.{is_module, class_of, Child, children}
-use Rattle.language.specs.declared.kind.Kind.TheVariants.{Module}
 use Rattle.language.specs.declared.frame.Frame.{Frame}
 use Rattle.program.specs.Trees.{frame_at}
 use Rattle.layout.specs.Order.{Tree, Row, has_child, has_class}
@@ -80,7 +80,7 @@ used_once j (f ∷ fs) same once =
 module _ (fs : List Frame) (fine : NoFault fs) (some : 0 < length fs) where
   child_right : (i : ℕ) (c : Child) → i < length fs → In c (children (frame_at fs i))
       → class_of (frame_at fs c.at).kind ≡ c.class
-  child_right i c l m = tree_right (all_trees fs (λ k f. fine 6 k f) i l).tree m
+  child_right i c l m = tree_right (all_trees fs (λ k f. fine WrongOrder k f) i l).tree m
 
   same_user : (i k : ℕ) (c d : Child) → i < length fs → k < length fs
       → In c (children (frame_at fs i)) → In d (children (frame_at fs k)) → c.at ≡ d.at → i ≡ k
@@ -100,7 +100,7 @@ module _ (fs : List Frame) (fine : NoFault fs) (some : 0 < length fs) where
   no_tree_fault : (j : ℕ) → TreeFault fs j → ⊥
   no_tree_fault j (TreeFault.missing l m h) = let a = child_below fs fine l m in omega arith
   no_tree_fault j (TreeFault.twice {j = k} l h) =
-      let a = used_once k fs (λ a b c d p q m n x y. same_user a b c d p q m n (x ∙ sym y)) (λ i p. tree_once k (all_trees fs (λ n f. fine 6 n f) i p).tree) in
+      let a = used_once k fs (λ a b c d p q m n x y. same_user a b c d p q m n (x ∙ sym y)) (λ i p. tree_once k (all_trees fs (λ n f. fine WrongOrder n f) i p).tree) in
       omega arith
   no_tree_fault j (TreeFault.cycle l h) = let a = below_less h in omega arith
 
@@ -109,7 +109,7 @@ module _ (fs : List Frame) (fine : NoFault fs) (some : 0 < length fs) where
 
   shaped : (j : ℕ) → ShapeFault fs j → ⊥
   shaped j (ShapeFault.class {i = i} {c = c} l m h) = h (child_right i c l m)
-  shaped j (ShapeFault.leftover l h g) = fine 6 j (Fault.leftover l h g)
+  shaped j (ShapeFault.leftover l h g) = fine WrongOrder j (Fault.leftover l h g)
   shaped j (ShapeFault.main {j = k} l h g n) = go (ℕ_discrete k (length fs - 1))
     where
       go : Dec (k ≡ length fs - 1) → ⊥
@@ -119,4 +119,4 @@ module _ (fs : List Frame) (fine : NoFault fs) (some : 0 < length fs) where
 
   pub in_order_writable : Writable fs
   in_order_writable =
-      record { early = λ n j l f. fine n j f; trees = no_tree_fault; shaped = shaped; shallow = λ j f. fine 7 j f }
+      record { early = λ n j l f. fine n j f; trees = no_tree_fault; shaped = shaped; shallow = λ j f. fine TooDeep j f }

@@ -23,7 +23,7 @@ use Rattle.layout.specs.Order.{Tree, Row, has_child, has_class}
 use Rattle.layout.specs.Depths.{Depth}
 use Rattle.layout.proofs.Trees.{in_body, none_in}
 use Rattle.drawing.specs.Drawings.{Drawn, Field, node, kept, child, size, size_in, root_from}
-use Rattle.drawing.specs.Drawings.{value_from, root_line, lined, lined_in, lined_all, rank, ranks}
+use Rattle.drawing.specs.Drawings.{value_from, root_line, lined, lined_in, lined_all, ranks}
 use Rattle.drawing.specs.Drawings.{levels}
 use Rattle.drawing.proofs.Heights.{height, height_in}
 use Rattle.drawing.proofs.Lines.{frame_of, word_frame}

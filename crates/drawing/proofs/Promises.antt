@@ -5,6 +5,8 @@ use mathlib.Core.List.{List, [], ◌∷◌}
 use Prim.Native.Nat.{ℕ, zero, suc, ◌+◌, ◌*◌, ◌/◌, ◌≤◌, ◌<◌}
 use native.Mathlib.Omega.{arith}
 use lib.ListN.{length}
+use Rattle.language.specs.declared.refusal.Rule.{Rule}
+use Rattle.language.specs.declared.refusal.Rule.TheVariants.{WrongHeader}
 use Rattle.language.specs.declared.frame.Frame.{Frame}
 use Rattle.language.specs.Verdicts.{Accepted, Rejected}
 use Rattle.layout.specs.Verdicts.{LayoutVerdict}
@@ -163,7 +165,7 @@ module _ {bs : List ℕ} {fs : List Frame} (r : Reads bs (frames fs)) (s : Writa
   out_fault n j (Fault.header h) =
       let l = lines_of r in
       let w = writable_lines r s in
-      w.early 4 0 (omega arith) (Fault.header (sym (out_header_fine (lines_in bs) w l.some l.most) ∙ h))
+      w.early WrongHeader 0 (omega arith) (Fault.header (sym (out_header_fine (lines_in bs) w l.some l.most) ∙ h))
   out_fault n j (Fault.field {j = k} l h) = true≢false (sym (out_right k l) ∙ h)
   out_fault n j (Fault.order {j = k} l h) = out_order k l h
   out_fault n j (Fault.misplaced {i = i} {j = k} {d = d} a b c m) = out_misplaced i k d a b c m
@@ -172,7 +174,7 @@ module _ {bs : List ℕ} {fs : List Frame} (r : Reads bs (frames fs)) (s : Writa
   out_fault n j (Fault.depth {j = k} {d = d} a b) = let m = out_depth k d a in omega arith
 
 -- ---- so of every text that is written
-no_refusal : {m j : ℕ} {a b : List ℕ} → as_writing (Rejected m j) a ≡ as_writing Accepted b → ⊥
+no_refusal : {m : Rule} {j : ℕ} {a b : List ℕ} → as_writing (Rejected m j) a ≡ as_writing Accepted b → ⊥
 no_refusal {m} {j} e =
     let v : Rejected m j ≡ Accepted = ap (λ (w : Writing). w.verdict) e in
     let z : ◌≡◌ {A = ℕ} 0 1 = cc in

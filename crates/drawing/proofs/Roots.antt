@@ -2,13 +2,14 @@
 use mathlib.Core.Path.{◌≡◌, refl, sym, ap, ◌∙◌}
 use mathlib.Core.Bool.{Bool, true, false}
 use mathlib.Core.List.{List, [], ◌∷◌, ◌++◌}
-use Prim.Native.Nat.{ℕ, zero, suc, ◌+◌, ◌≤◌, ◌<◌}
+use Prim.Native.Nat.{ℕ, zero, suc, ◌≤◌, ◌<◌}
 use native.Mathlib.Omega.{arith}
 use lib.Dec.{eqb, ltb}
 use lib.ListN.{length}
 use borrow.Author.Tests.{ne_eqb, eqb-true, eqb-false, lt-ltb, le-ltb, ltb-true, ltb-false}
 use Rattle.basics.specs.If.{when◌then◌else◌}
 use Rattle.basics.proofs.Ifs.{if_yes, if_no, and_true}
+use Rattle.language.specs.declared.refusal.Rule.TheVariants.{WrongField, WrongOrder}
 use Rattle.language.specs.Kinds.{declaration_rank, declarations, file_rank}
 use Rattle.language.specs.declared.kind.Kind.{Kind}
 use Rattle.language.specs.declared.kind.DeclarationKind.{DeclarationKind}
@@ -97,7 +98,7 @@ early_rank (Expression k) n l m = absurd (omega arith)
 early_rank Unknown n l m = absurd (omega arith)
 
 -- ---- a file without fault stands by ranks: refusal 6
-pub kind_fine_lem : (fs : List Frame) → ((j : ℕ) → Fault fs 5 j → ⊥) → (j : ℕ) → j < length fs
+pub kind_fine_lem : (fs : List Frame) → ((j : ℕ) → Fault fs WrongField j → ⊥) → (j : ℕ) → j < length fs
     → kind_fine fs j (frame_at fs j).kind ≡ true
 unfolding frame_fine
 kind_fine_lem fs h j l = go (frame_fine fs j (frame_at fs j)) refl
@@ -115,12 +116,12 @@ sorted fs h i j l k r = go (frame_at fs j).kind refl
       where
         by : (b : Bool) → ltb (declaration_rank d) (file_rank (frame_at fs i).kind) ≡ b
             → file_rank (frame_at fs i).kind ≤ declaration_rank d
-        by true q = absurd (h 6 j (Fault.misplaced {d = d} l k e (ltb-true _ _ q)))
+        by true q = absurd (h WrongOrder j (Fault.misplaced {d = d} l k e (ltb-true _ _ q)))
         by false q = ltb-false _ _ q
 
     go : (x : Kind) → (frame_at fs j).kind ≡ x → rank_of (frame_at fs i) ≤ rank (frame_at fs j).kind
     go Header e =
-        absurd (let z : eqb j 0 ≡ true = ap (kind_fine fs j) (sym e) ∙ kind_fine_lem fs (λ j f. h 5 j f) j k in let y = eqb-true j 0 z in omega arith)
+        absurd (let z : eqb j 0 ≡ true = ap (kind_fine fs j) (sym e) ∙ kind_fine_lem fs (λ j f. h WrongField j f) j k in let y = eqb-true j 0 z in omega arith)
     go (Declared d) e = rw e (early_rank (frame_at fs i).kind (declaration_rank d) (in_place d e) (declared_rank d))
     go Module e = rw e (omega arith)
     go (Statement x) e = rw e (omega arith)

@@ -19,7 +19,7 @@ use Rattle.drawing.specs.Drawings.{Drawn, Field, size, size_in, root_from}
 use Rattle.drawing.specs.Drawings.{root_line, lined, lined_in, lined_all, drawn, rank}
 use Rattle.drawing.specs.Drawings.{ranks, levels, numbered, roots_to, drawing, laid_out}
 use Rattle.drawing.proofs.Heights.{height}
-use Rattle.drawing.proofs.Lines.{frame_of, word_frame}
+use Rattle.drawing.proofs.Lines.{word_frame}
 use Rattle.drawing.proofs.Fields.{class_rank, names_class}
 use Rattle.drawing.proofs.Back.{tree_kind, tree_rank, Fits, FitsIn, lined-length}
 use Rattle.drawing.proofs.Back.{lined_in-length, value_fits, read_back}

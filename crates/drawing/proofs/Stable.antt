@@ -1,7 +1,7 @@
 -- A tree that is at most d deep is the same drawn to d levels or to more. Assumes nothing.
 use mathlib.Core.Path.{◌≡◌, refl, sym, ap, subst}
 use mathlib.Core.List.{List, [], ◌∷◌, ◌++◌}
-use Prim.Native.Nat.{ℕ, ◌+◌, ◌<◌}
+use Prim.Native.Nat.{ℕ, ◌<◌}
 use lib.ListN.{length, get_or}
 use Rattle.basics.specs.Members.{In}
 use Rattle.language.specs.Kinds.{uses, Child, child_in, children}
@@ -9,7 +9,7 @@ use Rattle.language.specs.declared.frame.Frame.{Frame}
 use Rattle.text.specs.Frames.{frame_of_word, frames_of}
 use Rattle.text.proofs.FrameWords.{frame_at_lem}
 use Rattle.program.specs.Trees.{no_frame, frame_at}
-use Rattle.drawing.specs.Drawings.{head_of, Drawn, node, child, field_with}
+use Rattle.drawing.specs.Drawings.{head_of, Drawn, child, field_with}
 use Rattle.drawing.specs.Drawings.{node_with, drawn}
 use Rattle.drawing.proofs.Back.{node_same}
 use Rattle.drawing.proofs.InOrder.{Within, within, in_left, in_right}

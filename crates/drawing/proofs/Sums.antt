@@ -17,7 +17,7 @@ use Rattle.language.specs.Kinds.{Child, children}
 use Rattle.language.specs.declared.frame.Frame.{Frame}
 use Rattle.program.specs.Trees.{frame_at}
 use Rattle.layout.specs.Uses.{times, used}
-use Rattle.drawing.specs.Drawings.{rank, numbered, roots_to}
+use Rattle.drawing.specs.Drawings.{numbered, roots_to}
 use Rattle.drawing.proofs.Roots.{rank_of}
 
 abbrev pub unit : Bool → ℕ

@@ -11,8 +11,8 @@ use borrow.Author.Tests.{eqb-true, eqb-false, ltb-true, ltb-false, leb-true, leb
 use Rattle.basics.specs.If.{when◌then◌else◌}
 use Rattle.basics.specs.Members.{All}
 use Rattle.basics.proofs.Ifs.{if_yes, if_no}
+use Rattle.language.specs.declared.refusal.Rule.TheVariants.{WrongField, WrongOrder}
 use Rattle.language.specs.Kinds.{class_of, Child}
-use Rattle.language.specs.declared.kind.Class.{Class}
 use Rattle.language.specs.declared.kind.Kind.{Kind}
 use Rattle.language.specs.declared.kind.Kind.TheVariants.{Header, Declared, Module, Statement}
 use Rattle.language.specs.declared.kind.Kind.TheVariants.{Expression, Unknown}
@@ -20,7 +20,7 @@ use Rattle.language.specs.declared.frame.Frame.{Frame}
 use Rattle.program.specs.Trees.{frame_at}
 use Rattle.fields.specs.Fields.{kind_fine}
 use Rattle.layout.specs.Order.{Tree, Row, has_class}
-use Rattle.layout.specs.Faults.{Fault, NoFault}
+use Rattle.layout.specs.Faults.{NoFault}
 use Rattle.layout.proofs.Trees.{tree_le, tree_in, From, from_next, from_start}
 use Rattle.layout.proofs.Order.{all_trees}
 use Rattle.layout.proofs.Users.{within_tree, tree_from, one_user}
@@ -101,9 +101,9 @@ module _ (fs : List Frame) (fine : NoFault fs) where
       late h =
           let a = tree_le t in
           let q : ℕ = lo - 1 in
-          let c = rest_class fs q (frame_at fs q).kind (rest q (omega arith) (omega arith)) (kind_fine_lem fs (λ j f. fine 5 j f) q (omega arith)) in
+          let c = rest_class fs q (frame_at fs q).kind (rest q (omega arith) (omega arith)) (kind_fine_lem fs (λ j f. fine WrongField j f) q (omega arith)) in
           let u = one_user fs fine q (omega arith) c in
-          let v = all_trees fs (λ n f. fine 6 n f) u.user u.inside in
+          let v = all_trees fs (λ n f. fine WrongOrder n f) u.user u.inside in
           let m = u.has in
           let x = tree_from v.tree m.among in
           let y = tree_in v.tree m.among in
@@ -150,7 +150,7 @@ module _ (fs : List Frame) (fine : NoFault fs) where
           let r = ltb-true (rank_of f) ranks e in
           let y = same in
           let k : i < length fs = omega arith in
-          let t = all_trees fs (λ n f. fine 6 n f) i k in
+          let t = all_trees fs (λ n f. fine WrongOrder n f) i k in
           let q = touches p i t.from t.tree k (omega arith) l rest before in
           let u : Tree fs p i = (rw q at t.tree) in
           let here : IsRoot i = omega arith in

@@ -8,11 +8,11 @@ use Rattle.text.specs.Frames.{frames_of}
 use Rattle.text.proofs.FrameWords.{frames_length}
 use Rattle.layout.specs.Faults.{NoFault}
 use Rattle.layout.proofs.Scopes.{depth_most}
-use Rattle.drawing.specs.Drawings.{Drawn, size, drawn, lined_all, lined, ranks, levels}
+use Rattle.drawing.specs.Drawings.{Drawn, size, drawn, lined_all, ranks, levels}
 use Rattle.drawing.specs.Drawings.{drawing, laid_out}
-use Rattle.drawing.proofs.InOrder.{part, part_more, part_whole, Same, in_order}
+use Rattle.drawing.proofs.InOrder.{part, part_more, part_whole, in_order}
 use Rattle.drawing.proofs.Roots.{as_they_stand, sorted}
-use Rattle.drawing.proofs.Tiles.{Tiles, done, next, tiles}
+use Rattle.drawing.proofs.Tiles.{Tiles, tiles}
 use Rattle.drawing.proofs.Depths.{root_within}
 
 -- the lines from lo to just before `stop` are those of the trees

@@ -12,6 +12,7 @@ use borrow.Author.Tests.{eq-eqb, eqb-true}
 use Rattle.basics.specs.If.{when◌then◌else◌}
 use Rattle.basics.specs.Members.{In, All}
 use Rattle.basics.proofs.Ifs.{if_yes, if_no}
+use Rattle.language.specs.declared.refusal.Rule.TheVariants.{WrongHeader}
 use Rattle.language.specs.Kinds.{declaration_rank, is_header, kind_of, class_of, uses, Child}
 use Rattle.language.specs.Kinds.{file_rank, child_in, children}
 use Rattle.language.specs.declared.kind.Kind.{Kind}
@@ -28,7 +29,7 @@ use Rattle.fields.specs.Fields.{header_fine}
 use Rattle.fields.proofs.FieldLaws.{fine_header}
 use Rattle.layout.specs.Faults.{Fault}
 use Rattle.program.proofs.NodeLaws.{children_as_lem}
-use Rattle.drawing.specs.Drawings.{head_of, Drawn, node, child, size, field_with}
+use Rattle.drawing.specs.Drawings.{head_of, Drawn, size, field_with}
 use Rattle.drawing.specs.Drawings.{node_with, drawn, lined_all, rank, ranks, levels, numbered}
 use Rattle.drawing.specs.Drawings.{roots_to, drawing, laid_out, module_rank}
 use Rattle.drawing.proofs.Heights.{height, height_in}
@@ -36,7 +37,7 @@ use Rattle.drawing.specs.TreeFaults.{ShapeFault}
 use Rattle.drawing.specs.Writings.{Writable}
 use Rattle.program.specs.Inner.Children.{same_class}
 use Rattle.drawing.proofs.FaultTests.{class_same, class_refl}
-use Rattle.drawing.proofs.Lines.{frame_of, frame_head, frame_fits}
+use Rattle.drawing.proofs.Lines.{frame_head, frame_fits}
 use Rattle.drawing.proofs.Fields.{Held, held}
 use Rattle.drawing.proofs.Back.{tree_kind, tree_rank, Fits, FitsIn}
 use Rattle.drawing.proofs.InOrder.{Within, within, in_left, in_right}
@@ -239,7 +240,7 @@ module _ (ws : List ℕ) (writable : Writable (frames_of ws)) where
     where
       go : (b : Bool) → header_fine Fs ≡ b → (frame_at Fs 0).kind ≡ Header
       go true e = is_header_lem (frame_at Fs 0).kind (fine_header Fs e).kind
-      go false e = absurd (writable.early 4 0 (omega arith) (Fault.header e))
+      go false e = absurd (writable.early WrongHeader 0 (omega arith) (Fault.header e))
 
   pub record Begins (is : List ℕ) : Type 0 where
     pub rest : List ℕ

@@ -4,7 +4,9 @@ use Rattle.std.specs.Prelude.{◌≤◌, ◌≡◌}
 use Rattle.basics.specs.Prelude.{List, ℕ, length}
 use Rattle.language.specs.{declared.frame.Frame.Frame, Verdicts.Verdict}
 use Rattle.language.specs.Verdicts.{Accepted, Rejected}
-use Rattle.language.specs.Refusals.{wrong_field, wrong_tree, wrong_order, too_deep, wrong_state}
+use Rattle.language.specs.Refusals.{rule_number, wrong_field}
+use Rattle.language.specs.declared.refusal.{Rule.Rule, Rule.TheVariants.WrongTree}
+use Rattle.language.specs.declared.refusal.Rule.TheVariants.{WrongOrder, TooDeep, WrongState}
 use Rattle.text.specs.Reading.{Reads, frames, refused}
 use Rattle.layout.specs.Faults.{Fault, FirstFault}
 use Rattle.drawing.specs.Drawings.{drawing, laid_out}
@@ -30,7 +32,7 @@ NoneAt P = (j : ℕ) → P j → ⊥
 
 -- nothing of 4 and 5
 abbrev pub NoEarly : List Frame → Type 0
-NoEarly fs = (n j : ℕ) → n ≤ wrong_field → Fault fs n j → ⊥
+NoEarly fs = (n : Rule) (j : ℕ) → rule_number n ≤ wrong_field → Fault fs n j → ⊥
 
 -- the text's lines, 'as that paper wants', as bytes
 unfoldable pub rewritten : List ℕ → List ℕ
@@ -41,29 +43,30 @@ pub record Writable (fs : List Frame) : Type 0 where
   pub early : NoEarly fs
   pub trees : NoneAt (TreeFault fs)
   pub shaped : NoneAt (ShapeFault fs)
-  pub shallow : NoneAt (Fault fs too_deep)
+  pub shallow : NoneAt (Fault fs TooDeep)
 
 -- `HasWriting bs out w`: of the text bs, lent the buffer out, the writer gives w. 'Turned away: 1
 -- to 7, but none of 8 to 13; 21 .., after 5 and before 6; an output not as long as the text is 14,
 -- tested last.' 1 to 5 and 7 are the check's own. A refusal leaves the buffer as it was
 pub data HasWriting (bs out : List ℕ) : Writing → Type 0 where
-  text : {m j : ℕ} → Reads bs (refused m j) → HasWriting bs out (as_writing (Rejected m j) out)
-  early : {fs : List Frame} {m j : ℕ}
-      → Reads bs (frames fs) → FirstFault fs m j → m ≤ wrong_field
+  text : {m : Rule} {j : ℕ}
+      → Reads bs (refused m j) → HasWriting bs out (as_writing (Rejected m j) out)
+  early : {fs : List Frame} {m : Rule} {j : ℕ}
+      → Reads bs (frames fs) → FirstFault fs m j → rule_number m ≤ wrong_field
       → HasWriting bs out (as_writing (Rejected m j) out)
   tree : {fs : List Frame} {j : ℕ}
       → Reads bs (frames fs) → NoEarly fs → LowestAt (TreeFault fs) j
-      → HasWriting bs out (as_writing (Rejected wrong_tree j) out)
+      → HasWriting bs out (as_writing (Rejected WrongTree j) out)
   shape : {fs : List Frame} {j : ℕ}
       → Reads bs (frames fs) → NoEarly fs → NoneAt (TreeFault fs) → LowestAt (ShapeFault fs) j
-      → HasWriting bs out (as_writing (Rejected wrong_order j) out)
+      → HasWriting bs out (as_writing (Rejected WrongOrder j) out)
   depth : {fs : List Frame} {j : ℕ}
       → Reads bs (frames fs) → NoEarly fs → NoneAt (TreeFault fs) → NoneAt (ShapeFault fs)
-      → LowestAt (Fault fs too_deep) j
-      → HasWriting bs out (as_writing (Rejected too_deep j) out)
+      → LowestAt (Fault fs TooDeep) j
+      → HasWriting bs out (as_writing (Rejected TooDeep j) out)
   unfit : {fs : List Frame}
       → Reads bs (frames fs) → Writable fs → (length out ≡ length bs → ⊥)
-      → HasWriting bs out (as_writing (Rejected wrong_state 0) out)
+      → HasWriting bs out (as_writing (Rejected WrongState 0) out)
   lines : {fs : List Frame}
       → Reads bs (frames fs) → Writable fs → length out ≡ length bs
       → HasWriting bs out (as_writing Accepted (rewritten bs))

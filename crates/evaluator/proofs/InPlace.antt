@@ -5,7 +5,7 @@ use mathlib.Core.List.{List, [], ◌∷◌}
 use Prim.Native.Nat.{ℕ, zero, suc, ◌+◌, ◌-◌, ◌<◌, ◌≤◌}
 use native.Mathlib.Omega.{arith}
 use native.Mathlib.Nat.{lt_trans}
-use lib.ListN.{length, get_or, take, drop}
+use lib.ListN.{get_or, take, drop}
 use lib.Seq.{take-take, get_or-take, get_or-set_other, drop-set-lt}
 use Rattle.language.specs.Limits.{most_variables}
 use Rattle.text.specs.Frames.{frames_of}
@@ -68,10 +68,9 @@ module _ (who : Who) (w v : List ℕ) where
       ∙ rest_part w from n beyond before
 
   -- the words after a call may be lent again
-  pub lent_again : Lent who w → lent_rest v ≡ lent_rest w → length v ≡ length w → Lent who v
-  lent_again l e s =
+  pub lent_again : Lent who w → lent_rest v ≡ lent_rest w → Lent who v
+  lent_again l e =
       record {
-        all = s ∙ l.all;
         first = l.first;
         last = l.last;
         few = subst (λ (n : ℕ). n ≤ most_variables) (sym (count_kept e l)) l.few;
@@ -79,16 +78,15 @@ module _ (who : Who) (w v : List ℕ) where
 
 -- ---- what a call requires: each goes to an operand, so the frame number itself falls
 pub falls_in : (ws : List ℕ) (i a t : ℕ) (who : Who) (w v : List ℕ)
-    → (i ≡ t) × (FrameWords ws i × Lent who w) → a < i → lent_rest v ≡ lent_rest w → length v
-    ≡ length w
+    → (i ≡ t) × (FrameWords ws i × Lent who w) → a < i → lent_rest v ≡ lent_rest w
     → (a < t) × (FrameWords ws a × Lent who v)
-falls_in ws i a t who w v p l e s =
+falls_in ws i a t who w v p l e =
     let same = p.0 in
     let h = p.1.0 in (
       omega arith,
       (
         record { ordered = h.ordered; placed = h.placed; there = lt_trans l h.there },
-        lent_again who w v p.1.1 e s,
+        lent_again who w v p.1.1 e,
       ),
     )
 

@@ -1,4 +1,7 @@
-// Evaluation: numbers and truths call each other, and the frame number falls at each call.
+//! Evaluation: numbers and truths call each other, and the frame number falls at each call.
+// The cycle of three stays: document 01 names it, and a cycle through a trait's method gets no
+// proof. `frames`, `who` and `state` are no struct: one that holds the state to write in would owe
+// each function a clause on what it leaves there.
 ghost use Rattle.std.specs.Prelude.{◌≡◌};
 ghost use Rattle.text.specs.Frames.{frames_of};
 ghost use Rattle.program.specs.Trees.{frame_at, expression_at};
@@ -10,7 +13,7 @@ ghost use Rattle.evaluator.specs.Inner.Results.{evaluated_on, stored_on};
 ghost use Rattle.evaluator.specs.Inner.Results.{LentWords, FrameWords};
 ghost use Rattle.evaluator.specs.Inner.ByWords.{eval_in, wanted_in, number_in, truth_in};
 
-use machine::offset::{THREAD_LENGTH, THREADS_AT, VARIABLES_FIELD};
+use machine::offset::{State, THREAD_LENGTH, THREADS_AT, VARIABLES_FIELD};
 use machine::value::Outcome;
 use operations::Who;
 use operations::operand::{
@@ -26,22 +29,22 @@ fn node_at(frames: &[u64], i: u16) -> ExpressionNode
     requires { FrameWords frames.now i }
     ensures { result ≡ expression_node (frame_at (frames_of frames.now) i) }
 {
-    expression_node(frame_of_word(frames[i as usize]))
+    expression_node(frame_of_word(frames[usize::from(i)]))
 }
 
 // A leaf, with the acting thread's variables where they lie.
-fn leaf_at(who: Who, state: &[u64], l: Leaf) -> Outcome
+fn leaf_at(who: Who, state: &State, l: Leaf) -> Outcome
     requires { Lent who state.now }
     ensures { result ≡ leaf_in who (lent_variables who state.now) l }
 {
-    let at = THREADS_AT + THREAD_LENGTH * (who.thread as usize - 1) + VARIABLES_FIELD;
+    let at = THREADS_AT + THREAD_LENGTH * (usize::from(who.thread) - 1) + VARIABLES_FIELD;
     let count = state[at] as usize;
     leaf(who, &state[at + 1..at + 1 + count], l)
 }
 
 // The value of frame i, of any kind.
 #[cycle(number_at_truth_at_value_at)]
-fn value_at(frames: &[u64], who: Who, state: &mut [u64], i: u16) -> Outcome
+fn value_at(frames: &[u64], who: Who, state: &mut State, i: u16) -> Outcome
     requires { FrameWords frames.now i × Lent who state.old }
     ensures found { result_in result state.new
         ≡ on_lent (eval_in who (expression_at (frames_of frames.now) i)) who
@@ -76,7 +79,7 @@ fn value_at(frames: &[u64], who: Who, state: &mut [u64], i: u16) -> Outcome
 // The number of frame i. A wrong kind is not refused here: it waits until the frame that wants the
 // number has evaluated all that it evaluates.
 #[cycle(number_at_truth_at_value_at)]
-fn number_at(frames: &[u64], who: Who, state: &mut [u64], i: u16) -> Operand
+fn number_at(frames: &[u64], who: Who, state: &mut State, i: u16) -> Operand
     requires { FrameWords frames.now i × Lent who state.old }
     ensures found { wanted_in result state.new
         ≡ on_lent (number_in who (expression_at (frames_of frames.now) i)) who
@@ -110,7 +113,7 @@ fn number_at(frames: &[u64], who: Who, state: &mut [u64], i: u16) -> Operand
 
 // The truth of frame i. A wrong kind is refused here: 28's condition is tested before its branch.
 #[cycle(number_at_truth_at_value_at)]
-fn truth_at(frames: &[u64], who: Who, state: &mut [u64], i: u16) -> Outcome
+fn truth_at(frames: &[u64], who: Who, state: &mut State, i: u16) -> Outcome
     requires { FrameWords frames.now i × Lent who state.old }
     ensures found { result_in result state.new
         ≡ on_lent (truth_in who (expression_at (frames_of frames.now) i)) who
@@ -142,12 +145,12 @@ fn truth_at(frames: &[u64], who: Who, state: &mut [u64], i: u16) -> Outcome
     }
 }
 
-// The value of frame i of a file, on the state that the words are: the acting thread's variables
-// are read where they lie, and nothing but the cells and their count is written. Each `requires`
-// is what refusals 3, 5, 6 and 14 leave: the words of cells and of values are in range, the
-// thread's variables fit their space, children stand before their parents, an owner is a place,
-// and frame i is there.
-pub fn evaluate(frames: &[u64], who: Who, state: &mut [u64], i: u16) -> Outcome
+/// The value of frame i of a file, on the state that the words are: the acting thread's variables
+/// are read where they lie, and nothing but the cells and their count is written. Each `requires`
+/// is what refusals 3, 5, 6 and 14 leave: the words of cells and of values are in range, the
+/// thread's variables fit their space, children stand before their parents, an owner is a place,
+/// and frame i is there.
+pub fn evaluate(frames: &[u64], who: Who, state: &mut State, i: u16) -> Outcome
     requires { FrameWords frames.now i × LentWords who state.old }
     ensures found { result_in result state.new
         ≡ on_lent (evaluated_on who (expression_at (frames_of frames.now) i)) who
@@ -157,9 +160,9 @@ pub fn evaluate(frames: &[u64], who: Who, state: &mut [u64], i: u16) -> Outcome
     value_at(frames, who, state, i)
 }
 
-// 17: the value of frame b stored in the cell that frame a gives. It asks the same of its words,
-// and that both frames are there.
-pub fn store(frames: &[u64], who: Who, state: &mut [u64], a: u16, b: u16) -> Outcome
+/// 17: the value of frame b stored in the cell that frame a gives. It asks the same of its words,
+/// and that both frames are there.
+pub fn store(frames: &[u64], who: Who, state: &mut State, a: u16, b: u16) -> Outcome
     requires { FrameWords frames.now a × FrameWords frames.now b
         × LentWords who state.old }
     ensures found { result_in result state.new

@@ -1,4 +1,4 @@
-// The evaluator: expressions on lent words, a word for each cell.
+//! The evaluator: expressions on lent words, a word for each cell.
 #![tactic(auto)]
 
 pub mod evaluation;

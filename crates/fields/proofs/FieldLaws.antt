@@ -1,30 +1,26 @@
 -- How the code tests the header and the values of fields: places, types, first contents. Assumes
 -- nothing.
 use mathlib.Core.Path.{◌≡◌, refl, sym, ap, ◌∙◌}
-use mathlib.Core.Bool.{Bool, true, false, not, ◌&&◌}
+use mathlib.Core.Bool.{Bool, true, false, ◌&&◌}
 use mathlib.Core.List.{List}
-use mathlib.Core.Option.{Option, none, some}
+use Rattle.std.specs.Prelude.{Option, Some, None}
 use Prim.Native.Nat.{ℕ, ◌%◌, ◌≤◌, ◌<◌}
 use native.Mathlib.Omega.{arith}
-use lib.Dec.{ltb, leb, eqb}
+use lib.Dec.{leb, eqb}
 use lib.ListN.{length, get_or, take, length-take}
 use lib.Seq.{get_or-take}
-use borrow.Author.Tests.{lt-ltb, le-ltb, le-leb, lt-leb, leb-true, eq-eqb, ne_eqb, not-true}
-use borrow.Author.Tests.{not-false, eqb-true}
+use borrow.Author.Tests.{lt-ltb, le-ltb, le-leb, lt-leb, leb-true, eq-eqb, ne_eqb}
+use borrow.Author.Tests.{eqb-true}
 use Rattle.basics.specs.If.{when◌then◌else◌}
 use Rattle.basics.proofs.Ifs.{yes, no, if_all, and_true, and_off}
 use Rattle.language.specs.Kinds.{is_header, is_event}
-use Rattle.language.specs.Places.{has_place, has_scheduler}
 use Rattle.language.specs.Types.{is_cell, type_word}
 use Rattle.language.specs.declared.frame.Frame.{Frame}
 use Rattle.text.specs.Frames.{frames_of}
 use Rattle.program.specs.Trees.{frame_at}
-use Rattle.fields.specs.declared.fault_search.FaultSearch.{FaultSearch}
-use Rattle.fields.specs.declared.fault_search.FaultSearch.TheVariants.{At, Nowhere}
-use Rattle.fields.specs.declared.field.Tally.{Tally}
 use Rattle.fields.specs.Fields.{count_of, header_fine, schedulers_of, event_count_of}
 use Rattle.fields.specs.Fields.{first_content_fine}
-use Rattle.fields.specs.Inner.Scans.{header_alone, header_fault, found}
+use Rattle.fields.specs.Inner.Scans.{header_alone, header_fault}
 
 -- ---- the header
 -- the number of events is asked last
@@ -38,20 +34,20 @@ module _ (ws : List ℕ) (f : Frame) (b : Bool) (e : f ≡ frame_at (frames_of w
       → header_fine (frames_of ws) ≡ t
   fine_by t q = sym (fine_split (frames_of ws) b (h ∙ ap header_alone e)) ∙ ap (λ (g : Frame). b && eqb (count_of is_event (frames_of ws)) g.c) (sym e) ∙ q
 
-  wrong : header_fine (frames_of ws) ≡ false → At 0 ≡ found (header_fault (frames_of ws))
+  wrong : header_fine (frames_of ws) ≡ false → Some 0 ≡ header_fault (frames_of ws)
   unfolding header_fault
-  wrong t = ap found (no none t refl)
+  wrong t = no None t refl
 
-  pub header_wrong : not b ≡ true → At 0 ≡ found (header_fault (frames_of ws))
-  header_wrong t = wrong (fine_by false (rw (not-true b t)))
+  pub header_wrong : b ≡ false → Some 0 ≡ header_fault (frames_of ws)
+  header_wrong t = wrong (fine_by false (rw t))
 
-  module _ (n : ℕ) (k : n ≡ count_of is_event (frames_of ws)) where
-    pub header_count : (n ≡ f.c → ⊥) → At 0 ≡ found (header_fault (frames_of ws))
-    header_count o = wrong (fine_by false (rw (ne_eqb _ _ (λ (q : count_of is_event (frames_of ws) ≡ f.c). o (k ∙ q))) (and_off b)))
+  module _ (n m : ℕ) (k : n ≡ count_of is_event (frames_of ws)) (w : m ≡ f.c) where
+    pub header_count : (n ≡ m → ⊥) → Some 0 ≡ header_fault (frames_of ws)
+    header_count o = wrong (fine_by false (rw (ne_eqb _ _ (λ (q : count_of is_event (frames_of ws) ≡ f.c). o (k ∙ q ∙ sym w))) (and_off b)))
 
-    pub header_there : not b ≡ false → n ≡ f.c → Nowhere ≡ found (header_fault (frames_of ws))
+    pub header_there : b ≡ true → n ≡ m → None ≡ header_fault (frames_of ws)
     unfolding header_fault
-    header_there t q = ap found (yes (some 0) (fine_by true (rw (not-false b t, eq-eqb _ _ (sym k ∙ q)))) refl)
+    header_there t q = yes (Some 0) (fine_by true (rw (t, eq-eqb _ _ (sym k ∙ q ∙ w)))) refl
 
 pub ruleset header_faults = (header_wrong, header_count, header_there)
 
@@ -79,33 +75,14 @@ fine_header fs h =
       all_events = eqb-true _ _ a.1;
     }
 
-pub few_schedulers : (fs : List Frame) (x : FaultSearch) → x ≡ Nowhere → x ≡ found (header_fault fs)
-    → schedulers_of fs ≤ 8
+pub few_schedulers : (fs : List Frame) → header_fault fs ≡ None → schedulers_of fs ≤ 8
 unfolding header_fault
-few_schedulers fs x e h = if_all (λ (o : Option ℕ). found o ≡ Nowhere → schedulers_of fs ≤ 8) (header_fine fs) none (some 0) (λ t q. (fine_header fs t).few_schedulers) (λ t q. absurd (let z : ◌≡◌ {A = ℕ} 0 1 = cc in omega arith)) (sym h ∙ e)
+few_schedulers fs e = if_all (λ (o : Option ℕ). o ≡ None → schedulers_of fs ≤ 8) (header_fine fs) None (Some 0) (λ t q. (fine_header fs t).few_schedulers) (λ t q. absurd (let z : ◌≡◌ {A = ℕ} 0 1 = cc in omega arith)) e
 
 pub schedulers_are : (ws : List ℕ) (f : Frame) → f ≡ frame_at (frames_of ws) 0
     → schedulers_of (frames_of ws) ≤ 8 → f.b % 256 ≡ schedulers_of (frames_of ws)
 schedulers_are ws f e l =
     let q : f.b ≡ schedulers_of (frames_of ws) = ap (λ (g : Frame). g.b) e in omega arith
-
--- ---- places and schedulers, of as many schedulers as the code reads
-module _ (fs : List Frame) (v b : ℕ) (r : Bool) (e : b ≡ schedulers_of fs) where
-  pub place_as : r ≡ has_place b v → r ≡ has_place (schedulers_of fs) v
-  place_as h = h ∙ ap (λ (n : ℕ). has_place n v) e
-
-  pub scheduler_as : r ≡ has_scheduler b v → r ≡ has_scheduler (schedulers_of fs) v
-  scheduler_as h = h ∙ ap (λ (n : ℕ). has_scheduler n v) e
-
--- ---- a scheduler below s
-module _ (fs : List Frame) (s v b : ℕ) (x : Bool) (e : b ≡ schedulers_of fs) (h : x ≡ has_scheduler b v) where
-  pub lower_none : not x ≡ true → false ≡ (has_scheduler (schedulers_of fs) v && ltb v s)
-  lower_none n = rw (sym (scheduler_as fs v b x e h) ∙ not-true x n)
-
-  pub lower_some : not x ≡ false → ltb v s ≡ (has_scheduler (schedulers_of fs) v && ltb v s)
-  lower_some n = rw (sym (scheduler_as fs v b x e h) ∙ not-false x n)
-
-pub ruleset lower_laws = (lower_none, lower_some)
 
 -- ---- the other fields
 module _ (b n s v : ℕ) where
@@ -118,24 +95,24 @@ module _ (b n s v : ℕ) where
 
 pub ruleset type_laws = (type_unused, type_used)
 
-module _ (t : Tally) (k v : ℕ) (x : Bool) (h : x ≡ is_cell k) where
-  pub content_past : x ≡ true → t.cells ≤ v
-      → false ≡ first_content_fine (take t.cells t.types) k v
+-- of n cells in an array; j is v, as the code has it
+module _ (ts : List ℕ) (n k v j : ℕ) (w : j ≡ v) (x : Bool) (h : x ≡ is_cell k) where
+  pub content_past : x ≡ true → n ≤ j → false ≡ first_content_fine (take n ts) k v
   unfolding first_content_fine
-  content_past c l = yes _ (sym h ∙ c) (rw (le-ltb v (length (take t.cells t.types)) (let m = length-take t.cells t.types in omega arith)))
+  content_past c l = yes _ (sym h ∙ c) (rw (le-ltb v (length (take n ts)) (let m = length-take n ts in omega arith)))
 
-  pub content_cell : x ≡ true → v < t.cells → t.cells ≤ 16 → length t.types ≡ 16
-      → eqb (get_or t.types v 0) k ≡ first_content_fine (take t.cells t.types) k v
+  pub content_cell : x ≡ true → j < n → n ≤ 16 → length ts ≡ 16
+      → eqb (get_or ts j 0) k ≡ first_content_fine (take n ts) k v
   unfolding first_content_fine
-  content_cell c l m o = yes _ (sym h ∙ c) (rw (lt-ltb v (length (take t.cells t.types)) (let q = length-take t.cells t.types in omega arith), get_or-take t.cells t.types v 0 l))
+  content_cell c l m o =
+      rw w (yes _ (sym h ∙ c) (rw (lt-ltb v (length (take n ts)) (let q = length-take n ts in omega arith), get_or-take n ts v 0 (omega arith))))
 
-  pub content_number : x ≡ false → (k ≡ 2 → ⊥)
-      → true ≡ first_content_fine (take t.cells t.types) k v
+module _ (ts : List ℕ) (k v : ℕ) (x : Bool) (h : x ≡ is_cell k) where
+  pub content_number : x ≡ false → (k ≡ 2 → ⊥) → true ≡ first_content_fine ts k v
   unfolding first_content_fine
   content_number c n = no _ (sym h ∙ c) (rw (ne_eqb k 2 n))
 
-  pub content_truth : x ≡ false → k ≡ 2
-      → leb v 1 ≡ first_content_fine (take t.cells t.types) k v
+  pub content_truth : x ≡ false → k ≡ 2 → leb v 1 ≡ first_content_fine ts k v
   unfolding first_content_fine
   content_truth c n = no _ (sym h ∙ c) (rw (eq-eqb k 2 n))
 

@@ -1,10 +1,10 @@
 -- How the code tests the fields of a frame by its kind. Assumes nothing.
 use mathlib.Core.Path.{◌≡◌, refl, sym, ap, ap₂, ◌∙◌}
 use mathlib.Core.Bool.{Bool, true, false, ◌&&◌}
-use mathlib.Core.List.{List, []}
+use mathlib.Core.List.{List}
 use Prim.Native.Nat.{ℕ}
 use lib.Dec.{ltb, leb, eqb}
-use lib.ListN.{take}
+use lib.ListN.{length, take}
 use Rattle.basics.specs.If.{when◌then◌else◌}
 use Rattle.language.specs.Places.{has_scheduler}
 use Rattle.language.specs.Types.{type_word, content_word}
@@ -18,31 +18,11 @@ use Rattle.language.specs.declared.kind.Kind.TheVariants.{Header, Declared, Modu
 use Rattle.language.specs.declared.kind.Kind.TheVariants.{Expression, Unknown}
 use Rattle.language.specs.declared.frame.Frame.{Frame}
 use Rattle.program.specs.Trees.{frame_at}
-use Rattle.fields.specs.declared.field.Tally.{Tally}
 use Rattle.fields.specs.Fields.{schedulers_of, first_content_fine, field_fine, count_of, kind_fine}
 use Rattle.fields.specs.Fields.{frame_fine}
-use Rattle.fields.specs.Inner.Scans.{fields_fine, tally_of}
-use Rattle.fields.proofs.Tallies.{tally_cells, tally_modules, types_taken}
-
--- ---- which fields are in use
-pub all_s : (f : Frame) → eqb f.s 0 ≡ fields_fine [] 0 f (statement_uses StatementKind.If)
-all_s f = go (eqb f.s 0)
-  where
-    go : (b : Bool) → b ≡ (b && true && true && true)
-    go true = refl
-    go false = refl
-
--- ---- each arm of the matches on kinds
-module _ (fs : List Frame) (f : Frame) (r : Bool) where
-  pub statement_row : (k v : StatementKind) → k ≡ v → r ≡ fields_fine fs 0 f (statement_uses v)
-      → r ≡ fields_fine fs 0 f (statement_uses k)
-  statement_row k v e h =
-      h ∙ ap (λ (w : StatementKind). fields_fine fs 0 f (statement_uses w)) (sym e)
-
-  pub expression_row : (k v : ExpressionKind) → k ≡ v → r ≡ fields_fine fs 0 f (expression_uses v)
-      → r ≡ fields_fine fs 0 f (expression_uses k)
-  expression_row k v e h =
-      h ∙ ap (λ (w : ExpressionKind). fields_fine fs 0 f (expression_uses w)) (sym e)
+use Rattle.fields.specs.Inner.Scans.{fields_fine}
+use Rattle.fields.specs.Inner.Tallies.{Counted, tally_of}
+use Rattle.fields.proofs.Tallies.{tally_cells, tally_modules, types_are}
 
 -- ---- a shared cell, a module
 abbrev fine_as : List Frame → ℕ → Frame → Kind → Bool
@@ -53,26 +33,28 @@ fine_as_lem : (fs : List Frame) (i : ℕ) (f : Frame) (k : Kind) → f.kind ≡ 
 unfolding frame_fine
 fine_as_lem fs i f k e = ap (fine_as fs i f) (sym e)
 
-module _ (fs : List Frame) (i : ℕ) (f : Frame) (t : Tally) (q : t ≡ tally_of (take i fs)) where
+-- b is how many schedulers there are, t the tally of the frames before f
+module _ (fs : List Frame) (i b : ℕ) (f : Frame) (t : Counted) (q : t ≡ tally_of (take i fs))
+    (e : b ≡ schedulers_of fs) where
   pub cell_split : f.kind ≡ Declared Shared
       → frame_fine fs i f
-      ≡ (ltb t.cells 16 && has_scheduler (schedulers_of fs) f.s && content_word (schedulers_of fs) f.a
-      && first_content_fine (take t.cells t.types) f.a f.b && eqb f.c 0)
-  cell_split e =
-      sym (fine_as_lem fs i f (Declared Shared) e)
+      ≡ (ltb (length t.types) 16 && has_scheduler b f.s && content_word b f.a
+      && first_content_fine t.types f.a f.b && eqb f.c 0)
+  cell_split k =
+      sym (fine_as_lem fs i f (Declared Shared) k)
       ∙ ap₂ (λ (n : ℕ) (ts : List ℕ). ltb n 16 && has_scheduler (schedulers_of fs) f.s && content_word (schedulers_of fs) f.a && first_content_fine ts f.a f.b && eqb f.c 0)
-      (sym (tally_cells (take i fs) t q)) (sym (types_taken (take i fs) t q))
+      (sym (tally_cells (take i fs) t q)) (sym (types_are (take i fs) t q))
+      ∙ ap (λ (n : ℕ). ltb (length t.types) 16 && has_scheduler n f.s && content_word n f.a && first_content_fine t.types f.a f.b && eqb f.c 0) (sym e)
 
   pub module_split : f.kind ≡ Module
       → frame_fine fs i f
-      ≡ (ltb t.modules 16 && leb f.s 2
-      && (when leb 1 f.s then type_word (schedulers_of fs) f.b else eqb f.b 0)
-      && (when leb 2 f.s then type_word (schedulers_of fs) f.c else eqb f.c 0))
-  module_split e =
-      sym (fine_as_lem fs i f Module e)
+      ≡ (ltb t.modules 16 && leb f.s 2 && (when leb 1 f.s then type_word b f.b else eqb f.b 0)
+      && (when leb 2 f.s then type_word b f.c else eqb f.c 0))
+  module_split k =
+      sym (fine_as_lem fs i f Module k)
       ∙ ap (λ (x : Bool). x && (when leb 1 f.s then type_word (schedulers_of fs) f.b else eqb f.b 0) && (when leb 2 f.s then type_word (schedulers_of fs) f.c else eqb f.c 0)) (child (ltb (count_of is_module (take i fs)) 16 && leb f.s 2))
-      ∙ ap (λ (n : ℕ). ltb n 16 && leb f.s 2 && (when leb 1 f.s then type_word (schedulers_of fs) f.b else eqb f.b 0) && (when leb 2 f.s then type_word (schedulers_of fs) f.c else eqb f.c 0))
-      (sym (tally_modules (take i fs) t q))
+      ∙ ap₂ (λ (m n : ℕ). ltb m 16 && leb f.s 2 && (when leb 1 f.s then type_word n f.b else eqb f.b 0) && (when leb 2 f.s then type_word n f.c else eqb f.c 0))
+      (sym (tally_modules (take i fs) t q)) (sym e)
     where
       -- A names a child, whatever it is
       child : (x : Bool) → (x && true) ≡ x

@@ -1,12 +1,12 @@
 -- The code's pass of refusal 5 over the kinds and fields of the frames, with a running tally.
 -- Assumes nothing.
 use mathlib.Core.Path.{◌≡◌, refl, sym, ap, ◌∙◌}
-use mathlib.Core.Bool.{Bool, true, false, true≢false, not, ◌&&◌, ◌||◌}
+use mathlib.Core.Bool.{Bool, true, false, not, ◌&&◌}
 use mathlib.Core.List.{List, [], ◌∷◌, ◌++◌}
 use Prim.Native.Nat.{ℕ, ◌+◌, ◌≤◌, ◌<◌}
 use native.Mathlib.Omega.{arith}
 use lib.Dec.{ltb, leb}
-use lib.ListN.{length, take, set, replicate}
+use lib.ListN.{length, take}
 use borrow.Author.Tests.{ltb-true, ltb-false, leb-true, not-false}
 use Rattle.basics.proofs.Ifs.{and_true}
 use Rattle.language.specs.Limits.{most_shared}
@@ -14,7 +14,7 @@ use Rattle.language.specs.Places.{is_place, has_scheduler}
 use Rattle.language.specs.Types.{cell_depth, cell_type, public, type_word, content_word, room_around}
 use Rattle.language.specs.Kinds.{is_shared, is_module, uses}
 use Rattle.language.specs.declared.kind.Kind.{Kind}
-use Rattle.language.specs.declared.kind.DeclarationKind.TheVariants.{Shared, Event, Link}
+use Rattle.language.specs.declared.kind.DeclarationKind.TheVariants.{Shared}
 use Rattle.language.specs.declared.kind.Kind.TheVariants.{Declared, Module}
 use Rattle.language.specs.declared.frame.Frame.{Frame}
 use Rattle.language.proofs.Words.{depth_3}
@@ -23,13 +23,13 @@ use Rattle.text.specs.Frames.{frames_of}
 use Rattle.program.specs.Trees.{frame_at}
 use Rattle.program.specs.Programs.{shared_of}
 use Rattle.program.proofs.FrameLaws.{frames_more}
-use Rattle.fields.specs.declared.fault_search.FaultSearch.TheVariants.{At, Nowhere}
-use Rattle.fields.specs.declared.field.Tally.{Tally}
+use Rattle.std.specs.Prelude.{Some, None}
 use Rattle.fields.specs.Fields.{schedulers_of, field_fine, count_of, kind_fine, frame_fine}
-use Rattle.fields.specs.Inner.Scans.{field_fault, found, tally_of}
+use Rattle.fields.specs.Inner.Scans.{field_fault}
+use Rattle.fields.specs.Inner.Tallies.{Counted, tallied, tally_of}
 use Rattle.fields.proofs.Seeking.{Seeking, seek_here, seek_next, seek_end}
-use Rattle.fields.proofs.Tallies.{tally, is_shared_lem, tally_cells, tally_modules, counted_one}
-use Rattle.fields.proofs.Tallies.{counted_none, tally_other, tally_module, tally_cell}
+use Rattle.fields.proofs.Tallies.{told_shared, told_module, tally_cells, tally_modules}
+use Rattle.fields.proofs.Tallies.{tally_other, tally_module, tally_cell}
 
 -- ---- the tally with one frame more
 -- a content type has at most two cells, so there is room for one around it
@@ -76,11 +76,11 @@ module _ (fs : List Frame) (i : ℕ) (f : Frame) (fine : frame_fine fs i f ≡ t
       let asked : Kind → Bool = λ (q : Kind). field_fine fs i f (uses q).a f.a in
       word_room (schedulers_of fs) f.a (sym (ap asked k) ∙ (fine_parts fs i f fine).2)
 
-module _ (ws : List ℕ) (i : ℕ) (f : Frame) (t : Tally) (e : f ≡ frame_at (frames_of ws) i) (h : t ≡ tally_of (take i (frames_of ws))) (fine : frame_fine (frames_of ws) i (frame_at (frames_of ws) i) ≡ true) where
+module _ (ws : List ℕ) (i : ℕ) (f : Frame) (t : Counted) (e : f ≡ frame_at (frames_of ws) i) (h : t ≡ tally_of (take i (frames_of ws))) (fine : frame_fine (frames_of ws) i (frame_at (frames_of ws) i) ≡ true) where
   fine_f : frame_fine (frames_of ws) i f ≡ true
   fine_f = ap (frame_fine (frames_of ws) i) e ∙ fine
 
-  pub cell_room : f.kind ≡ Declared Shared → t.cells < 16
+  pub cell_room : f.kind ≡ Declared Shared → length t.types < 16
   cell_room k =
       let b = shared_few (frames_of ws) i f fine_f k in
       let c = tally_cells (take i (frames_of ws)) t h in
@@ -99,48 +99,28 @@ module _ (ws : List ℕ) (i : ℕ) (f : Frame) (t : Tally) (e : f ≡ frame_at (
   pub shared_room : f.kind ≡ Declared Shared → room_around f.a ≡ true
   shared_room k = content_room (frames_of ws) i f fine_f k
 
-  pub with_other : (k : Kind) → f.kind ≡ k → is_shared k ≡ false → is_module k ≡ false
-      → i < length ws → t ≡ tally_of (take (i + 1) (frames_of ws))
-  with_other k q s m l =
-      tally_other (take i (frames_of ws)) f t h (ap is_shared q ∙ s) (ap is_module q ∙ m)
+  pub with_other : (x y : Bool) → x ≡ is_shared f.kind → x ≡ false → y ≡ is_module f.kind
+      → y ≡ false → i < length ws → t ≡ tally_of (take (i + 1) (frames_of ws))
+  with_other x y p s q m l =
+      tally_other (take i (frames_of ws)) f t h (sym p ∙ s) (sym q ∙ m)
       ∙ ap tally_of (frames_more ws i f e l)
 
-  pub with_event : f.kind ≡ Declared Event → i < length ws
-      → t ≡ tally_of (take (i + 1) (frames_of ws))
-  with_event q l = with_other (Declared Event) q refl refl l
-
-  pub with_link : f.kind ≡ Declared Link → i < length ws
-      → t ≡ tally_of (take (i + 1) (frames_of ws))
-  with_link q l = with_other (Declared Link) q refl refl l
-
-  pub with_module : (r : Tally) → f.kind ≡ Module
-      → r ≡ tally t.cells (t.modules + 1) t.types → i < length ws
+  pub with_module : (r : Counted) → f.kind ≡ Module
+      → r ≡ tallied t.types (t.modules + 1) → i < length ws
       → r ≡ tally_of (take (i + 1) (frames_of ws))
   with_module r q g l =
       g ∙ tally_module (take i (frames_of ws)) f t h (ap is_shared q) (ap is_module q)
       ∙ ap tally_of (frames_more ws i f e l)
 
-  pub with_shared : (r : Tally) (w : ℕ) → f.kind ≡ Declared Shared → w ≡ cell_type f.s f.a
-      → r ≡ tally (t.cells + 1) t.modules (set t.types t.cells w) → i < length ws
+  pub with_shared : (r : Counted) (w : ℕ) → f.kind ≡ Declared Shared → w ≡ cell_type f.s f.a
+      → r ≡ tallied (t.types ++ (w ∷ [])) t.modules → i < length ws
       → r ≡ tally_of (take (i + 1) (frames_of ws))
   with_shared r w q v g l =
-      g ∙ ap (λ (x : ℕ). tally (t.cells + 1) t.modules (set t.types t.cells x)) v
-      ∙ tally_cell (take i (frames_of ws)) f t h (ap is_shared q) (ap is_module q) (cell_room q)
+      g ∙ ap (λ (x : ℕ). tallied (t.types ++ (x ∷ [])) t.modules) v
+      ∙ tally_cell (take i (frames_of ws)) f t h (ap is_shared q) (ap is_module q)
       ∙ ap tally_of (frames_more ws i f e l)
 
-pub ruleset counted_laws = (with_module, with_shared, with_event, with_link, with_other)
-
--- a frame of another kind leaves the tally as it is
-pub tally_kept : (ws : List ℕ) (i : ℕ) (f : Frame) (t : Tally) (x : Bool)
-    → f ≡ frame_at (frames_of ws) i → x ≡ (is_shared f.kind || is_module f.kind) → x ≡ false
-    → t ≡ tally_of (take i (frames_of ws)) → i < length ws → t ≡ tally_of (take (i + 1) (frames_of ws))
-tally_kept ws i f t x e p n h l =
-    let z = or_false (is_shared f.kind) (is_module f.kind) (sym p ∙ n) in
-    tally_other (take i (frames_of ws)) f t h z.0 z.1 ∙ ap tally_of (frames_more ws i f e l)
-  where
-    or_false : (a b : Bool) → (a || b) ≡ false → (a ≡ false) × (b ≡ false)
-    or_false true b q = absurd (true≢false q)
-    or_false false b q = (refl, q)
+pub ruleset counted_laws = (with_module, with_shared, with_other, told_shared, told_module)
 
 -- ---- the loop
 abbrev field_test : List Frame → ℕ → Frame → Bool
@@ -149,16 +129,16 @@ field_test fs i f = not (frame_fine fs i f)
 abbrev pub SeekingField : List Frame → ℕ → Type 0
 SeekingField fs i = Seeking (field_test fs) fs i
 
-pub tally_start : (fs : List Frame) → tally 0 0 (replicate 16 0) ≡ tally_of (take 0 fs)
+pub tally_start : (t : Counted) → t ≡ tallied [] 0 → t ≡ tally_of []
 unfolding tally_of count_of shared_of
-tally_start fs = refl
+tally_start t h = h
 
 module _ (ws : List ℕ) (i : ℕ) (x : Bool) (e : x ≡ frame_fine (frames_of ws) i (frame_at (frames_of ws) i)) where
   pub is_fine : not x ≡ false → frame_fine (frames_of ws) i (frame_at (frames_of ws) i) ≡ true
   is_fine n = sym e ∙ not-false x n
 
   pub fields_here : not x ≡ true → SeekingField (frames_of ws) i → i < length ws
-      → At i ≡ found (field_fault (frames_of ws))
+      → Some i ≡ field_fault (frames_of ws)
   unfolding field_fault
   fields_here n g l = seek_here (field_test (frames_of ws)) ws i g l (ap not (sym e) ∙ n)
 
@@ -166,29 +146,9 @@ module _ (ws : List ℕ) (i : ℕ) (x : Bool) (e : x ≡ frame_fine (frames_of w
       → SeekingField (frames_of ws) (i + 1)
   fields_next n g l = seek_next (field_test (frames_of ws)) ws i g l (ap not (sym e) ∙ n)
 
-  -- no 17th shared cell is counted
-  pub room_next : (t r : Tally) → not x ≡ false → t ≡ tally_of (take i (frames_of ws))
-      → r ≡ tally_of (take (i + 1) (frames_of ws)) → t.cells ≤ 16 → i < length ws → r.cells ≤ 16
-  room_next t r n h k m l = go (is_shared (frame_at (frames_of ws) i).kind) refl
-    where
-      cells_are : r.cells
-          ≡ count_of is_shared (take i (frames_of ws) ++ (frame_at (frames_of ws) i ∷ []))
-      cells_are =
-          tally_cells (take (i + 1) (frames_of ws)) r k
-          ∙ ap (count_of is_shared) (sym (frames_more ws i (frame_at (frames_of ws) i) refl l))
-
-      go : (b : Bool) → is_shared (frame_at (frames_of ws) i).kind ≡ b → r.cells ≤ 16
-      go true s =
-          let a = cells_are ∙ counted_one is_shared (take i (frames_of ws)) (frame_at (frames_of ws) i) s in
-          let b = cell_room ws i (frame_at (frames_of ws) i) t refl h (is_fine n) (is_shared_lem _ s) in
-          let d = tally_cells (take i (frames_of ws)) t h in
-          omega arith
-      go false s =
-          let a = cells_are ∙ counted_none is_shared (take i (frames_of ws)) (frame_at (frames_of ws) i) s in
-          let d = tally_cells (take i (frames_of ws)) t h in
-          omega arith
-
 pub fields_end : (ws : List ℕ) (i : ℕ) → SeekingField (frames_of ws) i → length ws ≤ i
-    → Nowhere ≡ found (field_fault (frames_of ws))
+    → None ≡ field_fault (frames_of ws)
 unfolding field_fault
 fields_end ws i g l = seek_end (field_test (frames_of ws)) ws i g l
+
+pub ruleset pass_laws = (tally_start, is_fine, fields_here, fields_next, fields_end)

@@ -1,11 +1,14 @@
--- The loops that look for the lowest frame of which a test is true: the search from here on is the
--- search from the start. Assumes nothing.
+-- The searches for the lowest frame of which a test is true. In a loop, the search from here on is
+-- the search from the start; a chain finds the same. Assumes nothing.
 use mathlib.Core.Path.{◌≡◌, refl, sym, ap, ◌∙◌}
 use mathlib.Core.Bool.{Bool, true, false}
 use mathlib.Core.List.{List, [], ◌∷◌}
-use mathlib.Core.Option.{Option, none, some}
-use Prim.Native.Nat.{ℕ, suc, ◌+◌, ◌≤◌, ◌<◌}
+use Rattle.std.specs.Prelude.{Option, Some, None}
+use Rattle.std.specs.Prelude.{cond, find}
+use Rattle.std.specs.List.{range_with_len}
+use Prim.Native.Nat.{ℕ, zero, suc, ◌+◌, ◌-◌, ◌≤◌, ◌<◌}
 use native.Mathlib.Omega.{arith}
+use native.Mathlib.Numerals.{add-one}
 use lib.ListN.{length, drop}
 use Rattle.basics.specs.Inner.Searches.{lowest}
 use Rattle.language.specs.declared.frame.Frame.{Frame}
@@ -13,8 +16,6 @@ use Rattle.text.specs.Frames.{frames_of}
 use Rattle.text.proofs.FrameWords.{frames_end}
 use Rattle.program.specs.Trees.{frame_at}
 use Rattle.program.proofs.FrameLaws.{frames_next}
-use Rattle.fields.specs.declared.fault_search.FaultSearch.TheVariants.{At, Nowhere}
-use Rattle.fields.specs.Inner.Scans.{found}
 
 -- the invariant of such a loop; at i = 0 it holds by `refl`
 abbrev pub Seeking : (ℕ → Frame → Bool) → List Frame → ℕ → Type 0
@@ -22,7 +23,7 @@ Seeking test fs i = lowest test i (drop i fs) ≡ lowest test 0 fs
 
 module _ (test : ℕ → Frame → Bool) (ws : List ℕ) where
   abbrev next : ℕ → Bool → Option ℕ
-  next i b = elim b [ true ↦ some i | false ↦ lowest test (suc i) (drop (suc i) (frames_of ws)) ]
+  next i b = elim b [ true ↦ Some i | false ↦ lowest test (suc i) (drop (suc i) (frames_of ws)) ]
 
   look : (i : ℕ) → i < length ws
       → lowest test i (drop i (frames_of ws)) ≡ next i (test i (frame_at (frames_of ws) i))
@@ -33,8 +34,8 @@ module _ (test : ℕ → Frame → Bool) (ws : List ℕ) where
       step = unfold lowest in refl
 
   pub seek_here : (i : ℕ) → Seeking test (frames_of ws) i → i < length ws
-      → test i (frame_at (frames_of ws) i) ≡ true → At i ≡ found (lowest test 0 (frames_of ws))
-  seek_here i g l t = ap found (sym (ap (next i) t) ∙ sym (look i l) ∙ g)
+      → test i (frame_at (frames_of ws) i) ≡ true → Some i ≡ lowest test 0 (frames_of ws)
+  seek_here i g l t = sym (ap (next i) t) ∙ sym (look i l) ∙ g
 
   pub seek_next : (i : ℕ) → Seeking test (frames_of ws) i → i < length ws
       → test i (frame_at (frames_of ws) i) ≡ false → Seeking test (frames_of ws) (i + 1)
@@ -42,8 +43,32 @@ module _ (test : ℕ → Frame → Bool) (ws : List ℕ) where
       let s : i + 1 ≡ suc i = omega arith in rw s (sym (ap (next i) t) ∙ sym (look i l) ∙ g)
 
   pub seek_end : (i : ℕ) → Seeking test (frames_of ws) i → length ws ≤ i
-      → Nowhere ≡ found (lowest test 0 (frames_of ws))
-  seek_end i g l = ap found (end ∙ ap (lowest test i) (sym (frames_end ws i l)) ∙ g)
+      → None ≡ lowest test 0 (frames_of ws)
+  seek_end i g l = end ∙ ap (lowest test i) (sym (frames_end ws i l)) ∙ g
     where
-      end : none ≡ lowest test i []
+      end : None ≡ lowest test i []
       end = unfold lowest in refl
+
+  -- ---- the chain: `find` over the numbers of the frames from i on, with a test that the code makes
+  -- of a number
+  module _ (code : ℕ → Bool)
+      (same : (k : ℕ) → k < length ws → test k (frame_at (frames_of ws) k) ≡ code k) where
+    find_from : (n i : ℕ) → length ws - i ≡ n
+        → find code (range_with_len i n) ≡ lowest test i (drop i (frames_of ws))
+    find_from zero i e = end ∙ ap (lowest test i) (sym (frames_end ws i (omega arith)))
+      where
+        end : None ≡ lowest test i []
+        end = unfold lowest in refl
+    find_from (suc n) i e =
+        let l : i < length ws = omega arith in
+        by (code i) (find_from n (i + 1) (omega arith)) ∙ sym (look i l ∙ ap (next i) (same i l))
+      where
+        by : (b : Bool)
+            → find code (range_with_len (i + 1) n)
+            ≡ lowest test (i + 1) (drop (i + 1) (frames_of ws))
+            → cond b (Some i) (find code (range_with_len (i + 1) n)) ≡ next i b
+        by true r = refl
+        by false r = r ∙ ap (λ (k : ℕ). lowest test k (drop k (frames_of ws))) (add-one i)
+
+    pub find_lowest : find code (range_with_len 0 (length ws)) ≡ lowest test 0 (frames_of ws)
+    find_lowest = find_from (length ws) 0 (omega arith)

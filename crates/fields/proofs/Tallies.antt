@@ -3,9 +3,9 @@
 use mathlib.Core.Path.{◌≡◌, refl, sym, ap, ap₂, ◌∙◌}
 use mathlib.Core.Bool.{Bool, true, false, true≢false}
 use mathlib.Core.List.{List, [], ◌∷◌, ◌++◌, map, append-nil}
-use Prim.Native.Nat.{ℕ, ◌+◌, ◌<◌}
+use Prim.Native.Nat.{ℕ, ◌+◌}
 use native.Mathlib.Omega.{arith}
-use lib.ListN.{length, take, set}
+use lib.ListN.{length}
 use Rattle.basics.specs.If.{when◌then◌else◌}
 use Rattle.basics.proofs.Ifs.{if_yes, if_no, if_all}
 use Rattle.language.specs.Kinds.{is_shared, is_module}
@@ -17,15 +17,12 @@ use Rattle.language.specs.declared.kind.Kind.TheVariants.{Header, Declared, Modu
 use Rattle.language.specs.declared.kind.Kind.TheVariants.{Expression, Unknown}
 use Rattle.language.specs.declared.frame.Frame.{Frame}
 use Rattle.program.specs.Programs.{type_of_shared, shared_of, cells_of}
-use Rattle.program.specs.Inner.Shared.{padded_types}
 use Rattle.program.proofs.OneMore.{shared_no, shared_yes}
-use Rattle.program.proofs.SharedTypeLaws.{padded_more, padded_taken}
-use Rattle.fields.specs.declared.field.Tally.{Tally}
 use Rattle.fields.specs.Fields.{count_of}
-use Rattle.fields.specs.Inner.Scans.{tally_of}
+use Rattle.fields.specs.Inner.Tallies.{Counted, tallied, tally_of}
 
 -- ---- shared cells
--- what the code's two matches say of a declaration's kind
+-- what the code's match says of a declaration's kind
 pub declared_as : (k : Kind) (d v : DeclarationKind) → k ≡ Declared d → d ≡ v → k ≡ Declared v
 declared_as k d v e h = e ∙ ap Declared h
 
@@ -38,6 +35,21 @@ is_shared_lem Module h = absurd (true≢false (sym h))
 is_shared_lem (Statement k) h = absurd (true≢false (sym h))
 is_shared_lem (Expression k) h = absurd (true≢false (sym h))
 is_shared_lem Unknown h = absurd (true≢false (sym h))
+
+-- as the code asks
+pub told_shared : (k : Kind) (x : Bool) → x ≡ is_shared k → x ≡ true → k ≡ Declared Shared
+told_shared k x p t = is_shared_lem k (sym p ∙ t)
+
+is_module_lem : (k : Kind) → is_module k ≡ true → k ≡ Module
+is_module_lem Module h = refl
+is_module_lem (Declared d) h = absurd (true≢false (sym h))
+is_module_lem Header h = absurd (true≢false (sym h))
+is_module_lem (Statement k) h = absurd (true≢false (sym h))
+is_module_lem (Expression k) h = absurd (true≢false (sym h))
+is_module_lem Unknown h = absurd (true≢false (sym h))
+
+pub told_module : (k : Kind) (x : Bool) → x ≡ is_module k → x ≡ true → k ≡ Module
+told_module k x p t = is_module_lem k (sym p ∙ t)
 
 -- a frame adds its type to those of the cells after it, if it is one
 cells_first : (f : Frame) (gs : List Frame)
@@ -60,24 +72,17 @@ count_cells (f ∷ gs) = go (is_shared f.kind) (count_cells gs) ∙ sym (ap leng
     go false h = omega arith
 
 -- ---- what a tally says
-abbrev pub tally : ℕ → ℕ → List ℕ → Tally
-tally n m ts = record { cells = n; modules = m; types = ts }
-
-module _ (gs : List Frame) (t : Tally) (h : t ≡ tally_of gs) where
-  pub tally_cells : t.cells ≡ count_of is_shared gs
+module _ (gs : List Frame) (t : Counted) (h : t ≡ tally_of gs) where
+  pub types_are : t.types ≡ cells_of gs
   unfolding tally_of
-  tally_cells = ap (λ (x : Tally). x.cells) h
+  types_are = ap (λ (x : Counted). x.types) h
+
+  pub tally_cells : length t.types ≡ count_of is_shared gs
+  tally_cells = ap length types_are ∙ sym (count_cells gs)
 
   pub tally_modules : t.modules ≡ count_of is_module gs
   unfolding tally_of
-  tally_modules = ap (λ (x : Tally). x.modules) h
-
-  tally_types : t.types ≡ padded_types (cells_of gs)
-  unfolding tally_of
-  tally_types = ap (λ (x : Tally). x.types) h
-
-  pub types_taken : take t.cells t.types ≡ cells_of gs
-  types_taken = ap₂ take (tally_cells ∙ count_cells gs) tally_types ∙ padded_taken (cells_of gs)
+  tally_modules = ap (λ (x : Counted). x.modules) h
 
 -- ---- one frame more
 count_more : (test : Kind → Bool) (gs : List Frame) (f : Frame)
@@ -123,37 +128,24 @@ counted_none test gs f h =
     let a : count_of test gs + 0 ≡ count_of test gs = omega arith in
     count_more test gs f ∙ ap (λ (n : ℕ). count_of test gs + n) (if_no 1 0 h) ∙ a
 
-tally_same : {n n' m m' : ℕ} {ts ts' : List ℕ} → n ≡ n' → m ≡ m' → ts ≡ ts'
-    → tally n m ts ≡ tally n' m' ts'
-tally_same {n} {n'} {m} {m'} {ts} {ts'} e f g =
-    ap₂ (λ (x y : ℕ). tally x y ts) e f ∙ ap (tally n' m') g
-
-module _ (gs : List Frame) (f : Frame) (t : Tally) (h : t ≡ tally_of gs) where
+module _ (gs : List Frame) (f : Frame) (t : Counted) (h : t ≡ tally_of gs) where
   pub tally_other : is_shared f.kind ≡ false → is_module f.kind ≡ false
       → t ≡ tally_of (gs ++ (f ∷ []))
   unfolding tally_of
-  tally_other s m =
-      h ∙ tally_same (sym (counted_none is_shared gs f s)) (sym (counted_none is_module gs f m))
-      (ap padded_types (sym (cells_same gs f s)))
+  tally_other s m = h ∙ ap₂ tallied (sym (cells_same gs f s)) (sym (counted_none is_module gs f m))
 
   pub tally_module : is_shared f.kind ≡ false → is_module f.kind ≡ true
-      → tally t.cells (t.modules + 1) t.types ≡ tally_of (gs ++ (f ∷ []))
+      → tallied t.types (t.modules + 1) ≡ tally_of (gs ++ (f ∷ []))
   unfolding tally_of
   tally_module s m =
-      tally_same (tally_cells gs t h ∙ sym (counted_none is_shared gs f s))
+      ap₂ tallied (types_are gs t h ∙ sym (cells_same gs f s))
       (ap (λ (n : ℕ). n + 1) (tally_modules gs t h) ∙ sym (counted_one is_module gs f m))
-      (tally_types gs t h ∙ ap padded_types (sym (cells_same gs f s)))
 
-  pub tally_cell : is_shared f.kind ≡ true → is_module f.kind ≡ false → t.cells < 16
-      → tally (t.cells + 1) t.modules (set t.types t.cells (cell_type f.s f.a))
-      ≡ tally_of (gs ++ (f ∷ []))
+  pub tally_cell : is_shared f.kind ≡ true → is_module f.kind ≡ false
+      → tallied (t.types ++ (cell_type f.s f.a ∷ [])) t.modules ≡ tally_of (gs ++ (f ∷ []))
   unfolding tally_of
-  tally_cell s m l =
-      tally_same (ap (λ (n : ℕ). n + 1) (tally_cells gs t h) ∙ sym (counted_one is_shared gs f s))
+  tally_cell s m =
+      ap₂ tallied
+      (ap (λ (ts : List ℕ). ts ++ (cell_type f.s f.a ∷ [])) (types_are gs t h)
+      ∙ sym (cells_one gs f s))
       (tally_modules gs t h ∙ sym (counted_none is_module gs f m))
-      (ap₂ (λ (ts : List ℕ) (n : ℕ). set ts n (cell_type f.s f.a)) (tally_types gs t h) n_is
-      ∙ padded_more (cells_of gs) (cell_type f.s f.a) (let z = n_is in omega arith)
-      ∙ ap padded_types (sym (cells_one gs f s)))
-    where
-      n_is : t.cells ≡ length (cells_of gs)
-      n_is = tally_cells gs t h ∙ count_cells gs

@@ -1,29 +1,28 @@
-// What a pass finds.
+//! What a search for a fault finds: the lowest frame that has it, from 0; `None` where no frame has.
 ghost use Rattle.std.specs.Prelude.{◌≡◌};
 ghost use Rattle.basics.specs.Inner.Searches.{earlier};
-ghost use Rattle.fields.specs.Inner.Scans.{found, option_of};
+ghost use Rattle.fields.specs.Inner.Scans.{refused_at};
 
-// The lowest frame that has a fault, if one has it.
-#[derive(Clone, Copy)]
-pub enum FaultSearch {
-    At(u16),
-    Nowhere,
+use language::refusal::{Refusal, Rule, Verdict};
+
+/// The lower of two frames; where only one search found a frame, that one.
+#[tactic(auto, unfolding(basics::specs::Inner::Searches::earlier))]
+pub fn lower(a: Option<u16>, b: Option<u16>) -> Option<u16>
+    ensures { result ≡ earlier a b }
+{
+    match (a, b) {
+        (Some(i), Some(j)) => Some(i.min(j)),
+        (one, None) => one,
+        (None, other) => other,
+    }
 }
 
-// The lower of two.
-pub fn lower(a: FaultSearch, b: FaultSearch) -> FaultSearch
-    ensures { result ≡ found (earlier (option_of a) (option_of b)) }
+/// That the rule is broken, of the frame that a search found; `Ok` where it found none.
+pub fn refused_at(rule: Rule, frame: Option<u16>) -> Verdict
+    ensures { result ≡ refused_at rule frame }
 {
-    match a {
-        FaultSearch::Nowhere => b,
-        FaultSearch::At(i) => match b {
-            FaultSearch::Nowhere => FaultSearch::At(i),
-            FaultSearch::At(j) => {
-                if i <= j {
-                    return FaultSearch::At(i);
-                }
-                FaultSearch::At(j)
-            }
-        },
+    match frame {
+        Some(frame) => Err(Refusal { rule, frame }),
+        None => Ok(()),
     }
 }

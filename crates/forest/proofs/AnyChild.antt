@@ -1,12 +1,12 @@
--- How the code asks the children of a frame, one after the other, for one that passes a test.
+-- Whether one of a frame's children passes a test: as the code asks them, one after the other.
 -- Assumes nothing.
 use mathlib.Core.Path.{◌≡◌, refl, sym, ap, ◌∙◌}
-use mathlib.Core.Bool.{Bool, true, false}
+use mathlib.Core.Bool.{Bool, true, false, ◌||◌}
 use mathlib.Core.List.{List, [], ◌∷◌}
-use Prim.Native.Nat.{ℕ, ◌≤◌, ◌<◌}
+use Prim.Native.Nat.{ℕ}
 use lib.Dec.{leb}
-use borrow.Author.Tests.{le-leb, lt-leb}
 use Rattle.basics.specs.Members.{any}
+use Rattle.basics.proofs.Ifs.{or_off}
 use Rattle.language.specs.Kinds.{Child, child, children}
 use Rattle.language.specs.declared.kind.Class.{Class}
 use Rattle.language.specs.declared.frame.Frame.{Frame}
@@ -17,138 +17,103 @@ use Rattle.program.proofs.FrameLaws.{children_are}
 use Rattle.drawing.specs.Inner.Finds.{wrong_class}
 use Rattle.forest.specs.Inner.FrameTests.{has_child_from, has_wrong_child}
 
+or_or : (a b c : Bool) → (a || (b || c)) ≡ (a || b || c)
+or_or true b c = refl
+or_or false b c = refl
+
 -- ---- any test
 module _ (test : Child → Bool) where
-  here : (c : Child) (cs : List Child) → test c ≡ true → true ≡ any test (c ∷ cs)
-  unfolding any
-  here c cs e = sym (ap (λ (b : Bool). elim b [ true ↦ true | false ↦ any test cs ]) e)
+  any_none : any test [] ≡ false
+  any_none = unfold any in refl
 
-  there : (c : Child) (cs : List Child) → test c ≡ false → any test cs ≡ any test (c ∷ cs)
+  any_more : (c : Child) (cs : List Child) → any test (c ∷ cs) ≡ (test c || any test cs)
   unfolding any
-  there c cs e = sym (ap (λ (b : Bool). elim b [ true ↦ true | false ↦ any test cs ]) e)
-
-  alone : (c : Child) → test c ≡ any test (c ∷ [])
-  unfolding any
-  alone c = go (test c)
+  any_more c cs = go (test c)
     where
-      go : (b : Bool) → b ≡ elim b [ true ↦ true | false ↦ false ]
+      go : (b : Bool) → elim b [ true ↦ true | false ↦ any test cs ] ≡ (b || any test cs)
       go true = refl
       go false = refl
 
+  any_one : (c : Child) → any test (c ∷ []) ≡ test c
+  any_one c = any_more c [] ∙ ap (λ (b : Bool). test c || b) any_none ∙ sym (or_off (test c))
+
+  any_two : (c d : Child) → any test (c ∷ d ∷ []) ≡ (test c || test d)
+  any_two c d = any_more c (d ∷ []) ∙ ap (λ (b : Bool). test c || b) (any_one d)
+
+  any_three : (c d e : Child) → any test (c ∷ d ∷ e ∷ []) ≡ (test c || test d || test e)
+  any_three c d e =
+      any_more c (d ∷ e ∷ []) ∙ ap (λ (b : Bool). test c || b) (any_two d e)
+      ∙ or_or (test c) (test d) (test e)
+
   module _ (f : Frame) (x : Children) (h : x ≡ children_of f) where
-    none_passes : x ≡ Nothing → false ≡ any test (children f)
-    none_passes e = end ∙ ap (any test) (children_are f x Nothing h e)
-      where
-        end : false ≡ any test []
-        end = unfold any in refl
+    none_passes : x ≡ Nothing → any test (children f) ≡ false
+    none_passes e = ap (any test) (sym (children_are f x Nothing h e)) ∙ any_none
 
     module _ (k : Class) (a : ℕ) where
-      one_passes : x ≡ One k a → test (child k a) ≡ any test (children f)
-      one_passes e = alone (child k a) ∙ ap (any test) (children_are f x (One k a) h e)
+      one_passes : x ≡ One k a → any test (children f) ≡ test (child k a)
+      one_passes e = ap (any test) (sym (children_are f x (One k a) h e)) ∙ any_one (child k a)
 
       module _ (l : Class) (b : ℕ) where
-        two_first : x ≡ Two k a l b → test (child k a) ≡ true → true ≡ any test (children f)
-        two_first e p =
-            here (child k a) (child l b ∷ []) p
-            ∙ ap (any test) (children_are f x (Two k a l b) h e)
+        two_pass : x ≡ Two k a l b
+            → any test (children f) ≡ (test (child k a) || test (child l b))
+        two_pass e =
+            ap (any test) (sym (children_are f x (Two k a l b) h e))
+            ∙ any_two (child k a) (child l b)
 
-        two_second : x ≡ Two k a l b → test (child k a) ≡ false
-            → test (child l b) ≡ any test (children f)
-        two_second e p =
-            alone (child l b) ∙ there (child k a) (child l b ∷ []) p
-            ∙ ap (any test) (children_are f x (Two k a l b) h e)
-
-        module _ (m : Class) (c : ℕ) (e : x ≡ Three k a l b m c) where
-          same : any test (child k a ∷ child l b ∷ child m c ∷ []) ≡ any test (children f)
-          same = ap (any test) (children_are f x (Three k a l b m c) h e)
-
-          three_first : test (child k a) ≡ true → true ≡ any test (children f)
-          three_first p = here (child k a) (child l b ∷ child m c ∷ []) p ∙ same
-
-          three_second : test (child k a) ≡ false → test (child l b) ≡ true
-              → true ≡ any test (children f)
-          three_second p q =
-              here (child l b) (child m c ∷ []) q
-              ∙ there (child k a) (child l b ∷ child m c ∷ []) p ∙ same
-
-          three_third : test (child k a) ≡ false → test (child l b) ≡ false
-              → test (child m c) ≡ any test (children f)
-          three_third p q =
-              alone (child m c) ∙ there (child l b) (child m c ∷ []) q
-              ∙ there (child k a) (child l b ∷ child m c ∷ []) p ∙ same
+        three_pass : (m : Class) (c : ℕ) → x ≡ Three k a l b m c
+            → any test (children f) ≡ (test (child k a) || test (child l b) || test (child m c))
+        three_pass m c e =
+            ap (any test) (sym (children_are f x (Three k a l b m c) h e))
+            ∙ any_three (child k a) (child l b) (child m c)
 
 -- ---- a number from n on
 abbrev from_on : ℕ → Child → Bool
 from_on n c = leb n c.at
 
 module _ (n : ℕ) (f : Frame) (x : Children) (h : x ≡ children_of f) where
-  pub none_from : x ≡ Nothing → false ≡ has_child_from n f
+  pub none_from : x ≡ Nothing → has_child_from n f ≡ false
   unfolding has_child_from
   none_from e = none_passes (from_on n) f x h e
 
   module _ (k : Class) (a : ℕ) where
-    pub one_from : x ≡ One k a → leb n a ≡ has_child_from n f
+    pub one_from : x ≡ One k a → has_child_from n f ≡ leb n a
     unfolding has_child_from
     one_from e = one_passes (from_on n) f x h k a e
 
     module _ (l : Class) (b : ℕ) where
-      pub two_first_from : x ≡ Two k a l b → n ≤ a → true ≡ has_child_from n f
+      pub two_from : x ≡ Two k a l b → has_child_from n f ≡ (leb n a || leb n b)
       unfolding has_child_from
-      two_first_from e p = two_first (from_on n) f x h k a l b e (le-leb n a p)
+      two_from e = two_pass (from_on n) f x h k a l b e
 
-      pub two_second_from : x ≡ Two k a l b → a < n → leb n b ≡ has_child_from n f
+      pub three_from : (m : Class) (c : ℕ) → x ≡ Three k a l b m c
+          → has_child_from n f ≡ (leb n a || leb n b || leb n c)
       unfolding has_child_from
-      two_second_from e p = two_second (from_on n) f x h k a l b e (lt-leb n a p)
+      three_from m c e = three_pass (from_on n) f x h k a l b m c e
 
-      module _ (m : Class) (c : ℕ) (e : x ≡ Three k a l b m c) where
-        pub three_first_from : n ≤ a → true ≡ has_child_from n f
-        unfolding has_child_from
-        three_first_from p = three_first (from_on n) f x h k a l b m c e (le-leb n a p)
+pub ruleset from_laws = (none_from, one_from, two_from, three_from)
 
-        pub three_second_from : a < n → n ≤ b → true ≡ has_child_from n f
-        unfolding has_child_from
-        three_second_from p q =
-            three_second (from_on n) f x h k a l b m c e (lt-leb n a p) (le-leb n b q)
-
-        pub three_third_from : a < n → b < n → leb n c ≡ has_child_from n f
-        unfolding has_child_from
-        three_third_from p q =
-            three_third (from_on n) f x h k a l b m c e (lt-leb n a p) (lt-leb n b q)
-
--- ---- a child of a wrong class: p, q and r are what the code answered of the children
+-- ---- a child of a wrong class
 module _ (fs : List Frame) (f : Frame) (x : Children) (h : x ≡ children_of f) where
-  pub none_wrong : x ≡ Nothing → false ≡ has_wrong_child fs f
+  pub none_wrong : x ≡ Nothing → has_wrong_child fs f ≡ false
   unfolding has_wrong_child
   none_wrong e = none_passes (wrong_class fs) f x h e
 
-  module _ (k : Class) (a : ℕ) (p : Bool) (hp : p ≡ wrong_class fs (child k a)) where
-    pub one_wrong : x ≡ One k a → p ≡ has_wrong_child fs f
+  module _ (k : Class) (a : ℕ) where
+    pub one_wrong : x ≡ One k a → has_wrong_child fs f ≡ wrong_class fs (child k a)
     unfolding has_wrong_child
-    one_wrong e = hp ∙ one_passes (wrong_class fs) f x h k a e
+    one_wrong e = one_passes (wrong_class fs) f x h k a e
 
     module _ (l : Class) (b : ℕ) where
-      pub two_first_wrong : x ≡ Two k a l b → p ≡ true → true ≡ has_wrong_child fs f
+      pub two_wrong : x ≡ Two k a l b
+          → has_wrong_child fs f ≡ (wrong_class fs (child k a) || wrong_class fs (child l b))
       unfolding has_wrong_child
-      two_first_wrong e t = two_first (wrong_class fs) f x h k a l b e (sym hp ∙ t)
+      two_wrong e = two_pass (wrong_class fs) f x h k a l b e
 
-      pub three_first_wrong : (m : Class) (c : ℕ) → x ≡ Three k a l b m c → p ≡ true
-          → true ≡ has_wrong_child fs f
+      pub three_wrong : (m : Class) (c : ℕ) → x ≡ Three k a l b m c
+          → has_wrong_child fs f
+          ≡ (wrong_class fs (child k a) || wrong_class fs (child l b)
+          || wrong_class fs (child m c))
       unfolding has_wrong_child
-      three_first_wrong m c e t = three_first (wrong_class fs) f x h k a l b m c e (sym hp ∙ t)
+      three_wrong m c e = three_pass (wrong_class fs) f x h k a l b m c e
 
-      module _ (q : Bool) (hq : q ≡ wrong_class fs (child l b)) where
-        pub two_second_wrong : x ≡ Two k a l b → p ≡ false → q ≡ has_wrong_child fs f
-        unfolding has_wrong_child
-        two_second_wrong e t = hq ∙ two_second (wrong_class fs) f x h k a l b e (sym hp ∙ t)
-
-        module _ (m : Class) (c : ℕ) (e : x ≡ Three k a l b m c) where
-          pub three_second_wrong : p ≡ false → q ≡ true → true ≡ has_wrong_child fs f
-          unfolding has_wrong_child
-          three_second_wrong t s =
-              three_second (wrong_class fs) f x h k a l b m c e (sym hp ∙ t) (sym hq ∙ s)
-
-          pub three_third_wrong : (r : Bool) → r ≡ wrong_class fs (child m c) → p ≡ false
-              → q ≡ false → r ≡ has_wrong_child fs f
-          unfolding has_wrong_child
-          three_third_wrong r hr t s =
-              hr ∙ three_third (wrong_class fs) f x h k a l b m c e (sym hp ∙ t) (sym hq ∙ s)
+pub ruleset wrong_laws = (none_wrong, one_wrong, two_wrong, three_wrong)

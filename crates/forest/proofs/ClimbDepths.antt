@@ -3,7 +3,8 @@
 use mathlib.Core.Path.{◌≡◌, refl, sym, ap, subst, ◌∙◌}
 use mathlib.Core.Bool.{Bool, true, false, true≢false}
 use mathlib.Core.List.{List}
-use mathlib.Core.Option.{Option, none}
+use Rattle.std.specs.Prelude.{Option, None, find}
+use Rattle.std.specs.List.{range_with_len}
 use Prim.Native.Nat.{ℕ, zero, suc, ◌+◌, ◌≤◌, ◌<◌}
 use native.Mathlib.Omega.{arith}
 use lib.Dec.{leb}
@@ -14,12 +15,11 @@ use Rattle.basics.specs.Inner.Searches.{lowest}
 use Rattle.language.specs.Kinds.{class_of, Child, children}
 use Rattle.language.specs.Limits.{most_lines, most_depth}
 use Rattle.language.specs.declared.frame.Frame.{Frame}
+use Rattle.language.specs.declared.refusal.Rule.TheVariants.{TooDeep}
 use Rattle.text.specs.Frames.{frames_of}
 use Rattle.text.proofs.FrameWords.{frames_length}
 use Rattle.program.specs.Trees.{no_frame, frame_at}
-use Rattle.fields.specs.declared.fault_search.FaultSearch.TheVariants.{At, Nowhere}
-use Rattle.fields.specs.Inner.Scans.{found}
-use Rattle.fields.proofs.Seeking.{Seeking, seek_here, seek_next, seek_end}
+use Rattle.fields.proofs.Seeking.{find_lowest}
 use Rattle.layout.specs.Order.{has_child, has_class}
 use Rattle.layout.specs.Uses.{used}
 use Rattle.layout.specs.Depths.{Depth}
@@ -158,12 +158,12 @@ module _ (fs : List Frame) (short : length fs ≤ most_lines) (trees : writings.
   depth_inside (Depth.child {i = i} {c = c} h m) = all_inside fs trees i c m
 
   -- ---- so the lowest of the one kind is the lowest of the other
-  deep_is : (j : ℕ) → Fault fs 7 j → (j < length fs) × (climbs users (suc most_depth) j ≡ true)
+  deep_is : (j : ℕ) → Fault fs TooDeep j → (j < length fs) × (climbs users (suc most_depth) j ≡ true)
   deep_is j f =
       let a = seven f refl in
       (depth_inside a.is, depth_climb a.is (suc most_depth) a.least)
 
-  is_deep : (j : ℕ) → (j < length fs) × (climbs users (suc most_depth) j ≡ true) → Fault fs 7 j
+  is_deep : (j : ℕ) → (j < length fs) × (climbs users (suc most_depth) j ≡ true) → Fault fs TooDeep j
   is_deep j h = let a = climb_depth most_depth j h.0 h.1 in Fault.depth a.is a.least
 
   climb_lowest : lowest (deep_test fs) 0 fs ≡ depth_fault_at fs
@@ -172,16 +172,13 @@ module _ (fs : List Frame) (short : length fs ≤ most_lines) (trees : writings.
       lowest_one low (depth_lowest fs trees)
 
 -- a search that finds nothing
-nothing : {P : ℕ → Type 0} {o : Option ℕ} → Lowest P o → o ≡ none → writings.NoneAt P
+nothing : {P : ℕ → Type 0} {o : Option ℕ} → Lowest P o → o ≡ None → writings.NoneAt P
 nothing (Lowest.nowhere h) e j p = h j p
 nothing (Lowest.lowest_at q l) e j p = let z : ◌≡◌ {A = ℕ} 0 1 = cc in omega arith
 
--- ---- the loop that looks
-abbrev pub SeekingDeep : List Frame → ℕ → Type 0
-SeekingDeep fs i = Seeking (deep_test fs) fs i
-
-deep_first : (ws : List ℕ) → length ws ≤ most_lines → tree_fault_at (frames_of ws) ≡ none
-    → shape_fault_at (frames_of ws) ≡ none
+-- ---- the chain that looks
+deep_first : (ws : List ℕ) → length ws ≤ most_lines → tree_fault_at (frames_of ws) ≡ None
+    → shape_fault_at (frames_of ws) ≡ None
     → lowest (deep_test (frames_of ws)) 0 (frames_of ws) ≡ depth_fault_at (frames_of ws)
 deep_first ws l t s =
     let n = frames_length ws in
@@ -197,22 +194,14 @@ module _ (ws u : List ℕ) (e : u ≡ users_of (frames_of ws)) where
       let b = user_inside j q (frames_of ws) (omega arith) in
       omega arith
 
-  module _ (i : ℕ) (b : Bool) (h : b ≡ climbs u (suc most_depth) i) where
-    test_is : climbs (users_of (frames_of ws)) (suc most_depth) i ≡ b
-    test_is = ap (λ (x : List ℕ). climbs x (suc most_depth) i) (sym e) ∙ sym h
+  test_is : (i : ℕ) → i < length ws
+      → climbs (users_of (frames_of ws)) (suc most_depth) i ≡ climbs u (suc most_depth) i
+  test_is i l = ap (λ (x : List ℕ). climbs x (suc most_depth) i) (sym e)
 
-    pub deep_here : tree_fault_at (frames_of ws) ≡ none → shape_fault_at (frames_of ws) ≡ none
-        → b ≡ true → SeekingDeep (frames_of ws) i → i < length ws → length ws ≤ most_lines
-        → At i ≡ found (depth_fault_at (frames_of ws))
-    deep_here t s y g l m =
-        seek_here (deep_test (frames_of ws)) ws i g l (test_is ∙ y) ∙ ap found (deep_first ws m t s)
-
-    pub deep_next : b ≡ false → SeekingDeep (frames_of ws) i → i < length ws
-        → SeekingDeep (frames_of ws) (i + 1)
-    deep_next y g l = seek_next (deep_test (frames_of ws)) ws i g l (test_is ∙ y)
-
-pub deep_end : (ws : List ℕ) (i : ℕ) → tree_fault_at (frames_of ws) ≡ none
-    → shape_fault_at (frames_of ws) ≡ none → SeekingDeep (frames_of ws) i → length ws ≤ i
-    → length ws ≤ most_lines → Nowhere ≡ found (depth_fault_at (frames_of ws))
-deep_end ws i t s g l m =
-    seek_end (deep_test (frames_of ws)) ws i g l ∙ ap found (deep_first ws m t s)
+  pub deep_found : tree_fault_at (frames_of ws) ≡ None → shape_fault_at (frames_of ws) ≡ None
+      → length ws ≤ most_lines
+      → find (climbs u (suc most_depth)) (range_with_len 0 (length ws))
+      ≡ depth_fault_at (frames_of ws)
+  deep_found t s m =
+      find_lowest (deep_test (frames_of ws)) ws (climbs u (suc most_depth)) test_is
+      ∙ deep_first ws m t s

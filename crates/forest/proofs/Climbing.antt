@@ -2,7 +2,7 @@
 use mathlib.Core.Path.{◌≡◌, refl, sym, ap, ◌∙◌}
 use mathlib.Core.Bool.{true, false}
 use mathlib.Core.List.{List}
-use Prim.Native.Nat.{ℕ, zero, suc, ◌+◌, ◌-◌, ◌^◌, ◌≤◌, ◌<◌}
+use Prim.Native.Nat.{ℕ, zero, suc, ◌+◌, ◌-◌, ◌≤◌, ◌<◌}
 use native.Mathlib.Omega.{arith}
 use lib.ListN.{get_or}
 use Rattle.language.specs.Limits.{most_depth, most_lines}
@@ -22,35 +22,34 @@ abbrev pub Climbing : List ℕ → ℕ → ℕ → ℕ → Type 0
 Climbing u j at above = climbs u (suc most_depth - above) at ≡ climbs u (suc most_depth) j
 
 module _ (u : List ℕ) (j at above : ℕ) where
-  pub climb_stop : get_or u at 0 ≡ 0 → Climbing u j at above → above ≤ most_depth
+  pub climb_stop : get_or u at 0 ≡ 0 → Climbing u j at above → above < suc most_depth
       → false ≡ climbs u (suc most_depth) j
   climb_stop e g l =
       let s : suc most_depth - above ≡ suc (most_depth - above) = omega arith in
       sym (climbs_stop u (most_depth - above) at e)
       ∙ ap (λ (n : ℕ). climbs u n at) (sym s) ∙ g
 
-  pub climb_next : (get_or u at 0 ≡ 0 → ⊥) → Climbing u j at above → above ≤ most_depth
-      → Climbing u j (get_or u at 0 - 1) (above + 1)
-  climb_next d g l =
+  -- i is the user's number, as the code has it
+  pub climb_next : (i : ℕ) → i ≡ get_or u at 0 - 1 → (get_or u at 0 ≡ 0 → ⊥)
+      → Climbing u j at above → above < suc most_depth → Climbing u j i (above + 1)
+  climb_next i e d g l =
       let s : suc most_depth - above ≡ suc (most_depth - above) = omega arith in
       let t : suc most_depth - (above + 1) ≡ most_depth - above = omega arith in
-      let i : get_or u at 0 ≡ suc (get_or u at 0 - 1) = omega (arith, d) in
-      ap (λ (n : ℕ). climbs u n (get_or u at 0 - 1)) t
-      ∙ sym (climbs_on u (most_depth - above) at (get_or u at 0 - 1) i)
+      let k : get_or u at 0 ≡ suc i = omega (arith, d, e) in
+      ap (λ (n : ℕ). climbs u n i) t
+      ∙ sym (climbs_on u (most_depth - above) at i k)
       ∙ ap (λ (n : ℕ). climbs u n at) (sym s) ∙ g
 
-  pub climb_inside : UsersInside u → (get_or u at 0 ≡ 0 → ⊥) → at < most_lines
-      → get_or u at 0 - 1 < most_lines
-  climb_inside h d l = let a = h at l in omega (arith, d)
+  pub climb_inside : (i : ℕ) → i ≡ get_or u at 0 - 1 → UsersInside u → (get_or u at 0 ≡ 0 → ⊥)
+      → at < most_lines → i < most_lines
+  climb_inside i e h d l = let a = h at l in omega (arith, d, e)
 
-  -- a number that is there is one that the machine can hold
-  pub climb_fits : UsersInside u → at < most_lines → get_or u at 0 - 1 < 2 ^ 64
-  climb_fits h l = let a = h at l in omega arith
-
-  pub climb_end : Climbing u j at above → most_depth < above → true ≡ climbs u (suc most_depth) j
+  pub climb_end : Climbing u j at above → suc most_depth ≤ above → true ≡ climbs u (suc most_depth) j
   climb_end g l =
       let s : suc most_depth - above ≡ 0 = omega arith in
       end ∙ ap (λ (n : ℕ). climbs u n at) (sym s) ∙ g
     where
       end : true ≡ climbs u 0 at
       end = unfold climbs in refl
+
+pub ruleset climb_laws = (climb_stop, climb_next, climb_inside, climb_end)

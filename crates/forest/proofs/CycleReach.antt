@@ -2,13 +2,13 @@
 -- frame from i on that a way from i comes to by such frames alone. Where no frame before i is on a
 -- cycle, these are all that a cycle through i has. Assumes nothing.
 use mathlib.Core.Path.{◌≡◌, refl, sym, ap, subst, ◌∙◌}
-use mathlib.Core.Bool.{Bool, true, false, not, true≢false}
+use mathlib.Core.Bool.{Bool, true, false, true≢false}
 use mathlib.Core.List.{List, [], ◌∷◌}
-use Prim.Native.Nat.{ℕ, zero, suc, ◌+◌, ◌^◌, ◌≤◌, ◌<◌}
+use Prim.Native.Nat.{ℕ, zero, suc, ◌+◌, ◌≤◌, ◌<◌}
 use native.Mathlib.Omega.{arith}
 use lib.Dec.{ltb, leb, eqb}
 use borrow.Author.Tests.{ltb-true, ltb-false, eqb-true, eqb-false}
-use borrow.Author.Tests.{le-leb, not-true}
+use borrow.Author.Tests.{le-leb}
 use lib.ListN.{get_or, length, replicate, length-set}
 use lib.Seq.{get_or-set_same, get_or-set_other}
 use Rattle.basics.specs.Members.{In}
@@ -374,35 +374,31 @@ module _ (ws : List ℕ) (i : ℕ) (few : length ws ≤ 1024) where
     pub look_room : QueueRoom marks filled
     look_room = g.reached.room
 
-    pub look_wide : length queue ≡ 1024
-    look_wide = g.reached.wide
+    -- j is the frame in place k
+    module _ (j : ℕ) (is : j ≡ get_or queue k 0) where
+      pub look_inside : k < filled → j < length ws
+      look_inside l =
+          let z = frames_length ws in
+          let a = g.reached.inside k l in
+          omega (arith, is)
 
-    pub look_inside : k < filled → get_or queue k 0 < length ws
-    look_inside l =
-        let z = frames_length ws in
-        let a = g.reached.inside k l in
-        omega arith
+      pub look_next : (marks' : List Bool) (queue' : List ℕ) (filled' : ℕ) (f : Frame)
+          → f ≡ frame_at (frames_of ws) j
+          → walk marks' queue' filled'
+          ≡ over_children (entered i (length ws)) (walk marks queue filled) (children f)
+          → k < filled → (j ≡ i → ⊥) → Looking ws i marks' queue' filled' (k + 1)
+      look_next marks' queue' filled' f e h l d =
+          let one : k + 1 ≡ suc k = omega arith in
+          let at = e ∙ ap (frame_at (frames_of ws)) is in
+          let same = as_entered ws i (get_or queue k 0) f held (walk marks' queue' filled') at h in
+          let on = looked_next (frames_of ws) i short held k g l (λ q. d (is ∙ q)) in
+          rw one (subst (λ (w : Walk). Looked (frames_of ws) i w (suc k)) same on)
 
-    pub look_fits : k < filled → get_or queue k 0 < 2 ^ 64
-    look_fits l = let a = look_inside l in omega arith
-
-    pub look_next : (marks' : List Bool) (queue' : List ℕ) (filled' : ℕ) (f : Frame)
-        → f ≡ frame_at (frames_of ws) (get_or queue k 0)
-        → walk marks' queue' filled'
-        ≡ over_children (entered i (length ws)) (walk marks queue filled) (children f)
-        → k < filled → (get_or queue k 0 ≡ i → ⊥) → Looking ws i marks' queue' filled' (k + 1)
-    look_next marks' queue' filled' f e h l d =
-        let one : k + 1 ≡ suc k = omega arith in
-        let same = as_entered ws i (get_or queue k 0) f held (walk marks' queue' filled') e h in
-        let on = looked_next (frames_of ws) i short held k g l d in
-        rw one (subst (λ (w : Walk). Looked (frames_of ws) i w (suc k)) same on)
-
-    pub look_found : get_or queue k 0 ≡ i → k < filled → i < length ws
-        → true ≡ is_below (frames_of ws) i i
-    look_found e l m =
-        let z = frames_length ws in
-        let b = subst (Below (frames_of ws) i) e (g.reached.met k l) in
-        sym (below_is (frames_of ws) i i (omega arith) b)
+      pub look_found : j ≡ i → k < filled → i < length ws → true ≡ is_below (frames_of ws) i i
+      look_found e l m =
+          let z = frames_length ws in
+          let b = subst (Below (frames_of ws) i) (sym is ∙ e) (g.reached.met k l) in
+          sym (below_is (frames_of ws) i i (omega arith) b)
 
     pub look_end : filled ≤ k → NoCycleBefore (frames_of ws) i → i < length ws
         → false ≡ is_below (frames_of ws) i i
@@ -417,12 +413,12 @@ module _ (ws : List ℕ) (i : ℕ) (few : length ws ≤ 1024) where
 
 -- what the code asks before it looks: x is what it answered
 pub low_children : (ws : List ℕ) (i : ℕ) (f : Frame) (x : Bool) → f ≡ frame_at (frames_of ws) i
-    → x ≡ has_child_from i f → not x ≡ true → NoCycleBefore (frames_of ws) i
-    → false ≡ is_below (frames_of ws) i i
-low_children ws i f x e h t none = go (is_below (frames_of ws) i i) refl
+    → x ≡ has_child_from i f → x ≡ false → NoCycleBefore (frames_of ws) i
+    → x ≡ is_below (frames_of ws) i i
+low_children ws i f x e h t none = t ∙ go (is_below (frames_of ws) i i) refl
   where
     go : (b : Bool) → is_below (frames_of ws) i i ≡ b → false ≡ b
     go true q =
-        let low = sym (ap (has_child_from i) e) ∙ sym h ∙ not-true x t in
+        let low = sym (ap (has_child_from i) e) ∙ sym h ∙ t in
         absurd (childless (frames_of ws) i none low (is_below_lem (frames_of ws) i i q))
     go false q = refl

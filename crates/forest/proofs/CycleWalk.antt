@@ -135,26 +135,34 @@ module _ (marks : List Bool) (filled v n : ℕ) (x : Bool) (h : x ≡ get_or mar
   pub next_fits : filled + 1 < 2 ^ 64
   next_fits = let z = place_free in omega arith
 
-module _ (marks : List Bool) (queue : List ℕ) (filled v i n : ℕ) where
-  pub enter_early : v < i → walk marks queue filled ≡ entered i n (walk marks queue filled) v
+-- j is v, as the code's index
+module _ (marks : List Bool) (queue : List ℕ) (filled v i n j : ℕ) (same : j ≡ v) where
+  pub enter_early : j < i → walk marks queue filled ≡ entered i n (walk marks queue filled) v
   unfolding entered
-  enter_early l = yes _ (lt-ltb v i l) refl
+  enter_early l = yes _ (lt-ltb v i (omega (arith, same))) refl
 
-  pub enter_past : i ≤ v → n ≤ v → walk marks queue filled ≡ entered i n (walk marks queue filled) v
+  pub enter_past : i ≤ j → n ≤ j → walk marks queue filled ≡ entered i n (walk marks queue filled) v
   unfolding entered
-  enter_past o l = no _ (le-ltb v i o) (no _ (le-ltb v n l) refl)
+  enter_past o l =
+      no _ (le-ltb v i (omega (arith, same))) (no _ (le-ltb v n (omega (arith, same))) refl)
 
-  module _ (x : Bool) (h : x ≡ get_or marks v false) where
-    pub enter_met : x ≡ true → i ≤ v → v < n
+  module _ (x : Bool) (h : x ≡ get_or marks j false) where
+    mark_is : get_or marks v false ≡ x
+    mark_is = sym (h ∙ ap (λ (k : ℕ). get_or marks k false) same)
+
+    pub enter_met : x ≡ true → i ≤ j → j < n
         → walk marks queue filled ≡ entered i n (walk marks queue filled) v
     unfolding entered
-    enter_met e o l = no _ (le-ltb v i o) (yes _ (lt-ltb v n l) (yes _ (sym h ∙ e) refl))
+    enter_met e o l =
+        no _ (le-ltb v i (omega (arith, same)))
+        (yes _ (lt-ltb v n (omega (arith, same))) (yes _ (mark_is ∙ e) refl))
 
-    pub enter_new : (marks' : List Bool) → marks' ≡ set marks v true → x ≡ false → i ≤ v → v < n
+    pub enter_new : (marks' : List Bool) → marks' ≡ set marks j true → x ≡ false → i ≤ j → j < n
         → walk marks' (set queue filled v) (filled + 1) ≡ entered i n (walk marks queue filled) v
     unfolding entered
     enter_new marks' s e o l =
-        no _ (le-ltb v i o) (yes _ (lt-ltb v n l) (no _ (sym h ∙ e) (rw (s, one) refl)))
+        no _ (le-ltb v i (omega (arith, same)))
+        (yes _ (lt-ltb v n (omega (arith, same))) (no _ (mark_is ∙ e) (rw (s, same, one) refl)))
       where
         one : filled + 1 ≡ suc filled
         one = omega arith

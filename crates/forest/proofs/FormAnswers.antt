@@ -1,55 +1,57 @@
 -- What the writer's passes answer together: the code stops at the first that finds a frame. Assumes
 -- nothing.
-use mathlib.Core.Path.{◌≡◌}
+use Rattle.std.specs.Prelude.{Err, Option, None}
+use mathlib.Core.Path.{◌≡◌, sym, ap, ◌∙◌}
 use mathlib.Core.List.{List}
 use Prim.Native.Nat.{ℕ}
 use Rattle.language.specs.declared.frame.Frame.{Frame}
-use Rattle.language.specs.Verdicts.{Verdict}
-use Rattle.language.specs.Verdicts.{Accepted, Rejected}
-use Rattle.fields.specs.declared.fault_search.FaultSearch.{FaultSearch}
-use Rattle.fields.specs.declared.fault_search.FaultSearch.TheVariants.{At, Nowhere}
-use Rattle.fields.specs.Inner.Scans.{header_fault, field_fault, found}
-use Rattle.fields.proofs.Finds.{found_none, found_some}
+use Rattle.language.specs.declared.refusal.Refusal.{Refusal}
+use Rattle.language.specs.declared.refusal.Rule.TheVariants.{WrongHeader, WrongField, WrongTree}
+use Rattle.language.specs.declared.refusal.Rule.TheVariants.{WrongOrder, TooDeep}
+use Rattle.language.specs.Verdicts.{Verdict, Accepted}
+use Rattle.fields.specs.Inner.Scans.{header_fault, field_fault, refused_at}
+use Rattle.fields.proofs.Finds.{found_none}
 use Rattle.drawing.specs.Inner.Finds.{tree_fault_at, shape_fault_at, depth_fault_at, form_verdict}
 use Rattle.drawing.specs.Inner.Finds.{drawing_verdict}
 
 -- ---- 21, 6 and 7
-module _ (fs : List Frame) (a : FaultSearch) (ha : a ≡ found (tree_fault_at fs)) where
-  pub form_21 : (j : ℕ) → a ≡ At j → Rejected 21 j ≡ form_verdict fs
-  form_21 j e = rw (found_some (tree_fault_at fs) e ha)
+module _ (fs : List Frame) (x : Option ℕ) (hx : x ≡ tree_fault_at fs) (a : Verdict)
+    (ha : a ≡ refused_at WrongTree x) where
+  pub form_21 : (r : Refusal) → a ≡ Err r → Err r ≡ form_verdict fs
+  form_21 r e = rw (sym (ha ∙ ap (refused_at WrongTree) hx) ∙ e)
 
-  module _ (na : a ≡ Nowhere) (b : FaultSearch) (hb : b ≡ found (shape_fault_at fs)) where
-    pub form_6 : (j : ℕ) → b ≡ At j → Rejected 6 j ≡ form_verdict fs
-    form_6 j e = rw (found_none (tree_fault_at fs) na ha, found_some (shape_fault_at fs) e hb)
+  module _ (na : a ≡ Accepted) (y : Option ℕ) (hy : y ≡ shape_fault_at fs) (b : Verdict)
+      (hb : b ≡ refused_at WrongOrder y) where
+    tree_none : tree_fault_at fs ≡ None
+    tree_none = sym hx ∙ found_none WrongTree x na ha
 
-    module _ (nb : b ≡ Nowhere) (c : FaultSearch) (hc : c ≡ found (depth_fault_at fs)) where
-      pub form_7 : (j : ℕ) → c ≡ At j → Rejected 7 j ≡ form_verdict fs
-      form_7 j e =
-          let p = found_none (tree_fault_at fs) na ha in
-          let q = found_none (shape_fault_at fs) nb hb in
-          rw (p, q, found_some (depth_fault_at fs) e hc)
+    pub form_6 : (r : Refusal) → b ≡ Err r → Err r ≡ form_verdict fs
+    form_6 r e = rw (tree_none, sym (hb ∙ ap (refused_at WrongOrder) hy) ∙ e)
 
-      pub form_fine : c ≡ Nowhere → Accepted ≡ form_verdict fs
-      form_fine e =
-          let p = found_none (tree_fault_at fs) na ha in
-          let q = found_none (shape_fault_at fs) nb hb in
-          rw (p, q, found_none (depth_fault_at fs) e hc)
-
-pub ruleset form_laws = (form_21, form_6, form_7, form_fine)
+    pub form_7 : b ≡ Accepted → (z : Option ℕ) → z ≡ depth_fault_at fs → (c : Verdict)
+        → c ≡ refused_at TooDeep z → c ≡ form_verdict fs
+    form_7 nb z hz c hc =
+        let n : shape_fault_at fs ≡ None = sym hy ∙ found_none WrongOrder y nb hb in
+        rw (tree_none, n) (hc ∙ ap (refused_at TooDeep) hz)
 
 -- ---- 4 and 5 before them
-module _ (fs : List Frame) (a : FaultSearch) (ha : a ≡ found (header_fault fs)) where
-  pub drawing_4 : (j : ℕ) → a ≡ At j → Rejected 4 j ≡ drawing_verdict fs
+module _ (fs : List Frame) (x : Option ℕ) (hx : x ≡ header_fault fs) (a : Verdict)
+    (ha : a ≡ refused_at WrongHeader x) where
+  pub drawing_4 : (r : Refusal) → a ≡ Err r → Err r ≡ drawing_verdict fs
   unfolding drawing_verdict
-  drawing_4 j e = rw (found_some (header_fault fs) e ha)
+  drawing_4 r e = rw (sym (ha ∙ ap (refused_at WrongHeader) hx) ∙ e)
 
-  module _ (na : a ≡ Nowhere) (b : FaultSearch) (hb : b ≡ found (field_fault fs)) where
-    pub drawing_5 : (j : ℕ) → b ≡ At j → Rejected 5 j ≡ drawing_verdict fs
+  module _ (na : a ≡ Accepted) (y : Option ℕ) (hy : y ≡ field_fault fs) (b : Verdict)
+      (hb : b ≡ refused_at WrongField y) where
+    header_none : header_fault fs ≡ None
+    header_none = sym hx ∙ found_none WrongHeader x na ha
+
+    pub drawing_5 : (r : Refusal) → b ≡ Err r → Err r ≡ drawing_verdict fs
     unfolding drawing_verdict
-    drawing_5 j e = rw (found_none (header_fault fs) na ha, found_some (field_fault fs) e hb)
+    drawing_5 r e = rw (header_none, sym (hb ∙ ap (refused_at WrongField) hy) ∙ e)
 
-    pub drawing_form : (v : Verdict) → b ≡ Nowhere → v ≡ form_verdict fs → v ≡ drawing_verdict fs
+    pub drawing_form : b ≡ Accepted → (v : Verdict) → v ≡ form_verdict fs → v ≡ drawing_verdict fs
     unfolding drawing_verdict
-    drawing_form v e h = rw (found_none (header_fault fs) na ha, found_none (field_fault fs) e hb) h
-
-pub ruleset drawing_laws = (drawing_4, drawing_5, drawing_form)
+    drawing_form nb v h =
+        let n : field_fault fs ≡ None = sym hy ∙ found_none WrongField y nb hb in
+        rw (header_none, n) h

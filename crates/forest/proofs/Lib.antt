@@ -1,6 +1,7 @@
 -- 21: a child that there is not, a frame used twice; then cycles: marks as bits, the walk down from
 -- a frame, what it reaches.
 pub mod AnyChild
+pub mod ChildLoops
 pub mod TreePass
 pub mod MarkBits
 pub mod CycleWalk

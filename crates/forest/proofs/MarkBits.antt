@@ -57,9 +57,9 @@ no_marks = each_none 1024 (is_marked (replicate 16 0)) none
         ap (λ (w : ℕ). eqb (bit (j % 64) w) 1) (zero_at 16 (j / 64))
         ∙ ap (λ (b : ℕ). eqb b 1) (no_bit (j % 64))
 
-module _ (words : List ℕ) (j : ℕ) (l : j < 1024) (long : length (marks_of words) ≡ 1024) where
-  wide : length words ≡ 16
-  wide = let m = marks_length words in omega arith
+module _ (words : List ℕ) (j : ℕ) (l : j < 1024) (wide : length words ≡ 16) where
+  long : length (marks_of words) ≡ 1024
+  long = let m = marks_length words in omega (arith, wide)
 
   abbrev old : ℕ
   old = get_or words (j / 64) 0
@@ -123,6 +123,7 @@ module _ (words : List ℕ) (j : ℕ) (l : j < 1024) (long : length (marks_of wo
           go : Dec (i ≡ j)
               → get_or (marks_of after) i false ≡ get_or (set (marks_of words) j true) i false
           go (yes e) =
+              let g = long in
               here ∙ ap (is_marked after) e ∙ own_mark
               ∙ sym (get_or-set_same (marks_of words) j true false (omega arith))
               ∙ ap (λ (k : ℕ). get_or (set (marks_of words) j true) k false) (sym e)

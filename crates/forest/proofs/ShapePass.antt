@@ -4,7 +4,7 @@ use mathlib.Core.Path.{◌≡◌, refl, sym, ap, ap₂, ◌∙◌}
 use mathlib.Core.Logic.{◌⊎◌, inl, inr, ⊎_elim}
 use mathlib.Core.Bool.{Bool, true, false, not, ◌&&◌, ◌||◌, true≢false}
 use mathlib.Core.List.{List, [], ◌∷◌}
-use mathlib.Core.Option.{none, some}
+use Rattle.std.specs.Prelude.{Option, Some, None}
 use Prim.Native.Nat.{ℕ, suc, ◌+◌, ◌-◌, ◌≤◌, ◌<◌}
 use native.Mathlib.Omega.{arith}
 use lib.Dec.{eqb, ltb}
@@ -20,10 +20,6 @@ use Rattle.text.specs.Frames.{frames_of}
 use Rattle.text.proofs.FrameWords.{frames_length, frames_end}
 use Rattle.program.specs.Trees.{no_frame, frame_at}
 use Rattle.program.proofs.FrameLaws.{frames_next}
-use Rattle.fields.specs.declared.fault_search.FaultSearch.{FaultSearch}
-use Rattle.fields.specs.declared.fault_search.FaultSearch.TheVariants.{At, Nowhere}
-use Rattle.fields.specs.Inner.Scans.{found, option_of}
-use Rattle.fields.proofs.Finds.{option_found}
 use Rattle.fields.proofs.Seeking.{Seeking, seek_here, seek_next, seek_end}
 use Rattle.layout.specs.Order.{has_child, has_class}
 use Rattle.layout.specs.Inner.Uses.{CountsUses}
@@ -42,7 +38,7 @@ module _ (ws u : List ℕ) (i : ℕ) (f : Frame) (b : Bool)
     || (has_class (class_of f.kind) && eqb (get_or u i 0) 0))) where
   pub class_fault_here : b ≡ true → CountsUses (frames_of ws) u → SeekingMisfit (frames_of ws) i
       → i < length ws → length ws ≤ 1024
-      → At i ≡ found (lowest (has_class_fault (frames_of ws)) 0 (frames_of ws))
+      → Some i ≡ lowest (has_class_fault (frames_of ws)) 0 (frames_of ws)
   class_fault_here t cs g l m =
       seek_here (has_class_fault (frames_of ws)) ws i g l (class_fault_is ws u i f b e h cs l m ∙ t)
 
@@ -52,7 +48,7 @@ module _ (ws u : List ℕ) (i : ℕ) (f : Frame) (b : Bool)
       seek_next (has_class_fault (frames_of ws)) ws i g l (class_fault_is ws u i f b e h cs l m ∙ t)
 
 pub class_fault_end : (ws : List ℕ) (i : ℕ) → SeekingMisfit (frames_of ws) i → length ws ≤ i
-    → Nowhere ≡ found (lowest (has_class_fault (frames_of ws)) 0 (frames_of ws))
+    → None ≡ lowest (has_class_fault (frames_of ws)) 0 (frames_of ws)
 class_fault_end ws i g l = seek_end (has_class_fault (frames_of ws)) ws i g l
 
 -- ---- no module from n on
@@ -165,22 +161,22 @@ module _ (fs : List Frame) (k : ℕ) (l : k < length fs)
       last_case : LastHit fs j → (j ≡ k) × ((frame_at fs k).s ≡ 0 → ⊥)
       last_case m = (at_it m, λ z. m.2 (ap (λ (n : ℕ). (frame_at fs n).s) (at_it m) ∙ z))
 
-  main_none : (frame_at fs k).s ≡ 0 → none ≡ lowest (is_main_fault fs) 0 fs
+  main_none : (frame_at fs k).s ≡ 0 → None ≡ lowest (is_main_fault fs) 0 fs
   main_none z =
       lowest_one (Lowest.nowhere (λ j h. (only_last j h).1 z))
       (lowest_all no_frame (is_main_fault fs) fs)
 
-  main_some : ((frame_at fs k).s ≡ 0 → ⊥) → some k ≡ lowest (is_main_fault fs) 0 fs
+  main_some : ((frame_at fs k).s ≡ 0 → ⊥) → Some k ≡ lowest (is_main_fault fs) 0 fs
   main_some d = lowest_one low (lowest_all no_frame (is_main_fault fs) fs)
     where
-      low : Lowest (MainHit fs) (some k)
+      low : Lowest (MainHit fs) (Some k)
       low =
           Lowest.lowest_at (l, last_hit fs k is after d)
           (λ j h. let e = (only_last j h).0 in omega arith)
 
 -- there is no module
 no_main : (fs : List Frame) (k : ℕ) → suc k ≡ length fs → NoModuleFrom fs 0
-    → some k ≡ lowest (is_main_fault fs) 0 fs
+    → Some k ≡ lowest (is_main_fault fs) 0 fs
 no_main fs k e h = lowest_one low (lowest_all no_frame (is_main_fault fs) fs)
   where
     only : (j : ℕ) → MainHit fs j → k ≤ j
@@ -188,7 +184,7 @@ no_main fs k e h = lowest_one low (lowest_all no_frame (is_main_fault fs) fs)
         ⊎_elim (λ m. absurd (module_from fs 0 h j (omega arith) p.0 m.0))
         (λ n. (let q = n.0 in omega arith)) (hit_is fs j p.1)
 
-    low : Lowest (MainHit fs) (some k)
+    low : Lowest (MainHit fs) (Some k)
     low = Lowest.lowest_at {j = k} (omega arith, none_hit fs k e h) only
 
 -- ---- as the code finds it, from the last frame down
@@ -206,24 +202,24 @@ module _ (ws : List ℕ) (n : ℕ) (f : Frame) (b : Bool)
       ap (λ (k : ℕ). any is_module_frame (drop k (frames_of ws))) s ∙ g
 
   pub main_fine : f.s ≡ 0 → NoModuleFrom (frames_of ws) n → 0 < n → n ≤ length ws
-      → Nowhere ≡ found (lowest (is_main_fault (frames_of ws)) 0 (frames_of ws))
+      → None ≡ lowest (is_main_fault (frames_of ws)) 0 (frames_of ws)
   main_fine z g p l =
       let y = ap (λ (x : Frame). x.s) (sym e) ∙ z in
-      ap found (main_none (frames_of ws) (n - 1) (inside p l) module_is (from_next g p) y)
+      main_none (frames_of ws) (n - 1) (inside p l) module_is (from_next g p) y
 
   pub main_wrong : (f.s ≡ 0 → ⊥) → NoModuleFrom (frames_of ws) n → 0 < n → n ≤ length ws
-      → At (n - 1) ≡ found (lowest (is_main_fault (frames_of ws)) 0 (frames_of ws))
+      → Some (n - 1) ≡ lowest (is_main_fault (frames_of ws)) 0 (frames_of ws)
   main_wrong d g p l =
       let y : (frame_at (frames_of ws) (n - 1)).s ≡ 0 → ⊥ = λ z. d (ap (λ (x : Frame). x.s) e ∙ z) in
-      ap found (main_some (frames_of ws) (n - 1) (inside p l) module_is (from_next g p) y)
+      main_some (frames_of ws) (n - 1) (inside p l) module_is (from_next g p) y
 
 pub main_missing : (ws : List ℕ) (n : ℕ) → NoModuleFrom (frames_of ws) n → n ≤ 0 → 0 < length ws
-    → At (length ws - 1) ≡ found (lowest (is_main_fault (frames_of ws)) 0 (frames_of ws))
+    → Some (length ws - 1) ≡ lowest (is_main_fault (frames_of ws)) 0 (frames_of ws)
 main_missing ws n g z p =
     let e : n ≡ 0 = omega arith in
     let k = frames_length ws in
     let y = ap (λ (k : ℕ). any is_module_frame (drop k (frames_of ws))) (sym e) ∙ g in
-    ap found (no_main (frames_of ws) (length ws - 1) (omega arith) y)
+    no_main (frames_of ws) (length ws - 1) (omega arith) y
 
 -- ---- both halves
 or_or : (a b c : Bool) → (a || (b || c)) ≡ ((a || b) || c)
@@ -261,10 +257,8 @@ shape_earlier fs =
         ⊎_elim (λ p. inl (h.0, p)) (λ q. inr (h.0, q))
         (or_true (has_class_fault fs j f) (is_main_fault fs j f) (sym (halves fs j f) ∙ h.1))
 
-pub shape_is : (fs : List Frame) (a b r : FaultSearch) → a ≡ found (lowest (has_class_fault fs) 0 fs)
-    → b ≡ found (lowest (is_main_fault fs) 0 fs) → r ≡ found (earlier (option_of a) (option_of b))
-    → r ≡ found (shape_fault_at fs)
-shape_is fs a b r p q h =
-    let x = ap option_of p ∙ option_found (lowest (has_class_fault fs) 0 fs) in
-    let y = ap option_of q ∙ option_found (lowest (is_main_fault fs) 0 fs) in
-    h ∙ ap found (ap₂ earlier x y ∙ shape_earlier fs)
+pub shape_is : (fs : List Frame) (a b r : Option ℕ) → a ≡ lowest (has_class_fault fs) 0 fs
+    → b ≡ lowest (is_main_fault fs) 0 fs → r ≡ earlier a b → r ≡ shape_fault_at fs
+shape_is fs a b r p q h = h ∙ ap₂ earlier p q ∙ shape_earlier fs
+
+pub ruleset class_fault_laws = (class_fault_here, class_fault_next, class_fault_end)

@@ -4,7 +4,7 @@ use mathlib.Core.Path.{◌≡◌, refl, sym, ap, ap₂, subst, ◌∙◌}
 use mathlib.Core.Logic.{◌⊎◌, inl, inr, ⊎_elim}
 use mathlib.Core.Bool.{Bool, true, false, ◌||◌, true≢false}
 use mathlib.Core.List.{List}
-use mathlib.Core.Option.{Option, some}
+use Rattle.std.specs.Prelude.{Option, Some, None, MatchOption, unwrap_or}
 use Prim.Native.Nat.{ℕ, min, ◌+◌, ◌≤◌, ◌<◌}
 use native.Mathlib.Omega.{arith}
 use lib.Dec.{eqb, leb, ltb}
@@ -17,18 +17,12 @@ use Rattle.language.specs.declared.frame.Frame.{Frame}
 use Rattle.text.specs.Frames.{frames_of}
 use Rattle.text.proofs.FrameWords.{frames_length}
 use Rattle.program.specs.Trees.{no_frame, frame_at}
-use Rattle.fields.specs.declared.fault_search.FaultSearch.{FaultSearch}
-use Rattle.fields.specs.declared.fault_search.FaultSearch.TheVariants.{At, Nowhere}
-use Rattle.fields.specs.Inner.Scans.{found, option_of}
-use Rattle.fields.proofs.Finds.{option_found}
-use Rattle.fields.proofs.Seeking.{Seeking, seek_here, seek_next, seek_end}
 use Rattle.layout.specs.Uses.{used}
 use Rattle.layout.specs.Inner.Uses.{CountsUses}
 use Rattle.layout.proofs.Searches.{Lowest, either, lowest_one, lowest_all}
 use Rattle.layout.proofs.UseCounts.{cap_full, cap_few}
 use Rattle.drawing.specs.Inner.Finds.{is_below, is_tree_fault, tree_fault_at}
 use Rattle.forest.specs.Inner.FrameTests.{has_child_from, is_use_fault, is_cycle_fault}
-use Rattle.forest.specs.Inner.FrameTests.{frames_before}
 use Rattle.forest.specs.Inner.Walks.{NoCycleBefore}
 
 -- ---- a count of 2 is a frame used twice
@@ -50,9 +44,9 @@ module _ (ws : List ℕ) (i : ℕ) (f : Frame) (x : Bool)
       ap (λ (n : ℕ). has_child_from n (frame_at (frames_of ws) i)) (frames_length ws)
       ∙ sym (h ∙ ap (has_child_from (length ws)) e)
 
-  pub use_missing : x ≡ true → true ≡ is_use_fault (frames_of ws) i (frame_at (frames_of ws) i)
+  pub use_missing : x ≡ true → x ≡ is_use_fault (frames_of ws) i (frame_at (frames_of ws) i)
   unfolding is_use_fault
-  use_missing t = sym (or_left _ _ (missing_is ∙ t))
+  use_missing t = t ∙ sym (or_left _ _ (missing_is ∙ t))
 
   pub use_twice : (u : List ℕ) → x ≡ false → CountsUses (frames_of ws) u → i < length ws
       → length ws ≤ 1024
@@ -61,24 +55,6 @@ module _ (ws : List ℕ) (i : ℕ) (f : Frame) (x : Bool)
   use_twice u t cs l m =
       twice_is (used i (frames_of ws)) _ (cs i (omega arith))
       ∙ sym (ap (λ (b : Bool). b || leb 2 (used i (frames_of ws))) (missing_is ∙ t))
-
--- ---- the loop over the uses
-abbrev pub SeekingUse : List Frame → ℕ → Type 0
-SeekingUse fs i = Seeking (is_use_fault fs) fs i
-
-module _ (ws : List ℕ) (i : ℕ) (b : Bool)
-    (h : b ≡ is_use_fault (frames_of ws) i (frame_at (frames_of ws) i)) where
-  pub use_here : b ≡ true → SeekingUse (frames_of ws) i → i < length ws
-      → At i ≡ found (lowest (is_use_fault (frames_of ws)) 0 (frames_of ws))
-  use_here t g l = seek_here (is_use_fault (frames_of ws)) ws i g l (sym h ∙ t)
-
-  pub use_next : b ≡ false → SeekingUse (frames_of ws) i → i < length ws
-      → SeekingUse (frames_of ws) (i + 1)
-  use_next t g l = seek_next (is_use_fault (frames_of ws)) ws i g l (sym h ∙ t)
-
-pub use_end : (ws : List ℕ) (i : ℕ) → SeekingUse (frames_of ws) i → length ws ≤ i
-    → Nowhere ≡ found (lowest (is_use_fault (frames_of ws)) 0 (frames_of ws))
-use_end ws i g l = seek_end (is_use_fault (frames_of ws)) ws i g l
 
 -- ---- the loop over the cycles among the first n frames
 abbrev CycleHit : List Frame → ℕ → ℕ → Type 0
@@ -104,8 +80,8 @@ module _ (ws : List ℕ) (i : ℕ) (b : Bool) (h : b ≡ is_below (frames_of ws)
           subst (λ (y : ℕ). is_below (frames_of ws) y y ≡ false) q (sym h ∙ t)
 
   pub cycle_here : (n : ℕ) → b ≡ true → NoCycleBefore (frames_of ws) i → i < n → n ≤ length ws
-      → At i ≡ found (lowest (is_cycle_fault (frames_of ws)) 0 (take n (frames_of ws)))
-  cycle_here n t none_yet l m = ap found (lowest_one low (lowest_cycle (frames_of ws) n))
+      → Some i ≡ lowest (is_cycle_fault (frames_of ws)) 0 (take n (frames_of ws))
+  cycle_here n t none_yet l m = lowest_one low (lowest_cycle (frames_of ws) n)
     where
       first : (k : ℕ) → CycleHit (frames_of ws) n k → i ≤ k
       first k p = go (leb i k) refl
@@ -114,15 +90,15 @@ module _ (ws : List ℕ) (i : ℕ) (b : Bool) (h : b ≡ is_below (frames_of ws)
           go true e = leb-true i k e
           go false e = absurd (true≢false (sym p.1 ∙ none_yet k (leb-false i k e)))
 
-      low : Lowest (CycleHit (frames_of ws) n) (some i)
+      low : Lowest (CycleHit (frames_of ws) n) (Some i)
       low =
           let z = short ws n m in
           Lowest.lowest_at {j = i} (omega arith, sym h ∙ t) first
 
 pub cycle_end : (ws : List ℕ) (i n : ℕ) → NoCycleBefore (frames_of ws) i → n ≤ i → n ≤ length ws
-    → Nowhere ≡ found (lowest (is_cycle_fault (frames_of ws)) 0 (take n (frames_of ws)))
+    → None ≡ lowest (is_cycle_fault (frames_of ws)) 0 (take n (frames_of ws))
 cycle_end ws i n none_yet l m =
-    ap found (lowest_one (Lowest.nowhere never) (lowest_cycle (frames_of ws) n))
+    lowest_one (Lowest.nowhere never) (lowest_cycle (frames_of ws) n)
   where
     never : (k : ℕ) → CycleHit (frames_of ws) n k → ⊥
     never k p =
@@ -159,7 +135,7 @@ low_more f g (Lowest.lowest_at {j = j} p l) =
     omega arith)
 
 -- the search among m found n: it is not after those from n on
-from_found : {P : ℕ → Type 0} {o : Option ℕ} (n m j : ℕ) → Lowest P o → n ≡ frames_before o m
+from_found : {P : ℕ → Type 0} {o : Option ℕ} (n m j : ℕ) → Lowest P o → n ≡ unwrap_or o m
     → n ≤ j → j < m → NotAfter P j
 from_found n m j (Lowest.nowhere h) e l k = absurd (omega arith)
 from_found n m j (Lowest.lowest_at {j = i} p h) e l k =
@@ -179,12 +155,12 @@ lowest_use fs = lowest_all no_frame (is_use_fault fs) fs
 
 -- those before it are at most all
 bounded : {P : ℕ → Type 0} {o : Option ℕ} (n m : ℕ) → Lowest P o → ((j : ℕ) → P j → j < m)
-    → n ≡ frames_before o m → n ≤ m
+    → n ≡ unwrap_or o m → n ≤ m
 bounded n m (Lowest.nowhere h) f e = omega arith
 bounded n m (Lowest.lowest_at {j = j} p h) f e = (let l = f j p in omega arith)
 
 module _ (fs : List Frame) (n : ℕ)
-    (e : n ≡ frames_before (lowest (is_use_fault fs) 0 fs) (length fs)) where
+    (e : n ≡ unwrap_or (lowest (is_use_fault fs) 0 fs) (length fs)) where
   inside : n ≤ length fs
   inside = bounded n (length fs) (lowest_use fs) (λ j h. h.0) e
 
@@ -230,26 +206,29 @@ module _ (fs : List Frame) (n : ℕ)
           (or_true (is_use_fault fs j f) (is_below fs j j) (sym (halves fs j f) ∙ h.1))
 
 -- ---- as the code has it
-module _ (ws : List ℕ) (a : FaultSearch) (n : ℕ)
-    (p : a ≡ found (lowest (is_use_fault (frames_of ws)) 0 (frames_of ws)))
-    (q : n ≡ frames_before (option_of a) (length ws)) where
-  use_option : option_of a ≡ lowest (is_use_fault (frames_of ws)) 0 (frames_of ws)
-  use_option = ap option_of p ∙ option_found (lowest (is_use_fault (frames_of ws)) 0 (frames_of ws))
+pub before_is : (a : Option ℕ) (n r : ℕ) → MatchOption a (r ≡ n) (λ j. r ≡ j)
+    → r ≡ unwrap_or a n
+before_is None n r h = h
+before_is (Some j) n r h = h
 
-  before_is : n
-      ≡ frames_before (lowest (is_use_fault (frames_of ws)) 0 (frames_of ws)) (length (frames_of ws))
-  before_is = q ∙ ap₂ frames_before use_option (sym (frames_length ws))
+module _ (ws : List ℕ) (a : Option ℕ) (n : ℕ)
+    (p : a ≡ lowest (is_use_fault (frames_of ws)) 0 (frames_of ws))
+    (q : n ≡ unwrap_or a (length ws)) where
+  until_is : n
+      ≡ unwrap_or (lowest (is_use_fault (frames_of ws)) 0 (frames_of ws)) (length (frames_of ws))
+  until_is = q ∙ ap₂ unwrap_or p (sym (frames_length ws))
 
   pub before_inside : n ≤ length ws
   before_inside =
       let z = frames_length ws in
-      let l = inside (frames_of ws) n before_is in
+      let l = inside (frames_of ws) n until_is in
       omega arith
 
-  pub tree_is : (b r : FaultSearch)
-      → b ≡ found (lowest (is_cycle_fault (frames_of ws)) 0 (take n (frames_of ws)))
-      → r ≡ found (earlier (option_of a) (option_of b)) → r ≡ found (tree_fault_at (frames_of ws))
-  tree_is b r s h =
-      let c = lowest (is_cycle_fault (frames_of ws)) 0 (take n (frames_of ws)) in
-      let y = ap option_of s ∙ option_found c in
-      h ∙ ap found (ap₂ earlier use_option y ∙ tree_earlier (frames_of ws) n before_is)
+  pub tree_is : (b r : Option ℕ)
+      → b ≡ lowest (is_cycle_fault (frames_of ws)) 0 (take n (frames_of ws))
+      → r ≡ earlier a b → r ≡ tree_fault_at (frames_of ws)
+  tree_is b r s h = h ∙ ap₂ earlier p s ∙ tree_earlier (frames_of ws) n until_is
+
+pub ruleset use_test_laws = (use_missing, use_twice)
+
+pub ruleset cycle_laws = (no_cycle_next, cycle_here, cycle_end)

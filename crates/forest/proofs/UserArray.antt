@@ -31,11 +31,16 @@ pub note_past : (n : ℕ) (u : List ℕ) (v : ℕ) → most_lines ≤ v → u �
 unfolding with_user
 note_past n u v l = no (set u v n) (le-ltb v most_lines l) refl
 
-pub note_set : (n : ℕ) (u : List ℕ) (v : ℕ) → v < most_lines → set u v n ≡ with_user n u v
-unfolding with_user
-note_set n u v l = yes u (lt-ltb v most_lines l) refl
+-- j is v, as the code's index
+module _ (n : ℕ) (u : List ℕ) (v j : ℕ) (same : j ≡ v) where
+  pub note_after : most_lines ≤ j → u ≡ with_user n u v
+  note_after l = note_past n u v (omega (arith, same))
 
-pub ruleset note_laws = (note_past, note_set)
+  pub note_set : j < most_lines → set u j n ≡ with_user n u v
+  unfolding with_user
+  note_set l = rw same (yes u (lt-ltb v most_lines (omega (arith, same))) refl)
+
+pub ruleset note_laws = (note_after, note_set)
 
 -- ---- the loop that fills: from here on it is as from the start
 abbrev pub Noting : List Frame → List ℕ → ℕ → Type 0
@@ -216,3 +221,5 @@ module _ (j : ℕ) (o : j < most_lines) where
       go : (x : ℕ) → Noted fs (replicate most_lines 0) 0 x → x ≡ suc i
       go x (Noted.kept z h) = absurd (true≢false (sym t ∙ h i l))
       go x (Noted.by k z q h) = let e = one_user j fs s i k l q t h in omega arith
+
+pub ruleset noting_laws = (noting_start, noting_next, noting_end)

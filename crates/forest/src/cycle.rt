@@ -1,107 +1,105 @@
-// Whether a frame is below itself.
-ghost use Rattle.std.specs.Prelude.{◌≡◌, true, false, ◌<◌, ◌≤◌, length, get_or, set};
+//! Whether a frame is below itself.
+ghost use Rattle.std.specs.Prelude.{◌≡◌, true, false, ◌<◌, ◌≤◌, length, get_or, set, replicate};
 ghost use Rattle.language.specs.Kinds.{children};
 ghost use Rattle.language.specs.Limits.{most_lines};
 ghost use Rattle.text.specs.Frames.{frames_of};
 ghost use Rattle.program.specs.Inner.Children.{over_children};
 ghost use Rattle.drawing.specs.Inner.Finds.{is_below};
-ghost use Rattle.forest.specs.Inner.Walks.{walk, QueueRoom, entered, NoCycleBefore};
+ghost use Rattle.forest.specs.Inner.Walks.{met, HasRoom, entered, NoCycleBefore};
 ghost use Rattle.forest.specs.Inner.Walks.{marks_of};
 
 use language::frame::Frame;
 use language::limit::MOST_LINES;
+use layout::lines::Lines;
 use program::frames::{child_numbers, frame_at};
 
-// The frames met so far are marked, and stand in the first `filled` places of the queue. A mark is
-// a bit, so that those of all frames take few bytes of the stack.
+// A mark is a bit, so that those of all frames take few bytes of the stack.
 const WORD_BITS: usize = 64;
 
 const MARK_WORDS: usize = MOST_LINES / WORD_BITS;
 
-// The length of the marks stands in the contracts because a proof is not told the length of a lent
-// array; `QueueRoom` has it too.
+#[tactic(auto, using(crate::proofs::MarkBits::bit_tested))]
 fn is_marked(marks: &[u64; MARK_WORDS], j: usize) -> bool
-    requires { (j < most_lines) × (length (marks_of marks.now) ≡ most_lines) }
+    requires { j < most_lines }
     ensures { result ≡ get_or (marks_of marks.now) j false }
 {
     (marks[j / WORD_BITS] >> (j % WORD_BITS)) & 1 == 1
 }
 
+#[tactic(auto, using(crate::proofs::MarkBits::bit_set))]
 fn mark(marks: &mut [u64; MARK_WORDS], j: usize)
-    requires { (j < most_lines) × (length (marks_of marks.old) ≡ most_lines) }
+    requires { j < most_lines }
     ensures { marks_of marks.new ≡ set (marks_of marks.old) j true }
 {
     marks[j / WORD_BITS] |= 1u64 << (j % WORD_BITS);
 }
 
-// Frame v of n frames is met, on a way from i. A frame enters the queue the first time only, so
-// that there is always room (`QueueRoom`); a number before i or after the last frame does not enter.
-fn enter(
-    marks: &mut [u64; MARK_WORDS],
-    queue: &mut [u16; MOST_LINES],
+// The frames met on the way down from one: they are marked, and stand in the first `filled` places
+// of the queue.
+#[derive(Drop)]
+pub(crate) struct Met {
+    marks: [u64; MARK_WORDS],
+    queue: [u16; MOST_LINES],
     filled: usize,
-    v: u16,
-    i: usize,
-    n: usize,
-) -> usize
-    requires { (n ≤ most_lines) × QueueRoom (marks_of marks.old) filled }
-    ensures { walk (marks_of marks.new) queue.new result
-        ≡ entered i n (walk (marks_of marks.old) queue.old filled) v }
-{
-    let j = v as usize;
-    if j < i {
-        return filled;
-    }
-    if n <= j {
-        return filled;
-    }
-    if is_marked(marks, j) {
-        return filled;
-    }
-    mark(marks, j);
-    queue[filled] = v;
-    filled + 1
 }
 
-fn enter_children(
-    marks: &mut [u64; MARK_WORDS],
-    queue: &mut [u16; MOST_LINES],
-    filled: usize,
-    f: Frame,
-    i: usize,
-    n: usize,
-) -> usize
-    requires { (n ≤ most_lines) × QueueRoom (marks_of marks.old) filled }
-    ensures { walk (marks_of marks.new) queue.new result
-        ≡ over_children (entered i n)
-        (walk (marks_of marks.old) queue.old filled) (children f) }
-{
-    let numbers = child_numbers(f);
-    let one = enter(marks, queue, filled, numbers.a, i, n);
-    let two = enter(marks, queue, one, numbers.b, i, n);
-    enter(marks, queue, two, numbers.c, i, n)
+impl Met {
+    // Nothing is met. It is made once for all ways: `on_cycle` empties it.
+    pub(crate) fn new() -> Met
+        ensures { result ≡ record { marks = replicate MARK_WORDS 0; queue = replicate MOST_LINES 0; filled = 0 } }
+    {
+        Met {
+            marks: [0; MARK_WORDS],
+            queue: [0; MOST_LINES],
+            filled: 0,
+        }
+    }
+
+    // Frame v of n frames is met, on a way from i. A frame enters the queue the first time only, so
+    // that there is always room (`HasRoom`); a number before i or after the last frame does not
+    // enter.
+    fn enter(&mut self, v: u16, i: usize, n: usize)
+        requires { (n ≤ most_lines) × HasRoom self.old }
+        ensures { met self.new ≡ entered i n (met self.old) v }
+    {
+        let j = usize::from(v);
+        if j < i || n <= j || is_marked(&self.marks, j) {
+            return;
+        }
+        mark(&mut self.marks, j);
+        self.queue[self.filled] = v;
+        self.filled += 1;
+    }
+
+    fn enter_children(&mut self, f: Frame, i: usize, n: usize)
+        requires { (n ≤ most_lines) × HasRoom self.old }
+        ensures { met self.new ≡ over_children (entered i n) (met self.old) (children f) }
+    {
+        for v in child_numbers(f) {
+            self.enter(v, i, n);
+        }
+    }
 }
 
 // Frame i is on a cycle of children. The frames before i were asked first and are on no cycle, so
-// none of them is looked at, and each other frame below i at most once. The queue is lent, with
-// anything in it, so that it is made once for all frames; its length stands in the contract because
-// a proof is not told the length of a lent array.
-pub(crate) fn on_cycle(words: &[u64], i: usize, queue: &mut [u16; MOST_LINES]) -> bool
-    requires { (i < length words.now) × (length words.now ≤ most_lines)
-        × (length queue.old ≡ most_lines) × NoCycleBefore (frames_of words.now) i }
-    ensures value { result ≡ is_below (frames_of words.now) i i }
-    ensures wide { length queue.new ≡ most_lines }
+// none of them is looked at, and each other frame below i at most once. What was met is lent, with
+// anything in it.
+pub(crate) fn on_cycle(lines: Lines, i: usize, met: &mut Met) -> bool
+    requires { (i < length lines.words.now) × NoCycleBefore (frames_of lines.words.now) i }
+    ensures { result ≡ is_below (frames_of lines.entry.words.now) i i }
 {
-    let n = words.len();
-    let mut marks = [0; MARK_WORDS];
-    let mut filled = enter_children(&mut marks, queue, 0, frame_at(words, i), i, n);
+    let n = lines.words.len();
+    met.marks = [0; MARK_WORDS];
+    met.filled = 0;
+    met.enter_children(frame_at(lines.words, i), i, n);
     let mut k: usize = 0;
-    while k < filled {
-        let j = queue[k] as usize;
+    // `while`: the queue grows as it is read, so that no range or slice is known before.
+    while k < met.filled {
+        let j = usize::from(met.queue[k]);
         if j == i {
             return true;
         }
-        filled = enter_children(&mut marks, queue, filled, frame_at(words, j), i, n);
+        met.enter_children(frame_at(lines.words, j), i, n);
         k += 1;
     }
     false

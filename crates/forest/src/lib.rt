@@ -1,4 +1,4 @@
-// The faults of frames in any order: refusals 4, 5, 21, the writer's 6, and 7.
+//! The faults of frames in any order: refusals 4, 5, 21, the writer's 6, and 7.
 #![tactic(auto)]
 
 ghost use Rattle.std.specs.Prelude.{◌≡◌};
@@ -9,11 +9,10 @@ ghost use Rattle.drawing.specs.Inner.Finds.{form_verdict, drawing_verdict};
 use crate::depth::depth_fault;
 use crate::shape::shape_fault;
 use crate::tree::tree_fault;
-use fields::fault_search::FaultSearch;
+use fields::fault_search::refused_at;
 use fields::field::{fields, header};
-use language::refusal::{
-    Refusal, TOO_DEEP, Verdict, WRONG_FIELD, WRONG_HEADER, WRONG_ORDER, WRONG_TREE,
-};
+use language::refusal::{Rule, Verdict};
+use layout::lines::Lines;
 
 mod cycle;
 mod depth;
@@ -23,47 +22,22 @@ mod tree;
 // 21, 6 and 7. A pass may rely on those before it: the depths on there being trees of the right
 // shape. Each makes its own arrays, and none outlives its pass, so that they can share their place
 // on the stack.
-fn form_of(words: &[u64]) -> Verdict
-    requires { LineWords words.now }
-    ensures { result ≡ form_verdict (frames_of words.now) }
+fn form_of(lines: Lines) -> Verdict
+    ensures { result ≡ form_verdict (frames_of lines.entry.words.now) }
 {
-    match tree_fault(words) {
-        FaultSearch::At(frame) => Err(Refusal {
-            number: WRONG_TREE,
-            frame,
-        }),
-        FaultSearch::Nowhere => match shape_fault(words) {
-            FaultSearch::At(frame) => Err(Refusal {
-                number: WRONG_ORDER,
-                frame,
-            }),
-            FaultSearch::Nowhere => match depth_fault(words) {
-                FaultSearch::At(frame) => Err(Refusal {
-                    number: TOO_DEEP,
-                    frame,
-                }),
-                FaultSearch::Nowhere => Ok(()),
-            },
-        },
-    }
+    refused_at(Rule::WrongTree, tree_fault(lines))?;
+    refused_at(Rule::WrongOrder, shape_fault(lines))?;
+    refused_at(Rule::TooDeep, depth_fault(lines))
 }
 
-// 4 and 5, which do not look at the order, and then the others.
+/// What refuses a text's lines before they are laid out, with its lowest frame, from 0: 4 and 5,
+/// which do not look at the order; then 21, children that form no trees; 6, a child of a wrong
+/// class, a frame left over or no `main`; 7, a depth over 24. `Ok` where nothing does.
 pub fn drawing_verdict(words: &[u64]) -> Verdict
     requires { LineWords words.now }
     ensures { result ≡ drawing_verdict (frames_of words.now) }
 {
-    match header(words) {
-        FaultSearch::At(frame) => Err(Refusal {
-            number: WRONG_HEADER,
-            frame,
-        }),
-        FaultSearch::Nowhere => match fields(words) {
-            FaultSearch::At(frame) => Err(Refusal {
-                number: WRONG_FIELD,
-                frame,
-            }),
-            FaultSearch::Nowhere => form_of(words),
-        },
-    }
+    refused_at(Rule::WrongHeader, header(words))?;
+    refused_at(Rule::WrongField, fields(words))?;
+    form_of(Lines { words })
 }

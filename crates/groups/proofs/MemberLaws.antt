@@ -20,12 +20,12 @@ use Rattle.machine.specs.Groups.{schedulers_where}
 use Rattle.machine.specs.Words.{words_at}
 use Rattle.lists.specs.Inner.Lists.{is_awaiting_word, active_with, with_woken, ready_words}
 use Rattle.lists.specs.Inner.Families.{is_ready_word, LivingFamilies}
-use Rattle.lists.specs.Inner.Lists.{with_instant_ended, ListWords}
+use Rattle.lists.specs.Inner.Lists.{with_instant_ended, ListWords, ListsFit}
 use Rattle.lists.proofs.PartitionLaws.{idle_room}
 use Rattle.lists.proofs.MovedLaws.{moved_long, moved_other, moved_fits, moved_living, active_same}
 use Rattle.groups.specs.Inner.Members.{members_in}
 use Rattle.groups.specs.Inner.Members.{room_on, woken_if, woken_on, ended_if}
-use Rattle.groups.specs.Inner.Members.{ready_if, ended_on, ready_on, GroupOf, PairOf, GroupWords}
+use Rattle.groups.specs.Inner.Members.{ready_if, ended_on, ready_on, GroupOf, PairOf}
 use Rattle.groups.specs.Inner.Members.{Each, HasRoomOn, IdleOn, RoomIf, IdleIf}
 
 -- ---- the schedulers from k on that pass
@@ -101,7 +101,7 @@ walk_on F G whole labels p n m k t h =
 
 -- what the calls in such a loop ask
 module _ {X : Type 0} (F : List ℕ → X) (whole : X) (labels : List ℕ) (p n m k : ℕ)
-    (t : Walk F whole labels p n m k) (l : k < m) (g : GroupOf labels n p) where
+    (t : Walk F whole labels p n m k) (l : k < m) (g : GroupOf n p) where
   pub walk_place : is_place k ≡ true
   walk_place =
       let z = t.end in
@@ -117,22 +117,24 @@ module _ {X : Type 0} (F : List ℕ → X) (whole : X) (labels : List ℕ) (p n 
       ap (λ (x : Place). is_scheduler x.number) e
       ∙ and_both _ _ (le-leb 2 k (omega arith)) (le-leb k 9 (omega arith))
 
-pub end_small : (labels : List ℕ) (n p : ℕ) → GroupOf labels n p → 2 + n < 256
-end_small labels n p g = let f = g.few in omega arith
+pub end_small : (n p : ℕ) → GroupOf n p → 2 + n < 256
+end_small n p g = let f = g.few in omega arith
 
 -- a scheduler of the loop beside p
 pub walk_pair : {X : Type 0} (F : List ℕ → X) (whole : X) (labels : List ℕ) (p n m k : ℕ) (q : Place)
-    → Walk F whole labels p n m k → k < m → GroupOf labels n p → q ≡ record { number = k }
-    → PairOf labels p q.number
+    → Walk F whole labels p n m k → k < m → GroupOf n p → q ≡ record { number = k }
+    → PairOf p q.number
 walk_pair F whole labels p n m k q t l g i =
     record {
-      labelled = g.labelled;
       own = g.scheduler;
       other = walk_scheduler F whole labels p n m k t l g q i;
     }
 
-pub pair_other : (labels : List ℕ) (p k : ℕ) → PairOf labels p k → is_scheduler k ≡ true
-pair_other labels p k h = h.other
+pub pair_own : (p k : ℕ) → PairOf p k → is_scheduler p ≡ true
+pair_own p k h = h.own
+
+pub pair_other : (p k : ℕ) → PairOf p k → is_scheduler k ≡ true
+pair_other p k h = h.other
 
 -- ---- what `any` answers over the schedulers' numbers: some member passes; not every member does
 module _ (same test : ℕ → Bool) where
@@ -176,14 +178,14 @@ module _ (same test : ℕ → Bool) where
       go false b e h = h
 
 -- what the lists of a member are asked for
-pub words_few : (w : List ℕ) → GroupWords w → get_or w 0 0 ≤ 64
-words_few w h = h.lists.threads
+pub words_few : (w : List ℕ) → ListsFit w → get_or w 0 0 ≤ 64
+words_few w h = h.threads
 
-pub list_words : (w : List ℕ) (q : ℕ) → GroupWords w → is_scheduler q ≡ true
+pub list_words : (w : List ℕ) (q : ℕ) → ListsFit w → is_scheduler q ≡ true
     → ListWords w (67 + 130 * (q - 2))
 list_words w q h s =
     let (a, b) = test_bounds 2 q s in
-    (h.all, h.lists.threads, h.lists.next (q - 2) (omega arith))
+    (h.threads, h.next (q - 2) (omega arith))
 
 -- ---- `wake_if_member`, `end_if_member`: r is what `in_step` has answered
 module _ (labels w : List ℕ) (p k : ℕ) (r : Bool) (s : r ≡ same_label labels p k) where
@@ -222,19 +224,20 @@ module _ (labels w : List ℕ) (p k : ℕ) (r : Bool) (s : r ≡ same_label labe
 -- ---- `wake_on_each`: the members before k are woken, those from k on have room
 pub record Waking (labels w₀ : List ℕ) (p n m e : ℕ) (w : List ℕ) (k : ℕ) : Type 0 where
   pub walk : Walk (λ qs. woken_on qs e w) (woken_on (members_in labels n p) e w₀) labels p n m k
-  pub words : GroupWords w
+  pub long : length w ≡ 4834
+  pub words : ListsFit w
   pub room : Each (same_label labels p) (HasRoomOn e w) k (2 + n)
 
-pub waking_start : (labels w : List ℕ) (p n m e : ℕ) → m ≡ 2 + n → GroupWords w
+pub waking_start : (labels w : List ℕ) (p n m e : ℕ) → m ≡ 2 + n → length w ≡ 4834 → ListsFit w
     → Each (same_label labels p) (HasRoomOn e w) 2 (2 + n) → Waking labels w p n m e w 2
-waking_start labels w p n m e h g f =
-    record { walk = walk_start labels p n m (λ qs. woken_on qs e w) h; words = g; room = f }
+waking_start labels w p n m e h long g f =
+    record { walk = walk_start labels p n m (λ qs. woken_on qs e w) h; long = long; words = g; room = f }
 
-pub waking_words : (labels w₀ w : List ℕ) (p n m e k : ℕ) → Waking labels w₀ p n m e w k → GroupWords w
+pub waking_words : (labels w₀ w : List ℕ) (p n m e k : ℕ) → Waking labels w₀ p n m e w k → ListsFit w
 waking_words labels w₀ w p n m e k t = t.words
 
 module _ (labels w₀ w : List ℕ) (p n m e k : ℕ) (t : Waking labels w₀ p n m e w k) (l : k < m)
-    (g : GroupOf labels n p) where
+    (g : GroupOf n p) where
   room_now : same_label labels p k ≡ true → active_with (is_awaiting_word e) w (k - 2) ≤ 64
   room_now h = let z = t.walk.end in t.room k (omega arith) (omega arith) h
 
@@ -246,7 +249,7 @@ module _ (labels w₀ w : List ℕ) (p n m e k : ℕ) (t : Waking labels w₀ p 
   block = let z = t.walk.end in let f = g.few in let a = t.walk.low in omega arith
 
   small : get_or w (67 + 130 * (k - 2)) 0 ≤ 64
-  small = t.words.lists.next (k - 2) block
+  small = t.words.next (k - 2) block
 
   -- of a member, and of another
   woken_next : same_label labels p k ≡ true → Waking labels w₀ p n m e (with_woken w (k - 2) e) (k + 1)
@@ -256,10 +259,9 @@ module _ (labels w₀ w : List ℕ) (p n m e k : ℕ) (t : Waking labels w₀ p 
         walk =
             walk_on _ (λ qs. woken_on qs e (with_woken w (k - 2) e)) _ labels p n m k t.walk
             (walk_member labels p n m (λ qs. woken_on qs e w) _ k t.walk l here);
-        words = record {
-          all = moved_long (is_awaiting_word e) w (k - 2) block t.words.all small (room_now here);
-          lists = moved_fits (is_awaiting_word e) w (k - 2) block t.words.all small (room_now here) t.words.lists;
-        };
+        long = moved_long (is_awaiting_word e) w (k - 2) block t.long small (room_now here);
+        words =
+            moved_fits (is_awaiting_word e) w (k - 2) block t.long small (room_now here) t.words;
         room = λ a b c d. later a (omega arith) c d;
       }
     where
@@ -269,8 +271,8 @@ module _ (labels w₀ w : List ℕ) (p n m e k : ℕ) (t : Waking labels w₀ p 
           let low = t.walk.low in
           let few = g.few in
           let same = active_same w (with_woken w (k - 2) e) (a - 2)
-          (λ o x y. moved_other (is_awaiting_word e) w (k - 2) block t.words.all small (room_now here) o (λ f h. omega arith))
-          (t.words.lists.next (a - 2) (omega arith)) (is_awaiting_word e) in
+          (λ o x y. moved_other (is_awaiting_word e) w (k - 2) block t.long small (room_now here) o (λ f h. omega arith))
+          (t.words.next (a - 2) (omega arith)) (is_awaiting_word e) in
           let z = t.room a (omega arith) c d in
           omega arith
 
@@ -280,6 +282,7 @@ module _ (labels w₀ w : List ℕ) (p n m e k : ℕ) (t : Waking labels w₀ p 
         walk =
             walk_on _ (λ qs. woken_on qs e w) _ labels p n m k t.walk
             (walk_other labels p n m (λ qs. woken_on qs e w) _ k t.walk l other);
+        long = t.long;
         words = t.words;
         room = λ a b c d. t.room a (omega arith) c d;
       }
@@ -303,18 +306,20 @@ pub record Ending (labels w₀ : List ℕ) (p n m living : ℕ) (w : List ℕ) (
   pub walk : Walk (λ qs. ended_on qs w) (ended_on (members_in labels n p) w₀) labels p n m k
   pub count : ready + ready_on (members_from labels p n k) w ≡ ready_on (members_in labels n p) w₀
   pub few : ready ≤ 64 * k
-  pub words : GroupWords w
+  pub long : length w ≡ 4834
+  pub words : ListsFit w
   pub idle : Each (same_label labels p) (IdleOn w) k (2 + n)
   pub families : LivingFamilies w living
 
-pub ending_start : (labels w : List ℕ) (p n m living : ℕ) → m ≡ 2 + n → GroupWords w
+pub ending_start : (labels w : List ℕ) (p n m living : ℕ) → m ≡ 2 + n → length w ≡ 4834 → ListsFit w
     → Each (same_label labels p) (IdleOn w) 2 (2 + n) → LivingFamilies w living
     → Ending labels w p n m living w 0 2
-ending_start labels w p n m living h g f s =
+ending_start labels w p n m living h long g f s =
     record {
       walk = walk_start labels p n m (λ qs. ended_on qs w) h;
       count = let e = (walk_start labels p n m (λ qs. ready_on qs w) h).rest in omega arith;
       few = omega arith;
+      long = long;
       words = g;
       idle = f;
       families = s;
@@ -322,13 +327,13 @@ ending_start labels w p n m living h g f s =
 
 module _ (labels w₀ w : List ℕ) (p n m living ready k : ℕ)
     (t : Ending labels w₀ p n m living w ready k) where
-  pub ending_words_fit : GroupWords w
+  pub ending_words_fit : ListsFit w
   ending_words_fit = t.words
 
   pub ending_families : LivingFamilies w living
   ending_families = t.families
 
-  module _ (l : k < m) (g : GroupOf labels n p) where
+  module _ (l : k < m) (g : GroupOf n p) where
     idle_now : same_label labels p k ≡ true → get_or w (2 + 130 * (k - 2)) 0 ≡ 0
     idle_now h = let z = t.walk.end in t.idle k (omega arith) (omega arith) h
 
@@ -340,7 +345,7 @@ module _ (labels w₀ w : List ℕ) (p n m living ready k : ℕ)
     ending_block = let z = t.walk.end in let f = g.few in let a = t.walk.low in omega arith
 
     next_small : get_or w (67 + 130 * (k - 2)) 0 ≤ 64
-    next_small = t.words.lists.next (k - 2) ending_block
+    next_small = t.words.next (k - 2) ending_block
 
     room_idle : same_label labels p k ≡ true → active_with (is_ready_word w) w (k - 2) ≤ 64
     room_idle h = idle_room (is_ready_word w) w (k - 2) (idle_now h) next_small
@@ -382,13 +387,12 @@ module _ (labels w₀ w : List ℕ) (p n m living ready k : ℕ)
               let b = ap (λ (qs : List ℕ). ready_on qs w) (members_first (same_label labels p) k (2 + n) inside_file here) in
               omega arith;
           few = let a = room_idle here in let b = t.few in omega arith;
-          words = record {
-            all = moved_long (is_ready_word w) w (k - 2) ending_block t.words.all next_small (room_idle here);
-            lists = moved_fits (is_ready_word w) w (k - 2) ending_block t.words.all next_small (room_idle here) t.words.lists;
-          };
+          long = moved_long (is_ready_word w) w (k - 2) ending_block t.long next_small (room_idle here);
+          words =
+              moved_fits (is_ready_word w) w (k - 2) ending_block t.long next_small (room_idle here) t.words;
           idle = λ a b c d. later a (omega arith) c d;
           families =
-              moved_living (is_ready_word w) w (k - 2) ending_block t.words.all next_small (room_idle here) living
+              moved_living (is_ready_word w) w (k - 2) ending_block t.long next_small (room_idle here) living
               t.families;
         }
       where
@@ -396,7 +400,7 @@ module _ (labels w₀ w : List ℕ) (p n m living ready k : ℕ)
             → IdleOn (with_instant_ended w (k - 2)) a
         later a b c d =
             let low = t.walk.low in
-            moved_other (is_ready_word w) w (k - 2) ending_block t.words.all next_small (room_idle here) (2 + 130 * (a - 2)) (λ f h. omega arith)
+            moved_other (is_ready_word w) w (k - 2) ending_block t.long next_small (room_idle here) (2 + 130 * (a - 2)) (λ f h. omega arith)
             ∙ t.idle a (omega arith) c d
 
     kept_next : same_label labels p k ≡ false → After w 0
@@ -410,6 +414,7 @@ module _ (labels w₀ w : List ℕ) (p n m living ready k : ℕ)
               let b = ap (λ (qs : List ℕ). ready_on qs w) (members_later (same_label labels p) k (2 + n) inside_file other) in
               omega arith;
           few = let a = t.few in omega arith;
+          long = t.long;
           words = t.words;
           idle = λ a b c d. t.idle a (omega arith) c d;
           families = t.families;

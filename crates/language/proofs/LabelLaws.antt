@@ -128,12 +128,7 @@ gather_end labels p own s k i h e j l =
 pub index_small : (p i : ℕ) → i ≡ p - 2 → is_scheduler p ≡ true → i < 8
 index_small p i e h = let (a, b) = test_bounds 2 p h in omega arith
 
--- ---- `is_member`: of p itself
-pub member_self : (labels : List ℕ) (p n m : ℕ) → n ≡ m → m ≡ p → is_scheduler p ≡ true
-    → true ≡ in_group labels p n
-member_self labels p n m e h k =
-    sym (ap (in_group labels p) (e ∙ h) ∙ and_both _ _ k (eq-eqb (label_at labels p) (label_at labels p) refl))
-
+-- ---- `is_member`
 -- x is the place that m, which is n, was read as
 module _ (labels : List ℕ) (p n m : ℕ) (x : Option Place) (s : x ≡ place_read (is_scheduler m) m)
     (w : m ≡ n) where

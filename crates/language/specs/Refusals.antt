@@ -1,6 +1,7 @@
 -- The numbers of the refusals, in the order of 01's 'Who can cause which refusal'; then those of
 -- document 02.
 use Rattle.basics.specs.Prelude.{ℕ}
+use Rattle.language.specs.declared.refusal.Rule.{Rule}
 
 -- 'Whoever moves files': 'empty text; over 17,408 bytes; not such lines'
 abbrev pub empty_text : ℕ
@@ -72,3 +73,28 @@ stuck = 20
 -- 02, change 2: 'a child number without a frame, a frame used twice, or a circle of children'
 abbrev pub wrong_tree : ℕ
 wrong_tree = 21
+
+-- ---- the number of each rule that the code names
+
+abbrev pub rule_number : Rule → ℕ
+rule_number Rule.EmptyText = empty_text
+rule_number Rule.LongText = long_text
+rule_number Rule.MalformedText = malformed_text
+rule_number Rule.WrongHeader = wrong_header
+rule_number Rule.WrongField = wrong_field
+rule_number Rule.WrongOrder = wrong_order
+rule_number Rule.TooDeep = too_deep
+rule_number Rule.Unbound = unbound
+rule_number Rule.IllTyped = ill_typed
+rule_number Rule.Escaping = escaping
+rule_number Rule.WrongEffect = wrong_effect
+rule_number Rule.WhileUnlinked = while_unlinked
+rule_number Rule.InstantLoop = instant_loop
+rule_number Rule.WrongState = wrong_state
+rule_number Rule.NoParty = no_party
+rule_number Rule.NothingReady = nothing_ready
+rule_number Rule.CellsSpent = cells_spent
+rule_number Rule.ThreadsSpent = threads_spent
+rule_number Rule.Foreign = foreign
+rule_number Rule.Stuck = stuck
+rule_number Rule.WrongTree = wrong_tree

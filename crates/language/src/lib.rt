@@ -5,7 +5,7 @@
 ghost use Rattle.std.specs.Prelude.{◌≡◌, true, ◌-◌, eqb};
 ghost use Rattle.language.specs.Places.{private, home, is_place, is_scheduler, has_place};
 ghost use Rattle.language.specs.Places.{has_scheduler};
-ghost use Rattle.language.specs.Inner.Reads.{Reads, place_read};
+ghost use Rattle.language.specs.Inner.Reads.{ReadsPlace, place_read};
 
 pub mod effect;
 pub mod frame;
@@ -31,7 +31,7 @@ pub struct NoPlace {
 impl TryFrom<u64> for Place {
     type Error = NoPlace;
 
-    ghost try_from_gives = { Reads };
+    ghost try_from_gives = { ReadsPlace };
 
     fn try_from(number: u64) -> Result<Self, NoPlace> {
         let first = u64::from(Place::PRIVATE.number);
@@ -105,7 +105,8 @@ impl Place {
         Place::HOME.number <= self.number && self.number <= Place::LAST_SCHEDULER.number
     }
 
-    // Which of the schedulers it is, from 0.
+    /// Which of the schedulers it is, from 0.
+    // No type of schedulers beside `Place`: document 01 names one type of places, with constructors.
     pub fn index(self) -> usize
         requires { is_scheduler self.number ≡ true }
         ensures { result ≡ self.number - home }

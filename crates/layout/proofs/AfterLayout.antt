@@ -5,6 +5,7 @@ use mathlib.Core.List.{List}
 use Prim.Native.Nat.{ℕ}
 use native.Mathlib.Omega.{arith}
 use lib.ListN.{take}
+use Rattle.language.specs.declared.refusal.Rule.{Rule}
 use Rattle.language.specs.declared.frame.Frame.{Frame}
 use Rattle.text.specs.Frames.{frames_of, text_frames}
 use Rattle.text.specs.Reading.{Reading, frames, refused, Reads}
@@ -21,7 +22,7 @@ use Rattle.layout.specs.LaidOut.{after_layout, after_reading}
 use Rattle.layout.proofs.Scopes.{no_fault_laid_out}
 use Rattle.layout.proofs.Judged.{laid_passed, verdict_rejected}
 
-module _ {A : Type 0} (refusal : ℕ → ℕ → A) (passed : List Frame → A) (bs : List ℕ) where
+module _ {A : Type 0} (refusal : Rule → ℕ → A) (passed : List Frame → A) (bs : List ℕ) where
   -- by the rules: the text reads as these frames, and they have no fault
   pub text_fine : (fs : List Frame) → Reads bs (frames fs) → NoFault fs
       → passed fs ≡ after_reading refusal passed (reading bs)
@@ -32,7 +33,7 @@ module _ {A : Type 0} (refusal : ℕ → ℕ → A) (passed : List Frame → A) 
 
   module _ (l : Laid) (ws : List ℕ) (e : laid_as l ws ≡ laid_words bs) where
     by_reading : (r : Reading) → reading bs ≡ r → (a : Refusal) → l ≡ Err a
-        → refusal a.number a.frame ≡ after_reading refusal passed r
+        → refusal a.rule a.frame ≡ after_reading refusal passed r
     unfolding layout_verdict
     by_reading (refused m k) q a z =
         let y : ◌≡◌ {A = LayoutVerdict} (Err a) (Rejected m k) = verdict_rejected bs l ws e a z ∙ ap layout_read q in
@@ -42,7 +43,7 @@ module _ {A : Type 0} (refusal : ℕ → ℕ → A) (passed : List Frame → A) 
         ap (after_layout refusal (passed fs)) y
 
     pub text_refused : (a : Refusal) → l ≡ Err a
-        → refusal a.number a.frame ≡ after_reading refusal passed (reading bs)
+        → refusal a.rule a.frame ≡ after_reading refusal passed (reading bs)
     text_refused a z = by_reading (reading bs) refl a z
 
     pub text_passed : (n : ℕ) → l ≡ Lines n

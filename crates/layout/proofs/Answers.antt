@@ -1,5 +1,5 @@
 -- What the layout check answers on a text, from what its passes find. Assumes nothing.
-use Rattle.std.specs.Prelude.{Err}
+use Rattle.std.specs.Prelude.{Err, Option, None}
 use mathlib.Core.Path.{◌≡◌, refl, sym, ap, ap₂, ◌∙◌}
 use mathlib.Core.List.{List}
 use Prim.Native.Nat.{ℕ, ◌-◌, ◌≤◌, ◌<◌}
@@ -11,49 +11,55 @@ use Rattle.text.specs.Frames.{words_of, frames_of, text_frames}
 use Rattle.text.specs.Reading.{Reading, frames, refused, Reads}
 use Rattle.text.specs.Inner.Reading.{reading, text_read, lines_read, word_array, TextWords, read_as}
 use Rattle.text.specs.Inner.Reading.{text_words}
-use Rattle.language.proofs.VerdictLaws.{number_in, frame_in}
+use Rattle.language.proofs.VerdictLaws.{rule_in, frame_in}
 use Rattle.text.specs.Inner.Reads.{TextRead}
 use Rattle.text.specs.Inner.Reads.{Frames}
 use Rattle.language.specs.declared.refusal.Refusal.{Refusal}
 use Rattle.text.proofs.Readings.{reads, some_frame}
 use Rattle.text.proofs.ReadLaws.{length_frames, array_length, read_field, length_words}
-use Rattle.fields.specs.declared.fault_search.FaultSearch.{FaultSearch}
-use Rattle.fields.specs.declared.fault_search.FaultSearch.TheVariants.{At, Nowhere}
-use Rattle.fields.specs.Inner.Scans.{header_fault, field_fault, found}
-use Rattle.fields.proofs.Finds.{found_none, found_some}
+use Rattle.language.specs.Verdicts.{Verdict, Accepted}
+use Rattle.language.specs.declared.refusal.Rule.TheVariants.{WrongHeader, WrongField}
+use Rattle.language.specs.declared.refusal.Rule.TheVariants.{WrongOrder, TooDeep}
+use Rattle.fields.specs.Inner.Scans.{header_fault, field_fault, refused_at}
+use Rattle.fields.proofs.Finds.{found_none}
 use Rattle.layout.specs.Verdicts.{LayoutVerdict}
-use Rattle.layout.specs.Verdicts.{LaidOut, Rejected}
+use Rattle.layout.specs.Verdicts.{LaidOut}
 use Rattle.layout.specs.Inner.Laid.{Laid, Lines}
 use Rattle.layout.specs.Inner.Scans.{order_fault, depth_fault, layout_of}
 use Rattle.layout.specs.Inner.Layouts.{layout_read, layout_verdict, laid_for, verdict_of}
 use Rattle.layout.specs.Inner.Layouts.{LaidWords, laid_as, laid_words}
 
 -- ---- 4 to 7: the code stops at the first pass that finds a frame
-module _ (fs : List Frame) (a : FaultSearch) (ha : a ≡ found (header_fault fs)) where
-  pub laid_4 : (j : ℕ) → a ≡ At j → Rejected 4 j ≡ layout_of fs
+module _ (fs : List Frame) (x : Option ℕ) (hx : x ≡ header_fault fs) (a : Verdict)
+    (ha : a ≡ refused_at WrongHeader x) where
+  pub laid_4 : (r : Refusal) → a ≡ Err r → Err r ≡ layout_of fs
   unfolding layout_of
-  laid_4 j e = rw (found_some (header_fault fs) e ha)
+  laid_4 r e = rw (sym (ha ∙ ap (refused_at WrongHeader) hx) ∙ e)
 
-  module _ (na : a ≡ Nowhere) (b : FaultSearch) (hb : b ≡ found (field_fault fs)) where
-    pub laid_5 : (j : ℕ) → b ≡ At j → Rejected 5 j ≡ layout_of fs
+  module _ (na : a ≡ Accepted) (y : Option ℕ) (hy : y ≡ field_fault fs) (b : Verdict)
+      (hb : b ≡ refused_at WrongField y) where
+    header_none : header_fault fs ≡ None
+    header_none = sym hx ∙ found_none WrongHeader x na ha
+
+    pub laid_5 : (r : Refusal) → b ≡ Err r → Err r ≡ layout_of fs
     unfolding layout_of
-    laid_5 j e = rw (found_none (header_fault fs) na ha, found_some (field_fault fs) e hb)
+    laid_5 r e = rw (header_none, sym (hb ∙ ap (refused_at WrongField) hy) ∙ e)
 
-    module _ (nb : b ≡ Nowhere) (c : FaultSearch) (hc : c ≡ found (order_fault fs)) where
-      pub laid_6 : (j : ℕ) → c ≡ At j → Rejected 6 j ≡ layout_of fs
+    module _ (nb : b ≡ Accepted) (z : Option ℕ) (hz : z ≡ order_fault fs) (c : Verdict)
+        (hc : c ≡ refused_at WrongOrder z) where
+      field_none : field_fault fs ≡ None
+      field_none = sym hy ∙ found_none WrongField y nb hb
+
+      pub laid_6 : (r : Refusal) → c ≡ Err r → Err r ≡ layout_of fs
       unfolding layout_of
-      laid_6 j e = rw (found_none (header_fault fs) na ha, found_none (field_fault fs) nb hb, found_some (order_fault fs) e hc)
+      laid_6 r e = rw (header_none, field_none, sym (hc ∙ ap (refused_at WrongOrder) hz) ∙ e)
 
-      module _ (nc : c ≡ Nowhere) (d : FaultSearch) (hd : d ≡ found (depth_fault fs)) where
-        pub laid_7 : (j : ℕ) → d ≡ At j → Rejected 7 j ≡ layout_of fs
-        unfolding layout_of
-        laid_7 j e = rw (found_none (header_fault fs) na ha, found_none (field_fault fs) nb hb, found_none (order_fault fs) nc hc, found_some (depth_fault fs) e hd)
-
-        pub laid_out : d ≡ Nowhere → LaidOut ≡ layout_of fs
-        unfolding layout_of
-        laid_out e = rw (found_none (header_fault fs) na ha, found_none (field_fault fs) nb hb, found_none (order_fault fs) nc hc, found_none (depth_fault fs) e hd)
-
-pub ruleset layout_laws = (laid_4, laid_5, laid_6, laid_7, laid_out)
+      pub laid_7 : c ≡ Accepted → (o : Option ℕ) → o ≡ depth_fault fs → (d : Verdict)
+          → d ≡ refused_at TooDeep o → d ≡ layout_of fs
+      unfolding layout_of
+      laid_7 nc o ho d hd =
+          let n : order_fault fs ≡ None = sym hz ∙ found_none WrongOrder z nc hc in
+          rw (header_none, field_none, n) (hd ∙ ap (refused_at TooDeep) ho)
 
 -- ---- a text that reads as n frames
 pub record Whole (bs : List ℕ) (n : ℕ) : Type 0 where
@@ -103,11 +109,11 @@ module _ (bs : List ℕ) (t : TextRead) (ws : List ℕ) (h : read_as t ws ≡ te
 
   pub laid_refused : (a : Refusal) → t ≡ Err a → laid_as (Err a) ws ≡ laid_words bs
   laid_refused a e =
-      by_reading (refused a.number a.frame) (go (reading bs) (sym (read_field bs (read_as t ws) h) ∙ e))
+      by_reading (refused a.rule a.frame) (go (reading bs) (sym (read_field bs (read_as t ws) h) ∙ e))
     where
-      go : (r : Reading) → text_read r ≡ Err a → r ≡ refused a.number a.frame
+      go : (r : Reading) → text_read r ≡ Err a → r ≡ refused a.rule a.frame
       go (frames fs) q = absurd (let z : ◌≡◌ {A = ℕ} 0 1 = cc in omega arith)
-      go (refused m k) q = ap₂ refused (ap number_in q) (ap frame_in q)
+      go (refused m k) q = ap₂ refused (ap rule_in q) (ap frame_in q)
 
   module _ (n : ℕ) (e : t ≡ Frames n) where
     w : Whole bs n
@@ -153,8 +159,6 @@ module _ (bs : List ℕ) (t : TextRead) (ws : List ℕ) (h : read_as t ws ≡ te
 
       pub laid_lines : v ≡ LaidOut → laid_as (Lines n) ws ≡ laid_words bs
       laid_lines z = ap (λ (x : LayoutVerdict). laid_as (laid_for x n) ws) (sym z) ∙ laid_whole
-
-pub ruleset laid_laws = (laid_refused, laid_rejected, laid_lines)
 
 -- ---- from the answer: l is what `lay_into` answered, ws what the lent words hold
 module _ (bs : List ℕ) (l : Laid) (ws : List ℕ) (e : laid_as l ws ≡ laid_words bs) where

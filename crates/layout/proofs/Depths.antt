@@ -3,7 +3,7 @@ use mathlib.Core.Path.{◌≡◌, refl, sym, ap, ◌∙◌}
 use mathlib.Core.Logic.{◌⊎◌, inl, inr, ⊎_elim}
 use mathlib.Core.Bool.{Bool, true, false, true≢false}
 use mathlib.Core.List.{List, [], ◌∷◌}
-use mathlib.Core.Option.{Option, none, some}
+use Rattle.std.specs.Prelude.{Option, Some, None}
 use Prim.Native.Nat.{ℕ, zero, suc, ◌+◌, ◌≤◌, ◌<◌}
 use native.Mathlib.Omega.{arith}
 use lib.Dec.{ltb}
@@ -12,6 +12,9 @@ use lib.ListN.{length}
 use Rattle.basics.specs.If.{when◌then◌else◌}
 use Rattle.basics.specs.Members.{In}
 use Rattle.basics.proofs.Ifs.{if_all}
+use Rattle.language.specs.Refusals.{rule_number, too_deep}
+use Rattle.language.specs.declared.refusal.Rule.{Rule}
+use Rattle.language.specs.declared.refusal.Rule.TheVariants.{TooDeep}
 use Rattle.language.specs.declared.kind.Kind.{Kind}
 use Rattle.language.specs.declared.kind.Kind.TheVariants.{Module}
 use Rattle.language.specs.declared.frame.Frame.{Frame}
@@ -47,7 +50,8 @@ child_depth {fs} {n} {j} {d} h a =
     rw q at b
 
 -- what a fault 7 is
-pub seven : {fs : List Frame} {n j : ℕ} → Fault fs n j → n ≡ 7 → AtLeast fs j 25
+pub seven : {fs : List Frame} {n : Rule} {j : ℕ} → Fault fs n j → rule_number n ≡ too_deep
+    → AtLeast fs j 25
 seven (Fault.header h) e = absurd (omega arith)
 seven (Fault.field l h) e = absurd (omega arith)
 seven (Fault.order l h) e = absurd (omega arith)
@@ -79,24 +83,24 @@ record Deep (fs : List Frame) (i d j : ℕ) : Type 0 where
   over : most_depth < depth
 
 -- P of some child
-record Some (P : ℕ → ℕ → Type 0) (cs : List Child) (j : ℕ) : Type 0 where
+record SomeChild (P : ℕ → ℕ → Type 0) (cs : List Child) (j : ℕ) : Type 0 where
   child : Child
   among : In child cs
   holds : P child.at j
 
 child_low : (P : ℕ → ℕ → Type 0) (find : ℕ → Option ℕ) (cs : List Child)
     → ((c : Child) → In c cs → Lowest (P c.at) (find c.at))
-    → Lowest (Some P cs) (lowest_child find cs)
+    → Lowest (SomeChild P cs) (lowest_child find cs)
 unfolding lowest_child
 child_low P find [] h = Lowest.nowhere (λ j s. none_in s.among)
 child_low P find (c ∷ cs) h = same_low (λ j. ⊎_elim (λ p. record { child = c; among = In.first; holds = p }) (λ s. record { child = s.child; among = In.later s.among; holds = s.holds })) (λ j s. split j s.child s.among s.holds) (either (h c In.first) (child_low P find cs (λ x m. h x (In.later m))))
   where
-    split : (j : ℕ) (x : Child) → In x (c ∷ cs) → P x.at j → P c.at j ⊎ Some P cs j
+    split : (j : ℕ) (x : Child) → In x (c ∷ cs) → P x.at j → P c.at j ⊎ SomeChild P cs j
     split j x In.first p = inl p
     split j x (In.later m) p = inr (record { child = x; among = m; holds = p })
 
 self_low : (i d : ℕ)
-    → Lowest (λ j. (j ≡ i) × (most_depth < d)) (when ltb most_depth d then some i else none)
+    → Lowest (λ j. (j ≡ i) × (most_depth < d)) (when ltb most_depth d then Some i else None)
 self_low i d = if_all (Lowest (λ j. (j ≡ i) × (most_depth < d))) (ltb most_depth d) _ _ (λ h. Lowest.lowest_at (refl, ltb-true _ _ h) (λ k p. (let e = p.0 in omega arith))) (λ h. Lowest.nowhere (λ j p. (let a = ltb-false most_depth d h in let b = p.1 in omega arith)))
 
 module _ (fs : List Frame) (trees : (j : ℕ) → j < length fs → HasTree fs j) where
@@ -114,7 +118,7 @@ module _ (fs : List Frame) (trees : (j : ℕ) → j < length fs → HasTree fs j
       self j e h = rw e (record { depth = d; reach = Reach.here; over = h })
 
       split : (j e : ℕ) → Reach fs i d j e → most_depth < e
-          → Some (λ c k. Deep fs c (suc d) k) (children (frame_at fs i)) j ⊎
+          → SomeChild (λ c k. Deep fs c (suc d) k) (children (frame_at fs i)) j ⊎
           ((j ≡ i) × (most_depth < d))
       split j e Reach.here h = inr (refl, h)
       split j e (Reach.down {c = c} m r) h = inl (record { child = c; among = m; holds = record { depth = e; reach = r; over = h } })
@@ -132,7 +136,7 @@ module _ (fs : List Frame) (trees : (j : ℕ) → j < length fs → HasTree fs j
   body_low f h = go (is_module f.kind) refl
     where
       go : (b : Bool) → is_module f.kind ≡ b
-          → Lowest (DeepIn f) (elim b [ true ↦ deep_to (suc f.a) fs 1 f.a | false ↦ none ])
+          → Lowest (DeepIn f) (elim b [ true ↦ deep_to (suc f.a) fs 1 f.a | false ↦ None ])
       go true t =
           let e = is_module_lem f.kind t in
           same_low (λ j p. record { module_frame = e; deep = p }) (λ j p. p.deep)
@@ -188,6 +192,6 @@ module _ (fs : List Frame) (trees : (j : ℕ) → j < length fs → HasTree fs j
       let u = under a.is in
       record { at = u.at; inside = u.inside; deep = record { module_frame = u.kind; deep = record { depth = a.depth; reach = u.reach; over = a.least } } }
 
-  pub depth_low : Lowest (Fault fs 7) (depth_fault fs)
+  pub depth_low : Lowest (Fault fs TooDeep) (depth_fault fs)
   unfolding depth_fault
   depth_low = same_low (λ j p. Fault.depth (depth_on p.deep.deep.reach (Depth.body p.inside p.deep.module_frame)) p.deep.deep.over) (λ j f. to_deep (seven f refl)) (bodies_low fs 0 (from_start fs))

@@ -2,7 +2,7 @@
 -- tree's root. Assumes nothing.
 use mathlib.Core.Bool.{Bool, true, false, ◌&&◌, true≢false}
 use mathlib.Core.List.{List, [], ◌∷◌, reverse, reverse_aux, reverse-reverse}
-use mathlib.Core.Option.{Option, none, some}
+use Rattle.std.specs.Prelude.{Option, Some, None}
 use mathlib.Core.Path.{◌≡◌, refl, sym, ap, ◌∙◌}
 use Prim.Native.Nat.{ℕ, suc, ◌+◌, ◌-◌, ◌≤◌, ◌<◌}
 use native.Mathlib.Omega.{arith}
@@ -77,8 +77,8 @@ known {fs} (Passing.more {i = i} {lo = lo} {ps = ps} h t) c l = at_passed (Known
 -- ---- one row
 -- what is found of a row of children that ends just before frame i
 data RowFound (fs : List Frame) (i : ℕ) (cs : List Child) : Option ℕ → Type 0 where
-  yes : {lo : ℕ} → Row fs lo i cs → RowFound fs i cs (some lo)
-  no : ((lo : ℕ) → Row fs lo i cs → ⊥) → RowFound fs i cs none
+  yes : {lo : ℕ} → Row fs lo i cs → RowFound fs i cs (Some lo)
+  no : ((lo : ℕ) → Row fs lo i cs → ⊥) → RowFound fs i cs None
 
 -- the end of a row is a row
 record Rest (fs : List Frame) (i : ℕ) (cs : List Child) : Type 0 where
@@ -123,7 +123,7 @@ row_found {fs} {i} {ps} h (c ∷ rc) done stop r = go (eqb (suc c.at) stop && sa
         → (eqb (suc c.at) stop && same_class (get_or ps (i - suc c.at) nobody).class c.class)
         ≡ b
         → ((lo : ℕ) → Row fs lo i (c ∷ done) → RowFound fs i (reverse_aux rc (c ∷ done)) (row_first ps i lo rc))
-        → RowFound fs i (reverse_aux rc (c ∷ done)) (elim b [ true ↦ row_first ps i (get_or ps (i - suc c.at) nobody).first rc | false ↦ none ])
+        → RowFound fs i (reverse_aux rc (c ∷ done)) (elim b [ true ↦ row_first ps i (get_or ps (i - suc c.at) nobody).first rc | false ↦ None ])
     go true e g =
         let a = and_true _ _ e in
         let q : suc c.at ≡ stop = eqb-true _ _ a.0 in
@@ -141,9 +141,9 @@ found_row {fs} {i} {ps} h cs =
 
 -- ---- the pass: what it finds from frame i on
 data Disorder (fs : List Frame) (i : ℕ) : Option ℕ → Type 0 where
-  fine : ((j : ℕ) → i ≤ j → j < length fs → HasTree fs j) → Disorder fs i none
+  fine : ((j : ℕ) → i ≤ j → j < length fs → HasTree fs j) → Disorder fs i None
   stop : {j : ℕ} → i ≤ j → j < length fs → (HasTree fs j → ⊥)
-      → ((k : ℕ) → i ≤ k → k < j → HasTree fs k) → Disorder fs i (some j)
+      → ((k : ℕ) → i ≤ k → k < j → HasTree fs k) → Disorder fs i (Some j)
 
 -- where frame i has a tree, a frame from i on has one if those after i have
 tree_from : {fs : List Frame} {i : ℕ} → HasTree fs i → (k : ℕ) → i ≤ k → (suc i ≤ k → HasTree fs k)
@@ -171,12 +171,12 @@ disorder {fs} (f ∷ tail) i ps w h =
   where
     go : (o : Option ℕ) → RowFound fs i (children (frame_at fs i)) o
         → ((lo : ℕ) → Tree fs lo i → Disorder fs (suc i) (first_disorder (passed (class_of (frame_at fs i).kind) lo ∷ ps) (suc i) tail))
-        → Disorder fs i (elim o [ none ↦ some i | some first ↦ first_disorder (passed (class_of (frame_at fs i).kind) first ∷ ps) (suc i) tail ])
-    go none (RowFound.no n) g = Disorder.stop {j = i} (omega arith) (let s = w.size in omega arith) (λ t. n _ (of_tree t.tree)) (λ k l m. absurd (omega arith))
+        → Disorder fs i (elim o [ None ↦ Some i | Some first ↦ first_disorder (passed (class_of (frame_at fs i).kind) first ∷ ps) (suc i) tail ])
+    go None (RowFound.no n) g = Disorder.stop {j = i} (omega arith) (let s = w.size in omega arith) (λ t. n _ (of_tree t.tree)) (λ k l m. absurd (omega arith))
       where
         of_tree : {lo : ℕ} → Tree fs lo i → Row fs lo i (children (frame_at fs i))
         of_tree (Tree.root r) = r
-    go (some lo) (RowFound.yes r) g =
+    go (Some lo) (RowFound.yes r) g =
         disorder_more (record { from = lo; tree = Tree.root r }) (g lo (Tree.root r))
 
 -- ---- the lowest frame at which no tree ends
@@ -187,9 +187,9 @@ pub disorder_low : (fs : List Frame) → Lowest (NoTree fs) (first_disorder [] 0
 disorder_low fs = go _ (disorder fs 0 [] (from_start fs) Passing.start)
   where
     go : (o : Option ℕ) → Disorder fs 0 o → Lowest (NoTree fs) o
-    go none (Disorder.fine h) =
+    go None (Disorder.fine h) =
         Lowest.nowhere (λ j p. (let t = h j (omega arith) p.0 in p.1 _ t.tree))
-    go (some j) (Disorder.stop a b c d) = Lowest.lowest_at (b, λ lo t. c (record { from = lo; tree = t })) (λ k p. low k (leb j k) refl p)
+    go (Some j) (Disorder.stop a b c d) = Lowest.lowest_at (b, λ lo t. c (record { from = lo; tree = t })) (λ k p. low k (leb j k) refl p)
       where
         low : (k : ℕ) (b : Bool) → leb j k ≡ b → NoTree fs k → j ≤ k
         low k true e p = leb-true j k e
@@ -201,6 +201,6 @@ pub no_disorder : (fs : List Frame) → ((j : ℕ) → NoTree fs j → ⊥) → 
 no_disorder fs h = go _ (disorder fs 0 [] (from_start fs) Passing.start)
   where
     go : (o : Option ℕ) → Disorder fs 0 o → (j : ℕ) → j < length fs → HasTree fs j
-    go none (Disorder.fine g) j l = g j (omega arith) l
-    go (some k) (Disorder.stop a b c d) j l =
+    go None (Disorder.fine g) j l = g j (omega arith) l
+    go (Some k) (Disorder.stop a b c d) j l =
         absurd (h k (b, λ lo t. c (record { from = lo; tree = t })))

@@ -107,8 +107,6 @@ module _ (bs : List ℕ) (t : TextRead) (ws : List ℕ) (h : read_as t ws ≡ te
     pub judged_lines : v ≡ LaidOut → Judged bs LaidOut
     judged_lines z = answer_judged bs (Lines n) ws (laid_lines bs t ws h n e v q z)
 
-pub ruleset judged_laws = (judged_refused, judged_rejected, judged_lines)
-
 -- the verdict alone
 module _ (bs : List ℕ) (l : Laid) (ws : List ℕ) (e : laid_as l ws ≡ laid_words bs) where
   pub verdict_rejected : (a : Refusal) → l ≡ Err a → Err a ≡ layout_verdict bs

@@ -9,6 +9,7 @@ use lib.ListN.{length}
 use Rattle.basics.specs.If.{keep_if}
 use Rattle.basics.specs.Members.{All}
 use Rattle.basics.proofs.Ifs.{and_true}
+use Rattle.language.specs.declared.refusal.Rule.TheVariants.{WrongOrder}
 use Rattle.language.specs.Groups.{Link}
 use Rattle.language.specs.Kinds.{declarations, file_rank, is_link, uses}
 use Rattle.language.specs.Places.{has_scheduler}
@@ -75,7 +76,7 @@ module _ (fs : List Frame) (fine : NoFault fs) where
       go : (b : Bool) → is_early (frame_at fs i).kind ≡ b → is_early (frame_at fs i).kind ≡ true
       go true e = e
       go false e =
-          absurd (fine 6 j (Fault.misplaced {d = Links} l k (is_link_lem (frame_at fs j).kind t)
+          absurd (fine WrongOrder j (Fault.misplaced {d = Links} l k (is_link_lem (frame_at fs j).kind t)
           (leb-false (file_rank (frame_at fs i).kind) declarations e)))
 
   pub links_placed : LinksPlaced fs

@@ -2,7 +2,7 @@
 use mathlib.Core.Bool.{Bool, true, false, ◌&&◌, true≢false, not}
 use mathlib.Core.List.{List, [], ◌∷◌}
 use mathlib.Core.Logic.{◌⊎◌, inl, inr}
-use mathlib.Core.Option.{Option, some}
+use Rattle.std.specs.Prelude.{Option, Some}
 use mathlib.Core.Path.{◌≡◌, refl, sym, ap, ◌∙◌}
 use Prim.Native.Nat.{ℕ, zero, suc, ◌-◌, ◌≤◌, ◌<◌}
 use native.Mathlib.Omega.{arith}
@@ -13,6 +13,9 @@ use borrow.Author.Tests.{not-true, ltb-true, ltb-false, lt-ltb}
 use Rattle.basics.specs.Members.{All, any}
 use Rattle.basics.specs.Inner.Searches.{lowest}
 use Rattle.basics.proofs.Ifs.{and_true, if_all}
+use Rattle.language.specs.Refusals.{rule_number, wrong_order}
+use Rattle.language.specs.declared.refusal.Rule.{Rule}
+use Rattle.language.specs.declared.refusal.Rule.TheVariants.{WrongOrder}
 use Rattle.language.specs.Kinds.{declaration_rank, file_rank, class_of, Child, children}
 use Rattle.language.specs.declared.kind.DeclarationKind.{DeclarationKind}
 use Rattle.language.specs.declared.kind.Kind.{Kind}
@@ -122,8 +125,8 @@ leftover_lowest fs [] i h = refl
 leftover_lowest fs (f ∷ tail) i h = rw (leftover_test_lem fs i f tail (λ e. h (has_child i) (any_more (has_child i) f tail e)), first_leftover) (go (leftover_test fs i f) (leftover_lowest fs tail (suc i) (λ t e. h t (any_more t f tail e))))
   where
     go : (b : Bool) → first_leftover fs (suc i) tail ≡ lowest (leftover_test fs) (suc i) tail
-        → ◌≡◌ {A = Option ℕ} (elim b [ true ↦ some i | false ↦ first_leftover fs (suc i) tail ])
-        (elim b [ true ↦ some i | false ↦ lowest (leftover_test fs) (suc i) tail ])
+        → ◌≡◌ {A = Option ℕ} (elim b [ true ↦ Some i | false ↦ first_leftover fs (suc i) tail ])
+        (elim b [ true ↦ Some i | false ↦ lowest (leftover_test fs) (suc i) tail ])
     go true e = refl
     go false e = e
 
@@ -152,7 +155,7 @@ main_low fs l = if_all (Lowest (NoMain fs)) (is_main (frame_at fs (length fs - 1
 abbrev Six : List Frame → ℕ → Type 0
 Six fs j = NoTree fs j ⊎ (Misplaced fs j ⊎ (Leftover fs j ⊎ NoMain fs j))
 
-to_six : {fs : List Frame} {n j : ℕ} → Fault fs n j → n ≡ 6 → Six fs j
+to_six : {fs : List Frame} {n : Rule} {j : ℕ} → Fault fs n j → rule_number n ≡ wrong_order → Six fs j
 to_six (Fault.header h) e = absurd (omega arith)
 to_six (Fault.field l h) e = absurd (omega arith)
 to_six (Fault.order l h) e = inl (l, h)
@@ -161,18 +164,18 @@ to_six (Fault.leftover a b c) e = inr (inr (inl (record { inside = a; class = b;
 to_six (Fault.main a b) e = inr (inr (inr (a, b)))
 to_six (Fault.depth d h) e = absurd (omega arith)
 
-from_six : {fs : List Frame} {j : ℕ} → Six fs j → Fault fs 6 j
+from_six : {fs : List Frame} {j : ℕ} → Six fs j → Fault fs WrongOrder j
 from_six (inl h) = Fault.order h.0 h.1
 from_six (inr (inl h)) = Fault.misplaced h.before h.inside h.kind h.later
 from_six (inr (inr (inl h))) = Fault.leftover h.inside h.class h.unused
 from_six (inr (inr (inr h))) = Fault.main h.0 h.1
 
-pub order_low : (fs : List Frame) → 0 < length fs → Lowest (Fault fs 6) (order_fault fs)
+pub order_low : (fs : List Frame) → 0 < length fs → Lowest (Fault fs WrongOrder) (order_fault fs)
 unfolding order_fault
 order_low fs l = same_low (λ j h. from_six h) (λ j h. to_six h refl) (either (disorder_low fs) (either (misplaced_low fs) (either (leftover_low fs) (main_low fs l))))
 
 -- ---- where no frame has a fault 6, every frame is the root of a tree
-pub all_trees : (fs : List Frame) → ((k : ℕ) → Fault fs 6 k → ⊥) → (j : ℕ) → j < length fs
+pub all_trees : (fs : List Frame) → ((k : ℕ) → Fault fs WrongOrder k → ⊥) → (j : ℕ) → j < length fs
     → HasTree fs j
 all_trees fs h = no_disorder fs (λ j n. h j (Fault.order n.0 n.1))
 
@@ -186,5 +189,5 @@ tree_below : {fs : List Frame} {lo i : ℕ} → Tree fs lo i
     → All (λ (c : Child). c.at < i) (children (frame_at fs i))
 tree_below (Tree.root r) = row_below r
 
-pub is_ordered : (fs : List Frame) → ((k : ℕ) → Fault fs 6 k → ⊥) → Ordered fs
+pub is_ordered : (fs : List Frame) → ((k : ℕ) → Fault fs WrongOrder k → ⊥) → Ordered fs
 is_ordered fs h i l = tree_below (all_trees fs h i l).tree

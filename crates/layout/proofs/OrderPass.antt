@@ -3,7 +3,7 @@
 use mathlib.Core.Path.{◌≡◌, refl, sym, ap, ap₂, ◌∙◌}
 use mathlib.Core.Bool.{Bool, true, false}
 use mathlib.Core.List.{List, [], ◌∷◌, ◌++◌}
-use mathlib.Core.Option.{none, some}
+use Rattle.std.specs.Prelude.{Option, Some, None}
 use Prim.Native.Nat.{ℕ, ◌+◌, ◌-◌, ◌≤◌, ◌<◌, max}
 use native.Mathlib.Omega.{arith}
 use lib.ListN.{length, take}
@@ -15,10 +15,6 @@ use Rattle.text.specs.Frames.{frames_of}
 use Rattle.text.proofs.FrameWords.{frames_length}
 use Rattle.program.specs.Trees.{frame_at}
 use Rattle.program.proofs.FrameLaws.{frames_more}
-use Rattle.fields.specs.declared.fault_search.FaultSearch.{FaultSearch}
-use Rattle.fields.specs.declared.fault_search.FaultSearch.TheVariants.{At, Nowhere}
-use Rattle.fields.specs.Inner.Scans.{found, option_of}
-use Rattle.fields.proofs.Finds.{option_found}
 use Rattle.fields.proofs.Seeking.{Seeking, seek_here, seek_next, seek_end}
 use Rattle.layout.specs.Order.{is_main}
 use Rattle.layout.specs.Inner.Scans.{first_disorder, highest_rank, is_late, is_misplaced}
@@ -60,8 +56,8 @@ module _ (ws : List ℕ) (i top : ℕ) (f : Frame) (b : Bool) (e : f ≡ frame_a
 
   pub misplaced_here : b ≡ true → Highest (frames_of ws) top i → SeekingMisplaced (frames_of ws) i
       → i < length ws
-      → At i
-      ≡ found (lowest (λ (j : ℕ) (g : Frame). is_misplaced (frames_of ws) j g) 0 (frames_of ws))
+      → Some i
+      ≡ lowest (λ (j : ℕ) (g : Frame). is_misplaced (frames_of ws) j g) 0 (frames_of ws)
   misplaced_here t o g l = seek_here (misplaced_test (frames_of ws)) ws i g l (misplaced_is o ∙ t)
 
   pub misplaced_next : b ≡ false → Highest (frames_of ws) top i → SeekingMisplaced (frames_of ws) i
@@ -69,7 +65,7 @@ module _ (ws : List ℕ) (i top : ℕ) (f : Frame) (b : Bool) (e : f ≡ frame_a
   misplaced_next t o g l = seek_next (misplaced_test (frames_of ws)) ws i g l (misplaced_is o ∙ t)
 
 pub misplaced_end : (ws : List ℕ) (i : ℕ) → SeekingMisplaced (frames_of ws) i → length ws ≤ i
-    → Nowhere ≡ found (lowest (λ (j : ℕ) (g : Frame). is_misplaced (frames_of ws) j g) 0 (frames_of ws))
+    → None ≡ lowest (λ (j : ℕ) (g : Frame). is_misplaced (frames_of ws) j g) 0 (frames_of ws)
 misplaced_end ws i g l = seek_end (misplaced_test (frames_of ws)) ws i g l
 
 -- ---- main
@@ -79,27 +75,23 @@ module _ (ws : List ℕ) (f : Frame) (b : Bool) (e : f ≡ frame_at (frames_of w
       ap (λ (n : ℕ). is_main (frame_at (frames_of ws) (n - 1))) (frames_length ws)
       ∙ sym (h ∙ ap is_main e)
 
-  pub main_there : b ≡ true → Nowhere ≡ found (no_main (frames_of ws))
+  pub main_there : b ≡ true → None ≡ no_main (frames_of ws)
   unfolding no_main
-  main_there t = ap found (yes _ (main_is ∙ t) refl)
+  main_there t = yes _ (main_is ∙ t) refl
 
-  pub main_missing : b ≡ false → At (length ws - 1) ≡ found (no_main (frames_of ws))
+  pub main_missing : b ≡ false → Some (length ws - 1) ≡ no_main (frames_of ws)
   unfolding no_main
   main_missing t =
-      ap found (no none (main_is ∙ t) (ap (λ (n : ℕ). some (n - 1)) (sym (frames_length ws))))
+      no None (main_is ∙ t) (ap (λ (n : ℕ). Some (n - 1)) (sym (frames_length ws)))
 
 pub ruleset no_main_laws = (main_there, main_missing)
 
 -- ---- the lowest of the four
-module _ (fs : List Frame) (d b l m x y r : FaultSearch) where
-  pub order_is : d ≡ found (first_disorder [] 0 fs)
-      → b ≡ found (lowest (λ (i : ℕ) (f : Frame). is_misplaced fs i f) 0 fs)
-      → l ≡ found (first_leftover fs 0 fs) → m ≡ found (no_main fs)
-      → x ≡ found (earlier (option_of l) (option_of m))
-      → y ≡ found (earlier (option_of b) (option_of x))
-      → r ≡ found (earlier (option_of d) (option_of y)) → r ≡ found (order_fault fs)
+module _ (fs : List Frame) (d b l m x y r : Option ℕ) where
+  pub order_is : d ≡ first_disorder [] 0 fs
+      → b ≡ lowest (λ (i : ℕ) (f : Frame). is_misplaced fs i f) 0 fs
+      → l ≡ first_leftover fs 0 fs → m ≡ no_main fs → x ≡ earlier l m → y ≡ earlier b x
+      → r ≡ earlier d y → r ≡ order_fault fs
   unfolding order_fault
   order_is hd hb hl hm hx hy hr =
-      let a : option_of x ≡ earlier (first_leftover fs 0 fs) (no_main fs) = ap option_of hx ∙ option_found _ ∙ ap₂ earlier (ap option_of hl ∙ option_found _) (ap option_of hm ∙ option_found _) in
-      let c : option_of y ≡ earlier (lowest (misplaced_test fs) 0 fs) (earlier (first_leftover fs 0 fs) (no_main fs)) = ap option_of hy ∙ option_found _ ∙ ap₂ earlier (ap option_of hb ∙ option_found _) a in
-      hr ∙ ap found (ap₂ earlier (ap option_of hd ∙ option_found _) c)
+      hr ∙ ap₂ earlier hd (hy ∙ ap₂ earlier hb (hx ∙ ap₂ earlier hl hm))

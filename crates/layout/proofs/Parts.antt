@@ -7,6 +7,7 @@ use Prim.Native.Nat.{ℕ, zero, suc, ◌+◌, ◌-◌, ◌<◌}
 use native.Mathlib.Omega.{arith}
 use lib.ListN.{length}
 use Rattle.basics.proofs.Ifs.{and_true}
+use Rattle.language.specs.declared.refusal.Rule.TheVariants.{WrongOrder}
 use Rattle.language.specs.declared.kind.Kind.{Kind}
 use Rattle.language.specs.declared.kind.Kind.TheVariants.{Header, Declared, Module, Statement}
 use Rattle.language.specs.declared.kind.Kind.TheVariants.{Expression, Unknown}
@@ -69,7 +70,7 @@ some_module fs (f ∷ tail) i (suc q) l e =
     with_some fs i f f.kind _ (some_module fs tail (suc i) q (omega arith) e)
 
 -- where no frame has a fault 6, there is a module: main
-pub has_main : (fs : List Frame) → 0 < length fs → ((k : ℕ) → Fault fs 6 k → ⊥)
+pub has_main : (fs : List Frame) → 0 < length fs → ((k : ℕ) → Fault fs WrongOrder k → ⊥)
     → NonEmpty (modules_from fs 0 fs)
 has_main fs l h = go (is_main (frame_at fs (length fs - 1))) refl
   where

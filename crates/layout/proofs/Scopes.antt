@@ -11,6 +11,7 @@ use lib.ListN.{length}
 use borrow.Author.Tests.{ltb-true, ltb-false, eqb-true}
 use Rattle.basics.specs.Members.{In}
 use Rattle.basics.proofs.Ifs.{and_true}
+use Rattle.language.specs.declared.refusal.Rule.TheVariants.{WrongField, WrongOrder, TooDeep}
 use Rattle.language.specs.Kinds.{uses, Child, child_in, children}
 use Rattle.language.specs.declared.kind.StatementKind.TheVariants.{Let}
 use Rattle.language.specs.declared.kind.Kind.{Kind}
@@ -89,7 +90,7 @@ module _ (fs : List Frame) (fine : NoFault fs) where
   depth_most {j} {d} h = go (ltb 24 d) refl
     where
       go : (b : Bool) → ltb 24 d ≡ b → d ≤ 24
-      go true e = absurd (fine 7 j (Fault.depth h (ltb-true 24 d e)))
+      go true e = absurd (fine TooDeep j (Fault.depth h (ltb-true 24 d e)))
       go false e = ltb-false 24 d e
 
   pub room_most : {i n : ℕ} → Room fs i n → n ≤ 25
@@ -101,7 +102,7 @@ module _ (fs : List Frame) (fine : NoFault fs) where
 
   -- each child stands before its parent
   pub child_below : {i : ℕ} {c : Child} → i < length fs → In c (children (frame_at fs i)) → c.at < i
-  child_below {i} l m = tree_in (all_trees fs (λ k f. fine 6 k f) i l).tree m
+  child_below {i} l m = tree_in (all_trees fs (λ k f. fine WrongOrder k f) i l).tree m
 
   -- 'The last frame is main, a module with S 0.'
   pub main_last : 0 < length fs
@@ -111,7 +112,7 @@ module _ (fs : List Frame) (fine : NoFault fs) where
       go : (b : Bool) → is_main (frame_at fs (length fs - 1)) ≡ b
           → ((frame_at fs (length fs - 1)).kind ≡ Module) × ((frame_at fs (length fs - 1)).s ≡ 0)
       go true e = (let p = and_true _ _ e in (is_module_lem _ p.0, eqb-true _ 0 p.1))
-      go false e = absurd (fine 6 (length fs - 1) (Fault.main (omega arith) e))
+      go false e = absurd (fine WrongOrder (length fs - 1) (Fault.main (omega arith) e))
 
   -- ---- what 5 leaves of each frame
   pub frame_right : (i : ℕ) → i < length fs → frame_fine fs i (frame_at fs i) ≡ true
@@ -119,7 +120,7 @@ module _ (fs : List Frame) (fine : NoFault fs) where
     where
       go : (b : Bool) → frame_fine fs i (frame_at fs i) ≡ b → frame_fine fs i (frame_at fs i) ≡ true
       go true e = e
-      go false e = absurd (fine 5 i (Fault.field l e))
+      go false e = absurd (fine WrongField i (Fault.field l e))
 
   -- 5 refuses 'a place that the file lacks'
   pub placed : Placed fs

@@ -4,20 +4,19 @@ use mathlib.Core.Path.{◌≡◌, refl, sym, ap, ◌∙◌}
 use mathlib.Core.Logic.{◌⊎◌, inl, inr, ⊎_elim}
 use mathlib.Core.Bool.{Bool, true, false, true≢false}
 use mathlib.Core.List.{List, [], ◌∷◌}
-use mathlib.Core.Option.{Option, none, some}
-use Prim.Native.Nat.{ℕ, zero, suc, ◌+◌, ◌-◌, ◌≤◌, ◌<◌}
+use Rattle.std.specs.Prelude.{Option, Some, None}
+use Prim.Native.Nat.{ℕ, zero, suc, ◌+◌, ◌-◌, ◌≤◌, ◌<◌, min}
 use native.Mathlib.Omega.{arith}
 use lib.Dec.{leb}
 use borrow.Author.Tests.{leb-true, leb-false}
 use lib.ListN.{get_or, length}
-use Rattle.basics.specs.If.{when◌then◌else◌}
 use Rattle.basics.specs.Members.{any}
 use Rattle.basics.specs.Inner.Searches.{earlier, lowest}
 
 -- ---- the lowest number that has the property P, where there is one
 pub data Lowest (P : ℕ → Type 0) : Option ℕ → Type 0 where
-  nowhere : ((j : ℕ) → P j → ⊥) → Lowest P none
-  lowest_at : {j : ℕ} → P j → ((k : ℕ) → P k → j ≤ k) → Lowest P (some j)
+  nowhere : ((j : ℕ) → P j → ⊥) → Lowest P None
+  lowest_at : {j : ℕ} → P j → ((k : ℕ) → P k → j ≤ k) → Lowest P (Some j)
 
 -- the lowest that has one property or the other
 pub either : {P Q : ℕ → Type 0} {o q : Option ℕ} → Lowest P o → Lowest Q q
@@ -30,9 +29,15 @@ either (Lowest.lowest_at p l) (Lowest.nowhere g) =
     Lowest.lowest_at (inl p) (λ k. ⊎_elim (l k) (λ x. absurd (g k x)))
 either {P} {Q} (Lowest.lowest_at {j = i} p l) (Lowest.lowest_at {j = j} q m) = go (leb i j) refl
   where
-    go : (b : Bool) → leb i j ≡ b → Lowest (λ k. P k ⊎ Q k) (some (when b then i else j))
-    go true e = unfold when◌then◌else◌ in (Lowest.lowest_at (inl p) (λ k. ⊎_elim (l k) (λ x. let a = m k x in let c = leb-true i j e in omega arith)))
-    go false e = unfold when◌then◌else◌ in (Lowest.lowest_at (inr q) (λ k. ⊎_elim (λ x. let a = l k x in let c = leb-false i j e in omega arith) (m k)))
+    go : (b : Bool) → leb i j ≡ b → Lowest (λ k. P k ⊎ Q k) (Some (min i j))
+    go true e =
+        let c = leb-true i j e in
+        let z : min i j ≡ i = omega arith in
+        rw z (Lowest.lowest_at (inl p) (λ k. ⊎_elim (l k) (λ x. let a = m k x in omega arith)))
+    go false e =
+        let c = leb-false i j e in
+        let z : min i j ≡ j = omega arith in
+        rw z (Lowest.lowest_at (inr q) (λ k. ⊎_elim (λ x. let a = l k x in omega arith) (m k)))
 
 -- of two properties that are the same
 pub same_low : {P Q : ℕ → Type 0} {o : Option ℕ} → ((j : ℕ) → P j → Q j) → ((j : ℕ) → Q j → P j)
@@ -45,7 +50,7 @@ pub lowest_one : {P : ℕ → Type 0} {o q : Option ℕ} → Lowest P o → Lowe
 lowest_one (Lowest.nowhere h) (Lowest.nowhere g) = refl
 lowest_one (Lowest.nowhere h) (Lowest.lowest_at p l) = absurd (h _ p)
 lowest_one (Lowest.lowest_at p l) (Lowest.nowhere g) = absurd (g _ p)
-lowest_one (Lowest.lowest_at {j = i} p l) (Lowest.lowest_at {j = j} q m) = let a = l j q in let b = m i p in let e : i ≡ j = omega arith in ap some e
+lowest_one (Lowest.lowest_at {j = i} p l) (Lowest.lowest_at {j = j} q m) = let a = l j q in let b = m i p in let e : i ≡ j = omega arith in ap Some e
 
 -- ---- `lowest`: a search through a list that stands from i on
 module _ {A : Type 0} (d : A) (wrong : ℕ → A → Bool) where
@@ -78,7 +83,7 @@ module _ {A : Type 0} (d : A) (wrong : ℕ → A → Bool) where
   lowest_hit (x ∷ xs) i = go (wrong i x) refl (lowest_hit xs (suc i))
     where
       go : (b : Bool) → wrong i x ≡ b → Lowest (Hit (suc i) xs) (lowest wrong (suc i) xs)
-          → Lowest (Hit i (x ∷ xs)) (elim b [ true ↦ some i | false ↦ lowest wrong (suc i) xs ])
+          → Lowest (Hit i (x ∷ xs)) (elim b [ true ↦ Some i | false ↦ lowest wrong (suc i) xs ])
       go true e r = Lowest.lowest_at {j = i} (omega arith, omega arith, (let z : i - i ≡ 0 = omega arith in rw z e)) (λ k h. h.0)
       go false e r = same_low (λ j h. step_up i j x xs h) (λ j h. step_down i j x xs (not_here i j x xs e h) h) r
 

@@ -10,7 +10,7 @@ use lib.Seq.{take-suc, take-length}
 use borrow.Author.Tests.{eqb-true}
 use Rattle.language.specs.Kinds.{file_rank, is_header, is_shared}
 use Rattle.language.specs.Limits.{most_shared}
-use Rattle.language.specs.Refusals.{wrong_header, wrong_order}
+use Rattle.language.specs.declared.refusal.Rule.TheVariants.{WrongHeader, WrongOrder}
 use Rattle.language.specs.declared.kind.DeclarationKind.TheVariants.{Shared, Event, Link}
 use Rattle.language.specs.declared.kind.Kind.{Kind}
 use Rattle.language.specs.declared.kind.Kind.TheVariants.{Header, Declared, Module}
@@ -69,7 +69,7 @@ module _ (fs : List Frame) (fine : NoFault fs) where
     where
       go : (b : Bool) → header_fine fs ≡ b → b ≡ true
       go true e = refl
-      go false e = absurd (fine wrong_header 0 (Fault.header e))
+      go false e = absurd (fine WrongHeader 0 (Fault.header e))
 
   header_first : (frame_at fs 0).kind ≡ Header
   header_first = is_header_lem _ (fine_header fs header_there).kind
@@ -81,7 +81,7 @@ module _ (fs : List Frame) (fine : NoFault fs) where
     where
       late : (k : Kind) → (frame_at fs i).kind ≡ k → 1 < file_rank k → ⊥
       late k e o =
-          fine wrong_order j (Fault.misplaced {d = Shared} l m (is_shared_lem _ s) (rw e o))
+          fine WrongOrder j (Fault.misplaced {d = Shared} l m (is_shared_lem _ s) (rw e o))
 
       go : (k : Kind) → (frame_at fs i).kind ≡ k → is_shared (frame_at fs i).kind ≡ true
       go (Declared Shared) e = ap is_shared e

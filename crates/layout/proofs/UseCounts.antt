@@ -2,6 +2,7 @@
 use mathlib.Core.Path.{◌≡◌, refl, sym, ap, ap₂, ◌∙◌}
 use mathlib.Core.Bool.{Bool, true, false, not, ◌&&◌}
 use mathlib.Core.List.{List, [], ◌∷◌}
+use Rattle.std.specs.Prelude.{fold}
 use Prim.Native.Nat.{ℕ, zero, suc, min, ◌+◌, ◌≤◌, ◌<◌}
 use native.Mathlib.Nat.{min-eq_left, min-eq_right, min-le_left}
 use native.Mathlib.Omega.{arith}
@@ -18,9 +19,9 @@ use Rattle.language.specs.declared.frame.Frame.{Frame}
 use Rattle.text.specs.Frames.{frames_of}
 use Rattle.text.proofs.FrameWords.{frames_end}
 use Rattle.program.specs.Trees.{frame_at}
-use Rattle.program.specs.Inner.Children.{over_children}
+use Rattle.program.specs.Inner.Children.{over_children, child_numbers_of}
 use Rattle.program.proofs.FrameLaws.{frames_next}
-use Rattle.program.proofs.ChildFolds.{fold_keeps}
+use Rattle.program.proofs.ChildFolds.{fold_keeps, children_folded}
 use Rattle.layout.specs.Order.{has_child}
 use Rattle.layout.specs.Uses.{times, used}
 use Rattle.layout.specs.Inner.Uses.{counted, counted_in, CountsUses}
@@ -32,21 +33,25 @@ count_past u v l =
     let past = ap (λ (b : Bool). b && ltb (get_or u v 0) 2) (le-ltb v 1024 l) in
     no (set u v (suc (get_or u v 0))) past refl
 
-pub count_full : (u : List ℕ) (v : ℕ) → 2 ≤ get_or u v 0 → v < 1024 → u ≡ counted u v
-unfolding counted
-count_full u v h l =
-    let full = ap₂ (λ (a b : Bool). a && b) (lt-ltb v 1024 l) (le-ltb (get_or u v 0) 2 h) in
-    no (set u v (suc (get_or u v 0))) full refl
+-- j is v, as the code has it
+module _ (u : List ℕ) (v j : ℕ) (e : j ≡ v) where
+  pub count_over : 1024 ≤ j → u ≡ counted u v
+  count_over l = count_past u v (omega arith)
 
-pub count_more : (u : List ℕ) (v : ℕ) → get_or u v 0 < 2 → v < 1024
-    → set u v (get_or u v 0 + 1) ≡ counted u v
-unfolding counted
-count_more u v h l =
-    let s : get_or u v 0 + 1 ≡ suc (get_or u v 0) = omega arith in
-    let few = ap₂ (λ (a b : Bool). a && b) (lt-ltb v 1024 l) (lt-ltb (get_or u v 0) 2 h) in
-    ap (set u v) s ∙ yes u few refl
+  pub count_full : 2 ≤ get_or u j 0 → j < 1024 → u ≡ counted u v
+  unfolding counted
+  count_full h l =
+      let full = ap₂ (λ (a b : Bool). a && b) (lt-ltb j 1024 l) (le-ltb (get_or u j 0) 2 h) in
+      rw (sym e) (no (set u j (suc (get_or u j 0))) full refl)
 
-pub ruleset count_laws = (count_past, count_full, count_more)
+  pub count_more : get_or u j 0 < 2 → j < 1024 → set u j (get_or u j 0 + 1) ≡ counted u v
+  unfolding counted
+  count_more h l =
+      let s : get_or u j 0 + 1 ≡ suc (get_or u j 0) = omega arith in
+      let few = ap₂ (λ (a b : Bool). a && b) (lt-ltb j 1024 l) (lt-ltb (get_or u j 0) 2 h) in
+      rw (sym e) (ap (set u j) s ∙ yes u few refl)
+
+pub ruleset count_laws = (count_over, count_full, count_more)
 
 -- ---- what the counts say
 pub cap_full : (n : ℕ) → 2 ≤ n → min 2 n ≡ 2
@@ -183,10 +188,11 @@ pub counting_start : (fs : List Frame) (u : List ℕ) → u ≡ replicate 1024 0
 counting_start fs u e = ap (λ (x : List ℕ). counted_in x fs) e
 
 pub counting_next : (ws u t : List ℕ) (i : ℕ) (f : Frame) → f ≡ frame_at (frames_of ws) i
-    → t ≡ over_children counted u (children f) → CountingUses (frames_of ws) u i → i < length ws
-    → CountingUses (frames_of ws) t (i + 1)
-counting_next ws u t i f e q g l =
+    → t ≡ fold counted u (child_numbers_of (children f)) → CountingUses (frames_of ws) u i
+    → i < length ws → CountingUses (frames_of ws) t (i + 1)
+counting_next ws u t i f e p g l =
     let s : i + 1 ≡ suc i = omega arith in
+    let q : t ≡ over_children counted u (children f) = p ∙ children_folded counted count_past u f in
     let r : t ≡ over_children counted u (children (frame_at (frames_of ws) i)) = q ∙ ap with_frame e in
     rw s (ap from r ∙ sym step ∙ sym (ap (counted_in u) (frames_next ws i l)) ∙ g)
   where
@@ -212,6 +218,8 @@ counting_end ws u i g l j o =
   where
     end : u ≡ counted_in u []
     end = unfold counted_in in refl
+
+pub ruleset counting_laws = (counting_start, counting_next, counting_end)
 
 -- ---- a count of 0 is a frame that no frame has as a child
 times_zero : (j : ℕ) (cs : List Child)

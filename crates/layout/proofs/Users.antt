@@ -9,6 +9,7 @@ use lib.Dec.{ltb, leb, eqb}
 use lib.ListN.{length}
 use borrow.Author.Tests.{ltb-true, ltb-false, leb-true, leb-false, eqb-true, eqb-false}
 use Rattle.basics.specs.Members.{In, any}
+use Rattle.language.specs.declared.refusal.Rule.TheVariants.{WrongOrder}
 use Rattle.language.specs.Kinds.{class_of, Child, children}
 use Rattle.language.specs.declared.kind.DeclarationKind.TheVariants.{Shared, Event, Link}
 use Rattle.language.specs.declared.kind.Kind.{Kind}
@@ -108,7 +109,7 @@ pub one_user : (fs : List Frame) → NoFault fs → (j : ℕ) → j < length fs
 one_user fs fine j l k = go (any (has_child j) fs) refl
   where
     trees : (i : ℕ) → i < length fs → HasTree fs i
-    trees = all_trees fs (λ n f. fine 6 n f)
+    trees = all_trees fs (λ n f. fine WrongOrder n f)
 
     same : (i m : ℕ) (c d : Child) → i < length fs → m < length fs → In c (children (frame_at fs i))
         → In d (children (frame_at fs m)) → c.at ≡ d.at → i ≡ m
@@ -122,7 +123,7 @@ one_user fs fine j l k = go (any (has_child j) fs) refl
 
     go : (b : Bool) → any (has_child j) fs ≡ b → User fs j
     go false e =
-        absurd (fine 6 j (Fault.leftover l k (λ i p. any_false no_frame (has_child j) fs e i p)))
+        absurd (fine WrongOrder j (Fault.leftover l k (λ i p. any_false no_frame (has_child j) fs e i p)))
     go true e =
         let p = any-true no_frame (has_child j) fs e in
         let h = among_children j (frame_at fs p.at) p.passes in
@@ -169,7 +170,7 @@ module _ (fs : List Frame) (fine : NoFault fs) where
   climb (suc n) j l k c =
       let u = one_user fs fine j k c in
       let h = u.has in
-      let a = tree_in (all_trees fs (λ m f. fine 6 m f) u.user u.inside).tree h.among in
+      let a = tree_in (all_trees fs (λ m f. fine WrongOrder m f) u.user u.inside).tree h.among in
       let e = h.at_it in
       up j u (parent (frame_at fs u.user) h.child h.among)
       (λ g. climb n u.user (omega arith) u.inside g)

@@ -1,126 +1,110 @@
-// Refusal 6: the order of frames.
+//! Refusal 6: the order of frames.
 ghost use Rattle.std.specs.Prelude.{◌≡◌, ◌&&◌, [], ◌∷◌, reverse, ℕ, ◌≤◌, max, eqb, length};
 ghost use Rattle.basics.specs.Inner.Searches.{lowest};
 ghost use Rattle.language.specs.Kinds.{file_rank, child, children};
 ghost use Rattle.language.specs.declared.frame.Frame.{Frame};
 ghost use Rattle.language.specs.Limits.{most_lines};
 ghost use Rattle.text.specs.Frames.{frames_of};
-ghost use Rattle.fields.specs.Inner.Scans.{found};
 ghost use Rattle.layout.specs.Order.{has_class, is_main};
 ghost use Rattle.layout.specs.Inner.Scans.{row_first, first_disorder, is_late, is_misplaced};
-ghost use Rattle.layout.specs.Inner.Scans.{first_leftover, no_main, order_fault, LineWords};
-ghost use Rattle.layout.specs.Inner.Passes.{subtree_of, told, Backward};
+ghost use Rattle.layout.specs.Inner.Scans.{first_leftover, no_main, order_fault};
+ghost use Rattle.layout.specs.Inner.Passes.{told, Backward};
 
+use crate::lines::Lines;
 use crate::uses::count_uses;
-use fields::fault_search::{FaultSearch, lower};
+use fields::fault_search::lower;
 use language::frame::Frame;
 use language::kind::{Class, Kind};
 use language::limit::MOST_LINES;
-use program::frames::{Children, children_of, frame_at, same_class};
+use program::frames::{Children, children_of, frame_at};
 
-// The first frame of a subtree whose children stand in order, each of its class.
+// The trees of the frames before frame `count`: `first` says where the tree of each begins. None
+// begins after its root.
 #[derive(Clone, Copy)]
-enum Subtree {
-    From(u16),
-    OutOfOrder,
+struct Trees<'a> {
+    words: &'a [u64],
+    first: &'a [u16; MOST_LINES],
+    count: usize,
+    ghost inside: { count ≤ length words.now },
+    ghost most: { length words.now ≤ most_lines },
+    ghost backward: { Backward first.now count },
 }
 
-// Where the tree of the child v begins, which is to be of that class and to end just before `stop`;
-// `first` says where the tree of each frame before i begins. A row ends at i or before, so that a
-// number from i on is out of order.
-fn child_first(
-    words: &[u64],
-    first: &[u16; MOST_LINES],
-    i: usize,
-    class: Class,
-    v: u16,
-    stop: u16,
-) -> Subtree
-    requires { (i ≤ length words.now) × (length words.now ≤ most_lines) × (stop ≤ i) }
-    ensures { result
-        ≡ subtree_of (row_first (told (frames_of words.now) first.now i) i stop
-        (child class v ∷ [])) }
-{
-    let j = v as usize;
-    if i <= j {
-        return Subtree::OutOfOrder;
+impl Trees<'_> {
+    // Where the tree of the child v begins, which is to be of that class and to end just before
+    // `stop`; `None` where it is out of order or of another class. A row ends at `count` or before,
+    // so that a number from there on is out of order.
+    #[tactic(auto, using(crate::proofs::DisorderPass::child_laws))]
+    fn child_first(&self, class: Class, v: u16, stop: u16) -> Option<u16>
+        requires { stop ≤ self.now.count }
+        ensures { result
+            ≡ row_first (told (frames_of self.now.words.now) self.now.first.now self.now.count)
+            self.now.count stop (child class v ∷ []) }
+    {
+        let j = usize::from(v);
+        if self.count <= j || v + 1 != stop {
+            return None;
+        }
+        let f = frame_at(self.words, j);
+        if f.kind.class() != class {
+            return None;
+        }
+        Some(self.first[j])
     }
-    if v + 1 != stop {
-        return Subtree::OutOfOrder;
-    }
-    let f = frame_at(words, j);
-    let kind = f.kind;
-    if !same_class(kind.class(), class) {
-        return Subtree::OutOfOrder;
-    }
-    Subtree::From(first[j])
-}
 
-// The same for the two children a and b, side by side, of the classes k and l.
-fn pair_first(
-    words: &[u64],
-    first: &[u16; MOST_LINES],
-    i: usize,
-    k: Class,
-    a: u16,
-    l: Class,
-    b: u16,
-    stop: u16,
-) -> Subtree
-    requires { (i ≤ length words.now) × (length words.now ≤ most_lines) × (stop ≤ i)
-        × Backward first.now i }
-    ensures { result
-        ≡ subtree_of (row_first (told (frames_of words.now) first.now i) i stop
-        (child l b ∷ child k a ∷ [])) }
-{
-    match child_first(words, first, i, l, b, stop) {
-        Subtree::OutOfOrder => Subtree::OutOfOrder,
-        Subtree::From(t) => child_first(words, first, i, k, a, t),
+    // The same for the two children a and b, side by side, of the classes k and l.
+    fn pair_first(&self, k: Class, a: u16, l: Class, b: u16, stop: u16) -> Option<u16>
+        requires { stop ≤ self.now.count }
+        ensures { result
+            ≡ row_first (told (frames_of self.now.words.now) self.now.first.now self.now.count)
+            self.now.count stop (child l b ∷ child k a ∷ []) }
+    {
+        let middle = self.child_first(l, b, stop)?;
+        self.child_first(k, a, middle)
     }
-}
 
-// Where the tree of frame i begins, from its last child to its first. `Backward` keeps each row's
-// end from moving past i.
-fn row_first(words: &[u64], first: &[u16; MOST_LINES], i: usize, f: Frame) -> Subtree
-    requires { (i ≤ length words.now) × (length words.now ≤ most_lines)
-        × Backward first.now i }
-    ensures { result
-        ≡ subtree_of (row_first (told (frames_of words.now) first.now i) i i
-        (reverse (children f))) }
-{
-    let stop = i as u16;
-    match children_of(f) {
-        Children::Nothing => Subtree::From(stop),
-        Children::One(k, a) => child_first(words, first, i, k, a, stop),
-        Children::Two(k, a, l, b) => pair_first(words, first, i, k, a, l, b, stop),
-        Children::Three(k, a, l, b, m, c) => match child_first(words, first, i, m, c, stop) {
-            Subtree::OutOfOrder => Subtree::OutOfOrder,
-            Subtree::From(t) => pair_first(words, first, i, k, a, l, b, t),
-        },
+    // Where the tree of the next frame, f, begins, from its last child to its first.
+    fn row_first(&self, f: Frame) -> Option<u16>
+        ensures { result
+            ≡ row_first (told (frames_of self.now.words.now) self.now.first.now self.now.count)
+            self.now.count self.now.count (reverse (children f)) }
+    {
+        let stop = self.count as u16;
+        match children_of(f) {
+            Children::Nothing => Some(stop),
+            Children::One(k, a) => self.child_first(k, a, stop),
+            Children::Two(k, a, l, b) => self.pair_first(k, a, l, b, stop),
+            Children::Three(k, a, l, b, m, c) => {
+                let middle = self.child_first(m, c, stop)?;
+                self.pair_first(k, a, l, b, middle)
+            }
+        }
     }
 }
 
 // The lowest frame whose children are out of order or of a wrong class.
-fn disorder(words: &[u64]) -> FaultSearch
-    requires { length words.now ≤ most_lines }
-    ensures { result ≡ found (first_disorder [] 0 (frames_of words.now)) }
+fn disorder(lines: Lines) -> Option<u16>
+    ensures { result ≡ first_disorder [] 0 (frames_of lines.entry.words.now) }
 {
     let mut first = [0u16; MOST_LINES];
-    for i in 0..words.len() {
-        let f = frame_at(words, i);
-        match row_first(words, &first, i, f) {
-            Subtree::OutOfOrder => {
-                return FaultSearch::At(i as u16);
-            }
-            Subtree::From(lo) => {
-                first[i] = lo;
-            }
-        }
+    for i in 0..lines.words.len() {
+        let trees = Trees {
+            words: lines.words,
+            first: &first,
+            count: i,
+        };
+        let Some(start) = trees.row_first(frame_at(lines.words, i)) else {
+            return Some(i as u16);
+        };
+        first[i] = start;
     }
-    FaultSearch::Nowhere
+    None
 }
 
-// The rank of all that comes after the declarations.
+// The ranks of the header and of all that comes after the declarations, whose own are 1 to 3. They
+// stay numbers: `DeclarationKind::rank` is public and gives one.
+const FIRST_RANK: u8 = 0;
+
 const LAST_RANK: u8 = 4;
 
 // In which order the kinds stand in a file.
@@ -128,19 +112,10 @@ fn file_rank(k: Kind) -> u8
     ensures { result ≡ file_rank k }
 {
     match k {
-        Kind::Header => 0,
+        Kind::Header => FIRST_RANK,
         Kind::Declared(d) => d.rank(),
         _ => LAST_RANK,
     }
-}
-
-fn higher(a: u8, b: u8) -> u8
-    ensures { result ≡ max a b }
-{
-    if a < b {
-        return b;
-    }
-    a
 }
 
 // A declaration, where a frame of a later rank was before: `top` is the highest.
@@ -148,56 +123,45 @@ fn higher(a: u8, b: u8) -> u8
 fn is_late(k: Kind, top: u8) -> bool
     ensures { result ≡ is_late k top }
 {
-    match k {
-        Kind::Declared(d) => d.rank() < top,
-        _ => false,
-    }
+    matches!(k, Kind::Declared(d) if d.rank() < top)
 }
 
 // The lowest declaration after a frame that it should precede.
-fn misplaced(words: &[u64]) -> FaultSearch
-    requires { length words.now ≤ most_lines }
+fn misplaced(lines: Lines) -> Option<u16>
     ensures { result
-        ≡ found (lowest (λ (i : ℕ) (f : Frame). is_misplaced (frames_of words.now) i f) 0
-        (frames_of words.now)) }
+        ≡ lowest (λ (i : ℕ) (f : Frame). is_misplaced (frames_of lines.entry.words.now) i f) 0
+        (frames_of lines.entry.words.now) }
 {
-    let mut top: u8 = 0;
-    for i in 0..words.len() {
-        let kind = frame_at(words, i).kind;
+    let mut top = FIRST_RANK;
+    for i in 0..lines.words.len() {
+        let kind = frame_at(lines.words, i).kind;
         if is_late(kind, top) {
-            return FaultSearch::At(i as u16);
+            return Some(i as u16);
         }
-        top = higher(top, file_rank(kind));
+        top = top.max(file_rank(kind));
     }
-    FaultSearch::Nowhere
+    None
 }
 
-// A statement or an expression that is not used: `count` says how often it is.
+/// Whether a frame of that class is left over, a statement or an expression that no frame has as a
+/// child: `count` says how often one has, from 0.
 pub fn is_left(k: Class, count: u8) -> bool
     ensures { result ≡ (has_class k && eqb count 0) }
 {
-    match k {
-        Class::Statement => count == 0,
-        Class::Expression => count == 0,
-        Class::Neither => false,
-    }
+    k != Class::Neither && count == 0
 }
 
 // The lowest statement or expression that no frame has as a child.
-fn leftover(words: &[u64]) -> FaultSearch
-    requires { length words.now ≤ most_lines }
+fn leftover(lines: Lines) -> Option<u16>
     ensures { result
-        ≡ found (first_leftover (frames_of words.now) 0 (frames_of words.now)) }
+        ≡ first_leftover (frames_of lines.entry.words.now) 0 (frames_of lines.entry.words.now) }
 {
     let mut counts = [0u8; MOST_LINES];
-    count_uses(words, &mut counts);
-    for i in 0..words.len() {
-        let kind = frame_at(words, i).kind;
-        if is_left(kind.class(), counts[i]) {
-            return FaultSearch::At(i as u16);
-        }
-    }
-    FaultSearch::Nowhere
+    count_uses(lines.words, &mut counts);
+    (0..lines.words.len() as u16).find(|i| {
+        let n = usize::from(*i);
+        is_left(frame_at(lines.words, n).kind.class(), counts[n])
+    })
 }
 
 #[tactic(auto, unfolding(crate::specs::Order::is_main))]
@@ -208,25 +172,25 @@ fn is_main(f: Frame) -> bool
 }
 
 // The last frame, if it is not `main`.
-fn no_main(words: &[u64]) -> FaultSearch
-    requires { LineWords words.now }
-    ensures { result ≡ found (no_main (frames_of words.now)) }
+fn no_main(lines: Lines) -> Option<u16>
+    ensures { result ≡ no_main (frames_of lines.entry.words.now) }
 {
-    let last = words.len() - 1;
-    if is_main(frame_at(words, last)) {
-        return FaultSearch::Nowhere;
+    let last = lines.words.len() - 1;
+    if is_main(frame_at(lines.words, last)) {
+        None
+    } else {
+        Some(last as u16)
     }
-    FaultSearch::At(last as u16)
 }
 
 // The lowest frame with a fault 6.
-pub(crate) fn order(words: &[u64]) -> FaultSearch
-    requires { LineWords words.now }
-    ensures { result ≡ found (order_fault (frames_of words.now)) }
+#[tactic(auto, using(crate::proofs::OrderPass::order_is))]
+pub(crate) fn order(lines: Lines) -> Option<u16>
+    ensures { result ≡ order_fault (frames_of lines.entry.words.now) }
 {
-    let d = disorder(words);
-    let p = misplaced(words);
-    let l = leftover(words);
-    let m = no_main(words);
+    let d = disorder(lines);
+    let p = misplaced(lines);
+    let l = leftover(lines);
+    let m = no_main(lines);
     lower(d, lower(p, lower(l, m)))
 }

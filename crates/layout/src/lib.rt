@@ -1,56 +1,36 @@
-// The layout check, refusals 4 to 7: passes over a text's lines, which the reader keeps as numbers.
+//! The layout check, refusals 4 to 7: passes over a text's lines, which the reader keeps as numbers.
 #![tactic(auto)]
 
 ghost use Rattle.std.specs.Prelude.{◌≡◌, replicate};
 ghost use Rattle.language.specs.Limits.{most_lines};
 ghost use Rattle.text.specs.Frames.{frames_of};
-ghost use Rattle.layout.specs.Inner.Scans.{layout_of, LineWords};
+ghost use Rattle.layout.specs.Inner.Scans.{layout_of};
 ghost use Rattle.layout.specs.LaidOut.{Judged};
 ghost use Rattle.layout.specs.Inner.Layouts.{laid_as, laid_words, layout_verdict, verdict_of};
 
 use crate::depth::depth;
 use crate::in_order::order;
-use fields::fault_search::FaultSearch;
+use crate::lines::Lines;
+use fields::fault_search::refused_at;
 use fields::field::{fields, header};
 use language::limit::MOST_LINES;
-use language::refusal::{Refusal, TOO_DEEP, Verdict, WRONG_FIELD, WRONG_HEADER, WRONG_ORDER};
+use language::refusal::{Refusal, Rule, Verdict};
 use text::reading::read_into;
 
 mod depth;
 pub mod in_order;
+pub mod lines;
 pub mod uses;
 
 // Refusals 4 to 7. A pass may rely on those before it: the fields on the header, the depths on the
 // order.
-fn layout_of(words: &[u64]) -> Verdict
-    requires { LineWords words.now }
-    ensures { result ≡ layout_of (frames_of words.now) }
+fn layout_of(lines: Lines) -> Verdict
+    ensures { result ≡ layout_of (frames_of lines.entry.words.now) }
 {
-    match header(words) {
-        FaultSearch::At(frame) => Err(Refusal {
-            number: WRONG_HEADER,
-            frame,
-        }),
-        FaultSearch::Nowhere => match fields(words) {
-            FaultSearch::At(frame) => Err(Refusal {
-                number: WRONG_FIELD,
-                frame,
-            }),
-            FaultSearch::Nowhere => match order(words) {
-                FaultSearch::At(frame) => Err(Refusal {
-                    number: WRONG_ORDER,
-                    frame,
-                }),
-                FaultSearch::Nowhere => match depth(words) {
-                    FaultSearch::At(frame) => Err(Refusal {
-                        number: TOO_DEEP,
-                        frame,
-                    }),
-                    FaultSearch::Nowhere => Ok(()),
-                },
-            },
-        },
-    }
+    refused_at(Rule::WrongHeader, header(lines.words))?;
+    refused_at(Rule::WrongField, fields(lines.words))?;
+    refused_at(Rule::WrongOrder, order(lines))?;
+    refused_at(Rule::TooDeep, depth(lines))
 }
 
 /// Refusals 1 to 7 on any text: the one verdict that their rules give, and no other. Its lines go to
@@ -62,7 +42,9 @@ pub fn lay_into(text: &[u8], words: &mut [u64]) -> Result<usize, Refusal>
     ensures promised { Judged text.now (verdict_of result) }
 {
     let count = usize::from(read_into(text, words)?);
-    layout_of(&words[..count])?;
+    layout_of(Lines {
+        words: &words[..count],
+    })?;
     Ok(count)
 }
 

@@ -1,18 +1,21 @@
 -- The count of frames: it is what its words say, each line that it counts is a frame and the line
--- after them is none; and laws of the loop of `frames_from`, which counts them. Assumes nothing.
-use Rattle.std.specs.Prelude.{Option}
+-- after them is none; and the frames that a reader gives, which are as many. Assumes nothing.
+use Rattle.std.specs.Prelude.{Option, Some, None}
 use mathlib.Core.Path.{◌≡◌, refl, sym, ap, ◌∙◌}
-use mathlib.Core.Bool.{Bool, true, false, not}
-use mathlib.Core.List.{List}
+use mathlib.Core.Bool.{Bool, true, false}
+use mathlib.Core.List.{List, [], ◌∷◌}
+use lib.Dec.{ltb}
+use lib.ListN.{length}
 use Prim.Native.Nat.{ℕ, zero, suc, ◌+◌, ◌-◌, ◌<◌, ◌≤◌}
 use native.Mathlib.Numerals.{add-one}
 use native.Mathlib.Omega.{arith}
-use borrow.Author.Tests.{not-true, not-false}
-use Rattle.basics.proofs.Ifs.{if_yes, if_no}
+use borrow.Author.Tests.{ltb-true, ltb-false}
+use Rattle.basics.specs.If.{when◌then◌else◌}
+use Rattle.basics.proofs.Ifs.{if_all, if_yes, if_no}
 use Rattle.language.specs.declared.frame.Frame.{Frame}
 use Rattle.text.specs.Inner.Lines.{frame_read}
 use Rattle.text.proofs.FrameLaws.{frame_over}
-use Rattle.lines.specs.Readers.{is_read, frames_of_next, frames_from}
+use Rattle.lines.specs.Readers.{is_read, in_front, frames_of_next, frames_from, frames_until}
 
 -- whether line n is a frame
 abbrev is_frame : List ℕ → ℕ → Bool
@@ -69,53 +72,59 @@ pub none_after : (bs : List ℕ) (n : ℕ) → is_frame bs (n + frames_from bs n
 unfolding frames_from
 none_after bs n = next_after (1024 - n) bs n (omega arith)
 
--- ---- the loop
+-- ---- the frames of those lines, as the iterator gives them
 
--- the count of all, a line at a time
-module _ (bs : List ℕ) (at : ℕ) where
-  one_more : at < 1024 → 1024 - at ≡ suc (1024 - suc at)
-  one_more h = omega arith
+-- as many as were counted
+until_length : (k : ℕ) (bs : List ℕ) (n : ℕ) → length (frames_until k bs n) ≡ frames_of_next k bs n
+unfolding frames_until frames_of_next
+until_length zero bs n = refl
+until_length (suc k) bs n = by (frame_read bs n) (until_length k bs (n + 1) ∙ ap (frames_of_next k bs) (add-one n))
+  where
+    by : (o : Option Frame) → length (frames_until k bs (n + 1)) ≡ frames_of_next k bs (suc n)
+        → length (in_front o (frames_until k bs (n + 1)))
+        ≡ (when is_read o then suc (frames_of_next k bs (suc n)) else 0)
+    by None e = sym (if_no _ _ refl)
+    by (Some f) e = ap suc e ∙ sym (if_yes _ _ refl)
 
-  from_frame : at < 1024 → is_frame bs at ≡ true → frames_from bs at ≡ suc (frames_from bs (suc at))
-  unfolding frames_from
-  from_frame h e =
-      ap (λ (k : ℕ). frames_of_next k bs at) (one_more h) ∙ next_frame (1024 - suc at) bs at e
+pub left_length : (bs : List ℕ) (n : ℕ) → length (frames_until (1024 - n) bs n) ≡ frames_from bs n
+unfolding frames_from
+left_length bs n = until_length (1024 - n) bs n
 
-  from_none : at < 1024 → is_frame bs at ≡ false → frames_from bs at ≡ 0
-  unfolding frames_from
-  from_none h e =
-      ap (λ (k : ℕ). frames_of_next k bs at) (one_more h) ∙ next_none (1024 - suc at) bs at e
+-- no more than there are lines
+counted_le : (k : ℕ) (bs : List ℕ) (n : ℕ) → frames_of_next k bs n ≤ k
+unfolding frames_of_next
+counted_le zero bs n = omega arith
+counted_le (suc k) bs n =
+    if_all (λ m. m ≤ suc k) (is_frame bs n) _ _ (λ _. let l = counted_le k bs (suc n) in omega arith) (λ _. omega arith)
 
-  from_end : 1024 ≤ at → frames_from bs at ≡ 0
-  unfolding frames_from
-  from_end h =
-      let z : 1024 - at ≡ 0 = omega arith in
-      ap (λ (k : ℕ). frames_of_next k bs at) z ∙ none_next bs at
+pub from_le : (bs : List ℕ) (n : ℕ) → frames_from bs n ≤ 1024
+unfolding frames_from
+from_le bs n = let l = counted_le (1024 - n) bs n in omega arith
 
--- the lines from n up to `at` are frames, and the count goes on from there
-pub record Counting (bs : List ℕ) (n at : ℕ) : Type 0 where
-  pub begun : n ≤ at
-  pub rest : at - n + frames_from bs at ≡ frames_from bs n
+module _ (bs : List ℕ) (n : ℕ) where
+  pub frame_low : (f : Frame) → frame_read bs n ≡ Some f → n < 1024
+  frame_low f e = by (ltb n 1024) refl
+    where
+      by : (b : Bool) → ltb n 1024 ≡ b → n < 1024
+      by true t = ltb-true n 1024 t
+      by false t =
+          let q : None ≡ Some f = frame_over bs n (ltb-false n 1024 t) ∙ e in absurd cc
 
-pub counting_start : (bs : List ℕ) (n : ℕ) → Counting bs n n
-counting_start bs n = record { begun = omega arith; rest = omega arith }
+  pub left_some : (f : Frame) → frame_read bs n ≡ Some f
+      → frames_until (1024 - n) bs n ≡ f ∷ frames_until (1024 - (n + 1)) bs (n + 1)
+  unfolding frames_until
+  left_some f e =
+      let l = frame_low f e in
+      let k : 1024 - n ≡ suc (1024 - (n + 1)) = omega arith in
+      ap (λ (i : ℕ). frames_until i bs n) k
+      ∙ ap (λ (o : Option Frame). in_front o (frames_until (1024 - (n + 1)) bs (n + 1))) e
 
-module _ (bs : List ℕ) (n at : ℕ) (t : Counting bs n at) where
-  pub count_ends : 1024 ≤ at → at - n ≡ frames_from bs n
-  count_ends h = let z = from_end bs at h in let r = t.rest in omega arith
+  pub left_none : frame_read bs n ≡ None → frames_until (1024 - n) bs n ≡ []
+  unfolding frames_until
+  left_none e = by (1024 - n)
+    where
+      by : (k : ℕ) → frames_until k bs n ≡ []
+      by zero = refl
+      by (suc k) = ap (λ (o : Option Frame). in_front o (frames_until k bs (n + 1))) e
 
-  module _ (f : Option Frame) (b : Bool) (e : f ≡ frame_read bs at) (d : is_read f ≡ not b) (h : at < 1024) where
-    pub count_stops : b ≡ true → at - n ≡ frames_from bs n
-    count_stops g =
-        let z = from_none bs at h (ap is_read (sym e) ∙ d ∙ ap not g) in
-        let r = t.rest in
-        omega arith
-
-    pub counting_more : b ≡ false → Counting bs n (at + 1)
-    counting_more g =
-        let z = from_frame bs at h (ap is_read (sym e) ∙ d ∙ ap not g) in
-        let r = t.rest in
-        let l = t.begun in
-        record { begun = omega arith; rest = rw add-one (omega arith) }
-
-pub ruleset count_laws = (count_ends, count_stops)
+pub ruleset left_laws = (left_some, left_none)

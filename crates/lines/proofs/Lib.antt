@@ -1,3 +1,2 @@
 pub mod LineNumbers
 pub mod Counts
-pub mod ReaderFields

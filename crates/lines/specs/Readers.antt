@@ -1,7 +1,7 @@
 -- A reader of a text's lines, of 17 bytes each.
-use Rattle.std.specs.Prelude.{◌-◌, ◌/◌, Option, is_some}
+use Rattle.std.specs.Prelude.{[], ◌∷◌, ◌+◌, ◌-◌, ◌/◌, Option, Some, None, is_some}
 use Rattle.language.specs.declared.frame.Frame.{Frame}
-use Rattle.basics.specs.Prelude.{List, Bool, true, false, ℕ, zero, suc, ltb, length}
+use Rattle.basics.specs.Prelude.{List, Bool, ℕ, zero, suc, ltb, length}
 use Rattle.basics.specs.Prelude.{when◌then◌else◌}
 use Rattle.std.specs.Borrow.{Bor}
 use Rattle.language.specs.Limits.{line_length, most_lines}
@@ -17,6 +17,11 @@ line_after bs n = when ltb n (length bs / line_length) then suc n else n
 abbrev pub is_read : Option Frame → Bool
 is_read r = is_some r
 
+-- a frame in front of those after it; nothing where there is none
+abbrev pub in_front : Option Frame → List Frame → List Frame
+in_front None fs = []
+in_front (Some f) fs = f ∷ fs
+
 -- how many of the k lines from line n on are frames, up to the first that is none
 unfoldable pub frames_of_next : ℕ → List ℕ → ℕ → ℕ
 frames_of_next zero bs n = 0
@@ -28,6 +33,11 @@ frames_of_next (suc k) bs n =
 -- 1024
 unfoldable pub frames_from : List ℕ → ℕ → ℕ
 frames_from bs n = frames_of_next (most_lines - n) bs n
+
+-- the frames of those lines: of the k lines from line n on, up to the first that is none
+unfoldable pub frames_until : ℕ → List ℕ → ℕ → List Frame
+frames_until zero bs n = []
+frames_until (suc k) bs n = in_front (frame_read bs n) (frames_until k bs (n + 1))
 
 -- ---- of a reader
 
@@ -42,3 +52,7 @@ moved r = record { text = r.text; next = line_after r.text.now r.next }
 
 abbrev pub frames_ahead : LineReader → ℕ
 frames_ahead r = frames_from r.text.now r.next
+
+-- the frames that a reader has yet to give
+abbrev pub frames_left : LineReader → List Frame
+frames_left r = frames_until (most_lines - r.next) r.text.now r.next

@@ -6,8 +6,8 @@ use Prim.Native.Nat.{ℕ, zero, suc, ◌+◌, ◌-◌, ◌*◌, ◌/◌, ◌%◌
 use native.Mathlib.Numerals.{add-one}
 use native.Mathlib.Omega.{arith}
 use lib.Dec.{ltb, leb, eqb}
-use lib.ListN.{length, get_or, take, drop, length-drop, drop_of_length-le}
-use lib.Seq.{drop-drop}
+use lib.ListN.{length, get_or, take, drop, length-drop, length-take, drop_of_length-le}
+use lib.Seq.{drop-drop, get_or-take}
 use borrow.Author.Tests.{lt-ltb, le-ltb, eq-eqb, ne_eqb, leb-true, le-leb, lt-leb}
 use Rattle.basics.specs.If.{when◌then◌else◌}
 use Rattle.basics.proofs.Ifs.{if_all, yes, no, and_true, and_swap}
@@ -19,8 +19,10 @@ use Rattle.listing.specs.Listing.{Choices, choices, malformed, also_choice, is_c
 use Rattle.listing.specs.Listing.{choices_from}
 use Rattle.listing.specs.Inner.Choices.{count_read, judged, choice_at, right_byte, is_right}
 use Rattle.listing.specs.Inner.Choices.{starts_block, starts_choice, choices_ahead}
-use Rattle.listing.specs.declared.choices.ChoicesRead.{ChoicesRead}
-use Rattle.listing.specs.declared.choices.ChoicesRead.TheVariants as read
+use Rattle.std.specs.Prelude.{Result, Ok, Err}
+use Rattle.language.specs.Verdicts.{refusal}
+use Rattle.language.specs.declared.refusal.Refusal.{Refusal}
+use Rattle.language.specs.declared.refusal.Rule.TheVariants.{LongText, MalformedText}
 
 -- ---- one byte
 module _ (p b : ℕ) where
@@ -47,20 +49,25 @@ module _ (bytes : List ℕ) where
   unfolding all_below
   block_start = refl
 
-  pub block_more : (right t : Bool) (k : ℕ) → t ≡ right_byte k (get_or bytes k 0)
+  pub block_more : (right t : Bool) (k : ℕ) → k < length (take 48 bytes)
+      → t ≡ right_byte k (get_or (take 48 bytes) k 0)
       → right ≡ all_below k (is_right bytes) → (right && t) ≡ all_below (k + 1) (is_right bytes)
   unfolding all_below
-  block_more right t k e h =
-      rw add-one (and_swap right t ∙ ap₂ (λ (x y : Bool). x && y) e h)
+  block_more right t k l e h =
+      let n = length-take 48 bytes in
+      let b = get_or-take 48 bytes k 0 (omega arith) in
+      rw add-one (and_swap right t ∙ ap₂ (λ (x y : Bool). x && y) (e ∙ ap (right_byte k) b) h)
 
   pub block_short : length bytes < 48 → false ≡ starts_block bytes
   unfolding starts_block
   block_short h = sym (rw (lt-leb 48 (length bytes) h) refl)
 
-  pub block_told : (right : Bool) (k : ℕ) → 48 ≤ length bytes → k ≤ 48 → 48 ≤ k
-      → right ≡ all_below k (is_right bytes) → right ≡ starts_block bytes
+  pub block_told : (right : Bool) (k : ℕ) → 48 ≤ length bytes → k ≤ length (take 48 bytes)
+      → length (take 48 bytes) ≤ k → right ≡ all_below k (is_right bytes)
+      → right ≡ starts_block bytes
   unfolding starts_block
   block_told right k l a b h =
+      let n = length-take 48 bytes in
       let e : k ≡ 48 = omega arith in
       h ∙ ap (λ (j : ℕ). all_below j (is_right bytes)) e
       ∙ sym (ap (λ (t : Bool). t && all_below 48 (is_right bytes)) (le-leb 48 (length bytes) l))
@@ -107,16 +114,16 @@ no_line k = refl
 -- ---- the loop over lines: k of them are choices, as far as `at`
 
 -- what the bytes read as, from what is read after k choices
-abbrev count_after : ℕ → Choices → ChoicesRead
-count_after k (choices cs) = read.Choices (k + length cs)
-count_after k (malformed j) = read.Malformed j
+abbrev count_after : ℕ → Choices → Result ℕ Refusal
+count_after k (choices cs) = Ok (k + length cs)
+count_after k (malformed j) = Err (refusal MalformedText j)
 
 count_start : (r : Choices) → count_after 0 r ≡ count_read r
-count_start (choices cs) = ap read.Choices (omega arith)
+count_start (choices cs) = ap Ok (omega arith)
 count_start (malformed j) = refl
 
 count_more : (k c : ℕ) (r : Choices) → count_after (suc k) r ≡ count_after k (also_choice c r)
-count_more k c (choices cs) = ap read.Choices (omega arith)
+count_more k c (choices cs) = ap Ok (omega arith)
 count_more k c (malformed j) = refl
 
 -- the bytes begin with m choices, each of which is passed
@@ -200,83 +207,83 @@ none_ahead k (a ∷ b ∷ c ∷ rest) h e =
     (sym (ap (λ (t : Bool). t && is_choice a b c) (le-leb 3 (length (a ∷ b ∷ c ∷ rest)) (omega arith)))
     ∙ e)
 
-pub record Judging (bytes : List ℕ) (k at : ℕ) : Type 0 where
+pub record Judging (bytes : List ℕ) (k : ℕ) : Type 0 where
   pub short : length bytes ≤ 49152
-  pub three : at ≡ 3 * k
-  pub fits : at ≤ length bytes
-  pub rest : count_after k (choices_from k (drop at bytes)) ≡ judged bytes
+  pub fits : 3 * k ≤ length bytes
+  pub rest : count_after k (choices_from k (drop (3 * k) bytes)) ≡ judged bytes
 
-pub judged_over : (bytes : List ℕ) → 49152 < length bytes → read.TooLong ≡ judged bytes
+pub judged_over : (bytes : List ℕ) → 49152 < length bytes → Err (refusal LongText 0) ≡ judged bytes
 unfolding judged
 judged_over bytes h = yes _ (lt-ltb 49152 (length bytes) h) refl
 
-pub judging_start : (bytes : List ℕ) → length bytes ≤ 49152 → Judging bytes 0 0
+pub judging_start : (bytes : List ℕ) → length bytes ≤ 49152 → Judging bytes 0
 unfolding judged
 judging_start bytes h =
-    record { short = h; three = refl; fits = omega arith; rest = no _ (le-ltb 49152 (length bytes) h) (count_start (choices_from 0 bytes)) }
+    record {
+      short = h;
+      fits = omega arith;
+      rest = no _ (le-ltb 49152 (length bytes) h) (count_start (choices_from 0 bytes));
+    }
 
-module _ (bytes : List ℕ) (k at : ℕ) (j : Judging bytes k at) where
-  pub judged_all : length bytes ≤ at → read.Choices k ≡ judged bytes
+module _ (bytes : List ℕ) (k : ℕ) (j : Judging bytes k) where
+  pub judged_all : length bytes ≤ 3 * k → Ok k ≡ judged bytes
   judged_all h =
-      ap read.Choices (omega arith)
+      ap Ok (omega arith)
       ∙ ap (count_after k) (sym (no_line k) ∙ ap (choices_from k) (sym (drop_of_length-le bytes h)))
       ∙ j.rest
 
-  -- m is what was seen ahead in the part from `at` on
-  module _ (m : ℕ) (seen : m ≡ choices_ahead (take (length bytes - at) (drop at bytes))) where
-    ahead : m ≡ choices_ahead (drop at bytes)
-    ahead = seen ∙ ap choices_ahead (part_all bytes at)
+  -- m is what was seen ahead in the part from there on
+  module _ (m : ℕ) (seen : m ≡ choices_ahead (take (length bytes - 3 * k) (drop (3 * k) bytes))) where
+    ahead : m ≡ choices_ahead (drop (3 * k) bytes)
+    ahead = seen ∙ ap choices_ahead (part_all bytes (3 * k))
 
-    found : Ahead (drop at bytes) m
-    found = rw ahead (is_ahead (drop at bytes))
+    found : Ahead (drop (3 * k) bytes) m
+    found = rw ahead (is_ahead (drop (3 * k) bytes))
 
-    ahead_fits : at + 3 * m ≤ length bytes
+    ahead_fits : 3 * (k + m) ≤ length bytes
     ahead_fits =
         let t = found.there in
-        let l = length-drop at bytes in
+        let l = length-drop (3 * k) bytes in
         let f = j.fits in
         omega arith
 
-    pub judging_more : Judging bytes (k + m) (at + 3 * m)
+    pub judging_more : Judging bytes (k + m)
     judging_more = record {
       short = j.short;
-      three = let t = j.three in omega arith;
       fits = ahead_fits;
       rest =
-          ap (λ (r : List ℕ). count_after (k + m) (choices_from (k + m) r)) (sym (drop-drop (3 * m) at bytes))
+          ap (λ (r : List ℕ). count_after (k + m) (choices_from (k + m) r))
+          (ap (λ (i : ℕ). drop i bytes) (omega arith) ∙ sym (drop-drop (3 * m) (3 * k) bytes))
           ∙ sym (found.pass k)
           ∙ j.rest;
     }
 
-    pub at_fits : at + 3 * m < 2 ^ 64
-    at_fits = let f = ahead_fits in let s = j.short in omega arith
+    pub count_fits : k + m < 2 ^ 64
+    count_fits = let f = ahead_fits in let s = j.short in omega arith
 
-    pub count_fits : k + m < 2 ^ 16
-    count_fits =
-        let f = ahead_fits in
-        let s = j.short in
-        let t = j.three in
-        omega arith
-
-    pub less_left : (m ≡ 0 → ⊥) → at < length bytes
-        → length bytes - (at + 3 * m) < length bytes - at
+    pub less_left : (m ≡ 0 → ⊥) → 3 * k < length bytes
+        → length bytes - 3 * (k + m) < length bytes - 3 * k
     less_left z h = omega arith
 
-    pub judged_none : m ≡ 0 → at < length bytes → read.Malformed k ≡ judged bytes
+    pub judged_none : m ≡ 0 → 3 * k < length bytes → Err (refusal MalformedText k) ≡ judged bytes
     judged_none z h =
         ap (count_after k)
-        (sym (none_ahead k (drop at bytes) (rw length-drop (omega arith)) (none_starts (drop at bytes) (sym z ∙ ahead))))
+        (sym (none_ahead k (drop (3 * k) bytes) (rw length-drop (omega arith)) none))
         ∙ j.rest
+      where
+        none : starts_choice (drop (3 * k) bytes) ≡ false
+        none = none_starts (drop (3 * k) bytes) (sym z ∙ ahead)
 
 -- ---- one choice
 pub no_choice : (bytes : List ℕ) (k : ℕ) → length bytes / 3 ≤ k → 0 ≡ choice_at bytes k
 unfolding choice_at
 no_choice bytes k h = no _ (le-ltb k (length bytes / 3) h) refl
 
-pub some_choice : (bytes : List ℕ) (k a b : ℕ) → a ≡ digit (get_or bytes (3 * k) 0)
-    → b ≡ digit (get_or bytes (3 * k + 1) 0) → k < length bytes / 3
-    → (16 * a + b) % 256 ≡ choice_at bytes k
+pub some_choice : (bytes : List ℕ) (k a b c d : ℕ) → a ≡ digit (get_or bytes (3 * k) 0)
+    → b ≡ digit (get_or bytes (3 * k + 1) 0) → c ≡ a → d ≡ b → k < length bytes / 3
+    → (16 * c + d) % 256 ≡ choice_at bytes k
 unfolding choice_at
-some_choice bytes k a b p q h = yes 0 (lt-ltb k (length bytes / 3) h) (rw (p, q))
+some_choice bytes k a b c d p q r s h =
+    yes 0 (lt-ltb k (length bytes / 3) h) (rw (r, s, p, q))
 
 pub ruleset choice_laws = (no_choice, some_choice)

@@ -1,4 +1,5 @@
--- Lines.
+-- Digits, and lines.
+pub mod DigitLaws
 pub mod LineLaws
 -- choices.txt: what its bytes are, and how the code judges and reads them.
 pub mod ChoicesAt

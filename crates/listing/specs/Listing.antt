@@ -1,14 +1,15 @@
 -- What `check` and `run` print, as bytes.
 use Rattle.std.specs.Prelude.{Err}
 use Rattle.std.specs.Prelude.{◌∷◌, ◌++◌, ◌&&◌, ◌+◌, ◌*◌}
-use Rattle.basics.specs.Prelude.{List, [], Bool, true, false, ℕ, suc}
+use Rattle.basics.specs.Prelude.{List, [], Bool, true, false, ℕ, zero, suc}
 use Rattle.std.specs.Prelude.{◌/◌, ◌%◌}
 use Rattle.basics.specs.Prelude.{min, ltb, leb, eqb, length, take}
 use Rattle.language.specs.{declared.frame.Frame.Frame, Verdicts.number_of, Verdicts.frame_of}
 use Rattle.language.specs.{Verdicts.Verdict}
 use Rattle.language.specs.{Verdicts.Accepted}
-use Rattle.language.specs.{Verdicts.Rejected, Limits.most_choice_bytes}
+use Rattle.language.specs.{Limits.most_choice_bytes}
 use Rattle.language.specs.{Refusals.long_text, Refusals.malformed_text, Refusals.too_deep}
+use Rattle.language.specs.{Refusals.rule_number}
 use Rattle.text.specs.Digits.{digit, digit_byte, line_feed}
 use Rattle.program.specs.Programs.{Program, program_of}
 use Rattle.machine.specs.{State.used_cells, Turns.StepResult, Turns.access_count, Runs.steps}
@@ -20,6 +21,11 @@ two_digits n = digit_byte (n / 16 % 16) ∷ digit_byte (n % 16) ∷ []
 
 abbrev pub four_digits : ℕ → List ℕ
 four_digits n = two_digits (n / 256) ++ two_digits n
+
+-- the last k digits of a number; `hex_two` and `hex_four` show that two and four of them are these
+abbrev pub hex_digits : ℕ → ℕ → List ℕ
+hex_digits zero n = []
+hex_digits (suc k) n = hex_digits k (n / 16) ++ digit_byte (n % 16) ∷ []
 
 abbrev space : ℕ
 space = 32
@@ -36,7 +42,7 @@ check_line v = refusal_line (number_of v) (frame_of v)
 
 -- '`run` prints that line, then after 1 to 7 stops.'
 abbrev pub stops : Verdict → Bool
-stops v = elim v [ Accepted ↦ false | Err r ↦ leb r.number too_deep ]
+stops v = elim v [ Accepted ↦ false | Err r ↦ leb (rule_number r.rule) too_deep ]
 
 -- ---- choices.txt
 

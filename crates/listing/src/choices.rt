@@ -1,9 +1,10 @@
-// choices.txt: two digits and a line feed for each choice.
+//! choices.txt: two digits and a line feed for each choice.
 ghost use Rattle.std.specs.Prelude.{◌≡◌};
 ghost use Rattle.listing.specs.Inner.Choices.{judged, choice_at, right_byte, starts_block};
 ghost use Rattle.listing.specs.Inner.Choices.{starts_choice, choices_ahead};
 
 use language::limit::MOST_CHOICE_BYTES;
+use language::refusal::{Refusal, Rule};
 use text::digit::digit;
 use text::line::LINE_FEED;
 
@@ -13,18 +14,9 @@ const CHOICE_BYTES: usize = 3;
 const FEED_AT: usize = 2;
 
 // So many choices are judged at once.
-const BLOCK: u16 = 16;
+const BLOCK: usize = 16;
 
-const BLOCK_BYTES: usize = CHOICE_BYTES * BLOCK as usize;
-
-// How many choices the bytes are, or why they are none.
-#[derive(Clone, Copy)]
-pub enum ChoicesRead {
-    TooLong,
-    // The first malformed line, from 0.
-    Malformed(u16),
-    Choices(usize),
-}
+const BLOCK_BYTES: usize = CHOICE_BYTES * BLOCK;
 
 // Whether a byte is right at that position: a digit, or where a line ends a line feed.
 #[tactic(auto, using(crate::proofs::ChoiceLaws::byte_laws))]
@@ -32,9 +24,10 @@ fn is_right(position: usize, b: u8) -> bool
     ensures { result ≡ right_byte position b }
 {
     if position % CHOICE_BYTES == FEED_AT {
-        return b == LINE_FEED;
+        b == LINE_FEED
+    } else {
+        digit(b) < 16
     }
-    digit(b) < 16
 }
 
 // Whether the bytes begin with a block of choices. The loop has no exit, so that the compiler takes
@@ -46,8 +39,8 @@ fn starts_block(bytes: &[u8]) -> bool
         return false;
     }
     let mut right = true;
-    for k in 0..BLOCK_BYTES {
-        right &= is_right(k, bytes[k]);
+    for (k, b) in bytes[..BLOCK_BYTES].iter().enumerate() {
+        right &= is_right(k, *b);
     }
     right
 }
@@ -64,40 +57,48 @@ fn starts_choice(bytes: &[u8]) -> bool
 }
 
 // How many choices the bytes are seen to begin with: a block, one, or none.
-fn choices_ahead(bytes: &[u8]) -> u16
+fn choices_ahead(bytes: &[u8]) -> usize
     ensures { result ≡ choices_ahead bytes.now }
 {
     if starts_block(bytes) {
-        return BLOCK;
+        BLOCK
+    } else if starts_choice(bytes) {
+        1
+    } else {
+        0
     }
-    if starts_choice(bytes) {
-        return 1;
-    }
-    0
 }
 
-// Judges the bytes whole, before any step.
-pub fn judge(bytes: &[u8]) -> ChoicesRead
+/// How many choices the bytes are, judged whole before any step. More than the longest list has are
+/// refused as a text too long, of the frame 0; else a line that is no choice as malformed, with the
+/// first such line, from 0, as its frame.
+pub fn judge(bytes: &[u8]) -> Result<usize, Refusal>
     ensures { result ≡ judged bytes.now }
 {
     let n = bytes.len();
     if MOST_CHOICE_BYTES < n {
-        return ChoicesRead::TooLong;
+        return Err(Refusal {
+            rule: Rule::LongText,
+            frame: 0,
+        });
     }
-    let mut k: u16 = 0;
-    let mut at: usize = 0;
-    while at < n {
-        let ahead = choices_ahead(&bytes[at..]);
+    let mut k = 0;
+    // A `while`, since no count leads: it goes on by 1 choice or, for speed, by 16.
+    while CHOICE_BYTES * k < n {
+        let ahead = choices_ahead(&bytes[CHOICE_BYTES * k..]);
         if ahead == 0 {
-            return ChoicesRead::Malformed(k);
+            return Err(Refusal {
+                rule: Rule::MalformedText,
+                frame: k as u16,
+            });
         }
-        at += CHOICE_BYTES * ahead as usize;
         k += ahead;
     }
-    ChoicesRead::Choices(k as usize)
+    Ok(k)
 }
 
-// The choice of line k, of bytes that were judged to be choices; 0 after them.
+/// The choice of line k, of bytes that were judged to be choices; 0 after them, and no `None`:
+/// a call cannot fail.
 pub fn choice_at(bytes: &[u8], k: usize) -> u8
     ensures { result ≡ choice_at bytes.now k }
 {
@@ -106,5 +107,5 @@ pub fn choice_at(bytes: &[u8], k: usize) -> u8
     }
     let a = digit(bytes[CHOICE_BYTES * k]);
     let b = digit(bytes[CHOICE_BYTES * k + 1]);
-    ((16 * (a as u16) + b as u16) % 256) as u8
+    ((16 * u16::from(a) + u16::from(b)) % 256) as u8
 }

@@ -1,4 +1,4 @@
-// What the programs print, and choices.txt, which `run` reads.
+//! What the programs print, and choices.txt, which `run` reads.
 #![tactic(auto)]
 
 pub mod buffer;
@@ -9,24 +9,26 @@ pub mod line;
 ghost use Rattle.std.specs.Prelude.{◌≡◌};
 ghost use Rattle.listing.specs.Listing.{refusal_line, check_line};
 
-use crate::digits::{four_digits, two_digits};
+use crate::digits::hex_digits;
+use language::limit::CHECK_LINE;
 use language::refusal::Verdict;
 
-// A number and a frame, in two and in four digits.
-pub fn refusal_line(n: u8, i: u16) -> [u8; 8]
-    ensures { result ≡ refusal_line n i }
+/// The line of a number and a frame, in two and in four digits. A number and no rule, since what is
+/// accepted has 0, which is the number of none.
+pub fn refusal_line(number: u8, frame: u16) -> [u8; CHECK_LINE]
+    ensures { result ≡ refusal_line number frame }
 {
-    let a = two_digits(n);
-    let b = four_digits(i);
+    let a = hex_digits::<2>(u64::from(number));
+    let b = hex_digits::<4>(u64::from(frame));
     [a[0], a[1], b' ', b[0], b[1], b[2], b[3], b'\n']
 }
 
-// What `check` prints.
-pub fn check_line(v: Verdict) -> [u8; 8]
-    ensures { result ≡ check_line v }
+/// What `check` prints of a text with that verdict.
+pub fn check_line(verdict: Verdict) -> [u8; CHECK_LINE]
+    ensures { result ≡ check_line verdict }
 {
-    match v {
+    match verdict {
         Ok(()) => refusal_line(0, 0),
-        Err(refusal) => refusal_line(refusal.number, refusal.frame),
+        Err(refusal) => refusal_line(refusal.rule.number(), refusal.frame),
     }
 }

@@ -1,12 +1,12 @@
-// The lines of a run.
+//! The lines of a run.
 ghost use Rattle.std.specs.Prelude.{◌≡◌};
 ghost use Rattle.listing.specs.Listing.{choice_line_of, last_line};
 
-use crate::digits::{four_digits, two_digits};
-use language::limit::CHOICE_LINE;
+use crate::digits::hex_digits;
+use language::limit::{CHOICE_LINE, LAST_LINE};
 
-// A step's line: its choice, its answer, the thread that acted, the cells in use after it, and how
-// many cells it read, stored in and made.
+/// A step's line: its choice, its answer, the thread that acted, the cells in use after it, and how
+/// many cells it read, stored in and made.
 pub fn choice_line(
     choice: u8,
     answer: u8,
@@ -16,21 +16,21 @@ pub fn choice_line(
 ) -> [u8; CHOICE_LINE]
     ensures { result ≡ choice_line_of choice answer thread cells accesses }
 {
-    let c = two_digits(choice);
-    let a = two_digits(answer);
-    let t = two_digits(thread);
-    let n = four_digits(cells);
-    let m = four_digits(accesses);
+    let c = hex_digits::<2>(u64::from(choice));
+    let a = hex_digits::<2>(u64::from(answer));
+    let t = hex_digits::<2>(u64::from(thread));
+    let n = hex_digits::<4>(u64::from(cells));
+    let m = hex_digits::<4>(u64::from(accesses));
     [
         c[0], c[1], b' ', a[0], a[1], b' ', t[0], t[1], b' ', n[0], n[1], n[2], n[3], b' ', m[0],
         m[1], m[2], m[3], b'\n',
     ]
 }
 
-// The last line: how many choices were used.
-pub fn last_line(used: u16) -> [u8; 5]
+/// The last line: how many choices were used.
+pub fn last_line(used: u16) -> [u8; LAST_LINE]
     ensures { result ≡ last_line used }
 {
-    let n = four_digits(used);
+    let n = hex_digits::<4>(u64::from(used));
     [n[0], n[1], n[2], n[3], b'\n']
 }

@@ -512,3 +512,9 @@ module _ (test : ℕ → Bool) (w : List ℕ) (at : ℕ) where
   counting_end m threads j s l =
       s.counted ∙ ap (λ (es : List ℕ). m + length (wanted_words test es))
       (take_all j (words_at w at) (rw (tab_length (get_or w at 0) (λ i. get_or w i 0) (suc at)) l))
+
+-- `awaits`
+pub ruleset awaits_laws = (awaits_none, awaits_event)
+
+-- `has_room_to_wake`
+pub ruleset wake_room_laws = (room_for_all, room_is)

@@ -1,4 +1,4 @@
-// The schedulers' lists in the words that a caller lends: read, changed, and an instant's end.
+//! The schedulers' lists in the words that a caller lends: read, changed, and an instant's end.
 #![tactic(auto)]
 
 pub mod list;

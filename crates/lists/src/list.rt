@@ -1,4 +1,6 @@
-// A scheduler's active list and next list in the lent words.
+//! A scheduler's active list and next list in the lent words.
+// That a list fits its space (`ListsFit`) is no type's invariant: the words are the caller's, for C.
+// Nor is a scheduler a type beside `Place`: document 01 names one type of places, with constructors.
 ghost use Rattle.std.specs.Prelude.{◌≡◌, true, ◌+◌, ◌-◌, ◌*◌, ◌≤◌, leb, length, get_or};
 ghost use Rattle.language.specs.Places.{home, is_scheduler};
 ghost use Rattle.language.specs.Limits.{most_threads};
@@ -16,7 +18,7 @@ use crate::wait::is_ready;
 use language::Place;
 use language::limit::MOST_THREADS;
 use machine::offset::{
-    AWAITING_FROM, LIST_LENGTH, SCHEDULER_LENGTH, SCHEDULERS_AT, WAITING_FACTOR,
+    AWAITING_FROM, LIST_LENGTH, SCHEDULER_LENGTH, SCHEDULERS_AT, State, WAITING_FACTOR,
 };
 
 // Where the scheduler's active list begins: its count, then the space of 64 threads.
@@ -37,19 +39,20 @@ fn next_list(q: Place) -> usize
     active_list(q) + LIST_LENGTH
 }
 
-// The first active thread; 0 where there is none.
-pub fn first_active(state: &[u64], q: Place) -> u64
-    requires { (length state.now ≡ state_length) × (is_scheduler q.number ≡ true) }
+/// The first active thread; 0 where there is none.
+// No `Option`: the 0 is the word itself, which the definitions read too (`active_on`).
+pub fn first_active(state: &State, q: Place) -> u64
+    requires { is_scheduler q.number ≡ true }
     ensures { result ≡ get_or state.now
         (schedulers_at + 1 + scheduler_length * (q.number - home)) 0 }
 {
     state[active_list(q) + 1]
 }
 
-// So many more entries have room in the next list.
+/// So many more entries have room in the next list.
 #[tactic(auto, using(crate::proofs::ListLaws::room_laws))]
-pub fn has_room(state: &[u64], q: Place, more: u8) -> bool
-    requires { (length state.now ≡ state_length) × (is_scheduler q.number ≡ true) }
+pub fn has_room(state: &State, q: Place, more: u8) -> bool
+    requires { is_scheduler q.number ≡ true }
     ensures { result
         ≡ leb
         (get_or state.now (next_list_at + scheduler_length * (q.number - home)) 0 + more)
@@ -61,8 +64,8 @@ pub fn has_room(state: &[u64], q: Place, more: u8) -> bool
 
 // Each of the n words at that place moves to the index below it; the last is 0.
 #[tactic(auto, using(crate::proofs::ListLaws::shift_copied))]
-fn shift(state: &mut [u64], at: usize, n: usize)
-    requires { (1 ≤ n) × (at + n ≤ length state.old) }
+fn shift(state: &mut State, at: usize, n: usize)
+    requires { (1 ≤ n) × (at + n ≤ state_length) }
     ensures { state.new ≡ pasted state.old at
         (shifted (part state.old at n)) n }
 {
@@ -71,11 +74,11 @@ fn shift(state: &mut [u64], at: usize, n: usize)
     state[last] = 0;
 }
 
-// The first active thread leaves the list, each other to the index below it; an empty list stays,
-// and so does a count that is none of a list.
+/// The first active thread leaves the list, each other to the index below it; an empty list stays,
+/// and so does a count that is none of a list.
 #[tactic(auto, using(crate::proofs::ListLaws::first_laws))]
-pub fn drop_first(state: &mut [u64], q: Place)
-    requires { (length state.old ≡ state_length) × (is_scheduler q.number ≡ true) }
+pub fn drop_first(state: &mut State, q: Place)
+    requires { is_scheduler q.number ≡ true }
     ensures { state.new ≡ without_first state.old (q.number - home) }
 {
     let at = active_list(q);
@@ -87,9 +90,10 @@ pub fn drop_first(state: &mut [u64], q: Place)
     state[at] = n - 1;
 }
 
-// The entry goes to the end of the next list; a full list stays as it is.
-pub fn append(state: &mut [u64], q: Place, entry: u64)
-    requires { (length state.old ≡ state_length) × (is_scheduler q.number ≡ true) }
+/// The entry goes to the end of the next list; a full list stays as it is.
+#[tactic(auto, using(crate::proofs::ListLaws::last_laws))]
+pub fn append(state: &mut State, q: Place, entry: u64)
+    requires { is_scheduler q.number ≡ true }
     ensures { state.new ≡ with_last state.old (q.number - home) entry }
 {
     let at = next_list(q);
@@ -102,15 +106,16 @@ pub fn append(state: &mut [u64], q: Place, entry: u64)
 }
 
 // The entries of a next list that become active: the ready ones, where that is the set of threads
-// in whose families some thread lives; or those that await the event.
-#[derive(Clone, Copy)]
+// in whose families some thread lives; or those that await the event. No closure in its place: a
+// function generic in a test cannot say by an equation which entries it moved.
+#[derive(Clone, Copy, Debug, PartialEq, Eq)]
 enum Wanted {
     Ready(u64),
     Awaiting(u8),
 }
 
 // The entry awaits the event.
-#[tactic(auto, using(crate::proofs::PartitionLaws::awaits_none, crate::proofs::PartitionLaws::awaits_event))]
+#[tactic(auto, using(crate::proofs::PartitionLaws::awaits_laws))]
 fn awaits(entry: u64, event: u8) -> bool
     ensures { result ≡ is_awaiting_word event entry }
 {
@@ -129,7 +134,7 @@ fn is_wanted(wanted: Wanted, entry: u64) -> bool
 // Partitions the entries of the next list after that active list, in place and in order: the
 // threads of the wanted ones go to the active list, after its threads, the others stay, without
 // gaps, and 0 stands in the words that they leave. How many go. Each list is within its space.
-fn partition_entries(state: &mut [u64], active: usize, wanted: Wanted) -> u64
+fn partition_entries(state: &mut State, active: usize, wanted: Wanted) -> u64
     requires { ListWords state.old (active + list_length)
         × (active + scheduler_length ≤ threads_at)
         × (get_or state.old active 0 + length (wanted_words (is_wanted wanted)
@@ -158,7 +163,7 @@ fn partition_entries(state: &mut [u64], active: usize, wanted: Wanted) -> u64
 }
 
 // The wanted entries become active: how many they are. Where there is none, nothing changes.
-fn move_entries(state: &mut [u64], q: Place, wanted: Wanted) -> u64
+fn move_entries(state: &mut State, q: Place, wanted: Wanted) -> u64
     requires { ListWords state.old (next_list_at + scheduler_length * (q.number - home))
         × (is_scheduler q.number ≡ true)
         × (active_with (is_wanted wanted) state.old (q.number - home) ≤ most_threads) }
@@ -177,10 +182,10 @@ fn move_entries(state: &mut [u64], q: Place, wanted: Wanted) -> u64
     r
 }
 
-// The instant of a scheduler with no active thread ends: how many entries were ready, where that is
-// the set of threads in whose families some thread lives. Where none was, nothing changes.
-// Validation has found at most 64 threads, and a list within its space.
-pub fn end_instant(state: &mut [u64], q: Place, living: u64) -> u64
+/// The instant of a scheduler with no active thread ends: how many entries were ready, where that
+/// is the set of threads in whose families some thread lives. Where none was, nothing changes.
+/// Validation has found at most 64 threads, and a list within its space.
+pub fn end_instant(state: &mut State, q: Place, living: u64) -> u64
     requires { ListWords state.old (next_list_at + scheduler_length * (q.number - home))
         × (is_scheduler q.number ≡ true)
         × (get_or state.old (schedulers_at + scheduler_length * (q.number - home)) 0 ≡ 0)
@@ -193,8 +198,9 @@ pub fn end_instant(state: &mut [u64], q: Place, living: u64) -> u64
     move_entries(state, q, Wanted::Ready(living))
 }
 
-// How many threads there are in that active list and, awaiting the event, in the next list after it.
-fn active_with(state: &[u64], active: usize, event: u8) -> u64
+// How many threads there are in that active list and, awaiting the event, in the next list after
+// it.
+fn active_with(state: &State, active: usize, event: u8) -> u64
     requires { ListWords state.now (active + list_length)
         × (active + scheduler_length ≤ threads_at)
         × (get_or state.now active 0 ≤ most_threads) }
@@ -213,9 +219,9 @@ fn active_with(state: &[u64], active: usize, event: u8) -> u64
     threads
 }
 
-// The threads that await the event on that scheduler have room in its active list.
-#[tactic(auto, using(crate::proofs::PartitionLaws::room_for_all, crate::proofs::PartitionLaws::room_is))]
-pub fn has_room_to_wake(state: &[u64], q: Place, event: u8) -> bool
+/// The threads that await the event on that scheduler have room in its active list.
+#[tactic(auto, using(crate::proofs::PartitionLaws::wake_room_laws))]
+pub fn has_room_to_wake(state: &State, q: Place, event: u8) -> bool
     requires { ListWords state.now (next_list_at + scheduler_length * (q.number - home))
         × (is_scheduler q.number ≡ true)
         × (get_or state.now (schedulers_at + scheduler_length * (q.number - home)) 0
@@ -231,8 +237,8 @@ pub fn has_room_to_wake(state: &[u64], q: Place, event: u8) -> bool
         || active_with(state, active, event) <= MOST_THREADS as u64
 }
 
-// They go to the end of the active list, in the order of the next list.
-pub fn wake(state: &mut [u64], q: Place, event: u8)
+/// They go to the end of the active list, in the order of the next list.
+pub fn wake(state: &mut State, q: Place, event: u8)
     requires { ListWords state.old (next_list_at + scheduler_length * (q.number - home))
         × (is_scheduler q.number ≡ true)
         × (active_with (is_awaiting_word event) state.old (q.number - home) ≤ most_threads) }

@@ -1,5 +1,5 @@
-// The ready test on the lent words, apart: the only place that says when a wait ends. An entry
-// waits for a family: for a thread, and for those that it began, directly or through others.
+//! The ready test on the lent words, apart: the only place that says when a wait ends. An entry
+//! waits for a family: for a thread, and for those that it began, directly or through others.
 ghost use Rattle.std.specs.Prelude.{◌≡◌, ◌<◌, ◌≤◌, length, get_or};
 ghost use Rattle.language.specs.Limits.{most_threads};
 ghost use Rattle.machine.specs.Offsets.{state_length, thread_count_at};
@@ -9,7 +9,7 @@ ghost use Rattle.lists.specs.Inner.Families.{AddsAwaited, LivingFamilies, is_rea
 
 use language::limit::MOST_THREADS;
 use machine::offset::{
-    AWAITING_FROM, LIVES_FIELD, STARTER_FIELD, THREAD_COUNT_AT, THREAD_LENGTH, THREADS_AT,
+    AWAITING_FROM, LIVES_FIELD, STARTER_FIELD, State, THREAD_COUNT_AT, THREAD_LENGTH, THREADS_AT,
     WAITING_FACTOR,
 };
 
@@ -24,9 +24,10 @@ fn lacks_thread(set: u64, t: u64) -> bool
 
 // The set with thread t and the threads of whose families it is: the one that began it, the one
 // that began that one, and so on. With each member the set has the one that began it, so the first
-// member that is met ends the climb; in a caller's own state starters may form a circle.
-fn with_ancestors(state: &[u64], set: u64, t: u64) -> u64
-    requires { (length state.now ≡ state_length) × IsThread t × HasStarters state.now set }
+// member that is met ends the climb; in a caller's own state starters may form a circle. A `while`:
+// no count leads, each turn goes to the starter of the thread before.
+fn with_ancestors(state: &State, set: u64, t: u64) -> u64
+    requires { IsThread t × HasStarters state.now set }
     ensures added { AddsAncestors state.now set t result }
     ensures starters { HasStarters state.now result }
 {
@@ -40,9 +41,8 @@ fn with_ancestors(state: &[u64], set: u64, t: u64) -> u64
 }
 
 // The set with the threads whose waiting entries await thread k + 1: none where it has ended.
-fn with_awaiting(state: &[u64], set: u64, k: usize) -> u64
-    requires { (length state.now ≡ state_length) × (k < most_threads)
-        × HasStarters state.now set }
+fn with_awaiting(state: &State, set: u64, k: usize) -> u64
+    requires { (k < most_threads) × HasStarters state.now set }
     ensures added { AddsAwaited state.now set k result }
     ensures starters { HasStarters state.now result }
 {
@@ -52,11 +52,10 @@ fn with_awaiting(state: &[u64], set: u64, k: usize) -> u64
     with_ancestors(state, set, k as u64 + 1)
 }
 
-// The threads in whose families some thread lives, found in one climb over all of them. Validation
-// has found at most 64 threads.
-pub fn living_families(state: &[u64]) -> u64
-    requires { (length state.now ≡ state_length)
-        × (get_or state.now thread_count_at 0 ≤ most_threads) }
+/// The threads in whose families some thread lives, as a set, found in one climb over all of them.
+/// Validation has found at most 64 threads.
+pub fn living_families(state: &State) -> u64
+    requires { (get_or state.now thread_count_at 0 ≤ most_threads) }
     ensures { LivingFamilies state.now result }
 {
     let n = state[THREAD_COUNT_AT] as usize;

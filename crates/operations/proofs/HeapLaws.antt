@@ -1,24 +1,6 @@
--- The word that counts cells and accesses: what the code's functions of it give, and what is left
--- of either count after an access. Assumes nothing.
-use Rattle.std.proofs.Common.{◌≡◌, ℕ, ◌+◌, ◌/◌, ◌%◌, ◌^◌, ◌<◌, ◌≤◌, refl, arith}
+-- The word that counts cells and accesses: what is left of either count after an access. Assumes nothing.
+use Rattle.std.proofs.Common.{◌≡◌, ℕ, ◌+◌, ◌%◌, ◌^◌, ◌<◌, ◌≤◌, arith}
 use Rattle.operations.specs.Inner.Heaps.{cells_in, accesses_in, heap_word, with_access, with_cell}
-
--- ---- as the code computes them
-pub cells_in_lem : (h : ℕ) → h % 65536 ≡ cells_in h
-unfolding cells_in
-cells_in_lem h = refl
-
-pub accesses_in_lem : (h : ℕ) → h / 65536 ≡ accesses_in h
-unfolding accesses_in
-accesses_in_lem h = refl
-
-pub with_access_lem : (h r : ℕ) → r ≡ (h + 65536) % 2 ^ 64 → r ≡ with_access h
-unfolding with_access
-with_access_lem h r e = e
-
-pub with_cell_lem : (h r : ℕ) → r ≡ (h + 65537) % 2 ^ 64 → r ≡ with_cell h
-unfolding with_cell
-with_cell_lem h r e = e
 
 -- ---- either count after an access
 pub access_cells : (h : ℕ) → cells_in (with_access h) ≡ cells_in h

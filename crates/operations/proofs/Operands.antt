@@ -92,3 +92,16 @@ pub chosen_none : (v : Value) (b c : ℕ) → IsNoTruth v → c ≡ chosen v b c
 chosen_none (Number n) b c h = refl
 chosen_none (Truth t) b c h = absurd (a_truth_lem t h)
 chosen_none (Cell j) b c h = refl
+
+-- of each function of `operand`
+pub ruleset operation_laws = (sum_row, less_row)
+
+pub ruleset first_laws = (first_none, first_number)
+
+pub ruleset both_laws = (both_none, both_number)
+
+pub ruleset number_laws = (number_other, number_is)
+
+pub ruleset truth_laws = (no_truth, is_truth)
+
+pub ruleset chosen_laws = (chosen_none, chosen_first, chosen_second)

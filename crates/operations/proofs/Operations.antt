@@ -23,45 +23,47 @@ use Rattle.operations.proofs.Told.{IsRefusal, IsNoCell, a_cell}
 use Rattle.operations.proofs.Chains.{then_refused, then_is}
 
 -- ---- the owner of a new cell; b is whether S is private
-pub owner_private : (who : Who) (s : ℕ) (b : Bool)
-    → b ≡ eqb s private → b ≡ true → 16 + who.thread ≡ new_owner_in who s
+pub owner_private : (who : Who) (s n : ℕ) (b : Bool)
+    → b ≡ eqb s private → b ≡ true → n ≡ who.thread → 16 + n ≡ new_owner_in who s
 unfolding new_owner_in
-owner_private who s b e t = yes _ (sym e ∙ t) refl
+owner_private who s n b e t h = yes _ (sym e ∙ t) (ap (λ (i : ℕ). 16 + i) h)
 
-pub owner_given : (who : Who) (s m : ℕ) (b : Bool)
-    → b ≡ eqb s private → b ≡ false → m ≡ s → m ≡ new_owner_in who s
+pub owner_given : (who : Who) (s m n : ℕ) (b : Bool)
+    → b ≡ eqb s private → b ≡ false → m ≡ s → n ≡ m → n ≡ new_owner_in who s
 unfolding new_owner_in
-owner_given who s m b e t h = no _ (sym e ∙ t) h
+owner_given who s m n b e t h g = no _ (sym e ∙ t) (g ∙ h)
 
 pub ruleset owner_laws = (owner_private, owner_given)
 
 -- ---- variables, shared cells
-pub variable_is : (vs : List ℕ) (s : ℕ) (v : Value) → s < length vs → v ≡ value_in (get_or vs s 0)
-    → Is v ≡ variable_in vs s
+-- i is s as the code widens it
+pub variable_is : (vs : List ℕ) (s i : ℕ) (v : Value) → i ≡ s → i < length vs
+    → v ≡ value_in (get_or vs i 0) → Is v ≡ variable_in vs s
 unfolding variable_in
-variable_is vs s v l h = yes _ (lt-ltb s (length vs) l) (ap Is h)
+variable_is vs s i v e l h =
+    yes _ (lt-ltb s (length vs) (omega arith)) (ap Is (h ∙ ap (λ (j : ℕ). value_in (get_or vs j 0)) e))
 
-pub variable_none : (vs : List ℕ) (s : ℕ) → length vs ≤ s → Stuck ≡ variable_in vs s
+pub variable_none : (vs : List ℕ) (s i : ℕ) → i ≡ s → length vs ≤ i → Stuck ≡ variable_in vs s
 unfolding variable_in
-variable_none vs s l = no _ (le-ltb s (length vs) l) refl
+variable_none vs s i e l = no _ (le-ltb s (length vs) (omega arith)) refl
 
-pub shared_is : (who : Who) (s : ℕ) → s < who.shared → Is (Cell s) ≡ shared_in who s
+pub shared_is : (who : Who) (s i : ℕ) → i ≡ s → i < who.shared → Is (Cell s) ≡ shared_in who s
 unfolding shared_in
-shared_is who s l = yes _ (lt-ltb s who.shared l) refl
+shared_is who s i e l = yes _ (lt-ltb s who.shared (omega arith)) refl
 
-pub shared_none : (who : Who) (s : ℕ) → who.shared ≤ s → Stuck ≡ shared_in who s
+pub shared_none : (who : Who) (s i : ℕ) → i ≡ s → who.shared ≤ i → Stuck ≡ shared_in who s
 unfolding shared_in
-shared_none who s l = no _ (le-ltb s who.shared l) refl
+shared_none who s i e l = no _ (le-ltb s who.shared (omega arith)) refl
 
 pub ruleset variable_laws = (variable_is, variable_none)
 
 pub ruleset shared_laws = (shared_is, shared_none)
 
 -- ---- 20 to 23
-pub leaf_number : (who : Who) (vs : List ℕ) (l : Leaf) (m : ℕ) → l ≡ Leaf.Number m
-    → Is (Number m) ≡ leaf_in who vs l
+pub leaf_number : (who : Who) (vs : List ℕ) (l : Leaf) (m n : ℕ) → l ≡ Leaf.Number m → n ≡ m
+    → Is (Number n) ≡ leaf_in who vs l
 unfolding leaf_in
-leaf_number who vs l m e = sym (ap (leaf_in who vs) e)
+leaf_number who vs l m n e h = ap (λ (i : ℕ). Is (Number i)) h ∙ sym (ap (leaf_in who vs) e)
 
 pub leaf_truth : (who : Who) (vs : List ℕ) (l : Leaf) (s : ℕ) → l ≡ Leaf.Truth s
     → Is (Truth (eqb s 1)) ≡ leaf_in who vs l
@@ -124,27 +126,28 @@ module _ (who : Who) (s o : ℕ) (v : Value) (w : List ℕ) (b : Bool)
       ∙ no _ (own_new t) refl
 
 -- ---- an access to cell c in the state's words w, where n cells are in use
+-- j is c as the code widens it
 module _ (who : Who) (c n : ℕ) (v : Value) (w : List ℕ)
-    (en : n ≡ cells_in (get_or w cell_count_at 0)) where
+    (en : n ≡ cells_in (get_or w cell_count_at 0)) (j : ℕ) (ej : j ≡ c) where
   abbrev count : ℕ
   count = get_or w cell_count_at 0
 
   abbrev word : ℕ
   word = get_or (lent_cells w) c 0
 
-  pub access_missing : n ≤ c → result_in Stuck w ≡ accessing_in who c v (lent_count w) (lent_cells w)
+  pub access_missing : n ≤ j → result_in Stuck w ≡ accessing_in who c v (lent_count w) (lent_cells w)
   unfolding access_in lent_count
   access_missing h =
       ap (λ (p : Outcome). accessed_by p count (lent_cells w))
       (yes _ (le-leb (cells_in count) c (omega arith)) refl)
 
   -- o is the owner in the cell's word, k the count with the access
-  module _ (o k : ℕ) (own : Bool) (eo : o ≡ owner_in (get_or w (cells_at + c) 0))
+  module _ (o k : ℕ) (own : Bool) (eo : o ≡ owner_in (get_or w (cells_at + j) 0))
       (ew : own ≡ own_in who o) (ek : k ≡ with_access (get_or w cell_count_at 0))
-      (long : length w ≡ state_length) (used : c < n) where
+      (long : length w ≡ state_length) (used : j < n) where
     owned : {b : Bool} → not own ≡ b → not (own_in who (owner_in word)) ≡ b
     owned e =
-        ap not (sym (ew ∙ ap (own_in who) (eo ∙ ap owner_in (cell_at w c)))) ∙ e
+        ap not (sym (ew ∙ ap (own_in who) (eo ∙ ap (λ (i : ℕ). owner_in (get_or w (cells_at + i) 0)) ej ∙ ap owner_in (cell_at w c)))) ∙ e
 
     counted_as : (p : Outcome) → result_in p (set w cell_count_at k)
         ≡ result p (with_access (get_or w cell_count_at 0)) (lent_cells w)
@@ -168,16 +171,6 @@ module _ (who : Who) (c n : ℕ) (v : Value) (w : List ℕ)
 
 -- ---- a cell read and stored in: r is what the access to cell c comes to
 module _ (who : Who) (v u : Value) (c : ℕ) (w : List ℕ) (ev : v ≡ Cell c) where
-  pub read_is : (r : Result) → u ≡ content_in (get_or w (cells_at + c) 0)
-      → r ≡ accessing_in who c u (lent_count w) (lent_cells w)
-      → r ≡ reading_in who v (lent_count w) (lent_cells w)
-  unfolding read_in
-  read_is r eu er =
-      er
-      ∙ ap (λ (x : Value). accessing_in who c x (lent_count w) (lent_cells w))
-      (eu ∙ ap content_in (cell_at w c))
-      ∙ ap (λ (x : Value). reading_in who x (lent_count w) (lent_cells w)) (sym ev)
-
   store_at : and_then_in (accessing_in who c u (lent_count w) (lent_cells w)) (put_word_in c)
       ≡ store_in who v u (lent_count w) (lent_cells w)
   unfolding store_in
@@ -189,18 +182,30 @@ module _ (who : Who) (v u : Value) (c : ℕ) (w : List ℕ) (ev : v ≡ Cell c) 
   store_refused r er h =
       then_refused r (put_word_in c) h ∙ ap (λ (x : Result). and_then_in x (put_word_in c)) er ∙ store_at
 
-  -- a are the words after the access, y is the cell's word after the store
-  pub store_is : (o : Outcome) (x : Value) (y : ℕ) (a : List ℕ)
-      → result_in o a ≡ accessing_in who c u (lent_count w) (lent_cells w) → o ≡ Is x
-      → y ≡ cell_word_of (owner_in (get_or a (cells_at + c) 0)) x
-      → result_in (Is x) (set a (cells_at + c) y) ≡ store_in who v u (lent_count w) (lent_cells w)
-  store_is o x y a er ex ey =
-      put_in a (Is x) c y
-      ∙ ap (λ (z : ℕ). result (Is x) (lent_count a) (set (lent_cells a) c z))
-      (ey ∙ ap (λ (z : ℕ). cell_word_of (owner_in z) x) (cell_at a c))
-      ∙ then_is (result_in o a) x (put_word_in c) _ ex refl
-      ∙ ap (λ (r : Result). and_then_in r (put_word_in c)) er
-      ∙ store_at
+  module _ (j : ℕ) (ej : j ≡ c) where
+    pub read_is : (r : Result) → u ≡ content_in (get_or w (cells_at + j) 0)
+        → r ≡ accessing_in who c u (lent_count w) (lent_cells w)
+        → r ≡ reading_in who v (lent_count w) (lent_cells w)
+    unfolding read_in
+    read_is r eu er =
+        er
+        ∙ ap (λ (x : Value). accessing_in who c x (lent_count w) (lent_cells w))
+        (eu ∙ ap (λ (i : ℕ). content_in (get_or w (cells_at + i) 0)) ej ∙ ap content_in (cell_at w c))
+        ∙ ap (λ (x : Value). reading_in who x (lent_count w) (lent_cells w)) (sym ev)
+
+    -- a are the words after the access, y is the cell's word after the store
+    pub store_is : (o : Outcome) (x : Value) (y : ℕ) (a : List ℕ)
+        → result_in o a ≡ accessing_in who c u (lent_count w) (lent_cells w) → o ≡ Is x
+        → y ≡ cell_word_of (owner_in (get_or a (cells_at + j) 0)) x
+        → result_in (Is x) (set a (cells_at + j) y) ≡ store_in who v u (lent_count w) (lent_cells w)
+    store_is o x y a er ex ey =
+        ap (λ (i : ℕ). result_in (Is x) (set a (cells_at + i) y)) ej
+        ∙ put_in a (Is x) c y
+        ∙ ap (λ (z : ℕ). result (Is x) (lent_count a) (set (lent_cells a) c z))
+        (ey ∙ ap (λ (i : ℕ). cell_word_of (owner_in (get_or a (cells_at + i) 0)) x) ej ∙ ap (λ (z : ℕ). cell_word_of (owner_in z) x) (cell_at a c))
+        ∙ then_is (result_in o a) x (put_word_in c) _ ex refl
+        ∙ ap (λ (r : Result). and_then_in r (put_word_in c)) er
+        ∙ store_at
 
 pub read_none : (who : Who) (v : Value) (n : ℕ) (ws : List ℕ) → IsNoCell v
     → result Stuck n ws ≡ reading_in who v n ws

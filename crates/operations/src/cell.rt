@@ -1,4 +1,4 @@
-// The words of cells read, and with another content: an owner above the word of a value.
+//! The words of cells read, and with another content: an owner above the word of a value.
 ghost use Rattle.std.specs.Prelude.{◌≡◌};
 ghost use Rattle.operations.specs.Inner.ByWords.{value_in, owner_in, content_in, cell_word_of};
 
@@ -11,16 +11,17 @@ use machine::word::{TRUE_WORD, value_word};
 const CELLS: u64 = MOST_CELLS as u64;
 
 // The value of a word.
+#[tactic(auto, using(crate::proofs::WordLaws::value_laws))]
 pub(crate) fn value_of(w: u64) -> Value
     ensures { result ≡ value_in w }
 {
     if w < TRUTH_FROM {
-        return Value::Number(w as u32);
+        Value::Number(w as u32)
+    } else if w < CELL_FROM {
+        Value::Truth(w == TRUE_WORD)
+    } else {
+        Value::Cell((w % CELLS) as u8)
     }
-    if w < CELL_FROM {
-        return Value::Truth(w == TRUE_WORD);
-    }
-    Value::Cell((w % CELLS) as u8)
 }
 
 // The word of the same cell with another content.

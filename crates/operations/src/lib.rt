@@ -1,5 +1,5 @@
-// What one operation does on the lent words of a state, a word for each cell: a leaf, a cell made,
-// read or stored in, a sum, a comparison, a choice.
+//! What one operation does on the lent words of a state, a word for each cell: a leaf, a cell made,
+//! read or stored in, a sum, a comparison, a choice.
 #![tactic(auto)]
 
 use language::Place;
@@ -9,8 +9,9 @@ pub mod heap;
 pub mod operand;
 pub mod operation;
 
-// Who evaluates: the acting thread, the place on which it stands, and how many cells are shared.
-#[derive(Clone, Copy)]
+/// Who evaluates: the acting thread, from 1; the place on which it stands; how many cells are
+/// shared.
+#[derive(Clone, Copy, Debug, PartialEq, Eq)]
 pub struct Who {
     pub thread: u8,
     pub place: Place,

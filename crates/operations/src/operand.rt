@@ -1,4 +1,4 @@
-// Numbers and truths that are wanted of an evaluation, and what becomes of them: 26 to 28.
+//! Numbers and truths that are wanted of an evaluation, and what becomes of them: 26 to 28.
 ghost use Rattle.std.specs.Prelude.{◌≡◌};
 ghost use Rattle.operations.specs.Inner.Results.{only_by};
 ghost use Rattle.operations.specs.Inner.ByWords.{operation, first_by, both_by};
@@ -9,9 +9,10 @@ ghost use Rattle.operations.specs.Inner.ByWords.{operand_stops, outcome_stops, a
 use machine::value::{Outcome, Value};
 use program::node::Operator;
 
-// What a frame comes to where a number is wanted of it. `Other` is a value of another kind: 20, but
-// after all expressions of the frame that wants the number.
-#[derive(Clone, Copy)]
+/// What a frame comes to where a number is wanted of it. `Other` is a value of another kind: 20,
+/// but after all expressions of the frame that wants the number.
+// No `Result<Option<u32>, _>`, which is no plainer: five cases of one kind, named as in `Outcome`.
+#[derive(Clone, Copy, Debug, PartialEq, Eq)]
 pub enum Operand {
     Number(u32),
     Other,
@@ -21,6 +22,7 @@ pub enum Operand {
 }
 
 // 26 or 27 of two numbers
+#[tactic(auto, using(crate::proofs::Operands::operation_laws))]
 fn operate(op: Operator, m: u32, n: u32) -> Value
     ensures { result ≡ operation op m n }
 {
@@ -31,6 +33,7 @@ fn operate(op: Operator, m: u32, n: u32) -> Value
 }
 
 // The same where the first is what a number was wanted of.
+#[tactic(auto, using(crate::proofs::Operands::first_laws))]
 fn operate_first(op: Operator, p: Operand, n: u32) -> Outcome
     ensures { result ≡ first_by op p n }
 {
@@ -40,7 +43,8 @@ fn operate_first(op: Operator, p: Operand, n: u32) -> Outcome
     Outcome::Is(operate(op, m, n))
 }
 
-// The same where both are: the second's refusal comes before 20 for a wrong kind of the first.
+/// The same where both are: the second's refusal comes before 20 for a wrong kind of the first.
+#[tactic(auto, using(crate::proofs::Operands::both_laws))]
 pub fn operated(op: Operator, p: Operand, q: Operand) -> Outcome
     ensures { result ≡ both_by op p q }
 {
@@ -51,6 +55,7 @@ pub fn operated(op: Operator, p: Operand, q: Operand) -> Outcome
 }
 
 // A value where a number is wanted.
+#[tactic(auto, using(crate::proofs::Operands::number_laws))]
 fn number_in(v: Value) -> Operand
     ensures { result ≡ number_or v }
 {
@@ -60,6 +65,7 @@ fn number_in(v: Value) -> Operand
     Operand::Number(n)
 }
 
+/// An evaluation of which a number is wanted.
 pub fn as_number(o: Outcome) -> Operand
     ensures { result ≡ operand_of o }
 {
@@ -71,7 +77,8 @@ pub fn as_number(o: Outcome) -> Operand
     }
 }
 
-// The other way, for who wants nothing else any more: a wrong kind is 20.
+/// The other way, for who wants nothing else any more: a wrong kind is 20.
+#[tactic(auto, using(crate::proofs::Operands::outcome_row))]
 pub fn as_answer(p: Operand) -> Outcome
     ensures { result ≡ outcome_of p }
 {
@@ -84,13 +91,14 @@ pub fn as_answer(p: Operand) -> Outcome
     }
 }
 
-// Whether it is a refusal, after which nothing more is evaluated.
+/// Whether it is a refusal, after which nothing more is evaluated.
 pub fn number_stops(p: Operand) -> bool
     ensures { result ≡ operand_stops p }
 {
     !matches!(p, Operand::Number(_) | Operand::Other)
 }
 
+/// The same of an evaluation.
 pub fn stops(o: Outcome) -> bool
     ensures { result ≡ outcome_stops o }
 {
@@ -98,6 +106,7 @@ pub fn stops(o: Outcome) -> bool
 }
 
 // Only a truth goes on: 28's condition.
+#[tactic(auto, using(crate::proofs::Operands::truth_laws))]
 fn a_truth(v: Value) -> Outcome
     ensures { result ≡ a_truth v }
 {
@@ -107,7 +116,8 @@ fn a_truth(v: Value) -> Outcome
     Outcome::Is(Value::Truth(t))
 }
 
-// The same of an evaluation, whose refusal stands.
+/// A truth is wanted of an evaluation, whose refusal stands; a value of another kind is 20.
+#[tactic(auto, using(crate::proofs::Operands::only_refused))]
 pub fn then_truth(o: Outcome) -> Outcome
     ensures { result ≡ only_by o a_truth }
 {
@@ -118,19 +128,17 @@ pub fn then_truth(o: Outcome) -> Outcome
 }
 
 // Which of two frames a truth chooses.
+#[tactic(auto, using(crate::proofs::Operands::chosen_laws))]
 fn branch_of(v: Value, b: u16, c: u16) -> u16
     ensures { result ≡ chosen v b c }
 {
     let Value::Truth(t) = v else {
         return c;
     };
-    if t {
-        return b;
-    }
-    c
+    if t { b } else { c }
 }
 
-// The same by an outcome; a refusal chooses what is then not evaluated.
+/// Which of two frames an evaluation chooses; a refusal chooses what is then not evaluated.
 pub fn branch(o: Outcome, b: u16, c: u16) -> u16
     ensures { result ≡ chosen_by o b c }
 {

@@ -1,6 +1,5 @@
-// Leaves and cells: what an expression without operands gives, and a cell made, read or stored in.
-ghost use Rattle.std.specs.Prelude.{◌≡◌, length};
-ghost use Rattle.machine.specs.Offsets.{state_length};
+//! Leaves and cells: what an expression without operands gives, and a cell made, read or stored in.
+ghost use Rattle.std.specs.Prelude.{◌≡◌};
 ghost use Rattle.operations.specs.Inner.Lent.{lent_count, lent_cells, lent_rest};
 ghost use Rattle.operations.specs.Inner.Results.{result_in, and_then_in};
 ghost use Rattle.operations.specs.Inner.ByWords.{own_in, new_owner_in, variable_in};
@@ -13,7 +12,7 @@ use crate::cell::{content_of, owner_of, value_of, with_content};
 use crate::heap::{cells_in, with_access, with_cell};
 use language::Place;
 use language::limit::MOST_CELLS;
-use machine::offset::{CELL_COUNT_AT, CELLS_AT, THREAD_OWNER_FROM};
+use machine::offset::{CELL_COUNT_AT, CELLS_AT, State, THREAD_OWNER_FROM};
 use machine::value::{Outcome, Value};
 use machine::word::{cell_word, value_word};
 use program::node::{CellUse, Leaf};
@@ -31,20 +30,22 @@ fn is_own(who: Who, owner: u64) -> bool
 }
 
 // The owner of a new cell: S, or the thread itself where S is private.
+#[tactic(auto, using(crate::proofs::Operations::owner_laws))]
 fn new_owner(who: Who, s: Place) -> u16
     ensures { result ≡ new_owner_in who s.number }
 {
     if s.is_private() {
-        return NEW_THREAD_OWNER + who.thread as u16;
+        return NEW_THREAD_OWNER + u16::from(who.thread);
     }
-    s.number() as u16
+    u16::from(s.number())
 }
 
 // 22
+#[tactic(auto, using(crate::proofs::Operations::variable_laws))]
 fn read_variable(variables: &[u64], s: u8) -> Outcome
     ensures { result ≡ variable_in variables.now s }
 {
-    let i = s as usize;
+    let i = usize::from(s);
     if i < variables.len() {
         return Outcome::Is(value_of(variables[i]));
     }
@@ -52,21 +53,22 @@ fn read_variable(variables: &[u64], s: u8) -> Outcome
 }
 
 // 23
+#[tactic(auto, using(crate::proofs::Operations::shared_laws))]
 fn shared_cell(who: Who, s: u8) -> Outcome
     ensures { result ≡ shared_in who s }
 {
-    if (s as usize) < who.shared {
+    if usize::from(s) < who.shared {
         return Outcome::Is(Value::Cell(s));
     }
     Outcome::Stuck
 }
 
-// 20 to 23
+/// 20 to 23: what a leaf gives; stuck where the variable or the cell is missing.
 pub fn leaf(who: Who, variables: &[u64], l: Leaf) -> Outcome
     ensures { result ≡ leaf_in who variables.now l }
 {
     match l {
-        Leaf::Number(n) => Outcome::Is(Value::Number(n as u32)),
+        Leaf::Number(n) => Outcome::Is(Value::Number(u32::from(n))),
         Leaf::Truth(s) => Outcome::Is(Value::Truth(s == 1)),
         Leaf::Variable(s) => read_variable(variables, s),
         Leaf::SharedCell(s) => shared_cell(who, s),
@@ -74,8 +76,7 @@ pub fn leaf(who: Who, variables: &[u64], l: Leaf) -> Outcome
 }
 
 // 24: 19 is tested before 17.
-fn make_cell(who: Who, s: Place, v: Value, state: &mut [u64]) -> Outcome
-    requires { length state.old ≡ state_length }
+fn make_cell(who: Who, s: Place, v: Value, state: &mut State) -> Outcome
     ensures found { result_in result state.new
         ≡ make_in who s.number v (lent_count state.old)
         (lent_cells state.old) }
@@ -83,7 +84,7 @@ fn make_cell(who: Who, s: Place, v: Value, state: &mut [u64]) -> Outcome
 {
     let owner = new_owner(who, s);
     let count = state[CELL_COUNT_AT];
-    if is_own(who, owner as u64) {
+    if is_own(who, u64::from(owner)) {
         let used = cells_in(count);
         if used < MOST_CELLS {
             state[CELLS_AT + used] = cell_word(owner, value_word(v));
@@ -98,13 +99,12 @@ fn make_cell(who: Who, s: Place, v: Value, state: &mut [u64]) -> Outcome
 }
 
 // An access to cell c, counted: v where the cell is in use and one's own. 20 is tested before 19.
-fn access(who: Who, c: u8, v: Value, state: &mut [u64]) -> Outcome
-    requires { length state.old ≡ state_length }
+fn access(who: Who, c: u8, v: Value, state: &mut State) -> Outcome
     ensures found { result_in result state.new ≡ accessing_in who c v
         (lent_count state.old) (lent_cells state.old) }
     ensures rest { lent_rest state.new ≡ lent_rest state.old }
 {
-    let j = c as usize;
+    let j = usize::from(c);
     let count = state[CELL_COUNT_AT];
     if cells_in(count) <= j {
         return Outcome::Stuck;
@@ -118,8 +118,7 @@ fn access(who: Who, c: u8, v: Value, state: &mut [u64]) -> Outcome
 }
 
 // 25
-fn read_cell(who: Who, v: Value, state: &mut [u64]) -> Outcome
-    requires { length state.old ≡ state_length }
+fn read_cell(who: Who, v: Value, state: &mut State) -> Outcome
     ensures found { result_in result state.new
         ≡ reading_in who v (lent_count state.old) (lent_cells state.old) }
     ensures rest { lent_rest state.new ≡ lent_rest state.old }
@@ -127,13 +126,12 @@ fn read_cell(who: Who, v: Value, state: &mut [u64]) -> Outcome
     let Value::Cell(c) = v else {
         return Outcome::Stuck;
     };
-    let content = content_of(state[CELLS_AT + c as usize]);
+    let content = content_of(state[CELLS_AT + usize::from(c)]);
     access(who, c, content, state)
 }
 
 // 17: the cell takes any value and keeps its owner.
-fn store_cell(who: Who, v: Value, u: Value, state: &mut [u64]) -> Outcome
-    requires { length state.old ≡ state_length }
+fn store_cell(who: Who, v: Value, u: Value, state: &mut State) -> Outcome
     ensures found { result_in result state.new
         ≡ store_in who v u (lent_count state.old) (lent_cells state.old) }
     ensures rest { lent_rest state.new ≡ lent_rest state.old }
@@ -145,16 +143,16 @@ fn store_cell(who: Who, v: Value, u: Value, state: &mut [u64]) -> Outcome
     let Outcome::Is(x) = o else {
         return o;
     };
-    let i = CELLS_AT + c as usize;
+    let i = CELLS_AT + usize::from(c);
     let w = state[i];
     state[i] = with_content(w, x);
     Outcome::Is(x)
 }
 
-// ---- each of them after the evaluation of its last operand, whose refusal stands
+// ---- each of them after the evaluation of its last operand, whose refusal stands: `let .. else` in
+// each, since a closure that writes to the lent state leaves its caller nothing to know of it
 
-fn then_make(who: Who, s: Place, o: Outcome, state: &mut [u64]) -> Outcome
-    requires { length state.old ≡ state_length }
+fn then_make(who: Who, s: Place, o: Outcome, state: &mut State) -> Outcome
     ensures found { result_in result state.new
         ≡ and_then_in (result_in o state.old) (make_in who s.number) }
     ensures rest { lent_rest state.new ≡ lent_rest state.old }
@@ -165,8 +163,7 @@ fn then_make(who: Who, s: Place, o: Outcome, state: &mut [u64]) -> Outcome
     make_cell(who, s, v, state)
 }
 
-fn then_read(who: Who, o: Outcome, state: &mut [u64]) -> Outcome
-    requires { length state.old ≡ state_length }
+fn then_read(who: Who, o: Outcome, state: &mut State) -> Outcome
     ensures found { result_in result state.new
         ≡ and_then_in (result_in o state.old) (reading_in who) }
     ensures rest { lent_rest state.new ≡ lent_rest state.old }
@@ -177,9 +174,8 @@ fn then_read(who: Who, o: Outcome, state: &mut [u64]) -> Outcome
     read_cell(who, v, state)
 }
 
-// 24 or 25
-pub fn then_use(u: CellUse, who: Who, o: Outcome, state: &mut [u64]) -> Outcome
-    requires { length state.old ≡ state_length }
+/// 24 or 25, on what the operand gave, whose refusal stands.
+pub fn then_use(u: CellUse, who: Who, o: Outcome, state: &mut State) -> Outcome
     ensures found { result_in result state.new
         ≡ and_then_in (result_in o state.old) (using_in who u) }
     ensures rest { lent_rest state.new ≡ lent_rest state.old }
@@ -190,8 +186,8 @@ pub fn then_use(u: CellUse, who: Who, o: Outcome, state: &mut [u64]) -> Outcome
     }
 }
 
-pub fn then_store(who: Who, v: Value, o: Outcome, state: &mut [u64]) -> Outcome
-    requires { length state.old ≡ state_length }
+/// 17 in the cell v, on what the second operand gave, whose refusal stands.
+pub fn then_store(who: Who, v: Value, o: Outcome, state: &mut State) -> Outcome
     ensures found { result_in result state.new
         ≡ and_then_in (result_in o state.old) (store_in who v) }
     ensures rest { lent_rest state.new ≡ lent_rest state.old }

@@ -1,7 +1,8 @@
--- A fold over the children of a frame, and how the code makes it: three steps, one after the other,
--- where a step at no child changes nothing. Assumes nothing.
+-- A fold over the children of a frame, and how the code makes it: over three numbers, where a step
+-- at no child changes nothing. Assumes nothing.
 use mathlib.Core.Path.{◌≡◌, refl, sym, ap, ◌∙◌}
 use mathlib.Core.List.{List, [], ◌∷◌}
+use Rattle.std.specs.Prelude.{fold}
 use Prim.Native.Nat.{ℕ, ◌≤◌}
 use native.Mathlib.Omega.{arith}
 use Rattle.language.specs.Kinds.{Child, children}
@@ -9,7 +10,6 @@ use Rattle.language.specs.Limits.{most_lines}
 use Rattle.language.specs.declared.frame.Frame.{Frame}
 use Rattle.program.specs.declared.frames.Children.{Children}
 use Rattle.program.specs.declared.frames.Children.TheVariants.{Nothing, One, Two, Three}
-use Rattle.program.specs.declared.frames.ChildNumbers.{ChildNumbers}
 use Rattle.program.specs.Inner.Children.{list_of, children_of, no_child, child_numbers_of, over_children}
 use Rattle.program.proofs.FrameLaws.{children_are}
 
@@ -21,27 +21,27 @@ unfolding over_children
 fold_keeps g P step [] u h = h
 fold_keeps g P step (c ∷ cs) u h = fold_keeps g P step cs (g u c.at) (step u c.at h)
 
--- where g changes nothing at a number after every frame's, its steps at the three numbers that the
--- code has are the fold
+-- where g changes nothing at a number after every frame's, what it makes of u at the three numbers
+-- that the code has is the fold
 module _ {A : Type 0} (g : A → ℕ → A) (past : (u : A) (v : ℕ) → most_lines ≤ v → u ≡ g u v) where
-  abbrev at_each : A → ChildNumbers → A
-  at_each u n = g (g (g u n.a) n.b) n.c
-
   none : (u : A) → g u no_child ≡ u
   none u = sym (past u no_child (omega arith))
 
-  listed : (u : A) (x : Children) → at_each u (child_numbers_of (list_of x)) ≡ over_children g u (list_of x)
+  listed : (u : A) (x : Children) → fold g u (child_numbers_of (list_of x)) ≡ over_children g u (list_of x)
   unfolding over_children
   listed u Nothing = none _ ∙ none _ ∙ none u
   listed u (One k a) = none _ ∙ none (g u a)
   listed u (Two k a l b) = none (g (g u a) b)
   listed u (Three k a l b m c) = refl
 
-  -- t, r and s are what the steps gave
-  pub child_fold : (u t r s : A) (f : Frame) (n : ChildNumbers) → n ≡ child_numbers_of (children f)
-      → t ≡ g u n.a → r ≡ g t n.b → s ≡ g r n.c → s ≡ over_children g u (children f)
-  child_fold u t r s f n h p q w =
+  pub children_folded : (u : A) (f : Frame)
+      → fold g u (child_numbers_of (children f)) ≡ over_children g u (children f)
+  children_folded u f =
       let e = children_are f (children_of f) (children_of f) refl refl in
-      w ∙ ap (λ (x : A). g x n.c) (q ∙ ap (λ (x : A). g x n.b) p)
-      ∙ ap (at_each u) (h ∙ ap child_numbers_of (sym e)) ∙ listed u (children_of f)
+      ap (λ (cs : List Child). fold g u (child_numbers_of cs)) (sym e) ∙ listed u (children_of f)
       ∙ ap (over_children g u) e
+
+  -- as a loop over what `child_numbers` gave leaves it
+  pub child_fold : (u s : A) (f : Frame) (n : List ℕ) → n ≡ child_numbers_of (children f)
+      → s ≡ fold g u n → s ≡ over_children g u (children f)
+  child_fold u s f n h w = w ∙ ap (fold g u) h ∙ children_folded u f

@@ -4,14 +4,16 @@ use mathlib.Core.Bool.{Bool, true, false, not, true≢false}
 use mathlib.Core.List.{List, [], ◌∷◌}
 use Prim.Native.Nat.{ℕ, zero, suc, ◌+◌, ◌-◌, ◌/◌, ◌%◌, ◌^◌, ◌<◌, ◌≤◌}
 use native.Mathlib.Omega.{arith}
-use lib.Dec.{eqb, leb}
+use lib.Dec.{eqb, leb, ltb}
 use lib.ListN.{length, get_or, drop, length-drop}
 use lib.Seq.{get_or-drop}
-use borrow.Author.Tests.{eqb-true, ne_eqb, leb-true, not-true, not-false}
+use borrow.Author.Tests.{eqb-true, ne_eqb, leb-true, ltb-true, ltb-false, not-true, not-false}
+use Rattle.std.specs.Prelude.{Some, None, cond, unwrap_or, position}
+use Rattle.std.specs.List.{position_or_len}
+use Rattle.std.proofs.lemmas.List.Sums.{passes_at_first, prefix_len-le-length}
 use Rattle.basics.specs.If.{when◌then◌else◌, keep_if}
 use Rattle.basics.proofs.Ifs.{if_all, if_no, yes, no}
 use Rattle.language.specs.Kinds.{declares, is_link, kind_of}
-use Rattle.language.specs.Groups.{Link}
 use Rattle.language.specs.Places.{is_place, is_scheduler}
 use Rattle.language.specs.declared.Place.{Place}
 use Rattle.language.specs.declared.frame.Frame.{Frame}
@@ -22,7 +24,7 @@ use Rattle.language.specs.declared.kind.Kind.TheVariants.{Header, Declared, Modu
 use Rattle.language.specs.declared.kind.Kind.TheVariants.{Expression, Unknown}
 use Rattle.language.specs.Inner.Labels.{labels_of, label_at, relabelled}
 use Rattle.language.proofs.PlaceLaws.{scheduler_place}
-use Rattle.language.proofs.Labels.{labels_length, labels_more}
+use Rattle.language.proofs.Labels.{labels_more}
 use Rattle.text.specs.Frames.{frame_of_word, frames_of}
 use Rattle.text.proofs.FrameWords.{next_frame, frames_end, frame_at_lem, frames_length}
 use Rattle.program.specs.Trees.{frame_at, no_frame}
@@ -114,27 +116,34 @@ module _ (labels : List ℕ) (w : ℕ) (b : Bool) (d : b ≡ is_link (frame_of_w
         let r = p (sym d ∙ not-false b h) in
         (ap (λ (x : Frame). is_scheduler x.s) e ∙ r.0, ap (λ (x : Frame). is_scheduler x.a) e ∙ r.1)
 
-    pub upper_place : is_place f.s ≡ true
-    upper_place = scheduler_place f.s ends.0
+    -- u and v are what was made of the two numbers
+    pub upper_place : (u : ℕ) → u ≡ f.s → is_place u ≡ true
+    upper_place u x = rw x (scheduler_place f.s ends.0)
 
-    pub lower_place : is_place f.a ≡ true
-    lower_place = scheduler_place f.a ends.1
+    pub lower_place : (v : ℕ) → v ≡ f.a → is_place v ≡ true
+    lower_place v y = rw y (scheduler_place f.a ends.1)
 
-    pub upper_scheduler : (q : Place) → q ≡ record { number = f.s } → is_scheduler q.number ≡ true
-    upper_scheduler q k = ap (λ (x : Place). is_scheduler x.number) k ∙ ends.0
+    pub upper_scheduler : (q : Place) (u : ℕ) → q ≡ record { number = u } → u ≡ f.s
+        → is_scheduler q.number ≡ true
+    upper_scheduler q u k x = ap (λ (p : Place). is_scheduler p.number) k ∙ rw x ends.0
 
-    pub lower_scheduler : (q : Place) → q ≡ record { number = f.a } → is_scheduler q.number ≡ true
-    lower_scheduler q k = ap (λ (x : Place). is_scheduler x.number) k ∙ ends.1
+    pub lower_scheduler : (q : Place) (v : ℕ) → q ≡ record { number = v } → v ≡ f.a
+        → is_scheduler q.number ≡ true
+    lower_scheduler q v k y = ap (λ (p : Place). is_scheduler p.number) k ∙ rw y ends.1
 
-    pub link_line : (after : List ℕ) (q r : Place) → q ≡ record { number = f.s }
-        → r ≡ record { number = f.a }
+    pub link_line : (after : List ℕ) (q r : Place) (u v : ℕ) → q ≡ record { number = u } → u ≡ f.s
+        → r ≡ record { number = v } → v ≡ f.a
         → after ≡ relabelled (label_at labels q.number) (label_at labels r.number) labels
         → after ≡ with_line labels (frame_of_word w)
     unfolding with_line
-    link_line after q r k l m =
+    link_line after q r u v k x l y m =
         yes _ (sym d ∙ not-false b h)
         (m ∙ ap₂ (λ (x y : Place). relabelled (label_at labels x.number) (label_at labels y.number) labels) k l
+        ∙ ap₂ (λ (i j : ℕ). relabelled (label_at labels i) (label_at labels j) labels) x y
         ∙ ap (λ (x : Frame). relabelled (label_at labels x.s) (label_at labels x.a) labels) e)
+
+pub ruleset take_laws =
+    (other_line, upper_place, lower_place, upper_scheduler, lower_scheduler)
 
 -- ---- `declarations_end`
 past_early : (b : Bool) (x y : Kind) → is_early x ≡ false → is_early y ≡ false
@@ -158,8 +167,11 @@ late_number k l =
     past_early _ _ _ refl (past_early _ _ _ refl (past_early _ _ _ refl (past_early _ _ _ refl (
     past_early _ _ _ refl (refl)))))))))))))))))))))))
 
-pub late_line : (w : ℕ) → w < 2 ^ 64 → leb 0x1000000000000000 w ≡ true
-    → is_early (frame_of_word w).kind ≡ false
+-- the lines at which `declarations_end` stops
+abbrev pub is_late : ℕ → Bool
+is_late w = leb 0x1000000000000000 w
+
+late_line : (w : ℕ) → w < 2 ^ 64 → is_late w ≡ true → is_early (frame_of_word w).kind ≡ false
 unfolding frame_of_word
 late_line w l h =
     let m = leb-true 0x1000000000000000 w h in late_number (w / 16 ^ 14 % 16 ^ 2) (omega arith)
@@ -183,10 +195,10 @@ link_early (Statement k) e = refl
 link_early (Expression k) e = refl
 link_early Unknown e = refl
 
-pub ends_here : (ws : List ℕ) (i : ℕ) (b : Bool) → LinksPlaced (frames_of ws)
-    → (b ≡ true → is_early (frame_of_word (get_or ws i 0)).kind ≡ false) → b ≡ true → i < length ws
+ends_here : (ws : List ℕ) (i : ℕ) → LinksPlaced (frames_of ws)
+    → is_early (frame_of_word (get_or ws i 0)).kind ≡ false → i < length ws
     → links_of (drop i (frames_of ws)) ≡ []
-ends_here ws i b h f t l =
+ends_here ws i h t l =
     no_links (drop i (frames_of ws)) (λ j a.
     let z = length-drop i (frames_of ws) in
     ap (λ (f : Frame). is_link f.kind) (get_or-drop i (frames_of ws) j no_frame)
@@ -194,8 +206,7 @@ ends_here ws i b h f t l =
   where
     late : is_early (frame_at (frames_of ws) i).kind ≡ false
     late =
-        ap (λ (f : Frame). is_early f.kind) (frame_at_lem ws i no_frame l)
-        ∙ f t
+        ap (λ (f : Frame). is_early f.kind) (frame_at_lem ws i no_frame l) ∙ t
 
     by : (j : ℕ) → i + j < length (frames_of ws) → (b : Bool)
         → is_link (frame_at (frames_of ws) (i + j)).kind ≡ b
@@ -207,9 +218,34 @@ ends_here ws i b h f t l =
     by (suc j) a true e =
         absurd (true≢false (sym (h.early i (i + suc j) (omega arith) a e) ∙ late))
 
-pub ends_after : (ws : List ℕ) (i : ℕ) → length ws ≤ i → links_of (drop i (frames_of ws)) ≡ []
+ends_after : (ws : List ℕ) (i : ℕ) → length ws ≤ i → links_of (drop i (frames_of ws)) ≡ []
 unfolding links_of
 ends_after ws i l = ap links_of (frames_end ws i l)
+
+-- the position of a member that passes, or the list's length
+or_length : {A : Type 0} (p : A → Bool) (xs : List A)
+    → unwrap_or (position p xs) (length xs) ≡ position_or_len p xs
+or_length p xs = by (ltb (position_or_len p xs) (length xs)) refl
+  where
+    by : (b : Bool) → ltb (position_or_len p xs) (length xs) ≡ b
+        → unwrap_or (cond b (Some (position_or_len p xs)) None) (length xs) ≡ position_or_len p xs
+    by true e = refl
+    by false e =
+        let l = ltb-false (position_or_len p xs) (length xs) e in
+        omega (arith, prefix_len-le-length (λ x. not (p x)) xs)
+
+pub links_end : (ws : List ℕ) (r : ℕ) → ((i : ℕ) → get_or ws i 0 < 2 ^ 64) → LinksPlaced (frames_of ws)
+    → r ≡ unwrap_or (position is_late ws) (length ws) → links_of (drop r (frames_of ws)) ≡ []
+links_end ws r fits h e = rw (e ∙ or_length is_late ws) (by (ltb n (length ws)) refl)
+  where
+    n : ℕ
+    n = position_or_len is_late ws
+
+    by : (b : Bool) → ltb n (length ws) ≡ b → links_of (drop n (frames_of ws)) ≡ []
+    by true t =
+        let l = ltb-true n (length ws) t in
+        ends_here ws n h (late_line (get_or ws n 0) (fits n) (passes_at_first is_late ws 0 l)) l
+    by false t = ends_after ws n (ltb-false n (length ws) t)
 
 -- ---- `labels_of`: the links from line i on are taken
 abbrev pub Taken : List ℕ → List ℕ → ℕ → Type 0
@@ -218,9 +254,6 @@ Taken ws labels i = labels ≡ labels_of (links_of (drop i (frames_of ws)))
 pub taken_start : (ws labels : List ℕ) (i : ℕ) → labels ≡ labels_of []
     → links_of (drop i (frames_of ws)) ≡ [] → Taken ws labels i
 taken_start ws labels i h e = h ∙ ap labels_of (sym e)
-
-pub taken_length : (ws labels : List ℕ) (i : ℕ) → Taken ws labels i → length labels ≡ 8
-taken_length ws labels i t = ap length t ∙ labels_length (links_of (drop i (frames_of ws))) 2 8
 
 module _ (ws : List ℕ) (i : ℕ) (l : 0 < i) (m : i ≤ length ws) (h : LinksPlaced (frames_of ws)) where
   abbrev f : Frame

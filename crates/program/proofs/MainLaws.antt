@@ -77,9 +77,10 @@ module _ (words : List ℕ) (i : ℕ) (f : Frame) (t : Bool) (e : f ≡ frame_of
   pub main_more : t ≡ false → parts_from words (i - 1) ≡ []
   main_more h = from_here ∙ part_no (frames_of words) (i - 1) f f.kind [] (sym q ∙ h)
 
-  pub main_found : t ≡ true → f.a ≡ root_s (main_of (program_of (frames_of words))).body
+  pub main_found : (n : ℕ) → t ≡ true → n ≡ f.a
+      → n ≡ root_s (main_of (program_of (frames_of words))).body
   unfolding program_of
-  main_found h = sym (ap (λ (ps : List Part). root_s (get_or ps (length ps - 1) no_module).body) split ∙ ap (λ (x : Part). root_s x.body) (last_part (modules_from fs 0 (take (i - 1) fs)) (part_of fs (i - 1) f)) ∙ statement_root fs f.a)
+  main_found n h z = z ∙ sym (ap (λ (ps : List Part). root_s (get_or ps (length ps - 1) no_module).body) split ∙ ap (λ (x : Part). root_s x.body) (last_part (modules_from fs 0 (take (i - 1) fs)) (part_of fs (i - 1) f)) ∙ statement_root fs f.a)
     where
       fs : List Frame
       fs = frames_of words

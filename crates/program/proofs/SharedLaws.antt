@@ -6,8 +6,11 @@ use Prim.Native.Nat.{ℕ, zero, suc, ◌+◌, ◌-◌, ◌<◌, ◌≤◌}
 use native.Mathlib.Omega.{arith}
 use native.Mathlib.Numerals.{add-one}
 use lib.Dec.{ltb}
-use lib.ListN.{get_or, length, drop}
+use lib.ListN.{get_or, length, drop, drop_of_length-le}
 use borrow.Author.Tests.{ltb-true, ltb-false}
+use Rattle.std.specs.Prelude.{Some, cond, max, unwrap_or, find}
+use Rattle.std.specs.List.{range_with_len}
+use Rattle.std.proofs.lemmas.List.{drop_more}
 use Rattle.basics.specs.If.{when◌then◌else◌}
 use Rattle.basics.proofs.Ifs.{if_yes, if_no}
 use Rattle.language.specs.Kinds.{is_shared}
@@ -44,26 +47,31 @@ next_none : (ws : List ℕ) (k : ℕ) → length ws ≤ k → next_from ws k ≡
 unfolding next_shared
 next_none ws k l = ap (next_shared k) (frames_end ws k l)
 
--- no shared cell was found from i on, before k
-pub record Seeking (ws : List ℕ) (i k : ℕ) : Type 0 where
-  pub same : next_from ws i ≡ next_from ws k
+-- the first of the n frames from i on that declares a shared cell
+abbrev declares_at : List ℕ → ℕ → Bool
+declares_at ws k = is_shared (line_at ws k).kind
 
-pub seek_start : (ws : List ℕ) (i : ℕ) → Seeking ws i i
-seek_start ws i = record { same = refl }
+pub next_found : (ws : List ℕ) (n i : ℕ) → length ws - i ≡ n
+    → unwrap_or (find (λ k. is_shared (line_at ws k).kind) (range_with_len i n)) (max i (length ws))
+    ≡ next_from ws i
+next_found ws zero i e = let z : length ws ≤ i = omega arith in omega (arith, next_none ws i z)
+next_found ws (suc n) i e = by (declares_at ws i) refl (next_found ws n (i + 1) (omega arith))
+  where
+    l : i < length ws
+    l = omega arith
 
-module _ (ws : List ℕ) (i k : ℕ) (f : Frame) (t : Bool) (s : Seeking ws i k) (l : k < length ws)
-    (e : f ≡ frame_of_word (get_or ws k 0)) (q : t ≡ is_shared f.kind) where
-  kind_is : (b : Bool) → t ≡ b → is_shared (line_at ws k).kind ≡ b
-  kind_is b h = ap (λ (g : Frame). is_shared g.kind) (sym e) ∙ sym q ∙ h
+    most : max (i + 1) (length ws) ≡ max i (length ws)
+    most = omega arith
 
-  pub seek_here : t ≡ true → k ≡ next_from ws i
-  seek_here h = sym (s.same ∙ next_here ws k l (kind_is true h))
-
-  pub seek_on : t ≡ false → Seeking ws i (k + 1)
-  seek_on h = record { same = s.same ∙ next_on ws k l (kind_is false h) ∙ ap (next_from ws) (sym (add-one k)) }
-
-pub seek_end : (ws : List ℕ) (i k : ℕ) → Seeking ws i k → length ws ≤ k → k ≡ next_from ws i
-seek_end ws i k s l = sym (s.same ∙ next_none ws k l)
+    by : (b : Bool) → declares_at ws i ≡ b
+        → unwrap_or (find (declares_at ws) (range_with_len (i + 1) n)) (max (i + 1) (length ws))
+        ≡ next_from ws (i + 1)
+        → unwrap_or (cond b (Some i) (find (declares_at ws) (range_with_len (i + 1) n))) (max i (length ws))
+        ≡ next_from ws i
+    by true t r = sym (next_here ws i l t)
+    by false t r =
+        ap (unwrap_or (find (declares_at ws) (range_with_len (i + 1) n))) (sym most) ∙ r
+        ∙ ap (next_from ws) (add-one i) ∙ sym (next_on ws i l t)
 
 -- ---- what was found: no shared cell was passed, and where there is a frame it declares one
 pub record Next (ws : List ℕ) (i r : ℕ) : Type 0 where
@@ -125,40 +133,32 @@ pub next_end : (ws : List ℕ) (i r : ℕ) → Next ws i r → length ws ≤ r
 unfolding shared_of
 next_end ws i r s l = s.same ∙ ap shared_of (frames_end ws r l)
 
--- ---- the count: n shared cells were found, and frame i declares the next
-pub record Counting (ws : List ℕ) (i n : ℕ) : Type 0 where
-  pub from : ℕ
-  pub next : Next ws from i
-  pub sum : n + length (shared_of (drop from (frames_of ws))) ≡ length (shared_of (frames_of ws))
-  pub few : n ≤ from
+-- ---- the count: n of the cells are declared by the first i frames
+abbrev cells_left : List ℕ → ℕ → ℕ
+cells_left ws i = length (shared_of (frames_of (drop i ws)))
 
-pub count_start : (ws : List ℕ) (i : ℕ) → i ≡ next_from ws 0 → Counting ws i 0
-count_start ws i e =
-    record { from = 0; next = found_next ws 0 i e; sum = omega arith; few = omega arith }
+module _ (ws : List ℕ) (i n : ℕ) (t : Bool) (l : i < length ws)
+    (q : t ≡ is_shared (frame_of_word (get_or ws i 0)).kind)
+    (b : n ≤ i) (s : n + cells_left ws i ≡ length (shared_of (frames_of ws))) where
+  here : shared_of (frames_of (drop i ws))
+      ≡ shared_of (frame_of_word (get_or ws i 0) ∷ frames_of (drop (i + 1) ws))
+  here = ap (λ (vs : List ℕ). shared_of (frames_of vs)) (drop_more ws i 0 l)
 
-module _ (ws : List ℕ) (i n : ℕ) (s : Counting ws i n) where
-  pub count_one : (r : ℕ) → i < length ws → r ≡ next_from ws (i + 1) → Counting ws r (n + 1)
-  count_one r l e =
-      record {
-        from = i + 1;
-        next = found_next ws (i + 1) r e;
-        sum = moved (ap length (next_cell ws s.from i s.next l)) s.sum;
-        few = let a = s.few in let b = s.next.onward in omega arith;
-      }
-    where
-      moved : {a b m : ℕ} → a ≡ suc b → n + a ≡ m → n + 1 + b ≡ m
-      moved x y = omega arith
+  pub count_one : t ≡ true
+      → (n + 1 ≤ i + 1) × (n + 1 + cells_left ws (i + 1) ≡ length (shared_of (frames_of ws)))
+  count_one h =
+      let e = ap length (here ∙ shared_yes _ (frames_of (drop (i + 1) ws)) (sym q ∙ h)) in
+      (omega arith, omega arith)
 
-  pub count_few : n ≤ i
-  count_few = let a = s.few in let b = s.next.onward in omega arith
+  pub count_other : t ≡ false
+      → (n ≤ i + 1) × (n + cells_left ws (i + 1) ≡ length (shared_of (frames_of ws)))
+  count_other h =
+      let e = ap length (here ∙ shared_no _ (frames_of (drop (i + 1) ws)) (sym q ∙ h)) in
+      (omega arith, omega arith)
 
-  -- the search goes on after i
-  pub count_falls : (r : ℕ) → r ≡ next_from ws (i + 1) → i < length ws
-      → length ws - r < length ws - i
-  count_falls r e l = let a = (found_next ws (i + 1) r e).onward in omega arith
-
-  pub count_end : length ws ≤ i → n ≡ length (shared_of (frames_of ws))
-  count_end l = all (ap length (next_end ws s.from i s.next l)) s.sum
-    where
-      all : {a m : ℕ} → a ≡ 0 → n + a ≡ m → n ≡ m
-      all x y = omega arith
+pub count_end : (ws : List ℕ) (i n : ℕ) → length ws ≤ i
+    → n + cells_left ws i ≡ length (shared_of (frames_of ws)) → n ≡ length (shared_of (frames_of ws))
+unfolding shared_of
+count_end ws i n l s =
+    let e = ap (λ (vs : List ℕ). length (shared_of (frames_of vs))) (drop_of_length-le ws {i = i} l) in
+    omega arith

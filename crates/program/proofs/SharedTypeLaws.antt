@@ -1,6 +1,6 @@
 -- The types of the shared cells: of one, in an array, and of all, read from after the header on.
 -- Assumes nothing.
-use Rattle.std.specs.Prelude.{Option, Some, None}
+use Rattle.std.specs.Prelude.{Option, Some}
 use mathlib.Core.Path.{◌≡◌, refl, sym, ap, ap₂, subst, ◌∙◌}
 use mathlib.Core.Bool.{Bool, true, false, true≢false, not, ◌&&◌}
 use mathlib.Core.List.{List, [], ◌∷◌, ◌++◌, map, append_assoc, append-nil}
@@ -116,13 +116,19 @@ module _ (ws types : List ℕ) (n : ℕ) (s : Collecting ws types n) where
       ap₂ (λ (k : ℕ) (ts : List ℕ). record { count = k; types = ts })
       (sym s.count ∙ ap length (sym all)) (s.written ∙ ap padded_types (sym all))
 
-  pub collect_end : length ws ≤ n + 1
+  pub collect_end : (k : ℕ) → k ≡ n + 1 → length ws ≤ k
       → record { count = n; types = types } ≡ shared_types (frames_of ws)
   unfolding shared_of
-  collect_end l = collect_done (ap shared_of (frames_end ws (n + 1) l))
+  collect_end k z l = collect_done (ap shared_of (frames_end ws (n + 1) (rw z at l)))
 
-  module _ (f : Frame) (x : Bool) (g : SharedFirst (frames_of ws)) (l : n + 1 < length ws)
-      (e : f ≡ frame_at (frames_of ws) (n + 1)) (q : x ≡ is_shared f.kind) where
+  module _ (k : ℕ) (z : k ≡ n + 1) (f : Frame) (x : Bool) (g : SharedFirst (frames_of ws)) (m : k < length ws)
+      (d : f ≡ frame_at (frames_of ws) k) (q : x ≡ is_shared f.kind) where
+    l : n + 1 < length ws
+    l = rw z at m
+
+    e : f ≡ frame_at (frames_of ws) (n + 1)
+    e = rw z at d
+
     kind_is : (b : Bool) → x ≡ b → is_shared (frame_at (frames_of ws) (n + 1)).kind ≡ b
     kind_is b h = ap (λ (h : Frame). is_shared h.kind) (sym e) ∙ sym q ∙ h
 

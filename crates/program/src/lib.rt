@@ -1,4 +1,4 @@
-// Programs: the trees of statements and expressions that frames are, and frames taken apart.
+//! Programs: the trees of statements and expressions that frames are, and frames taken apart.
 #![tactic(auto)]
 
 pub mod event;

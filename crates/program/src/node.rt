@@ -1,5 +1,5 @@
-// A frame as a node of a tree: its kind with the numbers that the kind uses, children by their
-// frames.
+//! A frame as a node of a tree: its kind with the numbers that the kind uses, children by their
+//! frames.
 ghost use Rattle.std.specs.Prelude.{◌≡◌, true};
 ghost use Rattle.language.specs.Places.{is_place};
 ghost use Rattle.language.specs.Kinds.{statement_uses, expression_uses};
@@ -12,9 +12,9 @@ use language::Place;
 use language::frame::Frame;
 use language::kind::{ExpressionKind, Kind, StatementKind};
 
-// An expression without operands, K 20 to 23: the number, the truth, the index of a variable or of
-// a shared cell.
-#[derive(Clone, Copy)]
+/// An expression without operands, K 20 to 23: the number, the truth, the index of a variable or of
+/// a shared cell.
+#[derive(Clone, Copy, Debug, PartialEq, Eq)]
 pub enum Leaf {
     Number(u16),
     Truth(u8),
@@ -22,24 +22,24 @@ pub enum Leaf {
     SharedCell(u8),
 }
 
-// What becomes of a value, K 24 and 25: the content of a new cell of that owner, or the cell whose
-// content is read.
-#[derive(Clone, Copy)]
+/// What becomes of a value, K 24 and 25: the content of a new cell of that owner, or the cell whose
+/// content is read.
+#[derive(Clone, Copy, Debug, PartialEq, Eq)]
 pub enum CellUse {
     Make(Place),
     Read,
 }
 
-// What becomes of two numbers, K 26 and 27.
-#[derive(Clone, Copy)]
+/// What becomes of two numbers, K 26 and 27.
+#[derive(Clone, Copy, Debug, PartialEq, Eq)]
 pub enum Operator {
     Sum,
     Less,
 }
 
-// An expression by its operands: none, a value, two numbers, a truth and two numbers. Another frame
-// reads as the number 0.
-#[derive(Clone, Copy)]
+/// An expression by its operands: none, a value, two numbers, a truth and two numbers. Another frame
+/// reads as the number 0.
+#[derive(Clone, Copy, Debug, PartialEq, Eq)]
 pub enum ExpressionNode {
     Plain(Leaf),
     OfValue(CellUse, u16),
@@ -47,8 +47,8 @@ pub enum ExpressionNode {
     Choose(u16, u16, u16),
 }
 
-// A statement, or another frame, which reads as nothing.
-#[derive(Clone, Copy)]
+/// A statement, or another frame, which reads as nothing.
+#[derive(Clone, Copy, Debug, PartialEq, Eq)]
 pub enum StatementNode {
     Nothing,
     Cooperate,
@@ -74,8 +74,7 @@ fn expression_of(k: ExpressionKind, s: u8, a: u16, b: u16, c: u16) -> Expression
         ExpressionKind::Variable => ExpressionNode::Plain(Leaf::Variable(s)),
         ExpressionKind::SharedCell => ExpressionNode::Plain(Leaf::SharedCell(s)),
         ExpressionKind::NewCell => {
-            let owner = Place::known(s as u64);
-            ExpressionNode::OfValue(CellUse::Make(owner), a)
+            ExpressionNode::OfValue(CellUse::Make(Place::known(u64::from(s))), a)
         },
         ExpressionKind::Content => ExpressionNode::OfValue(CellUse::Read, a),
         ExpressionKind::Sum => ExpressionNode::OfNumbers(Operator::Sum, a, b),
@@ -84,19 +83,14 @@ fn expression_of(k: ExpressionKind, s: u8, a: u16, b: u16, c: u16) -> Expression
     }
 }
 
-// Of a frame that passes refusal 5: an owner is a place.
+/// An expression's frame as a node, of a frame that passes refusal 5: an owner is a place.
 pub fn expression_node(f: Frame) -> ExpressionNode
     requires { NamesPlace f }
     ensures { result ≡ expression_node f }
 {
-    let kind = f.kind;
-    match kind {
-        Kind::Header => ExpressionNode::Plain(Leaf::Number(0)),
-        Kind::Declared(d) => ExpressionNode::Plain(Leaf::Number(0)),
-        Kind::Module => ExpressionNode::Plain(Leaf::Number(0)),
-        Kind::Statement(k) => ExpressionNode::Plain(Leaf::Number(0)),
+    match f.kind {
         Kind::Expression(k) => expression_of(k, f.s, f.a, f.b, f.c),
-        Kind::Unknown => ExpressionNode::Plain(Leaf::Number(0)),
+        _ => ExpressionNode::Plain(Leaf::Number(0)),
     }
 }
 
@@ -107,7 +101,7 @@ fn statement_of(k: StatementKind, s: u8, a: u16, b: u16, c: u16) -> StatementNod
     match k {
         StatementKind::Nothing => StatementNode::Nothing,
         StatementKind::Then => StatementNode::Seq(a, b),
-        StatementKind::DoAt => StatementNode::DoAt(Place::known(s as u64), a),
+        StatementKind::DoAt => StatementNode::DoAt(Place::known(u64::from(s)), a),
         StatementKind::Start => StatementNode::Start(s, a, b),
         StatementKind::StartWait => StatementNode::StartWait(s, a, b),
         StatementKind::Cooperate => StatementNode::Cooperate,
@@ -120,18 +114,13 @@ fn statement_of(k: StatementKind, s: u8, a: u16, b: u16, c: u16) -> StatementNod
     }
 }
 
-// Of a frame that passes refusal 5: where a body is done is a place.
+/// A statement's frame as a node, of a frame that passes refusal 5: where a body is done is a place.
 pub fn statement_node(f: Frame) -> StatementNode
     requires { NamesPlace f }
     ensures { result ≡ statement_node f }
 {
-    let kind = f.kind;
-    match kind {
-        Kind::Header => StatementNode::Nothing,
-        Kind::Declared(d) => StatementNode::Nothing,
-        Kind::Module => StatementNode::Nothing,
+    match f.kind {
         Kind::Statement(k) => statement_of(k, f.s, f.a, f.b, f.c),
-        Kind::Expression(k) => StatementNode::Nothing,
-        Kind::Unknown => StatementNode::Nothing,
+        _ => StatementNode::Nothing,
     }
 }

@@ -1,15 +1,19 @@
-// Whether lent words are a state of the file (answer 14): by words, lists and blocks.
-ghost use Rattle.std.specs.Prelude.{◌≡◌, ◌+◌, ◌*◌, ◌≤◌, ◌<◌, length, slice_index};
+//! Whether lent words are a state of the file (answer 14): by words, lists and blocks.
+// No struct of `frames` and `schedulers`, which would be no plainer: the tests of words read one of
+// the two, and those of a block hand both on to one call.
+ghost use Rattle.std.specs.Prelude.{◌≡◌, ◌+◌, ◌≤◌, ◌<◌, slice_index, true};
+ghost use Rattle.std.specs.List.{list_all};
 ghost use Rattle.language.specs.Limits.{most_schedulers, most_threads, most_events, most_cells};
 ghost use Rattle.text.specs.Frames.{frames_of};
 ghost use Rattle.program.specs.Trees.{frame_at};
-ghost use Rattle.machine.specs.Offsets.{state_length, cell_count_at, scheduler_length, thread_length};
+ghost use Rattle.machine.specs.Offsets.{state_length, cell_count_at, scheduler_length};
+ghost use Rattle.machine.specs.Offsets.{thread_length};
 ghost use Rattle.machine.specs.Inner.Ranges.{thread_in_range, value_in_range, item_in_range};
-ghost use Rattle.machine.specs.Inner.Ranges.{entry_in_range, cell_in_range, list_in_range};
+ghost use Rattle.machine.specs.Inner.Ranges.{entry_in_range, cell_in_range};
 ghost use Rattle.machine.specs.Inner.Ranges.{scheduler_in_range, thread_word_in_range, all_below};
 ghost use Rattle.machine.specs.Inner.Ranges.{in_range};
 ghost use Rattle.machine.specs.Shapes.{is_statement, owner_in_range};
-ghost use Rattle.ranges.specs.Inner.Passes.{is_zero, member_in_range, word_passes};
+ghost use Rattle.ranges.specs.Inner.Passes.{is_zero, is_list, list_members};
 ghost use Rattle.ranges.specs.Inner.Passes.{scheduler_block, thread_block, event_in_range};
 ghost use Rattle.ranges.specs.Inner.Passes.{event_passes, cells_pass};
 
@@ -21,8 +25,8 @@ use language::limit::{
 use machine::offset::{
     AWAITING_FROM, BACK_FROM, CELL_COUNT_AT, CELL_FROM, CELLS_AT, DROP_WORD, EVENTS_AT,
     ITEMS_FIELD, LIST_LENGTH, LIVES_FIELD, OWNER_FACTOR, SCHEDULER_LENGTH, SCHEDULERS_AT,
-    STARTER_FIELD, STATE_LENGTH, THREAD_COUNT_AT, THREAD_LENGTH, THREAD_OWNER_FROM, THREADS_AT,
-    TRUTH_FROM, VARIABLES_FIELD, WAITING_FACTOR,
+    STARTER_FIELD, STATE_LENGTH, State, THREAD_COUNT_AT, THREAD_LENGTH, THREAD_OWNER_FROM,
+    THREADS_AT, TRUTH_FROM, VARIABLES_FIELD, WAITING_FACTOR,
 };
 use text::line::frame_of_word;
 
@@ -36,16 +40,6 @@ const SCHEDULERS: usize = MOST_SCHEDULERS as usize;
 
 const EVENTS: usize = MOST_EVENTS as usize;
 
-// What the words of a list or of a block are.
-#[derive(Clone, Copy)]
-enum Member {
-    Thread,
-    Entry,
-    Item,
-    Value,
-    Cell,
-}
-
 #[tactic(auto, unfolding(machine::specs::Inner::Ranges::thread_in_range))]
 fn thread_in_range(t: u64) -> bool
     ensures { result ≡ thread_in_range t }
@@ -53,6 +47,8 @@ fn thread_in_range(t: u64) -> bool
     1 <= t && t <= MOST_THREADS as u64
 }
 
+// As returns, since it is asked of each variable and cell: joined by `||`, or as one `if` with
+// `else`, it takes 16 or 11 instructions a word and not 7 (callgrind).
 #[tactic(auto, using(crate::proofs::RangeLaws::value_laws))]
 fn value_in_range(w: u64) -> bool
     ensures { result ≡ value_in_range w }
@@ -84,12 +80,12 @@ fn item_in_range(frames: &[u64], schedulers: u8, w: u64) -> bool
     ensures { result ≡ item_in_range (frames_of frames.now) schedulers w }
 {
     if w < BACK_FROM {
-        return statement_at(frames, w as usize);
+        statement_at(frames, w as usize)
+    } else if w < DROP_WORD {
+        Place::is_in_file(w - BACK_FROM, schedulers)
+    } else {
+        w == DROP_WORD
     }
-    if w < DROP_WORD {
-        return Place::is_in_file(w - BACK_FROM, schedulers);
-    }
-    w == DROP_WORD
 }
 
 // How many events the header counts: 0 where there is no header.
@@ -107,12 +103,13 @@ fn entry_in_range(events: u16, w: u64) -> bool
     ensures { result ≡ entry_in_range events w }
 {
     if w < WAITING_FACTOR {
-        return thread_in_range(w);
+        thread_in_range(w)
+    } else if w < AWAITING_FROM {
+        thread_in_range(w % WAITING_FACTOR) && thread_in_range(w / WAITING_FACTOR)
+    } else {
+        thread_in_range(w % WAITING_FACTOR)
+            && (w - AWAITING_FROM) / WAITING_FACTOR < u64::from(events)
     }
-    if w < AWAITING_FROM {
-        return thread_in_range(w % WAITING_FACTOR) && thread_in_range(w / WAITING_FACTOR);
-    }
-    thread_in_range(w % WAITING_FACTOR) && (w - AWAITING_FROM) / WAITING_FACTOR < u64::from(events)
 }
 
 #[tactic(auto, unfolding(machine::specs::Shapes::owner_in_range, machine::specs::Inner::Ranges::thread_in_range))]
@@ -130,107 +127,104 @@ fn cell_in_range(schedulers: u8, w: u64) -> bool
     owner_in_range(schedulers, w / OWNER_FACTOR) && value_in_range(w % OWNER_FACTOR)
 }
 
-fn member_in_range(frames: &[u64], schedulers: u8, member: Member, w: u64) -> bool
-    ensures { result ≡ member_in_range (frames_of frames.now) schedulers member w }
+// ---- the members of a list, and the cells: each of the words is in range. One chain each: a function
+// over the test would have to say what any test gives, and be no plainer
+
+fn are_threads(words: &[u64]) -> bool
+    ensures { result ≡ list_all thread_in_range words.now }
 {
-    match member {
-        Member::Thread => thread_in_range(w),
-        Member::Entry => entry_in_range(event_count(frames), w),
-        Member::Item => item_in_range(frames, schedulers, w),
-        Member::Value => value_in_range(w),
-        Member::Cell => cell_in_range(schedulers, w),
-    }
+    words.iter().all(|w| thread_in_range(*w))
 }
 
-// Count words from that place on are such members. The caller's test of the length keeps every
-// place within the words.
-fn members_in_range(
-    frames: &[u64],
-    schedulers: u8,
-    member: Member,
-    state: &[u64],
-    at: usize,
-    count: usize,
-) -> bool
-    requires { at + count ≤ length state.now }
-    ensures { result ≡ all_below count
-        (word_passes (member_in_range (frames_of frames.now) schedulers member)
-        state.now at) }
+fn are_entries(events: u16, words: &[u64]) -> bool
+    ensures { result ≡ list_all (entry_in_range events) words.now }
 {
-    state[at..at + count]
-        .iter()
-        .all(|w| member_in_range(frames, schedulers, member, *w))
+    words.iter().all(|w| entry_in_range(events, *w))
 }
 
-// Count words from that place on are 0. All are looked at, whatever the first is: a loop without an
-// exit takes several words at once.
-fn zeros(state: &[u64], at: usize, count: usize) -> bool
-    requires { at + count ≤ length state.now }
-    ensures { result ≡ all_below count (word_passes is_zero state.now at) }
+fn are_items(frames: &[u64], schedulers: u8, words: &[u64]) -> bool
+    ensures { result ≡ list_all (item_in_range (frames_of frames.now) schedulers) words.now }
 {
-    state[at..at + count].iter().fold(0, |bits, w| bits | *w) == 0
+    words.iter().all(|w| item_in_range(frames, schedulers, *w))
 }
 
-// A list at that place: its length, its members, and 0 in the rest of its space.
-#[tactic(auto, using(crate::proofs::BlockLaws::list_laws))]
-fn list_in_range(
-    frames: &[u64],
-    schedulers: u8,
-    member: Member,
-    state: &[u64],
-    at: usize,
-    most: usize,
-) -> bool
-    requires { at + most < length state.now }
-    ensures { result ≡ all_below (most + 1)
-        (list_in_range (member_in_range (frames_of frames.now) schedulers member) most
-        state.now at) }
+fn are_values(words: &[u64]) -> bool
+    ensures { result ≡ list_all value_in_range words.now }
+{
+    words.iter().all(|w| value_in_range(*w))
+}
+
+fn are_cells(schedulers: u8, words: &[u64]) -> bool
+    ensures { result ≡ list_all (cell_in_range schedulers) words.now }
+{
+    words.iter().all(|w| cell_in_range(schedulers, *w))
+}
+
+// All words are 0. All are looked at, whatever the first is: a loop without an exit takes several
+// words at once.
+fn are_zeros(words: &[u64]) -> bool
+    ensures { result ≡ list_all is_zero words.now }
+{
+    words.iter().fold(0, |bits, w| bits | *w) == 0
+}
+
+// ---- lists
+
+// The length of the list at that place is within its space, and 0 is in the rest of its space.
+fn is_list(state: &State, at: usize, most: usize) -> bool
+    requires { at + most < state_length }
+    ensures value { result ≡ is_list most state.now at }
+    ensures within { result ≡ true → slice_index state.now at ≤ most }
 {
     let count = state[at];
-    if (most as u64) < count {
-        return false;
-    }
-    let used = count as usize;
-    members_in_range(frames, schedulers, member, state, at + 1, used)
-        && zeros(state, at + 1 + used, most - used)
+    count <= most as u64 && are_zeros(&state[at + 1 + count as usize..at + 1 + most])
 }
 
+// Its members.
+fn members(state: &State, at: usize) -> &[u64]
+    requires { at + slice_index state.now at < state_length }
+    ensures { result.now ≡ list_members state.now at }
+{
+    &state[at + 1..at + 1 + state[at] as usize]
+}
+
+// ---- the parts of a state
+
 #[tactic(auto, using(crate::proofs::BlockLaws::scheduler_split))]
-fn scheduler_in_range(frames: &[u64], schedulers: u8, state: &[u64], at: usize) -> bool
-    requires { at + scheduler_length ≤ length state.now }
-    ensures { result ≡ all_below scheduler_length
-        (scheduler_in_range (frame_at (frames_of frames.now) 0).c
-        state.now at) }
+fn scheduler_in_range(events: u16, state: &State, at: usize) -> bool
+    requires { at + scheduler_length ≤ state_length }
+    ensures { result
+        ≡ all_below scheduler_length (scheduler_in_range events state.now at) }
 {
     let next = at + LIST_LENGTH;
-    list_in_range(frames, schedulers, Member::Thread, state, at, MOST_THREADS)
-        && list_in_range(frames, schedulers, Member::Entry, state, next, MOST_THREADS)
+    is_list(state, at, MOST_THREADS)
+        && are_threads(members(state, at))
+        && is_list(state, next, MOST_THREADS)
+        && are_entries(events, members(state, next))
 }
 
 #[tactic(auto, using(crate::proofs::BlockLaws::scheduler_block_laws))]
-fn scheduler_block_in_range(frames: &[u64], schedulers: u8, state: &[u64], k: usize) -> bool
-    requires { (length state.now ≡ state_length) × (k < most_schedulers) }
-    ensures { result
-        ≡ scheduler_block (frames_of frames.now) schedulers state.now k }
+fn scheduler_block_in_range(events: u16, schedulers: u8, state: &State, k: usize) -> bool
+    requires { k < most_schedulers }
+    ensures { result ≡ scheduler_block events schedulers state.now k }
 {
     let at = SCHEDULERS_AT + SCHEDULER_LENGTH * k;
     if k < usize::from(schedulers) {
-        return scheduler_in_range(frames, schedulers, state, at);
+        scheduler_in_range(events, state, at)
+    } else {
+        are_zeros(&state[at..at + SCHEDULER_LENGTH])
     }
-    zeros(state, at, SCHEDULER_LENGTH)
 }
 
-fn schedulers_in_range(frames: &[u64], schedulers: u8, state: &[u64]) -> bool
-    requires { length state.now ≡ state_length }
-    ensures { result ≡ all_below most_schedulers
-        (scheduler_block (frames_of frames.now) schedulers state.now) }
+fn schedulers_in_range(events: u16, schedulers: u8, state: &State) -> bool
+    ensures { result ≡ all_below most_schedulers (scheduler_block events schedulers state.now) }
 {
-    (0..SCHEDULERS).all(|k| scheduler_block_in_range(frames, schedulers, state, k))
+    (0..SCHEDULERS).all(|k| scheduler_block_in_range(events, schedulers, state, k))
 }
 
 #[tactic(auto, using(crate::proofs::BlockLaws::thread_split))]
-fn thread_words_in_range(frames: &[u64], schedulers: u8, state: &[u64], at: usize) -> bool
-    requires { at + thread_length ≤ length state.now }
+fn thread_words_in_range(frames: &[u64], schedulers: u8, state: &State, at: usize) -> bool
+    requires { at + thread_length ≤ state_length }
     ensures { result ≡ all_below thread_length
         (thread_word_in_range (frames_of frames.now) schedulers state.now at) }
 {
@@ -239,32 +233,27 @@ fn thread_words_in_range(frames: &[u64], schedulers: u8, state: &[u64], at: usiz
     Place::is_in_file(state[at], schedulers)
         && state[at + STARTER_FIELD] <= MOST_THREADS as u64
         && state[at + LIVES_FIELD] <= 1
-        && list_in_range(frames, schedulers, Member::Item, state, items, MOST_ITEMS)
-        && list_in_range(
-            frames,
-            schedulers,
-            Member::Value,
-            state,
-            variables,
-            MOST_VARIABLES,
-        )
+        && is_list(state, items, MOST_ITEMS)
+        && are_items(frames, schedulers, members(state, items))
+        && is_list(state, variables, MOST_VARIABLES)
+        && are_values(members(state, variables))
 }
 
 #[tactic(auto, using(crate::proofs::BlockLaws::thread_block_laws))]
-fn thread_block_in_range(frames: &[u64], schedulers: u8, state: &[u64], k: usize) -> bool
-    requires { (length state.now ≡ state_length) × (k < most_threads) }
+fn thread_block_in_range(frames: &[u64], schedulers: u8, state: &State, k: usize) -> bool
+    requires { k < most_threads }
     ensures { result
         ≡ thread_block (frames_of frames.now) schedulers state.now k }
 {
     let at = THREADS_AT + THREAD_LENGTH * k;
     if (k as u64) < state[THREAD_COUNT_AT] {
-        return thread_words_in_range(frames, schedulers, state, at);
+        thread_words_in_range(frames, schedulers, state, at)
+    } else {
+        are_zeros(&state[at..at + THREAD_LENGTH])
     }
-    zeros(state, at, THREAD_LENGTH)
 }
 
-fn threads_in_range(frames: &[u64], schedulers: u8, state: &[u64]) -> bool
-    requires { length state.now ≡ state_length }
+fn threads_in_range(frames: &[u64], schedulers: u8, state: &State) -> bool
     ensures { result ≡ all_below most_threads
         (thread_block (frames_of frames.now) schedulers state.now) }
 {
@@ -277,43 +266,52 @@ fn event_in_range(events: u16, e: usize, w: u64) -> bool
     ensures { result ≡ event_in_range events e w }
 {
     if e < usize::from(events) {
-        return w <= 1;
+        w <= 1
+    } else {
+        w == 0
     }
-    w == 0
 }
 
 // The word of each event that the file has, and 0 in the rest of their space.
-fn events_in_range(frames: &[u64], state: &[u64]) -> bool
-    requires { length state.now ≡ state_length }
-    ensures { result ≡ all_below most_events
-        (event_passes (frames_of frames.now) state.now) }
+fn events_in_range(events: u16, state: &State) -> bool
+    ensures { result ≡ all_below most_events (event_passes events state.now) }
 {
-    let events = event_count(frames);
     (0..EVENTS).all(|e| event_in_range(events, e, state[EVENTS_AT + e]))
 }
 
 // The cells that there are, and 0 in the rest of their space.
-fn cells_in_range(frames: &[u64], schedulers: u8, state: &[u64]) -> bool
-    requires { (length state.now ≡ state_length) × (slice_index state.now cell_count_at ≤ most_cells) }
+fn cells_in_range(schedulers: u8, state: &State) -> bool
+    requires { slice_index state.now cell_count_at ≤ most_cells }
     ensures { result ≡ cells_pass schedulers state.now }
 {
-    let cells = state[CELL_COUNT_AT] as usize;
-    members_in_range(frames, schedulers, Member::Cell, state, CELLS_AT, cells)
-        && zeros(state, CELLS_AT + cells, MOST_CELLS - cells)
+    let end = CELLS_AT + state[CELL_COUNT_AT] as usize;
+    are_cells(schedulers, &state[CELLS_AT..end]) && are_zeros(&state[end..STATE_LENGTH])
 }
 
-// The lent words are as many as they have to be, and each is in its range; a word of unused space
-// is 0.
+// Each word is in its range; a word of unused space is 0.
 #[tactic(auto, using(crate::proofs::BlockLaws::whole_split))]
+fn words_in_range(frames: &[u64], schedulers: u8, state: &State) -> bool
+    ensures { result
+        ≡ in_range (frames_of frames.now) schedulers state.now }
+{
+    let events = event_count(frames);
+    state[THREAD_COUNT_AT] <= MOST_THREADS as u64
+        && state[CELL_COUNT_AT] <= MOST_CELLS as u64
+        && schedulers_in_range(events, schedulers, state)
+        && threads_in_range(frames, schedulers, state)
+        && events_in_range(events, state)
+        && cells_in_range(schedulers, state)
+}
+
+/// Whether the lent words are a state of the file with those frames, which has that many
+/// schedulers: as many words as a state has, and each is in its range; a word of unused space is 0.
+#[tactic(auto, using(crate::proofs::BlockLaws::wrong_length))]
 pub fn in_range(frames: &[u64], schedulers: u8, state: &[u64]) -> bool
     ensures { result
         ≡ in_range (frames_of frames.now) schedulers state.now }
 {
-    state.len() == STATE_LENGTH
-        && state[THREAD_COUNT_AT] <= MOST_THREADS as u64
-        && state[CELL_COUNT_AT] <= MOST_CELLS as u64
-        && schedulers_in_range(frames, schedulers, state)
-        && threads_in_range(frames, schedulers, state)
-        && events_in_range(frames, state)
-        && cells_in_range(frames, schedulers, state)
+    match <&State>::try_from(state) {
+        Ok(state) => words_in_range(frames, schedulers, state),
+        Err(_) => false,
+    }
 }

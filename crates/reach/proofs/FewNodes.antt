@@ -14,7 +14,8 @@ use Rattle.language.specs.declared.kind.Kind.{Kind}
 use Rattle.language.specs.declared.kind.Kind.TheVariants.{Header, Declared, Module, Statement}
 use Rattle.language.specs.declared.kind.Kind.TheVariants.{Expression, Unknown}
 use Rattle.language.specs.declared.frame.Frame.{Frame}
-use Rattle.program.specs.Trees.{Expr, no_frame, frame_at, expression_of, expression_to, expression_at}
+use Rattle.program.specs.Trees.{Expr, no_frame, frame_at, expression_of, expression_to}
+use Rattle.program.specs.Trees.{expression_at}
 use Rattle.program.specs.Inner.Sizes.{expr_size}
 use Rattle.layout.specs.Order.{Tree}
 use Rattle.layout.specs.Faults.{NoFault}

@@ -15,13 +15,16 @@ use Rattle.language.specs.Kinds.{class_of, Child}
 use Rattle.language.specs.declared.kind.Class.{Class}
 use Rattle.language.specs.declared.kind.StatementKind.TheVariants.{Nothing, Then, DoAt, Start}
 use Rattle.language.specs.declared.kind.StatementKind.TheVariants.{StartWait, Cooperate, Let}
-use Rattle.language.specs.declared.kind.StatementKind.TheVariants.{Store, If, While, Generate, Await}
+use Rattle.language.specs.declared.kind.StatementKind.TheVariants.{Store, If, While, Generate}
+use Rattle.language.specs.declared.kind.StatementKind.TheVariants.{Await}
 use Rattle.language.specs.declared.kind.Kind.{Kind}
 use Rattle.language.specs.declared.kind.Kind.TheVariants.{Header, Declared, Module, Statement}
 use Rattle.language.specs.declared.kind.Kind.TheVariants.{Expression, Unknown}
 use Rattle.language.specs.declared.frame.Frame.{Frame}
-use Rattle.program.specs.Trees.{Expr, frame_at, expression_at, arguments, statement_of, statement_at}
-use Rattle.program.specs.Programs.{Part, SharedCell, type_of_shared, no_module, modules_from, program_of}
+use Rattle.program.specs.Trees.{Expr, frame_at, expression_at, arguments, statement_of}
+use Rattle.program.specs.Trees.{statement_at}
+use Rattle.program.specs.Programs.{Part, SharedCell, type_of_shared, no_module, modules_from}
+use Rattle.program.specs.Programs.{program_of}
 use Rattle.program.proofs.Decoding.{statement_at_lem}
 use Rattle.program.proofs.Roots.{statement_root}
 use Rattle.fields.specs.Fields.{schedulers_of, first_content_fine}
@@ -32,7 +35,8 @@ use Rattle.layout.proofs.Events.{events_count, events_few}
 use Rattle.machine.specs.State.{run}
 use Rattle.machine.specs.Fresh.{first_cell}
 use Rattle.machine.specs.Values.{first_content}
-use Rattle.machine.specs.Shapes.{is_statement, owner_in_range, ValueFits, CellFits, ItemFits, run_fits}
+use Rattle.machine.specs.Shapes.{is_statement, owner_in_range, ValueFits, CellFits, ItemFits}
+use Rattle.machine.specs.Shapes.{run_fits}
 use Rattle.machine.proofs.Lists.{all_get_d, all_imply}
 use Rattle.machine.proofs.KeptCells.{ExprFits, a_numeral, a_truth, a_variable, a_shared, a_new}
 use Rattle.machine.proofs.KeptCells.{a_content, a_sum, a_less, a_choice}

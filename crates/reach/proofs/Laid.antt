@@ -9,7 +9,8 @@ use Rattle.basics.specs.Members.{In, All}
 use Rattle.language.specs.Places.{has_place}
 use Rattle.language.specs.declared.kind.StatementKind.TheVariants.{Nothing, Then, DoAt, Start}
 use Rattle.language.specs.declared.kind.StatementKind.TheVariants.{StartWait, Cooperate, Let}
-use Rattle.language.specs.declared.kind.StatementKind.TheVariants.{Store, If, While, Generate, Await}
+use Rattle.language.specs.declared.kind.StatementKind.TheVariants.{Store, If, While, Generate}
+use Rattle.language.specs.declared.kind.StatementKind.TheVariants.{Await}
 use Rattle.language.specs.declared.kind.ExpressionKind.TheVariants.{Number, Truth, Variable}
 use Rattle.language.specs.declared.kind.ExpressionKind.TheVariants.{SharedCell, NewCell, Content}
 use Rattle.language.specs.declared.kind.ExpressionKind.TheVariants.{Sum, Less, Choose}

@@ -5,6 +5,7 @@ use mathlib.Core.List.{List, [], ◌∷◌}
 use Prim.Native.Nat.{ℕ, zero, suc, ◌+◌, ◌-◌, ◌≤◌, ◌<◌}
 use native.Mathlib.Omega.{arith}
 use lib.ListN.{length, take, length-take}
+use Rattle.language.specs.declared.refusal.Rule.{Rule}
 use Rattle.basics.specs.Members.{All}
 use Rattle.language.specs.declared.kind.Kind.{Kind}
 use Rattle.language.specs.declared.kind.Kind.TheVariants.{Header, Declared, Module, Statement}
@@ -83,7 +84,7 @@ module _ {fs : List Frame} (fine : NoFault fs) where
 
   pub some_module : 1 ≤ length (modules_from fs 0 fs)
   some_module =
-      let r = has_main fs (some_frame fine) (fine 6) in
+      let r = has_main fs (some_frame fine) (fine Rule.WrongOrder) in
       let e = ap length r.same in
       omega arith
 

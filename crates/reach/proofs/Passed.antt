@@ -8,6 +8,7 @@ use native.Mathlib.Decide.{dec_lt}
 use lib.Dec.{eqb}
 use borrow.Author.Tests.{eqb-true}
 use lib.ListN.{length, get_or-eq_default}
+use Rattle.language.specs.declared.refusal.Rule.{Rule}
 use Rattle.basics.specs.Members.{In}
 use Rattle.basics.proofs.Ifs.{and_true}
 use Rattle.language.specs.Kinds.{uses, class_of, Child, children}
@@ -64,7 +65,7 @@ module _ {fs : List Frame} (fine : NoFault fs) where
   pub fields : (j : ℕ) → j < length fs → (k : Kind) → (frame_at fs j).kind ≡ k → FieldsFine fs j k
   unfolding frame_fine
   fields j l k e =
-      let w : frame_fine fs j (frame_at fs j) ≡ true = not_wrong _ (λ f. fine 5 j (Fault.field l f)) in
+      let w : frame_fine fs j (frame_at fs j) ≡ true = not_wrong _ (λ f. fine Rule.WrongField j (Fault.field l f)) in
       subst (FieldsFine fs j) e
       (let p = and_true _ (field_fine fs j (frame_at fs j) (uses (frame_at fs j).kind).c (frame_at fs j).c) w in
       let q = and_true _ (field_fine fs j (frame_at fs j) (uses (frame_at fs j).kind).b (frame_at fs j).b) p.0 in
@@ -73,7 +74,7 @@ module _ {fs : List Frame} (fine : NoFault fs) where
       record { kind = s.0; s = s.1; a = r.1; b = q.1; c = p.1 })
 
   pub trees : (j : ℕ) → j < length fs → HasTree fs j
-  trees = all_trees fs (fine 6)
+  trees = all_trees fs (fine Rule.WrongOrder)
 
   -- the row of its children, where it is of the kind k
   pub row_at : (j : ℕ) (l : j < length fs) (k : Kind) → (frame_at fs j).kind ≡ k
@@ -81,7 +82,7 @@ module _ {fs : List Frame} (fine : NoFault fs) where
   row_at j l k e = row_of k j _ e (trees j l).tree
 
   pub order : Ordered fs
-  order = is_ordered fs (fine 6)
+  order = is_ordered fs (fine Rule.WrongOrder)
 
   -- a statement or an expression stands in the file
   pub inside : (j : ℕ) (k : Kind) → (frame_at fs j).kind ≡ k → has_class (class_of k) ≡ true
@@ -98,10 +99,10 @@ module _ {fs : List Frame} (fine : NoFault fs) where
   pub last_main : ((frame_at fs (length fs - 1)).kind ≡ Module) × ((frame_at fs (length fs - 1)).s ≡ 0)
   last_main =
       let l = some_frame in
-      let m : is_main (frame_at fs (length fs - 1)) ≡ true = not_wrong _ (λ e. fine 6 (length fs - 1) (Fault.main (omega arith) e)) in
+      let m : is_main (frame_at fs (length fs - 1)) ≡ true = not_wrong _ (λ e. fine Rule.WrongOrder (length fs - 1) (Fault.main (omega arith) e)) in
       let r = and_true _ (eqb (frame_at fs (length fs - 1)).s 0) m in
       (is_module_lem _ r.0, eqb-true _ 0 r.1)
 
   -- 'the whole tree is at most 24 deep'
   pub not_deeper : {j d : ℕ} → Depth fs j d → d ≡ 25 → ⊥
-  not_deeper {j} h e = fine 7 j (Fault.depth h (omega arith))
+  not_deeper {j} h e = fine Rule.TooDeep j (Fault.depth h (omega arith))

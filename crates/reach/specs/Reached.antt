@@ -8,7 +8,8 @@ use Rattle.layout.specs.Faults.{NoFault}
 use Rattle.machine.specs.{Offsets.state_length, Turns.endless_spaces, Turns.StepResult}
 use Rattle.machine.specs.{Turns.access_count, Steps.step, Steps.step_within, Runs.steps}
 use Rattle.machine.specs.{Runs.state_after, Words.pack, State.State, Alone.step_alone}
-use Rattle.machine.specs.{Inner.Ranges.in_range, Calls.fresh_call, Calls.calls_from, Calls.call_result}
+use Rattle.machine.specs.{Inner.Ranges.in_range, Calls.fresh_call, Calls.calls_from}
+use Rattle.machine.specs.{Calls.call_result}
 
 -- the frames fs are those of some text, and pass refusals 4 to 7
 pub record Passes (bs : List ℕ) (fs : List Frame) : Type 0 where

@@ -8,6 +8,6 @@ pub mod Sooner
 pub mod FirstExpressions
 pub mod FirstStatements
 pub mod Modules
--- The code: each rule's function.
+-- The code: what its calls answer.
 pub mod RuleLaws
 pub mod StartLaws

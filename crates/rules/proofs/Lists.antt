@@ -1,5 +1,6 @@
--- Laws of lists that the rules use: the searches in them, and the length of a prefix. Assumes
--- nothing.
+-- Laws of choices and of lists that the rules use: the searches in them, and the length of a
+-- prefix. Assumes nothing.
+use Rattle.std.specs.Prelude.{if◌then◌else◌}
 use mathlib.Core.Path.{◌≡◌, refl, sym, ap₂, ◌∙◌}
 use mathlib.Core.Bool.{Bool, true, false, true≢false}
 use mathlib.Core.List.{List, [], ◌∷◌}
@@ -11,6 +12,12 @@ use borrow.Author.Tests.{eqb-true, eq-eqb}
 use Rattle.basics.specs.Members.{every}
 use Rattle.basics.specs.Inner.Searches.{same_numbers}
 use Rattle.basics.specs.Members.{All}
+
+-- P of a choice, by both cases
+pub by_test : {A : Type 0} (P : A → Type 0) (b : Bool) (x y : A) → (b ≡ true → P x)
+    → (b ≡ false → P y) → P (if b then x else y)
+by_test P true x y f g = f refl
+by_test P false x y f g = g refl
 
 -- the same numbers, and nothing else, pass the test
 pub same_true : (xs ys : List ℕ) → same_numbers xs ys ≡ true → xs ≡ ys

@@ -5,6 +5,7 @@ use Prim.Native.Nat.{ℕ, ◌≤◌, ◌<◌}
 use native.Mathlib.Omega.{arith}
 use Rattle.basics.specs.Members.{In}
 use Rattle.language.specs.Places.{Standing}
+use Rattle.language.specs.declared.refusal.Rule.{Rule}
 use Rattle.program.specs.Trees.{Expr, root_e, Stmt, root_s}
 use Rattle.layout.proofs.Placed.{PlacedE, PlacedEs, PlacedS}
 use Rattle.rules.specs.Rules.{Setting, Signature}
@@ -37,14 +38,16 @@ root_above_s (PlacedS.seq p q e) = let a = root_above_s p in let b = root_above_
 root_above_s (PlacedS.do_at p e) = let a = root_above_s p in omega arith
 root_above_s (PlacedS.start p) = end_above_es p
 root_above_s (PlacedS.start_wait p) = end_above_es p
-root_above_s (PlacedS.let_in p q e) = let a = root_above_e p in let b = root_above_s q in omega arith
+root_above_s (PlacedS.let_in p q e) = let a = root_above_e p in let b = root_above_s q in
+    omega arith
 root_above_s (PlacedS.store p q e) = let a = root_above_e p in let b = root_above_e q in omega arith
 root_above_s (PlacedS.if_else p q r e) =
     let a = root_above_e p in let b = root_above_s q in let c = root_above_s r in omega arith
 root_above_s (PlacedS.while p q e) = let a = root_above_e p in let b = root_above_s q in omega arith
 
 -- ---- what is broken in a tree lies among its frames
-pub range_e : {cells Γ : List ℕ} {lo n j : ℕ} {x : Expr} → BrokenE cells Γ x n j → PlacedE lo x
+pub range_e : {cells Γ : List ℕ} {lo j : ℕ} {n : Rule} {x : Expr} → BrokenE cells Γ x n j
+    → PlacedE lo x
     → (lo ≤ j) × (j ≤ root_e x)
 range_e (BrokenE.here b) p = let a = root_above_e p in omega arith
 range_e (BrokenE.under ChildE.new b) (PlacedE.new p e) = let r = range_e b p in omega arith
@@ -64,13 +67,15 @@ range_e (BrokenE.under ChildE.choose_b b) (PlacedE.choose p q r e) =
 range_e (BrokenE.under ChildE.choose_c b) (PlacedE.choose p q r e) =
     let a = range_e b r in let l = root_above_e p in let m = root_above_e q in omega arith
 
-pub range_es : {cells Γ : List ℕ} {x : Expr} {lo stop n j : ℕ} {xs : List Expr} → In x xs
+pub range_es : {cells Γ : List ℕ} {x : Expr} {lo stop j : ℕ} {n : Rule} {xs : List Expr} → In x xs
     → BrokenE cells Γ x n j → PlacedEs lo xs stop → (lo ≤ j) × (j < stop)
-range_es In.first b (PlacedEs.more p q) = let a = range_e b p in let c = end_above_es q in omega arith
+range_es In.first b (PlacedEs.more p q) = let a = range_e b p in let c = end_above_es q in
+    omega arith
 range_es (In.later i) b (PlacedEs.more p q) =
     let a = range_es i b q in let c = root_above_e p in omega arith
 
-pub range_s : {env : Setting} {below : List Signature} {Γ : List ℕ} {at : Standing} {lo n j : ℕ} {p : Stmt}
+pub range_s : {env : Setting} {below : List Signature} {Γ : List ℕ} {at : Standing} {lo j : ℕ}
+    {n : Rule} {p : Stmt}
     → BrokenS env below Γ at p n j → PlacedS lo p → (lo ≤ j) × (j ≤ root_s p)
 range_s (BrokenS.here b) p = let a = root_above_s p in omega arith
 range_s (BrokenS.operand (Operand.argument Starts.start i) b) (PlacedS.start p) =

@@ -1,19 +1,26 @@
 -- Findings whose fault comes no later than another. Assumes nothing.
+use Rattle.std.specs.Prelude.{Result, Err}
 use mathlib.Core.Path.{refl}
 use mathlib.Core.Logic.{inr}
 use Prim.Native.Nat.{ℕ, ◌≤◌}
 use native.Mathlib.Omega.{arith}
+use Rattle.language.specs.Refusals.{rule_number}
+use Rattle.language.specs.Verdicts.{refusal}
+use Rattle.language.specs.declared.refusal.Rule.{Rule}
+use Rattle.language.specs.declared.refusal.Refusal.{Refusal}
 use Rattle.rules.specs.Broken.{NoLater}
+use Rattle.rules.specs.Inner.Findings.{fault}
 
--- `Sooner fault n j r`: the finding r, of an expression, a statement, arguments or modules, is a
--- fault that comes no later than rule n at frame j
-pub data Sooner {R : Type 0} (fault : ℕ → ℕ → R) (n j : ℕ) : R → Type 0 where
-  sooner : {m k : ℕ} → NoLater m k n j → Sooner fault n j (fault m k)
+-- `Sooner n j f`: the finding f, of an expression, a statement, arguments or modules, is a fault
+-- that comes no later than rule n at frame j
+pub data Sooner {A : Type 0} (n : Rule) (j : ℕ) : Result A Refusal → Type 0 where
+  sooner : {r : Refusal} → NoLater r.rule r.frame n j → Sooner n j (Err r)
 
 -- that rule at that frame
-pub exactly : {R : Type 0} {fault : ℕ → ℕ → R} {n i : ℕ} → Sooner fault n i (fault n i)
-exactly {n = n} {i = i} = Sooner.sooner {m = n} {k = i} (inr (refl, omega arith))
+pub exactly : {A : Type 0} {n : Rule} {i : ℕ} → Sooner {A = A} n i (fault n i)
+exactly {n = n} {i = i} = Sooner.sooner {r = refusal n i} (inr (refl, omega arith))
 
 -- a smaller number at the same frame
-pub smaller : {R : Type 0} {fault : ℕ → ℕ → R} {n m i : ℕ} → m ≤ n → Sooner fault n i (fault m i)
-smaller {m = m} {i = i} h = Sooner.sooner {m = m} {k = i} (inr (refl, h))
+pub smaller : {A : Type 0} {n : Rule} (m : Rule) {i : ℕ} → rule_number m ≤ rule_number n
+    → Sooner {A = A} n i (fault m i)
+smaller m {i = i} h = Sooner.sooner {r = refusal m i} (inr (refl, h))

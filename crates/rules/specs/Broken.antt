@@ -6,7 +6,8 @@ use Rattle.language.specs.{Places.home, Places.Standing, Places.linked, Places.s
 use Rattle.language.specs.{Effects.within, declared.effect.Effect.Effect}
 use Rattle.language.specs.{Verdicts.Verdict}
 use Rattle.language.specs.{Verdicts.Accepted}
-use Rattle.language.specs.{Verdicts.Rejected, Refusals.wrong_effect}
+use Rattle.language.specs.{Refusals.rule_number, declared.refusal.Rule.Rule}
+use Rattle.language.specs.declared.refusal.Rule.TheVariants.{WrongEffect}
 use Rattle.program.specs.Trees.{Expr, Stmt, root_e, root_s}
 use Rattle.program.specs.Programs.{Part, Program}
 use Rattle.rules.specs.Rules.{Setting, setting_of, Signature, signature, HasType, HasEffect}
@@ -54,53 +55,56 @@ pub data ChildS (env : Setting) : List ℕ → Standing → Stmt → List ℕ �
       → ChildS env Γ at (Stmt.while i x p) Γ at p
 
 -- `BrokenE cells Γ x n j`: in the expression x, frame j breaks rule n
-pub data BrokenE (cells Γ : List ℕ) : Expr → ℕ → ℕ → Type 0 where
-  here : {x : Expr} {n : ℕ} → BreaksE cells Γ x n → BrokenE cells Γ x n (root_e x)
-  under : {x y : Expr} {n j : ℕ} → ChildE x y → BrokenE cells Γ y n j → BrokenE cells Γ x n j
+pub data BrokenE (cells Γ : List ℕ) : Expr → Rule → ℕ → Type 0 where
+  here : {x : Expr} {n : Rule} → BreaksE cells Γ x n → BrokenE cells Γ x n (root_e x)
+  under : {x y : Expr} {n : Rule} {j : ℕ}
+      → ChildE x y → BrokenE cells Γ y n j
+      → BrokenE cells Γ x n j
 
 -- `BrokenS env below Γ at p n j`: in the statement p, frame j breaks rule n
 pub data BrokenS (env : Setting) (below : List Signature)
-    : List ℕ → Standing → Stmt → ℕ → ℕ → Type 0 where
-  here : {Γ : List ℕ} {at : Standing} {p : Stmt} {n : ℕ}
+    : List ℕ → Standing → Stmt → Rule → ℕ → Type 0 where
+  here : {Γ : List ℕ} {at : Standing} {p : Stmt} {n : Rule}
       → BreaksS env below Γ at p n
       → BrokenS env below Γ at p n (root_s p)
-  operand : {Γ : List ℕ} {at : Standing} {p : Stmt} {x : Expr} {n j : ℕ}
+  operand : {Γ : List ℕ} {at : Standing} {p : Stmt} {x : Expr} {n : Rule} {j : ℕ}
       → Operand p x → BrokenE env.cells Γ x n j
       → BrokenS env below Γ at p n j
-  under : {Γ Δ : List ℕ} {at by : Standing} {p q : Stmt} {n j : ℕ}
+  under : {Γ Δ : List ℕ} {at by : Standing} {p q : Stmt} {n : Rule} {j : ℕ}
       → ChildS env Γ at p Δ by q → BrokenS env below Δ by q n j
       → BrokenS env below Γ at p n j
 
 -- `BrokenM env below ms n j`: in the modules ms, which stand after modules with the signatures
 -- `below`, frame j breaks rule n
-pub data BrokenM (env : Setting) : List Signature → List Part → ℕ → ℕ → Type 0 where
-  body : {below : List Signature} {m : Part} {ms : List Part} {n j : ℕ}
+pub data BrokenM (env : Setting) : List Signature → List Part → Rule → ℕ → Type 0 where
+  body : {below : List Signature} {m : Part} {ms : List Part} {n : Rule} {j : ℕ}
       → BrokenS env below m.types linked m.body n j
       → BrokenM env below (m ∷ ms) n j
-  later : {below : List Signature} {m : Part} {ms : List Part} {e : Effect} {b : Bool} {n j : ℕ}
+  later : {below : List Signature} {m : Part} {ms : List Part} {e : Effect} {b : Bool} {n : Rule}
+      {j : ℕ}
       → HasEffect env below m.types linked m.body e b
       → BrokenM env (below ++ (signature m e ∷ [])) ms n j
       → BrokenM env below (m ∷ ms) n j
   -- 11 'effect, .. at main': main is the last
   main : {below : List Signature} {m : Part} {e : Effect} {b : Bool}
       → HasEffect env below m.types linked m.body e b → within env.links home e ≡ false
-      → BrokenM env below (m ∷ []) wrong_effect m.frame
+      → BrokenM env below (m ∷ []) WrongEffect m.frame
 
 -- in the program, frame j breaks rule n
-abbrev pub Broken : Program → ℕ → ℕ → Type 0
+abbrev pub Broken : Program → Rule → ℕ → Type 0
 Broken file n j = BrokenM (setting_of file) [] file.modules n j
 
 -- rule n at frame j comes no later than rule m at frame k: 'First frame in file order; there, the
 -- smallest number.'
-abbrev pub NoLater : ℕ → ℕ → ℕ → ℕ → Type 0
-NoLater n j m k = (j < k) ⊎ ((j ≡ k) × (n ≤ m))
+abbrev pub NoLater : Rule → ℕ → Rule → ℕ → Type 0
+NoLater n j m k = (j < k) ⊎ ((j ≡ k) × (rule_number n ≤ rule_number m))
 
 -- rule n is broken at frame j, and nothing comes before it
-pub record FirstBroken (file : Program) (n j : ℕ) : Type 0 where
+pub record FirstBroken (file : Program) (n : Rule) (j : ℕ) : Type 0 where
   pub broken : Broken file n j
-  pub least : (m k : ℕ) → Broken file m k → NoLater n j m k
+  pub least : (m : Rule) (k : ℕ) → Broken file m k → NoLater n j m k
 
 -- what refusals 8 to 13 say of the program
 abbrev pub RulesSay : Program → Verdict → Type 0
 RulesSay file Accepted = Keeps file
-RulesSay file (Err r) = FirstBroken file r.number r.frame
+RulesSay file (Err r) = FirstBroken file r.rule r.frame

@@ -1,3 +1,4 @@
+pub mod Findings
 pub mod Checking
 pub mod NodeRules
 pub mod Standings

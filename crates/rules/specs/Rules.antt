@@ -123,7 +123,8 @@ pub data HasEffect (env : Setting) (below : List Signature)
   start_wait : {Γ : List ℕ} {i s : ℕ} {xs : List Expr} {e : Effect}
       → s < length below → HaveTypes env.cells Γ xs (signature_at below s).types e
       → AllPublic (signature_at below s).types
-      → HasEffect env below Γ linked (Stmt.start_wait i s xs) (e ∪ (signature_at below s).effect) false
+      → HasEffect env below Γ linked (Stmt.start_wait i s xs) (e ∪ (signature_at below s).effect)
+      false
   -- 15 cooperate; never while unlinked
   cooperate : {Γ : List ℕ} {i : ℕ} → HasEffect env below Γ linked (Stmt.cooperate i) no_effect false
   -- 16 let the next variable be A, in B
@@ -152,7 +153,8 @@ pub data HasEffect (env : Setting) (below : List Signature)
       true
   await : {Γ : List ℕ} {at : Standing} {i s : ℕ}
       → s < length env.events
-      → HasEffect env below Γ at (Stmt.await i s) (with_event (get_or env.events s 0) no_effect) true
+      → HasEffect env below Γ at (Stmt.await i s) (with_event (get_or env.events s 0) no_effect)
+      true
 
 -- `Modules env below ms`: in a file of that setting, after modules with the signatures `below`,
 -- the modules ms keep the rules; the last of them is main, and 'main has an effect within {2}'

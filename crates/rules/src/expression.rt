@@ -1,110 +1,118 @@
-// One function for each rule of expressions: what a node is found to be, from what its children
-// were found to be.
+//! One function for each rule of expressions: what a node is found to be, from what its children
+//! were found to be. In each, `frame` is the node's, and a child's fault comes before its own.
 ghost use Rattle.std.specs.Prelude.{◌≡◌, true};
 ghost use Rattle.language.specs.Places.{is_place};
 ghost use Rattle.language.specs.Types.{owner_of};
-ghost use Rattle.language.specs.Effects.{with_owner};
+ghost use Rattle.language.specs.Effects.{no_effect, with_owner};
+ghost use Rattle.rules.specs.Inner.Findings.{typed};
 ghost use Rattle.rules.specs.Inner.Checking.{named_rule, new_rule, content_rule};
 ghost use Rattle.rules.specs.Inner.Checking.{numbers_rule, choose_rule};
 ghost use Rattle.rules.specs.Inner.NodeRules.{leaf_rule, OwnerPlaced, cell_rule, made_by};
-ghost use Rattle.rules.specs.Inner.NodeRules.{both_typed};
-ghost use Rattle.rules.specs.declared.finding.Typing.TheVariants.{Typed};
 
-use crate::finding::{Typing, TypingPair};
+use crate::finding::{Typed, Typing, refused};
 use language::Place;
 use language::effect::Effect;
-use language::refusal::{ESCAPING, ILL_TYPED, UNBOUND};
+use language::refusal::Rule;
 use language::type_word::{NUMBER, TRUTH, cell_type, content_of, is_cell, is_public, owner_of};
 use program::node::{CellUse, Leaf, Operator};
 
-// 22 and 23: a variable or a shared cell, by its index in the types of those there are.
-fn named_rule(types: &[u16], s: u8, i: u16) -> Typing
-    ensures { result ≡ named_rule types.now s i }
+// What has that type, and accesses nothing.
+fn plain(type_word: u16) -> Typing
+    ensures { result ≡ typed type_word no_effect }
 {
-    let at = s as usize;
-    if at < types.len() {
-        Typing::Typed(types[at], Effect::none())
-    } else {
-        Typing::Untyped(UNBOUND, i)
+    Ok(Typed {
+        type_word,
+        effect: Effect::none(),
+    })
+}
+
+// 22 and 23: a variable or a shared cell, by its index in the types of those there are.
+#[tactic(auto, unfolding(crate::specs::Inner::Checking::named_rule))]
+fn named_rule(types: &[u16], name: u8, frame: u16) -> Typing
+    ensures { result ≡ named_rule types.now name frame }
+{
+    match types.get(usize::from(name)) {
+        Some(word) => plain(*word),
+        None => refused(Rule::Unbound, frame),
     }
 }
 
-// 20 to 23.
-pub fn leaf_rule(cells: &[u16], scope: &[u16], l: Leaf, i: u16) -> Typing
-    ensures { result ≡ leaf_rule cells.now scope.now l i }
+/// 20 to 23. Refused as unbound where there is no such variable or shared cell.
+pub fn leaf_rule(cells: &[u16], scope: &[u16], leaf: Leaf, frame: u16) -> Typing
+    ensures { result ≡ leaf_rule cells.now scope.now leaf frame }
 {
-    match l {
-        Leaf::Number(v) => Typing::Typed(NUMBER, Effect::none()),
-        Leaf::Truth(v) => Typing::Typed(TRUTH, Effect::none()),
-        Leaf::Variable(s) => named_rule(scope, s, i),
-        Leaf::SharedCell(s) => named_rule(cells, s, i),
+    match leaf {
+        Leaf::Number(_) => plain(NUMBER),
+        Leaf::Truth(_) => plain(TRUTH),
+        Leaf::Variable(name) => named_rule(scope, name, frame),
+        Leaf::SharedCell(name) => named_rule(cells, name, frame),
     }
 }
 
 // 24: an owner is a place, as the layout has it, since no other fits a type word.
-fn new_typed(owner: Place, i: u16, t: u16, e: Effect) -> Typing
+#[tactic(auto, using(crate::proofs::RuleLaws::read_laws), unfolding(crate::specs::Inner::Checking::new_rule))]
+fn new_rule(owner: Place, frame: u16, x: Typing) -> Typing
     requires { is_place owner.number ≡ true }
-    ensures { result ≡ new_rule owner.number i (Typed t e) }
+    ensures { result ≡ new_rule owner.number frame x }
 {
-    let Some(w) = cell_type(owner, t) else {
-        return Typing::Untyped(ILL_TYPED, i);
+    let x = x?;
+    let Some(type_word) = cell_type(owner, x.type_word) else {
+        return refused(Rule::IllTyped, frame);
     };
     if owner.is_private() {
-        return Typing::Typed(w, e);
+        return Ok(Typed {
+            type_word,
+            effect: x.effect,
+        });
     }
-    if is_public(t) {
-        return Typing::Typed(w, e.with_owner(owner));
+    if !is_public(x.type_word) {
+        return refused(Rule::Escaping, frame);
     }
-    Typing::Untyped(ESCAPING, i)
-}
-
-fn new_rule(owner: Place, i: u16, x: Typing) -> Typing
-    requires { is_place owner.number ≡ true }
-    ensures { result ≡ new_rule owner.number i x }
-{
-    match x {
-        Typing::Untyped(n, j) => Typing::Untyped(n, j),
-        Typing::Typed(t, e) => new_typed(owner, i, t, e),
-    }
+    Ok(Typed {
+        type_word,
+        effect: x.effect.with_owner(owner),
+    })
 }
 
 // The effect with the owner of a cell's type added.
-pub(crate) fn with_owner_of(e: Effect, t: u16) -> Effect
-    ensures { result ≡ with_owner (owner_of t) e }
+#[tactic(auto, using(crate::proofs::RuleLaws::owner_laws))]
+pub(crate) fn with_owner_of(effect: Effect, type_word: u16) -> Effect
+    ensures { result ≡ with_owner (owner_of type_word) effect }
 {
-    match owner_of(t) {
-        Some(owner) => e.with_owner(owner),
-        None => e,
+    match owner_of(type_word) {
+        Some(owner) => effect.with_owner(owner),
+        None => effect,
     }
 }
 
 // 25
-fn content_rule(i: u16, x: Typing) -> Typing
-    ensures { result ≡ content_rule i x }
+#[tactic(auto, unfolding(crate::specs::Inner::Checking::content_rule))]
+fn content_rule(frame: u16, x: Typing) -> Typing
+    ensures { result ≡ content_rule frame x }
 {
-    match x {
-        Typing::Untyped(n, j) => Typing::Untyped(n, j),
-        Typing::Typed(t, e) => {
-            if is_cell(t) {
-                return Typing::Typed(content_of(t), with_owner_of(e, t));
-            }
-            Typing::Untyped(ILL_TYPED, i)
-        }
+    let x = x?;
+    if !is_cell(x.type_word) {
+        return refused(Rule::IllTyped, frame);
+    }
+    Ok(Typed {
+        type_word: content_of(x.type_word),
+        effect: with_owner_of(x.effect, x.type_word),
+    })
+}
+
+/// 24 and 25, by what becomes of the value: ill typed where the new cell is too deep or what is
+/// read is no cell, escaping where a public cell is made around a private one.
+pub fn cell_rule(becomes: CellUse, frame: u16, x: Typing) -> Typing
+    requires { OwnerPlaced becomes }
+    ensures { result ≡ cell_rule becomes frame x }
+{
+    match becomes {
+        CellUse::Make(owner) => new_rule(owner, frame, x),
+        CellUse::Read => content_rule(frame, x),
     }
 }
 
-// 24 and 25, by what becomes of the value.
-pub fn cell_rule(u: CellUse, i: u16, x: Typing) -> Typing
-    requires { OwnerPlaced u }
-    ensures { result ≡ cell_rule u i x }
-{
-    match u {
-        CellUse::Make(owner) => new_rule(owner, i, x),
-        CellUse::Read => content_rule(i, x),
-    }
-}
-
-// The type of what an operator makes.
+/// The type of what an operator makes.
 pub fn made_by(op: Operator) -> u16
     ensures { result ≡ made_by op }
 {
@@ -114,58 +122,36 @@ pub fn made_by(op: Operator) -> u16
     }
 }
 
-// What two expressions are found to be together: the operands of 17, 26 and 27, the first two of
-// 28, and two arguments of a start.
-pub(crate) fn both_typed(x: Typing, y: Typing) -> TypingPair
-    ensures { result ≡ both_typed x y }
+/// 26 and 27: of two numbers, `made` is the type of what they make. Ill typed where one of the two
+/// is no number.
+#[tactic(auto, unfolding(crate::specs::Inner::Checking::numbers_rule))]
+pub fn numbers_rule(made: u16, frame: u16, x: Typing, y: Typing) -> Typing
+    ensures { result ≡ numbers_rule made frame x y }
 {
-    match x {
-        Typing::Untyped(n, j) => TypingPair::FirstFault(n, j),
-        Typing::Typed(t, e) => match y {
-            Typing::Untyped(n, j) => TypingPair::FirstFault(n, j),
-            Typing::Typed(u, f) => TypingPair::Both(t, u, e.joined(f)),
-        },
+    let x = x?;
+    let y = y?;
+    if x.type_word != NUMBER || y.type_word != NUMBER {
+        return refused(Rule::IllTyped, frame);
     }
+    Ok(Typed {
+        type_word: made,
+        effect: x.effect.joined(y.effect),
+    })
 }
 
-// 26 and 27: two numbers, and the type of what they make.
-pub fn numbers_rule(w: u16, i: u16, x: Typing, y: Typing) -> Typing
-    ensures { result ≡ numbers_rule w i x y }
+/// 28: ill typed but for a truth and two numbers.
+#[tactic(auto, unfolding(crate::specs::Inner::Checking::choose_rule))]
+pub fn choose_rule(frame: u16, x: Typing, y: Typing, z: Typing) -> Typing
+    ensures { result ≡ choose_rule frame x y z }
 {
-    match both_typed(x, y) {
-        TypingPair::FirstFault(n, j) => Typing::Untyped(n, j),
-        TypingPair::Both(t, u, e) => {
-            if t != NUMBER {
-                return Typing::Untyped(ILL_TYPED, i);
-            }
-            if u != NUMBER {
-                return Typing::Untyped(ILL_TYPED, i);
-            }
-            Typing::Typed(w, e)
-        }
+    let x = x?;
+    let y = y?;
+    let z = z?;
+    if x.type_word != TRUTH || y.type_word != NUMBER || z.type_word != NUMBER {
+        return refused(Rule::IllTyped, frame);
     }
-}
-
-// 28
-pub fn choose_rule(i: u16, x: Typing, y: Typing, z: Typing) -> Typing
-    ensures { result ≡ choose_rule i x y z }
-{
-    match both_typed(x, y) {
-        TypingPair::FirstFault(n, j) => Typing::Untyped(n, j),
-        TypingPair::Both(t, u, e) => match z {
-            Typing::Untyped(n, j) => Typing::Untyped(n, j),
-            Typing::Typed(v, g) => {
-                if t != TRUTH {
-                    return Typing::Untyped(ILL_TYPED, i);
-                }
-                if u != NUMBER {
-                    return Typing::Untyped(ILL_TYPED, i);
-                }
-                if v != NUMBER {
-                    return Typing::Untyped(ILL_TYPED, i);
-                }
-                Typing::Typed(NUMBER, e.joined(g))
-            }
-        },
-    }
+    Ok(Typed {
+        type_word: NUMBER,
+        effect: x.effect.joined(y.effect).joined(z.effect),
+    })
 }

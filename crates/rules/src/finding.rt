@@ -1,25 +1,33 @@
-// What the check of the rules finds of a part of a program. A fault is the number of a refusal and
-// the frame that it names: the first one in that part.
+//! What the check of the rules finds of a part of a program, or the first fault in that part.
+ghost use Rattle.std.specs.Prelude.{◌≡◌};
+ghost use Rattle.rules.specs.Inner.Findings.{fault};
+
 use language::effect::Effect;
+use language::refusal::{Refusal, Rule};
 
-// Of an expression: its type and its effect, or the first fault in it.
-#[derive(Clone, Copy)]
-pub enum Typing {
-    Typed(u16, Effect),
-    Untyped(u8, u16),
+/// Of an expression: its type, as a type word, and its effect.
+#[derive(Clone, Copy, Debug, PartialEq, Eq)]
+pub struct Typed {
+    pub type_word: u16,
+    pub effect: Effect,
 }
 
-// Of two expressions, the first before the second: their types and the effect of both, or the first
-// fault in them.
-#[derive(Clone, Copy)]
-pub(crate) enum TypingPair {
-    Both(u16, u16, Effect),
-    FirstFault(u8, u16),
+/// Of an expression, or the first fault in it.
+pub type Typing = Result<Typed, Refusal>;
+
+/// Of a statement: its effect, and whether it ends at once.
+#[derive(Clone, Copy, Debug, PartialEq, Eq)]
+pub struct Ending {
+    pub effect: Effect,
+    pub at_once: bool,
 }
 
-// Of a statement: its effect and whether it ends at once, or the first fault in it.
-#[derive(Clone, Copy)]
-pub enum StatementEffect {
-    Proper(Effect, bool),
-    Faulty(u8, u16),
+/// Of a statement, or the first fault in it.
+pub type StatementEffect = Result<Ending, Refusal>;
+
+/// Of whatever part: that frame breaks that rule.
+pub fn refused<T>(rule: Rule, frame: u16) -> Result<T, Refusal>
+    ensures { result ≡ fault rule frame }
+{
+    Err(Refusal { rule, frame })
 }

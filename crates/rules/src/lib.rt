@@ -1,4 +1,4 @@
-// The rules of types, effects and cooperation, refusals 8 to 13: one function for each rule.
+//! The rules of types, effects and cooperation, refusals 8 to 13: one function for each rule.
 #![tactic(auto)]
 
 pub mod expression;

@@ -1,178 +1,163 @@
-// One function for each rule of statements: what a node is found to be, from what its children were
-// found to be.
-ghost use Rattle.std.specs.Prelude.{◌≡◌, length};
-ghost use Rattle.language.specs.Limits.{most_schedulers};
+//! One function for each rule of statements: what a node is found to be, from what its children
+//! were found to be. In each, `frame` is the node's, and a child's fault comes before its own.
+ghost use Rattle.std.specs.Prelude.{◌≡◌};
 ghost use Rattle.language.specs.Effects.{no_effect, with_event};
 ghost use Rattle.language.specs.Inner.Labels.{within_in};
 ghost use Rattle.rules.specs.Inner.Checking.{cooperate_rule, seq_rule, do_rule, join_rule};
 ghost use Rattle.rules.specs.Inner.Checking.{store_rule, if_else_rule, while_rule, signal_rule};
 ghost use Rattle.rules.specs.Inner.Standings.{standing};
-ghost use Rattle.rules.specs.declared.finding.Typing.TheVariants.{Typed};
-ghost use Rattle.rules.specs.declared.finding.StatementEffect.TheVariants.{Proper};
 
-use crate::expression::{both_typed, with_owner_of};
-use crate::finding::{StatementEffect, Typing, TypingPair};
+use crate::expression::with_owner_of;
+use crate::finding::{Ending, StatementEffect, Typing, refused};
 use language::Place;
 use language::effect::Effect;
-use language::group::LABELS;
-use language::refusal::{ILL_TYPED, INSTANT_LOOP, UNBOUND, WHILE_UNLINKED, WRONG_EFFECT};
+use language::group::Labels;
+use language::refusal::Rule;
 use language::type_word::{TRUTH, content_of, is_cell};
-use program::event::EventFound;
 
-// 15
-pub fn cooperate_rule(linked: bool, i: u16) -> StatementEffect
-    ensures { result ≡ cooperate_rule (standing linked) i }
+/// 15: never while unlinked.
+#[tactic(auto, unfolding(crate::specs::Inner::Checking::cooperate_rule))]
+pub fn cooperate_rule(linked: bool, frame: u16) -> StatementEffect
+    ensures { result ≡ cooperate_rule (standing linked) frame }
 {
-    if linked {
-        return StatementEffect::Proper(Effect::none(), false);
+    if !linked {
+        return refused(Rule::WhileUnlinked, frame);
     }
-    StatementEffect::Faulty(WHILE_UNLINKED, i)
+    Ok(Ending {
+        effect: Effect::none(),
+        at_once: false,
+    })
 }
 
-// 11
+/// 11
+#[tactic(auto, unfolding(crate::specs::Inner::Checking::seq_rule))]
 pub fn seq_rule(x: StatementEffect, y: StatementEffect) -> StatementEffect
     ensures { result ≡ seq_rule x y }
 {
-    match x {
-        StatementEffect::Faulty(n, j) => StatementEffect::Faulty(n, j),
-        StatementEffect::Proper(e, a) => match y {
-            StatementEffect::Faulty(n, j) => StatementEffect::Faulty(n, j),
-            StatementEffect::Proper(f, b) => {
-                if a {
-                    return StatementEffect::Proper(e.joined(f), b);
-                }
-                StatementEffect::Proper(e.joined(f), false)
-            }
-        },
-    }
+    let x = x?;
+    let y = y?;
+    Ok(Ending {
+        effect: x.effect.joined(y.effect),
+        at_once: x.at_once && y.at_once,
+    })
 }
 
-// 12
+/// 12: a wrong effect where the place does not allow the body's; at a private place never while
+/// unlinked.
+#[tactic(auto, unfolding(crate::specs::Inner::Checking::do_rule))]
 pub fn do_rule(
-    labels: &[u8; LABELS],
+    labels: &Labels,
     linked: bool,
-    s: Place,
-    i: u16,
+    place: Place,
+    frame: u16,
     x: StatementEffect,
 ) -> StatementEffect
-    requires { length labels.now ≡ most_schedulers }
     ensures { result
-        ≡ do_rule (within_in labels.now) (standing linked) s.number i x }
+        ≡ do_rule (within_in labels.now) (standing linked) place.number frame x }
 {
-    match x {
-        StatementEffect::Faulty(n, j) => StatementEffect::Faulty(n, j),
-        StatementEffect::Proper(e, a) => {
-            if !e.within(labels, s) {
-                return StatementEffect::Faulty(WRONG_EFFECT, i);
-            }
-            if linked {
-                return StatementEffect::Proper(Effect::none(), a);
-            }
-            if s.is_private() {
-                return StatementEffect::Faulty(WHILE_UNLINKED, i);
-            }
-            StatementEffect::Proper(Effect::none(), a)
-        }
+    let x = x?;
+    if !x.effect.within(labels, place) {
+        return refused(Rule::WrongEffect, frame);
     }
+    if !linked && place.is_private() {
+        return refused(Rule::WhileUnlinked, frame);
+    }
+    Ok(Ending {
+        effect: Effect::none(),
+        at_once: x.at_once,
+    })
 }
 
-// 16: the effect of what the variable is, joined to the body's.
-pub fn join_rule(e: Effect, x: StatementEffect) -> StatementEffect
-    ensures { result ≡ join_rule e x }
+/// 16: the effect of what the variable is, joined to the body's.
+#[tactic(auto, unfolding(crate::specs::Inner::Checking::join_rule))]
+pub fn join_rule(effect: Effect, x: StatementEffect) -> StatementEffect
+    ensures { result ≡ join_rule effect x }
 {
-    match x {
-        StatementEffect::Faulty(n, j) => StatementEffect::Faulty(n, j),
-        StatementEffect::Proper(f, b) => StatementEffect::Proper(e.joined(f), b),
-    }
+    let x = x?;
+    Ok(Ending {
+        effect: effect.joined(x.effect),
+        at_once: x.at_once,
+    })
 }
 
-// 17
-pub fn store_rule(i: u16, x: Typing, y: Typing) -> StatementEffect
-    ensures { result ≡ store_rule i x y }
+/// 17: ill typed but for a cell and what has the type of its content.
+#[tactic(auto, unfolding(crate::specs::Inner::Checking::store_rule))]
+pub fn store_rule(frame: u16, x: Typing, y: Typing) -> StatementEffect
+    ensures { result ≡ store_rule frame x y }
 {
-    match both_typed(x, y) {
-        TypingPair::FirstFault(n, j) => StatementEffect::Faulty(n, j),
-        TypingPair::Both(t, u, e) => {
-            if !is_cell(t) {
-                return StatementEffect::Faulty(ILL_TYPED, i);
-            }
-            if u != content_of(t) {
-                return StatementEffect::Faulty(ILL_TYPED, i);
-            }
-            StatementEffect::Proper(with_owner_of(e, t), true)
-        }
+    let x = x?;
+    let y = y?;
+    if !is_cell(x.type_word) || y.type_word != content_of(x.type_word) {
+        return refused(Rule::IllTyped, frame);
     }
+    Ok(Ending {
+        effect: with_owner_of(x.effect.joined(y.effect), x.type_word),
+        at_once: true,
+    })
 }
 
-// 18
-fn if_typed(i: u16, t: u16, e: Effect, f: Effect, a: bool, g: Effect, b: bool) -> StatementEffect
-    ensures { result ≡ if_else_rule i (Typed t e) (Proper f a) (Proper g b) }
+/// 18: ill typed where the condition is no truth.
+#[tactic(auto, unfolding(crate::specs::Inner::Checking::if_else_rule))]
+pub fn if_else_rule(
+    frame: u16,
+    x: Typing,
+    y: StatementEffect,
+    z: StatementEffect,
+) -> StatementEffect
+    ensures { result ≡ if_else_rule frame x y z }
 {
-    if t != TRUTH {
-        return StatementEffect::Faulty(ILL_TYPED, i);
+    let x = x?;
+    let y = y?;
+    let z = z?;
+    if x.type_word != TRUTH {
+        return refused(Rule::IllTyped, frame);
     }
-    if a {
-        return StatementEffect::Proper(e.joined(f).joined(g), true);
-    }
-    StatementEffect::Proper(e.joined(f).joined(g), b)
+    Ok(Ending {
+        effect: x.effect.joined(y.effect).joined(z.effect),
+        at_once: y.at_once || z.at_once,
+    })
 }
 
-pub fn if_else_rule(i: u16, x: Typing, y: StatementEffect, z: StatementEffect) -> StatementEffect
-    ensures { result ≡ if_else_rule i x y z }
+/// 19: ill typed where the condition is no truth; an instant loop where the body can end at once.
+#[tactic(auto, unfolding(crate::specs::Inner::Checking::while_rule))]
+pub fn while_rule(frame: u16, x: Typing, y: StatementEffect) -> StatementEffect
+    ensures { result ≡ while_rule frame x y }
 {
-    match x {
-        Typing::Untyped(n, j) => StatementEffect::Faulty(n, j),
-        Typing::Typed(t, e) => match y {
-            StatementEffect::Faulty(n, j) => StatementEffect::Faulty(n, j),
-            StatementEffect::Proper(f, a) => match z {
-                StatementEffect::Faulty(n, j) => StatementEffect::Faulty(n, j),
-                StatementEffect::Proper(g, b) => if_typed(i, t, e, f, a, g, b),
-            },
-        },
+    let x = x?;
+    let y = y?;
+    if x.type_word != TRUTH {
+        return refused(Rule::IllTyped, frame);
     }
-}
-
-// 19
-fn while_typed(i: u16, t: u16, e: Effect, f: Effect, b: bool) -> StatementEffect
-    ensures { result ≡ while_rule i (Typed t e) (Proper f b) }
-{
-    if t != TRUTH {
-        return StatementEffect::Faulty(ILL_TYPED, i);
+    if y.at_once {
+        return refused(Rule::InstantLoop, frame);
     }
-    if b {
-        return StatementEffect::Faulty(INSTANT_LOOP, i);
-    }
-    StatementEffect::Proper(e.joined(f), true)
-}
-
-pub fn while_rule(i: u16, x: Typing, y: StatementEffect) -> StatementEffect
-    ensures { result ≡ while_rule i x y }
-{
-    match x {
-        Typing::Untyped(n, j) => StatementEffect::Faulty(n, j),
-        Typing::Typed(t, e) => match y {
-            StatementEffect::Faulty(n, j) => StatementEffect::Faulty(n, j),
-            StatementEffect::Proper(f, b) => while_typed(i, t, e, f, b),
-        },
-    }
+    Ok(Ending {
+        effect: x.effect.joined(y.effect),
+        at_once: true,
+    })
 }
 
 // The effect of what is done with an event of that owner. In a laid-out file it is a scheduler.
+#[tactic(auto, using(crate::proofs::RuleLaws::event_laws))]
 fn event_effect(owner: u8) -> Effect
     ensures { result ≡ with_event owner no_effect }
 {
     match Place::scheduler(u64::from(owner)) {
-        Some(p) => Effect::none().with_event(p),
+        Some(place) => Effect::none().with_event(place),
         None => Effect::none(),
     }
 }
 
-// 1A and 1B, by what was found of the event.
-pub fn signal_rule(event: EventFound, i: u16) -> StatementEffect
-    ensures { result ≡ signal_rule event.there event.owner i }
+/// 1A and 1B, by the event's owner: unbound where the file has no such event.
+#[tactic(auto, unfolding(crate::specs::Inner::Checking::signal_rule))]
+pub fn signal_rule(owner: Option<u8>, frame: u16) -> StatementEffect
+    ensures { result ≡ signal_rule owner frame }
 {
-    if !event.there {
-        return StatementEffect::Faulty(UNBOUND, i);
-    }
-    StatementEffect::Proper(event_effect(event.owner), true)
+    let Some(owner) = owner else {
+        return refused(Rule::Unbound, frame);
+    };
+    Ok(Ending {
+        effect: event_effect(owner),
+        at_once: true,
+    })
 }

@@ -10,8 +10,7 @@ use lib.Seq.{paste, length-take-le}
 use Rattle.program.specs.Programs.{Program}
 use Rattle.machine.specs.Runs.{state_after}
 use Rattle.machine.specs.Words.{pack}
-use Rattle.stepper.specs.declared.answer.Answer.{Answer}
-use Rattle.stepper.specs.declared.answer.Answer.TheVariants as A
+use Rattle.stepper.specs.Answers.{Answer, done}
 use Rattle.stepper.specs.declared.file.File.{File}
 use Rattle.stepper.specs.Inner.Files.{file_of}
 use Rattle.listing.specs.Listing.{used_of, last_line, run_lines}
@@ -51,7 +50,7 @@ module _ (p : Program) (cs : List ℕ) (file : File) (n k : ℕ) (e : file ≡ f
   pub listed_run : (v out o line new : List ℕ) → v ≡ pack (state_after p (take k cs))
       → o ≡ written out 8 (step_lines p (take k cs)) → line ≡ last_line k
       → new ≡ paste o (8 + 19 * k) line (length line) → length out ≡ 311309
-      → listing_result (A.Done 0 0) (13 + 19 * k) k v new
+      → listing_result (done 0 0) (13 + 19 * k) k v new
       ≡ listed_after (final_state p cs) (run_lines p cs) out
   unfolding final_state
   listed_run v out o line new a b d f room =

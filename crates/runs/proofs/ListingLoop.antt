@@ -21,7 +21,7 @@ use Rattle.machine.proofs.CallRuns.{as_called}
 use Rattle.machine.proofs.KeptShape.{reached_shaped}
 use Rattle.stepper.specs.declared.file.File.{File}
 use Rattle.stepper.specs.declared.party.StepAnswer.{StepAnswer}
-use Rattle.stepper.specs.Inner.Files.{FileWords, StepWords, file_of, stepped_on}
+use Rattle.stepper.specs.Inner.Files.{FileWords, StepWords, file_of, stepped_on, step_number}
 use Rattle.stepper.proofs.GoodWords.{fits_words}
 use Rattle.listing.specs.Listing.{Choices, choices, malformed, choices_from, choice_line_of}
 use Rattle.listing.specs.Listing.{choice_line, choice_lines}
@@ -170,11 +170,11 @@ module _ (frames : List ℕ) (file : File) (bytes : List ℕ) (n : ℕ) (old w b
         let q : get_or v 1 0 ≡ length (state_after P (take (k + 1) cs)).cells = ap (λ (x : List ℕ). get_or x 1 0) beyond ∙ (says_pack (state_after P (take (k + 1) cs))).cells in
         omega arith
 
-    module _ (line new : List ℕ) (y : line ≡ choice_line_of c s.answer s.thread (get_or v 1 0) s.accesses) (o : new ≡ paste out (8 + 19 * k) line (length line)) where
+    module _ (b q : ℕ) (d : c ≡ b) (u : q ≡ step_number s.refusal) (line new : List ℕ) (y : line ≡ choice_line_of b q s.thread (get_or v 1 0) s.accesses) (o : new ≡ paste out (8 + 19 * k) line (length line)) where
       line_is : line ≡ choice_line (get_or cs k 0) next
       unfolding choice_line
       line_is =
-          y ∙ ap (λ (i : ℕ). choice_line_of i s.answer s.thread (get_or v 1 0) s.accesses) choice_is
+          y ∙ ap₂ (λ (i j : ℕ). choice_line_of i j s.thread (get_or v 1 0) s.accesses) (sym d ∙ choice_is) u
           ∙ ap (λ (x : CallResult). choice_line_of (get_or cs k 0) x.answer x.thread (get_or v 1 0) x.accesses) called
           ∙ ap (λ (i : ℕ). choice_line_of (get_or cs k 0) next.answer next.thread i (access_count next)) cells_in
 

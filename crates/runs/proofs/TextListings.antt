@@ -27,10 +27,10 @@ use Rattle.checker.specs.Verdict.{verdict}
 use Rattle.checker.specs.Inner.Frames.{FileIn}
 use Rattle.checker.proofs.CheckLaws.{check_rejected, check_rules}
 use Rattle.reach.proofs.Passed.{some_frame}
-use Rattle.stepper.specs.declared.answer.Answer.{Answer}
-use Rattle.stepper.specs.declared.answer.Answer.TheVariants as A
+use Rattle.language.specs.declared.refusal.Rule.TheVariants.{WrongState}
+use Rattle.stepper.specs.Answers.{Answer, done, rejected, refused}
 use Rattle.stepper.specs.Inner.Files.{FileWords}
-use Rattle.listing.specs.Listing.{refusal_line, check_line, stops, choices_listing, run_listing}
+use Rattle.listing.specs.Listing.{check_line, stops, choices_listing, run_listing}
 use Rattle.runs.specs.Listings.{FinalState}
 use Rattle.runs.specs.Listings.{not_run, choices_run, text_run, ListingResult, listing_result}
 use Rattle.runs.specs.Listings.{with_buffers, written, listing_of, whole_listing, no_listing}
@@ -72,28 +72,28 @@ module _ (frames : List ℕ) (g : FileWords frames) (v : Verdict) (e : v ≡ rul
       ≡ listed_after (choices_run (program_of (frames_of frames)) w bytes)
       (choices_listing (program_of (frames_of frames)) bytes) o
       → with_buffers x u new
-      ≡ whole_listing (A.Done 0 0) (rules_of (program_of (frames_of frames)))
+      ≡ whole_listing (done 0 0) (rules_of (program_of (frames_of frames)))
       (frames_of frames) bytes w out
   listed_frames w bytes u new x h =
       let s = goes_on (rules_of (program_of fs)) fs w bytes (rules_run fs (some_frame g.laid_out) g.laid_out) in
       h ∙ ap (listed_after (choices_run (program_of fs) w bytes) (choices_listing (program_of fs) bytes)) start
       ∙ listed_path (let l = length-append (check_line (rules_of (program_of fs))) (choices_listing (program_of fs) bytes) in omega arith) refl refl (written_more out 0 (check_line (rules_of (program_of fs))) (choices_listing (program_of fs) bytes) (omega arith))
-      ∙ ap₂ (λ (y : FinalState) (z : List ℕ). listing_of (A.Done 0 0) y z out) (sym s.0)
+      ∙ ap₂ (λ (y : FinalState) (z : List ℕ). listing_of (done 0 0) y z out) (sym s.0)
       (sym s.1)
     where
       start : o ≡ written out 0 (check_line (rules_of (program_of (frames_of frames))))
       start = written_put out 0 line o b ∙ ap (written out 0) (a ∙ ap check_line e)
 
 -- ---- the whole: by what 1 to 7 say of the text
-module _ (n j : ℕ) (out : List ℕ) where
+module _ (d : Refusal) (out : List ℕ) where
   pub rejected_no_listing : (length out ≡ 311309 → ⊥)
-      → no_listing (A.Rejected n j) [] out ≡ listed_rejected n j [] out
+      → no_listing (rejected d.rule d.frame) [] out ≡ listed_rejected d [] out
   unfolding listed_rejected
   rejected_no_listing f = sym (if_no _ _ (ne_eqb (length out) 311309 f))
 
-  pub rejected_listed : (line new : List ℕ) → line ≡ refusal_line n j
+  pub rejected_listed : (line new : List ℕ) → line ≡ check_line (Err d)
       → new ≡ paste out 0 line (length line) → length out ≡ 311309
-      → listing_result (A.Rejected n j) 8 0 [] new ≡ listed_rejected n j [] out
+      → listing_result (rejected d.rule d.frame) 8 0 [] new ≡ listed_rejected d [] out
   unfolding listed_rejected
   rejected_listed line new a b room =
       listed_path refl refl refl (written_put out 0 line new b ∙ ap (written out 0) a)
@@ -110,8 +110,9 @@ module _ (n j : ℕ) (out : List ℕ) where
     either true x y = refl
     either false x y = refl
 
-    with_state_lem : (x : ListingAnswer) (new : List ℕ) → with_buffers x [] new ≡ listed_rejected n j [] out
-        → with_buffers x w new ≡ listed_rejected n j w out
+    with_state_lem : (x : ListingAnswer) (new : List ℕ)
+        → with_buffers x [] new ≡ listed_rejected d [] out
+        → with_buffers x w new ≡ listed_rejected d w out
     unfolding listed_rejected
     with_state_lem x new k = ap with_state k ∙ either (eqb (length out) 311309) _ _
 
@@ -131,27 +132,27 @@ module _ (bs bytes w out : List ℕ) (l : Laid) (ws : List ℕ) (e : laid_as l w
 
   module _ (d : Refusal) (z : l ≡ Err d) where
     abbrev refusal : Answer
-    refusal = A.Rejected d.number d.frame
+    refusal = rejected d.rule d.frame
 
-    refused : Rejected d.number d.frame ≡ layout_verdict bs
-    refused = verdict_rejected bs l ws e d z
+    is_rejected : Rejected d.rule d.frame ≡ layout_verdict bs
+    is_rejected = verdict_rejected bs l ws e d z
 
-    whole_rejected : listing_of refusal (not_run w) (refusal_line d.number d.frame) out ≡ whole refusal
+    whole_rejected : listing_of refusal (not_run w) (check_line (Err d)) out ≡ whole refusal
     whole_rejected =
-        let s = ends (Rejected d.number d.frame) (text_frames bs) w bytes (layout_stops bs d.number d.frame (sym refused)) in
+        let s = ends (Rejected d.rule d.frame) (text_frames bs) w bytes (layout_stops bs d.rule d.frame (sym is_rejected)) in
         ap₂ (λ (y : FinalState) (t : List ℕ). listing_of refusal y t out) (sym s.0) (sym s.1)
         ∙ ap (λ (x : Verdict). whole_listing refusal x (text_frames bs) bytes w out)
         (check_rejected bs l ws e d z)
 
-    rejected_is : listed_rejected d.number d.frame w out ≡ list_text bs bytes w out
+    rejected_is : listed_rejected d w out ≡ list_text bs bytes w out
     unfolding listed_rejected
     rejected_is =
-        ap (λ (x : ListingResult). when eqb (length out) 311309 then x else no_listing (A.Rejected d.number d.frame) w out) whole_rejected
-        ∙ by_layout (Rejected d.number d.frame) refused
+        ap (λ (x : ListingResult). when eqb (length out) 311309 then x else no_listing (rejected d.rule d.frame) w out) whole_rejected
+        ∙ by_layout (Rejected d.rule d.frame) is_rejected
 
-    pub list_rejected : (x : ListingAnswer) (new : List ℕ) → with_buffers x [] new ≡ listed_rejected d.number d.frame [] out
+    pub list_rejected : (x : ListingAnswer) (new : List ℕ) → with_buffers x [] new ≡ listed_rejected d [] out
         → with_buffers x w new ≡ list_text bs bytes w out
-    list_rejected x new k = with_state_lem d.number d.frame out w x new k ∙ rejected_is
+    list_rejected x new k = with_state_lem d out w x new k ∙ rejected_is
 
   module _ (n : ℕ) (a : l ≡ Lines n) where
     frames_are : frames_of (take n ws) ≡ text_frames bs
@@ -163,26 +164,41 @@ module _ (bs bytes w out : List ℕ) (l : Laid) (ws : List ℕ) (e : laid_as l w
     laid_out : by_verdict LaidOut ≡ list_text bs bytes w out
     laid_out = by_layout LaidOut (verdict_lines bs l ws e n a)
 
-    pub list_short_state : (length w ≡ 4834 → ⊥)
-        → no_listing (A.Refused 14 0) w out ≡ list_text bs bytes w out
-    list_short_state f =
-        sym (if_no _ _ (ap (λ (b : Bool). b && eqb (length out) 311309) (ne_eqb (length w) 4834 f)))
+    -- where nothing is printed, both buffers stay, whichever are lent
+    with_both : (x : ListingAnswer)
+        → with_buffers x [] [] ≡ no_listing (refused WrongState 0) [] []
+        → with_buffers x w out ≡ no_listing (refused WrongState 0) w out
+    with_both x k =
+        ap (λ (y : ListingResult). listing_result y.answer y.size y.used w out) k
+
+    pub list_short_state : (length w ≡ 4834 → ⊥) → (x : ListingAnswer)
+        → with_buffers x [] [] ≡ no_listing (refused WrongState 0) [] []
+        → with_buffers x w out ≡ list_text bs bytes w out
+    list_short_state f x k =
+        with_both x k
+        ∙ sym (if_no _ _ (ap (λ (b : Bool). b && eqb (length out) 311309) (ne_eqb (length w) 4834 f)))
         ∙ laid_out
 
-    pub list_short_out : (length out ≡ 311309 → ⊥)
-        → no_listing (A.Refused 14 0) w out ≡ list_text bs bytes w out
-    list_short_out f =
-        sym (if_no _ _ (ap (λ (b : Bool). eqb (length w) 4834 && b) (ne_eqb (length out) 311309 f) ∙ and_off (eqb (length w) 4834)))
+    pub list_short_out : (length out ≡ 311309 → ⊥) → (x : ListingAnswer) (v : List ℕ) → v ≡ w
+        → with_buffers x [] [] ≡ no_listing (refused WrongState 0) [] []
+        → with_buffers x v out ≡ list_text bs bytes w out
+    list_short_out f x v e k =
+        ap (λ (y : List ℕ). with_buffers x y out) e
+        ∙ with_both x k
+        ∙ sym (if_no _ _ (ap (λ (b : Bool). eqb (length w) 4834 && b) (ne_eqb (length out) 311309 f) ∙ and_off (eqb (length w) 4834)))
         ∙ laid_out
 
     pub list_laid_out : length w ≡ 4834 → length out ≡ 311309
-        → (u new : List ℕ) (x : ListingAnswer)
+        → (v o u new : List ℕ) (x : ListingAnswer) → v ≡ w → o ≡ out
         → with_buffers x u new
-        ≡ whole_listing (A.Done 0 0) (rules_of (program_of (frames_of (take n ws))))
-        (frames_of (take n ws)) bytes w out
+        ≡ whole_listing (done 0 0) (rules_of (program_of (frames_of (take n ws))))
+        (frames_of (take n ws)) bytes v o
         → with_buffers x u new ≡ list_text bs bytes w out
-    list_laid_out size room u new x k =
-        k ∙ ap₂ (λ (y : Verdict) (fs : List Frame). whole_listing (A.Done 0 0) y fs bytes w out)
+    list_laid_out size room v o u new x e f k =
+        k
+        ∙ ap₂ (λ (y z : List ℕ). whole_listing (done 0 0) (rules_of (program_of (frames_of (take n ws)))) (frames_of (take n ws)) bytes y z)
+        e f
+        ∙ ap₂ (λ (y : Verdict) (fs : List Frame). whole_listing (done 0 0) y fs bytes w out)
         rules_are frames_are
         ∙ sym (if_yes _ _ (ap₂ (λ (b c : Bool). b && c) (eq-eqb (length w) 4834 size) (eq-eqb (length out) 311309 room)))
         ∙ laid_out

@@ -4,19 +4,19 @@ use Rattle.std.specs.Prelude.{◌&&◌}
 use Rattle.basics.specs.Prelude.{List, Bool, true, false, ℕ, ltb, eqb, length, take, paste}
 use Rattle.basics.specs.Prelude.{when◌then◌else◌}
 use Rattle.language.specs.{declared.frame.Frame.Frame, Verdicts.Verdict}
-use Rattle.language.specs.{Limits.most_choice_bytes, Limits.most_listing_bytes, Refusals.wrong_state}
+use Rattle.language.specs.{Limits.most_choice_bytes, Limits.most_listing_bytes}
+use Rattle.language.specs.declared.refusal.Rule.TheVariants.{WrongState}
 use Rattle.text.specs.Frames.{text_frames}
 use Rattle.program.specs.Programs.{Program, program_of}
 use Rattle.layout.specs.Verdicts.{LayoutVerdict}
-use Rattle.layout.specs.Verdicts.{LaidOut, Rejected}
+use Rattle.layout.specs.Verdicts.{LaidOut}
 use Rattle.layout.specs.Inner.Layouts.{layout_verdict}
 use Rattle.checker.specs.Verdict.{verdict}
 use Rattle.machine.specs.{Offsets.state_length, Runs.state_after, Words.pack}
-use Rattle.stepper.specs.declared.answer.Answer.{Answer}
+use Rattle.stepper.specs.Answers.{Answer, done, rejected, refused}
 use Rattle.listing.specs.Listing.{stops, Choices, choices, malformed, choices_from, run_listing}
 use Rattle.listing.specs.Listing.{used_of}
 use Rattle.runs.specs.declared.printing.ListingAnswer.{ListingAnswer}
-use Rattle.stepper.specs.declared.answer.Answer.TheVariants as A
 
 -- ---- what a run comes to
 
@@ -89,9 +89,9 @@ no_listing a w out = listing_result a 0 0 w out
 -- whether the buffers have the lengths that the listing needs: the text's refusal 1 to 7; else 14,
 -- 'after 1 to 7 .. a lent buffer of the wrong length'; else it is done
 abbrev pub answer_for : LayoutVerdict → Bool → Answer
-answer_for (Err r) fit = A.Rejected r.number r.frame
-answer_for LaidOut false = A.Refused wrong_state 0
-answer_for LaidOut true = A.Done 0 0
+answer_for (Err r) fit = rejected r.rule r.frame
+answer_for LaidOut false = refused WrongState 0
+answer_for LaidOut true = done 0 0
 
 -- a listing that stops after 1 to 7 needs no state; any other needs one of its length. The longest
 -- listing has 8 + 19 * 16,384 + 5 bytes

@@ -1,4 +1,4 @@
-// A run: a list of choices from the fresh state on, and what it prints.
+//! A run: a list of choices from the fresh state on, and what it prints.
 #![tactic(auto)]
 
 mod lines;

@@ -1,4 +1,4 @@
-// The lines of a run, gathered in the buffer after the check's line.
+//! The lines of a run, gathered in the buffer after the check's line.
 ghost use Rattle.std.specs.Prelude.{◌≡◌, ◌+◌, ◌*◌, ◌≤◌, length, take};
 ghost use Rattle.text.specs.Frames.{frames_of};
 ghost use Rattle.program.specs.Programs.{program_of};
@@ -12,21 +12,21 @@ use language::limit::{CHECK_LINE, CHOICE_LINE};
 use listing::buffer::put;
 use listing::choices::choice_at;
 use listing::line::choice_line;
-use machine::offset::CELL_COUNT_AT;
+use machine::offset::{CELL_COUNT_AT, State};
 use stepper::file::File;
 use stepper::valid::step_valid;
 
-// The first n choices of choices.txt, from the fresh state on, and a line for each; its cells in
-// use are those after the step.
+/// Steps the first n choices of choices.txt, from the fresh state on, and writes a line for each;
+/// its cells in use are those after the step.
 pub(crate) fn step_lines(
     frames: &[u64],
-    file: File,
+    file: &File,
     bytes: &[u8],
     n: usize,
-    state: &mut [u64],
+    state: &mut State,
     out: &mut [u8],
 )
-    requires { RunStart frames.now file state.old × (n ≤ length (choices_of bytes.now))
+    requires { RunStart frames.now file.now state.old × (n ≤ length (choices_of bytes.now))
         × (check_length + choice_length * n ≤ length out.old) }
     ensures words { state.new
         ≡ pack (state_after (program_of (frames_of frames.now)) (take n (choices_of bytes.now))) }
@@ -36,9 +36,9 @@ pub(crate) fn step_lines(
 {
     for k in 0..n {
         let c = choice_at(bytes, k);
-        let s = step_valid(frames, file, state, c as u64);
+        let s = step_valid(frames, file, state, u64::from(c));
         let cells = state[CELL_COUNT_AT] as u16;
-        let line = choice_line(c, s.answer, s.thread, cells, s.accesses);
+        let line = choice_line(c, s.number(), s.thread, cells, s.accesses);
         put(out, CHECK_LINE + CHOICE_LINE * k, &line);
     }
 }

@@ -1,2 +1,2 @@
-// The starred bench samples of document 01 as one table. No code.
+//! The starred bench samples of document 01 as one table. No code.
 #![tactic(auto)]

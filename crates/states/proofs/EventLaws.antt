@@ -2,7 +2,6 @@
 -- nothing.
 use Prim.Native.Nat.{ℕ, zero, suc, ◌+◌, ◌-◌, ◌<◌, ◌≤◌}
 use Prim.Native.Nat.{◌*◌}
-use Prim.Native.Nat.{◌%◌}
 use mathlib.Core.Path.{◌≡◌, refl, sym, ap, ap₂, ◌∙◌}
 use mathlib.Core.List.{List, [], ◌∷◌}
 use mathlib.Core.Bool.{Bool, true, false, not, ◌&&◌}
@@ -28,7 +27,6 @@ use Rattle.text.specs.Frames.{frame_of_word, frames_of}
 use Rattle.text.proofs.FrameWords.{next_frame, frames_end}
 use Rattle.language.specs.declared.frame.Frame.{Frame}
 use Rattle.program.specs.Programs.{events_of}
-use Rattle.program.specs.Trees.{frame_at}
 
 -- ---- as the code computes them
 module _ (labels : List ℕ) (p o : ℕ) (w : List ℕ) (e : ℕ) where
@@ -335,3 +333,6 @@ present_says e w s h l = ap (λ (n : ℕ). eqb n 1) (h.event e l) ∙ by (is_pre
     by : (b : Bool) → eqb (bit b) 1 ≡ b
     by true = refl
     by false = refl
+
+-- `clear_event`
+pub ruleset clear_laws = (absent_stays, other_stays, own_cleared)

@@ -169,28 +169,25 @@ abbrev bare_in : List ℕ → State
 bare_in words =
     bare ((program_of (frames_of words)).schedulers - 1) (length (program_of (frames_of words)).events)
 
--- w₀ the lent words, w₁ cleared, w₂ with the shared cells, w₃ with main's thread
-pub fresh_words : (words w₀ w₁ w₂ w₃ : List ℕ) (b : ℕ) (th : ThreadWords)
-    → w₁ ≡ replicate (length w₀) 0
+-- w₁ the lent words cleared, w₂ with the shared cells, w₃ with main's thread
+pub fresh_words : (words w₁ w₂ w₃ : List ℕ) (b : ℕ) (th : ThreadWords)
+    → w₁ ≡ replicate 4834 0
     → w₂ ≡ set (with_shared w₁ (shared_of (frames_of words))) 1 (length (shared_of (frames_of words)))
     → b ≡ root_s (main_of (program_of (frames_of words))).body → th ≡ main_words b
-    → w₃ ≡ with_one_more w₂ th → length w₀ ≡ 4834
+    → w₃ ≡ with_one_more w₂ th
     → set (set w₃ 2 1) 3 1 ≡ pack (fresh (program_of (frames_of words)))
 unfolding fresh program_of
-fresh_words words w₀ w₁ w₂ w₃ b th e₁ e₂ eb et e₃ l =
+fresh_words words w₁ w₂ w₃ b th e₁ e₂ eb et e₃ =
     is_pack (set (set w₃ 2 1) 3 1) (fresh (program_in words)) with_home
   where
-    zeros : w₁ ≡ replicate 4834 0
-    zeros = e₁ ∙ ap (λ (k : ℕ). replicate k 0) l
-
     cells : w₂ ≡ set (pasted w₁ 4578 (cell_words (cells_in words)) 256) 1 (length (cells_in words))
     cells =
         e₂
-        ∙ ap₂ (λ (u : List ℕ) (k : ℕ). set u 1 k) (all_cells w₁ (shared_in words) zeros)
+        ∙ ap₂ (λ (u : List ℕ) (k : ℕ). set u 1 k) (all_cells w₁ (shared_in words) e₁)
         (sym (length-map (shared_in words) first_cell))
 
     with_cells_lem : Says w₂ (with_cells (cells_in words) (bare_in words))
-    with_cells_lem = subst (λ (u : List ℕ). Says u (with_cells (cells_in words) (bare_in words))) (sym cells) (put_cells w₁ (bare_in words) (zeros_say w₁ ((program_in words).schedulers - 1) (length (program_in words).events) zeros) (cells_in words))
+    with_cells_lem = subst (λ (u : List ℕ). Says u (with_cells (cells_in words) (bare_in words))) (sym cells) (put_cells w₁ (bare_in words) (zeros_say w₁ ((program_in words).schedulers - 1) (length (program_in words).events) e₁) (cells_in words))
 
     with_main : Says w₃ (with_new (main_thread (program_in words)) (with_cells (cells_in words) (bare_in words)))
     with_main = subst (λ (u : List ℕ). Says u (with_new (main_thread (program_in words)) (with_cells (cells_in words) (bare_in words))))

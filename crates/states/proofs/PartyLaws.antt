@@ -1,53 +1,36 @@
--- Whether a choice names an unlinked thread: one law for each return of the code, and the test on
+-- Whether a choice names an unlinked thread: the test as the code makes it, and that the test on
 -- words is `is_unlinked` of the state that they say. Assumes nothing.
-use Prim.Native.Nat.{ℕ, suc, ◌+◌, ◌-◌, ◌*◌, ◌<◌, ◌≤◌}
+use Prim.Native.Nat.{ℕ, suc, ◌+◌, ◌-◌, ◌*◌, ◌≤◌}
 use mathlib.Core.Path.{◌≡◌, refl, sym, ap, ap₂, ◌∙◌}
 use mathlib.Core.List.{List}
 use mathlib.Core.Bool.{Bool, true, false, not, ◌&&◌}
 use native.Mathlib.Omega.{arith}
-use lib.Dec.{leb, eqb}
+use lib.Dec.{leb, ltb, eqb}
 use lib.ListN.{get_or, length}
-use borrow.Author.Tests.{le-leb, lt-leb, leb-true, eq-eqb, ne_eqb}
+use borrow.Author.Tests.{lt-leb, leb-true}
 use Rattle.language.specs.Places.{private}
 use Rattle.machine.specs.State.{State, Thread, no_thread, nth}
 use Rattle.machine.specs.Steps.{is_unlinked}
 use Rattle.machine.proofs.WordLaws.{Says}
 use Rattle.machine.proofs.Round.{thread_0, thread_2, ended_bit}
-use Rattle.states.specs.Inner.Parties.{is_unlinked_word}
+use Rattle.states.specs.Inner.Parties.{is_unlinked_word, is_unlinked_thread}
 
-module _ (w : List ℕ) (c : ℕ) where
-  pub unlinked_low : c ≤ 16 → false ≡ is_unlinked_word w c
-  unfolding is_unlinked_word
-  unlinked_low h = rw (lt-leb 17 c (omega arith))
+and_assoc : (a b c : Bool) → (a && b && c) ≡ (a && (b && c))
+and_assoc true b c = refl
+and_assoc false b c = refl
 
-  pub unlinked_over : 16 < c → get_or w 0 0 < c - 16 → false ≡ is_unlinked_word w c
-  unfolding is_unlinked_word
-  unlinked_over a h = rw (le-leb 17 c (omega arith), lt-leb (c - 16) (get_or w 0 0) h)
+-- as the code tests it
+pub unlinked_split : (w : List ℕ) (c : ℕ) → is_unlinked_word w c
+    ≡ (ltb 16 c && leb (c - 16) (get_or w 0 0) && is_unlinked_thread w (c - 16 - 1))
+unfolding is_unlinked_word
+unlinked_split w c =
+    let same : c - 16 - 1 ≡ c - 17 = omega arith in
+    and_assoc (ltb 16 c && leb (c - 16) (get_or w 0 0)) _ _ ∙ ap (λ (k : ℕ). ltb 16 c && leb (c - 16) (get_or w 0 0) && is_unlinked_thread w k) (sym same)
 
-  -- the thread's words as the code finds them
-  same_at : c - 16 - 1 ≡ c - 17
-  same_at = omega arith
-
-  module _ (p : ℕ) (e : p ≡ private) (a : 16 < c) (b : c - 16 ≤ get_or w 0 0) where
-    -- the thread is there: what is left of the definition
-    there : is_unlinked_word w c
-        ≡ (eqb (get_or w (1042 + 55 * (c - 16 - 1)) 0) private
-        && not (eqb (get_or w (1042 + 55 * (c - 16 - 1) + 2) 0) 0))
-    unfolding is_unlinked_word
-    there = rw (le-leb 17 c (omega arith), le-leb (c - 16) (get_or w 0 0) b, same_at) refl
-
-    pub unlinked_elsewhere : (get_or w (1042 + 55 * (c - 16 - 1)) 0 ≡ p → ⊥)
-        → false ≡ is_unlinked_word w c
-    unlinked_elsewhere h =
-        let other = ne_eqb (get_or w (1042 + 55 * (c - 16 - 1)) 0) private (λ z. h (z ∙ sym e)) in
-        sym (there ∙ rw other refl)
-
-    pub unlinked_rest : get_or w (1042 + 55 * (c - 16 - 1)) 0 ≡ p
-        → not (eqb (get_or w (1042 + 55 * (c - 16 - 1) + 2) 0) 0) ≡ is_unlinked_word w c
-    unlinked_rest h =
-        sym (there ∙ rw (eq-eqb (get_or w (1042 + 55 * (c - 16 - 1)) 0) private (h ∙ e)) refl)
-
-pub ruleset unlinked_laws = (unlinked_low, unlinked_over, unlinked_elsewhere, unlinked_rest)
+-- a choice up to 16 names no thread
+pub unlinked_low : (w : List ℕ) (c : ℕ) → c ≤ 16 → false ≡ is_unlinked_word w c
+unfolding is_unlinked_word
+unlinked_low w c h = rw (lt-leb 17 c (omega arith))
 
 pub unlinked_says : (w : List ℕ) (s : State) → Says w s → length s.threads ≤ 64 → (c : ℕ)
     → is_unlinked_word w c ≡ is_unlinked s c

@@ -1,7 +1,10 @@
 -- An item or a variable more or less, another place, the end: what is written where the thread's
 -- words lie. Assumes nothing.
 use Prim.Native.Nat.{ℕ, suc, ◌+◌, ◌*◌, ◌-◌, ◌<◌, ◌≤◌}
-use mathlib.Core.Path.{◌≡◌, refl, sym, ap, ◌∙◌}
+use mathlib.Core.Path.{◌≡◌, refl, sym, ap, ◌∙◌, subst}
+use mathlib.Core.Bool.{Bool, true, false, ◌||◌}
+use lib.Dec.{eqb}
+use borrow.Author.Tests.{eqb-true}
 use mathlib.Core.List.{List, [], ◌∷◌, ◌++◌}
 use native.Mathlib.Omega.{arith}
 use native.Mathlib.Nat.{add-zero}
@@ -10,7 +13,7 @@ use lib.Seq.{set-append_left, set_at}
 use Rattle.machine.proofs.WordLaws.{part_at}
 use Rattle.states.specs.Inner.Threads.{thread_in, put_thread, block_of}
 use Rattle.states.specs.Inner.Stacks.{push_item, pop_item, push_value, pop_value, move_to, ended}
-use Rattle.states.specs.Inner.Stacks.{pushed_at, popped_at}
+use Rattle.states.specs.Inner.Stacks.{is_part, count, most, push, pop, SomeWithin}
 use Rattle.states.specs.declared.thread.ThreadWords.{ThreadWords}
 use Rattle.states.proofs.ThreadLaws.{Wide, in_wide, put_same, put_set}
 
@@ -124,17 +127,6 @@ module _ (x : ThreadWords) (h : Wide x) where
       ∙ ap (λ (ws : List ℕ). x.place ∷ x.starter ∷ x.alive ∷ x.items ∷ ws)
       (set_after x.continuation (x.values ∷ x.variables) (suc n) v)
 
--- ---- a list with its count, one more and one less
-pub pushed_at_lem : (w : List ℕ) (at v : ℕ)
-    → set (set w (at + 1 + get_or w at 0) v) at (get_or w at 0 + 1) ≡ pushed_at w at v
-unfolding pushed_at
-pushed_at_lem w at v = refl
-
-pub popped_at_lem : (w : List ℕ) (at : ℕ)
-    → set (set w (at + get_or w at 0) 0) at (get_or w at 0 - 1) ≡ popped_at w at
-unfolding popped_at
-popped_at_lem w at = refl
-
 -- ---- what each function of `stack` writes
 module _ (w : List ℕ) (k : ℕ) (all : length w ≡ 4834) (room : k < 64) where
   one_word : (y : ThreadWords) (i j v : ℕ) → i ≡ 1042 + 55 * k + j → j < 55
@@ -185,37 +177,61 @@ module _ (w : List ℕ) (k : ℕ) (all : length w ≡ 4834) (room : k < 64) wher
       (one_word y i (30 + n) v (omega arith) (omega arith) (set_value x h n v l))
       ∙ put_set w k all room y g (values_in y m y.variables) 29 m (omega arith) (set_values y g m)
 
-  pub item_pushed : (u : List ℕ) (v : ℕ) → u ≡ pushed_at w (1042 + 55 * k + 3) v
-      → (thread_in w k).items < 25 → u ≡ put_thread w k (push_item v (thread_in w k))
-  unfolding pushed_at push_item
-  item_pushed u v e l =
-      let n : ℕ = (thread_in w k).items in
-      e ∙ item_written (1042 + 55 * k + 3 + 1 + n) n v (n + 1) (omega arith) l
+  item_pushed : (v : ℕ) → (thread_in w k).items < 25
+      → set (set w (1042 + 55 * k + 3 + 1 + (thread_in w k).items) v) (1042 + 55 * k + 3) ((thread_in w k).items + 1)
+      ≡ put_thread w k (push_item v (thread_in w k))
+  unfolding push_item
+  item_pushed v l =
+      let n : ℕ = (thread_in w k).items in item_written (1042 + 55 * k + 3 + 1 + n) n v (n + 1) (omega arith) l
 
-  pub item_popped : (u : List ℕ) → u ≡ popped_at w (1042 + 55 * k + 3)
-      → 0 < (thread_in w k).items → (thread_in w k).items ≤ 25
-      → u ≡ put_thread w k (pop_item (thread_in w k))
-  unfolding popped_at pop_item
-  item_popped u e g l =
-      let n : ℕ = (thread_in w k).items in
-      e ∙ item_written (1042 + 55 * k + 3 + n) (n - 1) 0 (n - 1) (omega arith) (omega arith)
+  item_popped : 0 < (thread_in w k).items → (thread_in w k).items ≤ 25
+      → set (set w (1042 + 55 * k + 3 + (thread_in w k).items) 0) (1042 + 55 * k + 3) ((thread_in w k).items - 1)
+      ≡ put_thread w k (pop_item (thread_in w k))
+  unfolding pop_item
+  item_popped g l =
+      let n : ℕ = (thread_in w k).items in item_written (1042 + 55 * k + 3 + n) (n - 1) 0 (n - 1) (omega arith) (omega arith)
 
-  pub value_pushed : (u : List ℕ) (v : ℕ) → u ≡ pushed_at w (1042 + 55 * k + 29) v
-      → (thread_in w k).values < 25 → u ≡ put_thread w k (push_value v (thread_in w k))
-  unfolding pushed_at push_value
-  value_pushed u v e l =
-      let n : ℕ = (thread_in w k).values in
-      e ∙ value_written (1042 + 55 * k + 29 + 1 + n) n v (n + 1) (omega arith) l
+  value_pushed : (v : ℕ) → (thread_in w k).values < 25
+      → set (set w (1042 + 55 * k + 29 + 1 + (thread_in w k).values) v) (1042 + 55 * k + 29) ((thread_in w k).values + 1)
+      ≡ put_thread w k (push_value v (thread_in w k))
+  unfolding push_value
+  value_pushed v l =
+      let n : ℕ = (thread_in w k).values in value_written (1042 + 55 * k + 29 + 1 + n) n v (n + 1) (omega arith) l
 
-  pub value_popped : (u : List ℕ) → u ≡ popped_at w (1042 + 55 * k + 29)
-      → 0 < (thread_in w k).values → (thread_in w k).values ≤ 25
-      → u ≡ put_thread w k (pop_value (thread_in w k))
-  unfolding popped_at pop_value
-  value_popped u e g l =
-      let n : ℕ = (thread_in w k).values in
-      e ∙ value_written (1042 + 55 * k + 29 + n) (n - 1) 0 (n - 1) (omega arith) (omega arith)
+  value_popped : 0 < (thread_in w k).values → (thread_in w k).values ≤ 25
+      → set (set w (1042 + 55 * k + 29 + (thread_in w k).values) 0) (1042 + 55 * k + 29) ((thread_in w k).values - 1)
+      ≡ put_thread w k (pop_value (thread_in w k))
+  unfolding pop_value
+  value_popped g l =
+      let n : ℕ = (thread_in w k).values in value_written (1042 + 55 * k + 29 + n) (n - 1) 0 (n - 1) (omega arith) (omega arith)
 
-pub ruleset stack_laws = (moved, ends, item_pushed, item_popped, value_pushed, value_popped)
+  -- the list at that place of the thread's words
+  module _ (part : ℕ) (is : is_part part ≡ true) where
+    abbrev at : ℕ
+    at = 1042 + 55 * k + part
+
+    either : (P : ℕ → Type 0) → P 3 → P 29 → P part
+    either P a b = by (eqb part 3) refl
+      where
+        by : (c : Bool) → eqb part 3 ≡ c → P part
+        by true e = subst P (sym (eqb-true part 3 e)) a
+        by false e = subst P (sym (eqb-true part 29 (sym (ap (λ (c : Bool). c || eqb part 29) e) ∙ is))) b
+
+    pub pushed : (v : ℕ) → count part (thread_in w k) < most part
+        → set (set w (at + 1 + get_or w at 0) v) at (get_or w at 0 + 1)
+        ≡ put_thread w k (push part v (thread_in w k))
+    pushed v = either (λ (p : ℕ). count p (thread_in w k) < most p
+        → set (set w (1042 + 55 * k + p + 1 + get_or w (1042 + 55 * k + p) 0) v) (1042 + 55 * k + p) (get_or w (1042 + 55 * k + p) 0 + 1)
+        ≡ put_thread w k (push p v (thread_in w k))) (item_pushed v) (value_pushed v)
+
+    pub popped : SomeWithin (most part) (count part (thread_in w k))
+        → set (set w (at + get_or w at 0) 0) at (get_or w at 0 - 1)
+        ≡ put_thread w k (pop part (thread_in w k))
+    popped = either (λ (p : ℕ). SomeWithin (most p) (count p (thread_in w k))
+        → set (set w (1042 + 55 * k + p + get_or w (1042 + 55 * k + p) 0) 0) (1042 + 55 * k + p) (get_or w (1042 + 55 * k + p) 0 - 1)
+        ≡ put_thread w k (pop p (thread_in w k))) (λ h. item_popped h.0 h.1) (λ h. value_popped h.0 h.1)
+
+pub ruleset stack_laws = (moved, ends)
 
 -- ---- the top item read
 module _ (w : List ℕ) (k : ℕ) where

@@ -115,3 +115,5 @@ pub one_more : (w v : List ℕ) (x : ThreadWords) → get_or w 0 0 < 64
 unfolding with_one_more
 one_more w v x h e =
     ap (λ (l : List ℕ). set l 0 (get_or w 0 0 + 1)) e ∙ sym (if_yes _ _ (lt-ltb (get_or w 0 0) 64 h))
+
+pub ruleset one_laws = (one_full, one_more)

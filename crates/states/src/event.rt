@@ -1,42 +1,43 @@
-// The events in the lent words: 1 where one is present.
+//! The events in the lent words: 1 where one is present.
 ghost use Rattle.std.specs.Prelude.{◌≡◌, ◌+◌, ◌<◌, ◌≤◌, eqb, length, get_or, set, true};
-ghost use Rattle.language.specs.Limits.{most_schedulers, most_events};
+ghost use Rattle.language.specs.Limits.{most_events};
 ghost use Rattle.language.specs.Places.{is_scheduler};
 ghost use Rattle.language.specs.Inner.Labels.{in_group};
 ghost use Rattle.text.specs.Frames.{frames_of};
 ghost use Rattle.program.specs.Trees.{frame_at};
 ghost use Rattle.program.specs.Programs.{events_of};
-ghost use Rattle.machine.specs.Offsets.{state_length, events_at};
+ghost use Rattle.machine.specs.Offsets.{events_at};
 ghost use Rattle.machine.specs.Inner.Ranges.{all_below};
 ghost use Rattle.states.specs.Inner.Events.{is_absent, without_owned, without_events};
 
 use language::Place;
-use language::group::{LABELS, is_member};
+use language::group::{Labels, is_member};
 use language::kind::DeclarationKind;
-use machine::offset::EVENTS_AT;
+use machine::offset::{EVENTS_AT, State};
 use program::frames::frame_at;
 use program::group::line_declares;
 use text::line::frame_of_word;
 
-pub fn is_present(state: &[u64], e: u8) -> bool
-    requires { (length state.now ≡ state_length) × (e < most_events) }
+/// Whether event e, from 0, is present.
+pub fn is_present(state: &State, e: u8) -> bool
+    requires { e < most_events }
     ensures { result ≡ eqb (get_or state.now (events_at + e) 0) 1 }
 {
     state[EVENTS_AT + usize::from(e)] == 1
 }
 
-pub fn set_present(state: &mut [u64], e: u8)
-    requires { (length state.old ≡ state_length) × (e < most_events) }
+/// Event e is present from now on.
+pub fn set_present(state: &mut State, e: u8)
+    requires { e < most_events }
     ensures { state.new ≡ set state.old (events_at + e) 1 }
 {
     state[EVENTS_AT + usize::from(e)] = 1;
 }
 
 // Event e of that owner is no longer present, if the owner is in step with the scheduler.
-#[tactic(auto, using(crate::proofs::EventLaws::absent_stays, crate::proofs::EventLaws::other_stays, crate::proofs::EventLaws::own_cleared))]
-fn clear_event(labels: &[u8; LABELS], state: &mut [u64], q: Place, owner: u8, e: u8)
-    requires { (length state.old ≡ state_length) × (e < most_events)
-        × (length labels.now ≡ most_schedulers) × (is_scheduler q.number ≡ true) }
+#[tactic(auto, using(crate::proofs::EventLaws::clear_laws))]
+fn clear_event(labels: &Labels, state: &mut State, q: Place, owner: u8, e: u8)
+    requires { (e < most_events) × (is_scheduler q.number ≡ true) }
     ensures { state.new ≡ without_owned (in_group labels.now q.number)
         owner state.old e }
 {
@@ -56,8 +57,8 @@ fn event_count(frames: &[u64]) -> u8
 }
 
 // None of the first n events is present.
-fn none_present(state: &[u64], n: u8) -> bool
-    requires { (length state.now ≡ state_length) × (n ≤ most_events) }
+fn none_present(state: &State, n: u8) -> bool
+    requires { n ≤ most_events }
     ensures { result ≡ all_below n (is_absent state.now) }
 {
     state[EVENTS_AT..EVENTS_AT + usize::from(n)]
@@ -65,12 +66,11 @@ fn none_present(state: &[u64], n: u8) -> bool
         .all(|w| *w == 0)
 }
 
-// The events of the scheduler and of those in step with it are no longer present: where some event
-// is, one pass over the lines up to the last one.
-pub fn clear_events(frames: &[u64], labels: &[u8; LABELS], state: &mut [u64], q: Place)
-    requires { (length state.old ≡ state_length) × (0 < length frames.now)
-        × ((frame_at (frames_of frames.now) 0).c ≤ most_events)
-        × (length labels.now ≡ most_schedulers) × (is_scheduler q.number ≡ true) }
+/// The events of the scheduler and of those in step with it are no longer present: where some event
+/// is, one pass over the lines up to the last one.
+pub fn clear_events(frames: &[u64], labels: &Labels, state: &mut State, q: Place)
+    requires { (0 < length frames.now)
+        × ((frame_at (frames_of frames.now) 0).c ≤ most_events) × (is_scheduler q.number ≡ true) }
     ensures { state.new ≡ without_events (in_group labels.now q.number)
         (events_of (frames_of frames.now)) state.old
         (frame_at (frames_of frames.now) 0).c }

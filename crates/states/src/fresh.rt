@@ -1,19 +1,19 @@
-// The fresh state of a file, written into the lent words.
-ghost use Rattle.std.specs.Prelude.{◌≡◌, ◌<◌, length, set, replicate};
+//! The fresh state of a file, written into the lent words.
+ghost use Rattle.std.specs.Prelude.{◌≡◌, ◌<◌, length, set};
 ghost use Rattle.text.specs.Frames.{frames_of};
 ghost use Rattle.program.specs.Programs.{shared_of, program_of, cell_of};
-ghost use Rattle.machine.specs.Offsets.{state_length, cell_count_at, owner_factor};
+ghost use Rattle.machine.specs.Offsets.{cell_count_at, owner_factor};
 ghost use Rattle.machine.specs.Values.{first_content};
 ghost use Rattle.machine.specs.Fresh.{first_cell, fresh};
 ghost use Rattle.machine.specs.Words.{value_word, cell_word, pack};
-ghost use Rattle.states.specs.Inner.Starts.{main_words, with_shared};
+ghost use Rattle.states.specs.Inner.Starts.{with_shared};
 
 use crate::thread::{ThreadWords, add_thread};
 use language::Place;
 use language::frame::Frame;
-use language::limit::{MOST_CELLS, MOST_ITEMS, MOST_VARIABLES};
+use language::limit::MOST_CELLS;
 use language::type_word::{NUMBER, is_cell};
-use machine::offset::{CELL_COUNT_AT, CELLS_AT, SCHEDULERS_AT};
+use machine::offset::{CELL_COUNT_AT, CELLS_AT, SCHEDULERS_AT, State};
 use machine::word::{cell_word, number_word, reference_word, truth_word};
 use program::module::main_body;
 use program::shared::next_shared;
@@ -28,12 +28,12 @@ fn first_content_word(content: u16, first: u16) -> u64
     ensures { (result ≡ value_word (first_content content first)) × (result < owner_factor) }
 {
     if is_cell(content) {
-        return reference_word(first);
+        reference_word(first)
+    } else if content == NUMBER {
+        number_word(u32::from(first))
+    } else {
+        truth_word(first == 1)
     }
-    if content == NUMBER {
-        return number_word(u32::from(first));
-    }
-    truth_word(first == 1)
 }
 
 fn first_cell_word(f: Frame) -> u64
@@ -42,15 +42,9 @@ fn first_cell_word(f: Frame) -> u64
     cell_word(u16::from(f.s), first_content_word(f.a, f.b))
 }
 
-fn clear(state: &mut [u64])
-    ensures { state.new ≡ replicate (length state.old) 0 }
-{
-    state.fill(0);
-}
-
-// The first contents of the shared cells, as far as there is space, and how many there are.
-fn write_shared(frames: &[u64], state: &mut [u64]) -> u64
-    requires { length state.old ≡ state_length }
+// The first contents of the shared cells, as far as there is space, and how many there are. A
+// `while`: no count leads, `next_shared` goes from one shared cell's line to the next.
+fn write_shared(frames: &[u64], state: &mut State) -> u64
     ensures count { result ≡ length (shared_of (frames_of frames.now)) }
     ensures words { state.new
         ≡ with_shared state.old (shared_of (frames_of frames.now)) }
@@ -67,8 +61,7 @@ fn write_shared(frames: &[u64], state: &mut [u64]) -> u64
     c as u64
 }
 
-fn write_cells(frames: &[u64], state: &mut [u64])
-    requires { length state.old ≡ state_length }
+fn write_cells(frames: &[u64], state: &mut State)
     ensures { state.new
         ≡ set (with_shared state.old (shared_of (frames_of frames.now)))
         cell_count_at (length (shared_of (frames_of frames.now))) }
@@ -77,32 +70,14 @@ fn write_cells(frames: &[u64], state: &mut [u64])
     state[CELL_COUNT_AT] = cells;
 }
 
-fn main_thread(body: u64) -> ThreadWords
-    ensures { result ≡ main_words body }
-{
-    let mut items = [0u64; MOST_ITEMS];
-    items[0] = body;
-    let none = [0u64; MOST_VARIABLES];
-    ThreadWords {
-        place: Place::HOME.word(),
-        starter: 0,
-        alive: 1,
-        items: 1,
-        continuation: items,
-        values: 0,
-        variables: none,
-    }
-}
-
-// The fresh state. The caller has tested the buffer's length.
-pub fn write_fresh(frames: &[u64], state: &mut [u64])
-    requires { length state.old ≡ state_length }
+/// The fresh state of the file with those frames, whatever the words were.
+pub fn write_fresh(frames: &[u64], state: &mut State)
     ensures { state.new
         ≡ pack (fresh (program_of (frames_of frames.now))) }
 {
-    clear(state);
+    state.fill(0);
     write_cells(frames, state);
-    add_thread(state, main_thread(main_body(frames)));
+    add_thread(state, &ThreadWords::new(Place::HOME, 0, main_body(frames)));
     // `main` is active at home, the first scheduler.
     state[SCHEDULERS_AT] = 1;
     state[FIRST_ACTIVE] = 1;

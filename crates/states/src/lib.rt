@@ -1,4 +1,4 @@
-// Threads and events in the lent words: the fresh state, and what a step reads and writes of them.
+//! Threads and events in the lent words: the fresh state, and what a step reads and writes of them.
 #![tactic(auto)]
 
 pub mod event;

@@ -1,13 +1,15 @@
-// Threads of the lent words: one more thread, whose words are a struct by value.
+//! Threads of the lent words: one more thread, whose words are a struct.
 ghost use Rattle.std.specs.Prelude.{◌≡◌, ◌+◌, ◌*◌, ◌<◌, ◌≤◌, length, get_or};
-ghost use Rattle.language.specs.Limits.{most_items};
+ghost use Rattle.language.specs.Limits.{most_items, most_threads};
 ghost use Rattle.machine.specs.Offsets.{state_length, thread_count_at, threads_at, thread_length};
 ghost use Rattle.machine.specs.Inner.Blocks.{pasted};
-ghost use Rattle.states.specs.Inner.Threads.{block_of, with_one_more, ThreadSpace};
+ghost use Rattle.states.specs.Inner.Starts.{new_words};
+ghost use Rattle.states.specs.Inner.Threads.{block_of, with_one_more};
 
+use language::Place;
 use language::limit::{MOST_ITEMS, MOST_THREADS, MOST_VARIABLES};
 use machine::offset::{
-    ITEMS_FIELD, LIVES_FIELD, STARTER_FIELD, THREAD_COUNT_AT, THREAD_LENGTH, THREADS_AT,
+    ITEMS_FIELD, LIVES_FIELD, STARTER_FIELD, State, THREAD_COUNT_AT, THREAD_LENGTH, THREADS_AT,
     VARIABLES_FIELD,
 };
 
@@ -16,8 +18,9 @@ pub(crate) const FIRST_ITEM: usize = ITEMS_FIELD + 1;
 
 const FIRST_VARIABLE: usize = VARIABLES_FIELD + 1;
 
-// Where it stands, which thread started it, 1 while it lives; its continuation from the bottom and
-// its variables from the first, each after its length and with 0 after its members.
+/// A thread: where it stands, which thread started it, 1 while it lives; its continuation from the
+/// bottom and its variables from the first, each after its length and with 0 after its members.
+// Lengths beside the arrays: these are the words of the state, for C, in their order.
 #[derive(Clone, Copy)]
 pub struct ThreadWords {
     pub place: u64,
@@ -29,43 +32,60 @@ pub struct ThreadWords {
     pub variables: [u64; MOST_VARIABLES],
 }
 
-// Of the items or of the variables: they have the same space. The places are within the lent
-// words, whose length is tested before any step.
-fn store_run(w: &mut [u64], at: usize, a: [u64; MOST_ITEMS])
-    requires { at + most_items ≤ length w.old }
-    ensures { w.new ≡ pasted w.old at a most_items }
-{
-    w[at..at + MOST_ITEMS].copy_from_slice(&a);
+impl ThreadWords {
+    /// A thread that stands at that place, has that item and no variables, and lives. The starter
+    /// is the number of the thread that started it; 0 of `main`.
+    pub fn new(place: Place, starter: u64, item: u64) -> ThreadWords
+        ensures { result ≡ new_words place.number starter item }
+    {
+        let mut continuation = [0; MOST_ITEMS];
+        continuation[0] = item;
+        ThreadWords {
+            place: place.word(),
+            starter,
+            alive: 1,
+            items: 1,
+            continuation,
+            values: 0,
+            variables: [0; MOST_VARIABLES],
+        }
+    }
 }
 
-fn store_thread(state: &mut [u64], k: usize, th: ThreadWords)
-    requires { ThreadSpace state.old k }
+// Of the items or of the variables: they have the same space.
+fn store_run(state: &mut State, at: usize, run: &[u64; MOST_ITEMS])
+    requires { at + most_items ≤ state_length }
+    ensures { state.new ≡ pasted state.old at run.now most_items }
+{
+    state[at..at + MOST_ITEMS].copy_from_slice(run);
+}
+
+fn store_thread(state: &mut State, k: usize, th: &ThreadWords)
+    requires { k < most_threads }
     ensures { state.new
-        ≡ pasted state.old (threads_at + thread_length * k) (block_of th) thread_length }
+        ≡ pasted state.old (threads_at + thread_length * k) (block_of th.now) thread_length }
 {
     let at = THREADS_AT + THREAD_LENGTH * k;
     state[at] = th.place;
     state[at + STARTER_FIELD] = th.starter;
     state[at + LIVES_FIELD] = th.alive;
     state[at + ITEMS_FIELD] = th.items;
-    let p = th.continuation;
-    store_run(state, at + FIRST_ITEM, p);
+    store_run(state, at + FIRST_ITEM, &th.continuation);
     state[at + VARIABLES_FIELD] = th.values;
-    let v = th.variables;
-    store_run(state, at + FIRST_VARIABLE, v);
+    store_run(state, at + FIRST_VARIABLE, &th.variables);
 }
 
-pub fn thread_count(state: &[u64]) -> u64
-    requires { length state.now ≡ state_length }
+/// How many threads there are.
+pub fn thread_count(state: &State) -> u64
     ensures { result ≡ get_or state.now thread_count_at 0 }
 {
     state[THREAD_COUNT_AT]
 }
 
-// One more thread, the last; where there are 64, nothing changes.
-pub fn add_thread(state: &mut [u64], th: ThreadWords)
-    requires { length state.old ≡ state_length }
-    ensures { state.new ≡ with_one_more state.old th }
+/// One more thread, the last; where there are 64, nothing changes.
+#[tactic(auto, using(crate::proofs::Store::one_laws))]
+pub fn add_thread(state: &mut State, th: &ThreadWords)
+    ensures { state.new ≡ with_one_more state.old th.now }
 {
     let n = state[THREAD_COUNT_AT];
     if MOST_THREADS as u64 <= n {

@@ -32,7 +32,8 @@ use Rattle.machine.proofs.Blocks.{cells_length, cells_at_lem}
 use Rattle.machine.proofs.InShape.{value_in_lem}
 use Rattle.machine.proofs.Padded.{padded_at}
 use Rattle.operations.specs.declared.Who.{Who}
-use Rattle.operations.specs.Inner.Lent.{Lent, variable_count, lent_variables, lent_count, lent_cells}
+use Rattle.operations.specs.Inner.Lent.{Lent, variable_count, lent_variables, lent_count}
+use Rattle.operations.specs.Inner.Lent.{lent_cells}
 use Rattle.operations.specs.Inner.Lent.{lent_rest}
 use Rattle.operations.specs.Inner.Heaps.{cells_in, accesses_in}
 use Rattle.operations.proofs.HeapLaws.{few_cells, no_accesses}
@@ -41,8 +42,7 @@ use Rattle.evaluator.proofs.Holding.{holds_words}
 use Rattle.states.specs.declared.thread.ThreadWords.{ThreadWords}
 use Rattle.states.specs.Inner.Threads.{thread_words_of, thread_in}
 use Rattle.states.proofs.StackLaws.{with_continuation, top_item_is}
-use Rattle.acts.specs.declared.act.Action.{Action}
-use Rattle.acts.specs.Inner.Transitions.{popped, turned, HasRoom}
+use Rattle.acts.specs.Inner.Transitions.{TurnAnswer, popped, turned, change_of, RoomFor}
 use Rattle.turns.specs.declared.counts.Counts.{Counts}
 use Rattle.turns.specs.Inner.Actions.{act_in, turn_act}
 use Rattle.turns.specs.Inner.Acts.{TurnOutcome, turn_outcome, turn_in, top_in, variables_in, Seen}
@@ -50,7 +50,8 @@ use Rattle.turns.specs.Inner.Acts.{WholeTurn, TurnWords, ItemWord}
 use Rattle.turns.specs.Inner.TurnCounts.{turn_count}
 use Rattle.turns.proofs.TurnLaws.{act_turns, act_counts}
 use Rattle.reach.proofs.Passed.{order, inside, some_frame}
-use Rattle.stepper.specs.Inner.Files.{StepWords, state_in, who_in, turn_of, turn_left, turn_accesses}
+use Rattle.stepper.specs.Inner.Files.{StepWords, state_in, who_in, turn_of, turn_left}
+use Rattle.stepper.specs.Inner.Files.{turn_accesses}
 use Rattle.stepper.proofs.Variables.{variables_words}
 use Rattle.stepper.proofs.GoodWords.{shaped, says, step_long, threads_few, thread_read, fit}
 use Rattle.stepper.proofs.GoodWords.{place_in}
@@ -114,7 +115,7 @@ module _
         let m = threads_few frames shared w h in
         let b = values_read in
         let r : 1042 + 55 * (who.thread - 1) + 29 ≡ 1042 + 55 * (t - 1) + 29 = omega arith in
-        record { all = long; first = omega arith; last = omega arith; few = rw r b }
+        record { first = omega arith; last = omega arith; few = rw r b }
 
     variables_are : lent_variables who w ≡ variables_in th
     unfolding lent_variables variable_count part
@@ -341,7 +342,7 @@ module _
 
     -- the words after it are those before with its cells and their count, with which the accesses
     -- stand
-    pub act_gives : (a : Action) (v' : List ℕ)
+    pub act_gives : (a : TurnAnswer) (v' : List ℕ)
         → act_in a v'
         ≡ turn_act (frames_of frames) who counts item (lent_variables who w) (lent_count w)
         (lent_cells w)
@@ -357,9 +358,9 @@ module _
             ∙ set-set (pasted w 4578 (lent_cells v') 256) 1 (lent_count v') m
             ∙ ap (λ (y : TurnOutcome). set (pasted w 4578 y.cells 256) 1 y.acted.used) same;
         whole = ap length (sym cells_left) ∙ size v' l;
-        room = subst (λ (i : ℕ). HasRoom a.change (i - 1) (thread_words_of x).values)
+        room = subst (λ (i : ℕ). RoomFor (change_of a) (i - 1) (thread_words_of x).values)
             (sym sees.items)
-            (subst (HasRoom a.change (counts.items - 1)) (sym sees.variables) r.room);
+            (subst (RoomFor (change_of a) (counts.items - 1)) (sym sees.variables) r.room);
       };
       accesses = counted;
       few = few_accesses;

@@ -1,95 +1,135 @@
 -- The answers of the public calls: the layout's refusal of the text, else what the call on the
 -- text's frames gives. Assumes nothing.
-use Prim.Native.Nat.{ℕ}
+use Prim.Native.Nat.{ℕ, zero, suc, ◌≤◌}
+use native.Mathlib.Omega.{arith}
 use mathlib.Core.Path.{◌≡◌, refl, sym, ap, ◌∙◌}
 use mathlib.Core.List.{List}
 use mathlib.Core.Bool.{Bool, true, false, not}
-use native.Mathlib.Omega.{arith}
 use lib.Dec.{eqb}
 use lib.ListN.{length, take}
-use borrow.Author.Tests.{eqb-true, eq-eqb, ne_eqb, not-true, not-false}
-use Rattle.basics.proofs.Ifs.{if_all, if_yes, if_no}
+use borrow.Author.Tests.{not-true, not-false, eqb-true, eqb-false}
+use Rattle.basics.proofs.Ifs.{if_all, yes, no}
 use Rattle.language.specs.declared.frame.Frame.{Frame}
 use Rattle.text.specs.Frames.{frames_of}
 use Rattle.program.specs.Programs.{program_of}
 use Rattle.layout.specs.Inner.Layouts.{laid_as, laid_words}
-use Rattle.std.specs.Prelude.{Err}
+use Rattle.std.specs.Prelude.{Option, Some, None, Err}
 use Rattle.language.specs.declared.refusal.Refusal.{Refusal}
 use Rattle.layout.specs.Inner.Laid.{Laid, Lines}
 use Rattle.layout.proofs.AfterLayout.{text_refused, text_passed}
 use Rattle.checker.proofs.CheckLaws.{check_file}
 use Rattle.machine.specs.Fresh.{fresh}
 use Rattle.machine.specs.Words.{pack}
-use Rattle.machine.specs.Inner.Ranges.{in_range}
+use Rattle.machine.specs.Inner.Ranges.{in_range, all_below}
+use Rattle.machine.proofs.Ranges.{below_each}
 use Rattle.machine.specs.Calls.{CallResult, fresh_call, step_call}
 use Rattle.machine.proofs.Calls.{called_out}
+use Rattle.machine.proofs.Numbers.{StepNumber, is_0, is_15, is_16, is_17, is_18, is_19, is_20}
 use Rattle.states.proofs.FreshWords.{call_wrong, call_fresh}
-use Rattle.stepper.specs.declared.answer.Answer.{Answer}
-use Rattle.stepper.specs.declared.answer.Answer.TheVariants as A
+use Rattle.language.specs.declared.refusal.Rule.{Rule}
 use Rattle.stepper.specs.declared.file.File.{File}
 use Rattle.stepper.specs.declared.party.StepAnswer.{StepAnswer}
-use Rattle.stepper.specs.Answers.{answer_number, answer_thread, answer_to, text_result, as_text_result, on_text}
+use Rattle.stepper.specs.Answers.{Answer, rule_of, done, refused, rejected, answer_number}
+use Rattle.stepper.specs.Answers.{answer_thread, answer_to, text_result, as_text_result, on_text}
 use Rattle.stepper.specs.Answers.{fresh_text, step_text}
-use Rattle.stepper.specs.Inner.Files.{FileWords, StepWords, file_of, stepped_on}
+use Rattle.stepper.specs.Inner.Files.{FileWords, StepWords, step_number, file_of, stepped_on}
+use Rattle.stepper.proofs.RuleLaws.{rule_back, rule_counts}
+use Rattle.language.specs.Refusals.{rule_number}
 
 -- ---- one answer
+
+-- what a step's answer comes to
+pub answered_done : (t k : ℕ) → done t k ≡ answer_to 0 t k
+unfolding answer_to
+answered_done t k = yes _ refl refl
+
+pub answered_refused : (r : Rule) (t k : ℕ) → refused r t ≡ answer_to (rule_number r) t k
+unfolding answer_to
+answered_refused r t k = no _ (rule_counts r) (ap (λ (x : Rule). refused x t) (sym (rule_back r)))
+
+module _ (s : Option Rule) (t k : ℕ) where
+  pub answered_none : s ≡ None → done t k ≡ answer_to (step_number s) t k
+  answered_none e =
+      answered_done t k
+      ∙ ap (λ (x : Option Rule). answer_to (step_number x) t k) (sym e)
+
+  pub answered_some : (r : Rule) → s ≡ Some r → refused r t ≡ answer_to (step_number s) t k
+  answered_some r e =
+      answered_refused r t k
+      ∙ ap (λ (x : Option Rule). answer_to (step_number x) t k) (sym e)
+
+pub ruleset answered_laws = (answered_none, answered_some)
+
 module _ (n t k : ℕ) where
-  pub answer_done : n ≡ 0 → A.Done t k ≡ answer_to n t k
-  unfolding answer_to
-  answer_done h = sym (if_yes _ _ (eq-eqb n 0 h))
-
-  pub answer_refused : (n ≡ 0 → ⊥) → A.Refused n t ≡ answer_to n t k
-  unfolding answer_to
-  answer_refused h = sym (if_no _ _ (ne_eqb n 0 h))
-
-  -- the enum says 01's number, and the acting thread
-  pub number_back : answer_number (answer_to n t k) ≡ n
-  unfolding answer_to
-  number_back =
-      if_all (λ (a : Answer). answer_number a ≡ n) (eqb n 0) _ _ (λ e. sym (eqb-true n 0 e))
-      (λ _. refl)
-
+  -- the type says the acting thread
   pub thread_back : answer_thread (answer_to n t k) ≡ t
   unfolding answer_to
   thread_back = if_all (λ (a : Answer). answer_thread a ≡ t) (eqb n 0) _ _ (λ _. refl) (λ _. refl)
 
-pub ruleset answer_laws = (answer_done, answer_refused)
+-- and 01's number, 0 or a rule's
+is_known : ℕ → Bool
+is_known k = eqb (rule_number (rule_of (suc k))) (suc k)
 
-pub refused_14 : A.Refused 14 0 ≡ answer_to 14 0 0
-refused_14 = answer_refused 14 0 0 (λ h. omega arith)
+all_known : all_below 21 is_known ≡ true
+unfolding all_below is_known rule_of
+all_known = refl
 
-pub done_0 : A.Done 0 0 ≡ answer_to 0 0 0
-done_0 = answer_done 0 0 0 refl
+rule_known : (n : ℕ) → n ≤ 21 → (n ≡ 0 → ⊥) → rule_number (rule_of n) ≡ n
+unfolding is_known
+rule_known zero h z = absurd (z refl)
+rule_known (suc k) h z = eqb-true _ _ (below_each 21 is_known all_known k (omega arith))
+
+pub number_back : (n t k : ℕ) → n ≤ 21 → answer_number (answer_to n t k) ≡ n
+unfolding answer_to
+number_back n t k h =
+    if_all (λ (a : Answer). answer_number a ≡ n) (eqb n 0) (done t k) (refused (rule_of n) t)
+    (λ e. sym (eqb-true n 0 e)) (λ e. rule_known n h (eqb-false n 0 e))
+
+-- that of a step is one
+pub numbered_back : {n : ℕ} → StepNumber n → (t k : ℕ) → answer_number (answer_to n t k) ≡ n
+numbered_back is_0 t k = number_back 0 t k (omega arith)
+numbered_back is_15 t k = number_back 15 t k (omega arith)
+numbered_back is_16 t k = number_back 16 t k (omega arith)
+numbered_back is_17 t k = number_back 17 t k (omega arith)
+numbered_back is_18 t k = number_back 18 t k (omega arith)
+numbered_back is_19 t k = number_back 19 t k (omega arith)
+numbered_back is_20 t k = number_back 20 t k (omega arith)
+
+pub refused_14 : refused Rule.WrongState 0 ≡ answer_to 14 0 0
+refused_14 = answered_refused Rule.WrongState 0 0
+
+pub done_0 : done 0 0 ≡ answer_to 0 0 0
+done_0 = answered_done 0 0
 
 -- ---- a step on frames: 14, or the step on words in range
 module _ (frames w : List ℕ) (file : File) (e : file ≡ file_of (program_of (frames_of frames))) where
-  range_of : (x : Bool) → x ≡ in_range (frames_of frames) file.schedulers w
+  range_of : (x : Bool) → x ≡ in_range (frames_of frames) file.schedulers.count w
       → x ≡ in_range (frames_of frames) (program_of (frames_of frames)).schedulers w
-  range_of x q = q ∙ ap (λ (f : File). in_range (frames_of frames) f.schedulers w) e
+  range_of x q = q ∙ ap (λ (f : File). in_range (frames_of frames) f.schedulers.count w) e
 
-  pub step_out : (x : Bool) (c : ℕ) → x ≡ in_range (frames_of frames) file.schedulers w
-      → not x ≡ true → text_result (A.Refused 14 0) w ≡ as_text_result (step_call (frames_of frames) w c)
+  pub step_out : (x : Bool) (c : ℕ) → x ≡ in_range (frames_of frames) file.schedulers.count w
+      → not x ≡ true → text_result (refused Rule.WrongState 0) w ≡ as_text_result (step_call (frames_of frames) w c)
   step_out x c q h =
       ap (λ (a : Answer). text_result a w) refused_14
       ∙ sym (ap as_text_result (called_out (frames_of frames) w c (sym (range_of x q) ∙ not-true x h)))
 
-  pub step_words : (x : Bool) → x ≡ in_range (frames_of frames) file.schedulers w → not x ≡ false
+  pub step_words : (x : Bool) → x ≡ in_range (frames_of frames) file.schedulers.count w → not x ≡ false
       → FileWords frames → StepWords frames file.shared w
   step_words x q h g = record { file = g; count = ap (λ (f : File). f.shared) e; range = sym (range_of x q) ∙ not-false x h }
 
 pub step_in : (s : StepAnswer) (r : Answer) (v : List ℕ) (k : CallResult) → stepped_on s v ≡ k
-    → r ≡ answer_to s.answer s.thread s.accesses → text_result r v ≡ as_text_result k
+    → r ≡ answer_to (step_number s.refusal) s.thread s.accesses → text_result r v ≡ as_text_result k
 step_in s r v k e h = ap (λ (a : Answer). text_result a v) h ∙ ap as_text_result e
 
 -- ---- a text: a rejected one gives that refusal whatever the call (`text_refused`), one that is
 -- laid out what the call gives (`by_call`)
 module _ (bs : List ℕ) (l : Laid) (ws : List ℕ) (e : laid_as l ws ≡ laid_words bs) where
   module _ (d : Refusal) (z : l ≡ Err d) where
-    pub fresh_rejected : (w : List ℕ) → text_result (A.Rejected d.number d.frame) w ≡ fresh_text bs w
+    pub fresh_rejected : (w : List ℕ) → text_result (rejected d.rule d.frame) w ≡ fresh_text bs w
     unfolding fresh_text
     fresh_rejected w = text_refused _ _ bs l ws e d z
 
-    pub step_rejected : (w : List ℕ) (c : ℕ) → text_result (A.Rejected d.number d.frame) w ≡ step_text bs w c
+    pub step_rejected : (w : List ℕ) (c : ℕ) → text_result (rejected d.rule d.frame) w ≡ step_text bs w c
     unfolding step_text
     step_rejected w c = text_refused _ _ bs l ws e d z
 
@@ -101,18 +141,18 @@ module _ (bs : List ℕ) (l : Laid) (ws : List ℕ) (e : laid_as l ws ≡ laid_w
     pub by_call : (call : List Frame → CallResult) (w : List ℕ)
         → as_text_result (call (frames_of (take n ws))) ≡ on_text bs w call
     by_call call w =
-        text_passed (λ n j. text_result (A.Rejected n j) w) (λ fs. as_text_result (call fs)) bs
+        text_passed (λ r j. text_result (rejected r j) w) (λ fs. as_text_result (call fs)) bs
         l ws e n a
 
     pub fresh_wrong : (w : List ℕ) → (length w ≡ 4834 → ⊥)
-        → text_result (A.Refused 14 0) w ≡ fresh_text bs w
+        → text_result (refused Rule.WrongState 0) w ≡ fresh_text bs w
     unfolding fresh_text
     fresh_wrong w f =
         ap (λ (x : Answer). text_result x w) refused_14
         ∙ ap as_text_result (call_wrong (take n ws) w f) ∙ by_call (λ fs. fresh_call fs w) w
 
     pub fresh_done : (w u : List ℕ) → u ≡ pack (fresh (program_of (frames_of (take n ws))))
-        → length w ≡ 4834 → text_result (A.Done 0 0) u ≡ fresh_text bs w
+        → length w ≡ 4834 → text_result (done 0 0) u ≡ fresh_text bs w
     unfolding fresh_text
     fresh_done w u z k =
         ap (λ (x : Answer). text_result x u) done_0

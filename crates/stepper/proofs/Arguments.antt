@@ -9,7 +9,8 @@ use Rattle.language.specs.declared.kind.Kind.{Kind}
 use Rattle.language.specs.declared.kind.Kind.TheVariants.{Header, Declared, Module, Statement}
 use Rattle.language.specs.declared.kind.Kind.TheVariants.{Expression, Unknown}
 use Rattle.language.specs.declared.frame.Frame.{Frame}
-use Rattle.program.specs.Trees.{Expr, Stmt, nothing, seq, do_at, start, start_wait, cooperate, let_in}
+use Rattle.program.specs.Trees.{Expr, Stmt, nothing, seq, do_at, start, start_wait, cooperate}
+use Rattle.program.specs.Trees.{let_in}
 use Rattle.program.specs.Trees.{store, if_else, while, frame_at, arguments, statement_with}
 use Rattle.program.specs.Trees.{statement_of, statement_to, statement_at, expression_at}
 use Rattle.program.specs.Trees.{generate, await}

@@ -22,12 +22,12 @@ use Rattle.machine.specs.Calls.{CallResult, step_call, calls_from, words_from}
 use Rattle.machine.proofs.Calls.{step_packs}
 use Rattle.machine.proofs.InShape.{shaped_in_range}
 use Rattle.machine.proofs.KeptShape.{keeps_step}
-use Rattle.stepper.specs.declared.answer.Answer.{Answer}
-use Rattle.stepper.specs.declared.answer.Answer.TheVariants as A
+use Rattle.language.specs.declared.refusal.Rule.{Rule}
 use Rattle.stepper.specs.declared.file.File.{File}
 use Rattle.stepper.specs.declared.party.StepAnswer.{StepAnswer}
-use Rattle.stepper.specs.Answers.{step_code, answer_word, batch_result, steps_call, steps_text}
-use Rattle.stepper.specs.Inner.Files.{StepWords, state_in, file_of, stepped_on}
+use Rattle.stepper.specs.Answers.{Answer, done, refused, rejected, step_code, answer_word}
+use Rattle.stepper.specs.Answers.{batch_result, steps_call, steps_text}
+use Rattle.stepper.specs.Inner.Files.{StepWords, step_number, state_in, file_of, stepped_on}
 use Rattle.stepper.proofs.GoodWords.{fits_in, shaped}
 
 -- a step leaves words that are good for the next
@@ -54,13 +54,8 @@ pub record Stepping (frames : List ℕ) (shared : ℕ) (cs old w before out : Li
   pub answers : take k out ++ map answer_word (calls_from (frames_of frames) w (drop k cs))
       ≡ map answer_word (calls_from (frames_of frames) old cs)
 
-pub stepping_start : (frames : List ℕ) (shared : ℕ) (cs w out : List ℕ) → StepWords frames shared w
-    → Stepping frames shared cs w w out out 0
-stepping_start frames shared cs w out h =
-    record { few = omega arith; long = refl; wide = refl; good = h; words = refl; answers = refl }
-
 module _ (frames : List ℕ) (shared : ℕ) (cs old w before out : List ℕ) (k : ℕ) (r : Stepping frames shared cs old w before out k) where
-  module _ (room : length before ≡ length cs) (h : k < length cs) (s : StepAnswer) (v : List ℕ) (a : ℕ) (z : stepped_on s v ≡ step_call (frames_of frames) w (get_or cs k 0)) (e : a ≡ step_code s.answer s.thread s.accesses) where
+  module _ (room : length before ≡ length cs) (h : k < length cs) (s : StepAnswer) (v : List ℕ) (a : ℕ) (z : stepped_on s v ≡ step_call (frames_of frames) w (get_or cs k 0)) (e : a ≡ step_code (step_number s.refusal) s.thread s.accesses) where
     abbrev next : CallResult
     next = step_call (frames_of frames) w (get_or cs k 0)
 
@@ -139,32 +134,32 @@ module _ (frames w cs out : List ℕ) where
   and_off false = refl
 
   pub steps_wrong : (length out ≡ length cs → ⊥)
-      → batch_result (A.Refused 14 0) w out ≡ steps_call (frames_of frames) w cs out
+      → batch_result (refused Rule.WrongState 0) w out ≡ steps_call (frames_of frames) w cs out
   unfolding steps_call
   steps_wrong f = sym (if_no _ _ (ap (λ (b : Bool). b && F) (ne_eqb (length out) (length cs) f)))
 
-  module _ (file : File) (e : file ≡ file_of (program_of (frames_of frames))) (x : Bool) (q : x ≡ in_range (frames_of frames) file.schedulers w) where
+  module _ (file : File) (e : file ≡ file_of (program_of (frames_of frames))) (x : Bool) (q : x ≡ in_range (frames_of frames) file.schedulers.count w) where
     range_of : x ≡ F
-    range_of = q ∙ ap (λ (f : File). in_range (frames_of frames) f.schedulers w) e
+    range_of = q ∙ ap (λ (f : File). in_range (frames_of frames) f.schedulers.count w) e
 
     pub steps_out : not x ≡ true
-        → batch_result (A.Refused 14 0) w out ≡ steps_call (frames_of frames) w cs out
+        → batch_result (refused Rule.WrongState 0) w out ≡ steps_call (frames_of frames) w cs out
     unfolding steps_call
     steps_out h = sym (if_no _ _ (ap (λ (b : Bool). eqb (length out) (length cs) && b) (sym range_of ∙ not-true x h) ∙ and_off (eqb (length out) (length cs))))
 
   pub steps_in : (shared : ℕ) (v u : List ℕ) → StepWords frames shared w → length out ≡ length cs
       → v ≡ words_from (frames_of frames) w cs → u ≡ map answer_word (calls_from (frames_of frames) w cs)
-      → batch_result (A.Done 0 0) v u ≡ steps_call (frames_of frames) w cs out
+      → batch_result (done 0 0) v u ≡ steps_call (frames_of frames) w cs out
   unfolding steps_call
   steps_in shared v u g l a b =
-      ap₂ (batch_result (A.Done 0 0)) a b
+      ap₂ (batch_result (done 0 0)) a b
       ∙ sym (if_yes _ _ (ap₂ ◌&&◌ (eq-eqb (length out) (length cs) l) g.range))
 
 -- ---- on a text
 module _ (bs : List ℕ) (l : Laid) (ws : List ℕ) (e : laid_as l ws ≡ laid_words bs)
     (w cs out : List ℕ) where
   pub steps_rejected : (d : Refusal) → l ≡ Err d
-      → batch_result (A.Rejected d.number d.frame) w out ≡ steps_text bs w cs out
+      → batch_result (rejected d.rule d.frame) w out ≡ steps_text bs w cs out
   unfolding steps_text
   steps_rejected d z = text_refused _ _ bs l ws e d z
 
@@ -174,5 +169,5 @@ module _ (bs : List ℕ) (l : Laid) (ws : List ℕ) (e : laid_as l ws ≡ laid_w
   unfolding steps_text
   steps_done n a r u o z =
       z
-      ∙ text_passed (λ n j. batch_result (A.Rejected n j) w out) (λ fs. steps_call fs w cs out) bs
+      ∙ text_passed (λ r j. batch_result (rejected r j) w out) (λ fs. steps_call fs w cs out) bs
       l ws e n a

@@ -15,8 +15,8 @@ use Rattle.language.specs.declared.kind.Kind.{Kind}
 use Rattle.language.specs.declared.kind.Kind.TheVariants.{Header, Declared, Module, Statement}
 use Rattle.language.specs.declared.kind.Kind.TheVariants.{Expression, Unknown}
 use Rattle.language.specs.declared.frame.Frame.{Frame}
-use Rattle.program.specs.Trees.{Expr, Stmt, nothing, seq, start, cooperate}
-use Rattle.program.specs.Trees.{store, while, frame_at, root_s, arguments, statement_with}
+use Rattle.program.specs.Trees.{Expr, Stmt}
+use Rattle.program.specs.Trees.{while, frame_at, root_s, arguments, statement_with}
 use Rattle.program.specs.Trees.{statement_of, statement_to, statement_at, expression_at}
 use Rattle.program.specs.Programs.{Program}
 use Rattle.layout.specs.Faults.{NoFault}

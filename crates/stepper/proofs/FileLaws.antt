@@ -53,10 +53,10 @@ file_links words g = links_placed (frames_of words) g.laid_out
 pub file_is : (words : List ℕ) (f : Frame) (n a : ℕ) (labels : List ℕ)
     → f ≡ frame_of_word (get_or words 0 0) → n ≡ length (shared_of (frames_of words)) → a ≡ allowance_of f.a
     → labels ≡ labels_of (links_of (frames_of words)) → FileWords words
-    → ◌≡◌ {A = File} (record { schedulers = f.b; shared = n; allowance = a; labels = labels })
+    → ◌≡◌ {A = File} (record { schedulers = record { labels = labels; count = f.b }; shared = n; allowance = a })
     (file_of (program_of (frames_of words)))
 unfolding program_of
 file_is words f n a labels e h k l g =
     let z = file_header words g f e in
     let y = k ∙ ap (λ (x : Frame). allowance_of x.a) z in
-    λ i. record { schedulers = (z i).b; shared = h i; allowance = y i; labels = l i }
+    λ i. record { schedulers = record { labels = l i; count = (z i).b }; shared = h i; allowance = y i }

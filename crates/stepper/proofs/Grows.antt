@@ -10,8 +10,10 @@ use Rattle.basics.proofs.Ifs.{if_all}
 use Rattle.program.specs.Trees.{Expr, number, truth, variable, shared, new, content, sum, less}
 use Rattle.program.specs.Trees.{choose}
 use Rattle.machine.specs.State.{Stored, cell_at, is_used, free_number, used_cells}
-use Rattle.machine.specs.Evaluation.{Here, EvalResult, Evaluation, gives, with_accesses, and_then, ◌>>=◌}
-use Rattle.machine.specs.Evaluation.{is_own, access_of, accessing, at_cell, read_variable, shared_cell}
+use Rattle.machine.specs.Evaluation.{Here, EvalResult, Evaluation, gives, with_accesses, and_then}
+use Rattle.machine.specs.Evaluation.{◌>>=◌}
+use Rattle.machine.specs.Evaluation.{is_own, access_of, accessing, at_cell, read_variable}
+use Rattle.machine.specs.Evaluation.{shared_cell}
 use Rattle.machine.specs.Evaluation.{add_cell, new_owner, make_cell, read_cell, store_cell, put_in}
 use Rattle.machine.specs.Evaluation.{of_numbers, plus, less_than, by_truth, a_number, eval, storing}
 use Rattle.machine.specs.declared.value.Value.{Value}

@@ -15,33 +15,33 @@ use Rattle.basics.proofs.Ifs.{if_yes, if_no}
 use Rattle.language.specs.Groups.{in_step}
 use Rattle.language.specs.Places.{is_scheduler}
 use Rattle.language.specs.Inner.Labels.{labels_of, same_label, in_group}
-use Rattle.language.proofs.Labels.{labels_length, same_in_step}
+use Rattle.language.proofs.Labels.{same_in_step}
+use Rattle.language.specs.declared.group.Schedulers.{Schedulers}
 use Rattle.language.proofs.PlaceLaws.{has_scheduler_lem}
 use Rattle.text.specs.Frames.{frames_of}
 use Rattle.program.specs.Trees.{frame_at}
 use Rattle.program.specs.Programs.{Program, program_of, events_of, owner_of_event}
-use Rattle.machine.specs.State.{State, Scheduler, scheduler_at, with_present}
+use Rattle.machine.specs.State.{State, scheduler_at, with_present}
 use Rattle.machine.specs.Groups.{schedulers_where, members}
 use Rattle.machine.specs.Turns.{access_count, is_scheduler_of}
 use Rattle.machine.specs.Steps.{without_events_of, end_on_each, has_active, has_ready, end_instant}
-use Rattle.machine.specs.Words.{pack}
 use Rattle.machine.specs.Calls.{as_call, call_result}
 use Rattle.machine.specs.Shapes.{SchedulerFits}
 use Rattle.machine.proofs.WordLaws.{Says, is_pack}
 use Rattle.machine.proofs.GroupLaws.{ended_present}
 use Rattle.machine.proofs.KeptShape.{scheduler_fits}
+use Rattle.lists.specs.Inner.Lists.{ListsFit}
 use Rattle.machine.proofs.Lists.{all_imply}
 use Rattle.lists.proofs.Instants.{active_read}
 use Rattle.states.specs.Inner.Events.{without_events}
 use Rattle.states.proofs.EventLaws.{clear_says}
-use Rattle.groups.specs.Inner.Members.{members_in, any_active_on, ready_on, ended_on, GroupOf, GroupWords}
+use Rattle.groups.specs.Inner.Members.{members_in, any_active_on, ready_on, ended_on, GroupOf}
 use Rattle.groups.specs.Inner.Members.{Each, IdleOn}
 use Rattle.groups.proofs.MembersSay.{ListsShaped, Idle, active_says, ended_says, ready_says}
 use Rattle.groups.proofs.MembersSay.{none_ended}
-use Rattle.commits.specs.Inner.Commits.{Grouping, grouping}
 use Rattle.stepper.specs.Inner.Files.{StepWords, InstantWords, state_in}
 use Rattle.stepper.proofs.Transitions.{scheduler_there}
-use Rattle.stepper.proofs.GoodWords.{fits_in, shaped, says, step_long, threads_few, few_events}
+use Rattle.stepper.proofs.GoodWords.{fits_in, shaped, says, threads_few, few_events}
 use Rattle.stepper.proofs.GoodWords.{owners_in, active_short, next_short}
 use Rattle.stepper.proofs.Groups.{scheduler_in, members_same, members_there, in_group_lem}
 use Rattle.stepper.proofs.Groups.{cleared_same}
@@ -77,8 +77,8 @@ no_first : (ts : List ℕ) → elim ts [ [] ↦ false | t ∷ us ↦ true ] ≡ 
 no_first [] h = refl
 no_first (t ∷ ts) h = absurd (true≢false h)
 
-module _ (frames : List ℕ) (labels : List ℕ) (n : ℕ) (w : List ℕ) (c : ℕ)
-    (I : InstantWords frames (grouping labels n) w c) where
+module _ (frames : List ℕ) (G : Schedulers) (w : List ℕ) (c : ℕ)
+    (I : InstantWords frames G w c) where
   abbrev P : Program
   P = program_of (frames_of frames)
 
@@ -91,11 +91,11 @@ module _ (frames : List ℕ) (labels : List ℕ) (n : ℕ) (w : List ℕ) (c : �
   h : StepWords frames I.shared w
   h = I.step
 
-  labels_are : labels ≡ labels_of P.links
-  labels_are = ap (λ (g : Grouping). g.labels) I.groups
+  labels_are : G.labels ≡ labels_of P.links
+  labels_are = ap (λ (g : Schedulers). g.labels) I.groups
 
-  count_is : n ≡ P.schedulers
-  count_is = ap (λ (g : Grouping). g.schedulers) I.groups
+  count_is : G.count ≡ P.schedulers
+  count_is = ap (λ (g : Schedulers). g.count) I.groups
 
   most : P.schedulers ≤ 8
   most = (fits_in frames I.shared w h).most_schedulers
@@ -105,30 +105,20 @@ module _ (frames : List ℕ) (labels : List ℕ) (n : ℕ) (w : List ℕ) (c : �
   there = scheduler_there (fits_in frames I.shared w h) (shaped frames I.shared w h) c I.party
 
   -- ---- what the calls ask
-  pub instant_group : GroupOf labels n c
+  pub instant_group : GroupOf G.count c
   instant_group =
       record {
-        labelled = ap length labels_are ∙ labels_length P.links 2 8;
         scheduler = there.1;
         few = let l = most in let e = count_is in omega arith;
       }
 
-  pub instant_long : length w ≡ 4834
-  instant_long = step_long frames I.shared w h
-
-  pub instant_words : GroupWords w
+  pub instant_words : ListsFit w
   instant_words =
       record {
-        all = step_long frames I.shared w h;
-        lists = record {
-          threads = threads_few frames I.shared w h;
-          active = active_short frames I.shared w h;
-          next = next_short frames I.shared w h;
-        };
+        threads = threads_few frames I.shared w h;
+        active = active_short frames I.shared w h;
+        next = next_short frames I.shared w h;
       }
-
-  pub instant_labels : length labels ≡ 8
-  instant_labels = instant_group.labelled
 
   pub instant_scheduler : is_scheduler c ≡ true
   instant_scheduler = there.1
@@ -140,7 +130,7 @@ module _ (frames : List ℕ) (labels : List ℕ) (n : ℕ) (w : List ℕ) (c : �
   abbrev qs : List ℕ
   qs = members P c
 
-  members_are : members_in labels n c ≡ qs
+  members_are : members_in G.labels G.count c ≡ qs
   members_are =
       ap₂ (λ (ls : List ℕ) (k : ℕ). members_in ls k c) labels_are count_is
       ∙ members_same P.links P.schedulers c most there.1
@@ -158,7 +148,7 @@ module _ (frames : List ℕ) (labels : List ℕ) (n : ℕ) (w : List ℕ) (c : �
   words_say = says frames I.shared w h
 
   -- a member is active in the words where it is in the state
-  module _ (b : Bool) (eb : b ≡ any_active_on (members_in labels n c) w) where
+  module _ (b : Bool) (eb : b ≡ any_active_on (members_in G.labels G.count c) w) where
     active_is : b ≡ any (has_active s) qs
     active_is =
         eb ∙ ap (λ (l : List ℕ). any_active_on l w) members_are
@@ -182,7 +172,7 @@ module _ (frames : List ℕ) (labels : List ℕ) (n : ℕ) (w : List ℕ) (c : �
           let l = most in
           record { low = omega arith; there = omega arith; most = omega arith; idle = idle_each }
 
-      pub instant_idle : Each (same_label labels c) (IdleOn w) 2 (2 + n)
+      pub instant_idle : Each (same_label G.labels c) (IdleOn w) 2 (2 + G.count)
       instant_idle j a d t =
           let e = count_is in
           let l = most in
@@ -199,8 +189,8 @@ module _ (frames : List ℕ) (labels : List ℕ) (n : ℕ) (w : List ℕ) (c : �
               scheduler_in j P.schedulers l a d
 
       -- the words after the end, and how many were ready
-      module _ (v : List ℕ) (k : ℕ) (count : k ≡ ready_on (members_in labels n c) w)
-          (out : v ≡ ended_on (members_in labels n c) w) where
+      module _ (v : List ℕ) (k : ℕ) (count : k ≡ ready_on (members_in G.labels G.count c) w)
+          (out : v ≡ ended_on (members_in G.labels G.count c) w) where
         ready_is : any (has_ready s) qs ≡ not (eqb k 0)
         ready_is =
             ready_says m (in_step P.links c) 2 P.schedulers w s words_say few lists_shaped idle
@@ -226,7 +216,7 @@ module _ (frames : List ℕ) (labels : List ℕ) (n : ℕ) (w : List ℕ) (c : �
             (ended_says m (in_step P.links c) 2 P.schedulers w s words_say few lists_shaped idle)
 
         -- the owners are schedulers, so the labels say which of them are in step
-        owner_tests : All (λ (o : ℕ). in_group labels c o ≡ in_step P.links c o) P.events
+        owner_tests : All (λ (o : ℕ). in_group G.labels c o ≡ in_step P.links c o) P.events
         owner_tests =
             each_member P.events (λ e l.
             ap (λ (ls : List ℕ). in_group ls c (owner_of_event P e)) labels_are
@@ -238,19 +228,19 @@ module _ (frames : List ℕ) (labels : List ℕ) (n : ℕ) (w : List ℕ) (c : �
             each_member [] f = All.none
             each_member (o ∷ os) f = All.more (f 0 (omega arith)) (each_member os (λ e l. f (suc e) (omega arith)))
 
-        cleared : (y : List ℕ) → y ≡ without_events (in_group labels c) P.events v m
+        cleared : (y : List ℕ) → y ≡ without_events (in_group G.labels c) P.events v m
             → Says y (with_present (without_events_of (in_step P.links c) P.events s.present) (end_on_each qs s))
         cleared y e =
             subst (λ (l : List Bool). Says y (with_present l (end_on_each qs s)))
-            (cleared_same (in_group labels c) (in_step P.links c) P.events (end_on_each qs s).present owner_tests
+            (cleared_same (in_group G.labels c) (in_step P.links c) P.events (end_on_each qs s).present owner_tests
             ∙ ap (without_events_of (in_step P.links c) P.events) (ended_present qs s))
-            (subst (λ (l : List ℕ). Says l (with_present (without_events_of (in_group labels c) P.events (end_on_each qs s).present) (end_on_each qs s))) (sym e)
-            (clear_says (in_group labels c) m P.events v (end_on_each qs s) ended
+            (subst (λ (l : List ℕ). Says l (with_present (without_events_of (in_group G.labels c) P.events (end_on_each qs s).present) (end_on_each qs s))) (sym e)
+            (clear_says (in_group G.labels c) m P.events v (end_on_each qs s) ended
             (fits_in frames I.shared w h).events
             (ap length (ended_present qs s) ∙ (shaped frames I.shared w h).events) instant_events))
 
         pub instant_done : (k ≡ 0 → ⊥) → (y : List ℕ)
-            → y ≡ without_events (in_group labels c) (events_of (frames_of frames)) v m
+            → y ≡ without_events (in_group G.labels c) (events_of (frames_of frames)) v m
             → call_result 0 0 0 y ≡ as_call w (end_instant P s c)
         unfolding end_instant access_count when◌then◌else◌ program_of
         instant_done z y e =

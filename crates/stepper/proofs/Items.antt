@@ -5,6 +5,7 @@ use mathlib.Core.List.{List, [], ◌∷◌, ◌++◌, map}
 use mathlib.Core.Bool.{Bool, true, false}
 use native.Mathlib.Omega.{arith}
 use lib.ListN.{length, length-map}
+use Rattle.language.specs.declared.refusal.Rule.{Rule}
 use Rattle.basics.specs.Members.{All, none, more}
 use Rattle.language.specs.declared.frame.Frame.{Frame}
 use Rattle.program.specs.Trees.{Expr, Stmt, while, root_s}
@@ -12,7 +13,8 @@ use Rattle.program.specs.Programs.{Program}
 use Rattle.machine.specs.Accesses.{Access}
 use Rattle.machine.specs.State.{State, Stored, Thread, run, drop, used_cells}
 use Rattle.machine.specs.Evaluation.{Here, EvalResult, Evaluation, eval, storing}
-use Rattle.machine.specs.Turns.{StepResult, Turn, continuation, variables, accept, evaluator, after_eval}
+use Rattle.machine.specs.Turns.{StepResult, Turn, continuation, variables, accept, evaluator}
+use Rattle.machine.specs.Turns.{after_eval}
 use Rattle.machine.specs.Turns.{go_on, with_value, with_values, by_condition, stay, settled}
 use Rattle.machine.specs.Statements.{step_nothing, step_seq, step_start, step_start_wait, step_let}
 use Rattle.machine.specs.Statements.{step_store, step_if, step_while, starting, started_wait}
@@ -37,9 +39,12 @@ use Rattle.evaluator.specs.Inner.Results.{here_of, cells_from, result_of, on_wor
 use Rattle.evaluator.proofs.Holding.{Holds, holds_cells}
 use Rattle.states.specs.Inner.Threads.{thread_words_of}
 use Rattle.acts.specs.Inner.Transitions.{TurnResult}
-use Rattle.turns.specs.Inner.Acts.{TurnOutcome, turn_outcome, then_acts, then_on, by_truth_in, lets_on, stores_on}
-use Rattle.turns.specs.Inner.Acts.{chooses_on, loops_on, variables_in, evaluated_in, stored_in, request}
-use Rattle.turns.specs.Inner.Acts.{start_turn, one_argument, last_argument, two_arguments, statement_in}
+use Rattle.turns.specs.Inner.Acts.{TurnOutcome, turn_outcome, then_acts, then_on, by_truth_in}
+use Rattle.turns.specs.Inner.Acts.{lets_on, stores_on}
+use Rattle.turns.specs.Inner.Acts.{chooses_on, loops_on, variables_in, evaluated_in, stored_in}
+use Rattle.turns.specs.Inner.Acts.{request}
+use Rattle.turns.specs.Inner.Acts.{start_turn, one_argument, last_argument, two_arguments}
+use Rattle.turns.specs.Inner.Acts.{statement_in}
 use Rattle.stepper.proofs.Grows.{Grown, grown_on, grows_eval, UnlessValue, unless_on}
 use Rattle.stepper.proofs.Grows.{unless_grown, grows_storing}
 use Rattle.stepper.proofs.Transitions.{Acts, turn_at, commit, commit_on, refuse_is}
@@ -103,9 +108,9 @@ module _ {fs : List Frame} {P : Program} {n : ℕ} {w : List ℕ} {s : State} {c
         → commit A (then_acts o (thread_words_of x) (used_cells cs) K) cs
         ≡ as_committed w (go_on (turn_at A x cs acc) o F)
     then_is (Is v) K F g f = f v refl
-    then_is Foreign K F g f = refuse_is A x cs acc 19 (thread_words_of x) g l refl
-    then_is Spent K F g f = refuse_is A x cs acc 17 (thread_words_of x) g l refl
-    then_is Stuck K F g f = refuse_is A x cs acc 20 (thread_words_of x) g l refl
+    then_is Foreign K F g f = refuse_is A x cs acc Rule.Foreign (thread_words_of x) g l
+    then_is Spent K F g f = refuse_is A x cs acc Rule.CellsSpent (thread_words_of x) g l
+    then_is Stuck K F g f = refuse_is A x cs acc Rule.Stuck (thread_words_of x) g l
 
     by_truth : (v : Value) (a b : TurnResult) (y z : StepResult) → Grown s.cells cs
         → commit A a cs ≡ as_committed w y → commit A b cs ≡ as_committed w z
@@ -113,8 +118,8 @@ module _ {fs : List Frame} {P : Program} {n : ℕ} {w : List ℕ} {s : State} {c
         ≡ as_committed w (by_condition (turn_at A x cs acc) v y z)
     by_truth (Truth true) a b y z g f h = f
     by_truth (Truth false) a b y z g f h = h
-    by_truth (Number m) a b y z g f h = refuse_is A x cs acc 20 (thread_words_of x) g l refl
-    by_truth (Cell d) a b y z g f h = refuse_is A x cs acc 20 (thread_words_of x) g l refl
+    by_truth (Number m) a b y z g f h = refuse_is A x cs acc Rule.Stuck (thread_words_of x) g l
+    by_truth (Cell d) a b y z g f h = refuse_is A x cs acc Rule.Stuck (thread_words_of x) g l
 
   module _ (cs : List Stored) (acc : List Access) (C : CellsFit n cs) (g : Grown s.cells cs) where
     abbrev u : Turn
@@ -202,10 +207,10 @@ module _ {fs : List Frame} {P : Program} {n : ℕ} {w : List ℕ} {s : State} {c
         ≡ as_committed w (starting (turn_at A x cs acc) m args (next waits args (turn_at A x cs acc)))
     start_is true args h cs acc g l =
         start_commits A x X.place cs acc g l m args true (started_wait (turn_at A x cs acc) m args)
-        (λ ob e r less. waits_is A x X.place cs acc g l m args (rw (length-map args value_word) h) ob e less)
+        (λ known ob e r less. waits_is A x X.place cs acc g l m args (rw (length-map args value_word) h) known ob e less)
     start_is false args h cs acc g l =
         start_commits A x X.place cs acc g l m args false (next false args (turn_at A x cs acc))
-        (λ ob e r less. started_is A x X.place cs acc g l m args (rw (length-map args value_word) h) ob e less r)
+        (λ known ob e r less. started_is A x X.place cs acc g l m args (rw (length-map args value_word) h) known ob e less r)
 
     module _ (waits : Bool) (cs : List Stored) (acc : List Access) (C : CellsFit n cs) (g : Grown s.cells cs) where
       then_on_lem : (o : Outcome) (K : Value → TurnOutcome) (F : Value → Turn → StepResult)
@@ -213,9 +218,9 @@ module _ {fs : List Frame} {P : Program} {n : ℕ} {w : List ℕ} {s : State} {c
           → commit_on A (then_on o (thread_words_of x) (used_cells cs) (cell_words cs) K)
           ≡ as_committed w (go_on (turn_at A x cs acc) o F)
       then_on_lem (Is v) K F f = f v refl
-      then_on_lem Foreign K F f = refuse_is A x cs acc 19 (thread_words_of x) g C.room refl
-      then_on_lem Spent K F f = refuse_is A x cs acc 17 (thread_words_of x) g C.room refl
-      then_on_lem Stuck K F f = refuse_is A x cs acc 20 (thread_words_of x) g C.room refl
+      then_on_lem Foreign K F f = refuse_is A x cs acc Rule.Foreign (thread_words_of x) g C.room
+      then_on_lem Spent K F f = refuse_is A x cs acc Rule.CellsSpent (thread_words_of x) g C.room
+      then_on_lem Stuck K F f = refuse_is A x cs acc Rule.Stuck (thread_words_of x) g C.room
 
       -- the second of two, after the first one's value
       last_is : (e : Expr) → ExprFits n e → (v : Value)

@@ -1,3 +1,4 @@
+pub mod RuleLaws
 -- Words to rules: what a refused turn takes back, each change and each transition of a commit.
 pub mod Grows
 pub mod Commits

@@ -9,6 +9,7 @@ use lib.Dec.{leb, eqb}
 use lib.ListN.{length, get_or, take, length-append}
 use lib.Seq.{take-suc, take-length, length-take-le}
 use borrow.Author.Tests.{leb-true, leb-false, le-leb, lt-leb, eqb-false}
+use Rattle.language.specs.declared.refusal.Rule.{Rule}
 use Rattle.basics.specs.If.{when◌then◌else◌}
 use Rattle.basics.proofs.Ifs.{if_all, if_yes, if_no, and_off}
 use Rattle.language.specs.Places.{private, has_place}
@@ -18,7 +19,8 @@ use Rattle.program.specs.Programs.{Program}
 use Rattle.machine.specs.Accesses.{Access}
 use Rattle.machine.specs.State.{State, Stored, Thread, Item, run, back, drop, plain, enlist}
 use Rattle.machine.specs.State.{used_cells}
-use Rattle.machine.specs.Turns.{state_spaces, StepResult, Turn, here, continuation, variables, refuse}
+use Rattle.machine.specs.Turns.{state_spaces, StepResult, Turn, here}
+use Rattle.machine.specs.Turns.{refuse}
 use Rattle.machine.specs.Turns.{accept, self_at, settled, leave, room, fits, stay, move, go_to}
 use Rattle.machine.specs.Statements.{drops, step_do, step_cooperate}
 use Rattle.machine.specs.Words.{item_word, value_word}
@@ -32,7 +34,8 @@ use Rattle.states.specs.Inner.Stacks.{push_item, push_value, pop_value, move_to}
 use Rattle.states.proofs.StackLaws.{push_item_is, push_value_is, pop_value_is}
 use Rattle.acts.specs.declared.act.Transition.TheVariants.{Stays, Leaves, Joins}
 use Rattle.acts.specs.Inner.Transitions.{TurnResult, acted_in, refused_in}
-use Rattle.turns.specs.Inner.Acts.{one_in, two_in, lets_in, drops_in, goes_in, does_in, cooperates_in}
+use Rattle.turns.specs.Inner.Acts.{one_in, two_in, lets_in, drops_in, goes_in, does_in}
+use Rattle.turns.specs.Inner.Acts.{cooperates_in}
 use Rattle.stepper.proofs.Grows.{Grown}
 use Rattle.stepper.proofs.Transitions.{Acts, turn_at, commit, place_scheduler, refuse_is, stays_is}
 use Rattle.stepper.proofs.Transitions.{leaves_is, joins_is}
@@ -98,11 +101,11 @@ module _ {fs : List Frame} {P : Program} {n : ℕ} {w : List ℕ} {s : State} {c
 
   module _ (g : Grown s.cells cs) (l : used_cells cs ≤ 256) where
     refused_20 : (th : ThreadWords)
-        → commit A (refused_in 20 th (used_cells cs)) cs ≡ as_committed w (refuse u 20)
-    refused_20 th = refuse_is A x cs acc 20 th g l refl
+        → commit A (refused_in Rule.Stuck th (used_cells cs)) cs ≡ as_committed w (refuse u 20)
+    refused_20 th = refuse_is A x cs acc Rule.Stuck th g l
 
     no_stay : (th : ThreadWords) (is : List Item) (vs : List Value) → fits state_spaces is vs ≡ false
-        → commit A (refused_in 20 th (used_cells cs)) cs ≡ as_committed w (stay u is vs)
+        → commit A (refused_in Rule.Stuck th (used_cells cs)) cs ≡ as_committed w (stay u is vs)
     no_stay th is vs e = refused_20 th ∙ ap (as_committed w) (sym (stay_no u is vs e))
 
     yes_stay : (th : ThreadWords) (is : List Item) (vs : List Value) → fits state_spaces is vs ≡ true
@@ -180,7 +183,7 @@ module _ {fs : List Frame} {P : Program} {n : ℕ} {w : List ℕ} {s : State} {c
             (get_or vars (length vars - 1) (Number 0)) (omega arith)
 
         go : (b : Bool) → eqb (length vars) 0 ≡ b
-            → commit A (when eqb (length vars) 0 then refused_in 20 (thread_words_of x) (used_cells cs) else acted_in Stays (pop_value (thread_words_of x)) (used_cells cs)) cs
+            → commit A (when eqb (length vars) 0 then refused_in Rule.Stuck (thread_words_of x) (used_cells cs) else acted_in Stays (pop_value (thread_words_of x)) (used_cells cs)) cs
             ≡ as_committed w (when eqb (length vars) 0 then refuse u 20 else stay u items (take (length vars - 1) vars))
         go true e =
             ap (λ (a : TurnResult). commit A a cs) (if_yes _ _ e) ∙ refused_20 (thread_words_of x)
@@ -251,7 +254,7 @@ module _ {fs : List Frame} {P : Program} {n : ℕ} {w : List ℕ} {s : State} {c
         th = push_item (root_s a) (push_item (1024 + x.place) (thread_words_of x))
 
         go : (b d : Bool) → (eqb x.place 1 && eqb q 1) ≡ b → leb 24 (length items) ≡ d
-            → commit A (when eqb x.place 1 && eqb q 1 then refused_in 20 (thread_words_of x) (used_cells cs) else when leb 24 (length items) then refused_in 20 (thread_words_of x) (used_cells cs) else goes_in x.place th (used_cells cs) q) cs
+            → commit A (when eqb x.place 1 && eqb q 1 then refused_in Rule.Stuck (thread_words_of x) (used_cells cs) else when leb 24 (length items) then refused_in Rule.Stuck (thread_words_of x) (used_cells cs) else goes_in x.place th (used_cells cs) q) cs
             ≡ as_committed w (when eqb x.place 1 && eqb q 1 then refuse u 20 else go_to u q is)
         go true d e z =
             ap (λ (y : TurnResult). commit A y cs) (if_yes _ _ e) ∙ refused_20 (thread_words_of x)
@@ -276,7 +279,7 @@ module _ {fs : List Frame} {P : Program} {n : ℕ} {w : List ℕ} {s : State} {c
         next = when room u 1 x.place then accept u (enlist x.place (plain (suc k)) (leave u (settled u x))) else refuse u 20
 
         go : (b : Bool) → eqb x.place private ≡ b
-            → commit A (when eqb x.place 1 then refused_in 20 (thread_words_of x) (used_cells cs) else acted_in (Joins (record { number = x.place })) (thread_words_of x) (used_cells cs)) cs
+            → commit A (when eqb x.place 1 then refused_in Rule.Stuck (thread_words_of x) (used_cells cs) else acted_in (Joins (record { number = x.place })) (thread_words_of x) (used_cells cs)) cs
             ≡ as_committed w (when eqb x.place private then refuse u 20 else next)
         go true e =
             ap (λ (y : TurnResult). commit A y cs) (if_yes _ _ e) ∙ refused_20 (thread_words_of x)

@@ -9,6 +9,9 @@ use native.Mathlib.Omega.{arith}
 use lib.ListN.{length, get_or}
 use lib.Dec.{leb}
 use borrow.Author.Tests.{le-leb, lt-leb, leb-true, leb-false, not-true, not-false}
+use Rattle.std.specs.Prelude.{Option}
+use Rattle.stepper.specs.Inner.Files.{step_number}
+use Rattle.language.specs.declared.refusal.Rule.{Rule}
 use Rattle.basics.specs.Members.{All, more}
 use Rattle.basics.proofs.Ifs.{if_yes, if_no}
 use Rattle.language.specs.Places.{is_place, has_scheduler, is_scheduler}
@@ -30,7 +33,6 @@ use Rattle.states.specs.Inner.Parties.{is_unlinked_word}
 use Rattle.states.proofs.PartyLaws.{unlinked_low, unlinked_says}
 use Rattle.stepper.specs.declared.file.File.{File}
 use Rattle.stepper.specs.declared.party.StepAnswer.{StepAnswer}
-use Rattle.commits.specs.Inner.Commits.{grouping}
 use Rattle.stepper.specs.Inner.Files.{nobody_answers, stepped_on, InstantWords}
 use Rattle.stepper.specs.Inner.Files.{StepWords, state_in, TurnChoice, file_of, acting_in}
 use Rattle.stepper.proofs.Transitions.{scheduler_there}
@@ -99,10 +101,10 @@ module _ (frames : List ℕ) (shared : ℕ) (w : List ℕ) (h : StepWords frames
       instant_ends r k = k ∙ ap (λ (ts : List ℕ). as_call w (step_scheduler P s c ts)) (sym idle)
 
   -- ---- the whole choice, by the tests of `step_valid`
-  module _ (b : Bool) (file : File) (f : file ≡ file_of P) (q : b ≡ has_scheduler file.schedulers c) where
+  module _ (b : Bool) (file : File) (f : file ≡ file_of P) (q : b ≡ has_scheduler file.schedulers.count c) where
     same : b ≡ is_scheduler_of P c
     unfolding is_scheduler_of
-    same = q ∙ ap (λ (x : File). has_scheduler x.schedulers c) f
+    same = q ∙ ap (λ (x : File). has_scheduler x.schedulers.count c) f
 
     pub is_scheduler_lem : b ≡ true → is_scheduler_of P c ≡ true
     is_scheduler_lem e = sym same ∙ e
@@ -151,9 +153,9 @@ module _ (frames : List ℕ) (shared : ℕ) (w : List ℕ) (h : StepWords frames
             ∙ sym whole
 
   -- ---- by the thread that acts
-  module _ (file : File) (f : file ≡ file_of P) (t : ℕ) (a : t ≡ acting_in file.schedulers w c) where
+  module _ (file : File) (f : file ≡ file_of P) (t : ℕ) (a : t ≡ acting_in file.schedulers.count w c) where
     abbrev has : Bool
-    has = has_scheduler file.schedulers c
+    has = has_scheduler file.schedulers.count c
 
     abbrev unlinked_word : Bool
     unlinked_word = is_unlinked_word w c
@@ -187,7 +189,7 @@ module _ (frames : List ℕ) (shared : ℕ) (w : List ℕ) (h : StepWords frames
           (λ e u z. absurd (some z))
 
     -- where none acts
-    module _ (none : t ≡ 0) (b : Bool) (q : b ≡ has_scheduler file.schedulers c) where
+    module _ (none : t ≡ 0) (b : Bool) (q : b ≡ has_scheduler file.schedulers.count c) where
       pub nobody_steps : not b ≡ true → call_result 15 0 0 w ≡ step_call (frames_of frames) w c
       nobody_steps m =
           acting_cases
@@ -211,13 +213,12 @@ module _ (frames : List ℕ) (shared : ℕ) (w : List ℕ) (h : StepWords frames
             (λ e u z. absurd (true≢false (sym has_is ∙ e)))
 
         module _ (p : Place) (at : p ≡ record { number = c }) where
-          pub idle_asks : (labels : List ℕ) (n : ℕ) → labels ≡ file.labels → n ≡ file.schedulers
-              → InstantWords frames (grouping labels n) w p.number
-          idle_asks labels n k l =
+          pub idle_asks : InstantWords frames file.schedulers w p.number
+          idle_asks =
               record {
                 shared = shared;
                 step = h;
-                groups = ap₂ grouping (k ∙ ap (λ (x : File). x.labels) f) (l ∙ ap (λ (x : File). x.schedulers) f);
+                groups = ap (λ (x : File). x.schedulers) f;
                 party = ap (λ (x : Place). is_scheduler_of P x.number) at ∙ is;
               }
 
@@ -260,6 +261,6 @@ named_low w c d u e = by (leb c 16) refl
     by false k = let l = leb-false c 16 k in omega arith
 
 -- an answer in which no thread acts
-pub answered : (r : StepAnswer) (n : ℕ) (v : List ℕ) (k : CallResult) → r ≡ nobody_answers n
-    → call_result n 0 0 v ≡ k → stepped_on r v ≡ k
+pub answered : (r : StepAnswer) (n : Option Rule) (v : List ℕ) (k : CallResult)
+    → r ≡ nobody_answers n → call_result (step_number n) 0 0 v ≡ k → stepped_on r v ≡ k
 answered r n v k e h = ap (λ (x : StepAnswer). stepped_on x v) e ∙ h

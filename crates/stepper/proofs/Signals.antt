@@ -6,9 +6,15 @@ use mathlib.Core.List.{List}
 use mathlib.Core.Bool.{Bool, true, false, not, ◌&&◌, ◌||◌}
 use native.Mathlib.Omega.{arith}
 use lib.Dec.{leb, ltb, eqb}
-use lib.ListN.{length, get_or, set}
+use lib.ListN.{length, set}
 use lib.Seq.{set-get_or}
 use borrow.Author.Tests.{le-leb, lt-leb, ltb-true, ltb-false, leb-true}
+use Rattle.language.specs.declared.refusal.Rule.{Rule}
+use Rattle.std.specs.Prelude.{Option, Err}
+use Rattle.language.specs.Refusals.{rule_number}
+use Rattle.language.specs.declared.group.Schedulers.{Schedulers}
+use Rattle.program.proofs.EventLaws.{event_found, event_missing}
+use Rattle.commits.specs.Inner.Commits.{Obstacle, unless, generate_obstacle, await_obstacle}
 use Rattle.basics.specs.If.{when◌then◌else◌}
 use Rattle.basics.proofs.Ifs.{if_yes, if_no, and_true}
 use Rattle.language.specs.Places.{private, is_scheduler, has_place}
@@ -16,12 +22,13 @@ use Rattle.language.specs.declared.frame.Frame.{Frame}
 use Rattle.language.proofs.PlaceLaws.{has_place_lem}
 use Rattle.program.specs.Trees.{frame_at}
 use Rattle.program.specs.Programs.{Program, owner_of_event}
-use Rattle.program.specs.Inner.Events.{event_in}
 use Rattle.machine.specs.Accesses.{Access}
 use Rattle.machine.specs.State.{State, Stored, Thread, awaiting, no_thread, thread_at, scheduler_at}
 use Rattle.machine.specs.State.{is_present, with_cells, with_present, enlist, used_cells}
-use Rattle.machine.specs.Turns.{StepResult, Turn, unlinked_here, refuse, accept, settled, leave, room}
-use Rattle.machine.specs.Statements.{with_signal, is_own_event, signalling, wake_on_each, event_group}
+use Rattle.machine.specs.Turns.{StepResult, Turn, unlinked_here, refuse, accept, settled, leave}
+use Rattle.machine.specs.Turns.{room}
+use Rattle.machine.specs.Statements.{with_signal, is_own_event, signalling, wake_on_each}
+use Rattle.machine.specs.Statements.{event_group}
 use Rattle.machine.specs.Statements.{room_to_wake_on, room_to_wake}
 use Rattle.machine.specs.Groups.{members}
 use Rattle.basics.specs.Members.{All}
@@ -42,10 +49,11 @@ use Rattle.groups.specs.Inner.Members.{room_on_each, woken_on}
 use Rattle.groups.proofs.MembersSay.{There, ListsShaped, room_says, woken_says}
 use Rattle.acts.specs.declared.act.Transition.TheVariants.{Generates, Awaits}
 use Rattle.acts.specs.Inner.Transitions.{acted_in}
-use Rattle.commits.specs.Inner.Commits.{Committed, committed, refuses_in, stays_in, left_in, room_in}
+use Rattle.commits.specs.Inner.Commits.{Committed, committed, refuses_in, stays_in, left_in}
+use Rattle.commits.specs.Inner.Commits.{room_in}
 use Rattle.commits.specs.Inner.Commits.{owns_event, wake_room_in, present_in}
 use Rattle.commits.specs.Inner.Commits.{await_room_in, signal_obstacle, generated_in, generates_in}
-use Rattle.commits.specs.Inner.Commits.{awaiting_in, awaits_in, Grouping, members_by}
+use Rattle.commits.specs.Inner.Commits.{awaiting_in, awaits_in, members_by}
 use Rattle.stepper.specs.Inner.Files.{as_committed, grouping_of}
 use Rattle.stepper.proofs.Grows.{Grown}
 use Rattle.stepper.proofs.Groups.{members_same, members_there, group_same, eqb_swap, in_group_lem}
@@ -89,7 +97,7 @@ module _ {fs : List Frame} {P : Program} {n : ℕ} {w : List ℕ} {s : State} {c
   owner_there h = list_there A o (A.owners e h)
 
   -- ---- the tests are the same
-  abbrev G : Grouping
+  abbrev G : Schedulers
   G = grouping_of P
 
   most : P.schedulers ≤ 8
@@ -139,17 +147,12 @@ module _ {fs : List Frame} {P : Program} {n : ℕ} {w : List ℕ} {s : State} {c
       present_says e v (with_cells cs s) cells_say (omega arith)
 
   -- ---- the answers
-  abbrev by_obstacle : ℕ → Committed → Committed
-  by_obstacle m r =
-      when not (eqb m 0) then refuses_in v (used_cells s.cells) (suc k) m else r
+  abbrev by_obstacle : Obstacle → Committed → Committed
+  by_obstacle m r = unless m (refuses_in v (used_cells s.cells) (suc k)) r
 
-  stopped : (m : ℕ) (r : Committed) → eqb m 0 ≡ false
-      → by_obstacle m r ≡ as_committed w (refuse u m)
-  stopped m r z =
-      if_yes _ _ (ap not z) ∙ refuse_is A x cs acc m (thread_words_of x) g l z
-
-  passed : (r : Committed) → by_obstacle 0 r ≡ r
-  passed r = if_no _ _ refl
+  stopped : (m : Rule) (r : Committed)
+      → by_obstacle (Err m) r ≡ as_committed w (refuse u (rule_number m))
+  stopped m r = refuse_is A x cs acc m (thread_words_of x) g l
 
   missing : ltb e (length P.events) ≡ false → leb (length P.events) e ≡ true
   missing q = le-leb (length P.events) e (ltb-false e (length P.events) q)
@@ -190,11 +193,14 @@ module _ {fs : List Frame} {P : Program} {n : ℕ} {w : List ℕ} {s : State} {c
 
   pub generates_is : commit A (acted_in (Generates e) (thread_words_of x) (used_cells cs)) cs
       ≡ as_committed w (step_generate u e)
-  unfolding generates_in signal_obstacle event_in step_generate signalling
+  unfolding generates_in signal_obstacle step_generate signalling
   generates_is = by_there (ltb e (length P.events)) refl
     where
       r : Committed
       r = committed 0 (suc k) (generated_in G (stays_in v (suc k) (acted_in (Generates e) (thread_words_of x) (used_cells cs))) x.place e)
+
+      by_event : Option ℕ → Committed
+      by_event y = by_obstacle (generate_obstacle G v y x.place e) r
 
       by_own : ltb e (length P.events) ≡ true → room_to_wake u e ≡ true
           → (d : Bool) → is_own_event u e ≡ d
@@ -202,15 +208,16 @@ module _ {fs : List Frame} {P : Program} {n : ℕ} {w : List ℕ} {s : State} {c
           ≡ as_committed w (step_generate u e)
       by_own q h false z =
           let y = ltb-true e (length P.events) q in
-          ap (λ (m : ℕ). by_obstacle m r)
-          (if_no _ _ (ap not q) ∙ if_no _ _ (ap not (room_same y ∙ h)) ∙ if_yes _ _ (ap not (own_same y ∙ z)))
-          ∙ stopped 19 r refl
+          ap by_event (event_found P e y)
+          ∙ ap (λ (m : Obstacle). by_obstacle m r)
+          (if_no _ _ (ap not (room_same y ∙ h)) ∙ if_yes _ _ (ap not (own_same y ∙ z)))
+          ∙ stopped Rule.Foreign r
           ∙ ap (as_committed w) (sym (if_no _ _ (found q) ∙ if_no _ _ (ap not h) ∙ if_no _ _ z))
       by_own q h true z =
           let y = ltb-true e (length P.events) q in
-          ap (λ (m : ℕ). by_obstacle m r)
-          (if_no _ _ (ap not q) ∙ if_no _ _ (ap not (room_same y ∙ h)) ∙ if_no _ _ (ap not (own_same y ∙ z)))
-          ∙ passed r
+          ap by_event (event_found P e y)
+          ∙ ap (λ (m : Obstacle). by_obstacle m r)
+          (if_no _ _ (ap not (room_same y ∙ h)) ∙ if_no _ _ (ap not (own_same y ∙ z)))
           ∙ ap (committed 0 (suc k)) (is_pack _ _ (generated_says y h z))
           ∙ ap (as_committed w) (sym (if_no _ _ (found q) ∙ if_no _ _ (ap not h) ∙ if_yes _ _ z))
 
@@ -219,9 +226,10 @@ module _ {fs : List Frame} {P : Program} {n : ℕ} {w : List ℕ} {s : State} {c
           ≡ as_committed w (step_generate u e)
       by_room q false h =
           let y = ltb-true e (length P.events) q in
-          ap (λ (m : ℕ). by_obstacle m r)
-          (if_no _ _ (ap not q) ∙ if_yes _ _ (ap not (room_same y ∙ h)))
-          ∙ stopped 20 r refl
+          ap by_event (event_found P e y)
+          ∙ ap (λ (m : Obstacle). by_obstacle m r)
+          (if_yes _ _ (ap not (room_same y ∙ h)))
+          ∙ stopped Rule.Stuck r
           ∙ ap (as_committed w) (sym (if_no _ _ (found q) ∙ if_yes _ _ (ap not h)))
       by_room q true h = by_own q h (is_own_event u e) refl
 
@@ -229,7 +237,7 @@ module _ {fs : List Frame} {P : Program} {n : ℕ} {w : List ℕ} {s : State} {c
           → commit A (acted_in (Generates e) (thread_words_of x) (used_cells cs)) cs
           ≡ as_committed w (step_generate u e)
       by_there false q =
-          ap (λ (m : ℕ). by_obstacle m r) (if_yes _ _ (ap not q)) ∙ stopped 20 r refl
+          ap by_event (event_missing P e (ltb-false e (length P.events) q)) ∙ stopped Rule.Stuck r
           ∙ ap (as_committed w) (sym (if_yes _ _ (missing q)))
       by_there true q = by_room q (room_to_wake u e) refl
 
@@ -308,7 +316,7 @@ module _ {fs : List Frame} {P : Program} {n : ℕ} {w : List ℕ} {s : State} {c
 
   pub awaits_is : commit A (acted_in (Awaits e) (thread_words_of x) (used_cells cs)) cs
       ≡ as_committed w (step_await u e)
-  unfolding awaits_in signal_obstacle event_in step_await signalling
+  unfolding awaits_in signal_obstacle step_await signalling
   awaits_is = by_there (ltb e (length P.events)) refl
     where
       r : Committed
@@ -339,6 +347,9 @@ module _ {fs : List Frame} {P : Program} {n : ℕ} {w : List ℕ} {s : State} {c
           (leave_same (settled u (thread_at s (suc k))))
           ∙ ap (as_committed w) (sym (if_no _ _ y))
 
+      by_event : Option ℕ → Committed
+      by_event y = by_obstacle (await_obstacle G v y x.place e) r
+
       by_own : ltb e (length P.events) ≡ true
           → (is_present s e || unlinked_here u || room u 1 x.place) ≡ true
           → (d : Bool) → is_own_event u e ≡ d
@@ -346,15 +357,17 @@ module _ {fs : List Frame} {P : Program} {n : ℕ} {w : List ℕ} {s : State} {c
           ≡ as_committed w (step_await u e)
       by_own q h false z =
           let y = ltb-true e (length P.events) q in
-          ap (λ (m : ℕ). by_obstacle m r)
-          (if_no _ _ (ap not q) ∙ if_no _ _ (ap not (await_room_same y ∙ h)) ∙ if_yes _ _ (ap not (own_same y ∙ z)))
-          ∙ stopped 19 r refl
+          ap by_event (event_found P e y)
+          ∙ ap (λ (m : Obstacle). by_obstacle m r)
+          (if_no _ _ (ap not (await_room_same y ∙ h)) ∙ if_yes _ _ (ap not (own_same y ∙ z)))
+          ∙ stopped Rule.Foreign r
           ∙ ap (as_committed w) (sym (if_no _ _ (found q) ∙ if_no _ _ (ap not h) ∙ if_no _ _ z))
       by_own q h true z =
           let y = ltb-true e (length P.events) q in
-          ap (λ (m : ℕ). by_obstacle m r)
-          (if_no _ _ (ap not q) ∙ if_no _ _ (ap not (await_room_same y ∙ h)) ∙ if_no _ _ (ap not (own_same y ∙ z)))
-          ∙ passed r ∙ by_present q h z (is_present s e) refl
+          ap by_event (event_found P e y)
+          ∙ ap (λ (m : Obstacle). by_obstacle m r)
+          (if_no _ _ (ap not (await_room_same y ∙ h)) ∙ if_no _ _ (ap not (own_same y ∙ z)))
+          ∙ by_present q h z (is_present s e) refl
           ∙ ap (as_committed w)
           (sym (if_no _ _ (found q) ∙ if_no _ _ (ap not h) ∙ if_yes awaited _ z))
 
@@ -364,9 +377,10 @@ module _ {fs : List Frame} {P : Program} {n : ℕ} {w : List ℕ} {s : State} {c
           ≡ as_committed w (step_await u e)
       by_room q false h =
           let y = ltb-true e (length P.events) q in
-          ap (λ (m : ℕ). by_obstacle m r)
-          (if_no _ _ (ap not q) ∙ if_yes _ _ (ap not (await_room_same y ∙ h)))
-          ∙ stopped 20 r refl
+          ap by_event (event_found P e y)
+          ∙ ap (λ (m : Obstacle). by_obstacle m r)
+          (if_yes _ _ (ap not (await_room_same y ∙ h)))
+          ∙ stopped Rule.Stuck r
           ∙ ap (as_committed w) (sym (if_no _ _ (found q) ∙ if_yes _ _ (ap not h)))
       by_room q true h = by_own q h (is_own_event u e) refl
 
@@ -374,6 +388,6 @@ module _ {fs : List Frame} {P : Program} {n : ℕ} {w : List ℕ} {s : State} {c
           → commit A (acted_in (Awaits e) (thread_words_of x) (used_cells cs)) cs
           ≡ as_committed w (step_await u e)
       by_there false q =
-          ap (λ (m : ℕ). by_obstacle m r) (if_yes _ _ (ap not q)) ∙ stopped 20 r refl
+          ap by_event (event_missing P e (ltb-false e (length P.events) q)) ∙ stopped Rule.Stuck r
           ∙ ap (as_committed w) (sym (if_yes _ _ (missing q)))
       by_there true q = by_room q (is_present s e || unlinked_here u || room u 1 x.place) refl

@@ -10,6 +10,7 @@ use lib.ListN.{length, get_or}
 use lib.Seq.{ext_get_or}
 use borrow.Author.Tests.{leb-true, leb-false, le-ltb, lt-ltb, eqb-true, eqb-false, eq-eqb, ne_eqb}
 use borrow.Author.Tests.{not-false}
+use Rattle.language.specs.declared.refusal.Rule.{Rule}
 use Rattle.basics.specs.If.{when◌then◌else◌}
 use Rattle.basics.proofs.Ifs.{if_all, if_yes, if_no}
 use Rattle.language.specs.Places.{has_place, has_scheduler, is_scheduler}
@@ -18,7 +19,8 @@ use Rattle.program.specs.Trees.{root_s}
 use Rattle.program.specs.Programs.{Program, module_at}
 use Rattle.machine.specs.Accesses.{Access}
 use Rattle.machine.specs.State.{State, Stored, Thread, plain, waiting, with_new, enlist, used_cells}
-use Rattle.machine.specs.Turns.{StepResult, Turn, unlinked_here, refuse, accept, settled, leave, room}
+use Rattle.machine.specs.Turns.{StepResult, Turn, unlinked_here, refuse, accept, settled, leave}
+use Rattle.machine.specs.Turns.{room}
 use Rattle.machine.specs.Statements.{started, with_started, starting, started_wait}
 use Rattle.machine.specs.Words.{item_word, value_word, entry_word}
 use Rattle.machine.specs.Inner.Blocks.{padded}
@@ -35,7 +37,12 @@ use Rattle.states.proofs.ThreadSays.{add_says}
 use Rattle.acts.specs.declared.act.Arguments.{Arguments}
 use Rattle.acts.specs.Inner.Transitions.{TurnResult, arguments_of}
 use Rattle.turns.specs.Inner.Acts.{starts_with, request}
-use Rattle.program.specs.Inner.Modules.{found_in}
+use Rattle.program.specs.Inner.Modules.{module_of}
+use Rattle.program.specs.declared.module.Module.{Module}
+use Rattle.program.proofs.ModuleLaws.{module_found, module_missing}
+use Rattle.std.specs.Prelude.{Option, Ok, Err}
+use Rattle.language.specs.Refusals.{rule_number}
+use Rattle.commits.specs.Inner.Commits.{Committed, Obstacle, unless, starts_found}
 use Rattle.commits.specs.Inner.Commits.{settled_in, left_in, room_in, joined_in, new_in}
 use Rattle.commits.specs.Inner.Commits.{obstacle_in, refuses_in, starts_in, started_in, waiting_in}
 use Rattle.stepper.proofs.Grows.{Grown}
@@ -123,74 +130,102 @@ module _ {fs : List Frame} {P : Program} {n : ℕ} {w : List ℕ} {s : State} {c
 
   -- ---- what stands in the way: the words' obstacle for each test of the rules, in their order
   module _ (m : ℕ) (vs : List Value) where
-    abbrev obstacle : ℕ
-    obstacle = obstacle_in v (found_in P m) x.place (length vs)
+    abbrev obstacle : Obstacle
+    obstacle = obstacle_in v (module_of (module_at P m)) x.place (length vs)
 
     module _ (linked : unlinked_here u ≡ false) where
-      module _ (known : leb (length P.modules) m ≡ false) where
-        module _ (agrees : not (eqb (length vs) (length (module_at P m).types)) ≡ false) where
-          before : obstacle
-              ≡ (when not (room_in v x.place 1) then 20 else when leb 64 (get_or v 0 0) then 18 else 0)
-          unfolding obstacle_in found_in
-          before =
-              if_no _ _ linked ∙ if_no _ _ (not_less m (length P.modules) ∙ known)
-              ∙ if_no _ _ (ap not (eqb_sym (length (module_at P m).types) (length vs)) ∙ agrees)
+      module _ (agrees : not (eqb (length vs) (length (module_at P m).types)) ≡ false) where
+        before : obstacle
+            ≡ (when not (room_in v x.place 1) then Err Rule.Stuck else
+            when leb 64 (get_or v 0 0) then Err Rule.ThreadsSpent else Ok tt)
+        unfolding obstacle_in
+        before =
+            if_no _ _ linked
+            ∙ if_no _ _ (ap not (eqb_sym (length (module_at P m).types) (length vs)) ∙ agrees)
 
-          full_list : not (room u 1 x.place) ≡ true → obstacle ≡ 20
-          full_list e = before ∙ if_yes _ _ (ap not (room_same 1 linked) ∙ e)
+        full_list : not (room u 1 x.place) ≡ true → obstacle ≡ Err Rule.Stuck
+        full_list e = before ∙ if_yes _ _ (ap not (room_same 1 linked) ∙ e)
 
-          full_threads : not (room u 1 x.place) ≡ false → leb 64 (length s.threads) ≡ true
-              → obstacle ≡ 18
-          full_threads e f =
-              before ∙ if_no _ _ (ap not (room_same 1 linked) ∙ e)
-              ∙ if_yes _ _ (ap (leb 64) count ∙ f)
+        full_threads : not (room u 1 x.place) ≡ false → leb 64 (length s.threads) ≡ true
+            → obstacle ≡ Err Rule.ThreadsSpent
+        full_threads e f =
+            before ∙ if_no _ _ (ap not (room_same 1 linked) ∙ e)
+            ∙ if_yes _ _ (ap (leb 64) count ∙ f)
 
-          none : not (room u 1 x.place) ≡ false → leb 64 (length s.threads) ≡ false
-              → obstacle ≡ 0
-          none e f =
-              before ∙ if_no _ _ (ap not (room_same 1 linked) ∙ e)
-              ∙ if_no _ _ (ap (leb 64) count ∙ f)
+        none : not (room u 1 x.place) ≡ false → leb 64 (length s.threads) ≡ false
+            → obstacle ≡ Ok tt
+        none e f =
+            before ∙ if_no _ _ (ap not (room_same 1 linked) ∙ e)
+            ∙ if_no _ _ (ap (leb 64) count ∙ f)
 
-        other_count : not (eqb (length vs) (length (module_at P m).types)) ≡ true → obstacle ≡ 20
-        unfolding obstacle_in found_in
-        other_count e =
-            if_no _ _ linked ∙ if_no _ _ (not_less m (length P.modules) ∙ known)
-            ∙ if_yes _ _ (ap not (eqb_sym (length (module_at P m).types) (length vs)) ∙ e)
+      other_count : not (eqb (length vs) (length (module_at P m).types)) ≡ true
+          → obstacle ≡ Err Rule.Stuck
+      unfolding obstacle_in
+      other_count e =
+          if_no _ _ linked
+          ∙ if_yes _ _ (ap not (eqb_sym (length (module_at P m).types) (length vs)) ∙ e)
 
-      no_module : leb (length P.modules) m ≡ true → obstacle ≡ 20
-      unfolding obstacle_in found_in
-      no_module e = if_no _ _ linked ∙ if_yes _ _ (not_less m (length P.modules) ∙ e)
-
-    no_list : unlinked_here u ≡ true → obstacle ≡ 20
+    no_list : unlinked_here u ≡ true → obstacle ≡ Err Rule.Stuck
     unfolding obstacle_in
     no_list e = if_yes _ _ e
 
     module _ (waits : Bool) where
-      refused : (i : ℕ) → obstacle ≡ i → eqb i 0 ≡ false
-          → commit A (argued waits m vs) cs ≡ as_committed w (refuse u i)
+      -- a start of the module so found
+      abbrev starts_by : Option Module → Committed
+      starts_by y =
+          starts_found v (used_cells s.cells) c (suc k) (argued waits m vs) waits
+          (argument_words vs) y
+
+      -- where nothing stands in the way
+      abbrev free : Committed
+      free =
+          when not waits then
+          committed 0 (suc k)
+          (started_in v (suc k) (argued waits m vs) (argument_words vs) (root_s (module_at P m).body))
+          else
+          when not (room_in v x.place 2) then refuses_in v (used_cells s.cells) (suc k) Rule.Stuck else
+          committed 0 (suc k)
+          (waiting_in v c (suc k) (argued waits m vs) (argument_words vs)
+          (root_s (module_at P m).body))
+
+      no_module : leb (length P.modules) m ≡ true
+          → commit A (argued waits m vs) cs ≡ as_committed w (refuse u 20)
       unfolding starts_in
-      refused i h e =
-          if_yes _ _ (ap (λ (j : ℕ). not (eqb j 0)) h ∙ ap not e)
-          ∙ ap (λ (j : ℕ). refuses_in v (used_cells s.cells) (suc k) j) h
-          ∙ refuse_is A x cs acc i (thread_words_of x) g l e
+      no_module e =
+          ap starts_by (module_missing P m (leb-true (length P.modules) m e))
+          ∙ refuse_is A x cs acc Rule.Stuck (thread_words_of x) g l
+
+      refused : (i : Rule) → leb (length P.modules) m ≡ false → obstacle ≡ Err i
+          → commit A (argued waits m vs) cs ≡ as_committed w (refuse u (rule_number i))
+      unfolding starts_in
+      refused i known h =
+          ap starts_by (module_found P m (leb-false (length P.modules) m known))
+          ∙ ap (λ (o : Obstacle). unless o (refuses_in v (used_cells s.cells) (suc k)) free) h
+          ∙ refuse_is A x cs acc i (thread_words_of x) g l
+
+      unlinked : (b : Bool) → leb (length P.modules) m ≡ b → unlinked_here u ≡ true
+          → commit A (argued waits m vs) cs ≡ as_committed w (refuse u 20)
+      unlinked true h e = no_module h
+      unlinked false h e = refused Rule.Stuck h (no_list e)
 
       pub start_commits : (r : StepResult)
-          → (obstacle ≡ 0 → unlinked_here u ≡ false → room u 1 x.place ≡ true → length s.threads < 64
+          → (leb (length P.modules) m ≡ false → obstacle ≡ Ok tt → unlinked_here u ≡ false
+          → room u 1 x.place ≡ true → length s.threads < 64
           → commit A (argued waits m vs) cs ≡ as_committed w r)
           → commit A (argued waits m vs) cs ≡ as_committed w (starting u m vs r)
       unfolding starting
       start_commits r f =
-          if_all G (unlinked_here u) _ _ (λ e. refused 20 (no_list e) refl)
-          (λ linked. if_all G (leb (length P.modules) m) _ _ (λ e. refused 20 (no_module linked e) refl)
-          (λ known. if_all G (not (eqb (length vs) (length (module_at P m).types))) _ _ (λ e. refused 20 (other_count linked known e) refl)
-          (λ agrees. if_all G (not (room u 1 x.place)) _ _ (λ e. refused 20 (full_list linked known agrees e) refl)
-          (λ e4. if_all G (leb 64 (length s.threads)) _ _ (λ e. refused 18 (full_threads linked known agrees e4 e) refl)
-          (λ e5. f (none linked known agrees e4 e5) linked (not-false (room u 1 x.place) e4) (leb-false 64 (length s.threads) e5))))))
+          if_all G (unlinked_here u) _ _ (λ e. unlinked (leb (length P.modules) m) refl e)
+          (λ linked. if_all G (leb (length P.modules) m) _ _ (λ e. no_module e)
+          (λ known. if_all G (not (eqb (length vs) (length (module_at P m).types))) _ _ (λ e. refused Rule.Stuck known (other_count linked e))
+          (λ agrees. if_all G (not (room u 1 x.place)) _ _ (λ e. refused Rule.Stuck known (full_list linked agrees e))
+          (λ e4. if_all G (leb 64 (length s.threads)) _ _ (λ e. refused Rule.ThreadsSpent known (full_threads linked agrees e4 e))
+          (λ e5. f known (none linked agrees e4 e5) linked (not-false (room u 1 x.place) e4) (leb-false 64 (length s.threads) e5))))))
         where
           G : StepResult → Type 0
           G y = commit A (argued waits m vs) cs ≡ as_committed w y
 
-  module _ (m : ℕ) (vs : List Value) (few : length (map value_word vs) ≤ 2) (ob : obstacle_in v (found_in P m) x.place (length vs) ≡ 0) (linked : unlinked_here u ≡ false)
+  module _ (m : ℕ) (vs : List Value) (few : length (map value_word vs) ≤ 2) (known : leb (length P.modules) m ≡ false) (ob : obstacle_in v (module_of (module_at P m)) x.place (length vs) ≡ Ok tt) (linked : unlinked_here u ≡ false)
       (less : length s.threads < 64) where
     list_here : (x.place - 2 < length s.schedulers) × (is_scheduler x.place ≡ true)
     list_here = list_there A x.place (linked_place linked)
@@ -201,15 +236,21 @@ module _ {fs : List Frame} {P : Program} {n : ℕ} {w : List ℕ} {s : State} {c
     plain_commit : commit A (argued false m vs) cs
         ≡ committed 0 (suc k)
         (started_in v (suc k) (argued false m vs) (argument_words vs) (root_s (module_at P m).body))
-    unfolding starts_in found_in
-    plain_commit = if_no _ _ (ap (λ (j : ℕ). not (eqb j 0)) ob) ∙ if_yes _ _ refl
+    unfolding starts_in
+    plain_commit =
+        ap (starts_by m vs false) (module_found P m (leb-false (length P.modules) m known))
+        ∙ ap (λ (o : Obstacle). unless o (refuses_in v (used_cells s.cells) (suc k)) (free m vs false)) ob
+        ∙ if_yes _ _ refl
 
     waiting_commit : commit A (argued true m vs) cs
-        ≡ (when not (room_in v x.place 2) then refuses_in v (used_cells s.cells) (suc k) 20 else
+        ≡ (when not (room_in v x.place 2) then refuses_in v (used_cells s.cells) (suc k) Rule.Stuck else
         committed 0 (suc k)
         (waiting_in v c (suc k) (argued true m vs) (argument_words vs) (root_s (module_at P m).body)))
-    unfolding starts_in found_in
-    waiting_commit = if_no _ _ (ap (λ (j : ℕ). not (eqb j 0)) ob) ∙ if_no _ _ refl
+    unfolding starts_in
+    waiting_commit =
+        ap (starts_by m vs true) (module_found P m (leb-false (length P.modules) m known))
+        ∙ ap (λ (o : Obstacle). unless o (refuses_in v (used_cells s.cells) (suc k)) (free m vs true)) ob
+        ∙ if_no _ _ refl
 
     -- ---- 13
     pub started_is : room u 1 x.place ≡ true
@@ -244,14 +285,14 @@ module _ {fs : List Frame} {P : Program} {n : ℕ} {w : List ℕ} {s : State} {c
     waits_is =
         waiting_commit
         ∙ if_all (λ (y : StepResult).
-        (when not (room_in v x.place 2) then refuses_in v (used_cells s.cells) (suc k) 20 else
+        (when not (room_in v x.place 2) then refuses_in v (used_cells s.cells) (suc k) Rule.Stuck else
         committed 0 (suc k)
         (waiting_in v c (suc k) (argued true m vs) (argument_words vs) (root_s (module_at P m).body)))
         ≡ as_committed w y)
         (room u 2 x.place) (accept u (enlist x.place (waiting (suc k) t) first)) (refuse u 20)
         (λ e. if_no _ _ (ap not (room_same 2 linked ∙ e))
         ∙ ap (committed 0 (suc k)) (ap₂ (λ (th : ThreadWords) (i : ℕ). joined_in (joined_in (with_one_more left th) x.place i) x.place (128 * i + suc k)) (new_is true m vs few) next_new ∙ is_pack _ _ (says e)))
-        (λ e. if_yes _ _ (ap not (room_same 2 linked ∙ e)) ∙ refuse_is A x cs acc 20 (thread_words_of x) g l refl)
+        (λ e. if_yes _ _ (ap not (room_same 2 linked ∙ e)) ∙ refuse_is A x cs acc Rule.Stuck (thread_words_of x) g l)
       where
         left : List ℕ
         left = left_in (settled_in v (suc k - 1) (thread_words_of x)) c

@@ -27,7 +27,8 @@ use Rattle.states.specs.declared.thread.ThreadWords.{ThreadWords}
 use Rattle.states.specs.Inner.Threads.{thread_words_of}
 use Rattle.states.specs.Inner.Stacks.{ended}
 use Rattle.states.proofs.StackLaws.{with_continuation, pop_item_is, top_item_is}
-use Rattle.turns.specs.Inner.Acts.{TurnOutcome, statement_in, goes_in, drops_in, turn_outcome, item_in, turn_in}
+use Rattle.turns.specs.Inner.Acts.{TurnOutcome, statement_in, goes_in, drops_in, turn_outcome}
+use Rattle.turns.specs.Inner.Acts.{item_in, turn_in}
 use Rattle.stepper.proofs.Grows.{grown_same}
 use Rattle.stepper.proofs.Transitions.{Acts, commit_on, leaves_is}
 use Rattle.stepper.proofs.Moves.{drops_is, goes_is}

@@ -8,15 +8,21 @@ use native.Mathlib.Omega.{arith}
 use lib.Dec.{leb, eqb}
 use lib.ListN.{length, set, length-set}
 use borrow.Author.Tests.{leb-true, eqb-false}
+use Rattle.language.specs.declared.refusal.Rule.{Rule}
+use Rattle.language.specs.Refusals.{rule_number}
+use Rattle.stepper.proofs.RuleLaws.{rule_counts}
 use Rattle.basics.specs.If.{when◌then◌else◌}
 use Rattle.basics.proofs.Ifs.{if_all, if_yes, if_no}
 use Rattle.language.specs.Places.{private, has_place, has_scheduler, is_scheduler}
 use Rattle.language.specs.declared.frame.Frame.{Frame}
-use Rattle.language.proofs.PlaceLaws.{from_home, has_scheduler_lem, place_scheduler as file_scheduler}
+use Rattle.language.proofs.PlaceLaws.{from_home, has_scheduler_lem}
+use Rattle.language.proofs.PlaceLaws.{place_scheduler as file_scheduler}
 use Rattle.program.specs.Programs.{Program, owner_of_event}
 use Rattle.machine.specs.Accesses.{Access}
-use Rattle.machine.specs.State.{State, Stored, Thread, Entry, plain, scheduler_at, enlist, used_cells}
-use Rattle.machine.specs.Turns.{state_spaces, StepResult, Turn, refuse, accept, settled, is_scheduler_of}
+use Rattle.machine.specs.State.{State, Stored, Thread, Entry, plain, scheduler_at, enlist}
+use Rattle.machine.specs.State.{used_cells}
+use Rattle.machine.specs.Turns.{state_spaces, StepResult, Turn, refuse, accept, settled}
+use Rattle.machine.specs.Turns.{is_scheduler_of}
 use Rattle.machine.specs.Turns.{leave, room}
 use Rattle.machine.specs.Words.{pack, entry_word}
 use Rattle.machine.specs.Inner.Blocks.{pasted, cell_words}
@@ -112,11 +118,13 @@ module _ {fs : List Frame} {P : Program} {n : ℕ} {w : List ℕ} {s : State} {c
     u = turn_at x cs acc
 
     -- ---- refused
-    pub refuse_is : (m : ℕ) (th : ThreadWords) → Grown s.cells cs → used_cells cs ≤ 256
-        → eqb m 0 ≡ false → commit (refused_in m th (used_cells cs)) cs ≡ as_committed w (refuse u m)
-    refuse_is m th g l e =
+    pub refuse_is : (r : Rule) (th : ThreadWords) → Grown s.cells cs → used_cells cs ≤ 256
+        → commit (refused_in r th (used_cells cs)) cs ≡ as_committed w (refuse u (rule_number r))
+    refuse_is r th g l =
+        let m = rule_number r in
         ap (committed m (suc k)) (cleared_is w s A.says cs g l)
-        ∙ ap (λ (b : Bool). committed m (suc k) (elim b [ true ↦ pack s | false ↦ w ])) (sym e)
+        ∙ ap (λ (b : Bool). committed m (suc k) (elim b [ true ↦ pack s | false ↦ w ]))
+        (sym (rule_counts r))
 
     -- ---- the acting thread is y after the turn
     module _ (y : Thread) where
@@ -149,7 +157,7 @@ module _ {fs : List Frame} {P : Program} {n : ℕ} {w : List ℕ} {s : State} {c
       joins_is q e g l =
           if_all (λ (r : StepResult). commit (acted_in (Joins (record { number = q })) (thread_words_of y) (used_cells cs)) cs ≡ as_committed w r) (leb (length (scheduler_at s q).next + 1) 64) _ _
           (λ b. if_yes _ _ (same ∙ b) ∙ ap (committed 0 (suc k)) (is_pack _ _ (joined_says _ left left_is q (plain (suc k)) z.1 (rw leave_count z.0) (short (leb-true _ 64 b)))))
-          (λ b. if_no _ _ (same ∙ b) ∙ refuse_is 20 (thread_words_of y) g l refl)
+          (λ b. if_no _ _ (same ∙ b) ∙ refuse_is Rule.Stuck (thread_words_of y) g l)
         where
           z : (q - 2 < length s.schedulers) × (is_scheduler q ≡ true)
           z = list_there q e

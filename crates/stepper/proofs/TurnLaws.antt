@@ -2,14 +2,20 @@
 -- that is not there. Assumes nothing.
 use Prim.Native.Nat.{ℕ, zero, suc, ◌-◌, ◌<◌, ◌≤◌}
 use Prim.Native.Nat.{◌+◌, ◌*◌}
-use mathlib.Core.Path.{◌≡◌, sym, ap, ◌∙◌, subst}
+use mathlib.Core.Path.{◌≡◌, refl, sym, ap, ◌∙◌, subst}
 use mathlib.Core.List.{List, []}
 use mathlib.Core.Bool.{true}
 use native.Mathlib.Omega.{arith}
 use lib.Dec.{eqb}
+use Rattle.std.specs.Prelude.{Option, Some, None, Ok, Err}
+use Rattle.std.specs.Result.{result_err}
+use Rattle.commits.specs.Inner.Commits.{Obstacle, obstacle_number, turn_committed_in}
+use Rattle.stepper.specs.Inner.Files.{step_number}
+use Rattle.stepper.proofs.RuleLaws.{rule_counts}
+use Rattle.language.specs.Refusals.{rule_number}
+use Rattle.language.specs.declared.refusal.Rule.{Rule}
 use Rattle.basics.specs.If.{when◌then◌else◌}
 use Rattle.basics.proofs.Ifs.{if_yes, if_no}
-use borrow.Author.Tests.{eq-eqb, ne_eqb}
 use lib.ListN.{length, get_or, set, length-set, get_or-eq_default}
 use lib.Seq.{get_or-set_other, set_out}
 use Rattle.language.specs.Places.{is_place}
@@ -27,14 +33,13 @@ use Rattle.machine.proofs.WordLaws.{is_pack, pasted_length, pasted_out}
 use Rattle.machine.proofs.KeptShape.{scheduler_fits}
 use Rattle.states.specs.declared.thread.ThreadWords.{ThreadWords}
 use Rattle.states.specs.Inner.Threads.{thread_words_of, thread_in}
-use Rattle.acts.specs.declared.act.Action.{Action}
-use Rattle.acts.specs.Inner.Transitions.{TurnResult, popped, turned, HasRoom}
+use Rattle.acts.specs.Inner.Transitions.{TurnAnswer, TurnResult, popped, turned, change_of, RoomFor}
 use Rattle.turns.specs.Inner.Acts.{TurnOutcome, variables_in, top_in, turn_in}
 use Rattle.turns.specs.Inner.TurnCounts.{turn_count}
 use Rattle.operations.specs.Inner.Heaps.{cells_in, accesses_in}
-use Rattle.commits.specs.Inner.Commits.{left_in, turn_result_in, committed_in, CommitWords}
-use Rattle.commits.specs.Inner.Commits.{Committed, committed, Grouping}
-use Rattle.language.proofs.Labels.{labels_length}
+use Rattle.commits.specs.Inner.Commits.{left_in, committed_in, CommitWords}
+use Rattle.commits.specs.Inner.Commits.{Committed, committed}
+use Rattle.language.specs.declared.group.Schedulers.{Schedulers}
 use Rattle.commits.proofs.ChangeLaws.{same_thread}
 use Rattle.stepper.specs.Inner.Files.{StepWords, state_in, TurnChoice, who_in, turn_of, turn_on}
 use Rattle.stepper.specs.Inner.Files.{turn_left, turn_accesses, as_committed, grouping_of}
@@ -71,7 +76,7 @@ module _ (frames : List ℕ) (shared : ℕ) (w : List ℕ) (h : StepWords frames
     turn_for i = turn_in (frames_of frames) (who_in frames shared w t) (thread_words_of (thread_at s i)) (used_cells s.cells) (cell_words s.cells)
 
     -- the turn has changed the cells and their count alone
-    low_same : (a : Action) (v : List ℕ) → turn_on a v frames shared w t → (i : ℕ) → (i ≡ 1 → ⊥)
+    low_same : (a : TurnAnswer) (v : List ℕ) → turn_on a v frames shared w t → (i : ℕ) → (i ≡ 1 → ⊥)
         → i < 4578 → get_or v i 0 ≡ get_or w i 0
     low_same a v o i d g =
         let z = (says frames shared w h).all in
@@ -82,7 +87,7 @@ module _ (frames : List ℕ) (shared : ℕ) (w : List ℕ) (h : StepWords frames
         ∙ pasted_out w 4578 y.cells 256 (omega arith) (omega arith) i (λ a b. omega arith)
 
     -- so the thread's words are as before
-    kept : (a : Action) (v : List ℕ) → turn_on a v frames shared w t
+    kept : (a : TurnAnswer) (v : List ℕ) → turn_on a v frames shared w t
         → thread_in v (t - 1) ≡ thread_words_of (thread_at s t)
     kept a v o =
         let z = (says frames shared w h).all in
@@ -97,7 +102,7 @@ module _ (frames : List ℕ) (shared : ℕ) (w : List ℕ) (h : StepWords frames
         ∙ thread_read frames shared w h t low high
 
     -- what the commit asks
-    commit_asks : (a : Action) (v : List ℕ) → turn_on a v frames shared w t → length v ≡ length w
+    commit_asks : (a : TurnAnswer) (v : List ℕ) → turn_on a v frames shared w t → length v ≡ length w
         → CommitWords P (grouping_of P) v t a
     commit_asks a v o l =
         let m = threads_few frames shared w h in
@@ -113,13 +118,10 @@ module _ (frames : List ℕ) (shared : ℕ) (w : List ℕ) (h : StepWords frames
                 place = subst (λ (x : ThreadWords). is_place x.place ≡ true) (sym (kept a v o)) (place_in frames shared w h t low high);
                 items = subst (λ (x : ThreadWords). x.items ≤ 25) (sym (kept a v o)) (fit frames shared w h t low high).items_room;
                 values = subst (λ (x : ThreadWords). x.values ≤ 25) (sym (kept a v o)) (fit frames shared w h t low high).variables_room;
-                room = subst (λ (x : ThreadWords). HasRoom a.change (x.items - 1) x.values) (sym (kept a v o)) o.room;
+                room = subst (λ (x : ThreadWords). RoomFor (change_of a) (x.items - 1) x.values) (sym (kept a v o)) o.room;
               };
           events = (fits_in frames shared w h).few_events;
-          groups = record {
-            labelled = labels_length P.links 2 8;
-            few = (fits_in frames shared w h).most_schedulers;
-          };
+          few = (fits_in frames shared w h).most_schedulers;
           lists = record {
             threads = rw (low_same a v o 0 (λ z. omega arith) (omega arith)) m;
             active = λ k g. rw (low_same a v o (2 + 130 * k) (λ z. omega arith) (omega arith)) (active_short frames shared w h k g);
@@ -128,24 +130,25 @@ module _ (frames : List ℕ) (shared : ℕ) (w : List ℕ) (h : StepWords frames
         }
 
     -- u are the words without the accesses that stood with the count
-    pub commit_needs : (a : Action) (v u : List ℕ) (G : Grouping) → G ≡ grouping_of P
+    pub commit_needs : (a : TurnAnswer) (v u : List ℕ) (G : Schedulers) → G ≡ grouping_of P
         → turn_left a v frames shared w t
         → u ≡ set v 1 (cells_in (get_or v 1 0)) → length u ≡ length v → length v ≡ length w
         → CommitWords P G u t a
     commit_needs a v u G same o e k l =
-        subst (λ (x : Grouping). CommitWords P x u t a) (sym same)
+        subst (λ (x : Schedulers). CommitWords P x u t a) (sym same)
         (subst (λ (x : List ℕ). CommitWords P (grouping_of P) x t a) (sym e)
         (commit_asks a _ o.turn (ap length (sym e) ∙ k ∙ l)))
 
     -- and gives
-    commit_gives : (a : Action) (v v' : List ℕ) (used r : ℕ) → turn_on a v frames shared w t
+    commit_gives : (a : TurnAnswer) (v v' : List ℕ) (used r : ℕ) → turn_on a v frames shared w t
         → used ≡ get_or w 1 0
-        → committed r t v' ≡ committed_in P (grouping_of P) v used c t (turn_result_in v t a) a.transition
+        → committed r t v' ≡ turn_committed_in P (grouping_of P) v used c t a
         → committed r t v' ≡ as_committed w (step_thread P s c t)
     commit_gives a v v' used r o u e =
         e
         ∙ ap (λ (x : ThreadWords).
-        committed_in P (grouping_of P) v used c t (turned a (get_or v 1 0) (popped x)) a.transition) (kept a v o)
+        let r = turned a (get_or v 1 0) (popped x) in
+        committed_in P (grouping_of P) v used c t r r.transition) (kept a v o)
         ∙ ap (λ (x : TurnResult). committed_in P (grouping_of P) v used c t x x.transition) o.acted
         ∙ ap (λ (x : List ℕ). committed_in P (grouping_of P) x used c t y.acted y.acted.transition) o.words
         ∙ ap (λ (i : ℕ). committed_in P (grouping_of P) (on y) i c t y.acted y.acted.transition)
@@ -177,10 +180,10 @@ module _ (frames : List ℕ) (shared : ℕ) (w : List ℕ) (h : StepWords frames
             ≡ length (step_thread P s c i).accesses
 
     -- what the turn gives with its accesses, which a refusal leaves out
-    pub turn_gives : (a : Action) (v u v' : List ℕ) (n used r k : ℕ) (G : Grouping)
+    pub turn_gives : (a : TurnAnswer) (v u v' : List ℕ) (n used r k : ℕ) (G : Schedulers)
         → G ≡ grouping_of P → turn_left a v frames shared w t → u ≡ set v 1 (cells_in (get_or v 1 0))
         → n ≡ accesses_in (get_or v 1 0) → used ≡ get_or w 1 0
-        → committed r t v' ≡ committed_in P G u used c t (turn_result_in u t a) a.transition
+        → committed r t v' ≡ turn_committed_in P G u used c t a
         → k ≡ (when eqb r 0 then n else 0)
         → call_result r t k v' ≡ as_call w (step_thread P s c t)
     unfolding access_count
@@ -193,8 +196,8 @@ module _ (frames : List ℕ) (shared : ℕ) (w : List ℕ) (h : StepWords frames
         g =
             commit_gives a (set v 1 (cells_in (get_or v 1 0))) v' used r o.turn z
             (e
-            ∙ ap (λ (x : Grouping). committed_in P x u used c t (turn_result_in u t a) a.transition) same
-            ∙ ap (λ (x : List ℕ). committed_in P (grouping_of P) x used c t (turn_result_in x t a) a.transition) eu)
+            ∙ ap (λ (x : Schedulers). turn_committed_in P x u used c t a) same
+            ∙ ap (λ (x : List ℕ). turn_committed_in P (grouping_of P) x used c t a) eu)
 
         answer : r ≡ (step_thread P s c t).answer
         answer = ap (λ (x : Committed). x.answer) g
@@ -245,13 +248,31 @@ module _ (frames : List ℕ) (shared : ℕ) (w : List ℕ) (h : StepWords frames
         ∙ ap (λ (x : State). pack (leave gone x)) (sym (same_state _)))
         ∙ ap (λ (is : List Item). as_call w (step_items P s c t is)) (sym empty)
 
+-- ---- the refusal of a commit
+err_number : (x : Obstacle) → step_number (result_err x) ≡ obstacle_number x
+err_number (Ok _) = refl
+err_number (Err r) = refl
+
+pub refused_as : (x : Obstacle) (s : Option Rule) → s ≡ result_err x → (t : ℕ) (v : List ℕ)
+    (z : Committed) → committed (obstacle_number x) t v ≡ z → committed (step_number s) t v ≡ z
+refused_as x s e t v z h =
+    ap (λ (i : ℕ). committed i t v) (ap step_number e ∙ err_number x) ∙ h
+
 -- ---- the accesses taken out of the count, and those that are answered
 pub taken_words : (v : List ℕ) (m : ℕ) → m ≡ cells_in (get_or v 1 0)
     → set v 1 m ≡ set v 1 (cells_in (get_or v 1 0))
 taken_words v m e = ap (set v 1) e
 
-pub counted_done : (answer n : ℕ) → answer ≡ 0 → n ≡ (when eqb answer 0 then n else 0)
-counted_done answer n e = sym (if_yes _ _ (eq-eqb answer 0 e))
+module _ (s : Option Rule) (n : ℕ) where
+  abbrev Counted : Option Rule → ℕ → Type 0
+  Counted x m = m ≡ (when eqb (step_number x) 0 then n else 0)
 
-pub counted_none : (answer n : ℕ) → (answer ≡ 0 → ⊥) → 0 ≡ (when eqb answer 0 then n else 0)
-counted_none answer n d = sym (if_no _ _ (ne_eqb answer 0 d))
+  pub counted_done : s ≡ None → Counted s n
+  counted_done e = subst (λ (x : Option Rule). Counted x n) (sym e)
+      (sym (if_yes {b = eqb (step_number None) 0} n 0 refl))
+
+  pub counted_none : (r : Rule) → s ≡ Some r → Counted s 0
+  counted_none r e = subst (λ (x : Option Rule). Counted x 0) (sym e)
+      (sym (if_no {b = eqb (rule_number r) 0} n 0 (rule_counts r)))
+
+pub ruleset counted_laws = (counted_done, counted_none)

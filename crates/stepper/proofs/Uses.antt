@@ -30,8 +30,10 @@ use Rattle.states.specs.declared.thread.ThreadWords.{ThreadWords}
 use Rattle.states.specs.Inner.Threads.{thread_words_of}
 use Rattle.acts.specs.Inner.Transitions.{TurnResult}
 use Rattle.turns.specs.Inner.Acts.{TurnOutcome, one_in, two_in, lets_in, drops_in, goes_in, does_in}
-use Rattle.turns.specs.Inner.Acts.{cooperates_in, then_acts, then_on, by_truth_in, lets_on, stores_on}
-use Rattle.turns.specs.Inner.Acts.{chooses_on, loops_on, evaluated_in, request, start_turn, one_argument}
+use Rattle.turns.specs.Inner.Acts.{cooperates_in, then_acts, then_on, by_truth_in, lets_on}
+use Rattle.turns.specs.Inner.Acts.{stores_on}
+use Rattle.turns.specs.Inner.Acts.{chooses_on, loops_on, evaluated_in, request, start_turn}
+use Rattle.turns.specs.Inner.Acts.{one_argument}
 use Rattle.turns.specs.Inner.Acts.{last_argument, two_arguments, statement_in}
 use Rattle.stepper.proofs.Transitions.{Acts, turn_at}
 use Rattle.stepper.proofs.Items.{IsWho, here_fits, evaluation_is, eval_fits}

@@ -2,10 +2,12 @@
 -- for the first wrong byte is, what the lent words hold, and what each return of the function
 -- gives. Assumes nothing.
 use Rattle.std.specs.Prelude.{Option, Some, None}
+use Rattle.std.specs.Int.{div_ceil}
 use Rattle.std.proofs.Common.{◌≡◌, ℕ, zero, suc, ◌+◌, ◌-◌, ◌*◌, ◌/◌, ◌%◌, ◌<◌, ◌≤◌, Bool, true, false, List, [], ◌∷◌, ◌++◌, length, take, drop, set, replicate, sym, refl, ap, ◌∙◌, append_assoc, add-one, arith, length-append, length-drop, drop_of_length-le, take_all, drop-drop, le-ltb, lt-ltb}
 use mathlib.Core.Option.{none, some}
 use lib.ListN.{length-map, length-replicate}
 use lib.Seq.{set_at}
+use Rattle.language.specs.declared.refusal.Rule.TheVariants.{EmptyText, LongText, MalformedText}
 use Rattle.text.specs.Frames.{line_word, frame_of_word, words_of, text_frames}
 use Rattle.text.specs.Inner.Reading.{first_wrong, read_lines, reading, lines_read, word_array}
 use Rattle.text.specs.Inner.Reading.{text_read, TextWords, read_as, text_words}
@@ -19,17 +21,17 @@ reading_lines : (bs : List ℕ) → 0 < length bs → length bs ≤ 17408
     → reading bs ≡ read_lines bs (first_wrong 0 bs)
 unfolding reading
 reading_lines [] a h = absurd (omega arith)
-reading_lines (b ∷ bs) a h = ap (λ (t : Bool). elim t [ true ↦ refused 2 0 | false ↦ read_lines (b ∷ bs) (first_wrong 0 (b ∷ bs)) ]) (le-ltb 17408 (length (b ∷ bs)) h)
+reading_lines (b ∷ bs) a h = ap (λ (t : Bool). elim t [ true ↦ refused LongText 0 | false ↦ read_lines (b ∷ bs) (first_wrong 0 (b ∷ bs)) ]) (le-ltb 17408 (length (b ∷ bs)) h)
 
-read_empty : (bs : List ℕ) → length bs ≡ 0 → reading bs ≡ refused 1 0
+read_empty : (bs : List ℕ) → length bs ≡ 0 → reading bs ≡ refused EmptyText 0
 unfolding reading
 read_empty [] h = refl
 read_empty (b ∷ bs) h = absurd (omega arith)
 
-read_over : (bs : List ℕ) → 17408 < length bs → reading bs ≡ refused 2 0
+read_over : (bs : List ℕ) → 17408 < length bs → reading bs ≡ refused LongText 0
 unfolding reading
 read_over [] h = absurd (omega arith)
-read_over (b ∷ bs) h = ap (λ (t : Bool). elim t [ true ↦ refused 2 0 | false ↦ read_lines (b ∷ bs) (first_wrong 0 (b ∷ bs)) ]) (lt-ltb 17408 (length (b ∷ bs)) h)
+read_over (b ∷ bs) h = ap (λ (t : Bool). elim t [ true ↦ refused LongText 0 | false ↦ read_lines (b ∷ bs) (first_wrong 0 (b ∷ bs)) ]) (lt-ltb 17408 (length (b ∷ bs)) h)
 
 -- ---- lengths
 pub length_words : (n : ℕ) (bs : List ℕ) → length (words_of n bs) ≡ n
@@ -91,12 +93,12 @@ module _ (bs : List ℕ) (i at : ℕ) (s : Scanning bs i at) where
           rest = ap (first_wrong (at + 17)) (sym (drop-drop 17 at bs)) ∙ sym r.1 ∙ s.rest;
         }
 
-    read_wrong : None ≡ line_read (drop at bs) → length bs ≤ 17408 → reading bs ≡ refused 3 i
+    read_wrong : None ≡ line_read (drop at bs) → length bs ≤ 17408 → reading bs ≡ refused MalformedText i
     read_wrong e m =
         let r = here_wrong e in
         let q = s.lines in
         let k : (at + r.0) / 17 ≡ i = omega (arith, r.1) in
-        reading_lines bs (omega arith) m ∙ ap (read_lines bs) r.2 ∙ ap (refused 3) k
+        reading_lines bs (omega arith) m ∙ ap (read_lines bs) r.2 ∙ ap (refused MalformedText) k
 
   read_whole : length bs ≤ at → (length bs ≡ 0 → ⊥) → length bs ≤ 17408
       → reading bs ≡ frames (text_frames bs)
@@ -141,12 +143,12 @@ array_more i bs h =
     (append_assoc (words_of i bs) (line_word (drop (i * 17) bs) ∷ []) (replicate (1024 - suc i) 0))
     ∙ ap (λ (ws : List ℕ). ws ++ replicate (1024 - suc i) 0) (sym (words_more i bs))
 
--- ---- the reader's loop: where the scan is, and what the lent words hold; and its answer
-pub record Reader (bs words : List ℕ) (i at : ℕ) : Type 0 where
-  pub scan : Scanning bs i at
+-- ---- the reader's loop: where the scan is before line i, and what the lent words hold
+pub record Reader (bs words : List ℕ) (i : ℕ) : Type 0 where
+  pub scan : Scanning bs i (i * 17)
   pub kept : words ≡ word_array i bs
 
-pub reader_start : (bs words : List ℕ) → words ≡ replicate 1024 0 → Reader bs words 0 0
+pub reader_start : (bs words : List ℕ) → words ≡ replicate 1024 0 → Reader bs words 0
 reader_start bs words e = record { scan = scanning_start bs; kept = e ∙ array_start bs }
 
 -- what the reading is gives the answer
@@ -158,50 +160,43 @@ by_reading bs words r e k =
     ∙ ap (λ (s : Reading). read_as (text_read s) (word_array (lines_read s) bs)) (sym e)
 
 pub words_empty : (bs words : List ℕ) → words ≡ replicate 1024 0 → length bs ≡ 0
-    → read_as (Refused 1 0) words ≡ text_words bs
-words_empty bs words k h = by_reading bs words (refused 1 0) (read_empty bs h) (k ∙ array_start bs)
+    → read_as (Refused EmptyText 0) words ≡ text_words bs
+words_empty bs words k h = by_reading bs words (refused EmptyText 0) (read_empty bs h) (k ∙ array_start bs)
 
 pub words_over : (bs words : List ℕ) → words ≡ replicate 1024 0 → 17408 < length bs
-    → read_as (Refused 2 0) words ≡ text_words bs
-words_over bs words k h = by_reading bs words (refused 2 0) (read_over bs h) (k ∙ array_start bs)
+    → read_as (Refused LongText 0) words ≡ text_words bs
+words_over bs words k h = by_reading bs words (refused LongText 0) (read_over bs h) (k ∙ array_start bs)
 
--- in the loop, line i has its place in the array; a line more; and the answers
-module _ (bs words : List ℕ) (i at : ℕ) (d : Reader bs words i at) where
-  pub reader_index : length bs ≤ 17408 → at < length bs → i < 1024
-  reader_index m h = let q = d.scan.lines in omega arith
+-- in the loop, over m lines of which the last may be short: a line more; and the answers
+module _ (bs words : List ℕ) (i m : ℕ) (e : m ≡ div_ceil (length bs) 17) (d : Reader bs words i)
+    (most : length bs ≤ 17408) where
+  module _ (h : i < m) (l : Option ℕ) (r : LineAt bs (i * 17) l) where
+    inside : i * 17 < length bs
+    inside = omega arith
 
-  pub reader_length : length bs ≤ 17408 → at < length bs → length words ≡ 1024
-  reader_length m h =
-      ap length d.kept ∙ array_length i bs (let k = reader_index m h in omega arith)
+    pub reader_more : (w : ℕ) → l ≡ Some w → Reader bs (set words i w) (i + 1)
+    reader_more w f =
+        let q : Some w ≡ line_read (drop (i * 17) bs) = sym f ∙ line_at bs (i * 17) l r in
+        let n : suc i * 17 ≡ i * 17 + 17 = omega arith in
+        rw add-one (record {
+          scan = rw n (scanning_more bs i (i * 17) d.scan inside w q);
+          kept =
+              ap (λ (ws : List ℕ). set ws i w) d.kept
+              ∙ ap (set (word_array i bs) i) (here_word bs i (i * 17) d.scan inside w q)
+              ∙ array_more i bs (let k = inside in omega arith);
+        })
 
-  pub reader_more : (l : Option ℕ) (w : ℕ) → LineAt bs at l → l ≡ Some w → at < length bs
-      → length bs ≤ 17408 → Reader bs (set words i w) (i + 1) (at + 17)
-  reader_more l w e f h m =
-      let s = d.scan in
-      let k = reader_index m h in
-      let q : Some w ≡ line_read (drop at bs) = sym f ∙ line_at bs at l e in
-      rw add-one (record {
-        scan = scanning_more bs i at s h w q;
-        kept =
-            ap (λ (ws : List ℕ). set ws i w) d.kept
-            ∙ ap (set (word_array i bs) i)
-            (here_word bs i at s h w q ∙ ap (λ (n : ℕ). line_word (drop n bs)) s.lines)
-            ∙ array_more i bs k;
-      })
+    pub words_wrong : l ≡ None → read_as (Refused MalformedText i) words ≡ text_words bs
+    words_wrong f =
+        let z = read_wrong bs i (i * 17) d.scan inside (sym f ∙ line_at bs (i * 17) l r) most in
+        by_reading bs words (refused MalformedText i) z d.kept
 
-  pub words_wrong : (l : Option ℕ) → LineAt bs at l → l ≡ None → at < length bs
-      → length bs ≤ 17408 → read_as (Refused 3 i) words ≡ text_words bs
-  words_wrong l e f h m =
-      let r = read_wrong bs i at d.scan h (sym f ∙ line_at bs at l e) m in
-      by_reading bs words (refused 3 i) r d.kept
-
-  pub words_whole : length bs ≤ at → (length bs ≡ 0 → ⊥) → length bs ≤ 17408
-      → read_as (Frames i) words ≡ text_words bs
-  words_whole h n m =
-      let q = d.scan.lines in
+  pub words_whole : m ≤ i → (length bs ≡ 0 → ⊥) → read_as (Frames m) words ≡ text_words bs
+  words_whole h n =
       let z = d.scan.fits in
-      let e : length (text_frames bs) ≡ i = length_frames bs ∙ omega arith in
-      ap (λ (k : ℕ). read_as (Frames k) words) (sym e) ∙ by_reading bs words (frames (text_frames bs)) (read_whole bs i at d.scan h n m) (d.kept ∙ ap (λ (k : ℕ). word_array k bs) (sym e))
+      let k : length (text_frames bs) ≡ m = length_frames bs ∙ omega arith in
+      let j : i ≡ m = omega arith in
+      ap (λ (k : ℕ). read_as (Frames k) words) (sym k) ∙ by_reading bs words (frames (text_frames bs)) (read_whole bs i (i * 17) d.scan (omega arith) n most) (d.kept ∙ ap (λ (k : ℕ). word_array k bs) (j ∙ sym k))
 
 pub ruleset words_laws = (words_empty, words_over, words_wrong, words_whole)
 

@@ -7,6 +7,7 @@ use Rattle.basics.specs.If.{when◌then◌else◌}
 use Rattle.basics.proofs.Ifs.{if_all}
 use Rattle.language.specs.declared.frame.Frame.{Frame}
 use Rattle.text.specs.Frames.{text_frames}
+use Rattle.language.specs.declared.refusal.Rule.TheVariants.{LongText, MalformedText}
 use Rattle.text.specs.Reading.{right_at, Reading, frames, refused, WrongAt, Reads}
 use Rattle.text.specs.Inner.Reading.{first_wrong, read_lines, reading}
 use Rattle.text.proofs.ReadLaws.{length_frames}
@@ -98,7 +99,7 @@ reads (b ∷ bs) = go (ltb 17408 (length (b ∷ bs))) refl
   where
     go : (t : Bool) → ltb 17408 (length (b ∷ bs)) ≡ t
         → Reads (b ∷ bs)
-        (elim t [ true ↦ refused 2 0 | false ↦ read_lines (b ∷ bs) (first_wrong 0 (b ∷ bs)) ])
+        (elim t [ true ↦ refused LongText 0 | false ↦ read_lines (b ∷ bs) (first_wrong 0 (b ∷ bs)) ])
     go true e = Reads.over (ltb-true _ _ e)
     go false e = reads_lines (b ∷ bs) (omega arith) (ltb-false _ _ e) _ (scan (b ∷ bs) 0)
 
@@ -114,7 +115,7 @@ reads_one (Reads.over h) (Reads.wrong a b w l) = absurd (omega arith)
 reads_one (Reads.over h) (Reads.whole a b g) = absurd (omega arith)
 reads_one (Reads.wrong a b w l) Reads.empty = absurd (omega arith)
 reads_one (Reads.wrong a b w l) (Reads.over h) = absurd (omega arith)
-reads_one (Reads.wrong {p = p} a b w l) (Reads.wrong {p = q} c d v k) = let x = l q v in let y = k p w in let z : p ≡ q = omega arith in ap (λ (n : ℕ). refused 3 (n / 17)) z
+reads_one (Reads.wrong {p = p} a b w l) (Reads.wrong {p = q} c d v k) = let x = l q v in let y = k p w in let z : p ≡ q = omega arith in ap (λ (n : ℕ). refused MalformedText (n / 17)) z
 reads_one (Reads.wrong a b w l) (Reads.whole c d h) = absurd (h _ w)
 reads_one (Reads.whole a b h) Reads.empty = absurd (omega arith)
 reads_one (Reads.whole a b h) (Reads.over g) = absurd (omega arith)

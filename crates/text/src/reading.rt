@@ -1,12 +1,12 @@
-// Whether a text is such lines: refusals 1 to 3; and its lines as numbers, which the passes over a
-// file work on.
+//! Whether a text is such lines: refusals 1 to 3; and its lines as numbers, which the passes over a
+//! file work on.
 ghost use Rattle.std.specs.Prelude.{◌≡◌, replicate};
 ghost use Rattle.language.specs.Limits.{most_lines};
 ghost use Rattle.text.specs.Inner.Reading.{read_as, text_words};
 
 use crate::line::read_line;
 use language::limit::{LINE_LENGTH, MOST_BYTES};
-use language::refusal::{EMPTY_TEXT, LONG_TEXT, MALFORMED_TEXT, Refusal};
+use language::refusal::{Refusal, Rule};
 
 /// What any bytes read as: how many frames, or the refusal, 1 to 3. Their lines go to the first of
 /// the lent words, each as one number of 16 digits; the words are all 0 before, so that 0 stands
@@ -18,28 +18,26 @@ pub fn read_into(text: &[u8], words: &mut [u64]) -> Result<u16, Refusal>
     let n = text.len();
     if n == 0 {
         return Err(Refusal {
-            number: EMPTY_TEXT,
+            rule: Rule::EmptyText,
             frame: 0,
         });
     }
     if MOST_BYTES < n {
         return Err(Refusal {
-            number: LONG_TEXT,
+            rule: Rule::LongText,
             frame: 0,
         });
     }
-    let mut i: usize = 0;
-    let mut at: usize = 0;
-    while at < n {
+    let lines = n.div_ceil(LINE_LENGTH);
+    for i in 0..lines {
+        let at = i * LINE_LENGTH;
         let Some(w) = read_line(&text[at..]) else {
             return Err(Refusal {
-                number: MALFORMED_TEXT,
+                rule: Rule::MalformedText,
                 frame: i as u16,
             });
         };
         words[i] = w;
-        at += LINE_LENGTH;
-        i += 1;
     }
-    Ok(i as u16)
+    Ok(lines as u16)
 }

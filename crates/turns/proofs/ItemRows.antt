@@ -12,11 +12,11 @@ use Rattle.program.specs.Trees.{statement_at}
 use Rattle.operations.specs.declared.Who.{Who}
 use Rattle.acts.specs.declared.act.Transition.TheVariants.{Leaves}
 use Rattle.acts.specs.declared.act.Change.TheVariants.{End}
-use Rattle.acts.specs.declared.act.Action.{Action}
-use Rattle.acts.specs.Inner.Transitions.{action}
+use Rattle.acts.specs.Inner.Transitions.{TurnAnswer, action}
 use Rattle.turns.specs.declared.counts.Counts.{Counts}
 use Rattle.turns.specs.Inner.Acts.{TurnWords}
-use Rattle.turns.specs.Inner.Actions.{act_result, place_at, go_back, drop_one, statement_act, item_act}
+use Rattle.turns.specs.Inner.Actions.{act_result, place_at, go_back, drop_one, statement_act}
+use Rattle.turns.specs.Inner.Actions.{item_act}
 use Rattle.turns.specs.Inner.Actions.{below, turn_act}
 
 -- what a caller has shown holds without the top item
@@ -34,7 +34,7 @@ below_words fw who counts w g =
 
 module _
     (fs : List Frame) (who : Who) (counts : Counts) (item : ℕ) (vs : List ℕ) (n : ℕ) (ws : List ℕ)
-    (r : Action) where
+    (r : TurnAnswer) where
   -- ---- by the item: a statement, a way back to a place, a drop
   pub item_statement : (m : ℕ) (us : List ℕ) → item < 1024
       → act_result r m us ≡ statement_act who counts (statement_at fs item) vs n ws
@@ -48,7 +48,7 @@ module _
   item_back q h k e z =
       no _ (le-ltb item 1024 h)
       (yes _ (lt-ltb item 2048 k)
-      (ap (λ (x : Action). act_result x n ws) z
+      (ap (λ (x : TurnAnswer). act_result x n ws) z
       ∙ ap (λ (p : Place). act_result (go_back who.place p) n ws) e))
 
   pub item_drop : 1024 ≤ item → 2048 ≤ item → r ≡ drop_one counts
@@ -56,13 +56,13 @@ module _
   unfolding item_act
   item_drop h k z =
       no _ (le-ltb item 1024 h)
-      (no _ (le-ltb item 2048 k) (ap (λ (x : Action). act_result x n ws) z))
+      (no _ (le-ltb item 2048 k) (ap (λ (x : TurnAnswer). act_result x n ws) z))
 
   -- ---- the turn
   pub turn_ends : counts.items ≡ 0 → r ≡ action Leaves End
       → act_result r n ws ≡ turn_act fs who counts item vs n ws
   unfolding turn_act
-  turn_ends h e = yes _ (eq-eqb counts.items 0 h) (ap (λ (x : Action). act_result x n ws) e)
+  turn_ends h e = yes _ (eq-eqb counts.items 0 h) (ap (λ (x : TurnAnswer). act_result x n ws) e)
 
   pub turn_item : (m : ℕ) (us : List ℕ) → (counts.items ≡ 0 → ⊥)
       → act_result r m us ≡ item_act fs who (below counts) item vs n ws

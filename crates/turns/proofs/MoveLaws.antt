@@ -14,8 +14,8 @@ use Rattle.states.specs.Inner.Stacks.{push_item, move_to}
 use Rattle.acts.specs.declared.act.Transition.TheVariants.{Stays, Leaves, Joins}
 use Rattle.acts.specs.declared.act.Change.{Change}
 use Rattle.acts.specs.declared.act.Change.TheVariants.{Same, Items, Move, Enter}
-use Rattle.acts.specs.declared.act.Action.{Action}
-use Rattle.acts.specs.Inner.Transitions.{acted_in, action, changed, turned, HasRoom}
+use Rattle.acts.specs.Inner.Transitions.{TurnAnswer, acted_in, action, changed, turned, change_of}
+use Rattle.acts.specs.Inner.Transitions.{RoomFor}
 use Rattle.turns.specs.declared.counts.Counts.{Counts}
 use Rattle.turns.specs.Inner.Acts.{goes_in, does_in, cooperates_in, Seen}
 use Rattle.turns.specs.Inner.Actions.{go_to_act, go_back, unlinked_again, do_there, cooperation}
@@ -24,7 +24,7 @@ use Rattle.turns.proofs.SeenLaws.{Turns}
 -- ---- the act made in a thread: with either change it is the thread that goes, and there is room
 -- for both
 module _ (from q : Place) (same moved : Change) where
-  abbrev act : Bool → Bool → Action
+  abbrev act : Bool → Bool → TurnAnswer
   act b c =
       when b then action Stays same else
       when c then action Leaves moved else
@@ -45,12 +45,12 @@ module _ (from q : Place) (same moved : Change) where
       by false true = ap (λ (x : ThreadWords). acted_in Leaves x n) k
       by false false = ap (λ (x : ThreadWords). acted_in (Joins q) x n) k
 
-  goes_room : (items values : ℕ) → HasRoom same items values → HasRoom moved items values
-      → HasRoom (go_to_act from q same moved).change items values
+  goes_room : (items values : ℕ) → RoomFor same items values → RoomFor moved items values
+      → RoomFor (change_of (go_to_act from q same moved)) items values
   unfolding go_to_act when◌then◌else◌
   goes_room items values h k = by (eqb q.number from.number) (eqb q.number private)
     where
-      by : (b c : Bool) → HasRoom (act b c).change items values
+      by : (b c : Bool) → RoomFor (change_of (act b c)) items values
       by true c = h
       by false true = k
       by false false = k
@@ -76,11 +76,11 @@ module _ (who : Who) (counts : Counts) (n : ℕ) where
       → Turns (do_there who.place counts q body) n who counts (λ th. does_in th n q.number body)
   unfolding do_there does_in
   does_turns q body =
-      if_all (λ (a : Action). Turns a n who counts (λ th. does_in th n q.number body))
+      if_all (λ (a : TurnAnswer). Turns a n who counts (λ th. does_in th n q.number body))
       (unlinked_again who.place q) _ _
       (λ e. record { thread = λ th w. yes _ (again_at q w e) refl; room = tt })
       (λ e.
-      if_all (λ (a : Action). Turns a n who counts (λ th. does_in th n q.number body))
+      if_all (λ (a : TurnAnswer). Turns a n who counts (λ th. does_in th n q.number body))
       (leb 24 counts.items) _ _
       (λ k.
       record {
@@ -107,7 +107,7 @@ module _ (who : Who) (counts : Counts) (n : ℕ) where
   pub cooperates_turns : Turns (cooperation who.place) n who counts (λ th. cooperates_in th n)
   unfolding cooperation cooperates_in
   cooperates_turns =
-      if_all (λ (a : Action). Turns a n who counts (λ th. cooperates_in th n))
+      if_all (λ (a : TurnAnswer). Turns a n who counts (λ th. cooperates_in th n))
       (eqb who.place.number private) _ _
       (λ e.
       record {

@@ -10,14 +10,15 @@ use Rattle.language.specs.declared.Place.{Place}
 use Rattle.acts.specs.declared.act.Transition.TheVariants.{Stays, Leaves, Joins}
 use Rattle.acts.specs.declared.act.Change.{Change}
 use Rattle.acts.specs.declared.act.Change.TheVariants.{Same, Items, Enter}
-use Rattle.acts.specs.declared.act.Action.{Action}
-use Rattle.acts.specs.Inner.Transitions.{action, refused_with}
+use Rattle.std.specs.Prelude.{Err}
+use Rattle.language.specs.declared.refusal.Rule.{Rule}
+use Rattle.acts.specs.Inner.Transitions.{TurnAnswer, action}
 use Rattle.turns.specs.declared.counts.Counts.{Counts}
 use Rattle.turns.specs.Inner.Actions.{go_to_act, unlinked_again, do_there, cooperation}
 
 -- ---- to place q: s is whether it is the same place, b whether it is private
 module _
-    (from q : Place) (same moved : Change) (r : Action)
+    (from q : Place) (same moved : Change) (r : TurnAnswer)
     (s : Bool) (z : s ≡ eqb q.number from.number) where
   pub goes_nowhere : s ≡ true → r ≡ action Stays same → r ≡ go_to_act from q same moved
   unfolding go_to_act
@@ -49,13 +50,13 @@ pub ruleset again_rows = (again_linked, again_unlinked)
 
 -- ---- 12: b is whether the thread is unlinked already
 module _
-    (from : Place) (counts : Counts) (q : Place) (body : ℕ) (r : Action)
+    (from : Place) (counts : Counts) (q : Place) (body : ℕ) (r : TurnAnswer)
     (b : Bool) (z : b ≡ unlinked_again from q) where
-  pub does_again : b ≡ true → r ≡ refused_with 20 → r ≡ do_there from counts q body
+  pub does_again : b ≡ true → r ≡ Err Rule.Stuck → r ≡ do_there from counts q body
   unfolding do_there
   does_again h e = yes _ (sym z ∙ h) e
 
-  pub does_full : b ≡ false → 24 ≤ counts.items → r ≡ refused_with 20
+  pub does_full : b ≡ false → 24 ≤ counts.items → r ≡ Err Rule.Stuck
       → r ≡ do_there from counts q body
   unfolding do_there
   does_full h l e = no _ (sym z ∙ h) (yes _ (le-leb 24 counts.items l) e)
@@ -71,8 +72,8 @@ module _
 pub ruleset does_rows = (does_again, does_full, does_there)
 
 -- ---- 15
-module _ (p : Place) (r : Action) (b : Bool) (z : b ≡ eqb p.number private) where
-  pub cooperates_unlinked : b ≡ true → r ≡ refused_with 20 → r ≡ cooperation p
+module _ (p : Place) (r : TurnAnswer) (b : Bool) (z : b ≡ eqb p.number private) where
+  pub cooperates_unlinked : b ≡ true → r ≡ Err Rule.Stuck → r ≡ cooperation p
   unfolding cooperation
   cooperates_unlinked h e = yes _ (sym z ∙ h) e
 

@@ -10,8 +10,10 @@ use Rattle.evaluator.specs.Inner.Results.{evaluated_by, stored_by}
 use Rattle.states.specs.declared.thread.ThreadWords.{ThreadWords}
 use Rattle.acts.specs.declared.act.Transition.TheVariants.{Stays}
 use Rattle.acts.specs.declared.act.Change.TheVariants.{Same}
-use Rattle.acts.specs.declared.act.Action.{Action}
-use Rattle.acts.specs.Inner.Transitions.{TurnResult, acted_in, action, refused_in, refused_with, turned, HasRoom}
+use Rattle.std.specs.Prelude.{Err}
+use Rattle.language.specs.declared.refusal.Rule.{Rule}
+use Rattle.acts.specs.Inner.Transitions.{TurnAnswer, TurnResult, acted_in, action, refused_in}
+use Rattle.acts.specs.Inner.Transitions.{turned, change_of, RoomFor}
 use Rattle.turns.specs.declared.counts.Counts.{Counts}
 use Rattle.turns.specs.Inner.Acts.{TurnOutcome, turn_outcome, variables_in, evaluated_in, stored_in}
 use Rattle.turns.specs.Inner.Acts.{Seen}
@@ -20,17 +22,17 @@ use Rattle.acts.specs.declared.act.Transition.{Transition}
 
 -- the act, its change made in such a thread without its top item, is with n cells in use that turn;
 -- and there is room for the change
-pub record Turns (a : Action) (n : ℕ) (who : Who) (counts : Counts)
+pub record Turns (a : TurnAnswer) (n : ℕ) (who : Who) (counts : Counts)
     (f : ThreadWords → TurnResult) : Type 0 where
   pub thread : (th : ThreadWords) → Seen who counts th → turned a n th ≡ f th
-  pub room : HasRoom a.change counts.items counts.variables
+  pub room : RoomFor (change_of a) counts.items counts.variables
 
 -- the same with the words of the cells, for a thread of those variables
-pub record TurnsOn (a : Action) (n : ℕ) (us : List ℕ) (who : Who) (counts : Counts) (vs : List ℕ)
+pub record TurnsOn (a : TurnAnswer) (n : ℕ) (us : List ℕ) (who : Who) (counts : Counts) (vs : List ℕ)
     (f : ThreadWords → TurnOutcome) : Type 0 where
   pub thread : (th : ThreadWords) → Seen who counts th → variables_in th ≡ vs
       → turn_outcome (turned a n th) us ≡ f th
-  pub room : HasRoom a.change counts.items counts.variables
+  pub room : RoomFor (change_of a) counts.items counts.variables
 
 -- ---- the thread as it is
 pub stays_so : (who : Who) (counts : Counts) (n : ℕ)
@@ -42,15 +44,15 @@ pub as_it_is : (who : Who) (counts : Counts) (n : ℕ) (f : Transition)
     → Turns (action f Same) n who counts (λ th. acted_in f th n)
 as_it_is who counts n f = record { thread = λ th w. refl; room = tt }
 
-pub refused_so : (who : Who) (counts : Counts) (answer n : ℕ)
-    → Turns (refused_with answer) n who counts (λ th. refused_in answer th n)
-refused_so who counts answer n = record { thread = λ th w. refl; room = tt }
+pub refused_so : (who : Who) (counts : Counts) (r : Rule) (n : ℕ)
+    → Turns (Err r) n who counts (λ th. refused_in r th n)
+refused_so who counts r n = record { thread = λ th w. refl; room = tt }
 
 -- ---- with the words of the cells
 abbrev pub Turning : ActResult → Who → Counts → List ℕ → (ThreadWords → TurnOutcome) → Type 0
 Turning a who counts vs f = TurnsOn a.acted (cells_in a.used) a.cells who counts vs f
 
-pub act_on : {a : Action} {n : ℕ} {us : List ℕ} {who : Who} {counts : Counts} {vs : List ℕ}
+pub act_on : {a : TurnAnswer} {n : ℕ} {us : List ℕ} {who : Who} {counts : Counts} {vs : List ℕ}
     {f : ThreadWords → TurnResult} {g : ThreadWords → TurnOutcome}
     → Turns a n who counts f → ((th : ThreadWords) → variables_in th ≡ vs → turn_outcome (f th) us ≡ g th)
     → TurnsOn a n us who counts vs g
@@ -61,7 +63,7 @@ act_on {us = us} h k =
     }
 
 -- the same turn under another name
-pub act_on_as : {a : Action} {n : ℕ} {us : List ℕ} {who : Who} {counts : Counts} {vs : List ℕ}
+pub act_on_as : {a : TurnAnswer} {n : ℕ} {us : List ℕ} {who : Who} {counts : Counts} {vs : List ℕ}
     {f g : ThreadWords → TurnOutcome}
     → TurnsOn a n us who counts vs f → ((th : ThreadWords) → variables_in th ≡ vs → f th ≡ g th)
     → TurnsOn a n us who counts vs g

@@ -3,6 +3,7 @@ use mathlib.Core.Path.{refl, ap, ◌∙◌}
 use mathlib.Core.List.{List, [], ◌∷◌}
 use Prim.Native.Nat.{ℕ, ◌≤◌}
 use Rattle.program.specs.Trees.{Expr}
+use Rattle.language.specs.declared.refusal.Rule.{Rule}
 use Rattle.machine.specs.Words.{value_word}
 use Rattle.machine.specs.declared.value.Value.{Value}
 use Rattle.machine.specs.declared.value.Outcome.{Outcome}
@@ -19,6 +20,7 @@ use Rattle.turns.specs.declared.start.Request.{Request}
 use Rattle.turns.specs.Inner.Acts.{TurnOutcome, then_on, starts_with, one_argument, last_argument}
 use Rattle.turns.specs.Inner.Acts.{two_arguments, start_turn}
 use Rattle.turns.specs.Inner.Actions.{ActResult, start_with, start_one, start_two, act_after}
+use Rattle.turns.specs.Inner.Actions.{value_of}
 use Rattle.turns.specs.Inner.Actions.{first_then, both_arguments, start_act}
 use Rattle.turns.proofs.SeenLaws.{Turns, Turning, refused_so, act_on, act_on_as, in_thread}
 use Rattle.turns.proofs.PlainLaws.{plain, plain_eval, eval_room}
@@ -28,14 +30,15 @@ use Rattle.turns.proofs.AfterLaws.{after_turns}
 first_turns : (o : Outcome) (n : ℕ) (us : List ℕ) (who : Who) (counts : Counts) (vs : List ℕ)
     (k : Value → ActResult) (f : ThreadWords → Value → TurnOutcome)
     → ((x : Value) → Turning (k x) who counts vs (λ th. f th x))
-    → Turning (first_then o n us k) who counts vs (λ th. then_on o th (cells_in n) us (f th))
+    → Turning (first_then (value_of o) n us k) who counts vs
+    (λ th. then_on o th (cells_in n) us (f th))
 first_turns (Is x) n us who counts vs k f h = h x
 first_turns Foreign n us who counts vs k f h =
-    act_on (refused_so who counts 19 (cells_in n)) (λ th e. refl)
+    act_on (refused_so who counts Rule.Foreign (cells_in n)) (λ th e. refl)
 first_turns Spent n us who counts vs k f h =
-    act_on (refused_so who counts 17 (cells_in n)) (λ th e. refl)
+    act_on (refused_so who counts Rule.CellsSpent (cells_in n)) (λ th e. refl)
 first_turns Stuck n us who counts vs k f h =
-    act_on (refused_so who counts 20 (cells_in n)) (λ th e. refl)
+    act_on (refused_so who counts Rule.Stuck (cells_in n)) (λ th e. refl)
 
 module _ (who : Who) (q : Request) (counts : Counts) (vs : List ℕ) where
   with_arguments : (n : ℕ) (args : Arguments)

@@ -14,7 +14,8 @@ use Rattle.language.specs.declared.kind.Kind.TheVariants.{Expression, Unknown}
 use Rattle.language.specs.declared.frame.Frame.{Frame}
 use Rattle.text.specs.Frames.{frame_of_word, frames_of}
 use Rattle.text.proofs.FrameWords.{frame_at_lem}
-use Rattle.program.specs.Trees.{Expr, Stmt, frame_at, arguments, expression_at, root_s, statement_of}
+use Rattle.program.specs.Trees.{Expr, Stmt, frame_at, arguments, expression_at, root_s}
+use Rattle.program.specs.Trees.{statement_of}
 use Rattle.program.specs.Trees.{statement_at, no_frame}
 use Rattle.program.specs.Inner.Nodes.{statement_node_of, statement_node_in, statement_node}
 use Rattle.program.specs.declared.node.StatementNode.{StatementNode}
@@ -28,11 +29,11 @@ use Rattle.evaluator.specs.Inner.Results.{evaluated_on, stored_on}
 use Rattle.acts.specs.declared.act.Transition.TheVariants.{Stays}
 use Rattle.acts.specs.declared.act.Transition.TheVariants.{Generates, Awaits}
 use Rattle.acts.specs.declared.act.Change.TheVariants.{Same}
-use Rattle.acts.specs.declared.act.Action.{Action}
-use Rattle.acts.specs.Inner.Transitions.{action}
+use Rattle.acts.specs.Inner.Transitions.{TurnAnswer, action}
 use Rattle.turns.specs.declared.counts.Counts.{Counts}
 use Rattle.turns.specs.Inner.Acts.{request, TurnWords}
-use Rattle.turns.specs.Inner.Actions.{ActResult, act_result, place_at, two_more, do_there, cooperation}
+use Rattle.turns.specs.Inner.Actions.{ActResult, act_result, place_at, two_more, do_there}
+use Rattle.turns.specs.Inner.Actions.{cooperation}
 use Rattle.turns.specs.Inner.Actions.{after_value, let_after, store_after, choose_after}
 use Rattle.turns.specs.Inner.Actions.{loop_after, act_after, start_act, statement_act}
 
@@ -100,7 +101,7 @@ module _
   module _
       (f : Frame) (d : StatementNode) (k : d ≡ statement_node f)
       (e : f ≡ frame_of_word (get_or fw i 0)) (w : List ℕ) (g : TurnWords fw who counts w)
-      (l : i < length fw) (r : Action) where
+      (l : i < length fw) (r : TurnAnswer) where
     abbrev Acts : ℕ → List ℕ → Type 0
     Acts m us = act_result r m us ≡ statement_act who counts (statement_at (frames_of fw) i) vs n ws
 
@@ -113,8 +114,8 @@ module _
         ∙ ap (λ (x : Frame). act_by (statement_node x)) (frame_at_lem fw i no_frame l ∙ sym e)
         ∙ ap act_by (sym k ∙ h))
 
-    act_is : {a : Action} (m : ℕ) (us : List ℕ) → r ≡ a → act_result r m us ≡ act_result a m us
-    act_is m us z = ap (λ (x : Action). act_result x m us) z
+    act_is : {a : TurnAnswer} (m : ℕ) (us : List ℕ) → r ≡ a → act_result r m us ≡ act_result a m us
+    act_is m us z = ap (λ (x : TurnAnswer). act_result x m us) z
 
     pub acts_nothing : d ≡ Y.Nothing → r ≡ action Stays Same → Acts n ws
     acts_nothing h z = at Y.Nothing n ws h (act_is n ws z)

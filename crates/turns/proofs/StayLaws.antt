@@ -6,7 +6,7 @@ use lib.Dec.{leb, eqb}
 use borrow.Author.Tests.{leb-false, eqb-false}
 use Rattle.basics.proofs.Ifs.{if_all, yes, no}
 use Rattle.operations.specs.declared.Who.{Who}
-use Rattle.acts.specs.declared.act.Action.{Action}
+use Rattle.acts.specs.Inner.Transitions.{TurnAnswer}
 use Rattle.turns.specs.declared.counts.Counts.{Counts}
 use Rattle.turns.specs.Inner.Acts.{one_in, two_in, lets_in, drops_in}
 use Rattle.turns.specs.Inner.Actions.{one_more, two_more, let_more, drop_one}
@@ -16,7 +16,7 @@ module _ (who : Who) (counts : Counts) (n : ℕ) where
   pub one_turns : (a : ℕ) → Turns (one_more counts a) n who counts (λ th. one_in th n a)
   unfolding one_more one_in
   one_turns a =
-      if_all (λ (x : Action). Turns x n who counts (λ th. one_in th n a))
+      if_all (λ (x : TurnAnswer). Turns x n who counts (λ th. one_in th n a))
       (leb 25 counts.items) _ _
       (λ e. record { thread = λ th w. yes _ (ap (leb 25) w.items ∙ e) refl; room = tt })
       (λ e.
@@ -28,7 +28,7 @@ module _ (who : Who) (counts : Counts) (n : ℕ) where
   pub two_turns : (a b : ℕ) → Turns (two_more counts a b) n who counts (λ th. two_in th n a b)
   unfolding two_more two_in
   two_turns a b =
-      if_all (λ (x : Action). Turns x n who counts (λ th. two_in th n a b))
+      if_all (λ (x : TurnAnswer). Turns x n who counts (λ th. two_in th n a b))
       (leb 24 counts.items) _ _
       (λ e. record { thread = λ th w. yes _ (ap (leb 24) w.items ∙ e) refl; room = tt })
       (λ e.
@@ -41,11 +41,11 @@ module _ (who : Who) (counts : Counts) (n : ℕ) where
       → Turns (let_more counts x body) n who counts (λ th. lets_in th n x body)
   unfolding let_more lets_in
   lets_turns x body =
-      if_all (λ (a : Action). Turns a n who counts (λ th. lets_in th n x body))
+      if_all (λ (a : TurnAnswer). Turns a n who counts (λ th. lets_in th n x body))
       (leb 25 counts.variables) _ _
       (λ e. record { thread = λ th w. yes _ (ap (leb 25) w.variables ∙ e) refl; room = tt })
       (λ e.
-      if_all (λ (a : Action). Turns a n who counts (λ th. lets_in th n x body))
+      if_all (λ (a : TurnAnswer). Turns a n who counts (λ th. lets_in th n x body))
       (leb 24 counts.items) _ _
       (λ k.
       record {
@@ -65,7 +65,7 @@ module _ (who : Who) (counts : Counts) (n : ℕ) where
   pub drops_turns : Turns (drop_one counts) n who counts (λ th. drops_in th n)
   unfolding drop_one drops_in
   drops_turns =
-      if_all (λ (x : Action). Turns x n who counts (λ th. drops_in th n))
+      if_all (λ (x : TurnAnswer). Turns x n who counts (λ th. drops_in th n))
       (eqb counts.variables 0) _ _
       (λ e.
       record {

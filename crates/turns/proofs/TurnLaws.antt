@@ -8,7 +8,8 @@ use native.Mathlib.Omega.{arith}
 use lib.Dec.{ltb, eqb}
 use Rattle.basics.proofs.Ifs.{if_all, if_yes, if_no, yes, no}
 use Rattle.language.specs.declared.frame.Frame.{Frame}
-use Rattle.program.specs.Trees.{Expr, Stmt, nothing, seq, do_at, start, start_wait, cooperate, let_in, store}
+use Rattle.program.specs.Trees.{Expr, Stmt, nothing, seq, do_at, start, start_wait, cooperate}
+use Rattle.program.specs.Trees.{let_in, store}
 use Rattle.program.specs.Trees.{if_else, while, root_s, statement_at}
 use Rattle.program.specs.Trees.{generate, await}
 use Rattle.machine.specs.Words.{value_word}
@@ -25,18 +26,18 @@ use Rattle.states.specs.Inner.Stacks.{pop_item}
 use Rattle.acts.specs.declared.act.Transition.TheVariants.{Stays, Leaves}
 use Rattle.acts.specs.declared.act.Transition.TheVariants.{Generates, Awaits}
 use Rattle.acts.specs.declared.act.Change.TheVariants.{End}
-use Rattle.acts.specs.declared.act.Action.{Action}
-use Rattle.acts.specs.Inner.Transitions.{TurnResult, acted_in, action, popped, turned}
+use Rattle.acts.specs.Inner.Transitions.{TurnAnswer, TurnResult, acted_in, action, popped, turned}
 use Rattle.turns.specs.declared.counts.Counts.{Counts}
 use Rattle.turns.specs.declared.start.Request.{Request}
 use Rattle.turns.specs.Inner.Acts.{turn_outcome, one_in, two_in, lets_in, then_acts, by_truth_in}
 use Rattle.turns.specs.Inner.TurnCounts.{eval_count, second_count, start_count, statement_count}
 use Rattle.turns.specs.Inner.TurnCounts.{item_count, turn_count}
-use Rattle.turns.specs.Inner.Acts.{variables_in, evaluated_in, lets_on, stores_on, chooses_on, loops_on, request}
+use Rattle.turns.specs.Inner.Acts.{variables_in, evaluated_in, lets_on, stores_on, chooses_on}
+use Rattle.turns.specs.Inner.Acts.{loops_on, request}
 use Rattle.turns.specs.Inner.Acts.{statement_in, item_in, turn_in, Seen, WholeTurn}
 use Rattle.turns.specs.Inner.Actions.{ActResult, act_result, place_at, let_after, store_after}
 use Rattle.turns.specs.Inner.Actions.{choose_after, loop_after, act_after, start_two, first_then}
-use Rattle.turns.specs.Inner.Actions.{start_act}
+use Rattle.turns.specs.Inner.Actions.{start_act, value_of}
 use Rattle.turns.specs.Inner.Actions.{statement_act, item_act, below, turn_act}
 use Rattle.turns.proofs.SeenLaws.{Turns, Turning, stays_so, act_on, act_on_as, in_thread}
 use Rattle.turns.proofs.SeenLaws.{stored_in_lem}
@@ -51,7 +52,7 @@ use Rattle.turns.proofs.StartLaws.{starts_turns}
 -- ---- statements
 module _ (who : Who) (counts : Counts) (vs : List ℕ) where
   -- after an evaluation
-  act_after_lem : (r : Result) (k : Value → Action) (f : ThreadWords → ℕ → Value → TurnResult)
+  act_after_lem : (r : Result) (k : Value → TurnAnswer) (f : ThreadWords → ℕ → Value → TurnResult)
       → ((n : ℕ) (x : Value) → Turns (k x) n who counts (λ th. f th n x))
       → Turning (act_after r k) who counts vs
       (λ th.
@@ -213,7 +214,7 @@ module _
 
   -- of what `act` promises: r is its act, after it m counts the cells and the accesses, and us are
   -- the words of the cells
-  pub act_turns : (r : Action) (m : ℕ) (us : List ℕ)
+  pub act_turns : (r : TurnAnswer) (m : ℕ) (us : List ℕ)
       → act_result r m us ≡ turn_act fs who counts item vs h ws
       → WholeTurn r (cells_in m) us who counts item vs (λ th. turn_in fs who th (cells_in h) ws)
   act_turns r m us e = subst Whole (sym e) turn_turns
@@ -234,7 +235,7 @@ module _
 
     second_counts : (q : Request) (x y : Expr) (o : Outcome)
         → CountsTo
-        (first_then o (evaluated_on who x vs h ws).used (evaluated_on who x vs h ws).words
+        (first_then (value_of o) (evaluated_on who x vs h ws).used (evaluated_on who x vs h ws).words
         (λ v.
         let r = evaluated_on who x vs h ws in
         act_after (evaluated_on who y vs r.used r.words) (start_two q (value_word v)))).used
@@ -299,7 +300,7 @@ module _
             (λ _. none_counts) (λ _. none_counts)
             ∙ ap (λ (i : ℕ). (accesses_in h + i) % 2 ^ 48) (sym (if_no _ _ e))
 
-    pub act_counts : (r : Action) (m : ℕ) (us : List ℕ)
+    pub act_counts : (r : TurnAnswer) (m : ℕ) (us : List ℕ)
         → act_result r m us ≡ turn_act fs who counts item vs h ws
         → accesses_in m
         ≡ (accesses_in h + turn_count fs who counts.items item vs (cells_in h) ws) % 2 ^ 48

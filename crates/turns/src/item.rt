@@ -1,4 +1,4 @@
-// The turn of a thread: its top item.
+//! The turn of a thread: its top item.
 ghost use Rattle.std.specs.Prelude.{◌≡◌};
 ghost use Rattle.text.specs.Frames.{frames_of};
 ghost use Rattle.operations.specs.Inner.Lent.{lent_rest, on_lent};
@@ -11,11 +11,18 @@ use crate::statement::act_statement;
 use crate::staying::drops;
 use acts::act::{Action, Change, Transition, comes_to};
 use language::Place;
-use machine::offset::{BACK_FROM, DROP_WORD};
+use language::refusal::Rule;
+use machine::offset::{BACK_FROM, DROP_WORD, State};
 use operations::Who;
 
-// The item that is off its continuation: the counts are without it.
-fn act_item(frames: &[u64], who: Who, counts: Counts, state: &mut [u64], item: u64) -> Action
+/// The item that is off its continuation: the counts are without it.
+fn act_item(
+    frames: &[u64],
+    who: Who,
+    counts: Counts,
+    state: &mut State,
+    item: u64,
+) -> Result<Action, Rule>
     requires { TurnWords frames.now who counts state.old × ItemWord frames.now item }
     ensures found { act_in result state.new
         ≡ on_lent (item_act (frames_of frames.now) who counts item) who
@@ -31,10 +38,16 @@ fn act_item(frames: &[u64], who: Who, counts: Counts, state: &mut [u64], item: u
     drops(counts)
 }
 
-// The turn of a thread with that item on top. One without an item ends. The whole state is lent,
-// since the variables are read where they lie beside the cells, which with their count alone are
-// written.
-pub fn act(frames: &[u64], who: Who, counts: Counts, item: u64, state: &mut [u64]) -> Action
+/// The turn of a thread with that item on top. One without an item ends.
+// The whole state is lent, since the variables are read where they lie beside the cells, which with
+// their count alone are written.
+pub fn act(
+    frames: &[u64],
+    who: Who,
+    counts: Counts,
+    item: u64,
+    state: &mut State,
+) -> Result<Action, Rule>
     requires { TurnWords frames.now who counts state.old × ItemWord frames.now item }
     ensures found { act_in result state.new
         ≡ on_lent (turn_act (frames_of frames.now) who counts item) who

@@ -9,6 +9,8 @@ use lib.ListN.{length, take}
 use borrow.Author.Tests.{eq-eqb, ne_eqb}
 use Rattle.basics.specs.If.{when◌then◌else◌}
 use Rattle.basics.proofs.Ifs.{yes, no}
+use Rattle.language.specs.declared.refusal.Rule.{Rule}
+use Rattle.language.specs.declared.refusal.Rule.TheVariants.{WrongState}
 use Rattle.language.specs.Verdicts.{Verdict}
 use Rattle.language.specs.Verdicts.{Accepted, Rejected}
 use Rattle.text.specs.Frames.{words_of, frames_of, text_frames}
@@ -17,7 +19,7 @@ use Rattle.text.specs.Inner.Reading.{reading, text_read, read_as, text_words}
 use Rattle.text.specs.Inner.Reads.{TextRead}
 use Rattle.text.specs.Inner.Reads.{Frames}
 use Rattle.language.specs.declared.refusal.Refusal.{Refusal}
-use Rattle.language.proofs.VerdictLaws.{number_in, frame_in}
+use Rattle.language.proofs.VerdictLaws.{rule_in, frame_in}
 use Rattle.text.proofs.Readings.{reads}
 use Rattle.text.proofs.ReadLaws.{length_frames, length_words, read_field}
 use Rattle.layout.proofs.Answers.{Whole, whole, lines_taken}
@@ -41,7 +43,7 @@ module _ (ws out : List ℕ) (v : Verdict) (ev : v ≡ drawing_verdict (frames_o
     writable_lines = accepted_writable (frames_of ws) (sym ev ∙ e)
 
     pub unfit_lines : (length out ≡ 17 * length ws → ⊥)
-        → as_writing (Rejected 14 0) out ≡ arranged ws out
+        → as_writing (Rejected WrongState 0) out ≡ arranged ws out
     unfolding arranged
     unfit_lines d =
         no (as_writing Accepted (bytes_of (laid_out (drawing ws))))
@@ -53,7 +55,7 @@ module _ (ws out : List ℕ) (v : Verdict) (ev : v ≡ drawing_verdict (frames_o
     unfolding arranged
     laid_lines new w l =
         ap (as_writing Accepted) w
-        ∙ yes (as_writing (Rejected 14 0) out) (eq-eqb (length out) (17 * length ws) l) refl
+        ∙ yes (as_writing (Rejected WrongState 0) out) (eq-eqb (length out) (17 * length ws) l) refl
         ∙ ap (arranged_after ws out) (sym e ∙ ev)
 
 -- ---- of a text: t is what the reader answered, ws what the lent words hold
@@ -65,8 +67,8 @@ module _ (bs out : List ℕ) (t : TextRead) (ws : List ℕ) (h : read_as t ws �
       go : (r : Reading) → text_read r ≡ Err a → as_writing (Err a) out ≡ writing_read bs out r
       go (frames fs) q = absurd (let z : ◌≡◌ {A = ℕ} 0 1 = cc in omega arith)
       go (refused m k) q =
-          ap₂ (λ (x y : ℕ). as_writing (Rejected x y) out)
-          (sym (ap number_in q)) (sym (ap frame_in q))
+          ap₂ (λ (x : Rule) (y : ℕ). as_writing (Rejected x y) out)
+          (sym (ap rule_in q)) (sym (ap frame_in q))
 
   module _ (n : ℕ) (e : t ≡ Frames n) where
     w : Whole bs n
@@ -88,7 +90,7 @@ module _ (bs out : List ℕ) (t : TextRead) (ws : List ℕ) (h : read_as t ws �
         ap
         (λ (k : ℕ). when eqb (length out) k
         then as_writing Accepted (rewritten bs)
-        else as_writing (Rejected 14 0) out)
+        else as_writing (Rejected WrongState 0) out)
         size
     same_after (Err r) = refl
 

@@ -1,6 +1,6 @@
 -- What the code tells of a field is what the trees say of it. Assumes nothing.
 use mathlib.Core.Path.{◌≡◌, refl, sym, ap, ◌∙◌}
-use mathlib.Core.Bool.{Bool, true, false, not, true≢false}
+use mathlib.Core.Bool.{true, false, not, true≢false}
 use mathlib.Core.List.{[], ◌∷◌}
 use Prim.Native.Nat.{ℕ, zero, suc}
 use native.Mathlib.Omega.{arith}
@@ -13,15 +13,8 @@ use Rattle.language.specs.Kinds.{declaration_uses, statement_uses, expression_us
 use Rattle.language.specs.Kinds as kinds
 use Rattle.language.specs.declared.kind.Class.{Class}
 use Rattle.language.specs.declared.kind.Use.{Use}
-use Rattle.language.specs.declared.kind.Kind.{Kind}
-use Rattle.language.specs.declared.kind.Kind.TheVariants.{Declared}
-use Rattle.language.specs.declared.kind.DeclarationKind.{DeclarationKind}
-use Rattle.language.specs.declared.kind.StatementKind.{StatementKind}
-use Rattle.language.specs.declared.kind.ExpressionKind.{ExpressionKind}
 use Rattle.drawing.specs.Drawings.{Drawn, kept, child, field_with}
-use Rattle.writer.specs.declared.child.Holds.{Holds}
-use Rattle.writer.specs.declared.child.ChildFields.{ChildFields}
-use Rattle.writer.specs.Inner.Fields.{holds_of, child_fields, names_child, field_by}
+use Rattle.writer.specs.Inner.Fields.{holds_of, names_child, field_by}
 
 -- ---- a field names a child exactly where the code says so
 pub data Tells (u : Use) (v : ℕ) : Type 0 where
@@ -74,25 +67,3 @@ named u v h = go (tells u v)
     go : Tells u v → Named u v
     go (Tells.keeps p q) = absurd (true≢false (sym h ∙ p))
     go (Tells.names k p q) = record { child = kinds.child k v; among = rw q In.first; at_it = refl }
-
--- ---- tables read by a `match`: the row of the arm that is taken is the row of the kind given
-pub statement_row : (k v : StatementKind) (r : ChildFields) → k ≡ v
-    → r ≡ child_fields (statement_uses v) → r ≡ child_fields (statement_uses k)
-statement_row k v r e h = h ∙ ap (λ (x : StatementKind). child_fields (statement_uses x)) (sym e)
-
-pub expression_row : (k v : ExpressionKind) (r : ChildFields) → k ≡ v
-    → r ≡ child_fields (expression_uses v) → r ≡ child_fields (expression_uses k)
-expression_row k v r e h = h ∙ ap (λ (x : ExpressionKind). child_fields (expression_uses x)) (sym e)
-
-pub kind_row : (k v : Kind) (r : ChildFields) → k ≡ v → r ≡ child_fields (uses v)
-    → r ≡ child_fields (uses k)
-kind_row k v r e h = h ∙ ap (λ (x : Kind). child_fields (uses x)) (sym e)
-
-pub declaration_row : (k : Kind) (d v : DeclarationKind) (r : ChildFields) → k ≡ Declared d → d ≡ v
-    → r ≡ child_fields (declaration_uses v) → r ≡ child_fields (uses k)
-declaration_row k d v r e q h =
-    kind_row k (Declared d) r e
-    (h ∙ ap (λ (x : DeclarationKind). child_fields (declaration_uses x)) (sym q))
-
-pub names_row : (h k : Holds) (v : ℕ) (r : Bool) → h ≡ k → r ≡ names_child k v → r ≡ names_child h v
-names_row h k v r e q = q ∙ ap (λ (x : Holds). names_child x v) (sym e)

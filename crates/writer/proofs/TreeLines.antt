@@ -40,38 +40,41 @@ module _ (ws : List ℕ) (d : ℕ) (h : Holds) (v : ℕ) where
   abbrev X : Field
   X = field_by (drawn d ws) h v
 
-  module _ (x : Bool) (ex : x ≡ names_child h v) (e : x ≡ true) where
-    is_child : X ≡ child (drawn d ws v)
+  -- j is v, as the code's index
+  module _ (x : Bool) (ex : x ≡ names_child h v) (e : x ≡ true) (j : ℕ) (same : j ≡ v) where
+    is_child : X ≡ child (drawn d ws j)
     unfolding field_by
-    is_child = if_yes (child (drawn d ws v)) (kept v) (sym ex ∙ e)
+    is_child =
+        if_yes (child (drawn d ws v)) (kept v) (sym ex ∙ e)
+        ∙ ap (λ (k : ℕ). child (drawn d ws k)) (sym same)
 
-    pub child_tree : FieldHasTree ws d h v → HasTree ws d v
-    child_tree t = t.tree (sym ex ∙ e)
+    pub child_tree : FieldHasTree ws d h v → HasTree ws d j
+    child_tree t = subst (HasTree ws d) (sym same) (t.tree (sym ex ∙ e))
 
     pub child_room : (n : ℕ) (out : List ℕ) → LineRoom out n (size_in X)
-        → LineRoom out n (size (drawn d ws v))
+        → LineRoom out n (size (drawn d ws j))
     unfolding size_in
     child_room n out r = subst (λ (f : Field). LineRoom out n (size_in f)) is_child r
 
-    pub child_next : (n : ℕ) (out : List ℕ) (r : ℕ) → r ≡ n + size (drawn d ws v)
+    pub child_next : (n : ℕ) (out : List ℕ) (r : ℕ) → r ≡ n + size (drawn d ws j)
         → LineRoom out n (size_in X) → (1 ≤ r) × (r - 1 < 2 ^ 16)
     child_next n out r er room =
-        let q = root_inside n (drawn d ws v) in
+        let q = root_inside n (drawn d ws j) in
         let k = (child_room n out room).few in
         (omega arith, omega arith)
 
     pub child_written : (n : ℕ) (out new : List ℕ)
-        → new ≡ with_lines out n (lined n (drawn d ws v)) → new ≡ with_lines out n (lined_in n X)
+        → new ≡ with_lines out n (lined n (drawn d ws j)) → new ≡ with_lines out n (lined_in n X)
     unfolding lined_in
     child_written n out new en =
         en ∙ ap (λ (f : Field). with_lines out n (lined_in n f)) (sym is_child)
 
-    pub child_placed : (n r : ℕ) → r ≡ n + size (drawn d ws v)
+    pub child_placed : (n r : ℕ) → r ≡ n + size (drawn d ws j)
         → record { value = r - 1; next = r } ≡ placed_from n X
     unfolding size_in value_from
     child_placed n r er =
-        let q = root_inside n (drawn d ws v) in
-        let a : r - 1 ≡ root_from n (drawn d ws v) = omega arith in
+        let q = root_inside n (drawn d ws j) in
+        let a : r - 1 ≡ root_from n (drawn d ws j) = omega arith in
         placed_same a er ∙ ap (placed_from n) (sym is_child)
       where
         placed_same : {p q r s : ℕ} → p ≡ q → r ≡ s

@@ -1,11 +1,11 @@
-// Which of a line's fields A, B and C hold a child.
+//! Which of a line's fields A, B and C hold a child.
 ghost use Rattle.std.specs.Prelude.{◌≡◌};
 ghost use Rattle.language.specs.Kinds.{statement_uses, expression_uses, uses};
 ghost use Rattle.writer.specs.Inner.Fields.{holding, child_fields, names_child};
 
-use language::kind::{DeclarationKind, ExpressionKind, Kind, StatementKind};
+use language::kind::{ExpressionKind, Kind, StatementKind};
 
-#[derive(Clone, Copy)]
+#[derive(Clone, Copy, Debug, PartialEq, Eq)]
 pub(crate) enum Holds {
     // A number that means itself.
     Kept,
@@ -14,35 +14,55 @@ pub(crate) enum Holds {
     Argument,
 }
 
-#[derive(Clone, Copy)]
+#[derive(Clone, Copy, Debug, PartialEq, Eq)]
 pub(crate) struct ChildFields {
     pub a: Holds,
     pub b: Holds,
     pub c: Holds,
 }
 
-fn holding(a: Holds, b: Holds, c: Holds) -> ChildFields
-    ensures { result ≡ holding a b c }
-{
-    ChildFields { a, b, c }
-}
+// The fields of a kind with no child; with one, two or three, in A, in A and B, in all; and of a
+// start.
+const NONE: ChildFields = ChildFields {
+    a: Holds::Kept,
+    b: Holds::Kept,
+    c: Holds::Kept,
+};
+
+const A: ChildFields = ChildFields {
+    a: Holds::Child,
+    b: Holds::Kept,
+    c: Holds::Kept,
+};
+
+const A_B: ChildFields = ChildFields {
+    a: Holds::Child,
+    b: Holds::Child,
+    c: Holds::Kept,
+};
+
+const A_B_C: ChildFields = ChildFields {
+    a: Holds::Child,
+    b: Holds::Child,
+    c: Holds::Child,
+};
+
+const ARGUMENTS: ChildFields = ChildFields {
+    a: Holds::Argument,
+    b: Holds::Argument,
+    c: Holds::Kept,
+};
 
 fn statement_fields(k: StatementKind) -> ChildFields
     ensures { result ≡ child_fields (statement_uses k) }
 {
     match k {
-        StatementKind::Nothing => holding(Holds::Kept, Holds::Kept, Holds::Kept),
-        StatementKind::Then => holding(Holds::Child, Holds::Child, Holds::Kept),
-        StatementKind::DoAt => holding(Holds::Child, Holds::Kept, Holds::Kept),
-        StatementKind::Start => holding(Holds::Argument, Holds::Argument, Holds::Kept),
-        StatementKind::StartWait => holding(Holds::Argument, Holds::Argument, Holds::Kept),
-        StatementKind::Cooperate => holding(Holds::Kept, Holds::Kept, Holds::Kept),
-        StatementKind::Let => holding(Holds::Child, Holds::Child, Holds::Kept),
-        StatementKind::Store => holding(Holds::Child, Holds::Child, Holds::Kept),
-        StatementKind::If => holding(Holds::Child, Holds::Child, Holds::Child),
-        StatementKind::While => holding(Holds::Child, Holds::Child, Holds::Kept),
-        StatementKind::Generate => holding(Holds::Kept, Holds::Kept, Holds::Kept),
-        StatementKind::Await => holding(Holds::Kept, Holds::Kept, Holds::Kept),
+        StatementKind::If => A_B_C,
+        StatementKind::Then | StatementKind::Let | StatementKind::Store | StatementKind::While =>
+            A_B,
+        StatementKind::DoAt => A,
+        StatementKind::Start | StatementKind::StartWait => ARGUMENTS,
+        _ => NONE,
     }
 }
 
@@ -50,15 +70,10 @@ fn expression_fields(k: ExpressionKind) -> ChildFields
     ensures { result ≡ child_fields (expression_uses k) }
 {
     match k {
-        ExpressionKind::Number => holding(Holds::Kept, Holds::Kept, Holds::Kept),
-        ExpressionKind::Truth => holding(Holds::Kept, Holds::Kept, Holds::Kept),
-        ExpressionKind::Variable => holding(Holds::Kept, Holds::Kept, Holds::Kept),
-        ExpressionKind::SharedCell => holding(Holds::Kept, Holds::Kept, Holds::Kept),
-        ExpressionKind::NewCell => holding(Holds::Child, Holds::Kept, Holds::Kept),
-        ExpressionKind::Content => holding(Holds::Child, Holds::Kept, Holds::Kept),
-        ExpressionKind::Sum => holding(Holds::Child, Holds::Child, Holds::Kept),
-        ExpressionKind::Less => holding(Holds::Child, Holds::Child, Holds::Kept),
-        ExpressionKind::Choose => holding(Holds::Child, Holds::Child, Holds::Child),
+        ExpressionKind::Choose => A_B_C,
+        ExpressionKind::Sum | ExpressionKind::Less => A_B,
+        ExpressionKind::NewCell | ExpressionKind::Content => A,
+        _ => NONE,
     }
 }
 
@@ -66,16 +81,10 @@ pub(crate) fn child_fields(kind: Kind) -> ChildFields
     ensures { result ≡ child_fields (uses kind) }
 {
     match kind {
-        Kind::Header => holding(Holds::Kept, Holds::Kept, Holds::Kept),
-        Kind::Declared(d) => match d {
-            DeclarationKind::Shared => holding(Holds::Kept, Holds::Kept, Holds::Kept),
-            DeclarationKind::Event => holding(Holds::Kept, Holds::Kept, Holds::Kept),
-            DeclarationKind::Link => holding(Holds::Kept, Holds::Kept, Holds::Kept),
-        },
-        Kind::Module => holding(Holds::Child, Holds::Kept, Holds::Kept),
+        Kind::Module => A,
         Kind::Statement(k) => statement_fields(k),
         Kind::Expression(k) => expression_fields(k),
-        Kind::Unknown => holding(Holds::Kept, Holds::Kept, Holds::Kept),
+        Kind::Header | Kind::Declared(_) | Kind::Unknown => NONE,
     }
 }
 
@@ -83,9 +92,5 @@ pub(crate) fn child_fields(kind: Kind) -> ChildFields
 pub(crate) fn names_child(h: Holds, v: u16) -> bool
     ensures { result ≡ names_child h v }
 {
-    match h {
-        Holds::Kept => false,
-        Holds::Child => true,
-        Holds::Argument => v != 0,
-    }
+    h == Holds::Child || (h == Holds::Argument && v != 0)
 }

@@ -1,4 +1,4 @@
-// Trees, written with their children before them.
+//! Trees, written with their children before them.
 ghost use Rattle.std.specs.Prelude.{◌≡◌, ◌+◌};
 ghost use Rattle.drawing.specs.Drawings.{size, size_in, drawn, lined, lined_in};
 ghost use Rattle.writer.specs.Inner.Fields.{field_by, placed_from};
@@ -10,14 +10,15 @@ use text::line::frame_of_word;
 
 // Of a field whose child has been written: what the new line holds in it, and the next line's
 // number.
-#[derive(Clone, Copy)]
+#[derive(Clone, Copy, Debug, PartialEq, Eq)]
 pub(crate) struct Placed {
     pub value: u16,
     pub next: usize,
 }
 
 // Writes the tree of line i, which has at most so many levels, from line n on, and answers the next
-// line's number.
+// line's number. The buffer and n are no struct: one that holds the `&mut` would owe a `ghost_name`
+// clause in each function, and is no plainer.
 #[cycle(emit_emit_field)]
 pub(crate) fn emit(words: &[u64], i: usize, n: usize, levels: u8, out: &mut [u8]) -> usize
     requires { HasTree words.now levels i
@@ -28,15 +29,11 @@ pub(crate) fn emit(words: &[u64], i: usize, n: usize, levels: u8, out: &mut [u8]
 {
     let w = words[i];
     let f = frame_of_word(w);
-    let kind = f.kind;
-    let holds = child_fields(kind);
-    let in_a = holds.a;
-    let in_b = holds.b;
-    let in_c = holds.c;
+    let holds = child_fields(f.kind);
     let below = levels - 1;
-    let a = emit_field(words, in_a, f.a, n, below, out);
-    let b = emit_field(words, in_b, f.b, a.next, below, out);
-    let c = emit_field(words, in_c, f.c, b.next, below, out);
+    let a = emit_field(words, holds.a, f.a, n, below, out);
+    let b = emit_field(words, holds.b, f.b, a.next, below, out);
+    let c = emit_field(words, holds.c, f.c, b.next, below, out);
     put_line(out, c.next, new_line(w, a.value, b.value, c.value));
     c.next + 1
 }
@@ -53,11 +50,12 @@ fn emit_field(words: &[u64], holds: Holds, v: u16, n: usize, levels: u8, out: &m
         ≡ placed_from n (field_by (drawn levels words.now) holds v) }
 {
     if names_child(holds, v) {
-        let next = emit(words, v as usize, n, levels, out);
-        return Placed {
+        let next = emit(words, usize::from(v), n, levels, out);
+        Placed {
             value: (next - 1) as u16,
             next,
-        };
+        }
+    } else {
+        Placed { value: v, next: n }
     }
-    Placed { value: v, next: n }
 }

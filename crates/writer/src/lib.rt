@@ -1,4 +1,4 @@
-// The writer: frames in any order, laid out as the check wants them.
+//! The writer: frames in any order, laid out as the check wants them.
 #![tactic(auto)]
 
 ghost use Rattle.std.specs.Prelude.{◌≡◌};
@@ -10,7 +10,7 @@ ghost use Rattle.writer.specs.Inner.Placing.{arranged};
 use crate::root::lay_all;
 use forest::drawing_verdict;
 use language::limit::{LINE_LENGTH, MOST_LINES};
-use language::refusal::{Refusal, Verdict, WRONG_STATE};
+use language::refusal::{Refusal, Rule, Verdict};
 use text::reading::read_into;
 
 mod child;
@@ -27,7 +27,7 @@ fn arrange_lines(words: &[u64], out: &mut [u8]) -> Verdict
     drawing_verdict(words)?;
     if out.len() != LINE_LENGTH * words.len() {
         return Err(Refusal {
-            number: WRONG_STATE,
+            rule: Rule::WrongState,
             frame: 0,
         });
     }
@@ -35,10 +35,10 @@ fn arrange_lines(words: &[u64], out: &mut [u8]) -> Verdict
     Ok(())
 }
 
-// The text's lines laid out into a buffer of the text's length: children before parents and just
-// before them, renumbered; declarations and modules in their order. 1 to 5, 21, 6 and 7 are
-// answered with the frame, by its number in the text; then 14, a buffer of another length. A
-// refusal leaves the buffer as it was.
+/// The text's lines laid out into a buffer of the text's length: children before parents and just
+/// before them, renumbered; declarations and modules in their order. 1 to 5, 21, 6 and 7 are
+/// answered with the frame, by its number in the text, from 0; then 14, a buffer of another length,
+/// with frame 0. A refusal leaves the buffer as it was.
 pub fn arrange(text: &[u8], out: &mut [u8]) -> Verdict
     ensures computed { as_writing result out.new
         ≡ writing text.now out.old }

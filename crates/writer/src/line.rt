@@ -1,4 +1,4 @@
-// Lines, made and written.
+//! Lines, made and written.
 ghost use Rattle.std.specs.Prelude.{◌≡◌, [], ◌∷◌};
 ghost use Rattle.drawing.specs.Drawings.{line_from, head_of};
 ghost use Rattle.writer.specs.Inner.Placing.{with_lines, LineRoom};
@@ -18,7 +18,7 @@ const HEAD_UNIT: u64 = 0x0001_0000_0000_0000;
 pub(crate) fn new_line(w: u64, a: u16, b: u16, c: u16) -> u64
     ensures { result ≡ line_from (head_of w) a b c }
 {
-    w / HEAD_UNIT * HEAD_UNIT + a as u64 * A_UNIT + b as u64 * B_UNIT + c as u64
+    w / HEAD_UNIT * HEAD_UNIT + u64::from(a) * A_UNIT + u64::from(b) * B_UNIT + u64::from(c)
 }
 
 // Writes the line w as line n: the digits from the last to the first, then the line feed.
@@ -28,9 +28,7 @@ pub(crate) fn put_line(out: &mut [u8], n: usize, w: u64)
 {
     let at = LINE_LENGTH * n;
     let mut rest = w;
-    let mut k = LINE_DIGITS;
-    while k > 0 {
-        k -= 1;
+    for k in (0..LINE_DIGITS).rev() {
         out[at + k] = digit_byte((rest % 16) as u8);
         rest /= 16;
     }

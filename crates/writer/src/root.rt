@@ -1,4 +1,4 @@
-// A whole file: the trees of its header, its declarations and its modules.
+//! A whole file: the trees of its header, its declarations and its modules.
 ghost use Rattle.std.specs.Prelude.{◌≡◌, ◌+◌, ◌*◌, ◌<◌, ◌≤◌, length};
 ghost use Rattle.language.specs.Limits.{line_length, most_lines};
 ghost use Rattle.text.specs.Frames.{frames_of};
@@ -13,6 +13,7 @@ use language::kind::Kind;
 use language::limit::MOST_DEPTH;
 use program::frames::frame_at;
 
+// Ranks are numbers and no enum: `rank` and `roots_to` of drawing/specs/Drawings count them.
 const HEADER_RANK: u8 = 0;
 
 // After the declarations.
@@ -31,9 +32,7 @@ fn rank_of(kind: Kind) -> u8
         Kind::Header => HEADER_RANK,
         Kind::Declared(d) => d.rank(),
         Kind::Module => MODULE_RANK,
-        Kind::Statement(k) => RANKS,
-        Kind::Expression(k) => RANKS,
-        Kind::Unknown => RANKS,
+        Kind::Statement(_) | Kind::Expression(_) | Kind::Unknown => RANKS,
     }
 }
 
@@ -50,12 +49,11 @@ fn lay_root(words: &[u64], i: usize, rank: u8, n: usize, out: &mut [u8]) -> usiz
         ≡ n + length (lines_at words.now n
         (root_at rank i (frame_at (frames_of words.now) i))) }
 {
-    let f = frame_at(words, i);
-    let kind = f.kind;
-    if rank_of(kind) == rank {
-        return emit(words, i, n, LEVELS, out);
+    if rank_of(frame_at(words, i).kind) == rank {
+        emit(words, i, n, LEVELS, out)
+    } else {
+        n
     }
-    n
 }
 
 // The same for all lines of the rank, in their order.

@@ -1,8 +1,7 @@
 -- Searches in lists. Each search stops where it finds, so that whole files compute. Assumes
 -- nothing: definitions.
-use Rattle.std.specs.Prelude.{Bool, true, false, List, [], ◌∷◌, ℕ, suc, leb, eqb}
-use Rattle.std.proofs.Math.Option.{Option, none, some}
-use Rattle.basics.specs.If.{when◌then◌else◌}
+use Rattle.std.specs.Prelude.{Bool, true, false, List, [], ◌∷◌, ℕ, suc, min, eqb}
+use Rattle.std.specs.Prelude.{Option, Some, None}
 
 -- the same numbers in the same order
 unfoldable pub same_numbers : List ℕ → List ℕ → Bool
@@ -13,11 +12,11 @@ same_numbers (x ∷ xs) (y ∷ ys) = elim (eqb x y) [ true ↦ same_numbers xs y
 
 -- the lowest index, counting from i, whose member is wrong
 unfoldable pub lowest : {A : Type 0} → (ℕ → A → Bool) → ℕ → List A → Option ℕ
-lowest wrong i [] = none
-lowest wrong i (x ∷ xs) = elim (wrong i x) [ true ↦ some i | false ↦ lowest wrong (suc i) xs ]
+lowest wrong i [] = None
+lowest wrong i (x ∷ xs) = elim (wrong i x) [ true ↦ Some i | false ↦ lowest wrong (suc i) xs ]
 
 -- the smaller of two indices, where there are any
 unfoldable pub earlier : Option ℕ → Option ℕ → Option ℕ
-earlier none q = q
-earlier (some i) none = some i
-earlier (some i) (some j) = some (when leb i j then i else j)
+earlier None q = q
+earlier (Some i) None = Some i
+earlier (Some i) (Some j) = Some (min i j)

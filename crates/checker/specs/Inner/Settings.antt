@@ -9,7 +9,11 @@ use Rattle.rules.specs.Rules.{Setting}
 
 abbrev pub setting_in : List ℕ → List ℕ → Setting
 setting_in words cells =
-    record { cells = cells; events = events_of (frames_of words); links = links_of (frames_of words) }
+    record {
+      cells = cells;
+      events = events_of (frames_of words);
+      links = links_of (frames_of words);
+    }
 
 -- the labels are those of the file's links
 pub record LabelsOf (words labels : List ℕ) : Type 0 where

@@ -2,21 +2,21 @@
 -- shows that they give what `HasWriting` allows. Assumes nothing: definitions.
 use Rattle.std.specs.Prelude.{Err}
 use Rattle.std.specs.Prelude.{Bool, false, not, ◌&&◌, ◌||◌, List, ℕ, zero, suc, leb, ltb, eqb, length, drop}
-use Rattle.std.proofs.Math.Option.{Option}
+use Rattle.std.specs.Prelude.{Option}
 use Rattle.basics.specs.If.{when◌then◌else◌}
 use Rattle.basics.specs.Members.{any}
 use Rattle.basics.specs.Inner.Searches.{lowest}
 use Rattle.language.specs.Kinds.{is_module, class_of, Child, children}
 use Rattle.language.specs.Limits.{most_depth}
-use Rattle.language.specs.Refusals.{wrong_header, wrong_field, wrong_tree, wrong_order, too_deep}
-use Rattle.language.specs.Refusals.{wrong_state}
+use Rattle.language.specs.declared.refusal.Rule.TheVariants.{WrongHeader, WrongField, WrongTree}
+use Rattle.language.specs.declared.refusal.Rule.TheVariants.{WrongOrder, TooDeep, WrongState}
 use Rattle.language.specs.declared.frame.Frame.{Frame}
 use Rattle.language.specs.Verdicts.{Verdict}
 use Rattle.language.specs.Verdicts.{Accepted, Rejected}
 use Rattle.program.specs.Trees.{frame_at}
 use Rattle.program.specs.Inner.Children.{same_class}
 use Rattle.text.specs.Reading.{Reading, frames, refused}
-use Rattle.fields.specs.Inner.Scans.{header_fault, field_fault, reject_at}
+use Rattle.fields.specs.Inner.Scans.{header_fault, field_fault, refused_at, then_try}
 use Rattle.layout.specs.Order.{has_child, has_class}
 use Rattle.layout.specs.Uses.{used}
 use Rattle.drawing.specs.Writings.{Writing, as_writing, rewritten}
@@ -78,23 +78,22 @@ depth_fault_at fs = lowest (is_deep fs) 0 fs
 -- ---- 4, 5, 21, 6 and 7
 abbrev pub form_verdict : List Frame → Verdict
 form_verdict fs =
-    reject_at Rejected wrong_tree (tree_fault_at fs) λ _.
-    reject_at Rejected wrong_order (shape_fault_at fs) λ _.
-    reject_at Rejected too_deep (depth_fault_at fs) λ _.
-    Accepted
+    then_try (refused_at WrongTree (tree_fault_at fs)) λ _.
+    then_try (refused_at WrongOrder (shape_fault_at fs)) λ _.
+    refused_at TooDeep (depth_fault_at fs)
 
 unfoldable pub drawing_verdict : List Frame → Verdict
 drawing_verdict fs =
-    reject_at Rejected wrong_header (header_fault fs) λ _.
-    reject_at Rejected wrong_field (field_fault fs) λ _.
+    then_try (refused_at WrongHeader (header_fault fs)) λ _.
+    then_try (refused_at WrongField (field_fault fs)) λ _.
     form_verdict fs
 
 -- ---- the answer, from that verdict; 14 comes last
 abbrev pub writing_after : List ℕ → List ℕ → Verdict → Writing
 writing_after bs out Accepted =
     when eqb (length out) (length bs) then as_writing Accepted (rewritten bs) else
-    as_writing (Rejected wrong_state 0) out
-writing_after bs out (Err r) = as_writing (Rejected r.number r.frame) out
+    as_writing (Rejected WrongState 0) out
+writing_after bs out (Err r) = as_writing (Err r) out
 
 unfoldable pub writing_of : List ℕ → List ℕ → List Frame → Writing
 writing_of bs out fs = writing_after bs out (drawing_verdict fs)

@@ -1,7 +1,6 @@
 -- The tests that the code makes of each frame. No reader has to believe it: proofs/ ties them to
 -- `is_tree_fault` and `is_shape_fault`. Assumes nothing: definitions.
 use Rattle.std.specs.Prelude.{Bool, not, ◌&&◌, ◌||◌, List, ℕ, suc, eqb, leb, length, drop}
-use Rattle.std.proofs.Math.Option.{Option, none, some}
 use Rattle.basics.specs.Members.{any}
 use Rattle.language.specs.Kinds.{is_module, class_of, Child, children}
 use Rattle.language.specs.declared.frame.Frame.{Frame}
@@ -21,11 +20,6 @@ is_use_fault fs i f = has_child_from (length fs) f || leb 2 (used i fs)
 -- frame i is on a cycle
 abbrev pub is_cycle_fault : List Frame → ℕ → Frame → Bool
 is_cycle_fault fs i f = is_below fs i i
-
--- how many of n frames come before the one that was found
-abbrev pub frames_before : Option ℕ → ℕ → ℕ
-frames_before none n = n
-frames_before (some j) n = j
 
 -- ---- 6, in two halves
 unfoldable pub has_wrong_child : List Frame → Frame → Bool

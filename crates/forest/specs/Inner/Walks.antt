@@ -5,6 +5,7 @@ use Rattle.basics.specs.If.{when◌then◌else◌}
 use Rattle.language.specs.Limits.{most_lines}
 use Rattle.language.specs.declared.frame.Frame.{Frame}
 use Rattle.drawing.specs.Inner.Finds.{is_below}
+use Rattle.forest.specs.declared.cycle.Met.{Met}
 
 -- the marks, the queue, and how many of its places are filled
 pub record Walk : Type 0 where
@@ -42,6 +43,13 @@ tally (false ∷ bs) = tally bs
 pub record QueueRoom (marks : List Bool) (filled : ℕ) : Type 0 where
   pub long : length marks ≡ most_lines
   pub each : filled ≡ tally marks
+
+-- what the code keeps of a walk
+abbrev pub met : Met → Walk
+met m = walk (marks_of m.marks) m.queue m.filled
+
+abbrev pub HasRoom : Met → Type 0
+HasRoom m = QueueRoom (marks_of m.marks) m.filled
 
 -- no frame before i is on a cycle; so none of them is on a cycle through i
 abbrev pub NoCycleBefore : List Frame → ℕ → Type 0

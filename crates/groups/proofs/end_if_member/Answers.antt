@@ -10,7 +10,7 @@ returns-then-not-in_step c = record { count = search none_ready_here; words = se
 
 pub end_instant-requires : goal.end_instant-requires
 end_instant-requires c =
-    (search (list_words, pair_other), search pair_other, search is_idle_here, search rules)
+    (search list_words, search pair_other, search is_idle_here, search rules)
 
 pub returns : goal.returns
 returns c = record { count = search ready_here; words = search ends_here }

@@ -15,7 +15,7 @@ pub overflow_add-k-end : goal.overflow_add-k-end
 overflow_add-k-end c = search end_small
 
 pub living_families-living-requires : goal.living_families-living-requires
-living_families-living-requires c = (search rules, search words_few)
+living_families-living-requires c = search words_few
 
 pub loop-k-init : goal.loop-k-init
 loop-k-init c = search ending_start

@@ -9,7 +9,7 @@ use Rattle.groups.proofs.room_on_each.Goals as goal
 
 pub returns : goal.returns
 returns c =
-    let n : ℕ = c.args.schedulers in
-    let test : ℕ → Bool = lacks_room c.args.labels.now c.args.q.number c.args.e c.args.state.now in
+    let n : ℕ = c.args.schedulers.now.count in
+    let test : ℕ → Bool = lacks_room c.args.schedulers.now.labels c.args.q.number c.args.e c.args.state.now in
     ap not (any_from_yields_List test _ _ _ c.any.ensures.ran (YieldsList-from_range 2 (2 + n) n refl (omega arith)) (λ x b q k. search rules))
-    ∙ none-members (same_label c.args.labels.now c.args.q.number) (room_on c.args.e c.args.state.now) 2 n
+    ∙ none-members (same_label c.args.schedulers.now.labels c.args.q.number) (room_on c.args.e c.args.state.now) 2 n

@@ -7,7 +7,7 @@ pub returns-else-in_step : goal.returns-else-in_step
 returns-else-in_step c = search wakes_none
 
 pub wake-requires : goal.wake-requires
-wake-requires c = (search (list_words, pair_other), search pair_other, search has_room_here)
+wake-requires c = (search list_words, search pair_other, search has_room_here)
 
 pub returns-then-in_step : goal.returns-then-in_step
 returns-then-in_step c = search wakes_here

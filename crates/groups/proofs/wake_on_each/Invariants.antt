@@ -4,4 +4,4 @@ use Rattle.groups.proofs.wake_on_each.Given as goal
 
 abbrev pub invariant-loop-k : goal.invariant-loop-k
 invariant-loop-k l =
-    Waking l.labels l.initial.state l.q.number l.schedulers (2 + l.schedulers) l.e l.state l.k
+    Waking l.schedulers.labels l.initial.state l.q.number l.schedulers.count (2 + l.schedulers.count) l.e l.state l.k

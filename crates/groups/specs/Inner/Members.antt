@@ -7,11 +7,11 @@ use Rattle.basics.specs.Members.{any, every}
 use Rattle.language.specs.Places.{home, is_scheduler}
 use Rattle.language.specs.Limits.{most_schedulers, most_threads}
 use Rattle.language.specs.Inner.Labels.{same_label}
-use Rattle.machine.specs.Offsets.{state_length, schedulers_at, scheduler_length, next_list_at}
+use Rattle.machine.specs.Offsets.{schedulers_at, scheduler_length, next_list_at}
 use Rattle.machine.specs.Words.{words_at}
 use Rattle.machine.specs.Groups.{schedulers_where}
 use Rattle.lists.specs.Inner.Lists.{is_awaiting_word, active_with, with_woken, ready_words}
-use Rattle.lists.specs.Inner.Lists.{with_instant_ended, ListsFit}
+use Rattle.lists.specs.Inner.Lists.{with_instant_ended}
 
 -- the members of q's group, of a file with n schedulers
 abbrev pub members_in : List ℕ → ℕ → ℕ → List ℕ
@@ -72,26 +72,19 @@ ready_on (q ∷ qs) w =
 
 -- ---- what a caller has to show
 
--- the labels of eight schedulers, of which the file has n, and one of these eight
-pub record GroupOf (labels : List ℕ) (n q : ℕ) : Type 0 where
-  pub labelled : length labels ≡ most_schedulers
+-- the file has n of the eight schedulers, and q is one of the eight
+pub record GroupOf (n q : ℕ) : Type 0 where
   pub scheduler : is_scheduler q ≡ true
   pub few : n ≤ most_schedulers
 
--- the labels, and two of the eight
-pub record PairOf (labels : List ℕ) (q s : ℕ) : Type 0 where
-  pub labelled : length labels ≡ most_schedulers
+-- two of the eight
+pub record PairOf (q s : ℕ) : Type 0 where
   pub own : is_scheduler q ≡ true
   pub other : is_scheduler s ≡ true
 
 -- P holds of each number from k to below m that passes the test
 abbrev pub Each : (ℕ → Bool) → (ℕ → Type 0) → ℕ → ℕ → Type 0
 Each test P k m = (j : ℕ) → k ≤ j → j < m → test j ≡ true → P j
-
--- words whose lists are within their spaces
-pub record GroupWords (w : List ℕ) : Type 0 where
-  pub all : length w ≡ state_length
-  pub lists : ListsFit w
 
 -- who awaits event e has room on scheduler q; no thread is active there
 abbrev pub HasRoomOn : ℕ → List ℕ → ℕ → Type 0

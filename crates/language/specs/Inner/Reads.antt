@@ -11,8 +11,8 @@ use Rattle.language.specs.Types.{cell_type, room_around}
 use Rattle.language.specs.Kinds.{uses}
 
 -- what a number that is read as a place gives
-abbrev pub Reads : ℕ → Result Place NoPlace → Type 0
-Reads n r = r ≡ (if is_place n then Ok (record { number = n }) else Err (record { number = n }))
+abbrev pub ReadsPlace : ℕ → Result Place NoPlace → Type 0
+ReadsPlace n r = r ≡ (if is_place n then Ok (record { number = n }) else Err (record { number = n }))
 
 -- the place of the number n, where it passes the test
 unfoldable pub place_read : Bool → ℕ → Option Place

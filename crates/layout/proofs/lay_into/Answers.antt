@@ -14,10 +14,13 @@ pub slice_bounds-layout_of-end-2 : goal.slice_bounds-layout_of-end-2
 slice_bounds-layout_of-end-2 c =
     sym (lines_count _ _ _ c.read_into.ensures _ (c.in_ok-read_into.was ∙ ap Ok (sym c.from-count.ensures)))
 
-pub layout_of-requires : goal.layout_of-requires
-layout_of-requires c =
-    let e = c.in_ok-read_into.was ∙ ap Ok (sym c.from-count.ensures) in
-    (lines_some _ _ _ c.read_into.ensures _ e, lines_few _ _ _ c.read_into.ensures _ e)
+pub invariant_of-layout_of-clause-some : goal.invariant_of-layout_of-clause-some
+invariant_of-layout_of-clause-some c =
+    lines_some _ _ _ c.read_into.ensures _ (c.in_ok-read_into.was ∙ ap Ok (sym c.from-count.ensures))
+
+pub invariant_of-layout_of-clause-most : goal.invariant_of-layout_of-clause-most
+invariant_of-layout_of-clause-most c =
+    lines_few _ _ _ c.read_into.ensures _ (c.in_ok-read_into.was ∙ ap Ok (sym c.from-count.ensures))
 
 pub returns-in_err-read_into-clause-computed : goal.returns-in_err-read_into-clause-computed
 returns-in_err-read_into-clause-computed c =

@@ -6,7 +6,7 @@ use Rattle.text.specs.Reading.{Reading, frames, refused}
 use Rattle.text.specs.Inner.Reading.{reading, lines_read, text_words}
 use Rattle.layout.specs.Verdicts.{LayoutVerdict}
 use Rattle.layout.specs.Verdicts.{LaidOut, Rejected}
-use Rattle.layout.specs.Inner.Laid.{Laid, Lines, Unlaid}
+use Rattle.layout.specs.Inner.Laid.{Laid, Lines}
 use Rattle.layout.specs.Inner.Scans.{layout_of}
 
 -- 1 to 3, then 4 to 7
@@ -21,11 +21,11 @@ layout_verdict bs = layout_read (reading bs)
 -- the answer of the code: the verdict, and beside `LaidOut` how many lines there are
 abbrev pub laid_for : LayoutVerdict → ℕ → Laid
 laid_for LaidOut n = Lines n
-laid_for (Err r) n = Unlaid r.number r.frame
+laid_for (Err r) n = Err r
 
 abbrev pub verdict_of : Laid → LayoutVerdict
 verdict_of (Lines n) = LaidOut
-verdict_of (Err r) = Rejected r.number r.frame
+verdict_of (Err r) = Err r
 
 -- with what its lent words hold: the lines that were read
 pub record LaidWords : Type 0 where

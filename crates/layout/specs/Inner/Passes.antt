@@ -1,7 +1,7 @@
 -- What the passes of the code hold in their arrays. A reader of the rules can skip this file:
 -- proofs/ ties each pass to the definitions of Scans. Assumes nothing: definitions.
 use Rattle.std.specs.Prelude.{List, [], ◌∷◌, ℕ, zero, suc, ◌<◌, ◌≤◌, ltb, eqb, length, get_or, set, replicate}
-use Rattle.std.proofs.Math.Option.{Option, none, some}
+use Rattle.std.specs.Prelude.{Option}
 use Rattle.basics.specs.If.{when◌then◌else◌}
 use Rattle.basics.specs.Inner.Searches.{lowest}
 use Rattle.language.specs.Kinds.{is_module, class_of, children}
@@ -9,17 +9,10 @@ use Rattle.language.specs.declared.frame.Frame.{Frame}
 use Rattle.language.specs.Limits.{most_lines, most_depth}
 use Rattle.program.specs.Trees.{frame_at}
 use Rattle.program.specs.Inner.Children.{over_children}
-use Rattle.layout.specs.declared.in_order.Subtree.{Subtree}
-use Rattle.layout.specs.declared.in_order.Subtree.TheVariants.{From, OutOfOrder}
 use Rattle.layout.specs.Inner.Scans.{Passed, passed}
 
--- ---- 6: the code's answer, from where a row of children begins
-abbrev pub subtree_of : Option ℕ → Subtree
-subtree_of none = OutOfOrder
-subtree_of (some lo) = From lo
-
--- what an array that says where the tree of each of the i frames passed begins tells of them, from
--- the last to the first
+-- ---- 6: what an array that says where the tree of each of the i frames passed begins tells of
+-- them, from the last to the first
 unfoldable pub told : List Frame → List ℕ → ℕ → List Passed
 told fs first zero = []
 told fs first (suc i) = passed (class_of (frame_at fs i).kind) (get_or first i 0) ∷ told fs first i

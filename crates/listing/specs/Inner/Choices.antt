@@ -1,5 +1,6 @@
 -- choices.txt as `run` takes it: judged whole, then read a choice at a time. Assumes nothing:
 -- definitions.
+use Rattle.std.specs.Prelude.{Result, Ok, Err}
 use Rattle.std.specs.Prelude.{Bool, ◌&&◌, List, ℕ, ◌+◌, ◌*◌, ◌/◌, ◌%◌, ltb, leb, eqb, length, get_or}
 use Rattle.basics.specs.If.{when◌then◌else◌}
 use Rattle.language.specs.Limits.{most_choice_bytes}
@@ -7,19 +8,22 @@ use Rattle.text.specs.Digits.{digit, line_feed}
 use Rattle.machine.specs.Inner.Ranges.{all_below}
 use Rattle.listing.specs.Listing.{Choices, choices, malformed, choices_from}
 use Rattle.listing.specs.Listing.{is_choice}
-use Rattle.listing.specs.declared.choices.ChoicesRead.{ChoicesRead}
-use Rattle.listing.specs.declared.choices.ChoicesRead.TheVariants as read
+use Rattle.language.specs.Verdicts.{refusal}
+use Rattle.language.specs.declared.refusal.Refusal.{Refusal}
+use Rattle.language.specs.declared.refusal.Rule.TheVariants.{LongText, MalformedText}
 
 -- how many choices there are, or the line of 'the first malformed one'
-abbrev pub count_read : Choices → ChoicesRead
-count_read (choices cs) = read.Choices (length cs)
-count_read (malformed k) = read.Malformed k
+abbrev pub count_read : Choices → Result ℕ Refusal
+count_read (choices cs) = Ok (length cs)
+count_read (malformed k) = Err (refusal MalformedText k)
 
 -- what is known of the bytes before any step: 'over 49,152 bytes prints `02 0000`, else the first
 -- malformed one `03` and its line'
-unfoldable pub judged : List ℕ → ChoicesRead
+unfoldable pub judged : List ℕ → Result ℕ Refusal
 judged bytes =
-    when ltb most_choice_bytes (length bytes) then read.TooLong else count_read (choices_from 0 bytes)
+    when ltb most_choice_bytes (length bytes)
+    then Err (refusal LongText 0)
+    else count_read (choices_from 0 bytes)
 
 -- two digits and a line feed
 abbrev pub choice_bytes : ℕ

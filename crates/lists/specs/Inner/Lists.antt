@@ -1,10 +1,10 @@
 -- What the code does to the lists of schedulers in the words. No reader has to believe it: on words
 -- that say a state each is what the rules do to the state (proofs/SchedulerSays, proofs/Instants).
 -- Scheduler k counts from 0. Assumes nothing: definitions.
-use Rattle.std.specs.Prelude.{◌≡◌, List, [], ◌∷◌, ◌++◌, Bool, false, not, ℕ, ◌+◌, ◌-◌, ◌*◌, ◌/◌, ◌%◌, ◌<◌, ◌≤◌, ltb, eqb, length, get_or, set, drop}
+use Rattle.std.specs.Prelude.{List, [], ◌∷◌, ◌++◌, Bool, false, not, ℕ, ◌+◌, ◌-◌, ◌*◌, ◌/◌, ◌%◌, ◌<◌, ◌≤◌, ltb, eqb, length, get_or, set, drop}
 use Rattle.basics.specs.If.{when◌then◌else◌}
 use Rattle.language.specs.Limits.{most_schedulers, most_threads}
-use Rattle.machine.specs.Offsets.{state_length, thread_count_at, schedulers_at, scheduler_length}
+use Rattle.machine.specs.Offsets.{thread_count_at, schedulers_at, scheduler_length}
 use Rattle.machine.specs.Offsets.{list_length, next_list_at, waiting_factor, awaiting_from}
 use Rattle.basics.specs.If.{keep_if}
 use Rattle.machine.specs.Words.{words_at}
@@ -91,11 +91,11 @@ active_with test w k =
     get_or w (schedulers_at + scheduler_length * k) 0
     + length (wanted_words test (words_at w (next_list_at + scheduler_length * k)))
 
--- what a caller has to show: a state's words, with no more threads than there may be, and the list
--- at that place within its space
+-- what a caller has to show: no more threads than there may be, and the list at that place within its
+-- space
 abbrev pub ListWords : List ℕ → ℕ → Type 0
 ListWords w at =
-    (length w ≡ state_length) × (get_or w thread_count_at 0 ≤ most_threads) × (get_or w at 0 ≤ most_threads)
+    (get_or w thread_count_at 0 ≤ most_threads) × (get_or w at 0 ≤ most_threads)
 
 -- the lists are within their spaces, and there are no more threads than there may be
 pub record ListsFit (w : List ℕ) : Type 0 where

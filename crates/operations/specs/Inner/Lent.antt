@@ -1,9 +1,9 @@
 -- The parts of the one buffer that is lent to an evaluation, the words of a whole state: the acting
 -- thread's variables are read where they lie, the cells and their count are written. Assumes
 -- nothing: definitions.
-use Rattle.std.specs.Prelude.{◌≡◌, ℕ, ◌+◌, ◌-◌, ◌*◌, ◌≤◌, List, length, take, drop, slice_index, slice_set}
+use Rattle.std.specs.Prelude.{ℕ, ◌+◌, ◌-◌, ◌*◌, ◌≤◌, List, take, drop, slice_index, slice_set}
 use Rattle.language.specs.Limits.{most_threads, most_variables}
-use Rattle.machine.specs.Offsets.{state_length, cell_count_at, threads_at, thread_length}
+use Rattle.machine.specs.Offsets.{cell_count_at, threads_at, thread_length}
 use Rattle.machine.specs.Offsets.{variables_field, cells_at}
 use Rattle.operations.specs.declared.Who.{Who}
 
@@ -35,10 +35,8 @@ on_lent f who w = f (lent_variables who w) (lent_count w) (lent_cells w)
 unfoldable pub lent_rest : List ℕ → List ℕ
 lent_rest w = slice_set (take cells_at w) cell_count_at 0
 
--- what a caller has to show: a state's words, a thread that there can be, and no more variables
--- than its space has
+-- what a caller has to show: a thread that there can be, and no more variables than its space has
 pub record Lent (who : Who) (w : List ℕ) : Type 0 where
-  pub all : length w ≡ state_length
   pub first : 1 ≤ who.thread
   pub last : who.thread ≤ most_threads
   pub few : variable_count who w ≤ most_variables

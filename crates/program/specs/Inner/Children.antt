@@ -7,7 +7,6 @@ use Rattle.language.specs.declared.kind.Uses.{Uses}
 use Rattle.language.specs.declared.frame.Frame.{Frame}
 use Rattle.program.specs.declared.frames.Children.{Children}
 use Rattle.program.specs.declared.frames.Children.TheVariants.{Nothing, One, Two, Three}
-use Rattle.program.specs.declared.frames.ChildNumbers.{ChildNumbers}
 
 -- a list of at most three children, and back
 abbrev pub children_in : List Child → Children
@@ -34,15 +33,12 @@ children_of f = children_by (uses f.kind) f
 abbrev pub no_child : ℕ
 no_child = 65535
 
-abbrev pub child_numbers : ℕ → ℕ → ℕ → ChildNumbers
-child_numbers a b c = record { a = a; b = b; c = c }
-
 -- the numbers of at most three children
-abbrev pub child_numbers_of : List Child → ChildNumbers
-child_numbers_of [] = child_numbers no_child no_child no_child
-child_numbers_of (c ∷ []) = child_numbers c.at no_child no_child
-child_numbers_of (c ∷ d ∷ []) = child_numbers c.at d.at no_child
-child_numbers_of (c ∷ d ∷ e ∷ cs) = child_numbers c.at d.at e.at
+abbrev pub child_numbers_of : List Child → List ℕ
+child_numbers_of [] = no_child ∷ no_child ∷ no_child ∷ []
+child_numbers_of (c ∷ []) = c.at ∷ no_child ∷ no_child ∷ []
+child_numbers_of (c ∷ d ∷ []) = c.at ∷ d.at ∷ no_child ∷ []
+child_numbers_of (c ∷ d ∷ e ∷ cs) = c.at ∷ d.at ∷ e.at ∷ []
 
 -- what g makes of u at the number of one child after the other
 unfoldable pub over_children : {A : Type 0} → (A → ℕ → A) → A → List Child → A

@@ -1,22 +1,26 @@
 -- A module as the code finds it. No reader has to believe it: crate stepper shows that a turn
 -- committed is the step of the rules. Assumes nothing: definitions.
-use Rattle.std.specs.Prelude.{ℕ, ltb, length, List}
-use Rattle.basics.specs.If.{when◌then◌else◌, keep_if}
+use Rattle.std.specs.Prelude.{ℕ, min, length, List, Option, option_map, slice_get}
+use Rattle.basics.specs.If.{keep_if}
 use Rattle.language.specs.Kinds.{is_module}
 use Rattle.language.specs.declared.frame.Frame.{Frame}
 use Rattle.language.specs.declared.kind.Kind.{Kind}
 use Rattle.language.specs.Limits.{most_parameters}
 use Rattle.program.specs.Trees.{root_s}
-use Rattle.program.specs.Programs.{Part, Program, part_of, module_at}
-use Rattle.program.specs.declared.module.ModuleFound.{ModuleFound}
+use Rattle.program.specs.Programs.{Part, Program, part_of}
+use Rattle.program.specs.declared.module.Module.{Module}
 
 -- the first s of two types
-unfoldable pub parameters_in : ℕ → ℕ
-parameters_in s = when ltb most_parameters s then most_parameters else s
+abbrev pub parameters_in : ℕ → ℕ
+parameters_in s = min s most_parameters
 
--- where there is none, `module_at` has no parameter, and frame 0 for a body
-unfoldable pub found_in : Program → ℕ → ModuleFound
-found_in p m = record { there = ltb m (length p.modules); parameters = length (module_at p m).types; body = root_s (module_at p m).body }
+-- what the code keeps of a module
+abbrev pub module_of : Part → Module
+module_of p = record { parameters = length p.types; body = root_s p.body }
+
+-- module m, if there is such a module
+unfoldable pub found_in : Program → ℕ → Option Module
+found_in p m = option_map module_of (slice_get p.modules m)
 
 -- the parts with that of frame f in front, if its kind, k, is a module
 abbrev pub with_part : List Frame → ℕ → Frame → Kind → List Part → List Part

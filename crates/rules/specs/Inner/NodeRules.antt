@@ -1,25 +1,22 @@
--- The rules of expressions by the code's nodes: without operands, of a value, of two numbers; and
--- two expressions together. Assumes nothing: definitions.
+-- The rules of expressions by the code's nodes: without operands, of a value, of two numbers.
+-- Assumes nothing: definitions.
 use Rattle.std.specs.Prelude.{◌≡◌, true, List, ℕ}
 use Rattle.language.specs.Places.{is_place}
 use Rattle.language.specs.Types.{number_type, truth_type}
-use Rattle.language.specs.Effects.{no_effect, ◌∪◌}
+use Rattle.language.specs.Effects.{no_effect}
 use Rattle.program.specs.declared.node.Leaf.{Leaf}
 use Rattle.program.specs.declared.node.Leaf.TheVariants.{Number, Truth, Variable, SharedCell}
 use Rattle.program.specs.declared.node.CellUse.{CellUse}
 use Rattle.program.specs.declared.node.CellUse.TheVariants.{Make, Read}
 use Rattle.program.specs.declared.node.Operator.{Operator}
 use Rattle.program.specs.declared.node.Operator.TheVariants.{Sum, Less}
-use Rattle.rules.specs.declared.finding.Typing.{Typing}
-use Rattle.rules.specs.declared.finding.Typing.TheVariants.{Typed, Untyped}
-use Rattle.rules.specs.declared.finding.TypingPair.{TypingPair}
-use Rattle.rules.specs.declared.finding.TypingPair.TheVariants.{Both, FirstFault}
+use Rattle.rules.specs.Inner.Findings.{Typing, typed}
 use Rattle.rules.specs.Inner.Checking.{named_rule, new_rule, content_rule}
 
 -- 20 to 23
 abbrev pub leaf_rule : List ℕ → List ℕ → Leaf → ℕ → Typing
-leaf_rule cells Γ (Number v) i = Typed number_type no_effect
-leaf_rule cells Γ (Truth v) i = Typed truth_type no_effect
+leaf_rule cells Γ (Number v) i = typed number_type no_effect
+leaf_rule cells Γ (Truth v) i = typed truth_type no_effect
 leaf_rule cells Γ (Variable s) i = named_rule Γ s i
 leaf_rule cells Γ (SharedCell s) i = named_rule cells s i
 
@@ -37,9 +34,3 @@ cell_rule Read i x = content_rule i x
 abbrev pub made_by : Operator → ℕ
 made_by Sum = number_type
 made_by Less = truth_type
-
--- 13, 14, 17 and 26 to 28: two expressions together, the first before the second
-unfoldable pub both_typed : Typing → Typing → TypingPair
-both_typed (Typed t e) (Typed u f) = Both t u (e ∪ f)
-both_typed (Typed t e) (Untyped n j) = FirstFault n j
-both_typed (Untyped n j) y = FirstFault n j

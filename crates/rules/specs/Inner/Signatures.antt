@@ -1,25 +1,27 @@
 -- How the code keeps arguments and what is known of modules. Assumes nothing: definitions.
-use Rattle.std.specs.Prelude.{[], ◌∷◌, ℕ, ◌+◌, ◌*◌, ◌/◌, ◌%◌, ◌^◌, take}
+use Rattle.std.specs.Prelude.{Result, Ok, Err, [], ◌∷◌, ℕ, ◌+◌, ◌*◌, ◌/◌, ◌%◌, ◌^◌, take}
 use Rattle.language.specs.Effects.{no_effect}
 use Rattle.language.specs.declared.effect.Effect.{Effect}
+use Rattle.language.specs.declared.refusal.Refusal.{Refusal}
 use Rattle.rules.specs.Rules.{Signature}
-use Rattle.rules.specs.Inner.Checking.{Argued}
+use Rattle.rules.specs.Inner.Checking.{Argued, listed}
 use Rattle.rules.specs.declared.start.Arguments.{Arguments}
-use Rattle.rules.specs.declared.start.Arguments.TheVariants.{Nothing, One, Two, Fault}
+use Rattle.rules.specs.declared.start.Arguments.TheVariants.{Nothing, One, Two}
 
 abbrev pub no_arguments : Argued
-no_arguments = Argued.have [] no_effect
+no_arguments = listed [] no_effect
 
 -- what the code's arguments are: one to one (proofs/StartLaws, `argued_once`)
-abbrev pub argued_of : Arguments → Argued
-argued_of Nothing = no_arguments
-argued_of (One t e) = Argued.have (t ∷ []) e
-argued_of (Two t u e) = Argued.have (t ∷ u ∷ []) e
-argued_of (Fault n j) = Argued.fail n j
+abbrev pub argued_of : Result Arguments Refusal → Argued
+argued_of (Ok Nothing) = no_arguments
+argued_of (Ok (One x)) = listed (x.type_word ∷ []) x.effect
+argued_of (Ok (Two t u e)) = listed (t ∷ u ∷ []) e
+argued_of (Err r) = Err r
 
 -- the first `count` of two types, and an effect
 abbrev pub signature_with : ℕ → ℕ → ℕ → Effect → Signature
-signature_with count first second e = record { types = take count (first ∷ second ∷ []); effect = e }
+signature_with count first second e = record
+    { types = take count (first ∷ second ∷ []); effect = e }
 
 -- a module's signature in one word, from the right: its parameters' types, 16 bits each, the two
 -- sets of its effect, 8 bits each, and how many parameters

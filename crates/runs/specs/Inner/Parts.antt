@@ -1,7 +1,8 @@
 -- The parts of a listing, as the inner functions give them. Assumes nothing: definitions.
-use Rattle.std.specs.Prelude.{◌≡◌, List, [], ℕ, ◌+◌, eqb, length}
+use Rattle.std.specs.Prelude.{◌≡◌, List, [], ℕ, ◌+◌, eqb, length, Err}
 use Rattle.basics.specs.If.{when◌then◌else◌}
 use Rattle.language.specs.Limits.{most_listing_bytes}
+use Rattle.language.specs.declared.refusal.Refusal.{Refusal}
 use Rattle.text.specs.Frames.{frames_of}
 use Rattle.program.specs.Programs.{Program, program_of}
 use Rattle.machine.specs.Fresh.{fresh}
@@ -9,8 +10,8 @@ use Rattle.machine.specs.Runs.{steps}
 use Rattle.machine.specs.Words.{pack}
 use Rattle.stepper.specs.declared.file.File.{File}
 use Rattle.stepper.specs.Inner.Files.{FileWords, file_of}
-use Rattle.stepper.specs.declared.answer.Answer.TheVariants as A
-use Rattle.listing.specs.Listing.{refusal_line, Choices, choices, malformed, choices_from}
+use Rattle.stepper.specs.Answers.{done, rejected}
+use Rattle.listing.specs.Listing.{check_line, Choices, choices, malformed, choices_from}
 use Rattle.listing.specs.Listing.{choice_lines}
 use Rattle.runs.specs.Listings.{FinalState, not_run, ListingResult, listing_result, written}
 use Rattle.runs.specs.Listings.{listing_of, no_listing}
@@ -43,12 +44,12 @@ pub record RunStart (frames : List ℕ) (file : File) (w : List ℕ) : Type 0 wh
 -- after the check's line
 abbrev pub listed_after : FinalState → List ℕ → List ℕ → ListingResult
 listed_after b listing out =
-    listing_result (A.Done 0 0) (check_length + length listing) b.used b.words
+    listing_result (done 0 0) (check_length + length listing) b.used b.words
     (written out check_length listing)
 
--- of a text that refusal n at frame j stops
-unfoldable pub listed_rejected : ℕ → ℕ → List ℕ → List ℕ → ListingResult
-listed_rejected n j w out =
+-- of a text that the refusal stops
+unfoldable pub listed_rejected : Refusal → List ℕ → List ℕ → ListingResult
+listed_rejected r w out =
     when eqb (length out) most_listing_bytes
-    then listing_of (A.Rejected n j) (not_run w) (refusal_line n j) out
-    else no_listing (A.Rejected n j) w out
+    then listing_of (rejected r.rule r.frame) (not_run w) (check_line (Err r)) out
+    else no_listing (rejected r.rule r.frame) w out

@@ -6,6 +6,12 @@ use Rattle.machine.specs.Offsets.{thread_count_at, threads_at, thread_length, li
 use Rattle.machine.specs.Offsets.{thread_owner_from}
 use Rattle.machine.specs.State.{thread_owner}
 
+-- thread k, from 0, stands on 1 and lives
+abbrev pub is_unlinked_thread : List ℕ → ℕ → Bool
+is_unlinked_thread w k =
+    eqb (get_or w (threads_at + thread_length * k) 0) private
+    && not (eqb (get_or w (threads_at + thread_length * k + lives_field) 0) 0)
+
 -- the choice c names a thread, which stands on 1 and lives
 unfoldable pub is_unlinked_word : List ℕ → ℕ → Bool
 is_unlinked_word w c =

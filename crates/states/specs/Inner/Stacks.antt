@@ -1,8 +1,9 @@
 -- What the code does to a thread's struct: one item or one variable more or less, another place,
--- the end; and to the words of one of its lists. No reader has to believe it: each is what the
--- rules do to the thread (proofs/StackLaws; place and end in crate stepper). Assumes nothing:
--- definitions.
-use Rattle.std.specs.Prelude.{ℕ, ◌+◌, ◌-◌, ◌<◌, ◌≤◌, List, get_or, set}
+-- the end. No reader has to believe it: each is what the rules do to the thread (proofs/StackLaws;
+-- place and end in crate stepper). Assumes nothing: definitions.
+use Rattle.std.specs.Prelude.{ℕ, ◌+◌, ◌-◌, ◌<◌, ◌≤◌, Bool, ◌||◌, eqb, if◌then◌else◌, List, set}
+use Rattle.language.specs.Limits.{most_variables, most_items}
+use Rattle.machine.specs.Offsets.{items_field, variables_field}
 use Rattle.states.specs.declared.thread.ThreadWords.{ThreadWords}
 
 -- the thread with so many items and variables, and the words of both
@@ -34,6 +35,23 @@ unfoldable pub pop_value : ThreadWords → ThreadWords
 pop_value x =
     with_stacks x x.items x.continuation (x.values - 1) (set x.variables (x.values - 1) 0)
 
+-- the same of either list, by the place at which it lies in the thread's words: how many words it
+-- has, and how many it may have
+abbrev pub is_part : ℕ → Bool
+is_part part = eqb part items_field || eqb part variables_field
+
+abbrev pub count : ℕ → ThreadWords → ℕ
+count part x = if eqb part items_field then x.items else x.values
+
+abbrev pub most : ℕ → ℕ
+most part = if eqb part items_field then most_items else most_variables
+
+abbrev pub push : ℕ → ℕ → ThreadWords → ThreadWords
+push part v x = if eqb part items_field then push_item v x else push_value v x
+
+abbrev pub pop : ℕ → ThreadWords → ThreadWords
+pop part x = if eqb part items_field then pop_item x else pop_value x
+
 unfoldable pub move_to : ℕ → ThreadWords → ThreadWords
 move_to p x =
     record {
@@ -61,10 +79,3 @@ ended x =
 -- what a caller has to show before one is taken off: there is one, and all are within their space
 abbrev pub SomeWithin : ℕ → ℕ → Type 0
 SomeWithin space n = (0 < n) × (n ≤ space)
-
--- the words with one more, and one less, in the list whose count is at a place, its space after it
-unfoldable pub pushed_at : List ℕ → ℕ → ℕ → List ℕ
-pushed_at w at v = set (set w (at + 1 + get_or w at 0) v) at (get_or w at 0 + 1)
-
-unfoldable pub popped_at : List ℕ → ℕ → List ℕ
-popped_at w at = set (set w (at + get_or w at 0) 0) at (get_or w at 0 - 1)

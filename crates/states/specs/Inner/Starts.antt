@@ -16,15 +16,20 @@ with_shared w cs =
     pasted w cells_at (cell_words (map first_cell cs))
     (when leb (length cs) most_cells then length cs else most_cells)
 
--- main's thread, with that body, in the code's form
-abbrev pub main_words : ℕ → ThreadWords
-main_words body =
+-- a new thread at that place, which that thread started, with that body and no variables, in the
+-- code's form
+abbrev pub new_words : ℕ → ℕ → ℕ → ThreadWords
+new_words place starter body =
     record {
-      place = home;
-      starter = 0;
+      place = place;
+      starter = starter;
       alive = 1;
       items = 1;
       continuation = padded most_items (body ∷ []);
       values = 0;
       variables = padded most_variables [];
     }
+
+-- main's thread, with that body
+abbrev pub main_words : ℕ → ThreadWords
+main_words body = new_words home 0 body

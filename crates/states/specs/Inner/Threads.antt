@@ -1,10 +1,10 @@
 -- A thread's words as the code's struct, read, written and added. No reader has to believe it: on
 -- words that say a state it is the state's thread (proofs/ThreadSays). Assumes nothing:
 -- definitions.
-use Rattle.std.specs.Prelude.{◌≡◌, List, ◌∷◌, ◌++◌, map, reverse, not, ℕ, ◌+◌, ◌*◌, ◌<◌, ltb, get_or, length, set}
+use Rattle.std.specs.Prelude.{List, ◌∷◌, ◌++◌, map, reverse, not, ℕ, ◌+◌, ◌*◌, ltb, get_or, length, set}
 use Rattle.basics.specs.If.{when◌then◌else◌}
 use Rattle.language.specs.Limits.{most_variables, most_threads, most_items}
-use Rattle.machine.specs.Offsets.{state_length, thread_count_at, threads_at, thread_length, starter_field}
+use Rattle.machine.specs.Offsets.{thread_count_at, threads_at, thread_length, starter_field}
 use Rattle.machine.specs.Offsets.{lives_field, items_field, variables_field}
 use Rattle.machine.specs.State.{Thread}
 use Rattle.machine.specs.Words.{bit, item_word, value_word}
@@ -56,7 +56,3 @@ with_one_more w x =
     then set (pasted w (threads_at + thread_length * get_or w thread_count_at 0) (block_of x) thread_length)
     thread_count_at (get_or w thread_count_at 0 + 1)
     else w
-
--- what a caller has to show: a state's words, and a thread that there can be
-abbrev pub ThreadSpace : List ℕ → ℕ → Type 0
-ThreadSpace w k = (length w ≡ state_length) × (k < most_threads)

@@ -1,9 +1,12 @@
 -- What the inner functions of the stepper ask of a file and a state, and give. Whoever reads the
 -- promises can skip this. Assumes nothing: definitions.
-use Rattle.std.specs.Prelude.{◌≡◌, List, true, false, ℕ, ◌+◌, ◌-◌, ◌*◌, ◌^◌, ◌<◌, ◌≤◌, eqb, length, get_or, set}
+use Rattle.std.specs.Prelude.{◌≡◌, List, true, false, ℕ, ◌+◌, ◌-◌, ◌*◌, ◌^◌, ◌<◌, ◌≤◌, eqb, length}
+use Rattle.std.specs.Prelude.{get_or, set, Option, None, Some}
 use Rattle.basics.specs.If.{when◌then◌else◌}
 use Rattle.language.specs.Places.{home, is_scheduler, has_scheduler}
 use Rattle.language.specs.Limits.{most_lines, most_cells}
+use Rattle.language.specs.Refusals.{rule_number}
+use Rattle.language.specs.declared.refusal.Rule.{Rule}
 use Rattle.text.specs.Frames.{frames_of}
 use Rattle.program.specs.Programs.{Program, program_of}
 use Rattle.layout.specs.Faults.{NoFault}
@@ -19,33 +22,37 @@ use Rattle.operations.specs.declared.Who.{Who}
 use Rattle.operations.specs.Inner.Heaps.{cells_in, accesses_in}
 use Rattle.states.specs.Inner.Threads.{thread_words_of}
 use Rattle.states.specs.Inner.Parties.{is_unlinked_word}
-use Rattle.acts.specs.declared.act.Action.{Action}
-use Rattle.acts.specs.Inner.Transitions.{popped, turned, HasRoom}
+use Rattle.acts.specs.Inner.Transitions.{TurnAnswer, popped, turned, change_of, RoomFor}
 use Rattle.turns.specs.Inner.Acts.{TurnOutcome, variables_in, top_in, turn_in}
 use Rattle.turns.specs.Inner.TurnCounts.{turn_count}
-use Rattle.commits.specs.Inner.Commits.{Committed, committed, Grouping, grouping}
+use Rattle.commits.specs.Inner.Commits.{Committed, committed}
 use Rattle.language.specs.Inner.Labels.{labels_of}
+use Rattle.language.specs.declared.group.Schedulers.{Schedulers}
 use Rattle.stepper.specs.declared.file.File.{File}
 use Rattle.stepper.specs.declared.party.StepAnswer.{StepAnswer}
+
+-- what a step knows of its groups
+abbrev pub grouping_of : Program → Schedulers
+grouping_of p = record { labels = labels_of p.links; count = p.schedulers }
 
 abbrev pub file_of : Program → File
 file_of p =
     record {
-      schedulers = p.schedulers;
+      schedulers = grouping_of p;
       shared = length p.shared;
       allowance = p.allowance;
-      labels = labels_of p.links;
     }
 
--- what a step knows of its groups
-abbrev pub grouping_of : Program → Grouping
-grouping_of p = grouping (labels_of p.links) p.schedulers
+-- 01's number of a refusal, 0 where nothing is refused
+abbrev pub step_number : Option Rule → ℕ
+step_number None = 0
+step_number (Some r) = rule_number r
 
 abbrev pub stepped_on : StepAnswer → List ℕ → CallResult
-stepped_on r w = call_result r.answer r.thread r.accesses w
+stepped_on r w = call_result (step_number r.refusal) r.thread r.accesses w
 
-abbrev pub nobody_answers : ℕ → StepAnswer
-nobody_answers n = record { answer = n; thread = 0; accesses = 0 }
+abbrev pub nobody_answers : Option Rule → StepAnswer
+nobody_answers r = record { refusal = r; thread = 0; accesses = 0 }
 
 -- what a step gives but for its accesses, beside what a commit gives
 abbrev pub as_committed : List ℕ → StepResult → Committed
@@ -69,7 +76,7 @@ pub record StepWords (frames : List ℕ) (shared : ℕ) (w : List ℕ) : Type 0 
   pub range : in_range (frames_of frames) (program_of (frames_of frames)).schedulers w ≡ true
 
 -- such a file and its groups, words that are not refused with 14, and a scheduler of the file
-pub record InstantWords (frames : List ℕ) (g : Grouping) (w : List ℕ) (q : ℕ) : Type 0 where
+pub record InstantWords (frames : List ℕ) (g : Schedulers) (w : List ℕ) (q : ℕ) : Type 0 where
   pub shared : ℕ
   pub step : StepWords frames shared w
   pub groups : g ≡ grouping_of (program_of (frames_of frames))
@@ -110,18 +117,18 @@ turn_accesses frames shared w t =
 
 -- what the turn comes to, the words with its cells and their count, and that the thread's space has
 -- room for the change
-pub record turn_on (a : Action) (v : List ℕ) (frames : List ℕ) (shared : ℕ) (w : List ℕ) (t : ℕ) : Type 0 where
+pub record turn_on (a : TurnAnswer) (v : List ℕ) (frames : List ℕ) (shared : ℕ) (w : List ℕ) (t : ℕ) : Type 0 where
   pub acted : turned a (get_or v cell_count_at 0) (popped (thread_words_of (thread_at (state_in frames w) t)))
       ≡ (turn_of frames shared w t).acted
   pub words : v
       ≡ set (pasted w cells_at (turn_of frames shared w t).cells most_cells) cell_count_at
       (turn_of frames shared w t).acted.used
   pub whole : length (turn_of frames shared w t).cells ≡ most_cells
-  pub room : HasRoom a.change ((thread_words_of (thread_at (state_in frames w) t)).items - 1) (thread_words_of (thread_at (state_in frames w) t)).values
+  pub room : RoomFor (change_of a) ((thread_words_of (thread_at (state_in frames w) t)).items - 1) (thread_words_of (thread_at (state_in frames w) t)).values
 
 -- what the turn comes to while the accesses stand with the count of the cells: without them it is
 -- `turn_on`
-pub record turn_left (a : Action) (v : List ℕ) (frames : List ℕ) (shared : ℕ) (w : List ℕ) (t : ℕ) : Type 0 where
+pub record turn_left (a : TurnAnswer) (v : List ℕ) (frames : List ℕ) (shared : ℕ) (w : List ℕ) (t : ℕ) : Type 0 where
   pub turn : turn_on a (set v cell_count_at (cells_in (get_or v cell_count_at 0))) frames shared w t
   pub accesses : accesses_in (get_or v cell_count_at 0) ≡ turn_accesses frames shared w t
   pub few : turn_accesses frames shared w t < most_counted

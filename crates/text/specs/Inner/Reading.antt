@@ -5,7 +5,7 @@ use Rattle.std.specs.Prelude.{ℕ, suc, ◌-◌, ◌/◌, ◌%◌, true, false, 
 use Rattle.std.proofs.Math.Option.{Option, none, some}
 use Rattle.basics.specs.If.{when◌then◌else◌}
 use Rattle.language.specs.Limits.{line_length, most_lines, most_bytes}
-use Rattle.language.specs.Refusals.{empty_text, long_text, malformed_text}
+use Rattle.language.specs.declared.refusal.Rule.TheVariants.{EmptyText, LongText, MalformedText}
 use Rattle.text.specs.Frames.{words_of, text_frames}
 use Rattle.text.specs.Inner.Reads.{TextRead}
 use Rattle.text.specs.Inner.Reads.{Frames, Refused}
@@ -18,11 +18,11 @@ first_wrong p (b ∷ bs) = elim (right_at p b) [ true ↦ first_wrong (suc p) bs
 
 abbrev pub read_lines : List ℕ → Option ℕ → Reading
 read_lines bs none = frames (text_frames bs)
-read_lines bs (some p) = refused malformed_text (p / line_length)
+read_lines bs (some p) = refused MalformedText (p / line_length)
 
 unfoldable pub reading : List ℕ → Reading
-reading [] = refused empty_text 0
-reading (b ∷ bs) = elim (nat_lt most_bytes (length (b ∷ bs))) [ true ↦ refused long_text 0 | false ↦ read_lines (b ∷ bs) (first_wrong 0 (b ∷ bs)) ]
+reading [] = refused EmptyText 0
+reading (b ∷ bs) = elim (nat_lt most_bytes (length (b ∷ bs))) [ true ↦ refused LongText 0 | false ↦ read_lines (b ∷ bs) (first_wrong 0 (b ∷ bs)) ]
 
 -- what the reader's code answers: how many frames there are, or the refusal
 abbrev pub text_read : Reading → TextRead

@@ -1,13 +1,15 @@
 -- What a turn comes to, on the words of the thread and of the cells. No reader has to believe it:
 -- crate stepper shows that a turn committed is the step of the rules. Assumes nothing: definitions.
-use Rattle.std.specs.Prelude.{◌≡◌, List, [], ◌∷◌, Bool, true, false, ◌&&◌, ℕ, ◌+◌, ◌-◌, ◌<◌, ◌≤◌, ltb, leb, eqb, length, get_or, take}
+use Rattle.std.specs.Prelude.{◌≡◌, List, [], ◌∷◌, Bool, true, false, ◌&&◌, ℕ, ◌+◌, ◌-◌, ◌<◌, ◌≤◌}
+use Rattle.std.specs.Prelude.{ltb, leb, eqb, length, get_or, take}
 use Rattle.basics.specs.If.{when◌then◌else◌}
 use Rattle.language.specs.Places.{private, last_scheduler, is_place}
 use Rattle.language.specs.declared.frame.Frame.{Frame}
 use Rattle.language.specs.Limits.{most_variables, most_items}
-use Rattle.language.specs.Refusals.{cells_spent, foreign, stuck}
+use Rattle.language.specs.declared.refusal.Rule.{Rule}
 use Rattle.text.specs.Frames.{frames_of}
-use Rattle.program.specs.Trees.{Expr, Stmt, nothing, seq, do_at, start, start_wait, cooperate, let_in}
+use Rattle.program.specs.Trees.{Expr, Stmt, nothing, seq, do_at, start, start_wait, cooperate}
+use Rattle.program.specs.Trees.{let_in}
 use Rattle.program.specs.Trees.{store, if_else, while, root_s, statement_at}
 use Rattle.program.specs.Trees.{generate, await}
 use Rattle.program.specs.Inner.Ordered.{Ordered, Placed}
@@ -26,9 +28,8 @@ use Rattle.states.specs.Inner.Stacks.{push_item, pop_item, push_value, pop_value
 use Rattle.acts.specs.declared.act.Arguments.{Arguments}
 use Rattle.acts.specs.declared.act.Transition.TheVariants.{Stays, Leaves, Joins, Starts}
 use Rattle.acts.specs.declared.act.Transition.TheVariants.{Generates, Awaits}
-use Rattle.acts.specs.declared.act.Action.{Action}
 use Rattle.acts.specs.Inner.Transitions.{arguments_of, TurnResult, acted_in, refused_in}
-use Rattle.acts.specs.Inner.Transitions.{popped, turned, HasRoom}
+use Rattle.acts.specs.Inner.Transitions.{TurnAnswer, change_of, popped, turned, RoomFor}
 use Rattle.turns.specs.declared.counts.Counts.{Counts}
 use Rattle.turns.specs.declared.start.Request.{Request}
 
@@ -37,22 +38,23 @@ use Rattle.turns.specs.declared.start.Request.{Request}
 
 unfoldable pub one_in : ThreadWords → ℕ → ℕ → TurnResult
 one_in th n a =
-    when leb most_items th.items then refused_in stuck th n else
+    when leb most_items th.items then refused_in Rule.Stuck th n else
     acted_in Stays (push_item a th) n
 
 unfoldable pub two_in : ThreadWords → ℕ → ℕ → ℕ → TurnResult
 two_in th n top below =
-    when leb (most_items - 1) th.items then refused_in stuck th n else
+    when leb (most_items - 1) th.items then refused_in Rule.Stuck th n else
     acted_in Stays (push_item top (push_item below th)) n
 
 unfoldable pub lets_in : ThreadWords → ℕ → ℕ → ℕ → TurnResult
 lets_in th n v body =
-    when leb most_variables th.values then refused_in stuck th n else
-    when leb (most_items - 1) th.items then refused_in stuck th n else
+    when leb most_variables th.values then refused_in Rule.Stuck th n else
+    when leb (most_items - 1) th.items then refused_in Rule.Stuck th n else
     acted_in Stays (push_item body (push_item drop_word (push_value v th))) n
 
 unfoldable pub drops_in : ThreadWords → ℕ → TurnResult
-drops_in th n = when eqb th.values 0 then refused_in stuck th n else acted_in Stays (pop_value th) n
+drops_in th n =
+    when eqb th.values 0 then refused_in Rule.Stuck th n else acted_in Stays (pop_value th) n
 
 -- ---- the thread goes to place q, from that one
 
@@ -64,28 +66,28 @@ goes_in from th n q =
 
 unfoldable pub does_in : ThreadWords → ℕ → ℕ → ℕ → TurnResult
 does_in th n q body =
-    when eqb th.place private && eqb q private then refused_in stuck th n else
-    when leb (most_items - 1) th.items then refused_in stuck th n else
+    when eqb th.place private && eqb q private then refused_in Rule.Stuck th n else
+    when leb (most_items - 1) th.items then refused_in Rule.Stuck th n else
     goes_in th.place (push_item body (push_item (back_from + th.place) th)) n q
 
 unfoldable pub cooperates_in : ThreadWords → ℕ → TurnResult
 cooperates_in th n =
-    when eqb th.place private then refused_in stuck th n else
+    when eqb th.place private then refused_in Rule.Stuck th n else
     acted_in (Joins (record { number = th.place })) th n
 
 -- ---- after an evaluation
 
 abbrev pub then_acts : Outcome → ThreadWords → ℕ → (Value → TurnResult) → TurnResult
 then_acts (Is v) th n k = k v
-then_acts Foreign th n k = refused_in foreign th n
-then_acts Spent th n k = refused_in cells_spent th n
-then_acts Stuck th n k = refused_in stuck th n
+then_acts Foreign th n k = refused_in Rule.Foreign th n
+then_acts Spent th n k = refused_in Rule.CellsSpent th n
+then_acts Stuck th n k = refused_in Rule.Stuck th n
 
 abbrev pub by_truth_in : Value → ThreadWords → ℕ → TurnResult → TurnResult → TurnResult
 by_truth_in (Truth true) th n a b = a
 by_truth_in (Truth false) th n a b = b
-by_truth_in (Number m) th n a b = refused_in stuck th n
-by_truth_in (Cell c) th n a b = refused_in stuck th n
+by_truth_in (Number m) th n a b = refused_in Rule.Stuck th n
+by_truth_in (Cell c) th n a b = refused_in Rule.Stuck th n
 
 -- with the words of the cells
 pub record TurnOutcome : Type 0 where
@@ -151,9 +153,9 @@ last_argument q th first r =
 -- after the first of two arguments
 abbrev pub then_on : Outcome → ThreadWords → ℕ → List ℕ → (Value → TurnOutcome) → TurnOutcome
 then_on (Is v) th n ws k = k v
-then_on Foreign th n ws k = turn_outcome (refused_in foreign th n) ws
-then_on Spent th n ws k = turn_outcome (refused_in cells_spent th n) ws
-then_on Stuck th n ws k = turn_outcome (refused_in stuck th n) ws
+then_on Foreign th n ws k = turn_outcome (refused_in Rule.Foreign th n) ws
+then_on Spent th n ws k = turn_outcome (refused_in Rule.CellsSpent th n) ws
+then_on Stuck th n ws k = turn_outcome (refused_in Rule.Stuck th n) ws
 
 abbrev pub two_arguments : Who → Request → ThreadWords → Expr → Result → TurnOutcome
 two_arguments who q th y r =
@@ -211,11 +213,11 @@ pub record Seen (who : Who) (counts : Counts) (th : ThreadWords) : Type 0 where
 -- the act a, its change made in such a thread of those variables, without the word on top of its
 -- continuation, is with m cells in use and their words us that turn; and there is room for the
 -- change
-pub record WholeTurn (a : Action) (m : ℕ) (us : List ℕ) (who : Who) (counts : Counts) (item : ℕ)
+pub record WholeTurn (a : TurnAnswer) (m : ℕ) (us : List ℕ) (who : Who) (counts : Counts) (item : ℕ)
     (vs : List ℕ) (f : ThreadWords → TurnOutcome) : Type 0 where
   pub thread : (th : ThreadWords) → Seen who counts th → variables_in th ≡ vs → top_in th ≡ item
       → turn_outcome (turned a m (popped th)) us ≡ f th
-  pub room : HasRoom a.change (counts.items - 1) counts.variables
+  pub room : RoomFor (change_of a) (counts.items - 1) counts.variables
 
 -- ---- what a caller has to show: words of a state that is not refused with 14, and frames that
 -- pass refusals 5 and 6

@@ -3,7 +3,8 @@
 use Rattle.std.specs.Prelude.{List, [], ◌∷◌, ℕ, ◌+◌, ltb, eqb, length}
 use Rattle.basics.specs.If.{when◌then◌else◌}
 use Rattle.language.specs.declared.frame.Frame.{Frame}
-use Rattle.program.specs.Trees.{Expr, Stmt, nothing, seq, do_at, start, start_wait, cooperate, let_in}
+use Rattle.program.specs.Trees.{Expr, Stmt, nothing, seq, do_at, start, start_wait, cooperate}
+use Rattle.program.specs.Trees.{let_in}
 use Rattle.program.specs.Trees.{store, if_else, while, statement_at}
 use Rattle.program.specs.Trees.{generate, await}
 use Rattle.machine.specs.Offsets.{back_from}

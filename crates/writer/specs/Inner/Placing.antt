@@ -5,7 +5,7 @@ use Rattle.std.specs.Prelude.{◌≡◌, true, List, [], ◌∷◌, map, ℕ, �
 use Rattle.std.proofs.Math.Seq.{paste}
 use Rattle.basics.specs.If.{when◌then◌else◌}
 use Rattle.language.specs.Limits.{line_length, most_lines}
-use Rattle.language.specs.Refusals.{wrong_state}
+use Rattle.language.specs.declared.refusal.Rule.TheVariants.{WrongState}
 use Rattle.language.specs.declared.frame.Frame.{Frame}
 use Rattle.language.specs.Verdicts.{Verdict}
 use Rattle.language.specs.Verdicts.{Accepted, Rejected}
@@ -56,8 +56,8 @@ abbrev pub arranged_after : List ℕ → List ℕ → Verdict → Writing
 arranged_after ws out Accepted =
     when eqb (length out) (line_length * length ws)
     then as_writing Accepted (bytes_of (laid_out (drawing ws)))
-    else as_writing (Rejected wrong_state 0) out
-arranged_after ws out (Err r) = as_writing (Rejected r.number r.frame) out
+    else as_writing (Rejected WrongState 0) out
+arranged_after ws out (Err r) = as_writing (Err r) out
 
 unfoldable pub arranged : List ℕ → List ℕ → Writing
 arranged ws out = arranged_after ws out (drawing_verdict (frames_of ws))

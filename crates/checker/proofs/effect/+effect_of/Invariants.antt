@@ -1,4 +1,3 @@
-use Prim.Native.Nat.{◌-◌}
 use Rattle.checker.proofs.effect.+effect_of.Given as goal
 
 abbrev pub decreases-effect_of : goal.decreases-effect_of

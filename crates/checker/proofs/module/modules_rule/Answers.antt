@@ -1,71 +1,102 @@
 -- `modules_rule` meets its contract.
-use Prim.Native.Nat.{◌-◌}
-use borrow.Author.Rules.{rules}
-use Rattle.checker.proofs.LabelLaws.{labels_wide}
-use Rattle.checker.proofs.ModuleLaws.{judge_start, judge_index, judge_few}
-use Rattle.checker.proofs.ModuleLaws.{judge_most, judge_fits, judge_parameters, judge_body}
-use Rattle.checker.proofs.ModuleLaws.{judge_room, judge_next, judge_fails, judge_main}
-use Rattle.checker.proofs.ModuleLaws.{judge_more, judge_falls, judge_add, file_first}
+use Prim.Native.Nat.{◌-◌, ◌+◌, ◌≤◌, ◌<◌}
+use mathlib.Core.Path.{sym, ◌∙◌}
+use native.Mathlib.Omega.{arith}
+use lib.ListN.{length}
+use Rattle.std.proofs.lemmas.Result.{err_from_is_err_and}
+use Rattle.checker.proofs.ModuleLaws.{judge_start, judge_end, last_here, module_here, judge_skip}
+use Rattle.checker.proofs.ModuleLaws.{judge_few, judge_room_for, judge_length, judge_add}
+use Rattle.checker.proofs.ModuleLaws.{judge_parameters, judge_body, judge_room, judge_fails}
+use Rattle.checker.proofs.ModuleLaws.{judge_more, judge_main}
 use Rattle.checker.proofs.module.modules_rule.Goals as goal
 
-pub next_module-i-requires : goal.next_module-i-requires
-next_module-i-requires c = search file_first
-
 pub loop-i-init : goal.loop-i-init
-loop-i-init c = search judge_start
+loop-i-init c = judge_start _ _ c.requires.0
 
-pub overflow_add-i : goal.overflow_add-i
-overflow_add-i c = search (judge_few, judge_index, rules)
+pub loop-i-preserved-then-not-is_module : goal.loop-i-preserved-then-not-is_module
+loop-i-preserved-then-not-is_module c =
+    judge_skip _ _ _ _ _ c.loop-i.invariant _ c.frame_at-f.ensures
+    (sym c.is_module.ensures ∙ c.if-not-is_module.true)
+    (let more = c.loop-i-test.true in omega arith)
 
-pub frame_at-f-requires : goal.frame_at-f-requires
-frame_at-f-requires c = search judge_index
+pub slice_bounds-below-end : goal.slice_bounds-below-end
+slice_bounds-below-end c = search (judge_room_for, module_here)
+
+pub slice_bounds-setting-end : goal.slice_bounds-setting-end
+slice_bounds-setting-end c = search (judge_length, module_here)
 
 pub module_effect-requires : goal.module_effect-requires
-module_effect-requires c =
-    (search judge_body, search judge_room, search judge_parameters, search judge_most, search rules)
+module_effect-requires c = (
+  search (judge_body, module_here),
+  search (judge_room, module_here),
+  search (judge_parameters, module_here),
+)
 
-pub returns-in-Faulty : goal.returns-in-Faulty
-returns-in-Faulty c = search judge_fails
+pub returns-in_err-x : goal.returns-in_err-x
+returns-in_err-x c =
+    let p = err_from_is_err_and c.from_residual.result c.from_residual.ensures.1 in
+    rw (p.1, p.2)
+    (judge_fails _ _ _ _ _ c.loop-i.invariant _ c.frame_at-f.ensures
+    (module_here c.frame_at-f.result _ c.is_module.ensures c.if-not-is_module.false)
+    _ c.module_effect.ensures _ c.in_err-x.was)
 
 pub module_signature-requires : goal.module_signature-requires
-module_signature-requires c = search judge_parameters
+module_signature-requires c = search (judge_parameters, module_here)
 
 pub offset_bounds-below-m : goal.offset_bounds-below-m
-offset_bounds-below-m c = search (judge_few, judge_index, rules)
+offset_bounds-below-m c =
+    let few : c.loop-i.m < 16 = search (judge_few, module_here) in record { fits = omega arith }
 
 pub bounds-below-m : goal.bounds-below-m
-bounds-below-m c = search (judge_few, rules)
+bounds-below-m c = search (judge_few, module_here)
 
 pub overflow_add-m : goal.overflow_add-m
-overflow_add-m c = record { fits = search judge_add }
-
-pub overflow_add-i-in-Proper : goal.overflow_add-i-in-Proper
-overflow_add-i-in-Proper c = search (judge_few, judge_index, rules)
-
-pub next_module-i-requires-in-Proper : goal.next_module-i-requires-in-Proper
-next_module-i-requires-in-Proper c = search judge_next
-
-pub loop-i-smaller : goal.loop-i-smaller
-loop-i-smaller c = search judge_falls
+overflow_add-m c = record { fits = search (judge_add, module_here) }
 
 pub loop-i-preserved : goal.loop-i-preserved
-loop-i-preserved c = search judge_more
+loop-i-preserved c =
+    judge_more _ _ _ _ _ c.loop-i.invariant _ c.frame_at-f.ensures
+    (module_here c.frame_at-f.result _ c.is_module.ensures c.if-not-is_module.false)
+    _ c.module_effect.ensures _ _ c.in_ok-x.was c.module_signature.ensures.says
+    (let more = c.loop-i-test.true in omega arith)
 
-pub frame_at-f-requires-2 : goal.frame_at-f-requires-2
-frame_at-f-requires-2 c = search judge_index
+pub slice_bounds-below-end-2 : goal.slice_bounds-below-end-2
+slice_bounds-below-end-2 c =
+    let passed = judge_end _ _ _ _ _ c.loop-i.invariant c.loop-i-test.false in
+    let is = last_here _ _ _ _ _ c.loop-i.invariant c.loop-i-test.false _ c.frame_at-f-2.ensures in
+    judge_room_for _ _ _ _ _ passed _ c.frame_at-f-2.ensures is
+
+pub slice_bounds-setting-end-2 : goal.slice_bounds-setting-end-2
+slice_bounds-setting-end-2 c =
+    let passed = judge_end _ _ _ _ _ c.loop-i.invariant c.loop-i-test.false in
+    let is = last_here _ _ _ _ _ c.loop-i.invariant c.loop-i-test.false _ c.frame_at-f-2.ensures in
+    judge_length _ _ _ _ _ passed _ c.frame_at-f-2.ensures is
 
 pub module_effect-requires-2 : goal.module_effect-requires-2
 module_effect-requires-2 c =
-    (search judge_body, search judge_room, search judge_parameters, search judge_most, search rules)
+    let passed = judge_end _ _ _ _ _ c.loop-i.invariant c.loop-i-test.false in
+    let is = last_here _ _ _ _ _ c.loop-i.invariant c.loop-i-test.false _
+    c.frame_at-f-2.ensures in (
+      judge_body _ _ _ _ _ passed _ c.frame_at-f-2.ensures is,
+      judge_room _ _ _ _ _ passed _ c.frame_at-f-2.ensures is,
+      judge_parameters _ _ _ _ _ passed _ c.frame_at-f-2.ensures is,
+    )
 
-pub overflow_cast-i : goal.overflow_cast-i
-overflow_cast-i c = record { fits = search judge_fits }
+pub returns-in_err-x-2 : goal.returns-in_err-x-2
+returns-in_err-x-2 c =
+    let passed = judge_end _ _ _ _ _ c.loop-i.invariant c.loop-i-test.false in
+    let is = last_here _ _ _ _ _ c.loop-i.invariant c.loop-i-test.false _ c.frame_at-f-2.ensures in
+    let p = err_from_is_err_and c.from_residual-in_err-x-2.result
+    c.from_residual-in_err-x-2.ensures.1 in
+    rw (p.1, p.2)
+    (judge_fails _ _ _ _ _ passed _ c.frame_at-f-2.ensures is _ c.module_effect-2.ensures _
+    c.in_err-x-2.was)
 
-pub main_rule-requires : goal.main_rule-requires
-main_rule-requires c = search labels_wide
-
-pub returns-in-Faulty-module_effect : goal.returns-in-Faulty-module_effect
-returns-in-Faulty-module_effect c = search judge_fails
-
-pub returns-in-Proper-module_effect : goal.returns-in-Proper-module_effect
-returns-in-Proper-module_effect c = search judge_main
+pub returns : goal.returns
+returns c =
+    let passed = judge_end _ _ _ _ _ c.loop-i.invariant c.loop-i-test.false in
+    let is = last_here _ _ _ _ _ c.loop-i.invariant c.loop-i-test.false _ c.frame_at-f-2.ensures in
+    let some = c.loop-i.invariant.there in
+    let end : length c.args.frames.now ≤ length c.args.frames.now - 1 + 1 = omega arith in
+    judge_main _ _ _ _ _ _ passed _ _ c.frame_at-f-2.ensures is c.module_effect-2.ensures _ _
+    c.in_ok-x-2.was end c.main_rule.ensures c.requires.1

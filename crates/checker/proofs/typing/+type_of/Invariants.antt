@@ -1,4 +1,3 @@
-use Prim.Native.Nat.{◌-◌}
 use Rattle.checker.proofs.typing.+type_of.Given as goal
 
 abbrev pub decreases-type_of : goal.decreases-type_of

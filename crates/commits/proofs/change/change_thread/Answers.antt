@@ -1,10 +1,10 @@
 -- `change_thread` meets its contract.
 use Rattle.commits.proofs.ChangeLaws.{change_laws, change_room}
-use borrow.Author.Rules.{rules}
+use Rattle.std.proofs.Common.{rules, refl}
 use Rattle.commits.proofs.change.change_thread.Goals as goal
 
-pub push_item-requires : goal.push_item-requires
-push_item-requires c = (search rules, search change_room)
+pub push-requires : goal.push-requires
+push-requires c = (search rules, refl, search change_room)
 
 pub push_two-requires : goal.push_two-requires
 push_two-requires c = (search rules, search change_room)
@@ -12,8 +12,8 @@ push_two-requires c = (search rules, search change_room)
 pub push_let-requires : goal.push_let-requires
 push_let-requires c = (search rules, (search change_room, search change_room))
 
-pub pop_value-requires : goal.pop_value-requires
-pop_value-requires c = (search rules, (search change_room, search rules))
+pub pop-requires : goal.pop-requires
+pop-requires c = (search rules, refl, (search change_room, search rules))
 
 pub enter-requires : goal.enter-requires
 enter-requires c = (search rules, search rules, search change_room)

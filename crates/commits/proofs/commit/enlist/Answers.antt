@@ -4,13 +4,13 @@ use Rattle.commits.proofs.FollowLaws.{enlist_laws, join_needs, start_needs, wake
 use Rattle.commits.proofs.commit.enlist.Goals as goal
 
 pub join-requires : goal.join-requires
-join-requires c = (search rules, search join_needs)
+join-requires c = search join_needs
 
 pub start-requires : goal.start-requires
-start-requires c = (search rules, search rules, search start_needs)
+start-requires c = (search rules, search start_needs)
 
 pub generate-requires : goal.generate-requires
-generate-requires c = (search rules, search wake_needs)
+generate-requires c = search wake_needs
 
 pub returns-in-Join : goal.returns-in-Join
 returns-in-Join c = search enlist_laws

@@ -4,7 +4,7 @@ use borrow.Author.Rules.{rules}
 use Rattle.commits.proofs.commit.follow.Goals as goal
 
 pub enlist-requires : goal.enlist-requires
-enlist-requires c = (search rules, search rules, search still_follows)
+enlist-requires c = (search rules, search still_follows)
 
 pub returns : goal.returns
 returns c = search followed

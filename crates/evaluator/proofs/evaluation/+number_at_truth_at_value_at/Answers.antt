@@ -22,11 +22,7 @@ number_at-value_at-x-requires t c =
     let is = sym c.in-OfValue.is ∙ c.node_at.ensures in
     let below = operands_below fs _ _ (c.requires.0) is in
     falls_in fs _ _ _ _ w _
-    ((c.decreases, c.requires)) below refl refl
-
-pub number_at-then_use-requires : goal.number_at-then_use-requires
-number_at-then_use-requires t c =
-    c.value_at-x.auto.state ∙ c.requires.1.all
+    ((c.decreases, c.requires)) below refl
 
 pub number_at-number_at-p-requires : goal.number_at-number_at-p-requires
 number_at-number_at-p-requires t c =
@@ -35,7 +31,7 @@ number_at-number_at-p-requires t c =
     let is = sym c.in-OfNumbers.is ∙ c.node_at.ensures in
     let below = (operands_below fs _ _ (c.requires.0) is).0 in
     falls_in fs _ _ _ _ w _
-    ((c.decreases, c.requires)) below refl refl
+    ((c.decreases, c.requires)) below refl
 
 pub number_at-returns-then-number_stops : goal.number_at-returns-then-number_stops
 number_at-returns-then-number_stops t c =
@@ -55,7 +51,7 @@ number_at-number_at-q-requires t c =
     let is = sym c.in-OfNumbers.is ∙ c.node_at.ensures in
     let below = (operands_below fs _ _ (c.requires.0) is).1 in
     falls_in fs _ _ _ _ w _
-    ((c.decreases, c.requires)) below c.number_at-p.ensures.rest c.number_at-p.auto.state
+    ((c.decreases, c.requires)) below c.number_at-p.ensures.rest
 
 pub number_at-truth_at-x-requires : goal.number_at-truth_at-x-requires
 number_at-truth_at-x-requires t c =
@@ -64,7 +60,7 @@ number_at-truth_at-x-requires t c =
     let is = sym c.in-Choose.is ∙ c.node_at.ensures in
     let below = (operands_below fs _ _ (c.requires.0) is).0 in
     falls_in fs _ _ _ _ w _
-    ((c.decreases, c.requires)) below refl refl
+    ((c.decreases, c.requires)) below refl
 
 pub number_at-returns-then-stops : goal.number_at-returns-then-stops
 number_at-returns-then-stops t c =
@@ -87,7 +83,7 @@ number_at-number_at-p-requires-in-Choose t c =
     let below =
     branch_below fs _ _ _ _ _ c.truth_at-x.result (c.requires.0) is c.branch-x.ensures in
     falls_in fs _ _ _ _ w _
-    ((c.decreases, c.requires)) below c.truth_at-x.ensures.rest c.truth_at-x.auto.state
+    ((c.decreases, c.requires)) below c.truth_at-x.ensures.rest
 
 pub number_at-returns-in-Plain : goal.number_at-returns-in-Plain
 number_at-returns-in-Plain t c =
@@ -159,11 +155,7 @@ truth_at-value_at-x-requires t c =
     let is = sym c.in-OfValue.is ∙ c.node_at.ensures in
     let below = operands_below fs _ _ (c.requires.0) is in
     falls_in fs _ _ _ _ w _
-    ((c.decreases, c.requires)) below refl refl
-
-pub truth_at-then_use-requires : goal.truth_at-then_use-requires
-truth_at-then_use-requires t c =
-    c.value_at-x.auto.state ∙ c.requires.1.all
+    ((c.decreases, c.requires)) below refl
 
 pub truth_at-number_at-p-requires : goal.truth_at-number_at-p-requires
 truth_at-number_at-p-requires t c =
@@ -172,7 +164,7 @@ truth_at-number_at-p-requires t c =
     let is = sym c.in-OfNumbers.is ∙ c.node_at.ensures in
     let below = (operands_below fs _ _ (c.requires.0) is).0 in
     falls_in fs _ _ _ _ w _
-    ((c.decreases, c.requires)) below refl refl
+    ((c.decreases, c.requires)) below refl
 
 pub truth_at-returns-then-number_stops : goal.truth_at-returns-then-number_stops
 truth_at-returns-then-number_stops t c =
@@ -192,7 +184,7 @@ truth_at-number_at-q-requires t c =
     let is = sym c.in-OfNumbers.is ∙ c.node_at.ensures in
     let below = (operands_below fs _ _ (c.requires.0) is).1 in
     falls_in fs _ _ _ _ w _
-    ((c.decreases, c.requires)) below c.number_at-p.ensures.rest c.number_at-p.auto.state
+    ((c.decreases, c.requires)) below c.number_at-p.ensures.rest
 
 pub truth_at-truth_at-x-requires : goal.truth_at-truth_at-x-requires
 truth_at-truth_at-x-requires t c =
@@ -201,7 +193,7 @@ truth_at-truth_at-x-requires t c =
     let is = sym c.in-Choose.is ∙ c.node_at.ensures in
     let below = (operands_below fs _ _ (c.requires.0) is).0 in
     falls_in fs _ _ _ _ w _
-    ((c.decreases, c.requires)) below refl refl
+    ((c.decreases, c.requires)) below refl
 
 pub truth_at-returns-then-stops : goal.truth_at-returns-then-stops
 truth_at-returns-then-stops t c =
@@ -224,7 +216,7 @@ truth_at-number_at-p-requires-in-Choose t c =
     let below =
     branch_below fs _ _ _ _ _ c.truth_at-x.result (c.requires.0) is c.branch-x.ensures in
     falls_in fs _ _ _ _ w _
-    ((c.decreases, c.requires)) below c.truth_at-x.ensures.rest c.truth_at-x.auto.state
+    ((c.decreases, c.requires)) below c.truth_at-x.ensures.rest
 
 pub truth_at-returns-in-Plain : goal.truth_at-returns-in-Plain
 truth_at-returns-in-Plain t c =
@@ -296,11 +288,7 @@ value_at-value_at-x-requires t c =
     let is = sym c.in-OfValue.is ∙ c.node_at.ensures in
     let below = operands_below fs _ _ (c.requires.0) is in
     falls_in fs _ _ _ _ w _
-    ((c.decreases, c.requires)) below refl refl
-
-pub value_at-then_use-requires : goal.value_at-then_use-requires
-value_at-then_use-requires t c =
-    c.value_at-x.auto.state ∙ c.requires.1.all
+    ((c.decreases, c.requires)) below refl
 
 pub value_at-number_at-p-requires : goal.value_at-number_at-p-requires
 value_at-number_at-p-requires t c =
@@ -309,7 +297,7 @@ value_at-number_at-p-requires t c =
     let is = sym c.in-OfNumbers.is ∙ c.node_at.ensures in
     let below = (operands_below fs _ _ (c.requires.0) is).0 in
     falls_in fs _ _ _ _ w _
-    ((c.decreases, c.requires)) below refl refl
+    ((c.decreases, c.requires)) below refl
 
 pub value_at-returns-then-number_stops : goal.value_at-returns-then-number_stops
 value_at-returns-then-number_stops t c =
@@ -329,7 +317,7 @@ value_at-number_at-q-requires t c =
     let is = sym c.in-OfNumbers.is ∙ c.node_at.ensures in
     let below = (operands_below fs _ _ (c.requires.0) is).1 in
     falls_in fs _ _ _ _ w _
-    ((c.decreases, c.requires)) below c.number_at-p.ensures.rest c.number_at-p.auto.state
+    ((c.decreases, c.requires)) below c.number_at-p.ensures.rest
 
 pub value_at-truth_at-x-requires : goal.value_at-truth_at-x-requires
 value_at-truth_at-x-requires t c =
@@ -338,7 +326,7 @@ value_at-truth_at-x-requires t c =
     let is = sym c.in-Choose.is ∙ c.node_at.ensures in
     let below = (operands_below fs _ _ (c.requires.0) is).0 in
     falls_in fs _ _ _ _ w _
-    ((c.decreases, c.requires)) below refl refl
+    ((c.decreases, c.requires)) below refl
 
 pub value_at-returns-then-stops : goal.value_at-returns-then-stops
 value_at-returns-then-stops t c =
@@ -359,7 +347,7 @@ value_at-number_at-p-requires-in-Choose t c =
     let below =
     branch_below fs _ _ _ _ _ c.truth_at-x.result (c.requires.0) is c.branch-x.ensures in
     falls_in fs _ _ _ _ w _
-    ((c.decreases, c.requires)) below c.truth_at-x.ensures.rest c.truth_at-x.auto.state
+    ((c.decreases, c.requires)) below c.truth_at-x.ensures.rest
 
 pub value_at-returns-in-Plain : goal.value_at-returns-in-Plain
 value_at-returns-in-Plain t c =

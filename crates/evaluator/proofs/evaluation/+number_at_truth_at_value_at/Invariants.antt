@@ -1,4 +1,3 @@
-use Prim.Native.Nat.{◌-◌}
 use Rattle.evaluator.proofs.evaluation.+number_at_truth_at_value_at.Given as goal
 
 abbrev pub decreases-number_at : goal.decreases-number_at

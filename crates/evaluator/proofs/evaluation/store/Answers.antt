@@ -9,8 +9,7 @@ pub value_at-y-requires : goal.value_at-y-requires
 value_at-y-requires c =
     let w = c.args.state.now in (
       c.requires.1,
-      lent_again _ w _ c.requires.2.lent c.value_at-x.ensures.rest
-          c.value_at-x.auto.state,
+      lent_again _ w _ c.requires.2.lent c.value_at-x.ensures.rest,
     )
 
 pub returns-in-Is : goal.returns-in-Is

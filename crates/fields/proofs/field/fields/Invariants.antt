@@ -1,10 +1,9 @@
-use Prim.Native.Nat.{◌≤◌}
 use mathlib.Core.Path.{◌≡◌}
 use lib.ListN.{take}
 use Rattle.text.specs.Frames.{frames_of}
-use Rattle.fields.specs.Inner.Scans.{tally_of}
+use Rattle.fields.specs.Inner.Tallies.{tally_of}
 use Rattle.fields.proofs.FramePass.{SeekingField}
 use Rattle.fields.proofs.field.fields.Given as goal
 
 abbrev pub invariant-loop-i : goal.invariant-loop-i
-invariant-loop-i l = (l.t ≡ tally_of (take l.i (frames_of l.words))) × (l.t.cells ≤ 16) × SeekingField (frames_of l.words) l.i
+invariant-loop-i l = (l.t ≡ tally_of (take l.i (frames_of l.words))) × SeekingField (frames_of l.words) l.i

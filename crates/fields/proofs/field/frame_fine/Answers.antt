@@ -1,6 +1,6 @@
 -- `frame_fine` meets its contract.
 use Rattle.fields.proofs.Tallies.{declared_as}
-use Rattle.fields.proofs.FieldsByKind.{frame_here, frame_header, frame_unknown}
+use Rattle.fields.proofs.FieldsByKind.{frame_header, frame_unknown}
 use Rattle.fields.proofs.FieldsByKind.{frame_event, frame_link, frame_statement}
 use Rattle.fields.proofs.FieldsByKind.{frame_expression}
 use Rattle.fields.proofs.field.frame_fine.Goals as goal
@@ -8,17 +8,11 @@ use Rattle.fields.proofs.field.frame_fine.Goals as goal
 pub returns-in-Header : goal.returns-in-Header
 returns-in-Header c = search frame_header
 
-pub returns-in-Shared : goal.returns-in-Shared
-returns-in-Shared c = search frame_here
+pub returns-in-Declared-Event : goal.returns-in-Declared-Event
+returns-in-Declared-Event c = frame_event _ _ _ _ c.frame_at-f.ensures (declared_as _ _ _ c.in-Declared-Event.is (rw c.in-Declared-Event.is at c.in-Declared-Event.field-0-is)) c.event_fine.ensures
 
-pub returns-in-Event : goal.returns-in-Event
-returns-in-Event c = search (frame_event, declared_as)
-
-pub returns-in-Link : goal.returns-in-Link
-returns-in-Link c = search (frame_link, declared_as)
-
-pub returns-in-Module : goal.returns-in-Module
-returns-in-Module c = search frame_here
+pub returns-in-Declared-Link : goal.returns-in-Declared-Link
+returns-in-Declared-Link c = frame_link _ _ _ _ c.frame_at-f.ensures (declared_as _ _ _ c.in-Declared-Link.is (rw c.in-Declared-Link.is at c.in-Declared-Link.field-0-is)) c.link_fine.ensures
 
 pub returns-in-Statement : goal.returns-in-Statement
 returns-in-Statement c = search frame_statement

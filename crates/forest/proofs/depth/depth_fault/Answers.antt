@@ -1,21 +1,18 @@
 -- `depth_fault` meets its contract.
-use mathlib.Core.Path.{refl}
-use borrow.Author.Rules.{rules}
-use Rattle.forest.proofs.ClimbDepths.{users_inside, deep_here, deep_next}
-use Rattle.forest.proofs.ClimbDepths.{deep_end}
+use Rattle.std.proofs.Common.{rules, arith, refl, ◌∙◌, sym, length, suc, ℕ, Bool}
+use Rattle.std.proofs.lemmas.Iterator.{YieldsList-from_range}
+use Rattle.std.proofs.lemmas.Iterator.Adapters.{option_map_id}
+use Rattle.std.proofs.lemmas.Iterator.Search.{find_from_yields_List}
+use Rattle.language.specs.Limits.{most_depth}
+use Rattle.forest.specs.Inner.Climbs.{climbs}
+use Rattle.forest.proofs.ClimbDepths.{deep_found}
 use Rattle.forest.proofs.depth.depth_fault.Goals as goal
 
-pub loop-i-init : goal.loop-i-init
-loop-i-init c = refl
-
-pub is_deep-requires : goal.is_deep-requires
-is_deep-requires c = (search rules, search users_inside)
-
-pub returns-then-is_deep : goal.returns-then-is_deep
-returns-then-is_deep c = search deep_here
-
-pub loop-i-preserved : goal.loop-i-preserved
-loop-i-preserved c = search deep_next
-
 pub returns : goal.returns
-returns c = search deep_end
+returns c =
+    let ws = c.args.lines.words.now in
+    let test : ℕ → Bool = climbs c.users_of.new.users (suc most_depth) in
+    sym (option_map_id c.find.result)
+    ∙ find_from_yields_List test _ _ _ c.find.ensures.ran
+    (YieldsList-from_range 0 (length ws) (length ws) refl (omega arith)) (λ x b q k. search rules)
+    ∙ deep_found ws _ c.users_of.ensures.noted c.requires.0 c.requires.1 c.args.lines.most

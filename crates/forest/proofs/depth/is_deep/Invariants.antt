@@ -1,11 +1,8 @@
-use Prim.Native.Nat.{◌<◌, ◌≤◌, ◌-◌, suc}
+use Prim.Native.Nat.{◌<◌, ◌≤◌, suc}
 use Rattle.language.specs.Limits.{most_depth, most_lines}
 use Rattle.forest.proofs.Climbing.{Climbing}
 use Rattle.forest.proofs.depth.is_deep.Given as goal
 
 abbrev pub invariant-loop-above : goal.invariant-loop-above
 invariant-loop-above l =
-    (l.above ≤ suc most_depth) × (l.at < most_lines) × Climbing l.users l.j l.at l.above
-
-abbrev pub decreases-loop-above : goal.decreases-loop-above
-decreases-loop-above l = suc most_depth - l.above
+    (l._above ≤ suc most_depth) × (l.at < most_lines) × Climbing l.users l.j l.at l._above

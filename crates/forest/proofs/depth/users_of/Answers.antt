@@ -1,12 +1,9 @@
 -- `users_of` meets its contract.
-use Rattle.forest.proofs.UserArray.{noting_start, noting_next, noting_end}
+use Rattle.forest.proofs.UserArray.{noting_end}
+use Rattle.forest.proofs.ClimbDepths.{users_inside}
 use Rattle.forest.proofs.depth.users_of.Goals as goal
 
-pub loop-i-init : goal.loop-i-init
-loop-i-init c = search noting_start
-
-pub loop-i-preserved : goal.loop-i-preserved
-loop-i-preserved c = search noting_next
-
-pub returns : goal.returns
-returns c = search noting_end
+pub returns-clause-inside : goal.returns-clause-inside
+returns-clause-inside c =
+    users_inside c.args.lines.words.now c.loop-i.users
+    (noting_end _ _ c.loop-i.i c.loop-i.invariant c.loop-i-test.false) c.args.lines.most

@@ -5,7 +5,4 @@ use Rattle.forest.proofs.ShapePass.{NoModuleFrom}
 use Rattle.forest.proofs.shape.main_fault.Given as goal
 
 abbrev pub invariant-loop-n : goal.invariant-loop-n
-invariant-loop-n l = (l.n ≤ length l.words) × NoModuleFrom (frames_of l.words) l.n
-
-abbrev pub decreases-loop-n : goal.decreases-loop-n
-decreases-loop-n l = l.n
+invariant-loop-n l = (l.n ≤ length l.lines.words.now) × NoModuleFrom (frames_of l.lines.words.now) l.n

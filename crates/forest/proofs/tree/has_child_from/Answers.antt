@@ -1,26 +1,32 @@
 -- `has_child_from` meets its contract.
-use Rattle.forest.proofs.AnyChild.{none_from, one_from, two_first_from}
-use Rattle.forest.proofs.AnyChild.{two_second_from, three_first_from}
-use Rattle.forest.proofs.AnyChild.{three_second_from, three_third_from}
+use Rattle.std.proofs.Common.{arith}
+use Rattle.forest.proofs.AnyChild.{two_from, three_from}
 use Rattle.forest.proofs.tree.has_child_from.Goals as goal
 
-pub returns-then-n-a : goal.returns-then-n-a
-returns-then-n-a c = search two_first_from
+pub returns-then-n-from : goal.returns-then-n-from
+returns-then-n-from c =
+    let x = c.in-Two in
+    let whole = two_from c.args.n c.args.f c.children_of.result
+    c.children_of.ensures x.field-0 x.a x.field-2 x.b x.is in
+    grind (arith, whole)
 
-pub returns-then-n-a-2 : goal.returns-then-n-a-2
-returns-then-n-a-2 c = search three_first_from
+pub returns-else-n-from : goal.returns-else-n-from
+returns-else-n-from c =
+    let x = c.in-Two in
+    let whole = two_from c.args.n c.args.f c.children_of.result
+    c.children_of.ensures x.field-0 x.a x.field-2 x.b x.is in
+    grind (arith, whole)
 
-pub returns-then-n-b : goal.returns-then-n-b
-returns-then-n-b c = search three_second_from
+pub returns-then-n-from-3 : goal.returns-then-n-from-3
+returns-then-n-from-3 c =
+    let x = c.in-Three in
+    let whole = three_from c.args.n c.args.f c.children_of.result
+    c.children_of.ensures x.field-0 x.a x.field-2 x.b x.field-4 x.c x.is in
+    grind (arith, whole)
 
-pub returns-in-Nothing : goal.returns-in-Nothing
-returns-in-Nothing c = search none_from
-
-pub returns-in-One : goal.returns-in-One
-returns-in-One c = search one_from
-
-pub returns-else-n-a : goal.returns-else-n-a
-returns-else-n-a c = search two_second_from
-
-pub returns-else-n-b : goal.returns-else-n-b
-returns-else-n-b c = search three_third_from
+pub returns-else-n-from-3 : goal.returns-else-n-from-3
+returns-else-n-from-3 c =
+    let x = c.in-Three in
+    let whole = three_from c.args.n c.args.f c.children_of.result
+    c.children_of.ensures x.field-0 x.a x.field-2 x.b x.field-4 x.c x.is in
+    grind (arith, whole)

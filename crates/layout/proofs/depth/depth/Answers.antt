@@ -1,16 +1,16 @@
 -- `depth` meets its contract.
-use mathlib.Core.Path.{refl}
-use Rattle.layout.proofs.DepthPass.{over_here, over_next, over_end}
+use Rattle.std.proofs.Common.{rules, arith, refl, ◌∙◌, sym, length, ℕ, Bool}
+use Rattle.std.proofs.lemmas.Iterator.{YieldsList-from_range}
+use Rattle.std.proofs.lemmas.Iterator.Adapters.{option_map_id}
+use Rattle.std.proofs.lemmas.Iterator.Search.{find_from_yields_List}
+use Rattle.layout.proofs.DepthPass.{is_over, over_found}
 use Rattle.layout.proofs.depth.depth.Goals as goal
 
-pub loop-i-init : goal.loop-i-init
-loop-i-init c = refl
-
-pub returns-then-u-i-gt-MOST_DEPTH : goal.returns-then-u-i-gt-MOST_DEPTH
-returns-then-u-i-gt-MOST_DEPTH c = search over_here
-
-pub loop-i-preserved : goal.loop-i-preserved
-loop-i-preserved c = search over_next
-
 pub returns : goal.returns
-returns c = search over_end
+returns c =
+    let ws = c.args.lines.words.now in
+    let test : ℕ → Bool = is_over c.depths_down.new.u in
+    sym (option_map_id c.find.result)
+    ∙ find_from_yields_List test _ _ _ c.find.ensures.ran
+    (YieldsList-from_range 0 (length ws) (length ws) refl (omega arith)) (λ x b q k. search rules)
+    ∙ over_found ws _ c.depths_down.ensures c.requires c.args.lines.some c.args.lines.most

@@ -5,7 +5,4 @@ use Rattle.layout.proofs.Raises.{Sinking}
 use Rattle.layout.proofs.depth.depths_down.Given as goal
 
 abbrev pub invariant-loop-n : goal.invariant-loop-n
-invariant-loop-n l = (l.n ≤ length l.words) × Sinking (frames_of l.words) (length l.words) l.initial.u l.u l.n
-
-abbrev pub decreases-loop-n : goal.decreases-loop-n
-decreases-loop-n l = l.n
+invariant-loop-n l = (l.n ≤ length l.lines.words.now) × Sinking (frames_of l.lines.words.now) (length l.lines.words.now) l.initial.u l.u l.n

@@ -8,5 +8,5 @@ returns-then-starts_block c = search ahead_laws
 pub returns-then-starts_choice : goal.returns-then-starts_choice
 returns-then-starts_choice c = search ahead_laws
 
-pub returns : goal.returns
-returns c = search ahead_laws
+pub returns-else-starts_choice : goal.returns-else-starts_choice
+returns-else-starts_choice c = search ahead_laws

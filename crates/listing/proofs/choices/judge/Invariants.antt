@@ -1,10 +1,10 @@
-use Prim.Native.Nat.{◌-◌}
+use Prim.Native.Nat.{◌-◌, ◌*◌}
 use lib.ListN.{length}
 use Rattle.listing.proofs.ChoiceLaws.{Judging}
 use Rattle.listing.proofs.choices.judge.Given as goal
 
-abbrev pub invariant-loop-at : goal.invariant-loop-at
-invariant-loop-at l = Judging l.bytes l.k l.at
+abbrev pub invariant-loop-k : goal.invariant-loop-k
+invariant-loop-k l = Judging l.bytes l.k
 
-abbrev pub decreases-loop-at : goal.decreases-loop-at
-decreases-loop-at l = length l.bytes - l.at
+abbrev pub decreases-loop-k : goal.decreases-loop-k
+decreases-loop-k l = length l.bytes - 3 * l.k

@@ -2,22 +2,17 @@
 use borrow.Author.Rules.{rules}
 use Rattle.lists.proofs.PartitionLaws.{next_short, room_here, moved_small, wanted_few}
 use Rattle.lists.proofs.PartitionLaws.{moved_count, moved_words}
-use lib.ListN.{length-set}
-use native.Mathlib.Omega.{arith}
 use Rattle.lists.proofs.list.move_entries.Goals as goal
 
 pub partition_entries-r-requires : goal.partition_entries-r-requires
 partition_entries-r-requires c =
-    ((search rules, search rules, search next_short), search rules, search room_here)
+    ((search rules, search next_short), search rules, search room_here)
 
 pub overflow_add-state : goal.overflow_add-state
 overflow_add-state c = search (moved_small, rules)
 
 pub overflow_sub-state : goal.overflow_sub-state
 overflow_sub-state c = search wanted_few
-
-pub bounds-state-next-2 : goal.bounds-state-next-2
-bounds-state-next-2 c = simp length-set (omega arith)
 
 pub returns : goal.returns
 returns c = record { count = search moved_count; words = search moved_words }

@@ -55,4 +55,4 @@ returns c =
     let inv = c.loop-found.invariant in
     let pre = c.requires in
     let ends = sym c.lacks_thread.ensures ∙ c.loop-found-test.false in
-    record { added = climb_end _ _ _ _ _ inv ends pre.1; starters = climb_starters _ _ _ _ _ inv ends }
+    record { added = climb_end _ _ _ _ _ inv ends pre.0; starters = climb_starters _ _ _ _ _ inv ends }

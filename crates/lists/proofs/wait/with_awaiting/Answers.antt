@@ -3,7 +3,7 @@ use Rattle.lists.proofs.WaitLaws.{ended_adds, living_adds}
 use Rattle.lists.proofs.wait.with_awaiting.Goals as goal
 
 pub returns-then-state-k-eq0 : goal.returns-then-state-k-eq0
-returns-then-state-k-eq0 c = record { added = ended_adds _ _ _ c.if-state-k-eq0.true; starters = c.requires.2 }
+returns-then-state-k-eq0 c = record { added = ended_adds _ _ _ c.if-state-k-eq0.true; starters = c.requires.1 }
 
 pub returns : goal.returns
 returns c =

@@ -13,7 +13,7 @@ returns-in_default-o c = record { found = search (store_refused, rules); rest = 
 pub returns : goal.returns
 returns c =
     record {
-      found = store_is _ _ _ _ _ c.in-Cell.is _ _ _ _ c.access-o.ensures.found
+      found = store_is _ _ _ _ _ c.in-Cell.is _ c.from-i.ensures _ _ _ _ c.access-o.ensures.found
           c.in-Is.is c.with_content.ensures;
       rest = search (rest_put, rules);
     }

@@ -1,9 +1,10 @@
 -- `event_at` meets its contract.
-use Rattle.program.proofs.EventLaws.{event_laws}
+use Rattle.program.proofs.EventLaws.{event_there, event_nowhere}
 use Rattle.program.proofs.event.event_at.Goals as goal
 
-pub returns-in-At : goal.returns-in-At
-returns-in-At c = search event_laws
+pub returns-in_err-f : goal.returns-in_err-f
+returns-in_err-f c =
+    event_nowhere _ _ _ c.frame_numbered.ensures _ c.from_residual.ensures c.in_err-f.was
 
-pub returns-in-Nowhere : goal.returns-in-Nowhere
-returns-in-Nowhere c = search event_laws
+pub returns : goal.returns
+returns c = event_there _ _ _ c.frame_numbered.ensures _ c.in_ok-f.was

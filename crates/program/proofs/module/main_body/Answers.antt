@@ -3,14 +3,14 @@ use borrow.Author.Rules.{rules}
 use Rattle.program.proofs.MainLaws.{main_start, main_found, main_more, main_none}
 use Rattle.program.proofs.module.main_body.Goals as goal
 
-pub loop-i-init : goal.loop-i-init
-loop-i-init c = (search rules, main_start c.args.frames.now)
+pub loop-k-init : goal.loop-k-init
+loop-k-init c = (search rules, main_start c.args.frames.now)
 
 pub returns-then-is_module : goal.returns-then-is_module
 returns-then-is_module c = search main_found
 
-pub loop-i-preserved : goal.loop-i-preserved
-loop-i-preserved c = (search rules, search main_more)
+pub loop-k-preserved : goal.loop-k-preserved
+loop-k-preserved c = (search rules, search main_more)
 
 pub returns : goal.returns
 returns c = search main_none

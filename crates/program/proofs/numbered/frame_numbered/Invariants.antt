@@ -1,10 +1,7 @@
-use Prim.Native.Nat.{◌≤◌, ◌-◌}
-use lib.ListN.{length}
-use Rattle.program.proofs.NumberedLaws.{Finding}
+use Rattle.std.proofs.Common.{◌≡◌, drop}
+use Rattle.text.specs.Frames.{frames_of}
+use Rattle.program.specs.Inner.Numbered.{numbered_in}
 use Rattle.program.proofs.numbered.frame_numbered.Given as goal
 
-abbrev pub invariant-loop-i : goal.invariant-loop-i
-invariant-loop-i l = (l.i ≤ length l.frames) × Finding l.frames l.what l.n l.i l.left
-
-abbrev pub decreases-loop-i : goal.decreases-loop-i
-decreases-loop-i l = length l.frames - l.i
+abbrev pub invariant-loop-line : goal.invariant-loop-line
+invariant-loop-line l = numbered_in l.what (frames_of (drop l.line-index l.frames)) l.left ≡ numbered_in l.what (frames_of l.frames) l.n

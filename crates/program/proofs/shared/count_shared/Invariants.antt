@@ -1,10 +1,9 @@
-use Prim.Native.Nat.{◌-◌}
-use lib.ListN.{length}
-use Rattle.program.proofs.SharedLaws.{Counting}
+use Rattle.std.proofs.Common.{◌≡◌, ◌≤◌, ◌+◌, length, drop}
+use Rattle.text.specs.Frames.{frames_of}
+use Rattle.program.specs.Programs.{shared_of}
 use Rattle.program.proofs.shared.count_shared.Given as goal
 
-abbrev pub invariant-loop-i : goal.invariant-loop-i
-invariant-loop-i l = Counting l.frames l.i l.n
-
-abbrev pub decreases-loop-i : goal.decreases-loop-i
-decreases-loop-i l = length l.frames - l.i
+abbrev pub invariant-loop-line : goal.invariant-loop-line
+invariant-loop-line l =
+    (l.n ≤ l.line-index)
+    × (l.n + length (shared_of (frames_of (drop l.line-index l.frames))) ≡ length (shared_of (frames_of l.frames)))

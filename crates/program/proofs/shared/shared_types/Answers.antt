@@ -1,15 +1,12 @@
 -- `shared_types` meets its contract.
 use borrow.Author.Rules.{rules}
-use Prim.Native.Nat.{◌-◌}
-use lib.ListN.{length-set}
-use native.Mathlib.Omega.{arith}
 use Rattle.program.proofs.SharedTypeLaws.{collect_start, collect_end}
 use Rattle.program.proofs.SharedTypeLaws.{collect_stop, collect_owner, collect_content}
 use Rattle.program.proofs.SharedTypeLaws.{collect_few, collect_more}
 use Rattle.program.proofs.shared.shared_types.Goals as goal
 
-pub loop-count-init : goal.loop-count-init
-loop-count-init c = (search rules, search collect_start)
+pub loop-k-init : goal.loop-k-init
+loop-k-init c = (search rules, search collect_start)
 
 pub returns-then-not-declares : goal.returns-then-not-declares
 returns-then-not-declares c = search collect_stop
@@ -23,8 +20,8 @@ offset_bounds-types-count c = search (collect_few, rules)
 pub bounds-types-count : goal.bounds-types-count
 bounds-types-count c = search (collect_few, rules)
 
-pub loop-count-preserved : goal.loop-count-preserved
-loop-count-preserved c = (simp length-set (omega arith), search collect_more)
+pub loop-k-preserved : goal.loop-k-preserved
+loop-k-preserved c = (search rules, search collect_more)
 
 pub returns : goal.returns
 returns c = search collect_end

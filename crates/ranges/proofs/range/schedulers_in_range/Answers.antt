@@ -2,13 +2,12 @@
 use Rattle.std.proofs.Common.{rules, refl, ◌∙◌}
 use Rattle.std.proofs.lemmas.Iterator.{YieldsList-from_range}
 use Rattle.std.proofs.lemmas.Iterator.Search.{all_from_yields_List}
-use Rattle.text.specs.Frames.{frames_of}
 use Rattle.ranges.specs.Inner.Passes.{scheduler_block}
 use Rattle.machine.proofs.Alls.{list_all-range}
 use Rattle.ranges.proofs.range.schedulers_in_range.Goals as goal
 
 pub returns : goal.returns
 returns c =
-    let test = scheduler_block (frames_of c.args.frames.now) c.args.schedulers c.args.state.now in
+    let test = scheduler_block c.args.events c.args.schedulers c.args.state.now in
     all_from_yields_List test _ _ _ c.all.ensures.ran (YieldsList-from_range 0 8 8 refl refl) (λ x b q k. search rules)
     ∙ list_all-range test 8

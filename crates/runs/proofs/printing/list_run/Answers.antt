@@ -14,4 +14,4 @@ pub returns : goal.returns
 returns c =
     listed_run _ _ _ _ _ c.file_of-file.ensures c.requires.1 c.used_of-used.ensures _ _ _ _ _
     c.step_lines.ensures.words c.step_lines.ensures.lines c.last_line-line.ensures
-    c.put.ensures c.requires.4
+    c.put.ensures (search rules)

@@ -1,5 +1,4 @@
 -- `acting_thread` meets its contract.
-use borrow.Author.Rules.{rules}
 use native.Mathlib.Omega.{arith}
 use Rattle.stepper.proofs.PartyLaws.{acting_place, acting_list, acting_first, acting_named}
 use Rattle.stepper.proofs.PartyLaws.{acting_nobody, named_low}
@@ -9,7 +8,7 @@ pub known-requires : goal.known-requires
 known-requires c = search acting_place
 
 pub first_active-requires : goal.first_active-requires
-first_active-requires c = (search rules, search acting_list)
+first_active-requires c = search acting_list
 
 pub returns-then-is_scheduler_in_file : goal.returns-then-is_scheduler_in_file
 returns-then-is_scheduler_in_file c = search acting_first

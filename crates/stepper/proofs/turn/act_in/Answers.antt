@@ -1,4 +1,5 @@
 -- `act_in` meets its contract.
+use borrow.Author.Rules.{rules}
 use native.Mathlib.Omega.{arith}
 use mathlib.Core.Path.{refl, sym}
 use Rattle.stepper.proofs.ActLaws.{act_bounds, place_read, items_read, number_is}
@@ -60,7 +61,7 @@ bounds-state-at-3 c =
 pub top_item-item-requires : goal.top_item-item-requires
 top_item-item-requires c =
     let p = c.requires in
-    let b = act_bounds p in ((b.0, omega arith), items_read _ _ _ p.0 _ p.1 p.2)
+    let b = act_bounds p in (omega arith, items_read _ _ _ p.0 _ p.1 p.2)
 
 pub act-requires : goal.act-requires
 act-requires c =
@@ -81,4 +82,4 @@ returns c =
       variables = refl;
     })
     c.top_item-item.ensures _ _
-    c.act.ensures.found c.act.ensures.rest c.act.auto.state
+    c.act.ensures.found c.act.ensures.rest (search rules)

@@ -1,7 +1,6 @@
 -- `step_valid` meets its contract.
-use mathlib.Core.Path.{refl, ap}
-use Rattle.commits.specs.Inner.Commits.{grouping}
-use Rattle.stepper.proofs.GoodWords.{step_long, threads_few}
+use mathlib.Core.Path.{ap}
+use Rattle.stepper.proofs.GoodWords.{threads_few}
 use Rattle.stepper.proofs.PartyLaws.{acting_asks, acting_steps, nobody_steps, idle_place}
 use Rattle.stepper.proofs.PartyLaws.{idle_asks, idle_steps, answered}
 use Rattle.stepper.specs.declared.file.File.{File}
@@ -10,13 +9,13 @@ use Rattle.stepper.proofs.valid.step_valid.Goals as goal
 
 pub acting_thread-t-requires : goal.acting_thread-t-requires
 acting_thread-t-requires c =
-    (step_long _ _ _ c.requires.0, threads_few _ _ _ c.requires.0)
+    threads_few _ _ _ c.requires.0
 
 pub turn-requires : goal.turn-requires
 turn-requires c =
     let t = c.acting_thread-t.ensures in
     let a = acting_asks _ _ _ c.requires.0 _ _ c.requires.1 _ t c.if-t-ne0.true in
-    (c.requires.0, a.0, a.1, a.2, ap (λ (x : File). grouping x.labels x.schedulers) c.requires.1)
+    (c.requires.0, a.0, a.1, a.2, ap (λ (x : File). x.schedulers) c.requires.1)
 
 pub returns-then-t-ne0 : goal.returns-then-t-ne0
 returns-then-t-ne0 c =
@@ -37,7 +36,7 @@ known-requires c =
 pub end_instant-requires : goal.end_instant-requires
 end_instant-requires c =
     idle_asks _ _ _ c.requires.0 _ _ c.requires.1 _ c.acting_thread-t.ensures c.if-t-ne0.false
-    _ c.is_scheduler_in_file.ensures (ap not c.if-not-is_scheduler_in_file.false) _ c.known.ensures _ _ refl refl
+    _ c.is_scheduler_in_file.ensures (ap not c.if-not-is_scheduler_in_file.false) _ c.known.ensures
 
 pub returns : goal.returns
 returns c =

@@ -1,4 +1,4 @@
-use Rattle.std.proofs.Common.{◌-◌, ◌≤◌}
+use Rattle.std.proofs.Common.{◌≤◌}
 use Rattle.text.proofs.LineLaws.{Taking}
 use Rattle.text.proofs.line.read_line.Given as goal
 

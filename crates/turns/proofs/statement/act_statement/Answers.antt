@@ -39,10 +39,14 @@ pub returns-in-Nothing : goal.returns-in-Nothing
 returns-in-Nothing c = record { found = search acts_nothing; rest = search rules }
 
 pub returns-in-Seq : goal.returns-in-Seq
-returns-in-Seq c = record { found = search acts_seq; rest = search rules }
+returns-in-Seq c =
+    let acted = rw (c.from.ensures, c.from-in-Seq.ensures) at c.stays_with_two.ensures in
+    record { found = search acts_seq; rest = search rules }
 
 pub returns-in-DoAt : goal.returns-in-DoAt
-returns-in-DoAt c = record { found = search acts_do; rest = search rules }
+returns-in-DoAt c =
+    let acted = rw c.from-in-DoAt.ensures at c.does_at.ensures in
+    record { found = search acts_do; rest = search rules }
 
 pub returns-in-Start : goal.returns-in-Start
 returns-in-Start c = record { found = search acts_start; rest = search rules }
@@ -54,16 +58,22 @@ pub returns-in-Cooperate : goal.returns-in-Cooperate
 returns-in-Cooperate c = record { found = search acts_cooperate; rest = search rules }
 
 pub returns-in-LetIn : goal.returns-in-LetIn
-returns-in-LetIn c = record { found = search acts_let; rest = search rules }
+returns-in-LetIn c =
+    let acted = rw c.from-in-LetIn.ensures at c.lets_after.ensures in
+    record { found = search acts_let; rest = search rules }
 
 pub returns-in-Store : goal.returns-in-Store
 returns-in-Store c = record { found = search acts_store; rest = search rules }
 
 pub returns-in-IfElse : goal.returns-in-IfElse
-returns-in-IfElse c = record { found = search acts_if; rest = search rules }
+returns-in-IfElse c =
+    let acted = rw (c.from-in-IfElse.ensures, c.from-in-IfElse-2.ensures) at c.chooses_after.ensures in
+    record { found = search acts_if; rest = search rules }
 
 pub returns-in-While : goal.returns-in-While
-returns-in-While c = record { found = search acts_while; rest = search rules }
+returns-in-While c =
+    let acted = rw c.from-in-While.ensures at c.loops_after.ensures in
+    record { found = search acts_while; rest = search rules }
 
 pub returns-in-Generate : goal.returns-in-Generate
 returns-in-Generate c = record { found = search acts_generate; rest = search rules }

@@ -87,33 +87,33 @@ pub emit_field-emit-next-requires : goal.emit_field-emit-next-requires
 emit_field-emit-next-requires t c = (
   tree_falls _ _ c.decreases,
   (
-    child_tree _ _ _ _ _ c.names_child.ensures c.if-names_child.true c.requires.0,
-    child_room _ _ _ _ _ c.names_child.ensures c.if-names_child.true _ _ c.requires.1,
+    child_tree _ _ _ _ _ c.names_child.ensures c.if-names_child.true _ c.from.ensures c.requires.0,
+    child_room _ _ _ _ _ c.names_child.ensures c.if-names_child.true _ c.from.ensures _ _ c.requires.1,
   ),
 )
 
 pub emit_field-overflow_sub-result : goal.emit_field-overflow_sub-result
 emit_field-overflow_sub-result t c =
-    (child_next _ _ _ _ _ c.names_child.ensures c.if-names_child.true _ _ _
+    (child_next _ _ _ _ _ c.names_child.ensures c.if-names_child.true _ c.from.ensures _ _ _
     c.emit-next.ensures.next c.requires.1).0
 
 pub emit_field-overflow_cast-result : goal.emit_field-overflow_cast-result
 emit_field-overflow_cast-result t c =
     record {
       fits =
-          (child_next _ _ _ _ _ c.names_child.ensures c.if-names_child.true _ _ _
+          (child_next _ _ _ _ _ c.names_child.ensures c.if-names_child.true _ c.from.ensures _ _ _
           c.emit-next.ensures.next c.requires.1).1;
     }
 
 pub emit_field-returns-then-names_child : goal.emit_field-returns-then-names_child
 emit_field-returns-then-names_child t c =
     record {
-      written = child_written _ _ _ _ _ c.names_child.ensures c.if-names_child.true
+      written = child_written _ _ _ _ _ c.names_child.ensures c.if-names_child.true _ c.from.ensures
           _ _ _ c.emit-next.ensures.written;
-      placed = child_placed _ _ _ _ _ c.names_child.ensures c.if-names_child.true
+      placed = child_placed _ _ _ _ _ c.names_child.ensures c.if-names_child.true _ c.from.ensures
           _ _ c.emit-next.ensures.next;
     }
 
-pub emit_field-returns : goal.emit_field-returns
-emit_field-returns t c =
+pub emit_field-returns-else-names_child : goal.emit_field-returns-else-names_child
+emit_field-returns-else-names_child t c =
     record { written = kept_written _ _ _ _ _ c.names_child.ensures c.if-names_child.false _ _; placed = kept_placed _ _ _ _ _ c.names_child.ensures c.if-names_child.false _ }

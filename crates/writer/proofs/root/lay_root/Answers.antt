@@ -9,5 +9,5 @@ emit-requires c = (search root_tree, search root_room)
 pub returns-then-rank_of-rank : goal.returns-then-rank_of-rank
 returns-then-rank_of-rank c = record { written = search root_written; next = search root_next }
 
-pub returns : goal.returns
-returns c = record { written = search no_written; next = search no_next }
+pub returns-else-rank_of-rank : goal.returns-else-rank_of-rank
+returns-else-rank_of-rank c = record { written = search no_written; next = search no_next }

@@ -1,6 +1,0 @@
--- `end_thread` meets its contract.
-use Rattle.states.proofs.StackWords.{stack_laws}
-use Rattle.states.proofs.stack.end_thread.Goals as goal
-
-pub returns : goal.returns
-returns c = search stack_laws

@@ -1,6 +1,0 @@
--- `push_value` meets its contract.
-use Rattle.states.proofs.StackWords.{stack_laws}
-use Rattle.states.proofs.stack.push_value.Goals as goal
-
-pub returns : goal.returns
-returns c = search stack_laws
