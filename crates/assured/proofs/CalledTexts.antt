@@ -31,7 +31,7 @@ use Rattle.safety.proofs.Accepted.{accepted_safe, accepted_calls_safe}
 use Rattle.stepper.specs.Answers.{rejected, answer_number, answer_to, TextResult, text_result}
 use Rattle.stepper.specs.Answers.{as_text_result, fresh_text}
 use Rattle.stepper.specs.Answers.{step_text}
-use Rattle.stepper.proofs.AnswerLaws.{numbered_back, done_0}
+use Rattle.stepper.proofs.AnswerLaws.{number_back, done_0}
 use Rattle.assured.specs.TextCalls.{Plain, text_calls_from, text_words_from, text_accesses_from}
 use Rattle.assured.specs.TextCalls.{text_signals_from}
 use Rattle.assured.specs.TextCalls.{SafeTexts, AcceptedTextsSafe, TextsNever14}
@@ -56,12 +56,12 @@ plain_steps [] All.none All.none = All.none
 plain_steps (r ∷ rs) (All.more h hs) (All.more k ks) = All.more (plain h k) (plain_steps rs hs ks)
 
 -- P of each call's number, from P of each step's answer
-by_number : (P : ℕ → Type 0) (rs : List StepResult) → All Numbered rs
+by_number : (P : ℕ → Type 0) (rs : List StepResult)
     → All (λ (r : StepResult). P r.answer) rs
     → All (λ (r : TextResult). P (answer_number r.answer)) (map as_text_result (map as_called rs))
-by_number P [] All.none All.none = All.none
-by_number P (r ∷ rs) (All.more n ns) (All.more h hs) =
-    All.more (subst P (sym (numbered_back n r.thread (access_count r))) h) (by_number P rs ns hs)
+by_number P [] All.none = All.none
+by_number P (r ∷ rs) (All.more h hs) =
+    All.more (subst P (sym (number_back r.answer r.thread (access_count r))) h) (by_number P rs hs)
 
 not_14 : {n : ℕ} → StepNumber n → n ≢ 14
 not_14 is_0 e = omega arith
@@ -133,7 +133,7 @@ module _ (bs : List ℕ) (read : Reads bs (frames (text_frames bs))) (fine : NoF
     pub numbers : (P : ℕ → Type 0) → All (λ (r : StepResult). P r.answer) (steps (program_of fs) cs)
         → All (λ (r : TextResult). P (answer_number r.answer))
         (text_calls_from bs (fresh_text bs w).words cs)
-    numbers P h = subst (All (λ (r : TextResult). P (answer_number r.answer))) (sym given) (by_number P (steps (program_of fs) cs) (all_numbered (program_of fs) (fresh (program_of fs)) cs) h)
+    numbers P h = subst (All (λ (r : TextResult). P (answer_number r.answer))) (sym given) (by_number P (steps (program_of fs) cs) h)
 
     pub texts_safe : SafeCalls fs w cs → All Sound (answers (program_of fs) cs) → SafeTexts bs w cs
     texts_safe safe sound = record {

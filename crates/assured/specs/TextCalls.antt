@@ -13,7 +13,7 @@ use Rattle.checker.specs.Verdict.{HasVerdict}
 use Rattle.machine.specs.{Offsets.state_length, Accesses.Access, Accesses.Own, Accesses.Signal}
 use Rattle.machine.specs.{Accesses.OwnSignal, State.State, Words.pack}
 use Rattle.reach.specs.Reached.{Passes}
-use Rattle.stepper.specs.Answers.{done as call_done, answer_number, TextResult}
+use Rattle.stepper.specs.Answers.{NumberedAnswer, answer_number, TextResult}
 use Rattle.stepper.specs.Answers.{fresh_text, step_text}
 use Rattle.safety.specs.Safety.{NoPrivateInPublic, Apart}
 use Rattle.safety.specs.Accepted.{state_of, accesses_along, signals_along}
@@ -51,7 +51,7 @@ state_left bs w cs = state_of (text_frames bs) (words_left bs w cs)
 -- of a text, a lent buffer, a list of choices: a call of `fresh`, then one of `step` for each
 -- choice
 pub record SafeTexts (bs w cs : List ℕ) : Type 0 where
-  pub fresh : (fresh_text bs w).answer ≡ call_done 0 0
+  pub fresh : (fresh_text bs w).answer ≡ NumberedAnswer.done_by 0 0
   -- every access under every choice or call was to a cell of the acting thread or of the scheduler
   -- on which it stood, 'those before a refusal too'
   pub accessed : All Own (text_accesses_from bs (fresh_text bs w).words cs)

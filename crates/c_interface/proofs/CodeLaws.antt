@@ -1,7 +1,7 @@
 -- What the functions of the interface compute. Assumes nothing.
 use Rattle.std.specs.Prelude.{Ok, Err}
 use Rattle.language.specs.declared.refusal.Refusal.{Refusal}
-use mathlib.Core.Path.{◌≡◌, refl, sym, ap, subst, ◌∙◌}
+use mathlib.Core.Path.{◌≡◌, refl, sym, ap, ◌∙◌}
 use Prim.Native.Nat.{ℕ, ◌+◌, ◌*◌}
 use native.Mathlib.Omega.{arith}
 use lib.Dec.{eqb}
@@ -19,13 +19,10 @@ use Rattle.machine.specs.Calls.{CallResult, step_call}
 use Rattle.machine.proofs.Calls.{program_schedulers, called_in, called_out}
 use Rattle.language.specs.Refusals.{rule_number}
 use Rattle.language.specs.declared.refusal.Rule.{Rule}
-use Rattle.language.specs.declared.refusal.Rule.TheVariants.{WrongState}
-use Rattle.machine.proofs.Numbers.{numbered}
-use Rattle.stepper.proofs.AnswerLaws.{numbered_back, answered_refused}
 use Rattle.stepper.specs.declared.answer.CallRefusal.{CallRefusal}
 use Rattle.stepper.specs.declared.answer.CallRefusal.TheVariants.{Text, Call}
 use Rattle.stepper.specs.declared.answer.Done.{Done}
-use Rattle.stepper.specs.Answers.{Answer, done, refused, rule_of, answer_number}
+use Rattle.stepper.specs.Answers.{Answer, NumberedAnswer, said}
 use Rattle.stepper.specs.Answers.{answer_to, TextResult, text_result, as_text_result}
 use Rattle.stepper.specs.Answers.{answer_word, BatchResult, batch_result}
 use Rattle.runs.specs.Listings.{ListingResult, with_buffers}
@@ -64,33 +61,34 @@ writing_promised bs out w v r p h =
     record { writing = as_writing v w; answered = p; code = ap (λ (n : ℕ). coded n w) h }
 
 -- ---- a call's answer
-pub answer_done : (v : Answer) (d : Done) (t : ℕ) → v ≡ Ok d → t ≡ d.thread → t ≡ answer_code v
-answer_done v d t h p = p ∙ ap answer_code (sym h)
+pub answer_done : (v : Answer) (d : Done) (t : ℕ) → v ≡ Ok d → t ≡ d.thread
+    → t ≡ answer_code (said v)
+answer_done v d t h p = p ∙ ap (λ (a : Answer). answer_code (said a)) (sym h)
 
-pub answer_err : (v : Answer) (x : CallRefusal) (n : ℕ) → v ≡ Err x → n ≡ answer_code (Err x)
-    → n ≡ answer_code v
-answer_err v x n h p = p ∙ ap answer_code (sym h)
+pub answer_err : (v : Answer) (x : CallRefusal) (n : ℕ) → v ≡ Err x → n ≡ answer_code (said (Err x))
+    → n ≡ answer_code (said v)
+answer_err v x n h p = p ∙ ap (λ (a : Answer). answer_code (said a)) (sym h)
 
 pub ruleset answer_laws = (answer_done, answer_err)
 
 pub text_refused : (x : CallRefusal) (a : Refusal) (n : ℕ) → x ≡ Text a → n ≡ code_of (Err a)
-    → n ≡ answer_code (Err x)
-text_refused x a n h p = p ∙ ap (λ (y : CallRefusal). answer_code (Err y)) (sym h)
+    → n ≡ answer_code (said (Err x))
+text_refused x a n h p = p ∙ ap (λ (y : CallRefusal). answer_code (said (Err y))) (sym h)
 
 pub call_refused : (x : CallRefusal) (r : Rule) (t n m j : ℕ) → x ≡ Call r t → n ≡ rule_number r
-    → m ≡ n → j ≡ t → m * 65536 + j ≡ answer_code (Err x)
+    → m ≡ n → j ≡ t → m * 65536 + j ≡ answer_code (said (Err x))
 call_refused x r t n m j h e p q =
-    rw (q, p, e) (ap (λ (y : CallRefusal). answer_code (Err y)) (sym h))
+    rw (q, p, e) (ap (λ (y : CallRefusal). answer_code (said (Err y))) (sym h))
 
 pub ruleset refusal_laws = (text_refused, call_refused)
 
 pub answer_coded : (w : List ℕ) (x : TextResult) (v : Answer) (r : ℕ) → text_result v w ≡ x
-    → r ≡ answer_code v → coded r w ≡ coded_of x
+    → r ≡ answer_code (said v) → coded r w ≡ coded_of x
 answer_coded w x v r e h = ap (λ (n : ℕ). coded n w) h ∙ ap coded_of e
 
 -- ---- a step's
 pub step_coded : (w : List ℕ) (x : TextResult) (v : Answer) (r : ℕ) → text_result v w ≡ x
-    → r ≡ step_answer_code v → coded r w ≡ coded_step_of x
+    → r ≡ step_answer_code (said v) → coded r w ≡ coded_step_of x
 step_coded w x v r e h = ap (λ (n : ℕ). coded n w) h ∙ ap coded_step_of e
 
 -- a refused step has no accesses
@@ -108,31 +106,8 @@ refused_none fs w c h = by (in_range fs (program_schedulers fs) w) refl
 
 -- ---- many choices
 pub batch_coded : (w out : List ℕ) (x : BatchResult) (v : Answer) (r : ℕ) → batch_result v w out ≡ x
-    → r ≡ answer_code v → coded_out r w out ≡ coded_batch_of x
+    → r ≡ answer_code (said v) → coded_out r w out ≡ coded_batch_of x
 batch_coded w out x v r e h = ap (λ (n : ℕ). coded_out n w out) h ∙ ap coded_batch_of e
-
--- the type says the number of a call's answer: 14 is one, and those of steps are
-pub number_known : (fs : List Frame) (w : List ℕ) (c t k : ℕ)
-    → answer_number (answer_to (step_call fs w c).answer t k) ≡ (step_call fs w c).answer
-number_known fs w c t k = by (in_range fs (program_schedulers fs) w) refl
-  where
-    known : {m n : ℕ} → m ≡ n → answer_number (answer_to n t k) ≡ n
-        → answer_number (answer_to m t k) ≡ m
-    known e h = subst (λ (i : ℕ). answer_number (answer_to i t k) ≡ i) (sym e) h
-
-    by : (b : Bool) → in_range fs (program_schedulers fs) w ≡ b
-        → answer_number (answer_to (step_call fs w c).answer t k) ≡ (step_call fs w c).answer
-    by true e =
-        known (ap (λ (x : CallResult). x.answer) (called_in fs w c e))
-        (numbered_back (numbered _ _ _) t k)
-    by false e =
-        known (ap (λ (x : CallResult). x.answer) (called_out fs w c e))
-        (ap answer_number (sym (answered_refused WrongState t k)))
-
-rule_known : (n t k : ℕ) → answer_number (answer_to n t k) ≡ n → eqb n 0 ≡ false
-    → rule_number (rule_of n) ≡ n
-unfolding answer_to
-rule_known n t k h e = ap answer_number (sym (if_no (done t k) (refused (rule_of n) t) e)) ∙ h
 
 -- the answer to each is the number that a call with this choice alone gives
 pub answer_word_code : (fs : List Frame) (w : List ℕ) (c : ℕ)
@@ -140,18 +115,15 @@ pub answer_word_code : (fs : List Frame) (w : List ℕ) (c : ℕ)
 unfolding answer_to
 answer_word_code fs w c =
     let r = step_call fs w c in
-    if_all (λ (a : Answer). answer_word r ≡ step_answer_code a) (eqb r.answer 0)
-    (done r.thread r.accesses) (refused (rule_of r.answer) r.thread)
+    if_all (λ (a : NumberedAnswer). answer_word r ≡ step_answer_code a) (eqb r.answer 0)
+    (NumberedAnswer.done_by r.thread r.accesses) (NumberedAnswer.refused_with r.answer r.thread)
     (λ e. let z = eqb-true r.answer 0 e in omega arith)
-    (λ e.
-    let z = refused_none fs w c (eqb-false r.answer 0 e) in
-    let y = rule_known r.answer r.thread r.accesses (number_known fs w c r.thread r.accesses) e in
-    omega arith)
+    (λ e. let z = refused_none fs w c (eqb-false r.answer 0 e) in omega arith)
 
 -- ---- a listing's answer and length
 pub listing_coded : (w out : List ℕ) (x : ListingResult) (l : ListingAnswer) (v : Answer) (n : ℕ)
-    → with_buffers l w out ≡ x → v ≡ l.answer → n ≡ listing_code v l.length
+    → with_buffers l w out ≡ x → v ≡ l.answer → n ≡ listing_code (said v) l.length
     → coded_out n w out ≡ coded_listing_of x
 listing_coded w out x l v n e q h =
-    ap (λ (k : ℕ). coded_out k w out) (h ∙ ap (λ (a : Answer). listing_code a l.length) q)
+    ap (λ (k : ℕ). coded_out k w out) (h ∙ ap (λ (a : Answer). listing_code (said a) l.length) q)
     ∙ ap coded_listing_of e

@@ -3,10 +3,7 @@ use Rattle.std.specs.Prelude.{◌+◌, ◌*◌, ◌^◌, ◌≡◌}
 use Rattle.basics.specs.Prelude.{List, ℕ}
 use Rattle.language.specs.{Verdicts.number_of, Verdicts.frame_of, Verdicts.Verdict}
 use Rattle.checker.specs.Verdict.{Checked}
-use Rattle.std.specs.Prelude.{Ok, Err}
-use Rattle.language.specs.Refusals.{rule_number}
-use Rattle.stepper.specs.declared.answer.CallRefusal.TheVariants.{Text, Call}
-use Rattle.stepper.specs.Answers.{Answer, answer_accesses, TextResult, BatchResult}
+use Rattle.stepper.specs.Answers.{NumberedAnswer, said, answer_accesses, TextResult, BatchResult}
 use Rattle.runs.specs.Listings.{ListingResult}
 use Rattle.drawing.specs.{Writings.Writing, Answers.Answered}
 
@@ -22,13 +19,13 @@ pub record CheckedCode (bs : List ℕ) (r : ℕ) : Type 0 where
   pub code : r ≡ code_of verdict
 
 -- the code of a call's answer, with the acting thread where no frame is named
-abbrev pub answer_code : Answer → ℕ
-answer_code (Ok d) = d.thread
-answer_code (Err (Text r)) = rule_number r.rule * 2 ^ 16 + r.frame
-answer_code (Err (Call r t)) = rule_number r * 2 ^ 16 + t
+abbrev pub answer_code : NumberedAnswer → ℕ
+answer_code (NumberedAnswer.done_by t k) = t
+answer_code (NumberedAnswer.rejected_with n j) = n * 2 ^ 16 + j
+answer_code (NumberedAnswer.refused_with n t) = n * 2 ^ 16 + t
 
 -- of a step, with how many accesses it made above 32 bits
-abbrev pub step_answer_code : Answer → ℕ
+abbrev pub step_answer_code : NumberedAnswer → ℕ
 step_answer_code a = answer_accesses a * 2 ^ 32 + answer_code a
 
 -- a call's number, and all lent words after it
@@ -70,8 +67,8 @@ abbrev pub coded_batch_of : BatchResult → CodedOut
 coded_batch_of r = coded_out (answer_code r.answer) r.words r.answers
 
 -- a listing's answer above 32 bits, and the listing's length
-abbrev pub listing_code : Answer → ℕ → ℕ
+abbrev pub listing_code : NumberedAnswer → ℕ → ℕ
 listing_code a size = answer_code a * 2 ^ 32 + size
 
 abbrev pub coded_listing_of : ListingResult → CodedOut
-coded_listing_of r = coded_out (listing_code r.answer r.size) r.words r.out
+coded_listing_of r = coded_out (listing_code (said r.answer) r.size) r.words r.out

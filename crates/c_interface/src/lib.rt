@@ -7,7 +7,7 @@ ghost use Rattle.language.specs.Limits.{most_listing_bytes};
 ghost use Rattle.checker.specs.Verdict.{verdict};
 ghost use Rattle.drawing.specs.Answers.{writing};
 ghost use Rattle.machine.specs.Offsets.{state_length};
-ghost use Rattle.stepper.specs.Answers.{answer_accesses, fresh_text, step_text};
+ghost use Rattle.stepper.specs.Answers.{answer_accesses, fresh_text, said, step_text};
 ghost use Rattle.stepper.specs.Answers.{steps_text};
 ghost use Rattle.runs.specs.Listings.{list_text};
 ghost use Rattle.c_interface.specs.Codes.{code_of, CheckedCode, answer_code, coded, coded_of};
@@ -61,7 +61,7 @@ pub extern "C" fn purkvaldi_arrange(text: &[u8], out: &mut [u8]) -> u32
 
 // What refuses a call as one number.
 fn refusal_code(refusal: CallRefusal) -> u32
-    ensures { result ≡ answer_code (Err refusal) }
+    ensures { result ≡ answer_code (said (Err refusal)) }
 {
     match refusal {
         CallRefusal::Text(refusal) => code_of(Err(refusal)),
@@ -73,7 +73,7 @@ fn refusal_code(refusal: CallRefusal) -> u32
 
 // An answer as one number, without its accesses.
 fn answer_code(answer: Answer) -> u32
-    ensures { result ≡ answer_code answer }
+    ensures { result ≡ answer_code (said answer) }
 {
     match answer {
         Ok(done) => u32::from(done.thread),
@@ -82,7 +82,7 @@ fn answer_code(answer: Answer) -> u32
 }
 
 fn accesses_of(answer: Answer) -> u16
-    ensures { result ≡ answer_accesses answer }
+    ensures { result ≡ answer_accesses (said answer) }
 {
     match answer {
         Ok(done) => done.accesses,
@@ -92,7 +92,7 @@ fn accesses_of(answer: Answer) -> u16
 
 // A step's, with how many accesses it made above 32 bits.
 fn step_code(answer: Answer) -> u64
-    ensures { result ≡ step_answer_code answer }
+    ensures { result ≡ step_answer_code (said answer) }
 {
     u64::from(accesses_of(answer)) * 0x0000_0001_0000_0000 + u64::from(answer_code(answer))
 }
@@ -154,7 +154,7 @@ pub extern "C" fn purkvaldi_listing_length() -> usize
 
 // A listing's answer above 32 bits, its length in them.
 fn listing_code(answer: Answer, length: u32) -> u64
-    ensures { result ≡ listing_code answer length }
+    ensures { result ≡ listing_code (said answer) length }
 {
     u64::from(answer_code(answer)) * 0x0000_0001_0000_0000 + u64::from(length)
 }

@@ -38,6 +38,7 @@ use Rattle.commits.specs.Inner.Commits.{settles}
 use Rattle.commits.specs.Inner.Commits.{obstacle_number, action_decided, SettleWords, signal_obstacle}
 use Rattle.commits.specs.Inner.Commits.{start_tested, start_decided, decided_in, followed_in}
 use Rattle.commits.specs.Inner.Commits.{CommitWords, StartWords, Follows}
+use Rattle.commits.specs.Inner.Commits.{any_turn_committed}
 use Rattle.commits.specs.Inner.Commits.{present_in, wake_room_in, await_room_in}
 use Rattle.commits.specs.Inner.Commits.{generate_obstacle, await_obstacle}
 use Rattle.commits.specs.Inner.Commits.{generated_in, generates_in, awaiting_in, awaits_in}
@@ -51,6 +52,7 @@ use Rattle.language.specs.Places.{is_scheduler}
 use Rattle.program.specs.Inner.Events.{event_in}
 use Rattle.program.proofs.EventLaws.{event_within}
 use Rattle.language.specs.declared.refusal.Rule.{Rule}
+use Rattle.language.specs.Refusals.{rule_number}
 use Rattle.lists.specs.Inner.Lists.{is_awaiting_word}
 use Rattle.machine.proofs.WordLaws.{pasted_out}
 use Rattle.commits.proofs.SignalLaws.{signal_allowed, wake_room_is}
@@ -389,3 +391,10 @@ module _ (p : Program) (G : Schedulers) (w : List ℕ) (before c t : ℕ) where
         commit_suspended v f = ap (committed 0 t) f ∙ decided (Ok (Suspend q s)) g
 
 pub ruleset commit_laws = (commit_refused, commit_settled, commit_suspended)
+
+-- ---- any turn, where it is a rule that refuses it
+module _ (p : Program) (G : Schedulers) (w : List ℕ) (before c t : ℕ) where
+  pub any_turn_is : (x : TurnAnswer)
+      → any_turn_committed rule_number p G w before c t x ≡ turn_committed_in p G w before c t x
+  any_turn_is (Ok a) = refl
+  any_turn_is (Err r) = refl

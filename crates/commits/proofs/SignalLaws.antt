@@ -29,11 +29,12 @@ use Rattle.commits.specs.Inner.Commits.{Obstacle, Decided, settles, await_room_i
 use Rattle.commits.specs.Inner.Commits.{signal_obstacle, generate_tested}
 use Rattle.commits.specs.Inner.Commits.{await_tested, members_by}
 use Rattle.commits.specs.Inner.Commits.{left_in, joined_in, generated_in, awaiting_in}
-use Rattle.commits.specs.Inner.Commits.{CommitWords}
+use Rattle.commits.specs.Inner.Commits.{ChangeWords}
 use Rattle.language.specs.Inner.Reads.{place_read}
 use Rattle.language.proofs.PlaceLaws.{read_none, read_at}
 use Rattle.acts.specs.declared.act.Action.{Action}
-use Rattle.acts.specs.Inner.Transitions.{TurnAnswer, turn_and_then}
+use Rattle.acts.specs.Inner.Transitions.{turn_and_then}
+use Rattle.acts.specs.declared.act.Change.{Change}
 use Rattle.acts.proofs.Raised.{goes_on, stops}
 
 -- ---- `has_wake_room`: x is the place that m, the owner's number, was read as
@@ -212,8 +213,8 @@ unfolding awaiting_in
 suspended_is w u v c t q e h k = k ∙ ap (λ (l : List ℕ). joined_in l q (16384 + 128 * e + t)) h
 
 -- a file's events are its program's
-pub few_events : (G : Schedulers) (fs : List Frame) (w : List ℕ) (t : ℕ) (turn : TurnAnswer)
-    → CommitWords (program_of fs) G w t turn
+pub few_events : (G : Schedulers) (fs : List Frame) (w : List ℕ) (t : ℕ) (x : Change)
+    → ChangeWords (program_of fs) G w t x
     → length (events_of fs) ≤ 16
 unfolding program_of
-few_events G fs w t turn h = h.events
+few_events G fs w t x h = h.events

@@ -1,15 +1,18 @@
 //! A turn committed: decided first, then settled once, and the lists follow.
-ghost use Rattle.std.specs.Prelude.{◌≡◌, true, ◌≤◌, length};
+ghost use Rattle.std.specs.Prelude.{◌≡◌, true, ◌≤◌, length, Ok};
 ghost use Rattle.language.specs.Limits.{most_threads};
 ghost use Rattle.language.specs.Places.{is_scheduler};
 ghost use Rattle.text.specs.Frames.{frames_of};
 ghost use Rattle.program.specs.Programs.{program_of};
 ghost use Rattle.commits.specs.Inner.Commits.{CommitWords, turn_committed_in, obstacle_number};
+ghost use Rattle.commits.specs.Inner.Commits.{ChangeWords, any_change};
+ghost use Rattle.commits.specs.Inner.Commits.{number_refused, any_turn_committed};
 ghost use Rattle.commits.specs.Inner.Commits.{leaves_list, unlisted_in, enlisted_in};
 ghost use Rattle.commits.specs.Inner.Commits.{followed_in, awaiting_in, Follows, committed};
 
 use crate::decision::{Decision, Passed, decide};
 use crate::leave::leave;
+use crate::rule_name::RuleName;
 use crate::signal::generate;
 use crate::start::start;
 use crate::writing::{clear_cells, join, settle};
@@ -75,23 +78,21 @@ fn suspend(state: &mut State, choice: u64, t: u64, q: Place, e: u8)
     join(state, q, AWAITING_FROM + WAITING_FACTOR * u64::from(e) + t);
 }
 
-/// Commits the turn of thread t at that choice. The turn has changed the cells and their count;
-/// `before` cells were in use. The rule is the one that refused the turn, or that refuses its
-/// transition; a refusal takes back the cells made.
-pub fn commit(
+/// Commits that action of thread t, as `commit` does.
+fn commit_action(
     frames: &[u64],
     schedulers: &Schedulers,
     state: &mut State,
     before: usize,
     choice: u64,
     t: u64,
-    turn: Result<Action, Rule>,
+    turn: Action,
 ) -> Result<(), Rule>
     requires { CommitWords (program_of (frames_of frames.now)) schedulers.now
-        state.old t turn }
+        state.old t (Ok turn) }
     ensures { committed (obstacle_number result) t state.new
         ≡ turn_committed_in (program_of (frames_of frames.now))
-        schedulers.now state.old before choice t turn }
+        schedulers.now state.old before choice t (Ok turn) }
 {
     match decide(frames, schedulers, state, t, turn) {
         Ok(Decision::Settle(change, passed)) => {
@@ -106,6 +107,38 @@ pub fn commit(
         Err(rule) => {
             clear_cells(state, before);
             Err(rule)
+        },
+    }
+}
+
+/// Commits the turn of thread t at that choice. The turn has changed the cells and their count;
+/// `before` cells were in use. What refused the turn is handed on; else the rule is named that
+/// refuses its transition. A refusal takes back the cells made.
+pub fn commit<E: RuleName>(
+    frames: &[u64],
+    schedulers: &Schedulers,
+    state: &mut State,
+    before: usize,
+    choice: u64,
+    t: u64,
+    turn: Result<Action, E>,
+) -> Result<(), E>
+    requires { ChangeWords (program_of (frames_of frames.now)) schedulers.now
+        state.old t (any_change turn) }
+    ensures { committed (number_refused E.number result) t state.new
+        ≡ any_turn_committed E.number (program_of (frames_of frames.now))
+        schedulers.now state.old before choice t turn }
+{
+    match turn {
+        Ok(action) => {
+            match commit_action(frames, schedulers, state, before, choice, t, action) {
+                Ok(()) => Ok(()),
+                Err(rule) => Err(E::of_rule(rule)),
+            }
+        },
+        Err(refusal) => {
+            clear_cells(state, before);
+            Err(refusal)
         },
     }
 }

@@ -1,6 +1,6 @@
 //! What a turn comes to on the lent words: it is refused, or passed. Nothing is written before that
 //! is known.
-ghost use Rattle.std.specs.Prelude.{◌≡◌, true, ◌-◌, ◌≤◌, length};
+ghost use Rattle.std.specs.Prelude.{◌≡◌, true, ◌-◌, ◌≤◌, length, Ok};
 ghost use Rattle.language.specs.Places.{is_place};
 ghost use Rattle.language.specs.Limits.{most_threads};
 ghost use Rattle.text.specs.Frames.{frames_of};
@@ -97,20 +97,19 @@ fn place_of(state: &State, t: u64, a: Action) -> Place
     )
 }
 
-/// What becomes of the turn of thread t: the rule that refused it, or that refuses its transition.
+/// What becomes of that action of thread t, or the rule that refuses its transition.
 pub(crate) fn decide(
     frames: &[u64],
     schedulers: &Schedulers,
     state: &State,
     t: u64,
-    turn: Result<Action, Rule>,
+    a: Action,
 ) -> Result<Decision, Rule>
     requires { CommitWords (program_of (frames_of frames.now)) schedulers.now
-        state.now t turn }
+        state.now t (Ok a) }
     ensures { result ≡ decided_in (program_of (frames_of frames.now))
-        schedulers.now state.now t turn }
+        schedulers.now state.now t (Ok a) }
 {
-    let a = turn?;
     let change = a.change;
     match a.transition {
         Transition::Stays => Ok(Decision::Settle(change, Passed::Keep)),

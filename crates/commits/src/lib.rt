@@ -6,6 +6,7 @@ mod change;
 pub mod commit;
 mod decision;
 pub mod leave;
+pub mod rule_name;
 mod signal;
 mod start;
 mod writing;

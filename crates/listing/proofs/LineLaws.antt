@@ -1,5 +1,5 @@
 -- What the functions of a line compute. Assumes nothing.
-use mathlib.Core.Path.{◌≡◌, sym, ap, ◌∙◌}
+use mathlib.Core.Path.{◌≡◌, refl, sym, ap, ◌∙◌}
 use mathlib.Core.List.{List, [], ◌∷◌}
 use Prim.Native.Nat.{ℕ}
 use lib.ListN.{get_or}
@@ -8,8 +8,13 @@ use Rattle.language.specs.Verdicts.{Verdict}
 use Rattle.language.specs.Refusals.{rule_number}
 use Rattle.language.specs.declared.refusal.Refusal.{Refusal}
 use Rattle.listing.specs.Listing.{two_digits, four_digits, hex_digits}
-use Rattle.listing.specs.Listing.{refusal_line, check_line, choice_line_of, last_line}
+use Rattle.listing.specs.Listing.{refusal_line, check_line, verdict_line, choice_line_of, last_line}
 use Rattle.listing.proofs.DigitLaws.{hex_four}
+
+-- the line of a `Refusal` is `check_line`
+pub verdict_line_lem : (v : Verdict)
+    → verdict_line (λ (r : Refusal). rule_number r.rule) (λ (r : Refusal). r.frame) v ≡ check_line v
+verdict_line_lem v = refl
 
 pub refused_line : (v : Verdict) (f : Refusal) (n : ℕ) (r : List ℕ) → v ≡ Err f
     → n ≡ rule_number f.rule → r ≡ refusal_line n f.frame → r ≡ check_line v

@@ -1,5 +1,5 @@
 -- What `check` and `run` print, as bytes.
-use Rattle.std.specs.Prelude.{Err}
+use Rattle.std.specs.Prelude.{Result, Ok, Err}
 use Rattle.std.specs.Prelude.{◌∷◌, ◌++◌, ◌&&◌, ◌+◌, ◌*◌}
 use Rattle.basics.specs.Prelude.{List, [], Bool, true, false, ℕ, zero, suc}
 use Rattle.std.specs.Prelude.{◌/◌, ◌%◌}
@@ -39,6 +39,16 @@ refusal_line n i = two_digits n ++ space ∷ four_digits i ++ line_feed ∷ []
 -- what `check` prints of a text with that verdict: 'accepted is `00 0000`'
 abbrev pub check_line : Verdict → List ℕ
 check_line v = refusal_line (number_of v) (frame_of v)
+
+-- the number of a verdict, or its frame, where this is that of what refuses
+abbrev pub number_in : {R : Type 0} → (R → ℕ) → Result (Unit {0}) R → ℕ
+number_in n (Ok _) = 0
+number_in n (Err r) = n r
+
+-- the line, where these are the number and the frame of what refuses; with those of a `Refusal` it
+-- is `check_line` (proofs/LineLaws, `verdict_line_lem`)
+abbrev pub verdict_line : {R : Type 0} → (R → ℕ) → (R → ℕ) → Result (Unit {0}) R → List ℕ
+verdict_line number frame v = refusal_line (number_in number v) (number_in frame v)
 
 -- '`run` prints that line, then after 1 to 7 stops.'
 abbrev pub stops : Verdict → Bool

@@ -21,13 +21,14 @@ use Rattle.rules.specs.Rules.{HasType}
 use Rattle.rules.specs.Breaks.{BreaksE}
 use Rattle.rules.specs.Broken.{ChildE, BrokenE}
 use Rattle.rules.specs.Inner.Checking.{named_rule, new_rule, content_rule, numbers_rule}
-use Rattle.rules.specs.Inner.Checking.{choose_rule, type_in}
+use Rattle.rules.specs.Inner.Checking.{new_rule_of, content_rule_of, numbers_rule_of}
+use Rattle.rules.specs.Inner.Checking.{choose_rule, choose_rule_of, type_in}
 use Rattle.rules.proofs.Lists.{by_test}
 
 -- ---- whatever has a type is found to have it
 pub complete : {cells Γ : List ℕ} {x : Expr} {t : ℕ} {e : Effect} → HasType cells Γ x t e
     → type_in cells Γ x ≡ typed t e
-unfolding type_in named_rule new_rule content_rule numbers_rule choose_rule
+unfolding type_in named_rule new_rule_of content_rule_of numbers_rule_of choose_rule_of
 complete HasType.number = refl
 complete HasType.truth = refl
 complete (HasType.variable h) = simp (lt-ltb _ _ h)
@@ -60,7 +61,7 @@ found_numbers : {cells Γ : List ℕ} (z x y : Expr) (w : ℕ) → ChildE z x �
     ((t ≡ number_type) × (u ≡ number_type) → ⊥) → BreaksE cells Γ z IllTyped)
     → (r s : Typing) → FoundE cells Γ x r → FoundE cells Γ y s
     → FoundE cells Γ z (numbers_rule w (root_e z) r s)
-unfolding numbers_rule
+unfolding numbers_rule_of
 found_numbers z x y w in_x in_y types breaks (Err a) s b c = BrokenE.under in_x b
 found_numbers z x y w in_x in_y types breaks (Ok a) (Err b) g c = BrokenE.under in_y c
 found_numbers {cells} {Γ} z x y w in_x in_y types breaks (Ok a) (Ok b) g h =
@@ -85,7 +86,7 @@ module _ (cells Γ : List ℕ) (i : ℕ) where
 
   found_new : (s : ℕ) (x : Expr) (r : Typing) → FoundE cells Γ x r
       → FoundE cells Γ (Expr.new i s x) (new_rule s i r)
-  unfolding new_rule
+  unfolding new_rule_of
   found_new s x (Err a) b = BrokenE.under ChildE.new b
   found_new s x (Ok a) h =
       let test = by_test (FoundE cells Γ (Expr.new i s x)) in
@@ -99,14 +100,14 @@ module _ (cells Γ : List ℕ) (i : ℕ) where
 
   found_content : (x : Expr) (r : Typing) → FoundE cells Γ x r
       → FoundE cells Γ (Expr.content i x) (content_rule i r)
-  unfolding content_rule
+  unfolding content_rule_of
   found_content x (Err a) b = BrokenE.under ChildE.content b
   found_content x (Ok a) h = by_test (FoundE cells Γ (Expr.content i x)) (is_cell a.type_word) _ _
       (λ l. HasType.content h l) (λ l. BrokenE.here (BreaksE.content h l))
 
   found_choose : (x y z : Expr) (r s t : Typing) → FoundE cells Γ x r → FoundE cells Γ y s
       → FoundE cells Γ z t → FoundE cells Γ (Expr.choose i x y z) (choose_rule i r s t)
-  unfolding choose_rule
+  unfolding choose_rule_of
   found_choose x y z (Err a) s t b c d = BrokenE.under ChildE.choose_a b
   found_choose x y z (Ok a) (Err r) s b c d = BrokenE.under ChildE.choose_b c
   found_choose x y z (Ok a) (Ok o) (Err r) b c d = BrokenE.under ChildE.choose_c d

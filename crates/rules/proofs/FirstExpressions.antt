@@ -23,7 +23,8 @@ use Rattle.rules.specs.Inner.Findings.{Typing, typed}
 use Rattle.rules.specs.Breaks.{BreaksE}
 use Rattle.rules.specs.Broken.{ChildE, BrokenE}
 use Rattle.rules.specs.Inner.Checking.{named_rule, new_rule, content_rule, numbers_rule}
-use Rattle.rules.specs.Inner.Checking.{choose_rule, type_in}
+use Rattle.rules.specs.Inner.Checking.{new_rule_of, content_rule_of, numbers_rule_of}
+use Rattle.rules.specs.Inner.Checking.{choose_rule, choose_rule_of, type_in}
 use Rattle.rules.proofs.Lists.{by_test}
 use Rattle.rules.proofs.Sooner.{Sooner, exactly, smaller}
 use Rattle.rules.proofs.Expressions.{complete, FoundE, sound_e}
@@ -47,38 +48,38 @@ before_e cells Γ {j = j} {x = x} p l = go (type_in cells Γ x) (sound_e cells �
 -- at once, a later one's where each child before it has no fault, or one before j.
 module _ {n : Rule} {j : ℕ} where
   under_new : (s i : ℕ) {r : Typing} → Sooner n j r → Sooner n j (new_rule s i r)
-  unfolding new_rule
+  unfolding new_rule_of
   under_new s i (Sooner.sooner h) = Sooner.sooner h
 
   under_content : (i : ℕ) {r : Typing} → Sooner n j r → Sooner n j (content_rule i r)
-  unfolding content_rule
+  unfolding content_rule_of
   under_content i (Sooner.sooner h) = Sooner.sooner h
 
   under_numbers_a : (w i : ℕ) {r : Typing} (s : Typing) → Sooner n j r
       → Sooner n j (numbers_rule w i r s)
-  unfolding numbers_rule
+  unfolding numbers_rule_of
   under_numbers_a w i s (Sooner.sooner h) = Sooner.sooner h
 
   under_numbers_b : (w i : ℕ) {r s : Typing} → BeforeE j r → Sooner n j s
       → Sooner n j (numbers_rule w i r s)
-  unfolding numbers_rule
+  unfolding numbers_rule_of
   under_numbers_b w i BeforeE.found (Sooner.sooner h) = Sooner.sooner h
   under_numbers_b w i (BeforeE.before l) (Sooner.sooner h) = Sooner.sooner (inl l)
 
   under_choose_a : (i : ℕ) {r : Typing} (s t : Typing) → Sooner n j r
       → Sooner n j (choose_rule i r s t)
-  unfolding choose_rule
+  unfolding choose_rule_of
   under_choose_a i s t (Sooner.sooner h) = Sooner.sooner h
 
   under_choose_b : (i : ℕ) {r s : Typing} (t : Typing) → BeforeE j r → Sooner n j s
       → Sooner n j (choose_rule i r s t)
-  unfolding choose_rule
+  unfolding choose_rule_of
   under_choose_b i t BeforeE.found (Sooner.sooner h) = Sooner.sooner h
   under_choose_b i t (BeforeE.before l) (Sooner.sooner h) = Sooner.sooner (inl l)
 
   under_choose_c : (i : ℕ) {r s t : Typing} → BeforeE j r → BeforeE j s → Sooner n j t
       → Sooner n j (choose_rule i r s t)
-  unfolding choose_rule
+  unfolding choose_rule_of
   under_choose_c i BeforeE.found BeforeE.found (Sooner.sooner h) = Sooner.sooner h
   under_choose_c i BeforeE.found (BeforeE.before l) (Sooner.sooner h) = Sooner.sooner (inl l)
   under_choose_c i (BeforeE.before l) b (Sooner.sooner h) = Sooner.sooner (inl l)
@@ -91,13 +92,13 @@ own_named ts s i h = by_test (Sooner Unbound i) (ltb s (length ts)) _ _
 
 own_numbers : (w i t u : ℕ) (e f : Effect) → ((t ≡ number_type) × (u ≡ number_type) → ⊥)
     → Sooner IllTyped i (numbers_rule w i (typed t e) (typed u f))
-unfolding numbers_rule
+unfolding numbers_rule_of
 own_numbers w i t u e f z = by_test (Sooner IllTyped i) (eqb t number_type && eqb u number_type) _ _
     (λ p. let q = and_true _ _ p in absurd (z (eqb-true _ _ q.0, eqb-true _ _ q.1))) (λ p. exactly)
 
 own_e : {cells Γ : List ℕ} {x : Expr} {n : Rule} → BreaksE cells Γ x n
     → Sooner n (root_e x) (type_in cells Γ x)
-unfolding type_in new_rule content_rule choose_rule
+unfolding type_in new_rule_of content_rule_of choose_rule_of
 own_e (BreaksE.variable h) = own_named _ _ _ h
 own_e (BreaksE.shared h) = own_named _ _ _ h
 own_e (BreaksE.new_deep {i = i} {t = t} x h) = rw (complete x)

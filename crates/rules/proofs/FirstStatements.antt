@@ -34,6 +34,8 @@ use Rattle.rules.specs.Inner.Checking.{cooperate_rule}
 use Rattle.rules.specs.Inner.Checking.{EffectTest}
 use Rattle.rules.specs.Inner.Checking.{seq_rule, do_rule, join_rule, let_rule, store_rule}
 use Rattle.rules.specs.Inner.Checking.{if_else_rule, while_rule, signal_rule, signal_of, effect_in}
+use Rattle.rules.specs.Inner.Checking.{start_rule_of, do_rule_of, store_rule_of, if_else_rule_of}
+use Rattle.rules.specs.Inner.Checking.{while_rule_of}
 use Rattle.rules.proofs.Sooner.{Sooner, exactly, smaller}
 use Rattle.rules.proofs.Lists.{same_true, all_true, by_test}
 use Rattle.rules.proofs.Expressions.{complete}
@@ -84,7 +86,7 @@ module _ {n : Rule} {j : ℕ} where
 
   under_start : (once : Bool) (below : List Signature) (at : Standing) (s i : ℕ) {a : Argued}
       → Sooner n j a → Sooner n j (start_rule once below at s i a)
-  unfolding start_rule
+  unfolding start_rule_of
   under_start once below at s i (Sooner.sooner h) = Sooner.sooner h
 
   under_seq_a : {r : StatementEffect} (s : StatementEffect) → Sooner n j r → Sooner n j
@@ -99,7 +101,7 @@ module _ {n : Rule} {j : ℕ} where
 
   under_do : (allows : EffectTest) (at : Standing) (s i : ℕ) {r : StatementEffect}
       → Sooner n j r → Sooner n j (do_rule allows at s i r)
-  unfolding do_rule
+  unfolding do_rule_of
   under_do allows at s i (Sooner.sooner h) = Sooner.sooner h
 
   under_join : (e : Effect) {r : StatementEffect} → Sooner n j r → Sooner n j (join_rule e r)
@@ -112,41 +114,41 @@ module _ {n : Rule} {j : ℕ} where
 
   under_store_a : (i : ℕ) {r : Typing} (s : Typing) → Sooner n j r
       → Sooner n j (store_rule i r s)
-  unfolding store_rule
+  unfolding store_rule_of
   under_store_a i s (Sooner.sooner h) = Sooner.sooner h
 
   under_store_b : (i : ℕ) {r s : Typing} → BeforeE j r → Sooner n j s
       → Sooner n j (store_rule i r s)
-  unfolding store_rule
+  unfolding store_rule_of
   under_store_b i BeforeE.found (Sooner.sooner h) = Sooner.sooner h
   under_store_b i (BeforeE.before l) (Sooner.sooner h) = Sooner.sooner (inl l)
 
   under_if_else_a : (i : ℕ) {r : Typing} (s t : StatementEffect) → Sooner n j r
       → Sooner n j (if_else_rule i r s t)
-  unfolding if_else_rule
+  unfolding if_else_rule_of
   under_if_else_a i s t (Sooner.sooner h) = Sooner.sooner h
 
   under_if_else_b : (i : ℕ) {r : Typing} {s : StatementEffect} (t : StatementEffect) → BeforeE j r
       → Sooner n j s → Sooner n j (if_else_rule i r s t)
-  unfolding if_else_rule
+  unfolding if_else_rule_of
   under_if_else_b i t BeforeE.found (Sooner.sooner h) = Sooner.sooner h
   under_if_else_b i t (BeforeE.before l) (Sooner.sooner h) = Sooner.sooner (inl l)
 
   under_if_else_c : (i : ℕ) {r : Typing} {s t : StatementEffect} → BeforeE j r → BeforeS j s
       → Sooner n j t → Sooner n j (if_else_rule i r s t)
-  unfolding if_else_rule
+  unfolding if_else_rule_of
   under_if_else_c i BeforeE.found BeforeS.runs (Sooner.sooner h) = Sooner.sooner h
   under_if_else_c i BeforeE.found (BeforeS.before l) (Sooner.sooner h) = Sooner.sooner (inl l)
   under_if_else_c i (BeforeE.before l) b (Sooner.sooner h) = Sooner.sooner (inl l)
 
   under_while_a : (i : ℕ) {r : Typing} (s : StatementEffect) → Sooner n j r
       → Sooner n j (while_rule i r s)
-  unfolding while_rule
+  unfolding while_rule_of
   under_while_a i s (Sooner.sooner h) = Sooner.sooner h
 
   under_while_b : (i : ℕ) {r : Typing} {s : StatementEffect} → BeforeE j r → Sooner n j s
       → Sooner n j (while_rule i r s)
-  unfolding while_rule
+  unfolding while_rule_of
   under_while_b i BeforeE.found (Sooner.sooner h) = Sooner.sooner h
   under_while_b i (BeforeE.before l) (Sooner.sooner h) = Sooner.sooner (inl l)
 
@@ -163,7 +165,7 @@ least_es (In.later i) b (PlacedEs.more p q) =
 module _ (once : Bool) (below : List Signature) (at : Standing) (s i : ℕ) where
   own_module : {a : Argued} → BeforeA i a → length below ≤ s
       → Sooner Unbound i (start_rule once below at s i a)
-  unfolding start_rule
+  unfolding start_rule_of
   own_module BeforeA.are h = by_test (Sooner Unbound i) (leb (length below) s) _ _ (λ l. exactly)
       (λ l. absurd (true≢false (sym (le-leb _ _ h) ∙ l)))
   own_module (BeforeA.before l) h = Sooner.sooner (inl l)
@@ -171,7 +173,7 @@ module _ (once : Bool) (below : List Signature) (at : Standing) (s i : ℕ) wher
   own_types : (ts : List ℕ) (e : Effect) → s < length below →
       (ts ≡ (signature_at below s).types → ⊥)
       → Sooner IllTyped i (start_rule once below at s i (listed ts e))
-  unfolding start_rule
+  unfolding start_rule_of
   own_types ts e h z =
       by_test (Sooner IllTyped i) (leb (length below) s) _ _
       (λ l. smaller Unbound (omega arith))
@@ -180,7 +182,7 @@ module _ (once : Bool) (below : List Signature) (at : Standing) (s i : ℕ) wher
 
   own_escapes : (ts : List ℕ) (e : Effect) → (AllPublic ts → ⊥)
       → Sooner Escaping i (start_rule once below at s i (listed ts e))
-  unfolding start_rule
+  unfolding start_rule_of
   own_escapes ts e z =
       by_test (Sooner Escaping i) (leb (length below) s) _ _
       (λ l. smaller Unbound (omega arith))
@@ -191,7 +193,7 @@ module _ (once : Bool) (below : List Signature) (at : Standing) (s i : ℕ) wher
 
 own_unlinked : (once : Bool) (below : List Signature) (s i : ℕ) {a : Argued} → BeforeA i a
     → Sooner WhileUnlinked i (start_rule once below unlinked s i a)
-unfolding start_rule
+unfolding start_rule_of
 own_unlinked once below s i (BeforeA.are {a = a}) =
     by_test (Sooner WhileUnlinked i) (leb (length below) s) _ _
     (λ l. smaller Unbound (omega arith))
@@ -205,26 +207,26 @@ own_unlinked once below s i (BeforeA.before l) = Sooner.sooner (inl l)
 
 own_effect : (allows : EffectTest) (at : Standing) (s i : ℕ) (e : Effect) (a : Bool)
     → allows s e ≡ false → Sooner WrongEffect i (do_rule allows at s i (ending e a))
-unfolding do_rule
+unfolding do_rule_of
 own_effect allows at s i e a h = by_test (Sooner WrongEffect i) (not (allows s e)) _ _
     (λ l. exactly) (λ l. absurd (true≢false (sym (not-false _ l) ∙ h)))
 
 own_do_unlinked : (allows : EffectTest) (i : ℕ) {r : StatementEffect} → BeforeS i r
     → Sooner WhileUnlinked i (do_rule allows unlinked private i r)
-unfolding do_rule
+unfolding do_rule_of
 own_do_unlinked allows i (BeforeS.runs {a = a}) = by_test (Sooner WhileUnlinked i)
     (not (allows private a.effect)) _ _ (λ l. smaller WrongEffect (omega arith)) (λ l. exactly)
 own_do_unlinked allows i (BeforeS.before l) = Sooner.sooner (inl l)
 
 own_store : (i t u : ℕ) (e f : Effect) → ((is_cell t ≡ true) × (u ≡ content_of t) → ⊥)
     → Sooner IllTyped i (store_rule i (typed t e) (typed u f))
-unfolding store_rule
+unfolding store_rule_of
 own_store i t u e f z = by_test (Sooner IllTyped i) (is_cell t && eqb u (content_of t)) _ _
     (λ p. let q = and_true _ _ p in absurd (z (q.0, eqb-true _ _ q.1))) (λ p. exactly)
 
 own_if_else : (i t : ℕ) (e : Effect) {r s : StatementEffect} → (t ≡ truth_type → ⊥) → BeforeS i r
     → BeforeS i s → Sooner IllTyped i (if_else_rule i (typed t e) r s)
-unfolding if_else_rule
+unfolding if_else_rule_of
 own_if_else i t e z BeforeS.runs BeforeS.runs = by_test (Sooner IllTyped i) (eqb t truth_type) _ _
     (λ p. absurd (z (eqb-true _ _ p))) (λ p. exactly)
 own_if_else i t e z BeforeS.runs (BeforeS.before l) = Sooner.sooner (inl l)
@@ -232,14 +234,14 @@ own_if_else i t e z (BeforeS.before l) q = Sooner.sooner (inl l)
 
 own_while : (i t : ℕ) (e : Effect) {r : StatementEffect} → (t ≡ truth_type → ⊥) → BeforeS i r
     → Sooner IllTyped i (while_rule i (typed t e) r)
-unfolding while_rule
+unfolding while_rule_of
 own_while i t e z BeforeS.runs = by_test (Sooner IllTyped i) (not (eqb t truth_type)) _ _
     (λ p. exactly) (λ p. absurd (z (eqb-true _ _ (not-false _ p))))
 own_while i t e z (BeforeS.before l) = Sooner.sooner (inl l)
 
 own_body : (i : ℕ) (f : Effect) {r : Typing} → BeforeE i r
     → Sooner InstantLoop i (while_rule i r (ending f true))
-unfolding while_rule
+unfolding while_rule_of
 own_body i f (BeforeE.found {a = a}) = by_test (Sooner InstantLoop i)
     (not (eqb a.type_word truth_type)) _ _ (λ p. smaller IllTyped (omega arith)) (λ p. exactly)
 own_body i f (BeforeE.before l) = Sooner.sooner (inl l)

@@ -13,8 +13,7 @@ use Rattle.basics.specs.Inner.Searches.{same_numbers}
 use Rattle.language.specs.Types.{public}
 use Rattle.language.specs.Effects.{no_effect, ◌∪◌}
 use Rattle.language.specs.declared.effect.Effect.{Effect}
-use Rattle.language.specs.declared.refusal.Refusal.{Refusal}
-use Rattle.rules.specs.Inner.Checking.{Argued}
+use Rattle.rules.specs.Inner.Checking.{Listed}
 use Rattle.rules.specs.Inner.Signatures.{argued_of, signature_with, signature_word}
 use Rattle.rules.specs.Inner.Signatures.{signature_of}
 use Rattle.rules.specs.declared.start.Arguments.{Arguments}
@@ -32,17 +31,17 @@ form_of [] e = Nothing
 form_of (t ∷ []) e = One (record { type_word = t; effect = e })
 form_of (t ∷ u ∷ ts) e = Two t u e
 
-abbrev form : Argued → Result Arguments Refusal
+abbrev form : {E : Type 0} → Result Listed E → Result Arguments E
 form (Ok a) = Ok (form_of a.types a.effect)
 form (Err r) = Err r
 
-one_form : (x : Result Arguments Refusal) → form (argued_of x) ≡ x
+one_form : {E : Type 0} (x : Result Arguments E) → form (argued_of x) ≡ x
 one_form (Ok Nothing) = refl
 one_form (Ok (One x)) = refl
 one_form (Ok (Two t u e)) = refl
 one_form (Err r) = refl
 
-pub argued_once : (x y : Result Arguments Refusal) → argued_of x ≡ argued_of y → x ≡ y
+pub argued_once : {E : Type 0} (x y : Result Arguments E) → argued_of x ≡ argued_of y → x ≡ y
 argued_once x y h = sym (one_form x) ∙ ap form h ∙ one_form y
 
 pub with_none : (e : Effect) → e ∪ no_effect ≡ e

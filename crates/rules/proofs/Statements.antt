@@ -31,6 +31,8 @@ use Rattle.rules.specs.Inner.Checking.{start_rule}
 use Rattle.rules.specs.Inner.Checking.{cooperate_rule, seq_rule, do_rule, join_rule, let_rule}
 use Rattle.rules.specs.Inner.Checking.{store_rule, if_else_rule, while_rule, signal_rule, signal_of}
 use Rattle.rules.specs.Inner.Checking.{effect_in}
+use Rattle.rules.specs.Inner.Checking.{start_rule_of, do_rule_of, store_rule_of, if_else_rule_of}
+use Rattle.rules.specs.Inner.Checking.{while_rule_of}
 use Rattle.rules.proofs.Lists.{same_true, same_refl, same_eq, all_true, all_every, by_test}
 use Rattle.rules.proofs.Expressions.{complete, FoundE, sound_e, retype}
 
@@ -53,8 +55,8 @@ complete_es (HaveTypes.more x xs) = rw (complete x, complete_es xs)
 pub complete_s : {env : Setting} {below : List Signature} {Γ : List ℕ} {at : Standing} {p : Stmt}
     {e : Effect} {b : Bool}
     → HasEffect env below Γ at p e b → effect_in env below Γ at p ≡ ending e b
-unfolding effect_in start_rule cooperate_rule seq_rule do_rule join_rule store_rule if_else_rule
-    while_rule signal_rule
+unfolding effect_in start_rule_of cooperate_rule seq_rule do_rule_of join_rule store_rule_of
+    if_else_rule_of while_rule_of signal_rule
 complete_s HasEffect.nothing = refl
 complete_s (HasEffect.seq p q) = rw (complete_s p, complete_s q)
 complete_s (HasEffect.do_unlinked p h) = rw stands_unlinked (simp (complete_s p, h))
@@ -132,7 +134,7 @@ module _ (env : Setting) (below : List Signature) (Γ : List ℕ) where
       (e ∪ (signature_at below s).effect) once)
       → (a : Argued) → FoundEs env.cells Γ xs a
       → FoundS env below Γ at p (start_rule once below at s (root_s p) a)
-  unfolding start_rule
+  unfolding start_rule_of
   found_start at p s xs once st runs (Err r) b =
       BrokenS.operand (Operand.argument st b.among) b.broken
   found_start at p s xs once st runs (Ok a) h =
@@ -188,7 +190,7 @@ module _ (env : Setting) (below : List Signature) (Γ : List ℕ) where
   found_do : (at : Standing) (i s : ℕ) (p : Stmt) (r : StatementEffect)
       → FoundS env below Γ (standing_at s) p r
       → FoundS env below Γ at (Stmt.do_at i s p) (do_rule (within env.links) at s i r)
-  unfolding do_rule
+  unfolding do_rule_of
   found_do at i s p (Err r) b = BrokenS.under ChildS.do_at b
   found_do at i s p (Ok a) h =
       by_test (FoundS env below Γ at (Stmt.do_at i s p)) (not (within env.links s a.effect)) _ _
@@ -211,7 +213,7 @@ module _ (env : Setting) (below : List Signature) (Γ : List ℕ) where
 
   found_store : (at : Standing) (i : ℕ) (x y : Expr) (r s : Typing) → FoundE env.cells Γ x r
       → FoundE env.cells Γ y s → FoundS env below Γ at (Stmt.store i x y) (store_rule i r s)
-  unfolding store_rule
+  unfolding store_rule_of
   found_store at i x y (Ok a) (Ok b) g h =
       by_test (FoundS env below Γ at (Stmt.store i x y))
       (is_cell a.type_word && eqb b.type_word (content_of a.type_word)) _ _
@@ -224,7 +226,7 @@ module _ (env : Setting) (below : List Signature) (Γ : List ℕ) where
       (s t : StatementEffect)
       → FoundE env.cells Γ x r → FoundS env below Γ at p s → FoundS env below Γ at q t
       → FoundS env below Γ at (Stmt.if_else i x p q) (if_else_rule i r s t)
-  unfolding if_else_rule
+  unfolding if_else_rule_of
   found_if_else at i x p q (Ok a) (Ok b) (Ok c) h k l =
       by_test (FoundS env below Γ at (Stmt.if_else i x p q)) (eqb a.type_word truth_type) _ _
       (λ z. HasEffect.if_else (retype (eqb-true _ _ z) h) k l)
@@ -244,7 +246,7 @@ module _ (env : Setting) (below : List Signature) (Γ : List ℕ) where
   found_while : (at : Standing) (i : ℕ) (x : Expr) (p : Stmt) (r : Typing) (s : StatementEffect)
       → FoundE env.cells Γ x r → FoundS env below Γ at p s
       → FoundS env below Γ at (Stmt.while i x p) (while_rule i r s)
-  unfolding while_rule
+  unfolding while_rule_of
   found_while at i x p (Ok a) (Ok b) h k =
       by_test (FoundS env below Γ at (Stmt.while i x p)) (not (eqb a.type_word truth_type)) _ _
       (λ z. BrokenS.here (BreaksS.while h (eqb-false _ _ (not-true _ z))))

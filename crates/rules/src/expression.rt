@@ -1,15 +1,16 @@
 //! One function for each rule of expressions: what a node is found to be, from what its children
-//! were found to be. In each, `frame` is the node's, and a child's fault comes before its own.
+//! were found to be. In each, `frame` is the node's, and a child's fault is handed on as it is,
+//! before its own.
 ghost use Rattle.std.specs.Prelude.{◌≡◌, true};
 ghost use Rattle.language.specs.Places.{is_place};
 ghost use Rattle.language.specs.Types.{owner_of};
 ghost use Rattle.language.specs.Effects.{no_effect, with_owner};
 ghost use Rattle.rules.specs.Inner.Findings.{typed};
-ghost use Rattle.rules.specs.Inner.Checking.{named_rule, new_rule, content_rule};
-ghost use Rattle.rules.specs.Inner.Checking.{numbers_rule, choose_rule};
-ghost use Rattle.rules.specs.Inner.NodeRules.{leaf_rule, OwnerPlaced, cell_rule, made_by};
+ghost use Rattle.rules.specs.Inner.Checking.{named_rule, new_rule_of, content_rule_of};
+ghost use Rattle.rules.specs.Inner.Checking.{numbers_rule_of, choose_rule_of};
+ghost use Rattle.rules.specs.Inner.NodeRules.{leaf_rule, OwnerPlaced, cell_rule_of, made_by};
 
-use crate::finding::{Typed, Typing, refused};
+use crate::finding::{Fault, Typed, Typing, refused};
 use language::Place;
 use language::effect::Effect;
 use language::refusal::Rule;
@@ -50,10 +51,10 @@ pub fn leaf_rule(cells: &[u16], scope: &[u16], leaf: Leaf, frame: u16) -> Typing
 }
 
 // 24: an owner is a place, as the layout has it, since no other fits a type word.
-#[tactic(auto, using(crate::proofs::RuleLaws::read_laws), unfolding(crate::specs::Inner::Checking::new_rule))]
-fn new_rule(owner: Place, frame: u16, x: Typing) -> Typing
+#[tactic(auto, using(crate::proofs::RuleLaws::read_laws), unfolding(crate::specs::Inner::Checking::new_rule_of))]
+fn new_rule<E: Fault>(owner: Place, frame: u16, x: Typing<E>) -> Typing<E>
     requires { is_place owner.number ≡ true }
-    ensures { result ≡ new_rule owner.number frame x }
+    ensures { result ≡ new_rule_of E.of_rule owner.number frame x }
 {
     let x = x?;
     let Some(type_word) = cell_type(owner, x.type_word) else {
@@ -86,9 +87,9 @@ pub(crate) fn with_owner_of(effect: Effect, type_word: u16) -> Effect
 }
 
 // 25
-#[tactic(auto, unfolding(crate::specs::Inner::Checking::content_rule))]
-fn content_rule(frame: u16, x: Typing) -> Typing
-    ensures { result ≡ content_rule frame x }
+#[tactic(auto, unfolding(crate::specs::Inner::Checking::content_rule_of))]
+fn content_rule<E: Fault>(frame: u16, x: Typing<E>) -> Typing<E>
+    ensures { result ≡ content_rule_of E.of_rule frame x }
 {
     let x = x?;
     if !is_cell(x.type_word) {
@@ -102,9 +103,9 @@ fn content_rule(frame: u16, x: Typing) -> Typing
 
 /// 24 and 25, by what becomes of the value: ill typed where the new cell is too deep or what is
 /// read is no cell, escaping where a public cell is made around a private one.
-pub fn cell_rule(becomes: CellUse, frame: u16, x: Typing) -> Typing
+pub fn cell_rule<E: Fault>(becomes: CellUse, frame: u16, x: Typing<E>) -> Typing<E>
     requires { OwnerPlaced becomes }
-    ensures { result ≡ cell_rule becomes frame x }
+    ensures { result ≡ cell_rule_of E.of_rule becomes frame x }
 {
     match becomes {
         CellUse::Make(owner) => new_rule(owner, frame, x),
@@ -124,9 +125,9 @@ pub fn made_by(op: Operator) -> u16
 
 /// 26 and 27: of two numbers, `made` is the type of what they make. Ill typed where one of the two
 /// is no number.
-#[tactic(auto, unfolding(crate::specs::Inner::Checking::numbers_rule))]
-pub fn numbers_rule(made: u16, frame: u16, x: Typing, y: Typing) -> Typing
-    ensures { result ≡ numbers_rule made frame x y }
+#[tactic(auto, unfolding(crate::specs::Inner::Checking::numbers_rule_of))]
+pub fn numbers_rule<E: Fault>(made: u16, frame: u16, x: Typing<E>, y: Typing<E>) -> Typing<E>
+    ensures { result ≡ numbers_rule_of E.of_rule made frame x y }
 {
     let x = x?;
     let y = y?;
@@ -140,9 +141,9 @@ pub fn numbers_rule(made: u16, frame: u16, x: Typing, y: Typing) -> Typing
 }
 
 /// 28: ill typed but for a truth and two numbers.
-#[tactic(auto, unfolding(crate::specs::Inner::Checking::choose_rule))]
-pub fn choose_rule(frame: u16, x: Typing, y: Typing, z: Typing) -> Typing
-    ensures { result ≡ choose_rule frame x y z }
+#[tactic(auto, unfolding(crate::specs::Inner::Checking::choose_rule_of))]
+pub fn choose_rule<E: Fault>(frame: u16, x: Typing<E>, y: Typing<E>, z: Typing<E>) -> Typing<E>
+    ensures { result ≡ choose_rule_of E.of_rule frame x y z }
 {
     let x = x?;
     let y = y?;

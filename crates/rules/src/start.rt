@@ -3,14 +3,14 @@ ghost use Rattle.std.specs.Prelude.{◌≡◌, [], ◌∷◌, map, ◌≤◌, ta
 ghost use Rattle.basics.specs.Members.{every};
 ghost use Rattle.basics.specs.Inner.Searches.{same_numbers};
 ghost use Rattle.language.specs.Types.{public};
-ghost use Rattle.rules.specs.Inner.Checking.{listed, argue, start_rule};
+ghost use Rattle.rules.specs.Inner.Checking.{listed, argue, start_rule_of};
 ghost use Rattle.rules.specs.Inner.Standings.{standing};
 ghost use Rattle.rules.specs.Inner.Signatures.{argued_of, no_arguments};
 ghost use Rattle.rules.specs.Inner.Signatures.{signature_of, signature_word};
 
-use crate::finding::{Ending, StatementEffect, Typed, Typing, refused};
+use crate::finding::{Ending, Fault, StatementEffect, Typed, Typing, refused};
 use language::effect::Effect;
-use language::refusal::{Refusal, Rule};
+use language::refusal::Rule;
 use language::type_word::is_public;
 
 /// The arguments of a start: none, one, or the types of two and their effect.
@@ -23,7 +23,7 @@ pub enum Arguments {
 
 /// One argument, or the first fault in it.
 #[tactic(auto, using(crate::proofs::StartLaws::with_none), unfolding(crate::specs::Inner::Checking::argue))]
-pub fn one_argument(x: Typing) -> Result<Arguments, Refusal>
+pub fn one_argument<E>(x: Typing<E>) -> Result<Arguments, E>
     ensures { argued_of result ≡ argue x no_arguments }
 {
     Ok(Arguments::One(x?))
@@ -31,7 +31,7 @@ pub fn one_argument(x: Typing) -> Result<Arguments, Refusal>
 
 /// Two arguments, or the first fault in them.
 #[tactic(auto, using(crate::proofs::StartLaws::with_none), unfolding(crate::specs::Inner::Checking::argue))]
-pub fn two_arguments(x: Typing, y: Typing) -> Result<Arguments, Refusal>
+pub fn two_arguments<E: Drop>(x: Typing<E>, y: Typing<E>) -> Result<Arguments, E>
     ensures { argued_of result ≡ argue x (argue y no_arguments) }
 {
     let x = x?;
@@ -96,8 +96,8 @@ fn signature_effect(word: u64) -> Effect
 }
 
 // A start with the first `count` of two types.
-#[tactic(auto, unfolding(crate::specs::Inner::Checking::start_rule))]
-fn start_typed(
+#[tactic(auto, unfolding(crate::specs::Inner::Checking::start_rule_of))]
+fn start_typed<E: Fault>(
     once: bool,
     below: &[u64],
     linked: bool,
@@ -107,10 +107,10 @@ fn start_typed(
     first: u16,
     second: u16,
     effect: Effect,
-) -> StatementEffect
+) -> StatementEffect<E>
     requires { count ≤ 2 }
     ensures { result
-        ≡ start_rule once (map signature_of below.now) (standing linked) started frame
+        ≡ start_rule_of E.of_rule once (map signature_of below.now) (standing linked) started frame
         (listed (take count (first ∷ second ∷ [])) effect) }
 {
     let Some(word) = below.get(usize::from(started)) else {
@@ -136,17 +136,17 @@ fn start_typed(
 /// them is private; never while unlinked.
 // `once` stays a flag: it is the rule's own parameter, since 13 and 14 differ in it alone
 // (`start_rule` of specs/Inner/Checking), and no step is chosen by it.
-#[tactic(auto, unfolding(crate::specs::Inner::Checking::start_rule))]
-pub fn start_rule(
+#[tactic(auto, unfolding(crate::specs::Inner::Checking::start_rule_of))]
+pub fn start_rule<E: Fault>(
     once: bool,
     below: &[u64],
     linked: bool,
     started: u8,
     frame: u16,
-    arguments: Result<Arguments, Refusal>,
-) -> StatementEffect
+    arguments: Result<Arguments, E>,
+) -> StatementEffect<E>
     ensures { result
-        ≡ start_rule once (map signature_of below.now) (standing linked) started frame
+        ≡ start_rule_of E.of_rule once (map signature_of below.now) (standing linked) started frame
         (argued_of arguments) }
 {
     match arguments? {

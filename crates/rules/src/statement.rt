@@ -1,14 +1,16 @@
 //! One function for each rule of statements: what a node is found to be, from what its children
-//! were found to be. In each, `frame` is the node's, and a child's fault comes before its own.
+//! were found to be. In each, `frame` is the node's, and a child's fault is handed on as it is,
+//! before its own.
 ghost use Rattle.std.specs.Prelude.{◌≡◌};
 ghost use Rattle.language.specs.Effects.{no_effect, with_event};
 ghost use Rattle.language.specs.Inner.Labels.{within_in};
-ghost use Rattle.rules.specs.Inner.Checking.{cooperate_rule, seq_rule, do_rule, join_rule};
-ghost use Rattle.rules.specs.Inner.Checking.{store_rule, if_else_rule, while_rule, signal_rule};
+ghost use Rattle.rules.specs.Inner.Checking.{cooperate_rule, seq_rule, do_rule_of, join_rule};
+ghost use Rattle.rules.specs.Inner.Checking.{store_rule_of, if_else_rule_of, while_rule_of};
+ghost use Rattle.rules.specs.Inner.Checking.{signal_rule};
 ghost use Rattle.rules.specs.Inner.Standings.{standing};
 
 use crate::expression::with_owner_of;
-use crate::finding::{Ending, StatementEffect, Typing, refused};
+use crate::finding::{Ending, Fault, StatementEffect, Typing, refused};
 use language::Place;
 use language::effect::Effect;
 use language::group::Labels;
@@ -31,7 +33,7 @@ pub fn cooperate_rule(linked: bool, frame: u16) -> StatementEffect
 
 /// 11
 #[tactic(auto, unfolding(crate::specs::Inner::Checking::seq_rule))]
-pub fn seq_rule(x: StatementEffect, y: StatementEffect) -> StatementEffect
+pub fn seq_rule<E: Drop>(x: StatementEffect<E>, y: StatementEffect<E>) -> StatementEffect<E>
     ensures { result ≡ seq_rule x y }
 {
     let x = x?;
@@ -44,16 +46,16 @@ pub fn seq_rule(x: StatementEffect, y: StatementEffect) -> StatementEffect
 
 /// 12: a wrong effect where the place does not allow the body's; at a private place never while
 /// unlinked.
-#[tactic(auto, unfolding(crate::specs::Inner::Checking::do_rule))]
-pub fn do_rule(
+#[tactic(auto, unfolding(crate::specs::Inner::Checking::do_rule_of))]
+pub fn do_rule<E: Fault>(
     labels: &Labels,
     linked: bool,
     place: Place,
     frame: u16,
-    x: StatementEffect,
-) -> StatementEffect
+    x: StatementEffect<E>,
+) -> StatementEffect<E>
     ensures { result
-        ≡ do_rule (within_in labels.now) (standing linked) place.number frame x }
+        ≡ do_rule_of E.of_rule (within_in labels.now) (standing linked) place.number frame x }
 {
     let x = x?;
     if !x.effect.within(labels, place) {
@@ -70,7 +72,7 @@ pub fn do_rule(
 
 /// 16: the effect of what the variable is, joined to the body's.
 #[tactic(auto, unfolding(crate::specs::Inner::Checking::join_rule))]
-pub fn join_rule(effect: Effect, x: StatementEffect) -> StatementEffect
+pub fn join_rule<E>(effect: Effect, x: StatementEffect<E>) -> StatementEffect<E>
     ensures { result ≡ join_rule effect x }
 {
     let x = x?;
@@ -81,9 +83,9 @@ pub fn join_rule(effect: Effect, x: StatementEffect) -> StatementEffect
 }
 
 /// 17: ill typed but for a cell and what has the type of its content.
-#[tactic(auto, unfolding(crate::specs::Inner::Checking::store_rule))]
-pub fn store_rule(frame: u16, x: Typing, y: Typing) -> StatementEffect
-    ensures { result ≡ store_rule frame x y }
+#[tactic(auto, unfolding(crate::specs::Inner::Checking::store_rule_of))]
+pub fn store_rule<E: Fault>(frame: u16, x: Typing<E>, y: Typing<E>) -> StatementEffect<E>
+    ensures { result ≡ store_rule_of E.of_rule frame x y }
 {
     let x = x?;
     let y = y?;
@@ -97,14 +99,14 @@ pub fn store_rule(frame: u16, x: Typing, y: Typing) -> StatementEffect
 }
 
 /// 18: ill typed where the condition is no truth.
-#[tactic(auto, unfolding(crate::specs::Inner::Checking::if_else_rule))]
-pub fn if_else_rule(
+#[tactic(auto, unfolding(crate::specs::Inner::Checking::if_else_rule_of))]
+pub fn if_else_rule<E: Fault>(
     frame: u16,
-    x: Typing,
-    y: StatementEffect,
-    z: StatementEffect,
-) -> StatementEffect
-    ensures { result ≡ if_else_rule frame x y z }
+    x: Typing<E>,
+    y: StatementEffect<E>,
+    z: StatementEffect<E>,
+) -> StatementEffect<E>
+    ensures { result ≡ if_else_rule_of E.of_rule frame x y z }
 {
     let x = x?;
     let y = y?;
@@ -119,9 +121,9 @@ pub fn if_else_rule(
 }
 
 /// 19: ill typed where the condition is no truth; an instant loop where the body can end at once.
-#[tactic(auto, unfolding(crate::specs::Inner::Checking::while_rule))]
-pub fn while_rule(frame: u16, x: Typing, y: StatementEffect) -> StatementEffect
-    ensures { result ≡ while_rule frame x y }
+#[tactic(auto, unfolding(crate::specs::Inner::Checking::while_rule_of))]
+pub fn while_rule<E: Fault>(frame: u16, x: Typing<E>, y: StatementEffect<E>) -> StatementEffect<E>
+    ensures { result ≡ while_rule_of E.of_rule frame x y }
 {
     let x = x?;
     let y = y?;

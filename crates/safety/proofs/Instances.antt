@@ -30,9 +30,10 @@ use Rattle.layout.specs.Order.{has_child}
 use Rattle.layout.specs.Inner.Scans.{row_first, first_disorder, highest_rank, is_misplaced, is_leftover}
 use Rattle.layout.specs.Inner.Scans.{first_leftover, no_main, order_fault, lowest_child, deep_to, first_deep}
 use Rattle.layout.specs.Inner.Scans.{depth_fault, layout_of}
-use Rattle.rules.specs.Inner.Checking.{named_rule, new_rule, content_rule, numbers_rule, choose_rule}
-use Rattle.rules.specs.Inner.Checking.{type_in, argue, types_in, start_rule, cooperate_rule, seq_rule}
-use Rattle.rules.specs.Inner.Checking.{do_rule, join_rule, store_rule, if_else_rule, while_rule, effect_in}
+use Rattle.rules.specs.Inner.Checking.{named_rule, new_rule_of, content_rule_of, numbers_rule_of}
+use Rattle.rules.specs.Inner.Checking.{choose_rule_of, type_in, argue, types_in, start_rule_of}
+use Rattle.rules.specs.Inner.Checking.{cooperate_rule, seq_rule, do_rule_of, join_rule}
+use Rattle.rules.specs.Inner.Checking.{store_rule_of, if_else_rule_of, while_rule_of, effect_in}
 use Rattle.rules.specs.Inner.Checking.{signal_rule, modules_in, rules_of}
 use Rattle.checker.specs.Verdict.{HasVerdict, verdict}
 use Rattle.checker.proofs.Whole.{verdict_computes}
@@ -71,7 +72,7 @@ link_text = bytes "0001000000020001\n0303000000000000\n0403000200000000\n1A00000
 
 -- by computing the definition of the check on these texts
 computed : map verdict (text ∷ event_text ∷ link_text ∷ []) ≡ Accepted ∷ Accepted ∷ Accepted ∷ []
-unfolding text event_text link_text bytes verdict reading first_wrong right_at digit text_frames words_of line_word hexadecimal frame_of_word kind_of children when◌then◌else◌ any every same_numbers lowest earlier type_word owner_digit cell_depth cell_type owner_of content_of public content_word with_member set_within label set_from group_of within standing_at expression_to expression_at statement_to statement_at shared_of events_of links_of modules_from allowance_of program_of header_fine first_content_fine count_of frame_fine has_child header_fault field_fault row_first first_disorder highest_rank is_misplaced is_leftover first_leftover no_main order_fault lowest_child deep_to first_deep depth_fault layout_of named_rule new_rule content_rule numbers_rule choose_rule type_in argue types_in start_rule cooperate_rule seq_rule do_rule join_rule store_rule if_else_rule while_rule signal_rule effect_in modules_in rules_of
+unfolding text event_text link_text bytes verdict reading first_wrong right_at digit text_frames words_of line_word hexadecimal frame_of_word kind_of children when◌then◌else◌ any every same_numbers lowest earlier type_word owner_digit cell_depth cell_type owner_of content_of public content_word with_member set_within label set_from group_of within standing_at expression_to expression_at statement_to statement_at shared_of events_of links_of modules_from allowance_of program_of header_fine first_content_fine count_of frame_fine has_child header_fault field_fault row_first first_disorder highest_rank is_misplaced is_leftover first_leftover no_main order_fault lowest_child deep_to first_deep depth_fault layout_of named_rule new_rule_of content_rule_of numbers_rule_of choose_rule_of type_in argue types_in start_rule_of cooperate_rule seq_rule do_rule_of join_rule store_rule_of if_else_rule_of while_rule_of signal_rule effect_in modules_in rules_of
 computed = refl
 
 accepted : (bs : List ℕ) → verdict bs ≡ Accepted → HasVerdict bs Accepted

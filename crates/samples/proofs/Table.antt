@@ -27,9 +27,10 @@ use Rattle.layout.specs.Order.{has_child}
 use Rattle.layout.specs.Inner.Scans.{row_first, first_disorder, highest_rank, is_misplaced, is_leftover}
 use Rattle.layout.specs.Inner.Scans.{first_leftover, no_main, order_fault, lowest_child, deep_to, first_deep}
 use Rattle.layout.specs.Inner.Scans.{depth_fault, layout_of}
-use Rattle.rules.specs.Inner.Checking.{named_rule, new_rule, content_rule, numbers_rule, choose_rule}
-use Rattle.rules.specs.Inner.Checking.{type_in, argue, types_in, start_rule, cooperate_rule, seq_rule}
-use Rattle.rules.specs.Inner.Checking.{do_rule, join_rule, store_rule, if_else_rule, while_rule, effect_in}
+use Rattle.rules.specs.Inner.Checking.{named_rule, new_rule_of, content_rule_of, numbers_rule_of}
+use Rattle.rules.specs.Inner.Checking.{choose_rule_of, type_in, argue, types_in, start_rule_of}
+use Rattle.rules.specs.Inner.Checking.{cooperate_rule, seq_rule, do_rule_of, join_rule}
+use Rattle.rules.specs.Inner.Checking.{store_rule_of, if_else_rule_of, while_rule_of, effect_in}
 use Rattle.rules.specs.Inner.Checking.{modules_in, rules_of}
 use Rattle.checker.specs.Verdict.{HasVerdict, verdict}
 use Rattle.checker.proofs.Whole.{verdict_computes}
@@ -60,7 +61,7 @@ said x = record { verdict_of = x.verdict; answers_of = x.answers }
 
 -- the whole table, computed at once
 pub table : map computed samples ≡ map said samples
-unfolding bytes when◌then◌else◌ any every same_numbers lowest earlier standing_at cell_depth cell_type owner_of content_of public owner_digit type_word content_word label with_member set_within set_from group_of within kind_of children digit hexadecimal line_word frame_of_word words_of text_frames right_at first_wrong reading expression_to expression_at statement_to statement_at shared_of events_of links_of modules_from allowance_of program_of header_fine first_content_fine count_of frame_fine has_child header_fault field_fault row_first first_disorder highest_rank is_misplaced is_leftover first_leftover no_main order_fault lowest_child deep_to first_deep depth_fault layout_of named_rule new_rule content_rule numbers_rule choose_rule type_in argue types_in start_rule cooperate_rule seq_rule do_rule join_rule store_rule if_else_rule while_rule effect_in modules_in rules_of verdict first_content enlist fresh is_ready threads_where entries_except is_scheduler_of leave fits stay ends step_nothing step_thread_within schedulers_where without_events_of end_on end_on_each end_instant is_unlinked step_within each_from
+unfolding bytes when◌then◌else◌ any every same_numbers lowest earlier standing_at cell_depth cell_type owner_of content_of public owner_digit type_word content_word label with_member set_within set_from group_of within kind_of children digit hexadecimal line_word frame_of_word words_of text_frames right_at first_wrong reading expression_to expression_at statement_to statement_at shared_of events_of links_of modules_from allowance_of program_of header_fine first_content_fine count_of frame_fine has_child header_fault field_fault row_first first_disorder highest_rank is_misplaced is_leftover first_leftover no_main order_fault lowest_child deep_to first_deep depth_fault layout_of named_rule new_rule_of content_rule_of numbers_rule_of choose_rule_of type_in argue types_in start_rule_of cooperate_rule seq_rule do_rule_of join_rule store_rule_of if_else_rule_of while_rule_of effect_in modules_in rules_of verdict first_content enlist fresh is_ready threads_where entries_except is_scheduler_of leave fits stay ends step_nothing step_thread_within schedulers_where without_events_of end_on end_on_each end_instant is_unlinked step_within each_from
 table = refl
 
 -- ---- each row: the verdict is the one that the rules give, and the answers are those of the steps

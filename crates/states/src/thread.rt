@@ -52,12 +52,15 @@ impl ThreadWords {
     }
 }
 
-// Of the items or of the variables: they have the same space.
+// Of the items or of the variables: they have the same space. A loop and no `copy_from_slice`, of
+// which clang makes a call of memmove: a loader in a boot ROM has none.
 fn store_run(state: &mut State, at: usize, run: &[u64; MOST_ITEMS])
     requires { at + most_items ≤ state_length }
     ensures { state.new ≡ pasted state.old at run.now most_items }
 {
-    state[at..at + MOST_ITEMS].copy_from_slice(run);
+    for k in 0..MOST_ITEMS {
+        state[at + k] = run[k];
+    }
 }
 
 fn store_thread(state: &mut State, k: usize, th: &ThreadWords)

@@ -1,13 +1,12 @@
 -- The answers of the public calls: the layout's refusal of the text, else what the call on the
 -- text's frames gives. Assumes nothing.
-use Prim.Native.Nat.{ℕ, zero, suc, ◌≤◌}
-use native.Mathlib.Omega.{arith}
+use Prim.Native.Nat.{ℕ}
 use mathlib.Core.Path.{◌≡◌, refl, sym, ap, ◌∙◌}
 use mathlib.Core.List.{List}
 use mathlib.Core.Bool.{Bool, true, false, not}
 use lib.Dec.{eqb}
 use lib.ListN.{length, take}
-use borrow.Author.Tests.{not-true, not-false, eqb-true, eqb-false}
+use borrow.Author.Tests.{not-true, not-false, eqb-true}
 use Rattle.basics.proofs.Ifs.{if_all, yes, no}
 use Rattle.language.specs.declared.frame.Frame.{Frame}
 use Rattle.text.specs.Frames.{frames_of}
@@ -20,40 +19,40 @@ use Rattle.layout.proofs.AfterLayout.{text_refused, text_passed}
 use Rattle.checker.proofs.CheckLaws.{check_file}
 use Rattle.machine.specs.Fresh.{fresh}
 use Rattle.machine.specs.Words.{pack}
-use Rattle.machine.specs.Inner.Ranges.{in_range, all_below}
-use Rattle.machine.proofs.Ranges.{below_each}
+use Rattle.machine.specs.Inner.Ranges.{in_range}
 use Rattle.machine.specs.Calls.{CallResult, fresh_call, step_call}
 use Rattle.machine.proofs.Calls.{called_out}
-use Rattle.machine.proofs.Numbers.{StepNumber, is_0, is_15, is_16, is_17, is_18, is_19, is_20}
 use Rattle.states.proofs.FreshWords.{call_wrong, call_fresh}
 use Rattle.language.specs.declared.refusal.Rule.{Rule}
 use Rattle.stepper.specs.declared.file.File.{File}
 use Rattle.stepper.specs.declared.party.StepAnswer.{StepAnswer}
-use Rattle.stepper.specs.Answers.{Answer, rule_of, done, refused, rejected, answer_number}
-use Rattle.stepper.specs.Answers.{answer_thread, answer_to, text_result, as_text_result, on_text}
-use Rattle.stepper.specs.Answers.{fresh_text, step_text}
+use Rattle.stepper.specs.Answers.{Answer, NumberedAnswer, said, done, refused, rejected}
+use Rattle.stepper.specs.Answers.{answer_number, answer_thread, answer_to, TextResult, text_result}
+use Rattle.stepper.specs.Answers.{as_text_result, on_text, fresh_text, step_text}
 use Rattle.stepper.specs.Inner.Files.{FileWords, StepWords, step_number, file_of, stepped_on}
-use Rattle.stepper.proofs.RuleLaws.{rule_back, rule_counts}
+use Rattle.stepper.proofs.RuleLaws.{rule_counts}
 use Rattle.language.specs.Refusals.{rule_number}
 
 -- ---- one answer
+abbrev numbered_result : NumberedAnswer → List ℕ → TextResult
+numbered_result a w = record { answer = a; words = w }
 
 -- what a step's answer comes to
-pub answered_done : (t k : ℕ) → done t k ≡ answer_to 0 t k
+pub answered_done : (t k : ℕ) → said (done t k) ≡ answer_to 0 t k
 unfolding answer_to
 answered_done t k = yes _ refl refl
 
-pub answered_refused : (r : Rule) (t k : ℕ) → refused r t ≡ answer_to (rule_number r) t k
+pub answered_refused : (r : Rule) (t k : ℕ) → said (refused r t) ≡ answer_to (rule_number r) t k
 unfolding answer_to
-answered_refused r t k = no _ (rule_counts r) (ap (λ (x : Rule). refused x t) (sym (rule_back r)))
+answered_refused r t k = no _ (rule_counts r) refl
 
 module _ (s : Option Rule) (t k : ℕ) where
-  pub answered_none : s ≡ None → done t k ≡ answer_to (step_number s) t k
+  pub answered_none : s ≡ None → said (done t k) ≡ answer_to (step_number s) t k
   answered_none e =
       answered_done t k
       ∙ ap (λ (x : Option Rule). answer_to (step_number x) t k) (sym e)
 
-  pub answered_some : (r : Rule) → s ≡ Some r → refused r t ≡ answer_to (step_number s) t k
+  pub answered_some : (r : Rule) → s ≡ Some r → said (refused r t) ≡ answer_to (step_number s) t k
   answered_some r e =
       answered_refused r t k
       ∙ ap (λ (x : Option Rule). answer_to (step_number x) t k) (sym e)
@@ -61,44 +60,22 @@ module _ (s : Option Rule) (t k : ℕ) where
 pub ruleset answered_laws = (answered_none, answered_some)
 
 module _ (n t k : ℕ) where
-  -- the type says the acting thread
+  -- the answer says 01's number, and the acting thread
+  pub number_back : answer_number (answer_to n t k) ≡ n
+  unfolding answer_to
+  number_back =
+      if_all (λ (a : NumberedAnswer). answer_number a ≡ n) (eqb n 0) _ _ (λ e. sym (eqb-true n 0 e))
+      (λ _. refl)
+
   pub thread_back : answer_thread (answer_to n t k) ≡ t
   unfolding answer_to
-  thread_back = if_all (λ (a : Answer). answer_thread a ≡ t) (eqb n 0) _ _ (λ _. refl) (λ _. refl)
+  thread_back =
+      if_all (λ (a : NumberedAnswer). answer_thread a ≡ t) (eqb n 0) _ _ (λ _. refl) (λ _. refl)
 
--- and 01's number, 0 or a rule's
-is_known : ℕ → Bool
-is_known k = eqb (rule_number (rule_of (suc k))) (suc k)
-
-all_known : all_below 21 is_known ≡ true
-unfolding all_below is_known rule_of
-all_known = refl
-
-rule_known : (n : ℕ) → n ≤ 21 → (n ≡ 0 → ⊥) → rule_number (rule_of n) ≡ n
-unfolding is_known
-rule_known zero h z = absurd (z refl)
-rule_known (suc k) h z = eqb-true _ _ (below_each 21 is_known all_known k (omega arith))
-
-pub number_back : (n t k : ℕ) → n ≤ 21 → answer_number (answer_to n t k) ≡ n
-unfolding answer_to
-number_back n t k h =
-    if_all (λ (a : Answer). answer_number a ≡ n) (eqb n 0) (done t k) (refused (rule_of n) t)
-    (λ e. sym (eqb-true n 0 e)) (λ e. rule_known n h (eqb-false n 0 e))
-
--- that of a step is one
-pub numbered_back : {n : ℕ} → StepNumber n → (t k : ℕ) → answer_number (answer_to n t k) ≡ n
-numbered_back is_0 t k = number_back 0 t k (omega arith)
-numbered_back is_15 t k = number_back 15 t k (omega arith)
-numbered_back is_16 t k = number_back 16 t k (omega arith)
-numbered_back is_17 t k = number_back 17 t k (omega arith)
-numbered_back is_18 t k = number_back 18 t k (omega arith)
-numbered_back is_19 t k = number_back 19 t k (omega arith)
-numbered_back is_20 t k = number_back 20 t k (omega arith)
-
-pub refused_14 : refused Rule.WrongState 0 ≡ answer_to 14 0 0
+pub refused_14 : said (refused Rule.WrongState 0) ≡ answer_to 14 0 0
 refused_14 = answered_refused Rule.WrongState 0 0
 
-pub done_0 : done 0 0 ≡ answer_to 0 0 0
+pub done_0 : said (done 0 0) ≡ answer_to 0 0 0
 done_0 = answered_done 0 0
 
 -- ---- a step on frames: 14, or the step on words in range
@@ -110,7 +87,7 @@ module _ (frames w : List ℕ) (file : File) (e : file ≡ file_of (program_of (
   pub step_out : (x : Bool) (c : ℕ) → x ≡ in_range (frames_of frames) file.schedulers.count w
       → not x ≡ true → text_result (refused Rule.WrongState 0) w ≡ as_text_result (step_call (frames_of frames) w c)
   step_out x c q h =
-      ap (λ (a : Answer). text_result a w) refused_14
+      ap (λ (a : NumberedAnswer). numbered_result a w) refused_14
       ∙ sym (ap as_text_result (called_out (frames_of frames) w c (sym (range_of x q) ∙ not-true x h)))
 
   pub step_words : (x : Bool) → x ≡ in_range (frames_of frames) file.schedulers.count w → not x ≡ false
@@ -118,8 +95,8 @@ module _ (frames w : List ℕ) (file : File) (e : file ≡ file_of (program_of (
   step_words x q h g = record { file = g; count = ap (λ (f : File). f.shared) e; range = sym (range_of x q) ∙ not-false x h }
 
 pub step_in : (s : StepAnswer) (r : Answer) (v : List ℕ) (k : CallResult) → stepped_on s v ≡ k
-    → r ≡ answer_to (step_number s.refusal) s.thread s.accesses → text_result r v ≡ as_text_result k
-step_in s r v k e h = ap (λ (a : Answer). text_result a v) h ∙ ap as_text_result e
+    → said r ≡ answer_to (step_number s.refusal) s.thread s.accesses → text_result r v ≡ as_text_result k
+step_in s r v k e h = ap (λ (a : NumberedAnswer). numbered_result a v) h ∙ ap as_text_result e
 
 -- ---- a text: a rejected one gives that refusal whatever the call (`text_refused`), one that is
 -- laid out what the call gives (`by_call`)
@@ -148,14 +125,14 @@ module _ (bs : List ℕ) (l : Laid) (ws : List ℕ) (e : laid_as l ws ≡ laid_w
         → text_result (refused Rule.WrongState 0) w ≡ fresh_text bs w
     unfolding fresh_text
     fresh_wrong w f =
-        ap (λ (x : Answer). text_result x w) refused_14
+        ap (λ (a : NumberedAnswer). numbered_result a w) refused_14
         ∙ ap as_text_result (call_wrong (take n ws) w f) ∙ by_call (λ fs. fresh_call fs w) w
 
     pub fresh_done : (w u : List ℕ) → u ≡ pack (fresh (program_of (frames_of (take n ws))))
         → length w ≡ 4834 → text_result (done 0 0) u ≡ fresh_text bs w
     unfolding fresh_text
     fresh_done w u z k =
-        ap (λ (x : Answer). text_result x u) done_0
+        ap (λ (a : NumberedAnswer). numbered_result a u) done_0
         ∙ ap as_text_result (call_fresh (take n ws) w u k z) ∙ by_call (λ fs. fresh_call fs w) w
 
     pub step_done : (w u : List ℕ) (c : ℕ) (r : Answer)

@@ -1,5 +1,5 @@
 -- What the calls of the stepper give on any text, any words and any choice.
-use Rattle.std.specs.Prelude.{◌&&◌, ◌+◌, ◌*◌, ◌^◌, ◌==◌, Result, Ok, Err, if◌then◌else◌}
+use Rattle.std.specs.Prelude.{◌&&◌, ◌+◌, ◌*◌, ◌^◌, Result, Ok, Err}
 use Rattle.basics.specs.Prelude.{List, map, ℕ, eqb, length, when◌then◌else◌}
 use Rattle.text.specs.Inner.Reading.{reading}
 use Rattle.layout.specs.LaidOut.{after_reading}
@@ -29,67 +29,55 @@ rejected r j = Err (Text (refusal r j))
 abbrev pub refused : Rule → ℕ → Answer
 refused r t = Err (Call r t)
 
+-- the same in 01's numbers: done, by that thread, with so many accesses; the text is refused, with
+-- that number, at that frame; the call is, with that number and that acting thread
+pub data NumberedAnswer : Type 0 where
+  done_by : ℕ → ℕ → NumberedAnswer
+  rejected_with : ℕ → ℕ → NumberedAnswer
+  refused_with : ℕ → ℕ → NumberedAnswer
+
+-- what an answer says: no two say the same (proofs/RuleLaws, `said_apart`)
+abbrev pub said : Answer → NumberedAnswer
+said (Ok d) = NumberedAnswer.done_by d.thread d.accesses
+said (Err (Text r)) = NumberedAnswer.rejected_with (rule_number r.rule) r.frame
+said (Err (Call r t)) = NumberedAnswer.refused_with (rule_number r) t
+
 -- 01's number of an answer, 0 where it is done; the frame that it names; the acting thread, 0: none
-abbrev pub answer_number : Answer → ℕ
-answer_number (Ok d) = 0
-answer_number (Err (Text r)) = rule_number r.rule
-answer_number (Err (Call r t)) = rule_number r
+abbrev pub answer_number : NumberedAnswer → ℕ
+answer_number (NumberedAnswer.done_by t k) = 0
+answer_number (NumberedAnswer.rejected_with n j) = n
+answer_number (NumberedAnswer.refused_with n t) = n
 
-abbrev pub answer_frame : Answer → ℕ
-answer_frame (Ok d) = 0
-answer_frame (Err (Text r)) = r.frame
-answer_frame (Err (Call r t)) = 0
+abbrev pub answer_frame : NumberedAnswer → ℕ
+answer_frame (NumberedAnswer.done_by t k) = 0
+answer_frame (NumberedAnswer.rejected_with n j) = j
+answer_frame (NumberedAnswer.refused_with n t) = 0
 
-abbrev pub answer_thread : Answer → ℕ
-answer_thread (Ok d) = d.thread
-answer_thread (Err (Text r)) = 0
-answer_thread (Err (Call r t)) = t
+abbrev pub answer_thread : NumberedAnswer → ℕ
+answer_thread (NumberedAnswer.done_by t k) = t
+answer_thread (NumberedAnswer.rejected_with n j) = 0
+answer_thread (NumberedAnswer.refused_with n t) = t
 
 -- how many cells it read, stored in and made
-abbrev pub answer_accesses : Answer → ℕ
-answer_accesses (Ok d) = d.accesses
-answer_accesses (Err (Text r)) = 0
-answer_accesses (Err (Call r t)) = 0
-
--- the rule of a number, 1 to 21: `rule_number` read backwards (proofs/RuleLaws, `rule_back`)
-unfoldable pub rule_of : ℕ → Rule
-rule_of n =
-    if n == 1 then R.EmptyText else
-    if n == 2 then R.LongText else
-    if n == 3 then R.MalformedText else
-    if n == 4 then R.WrongHeader else
-    if n == 5 then R.WrongField else
-    if n == 6 then R.WrongOrder else
-    if n == 7 then R.TooDeep else
-    if n == 8 then R.Unbound else
-    if n == 9 then R.IllTyped else
-    if n == 10 then R.Escaping else
-    if n == 11 then R.WrongEffect else
-    if n == 12 then R.WhileUnlinked else
-    if n == 13 then R.InstantLoop else
-    if n == 14 then R.WrongState else
-    if n == 15 then R.NoParty else
-    if n == 16 then R.NothingReady else
-    if n == 17 then R.CellsSpent else
-    if n == 18 then R.ThreadsSpent else
-    if n == 19 then R.Foreign else
-    if n == 20 then R.Stuck else
-    R.WrongTree
+abbrev pub answer_accesses : NumberedAnswer → ℕ
+answer_accesses (NumberedAnswer.done_by t k) = k
+answer_accesses (NumberedAnswer.rejected_with n j) = 0
+answer_accesses (NumberedAnswer.refused_with n t) = 0
 
 -- the answer with that number, that acting thread and so many accesses; a refusal has none
-unfoldable pub answer_to : ℕ → ℕ → ℕ → Answer
-answer_to n t k = when eqb n 0 then done t k else refused (rule_of n) t
+unfoldable pub answer_to : ℕ → ℕ → ℕ → NumberedAnswer
+answer_to n t k = when eqb n 0 then NumberedAnswer.done_by t k else NumberedAnswer.refused_with n t
 
 -- a call's answer, and all lent words after it
 pub record TextResult : Type 0 where
-  pub answer : Answer
+  pub answer : NumberedAnswer
   pub words : List ℕ
 
 abbrev pub text_result : Answer → List ℕ → TextResult
-text_result a w = record { answer = a; words = w }
+text_result a w = record { answer = said a; words = w }
 
 abbrev pub as_text_result : CallResult → TextResult
-as_text_result r = text_result (answer_to r.answer r.thread r.accesses) r.words
+as_text_result r = record { answer = answer_to r.answer r.thread r.accesses; words = r.words }
 
 -- 'after 1 to 7, in number order': the text's refusal, which changes no buffer; else what the call
 -- gives on its frames
@@ -118,12 +106,12 @@ answer_word r = step_code r.answer r.thread r.accesses
 
 -- the answer to the whole call, the state's words after it, and an answer to each choice
 pub record BatchResult : Type 0 where
-  pub answer : Answer
+  pub answer : NumberedAnswer
   pub words : List ℕ
   pub answers : List ℕ
 
 abbrev pub batch_result : Answer → List ℕ → List ℕ → BatchResult
-batch_result a w out = record { answer = a; words = w; answers = out }
+batch_result a w out = record { answer = said a; words = w; answers = out }
 
 -- 14 where the words are no state of the file, or where there are not as many answers as choices:
 -- 'a lent buffer of the wrong length' ('No buffer changes.'); else every choice is stepped, and

@@ -1,7 +1,7 @@
 //! What the calls of the stepper answer.
 ghost use Rattle.std.specs.Prelude.{◌≡◌};
 ghost use Rattle.stepper.specs.declared.answer.CallRefusal.TheVariants.{Text};
-ghost use Rattle.stepper.specs.Answers.{answer_to};
+ghost use Rattle.stepper.specs.Answers.{answer_to, said};
 ghost use Rattle.stepper.specs.Inner.Files.{step_number};
 
 use crate::party::StepAnswer;
@@ -58,7 +58,7 @@ pub type Answer = Result<Done, CallRefusal>;
 /// A step's answer as the call's: a refusal tells no accesses.
 #[tactic(auto, using(crate::proofs::AnswerLaws::answered_laws))]
 pub(crate) fn answer_of(s: StepAnswer) -> Answer
-    ensures { result ≡ answer_to (step_number s.refusal) s.thread s.accesses }
+    ensures { said result ≡ answer_to (step_number s.refusal) s.thread s.accesses }
 {
     match s.refusal {
         None => Ok(Done {

@@ -249,6 +249,24 @@ abbrev pub turn_committed_in : Program → Schedulers → List ℕ → ℕ → �
 turn_committed_in p g w before c t turn =
     let a = turn_result_in w t turn in committed_in p g w before c t a a.transition
 
+-- ---- a turn whose refusal has any number. Where it is a rule with its number, these are
+-- `change_of`, `obstacle_number` and `turn_committed_in` (proofs/CommitLaws, `any_turn_is`)
+
+-- what it changes
+abbrev pub any_change : {E : Type 0} → Result Action E → Change
+any_change (Ok a) = a.change
+any_change (Err r) = Same
+
+-- what the answer is, 0 where nothing is refused
+abbrev pub number_refused : {E : Type 0} → (E → ℕ) → Result (Unit {0}) E → ℕ
+number_refused number (Ok _) = 0
+number_refused number (Err r) = number r
+
+abbrev pub any_turn_committed : {E : Type 0} → (E → ℕ) → Program → Schedulers → List ℕ → ℕ → ℕ → ℕ
+    → Result Action E → Committed
+any_turn_committed number p g w before c t (Ok a) = turn_committed_in p g w before c t (Ok a)
+any_turn_committed number p g w before c t (Err r) = committed (number r) t (cleared_in w before)
+
 -- ---- the commit as the code makes it: decided on the words before it, then on the settled words
 -- the lists follow. It is `committed_in` (proofs/CommitLaws, `decided_is`).
 
@@ -378,13 +396,17 @@ Follows g w (Join q) = is_scheduler q.number ≡ true
 Follows g w (Start waits q body args) = StartWords w q
 Follows g w (Wake q e) = WakeWords g w q e
 
-pub record CommitWords (p : Program) (g : Schedulers) (w : List ℕ) (t : ℕ) (turn : TurnAnswer)
+-- words on which the turn of thread t may be committed with that change
+pub record ChangeWords (p : Program) (g : Schedulers) (w : List ℕ) (t : ℕ) (c : Change)
     : Type 0 where
   pub first : 1 ≤ t
   pub last : t ≤ most_threads
   pub cells : count_in w ≤ most_cells
-  pub settle : SettleWords w (t - 1) (change_of turn)
+  pub settle : SettleWords w (t - 1) c
   -- a file that passes refusals 1 to 7 has no more events, and words that pass 14 such lists
   pub events : length p.events ≤ most_events
   pub lists : ListsFit w
   pub few : g.count ≤ most_schedulers
+
+abbrev pub CommitWords : Program → Schedulers → List ℕ → ℕ → TurnAnswer → Type 0
+CommitWords p g w t turn = ChangeWords p g w t (change_of turn)

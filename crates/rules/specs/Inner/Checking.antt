@@ -12,17 +12,24 @@ use Rattle.language.specs.Types.{content_of, room_around, public}
 use Rattle.language.specs.Effects.{no_effect, ◌∪◌, with_owner, with_event, within}
 use Rattle.language.specs.declared.effect.Effect.{Effect}
 use Rattle.language.specs.declared.refusal.Refusal.{Refusal}
+use Rattle.language.specs.declared.refusal.Rule.{Rule}
 use Rattle.language.specs.declared.refusal.Rule.TheVariants.{Unbound, IllTyped, Escaping}
 use Rattle.language.specs.declared.refusal.Rule.TheVariants.{WrongEffect, WhileUnlinked}
 use Rattle.language.specs.declared.refusal.Rule.TheVariants.{InstantLoop}
 use Rattle.language.specs.Verdicts.{Verdict}
-use Rattle.language.specs.Verdicts.{Accepted, Rejected}
+use Rattle.language.specs.Verdicts.{Accepted, Rejected, refusal}
 use Rattle.program.specs.Trees.{Expr, number, truth, variable, shared, new, content}
 use Rattle.program.specs.Trees.{sum, less, choose, Stmt, nothing, cooperate, seq, do_at}
 use Rattle.program.specs.Trees.{start, start_wait, let_in, store, if_else, while, generate, await}
 use Rattle.program.specs.Programs.{Part, Program}
 use Rattle.rules.specs.Rules.{Setting, setting_of, Signature, signature_at, signature}
 use Rattle.rules.specs.Inner.Findings.{Typing, StatementEffect, typed, ending, fault}
+use Rattle.rules.specs.Inner.Findings.{fault_of}
+use Rattle.rules.specs.declared.finding.Typed.{Typed}
+use Rattle.rules.specs.declared.finding.Ending.{Ending}
+
+-- A rule hands on a child's fault as it is, of whatever type E. In the rules named `_of`, `made`
+-- says which fault it is that a frame breaks a rule; the check takes each with the refusals.
 
 -- ---- expressions. In each rule i is the frame; at one frame the smallest number comes first
 
@@ -32,40 +39,54 @@ named_rule ts s i =
     if nat_lt s (length ts) then typed (get_or ts s 0) no_effect else fault Unbound i
 
 -- 24
-unfoldable pub new_rule : ℕ → ℕ → Typing → Typing
-new_rule s i (Ok x) =
-    if not (room_around x.type_word) then fault IllTyped i else
+unfoldable pub new_rule_of : {E : Type 0} → (Rule → ℕ → E) → ℕ → ℕ → Result Typed E → Result Typed E
+new_rule_of made s i (Ok x) =
+    if not (room_around x.type_word) then fault_of made IllTyped i else
     (if s == private then typed (cell_type s x.type_word) x.effect else
-    (if not (public x.type_word) then fault Escaping i else
+    (if not (public x.type_word) then fault_of made Escaping i else
     typed (cell_type s x.type_word) (with_owner s x.effect)))
-new_rule s i (Err r) = Err r
+new_rule_of made s i (Err r) = Err r
+
+abbrev pub new_rule : ℕ → ℕ → Typing → Typing
+new_rule = new_rule_of refusal
 
 -- 25
-unfoldable pub content_rule : ℕ → Typing → Typing
-content_rule i (Ok x) =
+unfoldable pub content_rule_of : {E : Type 0} → (Rule → ℕ → E) → ℕ → Result Typed E → Result Typed E
+content_rule_of made i (Ok x) =
     if is_cell x.type_word
     then typed (content_of x.type_word) (with_owner (owner_of x.type_word) x.effect) else
-    fault IllTyped i
-content_rule i (Err r) = Err r
+    fault_of made IllTyped i
+content_rule_of made i (Err r) = Err r
+
+abbrev pub content_rule : ℕ → Typing → Typing
+content_rule = content_rule_of refusal
 
 -- 26 and 27: of two numbers, w is the type of what they make
-unfoldable pub numbers_rule : ℕ → ℕ → Typing → Typing → Typing
-numbers_rule w i (Ok x) (Ok y) =
+unfoldable pub numbers_rule_of : {E : Type 0} → (Rule → ℕ → E) → ℕ → ℕ → Result Typed E
+    → Result Typed E → Result Typed E
+numbers_rule_of made w i (Ok x) (Ok y) =
     if x.type_word == number_type && y.type_word == number_type
     then typed w (x.effect ∪ y.effect) else
-    fault IllTyped i
-numbers_rule w i (Ok x) (Err r) = Err r
-numbers_rule w i (Err r) y = Err r
+    fault_of made IllTyped i
+numbers_rule_of made w i (Ok x) (Err r) = Err r
+numbers_rule_of made w i (Err r) y = Err r
+
+abbrev pub numbers_rule : ℕ → ℕ → Typing → Typing → Typing
+numbers_rule = numbers_rule_of refusal
 
 -- 28
-unfoldable pub choose_rule : ℕ → Typing → Typing → Typing → Typing
-choose_rule i (Ok x) (Ok y) (Ok z) =
+unfoldable pub choose_rule_of : {E : Type 0} → (Rule → ℕ → E) → ℕ → Result Typed E → Result Typed E
+    → Result Typed E → Result Typed E
+choose_rule_of made i (Ok x) (Ok y) (Ok z) =
     if x.type_word == truth_type && y.type_word == number_type && z.type_word == number_type
     then typed number_type (x.effect ∪ y.effect ∪ z.effect) else
-    fault IllTyped i
-choose_rule i (Ok x) (Ok y) (Err r) = Err r
-choose_rule i (Ok x) (Err r) z = Err r
-choose_rule i (Err r) y z = Err r
+    fault_of made IllTyped i
+choose_rule_of made i (Ok x) (Ok y) (Err r) = Err r
+choose_rule_of made i (Ok x) (Err r) z = Err r
+choose_rule_of made i (Err r) y z = Err r
+
+abbrev pub choose_rule : ℕ → Typing → Typing → Typing → Typing
+choose_rule = choose_rule_of refusal
 
 -- the type of an expression, or the first fault in it
 unfoldable pub type_in : List ℕ → List ℕ → Expr → Typing
@@ -91,11 +112,11 @@ pub record Listed : Type 0 where
 abbrev pub Argued : Type 0
 Argued = Result Listed Refusal
 
-abbrev pub listed : List ℕ → Effect → Argued
+abbrev pub listed : {E : Type 0} → List ℕ → Effect → Result Listed E
 listed ts e = Ok (record { types = ts; effect = e })
 
 -- an argument before others
-unfoldable pub argue : Typing → Argued → Argued
+unfoldable pub argue : {E : Type 0} → Result Typed E → Result Listed E → Result Listed E
 argue (Ok x) (Ok ys) = listed (x.type_word ∷ ys.types) (x.effect ∪ ys.effect)
 argue (Ok x) (Err r) = Err r
 argue (Err r) ys = Err r
@@ -111,14 +132,18 @@ is_linked linked = true
 is_linked unlinked = false
 
 -- 13 and 14; `once` says whether it ends at once
-unfoldable pub start_rule : Bool → List Signature → Standing → ℕ → ℕ → Argued → StatementEffect
-start_rule once below at s i (Ok xs) =
-    if nat_le (length below) s then fault Unbound i else
-    (if not (same_numbers xs.types (signature_at below s).types) then fault IllTyped i else
-    (if not (every public xs.types) then fault Escaping i else
-    (if not (is_linked at) then fault WhileUnlinked i else
+unfoldable pub start_rule_of : {E : Type 0} → (Rule → ℕ → E) → Bool → List Signature → Standing → ℕ
+    → ℕ → Result Listed E → Result Ending E
+start_rule_of made once below at s i (Ok xs) =
+    if nat_le (length below) s then fault_of made Unbound i else
+    (if not (same_numbers xs.types (signature_at below s).types) then fault_of made IllTyped i else
+    (if not (every public xs.types) then fault_of made Escaping i else
+    (if not (is_linked at) then fault_of made WhileUnlinked i else
     ending (xs.effect ∪ (signature_at below s).effect) once)))
-start_rule once below at s i (Err r) = Err r
+start_rule_of made once below at s i (Err r) = Err r
+
+abbrev pub start_rule : Bool → List Signature → Standing → ℕ → ℕ → Argued → StatementEffect
+start_rule = start_rule_of refusal
 
 -- 15
 unfoldable pub cooperate_rule : Standing → ℕ → StatementEffect
@@ -126,7 +151,7 @@ cooperate_rule linked i = ending no_effect false
 cooperate_rule unlinked i = fault WhileUnlinked i
 
 -- 11
-unfoldable pub seq_rule : StatementEffect → StatementEffect → StatementEffect
+unfoldable pub seq_rule : {E : Type 0} → Result Ending E → Result Ending E → Result Ending E
 seq_rule (Ok p) (Ok q) = ending (p.effect ∪ q.effect) (p.at_once && q.at_once)
 seq_rule (Ok p) (Err r) = Err r
 seq_rule (Err r) q = Err r
@@ -137,15 +162,19 @@ abbrev pub EffectTest : Type 0
 EffectTest = ℕ → Effect → Bool
 
 -- 12
-unfoldable pub do_rule : EffectTest → Standing → ℕ → ℕ → StatementEffect → StatementEffect
-do_rule allows at s i (Ok p) =
-    if not (allows s p.effect) then fault WrongEffect i else
-    (if not (is_linked at) && s == private then fault WhileUnlinked i else
+unfoldable pub do_rule_of : {E : Type 0} → (Rule → ℕ → E) → EffectTest → Standing → ℕ → ℕ
+    → Result Ending E → Result Ending E
+do_rule_of made allows at s i (Ok p) =
+    if not (allows s p.effect) then fault_of made WrongEffect i else
+    (if not (is_linked at) && s == private then fault_of made WhileUnlinked i else
     ending no_effect p.at_once)
-do_rule allows at s i (Err r) = Err r
+do_rule_of made allows at s i (Err r) = Err r
+
+abbrev pub do_rule : EffectTest → Standing → ℕ → ℕ → StatementEffect → StatementEffect
+do_rule = do_rule_of refusal
 
 -- 16: the effect of what the variable is, joined to the body's
-unfoldable pub join_rule : Effect → StatementEffect → StatementEffect
+unfoldable pub join_rule : {E : Type 0} → Effect → Result Ending E → Result Ending E
 join_rule e (Ok p) = ending (e ∪ p.effect) p.at_once
 join_rule e (Err r) = Err r
 
@@ -155,32 +184,44 @@ let_rule body Γ (Ok x) = join_rule x.effect (body (Γ ++ (x.type_word ∷ [])))
 let_rule body Γ (Err r) = Err r
 
 -- 17
-unfoldable pub store_rule : ℕ → Typing → Typing → StatementEffect
-store_rule i (Ok x) (Ok y) =
+unfoldable pub store_rule_of : {E : Type 0} → (Rule → ℕ → E) → ℕ → Result Typed E → Result Typed E
+    → Result Ending E
+store_rule_of made i (Ok x) (Ok y) =
     if is_cell x.type_word && y.type_word == content_of x.type_word
     then ending (with_owner (owner_of x.type_word) (x.effect ∪ y.effect)) true else
-    fault IllTyped i
-store_rule i (Ok x) (Err r) = Err r
-store_rule i (Err r) y = Err r
+    fault_of made IllTyped i
+store_rule_of made i (Ok x) (Err r) = Err r
+store_rule_of made i (Err r) y = Err r
+
+abbrev pub store_rule : ℕ → Typing → Typing → StatementEffect
+store_rule = store_rule_of refusal
 
 -- 18
-unfoldable pub if_else_rule : ℕ → Typing → StatementEffect → StatementEffect → StatementEffect
-if_else_rule i (Ok x) (Ok p) (Ok q) =
+unfoldable pub if_else_rule_of : {E : Type 0} → (Rule → ℕ → E) → ℕ → Result Typed E
+    → Result Ending E → Result Ending E → Result Ending E
+if_else_rule_of made i (Ok x) (Ok p) (Ok q) =
     if x.type_word == truth_type
     then ending (x.effect ∪ p.effect ∪ q.effect) (p.at_once || q.at_once) else
-    fault IllTyped i
-if_else_rule i (Ok x) (Ok p) (Err r) = Err r
-if_else_rule i (Ok x) (Err r) q = Err r
-if_else_rule i (Err r) p q = Err r
+    fault_of made IllTyped i
+if_else_rule_of made i (Ok x) (Ok p) (Err r) = Err r
+if_else_rule_of made i (Ok x) (Err r) q = Err r
+if_else_rule_of made i (Err r) p q = Err r
+
+abbrev pub if_else_rule : ℕ → Typing → StatementEffect → StatementEffect → StatementEffect
+if_else_rule = if_else_rule_of refusal
 
 -- 19
-unfoldable pub while_rule : ℕ → Typing → StatementEffect → StatementEffect
-while_rule i (Ok x) (Ok p) =
-    if not (x.type_word == truth_type) then fault IllTyped i else
-    (if p.at_once then fault InstantLoop i else
+unfoldable pub while_rule_of : {E : Type 0} → (Rule → ℕ → E) → ℕ → Result Typed E → Result Ending E
+    → Result Ending E
+while_rule_of made i (Ok x) (Ok p) =
+    if not (x.type_word == truth_type) then fault_of made IllTyped i else
+    (if p.at_once then fault_of made InstantLoop i else
     ending (x.effect ∪ p.effect) true)
-while_rule i (Ok x) (Err r) = Err r
-while_rule i (Err r) p = Err r
+while_rule_of made i (Ok x) (Err r) = Err r
+while_rule_of made i (Err r) p = Err r
+
+abbrev pub while_rule : ℕ → Typing → StatementEffect → StatementEffect
+while_rule = while_rule_of refusal
 
 -- 1A and 1B: of an event of that owner, if the file has it
 unfoldable pub signal_rule : Option ℕ → ℕ → StatementEffect

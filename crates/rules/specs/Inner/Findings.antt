@@ -15,12 +15,17 @@ Typing = Result Typed Refusal
 abbrev pub StatementEffect : Type 0
 StatementEffect = Result Ending Refusal
 
-abbrev pub typed : ℕ → Effect → Typing
+-- below, E is the type of a fault
+
+abbrev pub typed : {E : Type 0} → ℕ → Effect → Result Typed E
 typed t e = Ok (record { type_word = t; effect = e })
 
-abbrev pub ending : Effect → Bool → StatementEffect
+abbrev pub ending : {E : Type 0} → Effect → Bool → Result Ending E
 ending e b = Ok (record { effect = e; at_once = b })
 
--- frame j breaks rule r
+-- frame j breaks rule r; `made` says which fault that is
+abbrev pub fault_of : {A E : Type 0} → (Rule → ℕ → E) → Rule → ℕ → Result A E
+fault_of made r j = Err (made r j)
+
 abbrev pub fault : {A : Type 0} → Rule → ℕ → Result A Refusal
-fault r j = Err (refusal r j)
+fault r j = fault_of refusal r j

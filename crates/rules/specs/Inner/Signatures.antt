@@ -2,17 +2,16 @@
 use Rattle.std.specs.Prelude.{Result, Ok, Err, [], ◌∷◌, ℕ, ◌+◌, ◌*◌, ◌/◌, ◌%◌, ◌^◌, take}
 use Rattle.language.specs.Effects.{no_effect}
 use Rattle.language.specs.declared.effect.Effect.{Effect}
-use Rattle.language.specs.declared.refusal.Refusal.{Refusal}
 use Rattle.rules.specs.Rules.{Signature}
-use Rattle.rules.specs.Inner.Checking.{Argued, listed}
+use Rattle.rules.specs.Inner.Checking.{Listed, listed}
 use Rattle.rules.specs.declared.start.Arguments.{Arguments}
 use Rattle.rules.specs.declared.start.Arguments.TheVariants.{Nothing, One, Two}
 
-abbrev pub no_arguments : Argued
+abbrev pub no_arguments : {E : Type 0} → Result Listed E
 no_arguments = listed [] no_effect
 
 -- what the code's arguments are: one to one (proofs/StartLaws, `argued_once`)
-abbrev pub argued_of : Result Arguments Refusal → Argued
+abbrev pub argued_of : {E : Type 0} → Result Arguments E → Result Listed E
 argued_of (Ok Nothing) = no_arguments
 argued_of (Ok (One x)) = listed (x.type_word ∷ []) x.effect
 argued_of (Ok (Two t u e)) = listed (t ∷ u ∷ []) e

@@ -1,9 +1,11 @@
 -- `store_run` meets its contract.
-use Rattle.std.proofs.Common.{arith, ◌+◌, ◌-◌}
-use Rattle.std.proofs.lemmas.Slice.{put_mid-paste}
-use Rattle.machine.specs.Inner.Blocks.{pasted}
+use Rattle.machine.proofs.WordLaws.{pasted_zero, pasted_more}
+use mathlib.Core.Path.{refl}
+use native.Mathlib.Omega.{arith}
 use Rattle.states.proofs.thread.store_run.Goals as goal
 
-pub returns : goal.returns
-unfolding pasted
-returns c = put_mid-paste _ (c.args.at + 25 - c.args.at) _ _ c.args.run.now 25 c.copy_from_slice.ensures.after (omega arith) (omega arith)
+pub loop-k-init : goal.loop-k-init
+loop-k-init c = pasted_zero _ _ _
+
+pub loop-k-preserved : goal.loop-k-preserved
+loop-k-preserved c = pasted_more _ _ _ _ _ _ c.loop-k.invariant refl (omega arith) (omega arith)

@@ -1,7 +1,8 @@
 -- `turn` meets its contract.
 use borrow.Author.Rules.{rules}
 use native.Mathlib.Omega.{arith}
-use mathlib.Core.Path.{refl}
+use mathlib.Core.Path.{refl, ◌∙◌}
+use Rattle.commits.proofs.CommitLaws.{any_turn_is}
 use Rattle.stepper.proofs.TurnLaws.{commit_needs, turn_gives, gone_is, refused_as}
 use Rattle.stepper.proofs.turn.turn.Goals as goal
 
@@ -30,4 +31,6 @@ returns c =
     let q = c.if-thread_count-t.false in
     turn_gives _ _ _ c.requires.0 _ c.requires.1 _ c.requires.3 (omega arith) _ _ _ _ _ _ _ _ _ c.requires.4
     c.act_in-action.ensures c.take_accesses-accesses.ensures.words c.take_accesses-accesses.ensures.accesses
-    refl (refused_as _ _ c.err-refusal.ensures.value _ _ _ c.commit.ensures) c.counted.ensures
+    refl
+    (refused_as _ _ c.err-refusal.ensures.value _ _ _ (c.commit.ensures ∙ any_turn_is _ _ _ _ _ _ _))
+    c.counted.ensures

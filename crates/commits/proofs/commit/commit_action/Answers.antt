@@ -1,7 +1,7 @@
--- `commit` meets its contract.
+-- `commit_action` meets its contract.
 use Rattle.std.proofs.Common.{rules, ap, ◌∙◌, Ok}
 use Rattle.commits.proofs.CommitLaws.{commit_laws, commit_settles, commit_follows, commit_suspends}
-use Rattle.commits.proofs.commit.commit.Goals as goal
+use Rattle.commits.proofs.commit.commit_action.Goals as goal
 
 pub settle-requires : goal.settle-requires
 settle-requires c =
